@@ -1,0 +1,2 @@
+pub mod ForkOrder
+pub mod Texts

@@ -1,0 +1,12 @@
+//! Cells: the tasks and promises of a run.
+
+/// The number of a cell, in the order in which a run draws them. The root task is cell 0.
+#[derive(Clone, Copy, Debug, PartialEq, Eq, PartialOrd, Ord, Hash)]
+pub struct CellId(pub u32);
+
+/// What a cell is. A task's cell is also its result.
+#[derive(Clone, Copy, Debug, PartialEq, Eq)]
+pub enum Sort {
+    Task,
+    Promise,
+}

@@ -1,0 +1,23 @@
+//! Names of tasks and promises with their two orders, causes of failure, and the small lists
+//! and counters that every crate above shares.
+#![tactic(auto)]
+
+mod cause;
+mod cell;
+mod items;
+mod memory;
+mod name;
+mod order;
+mod step_count;
+#[cfg(test)]
+mod tests;
+mod value;
+
+pub use cause::{Cause, Trouble};
+pub use cell::{CellId, Sort};
+pub use items::{ByteList, CellList, Items, NameList, NumList, PlaceList};
+pub use memory::Oom;
+pub use name::Name;
+pub use order::{name_cmp, path_before};
+pub use step_count::Steps;
+pub use value::{Pay, Shown};

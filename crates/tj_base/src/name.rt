@@ -1,0 +1,130 @@
+//! Names of cells. A task counts the things that it makes, tasks and promises together, from 1.
+//! The k-th is named by its maker's name and k; the root's name is the empty list.
+ghost use Rattle.std.specs.Prelude.{ℕ, ◌≡◌, List, [], ◌∷◌, ◌++◌, IfOk, OnErr, nat_eq, Some, refl};
+ghost use Rattle.std.specs.Cmp.Lexicographic.{slice_cmp, pointwise, texts_ties, texts_po, nat_list_cmp_total, nat_list_eq_equiv};
+ghost use Rattle.std.specs.Cmp.{partial_equiv_from_equiv};
+ghost use Rattle.std.specs.Ordering.{nat_cmp};
+ghost use Rattle.tj_base.specs.Texts.{name_text};
+
+use crate::memory::Oom;
+use itoa::Buffer;
+use std::alloc::Global;
+use std::cmp::Ordering;
+use std::marker::Model;
+
+/// A cell's name: the numbers from the root on.
+#[derive(Debug, Drop)]
+pub struct Name {
+    // None stands for the root, so that its name takes no memory.
+    numbers: Option<Vec<u32>>,
+}
+
+impl Model for Name {
+    ghost use Rattle.std.specs.Prelude.{ℕ, List};
+    ghost use Rattle.std.specs.Prelude.{[]};
+    ghost use Rattle.std.specs.Option.{option_map_or};
+
+    ghost Value = { List ℕ };
+
+    ghost view = { λ n. option_map_or (λ numbers. numbers.items) n.numbers [] };
+}
+
+impl Name {
+    /// The name of the root task.
+    pub fn root() -> Name
+        ensures { result ≡ [] }
+    {
+        Name { numbers: None }
+    }
+
+    /// The name of the k-th thing that this task makes.
+    pub fn child(&self, alloc: Global, k: u32) -> Result<Name, Oom>
+        ensures { IfOk result (λ name. name ≡ self.now ++ k ∷ []) }
+    {
+        let mut numbers = Vec::from_slice(alloc, self.parts())?;
+        numbers.push(k)?;
+        Ok(Name {
+            numbers: Some(numbers),
+        })
+    }
+
+    /// An equal name.
+    pub fn copy(&self, alloc: Global) -> Result<Name, Oom>
+        ensures { IfOk result (λ name. name ≡ self.now) }
+    {
+        let numbers = Vec::from_slice(alloc, self.parts())?;
+        Ok(Name {
+            numbers: Some(numbers),
+        })
+    }
+
+    /// The numbers of the name, from the root on.
+    pub fn parts(&self) -> &[u32]
+        ensures { result.now ≡ self.now }
+    {
+        match &self.numbers {
+            None => &[],
+            Some(numbers) => numbers.as_slice(),
+        }
+    }
+
+    /// Adds the printed name, as `0` for the root and `0.3.1` for a name of two numbers.
+    pub fn text_into(&self, alloc: Global, out: &mut Vec<u8>) -> Result<(), Oom>
+        ensures ok { IfOk result (λ _. out.new.items ≡ out.old.items ++ name_text self.now) }
+        ensures err { OnErr result (out.new.items ≡ out.old.items) }
+    {
+        let text = printed(alloc, self.parts())?;
+        out.extend_from_slice(text.as_slice())?;
+        Ok(())
+    }
+}
+
+fn printed(alloc: Global, numbers: &[u32]) -> Result<Vec<u8>, Oom>
+    ensures { IfOk result (λ text. text.items ≡ name_text numbers.now) }
+{
+    let mut text = Vec::from_slice(alloc, b"0")?;
+    let mut buffer = Buffer::new();
+    for number in numbers {
+        text.push(b'.')?;
+        text.extend_from_slice(buffer.format(*number).as_bytes())?;
+    }
+    Ok(text)
+}
+
+impl PartialEq for Name {
+    ghost eq = { pointwise nat_eq };
+
+    ghost laws = { partial_equiv_from_equiv nat_list_eq_equiv };
+
+    fn eq(&self, other: &Name) -> bool {
+        self.parts() == other.parts()
+    }
+}
+
+impl Eq for Name {
+    ghost laws = { nat_list_eq_equiv };
+}
+
+impl PartialOrd for Name {
+    ghost partial_cmp = { λ a b. Some (slice_cmp nat_cmp a b) };
+
+    ghost laws = { texts_po };
+
+    fn partial_cmp(&self, other: &Name) -> Option<Ordering> {
+        Some(self.cmp(other))
+    }
+}
+
+impl Ord for Name {
+    ghost cmp = { slice_cmp nat_cmp };
+
+    ghost total = { nat_list_cmp_total };
+
+    ghost matches_partial_cmp = { λ _ _. refl };
+
+    ghost matches_eq = { texts_ties };
+
+    fn cmp(&self, other: &Name) -> Ordering {
+        self.parts().cmp(other.parts())
+    }
+}

@@ -1,0 +1,43 @@
+//! The two orders of names: that of lists, in which reports are written, and the fork order.
+ghost use Rattle.std.specs.Prelude.{ℕ, ◌≡◌, ◌↔◌, IsTrue};
+ghost use Rattle.std.specs.Cmp.Lexicographic.{slice_cmp};
+ghost use Rattle.std.specs.Ordering.{nat_cmp};
+ghost use Rattle.tj_base.specs.ForkOrder.{before, IsBefore};
+
+use crate::name::Name;
+use std::cmp::Ordering;
+
+/// The name order: a name before all that begin with it, else the lower number first.
+pub fn name_cmp(a: &Name, b: &Name) -> Ordering
+    ensures { result ≡ slice_cmp nat_cmp a.now b.now }
+{
+    a.parts().cmp(b.parts())
+}
+
+/// Whether task `a` is before task `b` in the fork order, in which each fork puts the child
+/// directly after its parent: a parent is before its descendants, and what it forked later is
+/// before what it forked earlier.
+pub fn path_before(a: &Name, b: &Name) -> bool
+    ensures computed { result ≡ before a.now b.now }
+    ensures order { IsTrue result ↔ IsBefore a.now b.now }
+{
+    numbers_before(a.parts(), b.parts())
+}
+
+fn numbers_before(mut a: &[u32], mut b: &[u32]) -> bool
+    ensures { result ≡ before a.entry.now b.entry.now }
+{
+    loop {
+        let [x, a_rest @ ..] = a else {
+            return !b.is_empty();
+        };
+        let [y, b_rest @ ..] = b else {
+            return false;
+        };
+        if x != y {
+            return y < x;
+        }
+        a = a_rest;
+        b = b_rest;
+    }
+}
