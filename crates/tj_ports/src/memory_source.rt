@@ -1,0 +1,78 @@
+//! A source in memory, for tests and for other programs. It tells its bytes.
+ghost use Rattle.std.specs.Prelude.{ℕ, ◌≡◌, ◌<◌, ◌≤◌, ◌↔◌, ◌++◌, Some, [], length, take, drop, min, IsOk, IsErr, IfOk, OnErr};
+ghost use Rattle.tj_ports.specs.Faults.{HasFault, IsSound};
+
+use crate::calls::Calls;
+use crate::failed::Failed;
+use crate::source::Source;
+
+/// Bytes in memory, given a few a call.
+#[derive(Debug, Drop)]
+pub struct MemSource {
+    bytes: Vec<u8>,
+    given: usize,
+    most: u32,
+    calls: Calls,
+    ghost in_range: { given ≤ length bytes.items },
+    ghost gives_some: { 0 < most },
+}
+
+impl MemSource {
+    ghost use Rattle.tj_ports.specs.Memory.{source_bytes, source_calls, source_most};
+
+    /// It gives at most `most` bytes a call. The calls with the numbers in `fails`, from 1, fail.
+    pub fn new(bytes: Vec<u8>, most: u32, fails: Vec<u32>) -> MemSource
+        requires { 0 < most }
+        ensures bytes { source_bytes result ≡ bytes.items }
+        ensures most { source_most result ≡ most }
+        ensures calls { source_calls result ≡ record { made = 0; failing = fails; faults = 0 } }
+    {
+        MemSource {
+            bytes,
+            given: 0,
+            most,
+            calls: Calls::new(fails),
+        }
+    }
+
+    /// The bytes that are left.
+    pub fn left(&self) -> &[u8]
+        ensures { result.now ≡ source_bytes self.now }
+    {
+        &self.bytes[self.given..]
+    }
+}
+
+impl Source for MemSource {
+    ghost use Rattle.tj_ports.specs.Calls.{IsNextListed, ListsNone};
+    ghost use Rattle.tj_ports.specs.Memory.{source_bytes, source_calls, source_faults, source_most};
+
+    ghost left = { λ s. Some (source_bytes s) };
+
+    ghost faults = { source_faults };
+
+    ghost never_fails = { λ s. ListsNone (source_calls s) };
+
+    fn take(&mut self, into: &mut [u8]) -> Result<usize, Failed>
+        requires { 0 < length into.old }
+        ensures listed { IsErr result ↔ IsNextListed (source_calls self.old) }
+        ensures count { IfOk result (λ n. n ≡ min (min (length (source_bytes self.old)) (length into.old)) (source_most self.old)) }
+
+        // What every source keeps.
+        ensures bound { IfOk result (λ n. n ≤ length into.new) }
+        ensures taken { IfOk result (λ n. source_bytes self.old ≡ take n into.new ++ source_bytes self.new) }
+        ensures end { IfOk result (λ n. n ≡ 0 → source_bytes self.old ≡ []) }
+        ensures err { OnErr result (source_bytes self.new ≡ source_bytes self.old) }
+        ensures counted { source_faults self.old ≤ source_faults self.new }
+        ensures failed { OnErr result (HasFault (source_faults self.old) (source_faults self.new)) }
+        ensures sound { ListsNone (source_calls self.old) →
+            IsOk result × IsSound (source_faults self.old) (source_faults self.new) (ListsNone (source_calls self.new)) }
+    {
+        self.calls.begin()?;
+        let left = &self.bytes[self.given..];
+        let count = left.len().min(into.len()).min(self.most as usize);
+        into[..count].copy_from_slice(&left[..count]);
+        self.given += count;
+        Ok(count)
+    }
+}
