@@ -1,0 +1,2 @@
+pub mod SmallBodies
+pub mod SmallSums
