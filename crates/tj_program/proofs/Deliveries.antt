@@ -10,7 +10,7 @@ use Rattle.tj_program.specs.declared.status.Status.{Status}
 use Rattle.tj_program.specs.declared.status.Status.TheVariants.{Clean, Marked, Usage, Script, Full, ReadFault, WriteFault, Memory}
 use Rattle.tj_program.specs.Words.{IsRunAlone}
 use Rattle.tj_program.specs.Output.{IsOutput, IsScriptOutput, IsRefused}
-use Rattle.tj_program.specs.Delivery.{IsAnswered, IsOutputPart, IsPutAs, IsScriptPut}
+use Rattle.tj_program.specs.Delivery.{HasText, IsAnswered, IsOutputPart, IsPutAs, IsScriptPut}
 
 -- bytes that are told grow by a text
 told_now : (held text : List ℕ) (now : Option (List ℕ)) → Appends (Some held) now text → now ≡ Some (held ++ text)
@@ -26,6 +26,11 @@ pub IsAnswered-put : (words : List (String Global)) (input held : List ℕ) (sta
 IsAnswered-put words input held status text before now b a answer out (inl put) told none =
     inl (text, subst (λ s. IsOutput words input s text) (sym put.0) out, told_now held text now (subst (λ o. Appends o now text) told put.1))
 IsAnswered-put words input held status text before now b a answer out (inr failed) told none = absurd (no_fault b a failed.2 none)
+
+-- a status that belongs to a text was put whole
+pub put_whole : (words : List (String Global)) (input : List ℕ) (status : Status) (text : List ℕ) (before now : Option (List ℕ)) (b a : ℕ) (answer : Status) → IsOutput words input status text → IsPutAs status text before now b a answer → HasText answer → (shown : List ℕ) × IsOutput words input answer shown × Appends before now shown
+put_whole words input status text before now b a answer out (inl put) has = (text, subst (λ s. IsOutput words input s text) (sym put.0) out, put.1)
+put_whole words input status text before now b a answer out (inr failed) has = absurd (subst HasText failed.0 has)
 
 -- the text of another status was put in part
 pub IsOutputPart-put : (words : List (String Global)) (input : List ℕ) (status : Status) (text : List ℕ) (before now : Option (List ℕ)) (b a : ℕ) (answer : Status) → IsOutput words input status text → (status ≡ WriteFault → ⊥) → IsPutAs status text before now b a answer → answer ≡ WriteFault → IsOutputPart words input before now
@@ -95,3 +100,9 @@ IsOutputPart-script words seen input before now b a answer run same put is =
     let other : answer ≢ Memory = λ e. let f : WriteFault ≡ Memory = sym is ∙ e in cc in
     let p = subst (λ t. IsScriptPut t before now b a answer) same (put other) in
     IsOutputPart-put words input p.0 p.1 before now b a answer (IsOutput-script words input p.0 p.1 run p.2) (no_write_fault input p.0 p.1 p.2) p.3 is
+
+-- the same of what a script gives
+pub put_whole-script : (words : List (String Global)) (seen input : List ℕ) (before now : Option (List ℕ)) (b a : ℕ) (answer : Status) → IsRunAlone words → seen ≡ input → (answer ≢ Memory → IsScriptPut seen before now b a answer) → HasText answer → (shown : List ℕ) × IsOutput words input answer shown × Appends before now shown
+put_whole-script words seen input before now b a answer run same put has =
+    let p = subst (λ t. IsScriptPut t before now b a answer) same (put (λ e. subst HasText e has)) in
+    put_whole words input p.0 p.1 before now b a answer (IsOutput-script words input p.0 p.1 run p.2) p.3 has

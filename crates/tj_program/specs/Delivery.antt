@@ -6,7 +6,14 @@ use Rattle.tj_ports.specs.Faults.{HasFault}
 use Rattle.tj_ports.specs.Putting.{GrowsByPart}
 use Rattle.tj_program.specs.Output.{IsOutput, IsScriptOutput}
 use Rattle.tj_program.specs.declared.status.Status.{Status}
-use Rattle.tj_program.specs.declared.status.Status.TheVariants.{WriteFault, Memory}
+use Rattle.tj_program.specs.declared.status.Status.TheVariants.{ReadFault, WriteFault, Memory}
+
+-- the status belongs to a text, and not to a port that failed or to memory
+abbrev pub HasText : Status → Type 0
+HasText ReadFault = ⊥
+HasText WriteFault = ⊥
+HasText Memory = ⊥
+HasText _ = Unit {0}
 
 -- the sink holds the output besides what it held, and the status is the output's; or memory was wanting
 abbrev pub IsAnswered : List (String Global) → List ℕ → List ℕ → Status → Option (List ℕ) → Type 0

@@ -2,14 +2,14 @@
 //!
 //! The words come first, then the whole input, then the text is made and put. So want of memory
 //! comes only before the first byte is put.
-ghost use Rattle.std.specs.Prelude.{ℕ, ◌≡◌, ◌≢◌, ◌≤◌, List, Some, length};
+ghost use Rattle.std.specs.Prelude.{ℕ, ◌≡◌, ◌≢◌, ◌≤◌, List, Some, length, drop};
 ghost use Rattle.std.specs.Io.KnownBytes.{Appends};
 ghost use Rattle.tj_ports.specs.Faults.{HasFault, HasNoFault, IsSound};
 ghost use Rattle.tj_ports.specs.Putting.{GrowsByPart};
 ghost use Rattle.tj_program.specs.Words.{IsRunAlone};
 ghost use Rattle.tj_program.specs.Texts.{usage_line};
 ghost use Rattle.tj_program.specs.Output.{IsOutput};
-ghost use Rattle.tj_program.specs.Delivery.{IsAnswered, IsOutputPart, IsPutAs, IsScriptPut};
+ghost use Rattle.tj_program.specs.Delivery.{HasText, IsAnswered, IsOutputPart, IsPutAs, IsScriptPut};
 
 use crate::report::{FAULT_LINE, USAGE_LINE, report_of};
 use crate::status::Status;
@@ -32,6 +32,13 @@ pub fn run_words<S: Source, K: Sink, G: Gate>(
     ensures output { (input held : List ℕ) → S.left source.old ≡ Some input → K.held sink.old ≡ Some held
         → HasNoFault (S.faults source.old) (S.faults source.new) → HasNoFault (K.faults sink.old) (K.faults sink.new)
         → IsAnswered words.now input held result (K.held sink.new) }
+
+    // A status that belongs to a text comes exactly where that text is the output, and was put whole.
+    ensures whole { (input : List ℕ) → S.left source.old ≡ Some input → HasText result
+        → (text : List ℕ) × IsOutput words.now input result text × Appends (K.held sink.old) (K.held sink.new) text }
+
+    ensures taken { (input : List ℕ) → S.left source.old ≡ Some input → IsRunAlone words.now → HasText result
+        → S.left source.new ≡ Some (drop 1048577 input) }
 
     // Each other answer has its cause.
     ensures usage { result ≡ Status.Usage → (IsRunAlone words.now → ⊥) × Appends (K.held sink.old) (K.held sink.new) usage_line }

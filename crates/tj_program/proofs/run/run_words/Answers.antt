@@ -1,5 +1,5 @@
 use Rattle.std.proofs.Common.{◌≡◌, refl, ap, ◌∙◌}
-use Rattle.tj_program.proofs.Deliveries.{IsOutputPart-put, IsAnswered-put, IsAnswered-script, IsOutputPart-script, IsRefused-long, whole_is}
+use Rattle.tj_program.proofs.Deliveries.{IsOutputPart-put, IsAnswered-put, IsAnswered-script, IsOutputPart-script, put_whole, put_whole-script, IsRefused-long, whole_is}
 use Rattle.std.proofs.lemmas.Bool.{false≢true}
 use Rattle.tj_program.specs.Words.{IsRunAlone}
 use Rattle.tj_program.proofs.run.run_words.Goals as goal
@@ -32,3 +32,20 @@ returns-in-Ok-Whole-clause-part g c = λ is input told.
     let read = rw c.in-Ok-Whole.field-0-is at c.in-Ok-Whole.ensures.read in
     let text : c.items.result.now ≡ input = c.items.ensures ∙ whole_is 1048576 c.in-Ok-Whole.bytes input _ told read in
     IsOutputPart-script c.args.words.now _ input _ _ _ _ _ (c.if-not-is_run_alone.ensures.0 refl) text c.run_script.ensures.output is
+
+pub returns-then-not-is_run_alone-clause-whole : goal.returns-then-not-is_run_alone-clause-whole
+returns-then-not-is_run_alone-clause-whole g c = λ input told has.
+    let not_run : IsRunAlone c.args.words.now → ⊥ = λ run. false≢true (c.if-not-is_run_alone.ensures.1 run) in
+    put_whole c.args.words.now input _ _ _ _ _ _ _ (not_run, refl) c.put_text.ensures.put has
+
+pub returns-in-Ok-Long-clause-whole : goal.returns-in-Ok-Long-clause-whole
+returns-in-Ok-Long-clause-whole g c = λ input told has.
+    let read = rw c.in-Ok-Long.field-0-is at c.in-Ok-Long.ensures.read in
+    let refused = IsRefused-long c.in-Ok-Long._bytes input _ told read in
+    put_whole c.args.words.now input _ _ _ _ _ _ _ (c.if-not-is_run_alone.ensures.0 refl, (refused, refl)) c.put_text-in-Ok-Long.ensures.put has
+
+pub returns-in-Ok-Whole-clause-whole : goal.returns-in-Ok-Whole-clause-whole
+returns-in-Ok-Whole-clause-whole g c = λ input told has.
+    let read = rw c.in-Ok-Whole.field-0-is at c.in-Ok-Whole.ensures.read in
+    let text : c.items.result.now ≡ input = c.items.ensures ∙ whole_is 1048576 c.in-Ok-Whole.bytes input _ told read in
+    put_whole-script c.args.words.now _ input _ _ _ _ _ (c.if-not-is_run_alone.ensures.0 refl) text c.run_script.ensures.output has
