@@ -49,3 +49,6 @@ returns-in-Ok-Whole-clause-whole g c = λ input told has.
     let read = rw c.in-Ok-Whole.field-0-is at c.in-Ok-Whole.ensures.read in
     let text : c.items.result.now ≡ input = c.items.ensures ∙ whole_is 1048576 c.in-Ok-Whole.bytes input _ told read in
     put_whole-script c.args.words.now _ input _ _ _ _ _ (c.if-not-is_run_alone.ensures.0 refl) text c.run_script.ensures.output has
+
+pub returns-then-not-is_run_alone-clause-taken : goal.returns-then-not-is_run_alone-clause-taken
+returns-then-not-is_run_alone-clause-taken g c = λ input told run has. absurd (false≢true (c.if-not-is_run_alone.ensures.1 run))
