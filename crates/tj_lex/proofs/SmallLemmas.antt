@@ -17,7 +17,8 @@ pub tokens-blank : (byte : ℕ) (text : List ℕ) → is_blank byte ≡ true →
 tokens-blank byte text h = rw (blank_in_no_word byte h, h) refl
 
 -- a word goes on
-pub tokens-word : (word : List ℕ) (byte : ℕ) (text : List ℕ) → is_word_byte byte ≡ true → tokens_from word (byte ∷ text) ≡ tokens_from (word ++ byte ∷ []) text
+pub tokens-word : (word : List ℕ) (byte : ℕ) (text : List ℕ) → is_word_byte byte ≡ true
+    → tokens_from word (byte ∷ text) ≡ tokens_from (word ++ byte ∷ []) text
 tokens-word word byte text h = rw h refl
 
 -- a word has ended
@@ -28,7 +29,8 @@ tokens-ended [] (byte ∷ text) h = refl
 tokens-ended (w ∷ word) (byte ∷ text) h = rw h refl
 
 -- the tokens of a text that begins with a mark
-pub tokens-mark : (byte : ℕ) (text : List ℕ) → is_blank byte ≡ false → is_word_byte byte ≡ false → small_tokens (byte ∷ text) ≡ mark_of byte ∷ small_tokens text
+pub tokens-mark : (byte : ℕ) (text : List ℕ) → is_blank byte ≡ false → is_word_byte byte ≡ false
+    → small_tokens (byte ∷ text) ≡ mark_of byte ∷ small_tokens text
 tokens-mark byte text b w = rw (w, b) refl
 
 -- the word is the text up to the rest
@@ -38,7 +40,9 @@ front_is text front rest e =
     sym (take_at front rest (length text - length rest) long) ∙ ap (take (length text - length rest)) (sym e)
 
 -- a text whose first word is empty begins with a mark
-pub tokens-first_mark : (text word rest : List ℕ) → text ≡ word ++ rest → word ≡ [] → StartsNoBlank text → StartsNoWord rest → 0 < length text → small_tokens text ≡ mark_of (get_or text 0 0) ∷ small_tokens (take (length text - 1) (drop 1 text))
+pub tokens-first_mark : (text word rest : List ℕ) → text ≡ word ++ rest → word ≡ [] → StartsNoBlank text
+    → StartsNoWord rest → 0 < length text → small_tokens text ≡ mark_of (get_or text 0 0) ∷ small_tokens
+    (take (length text - 1) (drop 1 text))
 tokens-first_mark [] word rest e none b w some = absurd (omega arith)
 tokens-first_mark (byte ∷ text) word rest e none b w some =
     let same : rest ≡ byte ∷ text = sym (e ∙ ap (λ l. l ++ rest) none) in

@@ -11,7 +11,8 @@ is_blank byte = byte == 32 || byte == 9 || byte == 13 || byte == 10
 
 -- a letter, a digit or `_`
 abbrev pub is_word_byte : ℕ → Bool
-is_word_byte byte = (nat_le 97 byte && nat_le byte 122) || (nat_le 65 byte && nat_le byte 90) || is_digit byte || byte == 95
+is_word_byte byte = (nat_le 97 byte && nat_le byte 122) ||
+    (nat_le 65 byte && nat_le byte 90) || is_digit byte || byte == 95
 
 -- whether a word is this text
 abbrev pub is_text : List ℕ → List ℕ → Bool
@@ -19,12 +20,14 @@ is_text word text = pointwise nat_eq word text
 
 -- the token of a word
 abbrev pub token_of_word : List ℕ → SmallToken
-token_of_word word = if is_text word (codes "task") then Task else if is_text word (codes "main") then Main else if is_text word (codes "print") then Print
+token_of_word word = if is_text word (codes "task") then Task else if is_text word (codes "main") then Main
+    else if is_text word (codes "print") then Print
     else if is_text word (codes "return") then Return else if is_numeral word then Number (value_of word) else Unknown
 
 -- the token of a byte that is in no word
 abbrev pub mark_of : ℕ → SmallToken
-mark_of byte = if byte == 40 then ParenOpen else if byte == 41 then ParenClose else if byte == 123 then BraceOpen else if byte == 125 then BraceClose
+mark_of byte = if byte == 40 then ParenOpen else if byte == 41 then ParenClose else if byte == 123 then BraceOpen
+    else if byte == 125 then BraceClose
     else if byte == 59 then Semi else if byte == 43 then Plus else Unknown
 
 -- a word that has ended, before other tokens

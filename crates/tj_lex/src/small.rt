@@ -8,7 +8,8 @@ use crate::small_number::{is_number, number_of};
 
 /// The first token of the text, and the text behind it; None where only blanks are left.
 pub fn small_token(text: &[u8]) -> Option<(SmallToken, &[u8])>
-    ensures tokens { MatchOption result (small_tokens text.now ≡ []) (λ r. small_tokens text.now ≡ r.0 ∷ small_tokens r.1.now) }
+    ensures tokens { MatchOption result (small_tokens text.now ≡ [])
+        (λ r. small_tokens text.now ≡ r.0 ∷ small_tokens r.1.now) }
     ensures shorter { IfSome result (λ r. length r.1.now < length text.now) }
     ensures small { IfSome result (λ r. IsSmall r.0) }
 {
@@ -42,7 +43,8 @@ fn after_blanks(text: &[u8]) -> &[u8]
 
 // The text behind the word that it begins with, or all of it.
 fn after_word(text: &[u8]) -> &[u8]
-    ensures tokens { small_tokens text.now ≡ flush (take (length text.now - length result.now) text.now) (small_tokens result.now) }
+    ensures tokens { small_tokens text.now ≡ flush
+        (take (length text.now - length result.now) text.now) (small_tokens result.now) }
     ensures front { text.now ≡ take (length text.now - length result.now) text.now ++ result.now }
     ensures at_end { StartsNoWord result.now }
     ensures no_longer { length result.now ≤ length text.now }

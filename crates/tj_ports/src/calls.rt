@@ -13,11 +13,11 @@ pub struct Calls {
 }
 
 impl Calls {
-    ghost use Rattle.tj_ports.specs.Calls.{number_of_next, IsNextListed, ListsNone};
+    ghost use Rattle.tj_ports.specs.Calls.{number_of_next, fresh_calls, IsNextListed, ListsNone};
 
     /// No call yet; those with these numbers will fail.
     pub fn new(failing: Vec<u32>) -> Calls
-        ensures { result ≡ record { made = 0; failing = failing; faults = 0 } }
+        ensures { result ≡ fresh_calls failing }
     {
         Calls {
             made: 0,

@@ -21,6 +21,7 @@ pub struct MemSink {
 }
 
 impl MemSink {
+    ghost use Rattle.tj_ports.specs.Calls.{fresh_calls};
     ghost use Rattle.tj_ports.specs.Memory.{sink_bytes, sink_room, sink_most, sink_calls};
 
     /// It takes memory for `room` bytes first, then at most `most` bytes a call. The calls with the
@@ -30,7 +31,7 @@ impl MemSink {
         ensures bytes { IfOk result (λ sink. sink_bytes sink ≡ []) }
         ensures room { IfOk result (λ sink. sink_room sink ≡ room) }
         ensures most { IfOk result (λ sink. sink_most sink ≡ most) }
-        ensures calls { IfOk result (λ sink. sink_calls sink ≡ record { made = 0; failing = fails; faults = 0 }) }
+        ensures calls { IfOk result (λ sink. sink_calls sink ≡ fresh_calls fails) }
     {
         let held = Vec::with_capacity(alloc, room as usize)?;
         Ok(MemSink {
@@ -63,18 +64,22 @@ impl Sink for MemSink {
         requires { 0 < length piece.now }
         ensures listed { IsNextListed (sink_calls self.old) → IsErr result }
         ensures full { length (sink_bytes self.old) ≡ sink_room self.old → IsErr result }
-        ensures causes { OnErr result (IsNextListed (sink_calls self.old) ⊎ (length (sink_bytes self.old) ≡ sink_room self.old)) }
-        ensures count { IfOk result (λ n. n ≡ min (min (length piece.now) (sink_room self.old - length (sink_bytes self.old))) (sink_most self.old)) }
+        ensures causes { OnErr result (IsNextListed (sink_calls self.old)
+            ⊎ (length (sink_bytes self.old) ≡ sink_room self.old)) }
+        ensures count { IfOk result (λ n. n ≡ min (min (length piece.now)
+            (sink_room self.old - length (sink_bytes self.old))) (sink_most self.old)) }
 
         // What every sink keeps.
         ensures some { IfOk result (λ n. 0 < n) }
         ensures bound { IfOk result (λ n. n ≤ length piece.now) }
-        ensures added { IfOk result (λ n. sink_bytes self.new ≡ sink_bytes self.old ++ take n piece.now) }
+        ensures added { IfOk result
+            (λ n. sink_bytes self.new ≡ sink_bytes self.old ++ take n piece.now) }
         ensures err { OnErr result (sink_bytes self.new ≡ sink_bytes self.old) }
         ensures counted { sink_faults self.old ≤ sink_faults self.new }
         ensures failed { OnErr result (HasFault (sink_faults self.old) (sink_faults self.new)) }
         ensures sound { (room : ℕ) → SurelyTakes self.old room → length piece.now ≤ room →
-            IsOkAnd result (λ n. IsSound (sink_faults self.old) (sink_faults self.new) (SurelyTakes self.new (room - n))) }
+            IsOkAnd result (λ n. IsSound (sink_faults self.old) (sink_faults self.new)
+            (SurelyTakes self.new (room - n))) }
     {
         self.calls.begin()?;
         let room = self.room as usize - self.held.len();

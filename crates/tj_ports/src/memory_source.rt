@@ -18,6 +18,7 @@ pub struct MemSource {
 }
 
 impl MemSource {
+    ghost use Rattle.tj_ports.specs.Calls.{fresh_calls};
     ghost use Rattle.tj_ports.specs.Memory.{source_bytes, source_calls, source_most};
 
     /// It gives at most `most` bytes a call. The calls with the numbers in `fails`, from 1, fail.
@@ -25,7 +26,7 @@ impl MemSource {
         requires { 0 < most }
         ensures bytes { source_bytes result ≡ bytes.items }
         ensures most { source_most result ≡ most }
-        ensures calls { source_calls result ≡ record { made = 0; failing = fails; faults = 0 } }
+        ensures calls { source_calls result ≡ fresh_calls fails }
     {
         MemSource {
             bytes,
@@ -56,17 +57,20 @@ impl Source for MemSource {
     fn take(&mut self, into: &mut [u8]) -> Result<usize, Failed>
         requires { 0 < length into.old }
         ensures listed { IsErr result ↔ IsNextListed (source_calls self.old) }
-        ensures count { IfOk result (λ n. n ≡ min (min (length (source_bytes self.old)) (length into.old)) (source_most self.old)) }
+        ensures count { IfOk result (λ n. n ≡ min (min (length (source_bytes self.old))
+            (length into.old)) (source_most self.old)) }
 
         // What every source keeps.
         ensures bound { IfOk result (λ n. n ≤ length into.new) }
-        ensures taken { IfOk result (λ n. source_bytes self.old ≡ take n into.new ++ source_bytes self.new) }
+        ensures taken { IfOk result
+            (λ n. source_bytes self.old ≡ take n into.new ++ source_bytes self.new) }
         ensures end { IfOk result (λ n. n ≡ 0 → source_bytes self.old ≡ []) }
         ensures err { OnErr result (source_bytes self.new ≡ source_bytes self.old) }
         ensures counted { source_faults self.old ≤ source_faults self.new }
         ensures failed { OnErr result (HasFault (source_faults self.old) (source_faults self.new)) }
         ensures sound { ListsNone (source_calls self.old) →
-            IsOk result × IsSound (source_faults self.old) (source_faults self.new) (ListsNone (source_calls self.new)) }
+            IsOk result × IsSound (source_faults self.old) (source_faults self.new)
+            (ListsNone (source_calls self.new)) }
     {
         self.calls.begin()?;
         let left = &self.bytes[self.given..];

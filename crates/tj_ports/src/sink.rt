@@ -25,14 +25,16 @@ pub trait Sink {
         requires { 0 < length piece.now }
         ensures some { IfOk result (λ n. 0 < n) }
         ensures bound { IfOk result (λ n. n ≤ length piece.now) }
-        ensures added { IfOk result (λ n. Appends (held self.old) (held self.new) (take n piece.now)) }
+        ensures added { IfOk result (λ n. Appends (held self.old) (held self.new)
+            (take n piece.now)) }
         ensures err { OnErr result (Keeps (held self.old) (held self.new)) }
 
         // A fault is told only where it is counted.
         ensures counted { faults self.old ≤ faults self.new }
         ensures failed { OnErr result (HasFault (faults self.old) (faults self.new)) }
         ensures sound { (room : ℕ) → has_room self.old room → length piece.now ≤ room →
-            IsOkAnd result (λ n. IsSound (faults self.old) (faults self.new) (has_room self.new (room - n))) };
+            IsOkAnd result (λ n. IsSound (faults self.old) (faults self.new)
+            (has_room self.new (room - n))) };
 }
 
 /// Puts all the bytes. It takes no memory.
@@ -43,7 +45,8 @@ pub fn put_all<K: Sink>(sink: &mut K, bytes: &[u8]) -> Result<(), Failed>
     ensures counted { K.faults sink.old ≤ K.faults sink.new }
     ensures failed { OnErr result (HasFault (K.faults sink.old) (K.faults sink.new)) }
     ensures sound { (room : ℕ) → K.has_room sink.old room → length bytes.now ≤ room →
-        IsOk result × IsSound (K.faults sink.old) (K.faults sink.new) (K.has_room sink.new (room - length bytes.now)) }
+        IsOk result × IsSound (K.faults sink.old) (K.faults sink.new)
+        (K.has_room sink.new (room - length bytes.now)) }
 {
     let mut count = 0;
     while count < bytes.len() {

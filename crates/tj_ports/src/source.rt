@@ -29,7 +29,8 @@ pub trait Source {
     fn take(&mut self, into: &mut [u8]) -> Result<usize, Failed>
         requires { 0 < length into.old }
         ensures bound { IfOk result (λ n. n ≤ length into.new) }
-        ensures taken { IfOk result (λ n. Consumes (left self.old) (left self.new) (take n into.new)) }
+        ensures taken { IfOk result (λ n. Consumes (left self.old) (left self.new)
+            (take n into.new)) }
         ensures end { IfOk result (λ n. n ≡ 0 → IsAtEnd (left self.old)) }
         ensures err { OnErr result (Keeps (left self.old) (left self.new)) }
 
@@ -85,14 +86,17 @@ impl From<AllocError> for ReadFault {
 
 /// Reads to the end, or one byte past the limit, which shows that there are more.
 pub fn read_all<S: Source>(alloc: Global, source: &mut S, limit: u32) -> Result<ReadEnd, ReadFault>
-    // Where the bytes are told, they decide between whole and long, and one more than the limit is taken.
-    ensures read { IfSome (S.left source.old) (λ bytes. IfOk result (λ end. end ≡ read_of limit bytes)) }
+    // Where the bytes are told, they decide between whole and long.
+    ensures read { IfSome (S.left source.old) (λ bytes. IfOk result
+        (λ end. end ≡ read_of limit bytes)) }
     ensures within { IfOk result (IsWithin limit) }
-    ensures rest { OnOk result (IfSome (S.left source.old) (λ bytes. S.left source.new ≡ Some (drop (limit + 1) bytes))) }
+    ensures rest { OnOk result (IfSome (S.left source.old)
+        (λ bytes. S.left source.new ≡ Some (drop (limit + 1) bytes))) }
     ensures taken { TakesAtMost (limit + 1) (S.left source.old) (S.left source.new) }
 
     ensures counted { S.faults source.old ≤ S.faults source.new }
-    ensures failed { result ≡ Err ReadFault.Failed → HasFault (S.faults source.old) (S.faults source.new) }
+    ensures failed { result ≡ Err ReadFault.Failed
+        → HasFault (S.faults source.old) (S.faults source.new) }
     ensures sound { S.never_fails source.old → (result ≢ Err ReadFault.Failed)
         × IsSound (S.faults source.old) (S.faults source.new) (S.never_fails source.new) }
 {
@@ -121,11 +125,15 @@ fn take_piece<S: Source>(
     requires { 0 < length piece.old }
     ensures added { IfOk result (λ n. length bytes.new.items ≡ length bytes.old.items + n) }
     ensures bound { IfOk result (λ n. n ≤ length piece.old) }
-    ensures taken { IfOk result (λ n. (came : List ℕ) × (length came ≡ n) × (bytes.new.items ≡ bytes.old.items ++ came) × Consumes (S.left source.old) (S.left source.new) came) }
+    ensures taken { IfOk result (λ n. (came : List ℕ) × (length came ≡ n)
+        × (bytes.new.items ≡ bytes.old.items ++ came)
+        × Consumes (S.left source.old) (S.left source.new) came) }
     ensures end { IfOk result (λ n. n ≡ 0 → IsAtEnd (S.left source.old)) }
-    ensures err { OnErr result (TakesAtMost (length piece.old) (S.left source.old) (S.left source.new)) }
+    ensures err { OnErr result (TakesAtMost (length piece.old) (S.left source.old)
+        (S.left source.new)) }
     ensures counted { S.faults source.old ≤ S.faults source.new }
-    ensures failed { result ≡ Err ReadFault.Failed → HasFault (S.faults source.old) (S.faults source.new) }
+    ensures failed { result ≡ Err ReadFault.Failed
+        → HasFault (S.faults source.old) (S.faults source.new) }
     ensures sound { S.never_fails source.old → (result ≢ Err ReadFault.Failed)
         × IsSound (S.faults source.old) (S.faults source.new) (S.never_fails source.new) }
 {

@@ -18,18 +18,22 @@ HasText _ = Unit {0}
 -- the sink holds the output besides what it held, and the status is the output's; or memory was wanting
 abbrev pub IsAnswered : List (String Global) → List ℕ → List ℕ → Status → Option (List ℕ) → Type 0
 IsAnswered words input held status now =
-    ((text : List ℕ) × IsOutput words input status text × (now ≡ Some (held ++ text))) ⊎ ((status ≡ Memory) × (now ≡ Some held))
+    ((text : List ℕ) × IsOutput words input status text × (now ≡ Some (held ++ text)))
+    ⊎ ((status ≡ Memory) × (now ≡ Some held))
 
 -- a part of the output was put, and not all of it
 abbrev pub IsOutputPart : List (String Global) → List ℕ → Option (List ℕ) → Option (List ℕ) → Type 0
-IsOutputPart words input before after = (status : Status) × (text : List ℕ) × IsOutput words input status text × GrowsByPart before after text
+IsOutputPart words input before after = (status : Status) × (text : List ℕ) × IsOutput words input status text
+    × GrowsByPart before after text
 
 -- a text of this status was put whole, or the sink failed before its end
 abbrev pub IsPutAs : Status → List ℕ → Option (List ℕ) → Option (List ℕ) → ℕ → ℕ → Status → Type 0
 IsPutAs status text before after count_before count_after answer =
-    ((answer ≡ status) × Appends before after text) ⊎ ((answer ≡ WriteFault) × GrowsByPart before after text × HasFault count_before count_after)
+    ((answer ≡ status) × Appends before after text)
+    ⊎ ((answer ≡ WriteFault) × GrowsByPart before after text × HasFault count_before count_after)
 
 -- the same of what belongs to an input
 abbrev pub IsScriptPut : List ℕ → Option (List ℕ) → Option (List ℕ) → ℕ → ℕ → Status → Type 0
 IsScriptPut input before after count_before count_after answer =
-    (status : Status) × (text : List ℕ) × IsScriptOutput input status text × IsPutAs status text before after count_before count_after answer
+    (status : Status) × (text : List ℕ) × IsScriptOutput input status text
+    × IsPutAs status text before after count_before count_after answer

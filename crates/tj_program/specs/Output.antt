@@ -19,7 +19,8 @@ IsRefused input = (printed : List ℕ) (returned : ℕ) → IsAccepted input pri
 
 -- the input is such a script, and this is its report
 abbrev pub IsReportOf : List ℕ → List ℕ → Type 0
-IsReportOf input text = (printed : List ℕ) × (returned : ℕ) × IsAccepted input printed returned × (text ≡ report_text printed returned)
+IsReportOf input text = (printed : List ℕ) × (returned : ℕ) × IsAccepted input printed returned
+    × (text ≡ report_text printed returned)
 
 -- with the word `run`: the report of a script, or that the input is none
 abbrev pub IsScriptOutput : List ℕ → Status → List ℕ → Type 0

@@ -18,7 +18,8 @@ pub const FAULT_LINE: &[u8] = b"script fault\n";
 /// The report of the script that a text is, or None where it is none.
 pub fn report_of(alloc: Global, text: &[u8]) -> Result<Option<Vec<u8>>, Oom>
     requires { length text.now ≤ 1048576 }
-    ensures { IfOk result (λ found. MatchOption found (IsRefused text.now) (λ report. IsReportOf text.now report.items)) }
+    ensures { IfOk result (λ found. MatchOption found (IsRefused text.now)
+        (λ report. IsReportOf text.now report.items)) }
 {
     match parse_small(alloc, text)? {
         None => Ok(None),

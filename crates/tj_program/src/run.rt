@@ -28,26 +28,34 @@ pub fn run_words<S: Source, K: Sink, G: Gate>(
     sink: &mut K,
     _gate: &G,
 ) -> Status
-    // Where both ports tell their bytes and neither fails, the sink grows by the output, or memory is wanting.
-    ensures output { (input held : List ℕ) → S.left source.old ≡ Some input → K.held sink.old ≡ Some held
-        → HasNoFault (S.faults source.old) (S.faults source.new) → HasNoFault (K.faults sink.old) (K.faults sink.new)
+    // Where both ports tell their bytes and neither fails, the sink grows by the output,
+    // or memory is wanting.
+    ensures output { (input held : List ℕ) → S.left source.old ≡ Some input
+        → K.held sink.old ≡ Some held
+        → HasNoFault (S.faults source.old) (S.faults source.new)
+        → HasNoFault (K.faults sink.old) (K.faults sink.new)
         → IsAnswered words.now input held result (K.held sink.new) }
 
-    // A status that belongs to a text comes exactly where that text is the output, and was put whole.
+    // A status that belongs to a text comes exactly where that text is the output, put whole.
     ensures whole { (input : List ℕ) → S.left source.old ≡ Some input → HasText result
-        → (text : List ℕ) × IsOutput words.now input result text × Appends (K.held sink.old) (K.held sink.new) text }
+        → (text : List ℕ) × IsOutput words.now input result text
+        × Appends (K.held sink.old) (K.held sink.new) text }
 
-    ensures taken { (input : List ℕ) → S.left source.old ≡ Some input → IsRunAlone words.now → HasText result
+    ensures taken { (input : List ℕ) → S.left source.old ≡ Some input → IsRunAlone words.now
+        → HasText result
         → S.left source.new ≡ Some (drop 1048577 input) }
 
     // Each other answer has its cause.
-    ensures usage { result ≡ Status.Usage → (IsRunAlone words.now → ⊥) × Appends (K.held sink.old) (K.held sink.new) usage_line }
+    ensures usage { result ≡ Status.Usage → (IsRunAlone words.now → ⊥)
+        × Appends (K.held sink.old) (K.held sink.new) usage_line }
     ensures script { result ≡ Status.Script → IsRunAlone words.now }
     ensures clean { result ≡ Status.Clean → IsRunAlone words.now }
     ensures untouched { (IsRunAlone words.now → ⊥) → source.new ≡ source.old }
-    ensures read_fault { result ≡ Status.ReadFault → IsRunAlone words.now × HasFault (S.faults source.old) (S.faults source.new) }
+    ensures read_fault { result ≡ Status.ReadFault → IsRunAlone words.now
+        × HasFault (S.faults source.old) (S.faults source.new) }
     ensures unread { result ≡ Status.ReadFault → sink.new ≡ sink.old }
-    ensures write_fault { result ≡ Status.WriteFault → HasFault (K.faults sink.old) (K.faults sink.new) }
+    ensures write_fault { result ≡ Status.WriteFault
+        → HasFault (K.faults sink.old) (K.faults sink.new) }
     ensures part { result ≡ Status.WriteFault → (input : List ℕ) → S.left source.old ≡ Some input
         → IsOutputPart words.now input (K.held sink.old) (K.held sink.new) }
     ensures memory { result ≡ Status.Memory → sink.new ≡ sink.old }
@@ -72,7 +80,8 @@ pub fn run_words<S: Source, K: Sink, G: Gate>(
 // Puts the report of a script, or the line that says that it is none.
 fn run_script<K: Sink>(alloc: Global, text: &[u8], sink: &mut K) -> Status
     requires { length text.now ≤ 1048576 }
-    ensures output { result ≢ Status.Memory → IsScriptPut text.now (K.held sink.old) (K.held sink.new) (K.faults sink.old) (K.faults sink.new) result }
+    ensures output { result ≢ Status.Memory → IsScriptPut text.now (K.held sink.old)
+        (K.held sink.new) (K.faults sink.old) (K.faults sink.new) result }
     ensures memory { result ≡ Status.Memory → sink.new ≡ sink.old }
     ensures counted { K.faults sink.old ≤ K.faults sink.new }
 {
@@ -85,7 +94,8 @@ fn run_script<K: Sink>(alloc: Global, text: &[u8], sink: &mut K) -> Status
 
 // Puts a text. The status is that of the text, or says that it could not be put.
 fn put_text<K: Sink>(sink: &mut K, status: Status, text: &[u8]) -> Status
-    ensures put { IsPutAs status text.now (K.held sink.old) (K.held sink.new) (K.faults sink.old) (K.faults sink.new) result }
+    ensures put { IsPutAs status text.now (K.held sink.old) (K.held sink.new) (K.faults sink.old)
+        (K.faults sink.new) result }
     ensures counted { K.faults sink.old ≤ K.faults sink.new }
 {
     match put_all(sink, text) {

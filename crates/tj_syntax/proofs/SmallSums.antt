@@ -7,16 +7,19 @@ use Rattle.tj_syntax.specs.SmallForm.{IsSum, IsSumRest, HasNoSum, IsOnlySum}
 -- what was read of a sum has this total, and these tokens are left of it
 pub record IsReadTo (tokens : List SmallToken) (so_far : ℕ) (left : List SmallToken) : Type 0 where
   pub goes_on : (t : ℕ) (after : List SmallToken) → IsSumRest left t after → IsSum tokens (so_far + t) after
-  pub only : (total : ℕ) (after : List SmallToken) → IsSum tokens total after → (t : ℕ) × (total ≡ so_far + t) × IsSumRest left t after
+  pub only : (total : ℕ) (after : List SmallToken) → IsSum tokens total after → (t : ℕ) × (total ≡ so_far + t)
+      × IsSumRest left t after
 
 begin_at : (n : ℕ) (left : List SmallToken) → IsReadTo (Number n ∷ left) n left
 begin_at n left = record { goes_on = λ t after rest. (t, refl, rest); only = λ total after sum. sum }
 
 -- after the first number
-pub IsReadTo-first : (tokens : List SmallToken) (n : ℕ) (left : List SmallToken) → tokens ≡ Number n ∷ left → IsReadTo tokens n left
+pub IsReadTo-first : (tokens : List SmallToken) (n : ℕ) (left : List SmallToken) → tokens ≡ Number n ∷ left
+    → IsReadTo tokens n left
 IsReadTo-first tokens n left e = subst (λ ts. IsReadTo ts n left) (sym e) (begin_at n left)
 
-more_at : (tokens : List SmallToken) (so_far n : ℕ) (left : List SmallToken) → IsReadTo tokens so_far (Plus ∷ Number n ∷ left) → IsReadTo tokens (so_far + n) left
+more_at : (tokens : List SmallToken) (so_far n : ℕ) (left : List SmallToken)
+    → IsReadTo tokens so_far (Plus ∷ Number n ∷ left) → IsReadTo tokens (so_far + n) left
 more_at tokens so_far n left r =
     record {
       goes_on = λ t after rest.
@@ -31,14 +34,17 @@ more_at tokens so_far n left r =
     }
 
 -- after a further number
-pub IsReadTo-more : (tokens : List SmallToken) (so_far n : ℕ) (left after plus : List SmallToken) → IsReadTo tokens so_far left → left ≡ Plus ∷ plus → plus ≡ Number n ∷ after → IsReadTo tokens (so_far + n) after
+pub IsReadTo-more : (tokens : List SmallToken) (so_far n : ℕ) (left after plus : List SmallToken)
+    → IsReadTo tokens so_far left → left ≡ Plus ∷ plus → plus ≡ Number n ∷ after → IsReadTo tokens (so_far + n) after
 IsReadTo-more tokens so_far n left after plus r e f =
     more_at tokens so_far n after (subst (λ ts. IsReadTo tokens so_far ts) (e ∙ ap (λ ts. Plus ∷ ts) f) r)
 
-end_at : (tokens : List SmallToken) (so_far : ℕ) (after : List SmallToken) → IsReadTo tokens so_far (Semi ∷ after) → IsOnlySum tokens so_far after
+end_at : (tokens : List SmallToken) (so_far : ℕ) (after : List SmallToken) → IsReadTo tokens so_far (Semi ∷ after)
+    → IsOnlySum tokens so_far after
 end_at tokens so_far after r =
     record {
-      is_sum = (let e : so_far + 0 ≡ so_far = omega arith in subst (λ k. IsSum tokens k after) e (r.goes_on 0 after (refl, refl)));
+      is_sum = (let e : so_far + 0 ≡ so_far = omega arith in subst
+          (λ k. IsSum tokens k after) e (r.goes_on 0 after (refl, refl)));
       only = λ t rest sum.
           let q = r.only t rest sum in
           let whole : t ≡ so_far + q.0 = q.1 in
@@ -48,18 +54,22 @@ end_at tokens so_far after r =
     }
 
 -- at the `;`
-pub IsOnlySum-end : (tokens : List SmallToken) (so_far : ℕ) (left after : List SmallToken) → IsReadTo tokens so_far left → left ≡ Semi ∷ after → IsOnlySum tokens so_far after
+pub IsOnlySum-end : (tokens : List SmallToken) (so_far : ℕ) (left after : List SmallToken)
+    → IsReadTo tokens so_far left → left ≡ Semi ∷ after → IsOnlySum tokens so_far after
 IsOnlySum-end tokens so_far left after r e = end_at tokens so_far after (subst (λ ts. IsReadTo tokens so_far ts) e r)
 
 -- where the rest of the sum has to fail, the sum fails
-pub HasNoSum-cut : (tokens : List SmallToken) (so_far : ℕ) (left : List SmallToken) → IsReadTo tokens so_far left → ((t : ℕ) (after : List SmallToken) → IsSumRest left t after → ⊥) → HasNoSum tokens
-HasNoSum-cut tokens so_far left r fails = λ total after sum. let (t, e, rest) = r.only total after sum in fails t after rest
+pub HasNoSum-cut : (tokens : List SmallToken) (so_far : ℕ) (left : List SmallToken) → IsReadTo tokens so_far left
+    → ((t : ℕ) (after : List SmallToken) → IsSumRest left t after → ⊥) → HasNoSum tokens
+HasNoSum-cut tokens so_far left r fails = λ total after sum. let (t, e, rest) =
+    r.only total after sum in fails t after rest
 
 -- nothing is left
 pub no_rest-empty : (t : ℕ) (after : List SmallToken) → IsSumRest [] t after → ⊥
 no_rest-empty t after h = h
 
-no_number_at : (plus : List SmallToken) → ((n : ℕ) (after : List SmallToken) → plus ≢ Number n ∷ after) → (t : ℕ) (after : List SmallToken) → IsSumRest (Plus ∷ plus) t after → ⊥
+no_number_at : (plus : List SmallToken) → ((n : ℕ) (after : List SmallToken) → plus ≢ Number n ∷ after)
+    → (t : ℕ) (after : List SmallToken) → IsSumRest (Plus ∷ plus) t after → ⊥
 no_number_at [] none t after h = h
 no_number_at (Number n ∷ rest) none t after h = none n rest refl
 no_number_at (Task ∷ rest) none t after h = h
@@ -75,11 +85,14 @@ no_number_at (Plus ∷ rest) none t after h = h
 no_number_at (Unknown ∷ rest) none t after h = h
 
 -- a `+` with no number behind it
-pub no_rest-no_number : (left plus : List SmallToken) → left ≡ Plus ∷ plus → ((n : ℕ) (after : List SmallToken) → plus ≢ Number n ∷ after) → (t : ℕ) (after : List SmallToken) → IsSumRest left t after → ⊥
+pub no_rest-no_number : (left plus : List SmallToken) → left ≡ Plus ∷ plus
+    → ((n : ℕ) (after : List SmallToken) → plus ≢ Number n ∷ after) → (t : ℕ) (after : List SmallToken)
+    → IsSumRest left t after → ⊥
 no_rest-no_number left plus e none t after h = no_number_at plus none t after (subst (λ ts. IsSumRest ts t after) e h)
 
 -- no sum begins without a number
-pub HasNoSum-no_number : (tokens : List SmallToken) → ((n : ℕ) (after : List SmallToken) → tokens ≢ Number n ∷ after) → HasNoSum tokens
+pub HasNoSum-no_number : (tokens : List SmallToken) → ((n : ℕ) (after : List SmallToken) → tokens ≢ Number n ∷ after)
+    → HasNoSum tokens
 HasNoSum-no_number [] none t after h = h
 HasNoSum-no_number (Number n ∷ rest) none t after h = none n rest refl
 HasNoSum-no_number (Task ∷ rest) none t after h = h

@@ -21,7 +21,8 @@ EndsWith _ returned = ⊥
 
 -- the tokens are the statements of a script with its closing brace: what it prints, and what it returns
 pub data IsBody : List SmallToken → List ℕ → ℕ → Type 0 where
-  prints : {after rest : List SmallToken} {total : ℕ} {others : List ℕ} {returned : ℕ} → IsSum after total rest → IsBody rest others returned → IsBody (Print ∷ after) (total ∷ others) returned
+  prints : {after rest : List SmallToken} {total : ℕ} {others : List ℕ} {returned : ℕ} → IsSum after total rest
+      → IsBody rest others returned → IsBody (Print ∷ after) (total ∷ others) returned
   returns : {tokens : List SmallToken} {returned : ℕ} → EndsWith tokens returned → IsBody tokens [] returned
 
 -- the head of a script before its statements

@@ -46,7 +46,8 @@ fn parse_body(alloc: Global, text: &[u8]) -> Result<Option<SmallScript>, Oom>
 // The sum that is returned, where the text is the last statement and the closing brace.
 fn return_last(text: &[u8]) -> Option<u64>
     requires { length text.now ≤ 1048576 }
-    ensures { MatchOption result ((n : ℕ) → EndsWith (small_tokens text.now) n → ⊥) (IsOnlyEnd (small_tokens text.now)) }
+    ensures { MatchOption result ((n : ℕ) → EndsWith (small_tokens text.now) n → ⊥)
+        (IsOnlyEnd (small_tokens text.now)) }
 {
     let after = after_token(text, SmallToken::Return)?;
     let (sum, after) = sum_next(after)?;

@@ -9,7 +9,8 @@ use tj_lex::{SmallToken, small_token};
 // The value of the sum that comes next, and the text behind its `;`.
 pub fn sum_next(text: &[u8]) -> Option<(u64, &[u8])>
     requires { length text.now ≤ 1048576 }
-    ensures sum { MatchOption result (HasNoSum (small_tokens text.now)) (λ r. IsOnlySum (small_tokens text.now) r.0 (small_tokens r.1.now)) }
+    ensures sum { MatchOption result (HasNoSum (small_tokens text.now))
+        (λ r. IsOnlySum (small_tokens text.now) r.0 (small_tokens r.1.now)) }
     ensures shorter { IfSome result (λ r. length r.1.now < length text.now) }
 {
     let (mut total, mut rest) = number_next(text)?;

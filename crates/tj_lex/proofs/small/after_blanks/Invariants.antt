@@ -3,7 +3,10 @@ use Rattle.tj_lex.specs.Small.{small_tokens}
 use Rattle.tj_lex.proofs.small.after_blanks.Given as goal
 
 abbrev pub invariant-loop-rest : goal.invariant-loop-rest
-invariant-loop-rest l = record { tokens : small_tokens l.rest ≡ small_tokens l.text; no_longer : length l.rest ≤ length l.text }
+invariant-loop-rest l = record {
+  tokens : small_tokens l.rest ≡ small_tokens l.text;
+  no_longer : length l.rest ≤ length l.text;
+}
 
 abbrev pub decreases-loop-rest : goal.decreases-loop-rest
 decreases-loop-rest l = length l.rest

@@ -3,4 +3,7 @@ use Rattle.tj_lex.specs.SmallNumber.{value_of}
 use Rattle.tj_lex.proofs.small_number.number_of.Given as goal
 
 abbrev pub invariant-loop-byte : goal.invariant-loop-byte
-invariant-loop-byte l = record { value : l.value ≡ value_of (take l.byte-index l.digits); bound : l.value < 10 ^ l.byte-index }
+invariant-loop-byte l = record {
+  value : l.value ≡ value_of (take l.byte-index l.digits);
+  bound : l.value < 10 ^ l.byte-index;
+}

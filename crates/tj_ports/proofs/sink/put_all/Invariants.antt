@@ -13,7 +13,8 @@ invariant-loop-count g l =
       in_range : l.count ≤ length l.bytes;
       added : Appends (held l.initial.sink) (held l.sink) (take l.count l.bytes);
       counted : faults l.initial.sink ≤ faults l.sink;
-      sound : (room : ℕ) → has_room l.initial.sink room → length l.bytes ≤ room → IsSound (faults l.initial.sink) (faults l.sink) (has_room l.sink (room - l.count));
+      sound : (room : ℕ) → has_room l.initial.sink room → length l.bytes ≤ room
+          → IsSound (faults l.initial.sink) (faults l.sink) (has_room l.sink (room - l.count));
     }
 
 abbrev pub decreases-loop-count : goal.decreases-loop-count

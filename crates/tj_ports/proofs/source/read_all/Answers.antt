@@ -7,5 +7,6 @@ pub returns-in_err-take_piece-clause-taken : goal.returns-in_err-take_piece-clau
 returns-in_err-take_piece-clause-taken g c =
     let (came, short, taken) = c.in_err-take_piece.ensures.err in
     let bytes = c.loop-piece.bytes.items in
-    let at_most : length (bytes ++ came) ≤ c.args.limit + 1 = grind (arith, common_steps, short, c.loop-piece.invariant.most, c.loop-piece.bytes.ok.0) in
+    let at_most : length (bytes ++ came) ≤ c.args.limit + 1 =
+    grind (arith, common_steps, short, c.loop-piece.invariant.most, c.loop-piece.bytes.ok.0) in
     (bytes ++ came, at_most, Consumes-more _ _ _ bytes came c.loop-piece.invariant.taken taken)
