@@ -1,0 +1,8 @@
+//! A script of any size whose tasks form one long chain of promises, to measure a build with.
+#![tactic(auto)]
+
+mod script;
+#[cfg(test)]
+mod tests;
+
+pub use script::{MOST_SIZE, gen_script};

@@ -1,0 +1,39 @@
+//! The generated text, by hand.
+use crate::gen_script;
+use std::test::Fail;
+
+#[test]
+fn the_script_of_two_steps(rt: HostRuntime) -> Result<(), Fail> {
+    let text = gen_script(rt.alloc(), 2)?;
+    let wanted = b"task main() {
+  let a = new;
+  let p = a;
+  let q = 0;
+  let t = 0;
+  q = new;
+  t = fork node(1, p, own q);
+  p = q;
+  q = new;
+  t = fork node(2, p, own q);
+  p = q;
+  set a = 0;
+  let v = get p;
+  print v;
+  return v;
+}
+task node(i, p, q) {
+  let v = get p;
+  set q = v + i;
+  return i;
+}
+";
+    assert_eq!(rt; text.as_slice(), wanted.as_slice());
+    Ok(())
+}
+
+#[test]
+fn the_longest_script_is_short(rt: HostRuntime) -> Result<(), Fail> {
+    let text = gen_script(rt.alloc(), 4000)?;
+    assert!(rt; text.len() < 300_000);
+    Ok(())
+}
