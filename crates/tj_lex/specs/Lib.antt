@@ -1,0 +1,5 @@
+pub mod Bytes
+pub mod Places
+pub mod Spelling
+pub mod Spots
+pub mod Tokens

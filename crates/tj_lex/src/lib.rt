@@ -1,0 +1,21 @@
+//! The tokens of the script language: names, numbers, keywords and marks, each with its place,
+//! or the place of the first fault.
+#![tactic(auto)]
+
+mod bytes;
+mod gap;
+mod number;
+mod place;
+mod scan;
+mod spelling;
+mod token;
+mod word;
+
+#[cfg(test)]
+mod tests;
+
+pub use bytes::MAX_TEXT;
+pub use place::Place;
+pub use scan::tokens;
+pub use token::{Key, LexFault, Mark, Tok, Token};
+pub use word::Word;
