@@ -4,3 +4,7 @@ pub mod Lines
 pub mod Gaps
 pub mod Moves
 pub mod Chains
+pub mod Behind
+pub mod Starts
+pub mod Determined
+pub mod Laying

@@ -6,8 +6,6 @@ use Rattle.tj_lex.specs.Bytes.{line_feed}
 use Rattle.tj_lex.specs.Places.{place_after}
 use Rattle.tj_lex.specs.Tokens.{IsGap, Spells}
 use Rattle.tj_lex.specs.declared.scan.Lexeme.{Lexeme}
-use Rattle.tj_lex.specs.declared.token.LexFault.{LexFault}
-use Rattle.tj_lex.specs.declared.token.LexFault.TheVariants as faults
 
 -- the spot stands within the text, or at its end, and its place is that of its index
 pub record IsSpot (text : List ℕ) (spot : Spot) : Type 0 where
@@ -19,11 +17,6 @@ pub record AreApart (text : List ℕ) (start stop : ℕ) : Type 0 where
   pub in_order : start ≤ stop
   pub before_more : stop < length text → IsGap (slice_range text start stop)
   pub at_end : stop ≡ length text → IsGap (drop start text ++ line_feed ∷ [])
-
--- the fault is want of memory, or else meets the fact
-abbrev pub OrMemory : (LexFault → Type 0) → LexFault → Type 0
-OrMemory P faults.Oom = Unit {0}
-OrMemory P fault = P fault
 
 -- the text begins with this token, and it has this many bytes
 pub record IsLexeme (text : List ℕ) (lexeme : Lexeme) : Type 0 where

@@ -1,5 +1,5 @@
 -- The tokens of a text, and its first fault.
-use Rattle.std.specs.Prelude.{ℕ, ◌+◌, ◌-◌, ◌^◌, ◌≡◌, ◌≢◌, ◌<◌, ◌≤◌, ◌⊎◌, IsTrue, true, false, pos, List, [], ◌∷◌, ◌++◌, length, take, drop, take_while}
+use Rattle.std.specs.Prelude.{ℕ, ◌+◌, ◌-◌, ◌^◌, ◌≡◌, ◌≢◌, ◌<◌, ◌≤◌, ◌⊎◌, IsTrue, true, false, pos, List, [], ◌∷◌, ◌++◌, length, take, drop, take_while, Result, Ok, Err}
 use Rattle.std.specs.List.{prefix_len, slice_range}
 use Rattle.std.specs.Char.{is_ascii_digit}
 use Rattle.tj_lex.specs.declared.place.Place.{Place}
@@ -110,3 +110,13 @@ pub record IsFirstFault (text : List ℕ) (fault : LexFault) : Type 0 where
   pub index : ℕ
   pub has_front : HasTokens text 0 front stop
   pub faults : IsFaultFrom text stop index fault
+
+-- what a text is: its tokens, or its first fault
+abbrev pub Answers : List ℕ → Result (List Token) LexFault → Type 0
+Answers text (Ok tokens) = AreTokens text tokens
+Answers text (Err fault) = IsFirstFault text fault
+
+-- the fault is want of memory, or else meets the fact
+abbrev pub OrMemory : (LexFault → Type 0) → LexFault → Type 0
+OrMemory P faults.Oom = Unit {0}
+OrMemory P fault = P fault

@@ -4,6 +4,7 @@
 
 mod bytes;
 mod gap;
+pub mod laws;
 mod number;
 mod place;
 mod scan;

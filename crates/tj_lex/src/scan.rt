@@ -1,9 +1,11 @@
 //! The tokens of a text, from its first byte to its end.
-ghost use Rattle.std.specs.Prelude.{◌≡◌, ◌+◌, ◌<◌, ◌≤◌, length, take, drop, IfOk, IfErr, true, false};
+ghost use Rattle.std.specs.Prelude.{◌≡◌, ◌+◌, ◌<◌, ◌≤◌, length, take, drop, List, IfOk, IfErr, IsErrAnd, MatchResult, true, false};
 ghost use Rattle.std.specs.Char.{is_ascii_digit};
 ghost use Rattle.tj_lex.specs.Bytes.{is_name_start, is_gap_start, begins_with};
-ghost use Rattle.tj_lex.specs.Tokens.{AreTokens, IsFirstFault, IsToken, IsFaultFrom, IsFaultAt};
-ghost use Rattle.tj_lex.specs.Spots.{IsSpot, IsLexeme, OrMemory};
+ghost use Rattle.tj_lex.specs.Tokens.{AreTokens, IsFirstFault, IsToken, IsFaultFrom, IsFaultAt, OrMemory};
+ghost use Rattle.tj_lex.specs.declared.token.Token.{Token};
+ghost use Rattle.tj_lex.specs.declared.token.LexFault.{LexFault};
+ghost use Rattle.tj_lex.specs.Spots.{IsSpot, IsLexeme};
 
 use crate::bytes::{MAX_NAME, MAX_TEXT, digits_len, is_name_start, name_len};
 use crate::gap::{Spot, after_gap};
@@ -16,6 +18,21 @@ use std::alloc::Global;
 
 /// The tokens of a text in their order, and the end last, or the first fault.
 pub fn tokens(alloc: Global, text: &[u8]) -> Result<Vec<Token>, LexFault>
+    requires { length text.now ≤ MAX_TEXT }
+    ensures ok { IfOk result (λ found. AreTokens text.now found.items) }
+    ensures fault { IfErr result (OrMemory (IsFirstFault text.now)) }
+
+    // A text that has tokens gives them, and one that has a fault gives its first, unless memory
+    // runs out.
+    ensures only_tokens { (all : List Token) → AreTokens text.now all
+        → MatchResult result (λ found. found.items ≡ all) (λ fault. fault ≡ LexFault.Oom) }
+    ensures only_fault { (first : LexFault) → IsFirstFault text.now first
+        → IsErrAnd result (OrMemory (λ fault. fault ≡ first)) }
+{
+    read(alloc, text)
+}
+
+fn read(alloc: Global, text: &[u8]) -> Result<Vec<Token>, LexFault>
     requires { length text.now ≤ MAX_TEXT }
     ensures ok { IfOk result (λ found. AreTokens text.now found.items) }
     ensures fault { IfErr result (OrMemory (IsFirstFault text.now)) }

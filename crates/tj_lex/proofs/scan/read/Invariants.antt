@@ -1,7 +1,7 @@
 use Rattle.std.proofs.Common.{◌-◌, length}
 use Rattle.tj_lex.specs.Tokens.{HasTokens}
 use Rattle.tj_lex.specs.Spots.{IsSpot}
-use Rattle.tj_lex.proofs.scan.tokens.Given as goal
+use Rattle.tj_lex.proofs.scan.read.Given as goal
 
 abbrev pub invariant-tokens : goal.invariant-tokens
 invariant-tokens l = IsSpot l.text l.spot × HasTokens l.text 0 l.found.items l.spot.next
