@@ -1,6 +1,6 @@
 -- What stands behind a gap is determined: where the gap is left out, it begins the text.
-use Rattle.std.proofs.Common.{◌≡◌, ◌≢◌, ℕ, ◌+◌, ◌-◌, ◌<◌, ◌≤◌, ◌∙◌, ap, sym, refl, arith, inl, inr, Bool, true, false, cond, List, [], ◌∷◌, ◌++◌, length, take, drop, append_assoc, length-append}
-use Rattle.std.specs.Prelude.{◌==◌, ◌||◌, ◌⊎◌}
+use Rattle.std.proofs.Common.{◌≡◌, ◌≢◌, ℕ, ◌<◌, ◌≤◌, ◌∙◌, ap, sym, refl, arith, inl, inr, Bool, true, false, cond, List, [], ◌∷◌, ◌++◌, length, drop, append_assoc, length-append}
+use Rattle.std.specs.Prelude.{◌==◌, ◌||◌}
 use Rattle.std.specs.List.{slice_range}
 use Rattle.std.proofs.lemmas.List.{append-nil, length-drop}
 use Rattle.std.proofs.lemmas.List.Folds.{drop_split}
@@ -37,16 +37,16 @@ mutual
   after_gap-append [] rest _ none = none
   after_gap-append (b ∷ gap) rest h none =
       elim h [
-      | inl p ↦ rw p.0 (after_gap-append gap rest p.1 none)
-      | inr p ↦ rw p.0 (after_comment-append gap rest p.1 none)
+        | inl p ↦ rw p.0 (after_gap-append gap rest p.1 none)
+        | inr p ↦ rw p.0 (after_comment-append gap rest p.1 none)
       ]
 
   after_comment-append : (gap rest : List ℕ) → IsComment gap → after_gap rest ≡ rest → after_comment (gap ++ rest) ≡ rest
   after_comment-append [] rest h none = absurd h
   after_comment-append (b ∷ gap) rest h none =
       elim h [
-      | inl p ↦ rw p.0 (after_gap-append gap rest p.1 none)
-      | inr p ↦ rw (eqb-ne b line_feed p.0) (after_comment-append gap rest p.1 none)
+        | inl p ↦ rw p.0 (after_gap-append gap rest p.1 none)
+        | inr p ↦ rw (eqb-ne b line_feed p.0) (after_comment-append gap rest p.1 none)
       ]
 
 begins_with-append : (test : ℕ → Bool) (bytes more : List ℕ) → 0 < length bytes → begins_with test (bytes ++ more) ≡ begins_with test bytes

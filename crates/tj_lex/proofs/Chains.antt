@@ -1,7 +1,6 @@
 -- Tokens, one behind the other.
-use Rattle.std.proofs.Common.{◌≡◌, ◌≢◌, ℕ, ◌+◌, ◌-◌, ◌<◌, ◌≤◌, ◌∙◌, ap, sym, refl, arith, inl, inr, Bool, true, false, not, ◌&&◌, List, [], ◌∷◌, ◌++◌, length, take, drop}
-use Rattle.std.specs.Prelude.{◌==◌, ◌⊎◌}
-use Rattle.std.specs.List.{slice_range, list_all, take_while}
+use Rattle.std.proofs.Common.{◌≡◌, ℕ, ◌∙◌, ap, sym, refl, arith, Bool, true, false, not, List, [], ◌∷◌, ◌++◌}
+use Rattle.std.specs.List.{list_all, take_while}
 use Rattle.std.specs.Char.{is_ascii_digit}
 use Rattle.tj_lex.specs.declared.token.Token.{Token}
 use Rattle.tj_lex.specs.declared.token.Tok.{Tok}
@@ -11,7 +10,7 @@ use Rattle.tj_lex.specs.declared.token.Mark.TheVariants as marks
 use Rattle.tj_lex.specs.declared.token.LexFault.{LexFault}
 use Rattle.tj_lex.specs.Bytes.{is_name_byte, stays_on_line, line_feed}
 use Rattle.tj_lex.specs.Spelling.{mark_text}
-use Rattle.tj_lex.specs.Tokens.{IsGap, Spells, IsToken, IsFaultFrom, HasTokens}
+use Rattle.tj_lex.specs.Tokens.{Spells, IsToken, IsFaultFrom, HasTokens}
 use Rattle.tj_lex.specs.Spots.{AreApart}
 use Rattle.tj_lex.proofs.Runs.{both, eqb-fails, list_all-prefix}
 

@@ -1,7 +1,6 @@
 -- A text has one list of tokens, or one first fault.
-use Rattle.std.proofs.Common.{◌≡◌, ◌≢◌, ℕ, ◌+◌, ◌-◌, ◌<◌, ◌≤◌, ◌∙◌, ap, sym, refl, arith, inl, inr, Bool, true, false, List, [], ◌∷◌, ◌++◌, length, take, drop, ℤ, pos, Result, Ok, Err, IfOk, IfErr, MatchResult, IsErrAnd}
+use Rattle.std.proofs.Common.{◌≡◌, ℕ, ◌-◌, ◌<◌, ◌≤◌, ◌∙◌, ap, sym, refl, arith, false, List, [], ◌∷◌, ◌++◌, length, take, drop, ℤ, pos, Result, Ok, Err, IfOk, IfErr, MatchResult, IsErrAnd}
 use Rattle.std.specs.List.{slice_range, prefix_len, take_while}
-use Rattle.std.specs.Char.{is_ascii_digit}
 use Rattle.std.proofs.lemmas.List.{length-drop, length-take-le}
 use Rattle.std.proofs.lemmas.List.Folds.{length-prefix_len}
 use Rattle.tj_lex.specs.declared.place.Place.{Place}
@@ -11,10 +10,10 @@ use Rattle.tj_lex.specs.declared.token.Tok.TheVariants as toks
 use Rattle.tj_lex.specs.declared.token.Mark.{Mark}
 use Rattle.tj_lex.specs.declared.token.LexFault.{LexFault}
 use Rattle.tj_lex.specs.declared.token.LexFault.TheVariants as faults
-use Rattle.tj_lex.specs.Bytes.{is_name_start, is_name_byte, is_gap_start, begins_with}
+use Rattle.tj_lex.specs.Bytes.{is_name_byte, is_gap_start, begins_with}
 use Rattle.tj_lex.specs.Places.{place_after}
-use Rattle.tj_lex.specs.Spelling.{key_text, mark_text, decimal}
-use Rattle.tj_lex.specs.Tokens.{StartsWith, Spells, IsFaultAt, IsToken, IsEnd, IsFaultFrom, HasTokens, AreTokens, IsFirstFault, Answers, OrMemory, longest_name, greatest_number}
+use Rattle.tj_lex.specs.Spelling.{decimal}
+use Rattle.tj_lex.specs.Tokens.{Spells, IsFaultAt, IsToken, IsEnd, IsFaultFrom, HasTokens, AreTokens, IsFirstFault, Answers, OrMemory, longest_name}
 use Rattle.tj_lex.proofs.Behind.{StandsAt, StandsAt-one, StandsAt-last}
 use Rattle.tj_lex.proofs.Starts.{IsMarkStart, mark-start, name-no_gap, number-no_gap, number-no_name, key_text-one, key_text-short, mark_text-one}
 
@@ -138,9 +137,18 @@ IsToken-one text start t u h k =
     let what = Spells-what (drop u.from text) (slice_range text u.from t.to) (slice_range text u.from u.to) t.what u.what spelled k.spelled in
     let bytes = Spells-bytes (drop u.from text) (slice_range text u.from t.to) (slice_range text u.from u.to) u.what (rw (← what) spelled) k.spelled in
     let to : t.to ≡ u.to =
-        omega (arith, ap length bytes, h.some, h.within, k.some, k.within, from, length-drop u.from text,
-               length-take-le (t.to - u.from) (drop u.from text) (omega (arith, h.some, h.within, from, length-drop u.from text)),
-               length-take-le (u.to - u.from) (drop u.from text) (omega (arith, k.some, k.within, length-drop u.from text))) in
+    omega (
+      arith,
+      ap length bytes,
+      h.some,
+      h.within,
+      k.some,
+      k.within,
+      from,
+      length-drop u.from text,
+      length-take-le (t.to - u.from) (drop u.from text) (omega (arith, h.some, h.within, from, length-drop u.from text)),
+      length-take-le (u.to - u.from) (drop u.from text) (omega (arith, k.some, k.within, length-drop u.from text)),
+    ) in
     token_is t u what (h.place ∙ ap (λ i. place_after (take i text)) from ∙ sym k.place) from to
 
 IsEnd-one : (text : List ℕ) (start : ℕ) (t u : Token) → IsEnd text start t → IsEnd text start u → t ≡ u
@@ -185,32 +193,32 @@ IsReading-one text start (t ∷ ts) (u ∷ us) x y h k =
     let first = IsToken-one text start t u h.has.0 k.has.0 in
     let at_u : HasTokens text u.to ts h.stop = rw (← first) h.has.1 in
     let rest = IsReading-one text u.to ts us x y
-        (record { stop = h.stop; has = at_u; finishes = h.finishes })
-        (record { stop = k.stop; has = k.has.1; finishes = k.finishes }) in
+    (record { stop = h.stop; has = at_u; finishes = h.finishes })
+    (record { stop = k.stop; has = k.has.1; finishes = k.finishes }) in
     (ap (λ head. head ∷ ts) first ∙ ap (λ tail. u ∷ tail) rest.0, rest.1)
 
 -- a text is one list of tokens, or one first fault
 pub Answers-one : (text : List ℕ) (a b : Result (List Token) LexFault) → Answers text a → Answers text b → a ≡ b
 Answers-one text (Ok ts) (Ok us) h k =
     let one = IsReading-one text 0 h.front k.front (Ok h.last) (Ok k.last)
-        (record { stop = h.stop; has = h.has_front; finishes = h.ends })
-        (record { stop = k.stop; has = k.has_front; finishes = k.ends }) in
+    (record { stop = h.stop; has = h.has_front; finishes = h.ends })
+    (record { stop = k.stop; has = k.has_front; finishes = k.ends }) in
     let last : h.last ≡ k.last = cc (one.1) in
     ap Ok (h.whole ∙ ap (λ front. front ++ h.last ∷ []) one.0 ∙ ap (λ token. k.front ++ token ∷ []) last ∙ sym k.whole)
 Answers-one text (Ok ts) (Err g) h k =
     let one = IsReading-one text 0 h.front k.front (Ok h.last) (Err g)
-        (record { stop = h.stop; has = h.has_front; finishes = h.ends })
-        (record { stop = k.stop; has = k.has_front; finishes = (k.index, k.faults) }) in
+    (record { stop = h.stop; has = h.has_front; finishes = h.ends })
+    (record { stop = k.stop; has = k.has_front; finishes = (k.index, k.faults) }) in
     absurd (cc (one.1))
 Answers-one text (Err f) (Ok us) h k =
     let one = IsReading-one text 0 h.front k.front (Err f) (Ok k.last)
-        (record { stop = h.stop; has = h.has_front; finishes = (h.index, h.faults) })
-        (record { stop = k.stop; has = k.has_front; finishes = k.ends }) in
+    (record { stop = h.stop; has = h.has_front; finishes = (h.index, h.faults) })
+    (record { stop = k.stop; has = k.has_front; finishes = k.ends }) in
     absurd (cc (one.1))
 Answers-one text (Err f) (Err g) h k =
     let one = IsReading-one text 0 h.front k.front (Err f) (Err g)
-        (record { stop = h.stop; has = h.has_front; finishes = (h.index, h.faults) })
-        (record { stop = k.stop; has = k.has_front; finishes = (k.index, k.faults) }) in
+    (record { stop = h.stop; has = h.has_front; finishes = (h.index, h.faults) })
+    (record { stop = k.stop; has = k.has_front; finishes = (k.index, k.faults) }) in
     ap Err (cc (one.1))
 
 -- a call that gives tokens or a fault gives the text's own, unless memory runs out

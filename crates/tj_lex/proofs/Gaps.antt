@@ -2,9 +2,8 @@
 use Rattle.std.proofs.Common.{◌≡◌, ◌≢◌, ℕ, ◌+◌, ◌-◌, ◌<◌, ◌≤◌, ◌∙◌, ap, sym, refl, arith, true, false, inl, inr, List, [], ◌∷◌, ◌++◌, length, take, drop, get_or, append_assoc, add-zero}
 use Rattle.std.specs.Prelude.{◌==◌}
 use Rattle.std.specs.List.{slice_range, list_all, prefix_len}
-use Rattle.std.proofs.lemmas.List.{take-append-drop, take-take, drop-take, drop-drop, drop_all, drop_more, take_more, take_all, get_or-drop, get_or-take, length-drop, length-take}
+use Rattle.std.proofs.lemmas.List.{drop-drop, drop_all, drop_more, take_more, take_all, get_or-drop, get_or-take, length-drop, length-take}
 use Rattle.std.proofs.lemmas.List.Folds.{drop_split}
-use Rattle.std.proofs.lemmas.Grind.{common_steps}
 use Rattle.std.proofs.lemmas.List.Sums.{prefix_len_stops}
 use Rattle.std.proofs.lemmas.Bool.{eqb-true}
 use Rattle.tj_lex.proofs.Runs.{both, not-false, take-split, list_all-prefix}
@@ -78,8 +77,8 @@ AreApart-gap text a b h gap = record {
   in_order = h;
   before_more = λ _. gap;
   at_end = λ e.
-    rw (drop_split text a b h, drop_all b text (omega arith), append_assoc)
-    (IsGap-append (slice_range text a b) (line_feed ∷ []) gap (inl (refl, tt)));
+      rw (drop_split text a b h, drop_all b text (omega arith), append_assoc)
+      (IsGap-append (slice_range text a b) (line_feed ∷ []) gap (inl (refl, tt)));
 }
 
 -- a blank is a gap
@@ -94,10 +93,10 @@ AreApart-last text a more begins len = record {
   in_order = omega arith;
   before_more = λ h. absurd (omega arith);
   at_end = λ _.
-    let whole : take (prefix_len stays_on_line (drop a text)) (drop a text) ≡ drop a text =
-        take_all _ (drop a text) (omega (arith, length-drop a text)) in
-    IsGap-comment (drop a text) (λ _. get_or-drop a text 0 0 ∙ ap (λ i. get_or text i 0) (add-zero a) ∙ begins)
-    (rw whole at (list_all-prefix stays_on_line (drop a text)));
+      let whole : take (prefix_len stays_on_line (drop a text)) (drop a text) ≡ drop a text =
+      take_all _ (drop a text) (omega (arith, length-drop a text)) in
+      IsGap-comment (drop a text) (λ _. get_or-drop a text 0 0 ∙ ap (λ i. get_or text i 0) (add-zero a) ∙ begins)
+      (rw whole at (list_all-prefix stays_on_line (drop a text)));
 }
 
 -- a line feed stands behind bytes that stay on the line
@@ -113,10 +112,10 @@ AreApart-comment text a n begins more len =
     let inside : n < length rest = omega (arith, length-drop a text) in
     let size : a + n + 1 - a ≡ n + 1 = omega arith in
     let feed : get_or rest n 0 ≡ line_feed =
-        stays-is _ (rw len at (prefix_len_stops stays_on_line rest 0 (omega arith))) in
+    stays-is _ (rw len at (prefix_len_stops stays_on_line rest 0 (omega arith))) in
     let front : (0 < length (take n rest) → get_or (take n rest) 0 0 ≡ hash) =
-        λ h. get_or-take n rest 0 0 (omega (arith, length-take n rest)) ∙ get_or-drop a text 0 0
-            ∙ ap (λ i. get_or text i 0) (add-zero a) ∙ begins in
+    λ h. get_or-take n rest 0 0 (omega (arith, length-take n rest)) ∙ get_or-drop a text 0 0
+    ∙ ap (λ i. get_or text i 0) (add-zero a) ∙ begins in
     let body : list_all stays_on_line (take n rest) ≡ true = rw len at (list_all-prefix stays_on_line rest) in
     AreApart-gap text a (a + n + 1) (omega arith)
     (rw (size, take_more rest n 0 inside, feed) (IsGap-comment (take n rest) front body))

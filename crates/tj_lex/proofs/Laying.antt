@@ -1,9 +1,9 @@
 -- A text that is laid out token by token has these tokens.
-use Rattle.std.proofs.Common.{◌≡◌, ◌≢◌, ℕ, ◌+◌, ◌-◌, ◌<◌, ◌≤◌, ◌∙◌, ap, sym, subst, refl, arith, inl, inr, lit≤, Bool, true, false, cond, List, [], ◌∷◌, ◌++◌, length, take, drop, append_assoc, length-append}
+use Rattle.std.proofs.Common.{◌≡◌, ℕ, ◌+◌, ◌-◌, ◌<◌, ◌≤◌, ◌∙◌, ap, sym, subst, refl, arith, inl, lit≤, Bool, true, false, List, [], ◌∷◌, ◌++◌, length, take, drop, append_assoc, length-append}
 use Rattle.std.specs.Prelude.{◌==◌}
 use Rattle.std.specs.List.{slice_range, take_while, list_all}
 use Rattle.std.specs.Char.{is_ascii_digit}
-use Rattle.std.proofs.lemmas.List.{append-nil, take_at, drop_at, take_rest, take_all, take-append-le, drop-append-le, length-drop}
+use Rattle.std.proofs.lemmas.List.{append-nil, take_at, drop_at, take_rest, take-append-le, drop-append-le, length-drop}
 use Rattle.std.proofs.lemmas.List.Sums.{take_while-cons}
 use Rattle.tj_lex.specs.declared.token.Token.{Token}
 use Rattle.tj_lex.specs.declared.token.Tok.{Tok}
@@ -97,18 +97,29 @@ longest-mark (b ∷ c ∷ bytes) after other some ends starts = omega (arith, ma
 
 -- a token that nothing extends
 Spells-append : (bytes after : List ℕ) (what : Tok) → Spells bytes bytes what → begins_with (extends what) after ≡ false → Spells (bytes ++ after) bytes what
-Spells-append bytes after (toks.Name word) h ends =
-    (begins_with-more is_name_start bytes after h.0,
-     sym (take_while-append is_name_byte bytes after (all-pass is_name_byte bytes h.1) ends), h.2, h.3, h.4)
-Spells-append bytes after (toks.Key key) h ends =
-    (begins_with-more is_name_start bytes after h.0,
-     sym (take_while-append is_name_byte bytes after (all-pass is_name_byte bytes h.1) ends), h.2)
-Spells-append bytes after (toks.Num number) h ends =
-    (begins_with-more is_ascii_digit bytes after h.0,
-     sym (take_while-append is_ascii_digit bytes after (all-pass is_ascii_digit bytes h.1) ends), h.2, h.3)
-Spells-append bytes after (toks.Mark mark) h ends =
-    (h.0, take_at bytes after (length bytes) refl,
-     λ other starts. longest-mark bytes after other (rw (← h.0) (mark_text-some mark)) ends starts)
+Spells-append bytes after (toks.Name word) h ends = (
+  begins_with-more is_name_start bytes after h.0,
+  sym (take_while-append is_name_byte bytes after (all-pass is_name_byte bytes h.1) ends),
+  h.2,
+  h.3,
+  h.4,
+)
+Spells-append bytes after (toks.Key key) h ends = (
+  begins_with-more is_name_start bytes after h.0,
+  sym (take_while-append is_name_byte bytes after (all-pass is_name_byte bytes h.1) ends),
+  h.2,
+)
+Spells-append bytes after (toks.Num number) h ends = (
+  begins_with-more is_ascii_digit bytes after h.0,
+  sym (take_while-append is_ascii_digit bytes after (all-pass is_ascii_digit bytes h.1) ends),
+  h.2,
+  h.3,
+)
+Spells-append bytes after (toks.Mark mark) h ends = (
+  h.0,
+  take_at bytes after (length bytes) refl,
+  λ other starts. longest-mark bytes after other (rw (← h.0) (mark_text-some mark)) ends starts,
+)
 Spells-append bytes after toks.End h ends = h
 
 -- a token has some bytes
@@ -133,7 +144,7 @@ first_token before piece = record {
   what = piece.what;
   at = place_after before;
   from = length before;
-  to = length before + length piece.bytes
+  to = length before + length piece.bytes;
 }
 
 -- the token of a piece stands behind a gap and the bytes before it
@@ -146,12 +157,12 @@ IsToken-piece before start piece rest h gap spelled ends =
     let behind : drop n (before ++ more) ≡ more = drop_at before more n refl in
     let size : n + length piece.bytes - n ≡ length piece.bytes = omega arith in
     let read : slice_range (before ++ more) n (n + length piece.bytes) ≡ piece.bytes =
-        ap (λ i. take i (drop n (before ++ more))) size
-        ∙ ap (λ bytes. take (length piece.bytes) bytes) behind
-        ∙ take_at piece.bytes (piece.gap ++ rest) (length piece.bytes) refl in
+    ap (λ i. take i (drop n (before ++ more))) size
+    ∙ ap (λ bytes. take (length piece.bytes) bytes) behind
+    ∙ take_at piece.bytes (piece.gap ++ rest) (length piece.bytes) refl in
     let front : slice_range (before ++ more) start n ≡ slice_range before start n =
-        ap (λ bytes. take (n - start) bytes) (drop-append-le start before more h)
-        ∙ take-append-le (n - start) (drop start before) more (omega (arith, length-drop start before)) in
+    ap (λ bytes. take (n - start) bytes) (drop-append-le start before more h)
+    ∙ take-append-le (n - start) (drop start before) more (omega (arith, length-drop start before)) in
     record {
       behind = h;
       some = omega (arith, Spells-some piece.bytes piece.what spelled);
@@ -185,16 +196,16 @@ lay before start (piece ∷ pieces) h gap laid =
     let rest = text_of pieces in
     let split : later ≡ (before ++ piece.bytes) ++ piece.gap = sym (append_assoc before piece.bytes piece.gap) in
     let left : drop next later ≡ piece.gap =
-        ap (λ bytes. drop next bytes) split ∙ drop_at (before ++ piece.bytes) piece.gap next (length-append before piece.bytes) in
+    ap (λ bytes. drop next bytes) split ∙ drop_at (before ++ piece.bytes) piece.gap next (length-append before piece.bytes) in
     let sizes : length later ≡ length before + (length piece.bytes + length piece.gap) =
-        omega (arith, length-append before (piece.bytes ++ piece.gap), length-append piece.bytes piece.gap) in
+    omega (arith, length-append before (piece.bytes ++ piece.gap), length-append piece.bytes piece.gap) in
     let gap_read : slice_range later next (length later) ≡ piece.gap = take_rest later next ∙ left in
     let others = lay later next pieces (omega arith) (rw gap_read laid.1) laid.3 in
     let regrouped : before ++ (piece.bytes ++ (piece.gap ++ rest)) ≡ later ++ rest =
-        ap (λ bytes. before ++ bytes) (sym (append_assoc piece.bytes piece.gap rest)) ∙ sym (append_assoc before (piece.bytes ++ piece.gap) rest) in
+    ap (λ bytes. before ++ bytes) (sym (append_assoc piece.bytes piece.gap rest)) ∙ sym (append_assoc before (piece.bytes ++ piece.gap) rest) in
     let token : IsToken (later ++ rest) start (first_token before piece) =
-        subst (λ (text : List ℕ). IsToken text start (first_token before piece)) regrouped
-        (IsToken-piece before start piece rest h gap laid.0 laid.2) in
+    subst (λ (text : List ℕ). IsToken text start (first_token before piece)) regrouped
+    (IsToken-piece before start piece rest h gap laid.0 laid.2) in
     let all : AreTokensFrom (later ++ rest) start (tokens_of before (piece ∷ pieces)) = record {
       front = first_token before piece ∷ others.front;
       stop = others.stop;

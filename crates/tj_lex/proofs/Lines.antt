@@ -1,10 +1,9 @@
 -- How the place moves along a text.
-use Rattle.std.proofs.Common.{◌≡◌, ℕ, ◌+◌, ◌≤◌, ◌∙◌, ap, sym, refl, arith, true, false, cond, Bool, List, [], ◌∷◌, ◌++◌, length, append_assoc, length-append, ◌&&◌, not}
-use Rattle.std.specs.Prelude.{count_by, ◌==◌, reverse}
+use Rattle.std.proofs.Common.{◌≡◌, ℕ, ◌+◌, ◌≤◌, ◌∙◌, ap, sym, arith, true, cond, Bool, List, [], ◌∷◌, ◌++◌, length, append_assoc}
+use Rattle.std.specs.Prelude.{◌==◌}
 use Rattle.std.specs.List.{suffix_len, prefix_len, list_all}
 use Rattle.std.proofs.lemmas.List.{reverse-append, append-nil}
 use Rattle.std.proofs.lemmas.List.Sums.{sum_by-append, count_by-le-length, suffix_len-le-length}
-use Rattle.std.proofs.lemmas.Grind.{common_steps}
 use Rattle.tj_lex.proofs.Runs.{both, not-true}
 use Rattle.tj_lex.specs.declared.place.Place.{Place}
 use Rattle.tj_lex.specs.Bytes.{line_feed, stays_on_line}

@@ -1,5 +1,5 @@
 -- How a spot moves along a text.
-use Rattle.std.proofs.Common.{◌≡◌, ℕ, ◌+◌, ◌<◌, ◌≤◌, ◌∙◌, ap, sym, refl, arith, true, List, [], ◌∷◌, ◌++◌, length, take, drop, get_or}
+use Rattle.std.proofs.Common.{◌≡◌, ℕ, ◌+◌, ◌<◌, ◌≤◌, ◌∙◌, ap, sym, arith, true, List, [], ◌∷◌, ◌++◌, length, take, drop, get_or}
 use Rattle.std.specs.List.{list_all}
 use Rattle.std.proofs.lemmas.List.{take_more, length-take, length-take-le, length-drop}
 use Rattle.tj_lex.specs.declared.gap.Spot.{Spot}
@@ -30,9 +30,9 @@ IsSpot-along text spot after n h within stays next line column =
     let read : take after.next text ≡ before ++ more = ap (λ i. take i text) next ∙ take-split spot.next n text in
     let size : length more ≡ n = length-take-le n (drop spot.next text) (omega (arith, length-drop spot.next text)) in
     let same_line : after.at.line ≡ (place_after (before ++ more)).line =
-        line ∙ ap (λ at. at.line) h.place ∙ sym (line-along before more stays) in
+    line ∙ ap (λ at. at.line) h.place ∙ sym (line-along before more stays) in
     let same_column : after.at.column ≡ (place_after (before ++ more)).column =
-        omega (arith, column, ap (λ at. at.column) h.place, column-along before more stays, size) in
+    omega (arith, column, ap (λ at. at.column) h.place, column-along before more stays, size) in
     record {
       within = omega arith;
       place = place_is after.at _ _ same_line same_column ∙ ap place_after (sym read);
@@ -45,11 +45,11 @@ pub IsSpot-feed : (text : List ℕ) (spot after : Spot) → IsSpot text spot →
 IsSpot-feed text spot after h inside feed next line column =
     let before = take spot.next text in
     let read : take after.next text ≡ before ++ line_feed ∷ [] =
-        ap (λ i. take i text) next ∙ take_more text spot.next 0 inside ∙ ap (λ b. before ++ b ∷ []) feed in
+    ap (λ i. take i text) next ∙ take_more text spot.next 0 inside ∙ ap (λ b. before ++ b ∷ []) feed in
     let same_line : after.at.line ≡ (place_after (before ++ line_feed ∷ [])).line =
-        omega (arith, line, ap (λ at. at.line) h.place, line-feed before) in
+    omega (arith, line, ap (λ at. at.line) h.place, line-feed before) in
     let same_column : after.at.column ≡ (place_after (before ++ line_feed ∷ [])).column =
-        column ∙ sym (column-feed before) in
+    column ∙ sym (column-feed before) in
     record {
       within = omega arith;
       place = place_is after.at _ _ same_line same_column ∙ ap place_after (sym read);

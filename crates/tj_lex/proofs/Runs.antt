@@ -1,10 +1,10 @@
 -- Runs of bytes that pass a test.
-use Rattle.std.proofs.Common.{◌≡◌, ℕ, ◌+◌, ◌<◌, ◌≤◌, ◌∙◌, ap, sym, refl, arith, inl, inr, Bool, true, false, not, ◌&&◌, List, ◌++◌, length, take, drop, get_or}
+use Rattle.std.proofs.Common.{◌≡◌, ℕ, ◌+◌, ◌<◌, ◌∙◌, ap, sym, refl, arith, inl, inr, Bool, true, false, not, ◌&&◌, List, ◌++◌, take, drop}
 use Rattle.std.specs.Prelude.{◌==◌, ◌⊎◌}
 use Rattle.std.proofs.lemmas.Bool.{eqb-true}
 use Rattle.std.specs.List.{prefix_len, list_all, AllPass}
 use Rattle.std.proofs.lemmas.List.{take-append-drop, take-take, drop-take, get_or-take, length-take}
-use Rattle.std.proofs.lemmas.List.Sums.{AllPass-from_list_all, list_all-from_AllPass, prefix_len_passes, prefix_len-le-length}
+use Rattle.std.proofs.lemmas.List.Sums.{AllPass-from_list_all, list_all-from_AllPass, prefix_len_passes}
 
 -- two tests that hold
 pub both : (s t : Bool) → (s && t) ≡ true → (s ≡ true) × (t ≡ true)
@@ -28,8 +28,8 @@ cases false = inr refl
 pub eqb-fails : (p : ℕ → Bool) (k : ℕ) → p k ≡ false → (b : ℕ) → p b ≡ true → (b == k) ≡ false
 eqb-fails p k fails b holds =
     elim (cases (b == k)) [
-    | inl e ↦ let at_k : p k ≡ true = rw (← eqb-true b k e) holds in absurd (cc)
-    | inr e ↦ e
+      | inl e ↦ let at_k : p k ≡ true = rw (← eqb-true b k e) holds in absurd (cc)
+      | inr e ↦ e
     ]
 
 -- each byte of a run passes
@@ -37,8 +37,8 @@ pub list_all-prefix : (p : ℕ → Bool) (bytes : List ℕ) → list_all p (take
 list_all-prefix p bytes =
     let n = prefix_len p bytes in
     list_all-from_AllPass p (take n bytes) (λ k d h.
-        let inside : k < n = omega (arith, length-take n bytes) in
-        rw (get_or-take n bytes k d inside) (prefix_len_passes p bytes k d inside))
+    let inside : k < n = omega (arith, length-take n bytes) in
+    rw (get_or-take n bytes k d inside) (prefix_len_passes p bytes k d inside))
 
 -- the first n bytes and the m behind them
 pub take-split : (n m : ℕ) (u : List ℕ) → take (n + m) u ≡ take n u ++ take m (drop n u)

@@ -1,20 +1,16 @@
 -- What a text begins with: each token and each fault has first bytes of its own.
-use Rattle.std.proofs.Common.{◌≡◌, ◌≢◌, ℕ, ◌+◌, ◌-◌, ◌<◌, ◌≤◌, ◌∙◌, ap, sym, refl, arith, lit<, lit≤, Bool, true, false, cond, List, [], ◌∷◌, ◌++◌, length, take, drop, tests, rules}
-use Rattle.std.specs.Prelude.{◌==◌, ◌||◌, ◌⊎◌, codes}
+use Rattle.std.proofs.Common.{◌≡◌, ℕ, ◌<◌, ◌≤◌, ◌∙◌, ap, sym, refl, arith, lit<, lit≤, Bool, true, false, cond, List, [], ◌∷◌, length}
+use Rattle.std.specs.Prelude.{◌||◌}
 use Rattle.std.specs.Char.{is_ascii_digit}
-use Rattle.std.specs.List.{prefix_len, take_while}
 use Rattle.std.specs.Str.{bytes_eq}
-use Rattle.std.proofs.lemmas.List.Folds.{length-prefix_len}
 use Rattle.std.proofs.lemmas.Bool.Decides.{nat_tests}
-use Rattle.tj_lex.specs.declared.token.Tok.{Tok}
-use Rattle.tj_lex.specs.declared.token.Tok.TheVariants as toks
 use Rattle.tj_lex.specs.declared.token.Key.{Key}
 use Rattle.tj_lex.specs.declared.token.Key.TheVariants as keys
 use Rattle.tj_lex.specs.declared.token.Mark.{Mark}
 use Rattle.tj_lex.specs.declared.token.Mark.TheVariants as marks
-use Rattle.tj_lex.specs.Bytes.{is_blank, is_name_start, is_name_byte, is_gap_start, begins_with}
-use Rattle.tj_lex.specs.Spelling.{key_text, mark_text, decimal}
-use Rattle.tj_lex.specs.Tokens.{StartsWith, Spells, longest_name}
+use Rattle.tj_lex.specs.Bytes.{is_name_start, is_gap_start, begins_with}
+use Rattle.tj_lex.specs.Spelling.{key_text, mark_text}
+use Rattle.tj_lex.specs.Tokens.{StartsWith, longest_name}
 use Rattle.tj_lex.proofs.Runs.{eqb-fails}
 
 -- the keyword of these bytes
@@ -196,8 +192,13 @@ no_gap-if : (test : ℕ → Bool) → test 32 ≡ false → test 9 ≡ false →
     → (text : List ℕ) → begins_with test text ≡ true → begins_with is_gap_start text ≡ false
 no_gap-if test e₁ e₂ e₃ e₄ e₅ [] begins = refl
 no_gap-if test e₁ e₂ e₃ e₄ e₅ (b ∷ text) begins =
-    rw (eqb-fails test 32 e₁ b begins, eqb-fails test 9 e₂ b begins, eqb-fails test 13 e₃ b begins,
-        eqb-fails test 10 e₄ b begins, eqb-fails test 35 e₅ b begins) refl
+    rw (
+      eqb-fails test 32 e₁ b begins,
+      eqb-fails test 9 e₂ b begins,
+      eqb-fails test 13 e₃ b begins,
+      eqb-fails test 10 e₄ b begins,
+      eqb-fails test 35 e₅ b begins,
+    ) refl
 
 pub name-no_gap : (text : List ℕ) → begins_with is_name_start text ≡ true → begins_with is_gap_start text ≡ false
 name-no_gap text begins = no_gap-if is_name_start refl refl refl refl refl text begins

@@ -43,5 +43,5 @@ tokens_of before (piece ∷ pieces) =
       what = piece.what;
       at = place_after before;
       from = length before;
-      to = length before + length piece.bytes
+      to = length before + length piece.bytes;
     } ∷ tokens_of (before ++ (piece.bytes ++ piece.gap)) pieces

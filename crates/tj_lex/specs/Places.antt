@@ -8,5 +8,5 @@ use Rattle.tj_lex.specs.Bytes.{line_feed, stays_on_line}
 abbrev pub place_after : List ℕ → Place
 place_after before = record {
   line = count_by (λ b. b == line_feed) before + 1;
-  column = suffix_len stays_on_line before + 1
+  column = suffix_len stays_on_line before + 1;
 }

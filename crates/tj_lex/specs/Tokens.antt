@@ -1,5 +1,5 @@
 -- The tokens of a text, and its first fault.
-use Rattle.std.specs.Prelude.{ℕ, ◌+◌, ◌-◌, ◌^◌, ◌≡◌, ◌≢◌, ◌<◌, ◌≤◌, ◌⊎◌, IsTrue, true, false, pos, List, [], ◌∷◌, ◌++◌, length, take, drop, take_while, Result, Ok, Err}
+use Rattle.std.specs.Prelude.{ℕ, ◌-◌, ◌^◌, ◌≡◌, ◌≢◌, ◌<◌, ◌≤◌, ◌⊎◌, true, false, pos, List, [], ◌∷◌, ◌++◌, length, take, drop, take_while, Result, Ok, Err}
 use Rattle.std.specs.List.{prefix_len, slice_range}
 use Rattle.std.specs.Char.{is_ascii_digit}
 use Rattle.tj_lex.specs.declared.place.Place.{Place}

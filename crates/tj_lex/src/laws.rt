@@ -9,12 +9,10 @@ ghost use Rattle.tj_lex.specs.Tokens.{Answers, AreTokens};
 pub fn one_answer()
     ensures { (text : List ℕ) (a b : Result (List Token) LexFault)
         → Answers text a → Answers text b → a ≡ b }
-{
-}
+{}
 
 /// A text that is laid out token by token has these tokens, each at the place where it was put.
 pub fn laid_out()
     ensures { (pieces : List Piece) → AreLaidOut pieces
         → AreTokens (text_of pieces) (tokens_of [] pieces) }
-{
-}
+{}

@@ -9,11 +9,10 @@ mod number;
 mod place;
 mod scan;
 mod spelling;
-mod token;
-mod word;
-
 #[cfg(test)]
 mod tests;
+mod token;
+mod word;
 
 pub use bytes::MAX_TEXT;
 pub use place::Place;

@@ -28,8 +28,6 @@ fn with_digit(value: u64, digit: u8) -> Option<u64>
     ensures fits { IfSome result (λ n. (n ≡ 10 * value + (digit - 48)) × (n ≤ greatest_number)) }
     ensures too_great { IfNone result (greatest_number < 10 * value + (digit - 48)) }
 {
-    let more = value
-        .checked_mul(10)?
-        .checked_add(u64::from(digit - b'0'))?;
+    let more = value.checked_mul(10)?.checked_add(u64::from(digit - b'0'))?;
     if more <= GREATEST { Some(more) } else { None }
 }

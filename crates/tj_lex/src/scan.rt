@@ -149,7 +149,10 @@ fn mark(text: &[u8], at: Place) -> Result<Lexeme, LexFault>
     ensures token { IfOk result (IsLexeme text.now) }
     ensures fault { IfErr result (IsFaultAt at text.now) }
 {
-    if text.len() > 1 && text[1] == b'=' && let Some(mark) = double_mark(text[0]) {
+    if text.len() > 1
+        && text[1] == b'='
+        && let Some(mark) = double_mark(text[0])
+    {
         return Ok(Lexeme {
             what: Tok::Mark(mark),
             len: 2,

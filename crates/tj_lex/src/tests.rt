@@ -91,7 +91,11 @@ fn spellings(rt: HostRuntime) -> Result<(), Fail> {
             &[Want::Num(9223372036854775807), Want::Num(7), Want::End],
         ),
         ("an empty text", b"", &[Want::End]),
-        ("any byte in a comment", b"a#\x80\xff@!#\nb", &[Want::Name(b"a"), Want::Name(b"b"), Want::End]),
+        (
+            "any byte in a comment",
+            b"a#\x80\xff@!#\nb",
+            &[Want::Name(b"a"), Want::Name(b"b"), Want::End],
+        ),
         (
             "a name of 64 bytes",
             b"abcdefghijklmnopqrstuvwxyzabcdefghijklmnopqrstuvwxyz_0123456789A",
@@ -159,7 +163,11 @@ fn faults(rt: HostRuntime) {
     let rows = [
         ("a lone `!`", &b"a !\n="[..], LexFault::Byte(at(1, 3))),
         ("a byte past 127", b"a\n\x80", LexFault::Byte(at(2, 1))),
-        ("a byte that is no mark", b"# @\n\t@", LexFault::Byte(at(2, 2))),
+        (
+            "a byte that is no mark",
+            b"# @\n\t@",
+            LexFault::Byte(at(2, 2)),
+        ),
         (
             "the number after the greatest",
             b"1 9223372036854775808",
@@ -182,7 +190,10 @@ fn faults(rt: HostRuntime) {
         ),
     ];
     for (shows, text, fault) in rows {
-        assert!(rt; tokens(rt.alloc(), text).is_err_and(|found| found == fault), "{shows}");
+        assert!(rt;
+            tokens(rt.alloc(), text).is_err_and(|found| found == fault),
+            "{shows}"
+        );
     }
 }
 

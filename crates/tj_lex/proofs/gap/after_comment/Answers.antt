@@ -1,11 +1,11 @@
-use Rattle.std.proofs.Common.{◌≡◌, ◌+◌, ◌-◌, ◌<◌, ◌≤◌, ℕ, List, [], ◌∷◌, ◌++◌, length, take, drop, true, ap, ◌∙◌, sym, refl, arith, get_or}
-use Rattle.std.specs.List.{prefix_len, list_all}
+use Rattle.std.proofs.Common.{◌≡◌, ◌+◌, ◌-◌, ◌<◌, ◌≤◌, ℕ, List, length, take, drop, ap, ◌∙◌, sym, arith, get_or}
+use Rattle.std.specs.List.{prefix_len}
 use Rattle.std.proofs.lemmas.List.{take_rest, length-drop}
 use Rattle.std.proofs.lemmas.List.Sums.{prefix_len-le-length}
 use Rattle.tj_lex.specs.declared.gap.Spot.{Spot}
-use Rattle.tj_lex.specs.Bytes.{stays_on_line, line_feed}
-use Rattle.tj_lex.specs.Spots.{IsSpot, AreApart}
-use Rattle.tj_lex.proofs.Moves.{line-spot, column-spot, IsSpot-along, IsSpot-feed}
+use Rattle.tj_lex.specs.Bytes.{stays_on_line}
+use Rattle.tj_lex.specs.Spots.{IsSpot}
+use Rattle.tj_lex.proofs.Moves.{column-spot, IsSpot-along, IsSpot-feed}
 use Rattle.tj_lex.proofs.Gaps.{AreApart-comment, AreApart-last, feed-behind}
 use Rattle.tj_lex.proofs.Runs.{list_all-prefix}
 use Rattle.tj_lex.proofs.gap.after_comment.Goals as goal
@@ -22,7 +22,7 @@ at_end : (text : List ℕ) (spot end : Spot) (n : ℕ) → IsSpot text spot → 
     → end.next ≡ spot.next + n → end.at.line ≡ spot.at.line → end.at.column ≡ spot.at.column + n → IsSpot text end
 at_end text spot end n h more len next line column =
     let within : spot.next + n ≤ length text =
-        omega (arith, prefix_len-le-length stays_on_line (drop spot.next text), length-drop spot.next text) in
+    omega (arith, prefix_len-le-length stays_on_line (drop spot.next text), length-drop spot.next text) in
     IsSpot-along text spot end n h within (rw len at (list_all-prefix stays_on_line (drop spot.next text))) next line column
 
 pub returns-then-end-text-clause-spot : goal.returns-then-end-text-clause-spot

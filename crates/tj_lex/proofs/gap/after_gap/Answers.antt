@@ -1,4 +1,4 @@
-use Rattle.std.proofs.Common.{◌≡◌, ◌<◌, ◌≤◌, ◌+◌, length, arith}
+use Rattle.std.proofs.Common.{◌<◌, length, arith}
 use Rattle.tj_lex.proofs.Gaps.{AreApart-join}
 use Rattle.tj_lex.proofs.gap.after_gap.Goals as goal
 

@@ -1,5 +1,4 @@
-use Rattle.std.proofs.Common.{◌≡◌, ◌+◌, ◌-◌, ◌<◌, ◌≤◌, ℕ, List, length, take, drop, ap, sym, refl, arith, get_or}
-use Rattle.tj_lex.specs.Spelling.{decimal}
+use Rattle.std.proofs.Common.{◌+◌, arith}
 use Rattle.tj_lex.proofs.Decimals.{decimal-more, decimal-take}
 use Rattle.tj_lex.proofs.number.number.Goals as goal
 

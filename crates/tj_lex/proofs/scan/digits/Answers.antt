@@ -1,4 +1,3 @@
-use Rattle.std.proofs.Common.{◌≡◌, ◌+◌, ◌-◌, ◌<◌, ◌≤◌, ℕ, List, length, take, drop, ap, sym, refl, arith, get_or}
 use Rattle.tj_lex.proofs.Runs.{AllPass-prefix}
 use Rattle.std.specs.Char.{is_ascii_digit}
 use Rattle.tj_lex.proofs.scan.digits.Goals as goal

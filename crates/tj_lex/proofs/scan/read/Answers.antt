@@ -1,7 +1,7 @@
-use Rattle.std.proofs.Common.{◌≡◌, ◌+◌, ◌-◌, ◌<◌, ◌≤◌, ℕ, ◌∙◌, List, [], ◌∷◌, ◌++◌, length, take, drop, true, ap, sym, arith}
+use Rattle.std.proofs.Common.{◌≡◌, ◌+◌, ◌-◌, ℕ, List, take, drop, true, arith}
 use Rattle.std.specs.List.{list_all}
 use Rattle.tj_lex.specs.Bytes.{stays_on_line}
-use Rattle.tj_lex.specs.Tokens.{HasTokens, IsToken}
+use Rattle.tj_lex.specs.Tokens.{IsToken}
 use Rattle.tj_lex.specs.Spots.{IsSpot}
 use Rattle.tj_lex.specs.declared.gap.Spot.{Spot}
 use Rattle.tj_lex.specs.declared.token.Token.{Token}
@@ -20,7 +20,7 @@ behind : (text : List ℕ) (here after : Spot) (token : Token) → IsSpot text h
     → after.at.column ≡ here.at.column + (token.to - token.from) → IsSpot text after
 behind text here after token spot h from next line column =
     let stays : list_all stays_on_line (take (token.to - token.from) (drop here.next text)) ≡ true =
-        rw (← from) (Spells-line (drop token.from text) _ token.what h.spelled) in
+    rw (← from) (Spells-line (drop token.from text) _ token.what h.spelled) in
     IsSpot-along text here after _ spot (omega (arith, h.within, h.some)) stays next line column
 
 pub tokens-preserved : goal.tokens-preserved
@@ -29,8 +29,9 @@ tokens-preserved c =
     let here = c.after_gap-here in
     let token = c.in_ok-token.ensures in
     let along = c.along-spot.ensures in
-    let next : c.along-spot.result.next ≡ c.in_ok-token.token.to = omega (arith, token.from, along.next, token.token.some) in
-    (behind text here.result c.along-spot.result c.in_ok-token.token here.ensures.spot token.token token.from along.next along.line along.column,
-     rw (next, c.in_ok-push-2.ensures.items)
-     (HasTokens-push text 0 _ _ _ c.tokens.invariant.1
-      (IsToken-behind text _ _ _ here.ensures.gap token.from token.token)))
+    let next : c.along-spot.result.next ≡ c.in_ok-token.token.to = omega (arith, token.from, along.next, token.token.some) in (
+      behind text here.result c.along-spot.result c.in_ok-token.token here.ensures.spot token.token token.from along.next along.line along.column,
+      rw (next, c.in_ok-push-2.ensures.items)
+          (HasTokens-push text 0 _ _ _ c.tokens.invariant.1
+          (IsToken-behind text _ _ _ here.ensures.gap token.from token.token)),
+    )
