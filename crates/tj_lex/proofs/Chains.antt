@@ -15,12 +15,15 @@ use Rattle.tj_lex.specs.Spots.{AreApart}
 use Rattle.tj_lex.proofs.Runs.{both, eqb-fails, list_all-prefix}
 
 -- one token more
-pub HasTokens-push : (text : List ℕ) (start : ℕ) (tokens : List Token) (stop : ℕ) (token : Token) → HasTokens text start tokens stop → IsToken text stop token → HasTokens text start (tokens ++ token ∷ []) token.to
+pub HasTokens-push : (text : List ℕ) (start : ℕ) (tokens : List Token) (stop : ℕ) (token : Token)
+    → HasTokens text start tokens stop → IsToken text stop token → HasTokens text start (tokens ++ token ∷ []) token.to
 HasTokens-push text start [] stop token has next = (let same : start ≡ stop = has in rw same next, refl)
-HasTokens-push text start (t ∷ tokens) stop token has next = (has.0, HasTokens-push text t.to tokens stop token has.1 next)
+HasTokens-push text start (t ∷ tokens) stop token has next =
+    (has.0, HasTokens-push text t.to tokens stop token has.1 next)
 
 -- a token behind a gap
-pub IsToken-behind : (text : List ℕ) (a b : ℕ) (token : Token) → AreApart text a b → token.from ≡ b → IsToken text b token → IsToken text a token
+pub IsToken-behind : (text : List ℕ) (a b : ℕ) (token : Token) → AreApart text a b → token.from ≡ b
+    → IsToken text b token → IsToken text a token
 IsToken-behind text a b token apart from h =
     let within = h.within in
     let some = h.some in
@@ -34,7 +37,8 @@ IsToken-behind text a b token apart from h =
     }
 
 -- a fault behind a gap
-pub IsFaultFrom-behind : (text : List ℕ) (a b : ℕ) (fault : LexFault) → AreApart text a b → IsFaultFrom text b b fault → IsFaultFrom text a b fault
+pub IsFaultFrom-behind : (text : List ℕ) (a b : ℕ) (fault : LexFault) → AreApart text a b
+    → IsFaultFrom text b b fault → IsFaultFrom text a b fault
 IsFaultFrom-behind text a b fault apart h = record {
   behind = apart.in_order;
   within = h.within;
@@ -47,7 +51,8 @@ IsFaultFrom-behind text a b fault apart h = record {
 stays-if : (p : ℕ → Bool) → p line_feed ≡ false → (b : ℕ) → p b ≡ true → stays_on_line b ≡ true
 stays-if p fails b holds = ap not (eqb-fails p line_feed fails b holds)
 
-list_all-stays : (p : ℕ → Bool) → p line_feed ≡ false → (bytes : List ℕ) → list_all p bytes ≡ true → list_all stays_on_line bytes ≡ true
+list_all-stays : (p : ℕ → Bool) → p line_feed ≡ false → (bytes : List ℕ) → list_all p bytes ≡ true
+    → list_all stays_on_line bytes ≡ true
 list_all-stays p fails [] _ = refl
 list_all-stays p fails (b ∷ bytes) all =
     let tests = both (p b) (list_all p bytes) all in

@@ -13,11 +13,13 @@ fold-le start [] = omega arith
 fold-le start (digit ∷ digits) = omega (arith, fold-le (with_digit start digit) digits)
 
 -- one digit more
-pub decimal-more : (digits : List ℕ) (i : ℕ) → i < length digits → decimal (take (i + 1) digits) ≡ 10 * decimal (take i digits) + (get_or digits i 0 - 48)
+pub decimal-more : (digits : List ℕ) (i : ℕ) → i < length digits
+    → decimal (take (i + 1) digits) ≡ 10 * decimal (take i digits) + (get_or digits i 0 - 48)
 decimal-more digits i h = fold_more with_digit 0 digits i 0 h
 
 -- a front of the digits is no greater
 pub decimal-take : (digits : List ℕ) (i : ℕ) → decimal (take i digits) ≤ decimal digits
 decimal-take digits i =
-    let whole = ap decimal (sym (take-append-drop i digits)) ∙ fold-append with_digit 0 (take i digits) (drop i digits) in
+    let whole =
+    ap decimal (sym (take-append-drop i digits)) ∙ fold-append with_digit 0 (take i digits) (drop i digits) in
     omega (arith, whole, fold-le (decimal (take i digits)) (drop i digits))

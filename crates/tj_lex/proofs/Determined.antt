@@ -30,7 +30,8 @@ Spells-no_gap text bytes (toks.Mark mark) h = (mark-at text bytes mark h).no_gap
 Spells-no_gap text bytes toks.End h = absurd h
 
 -- what a name's bytes say
-Name-one : (text a b : List ℕ) (v w : List ℕ) → Spells text a (toks.Name v) → Spells text b (toks.Name w) → toks.Name v ≡ toks.Name w
+Name-one : (text a b : List ℕ) (v w : List ℕ) → Spells text a (toks.Name v) → Spells text b (toks.Name w)
+    → toks.Name v ≡ toks.Name w
 Name-one text a b v w h k =
     let same : v ≡ w = h.3 ∙ h.1 ∙ sym k.1 ∙ sym k.3 in
     let named : List ℕ → Tok = toks.Name in
@@ -41,7 +42,8 @@ Spells-what : (text a b : List ℕ) (v w : Tok) → Spells text a v → Spells t
 Spells-what text a b (toks.Name v) (toks.Name w) h k = Name-one text a b v w h k
 Spells-what text a b (toks.Name v) (toks.Key w) h k = absurd (h.4 w (k.2 ∙ k.1 ∙ sym h.1))
 Spells-what text a b (toks.Name v) (toks.Num w) h k = absurd (number-no_name text k.0 h.0)
-Spells-what text a b (toks.Name v) (toks.Mark w) h k = let none = (mark-at text b w k).no_name in absurd (cc (none, h.0))
+Spells-what text a b (toks.Name v) (toks.Mark w) h k =
+    let none = (mark-at text b w k).no_name in absurd (cc (none, h.0))
 Spells-what text a b (toks.Key v) (toks.Name w) h k = absurd (k.4 v (h.2 ∙ h.1 ∙ sym k.1))
 Spells-what text a b (toks.Key v) (toks.Key w) h k = ap toks.Key (key_text-one v w (h.2 ∙ h.1 ∙ sym k.1 ∙ sym k.2))
 Spells-what text a b (toks.Key v) (toks.Num w) h k = absurd (number-no_name text k.0 h.0)
@@ -51,10 +53,13 @@ Spells-what text a b (toks.Num v) (toks.Key w) h k = absurd (number-no_name text
 Spells-what text a b (toks.Num v) (toks.Num w) h k =
     let named : ℤ → Tok = toks.Num in
     ap named (h.3 ∙ ap (λ bytes. pos (decimal bytes)) (h.1 ∙ sym k.1) ∙ sym k.3)
-Spells-what text a b (toks.Num v) (toks.Mark w) h k = let none = (mark-at text b w k).no_number in absurd (cc (none, h.0))
-Spells-what text a b (toks.Mark v) (toks.Name w) h k = let none = (mark-at text a v h).no_name in absurd (cc (none, k.0))
+Spells-what text a b (toks.Num v) (toks.Mark w) h k =
+    let none = (mark-at text b w k).no_number in absurd (cc (none, h.0))
+Spells-what text a b (toks.Mark v) (toks.Name w) h k =
+    let none = (mark-at text a v h).no_name in absurd (cc (none, k.0))
 Spells-what text a b (toks.Mark v) (toks.Key w) h k = let none = (mark-at text a v h).no_name in absurd (cc (none, k.0))
-Spells-what text a b (toks.Mark v) (toks.Num w) h k = let none = (mark-at text a v h).no_number in absurd (cc (none, k.0))
+Spells-what text a b (toks.Mark v) (toks.Num w) h k =
+    let none = (mark-at text a v h).no_number in absurd (cc (none, k.0))
 Spells-what text a b (toks.Mark v) (toks.Mark w) h k =
     let below = k.2 v (rw h.0 h.1) in
     let above = h.2 w (rw k.0 k.1) in
@@ -73,7 +78,8 @@ Spells-bytes text a b (toks.Mark v) h k = sym h.0 ∙ k.0
 Spells-bytes text a b toks.End h k = absurd h
 
 -- a text begins with one fault
-IsFaultAt-one : (place : Place) (text : List ℕ) (v w : LexFault) → IsFaultAt place text v → IsFaultAt place text w → v ≡ w
+IsFaultAt-one : (place : Place) (text : List ℕ) (v w : LexFault) → IsFaultAt place text v → IsFaultAt place text w
+    → v ≡ w
 IsFaultAt-one place text (faults.Byte a) (faults.Byte b) h k = ap faults.Byte (h.0 ∙ sym k.0)
 IsFaultAt-one place text (faults.Byte a) (faults.Number b) h k = absurd (cc (h.2, k.1))
 IsFaultAt-one place text (faults.Byte a) (faults.Long b) h k = absurd (cc (h.1, k.1))
@@ -87,23 +93,28 @@ IsFaultAt-one place text faults.Oom w h k = absurd h
 IsFaultAt-one place text v faults.Oom h k = absurd k
 
 -- a name that isn't too long
-name-short : (text bytes : List ℕ) → bytes ≡ take_while is_name_byte text → length bytes ≤ longest_name → longest_name < prefix_len is_name_byte text → ⊥
+name-short : (text bytes : List ℕ) → bytes ≡ take_while is_name_byte text → length bytes ≤ longest_name
+    → longest_name < prefix_len is_name_byte text → ⊥
 name-short text bytes e short long = omega (arith, ap length e, length-prefix_len is_name_byte text)
 
 -- a text that begins with a token begins with no fault
-Spells-no_fault : (place : Place) (text bytes : List ℕ) (v : Tok) (w : LexFault) → Spells text bytes v → IsFaultAt place text w → ⊥
+Spells-no_fault : (place : Place) (text bytes : List ℕ) (v : Tok) (w : LexFault) → Spells text bytes v
+    → IsFaultAt place text w → ⊥
 Spells-no_fault place text bytes (toks.Name v) (faults.Byte b) h k = absurd (cc (h.0, k.1))
 Spells-no_fault place text bytes (toks.Name v) (faults.Number b) h k = number-no_name text k.1 h.0
 Spells-no_fault place text bytes (toks.Name v) (faults.Long b) h k = name-short text bytes h.1 h.2 k.2
 Spells-no_fault place text bytes (toks.Key v) (faults.Byte b) h k = absurd (cc (h.0, k.1))
 Spells-no_fault place text bytes (toks.Key v) (faults.Number b) h k = number-no_name text k.1 h.0
-Spells-no_fault place text bytes (toks.Key v) (faults.Long b) h k = name-short text bytes h.1 (rw (← h.2) (key_text-short v)) k.2
+Spells-no_fault place text bytes (toks.Key v) (faults.Long b) h k =
+    name-short text bytes h.1 (rw (← h.2) (key_text-short v)) k.2
 Spells-no_fault place text bytes (toks.Num v) (faults.Byte b) h k = absurd (cc (h.0, k.2))
 Spells-no_fault place text bytes (toks.Num v) (faults.Number b) h k = omega (arith, h.2, k.2, ap decimal h.1)
 Spells-no_fault place text bytes (toks.Num v) (faults.Long b) h k = number-no_name text h.0 k.1
 Spells-no_fault place text bytes (toks.Mark v) (faults.Byte b) h k = k.3 v (rw h.0 h.1)
-Spells-no_fault place text bytes (toks.Mark v) (faults.Number b) h k = let none = (mark-at text bytes v h).no_number in absurd (cc (none, k.1))
-Spells-no_fault place text bytes (toks.Mark v) (faults.Long b) h k = let none = (mark-at text bytes v h).no_name in absurd (cc (none, k.1))
+Spells-no_fault place text bytes (toks.Mark v) (faults.Number b) h k =
+    let none = (mark-at text bytes v h).no_number in absurd (cc (none, k.1))
+Spells-no_fault place text bytes (toks.Mark v) (faults.Long b) h k =
+    let none = (mark-at text bytes v h).no_name in absurd (cc (none, k.1))
 Spells-no_fault place text bytes toks.End w h k = absurd h
 Spells-no_fault place text bytes v faults.Oom h k = absurd k
 
@@ -134,8 +145,12 @@ IsToken-one : (text : List ℕ) (start : ℕ) (t u : Token) → IsToken text sta
 IsToken-one text start t u h k =
     let from = StandsAt-one text start t.from u.from (token-stands text start t h) (token-stands text start u k) in
     let spelled : Spells (drop u.from text) (slice_range text u.from t.to) t.what = rw (← from) h.spelled in
-    let what = Spells-what (drop u.from text) (slice_range text u.from t.to) (slice_range text u.from u.to) t.what u.what spelled k.spelled in
-    let bytes = Spells-bytes (drop u.from text) (slice_range text u.from t.to) (slice_range text u.from u.to) u.what (rw (← what) spelled) k.spelled in
+    let what =
+    Spells-what (drop u.from text) (slice_range text u.from t.to)
+    (slice_range text u.from u.to) t.what u.what spelled k.spelled in
+    let bytes =
+    Spells-bytes (drop u.from text) (slice_range text u.from t.to) (slice_range text u.from u.to) u.what
+    (rw (← what) spelled) k.spelled in
     let to : t.to ≡ u.to =
     omega (
       arith,
@@ -146,7 +161,8 @@ IsToken-one text start t u h k =
       k.within,
       from,
       length-drop u.from text,
-      length-take-le (t.to - u.from) (drop u.from text) (omega (arith, h.some, h.within, from, length-drop u.from text)),
+      length-take-le (t.to - u.from) (drop u.from text)
+          (omega (arith, h.some, h.within, from, length-drop u.from text)),
       length-take-le (u.to - u.from) (drop u.from text) (omega (arith, k.some, k.within, length-drop u.from text)),
     ) in
     token_is t u what (h.place ∙ ap (λ i. place_after (take i text)) from ∙ sym k.place) from to
@@ -160,21 +176,27 @@ abbrev pub Finishes : (text : List ℕ) (start : ℕ) → Result Token LexFault 
 Finishes text start (Ok token) = IsEnd text start token
 Finishes text start (Err fault) = (i : ℕ) × IsFaultFrom text start i fault
 
-Finishes-one : (text : List ℕ) (start : ℕ) (x y : Result Token LexFault) → Finishes text start x → Finishes text start y → x ≡ y
+Finishes-one : (text : List ℕ) (start : ℕ) (x y : Result Token LexFault) → Finishes text start x
+    → Finishes text start y → x ≡ y
 Finishes-one text start (Ok t) (Ok u) h k = ap Ok (IsEnd-one text start t u h k)
-Finishes-one text start (Ok t) (Err g) h k = absurd (StandsAt-last text start k.0 (fault-stands text start k.0 g k.1) h.gap)
-Finishes-one text start (Err f) (Ok u) h k = absurd (StandsAt-last text start h.0 (fault-stands text start h.0 f h.1) k.gap)
+Finishes-one text start (Ok t) (Err g) h k =
+    absurd (StandsAt-last text start k.0 (fault-stands text start k.0 g k.1) h.gap)
+Finishes-one text start (Err f) (Ok u) h k =
+    absurd (StandsAt-last text start h.0 (fault-stands text start h.0 f h.1) k.gap)
 Finishes-one text start (Err f) (Err g) h k =
-    let same = StandsAt-one text start h.0 k.0 (fault-stands text start h.0 f h.1) (fault-stands text start k.0 g k.1) in
+    let same =
+    StandsAt-one text start h.0 k.0 (fault-stands text start h.0 f h.1) (fault-stands text start k.0 g k.1) in
     let stands : IsFaultAt (place_after (take k.0 text)) (drop k.0 text) f = rw (← same) h.1.stands in
     ap Err (IsFaultAt-one (place_after (take k.0 text)) (drop k.0 text) f g stands k.1.stands)
 
-token-or-finish : (text : List ℕ) (start : ℕ) (t : Token) (x : Result Token LexFault) → IsToken text start t → Finishes text start x → ⊥
+token-or-finish : (text : List ℕ) (start : ℕ) (t : Token) (x : Result Token LexFault) → IsToken text start t
+    → Finishes text start x → ⊥
 token-or-finish text start t (Ok u) h k = StandsAt-last text start t.from (token-stands text start t h) k.gap
 token-or-finish text start t (Err f) h k =
     let same = StandsAt-one text start t.from k.0 (token-stands text start t h) (fault-stands text start k.0 f k.1) in
     let spelled : Spells (drop k.0 text) (slice_range text k.0 t.to) t.what = rw (← same) h.spelled in
-    Spells-no_fault (place_after (take k.0 text)) (drop k.0 text) (slice_range text k.0 t.to) t.what f spelled k.1.stands
+    Spells-no_fault (place_after (take k.0 text)) (drop k.0 text)
+    (slice_range text k.0 t.to) t.what f spelled k.1.stands
 
 -- a reading, from an index on: its tokens, and what finishes it
 pub record IsReading (text : List ℕ) (start : ℕ) (tokens : List Token) (finish : Result Token LexFault) : Type 0 where
@@ -182,7 +204,8 @@ pub record IsReading (text : List ℕ) (start : ℕ) (tokens : List Token) (fini
   pub has : HasTokens text start tokens stop
   pub finishes : Finishes text stop finish
 
-pub IsReading-one : (text : List ℕ) (start : ℕ) (ts us : List Token) (x y : Result Token LexFault) → IsReading text start ts x → IsReading text start us y → (ts ≡ us) × (x ≡ y)
+pub IsReading-one : (text : List ℕ) (start : ℕ) (ts us : List Token) (x y : Result Token LexFault)
+    → IsReading text start ts x → IsReading text start us y → (ts ≡ us) × (x ≡ y)
 IsReading-one text start [] [] x y h k =
     (refl, Finishes-one text start x y (rw h.has h.finishes) (rw k.has k.finishes))
 IsReading-one text start [] (u ∷ us) x y h k =
@@ -222,18 +245,24 @@ Answers-one text (Err f) (Err g) h k =
     ap Err (cc (one.1))
 
 -- a call that gives tokens or a fault gives the text's own, unless memory runs out
-pub only_tokens : {V : Type 0} (items : V → List Token) (text : List ℕ) (r : Result V LexFault) → IfOk r (λ v. AreTokens text (items v)) → IfErr r (OrMemory (IsFirstFault text))
+pub only_tokens : {V : Type 0} (items : V → List Token) (text : List ℕ) (r : Result V LexFault)
+    → IfOk r (λ v. AreTokens text (items v)) → IfErr r (OrMemory (IsFirstFault text))
     → (all : List Token) → AreTokens text all → MatchResult r (λ v. items v ≡ all) (λ fault. fault ≡ faults.Oom)
 only_tokens items text (Ok v) ok err all h = cc (Answers-one text (Ok (items v)) (Ok all) ok h)
 only_tokens items text (Err (faults.Byte at)) ok err all h = cc (Answers-one text (Err (faults.Byte at)) (Ok all) err h)
-only_tokens items text (Err (faults.Number at)) ok err all h = cc (Answers-one text (Err (faults.Number at)) (Ok all) err h)
+only_tokens items text (Err (faults.Number at)) ok err all h =
+    cc (Answers-one text (Err (faults.Number at)) (Ok all) err h)
 only_tokens items text (Err (faults.Long at)) ok err all h = cc (Answers-one text (Err (faults.Long at)) (Ok all) err h)
 only_tokens items text (Err faults.Oom) ok err all h = refl
 
-pub only_fault : {V : Type 0} (items : V → List Token) (text : List ℕ) (r : Result V LexFault) → IfOk r (λ v. AreTokens text (items v)) → IfErr r (OrMemory (IsFirstFault text))
+pub only_fault : {V : Type 0} (items : V → List Token) (text : List ℕ) (r : Result V LexFault)
+    → IfOk r (λ v. AreTokens text (items v)) → IfErr r (OrMemory (IsFirstFault text))
     → (first : LexFault) → IsFirstFault text first → IsErrAnd r (OrMemory (λ fault. fault ≡ first))
 only_fault items text (Ok v) ok err first h = absurd (cc (Answers-one text (Ok (items v)) (Err first) ok h))
-only_fault items text (Err (faults.Byte at)) ok err first h = cc (Answers-one text (Err (faults.Byte at)) (Err first) err h)
-only_fault items text (Err (faults.Number at)) ok err first h = cc (Answers-one text (Err (faults.Number at)) (Err first) err h)
-only_fault items text (Err (faults.Long at)) ok err first h = cc (Answers-one text (Err (faults.Long at)) (Err first) err h)
+only_fault items text (Err (faults.Byte at)) ok err first h =
+    cc (Answers-one text (Err (faults.Byte at)) (Err first) err h)
+only_fault items text (Err (faults.Number at)) ok err first h =
+    cc (Answers-one text (Err (faults.Number at)) (Err first) err h)
+only_fault items text (Err (faults.Long at)) ok err first h =
+    cc (Answers-one text (Err (faults.Long at)) (Err first) err h)
 only_fault items text (Err faults.Oom) ok err first h = tt

@@ -39,13 +39,15 @@ pub stays-is : (b : ℕ) → stays_on_line b ≡ false → b ≡ line_feed
 stays-is b ends = eqb-true b line_feed (not-false (b == line_feed) ends)
 
 -- a comment is a gap with a line feed behind it
-IsGap-comment : (bytes : List ℕ) → (0 < length bytes → get_or bytes 0 0 ≡ hash) → list_all stays_on_line bytes ≡ true → IsGap (bytes ++ line_feed ∷ [])
+IsGap-comment : (bytes : List ℕ) → (0 < length bytes → get_or bytes 0 0 ≡ hash)
+    → list_all stays_on_line bytes ≡ true → IsGap (bytes ++ line_feed ∷ [])
 IsGap-comment [] begins _ = inl (refl, tt)
 IsGap-comment (b ∷ body) begins all =
     inr (begins (omega arith), IsComment-line body (both (stays_on_line b) (list_all stays_on_line body) all).1)
 
 -- the bytes from a to b and from b to c are those from a to c
-pub slice_range-join : (text : List ℕ) (a b c : ℕ) → a ≤ b → b ≤ c → slice_range text a c ≡ slice_range text a b ++ slice_range text b c
+pub slice_range-join : (text : List ℕ) (a b c : ℕ) → a ≤ b → b ≤ c
+    → slice_range text a c ≡ slice_range text a b ++ slice_range text b c
 slice_range-join text a b c h k =
     let n = b - a in
     let m = c - b in
@@ -56,10 +58,13 @@ slice_range-join text a b c h k =
     ap (λ i. take i (drop a text)) all ∙ split ∙ ap (λ bytes. take n (drop a text) ++ take m bytes) (sym rest)
 
 -- a gap, and what is apart behind it
-pub AreApart-join : (text : List ℕ) (a b c : ℕ) → b < length text → AreApart text a b → AreApart text b c → AreApart text a c
+pub AreApart-join : (text : List ℕ) (a b c : ℕ) → b < length text → AreApart text a b → AreApart text b c
+    → AreApart text a c
 AreApart-join text a b c more p q = record {
   in_order = omega arith;
-  before_more = λ h. rw (slice_range-join text a b c p.in_order q.in_order) (IsGap-append _ _ (p.before_more more) (q.before_more h));
+  before_more =
+      λ h. rw (slice_range-join text a b c p.in_order q.in_order)
+      (IsGap-append _ _ (p.before_more more) (q.before_more h));
   at_end = λ h. rw (drop_split text a b p.in_order, append_assoc) (IsGap-append _ _ (p.before_more more) (q.at_end h));
 }
 
@@ -82,13 +87,15 @@ AreApart-gap text a b h gap = record {
 }
 
 -- a blank is a gap
-pub AreApart-blank : (text : List ℕ) (a : ℕ) → a < length text → is_blank (get_or text a 0) ≡ true → AreApart text a (a + 1)
+pub AreApart-blank : (text : List ℕ) (a : ℕ) → a < length text → is_blank (get_or text a 0) ≡ true
+    → AreApart text a (a + 1)
 AreApart-blank text a more blank =
     AreApart-gap text a (a + 1) (omega arith)
     (let one : a + 1 - a ≡ 1 = omega arith in rw (one, drop_more text a 0 more) (inl (blank, tt)))
 
 -- a comment that nothing ends is a gap at the end
-pub AreApart-last : (text : List ℕ) (a : ℕ) → a < length text → get_or text a 0 ≡ hash → prefix_len stays_on_line (drop a text) ≡ length text - a → AreApart text a (length text)
+pub AreApart-last : (text : List ℕ) (a : ℕ) → a < length text → get_or text a 0 ≡ hash
+    → prefix_len stays_on_line (drop a text) ≡ length text - a → AreApart text a (length text)
 AreApart-last text a more begins len = record {
   in_order = omega arith;
   before_more = λ h. absurd (omega arith);
@@ -100,13 +107,15 @@ AreApart-last text a more begins len = record {
 }
 
 -- a line feed stands behind bytes that stay on the line
-pub feed-behind : (text : List ℕ) (a n : ℕ) → prefix_len stays_on_line (drop a text) ≡ n → a + n < length text → get_or text (a + n) 0 ≡ line_feed
+pub feed-behind : (text : List ℕ) (a n : ℕ) → prefix_len stays_on_line (drop a text) ≡ n → a + n < length text
+    → get_or text (a + n) 0 ≡ line_feed
 feed-behind text a n len more =
     sym (get_or-drop a text n 0)
     ∙ stays-is _ (rw len at (prefix_len_stops stays_on_line (drop a text) 0 (omega (arith, length-drop a text))))
 
 -- a comment and its line feed are a gap
-pub AreApart-comment : (text : List ℕ) (a n : ℕ) → get_or text a 0 ≡ hash → a + n < length text → prefix_len stays_on_line (drop a text) ≡ n → AreApart text a (a + n + 1)
+pub AreApart-comment : (text : List ℕ) (a n : ℕ) → get_or text a 0 ≡ hash → a + n < length text
+    → prefix_len stays_on_line (drop a text) ≡ n → AreApart text a (a + n + 1)
 AreApart-comment text a n begins more len =
     let rest = drop a text in
     let inside : n < length rest = omega (arith, length-drop a text) in

@@ -20,14 +20,16 @@ use Rattle.tj_lex.proofs.Gaps.{IsGap-append}
 use Rattle.tj_lex.proofs.Starts.{mark_text-some}
 
 -- bytes that pass, and then one that doesn't
-take_while-append : (p : ℕ → Bool) (bytes after : List ℕ) → list_all p bytes ≡ true → begins_with p after ≡ false → take_while p (bytes ++ after) ≡ bytes
+take_while-append : (p : ℕ → Bool) (bytes after : List ℕ) → list_all p bytes ≡ true → begins_with p after ≡ false
+    → take_while p (bytes ++ after) ≡ bytes
 take_while-append p [] [] all ends = refl
 take_while-append p [] (a ∷ after) all ends = take_while-cons p a after ∙ (rw ends refl)
 take_while-append p (b ∷ bytes) after all ends =
     let tests = both (p b) (list_all p bytes) all in
     take_while-cons p b (bytes ++ after) ∙ (rw (tests.0, take_while-append p bytes after tests.1 ends) refl)
 
-begins_with-more : (test : ℕ → Bool) (bytes after : List ℕ) → begins_with test bytes ≡ true → begins_with test (bytes ++ after) ≡ true
+begins_with-more : (test : ℕ → Bool) (bytes after : List ℕ) → begins_with test bytes ≡ true
+    → begins_with test (bytes ++ after) ≡ true
 begins_with-more test [] after begins = absurd (cc)
 begins_with-more test (b ∷ bytes) after begins = begins
 
@@ -40,7 +42,8 @@ all-pass : (p : ℕ → Bool) (bytes : List ℕ) → bytes ≡ take_while p byte
 all-pass p bytes e = ap (list_all p) e ∙ list_all-prefix p bytes
 
 -- no equals sign is second
-no-second : (c b : ℕ) (after : List ℕ) → begins_with (λ a. a == 61) after ≡ false → StartsWith (c ∷ 61 ∷ []) (b ∷ after) → ⊥
+no-second : (c b : ℕ) (after : List ℕ) → begins_with (λ a. a == 61) after ≡ false
+    → StartsWith (c ∷ 61 ∷ []) (b ∷ after) → ⊥
 no-second c b [] ends starts = cc
 no-second c b (a ∷ after) ends starts =
     let same : a ≡ 61 = cc in
@@ -69,7 +72,8 @@ mark_text-short marks.Over = lit≤ tt
 mark_text-short marks.Rest = lit≤ tt
 
 -- the second is an equals sign
-mark_text-second : (mark : Mark) (b : ℕ) (after : List ℕ) → begins_with (λ a. a == 61) after ≡ false → StartsWith (mark_text mark) (b ∷ after) → length (mark_text mark) ≤ 1
+mark_text-second : (mark : Mark) (b : ℕ) (after : List ℕ) → begins_with (λ a. a == 61) after ≡ false
+    → StartsWith (mark_text mark) (b ∷ after) → length (mark_text mark) ≤ 1
 mark_text-second marks.ParenOpen b after ends starts = lit≤ tt
 mark_text-second marks.ParenClose b after ends starts = lit≤ tt
 mark_text-second marks.BraceOpen b after ends starts = lit≤ tt
@@ -90,13 +94,15 @@ mark_text-second marks.Over b after ends starts = lit≤ tt
 mark_text-second marks.Rest b after ends starts = lit≤ tt
 
 -- a mark that no equals sign follows is the longest
-longest-mark : (bytes after : List ℕ) (other : Mark) → 0 < length bytes → begins_with (λ a. a == 61) after ≡ false → StartsWith (mark_text other) (bytes ++ after) → length (mark_text other) ≤ length bytes
+longest-mark : (bytes after : List ℕ) (other : Mark) → 0 < length bytes → begins_with (λ a. a == 61) after ≡ false
+    → StartsWith (mark_text other) (bytes ++ after) → length (mark_text other) ≤ length bytes
 longest-mark [] after other some ends starts = absurd (omega arith)
 longest-mark (b ∷ []) after other some ends starts = mark_text-second other b after ends starts
 longest-mark (b ∷ c ∷ bytes) after other some ends starts = omega (arith, mark_text-short other)
 
 -- a token that nothing extends
-Spells-append : (bytes after : List ℕ) (what : Tok) → Spells bytes bytes what → begins_with (extends what) after ≡ false → Spells (bytes ++ after) bytes what
+Spells-append : (bytes after : List ℕ) (what : Tok) → Spells bytes bytes what
+    → begins_with (extends what) after ≡ false → Spells (bytes ++ after) bytes what
 Spells-append bytes after (toks.Name word) h ends = (
   begins_with-more is_name_start bytes after h.0,
   sym (take_while-append is_name_byte bytes after (all-pass is_name_byte bytes h.1) ends),
@@ -148,7 +154,8 @@ first_token before piece = record {
 }
 
 -- the token of a piece stands behind a gap and the bytes before it
-IsToken-piece : (before : List ℕ) (start : ℕ) (piece : Piece) (rest : List ℕ) → start ≤ length before → IsGap (slice_range before start (length before))
+IsToken-piece : (before : List ℕ) (start : ℕ) (piece : Piece) (rest : List ℕ) → start ≤ length before
+    → IsGap (slice_range before start (length before))
     → Spells piece.bytes piece.bytes piece.what → begins_with (extends piece.what) (piece.gap ++ rest) ≡ false
     → IsToken (before ++ (piece.bytes ++ (piece.gap ++ rest))) start (first_token before piece)
 IsToken-piece before start piece rest h gap spelled ends =
@@ -172,7 +179,8 @@ IsToken-piece before start piece rest h gap spelled ends =
       place = ap place_after (sym (take_at before more n refl));
     }
 
-lay : (before : List ℕ) (start : ℕ) (pieces : List Piece) → start ≤ length before → IsGap (slice_range before start (length before)) → AreLaidOut pieces
+lay : (before : List ℕ) (start : ℕ) (pieces : List Piece) → start ≤ length before
+    → IsGap (slice_range before start (length before)) → AreLaidOut pieces
     → AreTokensFrom (before ++ text_of pieces) start (tokens_of before pieces)
 lay before start [] h gap laid =
     let left : slice_range before start (length before) ≡ drop start before = take_rest before start in
@@ -196,13 +204,15 @@ lay before start (piece ∷ pieces) h gap laid =
     let rest = text_of pieces in
     let split : later ≡ (before ++ piece.bytes) ++ piece.gap = sym (append_assoc before piece.bytes piece.gap) in
     let left : drop next later ≡ piece.gap =
-    ap (λ bytes. drop next bytes) split ∙ drop_at (before ++ piece.bytes) piece.gap next (length-append before piece.bytes) in
+    ap (λ bytes. drop next bytes) split
+    ∙ drop_at (before ++ piece.bytes) piece.gap next (length-append before piece.bytes) in
     let sizes : length later ≡ length before + (length piece.bytes + length piece.gap) =
     omega (arith, length-append before (piece.bytes ++ piece.gap), length-append piece.bytes piece.gap) in
     let gap_read : slice_range later next (length later) ≡ piece.gap = take_rest later next ∙ left in
     let others = lay later next pieces (omega arith) (rw gap_read laid.1) laid.3 in
     let regrouped : before ++ (piece.bytes ++ (piece.gap ++ rest)) ≡ later ++ rest =
-    ap (λ bytes. before ++ bytes) (sym (append_assoc piece.bytes piece.gap rest)) ∙ sym (append_assoc before (piece.bytes ++ piece.gap) rest) in
+    ap (λ bytes. before ++ bytes) (sym (append_assoc piece.bytes piece.gap rest))
+    ∙ sym (append_assoc before (piece.bytes ++ piece.gap) rest) in
     let token : IsToken (later ++ rest) start (first_token before piece) =
     subst (λ (text : List ℕ). IsToken text start (first_token before piece)) regrouped
     (IsToken-piece before start piece rest h gap laid.0 laid.2) in

@@ -23,7 +23,8 @@ column-spot text spot h =
 -- behind bytes that stay on the line
 pub IsSpot-along : (text : List ℕ) (spot after : Spot) (n : ℕ) → IsSpot text spot → spot.next + n ≤ length text
     → list_all stays_on_line (take n (drop spot.next text)) ≡ true
-    → after.next ≡ spot.next + n → after.at.line ≡ spot.at.line → after.at.column ≡ spot.at.column + n → IsSpot text after
+    → after.next ≡ spot.next + n → after.at.line ≡ spot.at.line → after.at.column ≡ spot.at.column + n
+    → IsSpot text after
 IsSpot-along text spot after n h within stays next line column =
     let before = take spot.next text in
     let more = take n (drop spot.next text) in

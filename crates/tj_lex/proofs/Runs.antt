@@ -1,6 +1,6 @@
 -- Runs of bytes that pass a test.
 use Rattle.std.proofs.Common.{◌≡◌, ℕ, ◌+◌, ◌<◌, ◌∙◌, ap, sym, refl, arith, inl, inr, Bool, true, false, not, ◌&&◌, List, ◌++◌, take, drop}
-use Rattle.std.specs.Prelude.{◌==◌, ◌⊎◌}
+use Rattle.std.specs.Prelude.{◌==◌, ◌||◌, ◌⊎◌}
 use Rattle.std.proofs.lemmas.Bool.{eqb-true}
 use Rattle.std.specs.List.{prefix_len, list_all, AllPass}
 use Rattle.std.proofs.lemmas.List.{take-append-drop, take-take, drop-take, get_or-take, length-take}
@@ -10,6 +10,11 @@ use Rattle.std.proofs.lemmas.List.Sums.{AllPass-from_list_all, list_all-from_All
 pub both : (s t : Bool) → (s && t) ≡ true → (s ≡ true) × (t ≡ true)
 both true t e = (refl, e)
 both false t e = absurd (cc)
+
+-- two tests that fail
+pub or-none : (s t : Bool) → (s || t) ≡ false → (s ≡ false) × (t ≡ false)
+or-none true t e = absurd (cc)
+or-none false t e = (refl, e)
 
 pub not-true : (t : Bool) → not t ≡ true → t ≡ false
 not-true true e = cc

@@ -11,7 +11,7 @@ use Rattle.tj_lex.specs.declared.token.Mark.TheVariants as marks
 use Rattle.tj_lex.specs.Bytes.{is_name_start, is_gap_start, begins_with}
 use Rattle.tj_lex.specs.Spelling.{key_text, mark_text}
 use Rattle.tj_lex.specs.Tokens.{StartsWith, longest_name}
-use Rattle.tj_lex.proofs.Runs.{eqb-fails}
+use Rattle.tj_lex.proofs.Runs.{eqb-fails, or-none}
 
 -- the keyword of these bytes
 abbrev key_of : List ℕ → Key
@@ -161,16 +161,14 @@ mark_text-some marks.Times = lit< tt
 mark_text-some marks.Over = lit< tt
 mark_text-some marks.Rest = lit< tt
 
-begins_with-front : (test : ℕ → Bool) (bytes text : List ℕ) → StartsWith bytes text → 0 < length bytes → begins_with test text ≡ begins_with test bytes
+begins_with-front : (test : ℕ → Bool) (bytes text : List ℕ) → StartsWith bytes text → 0 < length bytes
+    → begins_with test text ≡ begins_with test bytes
 begins_with-front test [] text starts some = absurd (omega arith)
 begins_with-front test (b ∷ bytes) [] starts some = absurd (cc)
 begins_with-front test (b ∷ bytes) (t ∷ text) starts some = let same : t ≡ b = cc in ap test same
 
-or-none : (s t : Bool) → (s || t) ≡ false → (s ≡ false) × (t ≡ false)
-or-none true t e = absurd (cc)
-or-none false t e = (refl, e)
-
-begins_with-or : (s t : ℕ → Bool) (text : List ℕ) → begins_with (λ b. s b || t b) text ≡ false → (begins_with s text ≡ false) × (begins_with t text ≡ false)
+begins_with-or : (s t : ℕ → Bool) (text : List ℕ) → begins_with (λ b. s b || t b) text ≡ false
+    → (begins_with s text ≡ false) × (begins_with t text ≡ false)
 begins_with-or s t [] e = (refl, refl)
 begins_with-or s t (b ∷ text) e = or-none (s b) (t b) e
 
@@ -182,7 +180,8 @@ pub record IsMarkStart (text : List ℕ) : Type 0 where
 
 pub mark-start : (mark : Mark) (text : List ℕ) → StartsWith (mark_text mark) text → IsMarkStart text
 mark-start mark text starts =
-    let none = begins_with-front is_other_start (mark_text mark) text starts (mark_text-some mark) ∙ mark_text-start mark in
+    let none =
+    begins_with-front is_other_start (mark_text mark) text starts (mark_text-some mark) ∙ mark_text-start mark in
     let first = begins_with-or is_gap_start (λ b. is_name_start b || is_ascii_digit b) text none in
     let second = begins_with-or is_name_start is_ascii_digit text first.1 in
     record { no_gap = first.0; no_name = second.0; no_number = second.1 }
@@ -209,6 +208,7 @@ number-no_gap text begins = no_gap-if is_ascii_digit refl refl refl refl refl te
 digit-no_name : (b : ℕ) → is_ascii_digit b ≡ true → is_name_start b ≡ true → ⊥
 digit-no_name b digit start = grind (arith, nat_tests)
 
-pub number-no_name : (text : List ℕ) → begins_with is_ascii_digit text ≡ true → begins_with is_name_start text ≡ true → ⊥
+pub number-no_name : (text : List ℕ) → begins_with is_ascii_digit text ≡ true
+    → begins_with is_name_start text ≡ true → ⊥
 number-no_name [] digit start = absurd (cc)
 number-no_name (b ∷ text) digit start = digit-no_name b digit start

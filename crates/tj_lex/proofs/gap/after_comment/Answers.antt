@@ -11,19 +11,23 @@ use Rattle.tj_lex.proofs.Runs.{list_all-prefix}
 use Rattle.tj_lex.proofs.gap.after_comment.Goals as goal
 
 -- how many bytes of the line are left
-len_is : (text : List ℕ) (a n : ℕ) → n ≡ prefix_len stays_on_line (take (length text - a) (drop a text)) → prefix_len stays_on_line (drop a text) ≡ n
+len_is : (text : List ℕ) (a n : ℕ) → n ≡ prefix_len stays_on_line (take (length text - a) (drop a text))
+    → prefix_len stays_on_line (drop a text) ≡ n
 len_is text a n e = sym (ap (prefix_len stays_on_line) (take_rest text a)) ∙ sym e
 
 pub along-end-requires-clause-column : goal.along-end-requires-clause-column
-along-end-requires-clause-column c = omega (arith, column-spot c.args.text.now c.args.spot c.requires.spot, c.line_len.ensures.within)
+along-end-requires-clause-column c =
+    omega (arith, column-spot c.args.text.now c.args.spot c.requires.spot, c.line_len.ensures.within)
 
 -- the spot at the end of the line
-at_end : (text : List ℕ) (spot end : Spot) (n : ℕ) → IsSpot text spot → spot.next < length text → prefix_len stays_on_line (drop spot.next text) ≡ n
+at_end : (text : List ℕ) (spot end : Spot) (n : ℕ) → IsSpot text spot → spot.next < length text
+    → prefix_len stays_on_line (drop spot.next text) ≡ n
     → end.next ≡ spot.next + n → end.at.line ≡ spot.at.line → end.at.column ≡ spot.at.column + n → IsSpot text end
 at_end text spot end n h more len next line column =
     let within : spot.next + n ≤ length text =
     omega (arith, prefix_len-le-length stays_on_line (drop spot.next text), length-drop spot.next text) in
-    IsSpot-along text spot end n h within (rw len at (list_all-prefix stays_on_line (drop spot.next text))) next line column
+    IsSpot-along text spot end n h within
+    (rw len at (list_all-prefix stays_on_line (drop spot.next text))) next line column
 
 pub returns-then-end-text-clause-spot : goal.returns-then-end-text-clause-spot
 returns-then-end-text-clause-spot c =

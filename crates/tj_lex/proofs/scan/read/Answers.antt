@@ -12,10 +12,16 @@ use Rattle.tj_lex.proofs.scan.read.Goals as goal
 pub along-spot-requires-clause-column : goal.along-spot-requires-clause-column
 along-spot-requires-clause-column c =
     let token = c.in_ok-token.ensures.token in
-    omega (arith, column-spot c.args.text.now c.after_gap-here.result c.after_gap-here.ensures.spot, token.within, token.behind)
+    omega (
+      arith,
+      column-spot c.args.text.now c.after_gap-here.result c.after_gap-here.ensures.spot,
+      token.within,
+      token.behind,
+    )
 
 -- behind a token
-behind : (text : List ℕ) (here after : Spot) (token : Token) → IsSpot text here → IsToken text here.next token → token.from ≡ here.next
+behind : (text : List ℕ) (here after : Spot) (token : Token) → IsSpot text here → IsToken text here.next token
+    → token.from ≡ here.next
     → after.next ≡ here.next + (token.to - token.from) → after.at.line ≡ here.at.line
     → after.at.column ≡ here.at.column + (token.to - token.from) → IsSpot text after
 behind text here after token spot h from next line column =
@@ -26,12 +32,13 @@ behind text here after token spot h from next line column =
 pub tokens-preserved : goal.tokens-preserved
 tokens-preserved c =
     let text = c.args.text.now in
-    let here = c.after_gap-here in
+    let here = c.after_gap-here.result in
+    let gap = c.after_gap-here.ensures in
     let token = c.in_ok-token.ensures in
     let along = c.along-spot.ensures in
-    let next : c.along-spot.result.next ≡ c.in_ok-token.token.to = omega (arith, token.from, along.next, token.token.some) in (
-      behind text here.result c.along-spot.result c.in_ok-token.token here.ensures.spot token.token token.from along.next along.line along.column,
-      rw (next, c.in_ok-push-2.ensures.items)
-          (HasTokens-push text 0 _ _ _ c.tokens.invariant.1
-          (IsToken-behind text _ _ _ here.ensures.gap token.from token.token)),
-    )
+    let spot : IsSpot text c.along-spot.result =
+    behind text here _ c.in_ok-token.token gap.spot token.token token.from along.next along.line along.column in
+    let next : c.along-spot.result.next ≡ c.in_ok-token.token.to =
+    omega (arith, token.from, along.next, token.token.some) in
+    let behind_gap = IsToken-behind text _ _ _ gap.gap token.from token.token in
+    (spot, rw (next, c.in_ok-push-2.ensures.items) (HasTokens-push text 0 _ _ _ c.tokens.invariant.1 behind_gap))
