@@ -1,1 +1,10 @@
-pub mod SmallLemmas
+pub mod Runs
+pub mod Decimals
+pub mod Lines
+pub mod Gaps
+pub mod Moves
+pub mod Chains
+pub mod Behind
+pub mod Starts
+pub mod Determined
+pub mod Laying

@@ -1,2 +1,6 @@
-pub mod Small
-pub mod SmallNumber
+pub mod Bytes
+pub mod Places
+pub mod Pieces
+pub mod Spelling
+pub mod Spots
+pub mod Tokens

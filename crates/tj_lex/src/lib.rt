@@ -1,9 +1,21 @@
-//! The tokens of a script.
+//! The tokens of the script language: names, numbers, keywords and marks, each with its place,
+//! or the place of the first fault.
 #![tactic(auto)]
 
-mod small;
-mod small_kind;
-mod small_number;
+mod bytes;
+mod gap;
+pub mod laws;
+mod number;
+mod place;
+mod scan;
+mod spelling;
+#[cfg(test)]
+mod tests;
+mod token;
+mod word;
 
-pub use small::small_token;
-pub use small_kind::SmallToken;
+pub use bytes::MAX_TEXT;
+pub use place::Place;
+pub use scan::tokens;
+pub use token::{Key, LexFault, Mark, Tok, Token};
+pub use word::Word;

@@ -1,7 +1,7 @@
 -- The status and the text that belong to words and an input.
 use Rattle.std.specs.Prelude.{ℕ, ◌≡◌, ◌≤◌, List, String, length}
 use Rattle.std.specs.declared.alloc.Global.{Global}
-use Rattle.tj_lex.specs.Small.{small_tokens}
+use Rattle.tj_syntax.specs.SmallTokens.{small_tokens}
 use Rattle.tj_syntax.specs.SmallForm.{IsScript}
 use Rattle.tj_program.specs.Texts.{usage_line, fault_line, report_text}
 use Rattle.tj_program.specs.Words.{IsRunAlone}

@@ -1,2 +1,3 @@
 pub mod SmallBodies
 pub mod SmallSums
+pub mod SmallLemmas

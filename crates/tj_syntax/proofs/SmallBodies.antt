@@ -1,7 +1,7 @@
 -- Statements that are read one by one.
 use Rattle.std.proofs.Common.{◌≡◌, ◌≢◌, ℕ, List, [], ◌∷◌, ◌++◌, sym, ap, refl, subst, ◌∙◌, append_assoc, append-nil}
-use Rattle.tj_lex.specs.declared.small_kind.SmallToken.{SmallToken}
-use Rattle.tj_lex.specs.declared.small_kind.SmallToken.TheVariants.{Print}
+use Rattle.tj_syntax.specs.declared.small_kind.SmallToken.{SmallToken}
+use Rattle.tj_syntax.specs.declared.small_kind.SmallToken.TheVariants.{Print}
 use Rattle.tj_syntax.specs.SmallForm.{IsSum, IsBody, EndsWith, HasNoSum, IsOnlySum, IsOnlyEnd, IsNoBody, IsOnlyBody}
 use Rattle.tj_syntax.specs.SmallForm.IsBody.{prints, returns}
 

@@ -1,7 +1,7 @@
 -- Sums that are read number by number.
 use Rattle.std.proofs.Common.{◌≡◌, ◌≢◌, ℕ, ◌+◌, List, [], ◌∷◌, sym, ap, refl, subst, ◌∙◌, arith}
-use Rattle.tj_lex.specs.declared.small_kind.SmallToken.{SmallToken}
-use Rattle.tj_lex.specs.declared.small_kind.SmallToken.TheVariants.{Task, Main, Print, Return, Number, ParenOpen, ParenClose, BraceOpen, BraceClose, Semi, Plus, Unknown}
+use Rattle.tj_syntax.specs.declared.small_kind.SmallToken.{SmallToken}
+use Rattle.tj_syntax.specs.declared.small_kind.SmallToken.TheVariants.{Task, Main, Print, Return, Number, ParenOpen, ParenClose, BraceOpen, BraceClose, Semi, Plus, Unknown}
 use Rattle.tj_syntax.specs.SmallForm.{IsSum, IsSumRest, HasNoSum, IsOnlySum}
 
 -- what was read of a sum has this total, and these tokens are left of it

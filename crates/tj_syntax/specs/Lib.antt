@@ -1,1 +1,3 @@
 pub mod SmallForm
+pub mod SmallNumber
+pub mod SmallTokens

@@ -1,7 +1,7 @@
 -- The small form of a script, by cases on its tokens, and what a script of this form does.
 use Rattle.std.specs.Prelude.{ℕ, ◌≡◌, ◌+◌, List, [], ◌∷◌}
-use Rattle.tj_lex.specs.declared.small_kind.SmallToken.{SmallToken}
-use Rattle.tj_lex.specs.declared.small_kind.SmallToken.TheVariants.{Task, Main, Print, Return, Number, ParenOpen, ParenClose, BraceOpen, BraceClose, Semi, Plus}
+use Rattle.tj_syntax.specs.declared.small_kind.SmallToken.{SmallToken}
+use Rattle.tj_syntax.specs.declared.small_kind.SmallToken.TheVariants.{Task, Main, Print, Return, Number, ParenOpen, ParenClose, BraceOpen, BraceClose, Semi, Plus}
 
 -- further numbers of a sum, each after a `+`, and the `;`: they add so much, and these tokens follow
 abbrev pub IsSumRest : List SmallToken → ℕ → List SmallToken → Type 0

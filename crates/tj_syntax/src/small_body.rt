@@ -1,14 +1,15 @@
 //! Scripts of the small form: sums to print, and one to return.
 ghost use Rattle.std.specs.Prelude.{ℕ, ◌≡◌, ◌<◌, ◌≤◌, length, MatchOption, IfOk};
-ghost use Rattle.tj_lex.specs.Small.{small_tokens};
+ghost use Rattle.tj_syntax.specs.SmallTokens.{small_tokens};
 ghost use Rattle.tj_syntax.specs.SmallForm.{IsNoScript, IsOnlyScript, IsNoBody, IsOnlyBody, EndsWith, IsOnlyEnd};
 
 use crate::small_expect::{after_head, after_token};
+use crate::small_kind::SmallToken;
 use crate::small_script::SmallScript;
 use crate::small_sum::sum_next;
+use crate::small_tokens::small_token;
 use std::alloc::Global;
 use tj_base::Oom;
-use tj_lex::{SmallToken, small_token};
 
 /// What the script does, or None where the text isn't one of the small form.
 pub fn parse_small(alloc: Global, text: &[u8]) -> Result<Option<SmallScript>, Oom>

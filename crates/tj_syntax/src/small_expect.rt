@@ -1,10 +1,11 @@
 //! One token of the small form that has to come next.
 ghost use Rattle.std.specs.Prelude.{ℕ, ◌≡◌, ◌≢◌, ◌<◌, ◌^◌, List, ◌∷◌, length, MatchOption, IfSome};
-ghost use Rattle.tj_lex.specs.Small.{small_tokens};
-ghost use Rattle.tj_lex.specs.declared.small_kind.SmallToken.{SmallToken};
+ghost use Rattle.tj_syntax.specs.SmallTokens.{small_tokens};
+ghost use Rattle.tj_syntax.specs.declared.small_kind.SmallToken.{SmallToken};
 ghost use Rattle.tj_syntax.specs.SmallForm.{head};
 
-use tj_lex::{SmallToken, small_token};
+use crate::small_kind::SmallToken;
+use crate::small_tokens::small_token;
 
 // The text behind this token, or None where another one comes.
 pub fn after_token(text: &[u8], token: SmallToken) -> Option<&[u8]>

@@ -1,10 +1,11 @@
 //! Sums of the small form: numbers with `+` between them.
 ghost use Rattle.std.specs.Prelude.{ℕ, ◌≡◌, ◌+◌, ◌*◌, ◌^◌, ◌<◌, ◌≤◌, length, MatchOption, IfSome};
-ghost use Rattle.tj_lex.specs.Small.{small_tokens};
+ghost use Rattle.tj_syntax.specs.SmallTokens.{small_tokens};
 ghost use Rattle.tj_syntax.specs.SmallForm.{HasNoSum, IsOnlySum};
 
 use crate::small_expect::number_next;
-use tj_lex::{SmallToken, small_token};
+use crate::small_kind::SmallToken;
+use crate::small_tokens::small_token;
 
 // The value of the sum that comes next, and the text behind its `;`.
 pub fn sum_next(text: &[u8]) -> Option<(u64, &[u8])>

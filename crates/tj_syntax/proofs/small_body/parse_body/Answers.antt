@@ -1,6 +1,6 @@
 use Rattle.std.proofs.Common.{◌≡◌, ◌∷◌, ◌++◌, [], subst, sym, arith}
 use Rattle.tj_syntax.proofs.SmallBodies.{IsPrintedTo, IsPrintedTo-more, IsOnlyBody-last}
-use Rattle.tj_lex.specs.Small.{small_tokens}
+use Rattle.tj_syntax.specs.SmallTokens.{small_tokens}
 use Rattle.tj_syntax.proofs.small_body.parse_body.Goals as goal
 
 pub loop-after-preserved : goal.loop-after-preserved

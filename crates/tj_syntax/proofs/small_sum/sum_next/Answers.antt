@@ -1,6 +1,6 @@
 use Rattle.std.proofs.Common.{◌≡◌, ◌∷◌, ap, ◌∙◌, arith}
-use Rattle.tj_lex.specs.Small.{small_tokens}
-use Rattle.tj_lex.specs.declared.small_kind.SmallToken.TheVariants.{Plus, Number, Semi}
+use Rattle.tj_syntax.specs.SmallTokens.{small_tokens}
+use Rattle.tj_syntax.specs.declared.small_kind.SmallToken.TheVariants.{Plus, Number, Semi}
 use Rattle.tj_syntax.proofs.SmallSums.{IsReadTo-more, IsOnlySum-end}
 use Rattle.tj_syntax.proofs.small_sum.sum_next.Goals as goal
 

@@ -1,5 +1,5 @@
 use Rattle.std.proofs.Common.{◌+◌, ◌*◌, ◌<◌, ◌≤◌, length}
-use Rattle.tj_lex.specs.Small.{small_tokens}
+use Rattle.tj_syntax.specs.SmallTokens.{small_tokens}
 use Rattle.tj_syntax.proofs.SmallSums.{IsReadTo}
 use Rattle.tj_syntax.proofs.small_sum.sum_next.Given as goal
 

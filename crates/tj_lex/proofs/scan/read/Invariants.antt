@@ -1,0 +1,10 @@
+use Rattle.std.proofs.Common.{◌-◌, length}
+use Rattle.tj_lex.specs.Tokens.{HasTokens}
+use Rattle.tj_lex.specs.Spots.{IsSpot}
+use Rattle.tj_lex.proofs.scan.read.Given as goal
+
+abbrev pub invariant-tokens : goal.invariant-tokens
+invariant-tokens l = IsSpot l.text l.spot × HasTokens l.text 0 l.found.items l.spot.next
+
+abbrev pub decreases-tokens : goal.decreases-tokens
+decreases-tokens l = length l.text - l.spot.next
