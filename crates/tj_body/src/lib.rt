@@ -1,0 +1,14 @@
+//! Bodies of tasks, and the meaning of a task program on one thread: histories and rounds.
+#![tactic(auto)]
+
+mod ask;
+mod body;
+mod point;
+mod table;
+
+pub use ask::{Answer, Ask};
+pub use body::Body;
+pub use point::{
+    Close, Entry, EntryList, Point, Reference, ReferenceList, Stage, Task, TaskList, Value,
+};
+pub use table::{Row, RowList, TableBody};
