@@ -5,3 +5,4 @@ pub mod Rounds
 pub mod Points
 pub mod Laws
 pub mod Table
+pub mod TableLaws

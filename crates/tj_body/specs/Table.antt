@@ -110,7 +110,7 @@ asks_given asks then b (a ∷ rest) = asks b a ∷ asks_given asks then (then b 
 -- the rows' asks in order, where the task begins with n places, and then End of 0
 abbrev pub asks_of_rows : TableBody → ℕ → List Row → List Answer → List (Ask TableBody)
 asks_of_rows b n rows [] = []
-asks_of_rows b n [] (a ∷ rest) = ask.End (pay.Num (pos 0)) ∷ asks_of_rows b n [] rest
+asks_of_rows b n [] (a ∷ rest) = ask.End (pay.Num (pos 0)) ∷ asks_of_rows b (n + new_places a) [] rest
 asks_of_rows b n (r ∷ rs) (a ∷ rest) = row_ask b (n + new_places a) r ∷ asks_of_rows b (n + new_places a) rs rest
 
 -- whatever it is answered, the body gives these rows in order and then End of 0; its task begins with n places

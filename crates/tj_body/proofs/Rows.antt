@@ -1,0 +1,43 @@
+-- The asks of a table's body are those of its rows, in order.
+use Rattle.std.proofs.Common.{◌≡◌, ◌≤◌, ◌<◌, ℕ, suc, ◌+◌, ◌⊎◌, inl, inr, List, [], ◌∷◌, length, get_or, drop, refl, ap, ◌∙◌, arith, drop-cons}
+use Rattle.std.specs.Prelude.{slice_get, Some, None}
+use Rattle.std.proofs.lemmas.Option.{slice_get_cases}
+use Rattle.std.proofs.lemmas.List.{drop_all}
+use Rattle.tj_body.specs.Asks.{new_places}
+use Rattle.tj_body.specs.declared.ask.Answer.{Answer}
+use Rattle.tj_body.specs.declared.ask.Ask.{Ask}
+use Rattle.tj_body.specs.declared.table.Row.{Row}
+use Rattle.tj_body.specs.declared.table.Row.TheVariants as row
+use Rattle.tj_body.specs.declared.table.TableBody.{TableBody}
+use Rattle.tj_body.specs.Table.{row_ask, rows_of, table_asks, table_then, asks_given, asks_of_rows}
+
+-- the body some rows further, whose task has n places
+abbrev further : TableBody → ℕ → ℕ → TableBody
+further b k n = record b { at = k; places = n }
+
+-- a row's ask is the same wherever the body stands
+row_ask-further : (b : TableBody) (k n m : ℕ) (r : Row) → row_ask (further b k n) m r ≡ row_ask b m r
+row_ask-further b k n m row.New = refl
+row_ask-further b k n m (row.Fork list pass hand) = refl
+row_ask-further b k n m (row.Set p v) = refl
+row_ask-further b k n m (row.Get p) = refl
+row_ask-further b k n m (row.Join t) = refl
+row_ask-further b k n m (row.GetOr p) = refl
+row_ask-further b k n m (row.JoinOr t) = refl
+row_ask-further b k n m (row.Emit i) = refl
+row_ask-further b k n m (row.End v) = refl
+row_ask-further b k n m (row.Fail t) = refl
+
+module _ (b : TableBody) (k n : ℕ) (a : Answer) (rest : List Answer) (asked : List (Ask TableBody))
+    (h : asked ≡ asks_of_rows b (n + new_places a) (drop (suc k) (rows_of b)) rest) where
+  one_more : ((x : Row) × (k < length (rows_of b)) × (slice_get (rows_of b) k ≡ Some x) × (get_or (rows_of b) k x ≡ x)) ⊎ ((length (rows_of b) ≤ k) × (slice_get (rows_of b) k ≡ None))
+      → table_asks (further b k n) a ∷ asked ≡ asks_of_rows b n (drop k (rows_of b)) (a ∷ rest)
+  one_more (inl f) = let e : drop k (rows_of b) ≡ f.0 ∷ drop (suc k) (rows_of b) = drop-cons (rows_of b) k f.0 f.1 ∙ ap (λ z. z ∷ drop (suc k) (rows_of b)) f.3 in
+      rw (e, f.2, row_ask-further b k n (n + new_places a) f.0, h) refl
+  one_more (inr f) = let l : length (rows_of b) ≤ suc k = omega (arith, f.0) in rw (drop_all k (rows_of b) f.0, f.1, h, drop_all (suc k) (rows_of b) l) refl
+
+-- from row k on the body gives the rows that are left
+pub gives_rows : (b : TableBody) (answers : List Answer) (k n : ℕ)
+    → asks_given table_asks table_then (further b k n) answers ≡ asks_of_rows b n (drop k (rows_of b)) answers
+gives_rows b [] k n = refl
+gives_rows b (a ∷ rest) k n = one_more b k n a rest (asks_given table_asks table_then (further b (suc k) (n + new_places a)) rest) (gives_rows b rest (suc k) (n + new_places a)) (slice_get_cases (rows_of b) k).1
