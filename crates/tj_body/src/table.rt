@@ -1,5 +1,7 @@
 //! A body that gives the rows of a list: a table of lists of rows, one for each kind of task.
-ghost use Rattle.std.specs.Prelude.{◌≡◌, ◌<◌, ◌^◌, length, get_or, [], IfOk, IsTrue};
+ghost use Rattle.std.specs.Prelude.{◌≡◌, ◌<◌, ◌≤◌, length, get_or, [], IfOk, IsTrue};
+ghost use Rattle.tj_body.specs.Asks as asks;
+ghost use Rattle.tj_body.specs.Table as table;
 
 use crate::ask::{Answer, Ask};
 use crate::body::Body;
@@ -40,8 +42,10 @@ pub struct TableBody<'s> {
 }
 
 impl<'s> TableBody<'s> {
-    ghost use Rattle.tj_body.specs.Asks.{IsFresh};
-    ghost use Rattle.tj_body.specs.Table.{is_table, GivesRows, table_places, table_awaits, table_left};
+    ghost use Rattle.tj_body.specs.Asks.{IsFresh, most_passed};
+    ghost use Rattle.tj_body.specs.Table.{is_table, is_row, rows_of, row_ask, GivesRows};
+    ghost use Rattle.tj_body.specs.Table.{table_places, table_awaits, table_left};
+    ghost use Rattle.tj_body.specs.declared.table.Row.TheVariants as Row;
 
     /// The body that gives the rows of the list with number `at`, for a task with one place.
     pub fn new(lists: &'s [RowList], at: u32) -> TableBody<'s>
@@ -57,6 +61,103 @@ impl<'s> TableBody<'s> {
             places: 1,
         }
     }
+
+    /// The rows that this body gives.
+    fn rows(&self) -> &'s [Row]
+        requires { self.now.list < length self.now.lists.now }
+        ensures { result.now ≡ rows_of self.now }
+    {
+        self.lists[self.list as usize].items()
+    }
+
+    /// What the row asks, with the places that the task has now.
+    fn ask(&self, alloc: Global, row: &Row) -> Result<Ask<TableBody<'s>>, Oom>
+        requires row { IsTrue (is_row (length self.now.lists.now) row.now) }
+        ensures { IfOk result (λ ask. ask ≡ row_ask self.now self.now.places row.now) }
+    {
+        let n = self.places;
+        match row {
+            Row::New => Ok(Ask::New),
+            Row::Fork { list, pass, hand } => self.fork(alloc, *list, pass, hand),
+            Row::Set { p, v } => Ok(if_placed(*p < n && is_paid(n, *v), Ask::Set { p: *p, v: *v })),
+            Row::Get { p } => Ok(if_placed(*p < n, Ask::Get { p: *p })),
+            Row::Join { t } => Ok(if_placed(*t < n, Ask::Join { t: *t })),
+            Row::GetOr { p } => Ok(if_placed(*p < n, Ask::GetOr { p: *p })),
+            Row::JoinOr { t } => Ok(if_placed(*t < n, Ask::JoinOr { t: *t })),
+            Row::Emit(i) => Ok(Ask::Emit(*i)),
+            Row::End(v) => Ok(if_placed(is_paid(n, *v), Ask::End(*v))),
+            Row::Fail(trouble) => Ok(Ask::Fail(*trouble)),
+        }
+    }
+
+    /// What a Fork row asks.
+    fn fork(
+        &self,
+        alloc: Global,
+        list: u32,
+        pass: &PlaceList,
+        hand: &PlaceList,
+    ) -> Result<Ask<TableBody<'s>>, Oom>
+        requires few { length pass.now ≤ most_passed }
+        ensures { IfOk result (λ ask. ask ≡ row_ask self.now self.now.places (Row.Fork list pass.now hand.now)) }
+    {
+        if !are_below(self.places, pass) || !are_below(self.places, hand) {
+            return Ok(Ask::Fail(Trouble::Kind));
+        }
+        let body = TableBody {
+            lists: self.lists,
+            list,
+            at: 0,
+            places: pass.items().len() as u32 + 1,
+        };
+        Ok(Ask::Fork {
+            body,
+            pass: copy_places(alloc, pass)?,
+            hand: copy_places(alloc, hand)?,
+        })
+    }
+}
+
+/// The ask where its places are those that the task has, else a fault of kind.
+fn if_placed<B: Drop>(placed: bool, ask: Ask<B>) -> Ask<B>
+    ensures { result ≡ table.if_placed placed ask }
+{
+    if placed { ask } else { Ask::Fail(Trouble::Kind) }
+}
+
+/// How many places the answer adds.
+fn new_places(a: Answer) -> u32
+    ensures value { result ≡ asks.new_places a }
+    ensures at_most_one { result ≤ 1 }
+{
+    match a {
+        Answer::Local(_) | Answer::RefAt(_) => 1,
+        Answer::Start | Answer::Done | Answer::Num(_) | Answer::Lost => 0,
+    }
+}
+
+/// Whether the place of the value, if it is a reference, is one of n.
+fn is_paid(n: u32, v: Pay) -> bool
+    ensures { result ≡ table.is_paid n v }
+{
+    match v {
+        Pay::Num(_) => true,
+        Pay::Ref(place) => place < n,
+    }
+}
+
+/// Whether each place is one of n.
+fn are_below(n: u32, places: &PlaceList) -> bool
+    ensures { result ≡ table.are_below n places.now }
+{
+    places.items().iter().all(|place| *place < n)
+}
+
+/// An equal list.
+fn copy_places(alloc: Global, places: &PlaceList) -> Result<PlaceList, Oom>
+    ensures { IfOk result (λ copy. copy ≡ places.now) }
+{
+    Ok(Items::of(Vec::from_slice(alloc, places.items())?))
 }
 
 impl<'s> Body for TableBody<'s> {
@@ -74,9 +175,15 @@ impl<'s> Body for TableBody<'s> {
     ghost then = { table_then };
 
     fn next(&mut self, alloc: Global, a: Answer) -> Result<Ask<Self>, Oom> {
-        let _ = alloc;
-        let _ = a;
-        Err(Oom)
+        let rows = self.rows();
+        let at = self.at as usize;
+        self.at += 1;
+        self.places += new_places(a);
+        if at < rows.len() {
+            self.ask(alloc, &rows[at])
+        } else {
+            Ok(Ask::End(Pay::Num(0)))
+        }
     }
 
     fn twin(&self, alloc: Global) -> Result<Self, Oom> {
