@@ -43,7 +43,8 @@ parts_of b e = let t = is_table b.lists.now in let l = nat_lt b.list (length b.l
       table = first_so t l tl;
       list = list;
       at = leb-true b.at (length (rows_of b)) (second_so (t && l) n e);
-      rows = row_list b.lists.now b.list (first_so t l tl) list }
+      rows = row_list b.lists.now b.list (first_so t l tl) list;
+    }
 
 abbrev Placed : ℕ → Ask TableBody → Type 0
 Placed n x = IsPlaced table_places table_awaits table_left n x
@@ -66,17 +67,18 @@ pub fresh_at : (b : TableBody) (list n : ℕ) → is_table b.lists.now ≡ true 
 fresh_at b list n e l = let r = row_list b.lists.now list e l in
     let few : length (get_or b.lists.now list []) ≤ 2 ^ 20 = leb-true _ _ (first_so _ _ r) in
     record { has_places = refl; begins = begins; ends = omega arith } where
-  begins : table_awaits (body_at b list n) ≡ begin
-  begins = rw (e, lt-ltb list (length b.lists.now) l, le-leb 0 (length (get_or b.lists.now list [])) (omega arith)) refl
+      begins : table_awaits (body_at b list n) ≡ begin
+      begins = rw (e, lt-ltb list (length b.lists.now) l, le-leb 0 (length (get_or b.lists.now list [])) (omega arith)) refl
 
 -- what a row of a table asks has its places, and a fork's body is fit for its task
 placed : (b : TableBody) (n : ℕ) (r : Row) → is_table b.lists.now ≡ true → is_row (length b.lists.now) r ≡ true → Placed n (row_ask b n r)
 placed b n row.New e h = tt
 placed b n (row.Fork list pass hand) e h = placed_if n (are_below n pass && are_below n hand) _ (λ x. record {
-    passed = below n pass (first_so (are_below n pass) (are_below n hand) x);
-    handed = below n hand (second_so (are_below n pass) (are_below n hand) x);
-    few = leb-true (length pass) most_passed (second_so (nat_lt list (length b.lists.now)) (nat_le (length pass) most_passed) h);
-    fresh = fresh_at b list (suc (length pass)) e (ltb-true list (length b.lists.now) (first_so (nat_lt list (length b.lists.now)) (nat_le (length pass) most_passed) h)) })
+  passed = below n pass (first_so (are_below n pass) (are_below n hand) x);
+  handed = below n hand (second_so (are_below n pass) (are_below n hand) x);
+  few = leb-true (length pass) most_passed (second_so (nat_lt list (length b.lists.now)) (nat_le (length pass) most_passed) h);
+  fresh = fresh_at b list (suc (length pass)) e (ltb-true list (length b.lists.now) (first_so (nat_lt list (length b.lists.now)) (nat_le (length pass) most_passed) h));
+})
 placed b n (row.Set k v) e h = placed_if n (nat_lt k n && is_paid n v) _ (λ x. (ltb-true k n (first_so (nat_lt k n) (is_paid n v) x), paid n v (second_so (nat_lt k n) (is_paid n v) x)))
 placed b n (row.Get k) e h = placed_if n (nat_lt k n) _ (λ x. ltb-true k n x)
 placed b n (row.Join k) e h = placed_if n (nat_lt k n) _ (λ x. ltb-true k n x)
@@ -107,7 +109,8 @@ awaits_next b a u = by (nat_lt b.at (length (rows_of b))) refl where
 
 pub table_obeys : (b : TableBody) (a : Answer) → Obeys table_places table_awaits table_left table_asks table_then b a
 table_obeys b a h = let u = parts_of b (under_way b a h) in let at : b.at ≤ length (rows_of b) = u.at in record {
-    falls = inr (omega arith);
-    awaits_answer = awaits_next b a u;
-    adds_places = refl;
-    placed = placed_at b (b.places + new_places a) b.at u }
+  falls = inr (omega arith);
+  awaits_answer = awaits_next b a u;
+  adds_places = refl;
+  placed = placed_at b (b.places + new_places a) b.at u;
+}

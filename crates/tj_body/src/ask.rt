@@ -21,7 +21,7 @@ pub enum Answer {
 }
 
 /// What a body asks.
-#[derive(Debug, Drop)]
+#[derive(Debug, PartialEq, Eq, Drop)]
 pub enum Ask<B> {
     /// Makes a promise, which the task owns.
     New,

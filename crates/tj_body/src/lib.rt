@@ -5,6 +5,8 @@ mod ask;
 mod body;
 mod point;
 mod table;
+#[cfg(test)]
+mod tests;
 
 pub use ask::{Answer, Ask};
 pub use body::Body;

@@ -9,7 +9,7 @@ use std::alloc::Global;
 use tj_base::{Items, Oom, Pay, PlaceList, Trouble};
 
 /// What a row of a table asks.
-#[derive(Debug, Drop)]
+#[derive(Debug, PartialEq, Eq, Drop)]
 pub enum Row {
     New,
     /// Forks a task whose body gives the rows of the list with this number.
@@ -18,11 +18,22 @@ pub enum Row {
         pass: PlaceList,
         hand: PlaceList,
     },
-    Set { p: u32, v: Pay },
-    Get { p: u32 },
-    Join { t: u32 },
-    GetOr { p: u32 },
-    JoinOr { t: u32 },
+    Set {
+        p: u32,
+        v: Pay,
+    },
+    Get {
+        p: u32,
+    },
+    Join {
+        t: u32,
+    },
+    GetOr {
+        p: u32,
+    },
+    JoinOr {
+        t: u32,
+    },
     Emit(i64),
     End(Pay),
     Fail(Trouble),
@@ -33,7 +44,7 @@ pub type RowList = Items<Row>;
 
 /// A body that gives the rows of one of these lists, in order, and then ends with 0. A row that
 /// names a place which the task doesn't have is given as a fault of kind.
-#[derive(Drop)]
+#[derive(Debug, PartialEq, Eq, Drop)]
 pub struct TableBody<'s> {
     lists: &'s [RowList],
     list: u32,
@@ -122,7 +133,11 @@ impl<'s> TableBody<'s> {
 fn if_placed<B: Drop>(placed: bool, ask: Ask<B>) -> Ask<B>
     ensures { result ≡ table.if_placed placed ask }
 {
-    if placed { ask } else { Ask::Fail(Trouble::Kind) }
+    if placed {
+        ask
+    } else {
+        Ask::Fail(Trouble::Kind)
+    }
 }
 
 /// How many places the answer adds.

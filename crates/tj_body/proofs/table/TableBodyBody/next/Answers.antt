@@ -21,7 +21,7 @@ ask-requires c = let b = c.args.self.now in
 pub returns-then-at-rows-clause-ask : goal.returns-then-at-rows-clause-ask
 returns-then-at-rows-clause-ask c = let b = c.args.self.now in let at = (goal.at.returns-then-at-rows-clause-ask c).After-index-rows-at in
     let same = ap (λ z. row_ask (record b { at = b.at + 1; places = b.places + z }) (b.places + z) c.index-rows-at.result) c.new_places.ensures.value
-        ∙ row_ask-at b b.at (b.at + 1) (b.places + new_places c.args.a) (b.places + new_places c.args.a) c.index-rows-at.result (in_rows at) (is_that_row at) in
+    ∙ row_ask-at b b.at (b.at + 1) (b.places + new_places c.args.a) (b.places + new_places c.args.a) c.index-rows-at.result (in_rows at) (is_that_row at) in
     subst (λ z. IfOk c.ask.result (λ ask. ask ≡ z)) same c.ask.ensures
 
 pub returns-else-at-rows-clause-ask : goal.returns-else-at-rows-clause-ask

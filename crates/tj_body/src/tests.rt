@@ -1,0 +1,126 @@
+//! The asks of a table's body, by hand.
+ghost use Rattle.std.specs.Prelude.{◌≡◌, ◌<◌, length, IfOk, IsTrue};
+ghost use Rattle.tj_body.specs.Table.{is_row, is_table};
+
+use crate::{Answer, Ask, Body, Row, RowList, TableBody};
+use std::alloc::Global;
+use std::test::Fail;
+use tj_base::{Items, Oom, Pay, PlaceList, Trouble};
+
+fn places(alloc: Global, list: &[u32]) -> Result<PlaceList, Oom>
+    ensures { IfOk result (λ places. places ≡ list.now) }
+{
+    Ok(Items::of(Vec::from_slice(alloc, list)?))
+}
+
+/// The table of one list with one row.
+fn table(alloc: Global, row: Row) -> Result<[RowList; 1], Oom>
+    requires { IsTrue (is_row 1 row) }
+    ensures { IfOk result (λ lists. IsTrue (is_table lists) × (0 < length lists)) }
+{
+    let mut rows = Vec::new(alloc);
+    rows.push(row)?;
+    Ok([Items::of(rows)])
+}
+
+#[test]
+fn each_row_is_asked(rt: HostRuntime) -> Result<(), Fail> {
+    let alloc = rt.alloc();
+    let rows = [
+        ("a promise", Row::New, Ask::New),
+        (
+            "a set",
+            Row::Set {
+                p: 0,
+                v: Pay::Num(5),
+            },
+            Ask::Set {
+                p: 0,
+                v: Pay::Num(5),
+            },
+        ),
+        ("a get", Row::Get { p: 0 }, Ask::Get { p: 0 }),
+        ("a join", Row::Join { t: 0 }, Ask::Join { t: 0 }),
+        ("a get or", Row::GetOr { p: 0 }, Ask::GetOr { p: 0 }),
+        ("a join or", Row::JoinOr { t: 0 }, Ask::JoinOr { t: 0 }),
+        ("a print", Row::Emit(8), Ask::Emit(8)),
+        ("an end", Row::End(Pay::Ref(0)), Ask::End(Pay::Ref(0))),
+        (
+            "a fault",
+            Row::Fail(Trouble::Arith),
+            Ask::Fail(Trouble::Arith),
+        ),
+        (
+            "a set of a place too many",
+            Row::Set {
+                p: 1,
+                v: Pay::Num(5),
+            },
+            Ask::Fail(Trouble::Kind),
+        ),
+        (
+            "a set to a place too many",
+            Row::Set {
+                p: 0,
+                v: Pay::Ref(1),
+            },
+            Ask::Fail(Trouble::Kind),
+        ),
+        (
+            "a get of a place too many",
+            Row::Get { p: 1 },
+            Ask::Fail(Trouble::Kind),
+        ),
+        (
+            "an end with a place too many",
+            Row::End(Pay::Ref(1)),
+            Ask::Fail(Trouble::Kind),
+        ),
+    ];
+    for (shows, row, expected) in rows {
+        let lists = table(alloc, row)?;
+        let mut body = TableBody::new(&lists, 0);
+        let ask = body.next(alloc, Answer::Start)?;
+        assert!(rt; ask == expected, "{shows}");
+    }
+    Ok(())
+}
+
+#[test]
+fn a_fork_row_starts_another_list(rt: HostRuntime) -> Result<(), Fail> {
+    let alloc = rt.alloc();
+    let fork = Row::Fork {
+        list: 0,
+        pass: places(alloc, &[0, 0])?,
+        hand: places(alloc, &[])?,
+    };
+    let lists = table(alloc, fork)?;
+    let mut body = TableBody::new(&lists, 0);
+    match body.next(alloc, Answer::Start)? {
+        Ask::Fork {
+            body: _child,
+            pass,
+            hand,
+        } => {
+            assert_eq!(rt; pass.items(), [0, 0].as_slice());
+            assert!(rt; hand.items().is_empty());
+        }
+        _ => panic!(rt; "no fork"),
+    }
+    Ok(())
+}
+
+#[test]
+fn rows_come_in_order_and_then_the_end(rt: HostRuntime) -> Result<(), Fail> {
+    let alloc = rt.alloc();
+    let lists = table(alloc, Row::New)?;
+    let mut body = TableBody::new(&lists, 0);
+    let first = body.next(alloc, Answer::Start)?;
+    assert!(rt; first == Ask::New);
+    let twin = body.twin(alloc)?;
+    assert!(rt; twin == body);
+    let last = body.next(alloc, Answer::Local(1))?;
+    assert!(rt; last == Ask::End(Pay::Num(0)));
+    assert!(rt; twin != body);
+    Ok(())
+}
