@@ -7,15 +7,15 @@ use Rattle.tj_base.specs.declared.cause.Trouble.TheVariants as trouble
 use Rattle.tj_base.specs.declared.cause.Cause.{Cause}
 use Rattle.tj_base.specs.declared.cause.Cause.TheVariants as cause
 use Rattle.tj_body.specs.History.{to_promise, owned, history}
-use Rattle.tj_body.specs.Rounds.{given, tasks, cells, meaning, root_task, Full}
+use Rattle.tj_body.specs.Rounds.{given, tasks, cells, meaning, root_task, IsFull}
 use Rattle.tj_body.specs.declared.ask.Answer.{Answer}
 use Rattle.tj_body.specs.declared.ask.Ask.{Ask}
 use Rattle.tj_body.specs.declared.ask.Ask.TheVariants as ask
 use Rattle.tj_body.specs.declared.point.Value.TheVariants as value
 use Rattle.tj_body.specs.declared.point.Entry.TheVariants as entry
 use Rattle.tj_body.specs.declared.point.Close.TheVariants as close
-use Rattle.tj_body.specs.declared.point.Stage.{Stage}
-use Rattle.tj_body.specs.declared.point.Stage.TheVariants as stage
+use Rattle.tj_body.specs.declared.point.PointStage.{PointStage}
+use Rattle.tj_body.specs.declared.point.PointStage.TheVariants as stage
 use Rattle.tj_body.specs.declared.point.Task.{Task}
 use Rattle.tj_body.specs.declared.point.Point.{Point}
 
@@ -76,21 +76,21 @@ abbrev end : Script
 end = stop (pay.Num (pos 0))
 
 -- what a report tells of each task: its name, where it stands, and what it owes
-abbrev shown : Point Script → Name × Stage × List Name
+abbrev shown : Point Script → Name × PointStage × List Name
 shown p = (p.name, p.stage, p.owed)
 
 -- the meaning with limit N, as a report tells it
-abbrev outcome : Bool → ℕ → Script → List (Name × Stage × List Name)
+abbrev outcome : Bool → ℕ → Script → List (Name × PointStage × List Name)
 outcome strict N s = map shown (meaning strict asks then left (root_task s) N)
 
 -- it ended with 0, or it failed, or it waits for a cell
-abbrev ended : Stage
+abbrev ended : PointStage
 ended = stage.Closed (close.Done (value.Num (pos 0)))
 
-abbrev failed : Cause → Stage
+abbrev failed : Cause → PointStage
 failed c = stage.Closed (close.Failed c)
 
-abbrev waits : Name → Stage
+abbrev waits : Name → PointStage
 waits q = stage.Waits q false
 
 -- a promise that is made, set and read: two cells, one print, and the promise is passed on as the result
@@ -253,11 +253,20 @@ join_and_get = refl
 
 -- two tasks that each hold what the other wants wait for each other
 abbrev exchange : Script
-exchange = new (new (fork (get 2 (set 1 end)) (1 ∷ 2 ∷ []) (1 ∷ []) (fork (get 1 (set 2 end)) (1 ∷ 2 ∷ []) (2 ∷ []) end)))
+exchange = new (new (fork (get 2 (set 1 end)) (1 ∷ 2 ∷ []) (1 ∷ [])
+    (fork (get 1 (set 2 end)) (1 ∷ 2 ∷ []) (2 ∷ []) end)))
 
 each_other : outcome false 5 exchange
     ≡ ([], ended, []) ∷ ((3 ∷ []), waits (2 ∷ []), []) ∷ ((4 ∷ []), waits (1 ∷ []), []) ∷ []
 each_other = refl
+
+-- tasks that wait own what they owned, and their results
+abbrev owns : Point Script → Name × List Name
+owns p = (p.name, owned p)
+
+waiting_owns : map owns (meaning false asks then left (root_task exchange) 5)
+    ≡ ([], []) ∷ ((3 ∷ []), (3 ∷ []) ∷ (1 ∷ []) ∷ []) ∷ ((4 ∷ []), (4 ∷ []) ∷ (2 ∷ []) ∷ []) ∷ []
+waiting_owns = refl
 
 -- a promise handed down twice is set by the grandchild
 abbrev told_of : Point Script → Name × List ℤ × List Name
@@ -284,6 +293,31 @@ joins_itself = refl
 joins_itself_strict : outcome true 1 (join 0 end) ≡ ([], failed (cause.Order []), []) ∷ []
 joins_itself_strict = refl
 
+-- round 0 has no task, and each later one has one fork more of a chain
+abbrev name_of : Task Script → Name
+name_of t = t.name
+
+abbrev chain : Script
+chain = fork (fork (fork end [] [] end) [] [] end) [] [] end
+
+no_task_at_first : tasks false asks then left (root_task chain) 0 ≡ []
+no_task_at_first = refl
+
+one_fork : map name_of (tasks false asks then left (root_task chain) 1) ≡ [] ∷ (1 ∷ []) ∷ []
+one_fork = refl
+
+two_forks : map name_of (tasks false asks then left (root_task chain) 2) ≡ [] ∷ (1 ∷ []) ∷ (1 ∷ 1 ∷ []) ∷ []
+two_forks = refl
+
+-- a promise that is handed and not passed is owed by the child
+handed_alone : outcome false 3 (new (fork end [] (1 ∷ []) end))
+    ≡ ([], ended, []) ∷ ((2 ∷ []), ended, (1 ∷ []) ∷ []) ∷ []
+handed_alone = refl
+
+-- two cells aren't more than two
+alone_is_not_full : ¬ IsFull false asks then left (root_task alone) 2
+alone_is_not_full f = omega arith
+
 -- two cells are more than one
-alone_is_full : Full false asks then left (root_task alone) 1
+alone_is_full : IsFull false asks then left (root_task alone) 1
 alone_is_full = omega arith

@@ -1,5 +1,6 @@
 -- What a body awaits, and what the laws of a body say of one ask.
-use Rattle.std.specs.Prelude.{◌≡◌, ◌⊎◌, ℕ, suc, ◌+◌, ◌<◌, ◌≤◌, ◌^◌, List, [], ◌∷◌, length}
+use Rattle.std.specs.Prelude.{◌≡◌, ◌⊎◌, ℕ, suc, ◌+◌, ◌<◌, ◌≤◌, ◌^◌, List, length}
+use Rattle.std.specs.List.{AllByRecursion}
 use Rattle.tj_base.specs.declared.value.Pay.{Pay}
 use Rattle.tj_base.specs.declared.value.Pay.TheVariants as pay
 use Rattle.tj_body.specs.declared.ask.Answer.{Answer}
@@ -12,16 +13,16 @@ use Rattle.tj_body.specs.declared.ask.Ask.TheVariants as ask
 pub data Await : Type 0 where
   begin : Await
   place : Await
-  did : Await
+  done : Await
   cell : Await
   cell_or : Await
-  over : Await
+  nothing : Await
 
 -- the answer is one that is awaited where the task has n places: a new place is the next one
 abbrev pub Fits : Await → ℕ → Answer → Type 0
 Fits begin n answer.Start = Unit {0}
 Fits place n (answer.Local k) = k ≡ n
-Fits did n answer.Done = Unit {0}
+Fits done n answer.Done = Unit {0}
 Fits cell n (answer.Num i) = Unit {0}
 Fits cell n (answer.RefAt k) = k ≡ n
 Fits cell_or n (answer.Num i) = Unit {0}
@@ -42,14 +43,14 @@ new_places answer.Lost = 0
 abbrev pub awaited : {B : Type 0} → Ask B → Await
 awaited ask.New = place
 awaited (ask.Fork b pass hand) = place
-awaited (ask.Set k v) = did
+awaited (ask.Set k v) = done
 awaited (ask.Get k) = cell
 awaited (ask.Join k) = cell
 awaited (ask.GetOr k) = cell_or
 awaited (ask.JoinOr k) = cell_or
-awaited (ask.Emit i) = did
-awaited (ask.End v) = over
-awaited (ask.Fail t) = over
+awaited (ask.Emit i) = done
+awaited (ask.End v) = nothing
+awaited (ask.Fail t) = nothing
 
 -- the ask is a body's last one
 abbrev pub Ends : {B : Type 0} → Ask B → Type 0
@@ -63,11 +64,6 @@ Ends (ask.JoinOr k) = ⊥
 Ends (ask.Emit i) = ⊥
 Ends (ask.End v) = Unit {0}
 Ends (ask.Fail t) = Unit {0}
-
--- each of these places is one of n
-abbrev pub AllBelow : ℕ → List ℕ → Type 0
-AllBelow n [] = Unit {0}
-AllBelow n (k ∷ ks) = (k < n) × AllBelow n ks
 
 -- the place of the value, if it is a reference, is one of n
 abbrev pub IsPaid : ℕ → Pay → Type 0
@@ -91,8 +87,8 @@ module _ {B : Type 0} (places : B → ℕ) (awaits : B → Await) (left : B → 
 
   -- the body of a fork that passes these places has one place more than they are
   pub record IsForked (b : B) (n : ℕ) (pass hand : List ℕ) : Type 0 where
-    pub passed : AllBelow n pass
-    pub handed : AllBelow n hand
+    pub passed : AllByRecursion (λ k. k < n) pass
+    pub handed : AllByRecursion (λ k. k < n) hand
     pub few : length pass ≤ most_passed
     pub fresh : IsFresh (suc (length pass)) b
 

@@ -22,8 +22,8 @@ use Rattle.tj_body.specs.declared.point.Entry.{Entry}
 use Rattle.tj_body.specs.declared.point.Entry.TheVariants as entry
 use Rattle.tj_body.specs.declared.point.Close.{Close}
 use Rattle.tj_body.specs.declared.point.Close.TheVariants as close
-use Rattle.tj_body.specs.declared.point.Stage.{Stage}
-use Rattle.tj_body.specs.declared.point.Stage.TheVariants as stage
+use Rattle.tj_body.specs.declared.point.PointStage.{PointStage}
+use Rattle.tj_body.specs.declared.point.PointStage.TheVariants as stage
 use Rattle.tj_body.specs.declared.point.Task.{Task}
 use Rattle.tj_body.specs.declared.point.Point.{Point}
 
@@ -85,7 +85,7 @@ hand_all holds [] = Ok holds
 hand_all holds (r ∷ rs) = hand_one r.sort (has r.name holds) r.name (hand_all (without r.name holds) rs)
 
 -- the cells owned in this stage: until a task ends it owns its result too
-abbrev pub owned_in : Stage → Name → List Name → List Name
+abbrev pub owned_in : PointStage → Name → List Name → List Name
 owned_in (stage.Answered a) x holds = x ∷ holds
 owned_in (stage.Waits q spare) x holds = x ∷ holds
 owned_in (stage.Closed e) x holds = []
@@ -96,12 +96,12 @@ module _ {B : Type 0} where
   owned p = owned_in p.stage p.name p.holds
 
   -- the body is to be given this answer
-  abbrev pub told : Answer → Point B → Point B
-  told a p = record p { stage = stage.Answered a }
+  abbrev pub with_answer : Answer → Point B → Point B
+  with_answer a p = record p { stage = stage.Answered a }
 
   -- the task ends: its result becomes r, and the promises that it holds are owed and broken
-  abbrev pub close_with : Close → Entry → Point B → Point B
-  close_with e r p = record p {
+  abbrev pub after_close : Close → Entry → Point B → Point B
+  after_close e r p = record p {
     stage = stage.Closed e;
     holds = [];
     owed = in_order p.holds;
@@ -109,20 +109,20 @@ module _ {B : Type 0} where
   }
 
   -- the task fails, and its result is broken
-  abbrev pub fail : Cause → Point B → Point B
-  fail c p = close_with (close.Failed c) entry.Broken p
+  abbrev pub after_failure : Cause → Point B → Point B
+  after_failure c p = after_close (close.Failed c) entry.Broken p
 
   -- the task ends well, and its result has the value
-  abbrev pub finish : Value → Point B → Point B
-  finish v p = close_with (close.Done v) (entry.Value v) p
+  abbrev pub after_end : Value → Point B → Point B
+  after_end v p = after_close (close.Done v) (entry.Value v) p
 
   -- the name of the next thing that the task makes
   abbrev pub next_name : Point B → Name
   next_name p = child p.name (suc p.made)
 
   -- the task makes a promise, and owns it
-  abbrev pub make : Point B → Point B
-  make p = record p {
+  abbrev pub after_new : Point B → Point B
+  after_new p = record p {
     stage = stage.Answered (answer.Local (length p.references));
     references = p.references ++ to_promise (next_name p) ∷ [];
     holds = p.holds ++ next_name p ∷ [];
@@ -135,8 +135,8 @@ module _ {B : Type 0} where
   next_child b passed handed p = record { name = next_name p; body = b; passed = passed; handed = handed }
 
   -- the task forks a child, and holds what is left
-  abbrev pub fork : B → List Reference → List Name → List Name → Point B → Point B
-  fork b passed handed left p = record p {
+  abbrev pub after_fork : B → List Reference → List Name → List Name → Point B → Point B
+  after_fork b passed handed left p = record p {
     stage = stage.Answered (answer.Local (length p.references));
     references = p.references ++ to_task (next_name p) ∷ [];
     holds = left;
@@ -145,55 +145,57 @@ module _ {B : Type 0} where
   }
 
   -- the fork is made where the handing is allowed
-  abbrev pub try_fork : B → List Reference → List Name → Result (List Name) Cause → Point B → Point B
-  try_fork b passed handed (Ok left) p = fork b passed handed left p
-  try_fork b passed handed (Err c) p = fail c p
+  abbrev pub after_try_fork : B → List Reference → List Name → Result (List Name) Cause → Point B → Point B
+  after_try_fork b passed handed (Ok left) p = after_fork b passed handed left p
+  after_try_fork b passed handed (Err c) p = after_failure c p
 
   -- the promise gets the value, and nobody owns it from then on
-  abbrev pub write : Name → Value → Point B → Point B
-  write q v p = record p {
+  abbrev pub after_write : Name → Value → Point B → Point B
+  after_write q v p = record p {
     stage = stage.Answered answer.Done;
     holds = without q p.holds;
     writes = p.writes ++ (q, entry.Value v) ∷ [];
   }
 
   -- a promise is set by its owner
-  abbrev pub set : Sort → Name → Value → Point B → Point B
-  set sort.Task q v p = fail cause.Kind p
-  set sort.Promise q v p = cond (has q p.holds) (write q v p) (fail (cause.Owner q) p)
+  abbrev pub after_set : Sort → Name → Value → Point B → Point B
+  after_set sort.Task q v p = after_failure cause.Kind p
+  after_set sort.Promise q v p = cond (has q p.holds) (after_write q v p) (after_failure (cause.Owner q) p)
 
   -- the task waits for the cell
-  abbrev pub wait : Bool → Name → Point B → Point B
-  wait spare q p = record p { stage = stage.Waits q spare }
+  abbrev pub with_wait : Bool → Name → Point B → Point B
+  with_wait spare q p = record p { stage = stage.Waits q spare }
 
   -- a get is a wait for a promise
-  abbrev pub get : Bool → Sort → Name → Point B → Point B
-  get spare sort.Task q p = fail cause.Kind p
-  get spare sort.Promise q p = wait spare q p
+  abbrev pub after_get : Bool → Sort → Name → Point B → Point B
+  after_get spare sort.Task q p = after_failure cause.Kind p
+  after_get spare sort.Promise q p = with_wait spare q p
 
   -- a join is a wait for a task's result; under the strict rule a task joins only those that it is before
-  abbrev pub join : Bool → Bool → Sort → Name → Point B → Point B
-  join strict spare sort.Task q p = cond (strict && not (before p.name q)) (fail (cause.Order q) p) (wait spare q p)
-  join strict spare sort.Promise q p = fail cause.Kind p
+  abbrev pub after_join : Bool → Bool → Sort → Name → Point B → Point B
+  after_join strict spare sort.Task q p =
+      cond (strict && not (before p.name q)) (after_failure (cause.Order q) p) (with_wait spare q p)
+  after_join strict spare sort.Promise q p = after_failure cause.Kind p
 
   -- the task prints a number
-  abbrev pub print : ℤ → Point B → Point B
-  print i p = record p { stage = stage.Answered answer.Done; prints = p.prints ++ i ∷ [] }
+  abbrev pub after_emit : ℤ → Point B → Point B
+  after_emit i p = record p { stage = stage.Answered answer.Done; prints = p.prints ++ i ∷ [] }
 
   -- the task has a further reference
-  abbrev pub add_reference : Reference → Point B → Point B
-  add_reference r p = record p { references = p.references ++ r ∷ [] }
+  abbrev pub with_reference : Reference → Point B → Point B
+  with_reference r p = record p { references = p.references ++ r ∷ [] }
 
   -- what has become of the cell that the task waited for is its answer, or fails it
-  abbrev pub read : Bool → Name → Entry → Point B → Point B
-  read spare q entry.Broken p = cond spare (told answer.Lost p) (fail (cause.Broken q) p)
-  read spare q (entry.Value (value.Num i)) p = told (answer.Num i) p
-  read spare q (entry.Value (value.Ref r)) p = told (answer.RefAt (length p.references)) (add_reference r p)
+  abbrev pub after_read : Bool → Name → Entry → Point B → Point B
+  after_read spare q entry.Broken p = cond spare (with_answer answer.Lost p) (after_failure (cause.Broken q) p)
+  after_read spare q (entry.Value (value.Num i)) p = with_answer (answer.Num i) p
+  after_read spare q (entry.Value (value.Ref r)) p =
+      with_answer (answer.RefAt (length p.references)) (with_reference r p)
 
   -- a task waits on where nothing has become of the cell
-  abbrev pub look : Bool → Name → Option Entry → Point B → Point B
-  look spare q None p = p
-  look spare q (Some e) p = read spare q e p
+  abbrev pub after_look : Bool → Name → Option Entry → Point B → Point B
+  after_look spare q None p = p
+  after_look spare q (Some e) p = after_read spare q e p
 
   -- the reference with place k of the task
   abbrev pub reference : Point B → ℕ → Reference
@@ -201,35 +203,36 @@ module _ {B : Type 0} where
 
   module _ (strict : Bool) where
     -- what an ask makes of a point
-    abbrev pub take : Ask B → Point B → Point B
-    take ask.New p = make p
-    take (ask.Fork b pass hand) p = try_fork b (map (reference p) pass) (map (λ k. (reference p k).name) hand)
-        (hand_all p.holds (map (reference p) hand)) p
-    take (ask.Set k v) p = set (reference p k).sort (reference p k).name (value_at p.name p.references v) p
-    take (ask.Get k) p = get false (reference p k).sort (reference p k).name p
-    take (ask.Join k) p = join strict false (reference p k).sort (reference p k).name p
-    take (ask.GetOr k) p = get true (reference p k).sort (reference p k).name p
-    take (ask.JoinOr k) p = join strict true (reference p k).sort (reference p k).name p
-    take (ask.Emit i) p = print i p
-    take (ask.End v) p = finish (value_at p.name p.references v) p
-    take (ask.Fail t) p = fail (cause_of t) p
+    abbrev pub after_ask : Ask B → Point B → Point B
+    after_ask ask.New p = after_new p
+    after_ask (ask.Fork b pass hand) p =
+        after_try_fork b (map (reference p) pass) (map (λ k. (reference p k).name) hand)
+          (hand_all p.holds (map (reference p) hand)) p
+    after_ask (ask.Set k v) p = after_set (reference p k).sort (reference p k).name (value_at p.name p.references v) p
+    after_ask (ask.Get k) p = after_get false (reference p k).sort (reference p k).name p
+    after_ask (ask.Join k) p = after_join strict false (reference p k).sort (reference p k).name p
+    after_ask (ask.GetOr k) p = after_get true (reference p k).sort (reference p k).name p
+    after_ask (ask.JoinOr k) p = after_join strict true (reference p k).sort (reference p k).name p
+    after_ask (ask.Emit i) p = after_emit i p
+    after_ask (ask.End v) p = after_end (value_at p.name p.references v) p
+    after_ask (ask.Fail t) p = after_failure (cause_of t) p
 
     module _ (asks : B → Answer → Ask B) (then : B → Answer → B) where
       -- one step from this stage: the next ask, or the answer of a wait; what has ended stays
-      abbrev pub go : Assignment → Stage → Point B → Point B
-      go V (stage.Answered a) p = take (asks p.body a) (record p { body = then p.body a })
-      go V (stage.Waits q spare) p = look spare q (V q) p
-      go V (stage.Closed e) p = p
+      abbrev pub after_stage : Assignment → PointStage → Point B → Point B
+      after_stage V (stage.Answered a) p = after_ask (asks p.body a) (record p { body = then p.body a })
+      after_stage V (stage.Waits q spare) p = after_look spare q (V q) p
+      after_stage V (stage.Closed e) p = p
 
       -- one ask more, or one answer more; a task that waits for a cell without an entry stays, and so does an ended one
-      abbrev pub step : Assignment → Point B → Point B
-      step V p = go V p.stage p
+      abbrev pub after_step : Assignment → Point B → Point B
+      after_step V p = after_stage V p.stage p
 
       -- the point after k steps
-      abbrev pub point : Assignment → ℕ → Task B → Point B
-      point V zero t = start t
-      point V (suc k) t = step V (point V k t)
+      abbrev pub point_after : Assignment → ℕ → Task B → Point B
+      point_after V zero t = start t
+      point_after V (suc k) t = after_step V (point_after V k t)
 
       -- the point at which the task stops: an ask and its answer are two steps, and there are at most left and one asks
       abbrev pub history : (B → ℕ) → Assignment → Task B → Point B
-      history left V t = point V (2 * suc (left t.body)) t
+      history left V t = point_after V (2 * suc (left t.body)) t

@@ -3,29 +3,29 @@ use Rattle.std.specs.Prelude.{◌≡◌, ◌⊎◌, ℕ, suc, ◌+◌, ◌*◌, 
 use Rattle.std.specs.Prelude.{Option, Some, None}
 use Rattle.tj_base.specs.ForkOrder.{Name}
 use Rattle.tj_body.specs.Asks.{Await, cell, cell_or, Fits, new_places, most_passed, most_left, IsFresh}
-use Rattle.tj_body.specs.History.{Assignment, point}
+use Rattle.tj_body.specs.History.{Assignment, point_after}
 use Rattle.tj_body.specs.Rounds.{given, tasks}
 use Rattle.tj_body.specs.declared.ask.Answer.{Answer}
 use Rattle.tj_body.specs.declared.ask.Ask.{Ask}
 use Rattle.tj_body.specs.declared.point.Entry.{Entry}
 use Rattle.tj_body.specs.declared.point.Close.{Close}
-use Rattle.tj_body.specs.declared.point.Stage.{Stage}
-use Rattle.tj_body.specs.declared.point.Stage.TheVariants as stage
+use Rattle.tj_body.specs.declared.point.PointStage.{PointStage}
+use Rattle.tj_body.specs.declared.point.PointStage.TheVariants as stage
 use Rattle.tj_body.specs.declared.point.Task.{Task}
 use Rattle.tj_body.specs.declared.point.Point.{Point}
 
 -- x is an element of the list
-abbrev pub In : {A : Type 0} → A → List A → Type 0
-In x [] = ⊥
-In x (y ∷ ys) = (x ≡ y) ⊎ In x ys
+abbrev pub IsIn : {A : Type 0} → A → List A → Type 0
+IsIn x [] = ⊥
+IsIn x (y ∷ ys) = (x ≡ y) ⊎ IsIn x ys
 
 -- xs is a beginning of ys
 abbrev pub Begins : {A : Type 0} → List A → List A → Type 0
 Begins {A} xs ys = (rest : List A) × (ys ≡ xs ++ rest)
 
 -- W has the entries of V
-abbrev pub Within : Assignment → Assignment → Type 0
-Within V W = (q : Name) (e : Entry) → V q ≡ Some e → W q ≡ Some e
+abbrev pub IsWithin : Assignment → Assignment → Type 0
+IsWithin V W = (q : Name) (e : Entry) → V q ≡ Some e → W q ≡ Some e
 
 -- a task never has more places: those that it was passed, its own, and one for each ask
 abbrev pub most_places : ℕ
@@ -55,7 +55,7 @@ module _ {B : Type 0} (places : B → ℕ) (awaits : B → Await) (left : B → 
     pub room : length p.references + left p.body + 1 ≤ most_places
 
   -- the body is as the stage needs it
-  abbrev pub IsGoodAt : Stage → Point B → Type 0
+  abbrev pub IsGoodAt : PointStage → Point B → Type 0
   IsGoodAt (stage.Answered a) p = MayAnswer a p
   IsGoodAt (stage.Waits q spare) p = MayWait spare p
   IsGoodAt (stage.Closed e) p = Unit {0}
@@ -63,11 +63,11 @@ module _ {B : Type 0} (places : B → ℕ) (awaits : B → Await) (left : B → 
   -- a point from which a task can go on: its children are proper tasks, and it has made fewer things than it has places
   pub record IsGood (p : Point B) : Type 0 where
     pub at_stage : IsGoodAt p.stage p
-    pub children : (c : Task B) → In c p.children → IsProper c
+    pub children : (c : Task B) → IsIn c p.children → IsProper c
     pub made : suc p.made ≤ length p.references
 
 -- how many steps a task makes at most from here
-abbrev pub weight_at : {B : Type 0} → (B → ℕ) → B → Stage → ℕ
+abbrev pub weight_at : {B : Type 0} → (B → ℕ) → B → PointStage → ℕ
 weight_at left b (stage.Answered a) = 2 * left b + 2
 weight_at left b (stage.Waits q spare) = 2 * left b + 3
 weight_at left b (stage.Closed e) = 0
@@ -90,25 +90,25 @@ Extends p p' = Begins p.children p'.children × Begins p.writes p'.writes × Beg
 
 module _ {B : Type 0} (strict : Bool) (asks : B → Answer → Ask B) (then : B → Answer → B) where
   -- p is what stands after some of the task's asks
-  abbrev pub PointOf : Assignment → Task B → Point B → Type 0
-  PointOf V t p = (k : ℕ) × (p ≡ point strict asks then V k t)
+  abbrev pub IsPointOf : Assignment → Task B → Point B → Type 0
+  IsPointOf V t p = (k : ℕ) × (p ≡ point_after strict asks then V k t)
 
   module _ (left : B → ℕ) (root : Task B) where
     -- p is a point of the task under the assignment of some round
-    abbrev pub SomePoint : Task B → Point B → Type 0
-    SomePoint t p = (n : ℕ) × PointOf (given strict asks then left root n) t p
+    abbrev pub IsSomePoint : Task B → Point B → Type 0
+    IsSomePoint t p = (n : ℕ) × IsPointOf (given strict asks then left root n) t p
 
     -- the task is one of some round
-    abbrev pub SomeTask : Task B → Type 0
-    SomeTask t = (n : ℕ) × In t (tasks strict asks then left root n)
+    abbrev pub IsSomeTask : Task B → Type 0
+    IsSomeTask t = (n : ℕ) × IsIn t (tasks strict asks then left root n)
 
     -- what stands where nothing goes on: E is all entries, and points gives what each task has come to
     pub record IsAtRest (E : Assignment) (points : ℕ → Option (Point B)) : Type 0 where
       pub root_there : (c : ℕ) × (p : Point B) × (points c ≡ Some p) × (p.name ≡ root.name)
-      pub meant : (c : ℕ) (p : Point B) → points c ≡ Some p → (t : Task B) × SomeTask t × SomePoint t p
+      pub meant : (c : ℕ) (p : Point B) → points c ≡ Some p → (t : Task B) × IsSomeTask t × IsSomePoint t p
       pub stopped : (c : ℕ) (p : Point B) → points c ≡ Some p → HasStopped E p
-      pub forked : (c : ℕ) (p : Point B) (k : Task B) → points c ≡ Some p → In k p.children
+      pub forked : (c : ℕ) (p : Point B) (k : Task B) → points c ≡ Some p → IsIn k p.children
           → (d : ℕ) × (r : Point B) × (points d ≡ Some r) × (r.name ≡ k.name)
-      pub written : (c : ℕ) (p : Point B) (q : Name) (e : Entry) → points c ≡ Some p → In (q, e) p.writes
+      pub written : (c : ℕ) (p : Point B) (q : Name) (e : Entry) → points c ≡ Some p → IsIn (q, e) p.writes
           → (x : Entry) × (E q ≡ Some x)
       pub entered : (q : Name) (e : Entry) → E q ≡ Some e → (n : ℕ) × (given strict asks then left root n q ≡ Some e)

@@ -63,5 +63,5 @@ module _ {B : Type 0} (strict : Bool) (asks : B → Answer → Ask B) (then : B 
     meaning N = map (history strict asks then left (given (last_round N))) (tasks (last_round N))
 
     -- the meaning needs more than N cells
-    abbrev pub Full : ℕ → Type 0
-    Full N = N < length (cells (last_round N))
+    abbrev pub IsFull : ℕ → Type 0
+    IsFull N = N < length (cells (last_round N))

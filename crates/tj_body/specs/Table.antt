@@ -5,7 +5,7 @@ use Rattle.std.specs.List.{list_all}
 use Rattle.tj_base.specs.declared.value.Pay.{Pay}
 use Rattle.tj_base.specs.declared.value.Pay.TheVariants as pay
 use Rattle.tj_base.specs.declared.cause.Trouble.TheVariants as trouble
-use Rattle.tj_body.specs.Asks.{Await, begin, over, new_places, awaited, most_passed}
+use Rattle.tj_body.specs.Asks.{Await, begin, nothing, new_places, awaited, most_passed}
 use Rattle.tj_body.specs.declared.ask.Answer.{Answer}
 use Rattle.tj_body.specs.declared.ask.Ask.{Ask}
 use Rattle.tj_body.specs.declared.ask.Ask.TheVariants as ask
@@ -46,7 +46,7 @@ if_placed false x = ask.Fail trouble.Kind
 
 -- the body that gives the rows of another list of the same table, for a task with n places
 abbrev pub body_at : TableBody → ℕ → ℕ → TableBody
-body_at b list n = record b { list = list; at = 0; places = n }
+body_at b list n = record b { list = list; row = 0; places = n }
 
 -- what the row asks where the task has n places
 abbrev pub row_ask : TableBody → ℕ → Row → Ask TableBody
@@ -61,6 +61,10 @@ row_ask b n (row.JoinOr k) = if_placed (nat_lt k n) (ask.JoinOr k)
 row_ask b n (row.Emit i) = ask.Emit i
 row_ask b n (row.End v) = if_placed (is_paid n v) (ask.End v)
 row_ask b n (row.Fail t) = ask.Fail t
+
+-- the table of which the body is
+abbrev pub lists_of : TableBody → List (List Row)
+lists_of b = b.lists.now
 
 -- the rows that the body gives
 abbrev pub rows_of : TableBody → List Row
@@ -80,14 +84,14 @@ abbrev pub table_places : TableBody → ℕ
 table_places b = b.places
 
 abbrev pub table_asks : TableBody → Answer → Ask TableBody
-table_asks b a = ask_at b (b.places + new_places a) b.at
+table_asks b a = ask_at b (b.places + new_places a) b.row
 
 abbrev pub table_then : TableBody → Answer → TableBody
-table_then b a = record b { at = suc b.at; places = b.places + new_places a }
+table_then b a = record b { row = suc b.row; places = b.places + new_places a }
 
 -- at most so many rows are left, and the End
 abbrev pub table_left : TableBody → ℕ
-table_left b = suc (length (rows_of b)) - b.at
+table_left b = suc (length (rows_of b)) - b.row
 
 -- what is awaited after k rows, the last of them asked with the places that the task has now
 abbrev pub await_after : TableBody → ℕ → Await
@@ -96,11 +100,11 @@ await_after b (suc k) = awaited (ask_at b b.places k)
 
 -- whether the body is one of a table, and has not given its End yet
 abbrev pub is_under_way : TableBody → Bool
-is_under_way b = is_table b.lists.now && nat_lt b.list (length b.lists.now) && nat_le b.at (length (rows_of b))
+is_under_way b = is_table b.lists.now && nat_lt b.list (length b.lists.now) && nat_le b.row (length (rows_of b))
 
 -- a body that isn't under way awaits nothing
 abbrev pub table_awaits : TableBody → Await
-table_awaits b = cond (is_under_way b) (await_after b b.at) over
+table_awaits b = cond (is_under_way b) (await_after b b.row) nothing
 
 -- Whole lists of asks: what a body asks, one ask for each answer.
 abbrev pub asks_given : {B : Type 0} → (B → Answer → Ask B) → (B → Answer → B) → B → List Answer → List (Ask B)
@@ -117,3 +121,7 @@ asks_of_rows b n (r ∷ rs) (a ∷ rest) = row_ask b (n + new_places a) r ∷ as
 abbrev pub GivesRows : TableBody → ℕ → List Row → Type 0
 GivesRows b n rows = (answers : List Answer)
     → asks_given table_asks table_then b answers ≡ asks_of_rows b n rows answers
+
+-- each body of the table gives the rows of its list
+abbrev pub GivesTable : TableBody → Type 0
+GivesTable b = (list n : ℕ) → GivesRows (body_at b list n) n (get_or (lists_of b) list [])

@@ -11,6 +11,6 @@ mod tests;
 pub use ask::{Answer, Ask};
 pub use body::Body;
 pub use point::{
-    Close, Entry, EntryList, Point, Reference, ReferenceList, Stage, Task, TaskList, Value,
+    Close, Entry, EntryList, Point, PointStage, Reference, ReferenceList, Task, TaskList, Value,
 };
 pub use table::{Row, RowList, TableBody};

@@ -38,7 +38,7 @@ pub enum Close {
 
 /// Where a task stands between two of its asks.
 #[derive(Debug, PartialEq, Eq, Drop)]
-pub enum Stage {
+pub enum PointStage {
     /// The body is to be given this answer.
     Answered(Answer),
     /// The task waits for the cell. Where `spare` is true a broken cell is answered by `Lost`.
@@ -66,7 +66,7 @@ pub type TaskList<B> = Items<Task<B>>;
 pub struct Point<B> {
     pub name: Name,
     pub body: B,
-    pub stage: Stage,
+    pub stage: PointStage,
     /// The task itself, what it was passed, and what came to it since.
     pub references: ReferenceList,
     /// The promises that it owns. Until it ends it also owns its result.

@@ -48,27 +48,30 @@ pub type RowList = Items<Row>;
 pub struct TableBody<'s> {
     lists: &'s [RowList],
     list: u32,
-    at: u32,
+    row: u32,
     places: u32,
 }
 
 impl<'s> TableBody<'s> {
     ghost use Rattle.tj_body.specs.Asks.{IsFresh, most_passed};
-    ghost use Rattle.tj_body.specs.Table.{is_table, is_row, rows_of, row_ask, GivesRows};
+    ghost use Rattle.tj_body.specs.Table.{is_table, is_row, lists_of, rows_of, body_at, row_ask, GivesTable};
     ghost use Rattle.tj_body.specs.Table.{table_places, table_awaits, table_left};
     ghost use Rattle.tj_body.specs.declared.table.Row.TheVariants as Row;
 
-    /// The body that gives the rows of the list with number `at`, for a task with one place.
-    pub fn new(lists: &'s [RowList], at: u32) -> TableBody<'s>
-        requires at { at < length lists.now }
-        requires table { IsTrue (is_table lists.now) }
+    /// The body that gives the rows of the list with number `at`, for a task with one place. A
+    /// Fork row's body is that of the same lists which gives the rows of the row's list.
+    pub fn new(rows: &'s [RowList], at: u32) -> TableBody<'s>
+        requires at { at < length rows.now }
+        requires table { IsTrue (is_table rows.now) }
         ensures fresh { IsFresh table_places table_awaits table_left 1 result }
-        ensures rows { GivesRows result 1 (get_or lists.now at []) }
+        ensures table { lists_of result ≡ rows.now }
+        ensures list { result ≡ body_at result at 1 }
+        ensures rows { GivesTable result }
     {
         TableBody {
-            lists,
+            lists: rows,
             list: at,
-            at: 0,
+            row: 0,
             places: 1,
         }
     }
@@ -118,7 +121,7 @@ impl<'s> TableBody<'s> {
         let body = TableBody {
             lists: self.lists,
             list,
-            at: 0,
+            row: 0,
             places: pass.items().len() as u32 + 1,
         };
         Ok(Ask::Fork {
@@ -191,8 +194,8 @@ impl<'s> Body for TableBody<'s> {
 
     fn next(&mut self, alloc: Global, a: Answer) -> Result<Ask<Self>, Oom> {
         let rows = self.rows();
-        let at = self.at as usize;
-        self.at += 1;
+        let at = self.row as usize;
+        self.row += 1;
         self.places += new_places(a);
         if at < rows.len() {
             self.ask(alloc, &rows[at])
@@ -206,7 +209,7 @@ impl<'s> Body for TableBody<'s> {
         Ok(TableBody {
             lists: self.lists,
             list: self.list,
-            at: self.at,
+            row: self.row,
             places: self.places,
         })
     }

@@ -8,4 +8,5 @@ use Rattle.tj_body.proofs.table.TableBody.ask.Goals as goal
 pub fork-requires : goal.fork-requires
 fork-requires c = let lists = length c.args.self.now.lists.now in
     let row = subst (λ z. is_row lists z ≡ true) c.in-Fork.is c.requires.row in
-    record { few = leb-true (length c.in-Fork.pass) most_passed (second_so (nat_lt c.in-Fork.list lists) (nat_le (length c.in-Fork.pass) most_passed) row) }
+    let l = nat_lt c.in-Fork.list lists in let f = nat_le (length c.in-Fork.pass) most_passed in
+    record { few = leb-true (length c.in-Fork.pass) most_passed (second_so l f row) }
