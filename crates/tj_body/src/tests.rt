@@ -4,6 +4,7 @@ ghost use Rattle.tj_body.specs.Table.{is_row, is_table};
 
 use crate::{Answer, Ask, Body, Row, RowList, TableBody};
 use std::alloc::Global;
+use std::process::Abort;
 use std::test::Fail;
 use tj_base::{Items, Oom, Pay, PlaceList, Trouble};
 
@@ -23,66 +24,104 @@ fn table(alloc: Global, row: Row) -> Result<[RowList; 1], Oom>
     Ok([Items::of(rows)])
 }
 
+/// Asserts what a table's one row asks, of a task that has the place 0 alone.
+fn asks(
+    rt: &impl Abort,
+    alloc: Global,
+    shows: &str,
+    row: Row,
+    expected: Ask<TableBody>,
+) -> Result<(), Oom>
+    requires { IsTrue (is_row 1 row) }
+{
+    let lists = table(alloc, row)?;
+    let mut body = TableBody::new(&lists, 0);
+    let ask = body.next(alloc, Answer::Start)?;
+    assert!(rt; ask == expected, "{shows}");
+    Ok(())
+}
+
 #[test]
 fn each_row_is_asked(rt: HostRuntime) -> Result<(), Fail> {
     let alloc = rt.alloc();
-    let rows = [
-        ("a promise", Row::New, Ask::New),
-        (
-            "a set",
-            Row::Set {
-                p: 0,
-                v: Pay::Num(5),
-            },
-            Ask::Set {
-                p: 0,
-                v: Pay::Num(5),
-            },
-        ),
-        ("a get", Row::Get { p: 0 }, Ask::Get { p: 0 }),
-        ("a join", Row::Join { t: 0 }, Ask::Join { t: 0 }),
-        ("a get or", Row::GetOr { p: 0 }, Ask::GetOr { p: 0 }),
-        ("a join or", Row::JoinOr { t: 0 }, Ask::JoinOr { t: 0 }),
-        ("a print", Row::Emit(8), Ask::Emit(8)),
-        ("an end", Row::End(Pay::Ref(0)), Ask::End(Pay::Ref(0))),
-        (
-            "a fault",
-            Row::Fail(Trouble::Arith),
-            Ask::Fail(Trouble::Arith),
-        ),
-        (
-            "a set of a place too many",
-            Row::Set {
-                p: 1,
-                v: Pay::Num(5),
-            },
-            Ask::Fail(Trouble::Kind),
-        ),
-        (
-            "a set to a place too many",
-            Row::Set {
-                p: 0,
-                v: Pay::Ref(1),
-            },
-            Ask::Fail(Trouble::Kind),
-        ),
-        (
-            "a get of a place too many",
-            Row::Get { p: 1 },
-            Ask::Fail(Trouble::Kind),
-        ),
-        (
-            "an end with a place too many",
-            Row::End(Pay::Ref(1)),
-            Ask::Fail(Trouble::Kind),
-        ),
-    ];
-    for (shows, row, expected) in rows {
-        let lists = table(alloc, row)?;
-        let mut body = TableBody::new(&lists, 0);
-        let ask = body.next(alloc, Answer::Start)?;
-        assert!(rt; ask == expected, "{shows}");
-    }
+    let num = Pay::Num(5);
+    asks(&rt, alloc, "new", Row::New, Ask::New)?;
+    asks(
+        &rt,
+        alloc,
+        "set",
+        Row::Set { p: 0, v: num },
+        Ask::Set { p: 0, v: num },
+    )?;
+    asks(&rt, alloc, "get", Row::Get { p: 0 }, Ask::Get { p: 0 })?;
+    asks(&rt, alloc, "join", Row::Join { t: 0 }, Ask::Join { t: 0 })?;
+    asks(
+        &rt,
+        alloc,
+        "get or",
+        Row::GetOr { p: 0 },
+        Ask::GetOr { p: 0 },
+    )?;
+    asks(
+        &rt,
+        alloc,
+        "join or",
+        Row::JoinOr { t: 0 },
+        Ask::JoinOr { t: 0 },
+    )?;
+    asks(&rt, alloc, "emit", Row::Emit(8), Ask::Emit(8))?;
+    asks(
+        &rt,
+        alloc,
+        "end",
+        Row::End(Pay::Ref(0)),
+        Ask::End(Pay::Ref(0)),
+    )?;
+    asks(
+        &rt,
+        alloc,
+        "fail",
+        Row::Fail(Trouble::Arith),
+        Ask::Fail(Trouble::Arith),
+    )?;
+    Ok(())
+}
+
+#[test]
+fn a_place_too_many_is_a_fault_of_kind(rt: HostRuntime) -> Result<(), Fail> {
+    let alloc = rt.alloc();
+    let num = Pay::Num(5);
+    asks(
+        &rt,
+        alloc,
+        "set",
+        Row::Set { p: 1, v: num },
+        Ask::Fail(Trouble::Kind),
+    )?;
+    asks(
+        &rt,
+        alloc,
+        "set to",
+        Row::Set {
+            p: 0,
+            v: Pay::Ref(1),
+        },
+        Ask::Fail(Trouble::Kind),
+    )?;
+    asks(
+        &rt,
+        alloc,
+        "join",
+        Row::Join { t: 1 },
+        Ask::Fail(Trouble::Kind),
+    )?;
+    asks(
+        &rt,
+        alloc,
+        "end",
+        Row::End(Pay::Ref(1)),
+        Ask::Fail(Trouble::Kind),
+    )?;
     Ok(())
 }
 
