@@ -113,7 +113,8 @@ impl<'s> TableBody<'s> {
         hand: &PlaceList,
     ) -> Result<Ask<TableBody<'s>>, Oom>
         requires few { length pass.now ≤ most_passed }
-        ensures { IfOk result (λ ask. ask ≡ row_ask self.now self.now.places (Row.Fork list pass.now hand.now)) }
+        ensures { let row = Row.Fork list pass.now hand.now in
+            IfOk result (λ ask. ask ≡ row_ask self.now self.now.places row) }
     {
         if !are_below(self.places, pass) || !are_below(self.places, hand) {
             return Ok(Ask::Fail(Trouble::Kind));
@@ -204,8 +205,7 @@ impl<'s> Body for TableBody<'s> {
         }
     }
 
-    fn twin(&self, alloc: Global) -> Result<Self, Oom> {
-        let _ = alloc;
+    fn twin(&self, _alloc: Global) -> Result<Self, Oom> {
         Ok(TableBody {
             lists: self.lists,
             list: self.list,

@@ -1,4 +1,4 @@
-use Rattle.std.proofs.Common.{◌≡◌, ◌+◌, ◌<◌, ◌≤◌, length, get_or, subst, ap, ◌∙◌}
+use Rattle.std.proofs.Common.{arith, ◌≡◌, ◌+◌, ◌<◌, ◌≤◌, length, get_or, subst, ap, ◌∙◌}
 use Rattle.std.specs.Prelude.{IfOk}
 use Rattle.tj_body.specs.Asks.{new_places}
 use Rattle.tj_body.specs.Table.{rows_of, row_ask}
@@ -10,7 +10,8 @@ use Rattle.tj_body.proofs.table.TableBodyBody.next.Goals.{After-index-rows-at}
 module _ (c : After-index-rows-at) where
   -- the row at the index is one of the body's rows
   in_rows : c.args.self.now.row < length (rows_of c.args.self.now)
-  in_rows = subst (λ z. c.args.self.now.row < length z) c.rows-rows.ensures c.if-at-rows.true
+  in_rows = let l : c.args.self.now.row < length c.rows-rows.result.now = omega arith in
+      subst (λ z. c.args.self.now.row < length z) c.rows-rows.ensures l
 
   is_that_row : c.index-rows-at.result ≡ get_or (rows_of c.args.self.now) c.args.self.now.row c.index-rows-at.result
   is_that_row = let r = c.index-rows-at.result in
@@ -31,5 +32,6 @@ returns-then-at-rows-clause-ask c = let b = c.args.self.now in let r = c.index-r
 
 pub returns-else-at-rows-clause-ask : goal.returns-else-at-rows-clause-ask
 returns-else-at-rows-clause-ask c = let b = c.args.self.now in
-    let past = subst (λ z. length z ≤ b.row) c.rows-rows.ensures c.if-at-rows.false in
+    let l : length c.rows-rows.result.now ≤ b.row = omega arith in
+    let past = subst (λ z. length z ≤ b.row) c.rows-rows.ensures l in
     ask_at-past b b.row (b.places + new_places c.args.a) past
