@@ -1,2 +1,10 @@
 mod Example
 pub mod Rows
+pub mod Lists
+pub mod Counts
+pub mod Grows
+pub mod Accounts
+pub mod Prefixes
+pub mod Families
+pub mod Good
+pub mod Points

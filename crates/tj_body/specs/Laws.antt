@@ -1,5 +1,6 @@
 -- The laws of histories and of rounds.
-use Rattle.std.specs.Prelude.{◌≡◌, ◌↔◌, ℕ, suc, ◌<◌, ◌≤◌, ◌*◌, Bool, List, [], ◌∷◌, map, length, Option, Some}
+use Rattle.std.specs.Prelude.{◌≡◌, ◌↔◌, ℕ, suc, ◌<◌, ◌≤◌, ◌*◌, Bool, List, [], ◌∷◌, map, length}
+use Rattle.std.specs.Prelude.{Option, Some, None}
 use Rattle.tj_base.specs.ForkOrder.{Name}
 use Rattle.tj_body.specs.Asks.{Await}
 use Rattle.tj_body.specs.History.{Assignment, owned, after_read, after_ask, history}
@@ -87,32 +88,38 @@ module _ {B : Type 0} (asks : B → Answer → Ask B) (then : B → Answer → B
     abbrev pub Grows : Type 0
     Grows = (n m : ℕ) → n ≤ m → Has m n
 
-    -- no cell of a round stands twice, and no cell has two entries; what has an entry is a cell
+    -- no cell of a round stands twice, no cell has two entries, and what has an entry is a cell
     abbrev pub IsApart : Type 0
     IsApart = (n : ℕ) → AreDistinct (cells_of n) × AreDistinct (map (λ w. w.0) (entries_of n))
-        × ((q : Name) (e : Entry) → IsIn (q, e) (entries_of n) → assignment_of n q ≡ Some e)
+        × ((q : Name) (e : Entry) → IsIn (q, e) (entries_of n) ↔ (assignment_of n q ≡ Some e))
         × ((q : Name) (e : Entry) → assignment_of n q ≡ Some e → IsIn q (cells_of n))
 
-    -- no cell is owned by two tasks of a round
-    abbrev pub OwnsApart : Type 0
-    OwnsApart = (n : ℕ) (t u : Task B) (q : Name) → IsIn t (tasks_of (suc n)) → IsIn u (tasks_of (suc n))
-        → IsIn q (owned (history_of (assignment_of n) t)) → IsIn q (owned (history_of (assignment_of n) u)) → t ≡ u
+    -- no two tasks, of one round or of two, have one name
+    abbrev pub NamesApart : Type 0
+    NamesApart = (n m : ℕ) (t u : Task B) → IsIn t (tasks_of n) → IsIn u (tasks_of m) → t.name ≡ u.name → t ≡ u
 
-    -- all rounds from n + 1 on are equal
+    -- no cell is owned by two tasks of a round, under its assignment or that of the round before; and what is owned
+    -- has no entry in the next round
+    abbrev pub OwnsApart : Type 0
+    OwnsApart = (n m : ℕ) (t u : Task B) (q : Name) → n ≤ suc m → IsIn t (tasks_of n) → IsIn u (tasks_of n)
+        → IsIn q (owned (history_of (assignment_of m) t)) → IsIn q (owned (history_of (assignment_of m) u))
+        → (t ≡ u) × (assignment_of (suc m) q ≡ None)
+
+    -- from round n on the assignment stays, and so do the tasks, the entries and the cells from the next round on
     abbrev pub IsSettledAt : ℕ → Type 0
-    IsSettledAt n = (m : ℕ) → suc n ≤ m
-        → (assignment_of m ≡ assignment_of (suc n)) × (tasks_of (suc m) ≡ tasks_of (suc (suc n)))
-        × (entries_of (suc m) ≡ entries_of (suc (suc n))) × (cells_of (suc m) ≡ cells_of (suc (suc n)))
+    IsSettledAt n = (m : ℕ) → n ≤ m
+        → (assignment_of m ≡ assignment_of n) × (tasks_of (suc m) ≡ tasks_of (suc n))
+        × (entries_of (suc m) ≡ entries_of (suc n)) × (cells_of (suc m) ≡ cells_of (suc n))
 
     -- a round with the tasks and the entries of the one before equals all later ones
     abbrev pub IsSettledWhereSame : Type 0
-    IsSettledWhereSame = (n : ℕ) → ((t : Task B) → IsIn t (tasks_of (suc (suc n))) → IsIn t (tasks_of (suc n)))
-        → IsWithin (assignment_of (suc (suc n))) (assignment_of (suc n)) → IsSettledAt n
+    IsSettledWhereSame = (n : ℕ) → ((t : Task B) → IsIn t (tasks_of (suc n)) → IsIn t (tasks_of n))
+        → IsWithin (assignment_of (suc n)) (assignment_of n) → IsSettledAt n
 
     -- and so does one with no more tasks and no more entries than the one before
     abbrev pub IsSettledWhereNoMore : Type 0
-    IsSettledWhereNoMore = (n : ℕ) → length (tasks_of (suc (suc n))) ≤ length (tasks_of (suc n))
-        → length (entries_of (suc (suc n))) ≤ length (entries_of (suc n)) → IsSettledAt n
+    IsSettledWhereNoMore = (n : ℕ) → length (tasks_of (suc n)) ≤ length (tasks_of n)
+        → length (entries_of (suc n)) ≤ length (entries_of n) → IsSettledAt n
 
     -- some round has more than N cells exactly where the meaning with limit N is full
     abbrev pub IsFullExactly : Type 0

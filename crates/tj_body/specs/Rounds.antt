@@ -58,7 +58,8 @@ module _ {B : Type 0} (strict : Bool) (asks : B → Answer → Ask B) (then : B 
     cells zero = []
     cells (suc n) = flat_map (cells_by (given n)) (tasks (suc n))
 
-    -- the meaning with limit N: each task's history in that round, under that round's assignment
+    -- the meaning with limit N: each task's history under the assignment of that round; where the meaning isn't full,
+    -- that is the assignment of the round before too, under which the round's entries and cells were made
     abbrev pub meaning : ℕ → List (Point B)
     meaning N = map (history strict asks then left (given (last_round N))) (tasks (last_round N))
 

@@ -3,6 +3,7 @@
 
 mod ask;
 mod body;
+mod laws;
 mod point;
 mod table;
 #[cfg(test)]
@@ -10,6 +11,9 @@ mod tests;
 
 pub use ask::{Answer, Ask};
 pub use body::Body;
+pub use laws::{
+    history_is_determined, history_is_monotone, history_stops, point_asks_on, points_are_good,
+};
 pub use point::{
     Close, Entry, EntryList, Point, PointStage, Reference, ReferenceList, Task, TaskList, Value,
 };
