@@ -8,3 +8,6 @@ pub mod Prefixes
 pub mod Families
 pub mod Good
 pub mod Points
+pub mod Rises
+pub mod Settles
+pub mod Keeps

@@ -1,7 +1,9 @@
 //! The laws of histories and rounds. A proof that needs one calls its function, which does nothing,
 //! and cites what the call ensures.
 ghost use Rattle.tj_body.specs.Laws.{HoldsOfPrograms, HoldsOfTasks, IsDetermined, Stops, IsMonotone};
-ghost use Rattle.tj_body.specs.Laws.{AsksOn, IsAllGood};
+ghost use Rattle.tj_body.specs.Laws.{AsksOn, IsAllGood, Grows, IsApart, NamesApart, OwnsApart};
+ghost use Rattle.tj_body.specs.Laws.{IsSettledWhereSame, IsSettledWhereNoMore, IsFullExactly};
+ghost use Rattle.tj_body.specs.Laws.{IsFullWhere, IsLast, ReadsOn, IsKept};
 
 use crate::body::Body;
 
@@ -28,4 +30,59 @@ pub fn point_asks_on<B: Body>()
 /// Each task of a round is as forks make them, and can go on from each of its points.
 pub fn points_are_good<B: Body>()
     ensures { HoldsOfPrograms B.places B.awaits B.left (IsAllGood B.places B.awaits B.left B.asks B.then) }
+{}
+
+/// A later round has the tasks, the entries and the cells of an earlier one.
+pub fn rounds_grow<B: Body>()
+    ensures { HoldsOfPrograms B.places B.awaits B.left (Grows B.asks B.then B.left) }
+{}
+
+/// No cell of a round stands twice or has two entries, and what has an entry is a cell.
+pub fn cells_are_apart<B: Body>()
+    ensures { HoldsOfPrograms B.places B.awaits B.left (IsApart B.asks B.then B.left) }
+{}
+
+/// No two tasks have one name.
+pub fn names_are_apart<B: Body>()
+    ensures { HoldsOfPrograms B.places B.awaits B.left (NamesApart B.asks B.then B.left) }
+{}
+
+/// No cell is owned by two tasks of a round, and what is owned has no entry.
+pub fn owners_are_apart<B: Body>()
+    ensures { HoldsOfPrograms B.places B.awaits B.left (OwnsApart B.asks B.then B.left) }
+{}
+
+/// A round with the tasks and the entries of the one before equals all later ones.
+pub fn round_settles_where_same<B: Body>()
+    ensures { HoldsOfPrograms B.places B.awaits B.left (IsSettledWhereSame B.asks B.then B.left) }
+{}
+
+/// A round with no more tasks and no more entries than the one before equals all later ones.
+pub fn round_settles_where_no_more<B: Body>()
+    ensures { HoldsOfPrograms B.places B.awaits B.left (IsSettledWhereNoMore B.asks B.then B.left) }
+{}
+
+/// Some round has more than N cells exactly where the meaning with limit N is full.
+pub fn full_exactly<B: Body>()
+    ensures { HoldsOfPrograms B.places B.awaits B.left (IsFullExactly B.asks B.then B.left) }
+{}
+
+/// The meaning is full where more than N names, none of them twice, are those of cells.
+pub fn full_where_names<B: Body>()
+    ensures { HoldsOfPrograms B.places B.awaits B.left (IsFullWhere B.asks B.then B.left) }
+{}
+
+/// Where the meaning isn't full, its round has all that any round has.
+pub fn meaning_is_last<B: Body>()
+    ensures { HoldsOfPrograms B.places B.awaits B.left (IsLast B.asks B.then B.left) }
+{}
+
+/// A point under one round that reads an entry of another is a point under each later than both.
+pub fn point_reads_on<B: Body>()
+    ensures { HoldsOfPrograms B.places B.awaits B.left (ReadsOn B.asks B.then B.left) }
+{}
+
+/// What a point has written, made and forked is in the round of its task, or in the next one.
+pub fn point_is_kept<B: Body>()
+    ensures { HoldsOfPrograms B.places B.awaits B.left (IsKept B.asks B.then B.left) }
 {}
