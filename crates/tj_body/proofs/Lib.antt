@@ -11,3 +11,4 @@ pub mod Points
 pub mod Rises
 pub mod Settles
 pub mod Keeps
+pub mod Rests

@@ -3,7 +3,7 @@
 ghost use Rattle.tj_body.specs.Laws.{HoldsOfPrograms, HoldsOfTasks, IsDetermined, Stops, IsMonotone};
 ghost use Rattle.tj_body.specs.Laws.{AsksOn, IsAllGood, Grows, IsApart, NamesApart, OwnsApart};
 ghost use Rattle.tj_body.specs.Laws.{IsSettledWhereSame, IsSettledWhereNoMore, IsFullExactly};
-ghost use Rattle.tj_body.specs.Laws.{IsFullWhere, IsLast, ReadsOn, IsKept};
+ghost use Rattle.tj_body.specs.Laws.{IsFullWhere, IsLast, ReadsOn, IsKept, RestsAtMeaning};
 
 use crate::body::Body;
 
@@ -85,4 +85,9 @@ pub fn point_reads_on<B: Body>()
 /// What a point has written, made and forked is in the round of its task, or in the next one.
 pub fn point_is_kept<B: Body>()
     ensures { HoldsOfPrograms B.places B.awaits B.left (IsKept B.asks B.then B.left) }
+{}
+
+/// What stands at rest, with at most N cells, is the meaning with limit N.
+pub fn rest_is_meaning<B: Body>()
+    ensures { HoldsOfPrograms B.places B.awaits B.left (RestsAtMeaning B.asks B.then B.left) }
 {}
