@@ -8,8 +8,10 @@ use Rattle.tj_base.specs.declared.cell.Sort.TheVariants as sort
 use Rattle.tj_base.specs.declared.cause.Cause.{Cause}
 use Rattle.tj_base.specs.declared.cause.Cause.TheVariants as cause
 use Rattle.tj_body.specs.Names.{has, in_order}
-use Rattle.tj_body.specs.History.{Assignment, reference, reference_at, value_at, with_entry, hand_all, owned_in, owned}
-use Rattle.tj_body.specs.History.{after_close, after_new, cause_of, next_name, next_child, after_try_fork, after_write, after_set, after_get, after_join}
+use Rattle.tj_body.specs.History.{Assignment, reference, reference_at, value_at, with_entry, hand_all, owned_in}
+use Rattle.tj_body.specs.History.{owned}
+use Rattle.tj_body.specs.History.{after_close, after_new, cause_of, next_name, next_child, after_try_fork}
+use Rattle.tj_body.specs.History.{after_write, after_set, after_get, after_join}
 use Rattle.tj_body.specs.History.{after_read, after_look, after_ask, after_stage, point_after}
 use Rattle.tj_body.specs.declared.ask.Answer.{Answer}
 use Rattle.tj_body.specs.declared.ask.Ask.{Ask}
@@ -34,7 +36,8 @@ numbered x zero = []
 numbered x (suc k) = child x (suc k) ∷ numbered x k
 
 names_of : (x : Name) (references : List Reference) (l : List ℕ)
-    → map (λ (r : Reference). r.name) (map (reference_at x references) l) ≡ map (λ k. (reference_at x references k).name) l
+    → map (λ (r : Reference). r.name) (map (reference_at x references) l)
+    ≡ map (λ k. (reference_at x references k).name) l
 names_of x references [] = refl
 names_of x references (k ∷ ks) = ap (λ z. (reference_at x references k).name ∷ z) (names_of x references ks)
 
@@ -79,7 +82,8 @@ module _ {B : Type 0} (q : Name) (f : Name → ℕ) where
     gets spare sort.Task c p o = closes (close.Failed cause.Kind) entry.Broken p o
     gets spare sort.Promise c p o = o
 
-    joins : (strict spare : Bool) (s : Sort) (c : Name) (p : Point B) → IsOpen h p → IsFair h (after_join strict spare s c p)
+    joins : (strict spare : Bool) (s : Sort) (c : Name) (p : Point B) → IsOpen h p
+        → IsFair h (after_join strict spare s c p)
     joins strict spare sort.Task c p o =
         chosen (strict && not (before p.name c)) _ _ (closes (close.Failed (cause.Order c)) entry.Broken p o) o
     joins strict spare sort.Promise c p o = closes (close.Failed cause.Kind) entry.Broken p o

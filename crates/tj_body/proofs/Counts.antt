@@ -1,6 +1,7 @@
 -- How often a name stands in lists.
 use Rattle.std.proofs.Common.{◌≡◌, ℕ, zero, suc, ◌+◌, ◌≤◌, Bool, true, false, cond, nat_eq, ◌&&◌, ◌||◌, ◌⊎◌, inl, inr}
-use Rattle.std.proofs.Common.{List, [], ◌∷◌, ◌++◌, map, length, Ok, refl, sym, ap, ◌∙◌, subst, arith, eqb-true, eq-eqb}
+use Rattle.std.proofs.Common.{List, [], ◌∷◌, ◌++◌, map, length, Ok, refl, sym, ap, ◌∙◌, subst, arith, eqb-true}
+use Rattle.std.proofs.Common.{eq-eqb}
 use native.Mathlib.Decide.{dec_le}
 use mathlib.Core.Logic.{dite}
 use Rattle.std.specs.List.{flat_map}
@@ -72,7 +73,8 @@ module _ {A : Type 0} where
   total_in f x (y ∷ ys) (inr i) = let h = total_in f x ys i in omega arith
 
   -- at most one item of a list counts
-  pub total_one : (f : A → ℕ) (l : List A) → total f l ≤ 1 → (x y : A) → IsIn x l → IsIn y l → 1 ≤ f x → 1 ≤ f y → x ≡ y
+  pub total_one : (f : A → ℕ) (l : List A) → total f l ≤ 1 → (x y : A) → IsIn x l → IsIn y l → 1 ≤ f x → 1 ≤ f y
+      → x ≡ y
   total_one f [] h x y i j a b = absurd i
   total_one f (z ∷ zs) h x y (inl i) (inl j) a b = i ∙ sym j
   total_one f (z ∷ zs) h x y (inl i) (inr j) a b =
@@ -173,7 +175,8 @@ times_of_in q (x ∷ xs) (inr i) = let r = times_of_in q xs i in omega arith
 -- what stands at most once in a list, and stands in another, stands no more often
 pub at_least : (q : Name) (l m : List Name) → times q l ≤ 1 → (IsIn q l → IsIn q m) → times q l ≤ times q m
 at_least q l m a h =
-    dite (dec_le 1 (times q l)) (λ z. let b = times_of_in q m (h (in_of_times q l z)) in omega arith) (λ z. omega arith)
+    dite (dec_le 1 (times q l))
+    (λ z. let b = times_of_in q m (h (in_of_times q l z)) in omega arith) (λ z. omega arith)
 
 -- no name twice: each stands at most once
 pub distinct_of_times : (l : List Name) → ((q : Name) → times q l ≤ 1) → AreDistinct l

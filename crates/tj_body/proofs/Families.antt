@@ -36,7 +36,8 @@ module _ {B : Type 0} (strict : Bool) (asks : B → Answer → Ask B) (then : B 
     abbrev pub makes : Task B → ℕ
     makes t = times q (cells_by strict asks then left V t)
 
-    used_of : (t : Task B) → uses t + total (λ (c : Task B). times q c.handed) (H t).children ≡ times q t.handed + makes t
+    used_of : (t : Task B)
+        → uses t + total (λ (c : Task B). times q c.handed) (H t).children ≡ times q t.handed + makes t
     used_of t =
         let a = (fair q (under q) strict asks then V (2 * suc (left t.body)) t).0 in
         let n : is q (H t).name ≡ is q t.name = ap (is q) (same_name V t) in

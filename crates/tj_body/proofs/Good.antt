@@ -9,10 +9,12 @@ use Rattle.tj_base.specs.declared.cell.Sort.TheVariants as sort
 use Rattle.tj_base.specs.declared.cause.Cause.{Cause}
 use Rattle.tj_base.specs.declared.cause.Cause.TheVariants as cause
 use Rattle.tj_body.specs.Names.{has}
-use Rattle.tj_body.specs.Asks.{Await, place, done, cell, cell_or, Fits, awaited, Ends, most_passed, IsFresh, IsPlaced, Obeys}
+use Rattle.tj_body.specs.Asks.{Await, place, done, cell, cell_or, Fits, awaited, Ends, most_passed, IsFresh, IsPlaced}
+use Rattle.tj_body.specs.Asks.{Obeys}
 use Rattle.tj_body.specs.History.{Assignment, to_task, to_promise, next_name, reference, reference_at, after_close}
 use Rattle.tj_body.specs.History.{after_failure, after_new}
-use Rattle.tj_body.specs.History.{after_try_fork, after_write, with_wait, next_child, after_set, after_get, after_join}
+use Rattle.tj_body.specs.History.{after_try_fork, after_write, with_wait, next_child, after_set, after_get}
+use Rattle.tj_body.specs.History.{after_join}
 use Rattle.tj_body.specs.History.{after_emit, after_read, after_look, after_ask, after_stage, point_after, history}
 use Rattle.tj_body.specs.Rounds.{family, given, tasks}
 use Rattle.tj_body.specs.Points.{IsIn, cell_if, most_places, IsProper, MayAnswer, MayWait, IsGoodAt, IsGood}
@@ -37,7 +39,8 @@ use Rattle.tj_body.proofs.Lists.{in_either, from_flat_map}
 pub not_last : {A : Type 0} → ⊥ ⊎ A → A
 not_last h = ⊎_elim (λ x. absurd x) (λ x. x) h
 
-map_length : (x : Name) (references : List Reference) (l : List ℕ) → length (map (reference_at x references) l) ≡ length l
+map_length : (x : Name) (references : List Reference) (l : List ℕ)
+    → length (map (reference_at x references) l) ≡ length l
 map_length x references [] = refl
 map_length x references (k ∷ ks) = ap suc (map_length x references ks)
 

@@ -1,12 +1,14 @@
 -- A history only grows, step by step, and under a larger assignment.
-use Rattle.std.proofs.Common.{◌≡◌, ℕ, zero, suc, Bool, true, false, not, cond, ◌&&◌, ◌⊎◌, inl, inr, ⊎_elim, List, ◌++◌}
+use Rattle.std.proofs.Common.{◌≡◌, ℕ, zero, suc, Bool, true, false, not, cond, ◌&&◌, ◌⊎◌, inl, inr, ⊎_elim, List}
+use Rattle.std.proofs.Common.{◌++◌}
 use Rattle.std.proofs.Common.{Option, Some, None, Result, Ok, Err, refl, sym, ap, ◌∙◌, subst}
 use Rattle.tj_base.specs.ForkOrder.{Name, before}
 use Rattle.tj_base.specs.declared.cell.Sort.{Sort}
 use Rattle.tj_base.specs.declared.cell.Sort.TheVariants as sort
 use Rattle.tj_base.specs.declared.cause.Cause.{Cause}
 use Rattle.tj_body.specs.Names.{has}
-use Rattle.tj_body.specs.History.{Assignment, start, after_try_fork, after_set, after_get, after_join, after_read, after_look, after_ask, after_stage, after_step, point_after}
+use Rattle.tj_body.specs.History.{Assignment, start, after_try_fork, after_set, after_get, after_join, after_read}
+use Rattle.tj_body.specs.History.{after_look, after_ask, after_stage, after_step, point_after}
 use Rattle.tj_body.specs.Points.{Begins, IsWithin, Extends}
 use Rattle.tj_body.specs.declared.ask.Answer.{Answer}
 use Rattle.tj_body.specs.declared.ask.Ask.{Ask}
@@ -163,7 +165,8 @@ module _ {B : Type 0} where
       same_or_waiting V W h (stage.Answered a) p g = inl refl
       same_or_waiting V W h (stage.Closed e) p g = inl refl
       same_or_waiting V W h (stage.Waits q spare) p g = by_entry (V q) refl where
-        by_entry : (o : Option Entry) → V q ≡ o → (after_look spare q (V q) p ≡ after_look spare q (W q) p) ⊎ IsWaiting V p
+        by_entry : (o : Option Entry) → V q ≡ o
+            → (after_look spare q (V q) p ≡ after_look spare q (W q) p) ⊎ IsWaiting V p
         by_entry None e = inr (q, spare, g, e)
         by_entry (Some x) e = inl (ap (λ z. after_look spare q z p) (e ∙ sym (h q x e)))
 

@@ -1,8 +1,8 @@
 -- What points of histories have in the rounds, and how they go on from one round to another.
-use Rattle.std.proofs.Common.{◌≡◌, ℕ, zero, suc, ◌+◌, ◌*◌, ◌≤◌, inl, inr, Bool, List, [], Some, refl, subst, arith}
+use Rattle.std.proofs.Common.{◌≡◌, ℕ, zero, suc, ◌*◌, ◌≤◌, inl, inr, Bool, List, [], Some, refl, subst, arith}
 use Rattle.tj_base.specs.ForkOrder.{Name}
 use Rattle.tj_body.specs.Asks.{Await, Obeys}
-use Rattle.tj_body.specs.History.{Assignment, start, after_read, history}
+use Rattle.tj_body.specs.History.{Assignment, after_read, history}
 use Rattle.tj_body.specs.Rounds.{family, writes_by, cells_by, given, tasks, cells}
 use Rattle.tj_body.specs.Points.{IsIn, IsWithin, IsProper, IsPointOf}
 use Rattle.tj_body.specs.declared.ask.Answer.{Answer}
@@ -36,7 +36,7 @@ module _ {B : Type 0} (strict : Bool) (asks : B → Answer → Ask B) (then : B 
       let x = from_flat_map (Fam V d) t (children V r) j in
       let m = more strict asks then V W h r (2 * suc (left r.body)) in
       inr (in_flat_map (Fam W (suc d)) x.0 c (children W r) (in_begins x.0 (children V r) (children W r) m.0 x.1)
-          (child_in V W h d x.0 t c x.2 i))
+      (child_in V W h d x.0 t c x.2 i))
 
   module _ (root : Task B) (alone : root.handed ≡ []) where
     abbrev V : ℕ → Assignment
@@ -62,8 +62,9 @@ module _ {B : Type 0} (strict : Bool) (asks : B → Answer → Ask B) (then : B 
     task_cell n t i = in_flat_map (cells_by strict asks then left (V n)) t t.name (Ts (suc n)) i (inl refl)
 
     module _ (places : B → ℕ) (awaits : B → Await)
-        (obeys : (b : B) (a : Answer) → Obeys places awaits left asks then b a) (proper : IsProper places awaits left root)
-        (n : ℕ) (t : Task B) (p : Point B) (there : IsIn t (Ts (suc n))) (of_t : IsPointOf strict asks then (V n) t p) where
+        (obeys : (b : B) (a : Answer) → Obeys places awaits left asks then b a)
+        (proper : IsProper places awaits left root) (n : ℕ) (t : Task B) (p : Point B)
+        (there : IsIn t (Ts (suc n))) (of_t : IsPointOf strict asks then (V n) t p) where
       proper_t : IsProper places awaits left t
       proper_t = task_proper places awaits left strict asks then obeys root proper (suc n) t there
 
@@ -74,7 +75,7 @@ module _ {B : Type 0} (strict : Bool) (asks : B → Answer → Ask B) (then : B 
           let H = history strict asks then left (V n) t in
           of_entries strict asks then left root alone (suc n) q e
           (in_flat_map (writes_by strict asks then left (V n)) t (q, e) (Ts (suc n)) there
-              (in_begins (q, e) p.writes H.writes g.1 w))
+          (in_begins (q, e) p.writes H.writes g.1 w))
 
       -- a promise that it has made is a cell of that round
       pub promised : (q : Name) → IsIn q p.promises → IsIn q (Cs (suc n))
@@ -89,6 +90,6 @@ module _ {B : Type 0} (strict : Bool) (asks : B → Answer → Ask B) (then : B 
       forked c i =
           let u = within strict asks then left root alone n (suc n) (omega arith) in
           let g = in_history strict asks then places awaits left obeys (V (suc n)) t proper_t p
-              (point_up strict asks then (V n) (V (suc n)) u t p of_t) in
+          (point_up strict asks then (V n) (V (suc n)) u t p of_t) in
           child_in (V n) (V (suc n)) u (suc n) root t c there
           (in_begins c p.children (children (V (suc n)) t) g.0 i)

@@ -1,5 +1,6 @@
 -- Points of histories, one step at a time, and where a history stops.
-use Rattle.std.proofs.Common.{◌≡◌, ℕ, zero, suc, ◌+◌, ◌*◌, ◌-◌, ◌<◌, ◌≤◌, Bool, true, false, not, ◌&&◌, ◌⊎◌, inl, inr, ⊎_elim}
+use Rattle.std.proofs.Common.{◌≡◌, ℕ, zero, suc, ◌+◌, ◌*◌, ◌-◌, ◌<◌, ◌≤◌, Bool, true, false, not, ◌&&◌, ◌⊎◌, inl, inr}
+use Rattle.std.proofs.Common.{⊎_elim}
 use Rattle.std.proofs.Common.{List, Option, Some, None, Result, Ok, Err, cond, refl, sym, ap, ◌∙◌, subst, arith}
 use native.Mathlib.Decide.{dec_le}
 use mathlib.Core.Logic.{dite}
@@ -9,7 +10,8 @@ use Rattle.tj_base.specs.declared.cell.Sort.TheVariants as sort
 use Rattle.tj_base.specs.declared.cause.Cause.{Cause}
 use Rattle.tj_body.specs.Names.{has}
 use Rattle.tj_body.specs.Asks.{Await, Ends, Obeys}
-use Rattle.tj_body.specs.History.{Assignment, after_try_fork, after_set, after_get, after_join, after_read, after_look}
+use Rattle.tj_body.specs.History.{Assignment, after_try_fork, after_set, after_get, after_join, after_read}
+use Rattle.tj_body.specs.History.{after_look}
 use Rattle.tj_body.specs.History.{after_ask, after_stage, after_step, point_after, history}
 use Rattle.tj_body.specs.Points.{IsWithin, IsProper, IsGoodAt, HasStopped, IsPointOf, weight_at, weight}
 use Rattle.tj_body.specs.declared.ask.Answer.{Answer}

@@ -1,11 +1,12 @@
 -- What stands at rest is the meaning.
-use Rattle.std.proofs.Common.{◌≡◌, ℕ, zero, suc, ◌+◌, ◌*◌, ◌-◌, ◌<◌, ◌≤◌, Bool, inl, inr, ⊎_elim, List, [], Option, Some, None}
+use Rattle.std.proofs.Common.{◌≡◌, ℕ, zero, suc, ◌+◌, ◌*◌, ◌-◌, ◌<◌, ◌≤◌, Bool, inl, inr, ⊎_elim, List, [], Option}
+use Rattle.std.proofs.Common.{Some, None}
 use Rattle.std.proofs.Common.{length, refl, sym, ap, ◌∙◌, subst, arith}
 use native.Mathlib.Decide.{dec_le, ℕ_discrete}
 use mathlib.Core.Logic.{dite}
 use Rattle.tj_base.specs.ForkOrder.{Name}
 use Rattle.tj_body.specs.Asks.{Await, Obeys}
-use Rattle.tj_body.specs.History.{Assignment, after_stage, after_step, point_after, history}
+use Rattle.tj_body.specs.History.{Assignment, after_step, point_after, history}
 use Rattle.tj_body.specs.Rounds.{family, writes_by, cells_by, given, tasks, cells, last_round}
 use Rattle.tj_body.specs.Points.{IsIn, IsWithin, IsProper, HasStopped, IsAtRest, IsPointOf, IsSomePoint, IsSomeTask}
 use Rattle.tj_body.specs.Laws.{RestsAtMeaning}
@@ -58,7 +59,8 @@ module _ {B : Type 0} (strict : Bool) (asks : B → Answer → Ask B) (then : B 
     pub entered : (q : Name) (e : Entry) → E q ≡ Some e → (m : ℕ) × (V m q ≡ Some e)
 
   abbrev pub Is : (ℕ → Option (Point B)) → Task B → Point B → Type 0
-  Is at t p = (c : ℕ) × (at c ≡ Some p) × IsSomeTask strict asks then left root t × IsSomePoint strict asks then left root t p
+  Is at t p = (c : ℕ) × (at c ≡ Some p) × IsSomeTask strict asks then left root t
+      × IsSomePoint strict asks then left root t p
 
   pub point_name : (m : ℕ) (t : Task B) (p : Point B) → IsPointOf strict asks then (V m) t p → p.name ≡ t.name
   point_name m t p h = ap (λ (z : Point B). z.name) h.1 ∙ (from_start strict asks then (V m) h.0 t).5
@@ -70,7 +72,7 @@ module _ {B : Type 0} (strict : Bool) (asks : B → Answer → Ask B) (then : B 
     is_of c p t a i e =
         let y = x.meant c p a in
         let z = one_of_all strict asks then left root alone y.1.0 i.0 y.0 t y.1.1 i.1
-            (sym (point_name y.2.0 y.0 p y.2.1) ∙ e) in
+        (sym (point_name y.2.0 y.0 p y.2.1) ∙ e) in
         (c, a, i, subst (λ u. IsSomePoint strict asks then left root u p) z y.2)
 
     -- the task and its point stand in one round, later than both of theirs
@@ -82,10 +84,11 @@ module _ {B : Type 0} (strict : Bool) (asks : B → Answer → Ask B) (then : B 
         point_up strict asks then (V s.3.0) (V (s.2.0 + s.3.0)) (rises s.3.0 (s.2.0 + s.3.0) (omega arith)) t p s.3.1
 
     a_task : (t c : Task B) (p : Point B) → Is at t p → IsIn c p.children → IsSomeTask strict asks then left root c
-    a_task t c p s k =
-        (suc (suc (s.2.0 + s.3.0)),
-         forked strict asks then left root alone places awaits obeys proper (s.2.0 + s.3.0) t p
-         (task_then t p s) (point_then t p s) c k)
+    a_task t c p s k = (
+      suc (suc (s.2.0 + s.3.0)),
+      forked strict asks then left root alone places awaits obeys proper (s.2.0 + s.3.0) t p
+          (task_then t p s) (point_then t p s) c k,
+    )
 
     an_entry : (t : Task B) (p : Point B) (q : Name) (e : Entry) → Is at t p → IsIn (q, e) p.writes → E q ≡ Some e
     an_entry t p q e s w =
@@ -94,7 +97,7 @@ module _ {B : Type 0} (strict : Bool) (asks : B → Answer → Ask B) (then : B 
         let z = x.entered q y.0 y.1 in
         let m = z.0 + n in
         let a = written strict asks then left root alone places awaits obeys proper (s.2.0 + s.3.0) t p
-            (task_then t p s) (point_then t p s) q e w in
+        (task_then t p s) (point_then t p s) q e w in
         y.1 ∙ (sym (rises z.0 m (omega arith) q y.0 z.1) ∙ rises n m (omega arith) q e a)
 
     pub shown : Shows E (Is at)
@@ -126,9 +129,9 @@ module _ {B : Type 0} (strict : Bool) (asks : B → Answer → Ask B) (then : B 
         let r = behind n m k t h a j in
         dite (ℕ_discrete r.0 k)
         (λ e. let s : P n j t ≡ P m k t = r.2 ∙ ap (λ z. P m z t) e in
-            (k, omega arith, ap (step n) s ∙ holds_still n h (P m k t) a))
+        (k, omega arith, ap (step n) s ∙ holds_still n h (P m k t) a))
         (λ d. dite (dec_le n m) (λ l. up r.0 (omega arith) r.2 (rises n m l))
-            (λ l. down r.0 (omega arith) r.2 (rises m n (omega arith)))) where
+        (λ l. down r.0 (omega arith) r.2 (rises m n (omega arith)))) where
           up : (i : ℕ) → i < k → P n j t ≡ P m i t → IsWithin (V n) (V m)
               → (i : ℕ) × (i ≤ k) × (step n (P n j t) ≡ P m i t)
           up i l e w =
@@ -141,10 +144,10 @@ module _ {B : Type 0} (strict : Bool) (asks : B → Answer → Ask B) (then : B 
           down i l e w =
               ⊎_elim (λ s. (suc i, omega arith, sym s ∙ ap (step m) e))
               (λ s. let b : step m (P m i t) ≡ P m i t =
-                      subst (λ z. step m z ≡ z) e (waiting_stays strict asks then (V m) (P n j t) s) in
-                  let c : P m k t ≡ P m i t = ap (λ z. P m z t) (let z : k ≡ (k - i) + i = omega arith in z)
-                      ∙ stays strict asks then (V m) t i b (k - i) in
-                  (i, omega arith, holds_still n h (P n j t) (subst (HasStopped E) (c ∙ sym e) a) ∙ e))
+              subst (λ z. step m z ≡ z) e (waiting_stays strict asks then (V m) (P n j t) s) in
+              let c : P m k t ≡ P m i t = ap (λ z. P m z t) (let z : k ≡ (k - i) + i = omega arith in z)
+              ∙ stays strict asks then (V m) t i b (k - i) in
+              (i, omega arith, holds_still n h (P n j t) (subst (HasStopped E) (c ∙ sym e) a) ∙ e))
               (same_or_waiting strict asks then (V m) (V n) w (P n j t).stage (P n j t) refl)
 
     -- what a task has come to has all that its history under the round has
@@ -172,7 +175,7 @@ module _ {B : Type 0} (strict : Bool) (asks : B → Answer → Ask B) (then : B 
     within_all (suc n) q e h =
         let w = within_all n in
         let f = from_flat_map (writes_by strict asks then left (V n)) (q, e) (Ts (suc n))
-            (in_entries strict asks then left root alone (suc n) q e h) in
+        (in_entries strict asks then left root alone (suc n) q e h) in
         let r = descends n w (suc n) root x.root_there.0 x.root_there.1 f.0 f.1 in
         x.written f.0 r.0 q e r.1 (in_begins (q, e) (H n f.0).writes r.0.writes (ahead n w f.0 r.0 r.1).1 f.2)
 
@@ -213,11 +216,11 @@ module _ {B : Type 0} (strict : Bool) (asks : B → Answer → Ask B) (then : B 
           let y = x.points t p s in
           let i = x.tasks_of t p s in
           let u = point_up strict asks then (V y.0) (V (last_round N))
-              (last strict asks then left root alone N few y.0) t p y.1 in
+          (last strict asks then left root alone N few y.0) t p y.1 in
           let st = holds_still (last_round N) (within_all (last_round N)) p (x.stopped t p s) in
           u.1 ∙ halt strict asks then places awaits left obeys (V (last_round N)) t
-              (task_proper places awaits left strict asks then obeys root proper i.0 t i.1) u.0
-              (subst (λ z. step (last_round N) z ≡ z) u.1 st)
+          (task_proper places awaits left strict asks then obeys root proper i.0 t i.1) u.0
+          (subst (λ z. step (last_round N) z ≡ z) u.1 st)
 
       -- its tasks are the meaning's
       pub same_tasks : (t : Task B) (p : Point B) → S t p → IsIn t (Ts (last_round N))
@@ -226,15 +229,16 @@ module _ {B : Type 0} (strict : Bool) (asks : B → Answer → Ask B) (then : B 
 
   -- what stands at rest, with names for all its cells and at most N of them, is the meaning with limit N
   pub rests : RestsAtMeaning asks then left strict root
-  rests E at rest names tasks_named promises_named N few =
-      ((λ full. let few_cells = k in omega arith),
-       same_entries E (Is at) x N k,
-       (λ c p a. let w = rest.meant c p a in
-           let s : Is at w.0 p = (c, a, w.1, w.2) in
-           (w.0, same_tasks E (Is at) x N k w.0 p s, same_points E (Is at) x N k w.0 p s)),
-       (λ t i. let w = tasks_there E (Is at) x (last_round N) t i in
-           (w.1.0, w.1.1 ∙ ap Some (same_points E (Is at) x N k t w.0 w.1))),
-       cell_there E (Is at) x names task_named promise_named (last_round N)) where
+  rests E at rest names tasks_named promises_named N few = (
+    (λ full. let few_cells = k in omega arith),
+    same_entries E (Is at) x N k,
+    (λ c p a. let w = rest.meant c p a in
+        let s : Is at w.0 p = (c, a, w.1, w.2) in
+        (w.0, same_tasks E (Is at) x N k w.0 p s, same_points E (Is at) x N k w.0 p s)),
+    (λ t i. let w = tasks_there E (Is at) x (last_round N) t i in
+        (w.1.0, w.1.1 ∙ ap Some (same_points E (Is at) x N k t w.0 w.1))),
+    cell_there E (Is at) x names task_named promise_named (last_round N),
+  ) where
     x : Shows E (Is at)
     x = shown E at rest
 

@@ -1,25 +1,24 @@
 -- Rounds only grow.
-use Rattle.std.proofs.Common.{◌≡◌, ℕ, zero, suc, ◌+◌, ◌*◌, ◌-◌, ◌<◌, ◌≤◌, ◌↔◌, inl, inr, ⊎_elim, List, [], ◌∷◌, map}
-use Rattle.std.proofs.Common.{Bool, Option, Some, None, refl, sym, ap, ◌∙◌, subst, arith}
-use native.Mathlib.Decide.{dec_le}
-use mathlib.Core.Logic.{dite}
+use Rattle.std.proofs.Common.{◌≡◌, ℕ, zero, suc, ◌+◌, ◌*◌, ◌-◌, ◌≤◌, List, [], ◌∷◌, map}
+use Rattle.std.proofs.Common.{Bool, Option, Some, None, refl, sym, ap, subst, arith}
 use Rattle.std.specs.List.{flat_map}
 use Rattle.tj_base.specs.ForkOrder.{Name}
 use Rattle.tj_body.specs.History.{Assignment, owned, history}
 use Rattle.tj_body.specs.Rounds.{entry_in, family, writes_by, cells_by, given, tasks, entries, cells}
 use Rattle.tj_body.specs.Points.{IsIn, IsWithin}
-use Rattle.tj_body.specs.Laws.{AreDistinct}
+use Rattle.tj_body.specs.Laws.{AreDistinct, Grows, IsApart, OwnsApart}
 use Rattle.tj_body.specs.declared.ask.Answer.{Answer}
 use Rattle.tj_body.specs.declared.ask.Ask.{Ask}
 use Rattle.tj_body.specs.declared.point.Entry.{Entry}
 use Rattle.tj_body.specs.declared.point.Task.{Task}
 use Rattle.tj_body.specs.declared.point.Point.{Point}
-use Rattle.tj_body.proofs.Lists.{Sub, sub_nil, sub_cons, sub_begins, sub_in, flat_map_sub, in_flat_map, from_flat_map}
+use Rattle.tj_body.proofs.Lists.{Sub, sub_nil, sub_cons, sub_begins, sub_in, flat_map_sub, from_flat_map}
 use Rattle.tj_body.proofs.Grows.{GoesOn, more}
-use Rattle.tj_body.proofs.Counts.{is, is_one, total, total_in, total_one, total_le, total_flat_map, times, times_of_in}
+use Rattle.tj_body.proofs.Counts.{is, is_one, total, total_in, total_one, total_le, total_flat_map, times}
+use Rattle.tj_body.proofs.Counts.{times_of_in}
 use Rattle.tj_body.proofs.Counts.{wrote, in_of_times, at_most_one, distinct_of_times}
 use Rattle.tj_body.proofs.Prefixes.{begins}
-use Rattle.tj_body.proofs.Families.{uses, makes, once_used, once_cell, used_cells, from_entry, to_entry}
+use Rattle.tj_body.proofs.Families.{uses, once_used, once_cell, used_cells, from_entry, to_entry}
 
 pub names_wrote : (q : Name) (l : List (Name × Entry)) → times q (map (λ (w : Name × Entry). w.0) l) ≡ wrote q l
 names_wrote q [] = refl
@@ -90,7 +89,7 @@ module _ {B : Type 0} (strict : Bool) (asks : B → Answer → Ask B) (then : B 
         let a = once_in_round n q in
         let b = total_flat_map (λ (w : Name × Entry). is q w.0) (writes n) (Ts (suc n)) in
         let c = total_le (λ t. wrote q (writes n t)) (uses strict asks then left (V n) q) (λ t. omega arith)
-            (Ts (suc n)) in
+        (Ts (suc n)) in
         omega arith
 
     pub once_name : (n : ℕ) (q : Name) → times q (Cs n) ≤ 1
@@ -127,7 +126,7 @@ module _ {B : Type 0} (strict : Bool) (asks : B → Answer → Ask B) (then : B 
         let a = used_cells strict asks then left (V n) q (suc n) root in
         let b = total_flat_map (λ (w : Name × Entry). is q w.0) (writes n) (Ts (suc n)) in
         let c = total_le (λ t. wrote q (writes n t)) (uses strict asks then left (V n) q) (λ t. omega arith)
-            (Ts (suc n)) in
+        (Ts (suc n)) in
         let d = total_flat_map (is q) (made n) (Ts (suc n)) in
         let e : times q root.handed ≡ 0 = ap (times q) alone in
         omega arith
@@ -211,7 +210,7 @@ module _ {B : Type 0} (strict : Bool) (asks : B → Answer → Ask B) (then : B 
           let x = times_of_in q (owned (H (V m) t)) a in
           let y = wrote_of_in q e (writes m f.0) f.2 in
           let s = total_one (uses strict asks then left (V m) q) (Ts (suc m)) (once_in_round m q) t f.0 i f.1
-              (omega arith) (omega arith) in
+          (omega arith) (omega arith) in
           let z : 1 ≤ wrote q (writes m t) = subst (λ u. 1 ≤ wrote q (writes m u)) (sym s) y in
           let l = total_in (uses strict asks then left (V m) q) t (Ts (suc m)) i in
           let o = once_in_round m q in
@@ -220,3 +219,15 @@ module _ {B : Type 0} (strict : Bool) (asks : B → Answer → Ask B) (then : B 
       by_entry : (o : Option Entry) → V (suc m) q ≡ o → V (suc m) q ≡ None
       by_entry None e = e
       by_entry (Some x) e = absurd (written x (in_entries (suc m) q x e))
+
+    pub grow : Grows asks then left strict root
+    grow n m l = (tasks_within n m l, within n m l, cells_within n m l)
+
+    pub apart : IsApart asks then left strict root
+    apart n =
+        (distinct_cells n, distinct_entries n, (λ q e. (of_entries n q e, in_entries n q e)), entry_cell n)
+
+    pub owners_apart : OwnsApart asks then left strict root
+    owners_apart n m t u q l i j a b =
+        let later = tasks_within n (suc m) l in
+        (one_owner m t u q (later t i) (later u j) a b, owned_open m t q (later t i) a)

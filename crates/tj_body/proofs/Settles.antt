@@ -6,18 +6,19 @@ use mathlib.Core.Logic.{dite}
 use Rattle.std.specs.List.{flat_map}
 use Rattle.tj_base.specs.ForkOrder.{Name}
 use Rattle.tj_body.specs.History.{Assignment, history}
-use Rattle.tj_body.specs.Rounds.{entry_in, family, writes_by, cells_by, given, tasks, entries, cells, last_round, IsFull}
+use Rattle.tj_body.specs.Rounds.{entry_in, family, writes_by, cells_by, given, tasks, entries, cells, last_round}
+use Rattle.tj_body.specs.Rounds.{IsFull}
 use Rattle.tj_body.specs.Points.{IsIn, IsWithin}
-use Rattle.tj_body.specs.Laws.{AreDistinct, IsSettledAt}
+use Rattle.tj_body.specs.Laws.{AreDistinct, IsLast}
 use Rattle.tj_body.specs.declared.ask.Answer.{Answer}
 use Rattle.tj_body.specs.declared.ask.Ask.{Ask}
 use Rattle.tj_body.specs.declared.point.Entry.{Entry}
 use Rattle.tj_body.specs.declared.point.Task.{Task}
-use Rattle.tj_body.proofs.Lists.{Sub, sub_length, sub_whole, flat_map_still, in_flat_map}
-use Rattle.tj_body.proofs.Counts.{is, is_one, times, times_of_in, in_of_times, times_of_distinct, total, total_le}
-use Rattle.tj_body.proofs.Counts.{total_in, total_flat_map, fewer, at_least, wrote}
+use Rattle.tj_body.proofs.Lists.{sub_length, sub_whole, flat_map_still}
+use Rattle.tj_body.proofs.Counts.{is, times, in_of_times, times_of_distinct, total, total_le}
+use Rattle.tj_body.proofs.Counts.{total_flat_map, fewer, at_least, wrote}
 use Rattle.tj_body.proofs.Rises.{names_wrote, wrote_of_in, family_sub, once_name, once_entry, in_entries, of_entries}
-use Rattle.tj_body.proofs.Rises.{written_cells, up, tasks_sub, entries_sub, cells_sub, within, tasks_within, cells_within}
+use Rattle.tj_body.proofs.Rises.{written_cells, up, tasks_sub, entries_sub, within, tasks_within, cells_within}
 
 abbrev task_names : {B : Type 0} → List (Task B) → List Name
 task_names l = map (λ t. t.name) l
@@ -73,8 +74,8 @@ module _ {B : Type 0} (strict : Bool) (asks : B → Answer → Ask B) (then : B 
   family_still V (suc d) t e =
       ap (λ z. t ∷ z)
       (flat_map_still (Fam V d) (Fam V (suc d)) (Fam V (suc (suc d)))
-          (family_sub strict asks then left V V (within_self V) d (suc d) (omega arith)) (family_still V d)
-          (history strict asks then left V t).children (omega arith))
+      (family_sub strict asks then left V V (within_self V) d (suc d) (omega arith)) (family_still V d)
+      (history strict asks then left V t).children (omega arith))
 
   module _ (root : Task B) (alone : root.handed ≡ []) where
     abbrev V : ℕ → Assignment
@@ -105,11 +106,16 @@ module _ {B : Type 0} (strict : Bool) (asks : B → Answer → Ask B) (then : B 
     still_on : (n : ℕ) → Still n → Still (suc n)
     still_on n s =
         let a = ap length s.1 in
-        let f = family_still (V n) (suc n) root (omega arith) in
-        (ap entry_in (entries_on n s),
-         subst (λ z. Fam z (suc (suc (suc n))) root ≡ Fam z (suc (suc n)) root) (sym s.0) f)
+        let f = family_still (V n) (suc n) root (omega arith) in (
+          ap entry_in (entries_on n s),
+          subst (λ z. Fam z (suc (suc (suc n))) root ≡ Fam z (suc (suc n)) root) (sym s.0) f,
+        )
 
-    stops_if : (n : ℕ) → length (Ts (suc (suc n))) + length (Es (suc (suc n))) ≤ length (Ts (suc n)) + length (Es (suc n))
+    -- how many tasks and entries a round has
+    abbrev size : ℕ → ℕ
+    size n = length (Ts n) + length (Es n)
+
+    stops_if : (n : ℕ) → size (suc (suc n)) ≤ size (suc n)
         → Still (suc n)
     stops_if n h =
         let T = tasks_sub strict asks then left root alone (suc n) in
@@ -119,24 +125,24 @@ module _ {B : Type 0} (strict : Bool) (asks : B → Answer → Ask B) (then : B 
         let e : Es (suc n) ≡ Es (suc (suc n)) = sub_whole (Es (suc n)) (Es (suc (suc n))) E (omega arith) in
         let u = up strict asks then left root alone n in
         let x = sub_length (Ts (suc n)) (Fam (V (suc n)) (suc n) root)
-            (family_sub strict asks then left (V n) (V (suc n)) u (suc n) (suc n) (omega arith) root) in
+        (family_sub strict asks then left (V n) (V (suc n)) u (suc n) (suc n) (omega arith) root) in
         (ap entry_in (sym e), family_still (V (suc n)) (suc n) root (omega arith))
 
-    settled : (k : ℕ) → ((j : ℕ) × (j < k) × Still j) ⊎ (k ≤ length (Ts k) + length (Es k))
+    settled : (k : ℕ) → ((j : ℕ) × (j < k) × Still j) ⊎ (k ≤ size k)
     settled zero = inr (omega arith)
     settled (suc zero) = inr (omega arith)
     settled (suc (suc n)) =
         ⊎_elim (λ s. inl (s.0, omega arith, s.2))
-        (λ h. dite (dec_le (length (Ts (suc (suc n))) + length (Es (suc (suc n)))) (length (Ts (suc n)) + length (Es (suc n))))
-            (λ l. inl (suc n, omega arith, stops_if n l)) (λ l. inr (omega arith)))
+        (λ h. dite (dec_le (size (suc (suc n))) (size (suc n)))
+        (λ l. inl (suc n, omega arith, stops_if n l)) (λ l. inr (omega arith)))
         (settled (suc n))
 
     entries_cells : (n : ℕ) → length (Es n) ≤ length (Cs n)
     entries_cells n =
         let l = names_length (Es n) in
         let f = fewer (entry_names (Es n)) (Cs n)
-            (λ q. let a = names_wrote q (Es n) in let b = written_cells strict asks then left root alone n q in
-                omega arith) in
+        (λ q. let a = names_wrote q (Es n) in let b = written_cells strict asks then left root alone n q in
+        omega arith) in
         omega arith
 
     tasks_cells : (n : ℕ) → length (Ts n) ≤ length (Cs n)
@@ -147,7 +153,7 @@ module _ {B : Type 0} (strict : Bool) (asks : B → Answer → Ask B) (then : B 
       each (x ∷ xs) =
           let h = each xs in
           let a = length-append (history strict asks then left (V n) x).promises
-              (flat_map (cells_by strict asks then left (V n)) xs) in
+          (flat_map (cells_by strict asks then left (V n)) xs) in
           omega arith
 
     abbrev SameFrom : ℕ → ℕ → Type 0
@@ -158,12 +164,15 @@ module _ {B : Type 0} (strict : Bool) (asks : B → Answer → Ask B) (then : B 
         subst (λ m. Still m × SameFrom j m) (let z : j ≡ 0 + j = omega arith in z) (s, (refl, refl, refl, refl))
     same_after j (suc k) s =
         let r = same_after j k s in
-        subst (λ m. Still m × SameFrom j m) (let z : suc (k + j) ≡ suc k + j = omega arith in z)
-        (still_on (k + j) r.0,
-         (r.0.0 ∙ r.1.0,
-          tasks_on (k + j) r.0 ∙ r.1.1,
-          entries_on (k + j) r.0 ∙ r.1.2,
-          cells_on (k + j) r.0 ∙ r.1.3))
+        subst (λ m. Still m × SameFrom j m) (let z : suc (k + j) ≡ suc k + j = omega arith in z) (
+          still_on (k + j) r.0,
+          (
+            r.0.0 ∙ r.1.0,
+            tasks_on (k + j) r.0 ∙ r.1.1,
+            entries_on (k + j) r.0 ∙ r.1.2,
+            cells_on (k + j) r.0 ∙ r.1.3,
+          ),
+        )
 
     same_from : (j m : ℕ) → j ≤ m → Still j → SameFrom j m
     same_from j m l s =
@@ -181,7 +190,7 @@ module _ {B : Type 0} (strict : Bool) (asks : B → Answer → Ask B) (then : B 
         let a = once_name strict asks then left root alone (suc n) q in
         let b = total_flat_map (is q) (cells_by strict asks then left (V n)) (Ts (suc n)) in
         let c = total_le (λ (t : Task B). is q t.name) (λ t. times q (cells_by strict asks then left (V n) t))
-            (λ t. omega arith) (Ts (suc n)) in
+        (λ t. omega arith) (Ts (suc n)) in
         let d = named q (Ts (suc n)) in
         omega arith
 
@@ -194,10 +203,10 @@ module _ {B : Type 0} (strict : Bool) (asks : B → Answer → Ask B) (then : B 
           let a = tasks_length (Ts n) in
           let b = tasks_length (Ts (suc n)) in
           let f = fewer (task_names (Ts (suc n))) (task_names (Ts n))
-              (λ q. at_least q (task_names (Ts (suc n))) (task_names (Ts n)) (task_once (suc n) q)
-                  (λ i. let r = has_name q (Ts (suc n)) i in
-                      subst (λ z. IsIn z (task_names (Ts n))) (sym r.2)
-                      (name_in r.0 (Ts n) (h r.0 r.1)))) in
+          (λ q. at_least q (task_names (Ts (suc n))) (task_names (Ts n)) (task_once (suc n) q)
+          (λ i. let r = has_name q (Ts (suc n)) i in
+          subst (λ z. IsIn z (task_names (Ts n))) (sym r.2)
+          (name_in r.0 (Ts n) (h r.0 r.1)))) in
           omega arith
 
       entry_there : (q : Name) → wrote q (Es (suc n)) ≤ wrote q (Es n)
@@ -206,10 +215,10 @@ module _ {B : Type 0} (strict : Bool) (asks : B → Answer → Ask B) (then : B 
           let o = once_entry strict asks then left root alone (suc n) q in
           dite (dec_le 1 (wrote q (Es (suc n))))
           (λ l. let r = has_entry q (Es (suc n)) (in_of_times q (entry_names (Es (suc n))) (omega arith)) in
-              let w = wrote_of_in q r.0 (Es n)
-                  (in_entries strict asks then left root alone n q r.0
-                  (g q r.0 (of_entries strict asks then left root alone (suc n) q r.0 r.1))) in
-              omega arith)
+          let w = wrote_of_in q r.0 (Es n)
+          (in_entries strict asks then left root alone n q r.0
+          (g q r.0 (of_entries strict asks then left root alone (suc n) q r.0 r.1))) in
+          omega arith)
           (λ l. omega arith)
 
       fewer_entries : length (Es (suc n)) ≤ length (Es n)
@@ -217,8 +226,8 @@ module _ {B : Type 0} (strict : Bool) (asks : B → Answer → Ask B) (then : B 
           let a = names_length (Es n) in
           let b = names_length (Es (suc n)) in
           let f = fewer (entry_names (Es (suc n))) (entry_names (Es n))
-              (λ q. let x = names_wrote q (Es n) in let y = names_wrote q (Es (suc n)) in let z = entry_there q in
-                  omega arith) in
+          (λ q. let x = names_wrote q (Es n) in let y = names_wrote q (Es (suc n)) in let z = entry_there q in
+          omega arith) in
           omega arith
 
     -- a round with at most N cells comes no earlier than some round that adds nothing
@@ -232,7 +241,7 @@ module _ {B : Type 0} (strict : Bool) (asks : B → Answer → Ask B) (then : B 
     cells_le n m l =
         fewer (Cs n) (Cs m)
         (λ q. at_least q (Cs n) (Cs m) (once_name strict asks then left root alone n q)
-            (cells_within strict asks then left root alone n m l q))
+        (cells_within strict asks then left root alone n m l q))
 
     -- from round 2 N on the assignment is that of round 2 N + 1
     pub last_given : (N : ℕ) → length (Cs (last_round N)) ≤ N → (n : ℕ) → 2 * N ≤ n → V n ≡ V (2 * N)
@@ -256,14 +265,14 @@ module _ {B : Type 0} (strict : Bool) (asks : B → Answer → Ask B) (then : B 
     last_of F kept N same n h =
         dite (dec_le n (2 * N + 1)) (λ l. kept n (2 * N + 1) l h)
         (λ l. subst F (let z : suc (2 * N) ≡ 2 * N + 1 = omega arith in z)
-            (same (n - 1) (omega arith) (subst F (let z : n ≡ suc (n - 1) = omega arith in z) h)))
+        (same (n - 1) (omega arith) (subst F (let z : n ≡ suc (n - 1) = omega arith in z) h)))
 
     -- round 2 N + 1 has all that any round has
     pub last : (N : ℕ) → length (Cs (last_round N)) ≤ N → (n : ℕ) → IsWithin (V n) (V (last_round N))
     last N h n q e a =
         last_of (λ k. V k q ≡ Some e) (λ n m l g. within strict asks then left root alone n m l q e g) N
         (λ k l g. let x = last_given N h (suc k) (omega arith) in let y = last_given N h (suc (2 * N)) (omega arith) in
-            subst (λ U. U q ≡ Some e) (x ∙ sym y) g) n a
+        subst (λ U. U q ≡ Some e) (x ∙ sym y) g) n a
 
     pub last_task : (N : ℕ) → length (Cs (last_round N)) ≤ N → (n : ℕ) (t : Task B) → IsIn t (Ts n)
         → IsIn t (Ts (last_round N))
@@ -281,8 +290,8 @@ module _ {B : Type 0} (strict : Bool) (asks : B → Answer → Ask B) (then : B 
     pub enough : (N n : ℕ) → length (Cs (last_round N)) ≤ N → length (Cs n) ≤ N
     enough N n h =
         let a = fewer (Cs n) (Cs (last_round N))
-            (λ q. at_least q (Cs n) (Cs (last_round N)) (once_name strict asks then left root alone n q)
-                (last_cell N h n q)) in
+        (λ q. at_least q (Cs n) (Cs (last_round N)) (once_name strict asks then left root alone n q)
+        (last_cell N h n q)) in
         omega arith
 
     -- some round has more than N cells exactly where round 2 N + 1 has
@@ -293,7 +302,14 @@ module _ {B : Type 0} (strict : Bool) (asks : B → Answer → Ask B) (then : B 
 
     pub at_most_limit : (N : ℕ) → ¬ IsFull strict asks then left root N → length (Cs (last_round N)) ≤ N
     at_most_limit N h =
-        dite (dec_le (length (Cs (2 * N + 1))) N) (λ d. d) (λ d. absurd (h (let z : N < length (Cs (2 * N + 1)) = omega arith in z)))
+        dite (dec_le (length (Cs (2 * N + 1))) N) (λ d. d)
+        (λ d. let z : N < length (Cs (2 * N + 1)) = omega arith in absurd (h z))
+
+    -- where the meaning isn't full, its round has all that any round has
+    pub is_last : IsLast asks then left strict root
+    is_last N h =
+        let few = at_most_limit N h in
+        ((λ n. (last_task N few n, last N few n, last_cell N few n)), last_given N few (last_round N) (omega arith))
 
     -- names of cells of some rounds are together in one round
     together : (l : List Name) → ((q : Name) → IsIn q l → (n : ℕ) × IsIn q (Cs n))
@@ -302,12 +318,13 @@ module _ {B : Type 0} (strict : Bool) (asks : B → Answer → Ask B) (then : B 
     together (x ∷ xs) h =
         let r = together xs (λ q i. h q (inr i)) in
         let y = h x (inl refl) in
-        let n = y.0 + r.0 in
-        (n,
-         λ q i. ⊎_elim
-             (λ e. subst (λ z. IsIn z (Cs n)) (sym e)
-                 (cells_within strict asks then left root alone y.0 n (omega arith) x y.1))
-             (λ j. cells_within strict asks then left root alone r.0 n (omega arith) q (r.1 q j)) i)
+        let n = y.0 + r.0 in (
+          n,
+          λ q i. ⊎_elim
+              (λ e. subst (λ z. IsIn z (Cs n)) (sym e)
+              (cells_within strict asks then left root alone y.0 n (omega arith) x y.1))
+              (λ j. cells_within strict asks then left root alone r.0 n (omega arith) q (r.1 q j)) i,
+        )
 
     -- more than N names, each once, each of some round: the meaning is full
     pub full_where : (N : ℕ) (l : List Name) → AreDistinct l → ((q : Name) → IsIn q l → (n : ℕ) × IsIn q (Cs n))

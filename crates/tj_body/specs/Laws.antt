@@ -50,7 +50,7 @@ module _ {B : Type 0} (asks : B → Answer → Ask B) (then : B → Answer → B
       × ((p : Point B) → IsPointOf strict asks then V t p → Extends p (history_of V t))
       × ((p : Point B) → IsPointOf strict asks then V t p → HasStopped V p → p ≡ history_of V t)
 
-  -- where the assignment grows, a history that ended stays as it was, and one that waited is a beginning of the new one
+  -- where the assignment grows, a history that ended stays as it was, and each is a beginning of the new one
   abbrev pub IsMonotone : Task B → Type 0
   IsMonotone t = (V W : Assignment) → IsWithin V W → (HasEnded (history_of V t) → history_of W t ≡ history_of V t)
       × IsPointOf strict asks then W t (history_of V t)
@@ -58,7 +58,8 @@ module _ {B : Type 0} (asks : B → Answer → Ask B) (then : B → Answer → B
 
   -- Points. One ask more of a point is a point.
   abbrev pub AsksOn : Task B → Type 0
-  AsksOn t = (V : Assignment) (p : Point B) (a : Answer) → IsPointOf strict asks then V t p → p.stage ≡ stage.Answered a
+  AsksOn t = (V : Assignment) (p : Point B) (a : Answer) → IsPointOf strict asks then V t p
+      → p.stage ≡ stage.Answered a
       → IsPointOf strict asks then V t (after_ask strict (asks p.body a) (record p { body = then p.body a }))
 
   module _ (root : Task B) where

@@ -60,7 +60,7 @@ module _ {B : Type 0} (places : B → ℕ) (awaits : B → Await) (left : B → 
   IsGoodAt (stage.Waits q spare) p = MayWait spare p
   IsGoodAt (stage.Closed e) p = Unit {0}
 
-  -- a point from which a task can go on: its children are proper tasks, and it has made fewer things than it has places
+  -- a point from which a task can go on: its children are proper, and it has made fewer things than it has places
   pub record IsGood (p : Point B) : Type 0 where
     pub at_stage : IsGoodAt p.stage p
     pub children : (c : Task B) → IsIn c p.children → IsProper c

@@ -1,7 +1,8 @@
-//! The laws of histories and rounds. A proof that needs one calls its function, which does nothing,
-//! and cites what the call ensures.
-ghost use Rattle.tj_body.specs.Laws.{HoldsOfPrograms, HoldsOfTasks, IsDetermined, Stops, IsMonotone};
-ghost use Rattle.tj_body.specs.Laws.{AsksOn, IsAllGood, Grows, IsApart, NamesApart, OwnsApart};
+//! The laws of histories and rounds. Code whose proof needs one calls its function, which does
+//! nothing, and the proof cites what the call ensures.
+ghost use Rattle.tj_body.specs.Laws.{HoldsOfPrograms, HoldsOfTasks, IsDetermined, Stops};
+ghost use Rattle.tj_body.specs.Laws.{IsMonotone, AsksOn, IsAllGood, Grows, IsApart, NamesApart};
+ghost use Rattle.tj_body.specs.Laws.{OwnsApart};
 ghost use Rattle.tj_body.specs.Laws.{IsSettledWhereSame, IsSettledWhereNoMore, IsFullExactly};
 ghost use Rattle.tj_body.specs.Laws.{IsFullWhere, IsLast, ReadsOn, IsKept, RestsAtMeaning};
 
