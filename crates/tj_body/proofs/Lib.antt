@@ -12,3 +12,4 @@ pub mod Rises
 pub mod Settles
 pub mod Keeps
 pub mod Rests
+pub mod Sizes

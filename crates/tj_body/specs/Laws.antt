@@ -1,10 +1,11 @@
 -- The laws of histories and of rounds.
-use Rattle.std.specs.Prelude.{◌≡◌, ◌↔◌, ℕ, suc, ◌<◌, ◌≤◌, ◌*◌, Bool, List, [], ◌∷◌, map, length}
-use Rattle.std.specs.Prelude.{Option, Some, None}
+use Rattle.std.specs.Prelude.{◌≡◌, ◌↔◌, ℕ, suc, ◌<◌, ◌≤◌, ◌*◌, Bool, List, [], ◌∷◌, ◌++◌, map}
+use Rattle.std.specs.Prelude.{length, Option, Some, None, ◌+◌}
+use Rattle.std.specs.List.{flat_map}
 use Rattle.tj_base.specs.ForkOrder.{Name}
 use Rattle.tj_body.specs.Asks.{Await}
 use Rattle.tj_body.specs.History.{Assignment, owned, after_read, after_ask, history}
-use Rattle.tj_body.specs.Rounds.{given, tasks, entries, cells, last_round, IsFull}
+use Rattle.tj_body.specs.Rounds.{cells_by, given, tasks, entries, cells, last_round, IsFull}
 use Rattle.tj_body.specs.Points.{IsIn, IsWithin, IsProper, IsGood, HasEnded, HasStopped, Extends}
 use Rattle.tj_body.specs.Points.{IsPointOf, IsSomeTask, IsSomePoint, IsAtRest}
 use Rattle.tj_body.specs.declared.ask.Answer.{Answer}
@@ -99,8 +100,8 @@ module _ {B : Type 0} (asks : B → Answer → Ask B) (then : B → Answer → B
     abbrev pub NamesApart : Type 0
     NamesApart = (n m : ℕ) (t u : Task B) → IsIn t (tasks_of n) → IsIn u (tasks_of m) → t.name ≡ u.name → t ≡ u
 
-    -- no cell is owned by two tasks of a round, under its assignment or that of the round before; and what is owned
-    -- has no entry in the next round
+    -- no two tasks of a round own one cell, under the assignment before it or a later one; and what is owned under an
+    -- assignment has no entry in the round after it
     abbrev pub OwnsApart : Type 0
     OwnsApart = (n m : ℕ) (t u : Task B) (q : Name) → n ≤ suc m → IsIn t (tasks_of n) → IsIn u (tasks_of n)
         → IsIn q (owned (history_of (assignment_of m) t)) → IsIn q (owned (history_of (assignment_of m) u))
@@ -152,6 +153,19 @@ module _ {B : Type 0} (asks : B → Answer → Ask B) (then : B → Answer → B
         × ((q : Name) (e : Entry) → IsIn (q, e) p.writes → assignment_of (suc n) q ≡ Some e)
         × ((q : Name) → IsIn q p.promises → IsIn q (cells_of (suc n)))
         × ((c : Task B) → IsIn c p.children → IsIn c (tasks_of (suc (suc n))))
+
+    -- the cells of the tasks of a round before one of them, that task, and the promises that it has made at a point
+    -- are not more than the cells of the round
+    abbrev pub CountsInRound : Type 0
+    CountsInRound = (n : ℕ) (earlier later : List (Task B)) (t : Task B) (p : Point B)
+        → tasks_of (suc n) ≡ earlier ++ t ∷ later → IsPointOf strict asks then (assignment_of n) t p
+        → length (flat_map (cells_by strict asks then left (assignment_of n)) earlier) + suc (length p.promises)
+        ≤ length (cells_of (suc n))
+
+    -- a task and all that it has made at a point are not more than the cells of the next round
+    abbrev pub CountsMade : Type 0
+    CountsMade = (n : ℕ) (t : Task B) (p : Point B) → IsIn t (tasks_of (suc n))
+        → IsPointOf strict asks then (assignment_of n) t p → suc p.made ≤ length (cells_of (suc (suc n)))
 
     -- what stands at rest, with names for all its cells and at most N of them, is the meaning with limit N
     abbrev pub RestsAtMeaning : Type 0

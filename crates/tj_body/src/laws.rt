@@ -2,7 +2,7 @@
 //! nothing, and the proof cites what the call ensures.
 ghost use Rattle.tj_body.specs.Laws.{HoldsOfPrograms, HoldsOfTasks, IsDetermined, Stops};
 ghost use Rattle.tj_body.specs.Laws.{IsMonotone, AsksOn, IsAllGood, Grows, IsApart, NamesApart};
-ghost use Rattle.tj_body.specs.Laws.{OwnsApart};
+ghost use Rattle.tj_body.specs.Laws.{OwnsApart, CountsInRound, CountsMade};
 ghost use Rattle.tj_body.specs.Laws.{IsSettledWhereSame, IsSettledWhereNoMore, IsFullExactly};
 ghost use Rattle.tj_body.specs.Laws.{IsFullWhere, IsLast, ReadsOn, IsKept, RestsAtMeaning};
 
@@ -86,6 +86,16 @@ pub fn point_reads_on<B: Body>()
 /// What a point has written, made and forked is in the round of its task, or in the next one.
 pub fn point_is_kept<B: Body>()
     ensures { HoldsOfPrograms B.places B.awaits B.left (IsKept B.asks B.then B.left) }
+{}
+
+/// What a point has made so far counts among the cells of its round.
+pub fn point_counts_in_round<B: Body>()
+    ensures { HoldsOfPrograms B.places B.awaits B.left (CountsInRound B.asks B.then B.left) }
+{}
+
+/// All that a point has made so far counts among the cells of the next round.
+pub fn point_counts_made<B: Body>()
+    ensures { HoldsOfPrograms B.places B.awaits B.left (CountsMade B.asks B.then B.left) }
 {}
 
 /// What stands at rest, with at most N cells, is the meaning with limit N.
