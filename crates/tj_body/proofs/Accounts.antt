@@ -43,9 +43,11 @@ names_of x references (k ∷ ks) = ap (λ z. (reference_at x references k).name 
 
 -- f is any number that a name has
 module _ {B : Type 0} (q : Name) (f : Name → ℕ) where
+  -- how often q is handed to a task
   abbrev pub handed_to : Task B → ℕ
   handed_to t = times q t.handed
 
+  -- what f gives for the name of a task
   abbrev pub named : Task B → ℕ
   named t = f t.name
 
@@ -57,6 +59,7 @@ module _ {B : Type 0} (q : Name) (f : Name → ℕ) where
   abbrev pub IsMade : Point B → Type 0
   IsMade p = total named p.children + total f p.promises ≡ total f (numbered p.name p.made)
 
+  -- the account of a point
   abbrev pub IsFair : ℕ → Point B → Type 0
   IsFair h p = IsBalanced h p (times q (owned p)) × IsMade p
 
@@ -129,6 +132,7 @@ module _ {B : Type 0} (q : Name) (f : Name → ℕ) where
         (omega arith, omega arith)
 
     module _ (strict : Bool) where
+      -- an ask keeps the account
       pub takes : (a : Ask B) (p : Point B) → IsOpen h p → IsFair h (after_ask strict a p)
       takes ask.New p o = makes p o
       takes (ask.Fork b pass hand) p o =

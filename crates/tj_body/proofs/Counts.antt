@@ -15,10 +15,12 @@ use Rattle.tj_body.specs.Laws.{AreDistinct}
 use Rattle.tj_body.specs.declared.point.Reference.{Reference}
 use Rattle.tj_body.specs.declared.point.Entry.{Entry}
 
+-- a name is the same as itself
 pub same_self : (x : Name) → same x x ≡ true
 same_self [] = refl
 same_self (x ∷ xs) = rw (eq-eqb x x refl) (same_self xs)
 
+-- names that are the same are equal
 pub same_is : (x y : Name) → same x y ≡ true → x ≡ y
 same_is [] [] e = refl
 same_is [] (y ∷ ys) e = cc
@@ -30,10 +32,12 @@ same_is (x ∷ xs) (y ∷ ys) e = both (nat_eq x y) (same xs ys) (same_is xs ys)
   both true false rec p q r = let w : false ≡ true = sym (λ i. p i && q i) ∙ r in absurd (cc)
   both false b rec p q r = let w : false ≡ true = sym (ap (λ z. z && same xs ys) p) ∙ r in absurd (cc)
 
+-- 1 where it is true
 abbrev pub one_if : Bool → ℕ
 one_if true = 1
 one_if false = 0
 
+-- which is at most 1
 pub at_most_one : (b : Bool) → one_if b ≤ 1
 at_most_one true = omega arith
 at_most_one false = omega arith
@@ -43,6 +47,7 @@ abbrev pub total : {A : Type 0} → (A → ℕ) → List A → ℕ
 total f [] = 0
 total f (x ∷ xs) = f x + total f xs
 
+-- 1 where x is q
 abbrev pub is : Name → Name → ℕ
 is q x = one_if (same q x)
 
@@ -55,18 +60,22 @@ abbrev pub wrote : Name → List (Name × Entry) → ℕ
 wrote q l = total (λ w. is q w.0) l
 
 module _ {A : Type 0} where
+  -- the sum over two lists
   pub total_append : (f : A → ℕ) (l m : List A) → total f (l ++ m) ≡ total f l + total f m
   total_append f [] m = omega arith
   total_append f (x ∷ xs) m = let h = total_append f xs m in omega arith
 
+  -- a sum of smaller numbers is smaller
   pub total_le : (f g : A → ℕ) → ((x : A) → f x ≤ g x) → (l : List A) → total f l ≤ total g l
   total_le f g h [] = omega arith
   total_le f g h (x ∷ xs) = let a = h x in let b = total_le f g h xs in omega arith
 
+  -- the sum of sums
   pub total_add : (f g : A → ℕ) (l : List A) → total (λ x. f x + g x) l ≡ total f l + total g l
   total_add f g [] = omega arith
   total_add f g (x ∷ xs) = let b = total_add f g xs in omega arith
 
+  -- an item counts no more than all of them
   pub total_in : (f : A → ℕ) (x : A) (l : List A) → IsIn x l → f x ≤ total f l
   total_in f x [] i = absurd i
   total_in f x (y ∷ ys) (inl e) = let z : f x ≡ f y = ap f e in omega arith
@@ -83,12 +92,14 @@ module _ {A : Type 0} where
       let c = total_in f x zs i in let d : f y ≡ f z = ap f j in absurd (omega arith)
   total_one f (z ∷ zs) h x y (inr i) (inr j) a b = total_one f zs (omega arith) x y i j a b
 
+-- the sum over lists of lists
 pub total_flat_map : {A C : Type 0} (f : C → ℕ) (g : A → List C) (l : List A)
     → total f (flat_map g l) ≡ total (λ (x : A). total f (g x)) l
 total_flat_map f g [] = refl
 total_flat_map f g (x ∷ xs) =
     let h = total_flat_map f g xs in let k = total_append f (g x) (flat_map g xs) in omega arith
 
+-- a name that is taken out stands once less often
 pub times_without : (q x : Name) (l : List Name) → has x l ≡ true → times q (without x l) + is q x ≡ times q l
 times_without q x [] h = cc
 times_without q x (y ∷ ys) h = by_same (times_without q x ys) (same x y) refl where
@@ -100,6 +111,7 @@ times_without q x (y ∷ ys) h = by_same (times_without q x ys) (same x y) refl 
   by_same rec false e =
       let r : has x ys ≡ true = sym (ap (λ z. z || has x ys) e) ∙ h in let k = rec r in rw e (omega arith)
 
+-- a name that is put in stands once more often
 pub times_put_in : (q x : Name) (l : List Name) → times q (put_in x l) ≡ is q x + times q l
 times_put_in q x [] = refl
 times_put_in q x (y ∷ ys) = by_order (times_put_in q x ys) (at_most x y) refl where
@@ -108,10 +120,12 @@ times_put_in q x (y ∷ ys) = by_order (times_put_in q x ys) (at_most x y) refl 
   by_order k true e = rw e refl
   by_order k false e = rw e (omega arith)
 
+-- in order each name stands as often
 pub times_in_order : (q : Name) (l : List Name) → times q (in_order l) ≡ times q l
 times_in_order q [] = refl
 times_in_order q (x ∷ xs) = let h = times_in_order q xs in let k = times_put_in q x (in_order xs) in omega arith
 
+-- with an entry each name is written as often as it stood
 pub wrote_all : (q : Name) (e : Entry) (l : List Name) → wrote q (map (with_entry e) l) ≡ times q l
 wrote_all q e [] = refl
 wrote_all q e (x ∷ xs) = let h = wrote_all q e xs in omega arith
@@ -131,6 +145,7 @@ times_hand_all q holds (r ∷ rs) l e =
       by_sort rec sort.Promise true h g = let k = rec g in let m = times_without q r.name holds h in omega arith
       by_sort rec sort.Promise false h g = cc
 
+-- what stands in a list is found
 pub has_of_times : (x : Name) (l : List Name) → 1 ≤ times x l → has x l ≡ true
 has_of_times x [] h = absurd (omega arith)
 has_of_times x (y ∷ ys) h = by_same (has_of_times x ys) (same x y) refl h where
@@ -157,6 +172,7 @@ fewer (x ∷ xs) m h =
     let r = fewer xs (without x m) (λ q. let z = h q in let w = times_without q x m b in omega arith) in
     omega arith
 
+-- what stands once or more is an element
 pub in_of_times : (q : Name) (l : List Name) → 1 ≤ times q l → IsIn q l
 in_of_times q [] h = absurd (omega arith)
 in_of_times q (x ∷ xs) h = by_same (in_of_times q xs) (same q x) refl h where
@@ -164,9 +180,11 @@ in_of_times q (x ∷ xs) h = by_same (in_of_times q xs) (same q x) refl h where
   by_same rec true e g = inl (same_is q x e)
   by_same rec false e g = inr (rec (omega arith))
 
+-- a name counts itself
 pub is_one : (q x : Name) → q ≡ x → is q x ≡ 1
 is_one q x e = subst (λ y. is q y ≡ 1) e (rw (same_self q) refl)
 
+-- an element stands once or more
 pub times_of_in : (q : Name) (l : List Name) → IsIn q l → 1 ≤ times q l
 times_of_in q [] i = absurd i
 times_of_in q (x ∷ xs) (inl e) = let z = is_one q x e in omega arith
@@ -186,6 +204,7 @@ distinct_of_times (x ∷ xs) h = (
   distinct_of_times xs (λ q. let b = h q in omega arith),
 )
 
+-- where no name stands twice, each stands at most once
 pub times_of_distinct : (q : Name) (l : List Name) → AreDistinct l → times q l ≤ 1
 times_of_distinct q [] h = omega arith
 times_of_distinct q (x ∷ xs) h = by_same (times_of_distinct q xs h.1) (same q x) refl where

@@ -18,67 +18,74 @@ use Rattle.tj_body.proofs.Prefixes.{under, below, under_is, numbered_once}
 use Rattle.tj_body.proofs.Accounts.{fair}
 
 module _ {B : Type 0} (strict : Bool) (asks : B → Answer → Ask B) (then : B → Answer → B) (left : B → ℕ) where
+  -- a history has the name of its task
   pub same_name : (V : Assignment) (t : Task B) → (history strict asks then left V t).name ≡ t.name
   same_name V t = (from_start strict asks then V (2 * suc (left t.body)) t).5
 
   module _ (V : Assignment) (q : Name) where
-    abbrev H : Task B → Point B
-    H t = history strict asks then left V t
+    abbrev history_of : Task B → Point B
+    history_of t = history strict asks then left V t
 
-    abbrev Fam : ℕ → Task B → List (Task B)
-    Fam d t = family strict asks then left V d t
+    abbrev family_of : ℕ → Task B → List (Task B)
+    family_of d t = family strict asks then left V d t
 
     -- how often t owns or writes q
     abbrev pub uses : Task B → ℕ
-    uses t = times q (owned (H t)) + wrote q (writes_by strict asks then left V t)
+    uses t = times q (owned (history_of t)) + wrote q (writes_by strict asks then left V t)
 
     -- how often q is a cell of t
     abbrev pub makes : Task B → ℕ
     makes t = times q (cells_by strict asks then left V t)
 
     used_of : (t : Task B)
-        → uses t + total (λ (c : Task B). times q c.handed) (H t).children ≡ times q t.handed + makes t
+        → uses t + total (λ (c : Task B). times q c.handed) (history_of t).children ≡ times q t.handed + makes t
     used_of t =
         let a = (fair q (under q) strict asks then V (2 * suc (left t.body)) t).0 in
-        let n : is q (H t).name ≡ is q t.name = ap (is q) (same_name V t) in
+        let n : is q (history_of t).name ≡ is q t.name = ap (is q) (same_name V t) in
         omega arith
 
     made_of : (t : Task B)
-        → total (λ (c : Task B). under q c.name) (H t).children + total (under q) (H t).promises ≤ below q t.name
+        → total (λ (c : Task B). under q c.name) (history_of t).children + total (under q) (history_of t).promises
+        ≤ below q t.name
     made_of t =
         let b = (fair q (under q) strict asks then V (2 * suc (left t.body)) t).1 in
-        let n = numbered_once q (H t).name (H t).made in
-        let k : below q (H t).name ≡ below q t.name = ap (below q) (same_name V t) in
+        let n = numbered_once q (history_of t).name (history_of t).made in
+        let k : below q (history_of t).name ≡ below q t.name = ap (below q) (same_name V t) in
         omega arith
 
-    makes_of : (t : Task B) → makes t + total (λ (c : Task B). under q c.name) (H t).children ≤ under q t.name
+    makes_of : (t : Task B) → makes t + total (λ (c : Task B). under q c.name) (history_of t).children ≤ under q t.name
     makes_of t =
         let a = made_of t in
-        let b = total_le (is q) (under q) (λ x. let h = under_is q x in omega arith) (H t).promises in
+        let b = total_le (is q) (under q) (λ x. let h = under_is q x in omega arith) (history_of t).promises in
         let c = under_is q t.name in
         omega arith
 
-    pub once_cell : (d : ℕ) (t : Task B) → total makes (Fam d t) ≤ under q t.name
+    -- each name is a cell of at most one task of a family, and only below the name of its first
+    pub once_cell : (d : ℕ) (t : Task B) → total makes (family_of d t) ≤ under q t.name
     once_cell zero t = let a = makes_of t in omega arith
     once_cell (suc d) t =
         let a = makes_of t in
-        let g = total_flat_map makes (Fam d) (H t).children in
-        let r = total_le (λ x. total makes (Fam d x)) (λ (x : Task B). under q x.name) (once_cell d) (H t).children in
+        let g = total_flat_map makes (family_of d) (history_of t).children in
+        let r = total_le (λ x. total makes (family_of d x)) (λ (x : Task B). under q x.name)
+        (once_cell d) (history_of t).children in
         omega arith
 
     -- what is owned or written is a cell, or was handed
-    pub used_cells : (d : ℕ) (t : Task B) → total uses (Fam d t) ≤ times q t.handed + total makes (Fam d t)
+    pub used_cells : (d : ℕ) (t : Task B) → total uses (family_of d t) ≤ times q t.handed + total makes (family_of d t)
     used_cells zero t = let a = used_of t in omega arith
     used_cells (suc d) t =
         let a = used_of t in
-        let g = total_flat_map uses (Fam d) (H t).children in
-        let h = total_flat_map makes (Fam d) (H t).children in
-        let r = total_le (λ x. total uses (Fam d x)) (λ (x : Task B). times q x.handed + total makes (Fam d x))
-        (used_cells d) (H t).children in
-        let s = total_add (λ (x : Task B). times q x.handed) (λ x. total makes (Fam d x)) (H t).children in
+        let g = total_flat_map uses (family_of d) (history_of t).children in
+        let h = total_flat_map makes (family_of d) (history_of t).children in
+        let r = total_le (λ x. total uses (family_of d x))
+        (λ (x : Task B). times q x.handed + total makes (family_of d x))
+        (used_cells d) (history_of t).children in
+        let s = total_add (λ (x : Task B). times q x.handed) (λ x. total makes (family_of d x))
+        (history_of t).children in
         omega arith
 
-    pub once_used : (d : ℕ) (t : Task B) → total uses (Fam d t) ≤ times q t.handed + under q t.name
+    -- each name is owned or written at most once
+    pub once_used : (d : ℕ) (t : Task B) → total uses (family_of d t) ≤ times q t.handed + under q t.name
     once_used d t = let a = used_cells d t in let b = once_cell d t in omega arith
 
 -- lookups in a list where each name stands once
@@ -95,6 +102,7 @@ absent [] q e h i = i
 absent (w ∷ ws) q e h (inl i) = let z = is_one q w.0 (ap (λ (y : Name × Entry). y.0) i) in omega arith
 absent (w ∷ ws) q e h (inr i) = absent ws q e (omega arith) i
 
+-- and the other way round
 pub to_entry : (l : List (Name × Entry)) (q : Name) (e : Entry) → wrote q l ≤ 1 → IsIn (q, e) l
     → entry_in l q ≡ Some e
 to_entry [] q e h i = absurd i

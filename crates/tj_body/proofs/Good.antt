@@ -212,6 +212,7 @@ module _ {B : Type 0} (places : B → ℕ) (awaits : B → Await) (left : B → 
         subst (λ z. IsGoodAt places awaits left z p) e g.at_stage in
         reads spare c x p (h.awaits_cell, h.all_places, h.room, (g.children, g.made))
 
+    -- a step keeps it
     pub goes : (V : Assignment) (st : PointStage) (p : Point B) → p.stage ≡ st → Good p
         → Good (after_stage strict asks then V st p)
     goes V (stage.Answered a) p e g =
@@ -240,6 +241,7 @@ module _ {B : Type 0} (places : B → ℕ) (awaits : B → Await) (left : B → 
         }
     good V t h (suc k) = let p = point_after strict asks then V k t in goes V p.stage p refl (good V t h k)
 
+    -- every task of a family is proper
     pub family_proper : (V : Assignment) (d : ℕ) (t : Task B) → IsProper places awaits left t → (c : Task B)
         → IsIn c (family strict asks then left V d t) → IsProper places awaits left c
     family_proper V zero t h c (inl e) = subst (IsProper places awaits left) (sym e) h

@@ -31,9 +31,11 @@ module _ {B : Type 0} where
   GoesOn p p' = Begins p.children p'.children × Begins p.writes p'.writes × Begins p.promises p'.promises
       × Begins p.prints p'.prints × Begins p.references p'.references × (p'.name ≡ p.name)
 
+  -- what goes on from a point extends it
   pub extends : (p p' : Point B) → GoesOn p p' → Extends p p'
   extends p p' h = (h.0, h.1, h.2, h.3, h.4)
 
+  -- a point goes on from itself
   pub goes_on_self : (p : Point B) → GoesOn p p
   goes_on_self p = (
     begins_self p.children,
@@ -44,6 +46,7 @@ module _ {B : Type 0} where
     refl,
   )
 
+  -- and from what an earlier one goes on from
   pub goes_on_trans : (p q r : Point B) → GoesOn p q → GoesOn q r → GoesOn p r
   goes_on_trans p q r a b = (
     begins_trans p.children q.children r.children a.0 b.0,
@@ -111,6 +114,7 @@ module _ {B : Type 0} where
   looks q spare (Some e) p = reads spare q e p
 
   module _ (strict : Bool) where
+    -- an ask only adds
     pub takes : (a : Ask B) (p : Point B) → GoesOn p (after_ask strict a p)
     takes ask.New p = (
       begins_self p.children,
@@ -138,14 +142,17 @@ module _ {B : Type 0} where
     takes (ask.Fail t) p = writes_more p _
 
     module _ (asks : B → Answer → Ask B) (then : B → Answer → B) where
+      -- a step only adds, whatever the stage
       pub goes : (V : Assignment) (st : PointStage) (p : Point B) → GoesOn p (after_stage strict asks then V st p)
       goes V (stage.Answered a) p = takes (asks p.body a) (record p { body = then p.body a })
       goes V (stage.Waits q spare) p = looks q spare (V q) p
       goes V (stage.Closed e) p = goes_on_self p
 
+      -- a step only adds
       pub grows : (V : Assignment) (p : Point B) → GoesOn p (after_step strict asks then V p)
       grows V p = goes V p.stage p
 
+      -- each point goes on from the start
       pub from_start : (V : Assignment) (k : ℕ) (t : Task B) → GoesOn (start t) (point_after strict asks then V k t)
       from_start V zero t = goes_on_self (start t)
       from_start V (suc k) t =
@@ -156,6 +163,7 @@ module _ {B : Type 0} where
       abbrev pub IsWaiting : Assignment → Point B → Type 0
       IsWaiting V p = (q : Name) × (spare : Bool) × (p.stage ≡ stage.Waits q spare) × (V q ≡ None)
 
+      -- what waits stays
       pub waiting_stays : (V : Assignment) (p : Point B) → IsWaiting V p → after_step strict asks then V p ≡ p
       waiting_stays V p w = ap (λ z. after_stage strict asks then V z p) w.2 ∙ ap (λ z. after_look w.1 w.0 z p) w.3
 
@@ -202,6 +210,7 @@ module _ {B : Type 0} where
         monotone zero = inl refl
         monotone (suc k) = one (point_after strict asks then V k t) (point_after strict asks then W k t) (monotone k)
 
+        -- after as many steps the larger assignment has come as far or further
         pub more : (k : ℕ) → GoesOn (point_after strict asks then V k t) (point_after strict asks then W k t)
         more k =
             let p = point_after strict asks then V k t in

@@ -18,35 +18,35 @@ use Rattle.tj_body.proofs.Points.{reads_on, point_up, in_history}
 use Rattle.tj_body.proofs.Rises.{within, of_entries}
 
 module _ {B : Type 0} (strict : Bool) (asks : B → Answer → Ask B) (then : B → Answer → B) (left : B → ℕ) where
-  abbrev Fam : Assignment → ℕ → Task B → List (Task B)
-  Fam V d t = family strict asks then left V d t
+  abbrev family_of : Assignment → ℕ → Task B → List (Task B)
+  family_of V d t = family strict asks then left V d t
 
   abbrev children : Assignment → Task B → List (Task B)
   children V t = (history strict asks then left V t).children
 
   -- a child of a task of a family is one of the next family
-  pub child_in : (V W : Assignment) → IsWithin V W → (d : ℕ) (r t c : Task B) → IsIn t (Fam V d r)
-      → IsIn c (children W t) → IsIn c (Fam W (suc d) r)
+  pub child_in : (V W : Assignment) → IsWithin V W → (d : ℕ) (r t c : Task B) → IsIn t (family_of V d r)
+      → IsIn c (children W t) → IsIn c (family_of W (suc d) r)
   child_in V W h zero r t c (inl e) i =
-      inr (in_flat_map (Fam W zero) c c (children W r) (subst (λ z. IsIn c (children W z)) e i) (inl refl))
+      inr (in_flat_map (family_of W zero) c c (children W r) (subst (λ z. IsIn c (children W z)) e i) (inl refl))
   child_in V W h zero r t c (inr j) i = absurd j
   child_in V W h (suc d) r t c (inl e) i =
-      inr (in_flat_map (Fam W (suc d)) c c (children W r) (subst (λ z. IsIn c (children W z)) e i) (inl refl))
+      inr (in_flat_map (family_of W (suc d)) c c (children W r) (subst (λ z. IsIn c (children W z)) e i) (inl refl))
   child_in V W h (suc d) r t c (inr j) i =
-      let x = from_flat_map (Fam V d) t (children V r) j in
+      let x = from_flat_map (family_of V d) t (children V r) j in
       let m = more strict asks then V W h r (2 * suc (left r.body)) in
-      inr (in_flat_map (Fam W (suc d)) x.0 c (children W r) (in_begins x.0 (children V r) (children W r) m.0 x.1)
+      inr (in_flat_map (family_of W (suc d)) x.0 c (children W r) (in_begins x.0 (children V r) (children W r) m.0 x.1)
       (child_in V W h d x.0 t c x.2 i))
 
   module _ (root : Task B) (alone : root.handed ≡ []) where
     abbrev V : ℕ → Assignment
     V n = given strict asks then left root n
 
-    abbrev Ts : ℕ → List (Task B)
-    Ts n = tasks strict asks then left root n
+    abbrev tasks_of : ℕ → List (Task B)
+    tasks_of n = tasks strict asks then left root n
 
-    abbrev Cs : ℕ → List Name
-    Cs n = cells strict asks then left root n
+    abbrev cells_of : ℕ → List Name
+    cells_of n = cells strict asks then left root n
 
     -- a point under one round that reads an entry of another is a point under each round from both on
     pub reads_later : (n m k : ℕ) (t : Task B) (p : Point B) (q : Name) (spare : Bool) (e : Entry) → n ≤ k → m ≤ k
@@ -58,13 +58,13 @@ module _ {B : Type 0} (strict : Bool) (asks : B → Answer → Ask B) (then : B 
         (within strict asks then left root alone m k j q e v)
 
     -- a task of a round is a cell of it
-    pub task_cell : (n : ℕ) (t : Task B) → IsIn t (Ts (suc n)) → IsIn t.name (Cs (suc n))
-    task_cell n t i = in_flat_map (cells_by strict asks then left (V n)) t t.name (Ts (suc n)) i (inl refl)
+    pub task_cell : (n : ℕ) (t : Task B) → IsIn t (tasks_of (suc n)) → IsIn t.name (cells_of (suc n))
+    task_cell n t i = in_flat_map (cells_by strict asks then left (V n)) t t.name (tasks_of (suc n)) i (inl refl)
 
     module _ (places : B → ℕ) (awaits : B → Await)
         (obeys : (b : B) (a : Answer) → Obeys places awaits left asks then b a)
         (proper : IsProper places awaits left root) (n : ℕ) (t : Task B) (p : Point B)
-        (there : IsIn t (Ts (suc n))) (of_t : IsPointOf strict asks then (V n) t p) where
+        (there : IsIn t (tasks_of (suc n))) (of_t : IsPointOf strict asks then (V n) t p) where
       proper_t : IsProper places awaits left t
       proper_t = task_proper places awaits left strict asks then obeys root proper (suc n) t there
 
@@ -74,19 +74,19 @@ module _ {B : Type 0} (strict : Bool) (asks : B → Answer → Ask B) (then : B 
           let g = in_history strict asks then places awaits left obeys (V n) t proper_t p of_t in
           let H = history strict asks then left (V n) t in
           of_entries strict asks then left root alone (suc n) q e
-          (in_flat_map (writes_by strict asks then left (V n)) t (q, e) (Ts (suc n)) there
+          (in_flat_map (writes_by strict asks then left (V n)) t (q, e) (tasks_of (suc n)) there
           (in_begins (q, e) p.writes H.writes g.1 w))
 
       -- a promise that it has made is a cell of that round
-      pub promised : (q : Name) → IsIn q p.promises → IsIn q (Cs (suc n))
+      pub promised : (q : Name) → IsIn q p.promises → IsIn q (cells_of (suc n))
       promised q w =
           let g = in_history strict asks then places awaits left obeys (V n) t proper_t p of_t in
           let H = history strict asks then left (V n) t in
-          in_flat_map (cells_by strict asks then left (V n)) t q (Ts (suc n)) there
+          in_flat_map (cells_by strict asks then left (V n)) t q (tasks_of (suc n)) there
           (inr (in_begins q p.promises H.promises g.2 w))
 
       -- a task that it has forked is one of the next round
-      pub forked : (c : Task B) → IsIn c p.children → IsIn c (Ts (suc (suc n)))
+      pub forked : (c : Task B) → IsIn c p.children → IsIn c (tasks_of (suc (suc n)))
       forked c i =
           let u = within strict asks then left root alone n (suc n) (omega arith) in
           let g = in_history strict asks then places awaits left obeys (V (suc n)) t proper_t p

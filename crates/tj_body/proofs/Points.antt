@@ -64,25 +64,30 @@ module _ {B : Type 0} (strict : Bool) (asks : B → Answer → Ask B) (then : B 
   stopped_stays V p (inr w) = waiting_stays strict asks then V p w
 
   module _ (V : Assignment) (t : Task B) where
-    abbrev P : ℕ → Point B
-    P k = point_after strict asks then V k t
+    abbrev point_of : ℕ → Point B
+    point_of k = point_after strict asks then V k t
 
-    pub stays : (k : ℕ) → after_step strict asks then V (P k) ≡ P k → (j : ℕ) → P (j + k) ≡ P k
-    stays k s zero = ap P (let z : 0 + k ≡ k = omega arith in z)
+    -- a point that a step leaves as it is stays for good
+    pub stays : (k : ℕ) → after_step strict asks then V (point_of k) ≡ point_of k → (j : ℕ)
+        → point_of (j + k) ≡ point_of k
+    stays k s zero = ap point_of (let z : 0 + k ≡ k = omega arith in z)
     stays k s (suc j) =
-        ap P (let z : suc j + k ≡ suc (j + k) = omega arith in z)
+        ap point_of (let z : suc j + k ≡ suc (j + k) = omega arith in z)
         ∙ (ap (after_step strict asks then V) (stays k s j) ∙ s)
 
-    later : (k j : ℕ) → GoesOn (P k) (P (j + k))
-    later k zero = subst (λ m. GoesOn (P k) (P m)) (let z : k ≡ 0 + k = omega arith in z) (goes_on_self (P k))
+    later : (k j : ℕ) → GoesOn (point_of k) (point_of (j + k))
+    later k zero =
+        subst (λ m. GoesOn (point_of k) (point_of m)) (let z : k ≡ 0 + k = omega arith in z)
+        (goes_on_self (point_of k))
     later k (suc j) =
-        subst (λ m. GoesOn (P k) (P m)) (let z : suc (j + k) ≡ suc j + k = omega arith in z)
-        (goes_on_trans (P k) (P (j + k)) (P (suc (j + k))) (later k j) (grows strict asks then V (P (j + k))))
+        subst (λ m. GoesOn (point_of k) (point_of m)) (let z : suc (j + k) ≡ suc j + k = omega arith in z)
+        (goes_on_trans (point_of k) (point_of (j + k)) (point_of (suc (j + k))) (later k j)
+        (grows strict asks then V (point_of (j + k))))
 
     -- a later point goes on from an earlier one
-    pub later_point : (k m : ℕ) → k ≤ m → GoesOn (P k) (P m)
+    pub later_point : (k m : ℕ) → k ≤ m → GoesOn (point_of k) (point_of m)
     later_point k m l =
-        subst (λ z. GoesOn (P k) (P z)) (let z : (m - k) + k ≡ m = omega arith in z) (later k (m - k))
+        subst (λ z. GoesOn (point_of k) (point_of z)) (let z : (m - k) + k ≡ m = omega arith in z) (later k (m - k))
 
   module _ (places : B → ℕ) (awaits : B → Await) (left : B → ℕ)
       (obeys : (b : B) (a : Answer) → Obeys places awaits left asks then b a) where
@@ -148,19 +153,19 @@ module _ {B : Type 0} (strict : Bool) (asks : B → Answer → Ask B) (then : B 
     stops_or_falls V (stage.Closed x) p e g = inl (inl (x, e))
 
     module _ (V : Assignment) (t : Task B) (proper : IsProper places awaits left t) where
-      abbrev At : ℕ → Point B
-      At k = point_after strict asks then V k t
+      abbrev point_at : ℕ → Point B
+      point_at k = point_after strict asks then V k t
 
-      abbrev H : Point B
-      H = history strict asks then left V t
+      abbrev history_of_t : Point B
+      history_of_t = history strict asks then left V t
 
-      still_stopped : (k : ℕ) → HasStopped V (At k) → HasStopped V (At (suc k))
-      still_stopped k s = subst (HasStopped V) (sym (stopped_stays V (At k) s)) s
+      still_stopped : (k : ℕ) → HasStopped V (point_at k) → HasStopped V (point_at (suc k))
+      still_stopped k s = subst (HasStopped V) (sym (stopped_stays V (point_at k) s)) s
 
-      runs_down : (k : ℕ) → HasStopped V (At k) ⊎ (weight left (At k) + k ≤ 2 * suc (left t.body))
+      runs_down : (k : ℕ) → HasStopped V (point_at k) ⊎ (weight left (point_at k) + k ≤ 2 * suc (left t.body))
       runs_down zero = inr (omega arith)
       runs_down (suc k) =
-          let p = At k in
+          let p = point_at k in
           let g = good places awaits left strict asks then obeys V t proper k in
           ⊎_elim (λ s. inl (still_stopped k s))
           (λ l. ⊎_elim (λ s. inl (still_stopped k s)) (λ w. inr (omega arith))
@@ -173,32 +178,34 @@ module _ {B : Type 0} (strict : Bool) (asks : B → Answer → Ask B) (then : B 
       light p (stage.Waits q spare) e h = absurd (omega arith)
 
       -- a history has come to its stop
-      pub stopped : HasStopped V H
+      pub stopped : HasStopped V history_of_t
       stopped =
-          ⊎_elim (λ s. s) (λ l. light H H.stage refl (omega arith)) (runs_down (2 * suc (left t.body)))
+          ⊎_elim (λ s. s) (λ l. light history_of_t history_of_t.stage refl (omega arith))
+          (runs_down (2 * suc (left t.body)))
 
-      from_stop : (k : ℕ) → 2 * suc (left t.body) ≤ k → At k ≡ H
+      from_stop : (k : ℕ) → 2 * suc (left t.body) ≤ k → point_at k ≡ history_of_t
       from_stop k l =
           let n = 2 * suc (left t.body) in
-          ap At (let z : k ≡ (k - n) + n = omega arith in z) ∙ stays V t n (stopped_stays V H stopped) (k - n)
+          ap point_at (let z : k ≡ (k - n) + n = omega arith in z)
+          ∙ stays V t n (stopped_stays V history_of_t stopped) (k - n)
 
       -- a point that doesn't go on is the history
-      pub halt : (k : ℕ) → after_step strict asks then V (At k) ≡ At k → At k ≡ H
+      pub halt : (k : ℕ) → after_step strict asks then V (point_at k) ≡ point_at k → point_at k ≡ history_of_t
       halt k s =
           let n = 2 * suc (left t.body) in
           dite (dec_le k n)
-          (λ l. sym (ap At (let z : n ≡ (n - k) + k = omega arith in z) ∙ stays V t k s (n - k)))
+          (λ l. sym (ap point_at (let z : n ≡ (n - k) + k = omega arith in z) ∙ stays V t k s (n - k)))
           (λ l. from_stop k (omega arith))
 
       -- and so is a point that has stopped
-      pub whole : (p : Point B) → IsPointOf strict asks then V t p → HasStopped V p → p ≡ H
+      pub whole : (p : Point B) → IsPointOf strict asks then V t p → HasStopped V p → p ≡ history_of_t
       whole p h s =
           h.1 ∙ halt h.0 (subst (λ z. after_step strict asks then V z ≡ z) h.1 (stopped_stays V p s))
 
       -- a point is a beginning of its history
-      pub in_history : (p : Point B) → IsPointOf strict asks then V t p → GoesOn p H
+      pub in_history : (p : Point B) → IsPointOf strict asks then V t p → GoesOn p history_of_t
       in_history p h =
           let n = 2 * suc (left t.body) in
-          subst (λ z. GoesOn z H) (sym h.1)
+          subst (λ z. GoesOn z history_of_t) (sym h.1)
           (dite (dec_le h.0 n) (λ l. later_point V t h.0 n l)
-          (λ l. subst (GoesOn (At h.0)) (from_stop h.0 (omega arith)) (goes_on_self (At h.0))))
+          (λ l. subst (GoesOn (point_at h.0)) (from_stop h.0 (omega arith)) (goes_on_self (point_at h.0))))

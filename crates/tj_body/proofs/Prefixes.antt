@@ -28,6 +28,7 @@ under q x = one_if (begins x q)
 abbrev pub below : Name → Name → ℕ
 below q x = one_if (goes_below x q)
 
+-- a name begins with x where it is x or goes on after it
 pub under_is : (q x : Name) → under q x ≡ is q x + below q x
 under_is [] [] = refl
 under_is (y ∷ ys) [] = refl

@@ -30,17 +30,17 @@ module _ {B : Type 0} (strict : Bool) (asks : B → Answer → Ask B) (then : B 
   abbrev V : ℕ → Assignment
   V n = given strict asks then left root n
 
-  abbrev Ts : ℕ → List (Task B)
-  Ts n = tasks strict asks then left root n
+  abbrev tasks_of : ℕ → List (Task B)
+  tasks_of n = tasks strict asks then left root n
 
-  abbrev Cs : ℕ → List Name
-  Cs n = cells strict asks then left root n
+  abbrev cells_of : ℕ → List Name
+  cells_of n = cells strict asks then left root n
 
-  abbrev H : ℕ → Task B → Point B
-  H n t = history strict asks then left (V n) t
+  abbrev history_of : ℕ → Task B → Point B
+  history_of n t = history strict asks then left (V n) t
 
-  abbrev P : ℕ → ℕ → Task B → Point B
-  P n k t = point_after strict asks then (V n) k t
+  abbrev point_of : ℕ → ℕ → Task B → Point B
+  point_of n k t = point_after strict asks then (V n) k t
 
   abbrev step : ℕ → Point B → Point B
   step n p = after_step strict asks then (V n) p
@@ -52,16 +52,18 @@ module _ {B : Type 0} (strict : Bool) (asks : B → Answer → Ask B) (then : B 
   pub record Shows (E : Assignment) (S : Task B → Point B → Type 0) : Type 0 where
     pub root_there : (p : Point B) × S root p
     pub points : (t : Task B) (p : Point B) → S t p → (m : ℕ) × IsPointOf strict asks then (V m) t p
-    pub tasks_of : (t : Task B) (p : Point B) → S t p → (m : ℕ) × IsIn t (Ts m)
+    pub tasks_of : (t : Task B) (p : Point B) → S t p → (m : ℕ) × IsIn t (tasks_of m)
     pub stopped : (t : Task B) (p : Point B) → S t p → HasStopped E p
     pub forked : (t c : Task B) (p : Point B) → S t p → IsIn c p.children → (r : Point B) × S c r
     pub written : (t : Task B) (p : Point B) (q : Name) (e : Entry) → S t p → IsIn (q, e) p.writes → E q ≡ Some e
     pub entered : (q : Name) (e : Entry) → E q ≡ Some e → (m : ℕ) × (V m q ≡ Some e)
 
+  -- p is what stands there for task t
   abbrev pub Is : (ℕ → Option (Point B)) → Task B → Point B → Type 0
   Is at t p = (c : ℕ) × (at c ≡ Some p) × IsSomeTask strict asks then left root t
       × IsSomePoint strict asks then left root t p
 
+  -- a point has the name of its task
   pub point_name : (m : ℕ) (t : Task B) (p : Point B) → IsPointOf strict asks then (V m) t p → p.name ≡ t.name
   point_name m t p h = ap (λ (z : Point B). z.name) h.1 ∙ (from_start strict asks then (V m) h.0 t).5
 
@@ -76,7 +78,7 @@ module _ {B : Type 0} (strict : Bool) (asks : B → Answer → Ask B) (then : B 
         (c, a, i, subst (λ u. IsSomePoint strict asks then left root u p) z y.2)
 
     -- the task and its point stand in one round, later than both of theirs
-    task_then : (t : Task B) (p : Point B) (s : Is at t p) → IsIn t (Ts (suc (s.2.0 + s.3.0)))
+    task_then : (t : Task B) (p : Point B) (s : Is at t p) → IsIn t (tasks_of (suc (s.2.0 + s.3.0)))
     task_then t p s = tasks_within strict asks then left root alone s.2.0 (suc (s.2.0 + s.3.0)) (omega arith) t s.2.1
 
     point_then : (t : Task B) (p : Point B) (s : Is at t p) → IsPointOf strict asks then (V (s.2.0 + s.3.0)) t p
@@ -100,6 +102,7 @@ module _ {B : Type 0} (strict : Bool) (asks : B → Answer → Ask B) (then : B 
         (task_then t p s) (point_then t p s) q e w in
         y.1 ∙ (sym (rises z.0 m (omega arith) q y.0 z.1) ∙ rises n m (omega arith) q e a)
 
+    -- what is at rest shows what each task has come to
     pub shown : Shows E (Is at)
     shown = record {
       root_there = let y = x.root_there in (y.1, is_of y.0 y.1 root y.2 (suc zero, inl refl) y.3);
@@ -122,42 +125,43 @@ module _ {B : Type 0} (strict : Bool) (asks : B → Answer → Ask B) (then : B 
           none (Some e) g = let z : None ≡ Some e = sym w.3 ∙ h w.0 e g in absurd (cc)
 
     -- a round has come no further in a task than its point, however later the round is
-    behind : (n m k : ℕ) (t : Task B) → IsWithin (V n) E → HasStopped E (P m k t) → (j : ℕ)
-        → (i : ℕ) × (i ≤ k) × (P n j t ≡ P m i t)
+    behind : (n m k : ℕ) (t : Task B) → IsWithin (V n) E → HasStopped E (point_of m k t) → (j : ℕ)
+        → (i : ℕ) × (i ≤ k) × (point_of n j t ≡ point_of m i t)
     behind n m k t h a zero = (zero, omega arith, refl)
     behind n m k t h a (suc j) =
         let r = behind n m k t h a j in
         dite (ℕ_discrete r.0 k)
-        (λ e. let s : P n j t ≡ P m k t = r.2 ∙ ap (λ z. P m z t) e in
-        (k, omega arith, ap (step n) s ∙ holds_still n h (P m k t) a))
+        (λ e. let s : point_of n j t ≡ point_of m k t = r.2 ∙ ap (λ z. point_of m z t) e in
+        (k, omega arith, ap (step n) s ∙ holds_still n h (point_of m k t) a))
         (λ d. dite (dec_le n m) (λ l. up r.0 (omega arith) r.2 (rises n m l))
         (λ l. down r.0 (omega arith) r.2 (rises m n (omega arith)))) where
-          up : (i : ℕ) → i < k → P n j t ≡ P m i t → IsWithin (V n) (V m)
-              → (i : ℕ) × (i ≤ k) × (step n (P n j t) ≡ P m i t)
+          up : (i : ℕ) → i < k → point_of n j t ≡ point_of m i t → IsWithin (V n) (V m)
+              → (i : ℕ) × (i ≤ k) × (step n (point_of n j t) ≡ point_of m i t)
           up i l e w =
               ⊎_elim (λ s. (suc i, omega arith, s ∙ ap (step m) e))
-              (λ s. (i, omega arith, waiting_stays strict asks then (V n) (P n j t) s ∙ e))
-              (same_or_waiting strict asks then (V n) (V m) w (P n j t).stage (P n j t) refl)
+              (λ s. (i, omega arith, waiting_stays strict asks then (V n) (point_of n j t) s ∙ e))
+              (same_or_waiting strict asks then (V n) (V m) w (point_of n j t).stage (point_of n j t) refl)
 
-          down : (i : ℕ) → i < k → P n j t ≡ P m i t → IsWithin (V m) (V n)
-              → (i : ℕ) × (i ≤ k) × (step n (P n j t) ≡ P m i t)
+          down : (i : ℕ) → i < k → point_of n j t ≡ point_of m i t → IsWithin (V m) (V n)
+              → (i : ℕ) × (i ≤ k) × (step n (point_of n j t) ≡ point_of m i t)
           down i l e w =
               ⊎_elim (λ s. (suc i, omega arith, sym s ∙ ap (step m) e))
-              (λ s. let b : step m (P m i t) ≡ P m i t =
-              subst (λ z. step m z ≡ z) e (waiting_stays strict asks then (V m) (P n j t) s) in
-              let c : P m k t ≡ P m i t = ap (λ z. P m z t) (let z : k ≡ (k - i) + i = omega arith in z)
+              (λ s. let b : step m (point_of m i t) ≡ point_of m i t =
+              subst (λ z. step m z ≡ z) e (waiting_stays strict asks then (V m) (point_of n j t) s) in
+              let c : point_of m k t ≡ point_of m i t =
+              ap (λ z. point_of m z t) (let z : k ≡ (k - i) + i = omega arith in z)
               ∙ stays strict asks then (V m) t i b (k - i) in
-              (i, omega arith, holds_still n h (P n j t) (subst (HasStopped E) (c ∙ sym e) a) ∙ e))
-              (same_or_waiting strict asks then (V m) (V n) w (P n j t).stage (P n j t) refl)
+              (i, omega arith, holds_still n h (point_of n j t) (subst (HasStopped E) (c ∙ sym e) a) ∙ e))
+              (same_or_waiting strict asks then (V m) (V n) w (point_of n j t).stage (point_of n j t) refl)
 
     -- what a task has come to has all that its history under the round has
-    ahead : (n : ℕ) → IsWithin (V n) E → (t : Task B) (p : Point B) → S t p → GoesOn (H n t) p
+    ahead : (n : ℕ) → IsWithin (V n) E → (t : Task B) (p : Point B) → S t p → GoesOn (history_of n t) p
     ahead n h t p s =
         let y = x.points t p s in
         let at_k = subst (HasStopped E) y.1.1 (x.stopped t p s) in
         let r = behind n y.0 y.1.0 t h at_k (2 * suc (left t.body)) in
         subst (λ z. GoesOn z p) (sym r.2)
-        (subst (GoesOn (P y.0 r.0 t)) (sym y.1.1) (later_point strict asks then (V y.0) t r.0 y.1.0 r.1))
+        (subst (GoesOn (point_of y.0 r.0 t)) (sym y.1.1) (later_point strict asks then (V y.0) t r.0 y.1.0 r.1))
 
     descends : (n : ℕ) → IsWithin (V n) E → (d : ℕ) (t : Task B) (p : Point B) → S t p → (c : Task B)
         → IsIn c (family strict asks then left (V n) d t) → (r : Point B) × S c r
@@ -165,8 +169,8 @@ module _ {B : Type 0} (strict : Bool) (asks : B → Answer → Ask B) (then : B 
     descends n h zero t p s c (inr i) = absurd i
     descends n h (suc d) t p s c (inl e) = (p, subst (λ z. S z p) (sym e) s)
     descends n h (suc d) t p s c (inr i) =
-        let f = from_flat_map (family strict asks then left (V n) d) c (H n t).children i in
-        let r = x.forked t f.0 p s (in_begins f.0 (H n t).children p.children (ahead n h t p s).0 f.1) in
+        let f = from_flat_map (family strict asks then left (V n) d) c (history_of n t).children i in
+        let r = x.forked t f.0 p s (in_begins f.0 (history_of n t).children p.children (ahead n h t p s).0 f.1) in
         descends n h d f.0 r.0 r.1 c f.2
 
     -- each round lies within all entries
@@ -174,33 +178,35 @@ module _ {B : Type 0} (strict : Bool) (asks : B → Answer → Ask B) (then : B 
     within_all zero q e h = cc
     within_all (suc n) q e h =
         let w = within_all n in
-        let f = from_flat_map (writes_by strict asks then left (V n)) (q, e) (Ts (suc n))
+        let f = from_flat_map (writes_by strict asks then left (V n)) (q, e) (tasks_of (suc n))
         (in_entries strict asks then left root alone (suc n) q e h) in
         let r = descends n w (suc n) root x.root_there.0 x.root_there.1 f.0 f.1 in
-        x.written f.0 r.0 q e r.1 (in_begins (q, e) (H n f.0).writes r.0.writes (ahead n w f.0 r.0 r.1).1 f.2)
+        x.written f.0 r.0 q e r.1 (in_begins (q, e) (history_of n f.0).writes r.0.writes (ahead n w f.0 r.0 r.1).1 f.2)
 
-    pub tasks_there : (n : ℕ) (t : Task B) → IsIn t (Ts n) → (r : Point B) × S t r
+    -- each task of a round has come to something
+    pub tasks_there : (n : ℕ) (t : Task B) → IsIn t (tasks_of n) → (r : Point B) × S t r
     tasks_there zero t i = absurd i
     tasks_there (suc n) t i = descends n (within_all n) (suc n) root x.root_there.0 x.root_there.1 t i
 
     module _ (names : List Name) (task_named : (t : Task B) (p : Point B) → S t p → IsIn t.name names)
         (promise_named : (t : Task B) (p : Point B) (q : Name) → S t p → IsIn q p.promises → IsIn q names) where
-      pub cell_there : (n : ℕ) (q : Name) → IsIn q (Cs n) → IsIn q names
+      -- each cell of a round is among the names
+      pub cell_there : (n : ℕ) (q : Name) → IsIn q (cells_of n) → IsIn q names
       cell_there zero q i = absurd i
       cell_there (suc n) q i =
-          let f = from_flat_map (cells_by strict asks then left (V n)) q (Ts (suc n)) i in
+          let f = from_flat_map (cells_by strict asks then left (V n)) q (tasks_of (suc n)) i in
           let r = tasks_there (suc n) f.0 f.1 in
           let g = ahead n (within_all n) f.0 r.0 r.1 in
           ⊎_elim (λ e. subst (λ z. IsIn z names) (sym e) (task_named f.0 r.0 r.1))
-          (λ j. promise_named f.0 r.0 q r.1 (in_begins q (H n f.0).promises r.0.promises g.2 j)) f.2
+          (λ j. promise_named f.0 r.0 q r.1 (in_begins q (history_of n f.0).promises r.0.promises g.2 j)) f.2
 
       -- no round has more cells than there are names
-      pub cells_fit : (n : ℕ) → length (Cs n) ≤ length names
+      pub cells_fit : (n : ℕ) → length (cells_of n) ≤ length names
       cells_fit n =
-          fewer (Cs n) names
-          (λ q. at_least q (Cs n) names (once_name strict asks then left root alone n q) (cell_there n q))
+          fewer (cells_of n) names
+          (λ q. at_least q (cells_of n) names (once_name strict asks then left root alone n q) (cell_there n q))
 
-    module _ (N : ℕ) (few : length (Cs (last_round N)) ≤ N) where
+    module _ (N : ℕ) (few : length (cells_of (last_round N)) ≤ N) where
       -- the entries are the meaning's
       pub same_entries : (q : Name) → E q ≡ V (last_round N) q
       same_entries q = by_both (E q) (V (last_round N) q) refl refl where
@@ -211,7 +217,7 @@ module _ {B : Type 0} (strict : Bool) (asks : B → Answer → Ask B) (then : B 
             let y = x.entered q e g in sym (last strict asks then left root alone N few y.0 q e y.1) ∙ h
 
       -- what a task has come to is its history under the meaning
-      pub same_points : (t : Task B) (p : Point B) → S t p → p ≡ H (last_round N) t
+      pub same_points : (t : Task B) (p : Point B) → S t p → p ≡ history_of (last_round N) t
       same_points t p s =
           let y = x.points t p s in
           let i = x.tasks_of t p s in
@@ -223,7 +229,7 @@ module _ {B : Type 0} (strict : Bool) (asks : B → Answer → Ask B) (then : B 
           (subst (λ z. step (last_round N) z ≡ z) u.1 st)
 
       -- its tasks are the meaning's
-      pub same_tasks : (t : Task B) (p : Point B) → S t p → IsIn t (Ts (last_round N))
+      pub same_tasks : (t : Task B) (p : Point B) → S t p → IsIn t (tasks_of (last_round N))
       same_tasks t p s =
           let y = x.tasks_of t p s in last_task strict asks then left root alone N few y.0 t y.1
 
@@ -248,5 +254,5 @@ module _ {B : Type 0} (strict : Bool) (asks : B → Answer → Ask B) (then : B 
     promise_named : (t : Task B) (p : Point B) (q : Name) → Is at t p → IsIn q p.promises → IsIn q names
     promise_named t p q s i = promises_named s.0 p q s.1 i
 
-    k : length (Cs (last_round N)) ≤ N
+    k : length (cells_of (last_round N)) ≤ N
     k = let f = cells_fit E (Is at) x names task_named promise_named (last_round N) in omega arith

@@ -119,8 +119,8 @@ module _ {B : Type 0} (asks : B → Answer → Ask B) (then : B → Answer → B
         → IsWithin (assignment_of (suc n)) (assignment_of n) → IsSettledAt n
 
     -- and so does one with no more tasks and no more entries than the one before
-    abbrev pub IsSettledWhereNoMore : Type 0
-    IsSettledWhereNoMore = (n : ℕ) → length (tasks_of (suc n)) ≤ length (tasks_of n)
+    abbrev pub IsSettledBySize : Type 0
+    IsSettledBySize = (n : ℕ) → length (tasks_of (suc n)) ≤ length (tasks_of n)
         → length (entries_of (suc n)) ≤ length (entries_of n) → IsSettledAt n
 
     -- some round has more than N cells exactly where the meaning with limit N is full

@@ -3,7 +3,7 @@
 ghost use Rattle.tj_body.specs.Laws.{HoldsOfPrograms, HoldsOfTasks, IsDetermined, Stops};
 ghost use Rattle.tj_body.specs.Laws.{IsMonotone, AsksOn, IsAllGood, Grows, IsApart, NamesApart};
 ghost use Rattle.tj_body.specs.Laws.{OwnsApart, CountsInRound, CountsMade};
-ghost use Rattle.tj_body.specs.Laws.{IsSettledWhereSame, IsSettledWhereNoMore, IsFullExactly};
+ghost use Rattle.tj_body.specs.Laws.{IsSettledWhereSame, IsSettledBySize, IsFullExactly};
 ghost use Rattle.tj_body.specs.Laws.{IsFullWhere, IsLast, ReadsOn, IsKept, RestsAtMeaning};
 
 use crate::body::Body;
@@ -30,7 +30,8 @@ pub fn point_asks_on<B: Body>()
 
 /// Each task of a round is as forks make them, and can go on from each of its points.
 pub fn points_are_good<B: Body>()
-    ensures { HoldsOfPrograms B.places B.awaits B.left (IsAllGood B.places B.awaits B.left B.asks B.then) }
+    ensures { HoldsOfPrograms B.places B.awaits B.left
+        (IsAllGood B.places B.awaits B.left B.asks B.then) }
 {}
 
 /// A later round has the tasks, the entries and the cells of an earlier one.
@@ -59,8 +60,8 @@ pub fn round_settles_where_same<B: Body>()
 {}
 
 /// A round with no more tasks and no more entries than the one before equals all later ones.
-pub fn round_settles_where_no_more<B: Body>()
-    ensures { HoldsOfPrograms B.places B.awaits B.left (IsSettledWhereNoMore B.asks B.then B.left) }
+pub fn round_settles_by_size<B: Body>()
+    ensures { HoldsOfPrograms B.places B.awaits B.left (IsSettledBySize B.asks B.then B.left) }
 {}
 
 /// Some round has more than N cells exactly where the meaning with limit N is full.
