@@ -207,7 +207,7 @@ module _ {B : Type 0} where
     after_ask ask.New p = after_new p
     after_ask (ask.Fork b pass hand) p =
         after_try_fork b (map (reference p) pass) (map (λ k. (reference p k).name) hand)
-          (hand_all p.holds (map (reference p) hand)) p
+        (hand_all p.holds (map (reference p) hand)) p
     after_ask (ask.Set k v) p = after_set (reference p k).sort (reference p k).name (value_at p.name p.references v) p
     after_ask (ask.Get k) p = after_get false (reference p k).sort (reference p k).name p
     after_ask (ask.Join k) p = after_join strict false (reference p k).sort (reference p k).name p
