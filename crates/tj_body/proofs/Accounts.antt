@@ -1,0 +1,174 @@
+-- Each name that a task holds, has written or handed on is one that it was handed, its own, or one that it made,
+-- as often.
+use Rattle.std.proofs.Common.{◌≡◌, ℕ, zero, suc, ◌+◌, Bool, true, false, cond, not, ◌&&◌, List, [], ◌∷◌, map}
+use Rattle.std.proofs.Common.{Option, Some, None, Result, Ok, Err, refl, ap, subst, arith}
+use Rattle.tj_base.specs.ForkOrder.{Name, child, before}
+use Rattle.tj_base.specs.declared.cell.Sort.{Sort}
+use Rattle.tj_base.specs.declared.cell.Sort.TheVariants as sort
+use Rattle.tj_base.specs.declared.cause.Cause.{Cause}
+use Rattle.tj_base.specs.declared.cause.Cause.TheVariants as cause
+use Rattle.tj_body.specs.Names.{has, in_order}
+use Rattle.tj_body.specs.History.{Assignment, reference, reference_at, value_at, with_entry, hand_all, owned_in}
+use Rattle.tj_body.specs.History.{owned}
+use Rattle.tj_body.specs.History.{after_close, after_new, cause_of, next_name, next_child, after_try_fork}
+use Rattle.tj_body.specs.History.{after_write, after_set, after_get, after_join}
+use Rattle.tj_body.specs.History.{after_read, after_look, after_ask, after_stage, point_after}
+use Rattle.tj_body.specs.declared.ask.Answer.{Answer}
+use Rattle.tj_body.specs.declared.ask.Ask.{Ask}
+use Rattle.tj_body.specs.declared.ask.Ask.TheVariants as ask
+use Rattle.tj_body.specs.declared.point.Reference.{Reference}
+use Rattle.tj_body.specs.declared.point.Value.{Value}
+use Rattle.tj_body.specs.declared.point.Value.TheVariants as value
+use Rattle.tj_body.specs.declared.point.Entry.{Entry}
+use Rattle.tj_body.specs.declared.point.Entry.TheVariants as entry
+use Rattle.tj_body.specs.declared.point.Close.{Close}
+use Rattle.tj_body.specs.declared.point.Close.TheVariants as close
+use Rattle.tj_body.specs.declared.point.PointStage.{PointStage}
+use Rattle.tj_body.specs.declared.point.PointStage.TheVariants as stage
+use Rattle.tj_body.specs.declared.point.Task.{Task}
+use Rattle.tj_body.specs.declared.point.Point.{Point}
+use Rattle.tj_body.proofs.Counts.{is, total, times, wrote, total_append, times_without, times_in_order, wrote_all}
+use Rattle.tj_body.proofs.Counts.{times_hand_all}
+
+-- the things that x made, newest first
+abbrev pub numbered : Name → ℕ → List Name
+numbered x zero = []
+numbered x (suc k) = child x (suc k) ∷ numbered x k
+
+names_of : (x : Name) (references : List Reference) (l : List ℕ)
+    → map (λ (r : Reference). r.name) (map (reference_at x references) l)
+    ≡ map (λ k. (reference_at x references k).name) l
+names_of x references [] = refl
+names_of x references (k ∷ ks) = ap (λ z. (reference_at x references k).name ∷ z) (names_of x references ks)
+
+-- f is any number that a name has
+module _ {B : Type 0} (q : Name) (f : Name → ℕ) where
+  -- how often q is handed to a task
+  abbrev pub handed_to : Task B → ℕ
+  handed_to t = times q t.handed
+
+  -- what f gives for the name of a task
+  abbrev pub named : Task B → ℕ
+  named t = f t.name
+
+  -- what is owned, o times q, is neither written nor handed on, and was handed or made here; h times q was handed
+  abbrev pub IsBalanced : ℕ → Point B → ℕ → Type 0
+  IsBalanced h p o = o + (wrote q p.writes + total handed_to p.children) ≡ h + (times q p.promises + is q p.name)
+
+  -- children and promises are the things made
+  abbrev pub IsMade : Point B → Type 0
+  IsMade p = total named p.children + total f p.promises ≡ total f (numbered p.name p.made)
+
+  -- the account of a point
+  abbrev pub IsFair : ℕ → Point B → Type 0
+  IsFair h p = IsBalanced h p (times q (owned p)) × IsMade p
+
+  -- the account of a point that is about to go on
+  abbrev pub IsOpen : ℕ → Point B → Type 0
+  IsOpen h p = IsBalanced h p (is q p.name + times q p.holds) × IsMade p
+
+  module _ (h : ℕ) where
+    closes : (e : Close) (r : Entry) (p : Point B) → IsOpen h p → IsFair h (after_close e r p)
+    closes e r p o =
+        let a = o.0 in
+        let broken = map (with_entry entry.Broken) (in_order p.holds) in
+        let b = total_append (λ (w : Name × Entry). is q w.0) p.writes ((p.name, r) ∷ broken) in
+        let c = wrote_all q entry.Broken (in_order p.holds) in
+        let d = times_in_order q p.holds in
+        (omega arith, o.1)
+
+    chosen : (b : Bool) (x y : Point B) → IsFair h x → IsFair h y → IsFair h (cond b x y)
+    chosen true x y f g = f
+    chosen false x y f g = g
+
+    gets : (spare : Bool) (s : Sort) (c : Name) (p : Point B) → IsOpen h p → IsFair h (after_get spare s c p)
+    gets spare sort.Task c p o = closes (close.Failed cause.Kind) entry.Broken p o
+    gets spare sort.Promise c p o = o
+
+    joins : (strict spare : Bool) (s : Sort) (c : Name) (p : Point B) → IsOpen h p
+        → IsFair h (after_join strict spare s c p)
+    joins strict spare sort.Task c p o =
+        chosen (strict && not (before p.name c)) _ _ (closes (close.Failed (cause.Order c)) entry.Broken p o) o
+    joins strict spare sort.Promise c p o = closes (close.Failed cause.Kind) entry.Broken p o
+
+    sets : (s : Sort) (c : Name) (v : Value) (p : Point B) → IsOpen h p → IsFair h (after_set s c v p)
+    sets sort.Task c v p o = closes (close.Failed cause.Kind) entry.Broken p o
+    sets sort.Promise c v p o = by_owned (has c p.holds) refl where
+      by_owned : (b : Bool) → has c p.holds ≡ b
+          → IsFair h (cond b (after_write c v p) (after_close (close.Failed (cause.Owner c)) entry.Broken p))
+      by_owned true e =
+          let a = o.0 in
+          let b = total_append (λ (w : Name × Entry). is q w.0) p.writes ((c, entry.Value v) ∷ []) in
+          let d = times_without q c p.holds e in
+          (omega arith, o.1)
+      by_owned false e = closes (close.Failed (cause.Owner c)) entry.Broken p o
+
+    forks : (b : B) (passed : List Reference) (rs : List Reference) (l : Result (List Name) Cause) (p : Point B)
+        → hand_all p.holds rs ≡ l → IsOpen h p
+        → IsFair h (after_try_fork b passed (map (λ (r : Reference). r.name) rs) l p)
+    forks b passed rs (Ok l) p e o =
+        let a = o.0 in
+        let c = o.1 in
+        let k = next_child b passed (map (λ (r : Reference). r.name) rs) p in
+        let x = total_append handed_to p.children (k ∷ []) in
+        let y = total_append named p.children (k ∷ []) in
+        let d = times_hand_all q p.holds rs l e in
+        (omega arith, omega arith)
+    forks b passed rs (Err c) p e o = closes (close.Failed c) entry.Broken p o
+
+    reads : (spare : Bool) (c : Name) (e : Entry) (p : Point B) → IsOpen h p → IsFair h (after_read spare c e p)
+    reads true c entry.Broken p o = o
+    reads false c entry.Broken p o = closes (close.Failed (cause.Broken c)) entry.Broken p o
+    reads spare c (entry.Value (value.Num i)) p o = o
+    reads spare c (entry.Value (value.Ref r)) p o = o
+
+    makes : (p : Point B) → IsOpen h p → IsFair h (after_new p)
+    makes p o =
+        let a = o.0 in
+        let b = o.1 in
+        let x = total_append (is q) p.holds (next_name p ∷ []) in
+        let y = total_append (is q) p.promises (next_name p ∷ []) in
+        let z = total_append f p.promises (next_name p ∷ []) in
+        (omega arith, omega arith)
+
+    module _ (strict : Bool) where
+      -- an ask keeps the account
+      pub takes : (a : Ask B) (p : Point B) → IsOpen h p → IsFair h (after_ask strict a p)
+      takes ask.New p o = makes p o
+      takes (ask.Fork b pass hand) p o =
+          let rs = map (reference p) hand in
+          subst (λ z. IsFair h (after_try_fork b (map (reference p) pass) z (hand_all p.holds rs) p))
+          (names_of p.name p.references hand) (forks b (map (reference p) pass) rs _ p refl o)
+      takes (ask.Set k v) p o =
+          sets (reference p k).sort (reference p k).name (value_at p.name p.references v) p o
+      takes (ask.Get k) p o = gets false (reference p k).sort (reference p k).name p o
+      takes (ask.GetOr k) p o = gets true (reference p k).sort (reference p k).name p o
+      takes (ask.Join k) p o = joins strict false (reference p k).sort (reference p k).name p o
+      takes (ask.JoinOr k) p o = joins strict true (reference p k).sort (reference p k).name p o
+      takes (ask.Emit i) p o = o
+      takes (ask.End v) p o =
+          let w = value_at p.name p.references v in closes (close.Done w) (entry.Value w) p o
+      takes (ask.Fail t) p o = closes (close.Failed (cause_of t)) entry.Broken p o
+
+      looks : (spare : Bool) (c : Name) (o : Option Entry) (p : Point B) → p.stage ≡ stage.Waits c spare → IsFair h p
+          → IsFair h (after_look spare c o p)
+      looks spare c None p g f = f
+      looks spare c (Some e) p g f =
+          reads spare c e p (subst (λ z. IsBalanced h p (times q (owned_in z p.name p.holds))) g f.0, f.1)
+
+      module _ (asks : B → Answer → Ask B) (then : B → Answer → B) where
+        goes : (V : Assignment) (st : PointStage) (p : Point B) → p.stage ≡ st → IsFair h p
+            → IsFair h (after_stage strict asks then V st p)
+        goes V (stage.Answered a) p g f =
+            takes (asks p.body a) (record p { body = then p.body a })
+            (subst (λ z. IsBalanced h p (times q (owned_in z p.name p.holds))) g f.0, f.1)
+        goes V (stage.Waits c spare) p g f = looks spare c (V c) p g f
+        goes V (stage.Closed e) p g f = f
+
+  -- of every point
+  pub fair : (strict : Bool) (asks : B → Answer → Ask B) (then : B → Answer → B) (V : Assignment) (k : ℕ) (t : Task B)
+      → IsFair (times q t.handed) (point_after strict asks then V k t)
+  fair strict asks then V zero t = (omega arith, refl)
+  fair strict asks then V (suc k) t =
+      let p = point_after strict asks then V k t in
+      goes (times q t.handed) strict asks then V p.stage p refl (fair strict asks then V k t)

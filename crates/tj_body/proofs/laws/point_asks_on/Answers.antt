@@ -1,0 +1,5 @@
+use Rattle.tj_body.proofs.Points.{asks_on}
+use Rattle.tj_body.proofs.laws.point_asks_on.Goals as goal
+
+pub returns : goal.returns
+returns g c = let b = g.B.Body in λ strict t proper V p a. asks_on strict b.asks b.then V t p a

@@ -1,0 +1,23 @@
+//! Bodies of tasks, and the meaning of a task program on one thread: histories and rounds.
+#![tactic(auto)]
+
+mod ask;
+mod body;
+mod laws;
+mod point;
+mod table;
+#[cfg(test)]
+mod tests;
+
+pub use ask::{Answer, Ask};
+pub use body::Body;
+pub use laws::{
+    cells_are_apart, full_exactly, full_where_names, history_is_determined, history_is_monotone,
+    history_stops, meaning_is_last, names_are_apart, owners_are_apart, point_asks_on,
+    point_counts_in_round, point_counts_made, point_is_kept, point_reads_on, points_are_good,
+    rest_is_meaning, round_settles_by_size, round_settles_where_same, rounds_grow,
+};
+pub use point::{
+    Close, Entry, EntryList, Point, PointStage, Reference, ReferenceList, Task, TaskList, Value,
+};
+pub use table::{Row, RowList, TableBody};
