@@ -1,2 +1,7 @@
 pub mod Lists
+pub mod Names
+pub mod Orders
+pub mod Readings
 pub mod Skew
+pub mod Trees
+pub mod Walks

@@ -1,1 +1,3 @@
 pub mod Forks
+pub mod Nodes
+pub mod Walk

@@ -1,8 +1,12 @@
 //! The fork order on tasks: as a plain list, by a tree with jump pointers, and over any reader of nodes.
 #![tactic(auto)]
 
+mod before;
 mod list;
 mod node;
+mod reader;
 
+pub use before::before_in;
 pub use list::OrderList;
 pub use node::{Node, NodeId};
+pub use reader::NodeReader;
