@@ -192,6 +192,16 @@ jump_shallower d j e some =
     let less = tail_less (ranks d) (omega arith) in
     omega arith
 
+tail_up_to : (rs : List ℕ) → total (tail rs) ≤ total rs
+tail_up_to [] = omega arith
+tail_up_to (r ∷ rs) = omega arith
+
+-- no jump leads down
+pub jump_up_to : (d j : ℕ) → ranks j ≡ tail (ranks d) → j ≤ d
+jump_up_to d j e =
+    let rest : j ≡ total (tail (ranks d)) = sym (total-ranks j) ∙ ap total e in
+    omega (arith, rest, tail_up_to (ranks d), total-ranks d)
+
 -- jumps from one depth lead to one depth
 pub jump_level : (d e j k : ℕ) → d ≡ e → ranks j ≡ tail (ranks d) → ranks k ≡ tail (ranks e) → j ≡ k
 jump_level d e j k same p q =

@@ -220,3 +220,15 @@ apart_within (suc k) fs h m n l there also e =
 -- tasks have names of their own
 pub names_apart : (fs : Forks) → IsHistory fs → (m n : ℕ) → HasTask fs m → HasTask fs n → name_of fs m ≡ name_of fs n → m ≡ n
 names_apart fs h m n = apart_within (suc (length (name_of fs m))) fs h m n (omega arith)
+
+root_node-of : (fs : Forks) → IsHistory fs → node_of fs 0 ≡ root_node
+root_node-of [] h = refl
+root_node-of (fork ∷ fs) h = node_of-older fork fs 0 h.0 (root_there fs) ∙ root_node-of fs h.1
+
+-- each task's parent is there
+pub parent_there : (fs : Forks) → IsHistory fs → (n : ℕ) → HasTask fs n → HasTask fs (node_of fs n).parent.0
+parent_there fs h n there =
+    elim (cases_eq n 0) [
+      inl root ↦ subst (HasTask fs) (sym (ap (λ k. (node_of fs k).parent.0) root ∙ ap (λ (node : Node). node.parent.0) (root_node-of fs h))) (root_there fs)
+    | inr some ↦ let is = IsChild-of fs h n there some in is.parent_there
+    ]

@@ -1,5 +1,5 @@
 -- Forks, and the order of tasks that they build.
-use Rattle.std.specs.Prelude.{ℕ, ◌≡◌, ◌<◌, ◌==◌, ◌⊎◌, if◌then◌else◌, List, [], ◌∷◌, ◌++◌, Some, slice_get}
+use Rattle.std.specs.Prelude.{ℕ, ◌≡◌, ◌<◌, ◌==◌, ◌+◌, ◌⊎◌, if◌then◌else◌, List, [], ◌∷◌, ◌++◌, Some, slice_get, length, count_by}
 use Rattle.tj_base.specs.ForkOrder.{Name, child}
 
 -- a fork: the parent, the number of the child, and which of the parent's things the child is
@@ -55,3 +55,15 @@ IsHistory (fork ∷ earlier) = IsNext fork earlier × IsHistory earlier
 abbrev pub name_of : Forks → ℕ → Name
 name_of [] n = []
 name_of (fork ∷ earlier) n = if n == fork.child then child (name_of earlier fork.parent) fork.kid else name_of earlier n
+
+-- how many tasks there are: the root, and a child of each fork
+abbrev pub task_count : Forks → ℕ
+task_count forks = length forks + 1
+
+-- how many children a task has
+abbrev pub kid_count : Forks → ℕ → ℕ
+kid_count forks n = count_by (λ fork. fork.parent == n) forks
+
+-- the next fork by this parent, where tasks and the children of each are numbered as they come
+abbrev pub next_fork : Forks → ℕ → Fork
+next_fork earlier parent = record { parent = parent; child = task_count earlier; kid = kid_count earlier parent + 1 }

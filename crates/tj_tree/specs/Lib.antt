@@ -1,3 +1,4 @@
 pub mod Forks
 pub mod Nodes
+pub mod Tree
 pub mod Walk

@@ -5,8 +5,10 @@ mod before;
 mod list;
 mod node;
 mod reader;
+mod tree;
 
 pub use before::before_in;
 pub use list::OrderList;
 pub use node::{Node, NodeId};
 pub use reader::NodeReader;
+pub use tree::ForkTree;
