@@ -1,3 +1,4 @@
+pub mod LawProofs
 pub mod Lists
 pub mod Names
 pub mod Orders

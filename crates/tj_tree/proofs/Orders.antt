@@ -1,7 +1,7 @@
 -- The list order of a history is the fork order on the names of its tasks.
-use Rattle.std.proofs.Common.{◌≡◌, ◌≢◌, ℕ, suc, zero, ◌+◌, ◌<◌, ◌≤◌, Bool, true, false, cond, eqb, ◌||◌, ◌⊎◌, List, [], ◌∷◌, ◌++◌, length, refl, sym, ap, ◌∙◌, subst, inl, inr, arith}
+use Rattle.std.proofs.Common.{◌≡◌, ℕ, suc, zero, ◌<◌, Bool, true, false, eqb, ◌||◌, ◌⊎◌, [], ◌∷◌, ◌++◌, length, refl, sym, ap, ◌∙◌, subst, inl, inr, arith}
 use Rattle.std.specs.Prelude.{◌↔◌}
-use Rattle.std.proofs.lemmas.Bool.{cases_eq, eqb-true}
+use Rattle.std.proofs.lemmas.Bool.{cases_eq}
 use Rattle.std.proofs.lemmas.Bool.Decides.{nat_tests}
 use Rattle.std.proofs.lemmas.List.{length-append, append_assoc}
 use Rattle.tj_base.specs.ForkOrder.{Name, before}
@@ -9,7 +9,7 @@ use Rattle.tj_tree.specs.Forks.{Fork, Forks, HasTask, HasKid, IsNext, IsHistory,
 use Rattle.tj_tree.specs.Nodes.{node_of}
 use Rattle.tj_tree.proofs.Lists.{has, earlier, AreApart, has-insert_after_new, has-insert_after_other, AreApart-insert_after, earlier-insert_after_others, earlier-insert_after_first, earlier-insert_after_last, earlier-insert_after_self, earlier_tells}
 use Rattle.tj_tree.proofs.Names.{before-self, before-last_child_first, before-last_child_last, before-child}
-use Rattle.tj_tree.proofs.Trees.{name_of-older, name_of-child, IsChild-of, HasKid-of, names_apart, root_name, snoc_apart, not_snoc}
+use Rattle.tj_tree.proofs.Trees.{name_of-older, name_of-child, IsChild-of, HasKid-of, names_apart, root_name, snoc_apart}
 
 -- the order has the tasks that are there
 pub has-order : (fs : Forks) → IsHistory fs → (n : ℕ) → HasTask fs n → has (order_of fs) n ≡ true

@@ -1,13 +1,13 @@
 -- What a reader's looks tell of each tree that has the nodes shown.
-use Rattle.std.proofs.Common.{◌≡◌, ◌≢◌, ℕ, ◌+◌, ◌-◌, ◌*◌, ◌<◌, ◌≤◌, min, Bool, true, not, eqb, nat_le, nat_lt, refl, sym, ap, ◌∙◌, subst, arith}
+use Rattle.std.proofs.Common.{◌≡◌, ◌≢◌, ℕ, ◌-◌, ◌<◌, ◌≤◌, min, Bool, true, not, eqb, nat_le, nat_lt, sym, subst}
 use Rattle.tj_tree.specs.declared.node.Node.{Node}
 use Rattle.tj_tree.specs.declared.node.Place.{Place}
 use Rattle.std.specs.Prelude.{◌↔◌}
-use Rattle.tj_tree.specs.Forks.{Forks, HasTask, IsHistory, IsEarlier, order_of}
-use Rattle.tj_tree.specs.Nodes.{node_of, HasNodes, ArePartOfTree, InEachTree}
+use Rattle.tj_tree.specs.Forks.{Forks, IsEarlier, order_of}
+use Rattle.tj_tree.specs.Nodes.{node_of, InEachTree}
 use Rattle.tj_tree.specs.Walk.{GoesOn, IsKnown, IsAtOrAbove, move_from}
 use Rattle.tj_tree.proofs.Skew.{ranks, moves}
-use Rattle.tj_tree.proofs.Walks.{MovesUp, MovesUp-higher, MoveTogether, MoveTogether-up, floor_of, above_trans, before-same, before-apart}
+use Rattle.tj_tree.proofs.Walks.{MovesUp, MovesUp-higher, MoveTogether, MoveTogether-up, floor_of, before-same, before-apart}
 use Rattle.tj_tree.proofs.Orders.{IsEarlier-order}
 
 pub GoesOn_trans : (s : ℕ → Node → Type 0) (m : ℕ → Type 0) (s' : ℕ → Node → Type 0) (m' : ℕ → Type 0) (s'' : ℕ → Node → Type 0) (m'' : ℕ → Type 0) → GoesOn s m s' m' → GoesOn s' m' s'' m'' → GoesOn s m s'' m''

@@ -1,16 +1,15 @@
 -- Forks whose tasks, and the children of each, are numbered as they come.
-use Rattle.std.proofs.Common.{◌≡◌, ◌≢◌, ℕ, suc, zero, ◌+◌, ◌-◌, ◌<◌, ◌≤◌, Bool, true, false, cond, eqb, ◌⊎◌, List, [], ◌∷◌, ◌++◌, length, get_or, set, refl, sym, ap, ◌∙◌, subst, inl, inr, arith, add-one}
-use Rattle.std.specs.Prelude.{count_by, ◌==◌}
+use Rattle.std.proofs.Common.{◌≡◌, ◌≢◌, ℕ, suc, ◌+◌, ◌-◌, ◌<◌, ◌≤◌, cond, eqb, List, [], ◌∷◌, ◌++◌, length, get_or, set, refl, sym, ap, ◌∙◌, subst, inl, inr, arith}
 use Rattle.std.proofs.lemmas.Bool.{cases_eq, cases_lt}
 use Rattle.std.proofs.lemmas.Bool.Decides.{nat_tests}
 use Rattle.std.proofs.lemmas.List.{length_push, length-set, get_or_push, get_or_append_left, get_or-set_same, get_or-set_other}
 use Rattle.std.proofs.lemmas.List.Sums.{sum_by-cons}
 use Rattle.tj_tree.specs.declared.node.Node.{Node}
 use Rattle.tj_tree.specs.declared.tree.Entry.{Entry}
-use Rattle.tj_tree.specs.Forks.{Fork, Forks, HasTask, HasKid, IsNext, IsHistory, task_count, kid_count, next_fork}
-use Rattle.tj_tree.specs.Nodes.{root_node, child_node, jump_from, node_of}
+use Rattle.tj_tree.specs.Forks.{Fork, Forks, HasTask, HasKid, IsHistory, task_count, kid_count, next_fork}
+use Rattle.tj_tree.specs.Nodes.{child_node, node_of}
 use Rattle.tj_tree.specs.Tree.{AreInTurn, AreEntriesOf, MayLook, forks_up_to, forks_of, root_entry}
-use Rattle.tj_tree.proofs.Skew.{ranks, jump_up_to}
+use Rattle.tj_tree.proofs.Skew.{jump_up_to}
 use Rattle.tj_tree.proofs.Trees.{node_of-older, node_of-child, IsJump-of, parent_there}
 
 pub HasTask-below : (fs : Forks) → AreInTurn fs → (n : ℕ) → n < task_count fs → HasTask fs n

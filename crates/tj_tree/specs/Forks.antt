@@ -1,5 +1,5 @@
 -- Forks, and the order of tasks that they build.
-use Rattle.std.specs.Prelude.{ℕ, ◌≡◌, ◌<◌, ◌==◌, ◌+◌, ◌⊎◌, if◌then◌else◌, List, [], ◌∷◌, ◌++◌, Some, slice_get, length, count_by}
+use Rattle.std.specs.Prelude.{ℕ, ◌≡◌, ◌<◌, ◌==◌, ◌+◌, ◌⊎◌, if◌then◌else◌, List, [], ◌∷◌, Some, slice_get, length, count_by}
 use Rattle.tj_base.specs.ForkOrder.{Name, child}
 
 -- a fork: the parent, the number of the child, and which of the parent's things the child is

@@ -1,4 +1,5 @@
 pub mod Forks
+pub mod Laws
 pub mod Nodes
 pub mod Tree
 pub mod Walk

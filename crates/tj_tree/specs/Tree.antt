@@ -1,8 +1,7 @@
 -- The entries of a fork tree, in the order of their tasks' numbers.
-use Rattle.std.specs.Prelude.{ℕ, zero, suc, ◌≡◌, ◌+◌, ◌-◌, ◌<◌, ◌≤◌, List, [], ◌∷◌, length, slice_index_or}
-use Rattle.tj_tree.specs.declared.node.Node.{Node}
+use Rattle.std.specs.Prelude.{ℕ, zero, suc, ◌≡◌, ◌-◌, ◌<◌, ◌≤◌, List, [], ◌∷◌, length, slice_index_or}
 use Rattle.tj_tree.specs.declared.tree.Entry.{Entry}
-use Rattle.tj_tree.specs.Forks.{Fork, Forks, IsHistory, HasTask, task_count, kid_count, next_fork}
+use Rattle.tj_tree.specs.Forks.{Forks, HasTask, task_count, kid_count, next_fork}
 use Rattle.tj_tree.specs.Nodes.{root_node, node_of}
 
 -- the entry of a root without children

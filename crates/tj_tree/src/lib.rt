@@ -2,12 +2,17 @@
 #![tactic(auto)]
 
 mod before;
+mod laws;
 mod list;
 mod node;
 mod reader;
 mod tree;
 
 pub use before::before_in;
+pub use laws::{
+    later_forks_keep_order, names_tell_order, none_is_before_itself, order_is_that_of_names, order_is_total,
+    order_is_transitive,
+};
 pub use list::OrderList;
 pub use node::{Node, NodeId};
 pub use reader::NodeReader;

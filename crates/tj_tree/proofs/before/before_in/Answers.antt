@@ -1,6 +1,6 @@
-use Rattle.std.proofs.Common.{ℕ, ◌≡◌, ◌<◌, ◌+◌, ◌^◌, max, ◌∙◌, sym, ap, subst, arith}
+use Rattle.std.proofs.Common.{◌≡◌, ◌<◌, ◌+◌, ◌^◌, ◌∙◌, sym, ap, arith}
 use Rattle.tj_tree.specs.declared.node.NodeId.{NodeId}
-use Rattle.tj_tree.specs.Nodes.{node_of, InEachTree}
+use Rattle.tj_tree.specs.Nodes.{node_of}
 use Rattle.tj_tree.specs.Walk.{IsAtOrAbove}
 use Rattle.tj_tree.proofs.Skew.{cost_of_parts}
 use Rattle.tj_tree.proofs.Walks.{above_trans}

@@ -1,10 +1,8 @@
 use Rattle.std.proofs.Common.{◌-◌, arith}
-use Rattle.tj_tree.specs.Forks.{Forks}
-use Rattle.tj_tree.specs.Nodes.{InEachTree}
 use Rattle.tj_tree.specs.Walk.{IsAtOrAbove}
 use Rattle.tj_tree.proofs.Skew.{moves-ranks}
 use Rattle.tj_tree.proofs.Walks.{above_trans}
-use Rattle.tj_tree.proofs.Readings.{GoesOn_trans, InEachTree_on, Raises, Raises-higher}
+use Rattle.tj_tree.proofs.Readings.{GoesOn_trans, InEachTree_on, Raises-higher}
 use Rattle.tj_tree.proofs.before.lifted.Goals as goal
 
 pub loop-at-smaller : goal.loop-at-smaller

@@ -1,4 +1,4 @@
-use Rattle.std.proofs.Common.{◌≡◌, ℕ, ◌++◌, take, drop, Bool, true}
+use Rattle.std.proofs.Common.{◌≡◌, ℕ, ◌++◌, take, drop, true}
 use Rattle.tj_tree.specs.Forks.{insert_after}
 use Rattle.tj_tree.proofs.Lists.{has}
 use Rattle.tj_tree.proofs.list.place_behind.Given as goal

@@ -1,6 +1,5 @@
-use Rattle.std.proofs.Common.{ℕ, ◌≡◌, ◌<◌, List, length, arith, subst, sym, ap}
+use Rattle.std.proofs.Common.{ℕ, ◌<◌, List, length, arith, subst, sym, ap}
 use Rattle.std.specs.Prelude.{Contains}
-use Rattle.tj_tree.specs.Forks.{insert_after}
 use Rattle.tj_tree.proofs.Lists.{numbering_grows}
 use Rattle.tj_tree.proofs.list.OrderList.fork.Goals as goal
 
