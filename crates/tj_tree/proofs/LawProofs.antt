@@ -24,17 +24,18 @@ earlier-append (fork ∷ later) forks a b h p q =
 
 pub later_forks_keep_order : LaterForksKeepOrder
 later_forks_keep_order later forks a b h p q =
-    let same = earlier-append later forks a b h p q in
-    ( λ e. IsEarlier-from_earlier (order_of forks) a b (sym same ∙ earlier_from_IsEarlier (order_of (later ++ forks)) a b e)
-    , λ e. IsEarlier-from_earlier (order_of (later ++ forks)) a b (same ∙ earlier_from_IsEarlier (order_of forks) a b e) )
+    let same = earlier-append later forks a b h p q in (
+      λ e. IsEarlier-from_earlier (order_of forks) a b (sym same ∙ earlier_from_IsEarlier (order_of (later ++ forks)) a b e),
+      λ e. IsEarlier-from_earlier (order_of (later ++ forks)) a b (same ∙ earlier_from_IsEarlier (order_of forks) a b e),
+    )
 
 earlier-self : (xs : List ℕ) (a : ℕ) → AreApart xs → earlier xs a a ≡ false
 earlier-self [] a apart = refl
 earlier-self (x ∷ xs) a apart =
     let rest = earlier-self xs a apart.1 in
     elim (cases_eq x a) [
-      inl same ↦ let none : has xs a ≡ false = subst (λ k. has xs k ≡ false) same apart.0 in grind (arith, nat_tests, same, none)
-    | inr other ↦ grind (arith, nat_tests, other, rest)
+      | inl same ↦ let none : has xs a ≡ false = subst (λ k. has xs k ≡ false) same apart.0 in grind (arith, nat_tests, same, none)
+      | inr other ↦ grind (arith, nat_tests, other, rest)
     ]
 
 pub none_is_before_itself : NoneIsBeforeItself
@@ -50,8 +51,8 @@ has_second (x ∷ xs) a b h = let rest = has_second xs a b in grind (arith, nat_
 apart_here : (x b : ℕ) (xs : List ℕ) → has xs x ≡ false → has xs b ≡ true → eqb x b ≡ false
 apart_here x b xs none found =
     elim (cases_eq x b) [
-      inl same ↦ let both : has xs b ≡ false = subst (λ k. has xs k ≡ false) same none in absurd (cc)
-    | inr other ↦ grind (arith, nat_tests, other)
+      | inl same ↦ let both : has xs b ≡ false = subst (λ k. has xs k ≡ false) same none in absurd (cc)
+      | inr other ↦ grind (arith, nat_tests, other)
     ]
 
 earlier_trans : (xs : List ℕ) (a b c : ℕ) → AreApart xs → earlier xs a b ≡ true → earlier xs b c ≡ true → earlier xs a c ≡ true
@@ -72,12 +73,12 @@ earlier_total : (xs : List ℕ) (a b : ℕ) → a ≢ b → has xs a ≡ true �
 earlier_total [] a b ne p q = absurd (cc)
 earlier_total (x ∷ xs) a b ne p q =
     elim (cases_eq x a) [
-      inl same ↦ inl (grind (arith, nat_tests, same, ne, q))
-    | inr not_a ↦ elim (cases_eq x b) [
-        inl same ↦ inr (grind (arith, nat_tests, same, not_a, p))
-      | inr not_b ↦ elim (earlier_total xs a b ne (grind (arith, nat_tests, not_a, p)) (grind (arith, nat_tests, not_b, q))) [
-          inl e ↦ inl (grind (arith, nat_tests, not_a, e))
-        | inr e ↦ inr (grind (arith, nat_tests, not_b, e))
+      | inl same ↦ inl (grind (arith, nat_tests, same, ne, q))
+      | inr not_a ↦ elim (cases_eq x b) [
+        | inl same ↦ inr (grind (arith, nat_tests, same, not_a, p))
+        | inr not_b ↦ elim (earlier_total xs a b ne (grind (arith, nat_tests, not_a, p)) (grind (arith, nat_tests, not_b, q))) [
+          | inl e ↦ inl (grind (arith, nat_tests, not_a, e))
+          | inr e ↦ inr (grind (arith, nat_tests, not_b, e))
         ]
       ]
     ]
@@ -85,8 +86,8 @@ earlier_total (x ∷ xs) a b ne p q =
 pub order_is_total : OrderIsTotal
 order_is_total forks a b h p q ne =
     elim (earlier_total (order_of forks) a b ne (has-order forks h a p) (has-order forks h b q)) [
-      inl e ↦ inl (IsEarlier-from_earlier (order_of forks) a b e)
-    | inr e ↦ inr (IsEarlier-from_earlier (order_of forks) b a e)
+      | inl e ↦ inl (IsEarlier-from_earlier (order_of forks) a b e)
+      | inr e ↦ inr (IsEarlier-from_earlier (order_of forks) b a e)
     ]
 
 pub order_is_that_of_names : OrderIsThatOfNames

@@ -4,7 +4,7 @@ use Rattle.std.proofs.lemmas.Bool.{cases_eq}
 use Rattle.std.specs.Prelude.{Contains, ◌↔◌}
 use Rattle.std.proofs.lemmas.List.{drop_more, drop_all}
 use Rattle.std.proofs.lemmas.Bool.Decides.{nat_tests}
-use Rattle.tj_tree.specs.Forks.{insert_after, IsEarlier}
+use Rattle.tj_tree.specs.Forks.{insert_after, IsNumbering, IsEarlier}
 
 -- the list contains n
 abbrev pub has : List ℕ → ℕ → Bool
@@ -69,7 +69,7 @@ earlier-insert_after_last p c a (x ∷ xs) hp hc apart na =
     let none_twice = earlier-none xs a p in
     let here = apart.0 in
     let rest : has xs p ≡ true → has xs c ≡ false → earlier (insert_after p c xs) a c ≡ (eqb p a || earlier xs a p) =
-        λ h k. earlier-insert_after_last p c a xs h k apart.1 na in
+    λ h k. earlier-insert_after_last p c a xs h k apart.1 na in
     grind (arith, nat_tests, found, none, none_twice, here, rest)
 
 -- it isn't before itself
@@ -139,16 +139,21 @@ Contains-from_has xs n h =
     let read = read_from_get xs found.0 n n found.1 in
     (found.0, read.0, read.1)
 
--- the list has each number below its length, also after the next one is put in
-pub numbering_grows : (b : ℕ) (xs ys : List ℕ) → b < length xs → ((n : ℕ) → n < length xs → Contains xs n) → ys ≡ insert_after b (length xs) xs → (n : ℕ) → n < length ys → Contains ys n
-numbering_grows b xs ys l all e n h = subst (λ zs. Contains zs n) (sym e) (Contains-from_has _ n (
+numbers_grow : (b : ℕ) (xs : List ℕ) → b < length xs → ((n : ℕ) → n < length xs → Contains xs n) → (n : ℕ) → n < length (insert_after b (length xs) xs) → Contains (insert_after b (length xs) xs) n
+numbers_grow b xs l all n h = Contains-from_has _ n (
     elim (cases_eq n (length xs)) [
-      inl same ↦ subst (λ k. has (insert_after b (length xs) xs) k ≡ true) (sym same) (has-insert_after_new b (length xs) xs (has_from_Contains xs b (all b l)))
-    | inr other ↦
-        let grown = length-insert_after b (length xs) xs (has_from_Contains xs b (all b l)) in
-        let below : n < length xs = omega (arith, ap length e, grown, other) in
-        has-insert_after_other b (length xs) n xs other ∙ has_from_Contains xs n (all n below)
-    ]))
+      | inl same ↦ subst (λ k. has (insert_after b (length xs) xs) k ≡ true) (sym same) (has-insert_after_new b (length xs) xs (has_from_Contains xs b (all b l)))
+      | inr other ↦
+          let grown = length-insert_after b (length xs) xs (has_from_Contains xs b (all b l)) in
+          let below : n < length xs = omega (arith, grown, other) in
+          has-insert_after_other b (length xs) n xs other ∙ has_from_Contains xs n (all n below)
+    ])
+
+-- the next number, put in behind one that is there, keeps a numbering
+pub IsNumbering-insert_after : (b : ℕ) (xs ys : List ℕ) → b < length xs → length xs < 16384 → IsNumbering xs → ys ≡ insert_after b (length xs) xs → IsNumbering ys
+IsNumbering-insert_after b xs ys l few is e =
+    let grown = length-insert_after b (length xs) xs (has_from_Contains xs b (is.each b l)) in
+    subst IsNumbering (sym e) (record { each = numbers_grow b xs l is.each; few = omega (arith, grown) })
 
 -- the test tells the order
 pub earlier_tells : (xs : List ℕ) (a b : ℕ) (r : Bool) → r ≡ earlier xs a b → (r ≡ true) ↔ IsEarlier xs a b

@@ -33,10 +33,10 @@ before-last_child_first [] (j ∷ b) k last = let less = last j b refl in grind 
 before-last_child_first (x ∷ p) [] k last = refl
 before-last_child_first (x ∷ p) (y ∷ b) k last =
     elim (cases_eq x y) [
-      inl same ↦
-        let rest = before-last_child_first p b k (λ j r e. last j r (cc)) in
-        subst (λ z. before (x ∷ p ++ k ∷ []) (z ∷ b) ≡ before (x ∷ p) (z ∷ b)) same (first_same x (p ++ k ∷ []) b ∙ rest ∙ sym (first_same x p b))
-    | inr other ↦ first_other x y (p ++ k ∷ []) p b other
+      | inl same ↦
+          let rest = before-last_child_first p b k (λ j r e. last j r (cc)) in
+          subst (λ z. before (x ∷ p ++ k ∷ []) (z ∷ b) ≡ before (x ∷ p) (z ∷ b)) same (first_same x (p ++ k ∷ []) b ∙ rest ∙ sym (first_same x p b))
+      | inr other ↦ first_other x y (p ++ k ∷ []) p b other
     ]
 
 -- what is before p, but isn't p, is before the last child of p, and nothing else is
@@ -46,10 +46,10 @@ before-last_child_last [] (y ∷ p) k ne last = refl
 before-last_child_last (j ∷ a) [] k ne last = let less = last j a refl in grind (arith, nat_tests, less)
 before-last_child_last (x ∷ a) (y ∷ p) k ne last =
     elim (cases_eq x y) [
-      inl same ↦
-        let rest = before-last_child_last a p k (λ e. ne (cc)) (λ j r e. last j r (cc)) in
-        subst (λ z. before (x ∷ a) (z ∷ p ++ k ∷ []) ≡ before (x ∷ a) (z ∷ p)) same (first_same x a (p ++ k ∷ []) ∙ rest ∙ sym (first_same x a p))
-    | inr other ↦ second_other x y a (p ++ k ∷ []) p other
+      | inl same ↦
+          let rest = before-last_child_last a p k (λ e. ne (cc)) (λ j r e. last j r (cc)) in
+          subst (λ z. before (x ∷ a) (z ∷ p ++ k ∷ []) ≡ before (x ∷ a) (z ∷ p)) same (first_same x a (p ++ k ∷ []) ∙ rest ∙ sym (first_same x a p))
+      | inr other ↦ second_other x y a (p ++ k ∷ []) p other
     ]
 
 -- a parent is before its child

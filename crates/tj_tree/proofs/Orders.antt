@@ -26,8 +26,8 @@ pub HasTask-from_order : (fs : Forks) (n : ℕ) → has (order_of fs) n ≡ true
 HasTask-from_order [] n h = grind (arith, nat_tests)
 HasTask-from_order (fork ∷ fs) n h =
     elim (cases_eq n fork.child) [
-      inl same ↦ inl same
-    | inr other ↦ inr (HasTask-from_order fs n (sym (has-insert_after_other fork.parent fork.child n (order_of fs) other) ∙ h))
+      | inl same ↦ inl same
+      | inr other ↦ inr (HasTask-from_order fs n (sym (has-insert_after_other fork.parent fork.child n (order_of fs) other) ∙ h))
     ]
 
 test_false : (b : Bool) → (b ≡ true → ⊥) → b ≡ false
@@ -46,8 +46,8 @@ snoc_cases : (xs : Name) → (xs ≡ []) ⊎ ((ys : Name) × ((y : ℕ) × (xs �
 snoc_cases [] = inl refl
 snoc_cases (x ∷ xs) =
     elim (snoc_cases xs) [
-      inl none ↦ inr ([], (x, ap (λ (ys : Name). x ∷ ys) none))
-    | inr more ↦ inr (x ∷ more.0, (more.1.0, ap (λ (ys : Name). x ∷ ys) more.1.1))
+      | inl none ↦ inr ([], (x, ap (λ (ys : Name). x ∷ ys) none))
+      | inr more ↦ inr (x ∷ more.0, (more.1.0, ap (λ (ys : Name). x ∷ ys) more.1.1))
     ]
 
 not_longer : (xs rest : Name) (j : ℕ) → [] ≡ xs ++ j ∷ rest → ⊥
@@ -59,19 +59,19 @@ kid_within : (k : ℕ) (fs : Forks) → IsHistory fs → (p b : ℕ) (j : ℕ) (
 kid_within zero fs h p b j rest l at there e = absurd (omega arith)
 kid_within (suc k) fs h p b j rest l at there e =
     elim (cases_eq b 0) [
-      inl root ↦ absurd (not_longer _ _ _ (sym (root_name fs h) ∙ ap (name_of fs) (sym root) ∙ e))
-    | inr some ↦
-      let is = IsChild-of fs h b there some in
-      elim (snoc_cases rest) [
-        inl none ↦
-        let parts = snoc_apart (name_of fs (node_of fs b).parent.0) (name_of fs p) (node_of fs b).kid j (sym is.named ∙ e ∙ ap (λ (r : Name). name_of fs p ++ j ∷ r) none) in
-        let parent = names_apart fs h (node_of fs b).parent.0 p is.parent_there at parts.0 in
-        subst (λ q. HasKid fs q j) parent (subst (HasKid fs (node_of fs b).parent.0) parts.1 (HasKid-of fs h b there some))
-      | inr more ↦
-        let split : name_of fs p ++ j ∷ rest ≡ (name_of fs p ++ j ∷ more.0) ++ more.1.0 ∷ [] = ap (λ (r : Name). name_of fs p ++ j ∷ r) more.1.1 ∙ sym (append_assoc (name_of fs p) (j ∷ more.0) (more.1.0 ∷ [])) in
-        let parts = snoc_apart (name_of fs (node_of fs b).parent.0) (name_of fs p ++ j ∷ more.0) (node_of fs b).kid more.1.0 (sym is.named ∙ e ∙ split) in
-        kid_within k fs h p (node_of fs b).parent.0 j more.0 (omega (arith, ap length more.1.1, length-append more.0 (more.1.0 ∷ []))) at is.parent_there parts.0
-      ]
+      | inl root ↦ absurd (not_longer _ _ _ (sym (root_name fs h) ∙ ap (name_of fs) (sym root) ∙ e))
+      | inr some ↦
+          let is = IsChild-of fs h b there some in
+          elim (snoc_cases rest) [
+            | inl none ↦
+                let parts = snoc_apart (name_of fs (node_of fs b).parent.0) (name_of fs p) (node_of fs b).kid j (sym is.named ∙ e ∙ ap (λ (r : Name). name_of fs p ++ j ∷ r) none) in
+                let parent = names_apart fs h (node_of fs b).parent.0 p is.parent_there at parts.0 in
+                subst (λ q. HasKid fs q j) parent (subst (HasKid fs (node_of fs b).parent.0) parts.1 (HasKid-of fs h b there some))
+            | inr more ↦
+                let split : name_of fs p ++ j ∷ rest ≡ (name_of fs p ++ j ∷ more.0) ++ more.1.0 ∷ [] = ap (λ (r : Name). name_of fs p ++ j ∷ r) more.1.1 ∙ sym (append_assoc (name_of fs p) (j ∷ more.0) (more.1.0 ∷ [])) in
+                let parts = snoc_apart (name_of fs (node_of fs b).parent.0) (name_of fs p ++ j ∷ more.0) (node_of fs b).kid more.1.0 (sym is.named ∙ e ∙ split) in
+                kid_within k fs h p (node_of fs b).parent.0 j more.0 (omega (arith, ap length more.1.1, length-append more.0 (more.1.0 ∷ []))) at is.parent_there parts.0
+          ]
     ]
 
 kid_below : (fork : Fork) (fs : Forks) → IsHistory (fork ∷ fs) → (b : ℕ) → HasTask fs b → (j : ℕ) (rest : Name) → name_of fs b ≡ name_of fs fork.parent ++ j ∷ rest → j < fork.kid
@@ -95,13 +95,13 @@ earlier-order (fork ∷ fs) h a b (inr p) (inl q) =
     (earlier-insert_after_last fork.parent fork.child a (order_of fs) (has-order fs h.1 fork.parent h.0.parent_there) (order-lacks_next fork fs h.0) (AreApart-order fs h.1) (omega arith)
     ∙ ap (λ r. eqb fork.parent a || r) (earlier-order fs h.1 a fork.parent p h.0.parent_there)
     ∙ elim (cases_eq fork.parent a) [
-        inl same ↦
-        let tells : eqb fork.parent a ≡ true = grind (arith, nat_tests, same) in
-        rw tells (sym (subst (λ n. before (name_of fs n) (name_of fs fork.parent ++ fork.kid ∷ []) ≡ true) same (before-child (name_of fs fork.parent) fork.kid)))
+      | inl same ↦
+          let tells : eqb fork.parent a ≡ true = grind (arith, nat_tests, same) in
+          rw tells (sym (subst (λ n. before (name_of fs n) (name_of fs fork.parent ++ fork.kid ∷ []) ≡ true) same (before-child (name_of fs fork.parent) fork.kid)))
       | inr other ↦
-        let tells : eqb fork.parent a ≡ false = grind (arith, nat_tests, other) in
-        rw tells (sym (before-last_child_last (name_of fs a) (name_of fs fork.parent) fork.kid (λ e. other (sym (names_apart fs h.1 a fork.parent p h.0.parent_there e))) (kid_below fork fs h a p)))
-      ])
+          let tells : eqb fork.parent a ≡ false = grind (arith, nat_tests, other) in
+          rw tells (sym (before-last_child_last (name_of fs a) (name_of fs fork.parent) fork.kid (λ e. other (sym (names_apart fs h.1 a fork.parent p h.0.parent_there e))) (kid_below fork fs h a p)))
+    ])
 earlier-order (fork ∷ fs) h a b (inr p) (inr q) =
     let below = h.0.newest a p in
     let below_too = h.0.newest b q in

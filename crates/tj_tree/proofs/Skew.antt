@@ -211,6 +211,6 @@ jump_level d e j k same p q =
 pub cost_of_parts : (a b d t t' t'' t''' digits : ℕ) → d ≡ min a b → (a ≤ d → t' ≡ t) → (b ≤ d → t'' ≡ t') → t' ≤ t + (6 * digits + 2) → t'' ≤ t' + (6 * digits + 2) → t''' ≤ t'' + (6 * digits + 2) → t''' ≤ t + (12 * digits + 4)
 cost_of_parts a b d t t' t'' t''' digits e first second one two three =
     elim (cases_lt a b) [
-      inl less ↦ let free : t' ≡ t = first (omega arith) in omega arith
-    | inr more ↦ let free : t'' ≡ t' = second (omega arith) in omega arith
+      | inl less ↦ let free : t' ≡ t = first (omega arith) in omega arith
+      | inr more ↦ let free : t'' ≡ t' = second (omega arith) in omega arith
     ]

@@ -103,11 +103,11 @@ module _ (there : ℕ → Type 0) (nodes : ℕ → Node) (names : ℕ → Name) 
 
   IsJump-child : (kid : ℕ) → IsJump there nodes names (child_node nodes (record { parent = p; child = p; kid = kid })) (names p ++ kid ∷ [])
   IsJump-child kid = record {
-        jump_there = IsAbove-child.0;
-        behind = rw add-one IsAbove-child.1;
-        rest = IsAbove-child.2.0 ++ kid ∷ [];
-        above = ap (λ (n : Name). n ++ kid ∷ []) IsAbove-child.2.1 ∙ append_assoc (names (jump_from nodes (record { 0 = p })).0) IsAbove-child.2.0 (kid ∷ []);
-      }
+    jump_there = IsAbove-child.0;
+    behind = rw add-one IsAbove-child.1;
+    rest = IsAbove-child.2.0 ++ kid ∷ [];
+    above = ap (λ (n : Name). n ++ kid ∷ []) IsAbove-child.2.1 ∙ append_assoc (names (jump_from nodes (record { 0 = p })).0) IsAbove-child.2.0 (kid ∷ []);
+  }
 
 IsJump-later : (fork : Fork) (fs : Forks) → IsNext fork fs → (node : Node) (name : Name) → IsJump (HasTask fs) (node_of fs) (name_of fs) node name → IsJump (HasTask (fork ∷ fs)) (node_of (fork ∷ fs)) (name_of (fork ∷ fs)) node name
 IsJump-later fork fs next =
@@ -197,23 +197,23 @@ apart_within : (k : ℕ) (fs : Forks) → IsHistory fs → (m n : ℕ) → lengt
 apart_within zero fs h m n l there also e = absurd (omega arith)
 apart_within (suc k) fs h m n l there also e =
     elim (cases_eq m 0) [
-      inl m_root ↦ elim (cases_eq n 0) [
-        inl n_root ↦ m_root ∙ sym n_root
-      | inr more ↦
-        let is = IsChild-of fs h n also more in
-        absurd (not_snoc _ _ (sym (root_name fs h) ∙ ap (name_of fs) (sym m_root) ∙ e ∙ is.named))
+      | inl m_root ↦ elim (cases_eq n 0) [
+        | inl n_root ↦ m_root ∙ sym n_root
+        | inr more ↦
+            let is = IsChild-of fs h n also more in
+            absurd (not_snoc _ _ (sym (root_name fs h) ∙ ap (name_of fs) (sym m_root) ∙ e ∙ is.named))
       ]
-    | inr some ↦ elim (cases_eq n 0) [
-        inl n_root ↦
-        let is = IsChild-of fs h m there some in
-        absurd (not_snoc _ _ (sym (root_name fs h) ∙ ap (name_of fs) (sym n_root) ∙ sym e ∙ is.named))
-      | inr more ↦
-        let one = IsChild-of fs h m there some in
-        let two = IsChild-of fs h n also more in
-        let parts = snoc_apart (name_of fs (node_of fs m).parent.0) (name_of fs (node_of fs n).parent.0) (node_of fs m).kid (node_of fs n).kid (sym one.named ∙ e ∙ two.named) in
-        let shorter : length (name_of fs (node_of fs m).parent.0) < k = omega (arith, ap length one.named, length-append (name_of fs (node_of fs m).parent.0) ((node_of fs m).kid ∷ [])) in
-        let parents = apart_within k fs h (node_of fs m).parent.0 (node_of fs n).parent.0 shorter one.parent_there two.parent_there parts.0 in
-        kids_apart fs h m n there also some more parents parts.1
+      | inr some ↦ elim (cases_eq n 0) [
+        | inl n_root ↦
+            let is = IsChild-of fs h m there some in
+            absurd (not_snoc _ _ (sym (root_name fs h) ∙ ap (name_of fs) (sym n_root) ∙ sym e ∙ is.named))
+        | inr more ↦
+            let one = IsChild-of fs h m there some in
+            let two = IsChild-of fs h n also more in
+            let parts = snoc_apart (name_of fs (node_of fs m).parent.0) (name_of fs (node_of fs n).parent.0) (node_of fs m).kid (node_of fs n).kid (sym one.named ∙ e ∙ two.named) in
+            let shorter : length (name_of fs (node_of fs m).parent.0) < k = omega (arith, ap length one.named, length-append (name_of fs (node_of fs m).parent.0) ((node_of fs m).kid ∷ [])) in
+            let parents = apart_within k fs h (node_of fs m).parent.0 (node_of fs n).parent.0 shorter one.parent_there two.parent_there parts.0 in
+            kids_apart fs h m n there also some more parents parts.1
       ]
     ]
 
@@ -229,6 +229,6 @@ root_node-of (fork ∷ fs) h = node_of-older fork fs 0 h.0 (root_there fs) ∙ r
 pub parent_there : (fs : Forks) → IsHistory fs → (n : ℕ) → HasTask fs n → HasTask fs (node_of fs n).parent.0
 parent_there fs h n there =
     elim (cases_eq n 0) [
-      inl root ↦ subst (HasTask fs) (sym (ap (λ k. (node_of fs k).parent.0) root ∙ ap (λ (node : Node). node.parent.0) (root_node-of fs h))) (root_there fs)
-    | inr some ↦ let is = IsChild-of fs h n there some in is.parent_there
+      | inl root ↦ subst (HasTask fs) (sym (ap (λ k. (node_of fs k).parent.0) root ∙ ap (λ (node : Node). node.parent.0) (root_node-of fs h))) (root_there fs)
+      | inr some ↦ let is = IsChild-of fs h n there some in is.parent_there
     ]

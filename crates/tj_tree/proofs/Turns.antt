@@ -17,8 +17,8 @@ HasTask-below [] h n l = omega arith
 HasTask-below (fork ∷ fs) h n l =
     let number : fork.child ≡ task_count fs = ap (λ (f : Fork). f.child) h.0 in
     elim (cases_eq n fork.child) [
-      inl same ↦ inl same
-    | inr other ↦ inr (HasTask-below fs h.2 n (omega arith))
+      | inl same ↦ inl same
+      | inr other ↦ inr (HasTask-below fs h.2 n (omega arith))
     ]
 
 pub below-HasTask : (fs : Forks) → AreInTurn fs → (n : ℕ) → HasTask fs n → n < task_count fs
@@ -45,13 +45,14 @@ pub IsHistory-in_turn : (fs : Forks) → AreInTurn fs → IsHistory fs
 IsHistory-in_turn [] h = tt
 IsHistory-in_turn (fork ∷ fs) h =
     let number : fork.child ≡ task_count fs = ap (λ (f : Fork). f.child) h.0 in
-    let kid : fork.kid ≡ kid_count fs fork.parent + 1 = ap (λ (f : Fork). f.kid) h.0 in
-    ( record {
+    let kid : fork.kid ≡ kid_count fs fork.parent + 1 = ap (λ (f : Fork). f.kid) h.0 in (
+      record {
         parent_there = HasTask-below fs h.2 fork.parent h.1;
         newest = λ n there. omega (arith, number, below-HasTask fs h.2 n there);
         last_kid = λ k has. omega (arith, kid, kids_counted fs h.2 fork.parent k has);
-      }
-    , IsHistory-in_turn fs h.2)
+      },
+      IsHistory-in_turn fs h.2,
+    )
 
 pub depth_below : (fs : Forks) → AreInTurn fs → (n : ℕ) → HasTask fs n → (node_of fs n).depth ≤ n
 depth_below [] h n there = omega arith
@@ -75,7 +76,7 @@ forks_up_to-same entries (fork ∷ fs) h same =
     let number : fork.child ≡ task_count fs = ap (λ (f : Fork). f.child) h.0 in
     let last : suc (length fs) ≡ fork.child = omega (arith, number) in
     let node : (get_or entries (suc (length fs)) root_entry).node ≡ child_node (node_of fs) fork =
-        same (suc (length fs)) root_entry (omega arith) ∙ ap (node_of (fork ∷ fs)) last ∙ node_of-child fork fs in
+    same (suc (length fs)) root_entry (omega arith) ∙ ap (node_of (fork ∷ fs)) last ∙ node_of-child fork fs in
     let this = same_fork fork (get_or entries (suc (length fs)) root_entry).node.parent.0 (suc (length fs)) (get_or entries (suc (length fs)) root_entry).node.kid (ap (λ (x : Node). x.parent.0) node) last (ap (λ (x : Node). x.kid) node) in
     let history = IsHistory-in_turn (fork ∷ fs) h in
     let rest = forks_up_to-same entries fs h.2 (λ n d l. same n d (omega arith) ∙ node_of-older fork fs n history.0 (HasTask-below fs h.2 n l)) in
@@ -93,6 +94,11 @@ jump_inside fs entries n h l =
     let is = IsJump-of fs (IsHistory-in_turn fs h.in_turn) n there in
     omega (arith, h.size, below-HasTask fs h.in_turn (node_of fs n).jump.0 is.jump_there)
 
+pub parent_inside : (fs : Forks) (entries : List Entry) (n : ℕ) → AreEntriesOf fs entries → n < length entries → (node_of fs n).parent.0 < length entries
+parent_inside fs entries n h l =
+    let there = HasTask-below fs h.in_turn n (omega (arith, h.size)) in
+    omega (arith, h.size, below-HasTask fs h.in_turn (node_of fs n).parent.0 (parent_there fs (IsHistory-in_turn fs h.in_turn) n there))
+
 no_kids_yet : (fs : Forks) → AreInTurn fs → (n : ℕ) → task_count fs ≤ n → kid_count fs n ≡ 0
 no_kids_yet [] h n l = refl
 no_kids_yet (fork ∷ fs) h n l =
@@ -107,15 +113,15 @@ read_after entries p child parent P n d l k at_parent older at_child =
     let grown = entries ++ child ∷ [] in
     let wide : p < length grown = omega (arith, length_push entries child) in
     elim (cases_eq n p) [
-      inl same ↦ subst P (sym (ap (λ i. get_or (set grown p parent) i d) same ∙ get_or-set_same grown p parent d wide)) (at_parent same)
-    | inr other ↦
-      subst P (sym (get_or-set_other grown p n parent d other))
-      (elim (cases_lt n (length entries)) [
-        inl below ↦ subst P (sym (get_or_append_left entries (child ∷ []) d n below)) (older other below)
-      | inr last ↦
-        let end : n ≡ length entries = omega arith in
-        subst P (sym (get_or_push entries child d n (sym end))) (at_child end)
-      ])
+      | inl same ↦ subst P (sym (ap (λ i. get_or (set grown p parent) i d) same ∙ get_or-set_same grown p parent d wide)) (at_parent same)
+      | inr other ↦
+          subst P (sym (get_or-set_other grown p n parent d other))
+          (elim (cases_lt n (length entries)) [
+            | inl below ↦ subst P (sym (get_or_append_left entries (child ∷ []) d n below)) (older other below)
+            | inr last ↦
+                let end : n ≡ length entries = omega arith in
+                subst P (sym (get_or_push entries child d n (sym end))) (at_child end)
+          ])
     ]
 
 -- the entries after a fork: a further one, and one more child counted at the parent
@@ -134,18 +140,18 @@ module _ (fs : Forks) (entries : List Entry) (p : ℕ) (child parent : Entry) (h
 
   pub AreEntriesOf-fork : AreEntriesOf (next_fork fs p ∷ fs) (set (entries ++ child ∷ []) p parent)
   AreEntriesOf-fork = record {
-        in_turn = turn;
-        size = omega (arith, length_after, h.size);
-        few = omega (arith, length_after);
-        nodes = λ n d k. read_after entries p child parent (λ (x : Entry). x.node ≡ node_of (next_fork fs p ∷ fs) n) n d l (omega (arith, length_after))
-          (λ same. above ∙ ap (node_of fs) (sym same) ∙ sym (older_node n (omega arith)))
-          (λ other below. h.nodes n d below ∙ sym (older_node n below))
-          (λ last. let end : n ≡ task_count fs = omega (arith, h.size) in node ∙ sym (ap (node_of (next_fork fs p ∷ fs)) end ∙ node_of-child (next_fork fs p) fs));
-        kids = λ n d k. read_after entries p child parent (λ (x : Entry). x.kids ≡ kid_count (next_fork fs p ∷ fs) n) n d l (omega (arith, length_after))
-          (λ same. let counted = kids_of n in let here : kid_count fs p ≡ kid_count fs n = ap (kid_count fs) (sym same) in grind (arith, nat_tests, counted, here, same))
-          (λ other below. let counted = kids_of n in let old = h.kids n d below in grind (arith, nat_tests, counted, old, other))
-          (λ last. let counted = kids_of n in let new = no_kids_yet fs h.in_turn n (omega (arith, h.size)) in grind (arith, nat_tests, counted, new, last));
-      }
+    in_turn = turn;
+    size = omega (arith, length_after, h.size);
+    few = omega (arith, length_after);
+    nodes = λ n d k. read_after entries p child parent (λ (x : Entry). x.node ≡ node_of (next_fork fs p ∷ fs) n) n d l (omega (arith, length_after))
+        (λ same. above ∙ ap (node_of fs) (sym same) ∙ sym (older_node n (omega arith)))
+        (λ other below. h.nodes n d below ∙ sym (older_node n below))
+        (λ last. let end : n ≡ task_count fs = omega (arith, h.size) in node ∙ sym (ap (node_of (next_fork fs p ∷ fs)) end ∙ node_of-child (next_fork fs p) fs));
+    kids = λ n d k. read_after entries p child parent (λ (x : Entry). x.kids ≡ kid_count (next_fork fs p ∷ fs) n) n d l (omega (arith, length_after))
+        (λ same. let counted = kids_of n in let here : kid_count fs p ≡ kid_count fs n = ap (kid_count fs) (sym same) in grind (arith, nat_tests, counted, here, same))
+        (λ other below. let counted = kids_of n in let old = h.kids n d below in grind (arith, nat_tests, counted, old, other))
+        (λ last. let counted = kids_of n in let new = no_kids_yet fs h.in_turn n (omega (arith, h.size)) in grind (arith, nat_tests, counted, new, last));
+  }
 
 pub entry_inside : (fs : Forks) (entries : List Entry) (n : ℕ) → MayLook fs entries n → n < length entries
 entry_inside fs entries n may = omega (arith, may.entries_of.size, below-HasTask fs may.entries_of.in_turn n may.there)

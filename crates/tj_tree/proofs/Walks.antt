@@ -27,10 +27,10 @@ common-other [] (y ∷ n) a b l ne = absurd (omega arith)
 common-other (x ∷ m) [] a b l ne = absurd (omega arith)
 common-other (x ∷ m) (y ∷ n) a b l ne =
     elim (cases_eq x y) [
-      inl same ↦
-        let fewer = common-other m n a b (omega arith) (λ e. ne (cc)) in
-        grind (arith, nat_tests, fewer)
-    | inr other ↦ grind (arith, nat_tests, other)
+      | inl same ↦
+          let fewer = common-other m n a b (omega arith) (λ e. ne (cc)) in
+          grind (arith, nat_tests, fewer)
+      | inr other ↦ grind (arith, nat_tests, other)
     ]
 
 empty_name : (n : Name) → length n ≡ 0 → n ≡ []
@@ -196,9 +196,9 @@ before-apart fs h a b x y p q level ne parents =
     let kids : (node_of fs x).kid ≢ (node_of fs y).kid = λ e. ne (kids_apart fs h x y p.there q.there some_x some_y parents e) in
     let top = name_of fs (node_of fs y).parent.0 in
     let whole_a : name_of fs a ≡ top ++ (node_of fs x).kid ∷ p.rest =
-        p.goes_on ∙ ap (λ (m : Name). m ++ p.rest) (is_x.named ∙ ap (λ n. name_of fs n ++ (node_of fs x).kid ∷ []) parents) ∙ append_assoc top ((node_of fs x).kid ∷ []) p.rest in
+    p.goes_on ∙ ap (λ (m : Name). m ++ p.rest) (is_x.named ∙ ap (λ n. name_of fs n ++ (node_of fs x).kid ∷ []) parents) ∙ append_assoc top ((node_of fs x).kid ∷ []) p.rest in
     let whole_b : name_of fs b ≡ top ++ (node_of fs y).kid ∷ q.rest =
-        q.goes_on ∙ ap (λ (m : Name). m ++ q.rest) is_y.named ∙ append_assoc top ((node_of fs y).kid ∷ []) q.rest in
+    q.goes_on ∙ ap (λ (m : Name). m ++ q.rest) is_y.named ∙ append_assoc top ((node_of fs y).kid ∷ []) q.rest in
     heads_order (node_of fs x).kid (node_of fs y).kid p.rest q.rest kids
     ∙ sym (before-append_same top ((node_of fs x).kid ∷ p.rest) ((node_of fs y).kid ∷ q.rest))
     ∙ sym (ap (λ (m : Name). before m (top ++ (node_of fs y).kid ∷ q.rest)) whole_a)

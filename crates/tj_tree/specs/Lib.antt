@@ -1,4 +1,5 @@
 pub mod Forks
+pub mod Gapped
 pub mod Laws
 pub mod Nodes
 pub mod Tree

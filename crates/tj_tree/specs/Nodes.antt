@@ -11,9 +11,9 @@ root_node = record { parent = record { 0 = 0 }; kid = 0; depth = 0; jump = recor
 -- where a child of p jumps: two jumps up from p where these are equally long, else to p (Myers 1983)
 abbrev pub jump_from : (ℕ → Node) → NodeId → NodeId
 jump_from nodes p =
-  let near = (nodes p.0).jump
-  in let far = (nodes near.0).jump
-  in if (nodes p.0).depth - (nodes near.0).depth == (nodes near.0).depth - (nodes far.0).depth then far else p
+    let near = (nodes p.0).jump
+    in let far = (nodes near.0).jump
+    in if (nodes p.0).depth - (nodes near.0).depth == (nodes near.0).depth - (nodes far.0).depth then far else p
 
 -- the node of a fork's child
 abbrev pub child_node : (ℕ → Node) → Fork → Node

@@ -12,8 +12,8 @@ root_entry = record { node = root_node; kids = 0 }
 abbrev pub forks_up_to : List Entry → ℕ → Forks
 forks_up_to entries zero = []
 forks_up_to entries (suc n) =
-  let node = (slice_index_or entries (suc n) root_entry).node
-  in record { parent = node.parent.0; child = suc n; kid = node.kid } ∷ forks_up_to entries n
+    let node = (slice_index_or entries (suc n) root_entry).node
+    in record { parent = node.parent.0; child = suc n; kid = node.kid } ∷ forks_up_to entries n
 
 -- the forks that made all tasks
 abbrev pub forks_of : List Entry → Forks

@@ -14,13 +14,14 @@ pub struct OrderList {
 }
 
 impl Model for OrderList {
-    ghost use Rattle.std.specs.Prelude.{ℕ, List, ◌<◌, length, Contains};
+    ghost use Rattle.std.specs.Prelude.{ℕ, List};
+    ghost use Rattle.tj_tree.specs.Forks.{IsNumbering};
 
     ghost Value = { List ℕ };
 
     ghost view = { λ list. list.tasks.items };
 
-    ghost invariant = { λ list. (n : ℕ) → n < length list.tasks.items → Contains list.tasks.items n };
+    ghost invariant = { λ list. IsNumbering list.tasks.items };
 }
 
 impl OrderList {
@@ -45,6 +46,13 @@ impl OrderList {
         let place = place_behind(self.tasks.as_slice(), parent.0);
         self.tasks.insert(place, child)?;
         Ok(NodeId(child))
+    }
+
+    /// How many tasks there are. They are numbered from 0 on.
+    pub fn count(&self) -> u32
+        ensures { result ≡ length self.now }
+    {
+        self.tasks.len() as u32
     }
 
     /// Whether `a` stands before `b`.

@@ -1,6 +1,6 @@
 //! The tree of forks, whose order is found by a walk over a few of its nodes.
 ghost use Rattle.std.specs.Prelude.{ℕ, ◌≡◌, ◌+◌, ◌*◌, ◌^◌, ◌<◌, ◌≤◌, ◌↔◌, [], ◌∷◌, length, max, IfOk, OnOk, OnErr, IsTrue};
-ghost use Rattle.tj_tree.specs.Forks.{Forks, IsHistory, IsEarlier, order_of, task_count, next_fork};
+ghost use Rattle.tj_tree.specs.Forks.{Forks, HasTask, IsHistory, IsEarlier, order_of, task_count, next_fork};
 ghost use Rattle.tj_tree.specs.Nodes.{node_of};
 ghost use Rattle.tj_tree.specs.Nodes.{child_node};
 ghost use Rattle.tj_tree.specs.Tree.{forks_of, AreEntriesOf};
@@ -66,6 +66,25 @@ impl ForkTree {
         let child = NodeId(self.entries.len() as u32);
         add_child(&mut self.entries, parent)?;
         Ok(child)
+    }
+
+    /// How many tasks there are. They are numbered from 0 on.
+    pub fn count(&self) -> u32
+        ensures count { result ≡ task_count self.now }
+        ensures tasks { (n : ℕ) → (n < result) ↔ HasTask self.now n }
+        ensures history { IsHistory self.now }
+    {
+        self.entries.len() as u32
+    }
+
+    /// The node of a task.
+    pub fn node(&self, task: NodeId) -> Node
+        requires { task.0 < task_count self.now }
+        ensures node { result ≡ node_of self.now task.0 }
+        ensures parent { result.parent.0 < task_count self.now }
+        ensures jump { result.jump.0 < task_count self.now }
+    {
+        node_at(self.entries.as_slice(), task)
     }
 
     /// Whether `a` is before `b` in the fork order.
@@ -186,6 +205,7 @@ fn node_at(entries: &[Entry], task: NodeId) -> Node
     requires there { task.0 < length entries.now }
     ensures node { result ≡ node_of (forks_of entries.now) task.0 }
     ensures shallow { result.depth ≤ task.0 }
+    ensures parent_there { result.parent.0 < length entries.now }
     ensures jump_there { result.jump.0 < length entries.now }
     ensures jump_up { (node_of (forks_of entries.now) result.jump.0).depth ≤ result.depth }
 {

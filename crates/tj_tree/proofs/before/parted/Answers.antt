@@ -60,8 +60,8 @@ loop-x-preserved g c =
       above_a = λ forks h has. above_trans forks c.visit-x.result.task.0 x.task.0 c.args.a.task.0 (raises g c forks h has).first.above (above_a forks h has);
       above_b = λ forks h has. above_trans forks c.visit-y.result.task.0 y.task.0 c.args.b.task.0 (raises g c forks h has).second.above (above_b forks h has);
       cost = λ forks h has.
-        let old = invariant.cost forks h (λ n node k. has n node (goes_on.kept n node k)) in
-        omega (arith, (raises g c forks h has).first.saves, old, c.visit-x.ensures.step, c.visit-y.ensures.step);
+          let old = invariant.cost forks h (λ n node k. has n node (goes_on.kept n node k)) in
+          omega (arith, (raises g c forks h has).first.saves, old, c.visit-x.ensures.step, c.visit-y.ensures.step);
       counted = omega (arith, invariant.counted, c.visit-x.ensures.step, c.visit-y.ensures.step, c.visit-x.ensures.look, c.visit-y.ensures.look);
       goes_on = GoesOn_trans (shows c.args.reader.now) (may c.args.reader.now) (shows before) (may before) (shows after) (may after) invariant.goes_on goes_on;
     }
