@@ -32,15 +32,18 @@ has-insert_after_other b c n [] h = refl
 has-insert_after_other b c n (x ∷ xs) h =
     let rest = has-insert_after_other b c n xs h in grind (arith, nat_tests, rest)
 
-AreApart-at : (b c x : ℕ) (xs : List ℕ) (t : Bool) → eqb x b ≡ t → (eqb x c || has xs c) ≡ false → AreApart (x ∷ xs) → (has xs c ≡ false → AreApart (insert_after b c xs)) → AreApart (cond t (x ∷ c ∷ xs) (x ∷ insert_after b c xs))
-AreApart-at b c x xs true e new apart rest = (grind (arith, nat_tests, new, apart.0), (grind (arith, nat_tests, new), apart.1))
+AreApart-at : (b c x : ℕ) (xs : List ℕ) (t : Bool) → eqb x b ≡ t → (eqb x c || has xs c) ≡ false → AreApart (x ∷ xs)
+    → (has xs c ≡ false → AreApart (insert_after b c xs)) → AreApart (cond t (x ∷ c ∷ xs) (x ∷ insert_after b c xs))
+AreApart-at b c x xs true e new apart rest =
+    (grind (arith, nat_tests, new, apart.0), (grind (arith, nat_tests, new), apart.1))
 AreApart-at b c x xs false e new apart rest =
     let other : x ≢ c = grind (arith, nat_tests, new) in
     (has-insert_after_other b c x xs other ∙ apart.0, rest (grind (arith, nat_tests, new)))
 
 pub AreApart-insert_after : (b c : ℕ) (xs : List ℕ) → has xs c ≡ false → AreApart xs → AreApart (insert_after b c xs)
 AreApart-insert_after b c [] new apart = tt
-AreApart-insert_after b c (x ∷ xs) new apart = AreApart-at b c x xs (eqb x b) refl new apart (λ h. AreApart-insert_after b c xs h apart.1)
+AreApart-insert_after b c (x ∷ xs) new apart = AreApart-at b c x xs (eqb x b) refl new apart
+    (λ h. AreApart-insert_after b c xs h apart.1)
 
 -- what has nothing of b has nothing before b
 pub earlier-none : (xs : List ℕ) (a b : ℕ) → has xs b ≡ false → earlier xs a b ≡ false
@@ -48,7 +51,8 @@ earlier-none [] a b h = refl
 earlier-none (x ∷ xs) a b h = grind (arith, nat_tests, earlier-none xs a b)
 
 -- an insertion leaves the order of others
-pub earlier-insert_after_others : (p c a b : ℕ) (xs : List ℕ) → a ≢ c → b ≢ c → earlier (insert_after p c xs) a b ≡ earlier xs a b
+pub earlier-insert_after_others : (p c a b : ℕ) (xs : List ℕ) → a ≢ c → b ≢ c
+    → earlier (insert_after p c xs) a b ≡ earlier xs a b
 earlier-insert_after_others p c a b [] na nb = refl
 earlier-insert_after_others p c a b (x ∷ xs) na nb =
     let rest = earlier-insert_after_others p c a b xs na nb in
@@ -56,12 +60,14 @@ earlier-insert_after_others p c a b (x ∷ xs) na nb =
     grind (arith, nat_tests, rest, same)
 
 -- what is inserted is before what its parent is before
-pub earlier-insert_after_first : (p c b : ℕ) (xs : List ℕ) → has xs p ≡ true → has xs c ≡ false → b ≢ c → earlier (insert_after p c xs) c b ≡ earlier xs p b
+pub earlier-insert_after_first : (p c b : ℕ) (xs : List ℕ) → has xs p ≡ true → has xs c ≡ false → b ≢ c
+    → earlier (insert_after p c xs) c b ≡ earlier xs p b
 earlier-insert_after_first p c b [] hp hc nb = cc
 earlier-insert_after_first p c b (x ∷ xs) hp hc nb = grind (arith, nat_tests, earlier-insert_after_first p c b xs)
 
 -- its parent, and what is before its parent, is before it
-pub earlier-insert_after_last : (p c a : ℕ) (xs : List ℕ) → has xs p ≡ true → has xs c ≡ false → AreApart xs → a ≢ c → earlier (insert_after p c xs) a c ≡ (eqb p a || earlier xs a p)
+pub earlier-insert_after_last : (p c a : ℕ) (xs : List ℕ) → has xs p ≡ true → has xs c ≡ false → AreApart xs → a ≢ c
+    → earlier (insert_after p c xs) a c ≡ (eqb p a || earlier xs a p)
 earlier-insert_after_last p c a [] hp hc apart na = cc
 earlier-insert_after_last p c a (x ∷ xs) hp hc apart na =
     let found = has-insert_after_new p c xs in
@@ -82,7 +88,9 @@ has_at [] i n h = absurd (cc)
 has_at (x ∷ xs) zero n h = grind (arith, nat_tests)
 has_at (x ∷ xs) (suc i) n h = let rest = has_at xs i n h in grind (arith, rest)
 
-place_at : (x n : ℕ) (xs : List ℕ) (b : Bool) → eqb x n ≡ b → ((has xs n ≡ true) → (i : ℕ) × (slice_get xs i ≡ Some n)) → (b || has xs n) ≡ true → (i : ℕ) × (slice_get (x ∷ xs) i ≡ Some n)
+place_at : (x n : ℕ) (xs : List ℕ) (b : Bool) → eqb x n ≡ b
+    → ((has xs n ≡ true) → (i : ℕ) × (slice_get xs i ≡ Some n)) → (b || has xs n) ≡ true
+    → (i : ℕ) × (slice_get (x ∷ xs) i ≡ Some n)
 place_at x n xs true e rest h = (0, ap Some (grind (arith, nat_tests)))
 place_at x n xs false e rest h = let found = rest h in (suc found.0, found.1)
 
@@ -92,19 +100,33 @@ place_from_has (x ∷ xs) n h = place_at x n xs (eqb x n) refl (place_from_has x
 
 IsEarlier-behind : (x a b : ℕ) (xs : List ℕ) → IsEarlier xs a b → IsEarlier (x ∷ xs) a b
 IsEarlier-behind x a b xs h =
-    record { place = suc h.place; further = suc h.further; before = omega (arith, h.before); at_place = h.at_place; at_further = h.at_further }
+    record {
+      place = suc h.place;
+      further = suc h.further;
+      before = omega (arith, h.before);
+      at_place = h.at_place;
+      at_further = h.at_further;
+    }
 
-IsEarlier-at : (x a b : ℕ) (xs : List ℕ) (t : Bool) → eqb x a ≡ t → ((earlier xs a b ≡ true) → IsEarlier xs a b) → cond t (has xs b) (earlier xs a b) ≡ true → IsEarlier (x ∷ xs) a b
+IsEarlier-at : (x a b : ℕ) (xs : List ℕ) (t : Bool) → eqb x a ≡ t → ((earlier xs a b ≡ true) → IsEarlier xs a b)
+    → cond t (has xs b) (earlier xs a b) ≡ true → IsEarlier (x ∷ xs) a b
 IsEarlier-at x a b xs true e rest h =
     let found = place_from_has xs b h in
-    record { place = 0; further = suc found.0; before = omega arith; at_place = ap Some (grind (arith, nat_tests)); at_further = found.1 }
+    record {
+      place = 0;
+      further = suc found.0;
+      before = omega arith;
+      at_place = ap Some (grind (arith, nat_tests));
+      at_further = found.1;
+    }
 IsEarlier-at x a b xs false e rest h = IsEarlier-behind x a b xs (rest h)
 
 pub IsEarlier-from_earlier : (xs : List ℕ) (a b : ℕ) → earlier xs a b ≡ true → IsEarlier xs a b
 IsEarlier-from_earlier [] a b h = absurd (cc)
 IsEarlier-from_earlier (x ∷ xs) a b h = IsEarlier-at x a b xs (eqb x a) refl (IsEarlier-from_earlier xs a b) h
 
-earlier_places : (xs : List ℕ) (a b i j : ℕ) → i < j → slice_get xs i ≡ Some a → slice_get xs j ≡ Some b → earlier xs a b ≡ true
+earlier_places : (xs : List ℕ) (a b i j : ℕ) → i < j → slice_get xs i ≡ Some a → slice_get xs j ≡ Some b
+    → earlier xs a b ≡ true
 earlier_places [] a b i j l p q = absurd (cc)
 earlier_places (x ∷ xs) a b i zero l p q = absurd (omega arith)
 earlier_places (x ∷ xs) a b zero (suc j) l p q = let found = has_at xs j b q in grind (arith, nat_tests, found)
@@ -139,10 +161,12 @@ Contains-from_has xs n h =
     let read = read_from_get xs found.0 n n found.1 in
     (found.0, read.0, read.1)
 
-numbers_grow : (b : ℕ) (xs : List ℕ) → b < length xs → ((n : ℕ) → n < length xs → Contains xs n) → (n : ℕ) → n < length (insert_after b (length xs) xs) → Contains (insert_after b (length xs) xs) n
+numbers_grow : (b : ℕ) (xs : List ℕ) → b < length xs → ((n : ℕ) → n < length xs → Contains xs n) → (n : ℕ)
+    → n < length (insert_after b (length xs) xs) → Contains (insert_after b (length xs) xs) n
 numbers_grow b xs l all n h = Contains-from_has _ n (
     elim (cases_eq n (length xs)) [
-      | inl same ↦ subst (λ k. has (insert_after b (length xs) xs) k ≡ true) (sym same) (has-insert_after_new b (length xs) xs (has_from_Contains xs b (all b l)))
+      | inl same ↦ subst (λ k. has (insert_after b (length xs) xs) k ≡ true) (sym same)
+          (has-insert_after_new b (length xs) xs (has_from_Contains xs b (all b l)))
       | inr other ↦
           let grown = length-insert_after b (length xs) xs (has_from_Contains xs b (all b l)) in
           let below : n < length xs = omega (arith, grown, other) in
@@ -150,7 +174,8 @@ numbers_grow b xs l all n h = Contains-from_has _ n (
     ])
 
 -- the next number, put in behind one that is there, keeps a numbering
-pub IsNumbering-insert_after : (b : ℕ) (xs ys : List ℕ) → b < length xs → length xs < 16384 → IsNumbering xs → ys ≡ insert_after b (length xs) xs → IsNumbering ys
+pub IsNumbering-insert_after : (b : ℕ) (xs ys : List ℕ) → b < length xs → length xs < 16384 → IsNumbering xs
+    → ys ≡ insert_after b (length xs) xs → IsNumbering ys
 IsNumbering-insert_after b xs ys l few is e =
     let grown = length-insert_after b (length xs) xs (has_from_Contains xs b (is.each b l)) in
     subst IsNumbering (sym e) (record { each = numbers_grow b xs l is.each; few = omega (arith, grown) })
@@ -160,13 +185,16 @@ pub earlier_tells : (xs : List ℕ) (a b : ℕ) (r : Bool) → r ≡ earlier xs 
 earlier_tells xs a b r e = (λ h. IsEarlier-from_earlier xs a b (sym e ∙ h), λ h. e ∙ earlier_from_IsEarlier xs a b h)
 
 -- a walk of the list that has passed a finds b
-pub earlier_found : (xs : List ℕ) (a b i : ℕ) (p : Bool) → i < length xs → p ≡ true → get_or xs i 0 ≡ b → cond p (has (drop i xs) b) (earlier (drop i xs) a b) ≡ earlier xs a b → true ≡ earlier xs a b
+pub earlier_found : (xs : List ℕ) (a b i : ℕ) (p : Bool) → i < length xs → p ≡ true → get_or xs i 0 ≡ b
+    → cond p (has (drop i xs) b) (earlier (drop i xs) a b) ≡ earlier xs a b → true ≡ earlier xs a b
 earlier_found xs a b i true l e h inv =
-    let split : has (drop i xs) b ≡ has (get_or xs i 0 ∷ drop (i + 1) xs) b = ap (λ (ys : List ℕ). has ys b) (drop_more xs i 0 l) in
+    let split : has (drop i xs) b ≡ has (get_or xs i 0 ∷ drop (i + 1) xs) b = ap (λ (ys : List ℕ). has ys b)
+    (drop_more xs i 0 l) in
     grind (arith, nat_tests, split, h, inv)
 earlier_found xs a b i false l e h inv = absurd (cc)
 
 -- a walk of the whole list that has found nothing
-pub earlier_missed : (xs : List ℕ) (a b i : ℕ) (p : Bool) → length xs ≤ i → cond p (has (drop i xs) b) (earlier (drop i xs) a b) ≡ earlier xs a b → false ≡ earlier xs a b
+pub earlier_missed : (xs : List ℕ) (a b i : ℕ) (p : Bool) → length xs ≤ i
+    → cond p (has (drop i xs) b) (earlier (drop i xs) a b) ≡ earlier xs a b → false ≡ earlier xs a b
 earlier_missed xs a b i true l inv = ap (λ (ys : List ℕ). has ys b) (sym (drop_all i xs l)) ∙ inv
 earlier_missed xs a b i false l inv = ap (λ (ys : List ℕ). earlier ys a b) (sym (drop_all i xs l)) ∙ inv

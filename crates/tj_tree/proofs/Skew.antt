@@ -57,8 +57,10 @@ Rising_lower : (low : ℕ) (rs : List ℕ) → Rising (suc low) rs → Rising lo
 Rising_lower low [] h = tt
 Rising_lower low (r ∷ rs) h = (omega (arith, h.0), h.1)
 
-IsSkew-merged : (r s : ℕ) (rest : List ℕ) (b : Bool) → eqb r s ≡ b → Rising r (s ∷ rest) → IsSkew (cond b (suc r ∷ rest) (0 ∷ r ∷ s ∷ rest))
-IsSkew-merged r s rest true e h = let same : r ≡ s = grind (arith, nat_tests, e) in subst (λ k. Rising (suc k) rest) (sym same) h.1
+IsSkew-merged : (r s : ℕ) (rest : List ℕ) (b : Bool) → eqb r s ≡ b → Rising r (s ∷ rest)
+    → IsSkew (cond b (suc r ∷ rest) (0 ∷ r ∷ s ∷ rest))
+IsSkew-merged r s rest true e h = let same : r ≡ s = grind (arith, nat_tests, e) in
+    subst (λ k. Rising (suc k) rest) (sym same) h.1
 IsSkew-merged r s rest false e h = (omega arith, (grind (arith, nat_tests, e, h.0), h.1))
 
 IsSkew-next : (rs : List ℕ) → IsSkew rs → IsSkew (next rs)
@@ -85,7 +87,8 @@ cond_added true xs ys e = cc
 cond_added false xs ys e = refl
 
 -- where two jumps are equally long, the next number's further ranks are those behind both
-pub tail-next_merged : (rs : List ℕ) → total rs - total (tail rs) ≡ total (tail rs) - total (tail (tail rs)) → tail (next rs) ≡ tail (tail rs)
+pub tail-next_merged : (rs : List ℕ) → total rs - total (tail rs) ≡ total (tail rs) - total (tail (tail rs))
+    → tail (next rs) ≡ tail (tail rs)
 tail-next_merged [] e = refl
 tail-next_merged (r ∷ []) e = absurd (omega (arith, weight_pos r))
 tail-next_merged (r ∷ s ∷ rest) e =
@@ -93,7 +96,8 @@ tail-next_merged (r ∷ s ∷ rest) e =
     ap tail (cond_merged (eqb r s) (suc r ∷ rest) (0 ∷ r ∷ s ∷ rest) (grind (arith, nat_tests, same)))
 
 -- else they are all ranks
-pub tail-next_added : (rs : List ℕ) → total rs - total (tail rs) ≢ total (tail rs) - total (tail (tail rs)) → tail (next rs) ≡ rs
+pub tail-next_added : (rs : List ℕ) → total rs - total (tail rs) ≢ total (tail rs) - total (tail (tail rs))
+    → tail (next rs) ≡ rs
 tail-next_added [] ne = refl
 tail-next_added (r ∷ []) ne = refl
 tail-next_added (r ∷ s ∷ rest) ne =
@@ -139,7 +143,8 @@ moves-ranks b d m h =
     let weighs = total-ranks d in
     moves-skew b (ranks d) m (IsSkew-ranks d) (Below-total b (ranks d) (omega arith))
 
-moves_over : (rs : List ℕ) (m n : ℕ) → total rs ≡ m + n → n < total rs → n ≤ total (tail rs) → moves (tail rs) (total (tail rs) - n) < moves rs m
+moves_over : (rs : List ℕ) (m n : ℕ) → total rs ≡ m + n → n < total rs → n ≤ total (tail rs)
+    → moves (tail rs) (total (tail rs) - n) < moves rs m
 moves_over [] m n e l k = absurd (omega arith)
 moves_over (r ∷ rs) m n e l k =
     let left : total rs - n ≡ m - weight r = omega arith in
@@ -147,17 +152,21 @@ moves_over (r ∷ rs) m n e l k =
     rw left (grind (arith, nat_tests, far))
 
 -- a jump that doesn't lead too far saves a move
-pub moves_jump : (d j n : ℕ) → ranks j ≡ tail (ranks d) → n ≤ j → n < d → moves (ranks j) (j - n) < moves (ranks d) (d - n)
+pub moves_jump : (d j n : ℕ) → ranks j ≡ tail (ranks d) → n ≤ j → n < d
+    → moves (ranks j) (j - n) < moves (ranks d) (d - n)
 moves_jump d j n e l k =
     let whole = total-ranks d in
     let rest : total (tail (ranks d)) ≡ j = ap total (sym e) ∙ total-ranks j in
     let fewer = moves_over (ranks d) (d - n) n (omega arith) (omega arith) (omega arith) in
-    subst (λ rs. moves rs (j - n) < moves (ranks d) (d - n)) (sym e) (subst (λ t. moves (tail (ranks d)) (t - n) < moves (ranks d) (d - n)) rest fewer)
+    subst (λ rs. moves rs (j - n) < moves (ranks d) (d - n)) (sym e)
+    (subst (λ t. moves (tail (ranks d)) (t - n) < moves (ranks d) (d - n)) rest fewer)
 
 moves_split : (r m : ℕ) (rest : List ℕ) → m < 2 * weight r → moves (r ∷ r ∷ rest) m < 2 * r + 2
 moves_split r m rest l = grind (arith, nat_tests)
 
-moves_below : (r s m : ℕ) (rest : List ℕ) (t : Bool) → eqb r s ≡ t → total (tail (cond t (suc r ∷ rest) (0 ∷ r ∷ s ∷ rest))) + m < weight r + (weight s + total rest) + 1 → 0 < m → moves (r ∷ s ∷ rest) (m - 1) < moves (cond t (suc r ∷ rest) (0 ∷ r ∷ s ∷ rest)) m
+moves_below : (r s m : ℕ) (rest : List ℕ) (t : Bool) → eqb r s ≡ t
+    → total (tail (cond t (suc r ∷ rest) (0 ∷ r ∷ s ∷ rest))) + m < weight r + (weight s + total rest) + 1 → 0 < m
+    → moves (r ∷ s ∷ rest) (m - 1) < moves (cond t (suc r ∷ rest) (0 ∷ r ∷ s ∷ rest)) m
 moves_below r s m rest true e l some =
     let same : r ≡ s = grind (arith, nat_tests, e) in
     let small : m < 2 * weight r + 1 = omega (arith, ap weight same) in
@@ -165,13 +174,15 @@ moves_below r s m rest true e l some =
     subst (λ k. moves (r ∷ k ∷ rest) (m - 1) < moves (suc r ∷ rest) m) same (grind (arith, nat_tests, few, small))
 moves_below r s m rest false e l some = absurd (omega arith)
 
-moves_next : (rs : List ℕ) (m : ℕ) → total (tail (next rs)) + m < total rs + 1 → 0 < m → moves rs (m - 1) < moves (next rs) m
+moves_next : (rs : List ℕ) (m : ℕ) → total (tail (next rs)) + m < total rs + 1 → 0 < m
+    → moves rs (m - 1) < moves (next rs) m
 moves_next [] m l some = absurd (omega arith)
 moves_next (r ∷ []) m l some = absurd (omega arith)
 moves_next (r ∷ s ∷ rest) m l some = moves_below r s m rest (eqb r s) refl l some
 
 -- where the jump leads too far, a single step saves a move
-pub moves_step : (d j n : ℕ) → ranks j ≡ tail (ranks (d + 1)) → j < n → n ≤ d → moves (ranks d) (d - n) < moves (ranks (d + 1)) (d + 1 - n)
+pub moves_step : (d j n : ℕ) → ranks j ≡ tail (ranks (d + 1)) → j < n → n ≤ d
+    → moves (ranks d) (d - n) < moves (ranks (d + 1)) (d + 1 - n)
 moves_step d j n e l k =
     let jumped : ranks j ≡ tail (next (ranks d)) = rw add-one at e in
     let whole = total-ranks d in
@@ -208,7 +219,9 @@ jump_level d e j k same p q =
     sym (total-ranks j) ∙ ap total (p ∙ ap (λ n. tail (ranks n)) same ∙ sym q) ∙ total-ranks k
 
 -- of two tasks one is lifted at no cost, so two parts of the walk cost something
-pub cost_of_parts : (a b d t t' t'' t''' digits : ℕ) → d ≡ min a b → (a ≤ d → t' ≡ t) → (b ≤ d → t'' ≡ t') → t' ≤ t + (6 * digits + 2) → t'' ≤ t' + (6 * digits + 2) → t''' ≤ t'' + (6 * digits + 2) → t''' ≤ t + (12 * digits + 4)
+pub cost_of_parts : (a b d t t' t'' t''' digits : ℕ) → d ≡ min a b → (a ≤ d → t' ≡ t) → (b ≤ d → t'' ≡ t')
+    → t' ≤ t + (6 * digits + 2) → t'' ≤ t' + (6 * digits + 2) → t''' ≤ t'' + (6 * digits + 2)
+    → t''' ≤ t + (12 * digits + 4)
 cost_of_parts a b d t t' t'' t''' digits e first second one two three =
     elim (cases_lt a b) [
       | inl less ↦ let free : t' ≡ t = first (omega arith) in omega arith

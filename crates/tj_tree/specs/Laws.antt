@@ -5,7 +5,8 @@ use Rattle.tj_tree.specs.Forks.{Forks, HasTask, IsHistory, IsEarlier, order_of, 
 
 -- later forks never change the order of two tasks that are there
 abbrev pub LaterForksKeepOrder : Type 0
-LaterForksKeepOrder = (later forks : Forks) (a b : ℕ) → IsHistory (later ++ forks) → HasTask forks a → HasTask forks b → IsEarlier (order_of (later ++ forks)) a b ↔ IsEarlier (order_of forks) a b
+LaterForksKeepOrder = (later forks : Forks) (a b : ℕ) → IsHistory (later ++ forks) → HasTask forks a
+    → HasTask forks b → IsEarlier (order_of (later ++ forks)) a b ↔ IsEarlier (order_of forks) a b
 
 -- no task is before itself
 abbrev pub NoneIsBeforeItself : Type 0
@@ -13,15 +14,18 @@ NoneIsBeforeItself = (forks : Forks) (a : ℕ) → IsHistory forks → IsEarlier
 
 -- what is before a task is before all that the task is before
 abbrev pub OrderIsTransitive : Type 0
-OrderIsTransitive = (forks : Forks) (a b c : ℕ) → IsHistory forks → IsEarlier (order_of forks) a b → IsEarlier (order_of forks) b c → IsEarlier (order_of forks) a c
+OrderIsTransitive = (forks : Forks) (a b c : ℕ) → IsHistory forks → IsEarlier (order_of forks) a b
+    → IsEarlier (order_of forks) b c → IsEarlier (order_of forks) a c
 
 -- of two tasks one is before the other
 abbrev pub OrderIsTotal : Type 0
-OrderIsTotal = (forks : Forks) (a b : ℕ) → IsHistory forks → HasTask forks a → HasTask forks b → a ≢ b → IsEarlier (order_of forks) a b ⊎ IsEarlier (order_of forks) b a
+OrderIsTotal = (forks : Forks) (a b : ℕ) → IsHistory forks → HasTask forks a → HasTask forks b → a ≢ b
+    → IsEarlier (order_of forks) a b ⊎ IsEarlier (order_of forks) b a
 
 -- a task is before another exactly where its name is before the other's name
 abbrev pub OrderIsThatOfNames : Type 0
-OrderIsThatOfNames = (forks : Forks) (a b : ℕ) → IsHistory forks → HasTask forks a → HasTask forks b → IsTrue (before (name_of forks a) (name_of forks b)) ↔ IsEarlier (order_of forks) a b
+OrderIsThatOfNames = (forks : Forks) (a b : ℕ) → IsHistory forks → HasTask forks a → HasTask forks b
+    → IsTrue (before (name_of forks a) (name_of forks b)) ↔ IsEarlier (order_of forks) a b
 
 -- the name is that of the top or of a descendant
 pub record IsInSubtree (top name : Name) : Type 0 where

@@ -22,7 +22,8 @@ forks_of entries = forks_up_to entries (length entries - 1)
 -- each fork took the next numbers, and its parent was there
 abbrev pub AreInTurn : Forks → Type 0
 AreInTurn [] = Unit {0}
-AreInTurn (fork ∷ earlier) = (fork ≡ next_fork earlier fork.parent) × (fork.parent < task_count earlier) × AreInTurn earlier
+AreInTurn (fork ∷ earlier) = (fork ≡ next_fork earlier fork.parent) × (fork.parent < task_count earlier) × AreInTurn
+    earlier
 
 -- the entries have the nodes of these forks, and how many children each task has
 pub record AreEntriesOf (forks : Forks) (entries : List Entry) : Type 0 where

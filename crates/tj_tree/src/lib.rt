@@ -1,4 +1,5 @@
-//! The fork order on tasks: as a plain list, by a tree with jump pointers, and over any reader of nodes.
+//! The fork order on tasks: as a plain list, by a tree with jump pointers, and over any reader of
+//! nodes.
 #![tactic(auto)]
 
 mod before;

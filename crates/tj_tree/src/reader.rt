@@ -16,11 +16,13 @@ pub trait NodeReader {
     /// How many looks were made.
     ghost looks: { Self → ℕ };
 
-    /// The node of a task that may be looked at. Its parent and its jump may be looked at from then on.
+    /// The node of a task that may be looked at. Its parent and its jump may be looked at from then
+    /// on.
     fn look(&mut self, task: NodeId) -> Node
         requires { may_look self.old task.0 }
         ensures shown { shows self.new task.0 result }
-        ensures goes_on { GoesOn (shows self.old) (may_look self.old) (shows self.new) (may_look self.new) }
+        ensures goes_on { GoesOn (shows self.old) (may_look self.old)
+            (shows self.new) (may_look self.new) }
         ensures parent { may_look self.new result.parent.0 }
         ensures jump { may_look self.new result.jump.0 }
         ensures counted { looks self.new ≡ looks self.old + 1 };

@@ -1,4 +1,5 @@
-//! The order of a small tree in each of its forms, a deep chain, and a tree whose numbers have gaps.
+//! The order of a small tree in each of its forms, a deep chain, and a tree whose numbers have
+//! gaps.
 ghost use Rattle.std.specs.Prelude.{◌≡◌, ◌<◌};
 ghost use Rattle.tj_tree.specs.Forks.{HasTask, task_count};
 ghost use Rattle.tj_tree.specs.Gapped.{gapped};
@@ -11,7 +12,8 @@ use std::sync::ledger::{Blank, Ledger};
 use std::test::Fail;
 use tj_base::{Name, Steps, path_before};
 
-// Reads a fork tree and counts its looks, in a ledger for its contract and in a number for the test.
+// Reads a fork tree and counts its looks, in a ledger for its contract and in a number for the
+// test.
 #[derive(Drop)]
 struct CountingReader<'a, C: Ledger> {
     tree: &'a ForkTree,
@@ -24,7 +26,8 @@ impl<C: Ledger> NodeReader for CountingReader<'_, C> {
     ghost use Rattle.tj_tree.specs.Forks.{HasTask, task_count};
     ghost use Rattle.tj_tree.specs.Nodes.{node_of};
 
-    ghost shows = { λ reader n node. HasTask reader.tree.now n × (node_of reader.tree.now n ≡ node) };
+    ghost shows = { λ reader n node.
+        HasTask reader.tree.now n × (node_of reader.tree.now n ≡ node) };
 
     ghost may_look = { λ reader n. n < task_count reader.tree.now };
 

@@ -1,8 +1,7 @@
 //! The tree of forks, whose order is found by a walk over a few of its nodes.
 ghost use Rattle.std.specs.Prelude.{ℕ, ◌≡◌, ◌+◌, ◌*◌, ◌^◌, ◌<◌, ◌≤◌, ◌↔◌, [], ◌∷◌, length, max, IfOk, OnOk, OnErr, IsTrue};
 ghost use Rattle.tj_tree.specs.Forks.{Forks, HasTask, IsHistory, IsEarlier, order_of, task_count, next_fork};
-ghost use Rattle.tj_tree.specs.Nodes.{node_of};
-ghost use Rattle.tj_tree.specs.Nodes.{child_node};
+ghost use Rattle.tj_tree.specs.Nodes.{child_node, node_of};
 ghost use Rattle.tj_tree.specs.Tree.{forks_of, AreEntriesOf};
 
 use crate::before::before_in;
@@ -185,7 +184,8 @@ fn child_of(entries: &[Entry], parent: NodeId) -> Node
     requires entries { AreEntriesOf (forks_of entries.now) entries.now }
     requires parent_there { parent.0 < length entries.now }
     requires room { length entries.now < 16384 }
-    ensures { let forks = forks_of entries.now in result ≡ child_node (node_of forks) (next_fork forks parent.0) }
+    ensures { let forks = forks_of entries.now in
+        result ≡ child_node (node_of forks) (next_fork forks parent.0) }
 {
     let kids = entries[parent.0 as usize].kids;
     let above = node_at(entries, parent);

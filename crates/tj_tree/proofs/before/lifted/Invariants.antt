@@ -16,7 +16,8 @@ invariant-loop-at g l =
       above : InEachTree (shows l.reader) (λ forks. IsAtOrAbove forks l.at.task.0 l.fn.from.task.0);
       up : l.at.node.depth ≤ l.fn.from.node.depth;
       free : l.fn.from.node.depth ≤ l.depth → l.steps ≡ l.initial.steps;
-      cost : l.steps + 2 * moves (ranks l.at.node.depth) (l.at.node.depth - l.depth) ≤ l.initial.steps + 2 * moves (ranks l.fn.from.node.depth) (l.fn.from.node.depth - l.depth);
+      cost : l.steps + 2 * moves (ranks l.at.node.depth) (l.at.node.depth - l.depth) ≤ l.initial.steps + 2 * moves
+          (ranks l.fn.from.node.depth) (l.fn.from.node.depth - l.depth);
       counted : l.steps + looks l.initial.reader ≡ l.initial.steps + looks l.reader;
       goes_on : GoesOn (shows l.initial.reader) (may l.initial.reader) (shows l.reader) (may l.reader);
     }

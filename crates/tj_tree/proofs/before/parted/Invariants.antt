@@ -20,7 +20,8 @@ invariant-loop-x g l =
       above_b : InEachTree (shows l.reader) (λ forks. IsAtOrAbove forks l.y.task.0 l.fn.b.task.0);
       cost : InEachTree (shows l.reader) (λ forks.
           let floor = floor_of forks l.fn.a.task.0 l.fn.b.task.0 in
-          l.steps + 2 * moves (ranks l.x.node.depth) (l.x.node.depth - floor) ≤ l.initial.steps + 2 * moves (ranks l.fn.a.node.depth) (l.fn.a.node.depth - floor));
+          l.steps + 2 * moves (ranks l.x.node.depth) (l.x.node.depth - floor) ≤ l.initial.steps + 2 * moves
+          (ranks l.fn.a.node.depth) (l.fn.a.node.depth - floor));
       counted : l.steps + looks l.initial.reader ≡ l.initial.steps + looks l.reader;
       goes_on : GoesOn (shows l.initial.reader) (may l.initial.reader) (shows l.reader) (may l.reader);
     }

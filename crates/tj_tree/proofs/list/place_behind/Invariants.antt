@@ -6,5 +6,6 @@ use Rattle.tj_tree.proofs.list.place_behind.Given as goal
 abbrev pub invariant-loop-place : goal.invariant-loop-place
 invariant-loop-place l = record {
   there : has (drop l.place l.tasks) l.task ≡ true;
-  passed : (c : ℕ) → insert_after l.task c l.tasks ≡ take l.place l.tasks ++ insert_after l.task c (drop l.place l.tasks);
+  passed : (c : ℕ) → insert_after l.task c l.tasks ≡ take l.place l.tasks ++ insert_after l.task c
+      (drop l.place l.tasks);
 }
