@@ -1,0 +1,29 @@
+//! Reading the nodes of a tree that may be known in part only, and may grow meanwhile.
+ghost use Rattle.std.specs.Prelude.{ℕ, ◌≡◌, ◌+◌};
+ghost use Rattle.tj_tree.specs.declared.node.Node.{Node};
+ghost use Rattle.tj_tree.specs.Walk.{GoesOn};
+
+use crate::node::{Node, NodeId};
+
+/// A reader of nodes. It answers a node at a time, from the tasks that it was asked for upwards.
+pub trait NodeReader {
+    /// The nodes that it shows so far: that this task has this node.
+    ghost shows: { Self → ℕ → Node → Type 0 };
+
+    /// The tasks whose nodes may be looked at.
+    ghost may_look: { Self → ℕ → Type 0 };
+
+    /// How many looks were made.
+    ghost looks: { Self → ℕ };
+
+    /// The node of a task that may be looked at. Its parent and its jump may be looked at from then
+    /// on.
+    fn look(&mut self, task: NodeId) -> Node
+        requires { may_look self.old task.0 }
+        ensures shown { shows self.new task.0 result }
+        ensures goes_on { GoesOn (shows self.old) (may_look self.old)
+            (shows self.new) (may_look self.new) }
+        ensures parent { may_look self.new result.parent.0 }
+        ensures jump { may_look self.new result.jump.0 }
+        ensures counted { looks self.new ≡ looks self.old + 1 };
+}
