@@ -4,7 +4,7 @@ use Rattle.std.specs.List.{Contains, IsDistinct}
 use Rattle.std.proofs.lemmas.Map.Keys.{IsDistinct-from_apart, apart_from_distinct}
 use Rattle.tj_core.specs.CoreState.{Cells}
 use Rattle.tj_core.specs.WaitGraph.{Leads, LeadsAlong, IsCycle, Reaches, IsOnCycleOf}
-use Rattle.tj_core.specs.Laws.{CyclesAreRounds, RoundsAreCycles}
+use Rattle.tj_core.specs.Laws.{CyclesReturn, ReturnsAreCycles}
 use Rattle.tj_core.proofs.Rounds.{leads_one, reach_one, reach_front, reach_after, cycle_at, cycle_once}
 
 module _ (s : Cells) where
@@ -38,14 +38,14 @@ module _ (s : Cells) where
         let e = apart_from_distinct eqb (t ∷ us) 0 k t d a b in let f = eq-eqb t (get_or (t ∷ us) k t) q in absurd (cc (e, f));
   }
 
-pub rounds_are_cycles : RoundsAreCycles
-rounds_are_cycles s t zero c = let h = c.some in absurd (omega arith)
-rounds_are_cycles s t (suc m) c =
+pub returns_are_cycles : ReturnsAreCycles
+returns_are_cycles s t zero c = let h = c.some in absurd (omega arith)
+returns_are_cycles s t (suc m) c =
     let y = between s t m t c.round in
     (y.0, (distinct s t t y.0 y.1 (suc m) (ap suc y.2) c, y.1), ap suc y.2)
 
-pub cycles_are_rounds : CyclesAreRounds
-cycles_are_rounds s [] t c h = absurd c
-cycles_are_rounds s (u ∷ us) t c h =
+pub cycles_return : CyclesReturn
+cycles_return s [] t c h = absurd c
+cycles_return s (u ∷ us) t c h =
     cycle_at s u (suc (length us)) h.0 t (first_round s u us c.0 c.1)
     (subst (Reaches s u h.0) h.2 (at_place s u u us c.1 h.0 t h.1))

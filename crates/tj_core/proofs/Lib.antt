@@ -1,3 +1,4 @@
 pub mod Rounds
 pub mod CycleLists
-pub mod Turns
+pub mod Slots
+pub mod NextEvents

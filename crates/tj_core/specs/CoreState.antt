@@ -134,6 +134,10 @@ abbrev pub present : ℕ → List TrailLink → ℕ
 present p [] = p
 present p (link ∷ links) = link.next
 
--- F holds of the cell, the way and the walker of t's wait, where t walks
+-- F holds of the cell and the way of the wait and of the walker of a task at this stage, where it walks
+abbrev pub IfWalksAt : CellStage → (ℕ → Way → Walker → Type 0) → Type 0
+IfWalksAt st F = (c : ℕ) (way : Way) (w : Walker) → st ≡ waits c way (walks w) → F c way w
+
+-- the same of t
 abbrev pub IfWalks : Cells → ℕ → (ℕ → Way → Walker → Type 0) → Type 0
-IfWalks cells t F = (c : ℕ) (way : Way) (w : Walker) → stage cells t ≡ waits c way (walks w) → F c way w
+IfWalks cells t F = IfWalksAt (stage cells t) F

@@ -32,9 +32,13 @@ IsFreshChild s t c = (stage s.cells c ≡ fresh) × (maker s.cells c ≡ t) × (
 abbrev pub OwnsNothingElse : CoreState → ℕ → Type 0
 OwnsNothingElse s t = (c : ℕ) → Owns s t c → c ≡ t
 
--- t is a task that walks, and F holds of the cell and the way of its wait and of its walker
+-- a task at this stage walks, and F holds of the cell and the way of its wait and of its walker
+abbrev pub WalksAt : CellStage → (ℕ → Way → Walker → Type 0) → Type 0
+WalksAt st F = (c : ℕ) × (way : Way) × (w : Walker) × (st ≡ waits c way (walks w)) × F c way w
+
+-- t walks, and F holds of its walk
 abbrev pub Walks : CoreState → ℕ → (ℕ → Way → Walker → Type 0) → Type 0
-Walks s t F = (c : ℕ) × (way : Way) × (w : Walker) × (stage s.cells t ≡ waits c way (walks w)) × F c way w
+Walks s t F = WalksAt (stage s.cells t) F
 
 -- along or other
 abbrev pub way_if : Bool → Way
@@ -50,6 +54,10 @@ abbrev pub MayPublish : Way → CellStage → Type 0
 MayPublish Along st = Runs st
 MayPublish Other st = st ≡ raised
 
+-- it waits along the order and has just published
+abbrev pub MayReadOthers : Way → Walker → Type 0
+MayReadOthers way w = (way ≡ Along) × (w.last ≡ Published)
+
 -- it has just published an other wait, or has just read OTHERS above 0
 abbrev pub MayCount : Way → Walker → Type 0
 MayCount way w = ((way ≡ Other) × (w.last ≡ Published)) ⊎ ((n : ℕ) × (w.last ≡ SawOthers n) × (0 < n))
@@ -57,6 +65,18 @@ MayCount way w = ((way ≡ Other) × (w.last ≡ Published)) ⊎ ((n : ℕ) × (
 -- it has just read the count, or has just passed an owner with the trail shorter than the bound
 abbrev pub MayReadOwner : Walker → Type 0
 MayReadOwner w = (w.last ≡ Counted) ⊎ ((w.last ≡ Passed) × (length w.trail < w.bound))
+
+-- it has just read an owner that is neither nobody nor t itself
+abbrev pub MayReadWait : ℕ → Walker → Type 0
+MayReadWait t w = (u : ℕ) × (w.last ≡ SawOwner (Some u)) × (u ≢ t)
+
+-- it has just read that the owner waits for a cell
+abbrev pub MayReadAgain : Walker → Type 0
+MayReadAgain w = (u v : ℕ) × (w.last ≡ SawWait u (Some v))
+
+-- it has just read t itself as owner
+abbrev pub MayAlarm : ℕ → Walker → Type 0
+MayAlarm t w = w.last ≡ SawOwner (Some t)
 
 -- the walk ends after this read, with a trail of this length under this bound
 abbrev pub EndsWalk : ℕ → ℕ → LastRead → Type 0
@@ -73,6 +93,14 @@ EndsWalk len bound Passed = len ≡ bound
 -- it read the owner again and found it changed
 EndsWalk len bound Changed = Unit {0}
 
+-- its walk is at its end
+abbrev pub MaySettle : Walker → Type 0
+MaySettle w = EndsWalk (length w.trail) w.bound w.last
+
+-- the walk goes on: its next event can't be the end of it
+abbrev pub IsOpen : Walker → Type 0
+IsOpen w = ¬ MaySettle w
+
 -- where an event is allowed, with at most N cells
 abbrev pub Allowed : ℕ → CoreState → Event → Type 0
 Allowed N s (Make t) = IsRunning s t.0 × (s.count < N)
@@ -82,16 +110,13 @@ Allowed N s (Hand t p c) =
 Allowed N s (Close t p) = IsRunning s t.0 × Owns s t.0 p.0 × (p.0 ≡ t.0 → OwnsNothingElse s t.0)
 Allowed N s (Raise t) = IsRunning s t.0
 Allowed N s (Publish t p) = (p.0 < s.count) × MayPublish (way_of_wait s t.0 p.0) (stage s.cells t.0)
-Allowed N s (LoadOthers t) = Walks s t.0 (λ c way w. (way ≡ Along) × (w.last ≡ Published))
+Allowed N s (LoadOthers t) = Walks s t.0 (λ c way w. MayReadOthers way w)
 Allowed N s (LoadCount t) = Walks s t.0 (λ c way w. MayCount way w)
 Allowed N s (ReadOwner t) = Walks s t.0 (λ c way w. MayReadOwner w)
--- it read an owner that is neither nobody nor itself
-Allowed N s (ReadWait t) = Walks s t.0 (λ c way w. (u : ℕ) × (w.last ≡ SawOwner (Some u)) × (u ≢ t.0))
--- it read that the owner waits for a cell
-Allowed N s (ReadOwnerAgain t) = Walks s t.0 (λ c way w. (u v : ℕ) × (w.last ≡ SawWait u (Some v)))
--- it read itself as owner
-Allowed N s (Alarm t) = Walks s t.0 (λ c way w. w.last ≡ SawOwner (Some t.0))
-Allowed N s (Settle t) = Walks s t.0 (λ c way w. EndsWalk (length w.trail) w.bound w.last)
+Allowed N s (ReadWait t) = Walks s t.0 (λ c way w. MayReadWait t.0 w)
+Allowed N s (ReadOwnerAgain t) = Walks s t.0 (λ c way w. MayReadAgain w)
+Allowed N s (Alarm t) = Walks s t.0 (λ c way w. MayAlarm t.0 w)
+Allowed N s (Settle t) = Walks s t.0 (λ c way w. MaySettle w)
 -- it is parked on a cell that nobody owns
 Allowed N s (Unwait t) =
     (c : ℕ) × (way : Way) × (stage s.cells t.0 ≡ waits c way parked) × (owner s.cells c ≡ None)
@@ -171,21 +196,20 @@ count_read n w = record { trail = w.trail; bound = n; loads = w.loads; last = Co
 abbrev pub owner_read : Option ℕ → Walker → Walker
 owner_read o w = record { trail = w.trail; bound = w.bound; loads = suc w.loads; last = SawOwner o }
 
--- what is read next after an owner: what that owner waits for
-abbrev pub wait_seen : Cells → LastRead → LastRead
-wait_seen cells (SawOwner (Some u)) = SawWait u (wait cells u)
-wait_seen cells (SawOwner None) = SawOwner None
-wait_seen cells Published = Published
-wait_seen cells (SawOthers n) = SawOthers n
-wait_seen cells Counted = Counted
-wait_seen cells (SawWait u o) = SawWait u o
-wait_seen cells Passed = Passed
-wait_seen cells Changed = Changed
+-- the walker after it read that the owner u waits for o
+abbrev pub wait_found : ℕ → Option ℕ → Walker → Walker
+wait_found u o w = record { trail = w.trail; bound = w.bound; loads = suc w.loads; last = SawWait u o }
 
--- the walker after it read what the owner waits for
-abbrev pub wait_read : Cells → Walker → Walker
-wait_read cells w =
-    record { trail = w.trail; bound = w.bound; loads = suc w.loads; last = wait_seen cells w.last }
+-- the walker after it read what the owner that it has read waits for
+abbrev pub wait_read : Cells → Walker → LastRead → Walker
+wait_read cells w (SawOwner (Some u)) = wait_found u (wait cells u) w
+wait_read cells w (SawOwner None) = w
+wait_read cells w Published = w
+wait_read cells w (SawOthers n) = w
+wait_read cells w Counted = w
+wait_read cells w (SawWait u o) = w
+wait_read cells w Passed = w
+wait_read cells w Changed = w
 
 -- whether the owner is u
 abbrev pub is_owner : Option ℕ → ℕ → Bool
@@ -240,7 +264,7 @@ after s (Publish t p) = restage s t.0 (λ _. waits p.0 (way_of_wait s t.0 p.0) (
 after s (LoadOthers t) = restage s t.0 (walked (λ c w. others_read s.others w))
 after s (LoadCount t) = restage s t.0 (walked (λ c w. count_read s.count w))
 after s (ReadOwner t) = restage s t.0 (walked (λ c w. owner_read (owner s.cells (present c w.trail)) w))
-after s (ReadWait t) = restage s t.0 (walked (λ c w. wait_read s.cells w))
+after s (ReadWait t) = restage s t.0 (walked (λ c w. wait_read s.cells w w.last))
 after s (ReadOwnerAgain t) =
     restage s t.0 (walked (λ c w. owner_again (owner s.cells (present c w.trail)) w w.last))
 after s (Alarm t) = restage s t.0 (walk_ended alarmed)

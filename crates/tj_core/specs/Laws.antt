@@ -6,9 +6,11 @@ use Rattle.tj_core.specs.declared.event.Event.TheVariants.{Make, Fork, Hand, Clo
 use Rattle.tj_core.specs.declared.event.Event.TheVariants.{LoadCount, ReadOwner, ReadWait, ReadOwnerAgain, Alarm}
 use Rattle.tj_core.specs.declared.event.Event.TheVariants.{Settle, Unwait, Lower}
 use Rattle.tj_core.specs.CoreState.{CoreState, Cells, root_alone}
-use Rattle.tj_core.specs.Events.{Allowed, after, Walks}
-use Rattle.tj_core.specs.Runs.{AreAllowed, after_all}
+use Rattle.tj_core.specs.Events.{Allowed, after, Walks, IsOpen}
+use Rattle.tj_core.specs.Runs.{AreAllowed, after_all, IsLegalRun}
 use Rattle.tj_core.specs.WaitGraph.{IsCycle, IsOnCycle, IsOnCycleOf}
+use Rattle.tj_core.specs.declared.walk.Walker.{Walker}
+use Rattle.tj_core.specs.Facts.{IsOnCourse}
 use Rattle.tj_core.specs.CoreFacts.{CoreFacts}
 
 -- one allowed event keeps the facts
@@ -18,6 +20,14 @@ EventKeepsFacts = (N : ℕ) (s : CoreState) (e : Event) → CoreFacts s → Allo
 -- the state with the root alone meets the facts
 abbrev pub StartMeetsFacts : Type 0
 StartMeetsFacts = CoreFacts root_alone
+
+-- a legal run ends in a state that meets the facts
+abbrev pub LegalRunsMeetFacts : Type 0
+LegalRunsMeetFacts = (N : ℕ) (es : List Event) → IsLegalRun N es → CoreFacts (after_all root_alone es)
+
+-- a walk that is on course is open
+abbrev pub OnCourseIsOpen : Type 0
+OnCourseIsOpen = (cells : Cells) (n p : ℕ) (w : Walker) → IsOnCourse cells n p w w.last → IsOpen w
 
 -- a task settles only where no cycle through it stood just after it had published
 abbrev pub SettlesOffCycles : Type 0
@@ -69,16 +79,16 @@ WalkersHaveOneEvent =
     (N : ℕ) (s : CoreState) (t : ℕ) → CoreFacts s → Walks s t (λ c way w. Unit {0}) → HasOneEvent N s t
 
 -- each task of a standing cycle is on a cycle of that many tasks
-abbrev pub CyclesAreRounds : Type 0
-CyclesAreRounds =
+abbrev pub CyclesReturn : Type 0
+CyclesReturn =
     (cells : Cells) (tasks : List ℕ) (t : ℕ)
     → IsCycle cells tasks
     → Contains tasks t
     → IsOnCycleOf cells t (length tasks)
 
 -- a task that is on a cycle of n tasks is the first of one
-abbrev pub RoundsAreCycles : Type 0
-RoundsAreCycles =
+abbrev pub ReturnsAreCycles : Type 0
+ReturnsAreCycles =
     (cells : Cells) (t n : ℕ)
     → IsOnCycleOf cells t n
     → (ts : List ℕ) × IsCycle cells (t ∷ ts) × (length (t ∷ ts) ≡ n)

@@ -5,3 +5,5 @@ pub mod WaitGraph
 pub mod Facts
 pub mod CoreFacts
 pub mod Laws
+pub mod Statuses
+pub mod Slots

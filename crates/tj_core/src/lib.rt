@@ -3,12 +3,14 @@
 
 mod event;
 mod graph_laws;
+mod slot;
 mod stage;
-mod turn_law;
+mod status;
 mod walk;
+mod walker_law;
 
 pub use event::Event;
-pub use graph_laws::{cycles_are_rounds, rounds_are_cycles};
+pub use graph_laws::{cycles_return, returns_are_cycles};
 pub use stage::{Illegal, Stage};
-pub use turn_law::walkers_have_one_event;
 pub use walk::{LastRead, TrailLink, Walker, Way};
+pub use walker_law::walkers_have_one_event;

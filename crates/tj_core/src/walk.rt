@@ -49,3 +49,44 @@ pub struct Walker {
     pub loads: u32,
     pub last: LastRead,
 }
+
+impl LastRead {
+    ghost use Rattle.std.specs.Prelude.{◌≡◌, ◌⊎◌, ◌↔◌, ℕ, ◌<◌, IsTrue};
+    ghost use Rattle.tj_core.specs.Events.{EndsWalk};
+
+    /// Whether the number of cells is read next, on a wait of this way.
+    pub(crate) fn before_count(self, way: Way) -> bool
+        ensures { IsTrue result ↔ (((way ≡ Way.Other) × (self ≡ LastRead.Published)) ⊎ ((n : ℕ) × (self ≡ LastRead.SawOthers n) × (0 < n))) }
+    {
+        match self {
+            LastRead::Published => way == Way::Other,
+            LastRead::SawOthers(others) => others > 0,
+            _ => false,
+        }
+    }
+
+    /// Whether an owner is read next, after so many passed owners under this bound.
+    pub(crate) fn before_owner(self, passed: usize, bound: u32) -> bool
+        ensures { IsTrue result ↔ ((self ≡ LastRead.Counted) ⊎ ((self ≡ LastRead.Passed) × (passed < bound))) }
+    {
+        match self {
+            LastRead::Counted => true,
+            LastRead::Passed => passed < bound as usize,
+            _ => false,
+        }
+    }
+
+    /// Whether the walk ends after so many passed owners under this bound.
+    pub(crate) fn ends_walk(self, passed: usize, bound: u32) -> bool
+        ensures { IsTrue result ↔ EndsWalk passed bound self }
+    {
+        match self {
+            LastRead::Published | LastRead::Counted => false,
+            LastRead::SawOthers(others) => others == 0,
+            LastRead::SawOwner(owner) => owner.is_none(),
+            LastRead::SawWait(_, wait) => wait.is_none(),
+            LastRead::Passed => passed == bound as usize,
+            LastRead::Changed => true,
+        }
+    }
+}

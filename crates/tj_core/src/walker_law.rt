@@ -1,4 +1,4 @@
-//! The law of a walker's turns: what it does next is determined.
+//! The law of a walker: its next event is determined.
 ghost use Rattle.tj_core.specs.Laws.{WalkersHaveOneEvent};
 
 /// A walking task has exactly one allowed event.
