@@ -1,4 +1,5 @@
 pub mod Rounds
 pub mod CycleLists
 pub mod Slots
+pub mod NameLists
 pub mod NextEvents

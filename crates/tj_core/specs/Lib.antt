@@ -5,5 +5,6 @@ pub mod WaitGraph
 pub mod Facts
 pub mod CoreFacts
 pub mod Laws
+pub mod Names
 pub mod Statuses
 pub mod Slots

@@ -1,6 +1,7 @@
 //! The plain core: a pure state machine in which every atomic action that matters is one event.
 #![tactic(auto)]
 
+mod births;
 mod event;
 mod graph_laws;
 mod slot;
