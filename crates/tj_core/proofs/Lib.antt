@@ -3,3 +3,4 @@ pub mod CycleLists
 pub mod Slots
 pub mod NameLists
 pub mod NextEvents
+pub mod OwnedCounts

@@ -6,5 +6,6 @@ pub mod Facts
 pub mod CoreFacts
 pub mod Laws
 pub mod Names
+pub mod Owners
 pub mod Statuses
 pub mod Slots

@@ -4,6 +4,7 @@
 mod births;
 mod event;
 mod graph_laws;
+mod owners;
 mod slot;
 mod stage;
 mod status;
