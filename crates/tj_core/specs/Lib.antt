@@ -9,3 +9,6 @@ pub mod Names
 pub mod Owners
 pub mod Statuses
 pub mod Slots
+pub mod Columns
+pub mod Loads
+pub mod Machine

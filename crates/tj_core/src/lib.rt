@@ -4,11 +4,13 @@
 mod births;
 mod event;
 mod graph_laws;
+mod machine;
 mod owners;
 mod slot;
 mod stage;
 mod status;
 mod walk;
+mod walk_events;
 mod walker_law;
 
 pub use event::Event;

@@ -110,7 +110,7 @@ impl Slot {
         ensures allowed { OnOk result (WalksAt (stage_of self.old) (λ c way w. MayReadOthers way w)) }
         ensures stage { OnOk result (stage_of self.new ≡ walked (λ c w. others_read others w) (stage_of self.old)) }
         ensures loads { OnOk result (self.new.loads ≡ self.old.loads) }
-        ensures room { OnOk result (vec_capacity self.old.trail ≤ vec_capacity self.new.trail) }
+        ensures room { vec_capacity self.old.trail ≤ vec_capacity self.new.trail }
         ensures illegal { OnErr result (¬ WalksAt (stage_of self.old) (λ c way w. MayReadOthers way w)) }
         ensures err { OnErr result (self.new ≡ self.old) }
     {
@@ -131,7 +131,7 @@ impl Slot {
         ensures allowed { OnOk result (WalksAt (stage_of self.old) (λ c way w. MayCount way w)) }
         ensures stage { OnOk result (stage_of self.new ≡ walked (λ c w. count_read count w) (stage_of self.old)) }
         ensures loads { OnOk result (self.new.loads ≡ self.old.loads) }
-        ensures room { OnOk result (vec_capacity self.old.trail ≤ vec_capacity self.new.trail) }
+        ensures room { vec_capacity self.old.trail ≤ vec_capacity self.new.trail }
         ensures illegal { OnErr result (¬ WalksAt (stage_of self.old) (λ c way w. MayCount way w)) }
         ensures err { OnErr result (self.new ≡ self.old) }
     {
@@ -151,7 +151,7 @@ impl Slot {
         ensures allowed { OnOk result (WalksAt (stage_of self.old) (λ c way w. MayReadOwner w)) }
         ensures stage { OnOk result (stage_of self.new ≡ walked (λ c w. owner_read owner w) (stage_of self.old)) }
         ensures loads { OnOk result (self.new.loads ≡ suc self.old.loads) }
-        ensures room { OnOk result (vec_capacity self.old.trail ≤ vec_capacity self.new.trail) }
+        ensures room { vec_capacity self.old.trail ≤ vec_capacity self.new.trail }
         ensures illegal { OnErr result (¬ WalksAt (stage_of self.old) (λ c way w. MayReadOwner w)) }
         ensures err { OnErr result (self.new ≡ self.old) }
     {
@@ -196,7 +196,7 @@ impl Slot {
         ensures allowed { OnOk result (WalksAt (stage_of self.old) (λ c way w. MayReadAgain w)) }
         ensures stage { OnOk result (stage_of self.new ≡ walked (λ c w. owner_again now w w.last) (stage_of self.old)) }
         ensures loads { OnOk result (self.new.loads ≡ suc self.old.loads) }
-        ensures room { OnOk result (vec_capacity self.old.trail ≤ vec_capacity self.new.trail) }
+        ensures room { vec_capacity self.old.trail ≤ vec_capacity self.new.trail }
         ensures illegal { OnErr result (¬ WalksAt (stage_of self.old) (λ c way w. MayReadAgain w)) }
         ensures err { OnErr result (self.new ≡ self.old) }
     {
@@ -222,7 +222,7 @@ impl Slot {
         ensures allowed { OnOk result (WalksAt (stage_of self.old) (λ c way w. MayAlarm t w)) }
         ensures stage { OnOk result (stage_of self.new ≡ walk_ended alarmed (stage_of self.old)) }
         ensures loads { OnOk result (self.new.loads ≡ self.old.loads) }
-        ensures room { OnOk result (vec_capacity self.old.trail ≤ vec_capacity self.new.trail) }
+        ensures room { vec_capacity self.old.trail ≤ vec_capacity self.new.trail }
         ensures illegal { OnErr result (¬ WalksAt (stage_of self.old) (λ c way w. MayAlarm t w)) }
         ensures err { OnErr result (self.new ≡ self.old) }
     {
@@ -241,7 +241,7 @@ impl Slot {
         ensures allowed { OnOk result (WalksAt (stage_of self.old) (λ c way w. MaySettle w)) }
         ensures stage { OnOk result (stage_of self.new ≡ walk_ended parked (stage_of self.old)) }
         ensures loads { OnOk result (self.new.loads ≡ self.old.loads) }
-        ensures room { OnOk result (vec_capacity self.old.trail ≤ vec_capacity self.new.trail) }
+        ensures room { vec_capacity self.old.trail ≤ vec_capacity self.new.trail }
         ensures illegal { OnErr result (¬ WalksAt (stage_of self.old) (λ c way w. MaySettle w)) }
         ensures err { OnErr result (self.new ≡ self.old) }
     {
