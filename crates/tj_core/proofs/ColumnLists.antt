@@ -8,7 +8,7 @@ use Rattle.tj_core.specs.declared.slot.Slot.{Slot}
 use Rattle.tj_core.specs.declared.walk.Way.{Way}
 use Rattle.tj_core.specs.declared.walk.Walker.{Walker}
 use Rattle.tj_core.specs.CoreState.{CellStage, promise, walks, waits, CellState, CoreState, put}
-use Rattle.tj_core.specs.Events.{WalksAt, restage, staged, walked}
+use Rattle.tj_core.specs.Events.{WalksAt, restage, staged, walked, alter, owned_by}
 use Rattle.tj_core.specs.Loads.{one_load}
 use Rattle.tj_core.specs.Slots.{stage_of}
 use Rattle.tj_core.specs.Columns.{stage_in, loads_in, room_in, HaveRoom, cell_in, state_in}
@@ -92,18 +92,18 @@ module _ (slots : List Slot) (t : ℕ) (x y : Slot) (k : Change slots t x y) whe
   pub loads_more : y.loads ≡ suc x.loads → (c : ℕ) → loads_in (set slots k.at y) c ≡ one_load (loads_in slots) t c
   loads_more e c = loads_set (suc (loads_in slots t)) (e ∙ ap suc (sym (column_here (λ slot. slot.loads) slots t x 0 h is))) c
 
-  pub rooms_stay : HaveRoom slots → vec_capacity x.trail ≤ vec_capacity y.trail → HaveRoom (set slots k.at y)
-  rooms_stay r e c l =
-      let n = length-set slots k.at y in let b : length slots ≤ room_in slots c = r c (omega arith) in
+  pub rooms_stay : (n : ℕ) → HaveRoom n slots → vec_capacity x.trail ≤ vec_capacity y.trail → HaveRoom n (set slots k.at y)
+  rooms_stay n r e c l =
+      let z = length-set slots k.at y in let b : n ≤ room_in slots c = r c (omega arith) in
       let room : Slot → ℕ = λ slot. vec_capacity slot.trail in
-      subst (λ i. i ≤ room_in (set slots k.at y) c) (sym n) (subst (λ i. length slots ≤ i) (sym (ap (λ i. room_in (set slots i y) c) k.cell ∙ column_set room slots t y 0 h c))
+      subst (λ i. n ≤ i) (sym (ap (λ i. room_in (set slots i y) c) k.cell ∙ column_set room slots t y 0 h c))
       (dite (ℕ_discrete c t)
-          (λ q. subst (λ i. length slots ≤ put (room_in slots) t (room y) i) (sym q) (subst (λ i. length slots ≤ i) (sym (put_here (room_in slots) t (room y))) (let m = r t h in let w = column_here room slots t x 0 h is in omega arith)))
-          (λ q. subst (λ i. length slots ≤ i) (sym (put_else (room_in slots) t (room y) c q)) b)))
+          (λ q. subst (λ i. n ≤ put (room_in slots) t (room y) i) (sym q) (subst (λ i. n ≤ i) (sym (put_here (room_in slots) t (room y))) (let m = r t h in let w = column_here room slots t x 0 h is in omega arith)))
+          (λ q. subst (λ i. n ≤ i) (sym (put_else (room_in slots) t (room y) c q)) b))
 
   -- the room of a slot that is there
-  pub room_here : HaveRoom slots → length slots ≤ vec_capacity x.trail
-  room_here r = let m = r t h in let w = column_here (λ slot. vec_capacity slot.trail) slots t x 0 h is in omega arith
+  pub room_here : (n : ℕ) → HaveRoom n slots → n ≤ vec_capacity x.trail
+  room_here n r = let m = r t h in let w = column_here (λ slot. vec_capacity slot.trail) slots t x 0 h is in omega arith
 
   module _ (births : List Birth) (made : List ℕ) (owners : List (Option ℕ)) (others cleared : ℕ) where
     abbrev s : CoreState
@@ -128,3 +128,23 @@ set_same slots t x y is e = ap (set slots t) (e ∙ is) ∙ set-get_or slots t x
 -- a slot that was read twice
 pub same_slot : (slots : List Slot) (i : ℕ) (x z : Slot) → i < length slots → x ≡ get_or slots i x → z ≡ get_or slots i z → z ≡ x
 same_slot slots i x z h e d = d ∙ (get_or_default slots i z x h ∙ sym e)
+
+-- a list with one element more, read at any place
+pub at_snoc : {A : Type 0} (l : List A) (a d : A) (j : ℕ) → get_or (l ++ a ∷ []) j d ≡ put (λ k. get_or l k d) (length l) a j
+at_snoc [] a d zero = refl
+at_snoc [] a d (suc j) = sym (put_else (λ k. d) 0 a (suc j) (λ e. omega arith))
+at_snoc (x ∷ l) a d zero = sym (put_else (λ k. get_or (x ∷ l) k d) (suc (length l)) a 0 (λ e. omega arith))
+at_snoc (x ∷ l) a d (suc j) = at_snoc l a d j ∙ dite (ℕ_discrete j (length l))
+    (λ e. subst (λ i. put (λ k. get_or l k d) (length l) a i ≡ put (λ k. get_or (x ∷ l) k d) (suc (length l)) a (suc i)) (sym e) (put_here (λ k. get_or l k d) (length l) a ∙ sym (put_here (λ k. get_or (x ∷ l) k d) (suc (length l)) a)))
+    (λ n. put_else (λ k. get_or l k d) (length l) a j n ∙ sym (put_else (λ k. get_or (x ∷ l) k d) (suc (length l)) a (suc j) (λ e. n (omega arith))))
+
+-- the state after the owner of a cell changes
+pub owner_changed : (births : List Birth) (made : List ℕ) (owners : List (Option ℕ)) (slots : List Slot) (others cleared p : ℕ) (o : Option ℕ) → p < length owners
+    → state_in births made (set owners p o) slots others cleared ≡ alter (state_in births made owners slots others cleared) p (owned_by o)
+owner_changed births made owners slots others cleared p o h = λ j. record { count = suc (length births); cells = λ c. cell c j; others = others; cleared = cleared }
+  where
+    cell : (c : ℕ) → cell_in births made (set owners p o) slots c ≡ (alter (state_in births made owners slots others cleared) p (owned_by o)).cells c
+    cell c = let s : CoreState = state_in births made owners slots others cleared in dite (ℕ_discrete c p)
+        (λ q. subst (λ i. cell_in births made (set owners p o) slots i ≡ (alter s p (owned_by o)).cells i) (sym q)
+            ((λ j. record (s.cells p) { owner = (at_set owners p o None h p ∙ put_here (λ k. get_or owners k None) p o) j }) ∙ sym (put_here s.cells p (owned_by o (s.cells p)))))
+        (λ n. (λ j. record (s.cells c) { owner = (at_set owners p o None h c ∙ put_else (λ k. get_or owners k None) p o c n) j }) ∙ sym (put_else s.cells p (owned_by o (s.cells p)) c n))

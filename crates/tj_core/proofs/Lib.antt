@@ -1,3 +1,4 @@
+pub mod Additions
 pub mod ColumnLists
 pub mod Rounds
 pub mod CycleLists

@@ -1,7 +1,7 @@
 -- Names as lists of births make them, and the fork order read from their ends.
 use Rattle.std.proofs.Common.{◌≡◌, ℕ, zero, suc, ◌+◌, ◌-◌, ◌<◌, ◌≤◌, Bool, true, false, nat_eq, nat_lt, ◌&&◌, ◌||◌, List, [], ◌∷◌, ◌++◌, length, take, get_or, refl, sym, ap, ◌∙◌, subst, arith}
 use Rattle.std.proofs.Math.Seq.{get_or-append_seam}
-use Rattle.std.proofs.Math.ListN.{get_or-append}
+use Rattle.std.proofs.Math.ListN.{get_or-append, get_or-eq_default}
 use Rattle.std.proofs.lemmas.List.{length-append, take-append-le, length-take-le}
 use Rattle.std.proofs.lemmas.Bool.{lt-ltb, ltb-true, false_from_ne_true}
 use native.Mathlib.Decide.{ℕ_discrete}
@@ -53,6 +53,12 @@ name_of-birth bs c born h =
 
 pub name_of-root : (bs : List Birth) → name_of bs 0 ≡ []
 name_of-root bs = names_after-old ([] ∷ []) bs 0 (omega arith)
+
+-- a cell that isn't there has the root's name
+pub name_of-beyond : (bs : List Birth) (c : ℕ) → length bs < c → name_of bs 0 ≡ name_of bs c
+name_of-beyond bs c h =
+    let l = length-names_after ([] ∷ []) bs in
+    name_of-root bs ∙ sym (get_or-eq_default (names_of bs) [] (omega arith))
 
 -- the fork order where no difference comes before the end of one of the names
 abbrev pub before_else : Bool → Name → Name → Bool

@@ -19,9 +19,9 @@ loads_in slots c = slice_index_or (map (λ slot. slot.loads) slots) c 0
 abbrev pub room_in : List Slot → ℕ → ℕ
 room_in slots c = slice_index_or (map (λ slot. vec_capacity slot.trail) slots) c 0
 
--- the trail of each slot has room for as many owners as there may be cells
-abbrev pub HaveRoom : List Slot → Type 0
-HaveRoom slots = (c : ℕ) → c < length slots → length slots ≤ room_in slots c
+-- the trail of each slot has room for so many owners
+abbrev pub HaveRoom : ℕ → List Slot → Type 0
+HaveRoom n slots = (c : ℕ) → c < length slots → n ≤ room_in slots c
 
 -- a cell
 abbrev pub cell_in : List Birth → List ℕ → List (Option ℕ) → List Slot → ℕ → CellState

@@ -32,6 +32,14 @@ IsFreshChild s t c = (stage s.cells c ≡ fresh) × (maker s.cells c ≡ t) × (
 abbrev pub OwnsNothingElse : CoreState → ℕ → Type 0
 OwnsNothingElse s t = (c : ℕ) → Owns s t c → c ≡ t
 
+-- t owns p, and no other cell where p is its own
+abbrev pub MayClose : CoreState → ℕ → ℕ → Type 0
+MayClose s t p = Owns s t p × (p ≡ t → OwnsNothingElse s t)
+
+-- p is a promise that t owns, and c a fresh child of t
+abbrev pub MayHand : CoreState → ℕ → ℕ → ℕ → Type 0
+MayHand s t p c = (stage s.cells p ≡ promise) × Owns s t p × IsFreshChild s t c
+
 -- a task at this stage walks, and F holds of the cell and the way of its wait and of its walker
 abbrev pub WalksAt : CellStage → (ℕ → Way → Walker → Type 0) → Type 0
 WalksAt st F = (c : ℕ) × (way : Way) × (w : Walker) × (st ≡ waits c way (walks w)) × F c way w

@@ -1,6 +1,6 @@
 //! Who made each cell, and the how-many-th thing of its maker it is: enough for its name. The fork
 //! order of two tasks is found on the ways from them up to the root.
-ghost use Rattle.std.specs.Prelude.{◌≡◌, ℕ, ◌≤◌, ◌<◌, ◌||◌, ◌&&◌, nat_eq, nat_lt, length, slice_index_or, vec_capacity};
+ghost use Rattle.std.specs.Prelude.{◌≡◌, ℕ, suc, ◌≤◌, ◌<◌, ◌||◌, ◌&&◌, nat_eq, nat_lt, length, slice_index_or, vec_capacity};
 ghost use Rattle.tj_core.specs.Names.{AreBorn};
 
 use std::alloc::{AllocError, Global};
@@ -18,11 +18,15 @@ pub(crate) struct Births {
     pub(crate) births: Vec<Birth>,
     /// How many things each cell has made.
     pub(crate) made: Vec<u32>,
+    /// The most cells of the run.
+    pub(crate) limit: u32,
     ghost born: { AreBorn births.items },
     ghost few: { (c : ℕ) → slice_index_or made.items c 0 ≤ length births.items },
-    ghost room: { length made.items ≤ vec_capacity births },
-    ghost fits: { length births.items < length made.items },
-    ghost small: { length made.items ≤ 1024 },
+    ghost same: { length made.items ≡ suc (length births.items) },
+    ghost fits: { length made.items ≤ limit },
+    ghost room: { limit ≤ vec_capacity births },
+    ghost made_room: { limit ≤ vec_capacity made },
+    ghost small: { limit ≤ 1024 },
 }
 
 impl Births {
@@ -35,11 +39,17 @@ impl Births {
         requires some { 0 < cells }
         requires small { cells ≤ 1024 }
         ensures births { IfOk result (λ new. new.births.items ≡ []) }
-        ensures made { IfOk result (λ new. new.made.items ≡ replicate cells 0) }
+        ensures made { IfOk result (λ new. new.made.items ≡ 0 ∷ []) }
+        ensures limit { IfOk result (λ new. new.limit ≡ cells) }
     {
         let births = Vec::with_capacity(alloc, cells as usize)?;
-        let made = Vec::from_elem(alloc, 0, cells as usize)?;
-        Ok(Births { births, made })
+        let mut made = Vec::with_capacity(alloc, cells as usize)?;
+        made.push(0)?;
+        Ok(Births {
+            births,
+            made,
+            limit: cells,
+        })
     }
 
     /// How many cells are there.
@@ -52,27 +62,28 @@ impl Births {
     /// The cell `maker` makes one thing more.
     pub(crate) fn add(&mut self, maker: u32)
         requires maker { maker < suc (length self.old.births.items) }
-        requires room { suc (length self.old.births.items) < length self.old.made.items }
+        requires room { suc (length self.old.births.items) < self.old.limit }
         ensures births { let number = suc (slice_index_or self.old.made.items maker 0) in self.new.births.items ≡ self.old.births.items ++ record { maker = maker; number = number } ∷ [] }
-        ensures made { self.new.made.items ≡ slice_set self.old.made.items maker (suc (slice_index_or self.old.made.items maker 0)) }
+        ensures made { self.new.made.items ≡ slice_set self.old.made.items maker (suc (slice_index_or self.old.made.items maker 0)) ++ 0 ∷ [] }
+        ensures limit { self.new.limit ≡ self.old.limit }
     {
         self.made[maker as usize] += 1;
         let number = self.made[maker as usize];
         let pushed = self.births.push(Birth { maker, number }).is_ok();
         prove!(pushed);
+        let pushed = self.made.push(0).is_ok();
+        prove!(pushed);
     }
 
-    /// The maker of a cell.
+    /// The maker of a cell, the root for the root itself and for a cell that isn't there.
     pub(crate) fn maker(&self, c: u32) -> u32
-        requires { c < suc (length self.now.births.items) }
         ensures maker { result ≡ maker_of self.now.births.items c }
         ensures below { 0 < c → result < c }
     {
-        if c == 0 {
-            0
-        } else {
-            self.births[c as usize - 1].maker
+        if c == 0 || c as usize > self.births.len() {
+            return 0;
         }
+        self.births[c as usize - 1].maker
     }
 
     /// How many makers are above a cell.
@@ -107,7 +118,7 @@ impl Births {
 
     /// Whether task `a` is before task `b` in the fork order. The last difference on the way up from
     /// equally deep cells, the one next to the root, decides.
-    pub(crate) fn is_before(&self, a: u32, b: u32) -> bool
+    fn is_before(&self, a: u32, b: u32) -> bool
         requires first { a < suc (length self.now.births.items) }
         requires second { b < suc (length self.now.births.items) }
         ensures { result ≡ before (name_of self.now.births.items a) (name_of self.now.births.items b) }
@@ -123,6 +134,21 @@ impl Births {
             up_b = self.maker(up_b);
         }
         before
+    }
+
+    /// The cell itself, or the root for a cell that isn't there, which has as short a name.
+    fn named(&self, c: u32) -> u32
+        ensures there { result < suc (length self.now.births.items) }
+        ensures name { name_of self.now.births.items result ≡ name_of self.now.births.items c }
+    {
+        if c < self.count() { c } else { 0 }
+    }
+
+    /// Whether the name of `a` is before that of `b` in the fork order.
+    pub(crate) fn precedes(&self, a: u32, b: u32) -> bool
+        ensures { result ≡ before (name_of self.now.births.items a) (name_of self.now.births.items b) }
+    {
+        self.is_before(self.named(a), self.named(b))
     }
 
     /// The how-many-th thing of its maker a cell is.

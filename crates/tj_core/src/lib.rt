@@ -9,6 +9,7 @@ mod owners;
 mod slot;
 mod stage;
 mod status;
+mod task_events;
 mod walk;
 mod walk_events;
 mod walker_law;

@@ -1,5 +1,5 @@
 //! The machine of the checker: the core state in lists of a fixed size, each a column of the cells.
-ghost use Rattle.std.specs.Prelude.{◌≡◌, length};
+ghost use Rattle.std.specs.Prelude.{◌≡◌, ◌≤◌, ◌+◌, suc, length, vec_capacity};
 ghost use Rattle.tj_core.specs.Columns.{HaveRoom};
 
 use crate::births::Births;
@@ -8,22 +8,28 @@ use crate::slot::Slot;
 use crate::stage::Illegal;
 use tj_base::CellId;
 
-/// The machine. What it shows of cells that aren't there yet is blank.
+/// The machine.
 #[derive(Debug, Drop)]
 pub(crate) struct Machine {
     pub(crate) births: Births,
     pub(crate) owners: Owners,
+    /// A slot for each cell that is there.
     pub(crate) slots: Vec<Slot>,
+    /// The slots of the cells to come.
+    pub(crate) spare: Vec<Slot>,
     pub(crate) others: u64,
     pub(crate) cleared: u64,
-    ghost makers: { length births.made.items ≡ length slots.items },
-    ghost owned: { length owners.owners.items ≡ length slots.items },
-    ghost roomy: { HaveRoom slots.items },
+    ghost there: { suc (length births.births.items) ≡ length slots.items },
+    ghost all: { length slots.items + length spare.items ≡ births.limit },
+    ghost owned: { length owners.owners.items ≡ births.limit },
+    ghost roomy: { HaveRoom births.limit slots.items },
+    ghost spares: { HaveRoom births.limit spare.items },
+    ghost room: { births.limit ≤ vec_capacity slots },
 }
 
 impl Machine {
-    ghost use Rattle.std.specs.Prelude.{◌≡◌, ℕ, ◌<◌, ◌≤◌, length, IfOk, OnErr};
-    ghost use Rattle.tj_core.specs.CoreState.{wait_of};
+    ghost use Rattle.std.specs.Prelude.{◌≡◌, ℕ, ◌<◌, ◌≤◌, ◌↔◌, IsTrue, length, IfOk, OnErr};
+    ghost use Rattle.tj_core.specs.CoreState.{promise, fresh, wait_of, is_task};
     ghost use Rattle.tj_core.specs.Columns.{stage_in};
 
     /// The place of a cell's slot.
@@ -48,6 +54,40 @@ impl Machine {
             self.slots[t as usize].wait()
         } else {
             None
+        }
+    }
+
+    /// Whether a cell is a task.
+    pub(crate) fn is_task(&self, c: u32) -> bool
+        ensures { result ≡ is_task (stage_in self.now.slots.items c) }
+    {
+        if (c as usize) < self.slots.len() {
+            self.slots[c as usize].is_task()
+        } else {
+            false
+        }
+    }
+
+    /// Whether a cell is a task that had no event yet.
+    pub(crate) fn is_fresh(&self, c: u32) -> bool
+        ensures fresh { IsTrue result ↔ (stage_in self.now.slots.items c ≡ fresh) }
+        ensures there { IsTrue result → c < length self.now.slots.items }
+    {
+        if (c as usize) < self.slots.len() {
+            self.slots[c as usize].is_fresh()
+        } else {
+            false
+        }
+    }
+
+    /// Whether a cell is a promise, as one is that isn't there.
+    pub(crate) fn is_promise(&self, c: u32) -> bool
+        ensures { IsTrue result ↔ (stage_in self.now.slots.items c ≡ promise) }
+    {
+        if (c as usize) < self.slots.len() {
+            self.slots[c as usize].is_promise()
+        } else {
+            true
         }
     }
 }

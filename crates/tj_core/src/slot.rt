@@ -25,8 +25,8 @@ pub(crate) struct Slot {
 
 impl Slot {
     ghost use Rattle.std.specs.Prelude.{◌≡◌, ◌≢◌, ℕ, suc, ◌+◌, ◌*◌, ◌<◌, ◌≤◌, ◌↔◌, IsTrue, IfOk, OnOk, OnErr, Some, None, [], MatchOption, length, vec_capacity};
-    ghost use Rattle.tj_core.specs.CoreState.{promise, waits, walks, parked, alarmed, wait_of, Runs, present, IfWalksAt};
-    ghost use Rattle.tj_core.specs.Events.{WalksAt, MayReadOthers, MayCount, MayReadOwner, MayReadWait, MayReadAgain, MayAlarm, MaySettle, walked, walk_ended, others_read, count_read, owner_read, wait_found, owner_again, start_walk};
+    ghost use Rattle.tj_core.specs.CoreState.{promise, fresh, waits, walks, parked, alarmed, wait_of, is_task, Runs, present, IfWalksAt};
+    ghost use Rattle.tj_core.specs.Events.{WalksAt, MayPublish, MayReadOthers, MayCount, MayReadOwner, MayReadWait, MayReadAgain, MayAlarm, MaySettle, walked, walk_ended, others_read, count_read, owner_read, wait_found, owner_again, start_walk};
     ghost use Rattle.tj_core.specs.Slots.{stage_of};
     ghost use Rattle.tj_core.specs.Statuses.{stage_of_status, IsIdle};
 
@@ -50,6 +50,37 @@ impl Slot {
         ensures { IsTrue result ↔ Runs (stage_of self.now) }
     {
         matches!(self.status, Status::Fresh | Status::Running)
+    }
+
+    /// Whether it is a task's.
+    pub(crate) fn is_task(&self) -> bool
+        ensures { result ≡ is_task (stage_of self.now) }
+    {
+        !matches!(self.status, Status::Promise)
+    }
+
+    /// Whether it is a promise's.
+    pub(crate) fn is_promise(&self) -> bool
+        ensures { IsTrue result ↔ (stage_of self.now ≡ promise) }
+    {
+        matches!(self.status, Status::Promise)
+    }
+
+    /// Whether it is that of a task that had no event yet.
+    pub(crate) fn is_fresh(&self) -> bool
+        ensures { IsTrue result ↔ (stage_of self.now ≡ fresh) }
+    {
+        matches!(self.status, Status::Fresh)
+    }
+
+    /// Whether its task may publish a wait of this way.
+    pub(crate) fn may_publish(&self, way: Way) -> bool
+        ensures { IsTrue result ↔ MayPublish way (stage_of self.now) }
+    {
+        match way {
+            Way::Along => self.runs(),
+            Way::Other => matches!(self.status, Status::Raised),
+        }
     }
 
     /// What its task waits for.
@@ -81,6 +112,17 @@ impl Slot {
             (None, Status::Waiting(cell, _, _)) => cell,
             (None, _) => 0,
         }
+    }
+
+    /// It is a new cell's from here on.
+    pub(crate) fn begin(&mut self, status: Status)
+        requires { IsIdle status }
+        ensures stage { stage_of self.new ≡ stage_of_status [] 0 0 status }
+        ensures loads { self.new.loads ≡ 0 }
+        ensures room { vec_capacity self.old.trail ≤ vec_capacity self.new.trail }
+    {
+        self.loads = 0;
+        self.status = status;
     }
 
     /// Its task no longer waits.

@@ -15,8 +15,8 @@ pub invariant_of-self : goal.invariant_of-self
 invariant_of-self c =
     let m = c.args.self.now in let x = c.index_mut.result.now in let y = c.read_wait.new.self in
     let k : Change m.slots.items c.args.t.0 x y = record { at = c.in_ok-at.at; inside = c.in_ok-at.ensures.inside; was = c.index_mut.ensures.value; cell = c.in_ok-at.ensures.ok } in
-    let n = length-set m.slots.items c.in_ok-at.at y in let a = m.makers in let b = m.owned in
-    record { makers = omega arith; owned = omega arith; roomy = rooms_stay m.slots.items c.args.t.0 x y k m.roomy c.read_wait.ensures.room }
+    let n = length-set m.slots.items c.in_ok-at.at y in let a = m.there in let b = m.all in
+    record { there = omega arith; all = omega arith; owned = m.owned; roomy = rooms_stay m.slots.items c.args.t.0 x y k m.births.limit m.roomy c.read_wait.ensures.room; spares = m.spares; room = m.room }
 
 pub returns-clause-ok : goal.returns-clause-ok
 returns-clause-ok c =
@@ -34,5 +34,5 @@ returns-clause-ok c =
           (c.read_wait.ensures.stage ∙ walked_same (stage_of x) (λ k w. wait_found u c.wait-wait.result w) (λ k w. wait_read cells w w.last) (λ k way w. w.last ≡ SawOwner (Some u)) reads
           (λ k way v e h. ap (λ (o : Option ℕ). wait_found u o v) w ∙ sym (ap (wait_read cells v) h)));
       loads = loads_more m.slots.items t x y k c.read_wait.ensures.loads;
-      limit = length-set m.slots.items c.in_ok-at.at y;
+      limit = refl;
     }

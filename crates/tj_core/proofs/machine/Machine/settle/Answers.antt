@@ -13,8 +13,8 @@ pub invariant_of-self : goal.invariant_of-self
 invariant_of-self c =
     let m = c.args.self.now in let x = c.index_mut.result.now in let y = c.settle.new.self in
     let k : Change m.slots.items c.args.t.0 x y = record { at = c.in_ok-at.at; inside = c.in_ok-at.ensures.inside; was = c.index_mut.ensures.value; cell = c.in_ok-at.ensures.ok } in
-    let n = length-set m.slots.items c.in_ok-at.at y in let a = m.makers in let b = m.owned in
-    record { makers = omega arith; owned = omega arith; roomy = rooms_stay m.slots.items c.args.t.0 x y k m.roomy c.settle.ensures.room }
+    let n = length-set m.slots.items c.in_ok-at.at y in let a = m.there in let b = m.all in
+    record { there = omega arith; all = omega arith; owned = m.owned; roomy = rooms_stay m.slots.items c.args.t.0 x y k m.births.limit m.roomy c.settle.ensures.room; spares = m.spares; room = m.room }
 
 pub returns-clause-ok : goal.returns-clause-ok
 returns-clause-ok c =
@@ -26,5 +26,5 @@ returns-clause-ok c =
           (walk_ended parked)
           (c.in_ok-settle.ensures.stage);
       loads = loads_stay m.slots.items t x y k c.in_ok-settle.ensures.loads;
-      limit = length-set m.slots.items c.in_ok-at.at y;
+      limit = refl;
     }
