@@ -71,26 +71,27 @@ module _ (bs : List Birth) (made : List ℕ) (os : List (Option ℕ)) (slots : L
   old : (c : ℕ) → changed c ≡ put s.cells t (one_made (s.cells t)) c
   old c = dite (ℕ_discrete c t)
       (λ e. subst (λ i. changed i ≡ put s.cells t (one_made (s.cells t)) i) (sym e)
-          ((λ j. record { maker = maker_of bs t; name = name_of bs t; made = put_here (λ k. get_or made k 0) t (suc (get_or made t 0)) j; owner = get_or os t None; stage = put_here (stage_in slots) t running j }) ∙ sym (put_here s.cells t (one_made (s.cells t)))))
+      ((λ j. record { maker = maker_of bs t; name = name_of bs t; made = put_here (λ k. get_or made k 0) t (suc (get_or made t 0)) j; owner = get_or os t None; stage = put_here (stage_in slots) t running j }) ∙ sym (put_here s.cells t (one_made (s.cells t)))))
       (λ d. (λ j. record { maker = maker_of bs c; name = name_of bs c; made = put_else (λ k. get_or made k 0) t (suc (get_or made t 0)) c d j; owner = get_or os c None; stage = put_else (stage_in slots) t running c d j }) ∙ sym (put_else s.cells t (one_made (s.cells t)) c d))
 
   cell_at : (c : ℕ) → cell_in (bs ++ b ∷ []) made' (set os n (Some o)) slots' c ≡ (with_new s t o st).cells c
   cell_at c = dite (ℕ_discrete c n)
       (λ e. subst (λ i. cell_in (bs ++ b ∷ []) made' (set os n (Some o)) slots' i ≡ (with_new s t o st).cells i) (sym e)
-          ((λ j. record {
-              maker = (maker_here bs b ∙ ap (λ (x : Birth). x.maker) is) j;
-              name = (name_snoc bs b n ∙ (put_here (name_of bs) n (child (name_of bs b.maker) b.number) ∙ ap (λ (x : Birth). child (name_of bs x.maker) x.number) is)) j;
-              made = (made_at n ∙ put_here (put (λ k. get_or made k 0) t (suc (get_or made t 0))) n 0) j;
-              owner = (owner_at n ∙ put_here (λ k. get_or os k None) n (Some o)) j;
-              stage = (stage_at n ∙ put_here (put (stage_in slots) t running) n st) j;
-            }) ∙ sym (put_here (put s.cells t (one_made (s.cells t))) n (new_cell t (s.cells t) o st))))
+      ((λ j. record {
+        maker = (maker_here bs b ∙ ap (λ (x : Birth). x.maker) is) j;
+        name = (name_snoc bs b n ∙ (put_here (name_of bs) n (child (name_of bs b.maker) b.number) ∙ ap (λ (x : Birth). child (name_of bs x.maker) x.number) is)) j;
+        made = (made_at n ∙ put_here (put (λ k. get_or made k 0) t (suc (get_or made t 0))) n 0) j;
+        owner = (owner_at n ∙ put_here (λ k. get_or os k None) n (Some o)) j;
+        stage = (stage_at n ∙ put_here (put (stage_in slots) t running) n st) j;
+      }) ∙ sym (put_here (put s.cells t (one_made (s.cells t))) n (new_cell t (s.cells t) o st))))
       (λ d. (λ j. record {
-              maker = maker_else bs b c d j;
-              name = (name_snoc bs b c ∙ put_else (name_of bs) n (child (name_of bs b.maker) b.number) c d) j;
-              made = (made_at c ∙ put_else (put (λ k. get_or made k 0) t (suc (get_or made t 0))) n 0 c d) j;
-              owner = (owner_at c ∙ put_else (λ k. get_or os k None) n (Some o) c d) j;
-              stage = (stage_at c ∙ put_else (put (stage_in slots) t running) n st c d) j;
-            }) ∙ (old c ∙ sym (put_else (put s.cells t (one_made (s.cells t))) n (new_cell t (s.cells t) o st) c d)))
+        maker = maker_else bs b c d j;
+        name = (name_snoc bs b c ∙ put_else (name_of bs) n (child (name_of bs b.maker) b.number) c d) j;
+        made = (made_at c ∙ put_else (put (λ k. get_or made k 0) t (suc (get_or made t 0))) n 0 c d) j;
+        owner = (owner_at c ∙ put_else (λ k. get_or os k None) n (Some o) c d) j;
+        stage = (stage_at c ∙ put_else (put (stage_in slots) t running) n st c d) j;
+      }) ∙ (old c ∙ sym (put_else (put s.cells t (one_made (s.cells t))) n (new_cell t (s.cells t) o st) c d)))
+
   pub added : state_in (bs ++ b ∷ []) made' (set os n (Some o)) slots' others cleared ≡ with_new s t o st
   added = let e : suc (length (bs ++ b ∷ [])) ≡ suc (suc (length bs)) = ap suc (length-append bs (b ∷ []) ∙ omega arith) in
       λ j. record { count = e j; cells = λ c. cell_at c j; others = others; cleared = cleared }
@@ -107,8 +108,7 @@ rooms_more n slots v r h c l = let room : Slot → ℕ = λ slot. vec_capacity s
 
 -- the room of slots that one was taken from, and of that one
 pub rooms_less : (n : ℕ) (slots : List Slot) (v : Slot) → HaveRoom n (slots ++ v ∷ []) → HaveRoom n slots × (n ≤ vec_capacity v.trail)
-rooms_less n slots v r = let room : Slot → ℕ = λ slot. vec_capacity slot.trail in let e = length-append slots (v ∷ []) in
-    (
-      (λ c l. subst (λ i. n ≤ i) (column_snoc room slots v 0 c ∙ put_else (room_in slots) (length slots) (room v) c (λ q. omega arith)) (r c (omega arith))),
-      subst (λ i. n ≤ i) (column_snoc room slots v 0 (length slots) ∙ put_here (room_in slots) (length slots) (room v)) (r (length slots) (omega arith)),
-    )
+rooms_less n slots v r = let room : Slot → ℕ = λ slot. vec_capacity slot.trail in let e = length-append slots (v ∷ []) in (
+  (λ c l. subst (λ i. n ≤ i) (column_snoc room slots v 0 c ∙ put_else (room_in slots) (length slots) (room v) c (λ q. omega arith)) (r c (omega arith))),
+  subst (λ i. n ≤ i) (column_snoc room slots v 0 (length slots) ∙ put_here (room_in slots) (length slots) (room v)) (r (length slots) (omega arith)),
+)

@@ -98,8 +98,8 @@ module _ (slots : List Slot) (t : ℕ) (x y : Slot) (k : Change slots t x y) whe
       let room : Slot → ℕ = λ slot. vec_capacity slot.trail in
       subst (λ i. n ≤ i) (sym (ap (λ i. room_in (set slots i y) c) k.cell ∙ column_set room slots t y 0 h c))
       (dite (ℕ_discrete c t)
-          (λ q. subst (λ i. n ≤ put (room_in slots) t (room y) i) (sym q) (subst (λ i. n ≤ i) (sym (put_here (room_in slots) t (room y))) (let m = r t h in let w = column_here room slots t x 0 h is in omega arith)))
-          (λ q. subst (λ i. n ≤ i) (sym (put_else (room_in slots) t (room y) c q)) b))
+      (λ q. subst (λ i. n ≤ put (room_in slots) t (room y) i) (sym q) (subst (λ i. n ≤ i) (sym (put_here (room_in slots) t (room y))) (let m = r t h in let w = column_here room slots t x 0 h is in omega arith)))
+      (λ q. subst (λ i. n ≤ i) (sym (put_else (room_in slots) t (room y) c q)) b))
 
   -- the room of a slot that is there
   pub room_here : (n : ℕ) → HaveRoom n slots → n ≤ vec_capacity x.trail
@@ -112,10 +112,10 @@ module _ (slots : List Slot) (t : ℕ) (x y : Slot) (k : Change slots t x y) whe
     cell_changed : (f : CellStage → CellStage) → stage_of y ≡ f (stage_of x) → (c : ℕ) → cell_in births made owners (set slots t y) c ≡ (restage s t f).cells c
     cell_changed f e c = dite (ℕ_discrete c t)
         (λ q. subst (λ i. cell_in births made owners (set slots t y) i ≡ (restage s t f).cells i) (sym q)
-            ((λ j. record (s.cells t) { stage = (column_set stage_of slots t y promise h t ∙ (put_here (stage_in slots) t (stage_of y) ∙ (e ∙ ap f (sym stage_here)))) j })
-            ∙ sym (put_here s.cells t (staged (f (stage_in slots t)) (s.cells t)))))
+        ((λ j. record (s.cells t) { stage = (column_set stage_of slots t y promise h t ∙ (put_here (stage_in slots) t (stage_of y) ∙ (e ∙ ap f (sym stage_here)))) j })
+        ∙ sym (put_here s.cells t (staged (f (stage_in slots t)) (s.cells t)))))
         (λ n. (λ j. record (s.cells c) { stage = (column_set stage_of slots t y promise h c ∙ put_else (stage_in slots) t (stage_of y) c n) j })
-            ∙ sym (put_else s.cells t (staged (f (stage_in slots t)) (s.cells t)) c n))
+        ∙ sym (put_else s.cells t (staged (f (stage_in slots t)) (s.cells t)) c n))
 
     -- the state after a slot's stage changes
     pub state_changed : (f : CellStage → CellStage) → stage_of y ≡ f (stage_of x) → state_in births made owners (set slots k.at y) others cleared ≡ restage s t f
@@ -146,5 +146,5 @@ owner_changed births made owners slots others cleared p o h = λ j. record { cou
     cell : (c : ℕ) → cell_in births made (set owners p o) slots c ≡ (alter (state_in births made owners slots others cleared) p (owned_by o)).cells c
     cell c = let s : CoreState = state_in births made owners slots others cleared in dite (ℕ_discrete c p)
         (λ q. subst (λ i. cell_in births made (set owners p o) slots i ≡ (alter s p (owned_by o)).cells i) (sym q)
-            ((λ j. record (s.cells p) { owner = (at_set owners p o None h p ∙ put_here (λ k. get_or owners k None) p o) j }) ∙ sym (put_here s.cells p (owned_by o (s.cells p)))))
+        ((λ j. record (s.cells p) { owner = (at_set owners p o None h p ∙ put_here (λ k. get_or owners k None) p o) j }) ∙ sym (put_here s.cells p (owned_by o (s.cells p)))))
         (λ n. (λ j. record (s.cells c) { owner = (at_set owners p o None h c ∙ put_else (λ k. get_or owners k None) p o c n) j }) ∙ sym (put_else s.cells p (owned_by o (s.cells p)) c n))

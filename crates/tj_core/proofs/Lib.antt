@@ -3,6 +3,7 @@ pub mod ColumnLists
 pub mod Rounds
 pub mod CycleLists
 pub mod Slots
+pub mod Starts
 pub mod NameLists
 pub mod NextEvents
 pub mod OwnedCounts

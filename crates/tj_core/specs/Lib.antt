@@ -7,8 +7,10 @@ pub mod CoreFacts
 pub mod Laws
 pub mod Names
 pub mod Owners
+pub mod StagesShown
 pub mod Statuses
 pub mod Slots
 pub mod Columns
 pub mod Loads
 pub mod Machine
+pub mod Core

@@ -2,6 +2,7 @@
 #![tactic(auto)]
 
 mod births;
+mod checker;
 mod event;
 mod graph_laws;
 mod machine;
@@ -9,13 +10,18 @@ mod owners;
 mod slot;
 mod stage;
 mod status;
+mod step;
 mod task_events;
 mod walk;
 mod walk_events;
 mod walker_law;
 
+pub use checker::Core;
 pub use event::Event;
 pub use graph_laws::{cycles_return, returns_are_cycles};
 pub use stage::{Illegal, Stage};
 pub use walk::{LastRead, TrailLink, Walker, Way};
 pub use walker_law::walkers_have_one_event;
+
+#[cfg(test)]
+mod tests;

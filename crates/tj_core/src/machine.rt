@@ -1,12 +1,14 @@
 //! The machine of the checker: the core state in lists of a fixed size, each a column of the cells.
-ghost use Rattle.std.specs.Prelude.{◌≡◌, ◌≤◌, ◌+◌, suc, length, vec_capacity};
+ghost use Rattle.std.specs.Prelude.{◌≡◌, ◌≤◌, ◌+◌, suc, length, vec_capacity, IfOk};
 ghost use Rattle.tj_core.specs.Columns.{HaveRoom};
 
 use crate::births::Births;
 use crate::owners::Owners;
 use crate::slot::Slot;
 use crate::stage::Illegal;
-use tj_base::CellId;
+use crate::status::Status;
+use std::alloc::Global;
+use tj_base::{CellId, Oom};
 
 /// The machine.
 #[derive(Debug, Drop)]
@@ -31,6 +33,34 @@ impl Machine {
     ghost use Rattle.std.specs.Prelude.{◌≡◌, ℕ, ◌<◌, ◌≤◌, ◌↔◌, IsTrue, length, IfOk, OnErr};
     ghost use Rattle.tj_core.specs.CoreState.{promise, fresh, wait_of, is_task};
     ghost use Rattle.tj_core.specs.Columns.{stage_in};
+    ghost use Rattle.tj_core.specs.CoreState.{root_alone};
+    ghost use Rattle.tj_core.specs.Machine.{state_of, limit_of, loads_of};
+
+    /// The root alone, with room for so many cells.
+    pub(crate) fn new(alloc: Global, cells: u32) -> Result<Machine, Oom>
+        requires some { 0 < cells }
+        requires small { cells ≤ 1024 }
+        ensures state { IfOk result (λ m. state_of m ≡ root_alone) }
+        ensures limit { IfOk result (λ m. limit_of m ≡ cells) }
+        ensures loads { IfOk result (λ m. (t : ℕ) → loads_of m t ≡ 0) }
+    {
+        let births = Births::new(alloc, cells)?;
+        let mut owners = Owners::new(alloc, cells)?;
+        owners.set(0, Some(0));
+        let mut slots = Vec::with_capacity(alloc, cells as usize)?;
+        let mut root = Slot::new(alloc, cells)?;
+        root.begin(Status::Running);
+        slots.push(root)?;
+        let spare = spare_slots(alloc, cells - 1, cells)?;
+        Ok(Machine {
+            births,
+            owners,
+            slots,
+            spare,
+            others: 0,
+            cleared: 0,
+        })
+    }
 
     /// The place of a cell's slot.
     pub(crate) fn place(&self, c: CellId) -> Result<usize, Illegal>
@@ -90,4 +120,16 @@ impl Machine {
             true
         }
     }
+}
+
+/// So many empty slots, each with room for walks that pass `cells` owners.
+fn spare_slots(alloc: Global, count: u32, cells: u32) -> Result<Vec<Slot>, Oom>
+    ensures length { IfOk result (λ slots. length slots.items ≡ count) }
+    ensures room { IfOk result (λ slots. HaveRoom cells slots.items) }
+{
+    let mut slots = Vec::with_capacity(alloc, count as usize)?;
+    for _i in 0..count {
+        slots.push(Slot::new(alloc, cells)?)?;
+    }
+    Ok(slots)
 }

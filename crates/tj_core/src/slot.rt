@@ -3,7 +3,7 @@
 ghost use Rattle.std.specs.Prelude.{◌≡◌, ℕ, ◌+◌, ◌*◌, ◌<◌, ◌≤◌, length, vec_capacity};
 ghost use Rattle.tj_core.specs.Statuses.{status_passes, status_loads, status_bound};
 
-use crate::stage::Illegal;
+use crate::stage::{Illegal, Stage};
 use crate::status::{Progress, Status};
 use crate::walk::{LastRead, TrailLink, Way};
 use std::alloc::{AllocError, Global};
@@ -28,6 +28,7 @@ impl Slot {
     ghost use Rattle.tj_core.specs.CoreState.{promise, fresh, waits, walks, parked, alarmed, wait_of, is_task, Runs, present, IfWalksAt};
     ghost use Rattle.tj_core.specs.Events.{WalksAt, MayPublish, MayReadOthers, MayCount, MayReadOwner, MayReadWait, MayReadAgain, MayAlarm, MaySettle, walked, walk_ended, others_read, count_read, owner_read, wait_found, owner_again, start_walk};
     ghost use Rattle.tj_core.specs.Slots.{stage_of};
+    ghost use Rattle.tj_core.specs.StagesShown.{stage_shown};
     ghost use Rattle.tj_core.specs.Statuses.{stage_of_status, IsIdle};
 
     /// An empty slot, with room for walks that pass so many owners.
@@ -57,6 +58,22 @@ impl Slot {
         ensures { result ≡ is_task (stage_of self.now) }
     {
         !matches!(self.status, Status::Promise)
+    }
+
+    /// The stage of its task.
+    pub(crate) fn stage(&self) -> Option<Stage>
+        ensures { result ≡ stage_shown (stage_of self.now) }
+    {
+        match self.status {
+            Status::Promise => None,
+            Status::Fresh => Some(Stage::Fresh),
+            Status::Running => Some(Stage::Running),
+            Status::Raised => Some(Stage::Raised),
+            Status::Waiting(_, _, Progress::Walking(_)) => Some(Stage::Walking),
+            Status::Waiting(_, _, Progress::Parked) => Some(Stage::Parked),
+            Status::Waiting(_, _, Progress::Alarmed) => Some(Stage::Alarmed),
+            Status::Ended => Some(Stage::Ended),
+        }
     }
 
     /// Whether it is a promise's.

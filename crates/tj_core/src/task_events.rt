@@ -171,10 +171,30 @@ impl Machine {
         self.births.maker(c.0) == t.0 && c.0 != t.0
     }
 
+    /// The task makes a promise, which it owns.
+    pub(crate) fn make(&mut self, t: CellId) -> Result<(), Illegal>
+        ensures ok { OnOk result (Accepts self.old (Event.Make t) self.new) }
+        ensures err { OnErr result (Refuses self.old (Event.Make t) self.new) }
+    {
+        let _at = self.place(t)?;
+        self.add(t, t.0, Status::Promise)?;
+        Ok(())
+    }
+
+    /// The task forks a child, which owns its own cell.
+    pub(crate) fn fork(&mut self, t: CellId) -> Result<(), Illegal>
+        ensures ok { OnOk result (Accepts self.old (Event.Fork t) self.new) }
+        ensures err { OnErr result (Refuses self.old (Event.Fork t) self.new) }
+    {
+        let child = self.births.count();
+        self.add(t, child, Status::Fresh)?;
+        Ok(())
+    }
+
     /// The task makes a new cell of this status with this owner.
     fn add(&mut self, t: CellId, owner: u32, status: Status) -> Result<(), Illegal>
         requires idle { IsIdle status }
-        requires owner { owner < self.old.births.limit }
+        requires owner { owner ≤ length self.old.slots.items }
         ensures ok { OnOk result (Adds self.old t.0 owner status self.new) }
         ensures illegal { OnErr result (IsRunning (state_of self.old) t.0 → limit_of self.old ≤ (state_of self.old).count) }
         ensures err { OnErr result (IsUnchanged self.old self.new) }

@@ -25,8 +25,8 @@ returns-clause-ok c =
     let cells : Cells = cell_in m.births.births.items m.births.made.items m.owners.owners.items m.slots.items in
     let u : ℕ = c.in-Some.owner in let w = c.wait-wait.ensures in
     let reads : WalksAt (stage_of x) (λ k way w. w.last ≡ SawOwner (Some u)) =
-        subst (λ (z : Slot). WalksAt (stage_of z) (λ k way w. w.last ≡ SawOwner (Some u)))
-        (same_slot m.slots.items c.in_ok-at.at x c.index.result.now c.in_ok-at.ensures.inside c.index_mut.ensures.value c.index.ensures) c.in-Some.ensures.1 in
+    subst (λ (z : Slot). WalksAt (stage_of z) (λ k way w. w.last ≡ SawOwner (Some u)))
+    (same_slot m.slots.items c.in_ok-at.at x c.index.result.now c.in_ok-at.ensures.inside c.index_mut.ensures.value c.index.ensures) c.in-Some.ensures.1 in
     record {
       allowed = walks_here m.slots.items t x y k (λ k way w. MayReadWait t w) (reads.0, reads.1, reads.2, reads.3, (u, reads.4, c.in-Some.ensures.0));
       state = state_changed m.slots.items t x y k m.births.births.items m.births.made.items m.owners.owners.items m.others m.cleared
