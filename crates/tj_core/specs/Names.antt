@@ -1,6 +1,5 @@
 -- The names of cells, from who made each and the how-many-th thing it was of its maker.
-use Rattle.std.specs.Prelude.{ℕ, zero, suc, ◌<◌, Bool, true, false, nat_eq, nat_lt, ◌&&◌, ◌||◌, List, [], ◌∷◌, ◌++◌, length}
-use Rattle.std.specs.Prelude.{slice_index_or}
+use Rattle.std.specs.Prelude.{ℕ, zero, suc, ◌<◌, List, [], ◌∷◌, ◌++◌, length, slice_index_or}
 use Rattle.tj_base.specs.ForkOrder.{Name, child}
 use Rattle.tj_core.specs.declared.births.Birth.{Birth}
 

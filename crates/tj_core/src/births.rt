@@ -63,8 +63,11 @@ impl Births {
     pub(crate) fn add(&mut self, maker: u32)
         requires maker { maker < suc (length self.old.births.items) }
         requires room { suc (length self.old.births.items) < self.old.limit }
-        ensures births { let number = suc (slice_index_or self.old.made.items maker 0) in self.new.births.items ≡ self.old.births.items ++ record { maker = maker; number = number } ∷ [] }
-        ensures made { self.new.made.items ≡ slice_set self.old.made.items maker (suc (slice_index_or self.old.made.items maker 0)) ++ 0 ∷ [] }
+        ensures births { let number = suc (slice_index_or self.old.made.items maker 0) in
+            let births = self.old.births.items in
+            self.new.births.items ≡ births ++ record { maker = maker; number = number } ∷ [] }
+        ensures made { let number = suc (slice_index_or self.old.made.items maker 0) in
+            self.new.made.items ≡ slice_set self.old.made.items maker number ++ 0 ∷ [] }
         ensures limit { self.new.limit ≡ self.old.limit }
     {
         self.made[maker as usize] += 1;
@@ -105,7 +108,8 @@ impl Births {
         requires there { c < suc (length self.now.births.items) }
         requires above { steps ≤ length (name_of self.now.births.items c) }
         ensures there { result < suc (length self.now.births.items) }
-        ensures name { name_of self.now.births.items result ≡ take (length (name_of self.now.births.items c) - steps) (name_of self.now.births.items c) }
+        ensures name { let name = name_of self.now.births.items c in
+            name_of self.now.births.items result ≡ take (length name - steps) name }
     {
         let mut above = c;
         let mut left = steps;
@@ -116,12 +120,13 @@ impl Births {
         above
     }
 
-    /// Whether task `a` is before task `b` in the fork order. The last difference on the way up from
-    /// equally deep cells, the one next to the root, decides.
+    /// Whether task `a` is before task `b` in the fork order. On the way up from equally deep cells
+    /// the last difference, the one next to the root, decides.
     fn is_before(&self, a: u32, b: u32) -> bool
         requires first { a < suc (length self.now.births.items) }
         requires second { b < suc (length self.now.births.items) }
-        ensures { result ≡ before (name_of self.now.births.items a) (name_of self.now.births.items b) }
+        ensures { let births = self.now.births.items in
+            result ≡ before (name_of births a) (name_of births b) }
     {
         let (deep_a, deep_b) = (self.depth(a), self.depth(b));
         let mut up_a = self.climb(a, deep_a.saturating_sub(deep_b));
@@ -146,7 +151,8 @@ impl Births {
 
     /// Whether the name of `a` is before that of `b` in the fork order.
     pub(crate) fn precedes(&self, a: u32, b: u32) -> bool
-        ensures { result ≡ before (name_of self.now.births.items a) (name_of self.now.births.items b) }
+        ensures { let births = self.now.births.items in
+            result ≡ before (name_of births a) (name_of births b) }
     {
         self.is_before(self.named(a), self.named(b))
     }

@@ -7,7 +7,7 @@ pub fn cycles_return()
     ensures { CyclesReturn }
 {}
 
-/// A task that is reached from itself by n steps and no fewer is the first of a standing cycle of n.
+/// A task that is reached from itself by n steps, no fewer, is the first of a cycle of n tasks.
 pub fn returns_are_cycles()
     ensures { ReturnsAreCycles }
 {}

@@ -67,7 +67,8 @@ fn count_up(counts: &mut Vec<u32>, owner: Option<u32>)
     requires owner { IsInside owner (length counts.old.items) }
     requires room { (t : ℕ) → t < length counts.old.items → slice_index_or counts.old.items t 0 ≤ 1024 }
     ensures length { length counts.new.items ≡ length counts.old.items }
-    ensures counts { (t : ℕ) → t < length counts.old.items → slice_index_or counts.new.items t 0 ≡ slice_index_or counts.old.items t 0 + one_if owner t }
+    ensures counts { (t : ℕ) → t < length counts.old.items
+        → slice_index_or counts.new.items t 0 ≡ slice_index_or counts.old.items t 0 + one_if owner t }
 {
     if let Some(u) = owner {
         counts[u as usize] += 1;
@@ -79,7 +80,8 @@ fn count_down(counts: &mut Vec<u32>, owner: Option<u32>)
     requires owner { IsInside owner (length counts.old.items) }
     requires some { (t : ℕ) → t < length counts.old.items → one_if owner t ≤ slice_index_or counts.old.items t 0 }
     ensures length { length counts.new.items ≡ length counts.old.items }
-    ensures counts { (t : ℕ) → t < length counts.old.items → slice_index_or counts.new.items t 0 + one_if owner t ≡ slice_index_or counts.old.items t 0 }
+    ensures counts { (t : ℕ) → t < length counts.old.items
+        → slice_index_or counts.new.items t 0 + one_if owner t ≡ slice_index_or counts.old.items t 0 }
 {
     if let Some(u) = owner {
         counts[u as usize] -= 1;

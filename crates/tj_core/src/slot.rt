@@ -112,7 +112,8 @@ impl Slot {
 
     /// The cell and the way of the wait on which its task is parked.
     pub(crate) fn parked_on(&self) -> Option<(u32, Way)>
-        ensures some { (c : ℕ) (way : Way) → (result ≡ Some (c, way)) ↔ (stage_of self.now ≡ waits c way parked) }
+        ensures some { (c : ℕ) (way : Way)
+            → (result ≡ Some (c, way)) ↔ (stage_of self.now ≡ waits c way parked) }
     {
         match self.status {
             Status::Waiting(cell, way, Progress::Parked) => Some((cell, way)),
@@ -167,7 +168,8 @@ impl Slot {
     /// The walker reads OTHERS.
     pub(crate) fn read_others(&mut self, others: u64) -> Result<(), Illegal>
         ensures allowed { OnOk result (WalksAt (stage_of self.old) (λ c way w. MayReadOthers way w)) }
-        ensures stage { OnOk result (stage_of self.new ≡ walked (λ c w. others_read others w) (stage_of self.old)) }
+        ensures stage { OnOk result (stage_of self.new
+            ≡ walked (λ c w. others_read others w) (stage_of self.old)) }
         ensures loads { OnOk result (self.new.loads ≡ self.old.loads) }
         ensures room { vec_capacity self.old.trail ≤ vec_capacity self.new.trail }
         ensures illegal { OnErr result (¬ WalksAt (stage_of self.old) (λ c way w. MayReadOthers way w)) }
@@ -227,7 +229,9 @@ impl Slot {
 
     /// The owner that the walker of task t has just read, if that is neither nobody nor t.
     pub(crate) fn owner_to_ask(&self, t: u32) -> Option<u32>
-        ensures { MatchOption result (¬ WalksAt (stage_of self.now) (λ c way w. MayReadWait t w)) (λ u. (u ≢ t) × WalksAt (stage_of self.now) (λ c way w. w.last ≡ LastRead.SawOwner (Some u))) }
+        ensures { let stage = stage_of self.now in
+            MatchOption result (¬ WalksAt stage (λ c way w. MayReadWait t w))
+            (λ u. (u ≢ t) × WalksAt stage (λ c way w. w.last ≡ LastRead.SawOwner (Some u))) }
     {
         match self.status {
             Status::Waiting(_, _, Progress::Walking(LastRead::SawOwner(Some(owner))))
@@ -253,7 +257,8 @@ impl Slot {
     /// The walker reads the owner of the present cell again.
     pub(crate) fn read_again(&mut self, now: Option<u32>) -> Result<(), Illegal>
         ensures allowed { OnOk result (WalksAt (stage_of self.old) (λ c way w. MayReadAgain w)) }
-        ensures stage { OnOk result (stage_of self.new ≡ walked (λ c w. owner_again now w w.last) (stage_of self.old)) }
+        ensures stage { OnOk result (stage_of self.new
+            ≡ walked (λ c w. owner_again now w w.last) (stage_of self.old)) }
         ensures loads { OnOk result (self.new.loads ≡ suc self.old.loads) }
         ensures room { vec_capacity self.old.trail ≤ vec_capacity self.new.trail }
         ensures illegal { OnErr result (¬ WalksAt (stage_of self.old) (λ c way w. MayReadAgain w)) }

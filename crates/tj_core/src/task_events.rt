@@ -196,7 +196,8 @@ impl Machine {
         requires idle { IsIdle status }
         requires owner { owner ≤ length self.old.slots.items }
         ensures ok { OnOk result (Adds self.old t.0 owner status self.new) }
-        ensures illegal { OnErr result (IsRunning (state_of self.old) t.0 → limit_of self.old ≤ (state_of self.old).count) }
+        ensures illegal { OnErr result (IsRunning (state_of self.old) t.0
+            → limit_of self.old ≤ (state_of self.old).count) }
         ensures err { OnErr result (IsUnchanged self.old self.new) }
     {
         let at = self.place(t)?;

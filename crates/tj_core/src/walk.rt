@@ -56,7 +56,8 @@ impl LastRead {
 
     /// Whether the number of cells is read next, on a wait of this way.
     pub(crate) fn before_count(self, way: Way) -> bool
-        ensures { IsTrue result ↔ (((way ≡ Way.Other) × (self ≡ LastRead.Published)) ⊎ ((n : ℕ) × (self ≡ LastRead.SawOthers n) × (0 < n))) }
+        ensures { IsTrue result ↔ (((way ≡ Way.Other) × (self ≡ LastRead.Published))
+            ⊎ ((n : ℕ) × (self ≡ LastRead.SawOthers n) × (0 < n))) }
     {
         match self {
             LastRead::Published => way == Way::Other,
@@ -67,7 +68,8 @@ impl LastRead {
 
     /// Whether an owner is read next, after so many passed owners under this bound.
     pub(crate) fn before_owner(self, passed: usize, bound: u32) -> bool
-        ensures { IsTrue result ↔ ((self ≡ LastRead.Counted) ⊎ ((self ≡ LastRead.Passed) × (passed < bound))) }
+        ensures { IsTrue result
+            ↔ ((self ≡ LastRead.Counted) ⊎ ((self ≡ LastRead.Passed) × (passed < bound))) }
     {
         match self {
             LastRead::Counted => true,
