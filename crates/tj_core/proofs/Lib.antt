@@ -25,3 +25,4 @@ pub mod PublishEvent
 pub mod EachEvent
 pub mod LegalRuns
 pub mod LegalCycles
+pub mod Examples
