@@ -24,5 +24,6 @@ pub mod WalkEnds
 pub mod PublishEvent
 pub mod EachEvent
 pub mod LegalRuns
+pub mod WatchedCycles
 pub mod LegalCycles
 pub mod Examples

@@ -7,6 +7,7 @@ pub mod CoreFacts
 pub mod Laws
 pub mod Names
 pub mod Owners
+pub mod StateLaws
 pub mod RunLaws
 pub mod Statuses
 pub mod Slots

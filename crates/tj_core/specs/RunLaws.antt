@@ -1,25 +1,16 @@
 -- The laws of the detector, over legal runs.
-use Rattle.std.specs.Prelude.{◌≡◌, ◌⊎◌, ℕ, ◌*◌, ◌≤◌, List, [], ◌∷◌, ◌++◌, Contains}
+use Rattle.std.specs.Prelude.{◌⊎◌, ℕ, ◌*◌, ◌≤◌, List, [], ◌∷◌, ◌++◌, Contains}
 use Rattle.tj_base.specs.declared.cell.CellId.{CellId}
 use Rattle.tj_core.specs.declared.event.Event.{Event}
 use Rattle.tj_core.specs.declared.event.Event.TheVariants.{Publish, Settle}
-use Rattle.tj_core.specs.declared.walk.Way.{Way}
-use Rattle.tj_core.specs.CoreState.{waits, alarmed, CoreState, root_alone, stage, IfWalks}
-use Rattle.tj_core.specs.Events.{Walks, IsOpen}
+use Rattle.tj_core.specs.CoreState.{CoreState, root_alone, IfWalks}
 use Rattle.tj_core.specs.Runs.{after_all, IsLegalRun}
 use Rattle.tj_core.specs.WaitGraph.{IsCycle, IsOnCycle}
+use Rattle.tj_core.specs.StateLaws.{HasAlarmed, HasOpenWalk}
 
 -- the state after these events from the root alone
 abbrev pub run_to : List Event → CoreState
 run_to es = after_all root_alone es
-
--- t has alarmed
-abbrev pub HasAlarmed : CoreState → ℕ → Type 0
-HasAlarmed s t = (c : ℕ) × (way : Way) × (stage s.cells t ≡ waits c way alarmed)
-
--- t walks, and its walk is open
-abbrev pub HasOpenWalk : CoreState → ℕ → Type 0
-HasOpenWalk s t = Walks s t (λ c way w. IsOpen w)
 
 -- in every legal run a task settles only where no cycle through it stood just after it had published
 abbrev pub LegalSettlesAreOffCycles : Type 0

@@ -4,6 +4,7 @@
 //! allowed where it stands.
 ghost use Rattle.tj_core.specs.Laws.{EventKeepsFacts, StartMeetsFacts, LegalRunsMeetFacts};
 ghost use Rattle.tj_core.specs.Laws.{OnCourseIsOpen, SettlesOffCycles, CyclesStand};
+ghost use Rattle.tj_core.specs.StateLaws.{AlarmsAreOnCycles, CyclesAreWatched, LoadsAreBounded};
 ghost use Rattle.tj_core.specs.RunLaws.{LegalSettlesAreOffCycles, LegalCyclesStand};
 ghost use Rattle.tj_core.specs.RunLaws.{LegalAlarmsAreOnCycles, LegalCyclesAreWatched};
 ghost use Rattle.tj_core.specs.RunLaws.{LegalLoadsAreBounded};
@@ -21,6 +22,22 @@ pub fn start_meets_facts()
 /// A legal run ends in a state that meets the facts.
 pub fn legal_runs_meet_facts()
     ensures { LegalRunsMeetFacts }
+{}
+
+/// In a state that meets the facts a task that has alarmed is the first of a standing cycle.
+pub fn alarms_are_on_cycles()
+    ensures { AlarmsAreOnCycles }
+{}
+
+/// In a state that meets the facts each standing cycle has a member that has alarmed or has an open
+/// walk.
+pub fn cycles_are_watched()
+    ensures { CyclesAreWatched }
+{}
+
+/// In a state that meets the facts a walk with bound n has made at most 3n loads.
+pub fn loads_are_bounded()
+    ensures { LoadsAreBounded }
 {}
 
 /// A walk that is on course is open.
