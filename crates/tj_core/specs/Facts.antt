@@ -1,5 +1,5 @@
 -- The facts that each allowed event keeps, one by one. Each takes only what it reads of a state.
-use Rattle.std.specs.Prelude.{◌≡◌, ◌≢◌, ◌⊎◌, ℕ, zero, suc, ◌+◌, ◌*◌, ◌<◌, ◌≤◌, true, List, [], ◌∷◌, length, Option}
+use Rattle.std.specs.Prelude.{◌≡◌, ◌≢◌, ◌⊎◌, ℕ, zero, suc, ◌+◌, ◌*◌, ◌<◌, ◌≤◌, true, List, [], ◌∷◌, length}
 use Rattle.std.specs.Prelude.{Some, None}
 use Rattle.tj_base.specs.ForkOrder.{child, before, IsAncestor}
 use Rattle.tj_core.specs.declared.walk.Way.{Way}
@@ -38,8 +38,15 @@ pub record PlacesFact (count : ℕ) (cells : Cells) : Type 0 where
   pub nexts_there : (t : ℕ) → IfWalks cells t (λ c way w. AreNextsThere count w.trail)
   pub reads_there : (t : ℕ) → IfWalks cells t (λ c way w. IsReadThere count w.last)
 
+-- the name of c is that of its maker and one number more, from 1 to the number of things that the maker made
+pub record IsNamed (cells : Cells) (c : ℕ) : Type 0 where
+  pub number : ℕ
+  pub some : 0 < number
+  pub made : number ≤ (cells (maker cells c)).made
+  pub name_is : name cells c ≡ child (name cells (maker cells c)) number
+
 -- makers: the root is a task, and its own maker; each other cell's maker is a task of a smaller number, whose name
--- and one number are the cell's name
+-- and one number are the cell's name, a number of the things that it made; no two cells have the same name
 pub record MakersFact (count : ℕ) (cells : Cells) : Type 0 where
   pub root_there : 0 < count
   pub root_task : IsTask cells 0
@@ -47,7 +54,8 @@ pub record MakersFact (count : ℕ) (cells : Cells) : Type 0 where
   pub root_name : name cells 0 ≡ []
   pub makers_before : (c : ℕ) → c < count → c ≢ 0 → maker cells c < c
   pub makers_task : (c : ℕ) → c < count → c ≢ 0 → IsTask cells (maker cells c)
-  pub makers_name : (c : ℕ) → c < count → c ≢ 0 → (k : ℕ) × (name cells c ≡ child (name cells (maker cells c)) k)
+  pub makers_name : (c : ℕ) → c < count → c ≢ 0 → IsNamed cells c
+  pub names_apart : (c d : ℕ) → c < count → d < count → name cells c ≡ name cells d → c ≡ d
 
 -- owners: an owner is a task that hasn't ended; a result's owner is its own task, and a task owns its result exactly
 -- until it has ended; a promise's owner is its maker or a descendant of it

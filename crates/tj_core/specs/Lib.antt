@@ -8,6 +8,8 @@ pub mod Laws
 pub mod Names
 pub mod Owners
 pub mod StagesShown
+pub mod StateLaws
+pub mod RunLaws
 pub mod Statuses
 pub mod Slots
 pub mod Columns
