@@ -1,11 +1,11 @@
 -- Standing cycles as lists of tasks.
-use Rattle.std.proofs.Common.{◌≡◌, ℕ, zero, suc, ◌+◌, ◌<◌, ◌≤◌, List, [], ◌∷◌, length, get_or, eqb, refl, sym, ap, ◌∙◌, subst, arith, ne_eqb, eq-eqb}
-use Rattle.std.specs.List.{Contains, IsDistinct}
+use Rattle.std.proofs.Common.{◌≡◌, ℕ, zero, suc, ◌<◌, List, [], ◌∷◌, length, get_or, eqb, refl, sym, ap, subst, arith, ne_eqb, eq-eqb}
+use Rattle.std.specs.List.{IsDistinct}
 use Rattle.std.proofs.lemmas.Map.Keys.{IsDistinct-from_apart, apart_from_distinct}
 use Rattle.tj_core.specs.CoreState.{Cells}
-use Rattle.tj_core.specs.WaitGraph.{Leads, LeadsAlong, IsCycle, Reaches, IsOnCycleOf}
+use Rattle.tj_core.specs.WaitGraph.{Leads, LeadsAlong, Reaches, IsOnCycleOf}
 use Rattle.tj_core.specs.Laws.{CyclesReturn, ReturnsAreCycles}
-use Rattle.tj_core.proofs.Rounds.{leads_one, reach_one, reach_front, reach_after, cycle_at, cycle_once}
+use Rattle.tj_core.proofs.Rounds.{reach_one, reach_front, reach_after, cycle_at, cycle_once}
 
 module _ (s : Cells) where
   -- the tasks between the ends of a way

@@ -1,5 +1,5 @@
 -- What a walking task does next.
-use Rattle.std.proofs.Common.{◌≡◌, ◌≢◌, ◌⊎◌, ℕ, ◌*◌, ◌+◌, ◌<◌, ◌≤◌, cond, nat_eq, length, Option, Some, None, refl, sym, ap, ◌∙◌, subst, inl, inr, ⊎_elim, arith, eq-eqb, ne_eqb}
+use Rattle.std.proofs.Common.{◌≡◌, ◌≢◌, ◌⊎◌, ℕ, ◌<◌, cond, nat_eq, length, Some, None, refl, sym, ap, ◌∙◌, subst, inl, inr, ⊎_elim, arith, eq-eqb, ne_eqb}
 use native.Mathlib.Decide.{ℕ_discrete}
 use mathlib.Core.Logic.{dite}
 use Rattle.tj_base.specs.declared.cell.CellId.{CellId}
@@ -10,10 +10,9 @@ use Rattle.tj_core.specs.declared.walk.Way.TheVariants.{Along, Other}
 use Rattle.tj_core.specs.declared.walk.Walker.{Walker}
 use Rattle.tj_core.specs.declared.walk.LastRead.{LastRead}
 use Rattle.tj_core.specs.declared.walk.LastRead.TheVariants.{Published, SawOthers, Counted, SawOwner, SawWait, Passed, Changed}
-use Rattle.tj_core.specs.CoreState.{walks, parked, CellStage, raised, waits, CoreState, stage, Runs}
+use Rattle.tj_core.specs.CoreState.{walks, parked, raised, waits, CoreState, stage, Runs}
 use Rattle.tj_core.specs.Events.{Allowed, Walks, MayPublish, EndsWalk, IsRunning, way_of_wait}
 use Rattle.tj_core.specs.Facts.{AreLoads}
-use Rattle.tj_core.specs.CoreFacts.{CoreFacts}
 use Rattle.tj_core.specs.Laws.{actor, HasOneEvent, WalkersHaveOneEvent}
 
 abbrev cell : ℕ → CellId

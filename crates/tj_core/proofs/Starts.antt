@@ -1,11 +1,11 @@
 -- The state that a new machine shows.
-use Rattle.std.proofs.Common.{◌≡◌, ℕ, zero, suc, ◌<◌, ◌-◌, List, [], ◌∷◌, length, set, replicate, get_or, Option, Some, None, refl, sym, ap, ◌∙◌, arith}
+use Rattle.std.proofs.Common.{◌≡◌, ℕ, zero, suc, ◌<◌, ◌-◌, List, [], ◌∷◌, set, replicate, get_or, Option, Some, None, sym, ◌∙◌, arith}
 use Rattle.std.proofs.Math.ListN.{get_or-eq_default}
 use Rattle.std.proofs.lemmas.List.{get_or-replicate, length-replicate}
 use native.Mathlib.Decide.{ℕ_discrete}
 use mathlib.Core.Logic.{dite}
 use Rattle.tj_core.specs.declared.slot.Slot.{Slot}
-use Rattle.tj_core.specs.CoreState.{running, root, blank, root_alone, put, CellState}
+use Rattle.tj_core.specs.CoreState.{running, root, blank, root_alone}
 use Rattle.tj_core.specs.Slots.{stage_of}
 use Rattle.tj_core.specs.Columns.{cell_in, state_in}
 use Rattle.tj_core.proofs.ColumnLists.{put_here, put_else, at_set}

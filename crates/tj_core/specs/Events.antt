@@ -1,5 +1,5 @@
 -- The events of the core: where each is allowed, and the state after it.
-use Rattle.std.specs.Prelude.{◌≡◌, ◌≢◌, ◌⊎◌, ℕ, suc, ◌+◌, ◌-◌, ◌<◌, Bool, true, false, nat_eq, ◌&&◌, List, [], ◌∷◌}
+use Rattle.std.specs.Prelude.{◌≡◌, ◌≢◌, ◌⊎◌, ℕ, suc, ◌+◌, ◌-◌, ◌<◌, Bool, true, false, nat_eq, ◌&&◌, [], ◌∷◌}
 use Rattle.std.specs.Prelude.{length, Option, Some, None}
 use Rattle.tj_base.specs.ForkOrder.{child, before}
 use Rattle.tj_core.specs.declared.event.Event.{Event}

@@ -1,5 +1,4 @@
 -- A slot of the checker, as what it shows of a cell.
-use Rattle.std.specs.Prelude.{ℕ}
 use Rattle.tj_core.specs.declared.slot.Slot.{Slot}
 use Rattle.tj_core.specs.CoreState.{CellStage}
 use Rattle.tj_core.specs.Statuses.{stage_of_status}

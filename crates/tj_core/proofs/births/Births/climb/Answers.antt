@@ -1,5 +1,5 @@
-use Rattle.std.proofs.Common.{rules, ℕ, List, [], ◌≡◌, ◌<◌, ◌≤◌, ◌-◌, suc, length, take, arith, sym, ap, ◌∙◌}
-use Rattle.tj_core.specs.Names.{name_of, maker_of}
+use Rattle.std.proofs.Common.{ℕ, ◌<◌, ◌-◌, length, take, arith, sym, ap, ◌∙◌}
+use Rattle.tj_core.specs.Names.{name_of}
 use Rattle.tj_core.proofs.NameLists.{length-name-above, climb-step, name-nonzero}
 use Rattle.tj_core.proofs.births.Births.climb.Goals as goal
 

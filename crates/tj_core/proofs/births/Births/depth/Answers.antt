@@ -1,5 +1,5 @@
-use Rattle.std.proofs.Common.{rules, ℕ, List, [], ◌≡◌, ◌<◌, suc, length, arith, subst, sym, ap, ◌∙◌}
-use Rattle.tj_core.specs.Names.{name_of, maker_of}
+use Rattle.std.proofs.Common.{ℕ, ◌≡◌, ◌<◌, length, arith, ap, ◌∙◌}
+use Rattle.tj_core.specs.Names.{name_of}
 use Rattle.tj_core.proofs.NameLists.{length-name-above, name_of-root}
 use Rattle.tj_core.proofs.births.Births.depth.Goals as goal
 

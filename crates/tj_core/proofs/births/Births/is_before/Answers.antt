@@ -1,6 +1,5 @@
-use Rattle.std.proofs.Common.{rules, ℕ, List, [], ◌≡◌, ◌<◌, ◌≤◌, ◌-◌, suc, length, take, arith, sym, ap, ◌∙◌, subst}
-use Rattle.tj_base.specs.ForkOrder.{before}
-use Rattle.tj_core.specs.Names.{name_of, maker_of}
+use Rattle.std.proofs.Common.{ℕ, [], ◌≡◌, ◌<◌, ◌-◌, length, arith, sym, ap, ◌∙◌}
+use Rattle.tj_core.specs.Names.{name_of}
 use Rattle.tj_core.proofs.NameLists.{before_else, levels, level-step, name_of-root}
 use Rattle.tj_core.proofs.births.Births.is_before.Goals as goal
 

@@ -1,4 +1,4 @@
-use Rattle.std.proofs.Common.{◌≡◌, ◌-◌, ◌<◌, ◌≤◌, suc, length}
+use Rattle.std.proofs.Common.{◌≡◌, ◌<◌, suc, length}
 use Rattle.tj_base.specs.ForkOrder.{before}
 use Rattle.tj_core.specs.Names.{name_of}
 use Rattle.tj_core.proofs.NameLists.{before_else}

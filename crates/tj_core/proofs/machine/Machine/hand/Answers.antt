@@ -1,16 +1,10 @@
-use Rattle.std.proofs.Common.{rules, ◌≡◌, ℕ, ◌+◌, ◌<◌, ◌≤◌, suc, length, set, Option, Some, None, refl, sym, ap, ◌∙◌, subst, arith, length-set, cond, true, false, is_some, IsTrue}
-use Rattle.tj_core.specs.declared.slot.Slot.{Slot}
-use Rattle.tj_core.specs.declared.walk.Way.{Way}
-use Rattle.tj_core.specs.CoreState.{CellStage, waits, walks, running, raised, parked, Runs}
-use Rattle.tj_core.specs.Events.{MayPublish, start_walk, raised_by, way_of_wait}
-use Rattle.tj_core.specs.Owners.{owner_in}
+use Rattle.std.proofs.Common.{rules, ◌≡◌, length, set, Some, refl, sym, ap, ◌∙◌, subst, arith, length-set}
+use Rattle.tj_core.specs.CoreState.{running, Runs}
 use Rattle.tj_core.specs.Slots.{stage_of}
-use Rattle.tj_core.specs.Columns.{state_in, cell_in, stage_in}
-use Rattle.tj_core.specs.Machine.{state_of}
-use Rattle.tj_core.specs.Events.{stage_after_close, alter, owned_by}
-use Rattle.std.proofs.Common.{nat_eq}
+use Rattle.tj_core.specs.Columns.{state_in, stage_in}
+use Rattle.tj_core.specs.Events.{alter, owned_by}
 use Rattle.tj_core.specs.CoreState.{CoreState}
-use Rattle.tj_core.proofs.ColumnLists.{owner_changed, Change, rooms_stay, state_changed, stage_here, loads_stay, loads_set}
+use Rattle.tj_core.proofs.ColumnLists.{owner_changed, Change, rooms_stay, state_changed, stage_here, loads_stay}
 use Rattle.tj_core.proofs.machine.Machine.hand.Goals as goal
 
 pub invariant_of-self : goal.invariant_of-self

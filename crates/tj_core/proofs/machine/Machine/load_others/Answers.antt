@@ -1,12 +1,6 @@
-use Rattle.std.proofs.Common.{rules, ◌≡◌, ℕ, ◌<◌, ◌≤◌, suc, length, Option, Some, refl, sym, ap, ◌∙◌, subst, arith, length-set}
-use Rattle.tj_core.specs.declared.walk.Way.{Way}
-use Rattle.tj_core.specs.declared.walk.Walker.{Walker}
-use Rattle.tj_core.specs.CoreState.{owner, present, alarmed, parked}
-use Rattle.tj_core.specs.Events.{MayReadOthers, MayCount, MayReadOwner, MayReadWait, MayReadAgain, MayAlarm, MaySettle, walked, walk_ended, others_read, count_read, owner_read, wait_read, wait_found, owner_again}
-use Rattle.tj_core.specs.Owners.{owner_in}
-use Rattle.tj_core.specs.Slots.{stage_of}
-use Rattle.tj_core.specs.Columns.{state_in, cell_in}
-use Rattle.tj_core.proofs.ColumnLists.{Change, rooms_stay, room_here, walks_here, state_changed, loads_stay, loads_more, walked_same}
+use Rattle.std.proofs.Common.{refl, arith, length-set}
+use Rattle.tj_core.specs.Events.{MayReadOthers, walked, others_read}
+use Rattle.tj_core.proofs.ColumnLists.{Change, rooms_stay, walks_here, state_changed, loads_stay}
 use Rattle.tj_core.proofs.machine.Machine.load_others.Goals as goal
 
 pub invariant_of-self : goal.invariant_of-self

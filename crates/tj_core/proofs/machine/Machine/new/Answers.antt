@@ -1,5 +1,4 @@
-use Rattle.std.proofs.Common.{rules, ◌≡◌, ℕ, List, [], ◌∷◌, Option, Some, None, set, replicate, sym, ap, ◌∙◌, ◌++◌}
-use Rattle.tj_core.specs.declared.slot.Slot.{Slot}
+use Rattle.std.proofs.Common.{rules, ◌≡◌, ℕ, List, [], ◌∷◌, Option, Some, None, set, replicate, ap, ◌∙◌}
 use Rattle.tj_core.specs.Columns.{state_in}
 use Rattle.tj_core.proofs.Starts.{start_state}
 use Rattle.tj_core.proofs.machine.Machine.new.Goals as goal

@@ -1,13 +1,8 @@
-use Rattle.std.proofs.Common.{rules, ◌≡◌, ℕ, ◌+◌, ◌<◌, ◌≤◌, suc, length, set, Option, Some, None, refl, sym, ap, ◌∙◌, subst, arith, length-set, cond, true, false, is_some, IsTrue}
-use Rattle.tj_core.specs.declared.slot.Slot.{Slot}
-use Rattle.tj_core.specs.declared.walk.Way.{Way}
-use Rattle.tj_core.specs.CoreState.{CellStage, waits, walks, running, raised, parked, Runs}
-use Rattle.tj_core.specs.Events.{MayPublish, start_walk, raised_by, way_of_wait}
-use Rattle.tj_core.specs.Owners.{owner_in}
+use Rattle.std.proofs.Common.{rules, ◌≡◌, ℕ, ◌+◌, suc, set, refl, sym, ap, ◌∙◌, subst, arith, length-set}
+use Rattle.tj_core.specs.CoreState.{raised, Runs}
 use Rattle.tj_core.specs.Slots.{stage_of}
-use Rattle.tj_core.specs.Columns.{state_in, cell_in, stage_in}
-use Rattle.tj_core.specs.Machine.{state_of}
-use Rattle.tj_core.proofs.ColumnLists.{Change, rooms_stay, state_changed, stage_here, loads_stay, loads_set}
+use Rattle.tj_core.specs.Columns.{state_in, stage_in}
+use Rattle.tj_core.proofs.ColumnLists.{Change, rooms_stay, state_changed, stage_here, loads_stay}
 use Rattle.tj_core.proofs.machine.Machine.raise.Goals as goal
 
 pub invariant_of-self : goal.invariant_of-self

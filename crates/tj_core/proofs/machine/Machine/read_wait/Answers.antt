@@ -1,14 +1,11 @@
-use Rattle.std.proofs.Common.{rules, ◌≡◌, ℕ, ◌<◌, ◌≤◌, suc, length, Option, Some, refl, sym, ap, ◌∙◌, subst, arith, length-set}
+use Rattle.std.proofs.Common.{◌≡◌, ℕ, Option, Some, refl, sym, ap, ◌∙◌, subst, arith, length-set}
 use Rattle.tj_core.specs.declared.slot.Slot.{Slot}
 use Rattle.tj_core.specs.declared.walk.LastRead.TheVariants.{SawOwner}
-use Rattle.tj_core.specs.declared.walk.Way.{Way}
-use Rattle.tj_core.specs.declared.walk.Walker.{Walker}
-use Rattle.tj_core.specs.CoreState.{Cells, owner, present, alarmed, parked}
-use Rattle.tj_core.specs.Events.{WalksAt, MayReadOthers, MayCount, MayReadOwner, MayReadWait, MayReadAgain, MayAlarm, MaySettle, walked, walk_ended, others_read, count_read, owner_read, wait_read, wait_found, owner_again}
-use Rattle.tj_core.specs.Owners.{owner_in}
+use Rattle.tj_core.specs.CoreState.{Cells}
+use Rattle.tj_core.specs.Events.{WalksAt, MayReadWait, walked, wait_read, wait_found}
 use Rattle.tj_core.specs.Slots.{stage_of}
-use Rattle.tj_core.specs.Columns.{state_in, cell_in}
-use Rattle.tj_core.proofs.ColumnLists.{Change, rooms_stay, room_here, walks_here, state_changed, loads_stay, loads_more, walked_same, same_slot}
+use Rattle.tj_core.specs.Columns.{cell_in}
+use Rattle.tj_core.proofs.ColumnLists.{Change, rooms_stay, walks_here, state_changed, loads_more, walked_same, same_slot}
 use Rattle.tj_core.proofs.machine.Machine.read_wait.Goals as goal
 
 pub invariant_of-self : goal.invariant_of-self

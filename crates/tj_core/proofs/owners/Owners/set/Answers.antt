@@ -1,7 +1,7 @@
-use Rattle.std.proofs.Common.{rules, ◌≡◌, ℕ, ◌+◌, ◌<◌, ◌≤◌, length, subst, sym, ap, ◌∙◌, arith, length-set, Option, Some}
+use Rattle.std.proofs.Common.{rules, ℕ, length, subst, sym, ap, ◌∙◌, arith, length-set, Option}
 use Rattle.std.proofs.lemmas.List.Sums.{count_by-le-length}
 use Rattle.tj_core.specs.Events.{is_owner}
-use Rattle.tj_core.specs.Owners.{owner_in, owned_count, one_if, AreOwnersInside}
+use Rattle.tj_core.specs.Owners.{one_if, AreOwnersInside}
 use Rattle.tj_core.proofs.OwnedCounts.{owner_there, inside-set, owned_count-set}
 use Rattle.tj_core.proofs.owners.Owners.set.Goals as goal
 

@@ -1,4 +1,4 @@
-use Rattle.std.proofs.Common.{rules, refl, ℕ, Some, ◌≡◌}
+use Rattle.std.proofs.Common.{rules, refl, Some, ◌≡◌}
 use Rattle.tj_core.specs.declared.walk.LastRead.TheVariants.{SawOwner}
 use Rattle.tj_core.proofs.Slots.{walks_at}
 use Rattle.tj_core.proofs.slot.Slot.owner_to_ask.Goals as goal

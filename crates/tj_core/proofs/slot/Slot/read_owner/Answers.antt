@@ -1,4 +1,4 @@
-use Rattle.std.proofs.Common.{rules, ◌≡◌, ◌⊎◌, ℕ, ◌<◌, length, reverse, subst, sym, ◌∙◌}
+use Rattle.std.proofs.Common.{rules, ◌≡◌, ◌⊎◌, ℕ, ◌<◌, length, subst, sym, ◌∙◌}
 use Rattle.std.proofs.lemmas.List.{length-reverse}
 use Rattle.tj_core.specs.declared.walk.LastRead.TheVariants.{Counted, Passed}
 use Rattle.tj_core.specs.Events.{MayReadOwner}
