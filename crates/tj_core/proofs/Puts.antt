@@ -1,0 +1,68 @@
+-- A function changed at one place, and a state changed in one stage.
+use Rattle.std.proofs.Common.{◌≡◌, ◌≢◌, ℕ, zero, suc, ◌+◌, ◌<◌, ◌≤◌, refl, sym, ap, subst, eq-eqb, ne_eqb, arith}
+use mathlib.Core.Logic.{dite}
+use native.Mathlib.Decide.{ℕ_discrete}
+use Rattle.tj_core.specs.CoreState.{CellStage, CellState, Cells, CoreState, put, owner, name, maker, stage}
+use Rattle.tj_core.specs.Events.{staged, restage, raised_by}
+use Rattle.tj_core.specs.Facts.{raised_by_all}
+
+-- the new value at its place
+pub put_here : {A : Type 0} (f : ℕ → A) (i : ℕ) (a : A) → put f i a i ≡ a
+put_here f i a = rw (eq-eqb i i refl) refl
+
+-- the old value at every other place
+pub put_else : {A : Type 0} (f : ℕ → A) (i : ℕ) (a : A) (j : ℕ) → j ≢ i → put f i a j ≡ f j
+put_else f i a j n = rw (ne_eqb j i n) refl
+
+-- what holds of the new value at i, and of each other value, holds after
+pub at_put : {A : Type 0} (f : ℕ → A) (i : ℕ) (a : A) (F : ℕ → A → Type 0) (j : ℕ)
+    → F i a → (j ≢ i → F j (f j)) → F j (put f i a j)
+at_put f i a F j here else = dite (ℕ_discrete j i)
+    (λ e. subst (λ k. F k (put f i a k)) (sym e) (subst (F i) (sym (put_here f i a)) here))
+    (λ n. subst (F j) (sym (put_else f i a j n)) (else n))
+
+module _ (s : CoreState) (t : ℕ) (f : CellStage → CellStage) where
+  -- the cell of t with its new stage
+  abbrev restaged_cell : CellState
+  restaged_cell = staged (f (stage s.cells t)) (s.cells t)
+
+  -- another stage changes no owner
+  pub re_owner : (c : ℕ) → owner (restage s t f).cells c ≡ owner s.cells c
+  re_owner c = at_put s.cells t restaged_cell (λ j x. x.owner ≡ owner s.cells j) c refl (λ n. refl)
+
+  -- another stage changes no name
+  pub re_name : (c : ℕ) → name (restage s t f).cells c ≡ name s.cells c
+  re_name c = at_put s.cells t restaged_cell (λ j x. x.name ≡ name s.cells j) c refl (λ n. refl)
+
+  -- another stage changes no maker
+  pub re_maker : (c : ℕ) → maker (restage s t f).cells c ≡ maker s.cells c
+  re_maker c = at_put s.cells t restaged_cell (λ j x. x.maker ≡ maker s.cells j) c refl (λ n. refl)
+
+  -- the stage of t
+  pub re_here : stage (restage s t f).cells t ≡ f (stage s.cells t)
+  re_here = ap (λ (x : CellState). x.stage) (put_here s.cells t restaged_cell)
+
+  -- the stage of every other cell
+  pub re_else : (j : ℕ) → j ≢ t → stage (restage s t f).cells j ≡ stage s.cells j
+  re_else j n = ap (λ (x : CellState). x.stage) (put_else s.cells t restaged_cell j n)
+
+-- a change from n on is not counted among the first n cells
+pub raised-put_from : (n : ℕ) (f : Cells) (i : ℕ) (a : CellState)
+    → n ≤ i → raised_by_all n (put f i a) ≡ raised_by_all n f
+raised-put_from zero f i a h = refl
+raised-put_from (suc n) f i a h =
+    λ j. raised_by (put_else f i a n (λ x. omega arith) j).stage + raised-put_from n f i a (omega arith) j
+
+-- a change below n counts by how much the two cells differ
+pub raised-put : (n : ℕ) (f : Cells) (i : ℕ) (a : CellState)
+    → i < n → raised_by_all n (put f i a) + raised_by (stage f i) ≡ raised_by_all n f + raised_by a.stage
+raised-put zero f i a h = absurd (omega arith)
+raised-put (suc n) f i a h = dite (ℕ_discrete n i)
+    (λ e. subst
+    (λ k. raised_by_all (suc k) (put f i a) + raised_by (stage f i) ≡ raised_by_all (suc k) f + raised_by a.stage)
+    (sym e)
+    (let here : raised_by (stage (put f i a) i) ≡ raised_by a.stage = λ j. raised_by (put_here f i a j).stage in
+    let below = raised-put_from i f i a (omega arith) in omega arith))
+    (λ d.
+    let else : raised_by (stage (put f i a) n) ≡ raised_by (stage f n) = λ j. raised_by (put_else f i a n d j).stage in
+    let below = raised-put n f i a (omega arith) in omega arith)

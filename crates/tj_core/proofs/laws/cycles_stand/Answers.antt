@@ -1,0 +1,5 @@
+use Rattle.tj_core.proofs.LegalRuns.{cycles_stand}
+use Rattle.tj_core.proofs.laws.cycles_stand.Goals as goal
+
+pub returns : goal.returns
+returns c = cycles_stand

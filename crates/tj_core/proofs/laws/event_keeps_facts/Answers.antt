@@ -1,0 +1,5 @@
+use Rattle.tj_core.proofs.EachEvent.{facts_after_event}
+use Rattle.tj_core.proofs.laws.event_keeps_facts.Goals as goal
+
+pub returns : goal.returns
+returns c = facts_after_event

@@ -1,0 +1,5 @@
+use Rattle.tj_core.proofs.LegalCycles.{legal_settles}
+use Rattle.tj_core.proofs.laws.legal_settles_are_off_cycles.Goals as goal
+
+pub returns : goal.returns
+returns c = legal_settles

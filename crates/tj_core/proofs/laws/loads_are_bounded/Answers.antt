@@ -1,0 +1,5 @@
+use Rattle.tj_core.proofs.WatchedCycles.{loads_bounded}
+use Rattle.tj_core.proofs.laws.loads_are_bounded.Goals as goal
+
+pub returns : goal.returns
+returns c = loads_bounded

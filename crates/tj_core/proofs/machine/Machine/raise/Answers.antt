@@ -1,0 +1,28 @@
+use Rattle.std.proofs.Common.{rules, ◌≡◌, ℕ, ◌+◌, suc, set, refl, sym, ap, ◌∙◌, subst, arith, length-set}
+use Rattle.tj_core.specs.CoreState.{raised, Runs}
+use Rattle.tj_core.specs.Slots.{stage_of}
+use Rattle.tj_core.specs.Columns.{state_in, stage_in}
+use Rattle.tj_core.proofs.ColumnLists.{Change, rooms_stay, state_changed, stage_here, loads_stay}
+use Rattle.tj_core.proofs.machine.Machine.raise.Goals as goal
+
+pub invariant_of-self : goal.invariant_of-self
+invariant_of-self c =
+    let m = c.args.self.now in let x = c.index_mut.result.now in let y = c.set_idle.new.self in
+    let k : Change m.slots.items c.args.t.0 x y = record { at = c.in_ok-at.at; inside = c.in_ok-at.ensures.inside; was = c.index_mut.ensures.value; cell = c.in_ok-at.ensures.ok } in
+    let n = length-set m.slots.items c.in_ok-at.at y in let a = m.there in let b = m.all in
+    record { there = omega arith; all = omega arith; owned = m.owned; roomy = rooms_stay m.slots.items c.args.t.0 x y k m.births.limit m.roomy c.set_idle.ensures.room; spares = m.spares; room = m.room }
+
+pub returns-clause-ok : goal.returns-clause-ok
+returns-clause-ok c =
+    let m = c.args.self.now in let x = c.index_mut.result.now in let y = c.set_idle.new.self in let t = c.args.t.0 in let z = c.index.result.now in
+    let k : Change m.slots.items t x y = record { at = c.in_ok-at.at; inside = c.in_ok-at.ensures.inside; was = c.index_mut.ensures.value; cell = c.in_ok-at.ensures.ok } in
+    let kz : Change m.slots.items t z z = record { at = c.in_ok-at.at; inside = c.in_ok-at.ensures.inside; was = c.index.ensures; cell = c.in_ok-at.ensures.ok } in
+    let here : stage_in m.slots.items t ≡ stage_of z = stage_here m.slots.items t z z kz in
+    let more : m.others + 1 ≡ suc m.others = omega arith in
+    record {
+      allowed = subst Runs (sym here) (c.runs.ensures.0 (search rules));
+      state = ap (λ (n : ℕ). state_in m.births.births.items m.births.made.items m.owners.owners.items (set m.slots.items c.in_ok-at.at y) n m.cleared) more
+          ∙ state_changed m.slots.items t x y k m.births.births.items m.births.made.items m.owners.owners.items (suc m.others) m.cleared (λ _. raised) c.set_idle.ensures.stage;
+      loads = loads_stay m.slots.items t x y k c.set_idle.ensures.loads;
+      limit = refl;
+    }

@@ -1,0 +1,12 @@
+use Rattle.std.proofs.Common.{rules, ◌≡◌, ℕ, length, subst, sym, ◌∙◌}
+use Rattle.std.proofs.lemmas.List.{length-reverse}
+use Rattle.tj_core.specs.Events.{MaySettle, EndsWalk}
+use Rattle.tj_core.proofs.Slots.{walks_at}
+use Rattle.tj_core.proofs.slot.Slot.settle.Goals as goal
+
+pub returns-clause-allowed : goal.returns-clause-allowed
+returns-clause-allowed c =
+    let s = c.args.self.now in let w = c.in-Waiting-default-default-Walking in
+    let passed : c.len.result ≡ length s.trail.items = search rules in
+    walks_at s.trail.items s.bound s.loads s.status w.cell w.way w.last (λ c way w. MaySettle w) (search rules)
+    (subst (λ (n : ℕ). EndsWalk n s.bound w.last) (passed ∙ sym (length-reverse s.trail.items)) (rw w.last-is at (c.ends_walk.ensures.0 (search rules))))

@@ -1,0 +1,5 @@
+use Rattle.tj_core.proofs.NextEvents.{walkers_have_one_event}
+use Rattle.tj_core.proofs.walker_law.walkers_have_one_event.Goals as goal
+
+pub returns : goal.returns
+returns c = walkers_have_one_event

@@ -1,0 +1,100 @@
+-- What the checker keeps of a cell's status, as the stage of the core state.
+use Rattle.std.specs.Prelude.{ℕ, List, reverse}
+use Rattle.tj_core.specs.declared.walk.LastRead.{LastRead}
+use Rattle.tj_core.specs.declared.walk.LastRead.TheVariants.{Published, SawOthers, Counted, SawOwner, SawWait, Passed}
+use Rattle.tj_core.specs.declared.walk.LastRead.TheVariants.{Changed}
+use Rattle.tj_core.specs.declared.walk.TrailLink.{TrailLink}
+use Rattle.tj_core.specs.declared.status.Progress.{Progress}
+use Rattle.tj_core.specs.declared.status.Progress.TheVariants.{Walking, Parked, Alarmed}
+use Rattle.tj_core.specs.declared.status.Status.{Status}
+use Rattle.tj_core.specs.declared.status.Status.TheVariants.{Promise, Fresh, Running, Raised, Waiting, Ended}
+use Rattle.tj_core.specs.CoreState.{WaitStage, walks, parked, alarmed, CellStage, promise, fresh, running, raised}
+use Rattle.tj_core.specs.CoreState.{waits, ended}
+
+-- what a task that waits does, with the links of its trail from the oldest on, its bound and its loads
+abbrev pub wait_stage_of : List TrailLink → ℕ → ℕ → Progress → WaitStage
+wait_stage_of links bound loads (Walking last) =
+    walks (record { trail = reverse links; bound = bound; loads = loads; last = last })
+wait_stage_of links bound loads Parked = parked
+wait_stage_of links bound loads Alarmed = alarmed
+
+-- the stage that a status shows, with these links, this bound and these loads
+abbrev pub stage_of_status : List TrailLink → ℕ → ℕ → Status → CellStage
+stage_of_status links bound loads Promise = promise
+stage_of_status links bound loads Fresh = fresh
+stage_of_status links bound loads Running = running
+stage_of_status links bound loads Raised = raised
+stage_of_status links bound loads (Waiting c way p) = waits c way (wait_stage_of links bound loads p)
+stage_of_status links bound loads Ended = ended
+
+-- how many owners more may be passed after this read before the bound is looked at again
+abbrev pub passes_after : LastRead → ℕ
+passes_after Published = 0
+passes_after (SawOthers n) = 0
+passes_after Counted = 1
+passes_after (SawOwner o) = 1
+passes_after (SawWait u o) = 1
+passes_after Passed = 0
+passes_after Changed = 0
+
+-- the loads of a walk up to this read since the last owner was passed
+abbrev pub loads_after_pass : LastRead → ℕ
+loads_after_pass Published = 0
+loads_after_pass (SawOthers n) = 0
+loads_after_pass Counted = 0
+loads_after_pass (SawOwner o) = 1
+loads_after_pass (SawWait u o) = 2
+loads_after_pass Passed = 0
+loads_after_pass Changed = 3
+
+-- whether the walk has read its bound, as 0 or 1
+abbrev pub bound_read : LastRead → ℕ
+bound_read Published = 0
+bound_read (SawOthers n) = 0
+bound_read Counted = 1
+bound_read (SawOwner o) = 1
+bound_read (SawWait u o) = 1
+bound_read Passed = 1
+bound_read Changed = 1
+
+-- the same of a status: only a walk may pass owners
+abbrev pub status_passes : Status → ℕ
+status_passes Promise = 0
+status_passes Fresh = 0
+status_passes Running = 0
+status_passes Raised = 0
+status_passes (Waiting c way (Walking last)) = passes_after last
+status_passes (Waiting c way Parked) = 0
+status_passes (Waiting c way Alarmed) = 0
+status_passes Ended = 0
+
+-- the most loads since the last owner was passed
+abbrev pub status_loads : Status → ℕ
+status_loads Promise = 3
+status_loads Fresh = 3
+status_loads Running = 3
+status_loads Raised = 3
+status_loads (Waiting c way (Walking last)) = loads_after_pass last
+status_loads (Waiting c way Parked) = 3
+status_loads (Waiting c way Alarmed) = 3
+status_loads Ended = 3
+
+-- a status of a cell whose task doesn't wait
+abbrev pub IsIdle : Status → Type 0
+IsIdle Promise = Unit {0}
+IsIdle Fresh = Unit {0}
+IsIdle Running = Unit {0}
+IsIdle Raised = Unit {0}
+IsIdle (Waiting c way p) = ⊥
+IsIdle Ended = Unit {0}
+
+-- 0 before a walk has read its bound, else 1
+abbrev pub status_bound : Status → ℕ
+status_bound Promise = 1
+status_bound Fresh = 1
+status_bound Running = 1
+status_bound Raised = 1
+status_bound (Waiting c way (Walking last)) = bound_read last
+status_bound (Waiting c way Parked) = 1
+status_bound (Waiting c way Alarmed) = 1
+status_bound Ended = 1

@@ -1,0 +1,13 @@
+//! The laws of the wait graph: a standing cycle, as a list of distinct tasks, is the same as a task
+//! that is reached from itself by the number of these tasks and by no fewer steps.
+ghost use Rattle.tj_core.specs.Laws.{CyclesReturn, ReturnsAreCycles};
+
+/// Each task of a standing cycle is reached from itself by as many steps as it has tasks, no fewer.
+pub fn cycles_return()
+    ensures { CyclesReturn }
+{}
+
+/// A task that is reached from itself by n steps, no fewer, is the first of a cycle of n tasks.
+pub fn returns_are_cycles()
+    ensures { ReturnsAreCycles }
+{}

@@ -1,0 +1,34 @@
+//! The plain core: a pure state machine in which every atomic action that matters is one event.
+#![tactic(auto)]
+
+mod births;
+mod checker;
+mod event;
+mod graph_laws;
+mod laws;
+mod machine;
+mod owners;
+mod slot;
+mod stage;
+mod status;
+mod step;
+mod task_events;
+mod walk;
+mod walk_events;
+mod walker_law;
+
+pub use checker::Core;
+pub use event::Event;
+pub use graph_laws::{cycles_return, returns_are_cycles};
+pub use laws::{
+    alarms_are_on_cycles, cycles_are_watched, cycles_stand, event_keeps_facts,
+    legal_alarms_are_on_cycles, legal_cycles_are_watched, legal_cycles_stand,
+    legal_loads_are_bounded, legal_runs_meet_facts, legal_settles_are_off_cycles,
+    loads_are_bounded, on_course_is_open, settles_off_cycles, start_meets_facts,
+};
+pub use stage::{Illegal, Stage};
+pub use walk::{LastRead, TrailLink, Walker, Way};
+pub use walker_law::walkers_have_one_event;
+
+#[cfg(test)]
+mod tests;

@@ -1,0 +1,321 @@
+//! One cell of the checker: its status, and the walk of its task. The calls of a walk test the
+//! walker's last read, and then change it.
+ghost use Rattle.std.specs.Prelude.{◌≡◌, ℕ, ◌+◌, ◌*◌, ◌<◌, ◌≤◌, length, vec_capacity};
+ghost use Rattle.tj_core.specs.Statuses.{status_passes, status_loads, status_bound};
+
+use crate::stage::{Illegal, Stage};
+use crate::status::{Progress, Status};
+use crate::walk::{LastRead, TrailLink, Way};
+use std::alloc::{AllocError, Global};
+
+/// A slot. Its trail has room for as many owners as its walk may pass.
+#[derive(Debug, Drop)]
+pub(crate) struct Slot {
+    pub(crate) status: Status,
+    pub(crate) bound: u32,
+    pub(crate) loads: u32,
+    /// The owners that the walk has passed, the oldest first.
+    pub(crate) trail: Vec<TrailLink>,
+    ghost within: { length trail.items + status_passes status ≤ bound },
+    ghost loaded: { loads ≤ 3 * length trail.items + status_loads status },
+    ghost room: { bound ≤ vec_capacity trail },
+    // Before a walk has read its bound, that is 0.
+    ghost small: { bound ≤ 1024 * status_bound status },
+}
+
+impl Slot {
+    ghost use Rattle.std.specs.Prelude.{◌≡◌, ◌≢◌, ℕ, suc, ◌+◌, ◌*◌, ◌<◌, ◌≤◌, ◌↔◌, IsTrue, IfOk, OnOk, OnErr, Some, None, [], MatchOption, length, vec_capacity};
+    ghost use Rattle.tj_core.specs.CoreState.{promise, fresh, waits, walks, parked, alarmed, wait_of, is_task, Runs, present, IfWalksAt};
+    ghost use Rattle.tj_core.specs.Events.{WalksAt, MayPublish, MayReadOthers, MayCount, MayReadOwner, MayReadWait, MayReadAgain, MayAlarm, MaySettle, walked, walk_ended, others_read, count_read, owner_read, wait_found, owner_again, start_walk};
+    ghost use Rattle.tj_core.specs.Slots.{stage_of};
+    ghost use Rattle.tj_core.specs.StagesShown.{stage_shown};
+    ghost use Rattle.tj_core.specs.Statuses.{stage_of_status, IsIdle};
+
+    /// An empty slot, with room for walks that pass so many owners.
+    pub(crate) fn new(alloc: Global, cells: u32) -> Result<Slot, AllocError>
+        ensures stage { IfOk result (λ slot. stage_of slot ≡ promise) }
+        ensures loads { IfOk result (λ slot. slot.loads ≡ 0) }
+        ensures room { IfOk result (λ slot. cells ≤ vec_capacity slot.trail) }
+    {
+        let trail = Vec::with_capacity(alloc, cells as usize)?;
+        Ok(Slot {
+            status: Status::Promise,
+            bound: 0,
+            loads: 0,
+            trail,
+        })
+    }
+
+    /// Whether its task is fresh or running.
+    pub(crate) fn runs(&self) -> bool
+        ensures { IsTrue result ↔ Runs (stage_of self.now) }
+    {
+        matches!(self.status, Status::Fresh | Status::Running)
+    }
+
+    /// Whether it is a task's.
+    pub(crate) fn is_task(&self) -> bool
+        ensures { result ≡ is_task (stage_of self.now) }
+    {
+        !matches!(self.status, Status::Promise)
+    }
+
+    /// The stage of its task.
+    pub(crate) fn stage(&self) -> Option<Stage>
+        ensures { result ≡ stage_shown (stage_of self.now) }
+    {
+        match self.status {
+            Status::Promise => None,
+            Status::Fresh => Some(Stage::Fresh),
+            Status::Running => Some(Stage::Running),
+            Status::Raised => Some(Stage::Raised),
+            Status::Waiting(_, _, Progress::Walking(_)) => Some(Stage::Walking),
+            Status::Waiting(_, _, Progress::Parked) => Some(Stage::Parked),
+            Status::Waiting(_, _, Progress::Alarmed) => Some(Stage::Alarmed),
+            Status::Ended => Some(Stage::Ended),
+        }
+    }
+
+    /// Whether it is a promise's.
+    pub(crate) fn is_promise(&self) -> bool
+        ensures { IsTrue result ↔ (stage_of self.now ≡ promise) }
+    {
+        matches!(self.status, Status::Promise)
+    }
+
+    /// Whether it is that of a task that had no event yet.
+    pub(crate) fn is_fresh(&self) -> bool
+        ensures { IsTrue result ↔ (stage_of self.now ≡ fresh) }
+    {
+        matches!(self.status, Status::Fresh)
+    }
+
+    /// Whether its task may publish a wait of this way.
+    pub(crate) fn may_publish(&self, way: Way) -> bool
+        ensures { IsTrue result ↔ MayPublish way (stage_of self.now) }
+    {
+        match way {
+            Way::Along => self.runs(),
+            Way::Other => matches!(self.status, Status::Raised),
+        }
+    }
+
+    /// What its task waits for.
+    pub(crate) fn wait(&self) -> Option<u32>
+        ensures { result ≡ wait_of (stage_of self.now) }
+    {
+        match self.status {
+            Status::Waiting(cell, _, _) => Some(cell),
+            _ => None,
+        }
+    }
+
+    /// The cell and the way of the wait on which its task is parked.
+    pub(crate) fn parked_on(&self) -> Option<(u32, Way)>
+        ensures some { (c : ℕ) (way : Way)
+            → (result ≡ Some (c, way)) ↔ (stage_of self.now ≡ waits c way parked) }
+    {
+        match self.status {
+            Status::Waiting(cell, way, Progress::Parked) => Some((cell, way)),
+            _ => None,
+        }
+    }
+
+    /// The present cell of its walk.
+    pub(crate) fn present(&self) -> u32
+        ensures { IfWalksAt (stage_of self.now) (λ c way w. result ≡ present c w.trail) }
+    {
+        match (self.trail.last(), self.status) {
+            (Some(link), _) => link.next,
+            (None, Status::Waiting(cell, _, _)) => cell,
+            (None, _) => 0,
+        }
+    }
+
+    /// It is a new cell's from here on.
+    pub(crate) fn begin(&mut self, status: Status)
+        requires { IsIdle status }
+        ensures stage { stage_of self.new ≡ stage_of_status [] 0 0 status }
+        ensures loads { self.new.loads ≡ 0 }
+        ensures room { vec_capacity self.old.trail ≤ vec_capacity self.new.trail }
+    {
+        self.loads = 0;
+        self.status = status;
+    }
+
+    /// Its task no longer waits.
+    pub(crate) fn set_idle(&mut self, status: Status)
+        requires { IsIdle status }
+        ensures stage { stage_of self.new ≡ stage_of_status [] 0 0 status }
+        ensures loads { self.new.loads ≡ self.old.loads }
+        ensures room { vec_capacity self.old.trail ≤ vec_capacity self.new.trail }
+    {
+        self.status = status;
+    }
+
+    /// Its task walks on the cell, from the start.
+    pub(crate) fn publish(&mut self, cell: u32, way: Way)
+        ensures stage { stage_of self.new ≡ waits cell way (walks start_walk) }
+        ensures loads { self.new.loads ≡ 0 }
+        ensures room { vec_capacity self.old.trail ≤ vec_capacity self.new.trail }
+    {
+        self.trail.clear();
+        self.bound = 0;
+        self.loads = 0;
+        self.status = Status::Waiting(cell, way, Progress::Walking(LastRead::Published));
+    }
+
+    /// The walker reads OTHERS.
+    pub(crate) fn read_others(&mut self, others: u64) -> Result<(), Illegal>
+        ensures allowed { OnOk result (WalksAt (stage_of self.old) (λ c way w. MayReadOthers way w)) }
+        ensures stage { OnOk result (stage_of self.new
+            ≡ walked (λ c w. others_read others w) (stage_of self.old)) }
+        ensures loads { OnOk result (self.new.loads ≡ self.old.loads) }
+        ensures room { vec_capacity self.old.trail ≤ vec_capacity self.new.trail }
+        ensures illegal { OnErr result (¬ WalksAt (stage_of self.old) (λ c way w. MayReadOthers way w)) }
+        ensures err { OnErr result (self.new ≡ self.old) }
+    {
+        let Status::Waiting(cell, Way::Along, Progress::Walking(LastRead::Published)) = self.status
+        else {
+            return Err(Illegal);
+        };
+        let seen = Progress::Walking(LastRead::SawOthers(others));
+        self.status = Status::Waiting(cell, Way::Along, seen);
+        Ok(())
+    }
+
+    /// The walker reads the number of cells.
+    pub(crate) fn read_count(&mut self, count: u32) -> Result<(), Illegal>
+        requires some { 0 < count }
+        requires small { count ≤ 1024 }
+        requires room { count ≤ vec_capacity self.old.trail }
+        ensures allowed { OnOk result (WalksAt (stage_of self.old) (λ c way w. MayCount way w)) }
+        ensures stage { OnOk result (stage_of self.new ≡ walked (λ c w. count_read count w) (stage_of self.old)) }
+        ensures loads { OnOk result (self.new.loads ≡ self.old.loads) }
+        ensures room { vec_capacity self.old.trail ≤ vec_capacity self.new.trail }
+        ensures illegal { OnErr result (¬ WalksAt (stage_of self.old) (λ c way w. MayCount way w)) }
+        ensures err { OnErr result (self.new ≡ self.old) }
+    {
+        let Status::Waiting(cell, way, Progress::Walking(last)) = self.status else {
+            return Err(Illegal);
+        };
+        if !last.before_count(way) {
+            return Err(Illegal);
+        }
+        self.bound = count;
+        self.status = Status::Waiting(cell, way, Progress::Walking(LastRead::Counted));
+        Ok(())
+    }
+
+    /// The walker reads the owner of the present cell.
+    pub(crate) fn read_owner(&mut self, owner: Option<u32>) -> Result<(), Illegal>
+        ensures allowed { OnOk result (WalksAt (stage_of self.old) (λ c way w. MayReadOwner w)) }
+        ensures stage { OnOk result (stage_of self.new ≡ walked (λ c w. owner_read owner w) (stage_of self.old)) }
+        ensures loads { OnOk result (self.new.loads ≡ suc self.old.loads) }
+        ensures room { vec_capacity self.old.trail ≤ vec_capacity self.new.trail }
+        ensures illegal { OnErr result (¬ WalksAt (stage_of self.old) (λ c way w. MayReadOwner w)) }
+        ensures err { OnErr result (self.new ≡ self.old) }
+    {
+        let Status::Waiting(cell, way, Progress::Walking(last)) = self.status else {
+            return Err(Illegal);
+        };
+        if !last.before_owner(self.trail.len(), self.bound) {
+            return Err(Illegal);
+        }
+        self.loads += 1;
+        self.status = Status::Waiting(cell, way, Progress::Walking(LastRead::SawOwner(owner)));
+        Ok(())
+    }
+
+    /// The owner that the walker of task t has just read, if that is neither nobody nor t.
+    pub(crate) fn owner_to_ask(&self, t: u32) -> Option<u32>
+        ensures { let stage = stage_of self.now in
+            MatchOption result (¬ WalksAt stage (λ c way w. MayReadWait t w))
+            (λ u. (u ≢ t) × WalksAt stage (λ c way w. w.last ≡ LastRead.SawOwner (Some u))) }
+    {
+        match self.status {
+            Status::Waiting(_, _, Progress::Walking(LastRead::SawOwner(Some(owner))))
+                if owner != t => { Some(owner) }
+            _ => None,
+        }
+    }
+
+    /// The walker reads what the owner that it has just read waits for.
+    pub(crate) fn read_wait(&mut self, owner: u32, wait: Option<u32>)
+        requires { WalksAt (stage_of self.old) (λ c way w. w.last ≡ LastRead.SawOwner (Some owner)) }
+        ensures stage { stage_of self.new ≡ walked (λ c w. wait_found owner wait w) (stage_of self.old) }
+        ensures loads { self.new.loads ≡ suc self.old.loads }
+        ensures room { vec_capacity self.old.trail ≤ vec_capacity self.new.trail }
+    {
+        if let Status::Waiting(cell, way, _) = self.status {
+            self.loads += 1;
+            let seen = Progress::Walking(LastRead::SawWait(owner, wait));
+            self.status = Status::Waiting(cell, way, seen);
+        }
+    }
+
+    /// The walker reads the owner of the present cell again.
+    pub(crate) fn read_again(&mut self, now: Option<u32>) -> Result<(), Illegal>
+        ensures allowed { OnOk result (WalksAt (stage_of self.old) (λ c way w. MayReadAgain w)) }
+        ensures stage { OnOk result (stage_of self.new
+            ≡ walked (λ c w. owner_again now w w.last) (stage_of self.old)) }
+        ensures loads { OnOk result (self.new.loads ≡ suc self.old.loads) }
+        ensures room { vec_capacity self.old.trail ≤ vec_capacity self.new.trail }
+        ensures illegal { OnErr result (¬ WalksAt (stage_of self.old) (λ c way w. MayReadAgain w)) }
+        ensures err { OnErr result (self.new ≡ self.old) }
+    {
+        let Status::Waiting(cell, way, Progress::Walking(last)) = self.status else {
+            return Err(Illegal);
+        };
+        let LastRead::SawWait(owner, Some(next)) = last else {
+            return Err(Illegal);
+        };
+        let mut read = LastRead::Changed;
+        if now == Some(owner) {
+            let pushed = self.trail.push(TrailLink { owner, next }).is_ok();
+            prove!(pushed);
+            read = LastRead::Passed;
+        }
+        self.loads += 1;
+        self.status = Status::Waiting(cell, way, Progress::Walking(read));
+        Ok(())
+    }
+
+    /// The walker alarms, as it has just read its own task t as owner.
+    pub(crate) fn alarm(&mut self, t: u32) -> Result<(), Illegal>
+        ensures allowed { OnOk result (WalksAt (stage_of self.old) (λ c way w. MayAlarm t w)) }
+        ensures stage { OnOk result (stage_of self.new ≡ walk_ended alarmed (stage_of self.old)) }
+        ensures loads { OnOk result (self.new.loads ≡ self.old.loads) }
+        ensures room { vec_capacity self.old.trail ≤ vec_capacity self.new.trail }
+        ensures illegal { OnErr result (¬ WalksAt (stage_of self.old) (λ c way w. MayAlarm t w)) }
+        ensures err { OnErr result (self.new ≡ self.old) }
+    {
+        match self.status {
+            Status::Waiting(cell, way, Progress::Walking(LastRead::SawOwner(Some(owner))))
+                if owner == t => {
+                self.status = Status::Waiting(cell, way, Progress::Alarmed);
+                Ok(())
+            }
+            _ => Err(Illegal),
+        }
+    }
+
+    /// The walk ends without an alarm.
+    pub(crate) fn settle(&mut self) -> Result<(), Illegal>
+        ensures allowed { OnOk result (WalksAt (stage_of self.old) (λ c way w. MaySettle w)) }
+        ensures stage { OnOk result (stage_of self.new ≡ walk_ended parked (stage_of self.old)) }
+        ensures loads { OnOk result (self.new.loads ≡ self.old.loads) }
+        ensures room { vec_capacity self.old.trail ≤ vec_capacity self.new.trail }
+        ensures illegal { OnErr result (¬ WalksAt (stage_of self.old) (λ c way w. MaySettle w)) }
+        ensures err { OnErr result (self.new ≡ self.old) }
+    {
+        let Status::Waiting(cell, way, Progress::Walking(last)) = self.status else {
+            return Err(Illegal);
+        };
+        if !last.ends_walk(self.trail.len(), self.bound) {
+            return Err(Illegal);
+        }
+        self.status = Status::Waiting(cell, way, Progress::Parked);
+        Ok(())
+    }
+}

@@ -1,0 +1,22 @@
+//! What the checker keeps of what a cell is. The trail, the bound and the loads of a walk stand
+//! beside it in the slot.
+use crate::walk::{LastRead, Way};
+
+/// What a task that waits does.
+#[derive(Clone, Copy, Debug)]
+pub(crate) enum Progress {
+    Walking(LastRead),
+    Parked,
+    Alarmed,
+}
+
+/// What a cell is, and what its task does. A cell that isn't there is a promise.
+#[derive(Clone, Copy, Debug)]
+pub(crate) enum Status {
+    Promise,
+    Fresh,
+    Running,
+    Raised,
+    Waiting(u32, Way, Progress),
+    Ended,
+}

@@ -1,0 +1,59 @@
+//! One event of the machine.
+use crate::event::Event;
+use crate::machine::Machine;
+use crate::stage::{Illegal, Stage};
+
+impl Machine {
+    ghost use Rattle.std.specs.Prelude.{◌≡◌, ◌<◌, ◌^◌, OnOk, OnErr};
+    ghost use Rattle.tj_core.specs.Columns.{stage_in, loads_in};
+    ghost use Rattle.tj_core.specs.StagesShown.{stage_shown};
+    ghost use Rattle.tj_core.specs.Machine.{Accepts, Refuses};
+
+    /// Applies an event where it is allowed.
+    pub(crate) fn step(&mut self, e: Event) -> Result<(), Illegal>
+        requires others { self.old.others < 2 ^ 63 }
+        requires cleared { self.old.cleared < 2 ^ 63 }
+        ensures ok { OnOk result (Accepts self.old e self.new) }
+        ensures err { OnErr result (Refuses self.old e self.new) }
+    {
+        match e {
+            Event::Make(t) => self.make(t),
+            Event::Fork(t) => self.fork(t),
+            Event::Hand(t, p, c) => self.hand(t, p, c),
+            Event::Close(t, p) => self.close(t, p),
+            Event::Raise(t) => self.raise(t),
+            Event::Publish(t, p) => self.publish(t, p),
+            Event::LoadOthers(t) => self.load_others(t),
+            Event::LoadCount(t) => self.load_count(t),
+            Event::ReadOwner(t) => self.read_owner(t),
+            Event::ReadWait(t) => self.read_wait(t),
+            Event::ReadOwnerAgain(t) => self.read_owner_again(t),
+            Event::Alarm(t) => self.alarm(t),
+            Event::Settle(t) => self.settle(t),
+            Event::Unwait(t) => self.unwait(t),
+            Event::Lower => self.lower(),
+        }
+    }
+
+    /// The stage of a task.
+    pub(crate) fn stage(&self, t: u32) -> Option<Stage>
+        ensures { result ≡ stage_shown (stage_in self.now.slots.items t) }
+    {
+        if (t as usize) < self.slots.len() {
+            self.slots[t as usize].stage()
+        } else {
+            None
+        }
+    }
+
+    /// The loads of a task's last walk.
+    pub(crate) fn loads(&self, t: u32) -> u32
+        ensures { result ≡ loads_in self.now.slots.items t }
+    {
+        if (t as usize) < self.slots.len() {
+            self.slots[t as usize].loads
+        } else {
+            0
+        }
+    }
+}
