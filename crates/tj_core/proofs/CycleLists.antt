@@ -3,7 +3,7 @@ use Rattle.std.proofs.Common.{◌≡◌, ℕ, zero, suc, ◌<◌, List, [], ◌�
 use Rattle.std.specs.List.{IsDistinct}
 use Rattle.std.proofs.lemmas.Map.Keys.{IsDistinct-from_apart, apart_from_distinct}
 use Rattle.tj_core.specs.CoreState.{Cells}
-use Rattle.tj_core.specs.WaitGraph.{Leads, LeadsAlong, Reaches, IsOnCycleOf}
+use Rattle.tj_core.specs.WaitGraph.{IsCycle, Leads, LeadsAlong, Reaches, IsOnCycleOf}
 use Rattle.tj_core.specs.Laws.{CyclesReturn, ReturnsAreCycles}
 use Rattle.tj_core.proofs.Rounds.{reach_one, reach_front, reach_after, cycle_at, cycle_once}
 
@@ -37,6 +37,13 @@ module _ (s : Cells) where
     least = λ k a b r. let q : t ≡ get_or (t ∷ us) k t = reach_one s t k t (get_or (t ∷ us) k t) r (at_place t t us l k t b) in
         let e = apart_from_distinct eqb (t ∷ us) 0 k t d a b in let f = eq-eqb t (get_or (t ∷ us) k t) q in absurd (cc (e, f));
   }
+
+  -- the tasks of a way back to the first of them, which comes back no sooner, are a cycle
+  pub along_cycle : (t : ℕ) (us : List ℕ) → LeadsAlong s t us t
+      → ((k : ℕ) → 0 < k → k < suc (length us) → ¬ Reaches s t k t) → IsCycle s (t ∷ us)
+  along_cycle t us l none =
+      let c : IsOnCycleOf s t (suc (length us)) = record { some = omega arith; round = through t t us l; least = none } in
+      (distinct t t us l (suc (length us)) refl c, l)
 
 pub returns_are_cycles : ReturnsAreCycles
 returns_are_cycles s t zero c = let h = c.some in absurd (omega arith)

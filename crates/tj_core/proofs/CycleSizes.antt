@@ -1,12 +1,12 @@
 -- A cycle has no more tasks than there are cells.
 use Rattle.std.proofs.Common.{◌≡◌, ◌≢◌, ℕ, zero, suc, ◌<◌, ◌≤◌, true, false, eqb, List, [], ◌∷◌, length, refl, sym, ap}
-use Rattle.std.proofs.Common.{subst, arith, ne_eqb, ◌||◌}
+use Rattle.std.proofs.Common.{subst, arith, ne_eqb, ◌||◌, Some}
 use native.Mathlib.Decide.{ℕ_discrete}
 use mathlib.Core.Logic.{dite}
 use Rattle.std.specs.List.{AllByRecursion, IsDistinct, list_any}
 use Rattle.std.proofs.lemmas.Map.Keys.{IsDistinct-cons}
 use Rattle.std.proofs.lemmas.Map.Steps.{length-le_from_distinct_below}
-use Rattle.tj_core.specs.CoreState.{CoreState}
+use Rattle.tj_core.specs.CoreState.{CoreState, wait}
 use Rattle.tj_core.specs.WaitGraph.{Reaches, IsOnCycleOf}
 use Rattle.tj_core.specs.CoreFacts.{CoreFacts}
 use Rattle.tj_core.proofs.Rounds.{cycle_once}
@@ -40,17 +40,22 @@ module _ (s : CoreState) (t : ℕ) where
         (λ j u a p e. cycle_once s.cells t n j k u c a (omega arith) p (subst (Reaches s.cells t k) e r.1)))
         (distinct k r.0 (omega arith) r.1)
 
-    below : (x : CoreFacts s) (k v : ℕ) (r : Reaches s.cells t k v)
-        → (q : ℕ) → list_any (eqb q) (members k v r) ≡ true → q < s.count
-    below x zero v r q e = absurd (cc)
-    below x (suc k) v r q e = dite (ℕ_discrete q r.0)
-        (λ d. subst (λ z. z < s.count) (sym d) (waiter_there s x r.0 r.2.0 r.2.1))
-        (λ d. below x k r.0 r.1 q
-        (subst (λ b. (b || list_any (eqb q) (members k r.0 r.1)) ≡ true) (ne_eqb q r.0 d) e))
+    module _ (there : (t c : ℕ) → wait s.cells t ≡ Some c → t < s.count) where
+      below : (k v : ℕ) (r : Reaches s.cells t k v)
+          → (q : ℕ) → list_any (eqb q) (members k v r) ≡ true → q < s.count
+      below zero v r q e = absurd (cc)
+      below (suc k) v r q e = dite (ℕ_discrete q r.0)
+          (λ d. subst (λ z. z < s.count) (sym d) (there r.0 r.2.0 r.2.1))
+          (λ d. below k r.0 r.1 q
+          (subst (λ b. (b || list_any (eqb q) (members k r.0 r.1)) ≡ true) (ne_eqb q r.0 d) e))
+
+      -- the tasks of a cycle are distinct, and are there as each of them waits
+      pub cycle_fits_there : n ≤ s.count
+      cycle_fits_there =
+          let tasks = members n t c.round in
+          subst (λ z. z ≤ s.count) (length-members n t c.round)
+          (length-le_from_distinct_below tasks s.count (distinct n t (omega arith) c.round) (below n t c.round))
 
     -- the tasks of a cycle are there and distinct
     pub cycle_fits : CoreFacts s → n ≤ s.count
-    cycle_fits x =
-        let tasks = members n t c.round in
-        subst (λ z. z ≤ s.count) (length-members n t c.round)
-        (length-le_from_distinct_below tasks s.count (distinct n t (omega arith) c.round) (below x n t c.round))
+    cycle_fits x = cycle_fits_there (waiter_there s x)

@@ -16,7 +16,7 @@ use Rattle.tj_core.proofs.WalkEnds.{off_course}
 use Rattle.tj_core.proofs.EachEvent.{kept_by_event, facts_after_event}
 
 -- the state with the root alone meets the facts
-start_facts : StartMeetsFacts
+pub start_facts : StartMeetsFacts
 start_facts = search rules
 
 -- after a run of allowed events the facts hold

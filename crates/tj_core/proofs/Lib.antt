@@ -13,6 +13,12 @@ pub mod Chains
 pub mod Watches
 pub mod NameOrders
 pub mod CycleSizes
+pub mod CycleWays
+pub mod JournalLines
+pub mod JudgedRuns
+pub mod AlarmLines
+pub mod JournalReads
+pub mod JournalWords
 pub mod SoundTasks
 pub mod Makers
 pub mod CellChanges

@@ -11,7 +11,7 @@ use Rattle.tj_core.specs.declared.walk.LastRead.TheVariants.{SawWait, Passed, Ch
 use Rattle.tj_core.specs.CoreState.{walks, parked, alarmed}
 use Rattle.tj_core.specs.CoreState.{Cells, CoreState, owner, wait, wait_of, IsClosed, present}
 use Rattle.tj_core.specs.Events.{Allowed, after, EndsWalk, walk_ended}
-use Rattle.tj_core.specs.WaitGraph.{Reaches}
+use Rattle.tj_core.specs.WaitGraph.{Reaches, IsOnCycle}
 use Rattle.tj_core.specs.Facts.{IsLinked, IsTrail}
 use Rattle.tj_core.specs.Facts.{IsOnCourse}
 use Rattle.tj_core.specs.CoreFacts.{CoreFacts}
@@ -48,14 +48,19 @@ module _ (s : CoreState) (x : CoreFacts s) (task : CellId) where
       (λ (k : IsClosed s.count s.cells l.next). some_none o k.1)
       h.1
 
-  -- Alarm keeps the facts: the walker owns its present cell, so its trail is a cycle
-  pub keeps_alarm : (N : ℕ) → Allowed N s (Alarm task) → IsKept s (after s (Alarm task))
-  keeps_alarm N (c, way, w, is, at) =
+  -- a walker that may alarm owns its present cell, so its trail is a cycle
+  pub alarm_on_cycle : (N : ℕ) → Allowed N s (Alarm task) → IsOnCycle s.cells t
+  alarm_on_cycle N (c, way, w, is, at) =
       let h = walker_of s x t c way w is in
       let r = last_read_is s t c way w (SawOwner (Some t)) h at in
       let len = length w.trail in
+      round_least s.cells t (suc len) (omega arith) (unbroken c t w.trail (ap wait_of is) h.trail (r.1 refl))
+
+  -- Alarm keeps the facts
+  pub keeps_alarm : (N : ℕ) → Allowed N s (Alarm task) → IsKept s (after s (Alarm task))
+  keeps_alarm N (c, way, w, is, at) =
       restaged s x t c way (walks w) alarmed (walk_ended alarmed) is refl
-      (round_least s.cells t (suc len) (omega arith) (unbroken c t w.trail (ap wait_of is) h.trail (r.1 refl)))
+      (alarm_on_cycle N (c, way, w, is, at))
       (λ n cycle q. tt)
 
   -- Settle keeps the facts: who settles is off course

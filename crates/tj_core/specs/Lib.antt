@@ -16,3 +16,5 @@ pub mod Columns
 pub mod Loads
 pub mod Machine
 pub mod Core
+pub mod Journal
+pub mod Judging

@@ -31,3 +31,8 @@ pub record IsOnCycleOf (cells : Cells) (t n : ℕ) : Type 0 where
 -- t is on a standing cycle
 abbrev pub IsOnCycle : Cells → ℕ → Type 0
 IsOnCycle cells t = (n : ℕ) × IsOnCycleOf cells t n
+
+-- a standing cycle whose first task is t
+abbrev pub IsCycleFrom : Cells → ℕ → List ℕ → Type 0
+IsCycleFrom cells t [] = ⊥
+IsCycleFrom cells t (u ∷ us) = (u ≡ t) × IsCycle cells (u ∷ us)

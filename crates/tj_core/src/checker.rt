@@ -4,6 +4,7 @@ ghost use Rattle.std.specs.Prelude.{◌≤◌};
 use crate::event::Event;
 use crate::machine::Machine;
 use crate::stage::{Illegal, Stage};
+use crate::walk::LastRead;
 use std::alloc::Global;
 use tj_base::{CellId, Oom};
 
@@ -17,9 +18,10 @@ pub struct Core {
 }
 
 impl Core {
-    ghost use Rattle.std.specs.Prelude.{◌≡◌, ℕ, ◌<◌, ◌≤◌, ◌^◌, IfOk, OnOk, OnErr};
-    ghost use Rattle.tj_core.specs.CoreState.{root_alone, stage};
-    ghost use Rattle.tj_core.specs.Events.{Allowed};
+    ghost use Rattle.std.specs.Prelude.{◌≡◌, ℕ, ◌<◌, ◌≤◌, ◌^◌, map, IfOk, OnOk, OnErr, MatchOption};
+    ghost use Rattle.tj_core.specs.CoreState.{root_alone, stage, wait};
+    ghost use Rattle.tj_core.specs.Events.{Allowed, Walks};
+    ghost use Rattle.tj_core.specs.WaitGraph.{IsOnCycle, IsCycleFrom};
     ghost use Rattle.tj_core.specs.Core.{core_state, core_limit, core_loads, core_applied, Applies, IsSame};
     ghost use Rattle.tj_core.specs.StagesShown.{stage_shown};
 
@@ -63,6 +65,31 @@ impl Core {
         ensures { result ≡ core_loads self.now t.0 }
     {
         self.machine.loads(t.0)
+    }
+
+    /// The last read and the loads of a task's walk, where it walks.
+    pub(crate) fn walk(&self, t: CellId) -> Option<(LastRead, u32)>
+        ensures { let state = core_state self.now in
+            MatchOption result (¬ Walks state t.0 (λ c way w. Unit {0}))
+            (λ read. Walks state t.0 (λ c way w. (w.last ≡ read.0) × (w.loads ≡ read.1))) }
+    {
+        self.machine.walk(t.0)
+    }
+
+    /// What a task waits for.
+    pub(crate) fn wait(&self, t: CellId) -> Option<u32>
+        ensures { result ≡ wait (core_state self.now).cells t.0 }
+    {
+        self.machine.wait(t.0)
+    }
+
+    /// The tasks of the cycle through t, from t on. None comes exactly where t is on no cycle.
+    pub fn cycle_of(&self, alloc: Global, t: CellId) -> Result<Option<Vec<CellId>>, Oom>
+        ensures { let cells = (core_state self.now).cells in
+            IfOk result (λ found. MatchOption found (¬ IsOnCycle cells t.0)
+            (λ tasks. IsCycleFrom cells t.0 (map (λ c. c.0) tasks.items))) }
+    {
+        self.machine.cycle_of(alloc, t.0)
     }
 
     /// How many events were applied.

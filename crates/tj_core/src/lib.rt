@@ -3,9 +3,13 @@
 
 mod births;
 mod checker;
+mod cycle;
 mod event;
 mod graph_laws;
+mod journal;
+mod judge;
 mod laws;
+mod line;
 mod machine;
 mod owners;
 mod slot;
@@ -20,6 +24,8 @@ mod walker_law;
 pub use checker::Core;
 pub use event::Event;
 pub use graph_laws::{cycles_return, returns_are_cycles};
+pub use journal::{JournalFault, MAX_JOURNAL, read_journal};
+pub use judge::{Judged, judge_text};
 pub use laws::{
     alarms_are_on_cycles, cycles_are_watched, cycles_stand, event_keeps_facts,
     legal_alarms_are_on_cycles, legal_cycles_are_watched, legal_cycles_stand,
@@ -30,5 +36,7 @@ pub use stage::{Illegal, Stage};
 pub use walk::{LastRead, TrailLink, Walker, Way};
 pub use walker_law::walkers_have_one_event;
 
+#[cfg(test)]
+mod judge_tests;
 #[cfg(test)]
 mod tests;

@@ -121,6 +121,18 @@ impl Slot {
         }
     }
 
+    /// The last read and the loads of its walk, where its task walks.
+    pub(crate) fn walk(&self) -> Option<(LastRead, u32)>
+        ensures { let stage = stage_of self.now in
+            MatchOption result (¬ WalksAt stage (λ c way w. Unit {0}))
+            (λ read. WalksAt stage (λ c way w. (w.last ≡ read.0) × (w.loads ≡ read.1))) }
+    {
+        match self.status {
+            Status::Waiting(_, _, Progress::Walking(last)) => Some((last, self.loads)),
+            _ => None,
+        }
+    }
+
     /// The present cell of its walk.
     pub(crate) fn present(&self) -> u32
         ensures { IfWalksAt (stage_of self.now) (λ c way w. result ≡ present c w.trail) }

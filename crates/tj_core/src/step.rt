@@ -2,12 +2,14 @@
 use crate::event::Event;
 use crate::machine::Machine;
 use crate::stage::{Illegal, Stage};
+use crate::walk::LastRead;
 
 impl Machine {
-    ghost use Rattle.std.specs.Prelude.{◌≡◌, ◌<◌, ◌^◌, OnOk, OnErr};
+    ghost use Rattle.std.specs.Prelude.{◌≡◌, ◌<◌, ◌^◌, OnOk, OnErr, MatchOption};
     ghost use Rattle.tj_core.specs.Columns.{stage_in, loads_in};
     ghost use Rattle.tj_core.specs.StagesShown.{stage_shown};
-    ghost use Rattle.tj_core.specs.Machine.{Accepts, Refuses};
+    ghost use Rattle.tj_core.specs.Machine.{Accepts, Refuses, state_of};
+    ghost use Rattle.tj_core.specs.Events.{Walks};
 
     /// Applies an event where it is allowed.
     pub(crate) fn step(&mut self, e: Event) -> Result<(), Illegal>
@@ -54,6 +56,19 @@ impl Machine {
             self.slots[t as usize].loads
         } else {
             0
+        }
+    }
+
+    /// The last read and the loads of a task's walk, where it walks.
+    pub(crate) fn walk(&self, t: u32) -> Option<(LastRead, u32)>
+        ensures { let state = state_of self.now in
+            MatchOption result (¬ Walks state t (λ c way w. Unit {0}))
+            (λ read. Walks state t (λ c way w. (w.last ≡ read.0) × (w.loads ≡ read.1))) }
+    {
+        if (t as usize) < self.slots.len() {
+            self.slots[t as usize].walk()
+        } else {
+            None
         }
     }
 }
