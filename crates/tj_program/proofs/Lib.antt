@@ -1,1 +1,4 @@
 pub mod Deliveries
+pub mod SmallBodies
+pub mod SmallLemmas
+pub mod SmallSums

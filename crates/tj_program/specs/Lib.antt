@@ -1,5 +1,8 @@
 pub mod Delivery
 pub mod Output
+pub mod SmallForm
+pub mod SmallNumber
+pub mod SmallTokens
 pub mod Statuses
 pub mod Texts
 pub mod Words

@@ -1,8 +1,8 @@
 -- The status and the text that belong to words and an input.
 use Rattle.std.specs.Prelude.{ℕ, ◌≡◌, ◌≤◌, List, String, length}
 use Rattle.std.specs.declared.alloc.Global.{Global}
-use Rattle.tj_syntax.specs.SmallTokens.{small_tokens}
-use Rattle.tj_syntax.specs.SmallForm.{IsScript}
+use Rattle.tj_program.specs.SmallTokens.{small_tokens}
+use Rattle.tj_program.specs.SmallForm.{IsScript}
 use Rattle.tj_program.specs.Texts.{usage_line, fault_line, report_text}
 use Rattle.tj_program.specs.Words.{IsRunAlone}
 use Rattle.tj_program.specs.declared.status.Status.{Status}

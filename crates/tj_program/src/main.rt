@@ -3,6 +3,13 @@
 
 mod report;
 mod run;
+mod small_body;
+mod small_expect;
+mod small_kind;
+mod small_number;
+mod small_script;
+mod small_sum;
+mod small_tokens;
 mod status;
 #[cfg(test)]
 mod tests;

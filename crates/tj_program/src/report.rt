@@ -3,10 +3,11 @@ ghost use Rattle.std.specs.Prelude.{ℕ, ◌≡◌, ◌≤◌, ◌++◌, length,
 ghost use Rattle.tj_program.specs.Texts.{print_line, print_lines, report_text};
 ghost use Rattle.tj_program.specs.Output.{IsRefused, IsReportOf};
 
+use crate::small_body::parse_small;
+use crate::small_script::SmallScript;
 use itoa::Buffer;
 use std::alloc::Global;
 use tj_base::Oom;
-use tj_syntax::{SmallScript, parse_small};
 
 /// What is written where the words aren't of the right form.
 pub const USAGE_LINE: &[u8] =

@@ -1,3 +1,12 @@
-pub mod SmallForm
-pub mod SmallNumber
-pub mod SmallTokens
+pub mod Trees
+pub mod Marks
+pub mod Grammar
+pub mod Faults
+pub mod View
+pub mod Index
+pub mod Input
+pub mod Reading
+pub mod Heads
+pub mod State
+pub mod Back
+pub mod Listing

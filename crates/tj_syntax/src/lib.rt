@@ -1,13 +1,32 @@
-//! The grammar of a script, so far in its small form: its tokens, and what a script does.
+//! The grammar of scripts: what a list of tokens says, or the place of its first fault, and the
+//! canonical listing of a script.
 #![tactic(auto)]
 
-mod small_body;
-mod small_expect;
-mod small_kind;
-mod small_number;
-mod small_script;
-mod small_sum;
-mod small_tokens;
+mod expr;
+mod fault;
+mod heads;
+mod list_call;
+mod list_expr;
+mod list_stmt;
+mod listing;
+#[cfg(test)]
+mod listing_tests;
+mod names;
+mod parser;
+mod read_call;
+mod read_expr;
+mod read_heads;
+mod read_script;
+mod read_stmt;
+mod read_task;
+mod script;
+mod stmt;
+#[cfg(test)]
+mod tests;
 
-pub use small_body::parse_small;
-pub use small_script::SmallScript;
+pub use expr::{Expr, Op, RefOf, Rel};
+pub use fault::ParseFault;
+pub use listing::list_text;
+pub use read_script::parse;
+pub use script::{Decl, Script};
+pub use stmt::{Arg, Block, Call, Rhs, Stmt};

@@ -1,0 +1,120 @@
+-- The loop over the pairs reads what is left, and a unary is read by its first token.
+use Rattle.std.proofs.Common.{rules, arith, map}
+use Rattle.std.proofs.lemmas.Grind.{common_steps}
+use Rattle.std.proofs.lemmas.List.{map-append}
+use Rattle.tj_syntax.specs.declared.expr.Expr.{the_lemmas}
+use Rattle.tj_syntax.specs.State.{input_of}
+use Rattle.tj_syntax.specs.View.{pair}
+use Rattle.tj_syntax.specs.Reading.{pairs, pairs_from, operand}
+use Rattle.tj_syntax.proofs.Turns.{one_more, no_more}
+use Rattle.tj_syntax.proofs.Unrolls.{unary-is}
+use Rattle.tj_syntax.proofs.parser.Parser.+expression.Goals as goal
+
+pub pairs-loop-turn-init : goal.pairs-loop-turn-init
+unfolding pairs
+pairs-loop-turn-init t c = first_of (search rules, grind (arith, common_steps))
+
+pub pairs-returns-in_default : goal.pairs-returns-in_default
+unfolding pairs_from
+pairs-returns-in_default t c =
+    let e = one_more (λ n. pairs_from (operand c.args.room c.args.level) c.args.level n (map pair
+    c.loop-turn.found.items) (input_of c.loop-turn.self)) c.left-turn-end.result c.loop-turn._turn
+    c.loop-turn-test.true c.loop-turn.invariant in
+    first_of (search rules, grind (arith, common_steps))
+
+pub pairs-returns-in_err-y : goal.pairs-returns-in_err-y
+unfolding pairs_from
+pairs-returns-in_err-y t c =
+    let e = one_more (λ n. pairs_from (operand c.args.room c.args.level) c.args.level n (map pair
+    c.loop-turn.found.items) (input_of c.loop-turn.self)) c.left-turn-end.result c.loop-turn._turn
+    c.loop-turn-test.true c.loop-turn.invariant in
+    first_of (search rules, grind (arith, common_steps))
+
+pub pairs-loop-turn-preserved : goal.pairs-loop-turn-preserved
+unfolding pairs_from
+pairs-loop-turn-preserved t c =
+    let e = one_more (λ n. pairs_from (operand c.args.room c.args.level) c.args.level n (map pair
+    c.loop-turn.found.items) (input_of c.loop-turn.self)) c.left-turn-end.result c.loop-turn._turn
+    c.loop-turn-test.true c.loop-turn.invariant in
+    first_of (search rules, grind (arith, common_steps), grind (arith, common_steps, map-append))
+
+pub pairs-returns : goal.pairs-returns
+unfolding pairs_from
+pairs-returns t c =
+    let e = no_more (λ n. pairs_from (operand c.args.room c.args.level) c.args.level n (map pair
+    c.loop-turn.found.items) (input_of c.loop-turn.self)) c.left-turn-end.result c.loop-turn._turn
+    c.loop-turn-test.false c.loop-turn.invariant in
+    first_of (search rules, grind (arith, common_steps))
+
+pub unary-returns-in-Some-Num : goal.unary-returns-in-Some-Num
+unary-returns-in-Some-Num t c = rw (unary-is c.args.room (input_of c.args.self.now)) (first_of (
+  search rules,
+  grind
+      (arith, common_steps),
+  search (rules, the_lemmas),
+  grind (arith, the_lemmas),
+))
+
+pub unary-returns-in_ok-known-in-Some-Name : goal.unary-returns-in_ok-known-in-Some-Name
+unary-returns-in_ok-known-in-Some-Name t c = rw (unary-is c.args.room (input_of c.args.self.now)) (first_of (
+  search
+      rules,
+  grind (arith, common_steps),
+  search (rules, the_lemmas),
+  grind (arith, the_lemmas),
+))
+
+pub unary-returns-in-Some-Key-Me : goal.unary-returns-in-Some-Key-Me
+unary-returns-in-Some-Key-Me t c = rw (unary-is c.args.room (input_of c.args.self.now)) (first_of (
+  search rules,
+  grind
+      (arith, common_steps),
+  search (rules, the_lemmas),
+  grind (arith, the_lemmas),
+))
+
+pub unary-returns-in_ok-negation-in-Some-Mark-Minus : goal.unary-returns-in_ok-negation-in-Some-Mark-Minus
+unary-returns-in_ok-negation-in-Some-Mark-Minus t c = rw (unary-is c.args.room (input_of c.args.self.now)) (first_of
+    (search rules, grind (arith, common_steps), search (rules, the_lemmas), grind (arith, the_lemmas)))
+
+pub unary-returns-in_ok-expect-in-Some-Mark-ParenOpen : goal.unary-returns-in_ok-expect-in-Some-Mark-ParenOpen
+unary-returns-in_ok-expect-in-Some-Mark-ParenOpen t c = rw (unary-is c.args.room (input_of c.args.self.now)) (first_of
+    (search rules, grind (arith, common_steps), search (rules, the_lemmas), grind (arith, the_lemmas)))
+
+pub unary-returns-in_err-known-in-Some-Name : goal.unary-returns-in_err-known-in-Some-Name
+unary-returns-in_err-known-in-Some-Name t c = rw (unary-is c.args.room (input_of c.args.self.now)) (first_of (
+  search
+      rules,
+  grind (arith, common_steps),
+  search (rules, the_lemmas),
+  grind (arith, the_lemmas),
+))
+
+pub unary-returns-in_err-open-in-Some-Mark-Minus : goal.unary-returns-in_err-open-in-Some-Mark-Minus
+unary-returns-in_err-open-in-Some-Mark-Minus t c = rw (unary-is c.args.room (input_of c.args.self.now)) (first_of
+    (search rules, grind (arith, common_steps), search (rules, the_lemmas), grind (arith, the_lemmas)))
+
+pub unary-returns-in_err-x-in-Some-Mark-Minus : goal.unary-returns-in_err-x-in-Some-Mark-Minus
+unary-returns-in_err-x-in-Some-Mark-Minus t c = rw (unary-is c.args.room (input_of c.args.self.now)) (first_of (
+  search
+      rules,
+  grind (arith, common_steps),
+  search (rules, the_lemmas),
+  grind (arith, the_lemmas),
+))
+
+pub unary-returns-in_err-open-in-Some-Mark-ParenOpen : goal.unary-returns-in_err-open-in-Some-Mark-ParenOpen
+unary-returns-in_err-open-in-Some-Mark-ParenOpen t c = rw (unary-is c.args.room (input_of c.args.self.now)) (first_of
+    (search rules, grind (arith, common_steps), search (rules, the_lemmas), grind (arith, the_lemmas)))
+
+pub unary-returns-in_err-x-in-Some-Mark-ParenOpen : goal.unary-returns-in_err-x-in-Some-Mark-ParenOpen
+unary-returns-in_err-x-in-Some-Mark-ParenOpen t c = rw (unary-is c.args.room (input_of c.args.self.now)) (first_of
+    (search rules, grind (arith, common_steps), search (rules, the_lemmas), grind (arith, the_lemmas)))
+
+pub unary-returns-in_err-expect-in-Some-Mark-ParenOpen : goal.unary-returns-in_err-expect-in-Some-Mark-ParenOpen
+unary-returns-in_err-expect-in-Some-Mark-ParenOpen t c = rw (unary-is c.args.room (input_of c.args.self.now))
+    (first_of (search rules, grind (arith, common_steps), search (rules, the_lemmas), grind (arith, the_lemmas)))
+
+pub unary-returns-in_default : goal.unary-returns-in_default
+unary-returns-in_default t c = rw (c.refuse.ensures, unary-is c.args.room (input_of c.args.self.now)) (first_of
+    (search rules, grind (arith, common_steps), search (rules, the_lemmas), grind (arith, the_lemmas)))

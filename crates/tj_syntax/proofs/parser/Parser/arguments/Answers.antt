@@ -1,0 +1,45 @@
+-- The loop over the arguments reads what is left.
+use Rattle.std.proofs.Common.{rules, arith, map}
+use Rattle.std.proofs.lemmas.Grind.{common_steps}
+use Rattle.std.proofs.lemmas.List.{map-append}
+use Rattle.tj_syntax.specs.State.{input_of}
+use Rattle.tj_syntax.specs.View as view
+use Rattle.tj_syntax.specs.Reading.{separated, separated_from, argument}
+use Rattle.tj_syntax.proofs.Turns.{one_more, no_more}
+use Rattle.tj_syntax.proofs.parser.Parser.arguments.Goals as goal
+
+pub returns-then-sees : goal.returns-then-sees
+unfolding separated
+returns-then-sees c = first_of (search rules, grind (arith, common_steps))
+
+pub loop-turn-init : goal.loop-turn-init
+unfolding separated
+loop-turn-init c = first_of (search rules, grind (arith, common_steps))
+
+pub returns-in_err-argument : goal.returns-in_err-argument
+unfolding separated_from
+returns-in_err-argument c =
+    let e = one_more (λ n. separated_from (argument c.args.room) n (map view.argument c.loop-turn.found.items)
+    (input_of c.loop-turn.self)) _ c.loop-turn._turn c.loop-turn-test.true c.loop-turn.invariant in
+    first_of (search rules, grind (arith, common_steps), grind (arith, common_steps, map-append))
+
+pub returns-then-not-eat : goal.returns-then-not-eat
+unfolding separated_from
+returns-then-not-eat c =
+    let e = one_more (λ n. separated_from (argument c.args.room) n (map view.argument c.loop-turn.found.items)
+    (input_of c.loop-turn.self)) _ c.loop-turn._turn c.loop-turn-test.true c.loop-turn.invariant in
+    first_of (search rules, grind (arith, common_steps), grind (arith, common_steps, map-append))
+
+pub loop-turn-preserved : goal.loop-turn-preserved
+unfolding separated_from
+loop-turn-preserved c =
+    let e = one_more (λ n. separated_from (argument c.args.room) n (map view.argument c.loop-turn.found.items)
+    (input_of c.loop-turn.self)) _ c.loop-turn._turn c.loop-turn-test.true c.loop-turn.invariant in
+    first_of (search rules, grind (arith, common_steps), grind (arith, common_steps, map-append))
+
+pub returns : goal.returns
+unfolding separated_from
+returns c =
+    let e = no_more (λ n. separated_from (argument c.args.room) n (map view.argument c.loop-turn.found.items)
+    (input_of c.loop-turn.self)) _ c.loop-turn._turn c.loop-turn-test.false c.loop-turn.invariant in
+    first_of (search rules, grind (arith, common_steps))

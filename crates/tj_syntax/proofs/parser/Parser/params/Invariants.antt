@@ -1,0 +1,8 @@
+use Rattle.std.proofs.Common.{◌≡◌, ◌-◌}
+use Rattle.tj_syntax.specs.State.{input_of}
+use Rattle.tj_syntax.specs.Reading as reading
+use Rattle.tj_syntax.proofs.parser.Parser.params.Given as goal
+
+abbrev pub invariant-loop-turn : goal.invariant-loop-turn
+invariant-loop-turn l = reading.params (input_of l.fn.self) ≡ reading.params_from (l._turn-end - l._turn) (input_of
+    l.self)

@@ -1,0 +1,79 @@
+-- The loop over the tasks reads what is left.
+use Rattle.std.proofs.Common.{rules, arith, map}
+use Rattle.std.proofs.lemmas.Grind.{common_steps}
+use Rattle.std.proofs.lemmas.List.{map-append}
+use Rattle.tj_syntax.specs.State.{input_of}
+use Rattle.tj_syntax.specs.View as view
+use Rattle.tj_syntax.specs.Reading.{tasks, tasks_from, task}
+use Rattle.tj_syntax.proofs.Fresh.{fresh_free}
+use Rattle.tj_syntax.proofs.TaskNames.{task_name}
+use Rattle.tj_syntax.proofs.Turns.{one_more, no_more}
+use Rattle.tj_syntax.proofs.parser.Parser.tasks.Goals as goal
+
+pub loop-turn-init : goal.loop-turn-init
+unfolding tasks
+loop-turn-init c = record { reads = first_of (search rules, grind (arith, common_steps)); names = search rules }
+
+pub add-requires-clause-new : goal.add-requires-clause-new
+add-requires-clause-new c = (fresh_free 1024 _ _ _ _ c.in_ok-name.ensures).new
+
+pub add-requires-clause-few : goal.add-requires-clause-few
+add-requires-clause-few c = (fresh_free 1024 _ _ _ _ c.in_ok-name.ensures).few
+
+pub returns-then-left-eq0 : goal.returns-then-left-eq0
+unfolding tasks_from task
+returns-then-left-eq0 c =
+    let e = one_more (λ n. tasks_from n (map view.task c.loop-turn.found.items) (input_of c.loop-turn.self)) _
+    c.loop-turn._turn c.loop-turn-test.true c.loop-turn.invariant.reads in
+    let names = c.loop-turn.invariant.names in
+    first_of (search rules, grind (arith, common_steps))
+
+pub returns-in_err-task_keyword : goal.returns-in_err-task_keyword
+unfolding tasks_from task
+returns-in_err-task_keyword c =
+    let e = one_more (λ n. tasks_from n (map view.task c.loop-turn.found.items) (input_of c.loop-turn.self)) _
+    c.loop-turn._turn c.loop-turn-test.true c.loop-turn.invariant.reads in
+    let names = c.loop-turn.invariant.names in
+    first_of (search rules, grind (arith, common_steps))
+
+pub returns-in_err-name : goal.returns-in_err-name
+unfolding tasks_from task
+returns-in_err-name c =
+    let e = one_more (λ n. tasks_from n (map view.task c.loop-turn.found.items) (input_of c.loop-turn.self)) _
+    c.loop-turn._turn c.loop-turn-test.true c.loop-turn.invariant.reads in
+    let names = c.loop-turn.invariant.names in
+    first_of (search rules, grind (arith, common_steps))
+
+pub returns-in_err-task : goal.returns-in_err-task
+unfolding tasks_from task
+returns-in_err-task c =
+    let e = one_more (λ n. tasks_from n (map view.task c.loop-turn.found.items) (input_of c.loop-turn.self)) _
+    c.loop-turn._turn c.loop-turn-test.true c.loop-turn.invariant.reads in
+    let names = c.loop-turn.invariant.names in
+    first_of (search rules, grind (arith, common_steps))
+
+pub loop-turn-preserved : goal.loop-turn-preserved
+unfolding tasks_from task
+loop-turn-preserved c =
+    let e = one_more (λ n. tasks_from n (map view.task c.loop-turn.found.items) (input_of c.loop-turn.self)) _
+    c.loop-turn._turn c.loop-turn-test.true c.loop-turn.invariant.reads in
+    let names = c.loop-turn.invariant.names in
+    let named = task_name _ _ _ _ c.in_ok-task.ensures in
+    record {
+      reads = first_of (search rules, grind (arith, common_steps), grind (arith, common_steps, map-append));
+      names = first_of (search rules, grind (arith, common_steps), grind (arith, common_steps, map-append));
+    }
+
+pub returns-then-left-eq0-2 : goal.returns-then-left-eq0-2
+unfolding tasks_from
+returns-then-left-eq0-2 c =
+    let e = no_more (λ n. tasks_from n (map view.task c.loop-turn.found.items) (input_of c.loop-turn.self)) _
+    c.loop-turn._turn c.loop-turn-test.false c.loop-turn.invariant.reads in
+    first_of (search rules, grind (arith, common_steps))
+
+pub returns-else-left-eq0-2 : goal.returns-else-left-eq0-2
+unfolding tasks_from
+returns-else-left-eq0-2 c =
+    let e = no_more (λ n. tasks_from n (map view.task c.loop-turn.found.items) (input_of c.loop-turn.self)) _
+    c.loop-turn._turn c.loop-turn-test.false c.loop-turn.invariant.reads in
+    first_of (search rules, grind (arith, common_steps))

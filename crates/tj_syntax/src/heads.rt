@@ -1,0 +1,26 @@
+//! The heads of a script's tasks, which are read before the script is, so that a fork finds a task
+//! that is declared later.
+ghost use Rattle.std.specs.Prelude.{◌≡◌, ◌≤◌, length, map};
+
+use crate::names::Names;
+use tj_lex::Word;
+
+/// The most tasks of a script.
+pub(crate) const MAX_TASKS: usize = 1024;
+
+/// A task's name, the number of its parameters, and how many tokens are left from its name on.
+#[derive(Clone, Copy)]
+pub(crate) struct Head<'t> {
+    pub name: &'t Word,
+    pub params: usize,
+    pub left: usize,
+}
+
+/// The heads of the tasks, the first of each name, in the order of the text.
+#[derive(Drop)]
+pub(crate) struct Heads<'t> {
+    pub names: Names<'t>,
+    pub list: Vec<Head<'t>>,
+    ghost named: { names ≡ map (λ h. h.name.now) list.items },
+    ghost few: { length names ≤ 1024 },
+}

@@ -1,0 +1,81 @@
+//! Names by their numbers, in the order in which they were declared.
+ghost use Rattle.std.specs.Prelude.{◌≡◌, ◌<◌, ◌≤◌, [], ◌∷◌, ◌++◌, OnOk, OnErr, IfErr, length, None};
+ghost use Rattle.tj_syntax.specs.Marks.{place};
+
+use crate::fault::Stop;
+use std::alloc::Global;
+use std::collections::BTreeMap;
+use std::marker::Model;
+use tj_lex::Word;
+
+/// Names, each with its number.
+#[derive(Drop)]
+pub(crate) struct Names<'t> {
+    list: Vec<Word>,
+    numbers: BTreeMap<&'t [u8], u32>,
+}
+
+impl<'t> Model for Names<'t> {
+    ghost use Rattle.std.specs.Prelude.{ℕ, List};
+
+    ghost Value = { List (List ℕ) };
+
+    ghost use Rattle.tj_syntax.specs.Index.{IsInStep};
+
+    ghost view = { λ names. names.list.items };
+
+    ghost invariant = { λ names. IsInStep names.list.items names.numbers };
+}
+
+impl<'t> Names<'t> {
+    /// No names.
+    pub(crate) fn new(alloc: Global) -> Names<'t>
+        ensures { result ≡ [] }
+    {
+        Names {
+            list: Vec::new(alloc),
+            numbers: BTreeMap::new(alloc),
+        }
+    }
+
+    pub(crate) fn len(&self) -> usize
+        ensures value { result ≡ length self.now }
+        ensures small { result ≤ 1024 }
+    {
+        self.list.len()
+    }
+
+    /// The number of a name.
+    pub(crate) fn number_of(&self, name: &[u8]) -> Option<u32>
+        ensures { result ≡ place self.now name.now }
+    {
+        self.numbers.get(name).copied()
+    }
+
+    /// Adds a name that isn't there yet.
+    pub(crate) fn add(&mut self, alloc: Global, name: &'t Word) -> Result<(), Stop>
+        requires new { place self.old name.now ≡ None }
+        requires few { length self.old < 1024 }
+        ensures ok { OnOk result (self.new ≡ self.old ++ name.now ∷ []) }
+        ensures err { IfErr result (λ stop. stop ≡ Stop.Oom) }
+        ensures kept { OnErr result (self.new ≡ self.old) }
+    {
+        let number = self.list.len() as u32;
+        self.list
+            .push(Word::of(Vec::from_slice(alloc, name.bytes())?))?;
+        match self.numbers.insert(name.bytes(), number) {
+            Ok(_) => Ok(()),
+            Err(_) => {
+                self.list.pop();
+                Err(Stop::Oom)
+            }
+        }
+    }
+
+    /// The names in their order.
+    pub(crate) fn into_vec(self) -> Vec<Word>
+        ensures { result.items ≡ self.entry }
+    {
+        self.list
+    }
+}

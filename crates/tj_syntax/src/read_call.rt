@@ -1,0 +1,165 @@
+//! Reading asks: forks with their arguments, gets and joins.
+ghost use Rattle.std.specs.Prelude.{◌≡◌, map};
+ghost use Rattle.std.specs.Option.{option_map};
+ghost use Rattle.tj_syntax.specs.State.{input_of};
+ghost use Rattle.tj_syntax.specs.View as view;
+ghost use Rattle.tj_syntax.specs.Input as spec;
+ghost use Rattle.tj_syntax.specs.Input.{Reads};
+ghost use Rattle.tj_syntax.specs.Reading as reading;
+
+use crate::expr::{Expr, RefOf};
+use crate::fault::Stop;
+use crate::parser::Parser;
+use crate::stmt::{Arg, Call, Rhs};
+use tj_lex::{Key, Mark, Tok, Word};
+
+impl<'t> Parser<'t> {
+    /// An ask or an expression.
+    #[tactic(auto, unfolding(crate::specs::Reading::given))]
+    pub(crate) fn given(&mut self, room: u32) -> Result<Rhs, Stop>
+        ensures { Reads view.given (reading.given room (input_of self.old))
+            result (input_of self.new) }
+    {
+        match self.peek() {
+            Some(Tok::Key(Key::New | Key::Fork | Key::Get | Key::Join)) => {
+                Ok(Rhs::Call(self.request(room)?))
+            }
+            _ => Ok(Rhs::Expr(self.expression(room)?)),
+        }
+    }
+
+    /// An ask.
+    #[tactic(auto, unfolding(crate::specs::Reading::request))]
+    pub(crate) fn request(&mut self, room: u32) -> Result<Call, Stop>
+        ensures { Reads view.request (reading.request room (input_of self.old))
+            result (input_of self.new) }
+    {
+        match self.peek() {
+            Some(Tok::Key(Key::New)) => {
+                self.skip();
+                Ok(Call::New)
+            }
+            Some(Tok::Key(Key::Fork)) => {
+                self.skip();
+                self.fork(room)
+            }
+            Some(Tok::Key(Key::Get)) => {
+                self.skip();
+                let (r, other) = self.asked(room)?;
+                Ok(Call::Get(r, other))
+            }
+            Some(Tok::Key(Key::Join)) => {
+                self.skip();
+                let (r, other) = self.asked(room)?;
+                Ok(Call::Join(r, other))
+            }
+            _ => Err(self.refuse()),
+        }
+    }
+
+    /// A fork, behind its keyword.
+    #[tactic(auto, unfolding(crate::specs::Reading::fork))]
+    fn fork(&mut self, room: u32) -> Result<Call, Stop>
+        ensures { Reads view.request (reading.fork room (input_of self.old))
+            result (input_of self.new) }
+    {
+        let (name, left) = self.forked()?;
+        self.expect(Mark::ParenOpen)?;
+        let args = self.arguments(room)?;
+        self.expect(Mark::ParenClose)?;
+        let task = self.note_fork(name, left, args.len());
+        Ok(Call::Fork(task, args))
+    }
+
+    /// The name of a forked task, and how many tokens are left from it on.
+    #[tactic(auto, unfolding(crate::specs::Reading::forked))]
+    fn forked(&mut self) -> Result<(&'t Word, usize), Stop>
+        ensures { Reads (λ f. (f.0.now, f.1)) (reading.forked (input_of self.old))
+            result (input_of self.new) }
+    {
+        match self.peek() {
+            Some(Tok::Name(name)) => {
+                let left = self.left();
+                self.skip();
+                Ok((name, left))
+            }
+            _ => Err(self.refuse()),
+        }
+    }
+
+    /// Arguments with commas between them, up to the closing parenthesis.
+    fn arguments(&mut self, room: u32) -> Result<Vec<Arg>, Stop>
+        ensures { Reads (λ found. map view.argument found.items)
+            (reading.separated (reading.argument room) (input_of self.old))
+            result (input_of self.new) }
+    {
+        let mut found = Vec::new(self.alloc);
+        if self.sees(Mark::ParenClose) {
+            return Ok(found);
+        }
+        for _turn in 0..self.left() {
+            found.push(self.argument(room)?)?;
+            if !self.eat(Mark::Comma) {
+                return Ok(found);
+            }
+        }
+        Err(self.refuse())
+    }
+
+    /// A variable that is handed on, or an expression.
+    #[tactic(auto, unfolding(crate::specs::Reading::argument))]
+    fn argument(&mut self, room: u32) -> Result<Arg, Stop>
+        ensures { Reads view.argument (reading.argument room (input_of self.old))
+            result (input_of self.new) }
+    {
+        match self.peek() {
+            Some(Tok::Key(Key::Own)) => {
+                self.skip();
+                Ok(Arg::Own(self.variable()?))
+            }
+            _ => Ok(Arg::Expr(self.expression(room)?)),
+        }
+    }
+
+    /// The reference of a get or a join, with what is computed where the cell is broken.
+    #[tactic(auto, unfolding(crate::specs::Reading::asked))]
+    fn asked(&mut self, room: u32) -> Result<(RefOf, Option<Expr>), Stop>
+        ensures { Reads (λ a. (a.0, option_map view.expression a.1))
+            (reading.asked room (input_of self.old)) result (input_of self.new) }
+    {
+        let r = self.reference()?;
+        let other = self.alternative(room)?;
+        Ok((r, other))
+    }
+
+    /// A variable or `me`.
+    #[tactic(auto, unfolding(crate::specs::Reading::reference))]
+    fn reference(&mut self) -> Result<RefOf, Stop>
+        ensures { Reads (λ r. r) (reading.reference (input_of self.old))
+            result (input_of self.new) }
+    {
+        match self.peek() {
+            Some(Tok::Name(name)) => Ok(RefOf::Var(self.known(name)?)),
+            Some(Tok::Key(Key::Me)) => {
+                self.skip();
+                Ok(RefOf::Me)
+            }
+            _ => Err(self.refuse()),
+        }
+    }
+
+    /// What is computed where the cell is broken, if anything is.
+    #[tactic(auto, unfolding(crate::specs::Reading::alternative))]
+    fn alternative(&mut self, room: u32) -> Result<Option<Expr>, Stop>
+        ensures { Reads (option_map view.expression)
+            (reading.alternative room (input_of self.old)) result (input_of self.new) }
+    {
+        match self.peek() {
+            Some(Tok::Key(Key::Or)) => {
+                self.skip();
+                Ok(Some(self.expression(room)?))
+            }
+            _ => Ok(None),
+        }
+    }
+}
