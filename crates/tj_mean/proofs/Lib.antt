@@ -1,0 +1,4 @@
+pub mod OwnedNames
+pub mod RoundSteps
+pub mod Told
+pub mod ToldOutcomes

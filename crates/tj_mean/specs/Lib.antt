@@ -1,0 +1,4 @@
+pub mod Assignments
+pub mod Exceeds
+pub mod KeptRounds
+pub mod Outcomes

@@ -1,0 +1,311 @@
+//! What each ask makes of a point of a task's history.
+ghost use Rattle.std.specs.Prelude.{ℕ, ◌≡◌, ◌<◌, ◌≤◌, ◌^◌, ◌∷◌, [], ◌++◌, length, map, false, IfOk};
+ghost use Rattle.tj_body.specs.Asks.{IsPaid, IsPlaced};
+ghost use Rattle.std.specs.List.{AllByRecursion};
+ghost use Rattle.tj_body.specs.History as history;
+
+use crate::owned_names::{place_of, sorted};
+use std::alloc::Global;
+use std::mem::replace;
+use tj_base::{Cause, Items, Name, NameList, Oom, Pay, PlaceList, Sort, Trouble, path_before};
+use tj_body::{
+    Answer, Ask, Body, Close, Entry, EntryList, Point, PointStage, Reference, ReferenceList, Task,
+    Value,
+};
+
+/// An equal reference.
+pub fn copy_reference(alloc: Global, r: &Reference) -> Result<Reference, Oom>
+    ensures { IfOk result (λ copy. copy ≡ r.now) }
+{
+    Ok(Reference {
+        sort: r.sort,
+        name: r.name.copy(alloc)?,
+    })
+}
+
+/// The value that a body gives.
+fn value_at<B: Body>(alloc: Global, p: &Point<B>, v: Pay) -> Result<Value, Oom>
+    requires { IsPaid (length p.now.references) v }
+    ensures { IfOk result (λ value. value ≡ history.value_at p.now.name p.now.references v) }
+{
+    match v {
+        Pay::Num(i) => Ok(Value::Num(i)),
+        Pay::Ref(k) => {
+            let reference = &p.references.items()[k as usize];
+            Ok(Value::Ref(copy_reference(alloc, reference)?))
+        }
+    }
+}
+
+/// The task makes a promise, and owns it.
+fn make<B: Body>(alloc: Global, p: &mut Point<B>) -> Result<(), Oom>
+    requires room { length p.old.references < 2 ^ 31 }
+    requires few { p.old.made < 2 ^ 31 }
+    ensures { IfOk result (λ _. p.new ≡ history.after_new p.old) }
+{
+    let place = p.references.items().len() as u32;
+    p.made += 1;
+    let name = p.name.child(alloc, p.made)?;
+    let reference = Reference {
+        sort: Sort::Promise,
+        name: name.copy(alloc)?,
+    };
+    p.references.push(reference)?;
+    p.holds.push(name.copy(alloc)?)?;
+    p.promises.push(name)?;
+    p.stage = PointStage::Answered(Answer::Local(place));
+    Ok(())
+}
+
+/// The task ends.
+fn end<B: Body>(alloc: Global, p: &mut Point<B>, close: Close, became: Entry) -> Result<(), Oom>
+    ensures { IfOk result (λ _. p.new ≡ history.after_close close became p.old) }
+{
+    let owed = sorted(alloc, replace(&mut p.holds, Items::of(Vec::new(alloc))))?;
+    p.writes.push((p.name.copy(alloc)?, became))?;
+    break_all(alloc, &mut p.writes, owed.items())?;
+    p.owed = owed;
+    p.stage = PointStage::Closed(close);
+    Ok(())
+}
+
+/// Adds that each of these cells is broken.
+fn break_all(alloc: Global, writes: &mut EntryList, owed: &[Name]) -> Result<(), Oom>
+    ensures { IfOk result (λ _. writes.new ≡ writes.old ++ map (history.with_entry Entry.Broken) owed.now) }
+{
+    for name in owed {
+        writes.push((name.copy(alloc)?, Entry::Broken))?;
+    }
+    Ok(())
+}
+
+/// The task fails.
+pub fn fail<B: Body>(alloc: Global, p: &mut Point<B>, cause: Cause) -> Result<(), Oom>
+    ensures { IfOk result (λ _. p.new ≡ history.after_failure cause p.old) }
+{
+    end(alloc, p, Close::Failed(cause), Entry::Broken)
+}
+
+/// Forks a child with these references and promises, of which `left` is what the task keeps.
+fn fork<B: Body>(
+    alloc: Global,
+    p: &mut Point<B>,
+    body: B,
+    passed: ReferenceList,
+    handed: NameList,
+    left: NameList,
+) -> Result<(), Oom>
+    requires room { length p.old.references < 2 ^ 31 }
+    requires few { p.old.made < 2 ^ 31 }
+    ensures { IfOk result (λ _. p.new ≡ history.after_fork body passed handed left p.old) }
+{
+    let place = p.references.items().len() as u32;
+    p.made += 1;
+    let name = p.name.child(alloc, p.made)?;
+    let reference = Reference {
+        sort: Sort::Task,
+        name: name.copy(alloc)?,
+    };
+    p.references.push(reference)?;
+    p.holds = left;
+    let child = Task {
+        name,
+        body,
+        passed,
+        handed,
+    };
+    p.children.push(child)?;
+    p.stage = PointStage::Answered(Answer::Local(place));
+    Ok(())
+}
+
+/// The references with these places.
+fn references_at<B: Body>(
+    alloc: Global,
+    p: &Point<B>,
+    places: &[u32],
+) -> Result<Vec<Reference>, Oom>
+    requires { AllByRecursion (λ k. k < length p.now.references) places.now }
+    ensures { IfOk result (λ found. found.items ≡ map (history.reference p.now) places.now) }
+{
+    let references = p.references.items();
+    let mut found = Vec::new(alloc);
+    for place in places {
+        found.push(copy_reference(alloc, &references[*place as usize])?)?;
+    }
+    Ok(found)
+}
+
+/// The names of the references with these places.
+fn names_at<B: Body>(alloc: Global, p: &Point<B>, places: &[u32]) -> Result<NameList, Oom>
+    requires { AllByRecursion (λ k. k < length p.now.references) places.now }
+    ensures { IfOk result (λ names. names ≡ map (λ k. (history.reference p.now k).name) places.now) }
+{
+    let references = p.references.items();
+    let mut names = Vec::new(alloc);
+    for place in places {
+        names.push(references[*place as usize].name.copy(alloc)?)?;
+    }
+    Ok(Items::of(names))
+}
+
+/// What is left of the promises held when these are handed from the left, or why that fails.
+fn hand_all(
+    alloc: Global,
+    holds: &[Name],
+    handed: &[Reference],
+) -> Result<Result<NameList, Cause>, Oom>
+    ensures { IfOk result (λ left. left ≡ history.hand_all holds.now handed.now) }
+{
+    let mut left = copy_names(alloc, holds)?;
+    for reference in handed {
+        if let Sort::Task = reference.sort {
+            return Ok(Err(Cause::Kind));
+        }
+        match place_of(left.as_slice(), &reference.name) {
+            None => return Ok(Err(Cause::Owner(reference.name.copy(alloc)?))),
+            Some(at) => drop(left.remove(at)),
+        }
+    }
+    Ok(Ok(Items::of(left)))
+}
+
+/// Equal names.
+fn copy_names(alloc: Global, names: &[Name]) -> Result<Vec<Name>, Oom>
+    ensures { IfOk result (λ copy. copy.items ≡ names.now) }
+{
+    let mut copy = Vec::new(alloc);
+    for name in names {
+        copy.push(name.copy(alloc)?)?;
+    }
+    Ok(copy)
+}
+
+/// What a Fork makes of the point.
+fn try_fork<B: Body>(
+    alloc: Global,
+    p: &mut Point<B>,
+    body: B,
+    pass: &PlaceList,
+    hand: &PlaceList,
+) -> Result<(), Oom>
+    requires pass { AllByRecursion (λ k. k < length p.old.references) pass.now }
+    requires hand { AllByRecursion (λ k. k < length p.old.references) hand.now }
+    requires room { length p.old.references < 2 ^ 31 }
+    requires few { p.old.made < 2 ^ 31 }
+    ensures { let ask = Ask.Fork body pass.now hand.now in
+        IfOk result (λ _. p.new ≡ history.after_ask false ask p.old) }
+{
+    let handed = references_at(alloc, p, hand.items())?;
+    match hand_all(alloc, p.holds.items(), handed.as_slice())? {
+        Err(cause) => fail(alloc, p, cause),
+        Ok(left) => {
+            let passed = Items::of(references_at(alloc, p, pass.items())?);
+            let names = names_at(alloc, p, hand.items())?;
+            fork(alloc, p, body, passed, names, left)
+        }
+    }
+}
+
+/// What a Set makes of the point.
+fn set<B: Body>(alloc: Global, p: &mut Point<B>, k: u32, v: Pay) -> Result<(), Oom>
+    requires place { k < length p.old.references }
+    requires value { IsPaid (length p.old.references) v }
+    ensures { IfOk result (λ _. p.new ≡ history.after_ask false (Ask.Set k v) p.old) }
+{
+    let reference = copy_reference(alloc, &p.references.items()[k as usize])?;
+    if let Sort::Task = reference.sort {
+        return fail(alloc, p, Cause::Kind);
+    }
+    let Some(at) = place_of(p.holds.items(), &reference.name) else {
+        return fail(alloc, p, Cause::Owner(reference.name));
+    };
+    let value = value_at(alloc, p, v)?;
+    let mut holds = replace(&mut p.holds, Items::of(Vec::new(alloc))).into_vec();
+    drop(holds.remove(at));
+    p.holds = Items::of(holds);
+    p.writes.push((reference.name, Entry::Value(value)))?;
+    p.stage = PointStage::Answered(Answer::Done);
+    Ok(())
+}
+
+/// What a Get or a GetOr makes of the point.
+fn get<B: Body>(alloc: Global, p: &mut Point<B>, spare: bool, k: u32) -> Result<(), Oom>
+    requires { k < length p.old.references }
+    ensures { let asked = history.reference p.old k in
+        IfOk result (λ _. p.new ≡ history.after_get spare asked.sort asked.name p.old) }
+{
+    let Reference { sort, name } = copy_reference(alloc, &p.references.items()[k as usize])?;
+    match sort {
+        Sort::Task => fail(alloc, p, Cause::Kind),
+        Sort::Promise => {
+            p.stage = PointStage::Waits { cell: name, spare };
+            Ok(())
+        }
+    }
+}
+
+/// What a Join or a JoinOr makes of the point.
+fn join<B: Body>(
+    alloc: Global,
+    p: &mut Point<B>,
+    strict: bool,
+    spare: bool,
+    k: u32,
+) -> Result<(), Oom>
+    requires { k < length p.old.references }
+    ensures { let asked = history.reference p.old k in
+        IfOk result (λ _. p.new ≡ history.after_join strict spare asked.sort asked.name p.old) }
+{
+    let Reference { sort, name } = copy_reference(alloc, &p.references.items()[k as usize])?;
+    match sort {
+        Sort::Promise => fail(alloc, p, Cause::Kind),
+        Sort::Task => {
+            if strict && !path_before(&p.name, &name) {
+                return fail(alloc, p, Cause::Order(name));
+            }
+            p.stage = PointStage::Waits { cell: name, spare };
+            Ok(())
+        }
+    }
+}
+
+/// What the ask makes of the point.
+pub fn take<B: Body>(alloc: Global, p: &mut Point<B>, ask: Ask<B>, strict: bool) -> Result<(), Oom>
+    requires placed { IsPlaced B.places B.awaits B.left (length p.old.references) ask }
+    requires room { length p.old.references < 2 ^ 31 }
+    requires few { p.old.made < 2 ^ 31 }
+    ensures { IfOk result (λ _. p.new ≡ history.after_ask strict ask p.old) }
+{
+    match ask {
+        Ask::New => make(alloc, p),
+        Ask::Fork { body, pass, hand } => try_fork(alloc, p, body, &pass, &hand),
+        Ask::Set { p: k, v } => set(alloc, p, k, v),
+        Ask::Get { p: k } => get(alloc, p, false, k),
+        Ask::Join { t: k } => join(alloc, p, strict, false, k),
+        Ask::GetOr { p: k } => get(alloc, p, true, k),
+        Ask::JoinOr { t: k } => join(alloc, p, strict, true, k),
+        Ask::Emit(i) => {
+            p.prints.push(i)?;
+            p.stage = PointStage::Answered(Answer::Done);
+            Ok(())
+        }
+        Ask::End(v) => {
+            let value = value_at(alloc, p, v)?;
+            let became = value_at(alloc, p, v)?;
+            end(alloc, p, Close::Done(value), Entry::Value(became))
+        }
+        Ask::Fail(trouble) => fail(alloc, p, cause_of(trouble)),
+    }
+}
+
+/// Why a task fails whose body finds this fault.
+fn cause_of(trouble: Trouble) -> Cause
+    ensures { result ≡ history.cause_of trouble }
+{
+    match trouble {
+        Trouble::Arith => Cause::Arith,
+        Trouble::Kind => Cause::Kind,
+        Trouble::Steps => Cause::Steps,
+    }
+}

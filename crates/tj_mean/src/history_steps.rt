@@ -1,0 +1,133 @@
+//! One task's history, computed step by step, under an assignment that is kept in an ordered map.
+ghost use Rattle.std.specs.Prelude.{◌≡◌, ◌<◌, ◌≤◌, ◌^◌, suc, length, map, IfOk, IfErr, IsTrue, IsFalse};
+ghost use Rattle.tj_body.specs.Points.{IsGoodAt, IsProper, weight};
+ghost use Rattle.tj_body.specs.History as history;
+ghost use Rattle.tj_mean.specs.Assignments.{assignment_in};
+ghost use Rattle.tj_mean.specs.Exceeds.{ExceedsAtPoint};
+
+use crate::ask_steps::{copy_reference, fail, take};
+use crate::outcome::PlanFault;
+use std::alloc::Global;
+use std::collections::BTreeMap;
+use tj_base::{Cause, Items, Name, Oom, Sort};
+use tj_body::{Answer, Body, Entry, Point, PointStage, Reference, Task, Value};
+
+/// Answers the wait for the cell, of which this became.
+fn read<B: Body>(
+    alloc: Global,
+    p: &mut Point<B>,
+    spare: bool,
+    cell: Name,
+    became: &Entry,
+) -> Result<(), Oom>
+    requires room { length p.old.references < 2 ^ 31 }
+    ensures { IfOk result (λ _. p.new ≡ history.after_read spare cell became.now p.old) }
+{
+    match became {
+        Entry::Broken => {
+            if spare {
+                p.stage = PointStage::Answered(Answer::Lost);
+                return Ok(());
+            }
+            fail(alloc, p, Cause::Broken(cell))
+        }
+        Entry::Value(Value::Num(i)) => {
+            p.stage = PointStage::Answered(Answer::Num(*i));
+            Ok(())
+        }
+        Entry::Value(Value::Ref(reference)) => {
+            let place = p.references.items().len() as u32;
+            p.references.push(copy_reference(alloc, reference)?)?;
+            p.stage = PointStage::Answered(Answer::RefAt(place));
+            Ok(())
+        }
+    }
+}
+
+/// One ask more, or one answer more. False: the task has ended, or it waits on.
+fn advance<B: Body>(
+    alloc: Global,
+    p: &mut Point<B>,
+    given: &BTreeMap<Name, Entry>,
+    strict: bool,
+) -> Result<bool, Oom>
+    requires good { IsGoodAt B.places B.awaits B.left p.old.stage p.old }
+    requires made { suc p.old.made ≤ length p.old.references }
+    ensures step { let V = assignment_in given.now in
+        IfOk result (λ _. p.new ≡ history.after_step strict B.asks B.then V p.old) }
+    ensures stays { IfOk result (λ more. IsFalse more → p.new ≡ p.old) }
+    ensures falls { IfOk result (λ more. IsTrue more → weight B.left p.new < weight B.left p.old) }
+{
+    match &p.stage {
+        PointStage::Closed(_) => Ok(false),
+        PointStage::Answered(answer) => {
+            let answer = *answer;
+            let ask = p.body.next(alloc, answer)?;
+            take(alloc, p, ask, strict)?;
+            Ok(true)
+        }
+        PointStage::Waits { cell, spare } => match given.get(cell) {
+            None => Ok(false),
+            Some(became) => {
+                let spare = *spare;
+                let cell = cell.copy(alloc)?;
+                read(alloc, p, spare, cell, became)?;
+                Ok(true)
+            }
+        },
+    }
+}
+
+/// Where the task begins.
+fn start<B: Body>(alloc: Global, task: Task<B>) -> Result<Point<B>, Oom>
+    ensures { IfOk result (λ p. p ≡ history.start task) }
+{
+    let mut references = Vec::new(alloc);
+    references.push(Reference {
+        sort: Sort::Task,
+        name: task.name.copy(alloc)?,
+    })?;
+    references.append(&mut task.passed.into_vec())?;
+    Ok(Point {
+        name: task.name,
+        body: task.body,
+        stage: PointStage::Answered(Answer::Start),
+        references: Items::of(references),
+        holds: task.handed,
+        made: 0,
+        promises: Items::of(Vec::new(alloc)),
+        children: Items::of(Vec::new(alloc)),
+        writes: Items::of(Vec::new(alloc)),
+        prints: Items::of(Vec::new(alloc)),
+        owed: Items::of(Vec::new(alloc)),
+    })
+}
+
+/// The history of the task, or `Full` where at one of its points it has made `cells` things, or
+/// `room` promises.
+pub fn history<B: Body>(
+    alloc: Global,
+    task: Task<B>,
+    given: &BTreeMap<Name, Entry>,
+    strict: bool,
+    cells: u32,
+    room: u32,
+) -> Result<Point<B>, PlanFault>
+    requires proper { IsProper B.places B.awaits B.left task }
+    requires some_room { 0 < room }
+    ensures ok { let V = assignment_in given.now in
+        IfOk result (λ p. p ≡ history.history strict B.asks B.then B.left V task) }
+    ensures fits { IfOk result (λ p. length p.promises < room) }
+    ensures full { let V = assignment_in given.now in
+        IfErr result (λ e. e ≡ PlanFault.Full → ExceedsAtPoint strict B.asks B.then V task cells room) }
+{
+    let mut p = start(alloc, task)?;
+    loop {
+        if !advance(alloc, &mut p, given, strict)? {
+            return Ok(p);
+        }
+        if p.made >= cells || p.promises.items().len() >= room as usize {
+            return Err(PlanFault::Full);
+        }
+    }
+}

@@ -1,0 +1,198 @@
+//! The report of an outcome: lines for each task in turn, a line for each cycle, and a last line.
+//! Each function adds its part to the text.
+ghost use Rattle.std.specs.Prelude.{◌≡◌, ◌++◌, codes, IfOk};
+ghost use Rattle.std.specs.Fmt.{signed_decimal};
+ghost use Rattle.std.specs.List.{flat_map, join_by};
+ghost use Rattle.tj_base.specs.Texts.{name_text};
+ghost use Rattle.tj_report.specs.ReportTexts.{shown_text, cause_text, ending_text, print_line};
+ghost use Rattle.tj_report.specs.ReportTexts.{owes_line, task_lines, link_text, alarm_line, report};
+
+use itoa::Buffer;
+use std::alloc::Global;
+use tj_base::{Cause, Name, Oom, Shown};
+use tj_mean::{Ending, Link, Outcome, TaskLine, marked};
+
+/// The report of the outcome.
+pub fn report_text(alloc: Global, o: &Outcome) -> Result<Vec<u8>, Oom>
+    ensures { IfOk result (λ text. text.items ≡ report o.now) }
+{
+    let mut text = Vec::new(alloc);
+    for line in o.lines.items() {
+        add_task(alloc, line, &mut text)?;
+    }
+    for links in o.cycles.items() {
+        add_alarm(alloc, links.items(), &mut text)?;
+    }
+    let verdict: &[u8] = if marked(o) { b"marked\n" } else { b"clean\n" };
+    text.extend_from_slice(verdict)?;
+    Ok(text)
+}
+
+/// Adds the lines of a task.
+fn add_task(alloc: Global, line: &TaskLine, text: &mut Vec<u8>) -> Result<(), Oom>
+    ensures { IfOk result (λ _. text.new.items ≡ text.old.items ++ task_lines line.now) }
+{
+    let mut name = Vec::new(alloc);
+    line.name.text_into(alloc, &mut name)?;
+    add_prints(name.as_slice(), line.prints.items(), text)?;
+    text.extend_from_slice(name.as_slice())?;
+    add_ending(alloc, &line.ending, text)?;
+    text.push(b'\n')?;
+    add_owed(alloc, name.as_slice(), line.owes.items(), text)
+}
+
+/// Adds a line for each number that the task with this printed name has printed.
+fn add_prints(name: &[u8], prints: &[i64], text: &mut Vec<u8>) -> Result<(), Oom>
+    ensures { IfOk result (λ _.
+        text.new.items ≡ text.old.items ++ flat_map (print_line name.now) prints.now) }
+{
+    for number in prints {
+        add_print(name, *number, text)?;
+    }
+    Ok(())
+}
+
+/// Adds a line for one of them.
+fn add_print(name: &[u8], number: i64, text: &mut Vec<u8>) -> Result<(), Oom>
+    ensures { IfOk result (λ _. text.new.items ≡ text.old.items ++ print_line name.now number) }
+{
+    text.extend_from_slice(name)?;
+    text.extend_from_slice(b" prints ")?;
+    add_number(number, text)?;
+    text.push(b'\n')?;
+    Ok(())
+}
+
+/// Adds a number in decimal.
+fn add_number(number: i64, text: &mut Vec<u8>) -> Result<(), Oom>
+    ensures { IfOk result (λ _. text.new.items ≡ text.old.items ++ signed_decimal number) }
+{
+    let mut buffer = Buffer::new();
+    text.extend_from_slice(buffer.format(number).as_bytes())?;
+    Ok(())
+}
+
+/// Adds what became of a task.
+fn add_ending(alloc: Global, ending: &Ending, text: &mut Vec<u8>) -> Result<(), Oom>
+    ensures { IfOk result (λ _. text.new.items ≡ text.old.items ++ ending_text ending.now) }
+{
+    match ending {
+        Ending::Done(value) => {
+            text.extend_from_slice(b" done ")?;
+            add_shown(alloc, value, text)
+        }
+        Ending::Failed(cause) => {
+            text.extend_from_slice(b" failed ")?;
+            add_cause(alloc, cause, text)
+        }
+        Ending::Waits(cell) => add_named(alloc, b" waits for ", cell, text),
+    }
+}
+
+/// Adds a value.
+fn add_shown(alloc: Global, value: &Shown, text: &mut Vec<u8>) -> Result<(), Oom>
+    ensures { IfOk result (λ _. text.new.items ≡ text.old.items ++ shown_text value.now) }
+{
+    match value {
+        Shown::Num(number) => add_number(*number, text),
+        Shown::Ref(cell) => add_named(alloc, b"@", cell, text),
+    }
+}
+
+/// Adds why a task failed.
+fn add_cause(alloc: Global, cause: &Cause, text: &mut Vec<u8>) -> Result<(), Oom>
+    ensures { IfOk result (λ _. text.new.items ≡ text.old.items ++ cause_text cause.now) }
+{
+    match cause {
+        Cause::Arith => text.extend_from_slice(b"arith")?,
+        Cause::Kind => text.extend_from_slice(b"kind")?,
+        Cause::Steps => text.extend_from_slice(b"steps")?,
+        Cause::Owner(cell) => return add_named(alloc, b"owner ", cell, text),
+        Cause::Broken(cell) => return add_named(alloc, b"broken ", cell, text),
+        Cause::Order(cell) => return add_named(alloc, b"order ", cell, text),
+    }
+    Ok(())
+}
+
+/// Adds these bytes and the name of a cell.
+fn add_named(alloc: Global, before: &[u8], cell: &Name, text: &mut Vec<u8>) -> Result<(), Oom>
+    ensures { IfOk result (λ _.
+        text.new.items ≡ text.old.items ++ (before.now ++ name_text cell.now)) }
+{
+    text.extend_from_slice(before)?;
+    cell.text_into(alloc, text)
+}
+
+/// Adds a line for what the task with this printed name owes, if it owes something.
+fn add_owed(alloc: Global, name: &[u8], owes: &[Name], text: &mut Vec<u8>) -> Result<(), Oom>
+    ensures { IfOk result (λ _. text.new.items ≡ text.old.items ++ owes_line name.now owes.now) }
+{
+    if owes.is_empty() {
+        return Ok(());
+    }
+    text.extend_from_slice(name)?;
+    text.extend_from_slice(b" owes ")?;
+    add_names(alloc, owes, text)?;
+    text.push(b'\n')?;
+    Ok(())
+}
+
+/// Adds the names of cells.
+fn add_names(alloc: Global, cells: &[Name], text: &mut Vec<u8>) -> Result<(), Oom>
+    ensures { IfOk result (λ _.
+        text.new.items ≡ text.old.items ++ join_by name_text (codes ", ") cells.now) }
+{
+    let [first, rest @ ..] = cells else {
+        return Ok(());
+    };
+    first.text_into(alloc, text)?;
+    for cell in rest {
+        add_named(alloc, b", ", cell, text)?;
+    }
+    Ok(())
+}
+
+/// Adds a line for a cycle.
+fn add_alarm(alloc: Global, links: &[Link], text: &mut Vec<u8>) -> Result<(), Oom>
+    ensures { IfOk result (λ _. text.new.items ≡ text.old.items ++ alarm_line links.now) }
+{
+    text.extend_from_slice(b"alarm ")?;
+    add_links(alloc, links, text)?;
+    text.push(b'\n')?;
+    Ok(())
+}
+
+/// Adds the parts of a cycle.
+fn add_links(alloc: Global, links: &[Link], text: &mut Vec<u8>) -> Result<(), Oom>
+    ensures { IfOk result (λ _.
+        text.new.items ≡ text.old.items ++ join_by link_text (codes ", ") links.now) }
+{
+    let [first, rest @ ..] = links else {
+        return Ok(());
+    };
+    add_link(alloc, first, text)?;
+    for link in rest {
+        add_further_link(alloc, link, text)?;
+    }
+    Ok(())
+}
+
+/// Adds a part of a cycle after another one.
+fn add_further_link(alloc: Global, link: &Link, text: &mut Vec<u8>) -> Result<(), Oom>
+    ensures { IfOk result (λ _.
+        text.new.items ≡ text.old.items ++ (codes ", " ++ link_text link.now)) }
+{
+    text.extend_from_slice(b", ")?;
+    add_link(alloc, link, text)?;
+    Ok(())
+}
+
+/// Adds one part of a cycle.
+fn add_link(alloc: Global, link: &Link, text: &mut Vec<u8>) -> Result<(), Oom>
+    ensures { IfOk result (λ _. text.new.items ≡ text.old.items ++ link_text link.now) }
+{
+    link.task.text_into(alloc, text)?;
+    text.extend_from_slice(b" waits for ")?;
+    link.cell.text_into(alloc, text)?;
+    Ok(())
+}
