@@ -13,3 +13,6 @@ pub mod Settles
 pub mod Keeps
 pub mod Rests
 pub mod Sizes
+pub mod Before
+pub mod InOrder
+pub mod WithoutGets

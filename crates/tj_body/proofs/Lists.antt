@@ -1,5 +1,5 @@
 -- Beginnings of lists, and lists with some items left out.
-use Rattle.std.proofs.Common.{◌≡◌, suc, ◌≤◌, ◌⊎◌, inl, inr, ⊎_elim, List, [], ◌∷◌, ◌++◌, length}
+use Rattle.std.proofs.Common.{◌≡◌, suc, ◌≤◌, ◌⊎◌, inl, inr, ⊎_elim, List, [], ◌∷◌, ◌++◌, map, length}
 use Rattle.std.proofs.Common.{refl, sym, ap, ◌∙◌, subst, arith, append_assoc, append-nil, length-append}
 use Rattle.std.specs.List.{flat_map}
 use Rattle.tj_body.specs.Points.{IsIn, Begins}
@@ -112,6 +112,17 @@ module _ {A C : Type 0} where
   from_flat_map f z (y ∷ ys) h =
       ⊎_elim (λ a. (y, inl refl, a)) (λ b. let r = from_flat_map f z ys b in (r.0, inr r.1, r.2))
       (in_either z (f y) (flat_map f ys) h)
+
+-- an element of a mapped list is that of some element, and the other way round
+pub in_map : {A C : Type 0} (f : A → C) (z : C) (l : List A) → IsIn z (map f l) → (x : A) × IsIn x l × (z ≡ f x)
+in_map f z [] i = absurd i
+in_map f z (x ∷ xs) (inl e) = (x, inl refl, e)
+in_map f z (x ∷ xs) (inr i) = let r = in_map f z xs i in (r.0, inr r.1, r.2)
+
+pub to_map : {A C : Type 0} (f : A → C) (x : A) (l : List A) → IsIn x l → IsIn (f x) (map f l)
+to_map f x [] i = absurd i
+to_map f x (y ∷ ys) (inl e) = inl (ap f e)
+to_map f x (y ∷ ys) (inr i) = inr (to_map f x ys i)
 
 -- where all lists together didn't grow, none did, and what holds of a list that didn't grow holds of all of them
 module _ {A C : Type 0} (f g h : A → List C) (grown : (x : A) → Sub (f x) (g x))

@@ -6,3 +6,4 @@ pub mod Points
 pub mod Laws
 pub mod Table
 pub mod TableLaws
+pub mod NeverWaits

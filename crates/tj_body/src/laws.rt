@@ -5,6 +5,9 @@ ghost use Rattle.tj_body.specs.Laws.{IsMonotone, AsksOn, IsAllGood, Grows, IsApa
 ghost use Rattle.tj_body.specs.Laws.{OwnsApart, CountsInRound, CountsMade};
 ghost use Rattle.tj_body.specs.Laws.{IsSettledWhereSame, IsSettledBySize, IsFullExactly};
 ghost use Rattle.tj_body.specs.Laws.{IsFullWhere, IsLast, ReadsOn, IsKept, RestsAtMeaning};
+ghost use Rattle.tj_body.specs.Laws.{IsRoot};
+ghost use Rattle.tj_body.specs.NeverWaits.{JoinsInOrderEnd, StrictWithoutGetEnds};
+ghost use Rattle.tj_body.specs.declared.point.Task.{Task};
 
 use crate::body::Body;
 
@@ -102,4 +105,15 @@ pub fn point_counts_made<B: Body>()
 /// What stands at rest, with at most N cells, is the meaning with limit N.
 pub fn rest_is_meaning<B: Body>()
     ensures { HoldsOfPrograms B.places B.awaits B.left (RestsAtMeaning B.asks B.then B.left) }
+{}
+
+/// Where tasks wait in the fork order for tasks of the meaning, none waits.
+pub fn joins_in_order_never_wait<B: Body>()
+    ensures { HoldsOfPrograms B.places B.awaits B.left (JoinsInOrderEnd B.asks B.then B.left) }
+{}
+
+/// Under the strict rule no task of a program without gets waits.
+pub fn strict_without_get_never_waits<B: Body>()
+    ensures { (root : Task B) → IsRoot B.places B.awaits B.left root
+        → StrictWithoutGetEnds B.places B.awaits B.asks B.then B.left root }
 {}

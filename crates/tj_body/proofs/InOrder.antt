@@ -1,0 +1,208 @@
+-- Tasks that wait in the fork order for tasks of a meaning: none waits.
+use Rattle.std.proofs.Common.{◌≡◌, ℕ, zero, suc, ◌+◌, ◌*◌, ◌<◌, ◌≤◌, Bool, true, false, not, ◌&&◌, inl, inr, ⊎_elim}
+use Rattle.std.proofs.Common.{List, [], ◌∷◌, ◌++◌, map, Option, Some, None, Result, Ok, Err, cond, refl, sym, ap}
+use Rattle.std.proofs.Common.{◌∙◌, subst, arith}
+use Rattle.tj_base.specs.ForkOrder.{Name, before}
+use Rattle.tj_base.specs.declared.cell.Sort.{Sort}
+use Rattle.tj_base.specs.declared.cell.Sort.TheVariants as sort
+use Rattle.tj_base.specs.declared.cause.Cause.{Cause}
+use Rattle.tj_base.proofs.Orders.{before_tells}
+use Rattle.tj_body.specs.Names.{has, same, in_order}
+use Rattle.tj_body.specs.Asks.{Await, Obeys}
+use Rattle.tj_body.specs.History.{Assignment, with_entry, after_try_fork, after_set, after_get, after_join}
+use Rattle.tj_body.specs.History.{after_read, after_look, after_ask, after_stage, point_after, history}
+use Rattle.tj_body.specs.Rounds.{given, tasks, last_round, meaning, IsFull}
+use Rattle.tj_body.specs.Points.{IsIn, IsProper, HasStopped}
+use Rattle.tj_body.specs.NeverWaits.{NoneWaits, WaitInOrder}
+use Rattle.tj_body.specs.declared.ask.Answer.{Answer}
+use Rattle.tj_body.specs.declared.ask.Ask.{Ask}
+use Rattle.tj_body.specs.declared.ask.Ask.TheVariants as ask
+use Rattle.tj_body.specs.declared.point.Reference.{Reference}
+use Rattle.tj_body.specs.declared.point.Value.{Value}
+use Rattle.tj_body.specs.declared.point.Value.TheVariants as value
+use Rattle.tj_body.specs.declared.point.Entry.{Entry}
+use Rattle.tj_body.specs.declared.point.Entry.TheVariants as entry
+use Rattle.tj_body.specs.declared.point.Close.{Close}
+use Rattle.tj_body.specs.declared.point.PointStage.{PointStage}
+use Rattle.tj_body.specs.declared.point.PointStage.TheVariants as stage
+use Rattle.tj_body.specs.declared.point.Task.{Task}
+use Rattle.tj_body.specs.declared.point.Point.{Point}
+use Rattle.tj_body.proofs.Before.{before-self, before-trans}
+use Rattle.tj_body.proofs.Lists.{in_right, in_map}
+use Rattle.tj_body.proofs.Counts.{one_if, is, is_one, same_is, total, total_le, total_add, total_in}
+use Rattle.tj_body.proofs.Good.{task_proper}
+use Rattle.tj_body.proofs.Points.{stopped}
+use Rattle.tj_body.proofs.Rises.{tasks_within}
+use Rattle.tj_body.proofs.Settles.{is_last}
+use Rattle.tj_body.proofs.Keeps.{written}
+
+-- what a task with this name has written where it has ended: what became of its result
+abbrev TellsAt : PointStage → Name → List (Name × Entry) → Type 0
+TellsAt (stage.Answered a) x writes = Unit {0}
+TellsAt (stage.Waits q spare) x writes = Unit {0}
+TellsAt (stage.Closed e) x writes = (r : Entry) × IsIn (x, r) writes
+
+-- the name in a wait
+abbrev cell_in : PointStage → Name
+cell_in (stage.Answered a) = []
+cell_in (stage.Waits q spare) = q
+cell_in (stage.Closed e) = []
+
+module _ {B : Type 0} where
+  -- the task has written it, if it has ended
+  abbrev TellsOwn : Point B → Type 0
+  TellsOwn p = TellsAt p.stage p.name p.writes
+
+  -- a close writes it
+  closes : (r : Entry) (p : Point B)
+      → (x : Entry) × IsIn (p.name, x) (p.writes ++ (p.name, r) ∷ map (with_entry entry.Broken) (in_order p.holds))
+  closes r p = (r, in_right (p.name, r) p.writes _ (inl refl))
+
+  either : (b : Bool) (p q : Point B) → TellsOwn p → TellsOwn q → TellsOwn (cond b p q)
+  either true p q f g = f
+  either false p q f g = g
+
+  gets : (spare : Bool) (s : Sort) (c : Name) (p : Point B) → TellsOwn (after_get spare s c p)
+  gets spare sort.Task c p = closes _ p
+  gets spare sort.Promise c p = tt
+
+  joins : (strict spare : Bool) (s : Sort) (c : Name) (p : Point B) → TellsOwn (after_join strict spare s c p)
+  joins strict spare sort.Task c p =
+      either (strict && not (before p.name c)) _ _ (closes _ p) tt
+  joins strict spare sort.Promise c p = closes _ p
+
+  sets : (s : Sort) (c : Name) (v : Value) (p : Point B) → TellsOwn (after_set s c v p)
+  sets sort.Task c v p = closes _ p
+  sets sort.Promise c v p = either (has c p.holds) _ _ tt (closes _ p)
+
+  forks : (b : B) (passed : List Reference) (handed : List Name) (l : Result (List Name) Cause) (p : Point B)
+      → TellsOwn (after_try_fork b passed handed l p)
+  forks b passed handed (Ok l) p = tt
+  forks b passed handed (Err c) p = closes _ p
+
+  takes : (strict : Bool) (a : Ask B) (p : Point B) → TellsOwn (after_ask strict a p)
+  takes strict ask.New p = tt
+  takes strict (ask.Fork b pass hand) p = forks b _ _ _ p
+  takes strict (ask.Set k v) p = sets _ _ _ p
+  takes strict (ask.Get k) p = gets _ _ _ p
+  takes strict (ask.GetOr k) p = gets _ _ _ p
+  takes strict (ask.Join k) p = joins strict _ _ _ p
+  takes strict (ask.JoinOr k) p = joins strict _ _ _ p
+  takes strict (ask.Emit i) p = tt
+  takes strict (ask.End v) p = closes _ p
+  takes strict (ask.Fail t) p = closes _ p
+
+  reads : (spare : Bool) (c : Name) (x : Entry) (p : Point B) → TellsOwn (after_read spare c x p)
+  reads true c entry.Broken p = tt
+  reads false c entry.Broken p = closes _ p
+  reads spare c (entry.Value (value.Num i)) p = tt
+  reads spare c (entry.Value (value.Ref r)) p = tt
+
+  looks : (spare : Bool) (c : Name) (o : Option Entry) (p : Point B) → TellsOwn p → TellsOwn (after_look spare c o p)
+  looks spare c None p g = g
+  looks spare c (Some x) p g = reads spare c x p
+
+  module _ (strict : Bool) (asks : B → Answer → Ask B) (then : B → Answer → B) (V : Assignment) where
+    goes : (st : PointStage) (p : Point B) → TellsOwn p → TellsOwn (after_stage strict asks then V st p)
+    goes (stage.Answered a) p g = takes strict (asks p.body a) _
+    goes (stage.Waits c spare) p g = looks spare c (V c) p g
+    goes (stage.Closed x) p g = g
+
+    -- each point of a task tells of its result
+    pub tells_own : (t : Task B) (k : ℕ) → TellsOwn (point_after strict asks then V k t)
+    tells_own t zero = tt
+    tells_own t (suc k) = let p = point_after strict asks then V k t in goes p.stage p (tells_own t k)
+
+  -- how many of the tasks come after this one in the fork order
+  abbrev after : List (Point B) → Name → ℕ
+  after ps x = total (λ (u : Point B). one_if (before x u.name)) ps
+
+  -- fewer come after a later one
+  fewer_after : (ps : List (Point B)) (x : Name) (u : Point B) → IsIn u ps → before x u.name ≡ true
+      → after ps u.name < after ps x
+  fewer_after ps x u i e =
+      let a = total_le (λ (w : Point B). one_if (before u.name w.name) + is u.name w.name)
+      (λ (w : Point B). one_if (before x w.name)) (λ w. one w.name) ps in
+      let b = total_add (λ (w : Point B). one_if (before u.name w.name)) (λ (w : Point B). is u.name w.name) ps in
+      let c = total_in (λ (w : Point B). is u.name w.name) u ps i in
+      let d = is_one u.name u.name refl in
+      omega arith where
+        by : (z : Name) (b c d : Bool) → before u.name z ≡ b → same u.name z ≡ c → before x z ≡ d
+            → one_if b + one_if c ≤ one_if d
+        by z true true d p q r =
+            let y : false ≡ true = sym (before-self u.name) ∙ ap (before u.name) (same_is u.name z q) ∙ p in absurd (cc)
+        by z true false d p q r =
+            let y : d ≡ true = sym r ∙ before-trans x u.name z e p in rw y (omega arith)
+        by z false true d p q r =
+            let y : d ≡ true = sym r ∙ ap (before x) (sym (same_is u.name z q)) ∙ e in rw y (omega arith)
+        by z false false d p q r = omega arith
+
+        one : (z : Name) → one_if (before u.name z) + is u.name z ≤ one_if (before x z)
+        one z = by z (before u.name z) (same u.name z) (before x z) refl refl refl
+
+module _ {B : Type 0} (strict : Bool) (asks : B → Answer → Ask B) (then : B → Answer → B) (left : B → ℕ)
+    (places : B → ℕ) (awaits : B → Await) (obeys : (b : B) (a : Answer) → Obeys places awaits left asks then b a)
+    (root : Task B) (alone : root.handed ≡ []) (proper : IsProper places awaits left root) (N : ℕ) where
+  abbrev V : Assignment
+  V = given strict asks then left root (last_round N)
+
+  abbrev all : List (Task B)
+  all = tasks strict asks then left root (last_round N)
+
+  abbrev points : List (Point B)
+  points = meaning strict asks then left root N
+
+  abbrev history_of : Task B → Point B
+  history_of t = history strict asks then left V t
+
+  -- each history of the meaning has stopped
+  pub stops : (p : Point B) → IsIn p points → HasStopped V p
+  stops p i =
+      let r = in_map history_of p all i in
+      subst (HasStopped V) (sym r.2)
+      (stopped strict asks then places awaits left obeys V r.0
+      (task_proper places awaits left strict asks then obeys root proper (last_round N) r.0 r.1))
+
+  module _ (fits : ¬ IsFull strict asks then left root N) where
+    -- the cell that a task waits for has no entry
+    no_entry : (p : Point B) (q : Name) (spare : Bool) → IsIn p points → p.stage ≡ stage.Waits q spare → V q ≡ None
+    no_entry p q spare i e =
+        ⊎_elim (λ c. let z : stage.Waits q spare ≡ stage.Closed c.0 = sym e ∙ c.1 in absurd (cc))
+        (λ w. ap V (ap cell_in (sym e ∙ w.2)) ∙ w.3) (stops p i)
+
+    -- the result of a task that has ended has an entry
+    has_entry : (t : Task B) → IsIn t all → (e : Close) → (history_of t).stage ≡ stage.Closed e
+        → (r : Entry) × (V (history_of t).name ≡ Some r)
+    has_entry t i e c =
+        let n = last_round N in
+        let k = 2 * suc (left t.body) in
+        let own = subst (λ z. TellsAt z (history_of t).name (history_of t).writes) c
+        (tells_own strict asks then V t k) in
+        let there = tasks_within strict asks then left root alone n (suc n) (omega arith) t i in
+        let w = written strict asks then left root alone places awaits obeys proper n t (history_of t) there (k, refl)
+        (history_of t).name own.0 own.1 in
+        (own.0, ((is_last strict asks then left root alone N fits).0 (suc n)).1 (history_of t).name own.0 w)
+
+    -- a task whose result has no entry waits
+    waits_too : (u : Point B) → IsIn u points → V u.name ≡ None
+        → (q : Name) × (spare : Bool) × (u.stage ≡ stage.Waits q spare)
+    waits_too u i e = by (in_map history_of u all i) (stops u i) where
+      by : ((t : Task B) × IsIn t all × (u ≡ history_of t)) → HasStopped V u
+          → (q : Name) × (spare : Bool) × (u.stage ≡ stage.Waits q spare)
+      by r (inl c) =
+          let h = has_entry r.0 r.1 c.0 (ap (λ (z : Point B). z.stage) (sym r.2) ∙ c.1) in
+          let z : None ≡ Some h.0 = sym e ∙ ap (λ (z : Point B). V z.name) r.2 ∙ h.1 in absurd (cc)
+      by r (inr w) = (w.0, w.1, w.2)
+
+    -- none waits where those that wait do so in the fork order
+    pub none_waits : WaitInOrder points → NoneWaits points
+    none_waits order p q spare i e = down (suc (after points p.name)) p q spare i e (omega arith) where
+      down : (n : ℕ) (p : Point B) (q : Name) (spare : Bool) → IsIn p points → p.stage ≡ stage.Waits q spare
+          → after points p.name < n → ⊥
+      down zero p q spare i e l = omega arith
+      down (suc n) p q spare i e l =
+          let u = order p q spare i e in
+          let w = waits_too u.0 u.1 (ap V u.2 ∙ no_entry p q spare i e) in
+          let b = (before_tells p.name u.0.name (before p.name u.0.name) refl).1 u.3 in
+          let f = fewer_after points p.name u.0 u.1 b in
+          down n u.0 w.0 w.1 u.1 w.2 (omega arith)
