@@ -1,12 +1,12 @@
 -- The way on from a task, one step of the wait graph after the other, until it comes back or ends.
-use Rattle.std.proofs.Common.{◌≡◌, ◌≢◌, ℕ, suc, ◌+◌, ◌<◌, ◌≤◌, List, [], ◌∷◌, ◌++◌, length, map, refl, sym, ap, ◌∙◌, subst, arith, add-one}
+use Rattle.std.proofs.Common.{◌≡◌, ◌≢◌, ℕ, suc, ◌<◌, ◌≤◌, List, [], ◌∷◌, ◌++◌, length, map, refl, sym, ap, ◌∙◌, subst, arith}
 use Rattle.std.proofs.Common.{length-append}
 use Rattle.std.proofs.lemmas.List.{map-append}
 use native.Mathlib.Decide.{ℕ_discrete}
 use mathlib.Core.Logic.{dite}
 use Rattle.tj_base.specs.declared.cell.CellId.{CellId}
 use Rattle.tj_core.specs.CoreState.{Cells}
-use Rattle.tj_core.specs.WaitGraph.{Leads, LeadsAlong, IsCycle, IsCycleFrom, Reaches, IsOnCycle, IsOnCycleOf}
+use Rattle.tj_core.specs.WaitGraph.{Leads, LeadsAlong, IsCycleFrom, Reaches, IsOnCycle, IsOnCycleOf}
 use Rattle.tj_core.proofs.Rounds.{reach_one, cycle_at, cycle_leads}
 use Rattle.tj_core.proofs.CycleLists.{along_cycle}
 use Rattle.tj_core.proofs.ColumnLists.{length-map_at}

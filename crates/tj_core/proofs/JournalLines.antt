@@ -1,9 +1,9 @@
 -- The lines of a journal, one by one.
-use Rattle.std.proofs.Common.{◌≡◌, ℕ, suc, ◌+◌, ◌-◌, ◌<◌, ◌≤◌, Bool, true, false, cond, not, List, [], ◌∷◌, ◌++◌, length, take, drop, refl, sym, ap, ◌∙◌, subst, arith, add-one}
+use Rattle.std.proofs.Common.{◌≡◌, ℕ, suc, ◌+◌, ◌<◌, ◌≤◌, Bool, true, false, cond, not, List, [], ◌∷◌, ◌++◌, length, take, drop, refl, sym, ap, ◌∙◌, subst, arith}
 use Rattle.std.specs.Prelude.{◌==◌}
 use Rattle.std.specs.List.{prefix_len, onto_first}
 use Rattle.tj_core.specs.declared.event.Event.{Event}
-use Rattle.tj_core.specs.Journal.{lines_of, words_of, HasSmallCells, Names, IsEventLine, AreEventLines, IsFirstFault}
+use Rattle.tj_core.specs.Journal.{lines_of, words_of, HasSmallCells, Names, AreEventLines, IsFirstFault}
 
 abbrev pub on_line : ℕ → Bool
 on_line b = not (b == 10)

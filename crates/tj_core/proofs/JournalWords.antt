@@ -1,7 +1,7 @@
 -- The words of a line and the event that they name.
-use Rattle.std.proofs.Common.{◌≡◌, ◌≢◌, ℕ, zero, suc, ◌<◌, ◌≤◌, ◌^◌, List, [], ◌∷◌, ◌++◌, length, map, Option, Some, None, decimal, refl, sym, ap, ◌∙◌, subst, arith}
+use Rattle.std.proofs.Common.{◌≡◌, ◌≢◌, ℕ, ◌<◌, ◌^◌, List, [], ◌∷◌, map, Option, Some, None, decimal, refl, sym, ◌∙◌, subst, arith}
 use Rattle.std.specs.List.{AllByRecursion}
-use Rattle.std.specs.Option.{IfSome, IfNone, MatchOption}
+use Rattle.std.specs.Option.{IfSome, IfNone}
 use Rattle.std.proofs.lemmas.Fmt.{decimal_injective}
 use Rattle.tj_core.specs.declared.event.Event.{Event}
 use Rattle.tj_core.specs.Journal.{verb_of, cells_of, HasSmallCells, Names}
@@ -10,8 +10,8 @@ use Rattle.tj_core.specs.Journal.{verb_of, cells_of, HasSmallCells, Names}
 abbrev pub AreSmall : List ℕ → Type 0
 AreSmall ns = AllByRecursion (λ c. c < 2 ^ 32) ns
 
--- the numbers that were read are the cells
-cells_are : (cs ns : List ℕ) → AreSmall cs → AreSmall ns → map decimal cs ≡ map decimal ns → cs ≡ ns
+-- numbers with the same decimals are the same
+pub cells_are : (cs ns : List ℕ) → AreSmall cs → AreSmall ns → map decimal cs ≡ map decimal ns → cs ≡ ns
 cells_are [] [] a b e = refl
 cells_are [] (n ∷ ns) a b e = absurd (cc)
 cells_are (c ∷ cs) [] a b e = absurd (cc)

@@ -1,15 +1,13 @@
 -- How far a run has been judged, and what is said of its events.
-use Rattle.std.proofs.Common.{◌≡◌, ◌⊎◌, inl, inr, ℕ, suc, ◌+◌, ◌<◌, ◌≤◌, Bool, true, false, ◌||◌, List, [], ◌∷◌, ◌++◌, length, drop, get_or, map, refl, sym, ap, ◌∙◌, subst, arith, append_assoc, drop-cons}
+use Rattle.std.proofs.Common.{◌≡◌, inl, inr, ℕ, suc, ◌<◌, Bool, true, false, ◌||◌, List, [], ◌∷◌, ◌++◌, length, drop, get_or, refl, sym, ap, ◌∙◌, subst, append_assoc, drop-cons}
 use Rattle.tj_core.specs.declared.event.Event.{Event}
-use Rattle.tj_core.specs.declared.event.Event.TheVariants.{Alarm, Settle}
-use Rattle.tj_base.specs.declared.cell.CellId.{CellId}
 use Rattle.tj_core.specs.declared.walk.LastRead.{LastRead}
 use Rattle.tj_core.specs.declared.walk.Way.{Way}
 use Rattle.tj_core.specs.declared.walk.Walker.{Walker}
 use Rattle.tj_core.specs.CoreState.{CoreState, root_alone}
 use Rattle.tj_core.specs.CoreFacts.{CoreFacts}
 use Rattle.tj_core.specs.Events.{Allowed, after, Walks}
-use Rattle.tj_core.specs.WaitGraph.{IsCycle, IsCycleFrom, IsOnCycle}
+use Rattle.tj_core.specs.WaitGraph.{IsCycle, IsCycleFrom}
 use Rattle.tj_core.specs.Judging.{IsSaid, is_alarm, IsJudged, IsJudgedFrom, settled_line, alarm_line, legal_line, illegal_line}
 use Rattle.tj_core.proofs.EachEvent.{facts_after_event}
 use Rattle.tj_core.proofs.LegalRuns.{start_facts}

@@ -35,3 +35,6 @@ pub mod LegalRuns
 pub mod WatchedCycles
 pub mod LegalCycles
 pub mod Examples
+pub mod OneCycle
+pub mod OneJudging
+pub mod OneReading

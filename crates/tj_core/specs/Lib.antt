@@ -18,3 +18,4 @@ pub mod Machine
 pub mod Core
 pub mod Journal
 pub mod Judging
+pub mod JournalLaws

@@ -7,6 +7,7 @@ mod cycle;
 mod event;
 mod graph_laws;
 mod journal;
+mod journal_laws;
 mod judge;
 mod laws;
 mod line;
@@ -25,6 +26,7 @@ pub use checker::Core;
 pub use event::Event;
 pub use graph_laws::{cycles_return, returns_are_cycles};
 pub use journal::{JournalFault, MAX_JOURNAL, read_journal};
+pub use journal_laws::{one_judging, one_reading};
 pub use judge::{Judged, judge_text};
 pub use laws::{
     alarms_are_on_cycles, cycles_are_watched, cycles_stand, event_keeps_facts,

@@ -1,4 +1,4 @@
-use Rattle.std.proofs.Common.{rules, ◌≡◌, ℕ, ◌+◌, ◌-◌, ◌<◌, ◌≤◌, suc, List, ◌∷◌, length, take, drop, sym, ap, ◌∙◌, subst, arith, add-one}
+use Rattle.std.proofs.Common.{rules, ◌≡◌, ℕ, ◌+◌, ◌<◌, suc, List, ◌∷◌, length, take, drop, sym, ap, ◌∙◌, subst, arith, add-one}
 use Rattle.tj_core.specs.Journal.{lines_of}
 use Rattle.tj_core.proofs.JournalLines.{on_line, lines_cut, lines_whole}
 use Rattle.tj_core.proofs.JournalReads.{rest_whole}

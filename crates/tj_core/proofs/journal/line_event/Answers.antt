@@ -1,4 +1,4 @@
-use Rattle.std.proofs.Common.{rules, tests, ◌≡◌, ℕ, List, Option, Some, None, Ok, ap, ◌∙◌, subst, map}
+use Rattle.std.proofs.Common.{rules, tests, ◌≡◌, ℕ, List, ap, ◌∙◌, subst, map}
 use Rattle.std.specs.Prelude.{◌==◌}
 use Rattle.std.specs.Option.{IfSome, IfNone}
 use Rattle.std.proofs.lemmas.Iterator.Consumers.{map_from_collect}

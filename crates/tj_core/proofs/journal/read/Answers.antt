@@ -1,4 +1,4 @@
-use Rattle.std.proofs.Common.{rules, ◌≡◌, ℕ, ◌+◌, length}
+use Rattle.std.proofs.Common.{rules, ◌+◌}
 use Rattle.tj_core.specs.Journal.{IsEventLine, words_of, HasSmallCells, Names}
 use Rattle.tj_core.proofs.JournalReads.{read_on, read_fault}
 use Rattle.tj_core.proofs.JournalWords.{none_at, some_at}

@@ -1,4 +1,4 @@
-use Rattle.std.proofs.Common.{◌≡◌, ℕ, ◌<◌, ◌≤◌, List, ◌++◌, length, get_or, ap, ◌∙◌, arith, codes}
+use Rattle.std.proofs.Common.{ℕ, List, ◌++◌, get_or, ap, ◌∙◌, arith}
 use Rattle.tj_base.specs.declared.cell.CellId.{CellId}
 use Rattle.tj_core.specs.Core.{core_state}
 use Rattle.tj_core.specs.Judging.{wait_text}

@@ -1,9 +1,9 @@
-use Rattle.std.proofs.Common.{◌≡◌, ℕ, suc, ◌+◌, ◌<◌, ◌≤◌, Bool, true, false, ◌||◌, List, [], ◌++◌, length, drop, get_or, refl, sym, ap, ◌∙◌, subst, arith, add-one}
+use Rattle.std.proofs.Common.{◌≡◌, ℕ, suc, ◌+◌, Bool, true, ◌||◌, List, [], ◌++◌, drop, get_or, sym, ap, ◌∙◌, subst, arith, add-one}
 use Rattle.std.proofs.lemmas.List.{drop_all}
 use Rattle.tj_core.specs.declared.event.Event.{Event}
 use Rattle.tj_core.specs.declared.event.Event.TheVariants.{Make}
-use Rattle.tj_core.specs.Core.{core_state, core_limit, core_applied}
-use Rattle.tj_core.specs.Events.{Allowed, after}
+use Rattle.tj_core.specs.Core.{core_state}
+use Rattle.tj_core.specs.Events.{Allowed}
 use Rattle.tj_core.specs.Judging.{illegal_line, legal_line, is_alarm}
 use Rattle.tj_core.proofs.JudgedRuns.{judge_starts, judge_on, judge_illegal, judge_legal, judged_same, outcome_same}
 use Rattle.tj_core.proofs.judge.judge_text.Goals as goal

@@ -1,4 +1,4 @@
-use Rattle.std.proofs.Common.{◌≡◌, ℕ, List, map}
+use Rattle.std.proofs.Common.{map}
 use Rattle.std.proofs.lemmas.Option.{MatchOption-at_none}
 use Rattle.tj_core.specs.WaitGraph.{IsOnCycle, IsCycleFrom}
 use Rattle.tj_core.specs.Core.{core_state, core_limit}

@@ -1,4 +1,4 @@
-use Rattle.std.proofs.Common.{◌≡◌, ◌≢◌, ℕ, List, [], ◌∷◌, map, decimal, ap}
+use Rattle.std.proofs.Common.{◌≡◌, ◌≢◌, ℕ, List, [], ◌∷◌, map, decimal}
 use Rattle.tj_core.specs.declared.event.Event.{Event}
 use Rattle.tj_core.specs.Journal.{verb_of, cells_of}
 use Rattle.tj_core.proofs.JournalWords.{no_event, if_none}

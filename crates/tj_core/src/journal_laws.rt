@@ -1,0 +1,16 @@
+//! The laws of journals: what is defined of reading and of judging leaves one answer.
+ghost use Rattle.tj_core.specs.JournalLaws.{EventsAreOne, FirstFaultIsOne};
+ghost use Rattle.tj_core.specs.JournalLaws.{EventsHaveNoFault, JudgingIsOne};
+
+/// The lines of a journal are those of one list of events at most, or have one first fault at most,
+/// and not both.
+pub fn one_reading()
+    ensures events { EventsAreOne }
+    ensures fault { FirstFaultIsOne }
+    ensures not_both { EventsHaveNoFault }
+{}
+
+/// The events of a journal are judged with one text at most, and with one mark.
+pub fn one_judging()
+    ensures { JudgingIsOne }
+{}
