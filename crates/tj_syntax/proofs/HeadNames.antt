@@ -1,5 +1,6 @@
 -- The names of heads, and where they are found.
-use Rattle.std.proofs.Common.{◌≡◌, ℕ, ◌<◌, List, [], ◌∷◌, length, map, Option, Some, None, IfSome, refl, ap, sym, ◌∙◌, arith, ◌++◌, suc, Bool, true, false, cond, is_some}
+use Rattle.std.proofs.Common.{◌≡◌, ℕ, ◌<◌, List, [], ◌∷◌, length, map, Option, Some, None, IfSome, refl, ap, sym, ◌∙◌}
+use Rattle.std.proofs.Common.{arith, ◌++◌, suc, Bool, true, false, cond, is_some}
 use Rattle.std.proofs.lemmas.List.{map-append, length-map}
 use Rattle.tj_lex.specs.declared.token.Tok.{Tok}
 use Rattle.tj_syntax.specs.declared.heads.Head.{Head}

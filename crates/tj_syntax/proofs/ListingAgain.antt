@@ -55,7 +55,8 @@ pub tokens_of-append : (a b : List Noted) → tokens_of (a ++ b) ≡ tokens_of a
 tokens_of-append [] b = refl
 tokens_of-append (n ∷ a) b = ap (λ ts. n.0 ∷ ts) (tokens_of-append a b)
 
-pub fine-append : (script : List Task) (a b : List Noted) → AreFine script a → AreFine script b → AreFine script (a ++ b)
+pub fine-append : (script : List Task) (a b : List Noted) → AreFine script a → AreFine script b
+    → AreFine script (a ++ b)
 fine-append script [] b h l = l
 fine-append script (n ∷ a) b h l = (h.0, fine-append script a b h.1 l)
 
@@ -98,7 +99,14 @@ front noted ok join p = record {
 -- a token alone
 pub only : {script : List Task} {P : List Noted → Type 0} (noted : Noted) → IsFine script noted
     → P (noted ∷ []) → Again script P (token noted.0 ∷ [])
-only noted ok right = record { notes = noted ∷ []; right = right; spells = refl; all_fine = (ok, tt); stand = (ok.stands, tt) }
+only noted ok right = record {
+  notes = noted ∷ [];
+  right = right;
+  spells = refl;
+  all_fine = (ok, tt);
+  stand =
+      (ok.stands, tt);
+}
 
 -- a token behind others
 pub back : {script : List Task} {P R : List Noted → Type 0} {a : List Part} (noted : Noted) → IsFine script noted
@@ -114,18 +122,34 @@ back {script} {P} {R} {a} noted ok join p = record {
 -- the same notes, of which more holds
 pub also : {script : List Task} {P R : List Noted → Type 0} {a : List Part}
     → ((m : List Noted) → P m → R m) → Again script P a → Again script R a
-also join p = record { notes = p.notes; right = join p.notes p.right; spells = p.spells; all_fine = p.all_fine; stand = p.stand }
+also join p = record {
+  notes = p.notes;
+  right = join p.notes p.right;
+  spells = p.spells;
+  all_fine =
+      p.all_fine;
+  stand = p.stand;
+}
 
 -- blanks before others
 pub behind : {script : List Task} {P : List Noted → Type 0} {a : List Part} (bytes : List ℕ) → AreBlank bytes
     → Again script P a → Again script P (blanks bytes ∷ a)
-behind bytes blank p = record { notes = p.notes; right = p.right; spells = p.spells; all_fine = p.all_fine; stand = (blank, p.stand) }
+behind bytes blank p = record {
+  notes = p.notes;
+  right = p.right;
+  spells = p.spells;
+  all_fine = p.all_fine;
+  stand =
+      (blank, p.stand);
+}
 
 -- a space before others, or the end of a line
-pub spaced : {script : List Task} {P : List Noted → Type 0} {a : List Part} → Again script P a → Again script P (space ∷ a)
+pub spaced : {script : List Task} {P : List Noted → Type 0} {a : List Part} → Again script P a
+    → Again script P (space ∷ a)
 spaced p = behind (32 ∷ []) (refl, tt) p
 
-pub lined : {script : List Task} {P : List Noted → Type 0} {a : List Part} → Again script P a → Again script P (line_end ∷ a)
+pub lined : {script : List Task} {P : List Noted → Type 0} {a : List Part} → Again script P a
+    → Again script P (line_end ∷ a)
 lined p = behind (10 ∷ []) (refl, tt) p
 
 -- nothing

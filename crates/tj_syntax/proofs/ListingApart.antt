@@ -1,5 +1,6 @@
 -- The tokens of a listing stand apart.
-use Rattle.std.proofs.Common.{◌≡◌, ℕ, ◌+◌, Bool, true, false, cond, List, [], ◌∷◌, ◌++◌, Option, Some, None, take, refl, ap, ◌∙◌, append_assoc}
+use Rattle.std.proofs.Common.{◌≡◌, ℕ, ◌+◌, Bool, true, false, cond, List, [], ◌∷◌, ◌++◌, Option, Some, None, take}
+use Rattle.std.proofs.Common.{refl, ap, ◌∙◌, append_assoc}
 use Rattle.std.specs.Prelude.{nat_lt, flat_map}
 use Rattle.tj_lex.specs.declared.token.Tok.TheVariants as toks
 use Rattle.tj_lex.specs.declared.token.Key.TheVariants as k
@@ -12,7 +13,8 @@ use Rattle.tj_syntax.specs.Trees.{Expression, Pairs, Argument, Request, Given, S
 use Rattle.tj_syntax.specs.Marks.{Name}
 use Rattle.tj_syntax.specs.Grammar.{rel_mark}
 use Rattle.tj_syntax.specs.Listing as listing
-use Rattle.tj_syntax.specs.Listing.{Part, token, blanks, level, op_level, pairs_level, operand, expression, pairs_parts, space, key, mark, name, line_end}
+use Rattle.tj_syntax.specs.Listing.{Part, token, blanks, level, op_level, pairs_level, operand, expression}
+use Rattle.tj_syntax.specs.Listing.{pairs_parts, space, key, mark, name, line_end}
 use Rattle.tj_syntax.proofs.ListingClear.{clear, AreClear, IsCalm, clear-append}
 
 -- a mark may stand before these parts, whatever is behind them
@@ -49,14 +51,16 @@ opens vars (tree.comparison rel x y) t after =
 
 closed_clears : (parts : List Part) → Clears parts → Clears (parts ++ mark m.ParenClose ∷ [])
 closed_clears parts h after calm =
-    clear-append parts (mark m.ParenClose ∷ []) after (h (mark m.ParenClose ∷ after) (λ t. refl)) (refl, calm (toks.Mark m.ParenClose), tt)
+    clear-append parts (mark m.ParenClose ∷ []) after (h (mark m.ParenClose ∷ after) (λ t. refl))
+    (refl, calm (toks.Mark m.ParenClose), tt)
 
 grouped_clears : (test : Bool) (parts : List Part) → Opens parts → Clears parts → Clears (grouped test parts)
 grouped_clears true parts o h after calm =
     (refl, append_opens parts (mark m.ParenClose ∷ []) o m.ParenOpen after, closed_clears parts h after calm)
 grouped_clears false parts o h after calm = h after calm
 
-pairs_calm : (vars : List Name) (pairs : Pairs) (after : List Part) → IsCalm after → IsCalm (pairs_parts vars pairs ++ after)
+pairs_calm : (vars : List Name) (pairs : Pairs) (after : List Part) → IsCalm after
+    → IsCalm (pairs_parts vars pairs ++ after)
 pairs_calm vars tree.no_pairs after calm = calm
 pairs_calm vars (tree.pair o y more) after calm = λ t. refl
 
@@ -73,14 +77,19 @@ mutual
       )
   expression_clears vars (tree.chain x pairs) after calm =
       clear-append (operand vars (pairs_level pairs + 1) x) (pairs_parts vars pairs) after
-      (grouped_clears (nat_lt (level x) (pairs_level pairs + 1)) (expression vars x) (opens vars x) (expression_clears vars x)
+      (grouped_clears (nat_lt (level x) (pairs_level pairs + 1)) (expression vars x) (opens vars x)
+      (expression_clears vars x)
       (pairs_parts vars pairs ++ after) (pairs_calm vars pairs after calm))
       (pairs_clears vars pairs after calm)
   expression_clears vars (tree.comparison rel x y) after calm =
       clear-append (operand vars 1 x) (space ∷ mark (rel_mark rel) ∷ space ∷ operand vars 1 y) after
       (grouped_clears (nat_lt (level x) 1) (expression vars x) (opens vars x) (expression_clears vars x)
-      (space ∷ mark (rel_mark rel) ∷ space ∷ (operand vars 1 y ++ after)) (λ t. refl))
-      (refl, refl, grouped_clears (nat_lt (level y) 1) (expression vars y) (opens vars y) (expression_clears vars y) after calm)
+      (space ∷ mark (rel_mark rel) ∷ space ∷ (operand vars 1 y ++ after)) (λ t. refl)) (
+        refl,
+        refl,
+        grouped_clears (nat_lt (level y) 1) (expression vars y) (opens vars y)
+            (expression_clears vars y) after calm,
+      )
 
   pub pairs_clears : (vars : List Name) (pairs : Pairs) → Clears (pairs_parts vars pairs)
   pairs_clears vars tree.no_pairs after calm = tt
@@ -88,13 +97,15 @@ mutual
     refl,
     refl,
     clear-append (operand vars (op_level o + 1) y) (pairs_parts vars more) after
-        (grouped_clears (nat_lt (level y) (op_level o + 1)) (expression vars y) (opens vars y) (expression_clears vars y)
+        (grouped_clears (nat_lt (level y) (op_level o + 1)) (expression vars y) (opens vars y)
+        (expression_clears vars y)
         (pairs_parts vars more ++ after) (pairs_calm vars more after calm))
         (pairs_clears vars more after calm),
   )
 
 -- parts, and then others that begin calmly
-then : (a b : List Part) → Clears a → Clears b → ((after : List Part) → IsCalm after → IsCalm (b ++ after)) → Clears (a ++ b)
+then : (a b : List Part) → Clears a → Clears b → ((after : List Part) → IsCalm after → IsCalm (b ++ after))
+    → Clears (a ++ b)
 then a b h l calm after c = clear-append a b after (h (b ++ after) (calm after c)) (l after c)
 
 argument_clears : (vars : List Name) (x : Argument) → Clears (listing.argument vars x)
@@ -105,7 +116,8 @@ argument_opens : (vars : List Name) (x : Argument) → Opens (listing.argument v
 argument_opens vars (tree.own x) t after = refl
 argument_opens vars (tree.value x) t after = opens vars x t after
 
-more_calm : (vars : List Name) (xs : List Argument) (after : List Part) → IsCalm after → IsCalm (listing.more_arguments vars xs ++ after)
+more_calm : (vars : List Name) (xs : List Argument) (after : List Part) → IsCalm after
+    → IsCalm (listing.more_arguments vars xs ++ after)
 more_calm vars [] after calm = calm
 more_calm vars (x ∷ xs) after calm = λ t. refl
 
@@ -121,7 +133,8 @@ more_clears vars (x ∷ xs) after calm = (
 arguments_clears : (vars : List Name) (xs : List Argument) → Clears (listing.arguments vars xs)
 arguments_clears vars [] after calm = tt
 arguments_clears vars (x ∷ xs) after calm =
-    then (listing.argument vars x) (listing.more_arguments vars xs) (argument_clears vars x) (more_clears vars xs) (more_calm vars xs) after calm
+    then (listing.argument vars x) (listing.more_arguments vars xs) (argument_clears vars x) (more_clears vars xs)
+    (more_calm vars xs) after calm
 
 arguments_open : (vars : List Name) (xs : List Argument) → Opens (listing.arguments vars xs ++ mark m.ParenClose ∷ [])
 arguments_open vars [] t after = refl
@@ -133,7 +146,8 @@ or_clears : (vars : List Name) (other : Option Expression) → Clears (listing.o
 or_clears vars None after calm = tt
 or_clears vars (Some x) after calm = (refl, refl, expression_clears vars x after calm)
 
-or_calm : (vars : List Name) (other : Option Expression) (after : List Part) → IsCalm after → IsCalm (listing.or_parts vars other ++ after)
+or_calm : (vars : List Name) (other : Option Expression) (after : List Part) → IsCalm after
+    → IsCalm (listing.or_parts vars other ++ after)
 or_calm vars None after calm = calm
 or_calm vars (Some x) after calm = λ t. refl
 
@@ -143,12 +157,32 @@ reference_clears vars ref.Me after calm = (refl, calm _, tt)
 
 pub request_clears : (tasks vars : List Name) (ask : Request) → Clears (listing.request tasks vars ask)
 request_clears tasks vars tree.new after calm = (refl, calm _, tt)
-request_clears tasks vars (tree.fork f args) after calm =
-    (refl, refl, (refl, refl, (refl, arguments_open vars args m.ParenOpen after, closed_clears (listing.arguments vars args) (arguments_clears vars args) after calm)))
-request_clears tasks vars (tree.get r other) after calm =
-    (refl, refl, then (listing.reference vars r ∷ []) (listing.or_parts vars other) (reference_clears vars r) (or_clears vars other) (or_calm vars other) after calm)
-request_clears tasks vars (tree.join r other) after calm =
-    (refl, refl, then (listing.reference vars r ∷ []) (listing.or_parts vars other) (reference_clears vars r) (or_clears vars other) (or_calm vars other) after calm)
+request_clears tasks vars (tree.fork f args) after calm = (
+  refl,
+  refl,
+  (
+    refl,
+    refl,
+    (
+      refl,
+      arguments_open vars args m.ParenOpen after,
+      closed_clears
+          (listing.arguments vars args) (arguments_clears vars args) after calm,
+    ),
+  ),
+)
+request_clears tasks vars (tree.get r other) after calm = (
+  refl,
+  refl,
+  then (listing.reference vars r ∷ []) (listing.or_parts vars other) (reference_clears vars r)
+      (or_clears vars other) (or_calm vars other) after calm,
+)
+request_clears tasks vars (tree.join r other) after calm = (
+  refl,
+  refl,
+  then (listing.reference vars r ∷ []) (listing.or_parts vars other) (reference_clears vars r)
+      (or_clears vars other) (or_calm vars other) after calm,
+)
 
 pub given_clears : (tasks vars : List Name) (side : Given) → Clears (listing.given tasks vars side)
 given_clears tasks vars (tree.answer ask) after calm = request_clears tasks vars ask after calm
@@ -156,9 +190,11 @@ given_clears tasks vars (tree.result_of x) after calm = expression_clears vars x
 
 semi_clears : (parts : List Part) → Clears parts → Clears (parts ++ mark m.Semi ∷ [])
 semi_clears parts h after calm =
-    clear-append parts (mark m.Semi ∷ []) after (h (mark m.Semi ∷ after) (λ t. refl)) (refl, calm (toks.Mark m.Semi), tt)
+    clear-append parts (mark m.Semi ∷ []) after (h (mark m.Semi ∷ after) (λ t. refl))
+    (refl, calm (toks.Mark m.Semi), tt)
 
-assigned_clears : (x : ℕ) (names : List Name) (parts : List Part) → Clears parts → Clears (name names x ∷ listing.assigned parts)
+assigned_clears : (x : ℕ) (names : List Name) (parts : List Part) → Clears parts
+    → Clears (name names x ∷ listing.assigned parts)
 assigned_clears x names parts h after calm = (refl, refl, (refl, refl, semi_clears parts h after calm))
 
 -- a block's lines, between braces
@@ -175,28 +211,34 @@ braces_clears indent parts h after calm = (
     indent_calm [] after t = refl
     indent_calm (b ∷ indent) after t = refl
 
-else_calm : (tasks vars : List Name) (indent : List ℕ) (other : Otherwise) (after : List Part) → IsCalm after → IsCalm (listing.else_parts tasks vars indent other ++ after)
+else_calm : (tasks vars : List Name) (indent : List ℕ) (other : Otherwise) (after : List Part) → IsCalm after
+    → IsCalm (listing.else_parts tasks vars indent other ++ after)
 else_calm tasks vars indent tree.nothing after calm = calm
 else_calm tasks vars indent (tree.block body) after calm = λ t. refl
 
 mutual
-  pub statement_clears : (tasks vars : List Name) (indent : List ℕ) (s : Statement) → Clears (listing.statement tasks vars indent s)
+  pub statement_clears : (tasks vars : List Name) (indent : List ℕ) (s : Statement)
+      → Clears (listing.statement tasks vars indent s)
   statement_clears tasks vars indent (tree.let_new x side) after calm =
       (refl, refl, assigned_clears x vars (listing.given tasks vars side) (given_clears tasks vars side) after calm)
   statement_clears tasks vars indent (tree.assign x side) after calm =
       assigned_clears x vars (listing.given tasks vars side) (given_clears tasks vars side) after calm
-  statement_clears tasks vars indent (tree.ask call) after calm = semi_clears (listing.request tasks vars call) (request_clears tasks vars call) after calm
-  statement_clears tasks vars indent (tree.print x) after calm = (refl, refl, semi_clears (expression vars x) (expression_clears vars x) after calm)
+  statement_clears tasks vars indent (tree.ask call) after calm =
+      semi_clears (listing.request tasks vars call) (request_clears tasks vars call) after calm
+  statement_clears tasks vars indent (tree.print x) after calm =
+      (refl, refl, semi_clears (expression vars x) (expression_clears vars x) after calm)
   statement_clears tasks vars indent (tree.set_cell x e) after calm =
       (refl, refl, assigned_clears x vars (expression vars e) (expression_clears vars e) after calm)
-  statement_clears tasks vars indent (tree.return x) after calm = (refl, refl, semi_clears (expression vars x) (expression_clears vars x) after calm)
+  statement_clears tasks vars indent (tree.return x) after calm =
+      (refl, refl, semi_clears (expression vars x) (expression_clears vars x) after calm)
   statement_clears tasks vars indent (tree.choose x body other) after calm =
       let block = listing.braces indent (listing.lines tasks vars (listing.deeper indent) body) in
       let rest = listing.else_parts tasks vars indent other in (
         refl,
         refl,
         then (expression vars x) (space ∷ (block ++ rest)) (expression_clears vars x)
-            (then block rest (braces_clears indent (listing.lines tasks vars (listing.deeper indent) body) (lines_clear tasks vars (listing.deeper indent) body)) (else_clears tasks vars indent other)
+            (then block rest (braces_clears indent (listing.lines tasks vars (listing.deeper indent) body)
+            (lines_clear tasks vars (listing.deeper indent) body)) (else_clears tasks vars indent other)
             (else_calm tasks vars indent other))
             (λ later c t. refl) after calm,
       )
@@ -205,19 +247,27 @@ mutual
         refl,
         refl,
         then (expression vars x) (space ∷ block) (expression_clears vars x)
-            (braces_clears indent (listing.lines tasks vars (listing.deeper indent) body) (lines_clear tasks vars (listing.deeper indent) body)) (λ later c t. refl) after calm,
+            (braces_clears indent (listing.lines tasks vars (listing.deeper indent) body)
+            (lines_clear tasks vars (listing.deeper indent) body)) (λ later c t. refl) after calm,
       )
 
-  pub lines_clear : (tasks vars : List Name) (indent : List ℕ) (body : Statements) → Clears (listing.lines tasks vars indent body)
+  pub lines_clear : (tasks vars : List Name) (indent : List ℕ) (body : Statements)
+      → Clears (listing.lines tasks vars indent body)
   lines_clear tasks vars indent tree.no_more after calm = tt
   lines_clear tasks vars indent (tree.then_do s rest) after calm =
-      then (listing.statement tasks vars indent s) (line_end ∷ listing.lines tasks vars indent rest) (statement_clears tasks vars indent s)
+      then (listing.statement tasks vars indent s) (line_end ∷ listing.lines tasks vars indent rest)
+      (statement_clears tasks vars indent s)
       (lines_clear tasks vars indent rest) (λ later c t. refl) after calm
 
-  else_clears : (tasks vars : List Name) (indent : List ℕ) (other : Otherwise) → Clears (listing.else_parts tasks vars indent other)
+  else_clears : (tasks vars : List Name) (indent : List ℕ) (other : Otherwise)
+      → Clears (listing.else_parts tasks vars indent other)
   else_clears tasks vars indent tree.nothing after calm = tt
-  else_clears tasks vars indent (tree.block body) after calm =
-      (refl, refl, braces_clears indent (listing.lines tasks vars (listing.deeper indent) body) (lines_clear tasks vars (listing.deeper indent) body) after calm)
+  else_clears tasks vars indent (tree.block body) after calm = (
+    refl,
+    refl,
+    braces_clears indent (listing.lines tasks vars (listing.deeper indent) body)
+        (lines_clear tasks vars (listing.deeper indent) body) after calm,
+  )
 
 more_params_calm : (xs : List Name) (after : List Part) → IsCalm after → IsCalm (listing.more_params xs ++ after)
 more_params_calm [] after calm = calm
@@ -225,7 +275,11 @@ more_params_calm (x ∷ xs) after calm = λ t. refl
 
 more_params_clear : (xs : List Name) → Clears (listing.more_params xs)
 more_params_clear [] after calm = tt
-more_params_clear (x ∷ xs) after calm = (refl, refl, (refl, more_params_calm xs after calm (toks.Name x), more_params_clear xs after calm))
+more_params_clear (x ∷ xs) after calm = (
+  refl,
+  refl,
+  (refl, more_params_calm xs after calm (toks.Name x), more_params_clear xs after calm),
+)
 
 params_clear : (xs : List Name) → Clears (listing.params xs)
 params_clear [] after calm = tt
@@ -252,7 +306,8 @@ task_clears tasks t after =
                 refl,
                 refl,
                 clear-append block (line_end ∷ []) after
-                    (braces_clears [] (listing.lines tasks t.vars (listing.deeper []) t.body) (lines_clear tasks t.vars (listing.deeper []) t.body)
+                    (braces_clears [] (listing.lines tasks t.vars (listing.deeper []) t.body)
+                    (lines_clear tasks t.vars (listing.deeper []) t.body)
                     (line_end ∷ after) (λ u. refl))
                     tt,
               ),
@@ -260,7 +315,8 @@ task_clears tasks t after =
       ),
     )
 
-tasks_clear : (tasks : List Name) (ts : List Task) (after : List Part) → AreClear (flat_map (listing.task tasks) ts) after
+tasks_clear : (tasks : List Name) (ts : List Task) (after : List Part)
+    → AreClear (flat_map (listing.task tasks) ts) after
 tasks_clear tasks [] after = tt
 tasks_clear tasks (t ∷ ts) after =
     clear-append (listing.task tasks t) (flat_map (listing.task tasks) ts) after

@@ -9,7 +9,10 @@ use Rattle.std.proofs.lemmas.Bool.Decides.{nat_tests}
 use Rattle.std.proofs.Common.{Vec, Global, Result, Ok, Err}
 use Rattle.std.specs.Result.{IfOk}
 use Rattle.tj_base.specs.declared.memory.Oom.{Oom}
+use Rattle.tj_lex.proofs.Determined.{Answers-one}
 use Rattle.tj_lex.proofs.Laying.{AreTokens-pieces}
+use Rattle.tj_lex.specs.declared.token.LexFault.{LexFault}
+use Rattle.tj_lex.specs.declared.token.Token.{Token}
 use Rattle.tj_lex.specs.declared.token.Tok.{Tok}
 use Rattle.tj_lex.specs.declared.token.Tok.TheVariants as toks
 use Rattle.tj_lex.specs.declared.token.Mark.{Mark}
@@ -21,13 +24,15 @@ use Rattle.tj_lex.specs.Pieces as pieces
 use Rattle.tj_lex.specs.Pieces.{Piece, extends, AreLaidOut}
 use Rattle.tj_syntax.specs.Trees.{Task}
 use Rattle.tj_syntax.specs.Faults.{kinds_of, IsScript}
-use Rattle.tj_syntax.specs.Listing.{Part, token, blanks, spelling, text_of, CanStand, script as script_parts, task as task_parts, names_of, listing}
+use Rattle.tj_syntax.specs.Listing.{Part, token, blanks, spelling, text_of, CanStand, script as script_parts}
+use Rattle.tj_syntax.specs.Listing.{task as task_parts, names_of, listing}
 use Rattle.tj_syntax.specs.Marks.{Name}
 use Rattle.tj_syntax.proofs.ListingAgain.{toks_of, Stands}
 use Rattle.tj_syntax.specs.Back.{Says}
 use Rattle.tj_syntax.proofs.ListingScript.{script_again}
 use Rattle.tj_syntax.proofs.ListingApart.{script_clears}
-use Rattle.tj_syntax.proofs.ListingClear.{not_equals, clear, AreClear, leading, pieces_of, text-pieces, blank_gap, key_spells, token_spells}
+use Rattle.tj_syntax.proofs.ListingClear.{not_equals, clear, AreClear, leading, pieces_of, text-pieces, blank_gap}
+use Rattle.tj_syntax.proofs.ListingClear.{key_spells, token_spells}
 
 or_none : (s t : Bool) → (s || t) ≡ false → (s ≡ false) × (t ≡ false)
 or_none true t e = absurd (cc)
@@ -81,11 +86,13 @@ name_start_else b h = grind (arith, nat_tests)
 digit_else : (b : ℕ) → is_ascii_digit b ≡ true → (b == 61) ≡ false
 digit_else b h = grind (arith, nat_tests)
 
-word_begins : (word rest : List ℕ) → begins_with is_name_start word ≡ true → begins_with (λ b. b == 61) (word ++ rest) ≡ false
+word_begins : (word rest : List ℕ) → begins_with is_name_start word ≡ true
+    → begins_with (λ b. b == 61) (word ++ rest) ≡ false
 word_begins [] rest h = absurd (cc)
 word_begins (b ∷ word) rest h = name_start_else b h
 
-digits_begin : (digits rest : List ℕ) → begins_with is_ascii_digit digits ≡ true → begins_with (λ b. b == 61) (digits ++ rest) ≡ false
+digits_begin : (digits rest : List ℕ) → begins_with is_ascii_digit digits ≡ true
+    → begins_with (λ b. b == 61) (digits ++ rest) ≡ false
 digits_begin [] rest h = absurd (cc)
 digits_begin (b ∷ digits) rest h = digit_else b h
 
@@ -95,9 +102,11 @@ clear_begins : (t : Tok) (parts : List Part) → clear t parts ≡ true → AllB
 clear_begins t [] h s = refl
 clear_begins t (blanks [] ∷ rest) h s = clear_begins t rest h s.1
 clear_begins t (blanks (b ∷ bytes) ∷ rest) h s = begins_plain t (b ∷ (bytes ++ text_of rest)) (blank_plain b s.0.0)
-clear_begins t (token (toks.Mark u) ∷ rest) h s = begins_plain t (mark_text u ++ text_of rest) (mark_plain u (text_of rest) h)
+clear_begins t (token (toks.Mark u) ∷ rest) h s =
+    begins_plain t (mark_text u ++ text_of rest) (mark_plain u (text_of rest) h)
 clear_begins (toks.Mark t) (token (toks.Name word) ∷ rest) h s = word_begins word (text_of rest) s.0.0
-clear_begins (toks.Mark t) (token (toks.Key key) ∷ rest) h s = word_begins (key_text key) (text_of rest) (key_spells key).0
+clear_begins (toks.Mark t) (token (toks.Key key) ∷ rest) h s =
+    word_begins (key_text key) (text_of rest) (key_spells key).0
 clear_begins (toks.Mark t) (token (toks.Num n) ∷ rest) h s =
     digits_begin (spelling (toks.Num n)) (text_of rest) (token_spells (toks.Num n) refl s.0).0
 clear_begins t (token u ∷ rest) h s = absurd (cc)
@@ -126,7 +135,8 @@ lay (blanks bytes ∷ rest) h s =
     record { laid = more.laid; gap = blank_gap bytes (leading rest) s.0 more.gap }
 
 -- the tokens of the pieces
-kinds-pieces : (before : List ℕ) (parts : List Part) → kinds_of (pieces.tokens_of before (pieces_of parts)) ≡ toks_of parts ++ toks.End ∷ []
+kinds-pieces : (before : List ℕ) (parts : List Part)
+    → kinds_of (pieces.tokens_of before (pieces_of parts)) ≡ toks_of parts ++ toks.End ∷ []
 kinds-pieces before [] = refl
 kinds-pieces before (token t ∷ rest) = ap (λ ts. t ∷ ts) (kinds-pieces (before ++ (spelling t ++ leading rest)) rest)
 kinds-pieces before (blanks bytes ∷ rest) = kinds-pieces before rest
@@ -144,16 +154,31 @@ says_again tokens script stand h =
     let parts = script_parts script in
     let laid = lay parts (script_clears script) again.stand in
     let text : pieces.text_of (pieces_of parts) ≡ text_of parts =
-    sym (text-pieces parts ∙ ap (λ front. front ++ pieces.text_of (pieces_of parts)) (no_blanks (names_of script) script)) in
+    sym (text-pieces parts ∙ ap (λ front. front ++ pieces.text_of (pieces_of parts))
+    (no_blanks (names_of script) script)) in
     record {
       tokens = pieces.tokens_of [] (pieces_of parts);
-      has = subst (λ bytes. AreTokens bytes (pieces.tokens_of [] (pieces_of parts))) text (AreTokens-pieces (pieces_of parts) laid.laid);
+      has = subst (λ bytes. AreTokens bytes (pieces.tokens_of [] (pieces_of parts))) text
+          (AreTokens-pieces (pieces_of parts) laid.laid);
       is = subst (λ (kinds : List Tok). IsScript kinds script) (sym (kinds-pieces [] parts)) again.is;
     }
 
+-- the tokens of a script's listing are it
+pub listed_script : (script : List Task) (given : List Tok) (tokens : List Token) → AllByRecursion CanStand given
+    → IsScript given script
+    → AreTokens (listing script) tokens → IsScript (kinds_of tokens) script
+listed_script script given tokens stand h has =
+    let says = says_again given script stand h in
+    let both : ◌≡◌ {A = Result (List Token) LexFault} (Ok says.tokens) (Ok tokens) = Answers-one (listing script)
+    (Ok says.tokens) (Ok tokens) says.has has in
+    let same : says.tokens ≡ tokens = cc in
+    subst (λ ts. IsScript (kinds_of ts) script) same says.is
+
 -- so does what is written, if it is the listing
-pub says_text : (result : Result (Vec ℕ Global) Oom) (script : List Task) → IfOk result (λ text. text.items ≡ listing script)
+pub says_text : (result : Result (Vec ℕ Global) Oom) (script : List Task)
+    → IfOk result (λ text. text.items ≡ listing script)
     → (tokens : List Tok) → AllByRecursion CanStand tokens → IsScript tokens script
     → IfOk result (λ text. Says text.items script)
-says_text (Ok text) script e tokens stand h = subst (λ bytes. Says bytes script) (sym e) (says_again tokens script stand h)
+says_text (Ok text) script e tokens stand h =
+    subst (λ bytes. Says bytes script) (sym e) (says_again tokens script stand h)
 says_text (Err out) script e tokens stand h = tt

@@ -1,5 +1,6 @@
 -- Parts whose tokens stand apart: nothing behind a token makes it longer, or another.
-use Rattle.std.proofs.Common.{◌≡◌, ℕ, ◌+◌, ◌-◌, ◌*◌, ◌/◌, ◌%◌, ◌^◌, ◌<◌, ◌≤◌, Bool, true, false, pos, List, [], ◌∷◌, ◌++◌, length, take, refl, ap, sym, ◌∙◌, arith, inl, append_assoc}
+use Rattle.std.proofs.Common.{◌≡◌, ℕ, ◌+◌, ◌-◌, ◌*◌, ◌/◌, ◌%◌, ◌^◌, ◌<◌, ◌≤◌, Bool, true, false, pos, List, [], ◌∷◌}
+use Rattle.std.proofs.Common.{◌++◌, length, take, refl, ap, sym, ◌∙◌, arith, inl, append_assoc}
 use Rattle.std.specs.Prelude.{◌&&◌}
 use Rattle.std.specs.Fmt.{decimal as decimal_text}
 use Rattle.std.specs.List.{take_while, list_all}
@@ -83,7 +84,8 @@ text-pieces (token t ∷ rest) =
     ap (λ bytes. spelling t ++ bytes) (text-pieces rest)
     ∙ sym (append_assoc (spelling t) (leading rest) (pieces.text_of (pieces_of rest)))
 text-pieces (blanks bytes ∷ rest) =
-    ap (λ more. bytes ++ more) (text-pieces rest) ∙ sym (append_assoc bytes (leading rest) (pieces.text_of (pieces_of rest)))
+    ap (λ more. bytes ++ more) (text-pieces rest)
+    ∙ sym (append_assoc bytes (leading rest) (pieces.text_of (pieces_of rest)))
 
 pub blank_gap : (bytes rest : List ℕ) → AreBlank bytes → IsGap rest → IsGap (bytes ++ rest)
 blank_gap [] rest h g = g
@@ -104,7 +106,8 @@ take_while-all p (b ∷ bytes) h =
     let tests = both (p b) (list_all p bytes) h in
     sym (take_while-cons p b bytes ∙ (rw tests.0 (ap (λ rest. b ∷ rest) (sym (take_while-all p bytes tests.1)))))
 
-pub begins_with-more : (test : ℕ → Bool) (bytes after : List ℕ) → begins_with test bytes ≡ true → begins_with test (bytes ++ after) ≡ true
+pub begins_with-more : (test : ℕ → Bool) (bytes after : List ℕ) → begins_with test bytes ≡ true
+    → begins_with test (bytes ++ after) ≡ true
 begins_with-more test [] after begins = absurd (cc)
 begins_with-more test (b ∷ bytes) after begins = begins
 

@@ -1,6 +1,7 @@
 -- An expression's listing is an expression again, in no more levels than it was read in: a pair of parentheses in the
 -- listing stands where a pair stood in what was read.
-use Rattle.std.proofs.Common.{◌≡◌, ℕ, zero, suc, ◌+◌, ◌≤◌, cond, List, [], ◌∷◌, ◌++◌, refl, subst, arith, ⊎_elim, ltb-false}
+use Rattle.std.proofs.Common.{◌≡◌, ℕ, zero, suc, ◌+◌, ◌≤◌, cond, List, [], ◌∷◌, ◌++◌, refl, subst, arith, ⊎_elim}
+use Rattle.std.proofs.Common.{ltb-false}
 use Rattle.std.specs.Prelude.{nat_lt}
 use Rattle.std.proofs.lemmas.List.{append-nil}
 use Rattle.std.proofs.lemmas.Bool.{cases_Bool}
@@ -25,10 +26,12 @@ IsAt vars (suc (suc zero)) room a x = IsChain vars products room a x
 IsAt vars (suc (suc (suc n))) room a x = IsUnary vars room a x
 
 -- a unary is a product, and a product is a sum
-as_product : (vars : List Name) (room : ℕ) (a : List Noted) (x : Expression) → IsUnary vars room a x → IsChain vars products room a x
+as_product : (vars : List Name) (room : ℕ) (a : List Noted) (x : Expression) → IsUnary vars room a x
+    → IsChain vars products room a x
 as_product vars room a x u = subst (λ b. IsChain vars products room b x) (append-nil a) (operands (unary u) pairs_end)
 
-as_sum : (vars : List Name) (room : ℕ) (a : List Noted) (x : Expression) → IsChain vars products room a x → IsChain vars sums room a x
+as_sum : (vars : List Name) (room : ℕ) (a : List Noted) (x : Expression) → IsChain vars products room a x
+    → IsChain vars sums room a x
 as_sum vars room a x c = subst (λ b. IsChain vars sums room b x) (append-nil a) (operands (product c) pairs_end)
 
 -- what binds more tightly stands where less is needed
@@ -79,7 +82,8 @@ room_for (suc m) t h = (m, refl)
 
 in_parens : {script : List Task} {vars : List Name} {x : Expression} {parts : List Part} (lvl room : ℕ)
     → Again script (λ a. IsAt vars lvl room a x) parts
-    → Again script (λ a. IsUnary vars (suc room) a x) (listing.mark m.ParenOpen ∷ (parts ++ listing.mark m.ParenClose ∷ []))
+    → Again script (λ a. IsUnary vars (suc room) a x)
+    (listing.mark m.ParenOpen ∷ (parts ++ listing.mark m.ParenClose ∷ []))
 in_parens {script} {vars} {x} {parts} lvl room p =
     let inner = back {R = λ a. (b : List Noted) × (a ≡ b ++ mark m.ParenClose ∷ []) × IsExpression vars room b x}
     (mark m.ParenClose) (fine_mark script m.ParenClose)
@@ -96,7 +100,8 @@ at_need {script} {names} {vars} {x} {room} need small f more h =
     (λ e.
     let one : parens need (level x) ≡ 1 = rw e refl in
     let m = room_above more f.inner (omega (arith, f.below)) in
-    rw e (also (λ a is. lift vars more a x need 3 small (omega arith) (rw m.1 is)) (in_parens (level x) m.0 (f.lists m.0 m.2))))
+    rw e (also (λ a is. lift vars more a x need 3 small (omega arith) (rw m.1 is))
+    (in_parens (level x) m.0 (f.lists m.0 m.2))))
     (λ e.
     let tight : need ≤ level x = ltb-false (level x) need e in
     rw e (also (λ a is. lift vars more a x need (level x) tight small is) (f.lists more (omega (arith, f.below)))))

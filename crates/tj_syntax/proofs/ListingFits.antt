@@ -12,11 +12,14 @@ use Rattle.tj_syntax.specs.declared.fault.Breach.TheVariants.{Deep}
 use Rattle.tj_syntax.specs.Trees as tree
 use Rattle.tj_syntax.specs.Trees.{Expression, Pairs, Task}
 use Rattle.tj_syntax.specs.Marks.{Name, Noted, fine, key, mark, opening, number_of, use_of}
-use Rattle.tj_syntax.specs.Grammar.{level_of, op_mark, rel_mark, chain_of, IsExpression, alone, compared, IsChain, operands, IsPairs, pairs_end, pairs_more, IsOperand, product, unary, IsUnary, signed, number, name, me, grouped}
+use Rattle.tj_syntax.specs.Grammar.{level_of, op_mark, rel_mark, chain_of, IsExpression, alone, compared, IsChain}
+use Rattle.tj_syntax.specs.Grammar.{operands, IsPairs, pairs_end, pairs_more, IsOperand, product, unary, IsUnary}
+use Rattle.tj_syntax.specs.Grammar.{signed, number, name, me, grouped}
 use Rattle.tj_syntax.specs.Listing as listing
 use Rattle.tj_syntax.specs.Listing.{Part, token, blanks, level, op_level, pairs_level, at_level, operand, pairs_parts}
 use Rattle.tj_syntax.proofs.ListingNames.{number-name, known_by_use}
-use Rattle.tj_syntax.proofs.ListingAgain.{IsFine, AreFine, Again, fine-split, fine_mark, both, front, only, also, spaced, none}
+use Rattle.tj_syntax.proofs.ListingAgain.{IsFine, AreFine, Again, fine-split, fine_mark, both, front, only, also}
+use Rattle.tj_syntax.proofs.ListingAgain.{spaced, none}
 use Rattle.tj_syntax.proofs.ListingExpr.{IsAt, parens, Fits, fits_less, at_need}
 
 -- the names of a task, of which these are known
@@ -24,10 +27,12 @@ pub record IsFront (vars names : List Name) : Type 0 where
   pub rest : List Name
   pub whole : vars ++ rest ≡ names
 
-pub known_name : {script : List Task} {vars names : List Name} (x : Name) → IsFront vars names → IsFine script (toks.Name x, use_of vars x)
+pub known_name : {script : List Task} {vars names : List Name} (x : Name) → IsFront vars names
+    → IsFine script (toks.Name x, use_of vars x)
     → get_or names (number_of vars x) [] ≡ x
 known_name {script} {vars} {names} x f h =
-    subst (λ all. get_or all (number_of vars x) [] ≡ x) f.whole (number-name vars f.rest x (known_by_use vars x h.unbroken))
+    subst (λ all. get_or all (number_of vars x) [] ≡ x) f.whole
+    (number-name vars f.rest x (known_by_use vars x h.unbroken))
 
 -- the level of the operands of a chain is one more than the chain's
 abbrev pub need_of : Level → ℕ
@@ -46,7 +51,8 @@ op_need op.Times sums e = absurd (cc)
 op_need op.Over sums e = absurd (cc)
 op_need op.Rest sums e = absurd (cc)
 
-as_operand : (vars : List Name) (l : Level) (room : ℕ) (a : List Noted) (x : Expression) → IsAt vars (need_of l + 1) room a x
+as_operand : (vars : List Name) (l : Level) (room : ℕ) (a : List Noted) (x : Expression)
+    → IsAt vars (need_of l + 1) room a x
     → IsOperand vars l room a x
 as_operand vars sums room a x is = product is
 as_operand vars products room a x is = unary is
@@ -87,32 +93,39 @@ negated : {script : List Task} {names vars : List Name} {x : Expression} (room :
     → Again script (λ a. IsUnary vars more a (tree.negation x)) (listing.expression names (tree.negation x))
 negated {script} {names} {vars} {x} room f more h =
     let above = room_above more room h in
-    rw above.1 (front {R = λ a. IsUnary vars (suc above.0) a (tree.negation x)} (toks.Mark m.Minus, fine) (fine_mark script m.Minus)
+    rw above.1 (front {R = λ a. IsUnary vars (suc above.0) a (tree.negation x)} (toks.Mark m.Minus, fine)
+    (fine_mark script m.Minus)
     (λ a is. signed {room = suc above.0} is) (at_need 3 (omega arith) f above.0 above.2))
 
 -- an operand of a chain with this operator
-operand_again : {script : List Task} {names vars : List Name} {x : Expression} {room : ℕ} (l : Level) (o : Op) → level_of o ≡ l
+operand_again : {script : List Task} {names vars : List Name} {x : Expression} {room : ℕ} (l : Level) (o : Op)
+    → level_of o ≡ l
     → Fits script names vars (need_of l + 1) x room → (more : ℕ) → room ≤ more
     → Again script (λ a. IsOperand vars l more a x) (operand names (op_level o + 1) x)
 operand_again {script} {names} {vars} {x} {room} l o e f more h =
     rw (op_need o l e) (also (λ a is. as_operand vars l more a x is) (at_need (need_of l + 1) (need_small l) f more h))
 
-chained : {script : List Task} {names vars : List Name} (l : Level) (o : Op) (x y : Expression) (pairs : Pairs) (room : ℕ) → level_of o ≡ l
+chained : {script : List Task} {names vars : List Name} (l : Level) (o : Op) (x y : Expression) (pairs : Pairs)
+    (room : ℕ) → level_of o ≡ l
     → Fits script names vars (need_of l + 1) x room
-    → ((more : ℕ) → room ≤ more → Again script (λ a. IsPairs vars l more a (tree.pair o y pairs)) (pairs_parts names (tree.pair o y pairs)))
+    → ((more : ℕ) → room ≤ more → Again script (λ a. IsPairs vars l more a (tree.pair o y pairs))
+    (pairs_parts names (tree.pair o y pairs)))
     → Fits script names vars (need_of l) (tree.chain x (tree.pair o y pairs)) room
 chained {script} {names} {vars} l o x y pairs room e f rest =
     bare (need_of l) (op_need o l e) (λ more h.
     both (λ a b is are. as_chain vars l more (a ++ b) _ (operands is are)) (operand_again l o e f more h) (rest more h))
 
 -- one pair before others
-next_pair : (script : List Task) (names vars : List Name) (l : Level) (o : Op) (y : Expression) (pairs : Pairs) (room : ℕ) → level_of o ≡ l
+next_pair : (script : List Task) (names vars : List Name) (l : Level) (o : Op) (y : Expression) (pairs : Pairs)
+    (room : ℕ) → level_of o ≡ l
     → Fits script names vars (need_of l + 1) y room
     → ((more : ℕ) → room ≤ more → Again script (λ a. IsPairs vars l more a pairs) (pairs_parts names pairs))
-    → (more : ℕ) → room ≤ more → Again script (λ a. IsPairs vars l more a (tree.pair o y pairs)) (pairs_parts names (tree.pair o y pairs))
+    → (more : ℕ) → room ≤ more → Again script (λ a. IsPairs vars l more a (tree.pair o y pairs))
+    (pairs_parts names (tree.pair o y pairs))
 next_pair script names vars l o y pairs room e f rest more h =
     let one = operand_again l o e f more h in
-    spaced (front {P = λ c. (a : List Noted) × (b : List Noted) × (c ≡ a ++ b) × IsOperand vars l more a y × IsPairs vars l more b pairs}
+    spaced (front {P = λ c. (a : List Noted) × (b : List Noted) × (c ≡ a ++ b) × IsOperand vars l more a y
+    × IsPairs vars l more b pairs}
     (mark (op_mark o)) (fine_mark script (op_mark o))
     (λ c is. rw is.2 (pairs_more o e is.3 is.4))
     (spaced (both (λ a b is are. (a, b, refl, is, are)) one (rest more h))))
@@ -131,9 +144,11 @@ in_group {script} {names} {vars} {x} room f = record {
 }
 
 mutual
-  pub expression_fits : (script : List Task) (names vars : List Name) (f : IsFront vars names) (room : ℕ) (a : List Noted) (x : Expression)
+  pub expression_fits : (script : List Task) (names vars : List Name) (f : IsFront vars names) (room : ℕ)
+      (a : List Noted) (x : Expression)
       → IsExpression vars room a x → AreFine script a → Fits script names vars 0 x room
-  expression_fits script names vars f room a x (alone c) h = fits_less 1 0 (omega arith) (chain_fits script names vars f sums room a x c h)
+  expression_fits script names vars f room a x (alone c) h =
+      fits_less 1 0 (omega arith) (chain_fits script names vars f sums room a x c h)
   expression_fits script names vars f room _ _ (compared {a = a} {b = b} {x = x} {y = y} rel p q) h =
       let hs = fine-split script a (mark (rel_mark rel) ∷ b) h in
       let left = chain_fits script names vars f sums room a x p hs.0 in
@@ -144,39 +159,47 @@ mutual
       (mark (rel_mark rel)) (fine_mark script (rel_mark rel)) (λ e is. (e, refl, is))
       (spaced (at_need 1 (omega arith) right more i)))))
 
-  pub chain_fits : (script : List Task) (names vars : List Name) (f : IsFront vars names) (l : Level) (room : ℕ) (a : List Noted) (x : Expression)
+  pub chain_fits : (script : List Task) (names vars : List Name) (f : IsFront vars names) (l : Level) (room : ℕ)
+      (a : List Noted) (x : Expression)
       → IsChain vars l room a x → AreFine script a → Fits script names vars (need_of l) x room
   chain_fits script names vars f l room _ _ (operands {a = a} {b = b} {x = x} {pairs = pairs} o ps) h =
       let hs = fine-split script a b h in
       let first = operand_fits script names vars f l room a x o hs.0 in
       chain_of_fits script names vars f l room b x pairs first ps hs.1
 
-  chain_of_fits : (script : List Task) (names vars : List Name) (f : IsFront vars names) (l : Level) (room : ℕ) (b : List Noted) (x : Expression) (pairs : Pairs)
+  chain_of_fits : (script : List Task) (names vars : List Name) (f : IsFront vars names) (l : Level) (room : ℕ)
+      (b : List Noted) (x : Expression) (pairs : Pairs)
       → Fits script names vars (need_of l + 1) x room → IsPairs vars l room b pairs → AreFine script b
       → Fits script names vars (need_of l) (chain_of x pairs) room
-  chain_of_fits script names vars f l room _ x _ first pairs_end h = fits_less (need_of l + 1) (need_of l) (omega arith) first
-  chain_of_fits script names vars f l room _ x _ first (pairs_more {a = a} {b = b} {y = y} {pairs = pairs} o e one more) h =
+  chain_of_fits script names vars f l room _ x _ first pairs_end h =
+      fits_less (need_of l + 1) (need_of l) (omega arith) first
+  chain_of_fits script names vars f l room _ x _ first
+      (pairs_more {a = a} {b = b} {y = y} {pairs = pairs} o e one more) h =
       let hs = fine-split script a b h.1 in
       let second = operand_fits script names vars f l room a y one hs.0 in
       let others = pairs_again script names vars f l room b pairs more hs.1 in
       chained l o x y pairs room e first (next_pair script names vars l o y pairs room e second others)
 
-  pub operand_fits : (script : List Task) (names vars : List Name) (f : IsFront vars names) (l : Level) (room : ℕ) (a : List Noted) (x : Expression)
+  pub operand_fits : (script : List Task) (names vars : List Name) (f : IsFront vars names) (l : Level) (room : ℕ)
+      (a : List Noted) (x : Expression)
       → IsOperand vars l room a x → AreFine script a → Fits script names vars (need_of l + 1) x room
   operand_fits script names vars f _ room a x (product c) h = chain_fits script names vars f products room a x c h
   operand_fits script names vars f _ room a x (unary u) h = unary_fits script names vars f room a x u h
 
-  pub pairs_again : (script : List Task) (names vars : List Name) (f : IsFront vars names) (l : Level) (room : ℕ) (a : List Noted) (pairs : Pairs)
+  pub pairs_again : (script : List Task) (names vars : List Name) (f : IsFront vars names) (l : Level) (room : ℕ)
+      (a : List Noted) (pairs : Pairs)
       → IsPairs vars l room a pairs → AreFine script a
       → (more : ℕ) → room ≤ more → Again script (λ b. IsPairs vars l more b pairs) (pairs_parts names pairs)
   pairs_again script names vars f l room _ _ pairs_end h more i = none pairs_end
-  pairs_again script names vars f l room _ _ (pairs_more {a = a} {b = b} {y = y} {pairs = pairs} o e one rest) h more i =
+  pairs_again script names vars f l room _ _ (pairs_more {a = a} {b = b} {y = y} {pairs = pairs} o e one rest) h more
+      i =
       let hs = fine-split script a b h.1 in
       let second = operand_fits script names vars f l room a y one hs.0 in
       let others = pairs_again script names vars f l room b pairs rest hs.1 in
       next_pair script names vars l o y pairs room e second others more i
 
-  pub unary_fits : (script : List Task) (names vars : List Name) (f : IsFront vars names) (room : ℕ) (a : List Noted) (x : Expression)
+  pub unary_fits : (script : List Task) (names vars : List Name) (f : IsFront vars names) (room : ℕ) (a : List Noted)
+      (x : Expression)
       → IsUnary vars room a x → AreFine script a → Fits script names vars 3 x room
   unary_fits script names vars f zero _ _ (signed {a = a} {x = x} u) h = absurd (room_none h.0)
   unary_fits script names vars f (suc room) _ _ (signed {a = a} {x = x} u) h =

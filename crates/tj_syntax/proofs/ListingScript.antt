@@ -9,11 +9,13 @@ use Rattle.tj_lex.specs.declared.token.Key.TheVariants as k
 use Rattle.tj_lex.specs.declared.token.Mark.TheVariants as m
 use Rattle.tj_syntax.specs.Trees.{Statements, Task}
 use Rattle.tj_syntax.specs.Marks.{Name, Noted, declares, key, mark, most_tasks, most_levels, declaration}
-use Rattle.tj_syntax.specs.Grammar.{IsBlock, IsMoreParams, params_end, params_more, IsParams, no_params, params, IsTask, task, IsTasks, tasks_end, tasks_more}
+use Rattle.tj_syntax.specs.Grammar.{IsBlock, IsMoreParams, params_end, params_more, IsParams, no_params, params}
+use Rattle.tj_syntax.specs.Grammar.{IsTask, task, IsTasks, tasks_end, tasks_more}
 use Rattle.tj_syntax.specs.Faults.{tokens_of, AreUnbroken, AreForksRight, IsScript}
 use Rattle.tj_syntax.specs.Listing as listing
 use Rattle.tj_syntax.specs.Listing.{Part, token, names_of, CanStand}
-use Rattle.tj_syntax.proofs.ListingAgain.{AllStand, IsFine, AreFine, toks_of, Again, fine-split, fine_mark, fine_key, both, front, spaced, lined, none}
+use Rattle.tj_syntax.proofs.ListingAgain.{AllStand, IsFine, AreFine, toks_of, Again, fine-split, fine_mark, fine_key}
+use Rattle.tj_syntax.proofs.ListingAgain.{both, front, spaced, lined, none}
 use Rattle.tj_syntax.proofs.ListingFits.{IsFront}
 use Rattle.tj_syntax.proofs.ListingStmt.{braces_again}
 
@@ -23,7 +25,8 @@ record MoreParams (earlier all : List Name) (a : List Noted) : Type 0 where
   whole : all ≡ earlier ++ more
   spells : tokens_of a ≡ toks_of (listing.more_params more)
 
-more_params : (earlier : List Name) (a : List Noted) (all : List Name) → IsMoreParams earlier a all → MoreParams earlier all a
+more_params : (earlier : List Name) (a : List Noted) (all : List Name) → IsMoreParams earlier a all
+    → MoreParams earlier all a
 more_params earlier _ _ params_end = record { more = []; whole = sym (append-nil earlier); spells = refl }
 more_params earlier _ all (params_more {a = a} x p) =
     let rest = more_params (earlier ++ x ∷ []) a all p in
@@ -46,9 +49,11 @@ first_params some vars f = subst (λ all. take (length some) all ≡ some) f.who
 task_parts : {script : List Task} {earlier some vars : List Name} {body : Statements} (f : Name)
     → IsFine script (toks.Name f, declaration most_tasks earlier f (declares (length some)))
     → Again script (λ a. IsParams a some) (listing.params some)
-    → Again script (λ b. IsBlock (names_of script) most_levels some b body vars) (listing.block (names_of script) vars [] body)
+    → Again script (λ b. IsBlock (names_of script) most_levels some b body vars)
+    (listing.block (names_of script) vars [] body)
     → take (length some) vars ≡ some
-    → Again script (λ c. IsTask (names_of script) earlier c (record { name = f; params = length some; vars = vars; body = body }))
+    → Again script (λ c. IsTask (names_of script) earlier c
+    (record { name = f; params = length some; vars = vars; body = body }))
     (listing.task (names_of script) (record { name = f; params = length some; vars = vars; body = body }))
 task_parts {script} {earlier} {some} {vars} {body} f ok p q e =
     let noted : Noted = (toks.Name f, declaration most_tasks earlier f (declares (length some))) in
@@ -56,15 +61,19 @@ task_parts {script} {earlier} {some} {vars} {body} f ok p q e =
     (listing.block (names_of script) vars [] body ++ listing.line_end ∷ []) =
     both {Q = λ n. n ≡ []} (λ b n is nil. rw (nil, append-nil b) is) q
     (lined (none refl)) in
-    let closed = front {R = λ d. (b : List Noted) × (d ≡ mark m.ParenClose ∷ b) × IsBlock (names_of script) most_levels some b body vars}
+    let closed = front {R = λ d. (b : List Noted) × (d ≡ mark m.ParenClose ∷ b)
+    × IsBlock (names_of script) most_levels some b body vars}
     (mark m.ParenClose) (fine_mark script m.ParenClose) (λ b is. (b, refl, is)) (spaced block) in
     let heads = both {R = λ d. (a : List Noted) × (b : List Noted) × (d ≡ a ++ mark m.ParenClose ∷ b) × IsParams a some
     × IsBlock (names_of script) most_levels some b body vars}
     (λ a d is are. (a, are.0, ap (λ n. a ++ n) are.1, is, are.2)) p closed in
-    let open_ = front {R = λ d. (a : List Noted) × (b : List Noted) × (d ≡ mark m.ParenOpen ∷ (a ++ mark m.ParenClose ∷ b)) × IsParams a some
+    let open_ = front {R = λ d. (a : List Noted) × (b : List Noted)
+    × (d ≡ mark m.ParenOpen ∷ (a ++ mark m.ParenClose ∷ b)) × IsParams a some
     × IsBlock (names_of script) most_levels some b body vars}
-    (mark m.ParenOpen) (fine_mark script m.ParenOpen) (λ d is. (is.0, is.1, ap (λ n. mark m.ParenOpen ∷ n) is.2, is.3, is.4)) heads in
-    let named = front {R = λ d. (a : List Noted) × (b : List Noted) × (d ≡ noted ∷ mark m.ParenOpen ∷ (a ++ mark m.ParenClose ∷ b)) × IsParams a some
+    (mark m.ParenOpen) (fine_mark script m.ParenOpen)
+    (λ d is. (is.0, is.1, ap (λ n. mark m.ParenOpen ∷ n) is.2, is.3, is.4)) heads in
+    let named = front {R = λ d. (a : List Noted) × (b : List Noted)
+    × (d ≡ noted ∷ mark m.ParenOpen ∷ (a ++ mark m.ParenClose ∷ b)) × IsParams a some
     × IsBlock (names_of script) most_levels some b body vars}
     noted ok (λ d is. (is.0, is.1, ap (λ n. noted ∷ n) is.2, is.3, is.4)) open_ in
     rw e (front (key k.Task) (fine_key script k.Task) (λ d is. rw is.2 (task f is.3 is.4)) (spaced named))
@@ -73,7 +82,8 @@ all_stand : (script : List Task) (notes : List Noted) → AreFine script notes �
 all_stand script [] h = tt
 all_stand script (n ∷ notes) h = (h.0.stands, all_stand script notes h.1)
 
-more_params_stand : (xs : List Name) → AllByRecursion CanStand (toks_of (listing.more_params xs)) → AllStand (listing.more_params xs)
+more_params_stand : (xs : List Name) → AllByRecursion CanStand (toks_of (listing.more_params xs))
+    → AllStand (listing.more_params xs)
 more_params_stand [] h = tt
 more_params_stand (x ∷ xs) h = (tt, ((refl, tt), (h.1.0, more_params_stand xs h.1.1)))
 
@@ -81,11 +91,13 @@ params_stand : (xs : List Name) → AllByRecursion CanStand (toks_of (listing.pa
 params_stand [] h = tt
 params_stand (x ∷ xs) h = (h.0, more_params_stand xs h.1)
 
-task_again : (script : List Task) (earlier : List Name) (a : List Noted) (t : Task) → IsTask (names_of script) earlier a t → AreFine script a
+task_again : (script : List Task) (earlier : List Name) (a : List Noted) (t : Task)
+    → IsTask (names_of script) earlier a t → AreFine script a
     → Again script (λ b. IsTask (names_of script) earlier b t) (listing.task (names_of script) t)
 task_again script earlier _ _ (task {a = a} {b = b} {params = some} {vars = vars} {body = body} f p q) h =
     let hs = fine-split script a (mark m.ParenClose ∷ b) h.1.1.1 in
-    let block = braces_again script (names_of script) refl vars most_levels some b body vars q (record { rest = []; whole = append-nil vars }) hs.1.1 in
+    let block = braces_again script (names_of script) refl vars most_levels some b body vars q
+    (record { rest = []; whole = append-nil vars }) hs.1.1 in
     task_parts f h.1.0 (record {
       notes = a;
       right = p;
@@ -95,7 +107,8 @@ task_again script earlier _ _ (task {a = a} {b = b} {params = some} {vars = vars
     })
     (block.again [] tt) (first_params some vars block.before_it)
 
-tasks_again : (script : List Task) (earlier : List Name) (a : List Noted) (ts : List Task) → IsTasks (names_of script) earlier a ts → AreFine script a
+tasks_again : (script : List Task) (earlier : List Name) (a : List Noted) (ts : List Task)
+    → IsTasks (names_of script) earlier a ts → AreFine script a
     → Again script (λ b. IsTasks (names_of script) earlier b ts) (flat_map (listing.task (names_of script)) ts)
 tasks_again script earlier _ _ tasks_end h = none tasks_end
 tasks_again script earlier _ _ (tasks_more {a = a} {b = b} {t = t} {rest = rest} p ps) h =
@@ -126,10 +139,12 @@ pub record ListedAgain (script : List Task) : Type 0 where
   pub is : IsScript (toks_of (listing.script script) ++ toks.End ∷ []) script
   pub stand : AllStand (listing.script script)
 
-pub script_again : (tokens : List Tok) (script : List Task) → AllByRecursion CanStand tokens → IsScript tokens script → ListedAgain script
+pub script_again : (tokens : List Tok) (script : List Task) → AllByRecursion CanStand tokens → IsScript tokens script
+    → ListedAgain script
 script_again tokens script stand h =
     let stands = front_stands (tokens_of h.notes) (toks.End ∷ []) (subst (AllByRecursion CanStand) h.spells stand) in
-    let again = tasks_again script [] h.notes script h.derived (all_fine script h.notes h.unbroken h.forks_right stands) in
+    let again = tasks_again script [] h.notes script h.derived
+    (all_fine script h.notes h.unbroken h.forks_right stands) in
     record {
       is = record {
         notes = again.notes;

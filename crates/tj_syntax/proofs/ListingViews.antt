@@ -1,5 +1,6 @@
 -- Parsed values and the trees that they stand for, and the texts of parts one behind the other.
-use Rattle.std.proofs.Common.{◌≡◌, ℕ, zero, suc, get_or, sym, ◌<◌, List, [], ◌∷◌, ◌++◌, length, map, Vec, Global, ap, rules, arith}
+use Rattle.std.proofs.Common.{◌≡◌, ℕ, zero, suc, get_or, sym, ◌<◌, List, [], ◌∷◌, ◌++◌, length, map, Vec, Global, ap}
+use Rattle.std.proofs.Common.{rules, arith}
 use Rattle.std.proofs.lemmas.Grind.{flat_map-append}
 use Rattle.std.specs.declared.boxed.Box.{Box}
 use Rattle.tj_syntax.specs.declared.expr.Op.{Op}

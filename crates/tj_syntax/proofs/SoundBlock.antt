@@ -1,5 +1,6 @@
 -- What is read as a block is one.
-use Rattle.std.proofs.Common.{◌≡◌, ℕ, zero, suc, false, List, [], ◌∷◌, ◌++◌, length, Ok, refl, ap, sym, ◌∙◌, subst, append_assoc, ⊎_elim}
+use Rattle.std.proofs.Common.{◌≡◌, ℕ, zero, suc, false, List, [], ◌∷◌, ◌++◌, length, Ok, refl, ap, sym, ◌∙◌, subst}
+use Rattle.std.proofs.Common.{append_assoc, ⊎_elim}
 use Rattle.std.proofs.lemmas.List.{append-nil}
 use Rattle.tj_lex.specs.declared.token.Tok.{Tok}
 use Rattle.tj_lex.specs.declared.token.Tok.TheVariants as toks
@@ -12,11 +13,13 @@ use Rattle.tj_syntax.specs.Grammar as g
 use Rattle.tj_syntax.specs.Grammar.{IsExpression, IsRequest, IsGiven, IsStatement, IsBlock, IsStatements, IsElse}
 use Rattle.tj_syntax.specs.View.{statements_of}
 use Rattle.tj_syntax.specs.Input.{Input, Parser, and_then, first, next, refuse, sees, open_level, names_of}
-use Rattle.tj_syntax.specs.Reading.{expression, ended, otherwise_by, otherwise, choose, repeat, statement_by, statement_over, statements_from, statements, block_by, block}
+use Rattle.tj_syntax.specs.Reading.{expression, ended, otherwise_by, otherwise, choose, repeat, statement_by}
+use Rattle.tj_syntax.specs.Reading.{statement_over, statements_from, statements, block_by, block}
 use Rattle.tj_syntax.proofs.Taken.{Took, took_nothing, took_both, bind_ok, if_ok, landed, is_task}
 use Rattle.tj_syntax.proofs.SoundSteps.{took_fine, opened, mark_next}
 use Rattle.tj_syntax.proofs.SoundCall.{expressions_sound}
-use Rattle.tj_syntax.proofs.SoundStmt.{Made, Behind, Whole, let_new_sound, assign_sound, set_cell_sound, ended_sound, ask_sound}
+use Rattle.tj_syntax.proofs.SoundStmt.{Made, Behind, Whole, let_new_sound, assign_sound, set_cell_sound, ended_sound}
+use Rattle.tj_syntax.proofs.SoundStmt.{ask_sound}
 
 -- ---- blocks
 
@@ -26,11 +29,11 @@ refuse_made : {A : Type 0} (P : Input → List Noted → A → List Name → Typ
 ) → Made i j (λ notes last. P i notes a last)
 refuse_made P i j a h = absurd (cc)
 
-abbrev SoundBlock : ℕ → Parser Statements → Type 0
+abbrev pub SoundBlock : ℕ → Parser Statements → Type 0
 SoundBlock room p = (i j : Input) (b : Statements) → p i ≡ Ok (b, j) → Made i j (λ notes last. IsBlock (names_of
     i.tasks) room i.vars notes b last)
 
-abbrev SoundStatement : ℕ → Parser Statement → Type 0
+abbrev pub SoundStatement : ℕ → Parser Statement → Type 0
 SoundStatement room p = (i j : Input) (s : Statement) → p i ≡ Ok (s, j) → Whole room i j s
 
 otherwise_by_sound : (room : ℕ) (block : Parser Statements) → SoundBlock room block → (ts : List Tok) (i j : Input) (o
@@ -143,7 +146,8 @@ statement_by_sound room block sb (toks.Key k.Return ∷ rest) i j s e h =
     })
 statement_by_sound room block sb (t ∷ rest) i j s e h = ask_sound room i j s h
 
-statement_sound : (room : ℕ) (block : Parser Statements) → SoundBlock room block → SoundStatement room (statement_over
+pub statement_sound : (room : ℕ) (block : Parser Statements) → SoundBlock room block
+    → SoundStatement room (statement_over
     room block)
 unfolding statement_over
 statement_sound room block sb i j s h = statement_by_sound room block sb i.ahead i j s refl h
@@ -213,7 +217,7 @@ block_by_sound room item si (toks.Mark m.BraceOpen ∷ rest) i j b e h =
     }
 block_by_sound room item si (t ∷ rest) i j b e h = absurd (cc)
 
-refused_statement : (room : ℕ) → SoundStatement room refuse
+pub refused_statement : (room : ℕ) → SoundStatement room refuse
 refused_statement room i j s h = absurd (cc)
 
 pub block_sound : (room : ℕ) → SoundBlock room (block room)

@@ -1,5 +1,6 @@
 -- What is read as an ask is one.
-use Rattle.std.proofs.Common.{◌≡◌, ℕ, zero, suc, cond, List, [], ◌∷◌, ◌++◌, length, Option, Some, None, Ok, refl, ap, sym, ◌∙◌, subst, append_assoc, ⊎_elim}
+use Rattle.std.proofs.Common.{◌≡◌, ℕ, zero, suc, cond, List, [], ◌∷◌, ◌++◌, length, Option, Some, None, Ok, refl, ap}
+use Rattle.std.proofs.Common.{sym, ◌∙◌, subst, append_assoc, ⊎_elim}
 use Rattle.tj_lex.specs.declared.token.Tok.{Tok}
 use Rattle.tj_lex.specs.declared.token.Tok.TheVariants as toks
 use Rattle.tj_lex.specs.declared.token.Key.TheVariants as k
@@ -11,9 +12,11 @@ use Rattle.tj_syntax.specs.Trees as tree
 use Rattle.tj_syntax.specs.Trees.{Expression, Argument, Request, Given}
 use Rattle.tj_syntax.specs.Marks.{Name, Noted, key, mark, number_of, use_of}
 use Rattle.tj_syntax.specs.Grammar as g
-use Rattle.tj_syntax.specs.Grammar.{IsExpression, IsArgument, IsMoreArguments, IsArguments, IsReference, IsOr, IsRequest, IsGiven}
+use Rattle.tj_syntax.specs.Grammar.{IsExpression, IsArgument, IsMoreArguments, IsArguments, IsReference, IsOr}
+use Rattle.tj_syntax.specs.Grammar.{IsRequest, IsGiven}
 use Rattle.tj_syntax.specs.Input.{Input, Outcome, and_then, first, next, sees, eat, known, variable, variable_by}
-use Rattle.tj_syntax.specs.Reading.{expression, separated_from, separated, argument_by, argument, reference_by, reference, alternative_by, alternative, asked}
+use Rattle.tj_syntax.specs.Reading.{expression, separated_from, separated, argument_by, argument, reference_by}
+use Rattle.tj_syntax.specs.Reading.{reference, alternative_by, alternative, asked}
 use Rattle.tj_syntax.proofs.Taken.{Took, Got, Sound, took_nothing, took_both, bind_ok, if_ok, landed}
 use Rattle.tj_syntax.proofs.SoundSteps.{took_fine, Stepped, ate, knew}
 use Rattle.tj_syntax.proofs.SoundExpr.{unary_sound, expression_sound}
@@ -154,7 +157,8 @@ arguments_sound room i j xs h =
 
 -- ---- gets and joins
 
-reference_by_sound : (ts : List Tok) (i j : Input) (r : RefOf) → i.ahead ≡ ts → reference_by (first ts) i ≡ Ok (r, j)
+pub reference_by_sound : (ts : List Tok) (i j : Input) (r : RefOf) → i.ahead ≡ ts
+    → reference_by (first ts) i ≡ Ok (r, j)
     → Got i j (λ notes. IsReference i.vars notes r)
 reference_by_sound [] i j r e h = absurd (cc)
 reference_by_sound (toks.Name x ∷ rest) i j r e h =

@@ -1,5 +1,6 @@
 -- What is read as an expression is one.
-use Rattle.std.proofs.Common.{◌≡◌, ℕ, zero, suc, List, [], ◌∷◌, ◌++◌, length, Option, Some, None, Ok, refl, ap, sym, ◌∙◌, subst, append_assoc}
+use Rattle.std.proofs.Common.{◌≡◌, ℕ, zero, suc, List, [], ◌∷◌, ◌++◌, length, Option, Some, None, Ok, refl, ap, sym}
+use Rattle.std.proofs.Common.{◌∙◌, subst, append_assoc}
 use Rattle.std.proofs.lemmas.List.{append-nil}
 use Rattle.tj_lex.specs.declared.token.Tok.{Tok}
 use Rattle.tj_lex.specs.declared.token.Tok.TheVariants as toks
@@ -14,14 +15,17 @@ use Rattle.tj_syntax.specs.declared.expr.Rel.TheVariants as rel
 use Rattle.tj_syntax.specs.Trees as tree
 use Rattle.tj_syntax.specs.Trees.{Expression, Pairs}
 use Rattle.tj_syntax.specs.Marks.{Name, Noted, fine, key, mark, opening, within, use_of}
-use Rattle.tj_syntax.specs.Grammar.{level_of, op_mark, rel_mark, chain_of, IsExpression, alone, compared, IsChain, operands, IsPairs, pairs_end, pairs_more, IsOperand, product, unary as one_unary, IsUnary, signed, number, name, me, grouped}
+use Rattle.tj_syntax.specs.Grammar.{level_of, op_mark, rel_mark, chain_of, IsExpression, alone, compared, IsChain}
+use Rattle.tj_syntax.specs.Grammar.{operands, IsPairs, pairs_end, pairs_more, IsOperand, product, unary as one_unary}
+use Rattle.tj_syntax.specs.Grammar.{IsUnary, signed, number, name, me, grouped}
 use Rattle.tj_syntax.specs.View.{pairs_of}
 use Rattle.tj_syntax.specs.Input.{Input, Outcome, Parser, first, next, refuse, expect, open_level, known}
-use Rattle.tj_syntax.specs.Reading.{operator, relation, PairList, pair_by, pairs_from, pairs, chain, comparison_by, operand_over, sum_over, expression_over, unary_by, unary}
+use Rattle.tj_syntax.specs.Reading.{operator, relation, PairList, pair_by, pairs_from, pairs, chain, comparison_by}
+use Rattle.tj_syntax.specs.Reading.{operand_over, sum_over, expression_over, unary_by, unary}
 use Rattle.tj_syntax.proofs.Taken.{Got, Sound, took_nothing, took_both, bind_ok, landed}
 use Rattle.tj_syntax.proofs.SoundSteps.{took_fine, expected, opened, knew}
 
-operator_next : (level : Level) (ts : List Tok) (o : Op) → operator level (first ts) ≡ Some o
+pub operator_next : (level : Level) (ts : List Tok) (o : Op) → operator level (first ts) ≡ Some o
     → (rest : List Tok) × (ts ≡ toks.Mark (op_mark o) ∷ rest) × (level_of o ≡ level)
 operator_next sums [] o h = absurd (cc)
 operator_next products [] o h = absurd (cc)
@@ -38,7 +42,7 @@ operator_next products (toks.Mark m.Rest ∷ rest) o h = let e : op.Rest ≡ o =
 operator_next sums (t ∷ rest) o h = absurd (cc)
 operator_next products (t ∷ rest) o h = absurd (cc)
 
-relation_next : (ts : List Tok) (rel : Rel) → relation (first ts) ≡ Some rel → (rest : List Tok) × (ts ≡ toks.Mark
+pub relation_next : (ts : List Tok) (rel : Rel) → relation (first ts) ≡ Some rel → (rest : List Tok) × (ts ≡ toks.Mark
     (rel_mark rel) ∷ rest)
 relation_next [] r h = absurd (cc)
 relation_next (toks.Mark m.Eq ∷ rest) r h = let e : rel.Eq ≡ r = cc in subst (λ o. (more : List Tok) × (toks.Mark m.Eq
@@ -137,10 +141,10 @@ chain_sound item level room si i j a h =
           one.kept) rest.got.right));
     })
 
-abbrev SoundUnary : ℕ → Parser Expression → Type 0
+abbrev pub SoundUnary : ℕ → Parser Expression → Type 0
 SoundUnary room u = Sound (λ vars notes x. IsUnary vars room notes x) u
 
-product_sound : (u : Parser Expression) (room : ℕ) → SoundUnary room u → Sound (λ vars notes x. IsOperand vars
+pub product_sound : (u : Parser Expression) (room : ℕ) → SoundUnary room u → Sound (λ vars notes x. IsOperand vars
     products room notes x) u
 product_sound u room su i j a h = let got = su i j a h in record {
   notes = got.notes;

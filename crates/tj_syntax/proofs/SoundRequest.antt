@@ -1,5 +1,6 @@
 -- What is read as a request or as what a variable is given is one.
-use Rattle.std.proofs.Common.{◌≡◌, ℕ, suc, ◌+◌, List, [], ◌∷◌, ◌++◌, length, Option, Some, None, Ok, refl, ap, sym, ◌∙◌, subst, drop, zero-add}
+use Rattle.std.proofs.Common.{◌≡◌, ℕ, suc, ◌+◌, List, [], ◌∷◌, ◌++◌, length, Option, Some, None, Ok, refl, ap, sym}
+use Rattle.std.proofs.Common.{◌∙◌, subst, drop, zero-add}
 use Rattle.tj_lex.specs.declared.token.Tok.{Tok}
 use Rattle.tj_lex.specs.declared.token.Tok.TheVariants as toks
 use Rattle.tj_lex.specs.declared.token.Key.TheVariants as k
@@ -10,8 +11,10 @@ use Rattle.tj_syntax.specs.Trees.{Expression, Argument, Request, Given}
 use Rattle.tj_syntax.specs.Marks.{Name, Noted, forks, key, mark, number_of}
 use Rattle.tj_syntax.specs.Grammar as g
 use Rattle.tj_syntax.specs.Grammar.{IsExpression, IsArguments, IsReference, IsOr, IsRequest, IsGiven}
-use Rattle.tj_syntax.specs.Input.{Head, Input, and_then, first, next, expect, names_of, note_fork, flaw_at, head_named, first_flaw}
-use Rattle.tj_syntax.specs.Reading.{expression, separated, argument, forked_by, forked, fork, asked, request_by, request, given_by, given}
+use Rattle.tj_syntax.specs.Input.{Head, Input, and_then, first, next, expect, names_of, note_fork, flaw_at, head_named}
+use Rattle.tj_syntax.specs.Input.{first_flaw}
+use Rattle.tj_syntax.specs.Reading.{expression, separated, argument, forked_by, forked, fork, asked, request_by}
+use Rattle.tj_syntax.specs.Reading.{request, given_by, given}
 use Rattle.tj_syntax.proofs.Taken.{Took, took_both, bind_ok, landed, flaw_after}
 use Rattle.tj_syntax.proofs.SoundSteps.{took_fine, expected}
 use Rattle.tj_syntax.proofs.SoundCall.{expressions_sound, arguments_sound, asked_sound}
@@ -38,13 +41,13 @@ flaw_swap heads notes left None None h = h
 flaw_swap heads notes left None (Some e) h = sym (flaw_after-some heads notes left e)
 
 -- the name of a forked task is read
-record GotFork (i j : Input) (f : Name) (left : ℕ) : Type 0 where
-  rest : List Tok
-  ahead : i.ahead ≡ toks.Name f ∷ rest
-  count : left ≡ length i.ahead
-  there : j ≡ next i
+pub record GotFork (i j : Input) (f : Name) (left : ℕ) : Type 0 where
+  pub rest : List Tok
+  pub ahead : i.ahead ≡ toks.Name f ∷ rest
+  pub count : left ≡ length i.ahead
+  pub there : j ≡ next i
 
-forked_by_sound : (ts : List Tok) (i j : Input) (f : Name × ℕ) → i.ahead ≡ ts → forked_by (first ts) i ≡ Ok (f, j) →
+pub forked_by_sound : (ts : List Tok) (i j : Input) (f : Name × ℕ) → i.ahead ≡ ts → forked_by (first ts) i ≡ Ok (f, j) →
     GotFork i j f.0 f.1
 forked_by_sound [] i j f e h = absurd (cc)
 forked_by_sound (toks.Name x ∷ rest) i j f e h =

@@ -1,5 +1,6 @@
 -- The steps that every rule is made of take what they say.
-use Rattle.std.proofs.Common.{◌≡◌, ◌≢◌, ℕ, zero, suc, Bool, true, false, nat_eq, List, [], ◌∷◌, Option, Some, None, Ok, refl, ap, sym, ◌∙◌, subst, rules, ⊎_elim, ◌⊎◌, inl, inr}
+use Rattle.std.proofs.Common.{◌≡◌, ◌≢◌, ℕ, zero, suc, Bool, true, false, nat_eq, List, [], ◌∷◌, Option, Some, None, Ok}
+use Rattle.std.proofs.Common.{refl, ap, sym, ◌∙◌, subst, rules, ⊎_elim, ◌⊎◌, inl, inr}
 use denote.Enum.Bare.{same_true}
 use Rattle.tj_lex.specs.contracts.token.Mark.{the_type}
 use Rattle.tj_lex.specs.declared.token.Tok.{Tok}
@@ -8,7 +9,8 @@ use Rattle.tj_lex.specs.declared.token.Mark.{Mark}
 use Rattle.tj_syntax.specs.declared.fault.Breach.{Breach}
 use Rattle.tj_syntax.specs.declared.fault.Stop.{Stop}
 use Rattle.tj_syntax.specs.Marks.{Name, fine, broken, Noted, mark, opening, place, number_of, use_of}
-use Rattle.tj_syntax.specs.Input.{Head, Input, Outcome, first, next, skip, refuse, breaks, is_mark, sees, expect, eat, open_level, known, known_at}
+use Rattle.tj_syntax.specs.Input.{Head, Input, Outcome, first, next, skip, refuse, breaks, is_mark, sees, expect, eat}
+use Rattle.tj_syntax.specs.Input.{open_level, known, known_at}
 use Rattle.tj_syntax.proofs.Taken.{Took, took_one, if_ok, note_flaw, ok_inj, landed, is_task}
 
 -- a token that is fine breaks nothing

@@ -1,5 +1,6 @@
 -- What is read as a statement without a block is one.
-use Rattle.std.proofs.Common.{◌≡◌, ℕ, Bool, true, false, cond, is_some, List, [], ◌∷◌, ◌++◌, length, Option, Some, None, Ok, refl, ap, sym, ◌∙◌, subst}
+use Rattle.std.proofs.Common.{◌≡◌, ℕ, Bool, true, false, cond, is_some, List, [], ◌∷◌, ◌++◌, length, Option, Some}
+use Rattle.std.proofs.Common.{None, Ok, refl, ap, sym, ◌∙◌, subst}
 use Rattle.std.specs.Prelude.{nat_le}
 use Rattle.tj_lex.specs.declared.token.Tok.{Tok}
 use Rattle.tj_lex.specs.declared.token.Tok.TheVariants as toks
@@ -12,7 +13,8 @@ use Rattle.tj_syntax.specs.Trees.{Expression, Request, Given, Statement, Stateme
 use Rattle.tj_syntax.specs.Marks.{Name, Note, Noted, fine, broken, key, mark, use_of, place, declaration, most_vars}
 use Rattle.tj_syntax.specs.Grammar as g
 use Rattle.tj_syntax.specs.Grammar.{IsExpression, IsRequest, IsGiven, IsStatement, IsBlock, IsStatements, IsElse}
-use Rattle.tj_syntax.specs.Input.{Input, first, next, expect, names_of, fresh, fresh_by, fresh_variable, breach_of, unless, variable}
+use Rattle.tj_syntax.specs.Input.{Input, first, next, expect, names_of, fresh, fresh_by, fresh_variable, breach_of}
+use Rattle.tj_syntax.specs.Input.{unless, variable}
 use Rattle.tj_syntax.specs.Reading.{expression, request, given, let_new, assign, set_cell, ended, ask}
 use Rattle.tj_syntax.proofs.Taken.{Took, took_both, bind_ok, landed}
 use Rattle.tj_syntax.proofs.SoundSteps.{took_fine, expected}

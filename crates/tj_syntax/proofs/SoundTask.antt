@@ -1,17 +1,22 @@
 -- What is read as a task is one, and so are the tasks of a script.
-use Rattle.std.proofs.Common.{◌≡◌, ℕ, zero, suc, ◌+◌, cond, List, [], ◌∷◌, ◌++◌, length, None, Ok, refl, ap, sym, ◌∙◌, subst, append_assoc, ⊎_elim, drop, length-append}
+use Rattle.std.proofs.Common.{◌≡◌, ℕ, zero, suc, ◌+◌, cond, List, [], ◌∷◌, ◌++◌, length, None, Ok, refl, ap, sym, ◌∙◌}
+use Rattle.std.proofs.Common.{subst, append_assoc, ⊎_elim, drop, length-append}
 use Rattle.tj_lex.specs.declared.token.Tok.{Tok}
 use Rattle.tj_lex.specs.declared.token.Tok.TheVariants as toks
 use Rattle.tj_lex.specs.declared.token.Key.TheVariants as k
 use Rattle.tj_lex.specs.declared.token.Mark.TheVariants as m
 use Rattle.tj_syntax.specs.Trees.{Statements, Task}
-use Rattle.tj_syntax.specs.Marks.{Name, Note, Noted, fine, declares, key, mark, declaration, most_vars, most_tasks, most_levels}
+use Rattle.tj_syntax.specs.Marks.{Name, Note, Noted, fine, declares, key, mark, declaration, most_vars, most_tasks}
+use Rattle.tj_syntax.specs.Marks.{most_levels}
 use Rattle.tj_syntax.specs.Grammar as g
 use Rattle.tj_syntax.specs.Grammar.{IsBlock, IsMoreParams, IsParams, IsTask, IsTasks}
 use Rattle.tj_syntax.specs.Faults.{tokens_of, AreUnbroken}
-use Rattle.tj_syntax.specs.Input.{Head, Input, Outcome, first, next, sees, expect, eat, names_of, fresh, fresh_variable, breach_of}
+use Rattle.tj_syntax.specs.Input.{Head, Input, Outcome, first, next, sees, expect, eat, names_of, fresh}
+use Rattle.tj_syntax.specs.Input.{fresh_variable, breach_of}
 use Rattle.tj_syntax.specs.Reading.{params_from, params, task_keyword_by, task_keyword, task_behind, task, block}
-use Rattle.tj_syntax.proofs.Taken.{Took, took_nothing, took_both, bind_ok, if_ok, landed, ok_inj, flaw_after, flaw_after-append, note_flaw, first_flaw-none, unbroken-append, tokens_of-append, length-tokens_of, AreCalm}
+use Rattle.tj_syntax.proofs.Taken.{Took, took_nothing, took_both, bind_ok, if_ok, landed, ok_inj, flaw_after}
+use Rattle.tj_syntax.proofs.Taken.{flaw_after-append, note_flaw, first_flaw-none, unbroken-append, tokens_of-append}
+use Rattle.tj_syntax.proofs.Taken.{length-tokens_of, AreCalm}
 use Rattle.tj_syntax.proofs.SoundSteps.{took_fine, expected, ate}
 use Rattle.tj_syntax.proofs.SoundStmt.{Made, took_to, declared_right, fresh_sound}
 use Rattle.tj_syntax.proofs.SoundBlock.{block_sound}
@@ -75,7 +80,7 @@ params_from_sound (suc n) i j u h =
     (ate m.Comma known comma.1 comma.0 comma.2)
 
 -- the parameters of a task
-params_sound : (i j : Input) (u : Unit {0}) → i.vars ≡ [] → params i ≡ Ok (u, j) → Made i j (λ notes last. IsParams
+pub params_sound : (i j : Input) (u : Unit {0}) → i.vars ≡ [] → params i ≡ Ok (u, j) → Made i j (λ notes last. IsParams
     notes last)
 unfolding params
 params_sound i j u none h =
@@ -163,7 +168,7 @@ tasks_both {i} {j} {k} {a} {b} p q = record {
 took_tasks : {i j : Input} {notes : List Noted} → Took i j notes → TookTasks i j notes
 took_tasks t = record { ahead = t.ahead; unbroken = t.unbroken; tasks = t.tasks; flaw = t.flaw }
 
-keyword_by_sound : (ts : List Tok) (i j : Input) (u : Unit {0}) → i.ahead ≡ ts → task_keyword_by (first ts) i ≡ Ok (
+pub keyword_by_sound : (ts : List Tok) (i j : Input) (u : Unit {0}) → i.ahead ≡ ts → task_keyword_by (first ts) i ≡ Ok (
   u,
   j,
 ) → (j ≡ next i) × TookTasks i (next i) (key k.Task ∷ [])
@@ -191,6 +196,7 @@ pub record GotTask (earlier : List Name) (i j : Input) (t : Task) : Type 0 where
       body)))))
   pub vars : j.vars ≡ []
   pub params : t.params ≡ length count
+  pub noted : note ≡ declares t.params
   pub is_params : IsParams ps count
   pub calm : AreCalm (mark m.ParenOpen ∷ (ps ++ (mark m.ParenClose ∷ body)))
   pub right : IsTask (names_of i.tasks) earlier (key k.Task ∷ ((toks.Name t.name, note) ∷ (mark m.ParenOpen ∷ (ps ++
@@ -246,6 +252,7 @@ task_sound earlier i j t none h =
       vars =
           got.vars;
       params = refl;
+      noted = is_declares;
       is_params = got.is_params;
       calm = got.took.calm;
       right = right;

@@ -1,5 +1,6 @@
 -- Which lists of tokens are scripts, and the first fault of a list that is none.
-use Rattle.std.specs.Prelude.{◌≡◌, ◌≢◌, ℕ, codes, List, [], ◌∷◌, ◌++◌, map, slice_get, Option, Some, None, ◌<◌, nat_eq, if◌then◌else◌}
+use Rattle.std.specs.Prelude.{◌≡◌, ◌≢◌, ℕ, codes, List, [], ◌∷◌, ◌++◌, map, slice_get, Option, Some, None, ◌<◌}
+use Rattle.std.specs.Prelude.{nat_eq, if◌then◌else◌}
 use Rattle.std.specs.List.{AllByRecursion}
 use Rattle.tj_lex.specs.declared.token.Token.{Token}
 use Rattle.tj_lex.specs.declared.token.Tok.{Tok}
@@ -32,9 +33,11 @@ pub record EndsInEnd (tokens : List Token) : Type 0 where
 abbrev pub IsUnbroken : Noted → Type 0
 IsUnbroken noted = (breach : Breach) → noted.1 ≢ broken breach
 
+-- nothing is broken at any of the tokens
 abbrev pub AreUnbroken : List Noted → Type 0
 AreUnbroken = AllByRecursion IsUnbroken
 
+-- the task of a number
 abbrev pub task_at : List Task → Option ℕ → Option Task
 task_at script None = None
 task_at script (Some n) = slice_get script n
@@ -53,6 +56,7 @@ abbrev pub fork_breach : List Task → Noted → Option Breach
 fork_breach script (toks.Name f, forks count) = fork_of (task_named script f) count
 fork_breach script noted = None
 
+-- each fork is of a task with as many parameters as it has arguments
 abbrev pub AreForksRight : List Task → List Noted → Type 0
 AreForksRight script = AllByRecursion (λ noted. fork_breach script noted ≡ None)
 
@@ -97,12 +101,16 @@ fault_of Count = faults.Count
 fault_of Deep = faults.Deep
 fault_of Many = faults.Many
 
+-- the token can follow those in front of it: with them it begins a sentence, and an end is the last token
+pub record CanFollow (front back : List Token) (token : Token) : Type 0 where
+  pub begins : Begins (kinds_of (front ++ token ∷ []))
+  pub is_last : token.what ≡ toks.End → back ≡ []
+
 -- The first of the faults that stand at a token: behind tokens that break nothing, one that can't follow, or that
--- breaks
--- a rule. A name that is declared twice is that before it is one too many.
+-- breaks a rule. A name that is declared twice is that before it is one too many.
 pub data IsTokenFault (tokens : List Token) : ParseFault → Type 0 where
   cant_follow : (front back : List Token) (token : Token) (notes : List Noted) → tokens ≡ front ++ token ∷ back
-      → BeginsWith (kinds_of front) notes → AreUnbroken notes → (Begins (kinds_of (front ++ token ∷ [])) → ⊥)
+      → BeginsWith (kinds_of front) notes → AreUnbroken notes → (CanFollow front back token → ⊥)
       → IsTokenFault tokens (faults.Expected token.at)
   breaks : (front back : List Token) (token : Token) (notes : List Noted) (breach : Breach)
       → tokens ≡ front ++ token ∷ back

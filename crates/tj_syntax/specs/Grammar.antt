@@ -16,7 +16,8 @@ use Rattle.tj_syntax.specs.declared.expr.RefOf.{RefOf}
 use Rattle.tj_syntax.specs.declared.expr.RefOf.TheVariants as ref
 use Rattle.tj_syntax.specs.Trees as tree
 use Rattle.tj_syntax.specs.Trees.{Expression, Pairs, Argument, Request, Given, Statement, Statements, Otherwise, Task}
-use Rattle.tj_syntax.specs.Marks.{Name, Noted, fine, forks, declares, key, mark, most_levels, most_vars, most_tasks, number_of, use_of, declaration, opening, within}
+use Rattle.tj_syntax.specs.Marks.{Name, Noted, fine, forks, declares, key, mark, most_levels, most_vars, most_tasks}
+use Rattle.tj_syntax.specs.Marks.{number_of, use_of, declaration, opening, within}
 
 -- The levels of chains: sums are chains of `+ -` and have products as operands; products are chains of `* / %`.
 abbrev pub level_of : Op → Level
@@ -26,6 +27,7 @@ level_of op.Times = products
 level_of op.Over = products
 level_of op.Rest = products
 
+-- the mark of an operator
 abbrev pub op_mark : Op → Mark
 op_mark op.Plus = m.Plus
 op_mark op.Minus = m.Minus
@@ -33,6 +35,7 @@ op_mark op.Times = m.Times
 op_mark op.Over = m.Over
 op_mark op.Rest = m.Rest
 
+-- the mark of a comparison
 abbrev pub rel_mark : Rel → Mark
 rel_mark rel.Eq = m.Eq
 rel_mark rel.Ne = m.Ne
@@ -59,6 +62,7 @@ mutual
         → IsOperand vars level room a x → IsPairs vars level room b pairs
         → IsChain vars level room (a ++ b) (chain_of x pairs)
 
+  -- operators of a level, each with the operand behind it
   pub data IsPairs (vars : List Name) : Level → (room : ℕ) → List Noted → Pairs → Type 0 where
     pairs_end : {level : Level} {room : ℕ} → IsPairs vars level room [] tree.no_pairs
     pairs_more : {level : Level} {room : ℕ} {a b : List Noted} {y : Expression} {pairs : Pairs} (op : Op) → level_of
@@ -166,6 +170,7 @@ mutual
           → IsStatements tasks (within room) vars a body last
           → IsBlock tasks room vars ((toks.Mark m.BraceOpen, opening room) ∷ (a ++ mark m.BraceClose ∷ [])) body last
 
+  -- statements, one behind the other
   pub data IsStatements (tasks : List Name) : (room : ℕ) (vars : List Name) → List Noted → Statements → List Name →
       Type 0 where
     statements_end : {room : ℕ} {vars : List Name} → IsStatements tasks room vars [] tree.no_more vars
@@ -173,6 +178,7 @@ mutual
         → IsStatement tasks room vars a s after → IsStatements tasks room after b rest last
         → IsStatements tasks room vars (a ++ b) (tree.then_do s rest) last
 
+  -- the block for a condition that is 0, if there is one
   pub data IsElse (tasks : List Name) : (room : ℕ) (vars : List Name) → List Noted → Otherwise → List Name → Type 0
     where
       no_else : {room : ℕ} {vars : List Name} → IsElse tasks room vars [] tree.nothing vars
@@ -201,6 +207,7 @@ pub data IsTask (tasks : List Name) (earlier : List Name) : List Noted → Task 
       ∷ mark m.ParenOpen ∷ (a ++ mark m.ParenClose ∷ b))
       (record { name = f; params = length params; vars = vars; body = body })
 
+-- tasks, behind the earlier ones
 pub data IsTasks (tasks : List Name) : (earlier : List Name) → List Noted → List Task → Type 0 where
   tasks_end : {earlier : List Name} → IsTasks tasks earlier [] []
   tasks_more : {earlier : List Name} {a b : List Noted} {t : Task} {rest : List Task} → IsTask tasks earlier a t

@@ -1,5 +1,6 @@
 -- What is left to read, and the steps that every rule is made of.
-use Rattle.std.specs.Prelude.{◌≡◌, ℕ, suc, Bool, true, false, if◌then◌else◌, List, [], ◌∷◌, ◌++◌, length, map, drop, nat_le, nat_eq, is_some, slice_get, Option, Some, None, Result, Ok, Err}
+use Rattle.std.specs.Prelude.{◌≡◌, ℕ, suc, Bool, true, false, if◌then◌else◌, List, [], ◌∷◌, ◌++◌, length, map, drop}
+use Rattle.std.specs.Prelude.{nat_le, nat_eq, is_some, slice_get, Option, Some, None, Result, Ok, Err}
 use Rattle.tj_lex.specs.declared.token.Tok.{Tok}
 use Rattle.tj_lex.specs.declared.token.Tok.TheVariants as toks
 use Rattle.tj_lex.specs.declared.token.Key.TheVariants as k
@@ -19,6 +20,7 @@ pub record Head : Type 0 where
   pub params : ℕ
   pub left : ℕ
 
+-- what is left to read, with what is known
 pub record Input : Type 0 where
   -- the tokens that are left, without the end
   pub ahead : List Tok
@@ -29,28 +31,35 @@ pub record Input : Type 0 where
   -- the first fault of a fork so far
   pub flaw : Option Stop
 
+-- a value and what is left behind it, or why the reading stopped
 abbrev pub Outcome : Type 0 → Type 0
 Outcome A = Result (A × Input) Stop
 
+-- a reading of what is left
 abbrev pub Parser : Type 0 → Type 0
 Parser A = Input → Outcome A
 
+-- goes on from an outcome
 abbrev pub and_then : {A B : Type 0} → Outcome A → (A → Parser B) → Outcome B
 and_then (Ok p) f = f p.0 p.1
 and_then (Err e) f = Err e
 
 infixl 10 ◌>>=◌
+-- one reading behind another, which takes its value
 abbrev pub ◌>>=◌ : {A B : Type 0} → Parser A → (A → Parser B) → Parser B
 p >>= f = λ i. and_then (p i) f
 
 infixl 10 ◌>>◌
+-- one reading behind another
 abbrev pub ◌>>◌ : {A B : Type 0} → Parser A → Parser B → Parser B
 p >> q = p >>= (λ _. q)
 
+-- reads nothing
 abbrev pub pure : {A : Type 0} → A → Parser A
 pure a = λ i. Ok (a, i)
 
 infixr 11 ◌<$>◌
+-- changes the value that is read
 abbrev pub ◌<$>◌ : {A B : Type 0} → (A → B) → Parser A → Parser B
 f <$> p = p >>= (λ x. pure (f x))
 
@@ -59,6 +68,7 @@ abbrev pub first : List Tok → Option Tok
 first [] = None
 first (t ∷ rest) = Some t
 
+-- the next token, which stays
 abbrev pub peek : Parser (Option Tok)
 peek = λ i. Ok (first i.ahead, i)
 
@@ -66,6 +76,7 @@ peek = λ i. Ok (first i.ahead, i)
 abbrev pub next : Input → Input
 next i = record i { ahead = drop 1 i.ahead }
 
+-- takes the next token
 abbrev pub skip : Parser (Unit {0})
 skip = λ i. Ok (tt, next i)
 
@@ -77,6 +88,7 @@ refuse = λ i. Err (stop.Expected (length i.ahead))
 abbrev pub breaks : {A : Type 0} → Breach → Parser A
 breaks b = λ i. Err (stop.Broken b (length i.ahead))
 
+-- whether two marks are the same
 abbrev pub same_mark : Mark → Mark → Bool
 same_mark = sameb the_type
 
@@ -85,6 +97,7 @@ abbrev pub is_mark : Mark → Option Tok → Bool
 is_mark mark (Some (toks.Mark found)) = same_mark mark found
 is_mark mark _ = false
 
+-- whether this mark comes next
 abbrev pub sees : Mark → Input → Bool
 sees mark i = is_mark mark (first i.ahead)
 
@@ -111,6 +124,7 @@ known_at (Some n) = skip >> pure n
 unfoldable pub known : Name → Parser ℕ
 known x = λ i. known_at (place i.vars x) i
 
+-- a variable by the next token
 abbrev pub variable_by : Option Tok → Parser ℕ
 variable_by (Some (toks.Name x)) = known x
 variable_by _ = refuse
@@ -124,10 +138,12 @@ breach_of most earlier x =
     if is_some (place earlier x) then Some breach.Twice else (if nat_le most (length earlier) then Some breach.Many
     else None)
 
+-- a reading, unless a rule is broken
 abbrev pub unless : {A : Type 0} → Option Breach → Parser A → Parser A
 unless None p = p
 unless (Some b) p = breaks b
 
+-- a name that is declared, by the next token
 abbrev pub fresh_by : ℕ → List Name → Option Tok → Parser Name
 fresh_by most earlier (Some (toks.Name x)) = unless (breach_of most earlier x) (skip >> pure x)
 fresh_by most earlier _ = refuse
@@ -140,20 +156,25 @@ fresh most earlier = peek >>= fresh_by most earlier
 abbrev pub fresh_variable : Parser Name
 fresh_variable = λ i. fresh most_vars i.vars i
 
+-- makes a variable known
 abbrev pub add_variable : Name → Parser (Unit {0})
 add_variable x = λ i. Ok (tt, record i { vars = i.vars ++ x ∷ [] })
 
+-- makes no variable known
 abbrev pub forget_variables : Parser (Unit {0})
 forget_variables = λ i. Ok (tt, record i { vars = [] })
 
+-- the variables that are known
 abbrev pub variables : Parser (List Name)
 variables = λ i. Ok (i.vars, i)
 
+-- how many variables are known
 abbrev pub count_variables : Parser ℕ
 count_variables = λ i. Ok (length i.vars, i)
 
 -- ---- tasks, which are read by their heads first
 
+-- the names of heads
 abbrev pub names_of : List Head → List Name
 names_of = map (λ h. h.name)
 
@@ -186,10 +207,12 @@ heads_from found (t ∷ rest) = heads_from (with_front found (t ∷ rest)) rest
 
 -- ---- forks
 
+-- how a fork with so many arguments is faulty where its name stands for this head
 abbrev pub flaw_at : Option Head → ℕ → ℕ → Option Stop
 flaw_at None left count = Some (stop.Broken breach.Unknown left)
 flaw_at (Some h) left count = if nat_eq h.params count then None else Some (stop.Broken breach.Count left)
 
+-- the head of a number
 abbrev pub head_at : List Head → Option ℕ → Option Head
 head_at heads None = None
 head_at heads (Some n) = slice_get heads n
@@ -198,6 +221,7 @@ head_at heads (Some n) = slice_get heads n
 abbrev pub head_named : List Head → Name → Option Head
 head_named heads f = head_at heads (place (names_of heads) f)
 
+-- the first of two faults
 abbrev pub first_flaw : Option Stop → Option Stop → Option Stop
 first_flaw None later = later
 first_flaw (Some e) later = Some e
@@ -211,6 +235,7 @@ note_fork f left count = λ i. Ok (
 
 -- ---- what a function that parses ensures: what the parser gives, unless memory runs out
 
+-- the result is what the reading gives, or memory ran out
 abbrev pub Reads : {A B : Type 0} → (A → B) → Outcome B → Result A Stop → Input → Type 0
 Reads view outcome (Ok a) new = outcome ≡ Ok (view a, new)
 Reads view outcome (Err stop.Oom) new = Unit {0}

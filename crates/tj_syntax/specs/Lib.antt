@@ -10,3 +10,4 @@ pub mod Heads
 pub mod State
 pub mod Back
 pub mod Listing
+pub mod Stops

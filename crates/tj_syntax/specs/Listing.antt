@@ -1,6 +1,7 @@
 -- The canonical listing of a script: its tokens with the blanks between them. A level says how tightly an expression
 -- binds: 0 a comparison, 1 a chain of `+ -`, 2 a chain of `* / %`, 3 anything else.
-use Rattle.std.specs.Prelude.{ℕ, ◌≡◌, ◌≤◌, ◌+◌, pos, List, [], ◌∷◌, ◌++◌, codes, map, take, flat_map, get_or, Option, Some, None, nat_lt, if◌then◌else◌}
+use Rattle.std.specs.Prelude.{ℕ, ◌≡◌, ◌≤◌, ◌+◌, pos, List, [], ◌∷◌, ◌++◌, codes, map, take, flat_map, get_or, Option}
+use Rattle.std.specs.Prelude.{Some, None, nat_lt, if◌then◌else◌}
 use Rattle.std.specs.Fmt.{signed_decimal}
 use Rattle.tj_lex.specs.declared.token.Tok.{Tok}
 use Rattle.tj_lex.specs.declared.token.Tok.TheVariants as toks
@@ -32,6 +33,7 @@ spelling (toks.Key key) = key_text key
 spelling (toks.Mark mark) = mark_text mark
 spelling toks.End = []
 
+-- the bytes of a part
 abbrev pub part_text : Part → List ℕ
 part_text (token t) = spelling t
 part_text (blanks bytes) = bytes
@@ -40,15 +42,19 @@ part_text (blanks bytes) = bytes
 abbrev pub text_of : List Part → List ℕ
 text_of = flat_map part_text
 
+-- a keyword
 abbrev pub key : Key → Part
 key k = token (toks.Key k)
 
+-- a mark
 abbrev pub mark : Mark → Part
 mark m = token (toks.Mark m)
 
+-- a space
 abbrev pub space : Part
 space = blanks (codes " ")
 
+-- the end of a line
 abbrev pub line_end : Part
 line_end = blanks (codes "\n")
 
@@ -56,6 +62,7 @@ line_end = blanks (codes "\n")
 abbrev pub name : List Name → ℕ → Part
 name names n = token (toks.Name (get_or names n []))
 
+-- how tightly an operator binds
 abbrev pub op_level : Op → ℕ
 op_level op.Plus = 1
 op_level op.Minus = 1
@@ -63,10 +70,12 @@ op_level op.Times = 2
 op_level op.Over = 2
 op_level op.Rest = 2
 
+-- how tightly the operators of pairs bind
 abbrev pub pairs_level : Pairs → ℕ
 pairs_level tree.no_pairs = 2
 pairs_level (tree.pair op x more) = op_level op
 
+-- how tightly an expression binds
 abbrev pub level : Expression → ℕ
 level (tree.comparison rel x y) = 0
 level (tree.chain x pairs) = pairs_level pairs
@@ -101,6 +110,7 @@ abbrev mutual
 abbrev pub operand : (vars : List Name) → (need : ℕ) → Expression → List Part
 operand vars need x = at_level need (level x) (expression vars x)
 
+-- an argument
 abbrev pub argument : (vars : List Name) → Argument → List Part
 argument vars (tree.own x) = key k.Own ∷ space ∷ name vars x ∷ []
 argument vars (tree.value x) = expression vars x
@@ -109,14 +119,17 @@ argument vars (tree.value x) = expression vars x
 abbrev pub more_arguments : (vars : List Name) → List Argument → List Part
 more_arguments vars = flat_map (λ x. mark m.Comma ∷ space ∷ argument vars x)
 
+-- arguments with commas between them
 abbrev pub arguments : (vars : List Name) → List Argument → List Part
 arguments vars [] = []
 arguments vars (x ∷ xs) = argument vars x ++ more_arguments vars xs
 
+-- a variable or `me`
 abbrev pub reference : (vars : List Name) → RefOf → Part
 reference vars (ref.Var x) = name vars x
 reference vars ref.Me = key k.Me
 
+-- what is computed where the cell is broken, if anything is
 abbrev pub or_parts : (vars : List Name) → Option Expression → List Part
 or_parts vars None = []
 or_parts vars (Some x) = space ∷ key k.Or ∷ space ∷ expression vars x
@@ -129,6 +142,7 @@ request tasks vars (tree.fork f args) =
 request tasks vars (tree.get r other) = key k.Get ∷ space ∷ reference vars r ∷ or_parts vars other
 request tasks vars (tree.join r other) = key k.Join ∷ space ∷ reference vars r ∷ or_parts vars other
 
+-- what a variable is given
 abbrev pub given : (tasks vars : List Name) → Given → List Part
 given tasks vars (tree.answer ask) = request tasks vars ask
 given tasks vars (tree.result_of x) = expression vars x
@@ -180,6 +194,7 @@ block tasks vars indent body = braces indent (lines tasks vars (deeper indent) b
 abbrev pub more_params : List Name → List Part
 more_params = flat_map (λ x. mark m.Comma ∷ space ∷ token (toks.Name x) ∷ [])
 
+-- parameters with commas between them
 abbrev pub params : List Name → List Part
 params [] = []
 params (x ∷ xs) = token (toks.Name x) ∷ more_params xs
@@ -191,6 +206,7 @@ task tasks t =
     ∷ (params (take t.params t.vars) ++ mark m.ParenClose ∷ space
     ∷ (block tasks t.vars [] t.body ++ line_end ∷ []))
 
+-- the names of tasks
 abbrev pub names_of : List Task → List Name
 names_of = map (λ t. t.name)
 

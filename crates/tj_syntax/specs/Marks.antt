@@ -20,12 +20,15 @@ pub data Note : Type 0 where
 abbrev pub Noted : Type 0
 Noted = Tok × Note
 
+-- a name, as its bytes
 abbrev pub Name : Type 0
 Name = List ℕ
 
+-- a keyword, at which nothing is noted
 abbrev pub key : Key → Noted
 key k = (toks.Key k, fine)
 
+-- a mark, at which nothing is noted
 abbrev pub mark : Mark → Noted
 mark m = (toks.Mark m, fine)
 
@@ -33,9 +36,11 @@ mark m = (toks.Mark m, fine)
 abbrev pub most_levels : ℕ
 most_levels = 64
 
+-- the most variables of a task
 abbrev pub most_vars : ℕ
 most_vars = 256
 
+-- the most tasks of a script
 abbrev pub most_tasks : ℕ
 most_tasks = 1024
 

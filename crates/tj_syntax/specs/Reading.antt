@@ -1,5 +1,6 @@
 -- How the tokens are read, rule by rule. `proofs/` show that what is read is the grammar's.
-use Rattle.std.specs.Prelude.{ℕ, zero, suc, if◌then◌else◌, List, [], ◌∷◌, ◌++◌, length, map, Option, Some, None, Ok, nat_eq}
+use Rattle.std.specs.Prelude.{ℕ, zero, suc, if◌then◌else◌, List, [], ◌∷◌, ◌++◌, length, map, Option, Some, None, Ok}
+use Rattle.std.specs.Prelude.{nat_eq}
 use Rattle.tj_lex.specs.declared.token.Tok.{Tok}
 use Rattle.tj_lex.specs.declared.token.Tok.TheVariants as toks
 use Rattle.tj_lex.specs.declared.token.Key.TheVariants as k
@@ -17,7 +18,9 @@ use Rattle.tj_syntax.specs.declared.read_expr.Level.{Level}
 use Rattle.tj_syntax.specs.declared.read_expr.Level.TheVariants.{Sums as sums, Products as products}
 use Rattle.tj_syntax.specs.Grammar.{chain_of}
 use Rattle.tj_syntax.specs.View.{pairs_of, statements_of}
-use Rattle.tj_syntax.specs.Input.{next, Parser, ◌>>=◌, ◌>>◌, ◌<$>◌, pure, peek, skip, refuse, sees, eat, expect, open_level, known, variable, fresh, fresh_variable, add_variable, forget_variables, variables, count_variables, note_fork}
+use Rattle.tj_syntax.specs.Input.{next, Parser, ◌>>=◌, ◌>>◌, ◌<$>◌, pure, peek, skip, refuse, sees, eat, expect}
+use Rattle.tj_syntax.specs.Input.{open_level, known, variable, fresh, fresh_variable, add_variable, forget_variables}
+use Rattle.tj_syntax.specs.Input.{variables, count_variables, note_fork}
 
 -- ---- expressions
 
@@ -40,9 +43,11 @@ relation (Some (toks.Mark m.Gt)) = Some rel.Gt
 relation (Some (toks.Mark m.Ge)) = Some rel.Ge
 relation _ = None
 
+-- operators, each with the operand behind it
 abbrev pub PairList : Type 0
 PairList = List (Op × Expression)
 
+-- a pair and more, if an operator comes next
 abbrev pub pair_by : Parser Expression → PairList → (PairList → Parser PairList) → Option Op → Parser PairList
 pair_by item found more None = pure found
 pair_by item found more (Some op) = skip >> (item >>= (λ y. more (found ++ (op, y) ∷ [])))
@@ -59,6 +64,7 @@ pairs item level = λ i. pairs_from item level (length i.ahead) [] i
 unfoldable pub chain : Parser Expression → Level → Parser Expression
 chain item level = item >>= (λ x. (λ found. chain_of x (pairs_of found)) <$> pairs item level)
 
+-- a comparison with this left side, if one comes next
 abbrev pub comparison_by : Parser Expression → Expression → Option Rel → Parser Expression
 comparison_by sum x None = pure x
 comparison_by sum x (Some rel) = skip >> tree.comparison rel x <$> sum
@@ -68,6 +74,7 @@ abbrev pub operand_over : Parser Expression → Level → Parser Expression
 operand_over unary sums = chain unary products
 operand_over unary products = unary
 
+-- a sum over this reading of a unary
 abbrev pub sum_over : Parser Expression → Parser Expression
 sum_over unary = chain (operand_over unary sums) sums
 
@@ -89,9 +96,11 @@ unfoldable pub unary : ℕ → Parser Expression
 unary zero = peek >>= unary_by refuse refuse zero
 unary (suc room) = peek >>= unary_by (unary room) (expression_over (unary room)) (suc room)
 
+-- an operand of a level, where so many levels may be opened
 abbrev pub operand : ℕ → Level → Parser Expression
 operand room level = operand_over (unary room) level
 
+-- an expression, where so many levels may be opened
 abbrev pub expression : ℕ → Parser Expression
 expression room = expression_over (unary room)
 
@@ -108,6 +117,7 @@ separated_from item (suc n) found =
 unfoldable pub separated : {A : Type 0} → Parser A → Parser (List A)
 separated item = λ i. if sees m.ParenClose i then Ok ([], i) else separated_from item (length i.ahead) [] i
 
+-- an argument by its first token
 abbrev pub argument_by : ℕ → Option Tok → Parser Argument
 argument_by room (Some (toks.Key k.Own)) = skip >> tree.own <$> variable
 argument_by room _ = tree.value <$> expression room
@@ -115,6 +125,7 @@ argument_by room _ = tree.value <$> expression room
 unfoldable pub argument : ℕ → Parser Argument
 argument room = peek >>= argument_by room
 
+-- a reference by its first token
 abbrev pub reference_by : Option Tok → Parser RefOf
 reference_by (Some (toks.Name x)) = ref.Var <$> known x
 reference_by (Some (toks.Key k.Me)) = skip >> pure ref.Me
@@ -123,6 +134,7 @@ reference_by _ = refuse
 unfoldable pub reference : Parser RefOf
 reference = peek >>= reference_by
 
+-- an alternative by its first token
 abbrev pub alternative_by : ℕ → Option Tok → Parser (Option Expression)
 alternative_by room (Some (toks.Key k.Or)) = skip >> Some <$> expression room
 alternative_by room _ = pure None
@@ -131,6 +143,7 @@ alternative_by room _ = pure None
 unfoldable pub alternative : ℕ → Parser (Option Expression)
 alternative room = peek >>= alternative_by room
 
+-- the name of a forked task, by the next token
 abbrev pub forked_by : Option Tok → Parser (Name × ℕ)
 forked_by (Some (toks.Name f)) = λ i. (skip >> pure (f, length i.ahead)) i
 forked_by _ = refuse
@@ -156,6 +169,7 @@ asked room = do
   other ← alternative room
   pure (r, other)
 
+-- an ask by its first token
 abbrev pub request_by : ℕ → Option Tok → Parser Request
 request_by room (Some (toks.Key k.New)) = skip >> pure tree.new
 request_by room (Some (toks.Key k.Fork)) = skip >> fork room
@@ -166,6 +180,7 @@ request_by room _ = refuse
 unfoldable pub request : ℕ → Parser Request
 request room = peek >>= request_by room
 
+-- what a variable is given, by its first token
 abbrev pub given_by : ℕ → Option Tok → Parser Given
 given_by room (Some (toks.Key k.New)) = tree.answer <$> request room
 given_by room (Some (toks.Key k.Fork)) = tree.answer <$> request room
@@ -218,6 +233,7 @@ ask room = do
   expect m.Semi
   pure (tree.ask a)
 
+-- what a conditional does otherwise, by the next token
 abbrev pub otherwise_by : Parser Statements → Option Tok → Parser Otherwise
 otherwise_by block (Some (toks.Key k.Else)) = skip >> tree.block <$> block
 otherwise_by block _ = pure tree.nothing
@@ -240,6 +256,7 @@ repeat room block = do
   body ← block
   pure (tree.repeat x body)
 
+-- a statement by its first token
 abbrev pub statement_by : ℕ → Parser Statements → Option Tok → Parser Statement
 statement_by room block (Some (toks.Key k.Let)) = skip >> let_new room
 statement_by room block (Some (toks.Name x)) = assign room
@@ -263,6 +280,7 @@ statements_from item (suc n) found = λ i.
 unfoldable pub statements : Parser Statement → Parser Statements
 statements item = λ i. statements_from item (length i.ahead) [] i
 
+-- a block by its first token
 abbrev pub block_by : ℕ → Parser Statement → Option Tok → Parser Statements
 block_by room item (Some (toks.Mark m.BraceOpen)) = open_level room >> statements item
 block_by room item _ = refuse
@@ -272,6 +290,7 @@ unfoldable pub block : ℕ → Parser Statements
 block zero = peek >>= block_by zero refuse
 block (suc room) = peek >>= block_by (suc room) (statement_over room (block room))
 
+-- a statement, where so many levels may be opened
 abbrev pub statement : ℕ → Parser Statement
 statement room = statement_over room (block room)
 
@@ -287,6 +306,7 @@ params_from (suc n) =
 unfoldable pub params : Parser (Unit {0})
 params = λ i. if sees m.ParenClose i then Ok (tt, i) else params_from (length i.ahead) i
 
+-- the keyword of a task, by the next token
 abbrev pub task_keyword_by : Option Tok → Parser (Unit {0})
 task_keyword_by (Some (toks.Key k.Task)) = skip
 task_keyword_by _ = refuse

@@ -5,6 +5,7 @@ use Rattle.tj_syntax.specs.declared.expr.Rel.{Rel}
 use Rattle.tj_syntax.specs.declared.expr.RefOf.{RefOf}
 
 mutual
+  -- an expression
   pub data Expression : Type 0 where
     number : ℤ → Expression
     variable : ℕ → Expression
@@ -18,6 +19,7 @@ mutual
     no_pairs : Pairs
     pair : Op → Expression → Pairs → Pairs
 
+-- an argument: a variable that is handed on, or a value
 pub data Argument : Type 0 where
   own : ℕ → Argument
   value : Expression → Argument
@@ -35,6 +37,7 @@ pub data Given : Type 0 where
   result_of : Expression → Given
 
 mutual
+  -- a statement
   pub data Statement : Type 0 where
     let_new : ℕ → Given → Statement
     assign : ℕ → Given → Statement
@@ -45,6 +48,7 @@ mutual
     choose : Expression → Statements → Otherwise → Statement
     repeat : Expression → Statements → Statement
 
+  -- statements in their order
   pub data Statements : Type 0 where
     no_more : Statements
     then_do : Statement → Statements → Statements

@@ -31,6 +31,7 @@ expression_step (Expr-F.Neg x) = Trees.negation x.value
 expression_step (Expr-F.Chain x pairs) = Trees.chain x.value (pairs_of pairs.items)
 expression_step (Expr-F.Cmp rel x y) = Trees.comparison rel x.value y.value
 
+-- an expression as a tree
 abbrev pub expression : Expr → Trees.Expression
 expression = fold-Expr Trees.Expression expression_step
 
@@ -38,16 +39,19 @@ expression = fold-Expr Trees.Expression expression_step
 abbrev pub pair : Op × Expr → Op × Trees.Expression
 pair p = (p.0, expression p.1)
 
+-- an argument as a tree
 abbrev pub argument : Arg → Trees.Argument
 argument (args.Own x) = Trees.own x
 argument (args.Expr x) = Trees.value (expression x)
 
+-- an ask as a tree
 abbrev pub request : Call → Trees.Request
 request calls.New = Trees.new
 request (calls.Fork f list) = Trees.fork f (map argument list.items)
 request (calls.Get r other) = Trees.get r (option_map expression other)
 request (calls.Join r other) = Trees.join r (option_map expression other)
 
+-- what a variable is given, as a tree
 abbrev pub given : Rhs → Trees.Given
 given (sides.Call ask) = Trees.answer (request ask)
 given (sides.Expr x) = Trees.result_of (expression x)
@@ -57,6 +61,7 @@ abbrev pub statements_of : List Trees.Statement → Trees.Statements
 statements_of [] = Trees.no_more
 statements_of (s ∷ rest) = Trees.then_do s (statements_of rest)
 
+-- what a conditional does otherwise, as a tree
 abbrev pub otherwise_of : Option Trees.Statements → Trees.Otherwise
 otherwise_of None = Trees.nothing
 otherwise_of (Some body) = Trees.block body
@@ -72,17 +77,22 @@ statement_step (Stmt-F.Return x) = Trees.return (expression x)
 statement_step (Stmt-F.If x body other) = Trees.choose (expression x) body (otherwise_of other)
 statement_step (Stmt-F.While x body) = Trees.repeat (expression x) body
 
+-- one level of a block, whose statements are seen as trees already
 abbrev pub block_step : Block-F Trees.Statement Trees.Statements → Trees.Statements
 block_step b = statements_of b.stmts.items
 
+-- a statement as a tree
 abbrev pub statement : Stmt → Trees.Statement
 statement = fold-Stmt Trees.Statement Trees.Statements statement_step block_step
 
+-- a block as a tree
 abbrev pub block : Block → Trees.Statements
 block = fold-Block Trees.Statement Trees.Statements statement_step block_step
 
+-- a task as a tree
 abbrev pub task : Decl → Trees.Task
 task d = record { name = d.name; params = d.params; vars = d.vars.items; body = block d.body }
 
+-- a script as trees
 abbrev pub script : Script → List Trees.Task
 script s = map task s.tasks.items

@@ -5,6 +5,7 @@
 mod expr;
 mod fault;
 mod heads;
+pub mod laws;
 mod list_call;
 mod list_expr;
 mod list_stmt;

@@ -1,6 +1,12 @@
 //! Parsing a whole script: first the tokens one by one, then the forks, then the task `main`.
-ghost use Rattle.std.specs.Prelude.{◌≡◌, [], ◌∷◌, ◌++◌, IfOk, map};
-ghost use Rattle.tj_syntax.specs.Faults.{EndsInEnd, IsScript, kinds_of};
+ghost use Rattle.std.specs.Prelude.{◌≡◌, ◌⊎◌, [], ◌∷◌, ◌++◌, List, IfErr, IfOk, MatchResult};
+ghost use Rattle.std.specs.Prelude.{length, map};
+ghost use Rattle.std.specs.List.{AllByRecursion};
+ghost use Rattle.tj_lex.specs.Tokens.{AreTokens};
+ghost use Rattle.tj_syntax.specs.Faults.{EndsInEnd, IsFirstFault, IsScript, kinds_of};
+ghost use Rattle.tj_syntax.specs.Listing.{CanStand, listing};
+ghost use Rattle.tj_syntax.specs.Stops.{AreLeft, IsFirstStop, fault_at};
+ghost use Rattle.tj_syntax.specs.Trees.{Task};
 ghost use Rattle.tj_syntax.specs.View as view;
 
 use crate::fault::{Breach, ParseFault, Stop};
@@ -18,6 +24,19 @@ const START: Place = Place { line: 1, column: 1 };
 pub fn parse(alloc: Global, tokens: &[Token]) -> Result<Script, ParseFault>
     requires { EndsInEnd tokens.now }
     ensures ok { IfOk result (λ script. IsScript (kinds_of tokens.now) (view.script script)) }
+
+    /// What is refused has this fault first, unless memory ran out.
+    ensures fault { IfErr result (λ fault. (fault ≡ ParseFault.Oom) ⊎ IsFirstFault tokens.now fault) }
+
+    /// The tokens are refused only where they are no script, unless memory ran out.
+    ensures err { IfErr result (λ fault.
+        (fault ≡ ParseFault.Oom) ⊎ ((script : List Task) → IsScript (kinds_of tokens.now) script → ⊥)) }
+
+    /// The tokens of a script's listing, at any length, give an equal script, unless memory ran
+    /// out.
+    ensures listed { (script : List Task) (given : List Tok) → AllByRecursion CanStand given
+        → IsScript given script → AreTokens (listing script) tokens.now
+        → MatchResult result (λ found. view.script found ≡ script) (λ fault. fault ≡ ParseFault.Oom) }
 {
     match tasks_of(alloc, &tokens[..tokens.len() - 1]) {
         Ok(tasks) => Ok(Script { tasks }),
@@ -27,10 +46,14 @@ pub fn parse(alloc: Global, tokens: &[Token]) -> Result<Script, ParseFault>
 
 /// The tasks of a script without its end.
 fn tasks_of(alloc: Global, body: &[Token]) -> Result<Vec<Decl>, Stop>
-    ensures { IfOk result
+    ensures ok { IfOk result
         (λ tasks. IsScript (kinds_of body.now ++ Tok.End ∷ []) (map view.task tasks.items)) }
+    ensures fault { IfErr result (λ stop. (stop ≡ Stop.Oom)
+        ⊎ ((last : Token) → last.what ≡ Tok.End → IsFirstStop (body.now ++ last ∷ []) stop)) }
 {
-    let heads = Heads::of(alloc, body)?;
+    let Ok(heads) = Heads::of(alloc, body) else {
+        return Err(Stop::Oom);
+    };
     let main = heads.get(b"main");
     let mut parser = Parser {
         alloc,
@@ -51,7 +74,10 @@ fn tasks_of(alloc: Global, body: &[Token]) -> Result<Vec<Decl>, Stop>
 }
 
 /// The fault for which the reading of these tokens stopped. The end is the last of them.
-fn fault(tokens: &[Token], stop: Stop) -> ParseFault {
+fn fault(tokens: &[Token], stop: Stop) -> ParseFault
+    ensures { (front back : List Token) (token : Token) → tokens.now ≡ front ++ token ∷ back
+        → AreLeft stop (length back) → result ≡ fault_at stop token.at }
+{
     match stop {
         Stop::Expected(left) => ParseFault::Expected(place(tokens, left)),
         Stop::Broken(Breach::Unknown, left) => ParseFault::Unknown(place(tokens, left)),
@@ -65,8 +91,11 @@ fn fault(tokens: &[Token], stop: Stop) -> ParseFault {
     }
 }
 
-/// The place of the token from which on so many are left before the end.
-fn place(tokens: &[Token], left: usize) -> Place {
+/// The place of the token behind which so many stand.
+fn place(tokens: &[Token], left: usize) -> Place
+    ensures { (front back : List Token) (token : Token) → tokens.now ≡ front ++ token ∷ back
+        → left ≡ length back → result ≡ token.at }
+{
     if left < tokens.len() {
         tokens[tokens.len() - 1 - left].at
     } else {

@@ -6,7 +6,8 @@ pub list_expression-returns-in_ok-list_operand-in-Chain :
     goal.list_expression-returns-in_ok-list_operand-in-Chain
 list_expression-returns-in_ok-list_operand-in-Chain t c =
     on_ok_weaker c.list_pairs.result
-    (chain_text _ _ _ _ _ _ _ _ _ _ _ c.in-Chain.is c.deref-in-Chain.ensures.value c.deref-in-Chain-2.ensures c.deref-in-Chain-3.ensures.value
+    (chain_text _ _ _ _ _ _ _ _ _ _ _ c.in-Chain.is c.deref-in-Chain.ensures.value c.deref-in-Chain-2.ensures
+    c.deref-in-Chain-3.ensures.value
     c.pairs_level.ensures c.in_ok-list_operand-in-Chain.ensures)
     c.list_pairs.ensures
 

@@ -7,5 +7,6 @@ use Rattle.tj_syntax.proofs.listing.script_text.Given as goal
 -- the text so far and that of the tasks to come are the whole script's
 abbrev pub invariant-loop-task : goal.invariant-loop-task
 invariant-loop-task l =
-    l.text.items ++ text_of (flat_map (task (names_of (map view.task l.tasks))) (map view.task (drop l.task-index l.tasks)))
+    l.text.items ++ text_of (flat_map (task (names_of (map view.task l.tasks)))
+    (map view.task (drop l.task-index l.tasks)))
     ≡ listing (map view.task l.tasks)

@@ -1,34 +1,103 @@
 -- The tasks that are read are a script.
-use Rattle.std.proofs.Common.{◌≡◌, [], None, Ok, option_map, map, ap, sym, subst, ◌∙◌, arith, codes}
+use Rattle.std.proofs.Common.{◌≡◌, ◌⊎◌, inl, inr, ⊎_elim, rules, List, [], ◌∷◌, ◌++◌, None, Ok, Err, refl, option_map}
+use Rattle.std.proofs.Common.{map, ap, sym, subst, ◌∙◌, arith, codes}
+use Rattle.std.proofs.lemmas.Grind.{common_steps}
+use Rattle.tj_lex.specs.declared.token.Tok.{Tok}
+use Rattle.tj_lex.specs.declared.token.Tok.TheVariants as toks
+use Rattle.tj_syntax.specs.Trees.{Task}
+use Rattle.tj_syntax.specs.declared.fault.Stop.{Stop}
+use Rattle.tj_syntax.specs.declared.fault.Stop.TheVariants as stop
+use Rattle.tj_syntax.specs.Marks.{Name}
+use Rattle.tj_syntax.specs.Stops.{IsFirstStop}
+use Rattle.tj_syntax.proofs.FirstFault.{stops_first, flaw_first, no_main_first, params_first}
 use Rattle.tj_lex.specs.declared.token.Token.{Token}
 use Rattle.tj_syntax.specs.State.{input_of}
 use Rattle.tj_syntax.specs.Heads.{head_of, heads_of}
 use Rattle.tj_syntax.specs.View as view
-use Rattle.tj_syntax.specs.Input.{Input, head_named}
+use Rattle.tj_syntax.specs.Input.{Head, Input, Outcome, Reads, heads_from, head_named}
 use Rattle.tj_syntax.specs.Reading.{tasks}
 use Rattle.tj_syntax.proofs.SoundScript.{script_sound, start_of}
 use Rattle.tj_syntax.proofs.read_script.tasks_of.Goals as goal
 
-pub returns : goal.returns
-returns c =
+pub returns-clause-ok : goal.returns-clause-ok
+returns-clause-ok c =
     let kinds = map (λ (t : Token). t.what) c.args.body.now in
     let found = map view.task c.in_ok-tasks.tasks.items in
     let begun : Input = record {
       ahead = kinds;
       vars = c.new.result;
-      tasks = heads_of c.in_ok-heads.heads;
+      tasks = heads_of c.in-Ok.heads;
       flaw = None;
     } in
     let start : begun ≡ start_of kinds =
-    ap (λ v. let i : Input = record { ahead = kinds; vars = v; tasks = heads_of c.in_ok-heads.heads; flaw = None } in
+    ap (λ v. let i : Input = record { ahead = kinds; vars = v; tasks = heads_of c.in-Ok.heads; flaw = None } in
     i) c.new.ensures
     ∙ ap (λ hs. let i : Input = record { ahead = kinds; vars = []; tasks = hs; flaw = None } in i)
-    c.in_ok-heads.ensures in
+    c.in-Ok.ensures in
     let read : tasks (start_of kinds) ≡ Ok (found, input_of c.tasks.new.self) =
     subst (λ i. tasks i ≡ Ok (found, input_of c.tasks.new.self)) start c.in_ok-tasks.ensures in
     let same : c.in-Some-main.head ≡ c.in-Some-2.field-0 = cc in
     let bare : c.in-Some-2.field-0.params ≡ 0 = subst (λ h. h.params ≡ 0) same (omega arith) in
-    script_sound kinds found (input_of c.tasks.new.self) (head_of c.in-Some-2.field-0) read c.in_default.is
-    (sym (ap (λ hs. head_named hs (codes "main")) c.in_ok-heads.ensures) ∙ sym c.get-main.ensures ∙ ap (option_map
+    script_sound kinds found (input_of c.tasks.new.self) (head_of c.in-Some-2.field-0) read c.in_default-flaw.is
+    (sym (ap (λ hs. head_named hs (codes "main")) c.in-Ok.ensures) ∙ sym c.get-main.ensures ∙ ap (option_map
     head_of) c.in-Some-2.is)
     bare
+
+-- a reading that stopped, but not for want of memory
+stopped : {A B : Type 0} (see : A → B) (outcome : Outcome B) (e : Stop) (new : Input) → Reads see outcome (Err e) new
+    → (e ≡ stop.Oom) ⊎ (outcome ≡ Err e)
+stopped see outcome stop.Oom new h = inl refl
+stopped see outcome e new h = inr h
+
+-- where reading begins
+begins : (kinds : List Tok) (vars : List Name) (heads : List Head) → vars ≡ [] → heads ≡ heads_from [] kinds
+    → ◌≡◌ {A = Input} (record { ahead = kinds; vars = vars; tasks = heads; flaw = None }) (start_of kinds)
+begins kinds vars heads v h =
+    ap (λ w. let i : Input = record { ahead = kinds; vars = w; tasks = heads; flaw = None } in i) v
+    ∙ ap (λ hs. let i : Input = record { ahead = kinds; vars = []; tasks = hs; flaw = None } in i) h
+
+pub returns-in_err-tasks-clause-fault : goal.returns-in_err-tasks-clause-fault
+returns-in_err-tasks-clause-fault c =
+    let kinds = map (λ (t : Token). t.what) c.args.body.now in
+    let start = begins kinds c.new.result (heads_of c.in-Ok.heads) c.new.ensures c.in-Ok.ensures in
+    let e = c.in_err-tasks.field-0.0 in
+    let fact : (e ≡ stop.Oom) ⊎ ((last : Token) → last.what ≡ toks.End → IsFirstStop (c.args.body.now ++ last ∷ []) e) =
+    ⊎_elim (λ h. inl h)
+    (λ h. let read : tasks (start_of kinds) ≡ Err e = ap tasks (sym start) ∙ h in inr
+    (λ last end. stops_first c.args.body.now last end e read))
+    (stopped {A = List Task} (λ l. l) _ e _ c.in_err-tasks.ensures) in
+    first_of (search (rules, fact), grind (arith, common_steps))
+
+pub returns-in-Some-clause-fault : goal.returns-in-Some-clause-fault
+returns-in-Some-clause-fault c =
+    let kinds = map (λ (t : Token). t.what) c.args.body.now in
+    let found = map view.task c.in_ok-tasks.tasks.items in
+    let start = begins kinds c.new.result (heads_of c.in-Ok.heads) c.new.ensures c.in-Ok.ensures in
+    let read : tasks (start_of kinds) ≡ Ok (found, input_of c.tasks.new.self) =
+    subst (λ i. tasks i ≡ Ok (found, input_of c.tasks.new.self)) start c.in_ok-tasks.ensures in
+    inr (λ last end. flaw_first c.args.body.now last end found (input_of c.tasks.new.self) c.in-Some.stop read
+    c.in-Some.is)
+
+pub returns-in-None-clause-fault : goal.returns-in-None-clause-fault
+returns-in-None-clause-fault c =
+    let kinds = map (λ (t : Token). t.what) c.args.body.now in
+    let found = map view.task c.in_ok-tasks.tasks.items in
+    let start = begins kinds c.new.result (heads_of c.in-Ok.heads) c.new.ensures c.in-Ok.ensures in
+    let read : tasks (start_of kinds) ≡ Ok (found, input_of c.tasks.new.self) =
+    subst (λ i. tasks i ≡ Ok (found, input_of c.tasks.new.self)) start c.in_ok-tasks.ensures in
+    inr (λ last end. no_main_first c.args.body.now last end found (input_of c.tasks.new.self) read c.in_default-flaw.is
+    (sym (ap (λ hs. head_named hs (codes "main")) c.in-Ok.ensures) ∙ sym c.get-main.ensures
+    ∙ ap (option_map head_of) c.in-None.is))
+
+pub returns-in-Some-main-clause-fault : goal.returns-in-Some-main-clause-fault
+returns-in-Some-main-clause-fault c =
+    let kinds = map (λ (t : Token). t.what) c.args.body.now in
+    let found = map view.task c.in_ok-tasks.tasks.items in
+    let start = begins kinds c.new.result (heads_of c.in-Ok.heads) c.new.ensures c.in-Ok.ensures in
+    let read : tasks (start_of kinds) ≡ Ok (found, input_of c.tasks.new.self) =
+    subst (λ i. tasks i ≡ Ok (found, input_of c.tasks.new.self)) start c.in_ok-tasks.ensures in
+    inr (λ last end. params_first c.args.body.now last end found (input_of c.tasks.new.self)
+    (head_of c.in-Some-main.head) read c.in_default-flaw.is
+    (sym (ap (λ hs. head_named hs (codes "main")) c.in-Ok.ensures) ∙ sym c.get-main.ensures
+    ∙ ap (option_map head_of) c.in-Some-main.is)
+    (omega arith))

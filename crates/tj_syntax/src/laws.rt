@@ -1,0 +1,25 @@
+//! Laws of the grammar. They speak of the definitions alone.
+ghost use Rattle.std.specs.Prelude.{◌≡◌, List};
+ghost use Rattle.tj_lex.specs.declared.token.Tok.{Tok};
+ghost use Rattle.tj_lex.specs.declared.token.Token.{Token};
+ghost use Rattle.tj_syntax.specs.Faults.{EndsInEnd, IsFirstFault, IsScript, kinds_of};
+ghost use Rattle.tj_syntax.specs.Trees.{Task};
+ghost use Rattle.tj_syntax.specs.declared.fault.ParseFault.{ParseFault};
+
+/// A list of tokens is one script at most.
+pub fn one_script()
+    ensures { (tokens : List Tok) (a b : List Task)
+        → IsScript tokens a → IsScript tokens b → a ≡ b }
+{}
+
+/// A list of tokens has one first fault at most.
+pub fn one_fault()
+    ensures { (tokens : List Token) (a b : ParseFault) → EndsInEnd tokens
+        → IsFirstFault tokens a → IsFirstFault tokens b → a ≡ b }
+{}
+
+/// A script has no first fault.
+pub fn scripts_have_no_fault()
+    ensures { (tokens : List Token) (script : List Task) (fault : ParseFault) → EndsInEnd tokens
+        → IsScript (kinds_of tokens) script → IsFirstFault tokens fault → ⊥ }
+{}
