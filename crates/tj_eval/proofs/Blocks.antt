@@ -1,0 +1,113 @@
+-- Lists that loops and open blocks need.
+use Rattle.std.proofs.Common.{◌≡◌, ℕ, zero, suc, ◌+◌, ◌-◌, ◌≤◌, List, [], ◌∷◌, ◌++◌, map, length, get_or, set, take}
+use Rattle.std.proofs.Common.{replicate, refl, ap, sym, ◌∙◌, append_assoc, arith}
+use Rattle.std.proofs.lemmas.List.{append-nil, length-map, replicate-append-replicate}
+use Rattle.std.specs.Prelude.{Result, Ok, Err}
+use Rattle.tj_base.specs.declared.value.Pay.{Pay}
+use Rattle.tj_base.specs.declared.cause.Trouble.{Trouble}
+use Rattle.tj_eval.specs.Bodies.{rest_of}
+use Rattle.tj_base.specs.declared.value.Pay.TheVariants as pay
+use Rattle.tj_syntax.specs.Trees.{Argument}
+use Rattle.tj_eval.specs.Expressions.{Computed}
+use Rattle.tj_eval.specs.Statements.{one_more, and_more, argument, arguments, references}
+
+not_ok : {A : Type 0} {x : A} {f : Trouble} → ◌≡◌ {A = Result A Trouble} (Err f) (Ok x) → ⊥
+not_ok e = cc
+
+ok_is : {A : Type 0} {x y : A} → ◌≡◌ {A = Result A Trouble} (Ok x) (Ok y) → x ≡ y
+ok_is {A} {x} {y} e = ap (λ r. elim r [ Ok z ↦ z | Err f ↦ x ]) e
+
+module _ {X A : Type 0} (now : X → List A) where
+  -- the innermost block comes first
+  pub rest_of-push : (xs : List X) (x : X) → rest_of (map now (xs ++ x ∷ [])) ≡ now x ++ rest_of (map now xs)
+  rest_of-push [] x = sym (append-nil (now x))
+  rest_of-push (y ∷ xs) x = ap (λ z. z ++ now y) (rest_of-push xs x)
+      ∙ append_assoc (now x) (rest_of (map now xs)) (now y)
+
+  -- the innermost block, set to another
+  pub rest_of-set : (xs : List X) (n : ℕ) (x : X) → length xs ≡ suc n
+      → rest_of (map now (set xs n x)) ≡ now x ++ rest_of (map now (take n xs))
+  rest_of-set [] n x e = absurd (omega arith)
+  rest_of-set (y ∷ []) zero x e = sym (append-nil (now x))
+  rest_of-set (y ∷ []) (suc n) x e = absurd (omega arith)
+  rest_of-set (y ∷ z ∷ xs) zero x e = absurd (omega arith)
+  rest_of-set (y ∷ z ∷ xs) (suc n) x e = ap (λ w. w ++ now y) (rest_of-set (z ∷ xs) n x (omega arith))
+      ∙ append_assoc (now x) (rest_of (map now (take n (z ∷ xs)))) (now y)
+
+  -- the innermost block as it is
+  pub rest_of-last : (xs : List X) (n : ℕ) (d : X) → length xs ≡ suc n
+      → rest_of (map now xs) ≡ now (get_or xs n d) ++ rest_of (map now (take n xs))
+  rest_of-last [] n d e = absurd (omega arith)
+  rest_of-last (y ∷ []) zero d e = sym (append-nil (now y))
+  rest_of-last (y ∷ []) (suc n) d e = absurd (omega arith)
+  rest_of-last (y ∷ z ∷ xs) zero d e = absurd (omega arith)
+  rest_of-last (y ∷ z ∷ xs) (suc n) d e = ap (λ w. w ++ now y) (rest_of-last (z ∷ xs) n d (omega arith))
+      ∙ append_assoc (now (get_or (z ∷ xs) n d)) (rest_of (map now (take n (z ∷ xs)))) (now y)
+
+  -- the first statement of the innermost block, and what remains
+  pub rest_of-first : (xs : List X) (n : ℕ) (d : X) (s : A) (rest : List A) → length xs ≡ suc n → d ≡ get_or xs n d
+      → now d ≡ s ∷ rest → rest_of (map now xs) ≡ s ∷ (rest ++ rest_of (map now (take n xs)))
+  rest_of-first xs n d s rest l e f = rest_of-last xs n d l
+      ∙ ap (λ z. z ++ rest_of (map now (take n xs))) (ap now (sym e) ∙ f)
+
+nil_of : {A : Type 0} (xs : List A) → length xs ≡ 0 → xs ≡ []
+nil_of [] e = refl
+nil_of (x ∷ xs) e = absurd (omega arith)
+
+-- Open blocks whose statements are seen as f shows them.
+module _ {X A B : Type 0} (now : X → List A) (f : A → B) where
+  abbrev seen : X → List B
+  seen x = map f (now x)
+
+  -- the innermost block with its last statement
+  pub take-last : (xs new : List X) (n : ℕ) (d : X) (s : A) (rest : List A) → length xs ≡ suc n → d ≡ get_or xs n d
+      → now d ≡ s ∷ rest → length rest ≡ 0 → new ≡ take n xs → rest_of (map seen xs) ≡ f s ∷ rest_of (map seen new)
+  take-last xs new n d s rest l e g z t = rest_of-first seen xs n d (f s) (map f rest) l e (ap (map f) g)
+      ∙ ap (λ r. f s ∷ (map f r ++ rest_of (map seen (take n xs)))) (nil_of rest z)
+      ∙ ap (λ b. f s ∷ rest_of (map seen b)) (sym t)
+
+  -- the innermost block with an earlier one
+  pub take-one : (xs : List X) (n : ℕ) (d : X) (s : A) (r : X) → length xs ≡ suc n → d ≡ get_or xs n d
+      → now d ≡ s ∷ now r → rest_of (map seen xs) ≡ f s ∷ rest_of (map seen (set xs n r))
+  take-one xs n d s r l e g = rest_of-first seen xs n d (f s) (seen r) l e (ap (map f) g)
+      ∙ ap (λ z. f s ∷ z) (sym (rest_of-set seen xs n r l))
+
+-- values in front of those that are still computed
+abbrev pub ahead : List Pay → Result (List Pay) Trouble → Result (List Pay) Trouble
+ahead values (Ok more) = Ok (values ++ more)
+ahead values (Err fault) = Err fault
+
+pub ahead-one : (values : List Pay) (v : Pay) (more : Result (List Pay) Trouble)
+    → ahead values (one_more v more) ≡ ahead (values ++ v ∷ []) more
+ahead-one values v (Ok more) = ap (λ z. Ok z) (sym (append_assoc values (v ∷ []) more))
+ahead-one values v (Err fault) = refl
+
+length-one : (n : ℕ) (c : Computed) (more : Result (List Pay) Trouble) (values : List Pay)
+    → ((vs : List Pay) → more ≡ Ok vs → length vs ≡ n) → and_more c more ≡ Ok values → length values ≡ suc n
+length-one n (Ok v) (Ok vs) values h g = ap length (sym (ok_is g)) ∙ ap suc (h vs refl)
+length-one n (Ok v) (Err fault) values h g = absurd (not_ok g)
+length-one n (Err fault) more values h g = absurd (not_ok g)
+
+-- each argument has its value
+pub length-arguments : (vars : List Pay) (list : List Argument) (values : List Pay) → arguments vars list ≡ Ok values
+    → length values ≡ length list
+length-arguments vars [] values e = ap length (sym (ok_is e))
+length-arguments vars (x ∷ list) values e = length-one (length list) (argument vars x) (arguments vars list) values
+    (λ vs f. length-arguments vars list vs f) e
+
+-- the same, of arguments as f shows them
+pub length-shown : {X : Type 0} (f : X → Argument) (vars : List Pay) (list : List X) (values : List Pay)
+    → arguments vars (map f list) ≡ Ok values → length values ≡ length list
+length-shown f vars list values e = length-arguments vars (map f list) values e ∙ length-map list f
+
+pub length-references : (values : List Pay) → length (references values) ≤ length values
+length-references [] = omega arith
+length-references (pay.Num n ∷ values) = omega (arith, length-references values)
+length-references (pay.Ref k ∷ values) = omega (arith, length-references values)
+
+-- one zero more
+pub zeros-more : (front items : List Pay) (v : Pay) (at n : ℕ) → n ≤ at → items ≡ front ++ replicate (at - n) v
+    → items ++ v ∷ [] ≡ front ++ replicate (at + 1 - n) v
+zeros-more front items v at n l e = let k : (at - n) + 1 ≡ at + 1 - n = omega arith in
+    ap (λ z. z ++ v ∷ []) e ∙ append_assoc front (replicate (at - n) v) (v ∷ [])
+    ∙ ap (λ z. front ++ z) (replicate-append-replicate (at - n) 1 v) ∙ ap (λ z. front ++ replicate z v) k

@@ -1,0 +1,171 @@
+//! A task of a script as a body: it takes its answer, and goes on to its next ask.
+ghost use Rattle.std.specs.Prelude.{◌≡◌, ◌<◌, ◌≤◌, codes, IfOk, IsTrue, List, Some};
+ghost use Rattle.std.specs.Str.{bytes_eq};
+ghost use Rattle.tj_body.specs.Asks as asks;
+ghost use Rattle.tj_body.specs.Asks.{IsFresh};
+ghost use Rattle.tj_lex.specs.declared.token.Tok.{Tok};
+ghost use Rattle.tj_syntax.specs.Faults.{IsScript, main_of};
+ghost use Rattle.tj_syntax.specs.Trees.{Task};
+ghost use Rattle.tj_syntax.specs.View as view;
+ghost use Rattle.tj_eval.specs.Bodies.{all_have_few_params, IsMainBody};
+ghost use Rattle.tj_eval.specs.Bodies.{script_places, script_awaits, script_left};
+ghost use Rattle.tj_eval.specs.Statements as state;
+ghost use Rattle.tj_eval.specs.Turns.{IsNextAsk, IsAnswered};
+
+use crate::expression::value;
+use crate::fork::task_of;
+use crate::state::{Due, ScriptBody};
+use crate::stop::Stop;
+use std::alloc::Global;
+use tj_base::{Oom, Pay, Trouble};
+use tj_body::{Answer, Ask, Body};
+use tj_syntax::{Decl, Expr, Script};
+
+/// The body of the script's task `main`, each of whose tasks makes at most so many statements.
+pub fn main_body<'s>(alloc: Global, script: &'s Script, steps: u32) -> Result<ScriptBody<'s>, Oom>
+    requires steps { (0 < steps) × (steps ≤ 1000000) }
+    requires script { (tokens : List Tok) × IsScript tokens (view.script script.now) }
+    ensures main { IfOk result (IsMainBody (view.script script.now) steps) }
+    ensures fresh { IfOk result (IsFresh script_places script_awaits script_left 1) }
+{
+    let body = task_of(alloc, script, steps, main_task(script), &[], 0)?;
+    Ok(body)
+}
+
+/// The task `main`.
+fn main_task(script: &Script) -> &Decl
+    requires { (main : Task) × (main_of (view.script script.now) ≡ Some main) }
+    ensures { main_of (view.script script.now) ≡ Some (view.task result.now) }
+{
+    for decl in &script.tasks {
+        if is_main(decl) {
+            return decl;
+        }
+    }
+    unreachable!()
+}
+
+/// Whether the task is named `main`.
+fn is_main(decl: &Decl) -> bool
+    ensures { result ≡ bytes_eq decl.now.name (codes "main") }
+{
+    decl.name.bytes() == b"main".as_slice()
+}
+
+/// How many places the answer adds.
+fn new_places(a: Answer) -> u32
+    ensures { result ≡ asks.new_places a }
+{
+    match a {
+        Answer::Local(_) | Answer::RefAt(_) => 1,
+        Answer::Start | Answer::Done | Answer::Num(_) | Answer::Lost => 0,
+    }
+}
+
+impl<'s> ScriptBody<'s> {
+    /// Takes the answer.
+    fn settle(&mut self, a: Answer) -> Result<(), Trouble>
+        ensures { IsAnswered self.old (state.answered self.old self.old.due a) result self.new }
+    {
+        let due = self.due;
+        match due {
+            Due::Place(into) | Due::Cell(into) => self.keep_answer(into, a),
+            Due::CellOr(into, e) => self.keep_or(into, e, a)?,
+            Due::Start | Due::Done | Due::Over => {}
+        }
+        Ok(())
+    }
+
+    /// Puts the value that is answered into the variable.
+    fn keep_answer(&mut self, into: Option<u32>, a: Answer)
+        ensures { self.new ≡ state.kept_if into (state.value_of a) self.old }
+    {
+        match a {
+            Answer::Local(k) | Answer::RefAt(k) => self.keep(into, Pay::Ref(k)),
+            Answer::Num(n) => self.keep(into, Pay::Num(n)),
+            Answer::Start | Answer::Done | Answer::Lost => {}
+        }
+    }
+
+    /// The same, or puts the value of the expression there where the cell is broken.
+    fn keep_or(&mut self, into: Option<u32>, e: &Expr, a: Answer) -> Result<(), Trouble>
+        ensures { IsAnswered self.old (state.answered_or self.old into (view.expression e.now) a)
+            result self.new }
+    {
+        if let Answer::Lost = a {
+            let v = value(&self.vars, e)?;
+            self.keep(into, v);
+        } else {
+            self.keep_answer(into, a);
+        }
+        Ok(())
+    }
+
+    /// Goes on to the next ask.
+    fn run(&mut self, alloc: Global) -> Result<Ask<ScriptBody<'s>>, Oom>
+        requires { IsTrue (all_have_few_params self.old.script) }
+        ensures { IfOk result (λ ask. IsNextAsk (state.next_ask self.old.steps self.old) ask self.new) }
+    {
+        while let Some(stmt) = self.take() {
+            if self.steps == 0 {
+                return Ok(self.fail(Trouble::Steps));
+            }
+            self.steps -= 1;
+            match self.begin(alloc, stmt) {
+                Ok(Some(ask)) => return Ok(ask),
+                Ok(None) => {}
+                Err(Stop::Fault(fault)) => return Ok(self.fail(fault)),
+                Err(Stop::Memory) => return Err(Oom),
+            }
+        }
+        self.end();
+        Ok(Ask::End(Pay::Num(0)))
+    }
+
+    /// Fails.
+    fn fail(&mut self, fault: Trouble) -> Ask<ScriptBody<'s>>
+        ensures ask { result ≡ Ask.Fail fault }
+        ensures ended { self.new ≡ state.ended self.old }
+    {
+        self.end();
+        Ask::Fail(fault)
+    }
+}
+
+impl<'s> Body for ScriptBody<'s> {
+    ghost use Rattle.tj_eval.specs.Bodies.{script_places, script_awaits, script_left};
+    ghost use Rattle.tj_eval.specs.Bodies.{script_asks, script_then};
+    ghost use Rattle.tj_eval.specs.Laws.{script_obeys};
+
+    ghost places = { script_places };
+
+    ghost awaits = { script_awaits };
+
+    ghost left = { script_left };
+
+    ghost asks = { script_asks };
+
+    ghost then = { script_then };
+
+    fn next(&mut self, alloc: Global, a: Answer) -> Result<Ask<Self>, Oom> {
+        self.places += new_places(a);
+        match self.settle(a) {
+            Ok(()) => self.run(alloc),
+            Err(fault) => Ok(self.fail(fault)),
+        }
+    }
+
+    fn twin(&self, alloc: Global) -> Result<Self, Oom> {
+        Ok(ScriptBody {
+            script: self.script,
+            limit: self.limit,
+            blocks: Vec::from_slice(alloc, &self.blocks)?,
+            vars: Vec::from_slice(alloc, &self.vars)?,
+            steps: self.steps,
+            places: self.places,
+            due: self.due,
+        })
+    }
+
+    ghost obeys = { script_obeys };
+}
