@@ -2,3 +2,8 @@ pub mod OwnedNames
 pub mod RoundSteps
 pub mod Told
 pub mod ToldOutcomes
+pub mod NameOrder
+pub mod WaysBack
+pub mod Trails
+pub mod OneOutcome
+pub mod NoWaits

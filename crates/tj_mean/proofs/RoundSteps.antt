@@ -1,5 +1,6 @@
 -- A round, task by task: what is taken, what is still to be taken, and when it has too many cells.
-use Rattle.std.proofs.Common.{◌≡◌, ℕ, zero, suc, ◌+◌, ◌-◌, ◌<◌, ◌≤◌, inl, ⊎_elim, Bool, List, [], ◌∷◌, ◌++◌, map, length}
+use Rattle.std.proofs.Common.{◌≡◌, ℕ, zero, suc, ◌+◌, ◌-◌, ◌<◌, ◌≤◌, inl, ⊎_elim, Bool, List, [], ◌∷◌, ◌++◌, map}
+use Rattle.std.proofs.Common.{length}
 use Rattle.std.proofs.Common.{refl, sym, ap, ◌∙◌, subst, arith, length-append, append_assoc}
 use Rattle.std.specs.List.{flat_map}
 use Rattle.std.proofs.lemmas.Grind.{flat_map-append}
@@ -40,12 +41,14 @@ module _ {B : Type 0} (strict : Bool) (asks : B → Answer → Ask B) (then : B 
     family_begins (suc d) t = refl
 
     -- where forks are followed, the offspring are the families of the children
-    pub offspring_of : (d : ℕ) (l : List (Task B)) → (d ≡ 0 → ⊥) → offspring strict asks then left V d l ≡ flat_map (family_of (d - 1)) l
+    pub offspring_of : (d : ℕ) (l : List (Task B)) → (d ≡ 0 → ⊥)
+        → offspring strict asks then left V d l ≡ flat_map (family_of (d - 1)) l
     offspring_of zero l h = absurd (h refl)
     offspring_of (suc d) l h = let e : suc d - 1 ≡ d = omega arith in rw e refl
 
     -- the family of the last pending task comes first
-    pub still_push : (ws : List (Pending B)) (w : Pending B) → still_of (ws ++ w ∷ []) ≡ family_of w.depth w.task ++ still_of ws
+    pub still_push : (ws : List (Pending B)) (w : Pending B)
+        → still_of (ws ++ w ∷ []) ≡ family_of w.depth w.task ++ still_of ws
     still_push [] w = sym (append-nil (family_of w.depth w.task))
     still_push (x ∷ ws) w =
         ap (λ z. z ++ family_of x.depth x.task) (still_push ws w)
@@ -65,7 +68,8 @@ module _ {B : Type 0} (strict : Bool) (asks : B → Answer → Ask B) (then : B 
     cells_length [] = omega arith
     cells_length (x ∷ xs) =
         let h = cells_length xs in
-        let a = length-append (history strict asks then left V x).promises (flat_map (cells_by strict asks then left V) xs) in
+        let a = length-append (history strict asks then left V x).promises
+        (flat_map (cells_by strict asks then left V) xs) in
         omega arith
 
   module _ (root : Task B) (n : ℕ) where
@@ -85,7 +89,8 @@ module _ {B : Type 0} (strict : Bool) (asks : B → Answer → Ask B) (then : B 
     writes t = writes_by strict asks then left V t
 
     -- the tasks that were taken, what was kept of them, and those that are pending, are together the round
-    pub record IsUnder (pending : List (Pending B)) (kept : List Stopped) (written : List (Name × Entry)) (counted : ℕ) : Type 0 where
+    pub record IsUnder (pending : List (Pending B)) (kept : List Stopped) (written : List (Name × Entry))
+        (counted : ℕ) : Type 0 where
       pub taken : List (Task B)
       pub whole : taken ++ still strict asks then left V pending ≡ tasks_of
       pub kept_taken : kept ≡ map (λ t. stopped_of (history strict asks then left V t)) taken
@@ -132,14 +137,16 @@ module _ {B : Type 0} (strict : Bool) (asks : B → Answer → Ask B) (then : B 
           let b = ap (λ (l : List (Task B)). length l) (s ∙ ap (λ (x : Point B). after x.children) e) in
           omega arith
 
-      module _ (kept : List Stopped) (written : List (Name × Entry)) (counted : ℕ) (u : IsUnder pending kept written counted) where
+      module _ (kept : List Stopped) (written : List (Name × Entry)) (counted : ℕ)
+          (u : IsUnder pending kept written counted) where
         -- the next task is the last one that is pending
         pub next : tasks_of ≡ u.taken ++ w.task ∷ after (children_of V w.task)
         next = sym u.whole ∙ ap (λ l. u.taken ++ l) first_of
 
         -- it is one of the round
         pub next_in : IsIn w.task tasks_of
-        next_in = subst (IsIn w.task) (sym next) (in_right w.task u.taken (w.task ∷ after (children_of V w.task)) (inl refl))
+        next_in = subst (IsIn w.task) (sym next) (in_right w.task u.taken (w.task ∷ after (children_of V w.task))
+            (inl refl))
 
         -- what stands when it was taken
         pub takes : (p : Point B) → p ≡ history strict asks then left V w.task
@@ -162,17 +169,20 @@ module _ {B : Type 0} (strict : Bool) (asks : B → Answer → Ask B) (then : B 
         } where
           count : counted' ≡ length (cells_in (u.taken ++ w.task ∷ []))
           count =
-              let a = ap (λ (l : List Name). length l) (flat_map-append (cells_by strict asks then left V) u.taken (w.task ∷ [])) in
+              let a = ap (λ (l : List Name). length l) (flat_map-append (cells_by strict asks then left V) u.taken
+              (w.task ∷ [])) in
               let b = length-append (cells_in u.taken) (cells_in (w.task ∷ [])) in
               let d = length-append (history strict asks then left V w.task).promises [] in
               let f = ap (λ (x : Point B). length x.promises) e in
               let h = u.counted_taken in
               omega arith
 
-    module _ (places : B → ℕ) (awaits : B → Await) (obeys : (b : B) (a : Answer) → Obeys places awaits left asks then b a)
+    module _ (places : B → ℕ) (awaits : B → Await)
+        (obeys : (b : B) (a : Answer) → Obeys places awaits left asks then b a)
         (alone : root.handed ≡ []) (proper : IsProper places awaits left root) (N : ℕ) where
       -- more are pending than there is room for
-      pub full_pending : (pending : List (Pending B)) (kept : List Stopped) (written : List (Name × Entry)) (counted : ℕ)
+      pub full_pending : (pending : List (Pending B)) (kept : List Stopped) (written : List (Name × Entry))
+          (counted : ℕ)
           → IsUnder pending kept written counted → N - counted < length pending → IsFull strict asks then left root N
       full_pending pending kept written counted u h =
           let rest = still strict asks then left V pending in

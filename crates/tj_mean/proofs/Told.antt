@@ -48,7 +48,8 @@ module _ {B : Type 0} (strict : Bool) (asks : B → Answer → Ask B) (then : B 
       is.tasks_kept
       ∙ ap (λ W. kept W (tasks strict asks then left root (suc n))) (sym (s (last_round N) (omega arith)).0)
       ∙ ap (λ l. kept (V (last_round N)) l) (sym (s (2 * N) few).1)
-      ∙ ap (λ k. kept (V (last_round N)) (tasks strict asks then left root k)) (let z : suc (2 * N) ≡ last_round N = omega arith in z)
+      ∙ ap (λ k. kept (V (last_round N)) (tasks strict asks then left root k))
+      (let z : suc (2 * N) ≡ last_round N = omega arith in z)
       ∙ kept_meaning N
 
   -- and so is round 2 N + 1, where it has at most N cells
@@ -92,7 +93,8 @@ module _ {B : Type 0} (strict : Bool) (asks : B → Answer → Ask B) (then : B 
   -- the tasks and the entries that were kept are as many as those of the round
   pub kept_tasks : (n : ℕ) (r : Round) → IsRound strict asks then left root n r
       → length r.tasks.items ≡ length (tasks strict asks then left root (suc n))
-  kept_tasks n r is = ap (λ (l : List Stopped). length l) is.tasks_kept ∙ kept_length (V n) (tasks strict asks then left root (suc n))
+  kept_tasks n r is = ap (λ (l : List Stopped). length l) is.tasks_kept
+      ∙ kept_length (V n) (tasks strict asks then left root (suc n))
 
   pub kept_entries : (n : ℕ) (r : Round) → IsRound strict asks then left root n r
       → length r.entries.items ≡ length (entries strict asks then left root (suc n))

@@ -37,7 +37,8 @@ module _ {B : Type 0} (strict : Bool) (asks : B → Answer → Ask B) (then : B 
 
   -- what is kept of round n + 1
   pub record IsRound (root : Task B) (n : ℕ) (r : Round) : Type 0 where
-    pub tasks_kept : r.tasks.items ≡ map (λ t. stopped_of (history strict asks then left (given strict asks then left root n) t))
+    pub tasks_kept : r.tasks.items
+        ≡ map (λ t. stopped_of (history strict asks then left (given strict asks then left root n) t))
         (tasks strict asks then left root (suc n))
     pub entries_kept : r.entries.items ≡ entries strict asks then left root (suc n)
     pub cells_counted : r.cells ≡ length (cells strict asks then left root (suc n))

@@ -1,4 +1,6 @@
 pub mod Assignments
 pub mod Exceeds
 pub mod KeptRounds
+pub mod OutcomeLaws
 pub mod Outcomes
+pub mod Ways

@@ -3,11 +3,17 @@
 
 mod ask_steps;
 mod history_steps;
+mod laws;
 mod outcome;
 mod owned_names;
 mod round;
 mod rounds;
+#[cfg(test)]
+mod tests;
+mod wait_graph;
 
+pub use laws::{one_outcome, strict_outcome_has_no_wait};
 pub use outcome::{
     CycleList, Ending, LineList, Link, LinkList, Outcome, PlanFault, TaskLine, marked,
 };
+pub use rounds::plan;

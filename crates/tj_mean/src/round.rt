@@ -1,7 +1,8 @@
 //! One round: the history of each task under the assignment of the round before. The tasks are
 //! taken in the order of forks: a task, then its first child with all that comes from it, and so
 //! on, as far as the round follows forks.
-ghost use Rattle.std.specs.Prelude.{◌≡◌, ◌+◌, ◌*◌, ◌<◌, ◌≤◌, ◌^◌, suc, [], ◌∷◌, ◌++◌, length, IfOk, IfErr, Bool};
+ghost use Rattle.std.specs.Prelude.{◌≡◌, ◌+◌, ◌*◌, ◌<◌, ◌≤◌, ◌^◌, suc, [], ◌∷◌, ◌++◌, length};
+ghost use Rattle.std.specs.Prelude.{IfOk, IfErr, Bool};
 ghost use Rattle.tj_body.specs.Asks.{IsFresh};
 ghost use Rattle.tj_body.specs.History.{Assignment};
 ghost use Rattle.tj_body.specs.Rounds as rounds;

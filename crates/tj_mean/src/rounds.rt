@@ -6,20 +6,47 @@ ghost use Rattle.std.specs.BTreeMap.{Updates};
 ghost use Rattle.std.specs.Cmp.Lexicographic.{slice_cmp};
 ghost use Rattle.std.specs.Ordering.{nat_cmp};
 ghost use Rattle.tj_base.specs.ForkOrder as fork_order;
+ghost use Rattle.std.specs.List.Sorted.{IsPermutation};
 ghost use Rattle.tj_body.specs.Asks.{IsFresh};
+ghost use Rattle.tj_body.specs.Laws.{AreDistinct};
 ghost use Rattle.tj_body.specs.Rounds as rounds;
 ghost use Rattle.tj_mean.specs.Assignments.{assignment_in};
-ghost use Rattle.tj_mean.specs.KeptRounds.{stopped_of};
+ghost use Rattle.tj_mean.specs.KeptRounds.{stopped_of, AreApart, IsToldOf};
+ghost use Rattle.tj_mean.specs.Outcomes.{Ascend, IsOutcome};
 
-use crate::outcome::PlanFault;
+use crate::outcome::{LineList, Outcome, PlanFault};
 use crate::round::{Round, Stopped, next_round};
+use crate::wait_graph::cycles;
 use std::alloc::Global;
 use std::collections::BTreeMap;
-use tj_base::{Name, Oom};
+use tj_base::{Items, Name, Oom, name_cmp};
 use tj_body::{Body, Entry};
 
+/// The outcome of the meaning of this root's program.
+pub fn plan<B: Body>(
+    alloc: Global,
+    root: &B,
+    cells: u32,
+    strict: bool,
+) -> Result<Outcome, PlanFault>
+    requires root { IsFresh B.places B.awaits B.left 1 root.now }
+    requires cells { (0 < cells) × (cells ≤ 16384) }
+
+    // `Full` comes exactly where the meaning needs more than `cells` cells.
+    ensures fits { let task = rounds.root_task root.now in
+        IfOk result (λ _. ¬ rounds.IsFull strict B.asks B.then B.left task cells) }
+    ensures full { let task = rounds.root_task root.now in
+        IfErr result (λ e. e ≡ PlanFault.Full →
+        rounds.IsFull strict B.asks B.then B.left task cells) }
+    ensures outcome { let task = rounds.root_task root.now in
+        IfOk result (IsOutcome (rounds.meaning strict B.asks B.then B.left task cells)) }
+{
+    let tasks = histories(alloc, root, cells, strict)?;
+    Ok(outcome_of(alloc, tasks)?)
+}
+
 /// What is kept of the histories of the meaning.
-pub fn histories<B: Body>(
+fn histories<B: Body>(
     alloc: Global,
     root: &B,
     cells: u32,
@@ -81,4 +108,36 @@ fn put(given: &mut BTreeMap<Name, Entry>, cell: Name, became: Entry) -> Result<(
 {
     given.insert(cell, became)?;
     Ok(())
+}
+
+/// The outcome of tasks with these histories.
+fn outcome_of(alloc: Global, tasks: Vec<Stopped>) -> Result<Outcome, Oom>
+    requires { AreApart tasks.items }
+    ensures { IfOk result (IsToldOf tasks.items) }
+{
+    let tasks = in_name_order(tasks)?;
+    let cycles = cycles(alloc, tasks.as_slice())?;
+    let lines = lines_of(alloc, tasks)?;
+    Ok(Outcome { lines, cycles })
+}
+
+/// The tasks in name order.
+fn in_name_order(mut tasks: Vec<Stopped>) -> Result<Vec<Stopped>, Oom>
+    requires { AreDistinct (map (λ s. s.line.name) tasks.items) }
+    ensures same { IfOk result (λ sorted. IsPermutation tasks.items sorted.items) }
+    ensures ascend { IfOk result (λ sorted. Ascend (map (λ s. s.line.name) sorted.items)) }
+{
+    tasks.sort_by(|a, b| name_cmp(&a.line.name, &b.line.name))?;
+    Ok(tasks)
+}
+
+/// The lines of the tasks.
+fn lines_of(alloc: Global, tasks: Vec<Stopped>) -> Result<LineList, Oom>
+    ensures { IfOk result (λ lines. lines ≡ map (λ s. s.line) tasks.items) }
+{
+    let mut lines = Vec::new(alloc);
+    for task in tasks {
+        lines.push(task.line)?;
+    }
+    Ok(Items::of(lines))
 }

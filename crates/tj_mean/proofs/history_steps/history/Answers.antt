@@ -5,7 +5,8 @@ use Rattle.tj_body.proofs.Good.{good}
 use Rattle.tj_body.proofs.Points.{halt}
 use Rattle.tj_mean.specs.Assignments.{assignment_in}
 use Rattle.tj_mean.proofs.history_steps.history.Goals as goal
-use Rattle.tj_mean.proofs.history_steps.history.Goals.{then-p-cells-via-then-p-cells, then-p-cells-via-else-p-cells+then-items-room}
+use Rattle.tj_mean.proofs.history_steps.history.Goals.{then-p-cells-via-then-p-cells}
+use Rattle.tj_mean.proofs.history_steps.history.Goals.{then-p-cells-via-else-p-cells+then-items-room}
 
 pub advance-requires-clause-good : goal.advance-requires-clause-good
 advance-requires-clause-good g c κs within =

@@ -1,4 +1,5 @@
-use Rattle.std.proofs.Common.{◌≡◌, ◌+◌, ◌-◌, suc, [], ◌∷◌, ◌++◌, length, refl, sym, ap, subst, ◌∙◌, arith, length-append}
+use Rattle.std.proofs.Common.{◌≡◌, ◌+◌, ◌-◌, suc, [], ◌∷◌, ◌++◌, length, refl, sym, ap, subst, ◌∙◌, arith}
+use Rattle.std.proofs.Common.{length-append}
 use Rattle.std.proofs.lemmas.Result.{err_from_is_err_and}
 use Rattle.tj_body.specs.History.{history}
 use Rattle.tj_body.specs.Rounds.{given, root_task}
@@ -14,11 +15,13 @@ pub loop-task-init : goal.loop-task-init
 loop-task-init g c =
     let b = g.B.Body in
     let w : Pending g.row.B.Denot = record { task = c.in_ok-root_task.field-0; depth = c.args.n + 1 } in
-    let pushed : c.push.new.self.items ≡ w ∷ [] = c.in_ok-push.ensures.items ∙ ap (λ l. l ++ w ∷ []) c.new-pending.ensures.items in
+    let pushed : c.push.new.self.items ≡ w ∷ [] = c.in_ok-push.ensures.items
+    ∙ ap (λ l. l ++ w ∷ []) c.new-pending.ensures.items in
     let one = ap (λ l. length l) pushed in
     let some = c.requires.cells.0 in record {
       under = begins c.args.strict b.asks b.then b.left (root_task c.args.root.now) c.args.n
-          c.push.new.self.items c.new.result.items c.new-2.result.items w pushed c.new.ensures.items c.new-2.ensures.items
+          c.push.new.self.items c.new.result.items c.new-2.result.items w pushed c.new.ensures.items
+          c.new-2.ensures.items
           c.in_ok-root_task.ensures (omega arith);
       fits = omega arith;
     }
@@ -30,7 +33,8 @@ history-requires-clause-proper g c κs within =
     let root = root_task c.args.root.now in
     let proper : IsProper b.places b.awaits b.left root = record { fresh = c.requires.root; few = omega arith } in
     task_proper b.places b.awaits b.left c.args.strict b.asks b.then o root proper (suc c.args.n) c.in-Some.field-0.task
-    (next_in c.args.strict b.asks b.then b.left root c.args.n c.loop-task.pending.items c.pop.new.self.items c.in-Some.field-0
+    (next_in c.args.strict b.asks b.then b.left root c.args.n c.loop-task.pending.items c.pop.new.self.items
+    c.in-Some.field-0
     c.in-Some.ensures.items c.loop-task.round.tasks.items c.loop-task.round.entries.items c.loop-task.round.cells
     c.loop-task.invariant.under)
 
@@ -65,7 +69,8 @@ returns-then-len-cells-clause-full g c =
     let long = c.push_children.new.pending.ok.0 in
     λ _. full_pending c.args.strict b.asks b.then b.left root c.args.n b.places b.awaits o refl proper c.args.cells
     c.push_children.new.pending.items c.add.new.self.tasks.items c.add.new.self.entries.items c.add.new.self.cells
-    (takes c.args.strict b.asks b.then b.left root c.args.n c.loop-task.pending.items c.pop.new.self.items c.in-Some.field-0
+    (takes c.args.strict b.asks b.then b.left root c.args.n c.loop-task.pending.items c.pop.new.self.items
+    c.in-Some.field-0
     c.in-Some.ensures.items c.loop-task.round.tasks.items c.loop-task.round.entries.items c.loop-task.round.cells
     c.loop-task.invariant.under c.in_ok-point.point
     (c.in_ok-point.ensures.ok
@@ -84,7 +89,8 @@ loop-task-smaller g c =
     let b = g.B.Body in
     let root = root_task c.args.root.now in
     let V = given c.args.strict b.asks b.then b.left root c.args.n in
-    falls c.args.strict b.asks b.then b.left root c.args.n c.loop-task.pending.items c.pop.new.self.items c.in-Some.field-0
+    falls c.args.strict b.asks b.then b.left root c.args.n c.loop-task.pending.items c.pop.new.self.items
+    c.in-Some.field-0
     c.in-Some.ensures.items c.in_ok-point.point
     (c.in_ok-point.ensures.ok
     ∙ ap (λ W. history c.args.strict b.asks b.then b.left W c.in-Some.field-0.task) c.requires.round)
@@ -106,7 +112,8 @@ loop-task-preserved g c =
     let stacked = length-append c.pop.new.self.items (c.in-Some.field-0 ∷ []) in
     let counted = c.in_ok-children.ensures.cells in
     let made = c.in_ok-point.ensures.fits in record {
-      under = takes c.args.strict b.asks b.then b.left root c.args.n c.loop-task.pending.items c.pop.new.self.items c.in-Some.field-0
+      under = takes c.args.strict b.asks b.then b.left root c.args.n c.loop-task.pending.items c.pop.new.self.items
+          c.in-Some.field-0
           c.in-Some.ensures.items c.loop-task.round.tasks.items c.loop-task.round.entries.items c.loop-task.round.cells
           c.loop-task.invariant.under c.in_ok-point.point
           (c.in_ok-point.ensures.ok

@@ -7,11 +7,13 @@ use Rattle.tj_mean.proofs.round.next_round.Given as goal
 -- what was taken and what is pending are together the round, and there is room for what is pending
 abbrev pub invariant-loop-task : goal.invariant-loop-task
 invariant-loop-task g l = let b = g.B.Body in record {
-  under : IsUnder l.strict b.asks b.then b.left (root_task l.root) l.n l.pending.items l.round.tasks.items l.round.entries.items
+  under : IsUnder l.strict b.asks b.then b.left (root_task l.root) l.n l.pending.items l.round.tasks.items
+      l.round.entries.items
       l.round.cells;
   fits : l.round.cells + length l.pending.items ≤ l.cells;
 }
 
 abbrev pub decreases-loop-task : goal.decreases-loop-task
 decreases-loop-task g l = let b = g.B.Body in
-    length (still l.strict b.asks b.then b.left (given l.strict b.asks b.then b.left (root_task l.root) l.n) l.pending.items)
+    length (still l.strict b.asks b.then b.left (given l.strict b.asks b.then b.left (root_task l.root) l.n)
+    l.pending.items)

@@ -11,6 +11,7 @@ loop-cell-preserved c =
       i.1 ∙ ap (λ l. l ++ i.0) c.in-Some.ensures.items ∙ append_assoc c.pop.new.self.items ((x, e) ∷ []) i.0,
       λ q.
           c.in_ok-put.ensures.0 q
-          ∙ ap (λ t. cond t (Some e) (assignment_in c.loop-cell.given q)) (sym (nat_list_eq_equiv.symm q x ∙ texts_ties x q))
+          ∙ ap (λ t. cond t (Some e) (assignment_in c.loop-cell.given q))
+          (sym (nat_list_eq_equiv.symm q x ∙ texts_ties x q))
           ∙ ap (λ a. cond (same q x) (Some e) a) (i.2 q),
     )

@@ -8,7 +8,8 @@ use Rattle.tj_mean.specs.Assignments.{assignment_in}
 use Rattle.tj_mean.specs.KeptRounds.{IsRound}
 use Rattle.tj_mean.proofs.Told.{settled_tells, last_tells, settled_fits, last_fits, kept_tasks, kept_entries}
 use Rattle.tj_mean.proofs.rounds.histories.Goals as goal
-use Rattle.tj_mean.proofs.rounds.histories.Goals.{then-n-cells-via-then-n-cells, then-n-cells-via-else-n-cells+then-adds_none}
+use Rattle.tj_mean.proofs.rounds.histories.Goals.{then-n-cells-via-then-n-cells}
+use Rattle.tj_mean.proofs.rounds.histories.Goals.{then-n-cells-via-else-n-cells+then-adds_none}
 
 pub loop-given-init : goal.loop-given-init
 loop-given-init g c = record {
@@ -27,7 +28,8 @@ loop-given-preserved g c =
     let further = c.if-n-cells.false in
     let up : suc n ≡ n + 1 = omega arith in
     let is = c.in_ok-round.ensures.ok in
-    let entered : assignment_in c.in_ok-given.given ≡ entry_in c.in_ok-round.round.entries.items = λ i q. c.in_ok-given.ensures q i in
+    let entered : assignment_in c.in_ok-given.given ≡ entry_in c.in_ok-round.round.entries.items = λ i q.
+    c.in_ok-given.ensures q i in
     let counted = kept_tasks c.args.strict b.asks b.then b.left root refl n c.in_ok-round.round is in
     let written = kept_entries c.args.strict b.asks b.then b.left root refl n c.in_ok-round.round is in record {
       few_rounds = omega arith;
@@ -51,7 +53,8 @@ returns-then-n-cells-clause-fits g c =
           (subst (λ k. IsRound c.args.strict b.asks b.then b.left root k c.in_ok-round.round) w.if-n-cells.true is) few
       | then-n-cells-via-else-n-cells+then-adds_none w ↦
           let none = w.adds_none.ensures.0 w.if-adds_none.true in
-          settled_fits c.args.strict b.asks b.then b.left root refl c.args.cells c.loop-given.n c.in_ok-round.round is i.few_rounds few
+          settled_fits c.args.strict b.asks b.then b.left root refl c.args.cells c.loop-given.n c.in_ok-round.round
+          is i.few_rounds few
           (subst (λ k. length c.in_ok-round.round.tasks.items ≤ k) i.tasks_counted none.0)
           (subst (λ k. length c.in_ok-round.round.entries.items ≤ k) i.entries_counted none.1)
     ]
@@ -69,7 +72,8 @@ returns-then-n-cells-clause-told g c =
           (subst (λ k. IsRound c.args.strict b.asks b.then b.left root k c.in_ok-round.round) w.if-n-cells.true is) few
       | then-n-cells-via-else-n-cells+then-adds_none w ↦
           let none = w.adds_none.ensures.0 w.if-adds_none.true in
-          settled_tells c.args.strict b.asks b.then b.left root refl c.args.cells c.loop-given.n c.in_ok-round.round is i.few_rounds
+          settled_tells c.args.strict b.asks b.then b.left root refl c.args.cells c.loop-given.n c.in_ok-round.round
+          is i.few_rounds
           (subst (λ k. length c.in_ok-round.round.tasks.items ≤ k) i.tasks_counted none.0)
           (subst (λ k. length c.in_ok-round.round.entries.items ≤ k) i.entries_counted none.1)
     ]
