@@ -1,1 +1,2 @@
 pub mod ReportTexts
+pub mod SummaryTexts

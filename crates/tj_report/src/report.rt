@@ -6,6 +6,8 @@ ghost use Rattle.std.specs.List.{flat_map, join_by};
 ghost use Rattle.tj_base.specs.Texts.{name_text};
 ghost use Rattle.tj_report.specs.ReportTexts.{shown_text, cause_text, ending_text, print_line};
 ghost use Rattle.tj_report.specs.ReportTexts.{owes_line, task_lines, link_text, alarm_line, report};
+ghost use Rattle.tj_report.specs.ReportTexts.{verdict_line};
+ghost use Rattle.tj_mean.specs.Outcomes.{is_marked};
 
 use itoa::Buffer;
 use std::alloc::Global;
@@ -23,9 +25,17 @@ pub fn report_text(alloc: Global, o: &Outcome) -> Result<Vec<u8>, Oom>
     for links in o.cycles.items() {
         add_alarm(alloc, links.items(), &mut text)?;
     }
+    add_verdict(o, &mut text)?;
+    Ok(text)
+}
+
+/// Adds the last line: whether the outcome is marked.
+pub fn add_verdict(o: &Outcome, text: &mut Vec<u8>) -> Result<(), Oom>
+    ensures { IfOk result (λ _. text.new.items ≡ text.old.items ++ verdict_line (is_marked o.now)) }
+{
     let verdict: &[u8] = if marked(o) { b"marked\n" } else { b"clean\n" };
     text.extend_from_slice(verdict)?;
-    Ok(text)
+    Ok(())
 }
 
 /// Adds the lines of a task.
@@ -90,7 +100,7 @@ fn add_ending(alloc: Global, ending: &Ending, text: &mut Vec<u8>) -> Result<(), 
 }
 
 /// Adds a value.
-fn add_shown(alloc: Global, value: &Shown, text: &mut Vec<u8>) -> Result<(), Oom>
+pub fn add_shown(alloc: Global, value: &Shown, text: &mut Vec<u8>) -> Result<(), Oom>
     ensures { IfOk result (λ _. text.new.items ≡ text.old.items ++ shown_text value.now) }
 {
     match value {

@@ -16,7 +16,8 @@ returns c =
     (to_z-of_z w64 c.args.number c.ranges.number) c.in_ok-add_number.ensures in
     let named = adds t x (codes " prints ") c.extend_from_slice.new.self.items c.extend_from_slice-2.new.self.items
     c.in_ok-extend_from_slice.ensures.items c.in_ok-extend_from_slice-2.ensures.items in
-    let numbered = adds t (x ++ codes " prints ") number c.extend_from_slice-2.new.self.items c.add_number.new.text.items
+    let numbered = adds t (x ++ codes " prints ") number c.extend_from_slice-2.new.self.items
+    c.add_number.new.text.items
     named added in
     adds t (x ++ codes " prints " ++ number) line_feed c.add_number.new.text.items c.push.new.self.items
     numbered c.in_ok-push.ensures.items

@@ -4,4 +4,5 @@ use Rattle.tj_report.specs.ReportTexts.{print_line}
 use Rattle.tj_report.proofs.report.add_prints.Given as goal
 
 abbrev pub invariant-loop-number : goal.invariant-loop-number
-invariant-loop-number l = l.text.items ≡ l.initial.text.items ++ flat_map (print_line l.name) (take l.number-index l.prints)
+invariant-loop-number l = l.text.items ≡ l.initial.text.items ++ flat_map (print_line l.name)
+    (take l.number-index l.prints)
