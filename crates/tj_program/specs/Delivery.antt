@@ -4,7 +4,8 @@ use Rattle.std.specs.Io.KnownBytes.{Appends}
 use Rattle.std.specs.declared.alloc.Global.{Global}
 use Rattle.tj_ports.specs.Faults.{HasFault}
 use Rattle.tj_ports.specs.Putting.{GrowsByPart}
-use Rattle.tj_program.specs.Output.{IsOutput, IsScriptOutput}
+use Rattle.tj_program.specs.Output.{IsOutput, IsCommandOutput}
+use Rattle.tj_program.specs.declared.command.Command.{Command}
 use Rattle.tj_program.specs.declared.status.Status.{Status}
 use Rattle.tj_program.specs.declared.status.Status.TheVariants.{ReadFault, WriteFault, Memory}
 
@@ -32,8 +33,8 @@ IsPutAs status text before after count_before count_after answer =
     ((answer ≡ status) × Appends before after text)
     ⊎ ((answer ≡ WriteFault) × GrowsByPart before after text × HasFault count_before count_after)
 
--- the same of what belongs to an input
-abbrev pub IsScriptPut : List ℕ → Option (List ℕ) → Option (List ℕ) → ℕ → ℕ → Status → Type 0
-IsScriptPut input before after count_before count_after answer =
-    (status : Status) × (text : List ℕ) × IsScriptOutput input status text
+-- the output of a command was put, or the sink failed before its end
+abbrev pub IsAnswerPut : Command → List ℕ → Option (List ℕ) → Option (List ℕ) → ℕ → ℕ → Status → Type 0
+IsAnswerPut command input before after count_before count_after answer =
+    (status : Status) × (text : List ℕ) × IsCommandOutput command input status text
     × IsPutAs status text before after count_before count_after answer

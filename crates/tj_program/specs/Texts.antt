@@ -1,23 +1,20 @@
--- The texts that are written.
+-- The lines that are written in place of a report, a listing, a judging or a summary.
 use Rattle.std.specs.Prelude.{ℕ, List, ◌++◌, codes, decimal}
-use Rattle.std.specs.List.{flat_map}
+use Rattle.tj_lex.specs.declared.place.Place.{Place}
 
 -- where the words have no form
 abbrev pub usage_line : List ℕ
 usage_line = codes "usage: tj run|plan|list|judge|gen [--workers N] [--cells N] [--steps N] [--size N] [--strict]\n"
 
--- where the input is no script
-abbrev pub fault_line : List ℕ
-fault_line = codes "script fault\n"
+-- the fault of a script that has this letter and number, at this place
+abbrev pub script_fault : List ℕ → Place → List ℕ
+script_fault mark at =
+    codes "script fault " ++ mark ++ codes " at " ++ decimal at.line ++ codes ":" ++ decimal at.column ++ codes "\n"
 
--- the line of a number that the root prints
-abbrev pub print_line : ℕ → List ℕ
-print_line number = codes "0 prints " ++ decimal number ++ codes "\n"
+-- the fault of a journal at this line
+abbrev pub journal_fault : ℕ → List ℕ
+journal_fault line = codes "journal fault at line " ++ decimal line ++ codes "\n"
 
--- the lines of all of them
-abbrev pub print_lines : List ℕ → List ℕ
-print_lines numbers = flat_map print_line numbers
-
--- the report of a root that prints these numbers and returns that one
-abbrev pub report_text : List ℕ → ℕ → List ℕ
-report_text printed returned = print_lines printed ++ codes "0 done " ++ decimal returned ++ codes "\nclean\n"
+-- a script that needs more cells than these
+abbrev pub full_line : ℕ → List ℕ
+full_line cells = codes "full: more than " ++ decimal cells ++ codes " cells\n"

@@ -1,15 +1,27 @@
-//! The program `tj`: reads a script from standard input and writes what running it gives.
+//! The program `tj`: does what its words say over standard input, a script or a journal where they
+//! want one, and writes what that gives.
 #![tactic(auto)]
 
-mod report;
+mod command;
+#[cfg(test)]
+mod command_tests;
+mod fault_lines;
+mod generated;
+mod judging;
+mod laws;
+mod line_parse;
+mod line_words;
+mod mode;
+#[cfg(test)]
+mod mode_tests;
+mod output;
+#[cfg(test)]
+mod row_tests;
+#[cfg(test)]
+mod rule_tests;
 mod run;
-mod small_body;
-mod small_expect;
-mod small_kind;
-mod small_number;
-mod small_script;
-mod small_sum;
-mod small_tokens;
+mod script_run;
+mod script_text;
 mod status;
 #[cfg(test)]
 mod tests;

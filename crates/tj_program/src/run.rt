@@ -2,22 +2,30 @@
 //!
 //! The words come first, then the whole input, then the text is made and put. So want of memory
 //! comes only before the first byte is put.
-ghost use Rattle.std.specs.Prelude.{ℕ, ◌≡◌, ◌≢◌, ◌≤◌, List, Some, length, drop};
+ghost use Rattle.std.specs.Prelude.{ℕ, suc, true, false, ◌≡◌, ◌≢◌, ◌≤◌, List, Some, IfOk, IfSome, OnOk, drop};
 ghost use Rattle.std.specs.Io.KnownBytes.{Appends};
 ghost use Rattle.tj_ports.specs.Faults.{HasFault, HasNoFault, IsSound};
-ghost use Rattle.tj_ports.specs.Putting.{GrowsByPart};
-ghost use Rattle.tj_program.specs.Words.{IsRunAlone};
+ghost use Rattle.tj_ports.specs.Reading.{IsWithin};
+ghost use Rattle.tj_program.specs.CommandLine.{HasLimits, HasNoForm, IsCommand};
+ghost use Rattle.tj_program.specs.StrictRuns.{NeverWaits};
+ghost use Rattle.tj_program.specs.declared.command.Command.{Command};
+ghost use Rattle.tj_program.specs.declared.status.Status.{Status};
+ghost use Rattle.tj_program.specs.ScriptTexts.{most_bytes};
 ghost use Rattle.tj_program.specs.Texts.{usage_line};
-ghost use Rattle.tj_program.specs.Output.{IsOutput};
-ghost use Rattle.tj_program.specs.Delivery.{HasText, IsAnswered, IsOutputPart, IsPutAs, IsScriptPut};
+ghost use Rattle.tj_program.specs.Inputs.{HasRead};
+ghost use Rattle.tj_program.specs.Output.{IsOutput, ReadInput, reads};
+ghost use Rattle.tj_program.specs.Delivery.{HasText, IsAnswered, IsOutputPart, IsPutAs, IsAnswerPut};
 
-use crate::report::{FAULT_LINE, USAGE_LINE, report_of};
+use crate::command::{Command, command_of};
+use crate::fault_lines::USAGE_LINE;
+use crate::laws::{one_output, strict_runs_never_wait};
+use crate::output::output_of;
 use crate::status::Status;
-use crate::words::is_run_alone;
 use std::alloc::Global;
+use tj_base::ByteList;
 use tj_ports::{Gate, ReadEnd, ReadFault, Sink, Source, put_all, read_all};
 
-// The most bytes of a script.
+// The most bytes of a script or a journal.
 const MOST_BYTES: u32 = 1_048_576;
 
 /// Does what the words say. The status names the outcome, and the text goes to the sink.
@@ -28,67 +36,112 @@ pub fn run_words<S: Source, K: Sink, G: Gate>(
     sink: &mut K,
     _gate: &G,
 ) -> Status
-    // Where both ports tell their bytes and neither fails, the sink grows by the output,
-    // or memory is wanting.
-    ensures output { (input held : List ℕ) → S.left source.old ≡ Some input
+    // Where the ports tell their bytes and don't fail, the sink grows by the output, or memory is
+    // wanting. What isn't read needs no telling.
+    ensures output { (input held : List ℕ) → (ReadInput words.now → S.left source.old ≡ Some input)
         → K.held sink.old ≡ Some held
-        → HasNoFault (S.faults source.old) (S.faults source.new)
+        → (ReadInput words.now → HasNoFault (S.faults source.old) (S.faults source.new))
         → HasNoFault (K.faults sink.old) (K.faults sink.new)
         → IsAnswered words.now input held result (K.held sink.new) }
 
-    // A status that belongs to a text comes exactly where that text is the output, put whole.
-    ensures whole { (input : List ℕ) → S.left source.old ≡ Some input → HasText result
-        → (text : List ℕ) × IsOutput words.now input result text
+    // A status that belongs to a text comes only where that text is the output, put whole.
+    ensures whole { (input : List ℕ) → (ReadInput words.now → S.left source.old ≡ Some input)
+        → HasText result → (text : List ℕ) × IsOutput words.now input result text
         × Appends (K.held sink.old) (K.held sink.new) text }
 
-    ensures taken { (input : List ℕ) → S.left source.old ≡ Some input → IsRunAlone words.now
+    // So where words and input have an output, its status is the one, and its text was put.
+    ensures exact { (input text : List ℕ) (status : Status)
+        → (ReadInput words.now → S.left source.old ≡ Some input)
+        → IsOutput words.now input status text → HasText result
+        → (result ≡ status) × Appends (K.held sink.old) (K.held sink.new) text }
+
+    // Where the source doesn't tell its bytes, that text is the output of some input.
+    ensures cause { HasText result → (input : List ℕ) × (text : List ℕ)
+        × IsOutput words.now input result text
+        × Appends (K.held sink.old) (K.held sink.new) text }
+
+    // The whole input was taken, or one byte more than a script may have.
+    ensures taken { (input : List ℕ) → S.left source.old ≡ Some input → ReadInput words.now
         → HasText result
-        → S.left source.new ≡ Some (drop 1048577 input) }
+        → S.left source.new ≡ Some (drop (suc most_bytes) input) }
 
     // Each other answer has its cause.
-    ensures usage { result ≡ Status.Usage → (IsRunAlone words.now → ⊥)
+    ensures usage { result ≡ Status.Usage → HasNoForm words.now
         × Appends (K.held sink.old) (K.held sink.new) usage_line }
-    ensures script { result ≡ Status.Script → IsRunAlone words.now }
-    ensures clean { result ≡ Status.Clean → IsRunAlone words.now }
-    ensures untouched { (IsRunAlone words.now → ⊥) → source.new ≡ source.old }
-    ensures read_fault { result ≡ Status.ReadFault → IsRunAlone words.now
+    ensures untouched { (ReadInput words.now → ⊥) → source.new ≡ source.old }
+    ensures read_fault { result ≡ Status.ReadFault → ReadInput words.now
         × HasFault (S.faults source.old) (S.faults source.new) }
-    ensures unread { result ≡ Status.ReadFault → sink.new ≡ sink.old }
+    ensures unwritten { result ≡ Status.ReadFault → sink.new ≡ sink.old }
     ensures write_fault { result ≡ Status.WriteFault
         → HasFault (K.faults sink.old) (K.faults sink.new) }
-    ensures part { result ≡ Status.WriteFault → (input : List ℕ) → S.left source.old ≡ Some input
+    ensures part { result ≡ Status.WriteFault → (input : List ℕ)
+        → (ReadInput words.now → S.left source.old ≡ Some input)
         → IsOutputPart words.now input (K.held sink.old) (K.held sink.new) }
     ensures memory { result ≡ Status.Memory → sink.new ≡ sink.old }
-    ensures never { (result ≢ Status.Marked) × (result ≢ Status.Full) }
+
+    // With `--strict` a script without the keyword `get` has no outcome with a wait.
+    ensures never_waits { (command : Command) (input : List ℕ) → IsCommand words.now command
+        → NeverWaits command input }
 
     ensures source_counted { S.faults source.old ≤ S.faults source.new }
     ensures sink_counted { K.faults sink.old ≤ K.faults sink.new }
     ensures sound { S.never_fails source.old → (result ≢ Status.ReadFault)
         × IsSound (S.faults source.old) (S.faults source.new) (S.never_fails source.new) }
 {
-    if !is_run_alone(words) {
-        return put_text(sink, Status::Usage, USAGE_LINE);
-    }
-    match read_all(alloc, source, MOST_BYTES) {
+    one_output();
+    strict_runs_never_wait();
+    let command = match command_of(alloc, words) {
+        Ok(Some(command)) => command,
+        Ok(None) => return put_text(sink, Status::Usage, USAGE_LINE),
+        Err(_out_of_memory) => return Status::Memory,
+    };
+    match input_of(alloc, command, source) {
+        Ok(input) => answer(alloc, command, &input, sink),
         Err(ReadFault::Failed) => Status::ReadFault,
         Err(ReadFault::Oom) => Status::Memory,
-        Ok(ReadEnd::Long(_bytes)) => put_text(sink, Status::Script, FAULT_LINE),
-        Ok(ReadEnd::Whole(bytes)) => run_script(alloc, bytes.items(), sink),
     }
 }
 
-// Puts the report of a script, or the line that says that it is none.
-fn run_script<K: Sink>(alloc: Global, text: &[u8], sink: &mut K) -> Status
-    requires { length text.now ≤ 1048576 }
-    ensures output { result ≢ Status.Memory → IsScriptPut text.now (K.held sink.old)
-        (K.held sink.new) (K.faults sink.old) (K.faults sink.new) result }
+// What a command reads of its input: all of it, or nothing.
+fn input_of<S: Source>(
+    alloc: Global,
+    command: Command,
+    source: &mut S,
+) -> Result<ReadEnd, ReadFault>
+    ensures read { (all : List ℕ) → S.left source.old ≡ Some all
+        → IfOk result (HasRead command all) }
+    ensures within { IfOk result (IsWithin most_bytes) }
+    ensures rest { reads command ≡ true → (all : List ℕ) → S.left source.old ≡ Some all
+        → OnOk result (S.left source.new ≡ Some (drop (suc most_bytes) all)) }
+    ensures untouched { reads command ≡ false → source.new ≡ source.old }
+    ensures failed { result ≡ Err ReadFault.Failed → (reads command ≡ true)
+        × HasFault (S.faults source.old) (S.faults source.new) }
+    ensures counted { S.faults source.old ≤ S.faults source.new }
+    ensures sound { S.never_fails source.old → (result ≢ Err ReadFault.Failed)
+        × IsSound (S.faults source.old) (S.faults source.new) (S.never_fails source.new) }
+{
+    if let Command::Gen { .. } = command {
+        return Ok(ReadEnd::Whole(ByteList::of(Vec::new(alloc))));
+    }
+    read_all(alloc, source, MOST_BYTES)
+}
+
+// Puts what a command gives for its input.
+fn answer<K: Sink>(alloc: Global, command: Command, input: &ReadEnd, sink: &mut K) -> Status
+    requires limits { HasLimits command }
+    requires within { IsWithin most_bytes input.now }
+    ensures output { result ≢ Status.Memory → (all : List ℕ) → HasRead command all input.now
+        → IsAnswerPut command all (K.held sink.old) (K.held sink.new)
+        (K.faults sink.old) (K.faults sink.new) result }
     ensures memory { result ≡ Status.Memory → sink.new ≡ sink.old }
+    ensures write_fault { result ≡ Status.WriteFault
+        → HasFault (K.faults sink.old) (K.faults sink.new) }
+    ensures others { (result ≢ Status.Usage) × (result ≢ Status.ReadFault) }
     ensures counted { K.faults sink.old ≤ K.faults sink.new }
 {
-    match report_of(alloc, text) {
+    match output_of(alloc, command, input) {
+        Ok(output) => put_text(sink, output.status, output.text.as_slice()),
         Err(_out_of_memory) => Status::Memory,
-        Ok(None) => put_text(sink, Status::Script, FAULT_LINE),
-        Ok(Some(report)) => put_text(sink, Status::Clean, report.as_slice()),
     }
 }
 

@@ -1,17 +1,18 @@
-// What the program writes and answers, over ports in memory.
+//! What the program writes and answers where an input is too long or a port fails.
 use crate::run::run_words;
 use crate::status::Status;
 use std::alloc::{AllocError, Global};
+use std::process::Abort;
 use std::test::Fail;
 use tj_ports::{MemSink, MemSource, OpenGate};
 
-const USAGE: &[u8] =
-    b"usage: tj run|plan|list|judge|gen [--workers N] [--cells N] [--steps N] [--size N] [--strict]\n";
+pub const USAGE: &str =
+    "usage: tj run|plan|list|judge|gen [--workers N] [--cells N] [--steps N] [--size N] [--strict]\n";
 
-const THREE: &[u8] = b"task main() { return 1 + 2; }";
+pub const THREE: &str = "task main() { return 1 + 2; }";
 
-// The words of a command line with one space between them, and none for the empty text.
-fn words_of(alloc: Global, line: &str) -> Result<Vec<String>, AllocError> {
+/// The words of a command line with one space between them, and none for the empty text.
+pub fn words_of(alloc: Global, line: &str) -> Result<Vec<String>, AllocError> {
     let mut words = Vec::new(alloc);
     for word in line.split_whitespace() {
         words.push(String::from_str(alloc, word)?)?;
@@ -19,106 +20,89 @@ fn words_of(alloc: Global, line: &str) -> Result<Vec<String>, AllocError> {
     Ok(words)
 }
 
-#[test]
-fn outputs(rt: HostRuntime) -> Result<(), Fail> {
+/// Asserts what the words write for so many of a byte, then the tail.
+fn shows_long(
+    rt: &(impl Abort + AllocGlobal),
+    line: &str,
+    (byte, count): (u8, usize),
+    tail: &str,
+    output: &str,
+) -> Result<(), Fail> {
     let alloc = rt.alloc();
-    let fault = b"script fault\n".as_slice();
-    let rows = [
-        (
-            "a sum",
-            "run",
-            THREE,
-            Status::Clean,
-            b"0 done 3\nclean\n".as_slice(),
-        ),
-        (
-            "sums to print, over lines",
-            "run",
-            b"task\tmain ( ) {\r\n print 1;print 002+3 ; return 999999999 + 1; }\n".as_slice(),
-            Status::Clean,
-            b"0 prints 1\n0 prints 5\n0 done 1000000000\nclean\n".as_slice(),
-        ),
-        ("empty input", "run", b"".as_slice(), Status::Script, fault),
-        (
-            "a number of ten digits",
-            "run",
-            b"task main() { return 1234567890; }".as_slice(),
-            Status::Script,
-            fault,
-        ),
-        (
-            "a word that goes on",
-            "run",
-            b"task main() { return1; }".as_slice(),
-            Status::Script,
-            fault,
-        ),
-        (
-            "bytes behind the closing brace",
-            "run",
-            b"task main() { return 1; } }".as_slice(),
-            Status::Script,
-            fault,
-        ),
-        ("a word too many", "run run", THREE, Status::Usage, USAGE),
-        ("no word", "", THREE, Status::Usage, USAGE),
-    ];
-    for (shows, line, input, status, output) in rows {
-        let words = words_of(alloc, line)?;
-        let mut source = MemSource::new(input.to_vec(alloc)?, 5, Vec::new(alloc));
-        let mut sink = MemSink::new(alloc, 200, 7, Vec::new(alloc))?;
-        let found = run_words(alloc, words.as_slice(), &mut source, &mut sink, &OpenGate);
-        assert_eq!(rt; found, status, "{shows}");
-        assert_eq!(rt; sink.bytes(), output, "{shows}");
-    }
+    let words = words_of(alloc, line)?;
+    let mut input = vec![in alloc; byte; count]?;
+    input.extend_from_slice(tail.as_bytes())?;
+    let mut source = MemSource::new(input, 65536, Vec::new(alloc));
+    let mut sink = MemSink::new(alloc, 100, 100, Vec::new(alloc))?;
+    let _status = run_words(alloc, words.as_slice(), &mut source, &mut sink, &OpenGate);
+    assert_eq!(rt; sink.bytes(), output.as_bytes());
     Ok(())
 }
 
 #[test]
-fn faults_of_the_ports(rt: HostRuntime) -> Result<(), Fail> {
+fn long_inputs(rt: HostRuntime) -> Result<(), Fail> {
+    let too_long = "script fault T1 at 1:1048577\n";
+    shows_long(&rt, "run", (b' ', 1_048_577), "", too_long)?;
+    shows_long(
+        &rt,
+        "list",
+        (b' ', 1_048_576),
+        "",
+        "script fault P5 at 1:1\n",
+    )?;
+    shows_long(&rt, "plan", (b' ', 1_048_547), THREE, "0 done 3\nclean\n")?;
+    shows_long(&rt, "plan", (b' ', 1_048_548), THREE, too_long)?;
+    shows_long(
+        &rt,
+        "run",
+        (b'\n', 1_048_570),
+        "task @ ",
+        "script fault T1 at 1048571:7\n",
+    )?;
+    shows_long(
+        &rt,
+        "judge",
+        (b'\n', 1_048_577),
+        "",
+        "journal fault at line 1048577\n",
+    )
+}
+
+/// Asserts what is written over ports whose calls of these numbers fail.
+fn shows_failing(
+    rt: &(impl Abort + AllocGlobal),
+    line: &str,
+    (room, take, put): (u32, u32, u32),
+    status: Status,
+    output: &str,
+) -> Result<(), Fail> {
     let alloc = rt.alloc();
-    let rows = [
-        (
-            "put 2 fails",
-            100,
-            0,
-            2,
-            Status::WriteFault,
-            b"0 do".as_slice(),
-        ),
-        (
-            "no put fails",
-            100,
-            0,
-            5,
-            Status::Clean,
-            b"0 done 3\nclean\n".as_slice(),
-        ),
-        (
-            "the room is full",
-            10,
-            0,
-            0,
-            Status::WriteFault,
-            b"0 done 3\nc".as_slice(),
-        ),
-        ("take 1 fails", 100, 1, 0, Status::ReadFault, b"".as_slice()),
-        (
-            "the last take fails",
-            100,
-            30,
-            0,
-            Status::ReadFault,
-            b"".as_slice(),
-        ),
-    ];
-    for (shows, room, take, put, status, output) in rows {
-        let words = words_of(alloc, "run")?;
-        let mut source = MemSource::new(THREE.to_vec(alloc)?, 1, [take].to_vec(alloc)?);
-        let mut sink = MemSink::new(alloc, room, 4, [put].to_vec(alloc)?)?;
-        let found = run_words(alloc, words.as_slice(), &mut source, &mut sink, &OpenGate);
-        assert_eq!(rt; found, status, "{shows}");
-        assert_eq!(rt; sink.bytes(), output, "{shows}");
-    }
+    let words = words_of(alloc, line)?;
+    let input = THREE.as_bytes().to_vec(alloc)?;
+    let mut source = MemSource::new(input, 1, [take].to_vec(alloc)?);
+    let mut sink = MemSink::new(alloc, room, 4, [put].to_vec(alloc)?)?;
+    let found = run_words(alloc, words.as_slice(), &mut source, &mut sink, &OpenGate);
+    assert_eq!(rt; found, status, "{line}");
+    assert_eq!(rt; sink.bytes(), output.as_bytes(), "{line}");
     Ok(())
+}
+
+#[test]
+fn failing_ports(rt: HostRuntime) -> Result<(), Fail> {
+    shows_failing(&rt, "run", (100, 1, 0), Status::ReadFault, "")?;
+    shows_failing(&rt, "run", (100, 30, 0), Status::ReadFault, "")?;
+    shows_failing(&rt, "run", (100, 31, 0), Status::Clean, "0 done 3\nclean\n")?;
+    shows_failing(&rt, "run", (100, 0, 1), Status::WriteFault, "")?;
+    shows_failing(&rt, "run", (100, 0, 2), Status::WriteFault, "0 do")?;
+    shows_failing(&rt, "run", (100, 0, 4), Status::WriteFault, "0 done 3\ncle")?;
+    shows_failing(&rt, "run", (100, 0, 5), Status::Clean, "0 done 3\nclean\n")?;
+    shows_failing(&rt, "run", (10, 0, 0), Status::WriteFault, "0 done 3\nc")?;
+    shows_failing(&rt, "run --workers 0", (100, 1, 0), Status::Usage, USAGE)?;
+    shows_failing(
+        &rt,
+        "gen --size 1",
+        (200, 1, 0),
+        Status::Clean,
+        "size 1 tasks 2 done 2 failed 0 waiting 0 owed 0 cycles 0 result 1\nclean\n",
+    )
 }

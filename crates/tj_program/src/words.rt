@@ -1,7 +1,4 @@
 //! The words of the command line.
-ghost use Rattle.std.specs.Prelude.{IsTrue, ◌↔◌};
-ghost use Rattle.tj_program.specs.Words.{IsRunAlone};
-
 use std::env;
 use std::io::ErrorKind;
 use std::rt::Env;
@@ -13,15 +10,5 @@ pub fn words_given(rt: &(impl Env + AllocGlobal)) -> Result<Vec<String>, Oom> {
         Ok(args) => Ok(args.skip(1).collect(rt.alloc())?),
         Err(error) if error.kind() == ErrorKind::OutOfMemory => Err(Oom),
         Err(_not_text) => Ok(Vec::new(rt.alloc())),
-    }
-}
-
-/// Whether the words are the one word `run`.
-pub fn is_run_alone(words: &[String]) -> bool
-    ensures { IsTrue result ↔ IsRunAlone words.now }
-{
-    match words {
-        [word] => word.as_str() == "run",
-        _ => false,
     }
 }

@@ -1,62 +1,114 @@
-use Rattle.std.proofs.Common.{◌≡◌, refl, ap, ◌∙◌}
-use Rattle.tj_program.proofs.Deliveries.{IsOutputPart-put, IsAnswered-put, IsAnswered-script, IsOutputPart-script, put_whole, put_whole-script, IsRefused-long, whole_is}
-use Rattle.std.proofs.lemmas.Bool.{false≢true}
-use Rattle.tj_program.specs.Words.{IsRunAlone}
+use Rattle.std.proofs.Common.{◌≡◌, List, ℕ, MatchOption, Some, [], true, ap, subst}
+use Rattle.tj_program.specs.CommandLine.{HasNoForm, IsCommand}
+use Rattle.tj_program.specs.Inputs.{HasRead}
+use Rattle.tj_program.specs.Output.{ReadInput, reads, usage}
+use Rattle.tj_program.proofs.CommandLines.{one_command, within_limits}
+use Rattle.tj_program.proofs.Deliveries.{IsAnswered-put, put_whole, IsOutputPart-put}
+use Rattle.tj_program.proofs.Deliveries.{IsAnswered-command, put_whole-command, IsOutputPart-command}
+use Rattle.tj_program.proofs.Deliveries.{exact}
+use Rattle.tj_program.proofs.Inputs.{some_input}
+use Rattle.tj_program.proofs.StrictRuns.{never_waits-words}
+use Rattle.tj_program.proofs.run.run_words.Given.{Over}
 use Rattle.tj_program.proofs.run.run_words.Goals as goal
 
-pub returns-then-not-is_run_alone-clause-part : goal.returns-then-not-is_run_alone-clause-part
-returns-then-not-is_run_alone-clause-part g c = λ is input told.
-    let not_run : IsRunAlone c.args.words.now → ⊥ = λ run. false≢true (c.if-not-is_run_alone.ensures.1 run) in
-    IsOutputPart-put c.args.words.now input _ _ _ _ _ _ _ (not_run, refl) (λ e. cc) c.put_text.ensures.put is
+-- The words have no form.
+formless : (g : Over) (c : goal.After-put_text g) → HasNoForm c.args.words.now
+formless g c = subst (λ found. MatchOption found (HasNoForm c.args.words.now) (IsCommand c.args.words.now))
+    c.in-Ok-None.field-0-is c.in-Ok-None.ensures
 
-pub returns-in-Ok-Long-clause-output : goal.returns-in-Ok-Long-clause-output
-returns-in-Ok-Long-clause-output g c = λ input held told holds none_read none_put.
-    let read = rw c.in-Ok-Long.field-0-is at c.in-Ok-Long.ensures.read in
-    let refused = IsRefused-long c.in-Ok-Long._bytes input _ told read in
-    IsAnswered-put c.args.words.now input held _ _ _ _ _ _ _
-    (c.if-not-is_run_alone.ensures.0 refl, (refused, refl)) c.put_text-in-Ok-Long.ensures.put holds none_put
+pub returns-in-Ok-None-clause-output : goal.returns-in-Ok-None-clause-output
+returns-in-Ok-None-clause-output g c = λ input held told holds none_read none_put.
+    IsAnswered-put c.args.words.now input held _ _ _ _ _ _ _ (usage (formless g c)) c.put_text.ensures.put holds
+    none_put
 
-pub returns-in-Ok-Long-clause-part : goal.returns-in-Ok-Long-clause-part
-returns-in-Ok-Long-clause-part g c = λ is input told.
-    let read = rw c.in-Ok-Long.field-0-is at c.in-Ok-Long.ensures.read in
-    let refused = IsRefused-long c.in-Ok-Long._bytes input _ told read in
-    IsOutputPart-put c.args.words.now input _ _ _ _ _ _ _ (c.if-not-is_run_alone.ensures.0 refl, (refused, refl))
-    (λ e. cc) c.put_text-in-Ok-Long.ensures.put is
+pub returns-in-Ok-None-clause-whole : goal.returns-in-Ok-None-clause-whole
+returns-in-Ok-None-clause-whole g c = λ input told has.
+    put_whole c.args.words.now input _ _ _ _ _ _ _ (usage (formless g c)) c.put_text.ensures.put has
 
-pub returns-in-Ok-Whole-clause-output : goal.returns-in-Ok-Whole-clause-output
-returns-in-Ok-Whole-clause-output g c = λ input held told holds none_read none_put.
-    let read = rw c.in-Ok-Whole.field-0-is at c.in-Ok-Whole.ensures.read in
-    let text : c.items.result.now ≡ input = c.items.ensures ∙ whole_is 1048576 c.in-Ok-Whole.bytes input _ told read in
-    IsAnswered-script c.args.words.now _ input held _ _ _ _ _
-    (c.if-not-is_run_alone.ensures.0 refl) text c.run_script.ensures.output
-    (λ e. ap g.K.Sink.held (c.run_script.ensures.memory e)) holds none_put
+pub returns-in-Ok-None-clause-taken : goal.returns-in-Ok-None-clause-taken
+returns-in-Ok-None-clause-taken g c = λ input told read has. absurd (formless g c read.0 read.1)
 
-pub returns-in-Ok-Whole-clause-part : goal.returns-in-Ok-Whole-clause-part
-returns-in-Ok-Whole-clause-part g c = λ is input told.
-    let read = rw c.in-Ok-Whole.field-0-is at c.in-Ok-Whole.ensures.read in
-    let text : c.items.result.now ≡ input = c.items.ensures ∙ whole_is 1048576 c.in-Ok-Whole.bytes input _ told read in
-    IsOutputPart-script c.args.words.now _ input _ _ _ _ _
-    (c.if-not-is_run_alone.ensures.0 refl) text c.run_script.ensures.output is
+pub returns-in-Ok-None-clause-cause : goal.returns-in-Ok-None-clause-cause
+returns-in-Ok-None-clause-cause g c = λ has.
+    let put = put_whole c.args.words.now [] _ _ _ _ _ _ _ (usage (formless g c)) c.put_text.ensures.put has in
+    ([], put.0, put.1, put.2)
 
-pub returns-then-not-is_run_alone-clause-whole : goal.returns-then-not-is_run_alone-clause-whole
-returns-then-not-is_run_alone-clause-whole g c = λ input told has.
-    let not_run : IsRunAlone c.args.words.now → ⊥ = λ run. false≢true (c.if-not-is_run_alone.ensures.1 run) in
-    put_whole c.args.words.now input _ _ _ _ _ _ _ (not_run, refl) c.put_text.ensures.put has
+pub returns-in-Ok-None-clause-part : goal.returns-in-Ok-None-clause-part
+returns-in-Ok-None-clause-part g c = λ is input told. IsOutputPart-put c.args.words.now input _ _ _ _ _ _ _
+    (usage (formless g c)) (λ e. cc) c.put_text.ensures.put is
 
-pub returns-in-Ok-Long-clause-whole : goal.returns-in-Ok-Long-clause-whole
-returns-in-Ok-Long-clause-whole g c = λ input told has.
-    let read = rw c.in-Ok-Long.field-0-is at c.in-Ok-Long.ensures.read in
-    let refused = IsRefused-long c.in-Ok-Long._bytes input _ told read in
-    put_whole c.args.words.now input _ _ _ _ _ _ _
-    (c.if-not-is_run_alone.ensures.0 refl, (refused, refl)) c.put_text-in-Ok-Long.ensures.put has
+pub answer-requires-clause-limits : goal.answer-requires-clause-limits
+answer-requires-clause-limits g c = within_limits c.args.words.now c.in-Ok-Some.command
+    (subst (λ found. MatchOption found (HasNoForm c.args.words.now) (IsCommand c.args.words.now))
+    c.in-Ok-Some.field-0-is c.in-Ok-Some.ensures)
 
-pub returns-in-Ok-Whole-clause-whole : goal.returns-in-Ok-Whole-clause-whole
-returns-in-Ok-Whole-clause-whole g c = λ input told has.
-    let read = rw c.in-Ok-Whole.field-0-is at c.in-Ok-Whole.ensures.read in
-    let text : c.items.result.now ≡ input = c.items.ensures ∙ whole_is 1048576 c.in-Ok-Whole.bytes input _ told read in
-    put_whole-script c.args.words.now _ input _ _ _ _ _
-    (c.if-not-is_run_alone.ensures.0 refl) text c.run_script.ensures.output has
+-- The words are a command.
+is_command : (g : Over) (c : goal.Joined-input g) → IsCommand c.args.words.now c.in-Ok-Some.command
+is_command g c = subst (λ found. MatchOption found (HasNoForm c.args.words.now) (IsCommand c.args.words.now))
+    c.in-Ok-Some.field-0-is c.in-Ok-Some.ensures
 
-pub returns-then-not-is_run_alone-clause-taken : goal.returns-then-not-is_run_alone-clause-taken
-returns-then-not-is_run_alone-clause-taken g c =
-    λ input told run has. absurd (false≢true (c.if-not-is_run_alone.ensures.1 run))
+-- what was read of an input that is told where it is read
+has_read : (g : Over) (c : goal.Joined-input g) (input : List ℕ)
+    → (ReadInput c.args.words.now → g.S.Source.left c.args.source.now ≡ Some input)
+    → HasRead c.in-Ok-Some.command input c.in-Ok.input
+has_read g c input told = λ does.
+    c.in-Ok.ensures.read input (told (c.in-Ok-Some.command, is_command g c, does)) does
+
+pub returns-in-Ok-clause-output : goal.returns-in-Ok-clause-output
+returns-in-Ok-clause-output g c = λ input held told holds none_read none_put.
+    IsAnswered-command c.args.words.now c.in-Ok-Some.command (is_command g c) input _ _ _ _ _
+    (λ other. c.answer.ensures.output other input (has_read g c input told)) held
+    (λ is. ap g.K.Sink.held (c.answer.ensures.memory is)) holds none_put
+
+pub returns-in-Ok-clause-whole : goal.returns-in-Ok-clause-whole
+returns-in-Ok-clause-whole g c = λ input told has.
+    put_whole-command c.args.words.now c.in-Ok-Some.command (is_command g c) input _ _ _ _ _
+    (λ other. c.answer.ensures.output other input (has_read g c input told)) has
+
+pub returns-in-Ok-clause-taken : goal.returns-in-Ok-clause-taken
+returns-in-Ok-clause-taken g c = λ input told read has.
+    let same : read.0 ≡ c.in-Ok-Some.command =
+    one_command c.args.words.now read.0 c.in-Ok-Some.command read.1 (is_command g c) in
+    c.in-Ok.ensures.rest (subst (λ k. reads k ≡ true) same read.2) input told
+
+pub returns-in-Ok-clause-cause : goal.returns-in-Ok-clause-cause
+returns-in-Ok-clause-cause g c = λ has.
+    let some = some_input c.in-Ok.input c.in-Ok.ensures.within in
+    let put = put_whole-command c.args.words.now c.in-Ok-Some.command (is_command g c) some.0 _ _ _ _ _
+    (λ other. c.answer.ensures.output other some.0 (λ does. some.1)) has in
+    (some.0, put.0, put.1, put.2)
+
+pub returns-in-Ok-clause-part : goal.returns-in-Ok-clause-part
+returns-in-Ok-clause-part g c = λ is input told.
+    IsOutputPart-command c.args.words.now c.in-Ok-Some.command (is_command g c) input _ _ _ _ _
+    (λ other. c.answer.ensures.output other input (has_read g c input told)) is
+
+pub returns-in-Ok-None-clause-never_waits : goal.returns-in-Ok-None-clause-never_waits
+returns-in-Ok-None-clause-never_waits g c = λ command input is.
+    never_waits-words c.strict_runs_never_wait.ensures c.args.words.now command input is
+
+pub returns-in-Err-clause-never_waits : goal.returns-in-Err-clause-never_waits
+returns-in-Err-clause-never_waits g c = λ command input is.
+    never_waits-words c.strict_runs_never_wait.ensures c.args.words.now command input is
+
+pub returns-in-Ok-clause-never_waits : goal.returns-in-Ok-clause-never_waits
+returns-in-Ok-clause-never_waits g c = λ command input is.
+    never_waits-words c.strict_runs_never_wait.ensures c.args.words.now command input is
+
+pub returns-in-Err-Failed-clause-never_waits : goal.returns-in-Err-Failed-clause-never_waits
+returns-in-Err-Failed-clause-never_waits g c = λ command input is.
+    never_waits-words c.strict_runs_never_wait.ensures c.args.words.now command input is
+
+pub returns-in-Err-Oom-clause-never_waits : goal.returns-in-Err-Oom-clause-never_waits
+returns-in-Err-Oom-clause-never_waits g c = λ command input is.
+    never_waits-words c.strict_runs_never_wait.ensures c.args.words.now command input is
+
+pub returns-in-Ok-None-clause-exact : goal.returns-in-Ok-None-clause-exact
+returns-in-Ok-None-clause-exact g c = λ input text status told out has.
+    exact c.one_output.ensures c.args.words.now input text status _ _ _ out
+    (returns-in-Ok-None-clause-whole g c input told has)
+
+pub returns-in-Ok-clause-exact : goal.returns-in-Ok-clause-exact
+returns-in-Ok-clause-exact g c = λ input text status told out has.
+    exact c.one_output.ensures c.args.words.now input text status _ _ _ out
+    (returns-in-Ok-clause-whole g c input told has)

@@ -1,0 +1,182 @@
+-- Words and an input have one output at most, from the laws of the crates below.
+use Rattle.std.proofs.Common.{◌≡◌, ℕ, ◌≤◌, inl, inr, Bool, false, List, [], Some, String, Result, Ok, Err, length, refl, sym, ap, subst, ◌∙◌, arith}
+use Rattle.std.specs.declared.alloc.Global.{Global}
+use Rattle.tj_body.specs.Rounds.{meaning, root_task}
+use Rattle.tj_body.specs.declared.point.Point.{Point}
+use Rattle.tj_core.specs.declared.event.Event.{Event}
+use Rattle.tj_core.specs.Journal as journal
+use Rattle.tj_core.specs.Journal.{lines_of}
+use Rattle.tj_core.specs.JournalLaws.{EventsAreOne, FirstFaultIsOne, EventsHaveNoFault, JudgingIsOne}
+use Rattle.tj_eval.specs.Bodies.{script_asks, script_then, script_left}
+use Rattle.tj_eval.specs.Statements.{TaskState, task_of}
+use Rattle.tj_gen.specs.Script.{script_text}
+use Rattle.tj_lex.specs.declared.token.Tok.{Tok}
+use Rattle.tj_lex.specs.declared.token.Token.{Token}
+use Rattle.tj_lex.specs.declared.token.LexFault.{LexFault}
+use Rattle.tj_lex.specs.Tokens as tokens
+use Rattle.tj_lex.specs.Tokens.{Answers, AreTokens}
+use Rattle.tj_mean.specs.declared.outcome.Outcome.{Outcome}
+use Rattle.tj_core.specs.Judging.{IsJudged}
+use Rattle.tj_mean.specs.Outcomes.{is_marked}
+use Rattle.tj_mean.specs.OutcomeLaws.{HasOneOutcome}
+use Rattle.tj_report.specs.ReportTexts.{report}
+use Rattle.tj_report.specs.SummaryTexts.{summary}
+use Rattle.tj_syntax.specs.declared.fault.ParseFault.{ParseFault}
+use Rattle.tj_syntax.specs.Faults as grammar
+use Rattle.tj_syntax.specs.Faults.{EndsInEnd, IsScript, kinds_of}
+use Rattle.tj_syntax.specs.Trees.{Task}
+use Rattle.tj_program.specs.Judgings as judgings
+use Rattle.tj_program.specs.Judgings.{IsJournalFault, IsJudging, bad_line}
+use Rattle.tj_program.specs.Output.{IsOutput, IsCommandOutput, IsOfScript, IsListing, IsSummary, usage, of_command}
+use Rattle.tj_program.specs.Runs.{IsRun, IsRunOf, status_of, full, ended}
+use Rattle.tj_program.specs.ScriptTexts.{IsScriptOf, IsFaultLine, token_fault, grammar_fault, too_long, in_tokens, in_grammar}
+use Rattle.tj_program.specs.Texts.{journal_fault}
+use Rattle.tj_program.specs.declared.command.Command.{Command}
+use Rattle.tj_program.specs.declared.command.Command.TheVariants as command
+use Rattle.tj_program.specs.declared.status.Status.{Status}
+use Rattle.tj_program.proofs.CommandLines.{one_command}
+
+-- What the crates below leave no choice in.
+pub record AreOne : Type 0 where
+  pub answer : (text : List ℕ) (a b : Result (List Token) LexFault) → Answers text a → Answers text b → a ≡ b
+  pub script : (tokens : List Tok) (a b : List Task) → IsScript tokens a → IsScript tokens b → a ≡ b
+  pub fault : (tokens : List Token) (a b : ParseFault) → EndsInEnd tokens → grammar.IsFirstFault tokens a
+      → grammar.IsFirstFault tokens b → a ≡ b
+  pub no_fault : (tokens : List Token) (script : List Task) (fault : ParseFault) → EndsInEnd tokens
+      → IsScript (kinds_of tokens) script → grammar.IsFirstFault tokens fault → ⊥
+  pub outcome : (ps : List (Point TaskState)) → HasOneOutcome ps
+  pub events : EventsAreOne
+  pub line : FirstFaultIsOne
+  pub no_line : EventsHaveNoFault
+  pub judging : JudgingIsOne
+
+-- the same status and the same text
+abbrev Same : Status → List ℕ → Status → List ℕ → Type 0
+Same a s b t = (a ≡ b) × (s ≡ t)
+
+ok_is : {A E : Type 0} (a b : A) → ◌≡◌ {A = Result A E} (Ok a) (Ok b) → a ≡ b
+ok_is a b e = cc
+
+err_is : {A E : Type 0} (a b : E) → ◌≡◌ {A = Result A E} (Err a) (Err b) → a ≡ b
+err_is a b e = cc
+
+some_is : {A : Type 0} (a b : A) → Some a ≡ Some b → a ≡ b
+some_is a b e = cc
+
+ends : (text : List ℕ) (found : List Token) → AreTokens text found → EndsInEnd found
+ends text found are = record { front = are.front; last = are.last; whole = are.whole; is_end = are.ends.what }
+
+module _ (one : AreOne) where
+  one_tokens : (text : List ℕ) (a b : List Token) → AreTokens text a → AreTokens text b → a ≡ b
+  one_tokens text a b h k = ok_is a b (one.answer text (Ok a) (Ok b) h k)
+
+  not_both : (text : List ℕ) (found : List Token) (fault : LexFault) → AreTokens text found
+      → tokens.IsFirstFault text fault → ⊥
+  not_both text found fault h k = let e : Ok found ≡ Err fault = one.answer text (Ok found) (Err fault) h k in cc
+
+  one_script_of : (text : List ℕ) (a b : List Task) → IsScriptOf text a → IsScriptOf text b → a ≡ b
+  one_script_of text a b h k = one.script (kinds_of h.tokens) a b h.is_script
+      (subst (λ l. IsScript (kinds_of l) b) (one_tokens text k.tokens h.tokens k.has_tokens h.has_tokens) k.is_script)
+
+  one_line : (text : List ℕ) (a b : List ℕ) → IsFaultLine text a → IsFaultLine text b → a ≡ b
+  one_line text a b (too_long l) (too_long m) = refl
+  one_line text a b (too_long l) (in_tokens g short q) = absurd (omega arith)
+  one_line text a b (too_long l) (in_grammar u g short has q) = absurd (omega arith)
+  one_line text a b (in_tokens f short p) (too_long m) = absurd (omega arith)
+  one_line text a b (in_tokens f short p) (in_tokens g few q) =
+      ap token_fault (err_is f g (one.answer text (Err f) (Err g) p q))
+  one_line text a b (in_tokens f short p) (in_grammar u g few has q) = absurd (not_both text u f has p)
+  one_line text a b (in_grammar t f short has p) (too_long m) = absurd (omega arith)
+  one_line text a b (in_grammar t f short has p) (in_tokens g few q) = absurd (not_both text t g has q)
+  one_line text a b (in_grammar t f short has p) (in_grammar u g few also q) =
+      ap grammar_fault (one.fault t f g (ends text t has) p
+      (subst (λ l. grammar.IsFirstFault l g) (one_tokens text u t also has) q))
+
+  no_line : (text : List ℕ) (script : List Task) (line : List ℕ) → IsScriptOf text script → IsFaultLine text line → ⊥
+  no_line text script line is (too_long l) = let short : length text ≤ 1048576 = is.short in omega arith
+  no_line text script line is (in_tokens f short p) = not_both text is.tokens f is.has_tokens p
+  no_line text script line is (in_grammar t f short has p) =
+      one.no_fault t script f (ends text t has)
+      (subst (λ l. IsScript (kinds_of l) script) (one_tokens text is.tokens t is.has_tokens has) is.is_script) p
+
+  -- what is so of a script is one where it is one of each script
+  one_of_script : (IsSo : List Task → Status → List ℕ → Type 0)
+      → ((script : List Task) (a b : Status) (s t : List ℕ) → IsSo script a s → IsSo script b t → Same a s b t)
+      → (input : List ℕ) (a b : Status) (s t : List ℕ) → IsOfScript IsSo input a s → IsOfScript IsSo input b t
+      → Same a s b t
+  one_of_script IsSo is_one input a b s t (inl f) (inl g) = (f.0 ∙ sym g.0, one_line input s t f.1 g.1)
+  one_of_script IsSo is_one input a b s t (inl f) (inr h) = absurd (no_line input h.0 s h.1 f.1)
+  one_of_script IsSo is_one input a b s t (inr h) (inl f) = absurd (no_line input h.0 t h.1 f.1)
+  one_of_script IsSo is_one input a b s t (inr h) (inr k) =
+      let same = one_script_of input k.0 h.0 k.1 h.1 in
+      is_one h.0 a b s t h.2 (subst (λ script. IsSo script b t) same k.2)
+
+  module _ (strict : Bool) (cells : ℕ) (told : Outcome → List ℕ) where
+    one_run_of : (root : TaskState) (a b : Status) (s t : List ℕ) → IsRunOf strict cells told root a s
+        → IsRunOf strict cells told root b t → Same a s b t
+    one_run_of root a b s t (full m) (full n) = (refl, refl)
+    one_run_of root a b s t (full m) (ended o fits is) = absurd (fits m)
+    one_run_of root a b s t (ended o fits is) (full m) = absurd (fits m)
+    one_run_of root a b s t (ended o fits is) (ended p also are) =
+        let same = one.outcome (meaning strict script_asks script_then script_left (root_task root) cells) o p is are in
+        (ap (λ x. status_of (is_marked x)) same, ap told same)
+
+    one_run : (steps : ℕ) (script : List Task) (a b : Status) (s t : List ℕ)
+        → IsRun strict cells told steps script a s → IsRun strict cells told steps script b t → Same a s b t
+    one_run steps script a b s t h k =
+        let main : k.1.0 ≡ h.1.0 = some_is k.1.0 h.1.0 (sym k.1.1 ∙ h.1.1) in
+        let root : k.0 ≡ h.0 = k.1.2 ∙ ap (λ m. task_of script steps m []) main ∙ sym h.1.2 in
+        one_run_of h.0 a b s t h.2 (subst (λ r. IsRunOf strict cells told r b t) root k.2)
+
+  one_listing : (script : List Task) (a b : Status) (s t : List ℕ) → IsListing script a s → IsListing script b t
+      → Same a s b t
+  one_listing script a b s t h k = (h.0 ∙ sym k.0, h.1 ∙ sym k.1)
+
+  one_journal_fault : (bytes : List ℕ) (m n : ℕ) → IsJournalFault bytes m → IsJournalFault bytes n → m ≡ n
+  one_journal_fault bytes m n (judgings.too_long l) (judgings.too_long k) = refl
+  one_journal_fault bytes m n (judgings.too_long l) (bad_line line short p) = absurd (omega arith)
+  one_journal_fault bytes m n (bad_line line short p) (judgings.too_long l) = absurd (omega arith)
+  one_journal_fault bytes m n (bad_line line short p) (bad_line other few q) = one.line (lines_of bytes) line other p q
+
+  no_journal_fault : (bytes : List ℕ) (events : List Event) (n : ℕ) → length bytes ≤ 1048576
+      → journal.AreEventLines (lines_of bytes) events → IsJournalFault bytes n → ⊥
+  no_journal_fault bytes events n short are (judgings.too_long l) = omega arith
+  no_journal_fault bytes events n short are (bad_line line few p) = one.no_line (lines_of bytes) events line are p
+
+  one_judging : (cells : ℕ) (bytes : List ℕ) (a b : Status) (s t : List ℕ) → IsJudging cells bytes a s
+      → IsJudging cells bytes b t → Same a s b t
+  one_judging cells bytes a b s t (inl f) (inl g) =
+      (f.2 ∙ sym g.2, f.3 ∙ ap journal_fault (one_journal_fault bytes f.0 g.0 f.1 g.1) ∙ sym g.3)
+  one_judging cells bytes a b s t (inl f) (inr k) = absurd (no_journal_fault bytes k.0 f.0 k.2.0 k.2.1 f.1)
+  one_judging cells bytes a b s t (inr h) (inl f) = absurd (no_journal_fault bytes h.0 f.0 h.2.0 h.2.1 f.1)
+  one_judging cells bytes a b s t (inr h) (inr k) =
+      let events = one.events (lines_of bytes) k.0 h.0 k.2.1 h.2.1 in
+      let judged = one.judging cells h.0 s t h.1 k.1 h.3
+      (subst (λ es. IsJudged cells es t k.1) events k.3) in
+      (h.4 ∙ ap status_of judged.1 ∙ sym k.4, judged.0)
+
+  one_summary : (size cells steps : ℕ) (a b : Status) (s t : List ℕ) → IsSummary size cells steps a s
+      → IsSummary size cells steps b t → Same a s b t
+  one_summary size cells steps a b s t h k =
+      let same = one_script_of (script_text size) k.0 h.0 k.1 h.1 in
+      one_run false cells (summary size) steps h.0 a b s t h.2
+      (subst (λ script. IsRun false cells (summary size) steps script b t) same k.2)
+
+  one_of_command : (c : Command) (input : List ℕ) (a b : Status) (s t : List ℕ) → IsCommandOutput c input a s
+      → IsCommandOutput c input b t → Same a s b t
+  one_of_command (command.Run workers cells steps strict) input a b s t h k =
+      one_of_script (IsRun strict cells report steps) (one_run strict cells report steps) input a b s t h k
+  one_of_command (command.Plan cells steps strict) input a b s t h k =
+      one_of_script (IsRun strict cells report steps) (one_run strict cells report steps) input a b s t h k
+  one_of_command command.List input a b s t h k = one_of_script IsListing one_listing input a b s t h k
+  one_of_command (command.Judge cells) input a b s t h k = one_judging cells input a b s t h k
+  one_of_command (command.Gen size workers cells steps) input a b s t h k = one_summary size cells steps a b s t h k
+
+  pub one_output : (words : List (String Global)) (input : List ℕ) (a b : Status) (s t : List ℕ)
+      → IsOutput words input a s → IsOutput words input b t → (a ≡ b) × (s ≡ t)
+  one_output words input a b s t (usage f) (usage g) = (refl, refl)
+  one_output words input a b s t (usage f) (of_command c is out) = absurd (f c is)
+  one_output words input a b s t (of_command c is out) (usage f) = absurd (f c is)
+  one_output words input a b s t (of_command c is out) (of_command d are also) =
+      one_of_command c input a b s t out
+      (subst (λ k. IsCommandOutput k input b t) (one_command words d c are is) also)

@@ -1,0 +1,13 @@
+use Rattle.std.proofs.Common.{subst}
+use Rattle.tj_core.specs.Journal as journal
+use Rattle.tj_core.specs.Journal.{lines_of}
+use Rattle.tj_program.specs.Judgings.{bad_line}
+use Rattle.tj_program.proofs.Outputs.{IsJudging-fault}
+use Rattle.tj_program.proofs.judging.judged.Goals as goal
+
+pub returns-in-Err-Line : goal.returns-in-Err-Line
+returns-in-Err-Line c =
+    let first = subst (journal.OrMemory (journal.IsFirstFault (lines_of c.args.journal.now))) c.in-Err-Line.field-0-is
+    c.in-Err-Line.ensures.line in
+    IsJudging-fault c.args.cells c.in-Err-Line.line c.args.journal.now _
+    (bad_line c.in-Err-Line.line c.requires.short first) c.in_ok-journal_fault-in-Err-Line.ensures

@@ -1,0 +1,22 @@
+use denote.Param.Send.{sendable}
+use Rattle.std.proofs.Crossing.{crosses}
+use Rattle.tj_program.proofs.Sends.{expr_sync, stmt_sync, script_sync}
+use Rattle.tj_program.proofs.OneOutput.{one_output}
+use Rattle.tj_program.proofs.laws.one_output.Goals as goal
+
+pub returns : goal.returns
+returns c = one_output (record {
+  answer = c.one_answer.ensures;
+  script = c.one_script.ensures;
+  fault = c.one_fault.ensures;
+  no_fault = c.scripts_have_no_fault.ensures;
+  outcome = c.one_outcome.ensures;
+  events = c.one_reading.ensures.events;
+  line = c.one_reading.ensures.fault;
+  no_line = c.one_reading.ensures.not_both;
+  judging = c.one_judging.ensures;
+})
+
+-- a body of a script may cross threads
+pub one_outcome-requires-send-B : goal.one_outcome-requires-send-B
+one_outcome-requires-send-B c κs = search (sendable, crosses, expr_sync, stmt_sync, script_sync) depth 40

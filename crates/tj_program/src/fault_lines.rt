@@ -1,0 +1,120 @@
+//! The lines that are written in place of a report: why an input is refused, or that it needs more
+//! cells.
+ghost use Rattle.std.specs.Prelude.{◌≡◌, ◌≢◌, ◌≤◌, ◌==◌, ◌++◌, length, count_by, decimal, IfOk};
+ghost use Rattle.std.specs.List.{suffix_len};
+ghost use Rattle.tj_lex.specs.Bytes.{line_feed, stays_on_line};
+ghost use Rattle.tj_lex.specs.Places.{place_after};
+ghost use Rattle.tj_program.specs.ScriptTexts as script_texts;
+ghost use Rattle.tj_program.specs.Texts as texts;
+
+use itoa::Buffer;
+use std::alloc::Global;
+use tj_base::Oom;
+use tj_lex::{LexFault, Place};
+use tj_syntax::ParseFault;
+
+/// What is written where the words have no form.
+pub const USAGE_LINE: &[u8] =
+    b"usage: tj run|plan|list|judge|gen [--workers N] [--cells N] [--steps N] [--size N] [--strict]\n";
+
+/// The line of a fault of the tokens. Want of memory has none.
+pub fn token_fault(alloc: Global, fault: LexFault) -> Result<Vec<u8>, Oom>
+    ensures line { IfOk result (λ line. line.items ≡ script_texts.token_fault fault) }
+    ensures none { IfOk result (λ _. fault ≢ LexFault.Oom) }
+{
+    match fault {
+        LexFault::Byte(at) => script_fault(alloc, b"L1", at),
+        LexFault::Number(at) => script_fault(alloc, b"L2", at),
+        LexFault::Long(at) => script_fault(alloc, b"L3", at),
+        LexFault::Oom => Err(Oom),
+    }
+}
+
+/// The line of a fault of the grammar. Want of memory has none.
+pub fn grammar_fault(alloc: Global, fault: ParseFault) -> Result<Vec<u8>, Oom>
+    ensures line { IfOk result (λ line. line.items ≡ script_texts.grammar_fault fault) }
+    ensures none { IfOk result (λ _. fault ≢ ParseFault.Oom) }
+{
+    match fault {
+        ParseFault::Expected(at) => script_fault(alloc, b"P1", at),
+        ParseFault::Unknown(at) => script_fault(alloc, b"P2", at),
+        ParseFault::Twice(at) => script_fault(alloc, b"P3", at),
+        ParseFault::Count(at) => script_fault(alloc, b"P4", at),
+        ParseFault::NoMain(at) => script_fault(alloc, b"P5", at),
+        ParseFault::MainParams(at) => script_fault(alloc, b"P6", at),
+        ParseFault::Deep(at) => script_fault(alloc, b"P7", at),
+        ParseFault::Many(at) => script_fault(alloc, b"P8", at),
+        ParseFault::Oom => Err(Oom),
+    }
+}
+
+/// The line of a fault of a script, which has a letter and a number.
+pub fn script_fault(alloc: Global, mark: &[u8], at: Place) -> Result<Vec<u8>, Oom>
+    ensures { IfOk result (λ line. line.items ≡ texts.script_fault mark.now at) }
+{
+    let mut line = Vec::from_slice(alloc, b"script fault ")?;
+    line.extend_from_slice(mark)?;
+    line.extend_from_slice(b" at ")?;
+    add_number(&mut line, at.line)?;
+    line.extend_from_slice(b":")?;
+    add_number(&mut line, at.column)?;
+    line.extend_from_slice(b"\n")?;
+    Ok(line)
+}
+
+/// The line of a fault of a journal.
+pub fn journal_fault(alloc: Global, number: u32) -> Result<Vec<u8>, Oom>
+    ensures { IfOk result (λ line. line.items ≡ texts.journal_fault number) }
+{
+    let mut line = Vec::from_slice(alloc, b"journal fault at line ")?;
+    add_number(&mut line, number)?;
+    line.extend_from_slice(b"\n")?;
+    Ok(line)
+}
+
+/// The line of a script that needs more than these cells.
+pub fn full_line(alloc: Global, cells: u32) -> Result<Vec<u8>, Oom>
+    ensures { IfOk result (λ line. line.items ≡ texts.full_line cells) }
+{
+    let mut line = Vec::from_slice(alloc, b"full: more than ")?;
+    add_number(&mut line, cells)?;
+    line.extend_from_slice(b" cells\n")?;
+    Ok(line)
+}
+
+fn add_number(line: &mut Vec<u8>, number: u32) -> Result<(), Oom>
+    ensures { IfOk result (λ _. line.new.items ≡ line.old.items ++ decimal number) }
+{
+    let mut buffer = Buffer::new();
+    line.extend_from_slice(buffer.format(number).as_bytes())?;
+    Ok(())
+}
+
+/// The place just behind these bytes, where a text that is too long has its fault.
+pub fn place_behind(bytes: &[u8]) -> Place
+    requires { length bytes.now ≤ script_texts.most_bytes }
+    ensures { result ≡ place_after bytes.now }
+{
+    Place {
+        line: line_feeds(bytes) as u32 + 1,
+        column: last_line_len(bytes) as u32 + 1,
+    }
+}
+
+fn line_feeds(bytes: &[u8]) -> usize
+    ensures count { result ≡ count_by (λ b. b == line_feed) bytes.now }
+    ensures bound { result ≤ length bytes.now }
+{
+    bytes.iter().filter(|byte| **byte == b'\n').count()
+}
+
+fn last_line_len(bytes: &[u8]) -> usize
+    ensures count { result ≡ suffix_len stays_on_line bytes.now }
+    ensures bound { result ≤ length bytes.now }
+{
+    bytes
+        .iter()
+        .rev()
+        .take_while(|byte| **byte != b'\n')
+        .count()
+}

@@ -1,0 +1,38 @@
+//! Laws of the output. They speak of the definitions alone.
+ghost use Rattle.std.specs.Prelude.{◌≡◌, ◌≤◌, ℕ, List, String};
+ghost use Rattle.std.specs.declared.alloc.Global.{Global};
+ghost use Rattle.tj_program.specs.Output.{IsOutput};
+ghost use Rattle.tj_program.specs.StrictRuns.{StrictRunsNeverWait};
+ghost use Rattle.tj_program.specs.declared.status.Status.{Status};
+
+use tj_core::{one_judging, one_reading};
+use tj_eval::ScriptBody;
+use tj_eval::laws::{no_get, scripts_without_the_keyword};
+use tj_lex::laws::one_answer;
+use tj_mean::{one_outcome, strict_outcome_has_no_wait};
+use tj_syntax::laws::{one_fault, one_script, scripts_have_no_fault};
+
+/// Words and an input have one output at most: one status and one text.
+pub fn one_output()
+    ensures { (words : List (String Global)) (input : List ℕ) (a b : Status) (s t : List ℕ)
+        → IsOutput words input a s → IsOutput words input b t → (a ≡ b) × (s ≡ t) }
+{
+    one_answer();
+    one_script();
+    one_fault();
+    scripts_have_no_fault();
+    one_outcome::<ScriptBody<'static>>();
+    one_reading();
+    one_judging();
+}
+
+/// No outcome of a script without the keyword `get` has a cycle or a task that waits, where it runs
+/// under the strict rule.
+pub fn strict_runs_never_wait()
+    ensures { (cells steps : ℕ) (input : List ℕ) → steps ≤ 1000000
+        → StrictRunsNeverWait cells steps input }
+{
+    no_get();
+    scripts_without_the_keyword();
+    strict_outcome_has_no_wait::<ScriptBody<'static>>();
+}

@@ -1,0 +1,209 @@
+//! Worked rows: what the program writes and answers for words and an input, by hand from the
+//! rules.
+use crate::run::run_words;
+use crate::status::Status;
+use crate::tests::{THREE, words_of};
+use std::process::Abort;
+use std::test::Fail;
+use tj_ports::{MemSink, MemSource, OpenGate};
+
+const HANDED_DOWN: &str = "task main() { let p = new; fork kid(own p); let v = get p; \
+    print v; return v; } task kid(p) { fork grand(own p); return 0; } task grand(p) { set p = \
+    7; return 1; }";
+
+pub const TWO_WAIT: &str = "task main() { let p = new; let q = new; fork a(own p, q); fork \
+    a(own q, p); return 0; } task a(mine, his) { let v = get his; set mine = v; return v; }";
+
+pub const JOIN_EACH_OTHER: &str = "task main() { let k = fork kid(me); let v = join k; \
+    return v; } task kid(m) { let v = join m; return v; }";
+
+pub const AGAINST_THE_ORDER: &str = "task main() { let p = new; fork old(p); let b = fork \
+    one(); set p = b; return 0; } task one() { return 1; } task old(p) { let t = get p; let v \
+    = join t; return v; }";
+
+/// Asserts what the words over the input write, and the status.
+pub fn shows(
+    rt: &(impl Abort + AllocGlobal),
+    line: &str,
+    input: &str,
+    status: Status,
+    output: &str,
+) -> Result<(), Fail> {
+    let alloc = rt.alloc();
+    let words = words_of(alloc, line)?;
+    let mut source = MemSource::new(input.as_bytes().to_vec(alloc)?, 4096, Vec::new(alloc));
+    let mut sink = MemSink::new(alloc, 4096, 4096, Vec::new(alloc))?;
+    let found = run_words(alloc, words.as_slice(), &mut source, &mut sink, &OpenGate);
+    assert_eq!(rt; found, status, "{line}");
+    assert_eq!(rt; sink.bytes(), output.as_bytes(), "{line}");
+    Ok(())
+}
+
+/// The same with any number of workers, and by `plan`.
+pub fn shows_any(
+    rt: &(impl Abort + AllocGlobal),
+    input: &str,
+    status: Status,
+    output: &str,
+) -> Result<(), Fail> {
+    shows(rt, "run --workers 1", input, status, output)?;
+    shows(rt, "run --workers 2", input, status, output)?;
+    shows(rt, "run --workers 8", input, status, output)?;
+    shows(rt, "plan", input, status, output)
+}
+
+#[test]
+fn tasks_alone(rt: HostRuntime) -> Result<(), Fail> {
+    shows(
+        &rt,
+        "run --workers 1",
+        THREE,
+        Status::Clean,
+        "0 done 3\nclean\n",
+    )?;
+    shows(&rt, "run", "", Status::Script, "script fault P5 at 1:1\n")?;
+    shows(
+        &rt,
+        "run",
+        "task main() { return 1;",
+        Status::Script,
+        "script fault P1 at 1:24\n",
+    )?;
+    shows(
+        &rt,
+        "run",
+        "task main() { print x; }",
+        Status::Script,
+        "script fault P2 at 1:21\n",
+    )?;
+    shows(
+        &rt,
+        "run",
+        "task main() { return 1 @ 2; }",
+        Status::Script,
+        "script fault L1 at 1:24\n",
+    )?;
+    shows(
+        &rt,
+        "run",
+        "task main() { return 9223372036854775807 + 1; }",
+        Status::Marked,
+        "0 failed arith\nmarked\n",
+    )?;
+    shows(
+        &rt,
+        "run",
+        "task main() { return 9223372036854775808; }",
+        Status::Script,
+        "script fault L2 at 1:22\n",
+    )?;
+    shows(
+        &rt,
+        "run --steps 3",
+        "task main() { while 1 { } }",
+        Status::Marked,
+        "0 failed steps\nmarked\n",
+    )?;
+    shows(
+        &rt,
+        "run",
+        "task main() { set me = 1; }",
+        Status::Script,
+        "script fault P1 at 1:19\n",
+    )?;
+    shows(
+        &rt,
+        "run",
+        "task main() { let m = me; set m = 1; }",
+        Status::Marked,
+        "0 failed kind\nmarked\n",
+    )?;
+    Ok(())
+}
+
+#[test]
+fn several_tasks(rt: HostRuntime) -> Result<(), Fail> {
+    shows_any(
+        &rt,
+        HANDED_DOWN,
+        Status::Clean,
+        "0 prints 7\n0 done 7\n0.2 done 0\n0.2.1 done 1\nclean\n",
+    )?;
+    shows_any(
+        &rt,
+        "task main() { let p = new; fork kid(p); return 0; } task kid(p) { let v = get p; \
+            return v; }",
+        Status::Marked,
+        "0 done 0\n0 owes 0.1\n0.2 failed broken 0.1\nmarked\n",
+    )?;
+    shows_any(
+        &rt,
+        "task main() { let p = new; let a = fork taker(p); fork giver(own p); let b = fork \
+            taker(p); let x = join a; let y = join b; return x + y; } task taker(p) { let v = \
+            get p; return v + 1; } task giver(p) { set p = 4; return 0; }",
+        Status::Clean,
+        "0 done 10\n0.2 done 5\n0.3 done 0\n0.4 done 5\nclean\n",
+    )?;
+    shows_any(
+        &rt,
+        "task main() { let p = new; fork kid(own p); set p = 1; return 0; } task kid(p) { set \
+            p = 2; set p = 3; return 0; }",
+        Status::Marked,
+        "0 failed owner 0.1\n0.2 failed owner 0.1\nmarked\n",
+    )?;
+    shows_any(
+        &rt,
+        "task main() { let a = fork one(); fork two(a); return 0; } task one() { return 1; } \
+            task two(a) { let v = join a; return v; }",
+        Status::Clean,
+        "0 done 0\n0.1 done 1\n0.2 done 1\nclean\n",
+    )?;
+    shows_any(
+        &rt,
+        AGAINST_THE_ORDER,
+        Status::Clean,
+        "0 done 0\n0.2 done 1\n0.3 done 1\nclean\n",
+    )?;
+    shows_any(
+        &rt,
+        "task main() { let t = fork fib(3); let v = join t; print v; return 0; } task fib(n) \
+            { if n < 2 { return n; } let a = fork fib(n - 1); let b = fork fib(n - 2); let x \
+            = join a; let y = join b; return x + y; }",
+        Status::Clean,
+        "0 prints 2\n0 done 0\n0.1 done 2\n0.1.1 done 1\n0.1.1.1 done 1\n0.1.1.2 done 0\n\
+            0.1.2 done 1\nclean\n",
+    )?;
+    Ok(())
+}
+
+#[test]
+fn cycles(rt: HostRuntime) -> Result<(), Fail> {
+    shows_any(
+        &rt,
+        TWO_WAIT,
+        Status::Marked,
+        "0 done 0\n0.3 waits for 0.2\n0.4 waits for 0.1\nalarm 0.3 waits for 0.2, 0.4 waits \
+            for 0.1\nmarked\n",
+    )?;
+    shows_any(
+        &rt,
+        JOIN_EACH_OTHER,
+        Status::Marked,
+        "0 waits for 0.1\n0.1 waits for 0\nalarm 0 waits for 0.1, 0.1 waits for 0\nmarked\n",
+    )?;
+    shows_any(
+        &rt,
+        "task main() { let p = new; let k = fork kid(p); let v = join k; set p = v; return v; \
+            } task kid(p) { let v = get p; return v; }",
+        Status::Marked,
+        "0 waits for 0.2\n0.2 waits for 0.1\nalarm 0 waits for 0.2, 0.2 waits for 0.1\nmarked\
+            \n",
+    )?;
+    shows_any(
+        &rt,
+        "task main() { let p = new; let v = get p; return v; }",
+        Status::Marked,
+        "0 waits for 0.1\nalarm 0 waits for 0.1\nmarked\n",
+    )?;
+    Ok(())
+}

@@ -1,0 +1,152 @@
+//! Worked rows of limits of cells, of broken cells and of the strict rule, by hand from the rules.
+use crate::row_tests::{AGAINST_THE_ORDER, JOIN_EACH_OTHER, TWO_WAIT, shows, shows_any};
+use crate::run::run_words;
+use crate::status::Status;
+use crate::tests::words_of;
+use std::test::Fail;
+use tj_ports::{MemSink, MemSource, OpenGate};
+
+const ONE_PROMISE: &str = "task main() { let p = new; return 0; }";
+
+const HALVES: &str = "task main() { let t = fork node(500); let v = join t; return v; } \
+    task node(n) { if n < 2 { return 1; } let a = fork node(n / 2); \
+    let b = fork node(n - n / 2); let x = join a; let y = join b; return x + y; }";
+
+#[test]
+fn limits_of_cells(rt: HostRuntime) -> Result<(), Fail> {
+    shows(
+        &rt,
+        "run --cells 1",
+        ONE_PROMISE,
+        Status::Full,
+        "full: more than 1 cells\n",
+    )?;
+    shows(
+        &rt,
+        "run --cells 2",
+        ONE_PROMISE,
+        Status::Marked,
+        "0 done 0\n0 owes 0.1\nmarked\n",
+    )?;
+    shows(
+        &rt,
+        "plan --cells 0000000002",
+        ONE_PROMISE,
+        Status::Marked,
+        "0 done 0\n0 owes 0.1\nmarked\n",
+    )?;
+    shows(
+        &rt,
+        "run",
+        "task main() { fork main(); fork main(); return 0; }",
+        Status::Full,
+        "full: more than 4096 cells\n",
+    )?;
+    Ok(())
+}
+
+#[test]
+fn broken_cells(rt: HostRuntime) -> Result<(), Fail> {
+    shows_any(
+        &rt,
+        "task main() { let p = new; fork kid(own p); let v = get p or 9; return v; } task \
+            kid(p) { return 0; }",
+        Status::Marked,
+        "0 done 9\n0.2 done 0\n0.2 owes 0.1\nmarked\n",
+    )?;
+    shows(
+        &rt,
+        "run",
+        "task main() { let t = fork bad(); let v = join t or me; return v; } task bad() { \
+            return 1 / 0; }",
+        Status::Marked,
+        "0 done @0\n0.1 failed arith\nmarked\n",
+    )?;
+    shows(
+        &rt,
+        "run",
+        "task main() { let t = fork bad(); let v = join t or 1 / 0; return v; } task bad() { \
+            return 1 / 0; }",
+        Status::Marked,
+        "0 failed arith\n0.1 failed arith\nmarked\n",
+    )?;
+    shows(
+        &rt,
+        "run",
+        "task main() { let t = fork bad(); let v = join t or 1 / 0; return v; } task bad() { \
+            return 4; }",
+        Status::Clean,
+        "0 done 4\n0.1 done 4\nclean\n",
+    )?;
+    shows(
+        &rt,
+        "run",
+        "task main() { let p = new; get p or; }",
+        Status::Script,
+        "script fault P1 at 1:36\n",
+    )?;
+    Ok(())
+}
+
+#[test]
+fn strict_rule(rt: HostRuntime) -> Result<(), Fail> {
+    shows(
+        &rt,
+        "run --strict --workers 1",
+        JOIN_EACH_OTHER,
+        Status::Marked,
+        "0 failed broken 0.1\n0.1 failed order 0\nmarked\n",
+    )?;
+    shows(
+        &rt,
+        "run --strict --workers 2",
+        JOIN_EACH_OTHER,
+        Status::Marked,
+        "0 failed broken 0.1\n0.1 failed order 0\nmarked\n",
+    )?;
+    shows(
+        &rt,
+        "run --strict --workers 8",
+        JOIN_EACH_OTHER,
+        Status::Marked,
+        "0 failed broken 0.1\n0.1 failed order 0\nmarked\n",
+    )?;
+    shows(
+        &rt,
+        "plan --strict",
+        AGAINST_THE_ORDER,
+        Status::Marked,
+        "0 done 0\n0.2 failed order 0.3\n0.3 done 1\nmarked\n",
+    )?;
+    shows(
+        &rt,
+        "run --strict",
+        "task main() { let v = join me; return v; }",
+        Status::Marked,
+        "0 failed order 0\nmarked\n",
+    )?;
+    shows(
+        &rt,
+        "run --strict",
+        TWO_WAIT,
+        Status::Marked,
+        "0 done 0\n0.3 waits for 0.2\n0.4 waits for 0.1\nalarm 0.3 waits for 0.2, 0.4 waits \
+            for 0.1\nmarked\n",
+    )?;
+    Ok(())
+}
+
+#[test]
+fn a_thousand_tasks_under_the_strict_rule(rt: HostRuntime) -> Result<(), Fail> {
+    let alloc = rt.alloc();
+    let words = words_of(alloc, "run --strict")?;
+    let mut source = MemSource::new(HALVES.as_bytes().to_vec(alloc)?, 4096, Vec::new(alloc));
+    let mut sink = MemSink::new(alloc, 65536, 4096, Vec::new(alloc))?;
+    let found = run_words(alloc, words.as_slice(), &mut source, &mut sink, &OpenGate);
+    assert_eq!(rt; found, Status::Clean);
+    let lines = sink.bytes().iter().filter(|byte| **byte == b'\n').count();
+    assert_eq!(rt; lines, 1001);
+    let front = b"0 done 500\n0.1 done 500\n0.1.1 done 250\n0.1.1.1 done 125\n".as_slice();
+    assert!(rt; sink.bytes().starts_with(front));
+    Ok(())
+}
