@@ -118,7 +118,7 @@ without-begun t (tree.ask q) h e = without-called t None q h e
 without-begun t (tree.print x) h e = without-turn (number (value_in t x)) _ (λ n. (tt, h))
 without-begun t (tree.set_cell x v) h e =
     without-turn (reference (Ok (held t.vars x))) _ (λ k. without-turn (value_in t v) _ (λ v. (tt, h)))
-without-begun t (tree.return x) h e = without-turn (value_in t x) _ (λ v. (tt, (h.0, refl)))
+without-begun t (tree.return x) h e = without-turn (value_in t x) _ (λ v. (tt, h))
 without-begun t (tree.choose x body other) h e = let a = have_no_get body in let b = other_has_no_get other in
     without-turn (number (value_in t x)) _ (λ n. without-first t (is_zero n) (otherwise other) (listed body) h
     (otherwise-without other (second_so a b e)) (listed-without body (first_so a b e)))
@@ -135,22 +135,23 @@ without-next_from : (t : TaskState) (turn : Turn) (go : TaskState → Next) → 
     → ((new : TaskState) → IsWithout new → IsNextWithout (go new)) → IsNextWithout (next_from t turn go)
 without-next_from t (goes_on new) go h k more = more new k
 without-next_from t (asks q new) go h k more = k
-without-next_from t (fails fault) go h k more = (tt, (h.0, refl))
+without-next_from t (fails fault) go h k more = (tt, h)
 
 without-next_of : (t : TaskState) (rest : List Statement) (go : Statement → List Statement → Next) → IsWithout t
     → list_all has_no_get rest ≡ true
     → ((s : Statement) (more : List Statement) → has_no_get s ≡ true → list_all has_no_get more ≡ true
     → IsNextWithout (go s more))
     → IsNextWithout (next_of t rest go)
-without-next_of t [] go h e k = (tt, (h.0, refl))
+without-next_of t [] go h e k = (tt, h)
 without-next_of t (s ∷ rest) go h e k =
     k s rest (first_so (has_no_get s) (list_all has_no_get rest) e)
     (second_so (has_no_get s) (list_all has_no_get rest) e)
 
 without-next_ask : (n : ℕ) (t : TaskState) → IsWithout t → IsNextWithout (next_ask n t)
-without-next_ask zero t h = without-next_of t t.rest _ h h.1 (λ s rest _ _. (tt, (h.0, refl)))
+without-next_ask zero t h = without-next_of t t.rest _ h h.1 (λ s rest _ f. (tt, (h.0, f)))
 without-next_ask (suc n) t h = without-next_of t t.rest _ h h.1 (λ s rest e f.
-    without-next_from t (begun (record t { rest = rest; steps = n }) s) (next_ask n) h
+    without-next_from (record t { rest = rest; steps = n }) (begun (record t { rest = rest; steps = n }) s) (next_ask n)
+    (h.0, f)
     (without-begun (record t { rest = rest; steps = n }) s (h.0, f) e) (without-next_ask n))
 
 abbrev IfWithout : Result TaskState Trouble → Type 0
@@ -185,7 +186,7 @@ without-answered t over a h = h
 without-after : (t : TaskState) (r : Result TaskState Trouble) → IsWithout t → IfWithout r
     → IsNextWithout (next_after t r)
 without-after t (Ok new) h k = without-next_ask new.steps new k
-without-after t (Err fault) h k = (tt, (h.0, refl))
+without-after t (Err fault) h k = (tt, h)
 
 -- the next ask of a task without get is no get, and the task is without one from then on
 pub asks_none : (t : TaskState) (a : Answer) → asks_no_get t ≡ true → IsNoGet (script_asks t a)

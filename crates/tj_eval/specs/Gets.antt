@@ -1,8 +1,8 @@
 -- Scripts without `get`, and the tasks of them.
-use Rattle.std.specs.Prelude.{Bool, true, false, ◌&&◌, IsTrue, List}
+use Rattle.std.specs.Prelude.{Bool, true, false, ◌&&◌, List}
 use Rattle.std.specs.List.{list_all, Contains}
 use Rattle.tj_body.specs.declared.ask.Ask.{Ask}
-use Rattle.tj_body.specs.declared.ask.Ask.TheVariants as ask
+use Rattle.tj_body.specs.NeverWaits as never
 use Rattle.tj_lex.specs.declared.token.Tok.{Tok}
 use Rattle.tj_lex.specs.declared.token.Tok.TheVariants as toks
 use Rattle.tj_lex.specs.declared.token.Key.TheVariants as keys
@@ -58,13 +58,4 @@ asks_no_get t = script_has_no_get t.script && list_all has_no_get t.rest
 
 -- the ask is no get, and where it is a fork the child is without get too
 abbrev pub IsNoGet : Ask TaskState → Type 0
-IsNoGet ask.New = Unit {0}
-IsNoGet (ask.Fork b pass hand) = IsTrue (asks_no_get b)
-IsNoGet (ask.Set k v) = Unit {0}
-IsNoGet (ask.Get k) = ⊥
-IsNoGet (ask.Join k) = Unit {0}
-IsNoGet (ask.GetOr k) = ⊥
-IsNoGet (ask.JoinOr k) = Unit {0}
-IsNoGet (ask.Emit n) = Unit {0}
-IsNoGet (ask.End v) = Unit {0}
-IsNoGet (ask.Fail fault) = Unit {0}
+IsNoGet = never.IsNoGet asks_no_get

@@ -402,7 +402,8 @@ one_less q k n (inr l) = inr (omega arith)
 
 good-next_from : (n : ℕ) (t : TaskState) (rest : List Statement) (turn : Turn) (go : TaskState → Next)
     → ((new : TaskState) → IsSound new → Good n new.places (go new))
-    → IsGoodTurn (record t { rest = rest; steps = n }) turn → Good (suc n) t.places (next_from t turn go)
+    → IsGoodTurn (record t { rest = rest; steps = n }) turn
+    → Good (suc n) t.places (next_from (record t { rest = rest; steps = n }) turn go)
 good-next_from n t rest (goes_on new) go h k = let g = h new k.0 in record {
   falls = one_less (go new).0 (go new).1.steps n g.falls;
   awaits = g.awaits;
@@ -410,10 +411,10 @@ good-next_from n t rest (goes_on new) go h k = let g = h new k.0 in record {
   placed = subst (λ p. Placed p (go new).0) k.1 g.placed;
 }
 good-next_from n t rest (asks q new) go h k = k
-good-next_from n t rest (fails fault) go h k = good-fail (suc n) t fault
+good-next_from n t rest (fails fault) go h k = good-fail (suc n) (record t { rest = rest; steps = n }) fault
 
 good-next_ask : (n : ℕ) (t : TaskState) → IsSound t → Good n t.places (next_ask n t)
-good-next_ask zero t s = good-next_of 0 t t.rest _ (λ x more. good-fail 0 t trouble.Steps)
+good-next_ask zero t s = good-next_of 0 t t.rest _ (λ x more. good-fail 0 (record t { rest = more }) trouble.Steps)
 good-next_ask (suc n) t s = good-next_of (suc n) t t.rest _ (λ x more.
     good-next_from n t more (begun (record t { rest = more; steps = n }) x) (next_ask n) (good-next_ask n)
     (good-begun (record t { rest = more; steps = n }) x (sound-begin t more n s)))

@@ -52,9 +52,9 @@ pub data Turn : Type 0 where
   asks : Ask TaskState → TaskState → Turn
   fails : Trouble → Turn
 
--- a task that has ended has nothing left
+-- a task that has ended awaits nothing any more
 abbrev pub ended : TaskState → TaskState
-ended t = record t { rest = []; vars = []; steps = 0; due = over }
+ended t = record t { due = over }
 
 -- the task with the value in the variable, if there is one for it
 abbrev pub kept : Option ℕ → Pay → TaskState → TaskState
@@ -206,9 +206,9 @@ next_of t (s ∷ rest) go = go s rest
 
 -- the next ask, where so many statements may still begin
 abbrev pub next_ask : ℕ → TaskState → Next
-next_ask zero t = next_of t t.rest (λ s rest. (ask.Fail trouble.Steps, ended t))
+next_ask zero t = next_of t t.rest (λ s rest. (ask.Fail trouble.Steps, ended (record t { rest = rest })))
 next_ask (suc n) t = next_of t t.rest
-    (λ s rest. next_from t (begun (record t { rest = rest; steps = n }) s) (next_ask n))
+    (λ s rest. let on = record t { rest = rest; steps = n } in next_from on (begun on s) (next_ask n))
 
 -- the value that is answered, if it is one
 abbrev pub value_of : Answer → Option Pay

@@ -110,13 +110,11 @@ impl<'s> ScriptBody<'s> {
         }
     }
 
-    /// Leaves nothing of the task.
+    /// Lets the task await nothing any more. What it holds stays until the body is dropped, so that
+    /// the end takes no time of its own.
     pub(crate) fn end(&mut self)
         ensures { self.new ≡ state.ended self.old }
     {
-        self.blocks.clear();
-        self.vars.clear();
-        self.steps = 0;
         self.due = Due::Over;
     }
 }

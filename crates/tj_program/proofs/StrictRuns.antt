@@ -5,10 +5,7 @@ use Rattle.tj_body.specs.Laws.{IsRoot}
 use Rattle.tj_body.specs.NeverWaits.{IsNoGet, IsWithoutGet}
 use Rattle.tj_body.specs.Rounds.{root_task}
 use Rattle.tj_body.specs.declared.ask.Answer.{Answer}
-use Rattle.tj_body.specs.declared.ask.Ask.{Ask}
-use Rattle.tj_body.specs.declared.ask.Ask.TheVariants as ask
 use Rattle.tj_eval.specs.Bodies.{IsMainBody, script_places, script_awaits, script_left, script_asks, script_then}
-use Rattle.tj_eval.specs.Gets as gets
 use Rattle.tj_eval.specs.Gets.{asks_no_get}
 use Rattle.tj_eval.specs.Laws.{fresh-main}
 use Rattle.tj_eval.specs.Statements.{TaskState}
@@ -38,23 +35,10 @@ IsRoot-script tokens script steps root is main few = record {
   };
 }
 
--- an ask that is no get
-no_get_ask : (q : Ask TaskState) → gets.IsNoGet q → IsNoGet asks_no_get q
-no_get_ask ask.New h = tt
-no_get_ask (ask.Fork b pass hand) h = h
-no_get_ask (ask.Set k v) h = tt
-no_get_ask (ask.Get k) h = h
-no_get_ask (ask.Join k) h = tt
-no_get_ask (ask.GetOr k) h = h
-no_get_ask (ask.JoinOr k) h = tt
-no_get_ask (ask.Emit n) h = tt
-no_get_ask (ask.End v) h = tt
-no_get_ask (ask.Fail fault) h = tt
-
 pub IsWithoutGet-script : ((task : TaskState) (a : Answer) → IsTrue (asks_no_get task)
-    → gets.IsNoGet (script_asks task a) × IsTrue (asks_no_get (script_then task a)))
+    → IsNoGet asks_no_get (script_asks task a) × IsTrue (asks_no_get (script_then task a)))
     → IsWithoutGet script_places script_awaits script_asks script_then asks_no_get
-IsWithoutGet-script law b a calm fits = let h = law b a calm in (no_get_ask (script_asks b a) h.0, h.1)
+IsWithoutGet-script law b a calm fits = law b a calm
 
 -- of a command whose numbers are within their limits
 pub never_waits : ((cells steps : ℕ) (input : List ℕ) → steps ≤ 1000000 → StrictRunsNeverWait cells steps input)
