@@ -1,8 +1,10 @@
-//! Worked rows of limits of cells, of broken cells and of the strict rule, by hand from the rules.
+//! Worked rows of limits of cells and of statements, of broken cells and of the strict rule, by hand
+//! from the rules.
 use crate::row_tests::{AGAINST_THE_ORDER, JOIN_EACH_OTHER, TWO_WAIT, shows, shows_any};
 use crate::run::run_words;
 use crate::status::Status;
 use crate::tests::words_of;
+use std::process::Abort;
 use std::test::Fail;
 use tj_ports::{MemSink, MemSource, OpenGate};
 
@@ -11,6 +13,14 @@ const ONE_PROMISE: &str = "task main() { let p = new; return 0; }";
 const HALVES: &str = "task main() { let t = fork node(500); let v = join t; return v; } \
     task node(n) { if n < 2 { return 1; } let a = fork node(n / 2); \
     let b = fork node(n - n / 2); let x = join a; let y = join b; return x + y; }";
+
+const FIB: &str = "task main() { let t = fork fib(15); let v = join t; print v; return 0; } \
+    task fib(n) { if n < 2 { return n; } let a = fork fib(n - 1); \
+    let b = fork fib(n - 2); let x = join a; let y = join b; return x + y; }";
+
+// The two first statements, 499,999 tests, 499,998 assignments and the return: a million in all.
+const LOOP: &str =
+    "task main() { let m = 1; let n = 0; while n < 499998 { n = n + m; } return n; }";
 
 #[test]
 fn limits_of_cells(rt: HostRuntime) -> Result<(), Fail> {
@@ -136,17 +146,69 @@ fn strict_rule(rt: HostRuntime) -> Result<(), Fail> {
     Ok(())
 }
 
+/// Asserts the status, how many lines the words over the input write, and the first ones.
+fn shows_front(
+    rt: &(impl Abort + AllocGlobal),
+    line: &str,
+    input: &str,
+    lines: usize,
+    front: &str,
+) -> Result<(), Fail> {
+    let alloc = rt.alloc();
+    let words = words_of(alloc, line)?;
+    let mut source = MemSource::new(input.as_bytes().to_vec(alloc)?, 4096, Vec::new(alloc));
+    let mut sink = MemSink::new(alloc, 131_072, 4096, Vec::new(alloc))?;
+    let found = run_words(alloc, words.as_slice(), &mut source, &mut sink, &OpenGate);
+    assert_eq!(rt; found, Status::Clean, "{line}");
+    let count = sink.bytes().iter().filter(|byte| **byte == b'\n').count();
+    assert_eq!(rt; count, lines, "{line}");
+    assert!(rt; sink.bytes().starts_with(front.as_bytes()), "{line}");
+    Ok(())
+}
+
 #[test]
 fn a_thousand_tasks_under_the_strict_rule(rt: HostRuntime) -> Result<(), Fail> {
-    let alloc = rt.alloc();
-    let words = words_of(alloc, "run --strict")?;
-    let mut source = MemSource::new(HALVES.as_bytes().to_vec(alloc)?, 4096, Vec::new(alloc));
-    let mut sink = MemSink::new(alloc, 65536, 4096, Vec::new(alloc))?;
-    let found = run_words(alloc, words.as_slice(), &mut source, &mut sink, &OpenGate);
-    assert_eq!(rt; found, Status::Clean);
-    let lines = sink.bytes().iter().filter(|byte| **byte == b'\n').count();
-    assert_eq!(rt; lines, 1001);
-    let front = b"0 done 500\n0.1 done 500\n0.1.1 done 250\n0.1.1.1 done 125\n".as_slice();
-    assert!(rt; sink.bytes().starts_with(front));
-    Ok(())
+    shows_front(
+        &rt,
+        "run --strict",
+        HALVES,
+        1001,
+        "0 done 500\n0.1 done 500\n0.1.1 done 250\n0.1.1.1 done 125\n",
+    )
+}
+
+#[test]
+fn a_tree_that_needs_1974_cells(rt: HostRuntime) -> Result<(), Fail> {
+    shows_front(
+        &rt,
+        "run --cells 1974",
+        FIB,
+        1976,
+        "0 prints 610\n0 done 0\n0.1 done 610\n0.1.1 done 377\n",
+    )?;
+    shows(
+        &rt,
+        "run --cells 1973",
+        FIB,
+        Status::Full,
+        "full: more than 1973 cells\n",
+    )
+}
+
+#[test]
+fn a_million_statements(rt: HostRuntime) -> Result<(), Fail> {
+    shows(
+        &rt,
+        "plan --steps 1000000",
+        LOOP,
+        Status::Clean,
+        "0 done 499998\nclean\n",
+    )?;
+    shows(
+        &rt,
+        "plan --steps 999999",
+        LOOP,
+        Status::Marked,
+        "0 failed steps\nmarked\n",
+    )
 }
