@@ -77,6 +77,7 @@ abbrev pub ahead : List Pay → Result (List Pay) Trouble → Result (List Pay) 
 ahead values (Ok more) = Ok (values ++ more)
 ahead values (Err fault) = Err fault
 
+-- one value more in front
 pub ahead-one : (values : List Pay) (v : Pay) (more : Result (List Pay) Trouble)
     → ahead values (one_more v more) ≡ ahead (values ++ v ∷ []) more
 ahead-one values v (Ok more) = ap (λ z. Ok z) (sym (append_assoc values (v ∷ []) more))
@@ -100,6 +101,7 @@ pub length-shown : {X : Type 0} (f : X → Argument) (vars : List Pay) (list : L
     → arguments vars (map f list) ≡ Ok values → length values ≡ length list
 length-shown f vars list values e = length-arguments vars (map f list) values e ∙ length-map list f
 
+-- the references are no more than the values
 pub length-references : (values : List Pay) → length (references values) ≤ length values
 length-references [] = omega arith
 length-references (pay.Num n ∷ values) = omega (arith, length-references values)

@@ -18,12 +18,6 @@ next_ask-done zero t e = ap (λ z. next_of t z (λ s rest. (ask.Fail trouble.Ste
 next_ask-done (suc n) t e = ap (λ z. next_of t z
     (λ s rest. let on = record t { rest = rest; steps = n } in next_from on (begun on s) (next_ask n))) e
 
--- where the limit is spent no statement begins
-pub next_ask-spent : (t : TaskState) (s : Statement) (rest : List Statement) → t.rest ≡ s ∷ rest → t.steps ≡ 0
-    → next_ask t.steps t ≡ (ask.Fail trouble.Steps, ended (record t { rest = rest }))
-next_ask-spent t s rest e z = ap (λ n. next_ask n t) z
-    ∙ ap (λ z. next_of t z (λ s rest. (ask.Fail trouble.Steps, ended (record t { rest = rest })))) e
-
 begins : (n : ℕ) (t : TaskState) (s : Statement) (rest : List Statement) → t.rest ≡ s ∷ rest
     → next_ask (suc n) t ≡ next_from (record t { rest = rest; steps = n })
     (begun (record t { rest = rest; steps = n }) s) (next_ask n)
@@ -47,6 +41,7 @@ module _ (old t : TaskState) (s : Statement) (r : old.rest ≡ s ∷ t.rest) (e 
   abbrev turn : Turn
   turn = begun (record t { steps = t.steps - 1 }) s
 
+  -- where it asks, that is the next ask
   pub next_ask-asks : (result : Result (Option (Ask TaskState)) Stop) (a : Ask TaskState) (new : TaskState)
       → IsTurn (record t { steps = t.steps - 1 }) turn result new → result ≡ Ok (Some a) → next_ask old.steps old
       ≡ (a, new)
@@ -54,6 +49,7 @@ module _ (old t : TaskState) (s : Statement) (r : old.rest ≡ s ∷ t.rest) (e 
       ≡ asks a new = subst (λ z. IsTurn (record t { steps = t.steps - 1 }) turn z new) f h in
       next_ask-begins old t s r e p ∙ ap (λ z. next_from (record t { steps = t.steps - 1 }) z (next_ask (t.steps - 1))) k
 
+  -- where it fails, so does the task
   pub next_ask-fails : (result : Result (Option (Ask TaskState)) Stop) (fault : Trouble) (new : TaskState)
       → IsTurn (record t { steps = t.steps - 1 }) turn result new → result ≡ Err (Fault fault)
       → next_ask old.steps old ≡ (ask.Fail fault, ended new)

@@ -130,6 +130,7 @@ pub record IsSound (t : TaskState) : Type 0 where
   pub some : 0 < t.places
   pub paid : ArePaid t.places t.vars
 
+-- what the test of a sound task says
 pub sound-parts : (t : TaskState) → is_sound t ≡ true → IsSound t
 sound-parts t e = let a = all_have_few_params t.script in let b = nat_le t.limit most_left in
     let c = nat_lt 0 t.places in
@@ -142,6 +143,7 @@ sound-parts t e = let a = all_have_few_params t.script in let b = nat_le t.limit
       paid = all-paid t.places t.vars (second_so (a && b && c) d e);
     }
 
+-- a sound task passes the test
 pub sound-test : (t : TaskState) → IsSound t → is_sound t ≡ true
 sound-test t s = let a = all_have_few_params t.script in let b = nat_le t.limit most_left in
     let c = nat_lt 0 t.places in
@@ -512,6 +514,7 @@ good-next t a s f = let now = record t { places = t.places + new_places a } in
     good-after now (answered now t.due a)
     (on-answered now t.due a (sound-more t a s) (paid-answer (await_of t.due) t.places a f))
 
+-- the laws of one ask, for each task of a script and each answer
 pub script_obeys : (t : TaskState) (a : Answer)
     → Obeys script_places script_awaits script_left script_asks script_then t a
 script_obeys t a h = let f = sound-fits t a h in let good = good-next t a (sound-parts t f.0) f.1 in

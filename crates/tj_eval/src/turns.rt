@@ -1,7 +1,7 @@
 //! Tables of turns: what each task of a script is to ask for each answer. They are played against
 //! the script's bodies, a child's turns at the fork that makes it.
-ghost use Rattle.std.specs.Prelude.{ℕ, true, ◌≡◌, ◌<◌, ◌≤◌, ◌+◌, ◌^◌, IfOk, IfSome, MatchOption, List};
-ghost use Rattle.tj_body.specs.Asks.{Fits, IsPlaced, awaited, begin, cell, cell_or, new_places};
+ghost use Rattle.std.specs.Prelude.{ℕ, true, ◌≡◌, ◌<◌, ◌≤◌, ◌^◌, IfOk, IfSome, MatchOption, List};
+ghost use Rattle.tj_body.specs.Asks.{Fits, IsPlaced, awaited, begin, cell, cell_or};
 ghost use Rattle.tj_eval.specs.Bodies.{script_awaits, script_left, script_places};
 ghost use Rattle.tj_lex.specs.declared.token.Tok.{Tok};
 ghost use Rattle.tj_syntax.specs.Faults.{IsScript};
@@ -113,8 +113,6 @@ fn asked<'s>(
     requires fits { Fits (script_awaits body.old) (script_places body.old) a }
     requires room { script_places body.old < 2 ^ 31 }
     ensures awaits { IfOk result (λ ask. script_awaits body.new ≡ awaited ask) }
-    ensures places { IfOk result
-        (λ _. script_places body.new ≡ script_places body.old + new_places a) }
     ensures placed { IfOk result
         (IsPlaced script_places script_awaits script_left (script_places body.new)) }
 {

@@ -1,4 +1,4 @@
-use Rattle.std.proofs.Common.{ℕ, ◌≡◌, ◌<◌, MatchOption, ◌-◌, length}
+use Rattle.std.proofs.Common.{◌≡◌, ◌<◌, MatchOption, ◌-◌, length}
 use Rattle.tj_body.specs.Asks.{awaited, begin}
 use Rattle.tj_eval.specs.Bodies.{script_awaits}
 use Rattle.tj_eval.proofs.turns.+plays.Given as goal

@@ -1,8 +1,8 @@
-use Rattle.std.proofs.Common.{◌≡◌, ◌+◌, ap, sym, ◌∙◌, subst}
+use Rattle.std.proofs.Common.{◌≡◌, ap, sym, ◌∙◌, subst}
 use Rattle.std.specs.Prelude.{Result, Ok, Err, IfOk}
 use Rattle.tj_body.specs.declared.ask.Answer.{Answer}
 use Rattle.tj_body.specs.declared.ask.Ask.{Ask}
-use Rattle.tj_body.specs.Asks.{Fits, IsPlaced, IsNext, awaited, new_places}
+use Rattle.tj_body.specs.Asks.{Fits, IsPlaced, IsNext, awaited}
 use Rattle.tj_eval.specs.Statements.{TaskState}
 use Rattle.tj_eval.specs.Bodies.{script_places, script_awaits, script_left, script_asks, script_then}
 use Rattle.tj_eval.specs.Laws.{script_obeys}
@@ -24,10 +24,6 @@ module _ (E : Type 0) (t : TaskState) (a : Answer) (new : TaskState)
   awaits (Ok ask) e f = ap script_awaits f ∙ law.awaits_answer ∙ ap awaited (sym e)
   awaits (Err oom) e f = tt
 
-  places : (r : Result (Ask TaskState) E) → Becomes r → IfOk r (λ _. script_places new ≡ script_places t + new_places a)
-  places (Ok ask) f = ap script_places f ∙ law.adds_places
-  places (Err oom) f = tt
-
   placed : (r : Result (Ask TaskState) E) → Asks r → Becomes r
       → IfOk r (IsPlaced script_places script_awaits script_left (script_places new))
   placed (Ok ask) e f = subst (λ n. IsPlaced script_places script_awaits script_left n ask) (ap script_places (sym f))
@@ -37,10 +33,6 @@ module _ (E : Type 0) (t : TaskState) (a : Answer) (new : TaskState)
 pub returns-clause-awaits : goal.returns-clause-awaits
 returns-clause-awaits c = awaits _ c.args.body.now c.args.a c.next.new.self c.requires.fits c.next.result
     c.next.ensures.ask c.next.ensures.body
-
-pub returns-clause-places : goal.returns-clause-places
-returns-clause-places c = places _ c.args.body.now c.args.a c.next.new.self c.requires.fits c.next.result
-    c.next.ensures.body
 
 pub returns-clause-placed : goal.returns-clause-placed
 returns-clause-placed c = placed _ c.args.body.now c.args.a c.next.new.self c.requires.fits c.next.result
