@@ -204,7 +204,7 @@ abbrev pub next_of : TaskState → List Statement → (Statement → List Statem
 next_of t [] go = (ask.End (pay.Num (pos 0)), ended t)
 next_of t (s ∷ rest) go = go s rest
 
--- the next ask, where so many statements may still begin
+-- the next ask, where so many statements may still begin; a statement that can't is no longer among those that remain
 abbrev pub next_ask : ℕ → TaskState → Next
 next_ask zero t = next_of t t.rest (λ s rest. (ask.Fail trouble.Steps, ended (record t { rest = rest })))
 next_ask (suc n) t = next_of t t.rest

@@ -5,16 +5,18 @@ mod body;
 mod call;
 mod expression;
 mod fork;
-pub mod laws;
 #[cfg(test)]
-mod row_tests;
+mod fork_tests;
+pub mod laws;
 mod state;
 mod statement;
 mod stop;
 #[cfg(test)]
 mod tests;
 #[cfg(test)]
-mod turns;
+mod transcripts;
+#[cfg(test)]
+mod wait_tests;
 
 pub use body::main_body;
 pub use state::ScriptBody;

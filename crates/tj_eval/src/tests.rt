@@ -2,7 +2,7 @@
 ghost use Rattle.std.specs.Prelude.{◌<◌, ◌≤◌};
 
 use crate::main_body;
-use crate::turns::script;
+use crate::transcripts::script;
 use std::alloc::Global;
 use std::process::Abort;
 use std::test::Fail;
@@ -100,10 +100,6 @@ fn numbers_and_references(rt: HostRuntime) -> Result<(), Fail> {
         ("print me;", KIND),
         ("let n = 1; set n = 1 / 0;", KIND),
         ("let n = 1; join n or 2;", KIND),
-        // The braces of this row close `main` and open a second task.
-        ("fork f(1 / 0, me + 1); } task f(a, b) { ", ARITH),
-        ("let n = 1; fork f(own n, 1 / 0); } task f(a, b) { ", KIND),
-        ("let n = 1; fork f(1 / 0, own n); } task f(a, b) { ", ARITH),
     ];
     for (statements, expected) in rows {
         ends(&rt, alloc, statements, 2, expected)?;

@@ -1,5 +1,5 @@
-//! Tables of turns: what each task of a script is to ask for each answer. They are played against
-//! the script's bodies, a child's turns at the fork that makes it.
+//! Transcripts: what each task of a script is to ask for each answer. A script's bodies are held
+//! against them, a child's at the fork that makes it.
 ghost use Rattle.std.specs.Prelude.{ℕ, true, ◌≡◌, ◌<◌, ◌≤◌, ◌^◌, IfOk, IfSome, MatchOption, List};
 ghost use Rattle.tj_body.specs.Asks.{Fits, IsPlaced, awaited, begin, cell, cell_or};
 ghost use Rattle.tj_eval.specs.Bodies.{script_awaits, script_left, script_places};
@@ -16,17 +16,20 @@ use tj_body::{Answer, Ask, Body};
 use tj_lex::{MAX_TEXT, tokens};
 use tj_syntax::{Script, parse};
 
-// More places and turns than a task of a test has.
+// How many statements each task of a row may begin.
+const STEPS: u32 = 1000;
+
+// More places, and more answers, than a task of a row has.
 const MOST_PLACES: u32 = 1000;
 
-const MOST_TURNS: usize = 1000;
+const MOST_ANSWERS: usize = 1000;
 
 /// What a task is to ask.
 #[derive(Clone, Copy)]
-pub enum Wanted<'a> {
+pub enum Expected {
     New,
     /// The places that are passed, and those that are handed.
-    Fork(&'a [u32], &'a [u32]),
+    Fork(&'static [u32], &'static [u32]),
     Set(u32, Pay),
     Get(u32),
     Join(u32),
@@ -35,6 +38,12 @@ pub enum Wanted<'a> {
     Emit(i64),
     End(Pay),
     Fail(Trouble),
+}
+
+/// A script with the transcripts of its tasks, in the order of their names.
+pub struct Row {
+    pub script: &'static str,
+    pub tasks: &'static [&'static [(Answer, Expected)]],
 }
 
 /// The script that the text is.
@@ -53,51 +62,44 @@ pub fn script(rt: &impl Abort, alloc: Global, text: &str) -> Script
     }
 }
 
-/// Asserts that the tasks of a script, each of which may begin so many statements, have these
-/// turns, in the order of their names. So has a twin.
-pub fn plays_script(
-    rt: &impl Abort,
-    alloc: Global,
-    text: &str,
-    steps: u32,
-    tasks: &[&[(Answer, Wanted)]],
-) -> Result<(), Fail>
-    requires { (0 < steps) × (steps ≤ 1000000) }
-{
-    let script = script(rt, alloc, text);
-    let mut body = main_body(alloc, &script, steps)?;
-    let mut twin = body.twin(alloc)?;
-    let mut played = 0;
-    plays(rt, alloc, &mut body, tasks, &mut played)?;
-    assert_eq!(rt; played, tasks.len(), "tasks of {text}");
-    plays(rt, alloc, &mut twin, tasks, &mut 0)
+/// Asserts that the tasks of the row's script follow its transcripts.
+pub fn script_follows(rt: &impl Abort, alloc: Global, row: &Row) -> Result<(), Fail> {
+    let script = script(rt, alloc, row.script);
+    let mut body = main_body(alloc, &script, STEPS)?;
+    let mut followed = 0;
+    follows(rt, alloc, &mut body, row.tasks, &mut followed)?;
+    assert_eq!(rt; followed, row.tasks.len(), "tasks of {}", row.script);
+    Ok(())
 }
 
-/// Asserts that the body has the next turns, and its children those behind them.
-fn plays<'s>(
+/// Asserts that the body follows the next transcript, and its children those behind it. A twin asks
+/// the same at each answer.
+fn follows<'s>(
     rt: &impl Abort,
     alloc: Global,
     body: &mut ScriptBody<'s>,
-    tasks: &[&[(Answer, Wanted)]],
-    played: &mut usize,
+    tasks: &[&[(Answer, Expected)]],
+    followed: &mut usize,
 ) -> Result<(), Fail>
     requires begins { script_awaits body.old ≡ begin }
-    ensures further { played.old < played.new }
+    ensures further { followed.old < followed.new }
 {
-    let at = *played;
-    if at >= tasks.len() || tasks[at].len() > MOST_TURNS {
-        panic!(rt; "no turns of task {at}");
+    let at = *followed;
+    if at >= tasks.len() || tasks[at].len() > MOST_ANSWERS {
+        panic!(rt; "no transcript of task {at}");
     }
-    *played += 1;
+    *followed += 1;
     let mut last = None;
-    for (answer, next) in tasks[at] {
+    for (answer, expected) in tasks[at] {
         if body.places >= MOST_PLACES || !is_answer(&last, body.places, *answer) {
             panic!(rt; "task {at}: {answer:?} is no answer");
         }
-        let (ask, child) = taken(body, alloc, *answer)?;
-        assert_eq!(rt; ask, ask_of(alloc, *next)?, "task {at}, {answer:?}");
+        let same = asked_of_twin(body, alloc, *answer)?;
+        let (ask, child) = asked_parts(body, alloc, *answer)?;
+        assert_eq!(rt; ask, same, "task {at}, {answer:?}, of a twin");
+        assert_eq!(rt; ask, ask_of(alloc, *expected)?, "task {at}, {answer:?}");
         if let Some(mut child) = child {
-            plays(rt, alloc, &mut child, tasks, played)?;
+            follows(rt, alloc, &mut child, tasks, followed)?;
         }
         last = Some(ask);
     }
@@ -120,18 +122,28 @@ fn asked<'s>(
 }
 
 /// The next ask without the child, and the child.
-fn taken<'s>(
+fn asked_parts<'s>(
     body: &mut ScriptBody<'s>,
     alloc: Global,
     a: Answer,
 ) -> Result<(Ask<()>, Option<ScriptBody<'s>>), Oom>
     requires fits { Fits (script_awaits body.old) (script_places body.old) a }
     requires room { script_places body.old < 2 ^ 31 }
-    ensures awaits { IfOk result (λ turn. script_awaits body.new ≡ awaited turn.0) }
-    ensures begins { IfOk result (λ turn. IfSome turn.1 (λ child. script_awaits child ≡ begin)) }
+    ensures awaits { IfOk result (λ parts. script_awaits body.new ≡ awaited parts.0) }
+    ensures begins { IfOk result (λ parts. IfSome parts.1 (λ child. script_awaits child ≡ begin)) }
 {
     let ask = asked(body, alloc, a)?;
     Ok(parts(ask))
+}
+
+/// What a twin asks next.
+fn asked_of_twin<'s>(body: &ScriptBody<'s>, alloc: Global, a: Answer) -> Result<Ask<()>, Oom>
+    requires fits { Fits (script_awaits body.now) (script_places body.now) a }
+    requires room { script_places body.now < 2 ^ 31 }
+{
+    let mut twin = body.twin(alloc)?;
+    let (ask, _child) = asked_parts(&mut twin, alloc, a)?;
+    Ok(ask)
 }
 
 /// Whether a task with so many places, which has asked this last, may be answered so.
@@ -197,23 +209,23 @@ fn parts<'s>(ask: Ask<ScriptBody<'s>>) -> (Ask<()>, Option<ScriptBody<'s>>)
     }
 }
 
-/// The ask that is wanted, without a child.
-fn ask_of(alloc: Global, wanted: Wanted) -> Result<Ask<()>, Oom> {
-    let ask = match wanted {
-        Wanted::New => Ask::New,
-        Wanted::Fork(pass, hand) => Ask::Fork {
+/// The ask that is expected, without a child.
+fn ask_of(alloc: Global, expected: Expected) -> Result<Ask<()>, Oom> {
+    let ask = match expected {
+        Expected::New => Ask::New,
+        Expected::Fork(pass, hand) => Ask::Fork {
             body: (),
             pass: Items::of(Vec::from_slice(alloc, pass)?),
             hand: Items::of(Vec::from_slice(alloc, hand)?),
         },
-        Wanted::Set(p, v) => Ask::Set { p, v },
-        Wanted::Get(p) => Ask::Get { p },
-        Wanted::Join(t) => Ask::Join { t },
-        Wanted::GetOr(p) => Ask::GetOr { p },
-        Wanted::JoinOr(t) => Ask::JoinOr { t },
-        Wanted::Emit(n) => Ask::Emit(n),
-        Wanted::End(v) => Ask::End(v),
-        Wanted::Fail(fault) => Ask::Fail(fault),
+        Expected::Set(p, v) => Ask::Set { p, v },
+        Expected::Get(p) => Ask::Get { p },
+        Expected::Join(t) => Ask::Join { t },
+        Expected::GetOr(p) => Ask::GetOr { p },
+        Expected::JoinOr(t) => Ask::JoinOr { t },
+        Expected::Emit(n) => Ask::Emit(n),
+        Expected::End(v) => Ask::End(v),
+        Expected::Fail(fault) => Ask::Fail(fault),
     };
     Ok(ask)
 }
