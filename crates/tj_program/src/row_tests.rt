@@ -21,6 +21,20 @@ pub const AGAINST_THE_ORDER: &str = "task main() { let p = new; fork old(p); let
     one(); set p = b; return 0; } task one() { return 1; } task old(p) { let t = get p; let v \
     = join t; return v; }";
 
+/// The status of the words over the input, and the sink that they wrote to.
+pub fn answered(
+    rt: &(impl Abort + AllocGlobal),
+    line: &str,
+    input: &str,
+) -> Result<(Status, MemSink), Fail> {
+    let alloc = rt.alloc();
+    let words = words_of(alloc, line)?;
+    let mut source = MemSource::new(input.as_bytes().to_vec(alloc)?, 4096, Vec::new(alloc));
+    let mut sink = MemSink::new(alloc, 131_072, 4096, Vec::new(alloc))?;
+    let status = run_words(alloc, words.as_slice(), &mut source, &mut sink, &OpenGate);
+    Ok((status, sink))
+}
+
 /// Asserts what the words over the input write, and the status.
 pub fn shows(
     rt: &(impl Abort + AllocGlobal),
@@ -29,11 +43,7 @@ pub fn shows(
     status: Status,
     output: &str,
 ) -> Result<(), Fail> {
-    let alloc = rt.alloc();
-    let words = words_of(alloc, line)?;
-    let mut source = MemSource::new(input.as_bytes().to_vec(alloc)?, 4096, Vec::new(alloc));
-    let mut sink = MemSink::new(alloc, 4096, 4096, Vec::new(alloc))?;
-    let found = run_words(alloc, words.as_slice(), &mut source, &mut sink, &OpenGate);
+    let (found, sink) = answered(rt, line, input)?;
     assert_eq!(rt; found, status, "{line}");
     assert_eq!(rt; sink.bytes(), output.as_bytes(), "{line}");
     Ok(())

@@ -1,12 +1,9 @@
 //! Worked rows of limits of cells and of statements, of broken cells and of the strict rule, by hand
 //! from the rules.
-use crate::row_tests::{AGAINST_THE_ORDER, JOIN_EACH_OTHER, TWO_WAIT, shows, shows_any};
-use crate::run::run_words;
+use crate::row_tests::{AGAINST_THE_ORDER, JOIN_EACH_OTHER, TWO_WAIT, answered, shows, shows_any};
 use crate::status::Status;
-use crate::tests::words_of;
 use std::process::Abort;
 use std::test::Fail;
-use tj_ports::{MemSink, MemSource, OpenGate};
 
 const ONE_PROMISE: &str = "task main() { let p = new; return 0; }";
 
@@ -146,7 +143,7 @@ fn strict_rule(rt: HostRuntime) -> Result<(), Fail> {
     Ok(())
 }
 
-/// Asserts the status, how many lines the words over the input write, and the first ones.
+/// Asserts that the words over the input end clean, how many lines they write, and the first ones.
 fn shows_front(
     rt: &(impl Abort + AllocGlobal),
     line: &str,
@@ -154,11 +151,7 @@ fn shows_front(
     lines: usize,
     front: &str,
 ) -> Result<(), Fail> {
-    let alloc = rt.alloc();
-    let words = words_of(alloc, line)?;
-    let mut source = MemSource::new(input.as_bytes().to_vec(alloc)?, 4096, Vec::new(alloc));
-    let mut sink = MemSink::new(alloc, 131_072, 4096, Vec::new(alloc))?;
-    let found = run_words(alloc, words.as_slice(), &mut source, &mut sink, &OpenGate);
+    let (found, sink) = answered(rt, line, input)?;
     assert_eq!(rt; found, Status::Clean, "{line}");
     let count = sink.bytes().iter().filter(|byte| **byte == b'\n').count();
     assert_eq!(rt; count, lines, "{line}");
