@@ -11,14 +11,19 @@ pieces t a n b d e = simp append_assoc refl
 -- a step, with its number in between
 pub step_pieces : (text number : List ℕ) →
     ((text ++ codes "  q = new;\n  t = fork node(") ++ number) ++ codes ", p, own q);\n  p = q;\n"
-    ≡ text ++ flat_map ended (codes "  q = new;" ∷ (codes "  t = fork node(" ++ number ++ codes ", p, own q);") ∷ codes "  p = q;" ∷ [])
+    ≡ text ++ flat_map ended (codes "  q = new;"
+    ∷ (codes "  t = fork node(" ++ number ++ codes ", p, own q);")
+    ∷ codes "  p = q;" ∷ [])
 step_pieces text number =
     pieces text (codes "  q = new;\n  t = fork node(") number (codes ", p, own q);") (codes "\n") (codes "  p = q;\n")
 
 -- one step more
 pub step_more : (text : List ℕ) (i : ℕ) →
-    (text ++ flat_map ended (steps_lines i)) ++ flat_map ended (step_lines (suc i)) ≡ text ++ flat_map ended (steps_lines (suc i))
-step_more text i = append_assoc text (flat_map ended (steps_lines i)) (flat_map ended (step_lines (suc i))) ∙ ap (λ t. text ++ t) (sym (flat_map-append ended (steps_lines i) (step_lines (suc i))))
+    (text ++ flat_map ended (steps_lines i)) ++ flat_map ended (step_lines (suc i))
+    ≡ text ++ flat_map ended (steps_lines (suc i))
+step_more text i =
+    append_assoc text (flat_map ended (steps_lines i)) (flat_map ended (step_lines (suc i)))
+    ∙ ap (λ t. text ++ t) (sym (flat_map-append ended (steps_lines i) (step_lines (suc i))))
 
 -- the three parts of the script
 pub script_parts : (size : ℕ) →
@@ -28,7 +33,8 @@ script_parts size =
     ∙ sym (flat_map-append ended (head_lines ++ steps_lines size) tail_lines)
 
 -- the text with its end, where the steps so far are all
-pub script_ended : (text : List ℕ) (i size : ℕ) → text ≡ flat_map ended head_lines ++ flat_map ended (steps_lines i) → i ≡ size →
-    text ++ flat_map ended tail_lines ≡ script_text size
+pub script_ended : (text : List ℕ) (i size : ℕ)
+    → text ≡ flat_map ended head_lines ++ flat_map ended (steps_lines i) → i ≡ size
+    → text ++ flat_map ended tail_lines ≡ script_text size
 script_ended text i size e same =
     ap (λ t. t ++ flat_map ended tail_lines) e ∙ script_parts i ∙ ap script_text same

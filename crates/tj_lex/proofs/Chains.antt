@@ -11,7 +11,7 @@ use Rattle.tj_lex.specs.declared.token.LexFault.{LexFault}
 use Rattle.tj_lex.specs.Bytes.{is_name_byte, stays_on_line, line_feed}
 use Rattle.tj_lex.specs.Spelling.{mark_text}
 use Rattle.tj_lex.specs.Tokens.{Spells, IsToken, IsFaultFrom, HasTokens}
-use Rattle.tj_lex.specs.Spots.{AreApart}
+use Rattle.tj_lex.specs.Inner.Spots.{AreApart}
 use Rattle.tj_lex.proofs.Runs.{both, eqb-fails, list_all-prefix}
 
 -- one token more

@@ -9,7 +9,7 @@ use Rattle.std.proofs.lemmas.Bool.{eqb-true}
 use Rattle.tj_lex.proofs.Runs.{both, not-false, take-split, list_all-prefix}
 use Rattle.tj_lex.specs.Bytes.{is_blank, line_feed, hash, stays_on_line}
 use Rattle.tj_lex.specs.Tokens.{IsGap, IsComment}
-use Rattle.tj_lex.specs.Spots.{AreApart}
+use Rattle.tj_lex.specs.Inner.Spots.{AreApart}
 
 mutual
   -- two gaps, one behind the other, are one

@@ -2,5 +2,5 @@ pub mod Bytes
 pub mod Places
 pub mod Pieces
 pub mod Spelling
-pub mod Spots
+pub mod Inner
 pub mod Tokens

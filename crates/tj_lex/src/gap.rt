@@ -2,7 +2,7 @@
 ghost use Rattle.std.specs.Prelude.{◌≡◌, ◌+◌, ◌^◌, ◌-◌, slice_index, ◌<◌, ◌≤◌, length, drop, IfSome, IfNone, false};
 ghost use Rattle.tj_lex.specs.declared.place.Place.{Place};
 ghost use Rattle.tj_lex.specs.Bytes.{is_gap_start, begins_with};
-ghost use Rattle.tj_lex.specs.Spots.{IsSpot, AreApart};
+ghost use Rattle.tj_lex.specs.Inner.Spots.{IsSpot, AreApart};
 
 use crate::bytes::{MAX_TEXT, line_len};
 use crate::place::Place;

@@ -5,7 +5,7 @@ ghost use Rattle.tj_lex.specs.Bytes.{is_name_start, is_gap_start, begins_with};
 ghost use Rattle.tj_lex.specs.Tokens.{AreTokens, IsFirstFault, IsToken, IsFaultFrom, IsFaultAt, OrMemory};
 ghost use Rattle.tj_lex.specs.declared.token.Token.{Token};
 ghost use Rattle.tj_lex.specs.declared.token.LexFault.{LexFault};
-ghost use Rattle.tj_lex.specs.Spots.{IsSpot, IsLexeme};
+ghost use Rattle.tj_lex.specs.Inner.Spots.{IsSpot, IsLexeme};
 
 use crate::bytes::{MAX_NAME, MAX_TEXT, digits_len, is_name_start, name_len};
 use crate::gap::{Spot, after_gap};

@@ -4,5 +4,11 @@ use Rattle.tj_gen.proofs.script.add_step.Goals as goal
 
 pub returns : goal.returns
 returns c =
-    rw (c.in_ok-extend_from_slice-3.ensures.items, c.in_ok-extend_from_slice-2.ensures.items, c.in_ok-extend_from_slice.ensures.items, c.as_bytes.ensures.value, c.format.ensures.text)
+    rw (
+      c.in_ok-extend_from_slice-3.ensures.items,
+      c.in_ok-extend_from_slice-2.ensures.items,
+      c.in_ok-extend_from_slice.ensures.items,
+      c.as_bytes.ensures.value,
+      c.format.ensures.text,
+    )
     (step_pieces c.args.text.now.items (decimal c.args.i))

@@ -4,7 +4,7 @@ use Rattle.std.proofs.lemmas.List.{take_rest, length-drop}
 use Rattle.std.proofs.lemmas.List.Sums.{prefix_len-le-length}
 use Rattle.tj_lex.specs.declared.gap.Spot.{Spot}
 use Rattle.tj_lex.specs.Bytes.{stays_on_line}
-use Rattle.tj_lex.specs.Spots.{IsSpot}
+use Rattle.tj_lex.specs.Inner.Spots.{IsSpot}
 use Rattle.tj_lex.proofs.Moves.{column-spot, IsSpot-along, IsSpot-feed}
 use Rattle.tj_lex.proofs.Gaps.{AreApart-comment, AreApart-last, feed-behind}
 use Rattle.tj_lex.proofs.Runs.{list_all-prefix}

@@ -1,5 +1,5 @@
 use Rattle.std.proofs.Common.{◌-◌, length}
-use Rattle.tj_lex.specs.Spots.{IsSpot, AreApart}
+use Rattle.tj_lex.specs.Inner.Spots.{IsSpot, AreApart}
 use Rattle.tj_lex.proofs.gap.after_gap.Given as goal
 
 abbrev pub invariant-loop-further : goal.invariant-loop-further

@@ -2,7 +2,7 @@ use Rattle.std.proofs.Common.{◌≡◌, ◌+◌, ◌-◌, ℕ, List, take, drop
 use Rattle.std.specs.List.{list_all}
 use Rattle.tj_lex.specs.Bytes.{stays_on_line}
 use Rattle.tj_lex.specs.Tokens.{IsToken}
-use Rattle.tj_lex.specs.Spots.{IsSpot}
+use Rattle.tj_lex.specs.Inner.Spots.{IsSpot}
 use Rattle.tj_lex.specs.declared.gap.Spot.{Spot}
 use Rattle.tj_lex.specs.declared.token.Token.{Token}
 use Rattle.tj_lex.proofs.Moves.{column-spot, IsSpot-along}

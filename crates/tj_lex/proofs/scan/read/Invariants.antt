@@ -1,6 +1,6 @@
 use Rattle.std.proofs.Common.{◌-◌, length}
 use Rattle.tj_lex.specs.Tokens.{HasTokens}
-use Rattle.tj_lex.specs.Spots.{IsSpot}
+use Rattle.tj_lex.specs.Inner.Spots.{IsSpot}
 use Rattle.tj_lex.proofs.scan.read.Given as goal
 
 abbrev pub invariant-tokens : goal.invariant-tokens
