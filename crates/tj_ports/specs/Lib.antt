@@ -3,3 +3,4 @@ pub mod Faults
 pub mod Memory
 pub mod Putting
 pub mod Reading
+pub mod Standard

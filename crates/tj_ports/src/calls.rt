@@ -1,5 +1,5 @@
 //! The calls of a port in memory, counted from 1, and those of them that fail.
-ghost use Rattle.std.specs.Prelude.{ℕ, ◌≡◌, ◌≤◌, ◌↔◌, IsOk, IsErr, OnErr};
+ghost use Rattle.std.specs.Prelude.{ℕ, ◌≡◌, ◌≤◌, ◌↔◌, IsOk, IsErr, OnOk, OnErr};
 ghost use Rattle.tj_ports.specs.Faults.{HasFault};
 
 use crate::failed::Failed;
@@ -32,6 +32,7 @@ impl Calls {
         ensures made { self.new.made ≡ number_of_next self.old.made }
         ensures failing { self.new.failing ≡ self.old.failing }
         ensures counted { self.old.faults ≤ self.new.faults }
+        ensures quiet { OnOk result (self.new.faults ≡ self.old.faults) }
         ensures failed { OnErr result (HasFault self.old.faults self.new.faults) }
         ensures sound { ListsNone self.old → IsOk result × (self.new.faults ≡ self.old.faults) }
     {

@@ -1,5 +1,5 @@
 //! A sink in memory, for tests and for other programs. It tells its bytes.
-ghost use Rattle.std.specs.Prelude.{ℕ, ◌≡◌, ◌-◌, ◌<◌, ◌≤◌, ◌⊎◌, ◌++◌, Some, [], length, take, min, vec_len, vec_capacity, IsErr, IfOk, IsOkAnd, OnErr};
+ghost use Rattle.std.specs.Prelude.{ℕ, ◌≡◌, ◌-◌, ◌<◌, ◌≤◌, ◌⊎◌, ◌++◌, Some, [], length, take, min, vec_len, vec_capacity, IsErr, IfOk, IsOkAnd, OnOk, OnErr};
 ghost use Rattle.tj_ports.specs.Faults.{HasFault, IsSound};
 
 use crate::calls::Calls;
@@ -76,6 +76,7 @@ impl Sink for MemSink {
             (λ n. sink_bytes self.new ≡ sink_bytes self.old ++ take n piece.now) }
         ensures err { OnErr result (sink_bytes self.new ≡ sink_bytes self.old) }
         ensures counted { sink_faults self.old ≤ sink_faults self.new }
+        ensures quiet { OnOk result (sink_faults self.new ≡ sink_faults self.old) }
         ensures failed { OnErr result (HasFault (sink_faults self.old) (sink_faults self.new)) }
         ensures sound { (room : ℕ) → SurelyTakes self.old room → length piece.now ≤ room →
             IsOkAnd result (λ n. IsSound (sink_faults self.old) (sink_faults self.new)

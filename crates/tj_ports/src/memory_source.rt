@@ -1,5 +1,5 @@
 //! A source in memory, for tests and for other programs. It tells its bytes.
-ghost use Rattle.std.specs.Prelude.{ℕ, ◌≡◌, ◌<◌, ◌≤◌, ◌↔◌, ◌++◌, Some, [], length, take, drop, min, IsOk, IsErr, IfOk, OnErr};
+ghost use Rattle.std.specs.Prelude.{ℕ, ◌≡◌, ◌<◌, ◌≤◌, ◌↔◌, ◌++◌, Some, [], length, take, drop, min, IsOk, IsErr, IfOk, OnOk, OnErr};
 ghost use Rattle.tj_ports.specs.Faults.{HasFault, IsSound};
 
 use crate::calls::Calls;
@@ -67,6 +67,7 @@ impl Source for MemSource {
         ensures end { IfOk result (λ n. n ≡ 0 → source_bytes self.old ≡ []) }
         ensures err { OnErr result (source_bytes self.new ≡ source_bytes self.old) }
         ensures counted { source_faults self.old ≤ source_faults self.new }
+        ensures quiet { OnOk result (source_faults self.new ≡ source_faults self.old) }
         ensures failed { OnErr result (HasFault (source_faults self.old) (source_faults self.new)) }
         ensures sound { ListsNone (source_calls self.old) →
             IsOk result × IsSound (source_faults self.old) (source_faults self.new)

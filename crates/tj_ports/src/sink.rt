@@ -31,6 +31,7 @@ pub trait Sink {
 
         // A fault is told only where it is counted.
         ensures counted { faults self.old ≤ faults self.new }
+        ensures quiet { OnOk result (faults self.new ≡ faults self.old) }
         ensures failed { OnErr result (HasFault (faults self.old) (faults self.new)) }
         ensures sound { (room : ℕ) → has_room self.old room → length piece.now ≤ room →
             IsOkAnd result (λ n. IsSound (faults self.old) (faults self.new)
@@ -43,6 +44,7 @@ pub fn put_all<K: Sink>(sink: &mut K, bytes: &[u8]) -> Result<(), Failed>
     ensures err { OnErr result (GrowsByPart (K.held sink.old) (K.held sink.new) bytes.now) }
 
     ensures counted { K.faults sink.old ≤ K.faults sink.new }
+    ensures quiet { OnOk result (K.faults sink.new ≡ K.faults sink.old) }
     ensures failed { OnErr result (HasFault (K.faults sink.old) (K.faults sink.new)) }
     ensures sound { (room : ℕ) → K.has_room sink.old room → length bytes.now ≤ room →
         IsOk result × IsSound (K.faults sink.old) (K.faults sink.new)

@@ -36,6 +36,7 @@ pub trait Source {
 
         // A fault is told only where it is counted.
         ensures counted { faults self.old ≤ faults self.new }
+        ensures quiet { OnOk result (faults self.new ≡ faults self.old) }
         ensures failed { OnErr result (HasFault (faults self.old) (faults self.new)) }
         ensures sound { never_fails self.old →
             IsOk result × IsSound (faults self.old) (faults self.new) (never_fails self.new) };
@@ -95,6 +96,8 @@ pub fn read_all<S: Source>(alloc: Global, source: &mut S, limit: u32) -> Result<
     ensures taken { TakesAtMost (limit + 1) (S.left source.old) (S.left source.new) }
 
     ensures counted { S.faults source.old ≤ S.faults source.new }
+    ensures oom { result ≡ Err ReadFault.Oom → S.faults source.new ≡ S.faults source.old }
+    ensures quiet { OnOk result (S.faults source.new ≡ S.faults source.old) }
     ensures failed { result ≡ Err ReadFault.Failed
         → HasFault (S.faults source.old) (S.faults source.new) }
     ensures sound { S.never_fails source.old → (result ≢ Err ReadFault.Failed)
@@ -132,6 +135,8 @@ fn take_piece<S: Source>(
     ensures err { OnErr result (TakesAtMost (length piece.old) (S.left source.old)
         (S.left source.new)) }
     ensures counted { S.faults source.old ≤ S.faults source.new }
+    ensures oom { result ≡ Err ReadFault.Oom → S.faults source.new ≡ S.faults source.old }
+    ensures quiet { OnOk result (S.faults source.new ≡ S.faults source.old) }
     ensures failed { result ≡ Err ReadFault.Failed
         → HasFault (S.faults source.old) (S.faults source.new) }
     ensures sound { S.never_fails source.old → (result ≢ Err ReadFault.Failed)

@@ -64,3 +64,18 @@ fn puts_until_a_fault(rt: HostRuntime) -> Result<(), Fail> {
 fn an_open_gate_holds_nobody() {
     OpenGate.enter(1, 1);
 }
+
+#[test]
+fn standard_ports_pass_the_bytes_on(rt: HostRuntime) -> Result<(), Fail> {
+    let alloc = rt.alloc();
+    let mut source = StdSource::new(TEXT);
+    let read = read_all(alloc, &mut source, 100)?;
+    let mut held = Vec::new(alloc);
+    let mut sink = StdSink::new(&mut held);
+    match read {
+        ReadEnd::Whole(bytes) => assert!(rt; put_all(&mut sink, bytes.items()).is_ok()),
+        ReadEnd::Long(_bytes) => return Err(Fail::new("the text isn't long")),
+    }
+    assert_eq!(rt; held.as_slice(), TEXT);
+    Ok(())
+}

@@ -29,13 +29,14 @@ mod words;
 
 use run::run_words;
 use status::Status;
+use std::io;
 use std::process::ExitCode;
 use tj_ports::{OpenGate, StdSink, StdSource};
 use words::words_given;
 
 fn main(rt: HostRuntime) -> ExitCode {
-    let mut source = StdSource::new(&rt);
-    let mut sink = StdSink::new(&rt);
+    let mut source = StdSource::new(rt.reader());
+    let mut sink = StdSink::new(io::writer(&rt));
     let status = match words_given(&rt) {
         Ok(words) => run_words(
             rt.alloc(),

@@ -18,6 +18,7 @@ loop-count-preserved g c =
       in_range = omega (arith, c.loop-count.invariant.in_range);
       added = Appends-rest _ _ _ n m text c.loop-count.invariant.added c.in_ok-count.ensures.added;
       counted = omega arith;
+      quiet = c.in_ok-count.ensures.quiet ∙ c.loop-count.invariant.quiet;
       sound = λ room has fits.
           let so_far = c.loop-count.invariant.sound room has fits in
           let step = c.in_ok-count.ensures.sound (room - n) so_far.still

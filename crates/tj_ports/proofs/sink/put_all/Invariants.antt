@@ -1,4 +1,4 @@
-use Rattle.std.proofs.Common.{length, ◌-◌, ℕ, ◌≤◌, take}
+use Rattle.std.proofs.Common.{◌≡◌, length, ◌-◌, ℕ, ◌≤◌, take}
 use Rattle.std.specs.Io.KnownBytes.{Appends}
 use Rattle.tj_ports.specs.Faults.{IsSound}
 use Rattle.tj_ports.proofs.sink.put_all.Given as goal
@@ -13,6 +13,7 @@ invariant-loop-count g l =
       in_range : l.count ≤ length l.bytes;
       added : Appends (held l.initial.sink) (held l.sink) (take l.count l.bytes);
       counted : faults l.initial.sink ≤ faults l.sink;
+      quiet : faults l.sink ≡ faults l.initial.sink;
       sound : (room : ℕ) → has_room l.initial.sink room → length l.bytes ≤ room
           → IsSound (faults l.initial.sink) (faults l.sink) (has_room l.sink (room - l.count));
     }

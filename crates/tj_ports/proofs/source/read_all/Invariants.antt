@@ -14,6 +14,7 @@ invariant-loop-piece g l =
       in_range : vec_len l.bytes ≤ l.most;
       taken : Consumes (left l.initial.source) (left l.source) l.bytes.items;
       counted : faults l.initial.source ≤ faults l.source;
+      quiet : faults l.source ≡ faults l.initial.source;
       sound : never_fails l.initial.source → IsSound (faults l.initial.source) (faults l.source) (never_fails l.source);
     }
 
