@@ -8,12 +8,12 @@ use Rattle.tj_base.specs.declared.cell.Sort.TheVariants as sort
 use Rattle.tj_base.specs.declared.cause.Cause.{Cause}
 use Rattle.tj_base.specs.declared.cause.Cause.TheVariants as cause
 use Rattle.tj_body.specs.Names.{has, in_order}
+use Rattle.tj_body.specs.Programs.{Rules}
 use Rattle.tj_body.specs.History.{Assignment, reference, reference_at, value_at, with_entry, hand_all, owned_in}
 use Rattle.tj_body.specs.History.{owned}
 use Rattle.tj_body.specs.History.{after_close, after_new, cause_of, next_name, next_child, after_try_fork}
 use Rattle.tj_body.specs.History.{after_write, after_set, after_get, after_join}
 use Rattle.tj_body.specs.History.{after_read, after_look, after_ask, after_stage, point_after}
-use Rattle.tj_body.specs.declared.ask.Answer.{Answer}
 use Rattle.tj_body.specs.declared.ask.Ask.{Ask}
 use Rattle.tj_body.specs.declared.ask.Ask.TheVariants as ask
 use Rattle.tj_body.specs.declared.point.Reference.{Reference}
@@ -156,19 +156,19 @@ module _ {B : Type 0} (q : Name) (f : Name → ℕ) where
       looks spare c (Some e) p g f =
           reads spare c e p (subst (λ z. IsBalanced h p (times q (owned_in z p.name p.holds))) g f.0, f.1)
 
-      module _ (asks : B → Answer → Ask B) (then : B → Answer → B) where
-        goes : (V : Assignment) (st : PointStage) (p : Point B) → p.stage ≡ st → IsFair h p
-            → IsFair h (after_stage strict asks then V st p)
-        goes V (stage.Answered a) p g f =
-            takes (asks p.body a) (record p { body = then p.body a })
-            (subst (λ z. IsBalanced h p (times q (owned_in z p.name p.holds))) g f.0, f.1)
-        goes V (stage.Waits c spare) p g f = looks spare c (V c) p g f
-        goes V (stage.Closed e) p g f = f
+    module _ (rules : Rules B) where
+      goes : (V : Assignment) (st : PointStage) (p : Point B) → p.stage ≡ st → IsFair h p
+          → IsFair h (after_stage rules V st p)
+      goes V (stage.Answered a) p g f =
+          takes rules.strict (rules.asks p.body a) (record p { body = rules.then p.body a })
+          (subst (λ z. IsBalanced h p (times q (owned_in z p.name p.holds))) g f.0, f.1)
+      goes V (stage.Waits c spare) p g f = looks rules.strict spare c (V c) p g f
+      goes V (stage.Closed e) p g f = f
 
   -- of every point
-  pub fair : (strict : Bool) (asks : B → Answer → Ask B) (then : B → Answer → B) (V : Assignment) (k : ℕ) (t : Task B)
-      → IsFair (times q t.handed) (point_after strict asks then V k t)
-  fair strict asks then V zero t = (omega arith, refl)
-  fair strict asks then V (suc k) t =
-      let p = point_after strict asks then V k t in
-      goes (times q t.handed) strict asks then V p.stage p refl (fair strict asks then V k t)
+  pub fair : (rules : Rules B) (V : Assignment) (k : ℕ) (t : Task B)
+      → IsFair (times q t.handed) (point_after rules V k t)
+  fair rules V zero t = (omega arith, refl)
+  fair rules V (suc k) t =
+      let p = point_after rules V k t in
+      goes (times q t.handed) rules V p.stage p refl (fair rules V k t)

@@ -6,8 +6,10 @@ use Rattle.tj_base.specs.declared.value.Pay.TheVariants as pay
 use Rattle.tj_base.specs.declared.cause.Trouble.TheVariants as trouble
 use Rattle.tj_base.specs.declared.cause.Cause.{Cause}
 use Rattle.tj_base.specs.declared.cause.Cause.TheVariants as cause
+use Rattle.tj_body.specs.Asks.{Await, nothing}
+use Rattle.tj_body.specs.Programs.{Program, program_of, root_task}
 use Rattle.tj_body.specs.History.{to_promise, owned, history}
-use Rattle.tj_body.specs.Rounds.{given, tasks, cells, meaning, root_task, IsFull}
+use Rattle.tj_body.specs.Rounds.{given, tasks, cells, meaning, IsFull}
 use Rattle.tj_body.specs.declared.ask.Answer.{Answer}
 use Rattle.tj_body.specs.declared.ask.Ask.{Ask}
 use Rattle.tj_body.specs.declared.ask.Ask.TheVariants as ask
@@ -72,6 +74,12 @@ left (pass k j s) = suc (left s)
 left (emit s) = suc (left s)
 left (fork b p h s) = suc (left s)
 
+abbrev awaits : Script → Await
+awaits s = nothing
+
+abbrev program_for : Bool → Script → Program Script
+program_for strict s = program_of left awaits left asks then strict s
+
 abbrev end : Script
 end = stop (pay.Num (pos 0))
 
@@ -81,7 +89,7 @@ shown p = (p.name, p.stage, p.owed)
 
 -- the meaning with limit N, as a report tells it
 abbrev outcome : Bool → ℕ → Script → List (Name × PointStage × List Name)
-outcome strict N s = map shown (meaning strict asks then left (root_task s) N)
+outcome strict N s = map shown (meaning (program_for strict s) N)
 
 -- it ended with 0, or it failed, or it waits for a cell
 abbrev ended : PointStage
@@ -97,10 +105,10 @@ waits q = stage.Waits q false
 abbrev alone : Script
 alone = new (set 1 (get 1 (emit (stop (pay.Ref 1)))))
 
-alone_cells : cells false asks then left (root_task alone) 5 ≡ [] ∷ (1 ∷ []) ∷ []
+alone_cells : cells (program_for false alone) 5 ≡ [] ∷ (1 ∷ []) ∷ []
 alone_cells = refl
 
-alone_prints : map (λ (p : Point Script). p.prints) (meaning false asks then left (root_task alone) 2)
+alone_prints : map (λ (p : Point Script). p.prints) (meaning (program_for false alone) 2)
     ≡ (pos 8 ∷ []) ∷ []
 alone_prints = refl
 
@@ -114,12 +122,12 @@ handing = new (fork (set 1 end) (1 ∷ []) (1 ∷ []) (get 1 end))
 abbrev handed_to : Task Script → Name × List Name
 handed_to t = (t.name, t.handed)
 
-handed_first : map handed_to (tasks false asks then left (root_task handing) 1)
+handed_first : map handed_to (tasks (program_for false handing) 1)
     ≡ ([], []) ∷ ((2 ∷ []), (1 ∷ []) ∷ []) ∷ []
 handed_first = refl
 
 abbrev parent : Point Script
-parent = history false asks then left (given false asks then left (root_task handing) 0) (root_task handing)
+parent = history (program_for false handing).rules (given (program_for false handing) 0) (root_task handing)
 
 left_behind : owned parent
     ≡ [] ∷ []
@@ -136,7 +144,7 @@ breaks_in_order : outcome false 4 breaking
     ≡ ([], ended, []) ∷ ((3 ∷ []), ended, (1 ∷ []) ∷ (2 ∷ []) ∷ []) ∷ ((3 ∷ 1 ∷ []), ended, []) ∷ []
 breaks_in_order = refl
 
-breaks_entry : given false asks then left (root_task breaking) 3 (1 ∷ []) ≡ Some entry.Broken
+breaks_entry : given (program_for false breaking) 3 (1 ∷ []) ≡ Some entry.Broken
 breaks_entry = refl
 
 -- a set by a task that isn't the owner fails with Owner and the name
@@ -264,7 +272,7 @@ each_other = refl
 abbrev owns : Point Script → Name × List Name
 owns p = (p.name, owned p)
 
-waiting_owns : map owns (meaning false asks then left (root_task exchange) 5)
+waiting_owns : map owns (meaning (program_for false exchange) 5)
     ≡ ([], []) ∷ ((3 ∷ []), (3 ∷ []) ∷ (1 ∷ []) ∷ []) ∷ ((4 ∷ []), (4 ∷ []) ∷ (2 ∷ []) ∷ []) ∷ []
 waiting_owns = refl
 
@@ -275,7 +283,7 @@ told_of p = (p.name, p.prints, p.owed)
 abbrev down_twice : Script
 down_twice = new (fork (fork (set 1 end) (1 ∷ []) (1 ∷ []) end) (1 ∷ []) (1 ∷ []) (get 1 (emit end)))
 
-set_by_grandchild : map told_of (meaning false asks then left (root_task down_twice) 4)
+set_by_grandchild : map told_of (meaning (program_for false down_twice) 4)
     ≡ ([], pos 8 ∷ [], []) ∷ ((2 ∷ []), [], []) ∷ ((2 ∷ 1 ∷ []), [], []) ∷ []
 set_by_grandchild = refl
 
@@ -300,13 +308,13 @@ name_of t = t.name
 abbrev chain : Script
 chain = fork (fork (fork end [] [] end) [] [] end) [] [] end
 
-no_task_at_first : tasks false asks then left (root_task chain) 0 ≡ []
+no_task_at_first : tasks (program_for false chain) 0 ≡ []
 no_task_at_first = refl
 
-one_fork : map name_of (tasks false asks then left (root_task chain) 1) ≡ [] ∷ (1 ∷ []) ∷ []
+one_fork : map name_of (tasks (program_for false chain) 1) ≡ [] ∷ (1 ∷ []) ∷ []
 one_fork = refl
 
-two_forks : map name_of (tasks false asks then left (root_task chain) 2) ≡ [] ∷ (1 ∷ []) ∷ (1 ∷ 1 ∷ []) ∷ []
+two_forks : map name_of (tasks (program_for false chain) 2) ≡ [] ∷ (1 ∷ []) ∷ (1 ∷ 1 ∷ []) ∷ []
 two_forks = refl
 
 -- a promise that is handed and not passed is owed by the child
@@ -315,9 +323,9 @@ handed_alone : outcome false 3 (new (fork end [] (1 ∷ []) end))
 handed_alone = refl
 
 -- two cells aren't more than two
-alone_is_not_full : ¬ IsFull false asks then left (root_task alone) 2
+alone_is_not_full : ¬ IsFull (program_for false alone) 2
 alone_is_not_full f = omega arith
 
 -- two cells are more than one
-alone_is_full : IsFull false asks then left (root_task alone) 1
+alone_is_full : IsFull (program_for false alone) 1
 alone_is_full = omega arith

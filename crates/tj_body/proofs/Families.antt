@@ -3,11 +3,10 @@ use Rattle.std.proofs.Common.{◌≡◌, ℕ, zero, suc, ◌+◌, ◌*◌, ◌�
 use Rattle.std.proofs.Common.{cond, refl, sym, ap, ◌∙◌, arith}
 use Rattle.tj_base.specs.ForkOrder.{Name}
 use Rattle.tj_body.specs.Names.{same}
+use Rattle.tj_body.specs.Programs.{Rules}
 use Rattle.tj_body.specs.History.{Assignment, owned, history}
 use Rattle.tj_body.specs.Rounds.{entry_in, family, writes_by, cells_by}
 use Rattle.tj_body.specs.Points.{IsIn}
-use Rattle.tj_body.specs.declared.ask.Answer.{Answer}
-use Rattle.tj_body.specs.declared.ask.Ask.{Ask}
 use Rattle.tj_body.specs.declared.point.Entry.{Entry}
 use Rattle.tj_body.specs.declared.point.Task.{Task}
 use Rattle.tj_body.specs.declared.point.Point.{Point}
@@ -17,30 +16,30 @@ use Rattle.tj_body.proofs.Counts.{total_flat_map}
 use Rattle.tj_body.proofs.Prefixes.{under, below, under_is, numbered_once}
 use Rattle.tj_body.proofs.Accounts.{fair}
 
-module _ {B : Type 0} (strict : Bool) (asks : B → Answer → Ask B) (then : B → Answer → B) (left : B → ℕ) where
+module _ {B : Type 0} (rules : Rules B) where
   -- a history has the name of its task
-  pub same_name : (V : Assignment) (t : Task B) → (history strict asks then left V t).name ≡ t.name
-  same_name V t = (from_start strict asks then V (2 * suc (left t.body)) t).5
+  pub same_name : (V : Assignment) (t : Task B) → (history rules V t).name ≡ t.name
+  same_name V t = (from_start rules V (2 * suc (rules.left t.body)) t).5
 
   module _ (V : Assignment) (q : Name) where
     abbrev history_of : Task B → Point B
-    history_of t = history strict asks then left V t
+    history_of t = history rules V t
 
     abbrev family_of : ℕ → Task B → List (Task B)
-    family_of d t = family strict asks then left V d t
+    family_of d t = family rules V d t
 
     -- how often t owns or writes q
     abbrev pub uses : Task B → ℕ
-    uses t = times q (owned (history_of t)) + wrote q (writes_by strict asks then left V t)
+    uses t = times q (owned (history_of t)) + wrote q (writes_by rules V t)
 
     -- how often q is a cell of t
     abbrev pub makes : Task B → ℕ
-    makes t = times q (cells_by strict asks then left V t)
+    makes t = times q (cells_by rules V t)
 
     used_of : (t : Task B)
         → uses t + total (λ (c : Task B). times q c.handed) (history_of t).children ≡ times q t.handed + makes t
     used_of t =
-        let a = (fair q (under q) strict asks then V (2 * suc (left t.body)) t).0 in
+        let a = (fair q (under q) rules V (2 * suc (rules.left t.body)) t).0 in
         let n : is q (history_of t).name ≡ is q t.name = ap (is q) (same_name V t) in
         omega arith
 
@@ -48,7 +47,7 @@ module _ {B : Type 0} (strict : Bool) (asks : B → Answer → Ask B) (then : B 
         → total (λ (c : Task B). under q c.name) (history_of t).children + total (under q) (history_of t).promises
         ≤ below q t.name
     made_of t =
-        let b = (fair q (under q) strict asks then V (2 * suc (left t.body)) t).1 in
+        let b = (fair q (under q) rules V (2 * suc (rules.left t.body)) t).1 in
         let n = numbered_once q (history_of t).name (history_of t).made in
         let k : below q (history_of t).name ≡ below q t.name = ap (below q) (same_name V t) in
         omega arith

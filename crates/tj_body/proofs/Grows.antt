@@ -7,10 +7,10 @@ use Rattle.tj_base.specs.declared.cell.Sort.{Sort}
 use Rattle.tj_base.specs.declared.cell.Sort.TheVariants as sort
 use Rattle.tj_base.specs.declared.cause.Cause.{Cause}
 use Rattle.tj_body.specs.Names.{has}
+use Rattle.tj_body.specs.Programs.{Rules}
 use Rattle.tj_body.specs.History.{Assignment, start, after_try_fork, after_set, after_get, after_join, after_read}
 use Rattle.tj_body.specs.History.{after_look, after_ask, after_stage, after_step, point_after}
 use Rattle.tj_body.specs.Points.{Begins, IsWithin, Extends}
-use Rattle.tj_body.specs.declared.ask.Answer.{Answer}
 use Rattle.tj_body.specs.declared.ask.Ask.{Ask}
 use Rattle.tj_body.specs.declared.ask.Ask.TheVariants as ask
 use Rattle.tj_body.specs.declared.point.Reference.{Reference}
@@ -141,97 +141,97 @@ module _ {B : Type 0} where
     takes (ask.End v) p = writes_more p _
     takes (ask.Fail t) p = writes_more p _
 
-    module _ (asks : B → Answer → Ask B) (then : B → Answer → B) where
-      -- a step only adds, whatever the stage
-      pub goes : (V : Assignment) (st : PointStage) (p : Point B) → GoesOn p (after_stage strict asks then V st p)
-      goes V (stage.Answered a) p = takes (asks p.body a) (record p { body = then p.body a })
-      goes V (stage.Waits q spare) p = looks q spare (V q) p
-      goes V (stage.Closed e) p = goes_on_self p
+  module _ (rules : Rules B) where
+    -- a step only adds, whatever the stage
+    pub goes : (V : Assignment) (st : PointStage) (p : Point B) → GoesOn p (after_stage rules V st p)
+    goes V (stage.Answered a) p = takes rules.strict (rules.asks p.body a) (record p { body = rules.then p.body a })
+    goes V (stage.Waits q spare) p = looks q spare (V q) p
+    goes V (stage.Closed e) p = goes_on_self p
 
-      -- a step only adds
-      pub grows : (V : Assignment) (p : Point B) → GoesOn p (after_step strict asks then V p)
-      grows V p = goes V p.stage p
+    -- a step only adds
+    pub grows : (V : Assignment) (p : Point B) → GoesOn p (after_step rules V p)
+    grows V p = goes V p.stage p
 
-      -- each point goes on from the start
-      pub from_start : (V : Assignment) (k : ℕ) (t : Task B) → GoesOn (start t) (point_after strict asks then V k t)
-      from_start V zero t = goes_on_self (start t)
-      from_start V (suc k) t =
-          goes_on_trans (start t) (point_after strict asks then V k t) (point_after strict asks then V (suc k) t)
-          (from_start V k t) (grows V (point_after strict asks then V k t))
+    -- each point goes on from the start
+    pub from_start : (V : Assignment) (k : ℕ) (t : Task B) → GoesOn (start t) (point_after rules V k t)
+    from_start V zero t = goes_on_self (start t)
+    from_start V (suc k) t =
+        goes_on_trans (start t) (point_after rules V k t) (point_after rules V (suc k) t)
+        (from_start V k t) (grows V (point_after rules V k t))
 
-      -- the task waits for a cell without an entry
-      abbrev pub IsWaiting : Assignment → Point B → Type 0
-      IsWaiting V p = (q : Name) × (spare : Bool) × (p.stage ≡ stage.Waits q spare) × (V q ≡ None)
+    -- the task waits for a cell without an entry
+    abbrev pub IsWaiting : Assignment → Point B → Type 0
+    IsWaiting V p = (q : Name) × (spare : Bool) × (p.stage ≡ stage.Waits q spare) × (V q ≡ None)
 
-      -- what waits stays
-      pub waiting_stays : (V : Assignment) (p : Point B) → IsWaiting V p → after_step strict asks then V p ≡ p
-      waiting_stays V p w = ap (λ z. after_stage strict asks then V z p) w.2 ∙ ap (λ z. after_look w.1 w.0 z p) w.3
+    -- what waits stays
+    pub waiting_stays : (V : Assignment) (p : Point B) → IsWaiting V p → after_step rules V p ≡ p
+    waiting_stays V p w = ap (λ z. after_stage rules V z p) w.2 ∙ ap (λ z. after_look w.1 w.0 z p) w.3
 
-      -- a step under a larger assignment is the same, or there was none
-      pub same_or_waiting : (V W : Assignment) → IsWithin V W → (st : PointStage) (p : Point B) → p.stage ≡ st
-          → (after_stage strict asks then V st p ≡ after_stage strict asks then W st p) ⊎ IsWaiting V p
-      same_or_waiting V W h (stage.Answered a) p g = inl refl
-      same_or_waiting V W h (stage.Closed e) p g = inl refl
-      same_or_waiting V W h (stage.Waits q spare) p g = by_entry (V q) refl where
-        by_entry : (o : Option Entry) → V q ≡ o
-            → (after_look spare q (V q) p ≡ after_look spare q (W q) p) ⊎ IsWaiting V p
-        by_entry None e = inr (q, spare, g, e)
-        by_entry (Some x) e = inl (ap (λ z. after_look spare q z p) (e ∙ sym (h q x e)))
+    -- a step under a larger assignment is the same, or there was none
+    pub same_or_waiting : (V W : Assignment) → IsWithin V W → (st : PointStage) (p : Point B) → p.stage ≡ st
+        → (after_stage rules V st p ≡ after_stage rules W st p) ⊎ IsWaiting V p
+    same_or_waiting V W h (stage.Answered a) p g = inl refl
+    same_or_waiting V W h (stage.Closed e) p g = inl refl
+    same_or_waiting V W h (stage.Waits q spare) p g = by_entry (V q) refl where
+      by_entry : (o : Option Entry) → V q ≡ o
+          → (after_look spare q (V q) p ≡ after_look spare q (W q) p) ⊎ IsWaiting V p
+      by_entry None e = inr (q, spare, g, e)
+      by_entry (Some x) e = inl (ap (λ z. after_look spare q z p) (e ∙ sym (h q x e)))
 
-      module _ (V W : Assignment) (h : IsWithin V W) (t : Task B) where
-        -- p is q, or p waits under V and q goes on from it
-        abbrev Keeps : Point B → Point B → Type 0
-        Keeps p q = (p ≡ q) ⊎ (IsWaiting V p × GoesOn p q)
+    module _ (V W : Assignment) (h : IsWithin V W) (t : Task B) where
+      -- p is q, or p waits under V and q goes on from it
+      abbrev Keeps : Point B → Point B → Type 0
+      Keeps p q = (p ≡ q) ⊎ (IsWaiting V p × GoesOn p q)
 
-        abbrev under_V : Point B → Point B
-        under_V p = after_step strict asks then V p
+      abbrev under_V : Point B → Point B
+      under_V p = after_step rules V p
 
-        abbrev under_W : Point B → Point B
-        under_W p = after_step strict asks then W p
+      abbrev under_W : Point B → Point B
+      under_W p = after_step rules W p
 
-        one : (p q : Point B) → Keeps p q → Keeps (under_V p) (under_W q)
-        one p q (inl e) =
-            ⊎_elim (λ (s : under_V p ≡ under_W p). inl (s ∙ ap under_W e))
-            (λ (s : IsWaiting V p). let y = sym (waiting_stays V p s) in
-            inr (
-              subst (IsWaiting V) y s,
-              subst (λ z. GoesOn z (under_W q)) y (subst (λ z. GoesOn p (under_W z)) e (grows W p)),
-            ))
-            (same_or_waiting V W h p.stage p refl)
-        one p q (inr s) =
-            let y = sym (waiting_stays V p s.0) in
-            inr (
-              subst (IsWaiting V) y s.0,
-              subst (λ z. GoesOn z (under_W q)) y (goes_on_trans p q (under_W q) s.1 (grows W q)),
-            )
+      one : (p q : Point B) → Keeps p q → Keeps (under_V p) (under_W q)
+      one p q (inl e) =
+          ⊎_elim (λ (s : under_V p ≡ under_W p). inl (s ∙ ap under_W e))
+          (λ (s : IsWaiting V p). let y = sym (waiting_stays V p s) in
+          inr (
+            subst (IsWaiting V) y s,
+            subst (λ z. GoesOn z (under_W q)) y (subst (λ z. GoesOn p (under_W z)) e (grows W p)),
+          ))
+          (same_or_waiting V W h p.stage p refl)
+      one p q (inr s) =
+          let y = sym (waiting_stays V p s.0) in
+          inr (
+            subst (IsWaiting V) y s.0,
+            subst (λ z. GoesOn z (under_W q)) y (goes_on_trans p q (under_W q) s.1 (grows W q)),
+          )
 
-        -- after as many steps the same, or the smaller assignment has stopped it earlier
-        pub monotone : (k : ℕ) → Keeps (point_after strict asks then V k t) (point_after strict asks then W k t)
-        monotone zero = inl refl
-        monotone (suc k) = one (point_after strict asks then V k t) (point_after strict asks then W k t) (monotone k)
+      -- after as many steps the same, or the smaller assignment has stopped it earlier
+      pub monotone : (k : ℕ) → Keeps (point_after rules V k t) (point_after rules W k t)
+      monotone zero = inl refl
+      monotone (suc k) = one (point_after rules V k t) (point_after rules W k t) (monotone k)
 
-        -- after as many steps the larger assignment has come as far or further
-        pub more : (k : ℕ) → GoesOn (point_after strict asks then V k t) (point_after strict asks then W k t)
-        more k =
-            let p = point_after strict asks then V k t in
-            ⊎_elim (λ e. subst (GoesOn p) e (goes_on_self p)) (λ s. s.1) (monotone k)
+      -- after as many steps the larger assignment has come as far or further
+      pub more : (k : ℕ) → GoesOn (point_after rules V k t) (point_after rules W k t)
+      more k =
+          let p = point_after rules V k t in
+          ⊎_elim (λ e. subst (GoesOn p) e (goes_on_self p)) (λ s. s.1) (monotone k)
 
-        -- a history that has ended is the same
-        pub ended_same : (k : ℕ) (e : Close) → (point_after strict asks then V k t).stage ≡ stage.Closed e
-            → point_after strict asks then V k t ≡ point_after strict asks then W k t
-        ended_same k e c =
-            ⊎_elim (λ x. x)
-            (λ s. let y : stage.Closed e ≡ stage.Waits s.0.0 s.0.1 = sym c ∙ s.0.2 in absurd (cc))
-            (monotone k)
+      -- a history that has ended is the same
+      pub ended_same : (k : ℕ) (e : Close) → (point_after rules V k t).stage ≡ stage.Closed e
+          → point_after rules V k t ≡ point_after rules W k t
+      ended_same k e c =
+          ⊎_elim (λ x. x)
+          (λ s. let y : stage.Closed e ≡ stage.Waits s.0.0 s.0.1 = sym c ∙ s.0.2 in absurd (cc))
+          (monotone k)
 
-        next_point : (k j : ℕ) → point_after strict asks then W j t ≡ point_after strict asks then V k t
-            → (i : ℕ) × (point_after strict asks then W i t ≡ under_V (point_after strict asks then V k t))
-        next_point k j e =
-            let p = point_after strict asks then V k t in
-            ⊎_elim (λ s. (suc j, ap under_W e ∙ sym s)) (λ w. (j, e ∙ sym (waiting_stays V p w)))
-            (same_or_waiting V W h p.stage p refl)
+      next_point : (k j : ℕ) → point_after rules W j t ≡ point_after rules V k t
+          → (i : ℕ) × (point_after rules W i t ≡ under_V (point_after rules V k t))
+      next_point k j e =
+          let p = point_after rules V k t in
+          ⊎_elim (λ s. (suc j, ap under_W e ∙ sym s)) (λ w. (j, e ∙ sym (waiting_stays V p w)))
+          (same_or_waiting V W h p.stage p refl)
 
-        -- a point under V is a point under W
-        pub still_point : (k : ℕ) → (j : ℕ) × (point_after strict asks then W j t ≡ point_after strict asks then V k t)
-        still_point zero = (zero, refl)
-        still_point (suc k) = let r = still_point k in next_point k r.0 r.1
+      -- a point under V is a point under W
+      pub still_point : (k : ℕ) → (j : ℕ) × (point_after rules W j t ≡ point_after rules V k t)
+      still_point zero = (zero, refl)
+      still_point (suc k) = let r = still_point k in next_point k r.0 r.1

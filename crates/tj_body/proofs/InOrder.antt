@@ -8,13 +8,12 @@ use Rattle.tj_base.specs.declared.cell.Sort.TheVariants as sort
 use Rattle.tj_base.specs.declared.cause.Cause.{Cause}
 use Rattle.tj_base.proofs.Orders.{before_tells}
 use Rattle.tj_body.specs.Names.{has, same, in_order}
-use Rattle.tj_body.specs.Asks.{Await, Obeys}
+use Rattle.tj_body.specs.Programs.{Rules, Program, AreLawful, root_task}
 use Rattle.tj_body.specs.History.{Assignment, with_entry, after_try_fork, after_set, after_get, after_join}
 use Rattle.tj_body.specs.History.{after_read, after_look, after_ask, after_stage, point_after, history}
 use Rattle.tj_body.specs.Rounds.{given, tasks, last_round, meaning, IsFull}
 use Rattle.tj_body.specs.Points.{IsIn, IsProper, HasStopped}
 use Rattle.tj_body.specs.NeverWaits.{NoneWaits, WaitInOrder}
-use Rattle.tj_body.specs.declared.ask.Answer.{Answer}
 use Rattle.tj_body.specs.declared.ask.Ask.{Ask}
 use Rattle.tj_body.specs.declared.ask.Ask.TheVariants as ask
 use Rattle.tj_body.specs.declared.point.Reference.{Reference}
@@ -102,16 +101,16 @@ module _ {B : Type 0} where
   looks spare c None p g = g
   looks spare c (Some x) p g = reads spare c x p
 
-  module _ (strict : Bool) (asks : B → Answer → Ask B) (then : B → Answer → B) (V : Assignment) where
-    goes : (st : PointStage) (p : Point B) → TellsOwn p → TellsOwn (after_stage strict asks then V st p)
-    goes (stage.Answered a) p g = takes strict (asks p.body a) _
+  module _ (rules : Rules B) (V : Assignment) where
+    goes : (st : PointStage) (p : Point B) → TellsOwn p → TellsOwn (after_stage rules V st p)
+    goes (stage.Answered a) p g = takes rules.strict (rules.asks p.body a) _
     goes (stage.Waits c spare) p g = looks spare c (V c) p g
     goes (stage.Closed x) p g = g
 
     -- each point of a task tells of its result
-    pub tells_own : (t : Task B) (k : ℕ) → TellsOwn (point_after strict asks then V k t)
+    pub tells_own : (t : Task B) (k : ℕ) → TellsOwn (point_after rules V k t)
     tells_own t zero = tt
-    tells_own t (suc k) = let p = point_after strict asks then V k t in goes p.stage p (tells_own t k)
+    tells_own t (suc k) = let p = point_after rules V k t in goes p.stage p (tells_own t k)
 
   -- how many of the tasks come after this one in the fork order
   abbrev after : List (Point B) → Name → ℕ
@@ -140,30 +139,29 @@ module _ {B : Type 0} where
         one : (z : Name) → one_if (before u.name z) + is u.name z ≤ one_if (before x z)
         one z = by z (before u.name z) (same u.name z) (before x z) refl refl refl
 
-module _ {B : Type 0} (strict : Bool) (asks : B → Answer → Ask B) (then : B → Answer → B) (left : B → ℕ)
-    (places : B → ℕ) (awaits : B → Await) (obeys : (b : B) (a : Answer) → Obeys places awaits left asks then b a)
-    (root : Task B) (alone : root.handed ≡ []) (proper : IsProper places awaits left root) (N : ℕ) where
+module _ {B : Type 0} (program : Program B) (obeys : AreLawful program.rules)
+    (proper : IsProper program.rules (root_task program.root)) (N : ℕ) where
   abbrev V : Assignment
-  V = given strict asks then left root (last_round N)
+  V = given program (last_round N)
 
   abbrev all : List (Task B)
-  all = tasks strict asks then left root (last_round N)
+  all = tasks program (last_round N)
 
   abbrev points : List (Point B)
-  points = meaning strict asks then left root N
+  points = meaning program N
 
   abbrev history_of : Task B → Point B
-  history_of t = history strict asks then left V t
+  history_of t = history program.rules V t
 
   -- each history of the meaning has stopped
   pub stops : (p : Point B) → IsIn p points → HasStopped V p
   stops p i =
       let r = in_map history_of p all i in
       subst (HasStopped V) (sym r.2)
-      (stopped strict asks then places awaits left obeys V r.0
-      (task_proper places awaits left strict asks then obeys root proper (last_round N) r.0 r.1))
+      (stopped program.rules obeys V r.0
+      (task_proper program obeys proper (last_round N) r.0 r.1))
 
-  module _ (fits : ¬ IsFull strict asks then left root N) where
+  module _ (fits : ¬ IsFull program N) where
     -- the cell that a task waits for has no entry
     no_entry : (p : Point B) (q : Name) (spare : Bool) → IsIn p points → p.stage ≡ stage.Waits q spare → V q ≡ None
     no_entry p q spare i e =
@@ -175,13 +173,13 @@ module _ {B : Type 0} (strict : Bool) (asks : B → Answer → Ask B) (then : B 
         → (r : Entry) × (V (history_of t).name ≡ Some r)
     has_entry t i e c =
         let n = last_round N in
-        let k = 2 * suc (left t.body) in
+        let k = 2 * suc (program.rules.left t.body) in
         let own = subst (λ z. TellsAt z (history_of t).name (history_of t).writes) c
-        (tells_own strict asks then V t k) in
-        let there = tasks_within strict asks then left root alone n (suc n) (omega arith) t i in
-        let w = written strict asks then left root alone places awaits obeys proper n t (history_of t) there (k, refl)
+        (tells_own program.rules V t k) in
+        let there = tasks_within program n (suc n) (omega arith) t i in
+        let w = written program obeys proper n t (history_of t) there (k, refl)
         (history_of t).name own.0 own.1 in
-        (own.0, ((is_last strict asks then left root alone N fits).0 (suc n)).1 (history_of t).name own.0 w)
+        (own.0, ((is_last program N fits).0 (suc n)).1 (history_of t).name own.0 w)
 
     -- a task whose result has no entry waits
     waits_too : (u : Point B) → IsIn u points → V u.name ≡ None

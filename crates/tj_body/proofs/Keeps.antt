@@ -1,12 +1,10 @@
 -- What points of histories have in the rounds, and how they go on from one round to another.
-use Rattle.std.proofs.Common.{◌≡◌, ℕ, zero, suc, ◌*◌, ◌≤◌, inl, inr, Bool, List, [], Some, refl, subst, arith}
+use Rattle.std.proofs.Common.{◌≡◌, ℕ, zero, suc, ◌*◌, ◌≤◌, inl, inr, Bool, List, Some, refl, subst, arith}
 use Rattle.tj_base.specs.ForkOrder.{Name}
-use Rattle.tj_body.specs.Asks.{Await, Obeys}
+use Rattle.tj_body.specs.Programs.{Rules, Program, AreLawful, root_task}
 use Rattle.tj_body.specs.History.{Assignment, after_read, history}
 use Rattle.tj_body.specs.Rounds.{family, writes_by, cells_by, given, tasks, cells}
 use Rattle.tj_body.specs.Points.{IsIn, IsWithin, IsProper, IsPointOf}
-use Rattle.tj_body.specs.declared.ask.Answer.{Answer}
-use Rattle.tj_body.specs.declared.ask.Ask.{Ask}
 use Rattle.tj_body.specs.declared.point.Entry.{Entry}
 use Rattle.tj_body.specs.declared.point.PointStage.TheVariants as stage
 use Rattle.tj_body.specs.declared.point.Task.{Task}
@@ -17,12 +15,12 @@ use Rattle.tj_body.proofs.Good.{task_proper}
 use Rattle.tj_body.proofs.Points.{reads_on, point_up, in_history}
 use Rattle.tj_body.proofs.Rises.{within, of_entries}
 
-module _ {B : Type 0} (strict : Bool) (asks : B → Answer → Ask B) (then : B → Answer → B) (left : B → ℕ) where
+module _ {B : Type 0} (rules : Rules B) where
   abbrev family_of : Assignment → ℕ → Task B → List (Task B)
-  family_of V d t = family strict asks then left V d t
+  family_of V d t = family rules V d t
 
   abbrev children : Assignment → Task B → List (Task B)
-  children V t = (history strict asks then left V t).children
+  children V t = (history rules V t).children
 
   -- a child of a task of a family is one of the next family
   pub child_in : (V W : Assignment) → IsWithin V W → (d : ℕ) (r t c : Task B) → IsIn t (family_of V d r)
@@ -34,62 +32,63 @@ module _ {B : Type 0} (strict : Bool) (asks : B → Answer → Ask B) (then : B 
       inr (in_flat_map (family_of W (suc d)) c c (children W r) (subst (λ z. IsIn c (children W z)) e i) (inl refl))
   child_in V W h (suc d) r t c (inr j) i =
       let x = from_flat_map (family_of V d) t (children V r) j in
-      let m = more strict asks then V W h r (2 * suc (left r.body)) in
+      let m = more rules V W h r (2 * suc (rules.left r.body)) in
       inr (in_flat_map (family_of W (suc d)) x.0 c (children W r) (in_begins x.0 (children V r) (children W r) m.0 x.1)
       (child_in V W h d x.0 t c x.2 i))
 
-  module _ (root : Task B) (alone : root.handed ≡ []) where
-    abbrev V : ℕ → Assignment
-    V n = given strict asks then left root n
+module _ {B : Type 0} (program : Program B) where
+  abbrev root : Task B
+  root = root_task program.root
 
-    abbrev tasks_of : ℕ → List (Task B)
-    tasks_of n = tasks strict asks then left root n
+  abbrev V : ℕ → Assignment
+  V n = given program n
 
-    abbrev cells_of : ℕ → List Name
-    cells_of n = cells strict asks then left root n
+  abbrev tasks_of : ℕ → List (Task B)
+  tasks_of n = tasks program n
 
-    -- a point under one round that reads an entry of another is a point under each round from both on
-    pub reads_later : (n m k : ℕ) (t : Task B) (p : Point B) (q : Name) (spare : Bool) (e : Entry) → n ≤ k → m ≤ k
-        → IsPointOf strict asks then (V n) t p → p.stage ≡ stage.Waits q spare → V m q ≡ Some e
-        → IsPointOf strict asks then (V k) t (after_read spare q e p)
-    reads_later n m k t p q spare e l j h g v =
-        reads_on strict asks then (V k) t p q spare e
-        (point_up strict asks then (V n) (V k) (within strict asks then left root alone n k l) t p h) g
-        (within strict asks then left root alone m k j q e v)
+  abbrev cells_of : ℕ → List Name
+  cells_of n = cells program n
 
-    -- a task of a round is a cell of it
-    pub task_cell : (n : ℕ) (t : Task B) → IsIn t (tasks_of (suc n)) → IsIn t.name (cells_of (suc n))
-    task_cell n t i = in_flat_map (cells_by strict asks then left (V n)) t t.name (tasks_of (suc n)) i (inl refl)
+  -- a point under one round that reads an entry of another is a point under each round from both on
+  pub reads_later : (n m k : ℕ) (t : Task B) (p : Point B) (q : Name) (spare : Bool) (e : Entry) → n ≤ k → m ≤ k
+      → IsPointOf program.rules (V n) t p → p.stage ≡ stage.Waits q spare → V m q ≡ Some e
+      → IsPointOf program.rules (V k) t (after_read spare q e p)
+  reads_later n m k t p q spare e l j h g v =
+      reads_on program.rules (V k) t p q spare e
+      (point_up program.rules (V n) (V k) (within program n k l) t p h) g
+      (within program m k j q e v)
 
-    module _ (places : B → ℕ) (awaits : B → Await)
-        (obeys : (b : B) (a : Answer) → Obeys places awaits left asks then b a)
-        (proper : IsProper places awaits left root) (n : ℕ) (t : Task B) (p : Point B)
-        (there : IsIn t (tasks_of (suc n))) (of_t : IsPointOf strict asks then (V n) t p) where
-      proper_t : IsProper places awaits left t
-      proper_t = task_proper places awaits left strict asks then obeys root proper (suc n) t there
+  -- a task of a round is a cell of it
+  pub task_cell : (n : ℕ) (t : Task B) → IsIn t (tasks_of (suc n)) → IsIn t.name (cells_of (suc n))
+  task_cell n t i = in_flat_map (cells_by program.rules (V n)) t t.name (tasks_of (suc n)) i (inl refl)
 
-      -- what it has written has this entry in the round of its task
-      pub written : (q : Name) (e : Entry) → IsIn (q, e) p.writes → V (suc n) q ≡ Some e
-      written q e w =
-          let g = in_history strict asks then places awaits left obeys (V n) t proper_t p of_t in
-          let H = history strict asks then left (V n) t in
-          of_entries strict asks then left root alone (suc n) q e
-          (in_flat_map (writes_by strict asks then left (V n)) t (q, e) (tasks_of (suc n)) there
-          (in_begins (q, e) p.writes H.writes g.1 w))
+  module _ (obeys : AreLawful program.rules) (proper : IsProper program.rules root) (n : ℕ) (t : Task B) (p : Point B)
+      (there : IsIn t (tasks_of (suc n))) (of_t : IsPointOf program.rules (V n) t p) where
+    proper_t : IsProper program.rules t
+    proper_t = task_proper program obeys proper (suc n) t there
 
-      -- a promise that it has made is a cell of that round
-      pub promised : (q : Name) → IsIn q p.promises → IsIn q (cells_of (suc n))
-      promised q w =
-          let g = in_history strict asks then places awaits left obeys (V n) t proper_t p of_t in
-          let H = history strict asks then left (V n) t in
-          in_flat_map (cells_by strict asks then left (V n)) t q (tasks_of (suc n)) there
-          (inr (in_begins q p.promises H.promises g.2 w))
+    -- what it has written has this entry in the round of its task
+    pub written : (q : Name) (e : Entry) → IsIn (q, e) p.writes → V (suc n) q ≡ Some e
+    written q e w =
+        let g = in_history program.rules obeys (V n) t proper_t p of_t in
+        let H = history program.rules (V n) t in
+        of_entries program (suc n) q e
+        (in_flat_map (writes_by program.rules (V n)) t (q, e) (tasks_of (suc n)) there
+        (in_begins (q, e) p.writes H.writes g.1 w))
 
-      -- a task that it has forked is one of the next round
-      pub forked : (c : Task B) → IsIn c p.children → IsIn c (tasks_of (suc (suc n)))
-      forked c i =
-          let u = within strict asks then left root alone n (suc n) (omega arith) in
-          let g = in_history strict asks then places awaits left obeys (V (suc n)) t proper_t p
-          (point_up strict asks then (V n) (V (suc n)) u t p of_t) in
-          child_in (V n) (V (suc n)) u (suc n) root t c there
-          (in_begins c p.children (children (V (suc n)) t) g.0 i)
+    -- a promise that it has made is a cell of that round
+    pub promised : (q : Name) → IsIn q p.promises → IsIn q (cells_of (suc n))
+    promised q w =
+        let g = in_history program.rules obeys (V n) t proper_t p of_t in
+        let H = history program.rules (V n) t in
+        in_flat_map (cells_by program.rules (V n)) t q (tasks_of (suc n)) there
+        (inr (in_begins q p.promises H.promises g.2 w))
+
+    -- a task that it has forked is one of the next round
+    pub forked : (c : Task B) → IsIn c p.children → IsIn c (tasks_of (suc (suc n)))
+    forked c i =
+        let u = within program n (suc n) (omega arith) in
+        let g = in_history program.rules obeys (V (suc n)) t proper_t p
+        (point_up program.rules (V n) (V (suc n)) u t p of_t) in
+        child_in program.rules (V n) (V (suc n)) u (suc n) root t c there
+        (in_begins c p.children (children program.rules (V (suc n)) t) g.0 i)

@@ -8,6 +8,7 @@ pub mod Prefixes
 pub mod Families
 pub mod Good
 pub mod Points
+pub mod Proper
 pub mod Rises
 pub mod Settles
 pub mod Keeps

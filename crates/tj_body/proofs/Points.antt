@@ -9,7 +9,8 @@ use Rattle.tj_base.specs.declared.cell.Sort.{Sort}
 use Rattle.tj_base.specs.declared.cell.Sort.TheVariants as sort
 use Rattle.tj_base.specs.declared.cause.Cause.{Cause}
 use Rattle.tj_body.specs.Names.{has}
-use Rattle.tj_body.specs.Asks.{Await, Ends, Obeys}
+use Rattle.tj_body.specs.Asks.{Ends}
+use Rattle.tj_body.specs.Programs.{Rules, AreLawful}
 use Rattle.tj_body.specs.History.{Assignment, after_try_fork, after_set, after_get, after_join, after_read}
 use Rattle.tj_body.specs.History.{after_look}
 use Rattle.tj_body.specs.History.{after_ask, after_stage, after_step, point_after, history}
@@ -29,51 +30,51 @@ use Rattle.tj_body.specs.declared.point.Point.{Point}
 use Rattle.tj_body.proofs.Grows.{GoesOn, goes_on_self, goes_on_trans, grows, still_point, waiting_stays}
 use Rattle.tj_body.proofs.Good.{not_last, good}
 
-module _ {B : Type 0} (strict : Bool) (asks : B → Answer → Ask B) (then : B → Answer → B) where
+module _ {B : Type 0} (rules : Rules B) where
   -- one ask more
-  pub asks_on : (V : Assignment) (t : Task B) (p : Point B) (a : Answer) → IsPointOf strict asks then V t p
+  pub asks_on : (V : Assignment) (t : Task B) (p : Point B) (a : Answer) → IsPointOf rules V t p
       → p.stage ≡ stage.Answered a
-      → IsPointOf strict asks then V t (after_ask strict (asks p.body a) (record p { body = then p.body a }))
+      → IsPointOf rules V t (after_ask rules.strict (rules.asks p.body a) (record p { body = rules.then p.body a }))
   asks_on V t p a h e =
-      (suc h.0, sym (ap (λ z. after_stage strict asks then V z p) e) ∙ ap (after_step strict asks then V) h.1)
+      (suc h.0, sym (ap (λ z. after_stage rules V z p) e) ∙ ap (after_step rules V) h.1)
 
   -- the answer of an entry of the same assignment
   pub reads_on : (V : Assignment) (t : Task B) (p : Point B) (q : Name) (spare : Bool) (e : Entry)
-      → IsPointOf strict asks then V t p → p.stage ≡ stage.Waits q spare → V q ≡ Some e
-      → IsPointOf strict asks then V t (after_read spare q e p)
+      → IsPointOf rules V t p → p.stage ≡ stage.Waits q spare → V q ≡ Some e
+      → IsPointOf rules V t (after_read spare q e p)
   reads_on V t p q spare e h g v = (
     suc h.0,
-    sym (ap (λ z. after_stage strict asks then V z p) g ∙ ap (λ o. after_look spare q o p) v)
-        ∙ ap (after_step strict asks then V) h.1,
+    sym (ap (λ z. after_stage rules V z p) g ∙ ap (λ o. after_look spare q o p) v)
+        ∙ ap (after_step rules V) h.1,
   )
 
   -- a point under an assignment is one under a larger one
-  pub point_up : (V W : Assignment) → IsWithin V W → (t : Task B) (p : Point B) → IsPointOf strict asks then V t p
-      → IsPointOf strict asks then W t p
-  point_up V W h t p x = let r = still_point strict asks then V W h t x.0 in (r.0, x.1 ∙ sym r.1)
+  pub point_up : (V W : Assignment) → IsWithin V W → (t : Task B) (p : Point B) → IsPointOf rules V t p
+      → IsPointOf rules W t p
+  point_up V W h t p x = let r = still_point rules V W h t x.0 in (r.0, x.1 ∙ sym r.1)
 
   -- a history is that of each assignment that has the same for each cell
-  pub same_history : (left : B → ℕ) (V W : Assignment) → ((q : Name) → V q ≡ W q) → (t : Task B)
-      → history strict asks then left V t ≡ history strict asks then left W t
-  same_history left V W same t =
-      let e : V ≡ W = (λ i q. same q i) in ap (λ U. history strict asks then left U t) e
+  pub same_history : (V W : Assignment) → ((q : Name) → V q ≡ W q) → (t : Task B)
+      → history rules V t ≡ history rules W t
+  same_history V W same t =
+      let e : V ≡ W = (λ i q. same q i) in ap (λ U. history rules U t) e
 
   -- what has stopped goes no further
-  pub stopped_stays : (V : Assignment) (p : Point B) → HasStopped V p → after_step strict asks then V p ≡ p
-  stopped_stays V p (inl c) = ap (λ z. after_stage strict asks then V z p) c.1
-  stopped_stays V p (inr w) = waiting_stays strict asks then V p w
+  pub stopped_stays : (V : Assignment) (p : Point B) → HasStopped V p → after_step rules V p ≡ p
+  stopped_stays V p (inl c) = ap (λ z. after_stage rules V z p) c.1
+  stopped_stays V p (inr w) = waiting_stays rules V p w
 
   module _ (V : Assignment) (t : Task B) where
     abbrev point_of : ℕ → Point B
-    point_of k = point_after strict asks then V k t
+    point_of k = point_after rules V k t
 
     -- a point that a step leaves as it is stays for good
-    pub stays : (k : ℕ) → after_step strict asks then V (point_of k) ≡ point_of k → (j : ℕ)
+    pub stays : (k : ℕ) → after_step rules V (point_of k) ≡ point_of k → (j : ℕ)
         → point_of (j + k) ≡ point_of k
     stays k s zero = ap point_of (let z : 0 + k ≡ k = omega arith in z)
     stays k s (suc j) =
         ap point_of (let z : suc j + k ≡ suc (j + k) = omega arith in z)
-        ∙ (ap (after_step strict asks then V) (stays k s j) ∙ s)
+        ∙ (ap (after_step rules V) (stays k s j) ∙ s)
 
     later : (k j : ℕ) → GoesOn (point_of k) (point_of (j + k))
     later k zero =
@@ -82,44 +83,43 @@ module _ {B : Type 0} (strict : Bool) (asks : B → Answer → Ask B) (then : B 
     later k (suc j) =
         subst (λ m. GoesOn (point_of k) (point_of m)) (let z : suc (j + k) ≡ suc j + k = omega arith in z)
         (goes_on_trans (point_of k) (point_of (j + k)) (point_of (suc (j + k))) (later k j)
-        (grows strict asks then V (point_of (j + k))))
+        (grows rules V (point_of (j + k))))
 
     -- a later point goes on from an earlier one
     pub later_point : (k m : ℕ) → k ≤ m → GoesOn (point_of k) (point_of m)
     later_point k m l =
         subst (λ z. GoesOn (point_of k) (point_of z)) (let z : (m - k) + k ≡ m = omega arith in z) (later k (m - k))
 
-  module _ (places : B → ℕ) (awaits : B → Await) (left : B → ℕ)
-      (obeys : (b : B) (a : Answer) → Obeys places awaits left asks then b a) where
+  module _ (obeys : AreLawful rules) where
     abbrev Falls : Point B → ℕ → Type 0
-    Falls p n = weight left p < n
+    Falls p n = weight rules.left p < n
 
     either : (b : Bool) (p q : Point B) (n : ℕ) → Falls p n → Falls q n → Falls (cond b p q) n
     either true p q n f g = f
     either false p q n f g = g
 
-    gets : (spare : Bool) (s : Sort) (c : Name) (p : Point B) (n : ℕ) → 2 * left p.body + 3 < n
+    gets : (spare : Bool) (s : Sort) (c : Name) (p : Point B) (n : ℕ) → 2 * rules.left p.body + 3 < n
         → Falls (after_get spare s c p) n
     gets spare sort.Task c p n l = omega arith
     gets spare sort.Promise c p n l = l
 
-    joins : (spare : Bool) (s : Sort) (c : Name) (p : Point B) (n : ℕ) → 2 * left p.body + 3 < n
-        → Falls (after_join strict spare s c p) n
-    joins spare sort.Task c p n l = either (strict && not (before p.name c)) _ _ n (omega arith) l
+    joins : (spare : Bool) (s : Sort) (c : Name) (p : Point B) (n : ℕ) → 2 * rules.left p.body + 3 < n
+        → Falls (after_join rules.strict spare s c p) n
+    joins spare sort.Task c p n l = either (rules.strict && not (before p.name c)) _ _ n (omega arith) l
     joins spare sort.Promise c p n l = omega arith
 
-    sets : (s : Sort) (c : Name) (v : Value) (p : Point B) (n : ℕ) → 2 * left p.body + 3 < n
+    sets : (s : Sort) (c : Name) (v : Value) (p : Point B) (n : ℕ) → 2 * rules.left p.body + 3 < n
         → Falls (after_set s c v p) n
     sets sort.Task c v p n l = omega arith
     sets sort.Promise c v p n l = either (has c p.holds) _ _ n (omega arith) (omega arith)
 
     forks : (b : B) (passed : List Reference) (handed : List Name) (o : Result (List Name) Cause) (p : Point B) (n : ℕ)
-        → 2 * left p.body + 3 < n → Falls (after_try_fork b passed handed o p) n
+        → 2 * rules.left p.body + 3 < n → Falls (after_try_fork b passed handed o p) n
     forks b passed handed (Ok l) p n h = omega arith
     forks b passed handed (Err c) p n h = omega arith
 
-    takes : (a : Ask B) (p : Point B) (n : ℕ) → 0 < n → (Ends a ⊎ (2 * left p.body + 3 < n))
-        → Falls (after_ask strict a p) n
+    takes : (a : Ask B) (p : Point B) (n : ℕ) → 0 < n → (Ends a ⊎ (2 * rules.left p.body + 3 < n))
+        → Falls (after_ask rules.strict a p) n
     takes ask.New p n z h = let l = not_last h in omega arith
     takes (ask.Fork b pass hand) p n z h = forks b _ _ _ p n (not_last h)
     takes (ask.Set k v) p n z h = sets _ _ _ p n (not_last h)
@@ -131,48 +131,48 @@ module _ {B : Type 0} (strict : Bool) (asks : B → Answer → Ask B) (then : B 
     takes (ask.End v) p n z h = z
     takes (ask.Fail t) p n z h = z
 
-    reads : (spare : Bool) (c : Name) (e : Entry) (p : Point B) → Falls (after_read spare c e p) (2 * left p.body + 3)
+    reads : (spare : Bool) (c : Name) (e : Entry) (p : Point B) → Falls (after_read spare c e p) (2 * rules.left p.body + 3)
     reads true c entry.Broken p = omega arith
     reads false c entry.Broken p = omega arith
     reads spare c (entry.Value (value.Num i)) p = omega arith
     reads spare c (entry.Value (value.Ref r)) p = omega arith
 
     stops_or_falls : (V : Assignment) (st : PointStage) (p : Point B) → p.stage ≡ st
-        → IsGoodAt places awaits left st p
-        → HasStopped V p ⊎ Falls (after_stage strict asks then V st p) (weight_at left p.body st)
+        → IsGoodAt rules st p
+        → HasStopped V p ⊎ Falls (after_stage rules V st p) (weight_at rules.left p.body st)
     stops_or_falls V (stage.Answered a) p e g =
         let f = (obeys p.body a g.fits).falls in
-        inr (takes (asks p.body a) (record p { body = then p.body a }) (2 * left p.body + 2) (omega arith)
+        inr (takes (rules.asks p.body a) (record p { body = rules.then p.body a }) (2 * rules.left p.body + 2) (omega arith)
         (⊎_elim (λ x. inl x) (λ l. inr (omega arith)) f))
     stops_or_falls V (stage.Waits q spare) p e g = by_entry (V q) refl where
       by_entry : (o : Option Entry) → V q ≡ o
-          → HasStopped V p ⊎ Falls (after_look spare q (V q) p) (2 * left p.body + 3)
+          → HasStopped V p ⊎ Falls (after_look spare q (V q) p) (2 * rules.left p.body + 3)
       by_entry None v = inl (inr (q, spare, e, v))
       by_entry (Some x) v =
-          inr (subst (λ o. Falls (after_look spare q o p) (2 * left p.body + 3)) (sym v) (reads spare q x p))
+          inr (subst (λ o. Falls (after_look spare q o p) (2 * rules.left p.body + 3)) (sym v) (reads spare q x p))
     stops_or_falls V (stage.Closed x) p e g = inl (inl (x, e))
 
-    module _ (V : Assignment) (t : Task B) (proper : IsProper places awaits left t) where
+    module _ (V : Assignment) (t : Task B) (proper : IsProper rules t) where
       abbrev point_at : ℕ → Point B
-      point_at k = point_after strict asks then V k t
+      point_at k = point_after rules V k t
 
       abbrev history_of_t : Point B
-      history_of_t = history strict asks then left V t
+      history_of_t = history rules V t
 
       still_stopped : (k : ℕ) → HasStopped V (point_at k) → HasStopped V (point_at (suc k))
       still_stopped k s = subst (HasStopped V) (sym (stopped_stays V (point_at k) s)) s
 
-      runs_down : (k : ℕ) → HasStopped V (point_at k) ⊎ (weight left (point_at k) + k ≤ 2 * suc (left t.body))
+      runs_down : (k : ℕ) → HasStopped V (point_at k) ⊎ (weight rules.left (point_at k) + k ≤ 2 * suc (rules.left t.body))
       runs_down zero = inr (omega arith)
       runs_down (suc k) =
           let p = point_at k in
-          let g = good places awaits left strict asks then obeys V t proper k in
+          let g = good rules obeys V t proper k in
           ⊎_elim (λ s. inl (still_stopped k s))
           (λ l. ⊎_elim (λ s. inl (still_stopped k s)) (λ w. inr (omega arith))
           (stops_or_falls V p.stage p refl g.at_stage))
           (runs_down k)
 
-      light : (p : Point B) (st : PointStage) → p.stage ≡ st → weight_at left p.body st ≤ 0 → HasStopped V p
+      light : (p : Point B) (st : PointStage) → p.stage ≡ st → weight_at rules.left p.body st ≤ 0 → HasStopped V p
       light p (stage.Closed x) e h = inl (x, e)
       light p (stage.Answered a) e h = absurd (omega arith)
       light p (stage.Waits q spare) e h = absurd (omega arith)
@@ -181,31 +181,31 @@ module _ {B : Type 0} (strict : Bool) (asks : B → Answer → Ask B) (then : B 
       pub stopped : HasStopped V history_of_t
       stopped =
           ⊎_elim (λ s. s) (λ l. light history_of_t history_of_t.stage refl (omega arith))
-          (runs_down (2 * suc (left t.body)))
+          (runs_down (2 * suc (rules.left t.body)))
 
-      from_stop : (k : ℕ) → 2 * suc (left t.body) ≤ k → point_at k ≡ history_of_t
+      from_stop : (k : ℕ) → 2 * suc (rules.left t.body) ≤ k → point_at k ≡ history_of_t
       from_stop k l =
-          let n = 2 * suc (left t.body) in
+          let n = 2 * suc (rules.left t.body) in
           ap point_at (let z : k ≡ (k - n) + n = omega arith in z)
           ∙ stays V t n (stopped_stays V history_of_t stopped) (k - n)
 
       -- a point that doesn't go on is the history
-      pub halt : (k : ℕ) → after_step strict asks then V (point_at k) ≡ point_at k → point_at k ≡ history_of_t
+      pub halt : (k : ℕ) → after_step rules V (point_at k) ≡ point_at k → point_at k ≡ history_of_t
       halt k s =
-          let n = 2 * suc (left t.body) in
+          let n = 2 * suc (rules.left t.body) in
           dite (dec_le k n)
           (λ l. sym (ap point_at (let z : n ≡ (n - k) + k = omega arith in z) ∙ stays V t k s (n - k)))
           (λ l. from_stop k (omega arith))
 
       -- and so is a point that has stopped
-      pub whole : (p : Point B) → IsPointOf strict asks then V t p → HasStopped V p → p ≡ history_of_t
+      pub whole : (p : Point B) → IsPointOf rules V t p → HasStopped V p → p ≡ history_of_t
       whole p h s =
-          h.1 ∙ halt h.0 (subst (λ z. after_step strict asks then V z ≡ z) h.1 (stopped_stays V p s))
+          h.1 ∙ halt h.0 (subst (λ z. after_step rules V z ≡ z) h.1 (stopped_stays V p s))
 
       -- a point is a beginning of its history
-      pub in_history : (p : Point B) → IsPointOf strict asks then V t p → GoesOn p history_of_t
+      pub in_history : (p : Point B) → IsPointOf rules V t p → GoesOn p history_of_t
       in_history p h =
-          let n = 2 * suc (left t.body) in
+          let n = 2 * suc (rules.left t.body) in
           subst (λ z. GoesOn z history_of_t) (sym h.1)
           (dite (dec_le h.0 n) (λ l. later_point V t h.0 n l)
           (λ l. subst (GoesOn (point_at h.0)) (from_stop h.0 (omega arith)) (goes_on_self (point_at h.0))))

@@ -1,18 +1,16 @@
 -- What a point has made so far, counted against the cells of the rounds.
 use Rattle.std.proofs.Common.{◌≡◌, ℕ, zero, suc, ◌+◌, ◌≤◌, inl, inr, ⊎_elim, List, [], ◌∷◌, ◌++◌, length}
-use Rattle.std.proofs.Common.{Bool, refl, sym, ap, ◌∙◌, subst, arith, length-append}
+use Rattle.std.proofs.Common.{refl, sym, ap, ◌∙◌, subst, arith, length-append}
 use native.Mathlib.Decide.{dec_le}
 use mathlib.Core.Logic.{dite}
 use Rattle.std.specs.List.{flat_map}
 use Rattle.std.proofs.lemmas.Grind.{flat_map-append}
 use Rattle.tj_base.specs.ForkOrder.{Name}
-use Rattle.tj_body.specs.Asks.{Await, Obeys}
+use Rattle.tj_body.specs.Programs.{Program, AreLawful, root_task}
 use Rattle.tj_body.specs.History.{Assignment, history}
 use Rattle.tj_body.specs.Rounds.{cells_by, given, tasks, cells}
 use Rattle.tj_body.specs.Points.{IsIn, IsProper, IsPointOf}
 use Rattle.tj_body.specs.Laws.{CountsInRound, CountsMade}
-use Rattle.tj_body.specs.declared.ask.Answer.{Answer}
-use Rattle.tj_body.specs.declared.ask.Ask.{Ask}
 use Rattle.tj_body.specs.declared.point.Task.{Task}
 use Rattle.tj_body.specs.declared.point.Point.{Point}
 use Rattle.tj_body.proofs.Lists.{sub_begins, sub_length, in_right}
@@ -42,28 +40,27 @@ name_of_is : (q x : Name) → 1 ≤ is q x → q ≡ x
 name_of_is q x h =
     ⊎_elim (λ e. e) (λ i. absurd i) (in_of_times q (x ∷ []) (omega arith))
 
-module _ {B : Type 0} (strict : Bool) (asks : B → Answer → Ask B) (then : B → Answer → B) (left : B → ℕ)
-    (places : B → ℕ) (awaits : B → Await) (obeys : (b : B) (a : Answer) → Obeys places awaits left asks then b a)
-    (root : Task B) (alone : root.handed ≡ []) (proper : IsProper places awaits left root) where
+module _ {B : Type 0} (program : Program B) (obeys : AreLawful program.rules)
+    (proper : IsProper program.rules (root_task program.root)) where
   abbrev V : ℕ → Assignment
-  V n = given strict asks then left root n
+  V n = given program n
 
   abbrev tasks_of : ℕ → List (Task B)
-  tasks_of n = tasks strict asks then left root n
+  tasks_of n = tasks program n
 
   abbrev cells_of : ℕ → List Name
-  cells_of n = cells strict asks then left root n
+  cells_of n = cells program n
 
   abbrev made : ℕ → Task B → List Name
-  made n t = cells_by strict asks then left (V n) t
+  made n t = cells_by program.rules (V n) t
 
   -- the law of the cells of a round, so far
-  pub counts_in_round : CountsInRound asks then left strict root
+  pub counts_in_round : CountsInRound program
   counts_in_round n earlier later t p e h =
       let i : IsIn t (tasks_of (suc n)) = subst (IsIn t) (sym e) (in_right t earlier (t ∷ later) (inl refl)) in
-      let proper_t = task_proper places awaits left strict asks then obeys root proper (suc n) t i in
-      let g = in_history strict asks then places awaits left obeys (V n) t proper_t p h in
-      let H = history strict asks then left (V n) t in
+      let proper_t = task_proper program obeys proper (suc n) t i in
+      let g = in_history program.rules obeys (V n) t proper_t p h in
+      let H = history program.rules (V n) t in
       let a = sub_length p.promises H.promises (sub_begins p.promises H.promises g.2) in
       let c : length (cells_of (suc n)) ≡ length (flat_map (made n) earlier ++ flat_map (made n) (t ∷ later)) =
       ap (λ l. length (flat_map (made n) l)) e ∙ ap length (flat_map-append (made n) earlier (t ∷ later)) in
@@ -72,9 +69,9 @@ module _ {B : Type 0} (strict : Bool) (asks : B → Answer → Ask B) (then : B 
       omega arith
 
   module _ (n : ℕ) (t : Task B) (p : Point B) (i : IsIn t (tasks_of (suc n)))
-      (h : IsPointOf strict asks then (V n) t p) where
+      (h : IsPointOf program.rules (V n) t p) where
     name_of : p.name ≡ t.name
-    name_of = ap (λ (z : Point B). z.name) h.1 ∙ (from_start strict asks then (V n) h.0 t).5
+    name_of = ap (λ (z : Point B). z.name) h.1 ∙ (from_start program.rules (V n) h.0 t).5
 
     abbrev things : List Name
     things = t.name ∷ numbered t.name p.made
@@ -92,25 +89,25 @@ module _ {B : Type 0} (strict : Bool) (asks : B → Answer → Ask B) (then : B 
         → total (λ (c : Task B). is q c.name) p.children + times q p.promises ≡ times q (numbered t.name p.made)
     as_made q =
         subst (λ (z : Point B). total (λ (c : Task B). is q c.name) z.children + times q z.promises
-        ≡ times q (numbered z.name z.made)) (sym h.1) (fair q (is q) strict asks then (V n) h.0 t).1
+        ≡ times q (numbered z.name z.made)) (sym h.1) (fair q (is q) program.rules (V n) h.0 t).1
         ∙ ap (λ x. times q (numbered x p.made)) name_of
 
     there : (q : Name) → IsIn q things → IsIn q (cells_of (suc (suc n)))
     there q (inl e) =
         subst (λ z. IsIn z (cells_of (suc (suc n)))) (sym e)
-        (cells_within strict asks then left root alone (suc n) (suc (suc n)) (omega arith) t.name
-        (task_cell strict asks then left root alone n t i))
+        (cells_within program (suc n) (suc (suc n)) (omega arith) t.name
+        (task_cell program n t i))
     there q (inr j) =
         let a = times_of_in q (numbered t.name p.made) j in
         let m = as_made q in
         dite (dec_le 1 (times q p.promises))
-        (λ l. cells_within strict asks then left root alone (suc n) (suc (suc n)) (omega arith) q
-        (promised strict asks then left root alone places awaits obeys proper n t p i h q
+        (λ l. cells_within program (suc n) (suc (suc n)) (omega arith) q
+        (promised program obeys proper n t p i h q
         (in_of_times q p.promises l)))
         (λ l. let c = counted q p.children (omega arith) in
         subst (λ z. IsIn z (cells_of (suc (suc n)))) (sym (name_of_is q c.0.name c.2))
-        (task_cell strict asks then left root alone (suc n) c.0
-        (forked strict asks then left root alone places awaits obeys proper n t p i h c.0 c.1)))
+        (task_cell program (suc n) c.0
+        (forked program obeys proper n t p i h c.0 c.1)))
 
     made_fits : suc p.made ≤ length (cells_of (suc (suc n)))
     made_fits =
@@ -120,5 +117,5 @@ module _ {B : Type 0} (strict : Bool) (asks : B → Answer → Ask B) (then : B 
         omega arith
 
   -- the law of what a point has made
-  pub counts_made : CountsMade asks then left strict root
+  pub counts_made : CountsMade program
   counts_made n t p i h = made_fits n t p i h

@@ -13,7 +13,7 @@ use Rattle.tj_base.specs.declared.cause.Cause.{Cause}
 use Rattle.tj_base.specs.declared.cause.Cause.TheVariants as cause
 use Rattle.tj_base.proofs.Orders.{before_tells}
 use Rattle.tj_body.specs.Names.{has, in_order}
-use Rattle.tj_body.specs.Asks.{Await, Obeys}
+use Rattle.tj_body.specs.Programs.{Program, AreLawful, strictly, root_task}
 use Rattle.tj_body.specs.History.{Assignment, to_task, to_promise, with_entry, reference_at, reference, value_at}
 use Rattle.tj_body.specs.History.{cause_of, after_close, after_failure, after_try_fork, next_child, next_name}
 use Rattle.tj_body.specs.History.{after_set, after_write}
@@ -22,7 +22,6 @@ use Rattle.tj_body.specs.History.{point_after, history}
 use Rattle.tj_body.specs.Rounds.{family, writes_by, given, tasks, last_round, meaning, IsFull}
 use Rattle.tj_body.specs.Points.{IsIn, IsProper, MayAnswer, IsGoodAt, IsGood}
 use Rattle.tj_body.specs.NeverWaits.{NoneWaits, WaitInOrder, IsNoGet, IsWithoutGet}
-use Rattle.tj_body.specs.declared.ask.Answer.{Answer}
 use Rattle.tj_body.specs.declared.ask.Ask.{Ask}
 use Rattle.tj_body.specs.declared.ask.Ask.TheVariants as ask
 use Rattle.tj_body.specs.declared.point.Reference.{Reference}
@@ -214,16 +213,20 @@ module _ {B : Type 0} (calm : B → Bool) (TaskName : Name → Type 0) where
   looks spare c None p g n = g
   looks spare c (Some x) p g n = reads spare c x p g.0 (n x refl)
 
-module _ {B : Type 0} (asks : B → Answer → Ask B) (then : B → Answer → B) (left : B → ℕ) (places : B → ℕ)
-    (awaits : B → Await) (obeys : (b : B) (a : Answer) → Obeys places awaits left asks then b a)
-    (root : Task B) (alone : root.handed ≡ []) (passed : root.passed ≡ []) (proper : IsProper places awaits left root)
-    (calm : B → Bool) (no_get : IsWithoutGet places awaits asks then calm)
-    (calm_root : calm root.body ≡ true) where
+module _ {B : Type 0} (lenient : Program B) (obeys : AreLawful lenient.rules)
+    (proper : IsProper (strictly lenient).rules (root_task lenient.root)) (calm : B → Bool)
+    (no_get : IsWithoutGet lenient.rules calm) (calm_root : calm lenient.root ≡ true) where
+  abbrev program : Program B
+  program = strictly lenient
+
+  abbrev root : Task B
+  root = root_task program.root
+
   abbrev V : ℕ → Assignment
-  V n = given true asks then left root n
+  V n = given program n
 
   abbrev tasks_of : ℕ → List (Task B)
-  tasks_of n = tasks true asks then left root n
+  tasks_of n = tasks program n
 
   -- a task of some round has this name
   abbrev TaskName : Name → Type 0
@@ -240,20 +243,20 @@ module _ {B : Type 0} (asks : B → Answer → Ask B) (then : B → Answer → B
   IsNamedGiven n = (q : Name) (e : Entry) → V n q ≡ Some e → IsNamedEntry TaskName e
 
   goes : (W : Assignment) → ((q : Name) (e : Entry) → W q ≡ Some e → IsNamedEntry TaskName e)
-      → (st : PointStage) (p : Point B) → p.stage ≡ st → IsGood places awaits left p → Calm p
-      → ((c : Task B) → IsIn c (after_stage true asks then W st p).children → TaskName c.name)
-      → Calm (after_stage true asks then W st p)
+      → (st : PointStage) (p : Point B) → p.stage ≡ st → IsGood program.rules p → Calm p
+      → ((c : Task B) → IsIn c (after_stage program.rules W st p).children → TaskName c.name)
+      → Calm (after_stage program.rules W st p)
   goes W h (stage.Answered a) p e g k f =
-      let m : MayAnswer places awaits left a p = subst (λ z. IsGoodAt places awaits left z p) e g.at_stage in
+      let m : MayAnswer program.rules a p = subst (λ z. IsGoodAt program.rules z p) e g.at_stage in
       let n = no_get p.body a k.0.0 m.fits in
-      takes calm TaskName (asks p.body a) (record p { body = then p.body a }) n.0
+      takes calm TaskName (program.rules.asks p.body a) (record p { body = program.rules.then p.body a }) n.0
       (n.1, k.0.1, k.0.2, k.0.3, k.0.4) f
   goes W h (stage.Waits q spare) p e g k f = looks calm TaskName spare q (W q) p k (h q)
   goes W h (stage.Closed x) p e g k f = k
 
   -- each point of a task of a round is so
   points : (n : ℕ) → IsNamedGiven n → (t : Task B) → IsIn t (tasks_of (suc n)) → CalmTask t → (k : ℕ)
-      → Calm (point_after true asks then (V n) k t)
+      → Calm (point_after program.rules (V n) k t)
   points n h t i c zero = ((c.0, own, one, (λ x j. absurd j), (λ q e j. absurd j)), tt) where
     own : TaskName t.name
     own = (suc n, t, i, refl)
@@ -262,67 +265,67 @@ module _ {B : Type 0} (asks : B → Answer → Ask B) (then : B → Answer → B
     one r (inl e) = subst (λ (z : Reference). IsNamed TaskName z.sort z.name) (sym e) own
     one r (inr j) = c.1 r j
   points n h t i c (suc k) =
-      let p = point_after true asks then (V n) k t in
-      let t_proper = task_proper places awaits left true asks then obeys root proper (suc n) t i in
-      goes (V n) h p.stage p refl (good places awaits left true asks then obeys (V n) t t_proper k)
+      let p = point_after program.rules (V n) k t in
+      let t_proper = task_proper program obeys proper (suc n) t i in
+      goes (V n) h p.stage p refl (good program.rules obeys (V n) t t_proper k)
       (points n h t i c k)
       (λ x j. (
         suc (suc n),
         x,
-        forked true asks then left root alone places awaits obeys proper n t
-            (point_after true asks then (V n) (suc k) t) i (suc k, refl) x j,
+        forked program obeys proper n t
+            (point_after program.rules (V n) (suc k) t) i (suc k, refl) x j,
         refl,
       ))
 
   in_family : (n : ℕ) → IsNamedGiven n → (d : ℕ) (t : Task B)
-      → ((c : Task B) → IsIn c (family true asks then left (V n) d t) → IsIn c (tasks_of (suc n))) → CalmTask t
-      → (c : Task B) → IsIn c (family true asks then left (V n) d t) → CalmTask c
+      → ((c : Task B) → IsIn c (family program.rules (V n) d t) → IsIn c (tasks_of (suc n))) → CalmTask t
+      → (c : Task B) → IsIn c (family program.rules (V n) d t) → CalmTask c
   in_family n h zero t s k c (inl e) = subst CalmTask (sym e) k
   in_family n h zero t s k c (inr i) = absurd i
   in_family n h (suc d) t s k c (inl e) = subst CalmTask (sym e) k
   in_family n h (suc d) t s k c (inr i) =
-      let children = (history true asks then left (V n) t).children in
-      let f = from_flat_map (family true asks then left (V n) d) c children i in
-      let p = points n h t (s t (inl refl)) k (2 * suc (left t.body)) in
+      let children = (history program.rules (V n) t).children in
+      let f = from_flat_map (family program.rules (V n) d) c children i in
+      let p = points n h t (s t (inl refl)) k (2 * suc (program.rules.left t.body)) in
       in_family n h d f.0
-      (λ x j. s x (inr (in_flat_map (family true asks then left (V n) d) f.0 x children f.1 j)))
+      (λ x j. s x (inr (in_flat_map (family program.rules (V n) d) f.0 x children f.1 j)))
       (p.0.3 f.0 f.1) c f.2
 
   -- each task of a round is so
   calm_tasks : (n : ℕ) → IsNamedGiven n → (t : Task B) → IsIn t (tasks_of (suc n)) → CalmTask t
   calm_tasks n h t i =
       in_family n h (suc n) root (λ c j. j)
-      (calm_root, subst (AllNamed TaskName) (sym passed) (λ r j. absurd j)) t i
+      (calm_root, λ r j. absurd j) t i
 
   named_given : (n : ℕ) → IsNamedGiven n
   named_given zero q e h = absurd (cc)
   named_given (suc n) q e h =
-      let i = in_entries true asks then left root alone (suc n) q e h in
-      let f = from_flat_map (writes_by true asks then left (V n)) (q, e) (tasks_of (suc n)) i in
+      let i = in_entries program (suc n) q e h in
+      let f = from_flat_map (writes_by program.rules (V n)) (q, e) (tasks_of (suc n)) i in
       let g = named_given n in
-      (points n g f.0 f.1 (calm_tasks n g f.0 f.1) (2 * suc (left f.0.body))).0.4 q e f.2
+      (points n g f.0 f.1 (calm_tasks n g f.0 f.1) (2 * suc (program.rules.left f.0.body))).0.4 q e f.2
 
-  module _ (N : ℕ) (fits : ¬ IsFull true asks then left root N) where
+  module _ (N : ℕ) (fits : ¬ IsFull program N) where
     abbrev last : ℕ
     last = last_round N
 
     abbrev history_of : Task B → Point B
-    history_of t = history true asks then left (V last) t
+    history_of t = history program.rules (V last) t
 
     -- in the meaning a task waits only for the result of a task that it is before
-    in_order_waits : WaitInOrder (meaning true asks then left root N)
+    in_order_waits : WaitInOrder (meaning program N)
     in_order_waits p q spare i e = by (in_map history_of p (tasks_of last) i) where
       by : ((t : Task B) × IsIn t (tasks_of last) × (p ≡ history_of t))
-          → (u : Point B) × IsIn u (meaning true asks then left root N) × (u.name ≡ q) × IsBefore p.name u.name
+          → (u : Point B) × IsIn u (meaning program N) × (u.name ≡ q) × IsBefore p.name u.name
       by r =
           let g = named_given last in
-          let there = tasks_within true asks then left root alone last (suc last) (omega arith) r.0 r.1 in
-          let k = points last g r.0 there (calm_tasks last g r.0 there) (2 * suc (left r.0.body)) in
+          let there = tasks_within program last (suc last) (omega arith) r.0 r.1 in
+          let k = points last g r.0 there (calm_tasks last g r.0 there) (2 * suc (program.rules.left r.0.body)) in
           let w : WaitsAt TaskName (stage.Waits q spare) p.name =
           subst (λ z. WaitsAt TaskName z p.name) e (subst Calm (sym r.2) k).1 in
           let u = w.0.1 in
-          let j = ((is_last true asks then left root alone N fits).0 w.0.0).0 u w.0.2 in
-          let name : (history_of u).name ≡ q = same_name true asks then left (V last) u ∙ w.0.3 in (
+          let j = ((is_last program N fits).0 w.0.0).0 u w.0.2 in
+          let name : (history_of u).name ≡ q = same_name program.rules (V last) u ∙ w.0.3 in (
             history_of u,
             to_map history_of u (tasks_of last) j,
             name,
@@ -330,6 +333,6 @@ module _ {B : Type 0} (asks : B → Answer → Ask B) (then : B → Answer → B
           )
 
     -- and so none waits
-    pub never_waits : NoneWaits (meaning true asks then left root N)
+    pub never_waits : NoneWaits (meaning program N)
     never_waits =
-        none_waits true asks then left places awaits obeys root alone proper N fits in_order_waits
+        none_waits program obeys proper N fits in_order_waits

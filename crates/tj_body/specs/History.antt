@@ -11,6 +11,7 @@ use Rattle.tj_base.specs.declared.cause.Trouble.TheVariants as trouble
 use Rattle.tj_base.specs.declared.cause.Cause.{Cause}
 use Rattle.tj_base.specs.declared.cause.Cause.TheVariants as cause
 use Rattle.tj_body.specs.Names.{has, without, in_order}
+use Rattle.tj_body.specs.Programs.{Rules}
 use Rattle.tj_body.specs.declared.ask.Answer.{Answer}
 use Rattle.tj_body.specs.declared.ask.Answer.TheVariants as answer
 use Rattle.tj_body.specs.declared.ask.Ask.{Ask}
@@ -217,22 +218,23 @@ module _ {B : Type 0} where
     after_ask (ask.End v) p = after_end (value_at p.name p.references v) p
     after_ask (ask.Fail t) p = after_failure (cause_of t) p
 
-    module _ (asks : B → Answer → Ask B) (then : B → Answer → B) where
-      -- one step from this stage: the next ask, or the answer of a wait; what has ended stays
-      abbrev pub after_stage : Assignment → PointStage → Point B → Point B
-      after_stage V (stage.Answered a) p = after_ask (asks p.body a) (record p { body = then p.body a })
-      after_stage V (stage.Waits q spare) p = after_look spare q (V q) p
-      after_stage V (stage.Closed e) p = p
+  module _ (rules : Rules B) where
+    -- one step from this stage: the next ask, or the answer of a wait; what has ended stays
+    abbrev pub after_stage : Assignment → PointStage → Point B → Point B
+    after_stage V (stage.Answered a) p =
+        after_ask rules.strict (rules.asks p.body a) (record p { body = rules.then p.body a })
+    after_stage V (stage.Waits q spare) p = after_look spare q (V q) p
+    after_stage V (stage.Closed e) p = p
 
-      -- one ask more, or one answer more; a task that waits for a cell without an entry stays, and so does an ended one
-      abbrev pub after_step : Assignment → Point B → Point B
-      after_step V p = after_stage V p.stage p
+    -- one ask more, or one answer more; a task that waits for a cell without an entry stays, and so does an ended one
+    abbrev pub after_step : Assignment → Point B → Point B
+    after_step V p = after_stage V p.stage p
 
-      -- the point after k steps
-      abbrev pub point_after : Assignment → ℕ → Task B → Point B
-      point_after V zero t = start t
-      point_after V (suc k) t = after_step V (point_after V k t)
+    -- the point after k steps
+    abbrev pub point_after : Assignment → ℕ → Task B → Point B
+    point_after V zero t = start t
+    point_after V (suc k) t = after_step V (point_after V k t)
 
-      -- the point at which the task stops: an ask and its answer are two steps, and there are at most left and one asks
-      abbrev pub history : (B → ℕ) → Assignment → Task B → Point B
-      history left V t = point_after V (2 * suc (left t.body)) t
+    -- the point at which the task stops: an ask and its answer are two steps, and there are at most left and one asks
+    abbrev pub history : Assignment → Task B → Point B
+    history V t = point_after V (2 * suc (rules.left t.body)) t

@@ -3,7 +3,9 @@ pub mod Asks
 pub mod History
 pub mod Rounds
 pub mod Points
+pub mod Programs
 pub mod Laws
+pub mod RoundPoints
 pub mod Table
 pub mod TableLaws
 pub mod NeverWaits

@@ -1,14 +1,14 @@
 -- Meanings in which no task waits: where tasks wait in the fork order, and under the strict rule without gets.
 use Rattle.std.specs.Prelude.{◌≡◌, ℕ, Bool, true, List}
 use Rattle.tj_base.specs.ForkOrder.{Name, IsBefore}
-use Rattle.tj_body.specs.Asks.{Await, Fits}
+use Rattle.tj_body.specs.Asks.{Fits}
+use Rattle.tj_body.specs.Programs.{Rules, Program, strictly}
 use Rattle.tj_body.specs.Rounds.{meaning, IsFull}
 use Rattle.tj_body.specs.Points.{IsIn}
 use Rattle.tj_body.specs.declared.ask.Answer.{Answer}
 use Rattle.tj_body.specs.declared.ask.Ask.{Ask}
 use Rattle.tj_body.specs.declared.ask.Ask.TheVariants as ask
 use Rattle.tj_body.specs.declared.point.PointStage.TheVariants as stage
-use Rattle.tj_body.specs.declared.point.Task.{Task}
 use Rattle.tj_body.specs.declared.point.Point.{Point}
 
 module _ {B : Type 0} where
@@ -34,20 +34,18 @@ module _ {B : Type 0} where
   IsNoGet calm (ask.End v) = Unit {0}
   IsNoGet calm (ask.Fail t) = Unit {0}
 
-module _ {B : Type 0} (asks : B → Answer → Ask B) (then : B → Answer → B) (left : B → ℕ) where
-  -- in a meaning that isn't full, where those tasks that wait do so in the fork order, none waits
-  abbrev pub JoinsInOrderEnd : Bool → Task B → Type 0
-  JoinsInOrderEnd strict root = (N : ℕ) → ¬ IsFull strict asks then left root N
-      → WaitInOrder (meaning strict asks then left root N) → NoneWaits (meaning strict asks then left root N)
-
-module _ {B : Type 0} (places : B → ℕ) (awaits : B → Await) (asks : B → Answer → Ask B) (then : B → Answer → B) where
   -- a body that passes the test never asks for a get, nor does one that it forks: whatever it is answered, its ask is
   -- no get, a fork's body passes the test, and so does the body from then on
-  abbrev pub IsWithoutGet : (B → Bool) → Type 0
-  IsWithoutGet calm = (b : B) (a : Answer) → calm b ≡ true → Fits (awaits b) (places b) a
-      → IsNoGet calm (asks b a) × (calm (then b a) ≡ true)
+  abbrev pub IsWithoutGet : Rules B → (B → Bool) → Type 0
+  IsWithoutGet rules calm = (b : B) (a : Answer) → calm b ≡ true → Fits (rules.awaits b) (rules.places b) a
+      → IsNoGet calm (rules.asks b a) × (calm (rules.then b a) ≡ true)
+
+module _ {B : Type 0} (program : Program B) where
+  -- in a meaning that isn't full, where those tasks that wait do so in the fork order, none waits
+  abbrev pub JoinsInOrderEnd : Type 0
+  JoinsInOrderEnd = (N : ℕ) → ¬ IsFull program N → WaitInOrder (meaning program N) → NoneWaits (meaning program N)
 
   -- under the strict rule, in a meaning that isn't full, of a root that passes such a test, no task waits
-  abbrev pub StrictWithoutGetEnds : (B → ℕ) → Task B → Type 0
-  StrictWithoutGetEnds left root = (calm : B → Bool) → IsWithoutGet calm → calm root.body ≡ true → (N : ℕ)
-      → ¬ IsFull true asks then left root N → NoneWaits (meaning true asks then left root N)
+  abbrev pub StrictWithoutGetEnds : Type 0
+  StrictWithoutGetEnds = (calm : B → Bool) → IsWithoutGet program.rules calm → calm program.root ≡ true → (N : ℕ)
+      → ¬ IsFull (strictly program) N → NoneWaits (meaning (strictly program) N)

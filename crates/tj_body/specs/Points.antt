@@ -3,10 +3,10 @@ use Rattle.std.specs.Prelude.{◌≡◌, ◌⊎◌, ℕ, suc, ◌+◌, ◌*◌, 
 use Rattle.std.specs.Prelude.{Option, Some, None}
 use Rattle.tj_base.specs.ForkOrder.{Name}
 use Rattle.tj_body.specs.Asks.{Await, cell, cell_or, Fits, new_places, most_passed, most_left, IsFresh}
+use Rattle.tj_body.specs.Programs.{Rules, Program}
 use Rattle.tj_body.specs.History.{Assignment, point_after}
 use Rattle.tj_body.specs.Rounds.{given, tasks}
 use Rattle.tj_body.specs.declared.ask.Answer.{Answer}
-use Rattle.tj_body.specs.declared.ask.Ask.{Ask}
 use Rattle.tj_body.specs.declared.point.Entry.{Entry}
 use Rattle.tj_body.specs.declared.point.Close.{Close}
 use Rattle.tj_body.specs.declared.point.PointStage.{PointStage}
@@ -36,23 +36,23 @@ abbrev pub cell_if : Bool → Await
 cell_if true = cell_or
 cell_if false = cell
 
-module _ {B : Type 0} (places : B → ℕ) (awaits : B → Await) (left : B → ℕ) where
+module _ {B : Type 0} (rules : Rules B) where
   -- a task as a fork makes it: its body has asked nothing, and has a place for itself and each passed reference
   pub record IsProper (t : Task B) : Type 0 where
-    pub fresh : IsFresh places awaits left (suc (length t.passed)) t.body
+    pub fresh : IsFresh rules.places rules.awaits rules.left (suc (length t.passed)) t.body
     pub few : length t.passed ≤ most_passed
 
   -- a body that is to be given an answer may be given it, and there is room for the places that are still to come
   pub record MayAnswer (a : Answer) (p : Point B) : Type 0 where
-    pub fits : Fits (awaits p.body) (places p.body) a
-    pub all_places : places p.body + new_places a ≡ length p.references
-    pub room : length p.references + left p.body ≤ most_places
+    pub fits : Fits (rules.awaits p.body) (rules.places p.body) a
+    pub all_places : rules.places p.body + new_places a ≡ length p.references
+    pub room : length p.references + rules.left p.body ≤ most_places
 
   -- a body whose task waits for a cell awaits it, and there is room for the places that are still to come
   pub record MayWait (spare : Bool) (p : Point B) : Type 0 where
-    pub awaits_cell : awaits p.body ≡ cell_if spare
-    pub all_places : places p.body ≡ length p.references
-    pub room : length p.references + left p.body + 1 ≤ most_places
+    pub awaits_cell : rules.awaits p.body ≡ cell_if spare
+    pub all_places : rules.places p.body ≡ length p.references
+    pub room : length p.references + rules.left p.body + 1 ≤ most_places
 
   -- the body is as the stage needs it
   abbrev pub IsGoodAt : PointStage → Point B → Type 0
@@ -88,27 +88,27 @@ abbrev pub Extends : {B : Type 0} → Point B → Point B → Type 0
 Extends p p' = Begins p.children p'.children × Begins p.writes p'.writes × Begins p.promises p'.promises
     × Begins p.prints p'.prints × Begins p.references p'.references
 
-module _ {B : Type 0} (strict : Bool) (asks : B → Answer → Ask B) (then : B → Answer → B) where
+module _ {B : Type 0} (rules : Rules B) where
   -- p is what stands after some of the task's asks
   abbrev pub IsPointOf : Assignment → Task B → Point B → Type 0
-  IsPointOf V t p = (k : ℕ) × (p ≡ point_after strict asks then V k t)
+  IsPointOf V t p = (k : ℕ) × (p ≡ point_after rules V k t)
 
-  module _ (left : B → ℕ) (root : Task B) where
-    -- p is a point of the task under the assignment of some round
-    abbrev pub IsSomePoint : Task B → Point B → Type 0
-    IsSomePoint t p = (n : ℕ) × IsPointOf (given strict asks then left root n) t p
+module _ {B : Type 0} (program : Program B) where
+  -- p is a point of the task under the assignment of some round
+  abbrev pub IsSomePoint : Task B → Point B → Type 0
+  IsSomePoint t p = (n : ℕ) × IsPointOf program.rules (given program n) t p
 
-    -- the task is one of some round
-    abbrev pub IsSomeTask : Task B → Type 0
-    IsSomeTask t = (n : ℕ) × IsIn t (tasks strict asks then left root n)
+  -- the task is one of some round
+  abbrev pub IsSomeTask : Task B → Type 0
+  IsSomeTask t = (n : ℕ) × IsIn t (tasks program n)
 
-    -- what stands where nothing goes on: E is all entries, and points gives what each task has come to
-    pub record IsAtRest (E : Assignment) (points : ℕ → Option (Point B)) : Type 0 where
-      pub root_there : (c : ℕ) × (p : Point B) × (points c ≡ Some p) × (p.name ≡ root.name)
-      pub meant : (c : ℕ) (p : Point B) → points c ≡ Some p → (t : Task B) × IsSomeTask t × IsSomePoint t p
-      pub stopped : (c : ℕ) (p : Point B) → points c ≡ Some p → HasStopped E p
-      pub forked : (c : ℕ) (p : Point B) (k : Task B) → points c ≡ Some p → IsIn k p.children
-          → (d : ℕ) × (r : Point B) × (points d ≡ Some r) × (r.name ≡ k.name)
-      pub written : (c : ℕ) (p : Point B) (q : Name) (e : Entry) → points c ≡ Some p → IsIn (q, e) p.writes
-          → (x : Entry) × (E q ≡ Some x)
-      pub entered : (q : Name) (e : Entry) → E q ≡ Some e → (n : ℕ) × (given strict asks then left root n q ≡ Some e)
+  -- what stands where nothing goes on: E is all entries, and points gives what each task has come to
+  pub record IsAtRest (E : Assignment) (points : ℕ → Option (Point B)) : Type 0 where
+    pub root_there : (c : ℕ) × (p : Point B) × (points c ≡ Some p) × (p.name ≡ [])
+    pub meant : (c : ℕ) (p : Point B) → points c ≡ Some p → (t : Task B) × IsSomeTask t × IsSomePoint t p
+    pub stopped : (c : ℕ) (p : Point B) → points c ≡ Some p → HasStopped E p
+    pub forked : (c : ℕ) (p : Point B) (k : Task B) → points c ≡ Some p → IsIn k p.children
+        → (d : ℕ) × (r : Point B) × (points d ≡ Some r) × (r.name ≡ k.name)
+    pub written : (c : ℕ) (p : Point B) (q : Name) (e : Entry) → points c ≡ Some p → IsIn (q, e) p.writes
+        → (x : Entry) × (E q ≡ Some x)
+    pub entered : (q : Name) (e : Entry) → E q ≡ Some e → (n : ℕ) × (given program n q ≡ Some e)

@@ -2,10 +2,9 @@
 use Rattle.std.proofs.Common.{◌≡◌, ℕ, suc, ◌*◌, ◌≤◌, Bool, List, [], ◌∷◌, map, length}
 use Rattle.std.proofs.Common.{refl, sym, ap, ◌∙◌, arith}
 use Rattle.tj_base.specs.ForkOrder.{Name}
+use Rattle.tj_body.specs.Programs.{Program}
 use Rattle.tj_body.specs.History.{Assignment, history}
 use Rattle.tj_body.specs.Rounds.{given, tasks, entries, cells, last_round, meaning, IsFull}
-use Rattle.tj_body.specs.declared.ask.Answer.{Answer}
-use Rattle.tj_body.specs.declared.ask.Ask.{Ask}
 use Rattle.tj_body.specs.declared.point.Entry.{Entry}
 use Rattle.tj_body.specs.declared.point.Task.{Task}
 use Rattle.tj_body.proofs.Settles.{last_given, settles_by_size}
@@ -18,84 +17,83 @@ pub map_map : {A C D : Type 0} (f : A → C) (h : C → D) (l : List A) → map 
 map_map f h [] = refl
 map_map f h (x ∷ xs) = ap (λ l. h (f x) ∷ l) (map_map f h xs)
 
-module _ {B : Type 0} (strict : Bool) (asks : B → Answer → Ask B) (then : B → Answer → B) (left : B → ℕ)
-    (root : Task B) (alone : root.handed ≡ []) where
+module _ {B : Type 0} (program : Program B) where
   abbrev V : ℕ → Assignment
-  V n = given strict asks then left root n
+  V n = given program n
 
   abbrev kept : Assignment → List (Task B) → List Stopped
-  kept W l = map (λ t. stopped_of (history strict asks then left W t)) l
+  kept W l = map (λ t. stopped_of (history program.rules W t)) l
 
   kept_length : (W : Assignment) (l : List (Task B)) → length (kept W l) ≡ length l
   kept_length W [] = refl
   kept_length W (x ∷ xs) = ap suc (kept_length W xs)
 
-  kept_meaning : (N : ℕ) → kept (V (last_round N)) (tasks strict asks then left root (last_round N))
-      ≡ map stopped_of (meaning strict asks then left root N)
-  kept_meaning N = sym (map_map (λ t. history strict asks then left (V (last_round N)) t) stopped_of
-      (tasks strict asks then left root (last_round N)))
+  kept_meaning : (N : ℕ) → kept (V (last_round N)) (tasks program (last_round N))
+      ≡ map stopped_of (meaning program N)
+  kept_meaning N = sym (map_map (λ t. history program.rules (V (last_round N)) t) stopped_of
+      (tasks program (last_round N)))
 
   -- a round that adds nothing is the meaning
-  pub settled_tells : (N n : ℕ) (r : Round) → IsRound strict asks then left root n r → n ≤ 2 * N
-      → length r.tasks.items ≤ length (tasks strict asks then left root n)
-      → length r.entries.items ≤ length (entries strict asks then left root n)
-      → r.tasks.items ≡ map stopped_of (meaning strict asks then left root N)
+  pub settled_tells : (N n : ℕ) (r : Round) → IsRound program n r → n ≤ 2 * N
+      → length r.tasks.items ≤ length (tasks program n)
+      → length r.entries.items ≤ length (entries program n)
+      → r.tasks.items ≡ map stopped_of (meaning program N)
   settled_tells N n r is few t e =
       let a = ap (λ (l : List Stopped). length l) is.tasks_kept in
-      let b = kept_length (V n) (tasks strict asks then left root (suc n)) in
+      let b = kept_length (V n) (tasks program (suc n)) in
       let c = ap (λ (l : List (Name × Entry)). length l) is.entries_kept in
-      let s = settles_by_size strict asks then left root alone n (omega arith) (omega arith) in
+      let s = settles_by_size program n (omega arith) (omega arith) in
       is.tasks_kept
-      ∙ ap (λ W. kept W (tasks strict asks then left root (suc n))) (sym (s (last_round N) (omega arith)).0)
+      ∙ ap (λ W. kept W (tasks program (suc n))) (sym (s (last_round N) (omega arith)).0)
       ∙ ap (λ l. kept (V (last_round N)) l) (sym (s (2 * N) few).1)
-      ∙ ap (λ k. kept (V (last_round N)) (tasks strict asks then left root k))
+      ∙ ap (λ k. kept (V (last_round N)) (tasks program k))
       (let z : suc (2 * N) ≡ last_round N = omega arith in z)
       ∙ kept_meaning N
 
   -- and so is round 2 N + 1, where it has at most N cells
-  pub last_tells : (N : ℕ) (r : Round) → IsRound strict asks then left root (2 * N) r → r.cells ≤ N
-      → r.tasks.items ≡ map stopped_of (meaning strict asks then left root N)
+  pub last_tells : (N : ℕ) (r : Round) → IsRound program (2 * N) r → r.cells ≤ N
+      → r.tasks.items ≡ map stopped_of (meaning program N)
   last_tells N r is few =
       let z : suc (2 * N) ≡ last_round N = omega arith in
-      let c = ap (λ k. length (cells strict asks then left root k)) z in
+      let c = ap (λ k. length (cells program k)) z in
       let d = is.cells_counted in
       is.tasks_kept
-      ∙ ap (λ k. kept (V (2 * N)) (tasks strict asks then left root k)) z
-      ∙ ap (λ W. kept W (tasks strict asks then left root (last_round N)))
-      (sym (last_given strict asks then left root alone N (omega arith) (last_round N) (omega arith)))
+      ∙ ap (λ k. kept (V (2 * N)) (tasks program k)) z
+      ∙ ap (λ W. kept W (tasks program (last_round N)))
+      (sym (last_given program N (omega arith) (last_round N) (omega arith)))
       ∙ kept_meaning N
 
   -- a round that adds nothing and has at most N cells: the meaning isn't full
-  pub settled_fits : (N n : ℕ) (r : Round) → IsRound strict asks then left root n r → n ≤ 2 * N → r.cells ≤ N
-      → length r.tasks.items ≤ length (tasks strict asks then left root n)
-      → length r.entries.items ≤ length (entries strict asks then left root n)
-      → ¬ IsFull strict asks then left root N
+  pub settled_fits : (N n : ℕ) (r : Round) → IsRound program n r → n ≤ 2 * N → r.cells ≤ N
+      → length r.tasks.items ≤ length (tasks program n)
+      → length r.entries.items ≤ length (entries program n)
+      → ¬ IsFull program N
   settled_fits N n r is few small t e full =
       let a = ap (λ (l : List Stopped). length l) is.tasks_kept in
-      let b = kept_length (V n) (tasks strict asks then left root (suc n)) in
+      let b = kept_length (V n) (tasks program (suc n)) in
       let c = ap (λ (l : List (Name × Entry)). length l) is.entries_kept in
-      let s = settles_by_size strict asks then left root alone n (omega arith) (omega arith) in
+      let s = settles_by_size program n (omega arith) (omega arith) in
       let z : suc (2 * N) ≡ last_round N = omega arith in
       let d = ap (λ (l : List Name). length l) (s (2 * N) few).3 in
-      let f = ap (λ k. length (cells strict asks then left root k)) z in
+      let f = ap (λ k. length (cells program k)) z in
       let h = is.cells_counted in
       omega (arith, full)
 
   -- round 2 N + 1 with at most N cells: the meaning isn't full
-  pub last_fits : (N : ℕ) (r : Round) → IsRound strict asks then left root (2 * N) r → r.cells ≤ N
-      → ¬ IsFull strict asks then left root N
+  pub last_fits : (N : ℕ) (r : Round) → IsRound program (2 * N) r → r.cells ≤ N
+      → ¬ IsFull program N
   last_fits N r is small full =
       let z : suc (2 * N) ≡ last_round N = omega arith in
-      let f = ap (λ k. length (cells strict asks then left root k)) z in
+      let f = ap (λ k. length (cells program k)) z in
       let h = is.cells_counted in
       omega (arith, full)
 
   -- the tasks and the entries that were kept are as many as those of the round
-  pub kept_tasks : (n : ℕ) (r : Round) → IsRound strict asks then left root n r
-      → length r.tasks.items ≡ length (tasks strict asks then left root (suc n))
+  pub kept_tasks : (n : ℕ) (r : Round) → IsRound program n r
+      → length r.tasks.items ≡ length (tasks program (suc n))
   kept_tasks n r is = ap (λ (l : List Stopped). length l) is.tasks_kept
-      ∙ kept_length (V n) (tasks strict asks then left root (suc n))
+      ∙ kept_length (V n) (tasks program (suc n))
 
-  pub kept_entries : (n : ℕ) (r : Round) → IsRound strict asks then left root n r
-      → length r.entries.items ≡ length (entries strict asks then left root (suc n))
+  pub kept_entries : (n : ℕ) (r : Round) → IsRound program n r
+      → length r.entries.items ≡ length (entries program (suc n))
   kept_entries n r is = ap (λ (l : List (Name × Entry)). length l) is.entries_kept

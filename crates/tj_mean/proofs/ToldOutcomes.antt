@@ -5,12 +5,11 @@ use Rattle.std.specs.List.{flat_map}
 use Rattle.std.specs.List.Sorted.{IsPermutation}
 use Rattle.std.proofs.lemmas.List.Sorted.{IsPermutation-map}
 use Rattle.tj_base.specs.ForkOrder.{Name}
-use Rattle.tj_body.specs.Asks.{Await, Obeys}
+use Rattle.tj_body.specs.Programs.{Program}
 use Rattle.tj_body.specs.History.{Assignment, history, owned, owned_in}
 use Rattle.tj_body.specs.Rounds.{cells_by, given, tasks, cells, last_round, meaning}
 use Rattle.tj_body.specs.Points.{IsIn, IsProper, HasStopped}
 use Rattle.tj_body.specs.declared.ask.Answer.{Answer}
-use Rattle.tj_body.specs.declared.ask.Ask.{Ask}
 use Rattle.tj_body.specs.declared.point.Task.{Task}
 use Rattle.tj_body.specs.declared.point.Point.{Point}
 use Rattle.tj_body.specs.declared.point.PointStage.{PointStage}
@@ -150,46 +149,44 @@ module _ {B : Type 0} (V : Assignment) (ps : List (Point B)) (stop : (p : Point 
     );
   }
 
-module _ {B : Type 0} (strict : Bool) (asks : B → Answer → Ask B) (then : B → Answer → B) (left : B → ℕ)
-    (places : B → ℕ) (awaits : B → Await) (obeys : (b : B) (a : Answer) → Obeys places awaits left asks then b a)
-    (root : Task B) (alone : root.handed ≡ []) (proper : IsProper places awaits left root) (N : ℕ) where
+module _ {B : Type 0} (program : Program B) (N : ℕ) where
   abbrev last_given : Assignment
-  last_given = given strict asks then left root (last_round N)
+  last_given = given program (last_round N)
 
   abbrev last_tasks : List (Task B)
-  last_tasks = tasks strict asks then left root (last_round N)
+  last_tasks = tasks program (last_round N)
 
   abbrev history_at : Task B → Point B
-  history_at t = history strict asks then left last_given t
+  history_at t = history program.rules last_given t
 
   name_times : (U : Assignment) (q : Name) (l : List (Task B))
       → times q (map (λ (s : Stopped). s.line.name) (map stopped_of (map history_at l)))
-      ≤ times q (flat_map (cells_by strict asks then left U) l)
+      ≤ times q (flat_map (cells_by program.rules U) l)
   name_times U q [] = omega arith
   name_times U q (x ∷ xs) =
       let h = name_times U q xs in
-      let n = ap (λ z. is q z) (same_name strict asks then left last_given x) in
-      let a = total_append (is q) (history strict asks then left U x).promises
-      (flat_map (cells_by strict asks then left U) xs) in
+      let n = ap (λ z. is q z) (same_name program.rules last_given x) in
+      let a = total_append (is q) (history program.rules U x).promises
+      (flat_map (cells_by program.rules U) xs) in
       omega arith
 
   -- no two of its tasks have one name, and none owns what another owns
-  pub meaning_apart : AreApart (map stopped_of (meaning strict asks then left root N))
+  pub meaning_apart : AreApart (map stopped_of (meaning program N))
   meaning_apart = record {
     names = distinct_of_times (map (λ (s : Stopped). s.line.name) (map stopped_of (map history_at last_tasks)))
-        (λ q. let a = name_times (given strict asks then left root (2 * N)) q last_tasks in
+        (λ q. let a = name_times (given program (2 * N)) q last_tasks in
         let z : suc (2 * N) ≡ last_round N = omega arith in
-        let b = once_name strict asks then left root alone (last_round N) q in
-        let c = ap (λ k. times q (flat_map (cells_by strict asks then left (given strict asks then left root (2 * N)))
-        (tasks strict asks then left root k))) z in
-        let d = ap (λ k. times q (cells strict asks then left root k)) z in
+        let b = once_name program (last_round N) q in
+        let c = ap (λ k. times q (flat_map (cells_by program.rules (given program (2 * N)))
+        (tasks program k))) z in
+        let d = ap (λ k. times q (cells program k)) z in
         omega arith);
     owners = λ s u q i j a b.
-        let r = in_map stopped_of s (meaning strict asks then left root N) i in
-        let v = in_map stopped_of u (meaning strict asks then left root N) j in
+        let r = in_map stopped_of s (meaning program N) i in
+        let v = in_map stopped_of u (meaning program N) j in
         let x = in_map history_at r.0 last_tasks r.1 in
         let y = in_map history_at v.0 last_tasks v.1 in
-        let o = owners_apart strict asks then left root alone (last_round N) (last_round N) x.0 y.0 q
+        let o = owners_apart program (last_round N) (last_round N) x.0 y.0 q
         (omega arith) x.1 y.1
         (subst (λ p. IsIn q (owned p)) x.2 (subst (IsIn q)
         (ap owned_by r.2 ∙ same_owned r.0.stage r.0.name r.0.holds) a))

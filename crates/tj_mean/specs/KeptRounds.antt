@@ -1,14 +1,13 @@
 -- What is kept of a round, and which of its tasks are still to be taken.
-use Rattle.std.specs.Prelude.{◌≡◌, ℕ, zero, suc, Bool, List, [], ◌∷◌, ◌++◌, map, length}
+use Rattle.std.specs.Prelude.{◌≡◌, ℕ, zero, suc, List, [], ◌∷◌, ◌++◌, map, length}
 use Rattle.std.specs.List.{flat_map}
 use Rattle.std.specs.List.Sorted.{IsPermutation}
 use Rattle.tj_base.specs.ForkOrder.{Name}
+use Rattle.tj_body.specs.Programs.{Rules, Program}
 use Rattle.tj_body.specs.History.{Assignment, history}
 use Rattle.tj_body.specs.Laws.{AreDistinct}
 use Rattle.tj_body.specs.Points.{IsIn}
 use Rattle.tj_body.specs.Rounds.{family, given, tasks, entries, cells}
-use Rattle.tj_body.specs.declared.ask.Answer.{Answer}
-use Rattle.tj_body.specs.declared.ask.Ask.{Ask}
 use Rattle.tj_body.specs.declared.point.Point.{Point}
 use Rattle.tj_body.specs.declared.point.Task.{Task}
 use Rattle.tj_mean.specs.Outcomes.{line_of, AreCycles, Ascend}
@@ -23,25 +22,24 @@ use Rattle.tj_mean.specs.declared.round.Stopped.{Stopped}
 abbrev pub stopped_of : {B : Type 0} → Point B → Stopped
 stopped_of p = record { line = line_of p; holds = p.holds }
 
-module _ {B : Type 0} (strict : Bool) (asks : B → Answer → Ask B) (then : B → Answer → B) (left : B → ℕ) where
-  module _ (V : Assignment) where
-    -- the children with all that come from them, where so many forks after one another are followed
-    abbrev pub offspring : ℕ → List (Task B) → List (Task B)
-    offspring zero children = []
-    offspring (suc d) children = flat_map (family strict asks then left V d) children
+module _ {B : Type 0} (rules : Rules B) (V : Assignment) where
+  -- the children with all that come from them, where so many forks after one another are followed
+  abbrev pub offspring : ℕ → List (Task B) → List (Task B)
+  offspring zero children = []
+  offspring (suc d) children = flat_map (family rules V d) children
 
-    -- the pending tasks with all that come from them; the last one is taken first
-    abbrev pub still : List (Pending B) → List (Task B)
-    still [] = []
-    still (w ∷ ws) = still ws ++ family strict asks then left V w.depth w.task
+  -- the pending tasks with all that come from them; the last one is taken first
+  abbrev pub still : List (Pending B) → List (Task B)
+  still [] = []
+  still (w ∷ ws) = still ws ++ family rules V w.depth w.task
 
-  -- what is kept of round n + 1
-  pub record IsRound (root : Task B) (n : ℕ) (r : Round) : Type 0 where
-    pub tasks_kept : r.tasks.items
-        ≡ map (λ t. stopped_of (history strict asks then left (given strict asks then left root n) t))
-        (tasks strict asks then left root (suc n))
-    pub entries_kept : r.entries.items ≡ entries strict asks then left root (suc n)
-    pub cells_counted : r.cells ≡ length (cells strict asks then left root (suc n))
+-- what is kept of round n + 1
+pub record IsRound {B : Type 0} (program : Program B) (n : ℕ) (r : Round) : Type 0 where
+  pub tasks_kept : r.tasks.items
+      ≡ map (λ t. stopped_of (history program.rules (given program n) t))
+      (tasks program (suc n))
+  pub entries_kept : r.entries.items ≡ entries program (suc n)
+  pub cells_counted : r.cells ≡ length (cells program (suc n))
 
 -- the cells that a task owns: where it waits, its result and the promises that it holds
 abbrev pub owned_with : Ending → Name → List Name → List Name

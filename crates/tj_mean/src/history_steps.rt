@@ -2,6 +2,7 @@
 ghost use Rattle.std.specs.Prelude.{◌≡◌, ◌<◌, ◌≤◌, ◌^◌, suc, length, map};
 ghost use Rattle.std.specs.Prelude.{IfOk, IfErr, IsTrue, IsFalse};
 ghost use Rattle.tj_body.specs.Points.{IsGoodAt, IsProper, weight};
+ghost use Rattle.tj_body.specs.Programs.{rules_of};
 ghost use Rattle.tj_body.specs.History as history;
 ghost use Rattle.tj_mean.specs.Assignments.{assignment_in};
 ghost use Rattle.tj_mean.specs.Exceeds.{ExceedsAtPoint};
@@ -52,10 +53,11 @@ fn advance<B: Body>(
     given: &BTreeMap<Name, Entry>,
     strict: bool,
 ) -> Result<bool, Oom>
-    requires good { IsGoodAt B.places B.awaits B.left p.old.stage p.old }
+    requires good { let rules = rules_of B.places B.awaits B.left B.asks B.then strict in
+        IsGoodAt rules p.old.stage p.old }
     requires made { suc p.old.made ≤ length p.old.references }
-    ensures step { let V = assignment_in given.now in
-        IfOk result (λ _. p.new ≡ history.after_step strict B.asks B.then V p.old) }
+    ensures step { let rules = rules_of B.places B.awaits B.left B.asks B.then strict in
+        IfOk result (λ _. p.new ≡ history.after_step rules (assignment_in given.now) p.old) }
     ensures stays { IfOk result (λ more. IsFalse more → p.new ≡ p.old) }
     ensures falls { IfOk result (λ more. IsTrue more → weight B.left p.new < weight B.left p.old) }
 {
@@ -114,13 +116,13 @@ pub fn history<B: Body>(
     cells: u32,
     room: u32,
 ) -> Result<Point<B>, PlanFault>
-    requires proper { IsProper B.places B.awaits B.left task }
+    requires proper { let rules = rules_of B.places B.awaits B.left B.asks B.then strict in IsProper rules task }
     requires some_room { 0 < room }
-    ensures ok { let V = assignment_in given.now in
-        IfOk result (λ p. p ≡ history.history strict B.asks B.then B.left V task) }
+    ensures ok { let rules = rules_of B.places B.awaits B.left B.asks B.then strict in
+        IfOk result (λ p. p ≡ history.history rules (assignment_in given.now) task) }
     ensures fits { IfOk result (λ p. length p.promises < room) }
-    ensures full { let V = assignment_in given.now in
-        IfErr result (λ e. e ≡ PlanFault.Full → ExceedsAtPoint strict B.asks B.then V task cells room) }
+    ensures full { let rules = rules_of B.places B.awaits B.left B.asks B.then strict in let V = assignment_in given.now in
+        IfErr result (λ e. e ≡ PlanFault.Full → ExceedsAtPoint rules V task cells room) }
 {
     let mut p = start(alloc, task)?;
     loop {

@@ -1,9 +1,8 @@
 //! The laws of outcomes. Code whose proof needs one calls its function, which does nothing, and the
 //! proof cites what the call ensures.
 ghost use Rattle.std.specs.Prelude.{List};
-ghost use Rattle.tj_body.specs.Laws.{IsRoot};
+ghost use Rattle.tj_body.specs.Laws.{HoldsOfPrograms};
 ghost use Rattle.tj_body.specs.declared.point.Point.{Point};
-ghost use Rattle.tj_body.specs.declared.point.Task.{Task};
 ghost use Rattle.tj_mean.specs.OutcomeLaws.{HasOneOutcome, StrictOutcomeHasNoWait};
 
 use tj_body::Body;
@@ -15,6 +14,5 @@ pub fn one_outcome<B: Body>()
 
 /// Under the strict rule the outcome of a program without gets has no cycle, and no task waits.
 pub fn strict_outcome_has_no_wait<B: Body>()
-    ensures { (root : Task B) → IsRoot B.places B.awaits B.left root
-        → StrictOutcomeHasNoWait B.places B.awaits B.asks B.then B.left root }
+    ensures { HoldsOfPrograms B.places B.awaits B.left B.asks B.then StrictOutcomeHasNoWait }
 {}

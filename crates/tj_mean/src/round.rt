@@ -2,9 +2,11 @@
 //! taken in the order of forks: a task, then its first child with all that comes from it, and so
 //! on, as far as the round follows forks.
 ghost use Rattle.std.specs.Prelude.{◌≡◌, ◌+◌, ◌*◌, ◌<◌, ◌≤◌, ◌^◌, suc, [], ◌∷◌, ◌++◌, length};
-ghost use Rattle.std.specs.Prelude.{IfOk, IfErr, Bool};
+ghost use Rattle.std.specs.Prelude.{IfOk, IfErr};
 ghost use Rattle.tj_body.specs.Asks.{IsFresh};
 ghost use Rattle.tj_body.specs.History.{Assignment};
+ghost use Rattle.tj_body.specs.Programs as programs;
+ghost use Rattle.tj_body.specs.Programs.{Rules, program_of};
 ghost use Rattle.tj_body.specs.Rounds as rounds;
 ghost use Rattle.tj_mean.specs.Assignments.{assignment_in};
 ghost use Rattle.tj_mean.specs.KeptRounds.{stopped_of, offspring, still, IsRound};
@@ -54,16 +56,15 @@ pub fn next_round<B: Body>(
     strict: bool,
 ) -> Result<Round, PlanFault>
     requires root { IsFresh B.places B.awaits B.left 1 root.now }
-    requires round { let root_task = rounds.root_task root.now in
-        assignment_in given.now ≡ rounds.given strict B.asks B.then B.left root_task n }
+    requires round { let program = program_of B.places B.awaits B.left B.asks B.then strict root.now in
+        assignment_in given.now ≡ rounds.given program n }
     requires n { n ≤ 2 * cells }
     requires cells { (0 < cells) × (cells ≤ 16384) }
-    ensures ok { let root_task = rounds.root_task root.now in
-        IfOk result (IsRound strict B.asks B.then B.left root_task n) }
+    ensures ok { let program = program_of B.places B.awaits B.left B.asks B.then strict root.now in
+        IfOk result (IsRound program n) }
     ensures few { IfOk result (λ r. r.cells ≤ cells) }
-    ensures full { let root_task = rounds.root_task root.now in
-        IfErr result (λ e. e ≡ PlanFault.Full →
-        rounds.IsFull strict B.asks B.then B.left root_task cells) }
+    ensures full { let program = program_of B.places B.awaits B.left B.asks B.then strict root.now in
+        IfErr result (λ e. e ≡ PlanFault.Full → rounds.IsFull program cells) }
 {
     let mut round = Round {
         tasks: Vec::new(alloc),
@@ -88,7 +89,7 @@ pub fn next_round<B: Body>(
 
 /// The root task.
 fn root_task<B: Body>(alloc: Global, root: &B) -> Result<Task<B>, Oom>
-    ensures { IfOk result (λ task. task ≡ rounds.root_task root.now) }
+    ensures { IfOk result (λ task. task ≡ programs.root_task root.now) }
 {
     Ok(Task {
         name: Name::root(),
@@ -105,10 +106,9 @@ fn push_children<B: Body>(
     mut children: Vec<Task<B>>,
     depth: u32,
 ) -> Result<(), Oom>
-    ensures { IfOk result (λ _. (strict : Bool) (V : Assignment) →
-        still strict B.asks B.then B.left V pending.new.items
-        ≡ offspring strict B.asks B.then B.left V depth children.items
-        ++ still strict B.asks B.then B.left V pending.old.items) }
+    ensures { IfOk result (λ _. (rules : Rules B) (V : Assignment) →
+        still rules V pending.new.items
+        ≡ offspring rules V depth children.items ++ still rules V pending.old.items) }
 {
     if depth == 0 {
         return Ok(());

@@ -8,6 +8,7 @@ ghost use Rattle.std.specs.Ordering.{nat_cmp};
 ghost use Rattle.tj_base.specs.ForkOrder as fork_order;
 ghost use Rattle.std.specs.List.Sorted.{IsPermutation};
 ghost use Rattle.tj_body.specs.Asks.{IsFresh};
+ghost use Rattle.tj_body.specs.Programs.{program_of};
 ghost use Rattle.tj_body.specs.Laws.{AreDistinct};
 ghost use Rattle.tj_body.specs.Rounds as rounds;
 ghost use Rattle.tj_mean.specs.Assignments.{assignment_in};
@@ -33,13 +34,12 @@ pub fn plan<B: Body>(
     requires cells { (0 < cells) × (cells ≤ 16384) }
 
     // `Full` comes exactly where the meaning needs more than `cells` cells.
-    ensures fits { let task = rounds.root_task root.now in
-        IfOk result (λ _. ¬ rounds.IsFull strict B.asks B.then B.left task cells) }
-    ensures full { let task = rounds.root_task root.now in
-        IfErr result (λ e. e ≡ PlanFault.Full →
-        rounds.IsFull strict B.asks B.then B.left task cells) }
-    ensures outcome { let task = rounds.root_task root.now in
-        IfOk result (IsOutcome (rounds.meaning strict B.asks B.then B.left task cells)) }
+    ensures fits { let program = program_of B.places B.awaits B.left B.asks B.then strict root.now in
+        IfOk result (λ _. ¬ rounds.IsFull program cells) }
+    ensures full { let program = program_of B.places B.awaits B.left B.asks B.then strict root.now in
+        IfErr result (λ e. e ≡ PlanFault.Full → rounds.IsFull program cells) }
+    ensures outcome { let program = program_of B.places B.awaits B.left B.asks B.then strict root.now in
+        IfOk result (IsOutcome (rounds.meaning program cells)) }
 {
     let tasks = histories(alloc, root, cells, strict)?;
     Ok(outcome_of(alloc, tasks)?)
@@ -54,14 +54,12 @@ fn histories<B: Body>(
 ) -> Result<Vec<Stopped>, PlanFault>
     requires root { IsFresh B.places B.awaits B.left 1 root.now }
     requires cells { (0 < cells) × (cells ≤ 16384) }
-    ensures fits { let task = rounds.root_task root.now in
-        IfOk result (λ _. ¬ rounds.IsFull strict B.asks B.then B.left task cells) }
-    ensures full { let task = rounds.root_task root.now in
-        IfErr result (λ e. e ≡ PlanFault.Full →
-        rounds.IsFull strict B.asks B.then B.left task cells) }
-    ensures told { let task = rounds.root_task root.now in
-        IfOk result (λ tasks. tasks.items
-        ≡ map stopped_of (rounds.meaning strict B.asks B.then B.left task cells)) }
+    ensures fits { let program = program_of B.places B.awaits B.left B.asks B.then strict root.now in
+        IfOk result (λ _. ¬ rounds.IsFull program cells) }
+    ensures full { let program = program_of B.places B.awaits B.left B.asks B.then strict root.now in
+        IfErr result (λ e. e ≡ PlanFault.Full → rounds.IsFull program cells) }
+    ensures told { let program = program_of B.places B.awaits B.left B.asks B.then strict root.now in
+        IfOk result (λ tasks. tasks.items ≡ map stopped_of (rounds.meaning program cells)) }
 {
     let mut given = BTreeMap::new(alloc);
     let mut tasks = 0;

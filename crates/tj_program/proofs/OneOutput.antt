@@ -1,13 +1,12 @@
 -- Words and an input have one output at most, from the laws of the crates below.
 use Rattle.std.proofs.Common.{◌≡◌, ℕ, ◌≤◌, inl, inr, Bool, false, List, [], Some, String, Result, Ok, Err, length, refl, sym, ap, subst, ◌∙◌, arith}
 use Rattle.std.specs.declared.alloc.Global.{Global}
-use Rattle.tj_body.specs.Rounds.{meaning, root_task}
+use Rattle.tj_body.specs.Rounds.{meaning}
 use Rattle.tj_body.specs.declared.point.Point.{Point}
 use Rattle.tj_core.specs.declared.event.Event.{Event}
 use Rattle.tj_core.specs.Journal as journal
 use Rattle.tj_core.specs.Journal.{lines_of}
 use Rattle.tj_core.specs.JournalLaws.{EventsAreOne, FirstFaultIsOne, EventsHaveNoFault, JudgingIsOne}
-use Rattle.tj_eval.specs.Bodies.{script_asks, script_then, script_left}
 use Rattle.tj_eval.specs.Statements.{TaskState, task_of}
 use Rattle.tj_gen.specs.Script.{script_text}
 use Rattle.tj_lex.specs.declared.token.Tok.{Tok}
@@ -28,7 +27,7 @@ use Rattle.tj_syntax.specs.Trees.{Task}
 use Rattle.tj_program.specs.Judgings as judgings
 use Rattle.tj_program.specs.Judgings.{IsJournalFault, IsJudging, bad_line}
 use Rattle.tj_program.specs.Output.{IsOutput, IsCommandOutput, IsOfScript, IsListing, IsSummary, usage, of_command}
-use Rattle.tj_program.specs.Runs.{IsRun, IsRunOf, status_of, full, ended}
+use Rattle.tj_program.specs.Runs.{script_program, IsRun, IsRunOf, status_of, full, ended}
 use Rattle.tj_program.specs.ScriptTexts.{IsScriptOf, IsFaultLine, token_fault, grammar_fault, too_long, in_tokens, in_grammar}
 use Rattle.tj_program.specs.Texts.{journal_fault}
 use Rattle.tj_program.specs.declared.command.Command.{Command}
@@ -118,7 +117,7 @@ module _ (one : AreOne) where
     one_run_of root a b s t (full m) (ended o fits is) = absurd (fits m)
     one_run_of root a b s t (ended o fits is) (full m) = absurd (fits m)
     one_run_of root a b s t (ended o fits is) (ended p also are) =
-        let same = one.outcome (meaning strict script_asks script_then script_left (root_task root) cells) o p is are in
+        let same = one.outcome (meaning (script_program strict root) cells) o p is are in
         (ap (λ x. status_of (is_marked x)) same, ap told same)
 
     one_run : (steps : ℕ) (script : List Task) (a b : Status) (s t : List ℕ)

@@ -1,9 +1,8 @@
 -- Strict runs of scripts without `get`, from the laws of the crates below.
 use Rattle.std.proofs.Common.{ℕ, ◌≤◌, true, false, List, String, IsTrue, refl, sym, subst, arith}
 use Rattle.tj_body.specs.Asks.{IsFresh}
-use Rattle.tj_body.specs.Laws.{IsRoot}
+use Rattle.tj_body.specs.Programs.{rules_of}
 use Rattle.tj_body.specs.NeverWaits.{IsNoGet, IsWithoutGet}
-use Rattle.tj_body.specs.Rounds.{root_task}
 use Rattle.tj_body.specs.declared.ask.Answer.{Answer}
 use Rattle.tj_eval.specs.Bodies.{IsMainBody, script_places, script_awaits, script_left, script_asks, script_then}
 use Rattle.tj_eval.specs.Gets.{asks_no_get}
@@ -20,25 +19,18 @@ use Rattle.tj_program.specs.declared.command.Command.{Command}
 use Rattle.tj_program.specs.declared.command.Command.TheVariants as command
 use Rattle.tj_program.proofs.CommandLines.{within_limits}
 
--- the root of a script's program
-pub IsRoot-script : (tokens : List Tok) (script : List Task) (steps : ℕ) (root : TaskState) → IsScript tokens script
+-- the body of a script's root has asked nothing yet
+pub fresh-root : (tokens : List Tok) (script : List Task) (steps : ℕ) (root : TaskState) → IsScript tokens script
     → IsMainBody script steps root → steps ≤ 1000000
-    → IsRoot script_places script_awaits script_left (root_task root)
-IsRoot-script tokens script steps root is main few = record {
-  name = refl;
-  passed = refl;
-  handed = refl;
-  proper = record {
-    fresh = subst (IsFresh script_places script_awaits script_left 1) (sym main.2)
-        (fresh-main script steps main.0 (few-script tokens script is) (omega arith));
-    few = omega arith;
-  };
-}
+    → IsFresh script_places script_awaits script_left 1 root
+fresh-root tokens script steps root is main few = subst (IsFresh script_places script_awaits script_left 1) (sym main.2)
+    (fresh-main script steps main.0 (few-script tokens script is) (omega arith))
 
 pub IsWithoutGet-script : ((task : TaskState) (a : Answer) → IsTrue (asks_no_get task)
     → IsNoGet asks_no_get (script_asks task a) × IsTrue (asks_no_get (script_then task a)))
-    → IsWithoutGet script_places script_awaits script_asks script_then asks_no_get
-IsWithoutGet-script law b a calm fits = law b a calm
+    → (strict : Bool) → IsWithoutGet
+    (rules_of script_places script_awaits script_left script_asks script_then strict) asks_no_get
+IsWithoutGet-script law strict b a calm fits = law b a calm
 
 -- of a command whose numbers are within their limits
 pub never_waits : ((cells steps : ℕ) (input : List ℕ) → steps ≤ 1000000 → StrictRunsNeverWait cells steps input)

@@ -1,7 +1,8 @@
 -- What running a script gives: it is full, or its outcome is told.
 use Rattle.std.specs.Prelude.{ℕ, ◌<◌, ◌≤◌, Bool, true, false, List}
-use Rattle.tj_body.specs.Rounds.{IsFull, meaning, root_task}
-use Rattle.tj_eval.specs.Bodies.{IsMainBody, script_asks, script_then, script_left}
+use Rattle.tj_body.specs.Programs.{Program, program_of}
+use Rattle.tj_body.specs.Rounds.{IsFull, meaning}
+use Rattle.tj_eval.specs.Bodies.{IsMainBody, script_places, script_awaits, script_left, script_asks, script_then}
 use Rattle.tj_eval.specs.Statements.{TaskState}
 use Rattle.tj_mean.specs.declared.outcome.Outcome.{Outcome}
 use Rattle.tj_mean.specs.Outcomes.{IsOutcome, is_marked}
@@ -16,14 +17,18 @@ abbrev pub status_of : Bool → Status
 status_of true = Marked
 status_of false = Clean
 
+-- the program of a root whose body is that of a script's task
+abbrev pub script_program : Bool → TaskState → Program TaskState
+script_program = program_of script_places script_awaits script_left script_asks script_then
+
 module _ (strict : Bool) (cells : ℕ) where
   -- the program of this root needs more cells
   abbrev pub NeedsMore : TaskState → Type 0
-  NeedsMore root = IsFull strict script_asks script_then script_left (root_task root) cells
+  NeedsMore root = IsFull (script_program strict root) cells
 
   -- the outcome of the meaning of this root's program
   abbrev pub IsOutcomeOf : TaskState → Outcome → Type 0
-  IsOutcomeOf root = IsOutcome (meaning strict script_asks script_then script_left (root_task root) cells)
+  IsOutcomeOf root = IsOutcome (meaning (script_program strict root) cells)
 
   module _ (told : Outcome → List ℕ) where
     -- of the program of this root: that it is full, or its outcome as it is told

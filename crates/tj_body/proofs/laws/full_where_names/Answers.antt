@@ -1,7 +1,8 @@
+use Rattle.tj_body.specs.Programs.{program_of}
 use Rattle.tj_body.proofs.Settles.{full_where}
 use Rattle.tj_body.proofs.laws.full_where_names.Goals as goal
 
 pub returns : goal.returns
 returns g c =
     let b = g.B.Body in
-    λ strict root r. full_where strict b.asks b.then b.left root r.handed
+    λ strict root fresh. full_where (program_of b.places b.awaits b.left b.asks b.then strict root)

@@ -1,7 +1,8 @@
+use Rattle.tj_body.specs.Programs.{program_of}
 use Rattle.tj_body.proofs.Settles.{settles_by_size}
 use Rattle.tj_body.proofs.laws.round_settles_by_size.Goals as goal
 
 pub returns : goal.returns
 returns g c =
     let b = g.B.Body in
-    λ strict root r. settles_by_size strict b.asks b.then b.left root r.handed
+    λ strict root fresh. settles_by_size (program_of b.places b.awaits b.left b.asks b.then strict root)

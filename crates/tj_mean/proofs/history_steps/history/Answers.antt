@@ -1,5 +1,6 @@
 use Rattle.std.proofs.Common.{◌≡◌, ◌<◌, ◌≤◌, suc, length, sym, ap, subst, ◌∙◌, inl, inr}
 use Rattle.tj_body.specs.Points.{IsGood}
+use Rattle.tj_body.specs.Programs.{rules_of}
 use Rattle.tj_body.specs.History.{after_step}
 use Rattle.tj_body.proofs.Good.{good}
 use Rattle.tj_body.proofs.Points.{halt}
@@ -12,19 +13,17 @@ pub advance-requires-clause-good : goal.advance-requires-clause-good
 advance-requires-clause-good g c κs within =
     let b = g.B.Body in let i = c.loop-p.invariant.point in
     let o = (g.met.B.Body g.world.𝓛 g.world.𝓜 g.world.𝓡 ((λ s x. x), (λ x. x), (λ x. x), λ x. x)).obeys in
-    let all = good b.places b.awaits b.left c.args.strict b.asks b.then o (assignment_in c.args.given.now)
-    c.args.task
-    c.requires.proper i.0 in
-    (subst (IsGood b.places b.awaits b.left) (sym i.1) all).at_stage
+    let rules = rules_of b.places b.awaits b.left b.asks b.then c.args.strict in
+    let all = good rules o (assignment_in c.args.given.now) c.args.task c.requires.proper i.0 in
+    (subst (IsGood rules) (sym i.1) all).at_stage
 
 pub advance-requires-clause-made : goal.advance-requires-clause-made
 advance-requires-clause-made g c κs within =
     let b = g.B.Body in let i = c.loop-p.invariant.point in
     let o = (g.met.B.Body g.world.𝓛 g.world.𝓜 g.world.𝓡 ((λ s x. x), (λ x. x), (λ x. x), λ x. x)).obeys in
-    let all = good b.places b.awaits b.left c.args.strict b.asks b.then o (assignment_in c.args.given.now)
-    c.args.task
-    c.requires.proper i.0 in
-    (subst (IsGood b.places b.awaits b.left) (sym i.1) all).made
+    let rules = rules_of b.places b.awaits b.left b.asks b.then c.args.strict in
+    let all = good rules o (assignment_in c.args.given.now) c.args.task c.requires.proper i.0 in
+    (subst (IsGood rules) (sym i.1) all).made
 
 pub returns-then-not-branch-clause-ok : goal.returns-then-not-branch-clause-ok
 returns-then-not-branch-clause-ok g c =
@@ -32,8 +31,8 @@ returns-then-not-branch-clause-ok g c =
     let o = (g.met.B.Body g.world.𝓛 g.world.𝓜 g.world.𝓡 ((λ s x. x), (λ x. x), (λ x. x), λ x. x)).obeys in
     let same : c.advance.new.p ≡ c.loop-p.p = c.in_ok-advance.ensures.stays c.if-not-branch.true in
     let still = sym c.in_ok-advance.ensures.step ∙ same in
-    same ∙ (i.1 ∙ halt c.args.strict b.asks b.then b.places b.awaits b.left o V c.args.task c.requires.proper i.0
-    (subst (λ z. after_step c.args.strict b.asks b.then V z ≡ z) i.1 still))
+    let rules = rules_of b.places b.awaits b.left b.asks b.then c.args.strict in
+    same ∙ (i.1 ∙ halt rules o V c.args.task c.requires.proper i.0 (subst (λ z. after_step rules V z ≡ z) i.1 still))
 
 pub returns-then-not-branch-clause-fits : goal.returns-then-not-branch-clause-fits
 returns-then-not-branch-clause-fits g c =
@@ -48,15 +47,17 @@ loop-p-init g c = record {
 
 pub loop-p-preserved : goal.loop-p-preserved
 loop-p-preserved g c =
-    let b = g.B.Body in let i = c.loop-p.invariant.point in let V = assignment_in c.args.given.now in record {
-      point = (suc i.0, c.in_ok-advance.ensures.step ∙ ap (after_step c.args.strict b.asks b.then V) i.1);
+    let b = g.B.Body in let i = c.loop-p.invariant.point in let V = assignment_in c.args.given.now in
+    let rules = rules_of b.places b.awaits b.left b.asks b.then c.args.strict in record {
+      point = (suc i.0, c.in_ok-advance.ensures.step ∙ ap (after_step rules V) i.1);
       fits = subst (λ l. length l < c.args.room) c.items.ensures c.if-items-room.false;
     }
 
 pub returns-then-p-cells-clause-full : goal.returns-then-p-cells-clause-full
 returns-then-p-cells-clause-full g c =
     let b = g.B.Body in let i = c.loop-p.invariant.point in let V = assignment_in c.args.given.now in
-    let point = c.in_ok-advance.ensures.step ∙ ap (after_step c.args.strict b.asks b.then V) i.1 in
+    let rules = rules_of b.places b.awaits b.left b.asks b.then c.args.strict in
+    let point = c.in_ok-advance.ensures.step ∙ ap (after_step rules V) i.1 in
     elim c.then-p-cells.branch [
       | then-p-cells-via-then-p-cells w ↦ λ _. (c.advance.new.p, (suc i.0, point), inl w.if-p-cells.true)
       | then-p-cells-via-else-p-cells+then-items-room w ↦ λ _. (

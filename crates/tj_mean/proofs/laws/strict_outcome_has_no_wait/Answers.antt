@@ -1,5 +1,7 @@
 use Rattle.std.proofs.Common.{true}
+use Rattle.tj_body.specs.Programs.{program_of, strictly}
 use Rattle.tj_body.specs.Rounds.{given, last_round, meaning}
+use Rattle.tj_body.proofs.Proper.{root_proper}
 use Rattle.tj_body.proofs.InOrder.{stops}
 use Rattle.tj_body.proofs.WithoutGets.{never_waits}
 use Rattle.tj_mean.proofs.NoWaits.{has_no_wait}
@@ -9,7 +11,8 @@ pub returns : goal.returns
 returns g c =
     let b = g.B.Body in
     let o = (g.met.B.Body g.world.𝓛 g.world.𝓜 g.world.𝓡 ((λ s x. x), (λ x. x), (λ x. x), λ x. x)).obeys in
-    λ root r calm no_get calm_root N fits.
-    has_no_wait (given true b.asks b.then b.left root (last_round N)) (meaning true b.asks b.then b.left root N)
-    (stops true b.asks b.then b.left b.places b.awaits o root r.handed r.proper N)
-    (never_waits b.asks b.then b.left b.places b.awaits o root r.handed r.passed r.proper calm no_get calm_root N fits)
+    λ strict root fresh calm no_get calm_root N fits.
+    let program = program_of b.places b.awaits b.left b.asks b.then strict root in
+    let proper = root_proper (strictly program) fresh in
+    has_no_wait (given (strictly program) (last_round N)) (meaning (strictly program) N)
+    (stops (strictly program) o proper N) (never_waits program o proper calm no_get calm_root N fits)

@@ -8,14 +8,14 @@ use Rattle.tj_mean.proofs.round.push_children.Goals as goal
 
 pub loop-task-preserved : goal.loop-task-preserved
 loop-task-preserved g c =
-    let b = g.B.Body in let i = c.loop-task.invariant in let t = c.in-Some.task in
+    let i = c.loop-task.invariant in let t = c.in-Some.task in
     let w : Pending g.row.B.Denot = record { task = t; depth = c.args.depth - 1 } in (
       t ∷ i.0,
       i.1 ∙ ap (λ l. l ++ i.0) c.in-Some.ensures.items ∙ append_assoc c.pop.new.self.items (t ∷ []) i.0,
-      λ s V.
-          let of = family s b.asks b.then b.left V (c.args.depth - 1) in
-          ap (λ l. still s b.asks b.then b.left V l) c.in_ok-push.ensures.items
-          ∙ still_push s b.asks b.then b.left V c.loop-task.pending.items w
-          ∙ ap (λ l. of t ++ l) (i.2 s V)
-          ∙ sym (append_assoc (of t) (flat_map of i.0) (still s b.asks b.then b.left V c.args.pending.now.items)),
+      λ rules V.
+          let of = family rules V (c.args.depth - 1) in
+          ap (λ l. still rules V l) c.in_ok-push.ensures.items
+          ∙ still_push rules V c.loop-task.pending.items w
+          ∙ ap (λ l. of t ++ l) (i.2 rules V)
+          ∙ sym (append_assoc (of t) (flat_map of i.0) (still rules V c.args.pending.now.items)),
     )

@@ -1,5 +1,6 @@
-use Rattle.std.proofs.Common.{◌≡◌, ◌-◌, ◌++◌, Bool, List, vec_len}
+use Rattle.std.proofs.Common.{◌≡◌, ◌-◌, ◌++◌, List, vec_len}
 use Rattle.std.specs.List.{flat_map}
+use Rattle.tj_body.specs.Programs.{Rules}
 use Rattle.tj_body.specs.History.{Assignment}
 use Rattle.tj_body.specs.Rounds.{family}
 use Rattle.tj_body.specs.declared.point.Task.{Task}
@@ -8,11 +9,11 @@ use Rattle.tj_mean.proofs.round.push_children.Given as goal
 
 -- the children that were taken from the end come first
 abbrev pub invariant-loop-task : goal.invariant-loop-task
-invariant-loop-task g l = let b = g.B.Body in
+invariant-loop-task g l =
     (taken : List (Task g.row.B.Denot)) × (l.fn.children.items ≡ l.children.items ++ taken)
-    × ((strict : Bool) (V : Assignment) → still strict b.asks b.then b.left V l.pending.items
-    ≡ flat_map (family strict b.asks b.then b.left V (l.depth - 1)) taken
-    ++ still strict b.asks b.then b.left V l.initial.pending.items)
+    × ((rules : Rules g.row.B.Denot) (V : Assignment) → still rules V l.pending.items
+    ≡ flat_map (family rules V (l.depth - 1)) taken
+    ++ still rules V l.initial.pending.items)
 
 abbrev pub decreases-loop-task : goal.decreases-loop-task
 decreases-loop-task g l = vec_len l.children

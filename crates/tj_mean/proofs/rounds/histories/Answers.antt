@@ -3,7 +3,8 @@ use Rattle.std.specs.Cmp.Lexicographic.{slice_cmp}
 use Rattle.std.specs.Ordering.{nat_cmp}
 use Rattle.std.specs.BTreeMap.{is_at}
 use Rattle.std.specs.Map.{lookup}
-use Rattle.tj_body.specs.Rounds.{root_task, given, tasks, entries, entry_in}
+use Rattle.tj_body.specs.Programs.{program_of}
+use Rattle.tj_body.specs.Rounds.{given, tasks, entries, entry_in}
 use Rattle.tj_mean.specs.Assignments.{assignment_in}
 use Rattle.tj_mean.specs.KeptRounds.{IsRound}
 use Rattle.tj_mean.proofs.Told.{settled_tells, last_tells, settled_fits, last_fits, kept_tasks, kept_entries}
@@ -22,7 +23,7 @@ loop-given-init g c = record {
 pub loop-given-preserved : goal.loop-given-preserved
 loop-given-preserved g c =
     let b = g.B.Body in
-    let root = root_task c.args.root.now in
+    let program = program_of b.places b.awaits b.left b.asks b.then c.args.strict c.args.root.now in
     let n = c.loop-given.n in
     let few = c.loop-given.invariant.few_rounds in
     let further = c.if-n-cells.false in
@@ -30,30 +31,30 @@ loop-given-preserved g c =
     let is = c.in_ok-round.ensures.ok in
     let entered : assignment_in c.in_ok-given.given ≡ entry_in c.in_ok-round.round.entries.items = λ i q.
     c.in_ok-given.ensures q i in
-    let counted = kept_tasks c.args.strict b.asks b.then b.left root refl n c.in_ok-round.round is in
-    let written = kept_entries c.args.strict b.asks b.then b.left root refl n c.in_ok-round.round is in record {
+    let counted = kept_tasks program n c.in_ok-round.round is in
+    let written = kept_entries program n c.in_ok-round.round is in record {
       few_rounds = omega arith;
-      round = entered ∙ ap entry_in is.entries_kept ∙ ap (λ k. given c.args.strict b.asks b.then b.left root k) up;
+      round = entered ∙ ap entry_in is.entries_kept ∙ ap (λ k. given program k) up;
       tasks_counted = c.len-tasks.ensures ∙ c.in_ok-round.round.tasks.ok.0 ∙ counted
-          ∙ ap (λ k. length (tasks c.args.strict b.asks b.then b.left root k)) up;
+          ∙ ap (λ k. length (tasks program k)) up;
       entries_counted = c.len-entries.ensures ∙ c.in_ok-round.round.entries.ok.0 ∙ written
-          ∙ ap (λ k. length (entries c.args.strict b.asks b.then b.left root k)) up;
+          ∙ ap (λ k. length (entries program k)) up;
     }
 
 pub returns-then-n-cells-clause-fits : goal.returns-then-n-cells-clause-fits
 returns-then-n-cells-clause-fits g c =
     let b = g.B.Body in
-    let root = root_task c.args.root.now in
+    let program = program_of b.places b.awaits b.left b.asks b.then c.args.strict c.args.root.now in
     let is = c.in_ok-round.ensures.ok in
     let few = c.in_ok-round.ensures.few in
     let i = c.loop-given.invariant in
     elim c.then-n-cells.branch [
       | then-n-cells-via-then-n-cells w ↦
-          last_fits c.args.strict b.asks b.then b.left root refl c.args.cells c.in_ok-round.round
-          (subst (λ k. IsRound c.args.strict b.asks b.then b.left root k c.in_ok-round.round) w.if-n-cells.true is) few
+          last_fits program c.args.cells c.in_ok-round.round
+          (subst (λ k. IsRound program k c.in_ok-round.round) w.if-n-cells.true is) few
       | then-n-cells-via-else-n-cells+then-adds_none w ↦
           let none = w.adds_none.ensures.0 w.if-adds_none.true in
-          settled_fits c.args.strict b.asks b.then b.left root refl c.args.cells c.loop-given.n c.in_ok-round.round
+          settled_fits program c.args.cells c.loop-given.n c.in_ok-round.round
           is i.few_rounds few
           (subst (λ k. length c.in_ok-round.round.tasks.items ≤ k) i.tasks_counted none.0)
           (subst (λ k. length c.in_ok-round.round.entries.items ≤ k) i.entries_counted none.1)
@@ -62,17 +63,17 @@ returns-then-n-cells-clause-fits g c =
 pub returns-then-n-cells-clause-told : goal.returns-then-n-cells-clause-told
 returns-then-n-cells-clause-told g c =
     let b = g.B.Body in
-    let root = root_task c.args.root.now in
+    let program = program_of b.places b.awaits b.left b.asks b.then c.args.strict c.args.root.now in
     let is = c.in_ok-round.ensures.ok in
     let few = c.in_ok-round.ensures.few in
     let i = c.loop-given.invariant in
     elim c.then-n-cells.branch [
       | then-n-cells-via-then-n-cells w ↦
-          last_tells c.args.strict b.asks b.then b.left root refl c.args.cells c.in_ok-round.round
-          (subst (λ k. IsRound c.args.strict b.asks b.then b.left root k c.in_ok-round.round) w.if-n-cells.true is) few
+          last_tells program c.args.cells c.in_ok-round.round
+          (subst (λ k. IsRound program k c.in_ok-round.round) w.if-n-cells.true is) few
       | then-n-cells-via-else-n-cells+then-adds_none w ↦
           let none = w.adds_none.ensures.0 w.if-adds_none.true in
-          settled_tells c.args.strict b.asks b.then b.left root refl c.args.cells c.loop-given.n c.in_ok-round.round
+          settled_tells program c.args.cells c.loop-given.n c.in_ok-round.round
           is i.few_rounds
           (subst (λ k. length c.in_ok-round.round.tasks.items ≤ k) i.tasks_counted none.0)
           (subst (λ k. length c.in_ok-round.round.entries.items ≤ k) i.entries_counted none.1)
