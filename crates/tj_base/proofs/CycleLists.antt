@@ -5,6 +5,8 @@ use Rattle.std.specs.Bool.{Decides}
 use Rattle.std.specs.Cmp.{IsEquivalence}
 use Rattle.std.specs.List.{Contains, IsDistinct}
 use Rattle.std.proofs.lemmas.Map.Keys.{IsDistinct-from_apart, apart_from_distinct}
+use native.Mathlib.Decide.{ℕ_discrete}
+use mathlib.Core.Logic.{dite}
 use Rattle.std.proofs.lemmas.Map.Made.{is_member-Decides, length-le_from_is_member}
 use Rattle.tj_base.specs.Cycles.{LeadsToOne, LeadsAlong, Reaches, IsOnCycleOf, IsCycle}
 use Rattle.tj_base.proofs.Ways.{reach_one, reach_front, reach_after, cycle_at, cycle_once, cycle_leads, size_one}
@@ -93,6 +95,27 @@ module _ {A : Type 0} (Leads : A → A → Type 0) (one : LeadsToOne Leads) wher
     cycles_return (b ∷ bs) a c h =
         cycle_at Leads one b (suc (length bs)) h.0 a (first_round b bs c)
         (subst (Reaches Leads b h.0) h.2 (at_place Leads b b bs c.1 h.0 a h.1))
+
+    -- what is reached from a cycle's first node is a node of it
+    pub reached_contained : (a : A) (bs : List A) → IsCycle Leads equal (a ∷ bs) → (k : ℕ) (z : A)
+        → Reaches Leads a k z → Contains (a ∷ bs) z
+    reached_contained a bs c k z r =
+        let x = at_a_place k z r in
+        (x.0, x.1, reach_one Leads one a x.0 (get_or (a ∷ bs) x.0 z) z (at_place Leads a a bs c.1 x.0 z x.1) x.2)
+      where
+        at_a_place : (k : ℕ) (z : A) → Reaches Leads a k z → (i : ℕ) × (i < suc (length bs)) × Reaches Leads a i z
+        at_a_place zero z r = (0, omega arith, r)
+        at_a_place (suc k) z r =
+            let x = at_a_place k r.0 r.1 in
+            let small = x.1 in
+            dite (ℕ_discrete (suc x.0) (suc (length bs)))
+            (λ e. (
+              0,
+              omega arith,
+              reach_one Leads one a (suc (length bs)) a z (through Leads a a bs c.1)
+                  (subst (λ n. Reaches Leads a n z) e (r.0, x.2, r.2)),
+            ))
+            (λ n. (suc x.0, omega arith, (r.0, x.2, r.2)))
 
     -- the nodes of a cycle from a on are one list
     pub cycle_one : (a : A) (bs cs : List A) → IsCycle Leads equal (a ∷ bs) → IsCycle Leads equal (a ∷ cs) → bs ≡ cs
