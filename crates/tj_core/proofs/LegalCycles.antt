@@ -10,9 +10,8 @@ use Rattle.tj_core.specs.WaitGraph.{IsCycle, IsOnCycle}
 use Rattle.tj_core.specs.CoreFacts.{CoreFacts}
 use Rattle.tj_core.specs.RunLaws.{run_to, LegalSettlesAreOffCycles, LegalCyclesStand}
 use Rattle.tj_core.specs.RunLaws.{LegalAlarmsAreOnCycles, LegalCyclesAreWatched, LegalLoadsAreBounded}
-use Rattle.tj_core.proofs.Frames.{leads_stays}
-use Rattle.tj_core.proofs.Chains.{cycle_list_moves}
-use Rattle.tj_core.proofs.EachEvent.{kept_by_event}
+use Rattle.tj_core.proofs.EachEvent.{facts_after_event}
+use Rattle.tj_core.proofs.EventEffects.{event_keeps_cycles}
 use Rattle.tj_core.proofs.LegalRuns.{legal_facts, settles_off_cycles}
 use Rattle.tj_core.proofs.WatchedCycles.{alarms_on_cycles, cycles_watched, loads_bounded}
 
@@ -39,12 +38,7 @@ list_on : (N : ℕ) (s : CoreState) (es : List Event) (tasks : List ℕ)
     → CoreFacts s → AreAllowed N s es → IsCycle s.cells tasks → IsCycle (after_all s es).cells tasks
 list_on N s [] tasks x a c = c
 list_on N s (e ∷ es) tasks x a c =
-    let k = kept_by_event N s e x a.0 in
-    let m = k.1.0 in
-    let z = after s e in
-    list_on N z es tasks k.0 a.1
-    (cycle_list_moves m.cells z.cells (leads_stays m z k.1.2.frame) tasks
-    (cycle_list_moves s.cells m.cells (leads_stays s m k.1.1.frame) tasks c))
+    list_on N (after s e) es tasks (facts_after_event N s e x a.0) a.1 (event_keeps_cycles N s e tasks x a.0 c)
 
 -- in every legal run a standing cycle stands ever after
 pub legal_cycles_stand : LegalCyclesStand

@@ -31,6 +31,8 @@ pub mod WalkReads
 pub mod WalkEnds
 pub mod PublishEvent
 pub mod EachEvent
+pub mod EventEffects
+pub mod WalkPlaces
 pub mod LegalRuns
 pub mod WatchedCycles
 pub mod LegalCycles

@@ -7,19 +7,21 @@ use mathlib.Core.Logic.{dite}
 use Rattle.tj_base.specs.ForkOrder.{Name, child, IsAncestor}
 use Rattle.tj_core.specs.CoreState.{promise, Cells, CoreState, owner, name, maker, stage, is_task, IsTask}
 use Rattle.tj_core.specs.CoreState.{Lives}
-use Rattle.tj_core.specs.Facts.{IsNamed, MakersFact, OwnersFact}
+use Rattle.tj_core.specs.Facts.{IsNamed, IsThing, MakersFact, OwnersFact}
 use Rattle.tj_core.proofs.Frames.{Frame}
 
 -- u is the maker of p or a descendant of it
 abbrev pub IsFromMaker : Cells → ℕ → ℕ → Type 0
 IsFromMaker cells p u = (u ≡ maker cells p) ⊎ IsAncestor (name cells (maker cells p)) (name cells u)
 
--- what a new cell c owes: its maker is a task of a smaller number, after which it is named, and its name is new
+-- what a new cell c owes: its maker is a task of a smaller number, after which it is named, and its name is new and
+-- that of a later thing than all that its maker made before
 pub record IsMadeBefore (cells : Cells) (c : ℕ) : Type 0 where
   pub earlier : maker cells c < c
   pub task : IsTask cells (maker cells c)
   pub named : IsNamed cells c
   pub new_name : (d : ℕ) → d < c → name cells d ≢ name cells c
+  pub latest : (d j k : ℕ) → d < c → maker cells d ≡ maker cells c → IsThing cells d j → IsThing cells c k → j < k
 
 -- a child's name isn't the root's
 child_some : (a : Name) (k : ℕ) → child a k ≢ []
@@ -27,7 +29,7 @@ child_some [] k e = absurd (cc)
 child_some (x ∷ a) k e = absurd (cc)
 
 -- a child's name tells its maker's name and its number
-child_same : (a b : Name) (j k : ℕ) → child a j ≡ child b k → (a ≡ b) × (j ≡ k)
+pub child_same : (a b : Name) (j k : ℕ) → child a j ≡ child b k → (a ≡ b) × (j ≡ k)
 child_same [] [] j k e = (refl, cc)
 child_same [] (y ∷ b) j k e = let q : [] ≡ child b k = cc in absurd (child_some b k (sym q))
 child_same (x ∷ a) [] j k e = let q : child a j ≡ [] = cc in absurd (child_some a j q)
@@ -35,6 +37,23 @@ child_same (x ∷ a) (y ∷ b) j k e =
     let head : x ≡ y = cc in
     let tail : child a j ≡ child b k = cc in
     let h = child_same a b j k tail in ((λ i. head i ∷ h.0 i), h.1)
+
+-- a cell's maker is there
+pub maker_there : (n : ℕ) (cells : Cells) → MakersFact n cells → (c : ℕ) → c < n → maker cells c < n
+maker_there n cells x c there = dite (ℕ_discrete c 0)
+    (λ q. subst (λ j. maker cells j < n) (sym q) (subst (λ j. j < n) (sym x.root_maker) x.root_there))
+    (λ q. let below = x.makers_before c there q in omega arith)
+
+-- a thing is one of those that its maker made
+pub thing_made : (n : ℕ) (cells : Cells) → MakersFact n cells → (d j : ℕ) → d < n → IsThing cells d j
+    → j ≤ (cells (maker cells d)).made
+thing_made n cells x d j there e = dite (ℕ_discrete d 0)
+    (λ q. absurd (child_some (name cells (maker cells d)) j (sym e ∙ (ap (name cells) q ∙ x.root_name))))
+    (λ q.
+    let k = x.makers_name d there q in
+    let same = (child_same (name cells (maker cells d)) (name cells (maker cells d)) j k.number
+    (sym e ∙ k.name_is)).1 in
+    let made = k.made in omega arith)
 
 -- no cell has the name of the next thing that t makes
 pub next_name_new : (n : ℕ) (cells : Cells) → MakersFact n cells → (t d : ℕ) → t < n → d < n
@@ -44,10 +63,9 @@ next_name_new n cells x t d t_there there e = dite (ℕ_discrete d 0)
     (sym e ∙ (ap (name cells) q ∙ x.root_name)))
     (λ q.
     let k = x.makers_name d there q in
-    let below = x.makers_before d there q in
     let same = child_same (name cells (maker cells d)) (name cells t) k.number (suc (cells t).made)
     (sym k.name_is ∙ e) in
-    let m : maker cells d ≡ t = x.names_apart (maker cells d) t (omega arith) t_there same.0 in
+    let m : maker cells d ≡ t = x.names_apart (maker cells d) t (maker_there n cells x d there) t_there same.0 in
     let made : k.number ≤ (cells t).made = subst (λ j. k.number ≤ (cells j).made) m k.made in
     let number = same.1 in omega arith)
 
@@ -93,6 +111,11 @@ from_maker_child cells p t c k e h = inr (⊎_elim
     h)
 
 module _ (s s' : CoreState) (f : Frame s s') where
+  -- a cell that was there was the same thing of its maker
+  pub thing_before : MakersFact s.count s.cells → (c j : ℕ) → c < s.count → IsThing s'.cells c j → IsThing s.cells c j
+  thing_before x c j l e = sym (f.names c l) ∙ (e ∙ ap (λ (q : Name). child q j)
+      (ap (name s'.cells) (f.makers c l) ∙ f.names (maker s.cells c) (maker_there s.count s.cells x c l)))
+
   -- the makers stay, and each new cell's maker is one
   pub makers_stay :
       MakersFact s.count s.cells
@@ -130,6 +153,11 @@ module _ (s s' : CoreState) (f : Frame s s') where
     names_apart = λ c d lc ld e. dite (ℕ_discrete c d) (λ q. q) (λ n. dite (dec_le c d)
         (λ h. absurd (apart c d (omega arith) ld e))
         (λ h. absurd (apart d c (omega arith) lc (sym e))));
+    numbers_grow = λ c d j k below l same a b. dite (dec_le s.count d)
+        (λ h. (new d h l).latest c j k below same a b)
+        (λ h. let ld : d < s.count = omega arith in let lc : c < s.count = omega arith in
+        x.numbers_grow c d j k below ld (sym (f.makers c lc) ∙ (same ∙ f.makers d ld))
+        (thing_before x c j lc a) (thing_before x d k ld b));
   }
     where
       apart : (c d : ℕ) → c < d → d < s'.count → name s'.cells c ≡ name s'.cells d → ⊥

@@ -6,18 +6,21 @@ use Rattle.tj_base.specs.ForkOrder.{Name, child}
 use Rattle.tj_core.specs.CoreState.{CellStage, promise, running, CellState, CoreState, put}
 use Rattle.tj_core.specs.CoreState.{owner, name, maker, stage, wait, wait_of, is_task, IsTask, Lives, HasBegun}
 use Rattle.tj_core.specs.Events.{raised_by}
+use Rattle.tj_core.specs.Facts.{IsThing}
 use Rattle.tj_core.specs.CoreFacts.{CoreFacts}
 use Rattle.tj_core.proofs.Puts.{at_put, put_here, put_else, raised-put_from}
 use Rattle.tj_core.proofs.Frames.{some_none}
 use Rattle.tj_core.proofs.NameOrders.{task_there}
+use Rattle.tj_core.proofs.Makers.{child_same}
 use Rattle.tj_core.proofs.CellChanges.{Fits}
 
--- nm is the name of the k-th thing that t made, and no cell has it yet
+-- nm is the name of the k-th thing that t made, no cell has it yet, and all that t made is earlier
 pub record IsNewName (s : CoreState) (t k : ℕ) (nm : Name) : Type 0 where
   pub some : 0 < k
   pub made : k ≤ (s.cells t).made
   pub name_is : nm ≡ child (name s.cells t) k
   pub new : (d : ℕ) → d < s.count → name s.cells d ≢ nm
+  pub latest : (d j : ℕ) → d < s.count → maker s.cells d ≡ t → IsThing s.cells d j → j < k
 
 module _ (s : CoreState) (x : CoreFacts s) where
   -- a new cell of t, a task that runs: a promise that t owns, or a task that owns itself
@@ -68,7 +71,14 @@ module _ (s : CoreState) (x : CoreFacts s) where
             ∙ ap (λ (q : Name). child q k) (sym (ap (name cells) its_maker ∙ t_name)));
       };
       new_name = λ d below e. named.new d below
-          (sym (ap (λ (c : CellState). c.name) (put_else s.cells s.count a d (else d below))) ∙ (e ∙ its_name));
+          (sym (old_name d (else d below)) ∙ (e ∙ its_name));
+      latest = λ d j k' below same thing thing'.
+          let of_t : maker s.cells d ≡ t = sym (old_maker d (else d below)) ∙ (same ∙ its_maker) in
+          let was : IsThing s.cells d j = sym (old_name d (else d below)) ∙ (thing
+          ∙ ap (λ (q : Name). child q j) (ap (name cells) (same ∙ its_maker) ∙ (t_name ∙ ap (name s.cells) (sym of_t)))) in
+          let number : k ≡ k' = (child_same (name s.cells t) (name cells (maker cells s.count)) k k'
+          (sym (its_name ∙ named.name_is) ∙ thing')).1 in
+          let small = named.latest d j below of_t was in omega arith;
     };
     sum =
         let here : raised_by (stage cells s.count) ≡ raised_by st =
@@ -107,8 +117,14 @@ module _ (s : CoreState) (x : CoreFacts s) where
       t_same : stage cells t ≡ stage s.cells t
       t_same = ap (λ (c : CellState). c.stage) (put_else s.cells s.count a t t_else)
 
+      old_maker : (d : ℕ) → d ≢ s.count → maker cells d ≡ maker s.cells d
+      old_maker d n = ap (λ (c : CellState). c.maker) (put_else s.cells s.count a d n)
+
+      old_name : (d : ℕ) → d ≢ s.count → name cells d ≡ name s.cells d
+      old_name d n = ap (λ (c : CellState). c.name) (put_else s.cells s.count a d n)
+
       t_name : name cells t ≡ name s.cells t
-      t_name = ap (λ (c : CellState). c.name) (put_else s.cells s.count a t t_else)
+      t_name = old_name t t_else
 
       wait_none : (j : ℕ) → wait s.cells j ≡ None → wait cells j ≡ None
       wait_none j e = at_put s.cells s.count a (λ i y. wait s.cells i ≡ None → wait_of y.stage ≡ None) j

@@ -1,7 +1,8 @@
 -- A task is on one standing cycle at most: its tasks from it on are determined.
 use Rattle.std.proofs.Common.{◌≡◌, ℕ, suc, ◌<◌, List, [], ◌∷◌, length, refl, subst, arith}
 use Rattle.tj_core.specs.CoreState.{Cells}
-use Rattle.tj_core.specs.WaitGraph.{IsCycle, LeadsAlong, IsOnCycleOf}
+use Rattle.tj_core.specs.WaitGraph.{LeadsAlong, IsOnCycleOf}
+use Rattle.tj_core.specs.Laws.{CyclesAreOne}
 use Rattle.tj_core.proofs.Rounds.{leads_one}
 use Rattle.tj_core.proofs.CycleLists.{cycles_return}
 
@@ -21,10 +22,10 @@ module _ (s : Cells) where
       let not_less : ¬ (m < n) = λ h. b.least m a.some h a.round in
       let not_more : ¬ (n < m) = λ h. a.least n b.some h b.round in omega (arith, not_less, not_more)
 
-  -- the tasks of a cycle from t on are one list
-  pub cycle_one : (t : ℕ) (us xs : List ℕ) → IsCycle s (t ∷ us) → IsCycle s (t ∷ xs) → us ≡ xs
-  cycle_one t us xs a b =
-      let m : IsOnCycleOf s t (suc (length us)) = cycles_return s (t ∷ us) t a (0, omega arith, refl) in
-      let n : IsOnCycleOf s t (suc (length xs)) = cycles_return s (t ∷ xs) t b (0, omega arith, refl) in
-      let e = size_one t (suc (length us)) (suc (length xs)) m n in
-      along_one t t t us xs a.1 b.1 (omega arith)
+-- the tasks of a cycle from t on are one list
+pub cycle_one : CyclesAreOne
+cycle_one s t us xs a b =
+    let m : IsOnCycleOf s t (suc (length us)) = cycles_return s (t ∷ us) t a (0, omega arith, refl) in
+    let n : IsOnCycleOf s t (suc (length xs)) = cycles_return s (t ∷ xs) t b (0, omega arith, refl) in
+    let e = size_one s t (suc (length us)) (suc (length xs)) m n in
+    along_one s t t t us xs a.1 b.1 (omega arith)

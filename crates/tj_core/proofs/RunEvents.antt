@@ -16,7 +16,7 @@ use Rattle.tj_core.proofs.Frames.{some_none}
 use Rattle.tj_core.proofs.Watches.{GoesOn, IsKept}
 use Rattle.tj_core.proofs.NameOrders.{task_there}
 use Rattle.tj_core.proofs.SoundTasks.{lives_task}
-use Rattle.tj_core.proofs.Makers.{IsFromMaker, from_maker_child, next_name_new}
+use Rattle.tj_core.proofs.Makers.{IsFromMaker, from_maker_child, next_name_new, thing_made, thing_before}
 use Rattle.tj_core.proofs.CellChanges.{with_cell, Fits, calmly_kept, kept_once}
 use Rattle.tj_core.proofs.RunChanges.{runs_calmly, at_stage, stage_fits, owner_fits, ended_cell, end_fits}
 use Rattle.tj_core.proofs.NewCells.{IsNewName, new_fits}
@@ -83,6 +83,10 @@ module _ (s : CoreState) (x : CoreFacts s) (task : CellId) (runs : Runs (stage s
         made = subst (λ (c : CellState). m ≤ c.made) (sym (begun_cell m)) (le_refl m);
         name_is = ap (λ q. child q m) (sym its_name);
         new = λ d l e. next_name_new s.count s.cells x.makers t d runs_there l (sym (f.names d l) ∙ e);
+        latest = λ d j l of_t thing.
+            let its_maker : maker s.cells d ≡ t = sym (f.makers d l) ∙ of_t in
+            let made : j ≤ (s.cells t).made = subst (λ i. j ≤ (s.cells i).made) its_maker
+            (thing_made s.count s.cells x.makers d j l (thing_before s (begun m) f x.makers d j l thing)) in omega arith;
       }
 
   -- Make keeps the facts

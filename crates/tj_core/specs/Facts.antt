@@ -45,8 +45,13 @@ pub record IsNamed (cells : Cells) (c : ℕ) : Type 0 where
   pub made : number ≤ (cells (maker cells c)).made
   pub name_is : name cells c ≡ child (name cells (maker cells c)) number
 
+-- c is the k-th thing that its maker made, by its name
+abbrev pub IsThing : Cells → ℕ → ℕ → Type 0
+IsThing cells c k = name cells c ≡ child (name cells (maker cells c)) k
+
 -- makers: the root is a task, and its own maker; each other cell's maker is a task of a smaller number, whose name
--- and one number are the cell's name, a number of the things that it made; no two cells have the same name
+-- and one number are the cell's name, a number of the things that it made; no two cells have the same name; of two
+-- cells of one maker the one with the greater cell number is the later thing that it made
 pub record MakersFact (count : ℕ) (cells : Cells) : Type 0 where
   pub root_there : 0 < count
   pub root_task : IsTask cells 0
@@ -56,6 +61,8 @@ pub record MakersFact (count : ℕ) (cells : Cells) : Type 0 where
   pub makers_task : (c : ℕ) → c < count → c ≢ 0 → IsTask cells (maker cells c)
   pub makers_name : (c : ℕ) → c < count → c ≢ 0 → IsNamed cells c
   pub names_apart : (c d : ℕ) → c < count → d < count → name cells c ≡ name cells d → c ≡ d
+  pub numbers_grow : (c d j k : ℕ) → c < d → d < count → maker cells c ≡ maker cells d
+      → IsThing cells c j → IsThing cells d k → j < k
 
 -- owners: an owner is a task that hasn't ended; a result's owner is its own task, and a task owns its result exactly
 -- until it has ended; a promise's owner is its maker or a descendant of it

@@ -73,7 +73,7 @@ pub record HasOneEvent (N : ℕ) (s : CoreState) (t : ℕ) : Type 0 where
   pub is_allowed : Allowed N s event
   pub only : (e : Event) → actor e ≡ Some t → Allowed N s e → e ≡ event
 
--- a walking task has exactly one allowed event
+-- in a state that meets the facts a walking task has exactly one allowed event
 abbrev pub WalkersHaveOneEvent : Type 0
 WalkersHaveOneEvent =
     (N : ℕ) (s : CoreState) (t : ℕ) → CoreFacts s → Walks s t (λ c way w. Unit {0}) → HasOneEvent N s t
@@ -85,6 +85,10 @@ CyclesReturn =
     → IsCycle cells tasks
     → Contains tasks t
     → IsOnCycleOf cells t (length tasks)
+
+-- the tasks of a standing cycle from t on are one list
+abbrev pub CyclesAreOne : Type 0
+CyclesAreOne = (cells : Cells) (t : ℕ) (us vs : List ℕ) → IsCycle cells (t ∷ us) → IsCycle cells (t ∷ vs) → us ≡ vs
 
 -- a task that is on a cycle of n tasks is the first of one
 abbrev pub ReturnsAreCycles : Type 0

@@ -9,6 +9,8 @@ pub mod Names
 pub mod Owners
 pub mod StagesShown
 pub mod StateLaws
+pub mod EventLaws
+pub mod WalkLaws
 pub mod RunLaws
 pub mod Statuses
 pub mod Slots

@@ -23,6 +23,7 @@ impl Core {
     ghost use Rattle.tj_core.specs.Events.{Allowed, Walks};
     ghost use Rattle.tj_core.specs.WaitGraph.{IsOnCycle, IsCycleFrom};
     ghost use Rattle.tj_core.specs.Core.{core_state, core_limit, core_loads, core_applied, Applies, IsSame};
+    ghost use Rattle.tj_core.specs.CoreFacts.{CoreFacts};
     ghost use Rattle.tj_core.specs.StagesShown.{stage_shown};
 
     /// The root alone, running, with room for so many cells.
@@ -33,6 +34,7 @@ impl Core {
         ensures limit { IfOk result (λ core. core_limit core ≡ cells) }
         ensures loads { IfOk result (λ core. (t : ℕ) → core_loads core t ≡ 0) }
         ensures applied { IfOk result (λ core. core_applied core ≡ 0) }
+        ensures facts { IfOk result (λ core. CoreFacts (core_state core)) }
     {
         let machine = Machine::new(alloc, cells)?;
         Ok(Core {
@@ -47,6 +49,7 @@ impl Core {
         ensures ok { OnOk result (Applies self.old e self.new) }
         ensures illegal { OnErr result (¬ Allowed (core_limit self.old) (core_state self.old) e) }
         ensures err { OnErr result (IsSame self.old self.new) }
+        ensures facts { CoreFacts (core_state self.old) → CoreFacts (core_state self.new) }
     {
         self.machine.step(e)?;
         self.applied += 1;

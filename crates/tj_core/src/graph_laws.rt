@@ -1,6 +1,6 @@
 //! The laws of the wait graph: a standing cycle, as a list of distinct tasks, is the same as a task
 //! that is reached from itself by the number of these tasks and by no fewer steps.
-ghost use Rattle.tj_core.specs.Laws.{CyclesReturn, ReturnsAreCycles};
+ghost use Rattle.tj_core.specs.Laws.{CyclesReturn, ReturnsAreCycles, CyclesAreOne};
 
 /// Each task of a standing cycle is reached from itself by as many steps as it has tasks, no fewer.
 pub fn cycles_return()
@@ -10,4 +10,9 @@ pub fn cycles_return()
 /// A task that is reached from itself by n steps, no fewer, is the first of a cycle of n tasks.
 pub fn returns_are_cycles()
     ensures { ReturnsAreCycles }
+{}
+
+/// The tasks of the standing cycle through a task, from it on, are one list.
+pub fn cycles_are_one()
+    ensures { CyclesAreOne }
 {}

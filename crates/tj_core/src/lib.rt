@@ -5,6 +5,7 @@ mod births;
 mod checker;
 mod cycle;
 mod event;
+mod event_laws;
 mod graph_laws;
 mod journal;
 mod journal_laws;
@@ -20,11 +21,15 @@ mod step;
 mod task_events;
 mod walk;
 mod walk_events;
+mod walk_laws;
 mod walker_law;
 
 pub use checker::Core;
 pub use event::Event;
-pub use graph_laws::{cycles_return, returns_are_cycles};
+pub use event_laws::{
+    event_keeps_alarms, event_keeps_cycles, event_keeps_watches, event_leaves_others,
+};
+pub use graph_laws::{cycles_are_one, cycles_return, returns_are_cycles};
 pub use journal::{JournalFault, MAX_JOURNAL, read_journal};
 pub use journal_laws::{one_judging, one_reading};
 pub use judge::{Judged, judge_text};
@@ -36,6 +41,10 @@ pub use laws::{
 };
 pub use stage::{Illegal, Stage};
 pub use walk::{LastRead, TrailLink, Walker, Way};
+pub use walk_laws::{
+    others_are_few, owners_are_there, present_cells_are_there, read_owners_are_there,
+    settlers_are_not_alone,
+};
 pub use walker_law::walkers_have_one_event;
 
 #[cfg(test)]

@@ -1,7 +1,7 @@
-//! The law of a walker: its next event is determined.
+//! The law of a walker: in a state that meets the facts its next event is determined.
 ghost use Rattle.tj_core.specs.Laws.{WalkersHaveOneEvent};
 
-/// A walking task has exactly one allowed event.
+/// In a state that meets the facts a walking task has exactly one allowed event.
 pub fn walkers_have_one_event()
     ensures { WalkersHaveOneEvent }
 {}

@@ -1,0 +1,5 @@
+use Rattle.tj_core.proofs.EventEffects.{event_keeps_alarms}
+use Rattle.tj_core.proofs.event_laws.event_keeps_alarms.Goals as goal
+
+pub returns : goal.returns
+returns c = event_keeps_alarms

@@ -1,0 +1,5 @@
+use Rattle.tj_core.proofs.EventEffects.{event_keeps_cycles}
+use Rattle.tj_core.proofs.event_laws.event_keeps_cycles.Goals as goal
+
+pub returns : goal.returns
+returns c = event_keeps_cycles

@@ -1,0 +1,29 @@
+//! What a walk may rely on, in each state that meets the facts: what it reads is there, OTHERS is
+//! small, and who settles isn't alone on a cycle.
+ghost use Rattle.tj_core.specs.WalkLaws.{PresentCellsAreThere, OwnersAreThere, ReadOwnersAreThere};
+ghost use Rattle.tj_core.specs.WalkLaws.{OthersAreFew, SettlersAreNotAlone};
+
+/// A walker's present cell is there.
+pub fn present_cells_are_there()
+    ensures { PresentCellsAreThere }
+{}
+
+/// A cell's owner is there.
+pub fn owners_are_there()
+    ensures { OwnersAreThere }
+{}
+
+/// An owner that a walker has just read is there.
+pub fn read_owners_are_there()
+    ensures { ReadOwnersAreThere }
+{}
+
+/// OTHERS is at most the number of cells and of the waits cleared and not yet lowered.
+pub fn others_are_few()
+    ensures { OthersAreFew }
+{}
+
+/// A cycle through a task whose walk may settle has another member that has alarmed or is on course.
+pub fn settlers_are_not_alone()
+    ensures { SettlersAreNotAlone }
+{}
