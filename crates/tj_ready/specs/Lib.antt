@@ -1,0 +1,6 @@
+pub mod BoundedLaws
+pub mod Ends
+pub mod Queues
+pub mod Rules
+pub mod Stealing
+pub mod Victims
