@@ -6,8 +6,10 @@ use Rattle.std.proofs.lemmas.List.{append_assoc}
 use Rattle.tj_base.specs.ForkOrder.{Name, before, IsBefore, IsAncestor, IsLaterFork}
 use Rattle.tj_base.proofs.Orders.{before_tells}
 use Rattle.tj_tree.specs.Forks.{Forks, HasTask, IsHistory, order_of, name_of}
-use Rattle.tj_tree.specs.Laws.{LaterForksKeepOrder, NoneIsBeforeItself, OrderIsTransitive, OrderIsTotal, OrderIsThatOfNames, IsInEarlierBranch, NamesTellOrder}
+use Rattle.tj_tree.specs.Laws.{LaterForksKeepOrder, NoneIsBeforeItself, OrderIsTransitive, OrderIsTotal, OrderIsThatOfNames, IsInEarlierBranch, NamesTellOrder, LinksLeadToTasks}
 use Rattle.tj_tree.proofs.Lists.{has, earlier, AreApart, earlier-insert_after_others, earlier_from_IsEarlier, IsEarlier-from_earlier}
+use Rattle.tj_tree.proofs.Trees.{parent_there}
+use Rattle.tj_tree.proofs.Walks.{jump_above}
 use Rattle.tj_tree.proofs.Orders.{has-order, AreApart-order, IsEarlier-order}
 
 -- tasks stay
@@ -146,3 +148,6 @@ pub names_tell_order : NamesTellOrder
 names_tell_order a b =
     let tells = before_tells a b (before a b) refl in
     (λ h. in_branches a b (tells.0 h), λ x. tells.1 (from_branches a b x))
+
+pub links_lead_to_tasks : LinksLeadToTasks
+links_lead_to_tasks forks n h there = (parent_there forks h n there, (jump_above forks h n there).there)

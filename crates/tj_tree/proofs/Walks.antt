@@ -53,7 +53,7 @@ above_trans fs top mid n p q = record {
   goes_on = q.goes_on ∙ ap (λ (m : Name). m ++ q.rest) p.goes_on ∙ append_assoc (name_of fs top) p.rest q.rest;
 }
 
-jump_above : (fs : Forks) → IsHistory fs → (n : ℕ) → HasTask fs n → IsAtOrAbove fs (node_of fs n).jump.0 n
+pub jump_above : (fs : Forks) → IsHistory fs → (n : ℕ) → HasTask fs n → IsAtOrAbove fs (node_of fs n).jump.0 n
 jump_above fs h n there = let is = IsJump-of fs h n there in
     record { there = is.jump_there; rest = is.rest; goes_on = is.above }
 

@@ -2,6 +2,7 @@
 use Rattle.std.specs.Prelude.{ℕ, ◌≡◌, ◌≢◌, ◌<◌, ◌⊎◌, ◌↔◌, ◌++◌, IsTrue}
 use Rattle.tj_base.specs.ForkOrder.{Name, child, before, IsAncestor}
 use Rattle.tj_tree.specs.Forks.{Forks, HasTask, IsHistory, IsEarlier, order_of, name_of}
+use Rattle.tj_tree.specs.Nodes.{node_of}
 
 -- later forks never change the order of two tasks that are there
 abbrev pub LaterForksKeepOrder : Type 0
@@ -52,3 +53,8 @@ pub record IsInEarlierBranch (a b : Name) : Type 0 where
 -- a task is before exactly its descendants and those in such a subtree
 abbrev pub NamesTellOrder : Type 0
 NamesTellOrder = (a b : Name) → IsTrue (before a b) ↔ (IsAncestor a b ⊎ IsInEarlierBranch a b)
+
+-- the parent and the jump of a task are tasks
+abbrev pub LinksLeadToTasks : Type 0
+LinksLeadToTasks = (forks : Forks) (n : ℕ) → IsHistory forks → HasTask forks n
+    → HasTask forks (node_of forks n).parent.0 × HasTask forks (node_of forks n).jump.0

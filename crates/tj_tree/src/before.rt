@@ -34,6 +34,7 @@ pub fn before_in<R: NodeReader, L: Ledger>(
     ensures counted { steps.new + R.looks reader.old ≡ steps.old + R.looks reader.new }
     ensures goes_on { GoesOn (R.shows reader.old) (R.may_look reader.old)
         (R.shows reader.new) (R.may_look reader.new) }
+    ensures stays { R.stays reader.old reader.new }
 {
     let a = visit(reader, a, steps);
     let b = visit(reader, b, steps);
@@ -55,6 +56,7 @@ fn visit<R: NodeReader, L: Ledger>(reader: &mut R, task: NodeId, steps: &mut Ste
     ensures look { R.looks reader.new ≡ R.looks reader.old + 1 }
     ensures goes_on { GoesOn (R.shows reader.old) (R.may_look reader.old)
         (R.shows reader.new) (R.may_look reader.new) }
+    ensures stays { R.stays reader.old reader.new }
 {
     let node = reader.look(task);
     steps.tick();
@@ -81,6 +83,7 @@ fn lifted<R: NodeReader, L: Ledger>(
     ensures known { IsKnown (R.shows reader.new) (R.may_look reader.new) result }
     ensures goes_on { GoesOn (R.shows reader.old) (R.may_look reader.old)
         (R.shows reader.new) (R.may_look reader.new) }
+    ensures stays { R.stays reader.old reader.new }
 {
     let mut at = from;
     while depth < at.node.depth {
@@ -105,6 +108,7 @@ fn higher<R: NodeReader, L: Ledger>(
     ensures known { IsKnown (R.shows reader.new) (R.may_look reader.new) result }
     ensures goes_on { GoesOn (R.shows reader.old) (R.may_look reader.old)
         (R.shows reader.new) (R.may_look reader.new) }
+    ensures stays { R.stays reader.old reader.new }
 {
     let jump = visit(reader, at.node.jump, steps);
     if depth <= jump.node.depth {
@@ -140,6 +144,7 @@ fn parted<R: NodeReader, L: Ledger>(
     ensures b_known { IsKnown (R.shows reader.new) (R.may_look reader.new) result.1 }
     ensures goes_on { GoesOn (R.shows reader.old) (R.may_look reader.old)
         (R.shows reader.new) (R.may_look reader.new) }
+    ensures stays { R.stays reader.old reader.new }
 {
     let (mut x, mut y) = (a, b);
     while x.node.parent.0 != y.node.parent.0 {

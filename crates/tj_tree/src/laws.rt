@@ -1,5 +1,6 @@
-//! Laws of the fork order, each the contract of a function that does nothing.
-ghost use Rattle.tj_tree.specs.Laws.{LaterForksKeepOrder, NoneIsBeforeItself, OrderIsTransitive, OrderIsTotal, OrderIsThatOfNames, NamesTellOrder};
+//! Laws of the fork order and of its tree, each the contract of a function that does nothing.
+ghost use Rattle.tj_tree.specs.Laws.{LaterForksKeepOrder, NoneIsBeforeItself, OrderIsTransitive, OrderIsTotal};
+ghost use Rattle.tj_tree.specs.Laws.{OrderIsThatOfNames, NamesTellOrder, LinksLeadToTasks};
 
 /// Later forks never change the order of two tasks that are there.
 pub fn later_forks_keep_order()
@@ -30,4 +31,9 @@ pub fn order_is_that_of_names()
 /// forked earlier than it, or than one of its ancestors.
 pub fn names_tell_order()
     ensures { NamesTellOrder }
+{}
+
+/// The parent and the jump of a task are tasks.
+pub fn links_lead_to_tasks()
+    ensures { LinksLeadToTasks }
 {}

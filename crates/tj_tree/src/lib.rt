@@ -13,8 +13,8 @@ mod tree;
 
 pub use before::before_in;
 pub use laws::{
-    later_forks_keep_order, names_tell_order, none_is_before_itself, order_is_that_of_names,
-    order_is_total, order_is_transitive,
+    later_forks_keep_order, links_lead_to_tasks, names_tell_order, none_is_before_itself,
+    order_is_that_of_names, order_is_total, order_is_transitive,
 };
 pub use list::OrderList;
 pub use node::{Node, NodeId};

@@ -16,6 +16,9 @@ pub trait NodeReader {
     /// How many looks were made.
     ghost looks: { Self → ℕ };
 
+    /// That the second is the first after some looks: what a look leaves alone is as it was.
+    ghost stays: { Self → Self → Type 0 };
+
     /// The node of a task that may be looked at. Its parent and its jump may be looked at from then
     /// on.
     fn look(&mut self, task: NodeId) -> Node
@@ -25,5 +28,13 @@ pub trait NodeReader {
             (shows self.new) (may_look self.new) }
         ensures parent { may_look self.new result.parent.0 }
         ensures jump { may_look self.new result.jump.0 }
-        ensures counted { looks self.new ≡ looks self.old + 1 };
+        ensures counted { looks self.new ≡ looks self.old + 1 }
+        ensures stays { stays self.old self.new };
+
+    /// No look leaves all as it was.
+    ghost stays_itself: { (reader : Self) → stays reader reader };
+
+    /// Looks after looks are looks.
+    ghost stays_on: { (first second third : Self) → stays first second → stays second third
+        → stays first third };
 }

@@ -1,7 +1,7 @@
 //! The order of a small tree in each of its forms, a deep chain, and a tree whose numbers have
 //! gaps.
 ghost use Rattle.std.specs.Prelude.{◌≡◌, ◌<◌};
-ghost use Rattle.tj_tree.specs.Forks.{HasTask, task_count};
+ghost use Rattle.tj_tree.specs.Forks.{HasTask, IsHistory, task_count};
 ghost use Rattle.tj_tree.specs.Gapped.{gapped};
 
 use super::*;
@@ -12,61 +12,92 @@ use std::sync::ledger::{Blank, Ledger};
 use std::test::Fail;
 use tj_base::{Name, Steps, path_before};
 
-// Reads a fork tree and counts its looks, in a ledger for its contract and in a number for the
-// test.
+// A tree, how many looks were made at it, and a number beside it.
 #[derive(Drop)]
-struct CountingReader<'a, C: Ledger> {
-    tree: &'a ForkTree,
-    counted: Steps<C>,
+struct Desk<'t> {
+    tree: &'t ForkTree,
     looks: u64,
+    beside: u64,
 }
 
-impl<C: Ledger> NodeReader for CountingReader<'_, C> {
-    ghost use Rattle.std.specs.Prelude.{◌≡◌, ◌<◌};
+// Reads the tree of a desk that it borrows, and counts its looks there, and in a ledger for its
+// contract.
+#[derive(Drop)]
+struct DeskReader<'a, 't, 'c, C: Ledger> {
+    desk: &'a mut Desk<'t>,
+    counted: &'c mut Steps<C>,
+}
+
+impl<C: Ledger> NodeReader for DeskReader<'_, '_, '_, C> {
+    ghost use Rattle.std.specs.Prelude.{◌≡◌, ◌<◌, refl};
     ghost use Rattle.tj_tree.specs.Forks.{HasTask, task_count};
     ghost use Rattle.tj_tree.specs.Nodes.{node_of};
+    ghost use Rattle.tj_tree.specs.Stays.{same_on};
 
     ghost shows = { λ reader n node.
-        HasTask reader.tree.now n × (node_of reader.tree.now n ≡ node) };
+        HasTask reader.desk.now.tree.now n × (node_of reader.desk.now.tree.now n ≡ node) };
 
-    ghost may_look = { λ reader n. n < task_count reader.tree.now };
+    ghost may_look = { λ reader n. n < task_count reader.desk.now.tree.now };
 
-    ghost looks = { λ reader. reader.counted };
+    ghost looks = { λ reader. reader.counted.now };
+
+    ghost stays = { λ first second. (second.desk.ghost_name ≡ first.desk.ghost_name)
+        × (second.desk.now.beside ≡ first.desk.now.beside) };
+
+    ghost stays_itself = { λ _. (refl, refl) };
+
+    ghost stays_on = { λ _ _ _ p q. (same_on p.0 q.0, same_on p.1 q.1) };
 
     fn look(&mut self, task: NodeId) -> Node {
-        let _count = self.tree.count();
+        let _count = self.desk.tree.count();
         self.counted.tick();
-        self.looks = self.looks.wrapping_add(1);
-        self.tree.node(task)
+        self.desk.looks = self.desk.looks.wrapping_add(1);
+        self.desk.tree.node(task)
     }
 }
 
-// The answer of a walk, and how many looks it took.
+// The answer of a walk that counts its looks at the desk, and leaves alone what lies beside the
+// tree.
 fn counted<C: Ledger, D: Ledger>(
-    tree: &ForkTree,
+    desk: &mut Desk<'_>,
     a: NodeId,
     b: NodeId,
     looks: Blank,
     steps: Blank,
-) -> (bool, u64)
+) -> bool
     requires looks_name { looks.name ≡ C.name }
     requires looks_parts { looks.parts ≡ C.parts }
     requires looks_some { 0 < looks.parts }
     requires steps_name { steps.name ≡ D.name }
     requires steps_parts { steps.parts ≡ D.parts }
     requires steps_some { 0 < steps.parts }
-    requires a_there { a.0 < task_count tree.now }
-    requires b_there { b.0 < task_count tree.now }
+    requires a_there { a.0 < task_count desk.old.tree.now }
+    requires b_there { b.0 < task_count desk.old.tree.now }
+    ensures beside { desk.new.beside ≡ desk.old.beside }
 {
-    let _count = tree.count();
-    let mut reader = CountingReader {
-        tree,
-        counted: Steps::<C>::new(looks),
-        looks: 0,
+    let _count = desk.tree.count();
+    let mut looked = Steps::<C>::new(looks);
+    let mut reader = DeskReader {
+        desk,
+        counted: &mut looked,
     };
     let mut steps = Steps::<D>::new(steps);
-    let answer = before_in(&mut reader, a, b, &mut steps);
-    (answer, reader.looks)
+    walked(&mut reader, a, b, &mut steps)
+}
+
+fn walked<C: Ledger, D: Ledger>(
+    reader: &mut DeskReader<'_, '_, '_, C>,
+    a: NodeId,
+    b: NodeId,
+    steps: &mut Steps<D>,
+) -> bool
+    requires tree { IsHistory reader.old.desk.now.tree.now }
+    requires a_there { a.0 < task_count reader.old.desk.now.tree.now }
+    requires b_there { b.0 < task_count reader.old.desk.now.tree.now }
+    ensures desk { reader.new.desk.ghost_name ≡ reader.old.desk.ghost_name }
+    ensures beside { reader.new.desk.now.beside ≡ reader.old.desk.now.beside }
+{
+    before_in(reader, a, b, steps)
 }
 
 // The answer of the tree itself.
@@ -108,9 +139,16 @@ fn check_each(
     assert!(rt; a.0 < tree.count() && b.0 < tree.count());
     assert_eq!(rt; list.before(a, b), before);
     assert_eq!(rt; answered::<Brand>(tree, a, b, Blank::new(1)), before);
-    let (answer, looks) = counted::<Brand, Brand>(tree, a, b, Blank::new(1), Blank::new(1));
+    let mut desk = Desk {
+        tree,
+        looks: 0,
+        beside: 7,
+    };
+    let answer = counted::<Brand, Brand>(&mut desk, a, b, Blank::new(1), Blank::new(1));
     assert_eq!(rt; answer, before);
+    let looks = desk.looks;
     assert!(rt; looks <= most, "{looks} looks");
+    prove!(desk.beside == 7);
 }
 
 fn name(alloc: Global, numbers: &[u32]) -> Result<Name, Fail> {
@@ -185,6 +223,12 @@ impl<C: Ledger> NodeReader for GappedReader<C> {
     ghost may_look = { λ _ n. HasTask gapped n };
 
     ghost looks = { λ reader. reader.counted };
+
+    ghost stays = { λ _ _. Unit {0} };
+
+    ghost stays_itself = { λ _. tt };
+
+    ghost stays_on = { λ _ _ _ _ _. tt };
 
     fn look(&mut self, task: NodeId) -> Node {
         self.counted.tick();

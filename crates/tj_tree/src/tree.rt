@@ -130,6 +130,12 @@ impl<F: Forked, C: Ledger> NodeReader for TreeReader<'_, F, C> {
 
     ghost looks = { λ reader. reader.looks };
 
+    ghost stays = { λ _ _. Unit {0} };
+
+    ghost stays_itself = { λ _. tt };
+
+    ghost stays_on = { λ _ _ _ _ _. tt };
+
     fn look(&mut self, task: NodeId) -> Node {
         self.looks.tick();
         self.entries[task.0 as usize].node

@@ -102,3 +102,13 @@ returns-clause-goes_on g c =
     (may c.visit-a.new.reader) (shows c.visit-b.new.reader) (may c.visit-b.new.reader)
     c.visit-a.ensures.goes_on c.visit-b.ensures.goes_on) c.lifted-x.ensures.goes_on) c.lifted-y.ensures.goes_on)
     c.parted.ensures.goes_on
+
+pub returns-clause-stays : goal.returns-clause-stays
+returns-clause-stays g c =
+    let on = g.met.R.NodeReader.stays_on in
+    let start = c.args.reader.now in
+    on start c.lifted-y.new.reader c.parted.new.reader
+    (on start c.lifted-x.new.reader c.lifted-y.new.reader
+    (on start c.visit-b.new.reader c.lifted-x.new.reader
+    (on start c.visit-a.new.reader c.visit-b.new.reader c.visit-a.ensures.stays c.visit-b.ensures.stays)
+    c.lifted-x.ensures.stays) c.lifted-y.ensures.stays) c.parted.ensures.stays

@@ -41,6 +41,7 @@ loop-at-preserved g c =
       counted = omega (arith, invariant.counted, c.higher-at.ensures.counted);
       goes_on = GoesOn_trans (shows c.args.reader.now) (may c.args.reader.now) (shows before) (may before)
           (shows after) (may after) invariant.goes_on goes_on;
+      stays = g.met.R.NodeReader.stays_on c.args.reader.now before after invariant.stays c.higher-at.ensures.stays;
     }
 
 pub returns-clause-cost : goal.returns-clause-cost

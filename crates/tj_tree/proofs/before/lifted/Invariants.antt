@@ -20,6 +20,7 @@ invariant-loop-at g l =
           (ranks l.fn.from.node.depth) (l.fn.from.node.depth - l.depth);
       counted : l.steps + looks l.initial.reader ≡ l.initial.steps + looks l.reader;
       goes_on : GoesOn (shows l.initial.reader) (may l.initial.reader) (shows l.reader) (may l.reader);
+      stays : g.R.NodeReader.stays l.initial.reader l.reader;
     }
 
 abbrev pub decreases-loop-at : goal.decreases-loop-at

@@ -56,6 +56,7 @@ loop-x-preserved g c =
     let x = c.loop-x.x in
     let y = c.loop-x.y in
     let invariant = c.loop-x.invariant in
+    let on = g.met.R.NodeReader.stays_on in
     let goes_on = both_go_on g c in
     let above_a = InEachTree_on (shows before) (may before) (shows after) (may after)
     (λ forks. IsAtOrAbove forks x.task.0 c.args.a.task.0) goes_on invariant.above_a in
@@ -87,6 +88,8 @@ loop-x-preserved g c =
       );
       goes_on = GoesOn_trans (shows c.args.reader.now) (may c.args.reader.now) (shows before) (may before)
           (shows after) (may after) invariant.goes_on goes_on;
+      stays = on c.args.reader.now before after invariant.stays
+          (on before c.visit-x.new.reader after c.visit-x.ensures.stays c.visit-y.ensures.stays);
     }
 
 pub returns-clause-cost : goal.returns-clause-cost

@@ -24,6 +24,7 @@ invariant-loop-x g l =
           (ranks l.fn.a.node.depth) (l.fn.a.node.depth - floor));
       counted : l.steps + looks l.initial.reader ≡ l.initial.steps + looks l.reader;
       goes_on : GoesOn (shows l.initial.reader) (may l.initial.reader) (shows l.reader) (may l.reader);
+      stays : g.R.NodeReader.stays l.initial.reader l.reader;
     }
 
 abbrev pub decreases-loop-x : goal.decreases-loop-x
