@@ -96,7 +96,8 @@ module _ {B : Type 0} where
   )
   forks b passed handed (Err c) p = writes_more p _
 
-  reads : (spare : Bool) (q : Name) (e : Entry) (p : Point B) → GoesOn p (after_read spare q e p)
+  -- and so does an answer
+  pub reads : (spare : Bool) (q : Name) (e : Entry) (p : Point B) → GoesOn p (after_read spare q e p)
   reads true q entry.Broken p = goes_on_self p
   reads false q entry.Broken p = writes_more p _
   reads spare q (entry.Value (value.Num i)) p = goes_on_self p

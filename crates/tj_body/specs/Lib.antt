@@ -6,6 +6,7 @@ pub mod Points
 pub mod Programs
 pub mod Laws
 pub mod RoundPoints
+pub mod Turns
 pub mod Table
 pub mod TableLaws
 pub mod NeverWaits
