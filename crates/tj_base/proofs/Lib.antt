@@ -1,1 +1,7 @@
+pub mod CycleImages
+pub mod CycleLists
+pub mod CycleWays
+pub mod CyclesOn
 pub mod Orders
+pub mod Puts
+pub mod Ways

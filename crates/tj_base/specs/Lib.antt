@@ -1,2 +1,4 @@
+pub mod Cycles
 pub mod ForkOrder
+pub mod Puts
 pub mod Texts

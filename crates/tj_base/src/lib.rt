@@ -1,5 +1,5 @@
-//! Names of tasks and promises with their two orders, causes of failure, and the small lists
-//! and counters that every crate above shares.
+//! Names of tasks and promises with their two orders, causes of failure, and the small lists,
+//! counters and printed numbers that every crate above shares.
 #![tactic(auto)]
 
 mod cause;
@@ -11,6 +11,7 @@ mod order;
 mod step_count;
 #[cfg(test)]
 mod tests;
+mod text;
 mod value;
 
 pub use cause::{Cause, Trouble};
@@ -20,4 +21,5 @@ pub use memory::Oom;
 pub use name::Name;
 pub use order::{name_cmp, path_before};
 pub use step_count::Steps;
+pub use text::{add_number, add_signed};
 pub use value::{Pay, Shown};

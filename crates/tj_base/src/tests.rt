@@ -1,5 +1,5 @@
 //! Printed names and the two orders, by hand.
-use crate::{Name, name_cmp, path_before};
+use crate::{Name, add_number, add_signed, name_cmp, path_before};
 use std::alloc::Global;
 use std::cmp::Ordering;
 use std::test::Fail;
@@ -72,5 +72,15 @@ fn the_order_of_names(rt: HostRuntime) -> Result<(), Fail> {
         let b = name(rt.alloc(), b)?.copy(rt.alloc())?;
         assert_eq!(rt; name_cmp(&a, &b), order);
     }
+    Ok(())
+}
+
+#[test]
+fn numbers_are_printed(rt: HostRuntime) -> Result<(), Fail> {
+    let mut text = Vec::new(rt.alloc());
+    add_number(&mut text, 4294967295)?;
+    add_signed(&mut text, -12)?;
+    add_number(&mut text, 0)?;
+    assert_eq!(rt; text.as_slice(), b"4294967295-120".as_slice());
     Ok(())
 }

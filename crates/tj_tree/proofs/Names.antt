@@ -4,11 +4,6 @@ use Rattle.std.proofs.lemmas.Bool.{cases_eq}
 use Rattle.std.proofs.lemmas.Bool.Decides.{nat_tests}
 use Rattle.tj_base.specs.ForkOrder.{Name, before}
 
--- no name is before itself
-pub before-self : (a : Name) → before a a ≡ false
-before-self [] = refl
-before-self (x ∷ a) = let rest = before-self a in grind (arith, nat_tests, rest)
-
 -- a common beginning doesn't count
 pub before-append_same : (common a b : Name) → before (common ++ a) (common ++ b) ≡ before a b
 before-append_same [] a b = refl

@@ -8,7 +8,8 @@ use Rattle.tj_base.specs.ForkOrder.{Name, before}
 use Rattle.tj_tree.specs.Forks.{Fork, Forks, HasTask, HasKid, IsNext, IsHistory, IsEarlier, insert_after, order_of, name_of}
 use Rattle.tj_tree.specs.Nodes.{node_of}
 use Rattle.tj_tree.proofs.Lists.{has, earlier, AreApart, has-insert_after_new, has-insert_after_other, AreApart-insert_after, earlier-insert_after_others, earlier-insert_after_first, earlier-insert_after_last, earlier-insert_after_self, earlier_tells}
-use Rattle.tj_tree.proofs.Names.{before-self, before-last_child_first, before-last_child_last, before-child}
+use Rattle.tj_base.proofs.Orders.{before-self}
+use Rattle.tj_tree.proofs.Names.{before-last_child_first, before-last_child_last, before-child}
 use Rattle.tj_tree.proofs.Trees.{name_of-older, name_of-child, IsChild-of, HasKid-of, names_apart, root_name, snoc_apart}
 
 -- the order has the tasks that are there
