@@ -1,6 +1,6 @@
 -- The core state after one slot changes.
 use Rattle.std.proofs.Common.{◌≡◌, ◌≢◌, ℕ, zero, suc, ◌<◌, ◌≤◌, List, [], ◌∷◌, ◌++◌, length, set, map, get_or, Option, None, refl, sym, ap, ◌∙◌, subst, arith, eq-eqb, ne_eqb, vec_capacity, length-set}
-use Rattle.std.proofs.lemmas.List.{get_or_default, get_or-set_same, get_or-set_other, set-get_or}
+use Rattle.std.proofs.lemmas.List.{get_or-set_same, get_or-set_other, set-get_or}
 use native.Mathlib.Decide.{ℕ_discrete}
 use mathlib.Core.Logic.{dite}
 use Rattle.tj_core.specs.declared.births.Birth.{Birth}
@@ -60,20 +60,8 @@ none_walks slots t F h k = let e = sym (column_beyond stage_of slots t promise h
 pub walked_same : (st : CellStage) (g k : ℕ → Walker → Walker) (F : ℕ → Way → Walker → Type 0) → WalksAt st F → ((c : ℕ) (way : Way) (w : Walker) → st ≡ waits c way (walks w) → F c way w → g c w ≡ k c w) → walked g st ≡ walked k st
 walked_same st g k F (c, way, w, is, h) e = ap (walked g) is ∙ ((λ j. waits c way (walks (e c way w is h j))) ∙ sym (ap (walked k) is))
 
--- the slot x of the cell t has become y
-pub record Change (slots : List Slot) (t : ℕ) (x y : Slot) : Type 0 where
-  pub at : ℕ
-  pub inside : at < length slots
-  pub was : x ≡ get_or slots at x
-  pub cell : at ≡ t
-
-module _ (slots : List Slot) (t : ℕ) (x y : Slot) (k : Change slots t x y) where
-  h : t < length slots
-  h = subst (λ i. i < length slots) k.cell k.inside
-
-  is : x ≡ get_or slots t x
-  is = subst (λ i. x ≡ get_or slots i x) k.cell k.was
-
+-- the slot x of the cell t, which is there, has become y
+module _ (slots : List Slot) (t : ℕ) (x y : Slot) (h : t < length slots) (is : x ≡ get_or slots t x) where
   pub stage_here : stage_in slots t ≡ stage_of x
   stage_here = column_here stage_of slots t x promise h is
 
@@ -83,20 +71,20 @@ module _ (slots : List Slot) (t : ℕ) (x y : Slot) (k : Change slots t x y) whe
   pub not_here : (F : ℕ → Way → Walker → Type 0) → ¬ WalksAt (stage_of x) F → ¬ WalksAt (stage_in slots t) F
   not_here F n w = n (subst (λ st. WalksAt st F) stage_here w)
 
-  pub loads_set : (n : ℕ) → y.loads ≡ n → (c : ℕ) → loads_in (set slots k.at y) c ≡ put (loads_in slots) t n c
-  loads_set n e c = ap (λ i. loads_in (set slots i y) c) k.cell ∙ (column_set (λ slot. slot.loads) slots t y 0 h c ∙ ap (λ i. put (loads_in slots) t i c) e)
+  pub loads_set : (n : ℕ) → y.loads ≡ n → (c : ℕ) → loads_in (set slots t y) c ≡ put (loads_in slots) t n c
+  loads_set n e c = column_set (λ slot. slot.loads) slots t y 0 h c ∙ ap (λ i. put (loads_in slots) t i c) e
 
-  pub loads_stay : y.loads ≡ x.loads → (c : ℕ) → loads_in (set slots k.at y) c ≡ loads_in slots c
+  pub loads_stay : y.loads ≡ x.loads → (c : ℕ) → loads_in (set slots t y) c ≡ loads_in slots c
   loads_stay e c = loads_set x.loads e c ∙ put_same (loads_in slots) t x.loads (column_here (λ slot. slot.loads) slots t x 0 h is) c
 
-  pub loads_more : y.loads ≡ suc x.loads → (c : ℕ) → loads_in (set slots k.at y) c ≡ one_load (loads_in slots) t c
+  pub loads_more : y.loads ≡ suc x.loads → (c : ℕ) → loads_in (set slots t y) c ≡ one_load (loads_in slots) t c
   loads_more e c = loads_set (suc (loads_in slots t)) (e ∙ ap suc (sym (column_here (λ slot. slot.loads) slots t x 0 h is))) c
 
-  pub rooms_stay : (n : ℕ) → HaveRoom n slots → vec_capacity x.trail ≤ vec_capacity y.trail → HaveRoom n (set slots k.at y)
+  pub rooms_stay : (n : ℕ) → HaveRoom n slots → vec_capacity x.trail ≤ vec_capacity y.trail → HaveRoom n (set slots t y)
   rooms_stay n r e c l =
-      let z = length-set slots k.at y in let b : n ≤ room_in slots c = r c (omega arith) in
+      let z = length-set slots t y in let b : n ≤ room_in slots c = r c (omega arith) in
       let room : Slot → ℕ = λ slot. vec_capacity slot.trail in
-      subst (λ i. n ≤ i) (sym (ap (λ i. room_in (set slots i y) c) k.cell ∙ column_set room slots t y 0 h c))
+      subst (λ i. n ≤ i) (sym (column_set room slots t y 0 h c))
       (dite (ℕ_discrete c t)
       (λ q. subst (λ i. n ≤ put (room_in slots) t (room y) i) (sym q) (subst (λ i. n ≤ i) (sym (put_here (room_in slots) t (room y))) (let m = r t h in let w = column_here room slots t x 0 h is in omega arith)))
       (λ q. subst (λ i. n ≤ i) (sym (put_else (room_in slots) t (room y) c q)) b))
@@ -118,16 +106,12 @@ module _ (slots : List Slot) (t : ℕ) (x y : Slot) (k : Change slots t x y) whe
         ∙ sym (put_else s.cells t (staged (f (stage_in slots t)) (s.cells t)) c n))
 
     -- the state after a slot's stage changes
-    pub state_changed : (f : CellStage → CellStage) → stage_of y ≡ f (stage_of x) → state_in births made owners (set slots k.at y) others cleared ≡ restage s t f
-    state_changed f e = ap (λ i. state_in births made owners (set slots i y) others cleared) k.cell ∙ (λ j. record { count = s.count; cells = λ c. cell_changed f e c j; others = others; cleared = cleared })
+    pub state_changed : (f : CellStage → CellStage) → stage_of y ≡ f (stage_of x) → state_in births made owners (set slots t y) others cleared ≡ restage s t f
+    state_changed f e = λ j. record { count = s.count; cells = λ c. cell_changed f e c j; others = others; cleared = cleared }
 
 -- a slot that was put back
 pub set_same : (slots : List Slot) (t : ℕ) (x y : Slot) → x ≡ get_or slots t x → y ≡ x → set slots t y ≡ slots
 set_same slots t x y is e = ap (set slots t) (e ∙ is) ∙ set-get_or slots t x
-
--- a slot that was read twice
-pub same_slot : (slots : List Slot) (i : ℕ) (x z : Slot) → i < length slots → x ≡ get_or slots i x → z ≡ get_or slots i z → z ≡ x
-same_slot slots i x z h e d = d ∙ (get_or_default slots i z x h ∙ sym e)
 
 -- a list with one element more, read at any place
 pub at_snoc : {A : Type 0} (l : List A) (a d : A) (j : ℕ) → get_or (l ++ a ∷ []) j d ≡ put (λ k. get_or l k d) (length l) a j

@@ -6,6 +6,7 @@ pub mod Slots
 pub mod Starts
 pub mod NameLists
 pub mod NextEvents
+pub mod WalkTurns
 pub mod OwnedCounts
 pub mod Puts
 pub mod Frames

@@ -14,6 +14,7 @@ pub mod WalkLaws
 pub mod RunLaws
 pub mod Statuses
 pub mod Slots
+pub mod WalkSteps
 pub mod Columns
 pub mod Loads
 pub mod Machine

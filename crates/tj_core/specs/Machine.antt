@@ -1,5 +1,5 @@
 -- What the checker's machine shows, and what an event does to it.
-use Rattle.std.specs.Prelude.{◌≡◌, ℕ, ◌<◌, []}
+use Rattle.std.specs.Prelude.{◌≡◌, ℕ, ◌<◌, [], length}
 use Rattle.tj_core.specs.declared.event.Event.{Event}
 use Rattle.tj_core.specs.declared.machine.Machine.{Machine}
 use Rattle.tj_core.specs.declared.status.Status.{Status}
@@ -40,6 +40,12 @@ pub record IsUnchanged (old new : Machine) : Type 0 where
   pub state : state_of new ≡ state_of old
   pub loads : (t : ℕ) → loads_of new t ≡ loads_of old t
   pub limit : limit_of new ≡ limit_of old
+
+-- a cell has changed, and the lists are as long as before
+pub record Changes (old new : Machine) : Type 0 where
+  pub limit : limit_of new ≡ limit_of old
+  pub slots : length new.slots.items ≡ length old.slots.items
+  pub owners : length new.owners.owners.items ≡ length old.owners.owners.items
 
 -- t, which runs, has made one cell more with this owner and status
 pub record Adds (old : Machine) (t owner : ℕ) (status : Status) (new : Machine) : Type 0 where

@@ -2,6 +2,7 @@
 #![tactic(auto)]
 
 mod births;
+mod changes;
 mod checker;
 mod cycle;
 mod event;
@@ -20,8 +21,9 @@ mod status;
 mod step;
 mod task_events;
 mod walk;
-mod walk_events;
 mod walk_laws;
+mod walk_reads;
+mod walk_step;
 mod walker_law;
 
 pub use checker::Core;

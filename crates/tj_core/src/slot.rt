@@ -6,6 +6,7 @@ ghost use Rattle.tj_core.specs.Statuses.{status_passes, status_loads, status_bou
 use crate::stage::{Illegal, Stage};
 use crate::status::{Progress, Status};
 use crate::walk::{LastRead, TrailLink, Way};
+use crate::walk_step::WalkStep;
 use std::alloc::{AllocError, Global};
 
 /// A slot. Its trail has room for as many owners as its walk may pass.
@@ -26,10 +27,11 @@ pub(crate) struct Slot {
 impl Slot {
     ghost use Rattle.std.specs.Prelude.{◌≡◌, ◌≢◌, ℕ, suc, ◌+◌, ◌*◌, ◌<◌, ◌≤◌, ◌↔◌, IsTrue, IfOk, OnOk, OnErr, Some, None, [], MatchOption, length, vec_capacity};
     ghost use Rattle.tj_core.specs.CoreState.{promise, fresh, waits, walks, parked, alarmed, wait_of, is_task, Runs, present, IfWalksAt};
-    ghost use Rattle.tj_core.specs.Events.{WalksAt, MayPublish, MayReadOthers, MayCount, MayReadOwner, MayReadWait, MayReadAgain, MayAlarm, MaySettle, walked, walk_ended, others_read, count_read, owner_read, wait_found, owner_again, start_walk};
+    ghost use Rattle.tj_core.specs.Events.{WalksAt, MayPublish, MayReadOthers, MayCount, MayReadOwner, MayReadWait, MayReadAgain, MayAlarm, MaySettle, walked, walk_ended, others_read, count_read, owner_read, owner_again, start_walk};
     ghost use Rattle.tj_core.specs.Slots.{stage_of};
     ghost use Rattle.tj_core.specs.StagesShown.{stage_shown};
     ghost use Rattle.tj_core.specs.Statuses.{stage_of_status, IsIdle};
+    ghost use Rattle.tj_core.specs.WalkSteps.{MayStep, wait_heard, stage_by, loads_by, HasRoom};
 
     /// An empty slot, with room for walks that pass so many owners.
     pub(crate) fn new(alloc: Global, cells: u32) -> Result<Slot, AllocError>
@@ -178,7 +180,7 @@ impl Slot {
     }
 
     /// The walker reads OTHERS.
-    pub(crate) fn read_others(&mut self, others: u64) -> Result<(), Illegal>
+    fn read_others(&mut self, others: u64) -> Result<(), Illegal>
         ensures allowed { OnOk result (WalksAt (stage_of self.old) (λ c way w. MayReadOthers way w)) }
         ensures stage { OnOk result (stage_of self.new
             ≡ walked (λ c w. others_read others w) (stage_of self.old)) }
@@ -197,7 +199,7 @@ impl Slot {
     }
 
     /// The walker reads the number of cells.
-    pub(crate) fn read_count(&mut self, count: u32) -> Result<(), Illegal>
+    fn read_count(&mut self, count: u32) -> Result<(), Illegal>
         requires some { 0 < count }
         requires small { count ≤ 1024 }
         requires room { count ≤ vec_capacity self.old.trail }
@@ -220,7 +222,7 @@ impl Slot {
     }
 
     /// The walker reads the owner of the present cell.
-    pub(crate) fn read_owner(&mut self, owner: Option<u32>) -> Result<(), Illegal>
+    fn read_owner(&mut self, owner: Option<u32>) -> Result<(), Illegal>
         ensures allowed { OnOk result (WalksAt (stage_of self.old) (λ c way w. MayReadOwner w)) }
         ensures stage { OnOk result (stage_of self.new ≡ walked (λ c w. owner_read owner w) (stage_of self.old)) }
         ensures loads { OnOk result (self.new.loads ≡ suc self.old.loads) }
@@ -239,35 +241,41 @@ impl Slot {
         Ok(())
     }
 
-    /// The owner that the walker of task t has just read, if that is neither nobody nor t.
-    pub(crate) fn owner_to_ask(&self, t: u32) -> Option<u32>
-        ensures { let stage = stage_of self.now in
-            MatchOption result (¬ WalksAt stage (λ c way w. MayReadWait t w))
-            (λ u. (u ≢ t) × WalksAt stage (λ c way w. w.last ≡ LastRead.SawOwner (Some u))) }
+    /// The owner that its walk has just read.
+    pub(crate) fn owner_read(&self) -> Option<u32>
+        ensures { IfWalksAt (stage_of self.now)
+            (λ c way w. (u : ℕ) → w.last ≡ LastRead.SawOwner (Some u) → result ≡ Some u) }
     {
         match self.status {
-            Status::Waiting(_, _, Progress::Walking(LastRead::SawOwner(Some(owner))))
-                if owner != t => { Some(owner) }
+            Status::Waiting(_, _, Progress::Walking(LastRead::SawOwner(owner))) => owner,
             _ => None,
         }
     }
 
     /// The walker reads what the owner that it has just read waits for.
-    pub(crate) fn read_wait(&mut self, owner: u32, wait: Option<u32>)
-        requires { WalksAt (stage_of self.old) (λ c way w. w.last ≡ LastRead.SawOwner (Some owner)) }
-        ensures stage { stage_of self.new ≡ walked (λ c w. wait_found owner wait w) (stage_of self.old) }
-        ensures loads { self.new.loads ≡ suc self.old.loads }
+    fn read_wait(&mut self, t: u32, wait: Option<u32>) -> Result<(), Illegal>
+        ensures allowed { OnOk result (WalksAt (stage_of self.old) (λ c way w. MayReadWait t w)) }
+        ensures stage { OnOk result (stage_of self.new
+            ≡ walked (λ c w. wait_heard wait w w.last) (stage_of self.old)) }
+        ensures loads { OnOk result (self.new.loads ≡ suc self.old.loads) }
         ensures room { vec_capacity self.old.trail ≤ vec_capacity self.new.trail }
+        ensures illegal { OnErr result (¬ WalksAt (stage_of self.old) (λ c way w. MayReadWait t w)) }
+        ensures err { OnErr result (self.new ≡ self.old) }
     {
-        if let Status::Waiting(cell, way, _) = self.status {
-            self.loads += 1;
-            let seen = Progress::Walking(LastRead::SawWait(owner, wait));
-            self.status = Status::Waiting(cell, way, seen);
+        match self.status {
+            Status::Waiting(cell, way, Progress::Walking(LastRead::SawOwner(Some(owner))))
+                if owner != t => {
+                self.loads += 1;
+                let seen = Progress::Walking(LastRead::SawWait(owner, wait));
+                self.status = Status::Waiting(cell, way, seen);
+                Ok(())
+            }
+            _ => Err(Illegal),
         }
     }
 
     /// The walker reads the owner of the present cell again.
-    pub(crate) fn read_again(&mut self, now: Option<u32>) -> Result<(), Illegal>
+    fn read_again(&mut self, now: Option<u32>) -> Result<(), Illegal>
         ensures allowed { OnOk result (WalksAt (stage_of self.old) (λ c way w. MayReadAgain w)) }
         ensures stage { OnOk result (stage_of self.new
             ≡ walked (λ c w. owner_again now w w.last) (stage_of self.old)) }
@@ -294,7 +302,7 @@ impl Slot {
     }
 
     /// The walker alarms, as it has just read its own task t as owner.
-    pub(crate) fn alarm(&mut self, t: u32) -> Result<(), Illegal>
+    fn alarm(&mut self, t: u32) -> Result<(), Illegal>
         ensures allowed { OnOk result (WalksAt (stage_of self.old) (λ c way w. MayAlarm t w)) }
         ensures stage { OnOk result (stage_of self.new ≡ walk_ended alarmed (stage_of self.old)) }
         ensures loads { OnOk result (self.new.loads ≡ self.old.loads) }
@@ -313,7 +321,7 @@ impl Slot {
     }
 
     /// The walk ends without an alarm.
-    pub(crate) fn settle(&mut self) -> Result<(), Illegal>
+    fn settle(&mut self) -> Result<(), Illegal>
         ensures allowed { OnOk result (WalksAt (stage_of self.old) (λ c way w. MaySettle w)) }
         ensures stage { OnOk result (stage_of self.new ≡ walk_ended parked (stage_of self.old)) }
         ensures loads { OnOk result (self.new.loads ≡ self.old.loads) }
@@ -329,5 +337,25 @@ impl Slot {
         }
         self.status = Status::Waiting(cell, way, Progress::Parked);
         Ok(())
+    }
+    /// The walker of task t takes a step.
+    pub(crate) fn step(&mut self, t: u32, step: WalkStep) -> Result<(), Illegal>
+        requires { HasRoom (vec_capacity self.old.trail) step }
+        ensures allowed { OnOk result (WalksAt (stage_of self.old) (λ c way w. MayStep t step way w)) }
+        ensures stage { OnOk result (stage_of self.new ≡ stage_by step (stage_of self.old)) }
+        ensures loads { OnOk result (self.new.loads ≡ loads_by step self.old.loads) }
+        ensures room { vec_capacity self.old.trail ≤ vec_capacity self.new.trail }
+        ensures illegal { OnErr result (¬ WalksAt (stage_of self.old) (λ c way w. MayStep t step way w)) }
+        ensures err { OnErr result (self.new ≡ self.old) }
+    {
+        match step {
+            WalkStep::Others(others) => self.read_others(others),
+            WalkStep::Count(count) => self.read_count(count),
+            WalkStep::Owner(owner) => self.read_owner(owner),
+            WalkStep::Wait(wait) => self.read_wait(t, wait),
+            WalkStep::Again(owner) => self.read_again(owner),
+            WalkStep::Alarm => self.alarm(t),
+            WalkStep::Settle => self.settle(),
+        }
     }
 }

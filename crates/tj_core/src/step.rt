@@ -3,6 +3,7 @@ use crate::event::Event;
 use crate::machine::Machine;
 use crate::stage::{Illegal, Stage};
 use crate::walk::LastRead;
+use crate::walk_step::WalkStep;
 
 impl Machine {
     ghost use Rattle.std.specs.Prelude.{◌≡◌, ◌<◌, ◌^◌, OnOk, OnErr, MatchOption};
@@ -25,13 +26,28 @@ impl Machine {
             Event::Close(t, p) => self.close(t, p),
             Event::Raise(t) => self.raise(t),
             Event::Publish(t, p) => self.publish(t, p),
-            Event::LoadOthers(t) => self.load_others(t),
-            Event::LoadCount(t) => self.load_count(t),
-            Event::ReadOwner(t) => self.read_owner(t),
-            Event::ReadWait(t) => self.read_wait(t),
-            Event::ReadOwnerAgain(t) => self.read_owner_again(t),
-            Event::Alarm(t) => self.alarm(t),
-            Event::Settle(t) => self.settle(t),
+            Event::LoadOthers(t) => {
+                let others = self.others;
+                self.walk_on(t, WalkStep::Others(others))
+            }
+            Event::LoadCount(t) => {
+                let count = self.births.count();
+                self.walk_on(t, WalkStep::Count(count))
+            }
+            Event::ReadOwner(t) => {
+                let owner = self.present_owner(t.0);
+                self.walk_on(t, WalkStep::Owner(owner))
+            }
+            Event::ReadWait(t) => {
+                let wait = self.wait_of_owner(t.0);
+                self.walk_on(t, WalkStep::Wait(wait))
+            }
+            Event::ReadOwnerAgain(t) => {
+                let owner = self.present_owner(t.0);
+                self.walk_on(t, WalkStep::Again(owner))
+            }
+            Event::Alarm(t) => self.walk_on(t, WalkStep::Alarm),
+            Event::Settle(t) => self.walk_on(t, WalkStep::Settle),
             Event::Unwait(t) => self.unwait(t),
             Event::Lower => self.lower(),
         }

@@ -23,11 +23,10 @@ impl Machine {
         ensures ok { OnOk result (Accepts self.old (Event.Raise t) self.new) }
         ensures err { OnErr result (Refuses self.old (Event.Raise t) self.new) }
     {
-        let at = self.place(t)?;
-        if !self.slots[at].runs() {
+        if !self.runs(t.0) {
             return Err(Illegal);
         }
-        self.slots[at].set_idle(Status::Raised);
+        self.set_idle(t.0, Status::Raised);
         self.others += 1;
         Ok(())
     }
@@ -51,14 +50,13 @@ impl Machine {
         ensures ok { OnOk result (Accepts self.old (Event.Unwait t) self.new) }
         ensures err { OnErr result (Refuses self.old (Event.Unwait t) self.new) }
     {
-        let at = self.place(t)?;
-        let Some((cell, way)) = self.slots[at].parked_on() else {
+        let Some((cell, way)) = self.parked_on(t.0) else {
             return Err(Illegal);
         };
         if self.owners.of(cell).is_some() {
             return Err(Illegal);
         }
-        self.slots[at].set_idle(Status::Running);
+        self.set_idle(t.0, Status::Running);
         self.cleared += raised_by(way);
         Ok(())
     }
@@ -79,13 +77,12 @@ impl Machine {
         ensures ok { OnOk result (Accepts self.old (Event.Publish t p) self.new) }
         ensures err { OnErr result (Refuses self.old (Event.Publish t p) self.new) }
     {
-        let at = self.place(t)?;
         let _there = self.place(p)?;
         let way = self.way(t, p);
-        if !self.slots[at].may_publish(way) {
+        if !self.may_publish(t.0, way) {
             return Err(Illegal);
         }
-        self.slots[at].publish(p.0, way);
+        self.start_walk(t.0, p.0, way);
         Ok(())
     }
 
@@ -94,15 +91,14 @@ impl Machine {
         ensures ok { OnOk result (Accepts self.old (Event.Close t p) self.new) }
         ensures err { OnErr result (Refuses self.old (Event.Close t p) self.new) }
     {
-        let at = self.place(t)?;
-        if !self.slots[at].runs() {
+        if !self.runs(t.0) {
             return Err(Illegal);
         }
         if !self.may_close(t, p) {
             return Err(Illegal);
         }
-        self.slots[at].set_idle(status_after_close(p.0 == t.0));
-        self.owners.set(p.0, None);
+        self.set_idle(t.0, status_after_close(p.0 == t.0));
+        self.set_owner(p.0, None);
         Ok(())
     }
 
@@ -111,15 +107,14 @@ impl Machine {
         ensures ok { OnOk result (Accepts self.old (Event.Hand t p c) self.new) }
         ensures err { OnErr result (Refuses self.old (Event.Hand t p c) self.new) }
     {
-        let at = self.place(t)?;
-        if !self.slots[at].runs() {
+        if !self.runs(t.0) {
             return Err(Illegal);
         }
         if !self.may_hand(t, p, c) {
             return Err(Illegal);
         }
-        self.slots[at].set_idle(Status::Running);
-        self.owners.set(p.0, Some(c.0));
+        self.set_idle(t.0, Status::Running);
+        self.set_owner(p.0, Some(c.0));
         Ok(())
     }
 
@@ -200,15 +195,14 @@ impl Machine {
             → limit_of self.old ≤ (state_of self.old).count) }
         ensures err { OnErr result (IsUnchanged self.old self.new) }
     {
-        let at = self.place(t)?;
-        if !self.slots[at].runs() {
+        if !self.runs(t.0) {
             return Err(Illegal);
         }
         let Some(mut slot) = self.spare.pop() else {
             return Err(Illegal);
         };
         slot.begin(status);
-        self.slots[at].set_idle(Status::Running);
+        self.slots[t.0 as usize].set_idle(Status::Running);
         let cell = self.births.count();
         self.births.add(t.0);
         let pushed = self.slots.push(slot).is_ok();
