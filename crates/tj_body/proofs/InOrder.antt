@@ -6,7 +6,7 @@ use Rattle.tj_base.specs.ForkOrder.{Name, before}
 use Rattle.tj_base.specs.declared.cell.Sort.{Sort}
 use Rattle.tj_base.specs.declared.cell.Sort.TheVariants as sort
 use Rattle.tj_base.specs.declared.cause.Cause.{Cause}
-use Rattle.tj_base.proofs.Orders.{before_tells}
+use Rattle.tj_base.proofs.Orders.{before_tells, before-self, before-trans}
 use Rattle.tj_body.specs.Names.{has, same, in_order}
 use Rattle.tj_body.specs.Programs.{Rules, Program, AreLawful, root_task}
 use Rattle.tj_body.specs.History.{Assignment, with_entry, after_try_fork, after_set, after_get, after_join}
@@ -26,7 +26,6 @@ use Rattle.tj_body.specs.declared.point.PointStage.{PointStage}
 use Rattle.tj_body.specs.declared.point.PointStage.TheVariants as stage
 use Rattle.tj_body.specs.declared.point.Task.{Task}
 use Rattle.tj_body.specs.declared.point.Point.{Point}
-use Rattle.tj_body.proofs.Before.{before-self, before-trans}
 use Rattle.tj_body.proofs.Lists.{in_right, in_map}
 use Rattle.tj_body.proofs.Counts.{one_if, is, is_one, same_is, total, total_le, total_add, total_in}
 use Rattle.tj_body.proofs.Good.{task_proper}

@@ -5,6 +5,7 @@ pub mod Rounds
 pub mod Points
 pub mod Programs
 pub mod Laws
+pub mod NameLaws
 pub mod RoundPoints
 pub mod Turns
 pub mod Table

@@ -5,6 +5,8 @@ ghost use Rattle.tj_body.specs.Laws.{IsMonotone, AsksOn, IsAllGood, Grows, IsApa
 ghost use Rattle.tj_body.specs.Laws.{OwnsApart, CountsInRound, CountsMade};
 ghost use Rattle.tj_body.specs.Laws.{IsSettledWhereSame, IsSettledBySize, IsFullExactly};
 ghost use Rattle.tj_body.specs.Laws.{IsFullWhere, IsLast, ReadsOn, IsKept, RestsAtMeaning};
+ghost use Rattle.tj_body.specs.NameLaws.{SameIsEqual, OrderedIsOne, OrderedHasSame, OrderedIsSame};
+ghost use Rattle.tj_body.specs.NameLaws.{NamesTellCells};
 ghost use Rattle.tj_body.specs.RoundPoints.{PointsStay, TasksStart, PointsAsk, PointsRead};
 ghost use Rattle.tj_body.specs.RoundPoints.{WritesBecome, ThingsInRounds, EntriesAreOne};
 ghost use Rattle.tj_body.specs.RoundPoints.{PointsAreGood, AsksArePlaced, ReferencesAreNamed};
@@ -141,6 +143,21 @@ pub fn points_in_rounds<B: Body>()
 
     // An ask and an answer only add to what a point has.
     ensures extended { HoldsOfPrograms B.places B.awaits B.left B.asks B.then StepsExtend }
+{}
+
+/// Lists of names, their order, and names for cells that are told by number.
+pub fn names_and_cells()
+    ensures same { SameIsEqual }
+
+    // In name order a list has the names that it had, is in order, and is the only such list.
+    ensures ordered { OrderedIsOne }
+    ensures elements { OrderedHasSame }
+
+    // Lists with the same names are the same in order.
+    ensures permuted { OrderedIsSame }
+
+    // What is owned and handed by number is what is owned and handed by name.
+    ensures cells { NamesTellCells }
 {}
 
 /// What stands at rest, with at most N cells, is the meaning with limit N.
