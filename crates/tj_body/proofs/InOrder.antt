@@ -37,7 +37,7 @@ TellsAt (stage.Waits q spare) x writes = Unit {0}
 TellsAt (stage.Closed e) x writes = (r : Entry) × IsIn (x, r) writes
 
 -- the name in a wait
-abbrev cell_in : PointStage → Name
+abbrev pub cell_in : PointStage → Name
 cell_in (stage.Answered a) = []
 cell_in (stage.Waits q spare) = q
 cell_in (stage.Closed e) = []
@@ -136,7 +136,7 @@ module _ {B : Type 0} (program : Program B) (obeys : AreLawful program.rules)
 
   module _ (fits : ¬ IsFull program N) where
     -- the cell that a task waits for has no entry
-    no_entry : (p : Point B) (q : Name) (spare : Bool) → IsIn p points → p.stage ≡ stage.Waits q spare → V q ≡ None
+    pub no_entry : (p : Point B) (q : Name) (spare : Bool) → IsIn p points → p.stage ≡ stage.Waits q spare → V q ≡ None
     no_entry p q spare i e =
         ⊎_elim (λ c. let z : stage.Waits q spare ≡ stage.Closed c.0 = sym e ∙ c.1 in absurd (cc))
         (λ w. ap V (ap cell_in (sym e ∙ w.2)) ∙ w.3) (stops p i)

@@ -20,3 +20,4 @@ pub mod Rests
 pub mod Sizes
 pub mod InOrder
 pub mod WithoutGets
+pub mod WaitGraph

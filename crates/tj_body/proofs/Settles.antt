@@ -56,7 +56,8 @@ has_entry q (w ∷ ws) (inl x) = (w.1, inl (λ i. (x i, w.1)))
 has_entry q (w ∷ ws) (inr i) = let r = has_entry q ws i in (r.0, inr r.1)
 
 module _ {B : Type 0} (rules : Rules B) where
-  within_self : (V : Assignment) → IsWithin V V
+  -- an assignment lies within itself
+  pub within_self : (V : Assignment) → IsWithin V V
   within_self V q e h = h
 
   -- a family that adds no task with one generation more adds none with the next
@@ -256,7 +257,8 @@ module _ {B : Type 0} (program : Program B) where
       let s = settles N h in
       (same_from s.0 n (omega arith) s.2).0 ∙ sym (same_from s.0 (2 * N) s.1 s.2).0
 
-  last_tasks : (N : ℕ) → length (cells_of (last_round N)) ≤ N → (n : ℕ) → 2 * N ≤ n
+  -- and so do the tasks, from the next round on
+  pub last_tasks : (N : ℕ) → length (cells_of (last_round N)) ≤ N → (n : ℕ) → 2 * N ≤ n
       → tasks_of (suc n) ≡ tasks_of (suc (2 * N))
   last_tasks N h n l =
       let s = settles N h in

@@ -11,3 +11,4 @@ pub mod Turns
 pub mod Table
 pub mod TableLaws
 pub mod NeverWaits
+pub mod WaitGraph

@@ -11,6 +11,7 @@ ghost use Rattle.tj_body.specs.RoundPoints.{PointsStay, TasksStart, PointsAsk, P
 ghost use Rattle.tj_body.specs.RoundPoints.{WritesBecome, ThingsInRounds, EntriesAreOne};
 ghost use Rattle.tj_body.specs.RoundPoints.{PointsAreGood, AsksArePlaced, ReferencesAreNamed};
 ghost use Rattle.tj_body.specs.RoundPoints.{ThingsAreMade, StepsExtend};
+ghost use Rattle.tj_body.specs.WaitGraph.{OwnersWait, WaitsLeadToCycle};
 ghost use Rattle.tj_body.specs.NeverWaits.{JoinsInOrderEnd, StrictWithoutGetEnds};
 
 use crate::body::Body;
@@ -163,6 +164,15 @@ pub fn names_and_cells()
 /// What stands at rest, with at most N cells, is the meaning with limit N.
 pub fn rest_is_meaning<B: Body>()
     ensures { HoldsOfPrograms B.places B.awaits B.left B.asks B.then RestsAtMeaning }
+{}
+
+/// In a meaning that isn't full, waits lead to a cycle.
+pub fn waits_lead_to_a_cycle<B: Body>()
+    // What a task waits for has no entry, and has an owner among the tasks, which waits too.
+    ensures owners { HoldsOfPrograms B.places B.awaits B.left B.asks B.then OwnersWait }
+
+    // From each task that waits, waits lead to a task on a cycle.
+    ensures cycle { HoldsOfPrograms B.places B.awaits B.left B.asks B.then WaitsLeadToCycle }
 {}
 
 /// Where tasks wait in the fork order for tasks of the meaning, none waits.
