@@ -59,6 +59,11 @@ times q l = total (is q) l
 abbrev pub wrote : Name → List (Name × Entry) → ℕ
 wrote q l = total (λ w. is q w.0) l
 
+-- how often q stands among the names of items
+pub times_map : {A : Type 0} (f : A → Name) (q : Name) (l : List A) → times q (map f l) ≡ total (λ x. is q (f x)) l
+times_map f q [] = refl
+times_map f q (x ∷ xs) = ap (λ z. is q (f x) + z) (times_map f q xs)
+
 module _ {A : Type 0} where
   -- the sum over two lists
   pub total_append : (f : A → ℕ) (l m : List A) → total f (l ++ m) ≡ total f l + total f m

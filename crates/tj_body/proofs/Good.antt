@@ -2,12 +2,13 @@
 -- its task has references, and there is room for those to come.
 use Rattle.std.proofs.Common.{◌≡◌, ℕ, zero, suc, ◌+◌, ◌*◌, ◌≤◌, Bool, true, false, ◌⊎◌, inl, inr, ⊎_elim}
 use Rattle.std.proofs.Common.{List, [], ◌∷◌, ◌++◌, map, Option, Some, None, length, refl, sym}
-use Rattle.std.proofs.Common.{ap, ◌∙◌, subst, arith, length-append}
+use Rattle.std.proofs.Common.{◌∙◌, subst, arith, length-append}
+use Rattle.std.proofs.lemmas.List.{length-map}
 use Rattle.tj_base.specs.ForkOrder.{Name}
 use Rattle.tj_base.specs.declared.cause.Cause.TheVariants as cause
 use Rattle.tj_body.specs.Asks.{Await, place, done, cell, cell_or, Fits, awaited, Ends, most_passed, IsFresh, IsPlaced}
 use Rattle.tj_body.specs.Programs.{Rules, Program, AreLawful, root_task}
-use Rattle.tj_body.specs.History.{Assignment, to_task, to_promise, next_name, reference, reference_at, after_close}
+use Rattle.tj_body.specs.History.{Assignment, to_task, to_promise, next_name, reference, after_close}
 use Rattle.tj_body.specs.History.{with_wait, next_child}
 use Rattle.tj_body.specs.History.{after_read, after_look, after_stage, point_after, history}
 use Rattle.tj_body.specs.Rounds.{family, given, tasks}
@@ -49,11 +50,6 @@ get_goes_on B false k h = not_last h
 pub join_goes_on : (B : Type 0) {A : Type 0} (spare : Bool) (k : ℕ) → Ends (join_of {B = B} spare k) ⊎ A → A
 join_goes_on B true k h = not_last h
 join_goes_on B false k h = not_last h
-
-map_length : (x : Name) (references : List Reference) (l : List ℕ)
-    → length (map (reference_at x references) l) ≡ length l
-map_length x references [] = refl
-map_length x references (k ∷ ks) = ap suc (map_length x references ks)
 
 -- there is room for one place more, and for as many as the body still has asks
 abbrev pub HasRoom : ℕ → ℕ → Type 0
@@ -118,7 +114,7 @@ module _ {B : Type 0} (rules : Rules B) where
 
         proper : IsProper rules child
         proper =
-            let m = map_length p.name p.references pass in record {
+            let m = length-map pass (reference p) in record {
               fresh = subst (λ n. IsFresh rules.places rules.awaits rules.left (suc n) b) (sym m) f.fresh;
               few = subst (λ n. n ≤ most_passed) (sym m) f.few;
             }
