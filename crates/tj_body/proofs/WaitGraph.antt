@@ -19,6 +19,7 @@ use Rattle.tj_body.specs.WaitGraph.{Waits, Owns, WaitsFor}
 use Rattle.tj_base.specs.declared.cell.Sort.{Sort}
 use Rattle.tj_base.specs.declared.cell.Sort.TheVariants as sort
 use Rattle.tj_body.specs.declared.point.Entry.{Entry}
+use Rattle.tj_body.specs.declared.point.Close.{Close}
 use Rattle.tj_body.specs.declared.point.PointStage.{PointStage}
 use Rattle.tj_body.specs.declared.point.PointStage.TheVariants as stage
 use Rattle.tj_body.specs.declared.point.Task.{Task}
@@ -68,7 +69,7 @@ not_both o e p q = let z : None ≡ Some e = sym p ∙ q in cc
 
 -- who has ended owns nothing
 ends_owning_none : (st : PointStage) (x q : Name) (holds : List Name) → IsIn q (owned_in st x holds)
-    → (e : Rattle.tj_body.specs.declared.point.Close.Close) → st ≡ stage.Closed e → ⊥
+    → (e : Close) → st ≡ stage.Closed e → ⊥
 ends_owning_none st x q holds i e c = subst (λ z. IsIn q (owned_in z x holds)) c i
 
 module _ {B : Type 0} (program : Program B) (obeys : AreLawful program.rules)
@@ -112,6 +113,18 @@ module _ {B : Type 0} (program : Program B) (obeys : AreLawful program.rules)
       ap (λ (U : Assignment). U q) (last_given program N few (suc (2 * N)) (omega arith))
       ∙ ap (λ (U : Assignment). U q) same_given
 
+  -- what a task of the round uses and has no entry, it owns
+  owns : (q : Name) (t : Task B) → IsIn t round → V last q ≡ None → 1 ≤ uses program.rules (V (2 * N)) q t
+      → IsIn q (owned (history program.rules (V (2 * N)) t))
+  owns q t i no_value many =
+      let W = V (2 * N) in
+      let H = owned (history program.rules W t) in
+      in_of_times q H (dite (dec_le 1 (times q H)) (λ l. l)
+      (λ l. let w = entry_of_wrote q (writes_by program.rules W t) (omega arith) in
+      let e = of_entries program (suc (2 * N)) q w.0
+      (in_flat_map (writes_by program.rules W) t (q, w.0) round i w.1) in
+      absurd (not_both (V (suc (2 * N)) q) w.0 (same_at q ∙ no_value) e)))
+
   -- a cell without an entry has an owner
   owner : (q : Name) → IsIn q (cells program (suc (2 * N))) → V last q ≡ None
       → (t : Task B) × IsIn t round × IsIn q (owned (history program.rules (V (2 * N)) t))
@@ -123,13 +136,7 @@ module _ {B : Type 0} (program : Program B) (obeys : AreLawful program.rules)
       let c = times_of_in q (cells program (suc (2 * N))) i in
       let d = total_flat_map (is q) (cells_by program.rules W) round in
       let x = total_some (uses program.rules W q) round (omega arith) in
-      let H = history program.rules W x.0 in
-      let many = x.2 in
-      dite (dec_le 1 (times q (owned H))) (λ l. (x.0, x.1, in_of_times q (owned H) l))
-      (λ l. let w = entry_of_wrote q (writes_by program.rules W x.0) (omega arith) in
-      let e = of_entries program (suc (2 * N)) q w.0
-      (in_flat_map (writes_by program.rules W) x.0 (q, w.0) round x.1 w.1) in
-      absurd (not_both (V (suc (2 * N)) q) w.0 (same_at q ∙ no_value) e))
+      (x.0, x.1, owns q x.0 x.1 no_value x.2)
 
   task_of : (p : Point B) → IsIn p points → (t : Task B) × IsIn t all × (p ≡ history_of t)
   task_of p i = in_map history_of p all i
