@@ -13,10 +13,11 @@ pub mod Proper
 pub mod Rises
 pub mod Settles
 pub mod Keeps
+pub mod NameLaws
 pub mod References
 pub mod RoundPoints
 pub mod Rests
 pub mod Sizes
-pub mod Before
 pub mod InOrder
 pub mod WithoutGets
+pub mod WaitGraph

@@ -162,6 +162,43 @@ module _ (Named : Sort → Name → Type 0) where
     goes rules V n (stage.Waits q spare) p h t = looks spare q (V q) p h (n q)
     goes rules V n (stage.Closed e) p h t = h
 
+  -- the cell of a wait
+  abbrev pub WaitsNamed : PointStage → Type 0
+  WaitsNamed (stage.Answered a) = Unit {0}
+  WaitsNamed (stage.Waits q spare) = (s : Sort) × Named s q
+  WaitsNamed (stage.Closed e) = Unit {0}
+
+  module _ {B : Type 0} where
+    turns_wait : (strict : Bool) (p : Point B) (a : Ask B) (p' : Point B) → IsTurn strict p a p' → HasNamed p
+        → WaitsNamed p'.stage
+    turns_wait strict p _ _ (fails a c) h = tt
+    turns_wait strict p _ _ (ends v) h = tt
+    turns_wait strict p _ _ makes h = tt
+    turns_wait strict p _ _ (forks b pass hand l e) h = tt
+    turns_wait strict p _ _ (sets k v s o) h = tt
+    turns_wait strict p _ _ (gets spare k s) h = ((reference p k).sort, at_place p.name p.references k h.0 h.1)
+    turns_wait strict p _ _ (joins spare k s o) h = ((reference p k).sort, at_place p.name p.references k h.0 h.1)
+    turns_wait strict p _ _ (prints i) h = tt
+
+    reads_wait : (spare : Bool) (c : Name) (x : Entry) (p : Point B) → WaitsNamed (after_read spare c x p).stage
+    reads_wait true c entry.Broken p = tt
+    reads_wait false c entry.Broken p = tt
+    reads_wait spare c (entry.Value (value.Num i)) p = tt
+    reads_wait spare c (entry.Value (value.Ref r)) p = tt
+
+    looks_wait : (spare : Bool) (c : Name) (o : Option Entry) (p : Point B) → WaitsNamed p.stage
+        → WaitsNamed (after_look spare c o p).stage
+    looks_wait spare c None p h = h
+    looks_wait spare c (Some x) p h = reads_wait spare c x p
+
+    goes_wait : (rules : Rules B) (V : Assignment) (st : PointStage) (p : Point B) → HasNamed p → WaitsNamed p.stage
+        → WaitsNamed (after_stage rules V st p).stage
+    goes_wait rules V (stage.Answered a) p h w =
+        let b = rules.asks p.body a in let next : Point B = record p { body = rules.then p.body a } in
+        turns_wait rules.strict next b _ (is_turn rules.strict next b) h
+    goes_wait rules V (stage.Waits q spare) p h w = looks_wait spare q (V q) p w
+    goes_wait rules V (stage.Closed e) p h w = w
+
 module _ {B : Type 0} (program : Program B) (obeys : AreLawful program.rules)
     (proper : IsProper program.rules (root_task program.root)) where
   abbrev V : ℕ → Assignment
@@ -219,3 +256,11 @@ module _ {B : Type 0} (program : Program B) (obeys : AreLawful program.rules)
   pub has_named : (n : ℕ) (t : Task B) → IsIn t (tasks program (suc n)) → (k : ℕ)
       → HasNamed Named (point_after program.rules (V n) k t)
   has_named n t i k = let g = named_given n in points n g t i (passed n g t i) k
+
+  -- and so is the cell that a task waits for
+  pub waits_named : (n : ℕ) (t : Task B) → IsIn t (tasks program (suc n)) → (k : ℕ)
+      → WaitsNamed Named (point_after program.rules (V n) k t).stage
+  waits_named n t i zero = tt
+  waits_named n t i (suc k) =
+      let p = point_after program.rules (V n) k t in
+      goes_wait Named program.rules (V n) p.stage p (has_named n t i k) (waits_named n t i k)

@@ -1,5 +1,5 @@
 -- Points in rounds.
-use Rattle.std.proofs.Common.{◌≡◌, ℕ, zero, suc, ◌+◌, ◌<◌, ◌≤◌, inl, inr, List, [], ◌∷◌, ◌++◌, map}
+use Rattle.std.proofs.Common.{◌≡◌, ℕ, zero, suc, ◌+◌, ◌<◌, ◌≤◌, inl, inr, List, ◌++◌, map}
 use Rattle.std.proofs.Common.{Some, refl, sym, ap, ◌∙◌, subst, arith}
 use native.Mathlib.Decide.{dec_le}
 use mathlib.Core.Logic.{dite}
@@ -15,7 +15,7 @@ use Rattle.tj_body.specs.RoundPoints.{ReferencesAreNamed, ThingsAreMade, StepsEx
 use Rattle.tj_body.specs.declared.point.Task.{Task}
 use Rattle.tj_body.specs.declared.point.Point.{Point}
 use Rattle.tj_body.proofs.Lists.{in_left, in_right, in_map, to_map}
-use Rattle.tj_body.proofs.Counts.{is, times, total, total_append, total_le, times_of_in, in_of_times, at_most_one}
+use Rattle.tj_body.proofs.Counts.{is, times, times_map, total, total_append, total_le, times_of_in, in_of_times, at_most_one}
 use Rattle.tj_body.proofs.Counts.{distinct_of_times}
 use Rattle.tj_body.proofs.Prefixes.{begins, under, under_is, numbered_once}
 use Rattle.tj_body.proofs.Accounts.{numbered, fair}
@@ -41,11 +41,6 @@ to_numbered x (suc m) k l =
 
 abbrev names_of : {B : Type 0} → List (Task B) → List Name
 names_of l = map (λ c. c.name) l
-
-times_names : {B : Type 0} (q : Name) (l : List (Task B))
-    → times q (names_of l) ≡ total (λ (c : Task B). is q c.name) l
-times_names q [] = refl
-times_names q (c ∷ cs) = ap (λ z. is q c.name + z) (times_names q cs)
 
 module _ {B : Type 0} (program : Program B) where
   abbrev V : ℕ → Assignment
@@ -134,7 +129,7 @@ module _ {B : Type 0} (program : Program B) where
         → times q (names_of p.children ++ p.promises) ≡ times q (numbered p.name p.made)
     made_as q p h =
         let a = total_append (is q) (names_of p.children) p.promises in
-        let b = times_names q p.children in
+        let b = times_map (λ (c : Task B). c.name) q p.children in
         let c = subst (λ (z : Point B). total (λ (c : Task B). is q c.name) z.children + times q z.promises
         ≡ times q (numbered z.name z.made)) (sym h.2.1.1)
         (fair q (is q) program.rules (V h.2.0) h.2.1.0 h.0).1 in

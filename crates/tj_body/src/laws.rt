@@ -5,10 +5,13 @@ ghost use Rattle.tj_body.specs.Laws.{IsMonotone, AsksOn, IsAllGood, Grows, IsApa
 ghost use Rattle.tj_body.specs.Laws.{OwnsApart, CountsInRound, CountsMade};
 ghost use Rattle.tj_body.specs.Laws.{IsSettledWhereSame, IsSettledBySize, IsFullExactly};
 ghost use Rattle.tj_body.specs.Laws.{IsFullWhere, IsLast, ReadsOn, IsKept, RestsAtMeaning};
+ghost use Rattle.tj_body.specs.NameLaws.{SameIsEqual, OrderedIsOne, OrderedHasSame, OrderedIsSame};
+ghost use Rattle.tj_body.specs.NameLaws.{NamesTellCells};
 ghost use Rattle.tj_body.specs.RoundPoints.{PointsStay, TasksStart, PointsAsk, PointsRead};
 ghost use Rattle.tj_body.specs.RoundPoints.{WritesBecome, ThingsInRounds, EntriesAreOne};
 ghost use Rattle.tj_body.specs.RoundPoints.{PointsAreGood, AsksArePlaced, ReferencesAreNamed};
 ghost use Rattle.tj_body.specs.RoundPoints.{ThingsAreMade, StepsExtend};
+ghost use Rattle.tj_body.specs.WaitGraph.{OwnersWait, WaitsLeadToCycle};
 ghost use Rattle.tj_body.specs.NeverWaits.{JoinsInOrderEnd, StrictWithoutGetEnds};
 
 use crate::body::Body;
@@ -143,9 +146,33 @@ pub fn points_in_rounds<B: Body>()
     ensures extended { HoldsOfPrograms B.places B.awaits B.left B.asks B.then StepsExtend }
 {}
 
+/// Lists of names, their order, and names for cells that are told by number.
+pub fn names_and_cells()
+    ensures same { SameIsEqual }
+
+    // In name order a list has the names that it had, is in order, and is the only such list.
+    ensures ordered { OrderedIsOne }
+    ensures elements { OrderedHasSame }
+
+    // Lists with the same names are the same in order.
+    ensures permuted { OrderedIsSame }
+
+    // What is owned and handed by number is what is owned and handed by name.
+    ensures cells { NamesTellCells }
+{}
+
 /// What stands at rest, with at most N cells, is the meaning with limit N.
 pub fn rest_is_meaning<B: Body>()
     ensures { HoldsOfPrograms B.places B.awaits B.left B.asks B.then RestsAtMeaning }
+{}
+
+/// In a meaning that isn't full, waits lead to a cycle.
+pub fn waits_lead_to_a_cycle<B: Body>()
+    // What a task waits for has no entry, and has an owner among the tasks, which waits too.
+    ensures owners { HoldsOfPrograms B.places B.awaits B.left B.asks B.then OwnersWait }
+
+    // From each task that waits, waits lead to a task on a cycle.
+    ensures cycle { HoldsOfPrograms B.places B.awaits B.left B.asks B.then WaitsLeadToCycle }
 {}
 
 /// Where tasks wait in the fork order for tasks of the meaning, none waits.
