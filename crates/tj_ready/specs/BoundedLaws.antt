@@ -17,7 +17,8 @@ at_place P (y ∷ ys) zero x at all = subst P (some-injective y x at) (all 0 y (
 at_place P (y ∷ ys) (suc i) x at all = at_place P ys i x at (λ k d in'. all (suc k) d (omega arith))
 
 -- the ends of a limited queue know one limit
-same_limit : (items : List CellId) (views : List ℕ) (port v : ℕ) (h : IsLimited items views) → get_elem? views port ≡ some v → v ≡ h.limit
+same_limit : (items : List CellId) (views : List ℕ) (port v : ℕ) (h : IsLimited items views) → get_elem? views port ≡
+    some v → v ≡ h.limit
 same_limit items views port v h at = at_place (λ u. u ≡ h.limit) views port v at h.known
 
 -- one of them tells it to another
@@ -29,7 +30,8 @@ tells items views port n h is =
       limit = h.limit;
       positive = h.positive;
       below = h.below;
-      known = All-append (λ v. v ≡ h.limit) (set views port n) (n ∷ []) (All-set (λ v. v ≡ h.limit) views port n is h.known) one;
+      known = All-append (λ v. v ≡ h.limit) (set views port n) (n ∷ [])
+          (All-set (λ v. v ≡ h.limit) views port n is h.known) one;
     }
 
 -- the lone worker and a first other end know the limit that it is told
@@ -43,14 +45,16 @@ told n positive =
       known = All-cons is n (n ∷ []) refl (All-cons is n [] refl (All-nil is));
     }
 
-told_alone : (n port : ℕ) → 0 < n → get_elem? {A = ℕ} (0 ∷ []) port ≡ some 0 → IsLimited [] (set (0 ∷ []) port n ++ n ∷ [])
+told_alone : (n port : ℕ) → 0 < n → get_elem? {A = ℕ} (0 ∷ []) port ≡ some 0 → IsLimited []
+    (set (0 ∷ []) port n ++ n ∷ [])
 told_alone n zero positive at = told n positive
 told_alone n (suc port) positive at = absurd (some-ne-none 0 (sym at))
 
 starts : (n port : ℕ) → 0 < n → Forks IsBounded port 0 n n
 starts n port positive items views (inl u) at =
     inr (subst (λ xs. IsLimited xs (set views port n ++ n ∷ [])) (sym u.none)
-    (subst (λ vs. IsLimited [] (set vs port n ++ n ∷ [])) (sym u.alone) (told_alone n port positive (subst (λ vs. get_elem? vs port ≡ some 0) u.alone at))))
+    (subst (λ vs. IsLimited [] (set vs port n ++ n ∷ [])) (sym u.alone)
+    (told_alone n port positive (subst (λ vs. get_elem? vs port ≡ some 0) u.alone at))))
 starts n port positive items views (inr h) at =
     let is = same_limit items views port 0 h at in
     let over = h.positive in
@@ -107,7 +111,8 @@ takes_front port v xs items views long few (inr h) at =
       (refl, subst (λ n. All (IsBelow n) xs) (sym is) (taken (IsBelow h.limit) xs items h.below)),
     )
 
-pub kept : IsPoolRule IsBounded 0 (λ n. n) (λ n. n) (λ v. v) (λ v ts w. w ≡ v) (λ v ts w. (w ≡ v) × All (IsBelow v) ts) (λ _. ⊤)
+pub kept : IsPoolRule IsBounded 0 (λ n. n) (λ n. n) (λ v. v) (λ v ts w. w ≡ v) (λ v ts w. (w ≡ v) × All (IsBelow v) ts)
+    (λ _. ⊤)
 kept = record {
   begins = inl record { none = refl; alone = refl };
   starts = starts;

@@ -1,5 +1,6 @@
 pub mod BoundedLaws
 pub mod Ends
+pub mod Meetings
 pub mod Queues
 pub mod Rules
 pub mod Stealing

@@ -1,7 +1,10 @@
 -- What clauses see of an end of a stealing pool.
-use Rattle.std.specs.Prelude.{ℕ, ◌≡◌, [], All}
-use Rattle.crossbeam_deque.specs.Handles.{worker_view}
+use Rattle.std.specs.Prelude.{ℕ, ◌≡◌, List, [], All, map}
+use Rattle.std.specs.declared.alloc.Global.{Global}
+use Rattle.atomic_blocks.specs.Lent.{RowsId}
+use Rattle.crossbeam_deque.specs.Handles.{worker_view, worker_deque, stealer_deque}
 use Rattle.tj_ready.specs.Ends.{Known}
+use Rattle.tj_ready.specs.Meetings.{AllMeet, Grows, Meets}
 use Rattle.tj_ready.specs.Victims.{known_in}
 use Rattle.tj_ready.specs.declared.rule.PoolRule.{Ghosts}
 use Rattle.tj_ready.specs.declared.stealing.RuledStealPool.{RuledStealPool}
@@ -17,3 +20,21 @@ module _ {V K : Type 0} {rule : Ghosts K V} where
     pub own : (known end).own ≡ rule.own cells
     pub spare : (known end).spare ≡ []
     pub others : All (λ v. v ≡ rule.other cells) (known end).others
+
+  -- the deque that an end puts into
+  abbrev pub deque_of : RuledStealPool V K rule → RowsId × Global
+  deque_of end = worker_deque end.own
+
+  -- the others' deques that it can take from
+  abbrev pub reach_of : RuledStealPool V K rule → List (RowsId × Global)
+  reach_of end = map (λ victim. stealer_deque victim.deque) end.others.items
+
+  -- each end can take from each other's deque
+  abbrev pub EndsMeet : List (RuledStealPool V K rule) → Type 0
+  EndsMeet ends = AllMeet deque_of reach_of ends
+
+  -- two ends got ways into each other's deque
+  pub record EndsJoin (a b a' b' : RuledStealPool V K rule) : Type 0 where
+    pub one : Grows deque_of reach_of a a'
+    pub other : Grows deque_of reach_of b b'
+    pub meet : Meets deque_of reach_of a' b'

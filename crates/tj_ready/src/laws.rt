@@ -1,5 +1,5 @@
-//! The queue behind the lock of a locked pool, and its two calls, which are lent it. No contract can
-//! say what lies behind a lock, so their clauses say what a put and a take do.
+//! The queue behind the lock of a locked pool, and its two calls, which are lent it. No contract
+//! can say what lies behind a lock, so their clauses say what a put and a take do.
 ghost use Rattle.std.specs.Prelude.{◌≡◌, [], ◌∷◌, ◌++◌, None, OnOk, OnErr, IfSome, ◌↔◌};
 
 use std::alloc::Global;

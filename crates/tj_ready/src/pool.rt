@@ -1,15 +1,19 @@
 //! What a worker sees of the ready tasks.
-ghost use Rattle.std.specs.Prelude.{ℕ, ◌≡◌, ◌<◌, ◌≤◌, ◌^◌, ⊤, All, length, IfOk, IfSome, OnOk, OnErr, MatchOption};
+ghost use Rattle.std.specs.Prelude.{ℕ, ◌≡◌, ◌<◌, ◌≤◌, ◌^◌, ⊤, List, All, length, IfOk, IfSome, OnOk, OnErr, MatchOption};
 ghost use Rattle.tj_base.specs.declared.cell.CellId.{CellId};
 
 use std::alloc::Global;
 use std::sync::Wait;
 use tj_base::{CellId, Oom};
 
-/// One worker's end of a pool of ready tasks. No call yields or sleeps: the worker decides how to idle.
+/// One worker's end of a pool of ready tasks. No call yields or sleeps: the worker decides how to
+/// idle.
 pub trait Pool: Sized + Send + Drop {
     /// For how many cells its pool was made.
     ghost limit: { Self → ℕ };
+
+    /// Each of these ends can take from the queue into which another one puts.
+    ghost meet: { List Self → Type 0 } = { λ _. ⊤ };
 
     /// It has just been made, and its queues are empty.
     ghost is_new: { Self → Type 0 } = { λ _. ⊤ };
@@ -32,6 +36,7 @@ pub trait Pool: Sized + Send + Drop {
         requires cells { (0 < cells) × (cells ≤ 2 ^ 14) }
         ensures workers { IfOk result (λ ends. length ends.items ≡ workers) }
         ensures limit { IfOk result (λ ends. All (λ end. Self.limit end ≡ cells) ends.items) }
+        ensures meet { IfOk result (λ ends. meet ends.items) }
         ensures new { IfOk result (λ ends. All is_new ends.items) };
 
     /// Adds a cell to one queue. After `Oom` the pool is as before.

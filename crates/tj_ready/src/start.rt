@@ -3,7 +3,7 @@
 //! A rule has to know for how many cells the pool is. A proof picks this number where a deque is
 //! made, and each seat of the deque is then told it.
 ghost use Rattle.std.specs.Prelude.{ℕ, ◌≡◌, ◌<◌, IfOk};
-ghost use Rattle.crossbeam_deque.specs.Handles.{view, worker_view, worker_flavor};
+ghost use Rattle.crossbeam_deque.specs.Handles.{view, worker_view, worker_flavor, worker_deque, stealer_deque};
 
 use crate::rule::{PoolRule, Ruled};
 use crate::victim::Victim;
@@ -66,7 +66,10 @@ pub fn owner<V, K: PoolRule<V>, S: Size>(alloc: Global, cells: u32) -> Result<Ow
 pub fn way_into<V, K: PoolRule<V>>(own: &mut Owner<V, K>, cells: u32) -> Result<Victim<V, K>, Oom>
     requires { (worker_flavor own.old ≡ 0) × (0 < cells) × (worker_view own.old ≡ K.own cells) }
     ensures same { (worker_flavor own.new ≡ 0) × (worker_view own.new ≡ K.own cells) }
-    ensures there { IfOk result (λ victim. view victim.seat ≡ K.other cells) }
+    ensures deque { worker_deque own.new ≡ worker_deque own.old }
+    ensures known { IfOk result (λ victim. view victim.seat ≡ K.other cells) }
+    ensures there { IfOk result
+        (λ victim. stealer_deque victim.deque ≡ worker_deque own.old) }
 {
     let deque = own.stealer()?;
     let seat = own.another::<Joining<K>>();

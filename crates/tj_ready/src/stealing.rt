@@ -1,5 +1,8 @@
-//! A deque for each worker. It puts and takes there without a lock, and takes from the others'
-//! deques when its own is empty.
+//! A deque for each worker, in which it puts and takes without a lock.
+//!
+//! A take looks into the own deque first, then into the spare list, which has what the own deque
+//! had no room for, and then into the others' deques in the order of their numbers. No other end
+//! takes from a spare list.
 ghost use Rattle.std.specs.Prelude.{◌≡◌, ◌<◌, All};
 ghost use Rattle.crossbeam_deque.specs.Handles.{worker_flavor, worker_view};
 ghost use Rattle.tj_ready.specs.Victims.{known_in};
@@ -32,8 +35,9 @@ pub struct RuledStealPool<V, K: PoolRule<V>> {
 pub type StealPool = RuledStealPool<u32, Bounded>;
 
 impl<V, K: PoolRule<V>> RuledStealPool<V, K> {
-    ghost use Rattle.std.specs.Prelude.{IfOk, length};
-    ghost use Rattle.tj_ready.specs.Stealing.{IsNewEnd};
+    ghost use Rattle.std.specs.Prelude.{IfOk, OnOk, length};
+    ghost use Rattle.tj_ready.specs.Meetings.{Opens, Meets};
+    ghost use Rattle.tj_ready.specs.Stealing.{IsNewEnd, EndsJoin, EndsMeet, deque_of, reach_of};
 
     // An end that can take from no other yet.
     fn alone<S: Size>(alloc: Global, cells: u32) -> Result<Self, Oom>
@@ -49,25 +53,42 @@ impl<V, K: PoolRule<V>> RuledStealPool<V, K> {
     }
 
     // Lets this end take from the other's deque. Both are new.
-    fn reach(&mut self, other: &mut Self, cells: u32) -> Result<(), Oom>
+    fn open(&mut self, other: &mut Self, cells: u32) -> Result<(), Oom>
         requires some { 0 < cells }
         requires new { IsNewEnd cells self.old × IsNewEnd cells other.old }
-        ensures { IsNewEnd cells self.new × IsNewEnd cells other.new }
+        ensures new { IsNewEnd cells self.new × IsNewEnd cells other.new }
+        ensures open { OnOk result
+            (Opens deque_of reach_of self.old (deque_of other.old) self.new) }
+        ensures other { (deque_of other.new ≡ deque_of other.old)
+            × (reach_of other.new ≡ reach_of other.old) }
     {
         self.others.push(way_into(&mut other.own, cells)?)?;
         Ok(())
     }
 
-    // Lets this end take from each of the others, and each of them from this one.
+    // Lets each of two ends take from the other's deque.
+    fn join(&mut self, other: &mut Self, cells: u32) -> Result<(), Oom>
+        requires some { 0 < cells }
+        requires new { IsNewEnd cells self.old × IsNewEnd cells other.old }
+        ensures new { IsNewEnd cells self.new × IsNewEnd cells other.new }
+        ensures join { OnOk result (EndsJoin self.old other.old self.new other.new) }
+    {
+        self.open(other, cells)?;
+        other.open(self, cells)
+    }
+
+    // Lets this end and each of the others take from each other's deque.
     fn meet(&mut self, others: &mut Vec<Self>, cells: u32) -> Result<(), Oom>
         requires some { 0 < cells }
         requires new { IsNewEnd cells self.old × All (IsNewEnd cells) others.old.items }
+        requires meet { EndsMeet others.old.items }
         ensures new { IsNewEnd cells self.new × All (IsNewEnd cells) others.new.items }
         ensures same { length others.new.items ≡ length others.old.items }
+        ensures meet { OnOk result (EndsMeet others.new.items
+            × All (Meets deque_of reach_of self.new) others.new.items) }
     {
         for at in 0..others.len() {
-            self.reach(&mut others[at], cells)?;
-            others[at].reach(self, cells)?;
+            self.join(&mut others[at], cells)?;
         }
         Ok(())
     }
@@ -101,7 +122,7 @@ impl<V, K: PoolRule<V>> RuledStealPool<V, K> {
         self.spare.pop_front()
     }
 
-    // The front of the first of the others' deques, in the order of their numbers, that isn't empty.
+    // The front of the first of the others' deques, by their numbers, that isn't empty.
     fn steal<R: Wait>(&mut self, rt: &R) -> Option<CellId>
         ensures cells { self.new.cells ≡ self.old.cells }
         ensures below { IfSome result (λ t. t.0 < self.old.cells) }
@@ -115,9 +136,11 @@ impl<V, K: PoolRule<V>> RuledStealPool<V, K> {
 
 impl<V, K: PoolRule<V>> Pool for RuledStealPool<V, K> {
     ghost use Rattle.tj_ready.specs.Ends.{PutsCell, TakesCell, FindsNone};
-    ghost use Rattle.tj_ready.specs.Stealing.{known, IsNewEnd};
+    ghost use Rattle.tj_ready.specs.Stealing.{known, IsNewEnd, EndsMeet};
 
     ghost limit = { λ end. end.cells };
+
+    ghost meet = { EndsMeet };
 
     ghost is_new = { λ end. IsNewEnd end.cells end };
 

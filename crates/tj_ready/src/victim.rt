@@ -39,7 +39,6 @@ impl<V, K: PoolRule<V>> Victim<V, K> {
     }
 
     // Takes the front cell of the first of these deques that isn't empty.
-    #[tactic(auto, using(crate::proofs::Steps::same_there, crate::proofs::Steps::steps_there, crate::proofs::Steps::looked))]
     pub fn steal_first<R: Wait>(victims: &mut Vec<Self>, rt: &R) -> Option<CellId>
         ensures { MatchOption result
             ((known_in victims.new.items ≡ known_in victims.old.items)

@@ -12,12 +12,14 @@ invariant_of-self g c =
       fifo = end.fifo;
       own_cells = end.own_cells;
       spare_cells = end.spare_cells;
-      other_cells = all_found (λ v. limit v ≡ end.cells) g.K.PoolRule.takes (All g.K.PoolRule.empty) (known_in end.others.items) c.steal_first.result _
+      other_cells = all_found (λ v. limit v ≡ end.cells) g.K.PoolRule.takes (All g.K.PoolRule.empty)
+          (known_in end.others.items) c.steal_first.result _
           (λ v w t by is. law.taken_limit v w t by ∙ is) c.steal_first.ensures end.other_cells;
     }
 
 pub returns-clause-below : goal.returns-clause-below
 returns-clause-below g c =
     let end = c.args.self.now in
-    found_below g.K.PoolRule.takes g.K.PoolRule.limit end.cells (All g.K.PoolRule.empty) (known_in end.others.items) c.steal_first.result
+    found_below g.K.PoolRule.takes g.K.PoolRule.limit end.cells (All g.K.PoolRule.empty) (known_in end.others.items)
+    c.steal_first.result
     (known_in c.steal_first.new.victims.items) g.met.K.PoolRule.kept.taken_below c.steal_first.ensures end.other_cells
