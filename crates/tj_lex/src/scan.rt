@@ -2,7 +2,7 @@
 ghost use Rattle.std.specs.Prelude.{◌≡◌, ◌+◌, ◌<◌, ◌≤◌, length, take, drop, List, IfOk, IfErr, IsErrAnd, MatchResult, true, false};
 ghost use Rattle.std.specs.Char.{is_ascii_digit};
 ghost use Rattle.tj_lex.specs.Bytes.{is_name_start, is_gap_start, begins_with};
-ghost use Rattle.tj_lex.specs.Tokens.{AreTokens, IsFirstFault, IsToken, IsFaultFrom, IsFaultAt, OrMemory};
+ghost use Rattle.tj_lex.specs.Tokens.{AreTokens, BeginsWithName, IsFirstFault, IsToken, IsFaultFrom, IsFaultAt, OrMemory};
 ghost use Rattle.tj_lex.specs.declared.token.Token.{Token};
 ghost use Rattle.tj_lex.specs.declared.token.LexFault.{LexFault};
 ghost use Rattle.tj_lex.specs.Spots.{IsSpot, IsLexeme};
@@ -100,6 +100,9 @@ fn lexeme_at(alloc: Global, text: &[u8], at: Place) -> Result<Lexeme, LexFault>
     requires { 0 < length text.now }
     ensures token { IfOk result (IsLexeme text.now) }
     ensures fault { IfErr result (OrMemory (IsFaultAt at text.now)) }
+
+    // Only a name takes memory.
+    ensures memory { result ≡ Err LexFault.Oom → BeginsWithName text.now }
 {
     if is_name_start(text[0]) {
         word(alloc, text, at)
@@ -114,6 +117,7 @@ fn word(alloc: Global, text: &[u8], at: Place) -> Result<Lexeme, LexFault>
     requires { begins_with is_name_start text.now ≡ true }
     ensures token { IfOk result (IsLexeme text.now) }
     ensures fault { IfErr result (OrMemory (IsFaultAt at text.now)) }
+    ensures memory { result ≡ Err LexFault.Oom → BeginsWithName text.now }
 {
     let len = name_len(text);
     if len > MAX_NAME {

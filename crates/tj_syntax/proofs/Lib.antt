@@ -53,3 +53,4 @@ pub mod SameToken
 pub mod SameFault
 pub mod Alike
 pub mod FirstFault
+pub mod Sends

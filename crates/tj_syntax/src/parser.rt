@@ -1,6 +1,6 @@
 //! What is left to read of a script, with what is known there, and the steps that every rule is
 //! made of. A step that fails leaves the token at which it failed as the next one.
-ghost use Rattle.std.specs.Prelude.{◌≡◌, ◌<◌, IfOk, Ok, None, length, option_copied};
+ghost use Rattle.std.specs.Prelude.{◌≡◌, ◌≢◌, ◌<◌, IfOk, Ok, None, length, option_copied};
 ghost use Rattle.tj_syntax.specs.State.{input_of};
 ghost use Rattle.tj_syntax.specs.Input as spec;
 ghost use Rattle.tj_syntax.specs.Input.{Reads};
@@ -95,8 +95,9 @@ impl<'t> Parser<'t> {
     /// Takes this mark, which has to come next.
     #[tactic(auto, unfolding(crate::specs::Input::expect))]
     pub(crate) fn expect(&mut self, mark: Mark) -> Result<(), Stop>
-        ensures { Reads (λ _. tt) (spec.expect mark (input_of self.old))
+        ensures reads { Reads (λ _. tt) (spec.expect mark (input_of self.old))
             result (input_of self.new) }
+        ensures no_memory { result ≢ Err Stop.Oom }
     {
         if !self.sees(mark) {
             return Err(self.refuse());
@@ -110,6 +111,7 @@ impl<'t> Parser<'t> {
     pub(crate) fn open(&mut self, room: u32) -> Result<(), Stop>
         ensures reads { Reads (λ _. tt) (spec.open_level room (input_of self.old))
             result (input_of self.new) }
+        ensures no_memory { result ≢ Err Stop.Oom }
         ensures some { IfOk result (λ _. 0 < room) }
     {
         if room == 0 {
@@ -122,8 +124,9 @@ impl<'t> Parser<'t> {
     /// Takes a variable, which has to be known.
     #[tactic(auto, unfolding(crate::specs::Input::known))]
     pub(crate) fn known(&mut self, name: &Word) -> Result<u32, Stop>
-        ensures { Reads (λ n. n) (spec.known name.now (input_of self.old))
+        ensures reads { Reads (λ n. n) (spec.known name.now (input_of self.old))
             result (input_of self.new) }
+        ensures no_memory { result ≢ Err Stop.Oom }
     {
         match self.vars.number_of(name.bytes()) {
             Some(number) => {
@@ -136,7 +139,8 @@ impl<'t> Parser<'t> {
 
     #[tactic(auto, unfolding(crate::specs::Input::variable))]
     pub(crate) fn variable(&mut self) -> Result<u32, Stop>
-        ensures { Reads (λ n. n) (spec.variable (input_of self.old)) result (input_of self.new) }
+        ensures reads { Reads (λ n. n) (spec.variable (input_of self.old)) result (input_of self.new) }
+        ensures no_memory { result ≢ Err Stop.Oom }
     {
         match self.peek() {
             Some(Tok::Name(name)) => self.known(name),
@@ -147,8 +151,9 @@ impl<'t> Parser<'t> {
     /// Takes a name that is declared, where these are declared already and so many may be.
     #[tactic(auto, unfolding(crate::specs::Input::fresh))]
     pub(crate) fn fresh(&mut self, most: usize, earlier: &Names<'t>) -> Result<&'t Word, Stop>
-        ensures { Reads (λ x. x.now) (spec.fresh most earlier.now (input_of self.old))
+        ensures reads { Reads (λ x. x.now) (spec.fresh most earlier.now (input_of self.old))
             result (input_of self.new) }
+        ensures no_memory { result ≢ Err Stop.Oom }
     {
         match self.peek() {
             Some(Tok::Name(name)) => {
@@ -165,8 +170,9 @@ impl<'t> Parser<'t> {
     /// Takes the name of a variable that is declared.
     #[tactic(auto, unfolding(crate::specs::Input::fresh))]
     pub(crate) fn fresh_variable(&mut self) -> Result<&'t Word, Stop>
-        ensures { Reads (λ x. x.now) (spec.fresh_variable (input_of self.old))
+        ensures reads { Reads (λ x. x.now) (spec.fresh_variable (input_of self.old))
             result (input_of self.new) }
+        ensures no_memory { result ≢ Err Stop.Oom }
     {
         match self.peek() {
             Some(Tok::Name(name)) => {

@@ -1,5 +1,5 @@
 //! Reading asks: forks with their arguments, gets and joins.
-ghost use Rattle.std.specs.Prelude.{◌≡◌, map};
+ghost use Rattle.std.specs.Prelude.{◌≡◌, ◌≢◌, map};
 ghost use Rattle.std.specs.Option.{option_map};
 ghost use Rattle.tj_syntax.specs.State.{input_of};
 ghost use Rattle.tj_syntax.specs.View as view;
@@ -74,8 +74,9 @@ impl<'t> Parser<'t> {
     /// The name of a forked task, and how many tokens are left from it on.
     #[tactic(auto, unfolding(crate::specs::Reading::forked))]
     fn forked(&mut self) -> Result<(&'t Word, usize), Stop>
-        ensures { Reads (λ f. (f.0.now, f.1)) (reading.forked (input_of self.old))
+        ensures reads { Reads (λ f. (f.0.now, f.1)) (reading.forked (input_of self.old))
             result (input_of self.new) }
+        ensures no_memory { result ≢ Err Stop.Oom }
     {
         match self.peek() {
             Some(Tok::Name(name)) => {
@@ -135,8 +136,9 @@ impl<'t> Parser<'t> {
     /// A variable or `me`.
     #[tactic(auto, unfolding(crate::specs::Reading::reference))]
     fn reference(&mut self) -> Result<RefOf, Stop>
-        ensures { Reads (λ r. r) (reading.reference (input_of self.old))
+        ensures reads { Reads (λ r. r) (reading.reference (input_of self.old))
             result (input_of self.new) }
+        ensures no_memory { result ≢ Err Stop.Oom }
     {
         match self.peek() {
             Some(Tok::Name(name)) => Ok(RefOf::Var(self.known(name)?)),

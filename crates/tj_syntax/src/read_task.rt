@@ -1,5 +1,5 @@
 //! Reading tasks, one behind the other.
-ghost use Rattle.std.specs.Prelude.{◌≡◌, map};
+ghost use Rattle.std.specs.Prelude.{◌≡◌, ◌≢◌, map};
 ghost use Rattle.tj_syntax.specs.State.{input_of};
 ghost use Rattle.tj_syntax.specs.View as view;
 ghost use Rattle.tj_syntax.specs.Input.{Reads};
@@ -42,8 +42,9 @@ impl<'t> Parser<'t> {
 
     #[tactic(auto, unfolding(crate::specs::Reading::task_keyword))]
     fn task_keyword(&mut self) -> Result<(), Stop>
-        ensures { Reads (λ _. tt) (reading.task_keyword (input_of self.old))
+        ensures reads { Reads (λ _. tt) (reading.task_keyword (input_of self.old))
             result (input_of self.new) }
+        ensures no_memory { result ≢ Err Stop.Oom }
     {
         match self.peek() {
             Some(Tok::Key(Key::Task)) => {

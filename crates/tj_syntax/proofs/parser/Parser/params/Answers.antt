@@ -16,10 +16,10 @@ unfolding params
 loop-turn-init c = first_of (search rules, grind (arith, common_steps))
 
 pub add_variable-requires-clause-new : goal.add_variable-requires-clause-new
-add_variable-requires-clause-new c = (variable_free _ _ _ c.in_ok-name.ensures).new
+add_variable-requires-clause-new c = (variable_free _ _ _ c.in_ok-name.ensures.reads).new
 
 pub add_variable-requires-clause-few : goal.add_variable-requires-clause-few
-add_variable-requires-clause-few c = (variable_free _ _ _ c.in_ok-name.ensures).few
+add_variable-requires-clause-few c = (variable_free _ _ _ c.in_ok-name.ensures.reads).few
 
 pub returns-in_err-name : goal.returns-in_err-name
 unfolding params_from

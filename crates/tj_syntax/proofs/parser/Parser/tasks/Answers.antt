@@ -15,10 +15,10 @@ unfolding tasks
 loop-turn-init c = record { reads = first_of (search rules, grind (arith, common_steps)); names = search rules }
 
 pub add-requires-clause-new : goal.add-requires-clause-new
-add-requires-clause-new c = (fresh_free 1024 _ _ _ _ c.in_ok-name.ensures).new
+add-requires-clause-new c = (fresh_free 1024 _ _ _ _ c.in_ok-name.ensures.reads).new
 
 pub add-requires-clause-few : goal.add-requires-clause-few
-add-requires-clause-few c = (fresh_free 1024 _ _ _ _ c.in_ok-name.ensures).few
+add-requires-clause-few c = (fresh_free 1024 _ _ _ _ c.in_ok-name.ensures.reads).few
 
 pub returns-then-left-eq0 : goal.returns-then-left-eq0
 unfolding tasks_from task
