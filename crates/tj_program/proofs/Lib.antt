@@ -15,5 +15,4 @@ pub mod LineReads
 pub mod LineWalks
 pub mod OneOutput
 pub mod Outputs
-pub mod Sends
 pub mod StrictRuns

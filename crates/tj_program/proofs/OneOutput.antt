@@ -1,5 +1,5 @@
 -- Words and an input have one output at most, from the laws of the crates below.
-use Rattle.std.proofs.Common.{◌≡◌, ℕ, ◌≤◌, inl, inr, Bool, false, List, [], Some, String, Result, Ok, Err, length, refl, sym, ap, subst, ◌∙◌, arith}
+use Rattle.std.proofs.Common.{◌≡◌, ℕ, ◌≤◌, ◌⊎◌, inl, inr, List, [], Some, String, Result, Ok, Err, length, refl, sym, ap, subst, ◌∙◌, arith}
 use Rattle.std.specs.declared.alloc.Global.{Global}
 use Rattle.tj_body.specs.Rounds.{meaning}
 use Rattle.tj_body.specs.declared.point.Point.{Point}
@@ -14,24 +14,27 @@ use Rattle.tj_lex.specs.declared.token.Token.{Token}
 use Rattle.tj_lex.specs.declared.token.LexFault.{LexFault}
 use Rattle.tj_lex.specs.Tokens as tokens
 use Rattle.tj_lex.specs.Tokens.{Answers, AreTokens}
-use Rattle.tj_mean.specs.declared.outcome.Outcome.{Outcome}
 use Rattle.tj_core.specs.Judging.{IsJudged}
 use Rattle.tj_mean.specs.Outcomes.{is_marked}
 use Rattle.tj_mean.specs.OutcomeLaws.{HasOneOutcome}
-use Rattle.tj_report.specs.ReportTexts.{report}
-use Rattle.tj_report.specs.SummaryTexts.{summary}
 use Rattle.tj_syntax.specs.declared.fault.ParseFault.{ParseFault}
 use Rattle.tj_syntax.specs.Faults as grammar
+use Rattle.tj_syntax.specs.Listing.{listing}
 use Rattle.tj_syntax.specs.Faults.{EndsInEnd, IsScript, kinds_of}
 use Rattle.tj_syntax.specs.Trees.{Task}
 use Rattle.tj_program.specs.Judgings as judgings
 use Rattle.tj_program.specs.Judgings.{IsJournalFault, IsJudging, bad_line}
-use Rattle.tj_program.specs.Output.{IsOutput, IsCommandOutput, IsOfScript, IsListing, IsSummary, usage, of_command}
-use Rattle.tj_program.specs.Runs.{script_program, IsRun, IsRunOf, status_of, full, ended}
-use Rattle.tj_program.specs.ScriptTexts.{IsScriptOf, IsFaultLine, token_fault, grammar_fault, too_long, in_tokens, in_grammar}
+use Rattle.tj_program.specs.Output.{IsOutput, IsCommandOutput, IsListed, IsRefused, IsRun, IsStart, IsStartOfText, usage, of_command}
+use Rattle.tj_program.specs.Runs.{Start, IsRunOf, IsStartOf, start_of, status_of, text_of, full, ended}
+use Rattle.tj_program.specs.ScriptTexts.{most_bytes, IsScriptOf, IsFaultLine, IsFirstFault, fault_line, too_long, in_tokens, in_grammar}
 use Rattle.tj_program.specs.Texts.{journal_fault}
 use Rattle.tj_program.specs.declared.command.Command.{Command}
 use Rattle.tj_program.specs.declared.command.Command.TheVariants as command
+use Rattle.tj_program.specs.declared.script_run.Limits.{Limits}
+use Rattle.tj_program.specs.declared.script_run.Told.{Told}
+use Rattle.tj_program.specs.declared.script_run.Told.TheVariants.{Report, Summary}
+use Rattle.tj_program.specs.declared.script_text.NoScript.{NoScript}
+use Rattle.tj_program.specs.declared.script_text.NoScript.TheVariants.{Tokens, Grammar}
 use Rattle.tj_program.specs.declared.status.Status.{Status}
 use Rattle.tj_program.proofs.CommandLines.{one_command}
 
@@ -53,7 +56,8 @@ pub record AreOne : Type 0 where
 abbrev Same : Status → List ℕ → Status → List ℕ → Type 0
 Same a s b t = (a ≡ b) × (s ≡ t)
 
-ok_is : {A E : Type 0} (a b : A) → ◌≡◌ {A = Result A E} (Ok a) (Ok b) → a ≡ b
+-- what is computed well is one
+pub ok_is : {A E : Type 0} (a b : A) → ◌≡◌ {A = Result A E} (Ok a) (Ok b) → a ≡ b
 ok_is a b e = cc
 
 err_is : {A E : Type 0} (a b : E) → ◌≡◌ {A = Result A E} (Err a) (Err b) → a ≡ b
@@ -77,59 +81,82 @@ module _ (one : AreOne) where
   one_script_of text a b h k = one.script (kinds_of h.tokens) a b h.is_script
       (subst (λ l. IsScript (kinds_of l) b) (one_tokens text k.tokens h.tokens k.has_tokens h.has_tokens) k.is_script)
 
-  one_line : (text : List ℕ) (a b : List ℕ) → IsFaultLine text a → IsFaultLine text b → a ≡ b
-  one_line text a b (too_long l) (too_long m) = refl
-  one_line text a b (too_long l) (in_tokens g short q) = absurd (omega arith)
-  one_line text a b (too_long l) (in_grammar u g short has q) = absurd (omega arith)
-  one_line text a b (in_tokens f short p) (too_long m) = absurd (omega arith)
-  one_line text a b (in_tokens f short p) (in_tokens g few q) =
-      ap token_fault (err_is f g (one.answer text (Err f) (Err g) p q))
-  one_line text a b (in_tokens f short p) (in_grammar u g few has q) = absurd (not_both text u f has p)
-  one_line text a b (in_grammar t f short has p) (too_long m) = absurd (omega arith)
-  one_line text a b (in_grammar t f short has p) (in_tokens g few q) = absurd (not_both text t g has q)
-  one_line text a b (in_grammar t f short has p) (in_grammar u g few also q) =
-      ap grammar_fault (one.fault t f g (ends text t has) p
+  one_fault : (text : List ℕ) (a b : NoScript) → IsFirstFault text a → IsFirstFault text b → a ≡ b
+  one_fault text a b (too_long l) (too_long m) = refl
+  one_fault text a b (too_long l) (in_tokens g short q) = absurd (omega arith)
+  one_fault text a b (too_long l) (in_grammar u g short has q) = absurd (omega arith)
+  one_fault text a b (in_tokens f short p) (too_long m) = absurd (omega arith)
+  one_fault text a b (in_tokens f short p) (in_tokens g few q) =
+      ap (λ x. Tokens x) (err_is f g (one.answer text (Err f) (Err g) p q))
+  one_fault text a b (in_tokens f short p) (in_grammar u g few has q) = absurd (not_both text u f has p)
+  one_fault text a b (in_grammar t f short has p) (too_long m) = absurd (omega arith)
+  one_fault text a b (in_grammar t f short has p) (in_tokens g few q) = absurd (not_both text t g has q)
+  one_fault text a b (in_grammar t f short has p) (in_grammar u g few also q) =
+      ap (λ x. Grammar x) (one.fault t f g (ends text t has) p
       (subst (λ l. grammar.IsFirstFault l g) (one_tokens text u t also has) q))
 
-  no_line : (text : List ℕ) (script : List Task) (line : List ℕ) → IsScriptOf text script → IsFaultLine text line → ⊥
-  no_line text script line is (too_long l) = let short : length text ≤ 1048576 = is.short in omega arith
-  no_line text script line is (in_tokens f short p) = not_both text is.tokens f is.has_tokens p
-  no_line text script line is (in_grammar t f short has p) =
+  no_fault : (text : List ℕ) (script : List Task) (fault : NoScript) → IsScriptOf text script
+      → IsFirstFault text fault → ⊥
+  no_fault text script fault is (too_long l) = let short : length text ≤ most_bytes = is.short in omega arith
+  no_fault text script fault is (in_tokens f short p) = not_both text is.tokens f is.has_tokens p
+  no_fault text script fault is (in_grammar t f short has p) =
       one.no_fault t script f (ends text t has)
       (subst (λ l. IsScript (kinds_of l) script) (one_tokens text is.tokens t is.has_tokens has) is.is_script) p
 
-  -- what is so of a script is one where it is one of each script
-  one_of_script : (IsSo : List Task → Status → List ℕ → Type 0)
-      → ((script : List Task) (a b : Status) (s t : List ℕ) → IsSo script a s → IsSo script b t → Same a s b t)
-      → (input : List ℕ) (a b : Status) (s t : List ℕ) → IsOfScript IsSo input a s → IsOfScript IsSo input b t
+  one_line : (text a b : List ℕ) → IsFaultLine text a → IsFaultLine text b → a ≡ b
+  one_line text a b f g = f.2 ∙ ap fault_line (one_fault text f.0 g.0 f.1 g.1) ∙ sym g.2
+
+  -- the line of a fault or what is so of a script is one where it is one of a script
+  one_or_refused : (IsSo : Status → List ℕ → Type 0) (input : List ℕ)
+      → ((status : Status) (text : List ℕ) → IsSo status text → (script : List Task) × IsScriptOf input script)
+      → ((a b : Status) (s t : List ℕ) → IsSo a s → IsSo b t → Same a s b t) → (a b : Status) (s t : List ℕ)
+      → IsRefused input a s ⊎ IsSo a s → IsRefused input b t ⊎ IsSo b t → Same a s b t
+  one_or_refused IsSo input script is_one a b s t (inl f) (inl g) = (f.0 ∙ sym g.0, one_line input s t f.1 g.1)
+  one_or_refused IsSo input script is_one a b s t (inl f) (inr k) =
+      let is = script b t k in absurd (no_fault input is.0 f.1.0 is.1 f.1.1)
+  one_or_refused IsSo input script is_one a b s t (inr h) (inl g) =
+      let is = script a s h in absurd (no_fault input is.0 g.1.0 is.1 g.1.1)
+  one_or_refused IsSo input script is_one a b s t (inr h) (inr k) = is_one a b s t h k
+
+  one_start_of : (limits : Limits) (script : List Task) (s t : Start) → IsStartOf limits script s
+      → IsStartOf limits script t → t ≡ s
+  one_start_of limits script s t h k =
+      let main : k.1.0 ≡ h.1.0 = some_is k.1.0 h.1.0 (sym k.1.1 ∙ h.1.1) in
+      let root : k.0 ≡ h.0 = k.1.2 ∙ ap (λ m. task_of script limits.steps m []) main ∙ sym h.1.2 in
+      k.2 ∙ ap (start_of limits.strict limits.cells) root ∙ sym h.2
+
+  one_start_of_text : (limits : Limits) (text : List ℕ) (s t : Start) → IsStartOfText limits text s
+      → IsStartOfText limits text t → t ≡ s
+  one_start_of_text limits text s t h k =
+      let same = one_script_of text k.0 h.0 k.1 h.1 in
+      one_start_of limits h.0 s t h.2 (subst (λ script. IsStartOf limits script t) same k.2)
+
+  one_start : (c : Command) (input : List ℕ) (s t : Start) → IsStart c input s → IsStart c input t → t ≡ s
+  one_start (command.Run workers cells steps strict) input s t h k = one_start_of_text _ input s t h k
+  one_start (command.Plan cells steps strict) input s t h k = one_start_of_text _ input s t h k
+  one_start command.List input s t h k = absurd h
+  one_start (command.Judge cells) input s t h k = absurd h
+  one_start (command.Gen size workers cells steps) input s t h k = one_start_of_text _ (script_text size) s t h k
+
+  one_run_of : (told : Told) (start : Start) (a b : Status) (s t : List ℕ) → IsRunOf told start a s
+      → IsRunOf told start b t → Same a s b t
+  one_run_of told start a b s t (full m) (full n) = (refl, refl)
+  one_run_of told start a b s t (full m) (ended o fits is) = absurd (fits m)
+  one_run_of told start a b s t (ended o fits is) (full m) = absurd (fits m)
+  one_run_of told start a b s t (ended o fits is) (ended p also are) =
+      let same = one.outcome (meaning start.program start.cells) o p is are in
+      (ap (λ x. status_of (is_marked x)) same, ap (text_of told) same)
+
+  one_run : (told : Told) (c : Command) (input : List ℕ) (a b : Status) (s t : List ℕ) → IsRun told c input a s
+      → IsRun told c input b t → Same a s b t
+  one_run told c input a b s t h k =
+      let same : k.0 ≡ h.0 = one_start c input h.0 k.0 h.1 k.1 in
+      one_run_of told h.0 a b s t h.2 (subst (λ start. IsRunOf told start b t) same k.2)
+
+  one_listing : (input : List ℕ) (a b : Status) (s t : List ℕ) → IsListed input a s → IsListed input b t
       → Same a s b t
-  one_of_script IsSo is_one input a b s t (inl f) (inl g) = (f.0 ∙ sym g.0, one_line input s t f.1 g.1)
-  one_of_script IsSo is_one input a b s t (inl f) (inr h) = absurd (no_line input h.0 s h.1 f.1)
-  one_of_script IsSo is_one input a b s t (inr h) (inl f) = absurd (no_line input h.0 t h.1 f.1)
-  one_of_script IsSo is_one input a b s t (inr h) (inr k) =
-      let same = one_script_of input k.0 h.0 k.1 h.1 in
-      is_one h.0 a b s t h.2 (subst (λ script. IsSo script b t) same k.2)
-
-  module _ (strict : Bool) (cells : ℕ) (told : Outcome → List ℕ) where
-    one_run_of : (root : TaskState) (a b : Status) (s t : List ℕ) → IsRunOf strict cells told root a s
-        → IsRunOf strict cells told root b t → Same a s b t
-    one_run_of root a b s t (full m) (full n) = (refl, refl)
-    one_run_of root a b s t (full m) (ended o fits is) = absurd (fits m)
-    one_run_of root a b s t (ended o fits is) (full m) = absurd (fits m)
-    one_run_of root a b s t (ended o fits is) (ended p also are) =
-        let same = one.outcome (meaning (script_program strict root) cells) o p is are in
-        (ap (λ x. status_of (is_marked x)) same, ap told same)
-
-    one_run : (steps : ℕ) (script : List Task) (a b : Status) (s t : List ℕ)
-        → IsRun strict cells told steps script a s → IsRun strict cells told steps script b t → Same a s b t
-    one_run steps script a b s t h k =
-        let main : k.1.0 ≡ h.1.0 = some_is k.1.0 h.1.0 (sym k.1.1 ∙ h.1.1) in
-        let root : k.0 ≡ h.0 = k.1.2 ∙ ap (λ m. task_of script steps m []) main ∙ sym h.1.2 in
-        one_run_of h.0 a b s t h.2 (subst (λ r. IsRunOf strict cells told r b t) root k.2)
-
-  one_listing : (script : List Task) (a b : Status) (s t : List ℕ) → IsListing script a s → IsListing script b t
-      → Same a s b t
-  one_listing script a b s t h k = (h.0 ∙ sym k.0, h.1 ∙ sym k.1)
+  one_listing input a b s t h k =
+      (h.2 ∙ sym k.2, h.3 ∙ ap listing (one_script_of input h.0 k.0 h.1 k.1) ∙ sym k.3)
 
   one_journal_fault : (bytes : List ℕ) (m n : ℕ) → IsJournalFault bytes m → IsJournalFault bytes n → m ≡ n
   one_journal_fault bytes m n (judgings.too_long l) (judgings.too_long k) = refl
@@ -137,7 +164,7 @@ module _ (one : AreOne) where
   one_journal_fault bytes m n (bad_line line short p) (judgings.too_long l) = absurd (omega arith)
   one_journal_fault bytes m n (bad_line line short p) (bad_line other few q) = one.line (lines_of bytes) line other p q
 
-  no_journal_fault : (bytes : List ℕ) (events : List Event) (n : ℕ) → length bytes ≤ 1048576
+  no_journal_fault : (bytes : List ℕ) (events : List Event) (n : ℕ) → length bytes ≤ most_bytes
       → journal.AreEventLines (lines_of bytes) events → IsJournalFault bytes n → ⊥
   no_journal_fault bytes events n short are (judgings.too_long l) = omega arith
   no_journal_fault bytes events n short are (bad_line line few p) = one.no_line (lines_of bytes) events line are p
@@ -154,22 +181,20 @@ module _ (one : AreOne) where
       (subst (λ es. IsJudged cells es t k.1) events k.3) in
       (h.4 ∙ ap status_of judged.1 ∙ sym k.4, judged.0)
 
-  one_summary : (size cells steps : ℕ) (a b : Status) (s t : List ℕ) → IsSummary size cells steps a s
-      → IsSummary size cells steps b t → Same a s b t
-  one_summary size cells steps a b s t h k =
-      let same = one_script_of (script_text size) k.0 h.0 k.1 h.1 in
-      one_run false cells (summary size) steps h.0 a b s t h.2
-      (subst (λ script. IsRun false cells (summary size) steps script b t) same k.2)
-
   one_of_command : (c : Command) (input : List ℕ) (a b : Status) (s t : List ℕ) → IsCommandOutput c input a s
       → IsCommandOutput c input b t → Same a s b t
   one_of_command (command.Run workers cells steps strict) input a b s t h k =
-      one_of_script (IsRun strict cells report steps) (one_run strict cells report steps) input a b s t h k
+      one_or_refused (IsRun Report (command.Run workers cells steps strict) input) input
+      (λ status text ran. (ran.1.0, ran.1.1)) (one_run Report (command.Run workers cells steps strict) input) a b s t
+      h k
   one_of_command (command.Plan cells steps strict) input a b s t h k =
-      one_of_script (IsRun strict cells report steps) (one_run strict cells report steps) input a b s t h k
-  one_of_command command.List input a b s t h k = one_of_script IsListing one_listing input a b s t h k
+      one_or_refused (IsRun Report (command.Plan cells steps strict) input) input
+      (λ status text ran. (ran.1.0, ran.1.1)) (one_run Report (command.Plan cells steps strict) input) a b s t h k
+  one_of_command command.List input a b s t h k =
+      one_or_refused (IsListed input) input (λ status text is. (is.0, is.1)) (one_listing input) a b s t h k
   one_of_command (command.Judge cells) input a b s t h k = one_judging cells input a b s t h k
-  one_of_command (command.Gen size workers cells steps) input a b s t h k = one_summary size cells steps a b s t h k
+  one_of_command (command.Gen size workers cells steps) input a b s t h k =
+      one_run (Summary size) (command.Gen size workers cells steps) input a b s t h k
 
   pub one_output : (words : List (String Global)) (input : List ℕ) (a b : Status) (s t : List ℕ)
       → IsOutput words input a s → IsOutput words input b t → (a ≡ b) × (s ≡ t)

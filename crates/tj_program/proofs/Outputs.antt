@@ -1,7 +1,5 @@
 -- From what each step of a command gives to its output.
-use Rattle.std.proofs.Common.{◌≡◌, ◌≢◌, ℕ, ◌<◌, ◌≤◌, ◌⊎◌, inl, inr, Bool, true, List, Option, Some, None, Result, Ok, Err, IfOk, MatchOption, length, take, codes, sym, refl, ap, subst, ◌∙◌, arith}
-use Rattle.tj_eval.specs.Bodies.{IsMainBody}
-use Rattle.tj_eval.specs.Statements.{TaskState}
+use Rattle.std.proofs.Common.{◌≡◌, ℕ, ◌<◌, ◌≤◌, ◌⊎◌, inl, inr, Bool, true, List, Option, Some, None, Result, Ok, Err, IfOk, MatchOption, length, take, sym, refl, ap, subst, ◌∙◌, arith}
 use Rattle.tj_lex.specs.declared.place.Place.{Place}
 use Rattle.tj_lex.specs.declared.token.Token.{Token}
 use Rattle.tj_lex.specs.declared.token.LexFault.{LexFault}
@@ -22,16 +20,17 @@ use Rattle.tj_ports.specs.declared.source.ReadEnd.{ReadEnd}
 use Rattle.tj_program.specs.Generated.{IsGenerated, generated_script}
 use Rattle.tj_program.specs.Inputs.{IsReadOf, HasRead}
 use Rattle.tj_program.specs.Judgings.{IsJudging, IsJournalFault, too_long as journal_too_long}
-use Rattle.tj_program.specs.Output.{IsOfScript, IsCommandOutput, reads}
+use Rattle.tj_program.specs.Output.{IsCommandOutput, IsRefused, reads}
 use Rattle.tj_program.specs.declared.command.Command.{Command}
 use Rattle.tj_program.specs.declared.command.Command.TheVariants.{Run, Plan}
-use Rattle.tj_report.specs.ReportTexts.{report}
-use Rattle.tj_program.specs.Runs.{status_of, NeedsMore, IsOutcomeOf, IsRun, IsRunOf, full, ended}
-use Rattle.tj_program.specs.ScriptTexts.{most_bytes, IsScriptOf, IsFaultLine, OrMemory, token_fault, grammar_fault, too_long, in_tokens, in_grammar}
-use Rattle.tj_program.specs.Texts.{script_fault, journal_fault, full_line}
+use Rattle.tj_program.specs.Runs.{Start, IsStartOf, status_of, text_of, NeedsMore, IsOutcomeOf, IsRunOf, full, ended}
+use Rattle.tj_program.specs.ScriptTexts.{most_bytes, IsScriptOf, IsFirstFault, IsMemory, fault_line, too_long, in_tokens, in_grammar}
+use Rattle.tj_program.specs.Texts.{journal_fault, full_line}
 use Rattle.tj_program.specs.declared.output.Output.{Output}
 use Rattle.tj_program.specs.declared.script_text.NoScript.{NoScript}
-use Rattle.tj_program.specs.declared.script_text.NoScript.TheVariants.{Fault}
+use Rattle.tj_program.specs.declared.script_text.NoScript.TheVariants.{Long, Tokens, Grammar}
+use Rattle.tj_program.specs.declared.script_run.Limits.{Limits}
+use Rattle.tj_program.specs.declared.script_run.Told.{Told}
 use Rattle.tj_program.specs.declared.status.Status.{Status}
 use Rattle.tj_program.specs.declared.status.Status.TheVariants.{Full, Script}
 
@@ -40,49 +39,49 @@ pub if_ok : {A E : Type 0} {P Q : A → Type 0} (r : Result A E) → ((x : A) �
 if_ok (Ok x) f p = f x p
 if_ok (Err e) f p = tt
 
--- The line of a fault of the tokens.
-of_tokens : (fault : LexFault) (P : LexFault → Type 0) → tokens.OrMemory P fault → fault ≢ lex.Oom → P fault
-of_tokens (lex.Byte at) P p some = p
-of_tokens (lex.Number at) P p some = p
-of_tokens (lex.Long at) P p some = p
-of_tokens lex.Oom P p some = absurd (some refl)
-
-pub token_line : (text line : List ℕ) (fault : LexFault) → length text ≤ most_bytes
-    → tokens.OrMemory (tokens.IsFirstFault text) fault → fault ≢ lex.Oom → line ≡ token_fault fault
-    → IsFaultLine text line
-token_line text line fault short first some e =
-    subst (IsFaultLine text) (sym e) (in_tokens fault short (of_tokens fault (tokens.IsFirstFault text) first some))
+-- The first fault of a text, where its tokens have one.
+pub token_first : (text : List ℕ) (fault : LexFault) → length text ≤ most_bytes
+    → tokens.OrMemory (tokens.IsFirstFault text) fault → IsMemory (Tokens fault) ⊎ IsFirstFault text (Tokens fault)
+token_first text (lex.Byte at) short first = inr (in_tokens (lex.Byte at) short first)
+token_first text (lex.Number at) short first = inr (in_tokens (lex.Number at) short first)
+token_first text (lex.Long at) short first = inr (in_tokens (lex.Long at) short first)
+token_first text lex.Oom short first = inl refl
 
 -- a text that has no tokens is no script
 pub token_refused : (text : List ℕ) (fault : LexFault)
-    → ((all : List Token) → AreTokens text all → fault ≡ lex.Oom) → fault ≢ lex.Oom
-    → (script : List Task) → IsScriptOf text script → ⊥
-token_refused text fault memory some script is = some (memory is.tokens is.has_tokens)
+    → ((all : List Token) → AreTokens text all → fault ≡ lex.Oom)
+    → IsMemory (Tokens fault) ⊎ ((script : List Task) → IsScriptOf text script → ⊥)
+token_refused text (lex.Byte at) memory =
+    inr (λ script is. let e : lex.Byte at ≡ lex.Oom = memory is.tokens is.has_tokens in cc)
+token_refused text (lex.Number at) memory =
+    inr (λ script is. let e : lex.Number at ≡ lex.Oom = memory is.tokens is.has_tokens in cc)
+token_refused text (lex.Long at) memory =
+    inr (λ script is. let e : lex.Long at ≡ lex.Oom = memory is.tokens is.has_tokens in cc)
+token_refused text lex.Oom memory = inl refl
 
--- The line of a fault of the grammar.
-pub grammar_line : (text line : List ℕ) (found : List Token) (fault : ParseFault) → length text ≤ most_bytes
-    → AreTokens text found → (fault ≡ parse.Oom) ⊎ grammar.IsFirstFault found fault → fault ≢ parse.Oom
-    → line ≡ grammar_fault fault → IsFaultLine text line
-grammar_line text line found fault short has (inl memory) some e = absurd (some memory)
-grammar_line text line found fault short has (inr first) some e =
-    subst (IsFaultLine text) (sym e) (in_grammar found fault short has first)
+-- the first fault of a text whose tokens are no script
+pub grammar_first : (text : List ℕ) (found : List Token) (fault : ParseFault) → length text ≤ most_bytes
+    → AreTokens text found → (fault ≡ parse.Oom) ⊎ grammar.IsFirstFault found fault
+    → IsMemory (Grammar fault) ⊎ IsFirstFault text (Grammar fault)
+grammar_first text found fault short has (inl memory) = inl memory
+grammar_first text found fault short has (inr first) = inr (in_grammar found fault short has first)
 
 -- a text whose tokens are no script is none
 pub grammar_refused : (text : List ℕ) (found : List Token) (fault : ParseFault)
     → ((all : List Token) → AreTokens text all → found ≡ all)
-    → (fault ≡ parse.Oom) ⊎ ((script : List Task) → IsScript (kinds_of found) script → ⊥) → fault ≢ parse.Oom
-    → (script : List Task) → IsScriptOf text script → ⊥
-grammar_refused text found fault only (inl memory) some script is = some memory
-grammar_refused text found fault only (inr none) some script is =
-    none script (subst (λ l. IsScript (kinds_of l) script) (sym (only is.tokens is.has_tokens)) is.is_script)
+    → (fault ≡ parse.Oom) ⊎ ((script : List Task) → IsScript (kinds_of found) script → ⊥)
+    → IsMemory (Grammar fault) ⊎ ((script : List Task) → IsScriptOf text script → ⊥)
+grammar_refused text found fault only (inl memory) = inl memory
+grammar_refused text found fault only (inr none) = inr (λ script is.
+    none script (subst (λ l. IsScript (kinds_of l) script) (sym (only is.tokens is.has_tokens)) is.is_script))
 
--- The line of a text that is too long, of which these are the first bytes.
-pub long_line : (at : Place) (text bytes line : List ℕ) → at ≡ place_after bytes → bytes ≡ take most_bytes text
-    → most_bytes < length text → line ≡ script_fault (codes "T1") at → IsFaultLine text line
-long_line at text bytes line place first long e =
-    subst (IsFaultLine text) (sym (e ∙ ap (script_fault (codes "T1")) (place ∙ ap place_after first))) (too_long long)
+-- the fault of a text that is too long, of which these are the first bytes
+pub long_first : (at : Place) (text bytes : List ℕ) → at ≡ place_after bytes → bytes ≡ take most_bytes text
+    → most_bytes < length text → IsFirstFault text (Long at)
+long_first at text bytes place first long =
+    subst (λ p. IsFirstFault text (Long p)) (sym (place ∙ ap place_after first)) (too_long long)
 
--- the same of a journal
+-- the same of a journal that is too long
 pub long_fault : (at : Place) (journal bytes : List ℕ) → at ≡ place_after bytes → bytes ≡ take most_bytes journal
     → most_bytes < length journal → IsJournalFault journal at.line
 long_fault at journal bytes place first long =
@@ -93,44 +92,53 @@ pub IsJudging-fault : (cells line : ℕ) (journal text : List ℕ) → IsJournal
     → text ≡ journal_fault line → IsJudging cells journal Script text
 IsJudging-fault cells line journal text fault e = inl (line, fault, refl, e)
 
--- What a run of a script with these limits comes to: no outcome where it is full.
-abbrev pub ComesTo : (strict : Bool) (cells steps : ℕ) → List Task → Option Outcome → Type 0
-ComesTo strict cells steps script found = (root : TaskState) × IsMainBody script steps root
-    × MatchOption found (NeedsMore strict cells root)
-    (λ outcome. (¬ NeedsMore strict cells root) × IsOutcomeOf strict cells root outcome)
+-- what a run of a script under these limits gives, as it is told
+abbrev pub Ran : Limits → Told → List Task → Status → List ℕ → Type 0
+Ran limits told script status text = (start : Start) × IsStartOf limits script start × IsRunOf told start status text
 
-pub IsRun-ended : (strict : Bool) (cells steps : ℕ) (told : Outcome → List ℕ) (script : List Task)
-    (found : Option Outcome) (outcome : Outcome) (marked : Bool) (status : Status) (text : List ℕ)
-    → ComesTo strict cells steps script found → found ≡ Some outcome → marked ≡ is_marked outcome
-    → status ≡ status_of marked → text ≡ told outcome → IsRun strict cells told steps script status text
-IsRun-ended strict cells steps told script found outcome marked status text comes is m s t =
-    let c = subst (ComesTo strict cells steps script) is comes in (
+-- What a run of a script under these limits comes to: no outcome where it is full.
+abbrev pub ComesTo : Limits → List Task → Option Outcome → Type 0
+ComesTo limits script found = (start : Start) × IsStartOf limits script start
+    × MatchOption found (NeedsMore start) (λ outcome. (¬ NeedsMore start) × IsOutcomeOf start outcome)
+
+pub Ran-ended : (limits : Limits) (told : Told) (script : List Task) (found : Option Outcome) (outcome : Outcome)
+    (marked : Bool) (status : Status) (text : List ℕ) → ComesTo limits script found → found ≡ Some outcome
+    → marked ≡ is_marked outcome → status ≡ status_of marked → text ≡ text_of told outcome
+    → Ran limits told script status text
+Ran-ended limits told script found outcome marked status text comes is m s t =
+    let c = subst (ComesTo limits script) is comes in (
       c.0,
       c.1,
-      subst (λ z. IsRunOf strict cells told c.0 z text) (sym (s ∙ ap status_of m))
-          (subst (λ z. IsRunOf strict cells told c.0 (status_of (is_marked outcome)) z) (sym t)
-          (ended outcome c.2.0 c.2.1)),
+      subst (λ z. IsRunOf told c.0 z text) (sym (s ∙ ap status_of m))
+          (subst (λ z. IsRunOf told c.0 (status_of (is_marked outcome)) z) (sym t) (ended outcome c.2.0 c.2.1)),
     )
 
-pub IsRun-full : (strict : Bool) (cells steps : ℕ) (told : Outcome → List ℕ) (script : List Task)
-    (found : Option Outcome) (text : List ℕ) → ComesTo strict cells steps script found → found ≡ None
-    → text ≡ full_line cells → IsRun strict cells told steps script Full text
-IsRun-full strict cells steps told script found text comes is t =
-    let c = subst (ComesTo strict cells steps script) is comes in
-    (c.0, c.1, subst (IsRunOf strict cells told c.0 Full) (sym t) (full c.2))
+pub Ran-full : (limits : Limits) (told : Told) (script : List Task) (found : Option Outcome) (text : List ℕ)
+    → ComesTo limits script found → found ≡ None → text ≡ full_line limits.cells → Ran limits told script Full text
+Ran-full limits told script found text comes is t =
+    let c = subst (ComesTo limits script) is comes in
+    let cells : c.0.cells ≡ limits.cells = ap (λ start. start.cells) c.1.2 in
+    (c.0, c.1, subst (IsRunOf told c.0 Full) (sym (t ∙ ap full_line (sym cells))) (full c.2))
 
--- the line of an input's first fault is what a command that wants a script gives
-pub IsOfScript-refused : (IsSo : List Task → Status → List ℕ → Type 0) (refusal : NoScript) (end : ReadEnd)
-    (r : Result Output Oom) → OrMemory (λ line. (all : List ℕ) → IsReadOf all end → IsFaultLine all line.items) refusal
-    → IfOk r (λ output. output.status ≡ Script) → IfOk r (λ output. refusal ≡ Fault output.text)
-    → IfOk r (λ output. (all : List ℕ) → IsReadOf all end → IsOfScript IsSo all output.status output.text.items)
-IsOfScript-refused IsSo refusal end (Ok output) fault status text = λ all read.
-    inl (
-      status,
-      subst (OrMemory (λ line. (input : List ℕ) → IsReadOf input end → IsFaultLine input line.items)) text fault
-          all read,
-    )
-IsOfScript-refused IsSo refusal end (Err oom) fault status text = tt
+-- what is written where an input is no script
+pub of_refused : (IsSo : List ℕ → Status → List ℕ → Type 0) (fault : NoScript) (end : ReadEnd) (r : Result Output Oom)
+    → IsMemory fault ⊎ ((all : List ℕ) → IsReadOf all end → IsFirstFault all fault)
+    → IfOk r (λ output. output.status ≡ Script) → IfOk r (λ output. output.text.items ≡ fault_line fault)
+    → IfOk r (λ output. ¬ IsMemory fault) → IfOk r (λ output. (all : List ℕ) → IsReadOf all end
+    → IsRefused all output.status output.text.items ⊎ IsSo all output.status output.text.items)
+of_refused IsSo fault end (Ok output) (inl memory) status text none = absurd (none memory)
+of_refused IsSo fault end (Ok output) (inr first) status text none =
+    λ all read. inl (status, (fault, first all read, text))
+of_refused IsSo fault end (Err oom) first status text none = tt
+
+-- no line is written of a text that is a script
+pub never_refused : (P : Output → Type 0) (text : List ℕ) (script : List Task) (fault : NoScript)
+    (r : Result Output Oom)
+    → IsScriptOf text script → IsMemory fault ⊎ ((other : List Task) → IsScriptOf text other → ⊥)
+    → IfOk r (λ output. ¬ IsMemory fault) → IfOk r P
+never_refused P text script fault (Ok output) is (inl memory) none = absurd (none memory)
+never_refused P text script fault (Ok output) is (inr other) none = absurd (other script is)
+never_refused P text script fault (Err oom) is refused none = tt
 
 -- the text of the generated script is a script, so it has no fault
 pub generated_of : (size : ℕ) → IsGenerated size → IsScriptOf (script_text size) (generated_script size)
@@ -156,7 +164,7 @@ as_command command given end r is does out =
 pub as_run : (command : Command) (cells steps : ℕ) (strict : Bool) (end : ReadEnd) (r : Result Output Oom)
     → ((workers : ℕ) × (command ≡ Run workers cells steps strict)) ⊎ (command ≡ Plan cells steps strict)
     → IfOk r (λ output. (all : List ℕ) → IsReadOf all end
-    → IsOfScript (IsRun strict cells report steps) all output.status output.text.items) → Gives command end r
+    → IsCommandOutput (Plan cells steps strict) all output.status output.text.items) → Gives command end r
 as_run command cells steps strict end r (inl is) out =
     as_command command (Run is.0 cells steps strict) end r is.1 refl out
 as_run command cells steps strict end r (inr is) out = as_command command (Plan cells steps strict) end r is refl out

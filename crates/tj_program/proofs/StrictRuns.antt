@@ -1,20 +1,28 @@
 -- Strict runs of scripts without `get`, from the laws of the crates below.
-use Rattle.std.proofs.Common.{ℕ, ◌≤◌, Bool, true, false, List, String, IsTrue, refl, sym, subst, arith}
+use Rattle.std.proofs.Common.{ℕ, ◌≡◌, ◌≤◌, Bool, true, List, String, IsTrue, sym, ap, subst, ◌∙◌, arith}
+use Rattle.std.proofs.lemmas.Bool.{false≢true}
 use Rattle.tj_body.specs.Asks.{IsFresh}
 use Rattle.tj_body.specs.Programs.{rules_of}
 use Rattle.tj_body.specs.NeverWaits.{IsNoGet, IsWithoutGet}
 use Rattle.tj_body.specs.declared.ask.Answer.{Answer}
 use Rattle.tj_eval.specs.Bodies.{IsMainBody, script_places, script_awaits, script_left, script_asks, script_then}
-use Rattle.tj_eval.specs.Gets.{asks_no_get}
+use Rattle.tj_eval.specs.Gets.{asks_no_get, AreWithoutGet}
 use Rattle.tj_eval.specs.Laws.{fresh-main}
 use Rattle.tj_eval.specs.Statements.{TaskState}
 use Rattle.tj_eval.proofs.Programs.{few-script}
 use Rattle.tj_lex.specs.declared.token.Tok.{Tok}
-use Rattle.tj_syntax.specs.Faults.{IsScript}
+use Rattle.tj_lex.specs.declared.token.Token.{Token}
+use Rattle.tj_lex.specs.Tokens.{AreTokens}
+use Rattle.tj_mean.specs.declared.outcome.Outcome.{Outcome}
+use Rattle.tj_mean.specs.OutcomeLaws.{HasNoWait}
+use Rattle.tj_syntax.specs.Faults.{IsScript, kinds_of}
 use Rattle.tj_syntax.specs.Trees.{Task}
 use Rattle.std.specs.declared.alloc.Global.{Global}
 use Rattle.tj_program.specs.CommandLine.{HasLimits, IsCommand}
-use Rattle.tj_program.specs.StrictRuns.{StrictRunsNeverWait, NeverWaits}
+use Rattle.tj_program.specs.Output.{IsStartOfText}
+use Rattle.tj_program.specs.Runs.{Start, IsStartOf, NeedsMore, IsOutcomeOf, start_of}
+use Rattle.tj_program.specs.StrictRuns.{StrictRunsNeverWait}
+use Rattle.tj_program.specs.declared.script_run.Limits.{Limits}
 use Rattle.tj_program.specs.declared.command.Command.{Command}
 use Rattle.tj_program.specs.declared.command.Command.TheVariants as command
 use Rattle.tj_program.proofs.CommandLines.{within_limits}
@@ -32,18 +40,32 @@ pub IsWithoutGet-script : ((task : TaskState) (a : Answer) → IsTrue (asks_no_g
     (rules_of script_places script_awaits script_left script_asks script_then strict) asks_no_get
 IsWithoutGet-script law strict b a calm fits = law b a calm
 
+-- of each script under limits that the program allows
+abbrev pub OfScripts : Type 0
+OfScripts = (limits : Limits) → limits.steps ≤ 1000000 → (input : List ℕ) (start : Start)
+    → IsStartOfText limits input start → start.program.rules.strict ≡ true → (tokens : List Token)
+    → AreTokens input tokens → AreWithoutGet (kinds_of tokens) → ¬ NeedsMore start → (outcome : Outcome)
+    → IsOutcomeOf start outcome → HasNoWait outcome
+
+-- a start under the strict rule is the start with that rule
+pub strictly_started : (limits : Limits) (script : List Task) (start : Start) (is : IsStartOf limits script start)
+    → start.program.rules.strict ≡ true → start ≡ start_of true limits.cells is.0
+strictly_started limits script start is strict =
+    let rule : limits.strict ≡ true = sym (ap (λ s. s.program.rules.strict) is.2) ∙ strict in
+    is.2 ∙ ap (λ s. start_of s limits.cells is.0) rule
+
 -- of a command whose numbers are within their limits
-pub never_waits : ((cells steps : ℕ) (input : List ℕ) → steps ≤ 1000000 → StrictRunsNeverWait cells steps input)
-    → (c : Command) (input : List ℕ) → HasLimits c → NeverWaits c input
-never_waits law (command.Run workers cells steps true) input fits = law cells steps input fits.2.1
-never_waits law (command.Plan cells steps true) input fits = law cells steps input fits.1.1
-never_waits law (command.Run workers cells steps false) input fits = tt
-never_waits law (command.Plan cells steps false) input fits = tt
-never_waits law command.List input fits = tt
-never_waits law (command.Judge cells) input fits = tt
-never_waits law (command.Gen size workers cells steps) input fits = tt
+pub never_waits : OfScripts → (c : Command) (input : List ℕ) → HasLimits c → StrictRunsNeverWait c input
+never_waits law (command.Run workers cells steps strict) input fits =
+    law (record { cells = cells; steps = steps; strict = strict }) fits.2.1 input
+never_waits law (command.Plan cells steps strict) input fits =
+    law (record { cells = cells; steps = steps; strict = strict }) fits.1.1 input
+never_waits law command.List input fits = λ start is. absurd is
+never_waits law (command.Judge cells) input fits = λ start is. absurd is
+never_waits law (command.Gen size workers cells steps) input fits = λ start is strict.
+    absurd (false≢true (sym (ap (λ s. s.program.rules.strict) is.2.2) ∙ strict))
 
 -- the same of words
-pub never_waits-words : ((cells steps : ℕ) (input : List ℕ) → steps ≤ 1000000 → StrictRunsNeverWait cells steps input)
-    → (words : List (String Global)) (c : Command) (input : List ℕ) → IsCommand words c → NeverWaits c input
-never_waits-words law words c input is = never_waits law c input (within_limits words c is)
+pub never_waits-words : ((c : Command) (input : List ℕ) → HasLimits c → StrictRunsNeverWait c input)
+    → (words : List (String Global)) (c : Command) (input : List ℕ) → IsCommand words c → StrictRunsNeverWait c input
+never_waits-words law words c input is = law c input (within_limits words c is)

@@ -1,5 +1,5 @@
 -- A text on its way to the sink.
-use Rattle.std.specs.Prelude.{ℕ, ◌≡◌, ◌⊎◌, List, Option, Some, String, ◌++◌}
+use Rattle.std.specs.Prelude.{ℕ, ◌≡◌, ◌<◌, ◌⊎◌, List, Option, Some, String, ◌++◌, length}
 use Rattle.std.specs.Io.KnownBytes.{Appends}
 use Rattle.std.specs.declared.alloc.Global.{Global}
 use Rattle.tj_ports.specs.Faults.{HasFault}
@@ -27,14 +27,17 @@ abbrev pub IsOutputPart : List (String Global) → List ℕ → Option (List ℕ
 IsOutputPart words input before after = (status : Status) × (text : List ℕ) × IsOutput words input status text
     × GrowsByPart before after text
 
--- a text of this status was put whole, or the sink failed before its end
-abbrev pub IsPutAs : Status → List ℕ → Option (List ℕ) → Option (List ℕ) → ℕ → ℕ → Status → Type 0
-IsPutAs status text before after count_before count_after answer =
+-- a text of this status was put whole, or the sink failed before the text's end, and had no room for it without a fault
+abbrev pub IsPutAs : (HasRoom : ℕ → Type 0) → Status → List ℕ → Option (List ℕ) → Option (List ℕ) → ℕ → ℕ → Status
+    → Type 0
+IsPutAs HasRoom status text before after count_before count_after answer =
     ((answer ≡ status) × Appends before after text)
-    ⊎ ((answer ≡ WriteFault) × GrowsByPart before after text × HasFault count_before count_after)
+    ⊎ ((answer ≡ WriteFault) × GrowsByPart before after text × HasFault count_before count_after
+    × ((room : ℕ) → HasRoom room → room < length text))
 
 -- the output of a command was put, or the sink failed before its end
-abbrev pub IsAnswerPut : Command → List ℕ → Option (List ℕ) → Option (List ℕ) → ℕ → ℕ → Status → Type 0
-IsAnswerPut command input before after count_before count_after answer =
+abbrev pub IsAnswerPut : (HasRoom : ℕ → Type 0) → Command → List ℕ → Option (List ℕ) → Option (List ℕ) → ℕ → ℕ → Status
+    → Type 0
+IsAnswerPut HasRoom command input before after count_before count_after answer =
     (status : Status) × (text : List ℕ) × IsCommandOutput command input status text
-    × IsPutAs status text before after count_before count_after answer
+    × IsPutAs HasRoom status text before after count_before count_after answer

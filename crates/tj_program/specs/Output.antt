@@ -2,44 +2,60 @@
 use Rattle.std.specs.Prelude.{ℕ, ◌≡◌, ◌⊎◌, Bool, true, false, List, String}
 use Rattle.std.specs.declared.alloc.Global.{Global}
 use Rattle.tj_gen.specs.Script.{script_text}
-use Rattle.tj_report.specs.ReportTexts.{report}
-use Rattle.tj_report.specs.SummaryTexts.{summary}
 use Rattle.tj_syntax.specs.Listing.{listing}
 use Rattle.tj_syntax.specs.Trees.{Task}
 use Rattle.tj_program.specs.CommandLine.{IsCommand, HasNoForm}
 use Rattle.tj_program.specs.Judgings.{IsJudging}
-use Rattle.tj_program.specs.Runs.{IsRun}
+use Rattle.tj_program.specs.Runs.{Start, IsStartOf, IsRunOf}
 use Rattle.tj_program.specs.ScriptTexts.{IsScriptOf, IsFaultLine}
 use Rattle.tj_program.specs.Texts.{usage_line}
 use Rattle.tj_program.specs.declared.command.Command.{Command}
 use Rattle.tj_program.specs.declared.command.Command.TheVariants.{Run, Plan, List as list, Judge, Gen}
+use Rattle.tj_program.specs.declared.script_run.Limits.{Limits}
+use Rattle.tj_program.specs.declared.script_run.Told.{Told}
+use Rattle.tj_program.specs.declared.script_run.Told.TheVariants.{Report, Summary}
 use Rattle.tj_program.specs.declared.status.Status.{Status}
 use Rattle.tj_program.specs.declared.status.Status.TheVariants.{Clean, Usage, Script}
 
--- of an input that is to be a script: the line of its first fault, or what is so of the script
-abbrev pub IsOfScript : (List Task → Status → List ℕ → Type 0) → List ℕ → Status → List ℕ → Type 0
-IsOfScript IsSo input status text =
-    ((status ≡ Script) × IsFaultLine input text)
-    ⊎ ((script : List Task) × IsScriptOf input script × IsSo script status text)
+-- the run of the script that a text is, under these limits, begins with this
+abbrev pub IsStartOfText : Limits → List ℕ → Start → Type 0
+IsStartOfText limits text start = (script : List Task) × IsScriptOf text script × IsStartOf limits script start
 
--- the canonical listing
-abbrev pub IsListing : List Task → Status → List ℕ → Type 0
-IsListing script status text = (status ≡ Clean) × (text ≡ listing script)
+-- what the run of a command and an input begins with: the rule, the limit of cells and the root's body. `gen` runs the
+-- generated script without the strict rule, and `list` and `judge` run none. The number of workers has no part in it.
+abbrev pub IsStart : Command → (input : List ℕ) → Start → Type 0
+IsStart (Run workers cells steps strict) input =
+    IsStartOfText (record { cells = cells; steps = steps; strict = strict }) input
+IsStart (Plan cells steps strict) input =
+    IsStartOfText (record { cells = cells; steps = steps; strict = strict }) input
+IsStart list input = λ start. ⊥
+IsStart (Judge cells) input = λ start. ⊥
+IsStart (Gen size workers cells steps) input =
+    IsStartOfText (record { cells = cells; steps = steps; strict = false }) (script_text size)
 
--- the summary of a run of the generated script of this size, without the strict rule
-abbrev pub IsSummary : (size cells steps : ℕ) → Status → List ℕ → Type 0
-IsSummary size cells steps status text = (script : List Task) × IsScriptOf (script_text size) script
-    × IsRun false cells (summary size) steps script status text
+-- what the run of a command and an input gives, as it is told
+abbrev pub IsRun : Told → Command → (input : List ℕ) → Status → List ℕ → Type 0
+IsRun told command input status text = (start : Start) × IsStart command input start × IsRunOf told start status text
 
--- the output of a command; the number of workers has no part in it, nor has the input in that of `gen`
+-- the line of the first fault of an input that is no script
+abbrev pub IsRefused : (input : List ℕ) → Status → List ℕ → Type 0
+IsRefused input status text = (status ≡ Script) × IsFaultLine input text
+
+-- the canonical listing of an input that is a script
+abbrev pub IsListed : (input : List ℕ) → Status → List ℕ → Type 0
+IsListed input status text =
+    (script : List Task) × IsScriptOf input script × (status ≡ Clean) × (text ≡ listing script)
+
+-- the output of a command
 abbrev pub IsCommandOutput : Command → (input : List ℕ) → Status → List ℕ → Type 0
 IsCommandOutput (Run workers cells steps strict) input status text =
-    IsOfScript (IsRun strict cells report steps) input status text
+    IsRefused input status text ⊎ IsRun Report (Run workers cells steps strict) input status text
 IsCommandOutput (Plan cells steps strict) input status text =
-    IsOfScript (IsRun strict cells report steps) input status text
-IsCommandOutput list input status text = IsOfScript IsListing input status text
+    IsRefused input status text ⊎ IsRun Report (Plan cells steps strict) input status text
+IsCommandOutput list input status text = IsRefused input status text ⊎ IsListed input status text
 IsCommandOutput (Judge cells) input status text = IsJudging cells input status text
-IsCommandOutput (Gen size workers cells steps) input status text = IsSummary size cells steps status text
+IsCommandOutput (Gen size workers cells steps) input status text =
+    IsRun (Summary size) (Gen size workers cells steps) input status text
 
 -- the output: the usage line where the words have no form, and else that of the command that they are
 pub data IsOutput (words : List (String Global)) (input : List ℕ) : Status → List ℕ → Type 0 where

@@ -1,14 +1,18 @@
--- What running a script gives: it is full, or its outcome is told.
-use Rattle.std.specs.Prelude.{ℕ, ◌<◌, ◌≤◌, Bool, true, false, List}
+-- Runs of scripts: what a run begins with, and what it gives, which is that it is full, or its outcome as it is told.
+use Rattle.std.specs.Prelude.{ℕ, ◌≡◌, ◌<◌, ◌≤◌, Bool, true, false, List}
 use Rattle.tj_body.specs.Programs.{Program, program_of}
 use Rattle.tj_body.specs.Rounds.{IsFull, meaning}
 use Rattle.tj_eval.specs.Bodies.{IsMainBody, script_places, script_awaits, script_left, script_asks, script_then}
 use Rattle.tj_eval.specs.Statements.{TaskState}
 use Rattle.tj_mean.specs.declared.outcome.Outcome.{Outcome}
 use Rattle.tj_mean.specs.Outcomes.{IsOutcome, is_marked}
+use Rattle.tj_report.specs.ReportTexts.{report}
+use Rattle.tj_report.specs.SummaryTexts.{summary}
 use Rattle.tj_syntax.specs.Trees.{Task}
 use Rattle.tj_program.specs.Texts.{full_line}
 use Rattle.tj_program.specs.declared.script_run.Limits.{Limits}
+use Rattle.tj_program.specs.declared.script_run.Told.{Told}
+use Rattle.tj_program.specs.declared.script_run.Told.TheVariants.{Report, Summary}
 use Rattle.tj_program.specs.declared.status.Status.{Status}
 use Rattle.tj_program.specs.declared.status.Status.TheVariants.{Clean, Marked, Full}
 
@@ -17,29 +21,42 @@ abbrev pub status_of : Bool → Status
 status_of true = Marked
 status_of false = Clean
 
+-- the text of an outcome, as it is told
+abbrev pub text_of : Told → Outcome → List ℕ
+text_of Report outcome = report outcome
+text_of (Summary size) outcome = summary size outcome
+
 -- the program of a root whose body is that of a script's task
 abbrev pub script_program : Bool → TaskState → Program TaskState
 script_program = program_of script_places script_awaits script_left script_asks script_then
 
-module _ (strict : Bool) (cells : ℕ) where
-  -- the program of this root needs more cells
-  abbrev pub NeedsMore : TaskState → Type 0
-  NeedsMore root = IsFull (script_program strict root) cells
+-- what a run begins with: the program, which has the rule and the root's body, and the most cells
+pub record Start : Type 0 where
+  pub program : Program TaskState
+  pub cells : ℕ
 
-  -- the outcome of the meaning of this root's program
-  abbrev pub IsOutcomeOf : TaskState → Outcome → Type 0
-  IsOutcomeOf root = IsOutcome (meaning (script_program strict root) cells)
+-- the run of a root with such a body, under this rule and with so many cells at most
+abbrev pub start_of : Bool → (cells : ℕ) → TaskState → Start
+start_of strict cells root = record { program = script_program strict root; cells = cells }
 
-  module _ (told : Outcome → List ℕ) where
-    -- of the program of this root: that it is full, or its outcome as it is told
-    pub data IsRunOf (root : TaskState) : Status → List ℕ → Type 0 where
-      full : NeedsMore root → IsRunOf root Full (full_line cells)
-      ended : (outcome : Outcome) → ¬ NeedsMore root → IsOutcomeOf root outcome
-          → IsRunOf root (status_of (is_marked outcome)) (told outcome)
+-- the run of a script under these limits begins with this: its root has the body of `main`
+abbrev pub IsStartOf : Limits → List Task → Start → Type 0
+IsStartOf limits script start = (root : TaskState) × IsMainBody script limits.steps root
+    × (start ≡ start_of limits.strict limits.cells root)
 
-    -- the same of a script, each of whose tasks may begin so many statements
-    abbrev pub IsRun : (steps : ℕ) → List Task → Status → List ℕ → Type 0
-    IsRun steps script status text = (root : TaskState) × IsMainBody script steps root × IsRunOf root status text
+-- the program needs more cells
+abbrev pub NeedsMore : Start → Type 0
+NeedsMore start = IsFull start.program start.cells
+
+-- the outcome of the program's meaning
+abbrev pub IsOutcomeOf : Start → Outcome → Type 0
+IsOutcomeOf start = IsOutcome (meaning start.program start.cells)
+
+-- what the run gives: that it is full, or its outcome as it is told
+pub data IsRunOf (told : Told) (start : Start) : Status → List ℕ → Type 0 where
+  full : NeedsMore start → IsRunOf told start Full (full_line start.cells)
+  ended : (outcome : Outcome) → ¬ NeedsMore start → IsOutcomeOf start outcome
+      → IsRunOf told start (status_of (is_marked outcome)) (text_of told outcome)
 
 -- the cells and the statements of a run are within the program's limits
 pub record AreLimits (limits : Limits) : Type 0 where

@@ -1,5 +1,6 @@
 -- Which texts are scripts, and the line of the first fault of a text that is none.
-use Rattle.std.specs.Prelude.{ℕ, ◌<◌, ◌≤◌, List, [], length, take, codes}
+use Rattle.std.specs.Prelude.{ℕ, ◌≡◌, ◌<◌, ◌≤◌, List, [], length, take, codes}
+use Rattle.tj_lex.specs.declared.bytes.TheConstants.{MAX_TEXT}
 use Rattle.tj_lex.specs.declared.token.Tok.{Tok}
 use Rattle.tj_lex.specs.declared.token.Token.{Token}
 use Rattle.tj_lex.specs.declared.token.LexFault.{LexFault}
@@ -12,15 +13,13 @@ use Rattle.tj_syntax.specs.declared.fault.ParseFault.TheVariants as parse
 use Rattle.tj_syntax.specs.Faults as grammar
 use Rattle.tj_syntax.specs.Faults.{IsScript, kinds_of}
 use Rattle.tj_syntax.specs.Trees.{Task}
-use Rattle.std.specs.declared.alloc.Global.{Global}
-use Rattle.std.specs.declared.vec.Vec.{Vec}
 use Rattle.tj_program.specs.Texts.{script_fault}
 use Rattle.tj_program.specs.declared.script_text.NoScript.{NoScript}
-use Rattle.tj_program.specs.declared.script_text.NoScript.TheVariants.{Fault, Oom}
+use Rattle.tj_program.specs.declared.script_text.NoScript.TheVariants.{Long, Tokens, Grammar}
 
--- the most bytes of a script or a journal
+-- the most bytes of a script or a journal, 1048576
 abbrev pub most_bytes : ℕ
-most_bytes = 1048576
+most_bytes = MAX_TEXT
 
 -- the text is short enough, and its tokens are this script
 pub record IsScriptOf (text : List ℕ) (script : List Task) : Type 0 where
@@ -52,16 +51,27 @@ grammar_fault (parse.Deep at) = script_fault (codes "P7") at
 grammar_fault (parse.Many at) = script_fault (codes "P8") at
 grammar_fault parse.Oom = []
 
--- the line of the first fault: T1 at the first byte too many, or else that of the tokens, or else that of the grammar
-pub data IsFaultLine (text : List ℕ) : List ℕ → Type 0 where
-  too_long : most_bytes < length text
-      → IsFaultLine text (script_fault (codes "T1") (place_after (take most_bytes text)))
+-- what is wrong first with a text that is no script: its first byte too many, or else the first fault of the tokens, or
+-- else that of the grammar
+pub data IsFirstFault (text : List ℕ) : NoScript → Type 0 where
+  too_long : most_bytes < length text → IsFirstFault text (Long (place_after (take most_bytes text)))
   in_tokens : (fault : LexFault) → length text ≤ most_bytes → tokens.IsFirstFault text fault
-      → IsFaultLine text (token_fault fault)
-  in_grammar : (tokens : List Token) (fault : ParseFault) → length text ≤ most_bytes → AreTokens text tokens
-      → grammar.IsFirstFault tokens fault → IsFaultLine text (grammar_fault fault)
+      → IsFirstFault text (Tokens fault)
+  in_grammar : (found : List Token) (fault : ParseFault) → length text ≤ most_bytes → AreTokens text found
+      → grammar.IsFirstFault found fault → IsFirstFault text (Grammar fault)
 
--- the line of a fault meets the fact, or else memory was wanting
-abbrev pub OrMemory : (Vec ℕ Global → Type 0) → NoScript → Type 0
-OrMemory P (Fault line) = P line
-OrMemory P Oom = Unit {0}
+-- the line of a fault, and none for want of memory
+abbrev pub fault_line : NoScript → List ℕ
+fault_line (Long at) = script_fault (codes "T1") at
+fault_line (Tokens fault) = token_fault fault
+fault_line (Grammar fault) = grammar_fault fault
+
+-- the line of the first fault
+abbrev pub IsFaultLine : (text : List ℕ) → List ℕ → Type 0
+IsFaultLine text line = (fault : NoScript) × IsFirstFault text fault × (line ≡ fault_line fault)
+
+-- memory was wanting
+abbrev pub IsMemory : NoScript → Type 0
+IsMemory (Long at) = ⊥
+IsMemory (Tokens fault) = fault ≡ lex.Oom
+IsMemory (Grammar fault) = fault ≡ parse.Oom

@@ -1,12 +1,10 @@
 //! The lines that are written in place of a report: why an input is refused, or that it needs more
 //! cells.
-ghost use Rattle.std.specs.Prelude.{◌≡◌, ◌≢◌, ◌≤◌, ◌==◌, ◌++◌, length, count_by, decimal, IfOk};
-ghost use Rattle.std.specs.List.{suffix_len};
-ghost use Rattle.tj_lex.specs.Bytes.{line_feed, stays_on_line};
-ghost use Rattle.tj_lex.specs.Places.{place_after};
+ghost use Rattle.std.specs.Prelude.{◌≡◌, ◌≢◌, ◌++◌, decimal, IfOk};
 ghost use Rattle.tj_program.specs.ScriptTexts as script_texts;
 ghost use Rattle.tj_program.specs.Texts as texts;
 
+use crate::script_text::NoScript;
 use itoa::Buffer;
 use std::alloc::Global;
 use tj_base::Oom;
@@ -17,8 +15,20 @@ use tj_syntax::ParseFault;
 pub const USAGE_LINE: &[u8] =
     b"usage: tj run|plan|list|judge|gen [--workers N] [--cells N] [--steps N] [--size N] [--strict]\n";
 
+/// The line of a script's fault. Want of memory has none.
+pub fn fault_line(alloc: Global, fault: NoScript) -> Result<Vec<u8>, Oom>
+    ensures line { IfOk result (λ line. line.items ≡ script_texts.fault_line fault) }
+    ensures none { IfOk result (λ _. ¬ script_texts.IsMemory fault) }
+{
+    match fault {
+        NoScript::Long(at) => script_fault(alloc, b"T1", at),
+        NoScript::Tokens(fault) => token_fault(alloc, fault),
+        NoScript::Grammar(fault) => grammar_fault(alloc, fault),
+    }
+}
+
 /// The line of a fault of the tokens. Want of memory has none.
-pub fn token_fault(alloc: Global, fault: LexFault) -> Result<Vec<u8>, Oom>
+fn token_fault(alloc: Global, fault: LexFault) -> Result<Vec<u8>, Oom>
     ensures line { IfOk result (λ line. line.items ≡ script_texts.token_fault fault) }
     ensures none { IfOk result (λ _. fault ≢ LexFault.Oom) }
 {
@@ -31,7 +41,7 @@ pub fn token_fault(alloc: Global, fault: LexFault) -> Result<Vec<u8>, Oom>
 }
 
 /// The line of a fault of the grammar. Want of memory has none.
-pub fn grammar_fault(alloc: Global, fault: ParseFault) -> Result<Vec<u8>, Oom>
+fn grammar_fault(alloc: Global, fault: ParseFault) -> Result<Vec<u8>, Oom>
     ensures line { IfOk result (λ line. line.items ≡ script_texts.grammar_fault fault) }
     ensures none { IfOk result (λ _. fault ≢ ParseFault.Oom) }
 {
@@ -49,7 +59,7 @@ pub fn grammar_fault(alloc: Global, fault: ParseFault) -> Result<Vec<u8>, Oom>
 }
 
 /// The line of a fault of a script, which has a letter and a number.
-pub fn script_fault(alloc: Global, mark: &[u8], at: Place) -> Result<Vec<u8>, Oom>
+fn script_fault(alloc: Global, mark: &[u8], at: Place) -> Result<Vec<u8>, Oom>
     ensures { IfOk result (λ line. line.items ≡ texts.script_fault mark.now at) }
 {
     let mut line = Vec::from_slice(alloc, b"script fault ")?;
@@ -88,33 +98,4 @@ fn add_number(line: &mut Vec<u8>, number: u32) -> Result<(), Oom>
     let mut buffer = Buffer::new();
     line.extend_from_slice(buffer.format(number).as_bytes())?;
     Ok(())
-}
-
-/// The place just behind these bytes, where a text that is too long has its fault.
-pub fn place_behind(bytes: &[u8]) -> Place
-    requires { length bytes.now ≤ script_texts.most_bytes }
-    ensures { result ≡ place_after bytes.now }
-{
-    Place {
-        line: line_feeds(bytes) as u32 + 1,
-        column: last_line_len(bytes) as u32 + 1,
-    }
-}
-
-fn line_feeds(bytes: &[u8]) -> usize
-    ensures count { result ≡ count_by (λ b. b == line_feed) bytes.now }
-    ensures bound { result ≤ length bytes.now }
-{
-    bytes.iter().filter(|byte| **byte == b'\n').count()
-}
-
-fn last_line_len(bytes: &[u8]) -> usize
-    ensures count { result ≡ suffix_len stays_on_line bytes.now }
-    ensures bound { result ≤ length bytes.now }
-{
-    bytes
-        .iter()
-        .rev()
-        .take_while(|byte| **byte != b'\n')
-        .count()
 }

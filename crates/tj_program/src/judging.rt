@@ -5,9 +5,9 @@ ghost use Rattle.tj_program.specs.ScriptTexts.{most_bytes};
 ghost use Rattle.tj_program.specs.Inputs.{IsReadOf};
 ghost use Rattle.tj_program.specs.Judgings.{IsJudging};
 
-use crate::fault_lines::{journal_fault, place_behind};
-use crate::output::Output;
-use crate::script_run::status_of;
+use crate::fault_lines::journal_fault;
+use crate::output::{Output, status_of};
+use crate::places::place_behind;
 use crate::status::Status;
 use std::alloc::Global;
 use tj_base::Oom;

@@ -1,8 +1,10 @@
 //! Laws of the output. They speak of the definitions alone.
-ghost use Rattle.std.specs.Prelude.{◌≡◌, ◌≤◌, ℕ, List, String};
+ghost use Rattle.std.specs.Prelude.{◌≡◌, ℕ, List, String};
 ghost use Rattle.std.specs.declared.alloc.Global.{Global};
 ghost use Rattle.tj_program.specs.Output.{IsOutput};
+ghost use Rattle.tj_program.specs.CommandLine.{HasLimits};
 ghost use Rattle.tj_program.specs.StrictRuns.{StrictRunsNeverWait};
+ghost use Rattle.tj_program.specs.declared.command.Command.{Command};
 ghost use Rattle.tj_program.specs.declared.status.Status.{Status};
 
 use tj_core::{one_judging, one_reading};
@@ -29,9 +31,10 @@ pub fn one_output()
 /// No outcome of a script without the keyword `get` has a cycle or a task that waits, where it runs
 /// under the strict rule.
 pub fn strict_runs_never_wait()
-    ensures { (cells steps : ℕ) (input : List ℕ) → steps ≤ 1000000
-        → StrictRunsNeverWait cells steps input }
+    ensures { (command : Command) (input : List ℕ) → HasLimits command
+        → StrictRunsNeverWait command input }
 {
+    one_answer();
     no_get();
     scripts_without_the_keyword();
     strict_outcome_has_no_wait::<ScriptBody<'static>>();

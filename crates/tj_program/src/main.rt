@@ -12,9 +12,11 @@ mod laws;
 mod line_parse;
 mod line_words;
 mod mode;
+mod mode_outputs;
 #[cfg(test)]
 mod mode_tests;
 mod output;
+mod places;
 #[cfg(test)]
 mod row_tests;
 #[cfg(test)]
@@ -27,25 +29,15 @@ mod status;
 mod tests;
 mod words;
 
-use run::run_words;
-use status::Status;
 use std::io;
 use std::process::ExitCode;
 use tj_ports::{OpenGate, StdSink, StdSource};
-use words::words_given;
+use words::{run_given, words_given};
 
 fn main(rt: HostRuntime) -> ExitCode {
     let mut source = StdSource::new(rt.reader());
     let mut sink = StdSink::new(io::writer(&rt));
-    let status = match words_given(&rt) {
-        Ok(words) => run_words(
-            rt.alloc(),
-            words.as_slice(),
-            &mut source,
-            &mut sink,
-            &OpenGate,
-        ),
-        Err(_out_of_memory) => Status::Memory,
-    };
+    let given = words_given(&rt);
+    let status = run_given(rt.alloc(), given, &mut source, &mut sink, &OpenGate);
     ExitCode::from(status.exit_code())
 }

@@ -2,12 +2,12 @@
 //!
 //! The words come first, then the whole input, then the text is made and put. So want of memory
 //! comes only before the first byte is put.
-ghost use Rattle.std.specs.Prelude.{ℕ, suc, true, false, ◌≡◌, ◌≢◌, ◌≤◌, List, Some, IfOk, IfSome, OnOk, drop};
+ghost use Rattle.std.specs.Prelude.{ℕ, suc, true, false, ◌≡◌, ◌≢◌, ◌≤◌, List, Some, IfOk, IfSome, OnOk, drop, length};
 ghost use Rattle.std.specs.Io.KnownBytes.{Appends};
 ghost use Rattle.tj_ports.specs.Faults.{HasFault, HasNoFault, IsSound};
 ghost use Rattle.tj_ports.specs.Reading.{IsWithin};
 ghost use Rattle.tj_program.specs.CommandLine.{HasLimits, HasNoForm, IsCommand};
-ghost use Rattle.tj_program.specs.StrictRuns.{NeverWaits};
+ghost use Rattle.tj_program.specs.StrictRuns.{StrictRunsNeverWait};
 ghost use Rattle.tj_program.specs.declared.command.Command.{Command};
 ghost use Rattle.tj_program.specs.declared.status.Status.{Status};
 ghost use Rattle.tj_program.specs.ScriptTexts.{most_bytes};
@@ -19,14 +19,12 @@ ghost use Rattle.tj_program.specs.Delivery.{HasText, IsAnswered, IsOutputPart, I
 use crate::command::{Command, command_of};
 use crate::fault_lines::USAGE_LINE;
 use crate::laws::{one_output, strict_runs_never_wait};
-use crate::output::output_of;
+use crate::mode_outputs::output_of;
 use crate::status::Status;
 use std::alloc::Global;
 use tj_base::ByteList;
+use tj_lex::MAX_TEXT;
 use tj_ports::{Gate, ReadEnd, ReadFault, Sink, Source, put_all, read_all};
-
-// The most bytes of a script or a journal.
-const MOST_BYTES: u32 = 1_048_576;
 
 /// Does what the words say. The status names the outcome, and the text goes to the sink.
 pub fn run_words<S: Source, K: Sink, G: Gate>(
@@ -77,14 +75,28 @@ pub fn run_words<S: Source, K: Sink, G: Gate>(
     ensures part { result ≡ Status.WriteFault → (input : List ℕ)
         → (ReadInput words.now → S.left source.old ≡ Some input)
         → IsOutputPart words.now input (K.held sink.old) (K.held sink.new) }
+
+    // Where the sink doesn't fail and has room for the output, no write fails.
+    ensures fits { (room : ℕ) (input text : List ℕ) (status : Status) → K.has_room sink.old room
+        → (ReadInput words.now → S.left source.old ≡ Some input)
+        → IsOutput words.now input status text → length text ≤ room
+        → result ≢ Status.WriteFault }
+
+    // Where the source doesn't tell its bytes, that part is one of the output of some input.
+    ensures part_cause { result ≡ Status.WriteFault → (input : List ℕ)
+        × IsOutputPart words.now input (K.held sink.old) (K.held sink.new) }
     ensures memory { result ≡ Status.Memory → sink.new ≡ sink.old }
 
     // With `--strict` a script without the keyword `get` has no outcome with a wait.
     ensures never_waits { (command : Command) (input : List ℕ) → IsCommand words.now command
-        → NeverWaits command input }
+        → StrictRunsNeverWait command input }
 
+    // A port that failed is told: so no other status, want of memory among them, hides a fault.
     ensures source_counted { S.faults source.old ≤ S.faults source.new }
+    ensures source_quiet { result ≢ Status.ReadFault
+        → S.faults source.new ≡ S.faults source.old }
     ensures sink_counted { K.faults sink.old ≤ K.faults sink.new }
+    ensures sink_quiet { result ≢ Status.WriteFault → K.faults sink.new ≡ K.faults sink.old }
     ensures sound { S.never_fails source.old → (result ≢ Status.ReadFault)
         × IsSound (S.faults source.old) (S.faults source.new) (S.never_fails source.new) }
 {
@@ -116,6 +128,7 @@ fn input_of<S: Source>(
     ensures untouched { reads command ≡ false → source.new ≡ source.old }
     ensures failed { result ≡ Err ReadFault.Failed → (reads command ≡ true)
         × HasFault (S.faults source.old) (S.faults source.new) }
+    ensures quiet { result ≢ Err ReadFault.Failed → S.faults source.new ≡ S.faults source.old }
     ensures counted { S.faults source.old ≤ S.faults source.new }
     ensures sound { S.never_fails source.old → (result ≢ Err ReadFault.Failed)
         × IsSound (S.faults source.old) (S.faults source.new) (S.never_fails source.new) }
@@ -123,7 +136,7 @@ fn input_of<S: Source>(
     if let Command::Gen { .. } = command {
         return Ok(ReadEnd::Whole(ByteList::of(Vec::new(alloc))));
     }
-    read_all(alloc, source, MOST_BYTES)
+    read_all(alloc, source, MAX_TEXT as u32)
 }
 
 // Puts what a command gives for its input.
@@ -131,11 +144,12 @@ fn answer<K: Sink>(alloc: Global, command: Command, input: &ReadEnd, sink: &mut 
     requires limits { HasLimits command }
     requires within { IsWithin most_bytes input.now }
     ensures output { result ≢ Status.Memory → (all : List ℕ) → HasRead command all input.now
-        → IsAnswerPut command all (K.held sink.old) (K.held sink.new)
+        → IsAnswerPut (K.has_room sink.old) command all (K.held sink.old) (K.held sink.new)
         (K.faults sink.old) (K.faults sink.new) result }
     ensures memory { result ≡ Status.Memory → sink.new ≡ sink.old }
     ensures write_fault { result ≡ Status.WriteFault
         → HasFault (K.faults sink.old) (K.faults sink.new) }
+    ensures quiet { result ≢ Status.WriteFault → K.faults sink.new ≡ K.faults sink.old }
     ensures others { (result ≢ Status.Usage) × (result ≢ Status.ReadFault) }
     ensures counted { K.faults sink.old ≤ K.faults sink.new }
 {
@@ -145,10 +159,11 @@ fn answer<K: Sink>(alloc: Global, command: Command, input: &ReadEnd, sink: &mut 
     }
 }
 
-// Puts a text. The status is that of the text, or says that it could not be put.
-fn put_text<K: Sink>(sink: &mut K, status: Status, text: &[u8]) -> Status
-    ensures put { IsPutAs status text.now (K.held sink.old) (K.held sink.new) (K.faults sink.old)
-        (K.faults sink.new) result }
+/// Puts a text. The status is that of the text, or says that it could not be put.
+pub fn put_text<K: Sink>(sink: &mut K, status: Status, text: &[u8]) -> Status
+    ensures put { IsPutAs (K.has_room sink.old) status text.now (K.held sink.old) (K.held sink.new)
+        (K.faults sink.old) (K.faults sink.new) result }
+    ensures quiet { result ≢ Status.WriteFault → K.faults sink.new ≡ K.faults sink.old }
     ensures counted { K.faults sink.old ≤ K.faults sink.new }
 {
     match put_all(sink, text) {

@@ -1,16 +1,12 @@
 //! Running a script on one thread, by rounds, and telling its outcome.
 ghost use Rattle.std.specs.Prelude.{◌≡◌, IfOk, MatchOption};
-ghost use Rattle.tj_eval.specs.Bodies.{IsMainBody};
-ghost use Rattle.tj_eval.specs.Statements.{TaskState};
+ghost use Rattle.tj_program.specs.Runs.{Start, AreLimits, IsOutcomeOf, IsRunOf, IsStartOf, NeedsMore};
 ghost use Rattle.tj_program.specs.Runs as runs;
-ghost use Rattle.tj_program.specs.Runs.{AreLimits, IsOutcomeOf, IsRun, NeedsMore};
 ghost use Rattle.tj_program.specs.ScriptTexts.{IsSomeScript};
-ghost use Rattle.tj_report.specs.ReportTexts.{report};
-ghost use Rattle.tj_report.specs.SummaryTexts.{summary};
 ghost use Rattle.tj_syntax.specs.View as view;
 
 use crate::fault_lines::full_line;
-use crate::output::Output;
+use crate::output::{Output, status_of};
 use crate::status::Status;
 use std::alloc::Global;
 use tj_base::Oom;
@@ -28,17 +24,25 @@ pub struct Limits {
     pub strict: bool,
 }
 
-/// The report of a run of the script, or that it is full.
-pub fn report_of(alloc: Global, script: &Script, limits: Limits) -> Result<Output, Oom>
+/// How an outcome is told: by its report, or by the summary of a generated script of a size.
+#[derive(Clone, Copy)]
+pub enum Told {
+    Report,
+    Summary(u32),
+}
+
+/// The outcome of a run of the script, as it is told, or that it is full.
+pub fn run_of(alloc: Global, script: &Script, limits: Limits, told: Told) -> Result<Output, Oom>
     requires limits { AreLimits limits }
     requires script { IsSomeScript (view.script script.now) }
-    ensures { IfOk result (λ output. IsRun limits.strict limits.cells report limits.steps
-        (view.script script.now) output.status output.text.items) }
+    ensures { IfOk result (λ output. (start : Start)
+        × IsStartOf limits (view.script script.now) start
+        × IsRunOf told start output.status output.text.items) }
 {
     match outcome_of(alloc, script, limits)? {
         Some(outcome) => Ok(Output {
             status: status_of(marked(&outcome)),
-            text: report_text(alloc, &outcome)?,
+            text: text_of(alloc, told, &outcome)?,
         }),
         None => Ok(Output {
             status: Status::Full,
@@ -47,22 +51,13 @@ pub fn report_of(alloc: Global, script: &Script, limits: Limits) -> Result<Outpu
     }
 }
 
-/// The summary of a run of the generated script of this size, or that it is full.
-pub fn summary_of(alloc: Global, size: u32, script: &Script, limits: Limits) -> Result<Output, Oom>
-    requires limits { AreLimits limits }
-    requires script { IsSomeScript (view.script script.now) }
-    ensures { IfOk result (λ output. IsRun limits.strict limits.cells (summary size) limits.steps
-        (view.script script.now) output.status output.text.items) }
+/// The text of an outcome.
+fn text_of(alloc: Global, told: Told, outcome: &Outcome) -> Result<Vec<u8>, Oom>
+    ensures { IfOk result (λ text. text.items ≡ runs.text_of told outcome.now) }
 {
-    match outcome_of(alloc, script, limits)? {
-        Some(outcome) => Ok(Output {
-            status: status_of(marked(&outcome)),
-            text: summary_text(alloc, size, &outcome)?,
-        }),
-        None => Ok(Output {
-            status: Status::Full,
-            text: full_line(alloc, limits.cells)?,
-        }),
+    match told {
+        Told::Report => report_text(alloc, outcome),
+        Told::Summary(size) => summary_text(alloc, size, outcome),
     }
 }
 
@@ -70,27 +65,15 @@ pub fn summary_of(alloc: Global, size: u32, script: &Script, limits: Limits) -> 
 fn outcome_of(alloc: Global, script: &Script, limits: Limits) -> Result<Option<Outcome>, Oom>
     requires limits { AreLimits limits }
     requires script { IsSomeScript (view.script script.now) }
-    ensures { IfOk result (λ found. (root : TaskState)
-        × IsMainBody (view.script script.now) limits.steps root
-        × MatchOption found (NeedsMore limits.strict limits.cells root)
-        (λ outcome. (¬ NeedsMore limits.strict limits.cells root)
-        × IsOutcomeOf limits.strict limits.cells root outcome)) }
+    ensures { IfOk result (λ found. (start : Start)
+        × IsStartOf limits (view.script script.now) start
+        × MatchOption found (NeedsMore start)
+        (λ outcome. (¬ NeedsMore start) × IsOutcomeOf start outcome)) }
 {
     let root = main_body(alloc, script, limits.steps)?;
     match plan(alloc, &root, limits.cells, limits.strict) {
         Ok(outcome) => Ok(Some(outcome)),
         Err(PlanFault::Full) => Ok(None),
         Err(PlanFault::Oom) => Err(Oom),
-    }
-}
-
-/// The status of what is marked, and of what isn't.
-pub fn status_of(marked: bool) -> Status
-    ensures { result ≡ runs.status_of marked }
-{
-    if marked {
-        Status::Marked
-    } else {
-        Status::Clean
     }
 }

@@ -1,18 +1,29 @@
-use Rattle.std.proofs.Common.{true}
 use denote.Param.Send.{sendable}
 use Rattle.std.proofs.Crossing.{crosses}
-use Rattle.tj_program.proofs.Sends.{expr_sync, stmt_sync, script_sync}
+use Rattle.std.proofs.Common.{◌≡◌, Ok, true, subst}
+use Rattle.tj_syntax.proofs.Sends.{expr_sync, stmt_sync, script_sync}
 use Rattle.tj_eval.specs.Gets.{asks_no_get}
-use Rattle.tj_syntax.specs.Faults.{kinds_of}
-use Rattle.tj_program.proofs.StrictRuns.{fresh-root, IsWithoutGet-script}
+use Rattle.tj_syntax.specs.Faults.{IsScript, kinds_of}
+use Rattle.tj_program.specs.Runs.{NeedsMore, IsOutcomeOf}
+use Rattle.tj_program.proofs.OneOutput.{ok_is}
+use Rattle.tj_program.proofs.StrictRuns.{OfScripts, fresh-root, IsWithoutGet-script, never_waits, strictly_started}
 use Rattle.tj_program.proofs.laws.strict_runs_never_wait.Goals as goal
 
+of_scripts : goal.After-strict_outcome_has_no_wait → OfScripts
+of_scripts c = λ limits few input start is strict tokens has without more outcome told.
+    let same : is.1.tokens ≡ tokens =
+    ok_is is.1.tokens tokens (c.one_answer.ensures input (Ok is.1.tokens) (Ok tokens) is.1.has_tokens has) in
+    let script : IsScript (kinds_of tokens) is.0 = subst (λ l. IsScript (kinds_of l) is.0) same is.1.is_script in
+    let no_get = c.scripts_without_the_keyword.ensures (kinds_of tokens) is.0 script without in
+    let root = is.2.0 in
+    let begins = strictly_started limits is.0 start is.2 strict in
+    c.strict_outcome_has_no_wait.ensures true root
+    (fresh-root (kinds_of tokens) is.0 limits.steps root script is.2.1 few) asks_no_get
+    (IsWithoutGet-script c.no_get.ensures.asks true) (c.no_get.ensures.main is.0 limits.steps root no_get is.2.1)
+    limits.cells (subst (λ s. ¬ NeedsMore s) begins more) outcome (subst (λ s. IsOutcomeOf s outcome) begins told)
+
 pub returns : goal.returns
-returns c = λ cells steps input few tokens script root outcome has without is main fits told.
-    let no_get = c.scripts_without_the_keyword.ensures (kinds_of tokens) script is without in
-    c.strict_outcome_has_no_wait.ensures true root (fresh-root (kinds_of tokens) script steps root is main few)
-    asks_no_get (IsWithoutGet-script c.no_get.ensures.asks true) (c.no_get.ensures.main script steps root no_get main) cells
-    fits outcome told
+returns c = never_waits (of_scripts c)
 
 -- a body of a script may cross threads
 pub strict_outcome_has_no_wait-requires-send-B : goal.strict_outcome_has_no_wait-requires-send-B

@@ -1,7 +1,7 @@
 use Rattle.std.proofs.Common.{refl}
 use Rattle.tj_program.specs.declared.command.Command.TheVariants.{Judge, List as list}
 use Rattle.tj_program.proofs.Outputs.{as_command, as_run}
-use Rattle.tj_program.proofs.output.output_of.Goals as goal
+use Rattle.tj_program.proofs.mode_outputs.output_of.Goals as goal
 
 pub returns-in-List : goal.returns-in-List
 returns-in-List c = as_command c.args.command list c.args.input.now c.listing.result c.in-List.is refl c.listing.ensures

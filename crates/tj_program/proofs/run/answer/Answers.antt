@@ -15,7 +15,8 @@ output g c all read = subst (IsCommandOutput c.args.command all c.in-Ok.output.s
 own : (g : Over) (c : goal.After-drop-output g) → IsOwnAnswer (g.K.Sink.faults c.args.sink.now)
     (g.K.Sink.faults c.put_text.new.sink) c.put_text.result
 own g c = let some = some_input c.args.input.now c.requires.within in
-    own_answer c.args.command some.0 c.in-Ok.output.status c.as_slice.result.now (g.K.Sink.held c.args.sink.now)
+    own_answer (g.K.Sink.has_room c.args.sink.now) c.args.command some.0 c.in-Ok.output.status c.as_slice.result.now
+    (g.K.Sink.held c.args.sink.now)
     (g.K.Sink.held c.put_text.new.sink) _ _ _ (output g c some.0 (λ does. some.1)) c.put_text.ensures.put
 
 pub returns-in-Ok-clause-output : goal.returns-in-Ok-clause-output

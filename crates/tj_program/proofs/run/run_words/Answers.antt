@@ -3,8 +3,9 @@ use Rattle.tj_program.specs.CommandLine.{HasNoForm, IsCommand}
 use Rattle.tj_program.specs.Inputs.{HasRead}
 use Rattle.tj_program.specs.Output.{ReadInput, reads, usage}
 use Rattle.tj_program.proofs.CommandLines.{one_command, within_limits}
-use Rattle.tj_program.proofs.Deliveries.{IsAnswered-put, put_whole, IsOutputPart-put}
+use Rattle.tj_program.proofs.Deliveries.{IsAnswered-put, put_whole, IsOutputPart-put, no_write_fault}
 use Rattle.tj_program.proofs.Deliveries.{IsAnswered-command, put_whole-command, IsOutputPart-command}
+use Rattle.tj_program.proofs.Deliveries.{no_write_fault-command}
 use Rattle.tj_program.proofs.Deliveries.{exact}
 use Rattle.tj_program.proofs.Inputs.{some_input}
 use Rattle.tj_program.proofs.StrictRuns.{never_waits-words}
@@ -18,23 +19,27 @@ formless g c = subst (λ found. MatchOption found (HasNoForm c.args.words.now) (
 
 pub returns-in-Ok-None-clause-output : goal.returns-in-Ok-None-clause-output
 returns-in-Ok-None-clause-output g c = λ input held told holds none_read none_put.
-    IsAnswered-put c.args.words.now input held _ _ _ _ _ _ _ (usage (formless g c)) c.put_text.ensures.put holds
+    IsAnswered-put (g.K.Sink.has_room c.args.sink.now) c.args.words.now input held _ _ _ _ _ _ _
+    (usage (formless g c)) c.put_text.ensures.put holds
     none_put
 
 pub returns-in-Ok-None-clause-whole : goal.returns-in-Ok-None-clause-whole
 returns-in-Ok-None-clause-whole g c = λ input told has.
-    put_whole c.args.words.now input _ _ _ _ _ _ _ (usage (formless g c)) c.put_text.ensures.put has
+    put_whole (g.K.Sink.has_room c.args.sink.now) c.args.words.now input _ _ _ _ _ _ _ (usage (formless g c))
+    c.put_text.ensures.put has
 
 pub returns-in-Ok-None-clause-taken : goal.returns-in-Ok-None-clause-taken
 returns-in-Ok-None-clause-taken g c = λ input told read has. absurd (formless g c read.0 read.1)
 
 pub returns-in-Ok-None-clause-cause : goal.returns-in-Ok-None-clause-cause
 returns-in-Ok-None-clause-cause g c = λ has.
-    let put = put_whole c.args.words.now [] _ _ _ _ _ _ _ (usage (formless g c)) c.put_text.ensures.put has in
+    let put = put_whole (g.K.Sink.has_room c.args.sink.now) c.args.words.now [] _ _ _ _ _ _ _ (usage (formless g c))
+    c.put_text.ensures.put has in
     ([], put.0, put.1, put.2)
 
 pub returns-in-Ok-None-clause-part : goal.returns-in-Ok-None-clause-part
-returns-in-Ok-None-clause-part g c = λ is input told. IsOutputPart-put c.args.words.now input _ _ _ _ _ _ _
+returns-in-Ok-None-clause-part g c = λ is input told. IsOutputPart-put (g.K.Sink.has_room c.args.sink.now)
+    c.args.words.now input _ _ _ _ _ _ _
     (usage (formless g c)) (λ e. cc) c.put_text.ensures.put is
 
 pub answer-requires-clause-limits : goal.answer-requires-clause-limits
@@ -57,12 +62,14 @@ has_read g c input told = λ does.
 pub returns-in-Ok-clause-output : goal.returns-in-Ok-clause-output
 returns-in-Ok-clause-output g c = λ input held told holds none_read none_put.
     IsAnswered-command c.args.words.now c.in-Ok-Some.command (is_command g c) input _ _ _ _ _
+    (g.K.Sink.has_room c.args.sink.now)
     (λ other. c.answer.ensures.output other input (has_read g c input told)) held
     (λ is. ap g.K.Sink.held (c.answer.ensures.memory is)) holds none_put
 
 pub returns-in-Ok-clause-whole : goal.returns-in-Ok-clause-whole
 returns-in-Ok-clause-whole g c = λ input told has.
     put_whole-command c.args.words.now c.in-Ok-Some.command (is_command g c) input _ _ _ _ _
+    (g.K.Sink.has_room c.args.sink.now)
     (λ other. c.answer.ensures.output other input (has_read g c input told)) has
 
 pub returns-in-Ok-clause-taken : goal.returns-in-Ok-clause-taken
@@ -75,12 +82,14 @@ pub returns-in-Ok-clause-cause : goal.returns-in-Ok-clause-cause
 returns-in-Ok-clause-cause g c = λ has.
     let some = some_input c.in-Ok.input c.in-Ok.ensures.within in
     let put = put_whole-command c.args.words.now c.in-Ok-Some.command (is_command g c) some.0 _ _ _ _ _
+    (g.K.Sink.has_room c.args.sink.now)
     (λ other. c.answer.ensures.output other some.0 (λ does. some.1)) has in
     (some.0, put.0, put.1, put.2)
 
 pub returns-in-Ok-clause-part : goal.returns-in-Ok-clause-part
 returns-in-Ok-clause-part g c = λ is input told.
     IsOutputPart-command c.args.words.now c.in-Ok-Some.command (is_command g c) input _ _ _ _ _
+    (g.K.Sink.has_room c.args.sink.now)
     (λ other. c.answer.ensures.output other input (has_read g c input told)) is
 
 pub returns-in-Ok-None-clause-never_waits : goal.returns-in-Ok-None-clause-never_waits
@@ -112,3 +121,31 @@ pub returns-in-Ok-clause-exact : goal.returns-in-Ok-clause-exact
 returns-in-Ok-clause-exact g c = λ input text status told out has.
     exact c.one_output.ensures c.args.words.now input text status _ _ _ out
     (returns-in-Ok-clause-whole g c input told has)
+
+pub returns-in-Ok-None-clause-part_cause : goal.returns-in-Ok-None-clause-part_cause
+returns-in-Ok-None-clause-part_cause g c = λ is. (
+  [],
+  IsOutputPart-put (g.K.Sink.has_room c.args.sink.now) c.args.words.now [] _ _ _ _ _ _ _
+      (usage (formless g c)) (λ e. cc) c.put_text.ensures.put is,
+)
+
+pub returns-in-Ok-clause-part_cause : goal.returns-in-Ok-clause-part_cause
+returns-in-Ok-clause-part_cause g c = λ is.
+    let some = some_input c.in-Ok.input c.in-Ok.ensures.within in (
+      some.0,
+      IsOutputPart-command c.args.words.now c.in-Ok-Some.command (is_command g c) some.0 _ _ _ _ _
+          (g.K.Sink.has_room c.args.sink.now) (λ other. c.answer.ensures.output other some.0 (λ does. some.1)) is,
+    )
+
+pub returns-in-Ok-None-clause-fits : goal.returns-in-Ok-None-clause-fits
+returns-in-Ok-None-clause-fits g c = λ room input text status has told out fits.
+    no_write_fault c.one_output.ensures (g.K.Sink.has_room c.args.sink.now) c.args.words.now input text _ status _ _ _
+    _ _ _
+    (usage (formless g c)) (λ e. cc) c.put_text.ensures.put out room has fits
+
+pub returns-in-Ok-clause-fits : goal.returns-in-Ok-clause-fits
+returns-in-Ok-clause-fits g c = λ room input text status has told out fits.
+    no_write_fault-command c.args.words.now c.in-Ok-Some.command (is_command g c) input _ _ _ _ _
+    (g.K.Sink.has_room c.args.sink.now)
+    (λ other. c.answer.ensures.output other input (has_read g c input told)) c.one_output.ensures text status out room
+    has fits
