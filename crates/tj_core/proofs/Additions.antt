@@ -6,13 +6,15 @@ use mathlib.Core.Logic.{dite}
 use Rattle.tj_base.specs.ForkOrder.{Name, child}
 use Rattle.tj_core.specs.declared.births.Birth.{Birth}
 use Rattle.tj_core.specs.declared.slot.Slot.{Slot}
-use Rattle.tj_core.specs.CoreState.{CellStage, promise, running, CellState, CoreState, put}
+use Rattle.tj_base.specs.Puts.{put}
+use Rattle.tj_core.specs.CoreState.{CellStage, promise, running, CellState, CoreState}
 use Rattle.tj_core.specs.Events.{one_made, new_cell, with_new}
 use Rattle.tj_core.specs.Names.{names_of, name_of, maker_of}
 use Rattle.tj_core.specs.Slots.{stage_of}
 use Rattle.tj_core.specs.Columns.{stage_in, loads_in, room_in, HaveRoom, cell_in, state_in}
 use Rattle.tj_core.proofs.NameLists.{names_after-snoc, length-names_after}
-use Rattle.tj_core.proofs.ColumnLists.{put_here, put_else, put_same, at_set, at_snoc, column_set, column_beyond, length-map_at}
+use Rattle.tj_base.proofs.Puts.{put_here, put_else, put_same}
+use Rattle.tj_core.proofs.ColumnLists.{at_set, at_snoc, column_set, column_beyond, length-map_at}
 
 map-snoc : {A B : Type 0} (f : A → B) (l : List A) (a : A) → map f (l ++ a ∷ []) ≡ map f l ++ f a ∷ []
 map-snoc f [] a = refl

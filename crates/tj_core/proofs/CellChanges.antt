@@ -3,12 +3,13 @@ use Rattle.std.proofs.Common.{◌≡◌, ◌≢◌, ◌⊎◌, ℕ, ◌+◌, ◌
 use Rattle.std.proofs.Common.{arith, le_refl}
 use mathlib.Core.Logic.{dite}
 use native.Mathlib.Decide.{ℕ_discrete}
-use Rattle.tj_core.specs.CoreState.{promise, CellState, CoreState, put, owner, name, maker, stage}
+use Rattle.tj_base.specs.Puts.{put}
+use Rattle.tj_core.specs.CoreState.{promise, CellState, CoreState, owner, name, maker, stage}
 use Rattle.tj_core.specs.CoreState.{wait, wait_of, is_task, Lives, HasBegun, IsClosed}
 use Rattle.tj_core.specs.WaitGraph.{Leads, IsOnCycleOf}
 use Rattle.tj_core.specs.Facts.{Watches, raised_by_all, OwnersFact, LastCloserFact}
 use Rattle.tj_core.specs.CoreFacts.{CoreFacts}
-use Rattle.tj_core.proofs.Puts.{at_put, put_here, put_else}
+use Rattle.tj_base.proofs.Puts.{at_put, put_here, put_else}
 use Rattle.tj_core.proofs.Frames.{Frame, some_none}
 use Rattle.tj_core.proofs.Rounds.{cycle_leads}
 use Rattle.tj_core.proofs.Watches.{watch_keeps, closer_keeps, GoesOn, same_goes_on, IsKept}

@@ -1,5 +1,5 @@
 -- The core state after one slot changes.
-use Rattle.std.proofs.Common.{◌≡◌, ◌≢◌, ℕ, zero, suc, ◌<◌, ◌≤◌, List, [], ◌∷◌, ◌++◌, length, set, map, get_or, Option, None, refl, sym, ap, ◌∙◌, subst, arith, eq-eqb, ne_eqb, vec_capacity, length-set}
+use Rattle.std.proofs.Common.{◌≡◌, ℕ, zero, suc, ◌<◌, ◌≤◌, List, [], ◌∷◌, ◌++◌, length, set, map, get_or, Option, None, refl, sym, ap, ◌∙◌, subst, arith, vec_capacity, length-set}
 use Rattle.std.proofs.lemmas.List.{get_or-set_same, get_or-set_other, set-get_or}
 use native.Mathlib.Decide.{ℕ_discrete}
 use mathlib.Core.Logic.{dite}
@@ -7,17 +7,13 @@ use Rattle.tj_core.specs.declared.births.Birth.{Birth}
 use Rattle.tj_core.specs.declared.slot.Slot.{Slot}
 use Rattle.tj_core.specs.declared.walk.Way.{Way}
 use Rattle.tj_core.specs.declared.walk.Walker.{Walker}
-use Rattle.tj_core.specs.CoreState.{CellStage, promise, walks, waits, CoreState, put}
+use Rattle.tj_base.specs.Puts.{put}
+use Rattle.tj_base.proofs.Puts.{put_here, put_else, put_same}
+use Rattle.tj_core.specs.CoreState.{CellStage, promise, walks, waits, CoreState}
 use Rattle.tj_core.specs.Events.{WalksAt, restage, staged, walked, alter, owned_by}
 use Rattle.tj_core.specs.Loads.{one_load}
 use Rattle.tj_core.specs.Slots.{stage_of}
 use Rattle.tj_core.specs.Columns.{stage_in, loads_in, room_in, HaveRoom, cell_in, state_in}
-
-pub put_here : {A : Type 0} (f : ℕ → A) (i : ℕ) (a : A) → put f i a i ≡ a
-put_here f i a = rw (eq-eqb i i refl) refl
-
-pub put_else : {A : Type 0} (f : ℕ → A) (i : ℕ) (a : A) (j : ℕ) → j ≢ i → put f i a j ≡ f j
-put_else f i a j n = rw (ne_eqb j i n) refl
 
 -- a list with one element changed, read at any place
 pub at_set : {A : Type 0} (l : List A) (i : ℕ) (a d : A) → i < length l → (j : ℕ) → get_or (set l i a) j d ≡ put (λ k. get_or l k d) i a j
@@ -47,10 +43,6 @@ pub column_beyond : {A B : Type 0} (f : A → B) (l : List A) (i : ℕ) (d : B) 
 column_beyond f [] i d h = refl
 column_beyond f (y ∷ l) zero d h = absurd (omega arith)
 column_beyond f (y ∷ l) (suc i) d h = column_beyond f l i d (omega arith)
-
--- the same value at one place changes nothing
-pub put_same : {A : Type 0} (f : ℕ → A) (i : ℕ) (a : A) → f i ≡ a → (j : ℕ) → put f i a j ≡ f j
-put_same f i a e j = dite (ℕ_discrete j i) (λ q. subst (λ k. put f i a k ≡ f k) (sym q) (put_here f i a ∙ sym e)) (λ n. put_else f i a j n)
 
 -- no task walks past the end
 pub none_walks : (slots : List Slot) (t : ℕ) (F : ℕ → Way → Walker → Type 0) → length slots ≤ t → ¬ WalksAt (stage_in slots t) F

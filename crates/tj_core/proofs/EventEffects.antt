@@ -7,13 +7,13 @@ use Rattle.tj_core.specs.declared.event.Event.TheVariants.{Settle, Unwait, Lower
 use Rattle.tj_core.specs.declared.walk.Way.{Way}
 use Rattle.tj_core.specs.declared.walk.Way.TheVariants.{Along, Other}
 use Rattle.tj_core.specs.declared.walk.Walker.{Walker}
-use Rattle.tj_core.specs.CoreState.{walks, parked, alarmed, CellStage, promise, fresh, running, raised, waits, Cells, CoreState, CellState, put, stage, wait_of, Runs}
+use Rattle.tj_base.specs.Puts.{put}
+use Rattle.tj_core.specs.CoreState.{walks, parked, alarmed, CellStage, promise, fresh, running, raised, waits, Cells, CoreState, CellState, stage, wait_of, Runs}
 use Rattle.tj_core.specs.Events.{Allowed, after, Walks, MayPublish, one_made, new_cell, with_new, restage, alter, owned_by, way_of_wait, stage_after_close}
 use Rattle.tj_core.specs.Laws.{actor}
 use Rattle.tj_core.specs.EventLaws.{EventKeepsCycles, EventLeavesOthers, EventKeepsAlarms, WatchesItsCycle, EventKeepsWatches}
-use Rattle.tj_core.proofs.Puts.{at_put, put_else}
-use Rattle.tj_core.proofs.Frames.{leads_stays}
-use Rattle.tj_core.proofs.Chains.{cycle_on, cycle_list_moves}
+use Rattle.tj_base.proofs.Puts.{at_put, put_else}
+use Rattle.tj_core.proofs.Chains.{cycle_on, cycle_list_on}
 use Rattle.tj_core.proofs.Watches.{GoesOn}
 use Rattle.tj_core.proofs.NameOrders.{waiter_there}
 use Rattle.tj_core.proofs.EachEvent.{kept_by_event}
@@ -24,8 +24,7 @@ event_keeps_cycles N s e tasks x a c =
     let k = kept_by_event N s e x a in
     let m = k.1.0 in
     let z = after s e in
-    cycle_list_moves m.cells z.cells (leads_stays m z k.1.2.frame) tasks
-    (cycle_list_moves s.cells m.cells (leads_stays s m k.1.1.frame) tasks c)
+    cycle_list_on m z k.1.2.frame tasks (cycle_list_on s m k.1.1.frame tasks c)
 
 watches_on : (s s' : CoreState) → GoesOn s s' → (t n : ℕ) → WatchesItsCycle s t n → WatchesItsCycle s' t n
 watches_on s s' g t n h = record {

@@ -13,8 +13,6 @@ pub mod Frames
 pub mod Chains
 pub mod Watches
 pub mod NameOrders
-pub mod CycleSizes
-pub mod CycleWays
 pub mod JournalLines
 pub mod JudgedRuns
 pub mod AlarmLines
@@ -38,6 +36,5 @@ pub mod LegalRuns
 pub mod WatchedCycles
 pub mod LegalCycles
 pub mod Examples
-pub mod OneCycle
 pub mod OneJudging
 pub mod OneReading

@@ -1,8 +1,9 @@
--- The fork order on names, and why no cycle stands where OTHERS is 0.
-use Rattle.std.proofs.Common.{◌≡◌, ℕ, zero, suc, ◌<◌, true, false, [], ◌∷◌, Some, sym, ap, ◌∙◌, subst, refl, arith}
+-- Which cells are there, and why no cycle stands where OTHERS is 0.
+use Rattle.std.proofs.Common.{◌≡◌, ℕ, zero, suc, ◌<◌, true, false, Some, sym, ap, ◌∙◌, subst, arith}
 use native.Mathlib.Decide.{dec_le}
 use mathlib.Core.Logic.{dite}
-use Rattle.tj_base.specs.ForkOrder.{Name, before}
+use Rattle.tj_base.specs.ForkOrder.{before}
+use Rattle.tj_base.proofs.Orders.{before-self, before-trans}
 use Rattle.tj_core.specs.declared.walk.Way.TheVariants.{Along, Other}
 use Rattle.tj_core.specs.CoreState.{WaitStage, CellStage, promise, fresh, running, raised, waits, ended, CellState}
 use Rattle.tj_core.specs.CoreState.{Cells, CoreState, name, owner, stage, wait, wait_of, is_task, IsTask}
@@ -11,20 +12,6 @@ use Rattle.tj_core.specs.WaitGraph.{Leads, Reaches}
 use Rattle.tj_core.specs.Facts.{raised_by_all}
 use Rattle.tj_core.specs.CoreFacts.{CoreFacts}
 use Rattle.tj_core.proofs.Frames.{some_none}
-
--- no name is before itself
-pub before_self : (a : Name) → before a a ≡ false
-before_self [] = refl
-before_self (x ∷ xs) = let h = before_self xs in grind (arith, h)
-
--- the order goes on
-pub before_trans : (a b c : Name) → before a b ≡ true → before b c ≡ true → before a c ≡ true
-before_trans [] [] c p q = cc
-before_trans [] (y ∷ ys) [] p q = cc
-before_trans [] (y ∷ ys) (z ∷ zs) p q = refl
-before_trans (x ∷ xs) [] c p q = cc
-before_trans (x ∷ xs) (y ∷ ys) [] p q = cc
-before_trans (x ∷ xs) (y ∷ ys) (z ∷ zs) p q = let h = before_trans xs ys zs in grind (arith, h)
 
 none_raised : (n : ℕ) (f : Cells) (i : ℕ) → i < n → raised_by_all n f ≡ 0 → raised_by (stage f i) ≡ 0
 none_raised zero f i h e = absurd (omega arith)
@@ -76,7 +63,7 @@ module _ (s : CoreState) (x : CoreFacts s) where
     reach_before : (t k u : ℕ) → Reaches s.cells t (suc k) u → before (name s.cells t) (name s.cells u) ≡ true
     reach_before t zero u r =
         subst (λ k. before (name s.cells k) (name s.cells u) ≡ true) (sym r.1) (leads_before r.0 u r.2)
-    reach_before t (suc k) u r = before_trans (name s.cells t) (name s.cells r.0) (name s.cells u)
+    reach_before t (suc k) u r = before-trans (name s.cells t) (name s.cells r.0) (name s.cells u)
         (reach_before t k r.0 r.1) (leads_before r.0 u r.2)
 
     -- where OTHERS is 0 no task is reached from itself
@@ -84,5 +71,5 @@ module _ (s : CoreState) (x : CoreFacts s) where
     no_return t zero h r = absurd (omega arith)
     no_return t (suc k) h r =
         let a = reach_before t k t r in
-        let b = before_self (name s.cells t) in
+        let b = before-self (name s.cells t) in
         let c : true ≡ false = sym a ∙ b in absurd (cc)

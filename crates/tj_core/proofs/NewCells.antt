@@ -3,12 +3,14 @@ use Rattle.std.proofs.Common.{◌≡◌, ◌≢◌, ℕ, suc, ◌<◌, true, fal
 use Rattle.std.proofs.Common.{subst}
 use Rattle.std.proofs.Common.{inl, le_refl, arith, ◌≤◌}
 use Rattle.tj_base.specs.ForkOrder.{Name, child}
-use Rattle.tj_core.specs.CoreState.{CellStage, promise, running, CellState, CoreState, put}
+use Rattle.tj_base.specs.Puts.{put}
+use Rattle.tj_core.specs.CoreState.{CellStage, promise, running, CellState, CoreState}
 use Rattle.tj_core.specs.CoreState.{owner, name, maker, stage, wait, wait_of, is_task, IsTask, Lives, HasBegun}
 use Rattle.tj_core.specs.Events.{raised_by}
 use Rattle.tj_core.specs.Facts.{IsThing}
 use Rattle.tj_core.specs.CoreFacts.{CoreFacts}
-use Rattle.tj_core.proofs.Puts.{at_put, put_here, put_else, raised-put_from}
+use Rattle.tj_base.proofs.Puts.{at_put, put_here, put_else}
+use Rattle.tj_core.proofs.Puts.{raised-put_from}
 use Rattle.tj_core.proofs.Frames.{some_none}
 use Rattle.tj_core.proofs.NameOrders.{task_there}
 use Rattle.tj_core.proofs.Makers.{child_same}

@@ -7,7 +7,7 @@ use Rattle.tj_core.specs.CoreState.{CoreState, root_alone}
 use Rattle.tj_core.specs.Events.{after}
 use Rattle.tj_core.specs.Judging.{IsSaid, is_alarm, IsJudgedFrom, settled_line, alarm_line}
 use Rattle.tj_core.specs.JournalLaws.{JudgingIsOne}
-use Rattle.tj_core.proofs.OneCycle.{cycle_one}
+use Rattle.tj_core.proofs.CycleLists.{cycle_one}
 
 -- what is said of an event is one text
 said_one : (s : CoreState) (e : Event) (x y : List ℕ) → IsSaid s e x → IsSaid s e y → x ≡ y

@@ -9,16 +9,16 @@ use Rattle.tj_base.specs.declared.cell.CellId.{CellId}
 use Rattle.tj_core.specs.declared.event.Event.TheVariants.{Publish}
 use Rattle.tj_core.specs.declared.walk.Way.{Way}
 use Rattle.tj_core.specs.declared.walk.Way.TheVariants.{Along, Other}
+use Rattle.tj_base.proofs.CyclesOn.{reach_moves, return_moves}
 use Rattle.tj_core.specs.CoreState.{walks, CellStage, promise, fresh, running, raised, waits, ended}
 use Rattle.tj_core.specs.CoreState.{CoreState, name, stage, wait, wait_of, is_task, IsTask, Lives}
 use Rattle.tj_core.specs.Events.{Allowed, after, MayPublish, way_if, way_of_wait, start_walk, raised_by, raised_by_way}
-use Rattle.tj_core.specs.WaitGraph.{Reaches, IsOnCycleOf}
+use Rattle.tj_core.specs.WaitGraph.{Leads, Reaches, IsOnCycleOf}
 use Rattle.tj_core.specs.Facts.{Watches, LastCloserFact}
 use Rattle.tj_core.specs.CoreFacts.{CoreFacts}
 use Rattle.tj_core.proofs.Puts.{re_owner, re_here, re_else}
 use Rattle.tj_core.proofs.Frames.{Frame, some_none, leads_stays}
 use Rattle.tj_core.proofs.Rounds.{cycle_at, cycle_leads}
-use Rattle.tj_core.proofs.Chains.{reach_moves, return_moves}
 use Rattle.tj_core.proofs.Watches.{watch_keeps, IsKept}
 use Rattle.tj_core.proofs.SoundTasks.{IsSoundWait}
 use Rattle.tj_core.proofs.CellChanges.{Fits, cell_frame, facts_by, sound_by, goes_by, kept_once}
@@ -103,14 +103,14 @@ module _ (s : CoreState) (x : CoreFacts s) (task cell : CellId) (N : ℕ) (may :
       let before_too : IsOnCycleOf s.cells u n = record {
         some = c.some;
         round = m;
-        least = λ k a b r. c.least k a b (return_moves s.cells z.cells two u k a r);
+        least = λ k a b r. c.least k a b (return_moves (Leads s.cells) (Leads z.cells) two u k a r);
       } in
       let w = x.last_closer u n before_too in
       let on_cycle = cycle_at s.cells u n w.0 w.1 before_too w.2 in
       let l = cycle_leads s.cells w.1 n on_cycle in (
         w.0,
         w.1,
-        reach_moves s.cells z.cells two u w.0 w.1 l.0 w.2 l.1,
+        reach_moves (Leads s.cells) (Leads z.cells) two u w.0 w.1 l.0 w.2 l.1,
         subst (Watches z.cells n) (sym (stage_else w.1 (waited_else w.1 l.1.0 l.1.1)))
             (watch_keeps s z frame n w.1 (stage s.cells w.1) refl on_cycle w.3),
       )

@@ -1,25 +1,12 @@
--- A function changed at one place, and a state changed in one stage.
-use Rattle.std.proofs.Common.{◌≡◌, ◌≢◌, ℕ, zero, suc, ◌+◌, ◌<◌, ◌≤◌, refl, sym, ap, subst, eq-eqb, ne_eqb, arith}
+-- A state changed in one cell.
+use Rattle.std.proofs.Common.{◌≡◌, ◌≢◌, ℕ, zero, suc, ◌+◌, ◌<◌, ◌≤◌, refl, sym, ap, subst, arith}
 use mathlib.Core.Logic.{dite}
 use native.Mathlib.Decide.{ℕ_discrete}
-use Rattle.tj_core.specs.CoreState.{CellStage, CellState, Cells, CoreState, put, owner, name, maker, stage}
+use Rattle.tj_base.specs.Puts.{put}
+use Rattle.tj_base.proofs.Puts.{put_here, put_else, at_put}
+use Rattle.tj_core.specs.CoreState.{CellStage, CellState, Cells, CoreState, owner, name, maker, stage}
 use Rattle.tj_core.specs.Events.{staged, restage, raised_by}
 use Rattle.tj_core.specs.Facts.{raised_by_all}
-
--- the new value at its place
-pub put_here : {A : Type 0} (f : ℕ → A) (i : ℕ) (a : A) → put f i a i ≡ a
-put_here f i a = rw (eq-eqb i i refl) refl
-
--- the old value at every other place
-pub put_else : {A : Type 0} (f : ℕ → A) (i : ℕ) (a : A) (j : ℕ) → j ≢ i → put f i a j ≡ f j
-put_else f i a j n = rw (ne_eqb j i n) refl
-
--- what holds of the new value at i, and of each other value, holds after
-pub at_put : {A : Type 0} (f : ℕ → A) (i : ℕ) (a : A) (F : ℕ → A → Type 0) (j : ℕ)
-    → F i a → (j ≢ i → F j (f j)) → F j (put f i a j)
-at_put f i a F j here else = dite (ℕ_discrete j i)
-    (λ e. subst (λ k. F k (put f i a k)) (sym e) (subst (F i) (sym (put_here f i a)) here))
-    (λ n. subst (F j) (sym (put_else f i a j n)) (else n))
 
 module _ (s : CoreState) (t : ℕ) (f : CellStage → CellStage) where
   -- the cell of t with its new stage

@@ -8,10 +8,11 @@ use Rattle.tj_base.specs.ForkOrder.{child}
 use Rattle.tj_base.specs.declared.cell.CellId.{CellId}
 use Rattle.tj_core.specs.declared.event.Event.TheVariants.{Make, Fork, Hand, Close, Raise}
 use Rattle.tj_core.specs.CoreState.{CellStage, promise, fresh, running, raised, waits, ended, CellState, Cells}
-use Rattle.tj_core.specs.CoreState.{CoreState, put, owner, name, maker, stage, wait_of, is_task, Runs, Lives}
+use Rattle.tj_base.specs.Puts.{put}
+use Rattle.tj_core.specs.CoreState.{CoreState, owner, name, maker, stage, wait_of, is_task, Runs, Lives}
 use Rattle.tj_core.specs.Events.{Allowed, after, new_cell, staged, owned_by, stage_after_close, raised_by}
 use Rattle.tj_core.specs.CoreFacts.{CoreFacts}
-use Rattle.tj_core.proofs.Puts.{put_here, put_else}
+use Rattle.tj_base.proofs.Puts.{put_here, put_else}
 use Rattle.tj_core.proofs.Frames.{some_none}
 use Rattle.tj_core.proofs.Watches.{GoesOn, IsKept}
 use Rattle.tj_core.proofs.NameOrders.{task_there}

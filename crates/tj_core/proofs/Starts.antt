@@ -8,7 +8,8 @@ use Rattle.tj_core.specs.declared.slot.Slot.{Slot}
 use Rattle.tj_core.specs.CoreState.{running, root, blank, root_alone}
 use Rattle.tj_core.specs.Slots.{stage_of}
 use Rattle.tj_core.specs.Columns.{cell_in, state_in}
-use Rattle.tj_core.proofs.ColumnLists.{put_here, put_else, at_set}
+use Rattle.tj_base.proofs.Puts.{put_here, put_else}
+use Rattle.tj_core.proofs.ColumnLists.{at_set}
 
 -- nobody owns anything
 none_owned : (n c : ℕ) → get_or (replicate n None) c None ≡ (let o : Option ℕ = None in o)

@@ -23,7 +23,7 @@ use Rattle.tj_core.proofs.Rounds.{some_same, cycle_at, cycle_leads, reach_one}
 use Rattle.tj_core.proofs.Chains.{chain_owner}
 use Rattle.tj_core.proofs.Watches.{IsKept}
 use Rattle.tj_core.proofs.NameOrders.{waiter_there, no_return}
-use Rattle.tj_core.proofs.CycleSizes.{cycle_fits}
+use Rattle.tj_core.proofs.CycleLists.{cycle_fits}
 use Rattle.tj_core.proofs.SoundTasks.{IsSoundWalker}
 use Rattle.tj_core.proofs.WaitChanges.{walker_of, last_read_is, loads_are, restaged}
 

@@ -4,7 +4,8 @@ use Rattle.tj_base.specs.declared.cell.CellId.{CellId}
 use Rattle.tj_core.specs.declared.slot.Slot.{Slot}
 use Rattle.tj_core.specs.declared.walk_step.WalkStep.{WalkStep}
 use Rattle.tj_core.specs.declared.walk_step.WalkStep.TheVariants.{Others, Count, Owner, Wait, Again, Alarm, Settle}
-use Rattle.tj_core.specs.CoreState.{CellStage, CoreState, owner, stage, put, present}
+use Rattle.tj_base.specs.Puts.{put}
+use Rattle.tj_core.specs.CoreState.{CellStage, CoreState, owner, stage, present}
 use Rattle.tj_core.specs.Events.{Allowed, after, Walks, staged, restage, walked, MayReadOwner, MayReadWait, MayReadAgain}
 use Rattle.tj_core.specs.Events.{others_read, count_read, owner_read, wait_read, wait_found, owner_again}
 use Rattle.tj_core.specs.Loads.{loads_after}

@@ -1,40 +1,18 @@
 -- The laws of the detector in each state that meets the facts.
-use Rattle.std.proofs.Common.{◌≡◌, ◌⊎◌, ℕ, zero, suc, ◌*◌, ◌≤◌, List, [], ◌∷◌, length, Contains, refl, sym}
-use Rattle.std.proofs.Common.{subst, inl, inr, ⊎_elim, arith}
+use Rattle.std.proofs.Common.{◌≡◌, ◌⊎◌, ℕ, zero, nat_eq, ◌*◌, ◌≤◌, [], ◌∷◌, length, refl}
+use Rattle.std.proofs.Common.{inl, inr, arith}
 use Rattle.tj_core.specs.declared.walk.LastRead.{LastRead}
 use Rattle.tj_core.specs.declared.walk.LastRead.TheVariants.{Published, SawOthers, Counted, SawOwner, SawWait, Passed}
 use Rattle.tj_core.specs.declared.walk.LastRead.TheVariants.{Changed}
 use Rattle.tj_core.specs.CoreState.{walks, parked, alarmed, CellStage, promise, fresh, running, raised, waits, ended}
-use Rattle.tj_core.specs.CoreState.{Cells, CoreState, stage}
-use Rattle.tj_core.specs.WaitGraph.{Leads, LeadsAlong, Reaches}
+use Rattle.tj_core.specs.CoreState.{CoreState, stage}
+use Rattle.tj_core.specs.WaitGraph.{Leads}
 use Rattle.tj_core.specs.Facts.{Watches, AreLoads}
 use Rattle.tj_core.specs.StateLaws.{HasAlarmed, HasOpenWalk, AlarmsAreOnCycles, CyclesAreWatched, LoadsAreBounded}
-use Rattle.tj_core.proofs.Rounds.{leads_one}
+use Rattle.tj_base.proofs.CycleLists.{reached_contained}
+use Rattle.tj_core.proofs.Rounds.{leads_one, same_numbers}
 use Rattle.tj_core.proofs.CycleLists.{cycles_return, returns_are_cycles}
 use Rattle.tj_core.proofs.LegalRuns.{on_course_open}
-
-module _ (s : Cells) where
-  -- a task in such a list leads to the end of it or to another in it
-  next_in : (t back : ℕ) (us : List ℕ) (x y : ℕ)
-      → LeadsAlong s t us back → Contains (t ∷ us) x → Leads s x y → (y ≡ back) ⊎ Contains (t ∷ us) y
-  next_in t back [] x y l (zero, below, is) m =
-      inl (leads_one s t y back (subst (λ z. Leads s z y) (sym is) m) l)
-  next_in t back (u ∷ us) x y l (zero, below, is) m =
-      inr (suc zero, omega arith, leads_one s t u y l.0 (subst (λ z. Leads s z y) (sym is) m))
-  next_in t back [] x y l (suc k, below, is) m = absurd (omega arith)
-  next_in t back (u ∷ us) x y l (suc k, below, is) m = ⊎_elim
-      (λ (e : y ≡ back). inl e)
-      (λ (h : Contains (u ∷ us) y). inr (suc h.0, (let b = h.1 in omega arith), h.2))
-      (next_in u back us x y l.1 (k, omega arith, is) m)
-
-  -- who is reached from a task of a cycle is a task of it
-  pub reached_in : (t : ℕ) (ts : List ℕ)
-      → LeadsAlong s t ts t → (k u : ℕ) → Reaches s t k u → Contains (t ∷ ts) u
-  reached_in t ts l zero u r = (zero, omega arith, r)
-  reached_in t ts l (suc k) u r = ⊎_elim
-      (λ (e : u ≡ t). (zero, omega arith, sym e))
-      (λ (h : Contains (t ∷ ts) u). h)
-      (next_in t t ts r.0 u l (reached_in t ts l k r.0 r.1) r.2)
 
 -- who watches a cycle has alarmed or has an open walk
 watcher : (s : CoreState) (n u : ℕ) (st : CellStage)
@@ -61,7 +39,7 @@ cycles_watched s (t ∷ ts) x c =
     let on_cycle = cycles_return s.cells (t ∷ ts) t c (zero, omega arith, refl) in
     let w = x.last_closer t (length (t ∷ ts)) on_cycle in (
       w.1,
-      reached_in s.cells t ts c.1 w.0 w.1 w.2,
+      reached_contained (Leads s.cells) (leads_one s.cells) nat_eq same_numbers t ts c w.0 w.1 w.2,
       watcher s (length (t ∷ ts)) w.1 (stage s.cells w.1) refl w.3,
     )
 

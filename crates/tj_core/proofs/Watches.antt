@@ -1,5 +1,6 @@
 -- Who watches a cycle goes on to watch it.
 use Rattle.std.proofs.Common.{◌≡◌, ℕ, length, Some, refl, subst, le_refl, inl}
+use Rattle.tj_base.proofs.CyclesOn.{reach_moves, cycle_moves}
 use Rattle.tj_core.specs.CoreState.{walks, parked, alarmed, CellStage, promise, fresh, running, raised, waits, ended}
 use Rattle.tj_core.specs.CoreState.{CoreState, owner, stage, wait, wait_of, present}
 use Rattle.tj_core.specs.declared.walk.LastRead.{LastRead}
@@ -9,9 +10,9 @@ use Rattle.tj_core.specs.declared.walk.Walker.{Walker}
 use Rattle.tj_core.specs.WaitGraph.{Leads, IsOnCycleOf}
 use Rattle.tj_core.specs.Facts.{IsPresentChain, IsOnCourse, Watches, LastCloserFact}
 use Rattle.tj_core.specs.CoreFacts.{CoreFacts}
-use Rattle.tj_core.proofs.Rounds.{some_same, cycle_at, cycle_next, cycle_leads}
+use Rattle.tj_core.proofs.Rounds.{some_same, leads_one, cycle_at, cycle_next, cycle_leads}
 use Rattle.tj_core.proofs.Frames.{Frame, leads_stays, course_stays}
-use Rattle.tj_core.proofs.Chains.{chain_end, reach_moves, cycle_moves}
+use Rattle.tj_core.proofs.Chains.{chain_end}
 
 module _ (s s' : CoreState) (f : Frame s s') where
   course_by : (n p u : ℕ) (w : Walker) (a : LastRead)
@@ -66,11 +67,11 @@ module _ (s s' : CoreState) (f : Frame s s') where
       → LastCloserFact s'.cells
   closer_keeps from own h t n c =
       let two = leads_stays s s' f in
-      let c' = cycle_moves s'.cells s.cells from t n c in
+      let c' = cycle_moves (Leads s'.cells) (Leads s.cells) from (leads_one s'.cells) (leads_one s.cells) t n c in
       let r = h t n c' in
       let cu = cycle_at s.cells t n r.0 r.1 c' r.2 in
       let l = cycle_leads s.cells r.1 n cu in
-      (r.0, r.1, reach_moves s.cells s'.cells two t r.0 r.1 l.0 r.2 l.1, own r.1 n cu r.3)
+      (r.0, r.1, reach_moves (Leads s.cells) (Leads s'.cells) two t r.0 r.1 l.0 r.2 l.1, own r.1 n cu r.3)
 
 -- what goes on over an event
 pub record GoesOn (s s' : CoreState) : Type 0 where

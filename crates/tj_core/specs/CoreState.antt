@@ -1,7 +1,8 @@
 -- The state of the core: what each cell is and who owns it, and what each task does.
 -- Cells and tasks stand by their numbers; a task and its result are one cell.
-use Rattle.std.specs.Prelude.{◌≡◌, ℕ, ◌<◌, Bool, true, false, cond, nat_eq, List, [], ◌∷◌, Option, Some, None}
+use Rattle.std.specs.Prelude.{◌≡◌, ℕ, ◌<◌, Bool, true, false, List, [], ◌∷◌, Option, Some, None}
 use Rattle.tj_base.specs.ForkOrder.{Name}
+use Rattle.tj_base.specs.Puts.{put}
 use Rattle.tj_core.specs.declared.walk.Way.{Way}
 use Rattle.tj_core.specs.declared.walk.TrailLink.{TrailLink}
 use Rattle.tj_core.specs.declared.walk.Walker.{Walker}
@@ -47,10 +48,6 @@ blank = record { maker = 0; name = []; made = 0; owner = None; stage = promise }
 -- the root task, which is its own maker and owns its result
 abbrev pub root : CellState
 root = record { maker = 0; name = []; made = 0; owner = Some 0; stage = running }
-
--- the function with the value a at i
-abbrev pub put : {A : Type 0} → (ℕ → A) → ℕ → A → ℕ → A
-put f i a j = cond (nat_eq j i) a (f j)
 
 -- the state with the root alone
 abbrev pub root_alone : CoreState

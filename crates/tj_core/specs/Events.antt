@@ -13,7 +13,8 @@ use Rattle.tj_core.specs.declared.walk.LastRead.{LastRead}
 use Rattle.tj_core.specs.declared.walk.LastRead.TheVariants.{Published, SawOthers, Counted, SawOwner, SawWait, Passed}
 use Rattle.tj_core.specs.declared.walk.LastRead.TheVariants.{Changed}
 use Rattle.tj_core.specs.CoreState.{WaitStage, walks, parked, alarmed, CellStage, promise, fresh, running, raised}
-use Rattle.tj_core.specs.CoreState.{waits, ended, CellState, Cells, CoreState, put, owner, name, maker, stage, wait}
+use Rattle.tj_base.specs.Puts.{put}
+use Rattle.tj_core.specs.CoreState.{waits, ended, CellState, Cells, CoreState, owner, name, maker, stage, wait}
 use Rattle.tj_core.specs.CoreState.{is_task, Runs, present}
 
 -- t is fresh or running

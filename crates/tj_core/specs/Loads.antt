@@ -4,7 +4,7 @@ use Rattle.tj_core.specs.declared.event.Event.{Event}
 use Rattle.tj_core.specs.declared.event.Event.TheVariants.{Make, Fork, Hand, Close, Raise, Publish, LoadOthers}
 use Rattle.tj_core.specs.declared.event.Event.TheVariants.{LoadCount, ReadOwner, ReadWait, ReadOwnerAgain, Alarm}
 use Rattle.tj_core.specs.declared.event.Event.TheVariants.{Settle, Unwait, Lower}
-use Rattle.tj_core.specs.CoreState.{put}
+use Rattle.tj_base.specs.Puts.{put}
 
 -- the loads with one more of t
 abbrev pub one_load : (ℕ → ℕ) → ℕ → ℕ → ℕ

@@ -1,4 +1,4 @@
--- One step of a walk, with what it reads: the event that it is, where it is the next one, and what it makes of the walk.
+-- One step of a walk, with what it reads: its event, where it is the next one, and what it makes of the walk.
 use Rattle.std.specs.Prelude.{◌≡◌, ℕ, suc, ◌<◌, ◌≤◌, Option, Some, None}
 use Rattle.tj_base.specs.declared.cell.CellId.{CellId}
 use Rattle.tj_core.specs.declared.event.Event.{Event}

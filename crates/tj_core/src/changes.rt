@@ -9,7 +9,8 @@ use tj_base::CellId;
 
 impl Machine {
     ghost use Rattle.std.specs.Prelude.{◌≡◌, ℕ, ◌<◌, ◌≤◌, ◌↔◌, IsTrue, [], length, Some, IfSome, OnOk, OnErr};
-    ghost use Rattle.tj_core.specs.CoreState.{waits, walks, parked, put, stage};
+    ghost use Rattle.tj_base.specs.Puts.{put};
+    ghost use Rattle.tj_core.specs.CoreState.{waits, walks, parked, stage};
     ghost use Rattle.tj_core.specs.Events.{IsRunning, MayPublish, start_walk, restage, alter, owned_by};
     ghost use Rattle.tj_core.specs.Machine.{Accepts, Refuses, Changes, state_of, limit_of, loads_of};
     ghost use Rattle.tj_core.specs.Owners.{IsInside};

@@ -1,6 +1,6 @@
 //! Judging: the events of a run in order, with what the rules make of them. A line is said where a
 //! walk ends, and the first event that isn't allowed ends the text.
-ghost use Rattle.std.specs.Prelude.{◌≡◌, ◌≤◌, ◌<◌, ◌∷◌, ◌++◌, map, codes, decimal, IfOk, IsSome, Some};
+ghost use Rattle.std.specs.Prelude.{◌≡◌, ◌≤◌, ◌<◌, ◌∷◌, ◌++◌, drop, map, codes, decimal, IfOk, IsSome, Some};
 ghost use Rattle.std.specs.List.{flat_map};
 ghost use Rattle.tj_core.specs.CoreFacts.{CoreFacts};
 ghost use Rattle.tj_core.specs.Events.{Allowed};
@@ -114,9 +114,17 @@ fn said_of_alarm(alloc: Global, core: &Core, t: CellId) -> Result<Vec<u8>, Oom>
     let Some(tasks) = core.cycle_of(alloc, t)? else {
         return Ok(Vec::new(alloc));
     };
-    match tasks.as_slice() {
-        [first, others @ ..] => alarmed(alloc, core, *first, loads, others),
-        [] => Ok(Vec::new(alloc)),
+    let others = behind_first(tasks.as_slice());
+    alarmed(alloc, core, t, loads, others)
+}
+
+/// The tasks behind the first.
+fn behind_first(tasks: &[CellId]) -> &[CellId]
+    ensures { result.now ≡ drop 1 tasks.now }
+{
+    match tasks {
+        [_, others @ ..] => others,
+        [] => &[],
     }
 }
 

@@ -1,6 +1,5 @@
 //! The events of a task that runs, and those at the two ends of a wait.
-ghost use Rattle.std.specs.Prelude.{◌≡◌};
-ghost use Rattle.std.specs.Prelude.{[]};
+ghost use Rattle.std.specs.Prelude.{◌≡◌, []};
 ghost use Rattle.tj_core.specs.Events.{raised_by_way, stage_after_close};
 ghost use Rattle.tj_core.specs.Statuses.{IsIdle, stage_of_status};
 

@@ -2,7 +2,6 @@ use Rattle.std.proofs.Common.{rules}
 use Rattle.tj_core.specs.Events.{MayReadAgain}
 use Rattle.tj_core.proofs.Slots.{walks_at}
 use Rattle.tj_core.proofs.slot.Slot.read_again.Goals as goal
-use Rattle.tj_core.proofs.slot.Slot.read_again.Goals.{then-eq+else-prove, else-eq}
 
 pub returns-clause-allowed : goal.returns-clause-allowed
 returns-clause-allowed c =
