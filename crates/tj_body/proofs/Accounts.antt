@@ -1,23 +1,18 @@
 -- Each name that a task holds, has written or handed on is one that it was handed, its own, or one that it made,
 -- as often.
-use Rattle.std.proofs.Common.{◌≡◌, ℕ, zero, suc, ◌+◌, Bool, true, false, cond, not, ◌&&◌, List, [], ◌∷◌, map}
-use Rattle.std.proofs.Common.{Option, Some, None, Result, Ok, Err, refl, ap, subst, arith}
-use Rattle.tj_base.specs.ForkOrder.{Name, child, before}
-use Rattle.tj_base.specs.declared.cell.Sort.{Sort}
-use Rattle.tj_base.specs.declared.cell.Sort.TheVariants as sort
-use Rattle.tj_base.specs.declared.cause.Cause.{Cause}
+use Rattle.std.proofs.Common.{◌≡◌, ℕ, zero, suc, ◌+◌, Bool, true, false, List, [], ◌∷◌, map}
+use Rattle.std.proofs.Common.{Option, Some, None, refl, ap, subst, arith}
+use Rattle.tj_base.specs.ForkOrder.{Name, child}
 use Rattle.tj_base.specs.declared.cause.Cause.TheVariants as cause
-use Rattle.tj_body.specs.Names.{has, in_order}
+use Rattle.tj_body.specs.Names.{in_order}
 use Rattle.tj_body.specs.Programs.{Rules}
-use Rattle.tj_body.specs.History.{Assignment, reference, reference_at, value_at, with_entry, hand_all, owned_in}
+use Rattle.tj_body.specs.History.{Assignment, reference, reference_at, value_at, with_entry, owned_in}
 use Rattle.tj_body.specs.History.{owned}
-use Rattle.tj_body.specs.History.{after_close, after_new, cause_of, next_name, next_child, after_try_fork}
-use Rattle.tj_body.specs.History.{after_write, after_set, after_get, after_join}
-use Rattle.tj_body.specs.History.{after_read, after_look, after_ask, after_stage, point_after}
+use Rattle.tj_body.specs.History.{after_close, next_name, next_child}
+use Rattle.tj_body.specs.History.{after_read, after_look, after_stage, point_after}
+use Rattle.tj_body.specs.Turns.{IsTurn, fails, ends, makes, forks, sets, gets, joins, prints}
 use Rattle.tj_body.specs.declared.ask.Ask.{Ask}
-use Rattle.tj_body.specs.declared.ask.Ask.TheVariants as ask
 use Rattle.tj_body.specs.declared.point.Reference.{Reference}
-use Rattle.tj_body.specs.declared.point.Value.{Value}
 use Rattle.tj_body.specs.declared.point.Value.TheVariants as value
 use Rattle.tj_body.specs.declared.point.Entry.{Entry}
 use Rattle.tj_body.specs.declared.point.Entry.TheVariants as entry
@@ -27,6 +22,7 @@ use Rattle.tj_body.specs.declared.point.PointStage.{PointStage}
 use Rattle.tj_body.specs.declared.point.PointStage.TheVariants as stage
 use Rattle.tj_body.specs.declared.point.Task.{Task}
 use Rattle.tj_body.specs.declared.point.Point.{Point}
+use Rattle.tj_body.proofs.Turns.{is_turn}
 use Rattle.tj_body.proofs.Counts.{is, total, times, wrote, total_append, times_without, times_in_order, wrote_all}
 use Rattle.tj_body.proofs.Counts.{times_hand_all}
 
@@ -77,92 +73,59 @@ module _ {B : Type 0} (q : Name) (f : Name → ℕ) where
         let d = times_in_order q p.holds in
         (omega arith, o.1)
 
-    chosen : (b : Bool) (x y : Point B) → IsFair h x → IsFair h y → IsFair h (cond b x y)
-    chosen true x y f g = f
-    chosen false x y f g = g
-
-    gets : (spare : Bool) (s : Sort) (c : Name) (p : Point B) → IsOpen h p → IsFair h (after_get spare s c p)
-    gets spare sort.Task c p o = closes (close.Failed cause.Kind) entry.Broken p o
-    gets spare sort.Promise c p o = o
-
-    joins : (strict spare : Bool) (s : Sort) (c : Name) (p : Point B) → IsOpen h p
-        → IsFair h (after_join strict spare s c p)
-    joins strict spare sort.Task c p o =
-        chosen (strict && not (before p.name c)) _ _ (closes (close.Failed (cause.Order c)) entry.Broken p o) o
-    joins strict spare sort.Promise c p o = closes (close.Failed cause.Kind) entry.Broken p o
-
-    sets : (s : Sort) (c : Name) (v : Value) (p : Point B) → IsOpen h p → IsFair h (after_set s c v p)
-    sets sort.Task c v p o = closes (close.Failed cause.Kind) entry.Broken p o
-    sets sort.Promise c v p o = by_owned (has c p.holds) refl where
-      by_owned : (b : Bool) → has c p.holds ≡ b
-          → IsFair h (cond b (after_write c v p) (after_close (close.Failed (cause.Owner c)) entry.Broken p))
-      by_owned true e =
-          let a = o.0 in
-          let b = total_append (λ (w : Name × Entry). is q w.0) p.writes ((c, entry.Value v) ∷ []) in
-          let d = times_without q c p.holds e in
-          (omega arith, o.1)
-      by_owned false e = closes (close.Failed (cause.Owner c)) entry.Broken p o
-
-    forks : (b : B) (passed : List Reference) (rs : List Reference) (l : Result (List Name) Cause) (p : Point B)
-        → hand_all p.holds rs ≡ l → IsOpen h p
-        → IsFair h (after_try_fork b passed (map (λ (r : Reference). r.name) rs) l p)
-    forks b passed rs (Ok l) p e o =
-        let a = o.0 in
-        let c = o.1 in
-        let k = next_child b passed (map (λ (r : Reference). r.name) rs) p in
-        let x = total_append handed_to p.children (k ∷ []) in
-        let y = total_append named p.children (k ∷ []) in
-        let d = times_hand_all q p.holds rs l e in
-        (omega arith, omega arith)
-    forks b passed rs (Err c) p e o = closes (close.Failed c) entry.Broken p o
-
     reads : (spare : Bool) (c : Name) (e : Entry) (p : Point B) → IsOpen h p → IsFair h (after_read spare c e p)
     reads true c entry.Broken p o = o
     reads false c entry.Broken p o = closes (close.Failed (cause.Broken c)) entry.Broken p o
     reads spare c (entry.Value (value.Num i)) p o = o
     reads spare c (entry.Value (value.Ref r)) p o = o
 
-    makes : (p : Point B) → IsOpen h p → IsFair h (after_new p)
-    makes p o =
+    -- an ask keeps the account
+    turns : (strict : Bool) (p : Point B) (a : Ask B) (p' : Point B) → IsTurn strict p a p' → IsOpen h p
+        → IsFair h p'
+    turns strict p _ _ (fails a c) o = closes (close.Failed c) entry.Broken p o
+    turns strict p _ _ (ends v) o =
+        let w = value_at p.name p.references v in closes (close.Done w) (entry.Value w) p o
+    turns strict p _ _ makes o =
         let a = o.0 in
         let b = o.1 in
         let x = total_append (is q) p.holds (next_name p ∷ []) in
         let y = total_append (is q) p.promises (next_name p ∷ []) in
         let z = total_append f p.promises (next_name p ∷ []) in
         (omega arith, omega arith)
+    turns strict p _ _ (forks b pass hand l e) o =
+        let a = o.0 in
+        let c = o.1 in
+        let k = next_child b (map (reference p) pass) (map (λ k. (reference p k).name) hand) p in
+        let x = total_append handed_to p.children (k ∷ []) in
+        let y = total_append named p.children (k ∷ []) in
+        let d = times_hand_all q p.holds (map (reference p) hand) l e in
+        let n = ap (times q) (names_of p.name p.references hand) in
+        (omega arith, omega arith)
+    turns strict p _ _ (sets k v s e) o =
+        let c = (reference p k).name in
+        let a = o.0 in
+        let b = total_append (λ (w : Name × Entry). is q w.0) p.writes
+        ((c, entry.Value (value_at p.name p.references v)) ∷ []) in
+        let d = times_without q c p.holds e in
+        (omega arith, o.1)
+    turns strict p _ _ (gets spare k s) o = o
+    turns strict p _ _ (joins spare k s e) o = o
+    turns strict p _ _ (prints i) o = o
 
-    module _ (strict : Bool) where
-      -- an ask keeps the account
-      pub takes : (a : Ask B) (p : Point B) → IsOpen h p → IsFair h (after_ask strict a p)
-      takes ask.New p o = makes p o
-      takes (ask.Fork b pass hand) p o =
-          let rs = map (reference p) hand in
-          subst (λ z. IsFair h (after_try_fork b (map (reference p) pass) z (hand_all p.holds rs) p))
-          (names_of p.name p.references hand) (forks b (map (reference p) pass) rs _ p refl o)
-      takes (ask.Set k v) p o =
-          sets (reference p k).sort (reference p k).name (value_at p.name p.references v) p o
-      takes (ask.Get k) p o = gets false (reference p k).sort (reference p k).name p o
-      takes (ask.GetOr k) p o = gets true (reference p k).sort (reference p k).name p o
-      takes (ask.Join k) p o = joins strict false (reference p k).sort (reference p k).name p o
-      takes (ask.JoinOr k) p o = joins strict true (reference p k).sort (reference p k).name p o
-      takes (ask.Emit i) p o = o
-      takes (ask.End v) p o =
-          let w = value_at p.name p.references v in closes (close.Done w) (entry.Value w) p o
-      takes (ask.Fail t) p o = closes (close.Failed (cause_of t)) entry.Broken p o
-
-      looks : (spare : Bool) (c : Name) (o : Option Entry) (p : Point B) → p.stage ≡ stage.Waits c spare → IsFair h p
-          → IsFair h (after_look spare c o p)
-      looks spare c None p g f = f
-      looks spare c (Some e) p g f =
-          reads spare c e p (subst (λ z. IsBalanced h p (times q (owned_in z p.name p.holds))) g f.0, f.1)
+    looks : (spare : Bool) (c : Name) (o : Option Entry) (p : Point B) → p.stage ≡ stage.Waits c spare → IsFair h p
+        → IsFair h (after_look spare c o p)
+    looks spare c None p g f = f
+    looks spare c (Some e) p g f =
+        reads spare c e p (subst (λ z. IsBalanced h p (times q (owned_in z p.name p.holds))) g f.0, f.1)
 
     module _ (rules : Rules B) where
       goes : (V : Assignment) (st : PointStage) (p : Point B) → p.stage ≡ st → IsFair h p
           → IsFair h (after_stage rules V st p)
       goes V (stage.Answered a) p g f =
-          takes rules.strict (rules.asks p.body a) (record p { body = rules.then p.body a })
+          let ask = rules.asks p.body a in let next : Point B = record p { body = rules.then p.body a } in
+          turns rules.strict next ask _ (is_turn rules.strict next ask)
           (subst (λ z. IsBalanced h p (times q (owned_in z p.name p.holds))) g f.0, f.1)
-      goes V (stage.Waits c spare) p g f = looks rules.strict spare c (V c) p g f
+      goes V (stage.Waits c spare) p g f = looks spare c (V c) p g f
       goes V (stage.Closed e) p g f = f
 
   -- of every point

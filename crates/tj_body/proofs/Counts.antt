@@ -59,6 +59,11 @@ times q l = total (is q) l
 abbrev pub wrote : Name → List (Name × Entry) → ℕ
 wrote q l = total (λ w. is q w.0) l
 
+-- how often q stands among the names of items
+pub times_map : {A : Type 0} (f : A → Name) (q : Name) (l : List A) → times q (map f l) ≡ total (λ x. is q (f x)) l
+times_map f q [] = refl
+times_map f q (x ∷ xs) = ap (λ z. is q (f x) + z) (times_map f q xs)
+
 module _ {A : Type 0} where
   -- the sum over two lists
   pub total_append : (f : A → ℕ) (l m : List A) → total f (l ++ m) ≡ total f l + total f m
@@ -69,6 +74,17 @@ module _ {A : Type 0} where
   pub total_le : (f g : A → ℕ) → ((x : A) → f x ≤ g x) → (l : List A) → total f l ≤ total g l
   total_le f g h [] = omega arith
   total_le f g h (x ∷ xs) = let a = h x in let b = total_le f g h xs in omega arith
+
+  -- a sum of equal numbers is the same
+  pub total_same : (f g : A → ℕ) → ((x : A) → f x ≡ g x) → (l : List A) → total f l ≡ total g l
+  total_same f g h l = ap (λ k. total k l) (λ i x. h x i)
+
+  -- some item counts where all of them do
+  pub total_some : (f : A → ℕ) (l : List A) → 1 ≤ total f l → (x : A) × IsIn x l × (1 ≤ f x)
+  total_some f [] h = absurd (omega arith)
+  total_some f (x ∷ xs) h =
+      dite (dec_le 1 (f x)) (λ l. (x, inl refl, l))
+      (λ l. let r = total_some f xs (omega arith) in (r.0, inr r.1, r.2))
 
   -- the sum of sums
   pub total_add : (f g : A → ℕ) (l : List A) → total (λ x. f x + g x) l ≡ total f l + total g l
@@ -179,6 +195,20 @@ in_of_times q (x ∷ xs) h = by_same (in_of_times q xs) (same q x) refl h where
   by_same : (1 ≤ times q xs → IsIn q xs) → (b : Bool) → same q x ≡ b → 1 ≤ one_if b + times q xs → (q ≡ x) ⊎ IsIn q xs
   by_same rec true e g = inl (same_is q x e)
   by_same rec false e g = inr (rec (omega arith))
+
+-- and what counts is the name
+pub name_of_is : (q x : Name) → 1 ≤ is q x → q ≡ x
+name_of_is q x h = by (same q x) refl h where
+  by : (b : Bool) → same q x ≡ b → 1 ≤ one_if b → q ≡ x
+  by true e g = same_is q x e
+  by false e g = absurd (omega arith)
+
+-- what is written has an entry
+pub entry_of_wrote : (q : Name) (l : List (Name × Entry)) → 1 ≤ wrote q l → (e : Entry) × IsIn (q, e) l
+entry_of_wrote q l h =
+    let r = total_some (λ (w : Name × Entry). is q w.0) l h in
+    let n = name_of_is q r.0.0 r.2 in
+    (r.0.1, subst (λ (z : Name). IsIn (z, r.0.1) l) (sym n) r.1)
 
 -- a name counts itself
 pub is_one : (q x : Name) → q ≡ x → is q x ≡ 1

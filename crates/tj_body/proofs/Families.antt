@@ -11,7 +11,7 @@ use Rattle.tj_body.specs.declared.point.Entry.{Entry}
 use Rattle.tj_body.specs.declared.point.Task.{Task}
 use Rattle.tj_body.specs.declared.point.Point.{Point}
 use Rattle.tj_body.proofs.Grows.{from_start}
-use Rattle.tj_body.proofs.Counts.{one_if, is, is_one, total, times, wrote, same_self, same_is, total_le, total_add}
+use Rattle.tj_body.proofs.Counts.{one_if, is, is_one, total, times, wrote, same_self, same_is, total_le, total_add, total_same}
 use Rattle.tj_body.proofs.Counts.{total_flat_map}
 use Rattle.tj_body.proofs.Prefixes.{under, below, under_is, numbered_once}
 use Rattle.tj_body.proofs.Accounts.{fair}
@@ -69,19 +69,29 @@ module _ {B : Type 0} (rules : Rules B) where
         (once_cell d) (history_of t).children in
         omega arith
 
+    -- what is handed to the children of the tasks that come last
+    abbrev pub beyond : ℕ → Task B → ℕ
+    beyond zero t = total (λ (c : Task B). times q c.handed) (history_of t).children
+    beyond (suc d) t = total (beyond d) (history_of t).children
+
+    -- what is owned or written, or handed on to tasks beyond the family, are its cells and what was handed to it
+    pub used_exactly : (d : ℕ) (t : Task B)
+        → total uses (family_of d t) + beyond d t ≡ times q t.handed + total makes (family_of d t)
+    used_exactly zero t = let a = used_of t in omega arith
+    used_exactly (suc d) t =
+        let cs = (history_of t).children in
+        let a = used_of t in
+        let g = total_flat_map uses (family_of d) cs in
+        let h = total_flat_map makes (family_of d) cs in
+        let r = total_same (λ x. total uses (family_of d x) + beyond d x)
+        (λ (x : Task B). times q x.handed + total makes (family_of d x)) (used_exactly d) cs in
+        let s = total_add (λ x. total uses (family_of d x)) (beyond d) cs in
+        let u = total_add (λ (x : Task B). times q x.handed) (λ x. total makes (family_of d x)) cs in
+        omega arith
+
     -- what is owned or written is a cell, or was handed
     pub used_cells : (d : ℕ) (t : Task B) → total uses (family_of d t) ≤ times q t.handed + total makes (family_of d t)
-    used_cells zero t = let a = used_of t in omega arith
-    used_cells (suc d) t =
-        let a = used_of t in
-        let g = total_flat_map uses (family_of d) (history_of t).children in
-        let h = total_flat_map makes (family_of d) (history_of t).children in
-        let r = total_le (λ x. total uses (family_of d x))
-        (λ (x : Task B). times q x.handed + total makes (family_of d x))
-        (used_cells d) (history_of t).children in
-        let s = total_add (λ (x : Task B). times q x.handed) (λ x. total makes (family_of d x))
-        (history_of t).children in
-        omega arith
+    used_cells d t = let a = used_exactly d t in omega arith
 
     -- each name is owned or written at most once
     pub once_used : (d : ℕ) (t : Task B) → total uses (family_of d t) ≤ times q t.handed + under q t.name

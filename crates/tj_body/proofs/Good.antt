@@ -1,29 +1,23 @@
 -- From each point of a proper task its body can go on: what it is given is what it awaits, it has as many places as
 -- its task has references, and there is room for those to come.
-use Rattle.std.proofs.Common.{◌≡◌, ℕ, zero, suc, ◌+◌, ◌*◌, ◌≤◌, Bool, true, false, not, ◌&&◌, ◌⊎◌, inl, inr, ⊎_elim}
-use Rattle.std.proofs.Common.{List, [], ◌∷◌, ◌++◌, map, Option, Some, None, Result, Ok, Err, cond, length, refl, sym}
-use Rattle.std.proofs.Common.{ℤ, ap, ◌∙◌, subst, arith, length-append}
-use Rattle.tj_base.specs.ForkOrder.{Name, before}
-use Rattle.tj_base.specs.declared.cell.Sort.{Sort}
-use Rattle.tj_base.specs.declared.cell.Sort.TheVariants as sort
-use Rattle.tj_base.specs.declared.cause.Cause.{Cause}
+use Rattle.std.proofs.Common.{◌≡◌, ℕ, zero, suc, ◌+◌, ◌*◌, ◌≤◌, Bool, true, false, ◌⊎◌, inl, inr, ⊎_elim}
+use Rattle.std.proofs.Common.{List, [], ◌∷◌, ◌++◌, map, Option, Some, None, length, refl, sym}
+use Rattle.std.proofs.Common.{◌∙◌, subst, arith, length-append}
+use Rattle.std.proofs.lemmas.List.{length-map}
+use Rattle.tj_base.specs.ForkOrder.{Name}
 use Rattle.tj_base.specs.declared.cause.Cause.TheVariants as cause
-use Rattle.tj_body.specs.Names.{has}
 use Rattle.tj_body.specs.Asks.{Await, place, done, cell, cell_or, Fits, awaited, Ends, most_passed, IsFresh, IsPlaced}
 use Rattle.tj_body.specs.Programs.{Rules, Program, AreLawful, root_task}
-use Rattle.tj_body.specs.History.{Assignment, to_task, to_promise, next_name, reference, reference_at, after_close}
-use Rattle.tj_body.specs.History.{after_failure, after_new}
-use Rattle.tj_body.specs.History.{after_try_fork, after_write, with_wait, next_child, after_set, after_get}
-use Rattle.tj_body.specs.History.{after_join}
-use Rattle.tj_body.specs.History.{after_emit, after_read, after_look, after_ask, after_stage, point_after, history}
+use Rattle.tj_body.specs.History.{Assignment, to_task, to_promise, next_name, reference, after_close}
+use Rattle.tj_body.specs.History.{with_wait, next_child}
+use Rattle.tj_body.specs.History.{after_read, after_look, after_stage, point_after, history}
 use Rattle.tj_body.specs.Rounds.{family, given, tasks}
 use Rattle.tj_body.specs.Points.{IsIn, cell_if, most_places, IsProper, MayAnswer, MayWait, IsGoodAt, IsGood}
+use Rattle.tj_body.specs.Turns.{get_of, join_of, IsTurn, fails, ends, makes, forks, sets, gets, joins, prints}
 use Rattle.tj_body.specs.declared.ask.Answer.{Answer}
 use Rattle.tj_body.specs.declared.ask.Answer.TheVariants as answer
 use Rattle.tj_body.specs.declared.ask.Ask.{Ask}
-use Rattle.tj_body.specs.declared.ask.Ask.TheVariants as ask
 use Rattle.tj_body.specs.declared.point.Reference.{Reference}
-use Rattle.tj_body.specs.declared.point.Value.{Value}
 use Rattle.tj_body.specs.declared.point.Value.TheVariants as value
 use Rattle.tj_body.specs.declared.point.Entry.{Entry}
 use Rattle.tj_body.specs.declared.point.Entry.TheVariants as entry
@@ -33,16 +27,29 @@ use Rattle.tj_body.specs.declared.point.PointStage.{PointStage}
 use Rattle.tj_body.specs.declared.point.PointStage.TheVariants as stage
 use Rattle.tj_body.specs.declared.point.Task.{Task}
 use Rattle.tj_body.specs.declared.point.Point.{Point}
+use Rattle.tj_body.proofs.Turns.{is_turn}
 use Rattle.tj_body.proofs.Lists.{in_either, from_flat_map}
 
 -- what no ask but a last one has
 pub not_last : {A : Type 0} → ⊥ ⊎ A → A
 not_last h = ⊎_elim (λ x. absurd x) (λ x. x) h
 
-map_length : (x : Name) (references : List Reference) (l : List ℕ)
-    → length (map (reference_at x references) l) ≡ length l
-map_length x references [] = refl
-map_length x references (k ∷ ks) = ap suc (map_length x references ks)
+-- what is awaited after a get and a join, which are no last asks
+get_awaits : (B : Type 0) (spare : Bool) (k : ℕ) → awaited (get_of {B = B} spare k) ≡ cell_if spare
+get_awaits B true k = refl
+get_awaits B false k = refl
+
+join_awaits : (B : Type 0) (spare : Bool) (k : ℕ) → awaited (join_of {B = B} spare k) ≡ cell_if spare
+join_awaits B true k = refl
+join_awaits B false k = refl
+
+pub get_goes_on : (B : Type 0) {A : Type 0} (spare : Bool) (k : ℕ) → Ends (get_of {B = B} spare k) ⊎ A → A
+get_goes_on B true k h = not_last h
+get_goes_on B false k h = not_last h
+
+pub join_goes_on : (B : Type 0) {A : Type 0} (spare : Bool) (k : ℕ) → Ends (join_of {B = B} spare k) ⊎ A → A
+join_goes_on B true k h = not_last h
+join_goes_on B false k h = not_last h
 
 -- there is room for one place more, and for as many as the body still has asks
 abbrev pub HasRoom : ℕ → ℕ → Type 0
@@ -61,10 +68,6 @@ module _ {B : Type 0} (rules : Rules B) where
   Asked w p = (rules.awaits p.body ≡ w) × (rules.places p.body ≡ length p.references)
       × HasRoom (length p.references) (rules.left p.body) × Kept p
 
-  either : (b : Bool) (p q : Point B) → Good p → Good q → Good (cond b p q)
-  either true p q f g = f
-  either false p q f g = g
-
   closes : (e : Close) (r : Entry) (p : Point B) → Kept p → Good (after_close e r p)
   closes e r p k = record { at_stage = tt; children = k.0; made = k.1 }
 
@@ -72,92 +75,71 @@ module _ {B : Type 0} (rules : Rules B) where
   waits spare c p o =
       record { at_stage = record { awaits_cell = o.0; all_places = o.1; room = o.2 }; children = o.3.0; made = o.3.1 }
 
-  gets : (spare : Bool) (s : Sort) (c : Name) (p : Point B) → Asked (cell_if spare) p → Good (after_get spare s c p)
-  gets spare sort.Task c p o = closes (close.Failed cause.Kind) entry.Broken p o.3
-  gets spare sort.Promise c p o = waits spare c p o
-
-  joins : (strict spare : Bool) (s : Sort) (c : Name) (p : Point B) → Asked (cell_if spare) p
-      → Good (after_join strict spare s c p)
-  joins strict spare sort.Task c p o =
-      either (strict && not (before p.name c)) (after_failure (cause.Order c) p) (with_wait spare c p)
-      (closes (close.Failed (cause.Order c)) entry.Broken p o.3) (waits spare c p o)
-  joins strict spare sort.Promise c p o = closes (close.Failed cause.Kind) entry.Broken p o.3
-
   fits_done : (b : B) → rules.awaits b ≡ done → Fits (rules.awaits b) (rules.places b) answer.Done
   fits_done b e = subst (λ w. Fits w (rules.places b) answer.Done) (sym e) tt
 
   fits_local : (b : B) (n : ℕ) → rules.awaits b ≡ place → rules.places b ≡ n → Fits (rules.awaits b) (rules.places b) (answer.Local n)
   fits_local b n e d = subst (λ w. Fits w (rules.places b) (answer.Local n)) (sym e) (sym d)
 
-  emits : (i : ℤ) (p : Point B) → Asked done p → Good (after_emit i p)
-  emits i p o =
-      let e = o.1 in let r = o.2 in
-      record {
-        at_stage = record { fits = fits_done p.body o.0; all_places = omega arith; room = omega arith };
-        children = o.3.0;
-        made = o.3.1;
-      }
-
-  writes : (c : Name) (v : Value) (p : Point B) → Asked done p → Good (after_write c v p)
-  writes c v p o =
-      let e = o.1 in let r = o.2 in
-      record {
-        at_stage = record { fits = fits_done p.body o.0; all_places = omega arith; room = omega arith };
-        children = o.3.0;
-        made = o.3.1;
-      }
-
-  sets : (s : Sort) (c : Name) (v : Value) (p : Point B) → Asked done p → Good (after_set s c v p)
-  sets sort.Task c v p o = closes (close.Failed cause.Kind) entry.Broken p o.3
-  sets sort.Promise c v p o =
-      either (has c p.holds) (after_write c v p) (after_failure (cause.Owner c) p)
-      (writes c v p o) (closes (close.Failed (cause.Owner c)) entry.Broken p o.3)
-
   one_more : (l : List Reference) (r : Reference) → length (l ++ r ∷ []) ≡ suc (length l)
   one_more l r = let a = length-append l (r ∷ []) in omega arith
 
-  makes : (p : Point B) → Asked place p → Good (after_new p)
-  makes p o =
-      let e = o.1 in let r = o.2 in let m = o.3.1 in
-      let n = one_more p.references (to_promise (next_name p)) in
+  -- an ask keeps it
+  turns : (strict : Bool) (p : Point B) (a : Ask B) (p' : Point B) → IsTurn strict p a p'
+      → IsPlaced rules.places rules.awaits rules.left (rules.places p.body) a → rules.awaits p.body ≡ awaited a
+      → rules.places p.body ≡ length p.references → Ends a ⊎ HasRoom (length p.references) (rules.left p.body)
+      → Kept p → Good p'
+  turns strict p _ _ (fails a c) f w n r k = closes (close.Failed c) entry.Broken p k
+  turns strict p _ _ (ends v) f w n r k = closes _ _ p k
+  turns strict p _ _ makes f w n r k =
+      let h = not_last r in
+      let m = k.1 in
+      let l = one_more p.references (to_promise (next_name p)) in
       record {
-        at_stage = record { fits = fits_local p.body _ o.0 o.1; all_places = omega arith; room = omega arith };
-        children = o.3.0;
+        at_stage = record { fits = fits_local p.body _ w n; all_places = omega arith; room = omega arith };
+        children = k.0;
         made = omega arith;
       }
-
-  forks : (b : B) (passed : List Reference) (handed : List Name) (l : Result (List Name) Cause) (p : Point B)
-      → IsFresh rules.places rules.awaits rules.left (suc (length passed)) b → length passed ≤ most_passed → Asked place p
-      → Good (after_try_fork b passed handed l p)
-  forks b passed handed (Err c) p f small o = closes (close.Failed c) entry.Broken p o.3
-  forks b passed handed (Ok l) p f small o =
-      let e = o.1 in let r = o.2 in let m = o.3.1 in
-      let n = one_more p.references (to_task (next_name p)) in
+  turns strict p _ _ (forks b pass hand left e) f w n r k =
+      let h = not_last r in
+      let m = k.1 in
+      let l = one_more p.references (to_task (next_name p)) in
       record {
-        at_stage = record { fits = fits_local p.body _ o.0 o.1; all_places = omega arith; room = omega arith };
-        children = λ c i. ⊎_elim (λ k. o.3.0 c k) (λ k. newest c k) (in_either c p.children _ i);
+        at_stage = record { fits = fits_local p.body _ w n; all_places = omega arith; room = omega arith };
+        children = λ c i. ⊎_elim (λ j. k.0 c j) (λ j. newest c j) (in_either c p.children _ i);
         made = omega arith;
       } where
-        newest : (c : Task B) → IsIn c (next_child b passed handed p ∷ []) → IsProper rules c
-        newest c (inl e) = subst (IsProper rules) (sym e) (record { fresh = f; few = small })
-        newest c (inr k) = absurd k
+        child : Task B
+        child = next_child b (map (reference p) pass) (map (λ k. (reference p k).name) hand) p
 
-  takes : (strict : Bool) (a : Ask B) (p : Point B) → IsPlaced rules.places rules.awaits rules.left (rules.places p.body) a
-      → rules.awaits p.body ≡ awaited a → rules.places p.body ≡ length p.references
-      → Ends a ⊎ HasRoom (length p.references) (rules.left p.body) → Kept p → Good (after_ask strict a p)
-  takes strict ask.New p f w n r k = makes p (w, n, not_last r, k)
-  takes strict (ask.Fork b pass hand) p f w n r k =
-      let m = map_length p.name p.references pass in
-      forks b (map (reference p) pass) _ _ p (subst (λ n. IsFresh rules.places rules.awaits rules.left (suc n) b) (sym m) f.fresh)
-      (subst (λ n. n ≤ most_passed) (sym m) f.few) (w, n, not_last r, k)
-  takes strict (ask.Set i v) p f w n r k = sets _ _ _ p (w, n, not_last r, k)
-  takes strict (ask.Get i) p f w n r k = gets false _ _ p (w, n, not_last r, k)
-  takes strict (ask.GetOr i) p f w n r k = gets true _ _ p (w, n, not_last r, k)
-  takes strict (ask.Join i) p f w n r k = joins strict false _ _ p (w, n, not_last r, k)
-  takes strict (ask.JoinOr i) p f w n r k = joins strict true _ _ p (w, n, not_last r, k)
-  takes strict (ask.Emit i) p f w n r k = emits i p (w, n, not_last r, k)
-  takes strict (ask.End v) p f w n r k = closes _ _ p k
-  takes strict (ask.Fail t) p f w n r k = closes _ _ p k
+        proper : IsProper rules child
+        proper =
+            let m = length-map pass (reference p) in record {
+              fresh = subst (λ n. IsFresh rules.places rules.awaits rules.left (suc n) b) (sym m) f.fresh;
+              few = subst (λ n. n ≤ most_passed) (sym m) f.few;
+            }
+
+        newest : (c : Task B) → IsIn c (child ∷ []) → IsProper rules c
+        newest c (inl e) = subst (IsProper rules) (sym e) proper
+        newest c (inr j) = absurd j
+  turns strict p _ _ (sets i v s o) f w n r k =
+      let h = not_last r in
+      record {
+        at_stage = record { fits = fits_done p.body w; all_places = omega arith; room = omega arith };
+        children = k.0;
+        made = k.1;
+      }
+  turns strict p _ _ (gets spare i s) f w n r k =
+      waits spare (reference p i).name p (w ∙ get_awaits B spare i, n, get_goes_on B spare i r, k)
+  turns strict p _ _ (joins spare i s o) f w n r k =
+      waits spare (reference p i).name p (w ∙ join_awaits B spare i, n, join_goes_on B spare i r, k)
+  turns strict p _ _ (prints i) f w n r k =
+      let h = not_last r in
+      record {
+        at_stage = record { fits = fits_done p.body w; all_places = omega arith; room = omega arith };
+        children = k.0;
+        made = k.1;
+      }
 
   -- the answer of a cell is one that is awaited, whether a broken cell is answered or not
   fits_cell : (spare : Bool) (b : B) (a : Answer) → rules.awaits b ≡ cell_if spare → Fits cell (rules.places b) a
@@ -219,7 +201,9 @@ module _ {B : Type 0} (rules : Rules B) where
         subst (λ z. IsGoodAt rules z p) e g.at_stage in
         let o = obeys p.body a h.fits in
         let r = h.room in
-        takes rules.strict (rules.asks p.body a) (record p { body = rules.then p.body a }) o.placed o.awaits_answer
+        let ask = rules.asks p.body a in
+        let next : Point B = record p { body = rules.then p.body a } in
+        turns rules.strict next ask _ (is_turn rules.strict next ask) o.placed o.awaits_answer
         (o.adds_places ∙ h.all_places) (⊎_elim (λ x. inl x) (λ l. inr (omega arith)) o.falls) (g.children, g.made)
     goes V (stage.Waits c spare) p e g = looks spare c (V c) p e g
     goes V (stage.Closed x) p e g = g

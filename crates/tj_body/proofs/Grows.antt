@@ -1,20 +1,14 @@
 -- A history only grows, step by step, and under a larger assignment.
-use Rattle.std.proofs.Common.{◌≡◌, ℕ, zero, suc, Bool, true, false, not, cond, ◌&&◌, ◌⊎◌, inl, inr, ⊎_elim, List}
+use Rattle.std.proofs.Common.{◌≡◌, ℕ, zero, suc, Bool, true, false, ◌⊎◌, inl, inr, ⊎_elim, List}
 use Rattle.std.proofs.Common.{◌++◌}
-use Rattle.std.proofs.Common.{Option, Some, None, Result, Ok, Err, refl, sym, ap, ◌∙◌, subst}
-use Rattle.tj_base.specs.ForkOrder.{Name, before}
-use Rattle.tj_base.specs.declared.cell.Sort.{Sort}
-use Rattle.tj_base.specs.declared.cell.Sort.TheVariants as sort
-use Rattle.tj_base.specs.declared.cause.Cause.{Cause}
-use Rattle.tj_body.specs.Names.{has}
+use Rattle.std.proofs.Common.{Option, Some, None, refl, sym, ap, ◌∙◌, subst}
+use Rattle.tj_base.specs.ForkOrder.{Name}
 use Rattle.tj_body.specs.Programs.{Rules}
-use Rattle.tj_body.specs.History.{Assignment, start, after_try_fork, after_set, after_get, after_join, after_read}
+use Rattle.tj_body.specs.History.{Assignment, start, after_read}
 use Rattle.tj_body.specs.History.{after_look, after_ask, after_stage, after_step, point_after}
 use Rattle.tj_body.specs.Points.{Begins, IsWithin, Extends}
+use Rattle.tj_body.specs.Turns.{IsTurn, fails, ends, makes, forks, sets, gets, joins, prints}
 use Rattle.tj_body.specs.declared.ask.Ask.{Ask}
-use Rattle.tj_body.specs.declared.ask.Ask.TheVariants as ask
-use Rattle.tj_body.specs.declared.point.Reference.{Reference}
-use Rattle.tj_body.specs.declared.point.Value.{Value}
 use Rattle.tj_body.specs.declared.point.Value.TheVariants as value
 use Rattle.tj_body.specs.declared.point.Entry.{Entry}
 use Rattle.tj_body.specs.declared.point.Entry.TheVariants as entry
@@ -23,6 +17,7 @@ use Rattle.tj_body.specs.declared.point.PointStage.{PointStage}
 use Rattle.tj_body.specs.declared.point.PointStage.TheVariants as stage
 use Rattle.tj_body.specs.declared.point.Task.{Task}
 use Rattle.tj_body.specs.declared.point.Point.{Point}
+use Rattle.tj_body.proofs.Turns.{is_turn}
 use Rattle.tj_body.proofs.Lists.{begins_self, begins_more, begins_trans}
 
 module _ {B : Type 0} where
@@ -67,36 +62,8 @@ module _ {B : Type 0} where
     refl,
   )
 
-  chosen : (b : Bool) (p x y : Point B) → GoesOn p x → GoesOn p y → GoesOn p (cond b x y)
-  chosen true p x y f g = f
-  chosen false p x y f g = g
-
-  gets : (spare : Bool) (s : Sort) (q : Name) (p : Point B) → GoesOn p (after_get spare s q p)
-  gets spare sort.Task q p = writes_more p _
-  gets spare sort.Promise q p = goes_on_self p
-
-  joins : (strict spare : Bool) (s : Sort) (q : Name) (p : Point B) → GoesOn p (after_join strict spare s q p)
-  joins strict spare sort.Task q p =
-      chosen (strict && not (before p.name q)) p _ _ (writes_more p _) (goes_on_self p)
-  joins strict spare sort.Promise q p = writes_more p _
-
-  sets : (s : Sort) (q : Name) (v : Value) (p : Point B) → GoesOn p (after_set s q v p)
-  sets sort.Task q v p = writes_more p _
-  sets sort.Promise q v p = chosen (has q p.holds) p _ _ (writes_more p _) (writes_more p _)
-
-  forks : (b : B) (passed : List Reference) (handed : List Name) (l : Result (List Name) Cause) (p : Point B)
-      → GoesOn p (after_try_fork b passed handed l p)
-  forks b passed handed (Ok l) p = (
-    begins_more p.children _,
-    begins_self p.writes,
-    begins_self p.promises,
-    begins_self p.prints,
-    begins_more p.references _,
-    refl,
-  )
-  forks b passed handed (Err c) p = writes_more p _
-
-  reads : (spare : Bool) (q : Name) (e : Entry) (p : Point B) → GoesOn p (after_read spare q e p)
+  -- and so does an answer
+  pub reads : (spare : Bool) (q : Name) (e : Entry) (p : Point B) → GoesOn p (after_read spare q e p)
   reads true q entry.Broken p = goes_on_self p
   reads false q entry.Broken p = writes_more p _
   reads spare q (entry.Value (value.Num i)) p = goes_on_self p
@@ -113,33 +80,40 @@ module _ {B : Type 0} where
   looks q spare None p = goes_on_self p
   looks q spare (Some e) p = reads spare q e p
 
-  module _ (strict : Bool) where
-    -- an ask only adds
-    pub takes : (a : Ask B) (p : Point B) → GoesOn p (after_ask strict a p)
-    takes ask.New p = (
-      begins_self p.children,
-      begins_self p.writes,
-      begins_more p.promises _,
-      begins_self p.prints,
-      begins_more p.references _,
-      refl,
-    )
-    takes (ask.Fork b pass hand) p = forks b _ _ _ p
-    takes (ask.Set k v) p = sets _ _ _ p
-    takes (ask.Get k) p = gets _ _ _ p
-    takes (ask.GetOr k) p = gets _ _ _ p
-    takes (ask.Join k) p = joins strict _ _ _ p
-    takes (ask.JoinOr k) p = joins strict _ _ _ p
-    takes (ask.Emit i) p = (
-      begins_self p.children,
-      begins_self p.writes,
-      begins_self p.promises,
-      begins_more p.prints _,
-      begins_self p.references,
-      refl,
-    )
-    takes (ask.End v) p = writes_more p _
-    takes (ask.Fail t) p = writes_more p _
+  -- an ask only adds
+  turns : (strict : Bool) (p : Point B) (a : Ask B) (p' : Point B) → IsTurn strict p a p' → GoesOn p p'
+  turns strict p _ _ (fails a c) = writes_more p _
+  turns strict p _ _ (ends v) = writes_more p _
+  turns strict p _ _ makes = (
+    begins_self p.children,
+    begins_self p.writes,
+    begins_more p.promises _,
+    begins_self p.prints,
+    begins_more p.references _,
+    refl,
+  )
+  turns strict p _ _ (forks b pass hand l e) = (
+    begins_more p.children _,
+    begins_self p.writes,
+    begins_self p.promises,
+    begins_self p.prints,
+    begins_more p.references _,
+    refl,
+  )
+  turns strict p _ _ (sets k v s o) = writes_more p _
+  turns strict p _ _ (gets spare k s) = goes_on_self p
+  turns strict p _ _ (joins spare k s o) = goes_on_self p
+  turns strict p _ _ (prints i) = (
+    begins_self p.children,
+    begins_self p.writes,
+    begins_self p.promises,
+    begins_more p.prints _,
+    begins_self p.references,
+    refl,
+  )
+
+  pub takes : (strict : Bool) (a : Ask B) (p : Point B) → GoesOn p (after_ask strict a p)
+  takes strict a p = turns strict p a (after_ask strict a p) (is_turn strict p a)
 
   module _ (rules : Rules B) where
     -- a step only adds, whatever the stage

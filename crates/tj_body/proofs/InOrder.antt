@@ -1,23 +1,18 @@
 -- Tasks that wait in the fork order for tasks of a meaning: none waits.
-use Rattle.std.proofs.Common.{◌≡◌, ℕ, zero, suc, ◌+◌, ◌*◌, ◌<◌, ◌≤◌, Bool, true, false, not, ◌&&◌, inl, inr, ⊎_elim}
-use Rattle.std.proofs.Common.{List, [], ◌∷◌, ◌++◌, map, Option, Some, None, Result, Ok, Err, cond, refl, sym, ap}
+use Rattle.std.proofs.Common.{◌≡◌, ℕ, zero, suc, ◌+◌, ◌*◌, ◌<◌, ◌≤◌, Bool, true, false, inl, inr, ⊎_elim}
+use Rattle.std.proofs.Common.{List, [], ◌∷◌, ◌++◌, map, Option, Some, None, refl, sym, ap}
 use Rattle.std.proofs.Common.{◌∙◌, subst, arith}
 use Rattle.tj_base.specs.ForkOrder.{Name, before}
-use Rattle.tj_base.specs.declared.cell.Sort.{Sort}
-use Rattle.tj_base.specs.declared.cell.Sort.TheVariants as sort
-use Rattle.tj_base.specs.declared.cause.Cause.{Cause}
-use Rattle.tj_base.proofs.Orders.{before_tells}
-use Rattle.tj_body.specs.Names.{has, same, in_order}
+use Rattle.tj_base.proofs.Orders.{before_tells, before-self, before-trans}
+use Rattle.tj_body.specs.Names.{same, in_order}
 use Rattle.tj_body.specs.Programs.{Rules, Program, AreLawful, root_task}
-use Rattle.tj_body.specs.History.{Assignment, with_entry, after_try_fork, after_set, after_get, after_join}
-use Rattle.tj_body.specs.History.{after_read, after_look, after_ask, after_stage, point_after, history}
+use Rattle.tj_body.specs.History.{Assignment, with_entry}
+use Rattle.tj_body.specs.History.{after_read, after_look, after_stage, point_after, history}
 use Rattle.tj_body.specs.Rounds.{given, tasks, last_round, meaning, IsFull}
 use Rattle.tj_body.specs.Points.{IsIn, IsProper, HasStopped}
 use Rattle.tj_body.specs.NeverWaits.{NoneWaits, WaitInOrder}
+use Rattle.tj_body.specs.Turns.{IsTurn, fails, ends, makes, forks, sets, gets, joins, prints}
 use Rattle.tj_body.specs.declared.ask.Ask.{Ask}
-use Rattle.tj_body.specs.declared.ask.Ask.TheVariants as ask
-use Rattle.tj_body.specs.declared.point.Reference.{Reference}
-use Rattle.tj_body.specs.declared.point.Value.{Value}
 use Rattle.tj_body.specs.declared.point.Value.TheVariants as value
 use Rattle.tj_body.specs.declared.point.Entry.{Entry}
 use Rattle.tj_body.specs.declared.point.Entry.TheVariants as entry
@@ -26,7 +21,7 @@ use Rattle.tj_body.specs.declared.point.PointStage.{PointStage}
 use Rattle.tj_body.specs.declared.point.PointStage.TheVariants as stage
 use Rattle.tj_body.specs.declared.point.Task.{Task}
 use Rattle.tj_body.specs.declared.point.Point.{Point}
-use Rattle.tj_body.proofs.Before.{before-self, before-trans}
+use Rattle.tj_body.proofs.Turns.{is_turn}
 use Rattle.tj_body.proofs.Lists.{in_right, in_map}
 use Rattle.tj_body.proofs.Counts.{one_if, is, is_one, same_is, total, total_le, total_add, total_in}
 use Rattle.tj_body.proofs.Good.{task_proper}
@@ -42,7 +37,7 @@ TellsAt (stage.Waits q spare) x writes = Unit {0}
 TellsAt (stage.Closed e) x writes = (r : Entry) × IsIn (x, r) writes
 
 -- the name in a wait
-abbrev cell_in : PointStage → Name
+abbrev pub cell_in : PointStage → Name
 cell_in (stage.Answered a) = []
 cell_in (stage.Waits q spare) = q
 cell_in (stage.Closed e) = []
@@ -57,39 +52,15 @@ module _ {B : Type 0} where
       → (x : Entry) × IsIn (p.name, x) (p.writes ++ (p.name, r) ∷ map (with_entry entry.Broken) (in_order p.holds))
   closes r p = (r, in_right (p.name, r) p.writes _ (inl refl))
 
-  either : (b : Bool) (p q : Point B) → TellsOwn p → TellsOwn q → TellsOwn (cond b p q)
-  either true p q f g = f
-  either false p q f g = g
-
-  gets : (spare : Bool) (s : Sort) (c : Name) (p : Point B) → TellsOwn (after_get spare s c p)
-  gets spare sort.Task c p = closes _ p
-  gets spare sort.Promise c p = tt
-
-  joins : (strict spare : Bool) (s : Sort) (c : Name) (p : Point B) → TellsOwn (after_join strict spare s c p)
-  joins strict spare sort.Task c p =
-      either (strict && not (before p.name c)) _ _ (closes _ p) tt
-  joins strict spare sort.Promise c p = closes _ p
-
-  sets : (s : Sort) (c : Name) (v : Value) (p : Point B) → TellsOwn (after_set s c v p)
-  sets sort.Task c v p = closes _ p
-  sets sort.Promise c v p = either (has c p.holds) _ _ tt (closes _ p)
-
-  forks : (b : B) (passed : List Reference) (handed : List Name) (l : Result (List Name) Cause) (p : Point B)
-      → TellsOwn (after_try_fork b passed handed l p)
-  forks b passed handed (Ok l) p = tt
-  forks b passed handed (Err c) p = closes _ p
-
-  takes : (strict : Bool) (a : Ask B) (p : Point B) → TellsOwn (after_ask strict a p)
-  takes strict ask.New p = tt
-  takes strict (ask.Fork b pass hand) p = forks b _ _ _ p
-  takes strict (ask.Set k v) p = sets _ _ _ p
-  takes strict (ask.Get k) p = gets _ _ _ p
-  takes strict (ask.GetOr k) p = gets _ _ _ p
-  takes strict (ask.Join k) p = joins strict _ _ _ p
-  takes strict (ask.JoinOr k) p = joins strict _ _ _ p
-  takes strict (ask.Emit i) p = tt
-  takes strict (ask.End v) p = closes _ p
-  takes strict (ask.Fail t) p = closes _ p
+  turns : (strict : Bool) (p : Point B) (a : Ask B) (p' : Point B) → IsTurn strict p a p' → TellsOwn p'
+  turns strict p _ _ (fails a c) = closes _ p
+  turns strict p _ _ (ends v) = closes _ p
+  turns strict p _ _ makes = tt
+  turns strict p _ _ (forks b pass hand l e) = tt
+  turns strict p _ _ (sets k v s o) = tt
+  turns strict p _ _ (gets spare k s) = tt
+  turns strict p _ _ (joins spare k s o) = tt
+  turns strict p _ _ (prints i) = tt
 
   reads : (spare : Bool) (c : Name) (x : Entry) (p : Point B) → TellsOwn (after_read spare c x p)
   reads true c entry.Broken p = tt
@@ -103,7 +74,9 @@ module _ {B : Type 0} where
 
   module _ (rules : Rules B) (V : Assignment) where
     goes : (st : PointStage) (p : Point B) → TellsOwn p → TellsOwn (after_stage rules V st p)
-    goes (stage.Answered a) p g = takes rules.strict (rules.asks p.body a) _
+    goes (stage.Answered a) p g =
+        let ask = rules.asks p.body a in let next : Point B = record p { body = rules.then p.body a } in
+        turns rules.strict next ask _ (is_turn rules.strict next ask)
     goes (stage.Waits c spare) p g = looks spare c (V c) p g
     goes (stage.Closed x) p g = g
 
@@ -163,7 +136,7 @@ module _ {B : Type 0} (program : Program B) (obeys : AreLawful program.rules)
 
   module _ (fits : ¬ IsFull program N) where
     -- the cell that a task waits for has no entry
-    no_entry : (p : Point B) (q : Name) (spare : Bool) → IsIn p points → p.stage ≡ stage.Waits q spare → V q ≡ None
+    pub no_entry : (p : Point B) (q : Name) (spare : Bool) → IsIn p points → p.stage ≡ stage.Waits q spare → V q ≡ None
     no_entry p q spare i e =
         ⊎_elim (λ c. let z : stage.Waits q spare ≡ stage.Closed c.0 = sym e ∙ c.1 in absurd (cc))
         (λ w. ap V (ap cell_in (sym e ∙ w.2)) ∙ w.3) (stops p i)

@@ -1,6 +1,7 @@
 mod Example
 pub mod Rows
 pub mod Lists
+pub mod Turns
 pub mod Counts
 pub mod Grows
 pub mod Accounts
@@ -12,8 +13,11 @@ pub mod Proper
 pub mod Rises
 pub mod Settles
 pub mod Keeps
+pub mod NameLaws
+pub mod References
+pub mod RoundPoints
 pub mod Rests
 pub mod Sizes
-pub mod Before
 pub mod InOrder
 pub mod WithoutGets
+pub mod WaitGraph

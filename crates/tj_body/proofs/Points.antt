@@ -1,25 +1,19 @@
 -- Points of histories, one step at a time, and where a history stops.
-use Rattle.std.proofs.Common.{◌≡◌, ℕ, zero, suc, ◌+◌, ◌*◌, ◌-◌, ◌<◌, ◌≤◌, Bool, true, false, not, ◌&&◌, ◌⊎◌, inl, inr}
+use Rattle.std.proofs.Common.{◌≡◌, ℕ, zero, suc, ◌+◌, ◌*◌, ◌-◌, ◌<◌, ◌≤◌, Bool, true, false, ◌⊎◌, inl, inr}
 use Rattle.std.proofs.Common.{⊎_elim}
-use Rattle.std.proofs.Common.{List, Option, Some, None, Result, Ok, Err, cond, refl, sym, ap, ◌∙◌, subst, arith}
+use Rattle.std.proofs.Common.{Option, Some, None, refl, sym, ap, ◌∙◌, subst, arith}
 use native.Mathlib.Decide.{dec_le}
 use mathlib.Core.Logic.{dite}
-use Rattle.tj_base.specs.ForkOrder.{Name, before}
-use Rattle.tj_base.specs.declared.cell.Sort.{Sort}
-use Rattle.tj_base.specs.declared.cell.Sort.TheVariants as sort
-use Rattle.tj_base.specs.declared.cause.Cause.{Cause}
-use Rattle.tj_body.specs.Names.{has}
+use Rattle.tj_base.specs.ForkOrder.{Name}
 use Rattle.tj_body.specs.Asks.{Ends}
 use Rattle.tj_body.specs.Programs.{Rules, AreLawful}
-use Rattle.tj_body.specs.History.{Assignment, after_try_fork, after_set, after_get, after_join, after_read}
+use Rattle.tj_body.specs.History.{Assignment, after_read}
 use Rattle.tj_body.specs.History.{after_look}
 use Rattle.tj_body.specs.History.{after_ask, after_stage, after_step, point_after, history}
 use Rattle.tj_body.specs.Points.{IsWithin, IsProper, IsGoodAt, HasStopped, IsPointOf, weight_at, weight}
+use Rattle.tj_body.specs.Turns.{IsTurn, fails, ends, makes, forks, sets, gets, joins, prints}
 use Rattle.tj_body.specs.declared.ask.Answer.{Answer}
 use Rattle.tj_body.specs.declared.ask.Ask.{Ask}
-use Rattle.tj_body.specs.declared.ask.Ask.TheVariants as ask
-use Rattle.tj_body.specs.declared.point.Reference.{Reference}
-use Rattle.tj_body.specs.declared.point.Value.{Value}
 use Rattle.tj_body.specs.declared.point.Value.TheVariants as value
 use Rattle.tj_body.specs.declared.point.Entry.{Entry}
 use Rattle.tj_body.specs.declared.point.Entry.TheVariants as entry
@@ -27,8 +21,9 @@ use Rattle.tj_body.specs.declared.point.PointStage.{PointStage}
 use Rattle.tj_body.specs.declared.point.PointStage.TheVariants as stage
 use Rattle.tj_body.specs.declared.point.Task.{Task}
 use Rattle.tj_body.specs.declared.point.Point.{Point}
+use Rattle.tj_body.proofs.Turns.{is_turn}
 use Rattle.tj_body.proofs.Grows.{GoesOn, goes_on_self, goes_on_trans, grows, still_point, waiting_stays}
-use Rattle.tj_body.proofs.Good.{not_last, good}
+use Rattle.tj_body.proofs.Good.{not_last, get_goes_on, join_goes_on, good}
 
 module _ {B : Type 0} (rules : Rules B) where
   -- one ask more
@@ -94,42 +89,16 @@ module _ {B : Type 0} (rules : Rules B) where
     abbrev Falls : Point B → ℕ → Type 0
     Falls p n = weight rules.left p < n
 
-    either : (b : Bool) (p q : Point B) (n : ℕ) → Falls p n → Falls q n → Falls (cond b p q) n
-    either true p q n f g = f
-    either false p q n f g = g
-
-    gets : (spare : Bool) (s : Sort) (c : Name) (p : Point B) (n : ℕ) → 2 * rules.left p.body + 3 < n
-        → Falls (after_get spare s c p) n
-    gets spare sort.Task c p n l = omega arith
-    gets spare sort.Promise c p n l = l
-
-    joins : (spare : Bool) (s : Sort) (c : Name) (p : Point B) (n : ℕ) → 2 * rules.left p.body + 3 < n
-        → Falls (after_join rules.strict spare s c p) n
-    joins spare sort.Task c p n l = either (rules.strict && not (before p.name c)) _ _ n (omega arith) l
-    joins spare sort.Promise c p n l = omega arith
-
-    sets : (s : Sort) (c : Name) (v : Value) (p : Point B) (n : ℕ) → 2 * rules.left p.body + 3 < n
-        → Falls (after_set s c v p) n
-    sets sort.Task c v p n l = omega arith
-    sets sort.Promise c v p n l = either (has c p.holds) _ _ n (omega arith) (omega arith)
-
-    forks : (b : B) (passed : List Reference) (handed : List Name) (o : Result (List Name) Cause) (p : Point B) (n : ℕ)
-        → 2 * rules.left p.body + 3 < n → Falls (after_try_fork b passed handed o p) n
-    forks b passed handed (Ok l) p n h = omega arith
-    forks b passed handed (Err c) p n h = omega arith
-
-    takes : (a : Ask B) (p : Point B) (n : ℕ) → 0 < n → (Ends a ⊎ (2 * rules.left p.body + 3 < n))
-        → Falls (after_ask rules.strict a p) n
-    takes ask.New p n z h = let l = not_last h in omega arith
-    takes (ask.Fork b pass hand) p n z h = forks b _ _ _ p n (not_last h)
-    takes (ask.Set k v) p n z h = sets _ _ _ p n (not_last h)
-    takes (ask.Get k) p n z h = gets _ _ _ p n (not_last h)
-    takes (ask.GetOr k) p n z h = gets _ _ _ p n (not_last h)
-    takes (ask.Join k) p n z h = joins _ _ _ p n (not_last h)
-    takes (ask.JoinOr k) p n z h = joins _ _ _ p n (not_last h)
-    takes (ask.Emit i) p n z h = let l = not_last h in omega arith
-    takes (ask.End v) p n z h = z
-    takes (ask.Fail t) p n z h = z
+    turns : (p : Point B) (a : Ask B) (p' : Point B) (n : ℕ) → IsTurn rules.strict p a p' → 0 < n
+        → (Ends a ⊎ (2 * rules.left p.body + 3 < n)) → Falls p' n
+    turns p _ _ n (fails a c) z h = z
+    turns p _ _ n (ends v) z h = z
+    turns p _ _ n makes z h = let l = not_last h in omega arith
+    turns p _ _ n (forks b pass hand left e) z h = let l = not_last h in omega arith
+    turns p _ _ n (sets k v s o) z h = let l = not_last h in omega arith
+    turns p _ _ n (gets spare k s) z h = get_goes_on B spare k h
+    turns p _ _ n (joins spare k s o) z h = join_goes_on B spare k h
+    turns p _ _ n (prints i) z h = let l = not_last h in omega arith
 
     reads : (spare : Bool) (c : Name) (e : Entry) (p : Point B) → Falls (after_read spare c e p) (2 * rules.left p.body + 3)
     reads true c entry.Broken p = omega arith
@@ -142,7 +111,9 @@ module _ {B : Type 0} (rules : Rules B) where
         → HasStopped V p ⊎ Falls (after_stage rules V st p) (weight_at rules.left p.body st)
     stops_or_falls V (stage.Answered a) p e g =
         let f = (obeys p.body a g.fits).falls in
-        inr (takes (rules.asks p.body a) (record p { body = rules.then p.body a }) (2 * rules.left p.body + 2) (omega arith)
+        let ask = rules.asks p.body a in
+        let next : Point B = record p { body = rules.then p.body a } in
+        inr (turns next ask _ (2 * rules.left p.body + 2) (is_turn rules.strict next ask) (omega arith)
         (⊎_elim (λ x. inl x) (λ l. inr (omega arith)) f))
     stops_or_falls V (stage.Waits q spare) p e g = by_entry (V q) refl where
       by_entry : (o : Option Entry) → V q ≡ o

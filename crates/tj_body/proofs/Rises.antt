@@ -1,6 +1,6 @@
 -- Rounds only grow.
-use Rattle.std.proofs.Common.{◌≡◌, ℕ, zero, suc, ◌+◌, ◌*◌, ◌-◌, ◌≤◌, List, [], ◌∷◌, map}
-use Rattle.std.proofs.Common.{Option, Some, None, refl, sym, ap, subst, arith}
+use Rattle.std.proofs.Common.{◌≡◌, ℕ, zero, suc, ◌+◌, ◌*◌, ◌-◌, ◌≤◌, List, [], map}
+use Rattle.std.proofs.Common.{Option, Some, None, refl, sym, subst, arith}
 use Rattle.std.specs.List.{flat_map}
 use Rattle.tj_base.specs.ForkOrder.{Name}
 use Rattle.tj_body.specs.Programs.{Rules, Program, root_task}
@@ -14,15 +14,14 @@ use Rattle.tj_body.specs.declared.point.Point.{Point}
 use Rattle.tj_body.proofs.Lists.{Sub, sub_nil, sub_cons, sub_begins, sub_in, flat_map_sub, from_flat_map}
 use Rattle.tj_body.proofs.Grows.{GoesOn, more}
 use Rattle.tj_body.proofs.Counts.{is, is_one, total, total_in, total_one, total_le, total_flat_map, times}
-use Rattle.tj_body.proofs.Counts.{times_of_in}
+use Rattle.tj_body.proofs.Counts.{times_map, times_of_in}
 use Rattle.tj_body.proofs.Counts.{wrote, in_of_times, at_most_one, distinct_of_times}
 use Rattle.tj_body.proofs.Prefixes.{begins}
 use Rattle.tj_body.proofs.Families.{uses, once_used, once_cell, used_cells, from_entry, to_entry}
 
 -- a name is written as often as it stands among the names of the entries
 pub names_wrote : (q : Name) (l : List (Name × Entry)) → times q (map (λ (w : Name × Entry). w.0) l) ≡ wrote q l
-names_wrote q [] = refl
-names_wrote q (w ∷ ws) = ap (λ z. is q w.0 + z) (names_wrote q ws)
+names_wrote = times_map (λ (w : Name × Entry). w.0)
 
 -- what has an entry is written
 pub wrote_of_in : (q : Name) (e : Entry) (l : List (Name × Entry)) → IsIn (q, e) l → 1 ≤ wrote q l

@@ -4,6 +4,7 @@ use Rattle.std.proofs.Common.{Some, length, refl, sym, ap, ◌∙◌, subst, ari
 use native.Mathlib.Decide.{dec_le}
 use mathlib.Core.Logic.{dite}
 use Rattle.std.specs.List.{flat_map}
+use Rattle.std.proofs.lemmas.List.{length-map}
 use Rattle.tj_base.specs.ForkOrder.{Name}
 use Rattle.tj_body.specs.Programs.{Rules, Program, root_task}
 use Rattle.tj_body.specs.History.{Assignment, history}
@@ -13,8 +14,8 @@ use Rattle.tj_body.specs.Points.{IsIn, IsWithin}
 use Rattle.tj_body.specs.Laws.{AreDistinct, IsLast}
 use Rattle.tj_body.specs.declared.point.Entry.{Entry}
 use Rattle.tj_body.specs.declared.point.Task.{Task}
-use Rattle.tj_body.proofs.Lists.{sub_length, sub_whole, flat_map_still}
-use Rattle.tj_body.proofs.Counts.{is, times, in_of_times, times_of_distinct, total, total_le}
+use Rattle.tj_body.proofs.Lists.{sub_length, sub_whole, flat_map_still, in_map, to_map}
+use Rattle.tj_body.proofs.Counts.{is, times, times_map, entry_of_wrote, times_of_distinct, total_le}
 use Rattle.tj_body.proofs.Counts.{total_flat_map, fewer, at_least, wrote}
 use Rattle.tj_body.proofs.Rises.{names_wrote, wrote_of_in, family_sub, once_name, once_entry, in_entries, of_entries}
 use Rattle.tj_body.proofs.Rises.{written_cells, up, tasks_sub, entries_sub, within, tasks_within, cells_within}
@@ -25,38 +26,9 @@ task_names l = map (λ t. t.name) l
 abbrev entry_names : List (Name × Entry) → List Name
 entry_names l = map (λ w. w.0) l
 
-names_length : (l : List (Name × Entry)) → length (entry_names l) ≡ length l
-names_length [] = refl
-names_length (w ∷ ws) = ap suc (names_length ws)
-
-tasks_length : {B : Type 0} (l : List (Task B)) → length (task_names l) ≡ length l
-tasks_length [] = refl
-tasks_length (t ∷ ts) = ap suc (tasks_length ts)
-
-named : {B : Type 0} (q : Name) (l : List (Task B))
-    → times q (task_names l) ≡ total (λ (t : Task B). is q t.name) l
-named q [] = refl
-named q (t ∷ ts) = ap (λ z. is q t.name + z) (named q ts)
-
-has_name : {B : Type 0} (q : Name) (l : List (Task B)) → IsIn q (task_names l)
-    → (t : Task B) × IsIn t l × (q ≡ t.name)
-has_name q [] i = absurd i
-has_name q (t ∷ ts) (inl e) = (t, inl refl, e)
-has_name q (t ∷ ts) (inr i) = let r = has_name q ts i in (r.0, inr r.1, r.2)
-
-name_in : {B : Type 0} (t : Task B) (l : List (Task B)) → IsIn t l → IsIn t.name (task_names l)
-name_in t [] i = absurd i
-name_in t (u ∷ us) (inl e) = inl (ap (λ (x : Task _). x.name) e)
-name_in t (u ∷ us) (inr i) = inr (name_in t us i)
-
-has_entry : (q : Name) (l : List (Name × Entry)) → IsIn q (entry_names l)
-    → (e : Entry) × IsIn (q, e) l
-has_entry q [] i = absurd i
-has_entry q (w ∷ ws) (inl x) = (w.1, inl (λ i. (x i, w.1)))
-has_entry q (w ∷ ws) (inr i) = let r = has_entry q ws i in (r.0, inr r.1)
-
 module _ {B : Type 0} (rules : Rules B) where
-  within_self : (V : Assignment) → IsWithin V V
+  -- an assignment lies within itself
+  pub within_self : (V : Assignment) → IsWithin V V
   within_self V q e h = h
 
   -- a family that adds no task with one generation more adds none with the next
@@ -142,7 +114,7 @@ module _ {B : Type 0} (program : Program B) where
 
   entries_cells : (n : ℕ) → length (entries_of n) ≤ length (cells_of n)
   entries_cells n =
-      let l = names_length (entries_of n) in
+      let l = length-map (entries_of n) (λ (w : Name × Entry). w.0) in
       let f = fewer (entry_names (entries_of n)) (cells_of n)
       (λ q. let a = names_wrote q (entries_of n) in let b = written_cells program n q in
       omega arith) in
@@ -195,7 +167,7 @@ module _ {B : Type 0} (program : Program B) where
       let b = total_flat_map (is q) (cells_by program.rules (V n)) (tasks_of (suc n)) in
       let c = total_le (λ (t : Task B). is q t.name) (λ t. times q (cells_by program.rules (V n) t))
       (λ t. omega arith) (tasks_of (suc n)) in
-      let d = named q (tasks_of (suc n)) in
+      let d = times_map (λ (t : Task B). t.name) q (tasks_of (suc n)) in
       omega arith
 
   -- a round with the tasks and the entries of the one before is the last
@@ -204,13 +176,13 @@ module _ {B : Type 0} (program : Program B) where
   settles_by_members n h g = settles_by_size n fewer_tasks fewer_entries where
     fewer_tasks : length (tasks_of (suc n)) ≤ length (tasks_of n)
     fewer_tasks =
-        let a = tasks_length (tasks_of n) in
-        let b = tasks_length (tasks_of (suc n)) in
+        let a = length-map (tasks_of n) (λ (t : Task B). t.name) in
+        let b = length-map (tasks_of (suc n)) (λ (t : Task B). t.name) in
         let f = fewer (task_names (tasks_of (suc n))) (task_names (tasks_of n))
         (λ q. at_least q (task_names (tasks_of (suc n))) (task_names (tasks_of n)) (task_once (suc n) q)
-        (λ i. let r = has_name q (tasks_of (suc n)) i in
+        (λ i. let r = in_map (λ (t : Task B). t.name) q (tasks_of (suc n)) i in
         subst (λ z. IsIn z (task_names (tasks_of n))) (sym r.2)
-        (name_in r.0 (tasks_of n) (h r.0 r.1)))) in
+        (to_map (λ (t : Task B). t.name) r.0 (tasks_of n) (h r.0 r.1)))) in
         omega arith
 
     entry_there : (q : Name) → wrote q (entries_of (suc n)) ≤ wrote q (entries_of n)
@@ -218,8 +190,7 @@ module _ {B : Type 0} (program : Program B) where
         let a = names_wrote q (entries_of (suc n)) in
         let o = once_entry program (suc n) q in
         dite (dec_le 1 (wrote q (entries_of (suc n))))
-        (λ l. let i = in_of_times q (entry_names (entries_of (suc n))) (omega arith) in
-        let r = has_entry q (entries_of (suc n)) i in
+        (λ l. let r = entry_of_wrote q (entries_of (suc n)) l in
         let w = wrote_of_in q r.0 (entries_of n)
         (in_entries program n q r.0
         (g q r.0 (of_entries program (suc n) q r.0 r.1))) in
@@ -228,8 +199,8 @@ module _ {B : Type 0} (program : Program B) where
 
     fewer_entries : length (entries_of (suc n)) ≤ length (entries_of n)
     fewer_entries =
-        let a = names_length (entries_of n) in
-        let b = names_length (entries_of (suc n)) in
+        let a = length-map (entries_of n) (λ (w : Name × Entry). w.0) in
+        let b = length-map (entries_of (suc n)) (λ (w : Name × Entry). w.0) in
         let f = fewer (entry_names (entries_of (suc n))) (entry_names (entries_of n))
         (λ q. let x = names_wrote q (entries_of n) in
         let y = names_wrote q (entries_of (suc n)) in
@@ -256,7 +227,8 @@ module _ {B : Type 0} (program : Program B) where
       let s = settles N h in
       (same_from s.0 n (omega arith) s.2).0 ∙ sym (same_from s.0 (2 * N) s.1 s.2).0
 
-  last_tasks : (N : ℕ) → length (cells_of (last_round N)) ≤ N → (n : ℕ) → 2 * N ≤ n
+  -- and so do the tasks, from the next round on
+  pub last_tasks : (N : ℕ) → length (cells_of (last_round N)) ≤ N → (n : ℕ) → 2 * N ≤ n
       → tasks_of (suc n) ≡ tasks_of (suc (2 * N))
   last_tasks N h n l =
       let s = settles N h in

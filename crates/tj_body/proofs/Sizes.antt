@@ -1,5 +1,5 @@
 -- What a point has made so far, counted against the cells of the rounds.
-use Rattle.std.proofs.Common.{◌≡◌, ℕ, zero, suc, ◌+◌, ◌≤◌, inl, inr, ⊎_elim, List, [], ◌∷◌, ◌++◌, length}
+use Rattle.std.proofs.Common.{◌≡◌, ℕ, zero, suc, ◌+◌, ◌≤◌, inl, inr, List, ◌∷◌, ◌++◌, length}
 use Rattle.std.proofs.Common.{refl, sym, ap, ◌∙◌, subst, arith, length-append}
 use native.Mathlib.Decide.{dec_le}
 use mathlib.Core.Logic.{dite}
@@ -14,7 +14,7 @@ use Rattle.tj_body.specs.Laws.{CountsInRound, CountsMade}
 use Rattle.tj_body.specs.declared.point.Task.{Task}
 use Rattle.tj_body.specs.declared.point.Point.{Point}
 use Rattle.tj_body.proofs.Lists.{sub_begins, sub_length, in_right}
-use Rattle.tj_body.proofs.Counts.{is, total, total_le, times, times_of_in, in_of_times, fewer, at_least}
+use Rattle.tj_body.proofs.Counts.{is, total_some, name_of_is, total, total_le, times, times_of_in, in_of_times, fewer, at_least}
 use Rattle.tj_body.proofs.Counts.{at_most_one}
 use Rattle.tj_body.proofs.Prefixes.{begins, under, under_is, numbered_once}
 use Rattle.tj_body.proofs.Accounts.{numbered, fair}
@@ -27,18 +27,6 @@ use Rattle.tj_body.proofs.Keeps.{task_cell, promised, forked}
 numbered_length : (x : Name) (m : ℕ) → length (numbered x m) ≡ m
 numbered_length x zero = refl
 numbered_length x (suc m) = ap suc (numbered_length x m)
-
--- one whose name counts stands in the list
-counted : {B : Type 0} (q : Name) (l : List (Task B)) → 1 ≤ total (λ (c : Task B). is q c.name) l
-    → (c : Task B) × IsIn c l × (1 ≤ is q c.name)
-counted q [] h = absurd (omega arith)
-counted q (x ∷ xs) h =
-    dite (dec_le 1 (is q x.name)) (λ l. (x, inl refl, l))
-    (λ l. let r = counted q xs (omega arith) in (r.0, inr r.1, r.2))
-
-name_of_is : (q x : Name) → 1 ≤ is q x → q ≡ x
-name_of_is q x h =
-    ⊎_elim (λ e. e) (λ i. absurd i) (in_of_times q (x ∷ []) (omega arith))
 
 module _ {B : Type 0} (program : Program B) (obeys : AreLawful program.rules)
     (proper : IsProper program.rules (root_task program.root)) where
@@ -104,7 +92,7 @@ module _ {B : Type 0} (program : Program B) (obeys : AreLawful program.rules)
         (λ l. cells_within program (suc n) (suc (suc n)) (omega arith) q
         (promised program obeys proper n t p i h q
         (in_of_times q p.promises l)))
-        (λ l. let c = counted q p.children (omega arith) in
+        (λ l. let c = total_some (λ (c : Task B). is q c.name) p.children (omega arith) in
         subst (λ z. IsIn z (cells_of (suc (suc n)))) (sym (name_of_is q c.0.name c.2))
         (task_cell program (suc n) c.0
         (forked program obeys proper n t p i h c.0 c.1)))

@@ -5,7 +5,10 @@ pub mod Rounds
 pub mod Points
 pub mod Programs
 pub mod Laws
+pub mod NameLaws
 pub mod RoundPoints
+pub mod Turns
 pub mod Table
 pub mod TableLaws
 pub mod NeverWaits
+pub mod WaitGraph

@@ -1,5 +1,5 @@
 -- Points in rounds, without the numbers of the rounds.
-use Rattle.std.specs.Prelude.{◌≡◌, ◌↔◌, ◌⊎◌, ℕ, suc, ◌<◌, ◌≤◌, Bool, List, ◌++◌, map, length, Some}
+use Rattle.std.specs.Prelude.{◌≡◌, ◌↔◌, ◌⊎◌, ℕ, suc, ◌<◌, ◌≤◌, Bool, ◌++◌, map, length, Some}
 use Rattle.tj_base.specs.ForkOrder.{Name, child}
 use Rattle.tj_base.specs.declared.cell.Sort.{Sort}
 use Rattle.tj_base.specs.declared.cell.Sort.TheVariants as sort
@@ -16,6 +16,10 @@ use Rattle.tj_body.specs.declared.point.Entry.{Entry}
 use Rattle.tj_body.specs.declared.point.PointStage.TheVariants as stage
 use Rattle.tj_body.specs.declared.point.Task.{Task}
 use Rattle.tj_body.specs.declared.point.Point.{Point}
+
+-- the point has made this, as a promise or as a child
+abbrev pub HasMade : {B : Type 0} → Point B → Name → Type 0
+HasMade {B} p q = IsIn q p.promises ⊎ ((c : Task B) × IsIn c p.children × (c.name ≡ q))
 
 module _ {B : Type 0} (program : Program B) where
   -- the cell has this entry in some round
@@ -81,10 +85,6 @@ module _ {B : Type 0} (program : Program B) where
   -- each reference of a point is to a task or a promise, as its sort says
   abbrev pub ReferencesAreNamed : Type 0
   ReferencesAreNamed = (p : Point B) (r : Reference) → IsOfRounds p → IsIn r p.references → IsNamed r.sort r.name
-
-  -- the point has made this, as a promise or as a child
-  abbrev pub HasMade : Point B → Name → Type 0
-  HasMade p q = IsIn q p.promises ⊎ ((c : Task B) × IsIn c p.children × (c.name ≡ q))
 
   -- what a point has made are the things 1 to made of its task, each of them once
   abbrev pub ThingsAreMade : Type 0

@@ -5,6 +5,13 @@ ghost use Rattle.tj_body.specs.Laws.{IsMonotone, AsksOn, IsAllGood, Grows, IsApa
 ghost use Rattle.tj_body.specs.Laws.{OwnsApart, CountsInRound, CountsMade};
 ghost use Rattle.tj_body.specs.Laws.{IsSettledWhereSame, IsSettledBySize, IsFullExactly};
 ghost use Rattle.tj_body.specs.Laws.{IsFullWhere, IsLast, ReadsOn, IsKept, RestsAtMeaning};
+ghost use Rattle.tj_body.specs.NameLaws.{SameIsEqual, OrderedIsOne, OrderedHasSame, OrderedIsSame};
+ghost use Rattle.tj_body.specs.NameLaws.{NamesTellCells};
+ghost use Rattle.tj_body.specs.RoundPoints.{PointsStay, TasksStart, PointsAsk, PointsRead};
+ghost use Rattle.tj_body.specs.RoundPoints.{WritesBecome, ThingsInRounds, EntriesAreOne};
+ghost use Rattle.tj_body.specs.RoundPoints.{PointsAreGood, AsksArePlaced, ReferencesAreNamed};
+ghost use Rattle.tj_body.specs.RoundPoints.{ThingsAreMade, StepsExtend};
+ghost use Rattle.tj_body.specs.WaitGraph.{OwnersWait, WaitsLeadToCycle};
 ghost use Rattle.tj_body.specs.NeverWaits.{JoinsInOrderEnd, StrictWithoutGetEnds};
 
 use crate::body::Body;
@@ -99,9 +106,73 @@ pub fn point_counts_made<B: Body>()
     ensures { HoldsOfPrograms B.places B.awaits B.left B.asks B.then CountsMade }
 {}
 
+/// Points in rounds, without the numbers of the rounds: a point is one that some task of some round
+/// has under the assignment of some round.
+pub fn points_in_rounds<B: Body>()
+    // A point under one round is one under each later round.
+    ensures later { HoldsOfPrograms B.places B.awaits B.left B.asks B.then PointsStay }
+
+    // The root is a task of some round, and the start of each such task is a point.
+    ensures start { HoldsOfPrograms B.places B.awaits B.left B.asks B.then TasksStart }
+
+    // One ask more of a point is a point.
+    ensures ask { HoldsOfPrograms B.places B.awaits B.left B.asks B.then PointsAsk }
+
+    // What has become of the cell that a point waits for is its answer.
+    ensures read { HoldsOfPrograms B.places B.awaits B.left B.asks B.then PointsRead }
+
+    // What a point has written becomes so in some round.
+    ensures written { HoldsOfPrograms B.places B.awaits B.left B.asks B.then WritesBecome }
+
+    // The promises that a point has made are cells of some round, and its children are tasks.
+    ensures things { HoldsOfPrograms B.places B.awaits B.left B.asks B.then ThingsInRounds }
+
+    // No cell has two entries, and what has one is a cell.
+    ensures one_entry { HoldsOfPrograms B.places B.awaits B.left B.asks B.then EntriesAreOne }
+
+    // A point is one from which its task can go on.
+    ensures good { HoldsOfPrograms B.places B.awaits B.left B.asks B.then PointsAreGood }
+
+    // Each place of an ask is that of one of the point's references.
+    ensures placed { HoldsOfPrograms B.places B.awaits B.left B.asks B.then AsksArePlaced }
+
+    // Each reference is to a task or to a promise, as its sort says.
+    ensures references { HoldsOfPrograms B.places B.awaits B.left B.asks B.then ReferencesAreNamed }
+
+    // What a point has made are the things 1 to `made` of its task, each of them once.
+    ensures made { HoldsOfPrograms B.places B.awaits B.left B.asks B.then ThingsAreMade }
+
+    // An ask and an answer only add to what a point has.
+    ensures extended { HoldsOfPrograms B.places B.awaits B.left B.asks B.then StepsExtend }
+{}
+
+/// Lists of names, their order, and names for cells that are told by number.
+pub fn names_and_cells()
+    ensures same { SameIsEqual }
+
+    // In name order a list has the names that it had, is in order, and is the only such list.
+    ensures ordered { OrderedIsOne }
+    ensures elements { OrderedHasSame }
+
+    // Lists with the same names are the same in order.
+    ensures permuted { OrderedIsSame }
+
+    // What is owned and handed by number is what is owned and handed by name.
+    ensures cells { NamesTellCells }
+{}
+
 /// What stands at rest, with at most N cells, is the meaning with limit N.
 pub fn rest_is_meaning<B: Body>()
     ensures { HoldsOfPrograms B.places B.awaits B.left B.asks B.then RestsAtMeaning }
+{}
+
+/// In a meaning that isn't full, waits lead to a cycle.
+pub fn waits_lead_to_a_cycle<B: Body>()
+    // What a task waits for has no entry, and has an owner among the tasks, which waits too.
+    ensures owners { HoldsOfPrograms B.places B.awaits B.left B.asks B.then OwnersWait }
+
+    // From each task that waits, waits lead to a task on a cycle.
+    ensures cycle { HoldsOfPrograms B.places B.awaits B.left B.asks B.then WaitsLeadToCycle }
 {}
 
 /// Where tasks wait in the fork order for tasks of the meaning, none waits.

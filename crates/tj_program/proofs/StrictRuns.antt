@@ -1,5 +1,5 @@
 -- Strict runs of scripts without `get`, from the laws of the crates below.
-use Rattle.std.proofs.Common.{ℕ, ◌≤◌, true, false, List, String, IsTrue, refl, sym, subst, arith}
+use Rattle.std.proofs.Common.{ℕ, ◌≤◌, Bool, true, false, List, String, IsTrue, refl, sym, subst, arith}
 use Rattle.tj_body.specs.Asks.{IsFresh}
 use Rattle.tj_body.specs.Programs.{rules_of}
 use Rattle.tj_body.specs.NeverWaits.{IsNoGet, IsWithoutGet}

@@ -1,3 +1,4 @@
+use Rattle.std.proofs.Common.{true}
 use denote.Param.Send.{sendable}
 use Rattle.std.proofs.Crossing.{crosses}
 use Rattle.tj_program.proofs.Sends.{expr_sync, stmt_sync, script_sync}
