@@ -1,9 +1,10 @@
-pub mod OwnedNames
-pub mod RoundSteps
-pub mod Told
-pub mod ToldOutcomes
+pub mod Elements
+pub mod LeastCycles
 pub mod NameOrder
-pub mod WaysBack
-pub mod Trails
-pub mod OneOutcome
 pub mod NoWaits
+pub mod OneOutcome
+pub mod OwnedNames
+pub mod Places
+pub mod RoundSteps
+pub mod SettledRounds
+pub mod ToldOutcomes

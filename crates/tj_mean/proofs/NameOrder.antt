@@ -21,6 +21,7 @@ use Rattle.tj_body.specs.Points.{IsIn}
 use Rattle.tj_body.specs.Laws.{AreDistinct}
 use Rattle.tj_body.proofs.Counts.{is, times, same_is, distinct_of_times, times_of_distinct}
 use Rattle.tj_mean.specs.Outcomes.{Ascend}
+use Rattle.tj_mean.proofs.Elements.{all_of_in, in_of_all}
 
 abbrev pub order : Name → Name → Ordering
 order x y = slice_cmp nat_cmp x y
@@ -88,15 +89,6 @@ module _ {A : Type 0} (key : A → Name) where
       omega arith)
 
 module _ {A : Type 0} where
-  all_of_in : (P : A → Type 0) (xs : List A) → ((x : A) → IsIn x xs → P x) → All P xs
-  all_of_in P [] h = λ k d l. absurd (omega arith)
-  all_of_in P (x ∷ xs) h = All-cons P x xs (h x (inl refl)) (all_of_in P xs (λ y i. h y (inr i)))
-
-  in_of_all : (P : A → Type 0) (xs : List A) → All P xs → (x : A) → IsIn x xs → P x
-  in_of_all P [] a x i = absurd i
-  in_of_all P (y ∷ ys) a x (inl e) = subst P (sym e) (a 0 y (omega arith))
-  in_of_all P (y ∷ ys) a x (inr i) = in_of_all P ys (λ k d l. a (suc k) d (omega arith)) x i
-
   -- another order has the same elements
   pub in_permuted : (xs ys : List A) → IsPermutation xs ys → (x : A) → IsIn x ys → IsIn x xs
   in_permuted xs ys p =

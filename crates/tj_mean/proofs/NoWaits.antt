@@ -1,41 +1,43 @@
 -- The outcome of histories of which none waits.
 use Rattle.std.proofs.Common.{◌≡◌, inl, List, [], ◌∷◌, map, refl, sym, ap, ◌∙◌}
 use Rattle.tj_base.specs.ForkOrder.{Name}
-use Rattle.tj_body.specs.History.{Assignment}
-use Rattle.tj_body.specs.Points.{IsIn, HasStopped}
+use Rattle.tj_body.specs.Points.{IsIn}
 use Rattle.tj_body.specs.NeverWaits.{NoneWaits}
 use Rattle.tj_body.specs.declared.point.Point.{Point}
 use Rattle.tj_body.proofs.Lists.{in_map}
-use Rattle.tj_mean.specs.Outcomes.{line_of, IsCycle, Waits, Owns, IsOutcome}
+use Rattle.tj_mean.specs.Outcomes.{AreTold, IsCycle, Waits, IsOutcome}
 use Rattle.tj_mean.specs.OutcomeLaws.{HasNoWait}
 use Rattle.tj_mean.specs.declared.outcome.Ending.TheVariants as ending
 use Rattle.tj_mean.specs.declared.outcome.Link.{Link}
 use Rattle.tj_mean.specs.declared.outcome.Outcome.{Outcome}
 use Rattle.tj_mean.specs.declared.outcome.TaskLine.{TaskLine}
+use Rattle.tj_mean.specs.declared.stopped.Stopped.{Stopped}
+use Rattle.tj_mean.proofs.Elements.{in_of_all}
 use Rattle.tj_mean.proofs.NameOrder.{in_permuted}
-use Rattle.tj_mean.proofs.ToldOutcomes.{waits_at, not_answered}
+use Rattle.tj_mean.proofs.ToldOutcomes.{told_of, told_waits}
 
 empty : {A : Type 0} (l : List A) → ((x : A) → IsIn x l → ⊥) → l ≡ []
 empty [] h = refl
 empty (x ∷ xs) h = absurd (h x (inl refl))
 
-module _ {B : Type 0} (V : Assignment) (ps : List (Point B)) (stop : (p : Point B) → IsIn p ps → HasStopped V p)
-    (none : NoneWaits ps) where
-  no_cycle : (c : List Link) → IsCycle (Waits ps) (Owns ps) c → ⊥
-  no_cycle [] h = h
-  no_cycle (l ∷ ls) h = let w = h.0.0 in none w.0 l.cell w.1 w.2 w.4
+module _ {B : Type 0} (ps : List (Point B)) (none : NoneWaits ps) (ss : List Stopped) (told : AreTold ps ss) where
+  no_wait : (s : Stopped) (q : Name) → IsIn s ss → s.line.ending ≡ ending.Waits q → ⊥
+  no_wait s q i e =
+      let p = told_of ps ss told s i in
+      let w = told_waits p.0 s q p.2 e in none p.0 q w.0 p.1 w.1
 
-  no_line : (o : Outcome) → IsOutcome ps o → (l : TaskLine) (q : Name) → IsIn l o.lines → l.ending ≡ ending.Waits q
-      → ⊥
-  no_line o x l q i e =
-      let r = in_map line_of l ps (in_permuted (map line_of ps) o.lines x.lines l i) in
-      let p = r.0 in
-      let w = waits_at p.stage q (sym (ap (λ (z : TaskLine). z.ending) r.2) ∙ e) (not_answered V p (stop p r.1)) in
-      none p q w.0 r.1 w.1
+  no_cycle : (c : List Link) → IsCycle ss c → ⊥
+  no_cycle [] c = c.tasks
+  no_cycle (l ∷ ls) c =
+      let w = in_of_all (λ (m : Link). Waits ss m.task m.cell) (l ∷ ls) c.cells l (inl refl) in
+      no_wait w.0 l.cell w.1 w.3
 
-  -- has no wait
-  pub has_no_wait : (o : Outcome) → IsOutcome ps o → HasNoWait o
-  has_no_wait o x = record {
-    no_cycle = empty o.cycles (λ c i. no_cycle c ((x.cycles.0 c).0 i));
-    none_waits = no_line o x;
-  }
+-- has no wait
+pub has_no_wait : {B : Type 0} (ps : List (Point B)) → NoneWaits ps → (o : Outcome) → IsOutcome ps o → HasNoWait o
+has_no_wait ps none o (ss, told, x) = record {
+  no_cycle = empty o.cycles (λ c i. no_cycle ps none ss told c ((x.cycles.0 c).0 i));
+  none_waits = λ l q i e.
+      let lines = map (λ (s : Stopped). s.line) ss in
+      let r = in_map (λ (s : Stopped). s.line) l ss (in_permuted lines o.lines x.lines l i) in
+      no_wait ps none ss told r.0 q r.1 (sym (ap (λ (z : TaskLine). z.ending) r.2) ∙ e);
+}

@@ -7,12 +7,15 @@ use Rattle.std.specs.declared.cmp.Ordering.TheVariants.{Less}
 use Rattle.tj_base.specs.ForkOrder.{Name}
 use Rattle.tj_body.specs.Points.{IsIn}
 use Rattle.tj_body.specs.declared.point.Point.{Point}
-use Rattle.tj_mean.specs.Outcomes.{line_of, first_task, Ascend}
+use Rattle.tj_mean.specs.Outcomes.{IsOutcomeOf, first_task, Ascend}
+use Rattle.tj_mean.specs.declared.outcome.Outcome.{Outcome}
+use Rattle.tj_mean.specs.declared.stopped.Stopped.{Stopped}
+use Rattle.tj_mean.proofs.ToldOutcomes.{same_told}
 use Rattle.tj_mean.specs.OutcomeLaws.{HasOneOutcome}
 use Rattle.tj_mean.specs.declared.outcome.Link.{Link}
 use Rattle.tj_mean.specs.declared.outcome.TaskLine.{TaskLine}
 use Rattle.tj_mean.proofs.NameOrder.{order, in_permuted, in_unpermuted}
-use Rattle.tj_mean.proofs.Trails.{not_less}
+use Rattle.tj_mean.proofs.Places.{not_less}
 
 module _ {A : Type 0} (key : A → Name) where
   later : (x : A) (ys : List A) → AllByRecursion (λ z. order (key x) z ≡ Less) (map key ys) → (y : A) → IsIn y ys
@@ -51,14 +54,23 @@ module _ {A : Type 0} (key : A → Name) where
       (λ z i. in_rest y x z ys xs (sym e) b.0 i (g z (inr i))) in
       λ i. e i ∷ r i
 
--- two outcomes of the same histories have the same lines and the same cycles
-pub has_one_outcome : {B : Type 0} (ps : List (Point B)) → HasOneOutcome ps
-has_one_outcome ps a b x y = λ i. record { lines = lines i; cycles = cycles i } where
+-- two outcomes of the same tasks have the same lines and the same cycles
+outcome_one : (ss : List Stopped) (a b : Outcome) → IsOutcomeOf ss a → IsOutcomeOf ss b → a ≡ b
+outcome_one ss a b x y = λ i. record { lines = lines i; cycles = cycles i } where
+  told : List TaskLine
+  told = map (λ (s : Stopped). s.line) ss
+
   lines : a.lines ≡ b.lines
   lines = same_in_order (λ (l : TaskLine). l.name) a.lines b.lines x.lines_in_order y.lines_in_order
-      (λ l i. in_unpermuted (map line_of ps) b.lines y.lines l (in_permuted (map line_of ps) a.lines x.lines l i))
-      (λ l i. in_unpermuted (map line_of ps) a.lines x.lines l (in_permuted (map line_of ps) b.lines y.lines l i))
+      (λ l i. in_unpermuted told b.lines y.lines l (in_permuted told a.lines x.lines l i))
+      (λ l i. in_unpermuted told a.lines x.lines l (in_permuted told b.lines y.lines l i))
 
   cycles : a.cycles ≡ b.cycles
-  cycles = same_in_order (λ (c : List Link). first_task c []) a.cycles b.cycles x.cycles.1 y.cycles.1
+  cycles = same_in_order first_task a.cycles b.cycles x.cycles.1 y.cycles.1
       (λ c i. (y.cycles.0 c).1 ((x.cycles.0 c).0 i)) (λ c i. (x.cycles.0 c).1 ((y.cycles.0 c).0 i))
+
+-- and so do those of the same histories
+pub has_one_outcome : {B : Type 0} (ps : List (Point B)) → HasOneOutcome ps
+has_one_outcome ps a b (ss, t, x) (us, u, y) =
+    let same_list : ss ≡ us = same_told ss us (sym t ∙ u) in
+    outcome_one us a b (subst (λ l. IsOutcomeOf l a) same_list x) y

@@ -1,6 +1,6 @@
 -- A round, task by task: what is taken, what is still to be taken, and when it has too many cells.
 use Rattle.std.proofs.Common.{◌≡◌, ℕ, zero, suc, ◌+◌, ◌-◌, ◌<◌, ◌≤◌, inl, ⊎_elim, Bool, List, [], ◌∷◌, ◌++◌, map}
-use Rattle.std.proofs.Common.{length}
+use Rattle.std.proofs.Common.{length, Option, Some}
 use Rattle.std.proofs.Common.{refl, sym, ap, ◌∙◌, subst, arith, length-append, append_assoc}
 use Rattle.std.specs.List.{flat_map}
 use Rattle.std.proofs.lemmas.Grind.{flat_map-append}
@@ -17,10 +17,11 @@ use Rattle.tj_body.proofs.Lists.{in_right}
 use Rattle.tj_body.proofs.Sizes.{counts_in_round, counts_made}
 use Rattle.tj_body.proofs.Settles.{full_somewhere}
 use Rattle.tj_mean.specs.Exceeds.{ExceedsAtPoint}
-use Rattle.tj_mean.specs.KeptRounds.{stopped_of, offspring, still, IsRound}
+use Rattle.tj_mean.specs.KeptRounds.{offspring, still, IsRound}
+use Rattle.tj_mean.specs.Outcomes.{stopped_of}
 use Rattle.tj_mean.specs.declared.round.Pending.{Pending}
 use Rattle.tj_mean.specs.declared.round.Round.{Round}
-use Rattle.tj_mean.specs.declared.round.Stopped.{Stopped}
+use Rattle.tj_mean.specs.declared.stopped.Stopped.{Stopped}
 
 module _ {B : Type 0} (rules : Rules B) (V : Assignment) where
   abbrev family_of : ℕ → Task B → List (Task B)
@@ -82,7 +83,7 @@ module _ {B : Type 0} (program : Program B) (n : ℕ) where
   abbrev cells_in : List (Task B) → List Name
   cells_in l = flat_map (cells_by program.rules V) l
 
-  abbrev kept_of : Task B → Stopped
+  abbrev kept_of : Task B → Option Stopped
   kept_of t = stopped_of (history program.rules V t)
 
   abbrev writes : Task B → List (Name × Entry)
@@ -93,7 +94,7 @@ module _ {B : Type 0} (program : Program B) (n : ℕ) where
       (counted : ℕ) : Type 0 where
     pub taken : List (Task B)
     pub whole : taken ++ still program.rules V pending ≡ tasks_of
-    pub kept_taken : kept ≡ map (λ t. stopped_of (history program.rules V t)) taken
+    pub kept_taken : map Some kept ≡ map (λ t. stopped_of (history program.rules V t)) taken
     pub written_taken : written ≡ flat_map (writes_by program.rules V) taken
     pub counted_taken : counted ≡ length (cells_in taken)
 
@@ -104,7 +105,7 @@ module _ {B : Type 0} (program : Program B) (n : ℕ) where
     taken = [];
     whole = ap (λ l. still program.rules V l) p
         ∙ ap (λ x. family program.rules V w.depth x) t ∙ ap (λ k. family program.rules V k root) d;
-    kept_taken = k;
+    kept_taken = ap (λ (l : List Stopped). map Some l) k;
     written_taken = e;
     counted_taken = refl;
   }
@@ -151,7 +152,7 @@ module _ {B : Type 0} (program : Program B) (n : ℕ) where
       -- what stands when it was taken
       pub takes : (p : Point B) → p ≡ history program.rules V w.task
           → (pending' : List (Pending B)) → still program.rules V pending' ≡ after p.children
-          → (kept' : List Stopped) → kept' ≡ kept ++ stopped_of p ∷ []
+          → (kept' : List Stopped) → map Some kept' ≡ map Some kept ++ stopped_of p ∷ []
           → (written' : List (Name × Entry)) → written' ≡ written ++ p.writes
           → (counted' : ℕ) → counted' ≡ counted + suc (length p.promises) → IsUnder pending' kept' written' counted'
       takes p e pending' s kept' k written' wr counted' co = record {

@@ -1,153 +1,187 @@
--- The outcome that is told of what was kept of the meaning's histories is that of the meaning.
-use Rattle.std.proofs.Common.{◌↔◌, ◌≡◌, ℕ, suc, ◌*◌, ◌≤◌, inl, inr, Bool, List, [], ◌∷◌, map}
+-- What is told of histories that have stopped, in any order, and of those of a meaning.
+use Rattle.std.proofs.Common.{◌↔◌, ◌≡◌, ℕ, suc, ◌*◌, ◌≤◌, inl, inr, Bool, Option, Some, None, List, [], ◌∷◌, map, drop, get_or}
 use Rattle.std.proofs.Common.{refl, sym, ap, ◌∙◌, subst, arith}
+use Rattle.std.specs.Prelude.{unwrap_or}
 use Rattle.std.specs.List.{flat_map}
 use Rattle.std.specs.List.Sorted.{IsPermutation}
-use Rattle.std.proofs.lemmas.List.Sorted.{IsPermutation-map}
+use Rattle.std.specs.Option.{option_map}
+use Rattle.std.proofs.lemmas.List.Sorted.{IsPermutation-map, IsPermutation-sym, IsPermutation-trans}
 use Rattle.tj_base.specs.ForkOrder.{Name}
+use Rattle.tj_base.proofs.CyclesOn.{cycle_list_moves}
 use Rattle.tj_body.specs.Programs.{Program}
 use Rattle.tj_body.specs.History.{Assignment, history, owned, owned_in}
+use Rattle.tj_body.specs.Names.{same}
 use Rattle.tj_body.specs.Rounds.{cells_by, given, tasks, cells, last_round, meaning}
-use Rattle.tj_body.specs.Points.{IsIn, IsProper, HasStopped}
-use Rattle.tj_body.specs.declared.ask.Answer.{Answer}
+use Rattle.tj_body.specs.Points.{IsIn}
 use Rattle.tj_body.specs.declared.point.Task.{Task}
 use Rattle.tj_body.specs.declared.point.Point.{Point}
 use Rattle.tj_body.specs.declared.point.PointStage.{PointStage}
 use Rattle.tj_body.specs.declared.point.PointStage.TheVariants as stage
 use Rattle.tj_body.specs.declared.point.Close.TheVariants as close
 use Rattle.tj_body.proofs.Counts.{is, times, total_append, distinct_of_times}
-use Rattle.tj_body.proofs.Lists.{in_map, to_map}
+use Rattle.tj_body.proofs.Lists.{in_map}
 use Rattle.tj_body.proofs.Families.{same_name}
 use Rattle.tj_body.proofs.Rises.{once_name, owners_apart}
-use Rattle.tj_mean.specs.KeptRounds.{stopped_of, owned_with, owned_by, WaitsOf, OwnsOf, AreApart, IsToldOf}
-use Rattle.tj_mean.specs.Outcomes.{ending_of, first_task, LeadTo, IsCycle, Waits, Owns, IsOutcome, Ascend, AreCycles}
+use Rattle.tj_mean.specs.Outcomes.{ending_of, stopped_of, AreTold, owned_by, Waits, Owns, Leads, IsCycle, AreCycles}
+use Rattle.tj_mean.specs.Outcomes.{AreApart, IsOutcomeOf, IsOutcome, shown_of}
+use Rattle.tj_mean.specs.Places.{waited}
 use Rattle.tj_mean.specs.declared.outcome.Ending.{Ending}
 use Rattle.tj_mean.specs.declared.outcome.Ending.TheVariants as ending
 use Rattle.tj_mean.specs.declared.outcome.Link.{Link}
 use Rattle.tj_mean.specs.declared.outcome.Outcome.{Outcome}
 use Rattle.tj_mean.specs.declared.outcome.TaskLine.{TaskLine}
-use Rattle.tj_mean.specs.declared.round.Stopped.{Stopped}
+use Rattle.tj_mean.specs.declared.stopped.Stopped.{Stopped}
+use Rattle.tj_mean.proofs.Elements.{some_is}
 use Rattle.tj_mean.proofs.NameOrder.{distinct_permuted, in_permuted, in_unpermuted}
-use Rattle.tj_mean.proofs.Told.{map_map}
+use Rattle.tj_mean.proofs.SettledRounds.{map_map}
 
--- what is kept of a task tells what it owns
-same_owned : (st : PointStage) (x : Name) (holds : List Name) → owned_with (ending_of st) x holds ≡ owned_in st x holds
-same_owned (stage.Answered a) x holds = refl
-same_owned (stage.Waits q spare) x holds = refl
-same_owned (stage.Closed (close.Done v)) x holds = refl
-same_owned (stage.Closed (close.Failed c)) x holds = refl
+-- tasks that are among others wait and own as these do
+module _ (ss us : List Stopped) (to : (s : Stopped) → IsIn s ss → IsIn s us) where
+  waits_to : (x q : Name) → Waits ss x q → Waits us x q
+  waits_to x q (s, i, n, e) = (s, to s i, n, e)
 
--- cycles stay cycles where the relations are as large
-module _ (W O W' O' : Name → Name → Type 0) (w : (x q : Name) → W x q → W' x q)
-    (o : (y q : Name) → O y q → O' y q) where
-  lead_on : (x : Name) (c : List Link) → LeadTo W O x c → LeadTo W' O' x c
-  lead_on x [] h = tt
-  lead_on x (l ∷ ls) h = (w l.task l.cell h.0, o (first_task ls x) l.cell h.1, lead_on x ls h.2)
+  cycle_to : (c : List Link) → IsCycle ss c → IsCycle us c
+  cycle_to c k = record {
+    tasks = cycle_list_moves (Leads ss) (Leads us)
+        (λ x y z l m. (l.0, waits_to x l.0 l.1, (l.2.0, to l.2.0 l.2.1, l.2.2, l.2.3))) same
+        (map (λ (l : Link). l.task) c) k.tasks;
+    cells = λ i d l. let m : Link = get_or c i d in waits_to m.task m.cell (k.cells i d l);
+    least = k.least;
+  }
 
-  cycle_on : (c : List Link) → IsCycle W O c → IsCycle W' O' c
-  cycle_on [] h = h
-  cycle_on (l ∷ ls) h = (lead_on l.task (l ∷ ls) h.0, h.1, h.2)
-
--- all cycles of two relations are all cycles of two that are the same
-cycles_on : (W O W' O' : Name → Name → Type 0) → ((x q : Name) → W x q ↔ W' x q) → ((y q : Name) → O y q ↔ O' y q)
-    → (cs : List (List Link)) → AreCycles W O cs → AreCycles W' O' cs
-cycles_on W O W' O' w o cs a = (
-  λ c. (
-    λ i. cycle_on W O W' O' (λ x q. (w x q).0) (λ y q. (o y q).0) c ((a.0 c).0 i),
-    λ h. (a.0 c).1 (cycle_on W' O' W O (λ x q. (w x q).1) (λ y q. (o y q).1) c h),
-  ),
-  a.1,
-)
-
-module _ (tasks sorted : List Stopped) (p : IsPermutation tasks sorted) where
+module _ (ss us : List Stopped) (p : IsPermutation ss us) where
   -- tasks that are apart are so in another order
-  pub apart_in_order : AreApart tasks → AreApart sorted
+  pub apart_in_order : AreApart ss → AreApart us
   apart_in_order a = record {
-    names = distinct_permuted (λ (s : Stopped). s.line.name) tasks sorted p a.names;
-    owners = λ s u q i j x y. a.owners s u q (in_permuted tasks sorted p s i) (in_permuted tasks sorted p u j) x y;
+    names = distinct_permuted (λ (s : Stopped). s.line.name) ss us p a.names;
+    owners = λ s u q i j x y. a.owners s u q (in_permuted ss us p s i) (in_permuted ss us p u j) x y;
   }
 
-  -- what is told of tasks in name order is told of them in any order
-  pub told_in_order : Ascend (map (λ (s : Stopped). s.line.name) sorted) → (o : Outcome)
-      → o.lines ≡ map (λ (s : Stopped). s.line) sorted → AreCycles (WaitsOf sorted) (OwnsOf sorted) o.cycles
-      → IsToldOf tasks o
-  told_in_order a o l c = record {
-    lines = subst (IsPermutation (map (λ (s : Stopped). s.line) tasks)) (sym l)
-        (IsPermutation-map (λ (s : Stopped). s.line) tasks sorted p);
-    lines_in_order = subst (λ ls. Ascend (map (λ (t : TaskLine). t.name) ls)) (sym l)
-        (subst Ascend (sym (map_map (λ (s : Stopped). s.line) (λ (t : TaskLine). t.name) sorted)) a);
-    cycles = cycles_on (WaitsOf sorted) (OwnsOf sorted) (WaitsOf tasks) (OwnsOf tasks)
-        (λ x q. (
-          λ h. (h.0, in_permuted tasks sorted p h.0 h.1, h.2, h.3),
-          λ h. (h.0, in_unpermuted tasks sorted p h.0 h.1, h.2, h.3),
-        ))
-        (λ y q. (
-          λ h. (h.0, in_permuted tasks sorted p h.0 h.1, h.2, h.3),
-          λ h. (h.0, in_unpermuted tasks sorted p h.0 h.1, h.2, h.3),
-        )) o.cycles c;
-  }
-
--- a history that has stopped and whose line says that it waits does so
-pub waits_at : (st : PointStage) (q : Name) → ending_of st ≡ ending.Waits q
-    → ((a : Answer) → st ≡ stage.Answered a → ⊥) → (spare : Bool) × (st ≡ stage.Waits q spare)
-waits_at (stage.Answered a) q e h = absurd (h a refl)
-waits_at (stage.Waits r spare) q e h = (spare, ap (λ x. stage.Waits x spare) (waited e)) where
-  cell_of : Ending → Name
-  cell_of (ending.Done v) = []
-  cell_of (ending.Failed c) = []
-  cell_of (ending.Waits x) = x
-
-  waited : ending.Waits r ≡ ending.Waits q → r ≡ q
-  waited f = ap cell_of f
-waits_at (stage.Closed (close.Done v)) q e h = absurd (cc)
-waits_at (stage.Closed (close.Failed c)) q e h = absurd (cc)
-
-pub not_answered : {B : Type 0} (V : Assignment) (p : Point B) → HasStopped V p → (a : Answer)
-    → p.stage ≡ stage.Answered a → ⊥
-not_answered V p (inl x) a e = let f : stage.Closed x.0 ≡ stage.Answered a = sym x.1 ∙ e in absurd (cc)
-not_answered V p (inr x) a e = let f : stage.Waits x.0 x.1 ≡ stage.Answered a = sym x.2 ∙ e in absurd (cc)
-
-module _ {B : Type 0} (V : Assignment) (ps : List (Point B)) (stop : (p : Point B) → IsIn p ps → HasStopped V p) where
-  abbrev ss : List Stopped
-  ss = map stopped_of ps
-
-  to_waits : (x q : Name) → WaitsOf ss x q → Waits ps x q
-  to_waits x q (s, i, n, e) =
-      let r = in_map stopped_of s ps i in
-      let p = r.0 in
-      let w = waits_at p.stage q (sym (ap (λ (z : Stopped). z.line.ending) r.2) ∙ e) (not_answered V p (stop p r.1)) in
-      (p, w.0, r.1, sym (ap (λ (z : Stopped). z.line.name) r.2) ∙ n, w.1)
-
-  of_waits : (x q : Name) → Waits ps x q → WaitsOf ss x q
-  of_waits x q (p, spare, i, n, e) = (stopped_of p, to_map stopped_of p ps i, n, ap ending_of e)
-
-  to_owns : (y q : Name) → OwnsOf ss y q → Owns ps y q
-  to_owns y q (s, i, n, o) =
-      let r = in_map stopped_of s ps i in
-      let p = r.0 in (
-        p,
-        r.1,
-        sym (ap (λ (z : Stopped). z.line.name) r.2) ∙ n,
-        subst (IsIn q) (ap owned_by r.2 ∙ same_owned p.stage p.name p.holds) o,
-      )
-
-  of_owns : (y q : Name) → Owns ps y q → OwnsOf ss y q
-  of_owns y q (p, i, n, o) =
-      (stopped_of p, to_map stopped_of p ps i, n, subst (IsIn q) (sym (same_owned p.stage p.name p.holds)) o)
-
-  -- what is told of what was kept is the outcome
-  pub tells : (o : Outcome) → IsToldOf ss o → IsOutcome ps o
-  tells o t = record {
-    lines = subst (λ l. IsPermutation l o.lines) (map_map stopped_of (λ (s : Stopped). s.line) ps) t.lines;
-    lines_in_order = t.lines_in_order;
+  -- and their outcome is that of tasks in another order
+  pub outcome_in_order : (o : Outcome) → IsOutcomeOf us o → IsOutcomeOf ss o
+  outcome_in_order o k = record {
+    lines = IsPermutation-trans (map (λ (s : Stopped). s.line) ss) (map (λ (s : Stopped). s.line) us) o.lines
+        (IsPermutation-map (λ (s : Stopped). s.line) ss us p) k.lines;
+    lines_in_order = k.lines_in_order;
     cycles = (
       λ c. (
-        λ i. cycle_on (WaitsOf ss) (OwnsOf ss) (Waits ps) (Owns ps) to_waits to_owns c ((t.cycles.0 c).0 i),
-        λ h. (t.cycles.0 c).1 (cycle_on (Waits ps) (Owns ps) (WaitsOf ss) (OwnsOf ss) of_waits of_owns c h),
+        λ i. cycle_to us ss (in_permuted ss us p) c ((k.cycles.0 c).0 i),
+        λ h. (k.cycles.0 c).1 (cycle_to ss us (in_unpermuted ss us p) c h),
       ),
-      t.cycles.1,
+      k.cycles.1,
     );
   }
+
+-- what is told of one history
+module _ {B : Type 0} (p : Point B) (s : Stopped) where
+  abbrev told_with : Ending → Stopped
+  told_with e = record {
+    line = record { name = p.name; prints = p.prints; ending = e; owes = p.owed };
+    holds = p.holds;
+  }
+
+  -- it has its name
+  pub told_name : stopped_of p ≡ Some s → s.line.name ≡ p.name
+  told_name h = by (ending_of p.stage) h where
+    by : (o : Option Ending) → option_map told_with o ≡ Some s → s.line.name ≡ p.name
+    by None e = absurd (cc)
+    by (Some x) e = ap (λ (z : Stopped). z.line.name) (sym (some_is (told_with x) s e))
+
+  -- it owns what its task owns
+  pub told_owned : stopped_of p ≡ Some s → owned_by s ≡ owned p
+  told_owned h = by p.stage h where
+    by : (st : PointStage) → option_map told_with (ending_of st) ≡ Some s → owned_by s ≡ owned_in st p.name p.holds
+    by (stage.Answered a) e = absurd (cc)
+    by (stage.Waits q spare) e = ap owned_by (sym (some_is (told_with (ending.Waits q)) s e))
+    by (stage.Closed (close.Done v)) e = ap owned_by (sym (some_is (told_with (ending.Done (shown_of v))) s e))
+    by (stage.Closed (close.Failed c)) e = ap owned_by (sym (some_is (told_with (ending.Failed c)) s e))
+
+  -- it waits only where its task does
+  pub told_waits : (q : Name) → stopped_of p ≡ Some s → s.line.ending ≡ ending.Waits q
+      → (spare : Bool) × (p.stage ≡ stage.Waits q spare)
+  told_waits q h w = by p.stage h where
+    by : (st : PointStage) → option_map told_with (ending_of st) ≡ Some s → (spare : Bool) × (st ≡ stage.Waits q spare)
+    by (stage.Answered a) e = absurd (cc)
+    by (stage.Waits r spare) e =
+        let same_ending : ending.Waits r ≡ ending.Waits q =
+        ap (λ (z : Stopped). z.line.ending) (some_is (told_with (ending.Waits r)) s e) ∙ w in
+        (spare, ap (λ x. stage.Waits x spare) (ap waited same_ending))
+    by (stage.Closed (close.Done v)) e =
+        let z : ending.Done (shown_of v) ≡ ending.Waits q =
+        ap (λ (z : Stopped). z.line.ending) (some_is (told_with (ending.Done (shown_of v))) s e) ∙ w in absurd (cc)
+    by (stage.Closed (close.Failed c)) e =
+        let z : ending.Failed c ≡ ending.Waits q =
+        ap (λ (z : Stopped). z.line.ending) (some_is (told_with (ending.Failed c)) s e) ∙ w in absurd (cc)
+
+-- what is told is one list
+pub same_told : (ss us : List Stopped) → map (λ s. Some s) ss ≡ map (λ s. Some s) us → ss ≡ us
+same_told [] [] e = refl
+same_told [] (u ∷ us) e = absurd (cc)
+same_told (s ∷ ss) [] e = absurd (cc)
+same_told (s ∷ ss) (u ∷ us) e =
+    let first = some_is s u (ap (λ l. get_or l 0 None) e) in
+    let rest = same_told ss us (ap (λ l. drop 1 l) e) in λ i. first i ∷ rest i
+
+-- something in place of what is told of a history that goes on
+abbrev nobody : Stopped
+nobody = record { line = record { name = []; prints = []; ending = ending.Waits []; owes = [] }; holds = [] }
+
+module _ {B : Type 0} where
+  -- what is told is told of one of the histories, and of each of them something is told
+  pub told_of : (ps : List (Point B)) (ss : List Stopped) → AreTold ps ss → (s : Stopped) → IsIn s ss
+      → (p : Point B) × IsIn p ps × (stopped_of p ≡ Some s)
+  told_of [] [] e s i = absurd i
+  told_of [] (u ∷ us) e s i = absurd (cc)
+  told_of (p ∷ ps) [] e s i = absurd i
+  told_of (p ∷ ps) (u ∷ us) e s (inl q) =
+      (p, inl refl, ap (λ l. get_or l 0 None) e ∙ ap (λ z. Some z) (sym q))
+  told_of (p ∷ ps) (u ∷ us) e s (inr i) =
+      let r = told_of ps us (ap (λ l. drop 1 l) e) s i in (r.0, inr r.1, r.2)
+
+  of_told : (ps : List (Point B)) (ss : List Stopped) → AreTold ps ss → (p : Point B) → IsIn p ps
+      → (s : Stopped) × (stopped_of p ≡ Some s)
+  of_told [] ss e p i = absurd i
+  of_told (q ∷ ps) [] e p i = absurd (cc)
+  of_told (q ∷ ps) (u ∷ us) e p (inl k) = (u, ap stopped_of k ∙ ap (λ l. get_or l 0 None) e)
+  of_told (q ∷ ps) (u ∷ us) e p (inr i) = of_told ps us (ap (λ l. drop 1 l) e) p i
+
+  told_names : (ps : List (Point B)) (ss : List Stopped) → AreTold ps ss
+      → map (λ (s : Stopped). s.line.name) ss ≡ map (λ (p : Point B). p.name) ps
+  told_names [] [] e = refl
+  told_names [] (u ∷ us) e = absurd (cc)
+  told_names (p ∷ ps) [] e = absurd (cc)
+  told_names (p ∷ ps) (u ∷ us) e =
+      let first = told_name p u (ap (λ l. get_or l 0 None) e) in
+      let rest = told_names ps us (ap (λ l. drop 1 l) e) in λ i. first i ∷ rest i
+
+  -- what is told of a history that has stopped
+  abbrev told : Point B → Stopped
+  told p = unwrap_or (stopped_of p) nobody
+
+  all_told : (ps : List (Point B)) → ((p : Point B) → IsIn p ps → (s : Stopped) × (stopped_of p ≡ Some s))
+      → AreTold ps (map told ps)
+  all_told [] h = refl
+  all_told (p ∷ ps) h =
+      let s = h p (inl refl) in
+      let first : stopped_of p ≡ Some (told p) = s.1 ∙ ap (λ o. Some (unwrap_or o nobody)) (sym s.1) in
+      let rest = all_told ps (λ q i. h q (inr i)) in λ i. first i ∷ rest i
+
+  -- histories in another order are told in another order
+  pub told_in_order : (ps qs : List (Point B)) → IsPermutation ps qs → (ss : List Stopped) → AreTold ps ss
+      → (us : List Stopped) × AreTold qs us × IsPermutation ss us
+  told_in_order ps qs perm ss t =
+      let whole = all_told ps (of_told ps ss t) in
+      let same_list : ss ≡ map told ps = same_told ss (map told ps) (sym t ∙ whole) in (
+        map told qs,
+        all_told qs (λ q i. of_told ps ss t q (in_permuted ps qs perm q i)),
+        subst (λ l. IsPermutation l (map told qs)) (sym same_list) (IsPermutation-map told ps qs perm),
+      )
+
+  -- histories in another order have the same outcome
+  pub any_order : (ps qs : List (Point B)) (o : Outcome) → IsPermutation ps qs → IsOutcome ps o → IsOutcome qs o
+  any_order ps qs o perm (ss, t, k) =
+      let r = told_in_order ps qs perm ss t in
+      (r.0, r.1, outcome_in_order r.0 ss (IsPermutation-sym ss r.0 r.2) o k)
 
 module _ {B : Type 0} (program : Program B) (N : ℕ) where
   abbrev last_given : Assignment
@@ -160,8 +194,7 @@ module _ {B : Type 0} (program : Program B) (N : ℕ) where
   history_at t = history program.rules last_given t
 
   name_times : (U : Assignment) (q : Name) (l : List (Task B))
-      → times q (map (λ (s : Stopped). s.line.name) (map stopped_of (map history_at l)))
-      ≤ times q (flat_map (cells_by program.rules U) l)
+      → times q (map (λ (p : Point B). p.name) (map history_at l)) ≤ times q (flat_map (cells_by program.rules U) l)
   name_times U q [] = omega arith
   name_times U q (x ∷ xs) =
       let h = name_times U q xs in
@@ -170,27 +203,26 @@ module _ {B : Type 0} (program : Program B) (N : ℕ) where
       (flat_map (cells_by program.rules U) xs) in
       omega arith
 
-  -- no two of its tasks have one name, and none owns what another owns
-  pub meaning_apart : AreApart (map stopped_of (meaning program N))
-  meaning_apart = record {
-    names = distinct_of_times (map (λ (s : Stopped). s.line.name) (map stopped_of (map history_at last_tasks)))
+  -- no two tasks of a meaning have one name, and none owns what another owns
+  pub meaning_apart : (ss : List Stopped) → AreTold (meaning program N) ss → AreApart ss
+  meaning_apart ss t = record {
+    names = distinct_of_times (map (λ (s : Stopped). s.line.name) ss)
         (λ q. let a = name_times (given program (2 * N)) q last_tasks in
         let z : suc (2 * N) ≡ last_round N = omega arith in
         let b = once_name program (last_round N) q in
         let c = ap (λ k. times q (flat_map (cells_by program.rules (given program (2 * N)))
         (tasks program k))) z in
         let d = ap (λ k. times q (cells program k)) z in
+        let e = ap (λ l. times q l) (told_names (meaning program N) ss t) in
         omega arith);
     owners = λ s u q i j a b.
-        let r = in_map stopped_of s (meaning program N) i in
-        let v = in_map stopped_of u (meaning program N) j in
+        let r = told_of (meaning program N) ss t s i in
+        let v = told_of (meaning program N) ss t u j in
         let x = in_map history_at r.0 last_tasks r.1 in
         let y = in_map history_at v.0 last_tasks v.1 in
         let o = owners_apart program (last_round N) (last_round N) x.0 y.0 q
         (omega arith) x.1 y.1
-        (subst (λ p. IsIn q (owned p)) x.2 (subst (IsIn q)
-        (ap owned_by r.2 ∙ same_owned r.0.stage r.0.name r.0.holds) a))
-        (subst (λ p. IsIn q (owned p)) y.2 (subst (IsIn q)
-        (ap owned_by v.2 ∙ same_owned v.0.stage v.0.name v.0.holds) b)) in
-        r.2 ∙ ap stopped_of (x.2 ∙ ap history_at o.0 ∙ sym y.2) ∙ sym v.2;
+        (subst (λ p. IsIn q (owned p)) x.2 (subst (IsIn q) (told_owned r.0 s r.2) a))
+        (subst (λ p. IsIn q (owned p)) y.2 (subst (IsIn q) (told_owned v.0 u v.2) b)) in
+        some_is s u (sym r.2 ∙ ap stopped_of (x.2 ∙ ap history_at o.0 ∙ sym y.2) ∙ v.2);
   }

@@ -3,4 +3,4 @@ pub mod Exceeds
 pub mod KeptRounds
 pub mod OutcomeLaws
 pub mod Outcomes
-pub mod Ways
+pub mod Places

@@ -1,15 +1,17 @@
 -- The laws of outcomes.
 use Rattle.std.specs.Prelude.{◌≡◌, ℕ, Bool, true, List, []}
+use Rattle.std.specs.List.Sorted.{IsPermutation}
 use Rattle.tj_base.specs.ForkOrder.{Name}
 use Rattle.tj_body.specs.Programs.{Program, strictly}
 use Rattle.tj_body.specs.Rounds.{meaning, IsFull}
 use Rattle.tj_body.specs.Points.{IsIn}
 use Rattle.tj_body.specs.NeverWaits.{IsWithoutGet}
 use Rattle.tj_body.specs.declared.point.Point.{Point}
-use Rattle.tj_mean.specs.Outcomes.{IsOutcome}
+use Rattle.tj_mean.specs.Outcomes.{AreTold, AreApart, IsOutcome}
 use Rattle.tj_mean.specs.declared.outcome.Ending.TheVariants as ending
 use Rattle.tj_mean.specs.declared.outcome.Outcome.{Outcome}
 use Rattle.tj_mean.specs.declared.outcome.TaskLine.{TaskLine}
+use Rattle.tj_mean.specs.declared.stopped.Stopped.{Stopped}
 
 -- these histories have one outcome
 abbrev pub HasOneOutcome : {B : Type 0} → List (Point B) → Type 0
@@ -26,3 +28,12 @@ abbrev pub StrictOutcomeHasNoWait : {B : Type 0} → Program B → Type 0
 StrictOutcomeHasNoWait {B} program = (calm : B → Bool) → IsWithoutGet program.rules calm
     → calm program.root ≡ true → (N : ℕ) → ¬ IsFull (strictly program) N
     → (o : Outcome) → IsOutcome (meaning (strictly program) N) o → HasNoWait o
+
+-- the outcome of histories is that of them in any other order
+abbrev pub OrderIsFree : Type 0 → Type 0
+OrderIsFree B = (ps qs : List (Point B)) (o : Outcome) → IsPermutation ps qs → IsOutcome ps o → IsOutcome qs o
+
+-- what is told of the meaning's histories, in any order, is apart
+abbrev pub MeaningIsApart : {B : Type 0} → Program B → Type 0
+MeaningIsApart {B} program = (N : ℕ) (ps : List (Point B)) (ss : List Stopped) → IsPermutation (meaning program N) ps
+    → AreTold ps ss → AreApart ss

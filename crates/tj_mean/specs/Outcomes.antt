@@ -1,14 +1,15 @@
 -- The outcome of a meaning: what is told of its tasks, and the cycles of its wait graph.
-use Rattle.std.specs.Prelude.{◌≡◌, ◌↔◌, Bool, true, false, not, ◌||◌, List, [], ◌∷◌, map}
-use Rattle.std.specs.List.{list_any}
+use Rattle.std.specs.Prelude.{◌≡◌, ◌↔◌, Bool, true, false, not, ◌||◌, List, [], ◌∷◌, map, Option, Some, None}
+use Rattle.std.specs.List.{All, list_any}
+use Rattle.std.specs.Option.{option_map}
 use Rattle.std.specs.List.Sorted.{IsPermutation, IsStrictlySortedBy}
 use Rattle.std.specs.Cmp.Lexicographic.{slice_cmp}
 use Rattle.std.specs.Ordering.{nat_cmp}
 use Rattle.tj_base.specs.ForkOrder.{Name}
 use Rattle.tj_base.specs.declared.value.Shown.{Shown}
 use Rattle.tj_base.specs.declared.value.Shown.TheVariants as shown
-use Rattle.tj_body.specs.Names.{at_most}
-use Rattle.tj_body.specs.History.{owned}
+use Rattle.tj_base.specs.Cycles as graph
+use Rattle.tj_body.specs.Names.{same, at_most}
 use Rattle.tj_body.specs.Laws.{AreDistinct}
 use Rattle.tj_body.specs.Points.{IsIn}
 use Rattle.tj_body.specs.declared.point.Value.{Value}
@@ -22,66 +23,86 @@ use Rattle.tj_mean.specs.declared.outcome.Ending.TheVariants as ending
 use Rattle.tj_mean.specs.declared.outcome.TaskLine.{TaskLine}
 use Rattle.tj_mean.specs.declared.outcome.Link.{Link}
 use Rattle.tj_mean.specs.declared.outcome.Outcome.{Outcome}
+use Rattle.tj_mean.specs.declared.stopped.Stopped.{Stopped}
 
 -- a value is shown as a number or as the name of a cell
 abbrev pub shown_of : Value → Shown
 shown_of (value.Num i) = shown.Num i
 shown_of (value.Ref r) = shown.Ref r.name
 
--- what became of a task whose history stops at this stage; none stops where an answer is still to be given
-abbrev pub ending_of : PointStage → Ending
-ending_of (stage.Closed (close.Done v)) = ending.Done (shown_of v)
-ending_of (stage.Closed (close.Failed c)) = ending.Failed c
-ending_of (stage.Waits q spare) = ending.Waits q
-ending_of (stage.Answered a) = ending.Waits []
+-- what became of a task whose history stops at this stage, and nothing where it goes on
+abbrev pub ending_of : PointStage → Option Ending
+ending_of (stage.Closed (close.Done v)) = Some (ending.Done (shown_of v))
+ending_of (stage.Closed (close.Failed c)) = Some (ending.Failed c)
+ending_of (stage.Waits q spare) = Some (ending.Waits q)
+ending_of (stage.Answered a) = None
 
--- what is told of a task with this history
-abbrev pub line_of : {B : Type 0} → Point B → TaskLine
-line_of p = record { name = p.name; prints = p.prints; ending = ending_of p.stage; owes = p.owed }
+-- what is told of a task with this history, and nothing where it goes on
+abbrev pub stopped_of : {B : Type 0} → Point B → Option Stopped
+stopped_of p = option_map
+    (λ e. record { line = record { name = p.name; prints = p.prints; ending = e; owes = p.owed }; holds = p.holds })
+    (ending_of p.stage)
+
+-- the histories have stopped, and this is told of them
+abbrev pub AreTold : {B : Type 0} → List (Point B) → List Stopped → Type 0
+AreTold ps ss = map stopped_of ps ≡ map Some ss
+
+-- the cells that a task owns: where it waits, its result and the promises that it holds
+abbrev pub owned_with : Ending → Name → List Name → List Name
+owned_with (ending.Done v) x holds = []
+owned_with (ending.Failed c) x holds = []
+owned_with (ending.Waits q) x holds = x ∷ holds
+
+-- the same of what is told of a task
+abbrev pub owned_by : Stopped → List Name
+owned_by s = owned_with s.line.ending s.line.name s.holds
 
 -- the names ascend, and none stands twice
 abbrev pub Ascend : List Name → Type 0
 Ascend names = IsStrictlySortedBy (slice_cmp nat_cmp) names
 
--- the names of a cycle's tasks
-abbrev pub tasks_in : List Link → List Name
-tasks_in links = map (λ l. l.task) links
+-- the name of the first task of the links
+abbrev pub first_task : List Link → Name
+first_task [] = []
+first_task (l ∷ ls) = l.task
 
--- the name of the first task of the links, and x where there are none
-abbrev pub first_task : List Link → Name → Name
-first_task [] x = x
-first_task (l ∷ ls) x = l.task
-
-module _ (Waits Owns : Name → Name → Type 0) where
-  -- each task of the links waits for its cell, which the next one owns, and the last one's cell x owns
-  abbrev pub LeadTo : Name → List Link → Type 0
-  LeadTo x [] = Unit {0}
-  LeadTo x (l ∷ ls) = Waits l.task l.cell × Owns (first_task ls x) l.cell × LeadTo x ls
-
-  -- a cycle from its least name on: distinct tasks, each of which leads to the next, and the last to the first
-  abbrev pub IsCycle : List Link → Type 0
-  IsCycle [] = ⊥
-  IsCycle (l ∷ ls) = LeadTo l.task (l ∷ ls) × AreDistinct (tasks_in (l ∷ ls))
-      × ((x : Name) → IsIn x (tasks_in ls) → at_most l.task x ≡ true)
-
-  -- all cycles, each once, in the order of their least names
-  abbrev pub AreCycles : List (List Link) → Type 0
-  AreCycles cs = ((c : List Link) → IsIn c cs ↔ IsCycle c) × Ascend (map (λ c. first_task c []) cs)
-
-module _ {B : Type 0} (ps : List (Point B)) where
-  -- the task x, of which one of these points is the history, waits for the cell q
+module _ (ss : List Stopped) where
+  -- the task x waits for the cell q
   abbrev pub Waits : Name → Name → Type 0
-  Waits x q = (p : Point B) × (spare : Bool) × IsIn p ps × (p.name ≡ x) × (p.stage ≡ stage.Waits q spare)
+  Waits x q = (s : Stopped) × IsIn s ss × (s.line.name ≡ x) × (s.line.ending ≡ ending.Waits q)
 
   -- the task y owns the cell q
   abbrev pub Owns : Name → Name → Type 0
-  Owns y q = (p : Point B) × IsIn p ps × (p.name ≡ y) × IsIn q (owned p)
+  Owns y q = (s : Stopped) × IsIn s ss × (s.line.name ≡ y) × IsIn q (owned_by s)
 
-  -- a line for each history, in name order, and all cycles of the wait graph
-  pub record IsOutcome (o : Outcome) : Type 0 where
-    pub lines : IsPermutation (map line_of ps) o.lines
+  -- x leads to y: it waits for a cell that y owns
+  abbrev pub Leads : Name → Name → Type 0
+  Leads x y = (q : Name) × Waits x q × Owns y q
+
+  -- a cycle of the wait graph from its least name on, each of its tasks with the cell that it waits for
+  pub record IsCycle (c : List Link) : Type 0 where
+    pub tasks : graph.IsCycle Leads same (map (λ l. l.task) c)
+    pub cells : All (λ l. Waits l.task l.cell) c
+    pub least : All (λ l. at_most (first_task c) l.task ≡ true) c
+
+  -- all cycles, each once, in the order of their least names
+  abbrev pub AreCycles : List (List Link) → Type 0
+  AreCycles cs = ((c : List Link) → IsIn c cs ↔ IsCycle c) × Ascend (map first_task cs)
+
+  -- no two have one name, and none owns what another owns
+  pub record AreApart : Type 0 where
+    pub names : AreDistinct (map (λ s. s.line.name) ss)
+    pub owners : (s u : Stopped) (q : Name) → IsIn s ss → IsIn u ss → IsIn q (owned_by s) → IsIn q (owned_by u) → s ≡ u
+
+  -- the outcome of these tasks: a line for each, in name order, and all cycles of the wait graph
+  pub record IsOutcomeOf (o : Outcome) : Type 0 where
+    pub lines : IsPermutation (map (λ s. s.line) ss) o.lines
     pub lines_in_order : Ascend (map (λ l. l.name) o.lines)
-    pub cycles : AreCycles Waits Owns o.cycles
+    pub cycles : AreCycles o.cycles
+
+-- the outcome of tasks with these histories, which have stopped
+abbrev pub IsOutcome : {B : Type 0} → List (Point B) → Outcome → Type 0
+IsOutcome ps o = (ss : List Stopped) × AreTold ps ss × IsOutcomeOf ss o
 
 -- the list has no elements
 abbrev pub is_nil : {A : Type 0} → List A → Bool

@@ -1,11 +1,12 @@
 //! One task's history, computed step by step, under an assignment that is kept in an ordered map.
 ghost use Rattle.std.specs.Prelude.{◌≡◌, ◌<◌, ◌≤◌, ◌^◌, suc, length, map};
-ghost use Rattle.std.specs.Prelude.{IfOk, IfErr, IsTrue, IsFalse};
+ghost use Rattle.std.specs.Prelude.{IfOk, IfErr, IsSome, IsTrue, IsFalse};
 ghost use Rattle.tj_body.specs.Points.{IsGoodAt, IsProper, weight};
 ghost use Rattle.tj_body.specs.Programs.{rules_of};
 ghost use Rattle.tj_body.specs.History as history;
 ghost use Rattle.tj_mean.specs.Assignments.{assignment_in};
 ghost use Rattle.tj_mean.specs.Exceeds.{ExceedsAtPoint};
+ghost use Rattle.tj_mean.specs.Outcomes.{ending_of};
 
 use crate::ask_steps::{copy_reference, fail, take};
 use crate::outcome::PlanFault;
@@ -59,6 +60,7 @@ fn advance<B: Body>(
     ensures step { let rules = rules_of B.places B.awaits B.left B.asks B.then strict in
         IfOk result (λ _. p.new ≡ history.after_step rules (assignment_in given.now) p.old) }
     ensures stays { IfOk result (λ more. IsFalse more → p.new ≡ p.old) }
+    ensures stopped { IfOk result (λ more. IsFalse more → IsSome (ending_of p.new.stage)) }
     ensures falls { IfOk result (λ more. IsTrue more → weight B.left p.new < weight B.left p.old) }
 {
     match &p.stage {
@@ -120,6 +122,7 @@ pub fn history<B: Body>(
     requires some_room { 0 < room }
     ensures ok { let rules = rules_of B.places B.awaits B.left B.asks B.then strict in
         IfOk result (λ p. p ≡ history.history rules (assignment_in given.now) task) }
+    ensures stopped { IfOk result (λ p. IsSome (ending_of p.stage)) }
     ensures fits { IfOk result (λ p. length p.promises < room) }
     ensures full { let rules = rules_of B.places B.awaits B.left B.asks B.then strict in let V = assignment_in given.now in
         IfErr result (λ e. e ≡ PlanFault.Full → ExceedsAtPoint rules V task cells room) }

@@ -3,13 +3,24 @@
 ghost use Rattle.std.specs.Prelude.{List};
 ghost use Rattle.tj_body.specs.Laws.{HoldsOfPrograms};
 ghost use Rattle.tj_body.specs.declared.point.Point.{Point};
-ghost use Rattle.tj_mean.specs.OutcomeLaws.{HasOneOutcome, StrictOutcomeHasNoWait};
+ghost use Rattle.tj_mean.specs.OutcomeLaws.{HasOneOutcome, MeaningIsApart, OrderIsFree};
+ghost use Rattle.tj_mean.specs.OutcomeLaws.{StrictOutcomeHasNoWait};
 
 use tj_body::Body;
 
 /// Histories have at most one outcome.
 pub fn one_outcome<B: Body>()
     ensures { (ps : List (Point B)) → HasOneOutcome ps }
+{}
+
+/// The outcome of histories doesn't depend on their order.
+pub fn order_is_free<B: Body>()
+    ensures { OrderIsFree B }
+{}
+
+/// What is told of the histories of a meaning, in any order, has an outcome.
+pub fn meaning_is_apart<B: Body>()
+    ensures { HoldsOfPrograms B.places B.awaits B.left B.asks B.then MeaningIsApart }
 {}
 
 /// Under the strict rule the outcome of a program without gets has no cycle, and no task waits.

@@ -8,12 +8,16 @@ mod outcome;
 mod owned_names;
 mod round;
 mod rounds;
+mod stopped;
 #[cfg(test)]
 mod tests;
+mod told;
 mod wait_graph;
 
-pub use laws::{one_outcome, strict_outcome_has_no_wait};
+pub use laws::{meaning_is_apart, one_outcome, order_is_free, strict_outcome_has_no_wait};
 pub use outcome::{
     CycleList, Ending, LineList, Link, LinkList, Outcome, PlanFault, TaskLine, marked,
 };
 pub use rounds::plan;
+pub use stopped::Stopped;
+pub use told::outcome_of;

@@ -2,30 +2,23 @@
 //! taken in the order of forks: a task, then its first child with all that comes from it, and so
 //! on, as far as the round follows forks.
 ghost use Rattle.std.specs.Prelude.{◌≡◌, ◌+◌, ◌*◌, ◌<◌, ◌≤◌, ◌^◌, suc, [], ◌∷◌, ◌++◌, length};
-ghost use Rattle.std.specs.Prelude.{IfOk, IfErr};
+ghost use Rattle.std.specs.Prelude.{IfOk, IfErr, IsSome, Some, map};
 ghost use Rattle.tj_body.specs.Asks.{IsFresh};
 ghost use Rattle.tj_body.specs.History.{Assignment};
 ghost use Rattle.tj_body.specs.Programs as programs;
 ghost use Rattle.tj_body.specs.Programs.{Rules, program_of};
 ghost use Rattle.tj_body.specs.Rounds as rounds;
 ghost use Rattle.tj_mean.specs.Assignments.{assignment_in};
-ghost use Rattle.tj_mean.specs.KeptRounds.{stopped_of, offspring, still, IsRound};
+ghost use Rattle.tj_mean.specs.KeptRounds.{offspring, still, IsRound};
 ghost use Rattle.tj_mean.specs.Outcomes as outcomes;
 
 use crate::history_steps::history;
 use crate::outcome::{Ending, PlanFault, TaskLine};
+use crate::stopped::Stopped;
 use std::alloc::Global;
 use std::collections::BTreeMap;
-use tj_base::{Items, Name, NameList, Oom, Shown};
+use tj_base::{Items, Name, Oom, Shown};
 use tj_body::{Body, Close, Entry, Point, PointStage, Task, Value};
-
-/// What is kept of a task's history.
-#[derive(Debug, Drop)]
-pub struct Stopped {
-    pub line: TaskLine,
-    /// The promises that it holds where it waits.
-    pub holds: NameList,
-}
 
 /// What the tasks of a round have come to.
 #[derive(Debug, Drop)]
@@ -125,9 +118,10 @@ fn push_children<B: Body>(
 impl Round {
     /// Adds a task with this history, and gives its children.
     fn add<B: Body>(&mut self, point: Point<B>) -> Result<Vec<Task<B>>, Oom>
-        requires { self.old.cells + suc (length point.promises) < 2 ^ 32 }
-        ensures tasks { IfOk result (λ _.
-            self.new.tasks.items ≡ self.old.tasks.items ++ stopped_of point ∷ []) }
+        requires few { self.old.cells + suc (length point.promises) < 2 ^ 32 }
+        requires stopped { IsSome (outcomes.ending_of point.stage) }
+        ensures tasks { IfOk result (λ _. map Some self.new.tasks.items
+            ≡ map Some self.old.tasks.items ++ outcomes.stopped_of point ∷ []) }
         ensures entries { IfOk result (λ _.
             self.new.entries.items ≡ self.old.entries.items ++ point.writes) }
         ensures cells { IfOk result (λ _.
@@ -152,13 +146,14 @@ impl Round {
 
 /// What became of a task whose history stops at this stage.
 fn ending_of(stage: PointStage) -> Ending
-    ensures { result ≡ outcomes.ending_of stage }
+    requires { IsSome (outcomes.ending_of stage) }
+    ensures { outcomes.ending_of stage ≡ Some result }
 {
     match stage {
         PointStage::Closed(Close::Done(value)) => Ending::Done(shown_of(value)),
         PointStage::Closed(Close::Failed(cause)) => Ending::Failed(cause),
         PointStage::Waits { cell, spare: _ } => Ending::Waits(cell),
-        PointStage::Answered(_) => Ending::Waits(Name::root()),
+        PointStage::Answered(_) => unreachable!(),
     }
 }
 

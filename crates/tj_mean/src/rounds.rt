@@ -1,26 +1,24 @@
 //! The outcome of a program's meaning, by rounds. Each round takes all tasks anew, under what the
 //! round before has set or broken. A round with no more tasks and no more entries than the one
 //! before equals all later ones, so its histories are those of the meaning.
-ghost use Rattle.std.specs.Prelude.{◌≡◌, ◌↔◌, ◌<◌, ◌≤◌, length, map, IfOk, IfErr, OnOk, IsTrue};
+ghost use Rattle.std.specs.Prelude.{◌≡◌, ◌↔◌, ◌<◌, ◌≤◌, length, IfOk, IfErr, OnOk, IsTrue};
 ghost use Rattle.std.specs.BTreeMap.{Updates};
 ghost use Rattle.std.specs.Cmp.Lexicographic.{slice_cmp};
 ghost use Rattle.std.specs.Ordering.{nat_cmp};
 ghost use Rattle.tj_base.specs.ForkOrder as fork_order;
-ghost use Rattle.std.specs.List.Sorted.{IsPermutation};
 ghost use Rattle.tj_body.specs.Asks.{IsFresh};
 ghost use Rattle.tj_body.specs.Programs.{program_of};
-ghost use Rattle.tj_body.specs.Laws.{AreDistinct};
 ghost use Rattle.tj_body.specs.Rounds as rounds;
 ghost use Rattle.tj_mean.specs.Assignments.{assignment_in};
-ghost use Rattle.tj_mean.specs.KeptRounds.{stopped_of, AreApart, IsToldOf};
-ghost use Rattle.tj_mean.specs.Outcomes.{Ascend, IsOutcome};
+ghost use Rattle.tj_mean.specs.Outcomes.{AreTold, IsOutcome};
 
-use crate::outcome::{LineList, Outcome, PlanFault};
-use crate::round::{Round, Stopped, next_round};
-use crate::wait_graph::cycles;
+use crate::outcome::{Outcome, PlanFault};
+use crate::round::{Round, next_round};
+use crate::stopped::Stopped;
+use crate::told::outcome_of;
 use std::alloc::Global;
 use std::collections::BTreeMap;
-use tj_base::{Items, Name, Oom, name_cmp};
+use tj_base::{Name, Oom};
 use tj_body::{Body, Entry};
 
 /// The outcome of the meaning of this root's program.
@@ -59,7 +57,7 @@ fn histories<B: Body>(
     ensures full { let program = program_of B.places B.awaits B.left B.asks B.then strict root.now in
         IfErr result (λ e. e ≡ PlanFault.Full → rounds.IsFull program cells) }
     ensures told { let program = program_of B.places B.awaits B.left B.asks B.then strict root.now in
-        IfOk result (λ tasks. tasks.items ≡ map stopped_of (rounds.meaning program cells)) }
+        IfOk result (λ tasks. AreTold (rounds.meaning program cells) tasks.items) }
 {
     let mut given = BTreeMap::new(alloc);
     let mut tasks = 0;
@@ -106,36 +104,4 @@ fn put(given: &mut BTreeMap<Name, Entry>, cell: Name, became: Entry) -> Result<(
 {
     given.insert(cell, became)?;
     Ok(())
-}
-
-/// The outcome of tasks with these histories.
-fn outcome_of(alloc: Global, tasks: Vec<Stopped>) -> Result<Outcome, Oom>
-    requires { AreApart tasks.items }
-    ensures { IfOk result (IsToldOf tasks.items) }
-{
-    let tasks = in_name_order(tasks)?;
-    let cycles = cycles(alloc, tasks.as_slice())?;
-    let lines = lines_of(alloc, tasks)?;
-    Ok(Outcome { lines, cycles })
-}
-
-/// The tasks in name order.
-fn in_name_order(mut tasks: Vec<Stopped>) -> Result<Vec<Stopped>, Oom>
-    requires { AreDistinct (map (λ s. s.line.name) tasks.items) }
-    ensures same { IfOk result (λ sorted. IsPermutation tasks.items sorted.items) }
-    ensures ascend { IfOk result (λ sorted. Ascend (map (λ s. s.line.name) sorted.items)) }
-{
-    tasks.sort_by(|a, b| name_cmp(&a.line.name, &b.line.name))?;
-    Ok(tasks)
-}
-
-/// The lines of the tasks.
-fn lines_of(alloc: Global, tasks: Vec<Stopped>) -> Result<LineList, Oom>
-    ensures { IfOk result (λ lines. lines ≡ map (λ s. s.line) tasks.items) }
-{
-    let mut lines = Vec::new(alloc);
-    for task in tasks {
-        lines.push(task.line)?;
-    }
-    Ok(Items::of(lines))
 }

@@ -1,16 +1,15 @@
 //! The wait graph of tasks that have stopped, and its cycles. The tasks stand in name order and go
 //! by their places in it, so that the least name on a cycle is the least place.
-ghost use Rattle.std.specs.Prelude.{◌≡◌, ◌↔◌, ℕ, ◌<◌, ◌≤◌, length, map, slice_get, true, false};
-ghost use Rattle.std.specs.Prelude.{slice_index_or, Some, [], ◌∷◌, ◌++◌, IfOk, OnOk, IfSome, IsNone};
-ghost use Rattle.tj_mean.specs.KeptRounds.{AreApart, OwnsOf, WaitsOf, owned_by};
-ghost use Rattle.tj_mean.specs.Outcomes.{AreCycles, Ascend};
-ghost use Rattle.tj_mean.specs.Ways.{IsWayBack, LeadsTo, AreNext, IsClosed};
-ghost use Rattle.tj_base.specs.ForkOrder as fork_order;
+ghost use Rattle.std.specs.Prelude.{◌≡◌, ◌↔◌, ℕ, ◌<◌, length, map, slice_get, true, false};
+ghost use Rattle.std.specs.Prelude.{Some, List, IfOk, IfSome, IsNone};
+ghost use Rattle.std.specs.List.{All};
 ghost use Rattle.tj_body.specs.Names.{has};
+ghost use Rattle.tj_mean.specs.Outcomes.{AreApart, AreCycles, Ascend, owned_by};
+ghost use Rattle.tj_mean.specs.Places.{AreNext, IsLeastCycle, LeadsTo, Next, Waiting, WaitsAt, link_at, link_of};
 
 use crate::outcome::{CycleList, Ending, Link, LinkList};
 use crate::owned_names::place_of;
-use crate::round::Stopped;
+use crate::stopped::Stopped;
 use std::alloc::Global;
 use tj_base::{Items, Name, Oom};
 
@@ -18,13 +17,13 @@ use tj_base::{Items, Name, Oom};
 pub fn cycles(alloc: Global, tasks: &[Stopped]) -> Result<CycleList, Oom>
     requires apart { AreApart tasks.now }
     requires in_order { Ascend (map (λ s. s.line.name) tasks.now) }
-    ensures { IfOk result (AreCycles (WaitsOf tasks.now) (OwnsOf tasks.now)) }
+    ensures { IfOk result (AreCycles tasks.now) }
 {
     let next = next_tasks(alloc, tasks)?;
     let mut cycles = Vec::new(alloc);
     for first in 0..tasks.len() {
-        if let Some(steps) = way_back(next.as_slice(), first) {
-            cycles.push(links(alloc, tasks, next.as_slice(), first, steps)?)?;
+        if let Some(places) = cycle_from(alloc, next.as_slice(), first)? {
+            cycles.push(links(alloc, tasks, places.as_slice())?)?;
         }
     }
     Ok(Items::of(cycles))
@@ -82,61 +81,54 @@ fn owns(task: &Stopped, cell: &Name) -> bool
     }
 }
 
-/// After how many waits the way from the task with this place comes back to it, if it does so, and
-/// over tasks with greater places alone.
-fn way_back(next: &[Option<usize>], first: usize) -> Option<usize>
-    requires first { first < length next.now }
-    requires places { (k p : ℕ) →
-        slice_index_or next.now k None ≡ Some p → p < length next.now }
-    ensures some { IfSome result (λ steps. IsWayBack next.now first steps) }
-    ensures none { IsNone result → (steps : ℕ) →
-        steps ≤ length next.now → ¬ IsWayBack next.now first steps }
-{
-    let mut at = first;
-    for length in 0..next.len() {
-        match next[at] {
-            Some(owner) if owner == first => return Some(length + 1),
-            Some(owner) if owner > first => at = owner,
-            _ => return None,
-        }
-    }
-    None
-}
-
-/// The way of so many waits from the task with this place on.
-fn links(
+/// The places from this one on along waits, if the way comes back to it, and over greater places
+/// alone.
+fn cycle_from(
     alloc: Global,
-    tasks: &[Stopped],
     next: &[Option<usize>],
     first: usize,
-    steps: usize,
-) -> Result<LinkList, Oom>
-    requires first { first < length tasks.now }
-    requires next { AreNext tasks.now tasks.now next.now }
-    requires back { IsWayBack next.now first steps }
-    ensures { IfOk result (λ links. IsClosed tasks.now first links) }
+) -> Result<Option<Vec<usize>>, Oom>
+    requires first { first < length next.now }
+    requires places { (i j : ℕ) → Next next.now i j → j < length next.now }
+    ensures some { IfOk result (λ found. IfSome found (λ places. IsLeastCycle next.now first places.items)) }
+    ensures none { IfOk result (λ found. IsNone found → (places : List ℕ) → ¬ IsLeastCycle next.now first places) }
+{
+    let mut places = Vec::new(alloc);
+    let mut at = first;
+    for step in 0..next.len() {
+        places.push(at)?;
+        match next[at] {
+            Some(owner) if owner == first => return Ok(Some(places)),
+            Some(owner) if owner > first => at = owner,
+            _ => return Ok(None),
+        }
+    }
+    Ok(None)
+}
+
+/// The links of the tasks with these places.
+fn links(alloc: Global, tasks: &[Stopped], places: &[usize]) -> Result<LinkList, Oom>
+    requires there { All (λ p. p < length tasks.now) places.now }
+    requires waiting { All (λ p. WaitsAt tasks.now p) places.now }
+    ensures { IfOk result (λ links. links ≡ map (link_at tasks.now) places.now) }
 {
     let mut links = Vec::new(alloc);
-    let mut at = first;
-    for step in 0..steps {
-        push_link(alloc, &mut links, &tasks[at])?;
-        at = next[at].unwrap_or(first);
+    for place in places {
+        links.push(link_of(alloc, &tasks[*place])?)?;
     }
     Ok(Items::of(links))
 }
 
-/// The link of a task that waits comes after the links.
-fn push_link(alloc: Global, links: &mut Vec<Link>, task: &Stopped) -> Result<(), Oom>
-    requires { (q : fork_order.Name) × (task.now.line.ending ≡ Ending.Waits q) }
-    ensures { OnOk result ((q : fork_order.Name) × (l : Link) × (task.now.line.ending ≡ Ending.Waits q)
-        × (l.task ≡ task.now.line.name) × (l.cell ≡ q) × (links.new.items ≡ links.old.items ++ l ∷ [])) }
+/// The task with the cell that it waits for.
+fn link_of(alloc: Global, task: &Stopped) -> Result<Link, Oom>
+    requires { Waiting task.now }
+    ensures { IfOk result (λ link. link ≡ link_of task.now) }
 {
-    if let Ending::Waits(cell) = &task.line.ending {
-        let task = task.line.name.copy(alloc)?;
-        links.push(Link {
-            task,
+    match &task.line.ending {
+        Ending::Waits(cell) => Ok(Link {
+            task: task.line.name.copy(alloc)?,
             cell: cell.copy(alloc)?,
-        })?;
+        }),
+        _ => unreachable!(),
     }
-    Ok(())
 }

@@ -1,8 +1,7 @@
 use Rattle.std.proofs.Common.{true}
 use Rattle.tj_body.specs.Programs.{program_of, strictly}
-use Rattle.tj_body.specs.Rounds.{given, last_round, meaning}
+use Rattle.tj_body.specs.Rounds.{meaning}
 use Rattle.tj_body.proofs.Proper.{root_proper}
-use Rattle.tj_body.proofs.InOrder.{stops}
 use Rattle.tj_body.proofs.WithoutGets.{never_waits}
 use Rattle.tj_mean.proofs.NoWaits.{has_no_wait}
 use Rattle.tj_mean.proofs.laws.strict_outcome_has_no_wait.Goals as goal
@@ -14,5 +13,4 @@ returns g c =
     λ strict root fresh calm no_get calm_root N fits.
     let program = program_of b.places b.awaits b.left b.asks b.then strict root in
     let proper = root_proper (strictly program) fresh in
-    has_no_wait (given (strictly program) (last_round N)) (meaning (strictly program) N)
-    (stops (strictly program) o proper N) (never_waits program o proper calm no_get calm_root N fits)
+    has_no_wait (meaning (strictly program) N) (never_waits program o proper calm no_get calm_root N fits)

@@ -1,58 +1,84 @@
-use Rattle.std.proofs.Common.{◌+◌, ◌<◌, List, map, length, Vec, Global, refl, ap, sym, subst, ◌∙◌, arith}
-use Rattle.tj_mean.specs.Outcomes.{Ascend}
+use Rattle.std.proofs.Common.{◌≡◌, ◌+◌, ◌<◌, ◌≤◌, ℕ, List, Option, Some, None, length, map, Vec, Global, refl, ap, sym, subst, ◌∙◌, arith}
+use Rattle.std.specs.Prelude.{IfSome, IsNone}
+use Rattle.std.specs.List.{All}
+use Rattle.tj_mean.specs.Outcomes.{AreCycles}
+use Rattle.tj_mean.specs.Places.{AreNext, IsLeastCycle, Next, WaitsAt, link_at}
 use Rattle.tj_mean.specs.declared.outcome.Link.{Link}
-use Rattle.tj_mean.specs.Ways.{AreNext}
-use Rattle.tj_mean.proofs.Trails.{no_names, found_none, found_on, found_more, names_more, all_found, none_closed}
-use Rattle.tj_mean.proofs.Trails.{next_less, next_length, first_of, Found}
+use Rattle.tj_mean.proofs.Places.{next_length, next_there}
+use Rattle.tj_mean.proofs.LeastCycles.{Found, found_none, found_on, found_more, all_found, all_there, all_wait}
 use Rattle.tj_mean.proofs.wait_graph.cycles.Goals as goal
 use Rattle.tj_mean.proofs.wait_graph.cycles.Goals.{in-Some+in_ok-links+in_ok-push, in_default}
 
+-- what was found from a place
+some_least : (ns next : List (Option ℕ)) (first : ℕ) (o : Option (Vec ℕ Global)) (ps : Vec ℕ Global) → o ≡ Some ps
+    → ns ≡ next → IfSome o (λ places. IsLeastCycle ns first places.items) → IsLeastCycle next first ps.items
+some_least ns next first o ps e n h = subst (λ ms. IsLeastCycle ms first ps.items) n
+    (subst (λ p. IfSome p (λ places. IsLeastCycle ns first places.items)) e h)
+
+-- nothing was found from a place
+no_least : (ns next : List (Option ℕ)) (first : ℕ) (o : Option (Vec ℕ Global)) → o ≡ None → ns ≡ next
+    → (IsNone o → (places : List ℕ) → ¬ IsLeastCycle ns first places) → (places : List ℕ)
+    → ¬ IsLeastCycle next first places
+no_least ns next first o e n h = subst (λ ms. (places : List ℕ) → ¬ IsLeastCycle ms first places) n
+    (subst (λ p. IsNone p → (places : List ℕ) → ¬ IsLeastCycle ns first places) e h refl)
+
 pub loop-first-init : goal.loop-first-init
-loop-first-init c = record {
-  all = found_none c.args.tasks.now c.new-cycles.result.items c.new-cycles.ensures.items;
-  ascend = no_names c.new-cycles.result.items c.new-cycles.ensures.items;
-}
+loop-first-init c = found_none c.args.tasks.now c.requires.apart c.requires.in_order c.in_ok-next.next.items
+    c.in_ok-next.ensures c.new-cycles.result.items c.new-cycles.ensures.items
 
-pub way_back-requires-clause-first : goal.way_back-requires-clause-first
-way_back-requires-clause-first c =
-    let ended = c.loop-first-test.true in
+pub cycle_from-requires-clause-first : goal.cycle_from-requires-clause-first
+cycle_from-requires-clause-first c =
     let n = next_length c.args.tasks.now c.args.tasks.now c.in_ok-next.next.items c.in_ok-next.ensures in
-    subst (λ ps. c.loop-first.first < length ps) (sym c.as_slice.ensures.value)
-    (subst (λ k. c.loop-first.first < k) (sym n) (omega arith))
+    let same = ap (λ ns. length ns) c.as_slice.ensures.value in
+    let inside = c.loop-first-test.true in omega arith
 
-pub way_back-requires-clause-places : goal.way_back-requires-clause-places
-way_back-requires-clause-places c =
-    next_less c.args.tasks.now c.as_slice.result.now
-    (subst (λ ps. AreNext c.args.tasks.now c.args.tasks.now ps) (sym c.as_slice.ensures.value) c.in_ok-next.ensures)
+pub cycle_from-requires-clause-places : goal.cycle_from-requires-clause-places
+cycle_from-requires-clause-places c =
+    subst (λ ns. (i j : ℕ) → Next ns i j → j < length ns) (sym c.as_slice.ensures.value)
+    (λ i j e.
+    let n = next_length c.args.tasks.now c.args.tasks.now c.in_ok-next.next.items c.in_ok-next.ensures in
+    let there = next_there c.args.tasks.now c.requires.apart c.requires.in_order c.in_ok-next.next.items
+    c.in_ok-next.ensures i j e in omega arith)
+
+pub links-requires-clause-there : goal.links-requires-clause-there
+links-requires-clause-there c =
+    subst (All (λ p. p < length c.args.tasks.now)) (sym c.as_slice-in-Some.ensures.value)
+    (all_there c.args.tasks.now c.requires.apart c.requires.in_order c.in_ok-next.next.items c.in_ok-next.ensures
+    c.loop-first.first c.in-Some.places.items
+    (some_least c.as_slice.result.now c.in_ok-next.next.items c.loop-first.first c.in_ok-places.field-0 c.in-Some.places
+    c.in-Some.is c.as_slice.ensures.value c.in_ok-places.ensures.some))
+
+pub links-requires-clause-waiting : goal.links-requires-clause-waiting
+links-requires-clause-waiting c =
+    subst (All (WaitsAt c.args.tasks.now)) (sym c.as_slice-in-Some.ensures.value)
+    (all_wait c.args.tasks.now c.requires.apart c.requires.in_order c.in_ok-next.next.items c.in_ok-next.ensures
+    c.loop-first.first c.in-Some.places.items
+    (some_least c.as_slice.result.now c.in_ok-next.next.items c.loop-first.first c.in_ok-places.field-0 c.in-Some.places
+    c.in-Some.is c.as_slice.ensures.value c.in_ok-places.ensures.some))
 
 pub loop-first-preserved : goal.loop-first-preserved
 loop-first-preserved c =
-    let are = subst (λ ps. AreNext c.args.tasks.now c.args.tasks.now ps)
-    (sym c.as_slice.ensures.value) c.in_ok-next.ensures in
-    let cs = c.loop-first.cycles.items in let n = c.loop-first.first in let ts = c.args.tasks.now in
-    let i = c.loop-first.invariant in
-    elim c.match-way_back.branch [
+    let ts = c.args.tasks.now in let n = c.loop-first.first in let next = c.in_ok-next.next.items in
+    let cs = c.loop-first.cycles.items in
+    elim c.match-branch-3.branch [
       | in-Some+in_ok-links+in_ok-push w ↦
-          let d = w.in_ok-links.field-0 in
-          let it = ap (λ (v : Vec (List Link) Global). v.items) w.cycles-is ∙ w.in_ok-push.ensures.items in record {
-            all = subst (λ ds. Found ts ds (n + 1)) (sym it)
-                (found_more ts c.requires.apart c.requires.in_order cs n d i.all w.in_ok-links.ensures);
-            ascend = subst (λ ds. Ascend (map first_of ds)) (sym it)
-                (names_more ts c.requires.apart c.requires.in_order cs n d i.all w.in_ok-links.ensures i.ascend);
-          }
+          let it = ap (λ (v : Vec (List Link) Global). v.items) w.cycles-is ∙ w.in_ok-push.ensures.items in
+          let k = some_least c.as_slice.result.now next n c.in_ok-places.field-0 w.in-Some.places w.in-Some.is
+          c.as_slice.ensures.value c.in_ok-places.ensures.some in
+          subst (λ ds. Found ts next ds (n + 1)) (sym it)
+          (found_more ts c.requires.apart c.requires.in_order next c.in_ok-next.ensures cs n w.in-Some.places.items
+          w.in_ok-links.field-0 c.loop-first.invariant k
+          (w.in_ok-links.ensures ∙ ap (λ ps. map (link_at ts) ps) w.as_slice-in-Some.ensures.value))
       | in_default w ↦
-          let it = ap (λ (v : Vec (List Link) Global). v.items) w.cycles-is in record {
-            all = subst (λ ds. Found ts ds (n + 1)) (sym it)
-                (found_on ts cs n i.all
-                (none_closed ts c.requires.apart c.requires.in_order c.as_slice.result.now n are
-                (w.in_default.ensures.none refl)));
-            ascend = subst (λ ds. Ascend (map first_of ds)) (sym it) i.ascend;
-          }
+          subst (λ ds. Found ts next ds (n + 1)) (sym (ap (λ (v : Vec (List Link) Global). v.items) w.cycles-is))
+          (found_on ts c.requires.apart c.requires.in_order next c.in_ok-next.ensures cs n c.loop-first.invariant
+          (no_least c.as_slice.result.now next n c.in_ok-places.field-0 w.in_default.is c.as_slice.ensures.value
+          c.in_ok-places.ensures.none))
     ]
 
 pub returns : goal.returns
 returns c =
-    let ended = c.loop-first-test.false in let i = c.loop-first.invariant in let ts = c.args.tasks.now in
-    all_found ts c.requires.apart c.requires.in_order c.of.result c.loop-first.first
-    (subst (λ ds. Found ts ds c.loop-first.first) (sym c.of.ensures) i.all) (omega arith)
-    (subst (λ ds. Ascend (map first_of ds)) (sym c.of.ensures) i.ascend)
+    let ended = c.loop-first-test.false in
+    subst (AreCycles c.args.tasks.now) (sym c.of.ensures)
+    (all_found c.args.tasks.now c.requires.apart c.requires.in_order c.in_ok-next.next.items c.in_ok-next.ensures
+    c.loop-first.cycles.items c.loop-first.first c.loop-first.invariant (omega arith))

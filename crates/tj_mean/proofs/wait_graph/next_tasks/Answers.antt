@@ -1,7 +1,8 @@
 use Rattle.std.proofs.Common.{◌≡◌, ◌+◌, [], ◌∷◌, ◌++◌, take, ap, sym, subst, ◌∙◌}
 use Rattle.std.proofs.lemmas.List.{take_more}
-use Rattle.tj_mean.specs.Ways.{AreNext}
-use Rattle.tj_mean.proofs.Trails.{next_more, all_taken}
+use Rattle.tj_mean.specs.Places.{AreNext}
+use Rattle.tj_mean.proofs.Places.{next_more}
+use Rattle.tj_mean.proofs.Elements.{all_taken}
 use Rattle.tj_mean.proofs.wait_graph.next_tasks.Goals as goal
 
 pub loop-task-preserved : goal.loop-task-preserved

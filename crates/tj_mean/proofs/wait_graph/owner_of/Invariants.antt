@@ -1,8 +1,8 @@
 use Rattle.std.proofs.Common.{◌≡◌, ◌<◌, ℕ, Some, false}
 use Rattle.std.specs.Prelude.{slice_get}
 use Rattle.tj_body.specs.Names.{has}
-use Rattle.tj_mean.specs.KeptRounds.{owned_by}
-use Rattle.tj_mean.specs.declared.round.Stopped.{Stopped}
+use Rattle.tj_mean.specs.Outcomes.{owned_by}
+use Rattle.tj_mean.specs.declared.stopped.Stopped.{Stopped}
 use Rattle.tj_mean.proofs.wait_graph.owner_of.Given as goal
 
 -- no task before this place owns the cell

@@ -1,7 +1,7 @@
 use Rattle.std.proofs.Common.{rules}
-use Rattle.tj_mean.specs.declared.round.Stopped.{Stopped}
+use Rattle.tj_mean.specs.declared.stopped.Stopped.{Stopped}
 use Rattle.tj_mean.proofs.NameOrder.{ascends, sorted_by, distinct_permuted}
-use Rattle.tj_mean.proofs.rounds.in_name_order.Goals as goal
+use Rattle.tj_mean.proofs.told.in_name_order.Goals as goal
 
 pub returns-clause-ascend : goal.returns-clause-ascend
 returns-clause-ascend c =

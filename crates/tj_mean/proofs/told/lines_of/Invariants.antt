@@ -1,5 +1,5 @@
 use Rattle.std.proofs.Common.{◌≡◌, map}
-use Rattle.tj_mean.proofs.rounds.lines_of.Given as goal
+use Rattle.tj_mean.proofs.told.lines_of.Given as goal
 
 -- the lines of the tasks so far
 abbrev pub invariant-loop-task : goal.invariant-loop-task
