@@ -1,5 +1,5 @@
 -- Chains of waits, and how cycles of the wait graph go on over an event.
-use Rattle.std.proofs.Common.{◌≡◌, ℕ, suc, ◌-◌, nat_eq, List, [], ◌∷◌, length, Some, refl, subst}
+use Rattle.std.proofs.Common.{◌≡◌, ℕ, suc, nat_eq, List, [], ◌∷◌, length, Some, refl, subst}
 use Rattle.tj_base.proofs.CyclesOn.{cycle_moves, cycle_list_moves}
 use Rattle.tj_core.specs.CoreState.{Cells, CoreState, owner, wait, present}
 use Rattle.tj_core.specs.declared.walk.TrailLink.{TrailLink}

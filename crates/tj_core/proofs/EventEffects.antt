@@ -89,25 +89,29 @@ module _ (s : CoreState) (t c : ℕ) (way : Way) (is : stage s.cells t ≡ waits
   never_parked : (p : ℕ) (to : Way) → stage s.cells t ≡ waits p to parked → ⊥
   never_parked p to e = let q : waits c way alarmed ≡ waits p to parked = sym is ∙ e in absurd (cc)
 
+still : (s : CoreState) (t c : ℕ) (way : Way) → stage s.cells t ≡ waits c way alarmed
+    → (u : ℕ) → Some u ≡ Some t → stage s.cells u ≡ waits c way alarmed
+still s t c way is u e = let q : u ≡ t = cc in ap (stage s.cells) q ∙ is
+
 -- a task that has alarmed has no event
 alarmed_rests : (N : ℕ) (s : CoreState) (e : Event) (t c : ℕ) (way : Way)
     → Allowed N s e → stage s.cells t ≡ waits c way alarmed → actor e ≢ Some t
-alarmed_rests N s (Make u) t c way a is e = let q : u.0 ≡ t = cc in never_runs s u.0 c way (ap (stage s.cells) q ∙ is) a.0
-alarmed_rests N s (Fork u) t c way a is e = let q : u.0 ≡ t = cc in never_runs s u.0 c way (ap (stage s.cells) q ∙ is) a.0
-alarmed_rests N s (Hand u p h) t c way a is e = let q : u.0 ≡ t = cc in never_runs s u.0 c way (ap (stage s.cells) q ∙ is) a.0
-alarmed_rests N s (Close u p) t c way a is e = let q : u.0 ≡ t = cc in never_runs s u.0 c way (ap (stage s.cells) q ∙ is) a.0
-alarmed_rests N s (Raise u) t c way a is e = let q : u.0 ≡ t = cc in never_runs s u.0 c way (ap (stage s.cells) q ∙ is) a
-alarmed_rests N s (Publish u p) t c way a is e = let q : u.0 ≡ t = cc in
-    never_publishes s u.0 c way (ap (stage s.cells) q ∙ is) (way_of_wait s u.0 p.0) a.1
-alarmed_rests N s (LoadOthers u) t c way a is e = let q : u.0 ≡ t = cc in never_walks s u.0 c way (ap (stage s.cells) q ∙ is) _ a
-alarmed_rests N s (LoadCount u) t c way a is e = let q : u.0 ≡ t = cc in never_walks s u.0 c way (ap (stage s.cells) q ∙ is) _ a
-alarmed_rests N s (ReadOwner u) t c way a is e = let q : u.0 ≡ t = cc in never_walks s u.0 c way (ap (stage s.cells) q ∙ is) _ a
-alarmed_rests N s (ReadWait u) t c way a is e = let q : u.0 ≡ t = cc in never_walks s u.0 c way (ap (stage s.cells) q ∙ is) _ a
-alarmed_rests N s (ReadOwnerAgain u) t c way a is e = let q : u.0 ≡ t = cc in never_walks s u.0 c way (ap (stage s.cells) q ∙ is) _ a
-alarmed_rests N s (Alarm u) t c way a is e = let q : u.0 ≡ t = cc in never_walks s u.0 c way (ap (stage s.cells) q ∙ is) _ a
-alarmed_rests N s (Settle u) t c way a is e = let q : u.0 ≡ t = cc in never_walks s u.0 c way (ap (stage s.cells) q ∙ is) _ a
-alarmed_rests N s (Unwait u) t c way a is e = let q : u.0 ≡ t = cc in
-    never_parked s u.0 c way (ap (stage s.cells) q ∙ is) a.0 a.1 a.2
+alarmed_rests N s (Make u) t c way a is e = never_runs s u.0 c way (still s t c way is u.0 e) a.0
+alarmed_rests N s (Fork u) t c way a is e = never_runs s u.0 c way (still s t c way is u.0 e) a.0
+alarmed_rests N s (Hand u p h) t c way a is e = never_runs s u.0 c way (still s t c way is u.0 e) a.0
+alarmed_rests N s (Close u p) t c way a is e = never_runs s u.0 c way (still s t c way is u.0 e) a.0
+alarmed_rests N s (Raise u) t c way a is e = never_runs s u.0 c way (still s t c way is u.0 e) a
+alarmed_rests N s (Publish u p) t c way a is e =
+    never_publishes s u.0 c way (still s t c way is u.0 e) (way_of_wait s u.0 p.0) a.1
+alarmed_rests N s (LoadOthers u) t c way a is e = never_walks s u.0 c way (still s t c way is u.0 e) _ a
+alarmed_rests N s (LoadCount u) t c way a is e = never_walks s u.0 c way (still s t c way is u.0 e) _ a
+alarmed_rests N s (ReadOwner u) t c way a is e = never_walks s u.0 c way (still s t c way is u.0 e) _ a
+alarmed_rests N s (ReadWait u) t c way a is e = never_walks s u.0 c way (still s t c way is u.0 e) _ a
+alarmed_rests N s (ReadOwnerAgain u) t c way a is e = never_walks s u.0 c way (still s t c way is u.0 e) _ a
+alarmed_rests N s (Alarm u) t c way a is e = never_walks s u.0 c way (still s t c way is u.0 e) _ a
+alarmed_rests N s (Settle u) t c way a is e = never_walks s u.0 c way (still s t c way is u.0 e) _ a
+alarmed_rests N s (Unwait u) t c way a is e =
+    never_parked s u.0 c way (still s t c way is u.0 e) a.0 a.1 a.2
 alarmed_rests N s Lower t c way a is e = absurd (cc)
 
 -- a task that has alarmed stays alarmed, on the same cell

@@ -77,7 +77,8 @@ module _ (s : CoreState) (x : CoreFacts s) where
       latest = λ d j k' below same thing thing'.
           let of_t : maker s.cells d ≡ t = sym (old_maker d (else d below)) ∙ (same ∙ its_maker) in
           let was : IsThing s.cells d j = sym (old_name d (else d below)) ∙ (thing
-          ∙ ap (λ (q : Name). child q j) (ap (name cells) (same ∙ its_maker) ∙ (t_name ∙ ap (name s.cells) (sym of_t)))) in
+          ∙ ap (λ (q : Name). child q j) (ap (name cells) (same ∙ its_maker)
+          ∙ (t_name ∙ ap (name s.cells) (sym of_t)))) in
           let number : k ≡ k' = (child_same (name s.cells t) (name cells (maker cells s.count)) k k'
           (sym (its_name ∙ named.name_is) ∙ thing')).1 in
           let small = named.latest d j below of_t was in omega arith;

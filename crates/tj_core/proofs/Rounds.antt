@@ -25,7 +25,8 @@ module _ (s : Cells) where
   pub leads_on : TellsWhetherOn (Leads s)
   leads_on t = by_wait (wait s t) refl
     where
-      by_owner : (c : ℕ) → wait s t ≡ Some c → (o : Option ℕ) → owner s c ≡ o → ((u : ℕ) × Leads s t u) ⊎ ((u : ℕ) → ¬ Leads s t u)
+      by_owner : (c : ℕ) → wait s t ≡ Some c → (o : Option ℕ) → owner s c ≡ o
+          → ((u : ℕ) × Leads s t u) ⊎ ((u : ℕ) → ¬ Leads s t u)
       by_owner c w None e = inr (λ u l.
           let k = some_same l.0 c (wait s t) l.1 w in
           let f : None ≡ Some u = sym e ∙ subst (λ x. owner s x ≡ Some u) k l.2 in absurd (cc))

@@ -87,7 +87,8 @@ module _ (s : CoreState) (x : CoreFacts s) (task : CellId) (runs : Runs (stage s
         latest = λ d j l of_t thing.
             let its_maker : maker s.cells d ≡ t = sym (f.makers d l) ∙ of_t in
             let made : j ≤ (s.cells t).made = subst (λ i. j ≤ (s.cells i).made) its_maker
-            (thing_made s.count s.cells x.makers d j l (thing_before s (begun m) f x.makers d j l thing)) in omega arith;
+            (thing_made s.count s.cells x.makers d j l (thing_before s (begun m) f x.makers d j l thing)) in
+            omega arith;
       }
 
   -- Make keeps the facts

@@ -54,7 +54,8 @@ module _ (N : ℕ) (s : CoreState) (task : CellId) where
   after_step (Count n) now may = λ i. restage s task.0 (walked (λ c w. count_read (now i) w))
   after_step (Owner o) now may =
       restage_same s task.0 (stage_by (Owner o)) (walked (λ c w. owner_read (owner s.cells (present c w.trail)) w))
-      (walked_same (stage s.cells task.0) (λ c w. owner_read o w) (λ c w. owner_read (owner s.cells (present c w.trail)) w)
+      (walked_same (stage s.cells task.0) (λ c w. owner_read o w)
+      (λ c w. owner_read (owner s.cells (present c w.trail)) w)
       (λ c way w. MayReadOwner w) may (λ c way w e h. ap (λ (q : Option ℕ). owner_read q w) (now c way w e)))
   after_step (Wait o) now may =
       restage_same s task.0 (stage_by (Wait o)) (walked (λ c w. wait_read s.cells w w.last))
@@ -62,7 +63,8 @@ module _ (N : ℕ) (s : CoreState) (task : CellId) where
       (λ c way w. MayReadWait task.0 w) may (λ c way w e h. ap (wait_heard o w) h.1
       ∙ (ap (λ (q : Option ℕ). wait_found h.0 q w) (now c way w e h.0 h.1) ∙ sym (ap (wait_read s.cells w) h.1))))
   after_step (Again o) now may =
-      restage_same s task.0 (stage_by (Again o)) (walked (λ c w. owner_again (owner s.cells (present c w.trail)) w w.last))
+      restage_same s task.0 (stage_by (Again o))
+      (walked (λ c w. owner_again (owner s.cells (present c w.trail)) w w.last))
       (walked_same (stage s.cells task.0) (λ c w. owner_again o w w.last)
       (λ c w. owner_again (owner s.cells (present c w.trail)) w w.last)
       (λ c way w. MayReadAgain w) may (λ c way w e h. ap (λ (q : Option ℕ). owner_again q w w.last) (now c way w e)))

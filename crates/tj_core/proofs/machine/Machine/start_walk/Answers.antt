@@ -8,7 +8,15 @@ pub invariant_of-self : goal.invariant_of-self
 invariant_of-self c =
     let m = c.args.self.now in let x = c.index_mut.result.now in let y = c.publish.new.self in let t = c.args.t in
     let n = length-set m.slots.items t y in let a = m.there in let b = m.all in
-    record { there = omega arith; all = omega arith; owned = m.owned; roomy = rooms_stay m.slots.items t x y c.requires c.index_mut.ensures.value m.births.limit m.roomy c.publish.ensures.room; spares = m.spares; room = m.room }
+    record {
+      there = omega arith;
+      all = omega arith;
+      owned = m.owned;
+      roomy = rooms_stay m.slots.items t x y c.requires c.index_mut.ensures.value m.births.limit m.roomy
+          c.publish.ensures.room;
+      spares = m.spares;
+      room = m.room;
+    }
 
 pub returns-clause-state : goal.returns-clause-state
 returns-clause-state c =

@@ -18,7 +18,15 @@ pub invariant_of-self : goal.invariant_of-self
 invariant_of-self c =
     let m = c.args.self.now in let x = c.index_mut.result.now in let y = c.step.new.self in let t = c.args.t.0 in
     let n = length-set m.slots.items t y in let a = m.there in let b = m.all in
-    record { there = omega arith; all = omega arith; owned = m.owned; roomy = rooms_stay m.slots.items t x y (search rules) c.index_mut.ensures.value m.births.limit m.roomy c.step.ensures.room; spares = m.spares; room = m.room }
+    record {
+      there = omega arith;
+      all = omega arith;
+      owned = m.owned;
+      roomy = rooms_stay m.slots.items t x y (search rules) c.index_mut.ensures.value m.births.limit m.roomy
+          c.step.ensures.room;
+      spares = m.spares;
+      room = m.room;
+    }
 
 -- what holds, holds if there is an error
 if_so : {T E P : Type 0} (r : Result T E) → P → OnErr r P
