@@ -11,7 +11,8 @@ pub returns : goal.returns
 returns c = λ cells steps input few tokens script root outcome has without is main fits told.
     let no_get = c.scripts_without_the_keyword.ensures (kinds_of tokens) script is without in
     c.strict_outcome_has_no_wait.ensures true root (fresh-root (kinds_of tokens) script steps root is main few)
-    asks_no_get (IsWithoutGet-script c.no_get.ensures.asks true) (c.no_get.ensures.main script steps root no_get main) cells
+    asks_no_get (IsWithoutGet-script c.no_get.ensures.asks true)
+    (c.no_get.ensures.main script steps root no_get main) cells
     fits outcome told
 
 -- a body of a script may cross threads
