@@ -78,7 +78,8 @@ module _ {B : Type 0} (rules : Rules B) where
   fits_done : (b : B) → rules.awaits b ≡ done → Fits (rules.awaits b) (rules.places b) answer.Done
   fits_done b e = subst (λ w. Fits w (rules.places b) answer.Done) (sym e) tt
 
-  fits_local : (b : B) (n : ℕ) → rules.awaits b ≡ place → rules.places b ≡ n → Fits (rules.awaits b) (rules.places b) (answer.Local n)
+  fits_local : (b : B) (n : ℕ) → rules.awaits b ≡ place → rules.places b ≡ n
+      → Fits (rules.awaits b) (rules.places b) (answer.Local n)
   fits_local b n e d = subst (λ w. Fits w (rules.places b) (answer.Local n)) (sym e) (sym d)
 
   one_more : (l : List Reference) (r : Reference) → length (l ++ r ∷ []) ≡ suc (length l)

@@ -100,7 +100,8 @@ module _ {B : Type 0} (rules : Rules B) where
     turns p _ _ n (joins spare k s o) z h = join_goes_on B spare k h
     turns p _ _ n (prints i) z h = let l = not_last h in omega arith
 
-    reads : (spare : Bool) (c : Name) (e : Entry) (p : Point B) → Falls (after_read spare c e p) (2 * rules.left p.body + 3)
+    reads : (spare : Bool) (c : Name) (e : Entry) (p : Point B)
+        → Falls (after_read spare c e p) (2 * rules.left p.body + 3)
     reads true c entry.Broken p = omega arith
     reads false c entry.Broken p = omega arith
     reads spare c (entry.Value (value.Num i)) p = omega arith
@@ -133,7 +134,8 @@ module _ {B : Type 0} (rules : Rules B) where
       still_stopped : (k : ℕ) → HasStopped V (point_at k) → HasStopped V (point_at (suc k))
       still_stopped k s = subst (HasStopped V) (sym (stopped_stays V (point_at k) s)) s
 
-      runs_down : (k : ℕ) → HasStopped V (point_at k) ⊎ (weight rules.left (point_at k) + k ≤ 2 * suc (rules.left t.body))
+      runs_down : (k : ℕ)
+          → HasStopped V (point_at k) ⊎ (weight rules.left (point_at k) + k ≤ 2 * suc (rules.left t.body))
       runs_down zero = inr (omega arith)
       runs_down (suc k) =
           let p = point_at k in

@@ -15,7 +15,8 @@ use Rattle.tj_body.specs.RoundPoints.{ReferencesAreNamed, ThingsAreMade, StepsEx
 use Rattle.tj_body.specs.declared.point.Task.{Task}
 use Rattle.tj_body.specs.declared.point.Point.{Point}
 use Rattle.tj_body.proofs.Lists.{in_left, in_right, in_map, to_map}
-use Rattle.tj_body.proofs.Counts.{is, times, times_map, total, total_append, total_le, times_of_in, in_of_times, at_most_one}
+use Rattle.tj_body.proofs.Counts.{is, times, times_map, total, total_append, total_le}
+use Rattle.tj_body.proofs.Counts.{times_of_in, in_of_times, at_most_one}
 use Rattle.tj_body.proofs.Counts.{distinct_of_times}
 use Rattle.tj_body.proofs.Prefixes.{begins, under, under_is, numbered_once}
 use Rattle.tj_body.proofs.Accounts.{numbered, fair}

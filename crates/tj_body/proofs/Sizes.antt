@@ -14,7 +14,8 @@ use Rattle.tj_body.specs.Laws.{CountsInRound, CountsMade}
 use Rattle.tj_body.specs.declared.point.Task.{Task}
 use Rattle.tj_body.specs.declared.point.Point.{Point}
 use Rattle.tj_body.proofs.Lists.{sub_begins, sub_length, in_right}
-use Rattle.tj_body.proofs.Counts.{is, total_some, name_of_is, total, total_le, times, times_of_in, in_of_times, fewer, at_least}
+use Rattle.tj_body.proofs.Counts.{is, total_some, name_of_is, total, total_le, times}
+use Rattle.tj_body.proofs.Counts.{times_of_in, in_of_times, fewer, at_least}
 use Rattle.tj_body.proofs.Counts.{at_most_one}
 use Rattle.tj_body.proofs.Prefixes.{begins, under, under_is, numbered_once}
 use Rattle.tj_body.proofs.Accounts.{numbered, fair}

@@ -1,6 +1,7 @@
 -- In a meaning that isn't full, whoever owns what a task waits for waits too, so waits lead to a cycle.
 use Rattle.std.proofs.Common.{◌≡◌, ℕ, zero, suc, ◌+◌, ◌*◌, ◌<◌, ◌≤◌, ◌⊎◌, inl, inr, ⊎_elim, Bool, true, false}
-use Rattle.std.proofs.Common.{List, [], ◌∷◌, map, length, Option, Some, None, refl, sym, ap, ◌∙◌, subst, arith, length-append}
+use Rattle.std.proofs.Common.{List, [], ◌∷◌, map, length, Option, Some, None, refl, sym, ap}
+use Rattle.std.proofs.Common.{◌∙◌, subst, arith, length-append}
 use native.Mathlib.Decide.{dec_le}
 use mathlib.Core.Logic.{dite}
 use Rattle.std.specs.Bool.{Decides}
@@ -235,7 +236,8 @@ module _ {B : Type 0} (program : Program B) (obeys : AreLawful program.rules)
             (same_self p.name)) ∙ e in absurd (cc)) none)
         by true e (stage.Waits q spare) s none = inl (q, (p, spare, h p (inl refl), same_is p.name x e, s))
         by true e (stage.Answered a) s none =
-            inr (or_first (λ q spare n k. let z : stage.Answered a ≡ stage.Waits q spare = sym s ∙ k in absurd (cc)) none)
+            inr
+            (or_first (λ q spare n k. let z : stage.Answered a ≡ stage.Waits q spare = sym s ∙ k in absurd (cc)) none)
         by true e (stage.Closed c) s none =
             inr (or_first (λ q spare n k. let z : stage.Closed c ≡ stage.Waits q spare = sym s ∙ k in absurd (cc)) none)
 

@@ -47,7 +47,8 @@ module _ {B : Type 0} (rules : Rules B) where
 
   -- where the assignment grows, a history that ended stays as it was, and each is a beginning of the new one
   abbrev pub IsMonotone : Task B → Type 0
-  IsMonotone t = (V W : Assignment) → IsWithin V W → (HasEnded (history rules V t) → history rules W t ≡ history rules V t)
+  IsMonotone t = (V W : Assignment) → IsWithin V W
+      → (HasEnded (history rules V t) → history rules W t ≡ history rules V t)
       × IsPointOf rules W t (history rules V t)
       × Extends (history rules V t) (history rules W t)
 

@@ -36,7 +36,8 @@ module _ {B : Type 0} (program : Program B) where
   -- the assignment of round n: what the histories of that round, under the assignment before, set or break
   abbrev pub given : ℕ → Assignment
   given zero = λ q. None
-  given (suc n) = entry_in (flat_map (writes_by program.rules (given n)) (family program.rules (given n) (suc n) (root_task program.root)))
+  given (suc n) = entry_in
+      (flat_map (writes_by program.rules (given n)) (family program.rules (given n) (suc n) (root_task program.root)))
 
   -- the tasks of round n: those of depth at most n that come from the root under the assignment before
   abbrev pub tasks : ℕ → List (Task B)

@@ -10,7 +10,8 @@ pub returns : goal.returns
 returns g c =
     let b = g.B.Body in
     let o = (g.met.B.Body g.world.𝓛 g.world.𝓜 g.world.𝓡 ((λ s x. x), (λ x. x), (λ x. x), λ x. x)).obeys in
-    let of : Bool → g.row.B.Denot → Program g.row.B.Denot = program_of b.places b.awaits b.left b.asks b.then in record {
+    let of : Bool → g.row.B.Denot → Program g.row.B.Denot =
+    program_of b.places b.awaits b.left b.asks b.then in record {
       later = λ s r f. points_stay (of s r);
       start = λ s r f. tasks_start (of s r);
       ask = λ s r f. points_ask (of s r);

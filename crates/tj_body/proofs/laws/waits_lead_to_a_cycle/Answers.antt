@@ -8,7 +8,8 @@ pub returns : goal.returns
 returns g c =
     let b = g.B.Body in
     let o = (g.met.B.Body g.world.𝓛 g.world.𝓜 g.world.𝓡 ((λ s x. x), (λ x. x), (λ x. x), λ x. x)).obeys in
-    let of : Bool → g.row.B.Denot → Program g.row.B.Denot = program_of b.places b.awaits b.left b.asks b.then in record {
+    let of : Bool → g.row.B.Denot → Program g.row.B.Denot =
+    program_of b.places b.awaits b.left b.asks b.then in record {
       owners = λ s r f. owners_wait (of s r) o (root_proper (of s r) f);
       cycle = λ s r f. waits_lead (of s r) o (root_proper (of s r) f);
     }
