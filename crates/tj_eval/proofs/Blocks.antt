@@ -1,5 +1,5 @@
 -- Lists that loops and open blocks need.
-use Rattle.std.proofs.Common.{◌≡◌, ℕ, zero, suc, ◌+◌, ◌-◌, ◌≤◌, List, [], ◌∷◌, ◌++◌, map, length, get_or, set, take}
+use Rattle.std.proofs.Common.{◌≡◌, ℕ, suc, ◌+◌, ◌-◌, ◌≤◌, List, [], ◌∷◌, ◌++◌, map, length}
 use Rattle.std.proofs.Common.{replicate, refl, ap, sym, ◌∙◌, append_assoc, arith}
 use Rattle.std.proofs.lemmas.List.{append-nil, length-map, replicate-append-replicate}
 use Rattle.std.specs.Prelude.{Result, Ok, Err}
@@ -24,32 +24,6 @@ module _ {X A : Type 0} (now : X → List A) where
   rest_of-push (y ∷ xs) x = ap (λ z. z ++ now y) (rest_of-push xs x)
       ∙ append_assoc (now x) (rest_of (map now xs)) (now y)
 
-  -- the innermost block, set to another
-  pub rest_of-set : (xs : List X) (n : ℕ) (x : X) → length xs ≡ suc n
-      → rest_of (map now (set xs n x)) ≡ now x ++ rest_of (map now (take n xs))
-  rest_of-set [] n x e = absurd (omega arith)
-  rest_of-set (y ∷ []) zero x e = sym (append-nil (now x))
-  rest_of-set (y ∷ []) (suc n) x e = absurd (omega arith)
-  rest_of-set (y ∷ z ∷ xs) zero x e = absurd (omega arith)
-  rest_of-set (y ∷ z ∷ xs) (suc n) x e = ap (λ w. w ++ now y) (rest_of-set (z ∷ xs) n x (omega arith))
-      ∙ append_assoc (now x) (rest_of (map now (take n (z ∷ xs)))) (now y)
-
-  -- the innermost block as it is
-  pub rest_of-last : (xs : List X) (n : ℕ) (d : X) → length xs ≡ suc n
-      → rest_of (map now xs) ≡ now (get_or xs n d) ++ rest_of (map now (take n xs))
-  rest_of-last [] n d e = absurd (omega arith)
-  rest_of-last (y ∷ []) zero d e = sym (append-nil (now y))
-  rest_of-last (y ∷ []) (suc n) d e = absurd (omega arith)
-  rest_of-last (y ∷ z ∷ xs) zero d e = absurd (omega arith)
-  rest_of-last (y ∷ z ∷ xs) (suc n) d e = ap (λ w. w ++ now y) (rest_of-last (z ∷ xs) n d (omega arith))
-      ∙ append_assoc (now (get_or (z ∷ xs) n d)) (rest_of (map now (take n (z ∷ xs)))) (now y)
-
-  -- the first statement of the innermost block, and what remains
-  pub rest_of-first : (xs : List X) (n : ℕ) (d : X) (s : A) (rest : List A) → length xs ≡ suc n → d ≡ get_or xs n d
-      → now d ≡ s ∷ rest → rest_of (map now xs) ≡ s ∷ (rest ++ rest_of (map now (take n xs)))
-  rest_of-first xs n d s rest l e f = rest_of-last xs n d l
-      ∙ ap (λ z. z ++ rest_of (map now (take n xs))) (ap now (sym e) ∙ f)
-
 nil_of : {A : Type 0} (xs : List A) → length xs ≡ 0 → xs ≡ []
 nil_of [] e = refl
 nil_of (x ∷ xs) e = absurd (omega arith)
@@ -59,18 +33,12 @@ module _ {X A B : Type 0} (now : X → List A) (f : A → B) where
   abbrev seen : X → List B
   seen x = map f (now x)
 
-  -- the innermost block with its last statement
-  pub take-last : (xs new : List X) (n : ℕ) (d : X) (s : A) (rest : List A) → length xs ≡ suc n → d ≡ get_or xs n d
-      → now d ≡ s ∷ rest → length rest ≡ 0 → new ≡ take n xs → rest_of (map seen xs) ≡ f s ∷ rest_of (map seen new)
-  take-last xs new n d s rest l e g z t = rest_of-first seen xs n d (f s) (map f rest) l e (ap (map f) g)
-      ∙ ap (λ r. f s ∷ (map f r ++ rest_of (map seen (take n xs)))) (nil_of rest z)
-      ∙ ap (λ b. f s ∷ rest_of (map seen b)) (sym t)
-
-  -- the innermost block with an earlier one
-  pub take-one : (xs : List X) (n : ℕ) (d : X) (s : A) (r : X) → length xs ≡ suc n → d ≡ get_or xs n d
-      → now d ≡ s ∷ now r → rest_of (map seen xs) ≡ f s ∷ rest_of (map seen (set xs n r))
-  take-one xs n d s r l e g = rest_of-first seen xs n d (f s) (seen r) l e (ap (map f) g)
-      ∙ ap (λ z. f s ∷ z) (sym (rest_of-set seen xs n r l))
+  -- a block of which nothing remains is left for the one around it
+  pub take-outer : (block : List A) (xs new : List X) (x : X) (s : A) (rest : List A) → length block ≡ 0
+      → xs ≡ new ++ x ∷ [] → now x ≡ s ∷ rest
+      → map f block ++ rest_of (map seen xs) ≡ f s ∷ (map f rest ++ rest_of (map seen new))
+  take-outer block xs new x s rest z e g = ap (λ b. map f b ++ rest_of (map seen xs)) (nil_of block z)
+      ∙ ap (λ w. rest_of (map seen w)) e ∙ rest_of-push seen new x ∙ ap (λ w. map f w ++ rest_of (map seen new)) g
 
 -- values in front of those that are still computed
 abbrev pub ahead : List Pay → Result (List Pay) Trouble → Result (List Pay) Trouble

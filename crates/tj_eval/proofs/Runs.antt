@@ -1,16 +1,14 @@
 -- The way on to the next ask, one statement at a time.
-use Rattle.std.proofs.Common.{◌≡◌, ℕ, zero, suc, ◌-◌, ◌<◌, List, [], ◌∷◌, pos, ap, sym, subst, ◌∙◌, arith}
+use Rattle.std.proofs.Common.{◌≡◌, ℕ, zero, suc, ◌-◌, ◌<◌, List, [], ◌∷◌, pos, ap, sym, ◌∙◌, arith}
 use Rattle.tj_base.specs.declared.value.Pay.TheVariants as pay
 use Rattle.tj_base.specs.declared.cause.Trouble.{Trouble}
 use Rattle.tj_base.specs.declared.cause.Trouble.TheVariants as trouble
-use Rattle.tj_body.specs.declared.ask.Ask.{Ask}
 use Rattle.tj_body.specs.declared.ask.Ask.TheVariants as ask
 use Rattle.tj_syntax.specs.Trees.{Statement}
-use Rattle.std.specs.Prelude.{Option, Some, Result, Ok, Err}
-use Rattle.tj_eval.specs.declared.stop.Stop.{Stop}
+use Rattle.std.specs.Prelude.{Bool, true, false, Ok, Err}
 use Rattle.tj_eval.specs.declared.stop.Stop.TheVariants.{Fault}
-use Rattle.tj_eval.specs.Turns.{IsTurn}
-use Rattle.tj_eval.specs.Statements.{TaskState, Turn, asks, fails, ended, begun, next_from, next_of, next_ask}
+use Rattle.tj_eval.specs.Turns.{IsStep, is_ask}
+use Rattle.tj_eval.specs.Statements.{TaskState, ended, begun, next_from, next_of, next_ask}
 
 -- where no statement is left the task ends, at no cost
 pub next_ask-done : (n : ℕ) (t : TaskState) → t.rest ≡ [] → next_ask n t ≡ (ask.End (pay.Num (pos 0)), ended t)
@@ -35,26 +33,45 @@ next_ask-begins old t s r e p = let same : t.steps ≡ old.steps = ap (λ z. z.s
     ∙ ap (λ z. next_from (record z { steps = t.steps - 1 }) (begun (record z { steps = t.steps - 1 }) s)
     (next_ask (t.steps - 1))) (sym e)
 
--- what the turn of a statement that begins comes to
-module _ (old t : TaskState) (s : Statement) (r : old.rest ≡ s ∷ t.rest) (e : t ≡ record old { rest = t.rest })
-    (p : 0 < t.steps) where
-  abbrev turn : Turn
-  turn = begun (record t { steps = t.steps - 1 }) s
+-- no statement may begin
+spent : (n : ℕ) (t : TaskState) (s : Statement) (rest : List Statement) → t.rest ≡ s ∷ rest → n ≡ 0
+    → next_ask n t ≡ (ask.Fail trouble.Steps, ended (record t { rest = rest }))
+spent zero t s rest e z = ap (λ w. next_of t w (λ s rest. (ask.Fail trouble.Steps, ended (record t { rest = rest })))) e
+spent (suc n) t s rest e z = absurd (omega arith)
 
-  -- where it asks, that is the next ask
-  pub next_ask-asks : (result : Result (Option (Ask TaskState)) Stop) (a : Ask TaskState) (new : TaskState)
-      → IsTurn (record t { steps = t.steps - 1 }) turn result new → result ≡ Ok (Some a) → next_ask old.steps old
-      ≡ (a, new)
-  next_ask-asks result a new h f = let k : turn
-      ≡ asks a new = subst (λ z. IsTurn (record t { steps = t.steps - 1 }) turn z new) f h in
-      next_ask-begins old t s r e p ∙ ap (λ z. next_from (record t { steps = t.steps - 1 }) z (next_ask (t.steps - 1))) k
+not_both : true ≡ false → ⊥
+not_both e = cc
 
-  -- where it fails, so does the task
-  pub next_ask-fails : (result : Result (Option (Ask TaskState)) Stop) (fault : Trouble) (new : TaskState)
-      → IsTurn (record t { steps = t.steps - 1 }) turn result new → result ≡ Err (Fault fault)
-      → next_ask old.steps old ≡ (ask.Fail fault, ended new)
-  next_ask-fails result fault new h f = let k : (turn ≡ fails fault) × (new ≡ record t { steps = t.steps - 1 })
-      = subst (λ z. IsTurn (record t { steps = t.steps - 1 }) turn z new) f h in
-      next_ask-begins old t s r e p
-      ∙ ap (λ z. next_from (record t { steps = t.steps - 1 }) z (next_ask (t.steps - 1))) k.0
-      ∙ ap (λ z. (ask.Fail fault, z)) (sym (ap ended k.1))
+-- A statement is taken from those that remain.
+module _ (old t : TaskState) (s : Statement) (r : old.rest ≡ s ∷ t.rest) (e : t ≡ record old { rest = t.rest }) where
+  -- where no statement may begin any more, the task fails
+  pub next_ask-spent : t.steps ≡ 0 → next_ask old.steps old ≡ (ask.Fail trouble.Steps, ended t)
+  next_ask-spent z = spent old.steps old s t.rest r (sym (ap (λ w. w.steps) e) ∙ z)
+      ∙ ap (λ w. (ask.Fail trouble.Steps, ended w)) (sym e)
+
+  module _ (p : 0 < t.steps) where
+    abbrev on : TaskState
+    on = record t { steps = t.steps - 1 }
+
+    -- where it asks nothing, the way goes on from there
+    pub next_ask-goes_on : (new : TaskState) → IsStep on s (Ok true) new
+        → next_ask old.steps old ≡ next_ask new.steps new
+    next_ask-goes_on new h = next_ask-begins old t s r e p
+        ∙ ap (λ z. next_from on z (next_ask (t.steps - 1))) h.0 ∙ ap (λ n. next_ask n new) (sym h.1)
+
+    -- where it asks, that is the next ask
+    pub next_ask-stops : (taken : Bool) (new : TaskState) → IsStep on s (Ok taken) new → taken ≡ false
+        → (next_ask old.steps old ≡ next_from new (begun new s) (next_ask new.steps))
+        × (is_ask s ≡ true) × (new.script ≡ old.script)
+    next_ask-stops true new h f = absurd (not_both f)
+    next_ask-stops false new h f = (
+      next_ask-begins old t s r e p ∙ ap (λ z. next_from z (begun z s) (next_ask z.steps)) (sym h.1),
+      h.0,
+      ap (λ z. z.script) h.1 ∙ ap (λ z. z.script) e,
+    )
+
+    -- where it fails, so does the task
+    pub next_ask-fails : (fault : Trouble) (new : TaskState) → IsStep on s (Err (Fault fault)) new
+        → next_ask old.steps old ≡ (ask.Fail fault, ended new)
+    next_ask-fails fault new h = next_ask-begins old t s r e p
+        ∙ ap (λ z. next_from on z (next_ask (t.steps - 1))) h.0 ∙ ap (λ z. (ask.Fail fault, ended z)) (sym h.1)

@@ -1,10 +1,13 @@
 -- Parsed statements and the trees that they stand for.
-use Rattle.std.proofs.Common.{◌≡◌, ℕ, zero, suc, List, [], ◌∷◌, map, refl, ap, ◌∙◌, rules}
+use Rattle.std.proofs.Common.{◌≡◌, ℕ, zero, suc, List, [], ◌∷◌, ◌++◌, map, refl, ap, sym, ◌∙◌, rules}
+use Rattle.std.proofs.lemmas.List.{append-nil}
 use Rattle.std.specs.Prelude.{slice_get}
 use Rattle.std.specs.Option.{option_map}
 use Rattle.tj_syntax.specs.declared.stmt.Block.{Block, the_lemmas}
+use Rattle.tj_syntax.specs.declared.stmt.Stmt.{Stmt}
 use Rattle.tj_syntax.specs.Trees as tree
 use Rattle.tj_syntax.specs.View.{statement, statements_of, block}
+use Rattle.tj_eval.specs.Bodies.{rest_of}
 use Rattle.tj_eval.specs.Statements.{listed}
 
 listed-of : (list : List tree.Statement) → listed (statements_of list) ≡ list
@@ -24,3 +27,11 @@ pub get_map : {A B : Type 0} (f : A → B) (list : List A) (n : ℕ) → slice_g
 get_map f [] n = refl
 get_map f (x ∷ list) zero = refl
 get_map f (x ∷ list) (suc n) = get_map f list n
+
+-- what remains where a block has just begun and no block is around it
+pub begins-block : {X : Type 0} (now : X → List tree.Statement) (body : Block) (list : List Stmt) (around : List X)
+    → list ≡ body.stmts.items → around ≡ []
+    → map statement list ++ rest_of (map now around) ≡ listed (block body)
+begins-block now body list around e f = ap (λ z. map statement z ++ rest_of (map now around)) e
+    ∙ ap (λ z. map statement body.stmts.items ++ rest_of (map now z)) f
+    ∙ append-nil (map statement body.stmts.items) ∙ sym (listed_block body)

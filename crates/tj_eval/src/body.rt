@@ -10,7 +10,7 @@ ghost use Rattle.tj_syntax.specs.View as view;
 ghost use Rattle.tj_eval.specs.Bodies.{all_have_few_params, IsMainBody};
 ghost use Rattle.tj_eval.specs.Bodies.{script_places, script_awaits, script_left};
 ghost use Rattle.tj_eval.specs.Statements as state;
-ghost use Rattle.tj_eval.specs.Turns.{IsNextAsk, IsAnswered};
+ghost use Rattle.tj_eval.specs.Turns.{IsNext, IsNextAsk, IsAnswered};
 
 use crate::expression::value;
 use crate::fork::task_of;
@@ -106,20 +106,25 @@ impl<'s> ScriptBody<'s> {
         requires { IsTrue (all_have_few_params self.old.script) }
         ensures { IfOk result (λ ask. IsNextAsk (state.next_ask self.old.steps self.old) ask self.new) }
     {
-        while let Some(stmt) = self.take() {
-            if self.steps == 0 {
-                return Ok(self.fail(Trouble::Steps));
-            }
-            self.steps -= 1;
-            match self.begin(alloc, stmt) {
-                Ok(Some(ask)) => return Ok(ask),
-                Ok(None) => {}
-                Err(Stop::Fault(fault)) => return Ok(self.fail(fault)),
-                Err(Stop::Memory) => return Err(Oom),
+        match self.next_ask(alloc) {
+            Ok(ask) => Ok(ask),
+            Err(Stop::Fault(fault)) => Ok(self.fail(fault)),
+            Err(Stop::Memory) => Err(Oom),
+        }
+    }
+
+    /// The next ask, if no statement on the way to it fails.
+    fn next_ask(&mut self, alloc: Global) -> Result<Ask<ScriptBody<'s>>, Stop>
+        requires { IsTrue (all_have_few_params self.old.script) }
+        ensures { IsNext (state.next_ask self.old.steps self.old) result self.new }
+    {
+        match self.go_on()? {
+            Some(stmt) => self.ask(alloc, stmt),
+            None => {
+                self.end();
+                Ok(Ask::End(Pay::Num(0)))
             }
         }
-        self.end();
-        Ok(Ask::End(Pay::Num(0)))
     }
 
     /// Fails.
@@ -159,7 +164,8 @@ impl<'s> Body for ScriptBody<'s> {
         Ok(ScriptBody {
             script: self.script,
             limit: self.limit,
-            blocks: Vec::from_slice(alloc, &self.blocks)?,
+            block: self.block,
+            around: Vec::from_slice(alloc, &self.around)?,
             vars: Vec::from_slice(alloc, &self.vars)?,
             steps: self.steps,
             places: self.places,

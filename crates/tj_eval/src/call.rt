@@ -3,7 +3,7 @@ ghost use Rattle.std.specs.Prelude.{◌≡◌, IsTrue};
 ghost use Rattle.tj_eval.specs.Bodies.{all_have_few_params};
 ghost use Rattle.tj_syntax.specs.View as view;
 ghost use Rattle.tj_eval.specs.Statements as state;
-ghost use Rattle.tj_eval.specs.Turns.{IsTurn};
+ghost use Rattle.tj_eval.specs.Turns.{IsAskOf};
 
 use crate::expression::{held, reference_in};
 use crate::state::{Due, ScriptBody};
@@ -30,30 +30,30 @@ impl<'s> ScriptBody<'s> {
         alloc: Global,
         into: Option<u32>,
         call: &'s Call,
-    ) -> Result<Option<Ask<ScriptBody<'s>>>, Stop>
+    ) -> Result<Ask<ScriptBody<'s>>, Stop>
         requires { IsTrue (all_have_few_params self.old.script) }
-        ensures { IsTurn self.old (state.called self.old into (view.request call.now)) result self.new }
+        ensures { IsAskOf self.old (state.called self.old into (view.request call.now)) result self.new }
     {
         match call {
             Call::New => {
                 self.due = Due::Place(into);
-                Ok(Some(Ask::New))
+                Ok(Ask::New)
             }
             Call::Fork(f, args) => {
                 let ask = self.fork(alloc, *f, args)?;
                 self.due = Due::Place(into);
-                Ok(Some(ask))
+                Ok(ask)
             }
             Call::Get(r, or) => {
                 let p = self.reference(*r)?;
                 match or {
                     None => {
                         self.due = Due::Cell(into);
-                        Ok(Some(Ask::Get { p }))
+                        Ok(Ask::Get { p })
                     }
                     Some(e) => {
                         self.due = Due::CellOr(into, e);
-                        Ok(Some(Ask::GetOr { p }))
+                        Ok(Ask::GetOr { p })
                     }
                 }
             }
@@ -62,11 +62,11 @@ impl<'s> ScriptBody<'s> {
                 match or {
                     None => {
                         self.due = Due::Cell(into);
-                        Ok(Some(Ask::Join { t }))
+                        Ok(Ask::Join { t })
                     }
                     Some(e) => {
                         self.due = Due::CellOr(into, e);
-                        Ok(Some(Ask::JoinOr { t }))
+                        Ok(Ask::JoinOr { t })
                     }
                 }
             }

@@ -1,8 +1,9 @@
 //! The values of expressions: from the left, and the first fault decides.
-ghost use Rattle.std.specs.Prelude.{◌≡◌, neg_ℤ, map};
+ghost use Rattle.std.specs.Prelude.{◌≡◌, Ok, Err, neg_ℤ, map, MatchOption};
 ghost use Rattle.tj_syntax.specs.View.{expression, pair, pairs_of};
 ghost use Rattle.tj_eval.specs.Expressions as meaning;
 
+use crate::quick::quick;
 use tj_base::{Pay, Trouble};
 use tj_syntax::{Expr, Op, Rel};
 
@@ -17,8 +18,20 @@ pub(crate) fn held(vars: &[Pay], x: u32) -> Pay
 }
 
 /// The value of an expression of a task with these variables.
-#[cycle(value)]
+#[inline(always)]
 pub(crate) fn value(vars: &[Pay], e: &Expr) -> Result<Pay, Trouble>
+    ensures { result ≡ meaning.value vars.now (expression e.now) }
+{
+    match quick(vars, e) {
+        Some(n) => Ok(Pay::Num(n)),
+        None => whole(vars, e),
+    }
+}
+
+/// The same, of one that comes to a reference or to a fault.
+#[cycle(whole)]
+#[inline(never)]
+fn whole(vars: &[Pay], e: &Expr) -> Result<Pay, Trouble>
     ensures { result ≡ meaning.value vars.now (expression e.now) }
 {
     match e {
@@ -36,26 +49,26 @@ pub(crate) fn value(vars: &[Pay], e: &Expr) -> Result<Pay, Trouble>
 }
 
 /// The value of an operand, which has to be a number.
-#[cycle(value)]
+#[cycle(whole)]
+#[inline(always)]
 pub(crate) fn number(vars: &[Pay], e: &Expr) -> Result<i64, Trouble>
     ensures { result ≡ meaning.with_number (meaning.value vars.now (expression e.now)) (λ n. Ok n) }
 {
-    match e {
-        Expr::Num(n) => Ok(*n),
-        Expr::Var(x) => number_in(held(vars, *x)),
-        _ => number_in(value(vars, e)?),
+    match quick(vars, e) {
+        Some(n) => Ok(n),
+        None => number_in(whole(vars, e)?),
     }
 }
 
 /// The value of a chain whose operands so far have come to n.
-#[cycle(value)]
+#[cycle(whole)]
 fn chained(vars: &[Pay], n: i64, pairs: &[(Op, Expr)]) -> Result<Pay, Trouble>
     ensures { result ≡ meaning.chained vars.now n (pairs_of (map pair pairs.now)) }
 {
     let mut so_far = n;
     for (op, e) in pairs {
         let m = number(vars, e)?;
-        so_far = applied(*op, so_far, m)?;
+        so_far = applied(*op, so_far, m).ok_or(Trouble::Arith)?;
     }
     Ok(Pay::Num(so_far))
 }
@@ -80,22 +93,22 @@ pub(crate) fn reference_in(value: Pay) -> Result<u32, Trouble>
     }
 }
 
-/// What the operator gives.
-fn applied(op: Op, a: i64, b: i64) -> Result<i64, Trouble>
-    ensures { result ≡ meaning.with_number (meaning.applied op a b) (λ n. Ok n) }
+/// What the operator gives, if it is one of 64 bits.
+pub(crate) fn applied(op: Op, a: i64, b: i64) -> Option<i64>
+    ensures { MatchOption result (meaning.applied op a b ≡ Err Trouble.Arith)
+        (λ n. meaning.applied op a b ≡ Ok (Pay.Num n)) }
 {
-    let exact = match op {
+    match op {
         Op::Plus => a.checked_add(b),
         Op::Minus => a.checked_sub(b),
         Op::Times => a.checked_mul(b),
         Op::Over => a.checked_div(b),
         Op::Rest => a.checked_rem(b),
-    };
-    exact.ok_or(Trouble::Arith)
+    }
 }
 
 /// Whether the comparison holds.
-fn compares(rel: Rel, a: i64, b: i64) -> bool
+pub(crate) fn compares(rel: Rel, a: i64, b: i64) -> bool
     ensures { result ≡ meaning.compares rel a b }
 {
     match rel {

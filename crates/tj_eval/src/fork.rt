@@ -99,17 +99,16 @@ pub(crate) fn task_of<'s>(
     ensures { IfOk result (λ body. body
         ≡ state.task_of (view.script script.now) limit (view.task decl.now) values.now) }
 {
-    let mut body = ScriptBody {
+    Ok(ScriptBody {
         script,
         limit,
-        blocks: Vec::new(alloc),
+        block: &decl.body.stmts,
+        around: Vec::new(alloc),
         vars: variables(alloc, values, decl.vars.len())?,
         steps: limit,
         places: passed as u32 + 1,
         due: Due::Start,
-    };
-    body.open_block(&decl.body)?;
-    Ok(body)
+    })
 }
 
 impl<'s> ScriptBody<'s> {

@@ -8,6 +8,7 @@ mod fork;
 #[cfg(test)]
 mod fork_tests;
 pub mod laws;
+mod quick;
 mod state;
 mod statement;
 mod stop;

@@ -1,6 +1,6 @@
 //! A task of a script between two of its asks. It keeps positions in blocks: for each block that is
-//! open, the statements of it that remain. No block that is open is without any.
-ghost use Rattle.std.specs.Prelude.{◌≡◌, [], ◌∷◌, OnOk, MatchOption, map};
+//! open, the statements of it that remain. Each block but the innermost has some.
+ghost use Rattle.std.specs.Prelude.{◌≡◌, [], ◌∷◌, ◌++◌, if◌then◌else◌, is_ok, OnOk, MatchOption, map};
 ghost use Rattle.tj_syntax.specs.View.{block, statement};
 ghost use Rattle.tj_eval.specs.Statements as state;
 
@@ -24,7 +24,10 @@ pub(crate) enum Due<'s> {
 pub struct ScriptBody<'s> {
     pub(crate) script: &'s Script,
     pub(crate) limit: u32,
-    pub(crate) blocks: Vec<&'s [Stmt]>,
+    /// What remains of the innermost open block.
+    pub(crate) block: &'s [Stmt],
+    /// The same of each block around it.
+    pub(crate) around: Vec<&'s [Stmt]>,
     pub(crate) vars: Vec<Pay>,
     pub(crate) steps: u32,
     pub(crate) places: u32,
@@ -32,7 +35,7 @@ pub struct ScriptBody<'s> {
 }
 
 impl<'s> Model for ScriptBody<'s> {
-    ghost use Rattle.std.specs.Prelude.{map, ◌<◌, length};
+    ghost use Rattle.std.specs.Prelude.{map, ◌<◌, ◌++◌, length};
     ghost use Rattle.std.specs.List.{AllByRecursion};
     ghost use Rattle.tj_eval.specs.Statements.{TaskState};
     ghost use Rattle.tj_eval.specs.Bodies.{rest_of};
@@ -50,14 +53,29 @@ impl<'s> Model for ScriptBody<'s> {
     ghost view = { λ b. record {
       script = shown.script b.script.now;
       limit = b.limit;
-      rest = rest_of (map (λ block. map shown.statement block.now) b.blocks.items);
+      rest = map shown.statement b.block.now
+          ++ rest_of (map (λ block. map shown.statement block.now) b.around.items);
       vars = b.vars.items;
       steps = b.steps;
       places = b.places;
       due = due_of b.due;
     } };
 
-    ghost invariant = { λ b. AllByRecursion (λ block. 0 < length block.now) b.blocks.items };
+    ghost invariant = { λ b. AllByRecursion (λ block. 0 < length block.now) b.around.items };
+}
+
+/// Adds the block. Where there is room for it, that is a few steps and no call.
+#[inline(always)]
+fn push<'s>(blocks: &mut Vec<&'s [Stmt]>, block: &'s [Stmt]) -> Result<(), Oom>
+    ensures { blocks.new.items
+        ≡ (if is_ok result then blocks.old.items ++ block.entry ∷ [] else blocks.old.items) }
+{
+    if blocks.len() < blocks.capacity() {
+        blocks.push_reserved(block);
+    } else {
+        blocks.push(block)?;
+    }
+    Ok(())
 }
 
 impl<'s> ScriptBody<'s> {
@@ -67,31 +85,32 @@ impl<'s> ScriptBody<'s> {
             (λ stmt. (self.old.rest ≡ statement stmt.now ∷ self.new.rest)
             × (self.new ≡ record self.old { rest = self.new.rest })) }
     {
-        let open = self.blocks.len();
-        if open == 0 {
-            return None;
-        }
-        let (stmt, rest) = self.blocks[open - 1].split_first()?;
-        if rest.is_empty() {
-            self.blocks.pop();
+        if let Some((stmt, rest)) = self.block.split_first() {
+            self.block = rest;
             return Some(stmt);
         }
-        self.blocks[open - 1] = rest;
+        let (stmt, rest) = self.around.pop()?.split_first()?;
+        self.block = rest;
         Some(stmt)
     }
 
     /// Lets these statements come first.
+    #[inline(always)]
     pub(crate) fn open(&mut self, list: &'s [Stmt]) -> Result<(), Oom>
         ensures { OnOk result (self.new ≡ state.first (map statement list.now) self.old) }
     {
-        if !list.is_empty() {
-            self.blocks.push(list)?;
+        let outer = self.block;
+        self.block = list;
+        if outer.is_empty() {
+            return Ok(());
         }
+        push(&mut self.around, outer)?;
         Ok(())
     }
 
     /// Lets the statements of the block come first.
     #[tactic(auto, using(crate::proofs::Views::listed_block))]
+    #[inline(always)]
     pub(crate) fn open_block(&mut self, body: &'s Block) -> Result<(), Oom>
         ensures { OnOk result (self.new ≡ state.first (state.listed (block body.now)) self.old) }
     {

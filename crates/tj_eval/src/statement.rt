@@ -1,66 +1,47 @@
-//! A statement of a task, from its beginning to its ask or its end.
+//! Statements of a task: those that ask nothing are carried out one after another, up to one that asks.
 ghost use Rattle.std.specs.Prelude.{◌≡◌, IsTrue};
 ghost use Rattle.tj_eval.specs.Bodies.{all_have_few_params};
 ghost use Rattle.tj_syntax.specs.View as view;
 ghost use Rattle.tj_eval.specs.Statements as state;
-ghost use Rattle.tj_eval.specs.Turns.{IsTurn};
+ghost use Rattle.tj_eval.specs.Turns.{IsAskOf, IsOnWay, IsStep, is_ask};
 
 use crate::expression::{held, number, reference_in, value};
 use crate::state::{Due, ScriptBody};
 use crate::stop::Stop;
 use std::alloc::Global;
 use std::slice;
+use tj_base::Trouble;
 use tj_body::Ask;
 use tj_syntax::{Rhs, Stmt};
 
 impl<'s> ScriptBody<'s> {
-    /// Gives the variable what stands on the right side.
-    fn give(
-        &mut self,
-        alloc: Global,
-        x: u32,
-        side: &'s Rhs,
-    ) -> Result<Option<Ask<ScriptBody<'s>>>, Stop>
-        requires { IsTrue (all_have_few_params self.old.script) }
-        ensures { IsTurn self.old (state.given self.old x (view.given side.now)) result self.new }
+    /// Goes on to the next statement that asks, if one is left, which has then begun. The statements
+    /// on the way hand nothing on that is as large as an ask.
+    #[inline(never)]
+    pub(crate) fn go_on(&mut self) -> Result<Option<&'s Stmt>, Stop>
+        ensures { IsOnWay (λ stmt. view.statement stmt.now) self.old result self.new }
     {
-        match side {
-            Rhs::Call(call) => self.call(alloc, Some(x), call),
-            Rhs::Expr(e) => {
-                let v = value(&self.vars, e)?;
-                self.keep(Some(x), v);
-                Ok(None)
+        while let Some(stmt) = self.take() {
+            if self.steps == 0 {
+                return Err(Stop::Fault(Trouble::Steps));
+            }
+            self.steps -= 1;
+            if !self.passes(stmt)? {
+                return Ok(Some(stmt));
             }
         }
+        Ok(None)
     }
 
-    /// Begins a statement. What remains after it is what remains of the task.
-    pub(crate) fn begin(
-        &mut self,
-        alloc: Global,
-        stmt: &'s Stmt,
-    ) -> Result<Option<Ask<ScriptBody<'s>>>, Stop>
-        requires { IsTrue (all_have_few_params self.old.script) }
-        ensures { IsTurn self.old (state.begun self.old (view.statement stmt.now)) result self.new }
+    /// Carries a statement out that asks nothing. False: it asks, and isn't carried out.
+    fn passes(&mut self, stmt: &'s Stmt) -> Result<bool, Stop>
+        ensures { IsStep self.old (view.statement stmt.now) result self.new }
     {
         match stmt {
-            Stmt::Let(x, side) | Stmt::Assign(x, side) => self.give(alloc, *x, side),
-            Stmt::Do(call) => self.call(alloc, None, call),
-            Stmt::Print(e) => {
-                let n = number(&self.vars, e)?;
-                self.due = Due::Done;
-                Ok(Some(Ask::Emit(n)))
-            }
-            Stmt::Set(x, e) => {
-                let p = reference_in(held(&self.vars, *x))?;
+            Stmt::Let(x, Rhs::Expr(e)) | Stmt::Assign(x, Rhs::Expr(e)) => {
                 let v = value(&self.vars, e)?;
-                self.due = Due::Done;
-                Ok(Some(Ask::Set { p, v }))
-            }
-            Stmt::Return(e) => {
-                let v = value(&self.vars, e)?;
-                self.end();
-                Ok(Some(Ask::End(v)))
+                self.keep(Some(*x), v);
+                Ok(true)
             }
             Stmt::If(e, body, other) => {
                 if number(&self.vars, e)? != 0 {
@@ -68,15 +49,47 @@ impl<'s> ScriptBody<'s> {
                 } else if let Some(other) = other {
                     self.open_block(other)?;
                 }
-                Ok(None)
+                Ok(true)
             }
             Stmt::While(e, body) => {
                 if number(&self.vars, e)? != 0 {
                     self.open(slice::from_ref(stmt))?;
                     self.open_block(body)?;
                 }
-                Ok(None)
+                Ok(true)
             }
+            _ => Ok(false),
+        }
+    }
+
+    /// The ask of a statement that asks.
+    pub(crate) fn ask(&mut self, alloc: Global, stmt: &'s Stmt) -> Result<Ask<ScriptBody<'s>>, Stop>
+        requires few { IsTrue (all_have_few_params self.old.script) }
+        requires asks { IsTrue (is_ask (view.statement stmt.now)) }
+        ensures { IsAskOf self.old (state.begun self.old (view.statement stmt.now)) result self.new }
+    {
+        match stmt {
+            Stmt::Let(x, Rhs::Call(call)) | Stmt::Assign(x, Rhs::Call(call)) => {
+                self.call(alloc, Some(*x), call)
+            }
+            Stmt::Do(call) => self.call(alloc, None, call),
+            Stmt::Print(e) => {
+                let n = number(&self.vars, e)?;
+                self.due = Due::Done;
+                Ok(Ask::Emit(n))
+            }
+            Stmt::Set(x, e) => {
+                let p = reference_in(held(&self.vars, *x))?;
+                let v = value(&self.vars, e)?;
+                self.due = Due::Done;
+                Ok(Ask::Set { p, v })
+            }
+            Stmt::Return(e) => {
+                let v = value(&self.vars, e)?;
+                self.end();
+                Ok(Ask::End(v))
+            }
+            _ => unreachable!(),
         }
     }
 }

@@ -3,7 +3,7 @@ use Rattle.tj_syntax.specs.View.{statement}
 use Rattle.tj_eval.proofs.Blocks.{rest_of-push}
 use Rattle.tj_eval.proofs.state.ScriptBody.open.Goals as goal
 
-pub returns-in_ok-push : goal.returns-in_ok-push
-returns-in_ok-push c =
-    rw (← c.self.view_is, c.in_ok-push.ensures.items)
-    (rw (rest_of-push (λ block. map statement block.now) c.self.inside.blocks.items c.args.list) refl)
+pub returns : goal.returns
+returns c =
+    rw (← c.self.view_is, c.in_ok-push.ensures)
+    (rw (rest_of-push (λ block. map statement block.now) c.self.inside.around.items c.self.inside.block) refl)

@@ -1,7 +1,7 @@
 use Rattle.std.proofs.Common.{◌≡◌, map, drop}
 use Rattle.tj_syntax.specs.View.{pair, pairs_of}
 use Rattle.tj_eval.specs.Expressions as meaning
-use Rattle.tj_eval.proofs.expression.+value.Given as goal
+use Rattle.tj_eval.proofs.quick.+computed.Given as goal
 
 -- what is left of the chain gives what all of it gives
 abbrev pub invariant-chained-loop-op : goal.invariant-chained-loop-op

@@ -1,0 +1,68 @@
+//! Expressions that come to numbers, as most do. A number alone is handed back in registers, where a
+//! value or a fault takes memory: only what comes to no number is computed again, for its value.
+ghost use Rattle.std.specs.Prelude.{◌≡◌, Ok, map, IfSome};
+ghost use Rattle.tj_base.specs.declared.value.Pay.TheVariants as pay;
+ghost use Rattle.tj_syntax.specs.View.{expression, pair, pairs_of};
+ghost use Rattle.tj_eval.specs.Expressions as meaning;
+
+use crate::expression::{applied, compares, held};
+use tj_base::Pay;
+use tj_syntax::{Expr, Op};
+
+/// The number that the expression comes to, if it is one. What most operands are, a variable or a
+/// number, is read without a further call.
+#[cycle(computed)]
+#[inline(always)]
+pub(crate) fn quick(vars: &[Pay], e: &Expr) -> Option<i64>
+    ensures { IfSome result (λ n. meaning.value vars.now (expression e.now) ≡ Ok (pay.Num n)) }
+{
+    match e {
+        Expr::Num(n) => Some(*n),
+        Expr::Var(x) => number_held(vars, *x),
+        _ => computed(vars, e),
+    }
+}
+
+/// The number that the variable holds, if it is one.
+fn number_held(vars: &[Pay], x: u32) -> Option<i64>
+    ensures { IfSome result (λ n. meaning.held vars.now x ≡ pay.Num n) }
+{
+    match held(vars, x) {
+        Pay::Num(n) => Some(n),
+        Pay::Ref(_) => None,
+    }
+}
+
+/// The number that the operators give, if there are any.
+#[cycle(computed)]
+fn computed(vars: &[Pay], e: &Expr) -> Option<i64>
+    ensures { IfSome result (λ n. meaning.value vars.now (expression e.now) ≡ Ok (pay.Num n)) }
+{
+    match e {
+        Expr::Num(_) | Expr::Var(_) | Expr::Me => None,
+        Expr::Neg(a) => quick(vars, a)?.checked_neg(),
+        Expr::Chain(a, pairs) => {
+            let n = quick(vars, a)?;
+            Some(chained(vars, n, pairs)?)
+        }
+        Expr::Cmp(rel, a, b) => {
+            let n = quick(vars, a)?;
+            let m = quick(vars, b)?;
+            Some(compares(*rel, n, m) as i64)
+        }
+    }
+}
+
+/// The number of a chain whose operands so far have come to n, if it is one.
+#[cycle(computed)]
+fn chained(vars: &[Pay], n: i64, pairs: &[(Op, Expr)]) -> Option<i64>
+    ensures { IfSome result (λ m.
+        meaning.chained vars.now n (pairs_of (map pair pairs.now)) ≡ Ok (pay.Num m)) }
+{
+    let mut so_far = n;
+    for (op, e) in pairs {
+        let m = quick(vars, e)?;
+        so_far = applied(*op, so_far, m)?;
+    }
+    Some(so_far)
+}
