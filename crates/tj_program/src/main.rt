@@ -5,6 +5,8 @@
 mod command;
 #[cfg(test)]
 mod command_tests;
+#[cfg(test)]
+mod edge_tests;
 mod fault_lines;
 mod generated;
 mod judging;
@@ -28,6 +30,8 @@ mod status;
 #[cfg(test)]
 mod tests;
 mod words;
+#[cfg(test)]
+mod words_tests;
 
 use std::io;
 use std::process::ExitCode;

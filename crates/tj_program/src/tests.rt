@@ -1,4 +1,9 @@
 //! What the program writes and answers where an input is too long or a port fails.
+ghost use Rattle.std.specs.Prelude.{◌≡◌, ◌⊎◌, length};
+ghost use Rattle.tj_ports.specs.Memory.{SurelyTakes};
+ghost use Rattle.tj_program.specs.CommandLine.{HasNoForm};
+ghost use Rattle.tj_program.specs.Texts.{usage_line};
+
 use crate::run::run_words;
 use crate::status::Status;
 use std::alloc::{AllocError, Global};
@@ -87,15 +92,27 @@ fn shows_failing(
     Ok(())
 }
 
+// The script has 29 bytes, so call 30 of a source that gives one a call sees its end.
 #[test]
-fn failing_ports(rt: HostRuntime) -> Result<(), Fail> {
-    shows_failing(&rt, "run", (100, 1, 0), Status::ReadFault, "")?;
-    shows_failing(&rt, "run", (100, 30, 0), Status::ReadFault, "")?;
-    shows_failing(&rt, "run", (100, 31, 0), Status::Clean, "0 done 3\nclean\n")?;
+fn each_read_fails_in_turn(rt: HostRuntime) -> Result<(), Fail> {
+    for take in 1..=30 {
+        shows_failing(&rt, "run", (100, take, 0), Status::ReadFault, "")?;
+    }
+    shows_failing(&rt, "run", (100, 31, 0), Status::Clean, "0 done 3\nclean\n")
+}
+
+// The report has 15 bytes, which four puts of four bytes take.
+#[test]
+fn each_put_fails_in_turn(rt: HostRuntime) -> Result<(), Fail> {
     shows_failing(&rt, "run", (100, 0, 1), Status::WriteFault, "")?;
     shows_failing(&rt, "run", (100, 0, 2), Status::WriteFault, "0 do")?;
+    shows_failing(&rt, "run", (100, 0, 3), Status::WriteFault, "0 done 3")?;
     shows_failing(&rt, "run", (100, 0, 4), Status::WriteFault, "0 done 3\ncle")?;
-    shows_failing(&rt, "run", (100, 0, 5), Status::Clean, "0 done 3\nclean\n")?;
+    shows_failing(&rt, "run", (100, 0, 5), Status::Clean, "0 done 3\nclean\n")
+}
+
+#[test]
+fn failing_ports(rt: HostRuntime) -> Result<(), Fail> {
     shows_failing(&rt, "run", (10, 0, 0), Status::WriteFault, "0 done 3\nc")?;
     shows_failing(&rt, "run --workers 0", (100, 1, 0), Status::Usage, USAGE)?;
     shows_failing(
@@ -105,4 +122,31 @@ fn failing_ports(rt: HostRuntime) -> Result<(), Fail> {
         Status::Clean,
         "size 1 tasks 2 done 2 failed 0 waiting 0 owed 0 cycles 0 result 1\nclean\n",
     )
+}
+
+/// The status of words without a form over a sink in memory that never fails and has room for the
+/// usage line. No write fails then, so it is that of the line, or memory is wanting.
+fn status_without_form(
+    alloc: Global,
+    words: &[String],
+    source: &mut MemSource,
+    sink: &mut MemSink,
+) -> Status
+    requires formless { HasNoForm words.now }
+    requires room { SurelyTakes sink.old (length usage_line) }
+    ensures { (result ≡ Status.Usage) ⊎ (result ≡ Status.Memory) }
+{
+    run_words(alloc, words, source, sink, &OpenGate)
+}
+
+#[test]
+fn no_write_fails_where_there_is_room(rt: HostRuntime) -> Result<(), Fail> {
+    let alloc = rt.alloc();
+    let words = Vec::new(alloc);
+    let mut source = MemSource::new(Vec::new(alloc), 1, Vec::new(alloc));
+    let mut sink = MemSink::new(alloc, 100, 7, Vec::new(alloc))?;
+    let found = status_without_form(alloc, words.as_slice(), &mut source, &mut sink);
+    assert_eq!(rt; found, Status::Usage);
+    assert_eq!(rt; sink.bytes(), USAGE.as_bytes());
+    Ok(())
 }
