@@ -1,4 +1,4 @@
-//! A script of any size whose tasks form one long chain of promises, to measure a build with.
+//! A script of a stated size whose tasks form one long chain of promises, to measure a build with.
 #![tactic(auto)]
 
 mod script;

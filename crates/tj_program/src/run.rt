@@ -53,7 +53,7 @@ pub fn run_words<S: Source, K: Sink, G: Gate>(
         → IsOutput words.now input status text → HasText result
         → (result ≡ status) × Appends (K.held sink.old) (K.held sink.new) text }
 
-    // Where the source doesn't tell its bytes, that text is the output of some input.
+    // That text is the output of some input, also where the source tells nothing.
     ensures cause { HasText result → (input : List ℕ) × (text : List ℕ)
         × IsOutput words.now input result text
         × Appends (K.held sink.old) (K.held sink.new) text }
@@ -82,7 +82,7 @@ pub fn run_words<S: Source, K: Sink, G: Gate>(
         → IsOutput words.now input status text → length text ≤ room
         → result ≢ Status.WriteFault }
 
-    // Where the source doesn't tell its bytes, that part is one of the output of some input.
+    // That part is one of the output of some input, also where the source tells nothing.
     ensures part_cause { result ≡ Status.WriteFault → (input : List ℕ)
         × IsOutputPart words.now input (K.held sink.old) (K.held sink.new) }
     ensures memory { result ≡ Status.Memory → sink.new ≡ sink.old }

@@ -39,7 +39,8 @@ pub trait Pool: Sized + Send + Drop {
         ensures meet { IfOk result (λ ends. meet ends.items) }
         ensures new { IfOk result (λ ends. All is_new ends.items) };
 
-    /// Adds a cell to one queue. After `Oom` the pool is as before.
+    /// Adds a cell to one queue. After `Oom` the pool is as before. `puts` and `same` have what of this
+    /// the end can tell.
     fn put<R: Wait>(&mut self, rt: &R, alloc: Global, t: CellId) -> Result<(), Oom>
         requires below { t.0 < Self.limit self.old }
         ensures limit { Self.limit self.new ≡ Self.limit self.old }
@@ -47,7 +48,8 @@ pub trait Pool: Sized + Send + Drop {
         ensures err { OnErr result (same self.old self.new) };
 
     /// Takes a cell out of one queue. `None` comes only where each queue that this end can take
-    /// from was empty at a step of this call. It takes no memory.
+    /// from was empty at a step of this call. It takes no memory. `takes` and `finds_none` have what
+    /// of this the end can tell.
     fn take<R: Wait>(&mut self, rt: &R) -> Option<CellId>
         ensures limit { Self.limit self.new ≡ Self.limit self.old }
         ensures below { IfSome result (λ t. t.0 < Self.limit self.old) }
