@@ -82,7 +82,7 @@ pub fn run_words<S: Source, K: Sink, G: Gate>(
         → IsOutput words.now input status text → length text ≤ room
         → result ≢ Status.WriteFault }
 
-    // That part is one of the output of some input, also where the source tells nothing.
+    // The part put is one of the output of some input, also where the source tells nothing.
     ensures part_cause { result ≡ Status.WriteFault → (input : List ℕ)
         × IsOutputPart words.now input (K.held sink.old) (K.held sink.new) }
     ensures memory { result ≡ Status.Memory → sink.new ≡ sink.old }
