@@ -1,8 +1,8 @@
 -- Cycles of places, each from its least place on, are the cycles of the wait graph.
-use Rattle.std.proofs.Common.{◌≡◌, ◌↔◌, ℕ, zero, suc, ◌+◌, ◌<◌, ◌≤◌, ◌⊎◌, inl, inr, true, nat_eq, eqb, List, [], ◌∷◌, ◌++◌}
+use Rattle.std.proofs.Common.{◌≡◌, ◌↔◌, ℕ, zero, suc, ◌+◌, ◌<◌, ◌≤◌, ◌⊎◌, inl, inr, true, nat_eq, List, [], ◌∷◌, ◌++◌}
 use Rattle.std.proofs.Common.{Option, Some, None, map, length, refl, sym, ap, ◌∙◌, subst, arith}
-use Rattle.std.specs.Prelude.{slice_get, slice_index_or}
-use Rattle.std.specs.List.{All, AllByRecursion, Contains}
+use Rattle.std.specs.Prelude.{slice_index_or}
+use Rattle.std.specs.List.{All, AllByRecursion}
 use Rattle.std.specs.List.Sorted.{IsStrictlySortedBy}
 use Rattle.std.specs.declared.cmp.Ordering.TheVariants.{Less}
 use Rattle.std.proofs.lemmas.Bool.Decides.{Decides-eqb}
@@ -127,7 +127,7 @@ module _ (tasks : List Stopped) (apart : AreApart tasks)
         tasks = subst (λ names. graph.IsCycle (Leads tasks) same (name_at tasks q ∷ names))
             (sym (map_map (link_at tasks) (λ (l : Link). l.task) qs))
             (cycle_list_to (name_at tasks) (There tasks) (Next next) (Leads tasks)
-            (places_are_names tasks apart in_order next are) (one next) (names_lead tasks apart in_order)
+            (places_are_names tasks apart in_order next are) (one next) (names_lead tasks apart)
             nat_eq Decides-eqb same same_names q qs first_there c.cycle.1);
         cells = all_of_in (λ (l : Link). Waits tasks l.task l.cell) (map (link_at tasks) (q ∷ qs)) (λ l i.
             let p = in_map (link_at tasks) l (q ∷ qs) i in
@@ -180,7 +180,7 @@ module _ (tasks : List Stopped) (apart : AreApart tasks)
       let at = place_of tasks apart in_order l.task l.cell (waits l (inl refl)) in
       let p = at.0 in
       let r = cycle_list_from (name_at tasks) (There tasks) (Next next) (Leads tasks)
-      (places_are_names tasks apart in_order next are) (one next) (names_lead tasks apart in_order)
+      (places_are_names tasks apart in_order next are) (one next) (names_lead tasks apart)
       nat_eq Decides-eqb same same_names p (map (λ (m : Link). m.task) ls) at.1
       (subst (λ x. graph.IsCycle (Leads tasks) same (x ∷ map (λ (m : Link). m.task) ls)) (sym at.2) c.tasks) in
       let head = link_is_at p at.1 l at.2 (waits l (inl refl)) in

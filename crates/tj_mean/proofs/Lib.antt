@@ -7,4 +7,5 @@ pub mod OwnedNames
 pub mod Places
 pub mod RoundSteps
 pub mod SettledRounds
+pub mod StandingCycles
 pub mod ToldOutcomes

@@ -12,7 +12,6 @@ use Rattle.tj_mean.specs.declared.outcome.Outcome.{Outcome}
 use Rattle.tj_mean.specs.declared.stopped.Stopped.{Stopped}
 use Rattle.tj_mean.proofs.ToldOutcomes.{same_told}
 use Rattle.tj_mean.specs.OutcomeLaws.{HasOneOutcome}
-use Rattle.tj_mean.specs.declared.outcome.Link.{Link}
 use Rattle.tj_mean.specs.declared.outcome.TaskLine.{TaskLine}
 use Rattle.tj_mean.proofs.NameOrder.{order, in_permuted, in_unpermuted}
 use Rattle.tj_mean.proofs.Places.{not_less}

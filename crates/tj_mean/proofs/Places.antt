@@ -1,5 +1,5 @@
 -- Tasks in name order, and the wait graph by their places: a place leads to another as the names do.
-use Rattle.std.proofs.Common.{◌≡◌, ◌↔◌, ℕ, zero, suc, ◌<◌, ◌≤◌, inl, inr, true, false, nat_eq, List, [], ◌∷◌, ◌++◌, map, length}
+use Rattle.std.proofs.Common.{◌≡◌, ◌↔◌, ℕ, zero, suc, ◌<◌, ◌≤◌, inl, inr, true, false, List, [], ◌∷◌, ◌++◌, map, length}
 use Rattle.std.proofs.Common.{Option, Some, None, refl, sym, ap, ◌∙◌, subst, arith}
 use Rattle.std.specs.Bool.{Decides}
 use Rattle.std.specs.Prelude.{slice_get, slice_index_or, IfSome, IsNone}
@@ -16,7 +16,9 @@ use Rattle.tj_base.specs.Cycles.{LeadsToOne}
 use Rattle.tj_base.specs.ForkOrder.{Name}
 use Rattle.tj_base.proofs.CycleImages.{AreImages}
 use Rattle.tj_body.specs.Names.{same, has, at_most}
+use Rattle.tj_body.specs.Laws.{AreDistinct}
 use Rattle.tj_body.specs.Points.{IsIn}
+use Rattle.tj_body.proofs.Lists.{to_map}
 use Rattle.tj_body.proofs.Counts.{same_self, same_is, has_of_times, times_of_in}
 use Rattle.tj_mean.specs.Outcomes.{Ascend, AreApart, Leads, Waits, owned_by}
 use Rattle.tj_mean.specs.Places.{Next, AreNext, LeadsTo, link_of, link_at, waited}
@@ -34,6 +36,14 @@ pub not_less : (x : Name) → order x x ≡ Less → ⊥
 not_less x e =
     let h : is_eq (order x x) ≡ true = sym (texts_ties x x) ∙ same_self x in
     let z : false ≡ true = sym (ap is_eq e) ∙ h in absurd (cc)
+
+-- a name is at most itself
+pub at_most_self : (x : Name) → at_most x x ≡ true
+at_most_self x = by (order x x) refl where
+  by : (o : Ordering) → order x x ≡ o → is_le o ≡ true
+  by Less e = refl
+  by Equal e = refl
+  by Greater e = let z : false ≡ true = sym (ap is_eq e) ∙ (sym (texts_ties x x) ∙ same_self x) in absurd (cc)
 
 all_less : (y : Name) (ss : List Stopped)
     → AllByRecursion (λ z. order y z ≡ Less) (map (λ (s : Stopped). s.line.name) ss)
@@ -53,6 +63,31 @@ ascends_at (t ∷ ts) a zero (suc j) s u x y l =
     (all_less t.line.name ts a.0 u (in_get ts j u y))
 ascends_at (t ∷ ts) a (suc i) zero s u x y l = absurd (omega arith)
 ascends_at (t ∷ ts) a (suc i) (suc j) s u x y l = ascends_at ts a.1 i j s u x y (omega arith)
+
+-- a task has one of the names
+named : (ss : List Stopped) (s : Stopped) → IsIn s ss → IsIn s.line.name (map (λ (t : Stopped). t.line.name) ss)
+named ss s i = to_map (λ (t : Stopped). t.line.name) s ss i
+
+-- a name is of one task
+same_task : (ss : List Stopped) → AreDistinct (map (λ (s : Stopped). s.line.name) ss) → (s u : Stopped) → IsIn s ss
+    → IsIn u ss → s.line.name ≡ u.line.name → s ≡ u
+same_task [] d s u i j e = absurd i
+same_task (t ∷ ts) d s u (inl a) (inl b) e = a ∙ sym b
+same_task (t ∷ ts) d s u (inl a) (inr j) e = absurd (d.0
+    (subst (λ n. IsIn n (map (λ (z : Stopped). z.line.name) ts))
+    (sym e ∙ ap (λ (z : Stopped). z.line.name) a) (named ts u j)))
+same_task (t ∷ ts) d s u (inr i) (inl b) e = absurd (d.0
+    (subst (λ n. IsIn n (map (λ (z : Stopped). z.line.name) ts))
+    (e ∙ ap (λ (z : Stopped). z.line.name) b) (named ts s i)))
+same_task (t ∷ ts) d s u (inr i) (inr j) e = same_task ts d.1 s u i j e
+
+-- each name leads to one at most
+pub names_lead : (tasks : List Stopped) → AreApart tasks → LeadsToOne (Leads tasks)
+names_lead tasks apart x y z (q, (s, i, n, e), (u, j, m, o)) (q', (s', i', n', e'), (u', j', m', o')) =
+    let same_wait = ap (λ (w : Stopped). w.line.ending) (same_task tasks apart.names s s' i i' (n ∙ sym n')) in
+    let cell : q ≡ q' = ap waited (sym e ∙ same_wait ∙ e') in
+    sym m ∙ ap (λ (w : Stopped). w.line.name)
+    (apart.owners u u' q' j j' (subst (λ c. IsIn c (owned_by u)) cell o) o') ∙ m'
 
 -- what the list of next places says of a task
 module _ (tasks : List Stopped) where
@@ -111,26 +146,11 @@ module _ (tasks : List Stopped) where
         (subst (λ n. order n s.line.name ≡ Less) (sym e) (ascends_at tasks in_order j i u s y x (omega arith)))))
         (λ m. omega arith))
 
-    -- a name is of one task
-    same_task : (s u : Stopped) → IsIn s tasks → IsIn u tasks → s.line.name ≡ u.line.name → s ≡ u
-    same_task s u i j e =
-        let p = get_in tasks s i in
-        let q = get_in tasks u j in
-        some_is s u (sym p.1 ∙ ap (slice_get tasks) (one_place p.0 q.0 s u p.1 q.1 e) ∙ q.1)
-
-    -- each name leads to one at most
-    pub names_lead : LeadsToOne (Leads tasks)
-    names_lead x y z (q, (s, i, n, e), (u, j, m, o)) (q', (s', i', n', e'), (u', j', m', o')) =
-        let same_wait = ap (λ (w : Stopped). w.line.ending) (same_task s s' i i' (n ∙ sym n')) in
-        let cell : q ≡ q' = ap waited (sym e ∙ same_wait ∙ e') in
-        sym m ∙ ap (λ (w : Stopped). w.line.name)
-        (apart.owners u u' q' j j' (subst (λ c. IsIn c (owned_by u)) cell o) o') ∙ m'
-
     -- the place has the cell that its name waits for
     pub waits_at : (p : ℕ) (q : Name) → There p → Waits tasks (name_at p) q → (link_at tasks p).cell ≡ q
     waits_at p q h (s, i, n, e) =
         let t = get_there tasks p h in
-        let is = same_task t.0 s (in_get tasks p t.0 t.1) i (sym (name_is p t.0 t.1) ∙ sym n) in
+        let is = same_task tasks apart.names t.0 s (in_get tasks p t.0 t.1) i (sym (name_is p t.0 t.1) ∙ sym n) in
         ap (λ (l : Link). l.cell) (link_is p t.0 t.1) ∙ ap (λ (w : Stopped). waited w.line.ending) is ∙ ap waited e
 
     -- the place of a task with this name
@@ -153,13 +173,6 @@ module _ (tasks : List Stopped) where
         (λ m. ap is_le (names_ascend i j h k m))
         (λ m. let e : i ≡ j = omega arith in
         subst (λ p. at_most (name_at i) (name_at p) ≡ true) e (at_most_self (name_at i)))
-      where
-        at_most_self : (x : Name) → at_most x x ≡ true
-        at_most_self x = by (order x x) refl where
-          by : (o : Ordering) → order x x ≡ o → is_le o ≡ true
-          by Less e = refl
-          by Equal e = refl
-          by Greater e = let z : false ≡ true = sym (ap is_eq e) ∙ (sym (texts_ties x x) ∙ same_self x) in absurd (cc)
 
     -- and only then
     pub places_at_most : (i j : ℕ) → There i → There j → at_most (name_at i) (name_at j) ≡ true → i ≤ j
@@ -196,7 +209,7 @@ module _ (tasks : List Stopped) where
             );
         back = λ i h y (q, (s, k, n, e), (u, m, v, o)).
             let t = get_there tasks i h in
-            let is = same_task t.0 s (in_get tasks i t.0 t.1) k (sym (name_is i t.0 t.1) ∙ sym n) in
+            let is = same_task tasks apart.names t.0 s (in_get tasks i t.0 t.1) k (sym (name_is i t.0 t.1) ∙ sym n) in
             let g = get_in tasks u m in (
               g.0,
               (next_get tasks next i t.0 are t.1 g.0).1 (

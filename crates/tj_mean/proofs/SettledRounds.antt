@@ -1,6 +1,6 @@
 -- What is kept of the histories of a meaning tells its outcome.
 use Rattle.std.proofs.lemmas.List.{length-map}
-use Rattle.std.proofs.Common.{◌≡◌, Option, Some, ℕ, suc, ◌*◌, ◌≤◌, Bool, List, [], ◌∷◌, map, length}
+use Rattle.std.proofs.Common.{◌≡◌, Option, Some, ℕ, suc, ◌*◌, ◌≤◌, List, [], ◌∷◌, map, length}
 use Rattle.std.proofs.Common.{refl, sym, ap, ◌∙◌, arith}
 use Rattle.tj_base.specs.ForkOrder.{Name}
 use Rattle.tj_body.specs.Programs.{Program}

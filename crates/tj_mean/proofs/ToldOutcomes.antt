@@ -1,5 +1,5 @@
 -- What is told of histories that have stopped, in any order, and of those of a meaning.
-use Rattle.std.proofs.Common.{◌↔◌, ◌≡◌, ℕ, suc, ◌*◌, ◌≤◌, inl, inr, Bool, Option, Some, None, List, [], ◌∷◌, map, drop, get_or}
+use Rattle.std.proofs.Common.{◌≡◌, ℕ, suc, ◌*◌, ◌≤◌, inl, inr, Bool, Option, Some, None, List, [], ◌∷◌, map, drop, get_or}
 use Rattle.std.proofs.Common.{refl, sym, ap, ◌∙◌, subst, arith}
 use Rattle.std.specs.Prelude.{unwrap_or}
 use Rattle.std.specs.List.{flat_map}
@@ -22,18 +22,16 @@ use Rattle.tj_body.proofs.Counts.{is, times, total_append, distinct_of_times}
 use Rattle.tj_body.proofs.Lists.{in_map}
 use Rattle.tj_body.proofs.Families.{same_name}
 use Rattle.tj_body.proofs.Rises.{once_name, owners_apart}
-use Rattle.tj_mean.specs.Outcomes.{ending_of, stopped_of, AreTold, owned_by, Waits, Owns, Leads, IsCycle, AreCycles}
+use Rattle.tj_mean.specs.Outcomes.{ending_of, stopped_of, AreTold, owned_by, Waits, Leads, IsCycle}
 use Rattle.tj_mean.specs.Outcomes.{AreApart, IsOutcomeOf, IsOutcome, shown_of}
 use Rattle.tj_mean.specs.Places.{waited}
 use Rattle.tj_mean.specs.declared.outcome.Ending.{Ending}
 use Rattle.tj_mean.specs.declared.outcome.Ending.TheVariants as ending
 use Rattle.tj_mean.specs.declared.outcome.Link.{Link}
 use Rattle.tj_mean.specs.declared.outcome.Outcome.{Outcome}
-use Rattle.tj_mean.specs.declared.outcome.TaskLine.{TaskLine}
 use Rattle.tj_mean.specs.declared.stopped.Stopped.{Stopped}
 use Rattle.tj_mean.proofs.Elements.{some_is}
 use Rattle.tj_mean.proofs.NameOrder.{distinct_permuted, in_permuted, in_unpermuted}
-use Rattle.tj_mean.proofs.SettledRounds.{map_map}
 
 -- tasks that are among others wait and own as these do
 module _ (ss us : List Stopped) (to : (s : Stopped) → IsIn s ss → IsIn s us) where
@@ -113,6 +111,12 @@ module _ {B : Type 0} (p : Point B) (s : Stopped) where
         let z : ending.Failed c ≡ ending.Waits q =
         ap (λ (z : Stopped). z.line.ending) (some_is (told_with (ending.Failed c)) s e) ∙ w in absurd (cc)
 
+-- the task of a history that waits is told to wait
+pub told_wait : {B : Type 0} (p : Point B) (s : Stopped) (q : Name) (spare : Bool) → p.stage ≡ stage.Waits q spare
+    → stopped_of p ≡ Some s → s.line.ending ≡ ending.Waits q
+told_wait p s q spare w h = ap (λ (z : Stopped). z.line.ending) (sym (some_is (told_with p s (ending.Waits q)) s
+    (sym (ap (λ st. option_map (told_with p s) (ending_of st)) w) ∙ h)))
+
 -- what is told is one list
 pub same_told : (ss us : List Stopped) → map (λ s. Some s) ss ≡ map (λ s. Some s) us → ss ≡ us
 same_told [] [] e = refl
@@ -138,12 +142,13 @@ module _ {B : Type 0} where
   told_of (p ∷ ps) (u ∷ us) e s (inr i) =
       let r = told_of ps us (ap (λ l. drop 1 l) e) s i in (r.0, inr r.1, r.2)
 
-  of_told : (ps : List (Point B)) (ss : List Stopped) → AreTold ps ss → (p : Point B) → IsIn p ps
-      → (s : Stopped) × (stopped_of p ≡ Some s)
+  pub of_told : (ps : List (Point B)) (ss : List Stopped) → AreTold ps ss → (p : Point B) → IsIn p ps
+      → (s : Stopped) × IsIn s ss × (stopped_of p ≡ Some s)
   of_told [] ss e p i = absurd i
   of_told (q ∷ ps) [] e p i = absurd (cc)
-  of_told (q ∷ ps) (u ∷ us) e p (inl k) = (u, ap stopped_of k ∙ ap (λ l. get_or l 0 None) e)
-  of_told (q ∷ ps) (u ∷ us) e p (inr i) = of_told ps us (ap (λ l. drop 1 l) e) p i
+  of_told (q ∷ ps) (u ∷ us) e p (inl k) = (u, inl refl, ap stopped_of k ∙ ap (λ l. get_or l 0 None) e)
+  of_told (q ∷ ps) (u ∷ us) e p (inr i) =
+      let r = of_told ps us (ap (λ l. drop 1 l) e) p i in (r.0, inr r.1, r.2)
 
   told_names : (ps : List (Point B)) (ss : List Stopped) → AreTold ps ss
       → map (λ (s : Stopped). s.line.name) ss ≡ map (λ (p : Point B). p.name) ps
@@ -170,10 +175,12 @@ module _ {B : Type 0} where
   pub told_in_order : (ps qs : List (Point B)) → IsPermutation ps qs → (ss : List Stopped) → AreTold ps ss
       → (us : List Stopped) × AreTold qs us × IsPermutation ss us
   told_in_order ps qs perm ss t =
-      let whole = all_told ps (of_told ps ss t) in
+      let has : (p : Point B) → IsIn p ps → (s : Stopped) × (stopped_of p ≡ Some s) = λ p i.
+      let s = of_told ps ss t p i in (s.0, s.2) in
+      let whole = all_told ps has in
       let same_list : ss ≡ map told ps = same_told ss (map told ps) (sym t ∙ whole) in (
         map told qs,
-        all_told qs (λ q i. of_told ps ss t q (in_permuted ps qs perm q i)),
+        all_told qs (λ q i. has q (in_permuted ps qs perm q i)),
         subst (λ l. IsPermutation l (map told qs)) (sym same_list) (IsPermutation-map told ps qs perm),
       )
 

@@ -22,6 +22,15 @@ pub record HasNoWait (o : Outcome) : Type 0 where
   pub no_cycle : o.cycles ≡ []
   pub none_waits : (l : TaskLine) (q : Name) → IsIn l o.lines → ¬ (l.ending ≡ ending.Waits q)
 
+-- where a task waits, a cycle stands
+abbrev pub HasCycleWhereWaits : Outcome → Type 0
+HasCycleWhereWaits o = (l : TaskLine) (q : Name) → IsIn l o.lines → l.ending ≡ ending.Waits q → ¬ (o.cycles ≡ [])
+
+-- so it is in each outcome of a meaning that isn't full
+abbrev pub OutcomeHasCycleWhereWaits : {B : Type 0} → Program B → Type 0
+OutcomeHasCycleWhereWaits program = (N : ℕ) → ¬ IsFull program N
+    → (o : Outcome) → IsOutcome (meaning program N) o → HasCycleWhereWaits o
+
 -- under the strict rule, with a root that passes a test of bodies without gets, the outcome of a meaning that isn't
 -- full has no wait
 abbrev pub StrictOutcomeHasNoWait : {B : Type 0} → Program B → Type 0

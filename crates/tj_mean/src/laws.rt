@@ -4,7 +4,7 @@ ghost use Rattle.std.specs.Prelude.{List};
 ghost use Rattle.tj_body.specs.Laws.{HoldsOfPrograms};
 ghost use Rattle.tj_body.specs.declared.point.Point.{Point};
 ghost use Rattle.tj_mean.specs.OutcomeLaws.{HasOneOutcome, MeaningIsApart, OrderIsFree};
-ghost use Rattle.tj_mean.specs.OutcomeLaws.{StrictOutcomeHasNoWait};
+ghost use Rattle.tj_mean.specs.OutcomeLaws.{OutcomeHasCycleWhereWaits, StrictOutcomeHasNoWait};
 
 use tj_body::Body;
 
@@ -21,6 +21,11 @@ pub fn order_is_free<B: Body>()
 /// What is told of the histories of a meaning, in any order, has an outcome.
 pub fn meaning_is_apart<B: Body>()
     ensures { HoldsOfPrograms B.places B.awaits B.left B.asks B.then MeaningIsApart }
+{}
+
+/// Where a task of a meaning that isn't full waits, its outcome has a cycle.
+pub fn outcome_has_cycle_where_waits<B: Body>()
+    ensures { HoldsOfPrograms B.places B.awaits B.left B.asks B.then OutcomeHasCycleWhereWaits }
 {}
 
 /// Under the strict rule the outcome of a program without gets has no cycle, and no task waits.

@@ -14,7 +14,10 @@ mod tests;
 mod told;
 mod wait_graph;
 
-pub use laws::{meaning_is_apart, one_outcome, order_is_free, strict_outcome_has_no_wait};
+pub use laws::{
+    meaning_is_apart, one_outcome, order_is_free, outcome_has_cycle_where_waits,
+    strict_outcome_has_no_wait,
+};
 pub use outcome::{
     CycleList, Ending, LineList, Link, LinkList, Outcome, PlanFault, TaskLine, marked,
 };

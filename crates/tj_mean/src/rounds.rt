@@ -10,8 +10,10 @@ ghost use Rattle.tj_body.specs.Asks.{IsFresh};
 ghost use Rattle.tj_body.specs.Programs.{program_of};
 ghost use Rattle.tj_body.specs.Rounds as rounds;
 ghost use Rattle.tj_mean.specs.Assignments.{assignment_in};
+ghost use Rattle.tj_mean.specs.OutcomeLaws.{HasCycleWhereWaits};
 ghost use Rattle.tj_mean.specs.Outcomes.{AreTold, IsOutcome};
 
+use crate::laws::outcome_has_cycle_where_waits;
 use crate::outcome::{Outcome, PlanFault};
 use crate::round::{Round, next_round};
 use crate::stopped::Stopped;
@@ -38,7 +40,11 @@ pub fn plan<B: Body>(
         IfErr result (λ e. e ≡ PlanFault.Full → rounds.IsFull program cells) }
     ensures outcome { let program = program_of B.places B.awaits B.left B.asks B.then strict root.now in
         IfOk result (IsOutcome (rounds.meaning program cells)) }
+
+    // Where a task waits, a cycle stands.
+    ensures waits { IfOk result HasCycleWhereWaits }
 {
+    outcome_has_cycle_where_waits::<B>();
     let tasks = histories(alloc, root, cells, strict)?;
     Ok(outcome_of(alloc, tasks)?)
 }

@@ -1,4 +1,3 @@
-use Rattle.std.proofs.Common.{true}
 use Rattle.tj_body.specs.Programs.{program_of, strictly}
 use Rattle.tj_body.specs.Rounds.{meaning}
 use Rattle.tj_body.proofs.Proper.{root_proper}

@@ -1,4 +1,4 @@
-use Rattle.std.proofs.Common.{map, sym, ap, subst, ◌∙◌}
+use Rattle.std.proofs.Common.{map, sym, subst}
 use Rattle.std.specs.List.Sorted.{IsPermutation}
 use Rattle.std.proofs.lemmas.List.Sorted.{IsPermutation-refl}
 use Rattle.tj_mean.specs.Outcomes.{AreApart, AreCycles, Ascend}

@@ -1,5 +1,3 @@
-use Rattle.tj_mean.specs.Outcomes.{Ascend, AreApart}
-use Rattle.tj_mean.specs.Places.{AreNext}
 use Rattle.tj_mean.proofs.LeastCycles.{Found}
 use Rattle.tj_mean.proofs.wait_graph.cycles.Given as goal
 
