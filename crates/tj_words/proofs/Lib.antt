@@ -1,0 +1,10 @@
+pub mod SeatLists
+pub mod FirstWords
+pub mod Opening
+pub mod SeatContents
+pub mod Learning
+pub mod LoadSteps
+pub mod Appending
+pub mod Splitting
+pub mod Merging
+pub mod KnowLoads

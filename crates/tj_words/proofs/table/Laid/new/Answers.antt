@@ -1,0 +1,31 @@
+use Rattle.std.proofs.Common.{ap, ◌∙◌, sym, refl, length, subst}
+use Rattle.tj_body.specs.Programs.{program_of}
+use Rattle.tj_body.specs.RoundPoints.{TasksStart}
+use Rattle.tj_words.specs.FirstState.{first_slots}
+use Rattle.tj_words.proofs.Opening.{opening_meets, first_deep}
+use Rattle.tj_words.proofs.FirstWords.{first_wide}
+use Rattle.tj_words.proofs.table.Laid.new.Goals as goal
+
+pub new-requires : goal.new-requires
+new-requires g c =
+    opening_meets (program_of g.B.Body.places g.B.Body.awaits g.B.Body.left g.B.Body.asks g.B.Body.then)
+    (record { cells = c.args.cells; root = c.of.result; strict = c.args.strict }) c.requires.some c.requires.few
+    c.start_meets_facts.ensures
+    (subst
+    (λ z. TasksStart
+    (program_of g.B.Body.places g.B.Body.awaits g.B.Body.left g.B.Body.asks g.B.Body.then c.args.strict z))
+    (sym c.of.ensures)
+    (c.points_in_rounds.ensures.start c.args.strict c.args.root c.requires.root)) refl _ c.in_ok-slots.slots.items
+    (c.as_slice.ensures.value ∙ c.in_ok-words.ensures)
+    (c.in_ok-slots.ensures ∙ ap (λ z. first_slots c.args.cells z) (sym c.of.ensures))
+
+pub invariant_of-result : goal.invariant_of-result
+invariant_of-result g c = let m = c.in-Ok.ensures.ok in record {
+  words = m.0 ∙ (ap (λ l. length l) (c.as_slice.ensures.value ∙ c.in_ok-words.ensures)
+      ∙ first_wide c.args.cells c.requires.some);
+  slots = m.1 ∙ (ap (λ l. length l) c.in_ok-slots.ensures ∙ first_deep c.args.cells c.requires.some c.args.root);
+  key_cells = ap (λ k. k.cells) m.5;
+  key_strict = ap (λ k. k.strict) m.5;
+  some = c.requires.some;
+  few = c.requires.few;
+}

@@ -1,0 +1,10 @@
+use Rattle.std.proofs.Common.{arith}
+use Rattle.tj_words.proofs.Splitting.{rule_splits}
+use Rattle.tj_words.proofs.table.Laid.split.Goals as goal
+
+pub split_seat-other-requires : goal.split_seat-other-requires
+split_seat-other-requires g c = let a = c.args in (
+  c.requires.table,
+  omega (arith, a.self.now.words),
+  rule_splits _ a.self.now.table.shared.key a.seat.id a.seat.me.0 c.requires.room,
+)

@@ -1,0 +1,87 @@
+-- The law of the table. It holds between any two steps, of the words, the slots and the views of all seats. Each part
+-- is
+-- a definition over the words and the fields of the views that it names, so a step that changes none of them keeps
+-- it.
+use Rattle.std.specs.Prelude.{◌≡◌, ℕ, ◌<◌, ◌≤◌, Bool, List, length, Option, Some}
+use Rattle.atomic_table.specs.Table.{State}
+use Rattle.tj_body.specs.declared.point.Reference.{Reference}
+use Rattle.tj_core.specs.CoreFacts.{CoreFacts}
+use Rattle.tj_tree.specs.Forks.{Forks}
+use Rattle.tj_words.specs.declared.phase.Phase.TheVariants.{Unborn}
+use Rattle.tj_words.specs.declared.record.Rec.{Rec}
+use Rattle.tj_words.specs.declared.table.Key.{Key}
+use Rattle.tj_words.specs.declared.view.About.{About}
+use Rattle.tj_words.specs.declared.view.View.{View}
+use Rattle.tj_words.specs.Lists.{Each, All}
+use Rattle.tj_words.specs.Offsets.{words_for}
+use Rattle.tj_words.specs.Codes.{Codes}
+use Rattle.tj_words.specs.Contents.{Contents, contents_of, drawn_in, tag_in, bits_in, home_of, owned_of}
+use Rattle.tj_words.specs.Contents.{made_of, core_shown, hand_of}
+use Rattle.tj_words.specs.Lots.{IsWithinLot, Lots}
+use Rattle.tj_words.specs.Hands.{Hands}
+use Rattle.tj_words.specs.NamedCells.{NamesCells}
+use Rattle.tj_words.specs.TreeWords.{IsCell, Births, IsForkTree, TreeWords}
+use Rattle.tj_words.specs.Custodies.{Custodies, OwnedLists}
+use Rattle.tj_words.specs.OnceWords.{OnceWords}
+use Rattle.tj_words.specs.Chains.{Chains}
+use Rattle.tj_words.specs.LiveCount.{LiveCount, Backing}
+use Rattle.tj_body.specs.Programs.{Program}
+use Rattle.tj_words.specs.Meaning.{Meaning}
+use Rattle.tj_words.specs.RecordPhases.{WaitersOwn, RecordsFit}
+
+-- the most cells of a table
+abbrev pub most_cells : ℕ
+most_cells = 16384
+
+module _ {B : Type 0} where
+  -- a view that isn't spent names the root, the number of cells and the rule that the table was made with
+  abbrev pub IsAbout : Key B → Option (About B) → Type 0
+  IsAbout key about = (a : About B) → about ≡ Some a
+      → a ≡ record { root = key.root.value; cells = key.cells; strict = key.strict }
+
+  -- what holds of each view alone
+  pub record IsSeat (key : Key B) (v : View B) : Type 0 where
+    pub about : IsAbout key v.about
+    pub within_lot : IsWithinLot v
+    pub backing : Backing v
+    -- it has what the cells are that it knows
+    pub known_born : All (λ c. (r : Reference) × IsCell v.born c r) v.known
+
+  -- the law of the contents of a table of so many cells: part by part
+  pub record Law (program : Program B) (cells : ℕ) (x : Contents B) : Type 0 where
+    -- what each cell is, who made it and the how-many-th thing it is, and the forks that made the tasks
+    pub born : List Reference
+    pub maker : ℕ → ℕ
+    pub number : ℕ → ℕ
+    pub forks : Forks
+    pub lots : Lots cells x.words.count x.seats.lots x.seats.refused
+    pub hands : Hands (drawn_in cells x) x.words.phase x.seats.hands x.seats.tasks
+    pub names : NamesCells (drawn_in cells x) (hand_of x) x.words.own x.words.phase (home_of x) x.seats.tasks
+        x.seats.known
+    pub births : Births (drawn_in cells x) born maker number (made_of x) (hand_of x) x.words.phase
+    pub tree : IsForkTree (drawn_in cells x) born maker number forks (hand_of x)
+    pub tree_words : TreeWords (drawn_in cells x) born maker number forks (hand_of x) x.words.once x.seats.dues
+    pub custody : Custodies cells (drawn_in cells x) (hand_of x) x.words.phase x.slots x.seats.tasks
+    pub owned : OwnedLists (drawn_in cells x) (hand_of x) x.words.own (owned_of x)
+    pub once_words : OnceWords (drawn_in cells x) (hand_of x) x.seats.hands x.words.own x.words.once x.seats.seen
+        x.seats.dues
+    pub chains : Chains (tag_in x) x.words.head x.words.next x.words.phase x.seats.pushes x.seats.shuts x.seats.rests
+        x.seats.closed x.seats.found
+    pub live_count : LiveCount cells x.words.live x.words.phase x.seats.tokens x.seats.rested
+    pub waiters_own : WaitersOwn x.words.own x.words.phase
+    pub records_fit : RecordsFit (tag_in x) x.words.phase (home_of x)
+    pub meaning : Meaning program cells x.words.count x.words.stop (drawn_in cells x) (hand_of x) born (tag_in x)
+        (bits_in x) (home_of x) x.seats.born_seen x.seats.wrote x.seats.filled
+    pub undrawn : (c : ℕ) → drawn_in cells x ≤ c → x.words.phase c ≡ Unborn
+    -- the facts of the core state that is shown: along waits, others count, walks, last closer and alarms among them
+    pub facts : CoreFacts (core_shown cells born maker x)
+
+  -- the rule of a table
+  pub record Rule (program : Bool → B → Program B) (key : Key B) (s : State (Option (Rec B)) (View B)) : Type 0 where
+    pub some_cells : 0 < key.cells
+    pub few_cells : key.cells ≤ most_cells
+    pub all_words : length s.words ≡ words_for key.cells
+    pub all_slots : length s.homes ≡ key.cells
+    pub codes : Codes key.cells s.words
+    pub seats : Each (λ j v. IsSeat key v) s.views
+    pub law : Law (program key.strict key.root.value) key.cells (contents_of s)

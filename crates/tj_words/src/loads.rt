@@ -1,0 +1,179 @@
+//! Loads that are no event of the core.
+ghost use Rattle.std.specs.Prelude.{◌≡◌, ◌≢◌, ◌<◌, ◌≤◌};
+ghost use Rattle.tj_body.specs.Programs.{program_of};
+ghost use Rattle.tj_words.specs.Heads as heads;
+ghost use Rattle.tj_words.specs.SeatSteps.{IsSameSeat};
+ghost use Rattle.tj_words.specs.SeenWords.{FindsChain, FindsShut, MayRead, NextTold, SeesOnce};
+ghost use Rattle.tj_words.specs.SeatSteps as steps;
+ghost use Rattle.tj_words.specs.Codes as codes;
+ghost use Rattle.tj_words.specs.Views.{loaded_plain, saw_rest, stepped_on};
+
+use crate::head::Head;
+use crate::offsets::{COUNT, LIVE, Once, STOP, head_at, next_at, once_at, own_at, phase_at};
+use crate::owner::owner_of_word;
+use crate::phase::Phase;
+use crate::plays::{
+    CountLoad, HeadLoad, LiveLoad, Naming, NextLoad, OnceLoad, OwnerLoad, PhaseLoad, StopLoad,
+};
+use crate::table::{Laid, WSeat};
+use std::marker::Brand;
+use tj_base::CellId;
+use tj_body::Body;
+
+impl<B: Body> Laid<B> {
+    /// LIVE. Where it is 0, nothing goes on any more.
+    pub fn live(&self, seat: &mut WSeat<B>) -> u32
+        requires table { seat.old.table_id ≡ self.now.table.shared.table_id }
+        ensures seat { IsSameSeat seat.old seat.new }
+        ensures rested { result ≡ 0 → seat.new.me.0 ≡ saw_rest seat.old.me.0 }
+        ensures live { result ≢ 0 → seat.new.me.0 ≡ stepped_on seat.old.me.0 }
+    {
+        self.table.shared.load::<LiveLoad>(seat, LIVE) as u32
+    }
+
+    /// STOP.
+    pub fn stopped(&self, seat: &mut WSeat<B>) -> u64
+        requires table { seat.old.table_id ≡ self.now.table.shared.table_id }
+        ensures seat { IsSameSeat seat.old seat.new }
+        ensures view { seat.new.me.0 ≡ stepped_on seat.old.me.0 }
+        ensures stop { result ≤ 2 }
+    {
+        self.table.shared.load::<StopLoad>(seat, STOP)
+    }
+
+    /// How many cells are there.
+    pub(crate) fn plain_count(&self, seat: &mut WSeat<B>) -> u32
+        requires table { seat.old.table_id ≡ self.now.table.shared.table_id }
+        ensures seat { IsSameSeat seat.old seat.new }
+        ensures view { seat.new.me.0 ≡ loaded_plain seat.old.me.0 }
+        ensures some { 0 < result }
+        ensures few { result ≤ self.now.cells }
+    {
+        let found = self.load_count::<Brand>(seat);
+        found.min(self.cells as u64) as u32
+    }
+
+    fn load_count<M: Naming>(&self, seat: &mut WSeat<B>) -> u64
+        requires named { M.cells ≡ self.now.cells }
+        requires table { seat.old.table_id ≡ self.now.table.shared.table_id }
+        ensures seat { IsSameSeat seat.old seat.new }
+        ensures view { seat.new.me.0 ≡ loaded_plain seat.old.me.0 }
+        ensures some { steps.IsCount self.now.cells result }
+    {
+        self.table.shared.load::<CountLoad<M>>(seat, COUNT)
+    }
+
+    /// The owner of a cell.
+    pub(crate) fn plain_owner(&self, seat: &mut WSeat<B>, c: CellId) -> Option<CellId>
+        requires table { seat.old.table_id ≡ self.now.table.shared.table_id }
+        requires cell { c.0 < self.now.cells }
+        ensures seat { IsSameSeat seat.old seat.new }
+        ensures view { seat.new.me.0 ≡ loaded_plain seat.old.me.0 }
+    {
+        owner_of_word(self.load_owner::<Brand>(seat, c))
+    }
+
+    fn load_owner<M: Naming>(&self, seat: &mut WSeat<B>, c: CellId) -> u64
+        requires named { M.cells ≡ self.now.cells }
+        requires table { seat.old.table_id ≡ self.now.table.shared.table_id }
+        requires cell { c.0 < self.now.cells }
+        ensures seat { IsSameSeat seat.old seat.new }
+        ensures view { seat.new.me.0 ≡ loaded_plain seat.old.me.0 }
+        ensures owner { result ≤ self.now.cells }
+    {
+        self.table.shared.load::<OwnerLoad<M>>(seat, own_at(c))
+    }
+
+    /// The phase of a cell.
+    pub(crate) fn plain_phase(&self, seat: &mut WSeat<B>, t: CellId) -> Phase
+        requires table { seat.old.table_id ≡ self.now.table.shared.table_id }
+        requires cell { t.0 < self.now.cells }
+        ensures seat { IsSameSeat seat.old seat.new }
+        ensures view { seat.new.me.0 ≡ loaded_plain seat.old.me.0 }
+    {
+        Phase::of_word(self.load_phase::<Brand>(seat, t))
+    }
+
+    fn load_phase<M: Naming>(&self, seat: &mut WSeat<B>, t: CellId) -> u64
+        requires named { M.cells ≡ self.now.cells }
+        requires table { seat.old.table_id ≡ self.now.table.shared.table_id }
+        requires cell { t.0 < self.now.cells }
+        ensures seat { IsSameSeat seat.old seat.new }
+        ensures view { seat.new.me.0 ≡ loaded_plain seat.old.me.0 }
+        ensures phase { codes.IsPhaseWord self.now.cells result }
+    {
+        self.table.shared.load::<PhaseLoad<M>>(seat, phase_at(t))
+    }
+
+    /// The head of the chain of those who wait for a cell.
+    pub fn head(&self, seat: &mut WSeat<B>, p: CellId) -> Head
+        requires table { seat.old.table_id ≡ self.now.table.shared.table_id }
+        requires cell { p.0 < self.now.cells }
+        ensures seat { IsSameSeat seat.old seat.new }
+        ensures shut { result ≡ Head.Shut → FindsShut p.0 seat.old.me.0 seat.new.me.0 }
+        ensures open { result ≢ Head.Shut → FindsChain p.0 result seat.old.me.0 seat.new.me.0 }
+    {
+        Head::of_word(self.load_head::<Brand>(seat, p))
+    }
+
+    fn load_head<M: Naming>(&self, seat: &mut WSeat<B>, p: CellId) -> u64
+        requires named { M.cell ≡ p.0 }
+        requires table { seat.old.table_id ≡ self.now.table.shared.table_id }
+        requires cell { p.0 < self.now.cells }
+        ensures seat { IsSameSeat seat.old seat.new }
+        ensures head { result ≤ heads.shut_word }
+        ensures shut { heads.head_in result ≡ Head.Shut
+            → FindsShut p.0 seat.old.me.0 seat.new.me.0 }
+        ensures open { heads.head_in result ≢ Head.Shut
+            → FindsChain p.0 (heads.head_in result) seat.old.me.0 seat.new.me.0 }
+    {
+        self.table.shared.load::<HeadLoad<M>>(seat, head_at(p))
+    }
+
+    /// What NEXT of a task names.
+    pub fn next_of(&self, seat: &mut WSeat<B>, t: CellId) -> Head
+        requires table { seat.old.table_id ≡ self.now.table.shared.table_id }
+        requires cell { t.0 < self.now.cells }
+        ensures seat { IsSameSeat seat.old seat.new }
+        ensures view { seat.new.me.0 ≡ stepped_on seat.old.me.0 }
+        ensures rest { NextTold t.0 result seat.old.me.0 }
+    {
+        Head::of_word(self.load_next::<Brand>(seat, t))
+    }
+
+    fn load_next<M: Naming>(&self, seat: &mut WSeat<B>, t: CellId) -> u64
+        requires named { (M.cells ≡ self.now.cells) × (M.cell ≡ t.0) }
+        requires table { seat.old.table_id ≡ self.now.table.shared.table_id }
+        requires cell { t.0 < self.now.cells }
+        ensures seat { IsSameSeat seat.old seat.new }
+        ensures view { seat.new.me.0 ≡ stepped_on seat.old.me.0 }
+        ensures next { result ≤ self.now.cells }
+        ensures rest { NextTold t.0 (heads.head_in result) seat.old.me.0 }
+    {
+        self.table.shared.load::<NextLoad<M>>(seat, next_at(t))
+    }
+
+    /// A word that is written once.
+    pub fn see_once(&self, seat: &mut WSeat<B>, c: CellId, f: Once) -> u64
+        requires table { seat.old.table_id ≡ self.now.table.shared.table_id }
+        requires cell { c.0 < self.now.cells }
+        requires may { MayRead f c.0 seat.old.me.0 }
+        ensures seat { IsSameSeat seat.old seat.new }
+        ensures sees { SeesOnce (program_of B.places B.awaits B.left B.asks B.then) f c.0
+            result seat.old.me.0 seat.new.me.0 }
+    {
+        self.load_once::<Brand>(seat, c, f)
+    }
+
+    fn load_once<M: Naming>(&self, seat: &mut WSeat<B>, c: CellId, f: Once) -> u64
+        requires named { (M.cell ≡ c.0) × (M.word ≡ f) }
+        requires table { seat.old.table_id ≡ self.now.table.shared.table_id }
+        requires cell { c.0 < self.now.cells }
+        requires may { MayRead f c.0 seat.old.me.0 }
+        ensures seat { IsSameSeat seat.old seat.new }
+        ensures sees { SeesOnce (program_of B.places B.awaits B.left B.asks B.then) f c.0
+            result seat.old.me.0 seat.new.me.0 }
+    {
+        self.table.shared.load::<OnceLoad<M>>(seat, once_at(c, f))
+    }
+}

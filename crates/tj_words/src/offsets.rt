@@ -1,0 +1,80 @@
+//! Which word is which. The table has four words of its own, and then ten for each cell.
+ghost use Rattle.std.specs.Prelude.{◌≡◌, ◌<◌, ◌^◌};
+ghost use Rattle.tj_words.specs.Offsets as offsets;
+
+use tj_base::CellId;
+
+/// The words of a cell that are written once.
+#[derive(Clone, Copy, Debug, PartialEq, Eq)]
+pub enum Once {
+    Tag,
+    Bits,
+    Parent,
+    Kid,
+    Depth,
+    Jump,
+}
+
+/// The places of the words of the table itself: the number of draws, LIVE, OTHERS and STOP.
+pub(crate) const COUNT: usize = 0;
+
+pub(crate) const LIVE: usize = 1;
+
+pub(crate) const OTHERS: usize = 2;
+
+pub(crate) const STOP: usize = 3;
+
+/// The number of words of the table itself.
+pub(crate) const TABLE_WORDS: usize = 4;
+
+/// The number of words of each cell.
+pub(crate) const CELL_WORDS: usize = 10;
+
+fn first_word(cell: CellId) -> usize
+    ensures { result ≡ offsets.first_word cell.0 }
+{
+    TABLE_WORDS + CELL_WORDS * cell.0 as usize
+}
+
+/// The place of the word OWN.
+pub(crate) fn own_at(cell: CellId) -> usize
+    ensures { result ≡ offsets.own_at cell.0 }
+{
+    first_word(cell)
+}
+
+/// The place of the word PHASE.
+pub(crate) fn phase_at(cell: CellId) -> usize
+    ensures { result ≡ offsets.phase_at cell.0 }
+{
+    first_word(cell) + 1
+}
+
+/// The place of a word that is written once.
+pub(crate) fn once_at(cell: CellId, word: Once) -> usize
+    ensures { result ≡ offsets.once_at cell.0 word }
+{
+    let offset = match word {
+        Once::Tag => 2,
+        Once::Bits => 3,
+        Once::Parent => 4,
+        Once::Kid => 5,
+        Once::Depth => 6,
+        Once::Jump => 7,
+    };
+    first_word(cell) + offset
+}
+
+/// The place of the word HEAD.
+pub(crate) fn head_at(cell: CellId) -> usize
+    ensures { result ≡ offsets.head_at cell.0 }
+{
+    first_word(cell) + 8
+}
+
+/// The place of the word NEXT.
+pub(crate) fn next_at(cell: CellId) -> usize
+    ensures { result ≡ offsets.next_at cell.0 }
+{
+    first_word(cell) + 9
+}

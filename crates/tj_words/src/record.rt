@@ -1,0 +1,62 @@
+//! The record of a task between two of its asks, which goes from worker to worker.
+use tj_base::{CellId, CellList, Items, NumList, Sort};
+use tj_body::Answer;
+
+/// A value that a cell is filled with.
+#[derive(Clone, Copy, Debug, PartialEq, Eq)]
+pub enum Fill {
+    Num(i64),
+    Promise(CellId),
+    Task(CellId),
+}
+
+/// Why a task failed.
+#[derive(Clone, Copy, Debug, PartialEq, Eq)]
+pub enum Hurt {
+    Arith,
+    Kind,
+    Steps,
+    /// It set or handed this promise without owning it.
+    Owner(CellId),
+    /// It asked for the value of this cell, which is broken.
+    Broken(CellId),
+    /// Under the strict rule it joined this task, which it isn't before in the fork order.
+    Order(CellId),
+}
+
+/// How a task ended.
+#[derive(Clone, Copy, Debug, PartialEq, Eq)]
+pub enum Finish {
+    Done(Fill),
+    Failed(Hurt),
+}
+
+/// A cell with its sort, as a task holds it.
+#[derive(Clone, Copy, Debug, PartialEq, Eq)]
+pub struct Held {
+    pub cell: CellId,
+    pub sort: Sort,
+}
+
+/// The cells that a task holds, in the order of their places.
+pub type HeldList = Items<Held>;
+
+/// A task between two of its asks.
+#[derive(Debug, Drop)]
+pub struct Rec<B> {
+    pub cell: CellId,
+    pub body: B,
+    /// What the body is to be given. In a task that waits it is the place of the cell.
+    pub answer: Answer,
+    pub held: HeldList,
+    /// The cells that it owns, its result among them.
+    pub owned: CellList,
+    /// How many tasks and promises it has made.
+    pub made: u32,
+    pub prints: NumList,
+    /// The promises that it still owned when it ended.
+    pub owed: CellList,
+    pub finish: Option<Finish>,
+    /// Whether a broken cell is answered by `Lost` in the wait.
+    pub spare: bool,
+}

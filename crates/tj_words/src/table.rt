@@ -1,0 +1,158 @@
+//! The table: its words and slots under the law, and seats that know of it.
+ghost use Rattle.std.specs.Prelude.{◌≡◌, ℕ, ◌+◌, ◌*◌, ◌<◌, ◌≤◌, List, [], ◌∷◌, IfOk, length, replicate, Some, None};
+ghost use Rattle.tj_body.specs.Asks.{IsFresh};
+ghost use Rattle.tj_words.specs.Law.{most_cells};
+ghost use Rattle.tj_words.specs.Offsets.{words_for};
+ghost use Rattle.tj_words.specs.FirstState as first;
+ghost use Rattle.tj_words.specs.FirstState.{first_slots, first_words, first_view};
+
+use crate::offsets::{CELL_WORDS, COUNT, LIVE, Once, TABLE_WORDS, once_at, own_at, phase_at};
+use crate::owner::word_of_owner;
+use crate::phase::Phase;
+use crate::record::{Held, Rec};
+use crate::view::View;
+use atomic_table::{Seat, Table, TableRule};
+use std::alloc::Global;
+use std::snapshot::Snapshot;
+use tj_base::{CellId, Items, Oom, Sort};
+use tj_body::{Answer, Body, points_in_rounds};
+use tj_core::start_meets_facts;
+
+/// What a table is told when it is made: the number of cells, the root's body, and whether the rule
+/// is strict.
+#[derive(Drop)]
+pub struct Key<B> {
+    pub cells: u32,
+    pub root: Snapshot<B>,
+    pub strict: bool,
+}
+
+/// The law of the table.
+pub struct Law;
+
+impl<B: Body> TableRule<Option<Rec<B>>, View<B>, Key<B>> for Law {
+    ghost use Rattle.tj_body.specs.Programs.{program_of};
+    ghost use Rattle.tj_words.specs.Law.{Rule};
+    ghost use Rattle.tj_words.specs.FirstState.{first_view};
+
+    ghost holds = { Rule (program_of B.places B.awaits B.left B.asks B.then) };
+
+    ghost first = { λ key. first_view key.cells key.root.value key.strict };
+}
+
+/// A seat of a table, seen as its view and the slots that it has.
+pub type WSeat<B> = Seat<Option<Rec<B>>, View<B>>;
+
+/// A table of words and records.
+#[derive(Drop)]
+pub struct Laid<B: Body> {
+    pub(crate) table: Table<Option<Rec<B>>, View<B>, Key<B>, Law, Global>,
+    pub(crate) cells: u32,
+    pub(crate) strict: bool,
+    ghost words: { table.shared.table_id.words ≡ words_for cells },
+    ghost slots: { table.shared.table_id.slots ≡ cells },
+    ghost key_cells: { table.shared.key.cells ≡ cells },
+    ghost key_strict: { table.shared.key.strict ≡ strict },
+    ghost some: { 0 < cells },
+    ghost few: { cells ≤ most_cells },
+}
+
+impl<B: Body> Laid<B> {
+    /// A table of the root alone, which is ready, and the first seat.
+    pub fn new(alloc: Global, cells: u32, root: B, strict: bool) -> Result<(Laid<B>, WSeat<B>), Oom>
+        requires some { 0 < cells }
+        requires few { cells ≤ most_cells }
+        requires root { IsFresh B.places B.awaits B.left 1 root }
+        ensures cells { IfOk result (λ made. made.0.cells ≡ cells) }
+        ensures strict { IfOk result (λ made. made.0.strict ≡ strict) }
+        ensures table { IfOk result (λ made. made.1.table_id ≡ made.0.table.shared.table_id) }
+        ensures view { IfOk result (λ made. made.1.me ≡ (first_view cells root strict, [])) }
+    {
+        start_meets_facts();
+        points_in_rounds::<B>();
+        let key = Key {
+            cells,
+            root: Snapshot::of(&root),
+            strict,
+        };
+        let words = words_at_first(alloc, cells)?;
+        let slots = slots_at_first(alloc, cells, root)?;
+        match Table::new(alloc, words.as_slice(), slots, &key) {
+            Ok((table, seat)) => Ok((
+                Laid {
+                    table,
+                    cells,
+                    strict,
+                },
+                seat,
+            )),
+            Err(refused) => {
+                drop(refused);
+                Err(Oom)
+            }
+        }
+    }
+
+    /// Whether tasks join only those that they are before.
+    pub fn strict(&self) -> bool
+        ensures { result ≡ self.now.strict }
+    {
+        self.strict
+    }
+}
+
+/// The words of a new table: the root is drawn and ready, and owns its result.
+fn words_at_first(alloc: Global, cells: u32) -> Result<Vec<u64>, Oom>
+    requires some { 0 < cells }
+    requires few { cells ≤ most_cells }
+    ensures { IfOk result (λ words. words.items ≡ first_words cells) }
+{
+    let root = CellId(0);
+    let mut words = Vec::from_elem(alloc, 0u64, TABLE_WORDS + CELL_WORDS * cells as usize)?;
+    let row = words.as_mut_slice();
+    row[COUNT] = 1;
+    row[LIVE] = 1;
+    row[own_at(root)] = word_of_owner(Some(root));
+    row[phase_at(root)] = Phase::Ready.word();
+    row[once_at(root, Once::Jump)] = 1;
+    Ok(words)
+}
+
+/// The slots of a new table: the root's record lies at home, and the others are empty.
+fn slots_at_first<B: Body>(alloc: Global, cells: u32, root: B) -> Result<Vec<Option<Rec<B>>>, Oom>
+    requires some { 0 < cells }
+    ensures { IfOk result (λ slots. slots.items ≡ first_slots cells root) }
+{
+    let mut slots = Vec::with_capacity(alloc, cells as usize)?;
+    slots.push(Some(root_record(alloc, root)?))?;
+    for _i in 1..cells {
+        slots.push(None)?;
+    }
+    Ok(slots)
+}
+
+/// The record of the root at its start.
+fn root_record<B: Body>(alloc: Global, root: B) -> Result<Rec<B>, Oom>
+    ensures { IfOk result (λ made. made ≡ first.root_record root) }
+{
+    let cell = CellId(0);
+    let mut held = Items::of(Vec::new(alloc));
+    held.push(Held {
+        cell,
+        sort: Sort::Task,
+    })?;
+    let mut owned = Items::of(Vec::new(alloc));
+    owned.push(cell)?;
+    Ok(Rec {
+        cell,
+        body: root,
+        answer: Answer::Start,
+        held,
+        owned,
+        made: 0,
+        prints: Items::of(Vec::new(alloc)),
+        owed: Items::of(Vec::new(alloc)),
+        finish: None,
+        spare: false,
+    })
+}

@@ -1,0 +1,48 @@
+//! A new table by hand: what its loads find, and that a second seat finds the same.
+use crate::{Head, Laid, Once};
+use std::test::Fail;
+use tj_base::{CellId, Items};
+use tj_body::{RowList, TableBody};
+
+#[test]
+fn the_words_of_a_new_table(rt: HostRuntime) -> Result<(), Fail> {
+    let a = rt.alloc();
+    let lists: [RowList; 1] = [Items::of(Vec::new(a))];
+    let (laid, mut seat) = Laid::new(a, 2, TableBody::new(&lists, 0), true)?;
+    assert!(rt; laid.strict(), "the rule is the one given");
+    assert_eq!(rt; laid.live(&mut seat), 1, "the root is ready");
+    assert_eq!(rt; laid.stopped(&mut seat), 0, "nobody has stopped it");
+    let root = CellId(0);
+    assert_eq!(rt;
+        laid.see_once(&mut seat, root, Once::Parent),
+        0,
+        "no parent"
+    );
+    assert_eq!(rt; laid.see_once(&mut seat, root, Once::Depth), 0, "its depth");
+    assert_eq!(rt;
+        laid.see_once(&mut seat, root, Once::Jump),
+        1,
+        "it jumps to itself"
+    );
+    assert_eq!(rt;
+        laid.see_once(&mut seat, root, Once::Tag),
+        0,
+        "it has no value"
+    );
+    assert_eq!(rt; laid.head(&mut seat, root), Head::Empty, "nobody waits");
+    assert_eq!(rt; laid.next_of(&mut seat, CellId(1)), Head::Empty, "no chain");
+    Ok(())
+}
+
+#[test]
+fn two_seats_of_one_table(rt: HostRuntime) -> Result<(), Fail> {
+    let a = rt.alloc();
+    let lists: [RowList; 1] = [Items::of(Vec::new(a))];
+    let (laid, seat) = Laid::new(a, 1, TableBody::new(&lists, 0), false)?;
+    let (first, mut second) = laid.split(seat);
+    assert_eq!(rt; laid.live(&mut second), 1, "the second seat");
+    let mut both = laid.merge(first, second);
+    assert_eq!(rt; laid.live(&mut both), 1, "the two as one");
+    assert!(rt; !laid.strict());
+    Ok(())
+}
