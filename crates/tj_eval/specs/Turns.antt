@@ -6,11 +6,11 @@ use Rattle.tj_body.specs.declared.ask.Ask.TheVariants as ask
 use Rattle.tj_eval.specs.declared.stop.Stop.{Stop}
 use Rattle.tj_eval.specs.declared.stop.Stop.TheVariants.{Fault, Memory}
 use Rattle.tj_eval.specs.Statements.{TaskState, Turn, goes_on, asks, fails, place, arguments, forked, fork_of, Next}
-use Rattle.tj_eval.specs.Statements.{begun, ended, next_ask, next_from}
+use Rattle.tj_eval.specs.Statements.{begun, ended, kept, next_ask, next_from, value_in}
 use Rattle.tj_base.specs.declared.value.Pay.{Pay}
 use Rattle.tj_base.specs.declared.value.Pay.TheVariants as pay
 use Rattle.tj_syntax.specs.Trees as tree
-use Rattle.tj_syntax.specs.Trees.{Argument, Statement, Task}
+use Rattle.tj_syntax.specs.Trees.{Argument, Expression, Statement, Task}
 
 -- what was computed, or its fault
 abbrev pub IsComputed : {A B : Type 0} → Result A Trouble → (B → A) → Result B Stop → Type 0
@@ -30,6 +30,11 @@ is_ask (tree.set_cell x e) = true
 is_ask (tree.return e) = true
 is_ask (tree.choose e body other) = false
 is_ask (tree.repeat e body) = false
+
+-- the variable has the value of the expression, or the fault is told and the task stays as it was
+abbrev pub IsGiven : TaskState → ℕ → Expression → Result (Unit {0}) Trouble → TaskState → Type 0
+IsGiven old x e (Ok done) new = (v : Pay) × (value_in old e ≡ Ok v) × (new ≡ kept (Some x) v old)
+IsGiven old x e (Err fault) new = (value_in old e ≡ Err fault) × (new ≡ old)
 
 -- the statement is carried out, or it asks; the task stays as it was where it asks or fails
 abbrev pub IsStep : TaskState → Statement → Result Bool Stop → TaskState → Type 0

@@ -31,7 +31,7 @@ pub(crate) fn value(vars: &[Pay], e: &Expr) -> Result<Pay, Trouble>
 /// The same, of one that comes to a reference or to a fault.
 #[cycle(whole)]
 #[inline(never)]
-fn whole(vars: &[Pay], e: &Expr) -> Result<Pay, Trouble>
+pub(crate) fn whole(vars: &[Pay], e: &Expr) -> Result<Pay, Trouble>
     ensures { result ≡ meaning.value vars.now (expression e.now) }
 {
     match e {

@@ -9,11 +9,27 @@ use crate::expression::{applied, compares, held};
 use tj_base::Pay;
 use tj_syntax::{Expr, Op};
 
-/// The number that the expression comes to, if it is one. What most operands are, a variable or a
-/// number, is read without a further call.
-#[cycle(computed)]
+/// The number that the expression comes to, if it is one. A variable, a number and the operators of a
+/// chain are read without a further call.
 #[inline(always)]
 pub(crate) fn quick(vars: &[Pay], e: &Expr) -> Option<i64>
+    ensures { IfSome result (λ n. meaning.value vars.now (expression e.now) ≡ Ok (pay.Num n)) }
+{
+    match e {
+        Expr::Num(n) => Some(*n),
+        Expr::Var(x) => number_held(vars, *x),
+        Expr::Chain(a, pairs) => {
+            let n = operand(vars, a)?;
+            Some(chained(vars, n, pairs)?)
+        }
+        _ => computed(vars, e),
+    }
+}
+
+/// The same, with a call for any operators.
+#[cycle(computed)]
+#[inline(always)]
+fn operand(vars: &[Pay], e: &Expr) -> Option<i64>
     ensures { IfSome result (λ n. meaning.value vars.now (expression e.now) ≡ Ok (pay.Num n)) }
 {
     match e {
@@ -40,14 +56,14 @@ fn computed(vars: &[Pay], e: &Expr) -> Option<i64>
 {
     match e {
         Expr::Num(_) | Expr::Var(_) | Expr::Me => None,
-        Expr::Neg(a) => quick(vars, a)?.checked_neg(),
+        Expr::Neg(a) => operand(vars, a)?.checked_neg(),
         Expr::Chain(a, pairs) => {
-            let n = quick(vars, a)?;
+            let n = operand(vars, a)?;
             Some(chained(vars, n, pairs)?)
         }
         Expr::Cmp(rel, a, b) => {
-            let n = quick(vars, a)?;
-            let m = quick(vars, b)?;
+            let n = operand(vars, a)?;
+            let m = operand(vars, b)?;
             Some(compares(*rel, n, m) as i64)
         }
     }
@@ -55,13 +71,14 @@ fn computed(vars: &[Pay], e: &Expr) -> Option<i64>
 
 /// The number of a chain whose operands so far have come to n, if it is one.
 #[cycle(computed)]
+#[inline(always)]
 fn chained(vars: &[Pay], n: i64, pairs: &[(Op, Expr)]) -> Option<i64>
     ensures { IfSome result (λ m.
         meaning.chained vars.now n (pairs_of (map pair pairs.now)) ≡ Ok (pay.Num m)) }
 {
     let mut so_far = n;
     for (op, e) in pairs {
-        let m = quick(vars, e)?;
+        let m = operand(vars, e)?;
         so_far = applied(*op, so_far, m)?;
     }
     Some(so_far)

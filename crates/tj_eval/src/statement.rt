@@ -3,16 +3,17 @@ ghost use Rattle.std.specs.Prelude.{◌≡◌, IsTrue};
 ghost use Rattle.tj_eval.specs.Bodies.{all_have_few_params};
 ghost use Rattle.tj_syntax.specs.View as view;
 ghost use Rattle.tj_eval.specs.Statements as state;
-ghost use Rattle.tj_eval.specs.Turns.{IsAskOf, IsOnWay, IsStep, is_ask};
+ghost use Rattle.tj_eval.specs.Turns.{IsAskOf, IsGiven, IsOnWay, IsStep, is_ask};
 
-use crate::expression::{held, number, reference_in, value};
+use crate::expression::{held, number, reference_in, value, whole};
+use crate::quick::quick;
 use crate::state::{Due, ScriptBody};
 use crate::stop::Stop;
 use std::alloc::Global;
 use std::slice;
-use tj_base::Trouble;
+use tj_base::{Pay, Trouble};
 use tj_body::Ask;
-use tj_syntax::{Rhs, Stmt};
+use tj_syntax::{Expr, Rhs, Stmt};
 
 impl<'s> ScriptBody<'s> {
     /// Goes on to the next statement that asks, if one is left, which has then begun. The statements
@@ -33,14 +34,36 @@ impl<'s> ScriptBody<'s> {
         Ok(None)
     }
 
+    /// Gives the variable the value of the expression.
+    fn give(&mut self, x: u32, e: &Expr) -> Result<(), Trouble>
+        ensures { IsGiven self.old x (view.expression e.now) result self.new }
+    {
+        match quick(&self.vars, e) {
+            Some(n) => {
+                self.keep(Some(x), Pay::Num(n));
+                Ok(())
+            }
+            None => self.give_whole(x, e),
+        }
+    }
+
+    /// The same, where it may be a reference or a fault.
+    #[inline(never)]
+    fn give_whole(&mut self, x: u32, e: &Expr) -> Result<(), Trouble>
+        ensures { IsGiven self.old x (view.expression e.now) result self.new }
+    {
+        let v = whole(&self.vars, e)?;
+        self.keep(Some(x), v);
+        Ok(())
+    }
+
     /// Carries a statement out that asks nothing. False: it asks, and isn't carried out.
     fn passes(&mut self, stmt: &'s Stmt) -> Result<bool, Stop>
         ensures { IsStep self.old (view.statement stmt.now) result self.new }
     {
         match stmt {
             Stmt::Let(x, Rhs::Expr(e)) | Stmt::Assign(x, Rhs::Expr(e)) => {
-                let v = value(&self.vars, e)?;
-                self.keep(Some(*x), v);
+                self.give(*x, e)?;
                 Ok(true)
             }
             Stmt::If(e, body, other) => {
