@@ -30,9 +30,11 @@ waits_more cells head line new others i d inside so_far e =
     let before = other_waits cells (numbers (take i others)) in
     let one : List ℕ = codes ", " ++ wait_text cells o.0 in
     let f : take (i + 1) others ≡ take i others ++ o ∷ [] = take_more others i d inside in
-    let g : numbers (take (i + 1) others) ≡ numbers (take i others) ++ o.0 ∷ [] = ap numbers f ∙ map-append (λ (c : CellId). c.0) (take i others) (o ∷ []) in
+    let g : numbers (take (i + 1) others) ≡ numbers (take i others) ++ o.0 ∷ [] = ap numbers f ∙ map-append
+    (λ (c : CellId). c.0) (take i others) (o ∷ []) in
     let h : other_waits cells (numbers (take (i + 1) others)) ≡ before ++ one =
-    ap (other_waits cells) g ∙ flat_map-append (λ u. codes ", " ++ wait_text cells u) (numbers (take i others)) (o.0 ∷ [])
+    ap (other_waits cells) g ∙ flat_map-append (λ u. codes ", " ++ wait_text cells u) (numbers (take i others))
+    (o.0 ∷ [])
     ∙ ap (λ (x : List ℕ). before ++ x) (append-nil one) in
     e ∙ append_assoc line (codes ", ") (wait_text cells o.0) ∙ ap (λ (x : List ℕ). x ++ one) so_far
     ∙ append_assoc head before one ∙ ap (λ (x : List ℕ). head ++ x) (sym h)
@@ -42,7 +44,8 @@ pub alarm_whole : (cells : Cells) (t loads : ℕ) (line new : List ℕ) (others 
     → line ≡ alarm_head cells t loads ++ other_waits cells (numbers (take i others)) → i ≡ length others
     → new ≡ line ++ codes "\n" → new ≡ alarm_line cells t loads (numbers others)
 alarm_whole cells t loads line new others i so_far all e =
-    e ∙ ap (λ (x : List ℕ). x ++ codes "\n") (so_far ∙ ap (λ (xs : List CellId). alarm_head cells t loads ++ other_waits cells (numbers xs))
+    e ∙ ap (λ (x : List ℕ). x ++ codes "\n")
+    (so_far ∙ ap (λ (xs : List CellId). alarm_head cells t loads ++ other_waits cells (numbers xs))
     (take_all i others (omega arith)))
 
 -- the line in front of the waits of the others, piece by piece

@@ -22,7 +22,8 @@ lines_cut (b ∷ text) h =
       | true ↦ λ _. refl
       | false ↦ λ l. ap (onto_first b) (lines_cut text (omega arith))
     ] in
-    subst (λ m. cond (on_line b) m 0 < suc (length text) → lines_of (b ∷ text) ≡ take (cond (on_line b) m 0) (b ∷ text) ∷ lines_of (drop (suc (cond (on_line b) m 0)) (b ∷ text)))
+    subst (λ m. cond (on_line b) m 0 < suc (length text) → lines_of (b ∷ text) ≡ take (cond (on_line b) m 0) (b ∷ text)
+    ∷ lines_of (drop (suc (cond (on_line b) m 0)) (b ∷ text)))
     (sym e) (by_test (b == 10)) h
 
 -- the last line, whose first byte is no line feed, as the rest of it is a line or empty
@@ -31,16 +32,19 @@ whole_line : (b : ℕ) (text : List ℕ) → suc (length text) ≤ prefix_len on
     → lines_of (b ∷ text) ≡ (b ∷ text) ∷ []
 whole_line b text h rest = go (b == 10) refl
   where
-    more : (xs : List ℕ) → length xs ≤ prefix_len on_line xs → (0 < length xs → length xs ≤ prefix_len on_line xs → lines_of xs ≡ xs ∷ [])
+    more : (xs : List ℕ) → length xs ≤ prefix_len on_line xs
+        → (0 < length xs → length xs ≤ prefix_len on_line xs → lines_of xs ≡ xs ∷ [])
         → onto_first b (lines_of xs) ≡ (b ∷ xs) ∷ []
     more [] l r = refl
     more (x ∷ xs) l r = ap (onto_first b) (r (omega arith) l)
 
     go : (t : Bool) → (b == 10) ≡ t → lines_of (b ∷ text) ≡ (b ∷ text) ∷ []
     go true e =
-        let f : cond (on_line b) (1 + prefix_len on_line text) 0 ≡ 0 = ap (λ t. cond (not t) (1 + prefix_len on_line text) 0) e in absurd (omega (arith, h, f))
+        let f : cond (on_line b) (1 + prefix_len on_line text) 0 ≡ 0 = ap
+        (λ t. cond (not t) (1 + prefix_len on_line text) 0) e in absurd (omega (arith, h, f))
     go false e =
-        let f : cond (on_line b) (1 + prefix_len on_line text) 0 ≡ 1 + prefix_len on_line text = ap (λ t. cond (not t) (1 + prefix_len on_line text) 0) e in
+        let f : cond (on_line b) (1 + prefix_len on_line text) 0 ≡ 1 + prefix_len on_line text = ap
+        (λ t. cond (not t) (1 + prefix_len on_line text) 0) e in
         ap (λ t. cond t ([] ∷ lines_of text) (onto_first b (lines_of text))) e ∙ more text (omega (arith, h, f)) rest
 
 -- a text without one is a line
@@ -55,10 +59,12 @@ pub event_lines_more : (lines : List (List ℕ)) (events : List Event) (line : L
 event_lines_more [] [] line e h small names = (small, names, tt)
 event_lines_more [] (f ∷ events) line e h small names = absurd h
 event_lines_more (l ∷ lines) [] line e h small names = absurd h
-event_lines_more (l ∷ lines) (f ∷ events) line e h small names = (h.0, h.1, event_lines_more lines events line e h.2 small names)
+event_lines_more (l ∷ lines) (f ∷ events) line e h small
+    names = (h.0, h.1, event_lines_more lines events line e h.2 small names)
 
 -- there are as many of both
-pub event_lines_length : (lines : List (List ℕ)) (events : List Event) → AreEventLines lines events → length lines ≡ length events
+pub event_lines_length : (lines : List (List ℕ)) (events : List Event) → AreEventLines lines events → length lines
+    ≡ length events
 event_lines_length [] [] h = refl
 event_lines_length [] (f ∷ events) h = absurd h
 event_lines_length (l ∷ lines) [] h = absurd h
@@ -70,7 +76,8 @@ one_fault lines m n a b =
     a.place ∙ ap suc (go a.before a.events b.before b.events (sym a.whole ∙ b.whole) a.good b.good) ∙ sym b.place
   where
     go : (xs : List (List ℕ)) (es : List Event) (ys : List (List ℕ)) (fs : List Event)
-        → xs ++ a.line ∷ a.after ≡ ys ++ b.line ∷ b.after → AreEventLines xs es → AreEventLines ys fs → length xs ≡ length ys
+        → xs ++ a.line ∷ a.after ≡ ys ++ b.line ∷ b.after → AreEventLines xs es → AreEventLines ys fs → length xs
+        ≡ length ys
     go [] es [] fs e p q = refl
     go [] es (y ∷ ys) [] e p q = absurd q
     go [] es (y ∷ ys) (f ∷ fs) e p q =
@@ -82,7 +89,8 @@ one_fault lines m n a b =
     go (x ∷ xs) (f ∷ es) (y ∷ ys) (g ∷ fs) e p q = ap suc (go xs es ys fs (cc) p.2 q.2)
 
 -- a text that has such a line has other lines than those of events
-pub fault_or_events : (lines : List (List ℕ)) (n : ℕ) (events : List Event) → IsFirstFault lines n → AreEventLines lines events → ⊥
+pub fault_or_events : (lines : List (List ℕ)) (n : ℕ) (events : List Event) → IsFirstFault lines n → AreEventLines lines
+    events → ⊥
 fault_or_events lines n events a h = go a.before events (subst (λ l. AreEventLines l events) a.whole h)
   where
     go : (xs : List (List ℕ)) (es : List Event) → AreEventLines (xs ++ a.line ∷ a.after) es → ⊥

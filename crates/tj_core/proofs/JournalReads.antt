@@ -16,7 +16,8 @@ pub record IsReadTo (bytes rest : List ℕ) (events : List Event) : Type 0 where
   pub short : length rest + length events ≤ length bytes
 
 pub read_starts : (bytes : List ℕ) (events : List Event) → events ≡ [] → IsReadTo bytes bytes events
-read_starts bytes events e = subst (IsReadTo bytes bytes) (sym e) (record { before = []; whole = refl; good = tt; short = omega arith })
+read_starts bytes events e = subst (IsReadTo bytes bytes) (sym e)
+    (record { before = []; whole = refl; good = tt; short = omega arith })
 
 pub read_on : (bytes rest line after : List ℕ) (events more : List Event) (e : Event)
     → IsReadTo bytes rest events → lines_of rest ≡ line ∷ lines_of after → length after < length rest
@@ -24,11 +25,13 @@ pub read_on : (bytes rest line after : List ℕ) (events more : List Event) (e :
 read_on bytes rest line after events more e h cut shorter named same = record {
   before = h.before ++ line ∷ [];
   whole = h.whole ∙ ap (λ ls. h.before ++ ls) cut ∙ sym (append_assoc h.before (line ∷ []) (lines_of after));
-  good = subst (AreEventLines (h.before ++ line ∷ [])) (sym same) (event_lines_more h.before events line e h.good named.0 named.1);
+  good = subst (AreEventLines (h.before ++ line ∷ [])) (sym same)
+      (event_lines_more h.before events line e h.good named.0 named.1);
   short = let s = h.short in let long = ap length same ∙ length-append events (e ∷ []) in omega arith;
 }
 
-pub read_all : (bytes rest : List ℕ) (events : List Event) → IsReadTo bytes rest events → length rest ≡ 0 → AreEventLines (lines_of bytes) events
+pub read_all : (bytes rest : List ℕ) (events : List Event) → IsReadTo bytes rest events → length rest ≡ 0
+    → AreEventLines (lines_of bytes) events
 read_all bytes [] events h e = subst (λ ls. AreEventLines ls events) (sym (h.whole ∙ append-nil h.before)) h.good
 read_all bytes (b ∷ rest) events h e = absurd (omega arith)
 

@@ -13,10 +13,11 @@ use Rattle.tj_core.proofs.EachEvent.{facts_after_event}
 use Rattle.tj_core.proofs.LegalRuns.{start_facts}
 
 -- so many events were allowed and led to s, with this text and mark so far
-pub record IsJudgedTo (N : ℕ) (events : List Event) (s : CoreState) (at : ℕ) (text : List ℕ) (marked : Bool) : Type 0 where
-  pub facts : CoreFacts s
-  pub goes_on : (rest : List ℕ) (more : Bool) → IsJudgedFrom N s at (drop at events) rest more
-      → IsJudged N events (text ++ rest) (marked || more)
+pub record IsJudgedTo (N : ℕ) (events : List Event) (s : CoreState) (at : ℕ) (text : List ℕ) (marked : Bool) : Type 0
+  where
+    pub facts : CoreFacts s
+    pub goes_on : (rest : List ℕ) (more : Bool) → IsJudgedFrom N s at (drop at events) rest more
+        → IsJudged N events (text ++ rest) (marked || more)
 
 or_assoc : (a b c : Bool) → (a || (b || c)) ≡ ((a || b) || c)
 or_assoc true b c = refl
@@ -46,7 +47,8 @@ module _ (N : ℕ) (events : List Event) (s : CoreState) (at : ℕ) (text : List
     left : drop at events ≡ e ∷ drop (suc at) events
     left = drop-cons events at d inside
 
-    pub judge_on : Allowed N s e → (said : List ℕ) → IsSaid s e said → IsJudgedTo N events (after s e) (suc at) (text ++ said) (marked || is_alarm e)
+    pub judge_on : Allowed N s e → (said : List ℕ) → IsSaid s e said → IsJudgedTo N events (after s e) (suc at)
+        (text ++ said) (marked || is_alarm e)
     judge_on a said q = record {
       facts = facts_after_event N s e h.facts a;
       goes_on = λ rest more r.
@@ -55,7 +57,8 @@ module _ (N : ℕ) (events : List Event) (s : CoreState) (at : ℕ) (text : List
           let whole = h.goes_on (said ++ rest) (is_alarm e || more)
           (subst (λ (l : List Event). IsJudgedFrom N s at l (said ++ rest) (is_alarm e || more)) (sym left) from) in
           subst (λ (b : Bool). IsJudged N events ((text ++ said) ++ rest) b) (or_assoc marked (is_alarm e) more)
-          (subst (λ (x : List ℕ). IsJudged N events x (marked || (is_alarm e || more))) (sym (append_assoc text said rest)) whole);
+          (subst (λ (x : List ℕ). IsJudged N events x (marked || (is_alarm e || more)))
+          (sym (append_assoc text said rest)) whole);
     }
 
     pub judge_illegal : ¬ Allowed N s e → IsJudged N events (text ++ illegal_line (suc at)) true
@@ -72,7 +75,8 @@ module _ (N : ℕ) (events : List Event) (s : CoreState) (at : ℕ) (text : List
       (subst (λ (l : List Event). IsJudgedFrom N s at l (legal_line at) false) (sym e) (refl, refl)))
 
 -- the same of equal parts
-pub judged_same : (N : ℕ) (events : List Event) (s s' : CoreState) (at at' : ℕ) (text text' : List ℕ) (marked marked' : Bool)
+pub judged_same : (N : ℕ) (events : List Event) (s s' : CoreState) (at at' : ℕ) (text text' : List ℕ)
+    (marked marked' : Bool)
     → IsJudgedTo N events s at text marked → s' ≡ s → at' ≡ at → text' ≡ text → marked' ≡ marked
     → IsJudgedTo N events s' at' text' marked'
 judged_same N events s s' at at' text text' marked marked' h e f g k =
@@ -84,7 +88,8 @@ judged_same N events s s' at at' text text' marked marked' h e f g k =
 pub outcome_same : (N : ℕ) (events : List Event) (text text' : List ℕ) (marked marked' : Bool)
     → IsJudged N events text marked → text' ≡ text → marked' ≡ marked → IsJudged N events text' marked'
 outcome_same N events text text' marked marked' h e f =
-    subst (λ (x : List ℕ). IsJudged N events x marked') (sym e) (subst (λ (b : Bool). IsJudged N events text b) (sym f) h)
+    subst (λ (x : List ℕ). IsJudged N events x marked') (sym e)
+    (subst (λ (b : Bool). IsJudged N events text b) (sym f) h)
 
 -- who walks so that F holds walks
 pub walks_any : (s : CoreState) (t : ℕ) (F : ℕ → Way → Walker → Type 0) → Walks s t F → Walks s t (λ c way w. Unit {0})

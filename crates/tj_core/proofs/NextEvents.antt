@@ -34,17 +34,21 @@ next t way len bound Changed = Settle (cell t)
 next_actor : (t : ℕ) (way : Way) (len bound : ℕ) (a : LastRead) → actor (next t way len bound a) ≡ Some t
 next_actor t Along len bound Published = refl
 next_actor t Other len bound Published = refl
-next_actor t way len bound (SawOthers n) = dite (ℕ_discrete n 0) (λ e. rw (eq-eqb n 0 e) refl) (λ e. rw (ne_eqb n 0 e) refl)
+next_actor t way len bound (SawOthers n) = dite (ℕ_discrete n 0) (λ e. rw (eq-eqb n 0 e) refl)
+    (λ e. rw (ne_eqb n 0 e) refl)
 next_actor t way len bound Counted = refl
 next_actor t way len bound (SawOwner None) = refl
-next_actor t way len bound (SawOwner (Some u)) = dite (ℕ_discrete u t) (λ e. rw (eq-eqb u t e) refl) (λ e. rw (ne_eqb u t e) refl)
+next_actor t way len bound (SawOwner (Some u)) = dite (ℕ_discrete u t) (λ e. rw (eq-eqb u t e) refl)
+    (λ e. rw (ne_eqb u t e) refl)
 next_actor t way len bound (SawWait u None) = refl
 next_actor t way len bound (SawWait u (Some v)) = refl
-next_actor t way len bound Passed = dite (ℕ_discrete len bound) (λ e. rw (eq-eqb len bound e) refl) (λ e. rw (ne_eqb len bound e) refl)
+next_actor t way len bound Passed = dite (ℕ_discrete len bound) (λ e. rw (eq-eqb len bound e) refl)
+    (λ e. rw (ne_eqb len bound e) refl)
 next_actor t way len bound Changed = refl
 
 -- a walk that is at its end settles
-next_settles : (t : ℕ) (way : Way) (len bound : ℕ) (a : LastRead) → EndsWalk len bound a → Settle (cell t) ≡ next t way len bound a
+next_settles : (t : ℕ) (way : Way) (len bound : ℕ) (a : LastRead) → EndsWalk len bound a → Settle (cell t) ≡ next t way
+    len bound a
 next_settles t way len bound Published h = absurd h
 next_settles t way len bound (SawOthers n) h = rw (eq-eqb n 0 h) refl
 next_settles t way len bound Counted h = absurd h
@@ -71,7 +75,8 @@ module _ (N : ℕ) (s : CoreState) (t c : ℕ) (way : Way) (w : Walker) (is : st
 
   not_publishing : (u : ℕ) (to : Way) → u ≡ t → MayPublish to (stage s.cells u) → ⊥
   not_publishing u Along e r = not_running u e r
-  not_publishing u Other e r = let q : waits c way (walks w) ≡ raised = sym is ∙ (ap (stage s.cells) (sym e) ∙ r) in absurd (cc)
+  not_publishing u Other e r = let q : waits c way (walks w) ≡ raised = sym is ∙ (ap (stage s.cells) (sym e) ∙ r) in
+      absurd (cc)
 
   -- the event of a walker is the next one
   only_next : (e : Event) → actor e ≡ Some t → Allowed N s e → e ≡ turn
@@ -88,16 +93,21 @@ module _ (N : ℕ) (s : CoreState) (t c : ℕ) (way : Way) (w : Walker) (is : st
       (λ i. LoadCount (cell (e i))) ∙ ⊎_elim
       (λ (k : (way ≡ Other) × (w.last ≡ Published)). λ i. next t (sym k.0 i) (length w.trail) w.bound (sym k.1 i))
       (λ (k : (n : ℕ) × (w.last ≡ SawOthers n) × (0 < n)).
-      sym (ap (next t way (length w.trail) w.bound) k.1 ∙ (let d : k.0 ≢ 0 = (λ q. let g = k.2 in omega arith) in rw (ne_eqb k.0 0 d) refl)))
-      (same_walk (λ c way w. ((way ≡ Other) × (w.last ≡ Published)) ⊎ ((n : ℕ) × (w.last ≡ SawOthers n) × (0 < n))) u.0 e a)
+      sym (ap (next t way (length w.trail) w.bound) k.1
+      ∙ (let d : k.0 ≢ 0 = (λ q. let g = k.2 in omega arith) in rw (ne_eqb k.0 0 d) refl)))
+      (same_walk (λ c way w. ((way ≡ Other) × (w.last ≡ Published)) ⊎ ((n : ℕ) × (w.last ≡ SawOthers n) × (0 < n))) u.0
+      e a)
   only_next (ReadOwner u) h a = let e : u.0 ≡ t = cc in
       (λ i. ReadOwner (cell (e i))) ∙ ⊎_elim
       (λ (k : w.last ≡ Counted). ap (next t way (length w.trail) w.bound) (sym k))
       (λ (k : (w.last ≡ Passed) × (length w.trail < w.bound)).
-      sym (ap (next t way (length w.trail) w.bound) k.0 ∙ (let d : length w.trail ≢ w.bound = (λ q. let g = k.1 in omega arith) in rw (ne_eqb (length w.trail) w.bound d) refl)))
+      sym (ap (next t way (length w.trail) w.bound) k.0
+      ∙ (let d : length w.trail ≢ w.bound = (λ q. let g = k.1 in omega arith) in rw
+      (ne_eqb (length w.trail) w.bound d) refl)))
       (same_walk (λ c way w. (w.last ≡ Counted) ⊎ ((w.last ≡ Passed) × (length w.trail < w.bound))) u.0 e a)
   only_next (ReadWait u) h a =
-      let e : u.0 ≡ t = cc in let k = same_walk (λ c way w. (v : ℕ) × (w.last ≡ SawOwner (Some v)) × (v ≢ u.0)) u.0 e a in
+      let e : u.0 ≡ t = cc in let k = same_walk (λ c way w. (v : ℕ) × (w.last ≡ SawOwner (Some v)) × (v ≢ u.0)) u.0 e a
+      in
       let d : k.0 ≢ t = (λ q. k.2 (q ∙ sym e)) in
       (λ i. ReadWait (cell (e i))) ∙ sym (ap (next t way (length w.trail) w.bound) k.1 ∙ rw (ne_eqb k.0 t d) refl)
   only_next (ReadOwnerAgain u) h a =
@@ -115,7 +125,8 @@ module _ (N : ℕ) (s : CoreState) (t c : ℕ) (way : Way) (w : Walker) (is : st
   only_next Lower h a = absurd (cc)
 
   -- the next event is allowed
-  allowed_next : (to : Way) → way ≡ to → (a : LastRead) → w.last ≡ a → AreLoads (length w.trail) w.bound w.loads a → Allowed N s (next t to (length w.trail) w.bound a)
+  allowed_next : (to : Way) → way ≡ to → (a : LastRead) → w.last ≡ a → AreLoads (length w.trail) w.bound w.loads a
+      → Allowed N s (next t to (length w.trail) w.bound a)
   allowed_next Along h Published e l = (c, way, w, is, (h, e))
   allowed_next Other h Published e l = (c, way, w, is, inl (h, e))
   allowed_next to h (SawOthers n) e l = dite (ℕ_discrete n 0)

@@ -15,8 +15,10 @@ abbrev pub walker : List TrailLink → ℕ → ℕ → LastRead → Walker
 walker links bound loads last = record { trail = reverse links; bound = bound; loads = loads; last = last }
 
 -- a slot whose status is a walk shows that walk
-pub walks_at : (links : List TrailLink) (bound loads : ℕ) (status : Status) (c : ℕ) (way : Way) (last : LastRead) (F : ℕ → Way → Walker → Type 0)
+pub walks_at : (links : List TrailLink) (bound loads : ℕ) (status : Status) (c : ℕ) (way : Way) (last : LastRead)
+    (F : ℕ → Way → Walker → Type 0)
     → status ≡ Waiting c way (Walking last)
     → F c way (walker links bound loads last)
     → WalksAt (stage_of_status links bound loads status) F
-walks_at links bound loads status c way last F e h = (c, way, walker links bound loads last, ap (stage_of_status links bound loads) e, h)
+walks_at links bound loads status c way last F e
+    h = (c, way, walker links bound loads last, ap (stage_of_status links bound loads) e, h)

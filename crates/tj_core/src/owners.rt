@@ -65,7 +65,8 @@ impl Owners {
 /// A cell more is `owner`'s.
 fn count_up(counts: &mut Vec<u32>, owner: Option<u32>)
     requires owner { IsInside owner (length counts.old.items) }
-    requires room { (t : ℕ) → t < length counts.old.items → slice_index_or counts.old.items t 0 ≤ 1024 }
+    requires room { (t : ℕ) → t < length counts.old.items
+        → slice_index_or counts.old.items t 0 ≤ 1024 }
     ensures length { length counts.new.items ≡ length counts.old.items }
     ensures counts { (t : ℕ) → t < length counts.old.items
         → slice_index_or counts.new.items t 0 ≡ slice_index_or counts.old.items t 0 + one_if owner t }
@@ -78,7 +79,8 @@ fn count_up(counts: &mut Vec<u32>, owner: Option<u32>)
 /// A cell less is `owner`'s.
 fn count_down(counts: &mut Vec<u32>, owner: Option<u32>)
     requires owner { IsInside owner (length counts.old.items) }
-    requires some { (t : ℕ) → t < length counts.old.items → one_if owner t ≤ slice_index_or counts.old.items t 0 }
+    requires some { (t : ℕ) → t < length counts.old.items
+        → one_if owner t ≤ slice_index_or counts.old.items t 0 }
     ensures length { length counts.new.items ≡ length counts.old.items }
     ensures counts { (t : ℕ) → t < length counts.old.items
         → slice_index_or counts.new.items t 0 + one_if owner t ≡ slice_index_or counts.old.items t 0 }

@@ -181,12 +181,12 @@ impl Slot {
 
     /// The walker reads OTHERS.
     fn read_others(&mut self, others: u64) -> Result<(), Illegal>
-        ensures allowed { OnOk result (WalksAt (stage_of self.old) (λ c way w. MayReadOthers way w)) }
+        ensures allowed { OnOk result (WalksAt (stage_of self.old) (λ c. MayReadOthers)) }
         ensures stage { OnOk result (stage_of self.new
-            ≡ walked (λ c w. others_read others w) (stage_of self.old)) }
+            ≡ walked (λ c. others_read others) (stage_of self.old)) }
         ensures loads { OnOk result (self.new.loads ≡ self.old.loads) }
         ensures room { vec_capacity self.old.trail ≤ vec_capacity self.new.trail }
-        ensures illegal { OnErr result (¬ WalksAt (stage_of self.old) (λ c way w. MayReadOthers way w)) }
+        ensures illegal { OnErr result (¬ WalksAt (stage_of self.old) (λ c. MayReadOthers)) }
         ensures err { OnErr result (self.new ≡ self.old) }
     {
         let Status::Waiting(cell, Way::Along, Progress::Walking(LastRead::Published)) = self.status
@@ -203,11 +203,11 @@ impl Slot {
         requires some { 0 < count }
         requires small { count ≤ 1024 }
         requires room { count ≤ vec_capacity self.old.trail }
-        ensures allowed { OnOk result (WalksAt (stage_of self.old) (λ c way w. MayCount way w)) }
-        ensures stage { OnOk result (stage_of self.new ≡ walked (λ c w. count_read count w) (stage_of self.old)) }
+        ensures allowed { OnOk result (WalksAt (stage_of self.old) (λ c. MayCount)) }
+        ensures stage { OnOk result (stage_of self.new ≡ walked (λ c. count_read count) (stage_of self.old)) }
         ensures loads { OnOk result (self.new.loads ≡ self.old.loads) }
         ensures room { vec_capacity self.old.trail ≤ vec_capacity self.new.trail }
-        ensures illegal { OnErr result (¬ WalksAt (stage_of self.old) (λ c way w. MayCount way w)) }
+        ensures illegal { OnErr result (¬ WalksAt (stage_of self.old) (λ c. MayCount)) }
         ensures err { OnErr result (self.new ≡ self.old) }
     {
         let Status::Waiting(cell, way, Progress::Walking(last)) = self.status else {
@@ -223,11 +223,11 @@ impl Slot {
 
     /// The walker reads the owner of the present cell.
     fn read_owner(&mut self, owner: Option<u32>) -> Result<(), Illegal>
-        ensures allowed { OnOk result (WalksAt (stage_of self.old) (λ c way w. MayReadOwner w)) }
-        ensures stage { OnOk result (stage_of self.new ≡ walked (λ c w. owner_read owner w) (stage_of self.old)) }
+        ensures allowed { OnOk result (WalksAt (stage_of self.old) (λ c way. MayReadOwner)) }
+        ensures stage { OnOk result (stage_of self.new ≡ walked (λ c. owner_read owner) (stage_of self.old)) }
         ensures loads { OnOk result (self.new.loads ≡ suc self.old.loads) }
         ensures room { vec_capacity self.old.trail ≤ vec_capacity self.new.trail }
-        ensures illegal { OnErr result (¬ WalksAt (stage_of self.old) (λ c way w. MayReadOwner w)) }
+        ensures illegal { OnErr result (¬ WalksAt (stage_of self.old) (λ c way. MayReadOwner)) }
         ensures err { OnErr result (self.new ≡ self.old) }
     {
         let Status::Waiting(cell, way, Progress::Walking(last)) = self.status else {
@@ -254,12 +254,12 @@ impl Slot {
 
     /// The walker reads what the owner that it has just read waits for.
     fn read_wait(&mut self, t: u32, wait: Option<u32>) -> Result<(), Illegal>
-        ensures allowed { OnOk result (WalksAt (stage_of self.old) (λ c way w. MayReadWait t w)) }
+        ensures allowed { OnOk result (WalksAt (stage_of self.old) (λ c way. MayReadWait t)) }
         ensures stage { OnOk result (stage_of self.new
             ≡ walked (λ c w. wait_heard wait w w.last) (stage_of self.old)) }
         ensures loads { OnOk result (self.new.loads ≡ suc self.old.loads) }
         ensures room { vec_capacity self.old.trail ≤ vec_capacity self.new.trail }
-        ensures illegal { OnErr result (¬ WalksAt (stage_of self.old) (λ c way w. MayReadWait t w)) }
+        ensures illegal { OnErr result (¬ WalksAt (stage_of self.old) (λ c way. MayReadWait t)) }
         ensures err { OnErr result (self.new ≡ self.old) }
     {
         match self.status {
@@ -276,12 +276,12 @@ impl Slot {
 
     /// The walker reads the owner of the present cell again.
     fn read_again(&mut self, now: Option<u32>) -> Result<(), Illegal>
-        ensures allowed { OnOk result (WalksAt (stage_of self.old) (λ c way w. MayReadAgain w)) }
+        ensures allowed { OnOk result (WalksAt (stage_of self.old) (λ c way. MayReadAgain)) }
         ensures stage { OnOk result (stage_of self.new
             ≡ walked (λ c w. owner_again now w w.last) (stage_of self.old)) }
         ensures loads { OnOk result (self.new.loads ≡ suc self.old.loads) }
         ensures room { vec_capacity self.old.trail ≤ vec_capacity self.new.trail }
-        ensures illegal { OnErr result (¬ WalksAt (stage_of self.old) (λ c way w. MayReadAgain w)) }
+        ensures illegal { OnErr result (¬ WalksAt (stage_of self.old) (λ c way. MayReadAgain)) }
         ensures err { OnErr result (self.new ≡ self.old) }
     {
         let Status::Waiting(cell, way, Progress::Walking(last)) = self.status else {
@@ -303,11 +303,11 @@ impl Slot {
 
     /// The walker alarms, as it has just read its own task t as owner.
     fn alarm(&mut self, t: u32) -> Result<(), Illegal>
-        ensures allowed { OnOk result (WalksAt (stage_of self.old) (λ c way w. MayAlarm t w)) }
+        ensures allowed { OnOk result (WalksAt (stage_of self.old) (λ c way. MayAlarm t)) }
         ensures stage { OnOk result (stage_of self.new ≡ walk_ended alarmed (stage_of self.old)) }
         ensures loads { OnOk result (self.new.loads ≡ self.old.loads) }
         ensures room { vec_capacity self.old.trail ≤ vec_capacity self.new.trail }
-        ensures illegal { OnErr result (¬ WalksAt (stage_of self.old) (λ c way w. MayAlarm t w)) }
+        ensures illegal { OnErr result (¬ WalksAt (stage_of self.old) (λ c way. MayAlarm t)) }
         ensures err { OnErr result (self.new ≡ self.old) }
     {
         match self.status {
@@ -322,11 +322,11 @@ impl Slot {
 
     /// The walk ends without an alarm.
     fn settle(&mut self) -> Result<(), Illegal>
-        ensures allowed { OnOk result (WalksAt (stage_of self.old) (λ c way w. MaySettle w)) }
+        ensures allowed { OnOk result (WalksAt (stage_of self.old) (λ c way. MaySettle)) }
         ensures stage { OnOk result (stage_of self.new ≡ walk_ended parked (stage_of self.old)) }
         ensures loads { OnOk result (self.new.loads ≡ self.old.loads) }
         ensures room { vec_capacity self.old.trail ≤ vec_capacity self.new.trail }
-        ensures illegal { OnErr result (¬ WalksAt (stage_of self.old) (λ c way w. MaySettle w)) }
+        ensures illegal { OnErr result (¬ WalksAt (stage_of self.old) (λ c way. MaySettle)) }
         ensures err { OnErr result (self.new ≡ self.old) }
     {
         let Status::Waiting(cell, way, Progress::Walking(last)) = self.status else {
@@ -341,11 +341,11 @@ impl Slot {
     /// The walker of task t takes a step.
     pub(crate) fn step(&mut self, t: u32, step: WalkStep) -> Result<(), Illegal>
         requires { HasRoom (vec_capacity self.old.trail) step }
-        ensures allowed { OnOk result (WalksAt (stage_of self.old) (λ c way w. MayStep t step way w)) }
+        ensures allowed { OnOk result (WalksAt (stage_of self.old) (λ c. MayStep t step)) }
         ensures stage { OnOk result (stage_of self.new ≡ stage_by step (stage_of self.old)) }
         ensures loads { OnOk result (self.new.loads ≡ loads_by step self.old.loads) }
         ensures room { vec_capacity self.old.trail ≤ vec_capacity self.new.trail }
-        ensures illegal { OnErr result (¬ WalksAt (stage_of self.old) (λ c way w. MayStep t step way w)) }
+        ensures illegal { OnErr result (¬ WalksAt (stage_of self.old) (λ c. MayStep t step)) }
         ensures err { OnErr result (self.new ≡ self.old) }
     {
         match step {

@@ -12,7 +12,8 @@ returns-then-len-text-clause-lines c =
     let cut = lines_cut text inside in
     let here : lines_of text ≡ take n text ∷ lines_of (drop (suc n) text) =
     subst (λ (k : ℕ). lines_of text ≡ take k text ∷ lines_of (drop (suc k) text)) (sym len) cut in
-    here ∙ ap (λ (ls : List ℕ). take n text ∷ lines_of ls) (sym (rest_whole (n + 1) text ∙ ap (λ (k : ℕ). drop k text) (add-one n)))
+    here ∙ ap (λ (ls : List ℕ). take n text ∷ lines_of ls)
+    (sym (rest_whole (n + 1) text ∙ ap (λ (k : ℕ). drop k text) (add-one n)))
 
 pub returns-else-len-text-clause-lines : goal.returns-else-len-text-clause-lines
 returns-else-len-text-clause-lines c =

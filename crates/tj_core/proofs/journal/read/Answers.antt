@@ -14,7 +14,9 @@ returns-in_default-clause-line c =
 pub loop-rest-preserved : goal.loop-rest-preserved
 loop-rest-preserved c =
     let l = c.loop-rest in let line = c.cut_line.result.0.now in
-    read_on c.args.bytes.now l.rest.now line c.cut_line.result.1.now l.events.items c.push.new.self.items c.in-Some.event
+    read_on c.args.bytes.now l.rest.now line c.cut_line.result.1.now l.events.items c.push.new.self.items
+    c.in-Some.event
     l.invariant c.cut_line.ensures.lines c.cut_line.ensures.shorter
-    (some_at c.in_ok-event.field-0 (λ e. HasSmallCells e × Names (words_of line) e) c.in-Some.event c.in-Some.is c.in_ok-event.ensures.found)
+    (some_at c.in_ok-event.field-0 (λ e. HasSmallCells e × Names (words_of line) e) c.in-Some.event c.in-Some.is
+    c.in_ok-event.ensures.found)
     c.in_ok-push.ensures.items

@@ -16,9 +16,11 @@ loop-other-preserved c =
     let cells = (core_state c.args.core.now).cells in
     let d : CellId = record { 0 = 0 } in
     let o : CellId = get_or c.args.others.now c.loop-other.other-index d in
-    waits_more cells (alarm_head cells c.args.t.0 c.args.loads) c.loop-other.line.items c.add_wait-in-loop-other.new.text.items
+    waits_more cells (alarm_head cells c.args.t.0 c.args.loads) c.loop-other.line.items
+    c.add_wait-in-loop-other.new.text.items
     c.args.others.now c.loop-other.other-index d (omega arith) c.loop-other.invariant
-    (c.in_ok-add_wait-2.ensures ∙ ap (λ (x : List ℕ). x ++ wait_text cells o.0) c.in_ok-extend_from_slice-3.ensures.items)
+    (c.in_ok-add_wait-2.ensures ∙ ap (λ (x : List ℕ). x ++ wait_text cells o.0)
+    c.in_ok-extend_from_slice-3.ensures.items)
 
 pub returns : goal.returns
 returns c =

@@ -17,7 +17,8 @@ pub loop-event-init : goal.loop-event-init
 loop-event-init c = let e = c.in_ok-core.ensures in record {
   limit = e.limit;
   applied = e.applied;
-  judged = judge_starts c.args.cells c.args.events.now (core_state c.in_ok-core.core) c.new-text.result.items e.state c.new-text.ensures.items;
+  judged = judge_starts c.args.cells c.args.events.now (core_state c.in_ok-core.core) c.new-text.result.items e.state
+      c.new-text.ensures.items;
 }
 
 pub returns-in-Err : goal.returns-in-Err
@@ -39,16 +40,19 @@ loop-event-preserved c =
     let a = c.in_default.ensures.ok in
     let good = subst (λ (n : ℕ). Allowed n s e) i.limit a.allowed in
     let said = c.in_ok-said.ensures i.judged.facts a.allowed in
-    let j = judge_on N c.args.events.now s l.event-index l.text.items l.marked i.judged other (omega arith) good c.in_ok-said.said.items said in
+    let j = judge_on N c.args.events.now s l.event-index l.text.items l.marked i.judged other (omega arith) good
+    c.in_ok-said.said.items said in
     record {
       limit = a.limit ∙ i.limit;
       applied = a.applied ∙ ap suc i.applied ∙ sym (add-one l.event-index);
-      judged = judged_same N c.args.events.now _ (core_state c.apply.new.self) _ (l.event-index + 1) _ c.extend_from_slice.new.self.items _ c.if-marked.marked j
+      judged = judged_same N c.args.events.now _ (core_state c.apply.new.self) _ (l.event-index + 1) _
+          c.extend_from_slice.new.self.items _ c.if-marked.marked j
           a.state (add-one l.event-index)
           (c.in_ok-extend_from_slice.ensures.items ∙ ap (λ (x : List ℕ). l.text.items ++ x) c.as_slice.ensures.value)
           (elim c.if-marked.branch [
             | then-marked w ↦ w.marked-is ∙ w.if-marked.true ∙ sym (ap (λ (b : Bool). b || is_alarm e) w.if-marked.true)
-            | else-marked w ↦ w.marked-is ∙ w.is_alarm-marked.ensures ∙ sym (ap (λ (b : Bool). b || is_alarm e) w.if-marked.false)
+            | else-marked w ↦ w.marked-is ∙ w.is_alarm-marked.ensures ∙ sym
+                (ap (λ (b : Bool). b || is_alarm e) w.if-marked.false)
           ]);
     }
 
@@ -58,5 +62,6 @@ returns c =
     let done : drop l.event-index c.args.events.now ≡ [] = drop_all l.event-index c.args.events.now (omega arith) in
     let j = judge_legal N c.args.events.now s l.event-index l.text.items l.marked i.judged done in
     outcome_same N c.args.events.now _ c.outcome-2.result.text l.marked c.outcome-2.result.marked j
-    (c.outcome-2.ensures.text ∙ c.in_ok-add_legal.ensures ∙ ap (λ (n : ℕ). l.text.items ++ legal_line n) (c.applied-2.ensures ∙ i.applied))
+    (c.outcome-2.ensures.text ∙ c.in_ok-add_legal.ensures ∙ ap (λ (n : ℕ). l.text.items ++ legal_line n)
+    (c.applied-2.ensures ∙ i.applied))
     c.outcome-2.ensures.marked

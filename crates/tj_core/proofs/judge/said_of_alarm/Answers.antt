@@ -25,7 +25,8 @@ returns-in_default-2 c = λ facts allowed.
 pub returns : goal.returns
 returns c =
     let s = core_state c.args.core.now in let t = c.args.t.0 in let tasks = c.in-Some-2.tasks in
-    let from = MatchOption-at_some (¬ IsOnCycle s.cells t) (λ tasks. IsCycleFrom s.cells t (map (λ k. k.0) tasks.items)) tasks
+    let from = MatchOption-at_some (¬ IsOnCycle s.cells t) (λ tasks. IsCycleFrom s.cells t (map (λ k. k.0) tasks.items))
+    tasks
     c.in-Some-2.is c.in_ok-tasks.ensures in
     let w = c.in-Some.ensures in
     let behind : c.behind_first-others.result.now ≡ drop 1 tasks.items = search rules in

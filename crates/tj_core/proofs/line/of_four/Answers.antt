@@ -13,5 +13,6 @@ returns-clause-none c =
     let e2 = c.in_ok-cell-3.ensures.found.0 in
     let same : map decimal ns ≡ words = cc in
     if_none c.with_three_cells.result _ _
-    (λ (h : (e : Event) → cells_of e ≡ ns → verb_of e ≢ c.args.verb.now). no_event c.args.verb.now words ns (c.in_ok-cell.ensures.found.1, (c.in_ok-cell-2.ensures.found.1, (c.in_ok-cell-3.ensures.found.1, tt))) same h)
+    (λ (h : (e : Event) → cells_of e ≡ ns → verb_of e ≢ c.args.verb.now). no_event c.args.verb.now words ns
+    (c.in_ok-cell.ensures.found.1, (c.in_ok-cell-2.ensures.found.1, (c.in_ok-cell-3.ensures.found.1, tt))) same h)
     c.with_three_cells.ensures.none

@@ -12,5 +12,6 @@ returns-clause-none c =
     let e1 = c.in_ok-cell-2.ensures.found.0 in
     let same : map decimal ns ≡ words = cc in
     if_none c.with_two_cells.result _ _
-    (λ (h : (e : Event) → cells_of e ≡ ns → verb_of e ≢ c.args.verb.now). no_event c.args.verb.now words ns (c.in_ok-cell.ensures.found.1, (c.in_ok-cell-2.ensures.found.1, tt)) same h)
+    (λ (h : (e : Event) → cells_of e ≡ ns → verb_of e ≢ c.args.verb.now). no_event c.args.verb.now words ns
+    (c.in_ok-cell.ensures.found.1, (c.in_ok-cell-2.ensures.found.1, tt)) same h)
     c.with_two_cells.ensures.none

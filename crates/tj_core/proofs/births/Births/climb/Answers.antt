@@ -15,5 +15,6 @@ loop-left-preserved c =
       there = omega arith;
       short = omega arith;
       same = i.same ∙ (climb-step bs self.born c.loop-left.above c.loop-left.left some i.there left i.short
-          ∙ ap (λ (k : ℕ). take (length (name_of bs k) - (c.loop-left.left - 1)) (name_of bs k)) (sym c.maker-above.ensures.maker));
+          ∙ ap (λ (k : ℕ). take (length (name_of bs k) - (c.loop-left.left - 1)) (name_of bs k))
+          (sym c.maker-above.ensures.maker));
     }

@@ -19,19 +19,24 @@ loop-up_a-init c =
 
 pub number-y-requires-clause-some : goal.number-y-requires-clause-some
 number-y-requires-clause-some c =
-    let i = c.loop-up_a.invariant in let bs = c.args.self.now.births.items in let some : 0 < c.loop-up_a.up_a = omega arith in
-    (level-step bs c.args.self.now.born c.loop-up_a.before c.loop-up_a.up_a c.loop-up_a.up_b some i.there_a i.there_b i.level).0
+    let i = c.loop-up_a.invariant in let bs = c.args.self.now.births.items in let some : 0 < c.loop-up_a.up_a = omega
+    arith in
+    (level-step bs c.args.self.now.born c.loop-up_a.before c.loop-up_a.up_a c.loop-up_a.up_b some i.there_a i.there_b
+    i.level).0
 
 pub loop-up_a-preserved : goal.loop-up_a-preserved
 loop-up_a-preserved c =
-    let i = c.loop-up_a.invariant in let bs = c.args.self.now.births.items in let some : 0 < c.loop-up_a.up_a = omega arith in
-    let s = level-step bs c.args.self.now.born c.loop-up_a.before c.loop-up_a.up_a c.loop-up_a.up_b some i.there_a i.there_b i.level in
+    let i = c.loop-up_a.invariant in let bs = c.args.self.now.births.items in let some : 0 < c.loop-up_a.up_a = omega
+    arith in
+    let s = level-step bs c.args.self.now.born c.loop-up_a.before c.loop-up_a.up_a c.loop-up_a.up_b some i.there_a
+    i.there_b i.level in
     let ba = c.maker-up_a.ensures.below some in let bb = c.maker-up_b.ensures.below s.0 in
     let ta = i.there_a in let tb = i.there_b in
     record {
       there_a = omega arith;
       there_b = omega arith;
-      level = ap (λ (k : ℕ). length (name_of bs k)) c.maker-up_a.ensures.maker ∙ (s.1 ∙ sym (ap (λ (k : ℕ). length (name_of bs k)) c.maker-up_b.ensures.maker));
+      level = ap (λ (k : ℕ). length (name_of bs k)) c.maker-up_a.ensures.maker
+          ∙ (s.1 ∙ sym (ap (λ (k : ℕ). length (name_of bs k)) c.maker-up_b.ensures.maker));
       same = let ma = c.maker-up_a.ensures.maker in let mb = c.maker-up_b.ensures.maker in let all = i.same ∙ s.2 in cc;
     }
 

@@ -8,7 +8,8 @@ returns-clause-ok c =
     let may = c.may_hand.ensures.hand.0 (search rules) in
     record {
       allowed = (c.runs.ensures.runs.0 (search rules), may.0, may.1, may.2);
-      state = c.set_owner.ensures.state ∙ ap (λ (s : CoreState). alter s c.args.p.0 (owned_by (Some c.args.c.0))) c.set_idle.ensures.state;
+      state = c.set_owner.ensures.state ∙ ap (λ (s : CoreState). alter s c.args.p.0 (owned_by (Some c.args.c.0)))
+          c.set_idle.ensures.state;
       loads = λ i. c.set_owner.ensures.loads i ∙ c.set_idle.ensures.loads i;
       limit = c.set_owner.ensures.same.limit ∙ c.set_idle.ensures.same.limit;
     }

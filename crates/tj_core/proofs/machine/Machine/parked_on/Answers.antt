@@ -8,4 +8,5 @@ pub returns-then-t-len-clause-some : goal.returns-then-t-len-clause-some
 returns-then-t-len-clause-some c k way =
     let m = c.args.self.now in
     subst (λ (st : CellStage). (c.parked_on.result ≡ Some (k, way)) ↔ (st ≡ waits k way parked))
-    (sym (column_here stage_of m.slots.items c.args.t c.index.result.now promise (search rules) c.index.ensures)) (c.parked_on.ensures.some k way)
+    (sym (column_here stage_of m.slots.items c.args.t c.index.result.now promise (search rules) c.index.ensures))
+    (c.parked_on.ensures.some k way)

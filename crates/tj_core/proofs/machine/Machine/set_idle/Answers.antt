@@ -20,10 +20,13 @@ invariant_of-self c =
 pub returns-clause-state : goal.returns-clause-state
 returns-clause-state c =
     let m = c.args.self.now in
-    state_changed m.slots.items c.args.t c.index_mut.result.now c.set_idle.new.self c.requires.there c.index_mut.ensures.value
-    m.births.births.items m.births.made.items m.owners.owners.items m.others m.cleared (λ _. stage_of_status [] 0 0 c.args.status) c.set_idle.ensures.stage
+    state_changed m.slots.items c.args.t c.index_mut.result.now c.set_idle.new.self c.requires.there
+    c.index_mut.ensures.value
+    m.births.births.items m.births.made.items m.owners.owners.items m.others m.cleared
+    (λ _. stage_of_status [] 0 0 c.args.status) c.set_idle.ensures.stage
 
 pub returns-clause-loads : goal.returns-clause-loads
 returns-clause-loads c =
     let m = c.args.self.now in
-    loads_stay m.slots.items c.args.t c.index_mut.result.now c.set_idle.new.self c.requires.there c.index_mut.ensures.value c.set_idle.ensures.loads
+    loads_stay m.slots.items c.args.t c.index_mut.result.now c.set_idle.new.self c.requires.there
+    c.index_mut.ensures.value c.set_idle.ensures.loads

@@ -22,9 +22,11 @@ pub returns-clause-state : goal.returns-clause-state
 returns-clause-state c =
     let m = c.args.self.now in
     state_changed m.slots.items c.args.t c.index_mut.result.now c.publish.new.self c.requires c.index_mut.ensures.value
-    m.births.births.items m.births.made.items m.owners.owners.items m.others m.cleared (λ _. waits c.args.cell c.args.way (walks start_walk)) c.publish.ensures.stage
+    m.births.births.items m.births.made.items m.owners.owners.items m.others m.cleared
+    (λ _. waits c.args.cell c.args.way (walks start_walk)) c.publish.ensures.stage
 
 pub returns-clause-loads : goal.returns-clause-loads
 returns-clause-loads c =
     let m = c.args.self.now in
-    loads_set m.slots.items c.args.t c.index_mut.result.now c.publish.new.self c.requires c.index_mut.ensures.value 0 c.publish.ensures.loads
+    loads_set m.slots.items c.args.t c.index_mut.result.now c.publish.new.self c.requires c.index_mut.ensures.value 0
+    c.publish.ensures.loads

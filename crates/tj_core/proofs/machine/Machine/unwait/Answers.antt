@@ -22,10 +22,12 @@ returns-then-is_some-clause-err c =
     let m = c.args.self.now in let cell = c.in-Some.cell in let way = c.in-Some.way in
     record {
       illegal = λ a.
-          let st : waits cell way parked ≡ waits a.0 a.1 parked = sym ((c.in-Some.ensures.some cell way).0 refl) ∙ a.2 in
+          let st : waits cell way parked ≡ waits a.0 a.1 parked = sym ((c.in-Some.ensures.some cell way).0 refl) ∙ a.2
+          in
           let i : cell ≡ a.0 = cc in
           let o : c.of.result ≡ None = c.of.ensures ∙ (ap (owner_in m.owners.owners.items) i ∙ a.3) in
-          let f : false ≡ true = sym (ap (λ (q : Option ℕ). is_some q) o) ∙ (sym c.is_some.ensures ∙ c.if-is_some.true) in absurd (cc);
+          let f : false ≡ true = sym (ap (λ (q : Option ℕ). is_some q) o) ∙ (sym c.is_some.ensures ∙ c.if-is_some.true)
+          in absurd (cc);
       state = refl;
       loads = λ _. refl;
       limit = refl;

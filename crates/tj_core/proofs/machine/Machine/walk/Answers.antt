@@ -11,4 +11,5 @@ returns-then-t-len c =
     let m = c.args.self.now in
     subst (λ (st : CellStage). MatchOption c.walk.result (¬ WalksAt st (λ k way w. Unit {0}))
     (λ read. WalksAt st (λ k way w. (w.last ≡ read.0) × (w.loads ≡ read.1))))
-    (sym (column_here stage_of m.slots.items c.args.t c.index.result.now promise (search rules) c.index.ensures)) c.walk.ensures
+    (sym (column_here stage_of m.slots.items c.args.t c.index.result.now promise (search rules) c.index.ensures))
+    c.walk.ensures

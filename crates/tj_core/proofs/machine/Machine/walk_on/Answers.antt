@@ -11,7 +11,8 @@ pub step-requires : goal.step-requires
 step-requires c =
     let m = c.args.self.now in let x = c.index_mut.result.now in let t = c.args.t.0 in
     let few = m.births.fits in let same = m.births.same in
-    step_has_room (limit_of m) (state_of m) c.args.t c.args.step m.births.limit _ (omega arith) (omega arith) m.births.small
+    step_has_room (limit_of m) (state_of m) c.args.t c.args.step m.births.limit _ (omega arith) (omega arith)
+    m.births.small
     (room_here m.slots.items t x x (search rules) c.index_mut.ensures.value m.births.limit m.roomy) c.requires
 
 pub invariant_of-self : goal.invariant_of-self
@@ -36,11 +37,14 @@ if_so (Err e) p = p
 pub returns-in_err-step-clause-err : goal.returns-in_err-step-clause-err
 returns-in_err-step-clause-err c =
     let m = c.args.self.now in let x = c.index_mut.result.now in let y = c.step.new.self in let t = c.args.t.0 in
-    let same : set m.slots.items t y ≡ m.slots.items = set_same m.slots.items t x y c.index_mut.ensures.value c.in_err-step.ensures.err in
+    let same : set m.slots.items t y ≡ m.slots.items = set_same m.slots.items t x y c.index_mut.ensures.value
+    c.in_err-step.ensures.err in
     if_so c.from_residual.result (record {
-      illegal = λ a. not_here m.slots.items t x x (search rules) c.index_mut.ensures.value (λ k way w. MayStep t c.args.step way w)
+      illegal = λ a. not_here m.slots.items t x x (search rules) c.index_mut.ensures.value
+          (λ k way w. MayStep t c.args.step way w)
           c.in_err-step.ensures.illegal (may_step (limit_of m) (state_of m) c.args.t c.args.step a);
-      state = ap (λ (l : List Slot). state_in m.births.births.items m.births.made.items m.owners.owners.items l m.others m.cleared) same;
+      state = ap (λ (l : List Slot). state_in m.births.births.items m.births.made.items m.owners.owners.items l m.others
+          m.cleared) same;
       loads = λ i. ap (λ (l : List Slot). loads_in l i) same;
       limit = refl;
     })
@@ -49,7 +53,8 @@ pub returns-then-t-len-clause-err : goal.returns-then-t-len-clause-err
 returns-then-t-len-clause-err c =
     let m = c.args.self.now in
     record {
-      illegal = λ a. none_walks m.slots.items c.args.t.0 (λ k way w. MayStep c.args.t.0 c.args.step way w) (search rules)
+      illegal = λ a. none_walks m.slots.items c.args.t.0 (λ k way w. MayStep c.args.t.0 c.args.step way w)
+          (search rules)
           (may_step (limit_of m) (state_of m) c.args.t c.args.step a);
       state = refl;
       loads = λ _. refl;
@@ -58,12 +63,17 @@ returns-then-t-len-clause-err c =
 
 pub returns-clause-ok : goal.returns-clause-ok
 returns-clause-ok c =
-    let m = c.args.self.now in let x = c.index_mut.result.now in let y = c.step.new.self in let t = c.args.t.0 in let step = c.args.step in
-    let may = walks_here m.slots.items t x y (search rules) c.index_mut.ensures.value (λ k way w. MayStep t step way w) c.in_ok-step.ensures.allowed in
+    let m = c.args.self.now in let x = c.index_mut.result.now in let y = c.step.new.self in let t = c.args.t.0 in let
+    step = c.args.step in
+    let may = walks_here m.slots.items t x y (search rules) c.index_mut.ensures.value (λ k way w. MayStep t step way w)
+    c.in_ok-step.ensures.allowed in
     record {
       allowed = step_allowed (limit_of m) (state_of m) c.args.t step may;
-      state = state_changed m.slots.items t x y (search rules) c.index_mut.ensures.value m.births.births.items m.births.made.items m.owners.owners.items
-          m.others m.cleared (stage_by step) c.in_ok-step.ensures.stage ∙ after_step (limit_of m) (state_of m) c.args.t step c.requires may;
-      loads = step_loads m.slots.items c.args.t x y step (search rules) c.index_mut.ensures.value c.in_ok-step.ensures.loads;
+      state = state_changed m.slots.items t x y (search rules) c.index_mut.ensures.value m.births.births.items
+          m.births.made.items m.owners.owners.items
+          m.others m.cleared (stage_by step) c.in_ok-step.ensures.stage ∙ after_step (limit_of m) (state_of m) c.args.t
+          step c.requires may;
+      loads = step_loads m.slots.items c.args.t x y step (search rules) c.index_mut.ensures.value
+          c.in_ok-step.ensures.loads;
       limit = refl;
     }

@@ -29,9 +29,12 @@ invariant_of-self c =
       counted = λ t h.
           let o = owner_there s.owners.items c.args.c c.index-was.result.now c.requires.cell (search rules) in
           let d = c.count_down.ensures.counts t (omega arith) in let u = c.count_up.ensures.counts t (omega arith) in
-          let n = s.counted t (omega arith) in let m = owned_count-set s.owners.items c.args.c c.args.now t c.requires.cell in
+          let n = s.counted t (omega arith) in let m = owned_count-set s.owners.items c.args.c c.args.now t
+          c.requires.cell in
           let p = ap (λ (x : Option ℕ). one_if x t) o in omega arith;
-      inside = subst (AreOwnersInside _) (sym e) (inside-set s.owners.items c.args.c c.args.now (length s.owners.items) c.requires.cell s.inside c.requires.owner);
+      inside = subst (AreOwnersInside _) (sym e)
+          (inside-set s.owners.items c.args.c c.args.now (length s.owners.items) c.requires.cell s.inside
+          c.requires.owner);
       same = omega arith;
       small = omega arith;
     }
