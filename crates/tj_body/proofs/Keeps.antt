@@ -43,12 +43,6 @@ module _ {B : Type 0} (program : Program B) where
   abbrev V : ℕ → Assignment
   V n = given program n
 
-  abbrev tasks_of : ℕ → List (Task B)
-  tasks_of n = tasks program n
-
-  abbrev cells_of : ℕ → List Name
-  cells_of n = cells program n
-
   -- a point under one round that reads an entry of another is a point under each round from both on
   pub reads_later : (n m k : ℕ) (t : Task B) (p : Point B) (q : Name) (spare : Bool) (e : Entry) → n ≤ k → m ≤ k
       → IsPointOf program.rules (V n) t p → p.stage ≡ stage.Waits q spare → V m q ≡ Some e
@@ -59,11 +53,11 @@ module _ {B : Type 0} (program : Program B) where
       (within program m k j q e v)
 
   -- a task of a round is a cell of it
-  pub task_cell : (n : ℕ) (t : Task B) → IsIn t (tasks_of (suc n)) → IsIn t.name (cells_of (suc n))
-  task_cell n t i = in_flat_map (cells_by program.rules (V n)) t t.name (tasks_of (suc n)) i (inl refl)
+  pub task_cell : (n : ℕ) (t : Task B) → IsIn t (tasks program (suc n)) → IsIn t.name (cells program (suc n))
+  task_cell n t i = in_flat_map (cells_by program.rules (V n)) t t.name (tasks program (suc n)) i (inl refl)
 
   module _ (obeys : AreLawful program.rules) (proper : IsProper program.rules root) (n : ℕ) (t : Task B) (p : Point B)
-      (there : IsIn t (tasks_of (suc n))) (of_t : IsPointOf program.rules (V n) t p) where
+      (there : IsIn t (tasks program (suc n))) (of_t : IsPointOf program.rules (V n) t p) where
     proper_t : IsProper program.rules t
     proper_t = task_proper program obeys proper (suc n) t there
 
@@ -73,19 +67,19 @@ module _ {B : Type 0} (program : Program B) where
         let g = in_history program.rules obeys (V n) t proper_t p of_t in
         let H = history program.rules (V n) t in
         of_entries program (suc n) q e
-        (in_flat_map (writes_by program.rules (V n)) t (q, e) (tasks_of (suc n)) there
+        (in_flat_map (writes_by program.rules (V n)) t (q, e) (tasks program (suc n)) there
         (in_begins (q, e) p.writes H.writes g.1 w))
 
     -- a promise that it has made is a cell of that round
-    pub promised : (q : Name) → IsIn q p.promises → IsIn q (cells_of (suc n))
+    pub promised : (q : Name) → IsIn q p.promises → IsIn q (cells program (suc n))
     promised q w =
         let g = in_history program.rules obeys (V n) t proper_t p of_t in
         let H = history program.rules (V n) t in
-        in_flat_map (cells_by program.rules (V n)) t q (tasks_of (suc n)) there
+        in_flat_map (cells_by program.rules (V n)) t q (tasks program (suc n)) there
         (inr (in_begins q p.promises H.promises g.2 w))
 
     -- a task that it has forked is one of the next round
-    pub forked : (c : Task B) → IsIn c p.children → IsIn c (tasks_of (suc (suc n)))
+    pub forked : (c : Task B) → IsIn c p.children → IsIn c (tasks program (suc (suc n)))
     forked c i =
         let u = within program n (suc n) (omega arith) in
         let g = in_history program.rules obeys (V (suc n)) t proper_t p

@@ -67,15 +67,6 @@ module _ {B : Type 0} (program : Program B) where
   abbrev V : ℕ → Assignment
   V n = given program n
 
-  abbrev tasks_of : ℕ → List (Task B)
-  tasks_of n = tasks program n
-
-  abbrev entries_of : ℕ → List (Name × Entry)
-  entries_of n = entries program n
-
-  abbrev cells_of : ℕ → List Name
-  cells_of n = cells program n
-
   abbrev writes : ℕ → Task B → List (Name × Entry)
   writes n t = writes_by program.rules (V n) t
 
@@ -83,7 +74,7 @@ module _ {B : Type 0} (program : Program B) where
   made n t = cells_by program.rules (V n) t
 
   -- in a round each name is owned or written at most once
-  pub once_in_round : (n : ℕ) (q : Name) → total (uses program.rules (V n) q) (tasks_of (suc n)) ≤ 1
+  pub once_in_round : (n : ℕ) (q : Name) → total (uses program.rules (V n) q) (tasks program (suc n)) ≤ 1
   once_in_round n q =
       let a = once_used program.rules (V n) q (suc n) root in
       let b = at_most_one (begins root.name q) in
@@ -91,152 +82,156 @@ module _ {B : Type 0} (program : Program B) where
       omega arith
 
   -- in a round each name has at most one entry
-  pub once_entry : (n : ℕ) (q : Name) → wrote q (entries_of n) ≤ 1
+  pub once_entry : (n : ℕ) (q : Name) → wrote q (entries program n) ≤ 1
   once_entry zero q = omega arith
   once_entry (suc n) q =
       let a = once_in_round n q in
-      let b = total_flat_map (λ (w : Name × Entry). is q w.0) (writes n) (tasks_of (suc n)) in
+      let b = total_flat_map (λ (w : Name × Entry). is q w.0) (writes n) (tasks program (suc n)) in
       let c = total_le (λ t. wrote q (writes n t)) (uses program.rules (V n) q) (λ t. omega arith)
-      (tasks_of (suc n)) in
+      (tasks program (suc n)) in
       omega arith
 
   -- and is at most once a cell
-  pub once_name : (n : ℕ) (q : Name) → times q (cells_of n) ≤ 1
+  pub once_name : (n : ℕ) (q : Name) → times q (cells program n) ≤ 1
   once_name zero q = omega arith
   once_name (suc n) q =
       let a = once_cell program.rules (V n) q (suc n) root in
-      let b = total_flat_map (is q) (made n) (tasks_of (suc n)) in
+      let b = total_flat_map (is q) (made n) (tasks program (suc n)) in
       let c = at_most_one (begins root.name q) in
       omega arith
 
   -- no cell stands twice
-  pub distinct_cells : (n : ℕ) → AreDistinct (cells_of n)
-  distinct_cells n = distinct_of_times (cells_of n) (once_name n)
+  pub distinct_cells : (n : ℕ) → AreDistinct (cells program n)
+  distinct_cells n = distinct_of_times (cells program n) (once_name n)
 
   -- no cell has two entries
-  pub distinct_entries : (n : ℕ) → AreDistinct (map (λ (w : Name × Entry). w.0) (entries_of n))
+  pub distinct_entries : (n : ℕ) → AreDistinct (map (λ (w : Name × Entry). w.0) (entries program n))
   distinct_entries n =
-      distinct_of_times (map (λ (w : Name × Entry). w.0) (entries_of n))
-      (λ q. let a = names_wrote q (entries_of n) in let b = once_entry n q in omega arith)
+      distinct_of_times (map (λ (w : Name × Entry). w.0) (entries program n))
+      (λ q. let a = names_wrote q (entries program n) in let b = once_entry n q in omega arith)
 
   -- the assignment of a round is what its entries say
-  pub given_entries : (n : ℕ) → V n ≡ entry_in (entries_of n)
+  pub given_entries : (n : ℕ) → V n ≡ entry_in (entries program n)
   given_entries zero = refl
   given_entries (suc n) = refl
 
   -- what it gives is an entry
-  pub in_entries : (n : ℕ) (q : Name) (e : Entry) → V n q ≡ Some e → IsIn (q, e) (entries_of n)
-  in_entries n q e h = from_entry (entries_of n) q e (subst (λ f. f q ≡ Some e) (given_entries n) h)
+  pub in_entries : (n : ℕ) (q : Name) (e : Entry) → V n q ≡ Some e → IsIn (q, e) (entries program n)
+  in_entries n q e h = from_entry (entries program n) q e (subst (λ f. f q ≡ Some e) (given_entries n) h)
 
   -- and an entry is what it gives
-  pub of_entries : (n : ℕ) (q : Name) (e : Entry) → IsIn (q, e) (entries_of n) → V n q ≡ Some e
+  pub of_entries : (n : ℕ) (q : Name) (e : Entry) → IsIn (q, e) (entries program n) → V n q ≡ Some e
   of_entries n q e h =
-      subst (λ f. f q ≡ Some e) (sym (given_entries n)) (to_entry (entries_of n) q e (once_entry n q) h)
+      subst (λ f. f q ≡ Some e) (sym (given_entries n)) (to_entry (entries program n) q e (once_entry n q) h)
 
   -- a name is written no more often than it is a cell
-  pub written_cells : (n : ℕ) (q : Name) → wrote q (entries_of n) ≤ times q (cells_of n)
+  pub written_cells : (n : ℕ) (q : Name) → wrote q (entries program n) ≤ times q (cells program n)
   written_cells zero q = omega arith
   written_cells (suc n) q =
       let a = used_cells program.rules (V n) q (suc n) root in
-      let b = total_flat_map (λ (w : Name × Entry). is q w.0) (writes n) (tasks_of (suc n)) in
+      let b = total_flat_map (λ (w : Name × Entry). is q w.0) (writes n) (tasks program (suc n)) in
       let c = total_le (λ t. wrote q (writes n t)) (uses program.rules (V n) q) (λ t. omega arith)
-      (tasks_of (suc n)) in
-      let d = total_flat_map (is q) (made n) (tasks_of (suc n)) in
+      (tasks program (suc n)) in
+      let d = total_flat_map (is q) (made n) (tasks program (suc n)) in
       let e : times q root.handed ≡ 0 = refl in
       omega arith
 
   -- what has an entry is a cell
-  pub entry_cell : (n : ℕ) (q : Name) (e : Entry) → V n q ≡ Some e → IsIn q (cells_of n)
+  pub entry_cell : (n : ℕ) (q : Name) (e : Entry) → V n q ≡ Some e → IsIn q (cells program n)
   entry_cell n q e h =
-      let a = wrote_of_in q e (entries_of n) (in_entries n q e h) in
+      let a = wrote_of_in q e (entries program n) (in_entries n q e h) in
       let b = written_cells n q in
-      in_of_times q (cells_of n) (omega arith)
+      in_of_times q (cells program n) (omega arith)
 
-  tasks_sub_if : (n : ℕ) → IsWithin (V n) (V (suc n)) → Sub (tasks_of (suc n)) (tasks_of (suc (suc n)))
+  tasks_sub_if : (n : ℕ) → IsWithin (V n) (V (suc n)) → Sub (tasks program (suc n)) (tasks program (suc (suc n)))
   tasks_sub_if n h = family_sub program.rules (V n) (V (suc n)) h (suc n) (suc (suc n)) (omega arith) root
 
-  entries_sub_if : (n : ℕ) → IsWithin (V n) (V (suc n)) → Sub (entries_of (suc n)) (entries_of (suc (suc n)))
+  entries_sub_if : (n : ℕ) → IsWithin (V n) (V (suc n)) → Sub (entries program (suc n)) (entries program (suc (suc n)))
   entries_sub_if n h =
       flat_map_sub (writes n) (writes (suc n)) (λ x. sub_begins _ _ (grown program.rules (V n) (V (suc n)) h x).1)
-      (tasks_of (suc n)) (tasks_of (suc (suc n))) (tasks_sub_if n h)
+      (tasks program (suc n)) (tasks program (suc (suc n))) (tasks_sub_if n h)
 
   -- a round lies within the next
   pub up : (n : ℕ) → IsWithin (V n) (V (suc n))
   up zero q e h = cc
   up (suc n) q e h =
       of_entries (suc (suc n)) q e
-      (sub_in (q, e) (entries_of (suc n)) (entries_of (suc (suc n))) (entries_sub_if n (up n))
+      (sub_in (q, e) (entries program (suc n)) (entries program (suc (suc n))) (entries_sub_if n (up n))
       (in_entries (suc n) q e h))
 
   -- the next round has the tasks of a round
-  pub tasks_sub : (n : ℕ) → Sub (tasks_of n) (tasks_of (suc n))
-  tasks_sub zero = sub_nil (tasks_of (suc zero))
+  pub tasks_sub : (n : ℕ) → Sub (tasks program n) (tasks program (suc n))
+  tasks_sub zero = sub_nil (tasks program (suc zero))
   tasks_sub (suc n) = tasks_sub_if n (up n)
 
   -- and its entries
-  pub entries_sub : (n : ℕ) → Sub (entries_of n) (entries_of (suc n))
-  entries_sub zero = sub_nil (entries_of (suc zero))
+  pub entries_sub : (n : ℕ) → Sub (entries program n) (entries program (suc n))
+  entries_sub zero = sub_nil (entries program (suc zero))
   entries_sub (suc n) = entries_sub_if n (up n)
 
   -- and its cells
-  pub cells_sub : (n : ℕ) → Sub (cells_of n) (cells_of (suc n))
-  cells_sub zero = sub_nil (cells_of (suc zero))
+  pub cells_sub : (n : ℕ) → Sub (cells program n) (cells program (suc n))
+  cells_sub zero = sub_nil (cells program (suc zero))
   cells_sub (suc n) =
       flat_map_sub (made n) (made (suc n))
       (λ x. sub_cons x.name _ _ (sub_begins _ _ (grown program.rules (V n) (V (suc n)) (up n) x).2))
-      (tasks_of (suc n)) (tasks_of (suc (suc n))) (tasks_sub_if n (up n))
+      (tasks program (suc n)) (tasks program (suc (suc n))) (tasks_sub_if n (up n))
 
   -- a later round has what an earlier one has
   pub within : (n m : ℕ) → n ≤ m → IsWithin (V n) (V m)
   within n m l q e h = climbs (λ k. V k q ≡ Some e) (λ k. up k q e) n m l h
 
   -- also its tasks
-  pub tasks_within : (n m : ℕ) → n ≤ m → (t : Task B) → IsIn t (tasks_of n) → IsIn t (tasks_of m)
+  pub tasks_within : (n m : ℕ) → n ≤ m → (t : Task B) → IsIn t (tasks program n) → IsIn t (tasks program m)
   tasks_within n m l t h =
-      climbs (λ k. IsIn t (tasks_of k)) (λ k. sub_in t (tasks_of k) (tasks_of (suc k)) (tasks_sub k)) n m l h
+      climbs (λ k. IsIn t (tasks program k)) (λ k. sub_in t (tasks program k) (tasks program (suc k)) (tasks_sub k)) n m
+      l h
 
   -- and its cells
-  pub cells_within : (n m : ℕ) → n ≤ m → (q : Name) → IsIn q (cells_of n) → IsIn q (cells_of m)
+  pub cells_within : (n m : ℕ) → n ≤ m → (q : Name) → IsIn q (cells program n) → IsIn q (cells program m)
   cells_within n m l q h =
-      climbs (λ k. IsIn q (cells_of k)) (λ k. sub_in q (cells_of k) (cells_of (suc k)) (cells_sub k)) n m l h
+      climbs (λ k. IsIn q (cells program k)) (λ k. sub_in q (cells program k) (cells program (suc k)) (cells_sub k)) n m
+      l h
 
   -- a name has one task
-  one_task : (n : ℕ) (t u : Task B) → IsIn t (tasks_of n) → IsIn u (tasks_of n) → t.name ≡ u.name → t ≡ u
+  one_task : (n : ℕ) (t u : Task B) → IsIn t (tasks program n) → IsIn u (tasks program n) → t.name ≡ u.name → t ≡ u
   one_task zero t u i j e = absurd i
   one_task (suc n) t u i j e =
       let a = once_name (suc n) t.name in
-      let b = total_flat_map (is t.name) (made n) (tasks_of (suc n)) in
+      let b = total_flat_map (is t.name) (made n) (tasks program (suc n)) in
       let c = is_one t.name t.name refl in
       let d = is_one t.name u.name e in
-      total_one (λ c. times t.name (made n c)) (tasks_of (suc n)) (omega arith) t u i j (omega arith) (omega arith)
+      total_one (λ c. times t.name (made n c)) (tasks program (suc n)) (omega arith) t u i j (omega arith) (omega arith)
 
   -- in all rounds a name has one task
-  pub one_of_all : (n m : ℕ) (t u : Task B) → IsIn t (tasks_of n) → IsIn u (tasks_of m) → t.name ≡ u.name → t ≡ u
+  pub one_of_all : (n m : ℕ) (t u : Task B) → IsIn t (tasks program n) → IsIn u (tasks program m) → t.name ≡ u.name → t
+      ≡ u
   one_of_all n m t u i j e =
       one_task (n + m) t u (tasks_within n (n + m) (omega arith) t i) (tasks_within m (n + m) (omega arith) u j) e
 
   -- a cell has one owner
-  pub one_owner : (m : ℕ) (t u : Task B) (q : Name) → IsIn t (tasks_of (suc m)) → IsIn u (tasks_of (suc m))
+  pub one_owner : (m : ℕ) (t u : Task B) (q : Name) → IsIn t (tasks program (suc m)) → IsIn u (tasks program (suc m))
       → IsIn q (owned (history_of (V m) t)) → IsIn q (owned (history_of (V m) u)) → t ≡ u
   one_owner m t u q i j a b =
       let x = times_of_in q (owned (history_of (V m) t)) a in
       let y = times_of_in q (owned (history_of (V m) u)) b in
-      total_one (uses program.rules (V m) q) (tasks_of (suc m)) (once_in_round m q) t u i j
+      total_one (uses program.rules (V m) q) (tasks program (suc m)) (once_in_round m q) t u i j
       (omega arith) (omega arith)
 
   -- and what is owned isn't written
-  pub owned_open : (m : ℕ) (t : Task B) (q : Name) → IsIn t (tasks_of (suc m)) → IsIn q (owned (history_of (V m) t))
+  pub owned_open : (m : ℕ) (t : Task B) (q : Name) → IsIn t (tasks program (suc m)) → IsIn q
+      (owned (history_of (V m) t))
       → V (suc m) q ≡ None
   owned_open m t q i a = by_entry (V (suc m) q) refl where
-    written : (e : Entry) → IsIn (q, e) (entries_of (suc m)) → ⊥
+    written : (e : Entry) → IsIn (q, e) (entries program (suc m)) → ⊥
     written e j =
-        let f = from_flat_map (writes m) (q, e) (tasks_of (suc m)) j in
+        let f = from_flat_map (writes m) (q, e) (tasks program (suc m)) j in
         let x = times_of_in q (owned (history_of (V m) t)) a in
         let y = wrote_of_in q e (writes m f.0) f.2 in
-        let s = total_one (uses program.rules (V m) q) (tasks_of (suc m)) (once_in_round m q) t f.0 i f.1
+        let s = total_one (uses program.rules (V m) q) (tasks program (suc m)) (once_in_round m q) t f.0 i f.1
         (omega arith) (omega arith) in
         let z : 1 ≤ wrote q (writes m t) = subst (λ u. 1 ≤ wrote q (writes m u)) (sym s) y in
-        let l = total_in (uses program.rules (V m) q) t (tasks_of (suc m)) i in
+        let l = total_in (uses program.rules (V m) q) t (tasks program (suc m)) i in
         let o = once_in_round m q in
         omega arith
 

@@ -34,30 +34,24 @@ module _ {B : Type 0} (program : Program B) (obeys : AreLawful program.rules)
   abbrev V : ℕ → Assignment
   V n = given program n
 
-  abbrev tasks_of : ℕ → List (Task B)
-  tasks_of n = tasks program n
-
-  abbrev cells_of : ℕ → List Name
-  cells_of n = cells program n
-
   abbrev made : ℕ → Task B → List Name
   made n t = cells_by program.rules (V n) t
 
   -- the law of the cells of a round, so far
   pub counts_in_round : CountsInRound program
   counts_in_round n earlier later t p e h =
-      let i : IsIn t (tasks_of (suc n)) = subst (IsIn t) (sym e) (in_right t earlier (t ∷ later) (inl refl)) in
+      let i : IsIn t (tasks program (suc n)) = subst (IsIn t) (sym e) (in_right t earlier (t ∷ later) (inl refl)) in
       let proper_t = task_proper program obeys proper (suc n) t i in
       let g = in_history program.rules obeys (V n) t proper_t p h in
       let H = history program.rules (V n) t in
       let a = sub_length p.promises H.promises (sub_begins p.promises H.promises g.2) in
-      let c : length (cells_of (suc n)) ≡ length (flat_map (made n) earlier ++ flat_map (made n) (t ∷ later)) =
+      let c : length (cells program (suc n)) ≡ length (flat_map (made n) earlier ++ flat_map (made n) (t ∷ later)) =
       ap (λ l. length (flat_map (made n) l)) e ∙ ap length (flat_map-append (made n) earlier (t ∷ later)) in
       let d = length-append (flat_map (made n) earlier) (flat_map (made n) (t ∷ later)) in
       let f = length-append (made n t) (flat_map (made n) later) in
       omega arith
 
-  module _ (n : ℕ) (t : Task B) (p : Point B) (i : IsIn t (tasks_of (suc n)))
+  module _ (n : ℕ) (t : Task B) (p : Point B) (i : IsIn t (tasks program (suc n)))
       (h : IsPointOf program.rules (V n) t p) where
     name_of : p.name ≡ t.name
     name_of = ap (λ (z : Point B). z.name) h.1 ∙ (from_start program.rules (V n) h.0 t).5
@@ -81,9 +75,9 @@ module _ {B : Type 0} (program : Program B) (obeys : AreLawful program.rules)
         ≡ times q (numbered z.name z.made)) (sym h.1) (fair q (is q) program.rules (V n) h.0 t).1
         ∙ ap (λ x. times q (numbered x p.made)) name_of
 
-    there : (q : Name) → IsIn q things → IsIn q (cells_of (suc (suc n)))
+    there : (q : Name) → IsIn q things → IsIn q (cells program (suc (suc n)))
     there q (inl e) =
-        subst (λ z. IsIn z (cells_of (suc (suc n)))) (sym e)
+        subst (λ z. IsIn z (cells program (suc (suc n)))) (sym e)
         (cells_within program (suc n) (suc (suc n)) (omega arith) t.name
         (task_cell program n t i))
     there q (inr j) =
@@ -94,15 +88,15 @@ module _ {B : Type 0} (program : Program B) (obeys : AreLawful program.rules)
         (promised program obeys proper n t p i h q
         (in_of_times q p.promises l)))
         (λ l. let c = total_some (λ (c : Task B). is q c.name) p.children (omega arith) in
-        subst (λ z. IsIn z (cells_of (suc (suc n)))) (sym (name_of_is q c.0.name c.2))
+        subst (λ z. IsIn z (cells program (suc (suc n)))) (sym (name_of_is q c.0.name c.2))
         (task_cell program (suc n) c.0
         (forked program obeys proper n t p i h c.0 c.1)))
 
-    made_fits : suc p.made ≤ length (cells_of (suc (suc n)))
+    made_fits : suc p.made ≤ length (cells program (suc (suc n)))
     made_fits =
         let a = numbered_length t.name p.made in
-        let f = fewer things (cells_of (suc (suc n)))
-        (λ q. at_least q things (cells_of (suc (suc n))) (once q) (there q)) in
+        let f = fewer things (cells program (suc (suc n)))
+        (λ q. at_least q things (cells program (suc (suc n))) (once q) (there q)) in
         omega arith
 
   -- the law of what a point has made

@@ -32,10 +32,11 @@ use Rattle.tj_body.specs.declared.point.Point.{Point}
 abbrev pub Assignment : Type 0
 Assignment = Name → Option Entry
 
--- a reference to a task, and one to a promise
+-- a reference to a task
 abbrev pub to_task : Name → Reference
 to_task x = record { sort = sort.Task; name = x }
 
+-- a reference to a promise
 abbrev pub to_promise : Name → Reference
 to_promise x = record { sort = sort.Promise; name = x }
 

@@ -34,10 +34,11 @@ OrderedHasSame = (q : Name) (l : List Name) → IsIn q (in_order l) ↔ IsIn q l
 abbrev pub OrderedIsSame : Type 0
 OrderedIsSame = (l m : List Name) → IsPermutation l m → in_order l ≡ in_order m
 
--- Cells by number. Whether the cell is one of them, and the cells without it, where it stands first.
+-- Cells by number. Whether the cell is one of them.
 abbrev pub has_cell : ℕ → List ℕ → Bool
 has_cell c cs = list_any (nat_eq c) cs
 
+-- the cells without this one, where it stands first
 abbrev pub without_cell : ℕ → List ℕ → List ℕ
 without_cell c [] = []
 without_cell c (d ∷ ds) = cond (nat_eq c d) ds (d ∷ without_cell c ds)
@@ -47,6 +48,7 @@ pub data Unhanded : Type 0 where
   no_promise : Unhanded
   not_owned : ℕ → Unhanded
 
+-- one cell more is handed before the rest: it has to be a promise that is owned
 abbrev pub hand_cell : Sort → Bool → ℕ → Result (List ℕ) Unhanded → Result (List ℕ) Unhanded
 hand_cell sort.Task is_owned c rest = Err no_promise
 hand_cell sort.Promise true c rest = rest
@@ -57,14 +59,16 @@ abbrev pub hand_cells : List ℕ → List (Sort × ℕ) → Result (List ℕ) Un
 hand_cells owned [] = Ok owned
 hand_cells owned (h ∷ hs) = hand_cell h.0 (has_cell h.1 owned) h.1 (hand_cells (without_cell h.1 owned) hs)
 
--- with names for the cells: the cause of a failure, a reference, and what handing gives
+-- with names for the cells: the cause of a failure
 abbrev pub named_cause : (ℕ → Name) → Unhanded → Cause
 named_cause name no_promise = cause.Kind
 named_cause name (not_owned c) = cause.Owner (name c)
 
+-- a reference
 abbrev pub named_reference : (ℕ → Name) → Sort × ℕ → Reference
 named_reference name h = record { sort = h.0; name = name h.1 }
 
+-- what handing gives
 abbrev pub named_rest : (ℕ → Name) → Result (List ℕ) Unhanded → Result (List Name) Cause
 named_rest name (Ok cells) = Ok (map name cells)
 named_rest name (Err why) = Err (named_cause name why)

@@ -66,12 +66,13 @@ module _ {B : Type 0} (rules : Rules B) where
     pub children : (c : Task B) → IsIn c p.children → IsProper c
     pub made : suc p.made ≤ length p.references
 
--- how many steps a task makes at most from here
+-- how many steps a task with such a body makes at most from this stage
 abbrev pub weight_at : {B : Type 0} → (B → ℕ) → B → PointStage → ℕ
 weight_at left b (stage.Answered a) = 2 * left b + 2
 weight_at left b (stage.Waits q spare) = 2 * left b + 3
 weight_at left b (stage.Closed e) = 0
 
+-- how many steps a task makes at most from this point
 abbrev pub weight : {B : Type 0} → (B → ℕ) → Point B → ℕ
 weight left p = weight_at left p.body p.stage
 

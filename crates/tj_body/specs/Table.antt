@@ -79,13 +79,15 @@ row_or_end b n None = ask.End (pay.Num (pos 0))
 abbrev pub ask_at : TableBody → ℕ → ℕ → Ask TableBody
 ask_at b n k = row_or_end b n (slice_get (rows_of b) k)
 
--- A body of a table as a body: its places, what it asks next, and what it is from then on.
+-- A body of a table as a body: its places.
 abbrev pub table_places : TableBody → ℕ
 table_places b = b.places
 
+-- what it asks next
 abbrev pub table_asks : TableBody → Answer → Ask TableBody
 table_asks b a = ask_at b (b.places + new_places a) b.row
 
+-- what it is from then on
 abbrev pub table_then : TableBody → Answer → TableBody
 table_then b a = record b { row = suc b.row; places = b.places + new_places a }
 

@@ -53,6 +53,7 @@ parts_of b e = let t = is_table b.lists.now in let l = nat_lt b.list (length b.l
       rows = row_list b.lists.now b.list (first_so t l tl) list;
     }
 
+-- the places of the ask are among the first n
 abbrev Placed : ℕ → Ask TableBody → Type 0
 Placed n x = IsPlaced table_places table_awaits table_left n x
 

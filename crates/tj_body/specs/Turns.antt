@@ -12,11 +12,12 @@ use Rattle.tj_body.specs.declared.ask.Ask.TheVariants as ask
 use Rattle.tj_body.specs.declared.point.Point.{Point}
 
 module _ {B : Type 0} where
-  -- the get of a place, and the join of one, where a broken cell is answered and where it isn't
+  -- the get of a place, where a broken cell is answered and where it isn't
   abbrev pub get_of : Bool → ℕ → Ask B
   get_of true k = ask.GetOr k
   get_of false k = ask.Get k
 
+  -- the join of a place, likewise
   abbrev pub join_of : Bool → ℕ → Ask B
   join_of true k = ask.JoinOr k
   join_of false k = ask.Join k

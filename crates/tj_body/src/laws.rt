@@ -96,12 +96,13 @@ pub fn point_is_kept<B: Body>()
     ensures { HoldsOfPrograms B.places B.awaits B.left B.asks B.then IsKept }
 {}
 
-/// What a point has made so far counts among the cells of its round.
+/// The cells of the tasks before one of a round, that task, and the promises that it has made at a
+/// point are not more than the cells of the round.
 pub fn point_counts_in_round<B: Body>()
     ensures { HoldsOfPrograms B.places B.awaits B.left B.asks B.then CountsInRound }
 {}
 
-/// All that a point has made so far counts among the cells of the next round.
+/// A task and all that it has made at a point are not more than the cells of the next round.
 pub fn point_counts_made<B: Body>()
     ensures { HoldsOfPrograms B.places B.awaits B.left B.asks B.then CountsMade }
 {}

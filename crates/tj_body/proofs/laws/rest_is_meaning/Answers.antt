@@ -1,5 +1,5 @@
-use Rattle.tj_body.specs.Programs.{program_of}
-use Rattle.tj_body.proofs.Proper.{root_proper}
+use Rattle.tj_body.specs.Laws.{RestsAtMeaning}
+use Rattle.tj_body.proofs.Proper.{of_lawful}
 use Rattle.tj_body.proofs.Rests.{rests}
 use Rattle.tj_body.proofs.laws.rest_is_meaning.Goals as goal
 
@@ -7,5 +7,4 @@ pub returns : goal.returns
 returns g c =
     let b = g.B.Body in
     let o = (g.met.B.Body g.world.𝓛 g.world.𝓜 g.world.𝓡 ((λ s x. x), (λ x. x), (λ x. x), λ x. x)).obeys in
-    λ strict root fresh. let program = program_of b.places b.awaits b.left b.asks b.then strict root in
-    rests program o (root_proper program fresh)
+    of_lawful b.places b.awaits b.left b.asks b.then o RestsAtMeaning rests
