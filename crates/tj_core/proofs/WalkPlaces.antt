@@ -7,10 +7,10 @@ use Rattle.tj_core.specs.CoreState.{owner, stage, wait_of, is_task, HasBegun, pr
 use Rattle.tj_core.specs.Events.{raised_by}
 use Rattle.tj_core.specs.Facts.{raised_by_all, Watches}
 use Rattle.tj_core.specs.WalkLaws.{PresentCellsAreThere, OwnersAreThere, ReadOwnersAreThere, OthersAreFew, SettlersAreNotAlone}
-use Rattle.tj_core.proofs.NameOrders.{task_there}
-use Rattle.tj_core.proofs.SoundTasks.{lives_task, present_there}
-use Rattle.tj_core.proofs.WaitChanges.{walker_of, last_read_is}
-use Rattle.tj_core.proofs.WalkEnds.{off_course}
+use Rattle.tj_core.proofs.Graph.ForkOrders.{task_there}
+use Rattle.tj_core.proofs.Events.SoundTasks.{lives_task, present_there}
+use Rattle.tj_core.proofs.Events.WaitChanges.{walker_of, last_read_is}
+use Rattle.tj_core.proofs.Events.WalkEnds.{off_course}
 
 -- a walker's present cell is there
 pub present_cells_there : PresentCellsAreThere

@@ -1,11 +1,11 @@
 -- What a core shows.
 use Rattle.std.specs.Prelude.{◌≡◌, ℕ, suc}
 use Rattle.tj_core.specs.declared.event.Event.{Event}
-use Rattle.tj_core.specs.declared.checker.Core.{Core}
+use Rattle.tj_core.specs.declared.plain_core.Core.{Core}
 use Rattle.tj_core.specs.CoreState.{CoreState}
 use Rattle.tj_core.specs.Events.{Allowed, after}
 use Rattle.tj_core.specs.Loads.{loads_after}
-use Rattle.tj_core.specs.Machine.{state_of, limit_of, loads_of}
+use Rattle.tj_core.specs.Inner.Machine.{state_of, limit_of, loads_of}
 
 -- the state of a run
 abbrev pub core_state : Core → CoreState

@@ -1,7 +1,7 @@
 //! Who made each cell, and the how-many-th thing of its maker it is: enough for its name. The fork
 //! order of two tasks is found on the ways from them up to the root.
 ghost use Rattle.std.specs.Prelude.{◌≡◌, ℕ, suc, ◌≤◌, ◌<◌, ◌||◌, ◌&&◌, nat_eq, nat_lt, length, slice_index_or, vec_capacity};
-ghost use Rattle.tj_core.specs.Names.{AreBorn};
+ghost use Rattle.tj_core.specs.Inner.Births.{AreBorn};
 
 use std::alloc::{AllocError, Global};
 
@@ -32,7 +32,7 @@ pub(crate) struct Births {
 impl Births {
     ghost use Rattle.std.specs.Prelude.{◌≡◌, ℕ, suc, ◌+◌, ◌-◌, ◌<◌, ◌≤◌, ◌∷◌, ◌++◌, [], IfOk, length, take, slice_index_or, slice_set, replicate};
     ghost use Rattle.tj_base.specs.ForkOrder.{before};
-    ghost use Rattle.tj_core.specs.Names.{name_of, maker_of, birth_at};
+    ghost use Rattle.tj_core.specs.Inner.Births.{name_of, maker_of, birth_at};
 
     /// The root alone, with room for so many cells.
     pub(crate) fn new(alloc: Global, cells: u32) -> Result<Births, AllocError>

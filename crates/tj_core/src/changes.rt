@@ -12,10 +12,10 @@ impl Machine {
     ghost use Rattle.tj_base.specs.Puts.{put};
     ghost use Rattle.tj_core.specs.CoreState.{waits, walks, parked, stage};
     ghost use Rattle.tj_core.specs.Events.{IsRunning, MayPublish, start_walk, restage, alter, owned_by};
-    ghost use Rattle.tj_core.specs.Machine.{Accepts, Refuses, Changes, state_of, limit_of, loads_of};
-    ghost use Rattle.tj_core.specs.Owners.{IsInside};
-    ghost use Rattle.tj_core.specs.Statuses.{IsIdle, stage_of_status};
-    ghost use Rattle.tj_core.specs.WalkSteps.{event_of, IsSoNow};
+    ghost use Rattle.tj_core.specs.Inner.Machine.{Accepts, Refuses, Changes, state_of, limit_of, loads_of};
+    ghost use Rattle.tj_core.specs.Inner.Owners.{IsInside};
+    ghost use Rattle.tj_core.specs.Inner.Statuses.{IsIdle, stage_of_status};
+    ghost use Rattle.tj_core.specs.Inner.WalkSteps.{event_of, IsSoNow};
 
     /// Whether a cell is a task that runs.
     pub(crate) fn runs(&self, t: u32) -> bool

@@ -8,8 +8,8 @@ ghost use Rattle.tj_core.specs.Core.{core_state, core_limit};
 ghost use Rattle.tj_core.specs.Judging.{IsJudged, IsSaid, settled_line, alarm_line, wait_text, legal_line, illegal_line};
 ghost use Rattle.tj_core.specs.Judging as spec;
 
-use crate::checker::Core;
 use crate::event::Event;
+use crate::plain_core::Core;
 use crate::stage::Illegal;
 use crate::walk::LastRead;
 use itoa::Buffer;

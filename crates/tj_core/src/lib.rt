@@ -3,7 +3,6 @@
 
 mod births;
 mod changes;
-mod checker;
 mod cycle;
 mod event;
 mod event_laws;
@@ -15,6 +14,7 @@ mod laws;
 mod line;
 mod machine;
 mod owners;
+mod plain_core;
 mod slot;
 mod stage;
 mod status;
@@ -26,7 +26,6 @@ mod walk_reads;
 mod walk_step;
 mod walker_law;
 
-pub use checker::Core;
 pub use event::Event;
 pub use event_laws::{
     event_keeps_alarms, event_keeps_cycles, event_keeps_watches, event_leaves_others,
@@ -41,6 +40,7 @@ pub use laws::{
     legal_loads_are_bounded, legal_runs_meet_facts, legal_settles_are_off_cycles,
     loads_are_bounded, on_course_is_open, settles_off_cycles, start_meets_facts,
 };
+pub use plain_core::Core;
 pub use stage::{Illegal, Stage};
 pub use walk::{LastRead, TrailLink, Walker, Way};
 pub use walk_laws::{

@@ -1,6 +1,6 @@
 //! The machine of the checker: the core state in lists of a fixed size, each a column of the cells.
 ghost use Rattle.std.specs.Prelude.{◌≡◌, ◌≤◌, ◌+◌, suc, length, vec_capacity, IfOk};
-ghost use Rattle.tj_core.specs.Columns.{HaveRoom};
+ghost use Rattle.tj_core.specs.Inner.Columns.{HaveRoom};
 
 use crate::births::Births;
 use crate::owners::Owners;
@@ -32,9 +32,9 @@ pub(crate) struct Machine {
 impl Machine {
     ghost use Rattle.std.specs.Prelude.{◌≡◌, ℕ, ◌<◌, ◌≤◌, ◌↔◌, IsTrue, length, IfOk, OnErr};
     ghost use Rattle.tj_core.specs.CoreState.{promise, fresh, wait_of, is_task};
-    ghost use Rattle.tj_core.specs.Columns.{stage_in};
+    ghost use Rattle.tj_core.specs.Inner.Columns.{stage_in};
     ghost use Rattle.tj_core.specs.CoreState.{root_alone};
-    ghost use Rattle.tj_core.specs.Machine.{state_of, limit_of, loads_of};
+    ghost use Rattle.tj_core.specs.Inner.Machine.{state_of, limit_of, loads_of};
 
     /// The root alone, with room for so many cells.
     pub(crate) fn new(alloc: Global, cells: u32) -> Result<Machine, Oom>

@@ -1,7 +1,7 @@
 //! Who owns each cell, and how many cells each task owns, so that a task's last cell is known at
 //! once.
 ghost use Rattle.std.specs.Prelude.{◌≡◌, ℕ, ◌+◌, ◌≤◌, ◌<◌, length, slice_index_or};
-ghost use Rattle.tj_core.specs.Owners.{AreCounts, AreOwnersInside, IsInside, one_if};
+ghost use Rattle.tj_core.specs.Inner.Owners.{AreCounts, AreOwnersInside, IsInside, one_if};
 
 use std::alloc::{AllocError, Global};
 
@@ -18,7 +18,7 @@ pub(crate) struct Owners {
 
 impl Owners {
     ghost use Rattle.std.specs.Prelude.{◌≡◌, ℕ, ◌<◌, ◌≤◌, ◌↔◌, IsTrue, Some, None, IfOk, length, slice_set, replicate};
-    ghost use Rattle.tj_core.specs.Owners.{owner_in, IsInside};
+    ghost use Rattle.tj_core.specs.Inner.Owners.{owner_in, IsInside};
 
     /// So many cells that nobody owns.
     pub(crate) fn new(alloc: Global, cells: u32) -> Result<Owners, AllocError>

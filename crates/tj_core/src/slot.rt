@@ -1,7 +1,7 @@
 //! One cell of the checker: its status, and the walk of its task. The calls of a walk test the
 //! walker's last read, and then change it.
 ghost use Rattle.std.specs.Prelude.{◌≡◌, ℕ, ◌+◌, ◌*◌, ◌<◌, ◌≤◌, length, vec_capacity};
-ghost use Rattle.tj_core.specs.Statuses.{status_passes, status_loads, status_bound};
+ghost use Rattle.tj_core.specs.Inner.Statuses.{status_passes, status_loads, status_bound};
 
 use crate::stage::{Illegal, Stage};
 use crate::status::{Progress, Status};
@@ -28,10 +28,10 @@ impl Slot {
     ghost use Rattle.std.specs.Prelude.{◌≡◌, ◌≢◌, ℕ, suc, ◌+◌, ◌*◌, ◌<◌, ◌≤◌, ◌↔◌, IsTrue, IfOk, OnOk, OnErr, Some, None, [], MatchOption, length, vec_capacity};
     ghost use Rattle.tj_core.specs.CoreState.{promise, fresh, waits, walks, parked, alarmed, wait_of, is_task, Runs, present, IfWalksAt};
     ghost use Rattle.tj_core.specs.Events.{WalksAt, MayPublish, MayReadOthers, MayCount, MayReadOwner, MayReadWait, MayReadAgain, MayAlarm, MaySettle, walked, walk_ended, others_read, count_read, owner_read, owner_again, start_walk};
-    ghost use Rattle.tj_core.specs.Slots.{stage_of};
+    ghost use Rattle.tj_core.specs.Inner.Slots.{stage_of};
     ghost use Rattle.tj_core.specs.StagesShown.{stage_shown};
-    ghost use Rattle.tj_core.specs.Statuses.{stage_of_status, IsIdle};
-    ghost use Rattle.tj_core.specs.WalkSteps.{MayStep, wait_heard, stage_by, loads_by, HasRoom};
+    ghost use Rattle.tj_core.specs.Inner.Statuses.{stage_of_status, IsIdle};
+    ghost use Rattle.tj_core.specs.Inner.WalkSteps.{MayStep, wait_heard, stage_by, loads_by, HasRoom};
 
     /// An empty slot, with room for walks that pass so many owners.
     pub(crate) fn new(alloc: Global, cells: u32) -> Result<Slot, AllocError>

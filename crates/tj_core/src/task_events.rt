@@ -1,7 +1,7 @@
 //! The events of a task that runs, and those at the two ends of a wait.
 ghost use Rattle.std.specs.Prelude.{◌≡◌, []};
 ghost use Rattle.tj_core.specs.Events.{raised_by_way, stage_after_close};
-ghost use Rattle.tj_core.specs.Statuses.{IsIdle, stage_of_status};
+ghost use Rattle.tj_core.specs.Inner.Statuses.{IsIdle, stage_of_status};
 
 use crate::event::Event;
 use crate::machine::Machine;
@@ -13,8 +13,8 @@ use tj_base::CellId;
 impl Machine {
     ghost use Rattle.std.specs.Prelude.{◌≡◌, ℕ, ◌<◌, ◌≤◌, ◌^◌, ◌↔◌, IsTrue, length, OnOk, OnErr};
     ghost use Rattle.tj_core.specs.Events.{way_of_wait, MayClose, MayHand, Owns, IsFreshChild, IsRunning};
-    ghost use Rattle.tj_core.specs.Statuses.{IsIdle};
-    ghost use Rattle.tj_core.specs.Machine.{Accepts, Refuses, Adds, IsUnchanged, state_of, limit_of};
+    ghost use Rattle.tj_core.specs.Inner.Statuses.{IsIdle};
+    ghost use Rattle.tj_core.specs.Inner.Machine.{Accepts, Refuses, Adds, IsUnchanged, state_of, limit_of};
 
     /// The task raises OTHERS.
     pub(crate) fn raise(&mut self, t: CellId) -> Result<(), Illegal>

@@ -5,7 +5,7 @@ use crate::walk::LastRead;
 impl Machine {
     ghost use Rattle.std.specs.Prelude.{◌≡◌, ℕ, Some};
     ghost use Rattle.tj_core.specs.CoreState.{owner, wait, present, IfWalks};
-    ghost use Rattle.tj_core.specs.Machine.{state_of};
+    ghost use Rattle.tj_core.specs.Inner.Machine.{state_of};
 
     /// The owner of the present cell of a task's walk.
     pub(crate) fn present_owner(&self, t: u32) -> Option<u32>

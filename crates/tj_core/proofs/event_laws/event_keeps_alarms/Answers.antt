@@ -1,4 +1,4 @@
-use Rattle.tj_core.proofs.EventEffects.{event_keeps_alarms}
+use Rattle.tj_core.proofs.Events.EventEffects.{event_keeps_alarms}
 use Rattle.tj_core.proofs.event_laws.event_keeps_alarms.Goals as goal
 
 pub returns : goal.returns

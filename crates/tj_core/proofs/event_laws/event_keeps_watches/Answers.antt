@@ -1,4 +1,4 @@
-use Rattle.tj_core.proofs.EventEffects.{event_keeps_watches}
+use Rattle.tj_core.proofs.Events.EventEffects.{event_keeps_watches}
 use Rattle.tj_core.proofs.event_laws.event_keeps_watches.Goals as goal
 
 pub returns : goal.returns

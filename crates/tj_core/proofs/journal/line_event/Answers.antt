@@ -5,7 +5,7 @@ use Rattle.std.proofs.lemmas.Iterator.Consumers.{map_from_collect}
 use Rattle.std.proofs.lemmas.Iterator.Splits.{YieldsList-from_slice_split}
 use Rattle.tj_core.specs.declared.event.Event.{Event}
 use Rattle.tj_core.specs.Journal.{words_of, HasSmallCells, Names}
-use Rattle.tj_core.proofs.JournalWords.{if_none}
+use Rattle.tj_core.proofs.Journals.Words.{if_none}
 use Rattle.tj_core.proofs.journal.line_event.Goals as goal
 
 pub returns-clause-found : goal.returns-clause-found

@@ -1,7 +1,7 @@
 use Rattle.std.proofs.Common.{rules, ◌+◌}
 use Rattle.tj_core.specs.Journal.{IsEventLine, words_of, HasSmallCells, Names}
-use Rattle.tj_core.proofs.JournalReads.{read_on, read_fault}
-use Rattle.tj_core.proofs.JournalWords.{none_at, some_at}
+use Rattle.tj_core.proofs.Journals.Reads.{read_on, read_fault}
+use Rattle.tj_core.proofs.Journals.Words.{none_at, some_at}
 use Rattle.tj_core.proofs.journal.read.Goals as goal
 
 pub returns-in_default-clause-line : goal.returns-in_default-clause-line

@@ -1,5 +1,5 @@
 use Rattle.std.proofs.Common.{length}
-use Rattle.tj_core.proofs.JournalReads.{IsReadTo}
+use Rattle.tj_core.proofs.Journals.Reads.{IsReadTo}
 use Rattle.tj_core.proofs.journal.read.Given as goal
 
 abbrev pub invariant-loop-rest : goal.invariant-loop-rest

@@ -1,5 +1,5 @@
 use Rattle.tj_core.specs.Journal.{lines_of}
-use Rattle.tj_core.proofs.JournalReads.{only_line}
+use Rattle.tj_core.proofs.Journals.Reads.{only_line}
 use Rattle.tj_core.proofs.journal.read_journal.Goals as goal
 
 pub returns-clause-only_line : goal.returns-clause-only_line

@@ -1,5 +1,5 @@
-use Rattle.tj_core.proofs.JournalLines.{one_fault}
-use Rattle.tj_core.proofs.OneReading.{events_one, no_fault}
+use Rattle.tj_core.proofs.Journals.Lines.{one_fault}
+use Rattle.tj_core.proofs.Journals.OneReading.{events_one, no_fault}
 use Rattle.tj_core.proofs.journal_laws.one_reading.Goals as goal
 
 pub returns : goal.returns

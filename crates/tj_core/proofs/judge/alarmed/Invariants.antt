@@ -1,6 +1,6 @@
 use Rattle.std.proofs.Common.{◌≡◌, ◌++◌, take}
 use Rattle.tj_core.specs.Core.{core_state}
-use Rattle.tj_core.proofs.AlarmLines.{alarm_head, other_waits, numbers}
+use Rattle.tj_core.proofs.Journals.AlarmLines.{alarm_head, other_waits, numbers}
 use Rattle.tj_core.proofs.judge.alarmed.Given as goal
 
 abbrev pub invariant-loop-other : goal.invariant-loop-other

@@ -5,7 +5,7 @@ use Rattle.tj_core.specs.declared.event.Event.TheVariants.{Make}
 use Rattle.tj_core.specs.Core.{core_state}
 use Rattle.tj_core.specs.Events.{Allowed}
 use Rattle.tj_core.specs.Judging.{illegal_line, legal_line, is_alarm}
-use Rattle.tj_core.proofs.JudgedRuns.{judge_starts, judge_on, judge_illegal, judge_legal, judged_same, outcome_same}
+use Rattle.tj_core.proofs.Journals.JudgedRuns.{judge_starts, judge_on, judge_illegal, judge_legal, judged_same, outcome_same}
 use Rattle.tj_core.proofs.judge.judge_text.Goals as goal
 use Rattle.tj_core.proofs.judge.judge_text.Goals.{then-marked, else-marked}
 

@@ -6,7 +6,7 @@ use Rattle.tj_core.specs.CoreState.{Cells}
 use Rattle.tj_core.specs.WaitGraph.{IsCycle, IsOnCycle, IsCycleFrom}
 use Rattle.tj_core.specs.Judging.{alarm_line}
 use Rattle.tj_core.specs.Core.{core_state, core_limit}
-use Rattle.tj_core.proofs.WalkEnds.{alarm_on_cycle}
+use Rattle.tj_core.proofs.Events.WalkEnds.{alarm_on_cycle}
 use Rattle.tj_core.proofs.judge.said_of_alarm.Goals as goal
 
 -- the other tasks of a cycle from t on

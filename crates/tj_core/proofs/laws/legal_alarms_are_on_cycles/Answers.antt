@@ -1,4 +1,4 @@
-use Rattle.tj_core.proofs.LegalCycles.{legal_alarms}
+use Rattle.tj_core.proofs.Events.LegalCycles.{legal_alarms}
 use Rattle.tj_core.proofs.laws.legal_alarms_are_on_cycles.Goals as goal
 
 pub returns : goal.returns

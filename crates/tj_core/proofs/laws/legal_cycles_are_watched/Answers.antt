@@ -1,4 +1,4 @@
-use Rattle.tj_core.proofs.LegalCycles.{legal_watched}
+use Rattle.tj_core.proofs.Events.LegalCycles.{legal_watched}
 use Rattle.tj_core.proofs.laws.legal_cycles_are_watched.Goals as goal
 
 pub returns : goal.returns

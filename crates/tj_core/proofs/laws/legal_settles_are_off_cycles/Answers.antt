@@ -1,4 +1,4 @@
-use Rattle.tj_core.proofs.LegalCycles.{legal_settles}
+use Rattle.tj_core.proofs.Events.LegalCycles.{legal_settles}
 use Rattle.tj_core.proofs.laws.legal_settles_are_off_cycles.Goals as goal
 
 pub returns : goal.returns

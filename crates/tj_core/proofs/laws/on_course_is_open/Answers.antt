@@ -1,4 +1,4 @@
-use Rattle.tj_core.proofs.LegalRuns.{on_course_open}
+use Rattle.tj_core.proofs.Events.LegalRuns.{on_course_open}
 use Rattle.tj_core.proofs.laws.on_course_is_open.Goals as goal
 
 pub returns : goal.returns

@@ -1,7 +1,7 @@
 use Rattle.std.proofs.Common.{◌≡◌, ◌≢◌, ℕ, List, [], ◌∷◌, map, decimal}
 use Rattle.tj_core.specs.declared.event.Event.{Event}
 use Rattle.tj_core.specs.Journal.{verb_of, cells_of}
-use Rattle.tj_core.proofs.JournalWords.{no_event, if_none}
+use Rattle.tj_core.proofs.Journals.Words.{no_event, if_none}
 use Rattle.tj_core.proofs.line.of_three.Goals as goal
 
 pub returns-clause-none : goal.returns-clause-none

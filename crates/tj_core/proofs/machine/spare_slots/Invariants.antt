@@ -1,5 +1,5 @@
 use Rattle.std.proofs.Common.{◌≡◌, length}
-use Rattle.tj_core.specs.Columns.{HaveRoom}
+use Rattle.tj_core.specs.Inner.Columns.{HaveRoom}
 use Rattle.tj_core.proofs.machine.spare_slots.Given as goal
 
 abbrev pub invariant-loop-i : goal.invariant-loop-i

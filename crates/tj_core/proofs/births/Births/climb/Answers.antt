@@ -1,6 +1,6 @@
 use Rattle.std.proofs.Common.{ℕ, ◌<◌, ◌-◌, length, take, arith, sym, ap, ◌∙◌}
-use Rattle.tj_core.specs.Names.{name_of}
-use Rattle.tj_core.proofs.NameLists.{length-name-above, climb-step, name-nonzero}
+use Rattle.tj_core.specs.Inner.Births.{name_of}
+use Rattle.tj_core.proofs.Columns.BirthNames.{length-name-above, climb-step, name-nonzero}
 use Rattle.tj_core.proofs.births.Births.climb.Goals as goal
 
 pub loop-left-preserved : goal.loop-left-preserved

@@ -1,6 +1,6 @@
 use Rattle.std.proofs.Common.{ℕ, ◌≡◌, ◌<◌, length, arith, ap, ◌∙◌}
-use Rattle.tj_core.specs.Names.{name_of}
-use Rattle.tj_core.proofs.NameLists.{length-name-above, name_of-root}
+use Rattle.tj_core.specs.Inner.Births.{name_of}
+use Rattle.tj_core.proofs.Columns.BirthNames.{length-name-above, name_of-root}
 use Rattle.tj_core.proofs.births.Births.depth.Goals as goal
 
 pub loop-above-preserved : goal.loop-above-preserved

@@ -1,5 +1,5 @@
 use Rattle.std.proofs.Common.{◌≡◌, ◌+◌, ◌<◌, ◌≤◌, suc, length}
-use Rattle.tj_core.specs.Names.{name_of}
+use Rattle.tj_core.specs.Inner.Births.{name_of}
 use Rattle.tj_core.proofs.births.Births.depth.Given as goal
 
 abbrev pub invariant-loop-above : goal.invariant-loop-above

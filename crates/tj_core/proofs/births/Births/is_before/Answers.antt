@@ -1,6 +1,6 @@
 use Rattle.std.proofs.Common.{ℕ, [], ◌≡◌, ◌<◌, ◌-◌, length, arith, sym, ap, ◌∙◌}
-use Rattle.tj_core.specs.Names.{name_of}
-use Rattle.tj_core.proofs.NameLists.{before_else, levels, level-step, name_of-root}
+use Rattle.tj_core.specs.Inner.Births.{name_of}
+use Rattle.tj_core.proofs.Columns.BirthNames.{before_else, levels, level-step, name_of-root}
 use Rattle.tj_core.proofs.births.Births.is_before.Goals as goal
 
 pub loop-up_a-init : goal.loop-up_a-init

@@ -1,7 +1,7 @@
 use Rattle.std.proofs.Common.{◌≡◌, ◌<◌, suc, length}
 use Rattle.tj_base.specs.ForkOrder.{before}
-use Rattle.tj_core.specs.Names.{name_of}
-use Rattle.tj_core.proofs.NameLists.{before_else}
+use Rattle.tj_core.specs.Inner.Births.{name_of}
+use Rattle.tj_core.proofs.Columns.BirthNames.{before_else}
 use Rattle.tj_core.proofs.births.Births.is_before.Given as goal
 
 abbrev pub invariant-loop-up_a : goal.invariant-loop-up_a

@@ -1,5 +1,5 @@
 use Rattle.std.proofs.Common.{arith}
-use Rattle.tj_core.proofs.NameLists.{name_of-beyond}
+use Rattle.tj_core.proofs.Columns.BirthNames.{name_of-beyond}
 use Rattle.tj_core.proofs.births.Births.named.Goals as goal
 
 pub returns-else-c-count-clause-name : goal.returns-else-c-count-clause-name

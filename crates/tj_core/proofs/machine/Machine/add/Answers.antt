@@ -2,10 +2,10 @@ use Rattle.std.proofs.Common.{rules, ◌≡◌, ℕ, ◌<◌, suc, List, [], ◌
 use Rattle.std.proofs.lemmas.List.{length-append}
 use Rattle.tj_core.specs.declared.births.Birth.{Birth}
 use Rattle.tj_core.specs.declared.slot.Slot.{Slot}
-use Rattle.tj_core.specs.Statuses.{stage_of_status}
-use Rattle.tj_core.specs.Columns.{state_in, HaveRoom, loads_in}
-use Rattle.tj_core.proofs.ColumnLists.{rooms_stay, loads_stay}
-use Rattle.tj_core.proofs.Additions.{added, added_loads, rooms_more, rooms_less}
+use Rattle.tj_core.specs.Inner.Statuses.{stage_of_status}
+use Rattle.tj_core.specs.Inner.Columns.{state_in, HaveRoom, loads_in}
+use Rattle.tj_core.proofs.Columns.ColumnLists.{rooms_stay, loads_stay}
+use Rattle.tj_core.proofs.Columns.Additions.{added, added_loads, rooms_more, rooms_less}
 use Rattle.tj_core.proofs.machine.Machine.add.Goals as goal
 
 pub invariant_of-self-2 : goal.invariant_of-self-2

@@ -1,7 +1,7 @@
 use Rattle.std.proofs.Common.{rules, None, ap, ◌∙◌}
 use Rattle.tj_core.specs.CoreState.{CoreState, CellStage}
 use Rattle.tj_core.specs.Events.{alter, owned_by, restage}
-use Rattle.tj_core.specs.Machine.{state_of}
+use Rattle.tj_core.specs.Inner.Machine.{state_of}
 use Rattle.tj_core.proofs.machine.Machine.close.Goals as goal
 
 pub returns-clause-ok : goal.returns-clause-ok

@@ -1,7 +1,7 @@
 use Rattle.std.proofs.Common.{map}
 use Rattle.tj_base.proofs.CycleWays.{IsOnWay}
 use Rattle.tj_core.specs.WaitGraph.{Leads}
-use Rattle.tj_core.specs.Machine.{state_of}
+use Rattle.tj_core.specs.Inner.Machine.{state_of}
 use Rattle.tj_core.proofs.machine.Machine.cycle_of.Given as goal
 
 abbrev pub invariant-loop-step : goal.invariant-loop-step

@@ -1,6 +1,6 @@
 use Rattle.std.proofs.Common.{rules, ◌≡◌, ℕ, List, [], ◌∷◌, Option, Some, None, set, replicate, ap, ◌∙◌}
-use Rattle.tj_core.specs.Columns.{state_in}
-use Rattle.tj_core.proofs.Starts.{start_state}
+use Rattle.tj_core.specs.Inner.Columns.{state_in}
+use Rattle.tj_core.proofs.Columns.Starts.{start_state}
 use Rattle.tj_core.proofs.machine.Machine.new.Goals as goal
 
 pub returns-clause-state : goal.returns-clause-state

@@ -1,7 +1,7 @@
 use Rattle.std.proofs.Common.{rules, ◌≡◌, ◌↔◌, Some, sym, subst}
 use Rattle.tj_core.specs.CoreState.{CellStage, promise, waits, parked}
-use Rattle.tj_core.specs.Slots.{stage_of}
-use Rattle.tj_core.proofs.ColumnLists.{column_here}
+use Rattle.tj_core.specs.Inner.Slots.{stage_of}
+use Rattle.tj_core.proofs.Columns.ColumnLists.{column_here}
 use Rattle.tj_core.proofs.machine.Machine.parked_on.Goals as goal
 
 pub returns-then-t-len-clause-some : goal.returns-then-t-len-clause-some

@@ -1,6 +1,6 @@
 use Rattle.std.proofs.Common.{[], arith, length-set}
-use Rattle.tj_core.specs.Statuses.{stage_of_status}
-use Rattle.tj_core.proofs.ColumnLists.{rooms_stay, state_changed, loads_stay}
+use Rattle.tj_core.specs.Inner.Statuses.{stage_of_status}
+use Rattle.tj_core.proofs.Columns.ColumnLists.{rooms_stay, state_changed, loads_stay}
 use Rattle.tj_core.proofs.machine.Machine.set_idle.Goals as goal
 
 pub invariant_of-self : goal.invariant_of-self

@@ -1,6 +1,6 @@
 use Rattle.std.proofs.Common.{List, Option, ℕ, ap, ◌∙◌}
-use Rattle.tj_core.specs.Columns.{state_in}
-use Rattle.tj_core.proofs.ColumnLists.{owner_changed}
+use Rattle.tj_core.specs.Inner.Columns.{state_in}
+use Rattle.tj_core.proofs.Columns.ColumnLists.{owner_changed}
 use Rattle.tj_core.proofs.machine.Machine.set_owner.Goals as goal
 
 pub returns-clause-state : goal.returns-clause-state

@@ -1,7 +1,7 @@
 use Rattle.std.proofs.Common.{arith, length-set}
 use Rattle.tj_core.specs.CoreState.{waits, walks}
 use Rattle.tj_core.specs.Events.{start_walk}
-use Rattle.tj_core.proofs.ColumnLists.{rooms_stay, state_changed, loads_set}
+use Rattle.tj_core.proofs.Columns.ColumnLists.{rooms_stay, state_changed, loads_set}
 use Rattle.tj_core.proofs.machine.Machine.start_walk.Goals as goal
 
 pub invariant_of-self : goal.invariant_of-self

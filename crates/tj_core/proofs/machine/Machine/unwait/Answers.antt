@@ -1,8 +1,8 @@
 use Rattle.std.proofs.Common.{◌≡◌, ℕ, ◌+◌, Option, Some, None, refl, sym, ap, ◌∙◌, true, false, is_some}
 use Rattle.tj_core.specs.CoreState.{waits, parked, stage}
 use Rattle.tj_core.specs.Events.{raised_by}
-use Rattle.tj_core.specs.Owners.{owner_in}
-use Rattle.tj_core.specs.Machine.{state_of}
+use Rattle.tj_core.specs.Inner.Owners.{owner_in}
+use Rattle.tj_core.specs.Inner.Machine.{state_of}
 use Rattle.tj_core.proofs.machine.Machine.unwait.Goals as goal
 
 not_some : (o : Option ℕ) → is_some o ≡ false → o ≡ None

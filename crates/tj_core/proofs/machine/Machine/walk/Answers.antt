@@ -2,8 +2,8 @@ use Rattle.std.proofs.Common.{rules, ◌≡◌, sym, subst}
 use Rattle.std.specs.Option.{MatchOption}
 use Rattle.tj_core.specs.CoreState.{CellStage, promise}
 use Rattle.tj_core.specs.Events.{WalksAt}
-use Rattle.tj_core.specs.Slots.{stage_of}
-use Rattle.tj_core.proofs.ColumnLists.{column_here}
+use Rattle.tj_core.specs.Inner.Slots.{stage_of}
+use Rattle.tj_core.proofs.Columns.ColumnLists.{column_here}
 use Rattle.tj_core.proofs.machine.Machine.walk.Goals as goal
 
 pub returns-then-t-len : goal.returns-then-t-len

@@ -1,10 +1,10 @@
 use Rattle.std.proofs.Common.{rules, ◌≡◌, set, List, Result, Ok, Err, OnErr, refl, ap, ◌∙◌, arith, length-set}
 use Rattle.tj_core.specs.declared.slot.Slot.{Slot}
-use Rattle.tj_core.specs.Columns.{state_in, loads_in}
-use Rattle.tj_core.specs.Machine.{state_of, limit_of}
-use Rattle.tj_core.specs.WalkSteps.{MayStep, stage_by}
-use Rattle.tj_core.proofs.ColumnLists.{rooms_stay, room_here, walks_here, not_here, state_changed, set_same, none_walks}
-use Rattle.tj_core.proofs.WalkTurns.{may_step, step_allowed, after_step, step_has_room, step_loads}
+use Rattle.tj_core.specs.Inner.Columns.{state_in, loads_in}
+use Rattle.tj_core.specs.Inner.Machine.{state_of, limit_of}
+use Rattle.tj_core.specs.Inner.WalkSteps.{MayStep, stage_by}
+use Rattle.tj_core.proofs.Columns.ColumnLists.{rooms_stay, room_here, walks_here, not_here, state_changed, set_same, none_walks}
+use Rattle.tj_core.proofs.Columns.WalkTurns.{may_step, step_allowed, after_step, step_has_room, step_loads}
 use Rattle.tj_core.proofs.machine.Machine.walk_on.Goals as goal
 
 pub step-requires : goal.step-requires

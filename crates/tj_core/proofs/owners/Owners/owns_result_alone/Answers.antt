@@ -1,7 +1,7 @@
 use Rattle.std.proofs.Common.{◌≡◌, sym, ◌∙◌, arith, eqb-true, eq-eqb}
 use Rattle.std.proofs.lemmas.List.{get_or_default}
-use Rattle.tj_core.specs.Owners.{owned_count}
-use Rattle.tj_core.proofs.OwnedCounts.{owned_count-alone, owned_count-one}
+use Rattle.tj_core.specs.Inner.Owners.{owned_count}
+use Rattle.tj_core.proofs.Columns.OwnedCounts.{owned_count-alone, owned_count-one}
 use Rattle.tj_core.proofs.owners.Owners.owns_result_alone.Goals as goal
 
 pub returns : goal.returns

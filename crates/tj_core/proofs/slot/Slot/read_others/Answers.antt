@@ -1,5 +1,5 @@
 use Rattle.std.proofs.Common.{rules, refl}
-use Rattle.tj_core.proofs.Slots.{walks_at}
+use Rattle.tj_core.proofs.Columns.Slots.{walks_at}
 use Rattle.tj_core.proofs.slot.Slot.read_others.Goals as goal
 use Rattle.tj_core.specs.declared.walk.Way.TheVariants.{Along}
 use Rattle.tj_core.specs.declared.walk.LastRead.TheVariants.{Published}

@@ -2,7 +2,7 @@ use Rattle.std.proofs.Common.{rules, ◌≡◌, ◌⊎◌, ℕ, ◌<◌, length,
 use Rattle.std.proofs.lemmas.List.{length-reverse}
 use Rattle.tj_core.specs.declared.walk.LastRead.TheVariants.{Counted, Passed}
 use Rattle.tj_core.specs.Events.{MayReadOwner}
-use Rattle.tj_core.proofs.Slots.{walks_at}
+use Rattle.tj_core.proofs.Columns.Slots.{walks_at}
 use Rattle.tj_core.proofs.slot.Slot.read_owner.Goals as goal
 
 pub returns-clause-allowed : goal.returns-clause-allowed

@@ -1,7 +1,7 @@
 use Rattle.std.proofs.Common.{rules, refl, Some}
 use Rattle.tj_core.specs.declared.walk.LastRead.TheVariants.{SawOwner}
 use Rattle.tj_core.specs.Events.{MayReadWait}
-use Rattle.tj_core.proofs.Slots.{walks_at}
+use Rattle.tj_core.proofs.Columns.Slots.{walks_at}
 use Rattle.tj_core.proofs.slot.Slot.read_wait.Goals as goal
 
 pub returns-in-Waiting-default-default-Walking-SawOwner-Some-clause-allowed : goal.returns-in-Waiting-default-default-Walking-SawOwner-Some-clause-allowed

@@ -1,7 +1,7 @@
 use Rattle.std.proofs.Common.{rules, ◌≡◌, ℕ, length, subst, sym, ◌∙◌}
 use Rattle.std.proofs.lemmas.List.{length-reverse}
 use Rattle.tj_core.specs.Events.{MaySettle, EndsWalk}
-use Rattle.tj_core.proofs.Slots.{walks_at}
+use Rattle.tj_core.proofs.Columns.Slots.{walks_at}
 use Rattle.tj_core.proofs.slot.Slot.settle.Goals as goal
 
 pub returns-clause-allowed : goal.returns-clause-allowed

@@ -1,5 +1,5 @@
 use Rattle.std.proofs.Common.{rules, refl, ◌≡◌}
-use Rattle.tj_core.proofs.Slots.{walks_at}
+use Rattle.tj_core.proofs.Columns.Slots.{walks_at}
 use Rattle.tj_core.proofs.slot.Slot.walk.Goals as goal
 
 pub returns-in-Waiting-default-default-Walking : goal.returns-in-Waiting-default-default-Walking

@@ -1,0 +1,156 @@
+-- The core state after one slot changes.
+use Rattle.std.proofs.Common.{◌≡◌, ℕ, zero, suc, ◌<◌, ◌≤◌, List, [], ◌∷◌, ◌++◌, length, set, map, get_or, Option, None, refl, sym, ap, ◌∙◌, subst, arith, vec_capacity, length-set}
+use Rattle.std.proofs.lemmas.List.{get_or-set_same, get_or-set_other, set-get_or}
+use native.Mathlib.Decide.{ℕ_discrete}
+use mathlib.Core.Logic.{dite}
+use Rattle.tj_core.specs.declared.births.Birth.{Birth}
+use Rattle.tj_core.specs.declared.slot.Slot.{Slot}
+use Rattle.tj_core.specs.declared.walk.Way.{Way}
+use Rattle.tj_core.specs.declared.walk.Walker.{Walker}
+use Rattle.tj_base.specs.Puts.{put}
+use Rattle.tj_base.proofs.Puts.{put_here, put_else, put_same}
+use Rattle.tj_core.specs.CoreState.{CellStage, promise, walks, waits, CoreState}
+use Rattle.tj_core.specs.Events.{WalksAt, restage, staged, walked, alter, owned_by}
+use Rattle.tj_core.specs.Loads.{one_load}
+use Rattle.tj_core.specs.Inner.Slots.{stage_of}
+use Rattle.tj_core.specs.Inner.Columns.{stage_in, loads_in, room_in, HaveRoom, cell_in, state_in}
+
+-- a list with one element changed, read at any place
+pub at_set : {A : Type 0} (l : List A) (i : ℕ) (a d : A) → i < length l → (j : ℕ) → get_or (set l i a) j d ≡ put
+    (λ k. get_or l k d) i a j
+at_set l i a d h j = dite (ℕ_discrete j i)
+    (λ e. subst (λ k. get_or (set l i a) k d ≡ put (λ k. get_or l k d) i a k) (sym e)
+    (get_or-set_same l i a d h ∙ sym (put_here (λ k. get_or l k d) i a)))
+    (λ n. get_or-set_other l i j a d n ∙ sym (put_else (λ k. get_or l k d) i a j n))
+
+pub map-set_at : {A B : Type 0} (f : A → B) (l : List A) (i : ℕ) (a : A) → map f (set l i a) ≡ set (map f l) i (f a)
+map-set_at f [] i a = refl
+map-set_at f (x ∷ l) zero a = refl
+map-set_at f (x ∷ l) (suc i) a = ap (λ r. f x ∷ r) (map-set_at f l i a)
+
+pub length-map_at : {A B : Type 0} (f : A → B) (l : List A) → length (map f l) ≡ length l
+length-map_at f [] = refl
+length-map_at f (x ∷ l) = ap suc (length-map_at f l)
+
+-- a column of a list with one element changed
+pub column_set : {A B : Type 0} (f : A → B) (l : List A) (i : ℕ) (a : A) (d : B) → i < length l → (j : ℕ) → get_or
+    (map f (set l i a)) j d ≡ put (λ k. get_or (map f l) k d) i (f a) j
+column_set f l i a d h j = let e = length-map_at f l in ap (λ r. get_or r j d) (map-set_at f l i a) ∙ at_set (map f l) i
+    (f a) d (omega arith) j
+
+pub column_here : {A B : Type 0} (f : A → B) (l : List A) (i : ℕ) (x : A) (d : B) → i < length l → x ≡ get_or l i x
+    → get_or (map f l) i d ≡ f x
+column_here f [] i x d h e = absurd (omega arith)
+column_here f (y ∷ l) zero x d h e = ap f (sym e)
+column_here f (y ∷ l) (suc i) x d h e = column_here f l i x d (omega arith) e
+
+pub column_beyond : {A B : Type 0} (f : A → B) (l : List A) (i : ℕ) (d : B) → length l ≤ i → get_or (map f l) i d ≡ d
+column_beyond f [] i d h = refl
+column_beyond f (y ∷ l) zero d h = absurd (omega arith)
+column_beyond f (y ∷ l) (suc i) d h = column_beyond f l i d (omega arith)
+
+-- no task walks past the end
+pub none_walks : (slots : List Slot) (t : ℕ) (F : ℕ → Way → Walker → Type 0) → length slots ≤ t → ¬ WalksAt
+    (stage_in slots t) F
+none_walks slots t F h k = let e = sym (column_beyond stage_of slots t promise h) ∙ k.3 in absurd (cc)
+
+-- what a walk is changed to depends on that walk alone
+pub walked_same : (st : CellStage) (g k : ℕ → Walker → Walker) (F : ℕ → Way → Walker → Type 0) → WalksAt st F
+    → ((c : ℕ) (way : Way) (w : Walker) → st ≡ waits c way (walks w) → F c way w → g c w ≡ k c w) → walked g st ≡ walked
+    k st
+walked_same st g k F (c, way, w, is, h) e = ap (walked g) is
+    ∙ ((λ j. waits c way (walks (e c way w is h j))) ∙ sym (ap (walked k) is))
+
+-- the slot x of the cell t, which is there, has become y
+module _ (slots : List Slot) (t : ℕ) (x y : Slot) (h : t < length slots) (is : x ≡ get_or slots t x) where
+  pub stage_here : stage_in slots t ≡ stage_of x
+  stage_here = column_here stage_of slots t x promise h is
+
+  pub walks_here : (F : ℕ → Way → Walker → Type 0) → WalksAt (stage_of x) F → WalksAt (stage_in slots t) F
+  walks_here F w = subst (λ st. WalksAt st F) (sym stage_here) w
+
+  pub not_here : (F : ℕ → Way → Walker → Type 0) → ¬ WalksAt (stage_of x) F → ¬ WalksAt (stage_in slots t) F
+  not_here F n w = n (subst (λ st. WalksAt st F) stage_here w)
+
+  pub loads_set : (n : ℕ) → y.loads ≡ n → (c : ℕ) → loads_in (set slots t y) c ≡ put (loads_in slots) t n c
+  loads_set n e c = column_set (λ slot. slot.loads) slots t y 0 h c ∙ ap (λ i. put (loads_in slots) t i c) e
+
+  pub loads_stay : y.loads ≡ x.loads → (c : ℕ) → loads_in (set slots t y) c ≡ loads_in slots c
+  loads_stay e c = loads_set x.loads e c ∙ put_same (loads_in slots) t x.loads
+      (column_here (λ slot. slot.loads) slots t x 0 h is) c
+
+  pub loads_more : y.loads ≡ suc x.loads → (c : ℕ) → loads_in (set slots t y) c ≡ one_load (loads_in slots) t c
+  loads_more e c = loads_set (suc (loads_in slots t))
+      (e ∙ ap suc (sym (column_here (λ slot. slot.loads) slots t x 0 h is))) c
+
+  pub rooms_stay : (n : ℕ) → HaveRoom n slots → vec_capacity x.trail ≤ vec_capacity y.trail → HaveRoom n (set slots t y)
+  rooms_stay n r e c l =
+      let z = length-set slots t y in let b : n ≤ room_in slots c = r c (omega arith) in
+      let room : Slot → ℕ = λ slot. vec_capacity slot.trail in
+      subst (λ i. n ≤ i) (sym (column_set room slots t y 0 h c))
+      (dite (ℕ_discrete c t)
+      (λ q. subst (λ i. n ≤ put (room_in slots) t (room y) i) (sym q)
+      (subst (λ i. n ≤ i) (sym (put_here (room_in slots) t (room y)))
+      (let m = r t h in let w = column_here room slots t x 0 h is in omega arith)))
+      (λ q. subst (λ i. n ≤ i) (sym (put_else (room_in slots) t (room y) c q)) b))
+
+  -- the room of a slot that is there
+  pub room_here : (n : ℕ) → HaveRoom n slots → n ≤ vec_capacity x.trail
+  room_here n r = let m = r t h in let w = column_here (λ slot. vec_capacity slot.trail) slots t x 0 h is in omega arith
+
+  module _ (births : List Birth) (made : List ℕ) (owners : List (Option ℕ)) (others cleared : ℕ) where
+    abbrev s : CoreState
+    s = state_in births made owners slots others cleared
+
+    cell_changed : (f : CellStage → CellStage) → stage_of y ≡ f (stage_of x) → (c : ℕ) → cell_in births made owners
+        (set slots t y) c ≡ (restage s t f).cells c
+    cell_changed f e c = dite (ℕ_discrete c t)
+        (λ q. subst (λ i. cell_in births made owners (set slots t y) i ≡ (restage s t f).cells i) (sym q)
+        ((λ j. record (s.cells t) {
+          stage = (column_set stage_of slots t y promise h t
+              ∙ (put_here (stage_in slots) t (stage_of y) ∙ (e ∙ ap f (sym stage_here)))) j;
+        })
+        ∙ sym (put_here s.cells t (staged (f (stage_in slots t)) (s.cells t)))))
+        (λ n. (λ j. record (s.cells c)
+        { stage = (column_set stage_of slots t y promise h c ∙ put_else (stage_in slots) t (stage_of y) c n) j })
+        ∙ sym (put_else s.cells t (staged (f (stage_in slots t)) (s.cells t)) c n))
+
+    -- the state after a slot's stage changes
+    pub state_changed : (f : CellStage → CellStage) → stage_of y ≡ f (stage_of x) → state_in births made owners
+        (set slots t y) others cleared ≡ restage s t f
+    state_changed f e = λ j. record
+        { count = s.count; cells = λ c. cell_changed f e c j; others = others; cleared = cleared }
+
+-- a slot that was put back
+pub set_same : (slots : List Slot) (t : ℕ) (x y : Slot) → x ≡ get_or slots t x → y ≡ x → set slots t y ≡ slots
+set_same slots t x y is e = ap (set slots t) (e ∙ is) ∙ set-get_or slots t x
+
+-- a list with one element more, read at any place
+pub at_snoc : {A : Type 0} (l : List A) (a d : A) (j : ℕ) → get_or (l ++ a ∷ []) j d ≡ put (λ k. get_or l k d)
+    (length l) a j
+at_snoc [] a d zero = refl
+at_snoc [] a d (suc j) = sym (put_else (λ k. d) 0 a (suc j) (λ e. omega arith))
+at_snoc (x ∷ l) a d zero = sym (put_else (λ k. get_or (x ∷ l) k d) (suc (length l)) a 0 (λ e. omega arith))
+at_snoc (x ∷ l) a d (suc j) = at_snoc l a d j ∙ dite (ℕ_discrete j (length l))
+    (λ e. subst (λ i. put (λ k. get_or l k d) (length l) a i ≡ put (λ k. get_or (x ∷ l) k d) (suc (length l)) a (suc i))
+    (sym e) (put_here (λ k. get_or l k d) (length l) a ∙ sym (put_here (λ k. get_or (x ∷ l) k d) (suc (length l)) a)))
+    (λ n. put_else (λ k. get_or l k d) (length l) a j n ∙ sym
+    (put_else (λ k. get_or (x ∷ l) k d) (suc (length l)) a (suc j) (λ e. n (omega arith))))
+
+-- the state after the owner of a cell changes
+pub owner_changed : (births : List Birth) (made : List ℕ) (owners : List (Option ℕ)) (slots : List Slot)
+    (others cleared p : ℕ) (o : Option ℕ) → p < length owners
+    → state_in births made (set owners p o) slots others cleared ≡ alter
+    (state_in births made owners slots others cleared) p (owned_by o)
+owner_changed births made owners slots others cleared p o h = λ j. record
+    { count = suc (length births); cells = λ c. cell c j; others = others; cleared = cleared }
+  where
+    cell : (c : ℕ) → cell_in births made (set owners p o) slots c
+        ≡ (alter (state_in births made owners slots others cleared) p (owned_by o)).cells c
+    cell c = let s : CoreState = state_in births made owners slots others cleared in dite (ℕ_discrete c p)
+        (λ q. subst (λ i. cell_in births made (set owners p o) slots i ≡ (alter s p (owned_by o)).cells i) (sym q)
+        ((λ j. record (s.cells p) { owner = (at_set owners p o None h p ∙ put_here (λ k. get_or owners k None) p o) j })
+        ∙ sym (put_here s.cells p (owned_by o (s.cells p)))))
+        (λ n. (λ j. record (s.cells c)
+        { owner = (at_set owners p o None h c ∙ put_else (λ k. get_or owners k None) p o c n) j }) ∙ sym
+        (put_else s.cells p (owned_by o (s.cells p)) c n))
