@@ -27,8 +27,8 @@ use Rattle.tj_body.specs.declared.point.Task.{Task}
 use Rattle.tj_body.specs.declared.point.Point.{Point}
 use Rattle.tj_body.proofs.Lists.{in_either, in_right, in_flat_map, from_flat_map, in_map}
 use Rattle.tj_body.proofs.Turns.{is_turn}
-use Rattle.tj_body.proofs.Rises.{in_entries}
-use Rattle.tj_body.proofs.Keeps.{forked}
+use Rattle.tj_body.proofs.Rounds.Rises.{in_entries}
+use Rattle.tj_body.proofs.Rounds.Keeps.{forked}
 
 -- what is said of each reference
 module _ (Named : Sort → Name → Type 0) where

@@ -23,8 +23,8 @@ use Rattle.tj_body.proofs.Accounts.{numbered, fair}
 use Rattle.tj_body.proofs.Grows.{extends, takes, reads}
 use Rattle.tj_body.proofs.Good.{good, task_proper}
 use Rattle.tj_body.proofs.Points.{asks_on, point_up}
-use Rattle.tj_body.proofs.Rises.{within, tasks_within, entry_cell}
-use Rattle.tj_body.proofs.Keeps.{reads_later, task_cell, written, promised, forked}
+use Rattle.tj_body.proofs.Rounds.Rises.{within, tasks_within, entry_cell}
+use Rattle.tj_body.proofs.Rounds.Keeps.{reads_later, task_cell, written, promised, forked}
 use Rattle.tj_body.proofs.References.{has_named}
 
 -- the things made are those with the numbers 1 to made

@@ -15,7 +15,7 @@ use Rattle.tj_body.specs.declared.table.Row.TheVariants as row
 use Rattle.tj_body.specs.declared.table.TableBody.{TableBody}
 use Rattle.tj_body.specs.Table.{is_row, row_ask, rows_of, row_or_end, ask_at, table_asks, table_then, asks_given}
 use Rattle.tj_body.specs.Table.{asks_of_rows}
-use Rattle.tj_body.specs.TableLaws.{IsUnderWay, RowAt}
+use Rattle.tj_body.specs.Inner.TableLaws.{IsUnderWay, RowAt}
 
 -- the body some rows further, whose task has n places
 abbrev further : TableBody → ℕ → ℕ → TableBody

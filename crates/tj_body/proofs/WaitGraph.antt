@@ -28,12 +28,12 @@ use Rattle.tj_body.specs.declared.point.Point.{Point}
 use Rattle.tj_body.proofs.Lists.{sub_length, sub_self, flat_map_sub, in_flat_map, in_map, to_map}
 use Rattle.tj_body.proofs.Counts.{is, times, total, total_some, total_flat_map, times_of_in, in_of_times, same_is}
 use Rattle.tj_body.proofs.Counts.{same_self, entry_of_wrote, fewer, at_least, times_of_distinct}
-use Rattle.tj_body.proofs.Families.{uses, beyond, used_exactly, same_name}
-use Rattle.tj_body.proofs.Rises.{family_sub, tasks_within, of_entries, one_of_all, owners_apart}
-use Rattle.tj_body.proofs.Settles.{within_self, at_most_limit, last_given, last_tasks, last_cell}
+use Rattle.tj_body.proofs.Rounds.Families.{uses, beyond, used_exactly, same_name}
+use Rattle.tj_body.proofs.Rounds.Rises.{family_sub, tasks_within, of_entries, one_of_all, owners_apart}
+use Rattle.tj_body.proofs.Rounds.Settles.{within_self, at_most_limit, last_given, last_tasks, last_cell}
 use Rattle.tj_body.proofs.References.{WaitsNamed, waits_named}
 use Rattle.tj_body.proofs.RoundPoints.{name_in_rounds, things_in_rounds}
-use Rattle.tj_body.proofs.InOrder.{cell_in, stops, no_entry}
+use Rattle.tj_body.proofs.Rounds.InOrder.{cell_in, stops, no_entry}
 
 module _ {B : Type 0} (rules : Rules B) (V : Assignment) (q : Name) where
   abbrev family_of : ℕ → Task B → List (Task B)

@@ -9,6 +9,6 @@ pub mod NameLaws
 pub mod RoundPoints
 pub mod Turns
 pub mod Table
-pub mod TableLaws
 pub mod NeverWaits
 pub mod WaitGraph
+pub mod Inner

@@ -181,7 +181,7 @@ fn copy_places(alloc: Global, places: &PlaceList) -> Result<PlaceList, Oom>
 
 impl<'s> Body for TableBody<'s> {
     ghost use Rattle.tj_body.specs.Table.{table_places, table_awaits, table_left, table_asks, table_then};
-    ghost use Rattle.tj_body.specs.TableLaws.{table_obeys};
+    ghost use Rattle.tj_body.specs.Inner.TableLaws.{table_obeys};
 
     ghost places = { table_places };
 

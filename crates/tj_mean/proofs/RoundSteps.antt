@@ -14,8 +14,8 @@ use Rattle.tj_body.specs.declared.point.Entry.{Entry}
 use Rattle.tj_body.specs.declared.point.Task.{Task}
 use Rattle.tj_body.specs.declared.point.Point.{Point}
 use Rattle.tj_body.proofs.Lists.{in_right}
-use Rattle.tj_body.proofs.Sizes.{counts_in_round, counts_made}
-use Rattle.tj_body.proofs.Settles.{full_somewhere}
+use Rattle.tj_body.proofs.Rounds.Sizes.{counts_in_round, counts_made}
+use Rattle.tj_body.proofs.Rounds.Settles.{full_somewhere}
 use Rattle.tj_mean.specs.Exceeds.{ExceedsAtPoint}
 use Rattle.tj_mean.specs.KeptRounds.{offspring, still, IsRound}
 use Rattle.tj_mean.specs.Outcomes.{stopped_of}

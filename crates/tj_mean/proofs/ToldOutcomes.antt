@@ -20,8 +20,8 @@ use Rattle.tj_body.specs.declared.point.PointStage.TheVariants as stage
 use Rattle.tj_body.specs.declared.point.Close.TheVariants as close
 use Rattle.tj_body.proofs.Counts.{is, times, total_append, distinct_of_times}
 use Rattle.tj_body.proofs.Lists.{in_map}
-use Rattle.tj_body.proofs.Families.{same_name}
-use Rattle.tj_body.proofs.Rises.{once_name, owners_apart}
+use Rattle.tj_body.proofs.Rounds.Families.{same_name}
+use Rattle.tj_body.proofs.Rounds.Rises.{once_name, owners_apart}
 use Rattle.tj_mean.specs.Outcomes.{ending_of, stopped_of, AreTold, owned_by, Waits, Leads, IsCycle}
 use Rattle.tj_mean.specs.Outcomes.{AreApart, IsOutcomeOf, IsOutcome, shown_of}
 use Rattle.tj_mean.specs.Places.{waited}

@@ -1,6 +1,6 @@
 use Rattle.tj_body.specs.Programs.{program_of}
 use Rattle.tj_body.specs.Rounds.{last_round}
-use Rattle.tj_body.proofs.Settles.{full_somewhere}
+use Rattle.tj_body.proofs.Rounds.Settles.{full_somewhere}
 use Rattle.tj_body.proofs.laws.full_exactly.Goals as goal
 
 pub returns : goal.returns

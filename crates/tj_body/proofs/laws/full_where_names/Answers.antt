@@ -1,5 +1,5 @@
 use Rattle.tj_body.specs.Programs.{program_of}
-use Rattle.tj_body.proofs.Settles.{full_where}
+use Rattle.tj_body.proofs.Rounds.Settles.{full_where}
 use Rattle.tj_body.proofs.laws.full_where_names.Goals as goal
 
 pub returns : goal.returns

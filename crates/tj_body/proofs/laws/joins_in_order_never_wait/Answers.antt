@@ -1,6 +1,6 @@
 use Rattle.tj_body.specs.NeverWaits.{JoinsInOrderEnd}
 use Rattle.tj_body.proofs.Proper.{of_lawful}
-use Rattle.tj_body.proofs.InOrder.{none_waits}
+use Rattle.tj_body.proofs.Rounds.InOrder.{none_waits}
 use Rattle.tj_body.proofs.laws.joins_in_order_never_wait.Goals as goal
 
 pub returns : goal.returns

@@ -1,5 +1,5 @@
 use Rattle.tj_body.specs.Programs.{program_of}
-use Rattle.tj_body.proofs.Settles.{is_last}
+use Rattle.tj_body.proofs.Rounds.Settles.{is_last}
 use Rattle.tj_body.proofs.laws.meaning_is_last.Goals as goal
 
 pub returns : goal.returns

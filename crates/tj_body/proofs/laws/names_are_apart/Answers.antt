@@ -1,5 +1,5 @@
 use Rattle.tj_body.specs.Programs.{program_of}
-use Rattle.tj_body.proofs.Rises.{one_of_all}
+use Rattle.tj_body.proofs.Rounds.Rises.{one_of_all}
 use Rattle.tj_body.proofs.laws.names_are_apart.Goals as goal
 
 pub returns : goal.returns

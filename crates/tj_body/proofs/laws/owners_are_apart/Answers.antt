@@ -1,5 +1,5 @@
 use Rattle.tj_body.specs.Programs.{program_of}
-use Rattle.tj_body.proofs.Rises.{owners_apart}
+use Rattle.tj_body.proofs.Rounds.Rises.{owners_apart}
 use Rattle.tj_body.proofs.laws.owners_are_apart.Goals as goal
 
 pub returns : goal.returns

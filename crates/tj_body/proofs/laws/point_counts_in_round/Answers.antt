@@ -1,6 +1,6 @@
 use Rattle.tj_body.specs.Laws.{CountsInRound}
 use Rattle.tj_body.proofs.Proper.{of_lawful}
-use Rattle.tj_body.proofs.Sizes.{counts_in_round}
+use Rattle.tj_body.proofs.Rounds.Sizes.{counts_in_round}
 use Rattle.tj_body.proofs.laws.point_counts_in_round.Goals as goal
 
 pub returns : goal.returns

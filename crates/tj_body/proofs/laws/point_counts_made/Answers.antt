@@ -1,6 +1,6 @@
 use Rattle.tj_body.specs.Laws.{CountsMade}
 use Rattle.tj_body.proofs.Proper.{of_lawful}
-use Rattle.tj_body.proofs.Sizes.{counts_made}
+use Rattle.tj_body.proofs.Rounds.Sizes.{counts_made}
 use Rattle.tj_body.proofs.laws.point_counts_made.Goals as goal
 
 pub returns : goal.returns

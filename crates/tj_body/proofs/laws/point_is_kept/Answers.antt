@@ -1,6 +1,6 @@
 use Rattle.tj_body.specs.Laws.{IsKept}
 use Rattle.tj_body.proofs.Proper.{of_lawful}
-use Rattle.tj_body.proofs.Keeps.{task_cell, written, promised, forked}
+use Rattle.tj_body.proofs.Rounds.Keeps.{task_cell, written, promised, forked}
 use Rattle.tj_body.proofs.laws.point_is_kept.Goals as goal
 
 pub returns : goal.returns

@@ -1,5 +1,5 @@
 use Rattle.tj_body.specs.Programs.{program_of}
-use Rattle.tj_body.proofs.Keeps.{reads_later}
+use Rattle.tj_body.proofs.Rounds.Keeps.{reads_later}
 use Rattle.tj_body.proofs.laws.point_reads_on.Goals as goal
 
 pub returns : goal.returns

@@ -1,6 +1,6 @@
 use Rattle.tj_body.specs.Laws.{RestsAtMeaning}
 use Rattle.tj_body.proofs.Proper.{of_lawful}
-use Rattle.tj_body.proofs.Rests.{rests}
+use Rattle.tj_body.proofs.Rounds.Rests.{rests}
 use Rattle.tj_body.proofs.laws.rest_is_meaning.Goals as goal
 
 pub returns : goal.returns

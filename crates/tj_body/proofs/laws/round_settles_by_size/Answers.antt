@@ -1,5 +1,5 @@
 use Rattle.tj_body.specs.Programs.{program_of}
-use Rattle.tj_body.proofs.Settles.{settles_by_size}
+use Rattle.tj_body.proofs.Rounds.Settles.{settles_by_size}
 use Rattle.tj_body.proofs.laws.round_settles_by_size.Goals as goal
 
 pub returns : goal.returns

@@ -1,5 +1,5 @@
 use Rattle.tj_body.specs.Programs.{program_of}
-use Rattle.tj_body.proofs.Rises.{grow}
+use Rattle.tj_body.proofs.Rounds.Rises.{grow}
 use Rattle.tj_body.proofs.laws.rounds_grow.Goals as goal
 
 pub returns : goal.returns

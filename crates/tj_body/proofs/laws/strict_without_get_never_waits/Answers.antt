@@ -1,6 +1,6 @@
 use Rattle.tj_body.specs.Programs.{program_of, strictly}
 use Rattle.tj_body.proofs.Proper.{root_proper}
-use Rattle.tj_body.proofs.WithoutGets.{never_waits}
+use Rattle.tj_body.proofs.Rounds.WithoutGets.{never_waits}
 use Rattle.tj_body.proofs.laws.strict_without_get_never_waits.Goals as goal
 
 pub returns : goal.returns

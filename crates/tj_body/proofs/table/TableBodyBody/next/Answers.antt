@@ -2,7 +2,7 @@ use Rattle.std.proofs.Common.{arith, ◌≡◌, ◌+◌, ◌<◌, ◌≤◌, len
 use Rattle.std.specs.Prelude.{IfOk}
 use Rattle.tj_body.specs.Asks.{new_places}
 use Rattle.tj_body.specs.Table.{rows_of, row_ask}
-use Rattle.tj_body.specs.TableLaws.{under_way, parts_of}
+use Rattle.tj_body.specs.Inner.TableLaws.{under_way, parts_of}
 use Rattle.tj_body.proofs.Rows.{row_ask-at, ask_at-past, is_row-at}
 use Rattle.tj_body.proofs.table.TableBodyBody.next.Goals as goal
 use Rattle.tj_body.proofs.table.TableBodyBody.next.Goals.{After-index-rows-at}

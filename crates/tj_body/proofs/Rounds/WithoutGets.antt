@@ -23,12 +23,12 @@ use Rattle.tj_body.specs.declared.point.Task.{Task}
 use Rattle.tj_body.specs.declared.point.Point.{Point}
 use Rattle.tj_body.proofs.Lists.{in_either, in_flat_map, from_flat_map, in_map, to_map}
 use Rattle.tj_body.proofs.Turns.{is_turn}
-use Rattle.tj_body.proofs.Families.{same_name}
+use Rattle.tj_body.proofs.Rounds.Families.{same_name}
 use Rattle.tj_body.proofs.Good.{good, task_proper}
-use Rattle.tj_body.proofs.Rises.{tasks_within}
-use Rattle.tj_body.proofs.Settles.{is_last}
+use Rattle.tj_body.proofs.Rounds.Rises.{tasks_within}
+use Rattle.tj_body.proofs.Rounds.Settles.{is_last}
 use Rattle.tj_body.proofs.References.{at_place, has_named}
-use Rattle.tj_body.proofs.InOrder.{none_waits}
+use Rattle.tj_body.proofs.Rounds.InOrder.{none_waits}
 
 before_so : (b : Bool) → (true && not b) ≡ false → b ≡ true
 before_so true e = refl

@@ -26,9 +26,9 @@ use Rattle.tj_body.proofs.Lists.{in_right, in_map}
 use Rattle.tj_body.proofs.Counts.{one_if, is, is_one, same_is, total, total_le, total_add, total_in}
 use Rattle.tj_body.proofs.Good.{task_proper}
 use Rattle.tj_body.proofs.Points.{stopped}
-use Rattle.tj_body.proofs.Rises.{tasks_within}
-use Rattle.tj_body.proofs.Settles.{is_last}
-use Rattle.tj_body.proofs.Keeps.{written}
+use Rattle.tj_body.proofs.Rounds.Rises.{tasks_within}
+use Rattle.tj_body.proofs.Rounds.Settles.{is_last}
+use Rattle.tj_body.proofs.Rounds.Keeps.{written}
 
 -- what a task with this name has written where it has ended: what became of its result
 abbrev TellsAt : PointStage → Name → List (Name × Entry) → Type 0

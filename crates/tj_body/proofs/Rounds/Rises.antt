@@ -17,7 +17,7 @@ use Rattle.tj_body.proofs.Counts.{is, is_one, total, total_in, total_one, total_
 use Rattle.tj_body.proofs.Counts.{times_map, times_of_in}
 use Rattle.tj_body.proofs.Counts.{wrote, in_of_times, at_most_one, distinct_of_times}
 use Rattle.tj_body.proofs.Prefixes.{begins}
-use Rattle.tj_body.proofs.Families.{uses, once_used, once_cell, used_cells, from_entry, to_entry}
+use Rattle.tj_body.proofs.Rounds.Families.{uses, once_used, once_cell, used_cells, from_entry, to_entry}
 
 -- a name is written as often as it stands among the names of the entries
 pub names_wrote : (q : Name) (l : List (Name × Entry)) → times q (map (λ (w : Name × Entry). w.0) l) ≡ wrote q l

@@ -17,8 +17,8 @@ use Rattle.tj_body.specs.declared.point.Task.{Task}
 use Rattle.tj_body.proofs.Lists.{sub_length, sub_whole, flat_map_still, in_map, to_map}
 use Rattle.tj_body.proofs.Counts.{is, times, times_map, entry_of_wrote, times_of_distinct, total_le}
 use Rattle.tj_body.proofs.Counts.{total_flat_map, fewer, at_least, wrote}
-use Rattle.tj_body.proofs.Rises.{names_wrote, wrote_of_in, family_sub, once_name, once_entry, in_entries, of_entries}
-use Rattle.tj_body.proofs.Rises.{written_cells, up, tasks_sub, entries_sub, within, tasks_within, cells_within}
+use Rattle.tj_body.proofs.Rounds.Rises.{names_wrote, wrote_of_in, family_sub, once_name, once_entry, in_entries, of_entries}
+use Rattle.tj_body.proofs.Rounds.Rises.{written_cells, up, tasks_sub, entries_sub, within, tasks_within, cells_within}
 
 abbrev task_names : {B : Type 0} → List (Task B) → List Name
 task_names l = map (λ t. t.name) l

@@ -18,9 +18,9 @@ use Rattle.tj_body.proofs.Grows.{GoesOn, from_start, waiting_stays, same_or_wait
 use Rattle.tj_body.proofs.Counts.{fewer, at_least}
 use Rattle.tj_body.proofs.Good.{task_proper}
 use Rattle.tj_body.proofs.Points.{point_up, stopped_stays, later_point, stays, halt}
-use Rattle.tj_body.proofs.Rises.{tasks_within, one_of_all, within, in_entries, once_name}
-use Rattle.tj_body.proofs.Settles.{last, last_task}
-use Rattle.tj_body.proofs.Keeps.{written, forked}
+use Rattle.tj_body.proofs.Rounds.Rises.{tasks_within, one_of_all, within, in_entries, once_name}
+use Rattle.tj_body.proofs.Rounds.Settles.{last, last_task}
+use Rattle.tj_body.proofs.Rounds.Keeps.{written, forked}
 
 module _ {B : Type 0} (program : Program B) (obeys : AreLawful program.rules)
     (proper : IsProper program.rules (root_task program.root)) where

@@ -13,7 +13,7 @@ use Rattle.tj_body.proofs.Lists.{in_begins, in_flat_map, from_flat_map}
 use Rattle.tj_body.proofs.Grows.{more}
 use Rattle.tj_body.proofs.Good.{task_proper}
 use Rattle.tj_body.proofs.Points.{reads_on, point_up, in_history}
-use Rattle.tj_body.proofs.Rises.{within, of_entries}
+use Rattle.tj_body.proofs.Rounds.Rises.{within, of_entries}
 
 module _ {B : Type 0} (rules : Rules B) where
   abbrev family_of : Assignment → ℕ → Task B → List (Task B)

@@ -22,8 +22,8 @@ use Rattle.tj_body.proofs.Accounts.{numbered, fair}
 use Rattle.tj_body.proofs.Grows.{from_start}
 use Rattle.tj_body.proofs.Good.{task_proper}
 use Rattle.tj_body.proofs.Points.{in_history}
-use Rattle.tj_body.proofs.Rises.{cells_within}
-use Rattle.tj_body.proofs.Keeps.{task_cell, promised, forked}
+use Rattle.tj_body.proofs.Rounds.Rises.{cells_within}
+use Rattle.tj_body.proofs.Rounds.Keeps.{task_cell, promised, forked}
 
 numbered_length : (x : Name) (m : ℕ) → length (numbered x m) ≡ m
 numbered_length x zero = refl
