@@ -1,5 +1,5 @@
 -- What holds of the tasks of a tree that forks build: their names, nodes and jumps.
-use Rattle.std.proofs.Common.{◌≡◌, ◌≢◌, ℕ, suc, zero, ◌+◌, ◌-◌, ◌<◌, Bool, true, false, cond, eqb, [], ◌∷◌, ◌++◌, length, refl, sym, ap, ◌∙◌, subst, inl, inr, arith, add-one}
+use Rattle.std.proofs.Common.{◌≡◌, ◌≢◌, ℕ, suc, zero, ◌+◌, ◌-◌, ◌<◌, Bool, true, false, cond, eqb, List, [], ◌∷◌, ◌++◌, length, refl, sym, ap, ◌∙◌, subst, inl, inr, arith, add-one}
 use Rattle.std.proofs.lemmas.Bool.{cases_eq, eqb-true}
 use Rattle.std.proofs.lemmas.Bool.Decides.{nat_tests}
 use Rattle.std.proofs.lemmas.List.{append_assoc, append-nil, length-append}
@@ -89,17 +89,25 @@ IsAbove there nodes names p jump =
 module _ (there : ℕ → Type 0) (nodes : ℕ → Node) (names : ℕ → Name) (p : ℕ)
     (near : IsJump there nodes names (nodes p) (names p))
     (far : IsJump there nodes names (nodes (nodes p).jump.0) (names (nodes p).jump.0)) (h : there p) where
+  abbrev rs : List ℕ
+  rs = ranks (nodes p).depth
+
+  whole : total rs ≡ (nodes p).depth
+  whole = total-ranks (nodes p).depth
+
+  first : total (tail rs) ≡ (nodes (nodes p).jump.0).depth
+  first = ap total (sym near.behind) ∙ total-ranks _
+
+  behind_both : ranks (nodes (nodes (nodes p).jump.0).jump.0).depth ≡ tail (tail rs)
+  behind_both = far.behind ∙ ap tail near.behind
+
+  second : total (tail (tail rs)) ≡ (nodes (nodes (nodes p).jump.0).jump.0).depth
+  second = ap total (sym behind_both) ∙ total-ranks _
+
   IsAbove-cases : (t : Bool) → eqb ((nodes p).depth - (nodes (nodes p).jump.0).depth)
       ((nodes (nodes p).jump.0).depth - (nodes (nodes (nodes p).jump.0).jump.0).depth) ≡ t
       → IsAbove there nodes names p (cond t (nodes (nodes p).jump.0).jump (record { 0 = p }))
   IsAbove-cases true e =
-      let rs = ranks (nodes p).depth in
-      let whole = total-ranks (nodes p).depth in
-      let first : total (tail rs) ≡ (nodes (nodes p).jump.0).depth = ap total (sym near.behind) ∙ total-ranks _ in
-      let behind_both : ranks (nodes (nodes (nodes p).jump.0).jump.0).depth ≡ tail (tail rs) = far.behind
-      ∙ ap tail near.behind in
-      let second : total (tail (tail rs)) ≡ (nodes (nodes (nodes p).jump.0).jump.0).depth = ap total
-      (sym behind_both) ∙ total-ranks _ in
       let long : (nodes p).depth - (nodes (nodes p).jump.0).depth ≡ (nodes (nodes p).jump.0).depth -
       (nodes (nodes (nodes p).jump.0).jump.0).depth = eqb-true _ _ e in
       let merged = tail-next_merged rs (rw (whole, first, second) long) in (
@@ -112,13 +120,6 @@ module _ (there : ℕ → Type 0) (nodes : ℕ → Node) (names : ℕ → Name) 
         ),
       )
   IsAbove-cases false e =
-      let rs = ranks (nodes p).depth in
-      let whole = total-ranks (nodes p).depth in
-      let first : total (tail rs) ≡ (nodes (nodes p).jump.0).depth = ap total (sym near.behind) ∙ total-ranks _ in
-      let behind_both : ranks (nodes (nodes (nodes p).jump.0).jump.0).depth ≡ tail (tail rs) = far.behind
-      ∙ ap tail near.behind in
-      let second : total (tail (tail rs)) ≡ (nodes (nodes (nodes p).jump.0).jump.0).depth = ap total
-      (sym behind_both) ∙ total-ranks _ in
       let uneven : (nodes p).depth - (nodes (nodes p).jump.0).depth ≢ (nodes (nodes p).jump.0).depth -
       (nodes (nodes (nodes p).jump.0).jump.0).depth = grind (arith, nat_tests, e) in
       let added = tail-next_added rs (rw (whole, first, second) uneven) in

@@ -5,6 +5,7 @@ use Rattle.std.proofs.lemmas.Bool.Decides.{nat_tests}
 use Rattle.std.proofs.lemmas.List.{length_push, length-set, get_or_push, get_or_append_left, get_or-set_same, get_or-set_other}
 use Rattle.std.proofs.lemmas.List.Sums.{sum_by-cons}
 use Rattle.tj_tree.specs.declared.node.Node.{Node}
+use Rattle.tj_tree.specs.declared.node.NodeId.{NodeId}
 use Rattle.tj_tree.specs.declared.tree.Entry.{Entry}
 use Rattle.tj_tree.specs.Forks.{Fork, Forks, HasTask, HasKid, IsHistory, task_count, kid_count, next_fork}
 use Rattle.tj_tree.specs.Nodes.{child_node, node_of}
@@ -98,23 +99,37 @@ forks_of-entries fs entries h =
     ap (forks_up_to entries) last ∙ forks_up_to-same entries fs h.in_turn (λ n d l. h.nodes n d (omega (arith, h.size)))
 
 -- an entry leads to others
-pub jump_inside : (fs : Forks) (entries : List Entry) (n : ℕ) → AreEntriesOf fs entries → n < length entries
-    → (node_of fs n).jump.0 < length entries
-jump_inside fs entries n h l =
-    let there = HasTask-below fs h.in_turn n (omega (arith, h.size)) in
-    let is = IsJump-of fs (IsHistory-in_turn fs h.in_turn) n there in
-    omega (arith, h.size, below-HasTask fs h.in_turn (node_of fs n).jump.0 is.jump_there)
+below-entries : (fs : Forks) (entries : List Entry) (n : ℕ) → AreEntriesOf fs entries → HasTask fs n
+    → n < length entries
+below-entries fs entries n h there = omega (arith, h.size, below-HasTask fs h.in_turn n there)
 
-pub parent_inside : (fs : Forks) (entries : List Entry) (n : ℕ) → AreEntriesOf fs entries → n < length entries
-    → (node_of fs n).parent.0 < length entries
-parent_inside fs entries n h l =
-    let there = HasTask-below fs h.in_turn n (omega (arith, h.size)) in
-    omega (
-      arith,
-      h.size,
-      below-HasTask fs h.in_turn (node_of fs n).parent.0
-          (parent_there fs (IsHistory-in_turn fs h.in_turn) n there),
-    )
+-- what holds of the node of a task holds of that of its entry
+entry_has : (P : Node → Type 0) (fs : Forks) (entries : List Entry) (n : ℕ) → AreEntriesOf fs entries
+    → n < length entries → (HasTask fs n → P (node_of fs n)) → P (get_or entries n root_entry).node
+entry_has P fs entries n h l of_node = subst P (sym (h.nodes n root_entry l))
+    (of_node (HasTask-below fs h.in_turn n (omega (arith, h.size))))
+
+-- its depth is at most its number, its parent and its jump are among the entries, and its jump is no deeper
+pub entry_shallow : (fs : Forks) (entries : List Entry) (n : ℕ) → AreEntriesOf fs entries → n < length entries
+    → (get_or entries n root_entry).node.depth ≤ n
+entry_shallow fs entries n h l = entry_has (λ node. node.depth ≤ n) fs entries n h l (depth_below fs h.in_turn n)
+
+pub entry_parent : (fs : Forks) (entries : List Entry) (n : ℕ) → AreEntriesOf fs entries → n < length entries
+    → (get_or entries n root_entry).node.parent.0 < length entries
+entry_parent fs entries n h l = entry_has (λ node. node.parent.0 < length entries) fs entries n h l
+    (λ there. below-entries fs entries (node_of fs n).parent.0 h
+    (parent_there fs (IsHistory-in_turn fs h.in_turn) n there))
+
+pub entry_jump : (fs : Forks) (entries : List Entry) (n : ℕ) → AreEntriesOf fs entries → n < length entries
+    → (get_or entries n root_entry).node.jump.0 < length entries
+entry_jump fs entries n h l = entry_has (λ node. node.jump.0 < length entries) fs entries n h l
+    (λ there. let is = IsJump-of fs (IsHistory-in_turn fs h.in_turn) n there in
+    below-entries fs entries (node_of fs n).jump.0 h is.jump_there)
+
+pub entry_up : (fs : Forks) (entries : List Entry) (n : ℕ) → AreEntriesOf fs entries → n < length entries
+    → (node_of fs (get_or entries n root_entry).node.jump.0).depth ≤ (get_or entries n root_entry).node.depth
+entry_up fs entries n h l = entry_has (λ node. (node_of fs node.jump.0).depth ≤ node.depth) fs entries n h l
+    (jump_up fs (IsHistory-in_turn fs h.in_turn) n)
 
 no_kids_yet : (fs : Forks) → AreInTurn fs → (n : ℕ) → task_count fs ≤ n → kid_count fs n ≡ 0
 no_kids_yet [] h n l = refl
@@ -195,18 +210,20 @@ pub entry_node : (fs : Forks) (entries : List Entry) (n : ℕ) (d : Entry) → M
     → node_of fs n ≡ (get_or entries n d).node
 entry_node fs entries n d may = sym (may.entries_of.nodes n d (entry_inside fs entries n may))
 
+-- an entry leads to what its node leads to, as the parent and the jump
+MayLook-to : (fs : Forks) (entries : List Entry) (n : ℕ) (d : Entry) (to : Node → NodeId) → MayLook fs entries n
+    → HasTask fs (to (node_of fs n)).0 → MayLook fs entries (to (get_or entries n d).node).0
+MayLook-to fs entries n d to may there = record {
+  entries_of = may.entries_of;
+  there = subst (λ (node : Node). HasTask fs (to node).0) (entry_node fs entries n d may) there;
+}
+
 pub MayLook-parent : (fs : Forks) (entries : List Entry) (n : ℕ) (d : Entry) → MayLook fs entries n
     → MayLook fs entries (get_or entries n d).node.parent.0
-MayLook-parent fs entries n d may = record {
-  entries_of = may.entries_of;
-  there = subst (λ (node : Node). HasTask fs node.parent.0) (entry_node fs entries n d may)
-      (parent_there fs (IsHistory-in_turn fs may.entries_of.in_turn) n may.there);
-}
+MayLook-parent fs entries n d may = MayLook-to fs entries n d (λ node. node.parent) may
+    (parent_there fs (IsHistory-in_turn fs may.entries_of.in_turn) n may.there)
 
 pub MayLook-jump : (fs : Forks) (entries : List Entry) (n : ℕ) (d : Entry) → MayLook fs entries n
     → MayLook fs entries (get_or entries n d).node.jump.0
-MayLook-jump fs entries n d may = record {
-  entries_of = may.entries_of;
-  there = subst (λ (node : Node). HasTask fs node.jump.0) (entry_node fs entries n d may)
-      (jump_there fs (IsHistory-in_turn fs may.entries_of.in_turn) n may.there);
-}
+MayLook-jump fs entries n d may = MayLook-to fs entries n d (λ node. node.jump) may
+    (jump_there fs (IsHistory-in_turn fs may.entries_of.in_turn) n may.there)

@@ -9,7 +9,6 @@ abbrev pub invariant-loop-x : goal.invariant-loop-x
 invariant-loop-x g l =
     let shows = g.R.NodeReader.shows in
     let may = g.R.NodeReader.may_look in
-    let looks = g.R.NodeReader.looks in
     record {
       tree : ArePartOfTree (shows l.reader);
       first : IsKnown (shows l.reader) (may l.reader) l.x;
@@ -22,7 +21,8 @@ invariant-loop-x g l =
           let floor = floor_of forks l.fn.a.task.0 l.fn.b.task.0 in
           l.steps + 2 * moves (ranks l.x.node.depth) (l.x.node.depth - floor) ≤ l.initial.steps + 2 * moves
           (ranks l.fn.a.node.depth) (l.fn.a.node.depth - floor));
-      counted : l.steps + looks l.initial.reader ≡ l.initial.steps + looks l.reader;
+      counted : l.steps + g.R.NodeReader.looks l.initial.reader
+          ≡ l.initial.steps + g.R.NodeReader.looks l.reader;
       goes_on : GoesOn (shows l.initial.reader) (may l.initial.reader) (shows l.reader) (may l.reader);
       stays : g.R.NodeReader.stays l.initial.reader l.reader;
     }
