@@ -9,7 +9,7 @@ use Rattle.tj_tree.specs.declared.node.NodeId.{NodeId}
 use Rattle.tj_tree.specs.declared.tree.Entry.{Entry}
 use Rattle.tj_tree.specs.Forks.{Fork, Forks, HasTask, HasKid, IsHistory, task_count, kid_count, next_fork}
 use Rattle.tj_tree.specs.Nodes.{child_node, node_of}
-use Rattle.tj_tree.specs.Tree.{AreInTurn, AreEntriesOf, MayLook, forks_up_to, forks_of, root_entry}
+use Rattle.tj_tree.specs.Inner.Tree.{AreInTurn, AreEntriesOf, MayLook, forks_up_to, forks_of, root_entry}
 use Rattle.tj_tree.proofs.Skew.{jump_up_to}
 use Rattle.tj_tree.proofs.Trees.{node_of-older, node_of-child, IsJump-of, parent_there}
 

@@ -1,10 +1,6 @@
--- Walks up a tree by looks at its nodes.
-use Rattle.std.specs.Prelude.{ℕ, ◌≡◌, ◌++◌, Bool, if◌then◌else◌}
-use Rattle.tj_base.specs.ForkOrder.{Name}
+-- What stays over looks at the nodes of a tree.
+use Rattle.std.specs.Prelude.{ℕ}
 use Rattle.tj_tree.specs.declared.node.Node.{Node}
-use Rattle.tj_tree.specs.declared.node.NodeId.{NodeId}
-use Rattle.tj_tree.specs.declared.node.Place.{Place}
-use Rattle.tj_tree.specs.Forks.{Forks, HasTask, name_of}
 use Rattle.tj_tree.specs.Nodes.{ArePartOfTree}
 
 -- what was shown and what might be looked at still is, and the nodes shown are still part of a tree
@@ -13,19 +9,3 @@ pub record GoesOn (shown : ℕ → Node → Type 0) (may : ℕ → Type 0) (show
   pub kept : (n : ℕ) (node : Node) → shown n node → shown' n node
   pub still_may : (n : ℕ) → may n → may' n
   pub tree : ArePartOfTree shown → ArePartOfTree shown'
-
--- the place's node is shown, and its parent and its jump may be looked at
-pub record IsKnown (shown : ℕ → Node → Type 0) (may : ℕ → Type 0) (place : Place) : Type 0 where
-  pub here : shown place.task.0 place.node
-  pub parent : may place.node.parent.0
-  pub jump : may place.node.jump.0
-
--- the task top is n or an ancestor of n
-pub record IsAtOrAbove (forks : Forks) (top n : ℕ) : Type 0 where
-  pub there : HasTask forks top
-  pub rest : Name
-  pub goes_on : name_of forks n ≡ name_of forks top ++ rest
-
--- where a move from a node leads: by its jump, or to its parent
-abbrev pub move_from : Node → Bool → NodeId
-move_from node by_jump = if by_jump then node.jump else node.parent

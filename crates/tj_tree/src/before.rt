@@ -6,7 +6,8 @@
 ghost use Rattle.std.specs.Prelude.{ℕ, ◌≡◌, ◌≢◌, ◌+◌, ◌*◌, ◌^◌, ◌<◌, ◌≤◌, ◌↔◌, max, nat_le, IsTrue};
 ghost use Rattle.tj_tree.specs.Forks.{order_of, IsEarlier};
 ghost use Rattle.tj_tree.specs.Nodes.{node_of, ArePartOfTree, InEachTree};
-ghost use Rattle.tj_tree.specs.Walk.{GoesOn, IsKnown, IsAtOrAbove, move_from};
+ghost use Rattle.tj_tree.specs.Walk.{GoesOn};
+ghost use Rattle.tj_tree.specs.Inner.Moves.{IsKnown, IsAtOrAbove, move_from};
 
 use crate::node::{NodeId, Place};
 use crate::reader::NodeReader;

@@ -2,7 +2,7 @@
 //! gaps.
 ghost use Rattle.std.specs.Prelude.{◌≡◌, ◌<◌};
 ghost use Rattle.tj_tree.specs.Forks.{HasTask, IsHistory, task_count};
-ghost use Rattle.tj_tree.specs.Gapped.{gapped};
+ghost use Rattle.tj_tree.specs.Inner.Gapped.{gapped};
 
 use super::*;
 use std::alloc::Global;
@@ -216,7 +216,7 @@ impl<C: Ledger> NodeReader for GappedReader<C> {
     ghost use Rattle.std.specs.Prelude.{◌≡◌};
     ghost use Rattle.tj_tree.specs.Forks.{HasTask};
     ghost use Rattle.tj_tree.specs.Nodes.{node_of};
-    ghost use Rattle.tj_tree.specs.Gapped.{gapped};
+    ghost use Rattle.tj_tree.specs.Inner.Gapped.{gapped};
 
     ghost shows = { λ _ n node. HasTask gapped n × (node_of gapped n ≡ node) };
 

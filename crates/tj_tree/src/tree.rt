@@ -2,7 +2,7 @@
 ghost use Rattle.std.specs.Prelude.{ℕ, ◌≡◌, ◌+◌, ◌*◌, ◌^◌, ◌<◌, ◌≤◌, ◌↔◌, [], ◌∷◌, length, max, IfOk, OnOk, OnErr, IsTrue};
 ghost use Rattle.tj_tree.specs.Forks.{Forks, HasTask, IsHistory, IsEarlier, order_of, task_count, next_fork};
 ghost use Rattle.tj_tree.specs.Nodes.{child_node, node_of};
-ghost use Rattle.tj_tree.specs.Tree.{forks_of, AreEntriesOf};
+ghost use Rattle.tj_tree.specs.Inner.Tree.{forks_of, AreEntriesOf};
 
 use crate::before::before_in;
 use crate::node::{Node, NodeId};
@@ -27,7 +27,7 @@ pub(crate) struct Entry {
 
 impl Model for ForkTree {
     ghost use Rattle.tj_tree.specs.Forks.{Forks};
-    ghost use Rattle.tj_tree.specs.Tree.{forks_of, AreEntriesOf};
+    ghost use Rattle.tj_tree.specs.Inner.Tree.{forks_of, AreEntriesOf};
 
     ghost Value = { Forks };
 
@@ -122,7 +122,7 @@ impl<F: Forked, C: Ledger> NodeReader for TreeReader<'_, F, C> {
     ghost use Rattle.std.specs.Prelude.{◌≡◌};
     ghost use Rattle.tj_tree.specs.Forks.{HasTask};
     ghost use Rattle.tj_tree.specs.Nodes.{node_of};
-    ghost use Rattle.tj_tree.specs.Tree.{MayLook};
+    ghost use Rattle.tj_tree.specs.Inner.Tree.{MayLook};
 
     ghost shows = { λ _ n node. HasTask F.forks n × (node_of F.forks n ≡ node) };
 

@@ -1,7 +1,7 @@
 use Rattle.std.proofs.Common.{◌≡◌, ◌<◌, ◌+◌, ◌^◌, ◌∙◌, sym, ap, arith}
 use Rattle.tj_tree.specs.declared.node.NodeId.{NodeId}
 use Rattle.tj_tree.specs.Nodes.{node_of}
-use Rattle.tj_tree.specs.Walk.{IsAtOrAbove}
+use Rattle.tj_tree.specs.Inner.Moves.{IsAtOrAbove}
 use Rattle.tj_tree.proofs.Skew.{cost_of_parts}
 use Rattle.tj_tree.proofs.Walks.{above_trans}
 use Rattle.tj_tree.proofs.Readings.{GoesOn_trans, InEachTree_on, order-same, order-apart}

@@ -1,5 +1,5 @@
 use Rattle.std.proofs.Common.{◌-◌, arith}
-use Rattle.tj_tree.specs.Walk.{IsAtOrAbove}
+use Rattle.tj_tree.specs.Inner.Moves.{IsAtOrAbove}
 use Rattle.tj_tree.proofs.Skew.{moves-ranks}
 use Rattle.tj_tree.proofs.Walks.{above_trans}
 use Rattle.tj_tree.proofs.Readings.{GoesOn_trans, InEachTree_on, Raises-higher}

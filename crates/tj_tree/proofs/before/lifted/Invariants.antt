@@ -1,6 +1,7 @@
 use Rattle.std.proofs.Common.{◌≡◌, ◌+◌, ◌-◌, ◌*◌, ◌≤◌}
 use Rattle.tj_tree.specs.Nodes.{ArePartOfTree, InEachTree}
-use Rattle.tj_tree.specs.Walk.{GoesOn, IsKnown, IsAtOrAbove}
+use Rattle.tj_tree.specs.Walk.{GoesOn}
+use Rattle.tj_tree.specs.Inner.Moves.{IsKnown, IsAtOrAbove}
 use Rattle.tj_tree.proofs.Skew.{ranks, moves}
 use Rattle.tj_tree.proofs.before.lifted.Given as goal
 

@@ -1,6 +1,7 @@
 use Rattle.std.proofs.Common.{◌-◌, ◌∙◌, arith}
 use Rattle.tj_tree.specs.Nodes.{InEachTree}
-use Rattle.tj_tree.specs.Walk.{GoesOn, IsAtOrAbove}
+use Rattle.tj_tree.specs.Walk.{GoesOn}
+use Rattle.tj_tree.specs.Inner.Moves.{IsAtOrAbove}
 use Rattle.tj_tree.proofs.Skew.{moves-ranks}
 use Rattle.tj_tree.proofs.Walks.{above_trans, floor_of}
 use Rattle.tj_tree.proofs.Readings.{GoesOn_trans, IsKnown_on, InEachTree_on, RaisesBoth, RaisesBoth-up}

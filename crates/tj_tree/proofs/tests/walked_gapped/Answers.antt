@@ -1,6 +1,6 @@
 use Rattle.std.proofs.Common.{ℕ, ◌<◌, [], ◌∷◌, refl, inl, inr, arith}
 use Rattle.tj_tree.specs.Forks.{Fork, HasTask, HasKid, IsHistory}
-use Rattle.tj_tree.specs.Gapped.{gapped}
+use Rattle.tj_tree.specs.Inner.Gapped.{gapped}
 use Rattle.tj_tree.proofs.tests.walked_gapped.Goals as goal
 
 abbrev five : Fork

@@ -3,7 +3,7 @@ use Rattle.std.specs.Prelude.{◌↔◌, IsTrue}
 use Rattle.tj_tree.specs.declared.tree.Entry.{Entry}
 use Rattle.tj_tree.specs.Forks.{Forks, IsEarlier, order_of, task_count}
 use Rattle.tj_tree.specs.Nodes.{node_of}
-use Rattle.tj_tree.specs.Tree.{AreInTurn, AreEntriesOf, MayLook, forks_of}
+use Rattle.tj_tree.specs.Inner.Tree.{AreInTurn, AreEntriesOf, MayLook, forks_of}
 use Rattle.tj_tree.proofs.Turns.{HasTask-below, IsHistory-in_turn}
 use Rattle.tj_tree.proofs.tree.before_of.Goals as goal
 

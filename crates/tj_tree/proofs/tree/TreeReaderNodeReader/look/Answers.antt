@@ -1,4 +1,4 @@
-use Rattle.tj_tree.specs.Tree.{root_entry}
+use Rattle.tj_tree.specs.Inner.Tree.{root_entry}
 use Rattle.tj_tree.proofs.Turns.{entry_inside, entry_node, MayLook-parent, MayLook-jump}
 use Rattle.tj_tree.proofs.tree.TreeReaderNodeReader.look.Goals as goal
 
