@@ -227,7 +227,8 @@ module _ (tasks : List Stopped) (apart : AreApart tasks)
     ascend = a.ascend;
   }
 
-  all_snoc : (x : Name) (cs : List (List Link)) (d : List Link) → AllByRecursion (λ y. order x y ≡ Less) (map first_task cs)
+  all_snoc : (x : Name) (cs : List (List Link)) (d : List Link) → AllByRecursion (λ y. order x y ≡ Less)
+      (map first_task cs)
       → order x (first_task d) ≡ Less → AllByRecursion (λ y. order x y ≡ Less) (map first_task (cs ++ d ∷ []))
   all_snoc x [] d a h = (h, tt)
   all_snoc x (c ∷ cs) d a h = (a.0, all_snoc x cs d a.1 h)
@@ -241,7 +242,8 @@ module _ (tasks : List Stopped) (apart : AreApart tasks)
       (all_snoc (first_task c) cs d a.0 (h c (inl refl)), ascend_snoc cs d a.1 (λ e i. h e (inr i)))
 
   -- there is one from the next place
-  pub found_more : (cs : List (List Link)) (n : ℕ) (ps : List ℕ) (d : List Link) → Found tasks next cs n → IsLeastCycle next n ps
+  pub found_more : (cs : List (List Link)) (n : ℕ) (ps : List ℕ) (d : List Link) → Found tasks next cs n → IsLeastCycle
+      next n ps
       → d ≡ map (link_at tasks) ps → Found tasks next (cs ++ d ∷ []) (n + 1)
   found_more cs n ps d a k e = record {
     all = λ c. (

@@ -179,7 +179,8 @@ module _ (tasks : List Stopped) where
     places_at_most i j h k a = dite (dec_le i j) (λ l. l)
         (λ m. let e = names_ascend j i k h (omega arith) in absurd (after (order (name_at i) (name_at j)) refl a e))
       where
-        after : (o : Ordering) → order (name_at i) (name_at j) ≡ o → is_le o ≡ true → order (name_at j) (name_at i) ≡ Less
+        after : (o : Ordering) → order (name_at i) (name_at j) ≡ o → is_le o ≡ true → order (name_at j) (name_at i)
+            ≡ Less
             → ⊥
         after Less e h l = not_less (name_at i) (nat_list_cmp_total.trans (name_at i) (name_at j) (name_at i) e l)
         after Equal e h l =

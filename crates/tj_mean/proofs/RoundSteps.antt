@@ -146,7 +146,8 @@ module _ {B : Type 0} (program : Program B) (n : ℕ) where
 
       -- it is one of the round
       pub next_in : IsIn w.task tasks_of
-      next_in = subst (IsIn w.task) (sym next) (in_right w.task u.taken (w.task ∷ after (children_of program.rules V w.task))
+      next_in = subst (IsIn w.task) (sym next)
+          (in_right w.task u.taken (w.task ∷ after (children_of program.rules V w.task))
           (inl refl))
 
       -- what stands when it was taken

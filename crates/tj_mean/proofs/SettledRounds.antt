@@ -30,7 +30,8 @@ module _ {B : Type 0} (program : Program B) where
   kept_length W [] = refl
   kept_length W (x ∷ xs) = ap suc (kept_length W xs)
 
-  told_length : (n : ℕ) (r : Round) → IsRound program n r → length r.tasks.items ≡ length (kept (V n) (tasks program (suc n)))
+  told_length : (n : ℕ) (r : Round) → IsRound program n r → length r.tasks.items ≡ length
+      (kept (V n) (tasks program (suc n)))
   told_length n r is = sym (length-map r.tasks.items (λ s. Some s))
       ∙ ap (λ (l : List (Option Stopped)). length l) is.tasks_kept
 

@@ -117,18 +117,17 @@ pub told_wait : {B : Type 0} (p : Point B) (s : Stopped) (q : Name) (spare : Boo
 told_wait p s q spare w h = ap (λ (z : Stopped). z.line.ending) (sym (some_is (told_with p s (ending.Waits q)) s
     (sym (ap (λ st. option_map (told_with p s) (ending_of st)) w) ∙ h)))
 
--- what is told is one list
-pub same_told : (ss us : List Stopped) → map (λ s. Some s) ss ≡ map (λ s. Some s) us → ss ≡ us
-same_told [] [] e = refl
-same_told [] (u ∷ us) e = absurd (cc)
-same_told (s ∷ ss) [] e = absurd (cc)
-same_told (s ∷ ss) (u ∷ us) e =
-    let first = some_is s u (ap (λ l. get_or l 0 None) e) in
-    let rest = same_told ss us (ap (λ l. drop 1 l) e) in λ i. first i ∷ rest i
-
 -- something in place of what is told of a history that goes on
 abbrev nobody : Stopped
 nobody = record { line = record { name = []; prints = []; ending = ending.Waits []; owes = [] }; holds = [] }
+
+told_back : (ss : List Stopped) → map (λ o. unwrap_or o nobody) (map (λ s. Some s) ss) ≡ ss
+told_back [] = refl
+told_back (s ∷ ss) = ap (λ l. s ∷ l) (told_back ss)
+
+-- what is told is one list
+pub same_told : (ss us : List Stopped) → map (λ s. Some s) ss ≡ map (λ s. Some s) us → ss ≡ us
+same_told ss us e = sym (told_back ss) ∙ (ap (λ l. map (λ o. unwrap_or o nobody) l) e ∙ told_back us)
 
 module _ {B : Type 0} where
   -- what is told is told of one of the histories, and of each of them something is told

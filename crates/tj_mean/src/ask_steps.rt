@@ -71,7 +71,8 @@ fn end<B: Body>(alloc: Global, p: &mut Point<B>, close: Close, became: Entry) ->
 
 /// Adds that each of these cells is broken.
 fn break_all(alloc: Global, writes: &mut EntryList, owed: &[Name]) -> Result<(), Oom>
-    ensures { IfOk result (λ _. writes.new ≡ writes.old ++ map (history.with_entry Entry.Broken) owed.now) }
+    ensures { IfOk result (λ _. writes.new
+        ≡ writes.old ++ map (history.with_entry Entry.Broken) owed.now) }
 {
     for name in owed {
         writes.push((name.copy(alloc)?, Entry::Broken))?;
@@ -139,7 +140,8 @@ fn references_at<B: Body>(
 /// The names of the references with these places.
 fn names_at<B: Body>(alloc: Global, p: &Point<B>, places: &[u32]) -> Result<NameList, Oom>
     requires { AllByRecursion (λ k. k < length p.now.references) places.now }
-    ensures { IfOk result (λ names. names ≡ map (λ k. (history.reference p.now k).name) places.now) }
+    ensures { IfOk result (λ names. names
+        ≡ map (λ k. (history.reference p.now k).name) places.now) }
 {
     let references = p.references.items();
     let mut names = Vec::new(alloc);

@@ -118,13 +118,15 @@ pub fn history<B: Body>(
     cells: u32,
     room: u32,
 ) -> Result<Point<B>, PlanFault>
-    requires proper { let rules = rules_of B.places B.awaits B.left B.asks B.then strict in IsProper rules task }
+    requires proper { let rules = rules_of B.places B.awaits B.left B.asks B.then strict in
+        IsProper rules task }
     requires some_room { 0 < room }
     ensures ok { let rules = rules_of B.places B.awaits B.left B.asks B.then strict in
         IfOk result (λ p. p ≡ history.history rules (assignment_in given.now) task) }
     ensures stopped { IfOk result (λ p. IsSome (ending_of p.stage)) }
     ensures fits { IfOk result (λ p. length p.promises < room) }
-    ensures full { let rules = rules_of B.places B.awaits B.left B.asks B.then strict in let V = assignment_in given.now in
+    ensures full { let rules = rules_of B.places B.awaits B.left B.asks B.then strict in
+        let V = assignment_in given.now in
         IfErr result (λ e. e ≡ PlanFault.Full → ExceedsAtPoint rules V task cells room) }
 {
     let mut p = start(alloc, task)?;

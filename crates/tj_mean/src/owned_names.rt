@@ -8,7 +8,8 @@ use tj_base::{Items, Name, NameList, Oom, name_cmp};
 
 /// Where the name stands first.
 pub fn place_of(names: &[Name], q: &Name) -> Option<usize>
-    ensures none { MatchOption result (has q.now names.now ≡ false) (λ i. has q.now names.now ≡ true) }
+    ensures none { MatchOption result (has q.now names.now ≡ false)
+        (λ i. has q.now names.now ≡ true) }
     ensures some { MatchOption result (without q.now names.now ≡ names.now)
         (λ i. remove names.now i ≡ without q.now names.now) }
     ensures within { MatchOption result (has q.now names.now ≡ false) (λ i. i < length names.now) }

@@ -90,8 +90,10 @@ fn cycle_from(
 ) -> Result<Option<Vec<usize>>, Oom>
     requires first { first < length next.now }
     requires places { (i j : ℕ) → Next next.now i j → j < length next.now }
-    ensures some { IfOk result (λ found. IfSome found (λ places. IsLeastCycle next.now first places.items)) }
-    ensures none { IfOk result (λ found. IsNone found → (places : List ℕ) → ¬ IsLeastCycle next.now first places) }
+    ensures some { IfOk result (λ found. IfSome found (λ places.
+        IsLeastCycle next.now first places.items)) }
+    ensures none { IfOk result (λ found. IsNone found
+        → (places : List ℕ) → ¬ IsLeastCycle next.now first places) }
 {
     let mut places = Vec::new(alloc);
     let mut at = first;

@@ -1,7 +1,9 @@
 use Rattle.std.proofs.Common.{◌≡◌, ◌<◌, ◌≤◌, suc, length, sym, ap, subst, ◌∙◌, inl, inr}
-use Rattle.tj_body.specs.Points.{IsGood}
-use Rattle.tj_body.specs.Programs.{rules_of}
-use Rattle.tj_body.specs.History.{after_step}
+use Rattle.tj_body.specs.Points.{IsGood, IsPointOf, IsProper}
+use Rattle.tj_body.specs.Programs.{AreLawful, Rules, rules_of}
+use Rattle.tj_body.specs.History.{Assignment, after_step}
+use Rattle.tj_body.specs.declared.point.Point.{Point}
+use Rattle.tj_body.specs.declared.point.Task.{Task}
 use Rattle.tj_body.proofs.Good.{good}
 use Rattle.tj_body.proofs.Points.{halt}
 use Rattle.tj_mean.specs.Assignments.{assignment_in}
@@ -9,21 +11,20 @@ use Rattle.tj_mean.proofs.history_steps.history.Goals as goal
 use Rattle.tj_mean.proofs.history_steps.history.Goals.{then-p-cells-via-then-p-cells}
 use Rattle.tj_mean.proofs.history_steps.history.Goals.{then-p-cells-via-else-p-cells+then-items-room}
 
+-- each point of a task as forks make them is one from which it can go on
+good_at : {B : Type 0} {rules : Rules B} {t : Task B} {p : Point B} → AreLawful rules → IsProper rules t
+    → (V : Assignment) → IsPointOf rules V t p → IsGood rules p
+good_at {rules = rules} {t = t} o proper V i = subst (IsGood rules) (sym i.1) (good rules o V t proper i.0)
+
 pub advance-requires-clause-good : goal.advance-requires-clause-good
 advance-requires-clause-good g c κs within =
-    let b = g.B.Body in let i = c.loop-p.invariant.point in
     let o = (g.met.B.Body g.world.𝓛 g.world.𝓜 g.world.𝓡 ((λ s x. x), (λ x. x), (λ x. x), λ x. x)).obeys in
-    let rules = rules_of b.places b.awaits b.left b.asks b.then c.args.strict in
-    let all = good rules o (assignment_in c.args.given.now) c.args.task c.requires.proper i.0 in
-    (subst (IsGood rules) (sym i.1) all).at_stage
+    (good_at o c.requires.proper (assignment_in c.args.given.now) c.loop-p.invariant.point).at_stage
 
 pub advance-requires-clause-made : goal.advance-requires-clause-made
 advance-requires-clause-made g c κs within =
-    let b = g.B.Body in let i = c.loop-p.invariant.point in
     let o = (g.met.B.Body g.world.𝓛 g.world.𝓜 g.world.𝓡 ((λ s x. x), (λ x. x), (λ x. x), λ x. x)).obeys in
-    let rules = rules_of b.places b.awaits b.left b.asks b.then c.args.strict in
-    let all = good rules o (assignment_in c.args.given.now) c.args.task c.requires.proper i.0 in
-    (subst (IsGood rules) (sym i.1) all).made
+    (good_at o c.requires.proper (assignment_in c.args.given.now) c.loop-p.invariant.point).made
 
 pub returns-then-not-branch-clause-ok : goal.returns-then-not-branch-clause-ok
 returns-then-not-branch-clause-ok g c =

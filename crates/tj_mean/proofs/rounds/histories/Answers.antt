@@ -62,19 +62,13 @@ returns-then-n-cells-clause-fits g c =
 
 pub returns-then-n-cells-clause-told : goal.returns-then-n-cells-clause-told
 returns-then-n-cells-clause-told g c =
-    let b = g.B.Body in
+    let b = g.B.Body in let i = c.loop-given.invariant in let r = c.in_ok-round in
     let program = program_of b.places b.awaits b.left b.asks b.then c.args.strict c.args.root.now in
-    let is = c.in_ok-round.ensures.ok in
-    let few = c.in_ok-round.ensures.few in
-    let i = c.loop-given.invariant in
     elim c.then-n-cells.branch [
-      | then-n-cells-via-then-n-cells w ↦
-          last_tells program c.args.cells c.in_ok-round.round
-          (subst (λ k. IsRound program k c.in_ok-round.round) w.if-n-cells.true is) few
-      | then-n-cells-via-else-n-cells+then-adds_none w ↦
-          let none = w.adds_none.ensures.0 w.if-adds_none.true in
-          settled_tells program c.args.cells c.loop-given.n c.in_ok-round.round
-          is i.few_rounds
-          (subst (λ k. length c.in_ok-round.round.tasks.items ≤ k) i.tasks_counted none.0)
-          (subst (λ k. length c.in_ok-round.round.entries.items ≤ k) i.entries_counted none.1)
+      | then-n-cells-via-then-n-cells w ↦ last_tells program c.args.cells r.round
+          (subst (λ k. IsRound program k r.round) w.if-n-cells.true r.ensures.ok) r.ensures.few
+      | then-n-cells-via-else-n-cells+then-adds_none w ↦ let none = w.adds_none.ensures.0 w.if-adds_none.true in
+          settled_tells program c.args.cells c.loop-given.n r.round r.ensures.ok i.few_rounds
+          (subst (λ k. length r.round.tasks.items ≤ k) i.tasks_counted none.0)
+          (subst (λ k. length r.round.entries.items ≤ k) i.entries_counted none.1)
     ]

@@ -10,7 +10,8 @@ invariant-loop-given g l = let b = g.B.Body in record {
   few_rounds : l.n ≤ 2 * l.cells;
   round : assignment_in l.given ≡ given (program_of b.places b.awaits b.left b.asks b.then l.strict l.root) l.n;
   tasks_counted : l.tasks ≡ length (tasks (program_of b.places b.awaits b.left b.asks b.then l.strict l.root) l.n);
-  entries_counted : l.entries ≡ length (entries (program_of b.places b.awaits b.left b.asks b.then l.strict l.root) l.n);
+  entries_counted : l.entries ≡ length
+      (entries (program_of b.places b.awaits b.left b.asks b.then l.strict l.root) l.n);
 }
 
 abbrev pub decreases-loop-given : goal.decreases-loop-given

@@ -20,7 +20,8 @@ returns c =
     outcome_in_order c.args.tasks.items sorted c.in_ok-tasks.ensures.same
     (record { lines = c.in_ok-lines.lines; cycles = c.in_ok-cycles.cycles })
     (record {
-      lines = subst (IsPermutation (map line sorted)) (sym c.in_ok-lines.ensures) (IsPermutation-refl (map line sorted));
+      lines = subst (IsPermutation (map line sorted)) (sym c.in_ok-lines.ensures)
+          (IsPermutation-refl (map line sorted));
       lines_in_order = subst (λ ls. Ascend (map (λ (l : TaskLine). l.name) ls)) (sym c.in_ok-lines.ensures)
           (subst Ascend (sym (map_map line (λ (l : TaskLine). l.name) sorted)) c.in_ok-tasks.ensures.ascend);
       cycles = subst (λ ss. AreCycles ss c.in_ok-cycles.cycles) c.as_slice.ensures.value c.in_ok-cycles.ensures;
