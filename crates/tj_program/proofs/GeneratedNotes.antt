@@ -16,7 +16,7 @@ use Rattle.tj_lex.proofs.Runs.{both, not-true}
 use Rattle.tj_syntax.specs.Trees.{Task}
 use Rattle.tj_syntax.specs.Marks.{Noted, Name, fine, declares}
 use Rattle.tj_syntax.specs.Listing.{CanStand}
-use Rattle.tj_syntax.proofs.ListingAgain.{IsFine, AreFine}
+use Rattle.tj_syntax.proofs.Listed.Again.{IsFine, AreFine}
 
 -- whether the bytes are a keyword
 abbrev is_key : List ℕ → Bool

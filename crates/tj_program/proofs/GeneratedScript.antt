@@ -9,8 +9,8 @@ use Rattle.tj_syntax.specs.Marks.{Noted}
 use Rattle.tj_syntax.specs.Grammar.{tasks_more, tasks_end}
 use Rattle.tj_syntax.specs.Faults.{tokens_of, AreUnbroken, AreForksRight, IsScript}
 use Rattle.tj_syntax.specs.Listing.{CanStand}
-use Rattle.tj_syntax.proofs.ListingAgain.{AreFine, fine-append}
-use Rattle.tj_syntax.proofs.ListingBack.{says_again}
+use Rattle.tj_syntax.proofs.Listed.Again.{AreFine, fine-append}
+use Rattle.tj_syntax.proofs.Listed.Back.{says_again}
 use Rattle.tj_program.specs.Generated.{IsGenerated, generated_script, main_task}
 use Rattle.tj_program.proofs.GeneratedText.{listed}
 use Rattle.tj_program.proofs.GeneratedShort.{short}

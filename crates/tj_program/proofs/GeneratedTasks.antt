@@ -15,7 +15,7 @@ use Rattle.tj_syntax.specs.Grammar.{own, value, arguments, arguments_more, argum
 use Rattle.tj_syntax.specs.Grammar.{new, fork, get, answer, result_of, let_new, assign, print, set_cell, return}
 use Rattle.tj_syntax.specs.Grammar.{no_params, params, params_more, params_end}
 use Rattle.tj_syntax.specs.Grammar.{braces, statements_end, statements_more, task}
-use Rattle.tj_syntax.proofs.ListingAgain.{IsFine, AreFine, fine-append, fine_mark}
+use Rattle.tj_syntax.proofs.Listed.Again.{IsFine, AreFine, fine-append, fine_mark}
 use Rattle.tj_syntax.specs.View.{statements_of}
 use Rattle.tj_program.specs.Generated.{main_vars, head_statements, step_statements}
 use Rattle.tj_program.specs.Generated.{steps_statements, tail_statements, main_task}

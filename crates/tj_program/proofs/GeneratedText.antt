@@ -10,7 +10,7 @@ use Rattle.tj_syntax.specs.Trees.{Statement}
 use Rattle.tj_syntax.specs.Listing as listing
 use Rattle.tj_syntax.specs.Listing.{Part, blanks, mark, text_of, line_end}
 use Rattle.tj_syntax.specs.Marks.{Name}
-use Rattle.tj_syntax.proofs.ListingViews.{text_append}
+use Rattle.tj_syntax.proofs.Listed.Views.{text_append}
 use Rattle.tj_gen.specs.Script.{step_lines, steps_lines, tail_lines, ended, script_text}
 use Rattle.tj_syntax.specs.View.{statements_of}
 use Rattle.tj_program.specs.Generated.{main_vars, head_statements, step_statements}

@@ -8,11 +8,11 @@ use Rattle.tj_syntax.specs.declared.fault.Breach.{Breach}
 use Rattle.tj_syntax.specs.declared.fault.Breach.TheVariants.{Twice, Many}
 use Rattle.tj_syntax.specs.Trees.{Given}
 use Rattle.tj_syntax.specs.Marks.{Name, place, most_vars}
-use Rattle.tj_syntax.specs.Input.{Input, expect, fresh, fresh_variable, breach_of}
-use Rattle.tj_syntax.specs.Reading.{given}
-use Rattle.tj_syntax.proofs.SoundSteps.{expected}
-use Rattle.tj_syntax.proofs.SoundRequest.{given_sound}
-use Rattle.tj_syntax.proofs.SoundStmt.{fresh_sound}
+use Rattle.tj_syntax.specs.Inner.Input.{Input, expect, fresh, fresh_variable, breach_of}
+use Rattle.tj_syntax.specs.Inner.Reading.{given}
+use Rattle.tj_syntax.proofs.Sound.Steps.{expected}
+use Rattle.tj_syntax.proofs.Sound.Request.{given_sound}
+use Rattle.tj_syntax.proofs.Sound.Stmt.{fresh_sound}
 
 free_at : (o : Option ℕ) (b : Bool) → ◌≡◌ {A = Option Breach} (cond (is_some o) (Some Twice) (cond b (Some Many)
     None)) None → (o ≡ None) × (b ≡ false)

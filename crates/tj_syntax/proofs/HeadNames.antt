@@ -4,9 +4,9 @@ use Rattle.std.proofs.Common.{arith, ◌++◌, suc, Bool, true, false, cond, is_
 use Rattle.std.proofs.lemmas.List.{map-append, length-map}
 use Rattle.tj_lex.specs.declared.token.Tok.{Tok}
 use Rattle.tj_syntax.specs.declared.heads.Head.{Head}
-use Rattle.tj_syntax.specs.Heads.{head_of}
-use Rattle.tj_syntax.specs.Input as spec
-use Rattle.tj_syntax.specs.Input.{names_of, breach_of, count_params, with_head}
+use Rattle.tj_syntax.specs.Inner.Heads.{head_of}
+use Rattle.tj_syntax.specs.Inner.Input as spec
+use Rattle.tj_syntax.specs.Inner.Input.{names_of, breach_of, count_params, with_head}
 use Rattle.tj_syntax.specs.Marks.{Name, place, most_tasks}
 use Rattle.tj_syntax.proofs.Indexes.{place-below}
 

@@ -1,7 +1,7 @@
 -- Heads are read from one token to the next.
 use Rattle.std.proofs.Common.{◌≡◌, ℕ, zero, suc, ◌+◌, ◌<◌, ◌≤◌, List, [], ◌∷◌, length, map, drop, refl, ap, ◌∙◌, arith}
 use Rattle.tj_lex.specs.declared.token.Token.{Token}
-use Rattle.tj_syntax.specs.Input.{Head, heads_from, with_front}
+use Rattle.tj_syntax.specs.Inner.Input.{Head, heads_from, with_front}
 
 pub heads_step : (found : List Head) (ts : List Token) (at : ℕ) → at < length ts
     → heads_from found (map (λ t. t.what) (drop at ts)) ≡ heads_from (with_front found (map (λ t. t.what) (drop at

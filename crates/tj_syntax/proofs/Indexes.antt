@@ -9,7 +9,7 @@ use Rattle.std.specs.Cmp.Lexicographic.{slice_cmp}
 use Rattle.std.proofs.lemmas.Slice.Eq.{bytes_eq-Decides}
 use Rattle.std.proofs.lemmas.Bool.{cases_Bool}
 use denote.Ref.{Bor}
-use Rattle.tj_syntax.specs.Index.{IsIndexed}
+use Rattle.tj_syntax.specs.Inner.Index.{IsIndexed}
 use Rattle.tj_syntax.specs.Marks.{place}
 
 -- the first of two answers, where it is one

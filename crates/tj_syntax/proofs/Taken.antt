@@ -9,7 +9,7 @@ use Rattle.tj_lex.specs.declared.token.Key.TheVariants as k
 use Rattle.tj_syntax.specs.declared.fault.Stop.{Stop}
 use Rattle.tj_syntax.specs.Marks.{Name, Note, forks, Noted}
 use Rattle.tj_syntax.specs.Faults.{tokens_of, IsUnbroken, AreUnbroken}
-use Rattle.tj_syntax.specs.Input.{Input, Outcome, Parser, and_then, next, Head, head_named, flaw_at, first_flaw}
+use Rattle.tj_syntax.specs.Inner.Input.{Input, Outcome, Parser, and_then, next, Head, head_named, flaw_at, first_flaw}
 
 -- ---- results
 

@@ -3,8 +3,8 @@ use Rattle.std.proofs.Common.{◌≡◌, Ok, refl}
 use Rattle.tj_lex.specs.declared.token.Mark.TheVariants as m
 use Rattle.tj_syntax.specs.Trees.{Task}
 use Rattle.tj_syntax.specs.Marks.{Name, most_levels}
-use Rattle.tj_syntax.specs.Input.{Input, expect}
-use Rattle.tj_syntax.specs.Reading.{params, block, task_behind}
+use Rattle.tj_syntax.specs.Inner.Input.{Input, expect}
+use Rattle.tj_syntax.specs.Inner.Reading.{params, block, task_behind}
 use Rattle.tj_syntax.proofs.Taken.{bind_ok, landed}
 
 pub task_name : (f : Name) (i j : Input) (t : Task) → task_behind f i ≡ Ok (t, j) → t.name ≡ f

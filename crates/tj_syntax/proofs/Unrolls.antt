@@ -2,8 +2,8 @@
 use Rattle.std.proofs.Common.{◌≡◌, ℕ, zero, suc, ◌-◌, Option, Some, None, refl, ap, arith}
 use Rattle.tj_lex.specs.declared.token.Tok.{Tok}
 use Rattle.tj_syntax.specs.Trees.{Expression, Statement}
-use Rattle.tj_syntax.specs.Input.{Input, Parser, first, refuse, open_level}
-use Rattle.tj_syntax.specs.Reading.{unary_by, unary, expression_over, block_by, block, statement_over}
+use Rattle.tj_syntax.specs.Inner.Input.{Input, Parser, first, refuse, open_level}
+use Rattle.tj_syntax.specs.Inner.Reading.{unary_by, unary, expression_over, block_by, block, statement_over}
 
 no_level : (inner grouped inner' grouped' : Parser Expression) (t : Option Tok) (i : Input) → unary_by inner grouped
     zero t i ≡ unary_by inner' grouped' zero t i

@@ -3,11 +3,6 @@ pub mod Marks
 pub mod Grammar
 pub mod Faults
 pub mod View
-pub mod Index
-pub mod Input
-pub mod Reading
-pub mod Heads
-pub mod State
 pub mod Back
 pub mod Listing
-pub mod Stops
+pub mod Inner

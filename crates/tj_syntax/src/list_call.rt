@@ -26,7 +26,7 @@ fn list_argument(text: &mut Vec<u8>, vars: &[Word], x: &Arg) -> Result<(), Oom>
 }
 
 /// Adds arguments behind others, with a comma before each.
-#[tactic(auto, using(crate::proofs::ListingViews::listing_steps))]
+#[tactic(auto, using(crate::proofs::Listed::Views::listing_steps))]
 fn list_more_arguments(text: &mut Vec<u8>, vars: &[Word], args: &[Arg]) -> Result<(), Oom>
     ensures { OnOk result (text.new.items
         ≡ text.old.items ++ text_of (listing.more_arguments vars.now
@@ -39,7 +39,7 @@ fn list_more_arguments(text: &mut Vec<u8>, vars: &[Word], args: &[Arg]) -> Resul
     Ok(())
 }
 
-#[tactic(auto, using(crate::proofs::ListingViews::listing_steps))]
+#[tactic(auto, using(crate::proofs::Listed::Views::listing_steps))]
 fn list_arguments(text: &mut Vec<u8>, vars: &[Word], args: &[Arg]) -> Result<(), Oom>
     ensures { OnOk result (text.new.items
         ≡ text.old.items ++ text_of (listing.arguments vars.now (map view.argument args.now))) }
@@ -79,7 +79,7 @@ fn list_or(text: &mut Vec<u8>, vars: &[Word], other: &Option<Expr>) -> Result<()
 }
 
 /// Adds the name of a task.
-#[tactic(auto, using(crate::proofs::ListingViews::listing_steps))]
+#[tactic(auto, using(crate::proofs::Listed::Views::listing_steps))]
 fn put_task(text: &mut Vec<u8>, tasks: &[Decl], f: u32) -> Result<(), Oom>
     ensures { OnOk result (text.new.items
         ≡ text.old.items ++ listing.part_text (listing.name (listing.names_of
@@ -91,7 +91,7 @@ fn put_task(text: &mut Vec<u8>, tasks: &[Decl], f: u32) -> Result<(), Oom>
     }
 }
 
-#[tactic(auto, using(crate::proofs::ListingViews::listing_steps))]
+#[tactic(auto, using(crate::proofs::Listed::Views::listing_steps))]
 pub(crate) fn list_request(
     text: &mut Vec<u8>,
     tasks: &[Decl],

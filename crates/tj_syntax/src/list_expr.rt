@@ -87,7 +87,7 @@ fn pairs_level(pairs: &[(Op, Expr)]) -> u32
 }
 
 /// How tightly an expression binds, from 0 for a comparison to 3.
-#[tactic(auto, using(crate::proofs::ListingViews::listing_steps))]
+#[tactic(auto, using(crate::proofs::Listed::Views::listing_steps))]
 fn level(x: &Expr) -> u32
     ensures { result ≡ listing.level (view.expression x.now) }
 {
@@ -100,7 +100,7 @@ fn level(x: &Expr) -> u32
 
 /// Adds an expression.
 #[cycle(expression)]
-#[tactic(auto, using(crate::proofs::ListingViews::listing_steps))]
+#[tactic(auto, using(crate::proofs::Listed::Views::listing_steps))]
 pub(crate) fn list_expression(text: &mut Vec<u8>, vars: &[Word], x: &Expr) -> Result<(), Oom>
     ensures { OnOk result (text.new.items
         ≡ text.old.items ++ text_of (listing.expression vars.now (view.expression x.now))) }
@@ -127,7 +127,7 @@ pub(crate) fn list_expression(text: &mut Vec<u8>, vars: &[Word], x: &Expr) -> Re
 
 /// Adds an operand where this level is needed.
 #[cycle(expression)]
-#[tactic(auto, using(crate::proofs::ListingViews::listing_steps))]
+#[tactic(auto, using(crate::proofs::Listed::Views::listing_steps))]
 fn list_operand(text: &mut Vec<u8>, vars: &[Word], need: u32, x: &Expr) -> Result<(), Oom>
     ensures { OnOk result (text.new.items
         ≡ text.old.items ++ text_of (listing.operand vars.now need (view.expression x.now))) }
@@ -143,7 +143,7 @@ fn list_operand(text: &mut Vec<u8>, vars: &[Word], need: u32, x: &Expr) -> Resul
 
 /// Adds the operators and operands of a chain behind its first operand.
 #[cycle(expression)]
-#[tactic(auto, using(crate::proofs::ListingViews::listing_steps))]
+#[tactic(auto, using(crate::proofs::Listed::Views::listing_steps))]
 fn list_pairs(text: &mut Vec<u8>, vars: &[Word], pairs: &[(Op, Expr)]) -> Result<(), Oom>
     ensures { OnOk result (text.new.items
         ≡ text.old.items ++ text_of (listing.pairs_parts vars.now (pairs_of

@@ -15,7 +15,7 @@ use tj_base::Oom;
 use tj_lex::Word;
 
 /// Adds a variable, and what it is given.
-#[tactic(auto, using(crate::proofs::ListingViews::listing_steps))]
+#[tactic(auto, using(crate::proofs::Listed::Views::listing_steps))]
 fn list_assignment(
     text: &mut Vec<u8>,
     tasks: &[Decl],
@@ -35,7 +35,7 @@ fn list_assignment(
 }
 
 /// Adds an expression and what stands behind it.
-#[tactic(auto, using(crate::proofs::ListingViews::listing_steps))]
+#[tactic(auto, using(crate::proofs::Listed::Views::listing_steps))]
 fn list_ended(text: &mut Vec<u8>, vars: &[Word], x: &Expr, end: &[u8]) -> Result<(), Oom>
     ensures { OnOk result (text.new.items ≡ text.old.items
         ++ (text_of (listing.expression vars.now (view.expression x.now)) ++ end.now)) }
@@ -55,7 +55,7 @@ fn deeper(alloc: Global, indent: &[u8]) -> Result<Vec<u8>, Oom>
 
 /// Adds a statement without its first line's indent and its last line's end.
 #[cycle(statement)]
-#[tactic(auto, using(crate::proofs::ListingViews::listing_steps))]
+#[tactic(auto, using(crate::proofs::Listed::Views::listing_steps))]
 fn list_statement(
     alloc: Global,
     text: &mut Vec<u8>,
@@ -108,7 +108,7 @@ fn list_statement(
 
 /// Adds a block, behind which the line goes on.
 #[cycle(statement)]
-#[tactic(auto, using(crate::proofs::ListingViews::listing_steps))]
+#[tactic(auto, using(crate::proofs::Listed::Views::listing_steps))]
 pub(crate) fn list_block(
     alloc: Global,
     text: &mut Vec<u8>,
@@ -130,7 +130,7 @@ pub(crate) fn list_block(
 
 /// Adds statements, each with its indent and the end of its line.
 #[cycle(statement)]
-#[tactic(auto, using(crate::proofs::ListingViews::listing_steps))]
+#[tactic(auto, using(crate::proofs::Listed::Views::listing_steps))]
 fn list_lines(
     alloc: Global,
     text: &mut Vec<u8>,
@@ -152,7 +152,7 @@ fn list_lines(
 }
 
 #[cycle(statement)]
-#[tactic(auto, using(crate::proofs::ListingViews::listing_steps))]
+#[tactic(auto, using(crate::proofs::Listed::Views::listing_steps))]
 fn list_else(
     alloc: Global,
     text: &mut Vec<u8>,

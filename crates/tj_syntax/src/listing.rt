@@ -18,7 +18,7 @@ use tj_base::Oom;
 use tj_lex::Word;
 
 /// Adds parameters behind others, with a comma before each.
-#[tactic(auto, using(crate::proofs::ListingViews::listing_steps))]
+#[tactic(auto, using(crate::proofs::Listed::Views::listing_steps))]
 fn list_more_params(text: &mut Vec<u8>, params: &[Word]) -> Result<(), Oom>
     ensures { OnOk result (text.new.items ≡ text.old.items ++ text_of
         (listing.more_params params.now)) }
@@ -30,7 +30,7 @@ fn list_more_params(text: &mut Vec<u8>, params: &[Word]) -> Result<(), Oom>
     Ok(())
 }
 
-#[tactic(auto, using(crate::proofs::ListingViews::listing_steps))]
+#[tactic(auto, using(crate::proofs::Listed::Views::listing_steps))]
 fn list_params(text: &mut Vec<u8>, params: &[Word]) -> Result<(), Oom>
     ensures { OnOk result (text.new.items ≡ text.old.items ++ text_of (listing.params params.now)) }
 {
@@ -56,7 +56,7 @@ fn params_of(task: &Decl) -> &[Word]
     }
 }
 
-#[tactic(auto, using(crate::proofs::ListingViews::listing_steps))]
+#[tactic(auto, using(crate::proofs::Listed::Views::listing_steps))]
 fn list_task(alloc: Global, text: &mut Vec<u8>, tasks: &[Decl], task: &Decl) -> Result<(), Oom>
     ensures { OnOk result (text.new.items ≡ text.old.items ++ text_of
         (listing.task (listing.names_of (map view.task tasks.now)) (view.task task.now))) }
@@ -70,7 +70,7 @@ fn list_task(alloc: Global, text: &mut Vec<u8>, tasks: &[Decl], task: &Decl) -> 
     put(text, b"\n")
 }
 
-#[tactic(auto, using(crate::proofs::ListingViews::listing_steps))]
+#[tactic(auto, using(crate::proofs::Listed::Views::listing_steps))]
 fn script_text(alloc: Global, script: &Script) -> Result<Vec<u8>, Oom>
     ensures { IfOk result (λ text. text.items ≡ listing.listing (view.script script.now)) }
 {

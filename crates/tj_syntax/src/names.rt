@@ -20,7 +20,7 @@ impl<'t> Model for Names<'t> {
 
     ghost Value = { List (List ℕ) };
 
-    ghost use Rattle.tj_syntax.specs.Index.{IsInStep};
+    ghost use Rattle.tj_syntax.specs.Inner.Index.{IsInStep};
 
     ghost view = { λ names. names.list.items };
 

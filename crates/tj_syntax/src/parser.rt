@@ -1,9 +1,9 @@
 //! What is left to read of a script, with what is known there, and the steps that every rule is
 //! made of. A step that fails leaves the token at which it failed as the next one.
 ghost use Rattle.std.specs.Prelude.{◌≡◌, ◌≢◌, ◌<◌, IfOk, Ok, None, length, option_copied};
-ghost use Rattle.tj_syntax.specs.State.{input_of};
-ghost use Rattle.tj_syntax.specs.Input as spec;
-ghost use Rattle.tj_syntax.specs.Input.{Reads};
+ghost use Rattle.tj_syntax.specs.Inner.State.{input_of};
+ghost use Rattle.tj_syntax.specs.Inner.Input as spec;
+ghost use Rattle.tj_syntax.specs.Inner.Input.{Reads};
 ghost use Rattle.tj_syntax.specs.Marks.{place};
 
 use crate::fault::{Breach, Stop};
@@ -81,7 +81,7 @@ impl<'t> Parser<'t> {
     }
 
     /// Takes this mark, if it comes next.
-    #[tactic(auto, unfolding(crate::specs::Input::eat))]
+    #[tactic(auto, unfolding(crate::specs::Inner::Input::eat))]
     pub(crate) fn eat(&mut self, mark: Mark) -> bool
         ensures { spec.eat mark (input_of self.old) ≡ Ok (result, input_of self.new) }
     {
@@ -93,7 +93,7 @@ impl<'t> Parser<'t> {
     }
 
     /// Takes this mark, which has to come next.
-    #[tactic(auto, unfolding(crate::specs::Input::expect))]
+    #[tactic(auto, unfolding(crate::specs::Inner::Input::expect))]
     pub(crate) fn expect(&mut self, mark: Mark) -> Result<(), Stop>
         ensures reads { Reads (λ _. tt) (spec.expect mark (input_of self.old))
             result (input_of self.new) }
@@ -107,7 +107,7 @@ impl<'t> Parser<'t> {
     }
 
     /// Takes a token that opens a level, where so many more may be opened.
-    #[tactic(auto, unfolding(crate::specs::Input::open_level))]
+    #[tactic(auto, unfolding(crate::specs::Inner::Input::open_level))]
     pub(crate) fn open(&mut self, room: u32) -> Result<(), Stop>
         ensures reads { Reads (λ _. tt) (spec.open_level room (input_of self.old))
             result (input_of self.new) }
@@ -122,7 +122,7 @@ impl<'t> Parser<'t> {
     }
 
     /// Takes a variable, which has to be known.
-    #[tactic(auto, unfolding(crate::specs::Input::known))]
+    #[tactic(auto, unfolding(crate::specs::Inner::Input::known))]
     pub(crate) fn known(&mut self, name: &Word) -> Result<u32, Stop>
         ensures reads { Reads (λ n. n) (spec.known name.now (input_of self.old))
             result (input_of self.new) }
@@ -137,7 +137,7 @@ impl<'t> Parser<'t> {
         }
     }
 
-    #[tactic(auto, unfolding(crate::specs::Input::variable))]
+    #[tactic(auto, unfolding(crate::specs::Inner::Input::variable))]
     pub(crate) fn variable(&mut self) -> Result<u32, Stop>
         ensures reads { Reads (λ n. n) (spec.variable (input_of self.old)) result (input_of self.new) }
         ensures no_memory { result ≢ Err Stop.Oom }
@@ -149,7 +149,7 @@ impl<'t> Parser<'t> {
     }
 
     /// Takes a name that is declared, where these are declared already and so many may be.
-    #[tactic(auto, unfolding(crate::specs::Input::fresh))]
+    #[tactic(auto, unfolding(crate::specs::Inner::Input::fresh))]
     pub(crate) fn fresh(&mut self, most: usize, earlier: &Names<'t>) -> Result<&'t Word, Stop>
         ensures reads { Reads (λ x. x.now) (spec.fresh most earlier.now (input_of self.old))
             result (input_of self.new) }
@@ -168,7 +168,7 @@ impl<'t> Parser<'t> {
     }
 
     /// Takes the name of a variable that is declared.
-    #[tactic(auto, unfolding(crate::specs::Input::fresh))]
+    #[tactic(auto, unfolding(crate::specs::Inner::Input::fresh))]
     pub(crate) fn fresh_variable(&mut self) -> Result<&'t Word, Stop>
         ensures reads { Reads (λ x. x.now) (spec.fresh_variable (input_of self.old))
             result (input_of self.new) }
@@ -197,7 +197,7 @@ impl<'t> Parser<'t> {
     }
 
     /// The number of a forked task. Keeps the fault of the fork, if it is the first.
-    #[tactic(auto, unfolding(crate::specs::Input::note_fork))]
+    #[tactic(auto, unfolding(crate::specs::Inner::Input::note_fork))]
     pub(crate) fn note_fork(&mut self, name: &Word, left: usize, count: usize) -> u32
         ensures { spec.note_fork name.now left count (input_of self.old)
             ≡ Ok (result, input_of self.new) }

@@ -1,11 +1,11 @@
 //! Reading asks: forks with their arguments, gets and joins.
 ghost use Rattle.std.specs.Prelude.{◌≡◌, ◌≢◌, map};
 ghost use Rattle.std.specs.Option.{option_map};
-ghost use Rattle.tj_syntax.specs.State.{input_of};
+ghost use Rattle.tj_syntax.specs.Inner.State.{input_of};
 ghost use Rattle.tj_syntax.specs.View as view;
-ghost use Rattle.tj_syntax.specs.Input as spec;
-ghost use Rattle.tj_syntax.specs.Input.{Reads};
-ghost use Rattle.tj_syntax.specs.Reading as reading;
+ghost use Rattle.tj_syntax.specs.Inner.Input as spec;
+ghost use Rattle.tj_syntax.specs.Inner.Input.{Reads};
+ghost use Rattle.tj_syntax.specs.Inner.Reading as reading;
 
 use crate::expr::{Expr, RefOf};
 use crate::fault::Stop;
@@ -15,7 +15,7 @@ use tj_lex::{Key, Mark, Tok, Word};
 
 impl<'t> Parser<'t> {
     /// An ask or an expression.
-    #[tactic(auto, unfolding(crate::specs::Reading::given))]
+    #[tactic(auto, unfolding(crate::specs::Inner::Reading::given))]
     pub(crate) fn given(&mut self, room: u32) -> Result<Rhs, Stop>
         ensures { Reads view.given (reading.given room (input_of self.old))
             result (input_of self.new) }
@@ -29,7 +29,7 @@ impl<'t> Parser<'t> {
     }
 
     /// An ask.
-    #[tactic(auto, unfolding(crate::specs::Reading::request))]
+    #[tactic(auto, unfolding(crate::specs::Inner::Reading::request))]
     pub(crate) fn request(&mut self, room: u32) -> Result<Call, Stop>
         ensures { Reads view.request (reading.request room (input_of self.old))
             result (input_of self.new) }
@@ -58,7 +58,7 @@ impl<'t> Parser<'t> {
     }
 
     /// A fork, behind its keyword.
-    #[tactic(auto, unfolding(crate::specs::Reading::fork))]
+    #[tactic(auto, unfolding(crate::specs::Inner::Reading::fork))]
     fn fork(&mut self, room: u32) -> Result<Call, Stop>
         ensures { Reads view.request (reading.fork room (input_of self.old))
             result (input_of self.new) }
@@ -72,7 +72,7 @@ impl<'t> Parser<'t> {
     }
 
     /// The name of a forked task, and how many tokens are left from it on.
-    #[tactic(auto, unfolding(crate::specs::Reading::forked))]
+    #[tactic(auto, unfolding(crate::specs::Inner::Reading::forked))]
     fn forked(&mut self) -> Result<(&'t Word, usize), Stop>
         ensures reads { Reads (λ f. (f.0.now, f.1)) (reading.forked (input_of self.old))
             result (input_of self.new) }
@@ -108,7 +108,7 @@ impl<'t> Parser<'t> {
     }
 
     /// A variable that is handed on, or an expression.
-    #[tactic(auto, unfolding(crate::specs::Reading::argument))]
+    #[tactic(auto, unfolding(crate::specs::Inner::Reading::argument))]
     fn argument(&mut self, room: u32) -> Result<Arg, Stop>
         ensures { Reads view.argument (reading.argument room (input_of self.old))
             result (input_of self.new) }
@@ -123,7 +123,7 @@ impl<'t> Parser<'t> {
     }
 
     /// The reference of a get or a join, with what is computed where the cell is broken.
-    #[tactic(auto, unfolding(crate::specs::Reading::asked))]
+    #[tactic(auto, unfolding(crate::specs::Inner::Reading::asked))]
     fn asked(&mut self, room: u32) -> Result<(RefOf, Option<Expr>), Stop>
         ensures { Reads (λ a. (a.0, option_map view.expression a.1))
             (reading.asked room (input_of self.old)) result (input_of self.new) }
@@ -134,7 +134,7 @@ impl<'t> Parser<'t> {
     }
 
     /// A variable or `me`.
-    #[tactic(auto, unfolding(crate::specs::Reading::reference))]
+    #[tactic(auto, unfolding(crate::specs::Inner::Reading::reference))]
     fn reference(&mut self) -> Result<RefOf, Stop>
         ensures reads { Reads (λ r. r) (reading.reference (input_of self.old))
             result (input_of self.new) }
@@ -151,7 +151,7 @@ impl<'t> Parser<'t> {
     }
 
     /// What is computed where the cell is broken, if anything is.
-    #[tactic(auto, unfolding(crate::specs::Reading::alternative))]
+    #[tactic(auto, unfolding(crate::specs::Inner::Reading::alternative))]
     fn alternative(&mut self, room: u32) -> Result<Option<Expr>, Stop>
         ensures { Reads (option_map view.expression)
             (reading.alternative room (input_of self.old)) result (input_of self.new) }

@@ -1,10 +1,10 @@
 //! Reading expressions, by the levels at which their operators bind.
 ghost use Rattle.std.specs.Prelude.{◌≡◌, ◌+◌, ◌*◌, ◌<◌, IfOk, IfSome, map, length, option_copied};
-ghost use Rattle.tj_syntax.specs.State.{input_of};
+ghost use Rattle.tj_syntax.specs.Inner.State.{input_of};
 ghost use Rattle.tj_syntax.specs.View.{expression, pair};
-ghost use Rattle.tj_syntax.specs.Input as spec;
-ghost use Rattle.tj_syntax.specs.Input.{Reads};
-ghost use Rattle.tj_syntax.specs.Reading as reading;
+ghost use Rattle.tj_syntax.specs.Inner.Input as spec;
+ghost use Rattle.tj_syntax.specs.Inner.Input.{Reads};
+ghost use Rattle.tj_syntax.specs.Inner.Reading as reading;
 ghost use Rattle.tj_syntax.specs.Grammar.{chain_of};
 ghost use Rattle.tj_syntax.specs.View.{pairs_of};
 ghost use Rattle.tj_syntax.specs.Trees as tree;
@@ -79,7 +79,7 @@ fn chained(alloc: Global, x: Expr, pairs: Vec<(Op, Expr)>) -> Result<Expr, Alloc
 impl<'t> Parser<'t> {
     /// A sum, or two sums with a comparison between them.
     #[cycle(expression)]
-    #[tactic(auto, unfolding(crate::specs::Reading::expression_over))]
+    #[tactic(auto, unfolding(crate::specs::Inner::Reading::expression_over))]
     pub(crate) fn expression(&mut self, room: u32) -> Result<Expr, Stop>
         ensures { Reads expression (reading.expression room (input_of self.old))
             result (input_of self.new) }
@@ -97,7 +97,7 @@ impl<'t> Parser<'t> {
 
     /// Operands with operators of a level between them.
     #[cycle(expression)]
-    #[tactic(auto, unfolding(crate::specs::Reading::chain))]
+    #[tactic(auto, unfolding(crate::specs::Inner::Reading::chain))]
     fn chain(&mut self, level: Level, room: u32) -> Result<Expr, Stop>
         ensures { Reads expression
             (reading.chain (reading.operand room level) level (input_of self.old))

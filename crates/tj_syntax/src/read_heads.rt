@@ -1,9 +1,9 @@
 //! Reading and finding the heads of tasks.
 ghost use Rattle.std.specs.Prelude.{◌≡◌, ◌≤◌, [], ◌<◌, IfOk, IfSome, OnOk, length, map};
 ghost use Rattle.std.specs.Option.{option_map};
-ghost use Rattle.tj_syntax.specs.Input as spec;
-ghost use Rattle.tj_syntax.specs.Heads.{head_of, heads_of};
-ghost use Rattle.tj_syntax.specs.Input.{names_of};
+ghost use Rattle.tj_syntax.specs.Inner.Input as spec;
+ghost use Rattle.tj_syntax.specs.Inner.Heads.{head_of, heads_of};
+ghost use Rattle.tj_syntax.specs.Inner.Input.{names_of};
 ghost use Rattle.tj_syntax.specs.Marks.{place};
 
 use crate::fault::{Breach, Stop};

@@ -5,7 +5,7 @@ ghost use Rattle.std.specs.List.{AllByRecursion};
 ghost use Rattle.tj_lex.specs.Tokens.{AreTokens};
 ghost use Rattle.tj_syntax.specs.Faults.{EndsInEnd, IsFirstFault, IsScript, kinds_of};
 ghost use Rattle.tj_syntax.specs.Listing.{CanStand, listing};
-ghost use Rattle.tj_syntax.specs.Stops.{AreLeft, IsFirstStop, fault_at};
+ghost use Rattle.tj_syntax.specs.Inner.Stops.{AreLeft, IsFirstStop, fault_at};
 ghost use Rattle.tj_syntax.specs.Trees.{Task};
 ghost use Rattle.tj_syntax.specs.View as view;
 

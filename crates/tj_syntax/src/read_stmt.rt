@@ -1,10 +1,10 @@
 //! Reading statements and blocks.
 ghost use Rattle.std.specs.Prelude.{◌≡◌, map};
 ghost use Rattle.std.specs.Option.{option_map};
-ghost use Rattle.tj_syntax.specs.State.{input_of};
+ghost use Rattle.tj_syntax.specs.Inner.State.{input_of};
 ghost use Rattle.tj_syntax.specs.View as view;
-ghost use Rattle.tj_syntax.specs.Input.{Reads};
-ghost use Rattle.tj_syntax.specs.Reading as reading;
+ghost use Rattle.tj_syntax.specs.Inner.Input.{Reads};
+ghost use Rattle.tj_syntax.specs.Inner.Reading as reading;
 
 use crate::expr::Expr;
 use crate::fault::Stop;
@@ -46,7 +46,7 @@ impl<'t> Parser<'t> {
     }
 
     #[cycle(block)]
-    #[tactic(auto, unfolding(crate::specs::Reading::statement_over))]
+    #[tactic(auto, unfolding(crate::specs::Inner::Reading::statement_over))]
     fn statement(&mut self, room: u32) -> Result<Stmt, Stop>
         ensures { Reads view.statement (reading.statement room (input_of self.old))
             result (input_of self.new) }
@@ -83,7 +83,7 @@ impl<'t> Parser<'t> {
 
     /// A conditional, behind `if`.
     #[cycle(block)]
-    #[tactic(auto, unfolding(crate::specs::Reading::choose))]
+    #[tactic(auto, unfolding(crate::specs::Inner::Reading::choose))]
     fn choose(&mut self, room: u32) -> Result<Stmt, Stop>
         ensures { Reads view.statement
             (reading.choose room (reading.block room) (input_of self.old))
@@ -96,7 +96,7 @@ impl<'t> Parser<'t> {
     }
 
     #[cycle(block)]
-    #[tactic(auto, unfolding(crate::specs::Reading::otherwise))]
+    #[tactic(auto, unfolding(crate::specs::Inner::Reading::otherwise))]
     fn otherwise(&mut self, room: u32) -> Result<Option<Block>, Stop>
         ensures { Reads (λ other. view.otherwise_of (option_map view.block other))
             (reading.otherwise (reading.block room) (input_of self.old))
@@ -113,7 +113,7 @@ impl<'t> Parser<'t> {
 
     /// A loop, behind `while`.
     #[cycle(block)]
-    #[tactic(auto, unfolding(crate::specs::Reading::repeat))]
+    #[tactic(auto, unfolding(crate::specs::Inner::Reading::repeat))]
     fn repeat(&mut self, room: u32) -> Result<Stmt, Stop>
         ensures { Reads view.statement
             (reading.repeat room (reading.block room) (input_of self.old))
@@ -125,7 +125,7 @@ impl<'t> Parser<'t> {
     }
 
     /// The declaration of a variable, behind `let`. It is known from behind the semicolon on.
-    #[tactic(auto, unfolding(crate::specs::Reading::let_new))]
+    #[tactic(auto, unfolding(crate::specs::Inner::Reading::let_new))]
     fn let_new(&mut self, room: u32) -> Result<Stmt, Stop>
         ensures { Reads view.statement (reading.let_new room (input_of self.old))
             result (input_of self.new) }
@@ -139,7 +139,7 @@ impl<'t> Parser<'t> {
         Ok(Stmt::Let(number, side))
     }
 
-    #[tactic(auto, unfolding(crate::specs::Reading::assign))]
+    #[tactic(auto, unfolding(crate::specs::Inner::Reading::assign))]
     fn assign(&mut self, room: u32) -> Result<Stmt, Stop>
         ensures { Reads view.statement (reading.assign room (input_of self.old))
             result (input_of self.new) }
@@ -152,7 +152,7 @@ impl<'t> Parser<'t> {
     }
 
     /// Behind `set`.
-    #[tactic(auto, unfolding(crate::specs::Reading::set_cell))]
+    #[tactic(auto, unfolding(crate::specs::Inner::Reading::set_cell))]
     fn set_cell(&mut self, room: u32) -> Result<Stmt, Stop>
         ensures { Reads view.statement (reading.set_cell room (input_of self.old))
             result (input_of self.new) }
@@ -165,7 +165,7 @@ impl<'t> Parser<'t> {
     }
 
     /// An expression and its semicolon.
-    #[tactic(auto, unfolding(crate::specs::Reading::ended))]
+    #[tactic(auto, unfolding(crate::specs::Inner::Reading::ended))]
     fn ended(&mut self, room: u32) -> Result<Expr, Stop>
         ensures { Reads view.expression (reading.ended room (input_of self.old))
             result (input_of self.new) }
@@ -175,7 +175,7 @@ impl<'t> Parser<'t> {
         Ok(value)
     }
 
-    #[tactic(auto, unfolding(crate::specs::Reading::ask))]
+    #[tactic(auto, unfolding(crate::specs::Inner::Reading::ask))]
     fn ask(&mut self, room: u32) -> Result<Stmt, Stop>
         ensures { Reads view.statement (reading.ask room (input_of self.old))
             result (input_of self.new) }

@@ -1,9 +1,9 @@
 //! Reading tasks, one behind the other.
 ghost use Rattle.std.specs.Prelude.{◌≡◌, ◌≢◌, map};
-ghost use Rattle.tj_syntax.specs.State.{input_of};
+ghost use Rattle.tj_syntax.specs.Inner.State.{input_of};
 ghost use Rattle.tj_syntax.specs.View as view;
-ghost use Rattle.tj_syntax.specs.Input.{Reads};
-ghost use Rattle.tj_syntax.specs.Reading as reading;
+ghost use Rattle.tj_syntax.specs.Inner.Input.{Reads};
+ghost use Rattle.tj_syntax.specs.Inner.Reading as reading;
 
 use crate::fault::Stop;
 use crate::heads::MAX_TASKS;
@@ -40,7 +40,7 @@ impl<'t> Parser<'t> {
         }
     }
 
-    #[tactic(auto, unfolding(crate::specs::Reading::task_keyword))]
+    #[tactic(auto, unfolding(crate::specs::Inner::Reading::task_keyword))]
     fn task_keyword(&mut self) -> Result<(), Stop>
         ensures reads { Reads (λ _. tt) (reading.task_keyword (input_of self.old))
             result (input_of self.new) }
@@ -56,7 +56,7 @@ impl<'t> Parser<'t> {
     }
 
     /// A task, behind its name.
-    #[tactic(auto, unfolding(crate::specs::Reading::task_behind))]
+    #[tactic(auto, unfolding(crate::specs::Inner::Reading::task_behind))]
     fn task(&mut self, name: &Word) -> Result<Decl, Stop>
         ensures { Reads view.task (reading.task_behind name.now (input_of self.old))
             result (input_of self.new) }

@@ -1,5 +1,5 @@
 -- Both faults are where the reading stops.
-use Rattle.tj_syntax.proofs.SameFault as same
+use Rattle.tj_syntax.proofs.Same.Fault as same
 use Rattle.tj_syntax.proofs.laws.one_fault.Goals as goal
 
 pub returns : goal.returns

@@ -1,5 +1,5 @@
 -- The reading of a script doesn't stop.
-use Rattle.tj_syntax.proofs.SameFault as same
+use Rattle.tj_syntax.proofs.Same.Fault as same
 use Rattle.tj_syntax.proofs.laws.scripts_have_no_fault.Goals as goal
 
 pub returns : goal.returns

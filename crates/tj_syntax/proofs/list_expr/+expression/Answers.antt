@@ -1,5 +1,5 @@
 use Rattle.std.proofs.lemmas.Result.{on_ok_weaker}
-use Rattle.tj_syntax.proofs.ListingTexts.{chain_text, comparison_text}
+use Rattle.tj_syntax.proofs.Listed.Texts.{chain_text, comparison_text}
 use Rattle.tj_syntax.proofs.list_expr.+expression.Goals as goal
 
 pub list_expression-returns-in_ok-list_operand-in-Chain :

@@ -1,4 +1,4 @@
-use Rattle.tj_syntax.proofs.ListingBack.{says_text}
+use Rattle.tj_syntax.proofs.Listed.Back.{says_text}
 use Rattle.tj_syntax.proofs.listing.list_text.Goals as goal
 
 pub returns-clause-says : goal.returns-clause-says

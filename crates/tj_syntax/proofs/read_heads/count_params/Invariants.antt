@@ -1,5 +1,5 @@
 use Rattle.std.proofs.Common.{◌≡◌, ◌+◌, ◌≤◌, map, drop}
-use Rattle.tj_syntax.specs.Input.{count_params}
+use Rattle.tj_syntax.specs.Inner.Input.{count_params}
 use Rattle.tj_syntax.proofs.read_heads.count_params.Given as goal
 
 abbrev pub invariant-loop-token : goal.invariant-loop-token

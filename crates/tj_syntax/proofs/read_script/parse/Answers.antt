@@ -5,11 +5,11 @@ use Rattle.tj_lex.specs.declared.token.Token.{Token}
 use Rattle.tj_lex.specs.declared.token.Tok.TheVariants as toks
 use Rattle.tj_syntax.specs.Faults.{EndsInEnd, IsFirstFault, IsScript, kinds_of}
 use Rattle.tj_syntax.specs.View as view
-use Rattle.tj_syntax.specs.Stops.{AreLeft, IsFirstStop, fault_at}
-use Rattle.tj_syntax.proofs.CompleteScript.{one_script}
-use Rattle.tj_syntax.proofs.FirstFault.{kinds_with_end}
-use Rattle.tj_syntax.proofs.ListingBack.{listed_script}
-use Rattle.tj_syntax.proofs.SameFault.{scripts_have_no_fault}
+use Rattle.tj_syntax.specs.Inner.Stops.{AreLeft, IsFirstStop, fault_at}
+use Rattle.tj_syntax.proofs.Complete.Script.{one_script}
+use Rattle.tj_syntax.proofs.Stops.FirstFault.{kinds_with_end}
+use Rattle.tj_syntax.proofs.Listed.Back.{listed_script}
+use Rattle.tj_syntax.proofs.Same.Fault.{scripts_have_no_fault}
 use Rattle.tj_syntax.proofs.read_script.parse.Goals as goal
 
 take-front : (front more : List Token) → take (length front) (front ++ more) ≡ front

@@ -8,15 +8,15 @@ use Rattle.tj_syntax.specs.Trees.{Task}
 use Rattle.tj_syntax.specs.declared.fault.Stop.{Stop}
 use Rattle.tj_syntax.specs.declared.fault.Stop.TheVariants as stop
 use Rattle.tj_syntax.specs.Marks.{Name}
-use Rattle.tj_syntax.specs.Stops.{IsFirstStop}
-use Rattle.tj_syntax.proofs.FirstFault.{stops_first, flaw_first, no_main_first, params_first}
+use Rattle.tj_syntax.specs.Inner.Stops.{IsFirstStop}
+use Rattle.tj_syntax.proofs.Stops.FirstFault.{stops_first, flaw_first, no_main_first, params_first}
 use Rattle.tj_lex.specs.declared.token.Token.{Token}
-use Rattle.tj_syntax.specs.State.{input_of}
-use Rattle.tj_syntax.specs.Heads.{head_of, heads_of}
+use Rattle.tj_syntax.specs.Inner.State.{input_of}
+use Rattle.tj_syntax.specs.Inner.Heads.{head_of, heads_of}
 use Rattle.tj_syntax.specs.View as view
-use Rattle.tj_syntax.specs.Input.{Head, Input, Outcome, Reads, heads_from, head_named}
-use Rattle.tj_syntax.specs.Reading.{tasks}
-use Rattle.tj_syntax.proofs.SoundScript.{script_sound, start_of}
+use Rattle.tj_syntax.specs.Inner.Input.{Head, Input, Outcome, Reads, heads_from, head_named}
+use Rattle.tj_syntax.specs.Inner.Reading.{tasks}
+use Rattle.tj_syntax.proofs.Sound.Script.{script_sound, start_of}
 use Rattle.tj_syntax.proofs.read_script.tasks_of.Goals as goal
 
 pub returns-clause-ok : goal.returns-clause-ok

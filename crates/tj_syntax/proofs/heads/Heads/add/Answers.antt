@@ -4,9 +4,9 @@ use Rattle.std.proofs.lemmas.Grind.{common_steps}
 use Rattle.std.proofs.lemmas.List.{length-map}
 use Rattle.tj_lex.specs.declared.token.Token.{Token}
 use Rattle.tj_syntax.specs.declared.heads.Head.{Head}
-use Rattle.tj_syntax.specs.Heads.{head_of}
-use Rattle.tj_syntax.specs.Input as spec
-use Rattle.tj_syntax.specs.Input.{breach_of, count_params}
+use Rattle.tj_syntax.specs.Inner.Heads.{head_of}
+use Rattle.tj_syntax.specs.Inner.Input as spec
+use Rattle.tj_syntax.specs.Inner.Input.{breach_of, count_params}
 use Rattle.tj_syntax.proofs.HeadNames.{with_head-same, with_head-more}
 use Rattle.tj_syntax.proofs.heads.Heads.add.Goals as goal
 

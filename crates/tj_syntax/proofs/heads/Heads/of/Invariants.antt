@@ -1,6 +1,6 @@
 use Rattle.std.proofs.Common.{◌≡◌, map, drop, []}
-use Rattle.tj_syntax.specs.Heads.{heads_of}
-use Rattle.tj_syntax.specs.Input.{heads_from}
+use Rattle.tj_syntax.specs.Inner.Heads.{heads_of}
+use Rattle.tj_syntax.specs.Inner.Input.{heads_from}
 use Rattle.tj_syntax.proofs.heads.Heads.of.Given as goal
 
 abbrev pub invariant-loop-at : goal.invariant-loop-at

@@ -2,11 +2,11 @@
 use Rattle.std.proofs.Common.{rules, arith, map}
 use Rattle.std.proofs.lemmas.Grind.{common_steps}
 use Rattle.std.proofs.lemmas.List.{map-append}
-use Rattle.tj_syntax.specs.State.{input_of}
+use Rattle.tj_syntax.specs.Inner.State.{input_of}
 use Rattle.tj_syntax.specs.declared.stmt.Stmt.{the_lemmas}
 use Rattle.tj_syntax.specs.View as view
-use Rattle.tj_syntax.specs.Input.{eat}
-use Rattle.tj_syntax.specs.Reading.{statements, statements_from, statement}
+use Rattle.tj_syntax.specs.Inner.Input.{eat}
+use Rattle.tj_syntax.specs.Inner.Reading.{statements, statements_from, statement}
 use Rattle.tj_syntax.proofs.Turns.{one_more, no_more}
 use Rattle.tj_syntax.proofs.Unrolls.{block-is}
 use Rattle.tj_syntax.proofs.parser.Parser.+block.Goals as goal

@@ -1,8 +1,8 @@
 -- Each call reads a smaller part, or opens a level.
 use Rattle.std.proofs.Common.{◌≡◌, ◌+◌, ◌*◌, ◌-◌, map}
-use Rattle.tj_syntax.specs.State.{input_of}
+use Rattle.tj_syntax.specs.Inner.State.{input_of}
 use Rattle.tj_syntax.specs.View as view
-use Rattle.tj_syntax.specs.Reading as reading
+use Rattle.tj_syntax.specs.Inner.Reading as reading
 use Rattle.tj_syntax.proofs.parser.Parser.+block.Given as goal
 
 abbrev pub decreases-block : goal.decreases-block

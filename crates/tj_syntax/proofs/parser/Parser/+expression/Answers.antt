@@ -3,9 +3,9 @@ use Rattle.std.proofs.Common.{rules, arith, map}
 use Rattle.std.proofs.lemmas.Grind.{common_steps}
 use Rattle.std.proofs.lemmas.List.{map-append}
 use Rattle.tj_syntax.specs.declared.expr.Expr.{the_lemmas}
-use Rattle.tj_syntax.specs.State.{input_of}
+use Rattle.tj_syntax.specs.Inner.State.{input_of}
 use Rattle.tj_syntax.specs.View.{pair}
-use Rattle.tj_syntax.specs.Reading.{pairs, pairs_from, operand}
+use Rattle.tj_syntax.specs.Inner.Reading.{pairs, pairs_from, operand}
 use Rattle.tj_syntax.proofs.Turns.{one_more, no_more}
 use Rattle.tj_syntax.proofs.Unrolls.{unary-is}
 use Rattle.tj_syntax.proofs.parser.Parser.+expression.Goals as goal

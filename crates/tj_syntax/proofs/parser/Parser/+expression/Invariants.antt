@@ -2,9 +2,9 @@
 use Rattle.std.proofs.Common.{◌≡◌, ℕ, ◌+◌, ◌*◌, ◌-◌, map}
 use Rattle.tj_syntax.specs.declared.read_expr.Level.{Level}
 use Rattle.tj_syntax.specs.declared.read_expr.Level.TheVariants.{Sums, Products}
-use Rattle.tj_syntax.specs.State.{input_of}
+use Rattle.tj_syntax.specs.Inner.State.{input_of}
 use Rattle.tj_syntax.specs.View.{pair}
-use Rattle.tj_syntax.specs.Reading as reading
+use Rattle.tj_syntax.specs.Inner.Reading as reading
 use Rattle.tj_syntax.proofs.parser.Parser.+expression.Given as goal
 
 abbrev rank : Level → ℕ

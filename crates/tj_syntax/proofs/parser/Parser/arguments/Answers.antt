@@ -2,9 +2,9 @@
 use Rattle.std.proofs.Common.{rules, arith, map}
 use Rattle.std.proofs.lemmas.Grind.{common_steps}
 use Rattle.std.proofs.lemmas.List.{map-append}
-use Rattle.tj_syntax.specs.State.{input_of}
+use Rattle.tj_syntax.specs.Inner.State.{input_of}
 use Rattle.tj_syntax.specs.View as view
-use Rattle.tj_syntax.specs.Reading.{separated, separated_from, argument}
+use Rattle.tj_syntax.specs.Inner.Reading.{separated, separated_from, argument}
 use Rattle.tj_syntax.proofs.Turns.{one_more, no_more}
 use Rattle.tj_syntax.proofs.parser.Parser.arguments.Goals as goal
 

@@ -1,7 +1,7 @@
 use Rattle.std.proofs.Common.{◌≡◌, ◌-◌, map}
-use Rattle.tj_syntax.specs.State.{input_of}
+use Rattle.tj_syntax.specs.Inner.State.{input_of}
 use Rattle.tj_syntax.specs.View as view
-use Rattle.tj_syntax.specs.Reading as reading
+use Rattle.tj_syntax.specs.Inner.Reading as reading
 use Rattle.tj_syntax.proofs.parser.Parser.arguments.Given as goal
 
 abbrev pub invariant-loop-turn : goal.invariant-loop-turn

@@ -1,6 +1,6 @@
 use Rattle.std.proofs.Common.{◌≡◌, ◌-◌}
-use Rattle.tj_syntax.specs.State.{input_of}
-use Rattle.tj_syntax.specs.Reading as reading
+use Rattle.tj_syntax.specs.Inner.State.{input_of}
+use Rattle.tj_syntax.specs.Inner.Reading as reading
 use Rattle.tj_syntax.proofs.parser.Parser.params.Given as goal
 
 abbrev pub invariant-loop-turn : goal.invariant-loop-turn

@@ -2,9 +2,9 @@
 use Rattle.std.proofs.Common.{rules, arith, map}
 use Rattle.std.proofs.lemmas.Grind.{common_steps}
 use Rattle.std.proofs.lemmas.List.{map-append}
-use Rattle.tj_syntax.specs.State.{input_of}
+use Rattle.tj_syntax.specs.Inner.State.{input_of}
 use Rattle.tj_syntax.specs.View as view
-use Rattle.tj_syntax.specs.Reading.{tasks, tasks_from, task}
+use Rattle.tj_syntax.specs.Inner.Reading.{tasks, tasks_from, task}
 use Rattle.tj_syntax.proofs.Fresh.{fresh_free}
 use Rattle.tj_syntax.proofs.TaskNames.{task_name}
 use Rattle.tj_syntax.proofs.Turns.{one_more, no_more}

@@ -1,8 +1,8 @@
 use Rattle.std.proofs.Common.{◌≡◌, ◌-◌, map}
-use Rattle.tj_syntax.specs.State.{input_of}
+use Rattle.tj_syntax.specs.Inner.State.{input_of}
 use Rattle.tj_syntax.specs.View as view
 use Rattle.tj_syntax.specs.Trees.{Task}
-use Rattle.tj_syntax.specs.Reading as reading
+use Rattle.tj_syntax.specs.Inner.Reading as reading
 use Rattle.tj_syntax.proofs.parser.Parser.tasks.Given as goal
 
 abbrev pub invariant-loop-turn : goal.invariant-loop-turn

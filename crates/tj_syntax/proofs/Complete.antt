@@ -1,0 +1,9 @@
+-- What is in the grammar is read.
+pub mod Block
+pub mod Expr
+pub mod Forks
+pub mod Request
+pub mod Script
+pub mod Steps
+pub mod Stmt
+pub mod Task
