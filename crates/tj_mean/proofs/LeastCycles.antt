@@ -19,7 +19,7 @@ use Rattle.tj_body.specs.Names.{same, at_most}
 use Rattle.tj_body.specs.Points.{IsIn}
 use Rattle.tj_body.proofs.Lists.{in_map, to_map}
 use Rattle.tj_mean.specs.Outcomes.{Ascend, AreApart, AreCycles, IsCycle, Leads, Waits, first_task}
-use Rattle.tj_mean.specs.Places.{Next, IsLeastCycle, AreNext, WaitsAt, link_at, waited}
+use Rattle.tj_mean.specs.Inner.Places.{Next, IsLeastCycle, AreNext, WaitsAt, link_at, waited}
 use Rattle.tj_mean.specs.declared.outcome.Ending.TheVariants as ending
 use Rattle.tj_mean.specs.declared.outcome.Link.{Link}
 use Rattle.tj_mean.specs.declared.stopped.Stopped.{Stopped}

@@ -3,7 +3,7 @@ pub mod LeastCycles
 pub mod NameOrder
 pub mod NoWaits
 pub mod OneOutcome
-pub mod OwnedNames
+pub mod HeldNames
 pub mod Places
 pub mod RoundSteps
 pub mod SettledRounds

@@ -16,8 +16,8 @@ use Rattle.tj_body.specs.declared.point.Point.{Point}
 use Rattle.tj_body.proofs.Lists.{in_right}
 use Rattle.tj_body.proofs.Rounds.Sizes.{counts_in_round, counts_made}
 use Rattle.tj_body.proofs.Rounds.Settles.{full_somewhere}
-use Rattle.tj_mean.specs.Exceeds.{ExceedsAtPoint}
-use Rattle.tj_mean.specs.KeptRounds.{offspring, still, IsRound}
+use Rattle.tj_mean.specs.Inner.Exceeds.{ExceedsAtPoint}
+use Rattle.tj_mean.specs.Inner.KeptRounds.{offspring, still, IsRound}
 use Rattle.tj_mean.specs.Outcomes.{stopped_of}
 use Rattle.tj_mean.specs.declared.round.Pending.{Pending}
 use Rattle.tj_mean.specs.declared.round.Round.{Round}

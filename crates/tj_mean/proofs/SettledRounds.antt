@@ -9,7 +9,7 @@ use Rattle.tj_body.specs.Rounds.{given, tasks, entries, cells, last_round, meani
 use Rattle.tj_body.specs.declared.point.Entry.{Entry}
 use Rattle.tj_body.specs.declared.point.Task.{Task}
 use Rattle.tj_body.proofs.Rounds.Settles.{last_given, settles_by_size}
-use Rattle.tj_mean.specs.KeptRounds.{IsRound}
+use Rattle.tj_mean.specs.Inner.KeptRounds.{IsRound}
 use Rattle.tj_mean.specs.Outcomes.{stopped_of, AreTold}
 use Rattle.tj_mean.specs.declared.round.Round.{Round}
 use Rattle.tj_mean.specs.declared.stopped.Stopped.{Stopped}

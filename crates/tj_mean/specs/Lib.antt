@@ -1,6 +1,3 @@
-pub mod Assignments
-pub mod Exceeds
-pub mod KeptRounds
 pub mod OutcomeLaws
 pub mod Outcomes
-pub mod Places
+pub mod Inner

@@ -4,7 +4,7 @@ ghost use Rattle.tj_body.specs.Asks.{IsPaid, IsPlaced};
 ghost use Rattle.std.specs.List.{AllByRecursion};
 ghost use Rattle.tj_body.specs.History as history;
 
-use crate::owned_names::{place_of, sorted};
+use crate::held_names::{place_of, sorted};
 use std::alloc::Global;
 use std::mem::replace;
 use tj_base::{Cause, Items, Name, NameList, Oom, Pay, PlaceList, Sort, Trouble, path_before};

@@ -4,8 +4,8 @@ ghost use Rattle.std.specs.Prelude.{IfOk, IfErr, IsSome, IsTrue, IsFalse};
 ghost use Rattle.tj_body.specs.Points.{IsGoodAt, IsProper, weight};
 ghost use Rattle.tj_body.specs.Programs.{rules_of};
 ghost use Rattle.tj_body.specs.History as history;
-ghost use Rattle.tj_mean.specs.Assignments.{assignment_in};
-ghost use Rattle.tj_mean.specs.Exceeds.{ExceedsAtPoint};
+ghost use Rattle.tj_mean.specs.Inner.Assignments.{assignment_in};
+ghost use Rattle.tj_mean.specs.Inner.Exceeds.{ExceedsAtPoint};
 ghost use Rattle.tj_mean.specs.Outcomes.{ending_of};
 
 use crate::ask_steps::{copy_reference, fail, take};

@@ -2,10 +2,10 @@
 #![tactic(auto)]
 
 mod ask_steps;
+mod held_names;
 mod history_steps;
 mod laws;
 mod outcome;
-mod owned_names;
 mod round;
 mod rounds;
 mod stopped;

@@ -8,8 +8,8 @@ ghost use Rattle.tj_body.specs.History.{Assignment};
 ghost use Rattle.tj_body.specs.Programs as programs;
 ghost use Rattle.tj_body.specs.Programs.{Rules, program_of};
 ghost use Rattle.tj_body.specs.Rounds as rounds;
-ghost use Rattle.tj_mean.specs.Assignments.{assignment_in};
-ghost use Rattle.tj_mean.specs.KeptRounds.{offspring, still, IsRound};
+ghost use Rattle.tj_mean.specs.Inner.Assignments.{assignment_in};
+ghost use Rattle.tj_mean.specs.Inner.KeptRounds.{offspring, still, IsRound};
 ghost use Rattle.tj_mean.specs.Outcomes as outcomes;
 
 use crate::history_steps::history;
@@ -49,15 +49,15 @@ pub fn next_round<B: Body>(
     strict: bool,
 ) -> Result<Round, PlanFault>
     requires root { IsFresh B.places B.awaits B.left 1 root.now }
-    requires round { let program = program_of B.places B.awaits B.left B.asks B.then strict root.now in
-        assignment_in given.now ≡ rounds.given program n }
+    requires round { let p = program_of B.places B.awaits B.left B.asks B.then strict root.now in
+        assignment_in given.now ≡ rounds.given p n }
     requires n { n ≤ 2 * cells }
     requires cells { (0 < cells) × (cells ≤ 16384) }
-    ensures ok { let program = program_of B.places B.awaits B.left B.asks B.then strict root.now in
-        IfOk result (IsRound program n) }
+    ensures ok { let p = program_of B.places B.awaits B.left B.asks B.then strict root.now in
+        IfOk result (IsRound p n) }
     ensures few { IfOk result (λ r. r.cells ≤ cells) }
-    ensures full { let program = program_of B.places B.awaits B.left B.asks B.then strict root.now in
-        IfErr result (λ e. e ≡ PlanFault.Full → rounds.IsFull program cells) }
+    ensures full { let p = program_of B.places B.awaits B.left B.asks B.then strict root.now in
+        IfErr result (λ e. e ≡ PlanFault.Full → rounds.IsFull p cells) }
 {
     let mut round = Round {
         tasks: Vec::new(alloc),

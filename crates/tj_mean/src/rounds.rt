@@ -9,7 +9,7 @@ ghost use Rattle.tj_base.specs.ForkOrder as fork_order;
 ghost use Rattle.tj_body.specs.Asks.{IsFresh};
 ghost use Rattle.tj_body.specs.Programs.{program_of};
 ghost use Rattle.tj_body.specs.Rounds as rounds;
-ghost use Rattle.tj_mean.specs.Assignments.{assignment_in};
+ghost use Rattle.tj_mean.specs.Inner.Assignments.{assignment_in};
 ghost use Rattle.tj_mean.specs.OutcomeLaws.{HasCycleWhereWaits};
 ghost use Rattle.tj_mean.specs.Outcomes.{AreTold, IsOutcome};
 
@@ -34,12 +34,12 @@ pub fn plan<B: Body>(
     requires cells { (0 < cells) × (cells ≤ 16384) }
 
     // `Full` comes exactly where the meaning needs more than `cells` cells.
-    ensures fits { let program = program_of B.places B.awaits B.left B.asks B.then strict root.now in
-        IfOk result (λ _. ¬ rounds.IsFull program cells) }
-    ensures full { let program = program_of B.places B.awaits B.left B.asks B.then strict root.now in
-        IfErr result (λ e. e ≡ PlanFault.Full → rounds.IsFull program cells) }
-    ensures outcome { let program = program_of B.places B.awaits B.left B.asks B.then strict root.now in
-        IfOk result (IsOutcome (rounds.meaning program cells)) }
+    ensures fits { let p = program_of B.places B.awaits B.left B.asks B.then strict root.now in
+        IfOk result (λ _. ¬ rounds.IsFull p cells) }
+    ensures full { let p = program_of B.places B.awaits B.left B.asks B.then strict root.now in
+        IfErr result (λ e. e ≡ PlanFault.Full → rounds.IsFull p cells) }
+    ensures outcome { let p = program_of B.places B.awaits B.left B.asks B.then strict root.now in
+        IfOk result (IsOutcome (rounds.meaning p cells)) }
 
     // Where a task waits, a cycle stands.
     ensures waits { IfOk result HasCycleWhereWaits }
@@ -58,12 +58,12 @@ fn histories<B: Body>(
 ) -> Result<Vec<Stopped>, PlanFault>
     requires root { IsFresh B.places B.awaits B.left 1 root.now }
     requires cells { (0 < cells) × (cells ≤ 16384) }
-    ensures fits { let program = program_of B.places B.awaits B.left B.asks B.then strict root.now in
-        IfOk result (λ _. ¬ rounds.IsFull program cells) }
-    ensures full { let program = program_of B.places B.awaits B.left B.asks B.then strict root.now in
-        IfErr result (λ e. e ≡ PlanFault.Full → rounds.IsFull program cells) }
-    ensures told { let program = program_of B.places B.awaits B.left B.asks B.then strict root.now in
-        IfOk result (λ tasks. AreTold (rounds.meaning program cells) tasks.items) }
+    ensures fits { let p = program_of B.places B.awaits B.left B.asks B.then strict root.now in
+        IfOk result (λ _. ¬ rounds.IsFull p cells) }
+    ensures full { let p = program_of B.places B.awaits B.left B.asks B.then strict root.now in
+        IfErr result (λ e. e ≡ PlanFault.Full → rounds.IsFull p cells) }
+    ensures told { let p = program_of B.places B.awaits B.left B.asks B.then strict root.now in
+        IfOk result (λ tasks. AreTold (rounds.meaning p cells) tasks.items) }
 {
     let mut given = BTreeMap::new(alloc);
     let mut tasks = 0;

@@ -5,10 +5,10 @@ ghost use Rattle.std.specs.Prelude.{Some, List, IfOk, IfSome, IsNone};
 ghost use Rattle.std.specs.List.{All};
 ghost use Rattle.tj_body.specs.Names.{has};
 ghost use Rattle.tj_mean.specs.Outcomes.{AreApart, AreCycles, Ascend, owned_by};
-ghost use Rattle.tj_mean.specs.Places.{AreNext, IsLeastCycle, LeadsTo, Next, Waiting, WaitsAt, link_at, link_of};
+ghost use Rattle.tj_mean.specs.Inner.Places.{AreNext, IsLeastCycle, LeadsTo, Next, Waiting, WaitsAt, link_at, link_of};
 
+use crate::held_names::place_of;
 use crate::outcome::{CycleList, Ending, Link, LinkList};
-use crate::owned_names::place_of;
 use crate::stopped::Stopped;
 use std::alloc::Global;
 use tj_base::{Items, Name, Oom};

@@ -6,7 +6,7 @@ use Rattle.tj_body.specs.declared.point.Point.{Point}
 use Rattle.tj_body.specs.declared.point.Task.{Task}
 use Rattle.tj_body.proofs.Good.{good}
 use Rattle.tj_body.proofs.Points.{halt}
-use Rattle.tj_mean.specs.Assignments.{assignment_in}
+use Rattle.tj_mean.specs.Inner.Assignments.{assignment_in}
 use Rattle.tj_mean.proofs.history_steps.history.Goals as goal
 use Rattle.tj_mean.proofs.history_steps.history.Goals.{then-p-cells-via-then-p-cells}
 use Rattle.tj_mean.proofs.history_steps.history.Goals.{then-p-cells-via-else-p-cells+then-items-room}

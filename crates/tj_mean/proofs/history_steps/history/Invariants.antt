@@ -1,7 +1,7 @@
 use Rattle.std.proofs.Common.{◌<◌, length}
 use Rattle.tj_body.specs.Programs.{rules_of}
 use Rattle.tj_body.specs.Points.{IsPointOf, weight}
-use Rattle.tj_mean.specs.Assignments.{assignment_in}
+use Rattle.tj_mean.specs.Inner.Assignments.{assignment_in}
 use Rattle.tj_mean.proofs.history_steps.history.Given as goal
 
 -- a point of the task, with room for further promises

@@ -6,8 +6,8 @@ use Rattle.tj_body.specs.Programs.{program_of}
 use Rattle.tj_body.specs.Rounds.{given}
 use Rattle.tj_body.proofs.Proper.{root_proper}
 use Rattle.tj_body.proofs.Good.{task_proper}
-use Rattle.tj_mean.specs.Exceeds.{ExceedsAtPoint}
-use Rattle.tj_mean.specs.KeptRounds.{offspring, still}
+use Rattle.tj_mean.specs.Inner.Exceeds.{ExceedsAtPoint}
+use Rattle.tj_mean.specs.Inner.KeptRounds.{offspring, still}
 use Rattle.tj_mean.specs.declared.round.Pending.{Pending}
 use Rattle.tj_mean.proofs.RoundSteps.{begins, next_in, takes, falls, full_pending, full_point}
 use Rattle.tj_mean.proofs.round.next_round.Goals as goal

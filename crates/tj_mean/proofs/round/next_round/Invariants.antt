@@ -1,7 +1,7 @@
 use Rattle.std.proofs.Common.{◌+◌, ◌≤◌, length}
 use Rattle.tj_body.specs.Programs.{program_of}
 use Rattle.tj_body.specs.Rounds.{given}
-use Rattle.tj_mean.specs.KeptRounds.{still}
+use Rattle.tj_mean.specs.Inner.KeptRounds.{still}
 use Rattle.tj_mean.proofs.RoundSteps.{IsUnder}
 use Rattle.tj_mean.proofs.round.next_round.Given as goal
 

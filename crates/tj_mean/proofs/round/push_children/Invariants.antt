@@ -4,7 +4,7 @@ use Rattle.tj_body.specs.Programs.{Rules}
 use Rattle.tj_body.specs.History.{Assignment}
 use Rattle.tj_body.specs.Rounds.{family}
 use Rattle.tj_body.specs.declared.point.Task.{Task}
-use Rattle.tj_mean.specs.KeptRounds.{still}
+use Rattle.tj_mean.specs.Inner.KeptRounds.{still}
 use Rattle.tj_mean.proofs.round.push_children.Given as goal
 
 -- the children that were taken from the end come first

@@ -1,7 +1,7 @@
 use Rattle.std.proofs.Common.{◌∷◌, [], ◌++◌, Some, cond, ap, sym, ◌∙◌, append_assoc}
 use Rattle.std.specs.Cmp.Lexicographic.{texts_ties, nat_list_eq_equiv}
 use Rattle.tj_body.specs.Names.{same}
-use Rattle.tj_mean.specs.Assignments.{assignment_in}
+use Rattle.tj_mean.specs.Inner.Assignments.{assignment_in}
 use Rattle.tj_mean.proofs.rounds.assignment_of.Goals as goal
 
 pub loop-cell-preserved : goal.loop-cell-preserved

@@ -2,7 +2,7 @@ use Rattle.std.proofs.Common.{◌≡◌, ◌++◌, List, vec_len}
 use Rattle.tj_base.specs.ForkOrder.{Name}
 use Rattle.tj_body.specs.Rounds.{entry_in}
 use Rattle.tj_body.specs.declared.point.Entry.{Entry}
-use Rattle.tj_mean.specs.Assignments.{assignment_in}
+use Rattle.tj_mean.specs.Inner.Assignments.{assignment_in}
 use Rattle.tj_mean.proofs.rounds.assignment_of.Given as goal
 
 -- what was taken from the end is in the map

@@ -5,8 +5,8 @@ use Rattle.std.specs.BTreeMap.{is_at}
 use Rattle.std.specs.Map.{lookup}
 use Rattle.tj_body.specs.Programs.{program_of}
 use Rattle.tj_body.specs.Rounds.{given, tasks, entries, entry_in}
-use Rattle.tj_mean.specs.Assignments.{assignment_in}
-use Rattle.tj_mean.specs.KeptRounds.{IsRound}
+use Rattle.tj_mean.specs.Inner.Assignments.{assignment_in}
+use Rattle.tj_mean.specs.Inner.KeptRounds.{IsRound}
 use Rattle.tj_mean.proofs.SettledRounds.{settled_tells, last_tells, settled_fits, last_fits, kept_tasks, kept_entries}
 use Rattle.tj_mean.proofs.rounds.histories.Goals as goal
 use Rattle.tj_mean.proofs.rounds.histories.Goals.{then-n-cells-via-then-n-cells}

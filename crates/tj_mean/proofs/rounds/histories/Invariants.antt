@@ -1,7 +1,7 @@
 use Rattle.std.proofs.Common.{◌≡◌, ◌*◌, ◌-◌, ◌≤◌, length}
 use Rattle.tj_body.specs.Programs.{program_of}
 use Rattle.tj_body.specs.Rounds.{given, tasks, entries}
-use Rattle.tj_mean.specs.Assignments.{assignment_in}
+use Rattle.tj_mean.specs.Inner.Assignments.{assignment_in}
 use Rattle.tj_mean.proofs.rounds.histories.Given as goal
 
 -- the map is the assignment of round n, and the numbers are those of its tasks and its entries

@@ -2,7 +2,7 @@ use Rattle.std.proofs.Common.{◌≡◌, ◌+◌, ◌<◌, ℕ, List, Option, So
 use Rattle.std.specs.Prelude.{IfSome, IsNone}
 use Rattle.std.specs.List.{All}
 use Rattle.tj_mean.specs.Outcomes.{AreCycles}
-use Rattle.tj_mean.specs.Places.{IsLeastCycle, Next, WaitsAt, link_at}
+use Rattle.tj_mean.specs.Inner.Places.{IsLeastCycle, Next, WaitsAt, link_at}
 use Rattle.tj_mean.specs.declared.outcome.Link.{Link}
 use Rattle.tj_mean.proofs.Places.{next_length, next_there}
 use Rattle.tj_mean.proofs.LeastCycles.{Found, found_none, found_on, found_more, all_found, all_there, all_wait}

@@ -1,5 +1,5 @@
 use Rattle.std.proofs.Common.{take}
-use Rattle.tj_mean.specs.Places.{AreNext}
+use Rattle.tj_mean.specs.Inner.Places.{AreNext}
 use Rattle.tj_mean.proofs.wait_graph.next_tasks.Given as goal
 
 -- the next places of the tasks so far

@@ -1,7 +1,7 @@
 use Rattle.std.proofs.Common.{◌≡◌, ◌++◌, List, vec_len}
 use Rattle.tj_base.specs.ForkOrder.{Name}
 use Rattle.tj_body.specs.Names.{in_order}
-use Rattle.tj_mean.proofs.owned_names.sorted.Given as goal
+use Rattle.tj_mean.proofs.held_names.sorted.Given as goal
 
 -- what was taken from the end stands in order
 abbrev pub invariant-loop-name : goal.invariant-loop-name
