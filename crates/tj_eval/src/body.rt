@@ -10,7 +10,7 @@ ghost use Rattle.tj_syntax.specs.View as view;
 ghost use Rattle.tj_eval.specs.Bodies.{all_have_few_params, IsMainBody};
 ghost use Rattle.tj_eval.specs.Bodies.{script_places, script_awaits, script_left};
 ghost use Rattle.tj_eval.specs.Statements as state;
-ghost use Rattle.tj_eval.specs.Turns.{IsNext, IsNextAsk, IsAnswered};
+ghost use Rattle.tj_eval.specs.Inner.Turns.{IsNext, IsNextAsk, IsAnswered};
 
 use crate::expression::value;
 use crate::fork::task_of;
@@ -104,7 +104,8 @@ impl<'s> ScriptBody<'s> {
     /// Goes on to the next ask.
     fn run(&mut self, alloc: Global) -> Result<Ask<ScriptBody<'s>>, Oom>
         requires { IsTrue (all_have_few_params self.old.script) }
-        ensures { IfOk result (λ ask. IsNextAsk (state.next_ask self.old.steps self.old) ask self.new) }
+        ensures { IfOk result (λ ask.
+            IsNextAsk (state.next_ask self.old.steps self.old) ask self.new) }
     {
         match self.next_ask(alloc) {
             Ok(ask) => Ok(ask),
@@ -140,7 +141,7 @@ impl<'s> ScriptBody<'s> {
 impl<'s> Body for ScriptBody<'s> {
     ghost use Rattle.tj_eval.specs.Bodies.{script_places, script_awaits, script_left};
     ghost use Rattle.tj_eval.specs.Bodies.{script_asks, script_then};
-    ghost use Rattle.tj_eval.specs.Laws.{script_obeys};
+    ghost use Rattle.tj_eval.specs.Inner.Laws.{script_obeys};
 
     ghost places = { script_places };
 

@@ -3,7 +3,7 @@ ghost use Rattle.std.specs.Prelude.{◌≡◌, IsTrue};
 ghost use Rattle.tj_eval.specs.Bodies.{all_have_few_params};
 ghost use Rattle.tj_syntax.specs.View as view;
 ghost use Rattle.tj_eval.specs.Statements as state;
-ghost use Rattle.tj_eval.specs.Turns.{IsAskOf};
+ghost use Rattle.tj_eval.specs.Inner.Turns.{IsAskOf};
 
 use crate::expression::{held, reference_in};
 use crate::state::{Due, ScriptBody};
@@ -32,7 +32,8 @@ impl<'s> ScriptBody<'s> {
         call: &'s Call,
     ) -> Result<Ask<ScriptBody<'s>>, Stop>
         requires { IsTrue (all_have_few_params self.old.script) }
-        ensures { IsAskOf self.old (state.called self.old into (view.request call.now)) result self.new }
+        ensures { let ask = state.called self.old into (view.request call.now) in
+            IsAskOf self.old ask result self.new }
     {
         match call {
             Call::New => {

@@ -4,7 +4,7 @@ ghost use Rattle.std.specs.Prelude.{IfOk, IsTrue};
 ghost use Rattle.tj_syntax.specs.View as view;
 ghost use Rattle.tj_eval.specs.Statements as state;
 ghost use Rattle.tj_eval.specs.Bodies.{most_params, all_have_few_params};
-ghost use Rattle.tj_eval.specs.Turns.{IsComputed, IsChild, IsForkOf};
+ghost use Rattle.tj_eval.specs.Inner.Turns.{IsComputed, IsChild, IsForkOf};
 
 use crate::expression::{held, reference_in, value};
 use crate::state::{Due, ScriptBody};
@@ -52,7 +52,8 @@ fn references(alloc: Global, values: &[Pay]) -> Result<PlaceList, Oom>
 
 /// The values of the variables that are handed.
 fn handed(alloc: Global, vars: &[Pay], args: &[Arg]) -> Result<Vec<Pay>, Oom>
-    ensures { IfOk result (λ values. values.items ≡ state.handed vars.now (map view.argument args.now)) }
+    ensures { IfOk result (λ values. values.items
+        ≡ state.handed vars.now (map view.argument args.now)) }
 {
     let mut values = Vec::new(alloc);
     for arg in args {
@@ -120,7 +121,8 @@ impl<'s> ScriptBody<'s> {
         args: &[Arg],
     ) -> Result<Ask<ScriptBody<'s>>, Stop>
         requires { IsTrue (all_have_few_params self.now.script) }
-        ensures { IsForkOf self.now (slice_get self.now.script f) (map view.argument args.now) result }
+        ensures { let task = slice_get self.now.script f in
+            IsForkOf self.now task (map view.argument args.now) result }
     {
         let Some(decl) = self.script.tasks.get(f as usize) else {
             return Err(Stop::Fault(Trouble::Kind));

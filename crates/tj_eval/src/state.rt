@@ -43,12 +43,12 @@ impl<'s> Model for ScriptBody<'s> {
     ghost Value = { TaskState };
 
     ghost use Rattle.std.specs.Coded.{codes};
-    ghost use Rattle.tj_eval.specs.Codes.{expression_code, statement_code, statements_code};
+    ghost use Rattle.tj_eval.specs.Inner.Codes.{expression_code, statement_code, statements_code};
 
     ghost coded = { Prim.hlevel (codes, expression_code, statement_code, statements_code) };
 
     ghost use Rattle.tj_syntax.specs.View as shown;
-    ghost use Rattle.tj_eval.specs.View.{due_of};
+    ghost use Rattle.tj_eval.specs.Inner.View.{due_of};
 
     ghost view = { λ b. record {
       script = shown.script b.script.now;

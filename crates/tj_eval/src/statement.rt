@@ -3,7 +3,7 @@ ghost use Rattle.std.specs.Prelude.{◌≡◌, IsTrue};
 ghost use Rattle.tj_eval.specs.Bodies.{all_have_few_params};
 ghost use Rattle.tj_syntax.specs.View as view;
 ghost use Rattle.tj_eval.specs.Statements as state;
-ghost use Rattle.tj_eval.specs.Turns.{IsAskOf, IsGiven, IsOnWay, IsStep, is_ask};
+ghost use Rattle.tj_eval.specs.Inner.Turns.{IsAskOf, IsGiven, IsOnWay, IsStep, is_ask};
 
 use crate::expression::{held, number, reference_in, value, whole};
 use crate::quick::quick;
@@ -89,7 +89,8 @@ impl<'s> ScriptBody<'s> {
     pub(crate) fn ask(&mut self, alloc: Global, stmt: &'s Stmt) -> Result<Ask<ScriptBody<'s>>, Stop>
         requires few { IsTrue (all_have_few_params self.old.script) }
         requires asks { IsTrue (is_ask (view.statement stmt.now)) }
-        ensures { IsAskOf self.old (state.begun self.old (view.statement stmt.now)) result self.new }
+        ensures { let ask = state.begun self.old (view.statement stmt.now) in
+            IsAskOf self.old ask result self.new }
     {
         match stmt {
             Stmt::Let(x, Rhs::Call(call)) | Stmt::Assign(x, Rhs::Call(call)) => {

@@ -7,7 +7,7 @@ use Rattle.tj_body.specs.NeverWaits.{IsNoGet, IsWithoutGet}
 use Rattle.tj_body.specs.declared.ask.Answer.{Answer}
 use Rattle.tj_eval.specs.Bodies.{IsMainBody, script_places, script_awaits, script_left, script_asks, script_then}
 use Rattle.tj_eval.specs.Gets.{asks_no_get, AreWithoutGet}
-use Rattle.tj_eval.specs.Laws.{fresh-main}
+use Rattle.tj_eval.specs.Inner.Laws.{fresh-main}
 use Rattle.tj_eval.specs.Statements.{TaskState}
 use Rattle.tj_eval.proofs.Programs.{few-script}
 use Rattle.tj_lex.specs.declared.token.Tok.{Tok}

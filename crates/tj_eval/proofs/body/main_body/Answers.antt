@@ -2,7 +2,7 @@ use Rattle.std.proofs.Common.{arith, sym, subst}
 use Rattle.tj_body.specs.Asks.{IsFresh}
 use Rattle.tj_syntax.specs.View as view
 use Rattle.tj_eval.specs.Bodies.{script_places, script_awaits, script_left}
-use Rattle.tj_eval.specs.Laws.{fresh-main}
+use Rattle.tj_eval.specs.Inner.Laws.{fresh-main}
 use Rattle.tj_eval.proofs.Programs.{few-script}
 use Rattle.tj_eval.proofs.body.main_body.Goals as goal
 
