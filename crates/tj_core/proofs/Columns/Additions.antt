@@ -87,8 +87,7 @@ module _ (bs : List Birth) (made : List ℕ) (os : List (Option ℕ)) (slots : L
     changed c = record {
       maker = maker_of bs c;
       name = name_of bs c;
-      made = put (λ k. get_or made k 0) t
-          (suc (get_or made t 0)) c;
+      made = put (λ k. get_or made k 0) t (suc (get_or made t 0)) c;
       owner = get_or os c None;
       stage = put (stage_in slots) t running c;
     }
@@ -99,8 +98,7 @@ module _ (bs : List Birth) (made : List ℕ) (os : List (Option ℕ)) (slots : L
         ((λ j. record {
           maker = maker_of bs t;
           name = name_of bs t;
-          made = put_here (λ k. get_or made k 0) t
-              (suc (get_or made t 0)) j;
+          made = put_here (λ k. get_or made k 0) t (suc (get_or made t 0)) j;
           owner = get_or os t None;
           stage = put_here (stage_in slots) t running j;
         }) ∙ sym
@@ -108,8 +106,7 @@ module _ (bs : List Birth) (made : List ℕ) (os : List (Option ℕ)) (slots : L
         (λ d. (λ j. record {
           maker = maker_of bs c;
           name = name_of bs c;
-          made = put_else (λ k. get_or made k 0) t
-              (suc (get_or made t 0)) c d j;
+          made = put_else (λ k. get_or made k 0) t (suc (get_or made t 0)) c d j;
           owner = get_or os c None;
           stage = put_else (stage_in slots) t running c d j;
         })

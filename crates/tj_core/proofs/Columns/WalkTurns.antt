@@ -1,5 +1,5 @@
 -- A step of a walk, which reads what is so, is an event of the walker.
-use Rattle.std.proofs.Common.{◌≡◌, ℕ, ◌<◌, ◌≤◌, List, length, set, get_or, Option, refl, sym, ap, ◌∙◌, arith}
+use Rattle.std.proofs.Common.{◌≡◌, ℕ, ◌<◌, ◌≤◌, List, length, set, get_or, Option, refl, sym, ap, ◌∙◌, subst, arith}
 use Rattle.tj_base.specs.declared.cell.CellId.{CellId}
 use Rattle.tj_core.specs.declared.slot.Slot.{Slot}
 use Rattle.tj_core.specs.declared.walk_step.WalkStep.{WalkStep}
@@ -24,27 +24,21 @@ restage_same s t f g e = λ i. record {
 }
 
 module _ (N : ℕ) (s : CoreState) (task : CellId) where
-  -- where the event is allowed, the step is the next one of the walk
-  pub may_step : (step : WalkStep) → Allowed N s (event_of task step)
-      → Walks s task.0 (λ c way w. MayStep task.0 step way w)
-  may_step (Others n) a = a
-  may_step (Count n) a = a
-  may_step (Owner o) a = a
-  may_step (Wait o) a = a
-  may_step (Again o) a = a
-  may_step Alarm a = a
-  may_step Settle a = a
+  -- the event is allowed exactly where the step is the next one of the walk
+  is_event : (step : WalkStep) → Allowed N s (event_of task step) ≡ Walks s task.0 (λ c. MayStep task.0 step)
+  is_event (Others n) = refl
+  is_event (Count n) = refl
+  is_event (Owner o) = refl
+  is_event (Wait o) = refl
+  is_event (Again o) = refl
+  is_event Alarm = refl
+  is_event Settle = refl
 
-  -- and the other way round
-  pub step_allowed : (step : WalkStep) → Walks s task.0 (λ c way w. MayStep task.0 step way w)
-      → Allowed N s (event_of task step)
-  step_allowed (Others n) a = a
-  step_allowed (Count n) a = a
-  step_allowed (Owner o) a = a
-  step_allowed (Wait o) a = a
-  step_allowed (Again o) a = a
-  step_allowed Alarm a = a
-  step_allowed Settle a = a
+  pub may_step : (step : WalkStep) → Allowed N s (event_of task step) → Walks s task.0 (λ c. MayStep task.0 step)
+  may_step step = subst (λ A. A) (is_event step)
+
+  pub step_allowed : (step : WalkStep) → Walks s task.0 (λ c. MayStep task.0 step) → Allowed N s (event_of task step)
+  step_allowed step = subst (λ A. A) (sym (is_event step))
 
   -- the state after the step is that after the event
   pub after_step : (step : WalkStep) → IsSoNow s task.0 step
