@@ -6,7 +6,7 @@ use Rattle.std.proofs.lemmas.List.{length-append}
 use Rattle.tj_ports.specs.declared.source.ReadEnd.{ReadEnd}
 use Rattle.tj_ports.specs.declared.source.ReadEnd.TheVariants.{Whole, Long}
 use Rattle.tj_ports.specs.Reading.{IsWithin}
-use Rattle.tj_program.specs.Inputs.{IsReadOf}
+use Rattle.tj_program.specs.Inner.Inputs.{IsReadOf}
 use Rattle.tj_program.specs.ScriptTexts.{most_bytes}
 
 whole_cases : (limit : ℕ) (bytes input : List ℕ) (b : Bool)

@@ -36,7 +36,7 @@ use Rattle.tj_program.specs.declared.script_run.Told.TheVariants.{Report, Summar
 use Rattle.tj_program.specs.declared.script_text.NoScript.{NoScript}
 use Rattle.tj_program.specs.declared.script_text.NoScript.TheVariants.{Tokens, Grammar}
 use Rattle.tj_program.specs.declared.status.Status.{Status}
-use Rattle.tj_program.proofs.CommandLines.{one_command}
+use Rattle.tj_program.proofs.Lines.CommandLines.{one_command}
 
 -- What the crates below leave no choice in.
 pub record AreOne : Type 0 where

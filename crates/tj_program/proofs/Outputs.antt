@@ -18,7 +18,7 @@ use Rattle.tj_base.specs.declared.memory.Oom.{Oom}
 use Rattle.tj_gen.specs.Script.{script_text}
 use Rattle.tj_ports.specs.declared.source.ReadEnd.{ReadEnd}
 use Rattle.tj_program.specs.Generated.{IsGenerated, generated_script}
-use Rattle.tj_program.specs.Inputs.{IsReadOf, HasRead}
+use Rattle.tj_program.specs.Inner.Inputs.{IsReadOf, HasRead}
 use Rattle.tj_program.specs.Judgings.{IsJudging, IsJournalFault, too_long as journal_too_long}
 use Rattle.tj_program.specs.Output.{IsCommandOutput, IsRefused, reads}
 use Rattle.tj_program.specs.declared.command.Command.{Command}

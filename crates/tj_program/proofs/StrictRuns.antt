@@ -25,7 +25,7 @@ use Rattle.tj_program.specs.StrictRuns.{StrictRunsNeverWait}
 use Rattle.tj_program.specs.declared.script_run.Limits.{Limits}
 use Rattle.tj_program.specs.declared.command.Command.{Command}
 use Rattle.tj_program.specs.declared.command.Command.TheVariants as command
-use Rattle.tj_program.proofs.CommandLines.{within_limits}
+use Rattle.tj_program.proofs.Lines.CommandLines.{within_limits}
 
 -- the body of a script's root has asked nothing yet
 pub fresh-root : (tokens : List Tok) (script : List Task) (steps : ℕ) (root : TaskState) → IsScript tokens script

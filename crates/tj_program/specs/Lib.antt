@@ -1,14 +1,11 @@
 pub mod CommandLine
 pub mod Delivery
 pub mod Generated
-pub mod Inputs
 pub mod Judgings
-pub mod LineNumbers
-pub mod LineParse
-pub mod LineWords
 pub mod Output
 pub mod Runs
 pub mod ScriptTexts
 pub mod Statuses
 pub mod StrictRuns
 pub mod Texts
+pub mod Inner

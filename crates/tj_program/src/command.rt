@@ -7,11 +7,11 @@ ghost use Rattle.std.specs.List.{list_any};
 ghost use Rattle.clap.specs.Words.{first_value, found_of};
 ghost use Rattle.tj_program.specs.CommandLine.{HasNoForm, IsCommand, IsShortNumeral, Item, asked};
 ghost use Rattle.tj_program.specs.CommandLine.{is_flag};
-ghost use Rattle.tj_program.specs.LineWords.{AreItems};
-ghost use Rattle.tj_program.specs.LineParse.{Finds, FindsDigits};
-ghost use Rattle.tj_program.specs.LineNumbers.{AreNumbersOf};
-ghost use Rattle.tj_program.specs.LineParse.{id_of};
-ghost use Rattle.tj_program.specs.LineNumbers.{HasNumbers, IsAnswerTo, IsNumberOf};
+ghost use Rattle.tj_program.specs.Inner.LineWords.{AreItems};
+ghost use Rattle.tj_program.specs.Inner.LineParse.{Finds, FindsDigits};
+ghost use Rattle.tj_program.specs.Inner.LineNumbers.{AreNumbersOf};
+ghost use Rattle.tj_program.specs.Inner.LineParse.{id_of};
+ghost use Rattle.tj_program.specs.Inner.LineNumbers.{HasNumbers, IsAnswerTo, IsNumberOf};
 
 use crate::line_parse::matches_of;
 use crate::line_words::are_line_words;

@@ -2,7 +2,7 @@
 ghost use Rattle.std.specs.Prelude.{◌≡◌, ◌<◌, ◌≤◌, ℕ, List, length, IfOk};
 ghost use Rattle.tj_ports.specs.Reading.{IsWithin};
 ghost use Rattle.tj_program.specs.ScriptTexts.{most_bytes};
-ghost use Rattle.tj_program.specs.Inputs.{IsReadOf};
+ghost use Rattle.tj_program.specs.Inner.Inputs.{IsReadOf};
 ghost use Rattle.tj_program.specs.Judgings.{IsJudging};
 
 use crate::fault_lines::journal_fault;

@@ -1,9 +1,9 @@
 //! The parse of a command line with clap, over words that passed the test before it.
 ghost use Rattle.std.specs.Prelude.{◌≡◌, IfOk, MatchOption, false};
 ghost use Rattle.clap.specs.Words.{app_of, rule_of};
-ghost use Rattle.tj_program.specs.LineWords.{AreLineWords, HasNoReading};
-ghost use Rattle.tj_program.specs.LineParse.{AreMatchesOf, flag_rule};
-ghost use Rattle.tj_program.specs.LineParse.{line_app, option_rule, required_rule};
+ghost use Rattle.tj_program.specs.Inner.LineWords.{AreLineWords, HasNoReading};
+ghost use Rattle.tj_program.specs.Inner.LineParse.{AreMatchesOf, flag_rule};
+ghost use Rattle.tj_program.specs.Inner.LineParse.{line_app, option_rule, required_rule};
 
 use clap::error::ErrorKind;
 use clap::{Arg, ArgAction, ArgMatches, Command};
@@ -13,7 +13,8 @@ use tj_base::Oom;
 /// The matches of the words, or None where an option has no number, or an item stands twice.
 pub fn matches_of<'a>(alloc: Global, words: &'a [String]) -> Result<Option<ArgMatches<'a>>, Oom>
     requires words { AreLineWords words.now }
-    ensures { IfOk result (λ found. MatchOption found (HasNoReading words.now) (AreMatchesOf words.now)) }
+    ensures { IfOk result (λ found.
+        MatchOption found (HasNoReading words.now) (AreMatchesOf words.now)) }
 {
     match line_command(alloc)?.try_get_matches_from(words) {
         Ok(matches) => Ok(Some(matches)),

@@ -3,7 +3,7 @@
 //! It knows other forms too, as `--cells=5` and `--`.
 ghost use Rattle.std.specs.Prelude.{IsTrue, ◌↔◌};
 ghost use Rattle.tj_program.specs.CommandLine.{IsShortNumeral};
-ghost use Rattle.tj_program.specs.LineWords.{AreLineWords, IsLineWord};
+ghost use Rattle.tj_program.specs.Inner.LineWords.{AreLineWords, IsLineWord};
 
 use crate::mode::Mode;
 

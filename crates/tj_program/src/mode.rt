@@ -1,7 +1,7 @@
 //! The modes, and the options of each: the tables of the command line.
 ghost use Rattle.std.specs.Prelude.{◌≡◌, ◌≢◌, MatchOption};
 ghost use Rattle.tj_program.specs.CommandLine.{default, greatest, has_flag, mode_text};
-ghost use Rattle.tj_program.specs.LineParse.{id_of};
+ghost use Rattle.tj_program.specs.Inner.LineParse.{id_of};
 
 /// What the program is to do.
 #[derive(Clone, Copy, Debug, PartialEq, Eq)]

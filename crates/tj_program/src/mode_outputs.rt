@@ -6,7 +6,7 @@ ghost use Rattle.tj_ports.specs.Reading.{IsWithin};
 ghost use Rattle.tj_program.specs.CommandLine.{HasLimits};
 ghost use Rattle.tj_program.specs.ScriptTexts as script_texts;
 ghost use Rattle.tj_program.specs.ScriptTexts.{most_bytes, IsMemory};
-ghost use Rattle.tj_program.specs.Inputs.{HasRead, IsReadOf};
+ghost use Rattle.tj_program.specs.Inner.Inputs.{HasRead, IsReadOf};
 ghost use Rattle.tj_program.specs.Runs.{Start, AreLimits, IsRunOf};
 ghost use Rattle.tj_program.specs.Output.{IsCommandOutput, IsListed, IsRefused, IsStartOfText};
 

@@ -12,7 +12,7 @@ ghost use Rattle.tj_program.specs.declared.command.Command.{Command};
 ghost use Rattle.tj_program.specs.declared.status.Status.{Status};
 ghost use Rattle.tj_program.specs.ScriptTexts.{most_bytes};
 ghost use Rattle.tj_program.specs.Texts.{usage_line};
-ghost use Rattle.tj_program.specs.Inputs.{HasRead};
+ghost use Rattle.tj_program.specs.Inner.Inputs.{HasRead};
 ghost use Rattle.tj_program.specs.Output.{IsOutput, ReadInput, reads};
 ghost use Rattle.tj_program.specs.Delivery.{HasText, IsAnswered, IsOutputPart, IsPutAs, IsAnswerPut};
 

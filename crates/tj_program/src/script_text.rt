@@ -1,7 +1,7 @@
 //! From the bytes of an input to a script, or to what is wrong with them first.
 ghost use Rattle.std.specs.Prelude.{◌≤◌, ◌⊎◌, List, ℕ, length, IfOk, IfErr};
 ghost use Rattle.tj_ports.specs.Reading.{IsWithin};
-ghost use Rattle.tj_program.specs.Inputs.{IsReadOf};
+ghost use Rattle.tj_program.specs.Inner.Inputs.{IsReadOf};
 ghost use Rattle.tj_program.specs.ScriptTexts.{most_bytes, IsFirstFault, IsMemory, IsScriptOf, IsSomeScript};
 ghost use Rattle.tj_syntax.specs.Trees.{Task};
 ghost use Rattle.tj_syntax.specs.View as view;

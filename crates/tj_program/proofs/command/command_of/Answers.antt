@@ -1,7 +1,7 @@
 use Rattle.std.proofs.Common.{◌∙◌, sym, subst, true≢false, MatchOption}
-use Rattle.tj_program.specs.LineWords.{HasNoReading}
-use Rattle.tj_program.specs.LineParse.{AreMatchesOf}
-use Rattle.tj_program.proofs.LineItems.{answer_of, no_form, pass_before}
+use Rattle.tj_program.specs.Inner.LineWords.{HasNoReading}
+use Rattle.tj_program.specs.Inner.LineParse.{AreMatchesOf}
+use Rattle.tj_program.proofs.Lines.Items.{answer_of, no_form, pass_before}
 use Rattle.tj_program.proofs.command.command_of.Goals as goal
 
 pub returns-then-not-are_line_words : goal.returns-then-not-are_line_words

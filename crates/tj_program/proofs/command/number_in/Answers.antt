@@ -1,8 +1,8 @@
 use Rattle.std.proofs.Common.{rules, arith, ◌≡◌, ◌<◌, ◌^◌, Some, None, IfSome, subst}
 use Rattle.std.specs.Result.{result_ok}
 use Rattle.tj_program.specs.CommandLine.{IsShortNumeral, greatest}
-use Rattle.tj_program.specs.LineNumbers.{IsNumberOf}
-use Rattle.tj_program.proofs.LineItems.{too_large}
+use Rattle.tj_program.specs.Inner.LineNumbers.{IsNumberOf}
+use Rattle.tj_program.proofs.Lines.Items.{too_large}
 use Rattle.tj_program.proofs.command.number_in.Goals as goal
 
 pub returns-in_err-number : goal.returns-in_err-number

@@ -1,6 +1,6 @@
 use Rattle.std.proofs.Common.{rules}
 use Rattle.tj_program.specs.declared.mode.OptionName.TheVariants.{Workers, Cells, Steps, Size}
-use Rattle.tj_program.proofs.LineItems.{all_numbers, no_numbers, numeral_of}
+use Rattle.tj_program.proofs.Lines.Items.{all_numbers, no_numbers, numeral_of}
 use Rattle.tj_program.proofs.command.numbers_in.Goals as goal
 
 pub returns-in_err-number_in : goal.returns-in_err-number_in

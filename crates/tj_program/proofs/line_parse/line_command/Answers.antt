@@ -3,7 +3,7 @@ use Rattle.clap.specs.Simple.{app_of_fields}
 use Rattle.clap.specs.Words.{App, app_of, with_rule}
 use Rattle.clap.specs.declared.builder.command.Command.{Command}
 use Rattle.clap.specs.declared.builder.command.Command.TheOpen.{Command-F}
-use Rattle.tj_program.specs.LineParse.{bare_app}
+use Rattle.tj_program.specs.Inner.LineParse.{bare_app}
 use Rattle.tj_program.proofs.line_parse.line_command.Goals as goal
 
 -- the settings of a command without a program's name and without help

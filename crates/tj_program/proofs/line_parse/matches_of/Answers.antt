@@ -4,8 +4,8 @@ use Rattle.clap.specs.Kinds.{Kinds, HasKind}
 use Rattle.clap.specs.Words.{app_of, is_simple, is_simple_and_free}
 use Rattle.clap.specs.Simple.{matches_of}
 use Rattle.clap.specs.Faults.{fault_of}
-use Rattle.tj_program.specs.LineParse.{line_app}
-use Rattle.tj_program.proofs.LineParses.{are_matches, no_fault}
+use Rattle.tj_program.specs.Inner.LineParse.{line_app}
+use Rattle.tj_program.proofs.Lines.Parses.{are_matches, no_fault}
 use Rattle.tj_program.proofs.line_parse.matches_of.Goals as goal
 
 pub returns-in-Ok : goal.returns-in-Ok

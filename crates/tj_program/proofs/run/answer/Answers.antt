@@ -1,5 +1,5 @@
 use Rattle.std.proofs.Common.{List, ℕ, subst, sym}
-use Rattle.tj_program.specs.Inputs.{HasRead}
+use Rattle.tj_program.specs.Inner.Inputs.{HasRead}
 use Rattle.tj_program.specs.Output.{IsCommandOutput}
 use Rattle.tj_program.proofs.Deliveries.{IsOwnAnswer, own_answer}
 use Rattle.tj_program.proofs.Inputs.{some_input}

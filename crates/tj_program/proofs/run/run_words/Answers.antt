@@ -1,8 +1,8 @@
 use Rattle.std.proofs.Common.{◌≡◌, List, ℕ, MatchOption, Some, [], true, ap, subst}
 use Rattle.tj_program.specs.CommandLine.{HasNoForm, IsCommand}
-use Rattle.tj_program.specs.Inputs.{HasRead}
+use Rattle.tj_program.specs.Inner.Inputs.{HasRead}
 use Rattle.tj_program.specs.Output.{ReadInput, reads, usage}
-use Rattle.tj_program.proofs.CommandLines.{one_command, within_limits}
+use Rattle.tj_program.proofs.Lines.CommandLines.{one_command, within_limits}
 use Rattle.tj_program.proofs.Deliveries.{IsAnswered-put, put_whole, IsOutputPart-put, no_write_fault}
 use Rattle.tj_program.proofs.Deliveries.{IsAnswered-command, put_whole-command, IsOutputPart-command}
 use Rattle.tj_program.proofs.Deliveries.{no_write_fault-command}

@@ -1,5 +1,5 @@
 use Rattle.std.proofs.Common.{inr, subst, ◌∙◌}
-use Rattle.tj_program.specs.Inputs.{IsReadOf}
+use Rattle.tj_program.specs.Inner.Inputs.{IsReadOf}
 use Rattle.tj_program.proofs.Inputs.{read_long}
 use Rattle.tj_program.proofs.Outputs.{long_first}
 use Rattle.tj_program.proofs.script_text.script_of.Goals as goal

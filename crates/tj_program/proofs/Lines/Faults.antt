@@ -7,16 +7,16 @@ use Rattle.clap.specs.Walk.{Text, Row, Walk, nothing_held, walk, walk_from, with
 use Rattle.clap.specs.Simple.{matches_of, built, entered}
 use Rattle.clap.specs.Faults.{fault_of, check_fault, defaults_fault, entered_fault, settle_fault, walk_fault}
 use Rattle.tj_program.specs.CommandLine.{Item, mode_text, first_word, is_flag, words_of}
-use Rattle.tj_program.specs.LineWords.{HasNumeral}
-use Rattle.tj_program.specs.LineParse.{line_app}
+use Rattle.tj_program.specs.Inner.LineWords.{HasNumeral}
+use Rattle.tj_program.specs.Inner.LineParse.{line_app}
 use Rattle.tj_program.specs.declared.mode.Mode.{Mode}
-use Rattle.tj_program.proofs.LineReads.{IsWord, Word, text_of, Ends, PassOn, Passes, are_items, both_empty, item_row}
-use Rattle.tj_program.proofs.LineReads.{takes_items, walk_on}
+use Rattle.tj_program.proofs.Lines.Reads.{IsWord, Word, text_of, Ends, PassOn, Passes, are_items, both_empty, item_row}
+use Rattle.tj_program.proofs.Lines.Reads.{takes_items, walk_on}
 use Rattle.std.specs.Str.{bytes_eq}
 use Rattle.clap.specs.Kinds.{Kinds, or_else}
-use Rattle.tj_program.proofs.LineWalks.{the_mode, top, row, stand, first_step, first_fault}
-use Rattle.tj_program.proofs.LineFinds.{defaults_pass, final_rows, finals, mode_is_there, absent_flag}
-use Rattle.tj_program.proofs.LineOnce.{once_from_fresh, fresh_from_once, new_behind_mode}
+use Rattle.tj_program.proofs.Lines.Walks.{the_mode, top, row, stand, first_step, first_fault}
+use Rattle.tj_program.proofs.Lines.Finds.{defaults_pass, final_rows, finals, mode_is_there, absent_flag}
+use Rattle.tj_program.proofs.Lines.Once.{once_from_fresh, fresh_from_once, new_behind_mode}
 
 module _ (mode : Mode) (rest : List Text) where
   abbrev words : List Text

@@ -7,9 +7,9 @@ use Rattle.clap.specs.Walk.{Row, has_row}
 use Rattle.tj_program.specs.CommandLine.{Item, option, strict, first_word, mode_text}
 use Rattle.tj_program.specs.declared.mode.Mode.{Mode}
 use Rattle.tj_program.specs.declared.mode.OptionName.TheVariants.{Workers, Cells, Steps, Size}
-use Rattle.tj_program.proofs.LineWalks.{row}
-use Rattle.tj_program.proofs.LineReads.{both_of, fresh, is_not, item_row, none_of}
-use Rattle.tj_program.proofs.LineFinds.{no_mode}
+use Rattle.tj_program.proofs.Lines.Walks.{row}
+use Rattle.tj_program.proofs.Lines.Reads.{both_of, fresh, is_not, item_row, none_of}
+use Rattle.tj_program.proofs.Lines.Finds.{no_mode}
 
 hyphens : (i : Item) → first_word i ≡ 45 ∷ 45 ∷ (item_row i).id
 hyphens (option Workers digits) = refl

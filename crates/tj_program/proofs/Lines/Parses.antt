@@ -11,12 +11,12 @@ use Rattle.clap.specs.Faults.{fault_of}
 use Rattle.clap.proofs.WalkLemmas.{first_value-rows, one_text-rows}
 use Rattle.clap.specs.declared.parser.matches.ArgMatches.{ArgMatches}
 use Rattle.tj_program.specs.CommandLine.{Item, mode_text}
-use Rattle.tj_program.specs.LineWords.{AreLineWords, IsLineWord, IsReading}
-use Rattle.tj_program.specs.LineParse.{AreMatchesOf, id_of, line_app}
+use Rattle.tj_program.specs.Inner.LineWords.{AreLineWords, IsLineWord, IsReading}
+use Rattle.tj_program.specs.Inner.LineParse.{AreMatchesOf, id_of, line_app}
 use Rattle.tj_program.specs.declared.mode.Mode.{Mode}
-use Rattle.tj_program.proofs.LineReads.{IsWord, Word, name, flag, digits, text_of}
-use Rattle.tj_program.proofs.LineFinds.{digits_found, final_rows, flag_found}
-use Rattle.tj_program.proofs.LineFaults.{line_found, line_read}
+use Rattle.tj_program.proofs.Lines.Reads.{IsWord, Word, name, flag, digits, text_of}
+use Rattle.tj_program.proofs.Lines.Finds.{digits_found, final_rows, flag_found}
+use Rattle.tj_program.proofs.Lines.Faults.{line_found, line_read}
 
 abbrev LineText : String Global → Type 0
 LineText word = IsLineWord (string_bytes word)

@@ -9,7 +9,7 @@ use Rattle.tj_program.specs.CommandLine.{Item, digits_of, is_flag, mode_text}
 use Rattle.tj_program.specs.declared.mode.Mode.{Mode}
 use Rattle.tj_program.specs.declared.mode.OptionName.{OptionName}
 use Rattle.tj_program.specs.declared.mode.OptionName.TheVariants.{Workers, Cells, Steps, Size}
-use Rattle.tj_program.specs.LineWords.{IsReading}
+use Rattle.tj_program.specs.Inner.LineWords.{IsReading}
 
 -- the name of an option without its hyphens
 abbrev pub id_of : OptionName → List ℕ

@@ -14,13 +14,13 @@ use Rattle.clap.specs.Kinds.{Kinds, or_else}
 use Rattle.clap.specs.declared.error.kind.ErrorKind.{ErrorKind}
 use Rattle.clap.specs.declared.error.kind.ErrorKind.TheVariants as kind
 use Rattle.tj_program.specs.CommandLine.{Item, IsShortNumeral, option, strict, option_text, words_of}
-use Rattle.tj_program.specs.LineWords.{HasNumeral}
-use Rattle.tj_program.specs.LineParse.{id_of}
+use Rattle.tj_program.specs.Inner.LineWords.{HasNumeral}
+use Rattle.tj_program.specs.Inner.LineParse.{id_of}
 use Rattle.tj_program.specs.declared.mode.OptionName.{OptionName}
-use Rattle.tj_program.proofs.LineWalks.{Unsettled, the_option, id_at, top, row, rows_of, stand, waits, after, added}
-use Rattle.tj_program.proofs.LineWalks.{after_is, fault_at, settle_fault_is, repeat_kinds, name_step, name_fault}
-use Rattle.tj_program.proofs.LineWalks.{flag_step, flag_fault, number_step, number_fault, stray_fault, name_waits}
-use Rattle.tj_program.proofs.LineWalks.{flag_waits, end_waits}
+use Rattle.tj_program.proofs.Lines.Walks.{Unsettled, the_option, id_at, top, row, rows_of, stand, waits, after, added}
+use Rattle.tj_program.proofs.Lines.Walks.{after_is, fault_at, settle_fault_is, repeat_kinds, name_step, name_fault}
+use Rattle.tj_program.proofs.Lines.Walks.{flag_step, flag_fault, number_step, number_fault, stray_fault, name_waits}
+use Rattle.tj_program.proofs.Lines.Walks.{flag_waits, end_waits}
 
 -- ---- rows that are added
 

@@ -14,7 +14,7 @@ use Rattle.clap.specs.declared.error.kind.ErrorKind.TheVariants as kind
 use Rattle.clap.specs.declared.parser.matches.ValueSource.TheVariants.{CommandLine}
 use Rattle.clap.specs.declared.builder.value_parser.Reading.TheVariants.{AsWritten}
 use Rattle.tj_program.specs.CommandLine.{mode_text, option_text}
-use Rattle.tj_program.specs.LineParse.{id_of, line_app}
+use Rattle.tj_program.specs.Inner.LineParse.{id_of, line_app}
 use Rattle.tj_program.specs.declared.mode.Mode.{Mode}
 use Rattle.tj_program.specs.declared.mode.Mode.TheVariants as modes
 use Rattle.tj_program.specs.declared.mode.OptionName.{OptionName}

@@ -10,12 +10,12 @@ use Rattle.clap.specs.Kinds.{or_else}
 use Rattle.clap.specs.declared.parser.matches.ValueSource.TheVariants.{DefaultValue}
 use Rattle.clap.specs.declared.builder.value_parser.Reading.TheVariants.{AsWritten}
 use Rattle.tj_program.specs.CommandLine.{Item, option, strict, digits_of, is_flag, is_same, mode_text}
-use Rattle.tj_program.specs.LineParse.{id_of}
+use Rattle.tj_program.specs.Inner.LineParse.{id_of}
 use Rattle.tj_program.specs.declared.mode.Mode.{Mode}
 use Rattle.tj_program.specs.declared.mode.OptionName.{OptionName}
 use Rattle.tj_program.specs.declared.mode.OptionName.TheVariants.{Workers, Cells, Steps, Size}
-use Rattle.tj_program.proofs.LineWalks.{top, row}
-use Rattle.tj_program.proofs.LineReads.{at_none, item_row}
+use Rattle.tj_program.proofs.Lines.Walks.{top, row}
+use Rattle.tj_program.proofs.Lines.Reads.{at_none, item_row}
 
 -- ---- what stands for the flag where it is absent
 

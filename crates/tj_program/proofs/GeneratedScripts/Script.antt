@@ -12,9 +12,9 @@ use Rattle.tj_syntax.specs.Listing.{CanStand}
 use Rattle.tj_syntax.proofs.Listed.Again.{AreFine, fine-append}
 use Rattle.tj_syntax.proofs.Listed.Back.{says_again}
 use Rattle.tj_program.specs.Generated.{IsGenerated, generated_script, main_task}
-use Rattle.tj_program.proofs.GeneratedText.{listed}
-use Rattle.tj_program.proofs.GeneratedShort.{short}
-use Rattle.tj_program.proofs.GeneratedTasks.{main_sound, node_sound}
+use Rattle.tj_program.proofs.GeneratedScripts.Text.{listed}
+use Rattle.tj_program.proofs.GeneratedScripts.Short.{short}
+use Rattle.tj_program.proofs.GeneratedScripts.Tasks.{main_sound, node_sound}
 
 unbroken : (script : List Task) (notes : List Noted) → AreFine script notes → AreUnbroken notes
 unbroken script [] h = tt

@@ -13,16 +13,16 @@ use Rattle.std.proofs.lemmas.List.Elements.{All-cons, All-head, All-nil, All-tai
 use Rattle.tj_program.specs.CommandLine.{Item, option, strict, IsAllowed, IsCommand, IsLine, IsShortNumeral, IsWithin}
 use Rattle.tj_program.specs.CommandLine.{HasNoForm, digits_of, first_word, greatest, has_flag, is_flag, is_same}
 use Rattle.tj_program.specs.CommandLine.{mode_text, option_text, words_of}
-use Rattle.tj_program.specs.LineWords.{AreLineWords, HasNumeral, IsLineWord}
-use Rattle.tj_program.specs.LineNumbers.{AllFit, AreNumbersOf, IsAnswerTo, IsFit}
-use Rattle.tj_program.specs.LineWords.{IsReading}
-use Rattle.tj_program.specs.LineNumbers.{IsNumberOf, number_for}
+use Rattle.tj_program.specs.Inner.LineWords.{AreLineWords, HasNumeral, IsLineWord}
+use Rattle.tj_program.specs.Inner.LineNumbers.{AllFit, AreNumbersOf, IsAnswerTo, IsFit}
+use Rattle.tj_program.specs.Inner.LineWords.{IsReading}
+use Rattle.tj_program.specs.Inner.LineNumbers.{IsNumberOf, number_for}
 use Rattle.tj_program.specs.declared.command.Command.{Command}
 use Rattle.tj_program.specs.declared.command.Numbers.{Numbers}
 use Rattle.tj_program.specs.declared.mode.Mode.{Mode}
 use Rattle.tj_program.specs.declared.mode.OptionName.{OptionName}
 use Rattle.tj_program.specs.declared.mode.OptionName.TheVariants.{Workers, Cells, Steps, Size}
-use Rattle.tj_program.proofs.CommandLines.{behind, front, is_none, one_mode, one_reading, same_names}
+use Rattle.tj_program.proofs.Lines.CommandLines.{behind, front, is_none, one_mode, one_reading, same_names}
 
 -- ---- the digits of an option
 

@@ -20,7 +20,7 @@ use Rattle.tj_syntax.specs.View.{statements_of}
 use Rattle.tj_program.specs.Generated.{main_vars, head_statements, step_statements}
 use Rattle.tj_program.specs.Generated.{steps_statements, tail_statements, main_task}
 use Rattle.tj_program.specs.Generated.{node_statements, node_task, generated_script}
-use Rattle.tj_program.proofs.GeneratedNotes.{is_plain, all_plain, word_stands}
+use Rattle.tj_program.proofs.GeneratedScripts.Notes.{is_plain, all_plain, word_stands}
 
 abbrev tasks : List Name
 tasks = codes "main" ∷ codes "node" ∷ []

@@ -1,0 +1,6 @@
+-- The generated text is a script.
+pub mod Notes
+pub mod Script
+pub mod Short
+pub mod Tasks
+pub mod Text
