@@ -21,14 +21,14 @@ pub struct Node {
 
 /// A task with its node.
 #[derive(Clone, Copy)]
-pub(crate) struct Place {
-    pub(crate) task: NodeId,
-    pub(crate) node: Node,
+pub struct Place {
+    pub task: NodeId,
+    pub node: Node,
 }
 
 impl Place {
     /// Where a move leads: by the jump, or to the parent.
-    pub(crate) fn move_up(&self, by_jump: bool) -> NodeId
+    pub fn move_up(&self, by_jump: bool) -> NodeId
         ensures { result ≡ move_from self.now.node by_jump }
     {
         if by_jump {
