@@ -14,6 +14,7 @@ use Rattle.tj_body.specs.Programs.{Program}
 use Rattle.tj_body.specs.RoundPoints.{Becomes}
 use Rattle.tj_body.specs.Points.{IsIn, Begins}
 use Rattle.tj_body.proofs.Lists.{begins_self}
+use Rattle.tj_body.proofs.RoundPoints.{entries_are_one}
 use Rattle.tj_body.specs.declared.point.Reference.{Reference}
 use Rattle.tj_body.specs.declared.point.Value.TheVariants as value
 use Rattle.tj_body.specs.declared.point.Entry.{Entry}
@@ -21,29 +22,32 @@ use Rattle.tj_body.specs.declared.point.Entry.TheVariants as entry
 use Rattle.tj_tree.specs.declared.node.Node.{Node}
 use Rattle.tj_tree.specs.Forks.{HasTask}
 use Rattle.tj_tree.specs.Nodes.{node_of}
+use Rattle.tj_tree.specs.Laws.{LinksLeadToTasks}
 use Rattle.tj_words.specs.declared.head.Head.TheVariants.{Empty, Task, Shut}
 use Rattle.tj_words.specs.declared.offsets.Once.{Once}
 use Rattle.tj_words.specs.declared.offsets.Once.TheVariants as once
 use Rattle.tj_words.specs.declared.record.Rec.{Rec}
 use Rattle.tj_words.specs.declared.table.Key.{Key}
 use Rattle.tj_words.specs.declared.view.About.{About}
+use Rattle.tj_words.specs.declared.view.Filled.{Filled}
 use Rattle.tj_words.specs.declared.view.Hand.{Hand}
 use Rattle.tj_words.specs.declared.view.SeenWord.{SeenWord}
 use Rattle.tj_words.specs.declared.view.View.{View}
 use Rattle.tj_words.specs.Lists.{All, OfSeat}
-use Rattle.tj_words.specs.Offsets.{word, head_at, next_at, once_at}
+use Rattle.tj_words.specs.Offsets.{word, next_at, once_at}
 use Rattle.tj_words.specs.Heads.{shut_word, head_in}
 use Rattle.tj_words.specs.Hands.{IsThere, hand_in}
 use Rattle.tj_words.specs.TreeWords.{IsCell, IsOfTree, tree_word}
 use Rattle.tj_words.specs.OnceWords.{Stands, HasInHand}
 use Rattle.tj_words.specs.Chains.{head_of, AreLinked}
 use Rattle.tj_words.specs.Telling.{tag_of, sort_tag, BitsSay}
-use Rattle.tj_words.specs.Meaning.{IsNamedThere}
+use Rattle.tj_words.specs.Meaning.{IsFilled, IsNamedThere}
 use Rattle.tj_words.specs.Contents.{Contents, contents_of, drawn_in, hand_of, tag_in, bits_in}
 use Rattle.tj_words.specs.Law.{Law, Rule, IsAbout}
 use Rattle.tj_words.specs.SeatSteps.{SeatMe}
+use Rattle.tj_words.specs.SeenWords.{IsTaskIn, LeadsTo}
 use Rattle.tj_words.specs.SeenWords.{ShowsNode, SeesTree, seen_word, MayRead, MayReadTree, FindsWord, WillHave}
-use Rattle.tj_words.specs.SeenWords.{bits_cells, once_load, head_load, next_load}
+use Rattle.tj_words.specs.SeenWords.{bits_cells, once_load, next_load}
 use Rattle.tj_words.proofs.Learning.{Knowing, knowing_of, IsSo}
 use Rattle.tj_words.proofs.LoadSteps.{knows, knows_so, load_allowed}
 use Rattle.tj_words.proofs.Merging.{all_append, begins_at}
@@ -161,7 +165,7 @@ module _ {B : Type 0} (program : Program B) (cells : ℕ) (x : Contents B) (law 
         absurd (hand_not x.seats.hands c j t.1 h)
 
   -- the nodes that a seat has seen are those of the tree
-  pub sees_tree : (seen : List SeenWord) (born : List Reference)
+  abbrev pub sees_tree : (seen : List SeenWord) (born : List Reference)
       → All (Stands (drawn_in cells x) x.words.once law.once_words.due_to) seen → Begins born law.born
       → SeesTree seen born
   sees_tree seen born stands begins = record {
@@ -170,9 +174,11 @@ module _ {B : Type 0} (program : Program B) (cells : ℕ) (x : Contents B) (law 
     nodes = node_is;
     tasks = λ c r is k. let b = begins_at born law.born begins c r is in
         ((law.tree.tasks c).1 (r, b, k), law.tree.names c r b k);
+    depths = law.tree.depths;
   }
     where
-      right : (n : ℕ) (f : Once) (y : ℕ) (r : Reference) → IsIn (seen_word n f y) seen → IsOfTree f → IsCell law.born n r
+      right : (n : ℕ) (f : Once) (y : ℕ) (r : Reference) → IsIn (seen_word n f y) seen → IsOfTree f → IsCell law.born
+          n r
           → y ≡ tree_word law.maker law.number law.forks r.sort n f
       right n f y r i o is = seen_right (seen_word n f y) (stands (seen_word n f y) i) o r is
 
@@ -202,6 +208,27 @@ module _ {B : Type 0} (program : Program B) (cells : ℕ) (x : Contents B) (law 
           let e = at once.Depth node.depth s.depth tt in
           (has, λ i. record { parent = record { 0 = p i }; kid = d i; depth = sym e i; jump = record { 0 = h i } })
 
+  -- PARENT and JUMP of a task lead to tasks
+  pub leads_to : LinksLeadToTasks → (c : ℕ) (f : Once) (n : ℕ) → IsTaskIn law.born c
+      → n ≡ tree_word law.maker law.number law.forks sort.Task c f → LeadsTo f n law.born
+  leads_to links c once.Parent n is e = let has = (law.tree.tasks c).1 is in
+      subst (IsTaskIn law.born) (law.tree.parents c has ∙ sym (up c n e))
+      ((law.tree.tasks (node_of law.forks c).parent.0).0 (links law.forks c law.tree.history has).0)
+    where
+      up : (d p : ℕ) → p ≡ tree_word law.maker law.number law.forks sort.Task d once.Parent → p - 1 ≡ law.maker d
+      up zero p e = let m = law.births.root_maker in omega arith
+      up (suc d) p e = let z : p ≡ suc (law.maker (suc d)) = e in omega arith
+  leads_to links c once.Jump n is e = let has = (law.tree.tasks c).1 is in
+      let z : n ≡ suc (node_of law.forks c).jump.0 = e in (
+        omega arith,
+        subst (IsTaskIn law.born) (let y : (node_of law.forks c).jump.0 ≡ n - 1 = omega arith in y)
+            ((law.tree.tasks (node_of law.forks c).jump.0).0 (links law.forks c law.tree.history has).1),
+      )
+  leads_to links c once.Tag n is e = tt
+  leads_to links c once.Bits n is e = tt
+  leads_to links c once.Kid n is e = tt
+  leads_to links c once.Depth n is e = tt
+
 -- the cells that BITS names, by TAG
 abbrev pub cells_of_tag : ℕ → ℕ → List ℕ
 cells_of_tag t n = cond (nat_eq t 2) (n ∷ []) (cond (nat_eq t 3) (n ∷ []) [])
@@ -213,6 +240,15 @@ cells_by (entry.Value (value.Ref r)) n = by r.sort where
   by : (k : Sort) → n ∷ [] ≡ cells_of_tag (sort_tag k) n
   by sort.Task = refl
   by sort.Promise = refl
+
+-- TAG of an entry isn't 0
+tag_some : (e : Entry) → tag_of e ≢ 0
+tag_some entry.Broken z = let q : suc 3 ≡ zero = z in cc
+tag_some (entry.Value (value.Num j)) z = let q : suc 0 ≡ zero = z in cc
+tag_some (entry.Value (value.Ref r)) z = by r.sort z where
+  by : (k : Sort) → sort_tag k ≢ 0
+  by sort.Task z = let q : suc 2 ≡ zero = z in cc
+  by sort.Promise z = let q : suc 1 ≡ zero = z in cc
 
 -- what BITS names of an entry is there
 pub named_there : (drawn : ℕ) (hand : ℕ → Option Hand) (e : Entry) (n : ℕ) → IsNamedThere drawn hand e n
@@ -234,91 +270,31 @@ module _ {B : Type 0} (program : Program B) (cells : ℕ) (x : Contents B) (law 
       (cells_by has.0 (bits_in x c) ∙ ap (λ t. cells_of_tag t (bits_in x c)) (sym has.1.tag_is))
       (named_there (drawn_in cells x) (hand_of x) has.0 (bits_in x c) has.1.written.named_there))
 
+  -- this has become of the cell
+  abbrev HasBecome : ℕ → Entry → Type 0
+  HasBecome c e = IsFilled program (drawn_in cells x) (hand_of x) law.born (tag_in x) (bits_in x) c e
+
+  -- and nothing else
+  pub one_become : (c : ℕ) (d e : Entry) → HasBecome c d → HasBecome c e → d ≡ e
+  one_become c d e a b = let h = a.written in let k = b.written in
+      (entries_are_one program k.reference.name d e
+      (subst (λ (y : Reference). Becomes program y.name d)
+      (some-injective h.reference k.reference (sym h.is ∙ k.is)) h.becomes) k.becomes).0
+
+  -- TAG of such a cell isn't 0
+  pub become_tagged : (c : ℕ) (e : Entry) → HasBecome c e → tag_in x c ≢ 0
+  become_tagged c e h z = tag_some e (sym h.tag_is ∙ z)
+
 module _ {B : Type 0} (program : Bool → B → Program B) (key : Key B) where
   abbrev P : Program B
   P = program key.strict key.root.value
 
   -- what a view says of its root and rule is what the table was made with
-  pub will_have : (v : View B) (q : Rattle.tj_base.specs.ForkOrder.Name) (e : Entry) → IsAbout key v.about → Becomes P q e
+  pub will_have : (v : View B) (q : Rattle.tj_base.specs.ForkOrder.Name) (e : Entry) → IsAbout key v.about → Becomes P
+      q e
       → WillHave program v q e
   will_have v q e h b a at = let z = h a at in
       subst (λ (y : About B). Becomes (program y.strict y.root) q e) (sym z) b
-
-  -- the load of HEAD
-  pub head_allowed : (slots id : ℕ) (m : SeatMe B) (c i cell : ℕ) → c < key.cells → i ≡ head_at c → cell ≡ c
-      → Allows (Rule program key) slots id m i (λ n. n) (head_load cell (step slots i 0 0 none) m)
-  head_allowed slots id m c i cell l at e = load_allowed program key slots id m i (head_load cell (step slots i 0 0 none) m)
-      (λ s r k. subst (λ d. (y : Knowing) × (plain loads steps : ℕ) × IsSo P key.cells (contents_of s) r.law y
-      × head_load d (step slots i 0 0 none) m (word s.words i) (knows y plain loads steps m.0, m.1)) (sym e)
-      (subst (λ j. (y : Knowing) × (plain loads steps : ℕ) × IsSo P key.cells (contents_of s) r.law y
-      × head_load c (step slots i 0 0 none) m (word s.words j) (knows y plain loads steps m.0, m.1)) (sym at)
-      (head_found s r k)))
-    where
-      head_found : (s : State (Option (Rec B)) (View B)) (r : Rule program key s) → get_elem? s.views id ≡ some m.0
-          → (y : Knowing) × (plain loads steps : ℕ) × IsSo P key.cells (contents_of s) r.law y
-          × head_load c (step slots i 0 0 none) m (word s.words (head_at c)) (knows y plain loads steps m.0, m.1)
-      head_found s r k = let v = m.0 in let so = knows_so program key s r id v k in let law = r.law in
-          let small : word s.words (head_at c) ≤ shut_word = ⊎_elim (λ q. (omega arith))
-          (λ q. let f = r.few_cells in (omega arith)) (r.codes.each c l).head in
-          dite (ℕ_discrete (word s.words (head_at c)) shut_word)
-          (λ q. let shut : head_in (word s.words (head_at c)) ≡ Shut = ap head_in q in
-          let has = law.meaning.entries c (law.chains.tagged c shut) in (
-            record (knowing_of v) {
-              born = law.born;
-              closed = c ∷ v.closed;
-              filled = record { cell = c; entry = has.0 } ∷ v.filled;
-            },
-            v.plain_loads,
-            v.once_loads,
-            suc v.steps,
-            record {
-              known = so.known;
-              begins = begins_self law.born;
-              known_born = λ d n. let b = so.known_born d n in (b.0, begins_at v.born law.born so.begins d b.0 b.1);
-              wrote = so.wrote;
-              filled = all_cons _ (record { cell = c; entry = has.0 }) v.filled has.1 so.filled;
-              seen = so.seen;
-              closed = all_cons _ c v.closed shut so.closed;
-              found = so.found;
-              rested = so.rested;
-            },
-            (
-              refl,
-              small,
-              (λ z. record { born = law.born; entry = has.0; begins = so.begins; view = refl }),
-              (λ n. absurd (n shut)),
-            ),
-          ))
-          (λ q. let is_open : head_in (word s.words (head_at c)) ≢ Shut = λ z. q (shut_is _ small z) in
-          let chain = law.chains.line c in (
-            record (knowing_of v) { found = record { cell = c; chain = chain } ∷ v.found },
-            v.plain_loads,
-            v.once_loads,
-            suc v.steps,
-            record {
-              known = so.known;
-              begins = so.begins;
-              known_born = so.known_born;
-              wrote = so.wrote;
-              filled = so.filled;
-              seen = so.seen;
-              closed = so.closed;
-              found = all_cons _ (record { cell = c; chain = chain }) v.found (inr ([], refl)) so.found;
-              rested = so.rested;
-            },
-            (
-              refl,
-              small,
-              (λ z. absurd (is_open z)),
-              (λ n. record {
-                chain = chain;
-                is = law.chains.heads c is_open;
-                grown = λ f n z. ⊎_elim (λ y. absurd (is_open (subst (λ d. head_in (word s.words (head_at d)) ≡ Shut) z y)))
-                    (λ y. (y.0, subst (λ d. law.chains.line d ≡ y.0 ++ f.chain) z y.1)) (so.found f n);
-                view = refl;
-              }),
-            ),
-          ))
 
   -- the load of NEXT
   pub next_allowed : (slots id : ℕ) (m : SeatMe B) (t i cells task : ℕ) → t < key.cells → i ≡ next_at t
@@ -334,7 +310,8 @@ module _ {B : Type 0} (program : Bool → B → Program B) (key : Key B) where
         (
           refl,
           refl,
-          subst (λ n. word s.words i ≤ n) (sym e) (subst (λ j. word s.words j ≤ key.cells) (sym at) (r.codes.each t l).next),
+          subst (λ n. word s.words i ≤ n) (sym e) (subst (λ j. word s.words j ≤ key.cells) (sym at)
+              (r.codes.each t l).next),
           (λ rest ts q z. subst (λ j. head_in (word s.words j) ≡ head_of ts) (sym at)
               (let o = r.law.chains.rest id m.0.rest (at_map (λ (u : View B). u.rest) s.views id m.0 k) rest q in
               (subst (AreLinked (λ c. head_in (word s.words (next_at c)))) (o.left ∙ (z ∙ ap (λ y. y ∷ ts) f))
@@ -343,28 +320,38 @@ module _ {B : Type 0} (program : Bool → B → Program B) (key : Key B) where
       ))
 
   -- the load of a word that is written once
-  pub once_allowed : (slots id : ℕ) (m : SeatMe B) (c i : ℕ) (f : Once) (cell : ℕ) (named : Once) → c < key.cells
-      → i ≡ once_at c f → cell ≡ c → named ≡ f → MayRead f c m.0
-      → Allows (Rule program key) slots id m i (λ n. n) (once_load program named cell (step slots i 0 0 none) m)
-  once_allowed slots id m c i f cell named l at e g may = load_allowed program key slots id m i
-      (once_load program named cell (step slots i 0 0 none) m) (λ s r k.
+  pub once_allowed : LinksLeadToTasks → (slots id : ℕ) (m : SeatMe B) (c i : ℕ) (f : Once) (size cell : ℕ)
+      (named : Once)
+      → c < key.cells
+      → i ≡ once_at c f → size ≡ key.cells → cell ≡ c → named ≡ f → MayRead f c m.0
+      → Allows (Rule program key) slots id m i (λ n. n) (once_load program size named cell (step slots i 0 0 none) m)
+  once_allowed links slots id m c i f size cell named l at z e g may = load_allowed program key slots id m i
+      (once_load program size named cell (step slots i 0 0 none) m) (λ s r k.
       subst (λ d. (y : Knowing) × (plain loads steps : ℕ) × IsSo P key.cells (contents_of s) r.law y
-      × once_load program named d (step slots i 0 0 none) m (word s.words i) (knows y plain loads steps m.0, m.1)) (sym e)
+      × once_load program d named cell (step slots i 0 0 none) m (word s.words i)
+      (knows y plain loads steps m.0, m.1)) (sym z)
       (subst (λ d. (y : Knowing) × (plain loads steps : ℕ) × IsSo P key.cells (contents_of s) r.law y
-      × once_load program d c (step slots i 0 0 none) m (word s.words i) (knows y plain loads steps m.0, m.1)) (sym g)
+      × once_load program key.cells named d (step slots i 0 0 none) m (word s.words i)
+      (knows y plain loads steps m.0, m.1)) (sym e)
+      (subst (λ d. (y : Knowing) × (plain loads steps : ℕ) × IsSo P key.cells (contents_of s) r.law y
+      × once_load program key.cells d c (step slots i 0 0 none) m (word s.words i)
+      (knows y plain loads steps m.0, m.1)) (sym g)
       (subst (λ j. (y : Knowing) × (plain loads steps : ℕ) × IsSo P key.cells (contents_of s) r.law y
-      × once_load program f c (step slots i 0 0 none) m (word s.words j) (knows y plain loads steps m.0, m.1)) (sym at)
-      (found s r k f may))))
+      × once_load program key.cells f c (step slots i 0 0 none) m (word s.words j)
+      (knows y plain loads steps m.0, m.1)) (sym at)
+      (found s r k f may)))))
     where
       tree : (s : State (Option (Rec B)) (View B)) (r : Rule program key s) → get_elem? s.views id ≡ some m.0
           → (f : Once) → IsOfTree f → MayReadTree c m.0 → word s.words (once_at c f) < 2 ^ 32
           → (y : Knowing) × (plain loads steps : ℕ) × IsSo P key.cells (contents_of s) r.law y
-          × ((m.1 ≡ m.1) × FindsWord f c (word s.words (once_at c f)) m.0 (knows y plain loads steps m.0))
+          × ((m.1 ≡ m.1) × FindsWord key.cells f c (word s.words (once_at c f)) m.0 (knows y plain loads steps m.0))
       tree s r k f o may small = let v = m.0 in let so = knows_so program key s r id v k in let law = r.law in
           let there = readable P key.cells (contents_of s) law v so c may in
           let w : SeenWord = seen_word c f (word s.words (once_at c f)) in
-          let seen = all_cons (Stands (drawn_in key.cells (contents_of s)) (contents_of s).words.once law.once_words.due_to) w v.seen
+          let seen = all_cons (Stands (drawn_in key.cells (contents_of s)) (contents_of s).words.once
+          law.once_words.due_to) w v.seen
           (record {
+            of_tree = o;
             drawn_cell = there.0;
             value = refl;
             written = tree_written P key.cells (contents_of s) law c f there o;
@@ -392,16 +379,39 @@ module _ {B : Type 0} (program : Bool → B → Program B) (key : Key B) where
                 small = small;
                 view = refl;
                 tree = sees_tree P key.cells (contents_of s) law (w ∷ v.seen) law.born seen (begins_self law.born);
+                few = let n = law.births.all in omega arith;
+                leads = λ is. let b = begins_at v.born law.born so.begins c is.0 is.1 in
+                    leads_to P key.cells (contents_of s) law links c f (word s.words (once_at c f)) (is.0, b, is.2)
+                    (subst (λ z. word s.words (once_at c f) ≡ tree_word law.maker law.number law.forks z c f) is.2
+                    (law.tree_words.written c is.0 f there b o));
               },
             ),
           )
 
       tag : (s : State (Option (Rec B)) (View B)) (r : Rule program key s) → get_elem? s.views id ≡ some m.0
           → (y : Knowing) × (plain loads steps : ℕ) × IsSo P key.cells (contents_of s) r.law y
-          × once_load program once.Tag c (step slots i 0 0 none) m (word s.words (once_at c once.Tag)) (knows y plain loads steps m.0, m.1)
+          × once_load program key.cells once.Tag c (step slots i 0 0 none) m (word s.words (once_at c once.Tag))
+          (knows y plain loads steps m.0, m.1)
       tag s r k = let v = m.0 in let so = knows_so program key s r id v k in let law = r.law in
           dite (ℕ_discrete (word s.words (once_at c once.Tag)) 0)
-          (λ z. (knowing_of v, v.plain_loads, suc v.once_loads, suc v.steps, so, (refl, ((λ n. refl), (λ n. absurd (n z))))))
+          (λ z. (
+            knowing_of v,
+            v.plain_loads,
+            suc v.once_loads,
+            suc v.steps,
+            so,
+            (
+              refl,
+              (
+                (λ n. record {
+                  unknown = λ y j q. become_tagged P key.cells (contents_of s) law c y.entry
+                      (subst (λ d. HasBecome P key.cells (contents_of s) law d y.entry) q (so.filled y j)) z;
+                  view = refl;
+                }),
+                (λ n. absurd (n z)),
+              ),
+            ),
+          ))
           (λ z. let has = law.meaning.entries c z in let w = has.1.written in (
             record (knowing_of v) { born = law.born; filled = record { cell = c; entry = has.0 } ∷ v.filled },
             v.plain_loads,
@@ -429,6 +439,9 @@ module _ {B : Type 0} (program : Bool → B → Program B) (key : Key B) where
                   begins = so.begins;
                   is = w.is;
                   becomes = will_have v w.reference.name has.0 (r.seats id v k).about w.becomes;
+                  same = λ y j q. one_become P key.cells (contents_of s) law c y.entry has.0
+                      (subst (λ d. HasBecome P key.cells (contents_of s) law d y.entry) q (so.filled y j)) has.1;
+                  few = (let n = law.births.all in omega arith);
                   tag = has.1.tag_is;
                   view = refl;
                 }),
@@ -450,7 +463,8 @@ module _ {B : Type 0} (program : Bool → B → Program B) (key : Key B) where
 
       bits : (s : State (Option (Rec B)) (View B)) (r : Rule program key s) → get_elem? s.views id ≡ some m.0
           → (y : Knowing) × (plain loads steps : ℕ) × IsSo P key.cells (contents_of s) r.law y
-          × once_load program once.Bits c (step slots i 0 0 none) m (word s.words (once_at c once.Bits)) (knows y plain loads steps m.0, m.1)
+          × once_load program key.cells once.Bits c (step slots i 0 0 none) m (word s.words (once_at c once.Bits))
+          (knows y plain loads steps m.0, m.1)
       bits s r k = let v = m.0 in let so = knows_so program key s r id v k in let law = r.law in
           let n : ℕ = word s.words (once_at c once.Bits) in
           let more = named_by s r in (
@@ -475,8 +489,9 @@ module _ {B : Type 0} (program : Bool → B → Program B) (key : Key B) where
               refl,
               record {
                 born = law.born;
-                cells = more.0;
+                named = more.0;
                 begins = so.begins;
+                few = (let n = law.births.all in omega arith);
                 says = λ y j q. let h = so.filled y j in (
                   subst (λ d. BitsSay law.born y.entry (word s.words (once_at d once.Bits))) q h.written.bits_say,
                   more.2 y.entry (subst (λ d. word s.words (once_at d once.Tag) ≡ tag_of y.entry) q h.tag_is),
@@ -489,10 +504,14 @@ module _ {B : Type 0} (program : Bool → B → Program B) (key : Key B) where
       found : (s : State (Option (Rec B)) (View B)) (r : Rule program key s) → get_elem? s.views id ≡ some m.0
           → (f : Once) → MayRead f c m.0
           → (y : Knowing) × (plain loads steps : ℕ) × IsSo P key.cells (contents_of s) r.law y
-          × once_load program f c (step slots i 0 0 none) m (word s.words (once_at c f)) (knows y plain loads steps m.0, m.1)
+          × once_load program key.cells f c (step slots i 0 0 none) m (word s.words (once_at c f))
+          (knows y plain loads steps m.0, m.1)
       found s r k once.Tag may = tag s r k
       found s r k once.Bits may = bits s r k
-      found s r k once.Parent may = tree s r k once.Parent tt may (let p = (r.codes.each c l).parent in let f = r.few_cells in omega arith)
+      found s r k once.Parent may = tree s r k once.Parent tt may
+          (let p = (r.codes.each c l).parent in let f = r.few_cells in omega arith)
       found s r k once.Kid may = tree s r k once.Kid tt may (r.codes.each c l).kid
-      found s r k once.Depth may = tree s r k once.Depth tt may (let p = (r.codes.each c l).depth in let f = r.few_cells in omega arith)
-      found s r k once.Jump may = tree s r k once.Jump tt may (let p = (r.codes.each c l).jump in let f = r.few_cells in omega arith)
+      found s r k once.Depth may = tree s r k once.Depth tt may
+          (let p = (r.codes.each c l).depth in let f = r.few_cells in omega arith)
+      found s r k once.Jump may = tree s r k once.Jump tt may
+          (let p = (r.codes.each c l).jump in let f = r.few_cells in omega arith)

@@ -19,13 +19,12 @@ use Rattle.tj_words.specs.declared.phase.Walk.TheVariants as walks
 use Rattle.tj_words.specs.Phases.{phase_in}
 use Rattle.tj_words.specs.LiveCount.{live_part, live_tasks}
 use Rattle.tj_words.specs.Lists.{Each, All, total}
-use Rattle.tj_words.specs.Offsets.{word, own_at, phase_at, live_at, stop_at, count_at}
-use Rattle.tj_words.specs.Codes.{IsPhaseWord}
-use Rattle.tj_words.specs.Contents.{SeatsHave, words_say, contents_of, seats_have}
-use Rattle.tj_words.specs.Law.{Law, Rule, IsSeat}
+use Rattle.tj_words.specs.Offsets.{word, own_at, phase_at, live_at, count_at}
+use Rattle.tj_words.specs.Contents.{SeatsHave, contents_of, seats_have}
+use Rattle.tj_words.specs.Law.{Rule, IsSeat}
 use Rattle.tj_words.specs.SeatSteps.{SeatMe, plain_load, live_load, simple_load, IsCount}
 use Rattle.tj_words.proofs.SeatLists.{each_set, words_same}
-use Rattle.tj_words.proofs.SeatContents.{seats_set, seats_same}
+use Rattle.tj_words.proofs.SeatContents.{seats_set, seats_same, rule_views}
 use Rattle.tj_words.proofs.Learning.{Knowing, knowing_of, IsSo, learns, law_learns}
 
 -- there are no more live tasks than cells
@@ -103,21 +102,10 @@ module _ {B : Type 0} where
         → IsSo (program key.strict key.root.value) key.cells (contents_of s) r.law k
         → Rule program key record
         { words = s.words; homes = s.homes; views = set s.views id (knows k plain once steps v) }
-    rule_learns s r id v at k plain once steps so = record {
-      some_cells = r.some_cells;
-      few_cells = r.few_cells;
-      all_words = r.all_words;
-      all_slots = r.all_slots;
-      codes = r.codes;
-      seats =
-          each_set _ s.views id (knows k plain once steps v) r.seats
-          (knows_seat key k plain once steps v (r.seats id v at) so.known_born);
-      law =
-          subst
-          (λ z. Law (program key.strict key.root.value) key.cells record
-          { words = words_say s.words; slots = s.homes; seats = z }) (sym path)
-          (law_learns (program key.strict key.root.value) key.cells (contents_of s) r.law id k so);
-    }
+    rule_learns s r id v at k plain once steps so = rule_views r (set s.views id (knows k plain once steps v)) _ path
+        (each_set _ s.views id (knows k plain once steps v) r.seats
+        (knows_seat key k plain once steps v (r.seats id v at) so.known_born))
+        (law_learns (program key.strict key.root.value) key.cells (contents_of s) r.law id k so)
       where
         path : seats_have (set s.views id (knows k plain once steps v))
             ≡ (learns (program key.strict key.root.value) key.cells (contents_of s) r.law id k).seats
@@ -179,7 +167,7 @@ module _ {B : Type 0} where
         ))
 
     -- LIVE is small
-    live_small : (s : State (Option (Rec B)) (View B)) → Rule program key s → word s.words live_at < 2 ^ 32
+    pub live_small : (s : State (Option (Rec B)) (View B)) → Rule program key s → word s.words live_at < 2 ^ 32
     live_small s r = let c = r.law.live_count.counted in let l = r.law.lots.all in let f = r.few_cells in
         let p = live_few (λ c. phase_in (word s.words (phase_at c))) key.cells in
         let t =
@@ -221,9 +209,6 @@ module _ {B : Type 0} where
         )))
 
     -- what may stand in the words that are loaded
-    pub stop_may : (s : State (Option (Rec B)) (View B)) → Rule program key s → word s.words stop_at ≤ 2
-    stop_may s r = r.codes.stop
-
     pub count_allowed : (slots id : ℕ) (m : SeatMe B) (cells : ℕ) → cells ≡ key.cells
         → Allows (Rule program key) slots id m count_at (λ n. n)
         (plain_load (IsCount cells) (step slots count_at 0 0 none) m)
@@ -236,10 +221,3 @@ module _ {B : Type 0} where
     owner_allowed slots id m cells c i e l at = plain_allowed slots id m i (λ n. n ≤ cells)
         (λ s r. subst (λ n. word s.words i ≤ n) (sym e)
         (subst (λ k. word s.words k ≤ key.cells) (sym at) (r.codes.each c l).own))
-
-    pub phase_allowed : (slots id : ℕ) (m : SeatMe B) (cells c i : ℕ) → cells ≡ key.cells → c < key.cells
-        → i ≡ phase_at c
-        → Allows (Rule program key) slots id m i (λ n. n) (plain_load (IsPhaseWord cells) (step slots i 0 0 none) m)
-    phase_allowed slots id m cells c i e l at = plain_allowed slots id m i (IsPhaseWord cells)
-        (λ s r. subst (λ n. IsPhaseWord n (word s.words i)) (sym e)
-        (subst (λ k. IsPhaseWord key.cells (word s.words k)) (sym at) (r.codes.each c l).phase))

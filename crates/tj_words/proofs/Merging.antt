@@ -21,7 +21,7 @@ use Rattle.tj_words.specs.Law.{Law, Rule, IsSeat}
 use Rattle.tj_words.specs.Lots.{Lots}
 use Rattle.tj_words.specs.Views.{longer, both, spent, IsIdle}
 use Rattle.tj_words.proofs.SeatLists.{each_set, inside}
-use Rattle.tj_words.proofs.SeatContents.{set_seats, seats_set, seats_same}
+use Rattle.tj_words.proofs.SeatContents.{set_seats, seats_set, seats_same, rule_views}
 use Rattle.tj_words.proofs.Learning.{Knowing, knowing_of, IsSo, learns, law_learns}
 use Rattle.tj_words.proofs.LoadSteps.{knows_so}
 use Rattle.tj_words.proofs.Splitting.{total_set}
@@ -169,8 +169,12 @@ module _ {B : Type 0} where
   spent_seat : (key : Key B) → IsSeat key spent
   spent_seat key = record {
     about = λ a e. cc;
-    within_lot =
-        record { least = inl refl; refused_fit = omega arith; tokens_fit = omega arith; cleared_fit = omega arith };
+    within_lot = record {
+      least = inl (refl, refl);
+      refused_fit = omega arith;
+      tokens_fit = omega arith;
+      cleared_fit = omega arith;
+    };
     backing = record { wakes = λ h. absurd (none h); tags = λ t. absurd t.1; alarms = λ a. absurd (no_task a.1 a.2) };
     known_born = λ c i. absurd i;
   }
@@ -281,21 +285,12 @@ module _ {B : Type 0} where
 
     rule_glued : Rule program key
         record { words = s.words; homes = s.homes; views = set (set s.views id (both v w)) other spent }
-    rule_glued = record {
-      some_cells = r.some_cells;
-      few_cells = r.few_cells;
-      all_words = r.all_words;
-      all_slots = r.all_slots;
-      codes = r.codes;
-      seats = each_set _ (set s.views id (both v w)) other spent
-          (each_set _ s.views id (both v w) r.seats
-          (both_seat key v w (r.seats id v at) (r.seats other w there) so.known_born))
-          (spent_seat key);
-      law =
-          subst (λ z. Law P key.cells record { words = words_say s.words; slots = s.homes; seats = z })
-          (sym (p1 ∙ p2))
-          (law_lots P key.cells x2 law2 _ _ lots);
-    }
+    rule_glued = rule_views r (set (set s.views id (both v w)) other spent) _ (p1 ∙ p2)
+        (each_set _ (set s.views id (both v w)) other spent
+        (each_set _ s.views id (both v w) r.seats
+        (both_seat key v w (r.seats id v at) (r.seats other w there) so.known_born))
+        (spent_seat key))
+        (law_lots P key.cells x2 law2 _ _ lots)
 
   -- a merge keeps the rule
   pub rule_joins : (program : Bool → B → Program B) (key : Key B) (id : ℕ) (v : View B) (other : ℕ) (w : View B)

@@ -34,7 +34,7 @@ use Rattle.tj_words.specs.OnceWords.{OnceWords}
 use Rattle.tj_words.specs.Chains.{Chains}
 use Rattle.tj_words.specs.LiveCount.{live_tasks}
 use Rattle.tj_words.specs.Contents.{Contents, contents_of, seats_have, core_shown, home_of, owned_of}
-use Rattle.tj_words.specs.Law.{Law, Rule, IsSeat, most_cells}
+use Rattle.tj_words.specs.Law.{IsRooted, Law, Rule, IsSeat, most_cells}
 use Rattle.tj_body.specs.Programs.{Program, root_task}
 use Rattle.tj_body.specs.RoundPoints.{InRounds, TasksStart}
 use Rattle.tj_words.specs.Meaning.{IsFilled, IsToldRecord, Meaning}
@@ -415,15 +415,17 @@ module _ {B : Type 0} (program : Bool → B → Program B) (key : Key B) (some_c
 
   -- a new table meets the rule
   pub opening_meets : StartMeetsFacts → TasksStart (program key.strict root_of)
+      → IsRooted (program key.strict root_of)
       → (program key.strict root_of).root ≡ root_of → (ws : List ℕ) (xs : List (Option (Rec B)))
       → ws ≡ first_words key.cells → xs ≡ first_slots key.cells root_of
       → Rule program key (opening ws xs (first_view key.cells root_of key.strict))
-  opening_meets start_meets starts same ws xs e f =
+  opening_meets start_meets starts rooted same ws xs e f =
       subst (λ z. Rule program key (opening z xs (first_view key.cells root_of key.strict))) (sym e)
       (subst (λ z. Rule program key (opening (first_words key.cells) z (first_view key.cells root_of key.strict)))
       (sym f) (record {
         some_cells = some_cells;
         few_cells = few;
+        rooted = rooted;
         all_words = first_wide key.cells some_cells;
         all_slots = length_some (first_slots key.cells root_of) ∙ first_deep key.cells some_cells root_of;
         codes = first_codes key.cells some_cells;

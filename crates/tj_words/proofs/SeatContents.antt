@@ -1,11 +1,17 @@
 -- The contents of a table after a step of one seat: what the seats have, where one view changes.
-use Rattle.std.proofs.Common.{◌≡◌, ℕ, List, set, sym, ap, ◌∙◌}
+use Rattle.std.proofs.Common.{◌≡◌, ℕ, Bool, List, set, Option, sym, ap, subst, ◌∙◌}
 use mathlib.Core.Option.{some}
 use lib.ListN.{get_elem?}
 use lib.Seq.{map-set}
 use Rattle.atomic_table.proofs.Lists.{set_again}
+use Rattle.atomic_table.specs.Table.{State}
+use Rattle.tj_body.specs.Programs.{Program}
+use Rattle.tj_words.specs.declared.record.Rec.{Rec}
+use Rattle.tj_words.specs.declared.table.Key.{Key}
 use Rattle.tj_words.specs.declared.view.View.{View}
-use Rattle.tj_words.specs.Contents.{SeatsHave, seats_have}
+use Rattle.tj_words.specs.Lists.{Each}
+use Rattle.tj_words.specs.Contents.{SeatsHave, seats_have, words_say}
+use Rattle.tj_words.specs.Law.{IsSeat, Law, Rule}
 
 module _ {B : Type 0} where
   -- seat id has the view w
@@ -59,3 +65,25 @@ module _ {B : Type 0} where
   pub seats_same : (views : List (View B)) (id : ℕ) (v : View B) → get_elem? views id ≡ some v
       → set_seats (seats_have views) id v ≡ seats_have views
   seats_same views id v at = sym (seats_set views id v) ∙ ap seats_have (set_again views id v at)
+
+module _ {B : Type 0} {program : Bool → B → Program B} {key : Key B} {s : State (Option (Rec B)) (View B)}
+    (r : Rule program key s) where
+  -- the rule where the words and slots stay, by the law over what the seats have then
+  pub rule_views : (views : List (View B)) (seats : SeatsHave B) → seats_have views ≡ seats
+      → Each (λ j v. IsSeat key v) views
+      → Law (program key.strict key.root.value) key.cells
+      record { words = words_say s.words; slots = s.homes; seats = seats }
+      → Rule program key record { words = s.words; homes = s.homes; views = views }
+  rule_views views seats path each law = record {
+    some_cells = r.some_cells;
+    few_cells = r.few_cells;
+    rooted = r.rooted;
+    all_words = r.all_words;
+    all_slots = r.all_slots;
+    codes = r.codes;
+    seats = each;
+    law = subst (λ z. Law (program key.strict key.root.value) key.cells
+        record { words = words_say s.words; slots = s.homes; seats = z })
+        (sym path)
+        law;
+  }

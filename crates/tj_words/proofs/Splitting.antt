@@ -1,6 +1,6 @@
 -- A split keeps the rule of the table.
 use Rattle.std.proofs.Common.{◌≡◌, Bool, ℕ, zero, suc, ◌+◌, ◌-◌, List, [], ◌∷◌, ◌++◌, Option, Some, None, set, refl}
-use Rattle.std.proofs.Common.{sym, ap, ◌∙◌, subst, inl, inr, arith}
+use Rattle.std.proofs.Common.{sym, ap, ◌∙◌, inl, inr, arith}
 use mathlib.Core.Option.{some, some-injective, some-ne-none}
 use mathlib.Core.List.{map-append}
 use lib.ListN.{get_elem?}
@@ -14,11 +14,11 @@ use Rattle.tj_words.specs.declared.view.View.{View}
 use Rattle.tj_words.specs.Lists.{total}
 use Rattle.tj_words.specs.Lots.{all_lots, least_lot}
 use Rattle.tj_words.specs.LiveCount.{HasWakeToCome}
-use Rattle.tj_words.specs.Contents.{SeatsHave, words_say, seats_have, contents_of}
-use Rattle.tj_words.specs.Law.{Law, Rule, IsSeat}
+use Rattle.tj_words.specs.Contents.{SeatsHave, seats_have, contents_of}
+use Rattle.tj_words.specs.Law.{Rule, IsSeat}
 use Rattle.tj_words.specs.Views.{left_half, right_half, MaySplit}
 use Rattle.tj_words.proofs.SeatLists.{each_set, each_snoc}
-use Rattle.tj_words.proofs.SeatContents.{seats_set, seats_same}
+use Rattle.tj_words.proofs.SeatContents.{seats_set, seats_same, rule_views}
 use Rattle.tj_words.proofs.Learning.{knowing_of}
 use Rattle.tj_words.proofs.LoadSteps.{knows_so}
 use Rattle.tj_words.proofs.Appending.{total_snoc, with_seat, law_appends}
@@ -127,21 +127,12 @@ module _ {B : Type 0} where
 
     rule_cut : Rule program key
         record { words = s.words; homes = s.homes; views = set s.views id (left_half v) ++ right_half v ∷ [] }
-    rule_cut = record {
-      some_cells = r.some_cells;
-      few_cells = r.few_cells;
-      all_words = r.all_words;
-      all_slots = r.all_slots;
-      codes = r.codes;
-      seats = each_snoc _ (set s.views id (left_half v)) (right_half v)
-          (each_set _ s.views id (left_half v) r.seats (left_seat key v m (r.seats id v at)))
-          (λ j. right_seat key v (r.seats id v at));
-      law = subst (λ z. Law (program key.strict key.root.value) key.cells
-          record { words = words_say s.words; slots = s.homes; seats = z })
-          (sym path)
-          (law_appends (program key.strict key.root.value) key.cells (contents_of s) r.law lots all (knowing_of v)
-          (knows_so program key s r id v at));
-    }
+    rule_cut = rule_views r (set s.views id (left_half v) ++ right_half v ∷ []) _ path
+        (each_snoc _ (set s.views id (left_half v)) (right_half v)
+        (each_set _ s.views id (left_half v) r.seats (left_seat key v m (r.seats id v at)))
+        (λ j. right_seat key v (r.seats id v at)))
+        (law_appends (program key.strict key.root.value) key.cells (contents_of s) r.law lots all (knowing_of v)
+        (knows_so program key s r id v at))
 
   -- a split keeps the rule
   pub rule_splits : (program : Bool → B → Program B) (key : Key B) (id : ℕ) (v : View B) → MaySplit v

@@ -26,6 +26,7 @@ abbrev pub IsToPush : List (List Push) → ℕ → ℕ → ℕ → Type 0
 IsToPush pushes j p t = (l : List Push) × (e : Push) × (get_elem? pushes j ≡ some l) × IsIn e l × (e.task ≡ t)
     × (e.cell ≡ p)
 
+-- the sentences on chains, over TAG, HEAD, NEXT and PHASE and what the seats have to do
 pub record ChainSentences (tag : ℕ → ℕ) (head next : ℕ → Head) (phase : ℕ → Phase) (pushes : List (List Push))
     (shuts : List (List ℕ)) (rests : List (Option Rest)) (closed : List (List ℕ)) (found : List (List Found)) : Type 0
   where

@@ -41,6 +41,7 @@ pub record WordsSay : Type 0 where
   pub head : ℕ → Head
   pub next : ℕ → Head
 
+-- what the words say
 abbrev pub words_say : List ℕ → WordsSay
 words_say words = record {
   count = word words count_at;
@@ -75,6 +76,7 @@ pub record SeatsHave (B : Type 0) : Type 0 where
   pub found : List (List Found)
   pub rested : List Bool
 
+-- what the seats have
 abbrev pub seats_have : {B : Type 0} → List (View B) → SeatsHave B
 seats_have {B} views = record {
   lots = map (λ (v : View B). v.lot) views;
@@ -104,6 +106,7 @@ pub record Contents (B : Type 0) : Type 0 where
   pub seats : SeatsHave B
 
 module _ {B : Type 0} where
+  -- the contents of a table in this state
   abbrev pub contents_of : State (Option (Rec B)) (View B) → Contents B
   contents_of s = record { words = words_say s.words; slots = s.homes; seats = seats_have s.views }
 
@@ -111,9 +114,11 @@ module _ {B : Type 0} where
   abbrev pub drawn_in : ℕ → Contents B → ℕ
   drawn_in cells x = min x.words.count cells
 
+  -- TAG of cell c
   abbrev pub tag_in : Contents B → ℕ → ℕ
   tag_in x c = x.words.once c once.Tag
 
+  -- BITS of cell c
   abbrev pub bits_in : Contents B → ℕ → ℕ
   bits_in x c = x.words.once c once.Bits
 

@@ -48,13 +48,14 @@ module _ {B : Type 0} where
     pub owned : numbers r.owned ≡ k.owned
     pub made : r.made ≡ k.made
 
-  -- what holds of a task that seat j holds
+  -- what holds of a task that seat j holds; nothing lies at home of it but what the seat has there
   pub record IsCustody (holder : ℕ → Option ℕ) (phase : ℕ → Phase) (home : ℕ → Option (Rec B)) (j t : ℕ)
       (k : Custody B) :
       Type 0 where
     pub mine : holder t ≡ Some j
     pub does : phase t ≡ phase_of k.does
     pub laid : (r : Rec B) → k.home ≡ Some r → IsLaid k (home t) r
+    pub out : k.home ≡ None → home t ≡ None
 
   -- each task is with one seat or at home, as its phase says, and a seat holds no other task; all other slots are
   -- empty

@@ -1,6 +1,5 @@
 -- The law of the table. It holds between any two steps, of the words, the slots and the views of all seats. Each part
--- is
--- a definition over the words and the fields of the views that it names, so a step that changes none of them keeps
+-- is a definition over the words and the fields of the views that it names, so a step that changes none of them keeps
 -- it.
 use Rattle.std.specs.Prelude.{◌≡◌, ℕ, ◌<◌, ◌≤◌, Bool, List, length, Option, Some}
 use Rattle.atomic_table.specs.Table.{State}
@@ -25,6 +24,7 @@ use Rattle.tj_words.specs.Custodies.{Custodies, OwnedLists}
 use Rattle.tj_words.specs.OnceWords.{OnceWords}
 use Rattle.tj_words.specs.Chains.{Chains}
 use Rattle.tj_words.specs.LiveCount.{LiveCount, Backing}
+use Rattle.tj_body.specs.Asks.{IsFresh}
 use Rattle.tj_body.specs.Programs.{Program}
 use Rattle.tj_words.specs.Meaning.{Meaning}
 use Rattle.tj_words.specs.RecordPhases.{WaitersOwn, RecordsFit}
@@ -34,6 +34,11 @@ abbrev pub most_cells : ℕ
 most_cells = 16384
 
 module _ {B : Type 0} where
+  -- the root's body has asked nothing yet, and has one place
+  abbrev pub IsRooted : Program B → Type 0
+  IsRooted program =
+      IsFresh program.rules.places program.rules.awaits program.rules.left 1 program.root
+
   -- a view that isn't spent names the root, the number of cells and the rule that the table was made with
   abbrev pub IsAbout : Key B → Option (About B) → Type 0
   IsAbout key about = (a : About B) → about ≡ Some a
@@ -80,6 +85,7 @@ module _ {B : Type 0} where
   pub record Rule (program : Bool → B → Program B) (key : Key B) (s : State (Option (Rec B)) (View B)) : Type 0 where
     pub some_cells : 0 < key.cells
     pub few_cells : key.cells ≤ most_cells
+    pub rooted : IsRooted (program key.strict key.root.value)
     pub all_words : length s.words ≡ words_for key.cells
     pub all_slots : length s.homes ≡ key.cells
     pub codes : Codes key.cells s.words

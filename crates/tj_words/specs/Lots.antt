@@ -1,5 +1,5 @@
 -- Lots: how much of the room of COUNT, LIVE and OTHERS each seat has.
-use Rattle.std.specs.Prelude.{◌≡◌, ◌⊎◌, ℕ, ◌+◌, ◌≤◌, ◌^◌, min, List, None}
+use Rattle.std.specs.Prelude.{◌≡◌, ◌⊎◌, ℕ, ◌+◌, ◌≤◌, ◌^◌, min, List, [], None}
 use Rattle.tj_words.specs.declared.view.View.{View}
 use Rattle.tj_words.specs.Lists.{total}
 
@@ -11,11 +11,14 @@ all_lots = 2 ^ 20
 abbrev pub least_lot : ℕ
 least_lot = 4
 
+-- a view that another seat has taken in: it names no program, and holds no task
+abbrev pub IsSpent : {B : Type 0} → View B → Type 0
+IsSpent v = (v.about ≡ None) × (v.tasks ≡ [])
+
 -- a lot is at least 4, but in a spent view; the refused draws, the tokens, and the waits cleared and not yet lowered
--- are
--- each at most the lot
+-- are each at most the lot
 pub record IsWithinLot {B : Type 0} (v : View B) : Type 0 where
-  pub least : (v.about ≡ None) ⊎ (least_lot ≤ v.lot)
+  pub least : IsSpent v ⊎ (least_lot ≤ v.lot)
   pub refused_fit : v.refused ≤ v.lot
   pub tokens_fit : v.tokens ≤ v.lot
   pub cleared_fit : v.cleared ≤ v.lot

@@ -47,6 +47,7 @@ module _ {B : Type 0} (program : Program B) (drawn : ℕ) (hand : ℕ → Option
 
 -- what a point of some round needs: its children and promises are cells, and each cell that it wrote has that entry
 module _ {B : Type 0} (program : Program B) (born : List Reference) (Has : ℕ → Entry → Type 0) where
+  -- the point is one of some round, and what it forked, made and wrote is there
   pub record StandsIn (p : Point B) : Type 0 where
     pub of_rounds : IsOfRounds program p
     pub children : (k : Task B) → IsIn k p.children → HasCell born k.name (λ c x. x.sort ≡ sort.Task)

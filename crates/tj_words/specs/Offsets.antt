@@ -11,12 +11,15 @@ word words i = slice_index_or words i 0
 abbrev pub count_at : ℕ
 count_at = 0
 
+-- where LIVE stands
 abbrev pub live_at : ℕ
 live_at = 1
 
+-- where OTHERS stands
 abbrev pub others_at : ℕ
 others_at = 2
 
+-- where STOP stands
 abbrev pub stop_at : ℕ
 stop_at = 3
 
@@ -32,9 +35,11 @@ first_word cell = 4 + 10 * cell
 abbrev pub own_at : ℕ → ℕ
 own_at cell = first_word cell
 
+-- where PHASE of a cell stands
 abbrev pub phase_at : ℕ → ℕ
 phase_at cell = first_word cell + 1
 
+-- where a word of a cell stands that is written once
 abbrev pub once_at : ℕ → Once → ℕ
 once_at cell Tag = first_word cell + 2
 once_at cell Bits = first_word cell + 3
@@ -43,8 +48,10 @@ once_at cell Kid = first_word cell + 5
 once_at cell Depth = first_word cell + 6
 once_at cell Jump = first_word cell + 7
 
+-- where HEAD of a cell stands
 abbrev pub head_at : ℕ → ℕ
 head_at cell = first_word cell + 8
 
+-- where NEXT of a task stands
 abbrev pub next_at : ℕ → ℕ
 next_at cell = first_word cell + 9

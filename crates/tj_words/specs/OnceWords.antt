@@ -26,8 +26,9 @@ pub record MayBeDue (drawn : ℕ) (hand : ℕ → Option Hand) (hands : List (Op
   pub value : ¬ IsOfTree f → IsThere drawn hand c × (own c ≡ None)
   pub tag_last : ¬ IsOfTree f → due_to c once.Tag ≡ Some j
 
--- what a seat has seen stands, and is due to nobody
+-- what a seat has seen is a word of the tree, stands, and is due to nobody
 pub record Stands (drawn : ℕ) (word : ℕ → Once → ℕ) (due_to : ℕ → Once → Option ℕ) (w : SeenWord) : Type 0 where
+  pub of_tree : IsOfTree w.word
   pub drawn_cell : w.cell < drawn
   pub value : word w.cell w.word ≡ w.value
   pub written : due_to w.cell w.word ≡ None

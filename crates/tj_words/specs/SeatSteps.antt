@@ -3,6 +3,7 @@ use Rattle.std.specs.Prelude.{◌≡◌, ◌≢◌, ℕ, ◌<◌, ◌^◌, min, 
 use Rattle.atomic_table.specs.Table.{Me, Step}
 use Rattle.atomic_table.specs.declared.shared.Seat.{Seat}
 use Rattle.tj_words.specs.declared.record.Rec.{Rec}
+use Rattle.tj_words.specs.declared.table.Laid.{Laid}
 use Rattle.tj_words.specs.declared.view.View.{View}
 use Rattle.tj_words.specs.Views.{loaded_plain, saw_rest, stepped_on}
 
@@ -15,6 +16,14 @@ abbrev pub Tells : Type 0 → Type 1
 Tells B = Step (Option (Rec B)) → SeatMe B → ℕ → SeatMe B → Type 0
 
 module _ {B : Type 0} where
+  -- a seat of this table
+  abbrev pub IsSeatOf : Laid B → Seat (Option (Rec B)) (View B) → Type 0
+  IsSeatOf laid seat = seat.table_id ≡ laid.table.shared.table_id
+
+  -- a cell of this table
+  abbrev pub IsCellOf : Laid B → ℕ → Type 0
+  IsCellOf laid c = c < laid.cells
+
   -- the seat is still the same seat of the same table, with the same slots
   abbrev pub IsSameSeat : Seat (Option (Rec B)) (View B) → Seat (Option (Rec B)) (View B) → Type 0
   IsSameSeat old new = (new.table_id ≡ old.table_id) × (new.id ≡ old.id) × (new.me.1 ≡ old.me.1)

@@ -42,6 +42,7 @@ abbrev pub sort_tag : Sort → ℕ
 sort_tag sort.Promise = 2
 sort_tag sort.Task = 3
 
+-- TAG of a cell of which this has become
 abbrev pub tag_of : Entry → ℕ
 tag_of entry.Broken = 4
 tag_of (entry.Value (value.Num i)) = 1
@@ -62,11 +63,13 @@ module _ (born : List Reference) where
   abbrev pub HeldSays : Held → Reference → Type 0
   HeldSays h r = IsCell born h.cell.0 r × (h.sort ≡ r.sort)
 
+  -- the value with which a cell is filled is this one
   abbrev pub FillSays : Fill → Value → Type 0
   FillSays (fill.Num i) v = v ≡ value.Num i
   FillSays (fill.Promise c) v = (q : Name) × IsCell born c.0 (to_promise q) × (v ≡ value.Ref (to_promise q))
   FillSays (fill.Task c) v = (q : Name) × IsCell born c.0 (to_task q) × (v ≡ value.Ref (to_task q))
 
+  -- the reason for which a task failed is this cause
   abbrev pub HurtSays : Hurt → Cause → Type 0
   HurtSays hurt.Arith why = why ≡ cause.Arith
   HurtSays hurt.Kind why = why ≡ cause.Kind
@@ -75,6 +78,7 @@ module _ (born : List Reference) where
   HurtSays (hurt.Broken c) why = (q : Name) × HasName c q × (why ≡ cause.Broken q)
   HurtSays (hurt.Order c) why = (q : Name) × HasName c q × (why ≡ cause.Order q)
 
+  -- the task ended like this
   abbrev pub FinishSays : Finish → Close → Type 0
   FinishSays (finish.Done f) e = (v : Value) × FillSays f v × (e ≡ close.Done v)
   FinishSays (finish.Failed h) e = (why : Cause) × HurtSays h why × (e ≡ close.Failed why)

@@ -47,6 +47,7 @@ abbrev pub depth_word : Sort → Node → ℕ
 depth_word sort.Task node = node.depth
 depth_word sort.Promise node = 0
 
+-- JUMP of a cell with this node
 abbrev pub jump_word : Sort → Node → ℕ
 jump_word sort.Task node = suc node.jump.0
 jump_word sort.Promise node = 0

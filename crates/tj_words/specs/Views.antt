@@ -76,6 +76,7 @@ module _ {B : Type 0} where
   abbrev pub left_half : View B → View B
   left_half v = record v { lot = v.lot - least_lot }
 
+  -- and this is what the second one has
   abbrev pub right_half : View B → View B
   right_half v = record {
     about = v.about;

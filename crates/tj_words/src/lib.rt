@@ -2,24 +2,50 @@
 //! between any two atomic steps.
 #![tactic(auto)]
 
+mod chains;
+mod closed;
+mod draw_plays;
+mod draws;
+mod exchange_plays;
+mod exchanges;
 mod head;
+mod laws;
+mod live_plays;
+mod lives;
 mod loads;
+mod nodes;
 mod offsets;
 mod owner;
+mod owner_plays;
+mod owners;
 mod phase;
 mod plays;
+mod put_phases;
 mod record;
+mod records;
+mod rest;
 mod seats;
 mod table;
 #[cfg(test)]
 mod tests;
 mod value;
 mod view;
+mod wait_plays;
+mod waits;
+mod walk_plays;
+mod walks;
 
+pub use closed::{Closed, RestCell};
 pub use head::Head;
+pub use laws::{
+    count_steps, head_steps, live_steps, merges, next_steps, once_loads, once_stores, others_steps,
+    owner_loads, owner_stores, phase_exchanges, phase_loads, phase_stores, slot_steps, splits,
+    stop_steps,
+};
 pub use offsets::Once;
 pub use phase::{Phase, Walk};
 pub use record::{Fill, Finish, Held, HeldList, Hurt, Rec};
+pub use rest::RestWords;
 pub use table::{Key, Laid, Law, WSeat};
 pub use tj_core::Way;
 pub use value::{value_of_words, value_words};

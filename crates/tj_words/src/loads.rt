@@ -1,10 +1,14 @@
 //! Loads that are no event of the core.
-ghost use Rattle.std.specs.Prelude.{◌≡◌, ◌≢◌, ◌<◌, ◌≤◌};
+ghost use Rattle.std.specs.Prelude.{◌≡◌, ◌≢◌, ℕ, ◌<◌, ◌≤◌, Some};
 ghost use Rattle.tj_body.specs.Programs.{program_of};
+ghost use Rattle.tj_words.specs.FullMeaning.{NamesFull};
 ghost use Rattle.tj_words.specs.Heads as heads;
+ghost use Rattle.tj_words.specs.ParkSteps.{FirstTold, loaded_phase};
+ghost use Rattle.tj_words.specs.Phases as phases;
 ghost use Rattle.tj_words.specs.SeatSteps.{IsSameSeat};
 ghost use Rattle.tj_words.specs.SeenWords.{FindsChain, FindsShut, MayRead, NextTold, SeesOnce};
 ghost use Rattle.tj_words.specs.SeatSteps as steps;
+ghost use Rattle.tj_words.specs.StepEvents.{wait_in};
 ghost use Rattle.tj_words.specs.Codes as codes;
 ghost use Rattle.tj_words.specs.Views.{loaded_plain, saw_rest, stepped_on};
 
@@ -19,6 +23,7 @@ use crate::table::{Laid, WSeat};
 use std::marker::Brand;
 use tj_base::CellId;
 use tj_body::Body;
+use tj_tree::links_lead_to_tasks;
 
 impl<B: Body> Laid<B> {
     /// LIVE. Where it is 0, nothing goes on any more.
@@ -31,12 +36,14 @@ impl<B: Body> Laid<B> {
         self.table.shared.load::<LiveLoad>(seat, LIVE) as u32
     }
 
-    /// STOP.
+    /// STOP. It is 1 only where the meaning is full.
     pub fn stopped(&self, seat: &mut WSeat<B>) -> u64
         requires table { seat.old.table_id ≡ self.now.table.shared.table_id }
         ensures seat { IsSameSeat seat.old seat.new }
         ensures view { seat.new.me.0 ≡ stepped_on seat.old.me.0 }
         ensures stop { result ≤ 2 }
+        ensures full { result ≡ 1
+            → NamesFull (program_of B.places B.awaits B.left B.asks B.then) seat.old.me.0 }
     {
         self.table.shared.load::<StopLoad>(seat, STOP)
     }
@@ -69,6 +76,7 @@ impl<B: Body> Laid<B> {
         requires cell { c.0 < self.now.cells }
         ensures seat { IsSameSeat seat.old seat.new }
         ensures view { seat.new.me.0 ≡ loaded_plain seat.old.me.0 }
+        ensures task { (u : CellId) → result ≡ Some u → u.0 < self.now.cells }
     {
         owner_of_word(self.load_owner::<Brand>(seat, c))
     }
@@ -84,22 +92,25 @@ impl<B: Body> Laid<B> {
         self.table.shared.load::<OwnerLoad<M>>(seat, own_at(c))
     }
 
-    /// The phase of a cell.
+    /// The phase of a cell. Where it is the first of the seat's rest, the way of its wait is known then.
     pub(crate) fn plain_phase(&self, seat: &mut WSeat<B>, t: CellId) -> Phase
         requires table { seat.old.table_id ≡ self.now.table.shared.table_id }
         requires cell { t.0 < self.now.cells }
         ensures seat { IsSameSeat seat.old seat.new }
-        ensures view { seat.new.me.0 ≡ loaded_plain seat.old.me.0 }
+        ensures view { seat.new.me.0 ≡ loaded_phase t.0 result seat.old.me.0 }
+        ensures first { FirstTold t.0 result seat.old.me.0 }
+        ensures wait { (c : ℕ) → wait_in result ≡ Some c → c < self.now.cells }
     {
         Phase::of_word(self.load_phase::<Brand>(seat, t))
     }
 
     fn load_phase<M: Naming>(&self, seat: &mut WSeat<B>, t: CellId) -> u64
-        requires named { M.cells ≡ self.now.cells }
+        requires named { (M.cells ≡ self.now.cells) × (M.cell ≡ t.0) }
         requires table { seat.old.table_id ≡ self.now.table.shared.table_id }
         requires cell { t.0 < self.now.cells }
         ensures seat { IsSameSeat seat.old seat.new }
-        ensures view { seat.new.me.0 ≡ loaded_plain seat.old.me.0 }
+        ensures view { seat.new.me.0 ≡ loaded_phase t.0 (phases.phase_in result) seat.old.me.0 }
+        ensures first { FirstTold t.0 (phases.phase_in result) seat.old.me.0 }
         ensures phase { codes.IsPhaseWord self.now.cells result }
     {
         self.table.shared.load::<PhaseLoad<M>>(seat, phase_at(t))
@@ -111,13 +122,14 @@ impl<B: Body> Laid<B> {
         requires cell { p.0 < self.now.cells }
         ensures seat { IsSameSeat seat.old seat.new }
         ensures shut { result ≡ Head.Shut → FindsShut p.0 seat.old.me.0 seat.new.me.0 }
-        ensures open { result ≢ Head.Shut → FindsChain p.0 result seat.old.me.0 seat.new.me.0 }
+        ensures open { result ≢ Head.Shut
+            → FindsChain self.now.cells p.0 result seat.old.me.0 seat.new.me.0 }
     {
         Head::of_word(self.load_head::<Brand>(seat, p))
     }
 
     fn load_head<M: Naming>(&self, seat: &mut WSeat<B>, p: CellId) -> u64
-        requires named { M.cell ≡ p.0 }
+        requires named { (M.cells ≡ self.now.cells) × (M.cell ≡ p.0) }
         requires table { seat.old.table_id ≡ self.now.table.shared.table_id }
         requires cell { p.0 < self.now.cells }
         ensures seat { IsSameSeat seat.old seat.new }
@@ -125,7 +137,7 @@ impl<B: Body> Laid<B> {
         ensures shut { heads.head_in result ≡ Head.Shut
             → FindsShut p.0 seat.old.me.0 seat.new.me.0 }
         ensures open { heads.head_in result ≢ Head.Shut
-            → FindsChain p.0 (heads.head_in result) seat.old.me.0 seat.new.me.0 }
+            → FindsChain self.now.cells p.0 (heads.head_in result) seat.old.me.0 seat.new.me.0 }
     {
         self.table.shared.load::<HeadLoad<M>>(seat, head_at(p))
     }
@@ -136,6 +148,7 @@ impl<B: Body> Laid<B> {
         requires cell { t.0 < self.now.cells }
         ensures seat { IsSameSeat seat.old seat.new }
         ensures view { seat.new.me.0 ≡ stepped_on seat.old.me.0 }
+        ensures small { heads.head_word result ≤ self.now.cells }
         ensures rest { NextTold t.0 result seat.old.me.0 }
     {
         Head::of_word(self.load_next::<Brand>(seat, t))
@@ -159,21 +172,22 @@ impl<B: Body> Laid<B> {
         requires cell { c.0 < self.now.cells }
         requires may { MayRead f c.0 seat.old.me.0 }
         ensures seat { IsSameSeat seat.old seat.new }
-        ensures sees { SeesOnce (program_of B.places B.awaits B.left B.asks B.then) f c.0
-            result seat.old.me.0 seat.new.me.0 }
+        ensures sees { SeesOnce (program_of B.places B.awaits B.left B.asks B.then)
+            self.now.cells f c.0 result seat.old.me.0 seat.new.me.0 }
     {
         self.load_once::<Brand>(seat, c, f)
     }
 
     fn load_once<M: Naming>(&self, seat: &mut WSeat<B>, c: CellId, f: Once) -> u64
-        requires named { (M.cell ≡ c.0) × (M.word ≡ f) }
+        requires named { (M.cells ≡ self.now.cells) × (M.cell ≡ c.0) × (M.word ≡ f) }
         requires table { seat.old.table_id ≡ self.now.table.shared.table_id }
         requires cell { c.0 < self.now.cells }
         requires may { MayRead f c.0 seat.old.me.0 }
         ensures seat { IsSameSeat seat.old seat.new }
-        ensures sees { SeesOnce (program_of B.places B.awaits B.left B.asks B.then) f c.0
-            result seat.old.me.0 seat.new.me.0 }
+        ensures sees { SeesOnce (program_of B.places B.awaits B.left B.asks B.then)
+            self.now.cells f c.0 result seat.old.me.0 seat.new.me.0 }
     {
+        links_lead_to_tasks();
         self.table.shared.load::<OnceLoad<M>>(seat, once_at(c, f))
     }
 }

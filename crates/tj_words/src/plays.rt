@@ -1,9 +1,10 @@
 //! What each step on the table tells its caller, and how a view is cut in two and two are made one.
 ghost use Rattle.std.specs.Prelude.{ℕ, ◌≤◌};
-ghost use Rattle.tj_words.specs.Codes.{IsPhaseWord};
+ghost use Rattle.tj_words.specs.ChainSteps.{next_store, push_exchange, shut_swap};
+ghost use Rattle.tj_words.specs.ParkSteps.{phase_load};
 ghost use Rattle.tj_words.specs.SeenWords.{head_load, next_load, once_load};
 ghost use Rattle.tj_words.specs.declared.offsets.Once.{Once};
-ghost use Rattle.tj_words.specs.SeatSteps.{IsCount, live_load, plain_load, simple_load};
+ghost use Rattle.tj_words.specs.SeatSteps.{IsCount, live_load, plain_load};
 
 use crate::offsets::Once;
 use crate::record::Rec;
@@ -56,7 +57,7 @@ pub(crate) struct PhaseLoad<M> {
 }
 
 impl<B: Body, M: Naming> Play<Option<Rec<B>>, View<B>> for PhaseLoad<M> {
-    ghost then = { plain_load (IsPhaseWord M.cells) };
+    ghost then = { phase_load M.cells M.cell };
 }
 
 /// A load of LIVE.
@@ -70,7 +71,10 @@ impl<B: Body> Play<Option<Rec<B>>, View<B>> for LiveLoad {
 pub(crate) struct StopLoad;
 
 impl<B: Body> Play<Option<Rec<B>>, View<B>> for StopLoad {
-    ghost then = { simple_load (λ n. n ≤ 2) };
+    ghost use Rattle.tj_body.specs.Programs.{program_of};
+    ghost use Rattle.tj_words.specs.FullMeaning.{stop_load};
+
+    ghost then = { stop_load (program_of B.places B.awaits B.left B.asks B.then) };
 }
 
 /// A load of HEAD.
@@ -79,7 +83,7 @@ pub(crate) struct HeadLoad<M> {
 }
 
 impl<B: Body, M: Naming> Play<Option<Rec<B>>, View<B>> for HeadLoad<M> {
-    ghost then = { head_load M.cell };
+    ghost then = { head_load M.cells M.cell };
 }
 
 /// A load of NEXT.
@@ -99,5 +103,33 @@ pub(crate) struct OnceLoad<M> {
 impl<B: Body, M: Naming> Play<Option<Rec<B>>, View<B>> for OnceLoad<M> {
     ghost use Rattle.tj_body.specs.Programs.{program_of};
 
-    ghost then = { once_load (program_of B.places B.awaits B.left B.asks B.then) M.word M.cell };
+    ghost then = { once_load (program_of B.places B.awaits B.left B.asks B.then) M.cells M.word
+        M.cell };
+}
+
+/// A store of NEXT.
+pub(crate) struct NextStore<M> {
+    naming: PhantomData<M>,
+}
+
+impl<B: Body, M: Naming> Play<Option<Rec<B>>, View<B>> for NextStore<M> {
+    ghost then = { next_store M.cell };
+}
+
+/// An exchange of HEAD that adds a task to the chain.
+pub(crate) struct PushExchange<M> {
+    naming: PhantomData<M>,
+}
+
+impl<B: Body, M: Naming> Play<Option<Rec<B>>, View<B>> for PushExchange<M> {
+    ghost then = { push_exchange M.cells M.cell };
+}
+
+/// A swap of HEAD that shuts it.
+pub(crate) struct ShutSwap<M> {
+    naming: PhantomData<M>,
+}
+
+impl<B: Body, M: Naming> Play<Option<Rec<B>>, View<B>> for ShutSwap<M> {
+    ghost then = { shut_swap M.cells M.cell };
 }

@@ -6,6 +6,7 @@ ghost use Rattle.tj_words.specs.Offsets.{words_for};
 ghost use Rattle.tj_words.specs.FirstState as first;
 ghost use Rattle.tj_words.specs.FirstState.{first_slots, first_words, first_view};
 
+use crate::closed::RestCell;
 use crate::offsets::{CELL_WORDS, COUNT, LIVE, Once, TABLE_WORDS, once_at, own_at, phase_at};
 use crate::owner::word_of_owner;
 use crate::phase::Phase;
@@ -49,10 +50,15 @@ pub struct Laid<B: Body> {
     pub(crate) table: Table<Option<Rec<B>>, View<B>, Key<B>, Law, Global>,
     pub(crate) cells: u32,
     pub(crate) strict: bool,
+    pub(crate) root: Snapshot<B>,
+    /// Where `rest` keeps what the words show of each cell.
+    pub(crate) room: Vec<RestCell>,
     ghost words: { table.shared.table_id.words ≡ words_for cells },
     ghost slots: { table.shared.table_id.slots ≡ cells },
     ghost key_cells: { table.shared.key.cells ≡ cells },
     ghost key_strict: { table.shared.key.strict ≡ strict },
+    ghost key_root: { table.shared.key.root.value ≡ root.value },
+    ghost roomy: { length room.items ≡ cells },
     ghost some: { 0 < cells },
     ghost few: { cells ≤ most_cells },
 }
@@ -65,6 +71,7 @@ impl<B: Body> Laid<B> {
         requires root { IsFresh B.places B.awaits B.left 1 root }
         ensures cells { IfOk result (λ made. made.0.cells ≡ cells) }
         ensures strict { IfOk result (λ made. made.0.strict ≡ strict) }
+        ensures root { IfOk result (λ made. made.0.root.value ≡ root) }
         ensures table { IfOk result (λ made. made.1.table_id ≡ made.0.table.shared.table_id) }
         ensures view { IfOk result (λ made. made.1.me ≡ (first_view cells root strict, [])) }
     {
@@ -75,6 +82,8 @@ impl<B: Body> Laid<B> {
             root: Snapshot::of(&root),
             strict,
         };
+        let about = Snapshot::of(&root);
+        let room = Vec::from_elem(alloc, RestCell::BLANK, cells as usize)?;
         let words = words_at_first(alloc, cells)?;
         let slots = slots_at_first(alloc, cells, root)?;
         match Table::new(alloc, words.as_slice(), slots, &key) {
@@ -83,6 +92,8 @@ impl<B: Body> Laid<B> {
                     table,
                     cells,
                     strict,
+                    root: about,
+                    room,
                 },
                 seat,
             )),

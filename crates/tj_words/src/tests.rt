@@ -1,8 +1,12 @@
-//! A new table by hand: what its loads find, and that a second seat finds the same.
-use crate::{Head, Laid, Once};
+//! A new table by hand: what its loads find, that a second seat finds the same, and that its root is
+//! claimed once.
+ghost use Rattle.std.specs.Prelude.{◌≡◌, ◌<◌};
+ghost use Rattle.tj_words.specs.ExchangeViews.{KnowsTable};
+
+use crate::{Head, Laid, Once, Phase, Rec, WSeat};
 use std::test::Fail;
 use tj_base::{CellId, Items};
-use tj_body::{RowList, TableBody};
+use tj_body::{Body, RowList, TableBody};
 
 #[test]
 fn the_words_of_a_new_table(rt: HostRuntime) -> Result<(), Fail> {
@@ -44,5 +48,38 @@ fn two_seats_of_one_table(rt: HostRuntime) -> Result<(), Fail> {
     let mut both = laid.merge(first, second);
     assert_eq!(rt; laid.live(&mut both), 1, "the two as one");
     assert!(rt; !laid.strict());
+    Ok(())
+}
+
+/// Claims a task, and takes its record out of its slot.
+fn claim<B: Body>(laid: &Laid<B>, seat: &mut WSeat<B>, t: CellId) -> Result<Option<Rec<B>>, Phase>
+    requires table { seat.old.table_id ≡ laid.now.table.shared.table_id }
+    requires cell { t.0 < laid.now.cells }
+    requires knows { KnowsTable seat.old.me.0 }
+    ensures table { seat.new.table_id ≡ seat.old.table_id }
+    ensures about { seat.new.me.0.about ≡ seat.old.me.0.about }
+{
+    match laid.swap_phase(seat, t, Phase::Ready, Phase::Running) {
+        Ok(()) => Ok(laid.slot_swap(seat, t, None)),
+        Err(found) => Err(found),
+    }
+}
+
+#[test]
+fn the_root_is_claimed_once(rt: HostRuntime) -> Result<(), Fail> {
+    let a = rt.alloc();
+    let lists: [RowList; 1] = [Items::of(Vec::new(a))];
+    let (laid, mut seat) = Laid::new(a, 2, TableBody::new(&lists, 0), true)?;
+    let root = CellId(0);
+    let first = claim(&laid, &mut seat, root);
+    assert!(rt; matches!(&first, Ok(Some(_))), "its record lay at home");
+    let again = claim(&laid, &mut seat, root);
+    assert!(rt; matches!(&again, Err(Phase::Running)), "it runs already");
+    assert_eq!(rt; laid.live(&mut seat), 1, "it is live still");
+    assert_eq!(rt;
+        laid.see_once(&mut seat, root, Once::Bits),
+        0,
+        "nothing is written"
+    );
     Ok(())
 }

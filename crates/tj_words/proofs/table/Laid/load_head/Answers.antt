@@ -1,11 +1,12 @@
-use Rattle.std.proofs.Common.{arith}
-use Rattle.tj_words.proofs.KnowLoads.{head_allowed}
+use Rattle.std.proofs.Common.{arith, ◌∙◌, sym}
+use Rattle.tj_words.proofs.HeadLoads.{head_allowed}
 use Rattle.tj_words.proofs.table.Laid.load_head.Goals as goal
 
 pub load-requires : goal.load-requires
 load-requires g c = let a = c.args in let k = a.self.now.table.shared.key in let e = a.self.now.key_cells in (
   c.requires.table,
   omega (arith, a.self.now.words, a.self.now.some, c.requires.cell, c.head_at.ensures),
-  head_allowed _ k a.self.now.table.shared.table_id.slots a.seat.now.id a.seat.now.me a.p.0 c.head_at.result g.M.Naming.cell
-      (omega (arith, e, c.requires.cell)) c.head_at.ensures c.requires.named,
+  head_allowed _ k a.self.now.table.shared.table_id.slots a.seat.now.id a.seat.now.me a.p.0 c.head_at.result
+      g.M.Naming.cells g.M.Naming.cell (omega (arith, e, c.requires.cell)) c.head_at.ensures
+      (c.requires.named.0 ∙ sym e) c.requires.named.1,
 )

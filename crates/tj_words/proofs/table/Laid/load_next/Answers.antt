@@ -6,6 +6,7 @@ pub load-requires : goal.load-requires
 load-requires g c = let a = c.args in let k = a.self.now.table.shared.key in let e = a.self.now.key_cells in (
   c.requires.table,
   omega (arith, a.self.now.words, a.self.now.some, c.requires.cell, c.next_at.ensures),
-  next_allowed _ k a.self.now.table.shared.table_id.slots a.seat.now.id a.seat.now.me a.t.0 c.next_at.result g.M.Naming.cells g.M.Naming.cell
+  next_allowed _ k a.self.now.table.shared.table_id.slots a.seat.now.id a.seat.now.me a.t.0 c.next_at.result
+      g.M.Naming.cells g.M.Naming.cell
       (omega (arith, e, c.requires.cell)) c.next_at.ensures (c.requires.named.0 ∙ sym e) c.requires.named.1,
 )

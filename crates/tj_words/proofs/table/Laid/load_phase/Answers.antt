@@ -1,5 +1,7 @@
-use Rattle.std.proofs.Common.{arith, sym, ◌∙◌}
-use Rattle.tj_words.proofs.LoadSteps.{phase_allowed}
+use Rattle.std.proofs.Common.{arith, sym, subst, ◌∙◌}
+use Rattle.tj_words.specs.ParkSteps.{FirstTold}
+use Rattle.tj_words.specs.Phases.{phase_in}
+use Rattle.tj_words.proofs.PhaseLoads.{phase_allowed}
 use Rattle.tj_words.proofs.table.Laid.load_phase.Goals as goal
 
 pub load-requires : goal.load-requires
@@ -7,6 +9,11 @@ load-requires g c = let a = c.args in let k = a.self.now.table.shared.key in let
     let l = c.requires.named in (
       c.requires.table,
       omega (arith, a.self.now.words, a.self.now.some, c.requires.cell, c.phase_at.ensures),
-      phase_allowed _ k a.self.now.table.shared.table_id.slots a.seat.now.id a.seat.now.me g.M.Naming.cells a.t.0
-          c.phase_at.result (l ∙ sym e) (omega (arith, e, c.requires.cell)) c.phase_at.ensures,
+      phase_allowed _ k a.self.now.table.shared.table_id.slots a.seat.now.id a.seat.now.me g.M.Naming.cells
+          g.M.Naming.cell a.t.0 c.phase_at.result (l.0 ∙ sym e) l.1 (omega (arith, e, c.requires.cell))
+          c.phase_at.ensures,
     )
+
+pub returns-clause-first : goal.returns-clause-first
+returns-clause-first g c = subst (λ t. FirstTold t (phase_in c.load.result) c.args.seat.now.me.0) c.requires.named.1
+    c.load.ensures.2.3

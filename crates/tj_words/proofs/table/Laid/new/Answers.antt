@@ -2,6 +2,7 @@ use Rattle.std.proofs.Common.{ap, ◌∙◌, sym, refl, length, subst}
 use Rattle.tj_body.specs.Programs.{program_of}
 use Rattle.tj_body.specs.RoundPoints.{TasksStart}
 use Rattle.tj_words.specs.FirstState.{first_slots}
+use Rattle.tj_words.specs.Law.{IsRooted}
 use Rattle.tj_words.proofs.Opening.{opening_meets, first_deep}
 use Rattle.tj_words.proofs.FirstWords.{first_wide}
 use Rattle.tj_words.proofs.table.Laid.new.Goals as goal
@@ -15,7 +16,9 @@ new-requires g c =
     (λ z. TasksStart
     (program_of g.B.Body.places g.B.Body.awaits g.B.Body.left g.B.Body.asks g.B.Body.then c.args.strict z))
     (sym c.of.ensures)
-    (c.points_in_rounds.ensures.start c.args.strict c.args.root c.requires.root)) refl _ c.in_ok-slots.slots.items
+    (c.points_in_rounds.ensures.start c.args.strict c.args.root c.requires.root))
+    (subst (λ z. IsRooted (program_of g.B.Body.places g.B.Body.awaits g.B.Body.left g.B.Body.asks g.B.Body.then
+    c.args.strict z)) (sym c.of.ensures) c.requires.root) refl _ c.in_ok-slots.slots.items
     (c.as_slice.ensures.value ∙ c.in_ok-words.ensures)
     (c.in_ok-slots.ensures ∙ ap (λ z. first_slots c.args.cells z) (sym c.of.ensures))
 
@@ -26,6 +29,8 @@ invariant_of-result g c = let m = c.in-Ok.ensures.ok in record {
   slots = m.1 ∙ (ap (λ l. length l) c.in_ok-slots.ensures ∙ first_deep c.args.cells c.requires.some c.args.root);
   key_cells = ap (λ k. k.cells) m.5;
   key_strict = ap (λ k. k.strict) m.5;
+  key_root = ap (λ k. k.root.value) m.5 ∙ (c.of.ensures ∙ sym c.of-about.ensures);
+  roomy = sym c.in_ok-room.room.ok.0 ∙ c.in_ok-room.ensures.len;
   some = c.requires.some;
   few = c.requires.few;
 }

@@ -2,4 +2,4 @@ use Rattle.tj_words.proofs.table.Laid.see_once.Given as goal
 
 -- the cell and the word
 abbrev pub ghosts-load_once : goal.ghosts-load_once
-ghosts-load_once g a = record { cells = 0; cell = a.c.0; word = a.f }
+ghosts-load_once g a = record { cells = a.self.now.cells; cell = a.c.0; word = a.f }

@@ -1,10 +1,10 @@
 use Rattle.std.proofs.Common.{arith, ◌≤◌}
-use Rattle.tj_words.proofs.LoadSteps.{simple_allowed, stop_may}
+use Rattle.tj_words.proofs.StopLoads.{stop_allowed}
 use Rattle.tj_words.proofs.table.Laid.stopped.Goals as goal
 
 pub load-requires : goal.load-requires
 load-requires g c = let a = c.args in let k = a.self.now.table.shared.key in (
   c.requires.table,
   omega (arith, a.self.now.words, a.self.now.some),
-  simple_allowed _ k a.self.now.table.shared.table_id.slots a.seat.now.id a.seat.now.me 3 (λ n. n ≤ 2) (stop_may _ k),
+  stop_allowed _ k a.self.now.table.shared.table_id.slots a.seat.now.id a.seat.now.me,
 )

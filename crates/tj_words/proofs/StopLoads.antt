@@ -1,0 +1,35 @@
+-- A load of STOP tells whether the meaning is full.
+use Rattle.std.proofs.Common.{◌≡◌, ℕ, suc, Bool, List, Option, Some, refl, sym, subst}
+use mathlib.Core.Option.{none}
+use Rattle.atomic_table.specs.Table.{State, Allows, step}
+use Rattle.tj_body.specs.Programs.{Program}
+use Rattle.tj_body.specs.Rounds.{IsFull}
+use Rattle.tj_words.specs.declared.record.Rec.{Rec}
+use Rattle.tj_words.specs.declared.table.Key.{Key}
+use Rattle.tj_words.specs.declared.view.About.{About}
+use Rattle.tj_words.specs.declared.view.View.{View}
+use Rattle.tj_words.specs.FullMeaning.{stop_load}
+use Rattle.tj_words.specs.Law.{Rule}
+use Rattle.tj_words.specs.Offsets.{stop_at}
+use Rattle.tj_words.specs.SeatSteps.{SeatMe}
+use Rattle.tj_words.proofs.Learning.{knowing_of}
+use Rattle.tj_words.proofs.LoadSteps.{knows_so, load_allowed}
+
+module _ {B : Type 0} (program : Bool → B → Program B) (key : Key B) where
+  pub stop_allowed : (slots id : ℕ) (m : SeatMe B)
+      → Allows (Rule program key) slots id m stop_at (λ n. n) (stop_load program (step slots stop_at 0 0 none) m)
+  stop_allowed slots id m =
+      load_allowed program key slots id m stop_at (stop_load program (step slots stop_at 0 0 none) m) (λ s r at. (
+        knowing_of m.0,
+        m.0.plain_loads,
+        m.0.once_loads,
+        suc m.0.steps,
+        knows_so program key s r id m.0 at,
+        (
+          refl,
+          refl,
+          r.codes.stop,
+          λ e a f. subst (λ (z : About B). IsFull (program z.strict z.root) z.cells)
+              (sym ((r.seats id m.0 at).about a f)) (r.law.meaning.full (r.law.meaning.stopped e)),
+        ),
+      ))

@@ -1,0 +1,9 @@
+use Rattle.std.proofs.Common.{◌≡◌, ◌<◌, length, ap, sym, subst, ◌∙◌}
+use Rattle.atomic_table.proofs.Lists.{at_index}
+use Rattle.tj_words.specs.ClosedCells.{IsShown}
+use Rattle.tj_words.proofs.closed.Closed.cell.Goals as goal
+
+pub returns : goal.returns
+returns c = subst (λ l. IsShown l c.args.c.0 c.index.result.now) c.self.view_is
+    (at_index c.self.inside.cells.items c.args.c.0 c.index.result.now
+    (subst (λ l. c.args.c.0 < length l) (sym c.self.view_is) c.requires) c.index.ensures)

@@ -1,0 +1,15 @@
+use Rattle.tj_words.proofs.DrawEvents.{give_shown}
+use Rattle.tj_words.proofs.OwnerEvents.{hand_shown, close_shown, end_shown}
+use Rattle.tj_words.proofs.laws.owner_stores.Goals as goal
+
+pub returns-clause-first : goal.returns-clause-first
+returns-clause-first g c = λ m y id t c h s. give_shown m.law y id t c h s
+
+pub returns-clause-hand : goal.returns-clause-hand
+returns-clause-hand g c = λ m y id t p c s. hand_shown m.law y id t p c s
+
+pub returns-clause-close : goal.returns-clause-close
+returns-clause-close g c = λ m y id t p s. close_shown m.law y id t p s
+
+pub returns-clause-close_own : goal.returns-clause-close_own
+returns-clause-close_own g c = λ m y id t s. end_shown m.law y id t s

@@ -1,0 +1,5 @@
+use Rattle.tj_words.proofs.QuietMoves.{split_shown}
+use Rattle.tj_words.proofs.laws.splits.Goals as goal
+
+pub returns : goal.returns
+returns g c = λ m y s. split_shown m.law y s

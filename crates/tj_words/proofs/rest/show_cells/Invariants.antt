@@ -1,0 +1,11 @@
+use Rattle.std.proofs.Common.{◌≡◌, ◌<◌, ℕ, length}
+use mathlib.Core.Option.{some}
+use lib.ListN.{get_elem?}
+use Rattle.std.specs.Slots.{slots_items}
+use Rattle.tj_words.specs.ShownCells.{cell_of}
+use Rattle.tj_words.proofs.rest.show_cells.Given as goal
+
+-- the cells that are done are shown
+abbrev pub invariant-loop-c : goal.invariant-loop-c
+invariant-loop-c g l = (length l.room.items ≡ l.cells)
+    × ((c : ℕ) → c < l.c → get_elem? l.room.items c ≡ some (cell_of (slots_items l.table.words) c))

@@ -1,0 +1,5 @@
+use Rattle.tj_words.proofs.table.Laid.draw_one.Given as goal
+
+-- the table, the task and the sort
+abbrev pub ghosts-add_count : goal.ghosts-add_count
+ghosts-add_count g a = record { cells = a.self.now.cells; maker = a.t.0; sort = a.sort }

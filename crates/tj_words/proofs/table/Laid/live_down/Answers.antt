@@ -1,0 +1,11 @@
+use Rattle.std.proofs.Common.{arith}
+use Rattle.tj_words.proofs.LiveCalls.{down_allowed}
+use Rattle.tj_words.proofs.table.Laid.live_down.Goals as goal
+
+pub fetch_sub-requires : goal.fetch_sub-requires
+fetch_sub-requires g c = let a = c.args in (
+  c.requires.table,
+  omega (arith, a.self.now.words, a.self.now.some),
+  down_allowed _ a.self.now.table.shared.key a.self.now.table.shared.table_id.slots a.seat.now.id a.seat.now.me
+      c.requires.may,
+)

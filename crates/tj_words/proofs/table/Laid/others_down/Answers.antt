@@ -1,0 +1,11 @@
+use Rattle.std.proofs.Common.{arith}
+use Rattle.tj_words.proofs.OthersSteps.{lower_allowed}
+use Rattle.tj_words.proofs.table.Laid.others_down.Goals as goal
+
+pub fetch_sub-requires : goal.fetch_sub-requires
+fetch_sub-requires g c = let a = c.args in let k = a.self.now.table.shared.key in (
+  c.requires.table,
+  omega (arith, a.self.now.words, a.self.now.some),
+  lower_allowed _ k c.event_keeps_facts.ensures c.others_are_few.ensures a.self.now.table.shared.table_id.slots
+      a.seat.now.id a.seat.now.me c.requires.cleared,
+)

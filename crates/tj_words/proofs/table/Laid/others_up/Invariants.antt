@@ -1,0 +1,5 @@
+use Rattle.tj_words.proofs.table.Laid.others_up.Given as goal
+
+-- the task
+abbrev pub ghosts-add_other : goal.ghosts-add_other
+ghosts-add_other g a = record { cells = a.self.now.cells; task = a.t.0; owner = 0 }

@@ -1,0 +1,7 @@
+use Rattle.std.proofs.Common.{sym, subst}
+use Rattle.tj_words.specs.ParkSteps.{FirstTold}
+use Rattle.tj_words.proofs.table.Laid.plain_phase.Goals as goal
+
+pub returns-clause-first : goal.returns-clause-first
+returns-clause-first g c = subst (λ p. FirstTold c.args.t.0 p c.args.seat.now.me.0) (sym c.of_word.ensures.phase)
+    c.load_phase.ensures.first

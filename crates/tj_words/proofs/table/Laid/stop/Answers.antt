@@ -1,0 +1,11 @@
+use Rattle.std.proofs.Common.{arith}
+use Rattle.tj_words.proofs.LiveCalls.{stop_allowed}
+use Rattle.tj_words.proofs.table.Laid.stop.Goals as goal
+
+pub store-requires : goal.store-requires
+store-requires g c = let a = c.args in (
+  c.requires.table,
+  omega (arith, a.self.now.words, a.self.now.some),
+  stop_allowed _ a.self.now.table.shared.key a.self.now.table.shared.table_id.slots a.seat.now.id a.seat.now.me a.w
+      c.requires.known c.requires.refused,
+)

@@ -1,0 +1,11 @@
+use Rattle.std.proofs.Common.{arith}
+use Rattle.tj_words.proofs.WalkLoads.{others_read_allowed}
+use Rattle.tj_words.proofs.table.Laid.walker_others.Goals as goal
+
+pub load-requires : goal.load-requires
+load-requires g c = let a = c.args in let k = a.self.now.table.shared.key in (
+  c.requires.table,
+  omega (arith, a.self.now.words, a.self.now.some),
+  others_read_allowed _ k c.event_keeps_facts.ensures a.self.now.table.shared.table_id.slots a.seat.now.id a.seat.now.me
+      c.others_are_few.ensures a.t.0 g.M.Acting.task c.requires.named c.requires.walks,
+)

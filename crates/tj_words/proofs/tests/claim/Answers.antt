@@ -1,0 +1,18 @@
+use Rattle.std.proofs.Common.{◌≡◌, ℕ, ◌∷◌, refl, ap, sym, ◌∙◌}
+use Rattle.std.specs.Prelude.{Some}
+use Rattle.atomic_table.specs.Table.{rest}
+use Rattle.tj_words.specs.declared.record.Rec.{Rec}
+use Rattle.tj_words.specs.declared.view.View.{View}
+use Rattle.tj_words.specs.LiveViews.{HasSlot}
+use Rattle.tj_words.specs.SeatSteps.{SeatMe}
+use Rattle.tj_words.proofs.tests.claim.Goals as goal
+
+-- a seat that took the slot of t last has it
+took_last : {B : Type 0} (t : ℕ) (r : Rec B) (v : View B) (m m' : SeatMe B) → m' ≡ (v, (t, Some r) ∷ m.1)
+    → HasSlot t m'
+took_last t r v m m' e =
+    (Some r, ap (λ x. x.1) e ∙ ap (λ x. (t, Some r) ∷ x) (sym (ap (λ x. rest x.1) e)))
+
+pub slot_swap-requires-clause-slot : goal.slot_swap-requires-clause-slot
+slot_swap-requires-clause-slot g c κs within =
+    let w = c.in-Ok.ensures.swapped.claims refl in took_last c.args.t.0 w.0 _ c.args.seat.now.me _ w.2

@@ -1,0 +1,121 @@
+//! Steps on the chains of waiters.
+ghost use Rattle.std.specs.Prelude.{◌≡◌, ◌≢◌, ◌<◌, ◌≤◌};
+ghost use Rattle.tj_words.specs.ChainSteps.{HasPush, HasPushBehind, KnowsEntry, TakesChain};
+ghost use Rattle.tj_words.specs.ChainSteps.{found_taken, pushed, stored_next};
+ghost use Rattle.tj_words.specs.Heads as heads;
+ghost use Rattle.tj_words.specs.LiveCount.{IsBacked};
+ghost use Rattle.tj_words.specs.SeatSteps.{IsSameSeat};
+ghost use Rattle.tj_words.specs.SeenWords.{FindsChain, FindsShut};
+
+use crate::head::Head;
+use crate::offsets::{head_at, next_at};
+use crate::plays::{Naming, NextStore, PushExchange, ShutSwap};
+use crate::table::{Laid, WSeat};
+use std::marker::Brand;
+use tj_base::CellId;
+use tj_body::Body;
+
+impl<B: Body> Laid<B> {
+    /// Says what a task will have behind it, before it is added to a chain.
+    pub fn put_next(&self, seat: &mut WSeat<B>, t: CellId, behind: Head)
+        requires table { seat.old.table_id ≡ self.now.table.shared.table_id }
+        requires cell { t.0 < self.now.cells }
+        requires small { heads.head_word behind ≤ self.now.cells }
+        requires push { HasPush t.0 seat.old.me.0 }
+        ensures seat { IsSameSeat seat.old seat.new }
+        ensures view { seat.new.me.0 ≡ stored_next t.0 behind seat.old.me.0 }
+    {
+        self.store_next::<Brand>(seat, t, behind.word());
+    }
+
+    fn store_next<M: Naming>(&self, seat: &mut WSeat<B>, t: CellId, behind: u64)
+        requires named { M.cell ≡ t.0 }
+        requires table { seat.old.table_id ≡ self.now.table.shared.table_id }
+        requires cell { t.0 < self.now.cells }
+        requires small { behind ≤ self.now.cells }
+        requires push { HasPush t.0 seat.old.me.0 }
+        ensures seat { IsSameSeat seat.old seat.new }
+        ensures view { seat.new.me.0 ≡ stored_next t.0 (heads.head_in behind) seat.old.me.0 }
+    {
+        self.table
+            .shared
+            .store::<NextStore<M>>(seat, next_at(t), behind);
+    }
+
+    /// Adds a task to a chain that begins so. Tells how the chain begins that was found.
+    pub fn push(&self, seat: &mut WSeat<B>, p: CellId, t: CellId, behind: Head) -> Head
+        requires table { seat.old.table_id ≡ self.now.table.shared.table_id }
+        requires cell { p.0 < self.now.cells }
+        requires task { t.0 < self.now.cells }
+        requires small { heads.head_word behind ≤ self.now.cells }
+        requires push { HasPushBehind t.0 p.0 behind seat.old.me.0 }
+        ensures seat { IsSameSeat seat.old seat.new }
+        ensures pushed { result ≡ behind → seat.new.me.0 ≡ pushed t.0 seat.old.me.0 }
+        ensures shut { result ≡ Head.Shut → FindsShut p.0 seat.old.me.0 seat.new.me.0 }
+        ensures other { result ≢ behind → result ≢ Head.Shut
+            → FindsChain self.now.cells p.0 result seat.old.me.0 seat.new.me.0 }
+    {
+        Head::of_word(self.exchange_head::<Brand>(seat, p, t, behind))
+    }
+
+    fn exchange_head<M: Naming>(
+        &self,
+        seat: &mut WSeat<B>,
+        p: CellId,
+        t: CellId,
+        behind: Head,
+    ) -> u64
+        requires named { (M.cells ≡ self.now.cells) × (M.cell ≡ p.0) }
+        requires table { seat.old.table_id ≡ self.now.table.shared.table_id }
+        requires cell { p.0 < self.now.cells }
+        requires task { t.0 < self.now.cells }
+        requires small { heads.head_word behind ≤ self.now.cells }
+        requires push { HasPushBehind t.0 p.0 behind seat.old.me.0 }
+        ensures seat { IsSameSeat seat.old seat.new }
+        ensures head { result ≤ heads.shut_word }
+        ensures pushed { result ≡ heads.head_word behind
+            → seat.new.me.0 ≡ pushed t.0 seat.old.me.0 }
+        ensures shut { result ≢ heads.head_word behind → heads.head_in result ≡ Head.Shut
+            → FindsShut p.0 seat.old.me.0 seat.new.me.0 }
+        ensures other { result ≢ heads.head_word behind → heads.head_in result ≢ Head.Shut
+            → FindsChain self.now.cells p.0 (heads.head_in result) seat.old.me.0 seat.new.me.0 }
+    {
+        self.table
+            .shared
+            .compare_exchange::<PushExchange<M>>(seat, head_at(p), behind.word(), t.0 as u64 + 1)
+    }
+
+    /// Shuts a chain, and takes it.
+    pub fn shut(&self, seat: &mut WSeat<B>, p: CellId) -> Head
+        requires table { seat.old.table_id ≡ self.now.table.shared.table_id }
+        requires cell { p.0 < self.now.cells }
+        requires entry { KnowsEntry p.0 seat.old.me.0 }
+        requires rest { seat.old.me.0.rest ≡ None }
+        requires backed { IsBacked seat.old.me.0 }
+        ensures seat { IsSameSeat seat.old seat.new }
+        ensures again { result ≡ Head.Shut → seat.new.me.0 ≡ found_taken p.0 seat.old.me.0 }
+        ensures chain { result ≢ Head.Shut
+            → TakesChain self.now.cells p.0 result seat.old.me.0 seat.new.me.0 }
+    {
+        Head::of_word(self.swap_head::<Brand>(seat, p))
+    }
+
+    fn swap_head<M: Naming>(&self, seat: &mut WSeat<B>, p: CellId) -> u64
+        requires named { (M.cells ≡ self.now.cells) × (M.cell ≡ p.0) }
+        requires table { seat.old.table_id ≡ self.now.table.shared.table_id }
+        requires cell { p.0 < self.now.cells }
+        requires entry { KnowsEntry p.0 seat.old.me.0 }
+        requires rest { seat.old.me.0.rest ≡ None }
+        requires backed { IsBacked seat.old.me.0 }
+        ensures seat { IsSameSeat seat.old seat.new }
+        ensures head { result ≤ heads.shut_word }
+        ensures again { heads.head_in result ≡ Head.Shut
+            → seat.new.me.0 ≡ found_taken p.0 seat.old.me.0 }
+        ensures chain { heads.head_in result ≢ Head.Shut
+            → TakesChain self.now.cells p.0 (heads.head_in result) seat.old.me.0 seat.new.me.0 }
+    {
+        self.table
+            .shared
+            .swap::<ShutSwap<M>>(seat, head_at(p), Head::Shut.word())
+    }
+}

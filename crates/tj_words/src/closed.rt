@@ -1,0 +1,65 @@
+//! What the words of a table show of its cells, once the table is closed.
+ghost use Rattle.std.specs.Prelude.{◌≡◌, ◌<◌, length};
+
+use crate::phase::Phase;
+use std::marker::Model;
+use tj_base::CellId;
+
+/// What closed words show of a cell: its owner, its phase, TAG, its maker and its number.
+#[derive(Clone, Copy, Debug, PartialEq, Eq)]
+pub struct RestCell {
+    pub own: Option<CellId>,
+    pub phase: Phase,
+    pub tag: u64,
+    /// Cell 0 for the root.
+    pub parent: CellId,
+    pub kid: u32,
+}
+
+impl RestCell {
+    /// What the words show of a cell that isn't drawn.
+    pub(crate) const BLANK: RestCell = RestCell {
+        own: None,
+        phase: Phase::Unborn,
+        tag: 0,
+        parent: CellId(0),
+        kid: 0,
+    };
+}
+
+/// What closed words show of the cells that were drawn, in the order of their numbers.
+#[derive(Debug, Drop)]
+pub struct Closed {
+    pub(crate) cells: Vec<RestCell>,
+}
+
+impl Model for Closed {
+    ghost use Rattle.std.specs.Prelude.{List, ◌≤◌, length};
+    ghost use Rattle.tj_words.specs.Law.{most_cells};
+    ghost use Rattle.tj_words.specs.declared.closed.RestCell.{RestCell};
+
+    ghost Value = { List RestCell };
+
+    ghost view = { λ closed. closed.cells.items };
+
+    ghost invariant = { λ closed. length closed.cells.items ≤ most_cells };
+}
+
+impl Closed {
+    ghost use Rattle.tj_words.specs.ClosedCells.{IsShown};
+
+    /// How many cells were drawn.
+    pub fn drawn(&self) -> u32
+        ensures { result ≡ length self.now }
+    {
+        self.cells.len() as u32
+    }
+
+    /// What the words show of a cell.
+    pub fn cell(&self, c: CellId) -> RestCell
+        requires { c.0 < length self.now }
+        ensures { IsShown self.now c.0 result }
+    {
+        self.cells[c.0 as usize]
+    }
+}

@@ -1,0 +1,72 @@
+//! Exchanges of PHASE: a ready task is claimed, one that waited is woken, and one that its seat had
+//! parked goes on.
+ghost use Rattle.std.specs.Prelude.{◌≡◌, ◌≢◌, ◌<◌, IfErr, OnOk};
+ghost use Rattle.tj_body.specs.Programs.{program_of};
+ghost use Rattle.tj_words.specs.Codes as codes;
+ghost use Rattle.tj_words.specs.ExchangeViews.{MaySwap, Swaps};
+ghost use Rattle.tj_words.specs.Phases as phases;
+ghost use Rattle.tj_words.specs.Views.{stepped_on};
+
+use crate::exchange_plays::PhaseExchange;
+use crate::offsets::phase_at;
+use crate::phase::Phase;
+use crate::plays::Naming;
+use crate::table::{Laid, WSeat};
+use std::marker::Brand;
+use tj_base::CellId;
+use tj_body::Body;
+use tj_core::event_keeps_facts;
+
+impl<B: Body> Laid<B> {
+    /// Changes the phase of a task, if it is as it is thought to be; else tells the phase found.
+    pub fn swap_phase(
+        &self,
+        seat: &mut WSeat<B>,
+        t: CellId,
+        was: Phase,
+        to: Phase,
+    ) -> Result<(), Phase>
+        requires table { seat.old.table_id ≡ self.now.table.shared.table_id }
+        requires cell { t.0 < self.now.cells }
+        requires may { MaySwap t.0 was to seat.old.me.0 }
+        ensures table { seat.new.table_id ≡ seat.old.table_id }
+        ensures seat { seat.new.id ≡ seat.old.id }
+        ensures swapped { OnOk result (Swaps (program_of B.places B.awaits B.left B.asks B.then)
+            t.0 was to seat.old.me seat.new.me) }
+        ensures found { IfErr result (λ p. (was ≡ Phase.Ready) × (p ≢ was)
+            × (seat.new.me ≡ (stepped_on seat.old.me.0, seat.old.me.1))) }
+    {
+        let found = self.exchange_phase::<Brand>(seat, t, was, to);
+        if found == was.word() {
+            Ok(())
+        } else {
+            Err(Phase::of_word(found))
+        }
+    }
+
+    fn exchange_phase<M: Naming>(
+        &self,
+        seat: &mut WSeat<B>,
+        t: CellId,
+        was: Phase,
+        to: Phase,
+    ) -> u64
+        requires named { (M.cells ≡ self.now.cells) × (M.cell ≡ t.0) }
+        requires table { seat.old.table_id ≡ self.now.table.shared.table_id }
+        requires cell { t.0 < self.now.cells }
+        requires may { MaySwap t.0 was to seat.old.me.0 }
+        ensures table { seat.new.table_id ≡ seat.old.table_id }
+        ensures seat { seat.new.id ≡ seat.old.id }
+        ensures swapped { result ≡ phases.phase_word was
+            → Swaps (program_of B.places B.awaits B.left B.asks B.then) t.0 was to
+            seat.old.me seat.new.me }
+        ensures found { result ≢ phases.phase_word was → (was ≡ Phase.Ready)
+            × (seat.new.me ≡ (stepped_on seat.old.me.0, seat.old.me.1))
+            × codes.IsPhaseWord self.now.cells result }
+    {
+        event_keeps_facts();
+        self.table
+            .shared
+            .compare_exchange::<PhaseExchange<M>>(seat, phase_at(t), was.word(), to.word())
+    }
+}

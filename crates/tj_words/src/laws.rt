@@ -1,0 +1,107 @@
+//! The law of steps. At every moment the words and the views show one state of the core. A step of
+//! one of the fourteen kinds changes that state by the one event that is named here, which is allowed
+//! where it stands, or leaves it as it is; so do a split and a merge. What the core proves of one
+//! allowed event is thereby so of running threads.
+//!
+//! The laws stand over the definitions alone, so the functions do nothing: who calls one may rest on
+//! its clauses.
+ghost use Rattle.tj_words.specs.StepLaws as law;
+
+/// Steps on COUNT: draws, and loads.
+pub fn count_steps<B>()
+    ensures draw { law.DrawsShow B }
+    ensures refused { law.RefusedDrawsShow B }
+    ensures load { law.CountsShow B }
+    ensures plain_load { law.PlainLoadsShow B }
+{}
+
+/// Stores of words that are written once.
+pub fn once_stores<B>()
+    ensures { law.OnceStoresShow B }
+{}
+
+/// Loads of words that are written once.
+pub fn once_loads<B>()
+    ensures { law.PlainLoadsShow B }
+{}
+
+/// Stores of OWN.
+pub fn owner_stores<B>()
+    ensures first { law.FirstOwnersShow B }
+    ensures hand { law.HandsShow B }
+    ensures close { law.ClosesShow B }
+    ensures close_own { law.EndingClosesShow B }
+{}
+
+/// Loads of OWN.
+pub fn owner_loads<B>()
+    ensures owner { law.OwnerReadsShow B }
+    ensures again { law.SecondOwnerReadsShow B }
+    ensures plain_load { law.PlainLoadsShow B }
+{}
+
+/// Stores of PHASE.
+pub fn phase_stores<B>()
+    ensures promise { law.MarksShow B }
+    ensures ready { law.ReleasesShow B }
+    ensures walking { law.PublishesShow B }
+    ensures parked { law.SettlesShow B }
+    ensures alarmed { law.AlarmsShow B }
+    ensures ended { law.EndsShow B }
+{}
+
+/// Loads of PHASE.
+pub fn phase_loads<B>()
+    ensures wait { law.WaitReadsShow B }
+    ensures plain_load { law.PlainLoadsShow B }
+{}
+
+/// Exchanges of PHASE.
+pub fn phase_exchanges<B>()
+    ensures ready { law.ClaimsShow B }
+    ensures parked { law.ClearsShow B }
+    ensures fails { law.PlainLoadsShow B }
+{}
+
+/// Steps on OTHERS.
+pub fn others_steps<B>()
+    ensures add { law.RaisesShow B }
+    ensures subtract { law.LowersShow B }
+    ensures load { law.OthersReadsShow B }
+{}
+
+/// Steps on LIVE.
+pub fn live_steps<B>()
+    ensures { law.LiveStepsShow B }
+{}
+
+/// Steps on STOP.
+pub fn stop_steps<B>()
+    ensures { law.StopStepsShow B }
+{}
+
+/// Exchanges of what lies in a slot.
+pub fn slot_steps<B>()
+    ensures record { law.RecordMovesShow B }
+    ensures shelved { law.ShelvesShow B }
+{}
+
+/// Steps on HEAD.
+pub fn head_steps<B>()
+    ensures { law.HeadStepsShow B }
+{}
+
+/// Steps on NEXT.
+pub fn next_steps<B>()
+    ensures { law.NextStepsShow B }
+{}
+
+/// A seat is split.
+pub fn splits<B>()
+    ensures { law.SplitsShow B }
+{}
+
+/// Two seats are merged.
+pub fn merges<B>()
+    ensures { law.MergesShow B }
+{}

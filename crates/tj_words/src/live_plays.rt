@@ -1,0 +1,48 @@
+//! What the steps on LIVE and STOP, and the stores of Ready and of Ended, tell their caller.
+ghost use Rattle.tj_words.specs.LiveViews.{ended_store, live_add, live_sub, ready_store, stop_store};
+
+use crate::plays::Naming;
+use crate::record::Rec;
+use crate::view::View;
+use atomic_table::Play;
+use std::marker::PhantomData;
+use tj_body::Body;
+
+/// The add to LIVE.
+pub(crate) struct LiveAdd;
+
+impl<B: Body> Play<Option<Rec<B>>, View<B>> for LiveAdd {
+    ghost then = { live_add };
+}
+
+/// The subtraction from LIVE.
+pub(crate) struct LiveSub;
+
+impl<B: Body> Play<Option<Rec<B>>, View<B>> for LiveSub {
+    ghost then = { live_sub };
+}
+
+/// A store of STOP.
+pub(crate) struct StopStore;
+
+impl<B: Body> Play<Option<Rec<B>>, View<B>> for StopStore {
+    ghost then = { stop_store };
+}
+
+/// A store of Ready into PHASE.
+pub(crate) struct ReadyStore<M> {
+    naming: PhantomData<M>,
+}
+
+impl<B: Body, M: Naming> Play<Option<Rec<B>>, View<B>> for ReadyStore<M> {
+    ghost then = { ready_store M.cell };
+}
+
+/// A store of Ended into PHASE.
+pub(crate) struct EndedStore<M> {
+    naming: PhantomData<M>,
+}
+
+impl<B: Body, M: Naming> Play<Option<Rec<B>>, View<B>> for EndedStore<M> {
+    ghost then = { ended_store M.cell };
+}

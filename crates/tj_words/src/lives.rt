@@ -1,0 +1,124 @@
+//! Steps on LIVE and STOP, the stores of Ready and of Ended, and the exchange of what lies in a slot
+//! that a seat has.
+ghost use Rattle.std.specs.Prelude.{◌≡◌, ◌<◌, ◌≤◌, ◌∷◌};
+ghost use Rattle.atomic_table.specs.Table.{rest};
+ghost use Rattle.tj_body.specs.Programs.{program_of};
+ghost use Rattle.tj_words.specs.LiveViews.{HasSlot, MayEnd, MayLowerLive, MayRaiseLive, MayRelease};
+ghost use Rattle.tj_words.specs.LiveViews.{ended, live_lowered, live_raised, released};
+ghost use Rattle.tj_words.specs.SeatSteps.{IsSameSeat};
+ghost use Rattle.tj_words.specs.Views.{stepped_on};
+
+use crate::live_plays::{EndedStore, LiveAdd, LiveSub, ReadyStore, StopStore};
+use crate::offsets::{LIVE, STOP, phase_at};
+use crate::phase::Phase;
+use crate::plays::Naming;
+use crate::record::Rec;
+use crate::table::{Laid, WSeat};
+use std::marker::Brand;
+use tj_base::CellId;
+use tj_body::Body;
+
+impl<B: Body> Laid<B> {
+    /// Takes a token. The record of an unborn task that was put into its slot comes home.
+    pub fn live_up(&self, seat: &mut WSeat<B>)
+        requires table { seat.old.table_id ≡ self.now.table.shared.table_id }
+        requires may { MayRaiseLive (program_of B.places B.awaits B.left B.asks B.then)
+            seat.old.me }
+        ensures table { seat.new.table_id ≡ seat.old.table_id }
+        ensures id { seat.new.id ≡ seat.old.id }
+        ensures me { seat.new.me ≡ live_raised seat.old.me }
+    {
+        self.table.shared.fetch_add::<LiveAdd>(seat, LIVE, 1);
+    }
+
+    /// Gives up a token. The record of a task that has alarmed, which was put into its slot, comes
+    /// home, and the task leaves the seat.
+    pub fn live_down(&self, seat: &mut WSeat<B>)
+        requires table { seat.old.table_id ≡ self.now.table.shared.table_id }
+        requires may { MayLowerLive (program_of B.places B.awaits B.left B.asks B.then)
+            seat.old.me }
+        ensures table { seat.new.table_id ≡ seat.old.table_id }
+        ensures id { seat.new.id ≡ seat.old.id }
+        ensures me { seat.new.me ≡ live_lowered seat.old.me }
+    {
+        self.table.shared.fetch_sub::<LiveSub>(seat, LIVE, 1);
+    }
+
+    /// Ends the run: 1 says that it is full, which needs a refused draw, and 2 that memory is
+    /// lacking.
+    pub fn stop(&self, seat: &mut WSeat<B>, w: u64)
+        requires table { seat.old.table_id ≡ self.now.table.shared.table_id }
+        requires some { 0 < w }
+        requires known { w ≤ 2 }
+        requires refused { w ≡ 1 → 0 < seat.old.me.0.refused }
+        ensures table { seat.new.table_id ≡ seat.old.table_id }
+        ensures id { seat.new.id ≡ seat.old.id }
+        ensures me { seat.new.me ≡ (stepped_on seat.old.me.0, seat.old.me.1) }
+    {
+        self.table.shared.store::<StopStore>(seat, STOP, w);
+    }
+
+    /// Puts a record into the slot of t, or takes it out. The seat has taken that slot last.
+    pub fn slot_swap(&self, seat: &mut WSeat<B>, t: CellId, rec: Option<Rec<B>>) -> Option<Rec<B>>
+        requires table { seat.old.table_id ≡ self.now.table.shared.table_id }
+        requires slot { HasSlot t.0 seat.old.me }
+        ensures table { seat.new.table_id ≡ seat.old.table_id }
+        ensures id { seat.new.id ≡ seat.old.id }
+        ensures found { seat.old.me.1 ≡ (t.0, result) ∷ rest seat.old.me.1 }
+        ensures me { seat.new.me ≡ (seat.old.me.0, (t.0, rec) ∷ rest seat.old.me.1) }
+    {
+        self.table.shared.exchange(seat, t.0 as usize, rec)
+    }
+
+    /// Says that an unborn task is ready, whose record lies at home.
+    pub(crate) fn put_ready(&self, seat: &mut WSeat<B>, t: CellId)
+        requires table { seat.old.table_id ≡ self.now.table.shared.table_id }
+        requires task { t.0 < self.now.cells }
+        requires may { MayRelease t.0 seat.old.me.0 }
+        ensures table { seat.new.table_id ≡ seat.old.table_id }
+        ensures id { seat.new.id ≡ seat.old.id }
+        ensures me { seat.new.me ≡ (released t.0 seat.old.me.0, seat.old.me.1) }
+    {
+        self.store_ready::<Brand>(seat, t);
+    }
+
+    fn store_ready<M: Naming>(&self, seat: &mut WSeat<B>, t: CellId)
+        requires named { M.cell ≡ t.0 }
+        requires table { seat.old.table_id ≡ self.now.table.shared.table_id }
+        requires task { t.0 < self.now.cells }
+        requires may { MayRelease t.0 seat.old.me.0 }
+        ensures table { seat.new.table_id ≡ seat.old.table_id }
+        ensures id { seat.new.id ≡ seat.old.id }
+        ensures me { seat.new.me ≡ (released t.0 seat.old.me.0, seat.old.me.1) }
+    {
+        self.table
+            .shared
+            .store::<ReadyStore<M>>(seat, phase_at(t), Phase::Ready.word());
+    }
+
+    /// Says that a task has ended, whose record with its finish was put into its slot.
+    pub(crate) fn put_ended(&self, seat: &mut WSeat<B>, t: CellId)
+        requires table { seat.old.table_id ≡ self.now.table.shared.table_id }
+        requires task { t.0 < self.now.cells }
+        requires may { MayEnd (program_of B.places B.awaits B.left B.asks B.then) t.0 seat.old.me }
+        ensures table { seat.new.table_id ≡ seat.old.table_id }
+        ensures id { seat.new.id ≡ seat.old.id }
+        ensures me { seat.new.me ≡ (ended t.0 seat.old.me.0, rest seat.old.me.1) }
+    {
+        self.store_ended::<Brand>(seat, t);
+    }
+
+    fn store_ended<M: Naming>(&self, seat: &mut WSeat<B>, t: CellId)
+        requires named { M.cell ≡ t.0 }
+        requires table { seat.old.table_id ≡ self.now.table.shared.table_id }
+        requires task { t.0 < self.now.cells }
+        requires may { MayEnd (program_of B.places B.awaits B.left B.asks B.then) t.0 seat.old.me }
+        ensures table { seat.new.table_id ≡ seat.old.table_id }
+        ensures id { seat.new.id ≡ seat.old.id }
+        ensures me { seat.new.me ≡ (ended t.0 seat.old.me.0, rest seat.old.me.1) }
+    {
+        self.table
+            .shared
+            .store::<EndedStore<M>>(seat, phase_at(t), Phase::Ended.word());
+    }
+}

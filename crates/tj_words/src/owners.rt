@@ -1,0 +1,90 @@
+//! Stores of owners, and of the words that are written once.
+ghost use Rattle.std.specs.Prelude.{◌≡◌, ◌<◌};
+ghost use Rattle.tj_body.specs.Programs.{program_of};
+ghost use Rattle.tj_words.specs.EntryViews.{MayPutBits, MayPutOnce, MayPutTag};
+ghost use Rattle.tj_words.specs.EntryViews.{PutsBits, PutsOnce, PutsTag};
+ghost use Rattle.tj_words.specs.OwnerViews.{MayPutOwner, PutsOwner};
+ghost use Rattle.tj_words.specs.Owners.{owner_in, owner_number};
+ghost use Rattle.tj_words.specs.SeatSteps.{IsSameSeat};
+
+use crate::offsets::{Once, once_at, own_at};
+use crate::owner::word_of_owner;
+use crate::owner_plays::{BitsPut, OwnerPut, TagPut};
+use crate::plays::Naming;
+use crate::table::{Laid, WSeat};
+use std::marker::Brand;
+use tj_base::CellId;
+use tj_body::Body;
+use tj_core::event_keeps_facts;
+
+impl<B: Body> Laid<B> {
+    /// Says who owns a cell: first the one that its drawer gives it; then, of a promise, a child to
+    /// which it is handed; at last nobody.
+    pub fn put_owner(&self, seat: &mut WSeat<B>, c: CellId, o: Option<CellId>)
+        requires table { seat.old.table_id ≡ self.now.table.shared.table_id }
+        requires cell { c.0 < self.now.cells }
+        requires may { MayPutOwner c.0 (owner_number o) seat.old.me.0 }
+        ensures seat { IsSameSeat seat.old seat.new }
+        ensures view { PutsOwner c.0 (owner_number o) seat.old.me.0 seat.new.me.0 }
+    {
+        self.store_owner::<Brand>(seat, c, word_of_owner(o));
+    }
+
+    fn store_owner<M: Naming>(&self, seat: &mut WSeat<B>, c: CellId, o: u64)
+        requires named { M.cell ≡ c.0 }
+        requires table { seat.old.table_id ≡ self.now.table.shared.table_id }
+        requires cell { c.0 < self.now.cells }
+        requires may { MayPutOwner c.0 (owner_in o) seat.old.me.0 }
+        ensures seat { IsSameSeat seat.old seat.new }
+        ensures view { PutsOwner c.0 (owner_in o) seat.old.me.0 seat.new.me.0 }
+    {
+        event_keeps_facts();
+        self.table.shared.store::<OwnerPut<M>>(seat, own_at(c), o);
+    }
+
+    /// Writes a word that is written once: PARENT, KID, DEPTH and JUMP of a cell in hand, and BITS
+    /// and then TAG of a closed one.
+    pub fn put_once(&self, seat: &mut WSeat<B>, c: CellId, f: Once, v: u64)
+        requires table { seat.old.table_id ≡ self.now.table.shared.table_id }
+        requires cell { c.0 < self.now.cells }
+        requires may { MayPutOnce (program_of B.places B.awaits B.left B.asks B.then) f c.0 v
+            seat.old.me.0 }
+        ensures seat { IsSameSeat seat.old seat.new }
+        ensures view { PutsOnce (program_of B.places B.awaits B.left B.asks B.then) f c.0 v
+            seat.old.me.0 seat.new.me.0 }
+    {
+        match f {
+            Once::Tag => self.store_tag::<Brand>(seat, c, v),
+            Once::Bits => self.store_bits::<Brand>(seat, c, v),
+            _ => self.put_tree_word(seat, c, f, v),
+        }
+    }
+
+    fn store_bits<M: Naming>(&self, seat: &mut WSeat<B>, c: CellId, v: u64)
+        requires named { M.cell ≡ c.0 }
+        requires table { seat.old.table_id ≡ self.now.table.shared.table_id }
+        requires cell { c.0 < self.now.cells }
+        requires may { MayPutBits (program_of B.places B.awaits B.left B.asks B.then) c.0 v
+            seat.old.me.0 }
+        ensures seat { IsSameSeat seat.old seat.new }
+        ensures view { PutsBits (program_of B.places B.awaits B.left B.asks B.then) c.0 v
+            seat.old.me.0 seat.new.me.0 }
+    {
+        self.table
+            .shared
+            .store::<BitsPut<M>>(seat, once_at(c, Once::Bits), v);
+    }
+
+    fn store_tag<M: Naming>(&self, seat: &mut WSeat<B>, c: CellId, v: u64)
+        requires named { M.cell ≡ c.0 }
+        requires table { seat.old.table_id ≡ self.now.table.shared.table_id }
+        requires cell { c.0 < self.now.cells }
+        requires may { MayPutTag c.0 v seat.old.me.0 }
+        ensures seat { IsSameSeat seat.old seat.new }
+        ensures view { PutsTag c.0 v seat.old.me.0 seat.new.me.0 }
+    {
+        self.table
+            .shared
+            .store::<TagPut<M>>(seat, once_at(c, Once::Tag), v);
+    }
+}

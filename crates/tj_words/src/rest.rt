@@ -1,0 +1,169 @@
+//! Rest: a table whose last seat has come back is closed. Its words and records stay as they are.
+ghost use Rattle.std.specs.Prelude.{◌≡◌, ◌↔◌, ◌<◌, ◌≤◌, length, get_or, None};
+ghost use Rattle.std.specs.Option.{option_map};
+ghost use Rattle.tj_body.specs.Programs.{program_of};
+ghost use Rattle.tj_words.specs.RestingSeats.{MayRest};
+ghost use Rattle.tj_words.specs.ClosedCells.{AreAlarmsOnCycles, AreAtRest, AreCyclesAlarmed};
+ghost use Rattle.tj_words.specs.ClosedCells.{IsPromise, IsShown};
+ghost use Rattle.tj_words.specs.RestMeaning.{HaveMeaning, AreCyclesOfMeaningAlarmed};
+ghost use Rattle.tj_words.specs.ShownCells.{AreCellsOf, AreTableWords, cell_of};
+ghost use Rattle.std.specs.Slots.{IsFull, slots_items};
+
+use crate::closed::{Closed, RestCell};
+use crate::offsets::{COUNT, Once, once_at, own_at, phase_at};
+use crate::owner::owner_of_word;
+use crate::phase::Phase;
+use crate::record::Rec;
+use crate::records::Records;
+use crate::table::{Laid, WSeat};
+use std::alloc::Global;
+use std::marker::Model;
+use std::snapshot::Snapshot;
+use tj_base::CellId;
+use tj_body::{Body, meaning_is_last, rest_is_meaning};
+use tj_core::{alarms_are_on_cycles, cycles_are_watched};
+
+/// Closed words and records, with the program and the number of cells that the table was made for.
+#[derive(Drop)]
+pub struct RestWords<B: Body> {
+    closed: Closed,
+    records: Records<B>,
+    limit: u32,
+    strict: bool,
+    root: Snapshot<B>,
+}
+
+impl<B: Body> Model for RestWords<B> {
+    ghost use Rattle.tj_words.specs.RestShown.{AreSlots, RestShown};
+    ghost use Rattle.std.specs.Slots.{slots_items};
+
+    ghost Value = { RestShown B };
+
+    ghost view = { λ w. record {
+      cells = w.closed;
+      records = slots_items w.records.table.slots;
+      limit = w.limit;
+      root = w.root.value;
+      strict = w.strict;
+    } };
+
+    ghost invariant = { λ w. AreSlots w.closed (slots_items w.records.table.slots) };
+}
+
+impl<B: Body> RestWords<B> {
+    /// How many cells were drawn.
+    pub fn drawn(&self) -> u32
+        ensures { result ≡ length self.now.cells }
+    {
+        self.closed.drawn()
+    }
+
+    /// What the words show of a cell.
+    pub fn cell(&self, c: CellId) -> RestCell
+        requires { c.0 < length self.now.cells }
+        ensures { IsShown self.now.cells c.0 result }
+    {
+        self.closed.cell(c)
+    }
+
+    /// The record of a task, and nothing for a promise.
+    pub fn rec(&self, c: CellId) -> Option<&Rec<B>>
+        requires { c.0 < length self.now.cells }
+        ensures record { option_map (λ r. r.now) result ≡ get_or self.now.records c.0 None }
+        ensures promise { (result ≡ None) ↔ IsPromise self.now.cells c.0 }
+    {
+        self.records.get(c.0 as usize)
+    }
+
+    /// The words without the records.
+    pub fn into_closed(self) -> Closed
+        ensures { result ≡ self.cells }
+    {
+        self.closed
+    }
+}
+
+impl<B: Body> Laid<B> {
+    /// Closes the table with its last seat.
+    pub fn rest(self, seat: WSeat<B>) -> RestWords<B>
+        requires table { seat.table_id ≡ self.table.shared.table_id }
+        requires may { MayRest seat.me.0 }
+        ensures limit { result.limit ≡ self.cells }
+        ensures root { result.root ≡ self.root.value }
+        ensures strict { result.strict ≡ self.strict }
+        ensures drawn { length result.cells ≤ self.cells }
+
+        // Nothing goes on, and no wake was lost: nothing has become of what a task waits for.
+        ensures rest { AreAtRest result.cells }
+
+        // The words and the records are those of the meaning, which isn't full.
+        ensures meaning { HaveMeaning (program_of B.places B.awaits B.left B.asks B.then self.strict
+            self.root.value) self.cells result.cells result.records }
+
+        // Each cycle has a member that has alarmed, and each task that has alarmed is on one.
+        ensures cycles { AreCyclesAlarmed result.cells }
+        ensures alarms { AreAlarmsOnCycles result.cells }
+        ensures meant_cycles { AreCyclesOfMeaningAlarmed (program_of B.places B.awaits B.left B.asks
+            B.then self.strict self.root.value) self.cells result.cells }
+    {
+        rest_is_meaning::<B>();
+        meaning_is_last::<B>();
+        cycles_are_watched();
+        alarms_are_on_cycles();
+        let Laid {
+            table,
+            cells,
+            strict,
+            root,
+            room,
+        } = self;
+        let table = table.close_with(seat);
+        let shown = show_cells(&table, cells, room);
+        RestWords {
+            closed: Closed { cells: shown },
+            records: Records { table },
+            limit: cells,
+            strict,
+            root,
+        }
+    }
+}
+
+/// What the words show of each cell that was drawn.
+fn show_cells<B: Body>(
+    table: &atomic_table::Closed<Option<Rec<B>>, Global>,
+    cells: u32,
+    mut room: Vec<RestCell>,
+) -> Vec<RestCell>
+    requires full { IsFull table.now.words }
+    requires words { AreTableWords cells (slots_items table.now.words) }
+    requires room { length room.items ≡ cells }
+    ensures { AreCellsOf (slots_items table.now.words) cells result.items }
+{
+    let drawn = table.word(COUNT).min(cells as u64) as usize;
+    for c in 0..drawn {
+        room[c] = show_cell(table, cells, CellId(c as u32));
+    }
+    room.truncate(drawn);
+    room
+}
+
+/// What the words show of a cell.
+fn show_cell<B: Body>(
+    table: &atomic_table::Closed<Option<Rec<B>>, Global>,
+    cells: u32,
+    c: CellId,
+) -> RestCell
+    requires full { IsFull table.now.words }
+    requires words { AreTableWords cells (slots_items table.now.words) }
+    requires cell { c.0 < cells }
+    ensures { result ≡ cell_of (slots_items table.now.words) c.0 }
+{
+    RestCell {
+        own: owner_of_word(table.word(own_at(c))),
+        phase: Phase::of_word(table.word(phase_at(c))),
+        tag: table.word(once_at(c, Once::Tag)),
+        parent: owner_of_word(table.word(once_at(c, Once::Parent))).unwrap_or(CellId(0)),
+        kid: table.word(once_at(c, Once::Kid)) as u32,
+    }
+}

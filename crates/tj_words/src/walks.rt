@@ -1,0 +1,227 @@
+//! Loads that are events of a walker, where they name one, and steps on OTHERS.
+ghost use Rattle.std.specs.Prelude.{◌≡◌, ℕ, ◌<◌, ◌≤◌, ◌^◌, min, None, Some};
+ghost use Rattle.tj_core.specs.CoreState.{present};
+ghost use Rattle.tj_core.specs.Events.{MayCount, MayReadOthers};
+ghost use Rattle.tj_core.specs.Events.{count_read, others_read, wait_found};
+ghost use Rattle.tj_words.specs.Codes as codes;
+ghost use Rattle.tj_words.specs.Owners.{owner_in, owner_number};
+ghost use Rattle.tj_words.specs.ParkSteps.{FirstTold, loaded_phase};
+ghost use Rattle.tj_words.specs.Phases.{phase_in};
+ghost use Rattle.tj_words.specs.SeatSteps as steps;
+ghost use Rattle.tj_words.specs.SeatSteps.{IsSameSeat};
+ghost use Rattle.tj_words.specs.StepEvents.{wait_in};
+ghost use Rattle.tj_words.specs.Views.{loaded_plain};
+ghost use Rattle.tj_words.specs.WalkViews.{IsWalking, MayLoadBy, MayLoadOwner, MayLoadWait};
+ghost use Rattle.tj_words.specs.WalkViews.{MayRaise, loaded_by, lowered, owner_seen, read_on};
+ghost use Rattle.tj_words.specs.WalkViews.{turned};
+
+use crate::offsets::{COUNT, OTHERS, own_at, phase_at};
+use crate::owner::owner_of_word;
+use crate::phase::Phase;
+use crate::table::{Laid, WSeat};
+use crate::view::Does;
+use crate::walk_plays::{
+    Acting, OthersAdd, OthersSubtraction, WalkerCount, WalkerOthers, WalkerOwner, WalkerWait,
+};
+use std::marker::Brand;
+use tj_base::CellId;
+use tj_body::Body;
+use tj_core::{event_keeps_facts, others_are_few};
+
+impl<B: Body> Laid<B> {
+    /// How many cells are there. A walker that counts has its bound then.
+    pub fn count(&self, seat: &mut WSeat<B>, by: Option<CellId>) -> u32
+        requires table { seat.old.table_id ≡ self.now.table.shared.table_id }
+        requires walks { MayLoadBy by (λ t p way w. MayCount way w) seat.old.me.0 }
+        ensures seat { IsSameSeat seat.old seat.new }
+        ensures view { seat.new.me.0
+            ≡ loaded_by by loaded_plain (count_read result) seat.old.me.0 }
+        ensures some { 0 < result }
+        ensures few { result ≤ self.now.cells }
+    {
+        match by {
+            None => self.plain_count(seat),
+            Some(t) => self.count_by(seat, t),
+        }
+    }
+
+    fn count_by(&self, seat: &mut WSeat<B>, t: CellId) -> u32
+        requires table { seat.old.table_id ≡ self.now.table.shared.table_id }
+        requires walks { IsWalking t.0 (λ p way w. MayCount way w) seat.old.me.0 }
+        ensures seat { IsSameSeat seat.old seat.new }
+        ensures view { seat.new.me.0 ≡ read_on t.0 (count_read result) seat.old.me.0 }
+        ensures some { 0 < result }
+        ensures few { result ≤ self.now.cells }
+    {
+        let found = self.walker_count::<Brand>(seat, t);
+        found.min(self.cells as u64) as u32
+    }
+
+    fn walker_count<M: Acting>(&self, seat: &mut WSeat<B>, t: CellId) -> u64
+        requires named { (M.cells ≡ self.now.cells) × (M.task ≡ t.0) }
+        requires table { seat.old.table_id ≡ self.now.table.shared.table_id }
+        requires walks { IsWalking t.0 (λ p way w. MayCount way w) seat.old.me.0 }
+        ensures seat { IsSameSeat seat.old seat.new }
+        ensures view { seat.new.me.0
+            ≡ read_on t.0 (count_read (min result self.now.cells)) seat.old.me.0 }
+        ensures some { steps.IsCount self.now.cells result }
+    {
+        event_keeps_facts();
+        let _ = t;
+        self.table.shared.load::<WalkerCount<M>>(seat, COUNT)
+    }
+
+    /// The owner of a cell. A walker reads that of its present cell, and then again.
+    pub fn see_owner(&self, seat: &mut WSeat<B>, c: CellId, by: Option<CellId>) -> Option<CellId>
+        requires table { seat.old.table_id ≡ self.now.table.shared.table_id }
+        requires cell { c.0 < self.now.cells }
+        requires walks { MayLoadBy by (λ t p way w. (c.0 ≡ present p w.trail) × MayLoadOwner w)
+            seat.old.me.0 }
+        ensures seat { IsSameSeat seat.old seat.new }
+        ensures view { seat.new.me.0
+            ≡ loaded_by by loaded_plain (λ w. owner_seen (owner_number result) w w.last)
+            seat.old.me.0 }
+        ensures task { (u : CellId) → result ≡ Some u → u.0 < self.now.cells }
+    {
+        match by {
+            None => self.plain_owner(seat, c),
+            Some(t) => self.owner_by(seat, c, t),
+        }
+    }
+
+    fn owner_by(&self, seat: &mut WSeat<B>, c: CellId, t: CellId) -> Option<CellId>
+        requires table { seat.old.table_id ≡ self.now.table.shared.table_id }
+        requires cell { c.0 < self.now.cells }
+        requires walks { IsWalking t.0 (λ p way w. (c.0 ≡ present p w.trail) × MayLoadOwner w)
+            seat.old.me.0 }
+        ensures seat { IsSameSeat seat.old seat.new }
+        ensures view { seat.new.me.0
+            ≡ read_on t.0 (λ w. owner_seen (owner_number result) w w.last) seat.old.me.0 }
+        ensures task { (u : CellId) → result ≡ Some u → u.0 < self.now.cells }
+    {
+        owner_of_word(self.walker_owner::<Brand>(seat, c, t))
+    }
+
+    fn walker_owner<M: Acting>(&self, seat: &mut WSeat<B>, c: CellId, t: CellId) -> u64
+        requires named { (M.cells ≡ self.now.cells) × (M.task ≡ t.0) }
+        requires table { seat.old.table_id ≡ self.now.table.shared.table_id }
+        requires cell { c.0 < self.now.cells }
+        requires walks { IsWalking t.0 (λ p way w. (c.0 ≡ present p w.trail) × MayLoadOwner w)
+            seat.old.me.0 }
+        ensures seat { IsSameSeat seat.old seat.new }
+        ensures view { seat.new.me.0
+            ≡ read_on t.0 (λ w. owner_seen (owner_in result) w w.last) seat.old.me.0 }
+        ensures owner { result ≤ self.now.cells }
+    {
+        event_keeps_facts();
+        let _ = t;
+        self.table.shared.load::<WalkerOwner<M>>(seat, own_at(c))
+    }
+
+    /// The phase of a cell. Where the load is no event, and the cell the first of the seat's rest, the
+    /// way of its wait is known then.
+    pub fn see_phase(&self, seat: &mut WSeat<B>, t: CellId, by: Option<CellId>) -> Phase
+        requires table { seat.old.table_id ≡ self.now.table.shared.table_id }
+        requires cell { t.0 < self.now.cells }
+        requires walks { MayLoadBy by (λ walker p way w. MayLoadWait walker t.0 w) seat.old.me.0 }
+        ensures seat { IsSameSeat seat.old seat.new }
+        ensures view { seat.new.me.0
+            ≡ loaded_by by (loaded_phase t.0 result) (wait_found t.0 (wait_in result))
+            seat.old.me.0 }
+        ensures first { by ≡ None → FirstTold t.0 result seat.old.me.0 }
+        ensures wait { (c : ℕ) → wait_in result ≡ Some c → c < self.now.cells }
+    {
+        match by {
+            None => self.plain_phase(seat, t),
+            Some(walker) => self.wait_by(seat, t, walker),
+        }
+    }
+
+    fn wait_by(&self, seat: &mut WSeat<B>, u: CellId, t: CellId) -> Phase
+        requires table { seat.old.table_id ≡ self.now.table.shared.table_id }
+        requires cell { u.0 < self.now.cells }
+        requires walks { IsWalking t.0 (λ p way w. MayLoadWait t.0 u.0 w) seat.old.me.0 }
+        ensures seat { IsSameSeat seat.old seat.new }
+        ensures view { seat.new.me.0
+            ≡ read_on t.0 (wait_found u.0 (wait_in result)) seat.old.me.0 }
+        ensures wait { (c : ℕ) → wait_in result ≡ Some c → c < self.now.cells }
+    {
+        Phase::of_word(self.walker_wait::<Brand>(seat, u, t))
+    }
+
+    fn walker_wait<M: Acting>(&self, seat: &mut WSeat<B>, u: CellId, t: CellId) -> u64
+        requires named { (M.cells ≡ self.now.cells) × (M.task ≡ t.0) × (M.owner ≡ u.0) }
+        requires table { seat.old.table_id ≡ self.now.table.shared.table_id }
+        requires cell { u.0 < self.now.cells }
+        requires walks { IsWalking t.0 (λ p way w. MayLoadWait t.0 u.0 w) seat.old.me.0 }
+        ensures seat { IsSameSeat seat.old seat.new }
+        ensures view { seat.new.me.0
+            ≡ read_on t.0 (wait_found u.0 (wait_in (phase_in result))) seat.old.me.0 }
+        ensures phase { codes.IsPhaseWord self.now.cells result }
+    {
+        event_keeps_facts();
+        let _ = t;
+        self.table.shared.load::<WalkerWait<M>>(seat, phase_at(u))
+    }
+
+    /// OTHERS, at least the number of the other waits that are published.
+    pub fn others(&self, seat: &mut WSeat<B>, by: CellId) -> u32
+        requires table { seat.old.table_id ≡ self.now.table.shared.table_id }
+        requires walks { IsWalking by.0 (λ p way w. MayReadOthers way w) seat.old.me.0 }
+        ensures seat { IsSameSeat seat.old seat.new }
+        ensures view { seat.new.me.0 ≡ read_on by.0 (others_read result) seat.old.me.0 }
+    {
+        self.walker_others::<Brand>(seat, by) as u32
+    }
+
+    fn walker_others<M: Acting>(&self, seat: &mut WSeat<B>, t: CellId) -> u64
+        requires named { M.task ≡ t.0 }
+        requires table { seat.old.table_id ≡ self.now.table.shared.table_id }
+        requires walks { IsWalking t.0 (λ p way w. MayReadOthers way w) seat.old.me.0 }
+        ensures seat { IsSameSeat seat.old seat.new }
+        ensures view { seat.new.me.0 ≡ read_on t.0 (others_read result) seat.old.me.0 }
+        ensures few { result < 2 ^ 32 }
+    {
+        event_keeps_facts();
+        others_are_few();
+        let _ = t;
+        self.table.shared.load::<WalkerOthers<M>>(seat, OTHERS)
+    }
+
+    /// Raises OTHERS for a wait that comes next.
+    pub fn others_up(&self, seat: &mut WSeat<B>, t: CellId)
+        requires table { seat.old.table_id ≡ self.now.table.shared.table_id }
+        requires runs { MayRaise t.0 seat.old.me.0 }
+        ensures seat { IsSameSeat seat.old seat.new }
+        ensures view { seat.new.me.0 ≡ turned t.0 (λ _. Does.Raised) seat.old.me.0 }
+    {
+        self.add_other::<Brand>(seat, t);
+    }
+
+    fn add_other<M: Acting>(&self, seat: &mut WSeat<B>, t: CellId)
+        requires named { M.task ≡ t.0 }
+        requires table { seat.old.table_id ≡ self.now.table.shared.table_id }
+        requires runs { MayRaise t.0 seat.old.me.0 }
+        ensures seat { IsSameSeat seat.old seat.new }
+        ensures view { seat.new.me.0 ≡ turned t.0 (λ _. Does.Raised) seat.old.me.0 }
+    {
+        event_keeps_facts();
+        others_are_few();
+        let _ = t;
+        self.table.shared.fetch_add::<OthersAdd<M>>(seat, OTHERS, 1);
+    }
+
+    /// Lowers OTHERS for a wait that the seat has cleared.
+    pub fn others_down(&self, seat: &mut WSeat<B>)
+        requires table { seat.old.table_id ≡ self.now.table.shared.table_id }
+        requires cleared { 0 < seat.old.me.0.cleared }
+        ensures seat { IsSameSeat seat.old seat.new }
+        ensures view { seat.new.me.0 ≡ lowered seat.old.me.0 }
+    {
+        event_keeps_facts();
+        others_are_few();
+        self.table
+            .shared
+            .fetch_sub::<OthersSubtraction>(seat, OTHERS, 1);
+    }
+}
