@@ -1,0 +1,4 @@
+pub mod MadeCells
+pub mod MakingSteps
+pub mod FilledCells
+pub mod SeenValues

@@ -1,0 +1,144 @@
+//! Promises and tasks that a running task makes. A draw gives a cell; its words of the tree are
+//! written while the seat has it in hand, and its owner last: from then on others may name it.
+ghost use Rattle.std.specs.Prelude.{◌≡◌, ◌≢◌, ◌+◌, ◌∷◌, IfOk, IfSome, Some, None, OnErr};
+ghost use Rattle.tj_base.specs.declared.cell.Sort.TheVariants as sorts;
+ghost use Rattle.tj_body.specs.Programs.{program_of};
+ghost use Rattle.tj_tree.specs.Nodes.{InEachTree};
+ghost use Rattle.tj_words.specs.DrawViews.{FindsNone, new_slots};
+ghost use Rattle.tj_words.specs.OwnerViews.{handed_promise};
+ghost use Rattle.tj_words.specs.SeatSteps.{IsCellOf, IsSameSeat, IsSeatOf};
+ghost use Rattle.tj_words.specs.TreeReads.{IsLater, KnowsTask, MayLook, TreeShown};
+ghost use Rattle.tj_cells.specs.MadeCells.{IsMade, MayGiveAway, MayMake};
+ghost use Rattle.tj_cells.specs.MakingSteps.{DrawsNamed, HasInHand, WritesPlace, child_jump_of};
+
+use tj_base::{CellId, Sort};
+use tj_body::Body;
+use tj_tree::{Node, NodeId};
+use tj_words::{Laid, Once, Phase, WSeat};
+
+/// All cells are drawn.
+#[derive(Clone, Copy, Debug, PartialEq, Eq)]
+pub struct Full;
+
+/// A promise that task `t` makes and owns, as the `kid`-th thing that it makes.
+pub fn make<B: Body>(
+    laid: &Laid<B>,
+    seat: &mut WSeat<B>,
+    t: CellId,
+    kid: u32,
+) -> Result<CellId, Full>
+    requires table { IsSeatOf laid.now seat.old }
+    requires may { MayMake (program_of B.places B.awaits B.left B.asks B.then) t.0 kid
+        seat.old.me.0 }
+    ensures seat { IsSameSeat seat.old seat.new }
+    ensures made { IfOk result (λ c. IsMade sorts.Promise laid.now.cells t.0 c.0
+        seat.old.me.0 seat.new.me.0) }
+    ensures full { OnErr result (FindsNone (program_of B.places B.awaits B.left B.asks B.then)
+        seat.old.me.0 seat.new.me.0) }
+{
+    match draw_named(laid, seat, t, kid, Sort::Promise) {
+        None => Err(Full),
+        Some(c) => {
+            laid.put_phase(seat, c, Phase::Promise);
+            laid.put_owner(seat, c, Some(t));
+            Ok(c)
+        }
+    }
+}
+
+/// A child of task `t`, as the `kid`-th thing that it makes. It isn't ready yet, and owns its result.
+pub fn birth<B: Body>(
+    laid: &Laid<B>,
+    seat: &mut WSeat<B>,
+    t: CellId,
+    kid: u32,
+) -> Result<CellId, Full>
+    requires table { IsSeatOf laid.now seat.old }
+    requires cell { IsCellOf laid.now t.0 }
+    requires known { KnowsTask t.0 seat.old.me.0 }
+    requires may { MayMake (program_of B.places B.awaits B.left B.asks B.then) t.0 kid
+        seat.old.me.0 }
+    ensures seat { (seat.new.table_id ≡ seat.old.table_id) × (seat.new.id ≡ seat.old.id) }
+    ensures made { IfOk result (λ c. IsMade sorts.Task laid.now.cells t.0 c.0
+        seat.old.me.0 seat.new.me.0) }
+    ensures slot { IfOk result (λ c. seat.new.me.1 ≡ (c.0, None) ∷ seat.old.me.1) }
+    ensures full { OnErr result (FindsNone (program_of B.places B.awaits B.left B.asks B.then)
+        seat.old.me.0 seat.new.me.0 × (seat.new.me.1 ≡ seat.old.me.1)) }
+{
+    match draw_named(laid, seat, t, kid, Sort::Task) {
+        None => Err(Full),
+        Some(c) => {
+            put_place(laid, seat, t, c);
+            laid.put_owner(seat, c, Some(c));
+            Ok(c)
+        }
+    }
+}
+
+/// Task `t` hands a promise that it owns to a child of it that isn't ready yet.
+pub fn hand<B: Body>(laid: &Laid<B>, seat: &mut WSeat<B>, t: CellId, p: CellId, child: CellId)
+    requires table { IsSeatOf laid.now seat.old }
+    requires cell { IsCellOf laid.now p.0 }
+    requires may { MayGiveAway t.0 p.0 child.0 seat.old.me.0 }
+    ensures seat { IsSameSeat seat.old seat.new }
+    ensures view { seat.new.me.0 ≡ handed_promise t.0 p.0 child.0 seat.old.me.0 }
+{
+    laid.put_owner(seat, p, Some(child));
+}
+
+// A cell that task `t` draws as the `kid`-th thing that it makes, with PARENT and KID written.
+fn draw_named<B: Body>(
+    laid: &Laid<B>,
+    seat: &mut WSeat<B>,
+    t: CellId,
+    kid: u32,
+    sort: Sort,
+) -> Option<CellId>
+    requires table { IsSeatOf laid.now seat.old }
+    requires may { MayMake (program_of B.places B.awaits B.left B.asks B.then) t.0 kid
+        seat.old.me.0 }
+    ensures seat { (seat.new.table_id ≡ seat.old.table_id) × (seat.new.id ≡ seat.old.id) }
+    ensures drawn { IfSome result (λ c. DrawsNamed laid.now.cells t.0 kid sort c.0
+        seat.old.me.0 seat.new.me.0) }
+    ensures slots { IfSome result (λ c. seat.new.me.1 ≡ new_slots c.0 sort seat.old.me.1) }
+    ensures none { result ≡ None
+        → FindsNone (program_of B.places B.awaits B.left B.asks B.then) seat.old.me.0 seat.new.me.0
+        × (seat.new.me.1 ≡ seat.old.me.1) }
+{
+    let c = laid.draw_one(seat, t, sort)?;
+    laid.put_once(seat, c, Once::Parent, t.0 as u64 + 1);
+    laid.put_once(seat, c, Once::Kid, kid as u64);
+    Some(c)
+}
+
+// Writes DEPTH and JUMP of a new child of task `t`.
+fn put_place<B: Body>(laid: &Laid<B>, seat: &mut WSeat<B>, t: CellId, c: CellId)
+    requires look { MayLook laid.now seat.old t.0 }
+    requires cell { IsCellOf laid.now c.0 }
+    requires hand { HasInHand t.0 c.0 seat.old.me.0 }
+    ensures seat { IsSameSeat seat.old seat.new }
+    ensures place { WritesPlace c.0 seat.old.me.0 seat.new.me.0 }
+{
+    let maker = laid.see_node(seat, t);
+    let jump = child_jump(laid, seat, t, maker);
+    laid.put_once(seat, c, Once::Depth, maker.depth as u64 + 1);
+    laid.put_once(seat, c, Once::Jump, jump.0 as u64 + 1);
+}
+
+// Where a child of task `t` jumps, of which this is the node: two jumps up from `t` where these are
+// equally long, else to `t`.
+fn child_jump<B: Body>(laid: &Laid<B>, seat: &mut WSeat<B>, t: CellId, node: Node) -> NodeId
+    requires shown { TreeShown seat.old t.0 node }
+    requires look { MayLook laid.now seat.old node.jump.0 }
+    ensures jump { InEachTree (TreeShown seat.new) (λ forks. result.0 ≡ child_jump_of t.0 forks) }
+    ensures loads { seat.new.me.0.once_loads ≡ seat.old.me.0.once_loads + 8 }
+    ensures later { IsLater seat.old seat.new }
+{
+    let near = laid.see_node(seat, CellId(node.jump.0));
+    let far = laid.see_node(seat, CellId(near.jump.0));
+    if node.depth.saturating_sub(near.depth) == near.depth.saturating_sub(far.depth) {
+        near.jump
+    } else {
+        NodeId(t.0)
+    }
+}

@@ -1,0 +1,51 @@
+//! What has become of a cell, as a seat sees it.
+ghost use Rattle.std.specs.Prelude.{◌≡◌, ◌≢◌};
+ghost use Rattle.tj_body.specs.Programs.{program_of};
+ghost use Rattle.tj_words.specs.SeatSteps.{IsCellOf, IsSameSeat, IsSeatOf};
+ghost use Rattle.tj_words.specs.SeenWords.{FindsNothing};
+ghost use Rattle.tj_cells.specs.SeenValues.{SeesValue, seen_in};
+
+use tj_base::CellId;
+use tj_body::Body;
+use tj_words::{Fill, Laid, Once, WSeat, value_of_words};
+
+/// What has become of a cell.
+#[derive(Clone, Copy, Debug, PartialEq, Eq)]
+pub enum Seen {
+    Num(i64),
+    Promise(CellId),
+    Task(CellId),
+    Broken,
+    NotYet,
+}
+
+/// What has become of cell `p`: its value for good, or nothing yet.
+pub fn value<B: Body>(laid: &Laid<B>, seat: &mut WSeat<B>, p: CellId) -> Seen
+    requires table { IsSeatOf laid.now seat.old }
+    requires cell { IsCellOf laid.now p.0 }
+    ensures seat { IsSameSeat seat.old seat.new }
+    // TAG was loaded as 0.
+    ensures not_yet { result ≡ Seen.NotYet → FindsNothing p.0 seat.old.me.0 seat.new.me.0 }
+    ensures value { result ≢ Seen.NotYet
+        → SeesValue (program_of B.places B.awaits B.left B.asks B.then) laid.now.cells p.0 result
+        seat.old.me.0 seat.new.me.0 }
+{
+    let tag = laid.see_once(seat, p, Once::Tag);
+    if tag == 0 {
+        return Seen::NotYet;
+    }
+    let bits = laid.see_once(seat, p, Once::Bits);
+    seen_of(value_of_words(tag, bits))
+}
+
+/// What was seen where the words stand for this: `None` where the cell is broken.
+fn seen_of(fill: Option<Fill>) -> Seen
+    ensures { result ≡ seen_in fill }
+{
+    match fill {
+        Some(Fill::Num(number)) => Seen::Num(number),
+        Some(Fill::Promise(cell)) => Seen::Promise(cell),
+        Some(Fill::Task(cell)) => Seen::Task(cell),
+        None => Seen::Broken,
+    }
+}
