@@ -1,0 +1,6 @@
+pub mod WalkPlaces
+pub mod WayOrders
+pub mod Doings
+pub mod WalkReads
+pub mod WalkLoops
+pub mod WalkBlocks

@@ -1,0 +1,65 @@
+-- The way of a wait, by the fork order of the tree that was seen.
+use Rattle.std.proofs.Common.{◌≡◌, ◌∙◌, ℕ, zero, suc, ◌+◌, ◌*◌, ◌<◌, ◌≤◌, ◌^◌, ◌&&◌, ◌↔◌, max, Bool, true, false}
+use Rattle.std.proofs.Common.{IsTrue}
+use Rattle.std.proofs.Common.{List, [], ◌∷◌, get_or, refl, sym, ap, arith}
+use mathlib.Core.Option.{some, none, some-injective}
+use lib.ListN.{get_elem?}
+use Rattle.tj_base.specs.ForkOrder.{Name, before}
+use Rattle.tj_body.specs.History.{to_task}
+use Rattle.tj_body.specs.declared.point.Reference.{Reference}
+use Rattle.tj_core.specs.Events.{way_if}
+use Rattle.tj_tree.specs.Forks.{Forks, IsEarlier, IsHistory, name_of, order_of}
+use Rattle.tj_tree.specs.Laws.{OrderIsThatOfNames}
+use Rattle.tj_tree.specs.Nodes.{HasNodes, node_of}
+use Rattle.tj_words.specs.declared.view.SeenWord.{SeenWord}
+use Rattle.tj_words.specs.SeenWords.{IsTaskIn, SeesTree, ShowsNode}
+use Rattle.tj_words.specs.ShownState.{reference_of}
+use Rattle.tj_words.specs.WalkSteps.{is_task_sort, way_by}
+use Rattle.tj_detect.specs.TreeReads.{IsWithinCost}
+
+at_index : (l : List Reference) (c : ℕ) (d x : Reference) → get_elem? l c ≡ some x → get_or l c d ≡ x
+at_index [] c d x e = let z : none ≡ some x = e in cc
+at_index (y ∷ l) zero d x e = some-injective y x e
+at_index (y ∷ l) (suc c) d x e = at_index l c d x e
+
+-- two answers that are true alike are the same
+same_answer : (a b : Bool) → IsTrue a ↔ IsTrue b → a ≡ b
+same_answer true true h = refl
+same_answer false false h = refl
+same_answer true false h = sym (h.0 refl)
+same_answer false true h = h.1 refl
+
+-- what the tree that was seen says of t and u is the way of a wait
+pub seen_way : OrderIsThatOfNames → (seen : List SeenWord) (born : List Reference) → SeesTree seen born → (t u : ℕ)
+    → IsTaskIn born t → IsTaskIn born u → (answer : Bool)
+    → ((forks : Forks) → IsHistory forks → HasNodes forks (ShowsNode seen)
+    → IsTrue answer ↔ IsEarlier (order_of forks) t u)
+    → way_by born t u ≡ way_if answer
+seen_way names seen born tree t u a b answer tells =
+    let x = at_index born t (to_task []) a.0 a.1 in
+    let y = at_index born u (to_task []) b.0 b.1 in
+    let s = tree.tasks t a.0 a.1 a.2 in
+    let r = tree.tasks u b.0 b.1 b.2 in
+    let law = names tree.forks t u tree.history s.0 r.0 in
+    let told = tells tree.forks tree.history tree.nodes in
+    let named : before (name_of tree.forks t) (name_of tree.forks u) ≡ before (reference_of born t).name
+    (reference_of born u).name
+    = ap (λ (q : Name). before q (name_of tree.forks u)) (s.1 ∙ ap (λ (z : Reference). z.name) (sym x))
+    ∙ ap (λ (q : Name). before (reference_of born t).name q) (r.1 ∙ ap (λ (z : Reference). z.name) (sym y)) in
+    let same : before (name_of tree.forks t) (name_of tree.forks u) ≡ answer
+    = same_answer _ answer ((λ h. told.1 (law.0 h)), (λ h. law.1 (told.0 h))) in
+    let task : is_task_sort (reference_of born u).sort ≡ true
+    = ap (λ (z : Reference). is_task_sort z.sort) y ∙ ap is_task_sort b.2 in
+    ap (λ (q : Bool). way_if (q && before (reference_of born t).name (reference_of born u).name)) task
+    ∙ ap way_if (sym named ∙ same)
+
+-- the tasks of a tree that was seen aren't deep
+pub few_steps : (seen : List SeenWord) (born : List Reference) → SeesTree seen born → (cells t u old new : ℕ)
+    → IsTaskIn born t → IsTaskIn born u → t < cells → u < cells
+    → ((forks : Forks) → IsHistory forks → HasNodes forks (ShowsNode seen) → (digits : ℕ)
+    → max (node_of forks t).depth (node_of forks u).depth + 1 < 2 ^ digits → new ≤ old + (16 * digits + 16))
+    → IsWithinCost cells old new
+few_steps seen born tree cells t u old new a b l m cost digits h =
+    let x = tree.depths t (tree.tasks t a.0 a.1 a.2).0 in
+    let y = tree.depths u (tree.tasks u b.0 b.1 b.2).0 in
+    cost tree.forks tree.history tree.nodes digits (omega (arith, x, y, l, m, h))

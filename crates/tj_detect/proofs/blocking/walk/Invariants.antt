@@ -1,0 +1,8 @@
+use Rattle.tj_words.specs.SeatSteps.{IsSameSeat}
+use Rattle.tj_detect.proofs.WalkLoops.{IsUnderWay}
+use Rattle.tj_detect.proofs.blocking.walk.Given as goal
+
+abbrev pub invariant-loop-passed : goal.invariant-loop-passed
+invariant-loop-passed g l = IsSameSeat l.fn.seat l.seat
+    × IsUnderWay l.laid.cells l.fn.t.0 l.fn.q.0 l.fn.way l.bound l.passed l.present.0 l.fn.steps l.steps
+    l.fn.seat.me.0 l.seat.me.0

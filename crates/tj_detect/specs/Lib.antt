@@ -1,0 +1,3 @@
+pub mod TreeReads
+pub mod Blocks
+pub mod WalkHops

@@ -1,0 +1,282 @@
+//! A task blocks on a wait: the wait is published, and a walk over the other tasks' words tells then
+//! whether it closes a cycle.
+ghost use Rattle.std.specs.Prelude.{◌≡◌, ◌↔◌, ℕ, ◌+◌, ◌<◌};
+ghost use Rattle.tj_body.specs.Programs.{program_of};
+ghost use Rattle.tj_core.specs.declared.walk.Walker.{Walker};
+ghost use Rattle.tj_core.specs.CoreState.{present};
+ghost use Rattle.tj_core.specs.Events as core;
+ghost use Rattle.tj_core.specs.Events.{MayReadOwner};
+ghost use Rattle.tj_words.specs.Owners.{owner_number};
+ghost use Rattle.tj_words.specs.SeatSteps.{IsCellOf, IsSameSeat, IsSeatOf};
+ghost use Rattle.tj_words.specs.StepEvents.{wait_in};
+ghost use Rattle.tj_words.specs.WaitViews.{MayPublishWait, MayStoreAlarm, alarmed, published};
+ghost use Rattle.tj_words.specs.WalkViews.{IsWalking, MayLoadWait};
+ghost use Rattle.tj_detect.specs.Blocks.{Blocks, HasReadNoOthers, InEachTable, MayBlock};
+ghost use Rattle.tj_detect.specs.Blocks.{OthersWatch, StandsOnCycle};
+ghost use Rattle.tj_detect.specs.WalkHops.{Comes, Hops, IsAtCount, Passes, WalksWith};
+
+use std::sync::ledger::Ledger;
+use tj_base::{CellId, Steps};
+use tj_body::Body;
+use tj_core::settlers_are_not_alone;
+use tj_words::{Laid, Phase, WSeat, Walk, Way};
+
+/// What a call that blocks on a wait came to.
+#[derive(Clone, Copy, Debug, PartialEq, Eq)]
+pub enum Verdict {
+    /// The task is on a standing cycle, and has alarmed.
+    Alarm,
+    /// The walk has ended without an alarm.
+    Walked,
+    /// No other wait stood, so a wait along the order needs no walk.
+    Skipped,
+}
+
+/// What up to three reads of a walk came to.
+#[derive(Drop)]
+pub(crate) enum Hop {
+    /// The owner is passed, and this is the next present cell.
+    Next(CellId),
+    /// The walk is at its end.
+    Ended,
+    /// The owner is the walker's own task.
+    Own,
+}
+
+/// Publishes that t waits for q, and walks whether the wait closes a cycle. An other wait raises
+/// OTHERS first; a wait along the order is walked only where OTHERS isn't 0.
+pub fn block<B: Body, L: Ledger>(
+    laid: &Laid<B>,
+    seat: &mut WSeat<B>,
+    t: CellId,
+    q: CellId,
+    way: Way,
+    steps: &mut Steps<L>,
+) -> Verdict
+    requires table { IsSeatOf laid.now seat.old }
+    requires task { IsCellOf laid.now t.0 }
+    requires cell { IsCellOf laid.now q.0 }
+    requires may { MayBlock t.0 q.0 way seat.old.me.0 }
+    ensures seat { IsSameSeat seat.old seat.new }
+    // With n cells counted, at most 3n loads of the walk and 3n + 3 steps; two steps for a skip.
+    ensures view { Blocks result t.0 q.0 way steps.old steps.new seat.old.me.0 seat.new.me.0 }
+    ensures skipped { result ≡ Verdict.Skipped ↔ HasReadNoOthers t.0 q.0 seat.new.me.0 }
+    ensures alarm { result ≡ Verdict.Alarm
+        → InEachTable (program_of B.places B.awaits B.left B.asks B.then) seat.new.me.0
+        (StandsOnCycle t.0) }
+    ensures walked { result ≡ Verdict.Walked
+        → InEachTable (program_of B.places B.awaits B.left B.asks B.then) seat.new.me.0
+        (OthersWatch t.0) }
+{
+    settlers_are_not_alone();
+    match way {
+        Way::Along => block_along(laid, seat, t, q, steps),
+        Way::Other => block_other(laid, seat, t, q, steps),
+    }
+}
+
+// A wait along the order: it is walked where another wait may stand.
+fn block_along<B: Body, L: Ledger>(
+    laid: &Laid<B>,
+    seat: &mut WSeat<B>,
+    t: CellId,
+    q: CellId,
+    steps: &mut Steps<L>,
+) -> Verdict
+    requires table { IsSeatOf laid.now seat.old }
+    requires task { IsCellOf laid.now t.0 }
+    requires cell { IsCellOf laid.now q.0 }
+    requires may { MayBlock t.0 q.0 Way.Along seat.old.me.0 }
+    ensures seat { IsSameSeat seat.old seat.new }
+    ensures view { Blocks result t.0 q.0 Way.Along steps.old steps.new seat.old.me.0
+        seat.new.me.0 }
+{
+    publish(laid, seat, t, q, Way::Along, steps);
+    let others = laid.others(seat, t);
+    steps.tick();
+    if others == 0 {
+        return Verdict::Skipped;
+    }
+    walk(laid, seat, t, q, Way::Along, steps)
+}
+
+// An other wait: it counts among the others before it stands.
+fn block_other<B: Body, L: Ledger>(
+    laid: &Laid<B>,
+    seat: &mut WSeat<B>,
+    t: CellId,
+    q: CellId,
+    steps: &mut Steps<L>,
+) -> Verdict
+    requires table { IsSeatOf laid.now seat.old }
+    requires task { IsCellOf laid.now t.0 }
+    requires cell { IsCellOf laid.now q.0 }
+    requires may { MayBlock t.0 q.0 Way.Other seat.old.me.0 }
+    ensures seat { IsSameSeat seat.old seat.new }
+    ensures view { Blocks result t.0 q.0 Way.Other steps.old steps.new seat.old.me.0
+        seat.new.me.0 }
+{
+    laid.others_up(seat, t);
+    steps.tick();
+    publish(laid, seat, t, q, Way::Other, steps);
+    walk(laid, seat, t, q, Way::Other, steps)
+}
+
+fn publish<B: Body, L: Ledger>(
+    laid: &Laid<B>,
+    seat: &mut WSeat<B>,
+    t: CellId,
+    q: CellId,
+    way: Way,
+    steps: &mut Steps<L>,
+)
+    requires table { IsSeatOf laid.now seat.old }
+    requires task { IsCellOf laid.now t.0 }
+    requires cell { IsCellOf laid.now q.0 }
+    requires may { MayPublishWait t.0 q.0 way seat.old.me.0 }
+    ensures seat { IsSameSeat seat.old seat.new }
+    ensures view { seat.new.me.0 ≡ published t.0 q.0 way seat.old.me.0 }
+    ensures step { steps.new ≡ steps.old + 1 }
+{
+    laid.put_phase(seat, t, Phase::Waiting(q, way, Walk::Walking));
+    steps.tick();
+}
+
+fn alarm<B: Body, L: Ledger>(
+    laid: &Laid<B>,
+    seat: &mut WSeat<B>,
+    t: CellId,
+    q: CellId,
+    way: Way,
+    steps: &mut Steps<L>,
+)
+    requires table { IsSeatOf laid.now seat.old }
+    requires task { IsCellOf laid.now t.0 }
+    requires cell { IsCellOf laid.now q.0 }
+    requires may { MayStoreAlarm t.0 q.0 way seat.old.me.0 }
+    ensures seat { IsSameSeat seat.old seat.new }
+    ensures view { seat.new.me.0 ≡ alarmed t.0 q.0 way seat.old.me.0 }
+    ensures step { steps.new ≡ steps.old + 1 }
+{
+    laid.put_phase(seat, t, Phase::Waiting(q, way, Walk::Alarmed));
+    steps.tick();
+}
+
+// The walk from q on: as many owners are passed at most as there are cells.
+fn walk<B: Body, L: Ledger>(
+    laid: &Laid<B>,
+    seat: &mut WSeat<B>,
+    t: CellId,
+    q: CellId,
+    way: Way,
+    steps: &mut Steps<L>,
+) -> Verdict
+    requires table { IsSeatOf laid.now seat.old }
+    requires task { IsCellOf laid.now t.0 }
+    requires cell { IsCellOf laid.now q.0 }
+    requires walks { IsAtCount t.0 q.0 way seat.old.me.0 }
+    ensures seat { IsSameSeat seat.old seat.new }
+    ensures comes { Comes result t.0 q.0 way steps.old steps.new seat.old.me.0 seat.new.me.0 }
+{
+    let bound = laid.count(seat, Some(t));
+    steps.tick();
+    let mut present = q;
+    for passed in 0..bound {
+        match look_at_owner(laid, seat, t, present, steps) {
+            Hop::Next(next) => {
+                present = next;
+            }
+            Hop::Ended => {
+                return Verdict::Walked;
+            }
+            Hop::Own => {
+                alarm(laid, seat, t, q, way, steps);
+                return Verdict::Alarm;
+            }
+        }
+    }
+    Verdict::Walked
+}
+
+// The owner of the present cell p, what this owner waits for, and the owner again.
+fn look_at_owner<B: Body, L: Ledger>(
+    laid: &Laid<B>,
+    seat: &mut WSeat<B>,
+    t: CellId,
+    p: CellId,
+    steps: &mut Steps<L>,
+) -> Hop
+    requires table { IsSeatOf laid.now seat.old }
+    requires cell { IsCellOf laid.now p.0 }
+    requires walks { IsWalking t.0 (λ q way w. (p.0 ≡ present q w.trail) × MayReadOwner w)
+        seat.old.me.0 }
+    ensures seat { IsSameSeat seat.old seat.new }
+    ensures hops { (q : ℕ) (way : Way) (w : Walker) → WalksWith t.0 q way w seat.old.me.0
+        → Hops laid.now.cells result t.0 q way w steps.old steps.new seat.old.me.0
+        seat.new.me.0 }
+{
+    let first = laid.see_owner(seat, p, Some(t));
+    steps.tick();
+    match first {
+        None => Hop::Ended,
+        Some(u) => {
+            if u.0 == t.0 {
+                return Hop::Own;
+            }
+            look_at_wait(laid, seat, t, p, u, steps)
+        }
+    }
+}
+
+// What the owner u of p waits for, and whether it still is the owner.
+fn look_at_wait<B: Body, L: Ledger>(
+    laid: &Laid<B>,
+    seat: &mut WSeat<B>,
+    t: CellId,
+    p: CellId,
+    u: CellId,
+    steps: &mut Steps<L>,
+) -> Hop
+    requires table { IsSeatOf laid.now seat.old }
+    requires cell { IsCellOf laid.now p.0 }
+    requires owner { IsCellOf laid.now u.0 }
+    requires walks { IsWalking t.0 (λ q way w. (p.0 ≡ present q w.trail)
+        × MayLoadWait t.0 u.0 w) seat.old.me.0 }
+    ensures seat { IsSameSeat seat.old seat.new }
+    ensures passes { (q : ℕ) (way : Way) (w : Walker) → WalksWith t.0 q way w seat.old.me.0
+        → Passes laid.now.cells result u.0 t.0 q way w steps.old steps.new seat.old.me.0
+        seat.new.me.0 }
+{
+    let found = laid.see_phase(seat, u, Some(t));
+    steps.tick();
+    match wait_of(found) {
+        None => Hop::Ended,
+        Some(next) => {
+            let again = laid.see_owner(seat, p, Some(t));
+            steps.tick();
+            if is_owner(again, u) {
+                return Hop::Next(next);
+            }
+            Hop::Ended
+        }
+    }
+}
+
+// The cell that a task in this phase waits for.
+fn wait_of(phase: Phase) -> Option<CellId>
+    ensures { wait_in phase ≡ owner_number result }
+{
+    match phase {
+        Phase::Waiting(cell, _, _) => Some(cell),
+        _ => None,
+    }
+}
+
+fn is_owner(owner: Option<CellId>, u: CellId) -> bool
+    ensures { result ≡ core.is_owner (owner_number owner) u.0 }
+{
+    match owner {
+        Some(o) => o.0 == u.0,
+        None => false,
+    }
+}

@@ -1,0 +1,43 @@
+//! The way of a wait.
+ghost use Rattle.std.specs.Prelude.{◌≡◌, ◌+◌, ◌*◌};
+ghost use Rattle.tj_words.specs.SeatSteps.{IsSeatOf, IsCellOf, IsSameSeat};
+ghost use Rattle.tj_words.specs.WalkSteps.{way_by};
+ghost use Rattle.tj_words.specs.TreeReads.{KnowsTask, HasReadTree};
+ghost use Rattle.tj_detect.specs.TreeReads.{IsWithinCost};
+
+use crate::tree_walk::is_before;
+use std::sync::ledger::Ledger;
+use tj_base::{CellId, Steps};
+use tj_body::Body;
+use tj_tree::{NodeId, order_is_that_of_names};
+use tj_words::{Laid, WSeat, Way};
+
+/// The way of a wait of task `t` for the task `u`: along where `t` is before `u` in the fork order.
+/// Each step loads four words that are written once.
+pub fn way_of<B: Body, L: Ledger>(
+    laid: &Laid<B>,
+    seat: &mut WSeat<B>,
+    t: CellId,
+    u: CellId,
+    steps: &mut Steps<L>,
+) -> Way
+    requires table { IsSeatOf laid.now seat.old }
+    requires t_cell { IsCellOf laid.now t.0 }
+    requires u_cell { IsCellOf laid.now u.0 }
+    requires t_known { KnowsTask t.0 seat.old.me.0 }
+    requires u_known { KnowsTask u.0 seat.old.me.0 }
+    ensures seat { IsSameSeat seat.old seat.new }
+    ensures view { HasReadTree seat.old.me.0 seat.new.me.0 }
+    ensures way { result ≡ way_by seat.new.me.0.born t.0 u.0 }
+    ensures loads { seat.new.me.0.once_loads + 4 * steps.old
+        ≡ seat.old.me.0.once_loads + 4 * steps.new }
+    // With b binary digits of the number of cells, at most 16b + 16 steps.
+    ensures cost { IsWithinCost laid.now.cells steps.old steps.new }
+{
+    order_is_that_of_names();
+    if is_before(laid, seat, NodeId(t.0), NodeId(u.0), steps) {
+        Way::Along
+    } else {
+        Way::Other
+    }
+}
