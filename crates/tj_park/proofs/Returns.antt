@@ -1,0 +1,129 @@
+-- A task that its seat had parked is taken back.
+use Rattle.std.proofs.Common.{◌≡◌, ◌≢◌, ℕ, suc, ◌+◌, ◌-◌, ◌<◌, ◌≤◌, Bool, ◌∷◌, Option}
+use Rattle.std.proofs.Common.{Some, None, Result, Ok, Err}
+use Rattle.std.proofs.Common.{refl, sym, ap, ◌∙◌, subst, arith, true, is_some, IfErr, OnOk}
+use Rattle.atomic_table.specs.Table.{rest}
+use Rattle.tj_body.specs.Programs.{Program}
+use Rattle.tj_body.proofs.Lists.{in_right}
+use Rattle.tj_core.specs.declared.walk.Way.{Way}
+use Rattle.tj_core.specs.declared.walk.Way.TheVariants.{Along, Other}
+use Rattle.tj_core.specs.Events.{raised_by_way}
+use Rattle.tj_words.specs.declared.phase.Phase.{Phase}
+use Rattle.tj_words.specs.declared.phase.Phase.TheVariants as phase
+use Rattle.tj_words.specs.declared.record.Rec.{Rec}
+use Rattle.tj_words.specs.declared.view.View.{View}
+use Rattle.tj_words.specs.Chains.{parked_phase}
+use Rattle.tj_words.specs.ExchangeViews.{Swaps, GoesBack, went_back}
+use Rattle.tj_words.specs.LiveViews.{HasSlot}
+use Rattle.tj_words.specs.NamedCells.{record_cells}
+use Rattle.tj_words.specs.SeatSteps.{SeatMe}
+use Rattle.tj_words.specs.TakenRecords.{took_record}
+use Rattle.tj_words.specs.Views.{stepped_on}
+use Rattle.tj_words.specs.WalkViews.{lowered}
+use Rattle.tj_words.proofs.HeldTasks.{one_some}
+use Rattle.tj_park.specs.JoinViews.{TakesBack}
+use Rattle.tj_park.proofs.TakenTasks.{has_taken, slot_in_front, taken_out}
+
+-- what can't fail has succeeded
+pub never_fails : {A E : Type 0} (o : Result A E) (P : Type 0) (Q : E → Type 0) → ((e : E) → ¬ Q e) → OnOk o P
+    → IfErr o Q → P
+never_fails (Ok a) P Q n p q = p
+never_fails (Err e) P Q n p q = absurd (n e q)
+
+-- a phase that is parked isn't Ready
+pub not_ready : (q : ℕ) (way : Way) → parked_phase q way ≢ phase.Ready
+not_ready q way e = cc
+
+module _ {B : Type 0} (program : Bool → B → Program B) (t q : ℕ) (way : Way) (m m' : SeatMe B) where
+  -- the exchange from Parked to Running has succeeded
+  pub goes_back : {A : Type 0} (o : Result A Phase) → OnOk o (Swaps program t (parked_phase q way) phase.Running m m')
+      → IfErr o (λ p. (parked_phase q way ≡ phase.Ready) × (p ≢ parked_phase q way) × (m' ≡ (stepped_on m.0, m.1)))
+      → GoesBack program t q way m m'
+  goes_back o s e = (never_fails o _ _ (λ p h. not_ready q way h.0) s e).goes_back q way refl refl
+
+  module _ (b : GoesBack program t q way m m') where
+    -- the slot of the task was taken
+    pub back_slot : HasSlot t m'
+    back_slot = slot_in_front t (Some b.0) _ m.1 m' b.3
+
+    abbrev pub went : View B
+    went = went_back t way (took_record b.0 b.1.born b.1.more m.0)
+
+    -- the record is taken out of it
+    pub back_out : (m'' : SeatMe B) (o : Option (Rec B)) → m'.1 ≡ (t, o) ∷ rest m'.1
+        → m'' ≡ (m'.0, (t, None) ∷ rest m'.1) → (o ≡ Some b.0) × (m'' ≡ (went, (t, None) ∷ m.1))
+    back_out m'' o found now = taken_out t b.0 went m.1 m' m'' o b.3 found now
+
+    took : (n s : ℕ) → n ≡ m.0.cleared → s ≤ m.0.steps + 2
+        → TakesBack program t q b.0 m.0 (record went { cleared = n; steps = s })
+    took n s same few = record {
+      knows = record {
+        about = refl;
+        lot = refl;
+        born = b.1.begins;
+        known = λ x i. in_right x (record_cells b.0) m.0.known i;
+        wrote = λ x i. i;
+        filled = λ x i. in_right x b.1.more m.0.filled i;
+        seen = λ x i. i;
+        closed = λ x i. i;
+        rested = λ e. e;
+      };
+      hand = record { hand = refl; dues = refl };
+      tokens = refl;
+      cleared = same;
+      refused = refl;
+      tasks = refl;
+      pushes = refl;
+      shuts = refl;
+      rest = refl;
+      plain_loads = refl;
+      once_loads = refl;
+      steps = few;
+      taken = has_taken program t m.0 b.0 b.1 (record went { cleared = n; steps = s }) m.0 refl refl refl refl refl;
+      waited = b.2;
+    }
+
+    -- a wait along the order is cleared with that
+    pub back_along : way ≡ Along → (w : View B) → w ≡ went → TakesBack program t q b.0 m.0 w
+    back_along e w is = subst (TakesBack program t q b.0 m.0) (sym is)
+        (took went.cleared went.steps
+        (let z : raised_by_way way ≡ 0 = ap raised_by_way e in omega arith) (omega arith))
+
+    -- for an other wait OTHERS is to be lowered, and that is allowed
+    pub some_cleared : way ≡ Other → (w : View B) → w ≡ went → 0 < w.cleared
+    some_cleared e w is = let z : raised_by_way way ≡ 1 = ap raised_by_way e in
+        let c : w.cleared ≡ m.0.cleared + raised_by_way way = ap (λ (x : View B). x.cleared) is in omega arith
+
+    pub back_other : way ≡ Other → (w u : View B) → w ≡ went → u ≡ lowered w → TakesBack program t q b.0 m.0 u
+    back_other e w u is low = subst (TakesBack program t q b.0 m.0) (sym (low ∙ ap lowered is))
+        (took (went.cleared - 1) (suc went.steps)
+        (let z : raised_by_way way ≡ 1 = ap raised_by_way e in omega arith) (omega arith))
+
+    -- the record is taken out of its slot
+    module _ (m'' : SeatMe B) (o : Option (Rec B)) (found : m'.1 ≡ (t, o) ∷ rest m'.1)
+        (now : m'' ≡ (m'.0, (t, None) ∷ rest m'.1)) where
+      out : (o ≡ Some b.0) × (m'' ≡ (went, (t, None) ∷ m.1))
+      out = back_out m'' o found now
+
+      its_view : m''.0 ≡ went
+      its_view = ap (λ (z : SeatMe B). z.0) out.1
+
+      pub back_some : is_some o ≡ true
+      back_some = ap is_some out.0
+
+      pub back_slots : m''.1 ≡ (t, None) ∷ m.1
+      back_slots = ap (λ (z : SeatMe B). z.1) out.1
+
+      pub back_cleared : way ≡ Other → 0 < m''.0.cleared
+      back_cleared e = some_cleared e m''.0 its_view
+
+      module _ (r : Rec B) (is : o ≡ Some r) where
+        same_record : b.0 ≡ r
+        same_record = one_some b.0 r (sym out.0 ∙ is)
+
+        pub takes_along : way ≡ Along → TakesBack program t q r m.0 m''.0
+        takes_along e = subst (λ x. TakesBack program t q x m.0 m''.0) same_record (back_along e m''.0 its_view)
+
+        pub takes_other : way ≡ Other → (u : View B) → u ≡ lowered m''.0 → TakesBack program t q r m.0 u
+        takes_other e u low = subst (λ x. TakesBack program t q x m.0 u) same_record
+            (back_other e m''.0 u its_view low)

@@ -1,0 +1,201 @@
+-- The loop that wakes a chain: so many of its tasks are woken, and the others are the seat's rest.
+use Rattle.std.proofs.Common.{◌≡◌, ◌≢◌, ◌⊎◌, ℕ, suc, ◌+◌, ◌<◌, ◌≤◌, List, [], ◌∷◌, ◌++◌, length, Option, Some, None}
+use Rattle.std.proofs.Common.{Result, Ok, Err, OnErr, refl, sym, ap, ◌∙◌, subst, inl, inr, ⊎_elim, arith}
+use Rattle.std.proofs.Common.{length-append}
+use Rattle.tj_base.specs.declared.cell.CellId.{CellId}
+use Rattle.tj_words.specs.declared.head.Head.{Head}
+use Rattle.tj_words.specs.declared.head.Head.TheVariants.{Empty, Task, Shut}
+use Rattle.tj_words.specs.declared.view.Rest.{Rest}
+use Rattle.tj_words.specs.declared.view.View.{View}
+use Rattle.tj_words.specs.Lists.{cell, without}
+use Rattle.tj_words.specs.Chains.{head_of}
+use Rattle.tj_words.specs.ChainSteps.{TakesChain, found_taken, rest_of}
+use Rattle.tj_words.specs.Heads.{head_word}
+use Rattle.tj_words.specs.LiveViews.{SlotsOf}
+use Rattle.tj_words.proofs.ChainsSaid.{shut_or}
+use Rattle.tj_park.specs.Wakes.{HavePut, HasWoken, MayWakeTasks, WakesAll, WakesFirst, WakesSome}
+
+-- the head begins the list of those who are left, and names a cell; or it was shut, and nobody is
+abbrev pub Begins : ℕ → Head → List ℕ → Type 0
+Begins cells first left = ((first ≡ head_of left) × (head_word first ≤ cells)) ⊎ ((first ≡ Shut) × (left ≡ []))
+
+-- how many a rest has
+abbrev pub rest_length : Option Rest → ℕ
+rest_length None = 0
+rest_length (Some r) = length r.tasks
+
+module _ {B P : Type 0} (puts : P → CellId → P → Type 0) (cells p : ℕ) where
+  -- so many were woken and put into the pool, one after the other
+  pub record Waking (first : Head) (woken : ℕ) (v w : View B) (a b : P) : Type 0 where
+    pub front : List ℕ
+    pub left : List ℕ
+    pub begins : Begins cells first left
+    pub few : length front + length left ≤ cells
+    pub counted : length front ≡ woken
+    pub woke : HasWoken p woken left v w
+    pub put : HavePut puts front a b
+
+-- the number of the task that a head names
+abbrev task_number : Head → ℕ
+task_number Empty = 0
+task_number (Task t) = t.0
+task_number Shut = 0
+
+first_of : (t : CellId) (left : List ℕ) → Task t ≡ head_of left → (ts : List ℕ) × (left ≡ t.0 ∷ ts)
+first_of t [] e = absurd (cc)
+first_of t (u ∷ us) e = (us, ap (λ k. k ∷ us) (sym (ap task_number e)))
+
+-- where the head names a task, that is the first of those left, and a cell
+pub first_task : (cells : ℕ) (first : Head) (t : CellId) (left : List ℕ) → Begins cells first left → first ≡ Task t
+    → (ts : List ℕ) × (left ≡ t.0 ∷ ts) × (t.0 < cells)
+first_task cells first t left b e = ⊎_elim
+    (λ (h : (first ≡ head_of left) × (head_word first ≤ cells)). let l = first_of t left (sym e ∙ h.0) in
+    (l.0, l.1, subst (λ q. head_word q ≤ cells) e h.1))
+    (λ (h : (first ≡ Shut) × (left ≡ [])). let q = sym h.0 ∙ e in absurd (cc)) b
+
+-- where it names none, nobody is left
+pub none_left : (cells : ℕ) (first : Head) (left : List ℕ) → Begins cells first left
+    → ((t : CellId) → first ≢ Task t) → left ≡ []
+none_left cells first [] b n = refl
+none_left cells first (u ∷ us) b n = ⊎_elim
+    (λ (h : (first ≡ head_of (u ∷ us)) × (head_word first ≤ cells)). absurd (n (cell u) h.0))
+    (λ (h : (first ≡ Shut) × (u ∷ us ≡ [])). h.1) b
+
+rest_long : (p : ℕ) (ts : List ℕ) → rest_length (rest_of p ts) ≡ length ts
+rest_long p [] = refl
+rest_long p (t ∷ ts) = refl
+
+-- what holds where a call has failed
+pub on_err : {A E P : Type 0} (r : Result A E) → P → OnErr r P
+on_err (Ok x) h = tt
+on_err (Err e) h = h
+
+module _ {B : Type 0} where
+  -- the view after so many steps and plain loads, of which these are left
+  abbrev woken_with : ℕ → List ℕ → ℕ → ℕ → View B → View B
+  woken_with p left n l v = record v {
+    steps = n;
+    plain_loads = l;
+    shuts = without p v.shuts;
+    rest = rest_of p left;
+    closed = p ∷ v.closed;
+  }
+
+  woken_view : (p woken : ℕ) (left : List ℕ) (v w : View B) (n l : ℕ) → w ≡ woken_with p left n l v
+      → l ≡ v.plain_loads + woken → HasWoken p woken left v w
+  woken_view p woken left v w n l e q = record {
+    view = e ∙ (ap (λ k. woken_with p left k l v) (sym (ap (λ (u : View B). u.steps) e))
+        ∙ ap (λ k. woken_with p left w.steps k v) q);
+  }
+
+  -- the seat may go on
+  pub may_go_on : (p woken : ℕ) (left : List ℕ) (v w : View B) (slots : SlotsOf B) → MayWakeTasks (v, slots)
+      → HasWoken p woken left v w → MayWakeTasks (w, slots)
+  may_go_on p woken left v w slots m h = subst (λ (x : View B). MayWakeTasks (x, slots)) (sym h.view) (record {
+    backed = m.backed;
+    alarms = m.alarms;
+    token_room = m.token_room;
+    cleared_room = m.cleared_room;
+    no_record = m.no_record;
+  })
+
+  pub rest_now : (p woken t : ℕ) (left ts : List ℕ) (v w : View B) → HasWoken p woken left v w → left ≡ t ∷ ts
+      → w.rest ≡ rest_of p (t ∷ ts)
+  rest_now p woken t left ts v w h e = ap (λ (u : View B). u.rest) h.view ∙ ap (rest_of p) e
+
+module _ {P : Type 0} (puts : P → CellId → P → Type 0) where
+  put_more : (front : List ℕ) (a b c : P) (t : CellId) → HavePut puts front a b → puts b t c
+      → HavePut puts (front ++ t.0 ∷ []) a c
+  put_more [] a b c t h q = (c, subst (λ x. puts x t c) h q, refl)
+  put_more (u ∷ us) a b c t h q = (h.0, h.1, put_more us h.0 b c t h.2 q)
+
+module _ {B P : Type 0} (puts : P → CellId → P → Type 0) (cells p : ℕ) where
+  -- the head was shut: nobody is woken yet
+  pub waking_at_first : (h : Head) (v w : View B) (a : P) → v.rest ≡ None → (h ≡ Shut → w ≡ found_taken p v)
+      → (h ≢ Shut → TakesChain cells p h v w) → Waking puts cells p h 0 v w a a
+  waking_at_first h v w a no_rest again takes = ⊎_elim
+      (λ (s : h ≡ Shut). record {
+        front = [];
+        left = [];
+        begins = inr (s, refl);
+        few = (omega arith);
+        counted = refl;
+        woke = woken_view p 0 [] v w (suc v.steps) v.plain_loads
+            (again s ∙ ap (λ o. record v {
+              steps = suc v.steps;
+              shuts = without p v.shuts;
+              rest = o;
+              closed = p ∷ v.closed;
+            }) no_rest) (omega arith);
+        put = refl;
+      })
+      (λ (n : h ≢ Shut). let c = takes n in record {
+        front = [];
+        left = c.chain;
+        begins = inl (c.is, c.small);
+        few = (let k = c.short in omega arith);
+        counted = refl;
+        woke = woken_view p 0 c.chain v w (suc v.steps) v.plain_loads c.view (omega arith);
+        put = refl;
+      }) (shut_or h)
+
+  module _ (first next : Head) (t : CellId) (woken : ℕ) (v w w' : View B) (a b : P)
+      (k : Waking puts cells p first woken v w a b) (names : first ≡ Task t) (wakes : WakesFirst p t.0 next w w') where
+    abbrev the_first : (ts : List ℕ) × (k.left ≡ t.0 ∷ ts) × (t.0 < cells)
+    the_first = first_task cells first t k.left k.begins names
+
+    rests : w.rest ≡ rest_of p (t.0 ∷ the_first.0)
+    rests = rest_now p woken t.0 k.left the_first.0 v w k.woke the_first.1
+
+    woke_more : HasWoken p (woken + 1) the_first.0 v w'
+    woke_more = woken_view p (woken + 1) the_first.0 v w' w'.steps (suc (v.plain_loads + woken))
+        ((wakes the_first.0 rests).1 ∙ ap (λ (u : View B). record u {
+          steps = w'.steps;
+          plain_loads = suc u.plain_loads;
+          rest = rest_of p the_first.0;
+        }) k.woke.view) (omega arith)
+
+    lengths : length k.left ≡ suc (length the_first.0)
+    lengths = ap length the_first.1
+
+    pub few_woken : woken + 1 ≤ cells
+    few_woken = let a = k.few in let b = k.counted in let c = lengths in omega arith
+
+    pub fewer_left : rest_length w'.rest < rest_length w.rest
+    fewer_left =
+        let a : rest_length w'.rest ≡ length the_first.0
+        = ap (λ (u : View B). rest_length u.rest) woke_more.view ∙ rest_long p the_first.0 in
+        let b : rest_length w.rest ≡ suc (length the_first.0) = ap rest_length rests in omega arith
+
+    -- one more is woken, and put into the pool
+    pub waking_next : head_word next ≤ cells → (c : P) → puts b t c → Waking puts cells p next (woken + 1) v w' a c
+    waking_next small c q = record {
+      front = k.front ++ t.0 ∷ [];
+      left = the_first.0;
+      begins = inl ((wakes the_first.0 rests).0, small);
+      few = (let f = k.few in let n = length-append k.front (t.0 ∷ []) in let m = lengths in omega arith);
+      counted = (let f = k.counted in let n = length-append k.front (t.0 ∷ []) in omega arith);
+      woke = woke_more;
+      put = put_more puts k.front a b c t k.put q;
+    }
+
+    -- one more is woken, and the pool has nothing of it
+    pub woke_some : (same : P → P → Type 0) (c : P) → same b c → WakesSome puts same p v w' a c
+    woke_some same c q = record {
+      woken = k.front;
+      left = the_first.0;
+      between = b;
+      woke = subst (λ n. HasWoken p n the_first.0 v w') (let f = k.counted in omega arith) woke_more;
+      put = k.put;
+      refused = q;
+    }
+
+  -- all are woken
+  pub woke_all : (first : Head) (woken : ℕ) (v w : View B) (a b : P) → Waking puts cells p first woken v w a b
+      → ((t : CellId) → first ≢ Task t) → WakesAll puts p woken v w a b
+  woke_all first woken v w a b k n = record {
+    chain = k.front;
+    all = k.counted;
+    woke = subst (λ l. HasWoken p woken l v w) (none_left cells first k.left k.begins n) k.woke;
+    put = k.put;
+  }

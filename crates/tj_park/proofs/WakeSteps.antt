@@ -1,0 +1,222 @@
+-- The steps by which a seat makes the first of its rest ready.
+use Rattle.std.proofs.Common.{◌≡◌, ◌≢◌, ◌⊎◌, ℕ, zero, suc, ◌+◌, ◌-◌, ◌<◌, ◌≤◌, List, [], ◌∷◌, Bool, cond, Option, Some, None}
+use Rattle.std.proofs.Common.{Result, Ok, Err, OnOk, IfErr, refl, sym, ap, ◌∙◌, subst, inl, inr, ⊎_elim, arith, eq-eqb}
+use Rattle.std.specs.Bool.{⊤}
+use Rattle.tj_body.specs.Programs.{Program}
+use Rattle.tj_core.specs.declared.walk.Way.{Way}
+use Rattle.tj_core.specs.declared.walk.Way.TheVariants as ways
+use Rattle.tj_core.specs.Events.{raised_by_way}
+use Rattle.tj_words.specs.declared.head.Head.{Head}
+use Rattle.tj_words.specs.declared.phase.Phase.{Phase}
+use Rattle.tj_words.specs.declared.phase.Phase.TheVariants as phase
+use Rattle.tj_words.specs.declared.record.Rec.{Rec}
+use Rattle.tj_words.specs.declared.view.Custody.{Custody}
+use Rattle.tj_words.specs.declared.view.Rest.{Rest}
+use Rattle.tj_words.specs.declared.view.View.{View}
+use Rattle.tj_words.specs.Chains.{head_of, parked_phase}
+use Rattle.tj_words.specs.ChainSteps.{rest_of}
+use Rattle.tj_words.specs.ExchangeViews.{MaySwap, MayWake, Swaps, Wakes, woke_first}
+use Rattle.tj_words.specs.LiveCount.{Backing, DoesRun, HasAlarmed, Holds}
+use Rattle.tj_words.specs.LiveViews.{IfRecord, LaysChild, MayRaiseLive, SlotsOf, live_raised, raised_with}
+use Rattle.tj_words.specs.ParkSteps.{FirstTold, first_way, loaded_phase, parked_way, rest_loaded, with_tokens}
+use Rattle.tj_words.specs.SeatSteps.{SeatMe}
+use Rattle.tj_words.specs.SeenWords.{NextTold}
+use Rattle.tj_words.specs.Views.{stepped_on}
+use Rattle.tj_words.proofs.LiveSteps.{backing_token, backing_running}
+use Rattle.tj_park.specs.Records.{HasNoRecord}
+use Rattle.tj_park.specs.Wakes.{MayWakeTasks, counted_in, lowered_for}
+
+first_is : (t : ℕ) (q : Phase) (ts : List ℕ) (o : Option Way) → first_way t q (t ∷ ts) o ≡ parked_way q o
+first_is t q ts o = ap (λ (b : Bool). cond b (parked_way q o) o) (eq-eqb t t refl)
+
+-- LIVE up, where nothing lies in the slot that was taken last
+pub raised_plain : {B : Type 0} (v : View B) (slots : SlotsOf B) → HasNoRecord slots
+    → raised_with v slots ≡ (with_tokens (suc v.tokens) v, slots)
+raised_plain v [] h = refl
+raised_plain v ((t, None) ∷ slots) h = refl
+raised_plain v ((t, Some r) ∷ slots) h = absurd h
+
+-- a parked task isn't a ready one
+pub parked_unready : {P : Type 0} (p : ℕ) (way : Way) → parked_phase p way ≡ phase.Ready → P
+parked_unready p way e = absurd (cc)
+
+module _ {B : Type 0} where
+  -- the way of the first of the rest of p was read
+  abbrev pub read_first : ℕ → ℕ → List ℕ → Way → View B → View B
+  read_first p t left way v = record v {
+    steps = suc (suc v.steps);
+    plain_loads = suc v.plain_loads;
+    rest = Some (record { cell = p; tasks = t ∷ left; way = Some way });
+  }
+
+  -- then a token was taken
+  abbrev pub token_more : View B → View B
+  token_more v = with_tokens (suc v.tokens) v
+
+  module _ (p t : ℕ) (left : List ℕ) (v v' w : View B) (was : Phase) (rests : v.rest ≡ rest_of p (t ∷ left))
+      (went : v' ≡ stepped_on v) where
+    abbrev the_rest : Rest
+    the_rest = record { cell = p; tasks = t ∷ left; way = None }
+
+    rest_then : v'.rest ≡ Some the_rest
+    rest_then = ap (λ (u : View B). u.rest) went ∙ rests
+
+    -- NEXT of the first names the one behind it
+    pub next_behind : (next : Head) → NextTold t next v → next ≡ head_of left
+    next_behind next told = told the_rest left rests refl
+
+    -- the first is parked on p
+    pub first_parked : FirstTold t was v' → (way : Way) × (was ≡ parked_phase p way)
+    first_parked told = told the_rest left rest_then refl
+
+    -- the view then
+    pub reads_first : (way : Way) → was ≡ parked_phase p way → w ≡ loaded_phase t was v'
+        → w ≡ read_first p t left way v
+    reads_first way is loaded = loaded
+        ∙ (ap (loaded_phase t was) went
+        ∙ (ap (λ o. record v { steps = suc (suc v.steps); plain_loads = suc v.plain_loads; rest = rest_loaded t was o })
+        rests
+        ∙ ap (λ o. record v {
+          steps = suc (suc v.steps);
+          plain_loads = suc v.plain_loads;
+          rest = Some (record { cell = p; tasks = t ∷ left; way = o });
+        }) (first_is t was left None ∙ ap (λ q. parked_way q None) is)))
+
+  module _ (p t : ℕ) (left : List ℕ) (way : Way) (v : View B) (slots : SlotsOf B) (may : MayWakeTasks (v, slots)) where
+    abbrev taken : View B
+    taken = token_more (read_first p t left way v)
+
+    -- what is left to come is backed after the exchange
+    backing_then : Backing (woke_first way taken)
+    backing_then = ⊎_elim
+        (λ (h : 0 < v.tokens). backing_token (woke_first way taken) (omega arith))
+        (λ (h : Holds DoesRun v). backing_running (woke_first way taken) h
+        (λ a. let more = may.alarms a in omega arith)) may.backed
+
+    room_then : v.cleared + raised_by_way way ≤ v.lot
+    room_then = room_by way
+      where
+        room_by : (o : Way) → v.cleared + raised_by_way o ≤ v.lot
+        room_by ways.Along = let h = may.cleared_room in omega arith
+        room_by ways.Other = let h = may.cleared_room in omega arith
+
+    pub may_wake : MaySwap t (parked_phase p way) phase.Ready taken
+    may_wake = inr (
+      p,
+      way,
+      refl,
+      inl (
+        refl,
+        record {
+          rest = record { cell = p; tasks = t ∷ left; way = Some way };
+          left = left;
+          has = refl;
+          cell = refl;
+          first = refl;
+          read = refl;
+          clears = record { token = (omega arith); room = room_then };
+          backing = backing_then;
+        },
+      ),
+    )
+
+    if_none : (F : ℕ → Rec B → Type 0) (l : SlotsOf B) → HasNoRecord l → IfRecord F l
+    if_none F [] h = tt
+    if_none F ((u, None) ∷ l) h = tt
+    if_none F ((u, Some r) ∷ l) h = absurd h
+
+    pub may_raise : (program : Bool → B → Program B) → MayRaiseLive program (read_first p t left way v, slots)
+    may_raise program =
+        record { backed = may.backed; room = may.token_room; lays = if_none (λ u r. LaysChild program u r (read_first p t left way v, slots)) slots may.no_record }
+
+    -- the view after the exchange and the subtraction from OTHERS
+    woken_then : (n cleared tokens : ℕ) → cleared ≡ v.cleared → tokens ≡ v.tokens
+        → record v {
+          steps = n;
+          plain_loads = suc v.plain_loads;
+          rest = rest_of p left;
+          cleared = cleared;
+          tokens = tokens;
+        } ≡ record v { steps = n; plain_loads = suc v.plain_loads; rest = rest_of p left }
+    woken_then n cleared tokens a b = ap (λ k. record v {
+      steps = n;
+      plain_loads = suc v.plain_loads;
+      rest = rest_of p left;
+      cleared = k;
+      tokens = tokens;
+    }) a ∙ ap (λ k. record v {
+      steps = n;
+      plain_loads = suc v.plain_loads;
+      rest = rest_of p left;
+      tokens = k;
+    }) b
+
+    pub lowers : (n : ℕ) → lowered_for (parked_phase p way) n (woke_first way taken)
+        ≡ record v { steps = n; plain_loads = suc v.plain_loads; rest = rest_of p left }
+    lowers n = woken_then n (v.cleared + raised_by_way way - raised_by_way way) (suc v.tokens - 1) (omega arith)
+        (omega arith)
+
+    pub counted_then : counted_in (parked_phase p way) ≤ v.cleared + raised_by_way way
+    counted_then = omega arith
+
+  -- what a seat and its slots are
+  pub pair_is : (m : SeatMe B) (v : View B) (slots : SlotsOf B) → m.0 ≡ v → m.1 ≡ slots → m ≡ (v, slots)
+  pair_is m v slots a b = ap (λ x. (x, m.1)) a ∙ ap (λ y. (v, y)) b
+
+  -- an exchange that was tried on a parked task has succeeded
+  exchanged : {P : Type 0} (p : ℕ) (way : Way) (m m' : SeatMe B) (r : Result ⊤ Phase) → OnOk r P
+      → IfErr r (λ q. (parked_phase p way ≡ phase.Ready) × (q ≢ parked_phase p way) × (m' ≡ (stepped_on m.0, m.1)))
+      → P
+  exchanged p way m m' (Ok x) ok err = ok
+  exchanged p way m m' (Err q) ok err = parked_unready p way err.0
+
+  -- the five steps, one after the other
+  module _ (program : Bool → B → Program B) (p t : ℕ) (me m1 m2 : SeatMe B) (next : Head) (was : Phase)
+      (may : MayWakeTasks me) (left : List ℕ) (rests : me.0.rest ≡ rest_of p (t ∷ left))
+      (view1 : m1.0 ≡ stepped_on me.0) (slots1 : m1.1 ≡ me.1) (next_told : NextTold t next me.0)
+      (view2 : m2.0 ≡ loaded_phase t was m1.0) (slots2 : m2.1 ≡ m1.1) (first_told : FirstTold t was m1.0) where
+    parked : (way : Way) × (was ≡ parked_phase p way)
+    parked = first_parked p t left me.0 m1.0 m2.0 was rests view1 first_told
+
+    abbrev read : View B
+    read = read_first p t left parked.0 me.0
+
+    reads : m2 ≡ (read, me.1)
+    reads = pair_is m2 read me.1
+        (reads_first p t left me.0 m1.0 m2.0 was rests view1 parked.0 parked.1 view2) (slots2 ∙ slots1)
+
+    pub may_up : MayRaiseLive program m2
+    may_up = subst (λ m. MayRaiseLive program m) (sym reads) (may_raise p t left parked.0 me.0 me.1 may program)
+
+    module _ (m3 : SeatMe B) (raised : m3 ≡ live_raised m2) where
+      up : m3 ≡ (token_more read, me.1)
+      up = raised ∙ (ap live_raised reads ∙ raised_plain read me.1 may.no_record)
+
+      pub may_swap : MaySwap t was phase.Ready m3.0
+      may_swap = subst (λ (m : SeatMe B). MaySwap t was phase.Ready m.0) (sym up)
+          (subst (λ q. MaySwap t q phase.Ready (token_more read)) (sym parked.1)
+          (may_wake p t left parked.0 me.0 me.1 may))
+
+      module _ (m4 : SeatMe B) (r : Result ⊤ Phase) (ok : OnOk r (Swaps program t was phase.Ready m3 m4))
+          (err : IfErr r (λ q. (was ≡ phase.Ready) × (q ≢ was) × (m4 ≡ (stepped_on m3.0, m3.1)))) where
+        woke : m4 ≡ (woke_first parked.0 (token_more read), me.1)
+        woke = let s = exchanged p parked.0 m3 m4 r ok (subst (λ k. IfErr r (λ q. (k ≡ phase.Ready) × (q ≢ k)
+            × (m4 ≡ (stepped_on m3.0, m3.1)))) parked.1 err) in
+            s.wakes p parked.0 parked.1 refl ∙ ap (λ (m : SeatMe B). (woke_first parked.0 m.0, m.1)) up
+
+        pub slots_woke : m4.1 ≡ me.1
+        slots_woke = ap (λ (m : SeatMe B). m.1) woke
+
+        pub counted : counted_in was ≤ m4.0.cleared
+        counted = subst (λ (m : SeatMe B). counted_in was ≤ m.0.cleared) (sym woke)
+            (subst (λ q. counted_in q ≤ me.0.cleared + raised_by_way parked.0) (sym parked.1)
+            (counted_then p t left parked.0 me.0 me.1 may))
+
+        pub wakes_first : (w : View B) → w ≡ lowered_for was w.steps m4.0 → (next ≡ head_of left)
+            × (w ≡ record me.0 { steps = w.steps; plain_loads = suc me.0.plain_loads; rest = rest_of p left })
+        wakes_first w e = (
+          next_behind p t left me.0 m1.0 m2.0 was rests view1 next next_told,
+          e ∙ (ap (λ (m : SeatMe B). lowered_for was w.steps m.0) woke
+              ∙ (ap (λ q. lowered_for q w.steps (woke_first parked.0 (token_more read))) parked.1
+              ∙ lowers p t left parked.0 me.0 me.1 may w.steps)),
+        )

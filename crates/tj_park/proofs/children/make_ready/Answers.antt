@@ -1,0 +1,24 @@
+use Rattle.std.proofs.Common.{◌∙◌, ap, sym, subst}
+use Rattle.atomic_table.specs.Table.{rest}
+use Rattle.tj_words.specs.LiveViews.{MayRaiseLive, MayRelease, live_raised, released}
+use Rattle.tj_words.specs.SeatSteps.{SeatMe}
+use Rattle.tj_park.proofs.LeftTasks.{raise_child, ready_child, child_released}
+use Rattle.tj_park.proofs.children.make_ready.Goals as goal
+
+pub live_up-requires-clause-may : goal.live_up-requires-clause-may
+live_up-requires-clause-may g c κs within = subst (MayRaiseLive _) (sym c.slot_swap.ensures.me)
+    (raise_child _ c.args.t.0 c.args.rec c.args.seat.now.me.0 (rest c.args.seat.now.me.1) c.requires.may)
+
+pub put_phase-requires-clause-may : goal.put_phase-requires-clause-may
+put_phase-requires-clause-may g c κs within =
+    subst (λ (z : SeatMe _). MayRelease c.args.t.0 z.0)
+    (sym (c.live_up.ensures.me ∙ ap live_raised c.slot_swap.ensures.me))
+    (ready_child _ c.args.t.0 c.args.rec c.args.seat.now.me.0 (rest c.args.seat.now.me.1) c.requires.may)
+
+pub returns-clause-me : goal.returns-clause-me
+returns-clause-me g c =
+    c.put_phase.ensures.puts
+    ∙ (ap (λ (z : SeatMe _). (released c.args.t.0 z.0, z.1))
+    (c.live_up.ensures.me ∙ ap live_raised c.slot_swap.ensures.me)
+    ∙ ap (λ v. (v, rest c.args.seat.now.me.1))
+    (child_released _ c.args.t.0 c.args.rec c.args.seat.now.me.0 (rest c.args.seat.now.me.1) c.requires.may))

@@ -1,0 +1,50 @@
+use Rattle.std.proofs.Common.{rules, ◌≡◌, ◌≢◌, ◌∙◌}
+use Rattle.tj_words.specs.declared.head.Head.TheVariants as head
+use Rattle.tj_park.proofs.Joining.{joining_first, joining_next, has_push, has_push_behind, joined, fewer}
+use Rattle.tj_park.proofs.join.join_chain.Goals as goal
+
+pub loop-t-init : goal.loop-t-init
+loop-t-init g c = record {
+  seat = c.head-behind.ensures.seat;
+  joins = joining_first c.args.laid.now.cells c.args.t.0 c.args.q.0 c.args.way c.head-behind.result c.args.seat.now.me.0
+      c.head-behind.new.seat.me.0 c.requires.push c.head-behind.ensures.shut c.head-behind.ensures.open;
+}
+
+pub put_next-requires-clause-push : goal.put_next-requires-clause-push
+put_next-requires-clause-push g c κs within = has_push c.args.laid.now.cells c.args.t.0 c.args.q.0 c.args.way
+    c.loop-t.behind c.args.seat.now.me.0 c.loop-t.seat.me.0 c.loop-t.invariant.joins
+
+pub push-found-requires-clause-push : goal.push-found-requires-clause-push
+push-found-requires-clause-push g c κs within = has_push_behind c.args.laid.now.cells c.args.t.0 c.args.q.0 c.args.way
+    c.loop-t.behind c.args.seat.now.me.0 c.loop-t.seat.me.0 c.put_next.new.seat.me.0 c.loop-t.invariant.joins
+    c.put_next.ensures.view
+
+pub returns-then-eq-clause-looks : goal.returns-then-eq-clause-looks
+returns-then-eq-clause-looks g c =
+    let opened : c.loop-t.behind ≢ head.Shut = search rules in
+    let same : c.push-found.result ≡ c.loop-t.behind = search rules in
+    (joined c.args.laid.now.cells c.args.t.0 c.args.q.0 c.args.way c.loop-t.behind c.args.seat.now.me.0
+    c.loop-t.seat.me.0 c.put_next.new.seat.me.0 c.loop-t.invariant.joins c.put_next.ensures.view opened
+    c.push-found.new.seat.me.0 (c.push-found.ensures.pushed same)).0
+
+pub loop-t-smaller : goal.loop-t-smaller
+loop-t-smaller g c =
+    let opened : c.loop-t.behind ≢ head.Shut = search rules in
+    let other : c.push-found.result ≢ c.loop-t.behind = search rules in
+    fewer c.args.laid.now.cells c.args.t.0 c.args.q.0 c.args.way c.loop-t.behind c.args.seat.now.me.0
+    c.loop-t.seat.me.0 c.put_next.new.seat.me.0 c.loop-t.invariant.joins c.put_next.ensures.view opened
+    c.push-found.result c.push-found.new.seat.me.0 other c.push-found.ensures.shut c.push-found.ensures.other
+
+pub loop-t-preserved : goal.loop-t-preserved
+loop-t-preserved g c =
+    let opened : c.loop-t.behind ≢ head.Shut = search rules in
+    let other : c.push-found.result ≢ c.loop-t.behind = search rules in
+    let a = c.loop-t.invariant.seat in
+    let b = c.put_next.ensures.seat in
+    let d = c.push-found.ensures.seat in
+    record {
+      seat = (d.0 ∙ (b.0 ∙ a.0), d.1 ∙ (b.1 ∙ a.1), d.2 ∙ (b.2 ∙ a.2));
+      joins = joining_next c.args.laid.now.cells c.args.t.0 c.args.q.0 c.args.way c.loop-t.behind c.args.seat.now.me.0
+          c.loop-t.seat.me.0 c.put_next.new.seat.me.0 c.loop-t.invariant.joins c.put_next.ensures.view opened
+          c.push-found.result c.push-found.new.seat.me.0 other c.push-found.ensures.shut c.push-found.ensures.other;
+    }

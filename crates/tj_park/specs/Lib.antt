@@ -1,0 +1,5 @@
+pub mod Records
+pub mod ChildViews
+pub mod ParkViews
+pub mod JoinViews
+pub mod Wakes

@@ -1,0 +1,58 @@
+//! A child becomes ready.
+ghost use Rattle.std.specs.Prelude.{◌≡◌, OnErr, OnOk};
+ghost use Rattle.atomic_table.specs.Table.{rest};
+ghost use Rattle.tj_body.specs.Programs.{program_of};
+ghost use Rattle.tj_words.specs.LiveViews.{HasSlot};
+ghost use Rattle.tj_words.specs.SeatSteps.{IsCellOf, IsSeatOf};
+ghost use Rattle.tj_park.specs.ChildViews.{MayReleaseChild, released_child};
+
+use std::alloc::Global;
+use std::sync::Wait;
+use tj_base::{CellId, Oom};
+use tj_body::Body;
+use tj_ready::Pool;
+use tj_words::{Laid, Phase, Rec, WSeat};
+
+/// Puts the record of an unborn child home, says that the child is ready, and puts it into the
+/// pool. After `Oom` the child is ready and not in the pool.
+pub fn release<B: Body, P: Pool, R: Wait>(
+    rt: &R,
+    alloc: Global,
+    laid: &Laid<B>,
+    seat: &mut WSeat<B>,
+    t: CellId,
+    rec: Rec<B>,
+    pool: &mut P,
+) -> Result<(), Oom>
+    requires table { IsSeatOf laid.now seat.old }
+    requires cell { IsCellOf laid.now t.0 }
+    requires slot { HasSlot t.0 seat.old.me }
+    requires may { MayReleaseChild (program_of B.places B.awaits B.left B.asks B.then) t.0 rec
+        seat.old.me.0 }
+    requires pool { P.limit pool.old ≡ laid.now.cells }
+    ensures table { seat.new.table_id ≡ seat.old.table_id }
+    ensures id { seat.new.id ≡ seat.old.id }
+    ensures me { seat.new.me ≡ (released_child t.0 seat.old.me.0, rest seat.old.me.1) }
+    ensures limit { P.limit pool.new ≡ P.limit pool.old }
+    ensures ok { OnOk result (P.puts pool.old t pool.new) }
+    ensures err { OnErr result (P.same pool.old pool.new) }
+{
+    make_ready(laid, seat, t, rec);
+    pool.put(rt, alloc, t)
+}
+
+// Puts the record home, and says that the child is ready.
+fn make_ready<B: Body>(laid: &Laid<B>, seat: &mut WSeat<B>, t: CellId, rec: Rec<B>)
+    requires table { IsSeatOf laid.now seat.old }
+    requires cell { IsCellOf laid.now t.0 }
+    requires slot { HasSlot t.0 seat.old.me }
+    requires may { MayReleaseChild (program_of B.places B.awaits B.left B.asks B.then) t.0 rec
+        seat.old.me.0 }
+    ensures table { seat.new.table_id ≡ seat.old.table_id }
+    ensures id { seat.new.id ≡ seat.old.id }
+    ensures me { seat.new.me ≡ (released_child t.0 seat.old.me.0, rest seat.old.me.1) }
+{
+    drop(laid.slot_swap(seat, t, Some(rec)));
+    laid.live_up(seat);
+    laid.put_phase(seat, t, Phase::Ready);
+}

@@ -1,0 +1,30 @@
+//! A ready task is claimed.
+ghost use Rattle.std.specs.Prelude.{◌≡◌, ◌∷◌, IfSome, None};
+ghost use Rattle.tj_body.specs.Programs.{program_of};
+ghost use Rattle.tj_words.specs.ExchangeViews.{KnowsTable};
+ghost use Rattle.tj_words.specs.SeatSteps.{IsCellOf, IsSeatOf};
+ghost use Rattle.tj_words.specs.Views.{stepped_on};
+ghost use Rattle.tj_park.specs.ChildViews.{Claimed};
+
+use tj_base::CellId;
+use tj_body::Body;
+use tj_words::{Laid, Phase, Rec, WSeat};
+
+/// Claims a task, and takes its record. `None` comes only where this call's one exchange found a
+/// phase other than Ready.
+pub fn claim<B: Body>(laid: &Laid<B>, seat: &mut WSeat<B>, t: CellId) -> Option<Rec<B>>
+    requires table { IsSeatOf laid.now seat.old }
+    requires cell { IsCellOf laid.now t.0 }
+    requires knows { KnowsTable seat.old.me.0 }
+    ensures table { seat.new.table_id ≡ seat.old.table_id }
+    ensures id { seat.new.id ≡ seat.old.id }
+    ensures none { result ≡ None → seat.new.me ≡ (stepped_on seat.old.me.0, seat.old.me.1) }
+    ensures some { IfSome result (λ r. Claimed (program_of B.places B.awaits B.left B.asks B.then)
+        t.0 r seat.old.me.0 seat.new.me.0) }
+    ensures slot { IfSome result (λ _. seat.new.me.1 ≡ (t.0, None) ∷ seat.old.me.1) }
+{
+    match laid.swap_phase(seat, t, Phase::Ready, Phase::Running) {
+        Ok(()) => laid.slot_swap(seat, t, None),
+        Err(_) => None,
+    }
+}

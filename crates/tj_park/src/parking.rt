@@ -1,0 +1,58 @@
+//! A task that waits is parked.
+ghost use Rattle.std.specs.Prelude.{◌≡◌, ◌∷◌, None};
+ghost use Rattle.atomic_table.specs.Table.{rest};
+ghost use Rattle.tj_body.specs.Programs.{program_of};
+ghost use Rattle.tj_words.specs.LiveViews.{HasSlot};
+ghost use Rattle.tj_words.specs.SeatSteps.{IsCellOf, IsSeatOf};
+ghost use Rattle.tj_park.specs.Records.{HasNoRecord};
+ghost use Rattle.tj_park.specs.ParkViews.{GaveBack, IfBack, IfLeft, LeftTask, MayParkTask};
+
+use crate::back::take_back;
+use crate::join::join_chain;
+use tj_base::CellId;
+use tj_body::Body;
+use tj_words::{Laid, Phase, Rec, WSeat, Walk, Way};
+
+/// What became of a task that was to be parked.
+#[derive(Debug, Drop)]
+pub enum Parked<B> {
+    /// Its record lies at home, and another takes it when its cell has a value.
+    Left,
+    /// Its cell had a value already, and it runs again.
+    Back(Rec<B>),
+}
+
+/// Parks a task whose walk for its wait for `q` has ended without an alarm. `Back` comes only where
+/// this call found the head of the cell's chain shut, and cleared the wait.
+pub fn park<B: Body>(
+    laid: &Laid<B>,
+    seat: &mut WSeat<B>,
+    t: CellId,
+    q: CellId,
+    way: Way,
+    rec: Rec<B>,
+) -> Parked<B>
+    requires table { IsSeatOf laid.now seat.old }
+    requires task { IsCellOf laid.now t.0 }
+    requires cell { IsCellOf laid.now q.0 }
+    requires slot { HasSlot t.0 seat.old.me }
+    requires others { HasNoRecord (rest seat.old.me.1) }
+    requires may { MayParkTask (program_of B.places B.awaits B.left B.asks B.then) t.0 q.0 way rec
+        seat.old.me.0 }
+    ensures table { seat.new.table_id ≡ seat.old.table_id }
+    ensures id { seat.new.id ≡ seat.old.id }
+    ensures left { IfLeft result (LeftTask laid.now.cells t.0 seat.old.me.0 seat.new.me.0) }
+    ensures left_slot { IfLeft result (seat.new.me.1 ≡ rest seat.old.me.1) }
+    ensures back { IfBack result (λ r. GaveBack
+        (program_of B.places B.awaits B.left B.asks B.then) laid.now.cells t.0 q.0 r
+        seat.old.me.0 seat.new.me.0) }
+    ensures back_slot { IfBack result (λ _. seat.new.me.1 ≡ (t.0, None) ∷ rest seat.old.me.1) }
+{
+    drop(laid.slot_swap(seat, t, Some(rec)));
+    laid.put_phase(seat, t, Phase::Waiting(q, way, Walk::Parked));
+    if join_chain(laid, seat, t, q, way) {
+        laid.live_down(seat);
+        return Parked::Left;
+    }
+    Parked::Back(take_back(laid, seat, t, q, way))
+}

@@ -1,0 +1,25 @@
+//! A task that has alarmed is shelved.
+ghost use Rattle.std.specs.Prelude.{◌≡◌};
+ghost use Rattle.atomic_table.specs.Table.{rest};
+ghost use Rattle.tj_body.specs.Programs.{program_of};
+ghost use Rattle.tj_words.specs.LiveViews.{HasSlot};
+ghost use Rattle.tj_words.specs.SeatSteps.{IsCellOf, IsSeatOf};
+ghost use Rattle.tj_park.specs.ChildViews.{MayShelve, shelved};
+
+use tj_base::CellId;
+use tj_body::Body;
+use tj_words::{Laid, Rec, WSeat};
+
+/// Puts the record of a task that has alarmed home, for good.
+pub fn shelve<B: Body>(laid: &Laid<B>, seat: &mut WSeat<B>, t: CellId, rec: Rec<B>)
+    requires table { IsSeatOf laid.now seat.old }
+    requires slot { HasSlot t.0 seat.old.me }
+    requires may { MayShelve (program_of B.places B.awaits B.left B.asks B.then) t.0 rec
+        seat.old.me.0 }
+    ensures table { seat.new.table_id ≡ seat.old.table_id }
+    ensures id { seat.new.id ≡ seat.old.id }
+    ensures me { seat.new.me ≡ (shelved t.0 seat.old.me.0, rest seat.old.me.1) }
+{
+    drop(laid.slot_swap(seat, t, Some(rec)));
+    laid.live_down(seat);
+}
