@@ -5,3 +5,7 @@ mod ParkedViews
 mod Returns
 pub mod WakeSteps
 pub mod WakeLoops
+pub mod BreakSteps
+pub mod EndPoints
+pub mod EndSteps
+pub mod ResultCloses

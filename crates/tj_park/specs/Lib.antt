@@ -3,3 +3,5 @@ pub mod ChildViews
 pub mod ParkViews
 pub mod JoinViews
 pub mod Wakes
+pub mod Breaks
+pub mod Endings

@@ -5,15 +5,15 @@
 mod back;
 mod children;
 mod claims;
+mod finishes;
 mod join;
 mod parking;
 mod shelves;
+mod wakes;
 
 pub use children::release;
 pub use claims::claim;
+pub use finishes::finish;
 pub use parking::{Parked, park};
 pub use shelves::shelve;
-
-mod wakes;
-
 pub use wakes::wake;

@@ -1,0 +1,9 @@
+use Rattle.std.proofs.Common.{◌≡◌, subst, sym}
+use Rattle.tj_body.specs.Programs.{program_of}
+use Rattle.tj_park.specs.Endings.{ClosesResult, MayCloseResult}
+use Rattle.tj_park.proofs.finishes.close_result.Goals as goal
+
+pub close_by-requires-clause-may : goal.close_by-requires-clause-may
+close_by-requires-clause-may g c κs within = subst (λ o. MayCloseResult
+    (program_of g.B.Body.places g.B.Body.awaits g.B.Body.left g.B.Body.asks g.B.Body.then) c.args.t.0 o
+    c.args.seat.now.me.0) c.in-Some.is c.requires.may

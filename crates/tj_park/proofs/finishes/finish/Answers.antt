@@ -1,0 +1,201 @@
+use Rattle.std.proofs.Common.{◌≡◌, ◌∙◌, [], ap, subst, sym}
+use Rattle.atomic_table.specs.Table.{rest}
+use Rattle.tj_body.specs.Programs.{program_of}
+use Rattle.tj_words.specs.LiveViews.{MayLowerLive, lowered_with}
+use Rattle.tj_park.specs.Breaks.{HasBroken, MayBreak}
+use Rattle.tj_park.proofs.EndSteps.{slice_rest, is_cell, may_break, may_close, closed_is, laid_is, may_end_then, ended_is}
+use Rattle.tj_park.proofs.EndSteps.{may_wake_then, woke_then, may_lower, has_finished, same_slots, some_owned}
+use Rattle.tj_park.proofs.finishes.finish.Goals as goal
+
+pub break_promises-requires-clause-may : goal.break_promises-requires-clause-may
+break_promises-requires-clause-may g c κs within = let m = c.requires.may in
+    let written = c.points_in_rounds.ensures.written m.about.strict m.about.root m.rooted in
+    let ordered = c.names_and_cells.ensures.elements in
+    subst (λ l. MayBreak (program_of g.B.Body.places g.B.Body.awaits g.B.Body.left g.B.Body.asks g.B.Body.then)
+    c.args.t.0 l c.args.seat.now.me.0) (sym (slice_rest c.items.result.now c.args.rec.owned c.items.ensures))
+    (may_break (program_of g.B.Body.places g.B.Body.awaits g.B.Body.left g.B.Body.asks g.B.Body.then)
+    c.args.t.0 c.args.rec c.args.seat.now.me.0 m written ordered)
+
+pub close_result-requires-clause-cell : goal.close_result-requires-clause-cell
+close_result-requires-clause-cell g c κs within = let m = c.requires.may in
+    let written = c.points_in_rounds.ensures.written m.about.strict m.about.root m.rooted in
+    let ordered = c.names_and_cells.ensures.elements in
+    is_cell (program_of g.B.Body.places g.B.Body.awaits g.B.Body.left g.B.Body.asks g.B.Body.then)
+    c.args.t.0 c.args.rec c.args.seat.now.me.0 m written ordered c.args.laid.now.cells c.requires.few
+
+pub put_phase-requires-clause-cell : goal.put_phase-requires-clause-cell
+put_phase-requires-clause-cell g c κs within = let m = c.requires.may in
+    let written = c.points_in_rounds.ensures.written m.about.strict m.about.root m.rooted in
+    let ordered = c.names_and_cells.ensures.elements in
+    is_cell (program_of g.B.Body.places g.B.Body.awaits g.B.Body.left g.B.Body.asks g.B.Body.then)
+    c.args.t.0 c.args.rec c.args.seat.now.me.0 m written ordered c.args.laid.now.cells c.requires.few
+
+pub wake-requires-clause-cell : goal.wake-requires-clause-cell
+wake-requires-clause-cell g c κs within = let m = c.requires.may in
+    let written = c.points_in_rounds.ensures.written m.about.strict m.about.root m.rooted in
+    let ordered = c.names_and_cells.ensures.elements in
+    is_cell (program_of g.B.Body.places g.B.Body.awaits g.B.Body.left g.B.Body.asks g.B.Body.then)
+    c.args.t.0 c.args.rec c.args.seat.now.me.0 m written ordered c.args.laid.now.cells c.requires.few
+
+pub close_result-requires-clause-may : goal.close_result-requires-clause-may
+close_result-requires-clause-may g c κs within = let m = c.requires.may in
+    let written = c.points_in_rounds.ensures.written m.about.strict m.about.root m.rooted in
+    let ordered = c.names_and_cells.ensures.elements in
+    may_close (program_of g.B.Body.places g.B.Body.awaits g.B.Body.left g.B.Body.asks g.B.Body.then)
+    c.args.t.0 c.args.rec c.args.seat.now.me.0 m written ordered c.break_promises.new.seat.me.0
+    (subst (λ l. HasBroken c.args.t.0 l [] c.args.seat.now.me.0 c.break_promises.new.seat.me.0)
+    (slice_rest c.items.result.now c.args.rec.owned c.items.ensures) c.in_ok-break_promises.ensures.broken)
+
+pub put_phase-requires-clause-may : goal.put_phase-requires-clause-may
+put_phase-requires-clause-may g c κs within = let m = c.requires.may in
+    let written = c.points_in_rounds.ensures.written m.about.strict m.about.root m.rooted in
+    let ordered = c.names_and_cells.ensures.elements in
+    let laid = laid_is (program_of g.B.Body.places g.B.Body.awaits g.B.Body.left g.B.Body.asks g.B.Body.then)
+    c.args.t.0 c.args.rec c.args.seat.now.me.0 m written ordered c.break_promises.new.seat.me.0
+    (subst (λ l. HasBroken c.args.t.0 l [] c.args.seat.now.me.0 c.break_promises.new.seat.me.0)
+    (slice_rest c.items.result.now c.args.rec.owned c.items.ensures) c.in_ok-break_promises.ensures.broken)
+    c.slot_swap.new.seat.me c.close_result.new.seat.me.0 c.without_owned.result c.close_result.new.seat.me.1
+    c.args.seat.now.me.1 c.slot_swap.ensures.me
+    (closed_is (program_of g.B.Body.places g.B.Body.awaits g.B.Body.left g.B.Body.asks g.B.Body.then)
+    c.args.t.0 c.args.rec c.args.seat.now.me.0 m written ordered c.break_promises.new.seat.me.0
+    (subst (λ l. HasBroken c.args.t.0 l [] c.args.seat.now.me.0 c.break_promises.new.seat.me.0)
+    (slice_rest c.items.result.now c.args.rec.owned c.items.ensures) c.in_ok-break_promises.ensures.broken)
+    c.close_result.new.seat.me.0 c.close_result.ensures.view) c.without_owned.ensures
+    (c.close_result.ensures.seat.2 ∙ c.break_promises.ensures.seat.2) in
+    may_end_then (program_of g.B.Body.places g.B.Body.awaits g.B.Body.left g.B.Body.asks g.B.Body.then)
+    c.args.t.0 c.args.rec c.args.seat.now.me.0 m written ordered c.break_promises.new.seat.me.0
+    (subst (λ l. HasBroken c.args.t.0 l [] c.args.seat.now.me.0 c.break_promises.new.seat.me.0)
+    (slice_rest c.items.result.now c.args.rec.owned c.items.ensures) c.in_ok-break_promises.ensures.broken) (rest c.args.seat.now.me.1) c.requires.others
+    c.slot_swap.new.seat.me laid
+
+pub wake-requires-clause-may : goal.wake-requires-clause-may
+wake-requires-clause-may g c κs within = let m = c.requires.may in
+    let written = c.points_in_rounds.ensures.written m.about.strict m.about.root m.rooted in
+    let ordered = c.names_and_cells.ensures.elements in
+    let laid = laid_is (program_of g.B.Body.places g.B.Body.awaits g.B.Body.left g.B.Body.asks g.B.Body.then)
+    c.args.t.0 c.args.rec c.args.seat.now.me.0 m written ordered c.break_promises.new.seat.me.0
+    (subst (λ l. HasBroken c.args.t.0 l [] c.args.seat.now.me.0 c.break_promises.new.seat.me.0)
+    (slice_rest c.items.result.now c.args.rec.owned c.items.ensures) c.in_ok-break_promises.ensures.broken)
+    c.slot_swap.new.seat.me c.close_result.new.seat.me.0 c.without_owned.result c.close_result.new.seat.me.1
+    c.args.seat.now.me.1 c.slot_swap.ensures.me
+    (closed_is (program_of g.B.Body.places g.B.Body.awaits g.B.Body.left g.B.Body.asks g.B.Body.then)
+    c.args.t.0 c.args.rec c.args.seat.now.me.0 m written ordered c.break_promises.new.seat.me.0
+    (subst (λ l. HasBroken c.args.t.0 l [] c.args.seat.now.me.0 c.break_promises.new.seat.me.0)
+    (slice_rest c.items.result.now c.args.rec.owned c.items.ensures) c.in_ok-break_promises.ensures.broken)
+    c.close_result.new.seat.me.0 c.close_result.ensures.view) c.without_owned.ensures
+    (c.close_result.ensures.seat.2 ∙ c.break_promises.ensures.seat.2) in
+    let ended = ended_is (program_of g.B.Body.places g.B.Body.awaits g.B.Body.left g.B.Body.asks g.B.Body.then)
+    c.args.t.0 c.args.rec c.args.seat.now.me.0 m written ordered c.break_promises.new.seat.me.0
+    (subst (λ l. HasBroken c.args.t.0 l [] c.args.seat.now.me.0 c.break_promises.new.seat.me.0)
+    (slice_rest c.items.result.now c.args.rec.owned c.items.ensures) c.in_ok-break_promises.ensures.broken) (rest c.args.seat.now.me.1) c.requires.others
+    c.slot_swap.new.seat.me c.put_phase.new.seat.me laid c.put_phase.ensures.puts in
+    may_wake_then (program_of g.B.Body.places g.B.Body.awaits g.B.Body.left g.B.Body.asks g.B.Body.then)
+    c.args.t.0 c.args.rec c.args.seat.now.me.0 m written ordered c.break_promises.new.seat.me.0
+    (subst (λ l. HasBroken c.args.t.0 l [] c.args.seat.now.me.0 c.break_promises.new.seat.me.0)
+    (slice_rest c.items.result.now c.args.rec.owned c.items.ensures) c.in_ok-break_promises.ensures.broken) (rest c.args.seat.now.me.1) c.requires.others
+    c.put_phase.new.seat.me ended
+
+pub live_down-requires-clause-may : goal.live_down-requires-clause-may
+live_down-requires-clause-may g c κs within = let m = c.requires.may in
+    let written = c.points_in_rounds.ensures.written m.about.strict m.about.root m.rooted in
+    let ordered = c.names_and_cells.ensures.elements in
+    let laid = laid_is (program_of g.B.Body.places g.B.Body.awaits g.B.Body.left g.B.Body.asks g.B.Body.then)
+    c.args.t.0 c.args.rec c.args.seat.now.me.0 m written ordered c.break_promises.new.seat.me.0
+    (subst (λ l. HasBroken c.args.t.0 l [] c.args.seat.now.me.0 c.break_promises.new.seat.me.0)
+    (slice_rest c.items.result.now c.args.rec.owned c.items.ensures) c.in_ok-break_promises.ensures.broken)
+    c.slot_swap.new.seat.me c.close_result.new.seat.me.0 c.without_owned.result c.close_result.new.seat.me.1
+    c.args.seat.now.me.1 c.slot_swap.ensures.me
+    (closed_is (program_of g.B.Body.places g.B.Body.awaits g.B.Body.left g.B.Body.asks g.B.Body.then)
+    c.args.t.0 c.args.rec c.args.seat.now.me.0 m written ordered c.break_promises.new.seat.me.0
+    (subst (λ l. HasBroken c.args.t.0 l [] c.args.seat.now.me.0 c.break_promises.new.seat.me.0)
+    (slice_rest c.items.result.now c.args.rec.owned c.items.ensures) c.in_ok-break_promises.ensures.broken)
+    c.close_result.new.seat.me.0 c.close_result.ensures.view) c.without_owned.ensures
+    (c.close_result.ensures.seat.2 ∙ c.break_promises.ensures.seat.2) in
+    let ended = ended_is (program_of g.B.Body.places g.B.Body.awaits g.B.Body.left g.B.Body.asks g.B.Body.then)
+    c.args.t.0 c.args.rec c.args.seat.now.me.0 m written ordered c.break_promises.new.seat.me.0
+    (subst (λ l. HasBroken c.args.t.0 l [] c.args.seat.now.me.0 c.break_promises.new.seat.me.0)
+    (slice_rest c.items.result.now c.args.rec.owned c.items.ensures) c.in_ok-break_promises.ensures.broken) (rest c.args.seat.now.me.1) c.requires.others
+    c.slot_swap.new.seat.me c.put_phase.new.seat.me laid c.put_phase.ensures.puts in
+    let woke = woke_then (program_of g.B.Body.places g.B.Body.awaits g.B.Body.left g.B.Body.asks g.B.Body.then)
+    c.args.t.0 c.args.rec c.args.seat.now.me.0 m written ordered c.break_promises.new.seat.me.0
+    (subst (λ l. HasBroken c.args.t.0 l [] c.args.seat.now.me.0 c.break_promises.new.seat.me.0)
+    (slice_rest c.items.result.now c.args.rec.owned c.items.ensures) c.in_ok-break_promises.ensures.broken) (rest c.args.seat.now.me.1) c.requires.others
+    c.in_ok-wake.field-0 c.put_phase.new.seat.me c.wake.new.seat.me.0 ended c.in_ok-wake.ensures.woke.woke in
+    let mine : c.wake.new.seat.me.1 ≡ rest c.args.seat.now.me.1
+    = c.wake.ensures.seat.2 ∙ ap (λ m. m.1) ended in
+    subst (λ s. MayLowerLive (program_of g.B.Body.places g.B.Body.awaits g.B.Body.left g.B.Body.asks g.B.Body.then)
+    (c.wake.new.seat.me.0, s)) (sym mine) (may_lower (program_of g.B.Body.places g.B.Body.awaits g.B.Body.left g.B.Body.asks g.B.Body.then)
+    c.args.t.0 c.args.rec c.args.seat.now.me.0 m written ordered c.break_promises.new.seat.me.0
+    (subst (λ l. HasBroken c.args.t.0 l [] c.args.seat.now.me.0 c.break_promises.new.seat.me.0)
+    (slice_rest c.items.result.now c.args.rec.owned c.items.ensures) c.in_ok-break_promises.ensures.broken) (rest c.args.seat.now.me.1) c.requires.others
+    c.in_ok-wake.field-0 c.wake.new.seat.me.0 woke)
+
+pub returns-clause-ended : goal.returns-clause-ended
+returns-clause-ended g c = let m = c.requires.may in
+    let written = c.points_in_rounds.ensures.written m.about.strict m.about.root m.rooted in
+    let ordered = c.names_and_cells.ensures.elements in
+    let laid = laid_is (program_of g.B.Body.places g.B.Body.awaits g.B.Body.left g.B.Body.asks g.B.Body.then)
+    c.args.t.0 c.args.rec c.args.seat.now.me.0 m written ordered c.break_promises.new.seat.me.0
+    (subst (λ l. HasBroken c.args.t.0 l [] c.args.seat.now.me.0 c.break_promises.new.seat.me.0)
+    (slice_rest c.items.result.now c.args.rec.owned c.items.ensures) c.in_ok-break_promises.ensures.broken)
+    c.slot_swap.new.seat.me c.close_result.new.seat.me.0 c.without_owned.result c.close_result.new.seat.me.1
+    c.args.seat.now.me.1 c.slot_swap.ensures.me
+    (closed_is (program_of g.B.Body.places g.B.Body.awaits g.B.Body.left g.B.Body.asks g.B.Body.then)
+    c.args.t.0 c.args.rec c.args.seat.now.me.0 m written ordered c.break_promises.new.seat.me.0
+    (subst (λ l. HasBroken c.args.t.0 l [] c.args.seat.now.me.0 c.break_promises.new.seat.me.0)
+    (slice_rest c.items.result.now c.args.rec.owned c.items.ensures) c.in_ok-break_promises.ensures.broken)
+    c.close_result.new.seat.me.0 c.close_result.ensures.view) c.without_owned.ensures
+    (c.close_result.ensures.seat.2 ∙ c.break_promises.ensures.seat.2) in
+    let ended = ended_is (program_of g.B.Body.places g.B.Body.awaits g.B.Body.left g.B.Body.asks g.B.Body.then)
+    c.args.t.0 c.args.rec c.args.seat.now.me.0 m written ordered c.break_promises.new.seat.me.0
+    (subst (λ l. HasBroken c.args.t.0 l [] c.args.seat.now.me.0 c.break_promises.new.seat.me.0)
+    (slice_rest c.items.result.now c.args.rec.owned c.items.ensures) c.in_ok-break_promises.ensures.broken) (rest c.args.seat.now.me.1) c.requires.others
+    c.slot_swap.new.seat.me c.put_phase.new.seat.me laid c.put_phase.ensures.puts in
+    let woke = woke_then (program_of g.B.Body.places g.B.Body.awaits g.B.Body.left g.B.Body.asks g.B.Body.then)
+    c.args.t.0 c.args.rec c.args.seat.now.me.0 m written ordered c.break_promises.new.seat.me.0
+    (subst (λ l. HasBroken c.args.t.0 l [] c.args.seat.now.me.0 c.break_promises.new.seat.me.0)
+    (slice_rest c.items.result.now c.args.rec.owned c.items.ensures) c.in_ok-break_promises.ensures.broken) (rest c.args.seat.now.me.1) c.requires.others
+    c.in_ok-wake.field-0 c.put_phase.new.seat.me c.wake.new.seat.me.0 ended c.in_ok-wake.ensures.woke.woke in
+    let mine : c.wake.new.seat.me.1 ≡ rest c.args.seat.now.me.1
+    = c.wake.ensures.seat.2 ∙ ap (λ m. m.1) ended in
+    has_finished (program_of g.B.Body.places g.B.Body.awaits g.B.Body.left g.B.Body.asks g.B.Body.then)
+    c.args.t.0 c.args.rec c.args.seat.now.me.0 m written ordered c.break_promises.new.seat.me.0
+    (subst (λ l. HasBroken c.args.t.0 l [] c.args.seat.now.me.0 c.break_promises.new.seat.me.0)
+    (slice_rest c.items.result.now c.args.rec.owned c.items.ensures) c.in_ok-break_promises.ensures.broken) (rest c.args.seat.now.me.1) c.requires.others
+    c.in_ok-wake.field-0 c.wake.new.seat.me.0 woke c.live_down.new.seat.me
+    (c.live_down.ensures.me ∙ ap (λ s. lowered_with c.wake.new.seat.me.0 s) mine)
+
+pub returns-clause-slots : goal.returns-clause-slots
+returns-clause-slots g c = let m = c.requires.may in
+    let written = c.points_in_rounds.ensures.written m.about.strict m.about.root m.rooted in
+    let ordered = c.names_and_cells.ensures.elements in
+    let laid = laid_is (program_of g.B.Body.places g.B.Body.awaits g.B.Body.left g.B.Body.asks g.B.Body.then)
+    c.args.t.0 c.args.rec c.args.seat.now.me.0 m written ordered c.break_promises.new.seat.me.0
+    (subst (λ l. HasBroken c.args.t.0 l [] c.args.seat.now.me.0 c.break_promises.new.seat.me.0)
+    (slice_rest c.items.result.now c.args.rec.owned c.items.ensures) c.in_ok-break_promises.ensures.broken)
+    c.slot_swap.new.seat.me c.close_result.new.seat.me.0 c.without_owned.result c.close_result.new.seat.me.1
+    c.args.seat.now.me.1 c.slot_swap.ensures.me
+    (closed_is (program_of g.B.Body.places g.B.Body.awaits g.B.Body.left g.B.Body.asks g.B.Body.then)
+    c.args.t.0 c.args.rec c.args.seat.now.me.0 m written ordered c.break_promises.new.seat.me.0
+    (subst (λ l. HasBroken c.args.t.0 l [] c.args.seat.now.me.0 c.break_promises.new.seat.me.0)
+    (slice_rest c.items.result.now c.args.rec.owned c.items.ensures) c.in_ok-break_promises.ensures.broken)
+    c.close_result.new.seat.me.0 c.close_result.ensures.view) c.without_owned.ensures
+    (c.close_result.ensures.seat.2 ∙ c.break_promises.ensures.seat.2) in
+    let ended = ended_is (program_of g.B.Body.places g.B.Body.awaits g.B.Body.left g.B.Body.asks g.B.Body.then)
+    c.args.t.0 c.args.rec c.args.seat.now.me.0 m written ordered c.break_promises.new.seat.me.0
+    (subst (λ l. HasBroken c.args.t.0 l [] c.args.seat.now.me.0 c.break_promises.new.seat.me.0)
+    (slice_rest c.items.result.now c.args.rec.owned c.items.ensures) c.in_ok-break_promises.ensures.broken) (rest c.args.seat.now.me.1) c.requires.others
+    c.slot_swap.new.seat.me c.put_phase.new.seat.me laid c.put_phase.ensures.puts in
+    let woke = woke_then (program_of g.B.Body.places g.B.Body.awaits g.B.Body.left g.B.Body.asks g.B.Body.then)
+    c.args.t.0 c.args.rec c.args.seat.now.me.0 m written ordered c.break_promises.new.seat.me.0
+    (subst (λ l. HasBroken c.args.t.0 l [] c.args.seat.now.me.0 c.break_promises.new.seat.me.0)
+    (slice_rest c.items.result.now c.args.rec.owned c.items.ensures) c.in_ok-break_promises.ensures.broken) (rest c.args.seat.now.me.1) c.requires.others
+    c.in_ok-wake.field-0 c.put_phase.new.seat.me c.wake.new.seat.me.0 ended c.in_ok-wake.ensures.woke.woke in
+    let mine : c.wake.new.seat.me.1 ≡ rest c.args.seat.now.me.1
+    = c.wake.ensures.seat.2 ∙ ap (λ m. m.1) ended in
+    same_slots (program_of g.B.Body.places g.B.Body.awaits g.B.Body.left g.B.Body.asks g.B.Body.then)
+    c.args.t.0 c.args.rec c.args.seat.now.me.0 m written ordered c.break_promises.new.seat.me.0
+    (subst (λ l. HasBroken c.args.t.0 l [] c.args.seat.now.me.0 c.break_promises.new.seat.me.0)
+    (slice_rest c.items.result.now c.args.rec.owned c.items.ensures) c.in_ok-break_promises.ensures.broken) (rest c.args.seat.now.me.1) c.requires.others
+    c.in_ok-wake.field-0 c.wake.new.seat.me.0 woke c.live_down.new.seat.me
+    (c.live_down.ensures.me ∙ ap (λ s. lowered_with c.wake.new.seat.me.0 s) mine)

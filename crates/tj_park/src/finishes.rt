@@ -1,0 +1,123 @@
+//! The end of a task. Each promise that it owes is broken, and those who wait for it are woken; then its
+//! result is set or broken. From then on the task has ended, and its record goes home for good. Those
+//! who wait for the result are woken last, by the token that the end of the task gives.
+ghost use Rattle.std.specs.Prelude.{◌≡◌, ◌≢◌, ◌≤◌, [], ◌∷◌, length, None, OnOk, Some};
+ghost use Rattle.atomic_table.specs.Table.{rest};
+ghost use Rattle.tj_body.specs.Programs.{program_of};
+ghost use Rattle.tj_words.specs.SeatSteps.{IsCellOf, IsSameSeat, IsSeatOf};
+ghost use Rattle.tj_park.specs.Breaks.{HasBroken, MayBreak};
+ghost use Rattle.tj_park.specs.Endings.{ClosesResult, HasFinished, MayCloseResult, MayFinish, ended_record};
+ghost use Rattle.tj_park.specs.Records.{HasNoRecord};
+
+use crate::wakes::wake;
+use std::alloc::Global;
+use std::sync::Wait;
+use tj_base::{CellId, Items, Oom};
+use tj_body::{Body, names_and_cells, points_in_rounds};
+use tj_cells::{break_off, fill};
+use tj_ready::Pool;
+use tj_words::{Finish, Laid, Phase, Rec, WSeat};
+
+/// Ends task `t`, as its record says: breaks the promises that it owes, sets or breaks its result, puts
+/// the record home, and wakes those who wait for any of these. After `Oom` the run is to stop.
+pub fn finish<B: Body, P: Pool, R: Wait>(
+    rt: &R,
+    alloc: Global,
+    laid: &Laid<B>,
+    seat: &mut WSeat<B>,
+    t: CellId,
+    rec: Rec<B>,
+    pool: &mut P,
+) -> Result<(), Oom>
+    requires table { IsSeatOf laid.now seat.old }
+    requires few { length seat.old.me.0.born ≤ laid.now.cells }
+    requires slot { seat.old.me.1 ≡ (t.0, None) ∷ rest seat.old.me.1 }
+    requires others { HasNoRecord (rest seat.old.me.1) }
+    requires may { MayFinish (program_of B.places B.awaits B.left B.asks B.then) t.0 rec
+        seat.old.me.0 }
+    requires pool { P.limit pool.old ≡ laid.now.cells }
+    ensures table { seat.new.table_id ≡ seat.old.table_id }
+    ensures id { seat.new.id ≡ seat.old.id }
+    ensures limit { P.limit pool.new ≡ P.limit pool.old }
+    ensures ended { OnOk result (HasFinished t.0 rec seat.old.me.0 seat.new.me.0) }
+    ensures slots { OnOk result (seat.new.me.1 ≡ rest seat.old.me.1) }
+{
+    points_in_rounds::<B>();
+    names_and_cells();
+    break_promises(rt, alloc, laid, seat, t, &rec.owned.items()[1..], pool)?;
+    close_result(laid, seat, t, rec.finish);
+    drop(laid.slot_swap(seat, t, Some(without_owned(alloc, rec))));
+    laid.put_phase(seat, t, Phase::Ended);
+    wake(rt, alloc, laid, seat, t, pool)?;
+    laid.live_down(seat);
+    Ok(())
+}
+
+// Breaks these promises of the task, and wakes those who wait for them.
+fn break_promises<B: Body, P: Pool, R: Wait>(
+    rt: &R,
+    alloc: Global,
+    laid: &Laid<B>,
+    seat: &mut WSeat<B>,
+    t: CellId,
+    promises: &[CellId],
+    pool: &mut P,
+) -> Result<(), Oom>
+    requires table { IsSeatOf laid.now seat.old }
+    requires few { length seat.old.me.0.born ≤ laid.now.cells }
+    requires slots { HasNoRecord seat.old.me.1 }
+    requires may { MayBreak (program_of B.places B.awaits B.left B.asks B.then) t.0 promises.now
+        seat.old.me.0 }
+    requires pool { P.limit pool.old ≡ laid.now.cells }
+    ensures seat { IsSameSeat seat.old seat.new }
+    ensures limit { P.limit pool.new ≡ P.limit pool.old }
+    ensures broken { OnOk result (HasBroken t.0 promises.now [] seat.old.me.0 seat.new.me.0) }
+{
+    for p in promises {
+        break_off(laid, seat, t, *p);
+        wake(rt, alloc, laid, seat, *p, pool)?;
+    }
+    Ok(())
+}
+
+// Sets the result of a task that ends well, and breaks that of one that fails.
+fn close_result<B: Body>(laid: &Laid<B>, seat: &mut WSeat<B>, t: CellId, finish: Option<Finish>)
+    requires table { IsSeatOf laid.now seat.old }
+    requires cell { IsCellOf laid.now t.0 }
+    requires may { MayCloseResult (program_of B.places B.awaits B.left B.asks B.then) t.0 finish
+        seat.old.me.0 }
+    ensures seat { IsSameSeat seat.old seat.new }
+    ensures view { ClosesResult t.0 finish seat.old.me.0 seat.new.me.0 }
+{
+    if let Some(f) = finish {
+        close_by(laid, seat, t, f);
+    }
+}
+
+fn close_by<B: Body>(laid: &Laid<B>, seat: &mut WSeat<B>, t: CellId, f: Finish)
+    requires table { IsSeatOf laid.now seat.old }
+    requires cell { IsCellOf laid.now t.0 }
+    requires may { MayCloseResult (program_of B.places B.awaits B.left B.asks B.then) t.0 (Some f)
+        seat.old.me.0 }
+    ensures seat { IsSameSeat seat.old seat.new }
+    ensures view { ClosesResult t.0 (Some f) seat.old.me.0 seat.new.me.0 }
+{
+    match f {
+        Finish::Done(v) => fill(laid, seat, t, t, v),
+        Finish::Failed(_) => break_off(laid, seat, t, t),
+    }
+}
+
+// The record of a task that has ended: what it owned beside its result, it owes.
+fn without_owned<B>(alloc: Global, rec: Rec<B>) -> Rec<B>
+    requires some { rec.owned ≢ [] }
+    ensures { result ≡ ended_record rec }
+{
+    let mut owed = rec.owned.into_vec();
+    owed.remove(0);
+    Rec {
+        owned: Items::of(Vec::new(alloc)),
+        owed: Items::of(owed),
+        ..rec
+    }
+}
