@@ -1,5 +1,6 @@
 -- The view of a seat as it makes a cell, step by step.
-use Rattle.std.proofs.Common.{◌≡◌, ◌≢◌, ◌⊎◌, ◌∙◌, ℕ, zero, suc, ◌+◌, ◌≤◌, cond, Bool, true, List, [], ◌∷◌, ◌++◌, length, Some, refl, sym, ap, subst, arith, inl, inr, ⊎_elim, eq-eqb}
+use Rattle.std.proofs.Common.{◌≡◌, ◌≢◌, ◌⊎◌, ◌∙◌, ℕ, zero, suc, ◌+◌, ◌≤◌, cond, Bool, true, List, [], ◌∷◌, ◌++◌, length}
+use Rattle.std.proofs.Common.{Some, refl, sym, ap, subst, arith, inl, inr, ⊎_elim, eq-eqb}
 use mathlib.Core.Option.{some}
 use lib.ListN.{get_elem?}
 use Rattle.tj_base.specs.declared.cell.Sort.{Sort}
@@ -16,9 +17,10 @@ use Rattle.tj_words.specs.declared.view.SeenWord.{SeenWord}
 use Rattle.tj_words.specs.declared.view.View.{View}
 use Rattle.tj_words.specs.Lists.{All}
 use Rattle.tj_words.specs.Holding.{held_in}
-use Rattle.tj_words.specs.TreeWords.{IsCell, IsDue}
+use Rattle.tj_words.specs.TreeWords.{IsCell, IsDue, AreCells}
 use Rattle.tj_words.specs.SeenWords.{IsTaskIn, MayReadTree, ShowsNode, seen_word}
-use Rattle.tj_words.specs.DrawViews.{FindsCell, MayGive, MayMark, MayWrite, drawn_next, gave_owner, marked_promise, new_dues, new_hand, new_task, new_tasks, runs_on, without_due, wrote_word}
+use Rattle.tj_words.specs.DrawViews.{FindsCell, MayGive, MayMark, MayWrite, drawn_next, gave_owner, marked_promise}
+use Rattle.tj_words.specs.DrawViews.{new_dues, new_hand, new_task, new_tasks, runs_on, without_due, wrote_word}
 use Rattle.tj_words.specs.TaskLists.{noted}
 use Rattle.tj_words.specs.TreeReads.{HasReadTree}
 use Rattle.tj_words.proofs.Merging.{begins_at}
@@ -96,6 +98,7 @@ module _ {B : Type 0} (program : Bool → B → Program B) (cells t kid : ℕ) (
       begins = d.begins;
       next = d.next;
       small = d.small;
+      all = d.all;
       fresh = d.fresh;
       view = f ∙ (ap (wrote_word c once.Kid kid) (e ∙ (λ i. wrote_word c once.Parent (m i) (d.view i)))
           ∙ (λ i. record (drew_named t kid o c d.born v) { dues = named_dues c o v.dues d.fresh i }));
@@ -131,6 +134,7 @@ module _ {B : Type 0} (program : Bool → B → Program B) (cells t kid : ℕ) (
             new = let n = begins_short v.born d.born d.begins in let e = d.next in omega arith;
             begins = begins_trans v.born d.born (d.born ++ drawn_next t sort.Promise v ∷ []) d.begins
                 (begins_more d.born (drawn_next t sort.Promise v ∷ []));
+            all = d.all;
             is = last_at d.born (drawn_next t sort.Promise v) c d.next;
             tasks = promise_notes v.tasks t may.draw.has may.draw.held c;
             known = refl;
@@ -165,7 +169,7 @@ module _ {B : Type 0} (program : Bool → B → Program B) (cells t kid : ℕ) (
       i.2,
     )
 
-    module _ (v3 : View B) (p : WritesPlace c v2 v3) where
+    module _ (v3 : View B) (p : WritesPlace cells c v2 v3) where
       -- all but what was read of the tree is as it was drawn
       abbrev read_as : View B → View B
       read_as u = record u {
@@ -221,6 +225,7 @@ module _ {B : Type 0} (program : Bool → B → Program B) (cells t kid : ℕ) (
             begins = begins_trans v.born (d.born ++ drawn_next t sort.Task v ∷ []) p.read.born
                 (begins_trans v.born d.born (d.born ++ drawn_next t sort.Task v ∷ []) d.begins
                 (begins_more d.born (drawn_next t sort.Task v ∷ []))) begins_read;
+            all = p.reads.all (subst (λ (u : View B). AreCells cells u.born) (sym d.view) d.all);
             is = child_is;
             tasks = task_notes v.tasks t may.draw.has may.draw.held c (maker_apart d.born c d.begins d.next);
             known = refl;
@@ -259,45 +264,46 @@ module _ {B : Type 0} (program : Bool → B → Program B) (cells t kid : ℕ) (
           in_behind (x ∷ l) = inr (in_behind l)
 
 -- DEPTH and JUMP of a task in hand, once the nodes of its maker and of two tasks above were read
-module _ {B : Type 0} (t c : ℕ) (v0 v1 : View B) (hand : HasInHand t c v0) (reads : HasReadTree v0 v1) where
-  hand_read : v1.hand ≡ Some (new_hand c t sort.Task)
-  hand_read = ap (λ (u : View B). u.hand) reads.rest ∙ hand.hand
+module _ {B : Type 0} (cells t c : ℕ) (v0 v1 : View B) (hand : HasInHand t c v0) (reads : HasReadTree cells v0 v1)
+  where
+    hand_read : v1.hand ≡ Some (new_hand c t sort.Task)
+    hand_read = ap (λ (u : View B). u.hand) reads.rest ∙ hand.hand
 
-  dues_read : v1.dues ≡ dues_left c sort.Task ++ hand.left
-  dues_read = ap (λ (u : View B). u.dues) reads.rest ∙ hand.dues
+    dues_read : v1.dues ≡ dues_left c sort.Task ++ hand.left
+    dues_read = ap (λ (u : View B). u.dues) reads.rest ∙ hand.dues
 
-  pub may_depth : (n : ℕ) → InEachTree (ShowsNode v1.seen) (λ forks. n ≡ suc (node_of forks t).depth)
-      → MayWrite c once.Depth n v1
-  may_depth n right = record {
-    hand = new_hand c t sort.Task;
-    has = hand_read;
-    its_cell = refl;
-    due = subst (IsDue c once.Depth) (sym dues_read) (inl refl);
-    right = (refl, right);
-  }
+    pub may_depth : (n : ℕ) → InEachTree (ShowsNode v1.seen) (λ forks. n ≡ suc (node_of forks t).depth)
+        → MayWrite c once.Depth n v1
+    may_depth n right = record {
+      hand = new_hand c t sort.Task;
+      has = hand_read;
+      its_cell = refl;
+      due = subst (IsDue c once.Depth) (sym dues_read) (inl refl);
+      right = (refl, right);
+    }
 
-  -- a node that was shown still is, with one word more
-  shows_more : (w : SeenWord) (n : ℕ) (node : Node) → ShowsNode v1.seen n node → ShowsNode (w ∷ v1.seen) n node
-  shows_more w n node s = record {
-    parent = s.parent;
-    parent_seen = inr s.parent_seen;
-    parent_is = s.parent_is;
-    kid = inr s.kid;
-    depth = inr s.depth;
-    jump = inr s.jump;
-  }
+    -- a node that was shown still is, with one word more
+    shows_more : (w : SeenWord) (n : ℕ) (node : Node) → ShowsNode v1.seen n node → ShowsNode (w ∷ v1.seen) n node
+    shows_more w n node s = record {
+      parent = s.parent;
+      parent_seen = inr s.parent_seen;
+      parent_is = s.parent_is;
+      kid = inr s.kid;
+      depth = inr s.depth;
+      jump = inr s.jump;
+    }
 
-  pub may_jump : (v2 : View B) (d : ℕ) → v2 ≡ wrote_word c once.Depth d v1 → (n : ℕ)
-      → InEachTree (ShowsNode v1.seen) (λ forks. n ≡ suc (child_jump_of t forks)) → MayWrite c once.Jump n v2
-  may_jump v2 d e n right = subst (MayWrite c once.Jump n) (sym e) (record {
-    hand = new_hand c t sort.Task;
-    has = hand_read;
-    its_cell = refl;
-    due = due_still c once.Depth v1.dues (due_of c once.Jump)
-        (subst (IsDue c once.Jump) (sym dues_read) (inr (inl refl)))
-        (λ q. let z : once.Jump ≡ once.Depth = same_word c c once.Depth once.Jump q in cc);
-    right = (
-      refl,
-      (λ forks h has. right forks h (λ m node k. has m node (shows_more (seen_word c once.Depth d) m node k))),
-    );
-  })
+    pub may_jump : (v2 : View B) (d : ℕ) → v2 ≡ wrote_word c once.Depth d v1 → (n : ℕ)
+        → InEachTree (ShowsNode v1.seen) (λ forks. n ≡ suc (child_jump_of t forks)) → MayWrite c once.Jump n v2
+    may_jump v2 d e n right = subst (MayWrite c once.Jump n) (sym e) (record {
+      hand = new_hand c t sort.Task;
+      has = hand_read;
+      its_cell = refl;
+      due = due_still c once.Depth v1.dues (due_of c once.Jump)
+          (subst (IsDue c once.Jump) (sym dues_read) (inr (inl refl)))
+          (λ q. let z : once.Jump ≡ once.Depth = same_word c c once.Depth once.Jump q in cc);
+      right = (
+        refl,
+        (λ forks h has. right forks h (λ m node k. has m node (shows_more (seen_word c once.Depth d) m node k))),
+      );
+    })

@@ -1,5 +1,6 @@
 -- The value of a cell, by TAG and BITS as they were loaded.
-use Rattle.std.proofs.Common.{◌≡◌, ◌≢◌, ◌∙◌, ℕ, ◌<◌, ◌≤◌, ◌^◌, Bool, List, length, Option, Some, None, refl, sym, ap, subst, arith, inl, ⊎_elim}
+use Rattle.std.proofs.Common.{◌≡◌, ◌≢◌, ◌∙◌, ℕ, ◌<◌, ◌≤◌, ◌^◌, Bool, List, length, Option, Some, None}
+use Rattle.std.proofs.Common.{refl, sym, ap, subst, arith, inl, ⊎_elim}
 use Rattle.tj_base.specs.declared.cell.Sort.{Sort}
 use Rattle.tj_base.specs.declared.cell.Sort.TheVariants as sort
 use Rattle.tj_body.specs.Points.{Begins, IsIn}
@@ -77,8 +78,8 @@ module _ {B : Type 0} (program : Bool → B → Program B) (cells p tag bits : �
 
   -- BITS fits a cell where it is one
   pub bits_fit : cells < 2 ^ 32 → NamesCell tag → bits < 2 ^ 32
-  bits_fit few names = let l = bits_small read.born bits cells e said.0 read.few (subst NamesCell found.tag names) in
-      omega arith
+  bits_fit few names =
+      let l = bits_small read.born bits cells e said.0 read.all.few (subst NamesCell found.tag names) in omega arith
 
   pub sees_value : (o : Option Fill) (s : Seen) → o ≡ fill_in tag bits → s ≡ seen_in o
       → SeesValue program cells p s v0 v2
@@ -88,7 +89,7 @@ module _ {B : Type 0} (program : Bool → B → Program B) (cells p tag bits : �
         born = read.born;
         reference = found.reference;
         begins = begins_trans v0.born found.born read.born found.begins on;
-        few = read.few;
+        all = read.all;
         is = begins_at found.born read.born on p found.reference found.is;
         becomes = found.becomes;
         same = found.same;

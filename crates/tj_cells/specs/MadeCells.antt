@@ -10,7 +10,7 @@ use Rattle.tj_words.specs.declared.view.Does.TheVariants as does
 use Rattle.tj_words.specs.declared.view.Custody.{Custody}
 use Rattle.tj_words.specs.declared.view.SeenWord.{SeenWord}
 use Rattle.tj_words.specs.declared.view.View.{View}
-use Rattle.tj_words.specs.TreeWords.{IsCell}
+use Rattle.tj_words.specs.TreeWords.{IsCell, AreCells}
 use Rattle.tj_words.specs.TaskLists.{hold, noted}
 use Rattle.tj_words.specs.SeenWords.{seen_word}
 use Rattle.tj_words.specs.DrawViews.{MayDraw, drawn_next}
@@ -56,6 +56,7 @@ module _ {B : Type 0} where
     pub small : c < cells
     pub new : length v.born ≤ c
     pub begins : Begins v.born w.born
+    pub all : AreCells cells w.born
     pub is : IsCell w.born c (drawn_next t o v)
     pub tasks : w.tasks ≡ made_tasks o t c v.tasks
     pub known : w.known ≡ c ∷ v.known

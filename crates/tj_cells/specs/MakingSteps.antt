@@ -10,6 +10,7 @@ use Rattle.tj_words.specs.declared.offsets.Once.TheVariants as once
 use Rattle.tj_words.specs.declared.view.Due.{Due}
 use Rattle.tj_words.specs.declared.view.View.{View}
 use Rattle.tj_words.specs.Lists.{All}
+use Rattle.tj_words.specs.TreeWords.{AreCells}
 use Rattle.tj_words.specs.TaskLists.{noted}
 use Rattle.tj_words.specs.SeenWords.{seen_word}
 use Rattle.tj_words.specs.DrawViews.{drawn_next, new_hand, new_tasks, runs_on, wrote_word}
@@ -42,6 +43,7 @@ module _ {B : Type 0} where
     pub begins : Begins v.born born
     pub next : length born ≡ c
     pub small : c < cells
+    pub all : AreCells cells (born ++ drawn_next t o v ∷ [])
     pub fresh : All (λ (d : Due). d.cell ≢ c) v.dues
     pub view : w ≡ drew_named t kid o c born v
 
@@ -53,9 +55,9 @@ module _ {B : Type 0} where
     pub fresh : All (λ (d : Due). d.cell ≢ c) left
 
   -- the nodes of t and of two tasks above it were read, and DEPTH and JUMP of c are written
-  pub record WritesPlace (c : ℕ) (v w : View B) : Type 0 where
+  pub record WritesPlace (cells c : ℕ) (v w : View B) : Type 0 where
     pub read : View B
-    pub reads : HasReadTree v read
+    pub reads : HasReadTree cells v read
     pub loads : read.once_loads ≡ 12 + v.once_loads
     pub depth : ℕ
     pub jump : ℕ

@@ -13,7 +13,7 @@ use Rattle.tj_words.specs.declared.record.Fill.TheVariants as fill
 use Rattle.tj_words.specs.declared.view.Filled.{Filled}
 use Rattle.tj_words.specs.declared.view.View.{View}
 use Rattle.tj_words.specs.Lists.{All}
-use Rattle.tj_words.specs.TreeWords.{IsCell}
+use Rattle.tj_words.specs.TreeWords.{IsCell, AreCells}
 use Rattle.tj_words.specs.SeenWords.{WillHave}
 use Rattle.tj_cells.specs.declared.seen.Seen.{Seen}
 use Rattle.tj_cells.specs.declared.seen.Seen.TheVariants as seen
@@ -59,7 +59,7 @@ module _ {B : Type 0} where
     pub born : List Reference
     pub reference : Reference
     pub begins : Begins v.born born
-    pub few : length born ≤ cells
+    pub all : AreCells cells born
     pub is : IsCell born p reference
     pub becomes : WillHave program v reference.name entry
     pub same : All (λ (f : Filled). f.cell ≡ p → f.entry ≡ entry) v.filled

@@ -36,8 +36,8 @@ pub fn break_off<B: Body>(laid: &Laid<B>, seat: &mut WSeat<B>, t: CellId, p: Cel
     ensures seat { IsSameSeat seat.old seat.new }
     ensures view { seat.new.me.0 ≡ became t.0 p.0 Broken seat.old.me.0 }
 {
-    let (tag, _) = value_words(None);
+    let (tag, nothing) = value_words(None);
     laid.put_owner(seat, p, None);
-    laid.put_once(seat, p, Once::Bits, 0);
+    laid.put_once(seat, p, Once::Bits, nothing);
     laid.put_once(seat, p, Once::Tag, tag);
 }

@@ -117,7 +117,7 @@ fn put_place<B: Body>(laid: &Laid<B>, seat: &mut WSeat<B>, t: CellId, c: CellId)
     requires cell { IsCellOf laid.now c.0 }
     requires hand { HasInHand t.0 c.0 seat.old.me.0 }
     ensures seat { IsSameSeat seat.old seat.new }
-    ensures place { WritesPlace c.0 seat.old.me.0 seat.new.me.0 }
+    ensures place { WritesPlace laid.now.cells c.0 seat.old.me.0 seat.new.me.0 }
 {
     let maker = laid.see_node(seat, t);
     let jump = child_jump(laid, seat, t, maker);
@@ -132,7 +132,7 @@ fn child_jump<B: Body>(laid: &Laid<B>, seat: &mut WSeat<B>, t: CellId, node: Nod
     requires look { MayLook laid.now seat.old node.jump.0 }
     ensures jump { InEachTree (TreeShown seat.new) (λ forks. result.0 ≡ child_jump_of t.0 forks) }
     ensures loads { seat.new.me.0.once_loads ≡ seat.old.me.0.once_loads + 8 }
-    ensures later { IsLater seat.old seat.new }
+    ensures later { IsLater laid.now.cells seat.old seat.new }
 {
     let near = laid.see_node(seat, CellId(node.jump.0));
     let far = laid.see_node(seat, CellId(near.jump.0));

@@ -32,7 +32,7 @@ pub(crate) fn is_before<B: Body, L: Ledger>(
         → steps.new ≤ steps.old + (16 * digits + 16)) }
     ensures loads { seat.new.me.0.once_loads + 4 * steps.old
         ≡ seat.old.me.0.once_loads + 4 * steps.new }
-    ensures later { IsLater seat.old seat.new }
+    ensures later { IsLater laid.now.cells seat.old seat.new }
 {
     let a = visit(laid, seat, a, steps);
     let b = visit(laid, seat, b, steps);
@@ -59,7 +59,7 @@ fn visit<B: Body, L: Ledger>(
     ensures loads { seat.new.me.0.once_loads ≡ seat.old.me.0.once_loads + 4 }
     ensures goes_on { GoesOn (TreeShown seat.old) (MayLook laid.now seat.old)
         (TreeShown seat.new) (MayLook laid.now seat.new) }
-    ensures later { IsLater seat.old seat.new }
+    ensures later { IsLater laid.now.cells seat.old seat.new }
 {
     let node = laid.see_node(seat, CellId(task.0));
     steps.tick();
@@ -88,7 +88,7 @@ fn lifted<B: Body, L: Ledger>(
     ensures known { IsKnown (TreeShown seat.new) (MayLook laid.now seat.new) result }
     ensures goes_on { GoesOn (TreeShown seat.old) (MayLook laid.now seat.old)
         (TreeShown seat.new) (MayLook laid.now seat.new) }
-    ensures later { IsLater seat.old seat.new }
+    ensures later { IsLater laid.now.cells seat.old seat.new }
 {
     let mut at = from;
     while depth < at.node.depth {
@@ -115,7 +115,7 @@ fn higher<B: Body, L: Ledger>(
     ensures known { IsKnown (TreeShown seat.new) (MayLook laid.now seat.new) result }
     ensures goes_on { GoesOn (TreeShown seat.old) (MayLook laid.now seat.old)
         (TreeShown seat.new) (MayLook laid.now seat.new) }
-    ensures later { IsLater seat.old seat.new }
+    ensures later { IsLater laid.now.cells seat.old seat.new }
 {
     let jump = visit(laid, seat, at.node.jump, steps);
     if depth <= jump.node.depth {
@@ -153,7 +153,7 @@ fn parted<B: Body, L: Ledger>(
     ensures b_known { IsKnown (TreeShown seat.new) (MayLook laid.now seat.new) result.1 }
     ensures goes_on { GoesOn (TreeShown seat.old) (MayLook laid.now seat.old)
         (TreeShown seat.new) (MayLook laid.now seat.new) }
-    ensures later { IsLater seat.old seat.new }
+    ensures later { IsLater laid.now.cells seat.old seat.new }
 {
     let (mut x, mut y) = (a, b);
     while x.node.parent.0 != y.node.parent.0 {

@@ -27,7 +27,7 @@ pub fn way_of<B: Body, L: Ledger>(
     requires t_known { KnowsTask t.0 seat.old.me.0 }
     requires u_known { KnowsTask u.0 seat.old.me.0 }
     ensures seat { IsSameSeat seat.old seat.new }
-    ensures view { HasReadTree seat.old.me.0 seat.new.me.0 }
+    ensures view { HasReadTree laid.now.cells seat.old.me.0 seat.new.me.0 }
     ensures way { result ≡ way_by seat.new.me.0.born t.0 u.0 }
     ensures loads { seat.new.me.0.once_loads + 4 * steps.old
         ≡ seat.old.me.0.once_loads + 4 * steps.new }

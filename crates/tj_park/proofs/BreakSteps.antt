@@ -1,5 +1,5 @@
 -- A promise that a task owes is broken, and those who wait for it are woken.
-use Rattle.std.proofs.Common.{◌≡◌, ◌≢◌, ◌⊎◌, ℕ, suc, ◌+◌, ◌<◌, ◌≤◌, Bool, cond, List, [], ◌∷◌, length, Option, Some, None}
+use Rattle.std.proofs.Common.{◌≡◌, ◌⊎◌, ℕ, ◌+◌, ◌<◌, ◌≤◌, Bool, cond, List, [], ◌∷◌, length, Some, None}
 use Rattle.std.proofs.Common.{refl, sym, ap, ◌∙◌, subst, inl, inr, ⊎_elim, arith, eq-eqb, ne_eqb, drop, get_or}
 use Rattle.std.proofs.lemmas.List.{drop_all, drop_more}
 use mathlib.Core.Logic.{dite}
@@ -220,3 +220,9 @@ module _ {B : Type 0} (t : ℕ) (promises : List CellId) (i : ℕ) (v w : View B
   -- none is left
   pub none_left : length promises ≤ i → HasBroken t promises [] v w
   none_left most = subst (λ l. HasBroken t promises l v w) (drop_all i promises most) h
+
+-- of which table the seat is stays known, where a promise was broken and some were woken
+pub about_kept : {B : Type 0} (p n : ℕ) (left : List ℕ) (t : ℕ) (v v1 v2 v3 : View B) → v1.about ≡ v.about
+    → v2 ≡ became t p entry.Broken v1 → HasWoken p n left v2 v3 → v3.about ≡ v.about
+about_kept {B} p n left t v v1 v2 v3 e broke woke = ap (λ (u : View B). u.about) woke.view
+    ∙ (ap (λ (u : View B). u.about) broke ∙ e)

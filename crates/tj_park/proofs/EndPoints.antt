@@ -1,7 +1,7 @@
 -- The point at which a task ends, and the record that tells it: the result stands first among the owned cells, each
 -- promise that is owed is to be broken, and the record tells the ended point once these cells are closed.
-use Rattle.std.proofs.Common.{◌≡◌, ◌⊎◌, ℕ, List, [], ◌∷◌, ◌++◌, map, drop, Option, Some, None}
-use Rattle.std.proofs.Common.{refl, sym, ap, ◌∙◌, subst, inl, inr, ⊎_elim}
+use Rattle.std.proofs.Common.{◌≡◌, ℕ, List, [], ◌∷◌, map, drop, Some}
+use Rattle.std.proofs.Common.{refl, sym, ap, subst, inl, inr, ⊎_elim}
 use Rattle.tj_base.specs.ForkOrder.{Name}
 use Rattle.tj_base.specs.declared.cell.CellId.{CellId}
 use Rattle.tj_body.specs.History.{after_close, owned_in, to_task, with_entry}
@@ -15,7 +15,6 @@ use Rattle.tj_body.specs.declared.point.Entry.TheVariants as entry
 use Rattle.tj_body.specs.declared.point.Point.{Point}
 use Rattle.tj_body.specs.declared.point.PointStage.{PointStage}
 use Rattle.tj_body.specs.declared.point.PointStage.TheVariants as stage
-use Rattle.tj_body.specs.declared.point.Reference.{Reference}
 use Rattle.tj_body.proofs.Lists.{in_right, in_either, in_map, to_map}
 use Rattle.tj_words.specs.declared.record.Finish.{Finish}
 use Rattle.tj_words.specs.declared.record.Rec.{Rec}
@@ -23,7 +22,7 @@ use Rattle.tj_words.specs.declared.view.Filled.{Filled}
 use Rattle.tj_words.specs.declared.view.View.{View}
 use Rattle.tj_words.specs.KnownEntries.{HasSeen, IsToBecome, ToldBy}
 use Rattle.tj_words.specs.KnowsMore.{AreAmong}
-use Rattle.tj_words.specs.Lists.{All, cell, numbers}
+use Rattle.tj_words.specs.Lists.{All, cell}
 use Rattle.tj_words.specs.Meaning.{HasCell}
 use Rattle.tj_words.specs.Telling.{ArePairs, HasName, TellsStage}
 use Rattle.tj_words.specs.TreeWords.{IsCell}

@@ -1,10 +1,9 @@
 -- The steps by which a task ends, once its promises are broken: its result is closed, its record goes home, those who
 -- wait for the result are woken, and the token is given up.
-use Rattle.std.proofs.Common.{◌≡◌, ◌≢◌, ◌⊎◌, ℕ, suc, ◌+◌, ◌-◌, ◌<◌, ◌≤◌, Bool, List, [], ◌∷◌, ◌++◌, length, map, take, drop, Option, Some, None}
+use Rattle.std.proofs.Common.{◌≡◌, ◌≢◌, ◌⊎◌, ℕ, ◌+◌, ◌-◌, ◌<◌, ◌≤◌, Bool}
+use Rattle.std.proofs.Common.{List, [], ◌∷◌, length, map, take, drop, Some, None}
 use Rattle.std.proofs.Common.{refl, sym, ap, ◌∙◌, subst, inl, inr, ⊎_elim, arith}
 use Rattle.std.proofs.lemmas.List.{take_rest}
-use mathlib.Core.Logic.{dite}
-use native.Mathlib.Decide.{ℕ_discrete}
 use Rattle.atomic_table.specs.Table.{rest}
 use Rattle.tj_base.specs.declared.cell.CellId.{CellId}
 use Rattle.tj_body.specs.History.{to_task}
@@ -15,21 +14,18 @@ use Rattle.tj_body.specs.RoundPoints.{WritesBecome}
 use Rattle.tj_body.specs.declared.point.Close.{Close}
 use Rattle.tj_body.specs.declared.point.Entry.{Entry}
 use Rattle.tj_body.specs.declared.point.Entry.TheVariants as entry
-use Rattle.tj_body.specs.declared.point.Reference.{Reference}
 use Rattle.tj_body.proofs.Lists.{in_left, in_right, in_either}
 use Rattle.tj_words.specs.declared.offsets.Once.TheVariants as once
 use Rattle.tj_words.specs.declared.record.Finish.{Finish}
 use Rattle.tj_words.specs.declared.record.Held.{Held}
 use Rattle.tj_words.specs.declared.record.Rec.{Rec}
-use Rattle.tj_words.specs.declared.view.Custody.{Custody}
 use Rattle.tj_words.specs.declared.view.View.{View}
 use Rattle.tj_words.specs.DrawViews.{without_due}
-use Rattle.tj_words.specs.Holding.{held_in}
 use Rattle.tj_words.specs.KnownEntries.{HasSeen, IsToBecome, ToldBy}
 use Rattle.tj_words.specs.KnowsMore.{KnowsMore}
 use Rattle.tj_words.specs.Lists.{AreApart, cell, numbers, without}
 use Rattle.tj_words.specs.LiveCount.{Backing, HasAlarmed, Holds}
-use Rattle.tj_words.specs.LiveViews.{IfRecord, MayEnd, MayLowerLive, Shelves, SlotsOf, ended, lowered_with}
+use Rattle.tj_words.specs.LiveViews.{MayEnd, MayLowerLive, Shelves, SlotsOf, ended, lowered_with}
 use Rattle.tj_words.specs.NamedCells.{finish_cells, record_cells}
 use Rattle.tj_words.specs.OwnerViews.{gave_up}
 use Rattle.tj_words.specs.ParkSteps.{with_tokens}
@@ -39,38 +35,19 @@ use Rattle.tj_words.specs.Telling.{FinishSays}
 use Rattle.tj_words.proofs.ChainLists.{no_some}
 use Rattle.tj_words.proofs.LiveSteps.{backing_idle}
 use Rattle.tj_words.proofs.SeatLists.{inside}
-use Rattle.tj_words.proofs.SeatTasks.{let_go_here, let_go_else}
 use Rattle.tj_cells.specs.FilledCells.{became}
-use Rattle.tj_park.specs.Breaks.{HasBroken, MayBreak, OwnsStill}
+use Rattle.tj_park.specs.Breaks.{HasBroken, MayBreak}
 use Rattle.tj_park.specs.Endings.{HasFinished, MayCloseResult, MayFinish, ended_record, result_of}
-use Rattle.tj_park.specs.Records.{AlarmsLeave, HasNoRecord}
+use Rattle.tj_park.specs.Records.{HasNoRecord}
 use Rattle.tj_park.specs.Wakes.{HasWoken, MayWake}
 use Rattle.tj_park.proofs.BreakSteps.{without_first, held_closed, others_closed, alarms_closed}
+use Rattle.tj_park.proofs.LeftTasks.{holds_before}
+use Rattle.tj_park.proofs.ParkedViews.{lowered_alone, no_record}
 use Rattle.tj_park.proofs.EndPoints.{its_name, result_first, to_break, result_becomes, told_ended}
 
 -- all of a list but its first, as a slice
 pub slice_rest : (l m : List CellId) → l ≡ m → take (length l - 1) (drop 1 l) ≡ drop 1 m
 slice_rest l m e = take_rest l 1 ∙ ap (drop 1) e
-
--- LIVE down, where nothing lies in the slot that was taken last
-pub lowered_plain : {B : Type 0} (v : View B) (slots : SlotsOf B) → HasNoRecord slots
-    → lowered_with v slots ≡ (with_tokens (v.tokens - 1) v, slots)
-lowered_plain v [] h = refl
-lowered_plain v ((t, None) ∷ slots) h = refl
-lowered_plain v ((t, Some r) ∷ slots) h = absurd h
-
-none_shelved : {B : Type 0} (F : ℕ → Rec B → Type 0) (l : SlotsOf B) → HasNoRecord l → IfRecord F l
-none_shelved F [] h = tt
-none_shelved F ((u, None) ∷ l) h = tt
-none_shelved F ((u, Some r) ∷ l) h = absurd h
-
--- a seat that lets a task go holds no other that has alarmed
-pub alarms_let_go : {B : Type 0} (t : ℕ) (v w : View B) → w.tasks ≡ let_go t v.tasks → Holds HasAlarmed w
-    → Holds HasAlarmed v
-alarms_let_go t v w e a = dite (ℕ_discrete a.0 t)
-    (λ q. no_some (ap (λ u. held_in (let_go t v.tasks) u) q ∙ let_go_here t v.tasks)
-    (ap (λ l. held_in l a.0) (sym e) ∙ a.2))
-    (λ n. (a.0, a.1, sym (let_go_else t a.0 v.tasks n) ∙ (ap (λ l. held_in l a.0) (sym e) ∙ a.2), a.3))
 
 -- the cells that the record names once the task has ended are cells that it named
 ended_cells : {B : Type 0} (r : Rec B) (c : ℕ) → IsIn c (record_cells (ended_record r)) → IsIn c (record_cells r)
@@ -185,7 +162,8 @@ module _ {B : Type 0} (program : Bool → B → Program B) (t : ℕ) (r : Rec B)
 
     ended_known : (c : ℕ) → IsIn c (record_cells (ended_record r)) → IsIn c v1.known
     ended_known c i = ⊎_elim (λ j. named_known c j)
-        (λ (j : IsIn c (numbers (drop 1 r.owned))). named_known c (inr (in_right c (map (λ (k : Held). k.cell.0) r.held) _
+        (λ (j : IsIn c (numbers (drop 1 r.owned))).
+        named_known c (inr (in_right c (map (λ (k : Held). k.cell.0) r.held) _
         (in_left c (numbers r.owned) _ (subst (IsIn c) (sym owned_numbers) (inr j)))))) (ended_cells r c i)
 
     module _ (slots : SlotsOf B) (none : HasNoRecord slots) where
@@ -241,6 +219,12 @@ module _ {B : Type 0} (program : Bool → B → Program B) (t : ℕ) (r : Rec B)
           → HasWoken t n [] (ended t closed) v5
       woke_then n m4 v5 e k = subst (λ (m : SeatMe B). HasWoken t n [] m.0 v5) e k
 
+      -- of which table the seat is stays known, where some were woken
+      pub about_woken : (n : ℕ) (left : List ℕ) (m4 : SeatMe B) (v5 : View B) → m4 ≡ (ended t closed, slots)
+          → HasWoken t n left m4.0 v5 → v5.about ≡ v.about
+      about_woken n left m4 v5 e k = ap (λ (u : View B). u.about) k.view
+          ∙ (ap (λ (m : SeatMe B). m.0.about) e ∙ h.knows.about)
+
       no_dues : without_due t once.Tag (without_due t once.Bits v1.dues) ≡ []
       no_dues = ap (λ d. without_due t once.Tag (without_due t once.Bits d)) h.idle.dues
 
@@ -265,7 +249,7 @@ module _ {B : Type 0} (program : Bool → B → Program B) (t : ℕ) (r : Rec B)
 
         alarms_last : Holds HasAlarmed last → 0 < last.tokens
         alarms_last a = let k = alarms_closed t t result_entry v1 h.owns.custody h.owns.held h.alarms
-            (alarms_let_go t closed last refl a) in omega arith
+            (holds_before HasAlarmed t closed a) in omega arith
 
         backing_last : Backing last
         backing_last = backing_idle last h.idle.pushes no_shuts refl
@@ -274,8 +258,8 @@ module _ {B : Type 0} (program : Bool → B → Program B) (t : ℕ) (r : Rec B)
         pub may_lower : MayLowerLive program (v5, slots)
         may_lower = subst (λ (x : View B). MayLowerLive program (x, slots)) (sym woke.view) (record {
           token = (omega arith);
-          shelves = none_shelved (λ u k. Shelves program u k (woken, slots)) slots none;
-          backing = subst (λ (m : View B × SlotsOf B). Backing m.0) (sym (lowered_plain woken slots none)) backing_last;
+          shelves = no_record (λ u k. Shelves program u k (woken, slots)) slots none;
+          backing = subst (λ (m : View B × SlotsOf B). Backing m.0) (sym (lowered_alone woken slots none)) backing_last;
         })
 
         knows_last : KnowsMore v last
@@ -294,6 +278,7 @@ module _ {B : Type 0} (program : Bool → B → Program B) (t : ℕ) (r : Rec B)
         finished_last : HasFinished t r v last
         finished_last = record {
           knows = knows_last;
+          born = h.born;
           tasks = tasks_last;
           hand = record { hand = h.hand.hand; dues = no_dues ∙ sym may.idle.dues };
           wakes = record {
@@ -316,7 +301,7 @@ module _ {B : Type 0} (program : Bool → B → Program B) (t : ℕ) (r : Rec B)
 
         -- the token is given up
         lowers : (m6 : SeatMe B) → m6 ≡ lowered_with v5 slots → m6 ≡ (last, slots)
-        lowers m6 e = e ∙ (ap (λ (x : View B). lowered_with x slots) woke.view ∙ lowered_plain woken slots none)
+        lowers m6 e = e ∙ (ap (λ (x : View B). lowered_with x slots) woke.view ∙ lowered_alone woken slots none)
 
         pub has_finished : (m6 : SeatMe B) → m6 ≡ lowered_with v5 slots → HasFinished t r v m6.0
         has_finished m6 e = subst (λ (m : SeatMe B). HasFinished t r v m.0) (sym (lowers m6 e)) finished_last

@@ -2,6 +2,7 @@
 use Rattle.std.proofs.Common.{◌≡◌, ◌≢◌, ℕ, suc, ◌+◌, ◌-◌, ◌*◌, ◌<◌, ◌≤◌, Bool, false, List, [], ◌∷◌, ◌++◌, length}
 use Rattle.std.proofs.Common.{Option, Some, None, refl, sym, ap, ◌∙◌, subst, inl, inr, arith, cond, eq-eqb}
 use Rattle.tj_body.specs.Points.{IsIn}
+use Rattle.tj_body.specs.Programs.{Program}
 use Rattle.tj_core.specs.declared.walk.Way.{Way}
 use Rattle.tj_words.specs.declared.head.Head.{Head}
 use Rattle.tj_words.specs.declared.head.Head.TheVariants as head
@@ -65,9 +66,10 @@ without_one : (t q : ℕ) (way : Way) (next : Option Head) → without_push t (p
 without_one t q way next = ap (λ (b : Bool). cond b [] (push_behind t q way next ∷ [])) (eq-eqb t t refl)
 
 module _ {B : Type 0} where
-  pub looks_on : (u v w : View B) → LooksOn u v → LooksOn v w → LooksOn u w
+  pub looks_on : {cells : ℕ} (u v w : View B) → LooksOn cells u v → LooksOn cells v w → LooksOn cells u w
   looks_on u v w p q = record {
     knows = more_on u v w p.knows q.knows;
+    all = λ a. q.all (p.all a);
     hand = hand_on u v w p.hand q.hand;
     counts = counts_on u v w p.counts q.counts;
     tasks = q.tasks ∙ p.tasks;
@@ -92,17 +94,18 @@ module _ {B : Type 0} where
 
   -- the way to the chain of q, after some pushes that failed; v is the view at first, and w that now
   pub record Joining (cells t q : ℕ) (way : Way) (behind : Head) (v w : View B) : Type 0 where
-    pub looks : LooksOn v w
+    pub looks : LooksOn cells v w
     pub next : Option Head
     pub pushes : w.pushes ≡ push_behind t q way next ∷ []
     pub open_at : behind ≢ head.Shut → IsOpenAt cells q behind w
     pub shut_at : behind ≡ head.Shut → IsShutAt q w
     pub cost : w.steps + 2 * pushes_left cells behind w.found ≤ v.steps + join_steps cells
 
-  shut_looks : (q : ℕ) (v w : View B) → FindsShut q v w
-      → LooksOn v w × IsShutAt q w × (w.pushes ≡ v.pushes) × (w.steps ≡ suc v.steps)
-  shut_looks q v w f = subst
-      (λ (z : View B). LooksOn v z × IsShutAt q z × (z.pushes ≡ v.pushes) × (z.steps ≡ suc v.steps)) (sym f.view) (
+  shut_looks : {program : Bool → B → Program B} (cells q : ℕ) (v w : View B) → FindsShut program cells q v w
+      → LooksOn cells v w × IsShutAt q w × (w.pushes ≡ v.pushes) × (w.steps ≡ suc v.steps)
+  shut_looks cells q v w f = subst
+      (λ (z : View B). LooksOn cells v z × IsShutAt q z × (z.pushes ≡ v.pushes) × (z.steps ≡ suc v.steps))
+      (sym f.view) (
         record {
           knows = record {
             about = refl;
@@ -115,6 +118,7 @@ module _ {B : Type 0} where
             closed = λ x i. inr i;
             rested = λ e. e;
           };
+          all = λ _. f.all;
           hand = record { hand = refl; dues = refl };
           counts = record { tokens = refl; cleared = refl; refused = refl };
           tasks = refl;
@@ -129,8 +133,8 @@ module _ {B : Type 0} where
       )
 
   -- a view in which only steps, pushes and found chains differ
-  same_looks : (v : View B) (n : ℕ) (ps : List Push) (fs : List Found)
-      → LooksOn v (record v { steps = n; pushes = ps; found = fs })
+  same_looks : {cells : ℕ} (v : View B) (n : ℕ) (ps : List Push) (fs : List Found)
+      → LooksOn cells v (record v { steps = n; pushes = ps; found = fs })
   same_looks v n ps fs = record {
     knows = record {
       about = refl;
@@ -143,6 +147,7 @@ module _ {B : Type 0} where
       closed = λ x i. i;
       rested = λ e. e;
     };
+    all = λ a. a;
     hand = record { hand = refl; dues = refl };
     counts = record { tokens = refl; cleared = refl; refused = refl };
     tasks = refl;
@@ -153,10 +158,10 @@ module _ {B : Type 0} where
   }
 
   chain_looks : (cells q : ℕ) (h : Head) (v w : View B) → (f : FindsChain cells q h v w)
-      → LooksOn v w × (w.found ≡ record { cell = q; chain = f.chain } ∷ v.found) × (w.pushes ≡ v.pushes)
+      → LooksOn cells v w × (w.found ≡ record { cell = q; chain = f.chain } ∷ v.found) × (w.pushes ≡ v.pushes)
       × (w.steps ≡ suc v.steps)
   chain_looks cells q h v w f = subst
-      (λ (z : View B). LooksOn v z × (z.found ≡ record { cell = q; chain = f.chain } ∷ v.found)
+      (λ (z : View B). LooksOn cells v z × (z.found ≡ record { cell = q; chain = f.chain } ∷ v.found)
       × (z.pushes ≡ v.pushes) × (z.steps ≡ suc v.steps)) (sym f.view)
       (same_looks v (suc v.steps) v.pushes (record { cell = q; chain = f.chain } ∷ v.found), refl, refl, refl)
 
@@ -172,10 +177,11 @@ module _ {B : Type 0} where
 
   module _ (cells t q : ℕ) (way : Way) where
     -- the first load of the head
-    pub joining_first : (h : Head) (v w : View B) → v.pushes ≡ push_behind t q way None ∷ []
-        → (h ≡ head.Shut → FindsShut q v w) → (h ≢ head.Shut → FindsChain cells q h v w)
+    pub joining_first : {program : Bool → B → Program B} (h : Head) (v w : View B)
+        → v.pushes ≡ push_behind t q way None ∷ []
+        → (h ≡ head.Shut → FindsShut program cells q v w) → (h ≢ head.Shut → FindsChain cells q h v w)
         → Joining cells t q way h v w
-    joining_first head.Shut v w e s o = let f = shut_looks q v w (s refl) in record {
+    joining_first head.Shut v w e s o = let f = shut_looks cells q v w (s refl) in record {
       looks = f.0;
       next = None;
       pushes = f.2 ∙ e;
@@ -220,8 +226,8 @@ module _ {B : Type 0} where
         (refl, refl, refl),
       )
 
-      stored_looks : LooksOn v u
-      stored_looks = looks_on v w u j.looks (subst (λ (z : View B). LooksOn w z) (sym store)
+      stored_looks : LooksOn cells v u
+      stored_looks = looks_on v w u j.looks (subst (λ (z : View B). LooksOn cells w z) (sym store)
           (same_looks w (suc w.steps) (with_next t behind w.pushes) w.found))
 
       stored_steps : u.steps ≡ suc w.steps
@@ -240,9 +246,9 @@ module _ {B : Type 0} where
 
         -- the push succeeds
         pub joined : (x : View B) → x ≡ pushed t u
-            → LooksOn v x × (x.pushes ≡ []) × (x.steps ≤ v.steps + join_steps cells)
+            → LooksOn cells v x × (x.pushes ≡ []) × (x.steps ≤ v.steps + join_steps cells)
         joined x e = (
-          looks_on v u x stored_looks (subst (λ (z : View B). LooksOn u z) (sym e)
+          looks_on v u x stored_looks (subst (λ (z : View B). LooksOn cells u z) (sym e)
               (same_looks u (suc u.steps) (without_push t u.pushes) u.found)),
           ap (λ (z : View B). z.pushes) e ∙ (ap (without_push t) stored_pushes ∙ without_one t q way (Some behind)),
           joined_cost x.steps u.steps w.steps v.steps (cells - length at.chain) (pushes_left cells behind w.found)
@@ -258,7 +264,8 @@ module _ {B : Type 0} where
             longer behind h at.chain f.chain g.0 at.is f.is g.1 n
 
         -- the push finds the head shut, or a longer chain
-        module _ (h : Head) (x : View B) (fails : h ≢ behind) (shut : h ≡ head.Shut → FindsShut q u x)
+        module _ {program : Bool → B → Program B} (h : Head) (x : View B) (fails : h ≢ behind)
+            (shut : h ≡ head.Shut → FindsShut program cells q u x)
             (other : h ≢ behind → h ≢ head.Shut → FindsChain cells q h u x) where
           pub fewer : pushes_left cells h x.found < pushes_left cells behind w.found
           fewer = by h refl
@@ -293,7 +300,7 @@ module _ {B : Type 0} where
               }
 
               by : (z : Head) → h ≡ z → Joining cells t q way h v x
-              by head.Shut e = let f = shut_looks q u x (shut e) in record {
+              by head.Shut e = let f = shut_looks cells q u x (shut e) in record {
                 looks = looks_on v u x stored_looks f.0;
                 next = Some behind;
                 pushes = f.2 ∙ stored_pushes;

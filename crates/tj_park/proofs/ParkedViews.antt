@@ -20,6 +20,7 @@ use Rattle.tj_words.specs.ParkSteps.{new_push, with_tokens}
 use Rattle.tj_words.specs.SeatSteps.{SeatMe}
 use Rattle.tj_words.specs.TakenRecords.{custody_of}
 use Rattle.tj_words.specs.TaskLists.{hold}
+use Rattle.tj_words.specs.TreeWords.{AreCells}
 use Rattle.tj_words.specs.WaitViews.{MayPark, parked}
 use Rattle.tj_words.proofs.HeldTasks.{none_some}
 use Rattle.tj_words.proofs.KnowsMoreOn.{more_itself, more_on}
@@ -82,7 +83,7 @@ module _ {B : Type 0} where
     }
 
     -- w is the view after the task was added to the chain, or the head found shut
-    module _ (w : View B) (looks : LooksOn (parked t q way v) w)
+    module _ (w : View B) (looks : LooksOn cells (parked t q way v) w)
         (few : w.steps ≤ suc v.steps + join_steps cells) where
       knows : KnowsMore v w
       knows = more_on v (parked t q way v) w knows_parked looks.knows
@@ -130,6 +131,7 @@ module _ {B : Type 0} where
                     closed = λ x i. i;
                     rested = λ a. a;
                   });
+                  all = λ a e c. looks.all;
                   hand = record { hand = looks.hand.hand; dues = looks.hand.dues };
                   wakes = record { pushes = added ∙ sym may.idle.pushes; shuts = looks.shuts; rest = looks.rest };
                   counts = record {
@@ -174,6 +176,7 @@ module _ {B : Type 0} where
         gave_back x u b = record {
           parked = record {
             knows = more_on v w u knows b.knows;
+            all = λ a e c _. subst (λ n. AreCells n u.born) c (b.taken.all a (b.knows.about ∙ (knows.about ∙ e)));
             hand = record { hand = b.hand.hand ∙ looks.hand.hand; dues = b.hand.dues ∙ looks.hand.dues };
             wakes = record {
               pushes = b.pushes ∙ (ap (without_push t) shut.0.1 ∙ (without_one shut.0.0 ∙ sym may.idle.pushes));
@@ -210,7 +213,7 @@ module _ {B : Type 0} where
       pub parked_push : m2.0.pushes ≡ new_push t q way ∷ []
       parked_push = ap (λ (z : SeatMe B). z.0.pushes) is_parked ∙ one_push
 
-      module _ (same : m3.1 ≡ m2.1) (looks : LooksOn m2.0 m3.0) (few : m3.0.steps ≤ m2.0.steps + join_steps cells)
+      module _ (same : m3.1 ≡ m2.1) (looks : LooksOn cells m2.0 m3.0) (few : m3.0.steps ≤ m2.0.steps + join_steps cells)
           (b : Bool) (added : IsAdded t q way b m3.0) where
         pub parked_slots : m3.1 ≡ l
         parked_slots = same ∙ ap (λ (z : SeatMe B). z.1) is_parked
@@ -218,8 +221,8 @@ module _ {B : Type 0} where
         joined : m3 ≡ (m3.0, l)
         joined = ap (λ s. (m3.0, s)) parked_slots
 
-        looked : LooksOn (parked t q way v) m3.0
-        looked = subst (λ (z : SeatMe B). LooksOn z.0 m3.0) is_parked looks
+        looked : LooksOn cells (parked t q way v) m3.0
+        looked = subst (λ (z : SeatMe B). LooksOn cells z.0 m3.0) is_parked looks
 
         in_few : m3.0.steps ≤ suc v.steps + join_steps cells
         in_few = subst (λ (z : SeatMe B). m3.0.steps ≤ z.0.steps + join_steps cells) is_parked few

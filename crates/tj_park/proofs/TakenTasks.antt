@@ -6,6 +6,7 @@ use Rattle.tj_body.specs.Points.{IsIn}
 use Rattle.tj_body.specs.Programs.{Program}
 use Rattle.tj_body.proofs.Lists.{in_left, in_right}
 use Rattle.tj_words.specs.declared.record.Rec.{Rec}
+use Rattle.tj_words.specs.declared.view.About.{About}
 use Rattle.tj_words.specs.declared.view.Filled.{Filled}
 use Rattle.tj_words.specs.declared.view.View.{View}
 use Rattle.tj_words.specs.ExchangeViews.{Claims}
@@ -15,6 +16,7 @@ use Rattle.tj_words.specs.NamedCells.{record_cells}
 use Rattle.tj_words.specs.SeatSteps.{SeatMe}
 use Rattle.tj_words.specs.TakenRecords.{TakesRecord, IsKnownRecord, custody_of, took_record}
 use Rattle.tj_words.specs.TaskLists.{hold}
+use Rattle.tj_words.specs.TreeWords.{AreCells}
 use Rattle.tj_words.specs.Views.{stepped_on}
 use Rattle.tj_words.proofs.SeatTasks.{hold_here}
 use Rattle.tj_park.specs.ChildViews.{Claimed}
@@ -57,6 +59,8 @@ module _ {B : Type 0} where
       };
       unfinished = k.unfinished;
       owns_result = k.owns_result;
+      owned_apart = k.owned_apart;
+      all = λ a e. subst (AreCells a.cells) (sym born) (k.all a (sym about ∙ e));
       known = λ a e. subst (λ (f : List Filled). IsKnownRecord (program a.strict a.root) w.born f r) (sym filled)
           (subst (λ b. IsKnownRecord (program a.strict a.root) b (k.more ++ v.filled) r) (sym born)
           (k.known a (sym about ∙ e)));

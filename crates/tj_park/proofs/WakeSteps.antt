@@ -1,5 +1,5 @@
 -- The steps by which a seat makes the first of its rest ready.
-use Rattle.std.proofs.Common.{◌≡◌, ◌≢◌, ◌⊎◌, ℕ, zero, suc, ◌+◌, ◌-◌, ◌<◌, ◌≤◌, List, [], ◌∷◌, Bool, cond, Option, Some, None}
+use Rattle.std.proofs.Common.{◌≡◌, ◌≢◌, ℕ, suc, ◌+◌, ◌-◌, ◌<◌, ◌≤◌, List, [], ◌∷◌, Bool, cond, Option, Some, None}
 use Rattle.std.proofs.Common.{Result, Ok, Err, OnOk, IfErr, refl, sym, ap, ◌∙◌, subst, inl, inr, ⊎_elim, arith, eq-eqb}
 use Rattle.std.specs.Bool.{⊤}
 use Rattle.tj_body.specs.Programs.{Program}
@@ -9,21 +9,20 @@ use Rattle.tj_core.specs.Events.{raised_by_way}
 use Rattle.tj_words.specs.declared.head.Head.{Head}
 use Rattle.tj_words.specs.declared.phase.Phase.{Phase}
 use Rattle.tj_words.specs.declared.phase.Phase.TheVariants as phase
-use Rattle.tj_words.specs.declared.record.Rec.{Rec}
-use Rattle.tj_words.specs.declared.view.Custody.{Custody}
 use Rattle.tj_words.specs.declared.view.Rest.{Rest}
 use Rattle.tj_words.specs.declared.view.View.{View}
 use Rattle.tj_words.specs.Chains.{head_of, parked_phase}
 use Rattle.tj_words.specs.ChainSteps.{rest_of}
-use Rattle.tj_words.specs.ExchangeViews.{MaySwap, MayWake, Swaps, Wakes, woke_first}
-use Rattle.tj_words.specs.LiveCount.{Backing, DoesRun, HasAlarmed, Holds}
-use Rattle.tj_words.specs.LiveViews.{IfRecord, LaysChild, MayRaiseLive, SlotsOf, live_raised, raised_with}
+use Rattle.tj_words.specs.ExchangeViews.{MaySwap, Swaps, woke_first}
+use Rattle.tj_words.specs.LiveCount.{Backing, DoesRun, Holds}
+use Rattle.tj_words.specs.LiveViews.{LaysChild, MayRaiseLive, SlotsOf, live_raised, raised_with}
 use Rattle.tj_words.specs.ParkSteps.{FirstTold, first_way, loaded_phase, parked_way, rest_loaded, with_tokens}
 use Rattle.tj_words.specs.SeatSteps.{SeatMe}
 use Rattle.tj_words.specs.SeenWords.{NextTold}
 use Rattle.tj_words.specs.Views.{stepped_on}
 use Rattle.tj_words.proofs.LiveSteps.{backing_token, backing_running}
 use Rattle.tj_park.specs.Records.{HasNoRecord}
+use Rattle.tj_park.proofs.ParkedViews.{no_record}
 use Rattle.tj_park.specs.Wakes.{MayWakeTasks, counted_in, lowered_for}
 
 first_is : (t : ℕ) (q : Phase) (ts : List ℕ) (o : Option Way) → first_way t q (t ∷ ts) o ≡ parked_way q o
@@ -120,14 +119,12 @@ module _ {B : Type 0} where
       ),
     )
 
-    if_none : (F : ℕ → Rec B → Type 0) (l : SlotsOf B) → HasNoRecord l → IfRecord F l
-    if_none F [] h = tt
-    if_none F ((u, None) ∷ l) h = tt
-    if_none F ((u, Some r) ∷ l) h = absurd h
-
     pub may_raise : (program : Bool → B → Program B) → MayRaiseLive program (read_first p t left way v, slots)
-    may_raise program =
-        record { backed = may.backed; room = may.token_room; lays = if_none (λ u r. LaysChild program u r (read_first p t left way v, slots)) slots may.no_record }
+    may_raise program = record {
+      backed = may.backed;
+      room = may.token_room;
+      lays = no_record (λ u r. LaysChild program u r (read_first p t left way v, slots)) slots may.no_record;
+    }
 
     -- the view after the exchange and the subtraction from OTHERS
     woken_then : (n cleared tokens : ℕ) → cleared ≡ v.cleared → tokens ≡ v.tokens

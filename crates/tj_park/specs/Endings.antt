@@ -1,6 +1,6 @@
--- How a task ends: what `finish` asks of the record, of the point of the task's history that it tells and of the seat, and
--- what it makes of the seat.
-use Rattle.std.specs.Prelude.{◌≡◌, ℕ, ◌+◌, ◌<◌, Bool, List, [], ◌∷◌, drop, Option, Some, None}
+-- How a task ends: what `finish` asks of the record, of the point of the task's history that it tells and of the seat,
+-- and what it makes of the seat.
+use Rattle.std.specs.Prelude.{◌≡◌, ℕ, ◌+◌, ◌<◌, Bool, List, [], drop, Option, Some, None}
 use Rattle.tj_base.specs.declared.cell.CellId.{CellId}
 use Rattle.tj_body.specs.History.{after_close}
 use Rattle.tj_body.specs.Points.{IsIn}
@@ -107,10 +107,11 @@ module _ {B : Type 0} where
   ClosesResult t finish v w = (f : Finish) (ending : Close) → finish ≡ Some f → FinishSays v.born f ending
       → w ≡ became t t (result_of ending) v
 
-  -- each promise that the task owed is broken, and its result is what the ending says; the task has left the seat, which
-  -- has nothing to come, as before
+  -- each promise that the task owed is broken, and its result is what the ending says; the task has left the seat,
+  -- which knows of no other cells, and has nothing to come, as before
   pub record HasFinished (t : ℕ) (r : Rec B) (v w : View B) : Type 0 where
     pub knows : KnowsMore v w
+    pub born : w.born ≡ v.born
     pub tasks : w.tasks ≡ let_go t v.tasks
     pub hand : HasSameHand v w
     pub wakes : HasSameWakes v w

@@ -14,6 +14,7 @@ use Rattle.tj_words.specs.KnowsMore.{KnowsMore, HasSameHand, HasSameCounts}
 use Rattle.tj_words.specs.RecordPhases.{WaitsFor}
 use Rattle.tj_words.specs.TakenRecords.{custody_of}
 use Rattle.tj_words.specs.TaskLists.{hold}
+use Rattle.tj_words.specs.TreeWords.{AreCells}
 use Rattle.tj_park.specs.Records.{HasTaken}
 
 -- the push of t to the chain of q, and what was stored last into NEXT of t
@@ -37,8 +38,9 @@ join_steps cells = 2 * cells + 3
 
 module _ {B : Type 0} where
   -- the seat knows more, and its view is as it was but for its pushes; no load was made that is counted
-  pub record LooksOn (v w : View B) : Type 0 where
+  pub record LooksOn (cells : ℕ) (v w : View B) : Type 0 where
     pub knows : KnowsMore v w
+    pub all : AreCells cells v.born → AreCells cells w.born
     pub hand : HasSameHand v w
     pub counts : HasSameCounts v w
     pub tasks : w.tasks ≡ v.tasks

@@ -1,16 +1,18 @@
 -- What `park` asks of the seat, and what it makes of it.
-use Rattle.std.specs.Prelude.{◌≡◌, ℕ, ◌+◌, ◌*◌, ◌≤◌, Bool}
+use Rattle.std.specs.Prelude.{◌≡◌, ℕ, ◌+◌, ◌*◌, ◌≤◌, Bool, Some}
 use Rattle.tj_body.specs.Points.{IsIn}
 use Rattle.tj_body.specs.Programs.{Program}
 use Rattle.tj_core.specs.declared.walk.Way.{Way}
 use Rattle.tj_core.specs.Events.{MaySettle, raised_by_way}
 use Rattle.tj_words.specs.declared.record.Rec.{Rec}
+use Rattle.tj_words.specs.declared.view.About.{About}
 use Rattle.tj_words.specs.declared.view.View.{View}
 use Rattle.tj_words.specs.ChainSteps.{KnowsEntry}
 use Rattle.tj_words.specs.KnowsMore.{KnowsMore, HasSameWakes, HasSameHand, HasSameCounts}
 use Rattle.tj_words.specs.RecordPhases.{WaitsFor}
 use Rattle.tj_words.specs.TakenRecords.{custody_of}
 use Rattle.tj_words.specs.TaskLists.{hold, let_go}
+use Rattle.tj_words.specs.TreeWords.{AreCells}
 use Rattle.tj_words.specs.WaitViews.{HasWalker}
 use Rattle.tj_park.specs.declared.parking.Parked.{Parked}
 use Rattle.tj_park.specs.declared.parking.Parked.TheVariants as parked
@@ -43,9 +45,11 @@ module _ {B : Type 0} where
       pub room : v.cleared + raised_by_way way ≤ v.lot
       pub alarms : AlarmsLeave 0 v
 
-  -- the seat knows more, and has nothing to come; no load was made that is counted
+  -- the seat knows more, and has nothing to come; no load was made that is counted. What it knew as the cells of the
+  -- table it knows as these still
   pub record HasParked (cells : ℕ) (v w : View B) : Type 0 where
     pub knows : KnowsMore v w
+    pub all : (a : About B) → v.about ≡ Some a → a.cells ≡ cells → AreCells cells v.born → AreCells cells w.born
     pub hand : HasSameHand v w
     pub wakes : HasSameWakes v w
     pub counts : HasSameCounts v w

@@ -7,12 +7,13 @@ use Rattle.tj_words.specs.declared.view.About.{About}
 use Rattle.tj_words.specs.declared.view.Custody.{Custody}
 use Rattle.tj_words.specs.declared.view.View.{View}
 use Rattle.tj_words.specs.Holding.{held_in}
-use Rattle.tj_words.specs.Lists.{All, numbers}
+use Rattle.tj_words.specs.Lists.{All, AreApart, numbers}
 use Rattle.tj_words.specs.LiveCount.{HasAlarmed, Holds}
 use Rattle.tj_words.specs.LiveViews.{IfRecord, SlotsOf}
 use Rattle.tj_words.specs.NamedCells.{record_cells}
 use Rattle.tj_words.specs.PutRecords.{TellsPoint}
 use Rattle.tj_words.specs.TakenRecords.{IsKnownRecord, custody_of}
+use Rattle.tj_words.specs.TreeWords.{AreCells}
 
 module _ {B : Type 0} where
   -- the record is that of task t, says what the seat has for the task, and names cells that the seat knows
@@ -46,11 +47,14 @@ module _ {B : Type 0} where
   HasNoRecord slots = IfRecord (λ t r. ⊥) slots
 
   -- the seat holds task t, which runs, and has been given its record, which tells a point from which the task goes on:
-  -- it is to be given Start, or has waited for a cell of which the seat knows what has become
+  -- it is to be given Start, or has waited for a cell of which the seat knows what has become; each cell that it owns
+  -- stands in it once, and the cells of which the seat knows are of different names
   pub record HasTaken (program : Bool → B → Program B) (t : ℕ) (r : Rec B) (v : View B) : Type 0 where
     pub held : held_in v.tasks t ≡ Some (custody_of r)
     pub has : HasRecord t (custody_of r) r v
     pub unfinished : r.finish ≡ None
     pub owns_result : IsIn t (numbers r.owned)
+    pub owned_apart : AreApart (numbers r.owned)
+    pub all : (a : About B) → v.about ≡ Some a → AreCells a.cells v.born
     pub known : (a : About B) → v.about ≡ Some a
         → IsKnownRecord (program a.strict a.root) v.born v.filled r

@@ -38,6 +38,7 @@ pub fn finish<B: Body, P: Pool, R: Wait>(
     requires pool { P.limit pool.old ≡ laid.now.cells }
     ensures table { seat.new.table_id ≡ seat.old.table_id }
     ensures id { seat.new.id ≡ seat.old.id }
+    ensures about { seat.new.me.0.about ≡ seat.old.me.0.about }
     ensures limit { P.limit pool.new ≡ P.limit pool.old }
     ensures ended { OnOk result (HasFinished t.0 rec seat.old.me.0 seat.new.me.0) }
     ensures slots { OnOk result (seat.new.me.1 ≡ rest seat.old.me.1) }
@@ -70,6 +71,7 @@ fn break_promises<B: Body, P: Pool, R: Wait>(
         seat.old.me.0 }
     requires pool { P.limit pool.old ≡ laid.now.cells }
     ensures seat { IsSameSeat seat.old seat.new }
+    ensures about { seat.new.me.0.about ≡ seat.old.me.0.about }
     ensures limit { P.limit pool.new ≡ P.limit pool.old }
     ensures broken { OnOk result (HasBroken t.0 promises.now [] seat.old.me.0 seat.new.me.0) }
 {

@@ -22,7 +22,7 @@ pub(crate) fn join_chain<B: Body>(
     requires cell { IsCellOf laid.now q.0 }
     requires push { seat.old.me.0.pushes ≡ new_push t.0 q.0 way ∷ [] }
     ensures seat { IsSameSeat seat.old seat.new }
-    ensures looks { LooksOn seat.old.me.0 seat.new.me.0 }
+    ensures looks { LooksOn laid.now.cells seat.old.me.0 seat.new.me.0 }
     ensures steps { seat.new.me.0.steps ≤ seat.old.me.0.steps + join_steps laid.now.cells }
     ensures added { IsAdded t.0 q.0 way result seat.new.me.0 }
 {

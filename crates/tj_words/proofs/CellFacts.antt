@@ -1,13 +1,10 @@
 -- What the core state shows of a cell that is there: its name, its sort and what it waits for.
-use Rattle.std.proofs.Common.{◌≡◌, ◌≢◌, ℕ, ◌<◌, Bool, true, false, ◌&&◌, cond, nat_eq, List, length, Option, Some, None, refl, sym, ap, ◌∙◌, subst}
-use Rattle.tj_base.specs.ForkOrder.{Name, before}
+use Rattle.std.proofs.Common.{◌≡◌, ◌≢◌, ℕ, ◌<◌, Bool, true, false, ◌&&◌, cond, nat_eq, Option, Some, None, refl, sym, ap, ◌∙◌, subst}
+use Rattle.tj_base.specs.ForkOrder.{before}
 use Rattle.tj_base.specs.declared.cell.CellId.{CellId}
-use Rattle.tj_base.specs.declared.cell.Sort.{Sort}
-use Rattle.tj_base.specs.declared.cell.Sort.TheVariants as sort
 use Rattle.tj_body.specs.Programs.{Program}
 use Rattle.tj_body.specs.declared.ask.Answer.{Answer}
 use Rattle.tj_body.specs.declared.ask.Answer.TheVariants as answer
-use Rattle.tj_body.specs.declared.point.Reference.{Reference}
 use Rattle.tj_core.specs.declared.walk.Way.{Way}
 use Rattle.tj_core.specs.CoreState.{CellStage, CellState, CoreState, name, stage, wait, wait_of, is_task, running, fresh}
 use Rattle.tj_core.specs.Events.{way_if, way_of_wait}
@@ -20,7 +17,7 @@ use Rattle.tj_words.specs.declared.view.Hand.{Hand}
 use Rattle.tj_words.specs.declared.view.Does.{Does}
 use Rattle.tj_words.specs.declared.view.Does.TheVariants as does
 use Rattle.tj_words.specs.declared.view.Custody.{Custody}
-use Rattle.tj_words.specs.Hands.{hand_in, IsThere}
+use Rattle.tj_words.specs.Hands.{IsThere}
 use Rattle.tj_words.specs.TreeWords.{IsCell}
 use Rattle.tj_words.specs.ShownState.{phase_sort, sort_shown, new_stage, answer_stage, does_stage, stage_there, reference_of}
 use Rattle.tj_words.specs.Contents.{Contents, hand_of, drawn_in, held_of, home_of, core_shown}

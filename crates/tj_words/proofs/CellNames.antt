@@ -1,8 +1,8 @@
 -- No two cells have one name, and what a task makes next has a new one; so where no cell is left for it, the meaning
 -- needs more cells than there are.
-use Rattle.std.proofs.Common.{◌≡◌, ◌≢◌, ℕ, suc, ◌<◌, ◌≤◌, List, [], ◌∷◌, map, length, refl, sym, ap}
-use Rattle.std.proofs.Common.{◌∙◌, subst, inl, inr, ⊎_elim, arith}
-use mathlib.Core.Option.{some, some-injective}
+use Rattle.std.proofs.Common.{◌≡◌, ◌≢◌, ◌⊎◌, ℕ, zero, suc, ◌<◌, ◌≤◌, List, [], ◌∷◌, ◌++◌, map, length, refl, sym, ap}
+use Rattle.std.proofs.Common.{◌∙◌, subst, inl, inr, ⊎_elim, arith, length-append}
+use mathlib.Core.Option.{some, some-injective, some-ne-none}
 use lib.ListN.{get_elem?}
 use Rattle.tj_base.specs.ForkOrder.{Name, child}
 use Rattle.tj_base.specs.declared.cell.Sort.{Sort}
@@ -16,7 +16,7 @@ use Rattle.tj_body.proofs.Lists.{in_map}
 use Rattle.tj_core.specs.CoreState.{CellState, CoreState, name}
 use Rattle.tj_core.specs.Facts.{MakersFact}
 use Rattle.tj_core.proofs.Events.Makers.{next_name_new}
-use Rattle.tj_words.specs.TreeWords.{IsCell}
+use Rattle.tj_words.specs.TreeWords.{IsCell, AreCells}
 use Rattle.tj_words.specs.ShownState.{reference_of}
 use Rattle.tj_words.specs.ShownParts.{parts_of}
 use Rattle.tj_words.specs.OwnerSteps.{next_reference}
@@ -47,6 +47,25 @@ pub cell_of_name : (l : List Reference) (q : Name) → IsIn q (map name_of l)
     → (c : ℕ) × (x : Reference) × IsCell l c x × (q ≡ x.name)
 cell_of_name l q i = let w = in_map name_of q l i in let p = place_of w.0 l w.1 in (p.0, w.0, p.1, w.2)
 
+-- where the list is one longer, its last cell is the one more
+last_or : {A : Type 0} (l : List A) (x : A) (c : ℕ) (y : A) → get_elem? (l ++ x ∷ []) c ≡ some y
+    → (get_elem? l c ≡ some y) ⊎ ((c ≡ length l) × (x ≡ y))
+last_or [] x zero y e = inr (refl, some-injective x y e)
+last_or [] x (suc c) y e = absurd (some-ne-none y (sym e))
+last_or (z ∷ l) x zero y e = inl e
+last_or (z ∷ l) x (suc c) y e = ⊎_elim inl (λ w. inr (ap suc w.0, w.1)) (last_or l x c y e)
+
+-- a cell more whose name no other has
+pub cells_more : (cells : ℕ) (l : List Reference) (x : Reference) → AreApartByName l → length l < cells
+    → ((c : ℕ) (y : Reference) → IsCell l c y → y.name ≢ x.name) → AreCells cells (l ++ x ∷ [])
+cells_more cells l x apart room new = record {
+  few = (let e = length-append l (x ∷ []) in omega arith);
+  apart = λ c d y z a b e. ⊎_elim
+      (λ i. ⊎_elim (λ j. apart c d y z i j e) (λ w. absurd (new c y i (e ∙ ap name_of (sym w.1)))) (last_or l x d z b))
+      (λ v. ⊎_elim (λ j. absurd (new d z j (sym e ∙ ap name_of (sym v.1)))) (λ w. v.0 ∙ sym w.0) (last_or l x d z b))
+      (last_or l x c y a);
+}
+
 -- names of cells that are apart stand once each
 pub distinct_names : (l : List Reference) → AreApartByName l → AreDistinct (map name_of l)
 distinct_names [] h = tt
@@ -76,6 +95,10 @@ module _ {B : Type 0} {program : Program B} {N : ℕ} {x : Contents B} (r : Law 
   pub born_apart : AreApartByName r.born
   born_apart c d y z a b e = makers.names_apart c d (cell_inside c y a) (cell_inside d z b)
       (name_is c y a ∙ (e ∙ sym (name_is d z b)))
+
+  -- so these are what cells of the table are
+  pub are_cells : AreCells N r.born
+  are_cells = record { few = (let e = r.births.all in omega arith); apart = born_apart }
 
   -- the next thing that a task makes
   module _ (t : ℕ) (there : t < n) (sort : Sort) where

@@ -1,41 +1,38 @@
 -- A draw is a Make or a Fork; the first store of OWN shows nothing.
-use Rattle.std.proofs.Common.{◌≡◌, ◌≢◌, ◌⊎◌, ℕ, zero, suc, ◌+◌, ◌<◌, ◌≤◌, min, Bool, true, false, List, [], ◌∷◌, ◌++◌, length, get_or, Option, Some, None, refl, sym, ap, ◌∙◌, subst, arith}
-use mathlib.Core.Option.{some, some-injective, some-ne-none}
+use Rattle.std.proofs.Common.{◌≡◌, ◌≢◌, ℕ, zero, suc, ◌+◌, ◌<◌, ◌≤◌, List, [], ◌∷◌, ◌++◌, length, get_or, Option, Some, None, refl, sym, ap, ◌∙◌, subst, arith}
+use mathlib.Core.Option.{some, some-injective}
 use lib.ListN.{get_elem?}
 use Rattle.tj_base.specs.declared.cell.Sort.{Sort}
 use Rattle.tj_base.specs.declared.cell.Sort.TheVariants as sort
 use Rattle.tj_body.specs.History.{to_task}
 use Rattle.tj_body.specs.Programs.{Program}
 use Rattle.tj_body.specs.declared.point.Reference.{Reference}
-use Rattle.tj_core.specs.CoreState.{CellStage, CellState, CoreState, name, maker, fresh, promise}
+use Rattle.tj_core.specs.CoreState.{CellState, CoreState, name, maker}
 use Rattle.tj_base.specs.Puts.{put}
 use Rattle.tj_base.specs.ForkOrder.{child}
 use Rattle.tj_core.specs.Events.{Allowed, after, with_new}
 use Rattle.tj_core.proofs.Events.Makers.{thing_made}
-use Rattle.tj_words.specs.declared.phase.Phase.{Phase}
 use Rattle.tj_words.specs.declared.phase.Phase.TheVariants as phase
 use Rattle.tj_words.specs.declared.record.Rec.{Rec}
 use Rattle.tj_words.specs.declared.view.Hand.{Hand}
-use Rattle.tj_words.specs.declared.view.Does.{Does}
 use Rattle.tj_words.specs.declared.view.Custody.{Custody}
-use Rattle.tj_words.specs.Lists.{cell}
-use Rattle.tj_words.specs.Holding.{Slots, made_by, phase_of, record_in, home_in, IsEmpty}
+use Rattle.tj_words.specs.Holding.{Slots, made_by, record_in, home_in, IsEmpty}
 use Rattle.tj_words.specs.Hands.{hand_in, hand_phase, making, IsThere, IsMarkedRight}
 use Rattle.tj_words.specs.TreeWords.{IsCell}
 use Rattle.tj_words.specs.TreeDraws.{IsDrawnInto, MayDraw}
-use Rattle.tj_words.specs.ShownState.{phase_sort, first_owner, hand_stage, reference_of, new_stage, stage_there, stage_shown}
+use Rattle.tj_words.specs.ShownState.{phase_sort, first_owner, hand_stage, reference_of, stage_there, stage_shown}
 use Rattle.tj_words.specs.Contents.{Contents, hand_of, drawn_in, held_of, home_of, made_of, core_shown}
 use Rattle.tj_words.specs.Law.{Law}
-use Rattle.tj_words.specs.ShownParts.{Parts, parts_of}
+use Rattle.tj_words.specs.ShownParts.{parts_of}
 use Rattle.tj_words.specs.StepEvents.{ShowsEvent, ShowsNothing}
-use Rattle.tj_words.specs.OwnerSteps.{next_reference, draw_event, ActsOn, DrawsCell, GivesOwner}
+use Rattle.tj_words.specs.OwnerSteps.{next_reference, draw_event, DrawsCell, GivesOwner}
 use Rattle.tj_words.proofs.HeldTasks.{none_some, one_some, hand_found, hand_finds, makes_none, makes_one}
 use Rattle.tj_words.proofs.ShownCells.{states_same, cell_there}
 use Rattle.tj_words.proofs.ShownDraws.{one_drawn}
 use Rattle.tj_words.proofs.CellFacts.{cell_born, name_shown, sort_is}
 use Rattle.tj_words.proofs.TreeDraws.{place_inside}
 use Rattle.tj_words.proofs.ShownOwners.{owner_given}
-use Rattle.tj_words.proofs.TaskPlaces.{custody, held_here, held_drawn}
+use Rattle.tj_words.proofs.TaskPlaces.{custody, held_here}
 use Rattle.tj_words.proofs.QuietMoves.{kept_stage}
 use Rattle.tj_words.proofs.OwnerEvents.{new_fresh, acts_there, acts_phase, acts_made, acts_stage, acts_run, hand_seat}
 
@@ -72,7 +69,7 @@ module _ {B : Type 0} {program : Program B} {cells : ℕ} {x : Contents B} (r : 
     room : n < cells
     room = let l = s.left in omega arith
 
-    t_there : IsThere n (hand_of x) t
+    pub t_there : IsThere n (hand_of x) t
     t_there = acts_there r y id t s.acts
 
     calm : (j : ℕ) (g : Hand) → get_elem? x.seats.hands j ≡ some (Some g) → g.maker ≢ t
@@ -86,7 +83,7 @@ module _ {B : Type 0} {program : Program B} {cells : ℕ} {x : Contents B} (r : 
     undrawn j g e q = none_some (r.custody.holder n) j (r.custody.undrawn_free n (omega arith))
         (ap r.custody.holder (sym q) ∙ hand_seat r y id t j g e)
 
-    made_t : made_of y t ≡ suc (made_of x t)
+    pub made_t : made_of y t ≡ suc (made_of x t)
     made_t =
         let a : made_by (held_of y t) (home_of y t) ≡ made_by (held_of x t) (home_of x t) =
         (λ j. made_by (held_of y t) (s.same.home j t)) ∙ acts_made r y id t s.acts in

@@ -23,7 +23,6 @@ use Rattle.tj_words.specs.declared.table.Key.{Key}
 use Rattle.tj_words.specs.declared.view.About.{About}
 use Rattle.tj_words.specs.declared.view.Does.TheVariants as does
 use Rattle.tj_words.specs.declared.view.Custody.{Custody}
-use Rattle.tj_words.specs.declared.view.Due.{Due}
 use Rattle.tj_words.specs.declared.view.Hand.{Hand}
 use Rattle.tj_words.specs.declared.view.View.{View}
 use Rattle.tj_words.specs.Lists.{total}
@@ -37,6 +36,7 @@ use Rattle.tj_words.specs.Hands.{making}
 use Rattle.tj_words.specs.LiveCount.{HasAlarmed, Holds}
 use Rattle.tj_words.specs.ShownState.{reference_of}
 use Rattle.tj_words.specs.OwnerSteps.{next_reference}
+use Rattle.tj_words.specs.TreeWords.{AreCells}
 use Rattle.tj_words.specs.Contents.{words_say, SeatsHave, seats_have, Contents, contents_of, drawn_in, held_of}
 use Rattle.tj_words.specs.Contents.{home_of, made_of}
 use Rattle.tj_words.specs.Law.{IsRooted, Law, Rule}
@@ -57,14 +57,14 @@ use Rattle.tj_words.proofs.LiveSteps.{backing_running}
 use Rattle.tj_words.proofs.NotedTasks.{holder_lot}
 use Rattle.tj_words.proofs.NotedEntries.{noted_here, noted_else}
 use Rattle.tj_words.proofs.CellFacts.{cell_born}
-use Rattle.tj_words.proofs.CellNames.{refused_full}
+use Rattle.tj_words.proofs.CellNames.{born_apart, cells_more, next_new, refused_full}
 use Rattle.tj_words.proofs.StopSteps.{law_refuses}
 use Rattle.tj_words.proofs.MadeThings.{made_few}
 use Rattle.tj_words.proofs.DrawnTasks.{slots_after}
 use Rattle.tj_words.proofs.DrawnCells.{law_drawn}
 
 -- what the words say after a step on COUNT
-say_count : (ws : List ℕ) (n : ℕ) → count_at < length ws
+pub say_count : (ws : List ℕ) (n : ℕ) → count_at < length ws
     → words_say (set ws count_at n) ≡ record (words_say ws) { count = n }
 say_count ws n l j = record {
   count = word_here ws count_at n l j;
@@ -267,6 +267,9 @@ module _ {B : Type 0} (program : Bool → B → Program B) (key : Key B) (keeps 
       begins = (knows_so program key s r id v at).begins;
       next = (let e = r.law.births.all in omega arith);
       small = left;
+      all = subst (λ (z : Reference). AreCells key.cells (r.law.born ++ z ∷ [])) (sym next_same)
+          (cells_more key.cells r.law.born (next_reference r.law.born t (made_of x t) o) (born_apart r.law)
+          (let e = r.law.births.all in omega arith) (next_new r.law t t_drawn o));
       few_made = (let a = made_few r.law t in
           let b : made_by (held_in v.tasks t) None ≡ k.made =
           ap (λ (q : Option (Custody B)). made_by q None) may.held in let d = made_is in omega arith);

@@ -1,5 +1,5 @@
 -- A draw, and the first store of OWN, as what one seat's hand and list of tasks become.
-use Rattle.std.proofs.Common.{◌≡◌, ◌≢◌, ◌⊎◌, ℕ, suc, ◌<◌, ◌≤◌, min, List, set, Option, Some, None, refl, sym, ap, ◌∙◌, subst, ⊎_elim, arith}
+use Rattle.std.proofs.Common.{◌≡◌, ◌≢◌, ℕ, suc, ◌<◌, List, set, Option, Some, None, sym, ap, ◌∙◌, subst, arith}
 use mathlib.Core.Option.{some}
 use lib.ListN.{get_elem?}
 use Rattle.tj_base.specs.declared.cell.Sort.TheVariants as sort
@@ -14,7 +14,6 @@ use Rattle.tj_words.specs.Hands.{hand_in, making}
 use Rattle.tj_words.specs.ShownState.{first_owner}
 use Rattle.tj_words.specs.Contents.{Contents, drawn_in, held_of, home_of}
 use Rattle.tj_words.specs.Law.{Law}
-use Rattle.tj_words.specs.ShownParts.{parts_of}
 use Rattle.tj_words.specs.StepEvents.{MayAct}
 use Rattle.tj_words.specs.WalkSteps.{KeepsOthers}
 use Rattle.tj_words.specs.OwnerSteps.{DrawsCell, GivesOwner}

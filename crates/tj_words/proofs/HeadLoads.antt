@@ -21,7 +21,8 @@ use Rattle.tj_words.specs.SeenWords.{head_load}
 use Rattle.tj_words.proofs.Learning.{Knowing, knowing_of, IsSo}
 use Rattle.tj_words.proofs.LoadSteps.{knows, knows_so, load_allowed}
 use Rattle.tj_words.proofs.Merging.{begins_at}
-use Rattle.tj_words.proofs.KnowLoads.{all_cons, shut_is}
+use Rattle.tj_words.proofs.CellNames.{are_cells}
+use Rattle.tj_words.proofs.KnowLoads.{all_cons, HasBecome, one_become, shut_is, will_have}
 use Rattle.tj_words.proofs.ChainCells.{line_small, head_small}
 
 module _ {B : Type 0} (program : Bool → B → Program B) (key : Key B) where
@@ -31,27 +32,29 @@ module _ {B : Type 0} (program : Bool → B → Program B) (key : Key B) where
   -- the load of HEAD
   pub head_allowed : (slots id : ℕ) (m : SeatMe B) (c i cells cell : ℕ) → c < key.cells → i ≡ head_at c
       → cells ≡ key.cells → cell ≡ c
-      → Allows (Rule program key) slots id m i (λ n. n) (head_load cells cell (step slots i 0 0 none) m)
+      → Allows (Rule program key) slots id m i (λ n. n) (head_load program cells cell (step slots i 0 0 none) m)
   head_allowed slots id m c i cells cell l at f e =
-      load_allowed program key slots id m i (head_load cells cell (step slots i 0 0 none) m)
+      load_allowed program key slots id m i (head_load program cells cell (step slots i 0 0 none) m)
       (λ s r k. subst (λ d. (y : Knowing) × (plain loads steps : ℕ) × IsSo P key.cells (contents_of s) r.law y
-      × head_load cells d (step slots i 0 0 none) m (word s.words i) (knows y plain loads steps m.0, m.1)) (sym e)
+      × head_load program cells d (step slots i 0 0 none) m (word s.words i)
+      (knows y plain loads steps m.0, m.1)) (sym e)
       (subst (λ d. (y : Knowing) × (plain loads steps : ℕ) × IsSo P key.cells (contents_of s) r.law y
-      × head_load d c (step slots i 0 0 none) m (word s.words i) (knows y plain loads steps m.0, m.1)) (sym f)
+      × head_load program d c (step slots i 0 0 none) m (word s.words i) (knows y plain loads steps m.0, m.1)) (sym f)
       (subst (λ j. (y : Knowing) × (plain loads steps : ℕ) × IsSo P key.cells (contents_of s) r.law y
-      × head_load key.cells c (step slots i 0 0 none) m (word s.words j) (knows y plain loads steps m.0, m.1)) (sym at)
+      × head_load program key.cells c (step slots i 0 0 none) m (word s.words j)
+      (knows y plain loads steps m.0, m.1)) (sym at)
       (head_found s r k))))
     where
       head_found : (s : State (Option (Rec B)) (View B)) (r : Rule program key s) → get_elem? s.views id ≡ some m.0
           → (y : Knowing) × (plain loads steps : ℕ) × IsSo P key.cells (contents_of s) r.law y
-          × head_load key.cells c (step slots i 0 0 none) m (word s.words (head_at c))
+          × head_load program key.cells c (step slots i 0 0 none) m (word s.words (head_at c))
           (knows y plain loads steps m.0, m.1)
       head_found s r k = let v = m.0 in let so = knows_so program key s r id v k in let law = r.law in
           let small : word s.words (head_at c) ≤ shut_word = ⊎_elim (λ q. (omega arith))
           (λ q. let f = r.few_cells in (omega arith)) (r.codes.each c l).head in
           dite (ℕ_discrete (word s.words (head_at c)) shut_word)
           (λ q. let shut : head_in (word s.words (head_at c)) ≡ Shut = ap head_in q in
-          let has = law.meaning.entries c (law.chains.tagged c shut) in (
+          let has = law.meaning.entries c (law.chains.tagged c shut) in let w = has.1.written in (
             record (knowing_of v) {
               born = law.born;
               closed = c ∷ v.closed;
@@ -74,7 +77,18 @@ module _ {B : Type 0} (program : Bool → B → Program B) (key : Key B) where
             (
               refl,
               small,
-              (λ z. record { born = law.born; entry = has.0; begins = so.begins; view = refl }),
+              (λ z. record {
+                born = law.born;
+                entry = has.0;
+                reference = w.reference;
+                begins = so.begins;
+                is = w.is;
+                becomes = will_have program key v w.reference.name has.0 (r.seats id v k).about w.becomes;
+                same = λ y j e. one_become P key.cells (contents_of s) law c y.entry has.0
+                    (subst (λ d. HasBecome P key.cells (contents_of s) law d y.entry) e (so.filled y j)) has.1;
+                all = are_cells law;
+                view = refl;
+              }),
               (λ n. absurd (n shut)),
             ),
           ))

@@ -6,7 +6,7 @@ use mathlib.Core.Option.{some, none}
 use mathlib.Core.Logic.{dite}
 use native.Mathlib.Decide.{ℕ_discrete}
 use lib.ListN.{get_elem?}
-use Rattle.atomic_table.specs.Table.{State, step, keeps, Allows, Valid, stepped, carried_after}
+use Rattle.atomic_table.specs.Table.{State, step, keeps, Allows}
 use Rattle.atomic_table.proofs.Lists.{at_map, exchanged}
 use Rattle.tj_base.specs.Puts.{put}
 use Rattle.tj_base.specs.declared.cell.Sort.{Sort}
@@ -33,7 +33,7 @@ use Rattle.tj_words.specs.ChainSteps.{stored_next, pushed, took_chain, found_tak
 use Rattle.tj_words.specs.ChainSteps.{HasPush, HasPushBehind, KnowsEntry, next_store, shut_swap, push_exchange}
 use Rattle.tj_words.specs.LiveCount.{IsBacked}
 use Rattle.tj_words.specs.Telling.{tag_of, sort_tag}
-use Rattle.tj_words.specs.Contents.{WordsSay, words_say, SeatsHave, seats_have, Contents, contents_of, tag_in, drawn_in}
+use Rattle.tj_words.specs.Contents.{WordsSay, words_say, SeatsHave, seats_have, contents_of, tag_in, drawn_in}
 use Rattle.tj_words.specs.Law.{Law, Rule, IsSeat}
 use Rattle.tj_words.specs.SeatSteps.{SeatMe}
 use Rattle.tj_words.proofs.SeatContents.{set_seats, seats_same}
@@ -251,12 +251,12 @@ module _ {B : Type 0} (program : Bool → B → Program B) (key : Key B) where
       → t < key.cells → i ≡ head_at p → cells ≡ key.cells → cell ≡ p → head_in old ≡ behind → new ≡ suc t
       → HasPushBehind t p behind m.0 → behind ≢ Shut
       → Allows (Rule program key) slots id m i (λ n. either (eqb n old) new n)
-      (push_exchange cells cell (step slots i old new none) m)
+      (push_exchange program cells cell (step slots i old new none) m)
   push_allowed slots id m p t i old new cells cell behind lp lt at f e is_old is_new has unshut s r homes k small =
       exchanged (word s.words i) old new (λ n. Acts program key s id m i n Then) hit miss
     where
       Then : SeatMe B → Type 0
-      Then = push_exchange cells cell (step slots i old new none) m (word s.words i)
+      Then = push_exchange program cells cell (step slots i old new none) m (word s.words i)
 
       hit : word s.words i ≡ old → Acts program key s id m i new Then
       hit z = (

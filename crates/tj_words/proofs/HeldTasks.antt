@@ -1,5 +1,5 @@
 -- Tasks that seats hold and cells in hand, as searches through the views find them.
-use Rattle.std.proofs.Common.{◌≡◌, ◌≢◌, ◌⊎◌, ℕ, zero, suc, ◌<◌, cond, nat_eq, Bool, true, false, List, [], ◌∷◌, ◌++◌, length, get_or, inl, inr, ⊎_elim, arith, Option, Some, None, refl, sym, ap, ◌∙◌, subst, eq-eqb, ne_eqb}
+use Rattle.std.proofs.Common.{◌≡◌, ◌≢◌, ℕ, zero, suc, ◌<◌, cond, nat_eq, Bool, true, false, List, [], ◌∷◌, ◌++◌, length, get_or, inl, inr, ⊎_elim, arith, Option, Some, None, refl, sym, ap, ◌∙◌, eq-eqb, ne_eqb}
 use mathlib.Core.Logic.{dite}
 use mathlib.Core.Option.{some, some-injective, some-ne-none}
 use native.Mathlib.Decide.{ℕ_discrete}
@@ -9,7 +9,7 @@ use Rattle.tj_words.specs.declared.view.Hand.{Hand}
 use Rattle.tj_words.specs.declared.view.Custody.{Custody}
 use Rattle.tj_words.specs.Lists.{OfSeat}
 use Rattle.tj_words.specs.Holding.{held_in, find_in, or_else}
-use Rattle.tj_words.specs.Hands.{hand_in, making, Hands}
+use Rattle.tj_words.specs.Hands.{hand_in, making}
 
 -- nothing is something
 pub none_some : {A : Type 0} {Z : Type 0} (o : Option A) (a : A) → o ≡ None → o ≡ Some a → Z

@@ -1,7 +1,6 @@
 -- Which records lie at home after one slot has changed.
-use Rattle.std.proofs.Common.{◌≡◌, ◌≢◌, ℕ, ◌<◌, length, set, Option, Some, None, ap}
+use Rattle.std.proofs.Common.{◌≡◌, ◌≢◌, ℕ, ◌<◌, length, set, Some, None, ap}
 use mathlib.Core.Option.{some, none}
-use lib.ListN.{get_elem?}
 use Rattle.atomic_table.proofs.Lists.{set_here, set_else}
 use Rattle.tj_words.specs.declared.record.Rec.{Rec}
 use Rattle.tj_words.specs.Holding.{Slots, record_in, home_in}

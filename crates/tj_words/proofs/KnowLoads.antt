@@ -29,7 +29,6 @@ use Rattle.tj_words.specs.declared.offsets.Once.TheVariants as once
 use Rattle.tj_words.specs.declared.record.Rec.{Rec}
 use Rattle.tj_words.specs.declared.table.Key.{Key}
 use Rattle.tj_words.specs.declared.view.About.{About}
-use Rattle.tj_words.specs.declared.view.Filled.{Filled}
 use Rattle.tj_words.specs.declared.view.Hand.{Hand}
 use Rattle.tj_words.specs.declared.view.SeenWord.{SeenWord}
 use Rattle.tj_words.specs.declared.view.View.{View}
@@ -48,6 +47,7 @@ use Rattle.tj_words.specs.SeatSteps.{SeatMe}
 use Rattle.tj_words.specs.SeenWords.{IsTaskIn, LeadsTo}
 use Rattle.tj_words.specs.SeenWords.{ShowsNode, SeesTree, seen_word, MayRead, MayReadTree, FindsWord, WillHave}
 use Rattle.tj_words.specs.SeenWords.{bits_cells, once_load, next_load}
+use Rattle.tj_words.proofs.CellNames.{are_cells}
 use Rattle.tj_words.proofs.Learning.{Knowing, knowing_of, IsSo}
 use Rattle.tj_words.proofs.LoadSteps.{knows, knows_so, load_allowed}
 use Rattle.tj_words.proofs.Merging.{all_append, begins_at}
@@ -271,7 +271,7 @@ module _ {B : Type 0} (program : Program B) (cells : ℕ) (x : Contents B) (law 
       (named_there (drawn_in cells x) (hand_of x) has.0 (bits_in x c) has.1.written.named_there))
 
   -- this has become of the cell
-  abbrev HasBecome : ℕ → Entry → Type 0
+  abbrev pub HasBecome : ℕ → Entry → Type 0
   HasBecome c e = IsFilled program (drawn_in cells x) (hand_of x) law.born (tag_in x) (bits_in x) c e
 
   -- and nothing else
@@ -379,7 +379,7 @@ module _ {B : Type 0} (program : Bool → B → Program B) (key : Key B) where
                 small = small;
                 view = refl;
                 tree = sees_tree P key.cells (contents_of s) law (w ∷ v.seen) law.born seen (begins_self law.born);
-                few = let n = law.births.all in omega arith;
+                all = are_cells law;
                 leads = λ is. let b = begins_at v.born law.born so.begins c is.0 is.1 in
                     leads_to P key.cells (contents_of s) law links c f (word s.words (once_at c f)) (is.0, b, is.2)
                     (subst (λ z. word s.words (once_at c f) ≡ tree_word law.maker law.number law.forks z c f) is.2
@@ -441,7 +441,7 @@ module _ {B : Type 0} (program : Bool → B → Program B) (key : Key B) where
                   becomes = will_have v w.reference.name has.0 (r.seats id v k).about w.becomes;
                   same = λ y j q. one_become P key.cells (contents_of s) law c y.entry has.0
                       (subst (λ d. HasBecome P key.cells (contents_of s) law d y.entry) q (so.filled y j)) has.1;
-                  few = (let n = law.births.all in omega arith);
+                  all = are_cells law;
                   tag = has.1.tag_is;
                   view = refl;
                 }),
@@ -491,7 +491,7 @@ module _ {B : Type 0} (program : Bool → B → Program B) (key : Key B) where
                 born = law.born;
                 named = more.0;
                 begins = so.begins;
-                few = (let n = law.births.all in omega arith);
+                all = are_cells law;
                 says = λ y j q. let h = so.filled y j in (
                   subst (λ d. BitsSay law.born y.entry (word s.words (once_at d once.Bits))) q h.written.bits_say,
                   more.2 y.entry (subst (λ d. word s.words (once_at d once.Tag) ≡ tag_of y.entry) q h.tag_is),

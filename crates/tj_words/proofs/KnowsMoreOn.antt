@@ -1,6 +1,5 @@
 -- What a seat knows over several steps.
-use Rattle.std.proofs.Common.{◌≡◌, ◌∙◌, ℕ, List, [], ◌∷◌, ◌++◌, refl}
-use Rattle.tj_body.specs.Points.{Begins}
+use Rattle.std.proofs.Common.{◌∙◌, refl}
 use Rattle.tj_body.proofs.Lists.{begins_self, begins_trans}
 use Rattle.tj_words.specs.declared.view.View.{View}
 use Rattle.tj_words.specs.KnowsMore.{KnowsMore, HasSameWakes, HasSameHand, HasSameCounts}

@@ -28,6 +28,7 @@ pub record Knowing : Type 0 where
   pub closed : List ℕ
   pub found : List Found
   pub rested : Bool
+  pub stop : ℕ
 
 abbrev pub knowing_of : {B : Type 0} → View B → Knowing
 knowing_of v = record {
@@ -39,6 +40,7 @@ knowing_of v = record {
   closed = v.closed;
   found = v.found;
   rested = v.rested;
+  stop = v.stop;
 }
 
 module _ {B : Type 0} (program : Program B) (cells : ℕ) (x : Contents B) (law : Law program cells x) where

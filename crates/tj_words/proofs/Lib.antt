@@ -103,3 +103,6 @@ pub mod LeftSeats
 pub mod ReadyStores
 pub mod EndedStores
 pub mod HomeComings
+mod OneStates
+mod CallChanges
+mod EventCalls

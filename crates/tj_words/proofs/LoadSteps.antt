@@ -64,6 +64,7 @@ module _ {B : Type 0} where
     plain_loads = plain;
     once_loads = once;
     steps = steps;
+    stop = k.stop;
   }
 
   -- what holds of a view alone holds of it

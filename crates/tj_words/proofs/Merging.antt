@@ -85,11 +85,21 @@ both_know k l = record {
   closed = k.closed ++ l.closed;
   found = k.found ++ l.found;
   rested = k.rested || l.rested;
+  stop = k.stop;
 }
 
 abbrev pub nothing_known : Knowing
-nothing_known =
-    record { known = []; born = []; wrote = []; filled = []; seen = []; closed = []; found = []; rested = false }
+nothing_known = record {
+  known = [];
+  born = [];
+  wrote = [];
+  filled = [];
+  seen = [];
+  closed = [];
+  found = [];
+  rested = false;
+  stop = 0;
+}
 
 module _ {B : Type 0} (program : Program B) (cells : ℕ) (x : Contents B) (law : Law program cells x) where
   pub both_so : (k l : Knowing) → IsSo program cells x law k → IsSo program cells x law l

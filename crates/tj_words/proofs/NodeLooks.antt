@@ -1,32 +1,26 @@
 -- A look at a node of the tree of forks: four loads of words that are written once.
-use Rattle.std.proofs.Common.{◌≡◌, ◌≢◌, ◌⊎◌, ◌∙◌, ℕ, zero, suc, ◌+◌, ◌-◌, ◌<◌, ◌≤◌, List, [], ◌∷◌, ◌++◌, length, Option}
-use Rattle.std.proofs.Common.{refl, sym, ap, subst, arith, inl, inr, ⊎_elim, Bool, true, false, nat_le}
-use Rattle.std.proofs.lemmas.Bool.Decides.{leb_tells}
+use Rattle.std.proofs.Common.{◌≡◌, ◌⊎◌, ◌∙◌, ℕ, zero, suc, ◌-◌, ◌<◌, ◌≤◌, List, [], ◌∷◌, ◌++◌, length, Option}
+use Rattle.std.proofs.Common.{refl, sym, ap, subst, arith, inl, inr}
 use mathlib.Core.Option.{some, none}
 use lib.ListN.{get_elem?}
 use Rattle.atomic_table.specs.declared.shared.Seat.{Seat}
-use Rattle.tj_base.specs.declared.cell.Sort.TheVariants as sort
 use Rattle.tj_body.specs.Points.{IsIn, Begins}
 use Rattle.tj_body.specs.declared.point.Reference.{Reference}
 use Rattle.tj_body.proofs.Lists.{in_right}
 use Rattle.tj_tree.specs.declared.node.Node.{Node}
-use Rattle.tj_tree.specs.declared.node.NodeId.{NodeId}
-use Rattle.tj_tree.specs.declared.node.Place.{Place}
-use Rattle.tj_tree.specs.Forks.{name_of}
-use Rattle.tj_tree.specs.Nodes.{ArePartOfTree, InEachTree}
+use Rattle.tj_tree.specs.Nodes.{ArePartOfTree}
 use Rattle.tj_tree.specs.Walk.{GoesOn}
-use Rattle.tj_tree.specs.Inner.Moves.{IsKnown, IsAtOrAbove, move_from}
 use Rattle.tj_words.specs.declared.offsets.Once.{Once}
 use Rattle.tj_words.specs.declared.offsets.Once.TheVariants as once
 use Rattle.tj_words.specs.declared.record.Rec.{Rec}
 use Rattle.tj_words.specs.declared.table.Laid.{Laid}
 use Rattle.tj_words.specs.declared.view.SeenWord.{SeenWord}
 use Rattle.tj_words.specs.declared.view.View.{View}
-use Rattle.tj_words.specs.SeatSteps.{IsSameSeat, IsSeatOf, IsCellOf}
-use Rattle.tj_words.specs.SeenWords.{FindsWord, IsTaskIn, IsNamedBy, MayReadTree, SeesTree, ShowsNode, seen_word}
-use Rattle.tj_words.specs.TreeWords.{IsCell, IsOfTree}
+use Rattle.tj_words.specs.SeatSteps.{IsSameSeat, IsSeatOf}
+use Rattle.tj_words.specs.SeenWords.{FindsWord, IsTaskIn, MayReadTree, ShowsNode, seen_word}
+use Rattle.tj_words.specs.TreeWords.{AreCells}
 use Rattle.tj_words.proofs.Merging.{begins_at}
-use Rattle.tj_words.proofs.LaterSeats.{read_on, later_on}
+use Rattle.tj_words.proofs.LaterSeats.{later_on}
 use Rattle.tj_words.specs.TreeReads.{HasReadTree, IsLater, MayLook, TreeShown}
 
 -- an index at which something stands is below the length
@@ -37,9 +31,10 @@ below (y ∷ l) (suc i) x e = let h = below l i x e in omega arith
 
 module _ {B : Type 0} (cells : ℕ) where
   -- after one load the view knows more of the tree
-  pub word_read : (f : Once) (c n : ℕ) (v w : View B) → FindsWord cells f c n v w → HasReadTree v w
+  pub word_read : (f : Once) (c n : ℕ) (v w : View B) → FindsWord cells f c n v w → HasReadTree cells v w
   word_read f c n v w h = record {
     begins = subst (Begins v.born) (sym (ap (λ (u : View B). u.born) h.view)) h.begins;
+    all = λ a. subst (λ (u : View B). AreCells cells u.born) (sym h.view) h.all;
     more = seen_word c f n ∷ [];
     seen = ap (λ (u : View B). u.seen) h.view;
     loads = let a = ap (λ (u : View B). u.steps) h.view in let b = ap (λ (u : View B). u.once_loads) h.view in omega
@@ -60,11 +55,12 @@ module _ {B : Type 0} (cells : ℕ) where
 
 module _ {B : Type 0} where
   -- what was seen stays so
-  pub seen_later : (v w : View B) → HasReadTree v w → (s : SeenWord) → IsIn s v.seen → IsIn s w.seen
+  pub seen_later : {cells : ℕ} (v w : View B) → HasReadTree cells v w → (s : SeenWord) → IsIn s v.seen
+      → IsIn s w.seen
   seen_later v w h s i = subst (IsIn s) (sym h.seen) (in_right s h.more v.seen i)
 
-  pub shown_later : (v w : View B) → HasReadTree v w → (n : ℕ) (node : Node) → ShowsNode v.seen n node
-      → ShowsNode w.seen n node
+  pub shown_later : {cells : ℕ} (v w : View B) → HasReadTree cells v w → (n : ℕ) (node : Node)
+      → ShowsNode v.seen n node → ShowsNode w.seen n node
   shown_later v w h n node s = record {
     parent = s.parent;
     parent_seen = seen_later v w h _ s.parent_seen;
@@ -74,16 +70,18 @@ module _ {B : Type 0} where
     jump = seen_later v w h _ s.jump;
   }
 
-  pub task_later : (v w : View B) → HasReadTree v w → (c : ℕ) → IsTaskIn v.born c → IsTaskIn w.born c
+  pub task_later : {cells : ℕ} (v w : View B) → HasReadTree cells v w → (c : ℕ) → IsTaskIn v.born c
+      → IsTaskIn w.born c
   task_later v w h c t = (t.0, begins_at v.born w.born h.begins c t.0 t.1, t.2)
 
-  pub may_later : (v w : View B) → HasReadTree v w → (c : ℕ) → MayReadTree c v → MayReadTree c w
+  pub may_later : {cells : ℕ} (v w : View B) → HasReadTree cells v w → (c : ℕ) → MayReadTree c v
+      → MayReadTree c w
   may_later v w h c (inl e) = inl e
   may_later v w h c (inr (inl i)) = inr (inl (subst (IsIn c) (sym (ap (λ (u : View B). u.known) h.rest)) i))
   may_later v w h c (inr (inr n)) = inr (inr (n.0, seen_later v w h n.0 n.1, n.2))
 
-  pub look_later : (laid : Laid B) (s t : Seat (Option (Rec B)) (View B)) → IsLater s t → (c : ℕ) → MayLook laid s c
-      → MayLook laid t c
+  pub look_later : {cells : ℕ} (laid : Laid B) (s t : Seat (Option (Rec B)) (View B)) → IsLater cells s t → (c : ℕ)
+      → MayLook laid s c → MayLook laid t c
   look_later laid s t h c m = record {
     table = h.0.0 ∙ m.table;
     cell = m.cell;
@@ -120,25 +118,25 @@ module _ {B : Type 0} (laid : Laid B) (c parent kid depth jump : ℕ) (s0 s1 s2 
     (f2 : FindsWord laid.cells once.Kid c kid s1.me.0 s2.me.0)
     (f3 : FindsWord laid.cells once.Depth c depth s2.me.0 s3.me.0)
     (f4 : FindsWord laid.cells once.Jump c jump s3.me.0 s4.me.0) where
-  l1 : IsLater s0 s1
+  l1 : IsLater laid.cells s0 s1
   l1 = (q1, word_read laid.cells once.Parent c parent s0.me.0 s1.me.0 f1)
 
-  l2 : IsLater s1 s2
+  l2 : IsLater laid.cells s1 s2
   l2 = (q2, word_read laid.cells once.Kid c kid s1.me.0 s2.me.0 f2)
 
-  l3 : IsLater s2 s3
+  l3 : IsLater laid.cells s2 s3
   l3 = (q3, word_read laid.cells once.Depth c depth s2.me.0 s3.me.0 f3)
 
-  l4 : IsLater s3 s4
+  l4 : IsLater laid.cells s3 s4
   l4 = (q4, word_read laid.cells once.Jump c jump s3.me.0 s4.me.0 f4)
 
-  l34 : IsLater s2 s4
+  l34 : IsLater laid.cells s2 s4
   l34 = later_on s2 s3 s4 l3 l4
 
-  l24 : IsLater s1 s4
+  l24 : IsLater laid.cells s1 s4
   l24 = later_on s1 s2 s4 l2 l34
 
-  pub four_later : IsLater s0 s4
+  pub four_later : IsLater laid.cells s0 s4
   four_later = later_on s0 s1 s4 l1 l24
 
   task_at_3 : IsTaskIn s3.me.0.born c
@@ -175,13 +173,13 @@ module _ {B : Type 0} (laid : Laid B) (c parent kid depth jump : ℕ) (s0 s1 s2 
       (seen_later s1.me.0 s4.me.0 l24.1 (seen_word c once.Parent parent)
       (word_seen laid.cells once.Parent c parent s0.me.0 s1.me.0 f1))
       (inl refl) e (f1.leads may.task)
-      (subst (λ b. Begins b s4.me.0.born) (ap (λ (u : View B). u.born) f1.view) l24.1.begins) f1.few
+      (subst (λ b. Begins b s4.me.0.born) (ap (λ (u : View B). u.born) f1.view) l24.1.begins) f1.all.few
 
   pub four_jump : (p : ℕ) → suc p ≡ jump → MayLook laid s4 p
   four_jump p e = led laid laid.cells s4 (seen_word c once.Jump jump) f4.born p (four_later.0.0 ∙ may.table)
       (word_seen laid.cells once.Jump c jump s3.me.0 s4.me.0 f4)
       (inr refl) (omega (arith, e)) (f4.leads task_at_3).1
-      (subst (λ b. Begins b s4.me.0.born) (ap (λ (u : View B). u.born) f4.view) (([], nil s4.me.0.born))) f4.few
+      (subst (λ b. Begins b s4.me.0.born) (ap (λ (u : View B). u.born) f4.view) (([], nil s4.me.0.born))) f4.all.few
     where
       nil : (l : List Reference) → l ≡ l ++ []
       nil [] = refl

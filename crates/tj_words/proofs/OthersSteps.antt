@@ -41,7 +41,7 @@ use Rattle.tj_words.proofs.WalkLoads.{turned_seat, turned_seats, held_by_view, o
 use Rattle.tj_words.proofs.WalkReads.{doing, turned_to, task_turned, law_turned}
 
 -- what the words say after a store of OTHERS
-say_others : (ws : List ℕ) (n : ℕ) → others_at < length ws
+pub say_others : (ws : List ℕ) (n : ℕ) → others_at < length ws
     → words_say (set ws others_at n) ≡ record (words_say ws) { others = n }
 say_others ws n l j = record {
   count = word_else ws others_at count_at n (λ e. omega arith) j;
@@ -56,7 +56,7 @@ say_others ws n l j = record {
 }
 
 -- a task that may act runs
-acting_phase : (d : Does) → MayAct d → phase_of does.Raised ≡ phase_of d
+pub acting_phase : (d : Does) → MayAct d → phase_of does.Raised ≡ phase_of d
 acting_phase does.Unborn m = absurd m
 acting_phase does.Fresh m = refl
 acting_phase does.Running m = refl

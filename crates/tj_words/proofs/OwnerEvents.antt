@@ -1,8 +1,8 @@
 -- The stores of OWN are events of the core, or show nothing.
-use Rattle.std.proofs.Common.{◌≡◌, ◌≢◌, ◌⊎◌, ℕ, zero, suc, ◌+◌, ◌<◌, ◌≤◌, cond, nat_eq, nat_lt, Bool, true, false, List, Option, Some, None, refl, sym, ap, ◌∙◌, subst, eq-eqb, ne_eqb, arith}
+use Rattle.std.proofs.Common.{◌≡◌, ◌≢◌, ℕ, zero, suc, ◌<◌, ◌≤◌, cond, Bool, List, Option, Some, None, refl, sym, ap, ◌∙◌, subst, eq-eqb, ne_eqb, arith}
 use mathlib.Core.Logic.{dite}
-use mathlib.Core.Option.{some, some-injective, some-ne-none}
-use native.Mathlib.Decide.{ℕ_discrete, dec_le}
+use mathlib.Core.Option.{some, some-injective}
+use native.Mathlib.Decide.{dec_le}
 use lib.ListN.{get_elem?}
 use Rattle.tj_base.specs.declared.cell.Sort.{Sort}
 use Rattle.tj_base.specs.declared.cell.Sort.TheVariants as sort
@@ -10,9 +10,9 @@ use Rattle.tj_body.specs.Points.{IsIn}
 use Rattle.tj_body.specs.Programs.{Program}
 use Rattle.tj_body.specs.declared.point.Reference.{Reference}
 use Rattle.tj_core.specs.declared.event.Event.TheVariants as event
-use Rattle.tj_core.specs.CoreState.{CellStage, CellState, Cells, CoreState, owner, maker, stage, running, fresh, ended, promise, Runs}
+use Rattle.tj_core.specs.CoreState.{CellState, CoreState, owner, maker, stage, running, fresh, ended, promise, Runs}
 use Rattle.tj_base.specs.Puts.{put}
-use Rattle.tj_core.specs.Events.{staged, owned_by, alter, restage, stage_after_close, OwnsNothingElse, Owns}
+use Rattle.tj_core.specs.Events.{owned_by, alter, restage, stage_after_close}
 use Rattle.tj_base.proofs.Puts.{put_here, put_else}
 use Rattle.tj_words.specs.declared.offsets.Once.TheVariants as once
 use Rattle.tj_words.specs.declared.phase.Phase.{Phase}
@@ -21,23 +21,23 @@ use Rattle.tj_words.specs.declared.view.Hand.{Hand}
 use Rattle.tj_words.specs.declared.view.Does.{Does}
 use Rattle.tj_words.specs.declared.view.Does.TheVariants as does
 use Rattle.tj_words.specs.declared.view.Custody.{Custody}
-use Rattle.tj_words.specs.Lists.{total, cell}
+use Rattle.tj_words.specs.Lists.{cell}
 use Rattle.tj_words.specs.Holding as holding
 use Rattle.tj_words.specs.Holding.{made_by, phase_of, held_in}
 use Rattle.tj_words.specs.Hands.{hand_in, IsThere}
 use Rattle.tj_words.specs.TreeWords.{parent_word}
 use Rattle.tj_words.specs.ShownState.{phase_sort, first_owner, owner_shown, new_stage, stage_there, reference_of}
-use Rattle.tj_words.specs.Contents.{Contents, hand_of, drawn_in, held_of, home_of, owned_of, core_shown}
+use Rattle.tj_words.specs.Contents.{Contents, hand_of, drawn_in, held_of, home_of, core_shown}
 use Rattle.tj_words.specs.Law.{Law}
-use Rattle.tj_words.specs.ShownParts.{Parts, parts_of, shown_by, cell_by, IsSameButOwner}
-use Rattle.tj_words.specs.StepEvents.{IsBegun, MayAct, IsHeldWith, ShowsEvent}
+use Rattle.tj_words.specs.ShownParts.{Parts, parts_of, shown_by, IsSameButOwner}
+use Rattle.tj_words.specs.StepEvents.{IsBegun, MayAct, ShowsEvent}
 use Rattle.tj_words.specs.OwnerSteps.{ActsOn, HandsPromise, ClosesPromise, ClosesResult}
 use Rattle.tj_words.proofs.HeldTasks.{none_some, one_some, hand_found}
 use Rattle.tj_words.proofs.ShownCells.{restaged, stage_out, owner_out, cell_there, cell_blank}
 use Rattle.tj_words.proofs.ShownOwners.{unchanged, first, second, to_first, to_second, promise_owned, result_closed}
-use Rattle.tj_words.proofs.TaskPlaces.{does_shown, does_stage_there, begun_there, custody, held_here, held_drawn, list_owned, stage_held}
+use Rattle.tj_words.proofs.TaskPlaces.{does_shown, does_stage_there, begun_there, custody, held_here, list_owned, stage_held}
 use Rattle.tj_words.proofs.CellFacts.{cell_born}
-use Rattle.tj_words.proofs.TurnedTasks.{acting_runs, acting_begun}
+use Rattle.tj_words.proofs.TurnedTasks.{acting_runs}
 
 -- a task that acts runs, by its phase
 acting_phase : (d : Does) → MayAct d → phase_of d ≡ phase.Running

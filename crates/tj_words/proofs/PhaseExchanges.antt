@@ -1,5 +1,5 @@
 -- The exchanges of PHASE keep the rule: a claim, a wake, and the way back of a task that its seat had parked.
-use Rattle.std.proofs.Common.{◌≡◌, ◌≢◌, ◌⊎◌, ℕ, suc, ◌+◌, ◌-◌, ◌<◌, ◌≤◌, Bool}
+use Rattle.std.proofs.Common.{◌≡◌, ◌≢◌, ℕ, suc, ◌+◌, ◌-◌, ◌<◌, ◌≤◌, Bool}
 use Rattle.std.proofs.Common.{List, ◌∷◌, ◌++◌, drop, length, map, set}
 use Rattle.std.proofs.Common.{Option, Some, None, refl, sym, ap, ◌∙◌, subst, inl, inr, ⊎_elim, arith, eqb, length-set}
 use prog.Atomic.{either}
@@ -32,7 +32,8 @@ use Rattle.tj_words.specs.declared.view.Filled.{Filled}
 use Rattle.tj_words.specs.declared.view.Push.{Push}
 use Rattle.tj_words.specs.declared.view.Rest.{Rest}
 use Rattle.tj_words.specs.declared.view.View.{View}
-use Rattle.tj_words.specs.Lists.{OfSeat, total, numbers, cell}
+use Rattle.tj_words.specs.Lists.{OfSeat, total, numbers, cell, AreApart}
+use Rattle.tj_words.specs.TreeWords.{AreCells}
 use Rattle.tj_words.specs.Holding.{Slots, home_in, held_in, made_by, owned_by}
 use Rattle.tj_words.specs.Hands.{IsThere}
 use Rattle.tj_words.specs.Lots.{IsSpent, IsWithinLot}
@@ -67,7 +68,7 @@ use Rattle.tj_words.proofs.HeldChanges.{let_go_in}
 use Rattle.tj_words.proofs.HeldTasks.{none_some, one_some}
 use Rattle.tj_words.proofs.HomeMoves.{HomeMove, law_moved, found_new}
 use Rattle.tj_words.proofs.HomeSlots.{home_out, home_else_out}
-use Rattle.tj_words.proofs.CellNames.{born_apart}
+use Rattle.tj_words.proofs.CellNames.{are_cells, born_apart}
 use Rattle.tj_words.proofs.KnowLoads.{all_cons, born_at}
 use Rattle.tj_words.proofs.LawMeant.{ground_of, known_of}
 use Rattle.tj_words.proofs.LiveSteps.{count_turned, backing_running}
@@ -195,8 +196,13 @@ module _ {B : Type 0} (program : Bool → B → Program B) (key : Key B) (s : St
         born = law.born;
         more = more;
         begins = law.meaning.begins id v.born (mine (λ u. u.born));
+        all = λ a e. subst (λ (z : About B). AreCells z.cells law.born) (sym ((r.seats id v at).about a e))
+            (are_cells law);
         of_task = of_task;
         unfinished = ready.0;
+        owned_apart = subst AreApart
+            (ap (λ (o : Option (Custody B)). owned_by o (home_of x t)) (unheld law t kept.0)
+            ∙ ap (λ (o : Option (Rec B)). owned_by None o) kept.1.1) (law.owned.owned_apart t);
         owns_result = subst (λ z. IsIn z (numbers c.owned)) of_task
             (owns_itself law.born (born_apart law) c told.point told.tells told.tells_stage ready.0);
         known = λ a e. subst (λ (z : About B). IsKnownRecord (program z.strict z.root) law.born (more ++ v.filled) c)

@@ -1,16 +1,14 @@
 -- Steps that show nothing.
-use Rattle.std.proofs.Common.{◌≡◌, ◌≢◌, ℕ, suc, ◌+◌, ◌<◌, ◌≤◌, min, cond, nat_lt, nat_eq, Bool, true, false, List, [], ◌∷◌, ◌++◌, arith, Option, Some, None, refl, sym, ap, ◌∙◌, subst}
+use Rattle.std.proofs.Common.{◌≡◌, ◌≢◌, ℕ, suc, ◌+◌, min, cond, nat_lt, [], ◌∷◌, ◌++◌, arith, Option, Some, None, refl, sym, ap, ◌∙◌, subst}
 use mathlib.Core.Logic.{dite}
 use native.Mathlib.Decide.{ℕ_discrete}
 use Rattle.tj_base.specs.declared.cell.Sort.TheVariants as sort
-use Rattle.tj_body.specs.Points.{IsIn}
 use Rattle.tj_body.specs.Programs.{Program}
 use Rattle.tj_body.specs.declared.ask.Answer.{Answer}
 use Rattle.tj_body.specs.declared.ask.Answer.TheVariants as answer
-use Rattle.tj_body.specs.declared.point.Reference.{Reference}
 use Rattle.tj_core.specs.declared.walk.Way.{Way}
 use Rattle.tj_core.specs.declared.walk.Walker.{Walker}
-use Rattle.tj_core.specs.CoreState.{CellStage, CellState, CoreState, blank, stage, running, ended}
+use Rattle.tj_core.specs.CoreState.{CoreState, blank}
 use Rattle.tj_words.specs.declared.phase.Walk.TheVariants as walk
 use Rattle.tj_words.specs.declared.phase.Phase.{Phase}
 use Rattle.tj_words.specs.declared.phase.Phase.TheVariants as phase
@@ -21,17 +19,17 @@ use Rattle.tj_words.specs.declared.view.Does.TheVariants as does
 use Rattle.tj_words.specs.declared.view.Custody.{Custody}
 use Rattle.tj_words.specs.Lists.{total, cell}
 use Rattle.tj_words.specs.Holding.{made_by, phase_of}
-use Rattle.tj_words.specs.Hands.{hand_in, IsThere}
-use Rattle.tj_words.specs.ShownState.{phase_sort, new_stage, answer_stage, does_stage, stage_there, stage_shown, owner_shown, hand_stage, first_owner, reference_of}
+use Rattle.tj_words.specs.Hands.{IsThere}
+use Rattle.tj_words.specs.ShownState.{phase_sort, answer_stage, does_stage, stage_there, stage_shown, owner_shown, hand_stage, first_owner, reference_of}
 use Rattle.tj_words.specs.Contents.{WordsSay, Contents, hand_of, drawn_in, held_of, home_of, core_shown}
 use Rattle.tj_words.specs.Law.{Law}
 use Rattle.tj_words.specs.ShownParts.{Parts, parts_of, shown_by, cell_by}
 use Rattle.tj_words.specs.StepEvents.{IsBegun, ShowsNothing, IsMoved}
-use Rattle.tj_words.specs.WalkSteps.{KeepsOthers, Turns, Leaves}
+use Rattle.tj_words.specs.WalkSteps.{KeepsOthers, Leaves}
 use Rattle.tj_words.specs.QuietSteps.{does_first, IsMarked, KeepsHoldings, LoadsOnly, StoresOnce, ChangesLive, ChangesStop, ChangesHead, ChangesNext, DrawIsRefused, SplitsSeat, ClaimsTask, ReleasesTask, EndsTask, ShelvesTask, MovesRecord, MarksPromise}
 use Rattle.tj_words.proofs.Appending.{hand_snoc, making_snoc, find_snoc, total_snoc}
 use Rattle.tj_words.proofs.ShownCells.{states_same, stage_out}
-use Rattle.tj_words.proofs.TaskPlaces.{does_shown, does_stage_there, begun_there, custody, held_here, held_drawn}
+use Rattle.tj_words.proofs.TaskPlaces.{does_stage_there, begun_there, custody, held_here}
 use Rattle.tj_words.proofs.TurnedTasks.{moved_nothing}
 
 -- what a claimed task shows is what it showed while it was ready

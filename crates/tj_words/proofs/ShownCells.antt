@@ -1,21 +1,16 @@
 -- What the core state shows after the parts of one cell or two have changed.
-use Rattle.std.proofs.Common.{◌≡◌, ◌≢◌, ℕ, suc, ◌+◌, ◌<◌, ◌≤◌, cond, nat_lt, nat_eq, Bool, true, false, List, Option, Some, None, refl, sym, ap, ◌∙◌, subst, lt-ltb, le-ltb, arith}
+use Rattle.std.proofs.Common.{◌≡◌, ◌≢◌, ℕ, ◌+◌, ◌<◌, ◌≤◌, cond, nat_lt, nat_eq, Bool, true, false, List, Option, None, refl, sym, ap, ◌∙◌, subst, lt-ltb, le-ltb}
 use mathlib.Core.Logic.{dite}
-use native.Mathlib.Decide.{ℕ_discrete, dec_le}
-use Rattle.tj_base.specs.ForkOrder.{Name, child}
-use Rattle.tj_base.specs.declared.cell.Sort.TheVariants as sort
+use native.Mathlib.Decide.{ℕ_discrete}
 use Rattle.tj_body.specs.declared.point.Reference.{Reference}
-use Rattle.tj_core.specs.CoreState.{CellStage, CellState, Cells, CoreState, blank, owner, stage, running, ended, promise}
+use Rattle.tj_core.specs.CoreState.{CellStage, CellState, CoreState, blank, owner, stage}
 use Rattle.tj_base.specs.Puts.{put}
-use Rattle.tj_core.specs.Events.{staged, owned_by, alter, restage, one_made, new_cell, with_new}
+use Rattle.tj_core.specs.Events.{staged, restage}
 use Rattle.tj_base.proofs.Puts.{put_here, put_else}
-use Rattle.tj_words.specs.declared.phase.Phase.{Phase}
-use Rattle.tj_words.specs.declared.record.Rec.{Rec}
 use Rattle.tj_words.specs.declared.view.Hand.{Hand}
-use Rattle.tj_words.specs.declared.view.Custody.{Custody}
 use Rattle.tj_words.specs.Holding.{made_by}
-use Rattle.tj_words.specs.ShownState.{phase_sort, first_owner, hand_stage, reference_of, owner_shown, stage_there, stage_shown}
-use Rattle.tj_words.specs.ShownParts.{Parts, cell_by, shown_by, IsSameBut, IsSameButOwner}
+use Rattle.tj_words.specs.ShownState.{phase_sort, reference_of, owner_shown, stage_there, stage_shown}
+use Rattle.tj_words.specs.ShownParts.{Parts, cell_by, shown_by, IsSameBut}
 
 -- two states that agree are the same
 pub states_same : (s z : CoreState) → s.count ≡ z.count → ((c : ℕ) → s.cells c ≡ z.cells c)

@@ -1,14 +1,13 @@
 -- What the core state shows after a cell is drawn.
-use Rattle.std.proofs.Common.{◌≡◌, ◌≢◌, ℕ, suc, ◌+◌, ◌<◌, ◌≤◌, cond, nat_lt, Bool, List, Option, Some, None, refl, sym, ap, ◌∙◌, subst, lt-ltb, arith}
+use Rattle.std.proofs.Common.{◌≡◌, ◌≢◌, ℕ, suc, ◌+◌, ◌<◌, ◌≤◌, List, Option, Some, None, sym, ap, ◌∙◌, subst, arith}
 use mathlib.Core.Logic.{dite}
 use native.Mathlib.Decide.{ℕ_discrete, dec_le}
 use Rattle.tj_base.specs.ForkOrder.{child}
 use Rattle.tj_body.specs.declared.point.Reference.{Reference}
-use Rattle.tj_core.specs.CoreState.{CellState, Cells, CoreState, blank, running}
+use Rattle.tj_core.specs.CoreState.{CellState, Cells, CoreState, running}
 use Rattle.tj_base.specs.Puts.{put}
 use Rattle.tj_core.specs.Events.{one_made, new_cell, with_new}
 use Rattle.tj_base.proofs.Puts.{put_here, put_else}
-use Rattle.tj_words.specs.declared.phase.Phase.{Phase}
 use Rattle.tj_words.specs.declared.view.Hand.{Hand}
 use Rattle.tj_words.specs.Holding.{made_by}
 use Rattle.tj_words.specs.ShownState.{phase_sort, first_owner, hand_stage, reference_of, owner_shown, stage_there, stage_shown}

@@ -1,16 +1,15 @@
 -- What the core state shows after a cell has another owner, or a cell in hand has its first one.
-use Rattle.std.proofs.Common.{◌≡◌, ◌≢◌, ℕ, suc, ◌+◌, ◌<◌, ◌≤◌, cond, nat_lt, nat_eq, Bool, true, false, List, Option, Some, None, refl, sym, ap, ◌∙◌, subst, arith}
+use Rattle.std.proofs.Common.{◌≡◌, ◌≢◌, ℕ, ◌+◌, ◌<◌, cond, nat_lt, List, Option, Some, None, refl, sym, ap, ◌∙◌, subst}
 use mathlib.Core.Logic.{dite}
 use native.Mathlib.Decide.{ℕ_discrete}
 use Rattle.tj_base.specs.declared.cell.Sort.TheVariants as sort
 use Rattle.tj_body.specs.declared.point.Reference.{Reference}
-use Rattle.tj_core.specs.CoreState.{CellStage, CellState, Cells, CoreState, blank, owner, stage, running, ended, promise}
+use Rattle.tj_core.specs.CoreState.{CellState, Cells, CoreState, blank, ended, promise}
 use Rattle.tj_base.specs.Puts.{put}
-use Rattle.tj_core.specs.Events.{staged, owned_by, alter, restage, stage_after_close}
+use Rattle.tj_core.specs.Events.{staged, owned_by, alter, restage}
 use Rattle.tj_base.proofs.Puts.{put_here, put_else}
 use Rattle.tj_words.specs.declared.phase.Phase.{Phase}
 use Rattle.tj_words.specs.declared.view.Hand.{Hand}
-use Rattle.tj_words.specs.declared.view.Custody.{Custody}
 use Rattle.tj_words.specs.Holding.{made_by}
 use Rattle.tj_words.specs.ShownState.{phase_sort, first_owner, hand_stage, reference_of, owner_shown, stage_there, stage_shown}
 use Rattle.tj_words.specs.ShownParts.{Parts, cell_by, shown_by, IsSameBut, IsSameButOwner, IsGivenOwner}

@@ -1,16 +1,14 @@
 -- A load of STOP tells whether the meaning is full.
-use Rattle.std.proofs.Common.{◌≡◌, ℕ, suc, Bool, List, Option, Some, refl, sym, subst}
+use Rattle.std.proofs.Common.{ℕ, suc, Bool, refl, sym, subst}
 use mathlib.Core.Option.{none}
-use Rattle.atomic_table.specs.Table.{State, Allows, step}
+use Rattle.atomic_table.specs.Table.{Allows, step}
 use Rattle.tj_body.specs.Programs.{Program}
 use Rattle.tj_body.specs.Rounds.{IsFull}
-use Rattle.tj_words.specs.declared.record.Rec.{Rec}
 use Rattle.tj_words.specs.declared.table.Key.{Key}
 use Rattle.tj_words.specs.declared.view.About.{About}
-use Rattle.tj_words.specs.declared.view.View.{View}
 use Rattle.tj_words.specs.FullMeaning.{stop_load}
 use Rattle.tj_words.specs.Law.{Rule}
-use Rattle.tj_words.specs.Offsets.{stop_at}
+use Rattle.tj_words.specs.Offsets.{stop_at, word}
 use Rattle.tj_words.specs.SeatSteps.{SeatMe}
 use Rattle.tj_words.proofs.Learning.{knowing_of}
 use Rattle.tj_words.proofs.LoadSteps.{knows_so, load_allowed}
@@ -20,11 +18,21 @@ module _ {B : Type 0} (program : Bool → B → Program B) (key : Key B) where
       → Allows (Rule program key) slots id m stop_at (λ n. n) (stop_load program (step slots stop_at 0 0 none) m)
   stop_allowed slots id m =
       load_allowed program key slots id m stop_at (stop_load program (step slots stop_at 0 0 none) m) (λ s r at. (
-        knowing_of m.0,
+        record (knowing_of m.0) { stop = word s.words stop_at },
         m.0.plain_loads,
         m.0.once_loads,
         suc m.0.steps,
-        knows_so program key s r id m.0 at,
+        (let o = knows_so program key s r id m.0 at in record {
+          known = o.known;
+          begins = o.begins;
+          known_born = o.known_born;
+          wrote = o.wrote;
+          filled = o.filled;
+          seen = o.seen;
+          closed = o.closed;
+          found = o.found;
+          rested = o.rested;
+        }),
         (
           refl,
           refl,

@@ -1,5 +1,5 @@
 -- What a seat has and knows of a record that it takes out of its slot.
-use Rattle.std.proofs.Common.{◌≡◌, ◌≢◌, ◌⊎◌, ℕ, List, [], ◌∷◌, ◌++◌, Option, Some, None, refl, sym, ap, subst}
+use Rattle.std.proofs.Common.{◌≡◌, ◌≢◌, ℕ, List, [], ◌∷◌, ◌++◌, Option, Some, None, refl, sym, ap, subst}
 use Rattle.std.proofs.Common.{inl, inr, ⊎_elim}
 use mathlib.Core.Option as maybe
 use mathlib.Core.Option.{some, none}

@@ -1,34 +1,31 @@
 -- Where a task is and what the core state shows of it, under the law.
-use Rattle.std.proofs.Common.{◌≡◌, ◌≢◌, ◌⊎◌, ℕ, zero, suc, ◌<◌, ◌≤◌, cond, nat_eq, Bool, true, false, List, [], ◌∷◌, Option, Some, None, refl, sym, ap, ◌∙◌, subst, arith}
+use Rattle.std.proofs.Common.{◌≡◌, ℕ, ◌<◌, ◌≤◌, Bool, true, false, Option, Some, None, refl, sym, ap, ◌∙◌, subst, arith}
 use mathlib.Core.Logic.{dite}
-use mathlib.Core.Option.{some, some-injective, some-ne-none}
+use mathlib.Core.Option.{some-injective}
 use native.Mathlib.Decide.{dec_le}
 use lib.ListN.{get_elem?}
-use Rattle.tj_base.specs.declared.cell.CellId.{CellId}
-use Rattle.tj_base.specs.declared.cell.Sort.{Sort}
 use Rattle.tj_base.specs.declared.cell.Sort.TheVariants as sort
 use Rattle.tj_body.specs.Points.{IsIn}
 use Rattle.tj_body.specs.Programs.{Program}
-use Rattle.tj_core.specs.CoreState.{CellStage, CellState, CoreState, owner, stage, wait, wait_of, waits, walks, parked, alarmed, running, raised, fresh, ended, promise}
+use Rattle.tj_core.specs.CoreState.{CellStage, CoreState, stage, waits, walks, alarmed, running, raised}
 use Rattle.tj_words.specs.declared.phase.Walk.TheVariants as walk
-use Rattle.tj_words.specs.declared.phase.Phase.{Phase}
 use Rattle.tj_words.specs.declared.phase.Phase.TheVariants as phase
 use Rattle.tj_words.specs.declared.record.Rec.{Rec}
 use Rattle.tj_words.specs.declared.view.Hand.{Hand}
 use Rattle.tj_words.specs.declared.view.Does.{Does}
 use Rattle.tj_words.specs.declared.view.Does.TheVariants as does
 use Rattle.tj_words.specs.declared.view.Custody.{Custody}
-use Rattle.tj_words.specs.Lists.{OfSeat, cell}
-use Rattle.tj_words.specs.Holding.{held_in, find_in, phase_of, owned_by}
+use Rattle.tj_words.specs.Lists.{cell}
+use Rattle.tj_words.specs.Holding.{held_in, phase_of, owned_by}
 use Rattle.tj_words.specs.Hands.{hand_in, hand_phase, IsThere}
-use Rattle.tj_words.specs.Custodies.{IsCustody, IsHeld, LiesAtHome, IsKept}
-use Rattle.tj_words.specs.ShownState.{phase_sort, sort_shown, new_stage, stage_there, phase_stage}
+use Rattle.tj_words.specs.Custodies.{IsCustody}
+use Rattle.tj_words.specs.ShownState.{phase_sort, new_stage, stage_there}
 use Rattle.tj_words.specs.Contents.{Contents, hand_of, drawn_in, held_of, home_of, owned_of, core_shown}
 use Rattle.tj_words.specs.Law.{Law}
 use Rattle.tj_words.specs.ShownParts.{parts_of}
 use Rattle.tj_words.specs.StepEvents.{IsBegun, IsHeldWith}
 use Rattle.tj_words.proofs.HeldTasks.{none_some, one_some, found, finds, hand_found}
-use Rattle.tj_words.proofs.ShownCells.{stage_out, owner_out}
+use Rattle.tj_words.proofs.ShownCells.{stage_out}
 
 -- what is shown of a task that a seat holds
 abbrev pub does_shown : ℕ → Does → CellStage

@@ -1,5 +1,5 @@
 -- A task turns from one thing to another: the shared lemmas of all events by which it does so.
-use Rattle.std.proofs.Common.{◌≡◌, ◌≢◌, ℕ, ◌<◌, cond, nat_eq, Bool, true, false, Option, Some, None, refl, sym, ap, ◌∙◌, subst}
+use Rattle.std.proofs.Common.{◌≡◌, ℕ, ◌<◌, cond, nat_eq, Bool, true, false, Option, Some, None, refl, sym, ap, ◌∙◌, subst}
 use Rattle.tj_body.specs.Programs.{Program}
 use Rattle.tj_core.specs.declared.event.Event.{Event}
 use Rattle.tj_core.specs.CoreState.{CellStage, CoreState, stage, fresh, running, Runs}
@@ -15,11 +15,11 @@ use Rattle.tj_words.specs.Hands.{hand_in}
 use Rattle.tj_words.specs.ShownState.{phase_sort, new_stage, stage_there}
 use Rattle.tj_words.specs.Contents.{Contents, drawn_in, held_of, home_of, core_shown}
 use Rattle.tj_words.specs.Law.{Law}
-use Rattle.tj_words.specs.ShownParts.{parts_of, IsSameBut}
+use Rattle.tj_words.specs.ShownParts.{parts_of}
 use Rattle.tj_words.specs.StepEvents.{IsBegun, MayAct, IsHeldWith, ShowsEvent, ShowsNothing, IsTurned, IsMoved}
 use Rattle.tj_words.proofs.ShownCells.{states_same, restaged, stage_out}
 use Rattle.tj_words.proofs.ShownOwners.{stage_again}
-use Rattle.tj_words.proofs.TaskPlaces.{does_shown, does_stage_there, begun_drawn, begun_out, held_here, held_drawn, custody, stage_held}
+use Rattle.tj_words.proofs.TaskPlaces.{does_shown, does_stage_there, begun_out, held_here, held_drawn, custody, stage_held}
 
 -- a new task runs
 pub new_runs : (t : ℕ) → Runs (new_stage t)

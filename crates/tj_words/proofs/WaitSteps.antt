@@ -49,7 +49,7 @@ module _ {B : Type 0} (program : Bool → B → Program B) (key : Key B) (kept :
       → Allows (Rule program key) slots id m i (λ n. word) (λ n. Then)
   wait_allowed walk.Walking is from may s r many here small = subst (λ j. Acts program key s id m j word Then) (sym at)
       (acts_keeping program key s r id m (phase_at t) word Then (published t p way m.0)
-      (published_stores program key s r id t p word way inside kept m.0 here may
+      (published_stores program key s r id t p word way inside m.0 here may kept
       (wait_word key.cells p word way walk.Walking few is from) is)
       (then walk.Walking (published t p way m.0, m.1) is refl))
   wait_allowed walk.Parked is from may s r many here small = subst (λ j. Acts program key s id m j word Then) (sym at)
@@ -59,6 +59,6 @@ module _ {B : Type 0} (program : Bool → B → Program B) (key : Key B) (kept :
       (then walk.Parked (parked t p way m.0, rest m.1) is refl))
   wait_allowed walk.Alarmed is from may s r many here small = subst (λ j. Acts program key s id m j word Then) (sym at)
       (acts_keeping program key s r id m (phase_at t) word Then (alarmed t p way m.0)
-      (alarmed_stores program key s r id t p word way inside kept m.0 here may
+      (alarmed_stores program key s r id t p word way inside m.0 here may kept
       (wait_word key.cells p word way walk.Alarmed few is from) is)
       (then walk.Alarmed (alarmed t p way m.0, m.1) is refl))

@@ -85,20 +85,20 @@ module _ {B : Type 0} (program : Bool → B → Program B) (key : Key B) where
     IsHere c = IsThere (drawn_in key.cells (contents_of s)) (hand_of (contents_of s)) c
 
     -- the seat's view where it has this for the task, and so many tokens
-    abbrev noted_view : View B → Custody B → Does → ℕ → View B
+    abbrev pub noted_view : View B → Custody B → Does → ℕ → View B
     noted_view v k d tokens =
         record v { steps = suc v.steps; tokens = tokens; tasks = hold (now_does d k) v.tasks }
 
     -- a store by which a task of the seat does this from now on
     module _ (v : View B) (at : get_elem? s.views id ≡ some v) (k : Custody B) (held : held_in v.tasks t ≡ Some k)
         (d : Does) (tokens : ℕ) where
-      abbrev has : IsHeldWith (contents_of s) id t k
+      abbrev pub has : IsHeldWith (contents_of s) id t k
       has = (v.tasks, at_map (λ (u : View B). u.tasks) s.views id v at, held)
 
-      its : k.task ≡ t
+      pub its : k.task ≡ t
       its = held_task v.tasks t k held
 
-      abbrev after_store : Contents B
+      abbrev pub after_store : Contents B
       after_store = after_note r.law id t k has its d (set old.tokens id tokens)
 
       noted_stores : IsPhaseWord key.cells word → phase_in word ≡ phase_of d → IsSeat key (noted_view v k d tokens)
@@ -116,8 +116,7 @@ module _ {B : Type 0} (program : Bool → B → Program B) (key : Key B) where
           }) (seats_same s.views id v at))) law)
 
     -- the store of Walking
-    module _ (kept : EventKeepsFacts) (v : View B) (at : get_elem? s.views id ≡ some v)
-        (h : MayPublishWait t p way v) where
+    module _ (v : View B) (at : get_elem? s.views id ≡ some v) (h : MayPublishWait t p way v) where
       abbrev k : Custody B
       k = h.custody
 
@@ -138,8 +137,8 @@ module _ {B : Type 0} (program : Bool → B → Program B) (key : Key B) where
       known_there : (c : ℕ) → IsIn c v.known → IsHere c
       known_there c i = r.law.names.knows id v.known (at_map (λ (u : View B). u.known) s.views id v at) c i
 
-      publishes : PublishesWait key.cells (contents_of s) (after_store v at k h.held walking v.tokens) id t r.law.born
-          k.does p way
+      pub publishes : PublishesWait key.cells (contents_of s) (after_store v at k h.held walking v.tokens) id t
+          r.law.born k.does p way
       publishes = record {
         turns = record {
           turns = record {
@@ -161,8 +160,8 @@ module _ {B : Type 0} (program : Bool → B → Program B) (key : Key B) where
         keeps = record { others = refl; cleared = refl };
       }
 
-      publish_law : Law P key.cells (after_store v at k h.held walking v.tokens)
-      publish_law = note_law r.law id t k has_it (its v at k h.held walking v.tokens) walking
+      publish_law : EventKeepsFacts → Law P key.cells (after_store v at k h.held walking v.tokens)
+      publish_law kept = note_law r.law id t k has_it (its v at k h.held walking v.tokens) walking
           (set old.tokens id v.tokens) h.out (begins way h.may)
           (λ c i. ⊎_elim (λ (e : c ≡ p). subst IsHere (sym e) (known_there p h.cell_known)) (λ (j : ⊥). absurd j) i)
           (λ z. none_some ((contents_of s).words.own t) t z (list_owned r.law id t k has_it t h.result).1)
@@ -201,15 +200,15 @@ module _ {B : Type 0} (program : Bool → B → Program B) (key : Key B) where
         known_born = a.known_born;
       }
 
-      pub published_stores : IsPhaseWord key.cells word → phase_in word ≡ phase.Waiting (cell p) way walk.Walking
+      pub published_stores : EventKeepsFacts → IsPhaseWord key.cells word
+          → phase_in word ≡ phase.Waiting (cell p) way walk.Walking
           → StoresWith program key s s.homes id (phase_at t) word (published t p way v)
-      published_stores code is = subst (StoresWith program key s s.homes id (phase_at t) word)
+      published_stores kept code is = subst (StoresWith program key s s.homes id (phase_at t) word)
           (ap (λ l. record v { steps = suc v.steps; tasks = l }) (sym (noted_is v.tasks t k (now_does walking) h.held)))
-          (noted_stores v at k h.held walking v.tokens code is publish_seat publish_law)
+          (noted_stores v at k h.held walking v.tokens code is publish_seat (publish_law kept))
 
     -- the store of Alarmed
-    module _ (kept : EventKeepsFacts) (v : View B) (at : get_elem? s.views id ≡ some v)
-        (h : MayStoreAlarm t p way v) where
+    module _ (v : View B) (at : get_elem? s.views id ≡ some v) (h : MayStoreAlarm t p way v) where
       abbrev walker_of : Walker
       walker_of = h.walks.walker
 
@@ -225,8 +224,8 @@ module _ {B : Type 0} (program : Bool → B → Program B) (key : Key B) where
       was : (contents_of s).words.phase t ≡ phase.Waiting (cell p) way walk.Walking
       was = (custody r.law id t a has_walker).does ∙ ap phase_of h.walks.walks
 
-      alarms : StoresAlarm key.cells (contents_of s) (after_store v at a h.walks.held alarming (suc v.tokens)) id t p
-          way walker_of
+      pub alarms : StoresAlarm key.cells (contents_of s) (after_store v at a h.walks.held alarming (suc v.tokens)) id t
+          p way walker_of
       alarms = record {
         turns = record {
           before_it = a;
@@ -241,8 +240,8 @@ module _ {B : Type 0} (program : Bool → B → Program B) (key : Key B) where
         keeps = record { others = refl; cleared = refl };
       }
 
-      alarm_law : Law P key.cells (after_store v at a h.walks.held alarming (suc v.tokens))
-      alarm_law = note_law r.law id t a has_walker (its v at a h.walks.held alarming (suc v.tokens)) alarming
+      alarm_law : EventKeepsFacts → Law P key.cells (after_store v at a h.walks.held alarming (suc v.tokens))
+      alarm_law kept = note_law r.law id t a has_walker (its v at a h.walks.held alarming (suc v.tokens)) alarming
           (set old.tokens id (suc v.tokens)) h.out (subst (λ z. IsBegun (phase_of z)) (sym h.walks.walks) tt)
           (λ c i. r.law.names.walks id v.tasks has_walker.1 a (held_listed v.tasks t a h.walks.held) c
           (subst (λ z. IsIn c (does_cells z)) (sym h.walks.walks) i))
@@ -253,11 +252,13 @@ module _ {B : Type 0} (program : Bool → B → Program B) (key : Key B) where
           (alarm_shown r.law (after_store v at a h.walks.held alarming (suc v.tokens)) id t p way walker_of alarms)
           r.law.facts)
 
-      pub alarmed_stores : IsPhaseWord key.cells word → phase_in word ≡ phase.Waiting (cell p) way walk.Alarmed
+      pub alarmed_stores : EventKeepsFacts → IsPhaseWord key.cells word
+          → phase_in word ≡ phase.Waiting (cell p) way walk.Alarmed
           → StoresWith program key s s.homes id (phase_at t) word (alarmed t p way v)
-      alarmed_stores code is = subst (StoresWith program key s s.homes id (phase_at t) word)
+      alarmed_stores kept code is = subst (StoresWith program key s s.homes id (phase_at t) word)
           (ap (λ l. record v { steps = suc v.steps; tokens = suc v.tokens; tasks = l })
           (sym (noted_is v.tasks t a (now_alarmed p way) h.walks.held
           ∙ ap (λ z. hold (record a { does = does.Alarmed p way (does_walk z) }) v.tasks) h.walks.walks)))
           (noted_stores v at a h.walks.held alarming (suc v.tokens) code is
-          (more_seat v (noted_view v a alarming (suc v.tokens)) t p way h.walks (r.seats id v at) refl) alarm_law)
+          (more_seat v (noted_view v a alarming (suc v.tokens)) t p way h.walks (r.seats id v at) refl)
+          (alarm_law kept))

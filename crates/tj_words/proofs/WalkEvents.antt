@@ -1,46 +1,34 @@
 -- The steps of a task from its wait on are events of the core.
-use Rattle.std.proofs.Common.{◌≡◌, ◌≢◌, ◌⊎◌, ℕ, suc, ◌+◌, ◌<◌, Bool, true, false, ◌&&◌, cond, nat_eq, List, [], ◌∷◌, ◌++◌, Option, Some, None, refl, sym, ap, ◌∙◌, subst, inl, inr, ⊎_elim}
-use Rattle.tj_base.specs.ForkOrder.{Name, before}
+use Rattle.std.proofs.Common.{◌≡◌, ℕ, suc, List, [], ◌∷◌, ◌++◌, Option, Some, None, refl, sym, ap, ◌∙◌, subst, inl, inr}
 use Rattle.tj_base.specs.declared.cell.CellId.{CellId}
-use Rattle.tj_base.specs.declared.cell.Sort.{Sort}
-use Rattle.tj_base.specs.declared.cell.Sort.TheVariants as sort
 use Rattle.tj_body.specs.Points.{IsIn}
 use Rattle.tj_body.specs.Programs.{Program}
-use Rattle.tj_body.specs.declared.ask.Answer.{Answer}
-use Rattle.tj_body.specs.declared.ask.Answer.TheVariants as answer
-use Rattle.tj_body.specs.declared.point.Reference.{Reference}
 use Rattle.tj_core.specs.declared.event.Event.{Event}
 use Rattle.tj_core.specs.declared.event.Event.TheVariants as event
 use Rattle.tj_core.specs.declared.walk.Way.{Way}
 use Rattle.tj_core.specs.declared.walk.Way.TheVariants.{Along, Other}
 use Rattle.tj_core.specs.declared.walk.TrailLink.{TrailLink}
 use Rattle.tj_core.specs.declared.walk.Walker.{Walker}
-use Rattle.tj_core.specs.declared.walk.LastRead.{LastRead}
-use Rattle.tj_core.specs.declared.walk.LastRead.TheVariants.{SawOwner, SawWait}
-use Rattle.tj_core.specs.CoreState.{CellStage, CellState, CoreState, owner, name, stage, wait, wait_of, is_task, present, raised, running, fresh, waits, walks, parked, alarmed, Runs}
-use Rattle.tj_core.specs.Events.{Allowed, after, restage, walked, walk_ended, way_if, way_of_wait, start_walk, others_read, count_read, owner_read, wait_read, wait_found, owner_again, owner_found, is_owner, raised_by, raised_by_way}
-use Rattle.tj_core.specs.Events.{Walks, MayPublish, MayReadOthers, MayCount, MayReadOwner, MayReadWait, MayReadAgain, MayAlarm, MaySettle}
+use Rattle.tj_core.specs.CoreState.{CellStage, CoreState, owner, stage, present, raised, waits, walks, parked, alarmed, Runs}
+use Rattle.tj_core.specs.Events.{Allowed, after, restage, walked, walk_ended, way_of_wait, start_walk, others_read, count_read, owner_read, wait_read, wait_found, owner_again, owner_found, is_owner}
+use Rattle.tj_core.specs.Events.{Walks, MayPublish, MayReadOthers, MayCount, MayReadOwner, MayReadWait, MayReadAgain, MayAlarm}
 use Rattle.tj_words.specs.declared.phase.Walk.TheVariants as walk
-use Rattle.tj_words.specs.declared.phase.Phase.{Phase}
 use Rattle.tj_words.specs.declared.phase.Phase.TheVariants as phase
-use Rattle.tj_words.specs.declared.record.Rec.{Rec}
 use Rattle.tj_words.specs.declared.view.Does.{Does}
 use Rattle.tj_words.specs.declared.view.Does.TheVariants as does
-use Rattle.tj_words.specs.declared.view.Custody.{Custody}
 use Rattle.tj_words.specs.Lists.{total, cell}
 use Rattle.tj_words.specs.Holding.{phase_of}
-use Rattle.tj_words.specs.Hands.{hand_in, IsThere}
-use Rattle.tj_words.specs.NamedCells.{walk_cells, does_cells, read_cells, trail_cells, AreThere}
-use Rattle.tj_words.specs.ShownState.{phase_sort, new_stage, stage_there, reference_of}
-use Rattle.tj_words.specs.Contents.{Contents, hand_of, drawn_in, held_of, home_of, core_shown}
+use Rattle.tj_words.specs.Hands.{IsThere}
+use Rattle.tj_words.specs.NamedCells.{walk_cells, does_cells, read_cells, trail_cells}
+use Rattle.tj_words.specs.Contents.{Contents, hand_of, drawn_in, core_shown}
 use Rattle.tj_words.specs.Law.{Law}
 use Rattle.tj_words.specs.ShownParts.{parts_of}
-use Rattle.tj_words.specs.StepEvents.{IsBegun, wait_in, MayAct, IsHeldWith, ShowsEvent, IsTurned, IsMoved}
-use Rattle.tj_words.specs.WalkSteps.{way_by, is_task_sort, MayWait, KeepsOthers, Turns, TurnsOpen, RaisesOthers, PublishesWait, ReadsOn, ReadsOthers, ReadsCount, ReadsOwner, ReadsWait, ReadsAgain, StoresAlarm, Leaves, StoresParked, LowersOthers}
-use Rattle.tj_words.proofs.HeldTasks.{none_some, held_listed, in_front, in_back}
+use Rattle.tj_words.specs.StepEvents.{IsBegun, wait_in, ShowsEvent}
+use Rattle.tj_words.specs.WalkSteps.{MayWait, KeepsOthers, Turns, TurnsOpen, RaisesOthers, PublishesWait, ReadsOthers, ReadsCount, ReadsOwner, ReadsWait, ReadsAgain, StoresAlarm, StoresParked}
+use Rattle.tj_words.proofs.HeldTasks.{held_listed, in_back}
 use Rattle.tj_words.proofs.CellFacts.{way_shown, wait_shown}
-use Rattle.tj_words.proofs.ShownCells.{states_same, stage_out, owner_out, cell_there}
-use Rattle.tj_words.proofs.TaskPlaces.{does_shown, begun_there, custody, held_here, held_drawn, list_owned, stage_held}
+use Rattle.tj_words.proofs.ShownCells.{owner_out}
+use Rattle.tj_words.proofs.TaskPlaces.{does_shown, begun_there, custody, held_drawn, list_owned, stage_held}
 use Rattle.tj_words.proofs.TurnedTasks.{acting_runs, acting_begun, turned_out, turned_event, moved_event}
 
 module _ {B : Type 0} {program : Program B} {cells : ℕ} {x : Contents B} (r : Law program cells x)

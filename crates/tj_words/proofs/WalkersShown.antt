@@ -12,13 +12,12 @@ use Rattle.tj_words.specs.declared.table.Key.{Key}
 use Rattle.tj_words.specs.declared.phase.Walk.{Walk}
 use Rattle.tj_words.specs.declared.phase.Walk.TheVariants as walk
 use Rattle.tj_words.specs.declared.phase.Phase.TheVariants.{Waiting}
-use Rattle.tj_words.specs.declared.view.Does.{Does}
 use Rattle.tj_words.specs.declared.view.Does.TheVariants as does
 use Rattle.tj_words.specs.declared.view.Custody.{Custody}
 use Rattle.tj_words.specs.declared.view.View.{View}
-use Rattle.tj_words.specs.Contents.{Contents, contents_of, core_shown}
+use Rattle.tj_words.specs.Contents.{contents_of, core_shown}
 use Rattle.tj_words.specs.Holding.{held_in, phase_of}
-use Rattle.tj_words.specs.Law.{Law, Rule}
+use Rattle.tj_words.specs.Law.{Rule}
 use Rattle.tj_words.specs.Lists.{cell}
 use Rattle.tj_words.specs.StepEvents.{IsBegun, IsHeldWith}
 use Rattle.tj_words.proofs.TaskPlaces.{does_shown, begun_out, custody, stage_held}

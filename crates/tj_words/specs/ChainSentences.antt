@@ -52,8 +52,7 @@ pub record ChainSentences (tag : ℕ → ℕ) (head next : ℕ → Head) (phase 
         → IsIn t (chain p)
         ⊎ (((j : ℕ) × (ts : List ℕ) × IsRestOf rests j p ts × IsIn t ts) ⊎ ((j : ℕ) × IsToPush pushes j p t))
     -- a task with a push to come is parked on that cell, stands in no chain and no rest, and no other seat has one
-    -- for
-    -- it
+    -- for it
     pub pushes_parked : (j p t : ℕ) → IsToPush pushes j p t → IsParkedOn (phase t) p
     pub pushes_apart : (j p t : ℕ) → IsToPush pushes j p t → (q : ℕ) → ¬ IsIn t (chain q)
     pub pushes_no_rest : (j p t k q : ℕ) (ts : List ℕ) → IsToPush pushes j p t → IsRestOf rests k q ts → ¬ IsIn t ts

@@ -1,5 +1,7 @@
 -- What the steps on HEAD and NEXT make of the view of their seat.
-use Rattle.std.specs.Prelude.{◌≡◌, ◌≢◌, ℕ, suc, ◌-◌, ◌≤◌, cond, nat_eq, List, [], ◌∷◌, length, Option, Some, None}
+use Rattle.std.specs.Prelude.{◌≡◌, ◌≢◌, ℕ, suc, ◌-◌, ◌≤◌, cond, nat_eq, List, [], ◌∷◌, length, Bool, Option}
+use Rattle.std.specs.Prelude.{Some, None}
+use Rattle.tj_body.specs.Programs.{Program}
 use Rattle.tj_words.specs.declared.head.Head.{Head}
 use Rattle.tj_words.specs.declared.head.Head.TheVariants.{Shut}
 use Rattle.tj_words.specs.declared.view.Filled.{Filled}
@@ -80,8 +82,8 @@ module _ {B : Type 0} where
       × (head_in n ≢ Shut → TakesChain cells p (head_in n) m.0 m'.0)
 
   -- an exchange of HEAD of p, by the word of a task
-  abbrev pub push_exchange : ℕ → ℕ → Tells B
-  push_exchange cells p st m n m' = (m'.1 ≡ m.1) × (n ≤ shut_word)
+  abbrev pub push_exchange : (Bool → B → Program B) → ℕ → ℕ → Tells B
+  push_exchange program cells p st m n m' = (m'.1 ≡ m.1) × (n ≤ shut_word)
       × (n ≡ st.first → m'.0 ≡ pushed (st.second - 1) m.0)
-      × (n ≢ st.first → head_in n ≡ Shut → FindsShut p m.0 m'.0)
+      × (n ≢ st.first → head_in n ≡ Shut → FindsShut program cells p m.0 m'.0)
       × (n ≢ st.first → head_in n ≢ Shut → FindsChain cells p (head_in n) m.0 m'.0)

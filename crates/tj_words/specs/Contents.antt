@@ -1,5 +1,4 @@
--- The contents of a table: what its words say, its slots, and what the views have, field by field, each a list over
--- the
+-- The contents of a table: what its words say, its slots, and what the views have, field by field, each a list over the
 -- seats.
 use Rattle.std.specs.Prelude.{ℕ, ◌+◌, min, Bool, List, map, Option}
 use Rattle.atomic_table.specs.Table.{State}

@@ -30,8 +30,7 @@ module _ {B : Type 0} where
   LiesAtHome holder home = (holder ≡ None) × ((r : Rec B) × (home ≡ Some r))
 
   -- where a task is that stands in this phase: a seat holds it, or its record lies at home; one that has alarmed is
-  -- held
-  -- until its record is home
+  -- held until its record is home
   abbrev pub IsKept : Phase → Option ℕ → Option (Rec B) → Type 0
   IsKept phase.Unborn holder home = IsHeld holder
   IsKept phase.Ready holder home = LiesAtHome holder home

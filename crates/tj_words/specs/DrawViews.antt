@@ -23,7 +23,7 @@ use Rattle.tj_words.specs.declared.view.View.{View}
 use Rattle.tj_words.specs.Lists.{All}
 use Rattle.tj_words.specs.Offsets.{once_at}
 use Rattle.tj_words.specs.Holding.{held_in, made_by}
-use Rattle.tj_words.specs.TreeWords.{IsCell, IsDue}
+use Rattle.tj_words.specs.TreeWords.{IsCell, IsDue, AreCells}
 use Rattle.tj_words.specs.ShownState.{first_owner}
 use Rattle.tj_words.specs.OwnerSteps.{next_reference}
 use Rattle.tj_words.specs.StepEvents.{MayAct}
@@ -109,6 +109,7 @@ module _ {B : Type 0} where
     pub begins : Begins v.born born
     pub next : length born ≡ c
     pub small : c < cells
+    pub all : AreCells cells (born ++ drawn_next t o v ∷ [])
     pub few_made : made_by (held_in v.tasks t) None < c
     pub fresh : All (λ (d : Due). d.cell ≢ c) v.dues
     pub view : w ≡ drew c t o born v

@@ -64,4 +64,5 @@ module _ {B : Type 0} where
     plain_loads = 0;
     once_loads = 0;
     steps = 0;
+    stop = 0;
   }

@@ -1,9 +1,7 @@
--- What a seat knows and has to do, over several steps: what it knew it still knows, and what a call leaves alone is as it
--- was. The calls that are made of several steps tell their callers this.
-use Rattle.std.specs.Prelude.{◌≡◌, ℕ, List, true}
+-- What a seat knows and has to do, over several steps: what it knew it still knows, and what a call leaves alone is as
+-- it was. The calls that are made of several steps tell their callers this.
+use Rattle.std.specs.Prelude.{◌≡◌, List, true}
 use Rattle.tj_body.specs.Points.{IsIn, Begins}
-use Rattle.tj_words.specs.declared.view.Filled.{Filled}
-use Rattle.tj_words.specs.declared.view.SeenWord.{SeenWord}
 use Rattle.tj_words.specs.declared.view.View.{View}
 
 -- each element of the first list is one of the second

@@ -54,3 +54,6 @@ pub mod OwnerViews
 pub mod TreeReads
 pub mod KnowsMore
 pub mod FullMeaning
+pub mod OneStates
+pub mod CallSteps
+pub mod EventCalls

@@ -62,9 +62,8 @@ module _ {B : Type 0} (program : Program B) (born : List Reference) (Has : ℕ �
     pub stands : StandsIn point
 
 -- all that stands is within the meaning of the program with this many cells, and what the seats know of it does: a
--- beginning of what the cells are; cells whose BITS it has written, with what
--- they
--- are to become; and cells of which it knows what has become
+-- beginning of what the cells are; cells whose BITS it has written, with what they are to become; and cells of which
+-- it knows what has become
 pub record Meaning {B : Type 0} (program : Program B) (cells count stop drawn : ℕ) (hand : ℕ → Option Hand)
     (born : List Reference) (tag bits : ℕ → ℕ) (home : ℕ → Option (Rec B))
     (born_seen : List (List Reference)) (wrote filled : List (List Filled)) : Type 0 where

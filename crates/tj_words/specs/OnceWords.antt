@@ -1,6 +1,5 @@
 -- Set-once words: TAG, BITS, PARENT, KID, DEPTH and JUMP of a cell are each written once, by the one seat to which
--- the
--- word is due.
+-- the word is due.
 use Rattle.std.specs.Prelude.{◌≡◌, ◌≢◌, ◌⊎◌, ℕ, ◌<◌, ◌≤◌, List, Option, Some, None}
 use Rattle.tj_words.specs.declared.offsets.Once.{Once}
 use Rattle.tj_words.specs.declared.offsets.Once.TheVariants as once
@@ -16,8 +15,7 @@ abbrev pub HasInHand : ℕ → Option Hand → Type 0
 HasInHand c hand = (h : Hand) × (hand ≡ Some h) × (h.cell ≡ c)
 
 -- when a word may be due: the words of the tree to the drawer of the cell, while it has the cell in hand; TAG and
--- BITS to
--- the seat that wrote nobody into OWN, TAG until it is written and BITS only while TAG is due
+-- BITS to the seat that wrote nobody into OWN, TAG until it is written and BITS only while TAG is due
 pub record MayBeDue (drawn : ℕ) (hand : ℕ → Option Hand) (hands : List (Option Hand)) (own : ℕ → Option ℕ)
     (due_to : ℕ → Once → Option ℕ)
     (j c : ℕ)

@@ -1,7 +1,5 @@
 -- The steps that show nothing, by what they need and what they change of all by which the core state is shown.
 use Rattle.std.specs.Prelude.{◌≡◌, ◌≢◌, ℕ, suc, ◌≤◌, [], ◌∷◌, ◌++◌, Option, Some, None}
-use Rattle.tj_base.specs.declared.cell.Sort.TheVariants as sort
-use Rattle.tj_body.specs.Points.{IsIn}
 use Rattle.tj_body.specs.declared.ask.Answer.{Answer}
 use Rattle.tj_body.specs.declared.ask.Answer.TheVariants as answer
 use Rattle.tj_core.specs.declared.walk.Way.{Way}
@@ -51,7 +49,7 @@ module _ {B : Type 0} (x y : Contents B) where
     pub tasks : y.seats.tasks ≡ x.seats.tasks
     pub cleared : y.seats.cleared ≡ x.seats.cleared
 
-  -- a load that is no event, or an exchange that fails
+  -- a load that is no event, an exchange that fails, or one of what lies in a slot that a seat has
   pub record LoadsOnly : Type 0 where
     pub words : y.words ≡ x.words
     pub keeps : KeepsHoldings
@@ -134,7 +132,7 @@ module _ {B : Type 0} (cells : ℕ) (x y : Contents B) where
       pub leaves : Leaves cells x y id t (does.Alarmed p way w) (phase.Waiting (cell p) way walk.Alarmed)
       pub keeps : KeepsOthers cells x y
 
-    -- the record of a task that its seat holds comes home or is taken out
+    -- the record of a task that its seat holds comes home
     pub record MovesRecord (d : Does) : Type 0 where
       pub turns : Turns cells x y id t d d
       pub there : IsThere (drawn_in cells x) (hand_of x) t

@@ -26,10 +26,8 @@ module _ {B : Type 0} where
   IsOfEnded r = ((f : Finish) × (r.finish ≡ Some f)) × (r.owned ≡ [])
 
   -- a record at home of a task in this phase: an unborn one is to be given Start; one that is ready too, or it has
-  -- waited
-  -- for a cell of which something has become; one that waits does so for the cell in PHASE; one that runs has ended,
-  -- and
-  -- PHASE is still to say so
+  -- waited for a cell of which something has become; one that waits does so for the cell in PHASE; one that runs has
+  -- ended, and PHASE is still to say so
   abbrev pub IsRecordIn : (ℕ → ℕ) → Phase → Rec B → Type 0
   IsRecordIn tag phase.Unborn r = (r.finish ≡ None) × (r.answer ≡ answer.Start)
   IsRecordIn tag phase.Ready r =

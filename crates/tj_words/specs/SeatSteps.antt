@@ -37,7 +37,7 @@ module _ {B : Type 0} where
   live_load st m n m' = (m'.1 ≡ m.1) × (n ≡ 0 → m'.0 ≡ saw_rest m.0) × (n ≢ 0 → m'.0 ≡ stepped_on m.0)
       × (n < 2 ^ 32)
 
-  -- the load of STOP, or of NEXT
+  -- a load that tells the view nothing
   abbrev pub simple_load : (ℕ → Type 0) → Tells B
   simple_load May st m n m' = (m'.1 ≡ m.1) × (m'.0 ≡ stepped_on m.0) × May n
 

@@ -25,7 +25,7 @@ use Rattle.tj_words.specs.declared.view.SeenWord.{SeenWord}
 use Rattle.tj_words.specs.declared.view.View.{View}
 use Rattle.tj_words.specs.Lists.{All, Any}
 use Rattle.tj_words.specs.Heads.{shut_word, head_word, head_in}
-use Rattle.tj_words.specs.TreeWords.{IsCell}
+use Rattle.tj_words.specs.TreeWords.{IsCell, AreCells}
 use Rattle.tj_words.specs.Telling.{tag_of, BitsSay}
 use Rattle.tj_words.specs.Chains.{head_of}
 use Rattle.tj_words.specs.SeatSteps.{Tells}
@@ -99,7 +99,7 @@ module _ {B : Type 0} where
     pub view : w ≡ saw_word c f n born v
     pub tree : SeesTree w.seen w.born
     pub leads : IsTaskIn v.born c → LeadsTo f n born
-    pub few : length born ≤ cells
+    pub all : AreCells cells born
 
   -- the cell has this entry in some round of the program of this root and rule
   abbrev pub WillHave : (Bool → B → Program B) → View B → Name → Entry → Type 0
@@ -119,7 +119,7 @@ module _ {B : Type 0} where
     pub is : IsCell born c reference
     pub becomes : WillHave program v reference.name entry
     pub same : All (λ (f : Filled). f.cell ≡ c → f.entry ≡ entry) v.filled
-    pub few : length born ≤ cells
+    pub all : AreCells cells born
     pub tag : n ≡ tag_of entry
     pub view : w ≡ saw_entry c entry born v
 
@@ -128,7 +128,7 @@ module _ {B : Type 0} where
     pub born : List Reference
     pub named : List ℕ
     pub begins : Begins v.born born
-    pub few : length born ≤ cells
+    pub all : AreCells cells born
     pub says : All (λ (f : Filled). f.cell ≡ c → BitsSay born f.entry n × (named ≡ bits_cells f.entry n)) v.filled
     pub view : w ≡ saw_bits named born v
 
@@ -144,11 +144,16 @@ module _ {B : Type 0} where
   abbrev pub once_load : (Bool → B → Program B) → ℕ → Once → ℕ → Tells B
   once_load program cells f c st m n m' = (m'.1 ≡ m.1) × SeesOnce program cells f c n m.0 m'.0
 
-  -- the head was found shut: something has become of the cell
-  pub record FindsShut (c : ℕ) (v w : View B) : Type 0 where
+  -- the head was found shut: something has become of the cell, that which the seat knew, where it knew
+  pub record FindsShut (program : Bool → B → Program B) (cells c : ℕ) (v w : View B) : Type 0 where
     pub born : List Reference
     pub entry : Entry
+    pub reference : Reference
     pub begins : Begins v.born born
+    pub is : IsCell born c reference
+    pub becomes : WillHave program v reference.name entry
+    pub same : All (λ (f : Filled). f.cell ≡ c → f.entry ≡ entry) v.filled
+    pub all : AreCells cells born
     pub view : w ≡ found_shut c born entry v
 
   -- the chain was found, of which each one found before is an end; it has at most as many tasks as there are cells, and
@@ -161,9 +166,9 @@ module _ {B : Type 0} where
     pub grown : All (λ (f : Found). f.cell ≡ c → (more : List ℕ) × (chain ≡ more ++ f.chain)) v.found
     pub view : w ≡ found_chain c chain v
 
-  abbrev pub head_load : ℕ → ℕ → Tells B
-  head_load cells c st m n m' = (m'.1 ≡ m.1) × (n ≤ shut_word)
-      × (head_in n ≡ Shut → FindsShut c m.0 m'.0)
+  abbrev pub head_load : (Bool → B → Program B) → ℕ → ℕ → Tells B
+  head_load program cells c st m n m' = (m'.1 ≡ m.1) × (n ≤ shut_word)
+      × (head_in n ≡ Shut → FindsShut program cells c m.0 m'.0)
       × (head_in n ≢ Shut → FindsChain cells c (head_in n) m.0 m'.0)
 
   -- NEXT of the first task of the seat's rest names the next one

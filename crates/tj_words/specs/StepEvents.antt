@@ -1,11 +1,8 @@
 -- What a step shows: one event that is allowed, or nothing; and when a task may act.
-use Rattle.std.specs.Prelude.{◌≡◌, ◌≢◌, ℕ, List, Option, Some, None}
-use Rattle.tj_base.specs.declared.cell.CellId.{CellId}
+use Rattle.std.specs.Prelude.{◌≡◌, ℕ, List, Option, Some, None}
 use Rattle.tj_body.specs.declared.point.Reference.{Reference}
 use Rattle.tj_core.specs.declared.event.Event.{Event}
-use Rattle.tj_core.specs.declared.walk.Way.{Way}
 use Rattle.tj_core.specs.Events.{Allowed, after}
-use Rattle.tj_words.specs.declared.phase.Walk.{Walk}
 use Rattle.tj_words.specs.declared.phase.Phase.{Phase}
 use Rattle.tj_words.specs.declared.phase.Phase.TheVariants as phase
 use Rattle.tj_words.specs.declared.view.Does.{Does}

@@ -58,7 +58,7 @@ module _ (B : Type 0) where
   CountsShow = (m : Moment B) (y : Contents B) (id t p : ℕ) (way : Way) (w : Walker)
       → ReadsCount m.cells m.now y id t p way w → Shows m y (event.LoadCount (cell t))
 
-  -- a load that is no event of a walker, and an exchange that fails, show nothing
+  -- a load that is no event of a walker, an exchange that fails, and one of what lies in a slot show nothing
   abbrev pub PlainLoadsShow : Type 0
   PlainLoadsShow = (m : Moment B) (y : Contents B) → LoadsOnly m.now y → Quiet m y
 
@@ -77,17 +77,17 @@ module _ (B : Type 0) where
       → HandsPromise m.cells m.now y id t p c
       → Shows m y (event.Hand (cell t) (cell p) (cell c))
 
-  -- the store of nobody is a Close, of a promise or of the task's own result
+  -- the store of nobody for a promise is a Close
   abbrev pub ClosesShow : Type 0
   ClosesShow = (m : Moment B) (y : Contents B) (id t p : ℕ)
       → ClosesPromise m.cells m.now y id t p → Shows m y (event.Close (cell t) (cell p))
 
-  -- and so is the store of nobody for the own result of a task
+  -- and so is that for the own result of a task
   abbrev pub EndingClosesShow : Type 0
   EndingClosesShow = (m : Moment B) (y : Contents B) (id t : ℕ)
       → ClosesResult m.cells m.now y id t → Shows m y (event.Close (cell t) (cell t))
 
-  -- a load of OWN by a walker is a ReadOwner, or a ReadOwnerAgain
+  -- a first load of OWN by a walker is a ReadOwner
   abbrev pub OwnerReadsShow : Type 0
   OwnerReadsShow = (m : Moment B) (y : Contents B) (id t p : ℕ) (way : Way) (w : Walker)
       → ReadsOwner m.cells m.now y id t p way w → Shows m y (event.ReadOwner (cell t))
@@ -97,7 +97,7 @@ module _ (B : Type 0) where
   SecondOwnerReadsShow = (m : Moment B) (y : Contents B) (id t p : ℕ) (way : Way) (w : Walker) (u v : ℕ)
       → ReadsAgain m.cells m.now y id t p way w u v → Shows m y (event.ReadOwnerAgain (cell t))
 
-  -- PHASE: the store of Walking is a Publish, that of Parked a Settle, and that of Alarmed an Alarm
+  -- PHASE: the store of Walking is a Publish
   abbrev pub PublishesShow : Type 0
   PublishesShow = (m : Moment B) (y : Contents B) (id t : ℕ) (d : Does) (p : ℕ) (way : Way)
       → PublishesWait m.cells m.now y id t m.law.born d p way → Shows m y (event.Publish (cell t) (cell p))
@@ -112,7 +112,7 @@ module _ (B : Type 0) where
   AlarmsShow = (m : Moment B) (y : Contents B) (id t p : ℕ) (way : Way) (w : Walker)
       → StoresAlarm m.cells m.now y id t p way w → Shows m y (event.Alarm (cell t))
 
-  -- the stores of Promise, of Ready and of Ended show nothing
+  -- the store of Promise shows nothing
   abbrev pub MarksShow : Type 0
   MarksShow = (m : Moment B) (y : Contents B) (c : ℕ) (h h' : Hand) → MarksPromise m.cells m.now y c h h' → Quiet m y
 
@@ -129,7 +129,7 @@ module _ (B : Type 0) where
   WaitReadsShow = (m : Moment B) (y : Contents B) (id t p : ℕ) (way : Way) (w : Walker) (u : ℕ)
       → ReadsWait m.cells m.now y id t p way w u → Shows m y (event.ReadWait (cell t))
 
-  -- the exchange of Ready shows nothing, and that of Parked is an Unwait
+  -- an exchange from Ready shows nothing
   abbrev pub ClaimsShow : Type 0
   ClaimsShow = (m : Moment B) (y : Contents B) (t : ℕ) (r : Rec B) → ClaimsTask m.cells m.now y t r → Quiet m y
 
@@ -138,7 +138,7 @@ module _ (B : Type 0) where
   ClearsShow = (m : Moment B) (y : Contents B) (t p : ℕ) (way : Way) (to : Phase) (held : Option (Custody B))
       → ClearsWait m.cells m.now y t p way to held → Shows m y (event.Unwait (cell t))
 
-  -- OTHERS: the add is a Raise, the subtraction a Lower, and the load by a walker a LoadOthers
+  -- OTHERS: the add is a Raise
   abbrev pub RaisesShow : Type 0
   RaisesShow = (m : Moment B) (y : Contents B) (id t : ℕ) (d : Does)
       → RaisesOthers m.cells m.now y id t d → Shows m y (event.Raise (cell t))
@@ -152,7 +152,7 @@ module _ (B : Type 0) where
   OthersReadsShow = (m : Moment B) (y : Contents B) (id t p : ℕ) (way : Way) (w : Walker)
       → ReadsOthers m.cells m.now y id t p way w → Shows m y (event.LoadOthers (cell t))
 
-  -- LIVE, STOP, HEAD and NEXT show nothing
+  -- LIVE: a step at which no record comes home shows nothing
   abbrev pub LiveStepsShow : Type 0
   LiveStepsShow = (m : Moment B) (y : Contents B) → ChangesLive m.now y → Quiet m y
 
@@ -168,17 +168,17 @@ module _ (B : Type 0) where
   abbrev pub NextStepsShow : Type 0
   NextStepsShow = (m : Moment B) (y : Contents B) → ChangesNext m.now y → Quiet m y
 
-  -- slots: a record that comes home or is taken out shows nothing, also where a task that has alarmed leaves its seat
+  -- a step at which the record of a task comes home that its seat holds on shows nothing
   abbrev pub RecordMovesShow : Type 0
   RecordMovesShow = (m : Moment B) (y : Contents B) (id t : ℕ) (d : Does)
       → MovesRecord m.cells m.now y id t d → Quiet m y
 
-  -- a record that goes home as its task, which has alarmed, leaves its seat, shows nothing
+  -- and so does one at which it comes home as its task, which has alarmed, leaves its seat
   abbrev pub ShelvesShow : Type 0
   ShelvesShow = (m : Moment B) (y : Contents B) (id t p : ℕ) (way : Way) (w : Walker)
       → ShelvesTask m.cells m.now y id t p way w → Quiet m y
 
-  -- seats that are split or merged show nothing
+  -- a split shows nothing
   abbrev pub SplitsShow : Type 0
   SplitsShow = (m : Moment B) (y : Contents B) → SplitsSeat m.now y → Quiet m y
 

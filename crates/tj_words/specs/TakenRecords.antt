@@ -14,13 +14,13 @@ use Rattle.tj_words.specs.declared.view.About.{About}
 use Rattle.tj_words.specs.declared.view.Custody.{Custody}
 use Rattle.tj_words.specs.declared.view.Filled.{Filled}
 use Rattle.tj_words.specs.declared.view.View.{View}
-use Rattle.tj_words.specs.Lists.{numbers}
+use Rattle.tj_words.specs.Lists.{numbers, AreApart}
 use Rattle.tj_words.specs.NamedCells.{record_cells}
 use Rattle.tj_words.specs.KnownEntries.{HasSeen, ToldBy}
 use Rattle.tj_words.specs.QuietSteps.{does_first}
 use Rattle.tj_words.specs.RecordPhases.{WaitsFor}
 use Rattle.tj_words.specs.TaskLists.{hold}
-use Rattle.tj_words.specs.TreeWords.{IsCell}
+use Rattle.tj_words.specs.TreeWords.{IsCell, AreCells}
 
 module _ {B : Type 0} where
   -- what a seat has for the task of a record that it has taken
@@ -75,8 +75,10 @@ module _ {B : Type 0} where
     pub born : List Reference
     pub more : List Filled
     pub begins : Begins v.born born
+    pub all : (a : About B) → v.about ≡ Some a → AreCells a.cells born
     pub of_task : r.cell.0 ≡ t
     pub unfinished : r.finish ≡ None
     pub owns_result : IsIn t (numbers r.owned)
+    pub owned_apart : AreApart (numbers r.owned)
     pub known : (a : About B) → v.about ≡ Some a
         → IsKnownRecord (program a.strict a.root) born (more ++ v.filled) r

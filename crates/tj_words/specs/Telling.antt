@@ -95,8 +95,7 @@ module _ (born : List Reference) where
       pub owed : (names : List Name) × ArePairs HasName r.owed names × (p.owed ≡ in_order names)
 
     -- a record that lies at home says of the point's stage: it has ended like this, or is to be given Start, or waits
-    -- for
-    -- the cell at this place
+    -- for the cell at this place
     abbrev pub TellsStage : Option Finish → Answer → Bool → Point B → Type 0
     TellsStage (Some f) a spare p = (e : Close) × FinishSays f e × (p.stage ≡ stage.Closed e)
     TellsStage None answer.Start spare p = p.stage ≡ stage.Answered answer.Start

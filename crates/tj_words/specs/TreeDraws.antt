@@ -1,14 +1,12 @@
 -- What the cells are after a draw: the new one, its maker and number, and the fork where it is a task.
-use Rattle.std.specs.Prelude.{◌≡◌, ◌≢◌, ℕ, suc, ◌≤◌, List, [], ◌∷◌, ◌++◌, Option, Some}
+use Rattle.std.specs.Prelude.{◌≡◌, ◌≢◌, ℕ, suc, ◌≤◌, List, ◌∷◌, Option, Some}
 use Rattle.tj_base.specs.declared.cell.Sort.{Sort}
 use Rattle.tj_base.specs.declared.cell.Sort.TheVariants as sort
 use Rattle.tj_body.specs.declared.point.Reference.{Reference}
-use Rattle.tj_base.specs.Puts.{put}
 use Rattle.tj_tree.specs.Forks.{Forks}
 use Rattle.tj_words.specs.declared.view.Hand.{Hand}
 use Rattle.tj_words.specs.Hands.{IsThere}
 use Rattle.tj_words.specs.TreeWords.{IsCell}
-use Rattle.tj_words.specs.OwnerSteps.{next_reference}
 
 -- the forks after a draw of this sort by t, of cell n, the k-th thing that t makes
 abbrev pub forks_after : Sort → ℕ → ℕ → ℕ → Forks → Forks

@@ -8,6 +8,7 @@ use Rattle.tj_words.specs.declared.table.Laid.{Laid}
 use Rattle.tj_words.specs.declared.view.SeenWord.{SeenWord}
 use Rattle.tj_words.specs.declared.view.View.{View}
 use Rattle.tj_words.specs.SeatSteps.{IsSeatOf, IsCellOf, IsSameSeat}
+use Rattle.tj_words.specs.TreeWords.{AreCells}
 use Rattle.tj_words.specs.SeenWords.{IsTaskIn, MayReadTree, SeesTree, ShowsNode}
 
 module _ {B : Type 0} where
@@ -16,16 +17,17 @@ module _ {B : Type 0} where
   KnowsTask c v = ((c ≡ 0) ⊎ IsIn c v.known) × IsTaskIn v.born c
 
   -- words of the tree were loaded: the seat knows more of it, and its view is as it was else
-  pub record HasReadTree (v w : View B) : Type 0 where
+  pub record HasReadTree (cells : ℕ) (v w : View B) : Type 0 where
     pub begins : Begins v.born w.born
+    pub all : AreCells cells v.born → AreCells cells w.born
     pub more : List SeenWord
     pub seen : w.seen ≡ more ++ v.seen
     pub loads : w.steps + v.once_loads ≡ v.steps + w.once_loads
     pub rest : w ≡ record v { born = w.born; seen = w.seen; once_loads = w.once_loads; steps = w.steps }
 
   -- the second seat is the first after such loads
-  abbrev pub IsLater : Seat (Option (Rec B)) (View B) → Seat (Option (Rec B)) (View B) → Type 0
-  IsLater old new = IsSameSeat old new × HasReadTree old.me.0 new.me.0
+  abbrev pub IsLater : ℕ → Seat (Option (Rec B)) (View B) → Seat (Option (Rec B)) (View B) → Type 0
+  IsLater cells old new = IsSameSeat old new × HasReadTree cells old.me.0 new.me.0
 
   -- the seat has seen the node of the task, as part of a tree of forks
   abbrev pub TreeShown : Seat (Option (Rec B)) (View B) → ℕ → Node → Type 0

@@ -24,6 +24,11 @@ use Rattle.tj_words.specs.ShownState.{sort_shown}
 abbrev pub IsCell : List Reference → ℕ → Reference → Type 0
 IsCell born c x = get_elem? born c ≡ some x
 
+-- what the cells are: of at most so many cells, no two of which have one name
+pub record AreCells (cells : ℕ) (born : List Reference) : Type 0 where
+  pub few : length born ≤ cells
+  pub apart : (c d : ℕ) (y z : Reference) → IsCell born c y → IsCell born d z → y.name ≡ z.name → c ≡ d
+
 -- the word is one of the tree
 abbrev pub IsOfTree : Once → Type 0
 IsOfTree once.Tag = ⊥

@@ -21,6 +21,10 @@ module _ {B : Type 0} where
   abbrev pub saw_rest : View B → View B
   saw_rest v = record v { steps = suc v.steps; rested = true }
 
+  -- it loaded STOP as n
+  abbrev pub saw_stop : ℕ → View B → View B
+  saw_stop n v = record v { steps = suc v.steps; stop = n }
+
   -- it found the chain of a cell
   abbrev pub found_chain : ℕ → List ℕ → View B → View B
   found_chain p chain v = record v { steps = suc v.steps; found = record { cell = p; chain = chain } ∷ v.found }
@@ -56,9 +60,8 @@ module _ {B : Type 0} where
     filled = record { cell = c; entry = e } ∷ v.filled;
   }
 
-  -- the word is BITS of a cell of which something has become that the seat knows; where that is a reference, it knows
-  -- the
-  -- cell from now on
+  -- the word is BITS of a cell of which something has become that the seat knows; where that is a reference, it
+  -- knows the cell from now on
   abbrev pub saw_bits : List ℕ → List Reference → View B → View B
   saw_bits cells born v = record v {
     steps = suc v.steps;
@@ -72,7 +75,8 @@ abbrev pub longer : List Reference → List Reference → List Reference
 longer xs ys = cond (nat_lt (length xs) (length ys)) ys xs
 
 module _ {B : Type 0} where
-  -- a view is cut in two: the second seat has a lot of 4, and knows what the first one knows
+  -- a view is cut in two: the second seat has a lot of 4, and knows what the first one knows, but for what that one
+  -- loaded from STOP
   abbrev pub left_half : View B → View B
   left_half v = record v { lot = v.lot - least_lot }
 
@@ -101,9 +105,10 @@ module _ {B : Type 0} where
     plain_loads = 0;
     once_loads = 0;
     steps = 0;
+    stop = 0;
   }
 
-  -- a seat takes another in, and knows what either of them knew
+  -- a seat takes another in, and knows what either of them knew, but for what that one loaded from STOP
   abbrev pub both : View B → View B → View B
   both v w = record v {
     lot = v.lot + w.lot;
@@ -146,6 +151,7 @@ module _ {B : Type 0} where
     plain_loads = 0;
     once_loads = 0;
     steps = 0;
+    stop = 0;
   }
 
   -- a seat that may be merged: it holds no task and no token, has no cell in hand, and has nothing to come

@@ -2,12 +2,9 @@
 -- cleared. Each is said by what it needs of the seat's view and what it changes of all that is shown.
 use Rattle.std.specs.Prelude.{◌≡◌, ◌≢◌, ◌⊎◌, ℕ, suc, ◌+◌, ◌-◌, ◌<◌, Bool, true, false, ◌&&◌, List, Option, Some, None}
 use Rattle.tj_base.specs.ForkOrder.{before}
-use Rattle.tj_base.specs.declared.cell.CellId.{CellId}
 use Rattle.tj_base.specs.declared.cell.Sort.{Sort}
 use Rattle.tj_base.specs.declared.cell.Sort.TheVariants as sort
 use Rattle.tj_body.specs.Points.{IsIn}
-use Rattle.tj_body.specs.declared.ask.Answer.{Answer}
-use Rattle.tj_body.specs.declared.ask.Answer.TheVariants as answer
 use Rattle.tj_body.specs.declared.point.Reference.{Reference}
 use Rattle.tj_core.specs.declared.walk.Way.{Way}
 use Rattle.tj_core.specs.declared.walk.Way.TheVariants as way
@@ -27,7 +24,7 @@ use Rattle.tj_words.specs.Lists.{total, cell}
 use Rattle.tj_words.specs.Hands.{IsThere}
 use Rattle.tj_words.specs.ShownState.{reference_of}
 use Rattle.tj_words.specs.Contents.{Contents, hand_of, drawn_in, home_of}
-use Rattle.tj_words.specs.ShownParts.{parts_of, IsSameBut}
+use Rattle.tj_words.specs.ShownParts.{parts_of}
 use Rattle.tj_words.specs.StepEvents.{wait_in, MayAct, IsHeldWith, IsTurned, IsMoved}
 
 -- whether a cell of this sort is a task

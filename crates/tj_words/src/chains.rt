@@ -1,5 +1,6 @@
 //! Steps on the chains of waiters.
 ghost use Rattle.std.specs.Prelude.{◌≡◌, ◌≢◌, ◌<◌, ◌≤◌};
+ghost use Rattle.tj_body.specs.Programs.{program_of};
 ghost use Rattle.tj_words.specs.ChainSteps.{HasPush, HasPushBehind, KnowsEntry, TakesChain};
 ghost use Rattle.tj_words.specs.ChainSteps.{found_taken, pushed, stored_next};
 ghost use Rattle.tj_words.specs.Heads as heads;
@@ -51,7 +52,9 @@ impl<B: Body> Laid<B> {
         requires push { HasPushBehind t.0 p.0 behind seat.old.me.0 }
         ensures seat { IsSameSeat seat.old seat.new }
         ensures pushed { result ≡ behind → seat.new.me.0 ≡ pushed t.0 seat.old.me.0 }
-        ensures shut { result ≡ Head.Shut → FindsShut p.0 seat.old.me.0 seat.new.me.0 }
+        ensures shut { result ≡ Head.Shut
+            → FindsShut (program_of B.places B.awaits B.left B.asks B.then)
+            self.now.cells p.0 seat.old.me.0 seat.new.me.0 }
         ensures other { result ≢ behind → result ≢ Head.Shut
             → FindsChain self.now.cells p.0 result seat.old.me.0 seat.new.me.0 }
     {
@@ -76,7 +79,8 @@ impl<B: Body> Laid<B> {
         ensures pushed { result ≡ heads.head_word behind
             → seat.new.me.0 ≡ pushed t.0 seat.old.me.0 }
         ensures shut { result ≢ heads.head_word behind → heads.head_in result ≡ Head.Shut
-            → FindsShut p.0 seat.old.me.0 seat.new.me.0 }
+            → FindsShut (program_of B.places B.awaits B.left B.asks B.then)
+            self.now.cells p.0 seat.old.me.0 seat.new.me.0 }
         ensures other { result ≢ heads.head_word behind → heads.head_in result ≢ Head.Shut
             → FindsChain self.now.cells p.0 (heads.head_in result) seat.old.me.0 seat.new.me.0 }
     {

@@ -5,6 +5,9 @@
 //!
 //! The laws stand over the definitions alone, so the functions do nothing: who calls one may rest on
 //! its clauses.
+ghost use Rattle.tj_words.specs.CallSteps as call;
+ghost use Rattle.tj_words.specs.EventCalls as event;
+ghost use Rattle.tj_words.specs.OneStates as state;
 ghost use Rattle.tj_words.specs.StepLaws as law;
 
 /// Steps on COUNT: draws, and loads.
@@ -70,9 +73,11 @@ pub fn others_steps<B>()
     ensures load { law.OthersReadsShow B }
 {}
 
-/// Steps on LIVE.
+/// Steps on LIVE, at which a record may come home.
 pub fn live_steps<B>()
-    ensures { law.LiveStepsShow B }
+    ensures plain { law.LiveStepsShow B }
+    ensures record { law.RecordMovesShow B }
+    ensures shelved { law.ShelvesShow B }
 {}
 
 /// Steps on STOP.
@@ -80,10 +85,9 @@ pub fn stop_steps<B>()
     ensures { law.StopStepsShow B }
 {}
 
-/// Exchanges of what lies in a slot.
+/// Exchanges of what lies in a slot that a seat has.
 pub fn slot_steps<B>()
-    ensures record { law.RecordMovesShow B }
-    ensures shelved { law.ShelvesShow B }
+    ensures { law.PlainLoadsShow B }
 {}
 
 /// Steps on HEAD.
@@ -104,4 +108,60 @@ pub fn splits<B>()
 /// Two seats are merged.
 pub fn merges<B>()
     ensures { law.MergesShow B }
+{}
+
+/// The core state that is shown at a moment is one, and what a step leaves of it is what the next
+/// moment shows: so steps make a run.
+pub fn one_state<B>()
+    ensures one { state.OneStateIsShown B }
+    ensures steps { state.StepsChain B }
+    ensures draws { state.DrawsChain B }
+{}
+
+/// Calls that load what is no event, and exchanges that fail.
+pub fn load_calls<B>()
+    ensures count { call.CountCallsLoad B }
+    ensures owner { call.OwnerCallsLoad B }
+    ensures phase { call.PhaseCallsLoad B }
+    ensures live { call.LiveCallsLoad B }
+    ensures stop { call.StopCallsLoad B }
+    ensures head { call.HeadCallsLoad B }
+    ensures next { call.NextCallsLoad B }
+    ensures once { call.OnceCallsLoad B }
+    ensures push { call.FailedPushesLoad B }
+    ensures claim { call.FailedClaimsLoad B }
+{}
+
+/// Calls that store what is no event.
+pub fn store_calls<B>()
+    ensures live_up { call.RaisesChangeLive B }
+    ensures live_down { call.LowersChangeLive B }
+    ensures stop { call.StopsChangeStop B }
+    ensures push { call.PushesChangeHead B }
+    ensures shut { call.ShutsChangeHead B }
+    ensures next { call.NextsChangeNext B }
+    ensures tree_word { call.TreeWordsStoreOnce B }
+    ensures bits { call.BitsStoreOnce B }
+    ensures tag { call.TagsStoreOnce B }
+    ensures refused { call.RefusedDrawsCount B }
+{}
+
+/// A split, a merge, and what leaves makers and numbers of cells.
+pub fn seat_calls<B>()
+    ensures split { call.SplitCallsSplit B }
+    ensures merge { call.MergeCallsMerge B }
+    ensures keeps { call.HoldingsKeepCells B }
+{}
+
+/// Calls on OTHERS, the loads of a walker, and the stores of Walking and Alarmed.
+pub fn event_calls<B>()
+    ensures others_up { event.OthersUpRaises B }
+    ensures others_down { event.OthersDownLowers B }
+    ensures others { event.OthersLoadsRead B }
+    ensures count { event.CountLoadsRead B }
+    ensures owner { event.OwnerLoadsRead B }
+    ensures again { event.OwnerLoadsReadAgain B }
+    ensures wait { event.WaitLoadsRead B }
+    ensures walking { event.WalkingStoresPublish B }
+    ensures alarmed { event.AlarmedStoresAlarm B }
 {}

@@ -10,7 +10,7 @@ ghost use Rattle.tj_words.specs.SeenWords.{FindsChain, FindsShut, MayRead, NextT
 ghost use Rattle.tj_words.specs.SeatSteps as steps;
 ghost use Rattle.tj_words.specs.StepEvents.{wait_in};
 ghost use Rattle.tj_words.specs.Codes as codes;
-ghost use Rattle.tj_words.specs.Views.{loaded_plain, saw_rest, stepped_on};
+ghost use Rattle.tj_words.specs.Views.{loaded_plain, saw_rest, saw_stop, stepped_on};
 
 use crate::head::Head;
 use crate::offsets::{COUNT, LIVE, Once, STOP, head_at, next_at, once_at, own_at, phase_at};
@@ -36,11 +36,11 @@ impl<B: Body> Laid<B> {
         self.table.shared.load::<LiveLoad>(seat, LIVE) as u32
     }
 
-    /// STOP. It is 1 only where the meaning is full.
+    /// STOP. It is 1 only where the meaning is full. The view says what was loaded last.
     pub fn stopped(&self, seat: &mut WSeat<B>) -> u64
         requires table { seat.old.table_id ≡ self.now.table.shared.table_id }
         ensures seat { IsSameSeat seat.old seat.new }
-        ensures view { seat.new.me.0 ≡ stepped_on seat.old.me.0 }
+        ensures view { seat.new.me.0 ≡ saw_stop result seat.old.me.0 }
         ensures stop { result ≤ 2 }
         ensures full { result ≡ 1
             → NamesFull (program_of B.places B.awaits B.left B.asks B.then) seat.old.me.0 }
@@ -121,7 +121,9 @@ impl<B: Body> Laid<B> {
         requires table { seat.old.table_id ≡ self.now.table.shared.table_id }
         requires cell { p.0 < self.now.cells }
         ensures seat { IsSameSeat seat.old seat.new }
-        ensures shut { result ≡ Head.Shut → FindsShut p.0 seat.old.me.0 seat.new.me.0 }
+        ensures shut { result ≡ Head.Shut
+            → FindsShut (program_of B.places B.awaits B.left B.asks B.then)
+            self.now.cells p.0 seat.old.me.0 seat.new.me.0 }
         ensures open { result ≢ Head.Shut
             → FindsChain self.now.cells p.0 result seat.old.me.0 seat.new.me.0 }
     {
@@ -135,7 +137,8 @@ impl<B: Body> Laid<B> {
         ensures seat { IsSameSeat seat.old seat.new }
         ensures head { result ≤ heads.shut_word }
         ensures shut { heads.head_in result ≡ Head.Shut
-            → FindsShut p.0 seat.old.me.0 seat.new.me.0 }
+            → FindsShut (program_of B.places B.awaits B.left B.asks B.then)
+            self.now.cells p.0 seat.old.me.0 seat.new.me.0 }
         ensures open { heads.head_in result ≢ Head.Shut
             → FindsChain self.now.cells p.0 (heads.head_in result) seat.old.me.0 seat.new.me.0 }
     {

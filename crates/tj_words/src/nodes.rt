@@ -20,7 +20,7 @@ impl<B: Body> Laid<B> {
         ensures loads { seat.new.me.0.once_loads ≡ seat.old.me.0.once_loads + 4 }
         ensures goes_on { GoesOn (TreeShown seat.old) (MayLook self.now seat.old)
             (TreeShown seat.new) (MayLook self.now seat.new) }
-        ensures later { IsLater seat.old seat.new }
+        ensures later { IsLater self.now.cells seat.old seat.new }
     {
         let parent = self.see_once(seat, task, Once::Parent);
         let kid = self.see_once(seat, task, Once::Kid);

@@ -83,7 +83,9 @@ pub(crate) struct HeadLoad<M> {
 }
 
 impl<B: Body, M: Naming> Play<Option<Rec<B>>, View<B>> for HeadLoad<M> {
-    ghost then = { head_load M.cells M.cell };
+    ghost use Rattle.tj_body.specs.Programs.{program_of};
+
+    ghost then = { head_load (program_of B.places B.awaits B.left B.asks B.then) M.cells M.cell };
 }
 
 /// A load of NEXT.
@@ -122,7 +124,9 @@ pub(crate) struct PushExchange<M> {
 }
 
 impl<B: Body, M: Naming> Play<Option<Rec<B>>, View<B>> for PushExchange<M> {
-    ghost then = { push_exchange M.cells M.cell };
+    ghost use Rattle.tj_body.specs.Programs.{program_of};
+
+    ghost then = { push_exchange (program_of B.places B.awaits B.left B.asks B.then) M.cells M.cell };
 }
 
 /// A swap of HEAD that shuts it.

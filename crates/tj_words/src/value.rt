@@ -1,15 +1,16 @@
 //! What becomes of a cell, and the two words that stand for it: TAG, which is 0 until something has,
 //! and BITS.
-ghost use Rattle.std.specs.Prelude.{◌≡◌, ◌<◌, ◌≢◌, ◌⊎◌, ◌^◌};
+ghost use Rattle.std.specs.Prelude.{◌≡◌, ◌<◌, ◌≢◌, ◌⊎◌, ◌^◌, None};
 ghost use Rattle.tj_words.specs.Values as values;
 
 use crate::record::Fill;
 use tj_base::CellId;
 
-/// TAG and BITS of a cell that is filled, or broken.
+/// TAG and BITS of a cell that is filled, or broken: BITS of a broken one is 0.
 pub fn value_words(fill: Option<Fill>) -> (u64, u64)
     ensures tag { result.0 ≡ values.tag_word fill }
     ensures bits { values.fill_in result.0 result.1 ≡ fill }
+    ensures broken { fill ≡ None → result.1 ≡ 0 }
 {
     match fill {
         Some(Fill::Num(number)) => (1, number.cast_unsigned()),

@@ -150,4 +150,6 @@ pub struct View<B> {
     pub once_loads: u64,
     /// How many steps it has made.
     pub steps: u64,
+    /// What it loaded from STOP last, 0 at first.
+    pub stop: u64,
 }

@@ -12,7 +12,8 @@ put_once-requires-clause-may g c κs within =
     let look = c.see_node-maker in
     let s = c.child_jump-jump.new.seat in
     let later = later_on c.args.seat.now look.new.seat s look.ensures.later c.child_jump-jump.ensures.later in
-    may_depth c.args.t.0 c.args.c.0 c.args.seat.now.me.0 s.me.0 c.requires.hand later.1 (look.result.depth + 1)
+    may_depth c.args.laid.now.cells c.args.t.0 c.args.c.0 c.args.seat.now.me.0 s.me.0 c.requires.hand later.1
+    (look.result.depth + 1)
     (λ forks h has.
     let e = (has c.args.t.0 look.result
     (shown_later look.new.seat.me.0 s.me.0 c.child_jump-jump.ensures.later.1 c.args.t.0 look.result
@@ -25,8 +26,8 @@ put_once-requires-2-clause-may g c κs within =
     let jump = c.child_jump-jump in
     let s = jump.new.seat in
     let later = later_on c.args.seat.now look.new.seat s look.ensures.later jump.ensures.later in
-    may_jump c.args.t.0 c.args.c.0 c.args.seat.now.me.0 s.me.0 c.requires.hand later.1 c.put_once.new.seat.me.0
-    (look.result.depth + 1) c.put_once.ensures.view (jump.result.0 + 1)
+    may_jump c.args.laid.now.cells c.args.t.0 c.args.c.0 c.args.seat.now.me.0 s.me.0 c.requires.hand later.1
+    c.put_once.new.seat.me.0 (look.result.depth + 1) c.put_once.ensures.view (jump.result.0 + 1)
     (λ forks h has. let e = jump.ensures.jump forks h (λ m node k. has m node k.1) in omega (arith, e))
 
 pub returns-clause-place : goal.returns-clause-place

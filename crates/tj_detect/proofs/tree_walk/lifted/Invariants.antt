@@ -21,7 +21,7 @@ invariant-loop-at g l =
           (ranks l.fn.from.node.depth) (l.fn.from.node.depth - l.depth);
       loads : l.seat.me.0.once_loads + 4 * l.initial.steps ≡ l.initial.seat.me.0.once_loads + 4 * l.steps;
       goes_on : GoesOn (shows l.initial.seat) (may l.initial.seat) (shows l.seat) (may l.seat);
-      later : IsLater l.initial.seat l.seat;
+      later : IsLater l.laid.cells l.initial.seat l.seat;
     }
 
 abbrev pub decreases-loop-at : goal.decreases-loop-at

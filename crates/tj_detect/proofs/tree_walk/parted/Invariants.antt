@@ -25,7 +25,7 @@ invariant-loop-x g l =
           (ranks l.fn.a.node.depth) (l.fn.a.node.depth - floor));
       loads : l.seat.me.0.once_loads + 4 * l.initial.steps ≡ l.initial.seat.me.0.once_loads + 4 * l.steps;
       goes_on : GoesOn (shows l.initial.seat) (may l.initial.seat) (shows l.seat) (may l.seat);
-      later : IsLater l.initial.seat l.seat;
+      later : IsLater l.laid.cells l.initial.seat l.seat;
     }
 
 abbrev pub decreases-loop-x : goal.decreases-loop-x

@@ -1,9 +1,9 @@
-use Rattle.std.proofs.Common.{◌≡◌, ◌∙◌, ◌+◌, ◌≤◌, drop, get_or, length, refl, sym, subst, arith}
+use Rattle.std.proofs.Common.{◌∙◌, ◌+◌, drop, get_or, refl, sym, subst, arith}
 use Rattle.tj_body.specs.Programs.{program_of}
 use Rattle.tj_words.specs.Lists.{cell}
 use Rattle.tj_park.specs.Wakes.{MayWake, WakesAll}
 use Rattle.tj_park.proofs.BreakSteps.{none_broken, may_give_up, will_break, is_small, may_wake_broken, one_broken}
-use Rattle.tj_park.proofs.BreakSteps.{next_left, none_left}
+use Rattle.tj_park.proofs.BreakSteps.{about_kept, next_left, none_left}
 use Rattle.tj_park.proofs.finishes.break_promises.Goals as goal
 
 pub loop-p-init : goal.loop-p-init
@@ -22,7 +22,8 @@ break_off-requires-clause-cell g c κs within = let ps = c.args.promises.now in 
     let h = next_left c.args.t.0 ps i c.args.seat.now.me.0 c.loop-p.seat.me.0 c.loop-p.invariant.broken
     c.loop-p-test.true in
     is_small (program_of g.B.Body.places g.B.Body.awaits g.B.Body.left g.B.Body.asks g.B.Body.then) c.args.t.0 ps
-    (drop (i + 1) ps) (get_or ps i (cell 0)) c.args.seat.now.me.0 c.loop-p.seat.me.0 c.requires.may h c.args.laid.now.cells c.requires.few
+    (drop (i + 1) ps) (get_or ps i (cell 0)) c.args.seat.now.me.0 c.loop-p.seat.me.0 c.requires.may h
+    c.args.laid.now.cells c.requires.few
 
 pub break_off-requires-clause-owner : goal.break_off-requires-clause-owner
 break_off-requires-clause-owner g c κs within = let ps = c.args.promises.now in let i = c.loop-p.p-index in
@@ -47,7 +48,8 @@ wake-requires-clause-cell g c κs within = let ps = c.args.promises.now in let i
     let h = next_left c.args.t.0 ps i c.args.seat.now.me.0 c.loop-p.seat.me.0 c.loop-p.invariant.broken
     c.loop-p-test.true in
     is_small (program_of g.B.Body.places g.B.Body.awaits g.B.Body.left g.B.Body.asks g.B.Body.then) c.args.t.0 ps
-    (drop (i + 1) ps) (get_or ps i (cell 0)) c.args.seat.now.me.0 c.loop-p.seat.me.0 c.requires.may h c.args.laid.now.cells c.requires.few
+    (drop (i + 1) ps) (get_or ps i (cell 0)) c.args.seat.now.me.0 c.loop-p.seat.me.0 c.requires.may h
+    c.args.laid.now.cells c.requires.few
 
 pub wake-requires-clause-may : goal.wake-requires-clause-may
 wake-requires-clause-may g c κs within = let ps = c.args.promises.now in let i = c.loop-p.p-index in
@@ -55,8 +57,8 @@ wake-requires-clause-may g c κs within = let ps = c.args.promises.now in let i 
     c.loop-p-test.true in
     subst (λ s. MayWake (get_or ps i (cell 0)).0 (c.break_off.new.seat.me.0, s))
     (sym (c.break_off.ensures.seat.2 ∙ c.loop-p.invariant.seat.2))
-    (may_wake_broken (program_of g.B.Body.places g.B.Body.awaits g.B.Body.left g.B.Body.asks g.B.Body.then) c.args.t.0 ps
-    (drop (i + 1) ps) (get_or ps i (cell 0)) c.args.seat.now.me.0 c.loop-p.seat.me.0 c.requires.may h
+    (may_wake_broken (program_of g.B.Body.places g.B.Body.awaits g.B.Body.left g.B.Body.asks g.B.Body.then)
+    c.args.t.0 ps (drop (i + 1) ps) (get_or ps i (cell 0)) c.args.seat.now.me.0 c.loop-p.seat.me.0 c.requires.may h
     c.break_off.new.seat.me.0 c.break_off.ensures.view c.args.seat.now.me.1 c.requires.slots)
 
 pub wake-requires-clause-pool : goal.wake-requires-clause-pool
@@ -65,6 +67,11 @@ wake-requires-clause-pool g c κs within = c.loop-p.invariant.limit ∙ c.requir
 pub returns-in_err-wake-clause-seat : goal.returns-in_err-wake-clause-seat
 returns-in_err-wake-clause-seat g c = let i = c.loop-p.invariant.seat in let b = c.break_off.ensures.seat in
     let w = c.wake.ensures.seat in (w.0 ∙ (b.0 ∙ i.0), w.1 ∙ (b.1 ∙ i.1), w.2 ∙ (b.2 ∙ i.2))
+
+pub returns-in_err-wake-clause-about : goal.returns-in_err-wake-clause-about
+returns-in_err-wake-clause-about g c =
+    about_kept _ _ _ c.args.t.0 c.args.seat.now.me.0 c.loop-p.seat.me.0 c.break_off.new.seat.me.0 c.wake.new.seat.me.0
+    c.loop-p.invariant.broken.knows.about c.break_off.ensures.view c.in_err-wake.ensures.memory.woke
 
 pub returns-in_err-wake-clause-limit : goal.returns-in_err-wake-clause-limit
 returns-in_err-wake-clause-limit g c = c.wake.ensures.limit ∙ c.loop-p.invariant.limit
@@ -79,13 +86,16 @@ loop-p-preserved g c = let ps = c.args.promises.now in let i = c.loop-p.p-index 
     c.wake.new.seat.me.0 c.loop-p.pool c.wake.new.pool = c.in_ok-wake.ensures.woke in record {
       seat = (w.0 ∙ (b.0 ∙ s.0), w.1 ∙ (b.1 ∙ s.1), w.2 ∙ (b.2 ∙ s.2));
       limit = c.wake.ensures.limit ∙ c.loop-p.invariant.limit;
-      broken = one_broken (program_of g.B.Body.places g.B.Body.awaits g.B.Body.left g.B.Body.asks g.B.Body.then) c.args.t.0 ps
-          (drop (i + 1) ps) (get_or ps i (cell 0)) c.args.seat.now.me.0 c.loop-p.seat.me.0 c.requires.may h
-          c.break_off.new.seat.me.0 c.break_off.ensures.view c.in_ok-wake.field-0 c.wake.new.seat.me.0 woke.woke;
+      broken = one_broken (program_of g.B.Body.places g.B.Body.awaits g.B.Body.left g.B.Body.asks g.B.Body.then)
+          c.args.t.0 ps (drop (i + 1) ps) (get_or ps i (cell 0)) c.args.seat.now.me.0 c.loop-p.seat.me.0
+          c.requires.may h c.break_off.new.seat.me.0 c.break_off.ensures.view c.in_ok-wake.field-0 c.wake.new.seat.me.0 woke.woke;
     }
 
 pub returns-clause-seat : goal.returns-clause-seat
 returns-clause-seat g c = c.loop-p.invariant.seat
+
+pub returns-clause-about : goal.returns-clause-about
+returns-clause-about g c = c.loop-p.invariant.broken.knows.about
 
 pub returns-clause-limit : goal.returns-clause-limit
 returns-clause-limit g c = c.loop-p.invariant.limit

@@ -3,8 +3,9 @@ use Rattle.atomic_table.specs.Table.{rest}
 use Rattle.tj_body.specs.Programs.{program_of}
 use Rattle.tj_words.specs.LiveViews.{MayLowerLive, lowered_with}
 use Rattle.tj_park.specs.Breaks.{HasBroken, MayBreak}
-use Rattle.tj_park.proofs.EndSteps.{slice_rest, is_cell, may_break, may_close, closed_is, laid_is, may_end_then, ended_is}
-use Rattle.tj_park.proofs.EndSteps.{may_wake_then, woke_then, may_lower, has_finished, same_slots, some_owned}
+use Rattle.tj_park.proofs.EndSteps.{slice_rest, is_cell, may_break, may_close, closed_is, laid_is, may_end_then}
+use Rattle.tj_park.proofs.EndSteps.{ended_is, about_woken, may_wake_then, woke_then, may_lower, has_finished}
+use Rattle.tj_park.proofs.EndSteps.{same_slots}
 use Rattle.tj_park.proofs.finishes.finish.Goals as goal
 
 pub break_promises-requires-clause-may : goal.break_promises-requires-clause-may
@@ -65,7 +66,8 @@ put_phase-requires-clause-may g c κs within = let m = c.requires.may in
     may_end_then (program_of g.B.Body.places g.B.Body.awaits g.B.Body.left g.B.Body.asks g.B.Body.then)
     c.args.t.0 c.args.rec c.args.seat.now.me.0 m written ordered c.break_promises.new.seat.me.0
     (subst (λ l. HasBroken c.args.t.0 l [] c.args.seat.now.me.0 c.break_promises.new.seat.me.0)
-    (slice_rest c.items.result.now c.args.rec.owned c.items.ensures) c.in_ok-break_promises.ensures.broken) (rest c.args.seat.now.me.1) c.requires.others
+    (slice_rest c.items.result.now c.args.rec.owned c.items.ensures) c.in_ok-break_promises.ensures.broken)
+    (rest c.args.seat.now.me.1) c.requires.others
     c.slot_swap.new.seat.me laid
 
 pub wake-requires-clause-may : goal.wake-requires-clause-may
@@ -87,12 +89,14 @@ wake-requires-clause-may g c κs within = let m = c.requires.may in
     let ended = ended_is (program_of g.B.Body.places g.B.Body.awaits g.B.Body.left g.B.Body.asks g.B.Body.then)
     c.args.t.0 c.args.rec c.args.seat.now.me.0 m written ordered c.break_promises.new.seat.me.0
     (subst (λ l. HasBroken c.args.t.0 l [] c.args.seat.now.me.0 c.break_promises.new.seat.me.0)
-    (slice_rest c.items.result.now c.args.rec.owned c.items.ensures) c.in_ok-break_promises.ensures.broken) (rest c.args.seat.now.me.1) c.requires.others
+    (slice_rest c.items.result.now c.args.rec.owned c.items.ensures) c.in_ok-break_promises.ensures.broken)
+    (rest c.args.seat.now.me.1) c.requires.others
     c.slot_swap.new.seat.me c.put_phase.new.seat.me laid c.put_phase.ensures.puts in
     may_wake_then (program_of g.B.Body.places g.B.Body.awaits g.B.Body.left g.B.Body.asks g.B.Body.then)
     c.args.t.0 c.args.rec c.args.seat.now.me.0 m written ordered c.break_promises.new.seat.me.0
     (subst (λ l. HasBroken c.args.t.0 l [] c.args.seat.now.me.0 c.break_promises.new.seat.me.0)
-    (slice_rest c.items.result.now c.args.rec.owned c.items.ensures) c.in_ok-break_promises.ensures.broken) (rest c.args.seat.now.me.1) c.requires.others
+    (slice_rest c.items.result.now c.args.rec.owned c.items.ensures) c.in_ok-break_promises.ensures.broken)
+    (rest c.args.seat.now.me.1) c.requires.others
     c.put_phase.new.seat.me ended
 
 pub live_down-requires-clause-may : goal.live_down-requires-clause-may
@@ -114,20 +118,24 @@ live_down-requires-clause-may g c κs within = let m = c.requires.may in
     let ended = ended_is (program_of g.B.Body.places g.B.Body.awaits g.B.Body.left g.B.Body.asks g.B.Body.then)
     c.args.t.0 c.args.rec c.args.seat.now.me.0 m written ordered c.break_promises.new.seat.me.0
     (subst (λ l. HasBroken c.args.t.0 l [] c.args.seat.now.me.0 c.break_promises.new.seat.me.0)
-    (slice_rest c.items.result.now c.args.rec.owned c.items.ensures) c.in_ok-break_promises.ensures.broken) (rest c.args.seat.now.me.1) c.requires.others
+    (slice_rest c.items.result.now c.args.rec.owned c.items.ensures) c.in_ok-break_promises.ensures.broken)
+    (rest c.args.seat.now.me.1) c.requires.others
     c.slot_swap.new.seat.me c.put_phase.new.seat.me laid c.put_phase.ensures.puts in
     let woke = woke_then (program_of g.B.Body.places g.B.Body.awaits g.B.Body.left g.B.Body.asks g.B.Body.then)
     c.args.t.0 c.args.rec c.args.seat.now.me.0 m written ordered c.break_promises.new.seat.me.0
     (subst (λ l. HasBroken c.args.t.0 l [] c.args.seat.now.me.0 c.break_promises.new.seat.me.0)
-    (slice_rest c.items.result.now c.args.rec.owned c.items.ensures) c.in_ok-break_promises.ensures.broken) (rest c.args.seat.now.me.1) c.requires.others
+    (slice_rest c.items.result.now c.args.rec.owned c.items.ensures) c.in_ok-break_promises.ensures.broken)
+    (rest c.args.seat.now.me.1) c.requires.others
     c.in_ok-wake.field-0 c.put_phase.new.seat.me c.wake.new.seat.me.0 ended c.in_ok-wake.ensures.woke.woke in
     let mine : c.wake.new.seat.me.1 ≡ rest c.args.seat.now.me.1
     = c.wake.ensures.seat.2 ∙ ap (λ m. m.1) ended in
     subst (λ s. MayLowerLive (program_of g.B.Body.places g.B.Body.awaits g.B.Body.left g.B.Body.asks g.B.Body.then)
-    (c.wake.new.seat.me.0, s)) (sym mine) (may_lower (program_of g.B.Body.places g.B.Body.awaits g.B.Body.left g.B.Body.asks g.B.Body.then)
+    (c.wake.new.seat.me.0, s)) (sym mine)
+    (may_lower (program_of g.B.Body.places g.B.Body.awaits g.B.Body.left g.B.Body.asks g.B.Body.then)
     c.args.t.0 c.args.rec c.args.seat.now.me.0 m written ordered c.break_promises.new.seat.me.0
     (subst (λ l. HasBroken c.args.t.0 l [] c.args.seat.now.me.0 c.break_promises.new.seat.me.0)
-    (slice_rest c.items.result.now c.args.rec.owned c.items.ensures) c.in_ok-break_promises.ensures.broken) (rest c.args.seat.now.me.1) c.requires.others
+    (slice_rest c.items.result.now c.args.rec.owned c.items.ensures) c.in_ok-break_promises.ensures.broken)
+    (rest c.args.seat.now.me.1) c.requires.others
     c.in_ok-wake.field-0 c.wake.new.seat.me.0 woke)
 
 pub returns-clause-ended : goal.returns-clause-ended
@@ -149,21 +157,59 @@ returns-clause-ended g c = let m = c.requires.may in
     let ended = ended_is (program_of g.B.Body.places g.B.Body.awaits g.B.Body.left g.B.Body.asks g.B.Body.then)
     c.args.t.0 c.args.rec c.args.seat.now.me.0 m written ordered c.break_promises.new.seat.me.0
     (subst (λ l. HasBroken c.args.t.0 l [] c.args.seat.now.me.0 c.break_promises.new.seat.me.0)
-    (slice_rest c.items.result.now c.args.rec.owned c.items.ensures) c.in_ok-break_promises.ensures.broken) (rest c.args.seat.now.me.1) c.requires.others
+    (slice_rest c.items.result.now c.args.rec.owned c.items.ensures) c.in_ok-break_promises.ensures.broken)
+    (rest c.args.seat.now.me.1) c.requires.others
     c.slot_swap.new.seat.me c.put_phase.new.seat.me laid c.put_phase.ensures.puts in
     let woke = woke_then (program_of g.B.Body.places g.B.Body.awaits g.B.Body.left g.B.Body.asks g.B.Body.then)
     c.args.t.0 c.args.rec c.args.seat.now.me.0 m written ordered c.break_promises.new.seat.me.0
     (subst (λ l. HasBroken c.args.t.0 l [] c.args.seat.now.me.0 c.break_promises.new.seat.me.0)
-    (slice_rest c.items.result.now c.args.rec.owned c.items.ensures) c.in_ok-break_promises.ensures.broken) (rest c.args.seat.now.me.1) c.requires.others
+    (slice_rest c.items.result.now c.args.rec.owned c.items.ensures) c.in_ok-break_promises.ensures.broken)
+    (rest c.args.seat.now.me.1) c.requires.others
     c.in_ok-wake.field-0 c.put_phase.new.seat.me c.wake.new.seat.me.0 ended c.in_ok-wake.ensures.woke.woke in
     let mine : c.wake.new.seat.me.1 ≡ rest c.args.seat.now.me.1
     = c.wake.ensures.seat.2 ∙ ap (λ m. m.1) ended in
     has_finished (program_of g.B.Body.places g.B.Body.awaits g.B.Body.left g.B.Body.asks g.B.Body.then)
     c.args.t.0 c.args.rec c.args.seat.now.me.0 m written ordered c.break_promises.new.seat.me.0
     (subst (λ l. HasBroken c.args.t.0 l [] c.args.seat.now.me.0 c.break_promises.new.seat.me.0)
-    (slice_rest c.items.result.now c.args.rec.owned c.items.ensures) c.in_ok-break_promises.ensures.broken) (rest c.args.seat.now.me.1) c.requires.others
+    (slice_rest c.items.result.now c.args.rec.owned c.items.ensures) c.in_ok-break_promises.ensures.broken)
+    (rest c.args.seat.now.me.1) c.requires.others
     c.in_ok-wake.field-0 c.wake.new.seat.me.0 woke c.live_down.new.seat.me
     (c.live_down.ensures.me ∙ ap (λ s. lowered_with c.wake.new.seat.me.0 s) mine)
+
+pub returns-in_err-break_promises-clause-about : goal.returns-in_err-break_promises-clause-about
+returns-in_err-break_promises-clause-about g c = c.break_promises.ensures.about
+
+pub returns-in_err-wake-clause-about : goal.returns-in_err-wake-clause-about
+returns-in_err-wake-clause-about g c = let m = c.requires.may in
+    let written = c.points_in_rounds.ensures.written m.about.strict m.about.root m.rooted in
+    let ordered = c.names_and_cells.ensures.elements in
+    let laid = laid_is (program_of g.B.Body.places g.B.Body.awaits g.B.Body.left g.B.Body.asks g.B.Body.then)
+    c.args.t.0 c.args.rec c.args.seat.now.me.0 m written ordered c.break_promises.new.seat.me.0
+    (subst (λ l. HasBroken c.args.t.0 l [] c.args.seat.now.me.0 c.break_promises.new.seat.me.0)
+    (slice_rest c.items.result.now c.args.rec.owned c.items.ensures) c.in_ok-break_promises.ensures.broken)
+    c.slot_swap.new.seat.me c.close_result.new.seat.me.0 c.without_owned.result c.close_result.new.seat.me.1
+    c.args.seat.now.me.1 c.slot_swap.ensures.me
+    (closed_is (program_of g.B.Body.places g.B.Body.awaits g.B.Body.left g.B.Body.asks g.B.Body.then)
+    c.args.t.0 c.args.rec c.args.seat.now.me.0 m written ordered c.break_promises.new.seat.me.0
+    (subst (λ l. HasBroken c.args.t.0 l [] c.args.seat.now.me.0 c.break_promises.new.seat.me.0)
+    (slice_rest c.items.result.now c.args.rec.owned c.items.ensures) c.in_ok-break_promises.ensures.broken)
+    c.close_result.new.seat.me.0 c.close_result.ensures.view) c.without_owned.ensures
+    (c.close_result.ensures.seat.2 ∙ c.break_promises.ensures.seat.2) in
+    let ended = ended_is (program_of g.B.Body.places g.B.Body.awaits g.B.Body.left g.B.Body.asks g.B.Body.then)
+    c.args.t.0 c.args.rec c.args.seat.now.me.0 m written ordered c.break_promises.new.seat.me.0
+    (subst (λ l. HasBroken c.args.t.0 l [] c.args.seat.now.me.0 c.break_promises.new.seat.me.0)
+    (slice_rest c.items.result.now c.args.rec.owned c.items.ensures) c.in_ok-break_promises.ensures.broken)
+    (rest c.args.seat.now.me.1) c.requires.others
+    c.slot_swap.new.seat.me c.put_phase.new.seat.me laid c.put_phase.ensures.puts in
+    about_woken (program_of g.B.Body.places g.B.Body.awaits g.B.Body.left g.B.Body.asks g.B.Body.then)
+    c.args.t.0 c.args.rec c.args.seat.now.me.0 m written ordered c.break_promises.new.seat.me.0
+    (subst (λ l. HasBroken c.args.t.0 l [] c.args.seat.now.me.0 c.break_promises.new.seat.me.0)
+    (slice_rest c.items.result.now c.args.rec.owned c.items.ensures) c.in_ok-break_promises.ensures.broken)
+    (rest c.args.seat.now.me.1) c.requires.others
+    _ _ c.put_phase.new.seat.me c.wake.new.seat.me.0 ended c.in_err-wake.ensures.memory.woke
+
+pub returns-clause-about : goal.returns-clause-about
+returns-clause-about g c = (returns-clause-ended g c).knows.about
 
 pub returns-clause-slots : goal.returns-clause-slots
 returns-clause-slots g c = let m = c.requires.may in
@@ -184,18 +230,21 @@ returns-clause-slots g c = let m = c.requires.may in
     let ended = ended_is (program_of g.B.Body.places g.B.Body.awaits g.B.Body.left g.B.Body.asks g.B.Body.then)
     c.args.t.0 c.args.rec c.args.seat.now.me.0 m written ordered c.break_promises.new.seat.me.0
     (subst (λ l. HasBroken c.args.t.0 l [] c.args.seat.now.me.0 c.break_promises.new.seat.me.0)
-    (slice_rest c.items.result.now c.args.rec.owned c.items.ensures) c.in_ok-break_promises.ensures.broken) (rest c.args.seat.now.me.1) c.requires.others
+    (slice_rest c.items.result.now c.args.rec.owned c.items.ensures) c.in_ok-break_promises.ensures.broken)
+    (rest c.args.seat.now.me.1) c.requires.others
     c.slot_swap.new.seat.me c.put_phase.new.seat.me laid c.put_phase.ensures.puts in
     let woke = woke_then (program_of g.B.Body.places g.B.Body.awaits g.B.Body.left g.B.Body.asks g.B.Body.then)
     c.args.t.0 c.args.rec c.args.seat.now.me.0 m written ordered c.break_promises.new.seat.me.0
     (subst (λ l. HasBroken c.args.t.0 l [] c.args.seat.now.me.0 c.break_promises.new.seat.me.0)
-    (slice_rest c.items.result.now c.args.rec.owned c.items.ensures) c.in_ok-break_promises.ensures.broken) (rest c.args.seat.now.me.1) c.requires.others
+    (slice_rest c.items.result.now c.args.rec.owned c.items.ensures) c.in_ok-break_promises.ensures.broken)
+    (rest c.args.seat.now.me.1) c.requires.others
     c.in_ok-wake.field-0 c.put_phase.new.seat.me c.wake.new.seat.me.0 ended c.in_ok-wake.ensures.woke.woke in
     let mine : c.wake.new.seat.me.1 ≡ rest c.args.seat.now.me.1
     = c.wake.ensures.seat.2 ∙ ap (λ m. m.1) ended in
     same_slots (program_of g.B.Body.places g.B.Body.awaits g.B.Body.left g.B.Body.asks g.B.Body.then)
     c.args.t.0 c.args.rec c.args.seat.now.me.0 m written ordered c.break_promises.new.seat.me.0
     (subst (λ l. HasBroken c.args.t.0 l [] c.args.seat.now.me.0 c.break_promises.new.seat.me.0)
-    (slice_rest c.items.result.now c.args.rec.owned c.items.ensures) c.in_ok-break_promises.ensures.broken) (rest c.args.seat.now.me.1) c.requires.others
+    (slice_rest c.items.result.now c.args.rec.owned c.items.ensures) c.in_ok-break_promises.ensures.broken)
+    (rest c.args.seat.now.me.1) c.requires.others
     c.in_ok-wake.field-0 c.wake.new.seat.me.0 woke c.live_down.new.seat.me
     (c.live_down.ensures.me ∙ ap (λ s. lowered_with c.wake.new.seat.me.0 s) mine)

@@ -1,4 +1,4 @@
-use Rattle.std.proofs.Common.{◌≡◌, ◌∙◌, ◌<◌, refl, sym, subst, arith}
+use Rattle.std.proofs.Common.{◌∙◌, ◌<◌, refl, sym, subst, arith}
 use Rattle.tj_park.specs.Wakes.{MayWakeTasks}
 use Rattle.tj_park.proofs.WakeLoops.{first_task, may_go_on, rest_now, on_err, waking_at_first, few_woken}
 use Rattle.tj_park.proofs.WakeLoops.{fewer_left, waking_next, woke_some, woke_all}

@@ -1,4 +1,4 @@
-use Rattle.std.proofs.Common.{arith, ◌≤◌}
+use Rattle.std.proofs.Common.{arith}
 use Rattle.tj_words.proofs.StopLoads.{stop_allowed}
 use Rattle.tj_words.proofs.table.Laid.stopped.Goals as goal
 

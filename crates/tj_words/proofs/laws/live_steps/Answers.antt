@@ -1,5 +1,5 @@
 use Rattle.tj_words.proofs.QuietMoves.{record_shown, shelve_shown}
-use Rattle.tj_words.proofs.laws.slot_steps.Goals as goal
+use Rattle.tj_words.proofs.laws.live_steps.Goals as goal
 
 pub returns-clause-record : goal.returns-clause-record
 returns-clause-record g c = λ m y id t d s. record_shown m.law y id t d s

@@ -1,0 +1,13 @@
+use Rattle.std.proofs.Common.{arith}
+use Rattle.tj_words.proofs.OneStates.{chained, drawn_chained, one_shown}
+use Rattle.tj_words.proofs.laws.one_state.Goals as goal
+
+pub returns-clause-one : goal.returns-clause-one
+returns-clause-one g c = λ m r. one_shown m.law r
+
+pub returns-clause-steps : goal.returns-clause-steps
+returns-clause-steps g c = λ m y r k e. chained m.law r k (omega arith) e
+
+pub returns-clause-draws : goal.returns-clause-draws
+returns-clause-draws g c = λ m y r id t h d k. let e = d.same.drawn in
+    drawn_chained m.law r k (omega arith) id t h d
