@@ -1,2 +1,4 @@
 pub mod ReportTexts
 pub mod SummaryTexts
+pub mod ClosedOutcomes
+pub mod Inner

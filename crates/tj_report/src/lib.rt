@@ -1,12 +1,16 @@
-//! The texts of reports and summaries.
+//! The outcome of a run from its closed words, and the texts of reports and summaries.
 #![tactic(auto)]
 
+mod cell_names;
+mod closed_outcome;
 #[cfg(test)]
 mod plan_tests;
 mod report;
 mod summary;
 #[cfg(test)]
 mod tests;
+mod told_records;
 
+pub use closed_outcome::outcome_of;
 pub use report::report_text;
 pub use summary::summary_text;

@@ -1,0 +1,76 @@
+-- A task that has ended holds nothing: what a history of a meaning holds is what it owns beside its result.
+use Rattle.std.proofs.Common.{◌≡◌, ℕ, zero, suc, ◌*◌, Bool, true, false, Option, Some, None, List, []}
+use Rattle.std.proofs.Common.{drop, refl, sym, subst}
+use Rattle.tj_base.specs.ForkOrder.{Name}
+use Rattle.tj_body.specs.History.{Assignment, owned, owned_in, history}
+use Rattle.tj_body.specs.History.{after_read, after_look, after_stage, point_after}
+use Rattle.tj_body.specs.Points.{IsIn}
+use Rattle.tj_body.specs.Programs.{Rules, Program}
+use Rattle.tj_body.specs.Rounds.{given, tasks, last_round, meaning}
+use Rattle.tj_body.specs.Turns.{IsTurn, fails, ends, makes, forks, sets, gets, joins, prints}
+use Rattle.tj_body.specs.declared.ask.Ask.{Ask}
+use Rattle.tj_body.specs.declared.point.Entry.{Entry}
+use Rattle.tj_body.specs.declared.point.Entry.TheVariants as entry
+use Rattle.tj_body.specs.declared.point.Point.{Point}
+use Rattle.tj_body.specs.declared.point.PointStage.{PointStage}
+use Rattle.tj_body.specs.declared.point.PointStage.TheVariants as stage
+use Rattle.tj_body.specs.declared.point.Task.{Task}
+use Rattle.tj_body.specs.declared.point.Value.TheVariants as value
+use Rattle.tj_body.proofs.Lists.{in_map}
+use Rattle.tj_body.proofs.Turns.{is_turn}
+
+-- nothing is held in a stage that is the end
+abbrev HoldsIn : PointStage → List Name → Type 0
+HoldsIn (stage.Answered a) hs = Unit {0}
+HoldsIn (stage.Waits q spare) hs = Unit {0}
+HoldsIn (stage.Closed e) hs = hs ≡ []
+
+held_owned : (s : PointStage) (x : Name) (hs : List Name) → HoldsIn s hs → hs ≡ drop 1 (owned_in s x hs)
+held_owned (stage.Answered a) x hs h = refl
+held_owned (stage.Waits q spare) x hs h = refl
+held_owned (stage.Closed e) x hs h = h
+
+module _ {B : Type 0} where
+  abbrev Holds : Point B → Type 0
+  Holds p = HoldsIn p.stage p.holds
+
+  turned : (strict : Bool) (p : Point B) (a : Ask B) (p' : Point B) → IsTurn strict p a p' → Holds p'
+  turned strict p _ _ (fails ask c) = refl
+  turned strict p _ _ (ends v) = refl
+  turned strict p _ _ makes = tt
+  turned strict p _ _ (forks b pass hand left e) = tt
+  turned strict p _ _ (sets k v s h) = tt
+  turned strict p _ _ (gets spare k s) = tt
+  turned strict p _ _ (joins spare k s h) = tt
+  turned strict p _ _ (prints i) = tt
+
+  read : (spare : Bool) (q : Name) (e : Entry) (p : Point B) → Holds (after_read spare q e p)
+  read true q entry.Broken p = tt
+  read false q entry.Broken p = refl
+  read spare q (entry.Value (value.Num i)) p = tt
+  read spare q (entry.Value (value.Ref r)) p = tt
+
+  looked : (spare : Bool) (q : Name) (o : Option Entry) (p : Point B) → Holds p → Holds (after_look spare q o p)
+  looked spare q None p h = h
+  looked spare q (Some e) p h = read spare q e p
+
+  module _ (rules : Rules B) (V : Assignment) where
+    stepped : (s : PointStage) (p : Point B) → Holds p → Holds (after_stage rules V s p)
+    stepped (stage.Answered a) p h =
+        let next : Point B = record p { body = rules.then p.body a } in
+        turned rules.strict next (rules.asks p.body a) _ (is_turn rules.strict next (rules.asks p.body a))
+    stepped (stage.Waits q spare) p h = looked spare q (V q) p h
+    stepped (stage.Closed e) p h = h
+
+    come : (k : ℕ) (t : Task B) → Holds (point_after rules V k t)
+    come zero t = tt
+    come (suc k) t = stepped (point_after rules V k t).stage (point_after rules V k t) (come k t)
+
+  -- what a history of a meaning holds is what it owns beside its result
+  pub meant_holds : (program : Program B) (N : ℕ) (p : Point B) → IsIn p (meaning program N)
+      → p.holds ≡ drop 1 (owned p)
+  meant_holds program N p i =
+      let V = given program (last_round N) in
+      let x = in_map (history program.rules V) p (tasks program (last_round N)) i in
+      held_owned p.stage p.name p.holds
+      (subst Holds (sym x.2) (come program.rules V (2 * suc (program.rules.left x.0.body)) x.0))

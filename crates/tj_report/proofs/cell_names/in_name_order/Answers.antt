@@ -1,0 +1,10 @@
+use Rattle.std.proofs.Common.{◌∙◌, rules}
+use Rattle.tj_mean.proofs.NameOrder.{sorted_by}
+use Rattle.tj_report.proofs.NameOrders.{self, sorted_is_ordered}
+use Rattle.tj_report.proofs.cell_names.in_name_order.Goals as goal
+
+pub returns : goal.returns
+returns c = c.of.ensures
+    ∙ sorted_is_ordered c.names_and_cells.ensures.ordered c.args.names.items c.sort_by.new.self.items
+    c.in_ok-sort_by.ensures.permutation
+    (sorted_by self c.sort_by.new.self.items c.in_ok-sort_by.ensures.sorted (λ a r q k. search rules))
