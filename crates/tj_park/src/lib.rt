@@ -9,6 +9,8 @@ mod finishes;
 mod join;
 mod parking;
 mod shelves;
+#[cfg(test)]
+mod tests;
 mod wakes;
 
 pub use children::release;
