@@ -1,0 +1,6 @@
+use Rattle.std.proofs.Common.{◌≡◌, map, take}
+use Rattle.tj_run.specs.Pieces.{held_at}
+use Rattle.tj_run.proofs.pieces.held_at.Given as goal
+
+abbrev pub invariant-loop-place : goal.invariant-loop-place
+invariant-loop-place l = l.found.items ≡ map (held_at l.held) (take l.place-index l.places)

@@ -1,0 +1,14 @@
+use Rattle.std.proofs.Common.{sym, ap, subst, ◌∙◌, w64}
+use Rattle.std.proofs.lemmas.Int.{to_z-of_z}
+use Rattle.tj_body.specs.Programs.{program_of}
+use Rattle.tj_body.specs.declared.ask.Ask.TheVariants as ask
+use Rattle.tj_run.specs.Carried.{IsAsked, table_program}
+use Rattle.tj_run.proofs.tasks.answer.Goals as goal
+
+pub emit-requires-clause-asked : goal.emit-requires-clause-asked
+emit-requires-clause-asked g c κs within =
+    let b = g.B.Body in let l = c.args.laid.now in
+    let program = table_program (program_of b.places b.awaits b.left b.asks b.then) l in
+    let same = to_z-of_z w64 c.in-Emit.number (search) in
+    subst (λ x. IsAsked program c.args.seat.now.me.0 c.args.rec.now x) (c.in-Emit.is ∙ ap (λ z. ask.Emit z) (sym same))
+    c.requires.asked

@@ -1,0 +1,22 @@
+use Rattle.std.proofs.Common.{◌∙◌, IfSome, subst}
+use Rattle.tj_body.specs.Programs.{program_of}
+use Rattle.tj_run.specs.Waits.{ComesBack}
+use Rattle.tj_run.proofs.WorkersSteps.{back_on, left_on}
+use Rattle.tj_run.proofs.tasks.run.Goals as goal
+
+pub returns-in-None-2-clause-left : goal.returns-in-None-2-clause-left
+returns-in-None-2-clause-left g c =
+    left_on c.args.laid.now c.args.seat.now.me.0 c.loop-i.seat.me.0 c.loop-i.invariant.back.knows c.run_on.new.seat.me
+    (c.in_ok-run_on.ensures.left c.in-None-2.is)
+
+pub loop-i-preserved : goal.loop-i-preserved
+loop-i-preserved g c =
+    let b = g.B.Body in let loop = c.loop-i in let done = c.in_ok-run_on in
+    let program = program_of b.places b.awaits b.left b.asks b.then in record {
+      table = done.ensures.table ∙ loop.invariant.table;
+      limit = done.ensures.limit ∙ loop.invariant.limit;
+      back = back_on program c.args.laid.now c.in-Some-2.back c.args.seat.now.me.0 loop.seat.me.0
+          loop.invariant.back.knows c.run_on.new.seat.me
+          (subst (λ o. IfSome o (λ r. ComesBack program c.args.laid.now r loop.seat.me.0 c.run_on.new.seat.me))
+          c.in-Some-2.is done.ensures.back);
+    }

@@ -1,0 +1,28 @@
+use Rattle.std.proofs.Common.{◌∙◌, sym}
+use Rattle.tj_body.specs.Programs.{program_of}
+use Rattle.tj_words.proofs.KnowsMoreOn.{more_itself}
+use Rattle.tj_run.proofs.TurnSteps.{leaves_since, turns_on}
+use Rattle.tj_run.proofs.WorkersSteps.{left_on}
+use Rattle.tj_run.proofs.turns.worker.Goals as goal
+
+pub loop-i-init : goal.loop-i-init
+loop-i-init g c = record {
+  table = c.requires.table;
+  limit = c.requires.pool;
+  left = record { knows = more_itself c.args.seat.me.0; free = c.requires.free };
+}
+
+pub loop-i-preserved : goal.loop-i-preserved
+loop-i-preserved g c = let i = c.loop-i.invariant in let e = c.take_turn.ensures in let b = g.B.Body in
+    let now = c.loop-i.seat.me.0 in record {
+      table = e.table ∙ i.table;
+      limit = e.limit ∙ i.limit;
+      left = left_on c.args.laid.now c.args.seat.me.0 now i.left.knows c.take_turn.new.seat.me
+          (turns_on (program_of b.places b.awaits b.left b.asks b.then) c.args.laid.now c.take_turn.result
+          c.in_default.is now c.take_turn.new.seat.me e.turns);
+    }
+
+pub returns-in-Some-take_turn-clause-left : goal.returns-in-Some-take_turn-clause-left
+returns-in-Some-take_turn-clause-left g c = let i = c.loop-i.invariant in let b = g.B.Body in
+    leaves_since (program_of b.places b.awaits b.left b.asks b.then) c.args.seat.me.0 c.loop-i.seat.me.0 c.in-Some-take_turn.how
+    i.left.knows c.take_turn.new.seat.me c.in-Some-take_turn.ensures.turns

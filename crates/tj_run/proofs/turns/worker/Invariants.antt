@@ -1,0 +1,11 @@
+use Rattle.std.proofs.Common.{◌≡◌}
+use Rattle.tj_words.specs.SeatSteps.{IsSeatOf}
+use Rattle.tj_run.specs.Waits.{IsLeft}
+use Rattle.tj_run.proofs.turns.worker.Given as goal
+
+abbrev pub invariant-loop-i : goal.invariant-loop-i
+invariant-loop-i g l = record {
+  table : IsSeatOf l.laid l.seat;
+  limit : g.P.Pool.limit l.pool ≡ l.laid.cells;
+  left : IsLeft l.laid l.fn.seat.me.0 l.seat.me;
+}

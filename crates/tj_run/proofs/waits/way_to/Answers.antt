@@ -1,0 +1,7 @@
+use Rattle.std.proofs.Common.{◌∙◌}
+use Rattle.tj_run.proofs.JoinTests.{promise_way}
+use Rattle.tj_run.proofs.waits.way_to.Goals as goal
+
+pub returns-in-Promise-clause-way : goal.returns-in-Promise-clause-way
+returns-in-Promise-clause-way g c = let h = c.requires.held in
+    promise_way c.args.seat.now.me.0.born c.args.t.0 c.args.h.cell.0 h.reference h.is (h.sort ∙ c.in-Promise.is)

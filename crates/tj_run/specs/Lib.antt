@@ -1,0 +1,9 @@
+pub mod Carried
+pub mod Going
+pub mod Pieces
+pub mod Children
+pub mod Answers
+pub mod Waits
+pub mod Turns
+pub mod Runs
+pub mod MeetingAsks

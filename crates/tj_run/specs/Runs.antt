@@ -1,0 +1,29 @@
+-- What stands after a run.
+use Rattle.std.specs.Prelude.{◌≡◌, ℕ, ◌+◌, ◌*◌, ◌<◌, ◌≤◌, Bool, List, length}
+use Rattle.tj_body.specs.Programs.{Program}
+use Rattle.tj_words.specs.declared.view.View.{View}
+use Rattle.tj_words.specs.Lots.{least_lot}
+use Rattle.tj_words.specs.ClosedCells.{AreAtRest, AreCyclesAlarmed, AreAlarmsOnCycles}
+use Rattle.tj_words.specs.RestMeaning.{HaveMeaning, AreCyclesOfMeaningAlarmed}
+use Rattle.tj_words.specs.RestShown.{RestShown}
+
+module _ {B : Type 0} where
+  -- there are so many workers, one at least and 64 at most, and the seat's lot can be split among them
+  pub record HasLots (workers : ℕ) (v : View B) : Type 0 where
+    pub some : 0 < workers
+    pub few : workers ≤ 64
+    pub lot : least_lot * workers ≤ v.lot
+
+  -- nothing goes on, no wake was lost, and the words and the records are those of the meaning; each cycle of waits,
+  -- shown or meant, has a task that alarmed, and each task that alarmed is on one
+  pub record RestsAt (program : Bool → B → Program B) (root : B) (limit : ℕ) (strict : Bool) (r : RestShown B) :
+      Type 0 where
+    pub names_limit : r.limit ≡ limit
+    pub names_root : r.root ≡ root
+    pub names_strict : r.strict ≡ strict
+    pub drawn : length r.cells ≤ limit
+    pub rest : AreAtRest r.cells
+    pub meaning : HaveMeaning (program strict root) limit r.cells r.records
+    pub cycles : AreCyclesAlarmed r.cells
+    pub alarms : AreAlarmsOnCycles r.cells
+    pub meant_cycles : AreCyclesOfMeaningAlarmed (program strict root) limit r.cells

@@ -1,0 +1,118 @@
+//! What has become of the cell that a task waits for is its answer, or ends it.
+ghost use Rattle.std.specs.Prelude.{◌≡◌, ◌+◌, ◌<◌, ◌^◌, IfErr, IfOk, None, length};
+ghost use Rattle.tj_body.specs.Programs.{program_of};
+ghost use Rattle.tj_words.specs.Law.{IsRooted};
+ghost use Rattle.tj_words.specs.SeatSteps.{IsSeatOf};
+ghost use Rattle.tj_words.specs.TakenRecords.{IsKnownRecord};
+ghost use Rattle.tj_run.specs.Carried.{IsWaiting, RunsTask, table_program};
+ghost use Rattle.tj_run.specs.Answers.{next_broken, with_lost, with_reference};
+ghost use Rattle.tj_run.specs.Going.{Goes, HasAnswer, IsCauseOfWait, Lacks};
+
+use crate::next::Next;
+use crate::why::Why;
+use tj_base::Sort;
+use tj_body::{Answer, Body, points_in_rounds};
+use tj_cells::{Seen, value};
+use tj_words::{Finish, Held, Hurt, Laid, Rec, WSeat};
+
+/// Looks at the cell at the place, for which the task waits: its value is the task's answer. `Waits`
+/// comes only where this call loaded TAG as 0.
+pub(crate) fn look<B: Body>(
+    laid: &Laid<B>,
+    seat: &mut WSeat<B>,
+    rec: &mut Rec<B>,
+    place: u32,
+    spare: bool,
+) -> Result<Next, Why>
+    requires table { IsSeatOf laid.now seat.old }
+    requires runs { RunsTask laid.now rec.old seat.old.me }
+    requires waiting { IsWaiting (table_program (program_of B.places B.awaits B.left B.asks B.then)
+        laid.now) seat.old.me.0 rec.old place spare }
+    ensures table { seat.new.table_id ≡ seat.old.table_id }
+    ensures lacks { IfErr result (λ why. Lacks why seat.old.me.0 seat.new.me.0) }
+    ensures goes { IfOk result (λ next. Goes (program_of B.places B.awaits B.left B.asks B.then)
+        laid.now next rec.new seat.old.me.0 seat.new.me) }
+    ensures waits { IfOk result (λ next. IsCauseOfWait next rec.old place spare seat.old.me.0
+        seat.new.me.0) }
+    ensures same { rec.new.body ≡ rec.old.body }
+{
+    points_in_rounds::<B>();
+    let c = rec.held.items()[place as usize].cell;
+    match value(laid, seat, c) {
+        Seen::NotYet => Ok(Next::Waits { place, spare }),
+        Seen::Num(number) => {
+            rec.answer = Answer::Num(number);
+            Ok(Next::Runs)
+        }
+        Seen::Promise(cell) => add_reference(
+            rec,
+            Held {
+                cell,
+                sort: Sort::Promise,
+            },
+        ),
+        Seen::Task(cell) => add_reference(
+            rec,
+            Held {
+                cell,
+                sort: Sort::Task,
+            },
+        ),
+        Seen::Broken => Ok(find_broken(rec, Hurt::Broken(c), spare)),
+    }
+}
+
+// The value names a cell, which the task holds from now on.
+fn add_reference<B: Body>(rec: &mut Rec<B>, h: Held) -> Result<Next, Why>
+    requires room { length rec.old.held + 1 < 2 ^ 31 }
+    ensures memory { IfErr result (λ why. why ≡ Why.Memory) }
+    ensures runs { IfOk result (λ next. next ≡ Next.Runs) }
+    ensures rec { IfOk result (λ _. rec.new ≡ with_reference h rec.old) }
+    ensures same { rec.new.body ≡ rec.old.body }
+{
+    let place = rec.held.items().len() as u32;
+    rec.held.push(h)?;
+    rec.answer = Answer::RefAt(place);
+    Ok(Next::Runs)
+}
+
+// The cell is broken: that is an answer where the task has something else in its place.
+fn find_broken<B: Body>(rec: &mut Rec<B>, hurt: Hurt, spare: bool) -> Next
+    ensures next { result ≡ next_broken spare hurt }
+    ensures rec { rec.new ≡ with_lost spare rec.old }
+{
+    if spare {
+        rec.answer = Answer::Lost;
+        return Next::Runs;
+    }
+    Next::Ends(Finish::Failed(hurt))
+}
+
+/// How a task goes on that was claimed, or has come back: it is at its start, or has an answer.
+pub(crate) fn resume<B: Body>(
+    laid: &Laid<B>,
+    seat: &mut WSeat<B>,
+    rec: &mut Rec<B>,
+) -> Result<Next, Why>
+    requires table { IsSeatOf laid.now seat.old }
+    requires runs { RunsTask laid.now rec.old seat.old.me }
+    requires known { IsKnownRecord (table_program (program_of B.places B.awaits B.left B.asks
+        B.then) laid.now) seat.old.me.0.born seat.old.me.0.filled rec.old }
+    requires unfinished { rec.old.finish ≡ None }
+    requires rooted { IsRooted (table_program (program_of B.places B.awaits B.left B.asks B.then)
+        laid.now) }
+    ensures table { seat.new.table_id ≡ seat.old.table_id }
+    ensures lacks { IfErr result (λ why. Lacks why seat.old.me.0 seat.new.me.0) }
+    ensures goes { IfOk result (λ next. Goes (program_of B.places B.awaits B.left B.asks B.then)
+        laid.now next rec.new seat.old.me.0 seat.new.me) }
+    ensures answer { IfOk result HasAnswer }
+{
+    points_in_rounds::<B>();
+    match rec.answer {
+        Answer::RefAt(place) => {
+            let spare = rec.spare;
+            look(laid, seat, rec, place, spare)
+        }
+        _ => Ok(Next::Runs),
+    }
+}

@@ -1,0 +1,138 @@
+//! A run: a table, a pool with an end for each worker, and the workers, each in a thread of its own
+//! where one can be made. A worker for which no thread could be made runs after the others; any one
+//! of them can finish the run.
+ghost use Rattle.std.specs.Prelude.{◌≡◌, ◌≢◌, ◌⊎◌, ◌<◌, ◌≤◌, [], All, IfErr, IfOk, length};
+ghost use Rattle.std.specs.Thread.{IsSync};
+ghost use denote.Param.Send.{IsSend};
+ghost use Rattle.tj_body.specs.Asks.{IsFresh};
+ghost use Rattle.tj_body.specs.Programs.{program_of};
+ghost use Rattle.tj_body.specs.Rounds.{IsFull};
+ghost use Rattle.tj_words.specs.Law.{IsRooted};
+ghost use Rattle.tj_words.specs.SeatSteps.{IsSeatOf};
+ghost use Rattle.tj_words.specs.Views.{IsIdle, both};
+ghost use Rattle.tj_run.specs.Carried.{IsFree, table_program};
+ghost use Rattle.tj_run.specs.Going.{Leaves};
+ghost use Rattle.tj_run.specs.Runs.{HasLots, RestsAt};
+
+use crate::turns::worker;
+use crate::why::{Left, RunFault, Why};
+use std::alloc::Global;
+use std::sync::Wait;
+use std::thread::{Threads, join};
+use tj_base::CellId;
+use tj_body::Body;
+use tj_ports::Gate;
+use tj_ready::Pool;
+use tj_words::{Laid, RestWords, WSeat};
+
+/// Runs a program with this root to its rest, on a table of so many cells, by so many workers. `Full`
+/// comes exactly where the meaning needs more cells.
+pub fn run_all<B: Body, P: Pool, G: Gate, R: Wait + Threads + Sync>(
+    rt: &R,
+    alloc: Global,
+    root: B,
+    cells: u32,
+    workers: u32,
+    gate: &G,
+    strict: bool,
+) -> Result<RestWords<B>, RunFault>
+    requires cells { (0 < cells) × (cells ≤ 16384) }
+    requires workers { (0 < workers) × (workers ≤ 64) }
+    requires root { IsFresh B.places B.awaits B.left 1 root }
+    ensures rest { IfOk result (RestsAt
+        (program_of B.places B.awaits B.left B.asks B.then) root cells strict) }
+    ensures fits { IfOk result (λ _. ¬ IsFull
+        (program_of B.places B.awaits B.left B.asks B.then strict root) cells) }
+    ensures full { IfErr result (λ fault. fault ≡ RunFault.Full → IsFull
+        (program_of B.places B.awaits B.left B.asks B.then strict root) cells) }
+{
+    let mut ends = P::make(rt, alloc, workers, cells)?;
+    let (laid, seat) = Laid::new(alloc, cells, root, strict)?;
+    if let Some(first) = ends.as_mut_slice().first_mut() {
+        first.put(rt, alloc, CellId(0))?;
+    }
+    let (seat, left) = work_all::<B, P, G, R>(rt, alloc, &laid, seat, ends, gate);
+    match left {
+        Left::Rested => Ok(laid.rest(seat)),
+        Left::Stopped(why) => Err(fault_of(why)),
+    }
+}
+
+// Why a run that was stopped has no outcome.
+fn fault_of(why: Why) -> RunFault
+    ensures { result ≡ RunFault.Full → why ≡ Why.Full }
+{
+    match why {
+        Why::Full => RunFault::Full,
+        Why::Memory => RunFault::Oom,
+    }
+}
+
+// A worker for each end of the pool. The last has a new seat and, where one can be made, a new thread.
+#[cycle(workers)]
+fn work_all<B: Body, P: Pool, G: Gate, R: Wait + Threads + Sync>(
+    rt: &R,
+    alloc: Global,
+    laid: &Laid<B>,
+    seat: WSeat<B>,
+    ends: Vec<P>,
+    gate: &G,
+) -> (WSeat<B>, Left)
+    requires table { IsSeatOf laid.now seat }
+    requires free { IsFree laid.now seat.me }
+    requires rooted { IsRooted (table_program (program_of B.places B.awaits B.left B.asks B.then)
+        laid.now) }
+    requires crosses { IsSync R.row × IsSync G.row × IsSend B.row × IsSend P.row }
+    requires pools { All (λ end. P.limit end ≡ laid.now.cells) ends.items }
+    requires lots { HasLots (length ends.items) seat.me.0 }
+    ensures table { result.0.table_id ≡ seat.table_id }
+    ensures left { Leaves (program_of B.places B.awaits B.left B.asks B.then) result.1 seat.me.0
+        result.0.me }
+{
+    let mut ends = ends;
+    let number = ends.len() as u32;
+    let Some(end) = ends.pop() else {
+        return (seat, Left::Stopped(Why::Memory));
+    };
+    if ends.is_empty() {
+        return worker(rt, alloc, laid, seat, end, gate, number);
+    }
+    let (mine, theirs) = laid.split(seat);
+    let last = move || -> (WSeat<B>, Left)
+        requires { IsSync R.row × IsSync G.row × IsSend B.row × IsSend P.row
+            × IsSeatOf laid.now theirs × IsFree laid.now theirs.me
+            × IsRooted (table_program (program_of B.places B.awaits B.left B.asks B.then) laid.now)
+            × (P.limit end ≡ laid.now.cells) }
+        ensures { (result.0.table_id ≡ theirs.table_id) × Leaves
+            (program_of B.places B.awaits B.left B.asks B.then) result.1 theirs.me.0 result.0.me }
+    { worker(rt, alloc, laid, theirs, end, gate, number) };
+    let others = move || -> (WSeat<B>, Left)
+        requires { IsSync R.row × IsSync G.row × IsSend B.row × IsSend P.row
+            × IsSeatOf laid.now mine × IsFree laid.now mine.me
+            × IsRooted (table_program (program_of B.places B.awaits B.left B.asks B.then) laid.now)
+            × All (λ end. P.limit end ≡ laid.now.cells) ends.items
+            × HasLots (length ends.items) mine.me.0 }
+        ensures { (result.0.table_id ≡ mine.table_id) × Leaves
+            (program_of B.places B.awaits B.left B.asks B.then) result.1 mine.me.0 result.0.me }
+    { work_all(rt, alloc, laid, mine, ends, gate) };
+    let (a, b) = join(rt, last, others);
+    both_left(laid, a, b)
+}
+
+// How two leave that were one seat: at rest, or stopped where one of them was.
+fn both_left<B: Body>(laid: &Laid<B>, a: (WSeat<B>, Left), b: (WSeat<B>, Left)) -> (WSeat<B>, Left)
+    requires table { IsSeatOf laid.now a.0 }
+    requires other_table { IsSeatOf laid.now b.0 }
+    requires rested { (a.1 ≡ Left.Rested) → IsIdle a.0.me.0 × (a.0.me.1 ≡ []) }
+    requires other_rested { (b.1 ≡ Left.Rested) → IsIdle b.0.me.0 × (b.0.me.1 ≡ []) }
+    ensures table { result.0.table_id ≡ laid.now.table.shared.table_id }
+    ensures rested { result.1 ≡ Left.Rested → (a.1 ≡ Left.Rested) × (b.1 ≡ Left.Rested)
+        × (result.0.me ≡ (both b.0.me.0 a.0.me.0, [])) × IsIdle result.0.me.0 }
+    ensures stopped { result.1 ≢ Left.Rested → (result ≡ a) ⊎ (result ≡ b) }
+{
+    match (a.1, b.1) {
+        (Left::Rested, Left::Rested) => (laid.merge(b.0, a.0), Left::Rested),
+        (Left::Stopped(why), _) => (a.0, Left::Stopped(why)),
+        (Left::Rested, Left::Stopped(why)) => (b.0, Left::Stopped(why)),
+    }
+}

@@ -1,0 +1,101 @@
+//! A task forks a child: the handed places are tested first, from the left; then the child is born,
+//! gets the promises handed to it, and is released to the worker's own end of the pool.
+ghost use Rattle.std.specs.Prelude.{◌≡◌, ◌+◌, ◌<◌, ◌^◌, IfErr, IfOk, OnOk, length};
+ghost use Rattle.tj_body.specs.Programs.{program_of};
+ghost use Rattle.tj_body.specs.declared.ask.Ask.TheVariants as ask;
+ghost use Rattle.tj_words.specs.SeatSteps.{IsCellOf, IsSameSeat, IsSeatOf};
+ghost use Rattle.tj_words.specs.Lists.{All};
+ghost use Rattle.tj_run.specs.Carried.{IsAsked, RunsTask, table_program};
+ghost use Rattle.tj_run.specs.Children.{MayGiveEach, gave_each, with_child};
+ghost use Rattle.tj_run.specs.Going.{Goes, Lacks};
+
+use crate::next::Next;
+use crate::pieces::{cells_of, child_record, hand_all, held_at};
+use crate::why::Why;
+use std::alloc::Global;
+use std::sync::Wait;
+use tj_base::{CellId, CellList, PlaceList, Sort};
+use tj_body::{Answer, Body, names_and_cells, points_in_rounds};
+use tj_cells::{birth, hand};
+use tj_park::release;
+use tj_ready::Pool;
+use tj_words::{Finish, Held, Laid, Rec, WSeat};
+
+/// The task forks a child with this body, which is passed and handed these places.
+pub(crate) fn fork<B: Body, P: Pool, R: Wait>(
+    rt: &R,
+    alloc: Global,
+    laid: &Laid<B>,
+    seat: &mut WSeat<B>,
+    rec: &mut Rec<B>,
+    pool: &mut P,
+    body: B,
+    pass: PlaceList,
+    handed: PlaceList,
+) -> Result<Next, Why>
+    requires table { IsSeatOf laid.now seat.old }
+    requires runs { RunsTask laid.now rec.old seat.old.me }
+    requires asked { IsAsked (table_program (program_of B.places B.awaits B.left B.asks B.then)
+        laid.now) seat.old.me.0 rec.old (ask.Fork body pass handed) }
+    requires pool { P.limit pool.old ≡ laid.now.cells }
+    ensures table { seat.new.table_id ≡ seat.old.table_id }
+    ensures limit { P.limit pool.new ≡ P.limit pool.old }
+    ensures lacks { IfErr result (λ why. Lacks why seat.old.me.0 seat.new.me.0) }
+    ensures goes { IfOk result (λ next. Goes (program_of B.places B.awaits B.left B.asks B.then)
+        laid.now next rec.new seat.old.me.0 seat.new.me) }
+    ensures same { rec.new.body ≡ rec.old.body }
+{
+    points_in_rounds::<B>();
+    names_and_cells();
+    let given = held_at(alloc, rec.held.items(), handed.items())?;
+    let left = match hand_all(alloc, rec.owned.items(), given.as_slice())? {
+        Ok(left) => left,
+        Err(hurt) => return Ok(Next::Ends(Finish::Failed(hurt))),
+    };
+    let passed = held_at(alloc, rec.held.items(), pass.items())?;
+    let promises = cells_of(alloc, given.as_slice())?;
+    let c = birth(laid, seat, rec.cell, rec.made + 1)?;
+    hand_each(laid, seat, rec.cell, promises.as_slice(), c);
+    let child = child_record(alloc, c, body, passed, promises)?;
+    release(rt, alloc, laid, seat, c, child, pool)?;
+    note_child(rec, c, left)
+}
+
+// Task `t` hands these promises to its child.
+fn hand_each<B: Body>(
+    laid: &Laid<B>,
+    seat: &mut WSeat<B>,
+    t: CellId,
+    promises: &[CellId],
+    child: CellId,
+)
+    requires table { IsSeatOf laid.now seat.old }
+    requires cells { All (λ (p : CellId). IsCellOf laid.now p.0) promises.now }
+    requires may { MayGiveEach t.0 promises.now child.0 seat.old.me.0 }
+    ensures seat { IsSameSeat seat.old seat.new }
+    ensures view { seat.new.me.0 ≡ gave_each t.0 promises.now child.0 seat.old.me.0 }
+{
+    for p in promises {
+        hand(laid, seat, t, *p, child);
+    }
+}
+
+// The record holds the child, and owns what is left.
+fn note_child<B: Body>(rec: &mut Rec<B>, c: CellId, left: CellList) -> Result<Next, Why>
+    requires room { length rec.old.held + 1 < 2 ^ 31 }
+    requires few { rec.old.made + 1 < 2 ^ 31 }
+    ensures memory { IfErr result (λ why. why ≡ Why.Memory) }
+    ensures runs { IfOk result (λ next. next ≡ Next.Runs) }
+    ensures rec { OnOk result (rec.new ≡ with_child c left rec.old) }
+    ensures same { rec.new.body ≡ rec.old.body }
+{
+    let place = rec.held.items().len() as u32;
+    rec.held.push(Held {
+        cell: c,
+        sort: Sort::Task,
+    })?;
+    rec.owned = left;
+    rec.made += 1;
+    rec.answer = Answer::Local(place);
+    Ok(Next::Runs)
+}

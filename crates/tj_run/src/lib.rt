@@ -1,0 +1,24 @@
+//! Workers: threads that take tasks from a pool, claim them and run them ask by ask on the shared
+//! words, until nothing goes on any more. A worker has no task between its turns. Within a turn it
+//! has one, with the task's record, and the record tells a point of the task's history at each step.
+#![tactic(auto)]
+
+mod answers;
+mod crew;
+mod forks;
+#[cfg(test)]
+mod meeting;
+mod next;
+mod pieces;
+mod pure;
+mod tasks;
+#[cfg(test)]
+mod tests;
+mod turns;
+mod waits;
+mod why;
+mod writes;
+
+pub use crew::run_all;
+pub use turns::worker;
+pub use why::{Left, RunFault, Why};

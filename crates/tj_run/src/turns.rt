@@ -1,0 +1,161 @@
+//! A worker's turns. In each it loads STOP, and takes a task from its pool. Where there is none it
+//! loads LIVE: at 0 no task is ready, runs or walks, and no worker is about to make one ready.
+ghost use Rattle.std.specs.Prelude.{◌≡◌, ◌<◌, IfSome, None};
+ghost use Rattle.tj_body.specs.Programs.{program_of};
+ghost use Rattle.tj_words.specs.Law.{IsRooted};
+ghost use Rattle.tj_words.specs.SeatSteps.{IsCellOf, IsSameSeat, IsSeatOf};
+ghost use Rattle.tj_words.specs.Views.{saw_stop};
+ghost use Rattle.tj_run.specs.Carried.{IsFree, table_program};
+ghost use Rattle.tj_run.specs.Going.{HasStopped, Leaves};
+ghost use Rattle.tj_run.specs.Turns.{TurnsTo};
+
+use crate::tasks::run;
+use crate::why::{Left, Why};
+use std::alloc::Global;
+use std::sync::Wait;
+use std::thread;
+use tj_base::CellId;
+use tj_body::Body;
+use tj_park::claim;
+use tj_ports::Gate;
+use tj_ready::Pool;
+use tj_words::{Laid, WSeat};
+
+/// A worker: it takes its turns until nothing goes on any more, or the run is stopped. `gate` is
+/// entered before each turn, with the worker's number and the turn, both from 1. `Rested` comes only
+/// where this call loaded LIVE as 0, and `Stopped` only where it loaded STOP as that.
+pub fn worker<B: Body, P: Pool, G: Gate, R: Wait>(
+    rt: &R,
+    alloc: Global,
+    laid: &Laid<B>,
+    seat: WSeat<B>,
+    pool: P,
+    gate: &G,
+    number: u32,
+) -> (WSeat<B>, Left)
+    requires table { IsSeatOf laid.now seat }
+    requires free { IsFree laid.now seat.me }
+    requires rooted { IsRooted (table_program (program_of B.places B.awaits B.left B.asks B.then)
+        laid.now) }
+    requires pool { P.limit pool ≡ laid.now.cells }
+    ensures table { result.0.table_id ≡ seat.table_id }
+    ensures left { Leaves (program_of B.places B.awaits B.left B.asks B.then) result.1 seat.me.0
+        result.0.me }
+{
+    let mut seat = seat;
+    let mut pool = pool;
+    let mut turn: u64 = 0;
+    for _i in rt.forever() {
+        turn = turn.saturating_add(1);
+        gate.enter(number, turn);
+        if let Some(how) = take_turn(rt, alloc, laid, &mut seat, &mut pool) {
+            return (seat, how);
+        }
+    }
+    unreachable!()
+}
+
+/// One turn: the worker leaves where it is at rest, or the run is stopped.
+fn take_turn<B: Body, P: Pool, R: Wait>(
+    rt: &R,
+    alloc: Global,
+    laid: &Laid<B>,
+    seat: &mut WSeat<B>,
+    pool: &mut P,
+) -> Option<Left>
+    requires table { IsSeatOf laid.now seat.old }
+    requires free { IsFree laid.now seat.old.me }
+    requires rooted { IsRooted (table_program (program_of B.places B.awaits B.left B.asks B.then)
+        laid.now) }
+    requires pool { P.limit pool.old ≡ laid.now.cells }
+    ensures table { seat.new.table_id ≡ seat.old.table_id }
+    ensures limit { P.limit pool.new ≡ P.limit pool.old }
+    ensures turns { TurnsTo (program_of B.places B.awaits B.left B.asks B.then) laid.now result
+        seat.old.me.0 seat.new.me }
+{
+    if let Some(why) = stop_word(laid, seat) {
+        return Some(Left::Stopped(why));
+    }
+    match pool.take(rt) {
+        None => idle(laid, seat),
+        Some(t) => work(rt, alloc, laid, seat, pool, t),
+    }
+}
+
+// Loads STOP.
+fn stop_word<B: Body>(laid: &Laid<B>, seat: &mut WSeat<B>) -> Option<Why>
+    requires table { IsSeatOf laid.now seat.old }
+    ensures seat { IsSameSeat seat.old seat.new }
+    ensures none { result ≡ None → seat.new.me.0 ≡ saw_stop 0 seat.old.me.0 }
+    ensures some { IfSome result (λ why. HasStopped
+        (program_of B.places B.awaits B.left B.asks B.then) why seat.old.me.0 seat.new.me.0) }
+{
+    match laid.stopped(seat) {
+        0 => None,
+        1 => Some(Why::Full),
+        _ => Some(Why::Memory),
+    }
+}
+
+// Loads LIVE: the worker has nothing to do. Where others have, it lets them.
+fn idle<B: Body>(laid: &Laid<B>, seat: &mut WSeat<B>) -> Option<Left>
+    requires table { IsSeatOf laid.now seat.old }
+    requires free { IsFree laid.now seat.old.me }
+    ensures table { seat.new.table_id ≡ seat.old.table_id }
+    ensures turns { TurnsTo (program_of B.places B.awaits B.left B.asks B.then) laid.now result
+        seat.old.me.0 seat.new.me }
+{
+    if laid.live(seat) == 0 {
+        return Some(Left::Rested);
+    }
+    thread::yield_now();
+    None
+}
+
+// Claims the task, if it is ready, and runs it. A task that isn't ready is left as it is.
+fn work<B: Body, P: Pool, R: Wait>(
+    rt: &R,
+    alloc: Global,
+    laid: &Laid<B>,
+    seat: &mut WSeat<B>,
+    pool: &mut P,
+    t: CellId,
+) -> Option<Left>
+    requires table { IsSeatOf laid.now seat.old }
+    requires free { IsFree laid.now seat.old.me }
+    requires task { IsCellOf laid.now t.0 }
+    requires rooted { IsRooted (table_program (program_of B.places B.awaits B.left B.asks B.then)
+        laid.now) }
+    requires pool { P.limit pool.old ≡ laid.now.cells }
+    ensures table { seat.new.table_id ≡ seat.old.table_id }
+    ensures limit { P.limit pool.new ≡ P.limit pool.old }
+    ensures turns { TurnsTo (program_of B.places B.awaits B.left B.asks B.then) laid.now result
+        seat.old.me.0 seat.new.me }
+{
+    let rec = claim(laid, seat, t)?;
+    match run(rt, alloc, laid, seat, rec, pool) {
+        Ok(()) => None,
+        Err(why) => Some(Left::Stopped(stop_run(rt, laid, seat, why))),
+    }
+}
+
+// Stores STOP, and loads it: another worker may have stored it too.
+fn stop_run<B: Body, R: Wait>(rt: &R, laid: &Laid<B>, seat: &mut WSeat<B>, why: Why) -> Why
+    requires table { IsSeatOf laid.now seat.old }
+    requires refused { why ≡ Why.Full → 0 < seat.old.me.0.refused }
+    ensures table { seat.new.table_id ≡ seat.old.table_id }
+    ensures stopped { HasStopped (program_of B.places B.awaits B.left B.asks B.then) result
+        seat.old.me.0 seat.new.me.0 }
+{
+    let word = match why {
+        Why::Full => 1,
+        Why::Memory => 2,
+    };
+    laid.stop(seat, word);
+    for _i in rt.forever() {
+        if let Some(told) = stop_word(laid, seat) {
+            return told;
+        }
+    }
+    unreachable!()
+}
