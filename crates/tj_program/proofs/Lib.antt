@@ -5,3 +5,4 @@ pub mod Outputs
 pub mod StrictRuns
 pub mod Lines
 pub mod GeneratedScripts
+pub mod ClosedRuns

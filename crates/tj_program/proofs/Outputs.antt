@@ -22,7 +22,6 @@ use Rattle.tj_program.specs.Inner.Inputs.{IsReadOf, HasRead}
 use Rattle.tj_program.specs.Judgings.{IsJudging, IsJournalFault, too_long as journal_too_long}
 use Rattle.tj_program.specs.Output.{IsCommandOutput, IsRefused, reads}
 use Rattle.tj_program.specs.declared.command.Command.{Command}
-use Rattle.tj_program.specs.declared.command.Command.TheVariants.{Run, Plan}
 use Rattle.tj_program.specs.Runs.{Start, IsStartOf, status_of, text_of, NeedsMore, IsOutcomeOf, IsRunOf, full, ended}
 use Rattle.tj_program.specs.ScriptTexts.{most_bytes, IsScriptOf, IsFirstFault, IsMemory, fault_line, too_long, in_tokens, in_grammar}
 use Rattle.tj_program.specs.Texts.{journal_fault, full_line}
@@ -31,6 +30,7 @@ use Rattle.tj_program.specs.declared.script_text.NoScript.{NoScript}
 use Rattle.tj_program.specs.declared.script_text.NoScript.TheVariants.{Long, Tokens, Grammar}
 use Rattle.tj_program.specs.declared.script_run.Limits.{Limits}
 use Rattle.tj_program.specs.declared.script_run.Told.{Told}
+use Rattle.tj_program.specs.declared.script_run.Told.TheVariants.{Report}
 use Rattle.tj_program.specs.declared.status.Status.{Status}
 use Rattle.tj_program.specs.declared.status.Status.TheVariants.{Full, Script}
 
@@ -96,29 +96,32 @@ IsJudging-fault cells line journal text fault e = inl (line, fault, refl, e)
 abbrev pub Ran : Limits → Told → List Task → Status → List ℕ → Type 0
 Ran limits told script status text = (start : Start) × IsStartOf limits script start × IsRunOf told start status text
 
--- What a run of a script under these limits comes to: no outcome where it is full.
-abbrev pub ComesTo : Limits → List Task → Option Outcome → Type 0
-ComesTo limits script found = (start : Start) × IsStartOf limits script start
-    × MatchOption found (NeedsMore start) (λ outcome. (¬ NeedsMore start) × IsOutcomeOf start outcome)
+-- a run that has ended gives its outcome
+pub Ran-ended : (start : Start) (limits : Limits) (script : List Task) (outcome : Outcome) (r : Result Output Oom)
+    → IsStartOf limits script start → ¬ NeedsMore start → IsOutcomeOf start outcome
+    → IfOk r (λ output. output.status ≡ status_of (is_marked outcome))
+    → IfOk r (λ output. output.text.items ≡ text_of Report outcome)
+    → IfOk r (λ output. Ran limits Report script output.status output.text.items)
+Ran-ended start limits script outcome (Ok output) is fits ends s t = (
+  start,
+  is,
+  subst (λ z. IsRunOf Report start z output.text.items) (sym s)
+      (subst (λ z. IsRunOf Report start (status_of (is_marked outcome)) z) (sym t) (ended outcome fits ends)),
+)
+Ran-ended start limits script outcome (Err oom) is fits ends s t = tt
 
-pub Ran-ended : (limits : Limits) (told : Told) (script : List Task) (found : Option Outcome) (outcome : Outcome)
-    (marked : Bool) (status : Status) (text : List ℕ) → ComesTo limits script found → found ≡ Some outcome
-    → marked ≡ is_marked outcome → status ≡ status_of marked → text ≡ text_of told outcome
-    → Ran limits told script status text
-Ran-ended limits told script found outcome marked status text comes is m s t =
-    let c = subst (ComesTo limits script) is comes in (
-      c.0,
-      c.1,
-      subst (λ z. IsRunOf told c.0 z text) (sym (s ∙ ap status_of m))
-          (subst (λ z. IsRunOf told c.0 (status_of (is_marked outcome)) z) (sym t) (ended outcome c.2.0 c.2.1)),
-    )
-
-pub Ran-full : (limits : Limits) (told : Told) (script : List Task) (found : Option Outcome) (text : List ℕ)
-    → ComesTo limits script found → found ≡ None → text ≡ full_line limits.cells → Ran limits told script Full text
-Ran-full limits told script found text comes is t =
-    let c = subst (ComesTo limits script) is comes in
-    let cells : c.0.cells ≡ limits.cells = ap (λ start. start.cells) c.1.2 in
-    (c.0, c.1, subst (IsRunOf told c.0 Full) (sym (t ∙ ap full_line (sym cells))) (full c.2))
+-- a run that is full gives the line that it is
+pub Ran-full : (start : Start) (limits : Limits) (script : List Task) (r : Result Output Oom)
+    → IsStartOf limits script start → NeedsMore start → IfOk r (λ output. output.status ≡ Full)
+    → IfOk r (λ output. output.text.items ≡ full_line start.cells)
+    → IfOk r (λ output. Ran limits Report script output.status output.text.items)
+Ran-full start limits script (Ok output) is more s t = (
+  start,
+  is,
+  subst (λ z. IsRunOf Report start z output.text.items) (sym s)
+      (subst (λ z. IsRunOf Report start Full z) (sym t) (full more)),
+)
+Ran-full start limits script (Err oom) is more s t = tt
 
 -- what is written where an input is no script
 pub of_refused : (IsSo : List ℕ → Status → List ℕ → Type 0) (fault : NoScript) (end : ReadEnd) (r : Result Output Oom)
@@ -132,13 +135,17 @@ of_refused IsSo fault end (Ok output) (inr first) status text none =
 of_refused IsSo fault end (Err oom) first status text none = tt
 
 -- no line is written of a text that is a script
-pub never_refused : (P : Output → Type 0) (text : List ℕ) (script : List Task) (fault : NoScript)
-    (r : Result Output Oom)
-    → IsScriptOf text script → IsMemory fault ⊎ ((other : List Task) → IsScriptOf text other → ⊥)
-    → IfOk r (λ output. ¬ IsMemory fault) → IfOk r P
-never_refused P text script fault (Ok output) is (inl memory) none = absurd (none memory)
-never_refused P text script fault (Ok output) is (inr other) none = absurd (other script is)
-never_refused P text script fault (Err oom) is refused none = tt
+pub never_refused : {A : Type 0} (text : List ℕ) (script : List Task) (fault : NoScript) → IsScriptOf text script
+    → IsMemory fault ⊎ ((other : List Task) → IsScriptOf text other → ⊥) → ¬ IsMemory fault → A
+never_refused text script fault is (inl memory) none = absurd (none memory)
+never_refused text script fault is (inr other) none = absurd (other script is)
+
+-- the line of a fault is what is written where an input is no script
+pub IsRefused-fault : (fault : NoScript) (end : ReadEnd) (status : Status) (text input : List ℕ)
+    → IsMemory fault ⊎ ((all : List ℕ) → IsReadOf all end → IsFirstFault all fault) → status ≡ Script
+    → text ≡ fault_line fault → ¬ IsMemory fault → IsReadOf input end → IsRefused input status text
+IsRefused-fault fault end status text input (inl memory) s t none read = absurd (none memory)
+IsRefused-fault fault end status text input (inr first) s t none read = (s, (fault, first input read, t))
 
 -- the text of the generated script is a script, so it has no fault
 pub generated_of : (size : ℕ) → IsGenerated size → IsScriptOf (script_text size) (generated_script size)
@@ -159,12 +166,3 @@ pub as_command : (command given : Command) (end : ReadEnd) (r : Result Output Oo
     → IsCommandOutput given all output.status output.text.items) → Gives command end r
 as_command command given end r is does out =
     subst (λ k. Gives k end r) (sym is) (if_ok r (λ output of_read all read. of_read all (read does)) out)
-
--- `run` and `plan` give the same
-pub as_run : (command : Command) (cells steps : ℕ) (strict : Bool) (end : ReadEnd) (r : Result Output Oom)
-    → ((workers : ℕ) × (command ≡ Run workers cells steps strict)) ⊎ (command ≡ Plan cells steps strict)
-    → IfOk r (λ output. (all : List ℕ) → IsReadOf all end
-    → IsCommandOutput (Plan cells steps strict) all output.status output.text.items) → Gives command end r
-as_run command cells steps strict end r (inl is) out =
-    as_command command (Run is.0 cells steps strict) end r is.1 refl out
-as_run command cells steps strict end r (inr is) out = as_command command (Plan cells steps strict) end r is refl out

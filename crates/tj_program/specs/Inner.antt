@@ -3,3 +3,4 @@ pub mod LineNumbers
 pub mod LineParse
 pub mod LineWords
 pub mod Inputs
+pub mod ClosedOutputs

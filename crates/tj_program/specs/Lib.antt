@@ -9,3 +9,4 @@ pub mod Statuses
 pub mod StrictRuns
 pub mod Texts
 pub mod Inner
+pub mod ClosedRuns

@@ -6,12 +6,14 @@
 use crate::row_tests::shows;
 use crate::status::Status;
 use std::process::Abort;
+use std::sync::Wait;
 use std::test::Fail;
+use std::thread::Threads;
 
 /// Asserts what `gen` gives with exactly the cells and the statements that a size needs, and with
 /// one less of each.
 fn shows_edges(
-    rt: &(impl Abort + AllocGlobal),
+    rt: &(impl Abort + AllocGlobal + Wait + Threads + Sync),
     (size, cells, steps): (&str, &str, &str),
     (fewer_cells, fewer_steps): (&str, &str),
     (whole, cut): (&str, &str),
@@ -61,7 +63,7 @@ fn the_greatest_size_with_a_cell_too_few(rt: HostRuntime) -> Result<(), Fail> {
 
 /// Asserts what is written for a script of so many tasks, one a line, `main` the first.
 fn shows_tasks(
-    rt: &(impl Abort + AllocGlobal),
+    rt: &(impl Abort + AllocGlobal + Wait + Threads + Sync),
     count: u32,
     status: Status,
     output: &str,

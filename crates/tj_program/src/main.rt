@@ -32,6 +32,9 @@ mod tests;
 mod words;
 #[cfg(test)]
 mod words_tests;
+mod worker_runs;
+#[cfg(test)]
+mod worker_tests;
 
 use std::io;
 use std::process::ExitCode;
@@ -42,6 +45,6 @@ fn main(rt: HostRuntime) -> ExitCode {
     let mut source = StdSource::new(rt.reader());
     let mut sink = StdSink::new(io::writer(&rt));
     let given = words_given(&rt);
-    let status = run_given(rt.alloc(), given, &mut source, &mut sink, &OpenGate);
+    let status = run_given(&rt, rt.alloc(), given, &mut source, &mut sink, &OpenGate);
     ExitCode::from(status.exit_code())
 }

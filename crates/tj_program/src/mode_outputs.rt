@@ -1,44 +1,88 @@
-//! What each mode gives. A mode that runs a script has a function of its own, and so has each other
-//! mode: what a run may do, as wait for workers, the others have no part in.
-ghost use Rattle.std.specs.Prelude.{ℕ, ◌≡◌, ◌<◌, ◌≤◌, ◌⊎◌, List, IfOk};
-ghost use Rattle.tj_gen.specs.Script.{script_text};
+//! What each mode gives. A mode that runs a script over workers has the handle for waiting and for
+//! threads; the others have none, and what they give comes back.
+ghost use Rattle.std.specs.Prelude.{ℕ, ◌≡◌, ◌⊎◌, false, List, IfOk};
 ghost use Rattle.tj_ports.specs.Reading.{IsWithin};
+ghost use Rattle.tj_program.specs.ClosedRuns.{has_workers};
 ghost use Rattle.tj_program.specs.CommandLine.{HasLimits};
 ghost use Rattle.tj_program.specs.ScriptTexts as script_texts;
 ghost use Rattle.tj_program.specs.ScriptTexts.{most_bytes, IsMemory};
+ghost use Rattle.tj_program.specs.Inner.ClosedOutputs.{IsGiven};
 ghost use Rattle.tj_program.specs.Inner.Inputs.{HasRead, IsReadOf};
 ghost use Rattle.tj_program.specs.Runs.{Start, AreLimits, IsRunOf};
 ghost use Rattle.tj_program.specs.Output.{IsCommandOutput, IsListed, IsRefused, IsStartOfText};
 
 use crate::command::Command;
 use crate::fault_lines::fault_line;
-use crate::generated::generated_text_is_a_script;
 use crate::judging::judging_of;
-use crate::output::Output;
-use crate::script_run::{Limits, Told, run_of};
-use crate::script_text::{NoScript, script_in, script_of};
+use crate::output::{ClosedOutput, Output};
+use crate::script_run::{Limits, Told, run_by_rounds};
+use crate::script_text::{NoScript, script_of};
 use crate::status::Status;
+use crate::worker_runs::{report_by_workers, summary_by_workers};
 use std::alloc::Global;
+use std::sync::Wait;
+use std::thread::Threads;
 use tj_base::Oom;
-use tj_gen::gen_script;
-use tj_ports::ReadEnd;
+use tj_ports::{Gate, ReadEnd};
 use tj_syntax::list_text;
 
 /// What a command gives, where it has read this of its input.
-pub fn output_of(alloc: Global, command: Command, input: &ReadEnd) -> Result<Output, Oom>
+pub fn given_by<G: Gate, R: Wait + Threads + Sync>(
+    rt: &R,
+    alloc: Global,
+    command: Command,
+    input: &ReadEnd,
+    gate: &G,
+) -> Result<ClosedOutput, Oom>
+    requires limits { HasLimits command }
+    requires within { IsWithin most_bytes input.now }
+    ensures { IfOk result (λ given. (all : List ℕ) → HasRead command all input.now
+        → IsGiven command all given.output.status given.output.text.items given.closed) }
+{
+    match command {
+        Command::Run {
+            workers,
+            cells,
+            steps,
+            strict,
+        } => {
+            let limits = Limits {
+                cells,
+                steps,
+                strict,
+            };
+            report_by_workers(rt, alloc, input, limits, workers, gate)
+        }
+        Command::Gen {
+            size,
+            workers,
+            cells,
+            steps,
+        } => {
+            let limits = Limits {
+                cells,
+                steps,
+                strict: false,
+            };
+            summary_by_workers(rt, alloc, size, limits, workers, gate)
+        }
+        Command::Plan { .. } | Command::List | Command::Judge { .. } => Ok(ClosedOutput {
+            output: output_of(alloc, command, input)?,
+            closed: None,
+        }),
+    }
+}
+
+/// What a command without workers gives, where it has read this of its input.
+fn output_of(alloc: Global, command: Command, input: &ReadEnd) -> Result<Output, Oom>
+    requires alone { has_workers command ≡ false }
     requires limits { HasLimits command }
     requires within { IsWithin most_bytes input.now }
     ensures { IfOk result (λ output. (all : List ℕ) → HasRead command all input.now
         → IsCommandOutput command all output.status output.text.items) }
 {
     match command {
-        Command::Run {
-            cells,
-            steps,
-            strict,
-            ..
-        }
-        | Command::Plan {
+        Command::Plan {
             cells,
             steps,
             strict,
@@ -53,24 +97,11 @@ pub fn output_of(alloc: Global, command: Command, input: &ReadEnd) -> Result<Out
         ),
         Command::List => listing(alloc, input),
         Command::Judge { cells } => judging_of(alloc, input, cells),
-        Command::Gen {
-            size,
-            cells,
-            steps,
-            ..
-        } => summary(
-            alloc,
-            size,
-            Limits {
-                cells,
-                steps,
-                strict: false,
-            },
-        ),
+        Command::Run { .. } | Command::Gen { .. } => unreachable!(),
     }
 }
 
-/// The report of the script that the input is, or the line of its fault.
+/// The report of the script that the input is, by rounds, or the line of its fault.
 fn report(alloc: Global, input: &ReadEnd, limits: Limits) -> Result<Output, Oom>
     requires limits { AreLimits limits }
     requires within { IsWithin most_bytes input.now }
@@ -80,7 +111,7 @@ fn report(alloc: Global, input: &ReadEnd, limits: Limits) -> Result<Output, Oom>
         × IsRunOf Told.Report start output.status output.text.items)) }
 {
     match script_of(alloc, input) {
-        Ok(script) => run_of(alloc, &script, limits, Told::Report),
+        Ok(script) => run_by_rounds(alloc, &script, limits),
         Err(fault) => refused(alloc, fault),
     }
 }
@@ -102,7 +133,7 @@ fn listing(alloc: Global, input: &ReadEnd) -> Result<Output, Oom>
 }
 
 /// The line of the fault.
-fn refused(alloc: Global, fault: NoScript) -> Result<Output, Oom>
+pub fn refused(alloc: Global, fault: NoScript) -> Result<Output, Oom>
     ensures status { IfOk result (λ output. output.status ≡ Status.Script) }
     ensures text { IfOk result (λ output.
         output.text.items ≡ script_texts.fault_line fault) }
@@ -112,21 +143,4 @@ fn refused(alloc: Global, fault: NoScript) -> Result<Output, Oom>
         status: Status::Script,
         text: fault_line(alloc, fault)?,
     })
-}
-
-/// The summary of a run of the generated script of this size.
-fn summary(alloc: Global, size: u32, limits: Limits) -> Result<Output, Oom>
-    requires size { (0 < size) × (size ≤ 4000) }
-    requires limits { AreLimits limits }
-    ensures { IfOk result (λ output. (start : Start)
-        × IsStartOfText limits (script_text size) start
-        × IsRunOf (Told.Summary size) start output.status output.text.items) }
-{
-    generated_text_is_a_script();
-    let text = gen_script(alloc, size)?;
-    match script_in(alloc, text.as_slice()) {
-        Ok(script) => run_of(alloc, &script, limits, Told::Summary(size)),
-        // The generated text has no fault, so this is want of memory.
-        Err(fault) => refused(alloc, fault),
-    }
 }

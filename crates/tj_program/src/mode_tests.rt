@@ -157,5 +157,12 @@ fn generated(rt: HostRuntime) -> Result<(), Fail> {
         Status::Clean,
         THOUSAND,
     )?;
+    shows(
+        &rt,
+        "gen --size 4000 --cells 8002 --workers 8",
+        "",
+        Status::Clean,
+        "size 4000 tasks 4001 done 4001 failed 0 waiting 0 owed 0 cycles 0 result 8002000\nclean\n",
+    )?;
     Ok(())
 }

@@ -4,8 +4,11 @@ use crate::run::run_words;
 use crate::status::Status;
 use crate::tests::{THREE, words_of};
 use std::process::Abort;
+use std::sync::Wait;
 use std::test::Fail;
-use tj_ports::{MemSink, MemSource, OpenGate};
+use std::thread::Threads;
+use tj_ports::{Gate, MemSink, MemSource, OpenGate};
+use tj_words::Closed;
 
 const HANDED_DOWN: &str = "task main() { let p = new; fork kid(own p); let v = get p; \
     print v; return v; } task kid(p) { fork grand(own p); return 0; } task grand(p) { set p = \
@@ -21,29 +24,39 @@ pub const AGAINST_THE_ORDER: &str = "task main() { let p = new; fork old(p); let
     one(); set p = b; return 0; } task one() { return 1; } task old(p) { let t = get p; let v \
     = join t; return v; }";
 
-/// The status of the words over the input, and the sink that they wrote to.
-pub fn answered(
-    rt: &(impl Abort + AllocGlobal),
+pub const FIB_OF_3: &str =
+    "task main() { let t = fork fib(3); let v = join t; print v; return 0; } \
+    task fib(n) { if n < 2 { return n; } let a = fork fib(n - 1); let b = fork fib(n - 2); let x = \
+    join a; let y = join b; return x + y; }";
+
+pub const FIB_OF_3_REPORT: &str = "0 prints 2\n0 done 0\n0.1 done 2\n0.1.1 done 1\n0.1.1.1 done 1\n\
+    0.1.1.2 done 0\n0.1.2 done 1\nclean\n";
+
+/// What the words over the input answer where the workers pass the gate, and the sink that they
+/// wrote to.
+pub fn answered<G: Gate>(
+    rt: &(impl Abort + AllocGlobal + Wait + Threads + Sync),
     line: &str,
     input: &str,
-) -> Result<(Status, MemSink), Fail> {
+    gate: &G,
+) -> Result<(Status, Option<Closed>, MemSink), Fail> {
     let alloc = rt.alloc();
     let words = words_of(alloc, line)?;
     let mut source = MemSource::new(input.as_bytes().to_vec(alloc)?, 4096, Vec::new(alloc));
     let mut sink = MemSink::new(alloc, 131_072, 4096, Vec::new(alloc))?;
-    let status = run_words(alloc, words.as_slice(), &mut source, &mut sink, &OpenGate);
-    Ok((status, sink))
+    let (status, closed) = run_words(rt, alloc, words.as_slice(), &mut source, &mut sink, gate);
+    Ok((status, closed, sink))
 }
 
 /// Asserts what the words over the input write, and the status.
 pub fn shows(
-    rt: &(impl Abort + AllocGlobal),
+    rt: &(impl Abort + AllocGlobal + Wait + Threads + Sync),
     line: &str,
     input: &str,
     status: Status,
     output: &str,
 ) -> Result<(), Fail> {
-    let (found, sink) = answered(rt, line, input)?;
+    let (found, _closed, sink) = answered(rt, line, input, &OpenGate)?;
     assert_eq!(rt; found, status, "{line}");
     assert_eq!(rt; sink.bytes(), output.as_bytes(), "{line}");
     Ok(())
@@ -51,7 +64,7 @@ pub fn shows(
 
 /// The same with any number of workers, and by `plan`.
 pub fn shows_any(
-    rt: &(impl Abort + AllocGlobal),
+    rt: &(impl Abort + AllocGlobal + Wait + Threads + Sync),
     input: &str,
     status: Status,
     output: &str,
@@ -174,16 +187,7 @@ fn several_tasks(rt: HostRuntime) -> Result<(), Fail> {
         Status::Clean,
         "0 done 0\n0.2 done 1\n0.3 done 1\nclean\n",
     )?;
-    shows_any(
-        &rt,
-        "task main() { let t = fork fib(3); let v = join t; print v; return 0; } task fib(n) \
-            { if n < 2 { return n; } let a = fork fib(n - 1); let b = fork fib(n - 2); let x \
-            = join a; let y = join b; return x + y; }",
-        Status::Clean,
-        "0 prints 2\n0 done 0\n0.1 done 2\n0.1.1 done 1\n0.1.1.1 done 1\n0.1.1.2 done 0\n\
-            0.1.2 done 1\nclean\n",
-    )?;
-    Ok(())
+    shows_any(&rt, FIB_OF_3, Status::Clean, FIB_OF_3_REPORT)
 }
 
 #[test]

@@ -1,17 +1,20 @@
 //! The top call: from the words and the input to the text and the status.
 //!
 //! The words come first, then the whole input, then the text is made and put. So want of memory
-//! comes only before the first byte is put.
-ghost use Rattle.std.specs.Prelude.{ℕ, suc, true, false, ◌≡◌, ◌≢◌, ◌≤◌, List, Some, IfOk, IfSome, OnOk, drop, length};
+//! comes only before the first byte is put. Where a script is run over workers, the closed words of
+//! the table that they leave at rest are answered beside the status.
+ghost use Rattle.std.specs.Prelude.{ℕ, suc, true, false, ◌≡◌, ◌≢◌, ◌≤◌, ◌↔◌, List, Some, IfOk, IfSome, IsSome, OnOk, drop, length};
 ghost use Rattle.std.specs.Io.KnownBytes.{Appends};
 ghost use Rattle.tj_ports.specs.Faults.{HasFault, HasNoFault, IsSound};
 ghost use Rattle.tj_ports.specs.Reading.{IsWithin};
+ghost use Rattle.tj_program.specs.ClosedRuns.{HasOutcome, HaveWorkers, IsClosedRun, IsClosedRunOf};
 ghost use Rattle.tj_program.specs.CommandLine.{HasLimits, HasNoForm, IsCommand};
 ghost use Rattle.tj_program.specs.StrictRuns.{StrictRunsNeverWait};
 ghost use Rattle.tj_program.specs.declared.command.Command.{Command};
 ghost use Rattle.tj_program.specs.declared.status.Status.{Status};
 ghost use Rattle.tj_program.specs.ScriptTexts.{most_bytes};
 ghost use Rattle.tj_program.specs.Texts.{usage_line};
+ghost use Rattle.tj_program.specs.Inner.ClosedOutputs.{AreWith, IsPutWith};
 ghost use Rattle.tj_program.specs.Inner.Inputs.{HasRead};
 ghost use Rattle.tj_program.specs.Output.{IsOutput, ReadInput, reads};
 ghost use Rattle.tj_program.specs.Delivery.{HasText, IsAnswered, IsOutputPart, IsPutAs, IsAnswerPut};
@@ -19,60 +22,66 @@ ghost use Rattle.tj_program.specs.Delivery.{HasText, IsAnswered, IsOutputPart, I
 use crate::command::{Command, command_of};
 use crate::fault_lines::USAGE_LINE;
 use crate::laws::{one_output, strict_runs_never_wait};
-use crate::mode_outputs::output_of;
+use crate::mode_outputs::given_by;
+use crate::output::ClosedOutput;
 use crate::status::Status;
 use std::alloc::Global;
+use std::sync::Wait;
+use std::thread::Threads;
 use tj_base::ByteList;
 use tj_lex::MAX_TEXT;
 use tj_ports::{Gate, ReadEnd, ReadFault, Sink, Source, put_all, read_all};
+use tj_words::Closed;
 
-/// Does what the words say. The status names the outcome, and the text goes to the sink.
-pub fn run_words<S: Source, K: Sink, G: Gate>(
+/// Does what the words say. The status names the outcome, and the text goes to the sink. With the
+/// outcome of a run over workers come the closed words of its table.
+pub fn run_words<S: Source, K: Sink, G: Gate, R: Wait + Threads + Sync>(
+    rt: &R,
     alloc: Global,
     words: &[String],
     source: &mut S,
     sink: &mut K,
-    _gate: &G,
-) -> Status
+    gate: &G,
+) -> (Status, Option<Closed>)
     // Where the ports tell their bytes and don't fail, the sink grows by the output, or memory is
     // wanting. What isn't read needs no telling.
     ensures output { (input held : List ℕ) → (ReadInput words.now → S.left source.old ≡ Some input)
         → K.held sink.old ≡ Some held
         → (ReadInput words.now → HasNoFault (S.faults source.old) (S.faults source.new))
         → HasNoFault (K.faults sink.old) (K.faults sink.new)
-        → IsAnswered words.now input held result (K.held sink.new) }
+        → IsAnswered words.now input held result.0 (K.held sink.new) }
 
     // A status that belongs to a text comes only where that text is the output, put whole.
     ensures whole { (input : List ℕ) → (ReadInput words.now → S.left source.old ≡ Some input)
-        → HasText result → (text : List ℕ) × IsOutput words.now input result text
+        → HasText result.0 → (text : List ℕ) × IsOutput words.now input result.0 text
         × Appends (K.held sink.old) (K.held sink.new) text }
 
     // So where words and input have an output, its status is the one, and its text was put.
     ensures exact { (input text : List ℕ) (status : Status)
         → (ReadInput words.now → S.left source.old ≡ Some input)
-        → IsOutput words.now input status text → HasText result
-        → (result ≡ status) × Appends (K.held sink.old) (K.held sink.new) text }
+        → IsOutput words.now input status text → HasText result.0
+        → (result.0 ≡ status) × Appends (K.held sink.old) (K.held sink.new) text }
 
     // That text is the output of some input, also where the source tells nothing.
-    ensures cause { HasText result → (input : List ℕ) × (text : List ℕ)
-        × IsOutput words.now input result text
+    ensures cause { HasText result.0 → (input : List ℕ) × (text : List ℕ)
+        × IsOutput words.now input result.0 text
         × Appends (K.held sink.old) (K.held sink.new) text }
 
     // The whole input was taken, or one byte more than a script may have.
     ensures taken { (input : List ℕ) → S.left source.old ≡ Some input → ReadInput words.now
-        → HasText result
+        → HasText result.0
         → S.left source.new ≡ Some (drop (suc most_bytes) input) }
 
     // Each other answer has its cause.
-    ensures usage { result ≡ Status.Usage → HasNoForm words.now
+    ensures usage { result.0 ≡ Status.Usage → HasNoForm words.now
         × Appends (K.held sink.old) (K.held sink.new) usage_line }
     ensures untouched { (ReadInput words.now → ⊥) → source.new ≡ source.old }
-    ensures read_fault { result ≡ Status.ReadFault → ReadInput words.now
+    ensures read_fault { result.0 ≡ Status.ReadFault → ReadInput words.now
         × HasFault (S.faults source.old) (S.faults source.new) }
-    ensures unwritten { result ≡ Status.ReadFault → sink.new ≡ sink.old }
-    ensures write_fault { result ≡ Status.WriteFault
+    ensures unwritten { result.0 ≡ Status.ReadFault → sink.new ≡ sink.old }
+    ensures write_fault { result.0 ≡ Status.WriteFault
         → HasFault (K.faults sink.old) (K.faults sink.new) }
-    ensures part { result ≡ Status.WriteFault → (input : List ℕ)
+    ensures part { result.0 ≡ Status.WriteFault → (input : List ℕ)
         → (ReadInput words.now → S.left source.old ≡ Some input)
         → IsOutputPart words.now input (K.held sink.old) (K.held sink.new) }
 
@@ -80,12 +89,12 @@ pub fn run_words<S: Source, K: Sink, G: Gate>(
     ensures fits { (room : ℕ) (input text : List ℕ) (status : Status) → K.has_room sink.old room
         → (ReadInput words.now → S.left source.old ≡ Some input)
         → IsOutput words.now input status text → length text ≤ room
-        → result ≢ Status.WriteFault }
+        → result.0 ≢ Status.WriteFault }
 
     // The part put is one of the output of some input, also where the source tells nothing.
-    ensures part_cause { result ≡ Status.WriteFault → (input : List ℕ)
+    ensures part_cause { result.0 ≡ Status.WriteFault → (input : List ℕ)
         × IsOutputPart words.now input (K.held sink.old) (K.held sink.new) }
-    ensures memory { result ≡ Status.Memory → sink.new ≡ sink.old }
+    ensures memory { result.0 ≡ Status.Memory → sink.new ≡ sink.old }
 
     // With `--strict` a script without the keyword `get` has no outcome with a wait.
     ensures never_waits { (command : Command) (input : List ℕ) → IsCommand words.now command
@@ -93,24 +102,37 @@ pub fn run_words<S: Source, K: Sink, G: Gate>(
 
     // A port that failed is told: so no other status, want of memory among them, hides a fault.
     ensures source_counted { S.faults source.old ≤ S.faults source.new }
-    ensures source_quiet { result ≢ Status.ReadFault
+    ensures source_quiet { result.0 ≢ Status.ReadFault
         → S.faults source.new ≡ S.faults source.old }
     ensures sink_counted { K.faults sink.old ≤ K.faults sink.new }
-    ensures sink_quiet { result ≢ Status.WriteFault → K.faults sink.new ≡ K.faults sink.old }
-    ensures sound { S.never_fails source.old → (result ≢ Status.ReadFault)
+    ensures sink_quiet { result.0 ≢ Status.WriteFault → K.faults sink.new ≡ K.faults sink.old }
+    ensures sound { S.never_fails source.old → (result.0 ≢ Status.ReadFault)
         × IsSound (S.faults source.old) (S.faults source.new) (S.never_fails source.new) }
+
+    // Closed words come exactly with the outcome of a run over workers.
+    ensures closed_with { IsSome result.1 ↔ (HasOutcome result.0 × HaveWorkers words.now) }
+
+    // They are of the run that the status and the text tell. Each cycle of its outcome has a member
+    // that has alarmed.
+    ensures closed { (input : List ℕ) → (ReadInput words.now → S.left source.old ≡ Some input)
+        → IfSome result.1 (IsClosedRunOf words.now input (K.held sink.old) (K.held sink.new)
+        result.0) }
+
+    // The same of some input, also where the source tells nothing.
+    ensures closed_cause { IfSome result.1 (λ closed. (input : List ℕ)
+        × IsClosedRunOf words.now input (K.held sink.old) (K.held sink.new) result.0 closed) }
 {
     one_output();
     strict_runs_never_wait();
     let command = match command_of(alloc, words) {
         Ok(Some(command)) => command,
-        Ok(None) => return put_text(sink, Status::Usage, USAGE_LINE),
-        Err(_out_of_memory) => return Status::Memory,
+        Ok(None) => return (put_text(sink, Status::Usage, USAGE_LINE), None),
+        Err(_out_of_memory) => return (Status::Memory, None),
     };
     match input_of(alloc, command, source) {
-        Ok(input) => answer(alloc, command, &input, sink),
-        Err(ReadFault::Failed) => Status::ReadFault,
-        Err(ReadFault::Oom) => Status::Memory,
+        Ok(input) => answer(rt, alloc, command, &input, sink, gate),
+        Err(ReadFault::Failed) => (Status::ReadFault, None),
+        Err(ReadFault::Oom) => (Status::Memory, None),
     }
 }
 
@@ -140,22 +162,47 @@ fn input_of<S: Source>(
 }
 
 // Puts what a command gives for its input.
-fn answer<K: Sink>(alloc: Global, command: Command, input: &ReadEnd, sink: &mut K) -> Status
+fn answer<K: Sink, G: Gate, R: Wait + Threads + Sync>(
+    rt: &R,
+    alloc: Global,
+    command: Command,
+    input: &ReadEnd,
+    sink: &mut K,
+    gate: &G,
+) -> (Status, Option<Closed>)
     requires limits { HasLimits command }
     requires within { IsWithin most_bytes input.now }
-    ensures output { result ≢ Status.Memory → (all : List ℕ) → HasRead command all input.now
+    ensures output { result.0 ≢ Status.Memory → (all : List ℕ) → HasRead command all input.now
         → IsAnswerPut (K.has_room sink.old) command all (K.held sink.old) (K.held sink.new)
-        (K.faults sink.old) (K.faults sink.new) result }
-    ensures memory { result ≡ Status.Memory → sink.new ≡ sink.old }
-    ensures write_fault { result ≡ Status.WriteFault
+        (K.faults sink.old) (K.faults sink.new) result.0 }
+    ensures closed_with { AreWith command result.0 result.1 }
+    ensures closed { (all : List ℕ) → HasRead command all input.now
+        → IfSome result.1 (IsClosedRun command all (K.held sink.old) (K.held sink.new) result.0) }
+    ensures memory { result.0 ≡ Status.Memory → sink.new ≡ sink.old }
+    ensures write_fault { result.0 ≡ Status.WriteFault
         → HasFault (K.faults sink.old) (K.faults sink.new) }
-    ensures quiet { result ≢ Status.WriteFault → K.faults sink.new ≡ K.faults sink.old }
-    ensures others { (result ≢ Status.Usage) × (result ≢ Status.ReadFault) }
+    ensures quiet { result.0 ≢ Status.WriteFault → K.faults sink.new ≡ K.faults sink.old }
+    ensures others { (result.0 ≢ Status.Usage) × (result.0 ≢ Status.ReadFault) }
     ensures counted { K.faults sink.old ≤ K.faults sink.new }
 {
-    match output_of(alloc, command, input) {
-        Ok(output) => put_text(sink, output.status, output.text.as_slice()),
-        Err(_out_of_memory) => Status::Memory,
+    match given_by(rt, alloc, command, input, gate) {
+        Ok(given) => put_given(sink, given),
+        Err(_out_of_memory) => (Status::Memory, None),
+    }
+}
+
+// Puts what a command gave. Its closed words are answered where its text was put whole.
+fn put_given<K: Sink>(sink: &mut K, given: ClosedOutput) -> (Status, Option<Closed>)
+    ensures put { IsPutWith (K.has_room sink.old) given.output.status given.output.text.items
+        given.closed (K.held sink.old) (K.held sink.new) (K.faults sink.old) (K.faults sink.new)
+        result.0 result.1 }
+    ensures quiet { result.0 ≢ Status.WriteFault → K.faults sink.new ≡ K.faults sink.old }
+    ensures counted { K.faults sink.old ≤ K.faults sink.new }
+{
+    let ClosedOutput { output, closed } = given;
+    match put_all(sink, output.text.as_slice()) {
+        Ok(()) => (output.status, closed),
+        Err(_failed) => (Status::WriteFault, None),
     }
 }
 

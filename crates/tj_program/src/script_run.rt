@@ -1,8 +1,10 @@
-//! Running a script on one thread, by rounds, and telling its outcome.
-ghost use Rattle.std.specs.Prelude.{◌≡◌, IfOk, MatchOption};
-ghost use Rattle.tj_program.specs.Runs.{Start, AreLimits, IsOutcomeOf, IsRunOf, IsStartOf, NeedsMore};
+//! Running a script: its limits, how its outcome is told, and the run by rounds on one thread.
+ghost use Rattle.std.specs.Prelude.{◌≡◌, IfOk};
+ghost use Rattle.tj_mean.specs.Outcomes.{is_marked};
+ghost use Rattle.tj_program.specs.Runs.{Start, AreLimits, IsRunOf, IsStartOf};
 ghost use Rattle.tj_program.specs.Runs as runs;
 ghost use Rattle.tj_program.specs.ScriptTexts.{IsSomeScript};
+ghost use Rattle.tj_program.specs.Texts as texts;
 ghost use Rattle.tj_syntax.specs.View as view;
 
 use crate::fault_lines::full_line;
@@ -31,24 +33,32 @@ pub enum Told {
     Summary(u32),
 }
 
-/// The outcome of a run of the script, as it is told, or that it is full.
-pub fn run_of(alloc: Global, script: &Script, limits: Limits, told: Told) -> Result<Output, Oom>
+/// The outcome of a run of the script by rounds, or that it is full.
+pub fn run_by_rounds(alloc: Global, script: &Script, limits: Limits) -> Result<Output, Oom>
     requires limits { AreLimits limits }
     requires script { IsSomeScript (view.script script.now) }
     ensures { IfOk result (λ output. (start : Start)
         × IsStartOf limits (view.script script.now) start
-        × IsRunOf told start output.status output.text.items) }
+        × IsRunOf Told.Report start output.status output.text.items) }
 {
-    match outcome_of(alloc, script, limits)? {
-        Some(outcome) => Ok(Output {
-            status: status_of(marked(&outcome)),
-            text: text_of(alloc, told, &outcome)?,
-        }),
-        None => Ok(Output {
-            status: Status::Full,
-            text: full_line(alloc, limits.cells)?,
-        }),
+    let root = main_body(alloc, script, limits.steps)?;
+    match plan(alloc, &root, limits.cells, limits.strict) {
+        Ok(outcome) => ended(alloc, Told::Report, &outcome),
+        Err(PlanFault::Full) => full(alloc, limits.cells),
+        Err(PlanFault::Oom) => Err(Oom),
     }
+}
+
+/// What is written of an outcome.
+pub fn ended(alloc: Global, told: Told, outcome: &Outcome) -> Result<Output, Oom>
+    ensures status { IfOk result (λ output.
+        output.status ≡ runs.status_of (is_marked outcome.now)) }
+    ensures text { IfOk result (λ output. output.text.items ≡ runs.text_of told outcome.now) }
+{
+    Ok(Output {
+        status: status_of(marked(outcome)),
+        text: text_of(alloc, told, outcome)?,
+    })
 }
 
 /// The text of an outcome.
@@ -61,19 +71,13 @@ fn text_of(alloc: Global, told: Told, outcome: &Outcome) -> Result<Vec<u8>, Oom>
     }
 }
 
-/// The outcome of a run of the script, or None where it is full.
-fn outcome_of(alloc: Global, script: &Script, limits: Limits) -> Result<Option<Outcome>, Oom>
-    requires limits { AreLimits limits }
-    requires script { IsSomeScript (view.script script.now) }
-    ensures { IfOk result (λ found. (start : Start)
-        × IsStartOf limits (view.script script.now) start
-        × MatchOption found (NeedsMore start)
-        (λ outcome. (¬ NeedsMore start) × IsOutcomeOf start outcome)) }
+/// What is written of a run that needs more cells than these.
+pub fn full(alloc: Global, cells: u32) -> Result<Output, Oom>
+    ensures status { IfOk result (λ output. output.status ≡ Status.Full) }
+    ensures text { IfOk result (λ output. output.text.items ≡ texts.full_line cells) }
 {
-    let root = main_body(alloc, script, limits.steps)?;
-    match plan(alloc, &root, limits.cells, limits.strict) {
-        Ok(outcome) => Ok(Some(outcome)),
-        Err(PlanFault::Full) => Ok(None),
-        Err(PlanFault::Oom) => Err(Oom),
-    }
+    Ok(Output {
+        status: Status::Full,
+        text: full_line(alloc, cells)?,
+    })
 }

@@ -8,7 +8,9 @@ use crate::run::run_words;
 use crate::status::Status;
 use std::alloc::{AllocError, Global};
 use std::process::Abort;
+use std::sync::Wait;
 use std::test::Fail;
+use std::thread::Threads;
 use tj_ports::{MemSink, MemSource, OpenGate};
 
 pub const USAGE: &str =
@@ -27,7 +29,7 @@ pub fn words_of(alloc: Global, line: &str) -> Result<Vec<String>, AllocError> {
 
 /// Asserts what the words write for so many of a byte, then the tail.
 fn shows_long(
-    rt: &(impl Abort + AllocGlobal),
+    rt: &(impl Abort + AllocGlobal + Wait + Threads + Sync),
     line: &str,
     (byte, count): (u8, usize),
     tail: &str,
@@ -39,7 +41,14 @@ fn shows_long(
     input.extend_from_slice(tail.as_bytes())?;
     let mut source = MemSource::new(input, 65536, Vec::new(alloc));
     let mut sink = MemSink::new(alloc, 100, 100, Vec::new(alloc))?;
-    let _status = run_words(alloc, words.as_slice(), &mut source, &mut sink, &OpenGate);
+    let _answer = run_words(
+        rt,
+        alloc,
+        words.as_slice(),
+        &mut source,
+        &mut sink,
+        &OpenGate,
+    );
     assert_eq!(rt; sink.bytes(), output.as_bytes());
     Ok(())
 }
@@ -75,7 +84,7 @@ fn long_inputs(rt: HostRuntime) -> Result<(), Fail> {
 
 /// Asserts what is written over ports whose calls of these numbers fail.
 fn shows_failing(
-    rt: &(impl Abort + AllocGlobal),
+    rt: &(impl Abort + AllocGlobal + Wait + Threads + Sync),
     line: &str,
     (room, take, put): (u32, u32, u32),
     status: Status,
@@ -86,7 +95,14 @@ fn shows_failing(
     let input = THREE.as_bytes().to_vec(alloc)?;
     let mut source = MemSource::new(input, 1, [take].to_vec(alloc)?);
     let mut sink = MemSink::new(alloc, room, 4, [put].to_vec(alloc)?)?;
-    let found = run_words(alloc, words.as_slice(), &mut source, &mut sink, &OpenGate);
+    let (found, _closed) = run_words(
+        rt,
+        alloc,
+        words.as_slice(),
+        &mut source,
+        &mut sink,
+        &OpenGate,
+    );
     assert_eq!(rt; found, status, "{line}");
     assert_eq!(rt; sink.bytes(), output.as_bytes(), "{line}");
     Ok(())
@@ -127,6 +143,7 @@ fn failing_ports(rt: HostRuntime) -> Result<(), Fail> {
 /// The status of words without a form over a sink in memory that never fails and has room for the
 /// usage line. No write fails then, so it is that of the line, or memory is wanting.
 fn status_without_form(
+    rt: &(impl Abort + AllocGlobal + Wait + Threads + Sync),
     alloc: Global,
     words: &[String],
     source: &mut MemSource,
@@ -136,7 +153,8 @@ fn status_without_form(
     requires room { SurelyTakes sink.old (length usage_line) }
     ensures { (result ≡ Status.Usage) ⊎ (result ≡ Status.Memory) }
 {
-    run_words(alloc, words, source, sink, &OpenGate)
+    let (status, _closed) = run_words(rt, alloc, words, source, sink, &OpenGate);
+    status
 }
 
 #[test]
@@ -145,7 +163,7 @@ fn no_write_fails_where_there_is_room(rt: HostRuntime) -> Result<(), Fail> {
     let words = Vec::new(alloc);
     let mut source = MemSource::new(Vec::new(alloc), 1, Vec::new(alloc));
     let mut sink = MemSink::new(alloc, 100, 7, Vec::new(alloc))?;
-    let found = status_without_form(alloc, words.as_slice(), &mut source, &mut sink);
+    let found = status_without_form(&rt, alloc, words.as_slice(), &mut source, &mut sink);
     assert_eq!(rt; found, Status::Usage);
     assert_eq!(rt; sink.bytes(), USAGE.as_bytes());
     Ok(())

@@ -15,6 +15,8 @@ use std::alloc::Global;
 use std::env;
 use std::io::ErrorKind;
 use std::rt::Env;
+use std::sync::Wait;
+use std::thread::Threads;
 use tj_ports::{Gate, Sink, Source};
 
 /// What the command line gives.
@@ -41,7 +43,8 @@ pub fn words_given(rt: &(impl Env + AllocGlobal)) -> Given {
 }
 
 /// Does what the command line says. Words that aren't text have no form.
-pub fn run_given<S: Source, K: Sink, G: Gate>(
+pub fn run_given<S: Source, K: Sink, G: Gate, R: Wait + Threads + Sync>(
+    rt: &R,
     alloc: Global,
     given: Given,
     source: &mut S,
@@ -68,7 +71,10 @@ pub fn run_given<S: Source, K: Sink, G: Gate>(
         × (sink.new ≡ sink.old) }
 {
     match given {
-        Given::Words(words) => run_words(alloc, words.as_slice(), source, sink, gate),
+        Given::Words(words) => {
+            let (status, _closed) = run_words(rt, alloc, words.as_slice(), source, sink, gate);
+            status
+        }
         Given::NotText => put_text(sink, Status::Usage, USAGE_LINE),
         Given::Oom => Status::Memory,
     }

@@ -2,11 +2,12 @@
 use crate::status::Status;
 use crate::tests::{THREE, USAGE};
 use crate::words::{Given, run_given, words_given};
-use std::alloc::Global;
 use std::env::FillError;
 use std::process::Abort;
 use std::rt::Env;
+use std::sync::Wait;
 use std::test::Fail;
+use std::thread::Threads;
 use tj_ports::{MemSink, MemSource, OpenGate};
 
 /// A command line of these words, the program's name first.
@@ -37,22 +38,27 @@ impl Env for Line {
 }
 
 /// The status of a command line over an input, and the sink that was written to.
-fn answered(alloc: Global, given: Given, input: &str) -> Result<(Status, MemSink), Fail> {
+fn answered(
+    rt: &(impl Abort + AllocGlobal + Wait + Threads + Sync),
+    given: Given,
+    input: &str,
+) -> Result<(Status, MemSink), Fail> {
+    let alloc = rt.alloc();
     let mut source = MemSource::new(input.as_bytes().to_vec(alloc)?, 4096, Vec::new(alloc));
     let mut sink = MemSink::new(alloc, 200, 4096, Vec::new(alloc))?;
-    let status = run_given(alloc, given, &mut source, &mut sink, &OpenGate);
+    let status = run_given(rt, alloc, given, &mut source, &mut sink, &OpenGate);
     Ok((status, sink))
 }
 
 /// Asserts what a command line over an input writes, and the status.
 fn shows(
-    rt: &(impl Abort + AllocGlobal),
+    rt: &(impl Abort + AllocGlobal + Wait + Threads + Sync),
     line: Line,
     status: Status,
     output: &str,
 ) -> Result<(), Fail> {
     let given = words_given(&(line, rt.alloc()));
-    let (found, sink) = answered(rt.alloc(), given, THREE)?;
+    let (found, sink) = answered(rt, given, THREE)?;
     assert_eq!(rt; found, status);
     assert_eq!(rt; sink.bytes(), output.as_bytes());
     Ok(())
@@ -75,7 +81,7 @@ fn words_of_a_command_line(rt: HostRuntime) -> Result<(), Fail> {
 
 #[test]
 fn no_memory_for_the_words(rt: HostRuntime) -> Result<(), Fail> {
-    let (found, sink) = answered(rt.alloc(), Given::Oom, THREE)?;
+    let (found, sink) = answered(&rt, Given::Oom, THREE)?;
     assert_eq!(rt; found, Status::Memory);
     assert!(rt; sink.bytes().is_empty());
     Ok(())

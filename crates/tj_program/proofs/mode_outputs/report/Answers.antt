@@ -13,5 +13,5 @@ returns-in-Err c =
     c.refused.result c.in-Err.ensures.fault c.refused.ensures.status c.refused.ensures.text c.refused.ensures.none
 
 pub returns-in-Ok : goal.returns-in-Ok
-returns-in-Ok c = if_ok c.run_of.result (λ output ran all read.
-    inr (ran.0, (view.script c.in-Ok.script, c.in-Ok.ensures.ok all read, ran.1), ran.2)) c.run_of.ensures
+returns-in-Ok c = if_ok c.run_by_rounds.result (λ output ran all read.
+    inr (ran.0, (view.script c.in-Ok.script, c.in-Ok.ensures.ok all read, ran.1), ran.2)) c.run_by_rounds.ensures

@@ -7,6 +7,7 @@ use Rattle.tj_program.proofs.Deliveries.{IsAnswered-put, put_whole, IsOutputPart
 use Rattle.tj_program.proofs.Deliveries.{IsAnswered-command, put_whole-command, IsOutputPart-command}
 use Rattle.tj_program.proofs.Deliveries.{no_write_fault-command}
 use Rattle.tj_program.proofs.Deliveries.{exact}
+use Rattle.tj_program.proofs.ClosedRuns.{HaveWorkers-command, IsClosedRunOf-command, IsClosedRunOf-some, never_with, nothing}
 use Rattle.tj_program.proofs.Inputs.{some_input}
 use Rattle.tj_program.proofs.StrictRuns.{never_waits-words}
 use Rattle.tj_program.proofs.run.run_words.Given.{Over}
@@ -43,7 +44,7 @@ returns-in-Ok-None-clause-part g c = λ is input told. IsOutputPart-put (g.K.Sin
     (usage (formless g c)) (λ e. cc) c.put_text.ensures.put is
 
 pub answer-requires-clause-limits : goal.answer-requires-clause-limits
-answer-requires-clause-limits g c = within_limits c.args.words.now c.in-Ok-Some.command
+answer-requires-clause-limits g c κs within = within_limits c.args.words.now c.in-Ok-Some.command
     (subst (λ found. MatchOption found (HasNoForm c.args.words.now) (IsCommand c.args.words.now))
     c.in-Ok-Some.field-0-is c.in-Ok-Some.ensures)
 
@@ -149,3 +150,31 @@ returns-in-Ok-clause-fits g c = λ room input text status has told out fits.
     (g.K.Sink.has_room c.args.sink.now)
     (λ other. c.answer.ensures.output other input (has_read g c input told)) c.one_output.ensures text status out room
     has fits
+
+pub returns-in-Ok-None-clause-closed_with : goal.returns-in-Ok-None-clause-closed_with
+returns-in-Ok-None-clause-closed_with g c = never_with c.args.words.now c.put_text.result (formless g c)
+
+pub returns-in-Err-clause-closed_with : goal.returns-in-Err-clause-closed_with
+returns-in-Err-clause-closed_with g c = ((λ some. absurd (nothing some)), (λ h. absurd h.0))
+
+pub returns-in-Err-Failed-clause-closed_with : goal.returns-in-Err-Failed-clause-closed_with
+returns-in-Err-Failed-clause-closed_with g c = ((λ some. absurd (nothing some)), (λ h. absurd h.0))
+
+pub returns-in-Err-Oom-clause-closed_with : goal.returns-in-Err-Oom-clause-closed_with
+returns-in-Err-Oom-clause-closed_with g c = ((λ some. absurd (nothing some)), (λ h. absurd h.0))
+
+pub returns-in-Ok-clause-closed_with : goal.returns-in-Ok-clause-closed_with
+returns-in-Ok-clause-closed_with g c = HaveWorkers-command c.args.words.now c.in-Ok-Some.command _ _ (is_command g c)
+    (λ other is. one_command c.args.words.now other c.in-Ok-Some.command is (is_command g c)) c.answer.ensures.closed_with
+
+pub returns-in-Ok-clause-closed : goal.returns-in-Ok-clause-closed
+returns-in-Ok-clause-closed g c = λ input told.
+    IsClosedRunOf-command c.args.words.now c.in-Ok-Some.command input _ _ _ _ (is_command g c)
+    (c.answer.ensures.closed input (has_read g c input told))
+
+pub returns-in-Ok-clause-closed_cause : goal.returns-in-Ok-clause-closed_cause
+returns-in-Ok-clause-closed_cause g c =
+    let some = some_input c.in-Ok.input c.in-Ok.ensures.within in
+    IsClosedRunOf-some c.args.words.now some.0 _ _ _ _
+    (IsClosedRunOf-command c.args.words.now c.in-Ok-Some.command some.0 _ _ _ _ (is_command g c)
+    (c.answer.ensures.closed some.0 (λ does. some.1)))

@@ -21,12 +21,12 @@ settled words WriteFault formless write read text = absurd (write refl)
 settled words Memory formless write read text = inr refl
 
 pub returns : goal.returns
-returns c =
+returns g c =
     let words = c.args.words.now in
     let formless : HasNoForm words = c.requires.formless in
     let whole : length usage_line ≤ length usage_line = omega arith in
-    let run = c.run_words.ensures in
-    settled words c.run_words.result formless
+    let run = c.run_words-status.ensures in
+    settled words c.run_words-status.result.0 formless
     (run.fits (length usage_line) [] usage_line Usage c.requires.room (λ r. absurd (formless r.0 r.1)) (usage formless)
     whole) (λ is. (run.read_fault is).0)
     (λ has. (run.exact [] usage_line Usage (λ r. absurd (formless r.0 r.1)) (usage formless) has).0)

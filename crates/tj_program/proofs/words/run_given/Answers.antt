@@ -9,6 +9,6 @@ returns-in-Words-clause-words g c = λ words input held given told holds none_re
     let both : Words c.in-Words.words ≡ Words words = sym c.in-Words.is ∙ given in
     let same : c.in-Words.words ≡ words = cc in
     let seen : c.as_slice.result.now ≡ words.items = c.as_slice.ensures.value ∙ ap (λ w. w.items) same in
-    subst (λ ws. IsAnswered ws input held c.run_words.result (g.K.Sink.held c.run_words.new.sink)) seen
-    (c.run_words.ensures.output input held (λ read. told (subst ReadInput seen read)) holds
+    subst (λ ws. IsAnswered ws input held c.run_words-status.result.0 (g.K.Sink.held c.run_words-status.new.sink)) seen
+    (c.run_words-status.ensures.output input held (λ read. told (subst ReadInput seen read)) holds
     (λ read. none_read (subst ReadInput seen read)) none_put)

@@ -3,25 +3,25 @@ use Rattle.tj_program.proofs.Outputs.{if_ok, generated_of, never_refused}
 use Rattle.tj_program.specs.Generated.{generated_script}
 use Rattle.tj_program.specs.ScriptTexts.{IsScriptOf, most_bytes}
 use Rattle.tj_syntax.specs.View as view
-use Rattle.tj_program.proofs.mode_outputs.summary.Goals as goal
+use Rattle.tj_program.proofs.worker_runs.summary_by_workers.Goals as goal
 
 pub script_in-requires : goal.script_in-requires
-script_in-requires c =
+script_in-requires g c =
     let text = c.as_slice.ensures.value ∙ c.in_ok-text.ensures in
     let generated = generated_of c.args.size (c.generated_text_is_a_script.ensures c.args.size c.requires.size.1) in
     subst (λ t. length t ≤ most_bytes) (sym text) generated.short
 
 pub returns-in-Ok : goal.returns-in-Ok
-returns-in-Ok c =
+returns-in-Ok g c =
     let text = c.as_slice.ensures.value ∙ c.in_ok-text.ensures in
     let script = view.script c.in-Ok.script in
-    if_ok c.run_of.result (λ output ran.
-    (ran.0, (script, subst (λ t. IsScriptOf t script) text c.in-Ok.ensures.ok, ran.1), ran.2)) c.run_of.ensures
+    if_ok c.run_by_workers.result (λ given ran.
+    (ran.0, (script, subst (λ t. IsScriptOf t script) text c.in-Ok.ensures.ok, ran.1), ran.2)) c.run_by_workers.ensures
 
 pub returns : goal.returns
-returns c =
+returns g c =
     let text = c.as_slice.ensures.value ∙ c.in_ok-text.ensures in
     let generated = generated_of c.args.size (c.generated_text_is_a_script.ensures c.args.size c.requires.size.1) in
-    never_refused _ c.as_slice.result.now (generated_script c.args.size) c.in-Err.fault c.refused.result
+    never_refused c.as_slice.result.now (generated_script c.args.size) c.in-Err.fault
     (subst (λ t. IsScriptOf t (generated_script c.args.size)) (sym text) generated) c.in-Err.ensures.refused
-    c.refused.ensures.none
+    c.in_ok-refused-in-Err.ensures.none

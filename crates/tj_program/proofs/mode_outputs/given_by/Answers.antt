@@ -1,0 +1,21 @@
+use Rattle.std.proofs.Common.{◌≡◌, ◌∙◌, true, None, refl, subst, sym}
+use Rattle.std.proofs.lemmas.Bool.{false≢true}
+use Rattle.tj_program.specs.Output.{reads}
+use Rattle.tj_program.proofs.ClosedRuns.{alone, IsGiven-alone, IsGiven-gen, IsGiven-report}
+use Rattle.tj_program.proofs.Outputs.{if_ok}
+use Rattle.tj_program.proofs.mode_outputs.given_by.Goals as goal
+
+pub returns-in-Run : goal.returns-in-Run
+returns-in-Run g c = if_ok c.report_by_workers.result (λ given ran all read.
+    IsGiven-report c.args.command c.in-Run.workers c.in-Run.cells c.in-Run.steps c.in-Run.strict all _ _ _ c.in-Run.is
+    (ran all (read (subst (λ k. reads k ≡ true) (sym c.in-Run.is) refl)))) c.report_by_workers.ensures
+
+pub returns-in-Gen : goal.returns-in-Gen
+returns-in-Gen g c = if_ok c.summary_by_workers.result (λ given ran all read.
+    IsGiven-gen c.args.command c.in-Gen.size c.in-Gen.workers c.in-Gen.cells c.in-Gen.steps all _ _ _ c.in-Gen.is ran)
+    c.summary_by_workers.ensures
+
+pub returns-in_ok-output_of-in-Plan : goal.returns-in_ok-output_of-in-Plan
+returns-in_ok-output_of-in-Plan g c = λ all read.
+    IsGiven-alone c.args.command all _ _ None (c.in_ok-output_of-in-Plan.ensures all read)
+    (λ h. false≢true (sym (alone c.args.command c.in-Plan.is) ∙ h.1)) refl

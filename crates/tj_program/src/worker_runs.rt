@@ -1,0 +1,149 @@
+//! Running a script over workers. What is written is told from the table that they leave at rest,
+//! and the closed words of that table come with it.
+ghost use Rattle.std.specs.Prelude.{ℕ, ◌≡◌, ◌<◌, ◌≤◌, ◌⊎◌, List, IfOk, None};
+ghost use Rattle.tj_gen.specs.Script.{script_text};
+ghost use Rattle.tj_ports.specs.Reading.{IsWithin};
+ghost use Rattle.tj_run.specs.Runs.{RestsAt};
+ghost use Rattle.tj_program.specs.Inner.ClosedOutputs.{IsRunGiven};
+ghost use Rattle.tj_program.specs.Inner.Inputs.{IsReadOf};
+ghost use Rattle.tj_program.specs.Output.{IsRefused, IsStartOfText};
+ghost use Rattle.tj_program.specs.Runs.{Start, AreLimits, IsStartOf, script_program, start_of};
+ghost use Rattle.tj_program.specs.ScriptTexts.{most_bytes, IsSomeScript};
+ghost use Rattle.tj_syntax.specs.View as view;
+
+use crate::generated::generated_text_is_a_script;
+use crate::mode_outputs::refused;
+use crate::output::ClosedOutput;
+use crate::script_run::{Limits, Told, ended, full};
+use crate::script_text::{script_in, script_of};
+use std::alloc::Global;
+use std::sync::Wait;
+use std::thread::Threads;
+use tj_base::Oom;
+use tj_eval::{ScriptBody, main_body};
+use tj_gen::gen_script;
+use tj_ports::{Gate, ReadEnd};
+use tj_ready::StealPool;
+use tj_report::outcome_of;
+use tj_run::{RunFault, run_all};
+use tj_syntax::Script;
+use tj_words::RestWords;
+
+/// The report of a run of the script that the input is, or the line of its fault.
+pub fn report_by_workers<G: Gate, R: Wait + Threads + Sync>(
+    rt: &R,
+    alloc: Global,
+    input: &ReadEnd,
+    limits: Limits,
+    workers: u32,
+    gate: &G,
+) -> Result<ClosedOutput, Oom>
+    requires limits { AreLimits limits }
+    requires workers { (0 < workers) × (workers ≤ 64) }
+    requires within { IsWithin most_bytes input.now }
+    ensures { IfOk result (λ given. (all : List ℕ) → IsReadOf all input.now
+        → (IsRefused all given.output.status given.output.text.items × (given.closed ≡ None))
+        ⊎ ((start : Start) × IsStartOfText limits all start
+        × IsRunGiven Told.Report start given.output.status given.output.text.items given.closed)) }
+{
+    match script_of(alloc, input) {
+        Ok(script) => run_by_workers(rt, alloc, &script, limits, Told::Report, workers, gate),
+        Err(fault) => Ok(ClosedOutput {
+            output: refused(alloc, fault)?,
+            closed: None,
+        }),
+    }
+}
+
+/// The summary of a run of the generated script of this size.
+pub fn summary_by_workers<G: Gate, R: Wait + Threads + Sync>(
+    rt: &R,
+    alloc: Global,
+    size: u32,
+    limits: Limits,
+    workers: u32,
+    gate: &G,
+) -> Result<ClosedOutput, Oom>
+    requires size { (0 < size) × (size ≤ 4000) }
+    requires limits { AreLimits limits }
+    requires workers { (0 < workers) × (workers ≤ 64) }
+    ensures { IfOk result (λ given. (start : Start)
+        × IsStartOfText limits (script_text size) start
+        × IsRunGiven (Told.Summary size) start given.output.status given.output.text.items
+        given.closed) }
+{
+    generated_text_is_a_script();
+    let text = gen_script(alloc, size)?;
+    match script_in(alloc, text.as_slice()) {
+        Ok(script) => {
+            run_by_workers(
+                rt,
+                alloc,
+                &script,
+                limits,
+                Told::Summary(size),
+                workers,
+                gate,
+            )
+        }
+        // The generated text has no fault, so this is want of memory.
+        Err(fault) => Ok(ClosedOutput {
+            output: refused(alloc, fault)?,
+            closed: None,
+        }),
+    }
+}
+
+/// A run of the script, as it is told, or that it is full.
+fn run_by_workers<G: Gate, R: Wait + Threads + Sync>(
+    rt: &R,
+    alloc: Global,
+    script: &Script,
+    limits: Limits,
+    told: Told,
+    workers: u32,
+    gate: &G,
+) -> Result<ClosedOutput, Oom>
+    requires limits { AreLimits limits }
+    requires workers { (0 < workers) × (workers ≤ 64) }
+    requires script { IsSomeScript (view.script script.now) }
+    ensures { IfOk result (λ given. (start : Start)
+        × IsStartOf limits (view.script script.now) start
+        × IsRunGiven told start given.output.status given.output.text.items given.closed) }
+{
+    let Limits {
+        cells,
+        steps,
+        strict,
+    } = limits;
+    let root = main_body(alloc, script, steps)?;
+    match run_all::<ScriptBody<'_>, StealPool, G, R>(
+        rt, alloc, root, cells, workers, gate, strict,
+    ) {
+        Ok(rest) => ended_at_rest(alloc, rest, told),
+        Err(RunFault::Full) => Ok(ClosedOutput {
+            output: full(alloc, cells)?,
+            closed: None,
+        }),
+        Err(RunFault::Oom) => Err(Oom),
+    }
+}
+
+/// The outcome of a table at rest, as it is told, and the table's closed words.
+fn ended_at_rest(
+    alloc: Global,
+    rest: RestWords<ScriptBody<'_>>,
+    told: Told,
+) -> Result<ClosedOutput, Oom>
+    requires { RestsAt script_program rest.root rest.limit rest.strict rest }
+    ensures { IfOk result (λ given. IsRunGiven told
+        (start_of rest.entry.strict rest.entry.limit rest.entry.root)
+        given.output.status given.output.text.items given.closed) }
+{
+    let outcome = outcome_of(alloc, &rest)?;
+    let output = ended(alloc, told, &outcome)?;
+    Ok(ClosedOutput {
+        output,
+        closed: Some(rest.into_closed()),
+    })
+}

@@ -1,0 +1,89 @@
+//! What tests alone show of the workers: that two of them enter the gate beside each other, and what
+//! the closed words of a run look like.
+use crate::row_tests::{FIB_OF_3, FIB_OF_3_REPORT, JOIN_EACH_OTHER, answered};
+use crate::status::Status;
+use std::sync::atomic::{AtomicBool, Ordering};
+use std::test::Fail;
+use tj_base::CellId;
+use tj_ports::{Gate, OpenGate};
+use tj_words::{Closed, Phase, Walk};
+
+// How often a worker looks for the other one before it gives up.
+const LOOKS: u32 = 1_000_000_000;
+
+/// A gate that holds one of two workers in its first turn until the other one has entered.
+#[derive(Drop)]
+struct MeetingGate {
+    held: u32,
+    held_entered: AtomicBool,
+    other_entered: AtomicBool,
+    gave_up: AtomicBool,
+}
+
+impl MeetingGate {
+    fn holding(worker: u32) -> MeetingGate {
+        MeetingGate {
+            held: worker,
+            held_entered: AtomicBool::new(false),
+            other_entered: AtomicBool::new(false),
+            gave_up: AtomicBool::new(false),
+        }
+    }
+}
+
+impl Gate for MeetingGate {
+    fn enter(&self, worker: u32, turn: u64) {
+        if worker != self.held {
+            self.other_entered.store(true, Ordering::SeqCst);
+        } else if turn == 1 {
+            self.held_entered.store(true, Ordering::SeqCst);
+            for _look in 0..LOOKS {
+                if self.other_entered.load(Ordering::SeqCst) {
+                    return;
+                }
+            }
+            self.gave_up.store(true, Ordering::SeqCst);
+        }
+    }
+}
+
+#[test]
+fn two_workers_enter_beside_each_other(rt: HostRuntime) -> Result<(), Fail> {
+    for worker in 1..=2 {
+        let gate = MeetingGate::holding(worker);
+        let (status, _closed, sink) = answered(&rt, "run --workers 2", FIB_OF_3, &gate)?;
+        assert_eq!(rt; status, Status::Clean, "{worker}");
+        assert_eq!(rt; sink.bytes(), FIB_OF_3_REPORT.as_bytes(), "{worker}");
+        assert!(rt; gate.held_entered.load(Ordering::SeqCst), "{worker}");
+        assert!(rt; gate.other_entered.load(Ordering::SeqCst), "{worker}");
+        assert!(rt; !gate.gave_up.load(Ordering::SeqCst), "{worker}");
+    }
+    Ok(())
+}
+
+/// Whether a task has alarmed.
+fn has_alarm(closed: &Closed) -> bool {
+    for c in 0..closed.drawn() {
+        if let Phase::Waiting(_, _, Walk::Alarmed) = closed.cell(CellId(c)).phase {
+            return true;
+        }
+    }
+    false
+}
+
+#[test]
+fn a_cycle_of_two_has_alarmed(rt: HostRuntime) -> Result<(), Fail> {
+    for line in ["run --workers 1", "run --workers 2", "run --workers 8"] {
+        let (_status, closed, _sink) = answered(&rt, line, JOIN_EACH_OTHER, &OpenGate)?;
+        let Some(closed) = closed else {
+            return Err(Fail::new("closed words are wanting"));
+        };
+        assert_eq!(rt; closed.drawn(), 2, "{line}");
+        assert!(rt; has_alarm(&closed), "{line}");
+    }
+    for line in ["plan", "list", "judge", "run --cells 1", "go"] {
+        let (_status, closed, _sink) = answered(&rt, line, JOIN_EACH_OTHER, &OpenGate)?;
+        assert!(rt; closed.is_none(), "{line}");
+    }
+    Ok(())
+}
