@@ -39,37 +39,44 @@ module _ (B : Type 0) where
   IsLoad T = (s t : State (Option (Rec B)) (View B)) (id i : ℕ) (m m' : SeatMe B) (st : Step (Option (Rec B)))
       → Makes id i (word s.words i) m m' s t → T st m (word s.words i) m' → LoadsOnly (contents_of s) (contents_of t)
 
-  -- the loads of COUNT and OWN that are no events, and that of PHASE
+  -- a load of COUNT that is no event
   abbrev pub CountCallsLoad : Type 0
   CountCallsLoad = (cells : ℕ) → IsLoad (plain_load (IsCount cells))
 
+  -- one of OWN
   abbrev pub OwnerCallsLoad : Type 0
   OwnerCallsLoad = (cells : ℕ) → IsLoad (plain_load (λ n. n ≤ cells))
 
+  -- one of PHASE
   abbrev pub PhaseCallsLoad : Type 0
   PhaseCallsLoad = (cells c : ℕ) → IsLoad (phase_load cells c)
 
-  -- those of LIVE, STOP, HEAD, NEXT and of words that are written once
+  -- a load of LIVE
   abbrev pub LiveCallsLoad : Type 0
   LiveCallsLoad = IsLoad live_load
 
+  -- of STOP
   abbrev pub StopCallsLoad : Type 0
   StopCallsLoad = (program : Bool → B → Program B) → IsLoad (stop_load program)
 
+  -- of a HEAD
   abbrev pub HeadCallsLoad : Type 0
   HeadCallsLoad = (program : Bool → B → Program B) (cells c : ℕ) → IsLoad (head_load program cells c)
 
+  -- of a NEXT
   abbrev pub NextCallsLoad : Type 0
   NextCallsLoad = (cells c : ℕ) → IsLoad (next_load cells c)
 
+  -- and of a word that is written once
   abbrev pub OnceCallsLoad : Type 0
   OnceCallsLoad = (program : Bool → B → Program B) (cells c : ℕ) (f : Once) → IsLoad (once_load program cells f c)
 
-  -- a push that finds another head, and an exchange of PHASE that finds another phase
+  -- a push that finds another head
   abbrev pub FailedPushesLoad : Type 0
   FailedPushesLoad = (program : Bool → B → Program B) (cells p : ℕ)
       → IsLoad (λ st m n m'. (n ≢ st.first) × push_exchange program cells p st m n m')
 
+  -- an exchange of PHASE that finds another phase
   abbrev pub FailedClaimsLoad : Type 0
   FailedClaimsLoad = (program : Bool → B → Program B) (cells t : ℕ)
       → IsLoad (λ st m n m'. (n ≢ st.first) × phase_swap program t cells st m n m')
@@ -80,10 +87,11 @@ module _ (B : Type 0) where
       (st : Step (Option (Rec B)))
       → Makes id i n m m' s t → T st m (word s.words i) m' → Change (contents_of s) (contents_of t)
 
-  -- LIVE up and down, where no record comes home
+  -- LIVE up, where no record comes home
   abbrev pub RaisesChangeLive : Type 0
   RaisesChangeLive = IsStore live_at (λ st m n m'. IfRecord (λ t r. ⊥) m.1 × live_add st m n m') ChangesLive
 
+  -- LIVE down, where no record comes home
   abbrev pub LowersChangeLive : Type 0
   LowersChangeLive = IsStore live_at (λ st m n m'. IfRecord (λ t r. ⊥) m.1 × live_sub st m n m') ChangesLive
 
@@ -91,11 +99,12 @@ module _ (B : Type 0) where
   abbrev pub StopsChangeStop : Type 0
   StopsChangeStop = IsStore stop_at stop_store ChangesStop
 
-  -- a push that succeeds, and a shut
+  -- a push that succeeds
   abbrev pub PushesChangeHead : Type 0
   PushesChangeHead = (program : Bool → B → Program B) (cells p : ℕ)
       → IsStore (head_at p) (λ st m n m'. (n ≡ st.first) × push_exchange program cells p st m n m') ChangesHead
 
+  -- a shut
   abbrev pub ShutsChangeHead : Type 0
   ShutsChangeHead = (cells p : ℕ) → IsStore (head_at p) (shut_swap cells p) ChangesHead
 
@@ -107,14 +116,17 @@ module _ (B : Type 0) where
   abbrev pub WritesOnce : Contents B → Contents B → Type 0
   WritesOnce x y = StoresOnce x y × ((cells : ℕ) → KeepsCells cells x y)
 
+  -- the store of a word of the tree, by the seat that has the cell in hand
   abbrev pub TreeWordsStoreOnce : Type 0
   TreeWordsStoreOnce = (c : ℕ) (f : Once)
       → IsStore (once_at c f) (λ st m n m'. MayWrite c f st.first m.0 × word_store c f st m n m') WritesOnce
 
+  -- the store of BITS
   abbrev pub BitsStoreOnce : Type 0
   BitsStoreOnce = (program : Bool → B → Program B) (c : ℕ) → IsStore (once_at c once.Bits)
       (λ st m n m'. MayPutBits program c st.first m.0 × bits_store program c st m n m') WritesOnce
 
+  -- the store of TAG
   abbrev pub TagsStoreOnce : Type 0
   TagsStoreOnce = (c : ℕ) → IsStore (once_at c once.Tag)
       (λ st m n m'. MayPutTag c st.first m.0 × tag_store c st m n m') WritesOnce

@@ -83,6 +83,7 @@ module _ {B : Type 0} where
   abbrev pub MayReadTree : ℕ → View B → Type 0
   MayReadTree c v = (c ≡ 0) ⊎ (IsIn c v.known ⊎ IsNamedBy c v.seen)
 
+  -- when a seat may load a word that is written once: TAG and BITS always
   abbrev pub MayRead : Once → ℕ → View B → Type 0
   MayRead once.Tag c v = Unit {0}
   MayRead once.Bits c v = Unit {0}
@@ -141,6 +142,7 @@ module _ {B : Type 0} where
   SeesOnce program cells once.Depth c n v w = FindsWord cells once.Depth c n v w
   SeesOnce program cells once.Jump c n v w = FindsWord cells once.Jump c n v w
 
+  -- the load of a word that is written once
   abbrev pub once_load : (Bool → B → Program B) → ℕ → Once → ℕ → Tells B
   once_load program cells f c st m n m' = (m'.1 ≡ m.1) × SeesOnce program cells f c n m.0 m'.0
 
@@ -166,6 +168,7 @@ module _ {B : Type 0} where
     pub grown : All (λ (f : Found). f.cell ≡ c → (more : List ℕ) × (chain ≡ more ++ f.chain)) v.found
     pub view : w ≡ found_chain c chain v
 
+  -- the load of a HEAD
   abbrev pub head_load : (Bool → B → Program B) → ℕ → ℕ → Tells B
   head_load program cells c st m n m' = (m'.1 ≡ m.1) × (n ≤ shut_word)
       × (head_in n ≡ Shut → FindsShut program cells c m.0 m'.0)
@@ -175,5 +178,6 @@ module _ {B : Type 0} where
   abbrev pub NextTold : ℕ → Head → View B → Type 0
   NextTold t h v = (r : Rest) (ts : List ℕ) → v.rest ≡ Some r → r.tasks ≡ t ∷ ts → h ≡ head_of ts
 
+  -- the load of a NEXT
   abbrev pub next_load : ℕ → ℕ → Tells B
   next_load cells t st m n m' = (m'.1 ≡ m.1) × (m'.0 ≡ stepped_on m.0) × (n ≤ cells) × NextTold t (head_in n) m.0
