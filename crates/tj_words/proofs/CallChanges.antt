@@ -21,7 +21,7 @@ use Rattle.tj_words.specs.Offsets.{word, count_at, live_at, stop_at, head_at, ne
 use Rattle.tj_words.specs.Heads.{head_in}
 use Rattle.tj_words.specs.Hands.{hand_in, making, IsThere}
 use Rattle.tj_words.specs.Holding.{find_in, home_in, made_by}
-use Rattle.tj_words.specs.Contents.{WordsSay, Contents, words_say, seats_have, contents_of, drawn_in, hand_of, made_of}
+use Rattle.tj_words.specs.Contents.{WordsSay, Contents, words_say, seats_have, contents_of, drawn_in, hand_of}
 use Rattle.tj_words.specs.SeatSteps.{SeatMe, live_load}
 use Rattle.tj_words.specs.SeenWords.{head_load, SeesOnce}
 use Rattle.tj_words.specs.ChainSteps.{push_exchange, shut_swap}
@@ -29,9 +29,11 @@ use Rattle.tj_words.specs.DrawViews.{draw_step}
 use Rattle.tj_words.specs.LiveViews.{IfRecord, SlotsOf, raised_with, lowered_with}
 use Rattle.tj_words.specs.Views.{IsIdle, both, left_half, right_half, spent}
 use Rattle.tj_words.specs.QuietSteps.{KeepsHoldings, LoadsOnly, StoresOnce, ChangesLive, ChangesStop, ChangesHead}
-use Rattle.tj_words.specs.QuietSteps.{ChangesNext, DrawIsRefused, SplitsSeat}
+use Rattle.tj_words.specs.QuietSteps.{ChangesNext, DrawIsRefused}
 use Rattle.tj_words.specs.OneStates.{KeepsCells}
-use Rattle.tj_words.specs.CallSteps.{Makes, WritesOnce}
+use Rattle.tj_words.specs.CallSteps.{Makes, Splits, WritesOnce}
+use Rattle.tj_words.proofs.Appending.{find_snoc, hand_snoc, making_snoc}
+use Rattle.tj_words.proofs.KeptCells.{kept}
 use Rattle.tj_words.proofs.ChainsSaid.{shut_or}
 use Rattle.tj_words.proofs.HeldTasks.{hand_finds, none_some}
 use Rattle.tj_words.proofs.SeatLists.{same_field, words_same}
@@ -176,17 +178,8 @@ module _ {B : Type 0} where
       → ((c : ℕ) → IsThere (drawn_in cells x) (hand_of x) c
       → (y.words.once c once.Parent ≡ x.words.once c once.Parent) × (y.words.once c once.Kid ≡ x.words.once c once.Kid))
       → KeepsCells cells x y
-  keeps_cells cells x y k once = record {
-    there = λ c i. let w = once c i in record { out = same_hand c ∙ i.1; parent_is = w.0; kid_is = w.1 };
-    hands = λ c h e.
-        inl (record { hand = h; in_hand = same_hand c ∙ e; maker_is = refl; made_is = same_made h.maker });
-  }
-    where
-      same_hand : (c : ℕ) → hand_of y c ≡ hand_of x c
-      same_hand c = ap (λ l. hand_in l c) k.hands
-
-      same_made : (c : ℕ) → made_of y c ≡ made_of x c
-      same_made c j = made_by (find_in (k.tasks j) c) (home_in (k.slots j) c) + making (k.hands j) c
+  keeps_cells cells x y k once = kept cells x y (λ c. ap (λ l. hand_in l c) k.hands)
+      (λ c j. made_by (find_in (k.tasks j) c) (home_in (k.slots j) c) + making (k.hands j) c) once
 
   -- a store of a word that is written once
   module _ (c : ℕ) (f : Once) (s t : State (Option (Rec B)) (View B)) (id n : ℕ) (m m' : SeatMe B)
@@ -239,23 +232,37 @@ module _ {B : Type 0} where
 
   -- a split, and a merge
   pub split_splits : (s : State (Option (Rec B)) (View B)) (id : ℕ) (v : View B) → get_elem? s.views id ≡ some v
-      → SplitsSeat (contents_of s) (contents_of (record {
+      → Splits B (contents_of s) (contents_of (record {
         words = s.words;
         homes = s.homes;
         views = set s.views id (left_half v) ++ right_half v ∷ [];
       }))
-  split_splits s id v at = record {
-    words = refl;
-    slots = refl;
-    hands = more (λ (u : View B). u.hand) refl;
-    tasks = more (λ (u : View B). u.tasks) refl;
-    cleared = more (λ (u : View B). u.cleared) refl;
-  }
+  split_splits s id v at = (
+    record { words = refl; slots = refl; hands = hands; tasks = tasks; cleared = more (λ (u : View B). u.cleared) refl },
+    (λ cells. kept cells (contents_of s) (contents_of (record {
+      words = s.words;
+      homes = s.homes;
+      views = set s.views id (left_half v) ++ right_half v ∷ [];
+    }))
+        (λ c. ap (λ l. hand_in l c) hands ∙ hand_snoc (seats_have s.views).hands c)
+        (λ c. (λ j. made_by (find_in (tasks j) c) (home_in s.homes c) + making (hands j) c)
+        ∙ (λ j. made_by (find_snoc (seats_have s.views).tasks c j) (home_in s.homes c)
+        + making_snoc (seats_have s.views).hands c j))
+        (λ c i. (refl, refl))),
+  )
     where
       more : {A : Type 0} (f : View B → A) → f (left_half v) ≡ f v
           → map f (set s.views id (left_half v) ++ right_half v ∷ []) ≡ map f s.views ++ f (right_half v) ∷ []
       more f e = map-append f (set s.views id (left_half v)) (right_half v ∷ [])
           ∙ ap (λ l. l ++ f (right_half v) ∷ []) (same_field f s.views id v (left_half v) at e)
+
+      hands : map (λ (u : View B). u.hand) (set s.views id (left_half v) ++ right_half v ∷ [])
+          ≡ (seats_have s.views).hands ++ None ∷ []
+      hands = more (λ (u : View B). u.hand) refl
+
+      tasks : map (λ (u : View B). u.tasks) (set s.views id (left_half v) ++ right_half v ∷ [])
+          ≡ (seats_have s.views).tasks ++ [] ∷ []
+      tasks = more (λ (u : View B). u.tasks) refl
 
   pub merge_merges : (s : State (Option (Rec B)) (View B)) (id other : ℕ) (v w : View B)
       → get_elem? s.views id ≡ some v → get_elem? (set s.views id (both v w)) other ≡ some w → IsIdle w

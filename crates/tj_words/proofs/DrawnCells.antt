@@ -42,6 +42,7 @@ use Rattle.tj_words.specs.OnceWords.{OnceWords}
 use Rattle.tj_words.specs.Hands.{Hands}
 use Rattle.tj_words.specs.Contents.{Contents, drawn_in, hand_of, held_of, home_of, owned_of, made_of}
 use Rattle.tj_words.specs.Law.{Law}
+use Rattle.tj_words.specs.WalkSteps.{KeepsOthers}
 use Rattle.tj_words.specs.DrawViews.{runs_on, new_hand, new_task, new_tasks, new_dues}
 use Rattle.tj_words.proofs.HeldTasks.{none_some, one_some}
 use Rattle.tj_words.proofs.SeatLists.{inside, of_seat_here, of_seat_set}
@@ -215,11 +216,18 @@ module _ {B : Type 0} {program : Program B} {cells : ℕ} {x : Contents B} (r : 
       nothing None e = refl
       nothing (Some q) e = ap (λ (z : Custody B). z.owned) (new_here o q (sym found_new ∙ e))
 
+  -- contents in which the seat has the new cell: it is drawn
+  pub draws_in : (y : Contents B) → y.seats.tasks ≡ tasks' → y.words.phase ≡ x.words.phase
+      → y.slots ≡ slots_after n o x.slots → KeepsOthers cells x y → y.words.count ≡ suc x.words.count
+      → y.seats.hands ≡ hands' → y.words.own ≡ x.words.own
+      → DrawsCell cells x y id t h
+  draws_in y tasks phase slots keeps count hands own = draws_cell r y id t h ks drawn_list k (runs_on k) at held
+      maker_now refl tasks phase (ap (λ l. home_in l) slots ∙ homes_same) keeps may result refl refl refl free other_now
+      (λ q e. ap (λ (z : Custody B). z.made) (new_here o q e)) left count hands own
+
   -- the draw, as an event
   draws : (l : List ℕ) (w f : List Filled) → DrawsCell cells x (drawn_contents l w f) id t h
-  draws l w f = draws_cell r (drawn_contents l w f) id t h ks drawn_list k (runs_on k) at held maker_now refl refl refl
-      homes_same (record { others = refl; cleared = refl }) may result refl refl refl free other_now
-      (λ q e. ap (λ (z : Custody B). z.made) (new_here o q e)) left refl refl refl
+  draws l w f = draws_in (drawn_contents l w f) refl refl refl (record { others = refl; cleared = refl }) refl refl refl
 
   word_due : (f : Once) → IsOfTree f
       → IsDue n f (new_dues n o) ⊎ ((o ≡ sort.Promise) × ((f ≡ once.Depth) ⊎ (f ≡ once.Jump)))

@@ -1,5 +1,5 @@
 -- The first store of OWN of a cell in hand keeps the law: the cell leaves the hand and is there.
-use Rattle.std.proofs.Common.{◌≡◌, ◌≢◌, ◌⊎◌, ◌↔◌, ℕ, suc, ◌<◌, ◌+◌, Bool, true, false, List, [], ◌∷◌, ◌++◌, length}
+use Rattle.std.proofs.Common.{◌≡◌, ◌≢◌, ◌⊎◌, ◌↔◌, ℕ, zero, suc, ◌<◌, ◌+◌, Bool, true, false, List, [], ◌∷◌, ◌++◌, length}
 use Rattle.std.proofs.Common.{set, Option, Some, None, refl, sym, ap, ◌∙◌, subst, inl, inr, ⊎_elim, arith}
 use mathlib.Core.Option.{some, some-injective}
 use mathlib.Core.Logic.{dite}
@@ -15,6 +15,7 @@ use Rattle.tj_body.specs.Programs.{Program}
 use Rattle.tj_body.specs.declared.point.Reference.{Reference}
 use Rattle.tj_body.proofs.Lists.{begins_self, in_left, in_right, in_either}
 use Rattle.tj_words.specs.declared.offsets.Once.{Once}
+use Rattle.tj_words.specs.declared.offsets.Once.TheVariants as once
 use Rattle.tj_words.specs.declared.record.Rec.{Rec}
 use Rattle.tj_words.specs.declared.table.Key.{Key}
 use Rattle.tj_words.specs.declared.view.Custody.{Custody}
@@ -26,10 +27,12 @@ use Rattle.tj_words.specs.Offsets.{own_at}
 use Rattle.tj_words.specs.Holding.{held_in, find_in, made_by, owned_by}
 use Rattle.tj_words.specs.Hands.{IsThere, hand_in, hand_phase, making, IsMarkedRight}
 use Rattle.tj_words.specs.LiveCount.{DoesRun, DoesWalk, HasAlarmed, Holds}
-use Rattle.tj_words.specs.TreeWords.{IsCell, IsOfTree, IsDue, tree_word}
+use Rattle.tj_words.specs.TreeWords.{IsCell, IsOfTree, IsDue, parent_word, tree_word}
+use Rattle.tj_words.specs.WalkSteps.{KeepsOthers}
+use Rattle.tj_words.specs.OneStates.{IsToldBy, KeepsCells}
 use Rattle.tj_words.specs.OnceWords.{HasInHand}
 use Rattle.tj_words.specs.Custodies.{OwnedLists}
-use Rattle.tj_words.specs.ShownState.{phase_sort, sort_shown, first_owner}
+use Rattle.tj_words.specs.ShownState.{phase_sort, sort_shown, first_owner, reference_of}
 use Rattle.tj_words.specs.OwnerSteps.{GivesOwner}
 use Rattle.tj_words.specs.TaskLists.{noted}
 use Rattle.tj_words.specs.Contents.{SeatsHave, words_say, seats_have, Contents, drawn_in, hand_of, home_of, owned_of}
@@ -44,6 +47,7 @@ use Rattle.tj_words.proofs.TaskPlaces.{held_here}
 use Rattle.tj_words.proofs.SeatContents.{set_seats, seats_same}
 use Rattle.tj_words.proofs.StoreSteps.{put_here, put_else, Stores}
 use Rattle.tj_words.proofs.StoredWords.{say_own, may_own}
+use Rattle.tj_words.proofs.CellFacts.{cell_born}
 use Rattle.tj_words.proofs.DrawnSeats.{gives_owner}
 use Rattle.tj_words.proofs.DrawEvents.{give_shown}
 use Rattle.tj_words.proofs.StepFacts.{facts_same}
@@ -398,12 +402,69 @@ module _ {B : Type 0} {program : Program B} {cells : ℕ} {x : Contents B} (r : 
             (λ q. subst (IsIn d) (owned_else u q) j))),
       )
 
+  -- contents in which the seats have that, and the cell its owner: the owner is given
+  module _ (y : Contents B) (tasks : y.seats.tasks ≡ tasks') (hands : y.seats.hands ≡ hands')
+      (home : home_of y ≡ home_of x) where
+    pub gives_in : y.words.phase ≡ x.words.phase → KeepsOthers cells x y → drawn_in cells y ≡ n
+        → y.words.own c ≡ Some o → ((d : ℕ) → d ≢ c → y.words.own d ≡ x.words.own d)
+        → GivesOwner cells x y id t c h
+    gives_in phase keeps drawn own owns = gives_owner r y id t h ks given_list maker_has.0 maker_now.0 at maker_has.1
+        maker_now.1 refl tasks phase home keeps c has refl
+        (λ e. (r.hands.each id h has).marked ∙ ap hand_phase (marked e)) maker_now.2 maker_now.3 other_same
+        ((λ j. made_by (find_in (tasks j) c) (home j c)) ∙ made_other c (λ e. t_other (sym e))) hands drawn own owns
+
+    given_made : (u : ℕ) → made_of y u ≡ made_of x u
+    given_made u = (λ j. made_by (find_in (tasks j) u) (home j u) + making (hands j) u) ∙ made_now u
+
+    hand_now : (d : ℕ) → hand_of y d ≡ hand' d
+    hand_now d = ap (λ l. hand_in l d) hands
+
+    -- makers and numbers of cells stay: those of the cell are in PARENT and KID
+    pub gives_keeps : y.words.once ≡ x.words.once → KeepsCells cells x y
+    gives_keeps words = record {
+      there = λ d i. record {
+        out = hand_now d ∙ (else_now d (there_other d i.1) ∙ i.1);
+        parent_is = ap (λ z. z d once.Parent) words;
+        kid_is = ap (λ z. z d once.Kid) words;
+      };
+      hands = λ d g e. dite (ℕ_discrete d c)
+          (λ q. inr (subst (λ z. IsToldBy y z (suc g.maker) (made_of x g.maker)) (sym q)
+          (subst (λ (z : Hand). IsToldBy y c (suc z.maker) (made_of x z.maker))
+          (one_some h g (sym here ∙ (ap (hand_of x) (sym q) ∙ e))) told)))
+          (λ z. inl (record {
+            hand = g;
+            in_hand = hand_now d ∙ (else_now d z ∙ e);
+            maker_is = refl;
+            made_is = given_made g.maker;
+          }));
+    }
+      where
+        b : (r.maker c ≡ t) × (r.number c ≡ made_of x t)
+        b = r.births.in_hand c h here
+
+        reference : Reference
+        reference = reference_of r.born c
+
+        not_root : c ≢ 0
+        not_root e = let a : r.number c ≡ 0 = ap r.number e ∙ r.births.root_number in let d = b.1 in
+            let g : making x.seats.hands t ≡ 1 = makes_one x.seats.hands id h has in omega arith
+
+        names_maker : (d p : ℕ) → d ≢ 0 → parent_word d p ≡ suc p
+        names_maker zero p e = absurd (e refl)
+        names_maker (suc d) p e = refl
+
+        told : IsToldBy y c (suc t) (made_of x t)
+        told = record {
+          out = hand_now c ∙ here_now;
+          parent_is = ap (λ z. z c once.Parent) words ∙ (word_right reference once.Parent (cell_born r c drawn) tt
+              ∙ (names_maker c (r.maker c) not_root ∙ ap suc b.0));
+          kid_is = ap (λ z. z c once.Kid) words ∙ (word_right reference once.Kid (cell_born r c drawn) tt ∙ b.1);
+        }
+
   -- the step shows nothing
   gives : (l : List ℕ) → GivesOwner cells x (given_contents l) id t c h
-  gives l = gives_owner r (given_contents l) id t h ks given_list maker_has.0 maker_now.0 at maker_has.1 maker_now.1
-      refl refl refl refl (record { others = refl; cleared = refl }) c has refl
-      (λ e. (r.hands.each id h has).marked ∙ ap hand_phase (marked e)) maker_now.2 maker_now.3 other_same
-      (made_other c (λ e. t_other (sym e))) refl refl own_here own_else
+  gives l = gives_in (given_contents l) refl refl refl refl (record { others = refl; cleared = refl }) refl own_here
+      own_else
 
   does_in : (k : Custody B) → IsIn k given_list → (q : Custody B) × IsIn q ks × (k.does ≡ q.does)
   does_in k i = ⊎_elim (λ (j : IsIn k made_list). in_made k j)

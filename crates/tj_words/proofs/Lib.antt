@@ -106,3 +106,10 @@ pub mod HomeComings
 mod OneStates
 mod CallChanges
 mod EventCalls
+mod KeptCells
+mod StepParts
+mod TaskCalls
+mod TakenTasks
+mod OwnerCalls
+mod HandCalls
+mod DrawCalls

@@ -15,6 +15,7 @@ use Rattle.tj_body.specs.Points.{IsIn}
 use Rattle.tj_body.specs.Programs.{Program}
 use Rattle.tj_body.proofs.Lists.{begins_self}
 use Rattle.tj_words.specs.declared.offsets.Once.{Once}
+use Rattle.tj_words.specs.declared.offsets.Once.TheVariants as once
 use Rattle.tj_words.specs.declared.phase.Phase.{Phase}
 use Rattle.tj_words.specs.declared.phase.Phase.TheVariants as phase
 use Rattle.tj_words.specs.declared.phase.Walk.{Walk}
@@ -36,7 +37,9 @@ use Rattle.tj_words.specs.RecordPhases.{IsRecordIn}
 use Rattle.tj_words.specs.ShownState.{sort_shown}
 use Rattle.tj_words.specs.QuietSteps.{MarksPromise}
 use Rattle.tj_words.specs.Contents.{SeatsHave, words_say, seats_have, Contents, drawn_in, hand_of, held_of, home_of}
-use Rattle.tj_words.specs.Contents.{owned_of, tag_in}
+use Rattle.tj_words.specs.Contents.{made_of, owned_of, tag_in}
+use Rattle.tj_words.specs.WalkSteps.{KeepsOthers}
+use Rattle.tj_words.specs.OneStates.{KeepsCells}
 use Rattle.tj_words.specs.Law.{Law, Rule}
 use Rattle.tj_words.specs.SeatSteps.{SeatMe}
 use Rattle.tj_words.specs.DrawViews.{MayMark, mark, marked_promise, mark_store}
@@ -164,6 +167,49 @@ module _ {B : Type 0} {program : Program B} {cells : ℕ} {x : Contents B} (r : 
       = sym (put_here x.words.phase c t phase.Promise q) ∙ e in absurd (cc))
       (λ n. sym (put_else x.words.phase c t phase.Promise n) ∙ e)
 
+  -- contents in which the hand is marked, and PHASE of its cell says so: the promise is marked
+  pub marks_in : (y : Contents B) → y.seats.hands ≡ hands' → held_of y ≡ held_of x → home_of y ≡ home_of x
+      → drawn_in cells y ≡ drawn_in cells x → y.words.own ≡ x.words.own
+      → ((d : ℕ) → d ≢ c → y.words.phase d ≡ x.words.phase d) → KeepsOthers cells x y
+      → MarksPromise cells x y c h h'
+  marks_in y hands held home drawn own phases keeps = record {
+    in_hand = here;
+    marked = ap (λ l. hand_in l c) hands ∙ here_now;
+    same_hand = (refl, refl, refl);
+    others = record {
+      drawn = drawn;
+      hands = λ d n. ap (λ l. hand_in l d) hands ∙ else_now d n;
+      making = (λ j t. making (hands j) t) ∙ (λ j t. making_same t j);
+      own = own;
+      phases = phases;
+      held = held;
+      home = home;
+      others = keeps.others;
+      cleared = keeps.cleared;
+    };
+  }
+
+  -- and makers and numbers of cells stay, where no word is changed that is written once
+  pub marks_keep : (y : Contents B) → MarksPromise cells x y c h h' → y.words.once ≡ x.words.once → KeepsCells cells x y
+  marks_keep y m words = record {
+    there = λ d i. record {
+      out = m.others.hands d (λ e. none_some (hand_of x d) h i.1 (ap (hand_of x) e ∙ here)) ∙ i.1;
+      parent_is = ap (λ z. z d once.Parent) words;
+      kid_is = ap (λ z. z d once.Kid) words;
+    };
+    hands = λ d g e. inl (dite (ℕ_discrete d c)
+        (λ q. record {
+          hand = h';
+          in_hand = ap (hand_of y) q ∙ m.marked;
+          maker_is = ap (λ (z : Hand). z.maker) (one_some h g (sym here ∙ (ap (hand_of x) (sym q) ∙ e)));
+          made_is = same g.maker;
+        })
+        (λ n. record { hand = g; in_hand = m.others.hands d n ∙ e; maker_is = refl; made_is = same g.maker }));
+  }
+    where
+      same : (t : ℕ) → made_of y t ≡ made_of x t
+      same t = λ j. made_by (m.others.held j t) (m.others.home j t) + m.others.making j t
+
   pub law_marked : (ks : List (Custody B)) (l : List ℕ) → get_elem? x.seats.tasks id ≡ some ks
       → get_elem? x.seats.known id ≡ some l
       → c < cells
@@ -228,22 +274,8 @@ module _ {B : Type 0} {program : Program B} {cells : ℕ} {x : Contents B} (r : 
       owned_same t = ap (λ o. owned_by o (home_of x t)) (held_same t)
 
       marks : MarksPromise cells x (marked_contents ks l) c h h'
-      marks = record {
-        in_hand = here;
-        marked = here_now;
-        same_hand = (refl, refl, refl);
-        others = record {
-          drawn = refl;
-          hands = else_now;
-          making = λ j t. making_same t j;
-          own = refl;
-          phases = λ d n. put_else x.words.phase c d phase.Promise n;
-          held = λ j t. held_same t j;
-          home = refl;
-          others = refl;
-          cleared = refl;
-        };
-      }
+      marks = marks_in (marked_contents ks l) refl (λ j t. held_same t j) refl refl refl
+          (λ d n. put_else x.words.phase c d phase.Promise n) (record { others = refl; cleared = refl })
 
 module _ {B : Type 0} (program : Bool → B → Program B) (key : Key B) where
   abbrev P : Program B

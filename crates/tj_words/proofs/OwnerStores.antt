@@ -46,6 +46,24 @@ use Rattle.tj_words.proofs.GivenCells.{give_stores}
 use Rattle.tj_words.proofs.ClosedCells.{law_closed}
 use Rattle.tj_words.proofs.HandedPromises.{law_handed}
 
+module _ {B : Type 0} where
+  -- a task that acts isn't unborn
+  pub unborn_other : (v : View B) (c u : ℕ) (m : MayHand c u v) → u ≢ m.task
+  unborn_other v c u m e = by m.owner.custody.does (ap (λ (z : Custody B). z.does)
+      (one_some m.owner.custody m.child (sym m.owner.held ∙ (ap (held_in v.tasks) (sym e) ∙ m.child_held))) ∙ m.unborn)
+      m.owner.may
+    where
+      by : (d : Does) → d ≡ does.Unborn → MayAct d → ⊥
+      by d q a = subst MayAct q a
+
+  -- the view between: the owner has given the cell up
+  abbrev pub gave_view : ℕ → ℕ → View B → View B
+  gave_view t c v = record v { tasks = noted t (gave_up c) v.tasks }
+
+  pub gave_child : (v : View B) (c u : ℕ) (m : MayHand c u v) → held_in (gave_view m.task c v).tasks u ≡ Some m.child
+  gave_child v c u m =
+      noted_else v.tasks m.task m.owner.custody (gave_up c) m.owner.held refl u (unborn_other v c u m) ∙ m.child_held
+
 module _ {B : Type 0} (program : Bool → B → Program B) (key : Key B) (events : EventKeepsFacts) where
   abbrev P : Program B
   P = program key.strict key.root.value
@@ -112,23 +130,6 @@ module _ {B : Type 0} (program : Bool → B → Program B) (key : Key B) (events
             (λ e. ((m.last e).0, at_map (λ (u : View B). u.hand) s.views id v at ∙ ap some (m.last e).1))
             v.dues dues)));
       }
-
-  -- a task that acts isn't unborn
-  unborn_other : (v : View B) (c u : ℕ) (m : MayHand c u v) → u ≢ m.task
-  unborn_other v c u m e = by m.owner.custody.does (ap (λ (z : Custody B). z.does)
-      (one_some m.owner.custody m.child (sym m.owner.held ∙ (ap (held_in v.tasks) (sym e) ∙ m.child_held))) ∙ m.unborn)
-      m.owner.may
-    where
-      by : (d : Does) → d ≡ does.Unborn → MayAct d → ⊥
-      by d q a = subst MayAct q a
-
-  -- the view between: the owner has given the cell up
-  abbrev gave_view : ℕ → ℕ → View B → View B
-  gave_view t c v = record v { tasks = noted t (gave_up c) v.tasks }
-
-  gave_child : (v : View B) (c u : ℕ) (m : MayHand c u v) → held_in (gave_view m.task c v).tasks u ≡ Some m.child
-  gave_child v c u m =
-      noted_else v.tasks m.task m.owner.custody (gave_up c) m.owner.held refl u (unborn_other v c u m) ∙ m.child_held
 
   -- the seat that hands a promise is backed
   handed_backing : (v : View B) (c u : ℕ) (m : MayHand c u v) → Backing v → Backing (handed_promise m.task c u v)

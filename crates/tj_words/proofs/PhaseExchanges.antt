@@ -632,6 +632,20 @@ module _ {B : Type 0} (program : Bool → B → Program B) (key : Key B) (s : St
             (λ z h. woken_fits (tag_in x) z (cell p) way walk.Parked tagged h))
             law.meaning facts
 
+-- something has become of the cell of which a task is woken, or goes back from
+module _ {B : Type 0} (program : Bool → B → Program B) (key : Key B) (s : State (Option (Rec B)) (View B))
+    (r : Rule program key s) (id t p : ℕ) (way : Way) (v : View B) (at : get_elem? s.views id ≡ some v) where
+  pub rest_is : (h : MayWake t p way v)
+      → IsRest (words_say s.words).head (words_say s.words).phase r.law.chains.line r.law.chains.taker id h.rest
+  rest_is h = r.law.chains.rest id v.rest (at_map (λ (u : View B). u.rest) s.views id v at) h.rest h.has
+
+  pub wake_tagged : MayWake t p way v → tag_in (contents_of s) p ≢ 0
+  wake_tagged h = r.law.chains.tagged p (ap (words_say s.words).head (sym h.cell) ∙ (rest_is h).is_shut)
+
+  pub back_tagged : MayGoBack t p way v → tag_in (contents_of s) p ≢ 0
+  back_tagged h = r.law.chains.tagged p
+      (r.law.chains.stays_shut id v.closed (at_map (λ (u : View B). u.closed) s.views id v at) p h.shut)
+
 -- an exchange of PHASE keeps the rule
 module _ {B : Type 0} (program : Bool → B → Program B) (key : Key B) (keeps : EventKeepsFacts) where
   module _ (s : State (Option (Rec B)) (View B)) (r : Rule program key s) (id t : ℕ) (m : SeatMe B)
@@ -683,8 +697,7 @@ module _ {B : Type 0} (program : Bool → B → Program B) (key : Key B) (keeps 
             ∙ (is.parked ∙ (λ j. parked_phase (h.cell j) (h.its_way j)))
 
         tagged : tag_in (contents_of s) p ≢ 0
-        tagged = r.law.chains.tagged p
-            (r.law.chains.stays_shut id m.0.closed (at_map (λ (u : View B). u.closed) s.views id m.0 at) p h.shut)
+        tagged = back_tagged program key s r id t p way m.0 at h
 
     wake : (p : ℕ) (way : Way) → MayWake t p way m.0
         → (stand ≡ parked_phase p way) × Acts program key s id m (phase_at t) (phase_word phase.Ready)
@@ -707,14 +720,14 @@ module _ {B : Type 0} (program : Bool → B → Program B) (key : Key B) (keeps 
     )
       where
         is : IsRest (words_say s.words).head (words_say s.words).phase r.law.chains.line r.law.chains.taker id h.rest
-        is = r.law.chains.rest id m.0.rest (at_map (λ (u : View B). u.rest) s.views id m.0 at) h.rest h.has
+        is = rest_is program key s r id t p way m.0 at h
 
         stands : stand ≡ parked_phase p way
         stands = subst (λ l. IsFirstIn (words_say s.words).phase l (parked_phase h.rest.cell way)) h.first
             (is.read way h.read) ∙ ap (λ k. parked_phase k way) h.cell
 
         tagged : tag_in (contents_of s) p ≢ 0
-        tagged = r.law.chains.tagged p (ap (words_say s.words).head (sym h.cell) ∙ is.is_shut)
+        tagged = wake_tagged program key s r id t p way m.0 at h
 
   pub swap_allowed : (slots id : ℕ) (m : SeatMe B) (cells c t i old new : ℕ) (was to : Phase) → cells ≡ key.cells
       → c ≡ t → t < key.cells → i ≡ phase_at t → old ≡ phase_word was → phase_in old ≡ was → new ≡ phase_word to

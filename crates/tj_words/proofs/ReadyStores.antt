@@ -69,7 +69,7 @@ module _ {B : Type 0} (program : Bool → B → Program B) (key : Key B) (s : St
     abbrev has : IsHeldWith x id t k
     has = (v.tasks, tasks_here, h.held)
 
-    laid : IsLaid k (home_of x t) c
+    pub laid : IsLaid k (home_of x t) c
     laid = (custody r.law id t k has).laid c h.home
 
     was : x.words.phase t ≡ phase.Unborn
@@ -81,10 +81,10 @@ module _ {B : Type 0} (program : Bool → B → Program B) (key : Key B) (s : St
     its : c.cell.0 ≡ t
     its = r.law.custody.own_slots t c laid.here
 
-    here : IsThere (drawn_in key.cells x) (hand_of x) t
+    pub here : IsThere (drawn_in key.cells x) (hand_of x) t
     here = subst (IsThere (drawn_in key.cells x) (hand_of x)) its (there c.cell.0 (inl refl))
 
-    at_start : IsRecordIn (tag_in x) phase.Unborn c
+    pub at_start : IsRecordIn (tag_in x) phase.Unborn c
     at_start = subst (λ p. IsRecordIn (tag_in x) p c) was (r.law.records_fit t c laid.here)
 
     abbrev readied : ℕ → Phase

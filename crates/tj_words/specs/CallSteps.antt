@@ -3,7 +3,7 @@
 use Rattle.std.specs.Prelude.{◌≡◌, ◌≢◌, ℕ, suc, ◌<◌, ◌≤◌, Bool, [], ◌∷◌, ◌++◌, length, set, Option}
 use mathlib.Core.Option.{some}
 use lib.ListN.{get_elem?}
-use Rattle.atomic_table.specs.Table.{State, Step, stepped, keeps}
+use Rattle.atomic_table.specs.Table.{State, Step, Act, Valid, carried_after, stepped, keeps}
 use Rattle.tj_base.specs.declared.cell.Sort.{Sort}
 use Rattle.tj_body.specs.Programs.{Program}
 use Rattle.tj_words.specs.declared.offsets.Once.{Once}
@@ -32,6 +32,15 @@ module _ {B : Type 0} where
     pub at : get_elem? s.views id ≡ some m.0
     pub inside : i < length s.words
     pub after : t ≡ stepped s i n id m.1 m'.0 keeps
+
+  -- seat id, which was m, stores n at word i, does this with the slots, and is m' from then on
+  pub record MakesWith (a : Act (Option (Rec B))) (id i n : ℕ) (m m' : SeatMe B)
+      (s t : State (Option (Rec B)) (View B)) : Type 0 where
+    pub at : get_elem? s.views id ≡ some m.0
+    pub inside : i < length s.words
+    pub may : Valid s.homes m.1 a
+    pub after : t ≡ stepped s i n id m.1 m'.0 a
+    pub slots : m'.1 ≡ carried_after m.1 a
 
 module _ (B : Type 0) where
   -- a step that stores what it found, and of which the play tells this, changes nothing but what its seat knows
@@ -139,10 +148,14 @@ module _ (B : Type 0) where
       → draw_step program cells t o st m (word a.words count_at) m'
       → DrawIsRefused (contents_of a) (contents_of b) cells
 
+  -- a seat is split, and makers and numbers of cells stay
+  abbrev pub Splits : Contents B → Contents B → Type 0
+  Splits x y = SplitsSeat x y × ((cells : ℕ) → KeepsCells cells x y)
+
   -- a split of seat id, which had the view v
   abbrev pub SplitCallsSplit : Type 0
   SplitCallsSplit = (s : State (Option (Rec B)) (View B)) (id : ℕ) (v : View B) → get_elem? s.views id ≡ some v
-      → SplitsSeat (contents_of s) (contents_of (record {
+      → Splits (contents_of s) (contents_of (record {
         words = s.words;
         homes = s.homes;
         views = set s.views id (left_half v) ++ right_half v ∷ [];

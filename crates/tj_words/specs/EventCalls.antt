@@ -1,5 +1,5 @@
 -- That the calls on OTHERS, the loads of a walker, and the stores of Walking and Alarmed change what the law of steps
--- says, by what each tells of its seat. The table is under its rule.
+-- says, and leave makers and numbers of cells, by what each tells of its seat. The table is under its rule.
 use Rattle.std.specs.Prelude.{◌≡◌, ℕ, suc, ◌-◌, ◌<◌, ◌≤◌, ◌^◌, min, Bool, List, Option, Some}
 use Rattle.atomic_table.specs.Table.{State, Step}
 use Rattle.tj_body.specs.Programs.{Program}
@@ -27,8 +27,13 @@ use Rattle.tj_words.specs.WalkViews.{walk_load}
 use Rattle.tj_words.specs.WalkSteps.{RaisesOthers, LowersOthers, ReadsOthers, ReadsCount, ReadsOwner, ReadsWait}
 use Rattle.tj_words.specs.WalkSteps.{ReadsAgain, PublishesWait, StoresAlarm}
 use Rattle.tj_words.specs.CallSteps.{Makes}
+use Rattle.tj_words.specs.OneStates.{KeepsCells}
 use Rattle.tj_words.specs.Lists.{cell}
 use Rattle.tj_words.specs.WaitViews.{MayPublishWait, MayStoreAlarm, wait_store}
+
+-- the contents are changed so, and makers and numbers of the cells stay
+abbrev pub Keeping : {B : Type 0} → ℕ → Contents B → Contents B → Type 0 → Type 0
+Keeping cells x y Change = Change × KeepsCells cells x y
 
 module _ (B : Type 0) where
   -- a call of seat id on word i of a table under its rule, at which it finds k and stores f k, and of which the play
@@ -43,46 +48,46 @@ module _ (B : Type 0) where
   -- the add to OTHERS
   abbrev pub OthersUpRaises : Type 0
   OthersUpRaises = (t : ℕ) → OfCalls others_at suc (λ cells. others_add t) (λ cells x y id m.
-      (h : MayRaise t m.0) → RaisesOthers cells x y id t h.task.does)
+      (h : MayRaise t m.0) → Keeping cells x y (RaisesOthers cells x y id t h.task.does))
 
   -- the subtraction from OTHERS
   abbrev pub OthersDownLowers : Type 0
   OthersDownLowers = OfCalls others_at (λ n. n - 1) (λ cells. others_subtraction) (λ cells x y id m.
-      0 < m.0.cleared → LowersOthers cells x y)
+      0 < m.0.cleared → Keeping cells x y (LowersOthers cells x y))
 
   -- the walker's load of OTHERS
   abbrev pub OthersLoadsRead : Type 0
   OthersLoadsRead = (t : ℕ) → OfCalls others_at (λ n. n) (λ cells. walk_load t others_read (λ n. n < 2 ^ 32))
       (λ cells x y id m. (h : IsWalking t (λ p way w. MayReadOthers way w) m.0)
-      → ReadsOthers cells x y id t h.wait h.way h.walker)
+      → Keeping cells x y (ReadsOthers cells x y id t h.wait h.way h.walker))
 
   -- of COUNT
   abbrev pub CountLoadsRead : Type 0
   CountLoadsRead = (t : ℕ) → OfCalls count_at (λ n. n)
       (λ cells. walk_load t (λ n. count_read (min n cells)) (IsCount cells))
       (λ cells x y id m. (h : IsWalking t (λ p way w. MayCount way w) m.0)
-      → ReadsCount cells x y id t h.wait h.way h.walker)
+      → Keeping cells x y (ReadsCount cells x y id t h.wait h.way h.walker))
 
   -- of OWN of its present cell, for the first time
   abbrev pub OwnerLoadsRead : Type 0
   OwnerLoadsRead = (t c : ℕ) → OfCalls (own_at c) (λ n. n)
       (λ cells. walk_load t (λ n w. owner_seen (owner_in n) w w.last) (λ n. n ≤ cells))
       (λ cells x y id m. (h : IsWalking t (λ p way w. (c ≡ present p w.trail) × MayReadOwner w) m.0)
-      → ReadsOwner cells x y id t h.wait h.way h.walker)
+      → Keeping cells x y (ReadsOwner cells x y id t h.wait h.way h.walker))
 
   -- and for the second time
   abbrev pub OwnerLoadsReadAgain : Type 0
   OwnerLoadsReadAgain = (t c u v : ℕ) → OfCalls (own_at c) (λ n. n)
       (λ cells. walk_load t (λ n w. owner_seen (owner_in n) w w.last) (λ n. n ≤ cells))
       (λ cells x y id m. (h : IsWalking t (λ p way w. (c ≡ present p w.trail) × (w.last ≡ SawWait u (Some v))) m.0)
-      → ReadsAgain cells x y id t h.wait h.way h.walker u v)
+      → Keeping cells x y (ReadsAgain cells x y id t h.wait h.way h.walker u v))
 
   -- of PHASE of the owner that it has read
   abbrev pub WaitLoadsRead : Type 0
   WaitLoadsRead = (t u : ℕ) → OfCalls (phase_at u) (λ n. n)
       (λ cells. walk_load t (λ n. wait_found u (wait_in (phase_in n))) (IsPhaseWord cells))
       (λ cells x y id m. (h : IsWalking t (λ p way w. MayLoadWait t u w) m.0)
-      → ReadsWait cells x y id t h.wait h.way h.walker u)
+      → Keeping cells x y (ReadsWait cells x y id t h.wait h.way h.walker u))
 
   -- a store of PHASE of t that says this, of a table under its rule, of which the play tells so: for each such store
   -- this holds of it
@@ -97,9 +102,10 @@ module _ (B : Type 0) where
   abbrev pub WalkingStoresPublish : Type 0
   WalkingStoresPublish = (t p : ℕ) (way : Way) → OfPhaseStores t (phase.Waiting (cell p) way walk.Walking)
       (λ key x y born id m. (h : MayPublishWait t p way m.0)
-      → PublishesWait key.cells x y id t born h.custody.does p way)
+      → Keeping key.cells x y (PublishesWait key.cells x y id t born h.custody.does p way))
 
   -- the store of Alarmed
   abbrev pub AlarmedStoresAlarm : Type 0
   AlarmedStoresAlarm = (t p : ℕ) (way : Way) → OfPhaseStores t (phase.Waiting (cell p) way walk.Alarmed)
-      (λ key x y born id m. (h : MayStoreAlarm t p way m.0) → StoresAlarm key.cells x y id t p way h.walks.walker)
+      (λ key x y born id m. (h : MayStoreAlarm t p way m.0)
+      → Keeping key.cells x y (StoresAlarm key.cells x y id t p way h.walks.walker))

@@ -57,3 +57,5 @@ pub mod FullMeaning
 pub mod OneStates
 pub mod CallSteps
 pub mod EventCalls
+pub mod TaskCalls
+pub mod OwnerCalls

@@ -8,7 +8,9 @@
 ghost use Rattle.tj_words.specs.CallSteps as call;
 ghost use Rattle.tj_words.specs.EventCalls as event;
 ghost use Rattle.tj_words.specs.OneStates as state;
+ghost use Rattle.tj_words.specs.OwnerCalls as owner;
 ghost use Rattle.tj_words.specs.StepLaws as law;
+ghost use Rattle.tj_words.specs.TaskCalls as task;
 
 /// Steps on COUNT: draws, and loads.
 pub fn count_steps<B>()
@@ -164,4 +166,27 @@ pub fn event_calls<B>()
     ensures wait { event.WaitLoadsRead B }
     ensures walking { event.WalkingStoresPublish B }
     ensures alarmed { event.AlarmedStoresAlarm B }
+{}
+
+/// Calls by which a task leaves its seat, is taken by one or is made ready, and by which its record
+/// comes home.
+pub fn task_calls<B>()
+    ensures ready { task.ReadyStoresRelease B }
+    ensures parked { task.ParkedStoresSettle B }
+    ensures ended { task.EndedStoresEnd B }
+    ensures live_up { task.RaisesMoveRecord B }
+    ensures live_down { task.LowersShelve B }
+    ensures claim { task.ClaimsTake B }
+    ensures wake { task.WakesClear B }
+    ensures way_back { task.WaysBackClear B }
+{}
+
+/// Draws that find a cell, calls that store an owner, and the store of Promise.
+pub fn owner_calls<B>()
+    ensures draw { owner.DrawsFind B }
+    ensures promise { owner.PromiseStoresMark B }
+    ensures first { owner.FirstOwnersGive B }
+    ensures hand { owner.ChildStoresHand B }
+    ensures close { owner.PromiseStoresClose B }
+    ensures close_own { owner.ResultStoresClose B }
 {}
