@@ -22,7 +22,7 @@ use Rattle.tj_words.specs.Lists.{total}
 use Rattle.tj_words.specs.Offsets.{own_at}
 use Rattle.tj_words.specs.Owners.{owner_in}
 use Rattle.tj_words.specs.OwnerSteps.{ActsOn, ClosesPromise, ClosesResult, HandsPromise}
-use Rattle.tj_words.specs.OwnerViews.{MayClose, MayHand, closed_cell, gave_up, handed_promise}
+use Rattle.tj_words.specs.OwnerViews.{IsOwnersSeat, MayClose, MayHand, closed_cell, gave_up, handed_promise}
 use Rattle.tj_words.specs.SeatSteps.{SeatMe}
 use Rattle.tj_words.specs.ShownParts.{parts_of, IsSameButOwner}
 use Rattle.tj_words.specs.StepEvents.{IsHeldWith}
@@ -107,6 +107,20 @@ module _ {B : Type 0} (program : Bool → B → Program B) (key : Key B) (s t : 
       home = home;
     }
 
+  -- the seat of the owner, which has given the cell up
+  abbrev pub owner_acts : (u : ℕ) (o : IsOwnersSeat u c m.0) → held_of y u ≡ Some (gave_up c o.custody)
+      → ActsOn key.cells x y id u
+  owner_acts u o now = record {
+    before_it = o.custody;
+    after_it = gave_up c o.custody;
+    held = (m.0.tasks, tasks_at, o.held);
+    may = o.may;
+    result = o.result;
+    held_now = now;
+    runs = refl;
+    made = refl;
+  }
+
   -- the store of nobody
   module _ (is : owner_in n ≡ None) (may : MayClose c m.0) (view : m'.0 ≡ closed_cell may.task c m.0) where
     abbrev u : ℕ
@@ -137,26 +151,13 @@ module _ {B : Type 0} (program : Bool → B → Program B) (key : Key B) (s t : 
     held_now : held_of y u ≡ Some k'
     held_now = ap (λ l. find_in l u) now ∙ find_here r.law id u k k' has its
 
-    acts : ActsOn key.cells x y id u
-    acts = record {
-      before_it = k;
-      after_it = k';
-      held = has;
-      may = may.owner.may;
-      result = may.owner.result;
-      held_now = held_now;
-      runs = refl;
-      made = refl;
-    }
-
     same : IsSameButOwner c u u (parts_of key.cells x) (parts_of key.cells y)
     same = same_but hand None u u says (λ d p q. ap (λ l. find_in l d) now ∙ find_else r.law id u k k' has its d p)
 
     pub call_closes : c ≢ u → Keeping key.cells x y (ClosesPromise key.cells x y id u c)
-    unfolding acts
     call_closes other = (
       record {
-        acts = acts;
+        acts = owner_acts u may.owner held_now;
         owned = may.owner.owns;
         promise = let o = list_owned r.law id u k has c may.owner.owns in owned_promise r.law c u o.0 o.1 other;
         free = says.here;
@@ -168,10 +169,9 @@ module _ {B : Type 0} (program : Bool → B → Program B) (key : Key B) (s t : 
     )
 
     pub call_closes_own : c ≡ u → Keeping key.cells x y (ClosesResult key.cells x y id c)
-    unfolding acts
     call_closes_own e = subst (λ z. Keeping key.cells x y (ClosesResult key.cells x y id z)) (sym e) (
       record {
-        acts = acts;
+        acts = owner_acts u may.owner held_now;
         alone = λ d i. ⊎_elim (λ q. q ∙ e) (λ j. absurd j) (subst (IsIn d) (may.last e).0 i);
         no_hand = at_map (λ (z : View B). z.hand) s.views id m.0 h.at ∙ ap some (may.last e).1;
         free = subst (λ z. y.words.own z ≡ None) e says.here;
@@ -187,16 +187,7 @@ module _ {B : Type 0} (program : Bool → B → Program B) (key : Key B) (s t : 
       → Keeping key.cells x y (HandsPromise key.cells x y id may.task c w)
   call_hands w is may view = (
     record {
-      acts = record {
-        before_it = k;
-        after_it = k';
-        held = has;
-        may = may.owner.may;
-        result = may.owner.result;
-        held_now = held_now;
-        runs = refl;
-        made = refl;
-      };
+      acts = owner_acts may.task may.owner held_now;
       owned = may.owner.owns;
       promise = let o = list_owned r.law id may.task k has c may.owner.owns in
           owned_promise r.law c may.task o.0 o.1 may.promise;

@@ -47,36 +47,32 @@ pub record SaysPhase (c : ℕ) (q : Phase) (x y : WordsSay) : Type 0 where
   pub here : y.phase c ≡ q
   pub else : (u : ℕ) → u ≢ c → y.phase u ≡ x.phase u
 
+-- words of which PHASE of some cells and LIVE alone are others
+words_say_phase : (c : ℕ) (q : Phase) (x y : WordsSay) (live : ℕ) (phases : ℕ → Phase)
+    → y ≡ record x { live = live; phase = phases } → phases c ≡ q → ((u : ℕ) → u ≢ c → phases u ≡ x.phase u)
+    → SaysPhase c q x y
+words_say_phase c q x y live phases now here else = record {
+  count = ap (λ (z : WordsSay). z.count) now;
+  own = ap (λ (z : WordsSay). z.own) now;
+  others = ap (λ (z : WordsSay). z.others) now;
+  once = ap (λ (z : WordsSay). z.once) now;
+  here = ap (λ (z : WordsSay). z.phase c) now ∙ here;
+  else = λ u m. ap (λ (z : WordsSay). z.phase u) now ∙ else u m;
+}
+
 module _ (ws : List ℕ) (y : WordsSay) (c n : ℕ) (q : Phase) where
   -- after a store of PHASE
   pub phase_says : y ≡ words_say (set ws (phase_at c) n) → phase_at c < length ws → phase_in n ≡ q
       → SaysPhase c q (words_say ws) y
-  phase_says e l is = record {
-    count = ap (λ (z : WordsSay). z.count) now;
-    own = ap (λ (z : WordsSay). z.own) now;
-    others = ap (λ (z : WordsSay). z.others) now;
-    once = ap (λ (z : WordsSay). z.once) now;
-    here = ap (λ (z : WordsSay). z.phase c) now ∙ (put_here (words_say ws).phase c c (phase_in n) refl ∙ is);
-    else = λ u m. ap (λ (z : WordsSay). z.phase u) now ∙ put_else (words_say ws).phase c u (phase_in n) m;
-  }
-    where
-      now : y ≡ record (words_say ws) { phase = put (words_say ws).phase c (phase_in n) }
-      now = e ∙ say_phase ws n c l
+  phase_says e l is = let w = words_say ws in
+      words_say_phase c q w y w.live (put w.phase c (phase_in n)) (e ∙ say_phase ws n c l)
+      (put_here w.phase c c (phase_in n) refl ∙ is) (λ u m. put_else w.phase c u (phase_in n) m)
 
   -- after a step on LIVE
   pub live_says : y ≡ words_say (set ws live_at n) → live_at < length ws → (words_say ws).phase c ≡ q
       → SaysPhase c q (words_say ws) y
-  live_says e l is = record {
-    count = ap (λ (z : WordsSay). z.count) now;
-    own = ap (λ (z : WordsSay). z.own) now;
-    others = ap (λ (z : WordsSay). z.others) now;
-    once = ap (λ (z : WordsSay). z.once) now;
-    here = ap (λ (z : WordsSay). z.phase c) now ∙ is;
-    else = λ u m. ap (λ (z : WordsSay). z.phase u) now;
-  }
-    where
-      now : y ≡ record (words_say ws) { live = n }
-      now = e ∙ say_live ws n l
+  live_says e l is = let w = words_say ws in
+      words_say_phase c q w y n w.phase (e ∙ say_live ws n l) is (λ u m. refl)
 
 module _ {B : Type 0} {program : Program B} {cells : ℕ} (s t : State (Option (Rec B)) (View B))
     (r : Law program cells (contents_of s)) (id c : ℕ) (q : Phase) (v w : View B) (homes : Slots B)
