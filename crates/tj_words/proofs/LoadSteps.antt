@@ -25,6 +25,8 @@ use Rattle.tj_words.specs.Law.{Rule, IsSeat}
 use Rattle.tj_words.specs.SeatSteps.{SeatMe, plain_load, live_load, simple_load, IsCount}
 use Rattle.tj_words.proofs.SeatLists.{each_set, words_same}
 use Rattle.tj_words.proofs.SeatContents.{seats_set, seats_same, rule_views}
+use Rattle.tj_words.specs.Views.{run_load}
+use Rattle.tj_words.specs.declared.view.RunWord.TheVariants as run
 use Rattle.tj_words.proofs.Learning.{Knowing, knowing_of, IsSo, learns, law_learns}
 
 -- there are no more live tasks than cells
@@ -65,6 +67,7 @@ module _ {B : Type 0} where
     once_loads = once;
     steps = steps;
     stop = k.stop;
+    run_loads = k.run_loads;
   }
 
   -- what holds of a view alone holds of it
@@ -183,7 +186,7 @@ module _ {B : Type 0} where
         load_allowed slots id m live_at (live_load (step slots live_at 0 0 none) m)
         (λ s r at. dite (ℕ_discrete (word s.words live_at) 0)
         (λ z. (
-          record (knowing_of m.0) { rested = true },
+          record (knowing_of m.0) { rested = true; run_loads = run_load run.Live 0 m.0 ∷ m.0.run_loads },
           m.0.plain_loads,
           m.0.once_loads,
           suc m.0.steps,
@@ -201,11 +204,21 @@ module _ {B : Type 0} where
           (refl, (λ e. refl), (λ n. absurd (n z)), live_small s r),
         ))
         (λ n. (
-          knowing_of m.0,
+          record (knowing_of m.0) { run_loads = run_load run.Live (word s.words live_at) m.0 ∷ m.0.run_loads },
           m.0.plain_loads,
           m.0.once_loads,
           suc m.0.steps,
-          knows_so s r id m.0 at,
+          (let o = knows_so s r id m.0 at in record {
+            known = o.known;
+            begins = o.begins;
+            known_born = o.known_born;
+            wrote = o.wrote;
+            filled = o.filled;
+            seen = o.seen;
+            closed = o.closed;
+            found = o.found;
+            rested = o.rested;
+          }),
           (refl, (λ e. absurd (n e)), (λ e. refl), live_small s r),
         )))
 

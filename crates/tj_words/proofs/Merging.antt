@@ -86,6 +86,7 @@ both_know k l = record {
   found = k.found ++ l.found;
   rested = k.rested || l.rested;
   stop = k.stop;
+  run_loads = k.run_loads;
 }
 
 abbrev pub nothing_known : Knowing
@@ -99,6 +100,7 @@ nothing_known = record {
   found = [];
   rested = false;
   stop = 0;
+  run_loads = [];
 }
 
 module _ {B : Type 0} (program : Program B) (cells : ℕ) (x : Contents B) (law : Law program cells x) where

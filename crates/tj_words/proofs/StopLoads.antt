@@ -1,5 +1,5 @@
 -- A load of STOP tells whether the meaning is full.
-use Rattle.std.proofs.Common.{ℕ, suc, Bool, refl, sym, subst}
+use Rattle.std.proofs.Common.{ℕ, suc, Bool, ◌∷◌, refl, sym, subst}
 use mathlib.Core.Option.{none}
 use Rattle.atomic_table.specs.Table.{Allows, step}
 use Rattle.tj_body.specs.Programs.{Program}
@@ -10,6 +10,8 @@ use Rattle.tj_words.specs.FullMeaning.{stop_load}
 use Rattle.tj_words.specs.Law.{Rule}
 use Rattle.tj_words.specs.Offsets.{stop_at, word}
 use Rattle.tj_words.specs.SeatSteps.{SeatMe}
+use Rattle.tj_words.specs.Views.{run_load}
+use Rattle.tj_words.specs.declared.view.RunWord.TheVariants as run
 use Rattle.tj_words.proofs.Learning.{knowing_of}
 use Rattle.tj_words.proofs.LoadSteps.{knows_so, load_allowed}
 
@@ -18,7 +20,10 @@ module _ {B : Type 0} (program : Bool → B → Program B) (key : Key B) where
       → Allows (Rule program key) slots id m stop_at (λ n. n) (stop_load program (step slots stop_at 0 0 none) m)
   stop_allowed slots id m =
       load_allowed program key slots id m stop_at (stop_load program (step slots stop_at 0 0 none) m) (λ s r at. (
-        record (knowing_of m.0) { stop = word s.words stop_at },
+        record (knowing_of m.0) {
+          stop = word s.words stop_at;
+          run_loads = run_load run.Stop (word s.words stop_at) m.0 ∷ m.0.run_loads;
+        },
         m.0.plain_loads,
         m.0.once_loads,
         suc m.0.steps,

@@ -65,4 +65,5 @@ module _ {B : Type 0} where
     once_loads = 0;
     steps = 0;
     stop = 0;
+    run_loads = [];
   }

@@ -5,7 +5,7 @@ use Rattle.atomic_table.specs.declared.shared.Seat.{Seat}
 use Rattle.tj_words.specs.declared.record.Rec.{Rec}
 use Rattle.tj_words.specs.declared.table.Laid.{Laid}
 use Rattle.tj_words.specs.declared.view.View.{View}
-use Rattle.tj_words.specs.Views.{loaded_plain, saw_rest, stepped_on}
+use Rattle.tj_words.specs.Views.{loaded_plain, saw_live, saw_rest, stepped_on}
 
 -- a seat with the slots that it has
 abbrev pub SeatMe : Type 0 → Type 0
@@ -34,7 +34,7 @@ module _ {B : Type 0} where
 
   -- the load of LIVE
   abbrev pub live_load : Tells B
-  live_load st m n m' = (m'.1 ≡ m.1) × (n ≡ 0 → m'.0 ≡ saw_rest m.0) × (n ≢ 0 → m'.0 ≡ stepped_on m.0)
+  live_load st m n m' = (m'.1 ≡ m.1) × (n ≡ 0 → m'.0 ≡ saw_rest m.0) × (n ≢ 0 → m'.0 ≡ saw_live n m.0)
       × (n < 2 ^ 32)
 
   -- a load that tells the view nothing

@@ -5,6 +5,9 @@ use Rattle.std.specs.Prelude.{None}
 use Rattle.tj_body.specs.declared.point.Reference.{Reference}
 use Rattle.tj_body.specs.declared.point.Entry.{Entry}
 use Rattle.tj_words.specs.declared.offsets.Once.{Once}
+use Rattle.tj_words.specs.declared.view.RunLoad.{RunLoad}
+use Rattle.tj_words.specs.declared.view.RunWord.{RunWord}
+use Rattle.tj_words.specs.declared.view.RunWord.TheVariants as run
 use Rattle.tj_words.specs.declared.view.View.{View}
 use Rattle.tj_words.specs.Lots.{least_lot}
 
@@ -17,13 +20,21 @@ module _ {B : Type 0} where
   abbrev pub loaded_plain : View B → View B
   loaded_plain v = record v { steps = suc v.steps; plain_loads = suc v.plain_loads }
 
+  -- a load of LIVE or of STOP by a seat with this view
+  abbrev pub run_load : RunWord → ℕ → View B → RunLoad
+  run_load word n v = record { word = word; found = n; once_loads = v.once_loads }
+
   -- it loaded LIVE as 0
   abbrev pub saw_rest : View B → View B
-  saw_rest v = record v { steps = suc v.steps; rested = true }
+  saw_rest v = record v { steps = suc v.steps; rested = true; run_loads = run_load run.Live 0 v ∷ v.run_loads }
+
+  -- it loaded LIVE as n, which isn't 0
+  abbrev pub saw_live : ℕ → View B → View B
+  saw_live n v = record v { steps = suc v.steps; run_loads = run_load run.Live n v ∷ v.run_loads }
 
   -- it loaded STOP as n
   abbrev pub saw_stop : ℕ → View B → View B
-  saw_stop n v = record v { steps = suc v.steps; stop = n }
+  saw_stop n v = record v { steps = suc v.steps; stop = n; run_loads = run_load run.Stop n v ∷ v.run_loads }
 
   -- it found the chain of a cell
   abbrev pub found_chain : ℕ → List ℕ → View B → View B
@@ -76,7 +87,7 @@ longer xs ys = cond (nat_lt (length xs) (length ys)) ys xs
 
 module _ {B : Type 0} where
   -- a view is cut in two: the second seat has a lot of 4, and knows what the first one knows, but for what that one
-  -- loaded from STOP
+  -- loaded from LIVE and STOP
   abbrev pub left_half : View B → View B
   left_half v = record v { lot = v.lot - least_lot }
 
@@ -106,9 +117,11 @@ module _ {B : Type 0} where
     once_loads = 0;
     steps = 0;
     stop = 0;
+    run_loads = [];
   }
 
-  -- a seat takes another in, and knows what either of them knew, but for what that one loaded from STOP
+  -- a seat takes another in, and knows what either of them knew, but for what that one loaded from LIVE and
+  -- STOP
   abbrev pub both : View B → View B → View B
   both v w = record v {
     lot = v.lot + w.lot;
@@ -152,6 +165,7 @@ module _ {B : Type 0} where
     once_loads = 0;
     steps = 0;
     stop = 0;
+    run_loads = [];
   }
 
   -- a seat that may be merged: it holds no task and no token, has no cell in hand, and has nothing to come

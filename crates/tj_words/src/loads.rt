@@ -10,7 +10,7 @@ ghost use Rattle.tj_words.specs.SeenWords.{FindsChain, FindsShut, MayRead, NextT
 ghost use Rattle.tj_words.specs.SeatSteps as steps;
 ghost use Rattle.tj_words.specs.StepEvents.{wait_in};
 ghost use Rattle.tj_words.specs.Codes as codes;
-ghost use Rattle.tj_words.specs.Views.{loaded_plain, saw_rest, saw_stop, stepped_on};
+ghost use Rattle.tj_words.specs.Views.{loaded_plain, saw_live, saw_rest, saw_stop, stepped_on};
 
 use crate::head::Head;
 use crate::offsets::{COUNT, LIVE, Once, STOP, head_at, next_at, once_at, own_at, phase_at};
@@ -26,12 +26,12 @@ use tj_body::Body;
 use tj_tree::links_lead_to_tasks;
 
 impl<B: Body> Laid<B> {
-    /// LIVE. Where it is 0, nothing goes on any more.
+    /// LIVE. Where it is 0, nothing goes on any more. The view says what was loaded.
     pub fn live(&self, seat: &mut WSeat<B>) -> u32
         requires table { seat.old.table_id ≡ self.now.table.shared.table_id }
         ensures seat { IsSameSeat seat.old seat.new }
         ensures rested { result ≡ 0 → seat.new.me.0 ≡ saw_rest seat.old.me.0 }
-        ensures live { result ≢ 0 → seat.new.me.0 ≡ stepped_on seat.old.me.0 }
+        ensures live { result ≢ 0 → seat.new.me.0 ≡ saw_live result seat.old.me.0 }
     {
         self.table.shared.load::<LiveLoad>(seat, LIVE) as u32
     }

@@ -104,6 +104,22 @@ pub struct Found {
     pub chain: [u32; 0],
 }
 
+/// The words that say how a run goes.
+#[derive(Drop)]
+pub enum RunWord {
+    Live,
+    Stop,
+}
+
+/// A load of LIVE or of STOP: what it found, and how many words that are written once the seat had
+/// loaded before.
+#[derive(Drop)]
+pub struct RunLoad {
+    pub word: RunWord,
+    pub found: u64,
+    pub once_loads: u64,
+}
+
 /// What a seat knows and has to do.
 #[derive(Drop)]
 pub struct View<B> {
@@ -152,4 +168,6 @@ pub struct View<B> {
     pub steps: u64,
     /// What it loaded from STOP last, 0 at first.
     pub stop: u64,
+    /// Its loads of LIVE and of STOP, the last first.
+    pub run_loads: [RunLoad; 0],
 }
