@@ -113,3 +113,4 @@ mod TakenTasks
 mod OwnerCalls
 mod HandCalls
 mod DrawCalls
+mod TableRuns

@@ -62,6 +62,25 @@ one_live : (n : ℕ) → live_tasks first_phase (suc n) ≡ 1
 one_live zero = refl
 one_live (suc n) = let h = one_live n in omega arith
 
+-- the contents of a new table show the root alone
+module _ {B : Type 0} (cells : ℕ) (some_cells : 0 < cells) (root : B) (strict : Bool) where
+  abbrev pub first_contents : Contents B
+  first_contents = record {
+    words = first_say;
+    slots = some (Some (root_record root)) ∷ map some (replicate (cells - 1) None);
+    seats = seats_have (first_view cells root strict ∷ []);
+  }
+
+  one_drawn : min 1 cells ≡ 1
+  one_drawn = omega arith
+
+  shown_at : (c : ℕ) → (core_shown cells (to_task [] ∷ []) (λ _. 0) first_contents).cells c ≡ root_alone.cells c
+  shown_at zero = rw one_drawn refl
+  shown_at (suc c) = rw one_drawn (blank_at c _)
+
+  pub first_shown : core_shown cells (to_task [] ∷ []) (λ _. 0) first_contents ≡ root_alone
+  first_shown j = record { count = one_drawn j; cells = λ c. shown_at c j; others = 0; cleared = 0 }
+
 module _ {B : Type 0} (program : Program B) (cells : ℕ) (some_cells : 0 < cells) (strict : Bool)
     (start_meets : StartMeetsFacts)
     (starts : TasksStart program) where
@@ -75,11 +94,7 @@ module _ {B : Type 0} (program : Program B) (cells : ℕ) (some_cells : 0 < cell
   others = map some (replicate (cells - 1) None)
 
   abbrev x0 : Contents B
-  x0 = record {
-    words = first_say;
-    slots = some (Some r0) ∷ others;
-    seats = seats_have (first_view cells root strict ∷ []);
-  }
+  x0 = first_contents cells some_cells root strict
 
   abbrev hs : List (Option Hand)
   hs = None ∷ []
@@ -341,14 +356,8 @@ module _ {B : Type 0} (program : Program B) (cells : ℕ) (some_cells : 0 < cell
     filled_stands = each_only _ [] (λ f i. absurd i);
   }
 
-  shown_at : (c : ℕ) → (core_shown cells (to_task [] ∷ []) (λ _. 0) x0).cells c ≡ root_alone.cells c
-  shown_at zero = rw one refl
-  shown_at (suc c) = rw one (blank_at c _)
-
   facts : CoreFacts (core_shown cells (to_task [] ∷ []) (λ _. 0) x0)
-  facts =
-      subst CoreFacts (sym (λ j. record { count = one j; cells = λ c. shown_at c j; others = 0; cleared = 0 }))
-      start_meets
+  facts = subst CoreFacts (sym (first_shown cells some_cells root strict)) start_meets
 
   pub first_law : Law program cells x0
   first_law = record {

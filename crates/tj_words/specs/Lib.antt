@@ -59,3 +59,4 @@ pub mod CallSteps
 pub mod EventCalls
 pub mod TaskCalls
 pub mod OwnerCalls
+pub mod TableRuns

@@ -10,6 +10,7 @@ ghost use Rattle.tj_words.specs.EventCalls as event;
 ghost use Rattle.tj_words.specs.OneStates as state;
 ghost use Rattle.tj_words.specs.OwnerCalls as owner;
 ghost use Rattle.tj_words.specs.StepLaws as law;
+ghost use Rattle.tj_words.specs.TableRuns as run;
 ghost use Rattle.tj_words.specs.TaskCalls as task;
 
 /// Steps on COUNT: draws, and loads.
@@ -189,4 +190,10 @@ pub fn owner_calls<B>()
     ensures hand { owner.ChildStoresHand B }
     ensures close { owner.PromiseStoresClose B }
     ensures close_own { owner.ResultStoresClose B }
+{}
+
+/// Runs of a table: steps, one after the other, as the laws above have them.
+pub fn table_runs<B>()
+    ensures steps { run.StepsAreRuns B }
+    ensures legal { run.TableRunsAreLegal B }
 {}
