@@ -30,3 +30,4 @@ mod TurnSteps
 mod WaitConditions
 mod WorkersSteps
 mod ThreadSends
+pub mod PlaySteps

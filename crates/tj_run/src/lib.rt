@@ -9,7 +9,11 @@ mod forks;
 #[cfg(test)]
 mod meeting;
 mod next;
+#[cfg(test)]
+mod pass_tests;
 mod pieces;
+#[cfg(test)]
+mod plays;
 mod pure;
 mod tasks;
 #[cfg(test)]

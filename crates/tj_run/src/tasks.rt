@@ -20,7 +20,7 @@ use tj_ready::Pool;
 use tj_words::{Laid, Rec, WSeat};
 
 /// One ask of the task.
-fn one_ask<B: Body, P: Pool, R: Wait>(
+pub(crate) fn one_ask<B: Body, P: Pool, R: Wait>(
     rt: &R,
     alloc: Global,
     laid: &Laid<B>,

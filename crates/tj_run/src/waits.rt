@@ -79,8 +79,8 @@ pub(crate) fn join<B: Body>(
     }
 }
 
-// The way of a wait of task `t` for the cell.
-fn way_to<B: Body, L: Ledger>(
+/// The way of a wait of task `t` for the cell.
+pub(crate) fn way_to<B: Body, L: Ledger>(
     laid: &Laid<B>,
     seat: &mut WSeat<B>,
     t: CellId,

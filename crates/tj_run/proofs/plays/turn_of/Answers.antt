@@ -1,0 +1,8 @@
+use Rattle.tj_body.specs.Programs.{program_of}
+use Rattle.tj_run.proofs.TurnSteps.{claimed_back}
+use Rattle.tj_run.proofs.plays.turn_of.Goals as goal
+
+pub run_to_stop-requires-clause-back : goal.run_to_stop-requires-clause-back
+run_to_stop-requires-clause-back g c κs within = let b = g.B.Body in let e = c.in-Some.ensures in
+    claimed_back (program_of b.places b.awaits b.left b.asks b.then) c.args.laid.now c.in-Some.rec c.args.t.0
+    c.args.seat.now.me c.claim.new.seat.me c.requires.free c.requires.rooted e.some e.slot
