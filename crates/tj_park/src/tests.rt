@@ -58,3 +58,32 @@ fn cells_are_made_filled_and_broken(rt: HostRuntime) -> Result<(), Fail> {
     );
     Ok(())
 }
+
+#[test]
+fn two_cells_and_a_third_draw(rt: HostRuntime) -> Result<(), Fail> {
+    let a = rt.alloc();
+    let lists = three_promises(a)?;
+    let (laid, mut seat) = Laid::new(a, 2, TableBody::new(&lists, 0), true)?;
+    let root = CellId(0);
+    let rec = claim(&laid, &mut seat, root).expect(&rt, "the root is ready");
+    if rec.made != 0 {
+        panic!(rt; "it has made nothing yet");
+    }
+    let p = make(&laid, &mut seat, root, 1).expect(&rt, "a cell is left");
+    assert_eq!(rt; p, CellId(1), "the next cell");
+    let tag = laid.see_once(&mut seat, p, Once::Tag);
+    assert_eq!(rt; tag, 0, "TAG isn't written yet");
+    let bits = laid.see_once(&mut seat, p, Once::Bits);
+    assert_eq!(rt; bits, 0, "nor is BITS");
+    fill(&laid, &mut seat, root, p, Fill::Num(5));
+    let tag = laid.see_once(&mut seat, p, Once::Tag);
+    assert_eq!(rt; tag, 1, "TAG of a number");
+    let bits = laid.see_once(&mut seat, p, Once::Bits);
+    assert_eq!(rt; bits, 5, "BITS of 5");
+    assert_eq!(rt;
+        make(&laid, &mut seat, root, 2),
+        Err(Full),
+        "a third cell isn't there"
+    );
+    Ok(())
+}
