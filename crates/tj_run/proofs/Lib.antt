@@ -3,7 +3,7 @@ mod EndConditions
 mod ForkCalls
 mod ForkedChildren
 mod FoundValues
-mod FreeSeats
+pub mod FreeSeats
 mod GivenPromises
 mod HandedPlaces
 mod JoinTests
@@ -21,13 +21,13 @@ mod PureAsks
 mod ResumedTasks
 mod RunLoops
 mod RunningTasks
-mod RunsAtRest
+pub mod RunsAtRest
 mod SetPromises
 mod SplitLots
 mod TaskReturns
 mod ToldCells
-mod TurnSteps
+pub mod TurnSteps
 mod WaitConditions
 mod WorkersSteps
-mod ThreadSends
+pub mod ThreadSends
 pub mod PlaySteps

@@ -68,9 +68,9 @@ fn fault_of(why: Why) -> RunFault
     }
 }
 
-// A worker for each end of the pool. The last has a new seat and, where one can be made, a new thread.
+/// A worker for each end of the pool. The last has a new seat and, where one can be made, a new thread.
 #[cycle(workers)]
-fn work_all<B: Body, P: Pool, G: Gate, R: Wait + Threads + Sync>(
+pub fn work_all<B: Body, P: Pool, G: Gate, R: Wait + Threads + Sync>(
     rt: &R,
     alloc: Global,
     laid: &Laid<B>,

@@ -23,6 +23,6 @@ mod waits;
 mod why;
 mod writes;
 
-pub use crew::run_all;
+pub use crew::{run_all, work_all};
 pub use turns::worker;
 pub use why::{Left, RunFault, Why};

@@ -1,6 +1,10 @@
 use Rattle.std.proofs.Common.{◌∙◌}
+use Rattle.tj_words.proofs.LaterSeats.{read_itself}
 use Rattle.tj_run.proofs.JoinTests.{promise_way}
 use Rattle.tj_run.proofs.waits.way_to.Goals as goal
+
+pub returns-in-Promise-clause-view : goal.returns-in-Promise-clause-view
+returns-in-Promise-clause-view g c = read_itself c.args.seat.now.me.0
 
 pub returns-in-Promise-clause-way : goal.returns-in-Promise-clause-way
 returns-in-Promise-clause-way g c = let h = c.requires.held in
