@@ -1,0 +1,4 @@
+pub mod Looking
+pub mod Polling
+pub mod RootRecords
+mod ThreadSends

@@ -1,0 +1,37 @@
+-- What a wait gives after a pending poll is what it was to give before.
+use Rattle.std.proofs.Common.{◌≡◌, ℕ, Bool, Option, Some, sym, ◌∙◌, subst}
+use Rattle.atomic_table.specs.declared.shared.Seat.{Seat}
+use Rattle.futures.specs.declared.task.Poll.{Poll}
+use Rattle.futures.specs.declared.task.Poll.TheVariants.{Ready, Pending}
+use Rattle.futures.specs.Poll.{OnPending}
+use Rattle.tj_body.specs.Programs.{Program}
+use Rattle.tj_words.specs.declared.record.Rec.{Rec}
+use Rattle.tj_words.specs.declared.table.Laid.{Laid}
+use Rattle.tj_words.specs.declared.view.View.{View}
+use Rattle.tj_future.specs.declared.watched.Watched.{Watched}
+use Rattle.tj_future.specs.Looks.{GoesOn}
+use Rattle.tj_future.specs.Polls.{IsGiven}
+use Rattle.tj_future.proofs.Looking.{knows_still, watched_on}
+
+-- what holds anyway holds of a pending poll
+pub if_pending : {A : Type 0} (polled : Poll A) (P : Type 0) → P → OnPending polled P
+if_pending (Ready x) P h = tt
+if_pending Pending P h = h
+
+module _ {B : Type 0} (program : Bool → B → Program B) (laid : Laid B) (p : ℕ) where
+  pub given_before : (held : Option (Seat (Option (Rec B)) (View B))) (before after : Seat (Option (Rec B)) (View B))
+      → held ≡ Some before
+      → after.table_id ≡ before.table_id
+      → after.me.0.lot ≡ before.me.0.lot
+      → GoesOn p before.me.0 after.me.0
+      → (answer : Watched) (back : Seat (Option (Rec B)) (View B)) → IsGiven program laid (Some after) p answer back
+      → IsGiven program laid held p answer back
+  given_before held before after is table lot goes answer back h =
+      subst (λ z. IsGiven program laid z p answer back) (sym is) (
+        h.0 ∙ table,
+        h.1,
+        h.2,
+        h.3 ∙ lot,
+        watched_on program laid.cells p answer before.me.0 after.me.0 back.me.0
+            (knows_still p before.me.0 after.me.0 goes) h.4,
+      )

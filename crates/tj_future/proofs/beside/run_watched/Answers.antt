@@ -1,0 +1,28 @@
+use Rattle.std.proofs.Common.{false, sym, subst}
+use Rattle.tj_body.specs.Programs.{program_of}
+use Rattle.tj_run.specs.Runs.{RestsAt}
+use Rattle.tj_run.proofs.RunsAtRest.{full_told, rests_at}
+use Rattle.tj_future.specs.RootWatches.{IsRootWatched}
+use Rattle.tj_future.proofs.beside.run_watched.Goals as goal
+
+pub with_root-requires-clause-named : goal.with_root-requires-clause-named
+with_root-requires-clause-named g c κs within = let m = c.rest.ensures.meaning in (m.0, m.1.named)
+
+pub returns-in-Rested-clause-rest : goal.returns-in-Rested-clause-rest
+returns-in-Rested-clause-rest g c = let b = g.B.Body in let made = c.in_ok-laid.ensures in let e = c.rest.ensures in
+    subst (RestsAt (program_of b.places b.awaits b.left b.asks b.then) c.args.root c.args.cells false)
+    (sym c.with_root.ensures.rest)
+    (rests_at (program_of b.places b.awaits b.left b.asks b.then) c.args.root c.args.cells false
+    c.in_ok-laid.laid made.cells made.strict made.root c.rest.result e.limit e.root e.strict e.drawn e.rest e.meaning
+    e.cycles e.alarms e.meant_cycles)
+
+pub returns-in-Rested-clause-watched : goal.returns-in-Rested-clause-watched
+returns-in-Rested-clause-watched g c =
+    subst (λ r. IsRootWatched r.records c.with_root.result.0) (sym c.with_root.ensures.rest) c.with_root.ensures.watched
+
+pub returns-in-Stopped-clause-full : goal.returns-in-Stopped-clause-full
+returns-in-Stopped-clause-full g c e = let b = g.B.Body in let stopped = c.in-Stopped in
+    let all = c.work_watched-seat in
+    full_told (program_of b.places b.awaits b.left b.asks b.then) c.args.root c.args.cells false all.result.1
+    stopped.why stopped.is (c.fault_of.ensures e) c.in_ok-laid.seat.me all.result.0.me c.in_ok-laid.ensures.view
+    all.ensures.left

@@ -1,0 +1,169 @@
+//! A run with a watch of its root beside the workers.
+ghost use Rattle.std.specs.Prelude.{◌≡◌, ◌⊎◌, ◌<◌, ◌≤◌, ◌*◌, List, [], All, false, IfErr, IfOk, length};
+ghost use Rattle.std.specs.Thread.{IsSync};
+ghost use denote.Param.Send.{IsSend};
+ghost use Rattle.tj_body.specs.Asks.{IsFresh};
+ghost use Rattle.tj_body.specs.Programs.{program_of};
+ghost use Rattle.tj_body.specs.Rounds.{IsFull};
+ghost use Rattle.tj_body.specs.declared.point.Reference.{Reference};
+ghost use Rattle.tj_words.specs.ClosedCells.{AreNamed};
+ghost use Rattle.tj_words.specs.Law.{IsRooted};
+ghost use Rattle.tj_words.specs.Lots.{least_lot};
+ghost use Rattle.tj_words.specs.SeatSteps.{IsSeatOf};
+ghost use Rattle.tj_words.specs.Views.{IsIdle, both, left_half};
+ghost use Rattle.tj_run.specs.Carried.{IsFree, table_program};
+ghost use Rattle.tj_run.specs.Going.{Leaves};
+ghost use Rattle.tj_run.specs.Runs.{HasLots, RestsAt};
+ghost use Rattle.tj_future.specs.Looks.{IsWatched};
+ghost use Rattle.tj_future.specs.RootWatches.{IsRootWatched, watched_of};
+
+use crate::looks::watch;
+use crate::watched::Watched;
+use std::alloc::Global;
+use std::sync::Wait;
+use std::thread::{Threads, join};
+use tj_base::CellId;
+use tj_body::Body;
+use tj_ports::Gate;
+use tj_ready::Pool;
+use tj_run::{Left, RunFault, Why, work_all};
+use tj_words::{Finish, Laid, RestWords, WSeat};
+
+/// Runs a program with this root to its rest without the strict rule, as `run_all` does, with a watch
+/// of the root beside the workers. `Full` comes exactly where the meaning needs more cells. No clause
+/// tells that the watch looked while the workers ran.
+pub fn run_watched<B: Body, P: Pool, G: Gate, R: Wait + Threads + Sync>(
+    rt: &R,
+    alloc: Global,
+    root: B,
+    cells: u32,
+    workers: u32,
+    gate: &G,
+) -> Result<(Watched, RestWords<B>), RunFault>
+    requires cells { (0 < cells) × (cells ≤ 16384) }
+    requires workers { (0 < workers) × (workers ≤ 64) }
+    requires root { IsFresh B.places B.awaits B.left 1 root }
+    ensures rest { IfOk result (λ out. RestsAt (program_of B.places B.awaits B.left B.asks B.then)
+        root cells false out.1) }
+    ensures watched { IfOk result (λ out. IsRootWatched out.1.records out.0) }
+    ensures fits { IfOk result (λ _. ¬ IsFull
+        (program_of B.places B.awaits B.left B.asks B.then false root) cells) }
+    ensures full { IfErr result (λ fault. fault ≡ RunFault.Full → IsFull
+        (program_of B.places B.awaits B.left B.asks B.then false root) cells) }
+{
+    let mut ends = P::make(rt, alloc, workers, cells)?;
+    let (laid, seat) = Laid::new(alloc, cells, root, false)?;
+    if let Some(first) = ends.as_mut_slice().first_mut() {
+        first.put(rt, alloc, CellId(0))?;
+    }
+    let (seat, left) = work_watched::<B, P, G, R>(rt, alloc, &laid, seat, ends, gate);
+    match left {
+        Left::Rested => Ok(with_root(laid.rest(seat))),
+        Left::Stopped(why) => Err(fault_of(why)),
+    }
+}
+
+// Why a run that was stopped has no outcome.
+fn fault_of(why: Why) -> RunFault
+    ensures { result ≡ RunFault.Full → why ≡ Why.Full }
+{
+    match why {
+        Why::Full => RunFault::Full,
+        Why::Memory => RunFault::Oom,
+    }
+}
+
+// The workers, and a watch of the root beside them, whose seat is taken in again. Where no thread can
+// be made for the watch, it comes after the workers.
+fn work_watched<B: Body, P: Pool, G: Gate, R: Wait + Threads + Sync>(
+    rt: &R,
+    alloc: Global,
+    laid: &Laid<B>,
+    seat: WSeat<B>,
+    ends: Vec<P>,
+    gate: &G,
+) -> (WSeat<B>, Left)
+    requires table { IsSeatOf laid.now seat }
+    requires free { IsFree laid.now seat.me }
+    requires rooted { IsRooted (table_program (program_of B.places B.awaits B.left B.asks B.then)
+        laid.now) }
+    requires crosses { IsSync R.row × IsSync G.row × IsSend B.row × IsSend P.row }
+    requires pools { All (λ end. P.limit end ≡ laid.now.cells) ends.items }
+    requires lots { HasLots (length ends.items) (left_half seat.me.0) }
+    requires room { 2 * least_lot ≤ seat.me.0.lot }
+    ensures table { result.0.table_id ≡ seat.table_id }
+    ensures left { Leaves (program_of B.places B.awaits B.left B.asks B.then) result.1 seat.me.0
+        result.0.me }
+{
+    let (mine, theirs) = laid.split(seat);
+    let watching = move || -> (Watched, WSeat<B>)
+        requires { IsSeatOf laid.now theirs × (0 < laid.now.cells) × IsIdle theirs.me.0
+            × (theirs.me.1 ≡ []) }
+        ensures { (result.1.table_id ≡ theirs.table_id) × IsIdle result.1.me.0
+            × (result.1.me.1 ≡ []) × (result.1.me.0.lot ≡ theirs.me.0.lot) × IsWatched
+            (program_of B.places B.awaits B.left B.asks B.then) laid.entry.now.cells 0 result.0
+            theirs.me.0 result.1.me.0 }
+    { watch(rt, laid, theirs, CellId(0)) };
+    let working = move || -> (WSeat<B>, Left)
+        requires { IsSync R.row × IsSync G.row × IsSend B.row × IsSend P.row
+            × IsSeatOf laid.now mine × IsFree laid.now mine.me
+            × IsRooted (table_program (program_of B.places B.awaits B.left B.asks B.then) laid.now)
+            × All (λ end. P.limit end ≡ laid.now.cells) ends.items
+            × HasLots (length ends.items) mine.me.0 }
+        ensures { (result.0.table_id ≡ mine.table_id) × Leaves
+            (program_of B.places B.awaits B.left B.asks B.then) result.1 mine.me.0 result.0.me }
+    { work_all::<B, P, G, R>(rt, alloc, laid, mine, ends, gate) };
+    let (watched, worked) = join(rt, watching, working);
+    take_in(laid, worked.0, worked.1, watched.1, watched.0)
+}
+
+// The seat of the workers takes in that of the watch. The run was stopped where either says so.
+fn take_in<B: Body>(
+    laid: &Laid<B>,
+    worked: WSeat<B>,
+    left: Left,
+    watched: WSeat<B>,
+    answer: Watched,
+) -> (WSeat<B>, Left)
+    requires table { IsSeatOf laid.now worked }
+    requires other_table { IsSeatOf laid.now watched }
+    requires rested { left ≡ Left.Rested → IsIdle worked.me.0 × (worked.me.1 ≡ []) }
+    requires idle { IsIdle watched.me.0 }
+    requires slots { watched.me.1 ≡ [] }
+    ensures table { result.0.table_id ≡ laid.now.table.shared.table_id }
+    ensures rested { result.1 ≡ Left.Rested → (left ≡ Left.Rested)
+        × (result.0.me ≡ (both worked.me.0 watched.me.0, [])) × IsIdle result.0.me.0 }
+    ensures stopped { (why : Why) → result.1 ≡ Left.Stopped why
+        → ((result.0 ≡ worked) × (left ≡ Left.Stopped why))
+        ⊎ ((result.0 ≡ watched) × (answer ≡ Watched.Stopped why)) }
+{
+    match (left, answer) {
+        (Left::Stopped(why), _) => (worked, Left::Stopped(why)),
+        (Left::Rested, Watched::Stopped(why)) => (watched, Left::Stopped(why)),
+        (Left::Rested, _) => (laid.merge(worked, watched), Left::Rested),
+    }
+}
+
+// What the root's record says of the root.
+fn with_root<B: Body>(rest: RestWords<B>) -> (Watched, RestWords<B>)
+    requires named { (born : List Reference) × AreNamed rest.cells born }
+    ensures rest { result.1 ≡ rest }
+    ensures watched { IsRootWatched rest.records result.0 }
+{
+    let watched = match rest.rec(CellId(0)) {
+        Some(rec) => root_told(rec.finish),
+        None => unreachable!(),
+    };
+    (watched, rest)
+}
+
+// What is told of a task's result that ended like this, or waits.
+fn root_told(finish: Option<Finish>) -> Watched
+    ensures { result ≡ watched_of finish }
+{
+    match finish {
+        Some(Finish::Done(fill)) => Watched::Value(fill),
+        Some(Finish::Failed(_)) => Watched::Broken,
+        None => Watched::Rested,
+    }
+}

@@ -1,0 +1,17 @@
+//! Waiting for a cell from outside: a caller that is no task looks at a cell, watches it, or polls a
+//! future, while the workers run. It publishes no wait, so it stands in no cycle.
+#![tactic(auto)]
+
+mod beside;
+mod looks;
+#[cfg(test)]
+mod own_body_tests;
+mod polls;
+#[cfg(test)]
+mod tests;
+mod watched;
+
+pub use beside::run_watched;
+pub use looks::{look_at, watch};
+pub use polls::{CellWait, Polled};
+pub use watched::Watched;

@@ -1,0 +1,98 @@
+//! One look at a cell, and a watch, which looks until it is answered.
+ghost use Rattle.std.specs.Prelude.{◌≡◌, ◌<◌, ◌≤◌, [], IfSome, None};
+ghost use Rattle.tj_body.specs.Programs.{program_of};
+ghost use Rattle.tj_words.specs.SeatSteps.{IsCellOf, IsSameSeat, IsSeatOf};
+ghost use Rattle.tj_words.specs.Views.{IsIdle};
+ghost use Rattle.tj_run.specs.Going.{stop_word};
+ghost use Rattle.tj_future.specs.Looks.{Answers, GoesOn, IsWatched, told_as};
+
+use crate::watched::Watched;
+use std::sync::Wait;
+use std::thread;
+use tj_base::CellId;
+use tj_body::Body;
+use tj_cells::{Seen, value};
+use tj_run::Why;
+use tj_words::{Fill, Laid, WSeat};
+
+/// One look at cell `p`. Nothing comes only where TAG of the cell was loaded as 0, STOP as 0, and LIVE
+/// above 0. `Rested` comes only where this call loaded LIVE as 0, and after that TAG as 0.
+pub fn look_at<B: Body>(laid: &Laid<B>, seat: &mut WSeat<B>, p: CellId) -> Option<Watched>
+    requires table { IsSeatOf laid.now seat.old }
+    requires cell { IsCellOf laid.now p.0 }
+    requires idle { IsIdle seat.old.me.0 }
+    requires slots { seat.old.me.1 ≡ [] }
+    ensures seat { IsSameSeat seat.old seat.new }
+    ensures idle { IsIdle seat.new.me.0 }
+    ensures slots { seat.new.me.1 ≡ [] }
+    ensures lot { seat.new.me.0.lot ≡ seat.old.me.0.lot }
+    ensures none { result ≡ None → GoesOn p.0 seat.old.me.0 seat.new.me.0 }
+    ensures some { IfSome result (λ watched. Answers (program_of B.places B.awaits B.left B.asks
+        B.then) laid.now.cells p.0 watched seat.old.me.0 seat.new.me.0) }
+{
+    let seen = value(laid, seat, p);
+    if seen != Seen::NotYet {
+        return Some(told(seen));
+    }
+    let stop = laid.stopped(seat);
+    if stop != 0 {
+        return Some(Watched::Stopped(why_of(stop)));
+    }
+    if laid.live(seat) != 0 {
+        return None;
+    }
+    Some(told(value(laid, seat, p)))
+}
+
+// What is told of a cell that was seen like this where nothing goes on any more.
+fn told(seen: Seen) -> Watched
+    ensures { result ≡ told_as seen }
+{
+    match seen {
+        Seen::Num(number) => Watched::Value(Fill::Num(number)),
+        Seen::Promise(cell) => Watched::Value(Fill::Promise(cell)),
+        Seen::Task(cell) => Watched::Value(Fill::Task(cell)),
+        Seen::Broken => Watched::Broken,
+        Seen::NotYet => Watched::Rested,
+    }
+}
+
+// What STOP says.
+fn why_of(word: u64) -> Why
+    requires some { 0 < word }
+    requires known { word ≤ 2 }
+    ensures { stop_word result ≡ word }
+{
+    match word {
+        1 => Why::Full,
+        _ => Why::Memory,
+    }
+}
+
+/// Looks at cell `p` until it is answered.
+pub fn watch<B: Body, R: Wait>(
+    rt: &R,
+    laid: &Laid<B>,
+    seat: WSeat<B>,
+    p: CellId,
+) -> (Watched, WSeat<B>)
+    requires table { IsSeatOf laid.now seat }
+    requires cell { IsCellOf laid.now p.0 }
+    requires idle { IsIdle seat.me.0 }
+    requires slots { seat.me.1 ≡ [] }
+    ensures table { result.1.table_id ≡ seat.table_id }
+    ensures idle { IsIdle result.1.me.0 }
+    ensures slots { result.1.me.1 ≡ [] }
+    ensures lot { result.1.me.0.lot ≡ seat.me.0.lot }
+    ensures answer { IsWatched (program_of B.places B.awaits B.left B.asks B.then) laid.now.cells
+        p.0 result.0 seat.me.0 result.1.me.0 }
+{
+    let mut seat = seat;
+    for _i in rt.forever() {
+        if let Some(watched) = look_at(laid, &mut seat, p) {
+            return (watched, seat);
+        }
+        thread::yield_now();
+    }
+    unreachable!()
+}

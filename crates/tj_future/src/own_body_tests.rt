@@ -1,0 +1,103 @@
+//! A program of one's own: a body, a run of it, and a run with a watch of the root beside.
+ghost use Rattle.tj_future.specs.Greetings.{greets_at, greeting_awaits};
+
+use crate::{Polled, Watched, look_at, run_watched};
+use std::alloc::Global;
+use std::sync::Wait;
+use std::test::Fail;
+use std::thread::Threads;
+use tj_base::{CellId, Oom, Pay};
+use tj_body::{Answer, Ask, Body};
+use tj_ports::OpenGate;
+use tj_ready::StealPool;
+use tj_run::{RunFault, run_all};
+use tj_words::{Fill, Laid, WSeat};
+
+/// A task that prints a number and ends with it.
+#[derive(Drop)]
+struct Greeting {
+    number: i64,
+    /// How many asks it has given.
+    step: u32,
+}
+
+impl Body for Greeting {
+    ghost use Rattle.std.specs.Prelude.{suc, ◌-◌};
+    ghost use Rattle.tj_future.specs.Greetings.{greets_at, greeting_awaits, greeting_obeys};
+
+    ghost places = { λ b. 1 };
+
+    ghost awaits = { λ b. greeting_awaits b.step };
+
+    ghost left = { λ b. 2 - b.step };
+
+    ghost asks = { λ b a. greets_at b.number b.step };
+
+    ghost then = { λ b a. record b { step = suc b.step } };
+
+    fn next(&mut self, _alloc: Global, _a: Answer) -> Result<Ask<Self>, Oom> {
+        let step = self.step;
+        self.step = step + 1;
+        if step == 0 {
+            return Ok(Ask::Emit(self.number));
+        }
+        Ok(Ask::End(Pay::Num(self.number)))
+    }
+
+    fn twin(&self, _alloc: Global) -> Result<Self, Oom> {
+        Ok(Greeting {
+            number: self.number,
+            step: self.step,
+        })
+    }
+
+    ghost obeys = { λ b a f. let h = greeting_obeys (λ _. 1) (λ c. greeting_awaits c.step)
+        (λ c. 2 - c.step) b.number b.step a f in record {
+          falls = h.falls;
+          awaits_answer = h.awaits_answer;
+          adds_places = h.adds_places;
+          placed = h.placed;
+        } };
+}
+
+impl Polled for Greeting {
+    fn look(laid: &Laid<Self>, seat: &mut WSeat<Self>, p: CellId) -> Option<Watched> {
+        look_at(laid, seat, p)
+    }
+}
+
+/// What the root of a run by four workers has printed, and how many cells were drawn.
+fn printed<R: Wait + Threads + Sync>(rt: &R, alloc: Global) -> Result<bool, RunFault> {
+    let root = Greeting { number: 8, step: 0 };
+    let rest = run_all::<Greeting, StealPool, OpenGate, R>(
+        rt, alloc, root, 16, 4, &OpenGate, false,
+    )?;
+    if rest.drawn() < 1 {
+        return Ok(false);
+    }
+    let Some(rec) = rest.rec(CellId(0)) else {
+        return Ok(false);
+    };
+    Ok(rec.prints.items() == &[8i64][..])
+}
+
+#[test]
+fn a_body_of_ones_own_is_run(rt: HostRuntime) -> Result<(), Fail> {
+    assert!(rt; matches!(printed(&rt, rt.alloc()), Ok(true)));
+    Ok(())
+}
+
+#[test]
+fn a_body_of_ones_own_is_watched(rt: HostRuntime) -> Result<(), Fail> {
+    let root = Greeting { number: 8, step: 0 };
+    let ran = run_watched::<Greeting, StealPool, OpenGate, HostRuntime>(
+        &rt,
+        rt.alloc(),
+        root,
+        16,
+        4,
+        &OpenGate,
+    );
+    assert!(rt; matches!(ran, Ok((Watched::Value(Fill::Num(8)), _))));
+    Ok(())
+}

@@ -1,0 +1,111 @@
+//! A wait for a cell as a future: a poll is one look.
+ghost use Rattle.std.specs.Prelude.{◌≡◌, true, [], IfSome, IsSomeAnd, None, Option, Some};
+ghost use Rattle.atomic_table.specs.declared.shared.Seat.{Seat};
+ghost use Rattle.futures.specs.Poll.{IfReady, OnPending};
+ghost use Rattle.futures.specs.Task.{Covers, Keeps};
+ghost use Rattle.tj_body.specs.Programs.{program_of};
+ghost use Rattle.tj_words.specs.declared.record.Rec.{Rec};
+ghost use Rattle.tj_words.specs.declared.view.View.{View};
+ghost use Rattle.tj_words.specs.SeatSteps.{IsCellOf, IsSameSeat, IsSeatOf};
+ghost use Rattle.tj_words.specs.Views.{IsIdle};
+ghost use Rattle.tj_future.specs.Looks.{Answers, GoesOn};
+ghost use Rattle.tj_future.specs.Polls.{IsGiven, MayPoll, StillWaits};
+
+use crate::looks::look_at;
+use crate::watched::Watched;
+use futures::Future;
+use futures::task::{Context, Poll};
+use tj_base::CellId;
+use tj_body::{Body, TableBody};
+use tj_words::{Laid, WSeat};
+
+/// A body whose tables may be polled. An `impl` calls `look_at`, whose clauses these are. (A poll is
+/// a method of an `impl`, which can't call a function over all bodies.)
+pub trait Polled: Body {
+    fn look(laid: &Laid<Self>, seat: &mut WSeat<Self>, p: CellId) -> Option<Watched>
+        requires table { IsSeatOf laid.now seat.old }
+        requires cell { IsCellOf laid.now p.0 }
+        requires idle { IsIdle seat.old.me.0 }
+        requires slots { seat.old.me.1 ≡ [] }
+        ensures seat { IsSameSeat seat.old seat.new }
+        ensures idle { IsIdle seat.new.me.0 }
+        ensures slots { seat.new.me.1 ≡ [] }
+        ensures lot { seat.new.me.0.lot ≡ seat.old.me.0.lot }
+        ensures none { result ≡ None → GoesOn p.0 seat.old.me.0 seat.new.me.0 }
+        ensures some { IfSome result (λ watched. Answers (program_of Self.places Self.awaits
+            Self.left Self.asks Self.then) laid.now.cells p.0 watched seat.old.me.0
+            seat.new.me.0) };
+}
+
+impl<'s> Polled for TableBody<'s> {
+    fn look(laid: &Laid<Self>, seat: &mut WSeat<Self>, p: CellId) -> Option<Watched> {
+        look_at(laid, seat, p)
+    }
+}
+
+/// A wait for a cell. It has its seat until a poll is ready.
+#[derive(Drop)]
+pub struct CellWait<'a, B: Body> {
+    laid: &'a Laid<B>,
+    seat: Option<WSeat<B>>,
+    p: CellId,
+}
+
+impl<'a, B: Body> CellWait<'a, B> {
+    pub fn new(laid: &'a Laid<B>, seat: WSeat<B>, p: CellId) -> CellWait<'a, B>
+        requires table { IsSeatOf laid.now seat }
+        requires cell { IsCellOf laid.now p.0 }
+        requires idle { IsIdle seat.me.0 }
+        requires slots { seat.me.1 ≡ [] }
+        ensures laid { result.laid.now ≡ laid.now }
+        ensures seat { result.seat ≡ Some seat }
+        ensures cell { result.p ≡ p }
+        ensures may { MayPoll result.laid.now result.seat result.p.0 }
+    {
+        CellWait {
+            laid,
+            seat: Some(seat),
+            p,
+        }
+    }
+}
+
+impl<'a, B: Polled> Future for CellWait<'a, B> {
+    type Output = (Watched, WSeat<B>);
+
+    ghost can_poll = { λ wait. MayPoll wait.laid.now wait.seat wait.p.0 };
+
+    ghost gives = { λ wait given. IsGiven (program_of B.places B.awaits B.left B.asks B.then)
+        wait.laid.now wait.seat wait.p.0 given.0 given.1 };
+
+    fn poll(&mut self, cx: &mut Context<'_>) -> Poll<(Watched, WSeat<B>)>
+        requires { MayPoll self.old.laid.now self.old.seat self.old.p.0 }
+        ensures value { IfReady result (λ given. IsGiven (program_of B.places B.awaits B.left B.asks
+            B.then) self.old.laid.now self.old.seat self.old.p.0 given.0 given.1) }
+        // It is ready with what this look answered.
+        ensures looked { IfReady result (λ given. IsSomeAnd self.old.seat (λ seat. Answers
+            (program_of B.places B.awaits B.left B.asks B.then) self.old.laid.now.cells self.old.p.0
+            given.0 seat.me.0 given.1.me.0)) }
+        // It is pending only where this look answered nothing, and it has yielded then.
+        ensures pending { OnPending result (StillWaits self.old.p.0 self.old.seat self.new.seat) }
+        ensures yielded { OnPending result (cx.new.is_woken ≡ true) }
+        ensures again { OnPending result (MayPoll self.new.laid.now self.new.seat self.new.p.0) }
+        ensures same { OnPending result ((given : Watched × Seat (Option (Rec B)) (View B)) → IsGiven
+            (program_of B.places B.awaits B.left B.asks B.then) self.new.laid.now self.new.seat
+            self.new.p.0 given.0 given.1 → IsGiven (program_of B.places B.awaits B.left B.asks
+            B.then) self.old.laid.now self.old.seat self.old.p.0 given.0 given.1) }
+        ensures registered { OnPending result (Covers cx.new (λ _. ⊥)) }
+        ensures kept { Keeps cx.old cx.new }
+    {
+        let Some(mut seat) = self.seat.take() else {
+            unreachable!()
+        };
+        match B::look(self.laid, &mut seat, self.p) {
+            Some(watched) => Poll::Ready((watched, seat)),
+            None => {
+                self.seat = Some(seat);
+                cx.yield_now()
+            }
+        }
+    }
+}

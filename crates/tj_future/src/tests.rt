@@ -1,0 +1,116 @@
+//! A fresh table of two cells, which a second seat waits for while a worker has the first.
+ghost use Rattle.std.specs.Prelude.{◌≡◌, ◌<◌, ◌≤◌, ◌*◌, [], length, IfOk, IsTrue};
+ghost use Rattle.tj_body.specs.Table.{is_table};
+ghost use Rattle.tj_words.specs.Lots.{least_lot};
+ghost use Rattle.tj_words.specs.SeatSteps.{IsSeatOf};
+ghost use Rattle.tj_words.specs.Views.{IsIdle};
+ghost use Rattle.tj_run.specs.Carried.{IsFree};
+
+use crate::{CellWait, Watched, look_at, run_watched};
+use futures::executor::block_on;
+use std::alloc::Global;
+use std::sync::Wait;
+use std::test::Fail;
+use std::thread::join;
+use tj_base::{CellId, Items, Oom, Pay};
+use tj_body::{Body, Row, RowList, TableBody};
+use tj_ports::OpenGate;
+use tj_ready::{LockedPool, Pool};
+use tj_run::worker;
+use tj_words::{Fill, Laid, WSeat};
+
+/// The table of one task, which makes a promise, sets it to 5, and ends with 7.
+fn one_promise(alloc: Global) -> Result<[RowList; 1], Oom>
+    ensures { IfOk result (λ lists. IsTrue (is_table lists) × (0 < length lists)) }
+{
+    let mut rows = Vec::new(alloc);
+    rows.push(Row::New)?;
+    rows.push(Row::Set {
+        p: 1,
+        v: Pay::Num(5),
+    })?;
+    rows.push(Row::End(Pay::Num(7)))?;
+    Ok([Items::of(rows)])
+}
+
+/// The one end of a pool for a table of two cells, with the root in it.
+fn one_end<P: Pool, R: Wait>(rt: &R, alloc: Global) -> Result<P, Oom>
+    ensures { IfOk result (λ end. P.limit end ≡ 2) }
+{
+    let mut ends = P::make(rt, alloc, 1, 2)?;
+    let Some(mut end) = ends.pop() else {
+        return Err(Oom);
+    };
+    end.put(rt, alloc, CellId(0))?;
+    Ok(end)
+}
+
+/// A seat for a worker, and one to wait with.
+fn two_seats<B: Body>(laid: &Laid<B>, seat: WSeat<B>) -> (WSeat<B>, WSeat<B>)
+    requires table { IsSeatOf laid.now seat }
+    requires free { IsFree laid.now seat.me }
+    requires room { 2 * least_lot ≤ seat.me.0.lot }
+    ensures table { IsSeatOf laid.now result.0 }
+    ensures free { IsFree laid.now result.0.me }
+    ensures other_table { IsSeatOf laid.now result.1 }
+    ensures idle { IsIdle result.1.me.0 }
+    ensures slots { result.1.me.1 ≡ [] }
+{
+    let (first, second) = laid.split(seat);
+    (first, second)
+}
+
+#[test]
+fn nothing_has_become_of_a_new_root(rt: HostRuntime) -> Result<(), Fail> {
+    let a = rt.alloc();
+    let lists = one_promise(a)?;
+    let (laid, mut seat) = Laid::new(a, 2, TableBody::new(&lists, 0), false)?;
+    assert_eq!(rt; look_at(&laid, &mut seat, CellId(0)), None, "the root");
+    assert_eq!(rt; look_at(&laid, &mut seat, CellId(1)), None, "no cell yet");
+    Ok(())
+}
+
+#[test]
+fn a_second_seat_waits_for_a_promise(rt: HostRuntime) -> Result<(), Fail> {
+    let a = rt.alloc();
+    let lists = one_promise(a)?;
+    let (laid, seat) = Laid::new(a, 2, TableBody::new(&lists, 0), false)?;
+    let end = one_end::<LockedPool, HostRuntime>(&rt, a)?;
+    let (first, mut second) = two_seats(&laid, seat);
+    assert_eq!(rt; look_at(&laid, &mut second, CellId(0)), None, "nothing yet");
+    let (_first, _left) = worker(&rt, a, &laid, first, end, &OpenGate, 1);
+    let (told, _seat) = block_on(&rt, CellWait::new(&laid, second, CellId(1)))?;
+    assert_eq!(rt; told, Watched::Value(Fill::Num(5)), "the promise");
+    Ok(())
+}
+
+#[test]
+fn a_future_polls_while_a_worker_runs(rt: HostRuntime) -> Result<(), Fail> {
+    let a = rt.alloc();
+    let lists = one_promise(a)?;
+    let (laid, seat) = Laid::new(a, 2, TableBody::new(&lists, 0), false)?;
+    let end = one_end::<LockedPool, HostRuntime>(&rt, a)?;
+    let (first, second) = two_seats(&laid, seat);
+    let table = &laid;
+    let host = &rt;
+    let working = move || worker(host, a, table, first, end, &OpenGate, 1);
+    let waiting = move || block_on(host, CellWait::new(table, second, CellId(0)));
+    let (_left, given) = join(&rt, working, waiting);
+    let (told, _seat) = given?;
+    assert_eq!(rt; told, Watched::Value(Fill::Num(7)), "the root");
+    Ok(())
+}
+
+#[test]
+fn a_run_is_watched(rt: HostRuntime) -> Result<(), Fail> {
+    let a = rt.alloc();
+    let lists = one_promise(a)?;
+    let root = TableBody::new(&lists, 0);
+    match run_watched::<TableBody<'_>, LockedPool, OpenGate, HostRuntime>(
+        &rt, a, root, 2, 2, &OpenGate,
+    ) {
+        Ok((told, _rest)) => assert_eq!(rt; told, Watched::Value(Fill::Num(7)), "the root"),
+        Err(_) => assert!(rt; false, "two cells are enough"),
+    }
+    Ok(())
+}
