@@ -9,3 +9,15 @@ pub mod RoundSteps
 pub mod SettledRounds
 pub mod StandingCycles
 pub mod ToldOutcomes
+pub mod ChildNames
+pub mod LinePlaces
+pub mod SeenActs
+pub mod NotedRounds
+pub mod EndedTasks
+pub mod ForkNumbers
+pub mod ReachedActs
+pub mod ActsAgree
+pub mod ActTasks
+pub mod ListEnds
+pub mod NotedAsks
+pub mod MeantLines

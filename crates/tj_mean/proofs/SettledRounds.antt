@@ -103,3 +103,27 @@ module _ {B : Type 0} (program : Program B) where
   pub kept_entries : (n : ℕ) (r : Round) → IsRound program n r
       → length r.entries.items ≡ length (entries program (suc n))
   kept_entries n r is = ap (λ (l : List (Name × Entry)). length l) is.entries_kept
+
+  -- from a round on that adds nothing all is as in the meaning
+  pub settled_meant : (N n : ℕ) (r : Round) → IsRound program n r → n ≤ 2 * N
+      → length r.tasks.items ≤ length (tasks program n)
+      → length r.entries.items ≤ length (entries program n)
+      → (given program n ≡ given program (last_round N)) × (tasks program (suc n) ≡ tasks program (last_round N))
+  settled_meant N n r is few t e =
+      let a = told_length n r is in
+      let b = kept_length (V n) (tasks program (suc n)) in
+      let c = ap (λ (l : List (Name × Entry)). length l) is.entries_kept in
+      let s = settles_by_size program n (omega arith) (omega arith) in
+      let z : suc (2 * N) ≡ last_round N = omega arith in
+      (sym (s (last_round N) (omega arith)).0, sym (s (2 * N) few).1 ∙ ap (λ k. tasks program k) z)
+
+  -- and so is it from round 2 N on, where the next one has at most N cells
+  pub last_meant : (N n : ℕ) (r : Round) → IsRound program (2 * N) r → r.cells ≤ N → n ≡ 2 * N
+      → (given program n ≡ given program (last_round N)) × (tasks program (suc n) ≡ tasks program (last_round N))
+  last_meant N n r is few e =
+      let z : suc (2 * N) ≡ last_round N = omega arith in
+      let c = ap (λ k. length (cells program k)) z in
+      let d = is.cells_counted in (
+        ap (λ k. given program k) e ∙ sym (last_given program N (omega arith) (last_round N) (omega arith)),
+        ap (λ k. tasks program (suc k)) e ∙ ap (λ k. tasks program k) z,
+      )

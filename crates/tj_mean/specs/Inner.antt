@@ -3,3 +3,5 @@ pub mod Assignments
 pub mod Exceeds
 pub mod KeptRounds
 pub mod Places
+pub mod SettledRounds
+pub mod NotedActs

@@ -1,3 +1,6 @@
 pub mod OutcomeLaws
 pub mod Outcomes
 pub mod Inner
+pub mod ActLines
+pub mod Acts
+pub mod ActLaws

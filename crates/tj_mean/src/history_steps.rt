@@ -48,7 +48,7 @@ fn read<B: Body>(
 }
 
 /// One ask more, or one answer more. False: the task has ended, or it waits on.
-fn advance<B: Body>(
+pub fn advance<B: Body>(
     alloc: Global,
     p: &mut Point<B>,
     given: &BTreeMap<Name, Entry>,
@@ -84,7 +84,7 @@ fn advance<B: Body>(
 }
 
 /// Where the task begins.
-fn start<B: Body>(alloc: Global, task: Task<B>) -> Result<Point<B>, Oom>
+pub fn start<B: Body>(alloc: Global, task: Task<B>) -> Result<Point<B>, Oom>
     ensures { IfOk result (λ p. p ≡ history.start task) }
 {
     let mut references = Vec::new(alloc);

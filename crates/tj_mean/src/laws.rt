@@ -3,6 +3,7 @@
 ghost use Rattle.std.specs.Prelude.{List};
 ghost use Rattle.tj_body.specs.Laws.{HoldsOfPrograms};
 ghost use Rattle.tj_body.specs.declared.point.Point.{Point};
+ghost use Rattle.tj_mean.specs.ActLaws.{ActsCanBeWorkedOff};
 ghost use Rattle.tj_mean.specs.OutcomeLaws.{HasOneOutcome, MeaningIsApart, OrderIsFree};
 ghost use Rattle.tj_mean.specs.OutcomeLaws.{OutcomeHasCycleWhereWaits, StrictOutcomeHasNoWait};
 
@@ -31,4 +32,10 @@ pub fn outcome_has_cycle_where_waits<B: Body>()
 /// Under the strict rule the outcome of a program without gets has no cycle, and no task waits.
 pub fn strict_outcome_has_no_wait<B: Body>()
     ensures { HoldsOfPrograms B.places B.awaits B.left B.asks B.then StrictOutcomeHasNoWait }
+{}
+
+/// In a meaning without the strict rule that isn't full there is an order in which all acts can be
+/// worked off.
+pub fn acts_can_be_worked_off<B: Body>()
+    ensures { HoldsOfPrograms B.places B.awaits B.left B.asks B.then ActsCanBeWorkedOff }
 {}

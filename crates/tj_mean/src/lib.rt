@@ -1,6 +1,9 @@
 //! The meaning of a task program, computed on one thread by rounds, and its outcome.
 #![tactic(auto)]
 
+mod act;
+mod act_lines;
+mod act_steps;
 mod ask_steps;
 mod held_names;
 mod history_steps;
@@ -14,9 +17,11 @@ mod tests;
 mod told;
 mod wait_graph;
 
+pub use act::{Act, ActLine, ActLines, ActList};
+pub use act_lines::acts;
 pub use laws::{
-    meaning_is_apart, one_outcome, order_is_free, outcome_has_cycle_where_waits,
-    strict_outcome_has_no_wait,
+    acts_can_be_worked_off, meaning_is_apart, one_outcome, order_is_free,
+    outcome_has_cycle_where_waits, strict_outcome_has_no_wait,
 };
 pub use outcome::{
     CycleList, Ending, LineList, Link, LinkList, Outcome, PlanFault, TaskLine, marked,

@@ -32,10 +32,10 @@ pub struct Round {
 
 /// A task that is still to be taken.
 #[derive(Debug, Drop)]
-struct Pending<B> {
-    task: Task<B>,
+pub struct Pending<B> {
+    pub task: Task<B>,
     /// How many forks after one another the round follows from it.
-    depth: u32,
+    pub depth: u32,
 }
 
 /// The round after round `n`, whose assignment is given. `Full` where it, or a later one, has more
@@ -81,7 +81,7 @@ pub fn next_round<B: Body>(
 }
 
 /// The root task.
-fn root_task<B: Body>(alloc: Global, root: &B) -> Result<Task<B>, Oom>
+pub fn root_task<B: Body>(alloc: Global, root: &B) -> Result<Task<B>, Oom>
     ensures { IfOk result (λ task. task ≡ programs.root_task root.now) }
 {
     Ok(Task {
@@ -94,7 +94,7 @@ fn root_task<B: Body>(alloc: Global, root: &B) -> Result<Task<B>, Oom>
 
 /// The children are to be taken next, the first of them first, if so many forks are followed that
 /// they are reached.
-fn push_children<B: Body>(
+pub fn push_children<B: Body>(
     pending: &mut Vec<Pending<B>>,
     mut children: Vec<Task<B>>,
     depth: u32,

@@ -10,6 +10,7 @@ ghost use Rattle.tj_body.specs.Asks.{IsFresh};
 ghost use Rattle.tj_body.specs.Programs.{program_of};
 ghost use Rattle.tj_body.specs.Rounds as rounds;
 ghost use Rattle.tj_mean.specs.Inner.Assignments.{assignment_in};
+ghost use Rattle.tj_mean.specs.Inner.SettledRounds.{IsSettled};
 ghost use Rattle.tj_mean.specs.OutcomeLaws.{HasCycleWhereWaits};
 ghost use Rattle.tj_mean.specs.Outcomes.{AreTold, IsOutcome};
 
@@ -45,17 +46,27 @@ pub fn plan<B: Body>(
     ensures waits { IfOk result HasCycleWhereWaits }
 {
     outcome_has_cycle_where_waits::<B>();
-    let tasks = histories(alloc, root, cells, strict)?;
-    Ok(outcome_of(alloc, tasks)?)
+    let settled = settle(alloc, root, cells, strict)?;
+    Ok(outcome_of(alloc, settled.tasks)?)
 }
 
-/// What is kept of the histories of the meaning.
-fn histories<B: Body>(
+/// The round at which the meaning settles.
+#[derive(Drop)]
+pub struct Settled {
+    /// The assignment of round `n`, which the histories are under.
+    pub given: BTreeMap<Name, Entry>,
+    pub n: u32,
+    /// What is kept of the histories of the meaning.
+    pub tasks: Vec<Stopped>,
+}
+
+/// The round that equals all later ones.
+pub fn settle<B: Body>(
     alloc: Global,
     root: &B,
     cells: u32,
     strict: bool,
-) -> Result<Vec<Stopped>, PlanFault>
+) -> Result<Settled, PlanFault>
     requires root { IsFresh B.places B.awaits B.left 1 root.now }
     requires cells { (0 < cells) × (cells ≤ 16384) }
     ensures fits { let p = program_of B.places B.awaits B.left B.asks B.then strict root.now in
@@ -63,7 +74,9 @@ fn histories<B: Body>(
     ensures full { let p = program_of B.places B.awaits B.left B.asks B.then strict root.now in
         IfErr result (λ e. e ≡ PlanFault.Full → rounds.IsFull p cells) }
     ensures told { let p = program_of B.places B.awaits B.left B.asks B.then strict root.now in
-        IfOk result (λ tasks. AreTold (rounds.meaning p cells) tasks.items) }
+        IfOk result (λ settled. AreTold (rounds.meaning p cells) settled.tasks.items) }
+    ensures settled { let p = program_of B.places B.awaits B.left B.asks B.then strict root.now in
+        IfOk result (IsSettled p cells) }
 {
     let mut given = BTreeMap::new(alloc);
     let mut tasks = 0;
@@ -72,7 +85,11 @@ fn histories<B: Body>(
     loop {
         let round = next_round(alloc, root, &given, n, cells, strict)?;
         if n == 2 * cells || adds_none(&round, tasks, entries) {
-            return Ok(round.tasks);
+            return Ok(Settled {
+                given,
+                n,
+                tasks: round.tasks,
+            });
         }
         tasks = round.tasks.len();
         entries = round.entries.len();

@@ -3,7 +3,7 @@ ghost use Rattle.std.specs.Prelude.{◌≡◌, ◌<◌, length, IfOk, IsTrue};
 ghost use Rattle.tj_body.specs.Table.{is_table};
 ghost use Rattle.tj_body.specs.declared.table.Row.TheVariants as row;
 
-use crate::{Ending, Outcome, PlanFault, marked, plan};
+use crate::{Act, ActLines, Ending, Outcome, PlanFault, acts, marked, plan};
 use std::alloc::Global;
 use std::process::Abort;
 use std::test::Fail;
@@ -303,5 +303,68 @@ fn cycles_and_lines_in_order(rt: HostRuntime) -> Result<(), Fail> {
     let twice = [rows(a, [fork(a, 0, &[], &[])?, fork(a, 0, &[], &[])?])?];
     let body = TableBody::new(&twice, 0);
     assert!(rt; matches!(plan(a, &body, 16384, false), Err(PlanFault::Full)));
+    Ok(())
+}
+
+/// The lines of acts: `+` before what is forked, `?` before what is joined, and `!` behind a join
+/// that is answered.
+fn acts_text(alloc: Global, lines: &ActLines) -> Result<Vec<u8>, Oom> {
+    let mut text = Vec::new(alloc);
+    for line in lines.items() {
+        line.name.text_into(alloc, &mut text)?;
+        text.push(b':')?;
+        for act in line.acts.items() {
+            let (before, name, behind) = match act {
+                Act::Fork(child) => (b'+', child, b' '),
+                Act::Join(joined, true) => (b'?', joined, b'!'),
+                Act::Join(joined, false) => (b'?', joined, b' '),
+            };
+            text.push(before)?;
+            name.text_into(alloc, &mut text)?;
+            text.push(behind)?;
+        }
+        text.push(b';')?;
+    }
+    Ok(text)
+}
+
+/// A join that is answered by a value, one by a break, one that isn't answered, and one of a
+/// promise, which is no act.
+#[test]
+fn what_tasks_do_with_one_another(rt: HostRuntime) -> Result<(), Fail> {
+    let a = rt.alloc();
+    let lists = [
+        rows(
+            a,
+            [
+                Row::New,
+                fork(a, 1, &[], &[])?,
+                fork(a, 2, &[2, 1], &[])?,
+                Row::JoinOr { t: 2 },
+                Row::Join { t: 3 },
+            ],
+        )?,
+        rows(a, [])?,
+        rows(
+            a,
+            [
+                fork(a, 3, &[], &[])?,
+                Row::JoinOr { t: 1 },
+                Row::Join { t: 2 },
+            ],
+        )?,
+        rows(a, [Row::Join { t: 0 }])?,
+    ];
+    let body = TableBody::new(&lists, 0);
+    assert!(rt; matches!(acts(a, &body, 4), Err(PlanFault::Full)));
+    match acts(a, &body, 5) {
+        Ok(lines) => {
+            let text = acts_text(a, &lines)?;
+            let expected: &[u8] = b"0:+0.2 +0.3 ?0.2!?0.3!;0.2:;0.3:+0.3.1 ?0.2!;0.3.1:?0.3.1 ;";
+            assert_eq!(rt; text.as_slice(), expected, "acts");
+        }
+        Err(PlanFault::Full) => panic!(rt; "full"),
+        Err(PlanFault::Oom) => return Err(Oom.into()),
+    }
     Ok(())
 }

@@ -4,13 +4,14 @@ use Rattle.std.specs.Ordering.{nat_cmp}
 use Rattle.std.specs.BTreeMap.{is_at}
 use Rattle.std.specs.Map.{lookup}
 use Rattle.tj_body.specs.Programs.{program_of}
-use Rattle.tj_body.specs.Rounds.{given, tasks, entries, entry_in}
+use Rattle.tj_body.specs.Rounds.{given, tasks, entries, entry_in, last_round}
 use Rattle.tj_mean.specs.Inner.Assignments.{assignment_in}
 use Rattle.tj_mean.specs.Inner.KeptRounds.{IsRound}
 use Rattle.tj_mean.proofs.SettledRounds.{settled_tells, last_tells, settled_fits, last_fits, kept_tasks, kept_entries}
-use Rattle.tj_mean.proofs.rounds.histories.Goals as goal
-use Rattle.tj_mean.proofs.rounds.histories.Goals.{then-n-cells-via-then-n-cells}
-use Rattle.tj_mean.proofs.rounds.histories.Goals.{then-n-cells-via-else-n-cells+then-adds_none}
+use Rattle.tj_mean.proofs.SettledRounds.{settled_meant, last_meant}
+use Rattle.tj_mean.proofs.rounds.settle.Goals as goal
+use Rattle.tj_mean.proofs.rounds.settle.Goals.{then-n-cells-via-then-n-cells}
+use Rattle.tj_mean.proofs.rounds.settle.Goals.{then-n-cells-via-else-n-cells+then-adds_none}
 
 pub loop-given-init : goal.loop-given-init
 loop-given-init g c = record {
@@ -72,3 +73,21 @@ returns-then-n-cells-clause-told g c =
           (subst (λ k. length r.round.tasks.items ≤ k) i.tasks_counted none.0)
           (subst (λ k. length r.round.entries.items ≤ k) i.entries_counted none.1)
     ]
+
+pub returns-then-n-cells-clause-settled : goal.returns-then-n-cells-clause-settled
+returns-then-n-cells-clause-settled g c =
+    let b = g.B.Body in let i = c.loop-given.invariant in let r = c.in_ok-round in
+    let program = program_of b.places b.awaits b.left b.asks b.then c.args.strict c.args.root.now in
+    let few = i.few_rounds in
+    let cells = c.requires.cells.1 in
+    let n = c.loop-given.n in
+    let N = c.args.cells in
+    let meant : (given program n ≡ given program (last_round N))
+        × (tasks program (suc n) ≡ tasks program (last_round N)) = elim c.then-n-cells.branch [
+      | then-n-cells-via-then-n-cells w ↦ last_meant program N n r.round
+          (subst (λ k. IsRound program k r.round) w.if-n-cells.true r.ensures.ok) r.ensures.few w.if-n-cells.true
+      | then-n-cells-via-else-n-cells+then-adds_none w ↦ let none = w.adds_none.ensures.0 w.if-adds_none.true in
+          settled_meant program N n r.round r.ensures.ok i.few_rounds
+          (subst (λ k. length r.round.tasks.items ≤ k) i.tasks_counted none.0)
+          (subst (λ k. length r.round.entries.items ≤ k) i.entries_counted none.1)
+    ] in record { kept = i.round; small = omega arith; assigned = meant.0; tasks_are = meant.1 }

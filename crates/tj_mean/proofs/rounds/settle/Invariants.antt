@@ -2,7 +2,7 @@ use Rattle.std.proofs.Common.{◌≡◌, ◌*◌, ◌-◌, ◌≤◌, length}
 use Rattle.tj_body.specs.Programs.{program_of}
 use Rattle.tj_body.specs.Rounds.{given, tasks, entries}
 use Rattle.tj_mean.specs.Inner.Assignments.{assignment_in}
-use Rattle.tj_mean.proofs.rounds.histories.Given as goal
+use Rattle.tj_mean.proofs.rounds.settle.Given as goal
 
 -- the map is the assignment of round n, and the numbers are those of its tasks and its entries
 abbrev pub invariant-loop-given : goal.invariant-loop-given

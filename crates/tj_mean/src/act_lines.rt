@@ -1,0 +1,87 @@
+//! The acts of a program's meaning: for each task its forks, and its joins of results, in order.
+//! Rounds are taken until they settle. Then each task of the last one is taken once more, under the
+//! same assignment, and its acts are noted.
+ghost use Rattle.std.specs.Prelude.{◌≡◌, ◌<◌, ◌≤◌, ◌^◌, suc, false, map, IfOk, IfErr};
+ghost use Rattle.std.specs.List.Sorted.{IsPermutation};
+ghost use Rattle.tj_body.specs.Asks.{IsFresh};
+ghost use Rattle.tj_body.specs.Laws.{AreDistinct};
+ghost use Rattle.tj_body.specs.Programs.{program_of};
+ghost use Rattle.tj_body.specs.Rounds as rounds;
+ghost use Rattle.tj_mean.specs.Acts.{AreActsOf, line_of};
+ghost use Rattle.tj_mean.specs.ActLines.{AreActLines, names_of};
+ghost use Rattle.tj_mean.specs.Inner.Assignments.{assignment_in};
+ghost use Rattle.tj_mean.specs.Outcomes.{Ascend};
+
+use crate::act::{ActLine, ActLines};
+use crate::act_steps::line_of;
+use crate::laws::acts_can_be_worked_off;
+use crate::outcome::PlanFault;
+use crate::round::{Pending, push_children, root_task};
+use crate::rounds::settle;
+use std::alloc::Global;
+use std::collections::BTreeMap;
+use tj_base::{Items, Name, Oom, name_cmp};
+use tj_body::{Body, Entry};
+
+/// The acts of the tasks of the meaning of this root's program, without the strict rule, in name
+/// order.
+pub fn acts<B: Body>(alloc: Global, root: &B, cells: u32) -> Result<ActLines, PlanFault>
+    requires root { IsFresh B.places B.awaits B.left 1 root.now }
+    requires cells { (0 < cells) × (cells ≤ 16384) }
+
+    // `Full` comes exactly where the meaning needs more than `cells` cells.
+    ensures fits { let p = program_of B.places B.awaits B.left B.asks B.then false root.now in
+        IfOk result (λ _. ¬ rounds.IsFull p cells) }
+    ensures full { let p = program_of B.places B.awaits B.left B.asks B.then false root.now in
+        IfErr result (λ e. e ≡ PlanFault.Full → rounds.IsFull p cells) }
+    ensures acts { let p = program_of B.places B.awaits B.left B.asks B.then false root.now in
+        IfOk result (AreActsOf p cells) }
+
+    // What is forked or joined is one of the tasks, and there is an order in which all acts can be
+    // worked off.
+    ensures lines { IfOk result AreActLines }
+{
+    acts_can_be_worked_off::<B>();
+    let settled = settle(alloc, root, cells, false)?;
+    let lines = lines_of(alloc, root, &settled.given, settled.n)?;
+    Ok(Items::of(in_name_order(lines)?))
+}
+
+/// The tasks of the round after round `n`, whose assignment is given, with their acts.
+fn lines_of<B: Body>(
+    alloc: Global,
+    root: &B,
+    given: &BTreeMap<Name, Entry>,
+    n: u32,
+) -> Result<Vec<ActLine>, Oom>
+    requires root { IsFresh B.places B.awaits B.left 1 root.now }
+    requires round { let p = program_of B.places B.awaits B.left B.asks B.then false root.now in
+        assignment_in given.now ≡ rounds.given p n }
+    requires n { n < 2 ^ 16 }
+    ensures { let p = program_of B.places B.awaits B.left B.asks B.then false root.now in
+        IfOk result (λ lines.
+        lines.items ≡ map (line_of p.rules (rounds.given p n)) (rounds.tasks p (suc n))) }
+{
+    let mut lines = Vec::new(alloc);
+    let mut pending = Vec::new(alloc);
+    pending.push(Pending {
+        task: root_task(alloc, root)?,
+        depth: n + 1,
+    })?;
+    while let Some(Pending { task, depth }) = pending.pop() {
+        let (line, children) = line_of(alloc, task, given)?;
+        lines.push(line)?;
+        push_children(&mut pending, children, depth)?;
+    }
+    Ok(lines)
+}
+
+/// The lines in name order.
+fn in_name_order(mut lines: Vec<ActLine>) -> Result<Vec<ActLine>, Oom>
+    requires { AreDistinct (names_of lines.items) }
+    ensures same { IfOk result (λ sorted. IsPermutation lines.items sorted.items) }
+    ensures ascend { IfOk result (λ sorted. Ascend (names_of sorted.items)) }
+{
+    lines.sort_by(|a, b| name_cmp(&a.name, &b.name))?;
+    Ok(lines)
+}
