@@ -1,0 +1,14 @@
+pub mod KnowledgeSteps
+pub mod KnownAlong
+pub mod StepPlaces
+pub mod WorkedOff
+pub mod Rows
+pub mod ActMore
+pub mod Changes
+pub mod NamePlaces
+pub mod Forked
+pub mod Joined
+pub mod Beginnings
+pub mod ActsLeft
+pub mod ToldJoins
+pub mod WorkSteps

@@ -1,0 +1,30 @@
+use Rattle.std.proofs.Common.{◌∷◌, [], sym, ap, subst, arith, length}
+use Rattle.std.proofs.lemmas.List.{length-append}
+use Rattle.std.proofs.Common.{List}
+use Rattle.tj_known.specs.declared.learner.Learner.{Learner}
+use Rattle.tj_known.proofs.Beginnings.{AreNew, begins, line_acts_there, more_new}
+use Rattle.tj_known.proofs.work.Monitor.new.Goals as goal
+
+pub new_learner-requires-clause-there : goal.new_learner-requires-clause-there
+new_learner-requires-clause-there c = line_acts_there c.args.lines.now c.requires c.loop-line.line-index
+    c.line-item.result c.loop-line-test.true c.line-item.is
+
+pub loop-line-preserved : goal.loop-line-preserved
+loop-line-preserved c =
+    let count = c.loop-line.invariant.count in
+    let more = ap length c.in_ok-push.ensures.items in
+    let one = length-append c.loop-line.learners.items (c.in_ok-new_learner.field-0 ∷ []) in
+    record {
+      count = omega arith;
+      new = subst (λ ls. AreNew c.args.lines.now ls) (sym {A = List Learner} c.in_ok-push.ensures.items)
+          (more_new c.args.lines.now c.loop-line.learners.items c.loop-line.line-index c.line-item.result
+          c.in_ok-new_learner.field-0 c.loop-line.invariant.count c.loop-line.invariant.new c.loop-line-test.true
+          c.line-item.is c.in_ok-new_learner.ensures);
+    }
+
+pub returns-clause-begins : goal.returns-clause-begins
+returns-clause-begins c =
+    let count = c.loop-line.invariant.count in
+    let end = c.loop-line-test.false in
+    let most = c.loop-line.auto.line-index-end in
+    begins c.args.lines.now c.requires c.loop-line.learners.items (omega arith) c.loop-line.invariant.new

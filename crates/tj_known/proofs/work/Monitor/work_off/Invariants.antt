@@ -1,0 +1,14 @@
+use Rattle.std.proofs.Common.{◌≡◌}
+use Rattle.tj_known.specs.Inner.Learners.{IsUnderWay, acts_left}
+use Rattle.tj_known.proofs.work.Monitor.work_off.Given as goal
+
+-- the tasks are as they have to be
+abbrev pub invariant-loop : goal.invariant-loop
+invariant-loop l = record {
+  lines : l.self.lines.now ≡ l.initial.self.lines.now;
+  under_way : IsUnderWay l.initial.self.lines.now l.self.learners.items;
+}
+
+-- each turn leaves fewer acts
+abbrev pub decreases-loop : goal.decreases-loop
+decreases-loop l = acts_left l.self.learners.items

@@ -1,0 +1,7 @@
+//! The law of known joins. Code whose proof needs it calls its function, which does nothing.
+ghost use Rattle.tj_known.specs.KnownLaws.{KnownJoinsAreAlong};
+
+/// Whatever is told of the joins of a meaning, each known join is along the fork order.
+pub fn known_is_along()
+    ensures { KnownJoinsAreAlong }
+{}

@@ -1,0 +1,225 @@
+//! All acts are worked off in turns. In a turn each task goes on as far as it can: it stops at an
+//! answered join of a task that it knows while that task has acts left, since it learns what that
+//! one knows after its last act. A join is answered only after the joined task ended; so while acts
+//! are left, some task can go on.
+ghost use Rattle.std.specs.Prelude.{◌≡◌, ◌<◌, ◌&&◌, length, IfOk, IsTrue, IsFalse};
+ghost use Rattle.tj_mean.specs.ActLines.{AreActLines, names_of};
+ghost use Rattle.tj_mean.specs.Outcomes.{Ascend};
+ghost use Rattle.tj_known.specs.Inner.Learners as spec;
+ghost use Rattle.tj_known.specs.Inner.Learners.{AreDone, IsNew, IsUnderWay};
+ghost use Rattle.tj_known.specs.Inner.Steps.{AreThere};
+ghost use Rattle.tj_known.specs.declared.step.Step.TheVariants as step;
+
+use crate::learner::{Learner, nothing};
+use crate::step::{Step, steps_of};
+use std::alloc::Global;
+use tj_base::Oom;
+use tj_mean::ActLine;
+
+/// The lines, with how far the acts of their tasks are worked off.
+#[derive(Drop)]
+pub struct Monitor<'l> {
+    lines: &'l [ActLine],
+    pub learners: Vec<Learner>,
+}
+
+impl<'l> Monitor<'l> {
+    /// Nothing is worked off, and the root alone has begun.
+    pub fn new(alloc: Global, lines: &'l [ActLine]) -> Result<Monitor<'l>, Oom>
+        requires { AreActLines lines.now }
+        ensures lines { IfOk result (λ m. m.lines.now ≡ lines.now) }
+        ensures begins { IfOk result (λ m. IsUnderWay lines.now m.learners.items) }
+    {
+        let mut learners = Vec::new(alloc);
+        for line in lines {
+            learners.push(new_learner(alloc, lines, line)?)?;
+        }
+        Ok(Monitor { lines, learners })
+    }
+
+    /// Works off all acts.
+    pub fn work_off(&mut self, alloc: Global) -> Result<(), Oom>
+        requires lines { AreActLines self.old.lines.now }
+        requires under_way { IsUnderWay self.old.lines.now self.old.learners.items }
+        ensures under_way { IfOk result (λ _.
+            IsUnderWay self.old.lines.now self.new.learners.items) }
+        ensures done { IfOk result (λ _. AreDone self.new.learners.items) }
+    {
+        while self.take_turn(alloc)? {}
+        Ok(())
+    }
+
+    /// Each task goes on as far as it can. False: none could.
+    fn take_turn(&mut self, alloc: Global) -> Result<bool, Oom>
+        requires lines { AreActLines self.old.lines.now }
+        requires under_way { IsUnderWay self.old.lines.now self.old.learners.items }
+        ensures lines { IfOk result (λ _. self.new.lines.now ≡ self.old.lines.now) }
+        ensures turn { IfOk result (λ moved. spec.IsTurnTaken self.old.lines.now
+            self.old.learners.items self.new.learners.items moved) }
+    {
+        let mut moved = false;
+        for place in 0..self.learners.len() {
+            let went_on = self.go_on(alloc, place)?;
+            moved = moved || went_on;
+        }
+        Ok(moved)
+    }
+
+    /// The task with this place goes on as far as it can. False: it could not.
+    fn go_on(&mut self, alloc: Global, place: usize) -> Result<bool, Oom>
+        requires lines { AreActLines self.old.lines.now }
+        requires under_way { IsUnderWay self.old.lines.now self.old.learners.items }
+        requires place { place < length self.old.learners.items }
+        ensures lines { IfOk result (λ _. self.new.lines.now ≡ self.old.lines.now) }
+        ensures acts { IfOk result (λ moved. spec.IsAdvanced self.old.lines.now place
+            self.old.learners.items self.new.learners.items moved) }
+    {
+        let mut moved = false;
+        while self.act(alloc, place)? {
+            moved = true;
+        }
+        Ok(moved)
+    }
+
+    /// Works off the next act of the task with this place. False: it can't go on.
+    fn act(&mut self, alloc: Global, place: usize) -> Result<bool, Oom>
+        requires lines { AreActLines self.old.lines.now }
+        requires under_way { IsUnderWay self.old.lines.now self.old.learners.items }
+        requires place { place < length self.old.learners.items }
+        ensures lines { IfOk result (λ _. self.new.lines.now ≡ self.old.lines.now) }
+        ensures act { IfOk result (λ moved. spec.IsTried self.old.lines.now place
+            self.old.learners.items self.new.learners.items moved) }
+    {
+        match self.learners[place].next() {
+            None => Ok(false),
+            Some(step) => self.take_step(alloc, place, step),
+        }
+    }
+
+    /// Works off this act, which is the task's next. False: it can't go on.
+    fn take_step(&mut self, alloc: Global, place: usize, step: Step) -> Result<bool, Oom>
+        requires lines { AreActLines self.old.lines.now }
+        requires under_way { IsUnderWay self.old.lines.now self.old.learners.items }
+        requires next { spec.NextAt self.old.learners.items place step }
+        ensures lines { IfOk result (λ _. self.new.lines.now ≡ self.old.lines.now) }
+        ensures act { IfOk result (λ moved. spec.IsTried self.old.lines.now place
+            self.old.learners.items self.new.learners.items moved) }
+    {
+        match step {
+            Step::Fork(child) => self.fork(alloc, place, child),
+            Step::Join(joined, answered) => self.join(alloc, place, joined, answered),
+        }
+    }
+
+    /// The task forks a child, which inherits what it knew before. True: this can always be done.
+    fn fork(&mut self, alloc: Global, place: usize, child: usize) -> Result<bool, Oom>
+        requires lines { AreActLines self.old.lines.now }
+        requires under_way { IsUnderWay self.old.lines.now self.old.learners.items }
+        requires next { spec.NextAt self.old.learners.items place (step.Fork child) }
+        ensures lines { IfOk result (λ _. self.new.lines.now ≡ self.old.lines.now) }
+        ensures act { IfOk result (λ moved. spec.IsTried self.old.lines.now place
+            self.old.learners.items self.new.learners.items moved) }
+    {
+        let inherited = self.learners[place].fork(alloc, child)?;
+        self.learners[child].begin(inherited);
+        Ok(true)
+    }
+
+    /// The task joins another. False: it knew that one, the join is answered, and that one has
+    /// acts left.
+    fn join(
+        &mut self,
+        alloc: Global,
+        place: usize,
+        joined: usize,
+        answered: bool,
+    ) -> Result<bool, Oom>
+        requires lines { AreActLines self.old.lines.now }
+        requires under_way { IsUnderWay self.old.lines.now self.old.learners.items }
+        requires next { spec.NextAt self.old.learners.items place (step.Join joined answered) }
+        ensures lines { IfOk result (λ _. self.new.lines.now ≡ self.old.lines.now) }
+        ensures act { IfOk result (λ moved. spec.IsTried self.old.lines.now place
+            self.old.learners.items self.new.learners.items moved) }
+    {
+        if self.tells(place, joined, answered) {
+            self.join_known(alloc, place, joined, answered)
+        } else {
+            self.join_plain(place, joined, answered)
+        }
+    }
+
+    /// Whether the next act, a join, tells something: its task knew the joined one, and it is
+    /// answered.
+    fn tells(&self, place: usize, joined: usize, answered: bool) -> bool
+        requires lines { AreActLines self.now.lines.now }
+        requires under_way { IsUnderWay self.now.lines.now self.now.learners.items }
+        requires next { spec.NextAt self.now.learners.items place (step.Join joined answered) }
+        ensures { result ≡ (spec.knows_at self.now.learners.items place joined && answered) }
+    {
+        self.knows(place, joined, answered) && answered
+    }
+
+    /// Whether the task knows the one that it joins next.
+    fn knows(&self, place: usize, joined: usize, answered: bool) -> bool
+        requires lines { AreActLines self.now.lines.now }
+        requires under_way { IsUnderWay self.now.lines.now self.now.learners.items }
+        requires next { spec.NextAt self.now.learners.items place (step.Join joined answered) }
+        ensures { result ≡ spec.knows_at self.now.learners.items place joined }
+    {
+        self.learners[place].knows[joined]
+    }
+
+    /// The task joins one that it knew and that answers, and learns what that one knows after its
+    /// last act. False: that one has acts left.
+    fn join_known(
+        &mut self,
+        alloc: Global,
+        place: usize,
+        joined: usize,
+        answered: bool,
+    ) -> Result<bool, Oom>
+        requires lines { AreActLines self.old.lines.now }
+        requires under_way { IsUnderWay self.old.lines.now self.old.learners.items }
+        requires next { spec.NextAt self.old.learners.items place (step.Join joined answered) }
+        requires tells { IsTrue (spec.knows_at self.old.learners.items place joined && answered) }
+        ensures lines { IfOk result (λ _. self.new.lines.now ≡ self.old.lines.now) }
+        ensures act { IfOk result (λ moved. spec.IsTried self.old.lines.now place
+            self.old.learners.items self.new.learners.items moved) }
+    {
+        if !self.learners[joined].is_done() {
+            return Ok(false);
+        }
+        let told = Vec::from_slice(alloc, self.learners[joined].knows.as_slice())?;
+        self.learners[place].learn(told.as_slice())?;
+        Ok(true)
+    }
+
+    /// The task joins one that tells it nothing, since it didn't know it or isn't answered.
+    fn join_plain(&mut self, place: usize, joined: usize, answered: bool) -> Result<bool, Oom>
+        requires lines { AreActLines self.old.lines.now }
+        requires under_way { IsUnderWay self.old.lines.now self.old.learners.items }
+        requires next { spec.NextAt self.old.learners.items place (step.Join joined answered) }
+        requires tells_nothing { IsFalse (spec.knows_at self.old.learners.items place joined && answered) }
+        ensures lines { IfOk result (λ _. self.new.lines.now ≡ self.old.lines.now) }
+        ensures act { IfOk result (λ moved. spec.IsTried self.old.lines.now place
+            self.old.learners.items self.new.learners.items moved) }
+    {
+        let known = self.knows(place, joined, answered);
+        self.learners[place].join(known)?;
+        Ok(true)
+    }
+}
+
+/// The task of a line, of which nothing is worked off.
+fn new_learner(alloc: Global, lines: &[ActLine], line: &ActLine) -> Result<Learner, Oom>
+    requires in_order { Ascend (names_of lines.now) }
+    requires there { AreThere lines.now line.now.acts }
+    ensures { IfOk result (IsNew lines.now line.now) }
+{
+    Ok(Learner {
+        steps: steps_of(alloc, lines, line.acts.items())?,
+        begun: line.name.parts().is_empty(),
+        marks: Vec::new(alloc),
+        knows: nothing(alloc, lines.len())?,
+    })
+}
