@@ -1,5 +1,5 @@
 -- From a table at rest to what a command gives and puts, and to the clauses of the top call on closed words.
-use Rattle.std.proofs.Common.{◌≡◌, ◌<◌, ◌↔◌, ℕ, length, Bool, true, false, List, String, Option, Some, None, IsSome, IfSome, sym, ap, refl, subst, ◌∙◌, ◌⊎◌, inl, inr}
+use Rattle.std.proofs.Common.{◌≡◌, ◌<◌, ◌↔◌, ℕ, length, Bool, true, false, List, String, Option, Some, None, IsSome, IfSome, sym, ap, refl, subst, ◌⊎◌, inl, inr}
 use Rattle.std.proofs.lemmas.Bool.{false≢true}
 use Rattle.std.specs.declared.alloc.Global.{Global}
 use Rattle.std.specs.Io.KnownBytes.{Appends}
@@ -134,7 +134,8 @@ IsGiven-report command workers cells steps strict input status text closed is (i
 -- what `gen` gives
 pub IsGiven-gen : (command : Command) (size workers cells steps : ℕ) (input : List ℕ) (status : Status)
     (text : List ℕ) (closed : Option (List RestCell)) → command ≡ Gen size workers cells steps
-    → ((start : Start) × IsStartOfText (record { cells = cells; steps = steps; strict = false }) (script_text size) start
+    → ((start : Start)
+    × IsStartOfText (record { cells = cells; steps = steps; strict = false }) (script_text size) start
     × IsRunGiven (Summary size) start status text closed) → IsGiven command input status text closed
 IsGiven-gen command size workers cells steps input status text closed is ran =
     subst (λ k. IsGiven k input status text closed) (sym is)

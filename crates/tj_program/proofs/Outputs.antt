@@ -1,5 +1,5 @@
 -- From what each step of a command gives to its output.
-use Rattle.std.proofs.Common.{◌≡◌, ℕ, ◌<◌, ◌≤◌, ◌⊎◌, inl, inr, Bool, true, List, Option, Some, None, Result, Ok, Err, IfOk, MatchOption, length, take, sym, refl, ap, subst, ◌∙◌, arith}
+use Rattle.std.proofs.Common.{◌≡◌, ℕ, ◌<◌, ◌≤◌, ◌⊎◌, inl, inr, true, List, Result, Ok, Err, IfOk, length, take, sym, refl, ap, subst, ◌∙◌, arith}
 use Rattle.tj_lex.specs.declared.place.Place.{Place}
 use Rattle.tj_lex.specs.declared.token.Token.{Token}
 use Rattle.tj_lex.specs.declared.token.LexFault.{LexFault}

@@ -51,6 +51,28 @@ fn generated_edges(rt: HostRuntime) -> Result<(), Fail> {
 }
 
 #[test]
+fn the_greatest_size_with_just_enough(rt: HostRuntime) -> Result<(), Fail> {
+    shows(
+        &rt,
+        "gen --size 4000 --cells 8002 --steps 12008",
+        "",
+        Status::Clean,
+        "size 4000 tasks 4001 done 4001 failed 0 waiting 0 owed 0 cycles 0 result 8002000\nclean\n",
+    )
+}
+
+#[test]
+fn the_greatest_size_with_a_statement_too_few(rt: HostRuntime) -> Result<(), Fail> {
+    shows(
+        &rt,
+        "gen --size 4000 --cells 8002 --steps 12007",
+        "",
+        Status::Marked,
+        "size 4000 tasks 4001 done 4000 failed 1 waiting 0 owed 0 cycles 0 result -\nmarked\n",
+    )
+}
+
+#[test]
 fn the_greatest_size_with_a_cell_too_few(rt: HostRuntime) -> Result<(), Fail> {
     shows(
         &rt,

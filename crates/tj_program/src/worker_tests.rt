@@ -1,5 +1,5 @@
-//! What tests alone show of the workers: that two of them enter the gate beside each other, and what
-//! the closed words of a run look like.
+//! What tests alone show of the workers: that two of them enter the gate beside each other, and
+//! which closed words a run has.
 use crate::row_tests::{FIB_OF_3, FIB_OF_3_REPORT, JOIN_EACH_OTHER, answered};
 use crate::status::Status;
 use std::sync::atomic::{AtomicBool, Ordering};

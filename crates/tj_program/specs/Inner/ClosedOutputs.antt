@@ -31,8 +31,8 @@ pub record IsGiven (command : Command) (input : List ℕ) (status : Status) (tex
   pub of_run : IfSome closed (λ words. (start : Start) × IsStart command input start
       × IsRunClosed (told_of command) start status text words)
 
--- The text was put whole, and its status and its closed words are answered; or the sink failed before the text's end, and
--- had no room for it without a fault, and no closed words are.
+-- The text was put whole, and its status and its closed words are answered; or the sink failed before the text's end,
+-- and had no room for it without a fault, and no closed words are.
 abbrev pub IsPutWith : (HasRoom : ℕ → Type 0) → Status → List ℕ → Option (List RestCell) → Option (List ℕ)
     → Option (List ℕ) → ℕ → ℕ → Status → Option (List RestCell) → Type 0
 IsPutWith HasRoom status text closed before after count_before count_after answer words =

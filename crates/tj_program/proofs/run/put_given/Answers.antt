@@ -1,4 +1,4 @@
-use Rattle.std.proofs.Common.{◌≤◌, inl, inr, refl, subst, length, arith}
+use Rattle.std.proofs.Common.{◌≤◌, inl, refl, subst, length, arith}
 use Rattle.std.proofs.lemmas.Bool.{false≢true}
 use Rattle.std.specs.Io.KnownBytes.{Appends}
 use Rattle.tj_program.proofs.ClosedRuns.{IsPutWith-failed}

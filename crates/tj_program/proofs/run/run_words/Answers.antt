@@ -165,7 +165,8 @@ returns-in-Err-Oom-clause-closed_with g c = ((λ some. absurd (nothing some)), (
 
 pub returns-in-Ok-clause-closed_with : goal.returns-in-Ok-clause-closed_with
 returns-in-Ok-clause-closed_with g c = HaveWorkers-command c.args.words.now c.in-Ok-Some.command _ _ (is_command g c)
-    (λ other is. one_command c.args.words.now other c.in-Ok-Some.command is (is_command g c)) c.answer.ensures.closed_with
+    (λ other is. one_command c.args.words.now other c.in-Ok-Some.command is (is_command g c))
+    c.answer.ensures.closed_with
 
 pub returns-in-Ok-clause-closed : goal.returns-in-Ok-clause-closed
 returns-in-Ok-clause-closed g c = λ input told.
