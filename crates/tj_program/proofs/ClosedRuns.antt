@@ -21,7 +21,7 @@ use Rattle.tj_gen.specs.Script.{script_text}
 use Rattle.tj_program.specs.Output.{IsCommandOutput, IsRefused, IsStart, IsStartOfText}
 use Rattle.tj_program.specs.Runs.{Start, IsRunOf, full, ended, script_program, start_of, status_of, text_of}
 use Rattle.tj_program.specs.declared.command.Command.{Command}
-use Rattle.tj_program.specs.declared.command.Command.TheVariants.{Run, Plan, List as list, Judge, Gen}
+use Rattle.tj_program.specs.declared.command.Command.TheVariants.{Run, Plan, List as list, Judge, Gen, Known}
 use Rattle.tj_program.specs.declared.script_run.Told.{Told}
 use Rattle.tj_program.specs.declared.script_run.Told.TheVariants.{Report, Summary}
 use Rattle.tj_program.specs.declared.status.Status.{Status}
@@ -142,12 +142,14 @@ IsGiven-gen command size workers cells steps input status text closed is ran =
     (IsGiven-run (Gen size workers cells steps) input ran.0 status text closed refl ran.1
     (λ out. (ran.0, ran.1, out)) ran.2)
 
--- `plan`, `list` and `judge` have no workers
+-- `plan`, `list`, `judge` and `known` have no workers
 pub alone : (command : Command) → ((cells : ℕ) × (steps : ℕ) × (strict : Bool) × (command ≡ Plan cells steps strict))
-    ⊎ (command ≡ list) ⊎ ((cells : ℕ) × (command ≡ Judge cells)) → has_workers command ≡ false
+    ⊎ (command ≡ list) ⊎ ((cells : ℕ) × (command ≡ Judge cells))
+    ⊎ ((cells : ℕ) × (steps : ℕ) × (command ≡ Known cells steps)) → has_workers command ≡ false
 alone command (inl is) = ap has_workers is.3
 alone command (inr (inl is)) = ap has_workers is
-alone command (inr (inr is)) = ap has_workers is.1
+alone command (inr (inr (inl is))) = ap has_workers is.1
+alone command (inr (inr (inr is))) = ap has_workers is.2
 
 -- a text that could not be put whole comes without closed words
 pub IsPutWith-failed : (Room : ℕ → Type 0) (status : Status) (put text : List ℕ) (closed : Option (List RestCell))

@@ -6,7 +6,8 @@ use Rattle.tj_ports.specs.Faults.{HasFault, HasNoFault}
 use Rattle.tj_program.specs.CommandLine.{IsCommand}
 use Rattle.tj_program.specs.Delivery.{HasText, IsAnswered, IsOutputPart, IsPutAs, IsAnswerPut}
 use Rattle.tj_program.specs.Judgings.{IsJudging}
-use Rattle.tj_program.specs.Output.{IsOutput, IsCommandOutput, IsListed, IsRefused, IsRun, of_command}
+use Rattle.tj_program.specs.KnownRuns.{IsKnownOf, needs_more, tells}
+use Rattle.tj_program.specs.Output.{IsOutput, IsCommandOutput, IsKnown, IsListed, IsRefused, IsRun, of_command}
 use Rattle.tj_program.specs.Runs.{Start, IsRunOf, status_of, full, ended}
 use Rattle.tj_program.specs.declared.command.Command.{Command}
 use Rattle.tj_program.specs.declared.command.Command.TheVariants as command
@@ -45,6 +46,10 @@ own-judging : (cells : ℕ) (journal : List ℕ) (status : Status) (text : List 
 own-judging cells journal status text (inl faulty) = subst IsOwn (sym faulty.2) tt
 own-judging cells journal status text (inr judged) = subst IsOwn (sym judged.4) (own-status_of judged.1)
 
+own-known : (start : Start) (status : Status) (text : List ℕ) → IsKnownOf start status text → IsOwn status
+own-known start status text (needs_more more) = tt
+own-known start status text (tells joins fits is) = own-status_of _
+
 own : (c : Command) (input : List ℕ) (status : Status) (text : List ℕ) → IsCommandOutput c input status text
     → IsOwn status
 own (command.Run workers cells steps strict) input status text out =
@@ -57,6 +62,9 @@ own command.List input status text out =
     own-or_refused (IsListed input) input status text (λ is. subst IsOwn (sym is.2) tt) out
 own (command.Judge cells) input status text out = own-judging cells input status text out
 own (command.Gen size workers cells steps) input status text out = own-run (Summary size) out.0 status text out.2
+own (command.Known cells steps) input status text out =
+    own-or_refused (IsKnown (command.Known cells steps) input) input status text
+    (λ is. own-known is.0 status text is.2) out
 
 -- told bytes grow by a text
 told_now : (held text : List ℕ) (now : Option (List ℕ)) → Appends (Some held) now text → now ≡ Some (held ++ text)

@@ -6,3 +6,4 @@ pub mod StrictRuns
 pub mod Lines
 pub mod GeneratedScripts
 pub mod ClosedRuns
+pub mod KnownRuns

@@ -24,7 +24,8 @@ use Rattle.tj_syntax.specs.Faults.{EndsInEnd, IsScript, kinds_of}
 use Rattle.tj_syntax.specs.Trees.{Task}
 use Rattle.tj_program.specs.Judgings as judgings
 use Rattle.tj_program.specs.Judgings.{IsJournalFault, IsJudging, bad_line}
-use Rattle.tj_program.specs.Output.{IsOutput, IsCommandOutput, IsListed, IsRefused, IsRun, IsStart, IsStartOfText, usage, of_command}
+use Rattle.tj_program.specs.Output.{IsOutput, IsCommandOutput, IsKnown, IsListed, IsRefused, IsRun, IsStart, IsStartOfText, usage, of_command}
+use Rattle.tj_program.specs.KnownRuns.{IsKnownOf}
 use Rattle.tj_program.specs.Runs.{Start, IsRunOf, IsStartOf, start_of, status_of, text_of, full, ended}
 use Rattle.tj_program.specs.ScriptTexts.{most_bytes, IsScriptOf, IsFaultLine, IsFirstFault, fault_line, too_long, in_tokens, in_grammar}
 use Rattle.tj_program.specs.Texts.{journal_fault}
@@ -36,6 +37,7 @@ use Rattle.tj_program.specs.declared.script_run.Told.TheVariants.{Report, Summar
 use Rattle.tj_program.specs.declared.script_text.NoScript.{NoScript}
 use Rattle.tj_program.specs.declared.script_text.NoScript.TheVariants.{Tokens, Grammar}
 use Rattle.tj_program.specs.declared.status.Status.{Status}
+use Rattle.tj_program.proofs.KnownRuns.{one_known}
 use Rattle.tj_program.proofs.Lines.CommandLines.{one_command}
 
 -- What the crates below leave no choice in.
@@ -137,6 +139,7 @@ module _ (one : AreOne) where
   one_start command.List input s t h k = absurd h
   one_start (command.Judge cells) input s t h k = absurd h
   one_start (command.Gen size workers cells steps) input s t h k = one_start_of_text _ (script_text size) s t h k
+  one_start (command.Known cells steps) input s t h k = one_start_of_text _ input s t h k
 
   one_run_of : (told : Told) (start : Start) (a b : Status) (s t : List ℕ) → IsRunOf told start a s
       → IsRunOf told start b t → Same a s b t
@@ -152,6 +155,12 @@ module _ (one : AreOne) where
   one_run told c input a b s t h k =
       let same : k.0 ≡ h.0 = one_start c input h.0 k.0 h.1 k.1 in
       one_run_of told h.0 a b s t h.2 (subst (λ start. IsRunOf told start b t) same k.2)
+
+  one_known_of : (c : Command) (input : List ℕ) (a b : Status) (s t : List ℕ) → IsKnown c input a s
+      → IsKnown c input b t → Same a s b t
+  one_known_of c input a b s t h k =
+      let same : k.0 ≡ h.0 = one_start c input h.0 k.0 h.1 k.1 in
+      one_known h.0 a b s t h.2 (subst (λ start. IsKnownOf start b t) same k.2)
 
   one_listing : (input : List ℕ) (a b : Status) (s t : List ℕ) → IsListed input a s → IsListed input b t
       → Same a s b t
@@ -195,6 +204,9 @@ module _ (one : AreOne) where
   one_of_command (command.Judge cells) input a b s t h k = one_judging cells input a b s t h k
   one_of_command (command.Gen size workers cells steps) input a b s t h k =
       one_run (Summary size) (command.Gen size workers cells steps) input a b s t h k
+  one_of_command (command.Known cells steps) input a b s t h k =
+      one_or_refused (IsKnown (command.Known cells steps) input) input (λ status text is. (is.1.0, is.1.1))
+      (one_known_of (command.Known cells steps) input) a b s t h k
 
   pub one_output : (words : List (String Global)) (input : List ℕ) (a b : Status) (s t : List ℕ)
       → IsOutput words input a s → IsOutput words input b t → (a ≡ b) × (s ≡ t)

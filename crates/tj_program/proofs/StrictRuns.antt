@@ -64,6 +64,8 @@ never_waits law command.List input fits = λ start is. absurd is
 never_waits law (command.Judge cells) input fits = λ start is. absurd is
 never_waits law (command.Gen size workers cells steps) input fits = λ start is strict.
     absurd (false≢true (sym (ap (λ s. s.program.rules.strict) is.2.2) ∙ strict))
+never_waits law (command.Known cells steps) input fits = λ start is strict.
+    absurd (false≢true (sym (ap (λ s. s.program.rules.strict) is.2.2) ∙ strict))
 
 -- the same of words
 pub never_waits-words : ((c : Command) (input : List ℕ) → HasLimits c → StrictRunsNeverWait c input)

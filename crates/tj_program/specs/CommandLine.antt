@@ -20,6 +20,7 @@ mode_text modes.Plan = codes "plan"
 mode_text modes.List = codes "list"
 mode_text modes.Judge = codes "judge"
 mode_text modes.Gen = codes "gen"
+mode_text modes.Known = codes "known"
 
 -- the word of each option
 abbrev pub option_text : OptionName → List ℕ
@@ -51,9 +52,11 @@ greatest modes.Run Cells = Some 16384
 greatest modes.Plan Cells = Some 16384
 greatest modes.Judge Cells = Some 1024
 greatest modes.Gen Cells = Some 16384
+greatest modes.Known Cells = Some 4096
 greatest modes.Run Steps = Some 1000000
 greatest modes.Plan Steps = Some 1000000
 greatest modes.Gen Steps = Some 1000000
+greatest modes.Known Steps = Some 1000000
 greatest modes.Gen Size = Some 4000
 greatest _ _ = None
 
@@ -125,6 +128,7 @@ asked modes.List items = commands.List
 asked modes.Judge items = commands.Judge (number modes.Judge items Cells)
 asked modes.Gen items = commands.Gen (number modes.Gen items Size) (number modes.Gen items Workers)
     (number modes.Gen items Cells) (number modes.Gen items Steps)
+asked modes.Known items = commands.Known (number modes.Known items Cells) (number modes.Known items Steps)
 
 -- the words are a mode and its items, and this is what they ask for
 abbrev pub IsCommand : List (String Global) → Command → Type 0
@@ -144,3 +148,4 @@ HasLimits commands.List = Unit {0}
 HasLimits (commands.Judge cells) = IsWithin modes.Judge Cells cells
 HasLimits (commands.Gen size workers cells steps) = IsWithin modes.Gen Size size
     × IsWithin modes.Gen Workers workers × IsWithin modes.Gen Cells cells × IsWithin modes.Gen Steps steps
+HasLimits (commands.Known cells steps) = IsWithin modes.Known Cells cells × IsWithin modes.Known Steps steps

@@ -10,3 +10,4 @@ pub mod StrictRuns
 pub mod Texts
 pub mod Inner
 pub mod ClosedRuns
+pub mod KnownRuns

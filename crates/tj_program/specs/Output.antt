@@ -6,11 +6,12 @@ use Rattle.tj_syntax.specs.Listing.{listing}
 use Rattle.tj_syntax.specs.Trees.{Task}
 use Rattle.tj_program.specs.CommandLine.{IsCommand, HasNoForm}
 use Rattle.tj_program.specs.Judgings.{IsJudging}
+use Rattle.tj_program.specs.KnownRuns.{IsKnownOf}
 use Rattle.tj_program.specs.Runs.{Start, IsStartOf, IsRunOf}
 use Rattle.tj_program.specs.ScriptTexts.{IsScriptOf, IsFaultLine}
 use Rattle.tj_program.specs.Texts.{usage_line}
 use Rattle.tj_program.specs.declared.command.Command.{Command}
-use Rattle.tj_program.specs.declared.command.Command.TheVariants.{Run, Plan, List as list, Judge, Gen}
+use Rattle.tj_program.specs.declared.command.Command.TheVariants.{Run, Plan, List as list, Judge, Gen, Known}
 use Rattle.tj_program.specs.declared.script_run.Limits.{Limits}
 use Rattle.tj_program.specs.declared.script_run.Told.{Told}
 use Rattle.tj_program.specs.declared.script_run.Told.TheVariants.{Report, Summary}
@@ -22,7 +23,8 @@ abbrev pub IsStartOfText : Limits → List ℕ → Start → Type 0
 IsStartOfText limits text start = (script : List Task) × IsScriptOf text script × IsStartOf limits script start
 
 -- what the run of a command and an input begins with: the rule, the limit of cells and the root's body. `gen` runs the
--- generated script without the strict rule, and `list` and `judge` run none. The number of workers has no part in it.
+-- generated script and `known` the input, without the strict rule; `list` and `judge` run none. The number of workers
+-- has no part in it.
 abbrev pub IsStart : Command → (input : List ℕ) → Start → Type 0
 IsStart (Run workers cells steps strict) input =
     IsStartOfText (record { cells = cells; steps = steps; strict = strict }) input
@@ -32,10 +34,15 @@ IsStart list input = λ start. ⊥
 IsStart (Judge cells) input = λ start. ⊥
 IsStart (Gen size workers cells steps) input =
     IsStartOfText (record { cells = cells; steps = steps; strict = false }) (script_text size)
+IsStart (Known cells steps) input = IsStartOfText (record { cells = cells; steps = steps; strict = false }) input
 
 -- what the run of a command and an input gives, as it is told
 abbrev pub IsRun : Told → Command → (input : List ℕ) → Status → List ℕ → Type 0
 IsRun told command input status text = (start : Start) × IsStart command input start × IsRunOf told start status text
+
+-- what is told of the joins of the meaning of a command and an input
+abbrev pub IsKnown : Command → (input : List ℕ) → Status → List ℕ → Type 0
+IsKnown command input status text = (start : Start) × IsStart command input start × IsKnownOf start status text
 
 -- the line of the first fault of an input that is no script
 abbrev pub IsRefused : (input : List ℕ) → Status → List ℕ → Type 0
@@ -56,6 +63,8 @@ IsCommandOutput list input status text = IsRefused input status text ⊎ IsListe
 IsCommandOutput (Judge cells) input status text = IsJudging cells input status text
 IsCommandOutput (Gen size workers cells steps) input status text =
     IsRun (Summary size) (Gen size workers cells steps) input status text
+IsCommandOutput (Known cells steps) input status text =
+    IsRefused input status text ⊎ IsKnown (Known cells steps) input status text
 
 -- the output: the usage line where the words have no form, and else that of the command that they are
 pub data IsOutput (words : List (String Global)) (input : List ℕ) : Status → List ℕ → Type 0 where
@@ -70,6 +79,7 @@ reads (Plan cells steps strict) = true
 reads list = true
 reads (Judge cells) = true
 reads (Gen size workers cells steps) = false
+reads (Known cells steps) = true
 
 -- the words are a command that reads the input
 abbrev pub ReadInput : List (String Global) → Type 0

@@ -44,6 +44,10 @@ pub enum Command {
         cells: u32,
         steps: u32,
     },
+    Known {
+        cells: u32,
+        steps: u32,
+    },
 }
 
 // A number for each option, given or not.
@@ -143,5 +147,6 @@ fn command_for(mode: Mode, numbers: Numbers, strict: bool) -> Command
             cells,
             steps,
         },
+        Mode::Known => Command::Known { cells, steps },
     }
 }

@@ -36,6 +36,10 @@ fn gen_with(size: u32, workers: u32, cells: u32, steps: u32) -> Option<Command> 
     })
 }
 
+fn known_with(cells: u32, steps: u32) -> Option<Command> {
+    Some(Command::Known { cells, steps })
+}
+
 #[test]
 fn absent_options(rt: HostRuntime) -> Result<(), Fail> {
     let alloc = rt.alloc();
@@ -44,6 +48,7 @@ fn absent_options(rt: HostRuntime) -> Result<(), Fail> {
     assert!(rt; asks(alloc, "list", Some(Command::List))?);
     assert!(rt; asks(alloc, "judge", Some(Command::Judge { cells: 256 }))?);
     assert!(rt; asks(alloc, "gen", gen_with(100, 4, 4096, 100_000))?);
+    assert!(rt; asks(alloc, "known", known_with(4096, 100_000))?);
     Ok(())
 }
 
@@ -93,6 +98,7 @@ fn options_in_any_order(rt: HostRuntime) -> Result<(), Fail> {
             run_with(4, 5, 100_000, false)
         )?
     );
+    assert!(rt; asks(alloc, "known --steps 7 --cells 4096", known_with(4096, 7))?);
     Ok(())
 }
 
@@ -118,6 +124,9 @@ fn lines_that_ask_for_nothing(rt: HostRuntime) -> Result<(), Fail> {
         "run --",
         "run plan",
         "--cells 5 run",
+        "known --cells 4097",
+        "known --workers 2",
+        "known --strict",
     ];
     for line in lines {
         assert!(rt; asks(alloc, line, None)?, "{line}");

@@ -1,17 +1,20 @@
 //! Laws of the output. They speak of the definitions alone.
 ghost use Rattle.std.specs.Prelude.{◌≡◌, ℕ, List, String};
 ghost use Rattle.std.specs.declared.alloc.Global.{Global};
-ghost use Rattle.tj_program.specs.Output.{IsOutput};
 ghost use Rattle.tj_program.specs.CommandLine.{HasLimits};
 ghost use Rattle.tj_program.specs.StrictRuns.{StrictRunsNeverWait};
+ghost use Rattle.tj_program.specs.KnownRuns.{KnownJoinsOfMeaningAreAlong};
+ghost use Rattle.tj_program.specs.Output.{IsOutput, IsStart};
+ghost use Rattle.tj_program.specs.Runs.{Start};
 ghost use Rattle.tj_program.specs.declared.command.Command.{Command};
 ghost use Rattle.tj_program.specs.declared.status.Status.{Status};
 
 use tj_core::{one_judging, one_reading};
 use tj_eval::ScriptBody;
 use tj_eval::laws::{no_get, scripts_without_the_keyword};
+use tj_known::known_is_along;
 use tj_lex::laws::one_answer;
-use tj_mean::{one_outcome, strict_outcome_has_no_wait};
+use tj_mean::{acts_can_be_worked_off, one_outcome, strict_outcome_has_no_wait};
 use tj_syntax::laws::{one_fault, one_script, scripts_have_no_fault};
 
 /// Words and an input have one output at most: one status and one text.
@@ -38,4 +41,14 @@ pub fn strict_runs_never_wait()
     no_get();
     scripts_without_the_keyword();
     strict_outcome_has_no_wait::<ScriptBody<'static>>();
+}
+
+/// Each join that `known` tells as known is along the fork order.
+pub fn known_joins_are_along()
+    ensures { (cells steps : ℕ) (input : List ℕ) → HasLimits (Command.Known cells steps)
+        → (start : Start) → IsStart (Command.Known cells steps) input start
+        → KnownJoinsOfMeaningAreAlong start }
+{
+    acts_can_be_worked_off::<ScriptBody<'static>>();
+    known_is_along();
 }

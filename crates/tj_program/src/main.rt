@@ -10,6 +10,9 @@ mod edge_tests;
 mod fault_lines;
 mod generated;
 mod judging;
+mod known_run;
+#[cfg(test)]
+mod known_tests;
 mod laws;
 mod line_parse;
 mod line_words;

@@ -11,6 +11,7 @@ pub enum Mode {
     List,
     Judge,
     Gen,
+    Known,
 }
 
 /// An option that takes a number.
@@ -34,6 +35,7 @@ impl Mode {
             "list" => Some(Mode::List),
             "judge" => Some(Mode::Judge),
             "gen" => Some(Mode::Gen),
+            "known" => Some(Mode::Known),
             _ => None,
         }
     }
@@ -46,8 +48,10 @@ impl Mode {
             (OptionName::Workers, Mode::Run | Mode::Gen) => Some(64),
             (OptionName::Cells, Mode::Run | Mode::Plan | Mode::Gen) => Some(16_384),
             (OptionName::Cells, Mode::Judge) => Some(1024),
-            (OptionName::Steps, Mode::Run | Mode::Plan | Mode::Gen) => Some(1_000_000),
+            (OptionName::Cells, Mode::Known) => Some(4096),
             (OptionName::Size, Mode::Gen) => Some(4000),
+            (OptionName::Steps, Mode::List | Mode::Judge) => None,
+            (OptionName::Steps, _) => Some(1_000_000),
             _ => None,
         }
     }
@@ -71,7 +75,7 @@ impl Mode {
     {
         match self {
             Mode::Run | Mode::Plan => true,
-            Mode::List | Mode::Judge | Mode::Gen => false,
+            Mode::List | Mode::Judge | Mode::Gen | Mode::Known => false,
         }
     }
 }

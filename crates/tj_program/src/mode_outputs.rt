@@ -14,6 +14,7 @@ ghost use Rattle.tj_program.specs.Output.{IsCommandOutput, IsListed, IsRefused, 
 use crate::command::Command;
 use crate::fault_lines::fault_line;
 use crate::judging::judging_of;
+use crate::known_run::joins_of;
 use crate::output::{ClosedOutput, Output};
 use crate::script_run::{Limits, Told, run_by_rounds};
 use crate::script_text::{NoScript, script_of};
@@ -66,10 +67,12 @@ pub fn given_by<G: Gate, R: Wait + Threads + Sync>(
             };
             summary_by_workers(rt, alloc, size, limits, workers, gate)
         }
-        Command::Plan { .. } | Command::List | Command::Judge { .. } => Ok(ClosedOutput {
-            output: output_of(alloc, command, input)?,
-            closed: None,
-        }),
+        Command::Plan { .. } | Command::List | Command::Judge { .. } | Command::Known { .. } => Ok(
+            ClosedOutput {
+                output: output_of(alloc, command, input)?,
+                closed: None,
+            },
+        ),
     }
 }
 
@@ -97,6 +100,7 @@ fn output_of(alloc: Global, command: Command, input: &ReadEnd) -> Result<Output,
         ),
         Command::List => listing(alloc, input),
         Command::Judge { cells } => judging_of(alloc, input, cells),
+        Command::Known { cells, steps } => joins_of(alloc, input, cells, steps),
         Command::Run { .. } | Command::Gen { .. } => unreachable!(),
     }
 }

@@ -16,12 +16,14 @@ ghost use Rattle.tj_program.specs.ScriptTexts.{most_bytes};
 ghost use Rattle.tj_program.specs.Texts.{usage_line};
 ghost use Rattle.tj_program.specs.Inner.ClosedOutputs.{AreWith, IsPutWith};
 ghost use Rattle.tj_program.specs.Inner.Inputs.{HasRead};
-ghost use Rattle.tj_program.specs.Output.{IsOutput, ReadInput, reads};
+ghost use Rattle.tj_program.specs.KnownRuns.{KnownJoinsOfMeaningAreAlong};
+ghost use Rattle.tj_program.specs.Output.{IsOutput, IsStart, ReadInput, reads};
+ghost use Rattle.tj_program.specs.Runs.{Start};
 ghost use Rattle.tj_program.specs.Delivery.{HasText, IsAnswered, IsOutputPart, IsPutAs, IsAnswerPut};
 
 use crate::command::{Command, command_of};
 use crate::fault_lines::USAGE_LINE;
-use crate::laws::{one_output, strict_runs_never_wait};
+use crate::laws::{known_joins_are_along, one_output, strict_runs_never_wait};
 use crate::mode_outputs::given_by;
 use crate::output::ClosedOutput;
 use crate::status::Status;
@@ -100,6 +102,11 @@ pub fn run_words<S: Source, K: Sink, G: Gate, R: Wait + Threads + Sync>(
     ensures never_waits { (command : Command) (input : List ℕ) → IsCommand words.now command
         → StrictRunsNeverWait command input }
 
+    // With `known`, each join that is told as known is along the fork order.
+    ensures known_is_along { (cells steps : ℕ) (input : List ℕ)
+        → IsCommand words.now (Command.Known cells steps) → (start : Start)
+        → IsStart (Command.Known cells steps) input start → KnownJoinsOfMeaningAreAlong start }
+
     // A port that failed is told: so no other status, want of memory among them, hides a fault.
     ensures source_counted { S.faults source.old ≤ S.faults source.new }
     ensures source_quiet { result.0 ≢ Status.ReadFault
@@ -124,6 +131,7 @@ pub fn run_words<S: Source, K: Sink, G: Gate, R: Wait + Threads + Sync>(
 {
     one_output();
     strict_runs_never_wait();
+    known_joins_are_along();
     let command = match command_of(alloc, words) {
         Ok(Some(command)) => command,
         Ok(None) => return (put_text(sink, Status::Usage, USAGE_LINE), None),

@@ -38,7 +38,8 @@ mode_of word = if bytes_eq word (codes "run") then Some modes.Run
     else if bytes_eq word (codes "plan") then Some modes.Plan
     else if bytes_eq word (codes "list") then Some modes.List
     else if bytes_eq word (codes "judge") then Some modes.Judge
-    else if bytes_eq word (codes "gen") then Some modes.Gen else None
+    else if bytes_eq word (codes "gen") then Some modes.Gen
+    else if bytes_eq word (codes "known") then Some modes.Known else None
 
 mode_of-text : (mode : Mode) → mode_of (mode_text mode) ≡ Some mode
 mode_of-text modes.Run = refl
@@ -46,6 +47,7 @@ mode_of-text modes.Plan = refl
 mode_of-text modes.List = refl
 mode_of-text modes.Judge = refl
 mode_of-text modes.Gen = refl
+mode_of-text modes.Known = refl
 
 abbrev name_of : Text → Option OptionName
 name_of word = if bytes_eq word (codes "--workers") then Some Workers
@@ -168,6 +170,10 @@ asked_within modes.Gen items all = (
   number_within modes.Gen Workers items all (omega arith, omega arith),
   number_within modes.Gen Cells items all (omega arith, omega arith),
   number_within modes.Gen Steps items all (omega arith, omega arith),
+)
+asked_within modes.Known items all = (
+  number_within modes.Known Cells items all (omega arith, omega arith),
+  number_within modes.Known Steps items all (omega arith, omega arith),
 )
 
 -- each number of a command is within the limits of its mode

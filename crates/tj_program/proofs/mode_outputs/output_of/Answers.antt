@@ -1,5 +1,5 @@
 use Rattle.std.proofs.Common.{refl}
-use Rattle.tj_program.specs.declared.command.Command.TheVariants.{Judge, List as list, Plan}
+use Rattle.tj_program.specs.declared.command.Command.TheVariants.{Judge, Known, List as list, Plan}
 use Rattle.tj_program.proofs.Outputs.{as_command}
 use Rattle.tj_program.proofs.mode_outputs.output_of.Goals as goal
 
@@ -13,3 +13,7 @@ returns-in-List c = as_command c.args.command list c.args.input.now c.listing.re
 pub returns-in-Judge : goal.returns-in-Judge
 returns-in-Judge c = as_command c.args.command (Judge c.in-Judge.cells) c.args.input.now c.judging_of.result
     c.in-Judge.is refl c.judging_of.ensures
+
+pub returns-in-Known : goal.returns-in-Known
+returns-in-Known c = as_command c.args.command (Known c.in-Known.cells c.in-Known.steps) c.args.input.now
+    c.joins_of.result c.in-Known.is refl c.joins_of.ensures

@@ -2,6 +2,7 @@ use Rattle.std.proofs.Common.{◌≡◌, List, ℕ, MatchOption, Some, [], true,
 use Rattle.tj_program.specs.CommandLine.{HasNoForm, IsCommand}
 use Rattle.tj_program.specs.Inner.Inputs.{HasRead}
 use Rattle.tj_program.specs.Output.{ReadInput, reads, usage}
+use Rattle.tj_program.specs.declared.command.Command.TheVariants.{Known}
 use Rattle.tj_program.proofs.Lines.CommandLines.{one_command, within_limits}
 use Rattle.tj_program.proofs.Deliveries.{IsAnswered-put, put_whole, IsOutputPart-put, no_write_fault}
 use Rattle.tj_program.proofs.Deliveries.{IsAnswered-command, put_whole-command, IsOutputPart-command}
@@ -179,3 +180,23 @@ returns-in-Ok-clause-closed_cause g c =
     IsClosedRunOf-some c.args.words.now some.0 _ _ _ _
     (IsClosedRunOf-command c.args.words.now c.in-Ok-Some.command some.0 _ _ _ _ (is_command g c)
     (c.answer.ensures.closed some.0 (λ does. some.1)))
+
+pub returns-in-Ok-None-clause-known_is_along : goal.returns-in-Ok-None-clause-known_is_along
+returns-in-Ok-None-clause-known_is_along g c = λ cells steps input is.
+    c.known_joins_are_along.ensures cells steps input (within_limits c.args.words.now (Known cells steps) is)
+
+pub returns-in-Err-clause-known_is_along : goal.returns-in-Err-clause-known_is_along
+returns-in-Err-clause-known_is_along g c = λ cells steps input is.
+    c.known_joins_are_along.ensures cells steps input (within_limits c.args.words.now (Known cells steps) is)
+
+pub returns-in-Ok-clause-known_is_along : goal.returns-in-Ok-clause-known_is_along
+returns-in-Ok-clause-known_is_along g c = λ cells steps input is.
+    c.known_joins_are_along.ensures cells steps input (within_limits c.args.words.now (Known cells steps) is)
+
+pub returns-in-Err-Failed-clause-known_is_along : goal.returns-in-Err-Failed-clause-known_is_along
+returns-in-Err-Failed-clause-known_is_along g c = λ cells steps input is.
+    c.known_joins_are_along.ensures cells steps input (within_limits c.args.words.now (Known cells steps) is)
+
+pub returns-in-Err-Oom-clause-known_is_along : goal.returns-in-Err-Oom-clause-known_is_along
+returns-in-Err-Oom-clause-known_is_along g c = λ cells steps input is.
+    c.known_joins_are_along.ensures cells steps input (within_limits c.args.words.now (Known cells steps) is)
