@@ -21,9 +21,9 @@ use Rattle.tj_gen.specs.Script.{script_text}
 use Rattle.tj_program.specs.Output.{IsCommandOutput, IsRefused, IsStart, IsStartOfText}
 use Rattle.tj_program.specs.Runs.{Start, IsRunOf, full, ended, script_program, start_of, status_of, text_of}
 use Rattle.tj_program.specs.declared.command.Command.{Command}
-use Rattle.tj_program.specs.declared.command.Command.TheVariants.{Run, Plan, List as list, Judge, Gen, Known}
+use Rattle.tj_program.specs.declared.command.Command.TheVariants.{Run, Plan, List as list, Judge, Gen, Known, Watch}
 use Rattle.tj_program.specs.declared.script_run.Told.{Told}
-use Rattle.tj_program.specs.declared.script_run.Told.TheVariants.{Report, Summary}
+use Rattle.tj_program.specs.declared.script_run.Told.TheVariants.{Report, Root, Summary}
 use Rattle.tj_program.specs.declared.status.Status.{Status}
 use Rattle.tj_program.specs.declared.status.Status.TheVariants.{Full, WriteFault}
 
@@ -129,6 +129,21 @@ IsGiven-report command workers cells steps strict input status text closed is (i
 IsGiven-report command workers cells steps strict input status text closed is (inr ran) =
     subst (λ k. IsGiven k input status text closed) (sym is)
     (IsGiven-run (Run workers cells steps strict) input ran.0 status text closed refl ran.1
+    (λ out. inr (ran.0, ran.1, out)) ran.2)
+
+-- what `watch` gives
+pub IsGiven-watch : (command : Command) (workers cells steps : ℕ) (input : List ℕ) (status : Status)
+    (text : List ℕ) (closed : Option (List RestCell)) → command ≡ Watch workers cells steps
+    → (IsRefused input status text × (closed ≡ None)) ⊎ ((start : Start)
+    × IsStartOfText (record { cells = cells; steps = steps; strict = false }) input start
+    × IsRunGiven Root start status text closed) → IsGiven command input status text closed
+IsGiven-watch command workers cells steps input status text closed is (inl refused) =
+    subst (λ k. IsGiven k input status text closed) (sym is)
+    (IsGiven-alone (Watch workers cells steps) input status text closed (inl refused.0)
+    (λ h. absurd (subst HasOutcome refused.0.0 h.0)) refused.1)
+IsGiven-watch command workers cells steps input status text closed is (inr ran) =
+    subst (λ k. IsGiven k input status text closed) (sym is)
+    (IsGiven-run (Watch workers cells steps) input ran.0 status text closed refl ran.1
     (λ out. inr (ran.0, ran.1, out)) ran.2)
 
 -- what `gen` gives

@@ -12,7 +12,7 @@ use Rattle.tj_program.specs.Runs.{Start, IsRunOf, status_of, full, ended}
 use Rattle.tj_program.specs.declared.command.Command.{Command}
 use Rattle.tj_program.specs.declared.command.Command.TheVariants as command
 use Rattle.tj_program.specs.declared.script_run.Told.{Told}
-use Rattle.tj_program.specs.declared.script_run.Told.TheVariants.{Report, Summary}
+use Rattle.tj_program.specs.declared.script_run.Told.TheVariants.{Report, Root, Summary}
 use Rattle.tj_program.specs.declared.status.Status.{Status}
 use Rattle.tj_program.specs.declared.status.Status.TheVariants.{Clean, Marked, Usage, Script, Full, ReadFault, WriteFault, Memory}
 
@@ -65,6 +65,9 @@ own (command.Gen size workers cells steps) input status text out = own-run (Summ
 own (command.Known cells steps) input status text out =
     own-or_refused (IsKnown (command.Known cells steps) input) input status text
     (λ is. own-known is.0 status text is.2) out
+own (command.Watch workers cells steps) input status text out =
+    own-or_refused (IsRun Root (command.Watch workers cells steps) input) input status text
+    (λ ran. own-run Root ran.0 status text ran.2) out
 
 -- told bytes grow by a text
 told_now : (held text : List ℕ) (now : Option (List ℕ)) → Appends (Some held) now text → now ≡ Some (held ++ text)

@@ -7,3 +7,4 @@ pub mod Lines
 pub mod GeneratedScripts
 pub mod ClosedRuns
 pub mod KnownRuns
+pub mod RootLines

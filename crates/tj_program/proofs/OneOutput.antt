@@ -33,7 +33,7 @@ use Rattle.tj_program.specs.declared.command.Command.{Command}
 use Rattle.tj_program.specs.declared.command.Command.TheVariants as command
 use Rattle.tj_program.specs.declared.script_run.Limits.{Limits}
 use Rattle.tj_program.specs.declared.script_run.Told.{Told}
-use Rattle.tj_program.specs.declared.script_run.Told.TheVariants.{Report, Summary}
+use Rattle.tj_program.specs.declared.script_run.Told.TheVariants.{Report, Root, Summary}
 use Rattle.tj_program.specs.declared.script_text.NoScript.{NoScript}
 use Rattle.tj_program.specs.declared.script_text.NoScript.TheVariants.{Tokens, Grammar}
 use Rattle.tj_program.specs.declared.status.Status.{Status}
@@ -140,6 +140,7 @@ module _ (one : AreOne) where
   one_start (command.Judge cells) input s t h k = absurd h
   one_start (command.Gen size workers cells steps) input s t h k = one_start_of_text _ (script_text size) s t h k
   one_start (command.Known cells steps) input s t h k = one_start_of_text _ input s t h k
+  one_start (command.Watch workers cells steps) input s t h k = one_start_of_text _ input s t h k
 
   one_run_of : (told : Told) (start : Start) (a b : Status) (s t : List ℕ) → IsRunOf told start a s
       → IsRunOf told start b t → Same a s b t
@@ -207,6 +208,9 @@ module _ (one : AreOne) where
   one_of_command (command.Known cells steps) input a b s t h k =
       one_or_refused (IsKnown (command.Known cells steps) input) input (λ status text is. (is.1.0, is.1.1))
       (one_known_of (command.Known cells steps) input) a b s t h k
+  one_of_command (command.Watch workers cells steps) input a b s t h k =
+      one_or_refused (IsRun Root (command.Watch workers cells steps) input) input
+      (λ status text ran. (ran.1.0, ran.1.1)) (one_run Root (command.Watch workers cells steps) input) a b s t h k
 
   pub one_output : (words : List (String Global)) (input : List ℕ) (a b : Status) (s t : List ℕ)
       → IsOutput words input a s → IsOutput words input b t → (a ≡ b) × (s ≡ t)

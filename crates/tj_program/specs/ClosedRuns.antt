@@ -12,9 +12,9 @@ use Rattle.tj_program.specs.CommandLine.{IsCommand}
 use Rattle.tj_program.specs.Output.{IsStart}
 use Rattle.tj_program.specs.Runs.{Start, NeedsMore, IsOutcomeOf, status_of, text_of}
 use Rattle.tj_program.specs.declared.command.Command.{Command}
-use Rattle.tj_program.specs.declared.command.Command.TheVariants.{Run, Gen}
+use Rattle.tj_program.specs.declared.command.Command.TheVariants.{Run, Gen, Watch}
 use Rattle.tj_program.specs.declared.script_run.Told.{Told}
-use Rattle.tj_program.specs.declared.script_run.Told.TheVariants.{Report, Summary}
+use Rattle.tj_program.specs.declared.script_run.Told.TheVariants.{Report, Root, Summary}
 use Rattle.tj_program.specs.declared.status.Status.{Status}
 use Rattle.tj_program.specs.declared.status.Status.TheVariants.{Clean, Marked}
 
@@ -28,6 +28,7 @@ HasOutcome _ = ⊥
 abbrev pub has_workers : Command → Bool
 has_workers (Run workers cells steps strict) = true
 has_workers (Gen size workers cells steps) = true
+has_workers (Watch workers cells steps) = true
 has_workers _ = false
 
 -- the words are a command that runs a script over workers
@@ -37,6 +38,7 @@ HaveWorkers words = (command : Command) × IsCommand words command × (has_worke
 -- how a command tells the outcome of the script that it runs
 abbrev pub told_of : Command → Told
 told_of (Gen size workers cells steps) = Summary size
+told_of (Watch workers cells steps) = Root
 told_of _ = Report
 
 -- Status, text and closed words are of one run. It isn't full; the text and the status are those of its outcome; the

@@ -4,3 +4,4 @@ pub mod LineParse
 pub mod LineWords
 pub mod Inputs
 pub mod ClosedOutputs
+pub mod WatchTells

@@ -11,3 +11,4 @@ pub mod Texts
 pub mod Inner
 pub mod ClosedRuns
 pub mod KnownRuns
+pub mod RootLines

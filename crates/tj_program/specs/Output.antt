@@ -11,10 +11,10 @@ use Rattle.tj_program.specs.Runs.{Start, IsStartOf, IsRunOf}
 use Rattle.tj_program.specs.ScriptTexts.{IsScriptOf, IsFaultLine}
 use Rattle.tj_program.specs.Texts.{usage_line}
 use Rattle.tj_program.specs.declared.command.Command.{Command}
-use Rattle.tj_program.specs.declared.command.Command.TheVariants.{Run, Plan, List as list, Judge, Gen, Known}
+use Rattle.tj_program.specs.declared.command.Command.TheVariants.{Run, Plan, List as list, Judge, Gen, Known, Watch}
 use Rattle.tj_program.specs.declared.script_run.Limits.{Limits}
 use Rattle.tj_program.specs.declared.script_run.Told.{Told}
-use Rattle.tj_program.specs.declared.script_run.Told.TheVariants.{Report, Summary}
+use Rattle.tj_program.specs.declared.script_run.Told.TheVariants.{Report, Root, Summary}
 use Rattle.tj_program.specs.declared.status.Status.{Status}
 use Rattle.tj_program.specs.declared.status.Status.TheVariants.{Clean, Usage, Script}
 
@@ -23,8 +23,8 @@ abbrev pub IsStartOfText : Limits → List ℕ → Start → Type 0
 IsStartOfText limits text start = (script : List Task) × IsScriptOf text script × IsStartOf limits script start
 
 -- what the run of a command and an input begins with: the rule, the limit of cells and the root's body. `gen` runs the
--- generated script and `known` the input, without the strict rule; `list` and `judge` run none. The number of workers
--- has no part in it.
+-- generated script, `known` and `watch` the input, without the strict rule; `list` and `judge` run none. The number of
+-- workers has no part in it.
 abbrev pub IsStart : Command → (input : List ℕ) → Start → Type 0
 IsStart (Run workers cells steps strict) input =
     IsStartOfText (record { cells = cells; steps = steps; strict = strict }) input
@@ -35,6 +35,8 @@ IsStart (Judge cells) input = λ start. ⊥
 IsStart (Gen size workers cells steps) input =
     IsStartOfText (record { cells = cells; steps = steps; strict = false }) (script_text size)
 IsStart (Known cells steps) input = IsStartOfText (record { cells = cells; steps = steps; strict = false }) input
+IsStart (Watch workers cells steps) input =
+    IsStartOfText (record { cells = cells; steps = steps; strict = false }) input
 
 -- what the run of a command and an input gives, as it is told
 abbrev pub IsRun : Told → Command → (input : List ℕ) → Status → List ℕ → Type 0
@@ -65,6 +67,8 @@ IsCommandOutput (Gen size workers cells steps) input status text =
     IsRun (Summary size) (Gen size workers cells steps) input status text
 IsCommandOutput (Known cells steps) input status text =
     IsRefused input status text ⊎ IsKnown (Known cells steps) input status text
+IsCommandOutput (Watch workers cells steps) input status text =
+    IsRefused input status text ⊎ IsRun Root (Watch workers cells steps) input status text
 
 -- the output: the usage line where the words have no form, and else that of the command that they are
 pub data IsOutput (words : List (String Global)) (input : List ℕ) : Status → List ℕ → Type 0 where
@@ -80,6 +84,7 @@ reads list = true
 reads (Judge cells) = true
 reads (Gen size workers cells steps) = false
 reads (Known cells steps) = true
+reads (Watch workers cells steps) = true
 
 -- the words are a command that reads the input
 abbrev pub ReadInput : List (String Global) → Type 0

@@ -9,10 +9,11 @@ use Rattle.tj_mean.specs.Outcomes.{IsOutcome, is_marked}
 use Rattle.tj_report.specs.ReportTexts.{report}
 use Rattle.tj_report.specs.SummaryTexts.{summary}
 use Rattle.tj_syntax.specs.Trees.{Task}
+use Rattle.tj_program.specs.RootLines.{root_line}
 use Rattle.tj_program.specs.Texts.{full_line}
 use Rattle.tj_program.specs.declared.script_run.Limits.{Limits}
 use Rattle.tj_program.specs.declared.script_run.Told.{Told}
-use Rattle.tj_program.specs.declared.script_run.Told.TheVariants.{Report, Summary}
+use Rattle.tj_program.specs.declared.script_run.Told.TheVariants.{Report, Root, Summary}
 use Rattle.tj_program.specs.declared.status.Status.{Status}
 use Rattle.tj_program.specs.declared.status.Status.TheVariants.{Clean, Marked, Full}
 
@@ -25,6 +26,7 @@ status_of false = Clean
 abbrev pub text_of : Told → Outcome → List ℕ
 text_of Report outcome = report outcome
 text_of (Summary size) outcome = summary size outcome
+text_of Root outcome = root_line outcome.lines
 
 -- the program of a root whose body is that of a script's task
 abbrev pub script_program : Bool → TaskState → Program TaskState

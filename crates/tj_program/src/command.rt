@@ -48,6 +48,11 @@ pub enum Command {
         cells: u32,
         steps: u32,
     },
+    Watch {
+        workers: u32,
+        cells: u32,
+        steps: u32,
+    },
 }
 
 // A number for each option, given or not.
@@ -148,5 +153,10 @@ fn command_for(mode: Mode, numbers: Numbers, strict: bool) -> Command
             steps,
         },
         Mode::Known => Command::Known { cells, steps },
+        Mode::Watch => Command::Watch {
+            workers,
+            cells,
+            steps,
+        },
     }
 }

@@ -40,6 +40,14 @@ fn known_with(cells: u32, steps: u32) -> Option<Command> {
     Some(Command::Known { cells, steps })
 }
 
+fn watch_with(workers: u32, cells: u32, steps: u32) -> Option<Command> {
+    Some(Command::Watch {
+        workers,
+        cells,
+        steps,
+    })
+}
+
 #[test]
 fn absent_options(rt: HostRuntime) -> Result<(), Fail> {
     let alloc = rt.alloc();
@@ -49,6 +57,7 @@ fn absent_options(rt: HostRuntime) -> Result<(), Fail> {
     assert!(rt; asks(alloc, "judge", Some(Command::Judge { cells: 256 }))?);
     assert!(rt; asks(alloc, "gen", gen_with(100, 4, 4096, 100_000))?);
     assert!(rt; asks(alloc, "known", known_with(4096, 100_000))?);
+    assert!(rt; asks(alloc, "watch", watch_with(4, 4096, 100_000))?);
     Ok(())
 }
 
@@ -99,6 +108,13 @@ fn options_in_any_order(rt: HostRuntime) -> Result<(), Fail> {
         )?
     );
     assert!(rt; asks(alloc, "known --steps 7 --cells 4096", known_with(4096, 7))?);
+    assert!(rt;
+        asks(
+            alloc,
+            "watch --steps 7 --cells 16384 --workers 64",
+            watch_with(64, 16_384, 7)
+        )?
+    );
     Ok(())
 }
 
@@ -127,6 +143,9 @@ fn lines_that_ask_for_nothing(rt: HostRuntime) -> Result<(), Fail> {
         "known --cells 4097",
         "known --workers 2",
         "known --strict",
+        "watch --workers 65",
+        "watch --size 1",
+        "watch --strict",
     ];
     for line in lines {
         assert!(rt; asks(alloc, line, None)?, "{line}");

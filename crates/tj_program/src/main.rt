@@ -22,6 +22,7 @@ mod mode_outputs;
 mod mode_tests;
 mod output;
 mod places;
+mod root_lines;
 #[cfg(test)]
 mod row_tests;
 #[cfg(test)]
@@ -32,6 +33,9 @@ mod script_text;
 mod status;
 #[cfg(test)]
 mod tests;
+mod watch_runs;
+#[cfg(test)]
+mod watch_tests;
 mod words;
 #[cfg(test)]
 mod words_tests;

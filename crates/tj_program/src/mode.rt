@@ -12,6 +12,7 @@ pub enum Mode {
     Judge,
     Gen,
     Known,
+    Watch,
 }
 
 /// An option that takes a number.
@@ -36,6 +37,7 @@ impl Mode {
             "judge" => Some(Mode::Judge),
             "gen" => Some(Mode::Gen),
             "known" => Some(Mode::Known),
+            "watch" => Some(Mode::Watch),
             _ => None,
         }
     }
@@ -45,8 +47,8 @@ impl Mode {
         ensures { result ≡ greatest self name }
     {
         match (name, self) {
-            (OptionName::Workers, Mode::Run | Mode::Gen) => Some(64),
-            (OptionName::Cells, Mode::Run | Mode::Plan | Mode::Gen) => Some(16_384),
+            (OptionName::Workers, Mode::Run | Mode::Gen | Mode::Watch) => Some(64),
+            (OptionName::Cells, Mode::Run | Mode::Plan | Mode::Gen | Mode::Watch) => Some(16_384),
             (OptionName::Cells, Mode::Judge) => Some(1024),
             (OptionName::Cells, Mode::Known) => Some(4096),
             (OptionName::Size, Mode::Gen) => Some(4000),
@@ -75,7 +77,7 @@ impl Mode {
     {
         match self {
             Mode::Run | Mode::Plan => true,
-            Mode::List | Mode::Judge | Mode::Gen | Mode::Known => false,
+            Mode::List | Mode::Judge | Mode::Gen | Mode::Known | Mode::Watch => false,
         }
     }
 }

@@ -19,6 +19,7 @@ use crate::output::{ClosedOutput, Output};
 use crate::script_run::{Limits, Told, run_by_rounds};
 use crate::script_text::{NoScript, script_of};
 use crate::status::Status;
+use crate::watch_runs::watch_by_workers;
 use crate::worker_runs::{report_by_workers, summary_by_workers};
 use std::alloc::Global;
 use std::sync::Wait;
@@ -67,6 +68,11 @@ pub fn given_by<G: Gate, R: Wait + Threads + Sync>(
             };
             summary_by_workers(rt, alloc, size, limits, workers, gate)
         }
+        Command::Watch {
+            workers,
+            cells,
+            steps,
+        } => watch_by_workers(rt, alloc, input, cells, steps, workers, gate),
         Command::Plan { .. } | Command::List | Command::Judge { .. } | Command::Known { .. } => Ok(
             ClosedOutput {
                 output: output_of(alloc, command, input)?,
@@ -101,7 +107,7 @@ fn output_of(alloc: Global, command: Command, input: &ReadEnd) -> Result<Output,
         Command::List => listing(alloc, input),
         Command::Judge { cells } => judging_of(alloc, input, cells),
         Command::Known { cells, steps } => joins_of(alloc, input, cells, steps),
-        Command::Run { .. } | Command::Gen { .. } => unreachable!(),
+        Command::Run { .. } | Command::Gen { .. } | Command::Watch { .. } => unreachable!(),
     }
 }
 

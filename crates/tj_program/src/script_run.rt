@@ -9,6 +9,7 @@ ghost use Rattle.tj_syntax.specs.View as view;
 
 use crate::fault_lines::full_line;
 use crate::output::{Output, status_of};
+use crate::root_lines::root_line;
 use crate::status::Status;
 use std::alloc::Global;
 use tj_base::Oom;
@@ -26,11 +27,13 @@ pub struct Limits {
     pub strict: bool,
 }
 
-/// How an outcome is told: by its report, or by the summary of a generated script of a size.
+/// How an outcome is told: by its report, by the summary of a generated script of a size, or by a
+/// line of the root.
 #[derive(Clone, Copy)]
 pub enum Told {
     Report,
     Summary(u32),
+    Root,
 }
 
 /// The outcome of a run of the script by rounds, or that it is full.
@@ -62,12 +65,13 @@ pub fn ended(alloc: Global, told: Told, outcome: &Outcome) -> Result<Output, Oom
 }
 
 /// The text of an outcome.
-fn text_of(alloc: Global, told: Told, outcome: &Outcome) -> Result<Vec<u8>, Oom>
+pub fn text_of(alloc: Global, told: Told, outcome: &Outcome) -> Result<Vec<u8>, Oom>
     ensures { IfOk result (λ text. text.items ≡ runs.text_of told outcome.now) }
 {
     match told {
         Told::Report => report_text(alloc, outcome),
         Told::Summary(size) => summary_text(alloc, size, outcome),
+        Told::Root => root_line(alloc, outcome.lines.items()),
     }
 }
 

@@ -39,7 +39,8 @@ mode_of word = if bytes_eq word (codes "run") then Some modes.Run
     else if bytes_eq word (codes "list") then Some modes.List
     else if bytes_eq word (codes "judge") then Some modes.Judge
     else if bytes_eq word (codes "gen") then Some modes.Gen
-    else if bytes_eq word (codes "known") then Some modes.Known else None
+    else if bytes_eq word (codes "known") then Some modes.Known
+    else if bytes_eq word (codes "watch") then Some modes.Watch else None
 
 mode_of-text : (mode : Mode) → mode_of (mode_text mode) ≡ Some mode
 mode_of-text modes.Run = refl
@@ -48,6 +49,7 @@ mode_of-text modes.List = refl
 mode_of-text modes.Judge = refl
 mode_of-text modes.Gen = refl
 mode_of-text modes.Known = refl
+mode_of-text modes.Watch = refl
 
 abbrev name_of : Text → Option OptionName
 name_of word = if bytes_eq word (codes "--workers") then Some Workers
@@ -174,6 +176,11 @@ asked_within modes.Gen items all = (
 asked_within modes.Known items all = (
   number_within modes.Known Cells items all (omega arith, omega arith),
   number_within modes.Known Steps items all (omega arith, omega arith),
+)
+asked_within modes.Watch items all = (
+  number_within modes.Watch Workers items all (omega arith, omega arith),
+  number_within modes.Watch Cells items all (omega arith, omega arith),
+  number_within modes.Watch Steps items all (omega arith, omega arith),
 )
 
 -- each number of a command is within the limits of its mode

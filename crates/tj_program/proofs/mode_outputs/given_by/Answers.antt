@@ -1,7 +1,7 @@
 use Rattle.std.proofs.Common.{◌≡◌, ◌∙◌, true, None, refl, subst, sym}
 use Rattle.std.proofs.lemmas.Bool.{false≢true}
 use Rattle.tj_program.specs.Output.{reads}
-use Rattle.tj_program.proofs.ClosedRuns.{alone, IsGiven-alone, IsGiven-gen, IsGiven-report}
+use Rattle.tj_program.proofs.ClosedRuns.{alone, IsGiven-alone, IsGiven-gen, IsGiven-report, IsGiven-watch}
 use Rattle.tj_program.proofs.Outputs.{if_ok}
 use Rattle.tj_program.proofs.mode_outputs.given_by.Goals as goal
 
@@ -14,6 +14,11 @@ pub returns-in-Gen : goal.returns-in-Gen
 returns-in-Gen g c = if_ok c.summary_by_workers.result (λ given ran all read.
     IsGiven-gen c.args.command c.in-Gen.size c.in-Gen.workers c.in-Gen.cells c.in-Gen.steps all _ _ _ c.in-Gen.is ran)
     c.summary_by_workers.ensures
+
+pub returns-in-Watch : goal.returns-in-Watch
+returns-in-Watch g c = if_ok c.watch_by_workers.result (λ given ran all read.
+    IsGiven-watch c.args.command c.in-Watch.workers c.in-Watch.cells c.in-Watch.steps all _ _ _ c.in-Watch.is
+    (ran all (read (subst (λ k. reads k ≡ true) (sym c.in-Watch.is) refl)))) c.watch_by_workers.ensures
 
 pub returns-in_ok-output_of-in-Plan : goal.returns-in_ok-output_of-in-Plan
 returns-in_ok-output_of-in-Plan g c = λ all read.

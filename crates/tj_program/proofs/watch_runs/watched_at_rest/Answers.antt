@@ -1,0 +1,27 @@
+use denote.Param.Send.{sendable}
+use Rattle.std.proofs.Common.{◌∙◌, ap}
+use Rattle.std.proofs.Crossing.{crosses}
+use Rattle.tj_syntax.proofs.Sends.{expr_sync, stmt_sync, script_sync}
+use Rattle.tj_program.specs.Runs.{script_program, status_of}
+use Rattle.tj_program.specs.declared.script_run.Told.TheVariants.{Root}
+use Rattle.tj_program.proofs.ClosedRuns.{closed_at_rest}
+use Rattle.tj_program.proofs.RootLines.{watch_tells}
+use Rattle.tj_program.proofs.watch_runs.watched_at_rest.Goals as goal
+
+-- a body of a script may cross threads
+pub into_closed-requires-send-B : goal.into_closed-requires-send-B
+into_closed-requires-send-B c κs = search (sendable, crosses, expr_sync, stmt_sync, script_sync) depth 40
+
+pub outcome_of-requires : goal.outcome_of-requires
+outcome_of-requires c κs =
+    (search (sendable, crosses, expr_sync, stmt_sync, script_sync) depth 40, c.requires.rest.meaning)
+
+pub watch_line-requires : goal.watch_line-requires
+watch_line-requires c = watch_tells (script_program c.args.rest.strict c.args.rest.root) c.args.rest.limit
+    c.args.rest.cells c.args.rest.records c.requires.rest.meaning c.in_ok-outcome.outcome
+    c.in_ok-outcome.ensures.outcome c.args.watched c.requires.watched
+
+pub returns : goal.returns
+returns c = closed_at_rest Root c.args.rest c.in_ok-outcome.outcome _ _ _ c.requires.rest
+    c.in_ok-outcome.ensures.outcome (c.in_ok-outcome.ensures.alarmed c.requires.rest.meant_cycles)
+    (c.status_of-status.ensures ∙ ap status_of c.marked.ensures) c.in_ok-text.ensures c.into_closed.ensures

@@ -1,0 +1,94 @@
+//! The line that `watch` writes: what became of the root.
+ghost use Rattle.std.specs.Prelude.{◌≡◌, ◌++◌, IfOk};
+ghost use Rattle.std.specs.Fmt.{signed_decimal};
+ghost use Rattle.tj_report.specs.ReportTexts.{shown_text};
+ghost use Rattle.tj_mean.specs.declared.outcome.Ending.TheVariants as ending;
+ghost use Rattle.tj_program.specs.Inner.WatchTells.{ValueTells, WatchTells};
+ghost use Rattle.tj_program.specs.RootLines as spec;
+
+use crate::script_run::{Told, text_of};
+use itoa::Buffer;
+use std::alloc::Global;
+use tj_base::{Oom, Shown};
+use tj_future::Watched;
+use tj_mean::{Ending, Outcome, TaskLine};
+use tj_words::Fill;
+
+/// The line of a root of which this was told, where the run has this outcome.
+pub fn watch_line(alloc: Global, watched: Watched, outcome: &Outcome) -> Result<Vec<u8>, Oom>
+    requires { WatchTells watched outcome.now.lines }
+    ensures { IfOk result (λ line. line.items ≡ spec.root_line outcome.now.lines) }
+{
+    match watched {
+        Watched::Value(fill) => value_line(alloc, fill, outcome),
+        Watched::Broken => Ok(Vec::from_slice(alloc, b"root broken\n")?),
+        Watched::Rested => Ok(Vec::from_slice(alloc, b"root waits\n")?),
+        Watched::Stopped(_) => unreachable!(),
+    }
+}
+
+/// The same of a value. The name of a reference stands in the outcome.
+fn value_line(alloc: Global, fill: Fill, outcome: &Outcome) -> Result<Vec<u8>, Oom>
+    requires { ValueTells fill outcome.now.lines }
+    ensures { IfOk result (λ line. line.items ≡ spec.root_line outcome.now.lines) }
+{
+    match fill {
+        Fill::Num(number) => done_line(alloc, &Shown::Num(number)),
+        Fill::Promise(_) | Fill::Task(_) => text_of(alloc, Told::Root, outcome),
+    }
+}
+
+/// The line of the root among these tasks.
+pub fn root_line(alloc: Global, lines: &[TaskLine]) -> Result<Vec<u8>, Oom>
+    ensures { IfOk result (λ line. line.items ≡ spec.root_line lines.now) }
+{
+    for line in lines {
+        if line.name.parts().is_empty() {
+            return ending_line(alloc, &line.ending);
+        }
+    }
+    Ok(Vec::new(alloc))
+}
+
+/// The line of a root with this ending.
+fn ending_line(alloc: Global, ending: &Ending) -> Result<Vec<u8>, Oom>
+    ensures { IfOk result (λ line. line.items ≡ spec.ending_line ending.now) }
+{
+    match ending {
+        Ending::Done(value) => done_line(alloc, value),
+        Ending::Failed(_) => Ok(Vec::from_slice(alloc, b"root broken\n")?),
+        Ending::Waits(_) => Ok(Vec::from_slice(alloc, b"root waits\n")?),
+    }
+}
+
+/// The line of a root that ended with this value.
+fn done_line(alloc: Global, value: &Shown) -> Result<Vec<u8>, Oom>
+    ensures { IfOk result (λ line. line.items ≡ spec.ending_line (ending.Done value.now)) }
+{
+    let mut line = Vec::from_slice(alloc, b"root ")?;
+    add_shown(alloc, value, &mut line)?;
+    line.push(b'\n')?;
+    Ok(line)
+}
+
+/// Adds a value.
+fn add_shown(alloc: Global, value: &Shown, line: &mut Vec<u8>) -> Result<(), Oom>
+    ensures { IfOk result (λ _. line.new.items ≡ line.old.items ++ shown_text value.now) }
+{
+    match value {
+        Shown::Num(number) => add_number(*number, line),
+        Shown::Ref(cell) => {
+            line.push(b'@')?;
+            cell.text_into(alloc, line)?;
+            Ok(())
+        }
+    }
+}
+
+fn add_number(number: i64, line: &mut Vec<u8>) -> Result<(), Oom>
+    ensures { IfOk result (λ _. line.new.items ≡ line.old.items ++ signed_decimal number) }
+{
+    let mut buffer = Buffer::new();
+    line.extend_from_slice(buffer.format(number).as_bytes())?;
+    Ok(())
+}

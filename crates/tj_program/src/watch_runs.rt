@@ -1,0 +1,110 @@
+//! Running a script over workers with a watch of the root beside them. What is written is what
+//! became of the root, and the closed words of the table come with it.
+ghost use Rattle.std.specs.Prelude.{ℕ, ◌≡◌, ◌<◌, ◌≤◌, ◌⊎◌, false, List, IfOk, None};
+ghost use Rattle.tj_future.specs.RootWatches.{IsRootWatched};
+ghost use Rattle.tj_ports.specs.Reading.{IsWithin};
+ghost use Rattle.tj_run.specs.Runs.{RestsAt};
+ghost use Rattle.tj_program.specs.Inner.ClosedOutputs.{IsRunGiven};
+ghost use Rattle.tj_program.specs.Inner.Inputs.{IsReadOf};
+ghost use Rattle.tj_program.specs.Output.{IsRefused, IsStartOfText};
+ghost use Rattle.tj_program.specs.Runs.{Start, AreLimits, IsStartOf, script_program, start_of};
+ghost use Rattle.tj_program.specs.ScriptTexts.{most_bytes, IsSomeScript};
+ghost use Rattle.tj_syntax.specs.View as view;
+
+use crate::mode_outputs::refused;
+use crate::output::{ClosedOutput, Output, status_of};
+use crate::root_lines::watch_line;
+use crate::script_run::{Told, full};
+use crate::script_text::script_of;
+use std::alloc::Global;
+use std::sync::Wait;
+use std::thread::Threads;
+use tj_base::Oom;
+use tj_eval::{ScriptBody, main_body};
+use tj_future::{Watched, run_watched};
+use tj_mean::marked;
+use tj_ports::{Gate, ReadEnd};
+use tj_ready::StealPool;
+use tj_report::outcome_of;
+use tj_run::RunFault;
+use tj_syntax::Script;
+use tj_words::RestWords;
+
+/// What became of the root in a run of the script that the input is, with a watch of it, or the line
+/// of the script's fault.
+pub fn watch_by_workers<G: Gate, R: Wait + Threads + Sync>(
+    rt: &R,
+    alloc: Global,
+    input: &ReadEnd,
+    cells: u32,
+    steps: u32,
+    workers: u32,
+    gate: &G,
+) -> Result<ClosedOutput, Oom>
+    requires limits { AreLimits (record { cells = cells; steps = steps; strict = false }) }
+    requires workers { (0 < workers) × (workers ≤ 64) }
+    requires within { IsWithin most_bytes input.now }
+    ensures { IfOk result (λ given. (all : List ℕ) → IsReadOf all input.now
+        → (IsRefused all given.output.status given.output.text.items × (given.closed ≡ None))
+        ⊎ ((start : Start)
+        × IsStartOfText (record { cells = cells; steps = steps; strict = false }) all start
+        × IsRunGiven Told.Root start given.output.status given.output.text.items given.closed)) }
+{
+    match script_of(alloc, input) {
+        Ok(script) => watched_script(rt, alloc, &script, cells, steps, workers, gate),
+        Err(fault) => Ok(ClosedOutput {
+            output: refused(alloc, fault)?,
+            closed: None,
+        }),
+    }
+}
+
+/// A run of the script with a watch of its root, or that it is full.
+fn watched_script<G: Gate, R: Wait + Threads + Sync>(
+    rt: &R,
+    alloc: Global,
+    script: &Script,
+    cells: u32,
+    steps: u32,
+    workers: u32,
+    gate: &G,
+) -> Result<ClosedOutput, Oom>
+    requires limits { AreLimits (record { cells = cells; steps = steps; strict = false }) }
+    requires workers { (0 < workers) × (workers ≤ 64) }
+    requires script { IsSomeScript (view.script script.now) }
+    ensures { IfOk result (λ given. (start : Start)
+        × IsStartOf (record { cells = cells; steps = steps; strict = false })
+        (view.script script.now) start
+        × IsRunGiven Told.Root start given.output.status given.output.text.items given.closed) }
+{
+    let root = main_body(alloc, script, steps)?;
+    match run_watched::<ScriptBody<'_>, StealPool, G, R>(rt, alloc, root, cells, workers, gate) {
+        Ok((watched, rest)) => watched_at_rest(alloc, watched, rest),
+        Err(RunFault::Full) => Ok(ClosedOutput {
+            output: full(alloc, cells)?,
+            closed: None,
+        }),
+        Err(RunFault::Oom) => Err(Oom),
+    }
+}
+
+/// The root's line of a table at rest of which this was told, and the table's closed words.
+fn watched_at_rest(
+    alloc: Global,
+    watched: Watched,
+    rest: RestWords<ScriptBody<'_>>,
+) -> Result<ClosedOutput, Oom>
+    requires rest { RestsAt script_program rest.root rest.limit rest.strict rest }
+    requires watched { IsRootWatched rest.records watched }
+    ensures { IfOk result (λ given. IsRunGiven Told.Root
+        (start_of rest.entry.strict rest.entry.limit rest.entry.root)
+        given.output.status given.output.text.items given.closed) }
+{
+    let outcome = outcome_of(alloc, &rest)?;
+    let text = watch_line(alloc, watched, &outcome)?;
+    let status = status_of(marked(&outcome));
+    Ok(ClosedOutput {
+        output: Output { status, text },
+        closed: Some(rest.into_closed()),
+    })
+}
