@@ -31,3 +31,4 @@ mod WaitConditions
 mod WorkersSteps
 pub mod ThreadSends
 pub mod PlaySteps
+mod TestRuns

@@ -1,0 +1,279 @@
+//! The life of the root, call by call, from a table's first seat to its closed words; and a promise that
+//! is filled while a task blocks on it.
+ghost use Rattle.std.specs.Prelude.{◌≡◌, ◌<◌, ◌≤◌, [], ◌∷◌, length, IfOk, IsTrue, OnOk};
+ghost use Rattle.tj_body.specs.Programs.{program_of};
+ghost use Rattle.tj_body.specs.Table.{is_table, table_asks, table_awaits, table_left, table_places, table_then};
+ghost use Rattle.tj_words.specs.KnowsMore.{KnowsMore};
+ghost use Rattle.tj_words.specs.Law.{IsRooted};
+ghost use Rattle.tj_words.specs.Lots.{all_lots};
+ghost use Rattle.tj_words.specs.SeatSteps.{IsCellOf, IsSeatOf};
+ghost use Rattle.tj_run.specs.Carried.{IsAsked, IsFree, RunsTask, table_program};
+ghost use Rattle.tj_run.specs.Waits.{IsLeft};
+
+use crate::next::Next;
+use crate::pieces::{fill_at, take_out};
+use crate::plays::blocks;
+use crate::pure::next_ask;
+use crate::tasks::run;
+use crate::waits::{get, way_to};
+use crate::why::Why;
+use std::alloc::Global;
+use std::marker::Brand;
+use std::process::Abort;
+use std::sync::Wait;
+use std::sync::ledger::Blank;
+use std::test::Fail;
+use tj_base::{CellId, Items, Oom, Pay, PlaceList, Sort};
+use tj_body::{Answer, Ask, Body, Row, RowList, TableBody, names_and_cells, points_in_rounds};
+use tj_cells::{Seen, fill, value};
+use tj_detect::Verdict;
+use tj_park::{Parked, claim, finish, park, wake};
+use tj_ready::{LockedPool, Pool};
+use tj_words::{Fill, Finish, Laid, Phase, Rec, WSeat};
+
+/// The one end of a pool for so many cells.
+fn one_end<P: Pool, R: Wait>(rt: &R, alloc: Global, cells: u32) -> Result<P, Oom>
+    requires cells { (0 < cells) × (cells ≤ 16384) }
+    ensures limit { IfOk result (λ end. P.limit end ≡ cells) }
+{
+    let mut ends = P::make(rt, alloc, 1, cells)?;
+    ends.pop().ok_or(Oom)
+}
+
+/// A table of so many cells whose root gives the rows of the first list, and its first seat.
+fn table_of<'s>(
+    alloc: Global,
+    lists: &'s [RowList],
+    cells: u32,
+) -> Result<(Laid<TableBody<'s>>, WSeat<TableBody<'s>>), Oom>
+    requires some { 0 < length lists.now }
+    requires table { IsTrue (is_table lists.now) }
+    requires cells { (0 < cells) × (cells ≤ 16384) }
+    ensures cells { IfOk result (λ made. made.0.cells ≡ cells) }
+    ensures table { IfOk result (λ made. IsSeatOf made.0 made.1) }
+    ensures lot { IfOk result (λ made. made.1.me.0.lot ≡ all_lots) }
+    ensures free { IfOk result (λ made. IsFree made.0 made.1.me) }
+    ensures rooted { IfOk result (λ made. IsRooted (table_program
+        (program_of table_places table_awaits table_left table_asks table_then) made.0)) }
+{
+    Laid::new(alloc, cells, TableBody::new(lists, 0), true)
+}
+
+/// Claims a task that is to begin, and its body asks.
+fn begin<B: Body, R: Abort>(
+    rt: &R,
+    alloc: Global,
+    laid: &Laid<B>,
+    seat: &mut WSeat<B>,
+    t: CellId,
+) -> Result<(Rec<B>, Ask<B>), Why>
+    requires table { IsSeatOf laid.now seat.old }
+    requires free { IsFree laid.now seat.old.me }
+    requires task { IsCellOf laid.now t.0 }
+    requires rooted { IsRooted (table_program (program_of B.places B.awaits B.left B.asks B.then)
+        laid.now) }
+    ensures table { seat.new.table_id ≡ seat.old.table_id }
+    ensures knows { IfOk result (λ _. KnowsMore seat.old.me.0 seat.new.me.0) }
+    ensures runs { IfOk result (λ begun. RunsTask laid.now begun.0 seat.new.me) }
+    ensures asked { IfOk result (λ begun. IsAsked (table_program
+        (program_of B.places B.awaits B.left B.asks B.then) laid.now) seat.new.me.0
+        begun.0 begun.1) }
+{
+    let mut rec = claim(laid, seat, t).expect(rt, "it is ready");
+    let Answer::Start = rec.answer else {
+        panic!(rt; "it begins");
+    };
+    let ask = next_ask(alloc, laid, seat, &mut rec)?;
+    Ok((rec, ask))
+}
+
+#[test]
+fn the_root_ends_and_its_table_is_closed(rt: HostRuntime) -> Result<(), Fail> {
+    points_in_rounds::<TableBody<'_>>();
+    let a = rt.alloc();
+    let lists: [RowList; 1] = [Items::of(Vec::new(a))];
+    let mut pool = one_end::<LockedPool, HostRuntime>(&rt, a, 2)?;
+    let (laid, mut seat) = table_of(a, &lists, 2)?;
+    let (mut rec, ask) = begin(&rt, a, &laid, &mut seat, CellId(0))?;
+    let Ask::End(v) = ask else {
+        panic!(rt; "it ends at once");
+    };
+    assert_eq!(rt; v, Pay::Num(0), "with 0");
+    let given = fill_at(rec.held.items(), v);
+    rec.finish = Some(Finish::Done(given));
+    let root = rec.cell;
+    finish(&rt, a, &laid, &mut seat, root, rec, &mut pool)?;
+    if laid.live(&mut seat) != 0 {
+        panic!(rt; "nothing goes on");
+    }
+    let rest = laid.rest(seat);
+    if rest.drawn() != 1 {
+        panic!(rt; "one cell was drawn");
+    }
+    let cell = rest.cell(CellId(0));
+    assert_eq!(rt; cell.phase, Phase::Ended, "the root has ended");
+    assert_eq!(rt; cell.own, None, "nobody owns its result");
+    let rec = rest.rec(CellId(0)).expect(&rt, "a task has a record");
+    assert_eq!(rt;
+        rec.finish,
+        Some(Finish::Done(Fill::Num(0))),
+        "which says how it ended"
+    );
+    let closed = rest.into_closed();
+    assert_eq!(rt; closed.drawn(), 1, "and closed words have it still");
+    assert_eq!(rt; closed.cell(CellId(0)).tag, 1, "with a number");
+    Ok(())
+}
+
+/// The root makes a promise, passes it to a reader, and hands it to a writer, which sets it to 5.
+fn reader_and_writer(alloc: Global) -> Result<[RowList; 3], Oom>
+    ensures { IfOk result (λ lists. IsTrue (is_table lists) × (0 < length lists)) }
+{
+    let mut root = Vec::new(alloc);
+    root.push(Row::New)?;
+    root.push(Row::Fork {
+        list: 1,
+        pass: one_place(alloc)?,
+        hand: Items::of(Vec::new(alloc)),
+    })?;
+    root.push(Row::Fork {
+        list: 2,
+        pass: one_place(alloc)?,
+        hand: one_place(alloc)?,
+    })?;
+    let mut reader = Vec::new(alloc);
+    reader.push(Row::Get { p: 1 })?;
+    let mut writer = Vec::new(alloc);
+    writer.push(Row::Set {
+        p: 1,
+        v: Pay::Num(5),
+    })?;
+    Ok([Items::of(root), Items::of(reader), Items::of(writer)])
+}
+
+fn one_place(alloc: Global) -> Result<PlaceList, Oom>
+    ensures { IfOk result (λ places. places ≡ 1 ∷ []) }
+{
+    let mut places = Vec::new(alloc);
+    places.push(1)?;
+    Ok(Items::of(places))
+}
+
+/// Claims a task, and runs it until it leaves the seat.
+fn run_whole<B: Body, P: Pool, R: Wait + Abort>(
+    rt: &R,
+    alloc: Global,
+    laid: &Laid<B>,
+    seat: &mut WSeat<B>,
+    pool: &mut P,
+    t: CellId,
+) -> Result<(), Why>
+    requires table { IsSeatOf laid.now seat.old }
+    requires free { IsFree laid.now seat.old.me }
+    requires task { IsCellOf laid.now t.0 }
+    requires rooted { IsRooted (table_program (program_of B.places B.awaits B.left B.asks B.then)
+        laid.now) }
+    requires pool { P.limit pool.old ≡ laid.now.cells }
+    ensures table { seat.new.table_id ≡ seat.old.table_id }
+    ensures limit { P.limit pool.new ≡ P.limit pool.old }
+    ensures left { OnOk result (IsLeft laid.now seat.old.me.0 seat.new.me) }
+{
+    let rec = claim(laid, seat, t).expect(rt, "it is ready");
+    run(rt, alloc, laid, seat, rec, pool)?;
+    Ok(())
+}
+
+/// Claims a task that sets a promise first, fills the promise, and wakes those who wait for it. Tells
+/// how many there were.
+fn set_first<B: Body, P: Pool, R: Wait + Abort>(
+    rt: &R,
+    alloc: Global,
+    laid: &Laid<B>,
+    seat: &mut WSeat<B>,
+    pool: &mut P,
+    t: CellId,
+) -> Result<u32, Why>
+    requires table { IsSeatOf laid.now seat.old }
+    requires free { IsFree laid.now seat.old.me }
+    requires task { IsCellOf laid.now t.0 }
+    requires rooted { IsRooted (table_program (program_of B.places B.awaits B.left B.asks B.then)
+        laid.now) }
+    requires pool { P.limit pool.old ≡ laid.now.cells }
+    ensures table { seat.new.table_id ≡ seat.old.table_id }
+{
+    points_in_rounds::<B>();
+    names_and_cells();
+    let (rec, ask) = begin(rt, alloc, laid, seat, t)?;
+    let Ask::Set { p, v } = ask else {
+        panic!(rt; "it sets a promise");
+    };
+    let h = rec.held.items()[p as usize];
+    let Sort::Promise = h.sort else {
+        panic!(rt; "no task is set");
+    };
+    let given = fill_at(rec.held.items(), v);
+    let mut owned = rec.owned;
+    if !take_out(alloc, &mut owned, h.cell) {
+        panic!(rt; "it owns the promise");
+    }
+    fill(laid, seat, rec.cell, h.cell, given);
+    let woken = wake(rt, alloc, laid, seat, h.cell, pool)?;
+    Ok(woken)
+}
+
+/// A task of the one seat blocks on a promise; a task of the other seat sets it, and wakes nobody; then
+/// the first is to be parked, and comes back. Tells what the promise is.
+fn set_before_park<B: Body, P: Pool, R: Wait + Abort>(
+    rt: &R,
+    alloc: Global,
+    laid: &Laid<B>,
+    seat: &mut WSeat<B>,
+    other: &mut WSeat<B>,
+    pool: &mut P,
+) -> Result<Seen, Why>
+    requires table { IsSeatOf laid.now seat.old }
+    requires other_table { IsSeatOf laid.now other.old }
+    requires free { IsFree laid.now seat.old.me }
+    requires other_free { IsFree laid.now other.old.me }
+    requires cells { 3 < laid.now.cells }
+    requires rooted { IsRooted (table_program (program_of B.places B.awaits B.left B.asks B.then)
+        laid.now) }
+    requires pool { P.limit pool.old ≡ laid.now.cells }
+{
+    let (mut rec, ask) = begin(rt, alloc, laid, seat, CellId(2))?;
+    let Ask::Get { p } = ask else {
+        panic!(rt; "it gets a promise");
+    };
+    let next = get(laid, seat, &mut rec, p, false)?;
+    let Next::Waits { place, spare } = next else {
+        panic!(rt; "nothing has become of it yet");
+    };
+    let t = rec.cell;
+    let h = rec.held.items()[place as usize];
+    rec.answer = Answer::RefAt(place);
+    rec.spare = spare;
+    let way = way_to::<B, Brand>(laid, seat, t, h, Blank::new(1));
+    let verdict = blocks::<B, Brand>(laid, seat, t, h.cell, way, Blank::new(1));
+    let Verdict::Walked = verdict else {
+        panic!(rt; "its owner doesn't wait");
+    };
+    let woken = set_first(rt, alloc, laid, other, pool, CellId(3))?;
+    assert_eq!(rt; woken, 0, "it isn't in the chain yet");
+    match park(laid, seat, t, h.cell, way, rec) {
+        Parked::Left => panic!(rt; "it would never be woken"),
+        Parked::Back(_) => Ok(value(laid, seat, h.cell)),
+    }
+}
+
+#[test]
+fn a_promise_is_set_between_block_and_park(rt: HostRuntime) -> Result<(), Fail> {
+    let a = rt.alloc();
+    let lists = reader_and_writer(a)?;
+    let mut pool = one_end::<LockedPool, HostRuntime>(&rt, a, 4)?;
+    let (laid, mut seat) = table_of(a, &lists, 4)?;
+    run_whole(&rt, a, &laid, &mut seat, &mut pool, CellId(0))?;
+    let (mut first, mut second) = laid.split(seat);
+    let seen = set_before_park(&rt, a, &laid, &mut first, &mut second, &mut pool)?;
+    assert_eq!(rt; seen, Seen::Num(5), "it goes on with the value");
+    Ok(())
+}
