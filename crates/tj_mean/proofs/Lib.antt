@@ -9,6 +9,15 @@ pub mod RoundSteps
 pub mod SettledRounds
 pub mod StandingCycles
 pub mod ToldOutcomes
+pub mod Fronts
+pub mod PointSteps
+pub mod KeyedLists
+pub mod CellCounts
+pub mod KeptPoints
+pub mod MeaningNames
+pub mod TasksAtWork
+pub mod EnteredCells
+pub mod TakenUp
 pub mod ChildNames
 pub mod LinePlaces
 pub mod SeenActs

@@ -1,7 +1,8 @@
 -- What only the functions inside the crate speak of, and proofs that the kit wants in specs. No public clause does.
 pub mod Assignments
-pub mod Exceeds
 pub mod KeptRounds
 pub mod Places
 pub mod SettledRounds
+pub mod Reached
+pub mod ToldOrder
 pub mod NotedActs

@@ -1,11 +1,12 @@
-//! One task's history, computed step by step, under an assignment that is kept in an ordered map.
+//! One task's history, computed step by step, under an assignment that is kept in an ordered map,
+//! from its start or from a point that it has come to.
 ghost use Rattle.std.specs.Prelude.{◌≡◌, ◌<◌, ◌≤◌, ◌^◌, suc, length, map};
 ghost use Rattle.std.specs.Prelude.{IfOk, IfErr, IsSome, IsTrue, IsFalse};
-ghost use Rattle.tj_body.specs.Points.{IsGoodAt, IsProper, weight};
+ghost use Rattle.tj_body.specs.Points.{HasStopped, IsGood, IsGoodAt, weight};
 ghost use Rattle.tj_body.specs.Programs.{rules_of};
 ghost use Rattle.tj_body.specs.History as history;
 ghost use Rattle.tj_mean.specs.Inner.Assignments.{assignment_in};
-ghost use Rattle.tj_mean.specs.Inner.Exceeds.{ExceedsAtPoint};
+ghost use Rattle.tj_mean.specs.Inner.Reached.{Reaches};
 ghost use Rattle.tj_mean.specs.Outcomes.{ending_of};
 
 use crate::ask_steps::{copy_reference, fail, take};
@@ -61,6 +62,8 @@ pub fn advance<B: Body>(
         IfOk result (λ _. p.new ≡ history.after_step rules (assignment_in given.now) p.old) }
     ensures stays { IfOk result (λ more. IsFalse more → p.new ≡ p.old) }
     ensures stopped { IfOk result (λ more. IsFalse more → IsSome (ending_of p.new.stage)) }
+    ensures halts { IfOk result (λ more.
+        IsFalse more → HasStopped (assignment_in given.now) p.old) }
     ensures falls { IfOk result (λ more. IsTrue more → weight B.left p.new < weight B.left p.old) }
 {
     match &p.stage {
@@ -108,33 +111,32 @@ pub fn start<B: Body>(alloc: Global, task: Task<B>) -> Result<Point<B>, Oom>
     })
 }
 
-/// The history of the task, or `Full` where at one of its points it has made `cells` things, or
-/// `room` promises.
-pub fn history<B: Body>(
+/// The task goes on from this point to where it stops. `Full` where on the way it has made more
+/// than `most` things.
+pub fn go_on<B: Body>(
     alloc: Global,
-    task: Task<B>,
+    p: &mut Point<B>,
     given: &BTreeMap<Name, Entry>,
     strict: bool,
-    cells: u32,
-    room: u32,
-) -> Result<Point<B>, PlanFault>
-    requires proper { let rules = rules_of B.places B.awaits B.left B.asks B.then strict in
-        IsProper rules task }
-    requires some_room { 0 < room }
-    ensures ok { let rules = rules_of B.places B.awaits B.left B.asks B.then strict in
-        IfOk result (λ p. p ≡ history.history rules (assignment_in given.now) task) }
-    ensures stopped { IfOk result (λ p. IsSome (ending_of p.stage)) }
-    ensures fits { IfOk result (λ p. length p.promises < room) }
+    most: u32,
+) -> Result<(), PlanFault>
+    requires good { let rules = rules_of B.places B.awaits B.left B.asks B.then strict in
+        IsGood rules p.old }
+    requires made { p.old.made ≤ most }
+    ensures reached { let rules = rules_of B.places B.awaits B.left B.asks B.then strict in
+        IfOk result (λ _. Reaches rules (assignment_in given.now) p.old p.new) }
+    ensures fits { IfOk result (λ _. p.new.made ≤ most) }
+    ensures falls { IfOk result (λ _. ¬ HasStopped (assignment_in given.now) p.old
+        → weight B.left p.new < weight B.left p.old) }
     ensures full { let rules = rules_of B.places B.awaits B.left B.asks B.then strict in
-        let V = assignment_in given.now in
-        IfErr result (λ e. e ≡ PlanFault.Full → ExceedsAtPoint rules V task cells room) }
+        IfErr result (λ e. e ≡ PlanFault.Full
+        → Reaches rules (assignment_in given.now) p.old p.new × (most < p.new.made)) }
 {
-    let mut p = start(alloc, task)?;
     loop {
-        if !advance(alloc, &mut p, given, strict)? {
-            return Ok(p);
+        if !advance(alloc, p, given, strict)? {
+            return Ok(());
         }
-        if p.made >= cells || p.promises.items().len() >= room as usize {
+        if p.made > most {
             return Err(PlanFault::Full);
         }
     }

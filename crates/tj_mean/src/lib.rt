@@ -1,10 +1,12 @@
-//! The meaning of a task program, computed on one thread by rounds, and its outcome.
+//! The meaning of a task program, computed on one thread, and its outcome.
 #![tactic(auto)]
 
 mod act;
 mod act_lines;
 mod act_steps;
+mod agenda;
 mod ask_steps;
+mod handed_on;
 mod held_names;
 mod history_steps;
 mod laws;

@@ -1,23 +1,23 @@
-//! The outcome of a program's meaning, by rounds. Each round takes all tasks anew, under what the
-//! round before has set or broken. A round with no more tasks and no more entries than the one
-//! before equals all later ones, so its histories are those of the meaning.
-ghost use Rattle.std.specs.Prelude.{◌≡◌, ◌↔◌, ◌<◌, ◌≤◌, length, IfOk, IfErr, OnOk, IsTrue};
-ghost use Rattle.std.specs.BTreeMap.{Updates};
-ghost use Rattle.std.specs.Cmp.Lexicographic.{slice_cmp};
-ghost use Rattle.std.specs.Ordering.{nat_cmp};
-ghost use Rattle.tj_base.specs.ForkOrder as fork_order;
+//! The outcome of a program's meaning. Each task is kept at the point that it has come to, and is
+//! taken up where it can go on: when it was forked, and when the cell that it waits for has got an
+//! entry. Points and entries are those of rounds all the time, though no round is computed, and
+//! where no task can go on, what the tasks have come to is the meaning.
+ghost use Rattle.std.specs.Prelude.{◌≡◌, ◌<◌, ◌≤◌, IfOk, IfErr};
 ghost use Rattle.tj_body.specs.Asks.{IsFresh};
 ghost use Rattle.tj_body.specs.Programs.{program_of};
 ghost use Rattle.tj_body.specs.Rounds as rounds;
-ghost use Rattle.tj_mean.specs.Inner.Assignments.{assignment_in};
 ghost use Rattle.tj_mean.specs.Inner.SettledRounds.{IsSettled};
 ghost use Rattle.tj_mean.specs.OutcomeLaws.{HasCycleWhereWaits};
-ghost use Rattle.tj_mean.specs.Outcomes.{AreTold, IsOutcome};
+ghost use Rattle.tj_mean.specs.Inner.ToldOrder.{AreToldInSomeOrder};
+ghost use Rattle.tj_mean.specs.Outcomes.{IsOutcome};
 
-use crate::laws::outcome_has_cycle_where_waits;
+use crate::agenda::Agenda;
+use crate::handed_on::{enter_all, hand_on, start_all};
+use crate::history_steps::{go_on, start};
+use crate::laws::{meaning_is_apart, order_is_free, outcome_has_cycle_where_waits};
 use crate::outcome::{Outcome, PlanFault};
-use crate::round::{Round, next_round};
-use crate::stopped::Stopped;
+use crate::round::root_task;
+use crate::stopped::{Stopped, told_of};
 use crate::told::outcome_of;
 use std::alloc::Global;
 use std::collections::BTreeMap;
@@ -45,6 +45,8 @@ pub fn plan<B: Body>(
     // Where a task waits, a cycle stands.
     ensures waits { IfOk result HasCycleWhereWaits }
 {
+    meaning_is_apart::<B>();
+    order_is_free::<B>();
     outcome_has_cycle_where_waits::<B>();
     let settled = settle(alloc, root, cells, strict)?;
     Ok(outcome_of(alloc, settled.tasks)?)
@@ -74,57 +76,28 @@ pub fn settle<B: Body>(
     ensures full { let p = program_of B.places B.awaits B.left B.asks B.then strict root.now in
         IfErr result (λ e. e ≡ PlanFault.Full → rounds.IsFull p cells) }
     ensures told { let p = program_of B.places B.awaits B.left B.asks B.then strict root.now in
-        IfOk result (λ settled. AreTold (rounds.meaning p cells) settled.tasks.items) }
+        IfOk result (λ s. AreToldInSomeOrder (rounds.meaning p cells) s.tasks.items) }
     ensures settled { let p = program_of B.places B.awaits B.left B.asks B.then strict root.now in
         IfOk result (IsSettled p cells) }
 {
+    let mut points = Vec::new(alloc);
+    points.push(start(alloc, root_task(alloc, root)?)?)?;
     let mut given = BTreeMap::new(alloc);
-    let mut tasks = 0;
-    let mut entries = 0;
-    let mut n = 0;
-    loop {
-        let round = next_round(alloc, root, &given, n, cells, strict)?;
-        if n == 2 * cells || adds_none(&round, tasks, entries) {
-            return Ok(Settled {
-                given,
-                n,
-                tasks: round.tasks,
-            });
-        }
-        tasks = round.tasks.len();
-        entries = round.entries.len();
-        given = assignment_of(alloc, round.entries)?;
-        n += 1;
+    let mut left = cells - 1;
+    let mut agenda = Agenda::new(alloc);
+    while let Some(at) = agenda.next(points.as_slice(), &given) {
+        let most = points[at].made + left;
+        go_on(alloc, &mut points[at], &given, strict, most)?;
+        left = most - points[at].made;
+        agenda.stop(alloc, at, &points[at].stage)?;
+        let handed = hand_on(alloc, &mut points[at]);
+        agenda.wake(handed.writes.as_slice())?;
+        enter_all(&mut given, handed.writes)?;
+        start_all(alloc, &mut points, handed.children)?;
     }
-}
-
-/// Whether the round has no more tasks and no more entries than these.
-fn adds_none(round: &Round, tasks: usize, entries: usize) -> bool
-    ensures { IsTrue result ↔
-        (length round.now.tasks.items ≤ tasks) × (length round.now.entries.items ≤ entries) }
-{
-    round.tasks.len() <= tasks && round.entries.len() <= entries
-}
-
-/// What the entries say of each cell, the first entry of a cell before later ones.
-fn assignment_of(
-    alloc: Global,
-    mut entries: Vec<(Name, Entry)>,
-) -> Result<BTreeMap<Name, Entry>, Oom>
-    ensures { IfOk result (λ given.
-        (q : fork_order.Name) → assignment_in given q ≡ rounds.entry_in entries.items q) }
-{
-    let mut given = BTreeMap::new(alloc);
-    while let Some((cell, became)) = entries.pop() {
-        put(&mut given, cell, became)?;
-    }
-    Ok(given)
-}
-
-/// From now on this became of the cell.
-fn put(given: &mut BTreeMap<Name, Entry>, cell: Name, became: Entry) -> Result<(), Oom>
-    ensures { OnOk result (Updates (slice_cmp nat_cmp) given.old given.new cell (Some became)) }
-{
-    given.insert(cell, became)?;
-    Ok(())
+    Ok(Settled {
+        given,
+        n: 2 * cells,
+        tasks: told_of(alloc, points)?,
+    })
 }

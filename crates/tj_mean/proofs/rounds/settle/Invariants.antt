@@ -1,18 +1,13 @@
-use Rattle.std.proofs.Common.{◌≡◌, ◌*◌, ◌-◌, ◌≤◌, length}
 use Rattle.tj_body.specs.Programs.{program_of}
-use Rattle.tj_body.specs.Rounds.{given, tasks, entries}
 use Rattle.tj_mean.specs.Inner.Assignments.{assignment_in}
+use Rattle.tj_mean.proofs.TasksAtWork.{IsAtWork, steps_left}
 use Rattle.tj_mean.proofs.rounds.settle.Given as goal
 
--- the map is the assignment of round n, and the numbers are those of its tasks and its entries
-abbrev pub invariant-loop-given : goal.invariant-loop-given
-invariant-loop-given g l = let b = g.B.Body in record {
-  few_rounds : l.n ≤ 2 * l.cells;
-  round : assignment_in l.given ≡ given (program_of b.places b.awaits b.left b.asks b.then l.strict l.root) l.n;
-  tasks_counted : l.tasks ≡ length (tasks (program_of b.places b.awaits b.left b.asks b.then l.strict l.root) l.n);
-  entries_counted : l.entries ≡ length
-      (entries (program_of b.places b.awaits b.left b.asks b.then l.strict l.root) l.n);
-}
+-- the points and the entries are those of tasks at work, and so many cells may still be made
+abbrev pub invariant-loop-at : goal.invariant-loop-at
+invariant-loop-at g l = let b = g.B.Body in
+    IsAtWork (program_of b.places b.awaits b.left b.asks b.then l.strict l.root) l.cells (assignment_in l.given)
+    l.points.items l.left
 
-abbrev pub decreases-loop-given : goal.decreases-loop-given
-decreases-loop-given g l = 2 * l.cells - l.n
+abbrev pub decreases-loop-at : goal.decreases-loop-at
+decreases-loop-at g l = steps_left g.B.Body.left l.points.items l.left

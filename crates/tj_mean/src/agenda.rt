@@ -1,0 +1,120 @@
+//! Which task is taken up next: one whose cell has got an entry, or one that was just forked, in the
+//! order of forks. The lists are only where to look first: that no task can go on is looked at, task
+//! by task, and not taken from them.
+ghost use Rattle.std.specs.Prelude.{IfNone, IfSome, IsFalse, IsTrue};
+ghost use Rattle.tj_body.specs.Points.{HasStopped, IsIn};
+ghost use Rattle.tj_body.specs.declared.point.Point.{Point};
+ghost use Rattle.tj_mean.specs.Inner.Assignments.{assignment_in};
+ghost use Rattle.tj_mean.specs.Inner.Reached.{CanGoOn};
+
+use std::alloc::Global;
+use std::collections::BTreeMap;
+use tj_base::{Name, Oom};
+use tj_body::{Body, Entry, Point, PointStage};
+
+/// Places of tasks.
+#[derive(Drop)]
+pub struct Agenda {
+    /// Those that were woken.
+    woken: Vec<usize>,
+    /// Those that wait, by the cells that they wait for.
+    waiting: BTreeMap<Name, Vec<usize>>,
+    /// From this place on tasks were not taken up yet.
+    fresh: usize,
+}
+
+impl Agenda {
+    /// Nobody was taken up yet.
+    pub fn new(alloc: Global) -> Agenda {
+        Agenda {
+            woken: Vec::new(alloc),
+            waiting: BTreeMap::new(alloc),
+            fresh: 0,
+        }
+    }
+
+    /// The task with this place has stopped at this stage.
+    pub fn stop(&mut self, alloc: Global, at: usize, stage: &PointStage) -> Result<(), Oom> {
+        let PointStage::Waits { cell, spare: _ } = stage else {
+            return Ok(());
+        };
+        let mut places = match self.waiting.remove(cell) {
+            Some(places) => places,
+            None => Vec::new(alloc),
+        };
+        places.push(at)?;
+        self.waiting.insert(cell.copy(alloc)?, places)?;
+        Ok(())
+    }
+
+    /// These cells have entries, and those that wait for them can go on.
+    pub fn wake(&mut self, writes: &[(Name, Entry)]) -> Result<(), Oom> {
+        for (cell, _became) in writes {
+            if let Some(mut places) = self.waiting.remove(cell) {
+                self.woken.append(&mut places)?;
+            }
+        }
+        Ok(())
+    }
+
+    /// The place of a task that can go on, if there is one.
+    pub fn next<B: Body>(
+        &mut self,
+        points: &[Point<B>],
+        given: &BTreeMap<Name, Entry>,
+    ) -> Option<usize>
+        ensures some { IfSome result (CanGoOn (assignment_in given.now) points.now) }
+        ensures none { IfNone result ((p : Point B) → IsIn p points.now
+            → HasStopped (assignment_in given.now) p) }
+    {
+        while let Some(at) = self.woken.pop() {
+            if is_ready(points, at, given) {
+                return Some(at);
+            }
+        }
+        while self.fresh < points.len() {
+            let at = self.fresh;
+            self.fresh += 1;
+            if is_ready(points, at, given) {
+                return Some(at);
+            }
+        }
+        first_of(points, given)
+    }
+}
+
+/// Whether this is the place of a task that can go on.
+fn is_ready<B: Body>(points: &[Point<B>], at: usize, given: &BTreeMap<Name, Entry>) -> bool
+    ensures { IsTrue result → CanGoOn (assignment_in given.now) points.now at }
+{
+    if at >= points.len() {
+        return false;
+    }
+    goes_on(&points[at], given)
+}
+
+/// The place of the first task that can go on.
+fn first_of<B: Body>(points: &[Point<B>], given: &BTreeMap<Name, Entry>) -> Option<usize>
+    ensures some { IfSome result (CanGoOn (assignment_in given.now) points.now) }
+    ensures none { IfNone result ((p : Point B) → IsIn p points.now
+        → HasStopped (assignment_in given.now) p) }
+{
+    for (at, point) in points.iter().enumerate() {
+        if goes_on(point, given) {
+            return Some(at);
+        }
+    }
+    None
+}
+
+/// Whether the task can go on.
+fn goes_on<B: Body>(point: &Point<B>, given: &BTreeMap<Name, Entry>) -> bool
+    ensures goes { IsTrue result → ¬ HasStopped (assignment_in given.now) point.now }
+    ensures stopped { IsFalse result → HasStopped (assignment_in given.now) point.now }
+{
+    match &point.stage {
+        PointStage::Closed(_) => false,
+        PointStage::Answered(_) => true,
+        PointStage::Waits { cell, spare: _ } => given.get(cell).is_some(),
+    }
+}

@@ -1,0 +1,71 @@
+//! What a task has forked and written where it stops, which goes on to the others.
+ghost use Rattle.std.specs.Prelude.{◌≡◌, ◌++◌, map, IfOk, OnOk};
+ghost use Rattle.std.specs.BTreeMap.{Updates};
+ghost use Rattle.std.specs.Cmp.Lexicographic.{slice_cmp};
+ghost use Rattle.std.specs.Ordering.{nat_cmp};
+ghost use Rattle.tj_body.specs.History as history;
+ghost use Rattle.tj_mean.specs.Inner.Assignments.{assignment_in};
+ghost use Rattle.tj_mean.specs.Inner.Reached.{Enters, emptied};
+
+use crate::history_steps::start;
+use std::alloc::Global;
+use std::collections::BTreeMap;
+use std::mem::replace;
+use tj_base::{Items, Name, Oom};
+use tj_body::{Body, Entry, Point, PointStage, Task};
+
+/// What a task has forked and written.
+#[derive(Drop)]
+pub struct HandedOn<B> {
+    pub children: Vec<Task<B>>,
+    pub writes: Vec<(Name, Entry)>,
+}
+
+/// Takes out of the point what the task has forked and written. If it has ended, its references,
+/// which nobody reads any more, are dropped.
+pub fn hand_on<B: Body>(alloc: Global, p: &mut Point<B>) -> HandedOn<B>
+    ensures children { result.children.items ≡ p.old.children }
+    ensures writes { result.writes.items ≡ p.old.writes }
+    ensures emptied { p.new ≡ emptied p.old.stage p.old }
+{
+    let children = replace(&mut p.children, Items::of(Vec::new(alloc))).into_vec();
+    let writes = replace(&mut p.writes, Items::of(Vec::new(alloc))).into_vec();
+    if let PointStage::Closed(_) = &p.stage {
+        p.references = Items::of(Vec::new(alloc));
+    }
+    HandedOn { children, writes }
+}
+
+/// The children begin.
+pub fn start_all<B: Body>(
+    alloc: Global,
+    points: &mut Vec<Point<B>>,
+    children: Vec<Task<B>>,
+) -> Result<(), Oom>
+    ensures { IfOk result (λ _.
+        points.new.items ≡ points.old.items ++ map history.start children.items) }
+{
+    for task in children {
+        points.push(start(alloc, task)?)?;
+    }
+    Ok(())
+}
+
+/// The cells have these entries.
+pub fn enter_all(given: &mut BTreeMap<Name, Entry>, writes: Vec<(Name, Entry)>) -> Result<(), Oom>
+    ensures { IfOk result (λ _.
+        Enters writes.items (assignment_in given.old) (assignment_in given.new)) }
+{
+    for (cell, became) in writes {
+        put(given, cell, became)?;
+    }
+    Ok(())
+}
+
+/// From now on this became of the cell.
+fn put(given: &mut BTreeMap<Name, Entry>, cell: Name, became: Entry) -> Result<(), Oom>
+    ensures { OnOk result (Updates (slice_cmp nat_cmp) given.old given.new cell (Some became)) }
+{
+    given.insert(cell, became)?;
+    Ok(())
+}
