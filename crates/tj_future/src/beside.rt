@@ -30,8 +30,8 @@ use tj_run::{Left, RunFault, Why, work_all};
 use tj_words::{Finish, Laid, RestWords, WSeat};
 
 /// Runs a program with this root to its rest without the strict rule, as `run_all` does, with a watch
-/// of the root beside the workers. `Full` comes exactly where the meaning needs more cells. No clause
-/// tells that the watch looked while the workers ran.
+/// of the root beside the workers. `Full` comes exactly where the meaning needs more cells. What is
+/// told of the root is what its record says. That watch and workers overlap is said by no clause.
 pub fn run_watched<B: Body, P: Pool, G: Gate, R: Wait + Threads + Sync>(
     rt: &R,
     alloc: Global,

@@ -1,5 +1,5 @@
 //! Waiting for a cell from outside: a caller that is no task looks at a cell, watches it, or polls a
-//! future, while the workers run. It publishes no wait, so it stands in no cycle.
+//! future, while the workers run. The detector never meets it.
 #![tactic(auto)]
 
 mod beside;

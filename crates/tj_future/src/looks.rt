@@ -15,8 +15,8 @@ use tj_cells::{Seen, value};
 use tj_run::Why;
 use tj_words::{Fill, Laid, WSeat};
 
-/// One look at cell `p`. Nothing comes only where TAG of the cell was loaded as 0, STOP as 0, and LIVE
-/// above 0. `Rested` comes only where this call loaded LIVE as 0, and after that TAG as 0.
+/// One look at cell `p`: it loads TAG, and where that is 0 then STOP, and where that is 0 then LIVE, and
+/// where that is 0 TAG again. It answers nothing where LIVE is above 0.
 pub fn look_at<B: Body>(laid: &Laid<B>, seat: &mut WSeat<B>, p: CellId) -> Option<Watched>
     requires table { IsSeatOf laid.now seat.old }
     requires cell { IsCellOf laid.now p.0 }

@@ -11,7 +11,6 @@ use futures::executor::block_on;
 use std::alloc::Global;
 use std::sync::Wait;
 use std::test::Fail;
-use std::thread::join;
 use tj_base::{CellId, Items, Oom, Pay};
 use tj_body::{Body, Row, RowList, TableBody};
 use tj_ports::OpenGate;
@@ -81,23 +80,6 @@ fn a_second_seat_waits_for_a_promise(rt: HostRuntime) -> Result<(), Fail> {
     let (_first, _left) = worker(&rt, a, &laid, first, end, &OpenGate, 1);
     let (told, _seat) = block_on(&rt, CellWait::new(&laid, second, CellId(1)))?;
     assert_eq!(rt; told, Watched::Value(Fill::Num(5)), "the promise");
-    Ok(())
-}
-
-#[test]
-fn a_future_polls_while_a_worker_runs(rt: HostRuntime) -> Result<(), Fail> {
-    let a = rt.alloc();
-    let lists = one_promise(a)?;
-    let (laid, seat) = Laid::new(a, 2, TableBody::new(&lists, 0), false)?;
-    let end = one_end::<LockedPool, HostRuntime>(&rt, a)?;
-    let (first, second) = two_seats(&laid, seat);
-    let table = &laid;
-    let host = &rt;
-    let working = move || worker(host, a, table, first, end, &OpenGate, 1);
-    let waiting = move || block_on(host, CellWait::new(table, second, CellId(0)));
-    let (_left, given) = join(&rt, working, waiting);
-    let (told, _seat) = given?;
-    assert_eq!(rt; told, Watched::Value(Fill::Num(7)), "the root");
     Ok(())
 }
 
