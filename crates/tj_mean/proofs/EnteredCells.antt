@@ -30,7 +30,8 @@ module _ (ws : List (Name × Entry)) (V W X : Assignment) (x : Name) (e : Entry)
     by true s = (e, at_same q true s)
     by false s = (d, at_same q false s ∙ g)
 
-  written_too : (q : Name) (d : Entry) → IsIn (q, d) ws ⊎ IsIn {A = Name × Entry} (q, d) ((x, e) ∷ []) → (y : Entry) × (X q ≡ Some y)
+  written_too : (q : Name) (d : Entry) → IsIn (q, d) ws ⊎ IsIn {A = Name × Entry} (q, d) ((x, e) ∷ [])
+      → (y : Entry) × (X q ≡ Some y)
   written_too q d (inl i) = let r = h.written q d i in keeps q r.0 r.1
   written_too q d (inr (inl g)) =
       let n : q ≡ x = ap (λ (w : Name × Entry). w.0) g in

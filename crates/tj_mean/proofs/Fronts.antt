@@ -60,7 +60,8 @@ module _ {B : Type 0} (ks : List (Task B)) (ws : List (Name × Entry)) where
       ∙ front-failure (cause.Owner q) p
       ∙ sym (ap (λ b. front (cond b (after_write q v p) (after_failure (cause.Owner q) p))) e)
 
-  front-get : (spare : Bool) (s : Sort) (q : Name) (p : Point B) → after_get spare s q (front p) ≡ front (after_get spare s q p)
+  front-get : (spare : Bool) (s : Sort) (q : Name) (p : Point B)
+      → after_get spare s q (front p) ≡ front (after_get spare s q p)
   front-get spare sort.Task q p = front-failure cause.Kind p
   front-get spare sort.Promise q p = refl
 
@@ -76,11 +77,13 @@ module _ {B : Type 0} (ks : List (Task B)) (ws : List (Name × Entry)) where
   front-join strict spare sort.Promise q p = front-failure cause.Kind p
 
   -- an ask
-  pub front-ask : (strict : Bool) (a : Ask B) (p : Point B) → after_ask strict a (front p) ≡ front (after_ask strict a p)
+  pub front-ask : (strict : Bool) (a : Ask B) (p : Point B)
+      → after_ask strict a (front p) ≡ front (after_ask strict a p)
   front-ask strict ask.New p = refl
   front-ask strict (ask.Fork b pass hand) p = front-fork b (map (reference p) pass)
       (map (λ k. (reference p k).name) hand) (hand_all p.holds (map (reference p) hand)) p
-  front-ask strict (ask.Set k v) p = front-set (reference p k).sort (has (reference p k).name p.holds) (reference p k).name
+  front-ask strict (ask.Set k v) p =
+      front-set (reference p k).sort (has (reference p k).name p.holds) (reference p k).name
       (value_at p.name p.references v) p refl
   front-ask strict (ask.Get k) p = front-get false (reference p k).sort (reference p k).name p
   front-ask strict (ask.Join k) p = front-join strict false (reference p k).sort (reference p k).name p

@@ -297,7 +297,8 @@ module _ {B : Type 0} (program : Program B) where
           rest_made : made_by rest + q.made ≡ made_by qs + r.made
           rest_made =
               let a = ap (λ l. made_by l) rest_is in
-              let b = total_append (λ (z : Point B). z.made) (slice_set qs at (emptied r.stage r)) (starts r.children) in
+              let b = total_append (λ (z : Point B). z.made) (slice_set qs at (emptied r.stage r))
+                      (starts r.children) in
               let c = total_set (λ (z : Point B). z.made) qs at (emptied r.stage r) q there in
               let d = ap (λ (z : Point B). z.made) (here q) in
               let e = starts_made r.children in
@@ -340,7 +341,8 @@ module _ {B : Type 0} (program : Program B) where
             let c = get_in w.whole r.0 r.1 in (c.0, r.0, c.1, r.2);
         meant = λ c x e. w.stand.of_rounds x (in_get w.whole c x e);
         stopped = λ c x e. kept_stopped E qs w.whole w.kept stopped x (in_get w.whole c x e);
-        forked = λ c x k e i. let r = child_there program obeys proper w.whole w.stand.named x k (in_get w.whole c x e) i in
+        forked = λ c x k e i.
+            let r = child_there program obeys proper w.whole w.stand.named x k (in_get w.whole c x e) i in
             let d = get_in w.whole r.0 r.1 in (d.0, r.0, d.1, r.2);
         written = λ c x q e f i. w.written x q e (in_get w.whole c x f) i;
         entered = w.stand.entered;

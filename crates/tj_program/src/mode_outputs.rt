@@ -111,7 +111,7 @@ fn output_of(alloc: Global, command: Command, input: &ReadEnd) -> Result<Output,
     }
 }
 
-/// The report of the script that the input is, by rounds, or the line of its fault.
+/// The report of the script that the input is, by one thread, or the line of its fault.
 fn report(alloc: Global, input: &ReadEnd, limits: Limits) -> Result<Output, Oom>
     requires limits { AreLimits limits }
     requires within { IsWithin most_bytes input.now }

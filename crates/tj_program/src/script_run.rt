@@ -1,4 +1,4 @@
-//! Running a script: its limits, how its outcome is told, and the run by rounds on one thread.
+//! Running a script: its limits, how its outcome is told, and the run on one thread.
 ghost use Rattle.std.specs.Prelude.{◌≡◌, IfOk};
 ghost use Rattle.tj_mean.specs.Outcomes.{is_marked};
 ghost use Rattle.tj_program.specs.Runs.{Start, AreLimits, IsRunOf, IsStartOf};
@@ -36,7 +36,7 @@ pub enum Told {
     Root,
 }
 
-/// The outcome of a run of the script by rounds, or that it is full.
+/// The outcome of a run of the script on one thread, or that it is full.
 pub fn run_by_rounds(alloc: Global, script: &Script, limits: Limits) -> Result<Output, Oom>
     requires limits { AreLimits limits }
     requires script { IsSomeScript (view.script script.now) }
