@@ -298,7 +298,7 @@ module _ {B : Type 0} (program : Program B) where
           rest_made =
               let a = ap (λ l. made_by l) rest_is in
               let b = total_append (λ (z : Point B). z.made) (slice_set qs at (emptied r.stage r))
-                      (starts r.children) in
+              (starts r.children) in
               let c = total_set (λ (z : Point B). z.made) qs at (emptied r.stage r) q there in
               let d = ap (λ (z : Point B). z.made) (here q) in
               let e = starts_made r.children in
