@@ -1,5 +1,5 @@
 -- What a task does next doesn't hang on what was taken from its point.
-use Rattle.std.proofs.Common.{◌≡◌, ◌∙◌, refl, sym, ap, ℕ, ℤ, Bool, true, false, cond, not, ◌&&◌, List, [], ◌∷◌, ◌++◌, map}
+use Rattle.std.proofs.Common.{◌≡◌, ◌∙◌, refl, sym, ap, Bool, true, false, cond, not, ◌&&◌, List, [], ◌∷◌, ◌++◌, map}
 use Rattle.std.proofs.Common.{append_assoc, Option, Some, None}
 use Rattle.std.specs.Prelude.{Result, Ok, Err}
 use Rattle.tj_base.specs.ForkOrder.{Name, before}
@@ -11,8 +11,7 @@ use Rattle.tj_body.specs.Names.{has, in_order}
 use Rattle.tj_body.specs.Programs.{Rules}
 use Rattle.tj_body.specs.History.{Assignment, after_close, after_failure, after_try_fork, after_fork, next_child, after_set}
 use Rattle.tj_body.specs.History.{after_write, after_get, with_wait, after_join, after_ask, after_read, after_look, after_stage}
-use Rattle.tj_body.specs.History.{after_step, with_entry, reference, hand_all, value_at, cause_of, with_answer}
-use Rattle.tj_body.specs.declared.ask.Answer.TheVariants as answer
+use Rattle.tj_body.specs.History.{after_step, with_entry, reference, hand_all, value_at, cause_of}
 use Rattle.tj_body.specs.declared.ask.Ask.{Ask}
 use Rattle.tj_body.specs.declared.ask.Ask.TheVariants as ask
 use Rattle.tj_body.specs.declared.point.Reference.{Reference}

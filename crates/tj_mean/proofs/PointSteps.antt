@@ -1,10 +1,10 @@
 -- Where a task comes to from a point that is one of rounds.
-use Rattle.std.proofs.Common.{◌≡◌, ℕ, zero, suc, ◌+◌, ◌≤◌, Bool, true, false, Option, Some, None, Ok, Err, inl, inr}
-use Rattle.std.proofs.Common.{List, [], ◌∷◌, ◌++◌, map, length, refl, sym, ap, ◌∙◌, subst, arith, length-append}
+use Rattle.std.proofs.Common.{◌≡◌, ℕ, zero, suc, ◌+◌, ◌≤◌, Bool, true, false, Option, Some, None}
+use Rattle.std.proofs.Common.{List, [], ◌∷◌, map, length, refl, sym, ap, ◌∙◌, subst, arith, length-append}
 use Rattle.tj_base.specs.ForkOrder.{Name}
-use Rattle.tj_body.specs.Programs.{Rules, Program, AreLawful, root_task}
+use Rattle.tj_body.specs.Programs.{Rules, Program, AreLawful}
 use Rattle.tj_body.specs.History.{Assignment, after_look, after_read, after_stage, after_step, next_child, reference}
-use Rattle.tj_body.specs.Points.{IsIn, IsProper, IsGood, HasStopped}
+use Rattle.tj_body.specs.Points.{IsGood}
 use Rattle.tj_body.specs.RoundPoints.{Becomes, IsOfRounds}
 use Rattle.tj_body.specs.Turns.{IsTurn, fails, ends, makes, forks, sets, gets, joins, prints}
 use Rattle.tj_body.specs.declared.ask.Ask.{Ask}

@@ -1,24 +1,22 @@
 -- A task is taken up: what stands before and after, as the code has it.
-use Rattle.std.proofs.Common.{◌≡◌, ℕ, suc, ◌+◌, ◌-◌, ◌<◌, ◌≤◌, inl, inr, List, [], ◌∷◌, ◌++◌, map, length, get_or, true, Some}
+use Rattle.std.proofs.Common.{◌≡◌, ℕ, ◌+◌, ◌-◌, ◌<◌, ◌≤◌, inl, inr, List, ◌++◌, map, get_or}
 use Rattle.std.proofs.Common.{refl, sym, ap, ◌∙◌, subst, arith}
 use Rattle.std.proofs.lemmas.List.{get_or-set_same, set-set}
 use Rattle.std.specs.Prelude.{slice_set, IsSome}
 use Rattle.tj_base.specs.ForkOrder.{Name}
 use Rattle.tj_body.specs.History.{Assignment, start}
-use Rattle.tj_body.specs.Points.{IsIn, IsProper, IsGood, HasStopped, weight}
+use Rattle.tj_body.specs.Points.{IsProper, IsGood, HasStopped, weight}
 use Rattle.tj_body.specs.Programs.{Program, AreLawful, root_task}
 use Rattle.tj_body.specs.Rounds.{IsFull}
 use Rattle.tj_body.specs.declared.point.Entry.{Entry}
 use Rattle.tj_body.specs.declared.point.Close.{Close}
 use Rattle.tj_body.specs.declared.point.Close.TheVariants as close
-use Rattle.tj_body.specs.declared.point.PointStage.{PointStage}
 use Rattle.tj_body.specs.declared.point.PointStage.TheVariants as stage
 use Rattle.tj_body.specs.declared.point.Task.{Task}
 use Rattle.tj_body.specs.declared.point.Point.{Point}
 use Rattle.tj_body.proofs.Counts.{total_in}
 use Rattle.tj_mean.specs.Inner.Reached.{Reaches, Enters, CanGoOn, emptied}
 use Rattle.tj_mean.specs.Outcomes.{ending_of}
-use Rattle.tj_mean.proofs.CellCounts.{made_by}
 use Rattle.tj_mean.proofs.KeptPoints.{any_default, in_at}
 use Rattle.tj_mean.proofs.TasksAtWork.{IsAtWork, steps_left, good_here, full_here, goes_on, falls}
 

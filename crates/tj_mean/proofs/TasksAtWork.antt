@@ -1,29 +1,27 @@
 -- Tasks at work: points and entries of rounds, of which nothing is lost and nothing stands twice.
-use Rattle.std.proofs.Common.{◌≡◌, ℕ, zero, suc, ◌+◌, ◌*◌, ◌<◌, ◌≤◌, ◌⊎◌, inl, inr, List, [], ◌∷◌, ◌++◌, map, length}
+use Rattle.std.proofs.Common.{◌≡◌, ℕ, suc, ◌+◌, ◌*◌, ◌<◌, ◌≤◌, ◌⊎◌, inl, inr, List, [], ◌∷◌, ◌++◌, map, length}
 use Rattle.std.proofs.Common.{get_or, Some, None, Option, refl, sym, ap, ◌∙◌, subst, arith}
 use Rattle.std.specs.Prelude.{slice_set, slice_get}
-use Rattle.std.specs.List.Sorted.{IsPermutation}
 use Rattle.tj_base.specs.ForkOrder.{Name}
 use Rattle.tj_body.specs.Asks.{most_left}
 use Rattle.tj_body.specs.History.{Assignment, history, start}
-use Rattle.tj_body.specs.Laws.{AreDistinct}
-use Rattle.tj_body.specs.Points.{IsIn, IsProper, IsGood, IsGoodAt, HasEnded, HasStopped, IsAtRest, weight}
+use Rattle.tj_body.specs.Points.{IsIn, IsProper, IsGood, IsGoodAt, HasStopped, IsAtRest, weight}
 use Rattle.tj_body.specs.Programs.{Rules, Program, AreLawful, root_task}
 use Rattle.tj_body.specs.RoundPoints.{Becomes, IsOfRounds}
-use Rattle.tj_body.specs.Rounds.{cells_by, given, tasks, cells, last_round, meaning, IsFull}
+use Rattle.tj_body.specs.Rounds.{given, tasks, cells, last_round, meaning, IsFull}
 use Rattle.tj_body.specs.declared.point.Entry.{Entry}
 use Rattle.tj_body.specs.declared.point.PointStage.{PointStage}
 use Rattle.tj_body.specs.declared.point.PointStage.TheVariants as stage
 use Rattle.tj_body.specs.declared.point.Task.{Task}
 use Rattle.tj_body.specs.declared.point.Point.{Point}
 use Rattle.tj_body.proofs.Counts.{is, times, times_map, total, total_append}
-use Rattle.tj_body.proofs.Lists.{in_either, in_left, in_right, in_map, to_map}
+use Rattle.tj_body.proofs.Lists.{in_either, in_right, in_map, to_map}
 use Rattle.tj_body.proofs.RoundPoints.{points_are_good, tasks_start, things_in_rounds, writes_become}
 use Rattle.tj_body.proofs.Rounds.Rests.{rests}
 use Rattle.tj_body.proofs.Rounds.Settles.{is_last}
 use Rattle.tj_mean.specs.Inner.Reached.{Reaches, Enters, emptied}
 use Rattle.tj_mean.specs.Inner.ToldOrder.{AreToldInSomeOrder}
-use Rattle.tj_mean.specs.Outcomes.{AreTold, stopped_of}
+use Rattle.tj_mean.specs.Outcomes.{AreTold}
 use Rattle.tj_mean.specs.declared.stopped.Stopped.{Stopped}
 use Rattle.tj_mean.proofs.CellCounts.{names_of, names_at, forked, made_by, cells_at, AreNamed, cells_length, full_at}
 use Rattle.tj_mean.proofs.CellCounts.{names_distinct, name_there, promise_there, root_there, child_there}

@@ -1,4 +1,4 @@
-use Rattle.std.proofs.Common.{◌≡◌, ◌<◌, get_or, sym, ap, ◌∙◌, subst, arith}
+use Rattle.std.proofs.Common.{◌≡◌, get_or, sym, ap, ◌∙◌, subst, arith}
 use native.Mathlib.Decide.{dec_le}
 use mathlib.Core.Logic.{dite}
 use Rattle.tj_body.specs.Points.{HasStopped}
