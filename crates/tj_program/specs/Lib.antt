@@ -12,3 +12,4 @@ pub mod Inner
 pub mod ClosedRuns
 pub mod KnownRuns
 pub mod RootLines
+pub mod ShyAsks

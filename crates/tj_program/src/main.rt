@@ -30,6 +30,8 @@ mod rule_tests;
 mod run;
 mod script_run;
 mod script_text;
+#[cfg(test)]
+mod shy_tests;
 mod status;
 #[cfg(test)]
 mod tests;

@@ -130,7 +130,7 @@ fn run_by_workers<G: Gate, R: Wait + Threads + Sync>(
 }
 
 /// The outcome of a table at rest, as it is told, and the table's closed words.
-fn ended_at_rest(
+pub fn ended_at_rest(
     alloc: Global,
     rest: RestWords<ScriptBody<'_>>,
     told: Told,
