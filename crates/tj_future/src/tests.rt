@@ -1,21 +1,27 @@
 //! A fresh table of two cells, which a second seat waits for while a worker has the first.
 ghost use Rattle.std.specs.Prelude.{◌≡◌, ◌<◌, ◌≤◌, ◌*◌, [], length, IfOk, IsTrue};
+ghost use Rattle.std.specs.Thread.{IsSync};
+ghost use denote.Param.Send.{IsSend};
+ghost use Rattle.tj_body.specs.Programs.{program_of};
 ghost use Rattle.tj_body.specs.Table.{is_table};
+ghost use Rattle.tj_words.specs.Law.{IsRooted};
 ghost use Rattle.tj_words.specs.Lots.{least_lot};
 ghost use Rattle.tj_words.specs.SeatSteps.{IsSeatOf};
 ghost use Rattle.tj_words.specs.Views.{IsIdle};
-ghost use Rattle.tj_run.specs.Carried.{IsFree};
+ghost use Rattle.tj_run.specs.Carried.{IsFree, table_program};
 
-use crate::{CellWait, Watched, look_at, run_watched};
+use crate::{CellWait, Polled, Watched, look_at, run_watched};
 use futures::executor::block_on;
-use std::alloc::Global;
+use std::alloc::{AllocGlobal, Global};
+use std::random::RandomSource;
 use std::sync::Wait;
 use std::test::Fail;
+use std::thread::{Threads, join};
 use tj_base::{CellId, Items, Oom, Pay};
 use tj_body::{Body, Row, RowList, TableBody};
 use tj_ports::OpenGate;
 use tj_ready::{LockedPool, Pool};
-use tj_run::worker;
+use tj_run::{Left, worker};
 use tj_words::{Fill, Laid, WSeat};
 
 /// The table of one task, which makes a promise, sets it to 5, and ends with 7.
@@ -59,6 +65,65 @@ fn two_seats<B: Body>(laid: &Laid<B>, seat: WSeat<B>) -> (WSeat<B>, WSeat<B>)
     (first, second)
 }
 
+/// What a future is given for cell 1, which polls in a second thread while a worker runs in this one.
+/// Where no thread can be made, it polls after the worker. It is none where memory ran out.
+fn polled_beside<B: Polled, P: Pool, R: Wait + Threads + RandomSource + AllocGlobal + Sync>(
+    rt: &R,
+    alloc: Global,
+    laid: &Laid<B>,
+    first: WSeat<B>,
+    second: WSeat<B>,
+    end: P,
+) -> Option<Watched>
+    requires crosses { IsSync R.row × IsSend B.row }
+    requires table { IsSeatOf laid.now first }
+    requires free { IsFree laid.now first.me }
+    requires rooted { IsRooted (table_program (program_of B.places B.awaits B.left B.asks B.then)
+        laid.now) }
+    requires pool { P.limit end ≡ laid.now.cells }
+    requires other_table { IsSeatOf laid.now second }
+    requires idle { IsIdle second.me.0 }
+    requires slots { second.me.1 ≡ [] }
+    requires cell { 1 < laid.now.cells }
+{
+    let waiting = move || -> Option<Watched>
+        requires { IsSeatOf laid.now second × (1 < laid.now.cells) × IsIdle second.me.0
+            × (second.me.1 ≡ []) }
+    {
+        match block_on(rt, CellWait::new(laid, second, CellId(1))) {
+            Ok((told, _seat)) => Some(told),
+            Err(_) => None,
+        }
+    };
+    let working = move || -> Left
+        requires { IsSeatOf laid.now first × IsFree laid.now first.me
+            × IsRooted (table_program (program_of B.places B.awaits B.left B.asks B.then) laid.now)
+            × (P.limit end ≡ laid.now.cells) }
+    { worker(rt, alloc, laid, first, end, &OpenGate, 1).1 };
+    let (told, _left) = join(rt, waiting, working);
+    told
+}
+
+/// What a future is given for cell 1 by one of two seats, while a worker has the other.
+fn promise_beside<B: Polled, P: Pool, R: Wait + Threads + RandomSource + AllocGlobal + Sync>(
+    rt: &R,
+    alloc: Global,
+    laid: &Laid<B>,
+    seat: WSeat<B>,
+    end: P,
+) -> Option<Watched>
+    requires table { IsSeatOf laid.now seat }
+    requires free { IsFree laid.now seat.me }
+    requires room { 2 * least_lot ≤ seat.me.0.lot }
+    requires rooted { IsRooted (table_program (program_of B.places B.awaits B.left B.asks B.then)
+        laid.now) }
+    requires pool { P.limit end ≡ laid.now.cells }
+    requires cell { 1 < laid.now.cells }
+{
+    let (first, second) = two_seats(laid, seat);
+    polled_beside(rt, alloc, laid, first, second, end)
+}
+
 #[test]
 fn nothing_has_become_of_a_new_root(rt: HostRuntime) -> Result<(), Fail> {
     let a = rt.alloc();
@@ -94,5 +159,16 @@ fn a_run_is_watched(rt: HostRuntime) -> Result<(), Fail> {
         Ok((told, _rest)) => assert_eq!(rt; told, Watched::Value(Fill::Num(7)), "the root"),
         Err(_) => assert!(rt; false, "two cells are enough"),
     }
+    Ok(())
+}
+
+#[test]
+fn a_future_polls_while_a_worker_runs(rt: HostRuntime) -> Result<(), Fail> {
+    let a = rt.alloc();
+    let lists = one_promise(a)?;
+    let (laid, seat) = Laid::new(a, 2, TableBody::new(&lists, 0), false)?;
+    let end = one_end::<LockedPool, HostRuntime>(&rt, a)?;
+    let told = promise_beside(&rt, a, &laid, seat, end);
+    assert_eq!(rt; told, Some(Watched::Value(Fill::Num(5))), "the promise");
     Ok(())
 }
