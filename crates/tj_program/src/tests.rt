@@ -130,7 +130,7 @@ fn each_put_fails_in_turn(rt: HostRuntime) -> Result<(), Fail> {
 #[test]
 fn failing_ports(rt: HostRuntime) -> Result<(), Fail> {
     shows_failing(&rt, "run", (10, 0, 0), Status::WriteFault, "0 done 3\nc")?;
-    shows_failing(&rt, "run --workers 0", (100, 1, 0), Status::Usage, USAGE)?;
+    shows_failing(&rt, "run --workers 0", (200, 1, 0), Status::Usage, USAGE)?;
     shows_failing(
         &rt,
         "gen --size 1",
@@ -162,7 +162,7 @@ fn no_write_fails_where_there_is_room(rt: HostRuntime) -> Result<(), Fail> {
     let alloc = rt.alloc();
     let words = Vec::new(alloc);
     let mut source = MemSource::new(Vec::new(alloc), 1, Vec::new(alloc));
-    let mut sink = MemSink::new(alloc, 100, 7, Vec::new(alloc))?;
+    let mut sink = MemSink::new(alloc, 200, 7, Vec::new(alloc))?;
     let found = status_without_form(&rt, alloc, words.as_slice(), &mut source, &mut sink);
     assert_eq!(rt; found, Status::Usage);
     assert_eq!(rt; sink.bytes(), USAGE.as_bytes());
