@@ -7,7 +7,7 @@ use Rattle.std.proofs.lemmas.List.Folds.{drop_split}
 use Rattle.std.proofs.lemmas.Bool.{eqb-true}
 use Rattle.tj_lex.specs.Bytes.{is_blank, is_gap_start, begins_with, line_feed, hash}
 use Rattle.tj_lex.specs.Tokens.{IsGap, IsComment}
-use Rattle.tj_lex.proofs.Runs.{cases, or-none}
+use Rattle.tj_lex.proofs.Stretches.{cases, or-none}
 
 abbrev mutual
   -- a text without the blanks and comments that it begins with

@@ -12,7 +12,7 @@ use Rattle.tj_lex.specs.Bytes.{is_name_byte, stays_on_line, line_feed}
 use Rattle.tj_lex.specs.Spelling.{mark_text}
 use Rattle.tj_lex.specs.Tokens.{Spells, IsToken, IsFaultFrom, HasTokens}
 use Rattle.tj_lex.specs.Inner.Spots.{AreApart}
-use Rattle.tj_lex.proofs.Runs.{both, eqb-fails, list_all-prefix}
+use Rattle.tj_lex.proofs.Stretches.{both, eqb-fails, list_all-prefix}
 
 -- one token more
 pub HasTokens-push : (text : List ℕ) (start : ℕ) (tokens : List Token) (stop : ℕ) (token : Token)

@@ -6,7 +6,7 @@ use Rattle.std.proofs.lemmas.List.{drop-drop, drop_all, drop_more, take_more, ta
 use Rattle.std.proofs.lemmas.List.Folds.{drop_split}
 use Rattle.std.proofs.lemmas.List.Sums.{prefix_len_stops}
 use Rattle.std.proofs.lemmas.Bool.{eqb-true}
-use Rattle.tj_lex.proofs.Runs.{both, not-false, take-split, list_all-prefix}
+use Rattle.tj_lex.proofs.Stretches.{both, not-false, take-split, list_all-prefix}
 use Rattle.tj_lex.specs.Bytes.{is_blank, line_feed, hash, stays_on_line}
 use Rattle.tj_lex.specs.Tokens.{IsGap, IsComment}
 use Rattle.tj_lex.specs.Inner.Spots.{AreApart}

@@ -15,7 +15,7 @@ use Rattle.tj_lex.specs.Places.{place_after}
 use Rattle.tj_lex.specs.Spelling.{mark_text}
 use Rattle.tj_lex.specs.Tokens.{IsGap, StartsWith, Spells, IsToken, IsEnd, HasTokens, AreTokens}
 use Rattle.tj_lex.specs.Pieces.{Piece, text_of, extends, AreLaidOut, tokens_of}
-use Rattle.tj_lex.proofs.Runs.{both, list_all-prefix}
+use Rattle.tj_lex.proofs.Stretches.{both, list_all-prefix}
 use Rattle.tj_lex.proofs.Gaps.{IsGap-append}
 use Rattle.tj_lex.proofs.Starts.{mark_text-some}
 

@@ -1,4 +1,4 @@
-pub mod Runs
+pub mod Stretches
 pub mod Decimals
 pub mod Lines
 pub mod Gaps

@@ -4,7 +4,7 @@ use Rattle.std.specs.Prelude.{◌==◌}
 use Rattle.std.specs.List.{suffix_len, prefix_len, list_all}
 use Rattle.std.proofs.lemmas.List.{reverse-append, append-nil}
 use Rattle.std.proofs.lemmas.List.Sums.{sum_by-append, count_by-le-length, suffix_len-le-length}
-use Rattle.tj_lex.proofs.Runs.{both, not-true}
+use Rattle.tj_lex.proofs.Stretches.{both, not-true}
 use Rattle.tj_lex.specs.declared.place.Place.{Place}
 use Rattle.tj_lex.specs.Bytes.{line_feed, stays_on_line}
 use Rattle.tj_lex.specs.Places.{place_after}

@@ -6,7 +6,7 @@ use Rattle.tj_lex.specs.declared.gap.Spot.{Spot}
 use Rattle.tj_lex.specs.Bytes.{line_feed, stays_on_line}
 use Rattle.tj_lex.specs.Places.{place_after}
 use Rattle.tj_lex.specs.Inner.Spots.{IsSpot}
-use Rattle.tj_lex.proofs.Runs.{take-split}
+use Rattle.tj_lex.proofs.Stretches.{take-split}
 use Rattle.tj_lex.proofs.Lines.{place_is, line-feed, column-feed, line-along, column-along, line-small, column-small}
 
 -- a spot's line and column are at most one more than its index

@@ -11,7 +11,7 @@ use Rattle.tj_lex.specs.declared.token.Mark.TheVariants as marks
 use Rattle.tj_lex.specs.Bytes.{is_name_start, is_gap_start, begins_with}
 use Rattle.tj_lex.specs.Spelling.{key_text, mark_text}
 use Rattle.tj_lex.specs.Tokens.{StartsWith, longest_name}
-use Rattle.tj_lex.proofs.Runs.{eqb-fails, or-none}
+use Rattle.tj_lex.proofs.Stretches.{eqb-fails, or-none}
 
 -- the keyword of these bytes
 abbrev key_of : List ℕ → Key

@@ -12,7 +12,7 @@ use Rattle.tj_lex.specs.declared.token.Key.TheVariants as keys
 use Rattle.tj_lex.specs.Bytes.{is_name_start, is_name_byte, begins_with}
 use Rattle.tj_lex.specs.Spelling.{key_text}
 use Rattle.tj_lex.specs.Tokens.{greatest_number, longest_name}
-use Rattle.tj_lex.proofs.Runs.{both, not-true}
+use Rattle.tj_lex.proofs.Stretches.{both, not-true}
 use Rattle.tj_syntax.specs.Trees.{Task}
 use Rattle.tj_syntax.specs.Marks.{Noted, Name, fine, declares}
 use Rattle.tj_syntax.specs.Listing.{CanStand}

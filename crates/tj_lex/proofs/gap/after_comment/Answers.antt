@@ -7,7 +7,7 @@ use Rattle.tj_lex.specs.Bytes.{stays_on_line}
 use Rattle.tj_lex.specs.Inner.Spots.{IsSpot}
 use Rattle.tj_lex.proofs.Moves.{column-spot, IsSpot-along, IsSpot-feed}
 use Rattle.tj_lex.proofs.Gaps.{AreApart-comment, AreApart-last, feed-behind}
-use Rattle.tj_lex.proofs.Runs.{list_all-prefix}
+use Rattle.tj_lex.proofs.Stretches.{list_all-prefix}
 use Rattle.tj_lex.proofs.gap.after_comment.Goals as goal
 
 -- how many bytes of the line are left

@@ -1,4 +1,4 @@
-use Rattle.tj_lex.proofs.Runs.{AllPass-prefix}
+use Rattle.tj_lex.proofs.Stretches.{AllPass-prefix}
 use Rattle.std.specs.Char.{is_ascii_digit}
 use Rattle.tj_lex.proofs.scan.digits.Goals as goal
 
