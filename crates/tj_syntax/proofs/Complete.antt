@@ -2,7 +2,7 @@
 pub mod Block
 pub mod Expr
 pub mod Forks
-pub mod Request
+pub mod Ask
 pub mod Script
 pub mod Steps
 pub mod Stmt

@@ -7,11 +7,11 @@ use Rattle.tj_lex.specs.declared.token.Mark.TheVariants as m
 use Rattle.tj_syntax.specs.declared.fault.Breach.{Breach}
 use Rattle.tj_syntax.specs.declared.fault.Breach.TheVariants.{Twice, Many}
 use Rattle.tj_syntax.specs.Trees.{Given}
-use Rattle.tj_syntax.specs.Marks.{Name, place, most_vars}
+use Rattle.tj_syntax.specs.Marks.{Name, index_of, most_vars}
 use Rattle.tj_syntax.specs.Inner.Input.{Input, expect, fresh, fresh_variable, breach_of}
 use Rattle.tj_syntax.specs.Inner.Reading.{given}
 use Rattle.tj_syntax.proofs.Sound.Steps.{expected}
-use Rattle.tj_syntax.proofs.Sound.Request.{given_sound}
+use Rattle.tj_syntax.proofs.Sound.Ask.{given_sound}
 use Rattle.tj_syntax.proofs.Sound.Stmt.{fresh_sound}
 
 free_at : (o : Option ℕ) (b : Bool) → ◌≡◌ {A = Option Breach} (cond (is_some o) (Some Twice) (cond b (Some Many)
@@ -22,12 +22,12 @@ free_at None false h = (refl, refl)
 
 -- what can be said of a list to which a name can be added
 pub record IsFree (most : ℕ) (earlier : List Name) (x : Name) : Type 0 where
-  pub new : place earlier x ≡ None
+  pub new : index_of earlier x ≡ None
   pub few : length earlier < most
 
 pub free : (most : ℕ) (earlier : List Name) (x : Name) → breach_of most earlier x ≡ None → IsFree most earlier x
 free most earlier x h =
-    let parts = free_at (place earlier x) (nat_le most (length earlier)) h in
+    let parts = free_at (index_of earlier x) (nat_le most (length earlier)) h in
     let short : nat_le most (length earlier) ≡ false = parts.1 in
     record { new = parts.0; few = grind (arith, nat_tests) }
 

@@ -7,8 +7,8 @@ use Rattle.tj_syntax.specs.declared.heads.Head.{Head}
 use Rattle.tj_syntax.specs.Inner.Heads.{head_of}
 use Rattle.tj_syntax.specs.Inner.Input as spec
 use Rattle.tj_syntax.specs.Inner.Input.{names_of, breach_of, count_params, with_head}
-use Rattle.tj_syntax.specs.Marks.{Name, place, most_tasks}
-use Rattle.tj_syntax.proofs.Indexes.{place-below}
+use Rattle.tj_syntax.specs.Marks.{Name, index_of, most_tasks}
+use Rattle.tj_syntax.proofs.Indexes.{index_of-below}
 
 pub names_of-heads : (list : List Head) → names_of (map head_of list) ≡ map (λ (h : Head). h.name.now) list
 names_of-heads [] = refl
@@ -16,11 +16,11 @@ names_of-heads (h ∷ list) = ap (λ ns. h.name.now ∷ ns) (names_of-heads list
 
 -- a head that is found is there
 pub found_below : (list : List Head) (names : List Name) (x : Name) (o : Option ℕ) → names ≡ map (λ (h : Head).
-    h.name.now) list → o ≡ place names x
+    h.name.now) list → o ≡ index_of names x
     → IfSome o (λ n. n < length (map head_of list))
 found_below list names x None e is = tt
 found_below list names x (Some n) e is =
-    let below = place-below names x n (sym is) in
+    let below = index_of-below names x n (sym is) in
     let count : length names ≡ length list = ap length e ∙ length-map list (λ (h : Head). h.name.now) in
     let same : length (map head_of list) ≡ length list = length-map list head_of in
     omega arith

@@ -10,28 +10,28 @@ use Rattle.std.proofs.lemmas.Slice.Eq.{bytes_eq-Decides}
 use Rattle.std.proofs.lemmas.Bool.{cases_Bool}
 use denote.Ref.{Bor}
 use Rattle.tj_syntax.specs.Inner.Index.{IsIndexed}
-use Rattle.tj_syntax.specs.Marks.{place}
+use Rattle.tj_syntax.specs.Marks.{index_of}
 
 -- the first of two answers, where it is one
-or_else : Option ℕ → Option ℕ → Option ℕ
-or_else None other = other
-or_else (Some n) other = Some n
+first_some : Option ℕ → Option ℕ → Option ℕ
+first_some None other = other
+first_some (Some n) other = Some n
 
 position_from-push : (test : List ℕ → Bool) (y : List ℕ) (i : ℕ) (names : List (List ℕ))
-    → position_from test i (names ++ y ∷ []) ≡ or_else (position_from test i names) (cond (test y) (Some (i + length
+    → position_from test i (names ++ y ∷ []) ≡ first_some (position_from test i names) (cond (test y) (Some (i + length
     names)) None)
-unfolding or_else
+unfolding first_some
 position_from-push test y i [] = grind arith
 position_from-push test y i (x ∷ names) = let more = position_from-push test y (i + 1) names in let far : (i + 1) +
     length names ≡ i + length (x ∷ names) = omega arith in
-    elim (test x) as (λ v. cond v (Some i) (position_from test (i + 1) (names ++ y ∷ [])) ≡ or_else (cond v (Some i)
+    elim (test x) as (λ v. cond v (Some i) (position_from test (i + 1) (names ++ y ∷ [])) ≡ first_some (cond v (Some i)
     (position_from test (i + 1) names)) (cond (test y) (Some (i + length (x ∷ names))) None)) [
       | true ↦ refl
-      | false ↦ more ∙ ap (λ n. or_else (position_from test (i + 1) names) (cond (test y) (Some n) None))
+      | false ↦ more ∙ ap (λ n. first_some (position_from test (i + 1) names) (cond (test y) (Some n) None))
           far
     ]
 
--- a place is within the list
+-- an index is within the list
 position_from-below : (test : List ℕ → Bool) (i n : ℕ) (names : List (List ℕ)) → position_from test i names ≡ Some n →
     n < i + length names
 position_from-below test i n [] e = cc
@@ -44,32 +44,32 @@ position_from-below test i n (x ∷ names) e = let far : (i + 1) + length names 
     let below = position_from-below test (i + 1) n names later in omega arith)
     (cases_Bool (test x))
 
-pub place-below : (names : List (List ℕ)) (x : List ℕ) (n : ℕ) → place names x ≡ Some n → n < length names
-place-below names x n e = let below = position_from-below (λ name. bytes_eq name x) 0 n names e in omega arith
+pub index_of-below : (names : List (List ℕ)) (x : List ℕ) (n : ℕ) → index_of names x ≡ Some n → n < length names
+index_of-below names x n e = let below = position_from-below (λ name. bytes_eq name x) 0 n names e in omega arith
 
-or_else-none : (o : Option ℕ) → or_else o None ≡ o
-unfolding or_else
-or_else-none None = refl
-or_else-none (Some n) = refl
+first_some-none : (o : Option ℕ) → first_some o None ≡ o
+unfolding first_some
+first_some-none None = refl
+first_some-none (Some n) = refl
 
--- the place of a name behind one more that wasn't there
-pub place-push : (x y : List ℕ) (names : List (List ℕ)) → place names y ≡ None
-    → place (names ++ y ∷ []) x ≡ cond (bytes_eq y x) (Some (length names)) (place names x)
-unfolding or_else
-place-push x y names absent =
+-- the index of a name behind one more that wasn't there
+pub index_of-push : (x y : List ℕ) (names : List (List ℕ)) → index_of names y ≡ None
+    → index_of (names ++ y ∷ []) x ≡ cond (bytes_eq y x) (Some (length names)) (index_of names x)
+unfolding first_some
+index_of-push x y names absent =
     let pushed = position_from-push (λ name. bytes_eq name x) y 0 names in
     let here : 0 + length names ≡ length names = omega arith in
     ⊎_elim
     (λ e. let same : y ≡ x = (bytes_eq-Decides y x).0 e in
-    let gone : place names x ≡ None = subst (λ z. place names z ≡ None) same absent in
+    let gone : index_of names x ≡ None = subst (λ z. index_of names z ≡ None) same absent in
     pushed ∙ rw (e, gone, here) refl)
-    (λ e. pushed ∙ rw e (or_else-none (place names x)))
+    (λ e. pushed ∙ rw e (first_some-none (index_of names x)))
     (cases_Bool (bytes_eq y x))
 
 pub indexed_push : (names : List (List ℕ)) (y : List ℕ) (m n : BTreeMap (Bor (List ℕ)) ℕ) → IsIndexed names m
-    → place names y ≡ None
+    → index_of names y ≡ None
     → ((x : List ℕ) → get_by (λ k. slice_cmp nat_cmp x k.now) n ≡ update bytes_eq (λ z. get_by (λ k. slice_cmp nat_cmp
     z k.now) m) y (Some (length names)) x)
     → IsIndexed (names ++ y ∷ []) n
 indexed_push names y m n indexed absent updated = λ x. updated x ∙ ap (λ o. cond (bytes_eq y x) (Some (length names))
-    o) (indexed x) ∙ sym (place-push x y names absent)
+    o) (indexed x) ∙ sym (index_of-push x y names absent)

@@ -4,7 +4,7 @@ pub mod HeadSteps
 pub mod Indexes
 pub mod Taken
 pub mod TaskNames
-pub mod Turns
+pub mod Repeats
 pub mod Unrolls
 pub mod Views
 pub mod Sends

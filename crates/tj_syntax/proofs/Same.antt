@@ -1,7 +1,7 @@
 -- Tokens that begin alike are read alike, so there is one first fault.
 pub mod Alike
 pub mod AlikeExpr
-pub mod AlikeRequest
+pub mod AlikeAsk
 pub mod AlikeSteps
 pub mod AlikeStmt
 pub mod AlikeTask

@@ -1,8 +1,8 @@
 -- What is read is the grammar.
 pub mod Block
-pub mod Call
+pub mod AskParts
 pub mod Expr
-pub mod Request
+pub mod Ask
 pub mod Script
 pub mod Steps
 pub mod Stmt

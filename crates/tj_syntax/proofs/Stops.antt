@@ -1,5 +1,5 @@
 -- Where a reading stops, what it read begins a part.
-pub mod Call
+pub mod Ask
 pub mod Expr
 pub mod Steps
 pub mod Stmt

@@ -11,7 +11,7 @@ use Rattle.tj_syntax.specs.declared.fault.ParseFault.TheVariants as faults
 use Rattle.tj_syntax.specs.Trees.{Task}
 use Rattle.tj_syntax.specs.declared.fault.Breach.{Breach}
 use Rattle.tj_syntax.specs.declared.fault.Breach.TheVariants.{Unknown, Twice, Count, Deep, Many}
-use Rattle.tj_syntax.specs.Marks.{Note, broken, forks, declares, Noted, Name, place}
+use Rattle.tj_syntax.specs.Marks.{Note, broken, forks, declares, Noted, Name, index_of}
 use Rattle.tj_syntax.specs.Grammar.{IsProgram}
 
 -- the tokens of notes
@@ -44,7 +44,7 @@ task_at script (Some n) = slice_get script n
 
 -- the task of a name, the first where there are several
 abbrev pub task_named : List Task → Name → Option Task
-task_named script f = task_at script (place (map (λ t. t.name) script) f)
+task_named script f = task_at script (index_of (map (λ t. t.name) script) f)
 
 -- how a fork with so many arguments is faulty where its name stands for this task
 abbrev pub fork_of : Option Task → ℕ → Option Breach

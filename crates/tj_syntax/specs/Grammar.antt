@@ -15,7 +15,7 @@ use Rattle.tj_syntax.specs.declared.expr.Rel.TheVariants as rel
 use Rattle.tj_syntax.specs.declared.expr.RefOf.{RefOf}
 use Rattle.tj_syntax.specs.declared.expr.RefOf.TheVariants as ref
 use Rattle.tj_syntax.specs.Trees as tree
-use Rattle.tj_syntax.specs.Trees.{Expression, Pairs, Argument, Request, Given, Statement, Statements, Otherwise, Task}
+use Rattle.tj_syntax.specs.Trees.{Expression, Pairs, Argument, Ask, Given, Statement, Statements, Otherwise, Task}
 use Rattle.tj_syntax.specs.Marks.{Name, Noted, fine, forks, declares, key, mark, most_levels, most_vars, most_tasks}
 use Rattle.tj_syntax.specs.Marks.{number_of, use_of, declaration, opening, within}
 
@@ -115,20 +115,20 @@ pub data IsOr (vars : List Name) (room : ℕ) : List Noted → Option Expression
   or_else : {a : List Noted} {x : Expression} → IsExpression vars room a x → IsOr vars room (key k.Or ∷ a) (Some x)
 
 -- an ask
-pub data IsRequest (tasks vars : List Name) (room : ℕ) : List Noted → Request → Type 0 where
-  new : IsRequest tasks vars room (key k.New ∷ []) tree.new
+pub data IsAsk (tasks vars : List Name) (room : ℕ) : List Noted → Ask → Type 0 where
+  new : IsAsk tasks vars room (key k.New ∷ []) tree.new
   fork : {a : List Noted} {args : List Argument} (f : Name) → IsArguments vars room a args
-      → IsRequest tasks vars room
+      → IsAsk tasks vars room
       (key k.Fork ∷ (toks.Name f, forks (length args)) ∷ mark m.ParenOpen ∷ (a ++ mark m.ParenClose ∷ []))
       (tree.fork (number_of tasks f) args)
   get : {a b : List Noted} {r : RefOf} {other : Option Expression} → IsReference vars a r → IsOr vars room b other
-      → IsRequest tasks vars room (key k.Get ∷ (a ++ b)) (tree.get r other)
+      → IsAsk tasks vars room (key k.Get ∷ (a ++ b)) (tree.get r other)
   join : {a b : List Noted} {r : RefOf} {other : Option Expression} → IsReference vars a r → IsOr vars room b other
-      → IsRequest tasks vars room (key k.Join ∷ (a ++ b)) (tree.join r other)
+      → IsAsk tasks vars room (key k.Join ∷ (a ++ b)) (tree.join r other)
 
 -- what a variable is given: an ask or an expression
 pub data IsGiven (tasks vars : List Name) (room : ℕ) : List Noted → Given → Type 0 where
-  answer : {a : List Noted} {ask : Request} → IsRequest tasks vars room a ask → IsGiven tasks vars room a (tree.answer
+  answer : {a : List Noted} {ask : Ask} → IsAsk tasks vars room a ask → IsGiven tasks vars room a (tree.answer
       ask)
   result_of : {a : List Noted} {x : Expression} → IsExpression vars room a x → IsGiven tasks vars room a
       (tree.result_of x)
@@ -145,7 +145,7 @@ mutual
     assign : {room : ℕ} {vars : List Name} {a : List Noted} {given : Given} (x : Name) → IsGiven tasks vars room a given
         → IsStatement tasks room vars ((toks.Name x, use_of vars x) ∷ mark m.Assign ∷ (a ++ mark m.Semi ∷ []))
         (tree.assign (number_of vars x) given) vars
-    ask : {room : ℕ} {vars : List Name} {a : List Noted} {ask : Request} → IsRequest tasks vars room a ask
+    ask : {room : ℕ} {vars : List Name} {a : List Noted} {ask : Ask} → IsAsk tasks vars room a ask
         → IsStatement tasks room vars (a ++ mark m.Semi ∷ []) (tree.ask ask) vars
     print : {room : ℕ} {vars : List Name} {a : List Noted} {x : Expression} → IsExpression vars room a x
         → IsStatement tasks room vars (key k.Print ∷ (a ++ mark m.Semi ∷ [])) (tree.print x) vars

@@ -16,7 +16,7 @@ use Rattle.tj_syntax.specs.declared.expr.Op.TheVariants as op
 use Rattle.tj_syntax.specs.declared.expr.RefOf.{RefOf}
 use Rattle.tj_syntax.specs.declared.expr.RefOf.TheVariants as ref
 use Rattle.tj_syntax.specs.Trees as tree
-use Rattle.tj_syntax.specs.Trees.{Expression, Pairs, Argument, Request, Given, Statement, Statements, Otherwise, Task}
+use Rattle.tj_syntax.specs.Trees.{Expression, Pairs, Argument, Ask, Given, Statement, Statements, Otherwise, Task}
 use Rattle.tj_syntax.specs.Marks.{Name}
 use Rattle.tj_syntax.specs.Grammar.{op_mark, rel_mark}
 
@@ -130,21 +130,21 @@ reference vars (ref.Var x) = name vars x
 reference vars ref.Me = key k.Me
 
 -- what is computed where the cell is broken, if anything is
-abbrev pub or_parts : (vars : List Name) → Option Expression → List Part
-or_parts vars None = []
-or_parts vars (Some x) = space ∷ key k.Or ∷ space ∷ expression vars x
+abbrev pub or_else_parts : (vars : List Name) → Option Expression → List Part
+or_else_parts vars None = []
+or_else_parts vars (Some x) = space ∷ key k.Or ∷ space ∷ expression vars x
 
 -- an ask of a task with these variables, in a script with these tasks
-abbrev pub request : (tasks vars : List Name) → Request → List Part
-request tasks vars tree.new = key k.New ∷ []
-request tasks vars (tree.fork f args) =
+abbrev pub ask : (tasks vars : List Name) → Ask → List Part
+ask tasks vars tree.new = key k.New ∷ []
+ask tasks vars (tree.fork f args) =
     key k.Fork ∷ space ∷ name tasks f ∷ mark m.ParenOpen ∷ (arguments vars args ++ mark m.ParenClose ∷ [])
-request tasks vars (tree.get r other) = key k.Get ∷ space ∷ reference vars r ∷ or_parts vars other
-request tasks vars (tree.join r other) = key k.Join ∷ space ∷ reference vars r ∷ or_parts vars other
+ask tasks vars (tree.get r other) = key k.Get ∷ space ∷ reference vars r ∷ or_else_parts vars other
+ask tasks vars (tree.join r other) = key k.Join ∷ space ∷ reference vars r ∷ or_else_parts vars other
 
 -- what a variable is given
 abbrev pub given : (tasks vars : List Name) → Given → List Part
-given tasks vars (tree.answer ask) = request tasks vars ask
+given tasks vars (tree.answer q) = ask tasks vars q
 given tasks vars (tree.result_of x) = expression vars x
 
 -- an assignment behind what stands before its `=`
@@ -164,7 +164,7 @@ abbrev mutual
   pub statement : (tasks vars : List Name) → (indent : List ℕ) → Statement → List Part
   statement tasks vars indent (tree.let_new x side) = key k.Let ∷ space ∷ name vars x ∷ assigned (given tasks vars side)
   statement tasks vars indent (tree.assign x side) = name vars x ∷ assigned (given tasks vars side)
-  statement tasks vars indent (tree.ask ask) = request tasks vars ask ++ mark m.Semi ∷ []
+  statement tasks vars indent (tree.ask q) = ask tasks vars q ++ mark m.Semi ∷ []
   statement tasks vars indent (tree.print x) = key k.Print ∷ space ∷ (expression vars x ++ mark m.Semi ∷ [])
   statement tasks vars indent (tree.set_cell x e) = key k.Set ∷ space ∷ name vars x ∷ assigned (expression vars e)
   statement tasks vars indent (tree.return x) = key k.Return ∷ space ∷ (expression vars x ++ mark m.Semi ∷ [])

@@ -6,6 +6,7 @@ use Rattle.tj_lex.specs.declared.token.Tok.{Tok}
 use Rattle.tj_lex.specs.declared.token.Tok.TheVariants as toks
 use Rattle.tj_lex.specs.declared.token.Key.{Key}
 use Rattle.tj_lex.specs.declared.token.Mark.{Mark}
+use Rattle.tj_syntax.specs.declared.script.TheConstants.{MAX_LEVELS, MAX_TASKS, MAX_VARS}
 use Rattle.tj_syntax.specs.declared.fault.Breach.{Breach}
 use Rattle.tj_syntax.specs.declared.fault.Breach.TheVariants.{Unknown, Twice, Deep, Many}
 
@@ -32,29 +33,29 @@ key k = (toks.Key k, fine)
 abbrev pub mark : Mark → Noted
 mark m = (toks.Mark m, fine)
 
--- the most levels of nesting, variables of a task, and tasks
+-- the most levels of nesting
 abbrev pub most_levels : ℕ
-most_levels = 64
+most_levels = MAX_LEVELS
 
 -- the most variables of a task
 abbrev pub most_vars : ℕ
-most_vars = 256
+most_vars = MAX_VARS
 
 -- the most tasks of a script
 abbrev pub most_tasks : ℕ
-most_tasks = 1024
+most_tasks = MAX_TASKS
 
--- the place of a name among these, if it is there
-abbrev pub place : List Name → Name → Option ℕ
-place names x = position_from (λ name. bytes_eq name x) 0 names
+-- the index of a name among these, if it is there
+abbrev pub index_of : List Name → Name → Option ℕ
+index_of names x = position_from (λ name. bytes_eq name x) 0 names
 
 -- whether a name is among these
 abbrev pub is_among : List Name → Name → Bool
-is_among names x = is_some (place names x)
+is_among names x = is_some (index_of names x)
 
 -- the number of a name among these, and 0 for any other
 abbrev pub number_of : List Name → Name → ℕ
-number_of names x = unwrap_or (place names x) 0
+number_of names x = unwrap_or (index_of names x) 0
 
 -- what is noted at a use of a variable, where these are known
 abbrev pub use_of : List Name → Name → Note

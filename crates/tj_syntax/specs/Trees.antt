@@ -25,15 +25,15 @@ pub data Argument : Type 0 where
   value : Expression → Argument
 
 -- an ask; a get or a join may have what to compute where the cell is broken
-pub data Request : Type 0 where
-  new : Request
-  fork : ℕ → List Argument → Request
-  get : RefOf → Option Expression → Request
-  join : RefOf → Option Expression → Request
+pub data Ask : Type 0 where
+  new : Ask
+  fork : ℕ → List Argument → Ask
+  get : RefOf → Option Expression → Ask
+  join : RefOf → Option Expression → Ask
 
 -- what a variable is given
 pub data Given : Type 0 where
-  answer : Request → Given
+  answer : Ask → Given
   result_of : Expression → Given
 
 mutual
@@ -41,7 +41,7 @@ mutual
   pub data Statement : Type 0 where
     let_new : ℕ → Given → Statement
     assign : ℕ → Given → Statement
-    ask : Request → Statement
+    ask : Ask → Statement
     print : Expression → Statement
     set_cell : ℕ → Expression → Statement
     return : Expression → Statement

@@ -45,15 +45,15 @@ argument (args.Own x) = Trees.own x
 argument (args.Expr x) = Trees.value (expression x)
 
 -- an ask as a tree
-abbrev pub request : Call → Trees.Request
-request calls.New = Trees.new
-request (calls.Fork f list) = Trees.fork f (map argument list.items)
-request (calls.Get r other) = Trees.get r (option_map expression other)
-request (calls.Join r other) = Trees.join r (option_map expression other)
+abbrev pub ask : Call → Trees.Ask
+ask calls.New = Trees.new
+ask (calls.Fork f list) = Trees.fork f (map argument list.items)
+ask (calls.Get r other) = Trees.get r (option_map expression other)
+ask (calls.Join r other) = Trees.join r (option_map expression other)
 
 -- what a variable is given, as a tree
 abbrev pub given : Rhs → Trees.Given
-given (sides.Call ask) = Trees.answer (request ask)
+given (sides.Call call) = Trees.answer (ask call)
 given (sides.Expr x) = Trees.result_of (expression x)
 
 -- a list of statements as a tree
@@ -70,7 +70,7 @@ otherwise_of (Some body) = Trees.block body
 abbrev pub statement_step : Stmt-F Trees.Statement Trees.Statements → Trees.Statement
 statement_step (Stmt-F.Let x side) = Trees.let_new x (given side)
 statement_step (Stmt-F.Assign x side) = Trees.assign x (given side)
-statement_step (Stmt-F.Do ask) = Trees.ask (request ask)
+statement_step (Stmt-F.Do call) = Trees.ask (ask call)
 statement_step (Stmt-F.Print x) = Trees.print (expression x)
 statement_step (Stmt-F.Set x e) = Trees.set_cell x (expression e)
 statement_step (Stmt-F.Return x) = Trees.return (expression x)

@@ -1,12 +1,10 @@
 //! The heads of a script's tasks, which are read before the script is, so that a fork finds a task
 //! that is declared later.
 ghost use Rattle.std.specs.Prelude.{◌≡◌, ◌≤◌, length, map};
+ghost use Rattle.tj_syntax.specs.Marks.{most_tasks};
 
 use crate::names::Names;
 use tj_lex::Word;
-
-/// The most tasks of a script.
-pub(crate) const MAX_TASKS: usize = 1024;
 
 /// A task's name, the number of its parameters, and how many tokens are left from its name on.
 #[derive(Clone, Copy)]
@@ -22,5 +20,5 @@ pub(crate) struct Heads<'t> {
     pub names: Names<'t>,
     pub list: Vec<Head<'t>>,
     ghost named: { names ≡ map (λ h. h.name.now) list.items },
-    ghost few: { length names ≤ 1024 },
+    ghost few: { length names ≤ most_tasks },
 }

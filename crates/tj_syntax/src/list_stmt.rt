@@ -6,7 +6,7 @@ ghost use Rattle.tj_syntax.specs.Listing.{text_of};
 ghost use Rattle.tj_syntax.specs.View as view;
 
 use crate::expr::Expr;
-use crate::list_call::{list_given, list_request};
+use crate::list_ask::{list_ask, list_given};
 use crate::list_expr::{list_expression, put, put_name};
 use crate::script::Decl;
 use crate::stmt::{Block, Rhs, Stmt};
@@ -75,7 +75,7 @@ fn list_statement(
         }
         Stmt::Assign(x, side) => list_assignment(text, tasks, vars, *x, side),
         Stmt::Do(ask) => {
-            list_request(text, tasks, vars, ask)?;
+            list_ask(text, tasks, vars, ask)?;
             put(text, b";")
         }
         Stmt::Print(x) => {

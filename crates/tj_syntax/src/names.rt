@@ -1,8 +1,9 @@
 //! Names by their numbers, in the order in which they were declared.
 ghost use Rattle.std.specs.Prelude.{◌≡◌, ◌<◌, ◌≤◌, [], ◌∷◌, ◌++◌, OnOk, OnErr, IfErr, length, None};
-ghost use Rattle.tj_syntax.specs.Marks.{place};
+ghost use Rattle.tj_syntax.specs.Marks.{index_of};
 
 use crate::fault::Stop;
+use crate::script::MAX_TASKS;
 use std::alloc::Global;
 use std::collections::BTreeMap;
 use std::marker::Model;
@@ -40,22 +41,22 @@ impl<'t> Names<'t> {
 
     pub(crate) fn len(&self) -> usize
         ensures value { result ≡ length self.now }
-        ensures small { result ≤ 1024 }
+        ensures small { result ≤ MAX_TASKS }
     {
         self.list.len()
     }
 
     /// The number of a name.
     pub(crate) fn number_of(&self, name: &[u8]) -> Option<u32>
-        ensures { result ≡ place self.now name.now }
+        ensures { result ≡ index_of self.now name.now }
     {
         self.numbers.get(name).copied()
     }
 
     /// Adds a name that isn't there yet.
     pub(crate) fn add(&mut self, alloc: Global, name: &'t Word) -> Result<(), Stop>
-        requires new { place self.old name.now ≡ None }
-        requires few { length self.old < 1024 }
+        requires new { index_of self.old name.now ≡ None }
+        requires few { length self.old < MAX_TASKS }
         ensures ok { OnOk result (self.new ≡ self.old ++ name.now ∷ []) }
         ensures err { IfErr result (λ stop. stop ≡ Stop.Oom) }
         ensures kept { OnErr result (self.new ≡ self.old) }

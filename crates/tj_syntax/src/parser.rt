@@ -4,16 +4,14 @@ ghost use Rattle.std.specs.Prelude.{◌≡◌, ◌≢◌, ◌<◌, IfOk, Ok, Non
 ghost use Rattle.tj_syntax.specs.Inner.State.{input_of};
 ghost use Rattle.tj_syntax.specs.Inner.Input as spec;
 ghost use Rattle.tj_syntax.specs.Inner.Input.{Reads};
-ghost use Rattle.tj_syntax.specs.Marks.{place};
+ghost use Rattle.tj_syntax.specs.Marks.{index_of};
 
 use crate::fault::{Breach, Stop};
 use crate::heads::Heads;
 use crate::names::Names;
+use crate::script::MAX_VARS;
 use std::alloc::Global;
 use tj_lex::{Mark, Tok, Token, Word};
-
-/// The most variables of a task.
-const MAX_VARS: usize = 256;
 
 /// The state of a parser.
 #[derive(Drop)]
@@ -188,8 +186,8 @@ impl<'t> Parser<'t> {
 
     /// Makes a variable known.
     pub(crate) fn add_variable(&mut self, name: &'t Word) -> Result<(), Stop>
-        requires new { place (input_of self.old).vars name.now ≡ None }
-        requires few { length (input_of self.old).vars < 256 }
+        requires new { index_of (input_of self.old).vars name.now ≡ None }
+        requires few { length (input_of self.old).vars < MAX_VARS }
         ensures { Reads (λ _. tt) (spec.add_variable name.now (input_of self.old))
             result (input_of self.new) }
     {

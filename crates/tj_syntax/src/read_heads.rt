@@ -4,12 +4,13 @@ ghost use Rattle.std.specs.Option.{option_map};
 ghost use Rattle.tj_syntax.specs.Inner.Input as spec;
 ghost use Rattle.tj_syntax.specs.Inner.Heads.{head_of, heads_of};
 ghost use Rattle.tj_syntax.specs.Inner.Input.{names_of};
-ghost use Rattle.tj_syntax.specs.Marks.{place};
+ghost use Rattle.tj_syntax.specs.Marks.{index_of};
 
 use crate::fault::{Breach, Stop};
-use crate::heads::{Head, Heads, MAX_TASKS};
+use crate::heads::{Head, Heads};
 use crate::names::Names;
 use crate::parser::breach;
+use crate::script::MAX_TASKS;
 use std::alloc::Global;
 use tj_lex::{Key, Mark, Tok, Token, Word};
 
@@ -66,7 +67,7 @@ impl<'t> Heads<'t> {
 
     /// The number of a task.
     pub(crate) fn number_of(&self, name: &[u8]) -> Option<u32>
-        ensures value { result ≡ place (names_of (heads_of self.now)) name.now }
+        ensures value { result ≡ index_of (names_of (heads_of self.now)) name.now }
         ensures below { IfSome result (λ number. number < length (heads_of self.now)) }
     {
         self.names.number_of(name)

@@ -77,7 +77,7 @@ impl<'t> Parser<'t> {
                 self.skip();
                 self.repeat(room)
             }
-            _ => self.ask(room),
+            _ => self.ask_statement(room),
         }
     }
 
@@ -175,12 +175,12 @@ impl<'t> Parser<'t> {
         Ok(value)
     }
 
-    #[tactic(auto, unfolding(crate::specs::Inner::Reading::ask))]
-    fn ask(&mut self, room: u32) -> Result<Stmt, Stop>
-        ensures { Reads view.statement (reading.ask room (input_of self.old))
+    #[tactic(auto, unfolding(crate::specs::Inner::Reading::ask_statement))]
+    fn ask_statement(&mut self, room: u32) -> Result<Stmt, Stop>
+        ensures { Reads view.statement (reading.ask_statement room (input_of self.old))
             result (input_of self.new) }
     {
-        let call = self.request(room)?;
+        let call = self.ask(room)?;
         self.expect(Mark::Semi)?;
         Ok(Stmt::Do(call))
     }

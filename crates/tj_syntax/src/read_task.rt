@@ -6,15 +6,11 @@ ghost use Rattle.tj_syntax.specs.Inner.Input.{Reads};
 ghost use Rattle.tj_syntax.specs.Inner.Reading as reading;
 
 use crate::fault::Stop;
-use crate::heads::MAX_TASKS;
 use crate::names::Names;
 use crate::parser::Parser;
-use crate::script::Decl;
+use crate::script::{Decl, MAX_LEVELS, MAX_TASKS};
 use std::mem;
 use tj_lex::{Key, Mark, Tok, Word};
-
-/// The most levels of nesting.
-const MAX_LEVELS: u32 = 64;
 
 impl<'t> Parser<'t> {
     /// The tasks up to the end.

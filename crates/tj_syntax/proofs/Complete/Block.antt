@@ -12,7 +12,7 @@ use Rattle.tj_syntax.specs.Trees.{Expression, Statement, Statements, Otherwise}
 use Rattle.tj_syntax.specs.Marks.{Name, Noted, fine, key, mark, opening}
 use Rattle.tj_syntax.specs.Faults.{tokens_of}
 use Rattle.tj_syntax.specs.Grammar as g
-use Rattle.tj_syntax.specs.Grammar.{IsExpression, IsRequest, IsGiven, IsStatement, IsBlock, IsStatements, IsElse}
+use Rattle.tj_syntax.specs.Grammar.{IsExpression, IsAsk, IsGiven, IsStatement, IsBlock, IsStatements, IsElse}
 use Rattle.tj_syntax.specs.View.{statements_of}
 use Rattle.tj_syntax.specs.Inner.Input.{Head, and_then, first, next, skip, is_mark, open_level, names_of}
 use Rattle.tj_syntax.specs.Inner.Reading.{expression, let_new, set_cell, ended, otherwise, choose, repeat, statement_over}
@@ -21,9 +21,9 @@ use Rattle.tj_syntax.proofs.Unrolls.{block-is}
 use Rattle.tj_syntax.proofs.Complete.Steps.{at, fine_read, open_does, length-ahead, ahead-append}
 use Rattle.tj_syntax.proofs.Complete.Expr.{IsBehind, expression_does, within-is}
 use Rattle.tj_syntax.proofs.Complete.Forks.{quiet_mark, quiet_expression}
-use Rattle.tj_syntax.proofs.Complete.Request.{Reads}
+use Rattle.tj_syntax.proofs.Complete.Ask.{Reads}
 use Rattle.tj_syntax.proofs.Complete.Stmt.{quiet_reads, mapped_reads, then_reads, nothing_more, key_reads, let_reads}
-use Rattle.tj_syntax.proofs.Complete.Stmt.{assigned_reads, set_reads, ended_reads, ask_reads, as_ask, is_else}
+use Rattle.tj_syntax.proofs.Complete.Stmt.{assigned_reads, set_reads, ended_reads, ask_statement_reads, as_ask_statement, is_else}
 use Rattle.tj_syntax.proofs.Complete.Stmt.{no_else_by, statement_opens, statement_longer, statements_open, block_front}
 use Rattle.tj_syntax.proofs.Complete.Stmt.{behind_all, behind_all-end, behind_all-push}
 
@@ -58,9 +58,9 @@ mutual
       assigned_reads heads x (subst (λ n. IsGiven n vars room a side) same p) rest flaw
   statement_reads heads tasks same {vars = vars} {room = room} (g.ask {a = a} {ask = x} p) rest flaw h =
       subst (λ r. Reads heads r (a ++ mark m.Semi ∷ []) rest vars flaw (tree.ask x))
-      (sym (as_ask heads (subst (λ n. IsRequest n vars room a x) same p) (block room) rest
+      (sym (as_ask_statement heads (subst (λ n. IsAsk n vars room a x) same p) (block room) rest
       (at heads (tokens_of (a ++ mark m.Semi ∷ []) ++ rest) vars flaw)))
-      (ask_reads heads (subst (λ n. IsRequest n vars room a x) same p) rest flaw)
+      (ask_statement_reads heads (subst (λ n. IsAsk n vars room a x) same p) rest flaw)
   statement_reads heads tasks same {vars = vars} {room = room} (g.print {a = a} {x = x} p) rest flaw h =
       then_reads heads skip (λ _ i. and_then (ended room i) (λ y j. Ok (tree.print y, j))) (key k.Print ∷ [])
       (a ++ mark m.Semi ∷ []) rest vars vars vars flaw tt (tree.print x)

@@ -12,7 +12,7 @@ use Rattle.tj_syntax.specs.declared.read_expr.Level.{Level}
 use Rattle.tj_syntax.specs.declared.fault.Breach.TheVariants.{Unknown, Twice, Many}
 use Rattle.tj_syntax.specs.declared.fault.Stop.{Stop}
 use Rattle.tj_syntax.specs.Trees.{Expression, Pairs, Argument}
-use Rattle.tj_syntax.specs.Marks.{Name, Note, fine, broken, Noted, key, mark, opening, place, use_of, declaration}
+use Rattle.tj_syntax.specs.Marks.{Name, Note, fine, broken, Noted, key, mark, opening, index_of, use_of, declaration}
 use Rattle.tj_syntax.specs.Faults.{tokens_of}
 use Rattle.tj_syntax.specs.Grammar.{op_mark, rel_mark, IsExpression, alone, compared, IsChain, operands, IsPairs}
 use Rattle.tj_syntax.specs.Grammar.{pairs_end, pairs_more, IsOperand, product, unary as one_unary, IsUnary, signed}
@@ -41,7 +41,7 @@ pub quiet_key : (t : Key) → AreQuiet (key t ∷ [])
 quiet_key t = quiet_token (key t) (λ heads left. refl)
 
 pub quiet_use : (vars : List Name) (x : Name) → AreQuiet ((toks.Name x, use_of vars x) ∷ [])
-quiet_use vars x = quiet_token (toks.Name x, use_of vars x) (λ heads left. by heads left (is_some (place vars x)))
+quiet_use vars x = quiet_token (toks.Name x, use_of vars x) (λ heads left. by heads left (is_some (index_of vars x)))
   where
     by : (heads : List Head) (left : ℕ) (b : Bool)
         → note_flaw heads (toks.Name x, cond b fine (broken Unknown)) left ≡ None
@@ -53,7 +53,7 @@ pub quiet_declaration : (most : ℕ) (earlier : List Name) (x : Name) (note : No
     → AreQuiet ((toks.Name x, declaration most earlier x note) ∷ [])
 quiet_declaration most earlier x note h =
     quiet_token (toks.Name x, declaration most earlier x note)
-    (λ heads left. by heads left (is_some (place earlier x)) (nat_le most (length earlier)))
+    (λ heads left. by heads left (is_some (index_of earlier x)) (nat_le most (length earlier)))
   where
     by : (heads : List Head) (left : ℕ) (b c : Bool)
         → note_flaw heads (toks.Name x, cond b (broken Twice) (cond c (broken Many) note)) left ≡ None

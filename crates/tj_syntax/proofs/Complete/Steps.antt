@@ -13,7 +13,7 @@ use Rattle.tj_syntax.specs.declared.fault.Breach.{Breach}
 use Rattle.tj_syntax.specs.declared.fault.Breach.TheVariants.{Unknown, Twice, Deep, Many}
 use Rattle.tj_syntax.specs.declared.fault.Stop.{Stop}
 use Rattle.tj_syntax.specs.declared.fault.Stop.TheVariants as stop
-use Rattle.tj_syntax.specs.Marks.{Name, Note, fine, broken, Noted, mark, opening, place, number_of, use_of, declaration}
+use Rattle.tj_syntax.specs.Marks.{Name, Note, fine, broken, Noted, mark, opening, index_of, number_of, use_of, declaration}
 use Rattle.tj_syntax.specs.Faults.{tokens_of}
 use Rattle.tj_syntax.specs.Inner.Input.{Head, Input, Outcome, Parser, and_then, next, skip, expect, open_level, known}
 use Rattle.tj_syntax.specs.Inner.Input.{known_at, fresh, unless, first_flaw, is_mark}
@@ -168,10 +168,10 @@ pub known_does : (heads : List Head) (x : Name) (rest : List Tok) (vars : List N
     → Does heads (known x (at heads (toks.Name x ∷ rest) vars flaw))
     ((toks.Name x, use_of vars x) ∷ []) rest vars flaw (number_of vars x)
 unfolding known
-known_does heads x rest vars flaw = by (place vars x) refl
+known_does heads x rest vars flaw = by (index_of vars x) refl
   where
-    by : (o : Option ℕ) → place vars x ≡ o
-        → Does heads (known_at (place vars x) (at heads (toks.Name x ∷ rest) vars flaw))
+    by : (o : Option ℕ) → index_of vars x ≡ o
+        → Does heads (known_at (index_of vars x) (at heads (toks.Name x ∷ rest) vars flaw))
         ((toks.Name x, use_of vars x) ∷ []) rest vars flaw (number_of vars x)
     by None e = rw e (record {
       reads = λ h. absurd (cc);
@@ -190,7 +190,8 @@ pub fresh_does : (heads : List Head) (most : ℕ) (earlier : List Name) (x : Nam
     → Does heads (fresh most earlier (at heads (toks.Name x ∷ rest) vars flaw))
     ((toks.Name x, declaration most earlier x note) ∷ []) rest vars flaw x
 unfolding fresh
-fresh_does heads most earlier x note rest vars flaw good = by (is_some (place earlier x)) (nat_le most (length earlier))
+fresh_does heads most earlier x note rest vars flaw good =
+    by (is_some (index_of earlier x)) (nat_le most (length earlier))
   where
     by : (a b : Bool)
         → Does heads (unless (cond a (Some Twice) (cond b (Some Many) None)) (λ i. Ok (x, next i))

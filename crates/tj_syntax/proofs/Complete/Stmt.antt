@@ -8,22 +8,22 @@ use Rattle.tj_lex.specs.declared.token.Mark.{Mark}
 use Rattle.tj_lex.specs.declared.token.Mark.TheVariants as m
 use Rattle.tj_syntax.specs.declared.fault.Stop.{Stop}
 use Rattle.tj_syntax.specs.Trees as tree
-use Rattle.tj_syntax.specs.Trees.{Expression, Request, Given, Statement, Statements, Otherwise}
+use Rattle.tj_syntax.specs.Trees.{Expression, Ask, Given, Statement, Statements, Otherwise}
 use Rattle.tj_syntax.specs.Marks.{Name, Noted, fine, key, mark, use_of, number_of, declaration, most_vars}
 use Rattle.tj_syntax.specs.Faults.{tokens_of}
 use Rattle.tj_syntax.specs.Grammar as g
-use Rattle.tj_syntax.specs.Grammar.{IsExpression, IsRequest, IsGiven, IsStatement, IsBlock, IsStatements, IsElse}
+use Rattle.tj_syntax.specs.Grammar.{IsExpression, IsAsk, IsGiven, IsStatement, IsBlock, IsStatements, IsElse}
 use Rattle.tj_syntax.specs.View.{statements_of}
 use Rattle.tj_syntax.specs.Inner.Input.{Head, Input, Outcome, Parser, and_then, first, expect, is_mark, variable}
 use Rattle.tj_syntax.specs.Inner.Input.{fresh_variable, names_of}
-use Rattle.tj_syntax.specs.Inner.Reading.{expression, request, given, let_new, assign, set_cell, ended, ask, otherwise_by}
+use Rattle.tj_syntax.specs.Inner.Reading.{expression, ask, given, let_new, assign, set_cell, ended, ask_statement, otherwise_by}
 use Rattle.tj_syntax.specs.Inner.Reading.{statement_by}
 use Rattle.tj_syntax.proofs.Complete.Steps.{at, Does, nothing_read, fine_read, expect_does, known_does, fresh_does}
 use Rattle.tj_syntax.proofs.Complete.Steps.{ahead-append}
 use Rattle.tj_syntax.proofs.Complete.Expr.{IsBehind, expression_does}
 use Rattle.tj_syntax.proofs.Complete.Forks.{AreQuiet, quiet_done, mapped_done, then_done, quiet_key, quiet_mark}
 use Rattle.tj_syntax.proofs.Complete.Forks.{quiet_use, quiet_declaration, quiet_expression}
-use Rattle.tj_syntax.proofs.Complete.Request.{Reads, request_does, given_does}
+use Rattle.tj_syntax.proofs.Complete.Ask.{Reads, ask_does, given_does}
 
 pub quiet_reads : {A : Type 0} {heads : List Head} {r : Outcome A} {notes : List Noted} {rest : List Tok}
     {vars : List Name} {flaw : Option Stop} {x : A}
@@ -183,24 +183,24 @@ ended_reads heads {vars = vars} {room = room} {a = a} {x = x} p rest flaw =
     semi_reads heads (expression room) (λ s l. Ok (s, l)) a rest vars vars flaw x x
     (expression_reads heads p rest flaw) (λ h. refl)
 
-pub ask_reads : (heads : List Head) {vars : List Name} {room : ℕ} {a : List Noted} {x : Request}
-    → IsRequest (names_of heads) vars room a x
+pub ask_statement_reads : (heads : List Head) {vars : List Name} {room : ℕ} {a : List Noted} {x : Ask}
+    → IsAsk (names_of heads) vars room a x
     → (rest : List Tok) (flaw : Option Stop)
-    → Reads heads (ask room (at heads (tokens_of (a ++ mark m.Semi ∷ []) ++ rest) vars flaw))
+    → Reads heads (ask_statement room (at heads (tokens_of (a ++ mark m.Semi ∷ []) ++ rest) vars flaw))
     (a ++ mark m.Semi ∷ []) rest vars flaw (tree.ask x)
-unfolding ask
-ask_reads heads {vars = vars} {room = room} {a = a} {x = x} p rest flaw =
-    semi_reads heads (request room) (λ s l. Ok (tree.ask s, l)) a rest vars vars flaw x (tree.ask x)
-    (request_does heads p rest flaw) (λ h. refl)
+unfolding ask_statement
+ask_statement_reads heads {vars = vars} {room = room} {a = a} {x = x} p rest flaw =
+    semi_reads heads (ask room) (λ s l. Ok (tree.ask s, l)) a rest vars vars flaw x (tree.ask x)
+    (ask_does heads p rest flaw) (λ h. refl)
 
-pub as_ask : (heads : List Head) {vars : List Name} {room : ℕ} {a : List Noted} {x : Request}
-    → IsRequest (names_of heads) vars room a x
+pub as_ask_statement : (heads : List Head) {vars : List Name} {room : ℕ} {a : List Noted} {x : Ask}
+    → IsAsk (names_of heads) vars room a x
     → (block_ : Parser Statements) (rest : List Tok) (i : Input)
-    → statement_by room block_ (first (tokens_of (a ++ mark m.Semi ∷ []) ++ rest)) i ≡ ask room i
-as_ask heads g.new b rest i = refl
-as_ask heads (g.fork f p) b rest i = refl
-as_ask heads (g.get p q) b rest i = refl
-as_ask heads (g.join p q) b rest i = refl
+    → statement_by room block_ (first (tokens_of (a ++ mark m.Semi ∷ []) ++ rest)) i ≡ ask_statement room i
+as_ask_statement heads g.new b rest i = refl
+as_ask_statement heads (g.fork f p) b rest i = refl
+as_ask_statement heads (g.get p q) b rest i = refl
+as_ask_statement heads (g.join p q) b rest i = refl
 
 -- ---- what stands behind a statement
 
@@ -218,20 +218,20 @@ pub record Opens (t : Option Tok) : Type 0 where
   pub no_else : is_else t ≡ false
   pub no_close : is_mark m.BraceClose t ≡ false
 
-pub request_opens : {tasks vars : List Name} {room : ℕ} {a : List Noted} {x : Request}
-    → IsRequest tasks vars room a x → (b : List Noted) (rest : List Tok)
+pub ask_opens : {tasks vars : List Name} {room : ℕ} {a : List Noted} {x : Ask}
+    → IsAsk tasks vars room a x → (b : List Noted) (rest : List Tok)
     → Opens (first (tokens_of (a ++ b) ++ rest))
-request_opens g.new b rest = record { no_else = refl; no_close = refl }
-request_opens (g.fork f p) b rest = record { no_else = refl; no_close = refl }
-request_opens (g.get p q) b rest = record { no_else = refl; no_close = refl }
-request_opens (g.join p q) b rest = record { no_else = refl; no_close = refl }
+ask_opens g.new b rest = record { no_else = refl; no_close = refl }
+ask_opens (g.fork f p) b rest = record { no_else = refl; no_close = refl }
+ask_opens (g.get p q) b rest = record { no_else = refl; no_close = refl }
+ask_opens (g.join p q) b rest = record { no_else = refl; no_close = refl }
 
 pub statement_opens : {tasks vars last : List Name} {room : ℕ} {a : List Noted} {s : Statement}
     → IsStatement tasks room vars a s last → (rest : List Tok)
     → Opens (first (tokens_of a ++ rest))
 statement_opens (g.let_new x p) rest = record { no_else = refl; no_close = refl }
 statement_opens (g.assign x p) rest = record { no_else = refl; no_close = refl }
-statement_opens (g.ask p) rest = request_opens p (mark m.Semi ∷ []) rest
+statement_opens (g.ask p) rest = ask_opens p (mark m.Semi ∷ []) rest
 statement_opens (g.print p) rest = record { no_else = refl; no_close = refl }
 statement_opens (g.set_cell x p) rest = record { no_else = refl; no_close = refl }
 statement_opens (g.return p) rest = record { no_else = refl; no_close = refl }

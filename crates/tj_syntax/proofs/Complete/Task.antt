@@ -19,7 +19,7 @@ use Rattle.tj_syntax.specs.Inner.Reading.{params_from, params, block, task_keywo
 use Rattle.tj_syntax.proofs.Sound.Script.{names-push}
 use Rattle.tj_syntax.proofs.Complete.Steps.{at, fine_read, fresh_does, length-ahead}
 use Rattle.tj_syntax.proofs.Complete.Forks.{quiet_mark, quiet_declaration}
-use Rattle.tj_syntax.proofs.Complete.Request.{Reads}
+use Rattle.tj_syntax.proofs.Complete.Ask.{Reads}
 use Rattle.tj_syntax.proofs.Complete.Stmt.{quiet_reads, then_reads, nothing_more, key_reads, expect_reads}
 use Rattle.tj_syntax.proofs.Complete.Block.{block_reads}
 

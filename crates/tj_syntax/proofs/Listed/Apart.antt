@@ -9,7 +9,7 @@ use Rattle.tj_lex.specs.declared.token.Mark.TheVariants as m
 use Rattle.tj_syntax.specs.declared.expr.RefOf.{RefOf}
 use Rattle.tj_syntax.specs.declared.expr.RefOf.TheVariants as ref
 use Rattle.tj_syntax.specs.Trees as tree
-use Rattle.tj_syntax.specs.Trees.{Expression, Pairs, Argument, Request, Given, Statement, Statements, Otherwise, Task}
+use Rattle.tj_syntax.specs.Trees.{Expression, Pairs, Argument, Ask, Given, Statement, Statements, Otherwise, Task}
 use Rattle.tj_syntax.specs.Marks.{Name}
 use Rattle.tj_syntax.specs.Grammar.{rel_mark}
 use Rattle.tj_syntax.specs.Listing as listing
@@ -142,12 +142,12 @@ arguments_open vars (x ∷ xs) t after =
     append_opens (listing.argument vars x ++ listing.more_arguments vars xs) (mark m.ParenClose ∷ [])
     (append_opens (listing.argument vars x) (listing.more_arguments vars xs) (argument_opens vars x)) t after
 
-or_clears : (vars : List Name) (other : Option Expression) → Clears (listing.or_parts vars other)
+or_clears : (vars : List Name) (other : Option Expression) → Clears (listing.or_else_parts vars other)
 or_clears vars None after calm = tt
 or_clears vars (Some x) after calm = (refl, refl, expression_clears vars x after calm)
 
 or_calm : (vars : List Name) (other : Option Expression) (after : List Part) → IsCalm after
-    → IsCalm (listing.or_parts vars other ++ after)
+    → IsCalm (listing.or_else_parts vars other ++ after)
 or_calm vars None after calm = calm
 or_calm vars (Some x) after calm = λ t. refl
 
@@ -155,9 +155,9 @@ reference_clears : (vars : List Name) (r : RefOf) → Clears (listing.reference 
 reference_clears vars (ref.Var x) after calm = (refl, calm _, tt)
 reference_clears vars ref.Me after calm = (refl, calm _, tt)
 
-pub request_clears : (tasks vars : List Name) (ask : Request) → Clears (listing.request tasks vars ask)
-request_clears tasks vars tree.new after calm = (refl, calm _, tt)
-request_clears tasks vars (tree.fork f args) after calm = (
+pub ask_clears : (tasks vars : List Name) (ask : Ask) → Clears (listing.ask tasks vars ask)
+ask_clears tasks vars tree.new after calm = (refl, calm _, tt)
+ask_clears tasks vars (tree.fork f args) after calm = (
   refl,
   refl,
   (
@@ -171,21 +171,21 @@ request_clears tasks vars (tree.fork f args) after calm = (
     ),
   ),
 )
-request_clears tasks vars (tree.get r other) after calm = (
+ask_clears tasks vars (tree.get r other) after calm = (
   refl,
   refl,
-  then (listing.reference vars r ∷ []) (listing.or_parts vars other) (reference_clears vars r)
+  then (listing.reference vars r ∷ []) (listing.or_else_parts vars other) (reference_clears vars r)
       (or_clears vars other) (or_calm vars other) after calm,
 )
-request_clears tasks vars (tree.join r other) after calm = (
+ask_clears tasks vars (tree.join r other) after calm = (
   refl,
   refl,
-  then (listing.reference vars r ∷ []) (listing.or_parts vars other) (reference_clears vars r)
+  then (listing.reference vars r ∷ []) (listing.or_else_parts vars other) (reference_clears vars r)
       (or_clears vars other) (or_calm vars other) after calm,
 )
 
 pub given_clears : (tasks vars : List Name) (side : Given) → Clears (listing.given tasks vars side)
-given_clears tasks vars (tree.answer ask) after calm = request_clears tasks vars ask after calm
+given_clears tasks vars (tree.answer ask) after calm = ask_clears tasks vars ask after calm
 given_clears tasks vars (tree.result_of x) after calm = expression_clears vars x after calm
 
 semi_clears : (parts : List Part) → Clears parts → Clears (parts ++ mark m.Semi ∷ [])
@@ -224,7 +224,7 @@ mutual
   statement_clears tasks vars indent (tree.assign x side) after calm =
       assigned_clears x vars (listing.given tasks vars side) (given_clears tasks vars side) after calm
   statement_clears tasks vars indent (tree.ask call) after calm =
-      semi_clears (listing.request tasks vars call) (request_clears tasks vars call) after calm
+      semi_clears (listing.ask tasks vars call) (ask_clears tasks vars call) after calm
   statement_clears tasks vars indent (tree.print x) after calm =
       (refl, refl, semi_clears (expression vars x) (expression_clears vars x) after calm)
   statement_clears tasks vars indent (tree.set_cell x e) after calm =

@@ -7,11 +7,11 @@ use Rattle.tj_lex.specs.declared.token.Tok.TheVariants as toks
 use Rattle.tj_lex.specs.declared.token.Key.TheVariants as k
 use Rattle.tj_lex.specs.declared.token.Mark.TheVariants as m
 use Rattle.tj_syntax.specs.declared.expr.RefOf.{RefOf}
-use Rattle.tj_syntax.specs.Trees.{Expression, Argument, Request, Given, Task}
-use Rattle.tj_syntax.specs.Marks.{Name, Noted, forks, key, mark, place, is_among, number_of, use_of}
+use Rattle.tj_syntax.specs.Trees.{Expression, Argument, Ask, Given, Task}
+use Rattle.tj_syntax.specs.Marks.{Name, Noted, forks, key, mark, index_of, is_among, number_of, use_of}
 use Rattle.tj_syntax.specs.Grammar.{IsExpression, IsArgument, own, value, IsMoreArguments, arguments_end}
 use Rattle.tj_syntax.specs.Grammar.{arguments_more, IsArguments, no_arguments, arguments, IsReference, reference_name}
-use Rattle.tj_syntax.specs.Grammar.{reference_me, IsOr, no_or, or_else, IsRequest, new, fork, get, join, IsGiven}
+use Rattle.tj_syntax.specs.Grammar.{reference_me, IsOr, no_or, or_else, IsAsk, new, fork, get, join, IsGiven}
 use Rattle.tj_syntax.specs.Grammar.{answer, result_of}
 use Rattle.tj_syntax.specs.Faults.{fork_of, task_at}
 use Rattle.tj_syntax.specs.Listing as listing
@@ -75,7 +75,7 @@ reference_again script names vars f _ _ reference_me h = only (key k.Me) (fine_k
 or_again : (script : List Task) (names vars : List Name) (f : IsFront vars names) (room : ℕ) (a : List Noted)
     (other : Option Expression)
     → IsOr vars room a other → AreFine script a
-    → Again script (λ b. IsOr vars room b other) (listing.or_parts names other)
+    → Again script (λ b. IsOr vars room b other) (listing.or_else_parts names other)
 or_again script names vars f room _ _ no_or h = none no_or
 or_again script names vars f room _ _ (or_else {a = a} {x = x} e) h =
     spaced (front (key k.Or) (fine_key script k.Or) (λ b is. or_else is)
@@ -91,17 +91,18 @@ task_name : (script : List Task) (tasks : List Name) → tasks ≡ names_of scri
     → IsFine script (toks.Name g, forks count)
     → get_or tasks (number_of tasks g) [] ≡ g
 task_name script tasks same g count h =
-    let known : is_among (names_of script) g ≡ true = no_fork_of_none script count (place (names_of script) g) h.fork in
+    let known : is_among (names_of script) g ≡ true =
+    no_fork_of_none script count (index_of (names_of script) g) h.fork in
     subst (λ all. get_or all (number_of all g) [] ≡ g) (sym same)
     (subst (λ all. get_or all (number_of (names_of script) g) [] ≡ g) (append-nil (names_of script))
     (number-name (names_of script) [] g known))
 
-pub request_again : (script : List Task) (tasks : List Name) (same : tasks ≡ names_of script)
-    (names vars : List Name) (f : IsFront vars names) (room : ℕ) (a : List Noted) (ask : Request)
-    → IsRequest tasks vars room a ask → AreFine script a
-    → Again script (λ b. IsRequest tasks vars room b ask) (listing.request tasks names ask)
-request_again script tasks same names vars f room _ _ new h = only (key k.New) (fine_key script k.New) new
-request_again script tasks same names vars f room _ _ (fork {a = a} {args = args} g ps) h =
+pub ask_again : (script : List Task) (tasks : List Name) (same : tasks ≡ names_of script)
+    (names vars : List Name) (f : IsFront vars names) (room : ℕ) (a : List Noted) (ask : Ask)
+    → IsAsk tasks vars room a ask → AreFine script a
+    → Again script (λ b. IsAsk tasks vars room b ask) (listing.ask tasks names ask)
+ask_again script tasks same names vars f room _ _ new h = only (key k.New) (fine_key script k.New) new
+ask_again script tasks same names vars f room _ _ (fork {a = a} {args = args} g ps) h =
     let hs = fine-split script a (mark m.ParenClose ∷ []) h.1.1.1 in
     let tail = back {R = λ c. (b : List Noted) × (c ≡ b ++ mark m.ParenClose ∷ []) × IsArguments vars room b args}
     (mark m.ParenClose) (fine_mark script m.ParenClose) (λ b is. (b, refl, is))
@@ -117,13 +118,13 @@ request_again script tasks same names vars f room _ _ (fork {a = a} {args = args
     (is.0, ap (λ e. (toks.Name g, forks (length args)) ∷ e) is.1, is.2)) open_ in
     rw (task_name script tasks same g (length args) h.1.0)
     (front (key k.Fork) (fine_key script k.Fork) (λ c is. rw is.1 (fork g is.2)) (spaced named))
-request_again script tasks same names vars f room _ _ (get {a = a} {b = b} {r = r} {other = other} p q) h =
+ask_again script tasks same names vars f room _ _ (get {a = a} {b = b} {r = r} {other = other} p q) h =
     let hs = fine-split script a b h.1 in
     front {P = λ c. (a : List Noted) × (b : List Noted) × (c ≡ a ++ b) × IsReference vars a r × IsOr vars room b other}
     (key k.Get) (fine_key script k.Get) (λ c is. rw is.2 (get is.3 is.4))
     (spaced (both {a = listing.reference names r ∷ []} (λ a b is are. (a, b, refl, is, are))
     (reference_again script names vars f a r p hs.0) (or_again script names vars f room b other q hs.1)))
-request_again script tasks same names vars f room _ _ (join {a = a} {b = b} {r = r} {other = other} p q) h =
+ask_again script tasks same names vars f room _ _ (join {a = a} {b = b} {r = r} {other = other} p q) h =
     let hs = fine-split script a b h.1 in
     front {P = λ c. (a : List Noted) × (b : List Noted) × (c ≡ a ++ b) × IsReference vars a r × IsOr vars room b other}
     (key k.Join) (fine_key script k.Join) (λ c is. rw is.2 (join is.3 is.4))
@@ -135,6 +136,6 @@ pub given_again : (script : List Task) (tasks : List Name) (same : tasks ≡ nam
     → IsGiven tasks vars room a side → AreFine script a
     → Again script (λ b. IsGiven tasks vars room b side) (listing.given tasks names side)
 given_again script tasks same names vars f room _ _ (answer {a = a} {ask = ask} p) h =
-    also (λ b is. answer is) (request_again script tasks same names vars f room a ask p h)
+    also (λ b is. answer is) (ask_again script tasks same names vars f room a ask p h)
 given_again script tasks same names vars f room _ _ (result_of {a = a} {x = x} e) h =
     also (λ b is. result_of is) (expression_again script names vars f room a x e h)

@@ -16,7 +16,7 @@ use Rattle.tj_syntax.specs.Listing.{Part, token, blanks, names_of}
 use Rattle.tj_syntax.proofs.Listed.Again.{AreBlank, IsFine, AreFine, Again, fine-split, fine_mark, fine_key, both}
 use Rattle.tj_syntax.proofs.Listed.Again.{front, only, back, behind, spaced, lined, none}
 use Rattle.tj_syntax.proofs.Listed.Fits.{IsFront, known_name}
-use Rattle.tj_syntax.proofs.Listed.Asks.{expression_again, request_again, given_again}
+use Rattle.tj_syntax.proofs.Listed.Asks.{expression_again, ask_again, given_again}
 
 get_or-behind : (names rest : List Name) (x : Name) → get_or (names ++ x ∷ rest) (length names) [] ≡ x
 get_or-behind [] rest x = refl
@@ -155,7 +155,7 @@ mutual
       record {
         before_it = f;
         again = λ indent blank. back (mark m.Semi) (fine_mark script m.Semi) (λ b is. ask is)
-            (request_again script tasks same names vars f room a call p hs.0);
+            (ask_again script tasks same names vars f room a call p hs.0);
       }
   statement_again script tasks same names room vars _ _ _ (print {a = a} {x = x} p) f h =
       let hs = fine-split script a (mark m.Semi ∷ []) h.1 in

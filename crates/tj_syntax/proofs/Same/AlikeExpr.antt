@@ -11,7 +11,7 @@ use Rattle.tj_syntax.specs.declared.expr.Op.{Op}
 use Rattle.tj_syntax.specs.declared.expr.Rel.{Rel}
 use Rattle.tj_syntax.specs.declared.fault.Breach.TheVariants as breach
 use Rattle.tj_syntax.specs.Trees.{Expression}
-use Rattle.tj_syntax.specs.Marks.{Name, place}
+use Rattle.tj_syntax.specs.Marks.{Name, index_of}
 use Rattle.tj_syntax.specs.Inner.Input.{Parser, refuse, expect, open_level, known, known_at, variable, variable_by, is_mark}
 use Rattle.tj_syntax.specs.Inner.Reading.{operator, relation, PairList, pair_by, pairs_from, pairs, chain, comparison_by}
 use Rattle.tj_syntax.specs.Inner.Reading.{sum_over, expression_over, unary_by, unary, expression}
@@ -31,7 +31,7 @@ open_local room n d = either_local (nat_eq room 0) (breaks_local breach.Deep (su
 
 pub known_local : (x : Name) → Strict any (known x) (known x)
 unfolding known
-known_local x n d = by_vars _ _ (λ vars. by (place vars x))
+known_local x n d = by_vars _ _ (λ vars. by (index_of vars x))
   where
     by : (o : Option ℕ) → Local (suc n) (suc d) n d any (known_at o) (known_at o)
     by None = breaks_local breach.Unknown (suc n) (suc d) n d

@@ -11,14 +11,14 @@ use Rattle.tj_syntax.specs.Marks.{Name, most_vars}
 use Rattle.tj_syntax.specs.View.{statements_of}
 use Rattle.tj_syntax.specs.Inner.Input.{Parser, and_then, skip, refuse, pure, unless, breach_of, fresh_by, fresh}
 use Rattle.tj_syntax.specs.Inner.Input.{fresh_variable, add_variable, count_variables, is_mark, ◌>>◌}
-use Rattle.tj_syntax.specs.Inner.Reading.{request, let_new, assign, set_cell, ended, ask, otherwise_by, otherwise, choose}
+use Rattle.tj_syntax.specs.Inner.Reading.{ask, let_new, assign, set_cell, ended, ask_statement, otherwise_by, otherwise, choose}
 use Rattle.tj_syntax.specs.Inner.Reading.{repeat, statement_by, statement_over, statements_from, statements, block_by, block}
 use Rattle.tj_syntax.proofs.Same.AlikeSteps.{Local, Loose, Strict, Narrow, Needs, read, any, it, bind_local, bind_same}
 use Rattle.tj_syntax.proofs.Same.AlikeSteps.{then_local, mapped_local, bind_narrow, pure_narrow, pure_local, skip_local}
 use Rattle.tj_syntax.proofs.Same.AlikeSteps.{refuse_local, breaks_local, by_first, by_vars, by_count, first_narrow}
 use Rattle.tj_syntax.proofs.Same.AlikeSteps.{either_local, either_narrow, loose, strictly, needs_one, one_needed}
 use Rattle.tj_syntax.proofs.Same.AlikeExpr.{expect_local, expression_local, open_local, variable_local}
-use Rattle.tj_syntax.proofs.Same.AlikeRequest.{given_local, request_local}
+use Rattle.tj_syntax.proofs.Same.AlikeAsk.{given_local, ask_local}
 
 pub fresh_local : (most : ℕ) (earlier : List Name) → Strict it (fresh most earlier) (fresh most earlier)
 unfolding fresh
@@ -73,9 +73,9 @@ unfolding ended
 ended_local room n d = bind_local (expression_local room n d)
     (λ a b _. then_local (loose (expect_local m.Semi) n d) (pure_local refl n d))
 
-ask_local : (room : ℕ) → Strict any (ask room) (ask room)
-unfolding ask
-ask_local room n d = bind_local (request_local room n d)
+ask_statement_local : (room : ℕ) → Strict any (ask_statement room) (ask_statement room)
+unfolding ask_statement
+ask_statement_local room n d = bind_local (ask_local room n d)
     (λ a b _. then_local (loose (expect_local m.Semi) n d) (pure_local refl n d))
 
 otherwise_local : (block : Parser Statements) → Loose any block block → Loose any (otherwise block) (otherwise block)
@@ -105,7 +105,7 @@ unfolding statement_over
 statement_local room block h n d = by_first _ _ by
   where
     other : Local (suc n) (suc d) n d any (statement_by room block None) (statement_by room block None)
-    other = ask_local room n d
+    other = ask_statement_local room n d
 
     by : (t : Option Tok) → Local (suc n) (suc d) n d any (statement_by room block t) (statement_by room block t)
     by (Some (toks.Key k.Let)) = then_local (skip_local n d) (loose (let_local room) n d)
@@ -119,7 +119,7 @@ statement_local room block h n d = by_first _ _ by
 
 -- a statement needs a token
 statement_needs : (room : ℕ) (block : Parser Statements) → Needs (statement_over room block)
-unfolding statement_over ask request
+unfolding statement_over ask_statement ask
 statement_needs room block = record { stops = λ heads vars flaw. refl }
 
 module _ (item : Parser Statement) (h : Strict any item item) (needs : Needs item) where

@@ -16,7 +16,7 @@ use Rattle.tj_syntax.proofs.Same.AlikeSteps.{then_local, bind_narrow, pure_narro
 use Rattle.tj_syntax.proofs.Same.AlikeSteps.{by_first, by_vars, by_count, either_local, chosen_local, chosen_narrow}
 use Rattle.tj_syntax.proofs.Same.AlikeSteps.{end_narrow, if_end, at_end, loose, strictly, needs_one, one_needed}
 use Rattle.tj_syntax.proofs.Same.AlikeExpr.{expect_local}
-use Rattle.tj_syntax.proofs.Same.AlikeRequest.{eat_local}
+use Rattle.tj_syntax.proofs.Same.AlikeAsk.{eat_local}
 use Rattle.tj_syntax.proofs.Same.AlikeStmt.{fresh_local, fresh_variable_local, add_local, count_local, block_local}
 
 more_narrow : (n : ℕ) → Narrow (params_from n) → Narrow (params_from (suc n))

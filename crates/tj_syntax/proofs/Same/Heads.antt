@@ -14,7 +14,7 @@ use Rattle.tj_lex.specs.declared.token.Mark.TheVariants as m
 use Rattle.tj_syntax.specs.declared.fault.Breach.{Breach}
 use Rattle.tj_syntax.specs.declared.fault.Breach.TheVariants.{Twice, Many}
 use Rattle.tj_syntax.specs.Trees.{Task}
-use Rattle.tj_syntax.specs.Marks.{Name, Note, Noted, broken, declares, key, mark, place, most_tasks, declaration}
+use Rattle.tj_syntax.specs.Marks.{Name, Note, Noted, broken, declares, key, mark, index_of, most_tasks, declaration}
 use Rattle.tj_syntax.specs.Grammar as g
 use Rattle.tj_syntax.specs.Grammar.{IsTask, IsTasks}
 use Rattle.tj_syntax.specs.Faults.{tokens_of, AreUnbroken}
@@ -76,7 +76,7 @@ get_here : (found more : List Head) (h : Head) → slice_get (found ++ h ∷ mor
 get_here [] more h = refl
 get_here (x ∷ found) more h = get_here found more h
 
-found_here : (found more : List Head) (h : Head) → place (names_of found) h.name ≡ None
+found_here : (found more : List Head) (h : Head) → index_of (names_of found) h.name ≡ None
     → head_named (found ++ h ∷ more) h.name ≡ Some h
 found_here found more h e =
     let zero_more : 0 + length found ≡ length found = omega arith in
@@ -89,13 +89,13 @@ found_here found more h e =
 pub record IsFree (earlier : List Name) (f : Name) (right : Note) : Type 0 where
   pub noted : declaration most_tasks earlier f right ≡ right
   pub no_breach : breach_of most_tasks earlier f ≡ None
-  pub absent : place earlier f ≡ None
+  pub absent : index_of earlier f ≡ None
 
 free : (earlier : List Name) (f : Name) (right : Note)
     → ((b : Breach) → declaration most_tasks earlier f right ≡ broken b → ⊥) → IsFree earlier f right
-free earlier f right h = by (place earlier f) (nat_le most_tasks (length earlier)) refl refl
+free earlier f right h = by (index_of earlier f) (nat_le most_tasks (length earlier)) refl refl
   where
-    by : (o : Option ℕ) (c : Bool) → place earlier f ≡ o → nat_le most_tasks (length earlier) ≡ c
+    by : (o : Option ℕ) (c : Bool) → index_of earlier f ≡ o → nat_le most_tasks (length earlier) ≡ c
         → IsFree earlier f right
     by (Some n) c e e' = absurd (h Twice (rw e refl))
     by None true e e' = absurd (h Many (rw (e, e') refl))
@@ -116,7 +116,7 @@ record Adds (found : List Head) (a : List Noted) (t : Task) (rest : List Noted) 
   inner : List Noted
   is : a ≡ key k.Task ∷ (toks.Name t.name, declares t.params) ∷ inner
   within : AreInner inner
-  absent : place (names_of found) t.name ≡ None
+  absent : index_of (names_of found) t.name ≡ None
   heads : heads_from found (tokens_of (a ++ rest)) ≡ heads_from (found ++ head_before t (inner ++ rest) ∷ [])
       (tokens_of rest)
 
@@ -151,7 +151,7 @@ adds {earlier = earlier} (g.task {a = ps} {b = body} {params = params} {vars = v
       inner = inner;
       is = ap (λ n. key k.Task ∷ (toks.Name f, n) ∷ inner) one.noted;
       within = clear;
-      absent = subst (λ ns. place ns f ≡ None) (sym named) one.absent;
+      absent = subst (λ ns. index_of ns f ≡ None) (sym named) one.absent;
       heads = ap (λ hs. heads_from hs ahead) pushed
           ∙ ap (λ ts. heads_from (found ++ head_before t (inner ++ rest) ∷ []) ts) parts
           ∙ calm_heads inner (found ++ head_before t (inner ++ rest) ∷ []) (tokens_of rest) (calm inner clear);

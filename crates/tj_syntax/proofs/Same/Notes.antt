@@ -8,12 +8,12 @@ use Rattle.tj_lex.specs.declared.token.Tok.TheVariants as toks
 use Rattle.tj_syntax.specs.declared.read_expr.Level.{Level}
 use Rattle.tj_syntax.specs.declared.expr.RefOf.{RefOf}
 use Rattle.tj_syntax.specs.declared.fault.Breach.TheVariants.{Unknown, Twice, Many}
-use Rattle.tj_syntax.specs.Trees.{Expression, Pairs, Argument, Request, Given, Statement, Statements, Otherwise, Task}
-use Rattle.tj_syntax.specs.Marks.{Name, Note, Noted, fine, broken, declares, place, most_vars, use_of, declaration}
+use Rattle.tj_syntax.specs.Trees.{Expression, Pairs, Argument, Ask, Given, Statement, Statements, Otherwise, Task}
+use Rattle.tj_syntax.specs.Marks.{Name, Note, Noted, fine, broken, declares, index_of, most_vars, use_of, declaration}
 use Rattle.tj_syntax.specs.Marks.{opening}
 use Rattle.tj_syntax.specs.Grammar as g
 use Rattle.tj_syntax.specs.Grammar.{IsExpression, IsChain, IsPairs, IsOperand, IsUnary, IsArgument, IsMoreArguments}
-use Rattle.tj_syntax.specs.Grammar.{IsArguments, IsReference, IsOr, IsRequest, IsGiven, IsStatement, IsBlock}
+use Rattle.tj_syntax.specs.Grammar.{IsArguments, IsReference, IsOr, IsAsk, IsGiven, IsStatement, IsBlock}
 use Rattle.tj_syntax.specs.Grammar.{IsStatements, IsElse, IsMoreParams, IsParams, IsTask, IsTasks}
 use Rattle.tj_syntax.proofs.Taken.{is_task, AreCalm}
 
@@ -40,14 +40,14 @@ both [] b h k = k
 both (n ∷ a) b h k = (h.0, both a b h.1 k)
 
 used : (vars : List Name) (x : Name) → declares_task (use_of vars x) ≡ false
-used vars x = by (is_some (place vars x))
+used vars x = by (is_some (index_of vars x))
   where
     by : (b : Bool) → declares_task (cond b fine (broken Unknown)) ≡ false
     by true = refl
     by false = refl
 
 declared : (vars : List Name) (x : Name) → declares_task (declaration most_vars vars x fine) ≡ false
-declared vars x = by (is_some (place vars x)) (nat_le most_vars (length vars))
+declared vars x = by (is_some (index_of vars x)) (nat_le most_vars (length vars))
   where
     by : (b c : Bool) → declares_task (cond b (broken Twice) (cond c (broken Many) fine)) ≡ false
     by true c = refl
@@ -110,19 +110,19 @@ or_inner : {vars : List Name} {room : ℕ} {a : List Noted} {o : Option Expressi
 or_inner g.no_or = tt
 or_inner (g.or_else e) = ((refl, refl, refl), expression_inner e)
 
-request_inner : {tasks vars : List Name} {room : ℕ} {a : List Noted} {r : Request} → IsRequest tasks vars room a r
+ask_inner : {tasks vars : List Name} {room : ℕ} {a : List Noted} {r : Ask} → IsAsk tasks vars room a r
     → AreInner a
-request_inner g.new = ((refl, refl, refl), tt)
-request_inner (g.fork {a = a} f p) = (
+ask_inner g.new = ((refl, refl, refl), tt)
+ask_inner (g.fork {a = a} f p) = (
   (refl, refl, refl),
   ((refl, refl, refl), ((refl, refl, refl), both a (_ ∷ []) (arguments_inner p) ((refl, refl, refl), tt))),
 )
-request_inner (g.get {a = a} {b = b} p q) = ((refl, refl, refl), both a b (reference_inner p) (or_inner q))
-request_inner (g.join {a = a} {b = b} p q) = ((refl, refl, refl), both a b (reference_inner p) (or_inner q))
+ask_inner (g.get {a = a} {b = b} p q) = ((refl, refl, refl), both a b (reference_inner p) (or_inner q))
+ask_inner (g.join {a = a} {b = b} p q) = ((refl, refl, refl), both a b (reference_inner p) (or_inner q))
 
 given_inner : {tasks vars : List Name} {room : ℕ} {a : List Noted} {x : Given} → IsGiven tasks vars room a x
     → AreInner a
-given_inner (g.answer p) = request_inner p
+given_inner (g.answer p) = ask_inner p
 given_inner (g.result_of p) = expression_inner p
 
 mutual
@@ -137,7 +137,7 @@ mutual
   )
   statement_inner {vars = vars} (g.assign {a = a} x p) =
       ((refl, refl, used vars x), ((refl, refl, refl), both a (_ ∷ []) (given_inner p) ((refl, refl, refl), tt)))
-  statement_inner (g.ask {a = a} p) = both a (_ ∷ []) (request_inner p) ((refl, refl, refl), tt)
+  statement_inner (g.ask {a = a} p) = both a (_ ∷ []) (ask_inner p) ((refl, refl, refl), tt)
   statement_inner (g.print {a = a} p) = (
     (refl, refl, refl),
     both a (_ ∷ []) (expression_inner p)

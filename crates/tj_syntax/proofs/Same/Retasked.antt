@@ -1,20 +1,20 @@
 -- The same notes are a script whatever tasks are declared; only the numbers of the forked tasks are others.
 use Rattle.std.proofs.Common.{◌≡◌, ℕ, List, [], ◌∷◌, ◌++◌, map, refl, ap, sym, ◌∙◌, subst}
-use Rattle.tj_syntax.specs.Trees.{Request, Given, Statement, Statements, Otherwise, Task}
+use Rattle.tj_syntax.specs.Trees.{Ask, Given, Statement, Statements, Otherwise, Task}
 use Rattle.tj_syntax.specs.Marks.{Name, Noted}
 use Rattle.tj_syntax.specs.Grammar as g
-use Rattle.tj_syntax.specs.Grammar.{IsRequest, IsGiven, IsStatement, IsBlock, IsStatements, IsElse, IsTask, IsTasks}
+use Rattle.tj_syntax.specs.Grammar.{IsAsk, IsGiven, IsStatement, IsBlock, IsStatements, IsElse, IsTask, IsTasks}
 
-request : {tasks vars : List Name} {room : ℕ} {a : List Noted} {r : Request} (others : List Name)
-    → IsRequest tasks vars room a r → (r' : Request) × IsRequest others vars room a r'
-request others g.new = (_, g.new)
-request others (g.fork f args) = (_, g.fork f args)
-request others (g.get r o) = (_, g.get r o)
-request others (g.join r o) = (_, g.join r o)
+ask : {tasks vars : List Name} {room : ℕ} {a : List Noted} {r : Ask} (others : List Name)
+    → IsAsk tasks vars room a r → (r' : Ask) × IsAsk others vars room a r'
+ask others g.new = (_, g.new)
+ask others (g.fork f args) = (_, g.fork f args)
+ask others (g.get r o) = (_, g.get r o)
+ask others (g.join r o) = (_, g.join r o)
 
 given : {tasks vars : List Name} {room : ℕ} {a : List Noted} {r : Given} (others : List Name)
     → IsGiven tasks vars room a r → (r' : Given) × IsGiven others vars room a r'
-given others (g.answer r) = let p = request others r in (_, g.answer p.1)
+given others (g.answer r) = let p = ask others r in (_, g.answer p.1)
 given others (g.result_of x) = (_, g.result_of x)
 
 mutual
@@ -23,7 +23,7 @@ mutual
       → (s' : Statement) × IsStatement others room vars a s' last
   statement others (g.let_new x a) = let p = given others a in (_, g.let_new x p.1)
   statement others (g.assign x a) = let p = given others a in (_, g.assign x p.1)
-  statement others (g.ask r) = let p = request others r in (_, g.ask p.1)
+  statement others (g.ask r) = let p = ask others r in (_, g.ask p.1)
   statement others (g.print x) = (_, g.print x)
   statement others (g.set_cell x e) = (_, g.set_cell x e)
   statement others (g.return x) = (_, g.return x)

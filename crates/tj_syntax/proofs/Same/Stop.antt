@@ -21,7 +21,7 @@ use Rattle.tj_syntax.specs.Inner.Stops.{fault_at, AreLeft}
 use Rattle.tj_syntax.specs.Inner.Input.{Head, Input, Outcome, heads_from, head_named, flaw_at, first, first_flaw}
 use Rattle.tj_syntax.specs.Inner.Reading.{tasks}
 use Rattle.tj_syntax.proofs.Taken.{note_flaw, flaw_after, flaw_after-append, tokens_of-append}
-use Rattle.tj_syntax.proofs.Sound.Request.{flaw_after-some}
+use Rattle.tj_syntax.proofs.Sound.Ask.{flaw_after-some}
 use Rattle.tj_syntax.proofs.Sound.Script.{AreHeads, names_from_pairs, head_params, start_of}
 use Rattle.tj_syntax.proofs.Complete.Steps.{at}
 use Rattle.tj_syntax.proofs.Complete.Script.{last_cancel, tasks_read, script_heads, forks_none}

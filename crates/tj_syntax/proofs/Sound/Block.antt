@@ -7,19 +7,19 @@ use Rattle.tj_lex.specs.declared.token.Tok.TheVariants as toks
 use Rattle.tj_lex.specs.declared.token.Key.TheVariants as k
 use Rattle.tj_lex.specs.declared.token.Mark.TheVariants as m
 use Rattle.tj_syntax.specs.Trees as tree
-use Rattle.tj_syntax.specs.Trees.{Expression, Request, Given, Statement, Statements, Otherwise}
+use Rattle.tj_syntax.specs.Trees.{Expression, Ask, Given, Statement, Statements, Otherwise}
 use Rattle.tj_syntax.specs.Marks.{Name, Noted, key, mark, opening, within}
 use Rattle.tj_syntax.specs.Grammar as g
-use Rattle.tj_syntax.specs.Grammar.{IsExpression, IsRequest, IsGiven, IsStatement, IsBlock, IsStatements, IsElse}
+use Rattle.tj_syntax.specs.Grammar.{IsExpression, IsAsk, IsGiven, IsStatement, IsBlock, IsStatements, IsElse}
 use Rattle.tj_syntax.specs.View.{statements_of}
 use Rattle.tj_syntax.specs.Inner.Input.{Input, Parser, and_then, first, next, refuse, sees, open_level, names_of}
 use Rattle.tj_syntax.specs.Inner.Reading.{expression, ended, otherwise_by, otherwise, choose, repeat, statement_by}
 use Rattle.tj_syntax.specs.Inner.Reading.{statement_over, statements_from, statements, block_by, block}
 use Rattle.tj_syntax.proofs.Taken.{Took, took_nothing, took_both, bind_ok, if_ok, landed, is_task}
 use Rattle.tj_syntax.proofs.Sound.Steps.{took_fine, opened, mark_next}
-use Rattle.tj_syntax.proofs.Sound.Call.{expressions_sound}
+use Rattle.tj_syntax.proofs.Sound.AskParts.{expressions_sound}
 use Rattle.tj_syntax.proofs.Sound.Stmt.{Made, Behind, Whole, let_new_sound, assign_sound, set_cell_sound, ended_sound}
-use Rattle.tj_syntax.proofs.Sound.Stmt.{ask_sound}
+use Rattle.tj_syntax.proofs.Sound.Stmt.{ask_statement_sound}
 
 -- ---- blocks
 
@@ -114,7 +114,7 @@ behind room word i j s rest e calm got =
 statement_by_sound : (room : ℕ) (block : Parser Statements) → SoundBlock room block → (ts : List Tok) (i j : Input) (s
     : Statement) → i.ahead ≡ ts
     → statement_by room block (first ts) i ≡ Ok (s, j) → Whole room i j s
-statement_by_sound room block sb [] i j s e h = ask_sound room i j s h
+statement_by_sound room block sb [] i j s e h = ask_statement_sound room i j s h
 statement_by_sound room block sb (toks.Name x ∷ rest) i j s e h = assign_sound room i j s h
 statement_by_sound room block sb (toks.Key k.Let ∷ rest) i j s e h = behind room k.Let i j s rest e refl
     (let_new_sound room (next i) j s h)
@@ -144,7 +144,7 @@ statement_by_sound room block sb (toks.Key k.Return ∷ rest) i j s e h =
       right = subst (λ v. IsStatement (names_of i.tasks) room i.vars (key k.Return ∷ (got.notes ++ mark m.Semi ∷ []))
           (tree.return read.0) v) (sym got.vars) (g.return got.right);
     })
-statement_by_sound room block sb (t ∷ rest) i j s e h = ask_sound room i j s h
+statement_by_sound room block sb (t ∷ rest) i j s e h = ask_statement_sound room i j s h
 
 pub statement_sound : (room : ℕ) (block : Parser Statements) → SoundBlock room block
     → SoundStatement room (statement_over

@@ -14,7 +14,7 @@ use Rattle.tj_syntax.specs.declared.fault.Breach.TheVariants.{Count}
 use Rattle.tj_syntax.specs.declared.fault.Stop.{Stop}
 use Rattle.tj_syntax.specs.declared.fault.Stop.TheVariants as stop
 use Rattle.tj_syntax.specs.Trees.{Task}
-use Rattle.tj_syntax.specs.Marks.{Name, Noted, forks, declares, key, mark, place, most_tasks}
+use Rattle.tj_syntax.specs.Marks.{Name, Noted, forks, declares, key, mark, index_of, most_tasks}
 use Rattle.tj_syntax.specs.Grammar as g
 use Rattle.tj_syntax.specs.Grammar.{IsMoreParams, IsParams, IsTask, IsTasks, IsProgram}
 use Rattle.tj_syntax.specs.Faults.{tokens_of, AreUnbroken, IsScript, task_named, task_at, fork_of, fork_breach}
@@ -266,8 +266,8 @@ pub head_params : (heads : List Head) (script : List Task) → AreHeads heads sc
     → option_map (λ (h : Head). h.params) (head_named heads f) ≡ option_map (λ (t : Task). t.params) (task_named
     script f)
 head_params heads script e f =
-    ap (λ ns. option_map (λ (h : Head). h.params) (head_at heads (place ns f))) (names_from_pairs heads script e)
-    ∙ at (place (map (λ t. t.name) script) f)
+    ap (λ ns. option_map (λ (h : Head). h.params) (head_at heads (index_of ns f))) (names_from_pairs heads script e)
+    ∙ at (index_of (map (λ t. t.name) script) f)
   where
     at : (o : Option ℕ) → option_map (λ (h : Head). h.params) (head_at heads o) ≡ option_map (λ (t : Task). t.params)
         (task_at script o)

@@ -8,7 +8,7 @@ use Rattle.tj_lex.specs.declared.token.Tok.TheVariants as toks
 use Rattle.tj_lex.specs.declared.token.Mark.{Mark}
 use Rattle.tj_syntax.specs.declared.fault.Breach.{Breach}
 use Rattle.tj_syntax.specs.declared.fault.Stop.{Stop}
-use Rattle.tj_syntax.specs.Marks.{Name, fine, broken, Noted, mark, opening, place, number_of, use_of}
+use Rattle.tj_syntax.specs.Marks.{Name, fine, broken, Noted, mark, opening, index_of, number_of, use_of}
 use Rattle.tj_syntax.specs.Inner.Input.{Head, Input, Outcome, first, next, skip, refuse, breaks, is_mark, sees, expect, eat}
 use Rattle.tj_syntax.specs.Inner.Input.{open_level, known, known_at}
 use Rattle.tj_syntax.proofs.Taken.{Took, took_one, if_ok, note_flaw, ok_inj, landed, is_task}
@@ -97,9 +97,9 @@ opened (suc room) i j u t rest calm e h =
 pub knew : (x : Name) (i j : Input) (n : ℕ) (rest : List Tok) → i.ahead ≡ toks.Name x ∷ rest → known x i ≡ Ok (n, j)
     → Stepped i j ((toks.Name x, use_of i.vars x) ∷ []) × (n ≡ number_of i.vars x)
 unfolding known
-knew x i j n rest e h = at (place i.vars x) refl h
+knew x i j n rest e h = at (index_of i.vars x) refl h
   where
-    at : (o : Option ℕ) → place i.vars x ≡ o → known_at o i ≡ Ok (n, j) → Stepped i j ((toks.Name x, use_of i.vars x)
+    at : (o : Option ℕ) → index_of i.vars x ≡ o → known_at o i ≡ Ok (n, j) → Stepped i j ((toks.Name x, use_of i.vars x)
         ∷ []) × (n ≡ number_of i.vars x)
     at None p h' = absurd (cc)
     at (Some number) p h' =

@@ -9,17 +9,17 @@ use Rattle.tj_lex.specs.declared.token.Mark.TheVariants as m
 use Rattle.tj_syntax.specs.declared.fault.Breach.{Breach}
 use Rattle.tj_syntax.specs.declared.fault.Breach.TheVariants.{Twice, Many}
 use Rattle.tj_syntax.specs.Trees as tree
-use Rattle.tj_syntax.specs.Trees.{Expression, Request, Given, Statement, Statements, Otherwise}
-use Rattle.tj_syntax.specs.Marks.{Name, Note, Noted, fine, broken, key, mark, use_of, place, declaration, most_vars}
+use Rattle.tj_syntax.specs.Trees.{Expression, Ask, Given, Statement, Statements, Otherwise}
+use Rattle.tj_syntax.specs.Marks.{Name, Note, Noted, fine, broken, key, mark, use_of, index_of, declaration, most_vars}
 use Rattle.tj_syntax.specs.Grammar as g
-use Rattle.tj_syntax.specs.Grammar.{IsExpression, IsRequest, IsGiven, IsStatement, IsBlock, IsStatements, IsElse}
+use Rattle.tj_syntax.specs.Grammar.{IsExpression, IsAsk, IsGiven, IsStatement, IsBlock, IsStatements, IsElse}
 use Rattle.tj_syntax.specs.Inner.Input.{Input, first, next, expect, names_of, fresh, fresh_by, fresh_variable, breach_of}
 use Rattle.tj_syntax.specs.Inner.Input.{unless, variable}
-use Rattle.tj_syntax.specs.Inner.Reading.{expression, request, given, let_new, assign, set_cell, ended, ask}
+use Rattle.tj_syntax.specs.Inner.Reading.{expression, ask, given, let_new, assign, set_cell, ended, ask_statement}
 use Rattle.tj_syntax.proofs.Taken.{Took, took_both, bind_ok, landed}
 use Rattle.tj_syntax.proofs.Sound.Steps.{took_fine, expected}
-use Rattle.tj_syntax.proofs.Sound.Call.{expressions_sound, variable_sound}
-use Rattle.tj_syntax.proofs.Sound.Request.{request_sound, given_sound}
+use Rattle.tj_syntax.proofs.Sound.AskParts.{expressions_sound, variable_sound}
+use Rattle.tj_syntax.proofs.Sound.Ask.{ask_sound, given_sound}
 
 -- what is read where variables become known
 pub record Made (i j : Input) (P : List Noted → List Name → Type 0) : Type 0 where
@@ -44,7 +44,7 @@ declared_at false false note h = refl
 -- a declaration that breaks nothing is noted as it should be
 pub declared_right : (most : ℕ) (earlier : List Name) (x : Name) → breach_of most earlier x ≡ None → (note : Note) →
     declaration most earlier x note ≡ note
-declared_right most earlier x h note = declared_at (is_some (place earlier x)) (nat_le most (length earlier)) note h
+declared_right most earlier x h note = declared_at (is_some (index_of earlier x)) (nat_le most (length earlier)) note h
 
 -- a name that is declared is taken
 pub record GotFresh (most : ℕ) (earlier : List Name) (i j : Input) (x : Name) : Type 0 where
@@ -197,11 +197,11 @@ ended_sound room i j x h =
       right = got.right;
     })
 
-pub ask_sound : (room : ℕ) (i j : Input) (s : Statement) → ask room i ≡ Ok (s, j) → Whole room i j s
-unfolding ask
-ask_sound room i j s h =
-    let read = bind_ok (request room i) _ s j h in
-    let got = request_sound room i read.1 read.0 read.2 in
+pub ask_statement_sound : (room : ℕ) (i j : Input) (s : Statement) → ask_statement room i ≡ Ok (s, j) → Whole room i j s
+unfolding ask_statement
+ask_statement_sound room i j s h =
+    let read = bind_ok (ask room i) _ s j h in
+    let got = ask_sound room i read.1 read.0 read.2 in
     let close = bind_ok (expect m.Semi read.1) _ s j read.3 in
     let closing = expected m.Semi read.1 close.1 close.0 close.2 in
     let vars : close.1.vars ≡ i.vars = ap (λ p. p.0) closing.kept ∙ got.vars in

@@ -14,7 +14,7 @@ use Rattle.tj_syntax.specs.declared.fault.Breach.TheVariants.{Unknown, Count}
 use Rattle.tj_syntax.specs.declared.fault.Stop.{Stop}
 use Rattle.tj_syntax.specs.declared.fault.Stop.TheVariants as stop
 use Rattle.tj_syntax.specs.Trees.{Task}
-use Rattle.tj_syntax.specs.Marks.{Name, Noted, broken, forks, declares, place}
+use Rattle.tj_syntax.specs.Marks.{Name, Noted, broken, forks, declares, index_of}
 use Rattle.tj_syntax.specs.Grammar.{IsTasks, IsProgram}
 use Rattle.tj_syntax.specs.Faults.{tokens_of, kinds_of, AreUnbroken, AreForksRight, fork_of, fork_breach, task_named}
 use Rattle.tj_syntax.specs.Faults.{main_of, at_token, at_fork, no_main, main_params, cant_follow, breaks}
@@ -22,7 +22,7 @@ use Rattle.tj_syntax.specs.Inner.Stops.{IsFirstStop}
 use Rattle.tj_syntax.specs.Inner.Input.{Head, Input, names_of, heads_from, flaw_at, head_at, head_named, first_flaw}
 use Rattle.tj_syntax.specs.Inner.Reading.{tasks}
 use Rattle.tj_syntax.proofs.Taken.{note_flaw, flaw_after, tokens_of-append, length-tokens_of}
-use Rattle.tj_syntax.proofs.Sound.Request.{flaw_after-some}
+use Rattle.tj_syntax.proofs.Sound.Ask.{flaw_after-some}
 use Rattle.tj_syntax.proofs.Sound.Script.{AreHeads, IsHeadIn, head_params, forks_right, note_right, start_of}
 use Rattle.tj_syntax.proofs.Sound.Script.{tasks_sound}
 use Rattle.tj_syntax.proofs.Same.Retasked as retasked
@@ -323,7 +323,7 @@ no_main_first body last end found j h flaw none =
     no_task None e = refl
     no_task (Some t) e = absurd (cc)
 
--- the place of a name is that of a head of this name
+-- the index of a name is that of a head of this name
 record Placed (P : Head → Type 0) (heads : List Head) (f : Name) (i n : ℕ) : Type 0 where
   at : ℕ
   far : n ≡ at + i
@@ -357,9 +357,9 @@ placed P (h ∷ heads) f i n all e =
 
 head_found : (P : Head → Type 0) (heads : List Head) (f : Name) (h : Head) → AllByRecursion P heads
     → head_named heads f ≡ Some h → P h × (h.name ≡ f)
-head_found P heads f h all e = by (place (names_of heads) f) refl e
+head_found P heads f h all e = by (index_of (names_of heads) f) refl e
   where
-    by : (o : Option ℕ) → place (names_of heads) f ≡ o → head_at heads o ≡ Some h → P h × (h.name ≡ f)
+    by : (o : Option ℕ) → index_of (names_of heads) f ≡ o → head_at heads o ≡ Some h → P h × (h.name ≡ f)
     by None is e' = absurd (cc)
     by (Some n) is e' =
         let p = placed P heads f 0 n all is in

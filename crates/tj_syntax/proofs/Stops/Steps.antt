@@ -11,7 +11,7 @@ use Rattle.tj_syntax.specs.declared.fault.Breach.{Breach}
 use Rattle.tj_syntax.specs.declared.fault.Breach.TheVariants.{Unknown, Twice, Deep, Many}
 use Rattle.tj_syntax.specs.declared.fault.Stop.{Stop}
 use Rattle.tj_syntax.specs.declared.fault.Stop.TheVariants as stop
-use Rattle.tj_syntax.specs.Marks.{Name, Note, broken, Noted, opening, place, use_of, declaration}
+use Rattle.tj_syntax.specs.Marks.{Name, Note, broken, Noted, opening, index_of, use_of, declaration}
 use Rattle.tj_syntax.specs.Faults.{tokens_of, AreUnbroken}
 use Rattle.tj_syntax.specs.Inner.Input.{Input, Outcome, Parser, and_then, first, next, skip, refuse, breaks, sees, expect}
 use Rattle.tj_syntax.specs.Inner.Input.{eat, open_level, known, known_at, variable, variable_by, fresh, fresh_by, breach_of}
@@ -211,9 +211,9 @@ open_halts (suc room) i s t rest is h back p =
 pub known_halts : (x : Name) (i : Input) (s : Stop) (rest : List Tok) → i.ahead ≡ toks.Name x ∷ rest → known x i ≡ Err s
     → {P : List Noted → Type 0} → (back : List Noted) → P ((toks.Name x, use_of i.vars x) ∷ back) → Halts i s P
 unfolding known
-known_halts x i s rest is h {P} back p = at (place i.vars x) refl h
+known_halts x i s rest is h {P} back p = at (index_of i.vars x) refl h
   where
-    at : (o : Option ℕ) → place i.vars x ≡ o → known_at o i ≡ Err s → Halts i s P
+    at : (o : Option ℕ) → index_of i.vars x ≡ o → known_at o i ≡ Err s → Halts i s P
     at None e h' =
         let note : use_of i.vars x ≡ broken Unknown = rw e refl in
         broke Unknown (toks.Name x) rest is (err_inj {A = ℕ} (stop.Broken Unknown (length i.ahead)) s h') back
@@ -245,7 +245,7 @@ declared_breach false false note b h = absurd (cc)
 -- a declaration that breaks a rule is noted so
 declared_broken : (most : ℕ) (earlier : List Name) (x : Name) (b : Breach) (note : Note)
     → breach_of most earlier x ≡ Some b → declaration most earlier x note ≡ broken b
-declared_broken most earlier x b note h = declared_breach (is_some (place earlier x)) (nat_le most (length earlier))
+declared_broken most earlier x b note h = declared_breach (is_some (index_of earlier x)) (nat_le most (length earlier))
     note b h
 
 -- no name comes next, or one that breaks a rule where it is declared

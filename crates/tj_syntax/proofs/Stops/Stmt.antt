@@ -14,24 +14,24 @@ use Rattle.tj_syntax.specs.Trees as tree
 use Rattle.tj_syntax.specs.Trees.{Expression, Given, Statement, Statements, Otherwise}
 use Rattle.tj_syntax.specs.Marks.{Name, Note, Noted, fine, broken, key, mark, declaration, opening, within, most_vars}
 use Rattle.tj_syntax.specs.Grammar as g
-use Rattle.tj_syntax.specs.Grammar.{IsExpression, IsRequest, IsGiven, IsStatement, IsBlock, IsStatements, IsElse}
+use Rattle.tj_syntax.specs.Grammar.{IsExpression, IsAsk, IsGiven, IsStatement, IsBlock, IsStatements, IsElse}
 use Rattle.tj_syntax.specs.View.{statements_of}
 use Rattle.tj_syntax.specs.Inner.Input.{Input, Parser, and_then, first, next, refuse, sees, expect, open_level, variable}
 use Rattle.tj_syntax.specs.Inner.Input.{fresh_variable, names_of}
-use Rattle.tj_syntax.specs.Inner.Reading.{expression, request, given, let_new, assign, set_cell, ended, ask, otherwise_by}
+use Rattle.tj_syntax.specs.Inner.Reading.{expression, ask, given, let_new, assign, set_cell, ended, ask_statement, otherwise_by}
 use Rattle.tj_syntax.specs.Inner.Reading.{otherwise, choose, repeat, statement_by, statement_over, statements_from}
 use Rattle.tj_syntax.specs.Inner.Reading.{statements, block_by, block}
 use Rattle.tj_syntax.proofs.Taken.{is_task}
 use Rattle.tj_syntax.proofs.Sound.Steps.{took_fine, expected, opened, fine_unbroken}
-use Rattle.tj_syntax.proofs.Sound.Call.{expressions_sound, variable_sound}
-use Rattle.tj_syntax.proofs.Sound.Request.{request_sound, given_sound}
+use Rattle.tj_syntax.proofs.Sound.AskParts.{expressions_sound, variable_sound}
+use Rattle.tj_syntax.proofs.Sound.Ask.{ask_sound, given_sound}
 use Rattle.tj_syntax.proofs.Sound.Stmt.{GotFresh, declared_right, fresh_sound}
 use Rattle.tj_syntax.proofs.Sound.Block.{SoundBlock, SoundStatement, statement_sound, block_sound, refused_statement}
 use Rattle.tj_syntax.proofs.Stops.Steps.{Halts, Part, Halting, Past, past, past_nothing, past_both, split, if_err}
 use Rattle.tj_syntax.proofs.Stops.Steps.{moved, later, at_last, refused, refused_behind, err_inj, expect_stops}
 use Rattle.tj_syntax.proofs.Stops.Steps.{open_halts, variable_halts, fresh_halts}
 use Rattle.tj_syntax.proofs.Stops.Expr.{AnExpression, just_me, is_me, expressions_halt, refuse_halts}
-use Rattle.tj_syntax.proofs.Stops.Call.{ARequest, AGiven, request_halts, given_halts}
+use Rattle.tj_syntax.proofs.Stops.Ask.{AnAsk, AGiven, ask_halts, given_halts}
 
 abbrev AStatement : ℕ → Part
 AStatement room tasks vars notes = (s : Statement) × (last : List Name) × IsStatement tasks room vars notes s last
@@ -180,14 +180,14 @@ ended_halts room i s h =
     (record { a = got.notes; x = x; is = refl; right = got.right }))
     (λ u l r' e'. absurd (cc)))
 
-ask_halts : (room : ℕ) → Halting (AStatement room) (ask room)
-unfolding ask
-ask_halts room i s h =
-    split (request room i) _ s h
-    (λ e. later (ARequest room) (past_nothing i) refl (request_halts room i s e)
+ask_statement_halts : (room : ℕ) → Halting (AStatement room) (ask_statement room)
+unfolding ask_statement
+ask_statement_halts room i s h =
+    split (ask room i) _ s h
+    (λ e. later (AnAsk room) (past_nothing i) refl (ask_halts room i s e)
     (λ notes p. (mark m.Semi ∷ [], (_, _, g.ask p.1))))
     (λ x j r e.
-    let got = request_sound room i j x r in
+    let got = ask_sound room i j x r in
     split (expect m.Semi j) _ s e
     (λ e'. refused_behind (past got.took) (expect_stops m.Semi j s e') (mark m.Semi ∷ []) (_, _, g.ask got.right))
     (λ u l r' e'. absurd (cc)))
@@ -289,7 +289,7 @@ statement_by_halts room block sb hb (toks.Key k.Return ∷ rest) i s e h =
           (g.return p.right),
     )))
     (λ x j r e'. absurd (cc))
-statement_by_halts room block sb hb ts i s e h = ask_halts room i s h
+statement_by_halts room block sb hb ts i s e h = ask_statement_halts room i s h
 
 statement_halts : (room : ℕ) (block : Parser Statements) → SoundBlock room block → Halting (ABlock room) block
     → Halting (AStatement room) (statement_over room block)

@@ -12,7 +12,7 @@ use Rattle.tj_syntax.specs.declared.fault.Stop.{Stop}
 use Rattle.tj_syntax.specs.declared.fault.Stop.TheVariants as stop
 use denote.Enum.Bare.{sameb}
 use Rattle.tj_lex.specs.contracts.token.Mark.{the_type}
-use Rattle.tj_syntax.specs.Marks.{Name, place, number_of, most_vars, most_tasks}
+use Rattle.tj_syntax.specs.Marks.{Name, index_of, number_of, most_vars, most_tasks}
 
 -- a declared task: its name, the number of its parameters, and how many tokens are left from its name on
 pub record Head : Type 0 where
@@ -122,7 +122,7 @@ known_at (Some n) = skip >> pure n
 
 -- takes a variable, which has to be known
 unfoldable pub known : Name → Parser ℕ
-known x = λ i. known_at (place i.vars x) i
+known x = λ i. known_at (index_of i.vars x) i
 
 -- a variable by the next token
 abbrev pub variable_by : Option Tok → Parser ℕ
@@ -135,7 +135,7 @@ variable = peek >>= variable_by
 -- how a name breaks a rule as one that is declared, where these are declared already and so many may be
 abbrev pub breach_of : ℕ → List Name → Name → Option Breach
 breach_of most earlier x =
-    if is_some (place earlier x) then Some breach.Twice else (if nat_le most (length earlier) then Some breach.Many
+    if is_some (index_of earlier x) then Some breach.Twice else (if nat_le most (length earlier) then Some breach.Many
     else None)
 
 -- a reading, unless a rule is broken
@@ -219,7 +219,7 @@ head_at heads (Some n) = slice_get heads n
 
 -- the head of a task
 abbrev pub head_named : List Head → Name → Option Head
-head_named heads f = head_at heads (place (names_of heads) f)
+head_named heads f = head_at heads (index_of (names_of heads) f)
 
 -- the first of two faults
 abbrev pub first_flaw : Option Stop → Option Stop → Option Stop

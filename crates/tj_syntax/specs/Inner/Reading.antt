@@ -12,7 +12,7 @@ use Rattle.tj_syntax.specs.declared.expr.Rel.TheVariants as rel
 use Rattle.tj_syntax.specs.declared.expr.RefOf.{RefOf}
 use Rattle.tj_syntax.specs.declared.expr.RefOf.TheVariants as ref
 use Rattle.tj_syntax.specs.Trees as tree
-use Rattle.tj_syntax.specs.Trees.{Expression, Pairs, Argument, Request, Given, Statement, Statements, Otherwise, Task}
+use Rattle.tj_syntax.specs.Trees.{Expression, Pairs, Argument, Ask, Given, Statement, Statements, Otherwise, Task}
 use Rattle.tj_syntax.specs.Marks.{Name, most_tasks, most_levels}
 use Rattle.tj_syntax.specs.declared.read_expr.Level.{Level}
 use Rattle.tj_syntax.specs.declared.read_expr.Level.TheVariants.{Sums as sums, Products as products}
@@ -134,14 +134,14 @@ reference_by _ = refuse
 unfoldable pub reference : Parser RefOf
 reference = peek >>= reference_by
 
--- an alternative by its first token
-abbrev pub alternative_by : ℕ → Option Tok → Parser (Option Expression)
-alternative_by room (Some (toks.Key k.Or)) = skip >> Some <$> expression room
-alternative_by room _ = pure None
+-- what stands behind `or`, by the next token
+abbrev pub or_else_by : ℕ → Option Tok → Parser (Option Expression)
+or_else_by room (Some (toks.Key k.Or)) = skip >> Some <$> expression room
+or_else_by room _ = pure None
 
 -- what is computed where the cell is broken, if anything is
-unfoldable pub alternative : ℕ → Parser (Option Expression)
-alternative room = peek >>= alternative_by room
+unfoldable pub or_else : ℕ → Parser (Option Expression)
+or_else room = peek >>= or_else_by room
 
 -- the name of a forked task, by the next token
 abbrev pub forked_by : Option Tok → Parser (Name × ℕ)
@@ -153,7 +153,7 @@ unfoldable pub forked : Parser (Name × ℕ)
 forked = peek >>= forked_by
 
 -- a fork, behind its keyword
-unfoldable pub fork : ℕ → Parser Request
+unfoldable pub fork : ℕ → Parser Ask
 fork room = do
   f ← forked
   expect m.ParenOpen
@@ -166,26 +166,26 @@ fork room = do
 unfoldable pub asked : ℕ → Parser (RefOf × Option Expression)
 asked room = do
   r ← reference
-  other ← alternative room
+  other ← or_else room
   pure (r, other)
 
 -- an ask by its first token
-abbrev pub request_by : ℕ → Option Tok → Parser Request
-request_by room (Some (toks.Key k.New)) = skip >> pure tree.new
-request_by room (Some (toks.Key k.Fork)) = skip >> fork room
-request_by room (Some (toks.Key k.Get)) = skip >> (λ a. tree.get a.0 a.1) <$> asked room
-request_by room (Some (toks.Key k.Join)) = skip >> (λ a. tree.join a.0 a.1) <$> asked room
-request_by room _ = refuse
+abbrev pub ask_by : ℕ → Option Tok → Parser Ask
+ask_by room (Some (toks.Key k.New)) = skip >> pure tree.new
+ask_by room (Some (toks.Key k.Fork)) = skip >> fork room
+ask_by room (Some (toks.Key k.Get)) = skip >> (λ a. tree.get a.0 a.1) <$> asked room
+ask_by room (Some (toks.Key k.Join)) = skip >> (λ a. tree.join a.0 a.1) <$> asked room
+ask_by room _ = refuse
 
-unfoldable pub request : ℕ → Parser Request
-request room = peek >>= request_by room
+unfoldable pub ask : ℕ → Parser Ask
+ask room = peek >>= ask_by room
 
 -- what a variable is given, by its first token
 abbrev pub given_by : ℕ → Option Tok → Parser Given
-given_by room (Some (toks.Key k.New)) = tree.answer <$> request room
-given_by room (Some (toks.Key k.Fork)) = tree.answer <$> request room
-given_by room (Some (toks.Key k.Get)) = tree.answer <$> request room
-given_by room (Some (toks.Key k.Join)) = tree.answer <$> request room
+given_by room (Some (toks.Key k.New)) = tree.answer <$> ask room
+given_by room (Some (toks.Key k.Fork)) = tree.answer <$> ask room
+given_by room (Some (toks.Key k.Get)) = tree.answer <$> ask room
+given_by room (Some (toks.Key k.Join)) = tree.answer <$> ask room
 given_by room _ = tree.result_of <$> expression room
 
 unfoldable pub given : ℕ → Parser Given
@@ -227,9 +227,9 @@ ended room = do
   expect m.Semi
   pure x
 
-unfoldable pub ask : ℕ → Parser Statement
-ask room = do
-  a ← request room
+unfoldable pub ask_statement : ℕ → Parser Statement
+ask_statement room = do
+  a ← ask room
   expect m.Semi
   pure (tree.ask a)
 
@@ -265,7 +265,7 @@ statement_by room block (Some (toks.Key k.Set)) = skip >> set_cell room
 statement_by room block (Some (toks.Key k.Return)) = skip >> tree.return <$> ended room
 statement_by room block (Some (toks.Key k.If)) = skip >> choose room block
 statement_by room block (Some (toks.Key k.While)) = skip >> repeat room block
-statement_by room block _ = ask room
+statement_by room block _ = ask_statement room
 
 unfoldable pub statement_over : ℕ → Parser Statements → Parser Statement
 statement_over room block = peek >>= statement_by room block

@@ -4,6 +4,7 @@ use Rattle.std.proofs.lemmas.Grind.{common_steps}
 use Rattle.std.proofs.lemmas.List.{length-map}
 use Rattle.tj_lex.specs.declared.token.Token.{Token}
 use Rattle.tj_syntax.specs.declared.heads.Head.{Head}
+use Rattle.tj_syntax.specs.Marks.{most_tasks}
 use Rattle.tj_syntax.specs.Inner.Heads.{head_of}
 use Rattle.tj_syntax.specs.Inner.Input as spec
 use Rattle.tj_syntax.specs.Inner.Input.{breach_of, count_params}
@@ -22,7 +23,7 @@ invariant_of-self-in-Err c =
     let same : c.pop.new.self.items ≡ old.list.items = first_of (search rules, grind (arith, common_steps)) in
     record {
       named = c.in-Err.ensures.kept ∙ old.named ∙ ap (map (λ (h : Head). h.name.now)) (sym same);
-      few = subst (λ names. length names ≤ 1024) (sym c.in-Err.ensures.kept) old.few;
+      few = subst (λ names. length names ≤ most_tasks) (sym c.in-Err.ensures.kept) old.few;
     }
 
 pub returns : goal.returns

@@ -1,11 +1,11 @@
 use Rattle.std.proofs.Common.{ap, sym, ◌∙◌}
-use Rattle.tj_syntax.specs.Marks.{place}
+use Rattle.tj_syntax.specs.Marks.{index_of}
 use Rattle.tj_syntax.proofs.HeadNames.{names_of-heads, found_below}
 use Rattle.tj_syntax.proofs.heads.Heads.number_of.Goals as goal
 
 pub returns-clause-value : goal.returns-clause-value
 returns-clause-value c =
-    c.number_of.ensures ∙ ap (λ ns. place ns c.args.name.now) (c.args.self.now.named ∙ sym (names_of-heads
+    c.number_of.ensures ∙ ap (λ ns. index_of ns c.args.name.now) (c.args.self.now.named ∙ sym (names_of-heads
     c.args.self.now.list.items))
 
 pub returns-clause-below : goal.returns-clause-below

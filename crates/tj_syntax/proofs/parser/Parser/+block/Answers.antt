@@ -7,7 +7,7 @@ use Rattle.tj_syntax.specs.declared.stmt.Stmt.{the_lemmas}
 use Rattle.tj_syntax.specs.View as view
 use Rattle.tj_syntax.specs.Inner.Input.{eat}
 use Rattle.tj_syntax.specs.Inner.Reading.{statements, statements_from, statement}
-use Rattle.tj_syntax.proofs.Turns.{one_more, no_more}
+use Rattle.tj_syntax.proofs.Repeats.{one_more, no_more}
 use Rattle.tj_syntax.proofs.Unrolls.{block-is}
 use Rattle.tj_syntax.proofs.parser.Parser.+block.Goals as goal
 

@@ -6,7 +6,7 @@ use Rattle.tj_syntax.specs.declared.expr.Expr.{the_lemmas}
 use Rattle.tj_syntax.specs.Inner.State.{input_of}
 use Rattle.tj_syntax.specs.View.{pair}
 use Rattle.tj_syntax.specs.Inner.Reading.{pairs, pairs_from, operand}
-use Rattle.tj_syntax.proofs.Turns.{one_more, no_more}
+use Rattle.tj_syntax.proofs.Repeats.{one_more, no_more}
 use Rattle.tj_syntax.proofs.Unrolls.{unary-is}
 use Rattle.tj_syntax.proofs.parser.Parser.+expression.Goals as goal
 

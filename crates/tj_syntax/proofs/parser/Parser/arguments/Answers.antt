@@ -5,7 +5,7 @@ use Rattle.std.proofs.lemmas.List.{map-append}
 use Rattle.tj_syntax.specs.Inner.State.{input_of}
 use Rattle.tj_syntax.specs.View as view
 use Rattle.tj_syntax.specs.Inner.Reading.{separated, separated_from, argument}
-use Rattle.tj_syntax.proofs.Turns.{one_more, no_more}
+use Rattle.tj_syntax.proofs.Repeats.{one_more, no_more}
 use Rattle.tj_syntax.proofs.parser.Parser.arguments.Goals as goal
 
 pub returns-then-sees : goal.returns-then-sees

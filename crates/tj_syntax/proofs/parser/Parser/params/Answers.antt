@@ -4,7 +4,7 @@ use Rattle.std.proofs.lemmas.Grind.{common_steps}
 use Rattle.tj_syntax.specs.Inner.State.{input_of}
 use Rattle.tj_syntax.specs.Inner.Reading.{params, params_from}
 use Rattle.tj_syntax.proofs.Fresh.{variable_free}
-use Rattle.tj_syntax.proofs.Turns.{one_more, no_more}
+use Rattle.tj_syntax.proofs.Repeats.{one_more, no_more}
 use Rattle.tj_syntax.proofs.parser.Parser.params.Goals as goal
 
 pub returns-then-sees : goal.returns-then-sees

@@ -3,11 +3,12 @@ use Rattle.std.proofs.Common.{rules, arith, map}
 use Rattle.std.proofs.lemmas.Grind.{common_steps}
 use Rattle.std.proofs.lemmas.List.{map-append}
 use Rattle.tj_syntax.specs.Inner.State.{input_of}
+use Rattle.tj_syntax.specs.Marks.{most_tasks}
 use Rattle.tj_syntax.specs.View as view
 use Rattle.tj_syntax.specs.Inner.Reading.{tasks, tasks_from, task}
 use Rattle.tj_syntax.proofs.Fresh.{fresh_free}
 use Rattle.tj_syntax.proofs.TaskNames.{task_name}
-use Rattle.tj_syntax.proofs.Turns.{one_more, no_more}
+use Rattle.tj_syntax.proofs.Repeats.{one_more, no_more}
 use Rattle.tj_syntax.proofs.parser.Parser.tasks.Goals as goal
 
 pub loop-turn-init : goal.loop-turn-init
@@ -15,10 +16,10 @@ unfolding tasks
 loop-turn-init c = record { reads = first_of (search rules, grind (arith, common_steps)); names = search rules }
 
 pub add-requires-clause-new : goal.add-requires-clause-new
-add-requires-clause-new c = (fresh_free 1024 _ _ _ _ c.in_ok-name.ensures.reads).new
+add-requires-clause-new c = (fresh_free most_tasks _ _ _ _ c.in_ok-name.ensures.reads).new
 
 pub add-requires-clause-few : goal.add-requires-clause-few
-add-requires-clause-few c = (fresh_free 1024 _ _ _ _ c.in_ok-name.ensures.reads).few
+add-requires-clause-few c = (fresh_free most_tasks _ _ _ _ c.in_ok-name.ensures.reads).few
 
 pub returns-then-left-eq0 : goal.returns-then-left-eq0
 unfolding tasks_from task

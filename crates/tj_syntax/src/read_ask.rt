@@ -22,16 +22,16 @@ impl<'t> Parser<'t> {
     {
         match self.peek() {
             Some(Tok::Key(Key::New | Key::Fork | Key::Get | Key::Join)) => {
-                Ok(Rhs::Call(self.request(room)?))
+                Ok(Rhs::Call(self.ask(room)?))
             }
             _ => Ok(Rhs::Expr(self.expression(room)?)),
         }
     }
 
     /// An ask.
-    #[tactic(auto, unfolding(crate::specs::Inner::Reading::request))]
-    pub(crate) fn request(&mut self, room: u32) -> Result<Call, Stop>
-        ensures { Reads view.request (reading.request room (input_of self.old))
+    #[tactic(auto, unfolding(crate::specs::Inner::Reading::ask))]
+    pub(crate) fn ask(&mut self, room: u32) -> Result<Call, Stop>
+        ensures { Reads view.ask (reading.ask room (input_of self.old))
             result (input_of self.new) }
     {
         match self.peek() {
@@ -60,7 +60,7 @@ impl<'t> Parser<'t> {
     /// A fork, behind its keyword.
     #[tactic(auto, unfolding(crate::specs::Inner::Reading::fork))]
     fn fork(&mut self, room: u32) -> Result<Call, Stop>
-        ensures { Reads view.request (reading.fork room (input_of self.old))
+        ensures { Reads view.ask (reading.fork room (input_of self.old))
             result (input_of self.new) }
     {
         let (name, left) = self.forked()?;
@@ -129,7 +129,7 @@ impl<'t> Parser<'t> {
             (reading.asked room (input_of self.old)) result (input_of self.new) }
     {
         let r = self.reference()?;
-        let other = self.alternative(room)?;
+        let other = self.or_else(room)?;
         Ok((r, other))
     }
 
@@ -151,10 +151,10 @@ impl<'t> Parser<'t> {
     }
 
     /// What is computed where the cell is broken, if anything is.
-    #[tactic(auto, unfolding(crate::specs::Inner::Reading::alternative))]
-    fn alternative(&mut self, room: u32) -> Result<Option<Expr>, Stop>
+    #[tactic(auto, unfolding(crate::specs::Inner::Reading::or_else))]
+    fn or_else(&mut self, room: u32) -> Result<Option<Expr>, Stop>
         ensures { Reads (option_map view.expression)
-            (reading.alternative room (input_of self.old)) result (input_of self.new) }
+            (reading.or_else room (input_of self.old)) result (input_of self.new) }
     {
         match self.peek() {
             Some(Tok::Key(Key::Or)) => {

@@ -1,6 +1,6 @@
 use Rattle.std.proofs.lemmas.Result.{on_ok_weaker}
 use Rattle.tj_syntax.proofs.Listed.Texts.{task_text}
-use Rattle.tj_syntax.proofs.list_call.put_task.Goals as goal
+use Rattle.tj_syntax.proofs.list_ask.put_task.Goals as goal
 
 pub returns-in-Some : goal.returns-in-Some
 returns-in-Some c =

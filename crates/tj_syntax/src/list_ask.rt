@@ -64,9 +64,9 @@ fn list_reference(text: &mut Vec<u8>, vars: &[Word], r: RefOf) -> Result<(), Oom
 }
 
 /// Adds what is computed where the cell is broken, if anything is.
-fn list_or(text: &mut Vec<u8>, vars: &[Word], other: &Option<Expr>) -> Result<(), Oom>
+fn list_or_else(text: &mut Vec<u8>, vars: &[Word], other: &Option<Expr>) -> Result<(), Oom>
     ensures { OnOk result (text.new.items
-        ≡ text.old.items ++ text_of (listing.or_parts vars.now
+        ≡ text.old.items ++ text_of (listing.or_else_parts vars.now
         (option_map view.expression other.now))) }
 {
     match other {
@@ -92,15 +92,15 @@ fn put_task(text: &mut Vec<u8>, tasks: &[Decl], f: u32) -> Result<(), Oom>
 }
 
 #[tactic(auto, using(crate::proofs::Listed::Views::listing_steps))]
-pub(crate) fn list_request(
+pub(crate) fn list_ask(
     text: &mut Vec<u8>,
     tasks: &[Decl],
     vars: &[Word],
     ask: &Call,
 ) -> Result<(), Oom>
     ensures { OnOk result (text.new.items ≡ text.old.items
-        ++ text_of (listing.request (listing.names_of (map view.task tasks.now)) vars.now
-        (view.request ask.now))) }
+        ++ text_of (listing.ask (listing.names_of (map view.task tasks.now)) vars.now
+        (view.ask ask.now))) }
 {
     match ask {
         Call::New => put(text, b"new"),
@@ -114,12 +114,12 @@ pub(crate) fn list_request(
         Call::Get(r, other) => {
             put(text, b"get ")?;
             list_reference(text, vars, *r)?;
-            list_or(text, vars, other)
+            list_or_else(text, vars, other)
         }
         Call::Join(r, other) => {
             put(text, b"join ")?;
             list_reference(text, vars, *r)?;
-            list_or(text, vars, other)
+            list_or_else(text, vars, other)
         }
     }
 }
@@ -135,7 +135,7 @@ pub(crate) fn list_given(
         (view.given side.now))) }
 {
     match side {
-        Rhs::Call(ask) => list_request(text, tasks, vars, ask),
+        Rhs::Call(ask) => list_ask(text, tasks, vars, ask),
         Rhs::Expr(x) => list_expression(text, vars, x),
     }
 }

@@ -10,16 +10,16 @@ use Rattle.tj_syntax.specs.declared.expr.RefOf.{RefOf}
 use Rattle.tj_syntax.specs.declared.expr.RefOf.TheVariants as ref
 use Rattle.tj_syntax.specs.declared.fault.Stop.{Stop}
 use Rattle.tj_syntax.specs.Trees as tree
-use Rattle.tj_syntax.specs.Trees.{Expression, Pairs, Argument, Request, Given}
+use Rattle.tj_syntax.specs.Trees.{Expression, Pairs, Argument, Ask, Given}
 use Rattle.tj_syntax.specs.Marks.{Name, Noted, fine, forks, key, mark, use_of, number_of}
 use Rattle.tj_syntax.specs.Faults.{tokens_of}
 use Rattle.tj_syntax.specs.Grammar as g
 use Rattle.tj_syntax.specs.Grammar.{IsExpression, IsChain, IsOperand, IsUnary, IsArgument, IsMoreArguments}
-use Rattle.tj_syntax.specs.Grammar.{IsArguments, IsReference, IsOr, IsRequest, IsGiven}
+use Rattle.tj_syntax.specs.Grammar.{IsArguments, IsReference, IsOr, IsAsk, IsGiven}
 use Rattle.tj_syntax.specs.Inner.Input.{Head, Input, Outcome, and_then, first, skip, expect, eat, is_mark, variable}
 use Rattle.tj_syntax.specs.Inner.Input.{head_named, flaw_at, first_flaw, note_fork, names_of}
 use Rattle.tj_syntax.specs.Inner.Reading.{expression, separated_from, separated, argument_by, argument, reference}
-use Rattle.tj_syntax.specs.Inner.Reading.{alternative, forked, fork, asked, request, given_by, given}
+use Rattle.tj_syntax.specs.Inner.Reading.{or_else, forked, fork, asked, ask, given_by, given}
 use Rattle.tj_syntax.proofs.Taken.{flaw_after, first_flaw-none}
 use Rattle.tj_syntax.proofs.Complete.Steps.{at, Does, then_does, mapped, nothing_read, fine_read, expect_does}
 use Rattle.tj_syntax.proofs.Complete.Steps.{known_does, length-ahead, ahead-append}
@@ -177,9 +177,9 @@ reference_does heads {vars = vars} g.reference_me rest flaw = fine_read heads (t
 pub or_does : (heads : List Head) {vars : List Name} {room : ℕ} {a : List Noted} {x : Option Expression}
     → IsOr vars room a x
     → (rest : List Tok) (flaw : Option Stop)
-    → Does heads (alternative room (at heads (tokens_of a ++ (toks.Mark m.Semi ∷ rest)) vars flaw)) a
+    → Does heads (or_else room (at heads (tokens_of a ++ (toks.Mark m.Semi ∷ rest)) vars flaw)) a
     (toks.Mark m.Semi ∷ rest) vars flaw x
-unfolding alternative
+unfolding or_else
 or_does heads {vars = vars} g.no_or rest flaw = nothing_read heads (toks.Mark m.Semi ∷ rest) vars flaw None
 or_does heads {vars = vars} {room = room} (g.or_else {a = a} {x = x} e) rest flaw =
     then_does heads skip (λ _ i. and_then (expression room i) (λ y j. Ok (Some y, j))) (key k.Or ∷ []) a
@@ -195,7 +195,7 @@ pub asked_does : (heads : List Head) {vars : List Name} {room : ℕ} {a b : List
     (toks.Mark m.Semi ∷ rest) vars flaw (r, x)
 unfolding asked
 asked_does heads {vars = vars} {room = room} {a = a} {b = b} {r = r} {x = x} p q rest flaw =
-    then_does heads reference (λ s i. and_then (alternative room i) (λ y j. Ok ((s, y), j))) a b
+    then_does heads reference (λ s i. and_then (or_else room i) (λ y j. Ok ((s, y), j))) a b
     (toks.Mark m.Semi ∷ rest) vars vars vars flaw flaw flaw r (r, x)
     (reference_does heads p (tokens_of b ++ (toks.Mark m.Semi ∷ rest)) flaw)
     (mapped (λ y. (r, y)) (or_does heads q rest flaw))
@@ -233,14 +233,14 @@ fork_noted heads f left count args rest vars flaw = record { reads = λ h. refl;
 fork_does : (heads : List Head) (vars : List Name) (room : ℕ) (a : List Noted) (args : List Argument) (f : Name)
     → IsArguments vars room a args
     → (rest : List Tok) (flaw : Option Stop)
-    → Done heads (request room (at heads (tokens_of
+    → Done heads (ask room (at heads (tokens_of
     (key k.Fork ∷ (toks.Name f, forks (length args)) ∷ mark m.ParenOpen ∷ (a ++ mark m.ParenClose ∷ [])) ++ rest)
     vars flaw))
     (key k.Fork ∷ (toks.Name f, forks (length args)) ∷ mark m.ParenOpen ∷ (a ++ mark m.ParenClose ∷ [])) rest vars flaw
     (first_flaw flaw (flaw_at (head_named heads f)
     (suc (length (tokens_of (mark m.ParenOpen ∷ (a ++ mark m.ParenClose ∷ [])) ++ rest))) (length args)))
     (tree.fork (number_of (names_of heads) f) args)
-unfolding request fork
+unfolding ask fork
 fork_does heads vars room a args f p rest flaw =
     let inner = mark m.ParenOpen ∷ (a ++ mark m.ParenClose ∷ []) in
     let left = suc (length (tokens_of inner ++ rest)) in
@@ -289,21 +289,21 @@ pub record Reads {A : Type 0} (heads : List Head) (outcome : Outcome A) (notes :
   pub behind : Option Stop
   pub done : Done heads outcome notes rest vars before behind x
 
-pub request_does : (heads : List Head) {vars : List Name} {room : ℕ} {a : List Noted} {ask : Request}
-    → IsRequest (names_of heads) vars room a ask
+pub ask_does : (heads : List Head) {vars : List Name} {room : ℕ} {a : List Noted} {x : Ask}
+    → IsAsk (names_of heads) vars room a x
     → (rest : List Tok) (flaw : Option Stop)
-    → Reads heads (request room (at heads (tokens_of a ++ (toks.Mark m.Semi ∷ rest)) vars flaw)) a
-    (toks.Mark m.Semi ∷ rest) vars flaw ask
-unfolding request
-request_does heads {vars = vars} g.new rest flaw =
+    → Reads heads (ask room (at heads (tokens_of a ++ (toks.Mark m.Semi ∷ rest)) vars flaw)) a
+    (toks.Mark m.Semi ∷ rest) vars flaw x
+unfolding ask
+ask_does heads {vars = vars} g.new rest flaw =
     record {
       behind = flaw;
       done = quiet_done (quiet_key k.New)
           (fine_read heads (toks.Key k.New) (toks.Mark m.Semi ∷ rest) vars flaw tree.new);
     }
-request_does heads {vars = vars} {room = room} (g.fork {a = a} {args = args} f p) rest flaw =
+ask_does heads {vars = vars} {room = room} (g.fork {a = a} {args = args} f p) rest flaw =
     record { behind = _; done = fork_does heads vars room a args f p (toks.Mark m.Semi ∷ rest) flaw }
-request_does heads {vars = vars} {room = room} (g.get {a = a} {b = b} {r = r} {other = x} p q) rest flaw = record {
+ask_does heads {vars = vars} {room = room} (g.get {a = a} {b = b} {r = r} {other = x} p q) rest flaw = record {
   behind = flaw;
   done = quiet_done (quiet-append (key k.Get ∷ []) (a ++ b) (quiet_key k.Get)
       (quiet-append a b (quiet_reference p) (quiet_or q)))
@@ -312,7 +312,7 @@ request_does heads {vars = vars} {room = room} (g.get {a = a} {b = b} {r = r} {o
       (fine_read heads (toks.Key k.Get) (tokens_of (a ++ b) ++ (toks.Mark m.Semi ∷ rest)) vars flaw tt)
       (mapped (λ y. tree.get y.0 y.1) (asked_does heads p q rest flaw)));
 }
-request_does heads {vars = vars} {room = room} (g.join {a = a} {b = b} {r = r} {other = x} p q) rest flaw = record {
+ask_does heads {vars = vars} {room = room} (g.join {a = a} {b = b} {r = r} {other = x} p q) rest flaw = record {
   behind = flaw;
   done = quiet_done (quiet-append (key k.Join ∷ []) (a ++ b) (quiet_key k.Join)
       (quiet-append a b (quiet_reference p) (quiet_or q)))
@@ -322,9 +322,9 @@ request_does heads {vars = vars} {room = room} (g.join {a = a} {b = b} {r = r} {
       (mapped (λ y. tree.join y.0 y.1) (asked_does heads p q rest flaw)));
 }
 
-as_answer : (heads : List Head) {vars : List Name} {room : ℕ} {a : List Noted} {ask : Request}
-    → IsRequest (names_of heads) vars room a ask
-    → (rest : List Tok) (i : Input) → given_by room (first (tokens_of a ++ rest)) i ≡ and_then (request room i)
+as_answer : (heads : List Head) {vars : List Name} {room : ℕ} {a : List Noted} {x : Ask}
+    → IsAsk (names_of heads) vars room a x
+    → (rest : List Tok) (i : Input) → given_by room (first (tokens_of a ++ rest)) i ≡ and_then (ask room i)
     (λ x j. Ok (tree.answer x, j))
 as_answer heads g.new rest i = refl
 as_answer heads (g.fork f p) rest i = refl
@@ -338,7 +338,7 @@ pub given_does : (heads : List Head) {vars : List Name} {room : ℕ} {a : List N
     (toks.Mark m.Semi ∷ rest) vars flaw side
 unfolding given
 given_does heads {vars = vars} {room = room} (g.answer {a = a} {ask = x} p) rest flaw =
-    let d = request_does heads p rest flaw in
+    let d = ask_does heads p rest flaw in
     record {
       behind = d.behind;
       done = subst (λ r. Done heads r a (toks.Mark m.Semi ∷ rest) vars flaw d.behind (tree.answer x))

@@ -1,4 +1,4 @@
--- What is read as an ask is one.
+-- What is read as a part of an ask is one.
 use Rattle.std.proofs.Common.{◌≡◌, ℕ, zero, suc, cond, List, [], ◌∷◌, ◌++◌, length, Option, Some, None, Ok, refl, ap}
 use Rattle.std.proofs.Common.{sym, ◌∙◌, subst, append_assoc, ⊎_elim}
 use Rattle.tj_lex.specs.declared.token.Tok.{Tok}
@@ -9,14 +9,14 @@ use Rattle.tj_syntax.specs.declared.fault.Stop.{Stop}
 use Rattle.tj_syntax.specs.declared.expr.RefOf.{RefOf}
 use Rattle.tj_syntax.specs.declared.expr.RefOf.TheVariants as ref
 use Rattle.tj_syntax.specs.Trees as tree
-use Rattle.tj_syntax.specs.Trees.{Expression, Argument, Request, Given}
+use Rattle.tj_syntax.specs.Trees.{Expression, Argument, Ask, Given}
 use Rattle.tj_syntax.specs.Marks.{Name, Noted, key, mark, number_of, use_of}
 use Rattle.tj_syntax.specs.Grammar as g
 use Rattle.tj_syntax.specs.Grammar.{IsExpression, IsArgument, IsMoreArguments, IsArguments, IsReference, IsOr}
-use Rattle.tj_syntax.specs.Grammar.{IsRequest, IsGiven}
+use Rattle.tj_syntax.specs.Grammar.{IsAsk, IsGiven}
 use Rattle.tj_syntax.specs.Inner.Input.{Input, Outcome, and_then, first, next, sees, eat, known, variable, variable_by}
 use Rattle.tj_syntax.specs.Inner.Reading.{expression, separated_from, separated, argument_by, argument, reference_by}
-use Rattle.tj_syntax.specs.Inner.Reading.{reference, alternative_by, alternative, asked}
+use Rattle.tj_syntax.specs.Inner.Reading.{reference, or_else_by, or_else, asked}
 use Rattle.tj_syntax.proofs.Taken.{Took, Got, Sound, took_nothing, took_both, bind_ok, if_ok, landed}
 use Rattle.tj_syntax.proofs.Sound.Steps.{took_fine, Stepped, ate, knew}
 use Rattle.tj_syntax.proofs.Sound.Expr.{unary_sound, expression_sound}
@@ -183,10 +183,10 @@ reference_by_sound (toks.Key k.Me ∷ rest) i j r e h =
     })
 reference_by_sound (t ∷ rest) i j r e h = absurd (cc)
 
-alternative_by_sound : (room : ℕ) (ts : List Tok) (i j : Input) (o : Option Expression) → i.ahead ≡ ts →
-    alternative_by room (first ts) i ≡ Ok (o, j)
+or_else_by_sound : (room : ℕ) (ts : List Tok) (i j : Input) (o : Option Expression) → i.ahead ≡ ts →
+    or_else_by room (first ts) i ≡ Ok (o, j)
     → Got i j (λ notes. IsOr i.vars room notes o)
-alternative_by_sound room [] i j o e h =
+or_else_by_sound room [] i j o e h =
     landed (λ b l. Got i l (λ notes. IsOr i.vars room notes b)) None o i j h (record {
       notes = [];
       took = took_nothing
@@ -194,7 +194,7 @@ alternative_by_sound room [] i j o e h =
       kept = refl;
       right = g.no_or;
     })
-alternative_by_sound room (toks.Key k.Or ∷ rest) i j o e h =
+or_else_by_sound room (toks.Key k.Or ∷ rest) i j o e h =
     let read = bind_ok (expression room (next i)) _ o j h in
     let one = expressions_sound room (next i) read.1 read.0 read.2 in
     landed (λ b l. Got i l (λ notes. IsOr i.vars room notes b)) (Some read.0) o read.1 j read.3
@@ -205,7 +205,7 @@ alternative_by_sound room (toks.Key k.Or ∷ rest) i j o e h =
           = one.kept;
       right = g.or_else one.right;
     })
-alternative_by_sound room (t ∷ rest) i j o e h =
+or_else_by_sound room (t ∷ rest) i j o e h =
     landed (λ b l. Got i l (λ notes. IsOr i.vars room notes b)) None o i j h (record {
       notes = [];
       took = took_nothing
@@ -225,12 +225,12 @@ pub record GotAsked (room : ℕ) (i j : Input) (r : RefOf) (o : Option Expressio
 
 pub asked_sound : (room : ℕ) (i j : Input) (a : RefOf × Option Expression) → asked room i ≡ Ok (a, j) → GotAsked room
     i j a.0 a.1
-unfolding asked reference alternative
+unfolding asked reference or_else
 asked_sound room i j a h =
     let read = bind_ok (reference i) _ a j h in
     let one = reference_by_sound i.ahead i read.1 read.0 refl read.2 in
-    let more = bind_ok (alternative room read.1) _ a j read.3 in
-    let two = alternative_by_sound room read.1.ahead read.1 more.1 more.0 refl more.2 in
+    let more = bind_ok (or_else room read.1) _ a j read.3 in
+    let two = or_else_by_sound room read.1.ahead read.1 more.1 more.0 refl more.2 in
     landed (λ b l. GotAsked room i l b.0 b.1) (read.0, more.0) a more.1 j more.3
     (record {
       one = one.notes;

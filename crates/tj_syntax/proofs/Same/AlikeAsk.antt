@@ -9,7 +9,7 @@ use Rattle.tj_lex.specs.declared.token.Mark.TheVariants as m
 use Rattle.tj_syntax.specs.Marks.{Name}
 use Rattle.tj_syntax.specs.Inner.Input.{Parser, skip, pure, eat, is_mark, note_fork, ◌>>◌}
 use Rattle.tj_syntax.specs.Inner.Reading.{unary, separated_from, separated, argument_by, argument, reference_by, reference}
-use Rattle.tj_syntax.specs.Inner.Reading.{alternative_by, alternative, forked_by, forked, fork, asked, request_by, request}
+use Rattle.tj_syntax.specs.Inner.Reading.{or_else_by, or_else, forked_by, forked, fork, asked, ask_by, ask}
 use Rattle.tj_syntax.specs.Inner.Reading.{given_by, given, chain, expression_over}
 use Rattle.tj_syntax.proofs.Same.AlikeSteps.{Local, Loose, Strict, Narrow, Needs, read, any, it, bind_local, bind_same}
 use Rattle.tj_syntax.proofs.Same.AlikeSteps.{needs_behind, then_local, mapped_local, bind_narrow, pure_narrow, pure_local}
@@ -84,11 +84,11 @@ reference_local n d = by_first _ _ by
     by (Some (toks.Key k.Me)) = then_local (skip_local n d) (pure_local refl n d)
     by t = refuse_local (suc n) (suc d) n d
 
-alternative_local : (room : ℕ) → Loose any (alternative room) (alternative room)
-unfolding alternative
-alternative_local room n d = by_first _ _ by
+or_else_local : (room : ℕ) → Loose any (or_else room) (or_else room)
+unfolding or_else
+or_else_local room n d = by_first _ _ by
   where
-    by : (t : Option Tok) → Local n d n d any (alternative_by room t) (alternative_by room t)
+    by : (t : Option Tok) → Local n d n d any (or_else_by room t) (or_else_by room t)
     by (Some (toks.Key k.Or)) = then_local (loose skip_local n d) (mapped_local _ _ (loose (expression_local room) n d))
     by t = pure_local refl n d
 
@@ -127,13 +127,13 @@ fork_local room n d =
 asked_local : (room : ℕ) → Strict any (asked room) (asked room)
 unfolding asked
 asked_local room n d = bind_local (reference_local n d)
-    (λ r r' _. bind_local (alternative_local room n d) (λ o o' _. pure_local refl n d))
+    (λ r r' _. bind_local (or_else_local room n d) (λ o o' _. pure_local refl n d))
 
-pub request_local : (room : ℕ) → Strict any (request room) (request room)
-unfolding request
-request_local room n d = by_first _ _ by
+pub ask_local : (room : ℕ) → Strict any (ask room) (ask room)
+unfolding ask
+ask_local room n d = by_first _ _ by
   where
-    by : (t : Option Tok) → Local (suc n) (suc d) n d any (request_by room t) (request_by room t)
+    by : (t : Option Tok) → Local (suc n) (suc d) n d any (ask_by room t) (ask_by room t)
     by (Some (toks.Key k.New)) = then_local (skip_local n d) (pure_local refl n d)
     by (Some (toks.Key k.Fork)) = then_local (skip_local n d) (loose (fork_local room) n d)
     by (Some (toks.Key k.Get)) = then_local (skip_local n d) (mapped_local _ _ (loose (asked_local room) n d))
@@ -146,7 +146,7 @@ given_local room n d = by_first _ _ by
   where
     answer : Local (suc n) (suc d) n d any (given_by room (Some (toks.Key k.New)))
         (given_by room (Some (toks.Key k.New)))
-    answer = mapped_local _ _ (request_local room n d)
+    answer = mapped_local _ _ (ask_local room n d)
 
     result : Local (suc n) (suc d) n d any (given_by room None) (given_by room None)
     result = mapped_local _ _ (expression_local room n d)

@@ -1,4 +1,4 @@
--- What is read as a request or as what a variable is given is one.
+-- What is read as an ask or as what a variable is given is one.
 use Rattle.std.proofs.Common.{◌≡◌, ℕ, suc, ◌+◌, List, [], ◌∷◌, ◌++◌, length, Option, Some, None, Ok, refl, ap, sym}
 use Rattle.std.proofs.Common.{◌∙◌, subst, drop, zero-add}
 use Rattle.tj_lex.specs.declared.token.Tok.{Tok}
@@ -7,17 +7,17 @@ use Rattle.tj_lex.specs.declared.token.Key.TheVariants as k
 use Rattle.tj_lex.specs.declared.token.Mark.TheVariants as m
 use Rattle.tj_syntax.specs.declared.fault.Stop.{Stop}
 use Rattle.tj_syntax.specs.Trees as tree
-use Rattle.tj_syntax.specs.Trees.{Expression, Argument, Request, Given}
+use Rattle.tj_syntax.specs.Trees.{Expression, Argument, Ask, Given}
 use Rattle.tj_syntax.specs.Marks.{Name, Noted, forks, key, mark, number_of}
 use Rattle.tj_syntax.specs.Grammar as g
-use Rattle.tj_syntax.specs.Grammar.{IsExpression, IsArguments, IsReference, IsOr, IsRequest, IsGiven}
+use Rattle.tj_syntax.specs.Grammar.{IsExpression, IsArguments, IsReference, IsOr, IsAsk, IsGiven}
 use Rattle.tj_syntax.specs.Inner.Input.{Head, Input, and_then, first, next, expect, names_of, note_fork, flaw_at, head_named}
 use Rattle.tj_syntax.specs.Inner.Input.{first_flaw}
-use Rattle.tj_syntax.specs.Inner.Reading.{expression, separated, argument, forked_by, forked, fork, asked, request_by}
-use Rattle.tj_syntax.specs.Inner.Reading.{request, given_by, given}
+use Rattle.tj_syntax.specs.Inner.Reading.{expression, separated, argument, forked_by, forked, fork, asked, ask_by}
+use Rattle.tj_syntax.specs.Inner.Reading.{ask, given_by, given}
 use Rattle.tj_syntax.proofs.Taken.{Took, took_both, bind_ok, landed, flaw_after}
 use Rattle.tj_syntax.proofs.Sound.Steps.{took_fine, expected}
-use Rattle.tj_syntax.proofs.Sound.Call.{expressions_sound, arguments_sound, asked_sound}
+use Rattle.tj_syntax.proofs.Sound.AskParts.{expressions_sound, arguments_sound, asked_sound}
 
 -- what is read with forks in it: the variables stay as they are
 pub record Kept (i j : Input) (P : List Noted → Type 0) : Type 0 where
@@ -87,8 +87,8 @@ took_from {i} {j} {notes} p same late = record {
   flaw = flaw_swap i.tasks notes (length j.ahead) i.flaw late (sym same ∙ p.flaw);
 }
 
-fork_sound : (room : ℕ) (i j : Input) (a : Request) → fork room i ≡ Ok (a, j)
-    → Kept i j (λ notes. IsRequest (names_of i.tasks) i.vars room (key k.Fork ∷ notes) a)
+fork_sound : (room : ℕ) (i j : Input) (a : Ask) → fork room i ≡ Ok (a, j)
+    → Kept i j (λ notes. IsAsk (names_of i.tasks) i.vars room (key k.Fork ∷ notes) a)
 unfolding fork forked note_fork
 fork_sound room i j a h =
     let read = bind_ok (forked i) _ a j h in
@@ -117,30 +117,30 @@ fork_sound room i j a h =
     let taken : Took i (record close.1 { flaw = first_flaw i.flaw late }) ((toks.Name f, forks count) ∷ inner) =
     took_both (took_fork i f named.rest count named.ahead (first_flaw i.flaw late) refl) (took_from mid (ap (λ p. p.1)
     kept) late) in
-    landed (λ b l. Kept i l (λ notes. IsRequest (names_of i.tasks) i.vars room (key k.Fork ∷ notes) b))
+    landed (λ b l. Kept i l (λ notes. IsAsk (names_of i.tasks) i.vars room (key k.Fork ∷ notes) b))
     (tree.fork (number_of (names_of close.1.tasks) f) list.0) a
     (record close.1 { flaw = first_flaw close.1.flaw (flaw_at (head_named close.1.tasks f) read.0.1 count) }) j close.3
-    (subst (λ fl. Kept i (record close.1 { flaw = fl }) (λ notes. IsRequest (names_of i.tasks) i.vars room (key k.Fork
+    (subst (λ fl. Kept i (record close.1 { flaw = fl }) (λ notes. IsAsk (names_of i.tasks) i.vars room (key k.Fork
     ∷ notes) (tree.fork (number_of (names_of close.1.tasks) f) list.0)))
     (sym flaw)
     (record {
       notes = (toks.Name f, forks count) ∷ inner;
       took = taken;
       vars = ap (λ p. p.0) kept;
-      right = subst (λ n. IsRequest (names_of i.tasks) i.vars room (key k.Fork ∷ ((toks.Name f, forks count) ∷ inner))
+      right = subst (λ n. IsAsk (names_of i.tasks) i.vars room (key k.Fork ∷ ((toks.Name f, forks count) ∷ inner))
           (tree.fork n list.0))
           (sym (ap (λ ts. number_of (names_of ts) f) mid.tasks))
           (g.fork f (subst (λ v. IsArguments v room args.notes list.0) (ap (λ p. p.0) at_open) args.right));
     }))
 
-request_by_sound : (room : ℕ) (ts : List Tok) (i j : Input) (a : Request) → i.ahead ≡ ts → request_by room (first ts)
+ask_by_sound : (room : ℕ) (ts : List Tok) (i j : Input) (a : Ask) → i.ahead ≡ ts → ask_by room (first ts)
     i ≡ Ok (a, j)
-    → Kept i j (λ notes. IsRequest (names_of i.tasks) i.vars room notes a)
-request_by_sound room [] i j a e h = absurd (cc)
-request_by_sound room (toks.Key k.New ∷ rest) i j a e h =
-    landed (λ b l. Kept i l (λ notes. IsRequest (names_of i.tasks) i.vars room notes b)) tree.new a (next i) j h
+    → Kept i j (λ notes. IsAsk (names_of i.tasks) i.vars room notes a)
+ask_by_sound room [] i j a e h = absurd (cc)
+ask_by_sound room (toks.Key k.New ∷ rest) i j a e h =
+    landed (λ b l. Kept i l (λ notes. IsAsk (names_of i.tasks) i.vars room notes b)) tree.new a (next i) j h
     (record { notes = key k.New ∷ []; took = took_fine i (toks.Key k.New) rest e refl; vars = refl; right = g.new })
-request_by_sound room (toks.Key k.Fork ∷ rest) i j a e h =
+ask_by_sound room (toks.Key k.Fork ∷ rest) i j a e h =
     let got = fork_sound room (next i) j a h in
     record {
       notes = key k.Fork ∷ got.notes;
@@ -148,10 +148,10 @@ request_by_sound room (toks.Key k.Fork ∷ rest) i j a e h =
       vars = got.vars;
       right = got.right;
     }
-request_by_sound room (toks.Key k.Get ∷ rest) i j a e h =
+ask_by_sound room (toks.Key k.Get ∷ rest) i j a e h =
     let read = bind_ok (asked room (next i)) _ a j h in
     let got = asked_sound room (next i) read.1 read.0 read.2 in
-    landed (λ b l. Kept i l (λ notes. IsRequest (names_of i.tasks) i.vars room notes b)) (tree.get read.0.0 read.0.1)
+    landed (λ b l. Kept i l (λ notes. IsAsk (names_of i.tasks) i.vars room notes b)) (tree.get read.0.0 read.0.1)
     a read.1 j read.3
     (record {
       notes = key k.Get ∷ (got.one ++ got.two);
@@ -159,10 +159,10 @@ request_by_sound room (toks.Key k.Get ∷ rest) i j a e h =
       vars = ap (λ p. p.0) got.kept;
       right = g.get got.is_reference got.is_other;
     })
-request_by_sound room (toks.Key k.Join ∷ rest) i j a e h =
+ask_by_sound room (toks.Key k.Join ∷ rest) i j a e h =
     let read = bind_ok (asked room (next i)) _ a j h in
     let got = asked_sound room (next i) read.1 read.0 read.2 in
-    landed (λ b l. Kept i l (λ notes. IsRequest (names_of i.tasks) i.vars room notes b)) (tree.join read.0.0 read.0.1)
+    landed (λ b l. Kept i l (λ notes. IsAsk (names_of i.tasks) i.vars room notes b)) (tree.join read.0.0 read.0.1)
     a read.1 j read.3
     (record {
       notes = key k.Join ∷ (got.one ++ got.two);
@@ -170,19 +170,19 @@ request_by_sound room (toks.Key k.Join ∷ rest) i j a e h =
       vars = ap (λ p. p.0) got.kept;
       right = g.join got.is_reference got.is_other;
     })
-request_by_sound room (t ∷ rest) i j a e h = absurd (cc)
+ask_by_sound room (t ∷ rest) i j a e h = absurd (cc)
 
-pub request_sound : (room : ℕ) (i j : Input) (a : Request) → request room i ≡ Ok (a, j)
-    → Kept i j (λ notes. IsRequest (names_of i.tasks) i.vars room notes a)
-unfolding request
-request_sound room i j a h = request_by_sound room i.ahead i j a refl h
+pub ask_sound : (room : ℕ) (i j : Input) (a : Ask) → ask room i ≡ Ok (a, j)
+    → Kept i j (λ notes. IsAsk (names_of i.tasks) i.vars room notes a)
+unfolding ask
+ask_sound room i j a h = ask_by_sound room i.ahead i j a refl h
 
-answer_sound : (room : ℕ) (i j : Input) (a : Given) → and_then (request room i) (λ x l. Ok (tree.answer x, l)) ≡ Ok
+answer_sound : (room : ℕ) (i j : Input) (a : Given) → and_then (ask room i) (λ x l. Ok (tree.answer x, l)) ≡ Ok
     (a, j)
     → Kept i j (λ notes. IsGiven (names_of i.tasks) i.vars room notes a)
 answer_sound room i j a h =
-    let read = bind_ok (request room i) _ a j h in
-    let got = request_sound room i read.1 read.0 read.2 in
+    let read = bind_ok (ask room i) _ a j h in
+    let got = ask_sound room i read.1 read.0 read.2 in
     landed (λ b l. Kept i l (λ notes. IsGiven (names_of i.tasks) i.vars room notes b)) (tree.answer read.0) a read.1 j
     read.3
     (record { notes = got.notes; took = got.took; vars = got.vars; right = g.answer got.right })

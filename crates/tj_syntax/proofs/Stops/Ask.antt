@@ -11,19 +11,19 @@ use Rattle.tj_syntax.specs.declared.fault.Stop.TheVariants as stop
 use Rattle.tj_syntax.specs.declared.expr.RefOf.{RefOf}
 use Rattle.tj_syntax.specs.declared.expr.RefOf.TheVariants as ref
 use Rattle.tj_syntax.specs.Trees as tree
-use Rattle.tj_syntax.specs.Trees.{Expression, Argument, Request, Given}
+use Rattle.tj_syntax.specs.Trees.{Expression, Argument, Ask, Given}
 use Rattle.tj_syntax.specs.Marks.{Name, Noted, forks, key, mark, number_of, use_of}
 use Rattle.tj_syntax.specs.Grammar as g
 use Rattle.tj_syntax.specs.Grammar.{IsExpression, IsArgument, IsMoreArguments, IsArguments, IsReference, IsOr}
-use Rattle.tj_syntax.specs.Grammar.{IsRequest, IsGiven}
+use Rattle.tj_syntax.specs.Grammar.{IsAsk, IsGiven}
 use Rattle.tj_syntax.specs.Inner.Input.{Input, Outcome, and_then, first, next, refuse, sees, expect, eat, known, variable}
 use Rattle.tj_syntax.specs.Inner.Input.{names_of, note_fork}
 use Rattle.tj_syntax.specs.Inner.Reading.{expression, separated_from, separated, argument_by, argument, reference_by}
-use Rattle.tj_syntax.specs.Inner.Reading.{reference, alternative_by, alternative, forked_by, forked, fork, asked, request_by}
-use Rattle.tj_syntax.specs.Inner.Reading.{request, given_by, given}
+use Rattle.tj_syntax.specs.Inner.Reading.{reference, or_else_by, or_else, forked_by, forked, fork, asked, ask_by}
+use Rattle.tj_syntax.specs.Inner.Reading.{ask, given_by, given}
 use Rattle.tj_syntax.proofs.Sound.Steps.{took_fine, expected, ate}
-use Rattle.tj_syntax.proofs.Sound.Call.{argument_sound, arguments_sound, reference_by_sound}
-use Rattle.tj_syntax.proofs.Sound.Request.{GotFork, forked_by_sound}
+use Rattle.tj_syntax.proofs.Sound.AskParts.{argument_sound, arguments_sound, reference_by_sound}
+use Rattle.tj_syntax.proofs.Sound.Ask.{GotFork, forked_by_sound}
 use Rattle.tj_syntax.proofs.Stops.Steps.{Halts, Part, Halting, Past, past, past_nothing, past_both, split, if_err}
 use Rattle.tj_syntax.proofs.Stops.Steps.{beyond, at_last, refused, refused_behind, err_inj, expect_stops, eat_reads}
 use Rattle.tj_syntax.proofs.Stops.Steps.{known_halts, variable_halts}
@@ -54,8 +54,8 @@ AReference tasks vars notes = (r : RefOf) × IsReference vars notes r
 abbrev AnOr : ℕ → Part
 AnOr room tasks vars notes = (o : Option Expression) × IsOr vars room notes o
 
-abbrev pub ARequest : ℕ → Part
-ARequest room tasks vars notes = (r : Request) × IsRequest tasks vars room notes r
+abbrev pub AnAsk : ℕ → Part
+AnAsk room tasks vars notes = (r : Ask) × IsAsk tasks vars room notes r
 
 abbrev pub AGiven : ℕ → Part
 AGiven room tasks vars notes = (r : Given) × IsGiven tasks vars room notes r
@@ -172,15 +172,15 @@ reference_by_halts ts i s e h = other i s h
     other : Halting {A = RefOf} AReference refuse
     other = refuse_halts AReference (λ tasks vars. (just_me, (ref.Me, g.reference_me)))
 
-alternative_by_halts : (room : ℕ) (ts : List Tok) (i : Input) (s : Stop) → i.ahead ≡ ts
-    → alternative_by room (first ts) i ≡ Err s
+or_else_by_halts : (room : ℕ) (ts : List Tok) (i : Input) (s : Stop) → i.ahead ≡ ts
+    → or_else_by room (first ts) i ≡ Err s
     → Halts i s (AnOr room (names_of i.tasks) i.vars)
-alternative_by_halts room (toks.Key k.Or ∷ rest) i s e h =
+or_else_by_halts room (toks.Key k.Or ∷ rest) i s e h =
     split (expression room (next i)) _ s h
     (λ e'. at_last (AnExpression room) (past (took_fine i (toks.Key k.Or) rest e refl)) refl
     (expressions_halt room (next i) s e') (λ notes p. (Some p.0, g.or_else p.1)))
     (λ x j r e'. absurd (cc))
-alternative_by_halts room ts i s e h = absurd (cc)
+or_else_by_halts room ts i s e h = absurd (cc)
 
 -- a reference, and what is computed where the cell is broken
 record TwoParts (room : ℕ) (vars : List Name) (notes : List Noted) : Type 0 where
@@ -196,7 +196,7 @@ abbrev Asked : ℕ → Part
 Asked room tasks vars notes = TwoParts room vars notes
 
 asked_halts : (room : ℕ) → Halting (Asked room) (asked room)
-unfolding asked reference alternative
+unfolding asked reference or_else
 asked_halts room i s h =
     split (reference i) _ s h
     (λ e. at_last AReference (past_nothing i) refl (reference_by_halts i.ahead i s refl e)
@@ -212,8 +212,8 @@ asked_halts room i s h =
     }))
     (λ r j found e.
     let one = reference_by_sound i.ahead i j r refl found in
-    split (alternative room j) _ s e
-    (λ e'. at_last (AnOr room) (past one.took) (ap (λ p. p.0) one.kept) (alternative_by_halts room j.ahead j s refl e')
+    split (or_else room j) _ s e
+    (λ e'. at_last (AnOr room) (past one.took) (ap (λ p. p.0) one.kept) (or_else_by_halts room j.ahead j s refl e')
     (λ notes p. record {
       one = one.notes;
       two = notes;
@@ -229,7 +229,7 @@ asked_halts room i s h =
 
 -- what stands behind the keyword of a fork
 abbrev BehindFork : ℕ → Part
-BehindFork room tasks vars notes = (r : Request) × IsRequest tasks vars room (key k.Fork ∷ notes) r
+BehindFork room tasks vars notes = (r : Ask) × IsAsk tasks vars room (key k.Fork ∷ notes) r
 
 some_fork : (room : ℕ) (tasks vars : List Name) (f : Name)
     → BehindFork room tasks vars ((toks.Name f, forks 0) ∷ mark m.ParenOpen ∷ mark m.ParenClose ∷ [])
@@ -283,47 +283,47 @@ fork_halts room i s h =
     (_, g.fork f.0 (subst (λ v. IsArguments v room got.notes args) same got.right)))
     (λ v o r₃ e₃. absurd (cc)))))
 
-request_by_halts : (room : ℕ) (ts : List Tok) (i : Input) (s : Stop) → i.ahead ≡ ts
-    → request_by room (first ts) i ≡ Err s
-    → Halts i s (ARequest room (names_of i.tasks) i.vars)
-request_by_halts room (toks.Key k.New ∷ rest) i s e h = absurd (cc)
-request_by_halts room (toks.Key k.Fork ∷ rest) i s e h =
+ask_by_halts : (room : ℕ) (ts : List Tok) (i : Input) (s : Stop) → i.ahead ≡ ts
+    → ask_by room (first ts) i ≡ Err s
+    → Halts i s (AnAsk room (names_of i.tasks) i.vars)
+ask_by_halts room (toks.Key k.New ∷ rest) i s e h = absurd (cc)
+ask_by_halts room (toks.Key k.Fork ∷ rest) i s e h =
     at_last (BehindFork room) (past (took_fine i (toks.Key k.Fork) rest e refl)) refl (fork_halts room (next i) s h)
     (λ notes p. p)
-request_by_halts room (toks.Key k.Get ∷ rest) i s e h =
+ask_by_halts room (toks.Key k.Get ∷ rest) i s e h =
     split (asked room (next i)) _ s h
     (λ e'. at_last (Asked room) (past (took_fine i (toks.Key k.Get) rest e refl)) refl (asked_halts room (next i) s e')
     (λ notes p. (
       tree.get p.r p.other,
       subst
-          (λ ns. IsRequest (names_of i.tasks) i.vars room (key k.Get ∷ ns) (tree.get p.r p.other)) (sym p.is)
+          (λ ns. IsAsk (names_of i.tasks) i.vars room (key k.Get ∷ ns) (tree.get p.r p.other)) (sym p.is)
           (g.get p.is_reference p.is_other),
     )))
     (λ a j r e'. absurd (cc))
-request_by_halts room (toks.Key k.Join ∷ rest) i s e h =
+ask_by_halts room (toks.Key k.Join ∷ rest) i s e h =
     split (asked room (next i)) _ s h
     (λ e'. at_last (Asked room) (past (took_fine i (toks.Key k.Join) rest e refl)) refl (asked_halts room (next i) s e')
     (λ notes p. (
       tree.join p.r p.other,
       subst
-          (λ ns. IsRequest (names_of i.tasks) i.vars room (key k.Join ∷ ns) (tree.join p.r p.other)) (sym p.is)
+          (λ ns. IsAsk (names_of i.tasks) i.vars room (key k.Join ∷ ns) (tree.join p.r p.other)) (sym p.is)
           (g.join p.is_reference p.is_other),
     )))
     (λ a j r e'. absurd (cc))
-request_by_halts room ts i s e h = other i s h
+ask_by_halts room ts i s e h = other i s h
   where
-    other : Halting {A = Request} (ARequest room) refuse
-    other = refuse_halts (ARequest room) (λ tasks vars. (key k.New ∷ [], (tree.new, g.new)))
+    other : Halting {A = Ask} (AnAsk room) refuse
+    other = refuse_halts (AnAsk room) (λ tasks vars. (key k.New ∷ [], (tree.new, g.new)))
 
-pub request_halts : (room : ℕ) → Halting (ARequest room) (request room)
-unfolding request
-request_halts room i s h = request_by_halts room i.ahead i s refl h
+pub ask_halts : (room : ℕ) → Halting (AnAsk room) (ask room)
+unfolding ask
+ask_halts room i s h = ask_by_halts room i.ahead i s refl h
 
-answer_halts : (room : ℕ) (i : Input) (s : Stop) → and_then (request room i) (λ x l. Ok (tree.answer x, l)) ≡ Err s
+answer_halts : (room : ℕ) (i : Input) (s : Stop) → and_then (ask room i) (λ x l. Ok (tree.answer x, l)) ≡ Err s
     → Halts i s (AGiven room (names_of i.tasks) i.vars)
 answer_halts room i s h =
-    split (request room i) _ s h
-    (λ e. at_last (ARequest room) (past_nothing i) refl (request_halts room i s e)
+    split (ask room i) _ s h
+    (λ e. at_last (AnAsk room) (past_nothing i) refl (ask_halts room i s e)
     (λ notes p. (tree.answer p.0, g.answer p.1)))
     (λ x j r e. absurd (cc))
 
