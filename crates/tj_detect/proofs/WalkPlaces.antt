@@ -4,14 +4,14 @@ use Rattle.std.proofs.Common.{false, nat_le}
 use Rattle.std.proofs.lemmas.Bool.Decides.{leb_tells}
 use Rattle.tj_tree.specs.declared.node.Node.{Node}
 use Rattle.tj_tree.specs.declared.node.NodeId.{NodeId}
-use Rattle.tj_tree.specs.declared.node.Place.{Place}
+use Rattle.tj_tree.specs.declared.node.TaskNode.{TaskNode}
 use Rattle.tj_tree.specs.Forks.{name_of}
 use Rattle.tj_tree.specs.Nodes.{InEachTree}
 use Rattle.tj_tree.specs.Walk.{GoesOn}
 use Rattle.tj_tree.specs.Inner.Moves.{IsKnown, IsAtOrAbove, move_from}
 
 -- where a move up leads may be looked at
-pub move_may : (shown : ℕ → Node → Type 0) (may : ℕ → Type 0) (p : Place) → IsKnown shown may p → (b : Bool)
+pub move_may : (shown : ℕ → Node → Type 0) (may : ℕ → Type 0) (p : TaskNode) → IsKnown shown may p → (b : Bool)
     (n : NodeId)
     → n ≡ move_from p.node b → may n.0
 move_may shown may p k true n e = subst (λ (t : NodeId). may t.0) (sym e) k.jump
@@ -21,7 +21,7 @@ pub not_le : (a b : ℕ) → b < a → nat_le a b ≡ false
 not_le a b l = ⊎_elim (λ p. absurd (let q = p.1 in omega arith)) (λ p. p.0) (leb_tells a b)
 
 -- a task is at or above itself
-pub above_itself : (shown : ℕ → Node → Type 0) (p : Place) → shown p.task.0 p.node
+pub above_itself : (shown : ℕ → Node → Type 0) (p : TaskNode) → shown p.task.0 p.node
     → InEachTree shown (λ forks. IsAtOrAbove forks p.task.0 p.task.0)
 above_itself shown p here forks h has = record {
   there = (has p.task.0 p.node here).0;

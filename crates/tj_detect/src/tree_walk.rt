@@ -11,7 +11,7 @@ ghost use Rattle.tj_words.specs.TreeReads.{IsLater, MayLook, TreeShown};
 use std::sync::ledger::Ledger;
 use tj_base::{CellId, Steps};
 use tj_body::Body;
-use tj_tree::{NodeId, Place};
+use tj_tree::{NodeId, TaskNode};
 use tj_words::{Laid, WSeat};
 
 /// Whether task `a` is before task `b` in the fork order.
@@ -51,9 +51,9 @@ fn visit<B: Body, L: Ledger>(
     seat: &mut WSeat<B>,
     task: NodeId,
     steps: &mut Steps<L>,
-) -> Place
+) -> TaskNode
     requires { MayLook laid.now seat.old task.0 }
-    ensures place { result.task ≡ task }
+    ensures task { result.task ≡ task }
     ensures known { IsKnown (TreeShown seat.new) (MayLook laid.now seat.new) result }
     ensures step { steps.new ≡ steps.old + 1 }
     ensures loads { seat.new.me.0.once_loads ≡ seat.old.me.0.once_loads + 4 }
@@ -63,17 +63,17 @@ fn visit<B: Body, L: Ledger>(
 {
     let node = laid.see_node(seat, CellId(task.0));
     steps.tick();
-    Place { task, node }
+    TaskNode { task, node }
 }
 
 // The task at this depth that is the given one or above it.
 fn lifted<B: Body, L: Ledger>(
     laid: &Laid<B>,
     seat: &mut WSeat<B>,
-    from: Place,
+    from: TaskNode,
     depth: u32,
     steps: &mut Steps<L>,
-) -> Place
+) -> TaskNode
     requires tree { ArePartOfTree (TreeShown seat.old) }
     requires known { IsKnown (TreeShown seat.old) (MayLook laid.now seat.old) from }
     requires deep { depth ≤ from.node.depth }
@@ -101,10 +101,10 @@ fn lifted<B: Body, L: Ledger>(
 fn higher<B: Body, L: Ledger>(
     laid: &Laid<B>,
     seat: &mut WSeat<B>,
-    at: Place,
+    at: TaskNode,
     depth: u32,
     steps: &mut Steps<L>,
-) -> Place
+) -> TaskNode
     requires tree { ArePartOfTree (TreeShown seat.old) }
     requires known { IsKnown (TreeShown seat.old) (MayLook laid.now seat.old) at }
     ensures moved { InEachTree (TreeShown seat.new) (λ forks.
@@ -129,10 +129,10 @@ fn higher<B: Body, L: Ledger>(
 fn parted<B: Body, L: Ledger>(
     laid: &Laid<B>,
     seat: &mut WSeat<B>,
-    a: Place,
-    b: Place,
+    a: TaskNode,
+    b: TaskNode,
     steps: &mut Steps<L>,
-) -> (Place, Place)
+) -> (TaskNode, TaskNode)
     requires tree { ArePartOfTree (TreeShown seat.old) }
     requires a_known { IsKnown (TreeShown seat.old) (MayLook laid.now seat.old) a }
     requires b_known { IsKnown (TreeShown seat.old) (MayLook laid.now seat.old) b }

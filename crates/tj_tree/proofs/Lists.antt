@@ -88,35 +88,35 @@ has_at [] i n h = absurd (cc)
 has_at (x ∷ xs) zero n h = grind (arith, nat_tests)
 has_at (x ∷ xs) (suc i) n h = let rest = has_at xs i n h in grind (arith, rest)
 
-place_at : (x n : ℕ) (xs : List ℕ) (b : Bool) → eqb x n ≡ b
+index_at : (x n : ℕ) (xs : List ℕ) (b : Bool) → eqb x n ≡ b
     → ((has xs n ≡ true) → (i : ℕ) × (slice_get xs i ≡ Some n)) → (b || has xs n) ≡ true
     → (i : ℕ) × (slice_get (x ∷ xs) i ≡ Some n)
-place_at x n xs true e rest h = (0, ap Some (grind (arith, nat_tests)))
-place_at x n xs false e rest h = let found = rest h in (suc found.0, found.1)
+index_at x n xs true e rest h = (0, ap Some (grind (arith, nat_tests)))
+index_at x n xs false e rest h = let found = rest h in (suc found.0, found.1)
 
-pub place_from_has : (xs : List ℕ) (n : ℕ) → has xs n ≡ true → (i : ℕ) × (slice_get xs i ≡ Some n)
-place_from_has [] n h = absurd (cc)
-place_from_has (x ∷ xs) n h = place_at x n xs (eqb x n) refl (place_from_has xs n) h
+pub index_from_has : (xs : List ℕ) (n : ℕ) → has xs n ≡ true → (i : ℕ) × (slice_get xs i ≡ Some n)
+index_from_has [] n h = absurd (cc)
+index_from_has (x ∷ xs) n h = index_at x n xs (eqb x n) refl (index_from_has xs n) h
 
 IsEarlier-behind : (x a b : ℕ) (xs : List ℕ) → IsEarlier xs a b → IsEarlier (x ∷ xs) a b
 IsEarlier-behind x a b xs h =
     record {
-      place = suc h.place;
+      index = suc h.index;
       further = suc h.further;
       before = omega (arith, h.before);
-      at_place = h.at_place;
+      at_index = h.at_index;
       at_further = h.at_further;
     }
 
 IsEarlier-at : (x a b : ℕ) (xs : List ℕ) (t : Bool) → eqb x a ≡ t → ((earlier xs a b ≡ true) → IsEarlier xs a b)
     → cond t (has xs b) (earlier xs a b) ≡ true → IsEarlier (x ∷ xs) a b
 IsEarlier-at x a b xs true e rest h =
-    let found = place_from_has xs b h in
+    let found = index_from_has xs b h in
     record {
-      place = 0;
+      index = 0;
       further = suc found.0;
       before = omega arith;
-      at_place = ap Some (grind (arith, nat_tests));
+      at_index = ap Some (grind (arith, nat_tests));
       at_further = found.1;
     }
 IsEarlier-at x a b xs false e rest h = IsEarlier-behind x a b xs (rest h)
@@ -125,18 +125,18 @@ pub IsEarlier-from_earlier : (xs : List ℕ) (a b : ℕ) → earlier xs a b ≡ 
 IsEarlier-from_earlier [] a b h = absurd (cc)
 IsEarlier-from_earlier (x ∷ xs) a b h = IsEarlier-at x a b xs (eqb x a) refl (IsEarlier-from_earlier xs a b) h
 
-earlier_places : (xs : List ℕ) (a b i j : ℕ) → i < j → slice_get xs i ≡ Some a → slice_get xs j ≡ Some b
+earlier_indexes : (xs : List ℕ) (a b i j : ℕ) → i < j → slice_get xs i ≡ Some a → slice_get xs j ≡ Some b
     → earlier xs a b ≡ true
-earlier_places [] a b i j l p q = absurd (cc)
-earlier_places (x ∷ xs) a b i zero l p q = absurd (omega arith)
-earlier_places (x ∷ xs) a b zero (suc j) l p q = let found = has_at xs j b q in grind (arith, nat_tests, found)
-earlier_places (x ∷ xs) a b (suc i) (suc j) l p q =
+earlier_indexes [] a b i j l p q = absurd (cc)
+earlier_indexes (x ∷ xs) a b i zero l p q = absurd (omega arith)
+earlier_indexes (x ∷ xs) a b zero (suc j) l p q = let found = has_at xs j b q in grind (arith, nat_tests, found)
+earlier_indexes (x ∷ xs) a b (suc i) (suc j) l p q =
     let found = has_at xs j b q in
-    let rest = earlier_places xs a b i j (omega arith) p q in
+    let rest = earlier_indexes xs a b i j (omega arith) p q in
     grind (arith, nat_tests, found, rest)
 
 pub earlier_from_IsEarlier : (xs : List ℕ) (a b : ℕ) → IsEarlier xs a b → earlier xs a b ≡ true
-earlier_from_IsEarlier xs a b h = earlier_places xs a b h.place h.further h.before h.at_place h.at_further
+earlier_from_IsEarlier xs a b h = earlier_indexes xs a b h.index h.further h.before h.at_index h.at_further
 
 pub length-insert_after : (b c : ℕ) (xs : List ℕ) → has xs b ≡ true → length (insert_after b c xs) ≡ length xs + 1
 length-insert_after b c [] h = absurd (cc)
@@ -157,7 +157,7 @@ read_from_get (x ∷ xs) (suc i) n d h = let rest = read_from_get xs i n d h in 
 
 pub Contains-from_has : (xs : List ℕ) (n : ℕ) → has xs n ≡ true → Contains xs n
 Contains-from_has xs n h =
-    let found = place_from_has xs n h in
+    let found = index_from_has xs n h in
     let read = read_from_get xs found.0 n n found.1 in
     (found.0, read.0, read.1)
 

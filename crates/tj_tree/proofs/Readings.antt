@@ -1,7 +1,7 @@
 -- What a reader's looks tell of each tree that has the nodes shown.
 use Rattle.std.proofs.Common.{◌≡◌, ◌≢◌, ℕ, ◌-◌, ◌<◌, ◌≤◌, min, Bool, true, not, eqb, nat_le, nat_lt, sym, subst}
 use Rattle.tj_tree.specs.declared.node.Node.{Node}
-use Rattle.tj_tree.specs.declared.node.Place.{Place}
+use Rattle.tj_tree.specs.declared.node.TaskNode.{TaskNode}
 use Rattle.std.specs.Prelude.{◌↔◌}
 use Rattle.tj_tree.specs.Forks.{Forks, IsEarlier, order_of}
 use Rattle.tj_tree.specs.Nodes.{node_of, InEachTree}
@@ -19,12 +19,12 @@ GoesOn_trans s m s' m' s'' m'' p q = record {
   tree = λ h. q.tree (p.tree h);
 }
 
-pub IsKnown_on : (s : ℕ → Node → Type 0) (m : ℕ → Type 0) (s' : ℕ → Node → Type 0) (m' : ℕ → Type 0) (place : Place)
-    → GoesOn s m s' m' → IsKnown s m place → IsKnown s' m' place
-IsKnown_on s m s' m' place p h = record {
-  here = p.kept place.task.0 place.node h.here;
-  parent = p.still_may place.node.parent.0 h.parent;
-  jump = p.still_may place.node.jump.0 h.jump;
+pub IsKnown_on : (s : ℕ → Node → Type 0) (m : ℕ → Type 0) (s' : ℕ → Node → Type 0) (m' : ℕ → Type 0) (at : TaskNode)
+    → GoesOn s m s' m' → IsKnown s m at → IsKnown s' m' at
+IsKnown_on s m s' m' at p h = record {
+  here = p.kept at.task.0 at.node h.here;
+  parent = p.still_may at.node.parent.0 h.parent;
+  jump = p.still_may at.node.jump.0 h.jump;
 }
 
 -- a tree that has what is shown now has what was shown before
@@ -32,14 +32,14 @@ pub InEachTree_on : (s : ℕ → Node → Type 0) (m : ℕ → Type 0) (s' : ℕ
     (P : Forks → Type 0) → GoesOn s m s' m' → InEachTree s P → InEachTree s' P
 InEachTree_on s m s' m' P p each = λ forks h has. each forks h (λ n node k. has n node (p.kept n node k))
 
--- a move from a place to another that leads no higher than the floor
-pub record Raises (fs : Forks) (floor : ℕ) (at to : Place) : Type 0 where
+-- a move from a task to another that leads no higher than the floor
+pub record Raises (fs : Forks) (floor : ℕ) (at to : TaskNode) : Type 0 where
   pub above : IsAtOrAbove fs to.task.0 at.task.0
   pub within : floor ≤ to.node.depth
   pub shallower : to.node.depth < at.node.depth
   pub saves : moves (ranks to.node.depth) (to.node.depth - floor) < moves (ranks at.node.depth) (at.node.depth - floor)
 
-Raises-moves : (fs : Forks) (floor : ℕ) (at to : Place) → node_of fs at.task.0 ≡ at.node
+Raises-moves : (fs : Forks) (floor : ℕ) (at to : TaskNode) → node_of fs at.task.0 ≡ at.node
     → node_of fs to.task.0 ≡ to.node → MovesUp fs floor at.task.0 to.task.0 → Raises fs floor at to
 Raises-moves fs floor at to here there move = record {
   above = move.above;
@@ -48,7 +48,7 @@ Raises-moves fs floor at to here there move = record {
   saves = rw (here, there) at move.saves;
 }
 
-module _ (s : ℕ → Node → Type 0) (m : ℕ → Type 0) (at to : Place) (floor : ℕ) (here : s at.task.0 at.node)
+module _ (s : ℕ → Node → Type 0) (m : ℕ → Type 0) (at to : TaskNode) (floor : ℕ) (here : s at.task.0 at.node)
     (there : s to.task.0 to.node) (deep : floor < at.node.depth) where
   pub Raises-higher : InEachTree s (λ fs. to.task ≡ move_from at.node
       (nat_le floor (node_of fs at.node.jump.0).depth)) → InEachTree s (λ fs. Raises fs floor at to)
@@ -60,14 +60,14 @@ module _ (s : ℕ → Node → Type 0) (m : ℕ → Type 0) (at to : Place) (flo
       (nat_le floor (node_of fs (node_of fs at.task.0).jump.0).depth) = rw is.1 (moved fs h has) in
       Raises-moves fs floor at to is.1 goal.1 (subst (λ task. MovesUp fs floor at.task.0 task.0) (sym led) move)
 
--- a move of two places together
-pub record RaisesBoth (fs : Forks) (floor : ℕ) (x y x' y' : Place) : Type 0 where
+-- a move of two tasks together
+pub record RaisesBoth (fs : Forks) (floor : ℕ) (x y x' y' : TaskNode) : Type 0 where
   pub first : Raises fs floor x x'
   pub second : Raises fs floor y y'
   pub level : x'.node.depth ≡ y'.node.depth
   pub apart : x'.task.0 ≢ y'.task.0
 
-module _ (s : ℕ → Node → Type 0) (x y x' y' : Place) (a b : ℕ) (first : s x.task.0 x.node)
+module _ (s : ℕ → Node → Type 0) (x y x' y' : TaskNode) (a b : ℕ) (first : s x.task.0 x.node)
     (second : s y.task.0 y.node) (first' : s x'.task.0 x'.node) (second' : s y'.task.0 y'.node)
     (level : x.node.depth ≡ y.node.depth) (apart : x.task.0 ≢ y.task.0) (parents : x.node.parent.0 ≢ y.node.parent.0)
     (led : x'.task ≡ move_from x.node (not (eqb x.node.jump.0 y.node.jump.0)))
@@ -94,15 +94,15 @@ module _ (s : ℕ → Node → Type 0) (x y x' y' : Place) (a b : ℕ) (first : 
         apart = both.apart;
       }
 
-module _ (s : ℕ → Node → Type 0) (a b x y : Place) (m n : ℕ) (place_a : a.task.0 ≡ m) (place_b : b.task.0 ≡ n)
+module _ (s : ℕ → Node → Type 0) (a b x y : TaskNode) (m n : ℕ) (task_a : a.task.0 ≡ m) (task_b : b.task.0 ≡ n)
     (here_a : s a.task.0 a.node) (here_b : s b.task.0 b.node) (here_x : s x.task.0 x.node)
     (here_y : s y.task.0 y.node) (above_a : InEachTree s (λ fs. IsAtOrAbove fs x.task.0 a.task.0))
     (above_b : InEachTree s (λ fs. IsAtOrAbove fs y.task.0 b.task.0)) where
   at_tasks : (fs : Forks) (r : Bool) → (r ≡ true) ↔ IsEarlier (order_of fs) a.task.0 b.task.0
       → (r ≡ true) ↔ IsEarlier (order_of fs) m n
   at_tasks fs r h =
-      subst (λ k. (r ≡ true) ↔ IsEarlier (order_of fs) k n) place_a
-      (subst (λ k. (r ≡ true) ↔ IsEarlier (order_of fs) a.task.0 k) place_b h)
+      subst (λ k. (r ≡ true) ↔ IsEarlier (order_of fs) k n) task_a
+      (subst (λ k. (r ≡ true) ↔ IsEarlier (order_of fs) a.task.0 k) task_b h)
 
   -- where a walk from both has come to one task, the less deep one is before
   pub order-same : x.task.0 ≡ y.task.0 → x.node.depth ≡ min a.node.depth b.node.depth

@@ -29,10 +29,10 @@ pub record IsNumbering (order : List ℕ) : Type 0 where
 
 -- a stands in the list before b
 pub record IsEarlier (order : List ℕ) (a b : ℕ) : Type 0 where
-  pub place : ℕ
+  pub index : ℕ
   pub further : ℕ
-  pub before : place < further
-  pub at_place : slice_get order place ≡ Some a
+  pub before : index < further
+  pub at_index : slice_get order index ≡ Some a
   pub at_further : slice_get order further ≡ Some b
 
 -- the task is there: the root, or the child of a fork

@@ -9,7 +9,7 @@ ghost use Rattle.tj_tree.specs.Nodes.{node_of, ArePartOfTree, InEachTree};
 ghost use Rattle.tj_tree.specs.Walk.{GoesOn};
 ghost use Rattle.tj_tree.specs.Inner.Moves.{IsKnown, IsAtOrAbove, move_from};
 
-use crate::node::{NodeId, Place};
+use crate::node::{NodeId, TaskNode};
 use crate::reader::NodeReader;
 use std::sync::ledger::Ledger;
 use tj_base::Steps;
@@ -49,9 +49,9 @@ pub fn before_in<R: NodeReader, L: Ledger>(
     y.node.kid < x.node.kid
 }
 
-fn visit<R: NodeReader, L: Ledger>(reader: &mut R, task: NodeId, steps: &mut Steps<L>) -> Place
+fn visit<R: NodeReader, L: Ledger>(reader: &mut R, task: NodeId, steps: &mut Steps<L>) -> TaskNode
     requires { R.may_look reader.old task.0 }
-    ensures place { result.task ≡ task }
+    ensures task { result.task ≡ task }
     ensures known { IsKnown (R.shows reader.new) (R.may_look reader.new) result }
     ensures step { steps.new ≡ steps.old + 1 }
     ensures look { R.looks reader.new ≡ R.looks reader.old + 1 }
@@ -61,16 +61,16 @@ fn visit<R: NodeReader, L: Ledger>(reader: &mut R, task: NodeId, steps: &mut Ste
 {
     let node = reader.look(task);
     steps.tick();
-    Place { task, node }
+    TaskNode { task, node }
 }
 
 // The task at this depth that is the given one or above it.
 fn lifted<R: NodeReader, L: Ledger>(
     reader: &mut R,
-    from: Place,
+    from: TaskNode,
     depth: u32,
     steps: &mut Steps<L>,
-) -> Place
+) -> TaskNode
     requires tree { ArePartOfTree (R.shows reader.old) }
     requires known { IsKnown (R.shows reader.old) (R.may_look reader.old) from }
     requires deep { depth ≤ from.node.depth }
@@ -96,10 +96,10 @@ fn lifted<R: NodeReader, L: Ledger>(
 // The jump of a task, or its parent where the jump leads above the depth.
 fn higher<R: NodeReader, L: Ledger>(
     reader: &mut R,
-    at: Place,
+    at: TaskNode,
     depth: u32,
     steps: &mut Steps<L>,
-) -> Place
+) -> TaskNode
     requires tree { ArePartOfTree (R.shows reader.old) }
     requires known { IsKnown (R.shows reader.old) (R.may_look reader.old) at }
     ensures moved { InEachTree (R.shows reader.new) (λ forks.
@@ -122,10 +122,10 @@ fn higher<R: NodeReader, L: Ledger>(
 // The tasks that are these two or above them, and are children of one task.
 fn parted<R: NodeReader, L: Ledger>(
     reader: &mut R,
-    a: Place,
-    b: Place,
+    a: TaskNode,
+    b: TaskNode,
     steps: &mut Steps<L>,
-) -> (Place, Place)
+) -> (TaskNode, TaskNode)
     requires tree { ArePartOfTree (R.shows reader.old) }
     requires a_known { IsKnown (R.shows reader.old) (R.may_look reader.old) a }
     requires b_known { IsKnown (R.shows reader.old) (R.may_look reader.old) b }

@@ -17,6 +17,6 @@ pub use laws::{
     order_is_that_of_names, order_is_total, order_is_transitive,
 };
 pub use list::OrderList;
-pub use node::{Node, NodeId, Place};
+pub use node::{Node, NodeId, TaskNode};
 pub use reader::NodeReader;
 pub use tree::ForkTree;

@@ -43,8 +43,8 @@ impl OrderList {
         ensures err { OnErr result (self.new ≡ self.old) }
     {
         let child = self.tasks.len() as u32;
-        let place = place_behind(self.tasks.as_slice(), parent.0);
-        self.tasks.insert(place, child)?;
+        let index = index_behind(self.tasks.as_slice(), parent.0);
+        self.tasks.insert(index, child)?;
         Ok(NodeId(child))
     }
 
@@ -64,14 +64,14 @@ impl OrderList {
 }
 
 // Where a child of the task goes.
-fn place_behind(tasks: &[u32], task: u32) -> usize
+fn index_behind(tasks: &[u32], task: u32) -> usize
     requires { Contains tasks.now task }
     ensures within { result ≤ length tasks.now }
     ensures directly { (c : ℕ) → insert tasks.now result c ≡ insert_after task c tasks.now }
 {
-    for (place, other) in tasks.iter().enumerate() {
+    for (index, other) in tasks.iter().enumerate() {
         if *other == task {
-            return place + 1;
+            return index + 1;
         }
     }
     tasks.len()

@@ -21,12 +21,12 @@ pub struct Node {
 
 /// A task with its node.
 #[derive(Clone, Copy)]
-pub struct Place {
+pub struct TaskNode {
     pub task: NodeId,
     pub node: Node,
 }
 
-impl Place {
+impl TaskNode {
     /// Where a move leads: by the jump, or to the parent.
     pub fn move_up(&self, by_jump: bool) -> NodeId
         ensures { result ≡ move_from self.now.node by_jump }

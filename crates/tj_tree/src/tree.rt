@@ -177,11 +177,11 @@ fn add_child(entries: &mut Vec<Entry>, parent: NodeId) -> Result<(), Oom>
         AreEntriesOf (next_fork forks parent.0 ∷ forks) entries.new.items) }
     ensures err { OnErr result (entries.new.items ≡ entries.old.items) }
 {
-    let place = parent.0 as usize;
-    let kids = entries[place].kids + 1;
+    let index = parent.0 as usize;
+    let kids = entries[index].kids + 1;
     let node = child_of(entries.as_slice(), parent);
     entries.push(Entry { node, kids: 0 })?;
-    entries[place].kids = kids;
+    entries[index].kids = kids;
     Ok(())
 }
 

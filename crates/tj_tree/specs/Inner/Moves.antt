@@ -3,14 +3,14 @@ use Rattle.std.specs.Prelude.{ℕ, ◌≡◌, ◌++◌, Bool, if◌then◌else�
 use Rattle.tj_base.specs.ForkOrder.{Name}
 use Rattle.tj_tree.specs.declared.node.Node.{Node}
 use Rattle.tj_tree.specs.declared.node.NodeId.{NodeId}
-use Rattle.tj_tree.specs.declared.node.Place.{Place}
+use Rattle.tj_tree.specs.declared.node.TaskNode.{TaskNode}
 use Rattle.tj_tree.specs.Forks.{Forks, HasTask, name_of}
 
--- the place's node is shown, and its parent and its jump may be looked at
-pub record IsKnown (shown : ℕ → Node → Type 0) (may : ℕ → Type 0) (place : Place) : Type 0 where
-  pub here : shown place.task.0 place.node
-  pub parent : may place.node.parent.0
-  pub jump : may place.node.jump.0
+-- the task's node is shown, and its parent and its jump may be looked at
+pub record IsKnown (shown : ℕ → Node → Type 0) (may : ℕ → Type 0) (at : TaskNode) : Type 0 where
+  pub here : shown at.task.0 at.node
+  pub parent : may at.node.parent.0
+  pub jump : may at.node.jump.0
 
 -- the task top is n or an ancestor of n
 pub record IsAtOrAbove (forks : Forks) (top n : ℕ) : Type 0 where

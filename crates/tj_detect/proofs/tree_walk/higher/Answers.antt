@@ -18,23 +18,23 @@ returns-then-depth-jump-clause-moved g c =
     let jump = c.visit-jump.result in
     λ forks h has.
     let e : (node_of forks c.args.at.node.jump.0).depth ≡ jump.node.depth
-    = ap (λ (n : NodeId). (node_of forks n.0).depth) (sym c.visit-jump.ensures.place)
+    = ap (λ (n : NodeId). (node_of forks n.0).depth) (sym c.visit-jump.ensures.task)
     ∙ ap (λ (n : Node). n.depth) (has jump.task.0 jump.node c.visit-jump.ensures.known.here).1 in
     let q : nat_le c.args.depth (node_of forks c.args.at.node.jump.0).depth ≡ true
     = ap (λ d. nat_le c.args.depth d) e ∙ le-leb c.args.depth jump.node.depth c.if-depth-jump.true in
-    subst (λ b. jump.task ≡ move_from c.args.at.node b) (sym q) c.visit-jump.ensures.place
+    subst (λ b. jump.task ≡ move_from c.args.at.node b) (sym q) c.visit-jump.ensures.task
 
 pub returns-else-depth-jump-clause-moved : goal.returns-else-depth-jump-clause-moved
 returns-else-depth-jump-clause-moved g c =
     let jump = c.visit-jump.result in
     λ forks h has.
     let e : (node_of forks c.args.at.node.jump.0).depth ≡ jump.node.depth
-    = ap (λ (n : NodeId). (node_of forks n.0).depth) (sym c.visit-jump.ensures.place)
+    = ap (λ (n : NodeId). (node_of forks n.0).depth) (sym c.visit-jump.ensures.task)
     ∙ ap (λ (n : Node). n.depth) (has jump.task.0 jump.node
     (c.visit.ensures.goes_on.kept jump.task.0 jump.node c.visit-jump.ensures.known.here)).1 in
     let q : nat_le c.args.depth (node_of forks c.args.at.node.jump.0).depth ≡ false
     = ap (λ d. nat_le c.args.depth d) e ∙ not_le c.args.depth jump.node.depth c.if-depth-jump.false in
-    subst (λ b. c.visit.result.task ≡ move_from c.args.at.node b) (sym q) c.visit.ensures.place
+    subst (λ b. c.visit.result.task ≡ move_from c.args.at.node b) (sym q) c.visit.ensures.task
 
 pub returns-else-depth-jump-clause-goes_on : goal.returns-else-depth-jump-clause-goes_on
 returns-else-depth-jump-clause-goes_on g c =

@@ -18,7 +18,7 @@ returns-then-x-y-clause-order g c =
     let on_x = c.lifted-x.ensures.goes_on in
     let on_y = c.lifted-y.ensures.goes_on in
     order-same (shows c.lifted-y.new.reader) a b x y c.args.a.0 c.args.b.0
-    (ap (λ (task : NodeId). task.0) c.visit-a.ensures.place) (ap (λ (task : NodeId). task.0) c.visit-b.ensures.place)
+    (ap (λ (task : NodeId). task.0) c.visit-a.ensures.task) (ap (λ (task : NodeId). task.0) c.visit-b.ensures.task)
     (on_y.kept a.task.0 a.node (on_x.kept a.task.0 a.node
     (c.visit-b.ensures.goes_on.kept a.task.0 a.node c.visit-a.ensures.known.here)))
     (on_y.kept b.task.0 b.node (on_x.kept b.task.0 b.node c.visit-b.ensures.known.here))
@@ -47,7 +47,7 @@ returns-clause-order g c =
     let above_b = InEachTree_on (shows c.lifted-y.new.reader) (may c.lifted-y.new.reader) (shows c.parted.new.reader)
     (may c.parted.new.reader) (λ forks. IsAtOrAbove forks y.task.0 b.task.0) on c.lifted-y.ensures.above in
     order-apart (shows c.parted.new.reader) a b c.parted.result.0 c.parted.result.1 c.args.a.0 c.args.b.0
-    (ap (λ (task : NodeId). task.0) c.visit-a.ensures.place) (ap (λ (task : NodeId). task.0) c.visit-b.ensures.place)
+    (ap (λ (task : NodeId). task.0) c.visit-a.ensures.task) (ap (λ (task : NodeId). task.0) c.visit-b.ensures.task)
     (on.kept a.task.0 a.node (on_y.kept a.task.0 a.node
     (on_x.kept a.task.0 a.node (c.visit-b.ensures.goes_on.kept a.task.0 a.node c.visit-a.ensures.known.here))))
     (on.kept b.task.0 b.node (on_y.kept b.task.0 b.node (on_x.kept b.task.0 b.node c.visit-b.ensures.known.here)))
@@ -73,10 +73,10 @@ returns-clause-cost g c =
     let is_b = has b.task.0 b.node (on.kept b.task.0 b.node
     (on_y.kept b.task.0 b.node (on_x.kept b.task.0 b.node c.visit-b.ensures.known.here))) in
     let depth_a : (node_of forks c.args.a.0).depth ≡ a.node.depth = ap
-    (λ (task : NodeId). (node_of forks task.0).depth) (sym c.visit-a.ensures.place)
+    (λ (task : NodeId). (node_of forks task.0).depth) (sym c.visit-a.ensures.task)
     ∙ ap (λ node. node.depth) is_a.1 in
     let depth_b : (node_of forks c.args.b.0).depth ≡ b.node.depth = ap
-    (λ (task : NodeId). (node_of forks task.0).depth) (sym c.visit-b.ensures.place)
+    (λ (task : NodeId). (node_of forks task.0).depth) (sym c.visit-b.ensures.task)
     ∙ ap (λ node. node.depth) is_b.1 in
     let few_a : a.node.depth + 1 < 2 ^ digits = omega (arith, depth_a, depth_b, few) in
     let few_b : b.node.depth + 1 < 2 ^ digits = omega (arith, depth_a, depth_b, few) in

@@ -37,7 +37,7 @@ raises g c =
     (c.visit-y.ensures.goes_on.kept c.visit-x.result.task.0 c.visit-x.result.node c.visit-x.ensures.known.here)
     c.visit-y.ensures.known.here
     c.loop-x.invariant.level c.loop-x.invariant.apart c.loop-x-test.true
-    (c.visit-x.ensures.place ∙ c.move_up.ensures) (c.visit-y.ensures.place ∙ c.move_up-in-loop-x.ensures)
+    (c.visit-x.ensures.task ∙ c.move_up.ensures) (c.visit-y.ensures.task ∙ c.move_up-in-loop-x.ensures)
     (InEachTree_on (shows before) (may before) (shows after) (may after)
     (λ forks. IsAtOrAbove forks x.task.0 c.args.a.task.0) goes_on c.loop-x.invariant.above_a)
     (InEachTree_on (shows before) (may before) (shows after) (may after)

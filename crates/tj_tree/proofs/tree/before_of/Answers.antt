@@ -4,7 +4,7 @@ use Rattle.tj_tree.specs.declared.tree.Entry.{Entry}
 use Rattle.tj_tree.specs.Forks.{Forks, IsEarlier, order_of, task_count}
 use Rattle.tj_tree.specs.Nodes.{node_of}
 use Rattle.tj_tree.specs.Inner.Tree.{AreInTurn, AreEntriesOf, MayLook, forks_of}
-use Rattle.tj_tree.proofs.Turns.{HasTask-below, IsHistory-in_turn}
+use Rattle.tj_tree.proofs.Consecutive.{HasTask-below, IsHistory-in_turn}
 use Rattle.tj_tree.proofs.tree.before_of.Goals as goal
 
 may_look : (forks fs now : Forks) (entries items : List Entry) (n : ℕ) → entries ≡ items → AreEntriesOf fs items

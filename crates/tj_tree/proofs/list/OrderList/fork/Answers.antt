@@ -3,8 +3,8 @@ use Rattle.tj_tree.specs.Forks.{IsNumbering}
 use Rattle.tj_tree.proofs.Lists.{IsNumbering-insert_after}
 use Rattle.tj_tree.proofs.list.OrderList.fork.Goals as goal
 
-pub place_behind-place-requires : goal.place_behind-place-requires
-place_behind-place-requires c =
+pub index_behind-index-requires : goal.index_behind-index-requires
+index_behind-index-requires c =
     rw c.as_slice.ensures.value (c.self.invariant.each c.args.parent.0
     (omega (arith, c.requires.parent_there, ap length c.self.view_is)))
 
@@ -13,7 +13,7 @@ invariant_of-self c = subst IsNumbering (sym c.in_err-insert.ensures.items) c.se
 
 pub invariant_of-self-2 : goal.invariant_of-self-2
 invariant_of-self-2 c =
-    let directly = c.place_behind-place.ensures.directly c.len-child.result in
+    let directly = c.index_behind-index.ensures.directly c.len-child.result in
     IsNumbering-insert_after c.args.parent.0 c.self.inside.tasks.items c.insert.new.self.items
     (omega (arith, c.requires.parent_there, ap length c.self.view_is))
     (omega (arith, c.requires.room, ap length c.self.view_is)) c.self.invariant

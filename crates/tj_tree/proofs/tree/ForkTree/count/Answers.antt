@@ -1,7 +1,7 @@
 use Rattle.std.proofs.Common.{◌≡◌, ap, subst, arith}
 use Rattle.tj_tree.specs.Forks.{Forks, task_count}
 use Rattle.tj_tree.specs.Inner.Tree.{AreInTurn}
-use Rattle.tj_tree.proofs.Turns.{HasTask-below, below-HasTask, IsHistory-in_turn}
+use Rattle.tj_tree.proofs.Consecutive.{HasTask-below, below-HasTask, IsHistory-in_turn}
 use Rattle.tj_tree.proofs.tree.ForkTree.count.Goals as goal
 
 pub returns-clause-tasks : goal.returns-clause-tasks

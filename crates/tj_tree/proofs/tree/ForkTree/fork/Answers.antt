@@ -2,7 +2,7 @@ use Rattle.std.proofs.Common.{List, ◌∷◌, ap, ◌∙◌, subst, sym}
 use Rattle.tj_tree.specs.declared.tree.Entry.{Entry}
 use Rattle.tj_tree.specs.Forks.{Forks, IsHistory, next_fork}
 use Rattle.tj_tree.specs.Inner.Tree.{AreEntriesOf, forks_of}
-use Rattle.tj_tree.proofs.Turns.{forks_of-entries, IsHistory-in_turn}
+use Rattle.tj_tree.proofs.Consecutive.{forks_of-entries, IsHistory-in_turn}
 use Rattle.tj_tree.proofs.tree.ForkTree.fork.Goals as goal
 
 pub returns-in_err-add_child-clause-history : goal.returns-in_err-add_child-clause-history
