@@ -20,7 +20,7 @@ use Rattle.tj_mean.specs.declared.act.ActLine.{ActLine}
 use Rattle.tj_mean.proofs.ActTasks.{acts_tell}
 use Rattle.tj_mean.proofs.Elements.{get_in, in_get}
 use Rattle.tj_mean.proofs.ForkNumbers.{history_numbered}
-use Rattle.tj_mean.proofs.LinePlaces.{line_at, place_of_acting}
+use Rattle.tj_mean.proofs.LineIndexes.{line_at, index_of_acting}
 use Rattle.tj_mean.proofs.NameOrder.{in_permuted, in_unpermuted}
 use Rattle.tj_mean.proofs.ReachedActs.{acts_are, all_reached}
 
@@ -40,7 +40,7 @@ module _ {B : Type 0} (program : Program B) (obeys : AreLawful program.rules)
   -- a task that does an act is one of the meaning
   pub task_acting : (t : Name) (n : ℕ) (a : Act) → HasAct lines t n a
       → (x : Task B) × IsIn x (tasks program (last_round N)) × (x.name ≡ t)
-  task_acting t n a h = let p = place_of_acting lines t n a h in task_named p.0 t p.1
+  task_acting t n a h = let p = index_of_acting lines t n a h in task_named p.0 t p.1
 
   -- the act is one of its history
   of_history : (x : Task B) → IsIn x (tasks program (last_round N)) → (n : ℕ) (a : Act) → HasAct lines x.name n a

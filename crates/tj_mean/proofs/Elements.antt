@@ -1,4 +1,4 @@
--- Elements of lists, and their places.
+-- Elements of lists, and their indexes.
 use Rattle.std.proofs.Common.{◌≡◌, ℕ, zero, suc, ◌<◌, ◌≤◌, ◌⊎◌, inl, inr, Bool, true, false, ◌||◌, List, [], ◌∷◌, ◌++◌}
 use Rattle.std.proofs.Common.{length, take, Some, refl, sym, ap, subst, arith}
 use Rattle.std.specs.Prelude.{slice_get, unwrap_or}
@@ -12,7 +12,7 @@ use Rattle.tj_body.proofs.Counts.{same_is}
 pub some_is : {A : Type 0} (x y : A) → Some x ≡ Some y → x ≡ y
 some_is x y e = ap (λ o. unwrap_or o x) e
 
--- what stands at a place is an element, and each element has a place
+-- what stands at an index is an element, and each element has an index
 pub in_get : {A : Type 0} (xs : List A) (k : ℕ) (x : A) → slice_get xs k ≡ Some x → IsIn x xs
 in_get [] k x e = absurd (cc)
 in_get (y ∷ ys) zero x e = inl (sym (some_is y x e))

@@ -4,7 +4,7 @@ use Rattle.std.proofs.Common.{refl, sym, ap, ◌∙◌}
 use Rattle.std.proofs.Common.{append_assoc, drop-cons, add-one}
 use Rattle.std.proofs.lemmas.List.{take_more}
 use Rattle.tj_base.specs.ForkOrder.{Name}
-use Rattle.tj_body.specs.Names.{same, has, without, at_most, put_in}
+use Rattle.tj_body.specs.Names.{same, has, without}
 
 module _ (q : Name) (xs : List Name) (i : ℕ) (x : Name) (h : i < length xs) (e : x ≡ get_or xs i x) where
   -- what is left at i begins with the name at i
@@ -13,15 +13,6 @@ module _ (q : Name) (xs : List Name) (i : ℕ) (x : Name) (h : i < length xs) (e
 
   up_to_here : take (i + 1) xs ≡ take i xs ++ x ∷ []
   up_to_here = take_more xs i x h ∙ ap (λ z. take i xs ++ z ∷ []) (sym e)
-
-  -- a name that goes after x goes among the rest
-  pub put_in-more : at_most q x ≡ false
-      → take i xs ++ put_in q (drop i xs) ≡ take (i + 1) xs ++ put_in q (drop (i + 1) xs)
-  put_in-more f = rw (from_here, up_to_here, f, append_assoc) refl
-
-  -- a name that x isn't after goes before x
-  pub put_in-here : at_most q x ≡ true → take i xs ++ put_in q (drop i xs) ≡ take i xs ++ q ∷ drop i xs
-  put_in-here f = rw (from_here, f) refl
 
   -- a name that isn't x is among the rest
   pub without-more : same q x ≡ false

@@ -179,13 +179,13 @@ module _ {B : Type 0} where
     goes_on = inl (c, e);
   }
 
--- an element at a place doesn't hang on what stands for none
+-- an element at an index doesn't hang on what stands for none
 pub any_default : {A : Type 0} (l : List A) (i : ℕ) → i < length l → (d e : A) → get_or l i d ≡ get_or l i e
 any_default [] i h d e = absurd (omega arith)
 any_default (x ∷ xs) zero h d e = refl
 any_default (x ∷ xs) (suc i) h d e = any_default xs i (omega arith) d e
 
--- where the task at each place has stopped, all have
+-- where the task at each index has stopped, all have
 pub all_stopped : {B : Type 0} (V : Assignment) (l : List (Point B))
     → ((i : ℕ) (d : Point B) → i < length l → HasStopped V (get_or l i d)) → (p : Point B) → IsIn p l → HasStopped V p
 all_stopped V [] h p i = absurd i

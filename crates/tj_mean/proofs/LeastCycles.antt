@@ -1,4 +1,4 @@
--- Cycles of places, each from its least place on, are the cycles of the wait graph.
+-- Cycles of indexes, each from its least index on, are the cycles of the wait graph.
 use Rattle.std.proofs.Common.{◌≡◌, ◌↔◌, ℕ, zero, suc, ◌+◌, ◌<◌, ◌≤◌, ◌⊎◌, inl, inr, true, nat_eq, List, [], ◌∷◌, ◌++◌}
 use Rattle.std.proofs.Common.{Option, Some, None, map, length, refl, sym, ap, ◌∙◌, subst, arith}
 use Rattle.std.specs.Prelude.{slice_index_or}
@@ -19,17 +19,17 @@ use Rattle.tj_body.specs.Names.{same, at_most}
 use Rattle.tj_body.specs.Points.{IsIn}
 use Rattle.tj_body.proofs.Lists.{in_map, to_map}
 use Rattle.tj_mean.specs.Outcomes.{Ascend, AreApart, AreCycles, IsCycle, Leads, Waits, first_task}
-use Rattle.tj_mean.specs.Inner.Places.{Next, IsLeastCycle, AreNext, WaitsAt, link_at, waited}
+use Rattle.tj_mean.specs.Inner.Indexes.{Next, IsLeastCycle, AreNext, WaitsAt, link_at, waited}
 use Rattle.tj_mean.specs.declared.outcome.Ending.TheVariants as ending
 use Rattle.tj_mean.specs.declared.outcome.Link.{Link}
 use Rattle.tj_mean.specs.declared.stopped.Stopped.{Stopped}
 use Rattle.tj_mean.proofs.NameOrder.{order}
 use Rattle.tj_mean.proofs.SettledRounds.{map_map}
 use Rattle.tj_mean.proofs.Elements.{some_is, in_get, get_less, in_contains, all_of_in, in_of_all, in_snoc, in_left, in_right}
-use Rattle.tj_mean.proofs.Places.{same_names, name_at, There, link_is, names_lead, waits_at, place_of, names_ascend}
-use Rattle.tj_mean.proofs.Places.{names_at_most, places_at_most, next_leads, next_there, places_are_names}
+use Rattle.tj_mean.proofs.Indexes.{same_names, name_at, There, link_is, names_lead, waits_at, index_of, names_ascend}
+use Rattle.tj_mean.proofs.Indexes.{names_at_most, indexes_at_most, next_leads, next_there, indexes_are_names}
 
--- one place more that isn't less than the first
+-- one index more that isn't less than the first
 pub all_greater : (first : ℕ) (ps : List ℕ) (p : ℕ) → All (λ q. first ≤ q) ps → first ≤ p
     → All (λ q. first ≤ q) (ps ++ p ∷ [])
 all_greater first ps p a l = all_of_in (λ q. first ≤ q) (ps ++ p ∷ []) (λ q i. by q (in_snoc ps q p i)) where
@@ -38,7 +38,7 @@ all_greater first ps p a l = all_of_in (λ q. first ≤ q) (ps ++ p ∷ []) (λ 
   by q (inr e) = subst (λ z. first ≤ z) (sym e) l
 
 module _ (next : List (Option ℕ)) where
-  -- a place leads to one
+  -- an index leads to one
   pub one : graph.LeadsToOne (Next next)
   one i j k p q = some_is j k (sym p ∙ q)
 
@@ -47,7 +47,7 @@ module _ (next : List (Option ℕ)) where
   index_less (o ∷ os) zero j e = omega arith
   index_less (o ∷ os) (suc i) j e = let r = index_less os i j e in omega arith
 
-  -- a cycle has no more places than there are
+  -- a cycle has no more indexes than there are
   pub cycle_fits : (first n : ℕ) → graph.IsOnCycleOf (Next next) first n → n ≤ length next
   cycle_fits first n c =
       let x = returns_are_cycles (Next next) one nat_eq Decides-eqb first n c in
@@ -58,7 +58,7 @@ module _ (next : List (Option ℕ)) where
       (cycles_return (Next next) one nat_eq Decides-eqb (first ∷ x.0) q x.1 w) in
       index_less next q l.0 l.1))
 
-  -- the first place of a cycle is on one
+  -- the first index of a cycle is on one
   pub first_on : (first : ℕ) (ps : List ℕ) → IsLeastCycle next first ps → graph.IsOnCycle (Next next) first
   first_on first [] c = absurd c.cycle
   first_on first (p ∷ ps) c = subst (λ z. graph.IsOnCycle (Next next) z) c.cycle.0
@@ -73,7 +73,7 @@ module _ (next : List (Option ℕ)) where
       (subst (λ y. graph.Reaches (Next next) y k z) (sym c.cycle.0) r) in
       subst (λ y. first ≤ y) h.2 (c.least h.0 z h.1)
 
-  -- from a place there is one cycle
+  -- from an index there is one cycle
   pub one_cycle : (first : ℕ) (ps qs : List ℕ) → IsLeastCycle next first ps → IsLeastCycle next first qs → ps ≡ qs
   one_cycle first [] qs c d = absurd c.cycle
   one_cycle first (p ∷ ps) [] c d = absurd d.cycle
@@ -84,11 +84,11 @@ module _ (next : List (Option ℕ)) where
       λ i. sym e i ∷ same_rest i
 
 module _ (tasks : List Stopped) (next : List (Option ℕ)) where
-  -- the links of a cycle from its least place on
+  -- the links of a cycle from its least index on
   abbrev pub IsLinked : ℕ → List Link → Type 0
   IsLinked first c = (ps : List ℕ) × IsLeastCycle next first ps × (c ≡ map (link_at tasks) ps)
 
-  -- the list has the links of all cycles from places less than n, in the order of these
+  -- the list has the links of all cycles from indexes less than n, in the order of these
   pub record Found (cs : List (List Link)) (n : ℕ) : Type 0 where
     pub all : (c : List Link) → IsIn c cs ↔ ((f : ℕ) × (f < n) × IsLinked f c)
     pub ascend : Ascend (map first_task cs)
@@ -96,7 +96,7 @@ module _ (tasks : List Stopped) (next : List (Option ℕ)) where
 module _ (tasks : List Stopped) (apart : AreApart tasks)
     (in_order : Ascend (map (λ (s : Stopped). s.line.name) tasks)) (next : List (Option ℕ))
     (are : AreNext tasks tasks next) where
-  -- each place of a cycle leads on
+  -- each index of a cycle leads on
   leads_on : (first : ℕ) (ps : List ℕ) → IsLeastCycle next first ps → (p : ℕ) → IsIn p ps
       → (j : ℕ) × Next next p j
   leads_on first [] c p i = absurd i
@@ -127,7 +127,7 @@ module _ (tasks : List Stopped) (apart : AreApart tasks)
         tasks = subst (λ names. graph.IsCycle (Leads tasks) same (name_at tasks q ∷ names))
             (sym (map_map (link_at tasks) (λ (l : Link). l.task) qs))
             (cycle_list_to (name_at tasks) (There tasks) (Next next) (Leads tasks)
-            (places_are_names tasks apart in_order next are) (one next) (names_lead tasks apart)
+            (indexes_are_names tasks apart in_order next are) (one next) (names_lead tasks apart)
             nat_eq Decides-eqb same same_names q qs first_there c.cycle.1);
         cells = all_of_in (λ (l : Link). Waits tasks l.task l.cell) (map (link_at tasks) (q ∷ qs)) (λ l i.
             let p = in_map (link_at tasks) l (q ∷ qs) i in
@@ -143,14 +143,14 @@ module _ (tasks : List Stopped) (apart : AreApart tasks)
             (subst (λ z. z ≤ p.0) (sym c.cycle.0) (in_of_all (λ z. first ≤ z) (q ∷ qs) c.least p.0 p.1))));
       }
 
-  -- a link is that of the place whose name it has
+  -- a link is that of the index whose name it has
   link_is_at : (p : ℕ) → There tasks p → (l : Link) → name_at tasks p ≡ l.task → Waits tasks l.task l.cell
       → l ≡ link_at tasks p
   link_is_at p h l e w =
       let cell = waits_at tasks apart in_order p l.cell h (subst (λ x. Waits tasks x l.cell) (sym e) w) in
       λ i. record { task = sym e i; cell = sym cell i }
 
-  -- links whose tasks are those of places, each with the cell that its task waits for
+  -- links whose tasks are those of indexes, each with the cell that its task waits for
   links_of : (a z : ℕ) (bs : List ℕ) → graph.LeadsAlong (Next next) a bs z → (ls : List Link)
       → map (name_at tasks) bs ≡ map (λ (l : Link). l.task) ls
       → ((l : Link) → IsIn l ls → Waits tasks l.task l.cell) → ls ≡ map (link_at tasks) bs
@@ -177,10 +177,10 @@ module _ (tasks : List Stopped) (apart : AreApart tasks)
   of_cycle [] c = absurd c.tasks
   of_cycle (l ∷ ls) c =
       let waits = in_of_all (λ (m : Link). Waits tasks m.task m.cell) (l ∷ ls) c.cells in
-      let at = place_of tasks apart in_order l.task l.cell (waits l (inl refl)) in
+      let at = index_of tasks apart in_order l.task l.cell (waits l (inl refl)) in
       let p = at.0 in
       let r = cycle_list_from (name_at tasks) (There tasks) (Next next) (Leads tasks)
-      (places_are_names tasks apart in_order next are) (one next) (names_lead tasks apart)
+      (indexes_are_names tasks apart in_order next are) (one next) (names_lead tasks apart)
       nat_eq Decides-eqb same same_names p (map (λ (m : Link). m.task) ls) at.1
       (subst (λ x. graph.IsCycle (Leads tasks) same (x ∷ map (λ (m : Link). m.task) ls)) (sym at.2) c.tasks) in
       let head = link_is_at p at.1 l at.2 (waits l (inl refl)) in
@@ -192,7 +192,7 @@ module _ (tasks : List Stopped) (apart : AreApart tasks)
       (cycles_return (Next next) (one next) nat_eq Decides-eqb (p ∷ r.0) q r.1 (in_contains (p ∷ r.0) q i)) in
       let s = next_leads tasks apart in_order next are q j.0 j.1 in get_less tasks q s.0 s.1 in
       let least : All (λ q. p ≤ q) (p ∷ r.0) = all_of_in (λ q. p ≤ q) (p ∷ r.0) (λ q i.
-      places_at_most tasks apart in_order p q at.1 (on q i)
+      indexes_at_most tasks apart in_order p q at.1 (on q i)
       (subst (λ x. at_most x (name_at tasks q) ≡ true) (sym at.2)
       (in_of_all (λ (m : Link). at_most l.task m.task ≡ true) (l ∷ ls) c.least (link_at tasks q)
       (subst (IsIn (link_at tasks q)) (sym linked) (to_map (link_at tasks) q (p ∷ r.0) i))))) in
@@ -214,7 +214,7 @@ module _ (tasks : List Stopped) (apart : AreApart tasks)
     ascend = subst (λ l. Ascend (map first_task l)) (sym e) tt;
   }
 
-  -- there is no cycle from the next place
+  -- there is no cycle from the next index
   pub found_on : (cs : List (List Link)) (n : ℕ) → Found tasks next cs n → ((ps : List ℕ) → ¬ IsLeastCycle next n ps)
       → Found tasks next cs (n + 1)
   found_on cs n a never = record {
@@ -241,7 +241,7 @@ module _ (tasks : List Stopped) (apart : AreApart tasks)
   ascend_snoc (c ∷ cs) d a h =
       (all_snoc (first_task c) cs d a.0 (h c (inl refl)), ascend_snoc cs d a.1 (λ e i. h e (inr i)))
 
-  -- there is one from the next place
+  -- there is one from the next index
   pub found_more : (cs : List (List Link)) (n : ℕ) (ps : List ℕ) (d : List Link) → Found tasks next cs n → IsLeastCycle
       next n ps
       → d ≡ map (link_at tasks) ps → Found tasks next (cs ++ d ∷ []) (n + 1)
@@ -263,7 +263,7 @@ module _ (tasks : List Stopped) (apart : AreApart tasks)
     by c (inl i) = let r = (a.all c).0 i in let z = r.1 in (r.0, omega arith, r.2)
     by c (inr q) = (n, omega arith, (ps, k, q ∙ e))
 
-  -- the links of all cycles of places are all cycles
+  -- the links of all cycles of indexes are all cycles
   pub all_found : (cs : List (List Link)) (n : ℕ) → Found tasks next cs n → length tasks ≤ n → AreCycles tasks cs
   all_found cs n a l = (
     λ c. (

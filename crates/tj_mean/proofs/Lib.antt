@@ -4,7 +4,7 @@ pub mod NameOrder
 pub mod NoWaits
 pub mod OneOutcome
 pub mod HeldNames
-pub mod Places
+pub mod Indexes
 pub mod RoundSteps
 pub mod SettledRounds
 pub mod StandingCycles
@@ -19,7 +19,7 @@ pub mod TasksAtWork
 pub mod EnteredCells
 pub mod TakenUp
 pub mod ChildNames
-pub mod LinePlaces
+pub mod LineIndexes
 pub mod SeenActs
 pub mod NotedRounds
 pub mod EndedTasks

@@ -10,7 +10,7 @@ pub get_last : {A : Type 0} (l : List A) (a : A) → slice_get (l ++ a ∷ []) (
 get_last [] a = refl
 get_last (x ∷ l) a = get_last l a
 
--- what stands at a place of a list stands there in each that begins with it
+-- what stands at an index of a list stands there in each that begins with it
 pub get_begins : {A : Type 0} (l m : List A) → Begins l m → (n : ℕ) (a : A) → slice_get l n ≡ Some a
     → slice_get m n ≡ Some a
 get_begins [] m b n a h = absurd (cc)

@@ -14,7 +14,7 @@ use Rattle.tj_mean.proofs.ToldOutcomes.{same_told}
 use Rattle.tj_mean.specs.OutcomeLaws.{HasOneOutcome}
 use Rattle.tj_mean.specs.declared.outcome.TaskLine.{TaskLine}
 use Rattle.tj_mean.proofs.NameOrder.{order, in_permuted, in_unpermuted}
-use Rattle.tj_mean.proofs.Places.{not_less}
+use Rattle.tj_mean.proofs.Indexes.{not_less}
 
 module _ {A : Type 0} (key : A → Name) where
   later : (x : A) (ys : List A) → AllByRecursion (λ z. order (key x) z ≡ Less) (map key ys) → (y : A) → IsIn y ys

@@ -44,7 +44,7 @@ use Rattle.tj_mean.specs.declared.act.Act.TheVariants as act
 use Rattle.tj_mean.specs.declared.act.ActLine.{ActLine}
 use Rattle.tj_mean.proofs.Elements.{get_in, get_less, in_snoc}
 use Rattle.tj_mean.proofs.EndedTasks.{ended_in, task_of_entry}
-use Rattle.tj_mean.proofs.LinePlaces.{acts_at}
+use Rattle.tj_mean.proofs.LineIndexes.{acts_at}
 use Rattle.tj_mean.proofs.ListEnds.{get_begins, get_last}
 use Rattle.tj_mean.proofs.NameOrder.{in_unpermuted}
 use Rattle.tj_mean.proofs.NotedAsks.{other_body}

@@ -21,7 +21,7 @@ use Rattle.tj_mean.specs.declared.outcome.Outcome.{Outcome}
 use Rattle.tj_mean.specs.declared.outcome.TaskLine.{TaskLine}
 use Rattle.tj_mean.specs.declared.stopped.Stopped.{Stopped}
 use Rattle.tj_mean.proofs.Elements.{in_contains, all_of_in}
-use Rattle.tj_mean.proofs.Places.{same_names, at_most_self, names_lead}
+use Rattle.tj_mean.proofs.Indexes.{same_names, at_most_self, names_lead}
 use Rattle.tj_mean.proofs.NameOrder.{in_permuted}
 use Rattle.tj_mean.proofs.ToldOutcomes.{told_name, told_owned, told_waits, told_of, of_told, told_wait}
 
@@ -46,7 +46,7 @@ least_of l a i = by (in_order l) refl where
         (subst (IsIn x) e ((ordered_has_same x l).1 j)),
   )
 
--- what stands at a place is an element
+-- what stands at an index is an element
 contains_in : {A : Type 0} (xs : List A) (k : ℕ) (x : A) → k < length xs → get_or xs k x ≡ x → IsIn x xs
 contains_in [] k x l e = absurd (omega arith)
 contains_in (y ∷ ys) zero x l e = inl (sym e)

@@ -1,7 +1,7 @@
 -- What only the functions inside the crate speak of, and proofs that the kit wants in specs. No public clause does.
 pub mod Assignments
 pub mod KeptRounds
-pub mod Places
+pub mod Indexes
 pub mod SettledRounds
 pub mod Reached
 pub mod ToldOrder

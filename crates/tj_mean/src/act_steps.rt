@@ -52,7 +52,7 @@ fn note_join(
     Ok(())
 }
 
-/// Adds the fork of the child with this place among the task's children, if it is there.
+/// Adds the fork of the child with this index among the task's children, if it is there.
 fn note_fork<B: Body>(
     alloc: Global,
     p: &Point<B>,

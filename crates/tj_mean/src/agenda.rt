@@ -12,14 +12,14 @@ use std::collections::BTreeMap;
 use tj_base::{Name, Oom};
 use tj_body::{Body, Entry, Point, PointStage};
 
-/// Places of tasks.
+/// Indexes of tasks.
 #[derive(Drop)]
 pub struct Agenda {
     /// Those that were woken.
     woken: Vec<usize>,
     /// Those that wait, by the cells that they wait for.
     waiting: BTreeMap<Name, Vec<usize>>,
-    /// From this place on tasks were not taken up yet.
+    /// From this index on tasks were not taken up yet.
     fresh: usize,
 }
 
@@ -33,31 +33,31 @@ impl Agenda {
         }
     }
 
-    /// The task with this place has stopped at this stage.
+    /// The task with this index has stopped at this stage.
     pub fn stop(&mut self, alloc: Global, at: usize, stage: &PointStage) -> Result<(), Oom> {
         let PointStage::Waits { cell, spare: _ } = stage else {
             return Ok(());
         };
-        let mut places = match self.waiting.remove(cell) {
-            Some(places) => places,
+        let mut indexes = match self.waiting.remove(cell) {
+            Some(indexes) => indexes,
             None => Vec::new(alloc),
         };
-        places.push(at)?;
-        self.waiting.insert(cell.copy(alloc)?, places)?;
+        indexes.push(at)?;
+        self.waiting.insert(cell.copy(alloc)?, indexes)?;
         Ok(())
     }
 
     /// These cells have entries, and those that wait for them can go on.
     pub fn wake(&mut self, writes: &[(Name, Entry)]) -> Result<(), Oom> {
         for (cell, _became) in writes {
-            if let Some(mut places) = self.waiting.remove(cell) {
-                self.woken.append(&mut places)?;
+            if let Some(mut indexes) = self.waiting.remove(cell) {
+                self.woken.append(&mut indexes)?;
             }
         }
         Ok(())
     }
 
-    /// The place of a task that can go on, if there is one.
+    /// The index of a task that can go on, if there is one.
     pub fn next<B: Body>(
         &mut self,
         points: &[Point<B>],
@@ -83,7 +83,7 @@ impl Agenda {
     }
 }
 
-/// Whether this is the place of a task that can go on.
+/// Whether this is the index of a task that can go on.
 fn is_ready<B: Body>(points: &[Point<B>], at: usize, given: &BTreeMap<Name, Entry>) -> bool
     ensures { IsTrue result → CanGoOn (assignment_in given.now) points.now at }
 {
@@ -93,7 +93,7 @@ fn is_ready<B: Body>(points: &[Point<B>], at: usize, given: &BTreeMap<Name, Entr
     goes_on(&points[at], given)
 }
 
-/// The place of the first task that can go on.
+/// The index of the first task that can go on.
 fn first_of<B: Body>(points: &[Point<B>], given: &BTreeMap<Name, Entry>) -> Option<usize>
     ensures some { IfSome result (CanGoOn (assignment_in given.now) points.now) }
     ensures none { IfNone result ((p : Point B) → IsIn p points.now

@@ -4,7 +4,7 @@ ghost use Rattle.tj_body.specs.Asks.{IsPaid, IsPlaced};
 ghost use Rattle.std.specs.List.{AllByRecursion};
 ghost use Rattle.tj_body.specs.History as history;
 
-use crate::held_names::{place_of, sorted};
+use crate::held_names::{index_of, sorted};
 use std::alloc::Global;
 use std::mem::replace;
 use tj_base::{Cause, Items, Name, NameList, Oom, Pay, PlaceList, Sort, Trouble, path_before};
@@ -61,7 +61,7 @@ fn make<B: Body>(alloc: Global, p: &mut Point<B>) -> Result<(), Oom>
 fn end<B: Body>(alloc: Global, p: &mut Point<B>, close: Close, became: Entry) -> Result<(), Oom>
     ensures { IfOk result (λ _. p.new ≡ history.after_close close became p.old) }
 {
-    let owed = sorted(alloc, replace(&mut p.holds, Items::of(Vec::new(alloc))))?;
+    let owed = sorted(replace(&mut p.holds, Items::of(Vec::new(alloc))))?;
     p.writes.push((p.name.copy(alloc)?, became))?;
     break_all(alloc, &mut p.writes, owed.items())?;
     p.owed = owed;
@@ -164,7 +164,7 @@ fn hand_all(
         if let Sort::Task = reference.sort {
             return Ok(Err(Cause::Kind));
         }
-        match place_of(left.as_slice(), &reference.name) {
+        match index_of(left.as_slice(), &reference.name) {
             None => return Ok(Err(Cause::Owner(reference.name.copy(alloc)?))),
             Some(at) => drop(left.remove(at)),
         }
@@ -219,7 +219,7 @@ fn set<B: Body>(alloc: Global, p: &mut Point<B>, k: u32, v: Pay) -> Result<(), O
     if let Sort::Task = reference.sort {
         return fail(alloc, p, Cause::Kind);
     }
-    let Some(at) = place_of(p.holds.items(), &reference.name) else {
+    let Some(at) = index_of(p.holds.items(), &reference.name) else {
         return fail(alloc, p, Cause::Owner(reference.name));
     };
     let value = value_at(alloc, p, v)?;

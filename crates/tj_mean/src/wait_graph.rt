@@ -1,13 +1,13 @@
 //! The wait graph of tasks that have stopped, and its cycles. The tasks stand in name order and go
-//! by their places in it, so that the least name on a cycle is the least place.
+//! by their indexes in it, so that the least name on a cycle is the least index.
 ghost use Rattle.std.specs.Prelude.{◌≡◌, ◌↔◌, ℕ, ◌<◌, length, map, slice_get, true, false};
 ghost use Rattle.std.specs.Prelude.{Some, List, IfOk, IfSome, IsNone};
 ghost use Rattle.std.specs.List.{All};
 ghost use Rattle.tj_body.specs.Names.{has};
 ghost use Rattle.tj_mean.specs.Outcomes.{AreApart, AreCycles, Ascend, owned_by};
-ghost use Rattle.tj_mean.specs.Inner.Places.{AreNext, IsLeastCycle, LeadsTo, Next, Waiting, WaitsAt, link_at, link_of};
+ghost use Rattle.tj_mean.specs.Inner.Indexes.{AreNext, IsLeastCycle, LeadsTo, Next, Waiting, WaitsAt, link_at, link_of};
 
-use crate::held_names::place_of;
+use crate::held_names::index_of;
 use crate::outcome::{CycleList, Ending, Link, LinkList};
 use crate::stopped::Stopped;
 use std::alloc::Global;
@@ -22,14 +22,14 @@ pub fn cycles(alloc: Global, tasks: &[Stopped]) -> Result<CycleList, Oom>
     let next = next_tasks(alloc, tasks)?;
     let mut cycles = Vec::new(alloc);
     for first in 0..tasks.len() {
-        if let Some(places) = cycle_from(alloc, next.as_slice(), first)? {
-            cycles.push(links(alloc, tasks, places.as_slice())?)?;
+        if let Some(indexes) = cycle_from(alloc, next.as_slice(), first)? {
+            cycles.push(links(alloc, tasks, indexes.as_slice())?)?;
         }
     }
     Ok(Items::of(cycles))
 }
 
-/// For each task the place of the task that it leads to.
+/// For each task the index of the task that it leads to.
 fn next_tasks(alloc: Global, tasks: &[Stopped]) -> Result<Vec<Option<usize>>, Oom>
     requires apart { AreApart tasks.now }
     requires in_order { Ascend (map (λ s. s.line.name) tasks.now) }
@@ -42,7 +42,7 @@ fn next_tasks(alloc: Global, tasks: &[Stopped]) -> Result<Vec<Option<usize>>, Oo
     Ok(next)
 }
 
-/// The place of the task that owns the cell that this task waits for, if it waits.
+/// The index of the task that owns the cell that this task waits for, if it waits.
 fn next_of(tasks: &[Stopped], task: &Stopped) -> Option<usize>
     requires apart { AreApart tasks.now }
     requires in_order { Ascend (map (λ s. s.line.name) tasks.now) }
@@ -54,16 +54,16 @@ fn next_of(tasks: &[Stopped], task: &Stopped) -> Option<usize>
     }
 }
 
-/// The place of the task that owns the cell.
+/// The index of the task that owns the cell.
 fn owner_of(tasks: &[Stopped], cell: &Name) -> Option<usize>
     ensures some { IfSome result (λ p. (s : Stopped) × (slice_get tasks.now p ≡ Some s)
         × (has cell.now (owned_by s) ≡ true)) }
     ensures none { IsNone result → (p : ℕ) → (s : Stopped) → slice_get tasks.now p ≡ Some s →
         has cell.now (owned_by s) ≡ false }
 {
-    for (place, task) in tasks.iter().enumerate() {
+    for (index, task) in tasks.iter().enumerate() {
         if owns(task, cell) {
-            return Some(place);
+            return Some(index);
         }
     }
     None
@@ -75,13 +75,13 @@ fn owns(task: &Stopped, cell: &Name) -> bool
 {
     match &task.line.ending {
         Ending::Waits(_) => {
-            *cell == task.line.name || place_of(task.holds.items(), cell).is_some()
+            *cell == task.line.name || index_of(task.holds.items(), cell).is_some()
         }
         _ => false,
     }
 }
 
-/// The places from this one on along waits, if the way comes back to it, and over greater places
+/// The indexes from this one on along waits, if the way comes back to it, and over greater indexes
 /// alone.
 fn cycle_from(
     alloc: Global,
@@ -89,18 +89,18 @@ fn cycle_from(
     first: usize,
 ) -> Result<Option<Vec<usize>>, Oom>
     requires first { first < length next.now }
-    requires places { (i j : ℕ) → Next next.now i j → j < length next.now }
-    ensures some { IfOk result (λ found. IfSome found (λ places.
-        IsLeastCycle next.now first places.items)) }
+    requires indexes { (i j : ℕ) → Next next.now i j → j < length next.now }
+    ensures some { IfOk result (λ found. IfSome found (λ indexes.
+        IsLeastCycle next.now first indexes.items)) }
     ensures none { IfOk result (λ found. IsNone found
-        → (places : List ℕ) → ¬ IsLeastCycle next.now first places) }
+        → (indexes : List ℕ) → ¬ IsLeastCycle next.now first indexes) }
 {
-    let mut places = Vec::new(alloc);
+    let mut indexes = Vec::new(alloc);
     let mut at = first;
     for step in 0..next.len() {
-        places.push(at)?;
+        indexes.push(at)?;
         match next[at] {
-            Some(owner) if owner == first => return Ok(Some(places)),
+            Some(owner) if owner == first => return Ok(Some(indexes)),
             Some(owner) if owner > first => at = owner,
             _ => return Ok(None),
         }
@@ -108,15 +108,15 @@ fn cycle_from(
     Ok(None)
 }
 
-/// The links of the tasks with these places.
-fn links(alloc: Global, tasks: &[Stopped], places: &[usize]) -> Result<LinkList, Oom>
-    requires there { All (λ p. p < length tasks.now) places.now }
-    requires waiting { All (λ p. WaitsAt tasks.now p) places.now }
-    ensures { IfOk result (λ links. links ≡ map (link_at tasks.now) places.now) }
+/// The links of the tasks with these indexes.
+fn links(alloc: Global, tasks: &[Stopped], indexes: &[usize]) -> Result<LinkList, Oom>
+    requires there { All (λ p. p < length tasks.now) indexes.now }
+    requires waiting { All (λ p. WaitsAt tasks.now p) indexes.now }
+    ensures { IfOk result (λ links. links ≡ map (link_at tasks.now) indexes.now) }
 {
     let mut links = Vec::new(alloc);
-    for place in places {
-        links.push(link_of(alloc, &tasks[*place])?)?;
+    for index in indexes {
+        links.push(link_of(alloc, &tasks[*index])?)?;
     }
     Ok(Items::of(links))
 }

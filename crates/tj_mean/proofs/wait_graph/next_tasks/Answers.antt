@@ -1,7 +1,7 @@
 use Rattle.std.proofs.Common.{◌≡◌, ◌+◌, [], ◌∷◌, ◌++◌, take, ap, sym, subst, ◌∙◌}
 use Rattle.std.proofs.lemmas.List.{take_more}
-use Rattle.tj_mean.specs.Inner.Places.{AreNext}
-use Rattle.tj_mean.proofs.Places.{next_more}
+use Rattle.tj_mean.specs.Inner.Indexes.{AreNext}
+use Rattle.tj_mean.proofs.Indexes.{next_more}
 use Rattle.tj_mean.proofs.Elements.{all_taken}
 use Rattle.tj_mean.proofs.wait_graph.next_tasks.Goals as goal
 

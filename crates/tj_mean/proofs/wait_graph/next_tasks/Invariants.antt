@@ -1,7 +1,7 @@
 use Rattle.std.proofs.Common.{take}
-use Rattle.tj_mean.specs.Inner.Places.{AreNext}
+use Rattle.tj_mean.specs.Inner.Indexes.{AreNext}
 use Rattle.tj_mean.proofs.wait_graph.next_tasks.Given as goal
 
--- the next places of the tasks so far
+-- the next indexes of the tasks so far
 abbrev pub invariant-loop-task : goal.invariant-loop-task
 invariant-loop-task l = AreNext l.tasks (take l.task-index l.tasks) l.next.items

@@ -1,4 +1,4 @@
--- The wait graph by places: tasks go by their places in a list, and `next` has for each the place that it leads to.
+-- The wait graph by indexes: tasks go by their indexes in a list, and `next` has for each the index that it leads to.
 use Rattle.std.specs.Prelude.{◌≡◌, ◌↔◌, ℕ, ◌≤◌, true, nat_eq, List, [], ◌∷◌, Option, Some, None, slice_index_or, slice_get}
 use Rattle.std.specs.List.{All}
 use Rattle.std.specs.Option.{option_map_or}
@@ -11,14 +11,14 @@ use Rattle.tj_mean.specs.declared.outcome.Ending.TheVariants as ending
 use Rattle.tj_mean.specs.declared.outcome.Link.{Link}
 use Rattle.tj_mean.specs.declared.stopped.Stopped.{Stopped}
 
--- the place i leads to the place j
+-- the index i leads to the index j
 abbrev pub Next : List (Option ℕ) → ℕ → ℕ → Type 0
 Next next i j = slice_index_or next i None ≡ Some j
 
--- a cycle of places from its first on, which is its least
-pub record IsLeastCycle (next : List (Option ℕ)) (first : ℕ) (places : List ℕ) : Type 0 where
-  pub cycle : graph.IsCycleFrom (Next next) nat_eq first places
-  pub least : All (λ p. first ≤ p) places
+-- a cycle of indexes from its first on, which is its least
+pub record IsLeastCycle (next : List (Option ℕ)) (first : ℕ) (indexes : List ℕ) : Type 0 where
+  pub cycle : graph.IsCycleFrom (Next next) nat_eq first indexes
+  pub least : All (λ p. first ≤ p) indexes
 
 -- the cell that a task waits for
 abbrev pub waited : Ending → Name
@@ -35,20 +35,20 @@ abbrev pub link_of : Stopped → Link
 link_of s = record { task = s.line.name; cell = waited s.line.ending }
 
 module _ (tasks : List Stopped) where
-  -- the link of the task with this place
+  -- the link of the task with this index
   abbrev pub link_at : ℕ → Link
   link_at p = option_map_or link_of (slice_get tasks p) (record { task = []; cell = [] })
 
-  -- the task with this place waits
+  -- the task with this index waits
   abbrev pub WaitsAt : ℕ → Type 0
   WaitsAt p = (s : Stopped) × (slice_get tasks p ≡ Some s) × Waiting s
 
-  -- the task waits for a cell that the task with this place owns
+  -- the task waits for a cell that the task with this index owns
   abbrev pub LeadsTo : Stopped → ℕ → Type 0
   LeadsTo s p = (q : Name) × (u : Stopped) × (s.line.ending ≡ ending.Waits q) × (slice_get tasks p ≡ Some u)
       × (has q (owned_by u) ≡ true)
 
-  -- for each of the tasks the list has the place of the task that it leads to
+  -- for each of the tasks the list has the index of the task that it leads to
   abbrev pub AreNext : List Stopped → List (Option ℕ) → Type 0
   AreNext [] [] = Unit {0}
   AreNext [] (o ∷ os) = ⊥

@@ -1,4 +1,4 @@
--- Tasks in name order, and the wait graph by their places: a place leads to another as the names do.
+-- Tasks in name order, and the wait graph by their indexes: an index leads to another as the names do.
 use Rattle.std.proofs.Common.{◌≡◌, ◌↔◌, ℕ, zero, suc, ◌<◌, ◌≤◌, inl, inr, true, false, List, [], ◌∷◌, ◌++◌, map, length}
 use Rattle.std.proofs.Common.{Option, Some, None, refl, sym, ap, ◌∙◌, subst, arith}
 use Rattle.std.specs.Bool.{Decides}
@@ -21,7 +21,7 @@ use Rattle.tj_body.specs.Points.{IsIn}
 use Rattle.tj_body.proofs.Lists.{to_map}
 use Rattle.tj_body.proofs.Counts.{same_self, same_is, has_of_times, times_of_in}
 use Rattle.tj_mean.specs.Outcomes.{Ascend, AreApart, Leads, Waits, owned_by}
-use Rattle.tj_mean.specs.Inner.Places.{Next, AreNext, LeadsTo, link_of, link_at, waited}
+use Rattle.tj_mean.specs.Inner.Indexes.{Next, AreNext, LeadsTo, link_of, link_at, waited}
 use Rattle.tj_mean.specs.declared.outcome.Ending.TheVariants as ending
 use Rattle.tj_mean.specs.declared.outcome.Link.{Link}
 use Rattle.tj_mean.specs.declared.stopped.Stopped.{Stopped}
@@ -52,7 +52,7 @@ all_less y [] h u i = absurd i
 all_less y (t ∷ ts) h u (inl e) = subst (λ (z : Stopped). order y z.line.name ≡ Less) (sym e) h.0
 all_less y (t ∷ ts) h u (inr i) = all_less y ts h.1 u i
 
--- of two places the greater one has the greater name
+-- of two indexes the greater one has the greater name
 pub ascends_at : (ss : List Stopped) → Ascend (map (λ (s : Stopped). s.line.name) ss) → (i j : ℕ) (s u : Stopped)
     → slice_get ss i ≡ Some s → slice_get ss j ≡ Some u → i < j → order s.line.name u.line.name ≡ Less
 unfolding IsStrictlySortedBy
@@ -89,7 +89,7 @@ names_lead tasks apart x y z (q, (s, i, n, e), (u, j, m, o)) (q', (s', i', n', e
     sym m ∙ ap (λ (w : Stopped). w.line.name)
     (apart.owners u u' q' j j' (subst (λ c. IsIn c (owned_by u)) cell o) o') ∙ m'
 
--- what the list of next places says of a task
+-- what the list of next indexes says of a task
 module _ (tasks : List Stopped) where
   next_get : (ts : List Stopped) (os : List (Option ℕ)) (k : ℕ) (s : Stopped) → AreNext tasks ts os
       → slice_get ts k ≡ Some s → (p : ℕ) → (slice_index_or os k None ≡ Some p) ↔ LeadsTo tasks s p
@@ -119,11 +119,11 @@ module _ (tasks : List Stopped) where
   next_more (y ∷ ts) [] t o n h = absurd n
   next_more (y ∷ ts) (x ∷ os) t o n h = (n.0, next_more ts os t o n.1 h)
 
-  -- the name of the task with this place
+  -- the name of the task with this index
   abbrev pub name_at : ℕ → Name
   name_at p = (link_at tasks p).task
 
-  -- the place is that of a task
+  -- the index is that of a task
   abbrev pub There : ℕ → Type 0
   There p = p < length tasks
 
@@ -134,10 +134,10 @@ module _ (tasks : List Stopped) where
   name_is p s g = ap (λ (l : Link). l.task) (link_is p s g)
 
   module _ (apart : AreApart tasks) (in_order : Ascend (map (λ (s : Stopped). s.line.name) tasks)) where
-    -- a task has one place
-    pub one_place : (i j : ℕ) (s u : Stopped) → slice_get tasks i ≡ Some s → slice_get tasks j ≡ Some u
+    -- a task has one index
+    pub one_index : (i j : ℕ) (s u : Stopped) → slice_get tasks i ≡ Some s → slice_get tasks j ≡ Some u
         → s.line.name ≡ u.line.name → i ≡ j
-    one_place i j s u x y e =
+    one_index i j s u x y e =
         dite (dec_le (suc i) j)
         (λ l. absurd (not_less u.line.name
         (subst (λ n. order n u.line.name ≡ Less) e (ascends_at tasks in_order i j s u x y (omega arith)))))
@@ -146,19 +146,19 @@ module _ (tasks : List Stopped) where
         (subst (λ n. order n s.line.name ≡ Less) (sym e) (ascends_at tasks in_order j i u s y x (omega arith)))))
         (λ m. omega arith))
 
-    -- the place has the cell that its name waits for
+    -- the index has the cell that its name waits for
     pub waits_at : (p : ℕ) (q : Name) → There p → Waits tasks (name_at p) q → (link_at tasks p).cell ≡ q
     waits_at p q h (s, i, n, e) =
         let t = get_there tasks p h in
         let is = same_task tasks apart.names t.0 s (in_get tasks p t.0 t.1) i (sym (name_is p t.0 t.1) ∙ sym n) in
         ap (λ (l : Link). l.cell) (link_is p t.0 t.1) ∙ ap (λ (w : Stopped). waited w.line.ending) is ∙ ap waited e
 
-    -- the place of a task with this name
-    pub place_of : (x q : Name) → Waits tasks x q → (p : ℕ) × There p × (name_at p ≡ x)
-    place_of x q (s, i, n, e) =
+    -- the index of a task with this name
+    pub index_of : (x q : Name) → Waits tasks x q → (p : ℕ) × There p × (name_at p ≡ x)
+    index_of x q (s, i, n, e) =
         let g = get_in tasks s i in (g.0, get_less tasks g.0 s g.1, name_is g.0 s g.1 ∙ n)
 
-    -- the less of two places has the less name
+    -- the less of two indexes has the less name
     pub names_ascend : (i j : ℕ) → There i → There j → i < j → order (name_at i) (name_at j) ≡ Less
     names_ascend i j h k l =
         let s = get_there tasks i h in
@@ -175,8 +175,8 @@ module _ (tasks : List Stopped) where
         subst (λ p. at_most (name_at i) (name_at p) ≡ true) e (at_most_self (name_at i)))
 
     -- and only then
-    pub places_at_most : (i j : ℕ) → There i → There j → at_most (name_at i) (name_at j) ≡ true → i ≤ j
-    places_at_most i j h k a = dite (dec_le i j) (λ l. l)
+    pub indexes_at_most : (i j : ℕ) → There i → There j → at_most (name_at i) (name_at j) ≡ true → i ≤ j
+    indexes_at_most i j h k a = dite (dec_le i j) (λ l. l)
         (λ m. let e = names_ascend j i k h (omega arith) in absurd (after (order (name_at i) (name_at j)) refl a e))
       where
         after : (o : Ordering) → order (name_at i) (name_at j) ≡ o → is_le o ≡ true → order (name_at j) (name_at i)
@@ -189,7 +189,7 @@ module _ (tasks : List Stopped) where
         after Greater e h l = absurd (cc)
 
     module _ (next : List (Option ℕ)) (are : AreNext tasks tasks next) where
-      -- where a place leads, and that its task waits
+      -- where an index leads, and that its task waits
       pub next_leads : (i j : ℕ) → Next next i j → (s : Stopped) × (slice_get tasks i ≡ Some s) × LeadsTo tasks s j
       next_leads i j e =
           let s = next_task tasks next i j are e in (s.0, s.1, (next_get tasks next i s.0 are s.1 j).0 e)
@@ -197,9 +197,9 @@ module _ (tasks : List Stopped) where
       pub next_there : (i j : ℕ) → Next next i j → There j
       next_there i j e = let l = (next_leads i j e).2 in get_less tasks j l.1 l.3
 
-      -- the names of the places that are there lead as the places do
-      pub places_are_names : AreImages name_at There (Next next) (Leads tasks)
-      places_are_names = record {
+      -- the names of the indexes that are there lead as the indexes do
+      pub indexes_are_names : AreImages name_at There (Next next) (Leads tasks)
+      indexes_are_names = record {
         stay = next_there;
         steps = λ i j e.
             let s = next_leads i j e in
@@ -225,10 +225,10 @@ module _ (tasks : List Stopped) where
         apart = λ i j h k e.
             let s = get_there tasks i h in
             let u = get_there tasks j k in
-            one_place i j s.0 u.0 s.1 u.1 (sym (name_is i s.0 s.1) ∙ e ∙ name_is j u.0 u.1);
+            one_index i j s.0 u.0 s.1 u.1 (sym (name_is i s.0 s.1) ∙ e ∙ name_is j u.0 u.1);
       }
 
-    -- the place of the owner is the one place that a task leads to
+    -- the index of the owner is the one index that a task leads to
     pub led : (t : Stopped) (q : Name) (o : Option ℕ) → t.line.ending ≡ ending.Waits q
         → IfSome o (λ p. (s : Stopped) × (slice_get tasks p ≡ Some s) × (has q (owned_by s) ≡ true))
         → (IsNone o → (p : ℕ) (s : Stopped) → slice_get tasks p ≡ Some s → has q (owned_by s) ≡ false)
@@ -248,5 +248,5 @@ module _ (tasks : List Stopped) where
           let g = subst (λ z. has z (owned_by h.1) ≡ true) (sym c) h.4 in
           let u = apart.owners some.0 h.1 q (in_get tasks x some.0 some.1) (in_get tasks p h.1 h.3)
           (in_of_has q (owned_by some.0) some.2) (in_of_has q (owned_by h.1) g) in
-          ap Some (one_place x p some.0 h.1 some.1 h.3 (ap (λ (z : Stopped). z.line.name) u)),
+          ap Some (one_index x p some.0 h.1 some.1 h.3 (ap (λ (z : Stopped). z.line.name) u)),
     )

@@ -1,6 +1,6 @@
 use Rattle.std.proofs.Common.{sym, ◌∙◌}
 use Rattle.tj_mean.proofs.HeldNames.{without-here}
-use Rattle.tj_mean.proofs.held_names.place_of.Goals as goal
+use Rattle.tj_mean.proofs.held_names.index_of.Goals as goal
 
 pub returns-then-eq-clause-some : goal.returns-then-eq-clause-some
 returns-then-eq-clause-some c = sym (c.loop-i.invariant.0

@@ -1,6 +1,6 @@
 use Rattle.std.proofs.Common.{◌≡◌, ◌++◌, take, drop}
 use Rattle.tj_body.specs.Names.{has, without}
-use Rattle.tj_mean.proofs.held_names.place_of.Given as goal
+use Rattle.tj_mean.proofs.held_names.index_of.Given as goal
 
 -- the name stands only among the names that are left
 abbrev pub invariant-loop-i : goal.invariant-loop-i
