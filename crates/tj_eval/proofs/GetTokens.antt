@@ -5,11 +5,12 @@ use Rattle.std.specs.List.{AllByRecursion, Contains}
 use Rattle.tj_lex.specs.declared.token.Tok.{Tok}
 use Rattle.tj_lex.specs.declared.token.Tok.TheVariants as toks
 use Rattle.tj_lex.specs.declared.token.Key.TheVariants as keys
-use Rattle.tj_syntax.specs.Trees.{Request, Given, Statement, Statements, Otherwise, Task}
+use Rattle.tj_syntax.specs.Trees as tree
+use Rattle.tj_syntax.specs.Trees.{Given, Statement, Statements, Otherwise, Task}
 use Rattle.tj_syntax.specs.Marks.{Name, Noted}
 use Rattle.tj_syntax.specs.Faults.{IsScript, tokens_of}
 use Rattle.tj_syntax.specs.Grammar as g
-use Rattle.tj_syntax.specs.Grammar.{IsRequest, IsGiven, IsStatement, IsBlock, IsStatements, IsElse, IsTask, IsTasks}
+use Rattle.tj_syntax.specs.Grammar.{IsAsk, IsGiven, IsStatement, IsBlock, IsStatements, IsElse, IsTask, IsTasks}
 use Rattle.tj_eval.specs.Gets.{AreWithoutGet, is_no_get, gives_no_get, has_no_get, have_no_get, other_has_no_get}
 use Rattle.tj_eval.specs.Gets.{script_has_no_get}
 
@@ -25,18 +26,18 @@ clear-back : (a b : List Noted) → IsClear (a ++ b) → IsClear b
 clear-back [] b h = h
 clear-back (x ∷ a) b h = clear-back a b h.1
 
-request-without : {tasks vars : List Name} {room : ℕ} {a : List Noted} {q : Request} → IsRequest tasks vars room a q
+ask-without : {tasks vars : List Name} {room : ℕ} {a : List Noted} {q : tree.Ask} → IsAsk tasks vars room a q
     → IsClear a
     → is_no_get q ≡ true
-request-without g.new h = refl
-request-without (g.fork f is) h = refl
-request-without (g.get r other) h = absurd (h.0 refl)
-request-without (g.join r other) h = refl
+ask-without g.new h = refl
+ask-without (g.fork f is) h = refl
+ask-without (g.get r other) h = absurd (h.0 refl)
+ask-without (g.join r other) h = refl
 
 given-without : {tasks vars : List Name} {room : ℕ} {a : List Noted} {side : Given} → IsGiven tasks vars room a side
     → IsClear a
     → gives_no_get side ≡ true
-given-without (g.answer is) h = request-without is h
+given-without (g.answer is) h = ask-without is h
 given-without (g.result_of is) h = refl
 
 mutual
@@ -44,7 +45,7 @@ mutual
       → IsStatement tasks room vars a s last → IsClear a → has_no_get s ≡ true
   statement-without (g.let_new {a} x is) h = given-without is (clear-front a _ h.1.1.1)
   statement-without (g.assign {a} x is) h = given-without is (clear-front a _ h.1.1)
-  statement-without (g.ask {a} is) h = request-without is (clear-front a _ h)
+  statement-without (g.ask {a} is) h = ask-without is (clear-front a _ h)
   statement-without (g.print is) h = refl
   statement-without (g.set_cell x is) h = refl
   statement-without (g.return is) h = refl

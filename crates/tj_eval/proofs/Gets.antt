@@ -15,13 +15,13 @@ use Rattle.tj_body.specs.Asks.{new_places}
 use Rattle.tj_syntax.specs.Faults.{task_at}
 use Rattle.tj_syntax.specs.Marks as marks
 use Rattle.tj_syntax.specs.Trees as tree
-use Rattle.tj_syntax.specs.Trees.{Argument, Request, Given, Statement, Statements, Otherwise, Task}
+use Rattle.tj_syntax.specs.Trees.{Argument, Given, Statement, Statements, Otherwise, Task}
 use Rattle.tj_eval.specs.Expressions.{Computed, is_zero, held}
 use Rattle.tj_eval.specs.Statements.{TaskState, Turn, goes_on, asks, fails, Next, kept, listed, otherwise, then_turn}
 use Rattle.tj_eval.specs.Statements.{arguments, forked, reference_of}
-use Rattle.tj_eval.specs.Statements.{called, given, begun, next_from, next_of, next_ask, next_after, Due, start, place}
+use Rattle.tj_eval.specs.Statements.{asked, given, begun, next_from, next_of, next_ask, next_after, Due, start, place}
 use Rattle.tj_eval.specs.Statements.{cell, cell_or, done, over}
-use Rattle.tj_eval.specs.Statements.{first, number, reference, value_of, kept_if, in_place, answered_or, answered}
+use Rattle.tj_eval.specs.Statements.{first, number, reference, value_of, kept_if, or_else_of, answered_or_else, answered}
 use Rattle.tj_eval.specs.Statements.{value_in}
 use Rattle.tj_eval.specs.Bodies.{script_asks, script_then, IsMainBody}
 use Rattle.tj_eval.specs.Gets.{is_no_get, gives_no_get, has_no_get, have_no_get, other_has_no_get, script_has_no_get}
@@ -88,14 +88,14 @@ without-forked t (Some d) into list h k = without-if (nat_eq _ d.params) _ (fail
 no_truth : false ≡ true → ⊥
 no_truth e = cc
 
-without-called : (t : TaskState) (into : Option ℕ) (q : Request) → IsWithout t → is_no_get q ≡ true
-    → IsTurnWithout (called t into q)
-without-called t into tree.new h e = (tt, h)
-without-called t into (tree.fork f list) h e =
+without-asked : (t : TaskState) (into : Option ℕ) (q : tree.Ask) → IsWithout t → is_no_get q ≡ true
+    → IsTurnWithout (asked t into q)
+without-asked t into tree.new h e = (tt, h)
+without-asked t into (tree.fork f list) h e =
     without-forked t (slice_get t.script f) into list h (task-without t.script f h.0)
-without-called t into (tree.get r other) h e = absurd (no_truth e)
-without-called t into (tree.join r None) h e = without-turn (reference_of t r) _ (λ k. (tt, h))
-without-called t into (tree.join r (Some other)) h e = without-turn (reference_of t r) _ (λ k. (tt, h))
+without-asked t into (tree.get r other) h e = absurd (no_truth e)
+without-asked t into (tree.join r None) h e = without-turn (reference_of t r) _ (λ k. (tt, h))
+without-asked t into (tree.join r (Some other)) h e = without-turn (reference_of t r) _ (λ k. (tt, h))
 
 without-kept : (t : TaskState) (into : Option ℕ) (v : Pay) → IsWithout t → IsWithout (kept into v t)
 without-kept t None v h = h
@@ -103,7 +103,7 @@ without-kept t (Some x) v h = h
 
 without-given : (t : TaskState) (x : ℕ) (side : Given) → IsWithout t → gives_no_get side ≡ true
     → IsTurnWithout (given t x side)
-without-given t x (tree.answer q) h e = without-called t (Some x) q h e
+without-given t x (tree.answer q) h e = without-asked t (Some x) q h e
 without-given t x (tree.result_of e) h _ = without-turn (value_in t e) _ (λ v. without-kept t (Some x) v h)
 
 without-first : (t : TaskState) (b : Bool) (xs ys : List Statement) → IsWithout t → list_all has_no_get xs ≡ true
@@ -114,7 +114,7 @@ without-first t false xs ys h k l = (h.0, all-append has_no_get ys t.rest l h.1)
 without-begun : (t : TaskState) (s : Statement) → IsWithout t → has_no_get s ≡ true → IsTurnWithout (begun t s)
 without-begun t (tree.let_new x side) h e = without-given t x side h e
 without-begun t (tree.assign x side) h e = without-given t x side h e
-without-begun t (tree.ask q) h e = without-called t None q h e
+without-begun t (tree.ask q) h e = without-asked t None q h e
 without-begun t (tree.print x) h e = without-turn (number (value_in t x)) _ (λ n. (tt, h))
 without-begun t (tree.set_cell x v) h e =
     without-turn (reference (Ok (held t.vars x))) _ (λ k. without-turn (value_in t v) _ (λ v. (tt, h)))
@@ -162,24 +162,24 @@ without-kept_if : (t : TaskState) (into : Option ℕ) (v : Option Pay) → IsWit
 without-kept_if t into None h = h
 without-kept_if t into (Some v) h = without-kept t into v h
 
-without-in_place : (t : TaskState) (into : Option ℕ) (c : Computed) → IsWithout t → IfWithout (in_place t into c)
-without-in_place t into (Ok v) h = without-kept t into v h
-without-in_place t into (Err fault) h = tt
+without-or_else_of : (t : TaskState) (into : Option ℕ) (c : Computed) → IsWithout t → IfWithout (or_else_of t into c)
+without-or_else_of t into (Ok v) h = without-kept t into v h
+without-or_else_of t into (Err fault) h = tt
 
-without-answered_or : (t : TaskState) (into : Option ℕ) (e : tree.Expression) (a : Answer) → IsWithout t
-    → IfWithout (answered_or t into e a)
-without-answered_or t into e answer.Start h = h
-without-answered_or t into e (answer.Local k) h = without-kept t into _ h
-without-answered_or t into e answer.Done h = h
-without-answered_or t into e (answer.Num n) h = without-kept t into _ h
-without-answered_or t into e (answer.RefAt k) h = without-kept t into _ h
-without-answered_or t into e answer.Lost h = without-in_place t into (value_in t e) h
+without-answered_or_else : (t : TaskState) (into : Option ℕ) (e : tree.Expression) (a : Answer) → IsWithout t
+    → IfWithout (answered_or_else t into e a)
+without-answered_or_else t into e answer.Start h = h
+without-answered_or_else t into e (answer.Local k) h = without-kept t into _ h
+without-answered_or_else t into e answer.Done h = h
+without-answered_or_else t into e (answer.Num n) h = without-kept t into _ h
+without-answered_or_else t into e (answer.RefAt k) h = without-kept t into _ h
+without-answered_or_else t into e answer.Lost h = without-or_else_of t into (value_in t e) h
 
 without-answered : (t : TaskState) (d : Due) (a : Answer) → IsWithout t → IfWithout (answered t d a)
 without-answered t start a h = h
 without-answered t (place into) a h = without-kept_if t into (value_of a) h
 without-answered t (cell into) a h = without-kept_if t into (value_of a) h
-without-answered t (cell_or into e) a h = without-answered_or t into e a h
+without-answered t (cell_or into e) a h = without-answered_or_else t into e a h
 without-answered t done a h = h
 without-answered t over a h = h
 
@@ -206,4 +206,4 @@ pub main_asks_none : (script : List Task) (steps : ℕ) (body : TaskState) → s
 main_asks_none script steps body h (main, found, is) = subst (λ b. asks_no_get b ≡ true) (sym is)
     (and_from (script_has_no_get script) _ h (listed-without main.body
     (subst (IfTask (λ d. have_no_get d.body ≡ true)) found
-    (main-without script (marks.place (map (λ t. t.name) script) (codes "main")) h))))
+    (main-without script (marks.index_of (map (λ t. t.name) script) (codes "main")) h))))

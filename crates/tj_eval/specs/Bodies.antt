@@ -6,6 +6,7 @@ use Rattle.tj_body.specs.declared.ask.Ask.{Ask}
 use Rattle.tj_body.specs.Asks as await
 use Rattle.tj_body.specs.Asks.{Await, most_left}
 use Rattle.tj_body.specs.Table.{is_paid}
+use Rattle.tj_syntax.specs.Marks.{most_vars}
 use Rattle.tj_syntax.specs.Trees.{Task}
 use Rattle.tj_syntax.specs.Faults.{main_of}
 use Rattle.tj_eval.specs.Statements.{TaskState, Due, start, place, cell, cell_or, done, over, next, task_of}
@@ -19,9 +20,9 @@ await_of (cell_or into e) = await.cell_or
 await_of done = await.done
 await_of over = await.nothing
 
--- the most parameters of a task
+-- the most parameters of a task, which are variables of it
 abbrev pub most_params : ℕ
-most_params = 256
+most_params = most_vars
 
 -- the task has no more parameters
 abbrev pub has_few_params : Task → Bool

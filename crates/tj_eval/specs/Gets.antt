@@ -7,7 +7,7 @@ use Rattle.tj_lex.specs.declared.token.Tok.{Tok}
 use Rattle.tj_lex.specs.declared.token.Tok.TheVariants as toks
 use Rattle.tj_lex.specs.declared.token.Key.TheVariants as keys
 use Rattle.tj_syntax.specs.Trees as tree
-use Rattle.tj_syntax.specs.Trees.{Request, Given, Statement, Statements, Otherwise, Task}
+use Rattle.tj_syntax.specs.Trees.{Given, Statement, Statements, Otherwise, Task}
 use Rattle.tj_eval.specs.Statements.{TaskState}
 
 -- the keyword `get` isn't among the tokens
@@ -15,7 +15,7 @@ abbrev pub AreWithoutGet : List Tok → Type 0
 AreWithoutGet tokens = Contains tokens (toks.Key keys.Get) → ⊥
 
 -- the ask is no get, neither with what to compute where the cell is broken nor without
-abbrev pub is_no_get : Request → Bool
+abbrev pub is_no_get : tree.Ask → Bool
 is_no_get tree.new = true
 is_no_get (tree.fork f list) = true
 is_no_get (tree.get r other) = false

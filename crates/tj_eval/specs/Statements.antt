@@ -15,7 +15,7 @@ use Rattle.tj_body.specs.Asks.{new_places}
 use Rattle.tj_syntax.specs.declared.expr.RefOf.{RefOf}
 use Rattle.tj_syntax.specs.declared.expr.RefOf.TheVariants as ref
 use Rattle.tj_syntax.specs.Trees as tree
-use Rattle.tj_syntax.specs.Trees.{Expression, Argument, Request, Given, Statement, Statements, Otherwise, Task}
+use Rattle.tj_syntax.specs.Trees.{Expression, Argument, Given, Statement, Statements, Otherwise, Task}
 use Rattle.tj_eval.specs.Expressions.{Computed, with_number, with_reference, is_zero, held, value}
 
 -- What a task awaits: to begin; the place of what it made, or the value of a cell, each for a variable or to be
@@ -28,6 +28,11 @@ pub data Due : Type 0 where
   cell_or : Option ℕ → Expression → Due
   done : Due
   over : Due
+
+-- what a task awaits once it asks for a cell's value, with what stands behind `or`
+abbrev pub cell_due : Option ℕ → Option Expression → Due
+cell_due into None = cell into
+cell_due into (Some e) = cell_or into e
 
 -- a task between two of its asks
 pub record TaskState : Type 0 where
@@ -151,19 +156,19 @@ reference_of t (ref.Var x) = reference (Ok (held t.vars x))
 reference_of t ref.Me = Ok 0
 
 -- an ask, whose value is for the variable or is dropped
-abbrev pub called : TaskState → Option ℕ → Request → Turn
-called t into tree.new = asks ask.New (record t { due = place into })
-called t into (tree.fork f list) = forked t (slice_get t.script f) into list
-called t into (tree.get r None) = then_turn (reference_of t r) (λ k. asks (ask.Get k) (record t { due = cell into }))
-called t into (tree.get r (Some e)) =
+abbrev pub asked : TaskState → Option ℕ → tree.Ask → Turn
+asked t into tree.new = asks ask.New (record t { due = place into })
+asked t into (tree.fork f list) = forked t (slice_get t.script f) into list
+asked t into (tree.get r None) = then_turn (reference_of t r) (λ k. asks (ask.Get k) (record t { due = cell into }))
+asked t into (tree.get r (Some e)) =
     then_turn (reference_of t r) (λ k. asks (ask.GetOr k) (record t { due = cell_or into e }))
-called t into (tree.join r None) = then_turn (reference_of t r) (λ k. asks (ask.Join k) (record t { due = cell into }))
-called t into (tree.join r (Some e)) =
+asked t into (tree.join r None) = then_turn (reference_of t r) (λ k. asks (ask.Join k) (record t { due = cell into }))
+asked t into (tree.join r (Some e)) =
     then_turn (reference_of t r) (λ k. asks (ask.JoinOr k) (record t { due = cell_or into e }))
 
 -- a variable is given the answer to an ask, or the value of an expression
 abbrev pub given : TaskState → ℕ → Given → Turn
-given t x (tree.answer ask) = called t (Some x) ask
+given t x (tree.answer ask) = asked t (Some x) ask
 given t x (tree.result_of e) = then_turn (value_in t e) (λ v. goes_on (kept (Some x) v t))
 
 -- the task with these statements to come first
@@ -179,7 +184,7 @@ otherwise (tree.block body) = listed body
 abbrev pub begun : TaskState → Statement → Turn
 begun t (tree.let_new x side) = given t x side
 begun t (tree.assign x side) = given t x side
-begun t (tree.ask q) = called t None q
+begun t (tree.ask q) = asked t None q
 begun t (tree.print e) = then_turn (number (value_in t e)) (λ n. asks (ask.Emit n) (record t { due = done }))
 begun t (tree.set_cell x e) = then_turn (reference (Ok (held t.vars x)))
     (λ k. then_turn (value_in t e) (λ v. asks (ask.Set k v) (record t { due = done })))
@@ -225,25 +230,25 @@ kept_if into None t = t
 kept_if into (Some v) t = kept into v t
 
 -- the task with the value in place of that of a broken cell
-abbrev pub in_place : TaskState → Option ℕ → Computed → Result TaskState Trouble
-in_place t into (Ok v) = Ok (kept into v t)
-in_place t into (Err fault) = Err fault
+abbrev pub or_else_of : TaskState → Option ℕ → Computed → Result TaskState Trouble
+or_else_of t into (Ok v) = Ok (kept into v t)
+or_else_of t into (Err fault) = Err fault
 
 -- the task with the answer's value in the variable, or with that of the expression where the cell is broken
-abbrev pub answered_or : TaskState → Option ℕ → Expression → Answer → Result TaskState Trouble
-answered_or t into e answer.Start = Ok t
-answered_or t into e (answer.Local k) = Ok (kept into (pay.Ref k) t)
-answered_or t into e answer.Done = Ok t
-answered_or t into e (answer.Num n) = Ok (kept into (pay.Num n) t)
-answered_or t into e (answer.RefAt k) = Ok (kept into (pay.Ref k) t)
-answered_or t into e answer.Lost = in_place t into (value_in t e)
+abbrev pub answered_or_else : TaskState → Option ℕ → Expression → Answer → Result TaskState Trouble
+answered_or_else t into e answer.Start = Ok t
+answered_or_else t into e (answer.Local k) = Ok (kept into (pay.Ref k) t)
+answered_or_else t into e answer.Done = Ok t
+answered_or_else t into e (answer.Num n) = Ok (kept into (pay.Num n) t)
+answered_or_else t into e (answer.RefAt k) = Ok (kept into (pay.Ref k) t)
+answered_or_else t into e answer.Lost = or_else_of t into (value_in t e)
 
 -- the task once its ask is answered; after word that a cell is broken, the expression in its place is computed
 abbrev pub answered : TaskState → Due → Answer → Result TaskState Trouble
 answered t start a = Ok t
 answered t (place into) a = Ok (kept_if into (value_of a) t)
 answered t (cell into) a = Ok (kept_if into (value_of a) t)
-answered t (cell_or into e) a = answered_or t into e a
+answered t (cell_or into e) a = answered_or_else t into e a
 answered t done a = Ok t
 answered t over a = Ok t
 

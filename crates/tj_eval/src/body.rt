@@ -14,8 +14,8 @@ ghost use Rattle.tj_eval.specs.Inner.Turns.{IsNext, IsNextAsk, IsAnswered};
 
 use crate::expression::value;
 use crate::fork::task_of;
+use crate::halt::Halt;
 use crate::state::{Due, ScriptBody};
-use crate::stop::Stop;
 use std::alloc::Global;
 use tj_base::{Oom, Pay, Trouble};
 use tj_body::{Answer, Ask, Body};
@@ -70,7 +70,7 @@ impl<'s> ScriptBody<'s> {
         let due = self.due;
         match due {
             Due::Place(into) | Due::Cell(into) => self.keep_answer(into, a),
-            Due::CellOr(into, e) => self.keep_or(into, e, a)?,
+            Due::CellOr(into, e) => self.keep_or_else(into, e, a)?,
             Due::Start | Due::Done | Due::Over => {}
         }
         Ok(())
@@ -88,8 +88,8 @@ impl<'s> ScriptBody<'s> {
     }
 
     /// The same, or puts the value of the expression there where the cell is broken.
-    fn keep_or(&mut self, into: Option<u32>, e: &Expr, a: Answer) -> Result<(), Trouble>
-        ensures { IsAnswered self.old (state.answered_or self.old into (view.expression e.now) a)
+    fn keep_or_else(&mut self, into: Option<u32>, e: &Expr, a: Answer) -> Result<(), Trouble>
+        ensures { IsAnswered self.old (state.answered_or_else self.old into (view.expression e.now) a)
             result self.new }
     {
         if let Answer::Lost = a {
@@ -109,18 +109,18 @@ impl<'s> ScriptBody<'s> {
     {
         match self.next_ask(alloc) {
             Ok(ask) => Ok(ask),
-            Err(Stop::Fault(fault)) => Ok(self.fail(fault)),
-            Err(Stop::Memory) => Err(Oom),
+            Err(Halt::Fault(fault)) => Ok(self.fail(fault)),
+            Err(Halt::Memory) => Err(Oom),
         }
     }
 
     /// The next ask, if no statement on the way to it fails.
-    fn next_ask(&mut self, alloc: Global) -> Result<Ask<ScriptBody<'s>>, Stop>
+    fn next_ask(&mut self, alloc: Global) -> Result<Ask<ScriptBody<'s>>, Halt>
         requires { IsTrue (all_have_few_params self.old.script) }
         ensures { IsNext (state.next_ask self.old.steps self.old) result self.new }
     {
         match self.go_on()? {
-            Some(stmt) => self.ask(alloc, stmt),
+            Some(stmt) => self.begin(alloc, stmt),
             None => {
                 self.end();
                 Ok(Ask::End(Pay::Num(0)))

@@ -7,8 +7,8 @@ ghost use Rattle.tj_eval.specs.Bodies.{most_params, all_have_few_params};
 ghost use Rattle.tj_eval.specs.Inner.Turns.{IsComputed, IsChild, IsForkOf};
 
 use crate::expression::{held, reference_in, value};
+use crate::halt::Halt;
 use crate::state::{Due, ScriptBody};
-use crate::stop::Stop;
 use std::alloc::Global;
 use tj_base::{Items, Oom, Pay, PlaceList, Trouble};
 use tj_body::Ask;
@@ -25,7 +25,7 @@ fn argument(vars: &[Pay], arg: &Arg) -> Result<Pay, Trouble>
 }
 
 /// The values of the arguments.
-fn arguments(alloc: Global, vars: &[Pay], args: &[Arg]) -> Result<Vec<Pay>, Stop>
+fn arguments(alloc: Global, vars: &[Pay], args: &[Arg]) -> Result<Vec<Pay>, Halt>
     ensures { IsComputed (state.arguments vars.now (map view.argument args.now))
         (λ values. values.items) result }
 {
@@ -119,16 +119,16 @@ impl<'s> ScriptBody<'s> {
         alloc: Global,
         f: u32,
         args: &[Arg],
-    ) -> Result<Ask<ScriptBody<'s>>, Stop>
+    ) -> Result<Ask<ScriptBody<'s>>, Halt>
         requires { IsTrue (all_have_few_params self.now.script) }
         ensures { let task = slice_get self.now.script f in
             IsForkOf self.now task (map view.argument args.now) result }
     {
         let Some(decl) = self.script.tasks.get(f as usize) else {
-            return Err(Stop::Fault(Trouble::Kind));
+            return Err(Halt::Fault(Trouble::Kind));
         };
         if args.len() != decl.params as usize {
-            return Err(Stop::Fault(Trouble::Kind));
+            return Err(Halt::Fault(Trouble::Kind));
         }
         self.child(alloc, decl, args)
     }
@@ -139,7 +139,7 @@ impl<'s> ScriptBody<'s> {
         alloc: Global,
         decl: &'s Decl,
         args: &[Arg],
-    ) -> Result<Ask<ScriptBody<'s>>, Stop>
+    ) -> Result<Ask<ScriptBody<'s>>, Halt>
         requires few { length args.now ≤ most_params }
         ensures { IsChild self.now (view.task decl.now) (map view.argument args.now) result }
     {

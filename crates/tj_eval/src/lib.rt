@@ -1,17 +1,17 @@
 //! The bodies of a script's tasks: what each asks is the meaning of its statements.
 #![tactic(auto)]
 
+mod ask;
 mod body;
-mod call;
 mod expression;
 mod fork;
 #[cfg(test)]
 mod fork_tests;
+mod halt;
 pub mod laws;
 mod quick;
 mod state;
 mod statement;
-mod stop;
 #[cfg(test)]
 mod tests;
 #[cfg(test)]

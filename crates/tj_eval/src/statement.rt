@@ -6,9 +6,9 @@ ghost use Rattle.tj_eval.specs.Statements as state;
 ghost use Rattle.tj_eval.specs.Inner.Turns.{IsAskOf, IsGiven, IsOnWay, IsStep, is_ask};
 
 use crate::expression::{held, number, reference_in, value, whole};
+use crate::halt::Halt;
 use crate::quick::quick;
 use crate::state::{Due, ScriptBody};
-use crate::stop::Stop;
 use std::alloc::Global;
 use std::slice;
 use tj_base::{Pay, Trouble};
@@ -19,12 +19,12 @@ impl<'s> ScriptBody<'s> {
     /// Goes on to the next statement that asks, if one is left, which has then begun. The statements
     /// on the way hand nothing on that is as large as an ask.
     #[inline(never)]
-    pub(crate) fn go_on(&mut self) -> Result<Option<&'s Stmt>, Stop>
+    pub(crate) fn go_on(&mut self) -> Result<Option<&'s Stmt>, Halt>
         ensures { IsOnWay (λ stmt. view.statement stmt.now) self.old result self.new }
     {
         while let Some(stmt) = self.take() {
             if self.steps == 0 {
-                return Err(Stop::Fault(Trouble::Steps));
+                return Err(Halt::Fault(Trouble::Steps));
             }
             self.steps -= 1;
             if !self.passes(stmt)? {
@@ -58,7 +58,7 @@ impl<'s> ScriptBody<'s> {
     }
 
     /// Carries a statement out that asks nothing. False: it asks, and isn't carried out.
-    fn passes(&mut self, stmt: &'s Stmt) -> Result<bool, Stop>
+    fn passes(&mut self, stmt: &'s Stmt) -> Result<bool, Halt>
         ensures { IsStep self.old (view.statement stmt.now) result self.new }
     {
         match stmt {
@@ -86,7 +86,11 @@ impl<'s> ScriptBody<'s> {
     }
 
     /// The ask of a statement that asks.
-    pub(crate) fn ask(&mut self, alloc: Global, stmt: &'s Stmt) -> Result<Ask<ScriptBody<'s>>, Stop>
+    pub(crate) fn begin(
+        &mut self,
+        alloc: Global,
+        stmt: &'s Stmt,
+    ) -> Result<Ask<ScriptBody<'s>>, Halt>
         requires few { IsTrue (all_have_few_params self.old.script) }
         requires asks { IsTrue (is_ask (view.statement stmt.now)) }
         ensures { let ask = state.begun self.old (view.statement stmt.now) in
@@ -94,9 +98,9 @@ impl<'s> ScriptBody<'s> {
     {
         match stmt {
             Stmt::Let(x, Rhs::Call(call)) | Stmt::Assign(x, Rhs::Call(call)) => {
-                self.call(alloc, Some(*x), call)
+                self.ask(alloc, Some(*x), call)
             }
-            Stmt::Do(call) => self.call(alloc, None, call),
+            Stmt::Do(call) => self.ask(alloc, None, call),
             Stmt::Print(e) => {
                 let n = number(&self.vars, e)?;
                 self.due = Due::Done;

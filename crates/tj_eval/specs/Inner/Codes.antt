@@ -11,7 +11,7 @@ use Rattle.tj_syntax.specs.declared.expr.Rel.TheVariants as rel
 use Rattle.tj_syntax.specs.declared.expr.RefOf.{RefOf}
 use Rattle.tj_syntax.specs.declared.expr.RefOf.TheVariants as ref
 use Rattle.tj_syntax.specs.Trees as tree
-use Rattle.tj_syntax.specs.Trees.{Expression, Pairs, Argument, Request, Given, Statement, Statements, Otherwise}
+use Rattle.tj_syntax.specs.Trees.{Expression, Pairs, Argument, Given, Statement, Statements, Otherwise}
 
 -- an operator as a number
 abbrev op_code : Op → ℕ
@@ -185,14 +185,14 @@ or_same None = refl
 or_same (Some e) = λ i. Some (x_same e i)
 
 -- an ask as its code
-abbrev ask_code : Request → Gv
+abbrev ask_code : tree.Ask → Gv
 ask_code tree.new = gnil
 ask_code (tree.fork f list) = gcons (gnum f) (args_code list)
 ask_code (tree.get r e) = gcons (gcons gnil (ref_code r)) (or_code e)
 ask_code (tree.join r e) = gcons (gcons (gnum 0) (ref_code r)) (or_code e)
 
 -- an ask by its code
-abbrev ask_back : Gv → Request
+abbrev ask_back : Gv → tree.Ask
 ask_back gnil = tree.new
 ask_back (gnum n) = tree.new
 ask_back (gcons gnil b) = tree.new
@@ -202,7 +202,7 @@ ask_back (gcons (gcons (gnum n) a) b) = tree.join (ref_back a) (or_back b)
 ask_back (gcons (gcons (gcons a b) c) d) = tree.new
 
 -- an ask is that of its code
-pub ask_same : (ask : Request) → ask_back (ask_code ask) ≡ ask
+pub ask_same : (ask : tree.Ask) → ask_back (ask_code ask) ≡ ask
 ask_same tree.new = refl
 ask_same (tree.fork f list) = λ i. tree.fork f (args_same list i)
 ask_same (tree.get r e) = λ i. tree.get (ref_same r i) (or_same e i)

@@ -25,7 +25,7 @@ use Rattle.tj_body.specs.declared.ask.Ask.TheVariants as ask
 use Rattle.tj_syntax.specs.declared.expr.RefOf.{RefOf}
 use Rattle.tj_syntax.specs.declared.expr.RefOf.TheVariants as ref
 use Rattle.tj_syntax.specs.Trees.{Expression, Pairs, variable, me, negation, chain, comparison, no_pairs, pair}
-use Rattle.tj_syntax.specs.Trees.{Argument, Request, Given, Statement, Statements, Task}
+use Rattle.tj_syntax.specs.Trees.{Argument, Given, Statement, Statements, Task}
 use Rattle.tj_syntax.specs.Trees as tree
 use Rattle.tj_eval.specs.Expressions.{Computed, with_number, with_reference, exact, is_i64, applied, compares, truth}
 use Rattle.tj_eval.specs.Expressions.{held, value, chained}
@@ -33,7 +33,7 @@ use Rattle.tj_eval.specs.Statements.{TaskState, Turn, goes_on, asks, fails, Next
 use Rattle.tj_eval.specs.Statements.{number, reference}
 use Rattle.tj_eval.specs.Statements.{Due, start, place, cell, cell_or, done, over, next_from, next_of, next_ask}
 use Rattle.tj_eval.specs.Statements.{next_after, next}
-use Rattle.tj_eval.specs.Statements.{begun, given, called, forked, answered, answered_or, value_of, kept_if, in_place}
+use Rattle.tj_eval.specs.Statements.{begun, given, asked, forked, answered, answered_or_else, value_of, kept_if, or_else_of}
 use Rattle.tj_eval.specs.Statements.{reference_of}
 use Rattle.tj_eval.specs.Statements.{argument, arguments, and_more, references, handed, as_passed, task_of, fork_of}
 use Rattle.tj_eval.specs.Statements.{first}
@@ -343,17 +343,17 @@ good-reference_of : (t : TaskState) (r : RefOf) → IsSound t → IfGood (λ k. 
 good-reference_of t (ref.Var x) s = fine-reference t.places (Ok (held t.vars x)) (fine-held t.places t.vars x s.paid)
 good-reference_of t ref.Me s = s.some
 
-good-called : (t : TaskState) (into : Option ℕ) (call : Request) → IsSound t → IsGoodTurn t (called t into call)
-good-called t into tree.new s = good-ask t (place into) ask.New s refl tt
-good-called t into (tree.fork f list) s = good-fork-at t f into list s
-good-called t into (tree.get r None) s = good-turn (λ k. k < t.places) t (reference_of t r) _ (good-reference_of t r s)
+good-asked : (t : TaskState) (into : Option ℕ) (call : tree.Ask) → IsSound t → IsGoodTurn t (asked t into call)
+good-asked t into tree.new s = good-ask t (place into) ask.New s refl tt
+good-asked t into (tree.fork f list) s = good-fork-at t f into list s
+good-asked t into (tree.get r None) s = good-turn (λ k. k < t.places) t (reference_of t r) _ (good-reference_of t r s)
     (λ k h. good-ask t (cell into) (ask.Get k) s refl h)
-good-called t into (tree.get r (Some e)) s =
+good-asked t into (tree.get r (Some e)) s =
     good-turn (λ k. k < t.places) t (reference_of t r) _ (good-reference_of t r s)
     (λ k h. good-ask t (cell_or into e) (ask.GetOr k) s refl h)
-good-called t into (tree.join r None) s = good-turn (λ k. k < t.places) t (reference_of t r) _ (good-reference_of t r s)
+good-asked t into (tree.join r None) s = good-turn (λ k. k < t.places) t (reference_of t r) _ (good-reference_of t r s)
     (λ k h. good-ask t (cell into) (ask.Join k) s refl h)
-good-called t into (tree.join r (Some e)) s =
+good-asked t into (tree.join r (Some e)) s =
     good-turn (λ k. k < t.places) t (reference_of t r) _ (good-reference_of t r s)
     (λ k h. good-ask t (cell_or into e) (ask.JoinOr k) s refl h)
 
@@ -361,7 +361,7 @@ fine-value_in : (t : TaskState) (e : Expression) → IsSound t → IsFine t.plac
 fine-value_in t e s = fine-value t.places t.vars e s.some s.paid
 
 good-given : (t : TaskState) (x : ℕ) (side : Given) → IsSound t → IsGoodTurn t (given t x side)
-good-given t x (tree.answer call) s = good-called t (Some x) call s
+good-given t x (tree.answer call) s = good-asked t (Some x) call s
 good-given t x (tree.result_of e) s = good-turn (IsPaid t.places) t (value_in t e) _ (fine-value_in t e s)
     (λ v h. (sound-kept t (Some x) v s h, refl))
 
@@ -371,7 +371,7 @@ sound-first t list s = record { few = s.few; limit = s.limit; some = s.some; pai
 good-begun : (t : TaskState) (s : Statement) → IsSound t → IsGoodTurn t (begun t s)
 good-begun t (tree.let_new x side) h = good-given t x side h
 good-begun t (tree.assign x side) h = good-given t x side h
-good-begun t (tree.ask call) h = good-called t None call h
+good-begun t (tree.ask call) h = good-asked t None call h
 good-begun t (tree.print e) h = good-turn (λ _. Unit {0}) t (number (value_in t e)) _ (any (number (value_in t e)))
     (λ n _. good-ask t done (ask.Emit n) h refl tt)
 good-begun t (tree.set_cell x e) h = good-turn (λ k. k < t.places) t (reference (Ok (held t.vars x))) _
@@ -462,27 +462,27 @@ on-kept_if : (t : TaskState) (into : Option ℕ) (o : Option Pay) → IsSound t 
 on-kept_if t into None s p = (s, refl, refl)
 on-kept_if t into (Some v) s p = on-kept t into v s p
 
-on-in_place : (t : TaskState) (into : Option ℕ) (c : Computed) → IsSound t → IsFine t.places c
-    → IfGood (IsOn t) (in_place t into c)
-on-in_place t into (Ok v) s h = on-kept t into v s h
-on-in_place t into (Err fault) s h = tt
+on-or_else_of : (t : TaskState) (into : Option ℕ) (c : Computed) → IsSound t → IsFine t.places c
+    → IfGood (IsOn t) (or_else_of t into c)
+on-or_else_of t into (Ok v) s h = on-kept t into v s h
+on-or_else_of t into (Err fault) s h = tt
 
-on-answered_or : (t : TaskState) (into : Option ℕ) (e : Expression) (a : Answer) → IsSound t
+on-answered_or_else : (t : TaskState) (into : Option ℕ) (e : Expression) (a : Answer) → IsSound t
     → PaidIf t.places (value_of a)
-    → IfGood (IsOn t) (answered_or t into e a)
-on-answered_or t into e answer.Start s p = (s, refl, refl)
-on-answered_or t into e (answer.Local k) s p = on-kept t into (pay.Ref k) s p
-on-answered_or t into e answer.Done s p = (s, refl, refl)
-on-answered_or t into e (answer.Num n) s p = on-kept t into (pay.Num n) s p
-on-answered_or t into e (answer.RefAt k) s p = on-kept t into (pay.Ref k) s p
-on-answered_or t into e answer.Lost s p = on-in_place t into (value_in t e) s (fine-value_in t e s)
+    → IfGood (IsOn t) (answered_or_else t into e a)
+on-answered_or_else t into e answer.Start s p = (s, refl, refl)
+on-answered_or_else t into e (answer.Local k) s p = on-kept t into (pay.Ref k) s p
+on-answered_or_else t into e answer.Done s p = (s, refl, refl)
+on-answered_or_else t into e (answer.Num n) s p = on-kept t into (pay.Num n) s p
+on-answered_or_else t into e (answer.RefAt k) s p = on-kept t into (pay.Ref k) s p
+on-answered_or_else t into e answer.Lost s p = on-or_else_of t into (value_in t e) s (fine-value_in t e s)
 
 on-answered : (t : TaskState) (d : Due) (a : Answer) → IsSound t → PaidIf t.places (value_of a)
     → IfGood (IsOn t) (answered t d a)
 on-answered t start a s p = (s, refl, refl)
 on-answered t (place into) a s p = on-kept_if t into (value_of a) s p
 on-answered t (cell into) a s p = on-kept_if t into (value_of a) s p
-on-answered t (cell_or into e) a s p = on-answered_or t into e a s p
+on-answered t (cell_or into e) a s p = on-answered_or_else t into e a s p
 on-answered t done a s p = (s, refl, refl)
 on-answered t over a s p = (s, refl, refl)
 

@@ -1,17 +1,18 @@
 //! The asks of a task, whose values are for a variable or are dropped.
 ghost use Rattle.std.specs.Prelude.{◌≡◌, IsTrue};
+ghost use Rattle.std.specs.Option.{option_map};
 ghost use Rattle.tj_eval.specs.Bodies.{all_have_few_params};
 ghost use Rattle.tj_syntax.specs.View as view;
 ghost use Rattle.tj_eval.specs.Statements as state;
 ghost use Rattle.tj_eval.specs.Inner.Turns.{IsAskOf};
 
 use crate::expression::{held, reference_in};
+use crate::halt::Halt;
 use crate::state::{Due, ScriptBody};
-use crate::stop::Stop;
 use std::alloc::Global;
 use tj_base::{Pay, Trouble};
 use tj_body::Ask;
-use tj_syntax::{Call, RefOf};
+use tj_syntax::{Call, Expr, RefOf};
 
 impl<'s> ScriptBody<'s> {
     /// The place of the reference that a get or a join asks for.
@@ -24,15 +25,26 @@ impl<'s> ScriptBody<'s> {
         }
     }
 
-    /// Asks.
-    pub(crate) fn call(
+    /// Lets the task await the value of a cell, or what stands behind `or` where the cell is broken.
+    fn await_cell(&mut self, into: Option<u32>, or_else: &'s Option<Expr>)
+        ensures { let due = state.cell_due into (option_map view.expression or_else.now) in
+            self.new ≡ record self.old { due = due } }
+    {
+        self.due = match or_else {
+            None => Due::Cell(into),
+            Some(e) => Due::CellOr(into, e),
+        };
+    }
+
+    /// Asks, for the variable or to have the answer dropped.
+    pub(crate) fn ask(
         &mut self,
         alloc: Global,
         into: Option<u32>,
         call: &'s Call,
-    ) -> Result<Ask<ScriptBody<'s>>, Stop>
+    ) -> Result<Ask<ScriptBody<'s>>, Halt>
         requires { IsTrue (all_have_few_params self.old.script) }
-        ensures { let ask = state.called self.old into (view.request call.now) in
+        ensures { let ask = state.asked self.old into (view.ask call.now) in
             IsAskOf self.old ask result self.new }
     {
         match call {
@@ -45,30 +57,20 @@ impl<'s> ScriptBody<'s> {
                 self.due = Due::Place(into);
                 Ok(ask)
             }
-            Call::Get(r, or) => {
+            Call::Get(r, or_else) => {
                 let p = self.reference(*r)?;
-                match or {
-                    None => {
-                        self.due = Due::Cell(into);
-                        Ok(Ask::Get { p })
-                    }
-                    Some(e) => {
-                        self.due = Due::CellOr(into, e);
-                        Ok(Ask::GetOr { p })
-                    }
+                self.await_cell(into, or_else);
+                match or_else {
+                    None => Ok(Ask::Get { p }),
+                    Some(_) => Ok(Ask::GetOr { p }),
                 }
             }
-            Call::Join(r, or) => {
+            Call::Join(r, or_else) => {
                 let t = self.reference(*r)?;
-                match or {
-                    None => {
-                        self.due = Due::Cell(into);
-                        Ok(Ask::Join { t })
-                    }
-                    Some(e) => {
-                        self.due = Due::CellOr(into, e);
-                        Ok(Ask::JoinOr { t })
-                    }
+                self.await_cell(into, or_else);
+                match or_else {
+                    None => Ok(Ask::Join { t }),
+                    Some(_) => Ok(Ask::JoinOr { t }),
                 }
             }
         }
