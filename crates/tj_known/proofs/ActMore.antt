@@ -11,15 +11,15 @@ use Rattle.tj_mean.specs.ActLines.{AreActLines, HasAct}
 use Rattle.tj_mean.specs.declared.act.Act.{Act}
 use Rattle.tj_mean.specs.declared.act.Act.TheVariants as act
 use Rattle.tj_mean.specs.declared.act.ActLine.{ActLine}
-use Rattle.tj_mean.proofs.LinePlaces.{acts_at, name_at}
+use Rattle.tj_mean.proofs.LineIndexes.{acts_at, name_at}
 use Rattle.tj_mean.proofs.Elements.{get_less, get_there, some_is}
 use Rattle.tj_known.specs.Knowledge.{Knows}
-use Rattle.tj_known.specs.Inner.Learners.{IsLearner, IsUnderWay, IsWorkedOff, NextAt, has_place, next_of, worked}
+use Rattle.tj_known.specs.Inner.Learners.{IsLearner, IsUnderWay, IsWorkedOff, NextAt, has_index, next_of, worked}
 use Rattle.tj_known.specs.Inner.Steps.{AreSteps, HasName, IsStep}
 use Rattle.tj_known.specs.declared.learner.Learner.{Learner}
 use Rattle.tj_known.specs.declared.step.Step.{Step}
 use Rattle.tj_known.proofs.Rows.{mark_earlier, mark_last}
-use Rattle.tj_known.proofs.StepPlaces.{act_at}
+use Rattle.tj_known.proofs.StepIndexes.{act_at}
 
 -- one act more is worked off
 pub worked_more : (x y : Learner) (mark : Bool) → IsWorkedOff x y mark → worked y ≡ suc (worked x)
@@ -48,7 +48,7 @@ next_tells x s false begun next =
 
 module _ (lines : List ActLine) (learners : List Learner) (fit : AreActLines lines)
     (under : IsUnderWay lines learners) where
-  -- the task with a place, with its next act
+  -- the task with an index, with its next act
   pub record AtNext (i : ℕ) (s : Step) : Type 0 where
     pub learner : Learner
     pub line : ActLine
@@ -62,7 +62,7 @@ module _ (lines : List ActLine) (learners : List Learner) (fit : AreActLines lin
     pub step : IsStep lines doing s
     pub fits : IsLearner lines line learner
 
-  -- the learner at a place of which something is said
+  -- the learner at an index of which something is said
   learner_at : (i : ℕ) (s : Step) → NextAt learners i s
       → (x : Learner) × (slice_get learners i ≡ Some x) × (next_of x ≡ Some s)
   learner_at i s next = by (slice_get learners i) refl where
@@ -103,28 +103,28 @@ module _ (lines : List ActLine) where
       → HasAct lines l.name (worked x) a
       → ((u : Name) (answered : Bool) → a ≡ act.Join u answered → (mark ≡ true) ↔ Knows lines l.name (worked x) u)
       → (n : ℕ) (u : Name) (answered : Bool) → n < worked y → HasAct lines l.name n (act.Join u answered)
-      → (has_place y.marks.items n ≡ true) ↔ Knows lines l.name n u
+      → (has_index y.marks.items n ≡ true) ↔ Knows lines l.name n u
   marked_more l x y mark a is off does marked n u answered less g = dite (ℕ_discrete n (worked x))
       (λ e. last e)
       (λ differs. let count = worked_more x y mark off in earlier (omega (arith, differs)))
     where
-      last : n ≡ worked x → (has_place y.marks.items n ≡ true) ↔ Knows lines l.name n u
-      last e = subst (λ k. (has_place y.marks.items k ≡ true) ↔ Knows lines l.name k u) (sym e)
-          (same_truth (has_place y.marks.items (worked x)) mark
-          (ap (λ row. has_place row (worked x)) off.marks ∙ mark_last x.marks.items mark)
+      last : n ≡ worked x → (has_index y.marks.items n ≡ true) ↔ Knows lines l.name n u
+      last e = subst (λ k. (has_index y.marks.items k ≡ true) ↔ Knows lines l.name k u) (sym e)
+          (same_truth (has_index y.marks.items (worked x)) mark
+          (ap (λ row. has_index row (worked x)) off.marks ∙ mark_last x.marks.items mark)
           (marked u answered (some_is a (act.Join u answered)
           (sym does ∙ subst (λ k. HasAct lines l.name k (act.Join u answered)) e g))))
 
-      earlier : n < worked x → (has_place y.marks.items n ≡ true) ↔ Knows lines l.name n u
-      earlier few = same_truth (has_place y.marks.items n) (has_place x.marks.items n)
-          (ap (λ row. has_place row n) off.marks ∙ mark_earlier x.marks.items mark n few) (is.marked n u answered few g)
+      earlier : n < worked x → (has_index y.marks.items n ≡ true) ↔ Knows lines l.name n u
+      earlier few = same_truth (has_index y.marks.items n) (has_index x.marks.items n)
+          (ap (λ row. has_index row n) off.marks ∙ mark_earlier x.marks.items mark n few) (is.marked n u answered few g)
 
   -- what holds of a task after one act more
   pub learner_more : (l : ActLine) (x y : Learner) (mark : Bool) (a : Act) → IsLearner lines l x → x.begun ≡ true
       → worked x < length x.steps.items → IsWorkedOff x y mark → HasAct lines l.name (worked x) a
       → ((u : Name) (answered : Bool) → a ≡ act.Join u answered → (mark ≡ true) ↔ Knows lines l.name (worked x) u)
       → ((i : ℕ) (u : Name) → HasName lines i u
-      → (has_place y.knows.items i ≡ true) ↔ Knows lines l.name (suc (worked x)) u)
+      → (has_index y.knows.items i ≡ true) ↔ Knows lines l.name (suc (worked x)) u)
       → IsLearner lines l y
   learner_more l x y mark a is begun less off does marked knows =
       let count = worked_more x y mark off in
@@ -134,7 +134,7 @@ module _ (lines : List ActLine) where
         wide = off.wide ∙ is.wide;
         few = omega arith;
         unbegun = λ e. absurd (true≢false (sym (off.begun ∙ begun) ∙ e));
-        knowledge = λ _ i u h. subst (λ n. (has_place y.knows.items i ≡ true) ↔ Knows lines l.name n u) (sym count)
+        knowledge = λ _ i u h. subst (λ n. (has_index y.knows.items i ≡ true) ↔ Knows lines l.name n u) (sym count)
             (knows i u h);
         marked = marked_more l x y mark a is off does marked;
       }

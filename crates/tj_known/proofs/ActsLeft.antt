@@ -9,7 +9,7 @@ use native.Mathlib.Decide.{dec_le}
 use mathlib.Core.Logic.{dite}
 use Rattle.tj_mean.proofs.Elements.{get_less}
 use Rattle.tj_known.specs.Inner.Learners.{AreStuck, IsWorkedOff, NextAt, acts_left, can_do, can_go_on, can_go_on_at}
-use Rattle.tj_known.specs.Inner.Learners.{has_place, is_done, is_done_at, next_of, worked}
+use Rattle.tj_known.specs.Inner.Learners.{has_index, is_done, is_done_at, next_of, worked}
 use Rattle.tj_known.specs.declared.learner.Learner.{Learner}
 use Rattle.tj_known.specs.declared.step.Step.{Step}
 use Rattle.tj_known.specs.declared.step.Step.TheVariants as step
@@ -44,34 +44,34 @@ left_same ls i x y there steps marks =
     let as_many = ap (λ (ms : List Bool). length ms) marks in omega arith
 
 module _ (ls : List Learner) where
-  -- the task with a place can go on if it can do what is next
+  -- the task with an index can go on if it can do what is next
   pub can_at : (i : ℕ) (x : Learner) (o : Option Step) → slice_get ls i ≡ Some x → next_of x ≡ o
       → can_go_on_at ls i ≡ can_do ls x o
   can_at i x o there next = ap (λ p. option_map_or (can_go_on ls) p false) there ∙ ap (λ p. can_do ls x p) next
 
-  -- what is next of the task with a place
+  -- what is next of the task with an index
   pub next_at : (i : ℕ) (x : Learner) (s : Step) → slice_get ls i ≡ Some x → next_of x ≡ Some s → NextAt ls i s
   next_at i x s there next = ap (λ p. option_map_or next_of p None) there ∙ next
 
   -- a join that tells nothing can be done
   pub can_join_plain : (i j : ℕ) (answered : Bool) (x : Learner) → slice_get ls i ≡ Some x
-      → next_of x ≡ Some (step.Join j answered) → (has_place x.knows.items j && answered) ≡ false
+      → next_of x ≡ Some (step.Join j answered) → (has_index x.knows.items j && answered) ≡ false
       → can_go_on_at ls i ≡ true
   can_join_plain i j answered x there next plain =
       can_at i x (Some (step.Join j answered)) there next ∙ ap (λ b. not b || is_done_at ls j) plain
 
   -- one that tells something can be done where the joined task is done
   pub can_join_known : (i j : ℕ) (answered : Bool) (x : Learner) → slice_get ls i ≡ Some x
-      → next_of x ≡ Some (step.Join j answered) → (has_place x.knows.items j && answered) ≡ true
+      → next_of x ≡ Some (step.Join j answered) → (has_index x.knows.items j && answered) ≡ true
       → can_go_on_at ls i ≡ is_done_at ls j
   can_join_known i j answered x there next known =
       can_at i x (Some (step.Join j answered)) there next ∙ ap (λ b. not b || is_done_at ls j) known
 
-  -- whether the task with a place is done
+  -- whether the task with an index is done
   pub done_at : (j : ℕ) (z : Learner) → slice_get ls j ≡ Some z → is_done_at ls j ≡ is_done z
   done_at j z there = ap (λ p. option_map_or is_done p false) there
 
-  -- no task can go on if none with a place can
+  -- no task can go on if none with an index can
   pub stuck_all : ((i : ℕ) → i < length ls → can_go_on_at ls i ≡ false) → AreStuck ls
   stuck_all each i = dite (dec_le (suc i) (length ls)) (λ less. each i (omega arith))
       (λ past. ap (λ p. option_map_or (can_go_on ls) p false)
@@ -83,7 +83,7 @@ pub fell : (moved : Bool) (new now first : ℕ) → (moved ≡ true → now < fi
 fell true new now first fewer still less = let f = fewer refl in omega arith
 fell false new now first fewer still less = let f = still refl in omega arith
 
--- what is next of the task that stands at a place
+-- what is next of the task that stands at an index
 pub next_is : (ls : List Learner) (i : ℕ) (s : Step) (x : Learner) → slice_get ls i ≡ Some x → NextAt ls i s
     → next_of x ≡ Some s
 next_is ls i s x there next = sym (ap (λ p. option_map_or next_of p None) there) ∙ next

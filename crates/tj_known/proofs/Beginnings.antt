@@ -13,14 +13,14 @@ use Rattle.tj_mean.specs.declared.act.Act.{Act}
 use Rattle.tj_mean.specs.declared.act.Act.TheVariants as act
 use Rattle.tj_mean.specs.declared.act.ActLine.{ActLine}
 use Rattle.tj_mean.proofs.Elements.{get_less, get_there, some_is}
-use Rattle.tj_mean.proofs.LinePlaces.{acts_at, line_at}
+use Rattle.tj_mean.proofs.LineIndexes.{acts_at, line_at}
 use Rattle.tj_known.specs.Knowledge.{Knows}
-use Rattle.tj_known.specs.Inner.Learners.{IsForked, IsLearner, IsNew, IsUnderWay, has_place, worked}
+use Rattle.tj_known.specs.Inner.Learners.{IsForked, IsLearner, IsNew, IsUnderWay, has_index, worked}
 use Rattle.tj_known.specs.Inner.Steps.{AreThere, HasName, IsThere}
 use Rattle.tj_known.specs.declared.learner.Learner.{Learner}
 use Rattle.tj_known.proofs.KnowledgeSteps.{at_root}
-use Rattle.tj_known.proofs.Rows.{get_earlier, get_last, place_none}
-use Rattle.tj_known.proofs.StepPlaces.{there_all}
+use Rattle.tj_known.proofs.Rows.{get_earlier, get_last, index_none}
+use Rattle.tj_known.proofs.StepIndexes.{there_all}
 
 module _ (lines : List ActLine) (fit : AreActLines lines) where
   -- no act of a new task is worked off
@@ -42,7 +42,7 @@ module _ (lines : List ActLine) (fit : AreActLines lines) where
         few = omega arith;
         unbegun = λ _. is.unmarked;
         knowledge = λ begun i u h. (
-          λ has. absurd (true≢false (sym has ∙ (ap (λ r. has_place r i) is.nothing ∙ place_none (length lines) i))),
+          λ has. absurd (true≢false (sym has ∙ (ap (λ r. has_index r i) is.nothing ∙ index_none (length lines) i))),
           λ knew. absurd (root_knows l.name u (worked x) (is.begun.0 begun) none knew),
         );
         marked = λ n u answered less g. absurd (omega arith);
@@ -60,9 +60,9 @@ module _ (lines : List ActLine) (fit : AreActLines lines) where
   } where
     not_forked : (t : Name) → IsForked learners lines t → ⊥
     not_forked t f =
-        let less = get_less learners f.place f.parent f.parent_there in
-        let l = get_there lines f.place (omega arith) in
-        let none = new_worked l.0 f.parent (new f.place l.0 f.parent l.1 f.parent_there) in
+        let less = get_less learners f.index f.parent f.parent_there in
+        let l = get_there lines f.index (omega arith) in
+        let none = new_worked l.0 f.parent (new f.index l.0 f.parent l.1 f.parent_there) in
         let was = f.is_worked in omega arith
 
     begun : (i : ℕ) (t : Name) (x : Learner) → HasName lines i t → slice_get learners i ≡ Some x

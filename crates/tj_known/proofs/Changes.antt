@@ -14,7 +14,7 @@ use Rattle.tj_mean.specs.declared.act.Act.TheVariants as act
 use Rattle.tj_mean.specs.declared.act.ActLine.{ActLine}
 use Rattle.tj_mean.proofs.Elements.{get_less, some_is}
 use Rattle.tj_known.specs.Knowledge.{Knows}
-use Rattle.tj_known.specs.Inner.Learners.{IsForked, IsLearner, IsUnderWay, IsWorkedOff, has_place, worked}
+use Rattle.tj_known.specs.Inner.Learners.{IsForked, IsLearner, IsUnderWay, IsWorkedOff, has_index, worked}
 use Rattle.tj_known.specs.Inner.Steps.{HasName, IsStep}
 use Rattle.tj_known.specs.declared.learner.Learner.{Learner}
 use Rattle.tj_known.specs.declared.step.Step.TheVariants as step
@@ -40,15 +40,15 @@ module _ (lines : List ActLine) (ls ms : List Learner) (fit : AreActLines lines)
       (more : worked y ≡ suc (worked x)) (stay : OthersStay i) where
     -- a fork that was worked off is so still
     forked_stays : (t : Name) → IsForked ls lines t → IsForked ms lines t
-    forked_stays t f = dite (ℕ_discrete f.place i) (λ e. here e) (λ differs. other (stay.later f.place f.parent differs
+    forked_stays t f = dite (ℕ_discrete f.index i) (λ e. here e) (λ differs. other (stay.later f.index f.parent differs
         f.parent_there)) where
-          here : f.place ≡ i → IsForked ms lines t
+          here : f.index ≡ i → IsForked ms lines t
           here e =
               let is : f.parent ≡ x = some_is f.parent x (sym f.parent_there ∙ (ap (slice_get ls) e ∙ there)) in
               let same = ap (λ z. worked z) is in
               let was = f.is_worked in record {
                 parent = y;
-                place = f.place;
+                index = f.index;
                 name = f.name;
                 earlier = f.earlier;
                 parent_there = ap (slice_get ms) e ∙ after;
@@ -57,12 +57,12 @@ module _ (lines : List ActLine) (ls ms : List Learner) (fit : AreActLines lines)
                 is_worked = omega arith;
               }
 
-          other : (z : Learner) × (slice_get ms f.place ≡ Some z) × (worked z ≡ worked f.parent) → IsForked ms lines t
+          other : (z : Learner) × (slice_get ms f.index ≡ Some z) × (worked z ≡ worked f.parent) → IsForked ms lines t
           other z =
               let same = z.2 in
               let was = f.is_worked in record {
                 parent = z.0;
-                place = f.place;
+                index = f.index;
                 name = f.name;
                 earlier = f.earlier;
                 parent_there = z.1;
@@ -74,15 +74,15 @@ module _ (lines : List ActLine) (ls ms : List Learner) (fit : AreActLines lines)
     -- a fork that is worked off was so before, or is the act
     forked_before : (t : Name) → IsForked ms lines t
         → IsForked ls lines t ⊎ ((s : Name) × HasName lines i s × HasAct lines s (worked x) (act.Fork t))
-    forked_before t f = dite (ℕ_discrete f.place i) (λ e. here e)
-        (λ differs. inl (other (stay.earlier f.place f.parent differs f.parent_there)))
+    forked_before t f = dite (ℕ_discrete f.index i) (λ e. here e)
+        (λ differs. inl (other (stay.earlier f.index f.parent differs f.parent_there)))
       where
-        other : (z : Learner) × (slice_get ls f.place ≡ Some z) × (worked f.parent ≡ worked z) → IsForked ls lines t
+        other : (z : Learner) × (slice_get ls f.index ≡ Some z) × (worked f.parent ≡ worked z) → IsForked ls lines t
         other z =
             let same = z.2 in
             let was = f.is_worked in record {
               parent = z.0;
-              place = f.place;
+              index = f.index;
               name = f.name;
               earlier = f.earlier;
               parent_there = z.1;
@@ -91,10 +91,10 @@ module _ (lines : List ActLine) (ls ms : List Learner) (fit : AreActLines lines)
               is_worked = omega arith;
             }
 
-        before : f.place ≡ i → f.earlier < worked x → IsForked ls lines t
+        before : f.index ≡ i → f.earlier < worked x → IsForked ls lines t
         before e less = record {
           parent = x;
-          place = f.place;
+          index = f.index;
           name = f.name;
           earlier = f.earlier;
           parent_there = ap (slice_get ls) e ∙ there;
@@ -103,7 +103,7 @@ module _ (lines : List ActLine) (ls ms : List Learner) (fit : AreActLines lines)
           is_worked = less;
         }
 
-        here : f.place ≡ i
+        here : f.index ≡ i
             → IsForked ls lines t ⊎ ((s : Name) × HasName lines i s × HasAct lines s (worked x) (act.Fork t))
         here e =
             let is : f.parent ≡ y = some_is f.parent y (sym f.parent_there ∙ (ap (slice_get ms) e ∙ after)) in
@@ -138,7 +138,7 @@ module _ (lines : List ActLine) (ls ms : List Learner) (fit : AreActLines lines)
       backward (inl e) = inl e
       backward (inr f) = back (forked_before t f)
 
--- the names at one place are the same
+-- the names at one index are the same
 pub one_name : (lines : List ActLine) (i : ℕ) (s t : Name) → HasName lines i s → HasName lines i t → s ≡ t
 one_name lines i s t h g = some_is s t (sym h ∙ g)
 
@@ -159,7 +159,7 @@ module _ (lines : List ActLine) (ls : List Learner) (fit : AreActLines lines) (u
         → ((u : Name) (is : Bool) → n.doing ≡ act.Join u is
         → (mark ≡ true) ↔ Knows lines n.line.name (worked n.learner) u)
         → ((k : ℕ) (u : Name) → HasName lines k u
-        → (has_place y.knows.items k ≡ true) ↔ Knows lines n.line.name (suc (worked n.learner)) u)
+        → (has_index y.knows.items k ≡ true) ↔ Knows lines n.line.name (suc (worked n.learner)) u)
         → IsUnderWay lines (set ls i y)
     after_join_state j answered n mark off marked knows = record {
       count = length-set ls i y ∙ under.count;

@@ -12,16 +12,16 @@ use Rattle.tj_mean.specs.declared.act.Act.TheVariants as act
 use Rattle.tj_mean.specs.declared.act.ActLine.{ActLine}
 use Rattle.tj_mean.proofs.ChildNames.{child_some}
 use Rattle.tj_mean.proofs.Elements.{get_less, get_there, some_is}
-use Rattle.tj_mean.proofs.LinePlaces.{line_at, name_at, one_place}
+use Rattle.tj_mean.proofs.LineIndexes.{line_at, name_at, one_index}
 use Rattle.tj_known.specs.Knowledge.{Knows}
-use Rattle.tj_known.specs.Inner.Learners.{IsForked, IsLearner, IsUnderWay, IsWorkedOff, has_place, worked}
+use Rattle.tj_known.specs.Inner.Learners.{IsForked, IsLearner, IsUnderWay, IsWorkedOff, has_index, worked}
 use Rattle.tj_known.specs.Inner.Steps.{AreSteps, HasName, IsStep}
 use Rattle.tj_known.specs.declared.learner.Learner.{Learner}
 use Rattle.tj_known.specs.declared.step.Step.TheVariants as step
 use Rattle.tj_known.proofs.ActMore.{AtNext, learner_more, same_truth, worked_more}
 use Rattle.tj_known.proofs.Changes.{OthersStay, begun_still, child_differs, one_name}
 use Rattle.tj_known.proofs.KnowledgeSteps.{after_fork, at_begin, one_fork}
-use Rattle.tj_known.proofs.Rows.{get_other, get_put, place_other, place_put}
+use Rattle.tj_known.proofs.Rows.{get_other, get_put, index_other, index_put}
 
 -- the child of a step is the child of its act
 forked_by : (lines : List ActLine) (c : ℕ) (a : Act) → IsStep lines a (step.Fork c)
@@ -61,7 +61,7 @@ module _ (lines : List ActLine) (ls : List Learner) (fit : AreActLines lines) (u
   pub child_elsewhere : c ≡ i → ⊥
   child_elsewhere e = child_of.1.elsewhere e
 
-  -- the child has a place
+  -- the child has an index
   pub child_there : (z : Learner) × (slice_get ls c ≡ Some z)
   child_there =
       let l = line_at lines c child_of.0 child_of.1.named in
@@ -78,8 +78,8 @@ module _ (lines : List ActLine) (ls : List Learner) (fit : AreActLines lines) (u
       twice f =
           let one = one_fork lines fit n.line.name f.name child_of.0 (worked n.learner) f.earlier child_of.1.forks
           f.forks in
-          let at : f.place ≡ i = one_place lines fit.in_order n.line.name f.place i
-          (subst (λ s. HasName lines f.place s) one.0 f.named) n.named in
+          let at : f.index ≡ i = one_index lines fit.in_order n.line.name f.index i
+          (subst (λ s. HasName lines f.index s) one.0 f.named) n.named in
           let same : f.parent ≡ n.learner =
           some_is f.parent n.learner (sym f.parent_there ∙ (ap (slice_get ls) at ∙ n.there)) in
           let far = ap (λ x. worked x) same in
@@ -137,27 +137,27 @@ module _ (lines : List ActLine) (ls : List Learner) (fit : AreActLines lines) (u
 
       -- what the parent knows
       parent_knows : (k : ℕ) (u : Name) → HasName lines k u
-          → (has_place y.knows.items k ≡ true) ↔ Knows lines n.line.name (suc (worked n.learner)) u
+          → (has_index y.knows.items k ≡ true) ↔ Knows lines n.line.name (suc (worked n.learner)) u
       parent_knows k u h = dite (ℕ_discrete k c) (λ e. the_child e) (λ apart. other apart) where
         forked : Knows lines n.line.name (suc (worked n.learner)) u
             ↔ (Knows lines n.line.name (worked n.learner) u ⊎ (u ≡ child_of.0))
         forked = after_fork lines n.line.name child_of.0 u (worked n.learner) child_of.1.forks
 
-        known : (has_place n.learner.knows.items k ≡ true) ↔ Knows lines n.line.name (worked n.learner) u
+        known : (has_index n.learner.knows.items k ≡ true) ↔ Knows lines n.line.name (worked n.learner) u
         known = n.fits.knowledge n.begun k u h
 
         wide : c < length n.learner.knows.items
         wide = let a = n.fits.wide in let b = under.count in let d = less_c in omega arith
 
-        the_child : k ≡ c → (has_place y.knows.items k ≡ true) ↔ Knows lines n.line.name (suc (worked n.learner)) u
+        the_child : k ≡ c → (has_index y.knows.items k ≡ true) ↔ Knows lines n.line.name (suc (worked n.learner)) u
         the_child e = (
           λ _. forked.1 (inr (one_name lines c u child_of.0 (subst (λ j. HasName lines j u) e h) child_of.1.named)),
-          λ _. ap (has_place y.knows.items) e
-              ∙ (ap (λ r. has_place r c) row ∙ place_put n.learner.knows.items c true wide),
+          λ _. ap (has_index y.knows.items) e
+              ∙ (ap (λ r. has_index r c) row ∙ index_put n.learner.knows.items c true wide),
         )
 
         differs : (k ≡ c → ⊥) → u ≡ child_of.0 → ⊥
-        differs apart e = apart (one_place lines fit.in_order child_of.0 k c
+        differs apart e = apart (one_index lines fit.in_order child_of.0 k c
             (subst (λ w. HasName lines k w) e h) child_of.1.named)
 
         was : (k ≡ c → ⊥) → Knows lines n.line.name (worked n.learner) u ⊎ (u ≡ child_of.0)
@@ -166,9 +166,9 @@ module _ (lines : List ActLine) (ls : List Learner) (fit : AreActLines lines) (u
         was apart (inr e) = absurd (differs apart e)
 
         other : (k ≡ c → ⊥)
-            → (has_place y.knows.items k ≡ true) ↔ Knows lines n.line.name (suc (worked n.learner)) u
-        other apart = same_truth (has_place y.knows.items k) (has_place n.learner.knows.items k)
-            (ap (λ r. has_place r k) row ∙ place_other n.learner.knows.items c k true apart)
+            → (has_index y.knows.items k ≡ true) ↔ Knows lines n.line.name (suc (worked n.learner)) u
+        other apart = same_truth (has_index y.knows.items k) (has_index n.learner.knows.items k)
+            (ap (λ r. has_index r k) row ∙ index_other n.learner.knows.items c k true apart)
             (λ is. forked.1 (inl (known.0 is)), λ knows. known.1 (was apart (forked.0 knows)))
 
       -- the parent
@@ -200,14 +200,14 @@ module _ (lines : List ActLine) (ls : List Learner) (fit : AreActLines lines) (u
           name_of l at = name_at lines c l at
 
           knows : (k : ℕ) (u : Name) → HasName lines k u → (t : Name) → t ≡ child_of.0 → (m : ℕ) → m ≡ 0
-              → (has_place z2.knows.items k ≡ true) ↔ Knows lines t m u
+              → (has_index z2.knows.items k ≡ true) ↔ Knows lines t m u
           knows k u h t et m em =
               let begin = at_begin lines fit n.line.name child_of.0 u (worked n.learner) child_of.1.forks in
               let known = n.fits.knowledge n.begun k u h in
-              subst (λ s. (has_place z2.knows.items k ≡ true) ↔ Knows lines s m u) (sym et)
-              (subst (λ j. (has_place z2.knows.items k ≡ true) ↔ Knows lines child_of.0 j u) (sym em)
-              (same_truth (has_place z2.knows.items k) (has_place n.learner.knows.items k)
-              (ap (λ r. has_place r k) inherits) (λ is. begin.1 (known.0 is), λ k. known.1 (begin.0 k))))
+              subst (λ s. (has_index z2.knows.items k ≡ true) ↔ Knows lines s m u) (sym et)
+              (subst (λ j. (has_index z2.knows.items k ≡ true) ↔ Knows lines child_of.0 j u) (sym em)
+              (same_truth (has_index z2.knows.items k) (has_index n.learner.knows.items k)
+              (ap (λ r. has_index r k) inherits) (λ is. begin.1 (known.0 is), λ k. known.1 (begin.0 k))))
 
       -- after a fork
       pub after_fork_state : IsUnderWay lines after
@@ -244,7 +244,7 @@ module _ (lines : List ActLine) (ls : List Learner) (fit : AreActLines lines) (u
         now k t w e named at = (
           λ _. inr (record {
             parent = y;
-            place = i;
+            index = i;
             name = n.line.name;
             earlier = worked n.learner;
             parent_there = at_task;
@@ -264,7 +264,7 @@ module _ (lines : List ActLine) (ls : List Learner) (fit : AreActLines lines) (u
             (one_name lines i s n.line.name at n.named) forks in
             let same : t ≡ child_of.0 = ap (other_of child_of.0) (some_is (act.Fork t) (act.Fork child_of.0)
             (sym forks2 ∙ child_of.1.forks)) in
-            apart (one_place lines fit.in_order child_of.0 k c (subst (λ r. HasName lines k r) same named)
+            apart (one_index lines fit.in_order child_of.0 k c (subst (λ r. HasName lines k r) same named)
             child_of.1.named)
 
         still : (k : ℕ) (t : Name) (v w : Learner) → (k ≡ c → ⊥) → HasName lines k t → slice_get ls k ≡ Some v

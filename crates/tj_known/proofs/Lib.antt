@@ -1,11 +1,11 @@
 pub mod KnowledgeSteps
 pub mod KnownAlong
-pub mod StepPlaces
+pub mod StepIndexes
 pub mod WorkedOff
 pub mod Rows
 pub mod ActMore
 pub mod Changes
-pub mod NamePlaces
+pub mod NameIndexes
 pub mod Forked
 pub mod Joined
 pub mod Beginnings

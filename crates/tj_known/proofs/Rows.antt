@@ -2,7 +2,7 @@
 use Rattle.std.proofs.Common.{◌≡◌, ℕ, zero, suc, ◌<◌, Bool, false, List, [], ◌∷◌, ◌++◌, Some, length, set}
 use Rattle.std.proofs.Common.{refl, ap, arith, replicate}
 use Rattle.std.specs.Prelude.{slice_get}
-use Rattle.tj_known.specs.Inner.Learners.{has_place}
+use Rattle.tj_known.specs.Inner.Learners.{has_index}
 
 -- an element that was put there
 pub get_put : {A : Type 0} (xs : List A) (i : ℕ) (y : A) → i < length xs → slice_get (set xs i y) i ≡ Some y
@@ -31,32 +31,32 @@ get_earlier (x ∷ xs) y zero less = refl
 get_earlier (x ∷ xs) y (suc k) less = get_earlier xs y k (omega arith)
 
 -- a mark that was added
-pub mark_last : (row : List Bool) (b : Bool) → has_place (row ++ b ∷ []) (length row) ≡ b
+pub mark_last : (row : List Bool) (b : Bool) → has_index (row ++ b ∷ []) (length row) ≡ b
 mark_last [] b = refl
 mark_last (x ∷ row) b = mark_last row b
 
 -- the marks before it
-pub mark_earlier : (row : List Bool) (b : Bool) (k : ℕ) → k < length row → has_place (row ++ b ∷ []) k ≡ has_place row k
+pub mark_earlier : (row : List Bool) (b : Bool) (k : ℕ) → k < length row → has_index (row ++ b ∷ []) k ≡ has_index row k
 mark_earlier [] b k less = absurd (omega arith)
 mark_earlier (x ∷ row) b zero less = refl
 mark_earlier (x ∷ row) b (suc k) less = mark_earlier row b k (omega arith)
 
--- a place that was added to a row
-pub place_put : (row : List Bool) (i : ℕ) (b : Bool) → i < length row → has_place (set row i b) i ≡ b
-place_put [] i b less = absurd (omega arith)
-place_put (x ∷ row) zero b less = refl
-place_put (x ∷ row) (suc i) b less = place_put row i b (omega arith)
+-- an index that was added to a row
+pub index_put : (row : List Bool) (i : ℕ) (b : Bool) → i < length row → has_index (set row i b) i ≡ b
+index_put [] i b less = absurd (omega arith)
+index_put (x ∷ row) zero b less = refl
+index_put (x ∷ row) (suc i) b less = index_put row i b (omega arith)
 
--- the other places
-pub place_other : (row : List Bool) (i k : ℕ) (b : Bool) → (k ≡ i → ⊥) → has_place (set row i b) k ≡ has_place row k
-place_other [] i k b differs = refl
-place_other (x ∷ row) zero zero b differs = absurd (differs refl)
-place_other (x ∷ row) zero (suc k) b differs = refl
-place_other (x ∷ row) (suc i) zero b differs = refl
-place_other (x ∷ row) (suc i) (suc k) b differs = place_other row i k b (λ e. differs (ap suc e))
+-- the other indexes
+pub index_other : (row : List Bool) (i k : ℕ) (b : Bool) → (k ≡ i → ⊥) → has_index (set row i b) k ≡ has_index row k
+index_other [] i k b differs = refl
+index_other (x ∷ row) zero zero b differs = absurd (differs refl)
+index_other (x ∷ row) zero (suc k) b differs = refl
+index_other (x ∷ row) (suc i) zero b differs = refl
+index_other (x ∷ row) (suc i) (suc k) b differs = index_other row i k b (λ e. differs (ap suc e))
 
 -- a row of nothing
-pub place_none : (n i : ℕ) → has_place (replicate n false) i ≡ false
-place_none zero i = refl
-place_none (suc n) zero = refl
-place_none (suc n) (suc i) = place_none n i
+pub index_none : (n i : ℕ) → has_index (replicate n false) i ≡ false
+index_none zero i = refl
+index_none (suc n) zero = refl
+index_none (suc n) (suc i) = index_none n i

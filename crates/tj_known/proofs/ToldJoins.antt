@@ -11,18 +11,18 @@ use Rattle.tj_mean.specs.declared.act.Act.TheVariants as act
 use Rattle.tj_mean.specs.declared.act.ActLine.{ActLine}
 use Rattle.std.proofs.lemmas.Option.{get_or_from_slice_get}
 use Rattle.tj_mean.proofs.Elements.{get_less}
-use Rattle.tj_mean.proofs.LinePlaces.{acts_at}
+use Rattle.tj_mean.proofs.LineIndexes.{acts_at}
 use Rattle.tj_known.specs.Knowledge.{Knows}
 use Rattle.tj_known.specs.KnownLines.{AreTold, IsTold, Join, KnownAreAlong, how_of, joins_from, joins_in, joins_of}
 use Rattle.tj_known.specs.declared.known.How.{How}
 use Rattle.tj_known.specs.declared.known.How.TheVariants as how
 use Rattle.tj_known.specs.declared.known.KnownLine.{KnownLine}
-use Rattle.tj_known.specs.Inner.Learners.{IsLearner, has_place, is_done}
+use Rattle.tj_known.specs.Inner.Learners.{IsLearner, has_index, is_done}
 use Rattle.tj_known.specs.Inner.Marks.{marked_lines}
 use Rattle.tj_known.specs.declared.learner.Learner.{Learner}
 use Rattle.tj_known.proofs.Joined.{done_tells}
 use Rattle.tj_known.proofs.KnownAlong.{known_before}
-use Rattle.tj_known.proofs.StepPlaces.{steps_count}
+use Rattle.tj_known.proofs.StepIndexes.{steps_count}
 
 -- whether a join is told as known
 abbrev is_known : How → Bool
@@ -82,17 +82,17 @@ module _ (lines : List ActLine) where
   -- the lines of acts after n acts of a task
   told_from : (t : Name) (acts : List Act) (marks : List Bool) (n : ℕ) → length acts ≡ length marks
       → ((k : ℕ) (u : Name) (answered : Bool) → slice_get acts k ≡ Some (act.Join u answered)
-      → (has_place marks k ≡ true) ↔ Knows lines t (n + k) u)
+      → (has_index marks k ≡ true) ↔ Knows lines t (n + k) u)
       → AreTold lines (joins_from t n acts) (marked_lines t acts marks)
   told_from t [] marks n count each = tt
   told_from t (a ∷ acts) [] n count each = absurd (omega (arith, count))
   told_from t (act.Fork c ∷ acts) (m ∷ marks) n count each = told_from t acts marks (suc n) (omega (arith, count))
-      (λ k u answered h. subst (λ j. (has_place marks k ≡ true) ↔ Knows lines t j u) (omega arith)
+      (λ k u answered h. subst (λ j. (has_index marks k ≡ true) ↔ Knows lines t j u) (omega arith)
       (each (suc k) u answered h))
   told_from t (act.Join u is ∷ acts) (m ∷ marks) n count each = (
     told_one t u n m (subst (λ j. (m ≡ true) ↔ Knows lines t j u) (omega arith) (each zero u is refl)),
     told_from t acts marks (suc n) (omega (arith, count))
-        (λ k u answered h. subst (λ j. (has_place marks k ≡ true) ↔ Knows lines t j u) (omega arith)
+        (λ k u answered h. subst (λ j. (has_index marks k ≡ true) ↔ Knows lines t j u) (omega arith)
         (each (suc k) u answered h)),
   )
 
@@ -127,7 +127,7 @@ module _ (lines : List ActLine) where
         let many = steps_count lines l.acts x.steps.items is.steps in
         let acts = acts_at lines fit.in_order i l there in
         let line = told_from l.name l.acts x.marks.items 0 (marks_count l x is done) (λ k u answered h.
-        subst (λ j. (has_place x.marks.items k ≡ true) ↔ Knows lines l.name j u) (from_zero k)
+        subst (λ j. (has_index x.marks.items k ≡ true) ↔ Knows lines l.name j u) (from_zero k)
         (is.marked k u answered (let less = get_less l.acts k (act.Join u answered) h in omega arith)
         (subst (λ as_. slice_get as_ k ≡ Some (act.Join u answered)) (sym acts) h))) in
         let less = get_less lines i l there in

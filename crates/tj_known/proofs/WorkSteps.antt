@@ -10,9 +10,9 @@ use mathlib.Core.Logic.{dite}
 use Rattle.tj_mean.specs.ActLines.{AreActLines}
 use Rattle.tj_mean.specs.declared.act.ActLine.{ActLine}
 use Rattle.tj_mean.proofs.Elements.{get_less, get_there, some_is}
-use Rattle.tj_mean.proofs.LinePlaces.{line_at}
+use Rattle.tj_mean.proofs.LineIndexes.{line_at}
 use Rattle.tj_known.specs.Inner.Learners.{AreDone, IsAdvanced, IsTried, IsTurnTaken, IsUnderWay, IsWorkedOff}
-use Rattle.tj_known.specs.Inner.Learners.{NextAt, acts_left, can_go_on_at, has_place, is_done, knows_at}
+use Rattle.tj_known.specs.Inner.Learners.{NextAt, acts_left, can_go_on_at, has_index, is_done, knows_at}
 use Rattle.tj_known.specs.Inner.Learners.{next_of}
 use Rattle.tj_known.specs.declared.learner.Learner.{Learner}
 use Rattle.tj_known.specs.declared.step.Step.{Step}
@@ -30,7 +30,7 @@ use Rattle.tj_known.proofs.Forked.{after_fork_state, child_elsewhere, child_ther
 use Rattle.tj_known.proofs.Joined.{join_state, joined, learn_state}
 use Rattle.tj_known.proofs.Rows.{get_other}
 
--- what is read at a place stands there
+-- what is read at an index stands there
 read_at : {A : Type 0} (xs : List A) (i : ℕ) (x : A) → i < length xs → x ≡ get_or xs i x → slice_get xs i ≡ Some x
 read_at xs i x less at = slice_get_read xs (length xs) i x refl less at
 
@@ -42,10 +42,10 @@ set_swap (x ∷ xs) zero (suc c) y z differs = refl
 set_swap (x ∷ xs) (suc i) zero y z differs = refl
 set_swap (x ∷ xs) (suc i) (suc c) y z differs = ap (λ l. x ∷ l) (set_swap xs i c y z (λ e. differs (ap suc e)))
 
--- what a row of the task with a place has
+-- what a row of the task with an index has
 knows_of : (ls : List Learner) (i j : ℕ) (x : Learner) → slice_get ls i ≡ Some x
-    → knows_at ls i j ≡ has_place x.knows.items j
-knows_of ls i j x there = ap (λ o. option_map_or (λ (y : Learner). has_place y.knows.items j) o false) there
+    → knows_at ls i j ≡ has_index x.knows.items j
+knows_of ls i j x there = ap (λ o. option_map_or (λ (y : Learner). has_index y.knows.items j) o false) there
 
 module _ (lines : List ActLine) (ls : List Learner) (fit : AreActLines lines) (under : IsUnderWay lines ls)
     (i : ℕ) where
@@ -54,25 +54,25 @@ module _ (lines : List ActLine) (ls : List Learner) (fit : AreActLines lines) (u
     the_next : AtNext lines ls fit under i s
     the_next = at_next lines ls fit under i s next
 
-    -- the task has a place
-    pub place_less : i < length ls
-    place_less = get_less ls i the_next.learner the_next.there
+    -- the task has an index
+    pub index_less : i < length ls
+    index_less = get_less ls i the_next.learner the_next.there
 
     -- what is read there is the task
     is_next : (x : Learner) → x ≡ get_or ls i x → x ≡ the_next.learner
-    is_next x at = some_is x the_next.learner (sym (read_at ls i x place_less at) ∙ the_next.there)
+    is_next x at = some_is x the_next.learner (sym (read_at ls i x index_less at) ∙ the_next.there)
 
     -- its row is as wide as there are tasks
     wide : length the_next.learner.knows.items ≡ length ls
     wide = the_next.fits.wide ∙ sym under.count
 
   module _ (c : ℕ) (next : NextAt ls i (step.Fork c)) where
-    -- the child has a place
+    -- the child has an index
     pub child_less : c < length ls
     child_less =
         let z = child_there lines ls fit under i c (the_next (step.Fork c) next) in get_less ls c z.0 z.1
 
-    -- the parent's row has the child's place
+    -- the parent's row has the child's index
     pub child_within : (x : Learner) → x ≡ get_or ls i x → c < length x.knows.items
     child_within x at =
         let same = ap (λ (w : Learner). length w.knows.items) (is_next (step.Fork c) next x at) in
@@ -83,7 +83,7 @@ module _ (lines : List ActLine) (ls : List Learner) (fit : AreActLines lines) (u
     apart : c ≡ i → ⊥
     apart e = child_elsewhere lines ls fit under i c (the_next (step.Fork c) next) e
 
-    -- what is read at its place after its parent changed
+    -- what is read at its index after its parent changed
     child_read : (y z : Learner) → z ≡ get_or (set ls i y) c z → slice_get ls c ≡ Some z
     child_read y z at =
         let less = child_less in
@@ -114,7 +114,7 @@ module _ (lines : List ActLine) (ls : List Learner) (fit : AreActLines lines) (u
         })
 
   module _ (j : ℕ) (answered : Bool) (next : NextAt ls i (step.Join j answered)) where
-    -- the joined task has a place
+    -- the joined task has an index
     pub joined_less : j < length ls
     joined_less =
         let u = joined lines ls fit under i j answered (the_next (step.Join j answered) next) in
@@ -122,7 +122,7 @@ module _ (lines : List ActLine) (ls : List Learner) (fit : AreActLines lines) (u
         let less = get_less lines j l.0 l.1 in
         let many = under.count in omega arith
 
-    -- and a place in the row
+    -- and an index in the row
     pub joined_within : (x : Learner) → x ≡ get_or ls i x → j < length x.knows.items
     joined_within x at =
         let same = ap (λ (w : Learner). length w.knows.items) (is_next (step.Join j answered) next x at) in
@@ -130,8 +130,8 @@ module _ (lines : List ActLine) (ls : List Learner) (fit : AreActLines lines) (u
         let less = joined_less in omega arith
 
     -- what is known of it
-    pub knows_read : (x : Learner) → x ≡ get_or ls i x → has_place x.knows.items j ≡ knows_at ls i j
-    knows_read x at = sym (knows_of ls i j x (read_at ls i x (place_less (step.Join j answered) next) at))
+    pub knows_read : (x : Learner) → x ≡ get_or ls i x → has_index x.knows.items j ≡ knows_at ls i j
+    knows_read x at = sym (knows_of ls i j x (read_at ls i x (index_less (step.Join j answered) next) at))
 
     -- as the code reads it
     pub knows_at_read : (x : Learner) (b : Bool) → x ≡ get_or ls i x → b ≡ get_or x.knows.items j b
@@ -192,7 +192,7 @@ module _ (lines : List ActLine) (ls : List Learner) (fit : AreActLines lines) (u
     -- a join of a known task that is done is worked off
     known_joined : (x y z : Learner) → x ≡ get_or ls i x → z ≡ get_or ls j z → knows_at ls i j ≡ true
         → is_done z ≡ true → IsWorkedOff x y true
-        → ((k : ℕ) → has_place y.knows.items k ≡ (has_place x.knows.items k || has_place z.knows.items k))
+        → ((k : ℕ) → has_index y.knows.items k ≡ (has_index x.knows.items k || has_index z.knows.items k))
         → IsTried lines i ls (set ls i y) true
     known_joined x y z x_at z_at knew done off row =
         let n = the_next (step.Join j true) next in
@@ -202,7 +202,7 @@ module _ (lines : List ActLine) (ls : List Learner) (fit : AreActLines lines) (u
         record {
           under_way = learn_state lines ls fit under i j n y z there done
               (sym (knows_of ls i j n.learner n.there) ∙ knew) off2
-              (λ k. row k ∙ ap (λ (w : Learner). has_place w.knows.items k || has_place z.knows.items k) x_is);
+              (λ k. row k ∙ ap (λ (w : Learner). has_index w.knows.items k || has_index z.knows.items k) x_is);
           answer = sym (can_join knew z there ∙ done);
           fewer = λ _. left_less ls i n.learner y true n.there n.less off2;
           still = λ e. absurd (true≢false e);
@@ -237,7 +237,7 @@ module _ (lines : List ActLine) (ls : List Learner) (fit : AreActLines lines) (u
       -- a join of a known task that is done is worked off
       pub joined_known : (x y z : Learner) → x ≡ get_or ls i x → z ≡ get_or ls j z → is_done z ≡ true
           → IsWorkedOff x y true
-          → ((k : ℕ) → has_place y.knows.items k ≡ (has_place x.knows.items k || has_place z.knows.items k))
+          → ((k : ℕ) → has_index y.knows.items k ≡ (has_index x.knows.items k || has_index z.knows.items k))
           → IsTried lines i ls (set ls i y) true
       joined_known x y z x_at z_at done off row = known_joined j (answered_next answered both.1 next) x y z x_at z_at
           both.0 done off row
@@ -252,7 +252,7 @@ none_next lines ls i x under less at none = record {
   still = λ _. refl;
 }
 
--- and else that is next of the task with the place
+-- and else that is next of the task with the index
 pub some_next : (ls : List Learner) (i : ℕ) (x : Learner) (s : Step) → i < length ls → x ≡ get_or ls i x
     → next_of x ≡ Some s → NextAt ls i s
 some_next ls i x s less at next = next_at ls i x s (read_at ls i x less at) next
@@ -337,7 +337,7 @@ pub as_many : (lines : List ActLine) (ls ms : List Learner) → IsUnderWay lines
     → length ms ≡ length ls
 as_many lines ls ms under after = after.count ∙ sym under.count
 
--- what is read at a place twice is the same, so it is done still
+-- what is read at an index twice is the same, so it is done still
 pub done_again : (ls : List Learner) (j : ℕ) (x y : Learner) → j < length ls → x ≡ get_or ls j x → y ≡ get_or ls j y
     → is_done x ≡ true → is_done y ≡ true
 done_again ls j x y less x_at y_at done =
@@ -346,7 +346,7 @@ done_again ls j x y less x_at y_at done =
 module _ (lines : List ActLine) (ls : List Learner) (fit : AreActLines lines) (under : IsUnderWay lines ls)
     (done : AreDone ls) (i : ℕ) (l : ActLine) (x : Learner) (less : i < length lines) (l_at : l ≡ get_or lines i l)
     (x_at : x ≡ get_or ls i x) where
-  -- the task of the line has a place
+  -- the task of the line has an index
   has_learner : i < length ls
   has_learner = let many = under.count in omega arith
 

@@ -14,38 +14,38 @@ use Rattle.tj_mean.specs.ActLines.{root_begins, child_begins, forks, waits, answ
 use Rattle.tj_mean.specs.declared.act.Act.{Act}
 use Rattle.tj_mean.specs.declared.act.Act.TheVariants as act
 use Rattle.tj_mean.specs.declared.act.ActLine.{ActLine}
-use Rattle.tj_mean.proofs.LinePlaces.{acts_at, line_at, name_at, one_place, place_of_acting}
+use Rattle.tj_mean.proofs.LineIndexes.{acts_at, line_at, name_at, one_index, index_of_acting}
 use Rattle.tj_mean.proofs.Elements.{all_of_in, get_in, get_less, get_there, in_get, some_is}
 use Rattle.tj_known.specs.Inner.Learners.{AreDone, AreStuck, IsLearner, IsUnderWay, can_do, can_go_on}
 use Rattle.tj_known.specs.Inner.Learners.{can_go_on_at}
-use Rattle.tj_known.specs.Inner.Learners.{has_place, is_done, is_done_at, next_of, worked}
+use Rattle.tj_known.specs.Inner.Learners.{has_index, is_done, is_done_at, next_of, worked}
 use Rattle.tj_known.specs.Inner.Steps.{HasName, IsStep}
 use Rattle.tj_known.specs.declared.learner.Learner.{Learner}
 use Rattle.tj_known.specs.declared.step.Step.{Step}
 use Rattle.tj_known.specs.declared.step.Step.TheVariants as step
-use Rattle.tj_known.proofs.StepPlaces.{step_at, steps_count}
+use Rattle.tj_known.proofs.StepIndexes.{step_at, steps_count}
 
 module _ (lines : List ActLine) (learners : List Learner) (fit : AreActLines lines)
     (under : IsUnderWay lines learners) where
   -- a task of the lines, with its line and how far it is worked off
   pub record Found (t : Name) : Type 0 where
-    pub place : ℕ
+    pub index : ℕ
     pub line : ActLine
     pub learner : Learner
-    pub named : HasName lines place t
-    pub line_there : slice_get lines place ≡ Some line
-    pub learner_there : slice_get learners place ≡ Some learner
+    pub named : HasName lines index t
+    pub line_there : slice_get lines index ≡ Some line
+    pub learner_there : slice_get learners index ≡ Some learner
     pub acts_are : acts_of lines t ≡ line.acts
     pub fits : IsLearner lines line learner
 
-  -- what stands at a place
+  -- what stands at an index
   abbrev pub found_at : (t : Name) (i : ℕ) → HasName lines i t → Found t
   found_at t i h =
       let l = line_at lines i t h in
       let less = get_less lines i l.0 l.1 in
       let many = under.count in
       let x = get_there learners i (omega arith) in record {
-        place = i;
+        index = i;
         line = l.0;
         learner = x.0;
         named = h;
@@ -61,7 +61,7 @@ module _ (lines : List ActLine) (learners : List Learner) (fit : AreActLines lin
 
   -- and so is one that does an act
   pub find_acting : (t : Name) (n : ℕ) (a : Act) → HasAct lines t n a → Found t
-  find_acting t n a h = let p = place_of_acting lines t n a h in found_at t p.0 p.1
+  find_acting t n a h = let p = index_of_acting lines t n a h in found_at t p.0 p.1
 
   -- the step of an act
   pub step_of : (t : Name) (f : Found t) (n : ℕ) (a : Act) → HasAct lines t n a
@@ -74,7 +74,7 @@ module _ (lines : List ActLine) (learners : List Learner) (fit : AreActLines lin
     pub begun : f.learner.begun ≡ true
     pub far : n ≤ worked f.learner
 
-  -- two that are found at one place are the same
+  -- two that are found at one index are the same
   one_learner : (i : ℕ) (x y : Learner) → slice_get learners i ≡ Some x → slice_get learners i ≡ Some y → x ≡ y
   one_learner i x y a b = some_is x y (sym a ∙ b)
 
@@ -102,7 +102,7 @@ module _ (lines : List ActLine) (learners : List Learner) (fit : AreActLines lin
         record {
           begun = w.begun;
           far = dite (ℕ_discrete n (worked f.learner))
-              (λ e. absurd (stops f.place f.learner s.0 f.learner_there w.begun
+              (λ e. absurd (stops f.index f.learner s.0 f.learner_there w.begun
               (subst (λ k. slice_get f.learner.steps.items k ≡ Some s.0) e s.1) (can s.0 s.2)))
               (λ differs. let far = w.far in omega (arith, differs));
         }
@@ -115,8 +115,8 @@ module _ (lines : List ActLine) (learners : List Learner) (fit : AreActLines lin
         → can_do learners x (Some s) ≡ true
     can_wait x u (step.Fork i) is = absurd is
     can_wait x u (step.Join i b) is =
-        subst (λ d. (not (has_place x.knows.items i && d) || is_done_at learners i) ≡ true) is.1
-        (free (has_place x.knows.items i) (is_done_at learners i))
+        subst (λ d. (not (has_index x.knows.items i && d) || is_done_at learners i) ≡ true) is.1
+        (free (has_index x.knows.items i) (is_done_at learners i))
       where
         free : (b d : Bool) → (not (b && false) || d) ≡ true
         free true d = refl
@@ -125,7 +125,7 @@ module _ (lines : List ActLine) (learners : List Learner) (fit : AreActLines lin
     can_join : (x : Learner) (u : Name) (s : Step) (f : Found u) → IsStep lines (act.Join u true) s
         → is_done f.learner ≡ true → can_do learners x (Some s) ≡ true
     can_join x u (step.Fork i) f is done = absurd is
-    can_join x u (step.Join i b) f is done = told (not (has_place x.knows.items i && b)) (is_done_at learners i)
+    can_join x u (step.Join i b) f is done = told (not (has_index x.knows.items i && b)) (is_done_at learners i)
         (ap (λ o. option_map_or is_done o false) at_place ∙ done) where
           told : (b d : Bool) → d ≡ true → (b || d) ≡ true
           told true d e = refl
@@ -133,7 +133,7 @@ module _ (lines : List ActLine) (learners : List Learner) (fit : AreActLines lin
 
           at_place : slice_get learners i ≡ Some f.learner
           at_place = subst (λ k. slice_get learners k ≡ Some f.learner)
-              (one_place lines fit.in_order u f.place i f.named is.0) f.learner_there
+              (one_index lines fit.in_order u f.index i f.named is.0) f.learner_there
 
     -- a task whose last act is worked off is done
     at_end : (t : Name) (f : Found t) → IsWorked t (act_count lines t) f → is_done f.learner ≡ true
@@ -148,16 +148,16 @@ module _ (lines : List ActLine) (learners : List Learner) (fit : AreActLines lin
     -- what can be reached is worked off
     reached_worked : (t : Name) (n : ℕ) → CanReach lines t n → (f : Found t) → IsWorked t n f
     reached_worked _ _ root_begins f = record {
-      begun = (under.begun f.place [] f.learner f.named f.learner_there).1 (inl refl);
+      begun = (under.begun f.index [] f.learner f.named f.learner_there).1 (inl refl);
       far = omega arith;
     }
     reached_worked _ _ (child_begins t c n h r) f =
         let p = find_acting t n (act.Fork c) h in
         let w = goes_past t p n (act.Fork c) h (reached_worked t n r p) (λ s is. can_fork p.learner c s is) in
         let far = w.far in record {
-          begun = (under.begun f.place c f.learner f.named f.learner_there).1 (inr (record {
+          begun = (under.begun f.index c f.learner f.named f.learner_there).1 (inr (record {
             parent = p.learner;
-            place = p.place;
+            index = p.index;
             name = t;
             earlier = n;
             parent_there = p.learner_there;

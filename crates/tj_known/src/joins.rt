@@ -39,8 +39,8 @@ fn told(alloc: Global, lines: &[ActLine], learners: &[Learner]) -> Result<KnownL
     ensures { IfOk result (AreTold lines.now (joins_in lines.now)) }
 {
     let mut list = Items::of(Vec::new(alloc));
-    for (place, line) in lines.iter().enumerate() {
-        add_joins(alloc, line, learners[place].marks.as_slice(), &mut list)?;
+    for (index, line) in lines.iter().enumerate() {
+        add_joins(alloc, line, learners[index].marks.as_slice(), &mut list)?;
     }
     Ok(list)
 }

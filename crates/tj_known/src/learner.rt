@@ -2,7 +2,7 @@
 ghost use Rattle.std.specs.Prelude.{◌≡◌, ◌<◌, ◌||◌, ℕ, length, replicate, slice_set, true, false};
 ghost use Rattle.std.specs.Prelude.{IfOk};
 ghost use Rattle.tj_known.specs.Inner.Learners as spec;
-ghost use Rattle.tj_known.specs.Inner.Learners.{has_place};
+ghost use Rattle.tj_known.specs.Inner.Learners.{has_index};
 
 use crate::step::Step;
 use std::alloc::Global;
@@ -17,7 +17,7 @@ pub struct Learner {
     pub begun: bool,
     /// For each act that was worked off, whether it is a join of a task that was known.
     pub marks: Vec<bool>,
-    /// For each place whether the task there is known.
+    /// For each index whether the task there is known.
     pub knows: Vec<bool>,
 }
 
@@ -49,7 +49,7 @@ impl Learner {
         self.knows = inherited;
     }
 
-    /// The next act is worked off, a fork of the task with this place. The row is what that one
+    /// The next act is worked off, a fork of the task with this index. The row is what that one
     /// inherits: what was known before.
     pub fn fork(&mut self, alloc: Global, child: usize) -> Result<Vec<bool>, Oom>
         requires { child < length self.old.knows.items }
@@ -77,8 +77,8 @@ impl Learner {
     pub fn learn(&mut self, told: &[bool]) -> Result<(), Oom>
         requires { length self.old.knows.items ≡ length told.now }
         ensures act { IfOk result (λ _. spec.IsWorkedOff self.old self.new true) }
-        ensures row { IfOk result (λ _. (i : ℕ) → has_place self.new.knows.items i
-            ≡ (has_place self.old.knows.items i || has_place told.now i)) }
+        ensures row { IfOk result (λ _. (i : ℕ) → has_index self.new.knows.items i
+            ≡ (has_index self.old.knows.items i || has_index told.now i)) }
     {
         add_known(&mut self.knows, told);
         self.marks.push(true)?;
@@ -90,12 +90,12 @@ impl Learner {
 fn add_known(row: &mut Vec<bool>, told: &[bool])
     requires { length row.old.items ≡ length told.now }
     ensures wide { length row.new.items ≡ length row.old.items }
-    ensures row { (i : ℕ) → has_place row.new.items i
-        ≡ (has_place row.old.items i || has_place told.now i) }
+    ensures row { (i : ℕ) → has_index row.new.items i
+        ≡ (has_index row.old.items i || has_index told.now i) }
 {
-    for place in 0..told.len() {
-        let known = row[place] || told[place];
-        row[place] = known;
+    for index in 0..told.len() {
+        let known = row[index] || told[index];
+        row[index] = known;
     }
 }
 
@@ -104,7 +104,7 @@ pub fn nothing(alloc: Global, count: usize) -> Result<Vec<bool>, Oom>
     ensures { IfOk result (λ row. row.items ≡ replicate count false) }
 {
     let mut row = Vec::new(alloc);
-    for _place in 0..count {
+    for _index in 0..count {
         row.push(false)?;
     }
     Ok(row)

@@ -58,69 +58,69 @@ impl<'l> Monitor<'l> {
             self.old.learners.items self.new.learners.items moved) }
     {
         let mut moved = false;
-        for place in 0..self.learners.len() {
-            let went_on = self.go_on(alloc, place)?;
+        for index in 0..self.learners.len() {
+            let went_on = self.go_on(alloc, index)?;
             moved = moved || went_on;
         }
         Ok(moved)
     }
 
-    /// The task with this place goes on as far as it can. False: it could not.
-    fn go_on(&mut self, alloc: Global, place: usize) -> Result<bool, Oom>
+    /// The task with this index goes on as far as it can. False: it could not.
+    fn go_on(&mut self, alloc: Global, index: usize) -> Result<bool, Oom>
         requires lines { AreActLines self.old.lines.now }
         requires under_way { IsUnderWay self.old.lines.now self.old.learners.items }
-        requires place { place < length self.old.learners.items }
+        requires index { index < length self.old.learners.items }
         ensures lines { IfOk result (λ _. self.new.lines.now ≡ self.old.lines.now) }
-        ensures acts { IfOk result (λ moved. spec.IsAdvanced self.old.lines.now place
+        ensures acts { IfOk result (λ moved. spec.IsAdvanced self.old.lines.now index
             self.old.learners.items self.new.learners.items moved) }
     {
         let mut moved = false;
-        while self.act(alloc, place)? {
+        while self.act(alloc, index)? {
             moved = true;
         }
         Ok(moved)
     }
 
-    /// Works off the next act of the task with this place. False: it can't go on.
-    fn act(&mut self, alloc: Global, place: usize) -> Result<bool, Oom>
+    /// Works off the next act of the task with this index. False: it can't go on.
+    fn act(&mut self, alloc: Global, index: usize) -> Result<bool, Oom>
         requires lines { AreActLines self.old.lines.now }
         requires under_way { IsUnderWay self.old.lines.now self.old.learners.items }
-        requires place { place < length self.old.learners.items }
+        requires index { index < length self.old.learners.items }
         ensures lines { IfOk result (λ _. self.new.lines.now ≡ self.old.lines.now) }
-        ensures act { IfOk result (λ moved. spec.IsTried self.old.lines.now place
+        ensures act { IfOk result (λ moved. spec.IsTried self.old.lines.now index
             self.old.learners.items self.new.learners.items moved) }
     {
-        match self.learners[place].next() {
+        match self.learners[index].next() {
             None => Ok(false),
-            Some(step) => self.take_step(alloc, place, step),
+            Some(step) => self.take_step(alloc, index, step),
         }
     }
 
     /// Works off this act, which is the task's next. False: it can't go on.
-    fn take_step(&mut self, alloc: Global, place: usize, step: Step) -> Result<bool, Oom>
+    fn take_step(&mut self, alloc: Global, index: usize, step: Step) -> Result<bool, Oom>
         requires lines { AreActLines self.old.lines.now }
         requires under_way { IsUnderWay self.old.lines.now self.old.learners.items }
-        requires next { spec.NextAt self.old.learners.items place step }
+        requires next { spec.NextAt self.old.learners.items index step }
         ensures lines { IfOk result (λ _. self.new.lines.now ≡ self.old.lines.now) }
-        ensures act { IfOk result (λ moved. spec.IsTried self.old.lines.now place
+        ensures act { IfOk result (λ moved. spec.IsTried self.old.lines.now index
             self.old.learners.items self.new.learners.items moved) }
     {
         match step {
-            Step::Fork(child) => self.fork(alloc, place, child),
-            Step::Join(joined, answered) => self.join(alloc, place, joined, answered),
+            Step::Fork(child) => self.fork(alloc, index, child),
+            Step::Join(joined, answered) => self.join(alloc, index, joined, answered),
         }
     }
 
     /// The task forks a child, which inherits what it knew before. True: this can always be done.
-    fn fork(&mut self, alloc: Global, place: usize, child: usize) -> Result<bool, Oom>
+    fn fork(&mut self, alloc: Global, index: usize, child: usize) -> Result<bool, Oom>
         requires lines { AreActLines self.old.lines.now }
         requires under_way { IsUnderWay self.old.lines.now self.old.learners.items }
-        requires next { spec.NextAt self.old.learners.items place (step.Fork child) }
+        requires next { spec.NextAt self.old.learners.items index (step.Fork child) }
         ensures lines { IfOk result (λ _. self.new.lines.now ≡ self.old.lines.now) }
-        ensures act { IfOk result (λ moved. spec.IsTried self.old.lines.now place
+        ensures act { IfOk result (λ moved. spec.IsTried self.old.lines.now index
             self.old.learners.items self.new.learners.items moved) }
     {
-        let inherited = self.learners[place].fork(alloc, child)?;
+        let inherited = self.learners[index].fork(alloc, child)?;
         self.learners[child].begin(inherited);
         Ok(true)
     }
@@ -130,43 +130,43 @@ impl<'l> Monitor<'l> {
     fn join(
         &mut self,
         alloc: Global,
-        place: usize,
+        index: usize,
         joined: usize,
         answered: bool,
     ) -> Result<bool, Oom>
         requires lines { AreActLines self.old.lines.now }
         requires under_way { IsUnderWay self.old.lines.now self.old.learners.items }
-        requires next { spec.NextAt self.old.learners.items place (step.Join joined answered) }
+        requires next { spec.NextAt self.old.learners.items index (step.Join joined answered) }
         ensures lines { IfOk result (λ _. self.new.lines.now ≡ self.old.lines.now) }
-        ensures act { IfOk result (λ moved. spec.IsTried self.old.lines.now place
+        ensures act { IfOk result (λ moved. spec.IsTried self.old.lines.now index
             self.old.learners.items self.new.learners.items moved) }
     {
-        if self.tells(place, joined, answered) {
-            self.join_known(alloc, place, joined, answered)
+        if self.tells(index, joined, answered) {
+            self.join_known(alloc, index, joined, answered)
         } else {
-            self.join_plain(place, joined, answered)
+            self.join_plain(index, joined, answered)
         }
     }
 
     /// Whether the next act, a join, tells something: its task knew the joined one, and it is
     /// answered.
-    fn tells(&self, place: usize, joined: usize, answered: bool) -> bool
+    fn tells(&self, index: usize, joined: usize, answered: bool) -> bool
         requires lines { AreActLines self.now.lines.now }
         requires under_way { IsUnderWay self.now.lines.now self.now.learners.items }
-        requires next { spec.NextAt self.now.learners.items place (step.Join joined answered) }
-        ensures { result ≡ (spec.knows_at self.now.learners.items place joined && answered) }
+        requires next { spec.NextAt self.now.learners.items index (step.Join joined answered) }
+        ensures { result ≡ (spec.knows_at self.now.learners.items index joined && answered) }
     {
-        self.knows(place, joined, answered) && answered
+        self.knows(index, joined, answered) && answered
     }
 
     /// Whether the task knows the one that it joins next.
-    fn knows(&self, place: usize, joined: usize, answered: bool) -> bool
+    fn knows(&self, index: usize, joined: usize, answered: bool) -> bool
         requires lines { AreActLines self.now.lines.now }
         requires under_way { IsUnderWay self.now.lines.now self.now.learners.items }
-        requires next { spec.NextAt self.now.learners.items place (step.Join joined answered) }
-        ensures { result ≡ spec.knows_at self.now.learners.items place joined }
+        requires next { spec.NextAt self.now.learners.items index (step.Join joined answered) }
+        ensures { result ≡ spec.knows_at self.now.learners.items index joined }
     {
-        self.learners[place].knows[joined]
+        self.learners[index].knows[joined]
     }
 
     /// The task joins one that it knew and that answers, and learns what that one knows after its
@@ -174,38 +174,38 @@ impl<'l> Monitor<'l> {
     fn join_known(
         &mut self,
         alloc: Global,
-        place: usize,
+        index: usize,
         joined: usize,
         answered: bool,
     ) -> Result<bool, Oom>
         requires lines { AreActLines self.old.lines.now }
         requires under_way { IsUnderWay self.old.lines.now self.old.learners.items }
-        requires next { spec.NextAt self.old.learners.items place (step.Join joined answered) }
-        requires tells { IsTrue (spec.knows_at self.old.learners.items place joined && answered) }
+        requires next { spec.NextAt self.old.learners.items index (step.Join joined answered) }
+        requires tells { IsTrue (spec.knows_at self.old.learners.items index joined && answered) }
         ensures lines { IfOk result (λ _. self.new.lines.now ≡ self.old.lines.now) }
-        ensures act { IfOk result (λ moved. spec.IsTried self.old.lines.now place
+        ensures act { IfOk result (λ moved. spec.IsTried self.old.lines.now index
             self.old.learners.items self.new.learners.items moved) }
     {
         if !self.learners[joined].is_done() {
             return Ok(false);
         }
         let told = Vec::from_slice(alloc, self.learners[joined].knows.as_slice())?;
-        self.learners[place].learn(told.as_slice())?;
+        self.learners[index].learn(told.as_slice())?;
         Ok(true)
     }
 
     /// The task joins one that tells it nothing, since it didn't know it or isn't answered.
-    fn join_plain(&mut self, place: usize, joined: usize, answered: bool) -> Result<bool, Oom>
+    fn join_plain(&mut self, index: usize, joined: usize, answered: bool) -> Result<bool, Oom>
         requires lines { AreActLines self.old.lines.now }
         requires under_way { IsUnderWay self.old.lines.now self.old.learners.items }
-        requires next { spec.NextAt self.old.learners.items place (step.Join joined answered) }
-        requires tells_nothing { IsFalse (spec.knows_at self.old.learners.items place joined && answered) }
+        requires next { spec.NextAt self.old.learners.items index (step.Join joined answered) }
+        requires tells_nothing { IsFalse (spec.knows_at self.old.learners.items index joined && answered) }
         ensures lines { IfOk result (λ _. self.new.lines.now ≡ self.old.lines.now) }
-        ensures act { IfOk result (λ moved. spec.IsTried self.old.lines.now place
+        ensures act { IfOk result (λ moved. spec.IsTried self.old.lines.now index
             self.old.learners.items self.new.learners.items moved) }
     {
-        let known = self.knows(place, joined, answered);
-        self.learners[place].join(known)?;
+        let known = self.knows(index, joined, answered);
+        self.learners[index].join(known)?;
         Ok(true)
     }
 }

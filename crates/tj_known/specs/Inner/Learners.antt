@@ -18,9 +18,9 @@ use Rattle.tj_known.specs.declared.step.Step.TheVariants as step
 abbrev pub worked : Learner → ℕ
 worked x = length x.marks.items
 
--- whether the row has the place
-abbrev pub has_place : List Bool → ℕ → Bool
-has_place row i = slice_index_or row i false
+-- whether the row has the index
+abbrev pub has_index : List Bool → ℕ → Bool
+has_index row i = slice_index_or row i false
 
 -- the next act of a task that has begun
 abbrev pub next_of : Learner → Option Step
@@ -39,7 +39,7 @@ abbrev pub is_done : Learner → Bool
 is_done x = x.begun && nat_eq (worked x) (length x.steps.items)
 
 module _ (learners : List Learner) where
-  -- whether all acts of the task with this place are worked off
+  -- whether all acts of the task with this index are worked off
   abbrev pub is_done_at : ℕ → Bool
   is_done_at i = option_map_or is_done (slice_get learners i) false
 
@@ -47,23 +47,23 @@ module _ (learners : List Learner) where
   abbrev pub can_do : Learner → Option Step → Bool
   can_do x None = false
   can_do x (Some (step.Fork i)) = true
-  can_do x (Some (step.Join i answered)) = not (has_place x.knows.items i && answered) || is_done_at i
+  can_do x (Some (step.Join i answered)) = not (has_index x.knows.items i && answered) || is_done_at i
 
   -- whether the task can go on
   abbrev pub can_go_on : Learner → Bool
   can_go_on x = can_do x (next_of x)
 
-  -- whether the task with this place can go on
+  -- whether the task with this index can go on
   abbrev pub can_go_on_at : ℕ → Bool
   can_go_on_at i = option_map_or can_go_on (slice_get learners i) false
 
-  -- the task with this place has begun, and this is its next act
+  -- the task with this index has begun, and this is its next act
   abbrev pub NextAt : ℕ → Step → Type 0
   NextAt i s = option_map_or next_of (slice_get learners i) None ≡ Some s
 
-  -- whether the task with this place knows the one with that
+  -- whether the task with this index knows the one with that
   abbrev pub knows_at : ℕ → ℕ → Bool
-  knows_at i j = option_map_or (λ (x : Learner). has_place x.knows.items j) (slice_get learners i) false
+  knows_at i j = option_map_or (λ (x : Learner). has_index x.knows.items j) (slice_get learners i) false
 
   -- no task can go on
   abbrev pub AreStuck : Type 0
@@ -80,11 +80,11 @@ module _ (learners : List Learner) where
   -- the fork of the task c is worked off
   pub record IsForked (lines : List ActLine) (c : Name) : Type 0 where
     pub parent : Learner
-    pub place : ℕ
+    pub index : ℕ
     pub name : Name
     pub earlier : ℕ
-    pub parent_there : slice_get learners place ≡ Some parent
-    pub named : HasName lines place name
+    pub parent_there : slice_get learners index ≡ Some parent
+    pub named : HasName lines index name
     pub forks : HasAct lines name earlier (act.Fork c)
     pub is_worked : earlier < worked parent
 
@@ -104,10 +104,10 @@ module _ (lines : List ActLine) where
     pub few : worked x ≤ length x.steps.items
     pub unbegun : x.begun ≡ false → x.marks.items ≡ []
     pub knowledge : x.begun ≡ true → (i : ℕ) (u : Name) → HasName lines i u
-        → (has_place x.knows.items i ≡ true) ↔ Knows lines l.name (worked x) u
+        → (has_index x.knows.items i ≡ true) ↔ Knows lines l.name (worked x) u
     pub marked : (n : ℕ) (u : Name) (answered : Bool) → n < worked x
         → HasAct lines l.name n (act.Join u answered)
-        → (has_place x.marks.items n ≡ true) ↔ Knows lines l.name n u
+        → (has_index x.marks.items n ≡ true) ↔ Knows lines l.name n u
 
   -- there is one for each line, and those have begun that are the root or whose fork is worked off
   pub record IsUnderWay (learners : List Learner) : Type 0 where
@@ -117,7 +117,7 @@ module _ (lines : List ActLine) where
     pub begun : (i : ℕ) (t : Name) (x : Learner) → HasName lines i t → slice_get learners i ≡ Some x
         → (x.begun ≡ true) ↔ ((t ≡ []) ⊎ IsForked learners lines t)
 
-  -- The next act of the task with this place is worked off where it can be. Then one act less is left, and else nothing
+  -- The next act of the task with this index is worked off where it can be. Then one act less is left, and else nothing
   -- has changed.
   pub record IsTried (i : ℕ) (old new : List Learner) (moved : Bool) : Type 0 where
     pub under_way : IsUnderWay new
@@ -125,7 +125,7 @@ module _ (lines : List ActLine) where
     pub fewer : moved ≡ true → acts_left new + 1 ≡ acts_left old
     pub still : moved ≡ false → new ≡ old
 
-  -- The task with this place goes on as far as it can. Where it could, fewer acts are left, and else nothing has
+  -- The task with this index goes on as far as it can. Where it could, fewer acts are left, and else nothing has
   -- changed.
   pub record IsAdvanced (i : ℕ) (old new : List Learner) (moved : Bool) : Type 0 where
     pub under_way : IsUnderWay new

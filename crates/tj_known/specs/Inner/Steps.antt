@@ -1,4 +1,4 @@
--- Acts by places: a task goes by its place among the lines.
+-- Acts by indexes: a task goes by its index among the lines.
 use Rattle.std.specs.Prelude.{◌≡◌, ℕ, List, [], ◌∷◌, Some, slice_get}
 use Rattle.std.specs.List.{AllByRecursion}
 use Rattle.tj_base.specs.ForkOrder.{Name}
@@ -11,7 +11,7 @@ use Rattle.tj_known.specs.declared.step.Step.{Step}
 use Rattle.tj_known.specs.declared.step.Step.TheVariants as step
 
 module _ (lines : List ActLine) where
-  -- the task with this place has the name
+  -- the task with this index has the name
   abbrev pub HasName : ℕ → Name → Type 0
   HasName i t = slice_get (names_of lines) i ≡ Some t
 
@@ -24,14 +24,14 @@ module _ (lines : List ActLine) where
   abbrev pub AreThere : List Act → Type 0
   AreThere acts = AllByRecursion IsThere acts
 
-  -- the step is the act by places
+  -- the step is the act by indexes
   abbrev pub IsStep : Act → Step → Type 0
   IsStep (act.Fork c) (step.Fork i) = HasName i c
   IsStep (act.Fork c) (step.Join i b) = ⊥
   IsStep (act.Join u answered) (step.Fork i) = ⊥
   IsStep (act.Join u answered) (step.Join i b) = HasName i u × (answered ≡ b)
 
-  -- the steps are the acts by places
+  -- the steps are the acts by indexes
   abbrev pub AreSteps : List Act → List Step → Type 0
   AreSteps [] [] = Unit {0}
   AreSteps [] (s ∷ ss) = ⊥

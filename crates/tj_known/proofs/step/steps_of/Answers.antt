@@ -1,6 +1,6 @@
 use Rattle.std.proofs.Common.{◌+◌, sym, subst, take}
 use Rattle.tj_known.specs.Inner.Steps.{AreSteps}
-use Rattle.tj_known.proofs.StepPlaces.{more_steps}
+use Rattle.tj_known.proofs.StepIndexes.{more_steps}
 use Rattle.tj_known.proofs.step.steps_of.Goals as goal
 
 pub loop-act-preserved : goal.loop-act-preserved

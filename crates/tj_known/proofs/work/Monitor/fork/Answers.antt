@@ -5,17 +5,17 @@ use Rattle.tj_known.proofs.work.Monitor.fork.Goals as goal
 
 pub fork-requires : goal.fork-requires
 fork-requires c = child_within c.args.self.now.lines.now c.args.self.now.learners.items c.requires.lines
-    c.requires.under_way c.args.place c.args.child c.requires.next c.index_mut.result.now c.index_mut.ensures.value
+    c.requires.under_way c.args.index c.args.child c.requires.next c.index_mut.result.now c.index_mut.ensures.value
 
 pub index_mut-requires-2 : goal.index_mut-requires-2
 index_mut-requires-2 c =
     let less = child_less c.args.self.now.lines.now c.args.self.now.learners.items c.requires.lines c.requires.under_way
-    c.args.place c.args.child c.requires.next in
+    c.args.index c.args.child c.requires.next in
     let long = c.args.self.now.learners.ok.0 in omega arith
 
 pub returns-clause-act : goal.returns-clause-act
 returns-clause-act c = forked c.args.self.now.lines.now c.args.self.now.learners.items c.requires.lines
-    c.requires.under_way c.args.place c.args.child c.requires.next c.index_mut.result.now c.fork.new.self
+    c.requires.under_way c.args.index c.args.child c.requires.next c.index_mut.result.now c.fork.new.self
     c.index_mut-2.result.now c.begin.new.self c.index_mut.ensures.value c.index_mut-2.ensures.value
     (ap (λ (w : Learner). w.steps.items) c.begin.ensures) (ap (λ (w : Learner). w.marks.items) c.begin.ensures)
     (ap (λ (w : Learner). w.begun) c.begin.ensures)

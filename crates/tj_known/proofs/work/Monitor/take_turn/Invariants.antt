@@ -3,8 +3,8 @@ use Rattle.tj_known.proofs.WorkSteps.{IsTurn}
 use Rattle.tj_known.proofs.work.Monitor.take_turn.Given as goal
 
 -- what the tasks so far make of all
-abbrev pub invariant-loop-place : goal.invariant-loop-place
-invariant-loop-place l = record {
+abbrev pub invariant-loop-index : goal.invariant-loop-index
+invariant-loop-index l = record {
   lines : l.self.lines.now ≡ l.initial.self.lines.now;
-  turn : IsTurn l.initial.self.lines.now l.place l.initial.self.learners.items l.self.learners.items l.moved;
+  turn : IsTurn l.initial.self.lines.now l.index l.initial.self.learners.items l.self.learners.items l.moved;
 }

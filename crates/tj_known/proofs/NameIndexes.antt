@@ -1,4 +1,4 @@
--- The place of a name among lines whose names ascend, as a search finds it.
+-- The index of a name among lines whose names ascend, as a search finds it.
 use Rattle.std.proofs.Common.{◌≡◌, ℕ, zero, suc, ◌<◌, ◌≤◌, List, [], ◌∷◌, Some, length, get_or}
 use Rattle.std.proofs.Common.{Less, Equal, Greater, Ordering, refl, sym, ap, ◌∙◌, arith}
 use Rattle.std.specs.List.{AllByRecursion}
@@ -19,7 +19,7 @@ use Rattle.tj_mean.specs.declared.act.ActLine.{ActLine}
 use Rattle.tj_body.specs.Points.{IsIn}
 use Rattle.tj_body.proofs.Counts.{same_is}
 use Rattle.tj_mean.proofs.Elements.{get_in, get_less, get_there}
-use Rattle.tj_mean.proofs.LinePlaces.{line_at, name_at}
+use Rattle.tj_mean.proofs.LineIndexes.{line_at, name_at}
 use Rattle.tj_known.specs.Inner.Steps.{HasName}
 
 abbrev order : Name → Name → Ordering
@@ -79,7 +79,7 @@ module _ {F : Type 0} {g : Mut F (Bor ActLine × Unit {0}) Ordering} {f : F} (ls
   computes : ComputesKey g (λ (l : ActLine). order l.name t) f
   computes = always_returns_same g (λ a r. r ≡ order a.0.now.name t) f calls
 
-  -- what a search finds is the place of the name
+  -- what a search finds is the index of the name
   pub found : (i : ℕ) → i < length ls
       → ((ord : ActLine → Ordering) → ComputesKey g ord f → (d : ActLine) → ord (get_or ls i d) ≡ Equal)
       → HasName ls i t

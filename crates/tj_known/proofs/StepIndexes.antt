@@ -1,4 +1,4 @@
--- Acts and their steps, place by place.
+-- Acts and their steps, index by index.
 use Rattle.std.proofs.Common.{◌≡◌, ℕ, zero, suc, List, [], ◌∷◌, ◌++◌, Some, length, refl, ap, subst}
 use Rattle.std.proofs.Common.{◌+◌, ◌<◌, get_or, sym, take, ◌∙◌}
 use Rattle.std.proofs.lemmas.List.{take_more}
@@ -51,7 +51,7 @@ there_at lines [] are n a h = absurd (cc)
 there_at lines (b ∷ bs) are zero a h = subst (λ x. IsThere lines x) (some_is b a h) are.0
 there_at lines (b ∷ bs) are (suc n) a h = there_at lines bs are.1 n a h
 
--- it is so where it is so at each place
+-- it is so where it is so at each index
 pub there_all : (lines : List ActLine) (acts : List Act)
     → ((n : ℕ) (a : Act) → slice_get acts n ≡ Some a → IsThere lines a) → AreThere lines acts
 there_all lines [] at = tt
@@ -66,7 +66,7 @@ more_steps lines acts i a less at steps s are is =
     (sym (take_more acts i a less ∙ ap (λ z. take i acts ++ z ∷ []) (sym at)))
     (steps_more lines (take i acts) steps a s are is)
 
--- an act that stands at a place has a line
+-- an act that stands at an index has a line
 pub act_there : (lines : List ActLine) (acts : List Act) (i : ℕ) (a : Act) → AreThere lines acts → i < length acts
     → a ≡ get_or acts i a → IsThere lines a
 act_there lines acts i a are less at = there_at lines acts are i a (slice_get_read acts (length acts) i a refl less at)
