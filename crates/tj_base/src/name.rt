@@ -11,12 +11,13 @@ use itoa::Buffer;
 use std::alloc::Global;
 use std::cmp::Ordering;
 use std::marker::Model;
+use std::sync::Arc;
 
 /// A cell's name: the numbers from the root on.
 #[derive(Debug, Drop)]
 pub struct Name {
-    // None stands for the root, so that its name takes no memory.
-    numbers: Option<Vec<u32>>,
+    // Equal names that were copied share one list. None stands for the root, which takes no memory.
+    numbers: Option<Arc<Vec<u32>, Global>>,
 }
 
 impl Model for Name {
@@ -26,7 +27,7 @@ impl Model for Name {
 
     ghost Value = { List ℕ };
 
-    ghost view = { λ n. option_map_or (λ numbers. numbers.items) n.numbers [] };
+    ghost view = { λ n. option_map_or (λ numbers. numbers.value.items) n.numbers [] };
 }
 
 impl Name {
@@ -41,21 +42,25 @@ impl Name {
     pub fn child(&self, alloc: Global, k: u32) -> Result<Name, Oom>
         ensures { IfOk result (λ name. name ≡ self.now ++ k ∷ []) }
     {
-        let mut numbers = Vec::from_slice(alloc, self.parts())?;
+        let parts = self.parts();
+        let mut numbers = Vec::with_capacity(alloc, parts.len().saturating_add(1))?;
+        numbers.extend_from_slice(parts)?;
         numbers.push(k)?;
         Ok(Name {
-            numbers: Some(numbers),
+            numbers: Some(Arc::new(alloc, numbers)?),
         })
     }
 
     /// An equal name.
-    pub fn copy(&self, alloc: Global) -> Result<Name, Oom>
+    pub fn copy(&self, _alloc: Global) -> Result<Name, Oom>
         ensures { IfOk result (λ name. name ≡ self.now) }
     {
-        let numbers = Vec::from_slice(alloc, self.parts())?;
-        Ok(Name {
-            numbers: Some(numbers),
-        })
+        match &self.numbers {
+            None => Ok(Name::root()),
+            Some(numbers) => Ok(Name {
+                numbers: Some(Arc::try_clone(numbers)?),
+            }),
+        }
     }
 
     /// The numbers of the name, from the root on.
