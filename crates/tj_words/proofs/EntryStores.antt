@@ -1,5 +1,5 @@
 -- The stores of BITS and TAG keep the rule.
-use Rattle.std.proofs.Common.{◌≡◌, ◌≢◌, ℕ, ◌<◌, ◌≤◌, Bool, List, [], ◌∷◌, length, set, Option, refl, sym, ap, ◌∙◌}
+use Rattle.std.proofs.Common.{◌≡◌, ◌≢◌, ℕ, ◌<◌, ◌≤◌, Bool, List, [], ◌∷◌, set, Option, refl, sym, ap, ◌∙◌}
 use Rattle.std.proofs.Common.{subst, arith}
 use mathlib.Core.Logic.{dite}
 use mathlib.Core.Option.{some, some-injective, none}
@@ -31,25 +31,36 @@ use Rattle.tj_words.specs.Chains.{Chains}
 use Rattle.tj_words.specs.LiveCount.{IsBacked, HasWakeToCome}
 use Rattle.tj_words.specs.RecordPhases.{RecordsFit}
 use Rattle.tj_words.specs.Meaning.{Meaning}
-use Rattle.tj_words.specs.Contents.{SeatsHave, words_say, seats_have, Contents, drawn_in, hand_of, home_of, tag_in}
+use Rattle.tj_words.specs.Contents.{SeatsHave, seats_have, Contents, drawn_in, hand_of, home_of, tag_in}
 use Rattle.tj_words.specs.Contents.{bits_in}
 use Rattle.tj_words.specs.Law.{Law, Rule, IsSeat}
 use Rattle.tj_words.specs.SeatSteps.{SeatMe}
 use Rattle.tj_words.specs.DrawViews.{without_due}
 use Rattle.tj_words.specs.KnownEntries.{HasSeen, MayStoreBits}
 use Rattle.tj_words.specs.EntryViews.{MayPutBits, MayPutTag, wrote_bits, wrote_tag, bits_store, tag_store}
-use Rattle.tj_words.proofs.SeatContents.{set_seats, seats_same}
+use Rattle.tj_words.proofs.SeatContents.{seats_same}
 use Rattle.tj_words.proofs.ChainPhases.{chains_tag}
 use Rattle.tj_words.proofs.HeadSteps.{tag_some}
-use Rattle.tj_words.proofs.KnowLoads.{once_within}
 use Rattle.tj_words.proofs.LawChanges.{law_once}
 use Rattle.tj_words.proofs.LawMeant.{ground_of, known_of, law_meant}
 use Rattle.tj_words.proofs.MeaningSteps.{tag_meant}
 use Rattle.tj_words.proofs.RecordSteps.{tags_fit}
 use Rattle.tj_words.proofs.StoreSteps.{put_here, put_else, Stores, step_allowed}
-use Rattle.tj_words.proofs.StoredWords.{put_word, put_word_here, put_word_cell, put_word_word, say_once, may_once}
+use Rattle.tj_words.proofs.StoredWords.{put_word, put_word_here, put_word_cell, put_word_word}
 use Rattle.tj_words.proofs.OnceStores.{due_else, once_stored, tree_words_stored}
 use Rattle.tj_words.proofs.ValueStores.{bits_stored}
+use Rattle.tj_words.proofs.WrittenOnce.{once_stores}
+
+-- what the seats have that had y, once seat id, which had v, has written the word f of c, and has w: z with those fields
+abbrev written : {B : Type 0} → SeatsHave B → ℕ → ℕ → Once → View B → View B → List (List ℕ) → SeatsHave B → SeatsHave B
+written y id c f v w shuts z = record z {
+  seen = set y.seen id v.seen;
+  dues = set y.dues id (without_due c f v.dues);
+  born_seen = set y.born_seen id v.born;
+  wrote = set y.wrote id w.wrote;
+  filled = set y.filled id w.filled;
+  shuts = shuts;
+}
 
 module _ {B : Type 0} {program : Program B} {cells : ℕ} {x : Contents B} (r : Law program cells x)
     (id c : ℕ) (v : View B)
@@ -61,14 +72,7 @@ module _ {B : Type 0} {program : Program B} {cells : ℕ} {x : Contents B} (r : 
   entered f n w shuts = record {
     words = record x.words { once = put_word x.words.once c f n };
     slots = x.slots;
-    seats = record x.seats {
-      seen = set x.seats.seen id v.seen;
-      dues = set x.seats.dues id (without_due c f v.dues);
-      born_seen = set x.seats.born_seen id v.born;
-      wrote = set x.seats.wrote id w.wrote;
-      filled = set x.seats.filled id w.filled;
-      shuts = shuts;
-    };
+    seats = written x.seats id c f v w shuts x.seats;
   }
 
   -- the law after the store of BITS
@@ -215,35 +219,17 @@ module _ {B : Type 0} (program : Bool → B → Program B) (key : Key B) where
       → (m : MayPutBits program c n v)
       → Stores program key s id (once_at c once.Bits) n (wrote_bits c m.entry v)
   bits_stores s r id c n v at l m = let y = seats_have s.views in let w = wrote_bits c m.entry v in
-      let inside : once_at c once.Bits < length s.words =
-      (let e = r.all_words in let i = once_within c key.cells once.Bits l in omega arith) in
       let q = r.seats id v at in
       let same : m.about ≡ record { root = key.root.value; cells = key.cells; strict = key.strict } =
       q.about m.about m.is_about in
-      record {
-        inside = inside;
-        may = may_once key.cells c n once.Bits tt;
-        seat = seat_written v c w.steps once.Bits w.wrote w.filled w.shuts q q.backing.wakes;
-        law = subst (λ z. Law P key.cells (record { words = z; slots = s.homes; seats = set_seats y id w }))
-            (sym (say_once s.words n c once.Bits inside))
-            (subst (λ z. Law P key.cells (record {
-              words = record (words_say s.words) { once = put_word (words_say s.words).once c once.Bits n };
-              slots = s.homes;
-              seats = z;
-            }))
-            (sym (ap (λ (z : SeatsHave B). record z {
-              seen = set y.seen id v.seen;
-              dues = set y.dues id (without_due c once.Bits v.dues);
-              born_seen = set y.born_seen id v.born;
-              wrote = set y.wrote id w.wrote;
-              filled = set y.filled id w.filled;
-            }) (seats_same s.views id v at)))
-            (law_bits r.law id c v (at_map (λ (u : View B). u.born) s.views id v at)
-            (at_map (λ (u : View B). u.wrote) s.views id v at) (at_map (λ (u : View B). u.filled) s.views id v at)
-            (at_map (λ (u : View B). u.seen) s.views id v at) (at_map (λ (u : View B). u.dues) s.views id v at)
-            m.entry n m.due (at_map (λ (u : View B). u.known) s.views id v at)
-            (subst (λ (a : About B). MayStoreBits (program a.strict a.root) v.born v.known c m.entry n) same m.may)));
-      }
+      once_stores program key s r id c n once.Bits l w (written y id c once.Bits v w y.shuts y) tt
+      (seat_written v c w.steps once.Bits w.wrote w.filled w.shuts q q.backing.wakes)
+      (ap (λ (z : SeatsHave B). written y id c once.Bits v w z.shuts z) (seats_same s.views id v at))
+      (law_bits r.law id c v (at_map (λ (u : View B). u.born) s.views id v at)
+      (at_map (λ (u : View B). u.wrote) s.views id v at) (at_map (λ (u : View B). u.filled) s.views id v at)
+      (at_map (λ (u : View B). u.seen) s.views id v at) (at_map (λ (u : View B). u.dues) s.views id v at)
+      m.entry n m.due (at_map (λ (u : View B). u.known) s.views id v at)
+      (subst (λ (a : About B). MayStoreBits (program a.strict a.root) v.born v.known c m.entry n) same m.may))
 
   pub bits_allowed : (slots id : ℕ) (me : SeatMe B) (c i n cell : ℕ) → c < key.cells → i ≡ once_at c once.Bits
       → cell ≡ c
@@ -268,32 +254,14 @@ module _ {B : Type 0} (program : Bool → B → Program B) (key : Key B) where
       → (m : MayPutTag c n v)
       → Stores program key s id (once_at c once.Tag) n (wrote_tag c m.entry v)
   tag_stores s r id c n v at l m = let y = seats_have s.views in let w = wrote_tag c m.entry v in
-      let inside : once_at c once.Tag < length s.words =
-      (let e = r.all_words in let i = once_within c key.cells once.Tag l in omega arith) in
-      record {
-        inside = inside;
-        may = may_once key.cells c n once.Tag (subst (λ k. k ≤ 4) (sym m.tag) (tag_small m.entry));
-        seat = seat_written v c w.steps once.Tag w.wrote w.filled w.shuts (r.seats id v at) (λ h. m.backed);
-        law = subst (λ z. Law P key.cells (record { words = z; slots = s.homes; seats = set_seats y id w }))
-            (sym (say_once s.words n c once.Tag inside))
-            (subst (λ z. Law P key.cells (record {
-              words = record (words_say s.words) { once = put_word (words_say s.words).once c once.Tag n };
-              slots = s.homes;
-              seats = z;
-            }))
-            (sym (ap (λ (z : SeatsHave B). record z {
-              seen = set y.seen id v.seen;
-              dues = set y.dues id (without_due c once.Tag v.dues);
-              born_seen = set y.born_seen id v.born;
-              wrote = set y.wrote id w.wrote;
-              filled = set y.filled id w.filled;
-              shuts = set y.shuts id w.shuts;
-            }) (seats_same s.views id v at)))
-            (law_tag r.law id c v (at_map (λ (u : View B). u.born) s.views id v at)
-            (at_map (λ (u : View B). u.wrote) s.views id v at) (at_map (λ (u : View B). u.filled) s.views id v at)
-            (at_map (λ (u : View B). u.seen) s.views id v at) (at_map (λ (u : View B). u.dues) s.views id v at)
-            m.entry n m.due m.bits_first m.wrote m.tag (at_map (λ (u : View B). u.shuts) s.views id v at)));
-      }
+      once_stores program key s r id c n once.Tag l w (written y id c once.Tag v w (set y.shuts id w.shuts) y)
+      (subst (λ k. k ≤ 4) (sym m.tag) (tag_small m.entry))
+      (seat_written v c w.steps once.Tag w.wrote w.filled w.shuts (r.seats id v at) (λ h. m.backed))
+      (ap (written y id c once.Tag v w (set y.shuts id w.shuts)) (seats_same s.views id v at))
+      (law_tag r.law id c v (at_map (λ (u : View B). u.born) s.views id v at)
+      (at_map (λ (u : View B). u.wrote) s.views id v at) (at_map (λ (u : View B). u.filled) s.views id v at)
+      (at_map (λ (u : View B). u.seen) s.views id v at) (at_map (λ (u : View B). u.dues) s.views id v at)
+      m.entry n m.due m.bits_first m.wrote m.tag (at_map (λ (u : View B). u.shuts) s.views id v at))
 
   -- what a seat has written of one cell is one thing
   one_written : (s : State (Option (Rec B)) (View B)) (r : Rule program key s) (id c : ℕ) (v : View B)

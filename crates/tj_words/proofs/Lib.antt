@@ -114,3 +114,5 @@ mod OwnerCalls
 mod HandCalls
 mod DrawCalls
 mod TableRuns
+mod RestedRuns
+mod WrittenOnce

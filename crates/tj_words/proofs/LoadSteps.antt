@@ -10,6 +10,7 @@ use Rattle.atomic_table.proofs.Lists.{at_map}
 use Rattle.tj_body.specs.Programs.{Program}
 use Rattle.tj_words.specs.declared.record.Rec.{Rec}
 use Rattle.tj_words.specs.declared.table.Key.{Key}
+use Rattle.tj_words.specs.declared.view.RunLoad.{RunLoad}
 use Rattle.tj_words.specs.declared.view.View.{View}
 use Rattle.tj_body.specs.declared.point.Reference.{Reference}
 use Rattle.tj_words.specs.TreeWords.{IsCell}
@@ -20,8 +21,8 @@ use Rattle.tj_words.specs.Phases.{phase_in}
 use Rattle.tj_words.specs.LiveCount.{live_part, live_tasks}
 use Rattle.tj_words.specs.Lists.{Each, All, total}
 use Rattle.tj_words.specs.Offsets.{word, own_at, phase_at, live_at, count_at}
-use Rattle.tj_words.specs.Contents.{SeatsHave, contents_of, seats_have}
-use Rattle.tj_words.specs.Law.{Rule, IsSeat}
+use Rattle.tj_words.specs.Contents.{Contents, SeatsHave, contents_of, seats_have}
+use Rattle.tj_words.specs.Law.{Law, Rule, IsSeat}
 use Rattle.tj_words.specs.SeatSteps.{SeatMe, plain_load, live_load, simple_load, IsCount}
 use Rattle.tj_words.proofs.SeatLists.{each_set, words_same}
 use Rattle.tj_words.proofs.SeatContents.{seats_set, seats_same, rule_views}
@@ -81,6 +82,22 @@ module _ {B : Type 0} where
         { least = l.least; refused_fit = l.refused_fit; tokens_fit = l.tokens_fit; cleared_fit = l.cleared_fit };
     backing = record { wakes = b.wakes; tags = b.tags; alarms = b.alarms };
     known_born = kb;
+  }
+
+  -- what it knows is so with other loads of LIVE and STOP besides
+  pub noted_so : {P : Program B} {cells : ℕ} {x : Contents B} {law : Law P cells x} (k : Knowing) (rested : Bool)
+      (stop : ℕ) (loads : List RunLoad) → IsSo P cells x law k → (rested ≡ true → x.words.live ≡ 0)
+      → IsSo P cells x law (record k { rested = rested; stop = stop; run_loads = loads })
+  noted_so k rested stop loads o now = record {
+    known = o.known;
+    begins = o.begins;
+    known_born = o.known_born;
+    wrote = o.wrote;
+    filled = o.filled;
+    seen = o.seen;
+    closed = o.closed;
+    found = o.found;
+    rested = now;
   }
 
   module _ (program : Bool → B → Program B) (key : Key B) where
@@ -190,17 +207,8 @@ module _ {B : Type 0} where
           m.0.plain_loads,
           m.0.once_loads,
           suc m.0.steps,
-          (let o = knows_so s r id m.0 at in record {
-            known = o.known;
-            begins = o.begins;
-            known_born = o.known_born;
-            wrote = o.wrote;
-            filled = o.filled;
-            seen = o.seen;
-            closed = o.closed;
-            found = o.found;
-            rested = λ e. z;
-          }),
+          noted_so (knowing_of m.0) true m.0.stop (run_load run.Live 0 m.0 ∷ m.0.run_loads)
+              (knows_so s r id m.0 at) (λ e. z),
           (refl, (λ e. refl), (λ n. absurd (n z)), live_small s r),
         ))
         (λ n. (
@@ -208,17 +216,8 @@ module _ {B : Type 0} where
           m.0.plain_loads,
           m.0.once_loads,
           suc m.0.steps,
-          (let o = knows_so s r id m.0 at in record {
-            known = o.known;
-            begins = o.begins;
-            known_born = o.known_born;
-            wrote = o.wrote;
-            filled = o.filled;
-            seen = o.seen;
-            closed = o.closed;
-            found = o.found;
-            rested = o.rested;
-          }),
+          (let o = knows_so s r id m.0 at in noted_so (knowing_of m.0) m.0.rested m.0.stop
+              (run_load run.Live (word s.words live_at) m.0 ∷ m.0.run_loads) o o.rested),
           (refl, (λ e. absurd (n e)), (λ e. refl), live_small s r),
         )))
 

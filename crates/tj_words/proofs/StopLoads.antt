@@ -13,7 +13,7 @@ use Rattle.tj_words.specs.SeatSteps.{SeatMe}
 use Rattle.tj_words.specs.Views.{run_load}
 use Rattle.tj_words.specs.declared.view.RunWord.TheVariants as run
 use Rattle.tj_words.proofs.Learning.{knowing_of}
-use Rattle.tj_words.proofs.LoadSteps.{knows_so, load_allowed}
+use Rattle.tj_words.proofs.LoadSteps.{knows_so, load_allowed, noted_so}
 
 module _ {B : Type 0} (program : Bool → B → Program B) (key : Key B) where
   pub stop_allowed : (slots id : ℕ) (m : SeatMe B)
@@ -27,17 +27,8 @@ module _ {B : Type 0} (program : Bool → B → Program B) (key : Key B) where
         m.0.plain_loads,
         m.0.once_loads,
         suc m.0.steps,
-        (let o = knows_so program key s r id m.0 at in record {
-          known = o.known;
-          begins = o.begins;
-          known_born = o.known_born;
-          wrote = o.wrote;
-          filled = o.filled;
-          seen = o.seen;
-          closed = o.closed;
-          found = o.found;
-          rested = o.rested;
-        }),
+        (let o = knows_so program key s r id m.0 at in noted_so (knowing_of m.0) m.0.rested (word s.words stop_at)
+            (run_load run.Stop (word s.words stop_at) m.0 ∷ m.0.run_loads) o o.rested),
         (
           refl,
           refl,

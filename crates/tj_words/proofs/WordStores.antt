@@ -1,5 +1,5 @@
 -- The store of a word of the tree of a cell in hand: what it asks is the right word, and the rule is kept.
-use Rattle.std.proofs.Common.{◌≡◌, ◌≢◌, ℕ, zero, suc, ◌<◌, ◌^◌, List, [], ◌∷◌, length, set, Option, Some, refl, sym}
+use Rattle.std.proofs.Common.{◌≡◌, ◌≢◌, ℕ, zero, suc, ◌<◌, ◌^◌, List, [], ◌∷◌, set, Option, Some, refl, sym}
 use Rattle.std.proofs.Common.{ap, ◌∙◌, subst, inl, inr, arith, Bool}
 use mathlib.Core.Option.{some, some-injective, none}
 use lib.ListN.{get_elem?}
@@ -31,7 +31,7 @@ use Rattle.tj_words.specs.ShownState.{sort_shown}
 use Rattle.tj_words.specs.Chains.{Chains}
 use Rattle.tj_words.specs.RecordPhases.{RecordsFit}
 use Rattle.tj_words.specs.Meaning.{Meaning}
-use Rattle.tj_words.specs.Contents.{SeatsHave, words_say, seats_have, Contents, contents_of, drawn_in, hand_of}
+use Rattle.tj_words.specs.Contents.{SeatsHave, seats_have, Contents, contents_of, drawn_in, hand_of}
 use Rattle.tj_words.specs.Contents.{held_of, home_of, made_of}
 use Rattle.tj_words.specs.Law.{Law, Rule}
 use Rattle.tj_words.specs.SeatSteps.{SeatMe}
@@ -41,13 +41,14 @@ use Rattle.tj_words.proofs.LawChanges.{law_once}
 use Rattle.tj_words.proofs.HeldTasks.{none_some, one_some, hand_found, hand_finds, makes_one}
 use Rattle.tj_words.proofs.TaskPlaces.{held_here}
 use Rattle.tj_words.proofs.SeatLists.{back}
-use Rattle.tj_words.proofs.SeatContents.{set_seats, seats_same}
+use Rattle.tj_words.proofs.SeatContents.{seats_same}
 use Rattle.tj_words.proofs.LoadSteps.{knows_so}
-use Rattle.tj_words.proofs.KnowLoads.{once_within, root_there, born_at, sees_tree}
+use Rattle.tj_words.proofs.KnowLoads.{root_there, born_at, sees_tree}
 use Rattle.tj_words.proofs.StoreSteps.{Stores, step_allowed}
-use Rattle.tj_words.proofs.StoredWords.{put_word, put_word_word, say_once, MayStand, may_once}
+use Rattle.tj_words.proofs.StoredWords.{put_word, put_word_word, MayStand}
 use Rattle.tj_words.proofs.OnceStores.{due_else, once_stored, tree_words_stored}
 use Rattle.tj_words.proofs.MadeThings.{made_few, child_jump}
+use Rattle.tj_words.proofs.WrittenOnce.{once_stores}
 
 module _ {B : Type 0} {program : Program B} {cells : ℕ} {x : Contents B} (r : Law program cells x) where
   -- what a seat has in hand is in that hand
@@ -224,8 +225,6 @@ module _ {B : Type 0} (program : Bool → B → Program B) (key : Key B) where
       → Stores program key s id (once_at c f) n (wrote_word c f n v)
   word_stores s r id c f n v at l m = let y = seats_have s.views in let w = wrote_word c f n v in
       let law = r.law in let h = m.hand in
-      let inside : once_at c f < length s.words =
-      (let e = r.all_words in let i = once_within c key.cells f l in omega arith) in
       let has : get_elem? y.hands id ≡ some (Some h) =
       at_map (λ (u : View B). u.hand) s.views id v at ∙ ap (λ (o : Option Hand). some o) m.has in
       let tasks = at_map (λ (u : View B). u.tasks) s.views id v at in
@@ -234,39 +233,27 @@ module _ {B : Type 0} (program : Bool → B → Program B) (key : Key B) where
       let stands = (knows_so program key s r id v at).seen in
       let q = r.seats id v at in
       let born = born_at P key.cells (contents_of s) law h.cell (law.hands.each id h has).drawn_cell in
+      once_stores program key s r id c n f l w (record y { seen = set y.seen id w.seen; dues = set y.dues id w.dues })
+      (may_stand law id h has v.tasks v.seen tasks stands (let a = r.few_cells in omega arith) f n v refl refl m.right
+      born.0 born.1)
       record {
-        inside = inside;
-        may = may_once key.cells c n f (may_stand law id h has v.tasks v.seen tasks stands
-            (let a = r.few_cells in omega arith) f n v refl refl m.right born.0 born.1);
-        seat = record {
-          about = q.about;
-          within_lot = record {
-            least = q.within_lot.least;
-            refused_fit = q.within_lot.refused_fit;
-            tokens_fit = q.within_lot.tokens_fit;
-            cleared_fit = q.within_lot.cleared_fit;
-          };
-          backing = record {
-            wakes = q.backing.wakes;
-            tags = λ a. q.backing.tags (a.0, (due_else c f v.dues a.0 a.1).0, a.2);
-            alarms = q.backing.alarms;
-          };
-          known_born = q.known_born;
+        about = q.about;
+        within_lot = record {
+          least = q.within_lot.least;
+          refused_fit = q.within_lot.refused_fit;
+          tokens_fit = q.within_lot.tokens_fit;
+          cleared_fit = q.within_lot.cleared_fit;
         };
-        law = subst (λ z. Law P key.cells (record { words = z; slots = s.homes; seats = set_seats y id w }))
-            (sym (say_once s.words n c f inside))
-            (subst (λ z. Law P key.cells (record {
-              words = record (words_say s.words) { once = put_word (words_say s.words).once c f n };
-              slots = s.homes;
-              seats = z;
-            }))
-            (sym (ap (λ (z : SeatsHave B). record z {
-              seen = set y.seen id w.seen;
-              dues = set y.dues id w.dues;
-            }) (seats_same s.views id v at)))
-            (law_written law id h has v.tasks v.seen tasks stands c f n v m.its_cell refl refl seen dues m.due
-            m.right));
+        backing = record {
+          wakes = q.backing.wakes;
+          tags = λ a. q.backing.tags (a.0, (due_else c f v.dues a.0 a.1).0, a.2);
+          alarms = q.backing.alarms;
+        };
+        known_born = q.known_born;
       }
+      (ap (λ (z : SeatsHave B). record z { seen = set y.seen id w.seen; dues = set y.dues id w.dues })
+      (seats_same s.views id v at))
+      (law_written law id h has v.tasks v.seen tasks stands c f n v m.its_cell refl refl seen dues m.due m.right)
 
   pub word_allowed : (slots id : ℕ) (m : SeatMe B) (c i n cell : ℕ) (f kind : Once) → c < key.cells → i ≡ once_at c f
       → cell ≡ c → kind ≡ f → MayWrite c f n m.0

@@ -12,6 +12,7 @@ use Rattle.tj_words.specs.Offsets.{words_for, count_at, live_at, own_at, phase_a
 use Rattle.tj_words.specs.Owners.{owner_word}
 use Rattle.tj_words.specs.Phases.{phase_word}
 use Rattle.tj_words.specs.Lots.{all_lots}
+use Rattle.tj_words.specs.Views.{spent}
 
 -- one cell is drawn, the root; it is ready, owns its result, and jumps to itself
 abbrev pub first_words : ℕ → List ℕ
@@ -39,31 +40,10 @@ module _ {B : Type 0} where
   abbrev pub first_slots : ℕ → B → List (Option (Rec B))
   first_slots cells root = Some (root_record root) ∷ replicate (cells - 1) None
 
-  -- the view of the first seat, which has all lots
+  -- the view of the first seat, which has all lots and knows what cell 0 is
   abbrev pub first_view : ℕ → B → Bool → View B
-  first_view cells root strict = record {
+  first_view cells root strict = record spent {
     about = Some (record { root = root; cells = cells; strict = strict });
     lot = all_lots;
-    refused = 0;
-    tokens = 0;
-    cleared = 0;
-    hand = None;
-    tasks = [];
-    known = [];
     born = to_task [] ∷ [];
-    wrote = [];
-    filled = [];
-    seen = [];
-    dues = [];
-    pushes = [];
-    shuts = [];
-    rest = None;
-    closed = [];
-    found = [];
-    rested = false;
-    plain_loads = 0;
-    once_loads = 0;
-    steps = 0;
-    stop = 0;
-    run_loads = [];
   }

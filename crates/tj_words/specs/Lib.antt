@@ -60,3 +60,5 @@ pub mod EventCalls
 pub mod TaskCalls
 pub mod OwnerCalls
 pub mod TableRuns
+pub mod StepCalls
+pub mod RestedRuns

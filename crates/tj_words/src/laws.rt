@@ -9,6 +9,7 @@ ghost use Rattle.tj_words.specs.CallSteps as call;
 ghost use Rattle.tj_words.specs.EventCalls as event;
 ghost use Rattle.tj_words.specs.OneStates as state;
 ghost use Rattle.tj_words.specs.OwnerCalls as owner;
+ghost use Rattle.tj_words.specs.RestedRuns as rested;
 ghost use Rattle.tj_words.specs.StepLaws as law;
 ghost use Rattle.tj_words.specs.TableRuns as run;
 ghost use Rattle.tj_words.specs.TaskCalls as task;
@@ -196,4 +197,11 @@ pub fn owner_calls<B>()
 pub fn table_runs<B>()
     ensures steps { run.StepsAreRuns B }
     ensures legal { run.TableRunsAreLegal B }
+{}
+
+/// Once a seat has loaded LIVE as 0, LIVE stays 0, and each TAG stays as it is: so a cell that has no
+/// value then never gets one.
+pub fn rested_runs<B>()
+    ensures stays { rested.RestStays B }
+    ensures no_value { rested.NoValueComes B }
 {}

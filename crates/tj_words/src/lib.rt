@@ -40,8 +40,8 @@ pub use head::Head;
 pub use laws::{
     count_steps, event_calls, head_steps, live_steps, load_calls, merges, next_steps, once_loads,
     once_stores, one_state, others_steps, owner_calls, owner_loads, owner_stores, phase_exchanges,
-    phase_loads, phase_stores, seat_calls, slot_steps, splits, stop_steps, store_calls, table_runs,
-    task_calls,
+    phase_loads, phase_stores, rested_runs, seat_calls, slot_steps, splits, stop_steps,
+    store_calls, table_runs, task_calls,
 };
 pub use offsets::Once;
 pub use phase::{Phase, Walk};
