@@ -238,7 +238,13 @@ module _ {B : Type 0} where
         views = set s.views id (left_half v) ++ right_half v ∷ [];
       }))
   split_splits s id v at = (
-    record { words = refl; slots = refl; hands = hands; tasks = tasks; cleared = more (λ (u : View B). u.cleared) refl },
+    record {
+      words = refl;
+      slots = refl;
+      hands = hands;
+      tasks = tasks;
+      cleared = more (λ (u : View B). u.cleared) refl;
+    },
     (λ cells. kept cells (contents_of s) (contents_of (record {
       words = s.words;
       homes = s.homes;

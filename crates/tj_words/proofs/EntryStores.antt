@@ -51,7 +51,7 @@ use Rattle.tj_words.proofs.OnceStores.{due_else, once_stored, tree_words_stored}
 use Rattle.tj_words.proofs.ValueStores.{bits_stored}
 use Rattle.tj_words.proofs.WrittenOnce.{once_stores}
 
--- what the seats have that had y, once seat id, which had v, has written the word f of c, and has w: z with those fields
+-- z with the fields of seats that had y, once seat id, which had v, has written the word f of c, and has w
 abbrev written : {B : Type 0} → SeatsHave B → ℕ → ℕ → Once → View B → View B → List (List ℕ) → SeatsHave B → SeatsHave B
 written y id c f v w shuts z = record z {
   seen = set y.seen id v.seen;

@@ -1,5 +1,5 @@
--- Once a seat has loaded LIVE as 0, each call, split and merge leaves some seat that has, so LIVE stays 0. A seat to which
--- TAG is due would be lively, so none is written.
+-- Once a seat has loaded LIVE as 0, each call, split and merge leaves some seat that has, so LIVE stays 0. A seat to
+-- which TAG is due would be lively, so none is written.
 use Rattle.std.proofs.Common.{◌≡◌, ◌≢◌, ◌⊎◌, ℕ, Bool, true, false, ◌||◌, List, [], ◌∷◌, ◌++◌, set}
 use Rattle.std.proofs.Common.{Option, Some, None, refl, sym, ap, ◌∙◌, subst, inl, inr, ⊎_elim, arith}
 use mathlib.Core.Logic.{dite}

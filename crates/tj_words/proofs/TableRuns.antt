@@ -1,5 +1,5 @@
--- The steps of a table, one after the other, are a run of the core: each is one event or none, and what it leaves is what
--- the next moment shows.
+-- The steps of a table, one after the other, are a run of the core: each is one event or none, and what it leaves is
+-- what the next moment shows.
 use Rattle.std.proofs.Common.{◌≡◌, ◌⊎◌, ℕ, ◌<◌, min, Bool, List, [], ◌∷◌, ◌++◌, map, refl, sym, ap, ◌∙◌, subst}
 use Rattle.std.proofs.Common.{⊎_elim, arith}
 use mathlib.Core.Option.{some}
@@ -59,8 +59,8 @@ module _ {B : Type 0} (program : Program B) (cells : ℕ) where
         drawn_chained u.law w.law step.keeps (omega arith) d.0 d.1 d.2 d.4 ∙ shows.shown,
       )) step.shows
 
-  all_steps : (u : Under program cells) (steps : List (List Event × Under program cells)) → AreSteps program cells u steps
-      → Goes u (last_of program cells u steps) (events_of program cells steps)
+  all_steps : (u : Under program cells) (steps : List (List Event × Under program cells))
+      → AreSteps program cells u steps → Goes u (last_of program cells u steps) (events_of program cells steps)
   all_steps u [] a = (tt, refl)
   all_steps u (step ∷ steps) a = let es = step.0 in let fs = events_of program cells steps in
       let first = one_step u step.1 es a.0 in let others = all_steps step.1 steps a.1 in (

@@ -1,5 +1,5 @@
--- The exchanges of PHASE that succeed are changes of the law of steps, and leave makers and numbers of cells: a claim, a
--- wake, and the way back of a task that its seat had parked.
+-- The exchanges of PHASE that succeed are changes of the law of steps, and leave makers and numbers of cells: a claim,
+-- a wake, and the way back of a task that its seat had parked.
 use Rattle.std.proofs.Common.{◌≡◌, ◌≢◌, ℕ, Bool, [], ◌∷◌, set, Option, Some, None}
 use Rattle.std.proofs.Common.{refl, sym, ap, ◌∙◌, subst, inl, inr}
 use mathlib.Core.Option.{some, none}
