@@ -3,6 +3,6 @@ pub mod Columns
 pub mod Machine
 pub mod Owners
 pub mod Slots
-pub mod Statuses
+pub mod SlotStages
 pub mod WalkSteps
 pub mod Births

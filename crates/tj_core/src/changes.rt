@@ -1,8 +1,8 @@
 //! The changes that events make: each change of one cell is made by one function here, whose clause
 //! says it of the core state.
 use crate::machine::Machine;
+use crate::slot_stage::SlotStage;
 use crate::stage::Illegal;
-use crate::status::Status;
 use crate::walk::Way;
 use crate::walk_step::WalkStep;
 use tj_base::CellId;
@@ -14,7 +14,7 @@ impl Machine {
     ghost use Rattle.tj_core.specs.Events.{IsRunning, MayPublish, start_walk, restage, alter, owned_by};
     ghost use Rattle.tj_core.specs.Inner.Machine.{Accepts, Refuses, Changes, state_of, limit_of, loads_of};
     ghost use Rattle.tj_core.specs.Inner.Owners.{IsInside};
-    ghost use Rattle.tj_core.specs.Inner.Statuses.{IsIdle, stage_of_status};
+    ghost use Rattle.tj_core.specs.Inner.SlotStages.{IsIdle, cell_stage};
     ghost use Rattle.tj_core.specs.Inner.WalkSteps.{event_of, IsSoNow};
 
     /// Whether a cell is a task that runs.
@@ -55,15 +55,15 @@ impl Machine {
     }
 
     /// The task is at another stage, at which it doesn't wait.
-    pub(crate) fn set_idle(&mut self, t: u32, status: Status)
+    pub(crate) fn set_idle(&mut self, t: u32, stage: SlotStage)
         requires there { t < length self.old.slots.items }
-        requires idle { IsIdle status }
+        requires idle { IsIdle stage }
         ensures state { state_of self.new
-            ≡ restage (state_of self.old) t (λ _. stage_of_status [] 0 0 status) }
+            ≡ restage (state_of self.old) t (λ _. cell_stage [] 0 0 stage) }
         ensures loads { (c : ℕ) → loads_of self.new c ≡ loads_of self.old c }
         ensures same { Changes self.old self.new }
     {
-        self.slots[t as usize].set_idle(status);
+        self.slots[t as usize].set_idle(stage);
     }
 
     /// The task waits for the cell, and its walk is at its start.

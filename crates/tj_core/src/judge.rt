@@ -8,6 +8,7 @@ ghost use Rattle.tj_core.specs.Core.{core_state, core_limit};
 ghost use Rattle.tj_core.specs.Judging.{IsJudged, IsSaid, settled_line, alarm_line, wait_text, legal_line, illegal_line};
 ghost use Rattle.tj_core.specs.Judging as spec;
 
+use crate::births::MAX_CELLS;
 use crate::event::Event;
 use crate::plain_core::Core;
 use crate::stage::Illegal;
@@ -26,7 +27,7 @@ pub struct Judged {
 /// What the rules make of a run from the root alone on, with room for so many cells.
 pub fn judge_text(alloc: Global, events: &[Event], cells: u32) -> Result<Judged, Oom>
     requires some { 0 < cells }
-    requires small { cells ≤ 1024 }
+    requires small { cells ≤ MAX_CELLS }
     ensures { IfOk result (λ judged. IsJudged cells events.now judged.text judged.marked) }
 {
     let mut core = Core::new(alloc, cells)?;

@@ -16,8 +16,8 @@ mod machine;
 mod owners;
 mod plain_core;
 mod slot;
+mod slot_stage;
 mod stage;
-mod status;
 mod step;
 mod task_events;
 mod walk;
@@ -26,6 +26,7 @@ mod walk_reads;
 mod walk_step;
 mod walker_law;
 
+pub use births::MAX_CELLS;
 pub use event::Event;
 pub use event_laws::{
     event_keeps_alarms, event_keeps_cycles, event_keeps_watches, event_leaves_others,

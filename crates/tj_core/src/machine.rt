@@ -2,11 +2,11 @@
 ghost use Rattle.std.specs.Prelude.{◌≡◌, ◌≤◌, ◌+◌, suc, length, vec_capacity, IfOk};
 ghost use Rattle.tj_core.specs.Inner.Columns.{HaveRoom};
 
-use crate::births::Births;
+use crate::births::{Births, MAX_CELLS};
 use crate::owners::Owners;
 use crate::slot::Slot;
+use crate::slot_stage::SlotStage;
 use crate::stage::Illegal;
-use crate::status::Status;
 use std::alloc::Global;
 use tj_base::{CellId, Oom};
 
@@ -39,7 +39,7 @@ impl Machine {
     /// The root alone, with room for so many cells.
     pub(crate) fn new(alloc: Global, cells: u32) -> Result<Machine, Oom>
         requires some { 0 < cells }
-        requires small { cells ≤ 1024 }
+        requires small { cells ≤ MAX_CELLS }
         ensures state { IfOk result (λ m. state_of m ≡ root_alone) }
         ensures limit { IfOk result (λ m. limit_of m ≡ cells) }
         ensures loads { IfOk result (λ m. (t : ℕ) → loads_of m t ≡ 0) }
@@ -49,7 +49,7 @@ impl Machine {
         owners.set(0, Some(0));
         let mut slots = Vec::with_capacity(alloc, cells as usize)?;
         let mut root = Slot::new(alloc, cells)?;
-        root.begin(Status::Running);
+        root.begin(SlotStage::Running);
         slots.push(root)?;
         let spare = spare_slots(alloc, cells - 1, cells)?;
         Ok(Machine {
@@ -62,8 +62,8 @@ impl Machine {
         })
     }
 
-    /// The place of a cell's slot.
-    pub(crate) fn place(&self, c: CellId) -> Result<usize, Illegal>
+    /// The index of a cell's slot.
+    pub(crate) fn index_of(&self, c: CellId) -> Result<usize, Illegal>
         ensures ok { IfOk result (λ at. at ≡ c.0) }
         ensures inside { IfOk result (λ at. at < length self.now.slots.items) }
         ensures err { OnErr result (length self.now.slots.items ≤ c.0) }

@@ -1,6 +1,7 @@
 //! The core: the machine, and how many events were applied to it.
 ghost use Rattle.std.specs.Prelude.{◌≤◌};
 
+use crate::births::MAX_CELLS;
 use crate::event::Event;
 use crate::machine::Machine;
 use crate::stage::{Illegal, Stage};
@@ -29,7 +30,7 @@ impl Core {
     /// The root alone, running, with room for so many cells.
     pub fn new(alloc: Global, cells: u32) -> Result<Core, Oom>
         requires some { 0 < cells }
-        requires small { cells ≤ 1024 }
+        requires small { cells ≤ MAX_CELLS }
         ensures state { IfOk result (λ core. core_state core ≡ root_alone) }
         ensures limit { IfOk result (λ core. core_limit core ≡ cells) }
         ensures loads { IfOk result (λ core. (t : ℕ) → core_loads core t ≡ 0) }

@@ -1,10 +1,12 @@
-//! One cell of the checker: its status, and the walk of its task. The calls of a walk test the
+//! One cell of the checker: its stage, and the walk of its task. The calls of a walk test the
 //! walker's last read, and then change it.
 ghost use Rattle.std.specs.Prelude.{◌≡◌, ℕ, ◌+◌, ◌*◌, ◌<◌, ◌≤◌, length, vec_capacity};
-ghost use Rattle.tj_core.specs.Inner.Statuses.{status_passes, status_loads, status_bound};
+ghost use Rattle.tj_core.specs.declared.births.TheConstants.{MAX_CELLS};
+ghost use Rattle.tj_core.specs.Inner.SlotStages.{stage_passes, stage_loads, stage_bound};
 
+use crate::births::MAX_CELLS;
+use crate::slot_stage::{Progress, SlotStage};
 use crate::stage::{Illegal, Stage};
-use crate::status::{Progress, Status};
 use crate::walk::{LastRead, TrailLink, Way};
 use crate::walk_step::WalkStep;
 use std::alloc::{AllocError, Global};
@@ -12,16 +14,16 @@ use std::alloc::{AllocError, Global};
 /// A slot. Its trail has room for as many owners as its walk may pass.
 #[derive(Debug, Drop)]
 pub(crate) struct Slot {
-    pub(crate) status: Status,
+    pub(crate) stage: SlotStage,
     pub(crate) bound: u32,
     pub(crate) loads: u32,
     /// The owners that the walk has passed, the oldest first.
     pub(crate) trail: Vec<TrailLink>,
-    ghost within: { length trail.items + status_passes status ≤ bound },
-    ghost loaded: { loads ≤ 3 * length trail.items + status_loads status },
+    ghost within: { length trail.items + stage_passes stage ≤ bound },
+    ghost loaded: { loads ≤ 3 * length trail.items + stage_loads stage },
     ghost room: { bound ≤ vec_capacity trail },
     // Before a walk has read its bound, that is 0.
-    ghost small: { bound ≤ 1024 * status_bound status },
+    ghost small: { bound ≤ MAX_CELLS * stage_bound stage },
 }
 
 impl Slot {
@@ -30,7 +32,7 @@ impl Slot {
     ghost use Rattle.tj_core.specs.Events.{WalksAt, MayPublish, MayReadOthers, MayCount, MayReadOwner, MayReadWait, MayReadAgain, MayAlarm, MaySettle, walked, walk_ended, others_read, count_read, owner_read, owner_again, start_walk};
     ghost use Rattle.tj_core.specs.Inner.Slots.{stage_of};
     ghost use Rattle.tj_core.specs.StagesShown.{stage_shown};
-    ghost use Rattle.tj_core.specs.Inner.Statuses.{stage_of_status, IsIdle};
+    ghost use Rattle.tj_core.specs.Inner.SlotStages.{cell_stage, IsIdle};
     ghost use Rattle.tj_core.specs.Inner.WalkSteps.{MayStep, wait_heard, stage_by, loads_by, HasRoom};
 
     /// An empty slot, with room for walks that pass so many owners.
@@ -41,7 +43,7 @@ impl Slot {
     {
         let trail = Vec::with_capacity(alloc, cells as usize)?;
         Ok(Slot {
-            status: Status::Promise,
+            stage: SlotStage::Promise,
             bound: 0,
             loads: 0,
             trail,
@@ -52,29 +54,29 @@ impl Slot {
     pub(crate) fn runs(&self) -> bool
         ensures { IsTrue result ↔ Runs (stage_of self.now) }
     {
-        matches!(self.status, Status::Fresh | Status::Running)
+        matches!(self.stage, SlotStage::Fresh | SlotStage::Running)
     }
 
     /// Whether it is a task's.
     pub(crate) fn is_task(&self) -> bool
         ensures { result ≡ is_task (stage_of self.now) }
     {
-        !matches!(self.status, Status::Promise)
+        !matches!(self.stage, SlotStage::Promise)
     }
 
     /// The stage of its task.
-    pub(crate) fn stage(&self) -> Option<Stage>
+    pub(crate) fn shown(&self) -> Option<Stage>
         ensures { result ≡ stage_shown (stage_of self.now) }
     {
-        match self.status {
-            Status::Promise => None,
-            Status::Fresh => Some(Stage::Fresh),
-            Status::Running => Some(Stage::Running),
-            Status::Raised => Some(Stage::Raised),
-            Status::Waiting(_, _, Progress::Walking(_)) => Some(Stage::Walking),
-            Status::Waiting(_, _, Progress::Parked) => Some(Stage::Parked),
-            Status::Waiting(_, _, Progress::Alarmed) => Some(Stage::Alarmed),
-            Status::Ended => Some(Stage::Ended),
+        match self.stage {
+            SlotStage::Promise => None,
+            SlotStage::Fresh => Some(Stage::Fresh),
+            SlotStage::Running => Some(Stage::Running),
+            SlotStage::Raised => Some(Stage::Raised),
+            SlotStage::Waiting(_, _, Progress::Walking(_)) => Some(Stage::Walking),
+            SlotStage::Waiting(_, _, Progress::Parked) => Some(Stage::Parked),
+            SlotStage::Waiting(_, _, Progress::Alarmed) => Some(Stage::Alarmed),
+            SlotStage::Ended => Some(Stage::Ended),
         }
     }
 
@@ -82,14 +84,14 @@ impl Slot {
     pub(crate) fn is_promise(&self) -> bool
         ensures { IsTrue result ↔ (stage_of self.now ≡ promise) }
     {
-        matches!(self.status, Status::Promise)
+        matches!(self.stage, SlotStage::Promise)
     }
 
     /// Whether it is that of a task that had no event yet.
     pub(crate) fn is_fresh(&self) -> bool
         ensures { IsTrue result ↔ (stage_of self.now ≡ fresh) }
     {
-        matches!(self.status, Status::Fresh)
+        matches!(self.stage, SlotStage::Fresh)
     }
 
     /// Whether its task may publish a wait of this way.
@@ -98,7 +100,7 @@ impl Slot {
     {
         match way {
             Way::Along => self.runs(),
-            Way::Other => matches!(self.status, Status::Raised),
+            Way::Other => matches!(self.stage, SlotStage::Raised),
         }
     }
 
@@ -106,8 +108,8 @@ impl Slot {
     pub(crate) fn wait(&self) -> Option<u32>
         ensures { result ≡ wait_of (stage_of self.now) }
     {
-        match self.status {
-            Status::Waiting(cell, _, _) => Some(cell),
+        match self.stage {
+            SlotStage::Waiting(cell, _, _) => Some(cell),
             _ => None,
         }
     }
@@ -117,8 +119,8 @@ impl Slot {
         ensures some { (c : ℕ) (way : Way)
             → (result ≡ Some (c, way)) ↔ (stage_of self.now ≡ waits c way parked) }
     {
-        match self.status {
-            Status::Waiting(cell, way, Progress::Parked) => Some((cell, way)),
+        match self.stage {
+            SlotStage::Waiting(cell, way, Progress::Parked) => Some((cell, way)),
             _ => None,
         }
     }
@@ -129,8 +131,8 @@ impl Slot {
             MatchOption result (¬ WalksAt stage (λ c way w. Unit {0}))
             (λ read. WalksAt stage (λ c way w. (w.last ≡ read.0) × (w.loads ≡ read.1))) }
     {
-        match self.status {
-            Status::Waiting(_, _, Progress::Walking(last)) => Some((last, self.loads)),
+        match self.stage {
+            SlotStage::Waiting(_, _, Progress::Walking(last)) => Some((last, self.loads)),
             _ => None,
         }
     }
@@ -139,32 +141,32 @@ impl Slot {
     pub(crate) fn present(&self) -> u32
         ensures { IfWalksAt (stage_of self.now) (λ c way w. result ≡ present c w.trail) }
     {
-        match (self.trail.last(), self.status) {
+        match (self.trail.last(), self.stage) {
             (Some(link), _) => link.next,
-            (None, Status::Waiting(cell, _, _)) => cell,
+            (None, SlotStage::Waiting(cell, _, _)) => cell,
             (None, _) => 0,
         }
     }
 
     /// It is a new cell's from here on.
-    pub(crate) fn begin(&mut self, status: Status)
-        requires { IsIdle status }
-        ensures stage { stage_of self.new ≡ stage_of_status [] 0 0 status }
+    pub(crate) fn begin(&mut self, stage: SlotStage)
+        requires { IsIdle stage }
+        ensures stage { stage_of self.new ≡ cell_stage [] 0 0 stage }
         ensures loads { self.new.loads ≡ 0 }
         ensures room { vec_capacity self.old.trail ≤ vec_capacity self.new.trail }
     {
         self.loads = 0;
-        self.status = status;
+        self.stage = stage;
     }
 
     /// Its task no longer waits.
-    pub(crate) fn set_idle(&mut self, status: Status)
-        requires { IsIdle status }
-        ensures stage { stage_of self.new ≡ stage_of_status [] 0 0 status }
+    pub(crate) fn set_idle(&mut self, stage: SlotStage)
+        requires { IsIdle stage }
+        ensures stage { stage_of self.new ≡ cell_stage [] 0 0 stage }
         ensures loads { self.new.loads ≡ self.old.loads }
         ensures room { vec_capacity self.old.trail ≤ vec_capacity self.new.trail }
     {
-        self.status = status;
+        self.stage = stage;
     }
 
     /// Its task walks on the cell, from the start.
@@ -176,7 +178,7 @@ impl Slot {
         self.trail.clear();
         self.bound = 0;
         self.loads = 0;
-        self.status = Status::Waiting(cell, way, Progress::Walking(LastRead::Published));
+        self.stage = SlotStage::Waiting(cell, way, Progress::Walking(LastRead::Published));
     }
 
     /// The walker reads OTHERS.
@@ -189,19 +191,20 @@ impl Slot {
         ensures illegal { OnErr result (¬ WalksAt (stage_of self.old) (λ c. MayReadOthers)) }
         ensures err { OnErr result (self.new ≡ self.old) }
     {
-        let Status::Waiting(cell, Way::Along, Progress::Walking(LastRead::Published)) = self.status
+        let SlotStage::Waiting(cell, Way::Along, Progress::Walking(LastRead::Published)) =
+            self.stage
         else {
             return Err(Illegal);
         };
         let seen = Progress::Walking(LastRead::SawOthers(others));
-        self.status = Status::Waiting(cell, Way::Along, seen);
+        self.stage = SlotStage::Waiting(cell, Way::Along, seen);
         Ok(())
     }
 
     /// The walker reads the number of cells.
     fn read_count(&mut self, count: u32) -> Result<(), Illegal>
         requires some { 0 < count }
-        requires small { count ≤ 1024 }
+        requires small { count ≤ MAX_CELLS }
         requires room { count ≤ vec_capacity self.old.trail }
         ensures allowed { OnOk result (WalksAt (stage_of self.old) (λ c. MayCount)) }
         ensures stage { OnOk result (stage_of self.new ≡ walked (λ c. count_read count) (stage_of self.old)) }
@@ -210,14 +213,14 @@ impl Slot {
         ensures illegal { OnErr result (¬ WalksAt (stage_of self.old) (λ c. MayCount)) }
         ensures err { OnErr result (self.new ≡ self.old) }
     {
-        let Status::Waiting(cell, way, Progress::Walking(last)) = self.status else {
+        let SlotStage::Waiting(cell, way, Progress::Walking(last)) = self.stage else {
             return Err(Illegal);
         };
         if !last.before_count(way) {
             return Err(Illegal);
         }
         self.bound = count;
-        self.status = Status::Waiting(cell, way, Progress::Walking(LastRead::Counted));
+        self.stage = SlotStage::Waiting(cell, way, Progress::Walking(LastRead::Counted));
         Ok(())
     }
 
@@ -230,14 +233,14 @@ impl Slot {
         ensures illegal { OnErr result (¬ WalksAt (stage_of self.old) (λ c way. MayReadOwner)) }
         ensures err { OnErr result (self.new ≡ self.old) }
     {
-        let Status::Waiting(cell, way, Progress::Walking(last)) = self.status else {
+        let SlotStage::Waiting(cell, way, Progress::Walking(last)) = self.stage else {
             return Err(Illegal);
         };
         if !last.before_owner(self.trail.len(), self.bound) {
             return Err(Illegal);
         }
         self.loads += 1;
-        self.status = Status::Waiting(cell, way, Progress::Walking(LastRead::SawOwner(owner)));
+        self.stage = SlotStage::Waiting(cell, way, Progress::Walking(LastRead::SawOwner(owner)));
         Ok(())
     }
 
@@ -246,8 +249,8 @@ impl Slot {
         ensures { IfWalksAt (stage_of self.now)
             (λ c way w. (u : ℕ) → w.last ≡ LastRead.SawOwner (Some u) → result ≡ Some u) }
     {
-        match self.status {
-            Status::Waiting(_, _, Progress::Walking(LastRead::SawOwner(owner))) => owner,
+        match self.stage {
+            SlotStage::Waiting(_, _, Progress::Walking(LastRead::SawOwner(owner))) => owner,
             _ => None,
         }
     }
@@ -262,12 +265,12 @@ impl Slot {
         ensures illegal { OnErr result (¬ WalksAt (stage_of self.old) (λ c way. MayReadWait t)) }
         ensures err { OnErr result (self.new ≡ self.old) }
     {
-        match self.status {
-            Status::Waiting(cell, way, Progress::Walking(LastRead::SawOwner(Some(owner))))
+        match self.stage {
+            SlotStage::Waiting(cell, way, Progress::Walking(LastRead::SawOwner(Some(owner))))
                 if owner != t => {
                 self.loads += 1;
                 let seen = Progress::Walking(LastRead::SawWait(owner, wait));
-                self.status = Status::Waiting(cell, way, seen);
+                self.stage = SlotStage::Waiting(cell, way, seen);
                 Ok(())
             }
             _ => Err(Illegal),
@@ -284,7 +287,7 @@ impl Slot {
         ensures illegal { OnErr result (¬ WalksAt (stage_of self.old) (λ c way. MayReadAgain)) }
         ensures err { OnErr result (self.new ≡ self.old) }
     {
-        let Status::Waiting(cell, way, Progress::Walking(last)) = self.status else {
+        let SlotStage::Waiting(cell, way, Progress::Walking(last)) = self.stage else {
             return Err(Illegal);
         };
         let LastRead::SawWait(owner, Some(next)) = last else {
@@ -297,7 +300,7 @@ impl Slot {
             read = LastRead::Passed;
         }
         self.loads += 1;
-        self.status = Status::Waiting(cell, way, Progress::Walking(read));
+        self.stage = SlotStage::Waiting(cell, way, Progress::Walking(read));
         Ok(())
     }
 
@@ -310,10 +313,10 @@ impl Slot {
         ensures illegal { OnErr result (¬ WalksAt (stage_of self.old) (λ c way. MayAlarm t)) }
         ensures err { OnErr result (self.new ≡ self.old) }
     {
-        match self.status {
-            Status::Waiting(cell, way, Progress::Walking(LastRead::SawOwner(Some(owner))))
+        match self.stage {
+            SlotStage::Waiting(cell, way, Progress::Walking(LastRead::SawOwner(Some(owner))))
                 if owner == t => {
-                self.status = Status::Waiting(cell, way, Progress::Alarmed);
+                self.stage = SlotStage::Waiting(cell, way, Progress::Alarmed);
                 Ok(())
             }
             _ => Err(Illegal),
@@ -329,13 +332,13 @@ impl Slot {
         ensures illegal { OnErr result (¬ WalksAt (stage_of self.old) (λ c way. MaySettle)) }
         ensures err { OnErr result (self.new ≡ self.old) }
     {
-        let Status::Waiting(cell, way, Progress::Walking(last)) = self.status else {
+        let SlotStage::Waiting(cell, way, Progress::Walking(last)) = self.stage else {
             return Err(Illegal);
         };
         if !last.ends_walk(self.trail.len(), self.bound) {
             return Err(Illegal);
         }
-        self.status = Status::Waiting(cell, way, Progress::Parked);
+        self.stage = SlotStage::Waiting(cell, way, Progress::Parked);
         Ok(())
     }
     /// The walker of task t takes a step.

@@ -58,7 +58,7 @@ impl Machine {
         ensures { result ≡ stage_shown (stage_in self.now.slots.items t) }
     {
         if (t as usize) < self.slots.len() {
-            self.slots[t as usize].stage()
+            self.slots[t as usize].shown()
         } else {
             None
         }

@@ -1,19 +1,19 @@
 //! The events of a task that runs, and those at the two ends of a wait.
 ghost use Rattle.std.specs.Prelude.{◌≡◌, []};
 ghost use Rattle.tj_core.specs.Events.{raised_by_way, stage_after_close};
-ghost use Rattle.tj_core.specs.Inner.Statuses.{IsIdle, stage_of_status};
+ghost use Rattle.tj_core.specs.Inner.SlotStages.{IsIdle, cell_stage};
 
 use crate::event::Event;
 use crate::machine::Machine;
+use crate::slot_stage::SlotStage;
 use crate::stage::Illegal;
-use crate::status::Status;
 use crate::walk::Way;
 use tj_base::CellId;
 
 impl Machine {
     ghost use Rattle.std.specs.Prelude.{◌≡◌, ℕ, ◌<◌, ◌≤◌, ◌^◌, ◌↔◌, IsTrue, length, OnOk, OnErr};
     ghost use Rattle.tj_core.specs.Events.{way_of_wait, MayClose, MayHand, Owns, IsFreshChild, IsRunning};
-    ghost use Rattle.tj_core.specs.Inner.Statuses.{IsIdle};
+    ghost use Rattle.tj_core.specs.Inner.SlotStages.{IsIdle};
     ghost use Rattle.tj_core.specs.Inner.Machine.{Accepts, Refuses, Adds, IsUnchanged, state_of, limit_of};
 
     /// The task raises OTHERS.
@@ -25,7 +25,7 @@ impl Machine {
         if !self.runs(t.0) {
             return Err(Illegal);
         }
-        self.set_idle(t.0, Status::Raised);
+        self.set_idle(t.0, SlotStage::Raised);
         self.others += 1;
         Ok(())
     }
@@ -55,7 +55,7 @@ impl Machine {
         if self.owners.of(cell).is_some() {
             return Err(Illegal);
         }
-        self.set_idle(t.0, Status::Running);
+        self.set_idle(t.0, SlotStage::Running);
         self.cleared += raised_by(way);
         Ok(())
     }
@@ -76,7 +76,7 @@ impl Machine {
         ensures ok { OnOk result (Accepts self.old (Event.Publish t p) self.new) }
         ensures err { OnErr result (Refuses self.old (Event.Publish t p) self.new) }
     {
-        let _there = self.place(p)?;
+        let _there = self.index_of(p)?;
         let way = self.way(t, p);
         if !self.may_publish(t.0, way) {
             return Err(Illegal);
@@ -96,7 +96,7 @@ impl Machine {
         if !self.may_close(t, p) {
             return Err(Illegal);
         }
-        self.set_idle(t.0, status_after_close(p.0 == t.0));
+        self.set_idle(t.0, slot_after_close(p.0 == t.0));
         self.set_owner(p.0, None);
         Ok(())
     }
@@ -112,7 +112,7 @@ impl Machine {
         if !self.may_hand(t, p, c) {
             return Err(Illegal);
         }
-        self.set_idle(t.0, Status::Running);
+        self.set_idle(t.0, SlotStage::Running);
         self.set_owner(p.0, Some(c.0));
         Ok(())
     }
@@ -170,8 +170,8 @@ impl Machine {
         ensures ok { OnOk result (Accepts self.old (Event.Make t) self.new) }
         ensures err { OnErr result (Refuses self.old (Event.Make t) self.new) }
     {
-        let _at = self.place(t)?;
-        self.add(t, t.0, Status::Promise)?;
+        let _at = self.index_of(t)?;
+        self.add(t, t.0, SlotStage::Promise)?;
         Ok(())
     }
 
@@ -181,15 +181,15 @@ impl Machine {
         ensures err { OnErr result (Refuses self.old (Event.Fork t) self.new) }
     {
         let child = self.births.count();
-        self.add(t, child, Status::Fresh)?;
+        self.add(t, child, SlotStage::Fresh)?;
         Ok(())
     }
 
-    /// The task makes a new cell of this status with this owner.
-    fn add(&mut self, t: CellId, owner: u32, status: Status) -> Result<(), Illegal>
-        requires idle { IsIdle status }
+    /// The task makes a new cell of this stage with this owner.
+    fn add(&mut self, t: CellId, owner: u32, stage: SlotStage) -> Result<(), Illegal>
+        requires idle { IsIdle stage }
         requires owner { owner ≤ length self.old.slots.items }
-        ensures ok { OnOk result (Adds self.old t.0 owner status self.new) }
+        ensures ok { OnOk result (Adds self.old t.0 owner stage self.new) }
         ensures illegal { OnErr result (IsRunning (state_of self.old) t.0
             → limit_of self.old ≤ (state_of self.old).count) }
         ensures err { OnErr result (IsUnchanged self.old self.new) }
@@ -200,8 +200,8 @@ impl Machine {
         let Some(mut slot) = self.spare.pop() else {
             return Err(Illegal);
         };
-        slot.begin(status);
-        self.slots[t.0 as usize].set_idle(Status::Running);
+        slot.begin(stage);
+        self.slots[t.0 as usize].set_idle(SlotStage::Running);
         let cell = self.births.count();
         self.births.add(t.0);
         let pushed = self.slots.push(slot).is_ok();
@@ -211,12 +211,16 @@ impl Machine {
     }
 }
 
-/// The status of a task that has closed a cell, by whether that was its own result.
-fn status_after_close(own: bool) -> Status
+/// The stage of a task that has closed a cell, by whether that was its own result.
+fn slot_after_close(own: bool) -> SlotStage
     ensures idle { IsIdle result }
-    ensures stage { stage_of_status [] 0 0 result ≡ stage_after_close own }
+    ensures stage { cell_stage [] 0 0 result ≡ stage_after_close own }
 {
-    if own { Status::Ended } else { Status::Running }
+    if own {
+        SlotStage::Ended
+    } else {
+        SlotStage::Running
+    }
 }
 
 /// By how much a wait of this way has raised OTHERS.

@@ -13,11 +13,11 @@ const THREE: CellId = CellId(3);
 
 const FOUR: CellId = CellId(4);
 
-/// Applies the events in order: the place of the first that is refused.
+/// Applies the events in order: the index of the first that is refused.
 fn first_illegal(core: &mut Core, events: &[Event]) -> Option<usize> {
-    for (place, event) in events.iter().enumerate() {
+    for (index, event) in events.iter().enumerate() {
         if core.applied() >= 100 || core.apply(*event).is_err() {
-            return Some(place);
+            return Some(index);
         }
     }
     None
@@ -140,9 +140,9 @@ fn events_are_refused(rt: HostRuntime) -> Result<(), Fail> {
             2,
         ),
     ];
-    for (shows, events, place) in rows {
+    for (shows, events, index) in rows {
         let mut core = Core::new(rt.alloc(), 3)?;
-        assert_eq!(rt; first_illegal(&mut core, &events), Some(place), "{shows}");
+        assert_eq!(rt; first_illegal(&mut core, &events), Some(index), "{shows}");
     }
     let mut core = Core::new(rt.alloc(), 4)?;
     let events = [make, fork, Event::Make(TWO), Event::Hand(ROOT, ONE, TWO)];

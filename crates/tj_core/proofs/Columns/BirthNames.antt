@@ -38,7 +38,7 @@ names_after-old names (b ∷ bs) i h =
     names_after-old (with_name names b) bs i (omega arith) ∙ get_or-append names
     (child (get_or names b.maker []) b.number ∷ []) [] i h
 
--- the name of what is born at place i
+-- the name of what is born at index i
 names_after-new : (names : List Name) (bs : List Birth) (i : ℕ) → i < length bs → (birth_at bs i).maker < length names
     + i
     → get_or (names_after names bs) (length names + i) [] ≡ child

@@ -15,7 +15,7 @@ use Rattle.tj_core.specs.Loads.{one_load}
 use Rattle.tj_core.specs.Inner.Slots.{stage_of}
 use Rattle.tj_core.specs.Inner.Columns.{stage_in, loads_in, room_in, HaveRoom, cell_in, state_in}
 
--- a list with one element changed, read at any place
+-- a list with one element changed, read at any index
 pub at_set : {A : Type 0} (l : List A) (i : ℕ) (a d : A) → i < length l → (j : ℕ) → get_or (set l i a) j d ≡ put
     (λ k. get_or l k d) i a j
 at_set l i a d h j = dite (ℕ_discrete j i)
@@ -125,7 +125,7 @@ module _ (slots : List Slot) (t : ℕ) (x y : Slot) (h : t < length slots) (is :
 pub set_same : (slots : List Slot) (t : ℕ) (x y : Slot) → x ≡ get_or slots t x → y ≡ x → set slots t y ≡ slots
 set_same slots t x y is e = ap (set slots t) (e ∙ is) ∙ set-get_or slots t x
 
--- a list with one element more, read at any place
+-- a list with one element more, read at any index
 pub at_snoc : {A : Type 0} (l : List A) (a d : A) (j : ℕ) → get_or (l ++ a ∷ []) j d ≡ put (λ k. get_or l k d)
     (length l) a j
 at_snoc [] a d zero = refl

@@ -1,6 +1,7 @@
 -- A step of a walk, which reads what is so, is an event of the walker.
 use Rattle.std.proofs.Common.{◌≡◌, ℕ, ◌<◌, ◌≤◌, List, length, set, get_or, Option, refl, sym, ap, ◌∙◌, subst, arith}
 use Rattle.tj_base.specs.declared.cell.CellId.{CellId}
+use Rattle.tj_core.specs.declared.births.TheConstants.{MAX_CELLS}
 use Rattle.tj_core.specs.declared.slot.Slot.{Slot}
 use Rattle.tj_core.specs.declared.walk_step.WalkStep.{WalkStep}
 use Rattle.tj_core.specs.declared.walk_step.WalkStep.TheVariants.{Others, Count, Owner, Wait, Again, Alarm, Settle}
@@ -66,7 +67,7 @@ module _ (N : ℕ) (s : CoreState) (task : CellId) where
   after_step Settle now may = refl
 
   -- a count that is so now is within the trail's room
-  pub step_has_room : (step : WalkStep) (limit room : ℕ) → 0 < s.count → s.count ≤ limit → limit ≤ 1024 → limit ≤ room
+  pub step_has_room : (step : WalkStep) (limit room : ℕ) → 0 < s.count → s.count ≤ limit → limit ≤ MAX_CELLS → limit ≤ room
       → IsSoNow s task.0 step → HasRoom room step
   step_has_room (Others n) limit room a b c d now = tt
   step_has_room (Count n) limit room a b c d now = let e : n ≡ s.count = now in (omega arith, omega arith, omega arith)

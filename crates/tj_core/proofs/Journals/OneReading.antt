@@ -11,7 +11,7 @@ use Rattle.tj_core.specs.JournalLaws.{EventsAreOne, EventsHaveNoFault}
 use Rattle.tj_core.proofs.Journals.Lines.{fault_or_events}
 use Rattle.tj_core.proofs.Journals.Words.{cells_are}
 
--- the cell at place i
+-- the cell at index i
 abbrev nth : List ℕ → ℕ → CellId
 nth cells i = record { 0 = get_or cells i 0 }
 

@@ -57,6 +57,6 @@ only_line items lines (Ok v) ok err n h = fault_or_events lines n (items v) h ok
 only_line items lines (Err (Line m)) ok err n h = one_fault lines m n err h
 only_line items lines (Err Oom) ok err n h = tt
 
--- all that is left behind a place
+-- all that is left behind an index
 pub rest_whole : {A : Type 0} (k : ℕ) (xs : List A) → take (length xs - k) (drop k xs) ≡ drop k xs
 rest_whole k xs = take_all (length xs - k) (drop k xs) (omega (arith, length-drop k xs))

@@ -2,9 +2,9 @@
 use Rattle.std.specs.Prelude.{◌≡◌, ℕ, ◌<◌, [], length}
 use Rattle.tj_core.specs.declared.event.Event.{Event}
 use Rattle.tj_core.specs.declared.machine.Machine.{Machine}
-use Rattle.tj_core.specs.declared.status.Status.{Status}
+use Rattle.tj_core.specs.declared.slot_stage.SlotStage.{SlotStage}
 use Rattle.tj_core.specs.CoreState.{CoreState}
-use Rattle.tj_core.specs.Inner.Statuses.{stage_of_status}
+use Rattle.tj_core.specs.Inner.SlotStages.{cell_stage}
 use Rattle.tj_core.specs.Events.{Allowed, after, IsRunning, with_new}
 use Rattle.tj_core.specs.Loads.{loads_after}
 use Rattle.tj_core.specs.Inner.Columns.{state_in, loads_in}
@@ -47,10 +47,10 @@ pub record Changes (old new : Machine) : Type 0 where
   pub slots : length new.slots.items ≡ length old.slots.items
   pub owners : length new.owners.owners.items ≡ length old.owners.owners.items
 
--- t, which runs, has made one cell more with this owner and status
-pub record Adds (old : Machine) (t owner : ℕ) (status : Status) (new : Machine) : Type 0 where
+-- t, which runs, has made one cell more with this owner and stage
+pub record Adds (old : Machine) (t owner : ℕ) (stage : SlotStage) (new : Machine) : Type 0 where
   pub runs : IsRunning (state_of old) t
   pub fewer : (state_of old).count < limit_of old
-  pub state : state_of new ≡ with_new (state_of old) t owner (stage_of_status [] 0 0 status)
+  pub state : state_of new ≡ with_new (state_of old) t owner (cell_stage [] 0 0 stage)
   pub loads : (t : ℕ) → loads_of new t ≡ loads_of old t
   pub limit : limit_of new ≡ limit_of old

@@ -1,8 +1,8 @@
 -- A slot of the checker, as what it shows of a cell.
 use Rattle.tj_core.specs.declared.slot.Slot.{Slot}
 use Rattle.tj_core.specs.CoreState.{CellStage}
-use Rattle.tj_core.specs.Inner.Statuses.{stage_of_status}
+use Rattle.tj_core.specs.Inner.SlotStages.{cell_stage}
 
 -- the stage that a slot shows
 abbrev pub stage_of : Slot → CellStage
-stage_of slot = stage_of_status slot.trail.items slot.bound slot.loads slot.status
+stage_of slot = cell_stage slot.trail.items slot.bound slot.loads slot.stage

@@ -9,7 +9,7 @@ use Rattle.tj_core.proofs.Journals.JudgedRuns.{judge_starts, judge_on, judge_ill
 use Rattle.tj_core.proofs.judge.judge_text.Goals as goal
 use Rattle.tj_core.proofs.judge.judge_text.Goals.{then-marked, else-marked}
 
--- an event, for a place where there is none
+-- an event, for an index where there is none
 abbrev other : Event
 other = Make (record { 0 = 0 })
 

@@ -2,7 +2,7 @@ use Rattle.std.proofs.Common.{rules, ◌≡◌, ℕ, ◌<◌, suc, List, [], ◌
 use Rattle.std.proofs.lemmas.List.{length-append}
 use Rattle.tj_core.specs.declared.births.Birth.{Birth}
 use Rattle.tj_core.specs.declared.slot.Slot.{Slot}
-use Rattle.tj_core.specs.Inner.Statuses.{stage_of_status}
+use Rattle.tj_core.specs.Inner.SlotStages.{cell_stage}
 use Rattle.tj_core.specs.Inner.Columns.{state_in, HaveRoom, loads_in}
 use Rattle.tj_core.proofs.Columns.ColumnLists.{rooms_stay, loads_stay}
 use Rattle.tj_core.proofs.Columns.Additions.{added, added_loads, rooms_more, rooms_less}
@@ -56,11 +56,11 @@ returns-clause-ok c =
       fewer = omega arith;
       state = (λ j. state_in (c.add.ensures.births j) (c.add.ensures.made j) (os j) (q j) m.others m.cleared)
           ∙ added m.births.births.items m.births.made.items m.owners.owners.items m.slots.items m.others m.cleared t
-          c.args.owner y v (stage_of_status [] 0 0 c.args.status) b
+          c.args.owner y v (cell_stage [] 0 0 c.args.stage) b
           h there same (omega arith) c.set_idle.ensures.stage c.begin.ensures.stage refl;
       loads = λ i. ap (λ (l : List Slot). loads_in l i) q
           ∙ added_loads m.births.births.items m.births.made.items m.owners.owners.items m.slots.items m.others m.cleared
-          t c.args.owner y v (stage_of_status [] 0 0 c.args.status) b
+          t c.args.owner y v (cell_stage [] 0 0 c.args.stage) b
           h there same (omega arith) c.set_idle.ensures.stage c.begin.ensures.stage refl c.begin.ensures.loads
           (loads_stay m.slots.items t x y h c.index_mut.ensures.value c.set_idle.ensures.loads) i;
       limit = c.add.ensures.limit;

@@ -11,7 +11,7 @@ returns-clause-ok c =
       allowed = (c.runs.ensures.runs.0 (search rules), may.0, may.1);
       state = c.set_owner.ensures.state ∙ (ap (λ (s : CoreState). alter s p (owned_by None)) c.set_idle.ensures.state
           ∙ ap (λ (st : CellStage). alter (restage (state_of c.args.self.now) t (λ _. st)) p (owned_by None))
-          c.status_after_close.ensures.stage);
+          c.slot_after_close.ensures.stage);
       loads = λ i. c.set_owner.ensures.loads i ∙ c.set_idle.ensures.loads i;
       limit = c.set_owner.ensures.same.limit ∙ c.set_idle.ensures.same.limit;
     }

@@ -1,5 +1,5 @@
 use Rattle.std.proofs.Common.{[], arith, length-set}
-use Rattle.tj_core.specs.Inner.Statuses.{stage_of_status}
+use Rattle.tj_core.specs.Inner.SlotStages.{cell_stage}
 use Rattle.tj_core.proofs.Columns.ColumnLists.{rooms_stay, state_changed, loads_stay}
 use Rattle.tj_core.proofs.machine.Machine.set_idle.Goals as goal
 
@@ -23,7 +23,7 @@ returns-clause-state c =
     state_changed m.slots.items c.args.t c.index_mut.result.now c.set_idle.new.self c.requires.there
     c.index_mut.ensures.value
     m.births.births.items m.births.made.items m.owners.owners.items m.others m.cleared
-    (λ _. stage_of_status [] 0 0 c.args.status) c.set_idle.ensures.stage
+    (λ _. cell_stage [] 0 0 c.args.stage) c.set_idle.ensures.stage
 
 pub returns-clause-loads : goal.returns-clause-loads
 returns-clause-loads c =

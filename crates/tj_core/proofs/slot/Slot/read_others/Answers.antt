@@ -8,5 +8,5 @@ use Rattle.tj_core.specs.Events.{MayReadOthers}
 pub returns-clause-allowed : goal.returns-clause-allowed
 returns-clause-allowed c =
     let s = c.args.self.now in let w = c.in-Waiting-default-Along-Walking-Published in
-    walks_at s.trail.items s.bound s.loads s.status w.cell Along Published (λ c way w. MayReadOthers way w)
+    walks_at s.trail.items s.bound s.loads s.stage w.cell Along Published (λ c way w. MayReadOthers way w)
     (search rules) (refl, refl)

@@ -9,6 +9,6 @@ pub returns-clause-allowed : goal.returns-clause-allowed
 returns-clause-allowed c =
     let s = c.args.self.now in let w = c.in-Waiting-default-default-Walking in
     let passed : c.len.result ≡ length s.trail.items = search rules in
-    walks_at s.trail.items s.bound s.loads s.status w.cell w.way w.last (λ c way w. MayReadOwner w) (search rules)
+    walks_at s.trail.items s.bound s.loads s.stage w.cell w.way w.last (λ c way w. MayReadOwner w) (search rules)
     (subst (λ (n : ℕ). (w.last ≡ Counted) ⊎ ((w.last ≡ Passed) × (n < s.bound)))
     (passed ∙ sym (length-reverse s.trail.items)) (rw w.last-is at (c.before_owner.ensures.0 (search rules))))

@@ -8,6 +8,6 @@ pub returns-clause-allowed : goal.returns-clause-allowed
 returns-clause-allowed c =
     let s = c.args.self.now in let w = c.in-Waiting-default-default-Walking in
     let passed : c.len.result ≡ length s.trail.items = search rules in
-    walks_at s.trail.items s.bound s.loads s.status w.cell w.way w.last (λ c way w. MaySettle w) (search rules)
+    walks_at s.trail.items s.bound s.loads s.stage w.cell w.way w.last (λ c way w. MaySettle w) (search rules)
     (subst (λ (n : ℕ). EndsWalk n s.bound w.last) (passed ∙ sym (length-reverse s.trail.items))
     (rw w.last-is at (c.ends_walk.ensures.0 (search rules))))

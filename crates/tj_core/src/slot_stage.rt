@@ -12,7 +12,7 @@ pub(crate) enum Progress {
 
 /// What a cell is, and what its task does. A cell that isn't there is a promise.
 #[derive(Clone, Copy, Debug)]
-pub(crate) enum Status {
+pub(crate) enum SlotStage {
     Promise,
     Fresh,
     Running,

@@ -1,13 +1,13 @@
--- What the checker keeps of a cell's status, as the stage of the core state.
+-- What the checker keeps of a cell's stage: a stage of a slot, as the stage of the core state.
 use Rattle.std.specs.Prelude.{ℕ, List, reverse}
 use Rattle.tj_core.specs.declared.walk.LastRead.{LastRead}
 use Rattle.tj_core.specs.declared.walk.LastRead.TheVariants.{Published, SawOthers, Counted, SawOwner, SawWait, Passed}
 use Rattle.tj_core.specs.declared.walk.LastRead.TheVariants.{Changed}
 use Rattle.tj_core.specs.declared.walk.TrailLink.{TrailLink}
-use Rattle.tj_core.specs.declared.status.Progress.{Progress}
-use Rattle.tj_core.specs.declared.status.Progress.TheVariants.{Walking, Parked, Alarmed}
-use Rattle.tj_core.specs.declared.status.Status.{Status}
-use Rattle.tj_core.specs.declared.status.Status.TheVariants.{Promise, Fresh, Running, Raised, Waiting, Ended}
+use Rattle.tj_core.specs.declared.slot_stage.Progress.{Progress}
+use Rattle.tj_core.specs.declared.slot_stage.Progress.TheVariants.{Walking, Parked, Alarmed}
+use Rattle.tj_core.specs.declared.slot_stage.SlotStage.{SlotStage}
+use Rattle.tj_core.specs.declared.slot_stage.SlotStage.TheVariants.{Promise, Fresh, Running, Raised, Waiting, Ended}
 use Rattle.tj_core.specs.CoreState.{WaitStage, walks, parked, alarmed, CellStage, promise, fresh, running, raised}
 use Rattle.tj_core.specs.CoreState.{waits, ended}
 
@@ -18,14 +18,14 @@ wait_stage_of links bound loads (Walking last) =
 wait_stage_of links bound loads Parked = parked
 wait_stage_of links bound loads Alarmed = alarmed
 
--- the stage that a status shows, with these links, this bound and these loads
-abbrev pub stage_of_status : List TrailLink → ℕ → ℕ → Status → CellStage
-stage_of_status links bound loads Promise = promise
-stage_of_status links bound loads Fresh = fresh
-stage_of_status links bound loads Running = running
-stage_of_status links bound loads Raised = raised
-stage_of_status links bound loads (Waiting c way p) = waits c way (wait_stage_of links bound loads p)
-stage_of_status links bound loads Ended = ended
+-- the stage that a slot's stage shows, with these links, this bound and these loads
+abbrev pub cell_stage : List TrailLink → ℕ → ℕ → SlotStage → CellStage
+cell_stage links bound loads Promise = promise
+cell_stage links bound loads Fresh = fresh
+cell_stage links bound loads Running = running
+cell_stage links bound loads Raised = raised
+cell_stage links bound loads (Waiting c way p) = waits c way (wait_stage_of links bound loads p)
+cell_stage links bound loads Ended = ended
 
 -- how many owners more may be passed after this read before the bound is looked at again
 abbrev pub passes_after : LastRead → ℕ
@@ -57,30 +57,30 @@ bound_read (SawWait u o) = 1
 bound_read Passed = 1
 bound_read Changed = 1
 
--- the same of a status: only a walk may pass owners
-abbrev pub status_passes : Status → ℕ
-status_passes Promise = 0
-status_passes Fresh = 0
-status_passes Running = 0
-status_passes Raised = 0
-status_passes (Waiting c way (Walking last)) = passes_after last
-status_passes (Waiting c way Parked) = 0
-status_passes (Waiting c way Alarmed) = 0
-status_passes Ended = 0
+-- the same of a slot's stage: only a walk may pass owners
+abbrev pub stage_passes : SlotStage → ℕ
+stage_passes Promise = 0
+stage_passes Fresh = 0
+stage_passes Running = 0
+stage_passes Raised = 0
+stage_passes (Waiting c way (Walking last)) = passes_after last
+stage_passes (Waiting c way Parked) = 0
+stage_passes (Waiting c way Alarmed) = 0
+stage_passes Ended = 0
 
 -- the most loads since the last owner was passed
-abbrev pub status_loads : Status → ℕ
-status_loads Promise = 3
-status_loads Fresh = 3
-status_loads Running = 3
-status_loads Raised = 3
-status_loads (Waiting c way (Walking last)) = loads_after_pass last
-status_loads (Waiting c way Parked) = 3
-status_loads (Waiting c way Alarmed) = 3
-status_loads Ended = 3
+abbrev pub stage_loads : SlotStage → ℕ
+stage_loads Promise = 3
+stage_loads Fresh = 3
+stage_loads Running = 3
+stage_loads Raised = 3
+stage_loads (Waiting c way (Walking last)) = loads_after_pass last
+stage_loads (Waiting c way Parked) = 3
+stage_loads (Waiting c way Alarmed) = 3
+stage_loads Ended = 3
 
--- a status of a cell whose task doesn't wait
-abbrev pub IsIdle : Status → Type 0
+-- a slot's stage of a cell whose task doesn't wait
+abbrev pub IsIdle : SlotStage → Type 0
 IsIdle Promise = Unit {0}
 IsIdle Fresh = Unit {0}
 IsIdle Running = Unit {0}
@@ -89,12 +89,12 @@ IsIdle (Waiting c way p) = ⊥
 IsIdle Ended = Unit {0}
 
 -- 0 before a walk has read its bound, else 1
-abbrev pub status_bound : Status → ℕ
-status_bound Promise = 1
-status_bound Fresh = 1
-status_bound Running = 1
-status_bound Raised = 1
-status_bound (Waiting c way (Walking last)) = bound_read last
-status_bound (Waiting c way Parked) = 1
-status_bound (Waiting c way Alarmed) = 1
-status_bound Ended = 1
+abbrev pub stage_bound : SlotStage → ℕ
+stage_bound Promise = 1
+stage_bound Fresh = 1
+stage_bound Running = 1
+stage_bound Raised = 1
+stage_bound (Waiting c way (Walking last)) = bound_read last
+stage_bound (Waiting c way Parked) = 1
+stage_bound (Waiting c way Alarmed) = 1
+stage_bound Ended = 1
