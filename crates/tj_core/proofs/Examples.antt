@@ -10,6 +10,10 @@ use Rattle.tj_core.specs.CoreState.{parked, alarmed, ended, waits, stage}
 use Rattle.tj_core.specs.Runs.{IsLegalRun}
 use Rattle.tj_core.specs.RunLaws.{run_to}
 
+-- an event is allowed, and so are those behind it
+also : {A B : Type 0} → A → B → A × B
+also a b = (a, b)
+
 abbrev cell : ℕ → CellId
 cell c = record { 0 = c }
 
@@ -26,55 +30,14 @@ two_wait_end : stage (run_to two_wait).cells 0 ≡ waits 2 Along alarmed
 two_wait_end = refl
 
 two_wait_legal : IsLegalRun 8 two_wait
-two_wait_legal = (
-  (tt, omega arith),
-  (
-    (tt, omega arith),
-    (
-      tt,
-      (
-        (omega arith, refl),
-        (
-          (1, Other, _, refl, inl (refl, refl)),
-          (
-            (1, Other, _, refl, inl refl),
-            (
-              (1, Other, _, refl, (0, refl, λ e. absurd (cc))),
-              (
-                (1, Other, _, refl, refl),
-                (
-                  (omega arith, tt),
-                  (
-                    (2, Along, _, refl, (refl, refl)),
-                    (
-                      (2, Along, _, refl, inr (1, refl, omega arith)),
-                      (
-                        (2, Along, _, refl, inl refl),
-                        (
-                          (2, Along, _, refl, (2, refl, λ e. absurd (cc))),
-                          (
-                            (2, Along, _, refl, (2, 1, refl)),
-                            (
-                              (2, Along, _, refl, inr (refl, omega arith)),
-                              (
-                                (2, Along, _, refl, refl),
-                                tt,
-                              ),
-                            ),
-                          ),
-                        ),
-                      ),
-                    ),
-                  ),
-                ),
-              ),
-            ),
-          ),
-        ),
-      ),
-    ),
-  ),
-)
+two_wait_legal =
+    also (tt, omega arith) (also (tt, omega arith) (also tt (also (omega arith, refl) (
+    also (1, Other, _, refl, inl (refl, refl)) (also (1, Other, _, refl, inl refl) (
+    also (1, Other, _, refl, (0, refl, λ e. absurd (cc))) (also (1, Other, _, refl, refl) (also (omega arith, tt) (
+    also (2, Along, _, refl, (refl, refl)) (also (2, Along, _, refl, inr (1, refl, omega arith)) (
+    also (2, Along, _, refl, inl refl) (also (2, Along, _, refl, (2, refl, λ e. absurd (cc))) (
+    also (2, Along, _, refl, (2, 1, refl)) (also (2, Along, _, refl, inr (refl, omega arith)) (
+    also (2, Along, _, refl, refl) (tt))))))))))))))))
 
 -- the root makes a promise, for which its child walks; between the walker's two reads of the owner the root hands the
 -- promise to a younger child and joins the walker: the walker finds the owner changed, and settles
@@ -89,43 +52,12 @@ handed_on_end : stage (run_to handed_on).cells 1 ≡ waits 2 Other parked
 handed_on_end = refl
 
 handed_on_legal : IsLegalRun 8 handed_on
-handed_on_legal = (
-  (tt, omega arith),
-  (
-    (tt, omega arith),
-    (
-      tt,
-      (
-        (omega arith, refl),
-        (
-          (2, Other, _, refl, inl (refl, refl)),
-          (
-            (2, Other, _, refl, inl refl),
-            (
-              (tt, omega arith),
-              (
-                (tt, refl, refl, (refl, refl, λ e. absurd (cc))),
-                (
-                  (omega arith, tt),
-                  (
-                    (2, Other, _, refl, (0, refl, λ e. absurd (cc))),
-                    (
-                      (2, Other, _, refl, (0, 1, refl)),
-                      (
-                        (2, Other, _, refl, tt),
-                        tt,
-                      ),
-                    ),
-                  ),
-                ),
-              ),
-            ),
-          ),
-        ),
-      ),
-    ),
-  ),
-)
+handed_on_legal =
+    also (tt, omega arith) (also (tt, omega arith) (also tt (also (omega arith, refl) (
+    also (2, Other, _, refl, inl (refl, refl)) (also (2, Other, _, refl, inl refl) (also (tt, omega arith) (
+    also (tt, refl, refl, (refl, refl, λ e. absurd (cc))) (also (omega arith, tt) (
+    also (2, Other, _, refl, (0, refl, λ e. absurd (cc))) (also (2, Other, _, refl, (0, 1, refl)) (
+    also (2, Other, _, refl, tt) (tt))))))))))))
 
 -- a wait for a promise that is closed meanwhile is cleared, OTHERS is lowered, and both tasks end
 abbrev all_closed : List Event

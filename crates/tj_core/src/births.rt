@@ -146,6 +146,7 @@ impl Births {
     }
 
     /// The cell itself, or the root for a cell that isn't there, which has as short a name.
+    #[tactic(auto, using(crate::proofs::Columns::BirthNames::name_beyond))]
     fn named(&self, c: u32) -> u32
         ensures there { result < suc (length self.now.births.items) }
         ensures name { name_of self.now.births.items result ≡ name_of self.now.births.items c }

@@ -55,6 +55,7 @@ impl Machine {
     }
 
     /// The task is at another stage, at which it doesn't wait.
+    #[tactic(auto, using(crate::proofs::Columns::ColumnLists::loads_stay))]
     pub(crate) fn set_idle(&mut self, t: u32, stage: SlotStage)
         requires there { t < length self.old.slots.items }
         requires idle { IsIdle stage }
@@ -67,6 +68,7 @@ impl Machine {
     }
 
     /// The task waits for the cell, and its walk is at its start.
+    #[tactic(auto, using(crate::proofs::Columns::ColumnLists::loads_set))]
     pub(crate) fn start_walk(&mut self, t: u32, cell: u32, way: Way)
         requires { t < length self.old.slots.items }
         ensures state { state_of self.new

@@ -3,16 +3,19 @@
 ghost use Rattle.tj_core.specs.EventLaws.{EventKeepsCycles, EventLeavesOthers, EventKeepsAlarms, EventKeepsWatches};
 
 /// A standing cycle stands after the event, with the same tasks.
+#[tactic(auto, using(crate::proofs::Events::EventEffects::event_keeps_cycles))]
 pub fn event_keeps_cycles()
     ensures { EventKeepsCycles }
 {}
 
 /// The event of one task leaves every other task at its stage.
+#[tactic(auto, using(crate::proofs::Events::EventEffects::event_leaves_others))]
 pub fn event_leaves_others()
     ensures { EventLeavesOthers }
 {}
 
 /// A task that has alarmed stays alarmed, on the same cell.
+#[tactic(auto, using(crate::proofs::Events::EventEffects::event_keeps_alarms))]
 pub fn event_keeps_alarms()
     ensures { EventKeepsAlarms }
 {}

@@ -8,11 +8,13 @@ pub fn cycles_return()
 {}
 
 /// A task that is reached from itself by n steps, no fewer, is the first of a cycle of n tasks.
+#[tactic(auto, using(crate::proofs::Graph::CycleLists::returns_are_cycles))]
 pub fn returns_are_cycles()
     ensures { ReturnsAreCycles }
 {}
 
 /// The tasks of the standing cycle through a task, from it on, are one list.
+#[tactic(auto, using(crate::proofs::Graph::CycleLists::cycle_one))]
 pub fn cycles_are_one()
     ensures { CyclesAreOne }
 {}

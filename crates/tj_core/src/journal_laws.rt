@@ -11,6 +11,7 @@ pub fn one_reading()
 {}
 
 /// The events of a journal are judged with one text at most, and with one mark.
+#[tactic(auto, using(crate::proofs::Journals::OneJudging::judging_one))]
 pub fn one_judging()
     ensures { JudgingIsOne }
 {}

@@ -13,9 +13,8 @@ use crate::event::Event;
 use crate::plain_core::Core;
 use crate::stage::Illegal;
 use crate::walk::LastRead;
-use itoa::Buffer;
 use std::alloc::Global;
-use tj_base::{ByteList, CellId, Oom};
+use tj_base::{ByteList, CellId, Oom, add_number};
 
 /// The text of judging, and whether an event was illegal or an alarm.
 #[derive(Debug, PartialEq, Eq, Drop)]
@@ -92,12 +91,12 @@ fn settled(alloc: Global, t: CellId, last: LastRead, loads: u32) -> Result<Vec<u
     ensures { IfOk result (λ line. line.items ≡ settled_line t.0 loads last) }
 {
     let mut line = Vec::from_slice(alloc, b"task ")?;
-    add_number(&mut line, t.0)?;
+    add_number(&mut line, t.0 as u128)?;
     if let LastRead::SawOthers(_) = last {
         line.extend_from_slice(b" skipped\n")?;
     } else {
         line.extend_from_slice(b" walked after ")?;
-        add_number(&mut line, loads)?;
+        add_number(&mut line, loads as u128)?;
         line.extend_from_slice(b" loads\n")?;
     }
     Ok(line)
@@ -141,9 +140,9 @@ fn alarmed(
         IfOk result (λ line. line.items ≡ alarm_line cells t.0 loads (map (λ c. c.0) others.now)) }
 {
     let mut line = Vec::from_slice(alloc, b"task ")?;
-    add_number(&mut line, t.0)?;
+    add_number(&mut line, t.0 as u128)?;
     line.extend_from_slice(b" alarmed after ")?;
-    add_number(&mut line, loads)?;
+    add_number(&mut line, loads as u128)?;
     line.extend_from_slice(b" loads: ")?;
     add_wait(&mut line, core, t)?;
     for other in others {
@@ -159,28 +158,19 @@ fn add_wait(text: &mut Vec<u8>, core: &Core, t: CellId) -> Result<(), Oom>
     ensures { let cells = (core_state core.now).cells in
         IfOk result (λ _. text.new.items ≡ text.old.items ++ wait_text cells t.0) }
 {
-    add_number(text, t.0)?;
+    add_number(text, t.0 as u128)?;
     text.extend_from_slice(b" waits for ")?;
     if let Some(cell) = core.wait(t) {
-        add_number(text, cell)?;
+        add_number(text, cell as u128)?;
     }
-    Ok(())
-}
-
-fn add_number(text: &mut Vec<u8>, number: u32) -> Result<(), Oom>
-    ensures { IfOk result (λ _. text.new.items ≡ text.old.items ++ decimal number) }
-{
-    let mut buffer = Buffer::new();
-    text.extend_from_slice(buffer.format(number).as_bytes())?;
     Ok(())
 }
 
 fn add_legal(text: &mut Vec<u8>, events: u64) -> Result<(), Oom>
     ensures { IfOk result (λ _. text.new.items ≡ text.old.items ++ legal_line events) }
 {
-    let mut buffer = Buffer::new();
     text.extend_from_slice(b"legal ")?;
-    text.extend_from_slice(buffer.format(events).as_bytes())?;
+    add_number(text, events as u128)?;
     text.extend_from_slice(b" events\n")?;
     Ok(())
 }
@@ -188,9 +178,8 @@ fn add_legal(text: &mut Vec<u8>, events: u64) -> Result<(), Oom>
 fn add_illegal(text: &mut Vec<u8>, line: u64) -> Result<(), Oom>
     ensures { IfOk result (λ _. text.new.items ≡ text.old.items ++ illegal_line line) }
 {
-    let mut buffer = Buffer::new();
     text.extend_from_slice(b"illegal at line ")?;
-    text.extend_from_slice(buffer.format(line).as_bytes())?;
+    add_number(text, line as u128)?;
     text.extend_from_slice(b"\n")?;
     Ok(())
 }

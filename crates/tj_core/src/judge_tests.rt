@@ -1,8 +1,8 @@
 //! Journals as texts, each with the text of judging by hand from the rules.
 use crate::{JournalFault, Judged, MAX_CELLS, MAX_JOURNAL, judge_text, read_journal};
-use itoa::Buffer;
-use std::alloc::{AllocError, Global};
+use std::alloc::Global;
 use std::test::Fail;
+use tj_base::{Oom, add_number};
 
 /// The last publisher closes the cycle and alarms; the walk before it settled in front of the cycle.
 const CLOSED_LAST: &str = "fork 0\nfork 0\npublish 2 1\nothers 2\nsettle 2\nraise 1\npublish 1 2\n\
@@ -158,7 +158,7 @@ fn prefixes_of_a_journal(rt: HostRuntime) -> Result<(), Fail> {
                     lines.saturating_add(1)
                 };
                 let mut last = Vec::from_slice(rt.alloc(), b"legal ")?;
-                add_number(&mut last, whole)?;
+                add_number(&mut last, whole as u128)?;
                 last.extend_from_slice(b" events\n")?;
                 assert!(rt; judged.text.items().ends_with(last.as_slice()));
             }
@@ -170,18 +170,14 @@ fn prefixes_of_a_journal(rt: HostRuntime) -> Result<(), Fail> {
     Ok(())
 }
 
-fn add_number(text: &mut Vec<u8>, number: u32) -> Result<(), AllocError> {
-    let mut buffer = Buffer::new();
-    text.extend_from_slice(buffer.format(number).as_bytes())
-}
-
-fn add_line(text: &mut Vec<u8>, word: &[u8], numbers: &[u32]) -> Result<(), AllocError> {
+fn add_line(text: &mut Vec<u8>, word: &[u8], numbers: &[u32]) -> Result<(), Oom> {
     text.extend_from_slice(word)?;
     for number in numbers {
         text.extend_from_slice(b" ")?;
-        add_number(text, *number)?;
+        add_number(text, *number as u128)?;
     }
-    text.extend_from_slice(b"\n")
+    text.extend_from_slice(b"\n")?;
+    Ok(())
 }
 
 #[test]
@@ -202,12 +198,12 @@ fn a_cycle_of_all_cells(rt: HostRuntime) -> Result<(), Fail> {
         add_line(&mut journal, b"others", &[task])?;
         add_line(&mut journal, b"settle", &[task])?;
         wanted.extend_from_slice(b"task ")?;
-        add_number(&mut wanted, task)?;
+        add_number(&mut wanted, task as u128)?;
         wanted.extend_from_slice(b" skipped\n")?;
         alarm.extend_from_slice(b", ")?;
-        add_number(&mut alarm, task)?;
+        add_number(&mut alarm, task as u128)?;
         alarm.extend_from_slice(b" waits for ")?;
-        add_number(&mut alarm, next)?;
+        add_number(&mut alarm, next as u128)?;
         task = next;
     }
     add_line(&mut journal, b"raise", &[1])?;

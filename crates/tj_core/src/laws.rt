@@ -10,6 +10,7 @@ ghost use Rattle.tj_core.specs.RunLaws.{LegalAlarmsAreOnCycles, LegalCyclesAreWa
 ghost use Rattle.tj_core.specs.RunLaws.{LegalLoadsAreBounded};
 
 /// One allowed event keeps the facts, for every limit.
+#[tactic(auto, using(crate::proofs::Events::EachEvent::facts_after_event))]
 pub fn event_keeps_facts()
     ensures { EventKeepsFacts }
 {}
@@ -20,33 +21,39 @@ pub fn start_meets_facts()
 {}
 
 /// A legal run ends in a state that meets the facts.
+#[tactic(auto, using(crate::proofs::Events::LegalRuns::legal_facts))]
 pub fn legal_runs_meet_facts()
     ensures { LegalRunsMeetFacts }
 {}
 
 /// In a state that meets the facts a task that has alarmed is the first of a standing cycle.
+#[tactic(auto, using(crate::proofs::Graph::WatchedCycles::alarms_on_cycles))]
 pub fn alarms_are_on_cycles()
     ensures { AlarmsAreOnCycles }
 {}
 
 /// In a state that meets the facts each standing cycle has a member that has alarmed or has an open
 /// walk.
+#[tactic(auto, using(crate::proofs::Graph::WatchedCycles::cycles_watched))]
 pub fn cycles_are_watched()
     ensures { CyclesAreWatched }
 {}
 
 /// In a state that meets the facts a walk with bound n has made at most 3n loads.
+#[tactic(auto, using(crate::proofs::Graph::WatchedCycles::loads_bounded))]
 pub fn loads_are_bounded()
     ensures { LoadsAreBounded }
 {}
 
 /// A walk that is on course is open.
+#[tactic(auto, using(crate::proofs::Events::LegalRuns::on_course_open))]
 pub fn on_course_is_open()
     ensures { OnCourseIsOpen }
 {}
 
 /// From a state that meets the facts on, a task settles only where no cycle through it stood just
 /// after it had published.
+#[tactic(auto, using(crate::proofs::Events::LegalRuns::settles_off_cycles))]
 pub fn settles_off_cycles()
     ensures { SettlesOffCycles }
 {}
@@ -58,11 +65,13 @@ pub fn cycles_stand()
 
 /// In every legal run a task settles only where no cycle through it stood just after it had
 /// published.
+#[tactic(auto, using(crate::proofs::Events::LegalCycles::legal_settles))]
 pub fn legal_settles_are_off_cycles()
     ensures { LegalSettlesAreOffCycles }
 {}
 
 /// In every legal run a standing cycle stands ever after, with the same tasks.
+#[tactic(auto, using(crate::proofs::Events::LegalCycles::legal_cycles_stand))]
 pub fn legal_cycles_stand()
     ensures { LegalCyclesStand }
 {}
@@ -73,11 +82,13 @@ pub fn legal_alarms_are_on_cycles()
 {}
 
 /// In every legal run each standing cycle has a member that has alarmed or has an open walk.
+#[tactic(auto, using(crate::proofs::Events::LegalCycles::legal_watched))]
 pub fn legal_cycles_are_watched()
     ensures { LegalCyclesAreWatched }
 {}
 
 /// In every legal run a walk with bound n has made at most 3n loads.
+#[tactic(auto, using(crate::proofs::Events::LegalCycles::legal_loads))]
 pub fn legal_loads_are_bounded()
     ensures { LegalLoadsAreBounded }
 {}

@@ -22,7 +22,7 @@ pub(crate) struct Machine {
     pub(crate) others: u64,
     pub(crate) cleared: u64,
     ghost there: { suc (length births.births.items) ≡ length slots.items },
-    ghost all: { length slots.items + length spare.items ≡ births.limit },
+    ghost all: { suc (length births.births.items) + length spare.items ≡ births.limit },
     ghost owned: { length owners.owners.items ≡ births.limit },
     ghost roomy: { HaveRoom births.limit slots.items },
     ghost spares: { HaveRoom births.limit spare.items },

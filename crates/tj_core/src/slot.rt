@@ -2,6 +2,8 @@
 //! walker's last read, and then change it.
 ghost use Rattle.std.specs.Prelude.{◌≡◌, ℕ, ◌+◌, ◌*◌, ◌<◌, ◌≤◌, length, vec_capacity};
 ghost use Rattle.tj_core.specs.declared.births.TheConstants.{MAX_CELLS};
+ghost use Rattle.tj_core.specs.declared.slot_stage.Progress.TheVariants.{Walking};
+ghost use Rattle.tj_core.specs.declared.slot_stage.SlotStage.TheVariants.{Waiting};
 ghost use Rattle.tj_core.specs.Inner.SlotStages.{stage_passes, stage_loads, stage_bound};
 
 use crate::births::MAX_CELLS;
@@ -29,11 +31,13 @@ pub(crate) struct Slot {
 impl Slot {
     ghost use Rattle.std.specs.Prelude.{◌≡◌, ◌≢◌, ℕ, suc, ◌+◌, ◌*◌, ◌<◌, ◌≤◌, ◌↔◌, IsTrue, IfOk, OnOk, OnErr, Some, None, [], MatchOption, length, vec_capacity};
     ghost use Rattle.tj_core.specs.CoreState.{promise, fresh, waits, walks, parked, alarmed, wait_of, is_task, Runs, present, IfWalksAt};
-    ghost use Rattle.tj_core.specs.Events.{WalksAt, MayPublish, MayReadOthers, MayCount, MayReadOwner, MayReadWait, MayReadAgain, MayAlarm, MaySettle, walked, walk_ended, others_read, count_read, owner_read, owner_again, start_walk};
-    ghost use Rattle.tj_core.specs.Inner.Slots.{stage_of};
+    ghost use Rattle.tj_core.specs.Events.{WalksAt, MayPublish, start_walk};
+    ghost use Rattle.tj_core.specs.Inner.Slots.{stage_of, walker};
+    ghost use Rattle.tj_core.specs.declared.slot_stage.Progress.TheVariants.{Walking};
+    ghost use Rattle.tj_core.specs.declared.slot_stage.SlotStage.TheVariants.{Waiting};
     ghost use Rattle.tj_core.specs.StagesShown.{stage_shown};
     ghost use Rattle.tj_core.specs.Inner.SlotStages.{cell_stage, IsIdle};
-    ghost use Rattle.tj_core.specs.Inner.WalkSteps.{MayStep, wait_heard, stage_by, loads_by, HasRoom};
+    ghost use Rattle.tj_core.specs.Inner.WalkSteps.{MayStep, stage_by, loads_by, HasRoom};
 
     /// An empty slot, with room for walks that pass so many owners.
     pub(crate) fn new(alloc: Global, cells: u32) -> Result<Slot, AllocError>
@@ -181,69 +185,6 @@ impl Slot {
         self.stage = SlotStage::Waiting(cell, way, Progress::Walking(LastRead::Published));
     }
 
-    /// The walker reads OTHERS.
-    fn read_others(&mut self, others: u64) -> Result<(), Illegal>
-        ensures allowed { OnOk result (WalksAt (stage_of self.old) (λ c. MayReadOthers)) }
-        ensures stage { OnOk result (stage_of self.new
-            ≡ walked (λ c. others_read others) (stage_of self.old)) }
-        ensures loads { OnOk result (self.new.loads ≡ self.old.loads) }
-        ensures room { vec_capacity self.old.trail ≤ vec_capacity self.new.trail }
-        ensures illegal { OnErr result (¬ WalksAt (stage_of self.old) (λ c. MayReadOthers)) }
-        ensures err { OnErr result (self.new ≡ self.old) }
-    {
-        let SlotStage::Waiting(cell, Way::Along, Progress::Walking(LastRead::Published)) =
-            self.stage
-        else {
-            return Err(Illegal);
-        };
-        let seen = Progress::Walking(LastRead::SawOthers(others));
-        self.stage = SlotStage::Waiting(cell, Way::Along, seen);
-        Ok(())
-    }
-
-    /// The walker reads the number of cells.
-    fn read_count(&mut self, count: u32) -> Result<(), Illegal>
-        requires some { 0 < count }
-        requires small { count ≤ MAX_CELLS }
-        requires room { count ≤ vec_capacity self.old.trail }
-        ensures allowed { OnOk result (WalksAt (stage_of self.old) (λ c. MayCount)) }
-        ensures stage { OnOk result (stage_of self.new ≡ walked (λ c. count_read count) (stage_of self.old)) }
-        ensures loads { OnOk result (self.new.loads ≡ self.old.loads) }
-        ensures room { vec_capacity self.old.trail ≤ vec_capacity self.new.trail }
-        ensures illegal { OnErr result (¬ WalksAt (stage_of self.old) (λ c. MayCount)) }
-        ensures err { OnErr result (self.new ≡ self.old) }
-    {
-        let SlotStage::Waiting(cell, way, Progress::Walking(last)) = self.stage else {
-            return Err(Illegal);
-        };
-        if !last.before_count(way) {
-            return Err(Illegal);
-        }
-        self.bound = count;
-        self.stage = SlotStage::Waiting(cell, way, Progress::Walking(LastRead::Counted));
-        Ok(())
-    }
-
-    /// The walker reads the owner of the present cell.
-    fn read_owner(&mut self, owner: Option<u32>) -> Result<(), Illegal>
-        ensures allowed { OnOk result (WalksAt (stage_of self.old) (λ c way. MayReadOwner)) }
-        ensures stage { OnOk result (stage_of self.new ≡ walked (λ c. owner_read owner) (stage_of self.old)) }
-        ensures loads { OnOk result (self.new.loads ≡ suc self.old.loads) }
-        ensures room { vec_capacity self.old.trail ≤ vec_capacity self.new.trail }
-        ensures illegal { OnErr result (¬ WalksAt (stage_of self.old) (λ c way. MayReadOwner)) }
-        ensures err { OnErr result (self.new ≡ self.old) }
-    {
-        let SlotStage::Waiting(cell, way, Progress::Walking(last)) = self.stage else {
-            return Err(Illegal);
-        };
-        if !last.before_owner(self.trail.len(), self.bound) {
-            return Err(Illegal);
-        }
-        self.loads += 1;
-        self.stage = SlotStage::Waiting(cell, way, Progress::Walking(LastRead::SawOwner(owner)));
-        Ok(())
-    }
-
     /// The owner that its walk has just read.
     pub(crate) fn owner_read(&self) -> Option<u32>
         ensures { IfWalksAt (stage_of self.now)
@@ -255,93 +196,24 @@ impl Slot {
         }
     }
 
-    /// The walker reads what the owner that it has just read waits for.
-    fn read_wait(&mut self, t: u32, wait: Option<u32>) -> Result<(), Illegal>
-        ensures allowed { OnOk result (WalksAt (stage_of self.old) (λ c way. MayReadWait t)) }
-        ensures stage { OnOk result (stage_of self.new
-            ≡ walked (λ c w. wait_heard wait w w.last) (stage_of self.old)) }
-        ensures loads { OnOk result (self.new.loads ≡ suc self.old.loads) }
-        ensures room { vec_capacity self.old.trail ≤ vec_capacity self.new.trail }
-        ensures illegal { OnErr result (¬ WalksAt (stage_of self.old) (λ c way. MayReadWait t)) }
-        ensures err { OnErr result (self.new ≡ self.old) }
+    /// Whether the step is the next one of a walk of task t with this last read.
+    fn may_step(&self, t: u32, step: WalkStep, way: Way, last: LastRead) -> bool
+        ensures { IsTrue result
+            ↔ MayStep t step way (walker self.now.trail.items self.now.bound self.now.loads last) }
     {
-        match self.stage {
-            SlotStage::Waiting(cell, way, Progress::Walking(LastRead::SawOwner(Some(owner))))
-                if owner != t => {
-                self.loads += 1;
-                let seen = Progress::Walking(LastRead::SawWait(owner, wait));
-                self.stage = SlotStage::Waiting(cell, way, seen);
-                Ok(())
-            }
-            _ => Err(Illegal),
+        match step {
+            WalkStep::Others(_) => way == Way::Along && last == LastRead::Published,
+            WalkStep::Count(_) => last.before_count(way),
+            WalkStep::Owner(_) => last.before_owner(self.trail.len(), self.bound),
+            WalkStep::Wait(_) => last.before_wait(t),
+            WalkStep::Again(_) => matches!(last, LastRead::SawWait(_, Some(_))),
+            WalkStep::Alarm => last == LastRead::SawOwner(Some(t)),
+            WalkStep::Settle => last.ends_walk(self.trail.len(), self.bound),
         }
     }
 
-    /// The walker reads the owner of the present cell again.
-    fn read_again(&mut self, now: Option<u32>) -> Result<(), Illegal>
-        ensures allowed { OnOk result (WalksAt (stage_of self.old) (λ c way. MayReadAgain)) }
-        ensures stage { OnOk result (stage_of self.new
-            ≡ walked (λ c w. owner_again now w w.last) (stage_of self.old)) }
-        ensures loads { OnOk result (self.new.loads ≡ suc self.old.loads) }
-        ensures room { vec_capacity self.old.trail ≤ vec_capacity self.new.trail }
-        ensures illegal { OnErr result (¬ WalksAt (stage_of self.old) (λ c way. MayReadAgain)) }
-        ensures err { OnErr result (self.new ≡ self.old) }
-    {
-        let SlotStage::Waiting(cell, way, Progress::Walking(last)) = self.stage else {
-            return Err(Illegal);
-        };
-        let LastRead::SawWait(owner, Some(next)) = last else {
-            return Err(Illegal);
-        };
-        let mut read = LastRead::Changed;
-        if now == Some(owner) {
-            let pushed = self.trail.push(TrailLink { owner, next }).is_ok();
-            prove!(pushed);
-            read = LastRead::Passed;
-        }
-        self.loads += 1;
-        self.stage = SlotStage::Waiting(cell, way, Progress::Walking(read));
-        Ok(())
-    }
-
-    /// The walker alarms, as it has just read its own task t as owner.
-    fn alarm(&mut self, t: u32) -> Result<(), Illegal>
-        ensures allowed { OnOk result (WalksAt (stage_of self.old) (λ c way. MayAlarm t)) }
-        ensures stage { OnOk result (stage_of self.new ≡ walk_ended alarmed (stage_of self.old)) }
-        ensures loads { OnOk result (self.new.loads ≡ self.old.loads) }
-        ensures room { vec_capacity self.old.trail ≤ vec_capacity self.new.trail }
-        ensures illegal { OnErr result (¬ WalksAt (stage_of self.old) (λ c way. MayAlarm t)) }
-        ensures err { OnErr result (self.new ≡ self.old) }
-    {
-        match self.stage {
-            SlotStage::Waiting(cell, way, Progress::Walking(LastRead::SawOwner(Some(owner))))
-                if owner == t => {
-                self.stage = SlotStage::Waiting(cell, way, Progress::Alarmed);
-                Ok(())
-            }
-            _ => Err(Illegal),
-        }
-    }
-
-    /// The walk ends without an alarm.
-    fn settle(&mut self) -> Result<(), Illegal>
-        ensures allowed { OnOk result (WalksAt (stage_of self.old) (λ c way. MaySettle)) }
-        ensures stage { OnOk result (stage_of self.new ≡ walk_ended parked (stage_of self.old)) }
-        ensures loads { OnOk result (self.new.loads ≡ self.old.loads) }
-        ensures room { vec_capacity self.old.trail ≤ vec_capacity self.new.trail }
-        ensures illegal { OnErr result (¬ WalksAt (stage_of self.old) (λ c way. MaySettle)) }
-        ensures err { OnErr result (self.new ≡ self.old) }
-    {
-        let SlotStage::Waiting(cell, way, Progress::Walking(last)) = self.stage else {
-            return Err(Illegal);
-        };
-        if !last.ends_walk(self.trail.len(), self.bound) {
-            return Err(Illegal);
-        }
-        self.stage = SlotStage::Waiting(cell, way, Progress::Parked);
-        Ok(())
-    }
     /// The walker of task t takes a step.
+    #[tactic(auto, using(crate::proofs::Columns::Slots::walks_at))]
     pub(crate) fn step(&mut self, t: u32, step: WalkStep) -> Result<(), Illegal>
         requires { HasRoom (vec_capacity self.old.trail) step }
         ensures allowed { OnOk result (WalksAt (stage_of self.old) (λ c. MayStep t step)) }
@@ -351,14 +223,68 @@ impl Slot {
         ensures illegal { OnErr result (¬ WalksAt (stage_of self.old) (λ c. MayStep t step)) }
         ensures err { OnErr result (self.new ≡ self.old) }
     {
+        let SlotStage::Waiting(cell, way, Progress::Walking(last)) = self.stage else {
+            return Err(Illegal);
+        };
+        if !self.may_step(t, step, way, last) {
+            return Err(Illegal);
+        }
+        self.take_step(t, step, cell, way, last);
+        Ok(())
+    }
+
+    /// The walk, which waits for the cell and has this last read, is after the step.
+    fn take_step(&mut self, t: u32, step: WalkStep, cell: u32, way: Way, last: LastRead)
+        requires walks { self.old.stage ≡ Waiting cell way (Walking last) }
+        requires may { MayStep t step way (walker self.old.trail.items self.old.bound self.old.loads last) }
+        requires room { HasRoom (vec_capacity self.old.trail) step }
+        ensures stage { stage_of self.new ≡ stage_by step (stage_of self.old) }
+        ensures loads { self.new.loads ≡ loads_by step self.old.loads }
+        ensures room { vec_capacity self.old.trail ≤ vec_capacity self.new.trail }
+    {
         match step {
-            WalkStep::Others(others) => self.read_others(others),
-            WalkStep::Count(count) => self.read_count(count),
-            WalkStep::Owner(owner) => self.read_owner(owner),
-            WalkStep::Wait(wait) => self.read_wait(t, wait),
-            WalkStep::Again(owner) => self.read_again(owner),
-            WalkStep::Alarm => self.alarm(t),
-            WalkStep::Settle => self.settle(),
+            WalkStep::Others(others) => self.stage = walking(
+                cell,
+                way,
+                LastRead::SawOthers(others),
+            ),
+            WalkStep::Count(count) => {
+                self.bound = count;
+                self.stage = walking(cell, way, LastRead::Counted);
+            }
+            WalkStep::Owner(owner) => {
+                self.loads += 1;
+                self.stage = walking(cell, way, LastRead::SawOwner(owner));
+            }
+            WalkStep::Wait(wait) => {
+                let LastRead::SawOwner(Some(owner)) = last else {
+                    return;
+                };
+                self.loads += 1;
+                self.stage = walking(cell, way, LastRead::SawWait(owner, wait));
+            }
+            WalkStep::Again(now) => {
+                let LastRead::SawWait(owner, Some(next)) = last else {
+                    return;
+                };
+                self.loads += 1;
+                if now == Some(owner) {
+                    let pushed = self.trail.push(TrailLink { owner, next }).is_ok();
+                    prove!(pushed);
+                    self.stage = walking(cell, way, LastRead::Passed);
+                } else {
+                    self.stage = walking(cell, way, LastRead::Changed);
+                }
+            }
+            WalkStep::Alarm => self.stage = SlotStage::Waiting(cell, way, Progress::Alarmed),
+            WalkStep::Settle => self.stage = SlotStage::Waiting(cell, way, Progress::Parked),
         }
     }
+}
+
+/// The stage of a task that waits, and whose walk goes on after this read.
+fn walking(cell: u32, way: Way, read: LastRead) -> SlotStage
+    ensures { result ≡ Waiting cell way (Walking read) }
+{
+    SlotStage::Waiting(cell, way, Progress::Walking(read))
 }

@@ -51,7 +51,7 @@ pub struct Walker {
 }
 
 impl LastRead {
-    ghost use Rattle.std.specs.Prelude.{◌≡◌, ◌⊎◌, ◌↔◌, ℕ, ◌<◌, IsTrue};
+    ghost use Rattle.std.specs.Prelude.{◌≡◌, ◌≢◌, ◌⊎◌, ◌↔◌, ℕ, ◌<◌, IsTrue, Some};
     ghost use Rattle.tj_core.specs.Events.{EndsWalk};
 
     /// Whether the number of cells is read next, on a wait of this way.
@@ -74,6 +74,16 @@ impl LastRead {
         match self {
             LastRead::Counted => true,
             LastRead::Passed => passed < bound as usize,
+            _ => false,
+        }
+    }
+
+    /// Whether it is read next what the owner waits for, on a walk of task t.
+    pub(crate) fn before_wait(self, t: u32) -> bool
+        ensures { IsTrue result ↔ ((u : ℕ) × (self ≡ LastRead.SawOwner (Some u)) × (u ≢ t)) }
+    {
+        match self {
+            LastRead::SawOwner(Some(owner)) => owner != t,
             _ => false,
         }
     }

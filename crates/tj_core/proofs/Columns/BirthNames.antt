@@ -66,8 +66,8 @@ pub name_of-root : (bs : List Birth) → name_of bs 0 ≡ []
 name_of-root bs = names_after-old ([] ∷ []) bs 0 (omega arith)
 
 -- a cell that isn't there has the root's name
-pub name_of-beyond : (bs : List Birth) (c : ℕ) → length bs < c → name_of bs 0 ≡ name_of bs c
-name_of-beyond bs c h =
+pub name_beyond : (bs : List Birth) (c : ℕ) → length bs < c → name_of bs 0 ≡ name_of bs c
+name_beyond bs c h =
     let l = length-names_after ([] ∷ []) bs in
     name_of-root bs ∙ sym (get_or-eq_default (names_of bs) [] (omega arith))
 

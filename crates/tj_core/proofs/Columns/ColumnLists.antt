@@ -1,27 +1,25 @@
 -- The core state after one slot changes.
 use Rattle.std.proofs.Common.{◌≡◌, ℕ, zero, suc, ◌<◌, ◌≤◌, List, [], ◌∷◌, ◌++◌, length, set, map, get_or, Option, None, refl, sym, ap, ◌∙◌, subst, arith, vec_capacity, length-set}
 use Rattle.std.proofs.lemmas.List.{get_or-set_same, get_or-set_other, set-get_or}
-use native.Mathlib.Decide.{ℕ_discrete}
-use mathlib.Core.Logic.{dite}
-use Rattle.tj_core.specs.declared.births.Birth.{Birth}
+use Rattle.tj_core.specs.declared.machine.Machine.{Machine}
 use Rattle.tj_core.specs.declared.slot.Slot.{Slot}
 use Rattle.tj_core.specs.declared.walk.Way.{Way}
 use Rattle.tj_core.specs.declared.walk.Walker.{Walker}
 use Rattle.tj_base.specs.Puts.{put}
-use Rattle.tj_base.proofs.Puts.{put_here, put_else, put_same}
-use Rattle.tj_core.specs.CoreState.{CellStage, promise, walks, waits, CoreState}
+use Rattle.tj_base.proofs.Puts.{at_put, put_here, put_else, put_same}
+use Rattle.tj_core.specs.CoreState.{CellStage, promise, walks, waits, CellState, CoreState, owner, stage}
 use Rattle.tj_core.specs.Events.{WalksAt, restage, staged, walked, alter, owned_by}
 use Rattle.tj_core.specs.Loads.{one_load}
 use Rattle.tj_core.specs.Inner.Slots.{stage_of}
-use Rattle.tj_core.specs.Inner.Columns.{stage_in, loads_in, room_in, HaveRoom, cell_in, state_in}
+use Rattle.tj_core.specs.Inner.Columns.{stage_in, loads_in, room_in, HaveRoom, state_in}
+use Rattle.tj_core.specs.Inner.Machine.{state_of}
+use Rattle.tj_core.specs.Inner.Owners.{owner_in}
 
 -- a list with one element changed, read at any index
 pub at_set : {A : Type 0} (l : List A) (i : ℕ) (a d : A) → i < length l → (j : ℕ) → get_or (set l i a) j d ≡ put
     (λ k. get_or l k d) i a j
-at_set l i a d h j = dite (ℕ_discrete j i)
-    (λ e. subst (λ k. get_or (set l i a) k d ≡ put (λ k. get_or l k d) i a k) (sym e)
-    (get_or-set_same l i a d h ∙ sym (put_here (λ k. get_or l k d) i a)))
-    (λ n. get_or-set_other l i j a d n ∙ sym (put_else (λ k. get_or l k d) i a j n))
+at_set l i a d h j = at_put (λ k. get_or l k d) i a (λ k x. get_or (set l i a) k d ≡ x) j
+    (get_or-set_same l i a d h) (get_or-set_other l i j a d)
 
 pub map-set_at : {A B : Type 0} (f : A → B) (l : List A) (i : ℕ) (a : A) → map f (set l i a) ≡ set (map f l) i (f a)
 map-set_at f [] i a = refl
@@ -61,16 +59,18 @@ pub walked_same : (st : CellStage) (g k : ℕ → Walker → Walker) (F : ℕ �
 walked_same st g k F (c, way, w, is, h) e = ap (walked g) is
     ∙ ((λ j. waits c way (walks (e c way w is h j))) ∙ sym (ap (walked k) is))
 
+-- the room of a slot's trail
+abbrev pub trail_room : Slot → ℕ
+trail_room slot = vec_capacity slot.trail
+
 -- the slot x of the cell t, which is there, has become y
 module _ (slots : List Slot) (t : ℕ) (x y : Slot) (h : t < length slots) (is : x ≡ get_or slots t x) where
   pub stage_here : stage_in slots t ≡ stage_of x
   stage_here = column_here stage_of slots t x promise h is
 
-  pub walks_here : (F : ℕ → Way → Walker → Type 0) → WalksAt (stage_of x) F → WalksAt (stage_in slots t) F
-  walks_here F w = subst (λ st. WalksAt st F) (sym stage_here) w
-
-  pub not_here : (F : ℕ → Way → Walker → Type 0) → ¬ WalksAt (stage_of x) F → ¬ WalksAt (stage_in slots t) F
-  not_here F n w = n (subst (λ st. WalksAt st F) stage_here w)
+  -- what is so of the stage that the slot shows is so of the cell's
+  pub shows : (P : CellStage → Type 0) → P (stage_of x) → P (stage_in slots t)
+  shows P p = subst P (sym stage_here) p
 
   pub loads_set : (n : ℕ) → y.loads ≡ n → (c : ℕ) → loads_in (set slots t y) c ≡ put (loads_in slots) t n c
   loads_set n e c = column_set (λ slot. slot.loads) slots t y 0 h c ∙ ap (λ i. put (loads_in slots) t i c) e
@@ -85,41 +85,14 @@ module _ (slots : List Slot) (t : ℕ) (x y : Slot) (h : t < length slots) (is :
 
   pub rooms_stay : (n : ℕ) → HaveRoom n slots → vec_capacity x.trail ≤ vec_capacity y.trail → HaveRoom n (set slots t y)
   rooms_stay n r e c l =
-      let z = length-set slots t y in let b : n ≤ room_in slots c = r c (omega arith) in
-      let room : Slot → ℕ = λ slot. vec_capacity slot.trail in
-      subst (λ i. n ≤ i) (sym (column_set room slots t y 0 h c))
-      (dite (ℕ_discrete c t)
-      (λ q. subst (λ i. n ≤ put (room_in slots) t (room y) i) (sym q)
-      (subst (λ i. n ≤ i) (sym (put_here (room_in slots) t (room y)))
-      (let m = r t h in let w = column_here room slots t x 0 h is in omega arith)))
-      (λ q. subst (λ i. n ≤ i) (sym (put_else (room_in slots) t (room y) c q)) b))
+      let z = length-set slots t y in
+      subst (λ i. n ≤ i) (sym (column_set trail_room slots t y 0 h c))
+      (at_put (room_in slots) t (trail_room y) (λ k i. n ≤ i) c
+      (let m = r t h in let w = column_here trail_room slots t x 0 h is in omega arith) (λ q. r c (omega arith)))
 
   -- the room of a slot that is there
   pub room_here : (n : ℕ) → HaveRoom n slots → n ≤ vec_capacity x.trail
-  room_here n r = let m = r t h in let w = column_here (λ slot. vec_capacity slot.trail) slots t x 0 h is in omega arith
-
-  module _ (births : List Birth) (made : List ℕ) (owners : List (Option ℕ)) (others cleared : ℕ) where
-    abbrev s : CoreState
-    s = state_in births made owners slots others cleared
-
-    cell_changed : (f : CellStage → CellStage) → stage_of y ≡ f (stage_of x) → (c : ℕ) → cell_in births made owners
-        (set slots t y) c ≡ (restage s t f).cells c
-    cell_changed f e c = dite (ℕ_discrete c t)
-        (λ q. subst (λ i. cell_in births made owners (set slots t y) i ≡ (restage s t f).cells i) (sym q)
-        ((λ j. record (s.cells t) {
-          stage = (column_set stage_of slots t y promise h t
-              ∙ (put_here (stage_in slots) t (stage_of y) ∙ (e ∙ ap f (sym stage_here)))) j;
-        })
-        ∙ sym (put_here s.cells t (staged (f (stage_in slots t)) (s.cells t)))))
-        (λ n. (λ j. record (s.cells c)
-        { stage = (column_set stage_of slots t y promise h c ∙ put_else (stage_in slots) t (stage_of y) c n) j })
-        ∙ sym (put_else s.cells t (staged (f (stage_in slots t)) (s.cells t)) c n))
-
-    -- the state after a slot's stage changes
-    pub state_changed : (f : CellStage → CellStage) → stage_of y ≡ f (stage_of x) → state_in births made owners
-        (set slots t y) others cleared ≡ restage s t f
-    state_changed f e = λ j. record
-        { count = s.count; cells = λ c. cell_changed f e c j; others = others; cleared = cleared }
+  room_here n r = let m = r t h in let w = column_here trail_room slots t x 0 h is in omega arith
 
 -- a slot that was put back
 pub set_same : (slots : List Slot) (t : ℕ) (x y : Slot) → x ≡ get_or slots t x → y ≡ x → set slots t y ≡ slots
@@ -131,26 +104,45 @@ pub at_snoc : {A : Type 0} (l : List A) (a d : A) (j : ℕ) → get_or (l ++ a �
 at_snoc [] a d zero = refl
 at_snoc [] a d (suc j) = sym (put_else (λ k. d) 0 a (suc j) (λ e. omega arith))
 at_snoc (x ∷ l) a d zero = sym (put_else (λ k. get_or (x ∷ l) k d) (suc (length l)) a 0 (λ e. omega arith))
-at_snoc (x ∷ l) a d (suc j) = at_snoc l a d j ∙ dite (ℕ_discrete j (length l))
-    (λ e. subst (λ i. put (λ k. get_or l k d) (length l) a i ≡ put (λ k. get_or (x ∷ l) k d) (suc (length l)) a (suc i))
-    (sym e) (put_here (λ k. get_or l k d) (length l) a ∙ sym (put_here (λ k. get_or (x ∷ l) k d) (suc (length l)) a)))
-    (λ n. put_else (λ k. get_or l k d) (length l) a j n ∙ sym
-    (put_else (λ k. get_or (x ∷ l) k d) (suc (length l)) a (suc j) (λ e. n (omega arith))))
+at_snoc (x ∷ l) a d (suc j) = at_snoc l a d j ∙ at_put (λ k. get_or l k d) (length l) a
+    (λ k y. y ≡ put (λ k. get_or (x ∷ l) k d) (suc (length l)) a (suc k)) j
+    (sym (put_here (λ k. get_or (x ∷ l) k d) (suc (length l)) a))
+    (λ n. sym (put_else (λ k. get_or (x ∷ l) k d) (suc (length l)) a (suc j) (λ e. n (omega arith))))
 
--- the state after the owner of a cell changes
-pub owner_changed : (births : List Birth) (made : List ℕ) (owners : List (Option ℕ)) (slots : List Slot)
-    (others cleared p : ℕ) (o : Option ℕ) → p < length owners
-    → state_in births made (set owners p o) slots others cleared ≡ alter
-    (state_in births made owners slots others cleared) p (owned_by o)
-owner_changed births made owners slots others cleared p o h = λ j. record
-    { count = suc (length births); cells = λ c. cell c j; others = others; cleared = cleared }
-  where
-    cell : (c : ℕ) → cell_in births made (set owners p o) slots c
-        ≡ (alter (state_in births made owners slots others cleared) p (owned_by o)).cells c
-    cell c = let s : CoreState = state_in births made owners slots others cleared in dite (ℕ_discrete c p)
-        (λ q. subst (λ i. cell_in births made (set owners p o) slots i ≡ (alter s p (owned_by o)).cells i) (sym q)
-        ((λ j. record (s.cells p) { owner = (at_set owners p o None h p ∙ put_here (λ k. get_or owners k None) p o) j })
-        ∙ sym (put_here s.cells p (owned_by o (s.cells p)))))
-        (λ n. (λ j. record (s.cells c)
-        { owner = (at_set owners p o None h c ∙ put_else (λ k. get_or owners k None) p o c n) j }) ∙ sym
-        (put_else s.cells p (owned_by o (s.cells p)) c n))
+module _ (m : Machine) where
+  abbrev s : CoreState
+  s = state_of m
+
+  -- the state after the stage of one slot changes
+  pub state_changed : (t : ℕ) (x y : Slot) → t < length m.slots.items → x ≡ get_or m.slots.items t x
+      → (f : CellStage → CellStage) → stage_of y ≡ f (stage_of x)
+      → state_in m.births.births.items m.births.made.items m.owners.owners.items (set m.slots.items t y) m.others
+      m.cleared ≡ restage s t f
+  state_changed t x y h is f e j = record s {
+    cells = λ c. at_put s.cells t (staged (f (stage s.cells t)) (s.cells t)) (λ i z. after i ≡ z) c
+        (λ k. staged ((here t ∙ (put_here (stage_in m.slots.items) t (stage_of y)
+        ∙ (e ∙ ap f (sym (stage_here m.slots.items t x y h is))))) k) (s.cells t))
+        (λ n k. staged ((here c ∙ put_else (stage_in m.slots.items) t (stage_of y) c n) k) (s.cells c)) j;
+  }
+    where
+      here : (c : ℕ) → stage_in (set m.slots.items t y) c ≡ put (stage_in m.slots.items) t (stage_of y) c
+      here = column_set stage_of m.slots.items t y promise h
+
+      after : ℕ → CellState
+      after c = staged (stage_in (set m.slots.items t y) c) (s.cells c)
+
+  -- the state after the owner of one cell changes
+  pub owner_changed : (p : ℕ) (o : Option ℕ) → p < length m.owners.owners.items
+      → state_in m.births.births.items m.births.made.items (set m.owners.owners.items p o) m.slots.items m.others
+      m.cleared ≡ alter s p (owned_by o)
+  owner_changed p o h j = record s {
+    cells = λ c. at_put s.cells p (owned_by o (s.cells p)) (λ i z. after i ≡ z) c
+        (λ k. owned_by ((here p ∙ put_here (owner s.cells) p o) k) (s.cells p))
+        (λ n k. owned_by ((here c ∙ put_else (owner s.cells) p o c n) k) (s.cells c)) j;
+  }
+    where
+      here : (c : ℕ) → owner_in (set m.owners.owners.items p o) c ≡ put (owner s.cells) p o c
+      here = at_set m.owners.owners.items p o None h
+
+      after : ℕ → CellState
+      after c = owned_by (owner_in (set m.owners.owners.items p o) c) (s.cells c)

@@ -4,7 +4,7 @@ use mathlib.Core.Logic.{dite}
 use native.Mathlib.Decide.{ℕ_discrete}
 use Rattle.tj_base.specs.Puts.{put}
 use Rattle.tj_base.proofs.Puts.{put_here, put_else, at_put}
-use Rattle.tj_core.specs.CoreState.{CellStage, CellState, Cells, CoreState, owner, name, maker, stage}
+use Rattle.tj_core.specs.CoreState.{CellStage, CellState, Cells, CoreState, owner, stage}
 use Rattle.tj_core.specs.Events.{staged, restage, raised_by}
 use Rattle.tj_core.specs.Facts.{raised_by_all}
 
@@ -16,14 +16,6 @@ module _ (s : CoreState) (t : ℕ) (f : CellStage → CellStage) where
   -- another stage changes no owner
   pub re_owner : (c : ℕ) → owner (restage s t f).cells c ≡ owner s.cells c
   re_owner c = at_put s.cells t restaged_cell (λ j x. x.owner ≡ owner s.cells j) c refl (λ n. refl)
-
-  -- another stage changes no name
-  pub re_name : (c : ℕ) → name (restage s t f).cells c ≡ name s.cells c
-  re_name c = at_put s.cells t restaged_cell (λ j x. x.name ≡ name s.cells j) c refl (λ n. refl)
-
-  -- another stage changes no maker
-  pub re_maker : (c : ℕ) → maker (restage s t f).cells c ≡ maker s.cells c
-  re_maker c = at_put s.cells t restaged_cell (λ j x. x.maker ≡ maker s.cells j) c refl (λ n. refl)
 
   -- the stage of t
   pub re_here : stage (restage s t f).cells t ≡ f (stage s.cells t)

@@ -1,5 +1,5 @@
 -- What a slot shows of a walk.
-use Rattle.std.proofs.Common.{◌≡◌, ℕ, List, reverse, ap}
+use Rattle.std.proofs.Common.{◌≡◌, ℕ, List, ap}
 use Rattle.tj_core.specs.declared.walk.Way.{Way}
 use Rattle.tj_core.specs.declared.walk.TrailLink.{TrailLink}
 use Rattle.tj_core.specs.declared.walk.Walker.{Walker}
@@ -8,11 +8,8 @@ use Rattle.tj_core.specs.declared.slot_stage.Progress.TheVariants.{Walking}
 use Rattle.tj_core.specs.declared.slot_stage.SlotStage.{SlotStage}
 use Rattle.tj_core.specs.declared.slot_stage.SlotStage.TheVariants.{Waiting}
 use Rattle.tj_core.specs.Events.{WalksAt}
+use Rattle.tj_core.specs.Inner.Slots.{walker}
 use Rattle.tj_core.specs.Inner.SlotStages.{cell_stage}
-
--- the walker that a slot shows after this read
-abbrev pub walker : List TrailLink → ℕ → ℕ → LastRead → Walker
-walker links bound loads last = record { trail = reverse links; bound = bound; loads = loads; last = last }
 
 -- a slot at the stage of a walk shows that walk
 pub walks_at : (links : List TrailLink) (bound loads : ℕ) (stage : SlotStage) (c : ℕ) (way : Way) (last : LastRead)

@@ -1,6 +1,5 @@
 -- The laws of the detector over legal runs.
-use Rattle.std.proofs.Common.{◌≡◌, ℕ, List, [], ◌∷◌, ◌++◌, refl, sym}
-use Rattle.std.proofs.Common.{subst}
+use Rattle.std.proofs.Common.{◌≡◌, ℕ, List, [], ◌∷◌, ◌++◌, refl, sym, subst}
 use Rattle.tj_core.specs.declared.event.Event.{Event}
 use Rattle.tj_core.specs.declared.event.Event.TheVariants.{Publish, Settle}
 use Rattle.tj_core.specs.CoreState.{CoreState, root_alone}
@@ -8,8 +7,8 @@ use Rattle.tj_core.specs.Events.{after}
 use Rattle.tj_core.specs.Runs.{AreAllowed, after_all}
 use Rattle.tj_core.specs.WaitGraph.{IsCycle, IsOnCycle}
 use Rattle.tj_core.specs.CoreFacts.{CoreFacts}
-use Rattle.tj_core.specs.RunLaws.{run_to, LegalSettlesAreOffCycles, LegalCyclesStand}
-use Rattle.tj_core.specs.RunLaws.{LegalAlarmsAreOnCycles, LegalCyclesAreWatched, LegalLoadsAreBounded}
+use Rattle.tj_core.specs.RunLaws.{run_to, LegalSettlesAreOffCycles, LegalCyclesStand, LegalAlarmsAreOnCycles}
+use Rattle.tj_core.specs.RunLaws.{LegalCyclesAreWatched, LegalLoadsAreBounded}
 use Rattle.tj_core.proofs.Events.EachEvent.{facts_after_event}
 use Rattle.tj_core.proofs.Events.EventEffects.{event_keeps_cycles}
 use Rattle.tj_core.proofs.Events.LegalRuns.{legal_facts, settles_off_cycles}

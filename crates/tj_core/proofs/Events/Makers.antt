@@ -1,12 +1,10 @@
 -- The facts on makers and owners over an event.
 use Rattle.std.proofs.Common.{◌≡◌, ◌≢◌, ◌⊎◌, ℕ, ◌<◌, ◌≤◌, true, false, Some, None, Option, refl, sym, ap, ◌∙◌, subst}
-use Rattle.std.proofs.Common.{inl, inr, ⊎_elim}
-use Rattle.std.proofs.Common.{suc, lt_of_lt_of_le, ◌++◌, [], ◌∷◌, append_assoc, arith}
+use Rattle.std.proofs.Common.{inl, inr, ⊎_elim, suc, lt_of_lt_of_le, ◌++◌, [], ◌∷◌, append_assoc, arith}
 use native.Mathlib.Decide.{ℕ_discrete, dec_le}
 use mathlib.Core.Logic.{dite}
 use Rattle.tj_base.specs.ForkOrder.{Name, child, IsAncestor}
-use Rattle.tj_core.specs.CoreState.{promise, Cells, CoreState, owner, name, maker, stage, is_task, IsTask}
-use Rattle.tj_core.specs.CoreState.{Lives}
+use Rattle.tj_core.specs.CoreState.{promise, Cells, CoreState, owner, name, maker, stage, is_task, IsTask, Lives}
 use Rattle.tj_core.specs.Facts.{IsNamed, IsThing, MakersFact, OwnersFact}
 use Rattle.tj_core.proofs.Events.Frames.{Frame}
 

@@ -1,11 +1,10 @@
 -- A new cell that a running task makes.
-use Rattle.std.proofs.Common.{◌≡◌, ◌≢◌, ℕ, suc, ◌<◌, true, false, Some, None, sym, ap, ◌∙◌}
-use Rattle.std.proofs.Common.{subst}
-use Rattle.std.proofs.Common.{inl, le_refl, arith, ◌≤◌}
+use Rattle.std.proofs.Common.{◌≡◌, ◌≢◌, ℕ, suc, ◌<◌, true, false, Some, None, sym, ap, ◌∙◌, subst, inl, le_refl, arith}
+use Rattle.std.proofs.Common.{◌≤◌}
 use Rattle.tj_base.specs.ForkOrder.{Name, child}
 use Rattle.tj_base.specs.Puts.{put}
-use Rattle.tj_core.specs.CoreState.{CellStage, promise, running, CellState, CoreState}
-use Rattle.tj_core.specs.CoreState.{owner, name, maker, stage, wait, wait_of, is_task, IsTask, Lives, HasBegun}
+use Rattle.tj_core.specs.CoreState.{CellStage, promise, running, CellState, CoreState, owner, name, maker, stage, wait}
+use Rattle.tj_core.specs.CoreState.{wait_of, is_task, IsTask, Lives, HasBegun}
 use Rattle.tj_core.specs.Events.{raised_by}
 use Rattle.tj_core.specs.Facts.{IsThing}
 use Rattle.tj_core.specs.CoreFacts.{CoreFacts}

@@ -1,7 +1,6 @@
 -- Publish keeps the facts: a new cycle goes through the task that has just published.
 use Rattle.std.proofs.Common.{◌≡◌, ◌≢◌, ◌⊎◌, ℕ, zero, suc, Bool, true, false, ◌&&◌, Some, None, refl, sym, ap, ◌∙◌}
-use Rattle.std.proofs.Common.{subst}
-use Rattle.std.proofs.Common.{inl, inr, ⊎_elim, le_refl, arith}
+use Rattle.std.proofs.Common.{subst, inl, inr, ⊎_elim, le_refl, arith}
 use mathlib.Core.Logic.{dite}
 use native.Mathlib.Decide.{ℕ_discrete}
 use Rattle.tj_base.specs.ForkOrder.{before}
@@ -10,8 +9,8 @@ use Rattle.tj_core.specs.declared.event.Event.TheVariants.{Publish}
 use Rattle.tj_core.specs.declared.walk.Way.{Way}
 use Rattle.tj_core.specs.declared.walk.Way.TheVariants.{Along, Other}
 use Rattle.tj_base.proofs.CyclesOn.{reach_moves, return_moves}
-use Rattle.tj_core.specs.CoreState.{walks, CellStage, promise, fresh, running, raised, waits, ended}
-use Rattle.tj_core.specs.CoreState.{CoreState, name, stage, wait, wait_of, is_task, IsTask, Lives}
+use Rattle.tj_core.specs.CoreState.{walks, CellStage, promise, fresh, running, raised, waits, ended, CoreState, name}
+use Rattle.tj_core.specs.CoreState.{stage, wait, wait_of, is_task, IsTask, Lives}
 use Rattle.tj_core.specs.Events.{Allowed, after, MayPublish, way_if, way_of_wait, start_walk, raised_by, raised_by_way}
 use Rattle.tj_core.specs.WaitGraph.{Leads, Reaches, IsOnCycleOf}
 use Rattle.tj_core.specs.Facts.{Watches, LastCloserFact}

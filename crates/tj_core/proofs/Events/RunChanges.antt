@@ -1,11 +1,9 @@
 -- The changes of one cell that running tasks make.
-use Rattle.std.proofs.Common.{◌≡◌, ◌⊎◌, ℕ, ◌+◌, ◌<◌, true, false, Option, Some, None, refl, sym, ap, ◌∙◌}
-use Rattle.std.proofs.Common.{subst}
-use Rattle.std.proofs.Common.{inl, inr, le_refl, arith, ◌≤◌}
+use Rattle.std.proofs.Common.{◌≡◌, ◌⊎◌, ℕ, ◌+◌, ◌<◌, true, false, Option, Some, None, refl, sym, ap, ◌∙◌, subst, inl}
+use Rattle.std.proofs.Common.{inr, le_refl, arith, ◌≤◌}
 use Rattle.tj_base.specs.Puts.{put}
 use Rattle.tj_core.specs.CoreState.{CellStage, promise, fresh, running, raised, waits, ended, CellState, CoreState}
-use Rattle.tj_core.specs.CoreState.{owner, name, maker, stage, wait, wait_of, is_task, Runs, Lives, HasBegun}
-use Rattle.tj_core.specs.CoreState.{IsClosed}
+use Rattle.tj_core.specs.CoreState.{owner, name, maker, stage, wait, wait_of, is_task, Runs, Lives, HasBegun, IsClosed}
 use Rattle.tj_core.specs.Events.{owned_by, raised_by}
 use Rattle.tj_core.specs.CoreFacts.{CoreFacts}
 use Rattle.tj_base.proofs.Puts.{at_put, put_here}

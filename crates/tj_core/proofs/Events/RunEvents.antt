@@ -1,15 +1,14 @@
 -- The events of a running task keep the facts.
-use Rattle.std.proofs.Common.{◌≡◌, ◌≢◌, ℕ, suc, ◌<◌, Bool, true, false, cond, nat_eq, Option, Some, None}
-use Rattle.std.proofs.Common.{refl, sym}
-use Rattle.std.proofs.Common.{ap, ◌∙◌, subst, arith, eq-eqb, ne_eqb, ◌≤◌, le_refl}
+use Rattle.std.proofs.Common.{◌≡◌, ◌≢◌, ℕ, suc, ◌<◌, Bool, true, false, cond, nat_eq, Option, Some, None, refl, sym, ap}
+use Rattle.std.proofs.Common.{◌∙◌, subst, arith, eq-eqb, ne_eqb, ◌≤◌, le_refl}
 use mathlib.Core.Logic.{dite}
 use native.Mathlib.Decide.{ℕ_discrete}
 use Rattle.tj_base.specs.ForkOrder.{child}
 use Rattle.tj_base.specs.declared.cell.CellId.{CellId}
 use Rattle.tj_core.specs.declared.event.Event.TheVariants.{Make, Fork, Hand, Close, Raise}
 use Rattle.tj_core.specs.CoreState.{CellStage, promise, fresh, running, raised, waits, ended, CellState, Cells}
-use Rattle.tj_base.specs.Puts.{put}
 use Rattle.tj_core.specs.CoreState.{CoreState, owner, name, maker, stage, wait_of, is_task, Runs, Lives}
+use Rattle.tj_base.specs.Puts.{put}
 use Rattle.tj_core.specs.Events.{Allowed, after, new_cell, staged, owned_by, stage_after_close, raised_by}
 use Rattle.tj_core.specs.CoreFacts.{CoreFacts}
 use Rattle.tj_base.proofs.Puts.{put_here, put_else}

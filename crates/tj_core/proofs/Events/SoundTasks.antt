@@ -8,9 +8,8 @@ use Rattle.tj_core.specs.declared.walk.LastRead.TheVariants.{SawOthers}
 use Rattle.tj_core.specs.declared.walk.TrailLink.{TrailLink}
 use Rattle.tj_core.specs.declared.walk.Walker.{Walker}
 use Rattle.tj_core.specs.CoreState.{WaitStage, walks, parked, alarmed, CellStage, promise, fresh, running, raised}
-use Rattle.tj_core.specs.CoreState.{waits}
-use Rattle.tj_core.specs.CoreState.{ended, CoreState, blank, name, stage, wait, wait_of, IsTask, Lives}
-use Rattle.tj_core.specs.CoreState.{is_task, present}
+use Rattle.tj_core.specs.CoreState.{waits, ended, CoreState, blank, name, stage, wait, wait_of, IsTask, Lives, is_task}
+use Rattle.tj_core.specs.CoreState.{present}
 use Rattle.tj_core.specs.WaitGraph.{IsOnCycle}
 use Rattle.tj_core.specs.Facts.{AreNextsThere, IsReadThere, IsTrail, IsLastRead, AreLoads, MakersFact, OwnersFact}
 use Rattle.tj_core.specs.Facts.{OthersCountFact, LastCloserFact}

@@ -1,12 +1,8 @@
 -- A wait is cleared, and OTHERS is lowered after it: both keep the facts.
-use Rattle.std.proofs.Common.{◌≡◌, ℕ, ◌+◌, ◌-◌, ◌<◌, Some}
-use Rattle.std.proofs.Common.{refl, sym}
-use Rattle.std.proofs.Common.{ap, ◌∙◌, subst, inr, arith, le_refl}
+use Rattle.std.proofs.Common.{◌≡◌, ℕ, ◌+◌, ◌-◌, ◌<◌, Some, refl, sym, ap, ◌∙◌, subst, inr, arith, le_refl}
 use Rattle.tj_base.specs.declared.cell.CellId.{CellId}
 use Rattle.tj_core.specs.declared.event.Event.TheVariants.{Unwait, Lower}
-use Rattle.tj_core.specs.CoreState.{running}
-use Rattle.tj_core.specs.CoreState.{CoreState, stage, wait, wait_of, Lives}
-use Rattle.tj_core.specs.CoreState.{IsClosed}
+use Rattle.tj_core.specs.CoreState.{running, CoreState, stage, wait, wait_of, Lives, IsClosed}
 use Rattle.tj_core.specs.Events.{Allowed, after, raised_by}
 use Rattle.tj_core.specs.CoreFacts.{CoreFacts}
 use Rattle.tj_core.proofs.Graph.Watches.{same_goes_on, IsKept}

@@ -1,19 +1,16 @@
 -- The ends of a walk, by an alarm or without, keep the facts.
-use Rattle.std.proofs.Common.{◌≡◌, ℕ, suc, List, [], ◌∷◌, length, Some}
-use Rattle.std.proofs.Common.{refl, ap, ⊎_elim, arith}
+use Rattle.std.proofs.Common.{◌≡◌, ℕ, suc, List, [], ◌∷◌, length, Some, refl, ap, ⊎_elim, arith}
 use Rattle.tj_base.specs.declared.cell.CellId.{CellId}
 use Rattle.tj_core.specs.declared.event.Event.TheVariants.{Alarm, Settle}
 use Rattle.tj_core.specs.declared.walk.TrailLink.{TrailLink}
 use Rattle.tj_core.specs.declared.walk.Walker.{Walker}
 use Rattle.tj_core.specs.declared.walk.LastRead.{LastRead}
-use Rattle.tj_core.specs.declared.walk.LastRead.TheVariants.{Published, SawOthers, Counted, SawOwner}
-use Rattle.tj_core.specs.declared.walk.LastRead.TheVariants.{SawWait, Passed, Changed}
-use Rattle.tj_core.specs.CoreState.{walks, parked, alarmed}
-use Rattle.tj_core.specs.CoreState.{Cells, CoreState, owner, wait, wait_of, IsClosed, present}
+use Rattle.tj_core.specs.declared.walk.LastRead.TheVariants.{Published, SawOthers, Counted, SawOwner, SawWait, Passed}
+use Rattle.tj_core.specs.declared.walk.LastRead.TheVariants.{Changed}
+use Rattle.tj_core.specs.CoreState.{walks, parked, alarmed, Cells, CoreState, owner, wait, wait_of, IsClosed, present}
 use Rattle.tj_core.specs.Events.{Allowed, after, EndsWalk, walk_ended}
 use Rattle.tj_core.specs.WaitGraph.{Reaches, IsOnCycle}
-use Rattle.tj_core.specs.Facts.{IsLinked, IsTrail}
-use Rattle.tj_core.specs.Facts.{IsOnCourse}
+use Rattle.tj_core.specs.Facts.{IsLinked, IsTrail, IsOnCourse}
 use Rattle.tj_core.specs.CoreFacts.{CoreFacts}
 use Rattle.tj_core.proofs.Events.Frames.{some_none}
 use Rattle.tj_core.proofs.Graph.WaitSteps.{round_least}

@@ -6,18 +6,18 @@ use mathlib.Core.Logic.{dite}
 use Rattle.tj_base.specs.declared.cell.CellId.{CellId}
 use Rattle.tj_core.specs.declared.event.Event.TheVariants.{LoadOthers, LoadCount, ReadOwner, ReadWait, ReadOwnerAgain}
 use Rattle.tj_core.specs.declared.walk.Way.{Way}
-use Rattle.tj_core.specs.declared.walk.Way.TheVariants.{Other}
+use Rattle.tj_core.specs.declared.walk.Way.TheVariants.{Along, Other}
 use Rattle.tj_core.specs.declared.walk.TrailLink.{TrailLink}
 use Rattle.tj_core.specs.declared.walk.Walker.{Walker}
 use Rattle.tj_core.specs.declared.walk.LastRead.TheVariants.{Published, SawOthers, Counted, SawOwner}
-use Rattle.tj_core.specs.declared.walk.LastRead.TheVariants.{SawWait, Passed}
+use Rattle.tj_core.specs.declared.walk.LastRead.TheVariants.{SawWait, Passed, Changed}
+use Rattle.tj_core.specs.declared.walk.LastRead.{LastRead}
 use Rattle.tj_core.specs.CoreState.{walks, CellStage, promise, fresh, running, raised, waits, ended}
 use Rattle.tj_core.specs.CoreState.{CoreState, owner, stage, wait, wait_of, HasBegun, IsClosed, present}
 use Rattle.tj_core.specs.Events.{Allowed, after, MayCount, MayReadOwner, walked, others_read}
 use Rattle.tj_core.specs.Events.{count_read, owner_read, wait_read, wait_found, is_owner, owner_found, owner_again}
 use Rattle.tj_core.specs.WaitGraph.{Reaches, IsOnCycleOf}
-use Rattle.tj_core.specs.Facts.{IsReadThere, IsLastRead, IsPresentChain, Follows}
-use Rattle.tj_core.specs.Facts.{IsOnCourse}
+use Rattle.tj_core.specs.Facts.{IsReadThere, IsLastRead, AreLoads, IsPresentChain, Follows, IsOnCourse}
 use Rattle.tj_core.specs.CoreFacts.{CoreFacts}
 use Rattle.tj_core.proofs.Graph.WaitSteps.{some_same, cycle_at, cycle_leads, reach_one}
 use Rattle.tj_core.proofs.Graph.Chains.{chain_owner}
@@ -31,18 +31,26 @@ module _ (s : CoreState) (x : CoreFacts s) (task : CellId) where
   abbrev t : ℕ
   t = task.0
 
+  -- a walker that has read more, and passed nobody by it, is sound as far as this read is
+  read_more : {c : ℕ} {way : Way} {w : Walker} → IsSoundWalker s t c way w → (bound loads : ℕ) (last : LastRead)
+      → IsReadThere s.count last → IsLastRead s.count s.cells t (present c w.trail) w.trail last
+      → AreLoads (length w.trail) bound loads last → ((n : ℕ) → last ≡ SawOthers n → way ≡ Along)
+      → IsSoundWalker s t c way (record { trail = w.trail; bound = bound; loads = loads; last = last })
+  read_more h bound loads last there read load along = record {
+    nexts_there = h.nexts_there;
+    read_there = there;
+    trail = h.trail;
+    last_read = read;
+    loads = load;
+    others_read = along;
+  }
+
   -- LoadOthers keeps the facts: where OTHERS is 0 no cycle stands
   pub keeps_load_others : (N : ℕ) → Allowed N s (LoadOthers task) → IsKept s (after s (LoadOthers task))
   keeps_load_others N (c, way, w, is, (is_along, at)) = let h = walker_of s x t c way w is in
       restaged s x t c way (walks w) (walks (others_read s.others w)) (walked (λ _ v. others_read s.others v)) is refl
-      (record {
-        nexts_there = h.nexts_there;
-        read_there = tt;
-        trail = h.trail;
-        last_read = last_read_is s t c way w Published h at;
-        loads = loads_are s t c way w Published h at;
-        others_read = λ _ _. is_along;
-      })
+      (read_more h w.bound w.loads (SawOthers s.others) tt (last_read_is s t c way w Published h at)
+      (loads_are s t c way w Published h at) (λ _ _. is_along))
       (λ n cycle q. dite (ℕ_discrete s.others 0)
       (λ e. absurd (no_return s x e t n cycle.some cycle.round))
       (λ e. omega arith))
@@ -62,18 +70,11 @@ module _ (s : CoreState) (x : CoreFacts s) (task : CellId) where
       let h = walker_of s x t c way w is in
       let none = nothing_read c way w h may in
       restaged s x t c way (walks w) (walks (count_read s.count w)) (walked (λ _ v. count_read s.count v)) is refl
-      (record {
-        nexts_there = h.nexts_there;
-        read_there = tt;
-        trail = h.trail;
-        last_read = none.0;
-        loads = (
-          none.1,
-          let l = waiter_there s x t c (ap wait_of is) in
-              subst (λ (k : List TrailLink). length k < s.count) (sym none.0) (omega arith),
-        );
-        others_read = λ n e. absurd (cc);
-      })
+      (read_more h s.count w.loads Counted tt none.0 (
+        none.1,
+        (let l = waiter_there s x t c (ap wait_of is) in
+            subst (λ (k : List TrailLink). length k < s.count) (sym none.0) (omega arith)),
+      ) (λ n e. absurd (cc)))
       (λ n cycle q. (
         cycle_fits s t n cycle x,
         subst (λ (l : List TrailLink). length l < n) (sym none.0) cycle.some,
@@ -111,14 +112,8 @@ module _ (s : CoreState) (x : CoreFacts s) (task : CellId) where
       let o = owner s.cells (present c w.trail) in
       restaged s x t c way (walks w) (walks (owner_read o w))
       (walked (λ k v. owner_read (owner s.cells (present k v.trail)) v)) is refl
-      (record {
-        nexts_there = h.nexts_there;
-        read_there = tt;
-        trail = h.trail;
-        last_read = owner_now (present c w.trail) w.trail o refl;
-        loads = let q = ready_loads c way w h may in (ap suc q.0 ∙ omega arith, q.1);
-        others_read = λ n e. absurd (cc);
-      })
+      (read_more h w.bound (suc w.loads) (SawOwner o) tt (owner_now (present c w.trail) w.trail o refl)
+      (let q = ready_loads c way w h may in (ap suc q.0 ∙ omega arith, q.1)) (λ n e. absurd (cc)))
       (λ n cycle q.
       let k = ready_follows n c w may q in
       let v = chain_owner s.cells t n c w.trail cycle (ap wait_of is) k.2 in
@@ -147,14 +142,8 @@ module _ (s : CoreState) (x : CoreFacts s) (task : CellId) where
       let now = wait_now (present c w.trail) u w.trail (wait s.cells u) n refl in
       restaged s x t c way (walks w) (walks (wait_found u (wait s.cells u) w))
       (walked (λ _ v. wait_read s.cells v v.last)) is (λ j. waits c way (walks (wait_read s.cells w (at j))))
-      (record {
-        nexts_there = h.nexts_there;
-        read_there = now.0;
-        trail = h.trail;
-        last_read = now.1;
-        loads = let q = loads_are s t c way w (SawOwner (Some u)) h at in (ap suc q.0 ∙ omega arith, q.1);
-        others_read = λ k e. absurd (cc);
-      })
+      (read_more h w.bound (suc w.loads) (SawWait u (wait s.cells u)) now.0 now.1
+      (let q = loads_are s t c way w (SawOwner (Some u)) h at in (ap suc q.0 ∙ omega arith, q.1)) (λ k e. absurd (cc)))
       (λ k cycle q.
       let g : IsOnCourse s.cells k c w (SawOwner (Some u)) = subst (IsOnCourse s.cells k c w) at q in
       let v = chain_owner s.cells t k c w.trail cycle (ap wait_of is) g.0.2 in
@@ -190,14 +179,8 @@ module _ (s : CoreState) (x : CoreFacts s) (task : CellId) where
         loads = let a = q.0 in let z = q.1 in (omega arith, omega arith);
         others_read = λ n e. absurd (cc);
       }
-  found_sound c way w u v false h at same = record {
-    nexts_there = h.nexts_there;
-    read_there = tt;
-    trail = h.trail;
-    last_read = tt;
-    loads = let q = loads_are s t c way w (SawWait u (Some v)) h at in let a = q.0 in (omega arith, q.1);
-    others_read = λ n e. absurd (cc);
-  }
+  found_sound c way w u v false h at same = read_more h w.bound (suc w.loads) Changed tt tt
+      (let q = loads_are s t c way w (SawWait u (Some v)) h at in let a = q.0 in (omega arith, q.1)) (λ n e. absurd (cc))
 
   -- on a cycle the owner is found unchanged, and isn't the last of the cycle, which is the walker itself
   found_on_course : (n c u v : ℕ) (w : Walker) (b : Bool)

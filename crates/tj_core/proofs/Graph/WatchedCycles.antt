@@ -1,6 +1,5 @@
 -- The laws of the detector in each state that meets the facts.
-use Rattle.std.proofs.Common.{◌≡◌, ◌⊎◌, ℕ, zero, nat_eq, ◌*◌, ◌≤◌, [], ◌∷◌, length, refl}
-use Rattle.std.proofs.Common.{inl, inr, arith}
+use Rattle.std.proofs.Common.{◌≡◌, ◌⊎◌, ℕ, zero, nat_eq, ◌*◌, ◌≤◌, [], ◌∷◌, length, refl, inl, inr, arith}
 use Rattle.tj_core.specs.declared.walk.LastRead.{LastRead}
 use Rattle.tj_core.specs.declared.walk.LastRead.TheVariants.{Published, SawOthers, Counted, SawOwner, SawWait, Passed}
 use Rattle.tj_core.specs.declared.walk.LastRead.TheVariants.{Changed}

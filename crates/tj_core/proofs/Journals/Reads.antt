@@ -1,6 +1,6 @@
 -- How far a journal has been read.
-use Rattle.std.proofs.Common.{◌≡◌, ℕ, ◌+◌, ◌-◌, ◌<◌, ◌≤◌, List, [], ◌∷◌, ◌++◌, length, take, drop, Result, Ok, Err, refl, sym, ap, ◌∙◌, subst, arith, append_assoc, length-append}
-use Rattle.std.proofs.lemmas.List.{append-nil, length-drop, take_all}
+use Rattle.std.proofs.Common.{◌≡◌, ℕ, ◌+◌, ◌-◌, ◌<◌, ◌≤◌, List, [], ◌∷◌, ◌++◌, length, take, drop, Result, Ok, Err, sym, ap, ◌∙◌, subst, arith, append_assoc, length-append}
+use Rattle.std.proofs.lemmas.List.{length-drop, take_all}
 use Rattle.std.specs.Result.{IfOk, IfErr, IsErrAnd}
 use Rattle.tj_core.specs.declared.event.Event.{Event}
 use Rattle.tj_core.specs.declared.journal.JournalFault.{JournalFault}
@@ -15,10 +15,6 @@ pub record IsReadTo (bytes rest : List ℕ) (events : List Event) : Type 0 where
   pub good : AreEventLines before events
   pub short : length rest + length events ≤ length bytes
 
-pub read_starts : (bytes : List ℕ) (events : List Event) → events ≡ [] → IsReadTo bytes bytes events
-read_starts bytes events e = subst (IsReadTo bytes bytes) (sym e)
-    (record { before = []; whole = refl; good = tt; short = omega arith })
-
 pub read_on : (bytes rest line after : List ℕ) (events more : List Event) (e : Event)
     → IsReadTo bytes rest events → lines_of rest ≡ line ∷ lines_of after → length after < length rest
     → HasSmallCells e × Names (words_of line) e → more ≡ events ++ e ∷ [] → IsReadTo bytes after more
@@ -29,11 +25,6 @@ read_on bytes rest line after events more e h cut shorter named same = record {
       (event_lines_more h.before events line e h.good named.0 named.1);
   short = let s = h.short in let long = ap length same ∙ length-append events (e ∷ []) in omega arith;
 }
-
-pub read_all : (bytes rest : List ℕ) (events : List Event) → IsReadTo bytes rest events → length rest ≡ 0
-    → AreEventLines (lines_of bytes) events
-read_all bytes [] events h e = subst (λ ls. AreEventLines ls events) (sym (h.whole ∙ append-nil h.before)) h.good
-read_all bytes (b ∷ rest) events h e = absurd (omega arith)
 
 pub read_fault : (bytes rest line after : List ℕ) (events : List Event) (n : ℕ)
     → IsReadTo bytes rest events → lines_of rest ≡ line ∷ lines_of after → ¬ IsEventLine line

@@ -22,12 +22,14 @@ cells_are (c ∷ cs) (n ∷ ns) a b e =
     let r = cells_are cs ns a.1 b.1 rest in cc
 
 -- no event has these words where none with these cells has this word
-pub no_event : (verb : List ℕ) (words : List (List ℕ)) (ns : List ℕ) → AreSmall ns → map decimal ns ≡ words
-    → ((e : Event) → cells_of e ≡ ns → verb_of e ≢ verb) → (e : Event) → HasSmallCells e → ¬ Names (verb ∷ words) e
-no_event verb words ns small same none e cells names =
+pub none_named : (o : Option Event) (verb : List ℕ) (words : List (List ℕ)) (ns : List ℕ)
+    → AreSmall ns → map decimal ns ≡ words → IfNone o ((e : Event) → cells_of e ≡ ns → verb_of e ≢ verb)
+    → IfNone o ((e : Event) → HasSmallCells e → ¬ Names (verb ∷ words) e)
+none_named None verb words ns small same none = λ e cells names.
     let rest : map decimal (cells_of e) ≡ words = cc in
     let name : verb_of e ≡ verb = cc in
     none e (cells_are (cells_of e) ns cells small (rest ∙ sym same)) name
+none_named (Some f) verb words ns small same none = tt
 
 -- a clause of no value, from another
 pub if_none : {A : Type 0} (o : Option A) (P Q : Type 0) → (P → Q) → IfNone o P → IfNone o Q

@@ -8,8 +8,8 @@ use Rattle.tj_core.proofs.judge.alarmed.Goals as goal
 pub loop-other-init : goal.loop-other-init
 loop-other-init c =
     head_said (core_state c.args.core.now).cells c.args.t.0 c.args.loads c.args.others.now _ _ _ _ _ _
-    c.in_ok-line.ensures.items c.in_ok-add_number.ensures c.in_ok-extend_from_slice.ensures.items
-    c.in_ok-add_number-2.ensures c.in_ok-extend_from_slice-2.ensures.items c.in_ok-add_wait.ensures
+    c.in_ok-line.ensures.items c.in_ok-add_number.ensures.ok c.in_ok-extend_from_slice.ensures.items
+    c.in_ok-add_number-2.ensures.ok c.in_ok-extend_from_slice-2.ensures.items c.in_ok-add_wait.ensures
 
 pub loop-other-preserved : goal.loop-other-preserved
 loop-other-preserved c =

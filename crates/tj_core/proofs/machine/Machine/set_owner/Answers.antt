@@ -7,6 +7,4 @@ pub returns-clause-state : goal.returns-clause-state
 returns-clause-state c =
     let m = c.args.self.now in
     ap (λ (os : List (Option ℕ)). state_in m.births.births.items m.births.made.items os m.slots.items m.others
-    m.cleared) c.set.ensures
-    ∙ owner_changed m.births.births.items m.births.made.items m.owners.owners.items m.slots.items m.others m.cleared
-    c.args.c c.args.now c.requires.cell
+    m.cleared) c.set.ensures ∙ owner_changed m c.args.c c.args.now c.requires.cell

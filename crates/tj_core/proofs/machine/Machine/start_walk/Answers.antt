@@ -1,32 +1,15 @@
-use Rattle.std.proofs.Common.{arith, length-set}
 use Rattle.tj_core.specs.CoreState.{waits, walks}
 use Rattle.tj_core.specs.Events.{start_walk}
-use Rattle.tj_core.proofs.Columns.ColumnLists.{rooms_stay, state_changed, loads_set}
+use Rattle.tj_core.proofs.Columns.ColumnLists.{rooms_stay, state_changed}
 use Rattle.tj_core.proofs.machine.Machine.start_walk.Goals as goal
 
-pub invariant_of-self : goal.invariant_of-self
-invariant_of-self c =
-    let m = c.args.self.now in let x = c.index_mut.result.now in let y = c.publish.new.self in let t = c.args.t in
-    let n = length-set m.slots.items t y in let a = m.there in let b = m.all in
-    record {
-      there = omega arith;
-      all = omega arith;
-      owned = m.owned;
-      roomy = rooms_stay m.slots.items t x y c.requires c.index_mut.ensures.value m.births.limit m.roomy
-          c.publish.ensures.room;
-      spares = m.spares;
-      room = m.room;
-    }
+pub invariant_of-self-clause-roomy : goal.invariant_of-self-clause-roomy
+invariant_of-self-clause-roomy c =
+    let m = c.args.self.now in
+    rooms_stay m.slots.items c.args.t c.index_mut.result.now c.publish.new.self c.requires
+    c.index_mut.ensures.value m.births.limit m.roomy c.publish.ensures.room
 
 pub returns-clause-state : goal.returns-clause-state
 returns-clause-state c =
-    let m = c.args.self.now in
-    state_changed m.slots.items c.args.t c.index_mut.result.now c.publish.new.self c.requires c.index_mut.ensures.value
-    m.births.births.items m.births.made.items m.owners.owners.items m.others m.cleared
-    (λ _. waits c.args.cell c.args.way (walks start_walk)) c.publish.ensures.stage
-
-pub returns-clause-loads : goal.returns-clause-loads
-returns-clause-loads c =
-    let m = c.args.self.now in
-    loads_set m.slots.items c.args.t c.index_mut.result.now c.publish.new.self c.requires c.index_mut.ensures.value 0
-    c.publish.ensures.loads
+    state_changed c.args.self.now c.args.t c.index_mut.result.now c.publish.new.self c.requires
+    c.index_mut.ensures.value (λ _. waits c.args.cell c.args.way (walks start_walk)) c.publish.ensures.stage

@@ -1,9 +1,10 @@
-use Rattle.std.proofs.Common.{rules, ◌≡◌, set, List, Result, Ok, Err, OnErr, refl, ap, ◌∙◌, arith, length-set}
+use Rattle.std.proofs.Common.{rules, ◌≡◌, set, List, Result, Ok, Err, OnErr, refl, ap, ◌∙◌, arith}
 use Rattle.tj_core.specs.declared.slot.Slot.{Slot}
+use Rattle.tj_core.specs.Events.{WalksAt}
 use Rattle.tj_core.specs.Inner.Columns.{state_in, loads_in}
 use Rattle.tj_core.specs.Inner.Machine.{state_of, limit_of}
 use Rattle.tj_core.specs.Inner.WalkSteps.{MayStep, stage_by}
-use Rattle.tj_core.proofs.Columns.ColumnLists.{rooms_stay, room_here, walks_here, not_here, state_changed, set_same, none_walks}
+use Rattle.tj_core.proofs.Columns.ColumnLists.{rooms_stay, room_here, shows, state_changed, set_same, none_walks}
 use Rattle.tj_core.proofs.Columns.WalkTurns.{may_step, step_allowed, after_step, step_has_room, step_loads}
 use Rattle.tj_core.proofs.machine.Machine.walk_on.Goals as goal
 
@@ -15,19 +16,11 @@ step-requires c =
     m.births.small
     (room_here m.slots.items t x x (search rules) c.index_mut.ensures.value m.births.limit m.roomy) c.requires
 
-pub invariant_of-self : goal.invariant_of-self
-invariant_of-self c =
-    let m = c.args.self.now in let x = c.index_mut.result.now in let y = c.step.new.self in let t = c.args.t.0 in
-    let n = length-set m.slots.items t y in let a = m.there in let b = m.all in
-    record {
-      there = omega arith;
-      all = omega arith;
-      owned = m.owned;
-      roomy = rooms_stay m.slots.items t x y (search rules) c.index_mut.ensures.value m.births.limit m.roomy
-          c.step.ensures.room;
-      spares = m.spares;
-      room = m.room;
-    }
+pub invariant_of-self-clause-roomy : goal.invariant_of-self-clause-roomy
+invariant_of-self-clause-roomy c =
+    let m = c.args.self.now in
+    rooms_stay m.slots.items c.args.t.0 c.index_mut.result.now c.step.new.self (search rules)
+    c.index_mut.ensures.value m.births.limit m.roomy c.step.ensures.room
 
 -- what holds, holds if there is an error
 if_so : {T E P : Type 0} (r : Result T E) → P → OnErr r P
@@ -40,9 +33,9 @@ returns-in_err-step-clause-err c =
     let same : set m.slots.items t y ≡ m.slots.items = set_same m.slots.items t x y c.index_mut.ensures.value
     c.in_err-step.ensures.err in
     if_so c.from_residual.result (record {
-      illegal = λ a. not_here m.slots.items t x x (search rules) c.index_mut.ensures.value
-          (λ k way w. MayStep t c.args.step way w)
-          c.in_err-step.ensures.illegal (may_step (limit_of m) (state_of m) c.args.t c.args.step a);
+      illegal = λ a. shows m.slots.items t x x (search rules) c.index_mut.ensures.value
+          (λ st. ¬ WalksAt st (λ k. MayStep t c.args.step)) c.in_err-step.ensures.illegal
+          (may_step (limit_of m) (state_of m) c.args.t c.args.step a);
       state = ap (λ (l : List Slot). state_in m.births.births.items m.births.made.items m.owners.owners.items l m.others
           m.cleared) same;
       loads = λ i. ap (λ (l : List Slot). loads_in l i) same;
@@ -53,8 +46,7 @@ pub returns-then-t-len-clause-err : goal.returns-then-t-len-clause-err
 returns-then-t-len-clause-err c =
     let m = c.args.self.now in
     record {
-      illegal = λ a. none_walks m.slots.items c.args.t.0 (λ k way w. MayStep c.args.t.0 c.args.step way w)
-          (search rules)
+      illegal = λ a. none_walks m.slots.items c.args.t.0 (λ k. MayStep c.args.t.0 c.args.step) (search rules)
           (may_step (limit_of m) (state_of m) c.args.t c.args.step a);
       state = refl;
       loads = λ _. refl;
@@ -63,16 +55,14 @@ returns-then-t-len-clause-err c =
 
 pub returns-clause-ok : goal.returns-clause-ok
 returns-clause-ok c =
-    let m = c.args.self.now in let x = c.index_mut.result.now in let y = c.step.new.self in let t = c.args.t.0 in let
-    step = c.args.step in
-    let may = walks_here m.slots.items t x y (search rules) c.index_mut.ensures.value (λ k way w. MayStep t step way w)
-    c.in_ok-step.ensures.allowed in
+    let m = c.args.self.now in let x = c.index_mut.result.now in let y = c.step.new.self in let t = c.args.t.0 in
+    let step = c.args.step in
+    let may = shows m.slots.items t x y (search rules) c.index_mut.ensures.value
+    (λ st. WalksAt st (λ k. MayStep t step)) c.in_ok-step.ensures.allowed in
     record {
       allowed = step_allowed (limit_of m) (state_of m) c.args.t step may;
-      state = state_changed m.slots.items t x y (search rules) c.index_mut.ensures.value m.births.births.items
-          m.births.made.items m.owners.owners.items
-          m.others m.cleared (stage_by step) c.in_ok-step.ensures.stage ∙ after_step (limit_of m) (state_of m) c.args.t
-          step c.requires may;
+      state = state_changed m t x y (search rules) c.index_mut.ensures.value (stage_by step)
+          c.in_ok-step.ensures.stage ∙ after_step (limit_of m) (state_of m) c.args.t step c.requires may;
       loads = step_loads m.slots.items c.args.t x y step (search rules) c.index_mut.ensures.value
           c.in_ok-step.ensures.loads;
       limit = refl;
