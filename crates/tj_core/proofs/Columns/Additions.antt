@@ -111,21 +111,20 @@ module _ (bs : List Birth) (made : List ℕ) (os : List (Option ℕ)) (slots : L
         ∙ (λ j. cond (nat_eq c n) (new_cell t (s.cells t) o st) (old c j)))
 
     pub added : state_in (bs ++ b ∷ []) made' (set os n (Some o)) slots' others cleared ≡ with_new s t o st
-    added = let e : suc (length (bs ++ b ∷ [])) ≡ suc (suc (length bs)) = ap suc
-        (length-append bs (b ∷ []) ∙ omega arith)
-        in
+    added =
+        let e : suc (length (bs ++ b ∷ [])) ≡ suc n = ap suc (length-append bs (b ∷ []) ∙ omega arith) in
         λ j. record { count = e j; cells = λ c. cell_at c j; others = others; cleared = cleared }
 
-    pub added_loads : v.loads ≡ 0 → ((c : ℕ) → loads_in (set slots t y) c ≡ loads_in slots c) → (c : ℕ) → loads_in
-        slots'
-        c ≡ loads_in slots c
-    added_loads z same c = column_snoc (λ slot. slot.loads) (set slots t y) v 0 c
-        ∙ (put_same (loads_in (set slots t y)) (length (set slots t y)) v.loads
-        (column_beyond (λ slot. slot.loads) (set slots t y) (length (set slots t y)) 0 (omega arith) ∙ sym z) c ∙ same
-        c)
+    pub added_loads : v.loads ≡ 0 → ((c : ℕ) → loads_in (set slots t y) c ≡ loads_in slots c)
+        → (c : ℕ) → loads_in slots' c ≡ loads_in slots c
+    added_loads z same c =
+        let l : List Slot = set slots t y in
+        column_snoc (λ slot. slot.loads) l v 0 c ∙ (put_same (loads_in l) (length l) v.loads
+        (column_beyond (λ slot. slot.loads) l (length l) 0 (omega arith) ∙ sym z) c ∙ same c)
 
 -- room stays where a slot with room is added
-pub rooms_more : (n : ℕ) (slots : List Slot) (v : Slot) → HaveRoom n slots → n ≤ trail_room v → HaveRoom n (slots ++ v ∷ [])
+pub rooms_more : (n : ℕ) (slots : List Slot) (v : Slot)
+    → HaveRoom n slots → n ≤ trail_room v → HaveRoom n (slots ++ v ∷ [])
 rooms_more n slots v r h c l =
     let e = length-append slots (v ∷ []) in
     subst (λ i. n ≤ i) (sym (column_snoc trail_room slots v 0 c))
@@ -138,6 +137,7 @@ rooms_less n slots v r = let e = length-append slots (v ∷ []) in (
   (λ c l. subst (λ i. n ≤ i)
       (column_snoc trail_room slots v 0 c ∙ put_else (room_in slots) (length slots) (trail_room v) c (λ q. omega arith))
       (r c (omega arith))),
-  subst (λ i. n ≤ i) (column_snoc trail_room slots v 0 (length slots) ∙ put_here (room_in slots) (length slots) (trail_room v))
+  subst (λ i. n ≤ i)
+      (column_snoc trail_room slots v 0 (length slots) ∙ put_here (room_in slots) (length slots) (trail_room v))
       (r (length slots) (omega arith)),
 )

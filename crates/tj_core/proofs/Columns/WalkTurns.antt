@@ -67,8 +67,8 @@ module _ (N : ℕ) (s : CoreState) (task : CellId) where
   after_step Settle now may = refl
 
   -- a count that is so now is within the trail's room
-  pub step_has_room : (step : WalkStep) (limit room : ℕ) → 0 < s.count → s.count ≤ limit → limit ≤ MAX_CELLS → limit ≤ room
-      → IsSoNow s task.0 step → HasRoom room step
+  pub step_has_room : (step : WalkStep) (limit room : ℕ)
+      → 0 < s.count → s.count ≤ limit → limit ≤ MAX_CELLS → limit ≤ room → IsSoNow s task.0 step → HasRoom room step
   step_has_room (Others n) limit room a b c d now = tt
   step_has_room (Count n) limit room a b c d now = let e : n ≡ s.count = now in (omega arith, omega arith, omega arith)
   step_has_room (Owner o) limit room a b c d now = tt

@@ -179,8 +179,9 @@ module _ (s : CoreState) (x : CoreFacts s) (task : CellId) where
         loads = let a = q.0 in let z = q.1 in (omega arith, omega arith);
         others_read = λ n e. absurd (cc);
       }
-  found_sound c way w u v false h at same = read_more h w.bound (suc w.loads) Changed tt tt
-      (let q = loads_are s t c way w (SawWait u (Some v)) h at in let a = q.0 in (omega arith, q.1)) (λ n e. absurd (cc))
+  found_sound c way w u v false h at same =
+      let q = loads_are s t c way w (SawWait u (Some v)) h at in let a = q.0 in
+      read_more h w.bound (suc w.loads) Changed tt tt (omega arith, q.1) (λ n e. absurd (cc))
 
   -- on a cycle the owner is found unchanged, and isn't the last of the cycle, which is the walker itself
   found_on_course : (n c u v : ℕ) (w : Walker) (b : Bool)
