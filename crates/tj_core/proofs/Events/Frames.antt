@@ -47,28 +47,28 @@ module _ (s s' : CoreState) (f : Frame s s') where
   read_stays Passed h = h
   read_stays Changed h = h
 
+  -- what goes on while the wait of u for w does goes on, or the cell is closed
+  or_closed : (u w : ℕ) (P Q : Type 0) → (P → wait s.cells u ≡ Some w) → (P → wait s'.cells u ≡ Some w → Q)
+      → P ⊎ IsClosed s.count s.cells w → Q ⊎ IsClosed s'.count s'.cells w
+  or_closed u w P Q waits on h = ⊎_elim
+      (λ (p : P). ⊎_elim
+      (λ (e : wait s'.cells u ≡ Some w). inl (on p e))
+      (λ (k : IsClosed s.count s.cells w). inr (f.closes w k))
+      (f.waited u w (waits p)))
+      (λ (k : IsClosed s.count s.cells w). inr (f.closes w k))
+      h
+
   -- who waits waits on, or its cell is closed
   pub waits_on : (u w : ℕ)
       → (wait s.cells u ≡ Some w) ⊎ IsClosed s.count s.cells w
       → (wait s'.cells u ≡ Some w) ⊎ IsClosed s'.count s'.cells w
-  waits_on u w h = ⊎_elim
-      (λ (e : wait s.cells u ≡ Some w). ⊎_elim
-      (λ (e' : wait s'.cells u ≡ Some w). inl e')
-      (λ (k : IsClosed s.count s.cells w). inr (f.closes w k))
-      (f.waited u w e))
-      (λ (k : IsClosed s.count s.cells w). inr (f.closes w k))
-      h
+  waits_on u w h = or_closed u w (wait s.cells u ≡ Some w) (wait s'.cells u ≡ Some w) (λ e. e) (λ _ e. e) h
 
   linked_stays : (c u w : ℕ)
       → IsLinked s.cells c u w ⊎ IsClosed s.count s.cells w
       → IsLinked s'.cells c u w ⊎ IsClosed s'.count s'.cells w
-  linked_stays c u w h = ⊎_elim
-      (λ (l : IsLinked s.cells c u w). ⊎_elim
-      (λ (e : wait s'.cells u ≡ Some w). inl (f.owns c u w l.0 l.1, e))
-      (λ (k : IsClosed s.count s.cells w). inr (f.closes w k))
-      (f.waited u w l.1))
-      (λ (k : IsClosed s.count s.cells w). inr (f.closes w k))
-      h
+  linked_stays c u w h = or_closed u w (IsLinked s.cells c u w) (IsLinked s'.cells c u w)
+      (λ l. l.1) (λ l e. (f.owns c u w l.0 l.1, e)) h
 
   -- a trail stays one
   pub trail_stays : (t p : ℕ) (ls : List TrailLink)

@@ -6,12 +6,10 @@ use Rattle.tj_core.specs.CoreState.{CoreState, root_alone}
 use Rattle.tj_core.specs.Events.{after}
 use Rattle.tj_core.specs.Runs.{AreAllowed, after_all}
 use Rattle.tj_core.specs.WaitGraph.{IsCycle, IsOnCycle}
-use Rattle.tj_core.specs.CoreFacts.{CoreFacts}
 use Rattle.tj_core.specs.RunLaws.{run_to, LegalSettlesAreOffCycles, LegalCyclesStand, LegalAlarmsAreOnCycles}
 use Rattle.tj_core.specs.RunLaws.{LegalCyclesAreWatched, LegalLoadsAreBounded}
-use Rattle.tj_core.proofs.Events.EachEvent.{facts_after_event}
 use Rattle.tj_core.proofs.Events.EventEffects.{event_keeps_cycles}
-use Rattle.tj_core.proofs.Events.LegalRuns.{legal_facts, settles_off_cycles}
+use Rattle.tj_core.proofs.Events.LegalRuns.{kept_by_run, legal_facts, settles_off_cycles}
 use Rattle.tj_core.proofs.Graph.WatchedCycles.{alarms_on_cycles, cycles_watched, loads_bounded}
 
 -- a run in two parts
@@ -33,18 +31,13 @@ legal_settles N before between t p legal =
     subst (λ (z : CoreState). ¬ IsOnCycle z.cells t.0) (sym (after_parts root_alone before (Publish t p ∷ [])))
     (settles_off_cycles N s t p between (legal_facts N before a.0) (a.1.0, b.0) b.1.0)
 
-list_on : (N : ℕ) (s : CoreState) (es : List Event) (tasks : List ℕ)
-    → CoreFacts s → AreAllowed N s es → IsCycle s.cells tasks → IsCycle (after_all s es).cells tasks
-list_on N s [] tasks x a c = c
-list_on N s (e ∷ es) tasks x a c =
-    list_on N (after s e) es tasks (facts_after_event N s e x a.0) a.1 (event_keeps_cycles N s e tasks x a.0 c)
-
 -- in every legal run a standing cycle stands ever after
 pub legal_cycles_stand : LegalCyclesStand
 legal_cycles_stand N es later tasks legal c =
     let a = allowed_parts N root_alone es later legal in
     subst (λ (z : CoreState). IsCycle z.cells tasks) (sym (after_parts root_alone es later))
-    (list_on N (run_to es) later tasks (legal_facts N es a.0) a.1 c)
+    (kept_by_run N (λ z. IsCycle z.cells tasks) (λ s e. event_keeps_cycles N s e tasks) (run_to es) later
+    (legal_facts N es a.0) a.1 c)
 
 -- in every legal run a task that has alarmed is the first of a standing cycle, then and ever after
 pub legal_alarms : LegalAlarmsAreOnCycles

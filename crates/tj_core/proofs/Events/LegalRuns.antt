@@ -3,7 +3,8 @@ use Rattle.std.proofs.Common.{◌≡◌, ℕ, List, [], ◌∷◌, sym, subst, r
 use Rattle.tj_core.specs.declared.event.Event.{Event}
 use Rattle.tj_core.specs.declared.event.Event.TheVariants.{Publish}
 use Rattle.tj_core.specs.CoreState.{walks, waits, CoreState, root_alone, stage}
-use Rattle.tj_core.specs.Events.{after, way_of_wait, start_walk}
+use Rattle.tj_core.specs.Events.{Allowed, after, way_of_wait, start_walk}
+use Rattle.tj_core.specs.WaitGraph.{IsOnCycleOf}
 use Rattle.tj_core.specs.Runs.{AreAllowed, after_all}
 use Rattle.tj_core.specs.EventLaws.{WatchesItsCycle}
 use Rattle.tj_core.specs.Facts.{Watches}
@@ -19,25 +20,22 @@ use Rattle.tj_core.proofs.Events.EventEffects.{event_keeps_watches}
 pub start_facts : StartMeetsFacts
 start_facts = search rules
 
--- after a run of allowed events the facts hold
-pub facts_on : (N : ℕ) (s : CoreState) (es : List Event) → CoreFacts s → AreAllowed N s es → CoreFacts (after_all s es)
-facts_on N s [] x a = x
-facts_on N s (e ∷ es) x a = facts_on N (after s e) es (facts_after_event N s e x a.0) a.1
+-- what each allowed event keeps, a run of them keeps
+pub kept_by_run : (N : ℕ) (P : CoreState → Type 0)
+    → ((s : CoreState) (e : Event) → CoreFacts s → Allowed N s e → P s → P (after s e))
+    → (s : CoreState) (es : List Event) → CoreFacts s → AreAllowed N s es → P s → P (after_all s es)
+kept_by_run N P keeps s [] x a p = p
+kept_by_run N P keeps s (e ∷ es) x a p =
+    kept_by_run N P keeps (after s e) es (facts_after_event N s e x a.0) a.1 (keeps s e x a.0 p)
 
 -- a legal run ends in a state that meets the facts
 pub legal_facts : LegalRunsMeetFacts
-legal_facts N es legal = facts_on N root_alone es start_facts legal
+legal_facts N es legal =
+    kept_by_run N CoreFacts (λ s e x a _. facts_after_event N s e x a) root_alone es start_facts legal start_facts
 
 -- a walk that is on course is open
 pub on_course_open : OnCourseIsOpen
 on_course_open cells n p w on_course ends = off_course cells n p w w.last ends on_course
-
--- a member of a cycle that watches it goes on to watch it
-watched_on : (N t n : ℕ) (s : CoreState) (es : List Event)
-    → CoreFacts s → AreAllowed N s es → WatchesItsCycle s t n → WatchesItsCycle (after_all s es) t n
-watched_on N t n s [] x a h = h
-watched_on N t n s (e ∷ es) x a h =
-    watched_on N t n (after s e) es (facts_after_event N s e x a.0) a.1 (event_keeps_watches N s e t n x a.0 h)
 
 -- a task settles only where no cycle through it stood just after it had published
 pub settles_off_cycles : SettlesOffCycles
@@ -46,15 +44,16 @@ settles_off_cycles N s t p es x a (c, way, w, is, ends) (n, cycle) =
     let y = facts_after_event N s (Publish t p) x a.0 in
     let start = waits p.0 (way_of_wait s t.0 p.0) (walks start_walk) in
     let here : stage z.cells t.0 ≡ start = re_here s t.0 (λ _. start) in
-    let h = watched_on N t.0 n z es y a.1
+    let h = kept_by_run N (λ u. WatchesItsCycle u t.0 n) (λ u e. event_keeps_watches N u e t.0 n) z es y a.1
     (record { on_cycle = cycle; watches = subst (Watches z.cells n) (sym here) tt }) in
     let last = after_all z es in
     off_course last.cells n c w w.last ends (subst (Watches last.cells n) is h.watches)
 
 -- a standing cycle stands for good, with as many tasks
 pub cycles_stand : CyclesStand
-cycles_stand N s [] x a t n c = c
-cycles_stand N s (e ∷ es) x a t n c =
-    let k = kept_by_event N s e x a.0 in
-    cycles_stand N (after s e) es k.0 a.1 t n
-    (cycle_on k.1.0 (after s e) k.1.2.frame t n (cycle_on s k.1.0 k.1.1.frame t n c))
+cycles_stand N s es x a t n c = kept_by_run N (λ u. IsOnCycleOf u.cells t n) one_event s es x a c
+  where
+    one_event : (u : CoreState) (e : Event)
+        → CoreFacts u → Allowed N u e → IsOnCycleOf u.cells t n → IsOnCycleOf (after u e).cells t n
+    one_event u e y b d = let k = kept_by_event N u e y b in
+        cycle_on k.1.0 (after u e) k.1.2.frame t n (cycle_on u k.1.0 k.1.1.frame t n d)
