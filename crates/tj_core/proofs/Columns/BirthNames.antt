@@ -1,11 +1,9 @@
 -- Names as lists of births make them, and the fork order read from their ends.
-use Rattle.std.proofs.Common.{◌≡◌, ℕ, zero, suc, ◌+◌, ◌-◌, ◌<◌, ◌≤◌, Bool, true, false, nat_eq, nat_lt, ◌&&◌, ◌||◌, List, [], ◌∷◌, ◌++◌, length, take, get_or, refl, sym, ap, ◌∙◌, arith}
+use Rattle.std.proofs.Common.{◌≡◌, ℕ, zero, suc, ◌+◌, ◌-◌, ◌<◌, ◌≤◌, Bool, true, false, nat_eq, nat_lt, ◌&&◌, ◌||◌, List, [], ◌∷◌, ◌++◌, length, take, get_or, refl, sym, ap, ◌∙◌, ⊎_elim, arith}
 use Rattle.std.proofs.Math.Seq.{get_or-append_seam}
 use Rattle.std.proofs.Math.ListN.{get_or-append, get_or-eq_default}
 use Rattle.std.proofs.lemmas.List.{length-append, take-append-le, length-take-le}
-use Rattle.std.proofs.lemmas.Bool.{lt-ltb, ltb-true, false_from_ne_true}
-use native.Mathlib.Decide.{ℕ_discrete}
-use mathlib.Core.Logic.{dite}
+use Rattle.std.proofs.lemmas.Bool.{cases_lt, lt-ltb, ltb-true, false_from_ne_true}
 use Rattle.tj_base.specs.ForkOrder.{Name, child, before}
 use Rattle.tj_core.specs.declared.births.Birth.{Birth}
 use Rattle.tj_core.specs.Inner.Births.{names_after, names_of, name_of, birth_at, maker_of, AreBorn}
@@ -95,11 +93,10 @@ pub before-take : (xs ys : Name) (n : ℕ) (v : Bool) → (length xs < length ys
 before-take [] [] n v f g = let h = g (omega arith) in rw h.1 (sym h.0)
 before-take [] (y ∷ ys) n v f g = let h = f (omega arith) in rw h.1 (sym h.0)
 before-take (x ∷ xs) [] n v f g = let h = g (omega arith) in rw h.1 (sym h.0)
-before-take (x ∷ xs) (y ∷ ys) zero v f g = dite (ℕ_discrete (length xs - length ys) 0)
-    (λ e. dite (ℕ_discrete (length ys - length xs) 0)
-    (λ d. let h = (g (omega arith)).1 in absurd (omega arith))
-    (λ d. let h = (f (omega arith)).1 in absurd (omega arith)))
-    (λ d. let h = (g (omega arith)).1 in absurd (omega arith))
+before-take (x ∷ xs) (y ∷ ys) zero v f g = ⊎_elim
+    (λ (l : length xs < length ys). let h = (f (omega arith)).1 in absurd (omega arith))
+    (λ (l : length ys ≤ length xs). let h = (g (omega arith)).1 in absurd (omega arith))
+    (cases_lt (length xs) (length ys))
 before-take (x ∷ xs) (y ∷ ys) (suc n) v f g =
     ap (λ b. nat_lt y x || (nat_eq x y && b)) (before-take xs ys n v
     (λ l. let h = f (omega arith) in (h.0, (let e = h.1 in omega arith)))

@@ -1,6 +1,7 @@
 -- The core state after one slot changes.
 use Rattle.std.proofs.Common.{◌≡◌, ℕ, zero, suc, ◌<◌, ◌≤◌, List, [], ◌∷◌, ◌++◌, length, set, map, get_or, Option, None, refl, sym, ap, ◌∙◌, subst, arith, vec_capacity, length-set}
 use Rattle.std.proofs.lemmas.List.{get_or-set_same, get_or-set_other, set-get_or}
+use Rattle.tj_core.specs.declared.event.Event.{Event}
 use Rattle.tj_core.specs.declared.machine.Machine.{Machine}
 use Rattle.tj_core.specs.declared.slot.Slot.{Slot}
 use Rattle.tj_core.specs.declared.walk.Way.{Way}
@@ -8,11 +9,11 @@ use Rattle.tj_core.specs.declared.walk.Walker.{Walker}
 use Rattle.tj_base.specs.Puts.{put}
 use Rattle.tj_base.proofs.Puts.{at_put, put_here, put_else, put_same}
 use Rattle.tj_core.specs.CoreState.{CellStage, promise, walks, waits, CellState, CoreState, owner, stage}
-use Rattle.tj_core.specs.Events.{WalksAt, restage, staged, walked, alter, owned_by}
+use Rattle.tj_core.specs.Events.{Allowed, WalksAt, restage, staged, walked, alter, owned_by}
 use Rattle.tj_core.specs.Loads.{one_load}
 use Rattle.tj_core.specs.Inner.Slots.{stage_of}
 use Rattle.tj_core.specs.Inner.Columns.{stage_in, loads_in, room_in, HaveRoom, state_in}
-use Rattle.tj_core.specs.Inner.Machine.{state_of}
+use Rattle.tj_core.specs.Inner.Machine.{state_of, limit_of, Refuses}
 use Rattle.tj_core.specs.Inner.Owners.{owner_in}
 
 -- a list with one element changed, read at any index
@@ -112,6 +113,10 @@ at_snoc (x ∷ l) a d (suc j) = at_snoc l a d j ∙ at_put (λ k. get_or l k d) 
 module _ (m : Machine) where
   abbrev s : CoreState
   s = state_of m
+
+  -- where an event isn't allowed and nothing has changed, it is refused
+  pub refused : (e : Event) → ¬ Allowed (limit_of m) s e → Refuses m e m
+  refused e illegal = record { illegal = illegal; state = refl; loads = λ _. refl; limit = refl }
 
   -- the state after the stage of one slot changes
   pub state_changed : (t : ℕ) (x y : Slot) → t < length m.slots.items → x ≡ get_or m.slots.items t x

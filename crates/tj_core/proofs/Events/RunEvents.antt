@@ -1,5 +1,5 @@
 -- The events of a running task keep the facts.
-use Rattle.std.proofs.Common.{◌≡◌, ◌≢◌, ℕ, suc, ◌<◌, Bool, true, false, cond, nat_eq, Option, Some, None, refl, sym, ap}
+use Rattle.std.proofs.Common.{◌≡◌, ◌≢◌, ℕ, suc, ◌<◌, Bool, true, false, Option, Some, None, refl, sym, ap}
 use Rattle.std.proofs.Common.{◌∙◌, subst, arith, eq-eqb, ne_eqb, ◌≤◌, le_refl}
 use mathlib.Core.Logic.{dite}
 use native.Mathlib.Decide.{ℕ_discrete}
@@ -11,7 +11,7 @@ use Rattle.tj_core.specs.CoreState.{CoreState, owner, name, maker, stage, wait_o
 use Rattle.tj_base.specs.Puts.{put}
 use Rattle.tj_core.specs.Events.{Allowed, after, new_cell, staged, owned_by, stage_after_close, raised_by}
 use Rattle.tj_core.specs.CoreFacts.{CoreFacts}
-use Rattle.tj_base.proofs.Puts.{put_here, put_else}
+use Rattle.tj_base.proofs.Puts.{at_put, put_here, put_else}
 use Rattle.tj_core.proofs.Events.Frames.{some_none}
 use Rattle.tj_core.proofs.Graph.Watches.{GoesOn, IsKept}
 use Rattle.tj_core.proofs.Graph.ForkOrders.{task_there}
@@ -182,11 +182,8 @@ module _ (s : CoreState) (x : CoreFacts s) (task : CellId) (runs : Runs (stage s
       by_stage ended e = absurd (no_task (ap is_task e))
 
   twice : {A : Type 0} (f : ℕ → A) (i : ℕ) (a b : A) → put (put f i a) i b ≡ put f i b
-  twice f i a b = λ k j. same (nat_eq j i) a b (f j) k
-    where
-      same : {B : Type 0} (c : Bool) (u v w : B) → cond c v (cond c u w) ≡ cond c v w
-      same true u v w = refl
-      same false u v w = refl
+  twice f i a b = λ k j. at_put (put f i a) i b (λ m x. x ≡ put f i b m) j (sym (put_here f i b))
+      (λ n. put_else f i a j n ∙ sym (put_else f i b j n)) k
 
   -- the state after t has closed p, by whether p is t
   abbrev closed : ℕ → Bool → CoreState

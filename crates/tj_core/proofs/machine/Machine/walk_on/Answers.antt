@@ -3,8 +3,8 @@ use Rattle.tj_core.specs.declared.slot.Slot.{Slot}
 use Rattle.tj_core.specs.Events.{WalksAt}
 use Rattle.tj_core.specs.Inner.Columns.{state_in, loads_in}
 use Rattle.tj_core.specs.Inner.Machine.{state_of, limit_of}
-use Rattle.tj_core.specs.Inner.WalkSteps.{MayStep, stage_by}
-use Rattle.tj_core.proofs.Columns.ColumnLists.{rooms_stay, room_here, shows, state_changed, set_same, none_walks}
+use Rattle.tj_core.specs.Inner.WalkSteps.{event_of, MayStep, stage_by}
+use Rattle.tj_core.proofs.Columns.ColumnLists.{rooms_stay, room_here, shows, state_changed, refused, set_same, none_walks}
 use Rattle.tj_core.proofs.Columns.WalkTurns.{may_step, step_allowed, after_step, step_has_room, step_loads}
 use Rattle.tj_core.proofs.machine.Machine.walk_on.Goals as goal
 
@@ -45,13 +45,9 @@ returns-in_err-step-clause-err c =
 pub returns-then-t-len-clause-err : goal.returns-then-t-len-clause-err
 returns-then-t-len-clause-err c =
     let m = c.args.self.now in
-    record {
-      illegal = λ a. none_walks m.slots.items c.args.t.0 (λ k. MayStep c.args.t.0 c.args.step) (search rules)
-          (may_step (limit_of m) (state_of m) c.args.t c.args.step a);
-      state = refl;
-      loads = λ _. refl;
-      limit = refl;
-    }
+    refused m (event_of c.args.t c.args.step)
+    (λ a. none_walks m.slots.items c.args.t.0 (λ k. MayStep c.args.t.0 c.args.step) (search rules)
+    (may_step (limit_of m) (state_of m) c.args.t c.args.step a))
 
 pub returns-clause-ok : goal.returns-clause-ok
 returns-clause-ok c =
