@@ -20,7 +20,7 @@ use Rattle.tj_mean.proofs.ToldOutcomes.{told_of, told_name, told_owned, told_wai
 use Rattle.tj_words.specs.RestMeaning.{AreWordsOf, AreCyclesOfMeaningAlarmed}
 use Rattle.tj_words.specs.declared.closed.RestCell.{RestCell}
 use Rattle.tj_report.specs.ClosedOutcomes.{AreCyclesOfOutcomeAlarmed}
-use Rattle.tj_report.specs.Inner.ToldRecords.{AreToldInSomeOrder}
+use Rattle.tj_mean.specs.Inner.ToldOrder.{AreToldInSomeOrder}
 
 -- what follows from what holds of an answer holds of it
 pub if_ok : {A E : Type 0} {P Q : A → Type 0} (r : Result A E) → ((x : A) → P x → Q x) → IfOk r P → IfOk r Q

@@ -1,37 +1,33 @@
 -- What is told of the tasks of closed records, slot by slot: it is told of the meaning's histories, in some order.
 use Rattle.std.proofs.Common.{◌≡◌, ◌⊎◌, inl, inr, ℕ, zero, suc, ◌*◌, ◌+◌, ◌<◌, ◌≤◌, Option, Some, None}
 use Rattle.std.proofs.Common.{List, [], ◌∷◌, ◌++◌, map, length, get_or, refl, sym, ap, ◌∙◌, subst, arith}
-use Rattle.std.specs.List.{flat_map}
 use mathlib.Core.Option.{some-injective}
-use Rattle.tj_base.specs.ForkOrder.{Name}
-use Rattle.tj_body.specs.History.{Assignment, history, to_task}
+use Rattle.tj_body.specs.History.{history, to_task}
 use Rattle.tj_body.specs.Laws.{AreDistinct}
 use Rattle.tj_body.specs.Points.{IsIn}
 use Rattle.tj_body.specs.Programs.{Program}
-use Rattle.tj_body.specs.Rounds.{cells_by, given, tasks, cells, last_round, meaning}
+use Rattle.tj_body.specs.Rounds.{tasks, meaning}
 use Rattle.tj_body.specs.declared.point.Point.{Point}
 use Rattle.tj_body.specs.declared.point.PointStage.{PointStage}
 use Rattle.tj_body.specs.declared.point.PointStage.TheVariants as stage
 use Rattle.tj_body.specs.declared.point.Close.TheVariants as close
 use Rattle.tj_body.specs.declared.point.Reference.{Reference}
-use Rattle.tj_body.specs.declared.point.Task.{Task}
-use Rattle.tj_body.proofs.Counts.{is, times, total_append, distinct_of_times}
-use Rattle.tj_body.proofs.Rounds.Families.{same_name}
+use Rattle.tj_body.proofs.Counts.{is}
 use Rattle.tj_body.proofs.Lists.{in_left, in_right, in_either, in_map}
-use Rattle.tj_body.proofs.Rounds.Rises.{once_name}
 use Rattle.tj_mean.specs.Outcomes.{AreTold, ending_of, stopped_of}
 use Rattle.tj_mean.specs.declared.stopped.Stopped.{Stopped}
 use Rattle.tj_mean.proofs.Elements.{some_is}
+use Rattle.tj_mean.proofs.MeaningNames.{meaning_distinct}
 use Rattle.tj_words.specs.RestMeaning.{names, IsPhaseAt, TellsHistory, AreWordsOf, AreRecordsOf}
 use Rattle.tj_words.specs.TreeWords.{IsCell}
 use Rattle.tj_words.specs.declared.closed.RestCell.{RestCell}
 use Rattle.tj_words.specs.declared.phase.Phase.{Phase}
 use Rattle.tj_words.specs.declared.record.Rec.{Rec}
-use Rattle.tj_report.specs.Inner.ToldRecords.{AreToldInSomeOrder}
+use Rattle.tj_mean.specs.Inner.ToldOrder.{AreToldInSomeOrder}
 use Rattle.tj_report.specs.Inner.ToldRecords.{IsRecordBelow, told_by}
 use Rattle.tj_report.proofs.CellPlaces.{name_of, within, cells_apart, elem_of_get, get_of_elem}
 use Rattle.tj_report.proofs.EndedHolds.{meant_holds}
-use Rattle.tj_report.proofs.KeyedLists.{one_of_key, same_permuted, distinct_more}
+use Rattle.tj_mean.proofs.KeyedLists.{one_of_key, same_permuted, distinct_more}
 use Rattle.tj_report.proofs.ToldRecords.{record_told}
 
 map_append : {A C : Type 0} (f : A → C) (xs ys : List A) → map f (xs ++ ys) ≡ map f xs ++ map f ys
@@ -61,29 +57,6 @@ stops born (stage.Closed (close.Done v)) ph h e = absurd (cc)
 stops born (stage.Closed (close.Failed c)) ph h e = absurd (cc)
 
 module _ {B : Type 0} (program : Program B) (N : ℕ) where
-  abbrev last_given : Assignment
-  last_given = given program (last_round N)
-
-  name_times : (U : Assignment) (q : Name) (l : List (Task B))
-      → times q (map (λ (p : Point B). p.name) (map (history program.rules last_given) l))
-      ≤ times q (flat_map (cells_by program.rules U) l)
-  name_times U q [] = omega arith
-  name_times U q (x ∷ xs) =
-      let h = name_times U q xs in
-      let n = ap (λ z. is q z) (same_name program.rules last_given x) in
-      let a = total_append (is q) (history program.rules U x).promises (flat_map (cells_by program.rules U) xs) in
-      omega arith
-
-  -- no two histories of a meaning have one name
-  pub meaning_distinct : AreDistinct (map (λ (p : Point B). p.name) (meaning program N))
-  meaning_distinct = distinct_of_times (map (λ (p : Point B). p.name) (meaning program N))
-      (λ q. let a = name_times (given program (2 * N)) q (tasks program (last_round N)) in
-      let z : suc (2 * N) ≡ last_round N = omega arith in
-      let b = once_name program (last_round N) q in
-      let c = ap (λ k. times q (flat_map (cells_by program.rules (given program (2 * N))) (tasks program k))) z in
-      let d = ap (λ k. times q (cells program k)) z in
-      omega arith)
-
   module _ (records : List (Option (Rec B))) (born : List Reference) where
     abbrev IsOf : ℕ → Point B → Type 0
     IsOf c p = TellsHistory born records c p
@@ -143,7 +116,7 @@ module _ {B : Type 0} (program : Program B) (N : ℕ) where
     same_point : (c : ℕ) (p q : Point B) → IsIn p (meaning program N) → IsIn q (meaning program N) → Of c p
         → Of c q → p ≡ q
     same_point c p q i j h k =
-        one_of_key (λ (x : Point B). x.name) (meaning program N) meaning_distinct p q i j
+        one_of_key (λ (x : Point B). x.name) (meaning program N) (meaning_distinct program N) p q i j
         (ap name_of (some-injective (to_task p.name) (to_task q.name)
         (sym (subst (λ n. IsCell born n (to_task p.name)) h.own h.tells.of)
         ∙ subst (λ n. IsCell born n (to_task q.name)) k.own k.tells.of)))
@@ -199,7 +172,7 @@ module _ {B : Type 0} (program : Program B) (N : ℕ) where
         → AreToldInSomeOrder (meaning program N) ss
     told_all c ss whole t = (
       t.ps,
-      same_permuted (λ (p : Point B). p.name) (meaning program N) t.ps meaning_distinct t.distinct
+      same_permuted (λ (p : Point B). p.name) (meaning program N) t.ps (meaning_distinct program N) t.distinct
           (λ p i. let h = rs.histories p i in
           let l = within born h.0 (to_task p.name) (subst (λ n. IsCell born n (to_task p.name)) h.1.own h.1.tells.of) in
           let n = w.named.all in

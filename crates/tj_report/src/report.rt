@@ -1,7 +1,6 @@
 //! The report of an outcome: lines for each task in turn, a line for each cycle, and a last line.
 //! Each function adds its part to the text.
 ghost use Rattle.std.specs.Prelude.{◌≡◌, ◌++◌, codes, IfOk};
-ghost use Rattle.std.specs.Fmt.{signed_decimal};
 ghost use Rattle.std.specs.List.{flat_map, join_by};
 ghost use Rattle.tj_base.specs.Texts.{name_text};
 ghost use Rattle.tj_report.specs.ReportTexts.{shown_text, cause_text, ending_text, print_line};
@@ -9,9 +8,8 @@ ghost use Rattle.tj_report.specs.ReportTexts.{owes_line, task_lines, link_text, 
 ghost use Rattle.tj_report.specs.ReportTexts.{verdict_line};
 ghost use Rattle.tj_mean.specs.Outcomes.{is_marked};
 
-use itoa::Buffer;
 use std::alloc::Global;
-use tj_base::{Cause, Name, Oom, Shown};
+use tj_base::{Cause, Name, Oom, Shown, add_signed};
 use tj_mean::{Ending, Link, Outcome, TaskLine, marked};
 
 /// The report of the outcome.
@@ -68,17 +66,8 @@ fn add_print(name: &[u8], number: i64, text: &mut Vec<u8>) -> Result<(), Oom>
 {
     text.extend_from_slice(name)?;
     text.extend_from_slice(b" prints ")?;
-    add_number(number, text)?;
+    add_signed(text, number)?;
     text.push(b'\n')?;
-    Ok(())
-}
-
-/// Adds a number in decimal.
-fn add_number(number: i64, text: &mut Vec<u8>) -> Result<(), Oom>
-    ensures { IfOk result (λ _. text.new.items ≡ text.old.items ++ signed_decimal number) }
-{
-    let mut buffer = Buffer::new();
-    text.extend_from_slice(buffer.format(number).as_bytes())?;
     Ok(())
 }
 
@@ -104,7 +93,7 @@ pub fn add_shown(alloc: Global, value: &Shown, text: &mut Vec<u8>) -> Result<(),
     ensures { IfOk result (λ _. text.new.items ≡ text.old.items ++ shown_text value.now) }
 {
     match value {
-        Shown::Num(number) => add_number(*number, text),
+        Shown::Num(number) => add_signed(text, *number),
         Shown::Ref(cell) => add_named(alloc, b"@", cell, text),
     }
 }

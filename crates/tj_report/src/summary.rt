@@ -5,9 +5,8 @@ ghost use Rattle.std.specs.List.{sum_by};
 ghost use Rattle.tj_report.specs.SummaryTexts as spec;
 
 use crate::report::{add_shown, add_verdict};
-use itoa::Buffer;
 use std::alloc::Global;
-use tj_base::Oom;
+use tj_base::{Oom, add_number};
 use tj_mean::{Ending, Outcome, TaskLine};
 
 /// How many tasks there are of each kind.
@@ -38,10 +37,8 @@ pub fn summary_text(alloc: Global, size: u32, o: &Outcome) -> Result<Vec<u8>, Oo
 fn add_count(word: &[u8], count: u128, text: &mut Vec<u8>) -> Result<(), Oom>
     ensures { IfOk result (λ _. text.new.items ≡ text.old.items ++ (word.now ++ decimal count)) }
 {
-    let mut buffer = Buffer::new();
     text.extend_from_slice(word)?;
-    text.extend_from_slice(buffer.format(count).as_bytes())?;
-    Ok(())
+    add_number(text, count)
 }
 
 /// Adds how many tasks there are, and how many of each kind.

@@ -1,7 +1,6 @@
 -- What is told of a task by its record, over the names of the cells.
 use Rattle.std.specs.Prelude.{◌≡◌, ℕ, List, map, drop, Option, Some, None, slice_get}
 use Rattle.std.specs.List.{AllByRecursion}
-use Rattle.std.specs.List.Sorted.{IsPermutation}
 use Rattle.std.specs.Option.{option_map}
 use Rattle.tj_base.specs.ForkOrder.{Name}
 use Rattle.tj_base.specs.declared.cause.Cause.{Cause}
@@ -12,7 +11,6 @@ use Rattle.tj_body.specs.Names.{in_order}
 use Rattle.tj_body.specs.declared.ask.Answer.{Answer}
 use Rattle.tj_body.specs.declared.ask.Answer.TheVariants as answer
 use Rattle.tj_body.specs.declared.point.Point.{Point}
-use Rattle.tj_mean.specs.Outcomes.{AreTold}
 use Rattle.tj_mean.specs.declared.outcome.Ending.{Ending}
 use Rattle.tj_mean.specs.declared.outcome.Ending.TheVariants as ending
 use Rattle.tj_mean.specs.declared.stopped.Stopped.{Stopped}
@@ -107,7 +105,3 @@ module _ (n : ℕ) where
     pub owned : AllByRecursion (IsBelow n) r.owned
     pub owed : AllByRecursion (IsBelow n) r.owed
     pub stops : IsEndBelow r.finish r.answer r.held
-
--- this is told of the histories, in some order
-abbrev pub AreToldInSomeOrder : {B : Type 0} → List (Point B) → List Stopped → Type 0
-AreToldInSomeOrder {B} ps ss = (qs : List (Point B)) × IsPermutation ps qs × AreTold qs ss
