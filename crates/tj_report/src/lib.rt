@@ -6,6 +6,7 @@ mod closed_outcome;
 #[cfg(test)]
 mod plan_tests;
 mod report;
+mod shown_names;
 mod summary;
 #[cfg(test)]
 mod tests;

@@ -4,10 +4,11 @@ ghost use Rattle.std.specs.Prelude.{◌≡◌, ◌++◌, codes, IfOk};
 ghost use Rattle.std.specs.List.{flat_map, join_by};
 ghost use Rattle.tj_base.specs.Texts.{name_text};
 ghost use Rattle.tj_report.specs.ReportTexts.{shown_text, cause_text, ending_text, print_line};
-ghost use Rattle.tj_report.specs.ReportTexts.{owes_line, task_lines, link_text, alarm_line, report};
+ghost use Rattle.tj_report.specs.ReportTexts.{owes_line, lines_of, link_text, alarm_line, report};
 ghost use Rattle.tj_report.specs.ReportTexts.{verdict_line};
 ghost use Rattle.tj_mean.specs.Outcomes.{is_marked};
 
+use crate::shown_names::go_to;
 use std::alloc::Global;
 use tj_base::{Cause, Name, Oom, Shown, add_signed};
 use tj_mean::{Ending, Link, Outcome, TaskLine, marked};
@@ -17,8 +18,12 @@ pub fn report_text(alloc: Global, o: &Outcome) -> Result<Vec<u8>, Oom>
     ensures { IfOk result (λ text. text.items ≡ report o.now) }
 {
     let mut text = Vec::new(alloc);
+    let mut name = Vec::from_slice(alloc, b"0")?;
+    let mut shown: &[u32] = &[];
     for line in o.lines.items() {
-        add_task(alloc, line, &mut text)?;
+        go_to(shown, line.name.parts(), &mut name)?;
+        shown = line.name.parts();
+        add_task(alloc, name.as_slice(), line, &mut text)?;
     }
     for links in o.cycles.items() {
         add_alarm(alloc, links.items(), &mut text)?;
@@ -36,17 +41,15 @@ pub fn add_verdict(o: &Outcome, text: &mut Vec<u8>) -> Result<(), Oom>
     Ok(())
 }
 
-/// Adds the lines of a task.
-fn add_task(alloc: Global, line: &TaskLine, text: &mut Vec<u8>) -> Result<(), Oom>
-    ensures { IfOk result (λ _. text.new.items ≡ text.old.items ++ task_lines line.now) }
+/// Adds the lines of the task with this printed name.
+fn add_task(alloc: Global, name: &[u8], line: &TaskLine, text: &mut Vec<u8>) -> Result<(), Oom>
+    ensures { IfOk result (λ _. text.new.items ≡ text.old.items ++ lines_of name.now line.now) }
 {
-    let mut name = Vec::new(alloc);
-    line.name.text_into(alloc, &mut name)?;
-    add_prints(name.as_slice(), line.prints.items(), text)?;
-    text.extend_from_slice(name.as_slice())?;
+    add_prints(name, line.prints.items(), text)?;
+    text.extend_from_slice(name)?;
     add_ending(alloc, &line.ending, text)?;
     text.push(b'\n')?;
-    add_owed(alloc, name.as_slice(), line.owes.items(), text)
+    add_owed(alloc, name, line.owes.items(), text)
 }
 
 /// Adds a line for each number that the task with this printed name has printed.

@@ -1,10 +1,13 @@
 use Rattle.std.proofs.Common.{◌≡◌, ◌++◌, take}
 use Rattle.std.specs.List.{flat_map}
+use Rattle.tj_base.specs.Texts.{name_text}
 use Rattle.tj_report.specs.ReportTexts.{task_lines, alarm_line}
 use Rattle.tj_report.proofs.report.report_text.Given as goal
 
+-- the lines so far, and the printed name of the last task
 abbrev pub invariant-loop-line : goal.invariant-loop-line
-invariant-loop-line l = l.text.items ≡ flat_map task_lines (take l.line-index l.o.lines)
+invariant-loop-line l =
+    (l.text.items ≡ flat_map task_lines (take l.line-index l.o.lines)) × (l.name.items ≡ name_text l.shown)
 
 abbrev pub invariant-loop-links : goal.invariant-loop-links
 invariant-loop-links l =

@@ -1,0 +1,40 @@
+-- A printed name from which the last number is cut, and to which numbers are added.
+use Rattle.std.proofs.Common.{◌≡◌, ◌<◌, ℕ, suc, List, [], ◌∷◌, ◌++◌, ◌-◌, ◌+◌, length, take, drop, get_or, decimal}
+use Rattle.std.proofs.Common.{arith, refl, sym, ap, ◌∙◌, append_assoc}
+use Rattle.std.proofs.Math.Seq.{take-append_seam}
+use Rattle.std.proofs.lemmas.List.{take_more, take-append-drop, append-nil, length-append}
+use Rattle.tj_base.specs.Texts.{name_text, part_text, parts_text}
+
+-- the text of numbers one after the other
+pub parts_append : (xs ys : List ℕ) → parts_text (xs ++ ys) ≡ parts_text xs ++ parts_text ys
+parts_append [] ys = refl
+parts_append (x ∷ xs) ys = ap (λ z. part_text x ++ z) (parts_append xs ys)
+    ∙ sym (append_assoc (part_text x) (parts_text xs) (parts_text ys))
+
+-- the last number stands after the name without it
+last_part : (name : List ℕ) (n : ℕ) → n < length name
+    → name_text (take (n + 1) name) ≡ name_text (take n name) ++ part_text (get_or name n 0)
+last_part name n within = let x = get_or name n 0 in
+    ap name_text (take_more name n 0 within)
+    ∙ ap (λ z. 48 ∷ z) (parts_append (take n name) (x ∷ [])
+    ∙ ap (λ z. parts_text (take n name) ++ z) (append-nil (part_text x)))
+
+-- where the last number is cut from a text with its dot, the text before stays
+cut_part : (t p : List ℕ) (x left : ℕ) → t ≡ p ++ part_text x → left ≡ length t - length (decimal x) - 1
+    → take left t ≡ p
+cut_part t p x left whole cut =
+    let sizes : length t ≡ length p + suc (length (decimal x)) = ap length whole ∙ length-append p (part_text x) in
+    let at : left ≡ length p = omega arith in
+    ap (λ z. take z t) at ∙ ap (λ z. take (length p) z) whole ∙ take-append_seam p (part_text x)
+
+-- the name without its last number
+pub cut_last : (name : List ℕ) (n left : ℕ) (t : List ℕ) → n < length name → t ≡ name_text (take (n + 1) name)
+    → left ≡ length t - length (decimal (get_or name n 0)) - 1 → take left t ≡ name_text (take n name)
+cut_last name n left t within whole cut =
+    cut_part t (name_text (take n name)) (get_or name n 0) left (whole ∙ last_part name n within) cut
+
+-- a name that goes on from numbers that are another one's first
+pub goes_on : (a b : List ℕ) (n : ℕ) → take n a ≡ take n b
+    → name_text (take n a) ++ parts_text (drop n b) ≡ name_text b
+goes_on a b n same = ap (λ z. name_text z ++ parts_text (drop n b)) same
+    ∙ ap (λ z. 48 ∷ z) (sym (parts_append (take n b) (drop n b)) ∙ ap parts_text (take-append-drop n b))
