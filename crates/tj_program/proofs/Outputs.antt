@@ -20,7 +20,7 @@ use Rattle.tj_ports.specs.declared.source.ReadEnd.{ReadEnd}
 use Rattle.tj_program.specs.Generated.{IsGenerated, generated_script}
 use Rattle.tj_program.specs.Inner.Inputs.{IsReadOf, HasRead}
 use Rattle.tj_program.specs.Judgings.{IsJudging, IsJournalFault, too_long as journal_too_long}
-use Rattle.tj_program.specs.Output.{IsCommandOutput, IsRefused, reads}
+use Rattle.tj_program.specs.Output.{IsCommandOutput, IsRefused, takes_input}
 use Rattle.tj_program.specs.declared.command.Command.{Command}
 use Rattle.tj_program.specs.Runs.{Start, IsStartOf, status_of, text_of, NeedsMore, IsOutcomeOf, IsRunOf, full, ended}
 use Rattle.tj_program.specs.ScriptTexts.{most_bytes, IsScriptOf, IsFirstFault, IsMemory, fault_line, too_long, in_tokens, in_grammar}
@@ -162,7 +162,7 @@ Gives command end r = IfOk r (λ output. (all : List ℕ) → HasRead command al
     → IsCommandOutput command all output.status output.text.items)
 
 pub as_command : (command given : Command) (end : ReadEnd) (r : Result Output Oom) → command ≡ given
-    → reads given ≡ true → IfOk r (λ output. (all : List ℕ) → IsReadOf all end
+    → takes_input given ≡ true → IfOk r (λ output. (all : List ℕ) → IsReadOf all end
     → IsCommandOutput given all output.status output.text.items) → Gives command end r
 as_command command given end r is does out =
     subst (λ k. Gives k end r) (sym is) (if_ok r (λ output of_read all read. of_read all (read does)) out)

@@ -76,16 +76,16 @@ pub data IsOutput (words : List (String Global)) (input : List ℕ) : Status →
   of_command : {status : Status} {text : List ℕ} (command : Command) → IsCommand words command
       → IsCommandOutput command input status text → IsOutput words input status text
 
--- whether a command reads the input
-abbrev pub reads : Command → Bool
-reads (Run workers cells steps strict) = true
-reads (Plan cells steps strict) = true
-reads list = true
-reads (Judge cells) = true
-reads (Gen size workers cells steps) = false
-reads (Known cells steps) = true
-reads (Watch workers cells steps) = true
+-- whether a command takes the input
+abbrev pub takes_input : Command → Bool
+takes_input (Run workers cells steps strict) = true
+takes_input (Plan cells steps strict) = true
+takes_input list = true
+takes_input (Judge cells) = true
+takes_input (Gen size workers cells steps) = false
+takes_input (Known cells steps) = true
+takes_input (Watch workers cells steps) = true
 
--- the words are a command that reads the input
-abbrev pub ReadInput : List (String Global) → Type 0
-ReadInput words = (command : Command) × IsCommand words command × (reads command ≡ true)
+-- the words are a command that takes the input
+abbrev pub TakesInput : List (String Global) → Type 0
+TakesInput words = (command : Command) × IsCommand words command × (takes_input command ≡ true)

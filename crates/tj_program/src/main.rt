@@ -27,7 +27,6 @@ mod root_lines;
 mod row_tests;
 #[cfg(test)]
 mod rule_tests;
-mod run;
 mod script_run;
 mod script_text;
 #[cfg(test)]
@@ -35,6 +34,7 @@ mod shy_tests;
 mod status;
 #[cfg(test)]
 mod tests;
+mod top_call;
 mod watch_runs;
 #[cfg(test)]
 mod watch_tests;

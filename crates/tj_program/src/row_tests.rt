@@ -1,8 +1,8 @@
 //! Worked rows: what the program writes and answers for words and an input, by hand from the
 //! rules.
-use crate::run::run_words;
 use crate::status::Status;
 use crate::tests::{THREE, words_of};
+use crate::top_call::run_words;
 use std::process::Abort;
 use std::sync::Wait;
 use std::test::Fail;

@@ -4,8 +4,8 @@ ghost use Rattle.tj_ports.specs.Memory.{SurelyTakes};
 ghost use Rattle.tj_program.specs.CommandLine.{HasNoForm};
 ghost use Rattle.tj_program.specs.Texts.{usage_line};
 
-use crate::run::run_words;
 use crate::status::Status;
+use crate::top_call::run_words;
 use std::alloc::{AllocError, Global};
 use std::process::Abort;
 use std::sync::Wait;

@@ -2,15 +2,15 @@
 ghost use Rattle.std.specs.Prelude.{ℕ, ◌≡◌, Some};
 ghost use Rattle.tj_ports.specs.Faults.{HasNoFault};
 ghost use Rattle.tj_program.specs.Delivery.{IsAnswered, IsPutAs};
-ghost use Rattle.tj_program.specs.Output.{ReadInput};
+ghost use Rattle.tj_program.specs.Output.{TakesInput};
 ghost use Rattle.tj_program.specs.Texts.{usage_line};
 ghost use Rattle.std.specs.Prelude.{List, String};
 ghost use Rattle.std.specs.declared.vec.Vec.{Vec};
 ghost use Rattle.std.specs.declared.alloc.Global.{Global};
 
 use crate::fault_lines::USAGE_LINE;
-use crate::run::{put_text, run_words};
 use crate::status::Status;
+use crate::top_call::{put_text, run_words};
 use std::alloc::Global;
 use std::env;
 use std::io::ErrorKind;
@@ -55,9 +55,9 @@ pub fn run_given<S: Source, K: Sink, G: Gate, R: Wait + Threads + Sync>(
     // memory is wanting.
     ensures words { (words : Vec (String Global) Global) (input held : List ℕ)
         → given ≡ Given.Words words
-        → (ReadInput words.items → S.left source.old ≡ Some input)
+        → (TakesInput words.items → S.left source.old ≡ Some input)
         → K.held sink.old ≡ Some held
-        → (ReadInput words.items → HasNoFault (S.faults source.old) (S.faults source.new))
+        → (TakesInput words.items → HasNoFault (S.faults source.old) (S.faults source.new))
         → HasNoFault (K.faults sink.old) (K.faults sink.new)
         → IsAnswered words.items input held result (K.held sink.new) }
 

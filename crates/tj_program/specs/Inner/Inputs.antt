@@ -2,7 +2,7 @@
 use Rattle.std.specs.Prelude.{ℕ, ◌≡◌, true, List}
 use Rattle.tj_ports.specs.declared.source.ReadEnd.{ReadEnd}
 use Rattle.tj_ports.specs.Reading.{read_of}
-use Rattle.tj_program.specs.Output.{reads}
+use Rattle.tj_program.specs.Output.{takes_input}
 use Rattle.tj_program.specs.ScriptTexts.{most_bytes}
 use Rattle.tj_program.specs.declared.command.Command.{Command}
 
@@ -10,6 +10,6 @@ use Rattle.tj_program.specs.declared.command.Command.{Command}
 abbrev pub IsReadOf : (input : List ℕ) → ReadEnd → Type 0
 IsReadOf input end = end ≡ read_of most_bytes input
 
--- the command has read this of the input, if it reads it at all
+-- the command has read this of the input, if it takes_input it at all
 abbrev pub HasRead : Command → (input : List ℕ) → ReadEnd → Type 0
-HasRead command input end = reads command ≡ true → IsReadOf input end
+HasRead command input end = takes_input command ≡ true → IsReadOf input end

@@ -1,6 +1,6 @@
 use Rattle.std.proofs.Common.{◌≡◌, ◌∙◌, true, None, refl, subst, sym}
 use Rattle.std.proofs.lemmas.Bool.{false≢true}
-use Rattle.tj_program.specs.Output.{reads}
+use Rattle.tj_program.specs.Output.{takes_input}
 use Rattle.tj_program.proofs.ClosedRuns.{alone, IsGiven-alone, IsGiven-gen, IsGiven-report, IsGiven-watch}
 use Rattle.tj_program.proofs.Outputs.{if_ok}
 use Rattle.tj_program.proofs.mode_outputs.given_by.Goals as goal
@@ -8,7 +8,7 @@ use Rattle.tj_program.proofs.mode_outputs.given_by.Goals as goal
 pub returns-in-Run : goal.returns-in-Run
 returns-in-Run g c = if_ok c.report_by_workers.result (λ given ran all read.
     IsGiven-report c.args.command c.in-Run.workers c.in-Run.cells c.in-Run.steps c.in-Run.strict all _ _ _ c.in-Run.is
-    (ran all (read (subst (λ k. reads k ≡ true) (sym c.in-Run.is) refl)))) c.report_by_workers.ensures
+    (ran all (read (subst (λ k. takes_input k ≡ true) (sym c.in-Run.is) refl)))) c.report_by_workers.ensures
 
 pub returns-in-Gen : goal.returns-in-Gen
 returns-in-Gen g c = if_ok c.summary_by_workers.result (λ given ran all read.
@@ -18,7 +18,7 @@ returns-in-Gen g c = if_ok c.summary_by_workers.result (λ given ran all read.
 pub returns-in-Watch : goal.returns-in-Watch
 returns-in-Watch g c = if_ok c.watch_by_workers.result (λ given ran all read.
     IsGiven-watch c.args.command c.in-Watch.workers c.in-Watch.cells c.in-Watch.steps all _ _ _ c.in-Watch.is
-    (ran all (read (subst (λ k. reads k ≡ true) (sym c.in-Watch.is) refl)))) c.watch_by_workers.ensures
+    (ran all (read (subst (λ k. takes_input k ≡ true) (sym c.in-Watch.is) refl)))) c.watch_by_workers.ensures
 
 pub returns-in_ok-output_of-in-Plan : goal.returns-in_ok-output_of-in-Plan
 returns-in_ok-output_of-in-Plan g c = λ all read.

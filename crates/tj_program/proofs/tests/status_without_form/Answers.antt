@@ -2,14 +2,14 @@ use Rattle.std.proofs.Common.{◌≡◌, ◌≢◌, ◌≤◌, ◌⊎◌, inl, i
 use Rattle.std.specs.declared.alloc.Global.{Global}
 use Rattle.tj_program.specs.CommandLine.{HasNoForm}
 use Rattle.tj_program.specs.Delivery.{HasText}
-use Rattle.tj_program.specs.Output.{ReadInput, usage}
+use Rattle.tj_program.specs.Output.{TakesInput, usage}
 use Rattle.tj_program.specs.Texts.{usage_line}
 use Rattle.tj_program.specs.declared.status.Status.{Status}
 use Rattle.tj_program.specs.declared.status.Status.TheVariants.{Clean, Marked, Usage, Script, Full, ReadFault, WriteFault, Memory}
 use Rattle.tj_program.proofs.tests.status_without_form.Goals as goal
 
 settled : (words : List (String Global)) (answer : Status) → HasNoForm words → answer ≢ WriteFault
-    → (answer ≡ ReadFault → ReadInput words) → (HasText answer → answer ≡ Usage)
+    → (answer ≡ ReadFault → TakesInput words) → (HasText answer → answer ≡ Usage)
     → (answer ≡ Usage) ⊎ (answer ≡ Memory)
 settled words Clean formless write read text = inl (text tt)
 settled words Marked formless write read text = inl (text tt)

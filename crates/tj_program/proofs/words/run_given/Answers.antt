@@ -1,6 +1,6 @@
 use Rattle.std.proofs.Common.{◌≡◌, ◌∙◌, ap, subst, sym}
 use Rattle.tj_program.specs.Delivery.{IsAnswered}
-use Rattle.tj_program.specs.Output.{ReadInput}
+use Rattle.tj_program.specs.Output.{TakesInput}
 use Rattle.tj_program.specs.declared.words.Given.TheVariants.{Words}
 use Rattle.tj_program.proofs.words.run_given.Goals as goal
 
@@ -10,5 +10,5 @@ returns-in-Words-clause-words g c = λ words input held given told holds none_re
     let same : c.in-Words.words ≡ words = cc in
     let seen : c.as_slice.result.now ≡ words.items = c.as_slice.ensures.value ∙ ap (λ w. w.items) same in
     subst (λ ws. IsAnswered ws input held c.run_words-status.result.0 (g.K.Sink.held c.run_words-status.new.sink)) seen
-    (c.run_words-status.ensures.output input held (λ read. told (subst ReadInput seen read)) holds
-    (λ read. none_read (subst ReadInput seen read)) none_put)
+    (c.run_words-status.ensures.output input held (λ read. told (subst TakesInput seen read)) holds
+    (λ read. none_read (subst TakesInput seen read)) none_put)

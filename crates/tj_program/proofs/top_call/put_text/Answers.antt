@@ -1,6 +1,6 @@
 use Rattle.std.proofs.Common.{inr, refl, ◌≤◌, length, arith}
 use Rattle.std.proofs.lemmas.Bool.{false≢true}
-use Rattle.tj_program.proofs.run.put_text.Goals as goal
+use Rattle.tj_program.proofs.top_call.put_text.Goals as goal
 
 pub returns-in-Err-clause-put : goal.returns-in-Err-clause-put
 returns-in-Err-clause-put g c = inr (

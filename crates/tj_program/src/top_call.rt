@@ -17,7 +17,7 @@ ghost use Rattle.tj_program.specs.Texts.{usage_line};
 ghost use Rattle.tj_program.specs.Inner.ClosedOutputs.{AreWith, IsPutWith};
 ghost use Rattle.tj_program.specs.Inner.Inputs.{HasRead};
 ghost use Rattle.tj_program.specs.KnownRuns.{KnownJoinsOfMeaningAreAlong};
-ghost use Rattle.tj_program.specs.Output.{IsOutput, IsStart, ReadInput, reads};
+ghost use Rattle.tj_program.specs.Output.{IsOutput, IsStart, TakesInput, takes_input};
 ghost use Rattle.tj_program.specs.Runs.{Start};
 ghost use Rattle.tj_program.specs.Delivery.{HasText, IsAnswered, IsOutputPart, IsPutAs, IsAnswerPut};
 
@@ -47,20 +47,20 @@ pub fn run_words<S: Source, K: Sink, G: Gate, R: Wait + Threads + Sync>(
 ) -> (Status, Option<Closed>)
     // Where the ports tell their bytes and don't fail, the sink grows by the output, or memory is
     // wanting. What isn't read needs no telling.
-    ensures output { (input held : List ℕ) → (ReadInput words.now → S.left source.old ≡ Some input)
+    ensures output { (input held : List ℕ) → (TakesInput words.now → S.left source.old ≡ Some input)
         → K.held sink.old ≡ Some held
-        → (ReadInput words.now → HasNoFault (S.faults source.old) (S.faults source.new))
+        → (TakesInput words.now → HasNoFault (S.faults source.old) (S.faults source.new))
         → HasNoFault (K.faults sink.old) (K.faults sink.new)
         → IsAnswered words.now input held result.0 (K.held sink.new) }
 
     // A status that belongs to a text comes only where that text is the output, put whole.
-    ensures whole { (input : List ℕ) → (ReadInput words.now → S.left source.old ≡ Some input)
+    ensures whole { (input : List ℕ) → (TakesInput words.now → S.left source.old ≡ Some input)
         → HasText result.0 → (text : List ℕ) × IsOutput words.now input result.0 text
         × Appends (K.held sink.old) (K.held sink.new) text }
 
     // So where words and input have an output, its status is the one, and its text was put.
     ensures exact { (input text : List ℕ) (status : Status)
-        → (ReadInput words.now → S.left source.old ≡ Some input)
+        → (TakesInput words.now → S.left source.old ≡ Some input)
         → IsOutput words.now input status text → HasText result.0
         → (result.0 ≡ status) × Appends (K.held sink.old) (K.held sink.new) text }
 
@@ -70,26 +70,26 @@ pub fn run_words<S: Source, K: Sink, G: Gate, R: Wait + Threads + Sync>(
         × Appends (K.held sink.old) (K.held sink.new) text }
 
     // The whole input was taken, or one byte more than a script may have.
-    ensures taken { (input : List ℕ) → S.left source.old ≡ Some input → ReadInput words.now
+    ensures taken { (input : List ℕ) → S.left source.old ≡ Some input → TakesInput words.now
         → HasText result.0
         → S.left source.new ≡ Some (drop (suc most_bytes) input) }
 
     // Each other answer has its cause.
     ensures usage { result.0 ≡ Status.Usage → HasNoForm words.now
         × Appends (K.held sink.old) (K.held sink.new) usage_line }
-    ensures untouched { (ReadInput words.now → ⊥) → source.new ≡ source.old }
-    ensures read_fault { result.0 ≡ Status.ReadFault → ReadInput words.now
+    ensures untouched { (TakesInput words.now → ⊥) → source.new ≡ source.old }
+    ensures read_fault { result.0 ≡ Status.ReadFault → TakesInput words.now
         × HasFault (S.faults source.old) (S.faults source.new) }
     ensures unwritten { result.0 ≡ Status.ReadFault → sink.new ≡ sink.old }
     ensures write_fault { result.0 ≡ Status.WriteFault
         → HasFault (K.faults sink.old) (K.faults sink.new) }
     ensures part { result.0 ≡ Status.WriteFault → (input : List ℕ)
-        → (ReadInput words.now → S.left source.old ≡ Some input)
+        → (TakesInput words.now → S.left source.old ≡ Some input)
         → IsOutputPart words.now input (K.held sink.old) (K.held sink.new) }
 
     // Where the sink doesn't fail and has room for the output, no write fails.
     ensures fits { (room : ℕ) (input text : List ℕ) (status : Status) → K.has_room sink.old room
-        → (ReadInput words.now → S.left source.old ≡ Some input)
+        → (TakesInput words.now → S.left source.old ≡ Some input)
         → IsOutput words.now input status text → length text ≤ room
         → result.0 ≢ Status.WriteFault }
 
@@ -121,7 +121,7 @@ pub fn run_words<S: Source, K: Sink, G: Gate, R: Wait + Threads + Sync>(
 
     // They are of the run that the status and the text tell. Each cycle of its outcome has a member
     // that has alarmed.
-    ensures closed { (input : List ℕ) → (ReadInput words.now → S.left source.old ≡ Some input)
+    ensures closed { (input : List ℕ) → (TakesInput words.now → S.left source.old ≡ Some input)
         → IfSome result.1 (IsClosedRunOf words.now input (K.held sink.old) (K.held sink.new)
         result.0) }
 
@@ -144,7 +144,7 @@ pub fn run_words<S: Source, K: Sink, G: Gate, R: Wait + Threads + Sync>(
     }
 }
 
-// What a command reads of its input: all of it, or nothing.
+// What a command takes_input of its input: all of it, or nothing.
 fn input_of<S: Source>(
     alloc: Global,
     command: Command,
@@ -153,10 +153,10 @@ fn input_of<S: Source>(
     ensures read { (all : List ℕ) → S.left source.old ≡ Some all
         → IfOk result (HasRead command all) }
     ensures within { IfOk result (IsWithin most_bytes) }
-    ensures rest { reads command ≡ true → (all : List ℕ) → S.left source.old ≡ Some all
+    ensures rest { takes_input command ≡ true → (all : List ℕ) → S.left source.old ≡ Some all
         → OnOk result (S.left source.new ≡ Some (drop (suc most_bytes) all)) }
-    ensures untouched { reads command ≡ false → source.new ≡ source.old }
-    ensures failed { result ≡ Err ReadFault.Failed → (reads command ≡ true)
+    ensures untouched { takes_input command ≡ false → source.new ≡ source.old }
+    ensures failed { result ≡ Err ReadFault.Failed → (takes_input command ≡ true)
         × HasFault (S.faults source.old) (S.faults source.new) }
     ensures quiet { result ≢ Err ReadFault.Failed → S.faults source.new ≡ S.faults source.old }
     ensures counted { S.faults source.old ≤ S.faults source.new }

@@ -1,7 +1,7 @@
 use Rattle.std.proofs.Common.{◌≡◌, List, ℕ, MatchOption, Some, [], true, ap, subst}
 use Rattle.tj_program.specs.CommandLine.{HasNoForm, IsCommand}
 use Rattle.tj_program.specs.Inner.Inputs.{HasRead}
-use Rattle.tj_program.specs.Output.{ReadInput, reads, usage}
+use Rattle.tj_program.specs.Output.{TakesInput, takes_input, usage}
 use Rattle.tj_program.specs.declared.command.Command.TheVariants.{Known}
 use Rattle.tj_program.proofs.Lines.CommandLines.{one_command, within_limits}
 use Rattle.tj_program.proofs.Deliveries.{IsAnswered-put, put_whole, IsOutputPart-put, no_write_fault}
@@ -11,8 +11,8 @@ use Rattle.tj_program.proofs.Deliveries.{exact}
 use Rattle.tj_program.proofs.ClosedRuns.{HaveWorkers-command, IsClosedRunOf-command, IsClosedRunOf-some, never_with, nothing}
 use Rattle.tj_program.proofs.Inputs.{some_input}
 use Rattle.tj_program.proofs.StrictRuns.{never_waits-words}
-use Rattle.tj_program.proofs.run.run_words.Given.{Over}
-use Rattle.tj_program.proofs.run.run_words.Goals as goal
+use Rattle.tj_program.proofs.top_call.run_words.Given.{Over}
+use Rattle.tj_program.proofs.top_call.run_words.Goals as goal
 
 -- The words have no form.
 formless : (g : Over) (c : goal.After-put_text g) → HasNoForm c.args.words.now
@@ -56,7 +56,7 @@ is_command g c = subst (λ found. MatchOption found (HasNoForm c.args.words.now)
 
 -- what was read of an input that is told where it is read
 has_read : (g : Over) (c : goal.Joined-input g) (input : List ℕ)
-    → (ReadInput c.args.words.now → g.S.Source.left c.args.source.now ≡ Some input)
+    → (TakesInput c.args.words.now → g.S.Source.left c.args.source.now ≡ Some input)
     → HasRead c.in-Ok-Some.command input c.in-Ok.input
 has_read g c input told = λ does.
     c.in-Ok.ensures.read input (told (c.in-Ok-Some.command, is_command g c, does)) does
@@ -78,7 +78,7 @@ pub returns-in-Ok-clause-taken : goal.returns-in-Ok-clause-taken
 returns-in-Ok-clause-taken g c = λ input told read has.
     let same : read.0 ≡ c.in-Ok-Some.command =
     one_command c.args.words.now read.0 c.in-Ok-Some.command read.1 (is_command g c) in
-    c.in-Ok.ensures.rest (subst (λ k. reads k ≡ true) same read.2) input told
+    c.in-Ok.ensures.rest (subst (λ k. takes_input k ≡ true) same read.2) input told
 
 pub returns-in-Ok-clause-cause : goal.returns-in-Ok-clause-cause
 returns-in-Ok-clause-cause g c = λ has.

@@ -2,7 +2,7 @@ use Rattle.std.proofs.Common.{◌≤◌, inl, refl, subst, length, arith}
 use Rattle.std.proofs.lemmas.Bool.{false≢true}
 use Rattle.std.specs.Io.KnownBytes.{Appends}
 use Rattle.tj_program.proofs.ClosedRuns.{IsPutWith-failed}
-use Rattle.tj_program.proofs.run.put_given.Goals as goal
+use Rattle.tj_program.proofs.top_call.put_given.Goals as goal
 
 pub returns-in-Ok-clause-put : goal.returns-in-Ok-clause-put
 returns-in-Ok-clause-put g c =

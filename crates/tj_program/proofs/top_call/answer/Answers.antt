@@ -4,8 +4,8 @@ use Rattle.tj_program.specs.Inner.Inputs.{HasRead}
 use Rattle.tj_program.proofs.ClosedRuns.{nothing, AreWith-put, IsClosedRun-put, IsPutAs-with}
 use Rattle.tj_program.proofs.Deliveries.{IsOwnAnswer, own_answer}
 use Rattle.tj_program.proofs.Inputs.{some_input}
-use Rattle.tj_program.proofs.run.answer.Given.{Over}
-use Rattle.tj_program.proofs.run.answer.Goals as goal
+use Rattle.tj_program.proofs.top_call.answer.Given.{Over}
+use Rattle.tj_program.proofs.top_call.answer.Goals as goal
 
 -- what was given is what the command gives for each input of which this was read
 given : (g : Over) (c : goal.After-put_given g) (all : List ℕ) → HasRead c.args.command all c.args.input.now

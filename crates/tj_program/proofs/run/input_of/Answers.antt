@@ -1,7 +1,0 @@
-use Rattle.std.proofs.Common.{◌≡◌, true, subst}
-use Rattle.std.proofs.lemmas.Bool.{false≢true}
-use Rattle.tj_program.specs.Output.{reads}
-use Rattle.tj_program.proofs.run.input_of.Goals as goal
-
-pub returns-in-Gen-clause-rest : goal.returns-in-Gen-clause-rest
-returns-in-Gen-clause-rest g c = λ does. absurd (false≢true (subst (λ k. reads k ≡ true) c.in-Gen.is does))
