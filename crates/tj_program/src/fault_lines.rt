@@ -1,13 +1,12 @@
 //! The lines that are written in place of a report: why an input is refused, or that it needs more
 //! cells.
-ghost use Rattle.std.specs.Prelude.{◌≡◌, ◌≢◌, ◌++◌, decimal, IfOk};
+ghost use Rattle.std.specs.Prelude.{◌≡◌, ◌≢◌, IfOk};
 ghost use Rattle.tj_program.specs.ScriptTexts as script_texts;
 ghost use Rattle.tj_program.specs.Texts as texts;
 
 use crate::script_text::NoScript;
-use itoa::Buffer;
 use std::alloc::Global;
-use tj_base::Oom;
+use tj_base::{Oom, add_number};
 use tj_lex::{LexFault, Place};
 use tj_syntax::ParseFault;
 
@@ -65,9 +64,9 @@ fn script_fault(alloc: Global, mark: &[u8], at: Place) -> Result<Vec<u8>, Oom>
     let mut line = Vec::from_slice(alloc, b"script fault ")?;
     line.extend_from_slice(mark)?;
     line.extend_from_slice(b" at ")?;
-    add_number(&mut line, at.line)?;
+    add_number(&mut line, at.line as u128)?;
     line.extend_from_slice(b":")?;
-    add_number(&mut line, at.column)?;
+    add_number(&mut line, at.column as u128)?;
     line.extend_from_slice(b"\n")?;
     Ok(line)
 }
@@ -77,7 +76,7 @@ pub fn journal_fault(alloc: Global, number: u32) -> Result<Vec<u8>, Oom>
     ensures { IfOk result (λ line. line.items ≡ texts.journal_fault number) }
 {
     let mut line = Vec::from_slice(alloc, b"journal fault at line ")?;
-    add_number(&mut line, number)?;
+    add_number(&mut line, number as u128)?;
     line.extend_from_slice(b"\n")?;
     Ok(line)
 }
@@ -87,15 +86,7 @@ pub fn full_line(alloc: Global, cells: u32) -> Result<Vec<u8>, Oom>
     ensures { IfOk result (λ line. line.items ≡ texts.full_line cells) }
 {
     let mut line = Vec::from_slice(alloc, b"full: more than ")?;
-    add_number(&mut line, cells)?;
+    add_number(&mut line, cells as u128)?;
     line.extend_from_slice(b" cells\n")?;
     Ok(line)
-}
-
-fn add_number(line: &mut Vec<u8>, number: u32) -> Result<(), Oom>
-    ensures { IfOk result (λ _. line.new.items ≡ line.old.items ++ decimal number) }
-{
-    let mut buffer = Buffer::new();
-    line.extend_from_slice(buffer.format(number).as_bytes())?;
-    Ok(())
 }

@@ -1,15 +1,13 @@
 //! The line that `watch` writes: what became of the root.
 ghost use Rattle.std.specs.Prelude.{◌≡◌, ◌++◌, IfOk};
-ghost use Rattle.std.specs.Fmt.{signed_decimal};
 ghost use Rattle.tj_report.specs.ReportTexts.{shown_text};
 ghost use Rattle.tj_mean.specs.declared.outcome.Ending.TheVariants as ending;
 ghost use Rattle.tj_program.specs.Inner.WatchTells.{ValueTells, WatchTells};
 ghost use Rattle.tj_program.specs.RootLines as spec;
 
 use crate::script_run::{Told, text_of};
-use itoa::Buffer;
 use std::alloc::Global;
-use tj_base::{Oom, Shown};
+use tj_base::{Oom, Shown, add_signed};
 use tj_future::Watched;
 use tj_mean::{Ending, Outcome, TaskLine};
 use tj_words::Fill;
@@ -76,19 +74,11 @@ fn add_shown(alloc: Global, value: &Shown, line: &mut Vec<u8>) -> Result<(), Oom
     ensures { IfOk result (λ _. line.new.items ≡ line.old.items ++ shown_text value.now) }
 {
     match value {
-        Shown::Num(number) => add_number(*number, line),
+        Shown::Num(number) => add_signed(line, *number),
         Shown::Ref(cell) => {
             line.push(b'@')?;
             cell.text_into(alloc, line)?;
             Ok(())
         }
     }
-}
-
-fn add_number(number: i64, line: &mut Vec<u8>) -> Result<(), Oom>
-    ensures { IfOk result (λ _. line.new.items ≡ line.old.items ++ signed_decimal number) }
-{
-    let mut buffer = Buffer::new();
-    line.extend_from_slice(buffer.format(number).as_bytes())?;
-    Ok(())
 }
