@@ -144,7 +144,7 @@ pub fn run_words<S: Source, K: Sink, G: Gate, R: Wait + Threads + Sync>(
     }
 }
 
-// What a command takes_input of its input: all of it, or nothing.
+// What a command takes of its input: all of it, or nothing.
 fn input_of<S: Source>(
     alloc: Global,
     command: Command,

@@ -10,6 +10,6 @@ use Rattle.tj_program.specs.declared.command.Command.{Command}
 abbrev pub IsReadOf : (input : List ℕ) → ReadEnd → Type 0
 IsReadOf input end = end ≡ read_of most_bytes input
 
--- the command has read this of the input, if it takes_input it at all
+-- the command has read this of the input, if it takes it at all
 abbrev pub HasRead : Command → (input : List ℕ) → ReadEnd → Type 0
 HasRead command input end = takes_input command ≡ true → IsReadOf input end
