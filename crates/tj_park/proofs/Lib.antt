@@ -9,4 +9,4 @@ pub mod BreakSteps
 pub mod EndPoints
 pub mod EndSteps
 pub mod ResultCloses
-mod TestRoots
+pub mod TestRoots

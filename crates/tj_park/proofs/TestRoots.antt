@@ -31,7 +31,6 @@ use Rattle.tj_words.specs.DrawViews.{drawn_next}
 use Rattle.tj_words.specs.FirstState.{first_view}
 use Rattle.tj_words.specs.Holding.{held_in, made_by}
 use Rattle.tj_words.specs.Lists.{without}
-use Rattle.tj_words.specs.Lots.{all_lots}
 use Rattle.tj_words.specs.OwnerViews.{gave_up}
 use Rattle.tj_words.specs.QuietSteps.{does_first}
 use Rattle.tj_words.specs.SeatSteps.{SeatMe}
@@ -117,18 +116,20 @@ pub record RootRuns (cells : ℕ) (root : TableBody) (k : Custody TableBody) (v 
   pub is_root : IsCell v.born 0 (to_task [])
 
 module _ (cells : ℕ) (root : TableBody) where
-  -- the root was claimed by the first seat
-  pub claimed_root : (r : Rec TableBody) (w : View TableBody) → Claimed its 0 r (first_view cells root true) w
+  -- the root was claimed by a seat that has nothing in hand, no refused draw, and a lot
+  pub claimed_by : (r : Rec TableBody) (v w : View TableBody)
+      → v.about ≡ Some (record { root = root; cells = cells; strict = true })
+      → v.hand ≡ None → v.refused ≡ 0 → 0 < v.lot → IsCell v.born 0 (to_task []) → Claimed its 0 r v w
       → RootRuns cells root (custody_of r) w
-  claimed_root r w c = record {
-    about = c.knows.about;
+  claimed_by r v w about no_hand none lots is_root c = record {
+    about = c.knows.about ∙ about;
     held = c.taken.held;
     may = first_acts r.answer;
     result = c.taken.owns_result;
     out = refl;
-    no_hand = c.hand.hand;
-    room = let a : w.refused ≡ 0 = c.counts.refused in let l : w.lot ≡ all_lots = c.knows.lot in omega arith;
-    is_root = begins_at (to_task [] ∷ []) w.born c.knows.born 0 (to_task []) refl;
+    no_hand = c.hand.hand ∙ no_hand;
+    room = let a = c.counts.refused in let l = c.knows.lot in omega (arith, none, lots, a, l);
+    is_root = begins_at v.born w.born c.knows.born 0 (to_task []) is_root;
   }
     where
       first_acts : (a : Answer) → MayAct (does_first a)
@@ -138,6 +139,11 @@ module _ (cells : ℕ) (root : TableBody) where
       first_acts (answer.Num i) = tt
       first_acts (answer.RefAt j) = tt
       first_acts answer.Lost = tt
+
+  -- the first seat of a table is such a seat
+  pub claimed_root : (r : Rec TableBody) (w : View TableBody) → Claimed its 0 r (first_view cells root true) w
+      → RootRuns cells root (custody_of r) w
+  claimed_root r w c = claimed_by r (first_view cells root true) w refl refl refl (omega arith) refl c
 
   -- the first claim of a table whose root has these rows
   pub claimed_first : (lists : List (List Row)) (m : SeatMe TableBody) (o : Option (Rec TableBody))
