@@ -1,0 +1,9 @@
+pub mod Chats
+pub mod ChatTables
+pub mod Relays
+pub mod Channels
+pub mod ChannelRounds
+pub mod ChannelOutcomes
+pub mod ChanBodies
+pub mod ChannelLaws
+pub mod Inner

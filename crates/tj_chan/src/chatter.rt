@@ -1,0 +1,41 @@
+//! The code of a task that speaks by channels: it is given an answer, and gives the next ask.
+ghost use Rattle.std.specs.Prelude.{ℕ, ◌<◌, ◌^◌, ◌≡◌, IfOk};
+ghost use Rattle.tj_chan.specs.declared.chat.ChatAnswer.{ChatAnswer};
+ghost use Rattle.tj_chan.specs.declared.chat.ChatAsk.{ChatAsk};
+ghost use Rattle.tj_chan.specs.Chats.{ChatAwait, FitsChat, ObeysChat};
+
+use crate::chat::{ChatAnswer, ChatAsk};
+use std::alloc::Global;
+use tj_base::Oom;
+
+/// A task's code. What it asks is a function of the chatter and of what it is answered.
+pub trait Chatter: Sized + Send + Drop {
+    /// How many channels its task has.
+    ghost channels: { Self → ℕ };
+
+    /// What sort of answer it is to be given.
+    ghost awaits: { Self → ChatAwait };
+
+    /// At least the number of asks that it has still to give before its last one.
+    ghost left: { Self → ℕ };
+
+    /// What it asks next, given this answer.
+    ghost asks: { Self → ChatAnswer → ChatAsk Self };
+
+    /// What it is from then on.
+    ghost then: { Self → ChatAnswer → Self };
+
+    /// Gives the next ask. After `Oom` nothing is said of the chatter but that it can be dropped.
+    fn next(&mut self, alloc: Global, a: ChatAnswer) -> Result<ChatAsk<Self>, Oom>
+        requires fits { FitsChat (awaits self.old) (channels self.old) a }
+        requires room { channels self.old < 2 ^ 31 }
+        ensures ask { IfOk result (λ ask. ask ≡ asks self.old a) }
+        ensures body { IfOk result (λ _. self.new ≡ then self.old a) };
+
+    /// An equal chatter.
+    fn twin(&self, alloc: Global) -> Result<Self, Oom>
+        ensures { IfOk result (λ twin. twin ≡ self.now) };
+
+    /// The laws of one ask.
+    ghost obeys: { (c : Self) (a : ChatAnswer) → ObeysChat channels awaits left asks then c a };
+}

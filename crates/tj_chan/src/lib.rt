@@ -1,0 +1,21 @@
+//! Channels: rows of promises whose sending end is owned. Tasks open channels, send and receive,
+//! and hand ends on; each is a body of the runtime, with a promise for each item.
+#![tactic(auto)]
+
+mod body;
+mod chat;
+mod chatter;
+mod laws;
+mod relay;
+mod rows;
+mod spawn;
+mod table;
+#[cfg(test)]
+mod tests;
+
+pub use body::ChanBody;
+pub use chat::{ChatAnswer, ChatAsk};
+pub use chatter::Chatter;
+pub use laws::channels_are_lists;
+pub use relay::{Relay, relay_root};
+pub use table::{ChatRow, ChatRowList, TableChat};
