@@ -32,3 +32,5 @@ mod WorkersSteps
 pub mod ThreadSends
 pub mod PlaySteps
 mod TestRuns
+mod StepEnds
+mod TwoTasks

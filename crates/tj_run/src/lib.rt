@@ -17,10 +17,14 @@ mod pieces;
 #[cfg(test)]
 mod plays;
 mod pure;
+#[cfg(test)]
+mod step_tests;
 mod tasks;
 #[cfg(test)]
 mod tests;
 mod turns;
+#[cfg(test)]
+mod two_task_tests;
 mod waits;
 mod why;
 mod writes;

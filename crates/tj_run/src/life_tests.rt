@@ -3,12 +3,13 @@
 ghost use Rattle.std.specs.Prelude.{◌≡◌, ◌<◌, ◌≤◌, [], ◌∷◌, length, IfOk, IsTrue, OnOk};
 ghost use Rattle.tj_body.specs.Programs.{program_of};
 ghost use Rattle.tj_body.specs.Table.{is_table, table_asks, table_awaits, table_left, table_places, table_then};
+ghost use Rattle.tj_words.specs.ExchangeViews.{KnowsTable};
 ghost use Rattle.tj_words.specs.KnowsMore.{KnowsMore};
 ghost use Rattle.tj_words.specs.Law.{IsRooted};
 ghost use Rattle.tj_words.specs.Lots.{all_lots};
 ghost use Rattle.tj_words.specs.SeatSteps.{IsCellOf, IsSeatOf};
 ghost use Rattle.tj_run.specs.Carried.{IsAsked, IsFree, RunsTask, table_program};
-ghost use Rattle.tj_run.specs.Waits.{IsLeft};
+ghost use Rattle.tj_run.specs.Waits.{ComesBack, IsLeft};
 
 use crate::next::Next;
 use crate::pieces::{fill_at, take_out};
@@ -29,10 +30,10 @@ use tj_cells::{Seen, fill, value};
 use tj_detect::Verdict;
 use tj_park::{Parked, claim, finish, park, wake};
 use tj_ready::{LockedPool, Pool};
-use tj_words::{Fill, Finish, Laid, Phase, Rec, WSeat};
+use tj_words::{Fill, Finish, Laid, Phase, Rec, RestWords, WSeat};
 
 /// The one end of a pool for so many cells.
-fn one_end<P: Pool, R: Wait>(rt: &R, alloc: Global, cells: u32) -> Result<P, Oom>
+pub(crate) fn one_end<P: Pool, R: Wait>(rt: &R, alloc: Global, cells: u32) -> Result<P, Oom>
     requires cells { (0 < cells) × (cells ≤ 16384) }
     ensures limit { IfOk result (λ end. P.limit end ≡ cells) }
 {
@@ -41,7 +42,7 @@ fn one_end<P: Pool, R: Wait>(rt: &R, alloc: Global, cells: u32) -> Result<P, Oom
 }
 
 /// A table of so many cells whose root gives the rows of the first list, and its first seat.
-fn table_of<'s>(
+pub(crate) fn table_of<'s>(
     alloc: Global,
     lists: &'s [RowList],
     cells: u32,
@@ -79,12 +80,49 @@ fn begin<B: Body, R: Abort>(
         (program_of B.places B.awaits B.left B.asks B.then) laid.now) seat.new.me.0
         begun.0 begun.1) }
 {
-    let mut rec = claim(laid, seat, t).expect(rt, "it is ready");
+    let rec = claim(laid, seat, t).expect(rt, "it is ready");
+    asks_first(rt, alloc, laid, seat, rec)
+}
+
+/// The body of a claimed task that is to begin asks.
+pub(crate) fn asks_first<B: Body, R: Abort>(
+    rt: &R,
+    alloc: Global,
+    laid: &Laid<B>,
+    seat: &WSeat<B>,
+    mut rec: Rec<B>,
+) -> Result<(Rec<B>, Ask<B>), Why>
+    requires back { ComesBack (program_of B.places B.awaits B.left B.asks B.then) laid.now rec
+        seat.now.me.0 seat.now.me }
+    ensures runs { IfOk result (λ begun. RunsTask laid.now begun.0 seat.now.me) }
+    ensures asked { IfOk result (λ begun. IsAsked (table_program
+        (program_of B.places B.awaits B.left B.asks B.then) laid.now) seat.now.me.0
+        begun.0 begun.1) }
+{
     let Answer::Start = rec.answer else {
         panic!(rt; "it begins");
     };
     let ask = next_ask(alloc, laid, seat, &mut rec)?;
     Ok((rec, ask))
+}
+
+/// Asserts that closed words have the root alone, which has ended with 0.
+pub(crate) fn has_the_root_alone<B: Body, R: Abort>(rt: &R, rest: RestWords<B>) {
+    if rest.drawn() != 1 {
+        panic!(rt; "one cell was drawn");
+    }
+    let cell = rest.cell(CellId(0));
+    assert_eq!(rt; cell.phase, Phase::Ended, "the root has ended");
+    assert_eq!(rt; cell.own, None, "nobody owns its result");
+    let rec = rest.rec(CellId(0)).expect(rt, "a task has a record");
+    assert_eq!(rt;
+        rec.finish,
+        Some(Finish::Done(Fill::Num(0))),
+        "which says how it ended"
+    );
+    let closed = rest.into_closed();
+    assert_eq!(rt; closed.drawn(), 1, "and closed words have it still");
+    assert_eq!(rt; closed.cell(CellId(0)).tag, 1, "with a number");
 }
 
 #[test]
@@ -106,22 +144,7 @@ fn the_root_ends_and_its_table_is_closed(rt: HostRuntime) -> Result<(), Fail> {
     if laid.live(&mut seat) != 0 {
         panic!(rt; "nothing goes on");
     }
-    let rest = laid.rest(seat);
-    if rest.drawn() != 1 {
-        panic!(rt; "one cell was drawn");
-    }
-    let cell = rest.cell(CellId(0));
-    assert_eq!(rt; cell.phase, Phase::Ended, "the root has ended");
-    assert_eq!(rt; cell.own, None, "nobody owns its result");
-    let rec = rest.rec(CellId(0)).expect(&rt, "a task has a record");
-    assert_eq!(rt;
-        rec.finish,
-        Some(Finish::Done(Fill::Num(0))),
-        "which says how it ended"
-    );
-    let closed = rest.into_closed();
-    assert_eq!(rt; closed.drawn(), 1, "and closed words have it still");
-    assert_eq!(rt; closed.cell(CellId(0)).tag, 1, "with a number");
+    has_the_root_alone(&rt, laid.rest(seat));
     Ok(())
 }
 
@@ -183,8 +206,7 @@ fn run_whole<B: Body, P: Pool, R: Wait + Abort>(
     Ok(())
 }
 
-/// Claims a task that sets a promise first, fills the promise, and wakes those who wait for it. Tells
-/// how many there were.
+/// Claims a task that sets a promise first, and sets it. Tells how many were woken.
 fn set_first<B: Body, P: Pool, R: Wait + Abort>(
     rt: &R,
     alloc: Global,
@@ -200,10 +222,33 @@ fn set_first<B: Body, P: Pool, R: Wait + Abort>(
         laid.now) }
     requires pool { P.limit pool.old ≡ laid.now.cells }
     ensures table { seat.new.table_id ≡ seat.old.table_id }
+    ensures knows { IfOk result (λ _. KnowsTable seat.new.me.0) }
+{
+    let (rec, ask) = begin(rt, alloc, laid, seat, t)?;
+    set_asked(rt, alloc, laid, seat, rec, ask, pool)
+}
+
+/// The task asks to set a promise: it fills the promise, and wakes those who wait for it. Tells how many
+/// there were.
+pub(crate) fn set_asked<B: Body, P: Pool, R: Wait + Abort>(
+    rt: &R,
+    alloc: Global,
+    laid: &Laid<B>,
+    seat: &mut WSeat<B>,
+    rec: Rec<B>,
+    ask: Ask<B>,
+    pool: &mut P,
+) -> Result<u32, Why>
+    requires table { IsSeatOf laid.now seat.old }
+    requires runs { RunsTask laid.now rec seat.old.me }
+    requires asked { IsAsked (table_program (program_of B.places B.awaits B.left B.asks B.then)
+        laid.now) seat.old.me.0 rec ask }
+    requires pool { P.limit pool.old ≡ laid.now.cells }
+    ensures table { seat.new.table_id ≡ seat.old.table_id }
+    ensures knows { IfOk result (λ _. KnowsTable seat.new.me.0) }
 {
     points_in_rounds::<B>();
     names_and_cells();
-    let (rec, ask) = begin(rt, alloc, laid, seat, t)?;
     let Ask::Set { p, v } = ask else {
         panic!(rt; "it sets a promise");
     };
@@ -275,5 +320,41 @@ fn a_promise_is_set_between_block_and_park(rt: HostRuntime) -> Result<(), Fail> 
     let (mut first, mut second) = laid.split(seat);
     let seen = set_before_park(&rt, a, &laid, &mut first, &mut second, &mut pool)?;
     assert_eq!(rt; seen, Seen::Num(5), "it goes on with the value");
+    Ok(())
+}
+
+#[test]
+fn a_root_that_runs_is_claimed_by_nobody(rt: HostRuntime) -> Result<(), Fail> {
+    let a = rt.alloc();
+    let lists: [RowList; 1] = [Items::of(Vec::new(a))];
+    let (laid, mut seat) = table_of(a, &lists, 1)?;
+    let begun = begin(&rt, a, &laid, &mut seat, CellId(0))?;
+    let again = claim(&laid, &mut seat, CellId(0));
+    assert!(rt; again.is_none(), "it runs already");
+    assert_eq!(rt; begun.1, Ask::End(Pay::Num(0)), "to end with 0");
+    Ok(())
+}
+
+#[test]
+fn a_task_that_waits_is_woken_once(rt: HostRuntime) -> Result<(), Fail> {
+    let a = rt.alloc();
+    let lists = reader_and_writer(a)?;
+    let mut pool = one_end::<LockedPool, HostRuntime>(&rt, a, 4)?;
+    let (laid, mut seat) = table_of(a, &lists, 4)?;
+    run_whole(&rt, a, &laid, &mut seat, &mut pool, CellId(0))?;
+    run_whole(&rt, a, &laid, &mut seat, &mut pool, CellId(2))?;
+    let woken = set_first(&rt, a, &laid, &mut seat, &mut pool, CellId(3))?;
+    assert_eq!(rt; woken, 1, "the reader, which is parked");
+    assert_eq!(rt; pool.take(&rt), Some(CellId(2)), "the reader at its start");
+    assert_eq!(rt; pool.take(&rt), Some(CellId(3)), "the writer");
+    assert_eq!(rt; pool.take(&rt), Some(CellId(2)), "the reader again");
+    assert_eq!(rt; pool.take(&rt), None, "and nobody else");
+    let rec = claim(&laid, &mut seat, CellId(2)).expect(&rt, "it is ready again");
+    assert!(rt;
+        matches!(rec.answer, Answer::RefAt(1)),
+        "to read the promise"
+    );
+    let again = claim(&laid, &mut seat, CellId(2));
+    assert!(rt; again.is_none(), "it runs already");
     Ok(())
 }

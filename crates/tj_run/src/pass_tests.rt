@@ -22,7 +22,7 @@ fn places(alloc: Global, list: &[u32]) -> Result<PlaceList, Oom>
     Ok(Items::of(Vec::from_slice(alloc, list)?))
 }
 
-fn fork(alloc: Global, list: u32, pass: &[u32], hand: &[u32]) -> Result<Row, Oom>
+pub(crate) fn fork(alloc: Global, list: u32, pass: &[u32], hand: &[u32]) -> Result<Row, Oom>
     ensures { IfOk result (λ r. r ≡ row.Fork list pass.now hand.now) }
 {
     Ok(Row::Fork {
@@ -33,7 +33,7 @@ fn fork(alloc: Global, list: u32, pass: &[u32], hand: &[u32]) -> Result<Row, Oom
 }
 
 /// A list of rows, from an array.
-fn rows<const N: usize>(alloc: Global, rows: [Row; N]) -> Result<RowList, Oom>
+pub(crate) fn rows<const N: usize>(alloc: Global, rows: [Row; N]) -> Result<RowList, Oom>
     ensures { IfOk result (λ list. list ≡ rows.entry) }
 {
     Ok(Items::of(Vec::from_array(alloc, rows)?))

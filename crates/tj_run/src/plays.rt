@@ -184,8 +184,8 @@ fn run_to_stop<B: Body, P: Pool, R: Wait>(
     }
 }
 
-// The task waits for the cell at the place: it blocks, and leaves the seat.
-fn leave<B: Body>(
+/// The task waits for the cell at the place: it blocks, and leaves the seat.
+pub(crate) fn leave<B: Body>(
     laid: &Laid<B>,
     seat: &mut WSeat<B>,
     rec: Rec<B>,

@@ -60,8 +60,8 @@ finish-requires-clause-may g c κs =
     (c.fill_at-given.ensures ∙ ap (λ z. fill_at z y) c.items.ensures) a).goes_on in
     may_finish p l r (finish.Done f) m u h
 
-pub rest-rest-requires-clause-may : goal.rest-rest-requires-clause-may
-rest-rest-requires-clause-may g c κs =
+pub rest-requires-clause-may : goal.rest-requires-clause-may
+rest-requires-clause-may g c κs =
     let p = program_of table_places table_awaits table_left table_asks table_then in let l = c.in_ok-laid.laid in
     let r = c.in_ok-rec.rec in let m = c.begin.new.seat.me in let u = c.in_ok-rec.ensures.runs in let y = c.in-End.v in
     let a : IsAsked (table_program p l) m.0 r (ask.End y)

@@ -1,0 +1,206 @@
+//! One seat that holds two tasks at once: it runs the root, and claims a child of it that gets a promise,
+//! blocks and is parked; then the root closes a cycle, or sets the promise and wakes the child.
+ghost use Rattle.std.specs.Prelude.{◌≡◌, IfOk};
+ghost use Rattle.tj_body.specs.Programs.{program_of};
+ghost use Rattle.tj_words.specs.ExchangeViews.{KnowsTable};
+ghost use Rattle.tj_words.specs.KnowsMore.{KnowsMore};
+ghost use Rattle.tj_words.specs.Law.{IsRooted};
+ghost use Rattle.tj_words.specs.SeatSteps.{IsCellOf, IsSeatOf};
+ghost use Rattle.tj_run.specs.Carried.{IsFree, IsRunning, RunsTask, table_program};
+
+use crate::answers::resume;
+use crate::life_tests::{one_end, set_asked, table_of};
+use crate::next::Next;
+use crate::pass_tests::{fork, rows};
+use crate::plays::{Turn, blocks, leave};
+use crate::pure::next_ask;
+use crate::tasks::one_ask;
+use crate::why::Why;
+use std::alloc::Global;
+use std::marker::Brand;
+use std::process::Abort;
+use std::sync::Wait;
+use std::sync::ledger::Blank;
+use std::test::Fail;
+use tj_base::{CellId, Pay, Sort};
+use tj_body::{Answer, Ask, Body, Row, points_in_rounds};
+use tj_detect::Verdict;
+use tj_park::{Parked, claim, park};
+use tj_ready::{LockedPool, Pool};
+use tj_words::{Laid, Rec, WSeat, Way};
+
+/// Claims the root, which makes a promise and forks a child.
+fn run_to_fork<B: Body, P: Pool, R: Wait + Abort>(
+    rt: &R,
+    alloc: Global,
+    laid: &Laid<B>,
+    seat: &mut WSeat<B>,
+    pool: &mut P,
+) -> Result<Rec<B>, Why>
+    requires table { IsSeatOf laid.now seat.old }
+    requires free { IsFree laid.now seat.old.me }
+    requires task { IsCellOf laid.now 0 }
+    requires rooted { IsRooted (table_program (program_of B.places B.awaits B.left B.asks B.then)
+        laid.now) }
+    requires pool { P.limit pool.old ≡ laid.now.cells }
+    ensures table { seat.new.table_id ≡ seat.old.table_id }
+    ensures limit { P.limit pool.new ≡ P.limit pool.old }
+    ensures runs { IfOk result (λ rec. RunsTask laid.now rec seat.new.me) }
+    ensures running { IfOk result (λ rec. IsRunning (table_program
+        (program_of B.places B.awaits B.left B.asks B.then) laid.now) seat.new.me.0 rec) }
+{
+    let mut rec = claim(laid, seat, CellId(0)).expect(rt, "it is ready");
+    let start = resume(laid, seat, &mut rec)?;
+    let Next::Runs = start else {
+        panic!(rt; "it begins");
+    };
+    let made = one_ask(rt, alloc, laid, seat, &mut rec, pool)?;
+    let Next::Runs = made else {
+        panic!(rt; "it makes a promise");
+    };
+    let forked = one_ask(rt, alloc, laid, seat, &mut rec, pool)?;
+    let Next::Runs = forked else {
+        panic!(rt; "it forks a child");
+    };
+    Ok(rec)
+}
+
+/// The seat runs a task, and claims another one besides, which gets a promise: it blocks, its walk ends
+/// without an alarm, and it is parked.
+fn park_beside<B: Body, R: Abort>(
+    rt: &R,
+    alloc: Global,
+    laid: &Laid<B>,
+    seat: &mut WSeat<B>,
+    mine: &Rec<B>,
+    t: CellId,
+)
+    requires table { IsSeatOf laid.now seat.old }
+    requires runs { RunsTask laid.now mine.now seat.old.me }
+    requires task { IsCellOf laid.now t.0 }
+    requires rooted { IsRooted (table_program (program_of B.places B.awaits B.left B.asks B.then)
+        laid.now) }
+    ensures table { seat.new.table_id ≡ seat.old.table_id }
+    ensures knows { KnowsMore seat.old.me.0 seat.new.me.0 }
+    ensures runs { RunsTask laid.now mine.now seat.new.me }
+{
+    points_in_rounds::<B>();
+    if t.0 == mine.cell.0 {
+        panic!(rt; "another one");
+    }
+    let mut rec = claim(laid, seat, t).expect(rt, "it is ready");
+    let Answer::Start = rec.answer else {
+        panic!(rt; "it begins");
+    };
+    let Ok(ask) = rec.body.next(alloc, rec.answer) else {
+        panic!(rt; "no memory");
+    };
+    let Ask::Get { p } = ask else {
+        panic!(rt; "it gets");
+    };
+    let h = rec.held.items()[p as usize];
+    let Sort::Promise = h.sort else {
+        panic!(rt; "a promise");
+    };
+    rec.answer = Answer::RefAt(p);
+    rec.spare = false;
+    let verdict = blocks::<B, Brand>(laid, seat, t, h.cell, Way::Other, Blank::new(1));
+    let Verdict::Walked = verdict else {
+        panic!(rt; "its owner doesn't wait");
+    };
+    let Parked::Left = park(laid, seat, t, h.cell, Way::Other, rec) else {
+        panic!(rt; "nothing has become of it");
+    };
+}
+
+/// The child is parked beside the root, which joins it then.
+fn join_beside<B: Body, P: Pool, R: Wait + Abort>(
+    rt: &R,
+    alloc: Global,
+    laid: &Laid<B>,
+    seat: &mut WSeat<B>,
+    pool: &mut P,
+) -> Result<Option<Turn>, Why>
+    requires table { IsSeatOf laid.now seat.old }
+    requires free { IsFree laid.now seat.old.me }
+    requires task { IsCellOf laid.now 2 }
+    requires rooted { IsRooted (table_program (program_of B.places B.awaits B.left B.asks B.then)
+        laid.now) }
+    requires pool { P.limit pool.old ≡ laid.now.cells }
+{
+    let mut rec = run_to_fork(rt, alloc, laid, seat, pool)?;
+    park_beside(rt, alloc, laid, seat, &rec, CellId(2));
+    let joins = one_ask(rt, alloc, laid, seat, &mut rec, pool)?;
+    let Next::Waits { place, spare } = joins else {
+        panic!(rt; "the child waits");
+    };
+    Ok(leave(laid, seat, rec, place, spare))
+}
+
+/// The child is parked beside the root, which sets the promise then. Tells how many were woken.
+fn set_beside<B: Body, P: Pool, R: Wait + Abort>(
+    rt: &R,
+    alloc: Global,
+    laid: &Laid<B>,
+    seat: &mut WSeat<B>,
+    pool: &mut P,
+) -> Result<u32, Why>
+    requires table { IsSeatOf laid.now seat.old }
+    requires free { IsFree laid.now seat.old.me }
+    requires task { IsCellOf laid.now 2 }
+    requires rooted { IsRooted (table_program (program_of B.places B.awaits B.left B.asks B.then)
+        laid.now) }
+    requires pool { P.limit pool.old ≡ laid.now.cells }
+    ensures table { seat.new.table_id ≡ seat.old.table_id }
+    ensures knows { IfOk result (λ _. KnowsTable seat.new.me.0) }
+{
+    let mut rec = run_to_fork(rt, alloc, laid, seat, pool)?;
+    park_beside(rt, alloc, laid, seat, &rec, CellId(2));
+    let ask = next_ask(alloc, laid, seat, &mut rec)?;
+    set_asked(rt, alloc, laid, seat, rec, ask, pool)
+}
+
+#[test]
+fn a_cycle_of_two_tasks_of_one_seat_alarms(rt: HostRuntime) -> Result<(), Fail> {
+    let a = rt.alloc();
+    let child = fork(a, 1, &[1], &[])?;
+    let root = [Row::New, child, Row::Join { t: 2 }];
+    let lists = [rows(a, root)?, rows(a, [Row::Get { p: 1 }])?];
+    let mut pool = one_end::<LockedPool, HostRuntime>(&rt, a, 3)?;
+    let (laid, mut seat) = table_of(a, &lists, 3)?;
+    let turn = join_beside(&rt, a, &laid, &mut seat, &mut pool)?;
+    assert!(rt;
+        turn == Some(Turn::Waits(Way::Along, Verdict::Alarm)),
+        "along the order"
+    );
+    Ok(())
+}
+
+#[test]
+fn a_task_wakes_another_one_of_its_seat(rt: HostRuntime) -> Result<(), Fail> {
+    let a = rt.alloc();
+    let reader = fork(a, 1, &[1], &[])?;
+    let set = Row::Set {
+        p: 1,
+        v: Pay::Num(5),
+    };
+    let lists = [
+        rows(a, [Row::New, reader, set])?,
+        rows(a, [Row::Get { p: 1 }])?,
+    ];
+    let mut pool = one_end::<LockedPool, HostRuntime>(&rt, a, 3)?;
+    let (laid, mut seat) = table_of(a, &lists, 3)?;
+    let woken = set_beside(&rt, a, &laid, &mut seat, &mut pool)?;
+    assert_eq!(rt; woken, 1, "the reader");
+    assert_eq!(rt; pool.take(&rt), Some(CellId(2)), "the reader at its start");
+    assert_eq!(rt; pool.take(&rt), Some(CellId(2)), "the reader again");
+    assert_eq!(rt; pool.take(&rt), None, "and nobody else");
+    let rec = claim(&laid, &mut seat, CellId(2)).expect(&rt, "it is ready again");
+    assert!(rt;
+        matches!(rec.answer, Answer::RefAt(1)),
+        "to read the promise"
+    );
+    let again = claim(&laid, &mut seat, CellId(2));
+    assert!(rt; again.is_none(), "it runs already");
+    Ok(())
+}
