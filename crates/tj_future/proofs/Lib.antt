@@ -2,3 +2,4 @@ pub mod Looking
 pub mod Polling
 pub mod RootRecords
 mod ThreadSends
+mod SecondSeats

@@ -1,12 +1,16 @@
 -- What one look at a cell tells: of the cell, of STOP and of LIVE, in the order in which they were loaded.
-use Rattle.std.specs.Prelude.{◌≡◌, ◌⊎◌, ℕ, ◌<◌, Bool, Some, None}
+use Rattle.std.specs.Prelude.{◌≡◌, ◌⊎◌, ℕ, ◌<◌, Bool, List, Some, None}
+use mathlib.Core.Option.{some}
+use lib.ListN.{get_elem?}
 use Rattle.tj_body.specs.Programs.{Program}
 use Rattle.tj_cells.specs.declared.seen.Seen.{Seen}
 use Rattle.tj_cells.specs.declared.seen.Seen.TheVariants as seen
 use Rattle.tj_cells.specs.SeenValues.{SeesValue, seen_in}
 use Rattle.tj_words.specs.declared.record.Fill.TheVariants as fill
+use Rattle.tj_words.specs.declared.table.Key.{Key}
 use Rattle.tj_words.specs.declared.view.View.{View}
 use Rattle.tj_words.specs.KnowsMore.{KnowsMore}
+use Rattle.tj_words.specs.RestedRuns.{AreMoments, Ruled, last_moment, tag_at}
 use Rattle.tj_words.specs.SeenWords.{FindsNothing}
 use Rattle.tj_words.specs.Views.{saw_live, saw_rest, saw_stop}
 use Rattle.tj_run.specs.declared.why.Why.{Why}
@@ -43,11 +47,21 @@ module _ {B : Type 0} where
     pub above : 0 < live
     pub view : w ≡ saw_live live open_still
 
-  -- LIVE was loaded as 0, and after that TAG of the cell as 0
-  pub record RestsWithout (p : ℕ) (v w : View B) : Type 0 where
+  -- where a table has a seat with this view, and TAG of the cell is 0, no step call fills the cell any more, nor does a
+  -- split or a merge of seats
+  abbrev pub IsNeverFilled : (Bool → B → Program B) → ℕ → View B → Type 0
+  IsNeverFilled program p v = (key : Key B) (u : Ruled program key) (later : List (Ruled program key)) (id : ℕ)
+      → get_elem? u.now.views id ≡ some v
+      → tag_at u.now p ≡ 0
+      → AreMoments program key u later
+      → tag_at (last_moment program key u later).now p ≡ 0
+
+  -- LIVE was loaded as 0, and after that TAG of the cell as 0, by a seat that shows that the cell is never filled then
+  pub record RestsWithout (program : Bool → B → Program B) (p : ℕ) (v w : View B) : Type 0 where
     pub at_rest : View B
     pub comes : ComesToRest p v at_rest
     pub nothing : FindsNothing p at_rest w
+    pub for_good : IsNeverFilled program p at_rest
 
   module _ (program : Bool → B → Program B) (cells p : ℕ) where
     -- the words of the cell say this for good; they were read at once, or after LIVE was loaded as 0
@@ -63,7 +77,7 @@ module _ {B : Type 0} where
     abbrev pub Answers : Watched → View B → View B → Type 0
     Answers (watched.Value f) v w = Finds (seen_in (Some f)) v w
     Answers watched.Broken v w = Finds seen.Broken v w
-    Answers watched.Rested v w = RestsWithout p v w
+    Answers watched.Rested v w = RestsWithout program p v w
     Answers (watched.Stopped why) v w = FindsStopped why v w
 
     -- looks were made, and the last of them was answered like this

@@ -13,7 +13,7 @@ use tj_base::CellId;
 use tj_body::Body;
 use tj_cells::{Seen, value};
 use tj_run::Why;
-use tj_words::{Fill, Laid, WSeat};
+use tj_words::{Fill, Laid, WSeat, rested_runs};
 
 /// One look at cell `p`: it loads TAG, and where that is 0 then STOP, and where that is 0 then LIVE, and
 /// where that is 0 TAG again. It answers nothing where LIVE is above 0.
@@ -30,10 +30,11 @@ pub fn look_at<B: Body>(laid: &Laid<B>, seat: &mut WSeat<B>, p: CellId) -> Optio
     ensures some { IfSome result (λ watched. Answers (program_of B.places B.awaits B.left B.asks
         B.then) laid.now.cells p.0 watched seat.old.me.0 seat.new.me.0) }
 {
+    rested_runs::<B>();
     let seen = value(laid, seat, p);
-    if seen != Seen::NotYet {
+    let Seen::NotYet = seen else {
         return Some(told(seen));
-    }
+    };
     let stop = laid.stopped(seat);
     if stop != 0 {
         return Some(Watched::Stopped(why_of(stop)));

@@ -1,9 +1,11 @@
 //! A fresh table of two cells, which a second seat waits for while a worker has the first.
-ghost use Rattle.std.specs.Prelude.{◌≡◌, ◌<◌, ◌≤◌, ◌*◌, [], length, IfOk, IsTrue};
+ghost use Rattle.std.specs.Prelude.{◌≡◌, ◌<◌, ◌≤◌, ◌*◌, [], ◌∷◌, length, pos, IfOk, IsTrue};
 ghost use Rattle.std.specs.Thread.{IsSync};
 ghost use denote.Param.Send.{IsSend};
+ghost use Rattle.tj_base.specs.declared.value.Pay.TheVariants.{Num};
 ghost use Rattle.tj_body.specs.Programs.{program_of};
 ghost use Rattle.tj_body.specs.Table.{is_table};
+ghost use Rattle.tj_body.specs.declared.table.Row.TheVariants.{New, Set};
 ghost use Rattle.tj_words.specs.Law.{IsRooted};
 ghost use Rattle.tj_words.specs.Lots.{least_lot};
 ghost use Rattle.tj_words.specs.SeatSteps.{IsSeatOf};
@@ -19,6 +21,8 @@ use std::test::Fail;
 use std::thread::{Threads, join};
 use tj_base::{CellId, Items, Oom, Pay};
 use tj_body::{Body, Row, RowList, TableBody};
+use tj_cells::{fill, make};
+use tj_park::claim;
 use tj_ports::OpenGate;
 use tj_ready::{LockedPool, Pool};
 use tj_run::{Left, worker};
@@ -170,5 +174,43 @@ fn a_future_polls_while_a_worker_runs(rt: HostRuntime) -> Result<(), Fail> {
     let end = one_end::<LockedPool, HostRuntime>(&rt, a)?;
     let told = promise_beside(&rt, a, &laid, seat, end);
     assert_eq!(rt; told, Some(Watched::Value(Fill::Num(5))), "the promise");
+    Ok(())
+}
+
+/// The table of one task, which makes a promise and sets it to 5, and makes two more.
+fn three_promises(alloc: Global) -> Result<[RowList; 1], Oom>
+    ensures { IfOk result (λ lists. lists
+        ≡ (New ∷ Set 1 (Num (pos 5)) ∷ New ∷ New ∷ []) ∷ []) }
+{
+    let mut rows = Vec::new(alloc);
+    rows.push(Row::New)?;
+    rows.push(Row::Set {
+        p: 1,
+        v: Pay::Num(5),
+    })?;
+    rows.push(Row::New)?;
+    rows.push(Row::New)?;
+    Ok([Items::of(rows)])
+}
+
+#[test]
+fn a_future_gives_a_promise_that_another_seat_fills(rt: HostRuntime) -> Result<(), Fail> {
+    let a = rt.alloc();
+    let lists = three_promises(a)?;
+    let (laid, mut seat) = Laid::new(a, 2, TableBody::new(&lists, 0), true)?;
+    let root = CellId(0);
+    let None = look_at(&laid, &mut seat, root) else {
+        panic!(rt; "nothing has become of the root");
+    };
+    let (mut first, second) = laid.split(seat);
+    let rec = claim(&laid, &mut first, root).expect(&rt, "the root is ready");
+    if rec.made != 0 {
+        panic!(rt; "it has made nothing yet");
+    }
+    let p = make(&laid, &mut first, root, 1).expect(&rt, "a cell is left");
+    assert_eq!(rt; p, CellId(1), "the next cell");
+    fill(&laid, &mut first, root, p, Fill::Num(5));
+    let (told, _seat) = block_on(&rt, CellWait::new(&laid, second, CellId(1)))?;
+    assert_eq!(rt; told, Watched::Value(Fill::Num(5)), "the promise");
     Ok(())
 }
