@@ -3,8 +3,8 @@ use Rattle.std.proofs.Common.{◌≡◌, ◌<◌, ◌↔◌, ℕ, length, Bool, 
 use Rattle.std.proofs.lemmas.Bool.{false≢true}
 use Rattle.std.specs.declared.alloc.Global.{Global}
 use Rattle.std.specs.Io.KnownBytes.{Appends}
+use Rattle.tj_body.specs.Programs.{Program}
 use Rattle.tj_body.specs.Rounds.{meaning}
-use Rattle.tj_eval.specs.Statements.{TaskState}
 use Rattle.tj_mean.specs.declared.outcome.Outcome.{Outcome}
 use Rattle.tj_mean.specs.Outcomes.{IsOutcome, is_marked}
 use Rattle.tj_report.specs.ClosedOutcomes.{AreCyclesOfOutcomeAlarmed}
@@ -13,59 +13,63 @@ use Rattle.tj_ports.specs.Putting.{GrowsByPart}
 use Rattle.tj_run.specs.Runs.{RestsAt}
 use Rattle.tj_words.specs.RestShown.{RestShown}
 use Rattle.tj_words.specs.declared.closed.RestCell.{RestCell}
-use Rattle.tj_program.specs.ClosedRuns.{HasOutcome, HaveWorkers, IsClosedRun, IsClosedRunOf, IsRunClosed, has_workers, told_of}
+use Rattle.tj_program.specs.ClosedRuns.{HasOutcome, HaveWorkers, IsClosedRun, IsClosedRunOf, IsCommandClosed}
+use Rattle.tj_program.specs.ClosedRuns.{IsRunClosed, has_workers}
 use Rattle.tj_program.specs.CommandLine.{IsCommand}
 use Rattle.tj_program.specs.Delivery.{IsPutAs}
 use Rattle.tj_program.specs.Inner.ClosedOutputs.{AreWith, IsGiven, IsPutWith, IsRunGiven}
 use Rattle.tj_gen.specs.Script.{script_text}
-use Rattle.tj_program.specs.Output.{IsCommandOutput, IsRefused, IsStart, IsStartOfText}
-use Rattle.tj_program.specs.Runs.{Start, IsRunOf, full, ended, script_program, start_of, status_of, text_of}
+use Rattle.tj_program.specs.Output.{IsCommandOutput, IsRefused, IsStartOfText}
+use Rattle.tj_program.specs.RelayRuns.{IsRelayRun, relay_start}
+use Rattle.tj_program.specs.Runs.{Start, StartOf, IsRunOf, full, ended, started, status_of, text_of}
 use Rattle.tj_program.specs.declared.command.Command.{Command}
-use Rattle.tj_program.specs.declared.command.Command.TheVariants.{Run, Plan, List as list, Judge, Gen, Known, Watch}
+use Rattle.tj_program.specs.declared.command.Command.TheVariants.{Run, Plan, List as list, Judge, Gen, Known}
+use Rattle.tj_program.specs.declared.command.Command.TheVariants.{Relay, Watch}
 use Rattle.tj_program.specs.declared.script_run.Told.{Told}
 use Rattle.tj_program.specs.declared.script_run.Told.TheVariants.{Report, Root, Summary}
 use Rattle.tj_program.specs.declared.status.Status.{Status}
 use Rattle.tj_program.specs.declared.status.Status.TheVariants.{Full, WriteFault}
 
--- what rests under names that are the table's own rests under these
-pub rests_named : (root : TaskState) (limit : ℕ) (strict : Bool) (r : RestShown TaskState)
-    → RestsAt script_program root limit strict r → RestsAt script_program r.root r.limit r.strict r
-rests_named root limit strict r h =
-    subst (λ z. RestsAt script_program z r.limit r.strict r) (sym h.names_root)
-    (subst (λ z. RestsAt script_program root z r.strict r) (sym h.names_limit)
-    (subst (λ z. RestsAt script_program root limit z r) (sym h.names_strict) h))
+module _ {B : Type 0} (program : Bool → B → Program B) where
+  -- what rests under names that are the table's own rests under these
+  pub rests_named : (root : B) (limit : ℕ) (strict : Bool) (r : RestShown B)
+      → RestsAt program root limit strict r → RestsAt program r.root r.limit r.strict r
+  rests_named root limit strict r h =
+      subst (λ z. RestsAt program z r.limit r.strict r) (sym h.names_root)
+      (subst (λ z. RestsAt program root z r.strict r) (sym h.names_limit)
+      (subst (λ z. RestsAt program root limit z r) (sym h.names_strict) h))
 
--- what a run of the table's own names gives is what the run of these names gives
-pub given_named : (told : Told) (root : TaskState) (limit : ℕ) (strict : Bool) (r : RestShown TaskState)
-    (status : Status) (text : List ℕ) (closed : Option (List RestCell))
-    → RestsAt script_program root limit strict r
-    → IsRunGiven told (start_of r.strict r.limit r.root) status text closed
-    → IsRunGiven told (start_of strict limit root) status text closed
-given_named told root limit strict r status text closed h given =
-    subst (λ z. IsRunGiven told (start_of strict limit z) status text closed) h.names_root
-    (subst (λ z. IsRunGiven told (start_of strict z r.root) status text closed) h.names_limit
-    (subst (λ z. IsRunGiven told (start_of z r.limit r.root) status text closed) h.names_strict given))
+  -- what a run of the table's own names gives is what the run of these names gives
+  pub given_named : (told : Told) (root : B) (limit : ℕ) (strict : Bool) (r : RestShown B)
+      (status : Status) (text : List ℕ) (closed : Option (List RestCell))
+      → RestsAt program root limit strict r
+      → IsRunGiven told (started program r.strict r.limit r.root) status text closed
+      → IsRunGiven told (started program strict limit root) status text closed
+  given_named told root limit strict r status text closed h given =
+      subst (λ z. IsRunGiven told (started program strict limit z) status text closed) h.names_root
+      (subst (λ z. IsRunGiven told (started program strict z r.root) status text closed) h.names_limit
+      (subst (λ z. IsRunGiven told (started program z r.limit r.root) status text closed) h.names_strict given))
 
--- text, status and closed words of a table at rest are of one run
-pub closed_at_rest : (told : Told) (r : RestShown TaskState) (outcome : Outcome) (status : Status) (text : List ℕ)
-    (closed : List RestCell) → RestsAt script_program r.root r.limit r.strict r
-    → IsOutcome (meaning (script_program r.strict r.root) r.limit) outcome
-    → AreCyclesOfOutcomeAlarmed r.cells outcome → status ≡ status_of (is_marked outcome)
-    → text ≡ text_of told outcome → closed ≡ r.cells
-    → IsRunClosed told (start_of r.strict r.limit r.root) status text closed
-closed_at_rest told r outcome status text closed h is alarmed s t e =
-    subst (IsRunClosed told (start_of r.strict r.limit r.root) status text) (sym e) (record {
-      fits = h.meaning.1.fits;
-      outcome = outcome;
-      is = is;
-      status_is = s;
-      text_is = t;
-      words = (h.meaning.0, h.meaning.1);
-      rest = h.rest;
-      alarmed = alarmed;
-      cycles = h.cycles;
-      alarms = h.alarms;
-    })
+  -- text, status and closed words of a table at rest are of one run
+  pub closed_at_rest : (told : Told) (r : RestShown B) (outcome : Outcome) (status : Status) (text : List ℕ)
+      (closed : List RestCell) → RestsAt program r.root r.limit r.strict r
+      → IsOutcome (meaning (program r.strict r.root) r.limit) outcome
+      → AreCyclesOfOutcomeAlarmed r.cells outcome → status ≡ status_of (is_marked outcome)
+      → text ≡ text_of told outcome → closed ≡ r.cells
+      → IsRunClosed told (started program r.strict r.limit r.root) status text closed
+  closed_at_rest told r outcome status text closed h is alarmed s t e =
+      subst (IsRunClosed told (started program r.strict r.limit r.root) status text) (sym e) (record {
+        fits = h.meaning.1.fits;
+        outcome = outcome;
+        is = is;
+        status_is = s;
+        text_is = t;
+        words = (h.meaning.0, h.meaning.1);
+        rest = h.rest;
+        alarmed = alarmed;
+        cycles = h.cycles;
+        alarms = h.alarms;
+      })
 
 -- there is nothing in `None`
 pub nothing : IsSome {T = List RestCell} None → ⊥
@@ -76,33 +80,42 @@ pub HasOutcome-status_of : (marked : Bool) → HasOutcome (status_of marked)
 HasOutcome-status_of true = tt
 HasOutcome-status_of false = tt
 
--- closed words and text of one run are what the run gives
-pub IsRunOf-closed : (told : Told) (start : Start) (status : Status) (text : List ℕ) (closed : List RestCell)
-    → IsRunClosed told start status text closed → IsRunOf told start status text
-IsRunOf-closed told start status text closed c =
-    subst (λ s. IsRunOf told start s text) (sym c.status_is)
-    (subst (λ t. IsRunOf told start (status_of (is_marked c.outcome)) t) (sym c.text_is)
-    (ended c.outcome c.fits c.is))
+module _ {B : Type 0} where
+  -- closed words and text of one run are what the run gives
+  pub IsRunOf-closed : (told : Told) (start : StartOf B) (status : Status) (text : List ℕ) (closed : List RestCell)
+      → IsRunClosed told start status text closed → IsRunOf told start status text
+  IsRunOf-closed told start status text closed c =
+      subst (λ s. IsRunOf told start s text) (sym c.status_is)
+      (subst (λ t. IsRunOf told start (status_of (is_marked c.outcome)) t) (sym c.text_is)
+      (ended c.outcome c.fits c.is))
 
--- what a run over workers gives is what its command gives
-pub IsGiven-run : (command : Command) (input : List ℕ) (start : Start) (status : Status) (text : List ℕ)
-    (closed : Option (List RestCell)) → has_workers command ≡ true → IsStart command input start
-    → (IsRunOf (told_of command) start status text → IsCommandOutput command input status text)
-    → IsRunGiven (told_of command) start status text closed → IsGiven command input status text closed
-IsGiven-run command input start status text None works is out given = record {
-  is_output = out (subst (λ s. IsRunOf (told_of command) start s text) (sym given.1)
-      (subst (λ t. IsRunOf (told_of command) start Full t) (sym given.2) (full given.0)));
-  are_with = ((λ some. absurd (nothing some)), (λ h. absurd (subst HasOutcome given.1 h.0)));
-  of_run = tt;
-}
-IsGiven-run command input start status text (Some words) works is out given = record {
-  is_output = out (IsRunOf-closed (told_of command) start status text words given);
-  are_with = (
-    (λ some. (subst HasOutcome (sym given.status_is) (HasOutcome-status_of (is_marked given.outcome)), works)),
-    (λ h. refl),
-  );
-  of_run = (start, is, given);
-}
+  -- what a run over workers gives, without its closed words
+  pub IsRunOf-given : (told : Told) (start : StartOf B) (status : Status) (text : List ℕ)
+      (closed : Option (List RestCell)) → IsRunGiven told start status text closed → IsRunOf told start status text
+  IsRunOf-given told start status text None given = subst (λ s. IsRunOf told start s text) (sym given.1)
+      (subst (λ t. IsRunOf told start Full t) (sym given.2) (full given.0))
+  IsRunOf-given told start status text (Some words) given = IsRunOf-closed told start status text words given
+
+  -- what a run over workers gives is what its command gives, where so is the output
+  pub IsGiven-run : (told : Told) (command : Command) (input : List ℕ) (start : StartOf B) (status : Status)
+      (text : List ℕ) (closed : Option (List RestCell)) → has_workers command ≡ true
+      → IsCommandOutput command input status text
+      → ((words : List RestCell) → IsRunClosed told start status text words
+      → IsCommandClosed command input status text words)
+      → IsRunGiven told start status text closed → IsGiven command input status text closed
+  IsGiven-run told command input start status text None works out of given = record {
+    is_output = out;
+    are_with = ((λ some. absurd (nothing some)), (λ h. absurd (subst HasOutcome given.1 h.0)));
+    of_run = tt;
+  }
+  IsGiven-run told command input start status text (Some words) works out of given = record {
+    is_output = out;
+    are_with = (
+      (λ some. (subst HasOutcome (sym given.status_is) (HasOutcome-status_of (is_marked given.outcome)), works)),
+      (λ h. refl),
+    );
+    of_run = of words given;
+  }
 
 -- what has no closed words and isn't an outcome of a run over workers
 pub IsGiven-alone : (command : Command) (input : List ℕ) (status : Status) (text : List ℕ)
@@ -128,8 +141,8 @@ IsGiven-report command workers cells steps strict input status text closed is (i
     (λ h. absurd (subst HasOutcome refused.0.0 h.0)) refused.1)
 IsGiven-report command workers cells steps strict input status text closed is (inr ran) =
     subst (λ k. IsGiven k input status text closed) (sym is)
-    (IsGiven-run (Run workers cells steps strict) input ran.0 status text closed refl ran.1
-    (λ out. inr (ran.0, ran.1, out)) ran.2)
+    (IsGiven-run Report (Run workers cells steps strict) input ran.0 status text closed refl
+    (inr (ran.0, ran.1, IsRunOf-given Report ran.0 status text closed ran.2)) (λ words of. (ran.0, ran.1, of)) ran.2)
 
 -- what `watch` gives
 pub IsGiven-watch : (command : Command) (workers cells steps : ℕ) (input : List ℕ) (status : Status)
@@ -143,8 +156,8 @@ IsGiven-watch command workers cells steps input status text closed is (inl refus
     (λ h. absurd (subst HasOutcome refused.0.0 h.0)) refused.1)
 IsGiven-watch command workers cells steps input status text closed is (inr ran) =
     subst (λ k. IsGiven k input status text closed) (sym is)
-    (IsGiven-run (Watch workers cells steps) input ran.0 status text closed refl ran.1
-    (λ out. inr (ran.0, ran.1, out)) ran.2)
+    (IsGiven-run Root (Watch workers cells steps) input ran.0 status text closed refl
+    (inr (ran.0, ran.1, IsRunOf-given Root ran.0 status text closed ran.2)) (λ words of. (ran.0, ran.1, of)) ran.2)
 
 -- what `gen` gives
 pub IsGiven-gen : (command : Command) (size workers cells steps : ℕ) (input : List ℕ) (status : Status)
@@ -154,8 +167,18 @@ pub IsGiven-gen : (command : Command) (size workers cells steps : ℕ) (input : 
     × IsRunGiven (Summary size) start status text closed) → IsGiven command input status text closed
 IsGiven-gen command size workers cells steps input status text closed is ran =
     subst (λ k. IsGiven k input status text closed) (sym is)
-    (IsGiven-run (Gen size workers cells steps) input ran.0 status text closed refl ran.1
-    (λ out. (ran.0, ran.1, out)) ran.2)
+    (IsGiven-run (Summary size) (Gen size workers cells steps) input ran.0 status text closed refl
+    (ran.0, ran.1, IsRunOf-given (Summary size) ran.0 status text closed ran.2) (λ words of. (ran.0, ran.1, of))
+    ran.2)
+
+-- what `relay` gives
+pub IsGiven-relay : (command : Command) (size workers cells : ℕ) (input : List ℕ) (status : Status) (text : List ℕ)
+    (closed : Option (List RestCell)) → command ≡ Relay size workers cells → IsRelayRun size cells status text
+    → IsRunGiven Report (relay_start size cells) status text closed → IsGiven command input status text closed
+IsGiven-relay command size workers cells input status text closed is lists ran =
+    subst (λ k. IsGiven k input status text closed) (sym is)
+    (IsGiven-run Report (Relay size workers cells) input (relay_start size cells) status text closed refl lists
+    (λ words of. of) ran)
 
 -- `plan`, `list`, `judge` and `known` have no workers
 pub alone : (command : Command) → ((cells : ℕ) × (steps : ℕ) × (strict : Bool) × (command ≡ Plan cells steps strict))
@@ -196,12 +219,11 @@ AreWith-put Room command status text closed before after b a answer words given 
 
 closed_put : (command : Command) (input : List ℕ) (status : Status) (text : List ℕ)
     (closed : Option (List RestCell)) (before after : Option (List ℕ))
-    → IfSome closed (λ words. (start : Start) × IsStart command input start
-    × IsRunClosed (told_of command) start status text words) → Appends before after text
+    → IfSome closed (IsCommandClosed command input status text) → Appends before after text
     → IfSome closed (IsClosedRun command input before after status)
 closed_put command input status text None before after of_run put = tt
 closed_put command input status text (Some words) before after of_run put =
-    (of_run.0, text, of_run.1, of_run.2, put)
+    (text, of_run, put)
 
 -- closed words that are answered are those of the run whose text was put
 pub IsClosedRun-put : (Room : ℕ → Type 0) (command : Command) (input : List ℕ) (status : Status) (text : List ℕ)
@@ -232,7 +254,7 @@ pub IsClosedRunOf-some : (words : List (String Global)) (input : List ℕ) (befo
 IsClosedRunOf-some words input before after status None run = tt
 IsClosedRunOf-some words input before after status (Some cells) run = (input, run)
 
--- closed words come with the status exactly where the words are a command that runs a script over workers
+-- closed words come with the status exactly where the words are a command that runs tasks over workers
 pub HaveWorkers-command : (words : List (String Global)) (command : Command) (status : Status)
     (closed : Option (List RestCell)) → IsCommand words command
     → ((other : Command) → IsCommand words other → other ≡ command) → AreWith command status closed

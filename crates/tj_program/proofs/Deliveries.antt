@@ -8,6 +8,8 @@ use Rattle.tj_program.specs.Delivery.{HasText, IsAnswered, IsOutputPart, IsPutAs
 use Rattle.tj_program.specs.Judgings.{IsJudging}
 use Rattle.tj_program.specs.KnownRuns.{IsKnownOf, needs_more, tells}
 use Rattle.tj_program.specs.Output.{IsOutput, IsCommandOutput, IsKnown, IsListed, IsRefused, IsRun, of_command}
+use Rattle.tj_program.specs.RelayRuns as relays
+use Rattle.tj_program.specs.RelayRuns.{IsRelayRun}
 use Rattle.tj_program.specs.Runs.{Start, IsRunOf, status_of, full, ended}
 use Rattle.tj_program.specs.declared.command.Command.{Command}
 use Rattle.tj_program.specs.declared.command.Command.TheVariants as command
@@ -50,6 +52,10 @@ own-known : (start : Start) (status : Status) (text : List ℕ) → IsKnownOf st
 own-known start status text (needs_more more) = tt
 own-known start status text (tells joins fits is) = own-status_of _
 
+own-relay : (size cells : ℕ) (status : Status) (text : List ℕ) → IsRelayRun size cells status text → IsOwn status
+own-relay size cells status text (relays.needs_more more) = tt
+own-relay size cells status text (relays.ends outcome fits is) = own-status_of _
+
 own : (c : Command) (input : List ℕ) (status : Status) (text : List ℕ) → IsCommandOutput c input status text
     → IsOwn status
 own (command.Run workers cells steps strict) input status text out =
@@ -65,6 +71,7 @@ own (command.Gen size workers cells steps) input status text out = own-run (Summ
 own (command.Known cells steps) input status text out =
     own-or_refused (IsKnown (command.Known cells steps) input) input status text
     (λ is. own-known is.0 status text is.2) out
+own (command.Relay size workers cells) input status text out = own-relay size cells status text out
 own (command.Watch workers cells steps) input status text out =
     own-or_refused (IsRun Root (command.Watch workers cells steps) input) input status text
     (λ ran. own-run Root ran.0 status text ran.2) out

@@ -1,5 +1,6 @@
 -- What reading an input up to the most bytes tells of it.
-use Rattle.std.proofs.Common.{◌≡◌, ℕ, ◌+◌, ◌<◌, List, [], ◌∷◌, ◌++◌, length, take, nat_le, Bool, true, false, cond, sym, refl, ap, subst, ◌∙◌, arith}
+use Rattle.std.proofs.Common.{◌≡◌, ℕ, ◌+◌, ◌<◌, ◌⊎◌, inl, inr, List, [], ◌∷◌, ◌++◌, length, take, nat_le, Bool, true, false}
+use Rattle.std.proofs.Common.{cond, sym, refl, ap, subst, ◌∙◌, arith}
 use Rattle.std.proofs.lemmas.Bool.Decides.{nat_tests}
 use Rattle.std.proofs.Math.Seq.{take-append_seam}
 use Rattle.std.proofs.lemmas.List.{length-append}
@@ -7,7 +8,10 @@ use Rattle.tj_ports.specs.declared.source.ReadEnd.{ReadEnd}
 use Rattle.tj_ports.specs.declared.source.ReadEnd.TheVariants.{Whole, Long}
 use Rattle.tj_ports.specs.Reading.{IsWithin}
 use Rattle.tj_program.specs.Inner.Inputs.{IsReadOf}
+use Rattle.tj_program.specs.Output.{takes_input}
 use Rattle.tj_program.specs.ScriptTexts.{most_bytes}
+use Rattle.tj_program.specs.declared.command.Command.{Command}
+use Rattle.tj_program.specs.declared.command.Command.TheVariants.{Gen, Relay}
 
 whole_cases : (limit : ℕ) (bytes input : List ℕ) (b : Bool)
     → Whole bytes ≡ cond b (Whole input) (Long (take limit input)) → bytes ≡ input
@@ -61,3 +65,10 @@ some_input (Long bytes) full =
       sym (cond_false (nat_le (length more) most_bytes) (Whole more) (Long (take most_bytes more)) no
           ∙ ap (λ l. Long l) first),
     )
+
+-- `gen` and `relay` take no input
+pub takes_none : (command : Command)
+    → ((size : ℕ) × (workers : ℕ) × (cells : ℕ) × (steps : ℕ) × (command ≡ Gen size workers cells steps))
+    ⊎ ((size : ℕ) × (workers : ℕ) × (cells : ℕ) × (command ≡ Relay size workers cells)) → takes_input command ≡ false
+takes_none command (inl is) = ap takes_input is.4
+takes_none command (inr is) = ap takes_input is.3

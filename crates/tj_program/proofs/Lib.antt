@@ -8,3 +8,4 @@ pub mod GeneratedScripts
 pub mod ClosedRuns
 pub mod KnownRuns
 pub mod RootLines
+pub mod RelayRuns

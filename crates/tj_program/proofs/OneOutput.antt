@@ -1,8 +1,10 @@
 -- Words and an input have one output at most, from the laws of the crates below.
-use Rattle.std.proofs.Common.{◌≡◌, ℕ, ◌≤◌, ◌⊎◌, inl, inr, List, [], Some, String, Result, Ok, Err, length, refl, sym, ap, subst, ◌∙◌, arith}
+use Rattle.std.proofs.Common.{◌≡◌, ℕ, ◌<◌, ◌≤◌, ◌⊎◌, inl, inr, List, [], Some, String, Result, Ok, Err, length, refl, sym, ap, subst, ◌∙◌, arith}
 use Rattle.std.specs.declared.alloc.Global.{Global}
 use Rattle.tj_body.specs.Rounds.{meaning}
 use Rattle.tj_body.specs.declared.point.Point.{Point}
+use Rattle.tj_chan.specs.ChannelOutcomes.{IsChatOutcome}
+use Rattle.tj_chan.specs.ChannelRounds.{chat_meaning}
 use Rattle.tj_core.specs.declared.event.Event.{Event}
 use Rattle.tj_core.specs.Journal as journal
 use Rattle.tj_core.specs.Journal.{lines_of}
@@ -15,17 +17,22 @@ use Rattle.tj_lex.specs.declared.token.LexFault.{LexFault}
 use Rattle.tj_lex.specs.Tokens as tokens
 use Rattle.tj_lex.specs.Tokens.{Answers, AreTokens}
 use Rattle.tj_core.specs.Judging.{IsJudged}
+use Rattle.tj_mean.specs.declared.outcome.Outcome.{Outcome}
 use Rattle.tj_mean.specs.Outcomes.{is_marked}
 use Rattle.tj_mean.specs.OutcomeLaws.{HasOneOutcome}
+use Rattle.tj_report.specs.ReportTexts.{report}
 use Rattle.tj_syntax.specs.declared.fault.ParseFault.{ParseFault}
 use Rattle.tj_syntax.specs.Faults as grammar
 use Rattle.tj_syntax.specs.Listing.{listing}
 use Rattle.tj_syntax.specs.Faults.{EndsInEnd, IsScript, kinds_of}
 use Rattle.tj_syntax.specs.Trees.{Task}
+use Rattle.tj_program.specs.CommandLine.{HasLimits}
 use Rattle.tj_program.specs.Judgings as judgings
 use Rattle.tj_program.specs.Judgings.{IsJournalFault, IsJudging, bad_line}
 use Rattle.tj_program.specs.Output.{IsOutput, IsCommandOutput, IsKnown, IsListed, IsRefused, IsRun, IsStart, IsStartOfText, usage, of_command}
 use Rattle.tj_program.specs.KnownRuns.{IsKnownOf}
+use Rattle.tj_program.specs.RelayRuns as relays
+use Rattle.tj_program.specs.RelayRuns.{IsRelayRun, relay_chats}
 use Rattle.tj_program.specs.Runs.{Start, IsRunOf, IsStartOf, start_of, status_of, text_of, full, ended}
 use Rattle.tj_program.specs.ScriptTexts.{most_bytes, IsScriptOf, IsFaultLine, IsFirstFault, fault_line, too_long, in_tokens, in_grammar}
 use Rattle.tj_program.specs.Texts.{journal_fault}
@@ -38,7 +45,7 @@ use Rattle.tj_program.specs.declared.script_text.NoScript.{NoScript}
 use Rattle.tj_program.specs.declared.script_text.NoScript.TheVariants.{Tokens, Grammar}
 use Rattle.tj_program.specs.declared.status.Status.{Status}
 use Rattle.tj_program.proofs.KnownRuns.{one_known}
-use Rattle.tj_program.proofs.Lines.CommandLines.{one_command}
+use Rattle.tj_program.proofs.Lines.CommandLines.{one_command, within_limits}
 
 -- What the crates below leave no choice in.
 pub record AreOne : Type 0 where
@@ -49,6 +56,9 @@ pub record AreOne : Type 0 where
   pub no_fault : (tokens : List Token) (script : List Task) (fault : ParseFault) → EndsInEnd tokens
       → IsScript (kinds_of tokens) script → grammar.IsFirstFault tokens fault → ⊥
   pub outcome : (ps : List (Point TaskState)) → HasOneOutcome ps
+  pub lists : (size cells : ℕ) → 0 < size → size ≤ 4000 → (a b : Outcome)
+      → IsChatOutcome (chat_meaning (relay_chats size) cells) a
+      → IsChatOutcome (chat_meaning (relay_chats size) cells) b → a ≡ b
   pub events : EventsAreOne
   pub line : FirstFaultIsOne
   pub no_line : EventsHaveNoFault
@@ -140,6 +150,7 @@ module _ (one : AreOne) where
   one_start (command.Judge cells) input s t h k = absurd h
   one_start (command.Gen size workers cells steps) input s t h k = one_start_of_text _ (script_text size) s t h k
   one_start (command.Known cells steps) input s t h k = one_start_of_text _ input s t h k
+  one_start (command.Relay size workers cells) input s t h k = absurd h
   one_start (command.Watch workers cells steps) input s t h k = one_start_of_text _ input s t h k
 
   one_run_of : (told : Told) (start : Start) (a b : Status) (s t : List ℕ) → IsRunOf told start a s
@@ -191,24 +202,34 @@ module _ (one : AreOne) where
       (subst (λ es. IsJudged cells es t k.1) events k.3) in
       (h.4 ∙ ap status_of judged.1 ∙ sym k.4, judged.0)
 
-  one_of_command : (c : Command) (input : List ℕ) (a b : Status) (s t : List ℕ) → IsCommandOutput c input a s
-      → IsCommandOutput c input b t → Same a s b t
-  one_of_command (command.Run workers cells steps strict) input a b s t h k =
+  one_relay : (size cells : ℕ) → 0 < size → size ≤ 4000 → (a b : Status) (s t : List ℕ)
+      → IsRelayRun size cells a s → IsRelayRun size cells b t → Same a s b t
+  one_relay size cells some few a b s t (relays.needs_more m) (relays.needs_more n) = (refl, refl)
+  one_relay size cells some few a b s t (relays.needs_more m) (relays.ends o fits is) = absurd (fits m)
+  one_relay size cells some few a b s t (relays.ends o fits is) (relays.needs_more m) = absurd (fits m)
+  one_relay size cells some few a b s t (relays.ends o fits is) (relays.ends p also are) =
+      let same = one.lists size cells some few o p is are in (ap (λ x. status_of (is_marked x)) same, ap report same)
+
+  one_of_command : (c : Command) (input : List ℕ) → HasLimits c → (a b : Status) (s t : List ℕ)
+      → IsCommandOutput c input a s → IsCommandOutput c input b t → Same a s b t
+  one_of_command (command.Run workers cells steps strict) input limits a b s t h k =
       one_or_refused (IsRun Report (command.Run workers cells steps strict) input) input
       (λ status text ran. (ran.1.0, ran.1.1)) (one_run Report (command.Run workers cells steps strict) input) a b s t
       h k
-  one_of_command (command.Plan cells steps strict) input a b s t h k =
+  one_of_command (command.Plan cells steps strict) input limits a b s t h k =
       one_or_refused (IsRun Report (command.Plan cells steps strict) input) input
       (λ status text ran. (ran.1.0, ran.1.1)) (one_run Report (command.Plan cells steps strict) input) a b s t h k
-  one_of_command command.List input a b s t h k =
+  one_of_command command.List input limits a b s t h k =
       one_or_refused (IsListed input) input (λ status text is. (is.0, is.1)) (one_listing input) a b s t h k
-  one_of_command (command.Judge cells) input a b s t h k = one_judging cells input a b s t h k
-  one_of_command (command.Gen size workers cells steps) input a b s t h k =
+  one_of_command (command.Judge cells) input limits a b s t h k = one_judging cells input a b s t h k
+  one_of_command (command.Gen size workers cells steps) input limits a b s t h k =
       one_run (Summary size) (command.Gen size workers cells steps) input a b s t h k
-  one_of_command (command.Known cells steps) input a b s t h k =
+  one_of_command (command.Known cells steps) input limits a b s t h k =
       one_or_refused (IsKnown (command.Known cells steps) input) input (λ status text is. (is.1.0, is.1.1))
       (one_known_of (command.Known cells steps) input) a b s t h k
-  one_of_command (command.Watch workers cells steps) input a b s t h k =
+  one_of_command (command.Relay size workers cells) input limits a b s t h k =
+      one_relay size cells limits.0.0 limits.0.1 a b s t h k
+  one_of_command (command.Watch workers cells steps) input limits a b s t h k =
       one_or_refused (IsRun Root (command.Watch workers cells steps) input) input
       (λ status text ran. (ran.1.0, ran.1.1)) (one_run Root (command.Watch workers cells steps) input) a b s t h k
 
@@ -218,5 +239,5 @@ module _ (one : AreOne) where
   one_output words input a b s t (usage f) (of_command c is out) = absurd (f c is)
   one_output words input a b s t (of_command c is out) (usage f) = absurd (f c is)
   one_output words input a b s t (of_command c is out) (of_command d are also) =
-      one_of_command c input a b s t out
+      one_of_command c input (within_limits words c is) a b s t out
       (subst (λ k. IsCommandOutput k input b t) (one_command words d c are is) also)

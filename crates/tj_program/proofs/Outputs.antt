@@ -39,6 +39,12 @@ pub if_ok : {A E : Type 0} {P Q : A → Type 0} (r : Result A E) → ((x : A) �
 if_ok (Ok x) f p = f x p
 if_ok (Err e) f p = tt
 
+-- and of two things that are so of it
+pub if_both : {A E : Type 0} {P Q R : A → Type 0} (r : Result A E) → ((x : A) → P x → Q x → R x) → IfOk r P → IfOk r Q
+    → IfOk r R
+if_both (Ok x) f p q = f x p q
+if_both (Err e) f p q = tt
+
 -- The first fault of a text, where its tokens have one.
 pub token_first : (text : List ℕ) (fault : LexFault) → length text ≤ most_bytes
     → tokens.OrMemory (tokens.IsFirstFault text) fault → IsMemory (Tokens fault) ⊎ IsFirstFault text (Tokens fault)

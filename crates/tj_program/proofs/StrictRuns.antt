@@ -66,6 +66,7 @@ never_waits law (command.Gen size workers cells steps) input fits = λ start is 
     absurd (false≢true (sym (ap (λ s. s.program.rules.strict) is.2.2) ∙ strict))
 never_waits law (command.Known cells steps) input fits = λ start is strict.
     absurd (false≢true (sym (ap (λ s. s.program.rules.strict) is.2.2) ∙ strict))
+never_waits law (command.Relay size workers cells) input fits = λ start is. absurd is
 never_waits law (command.Watch workers cells steps) input fits = λ start is strict.
     absurd (false≢true (sym (ap (λ s. s.program.rules.strict) is.2.2) ∙ strict))
 

@@ -10,9 +10,10 @@ use Rattle.tj_words.specs.RestMeaning.{HaveWords}
 use Rattle.tj_words.specs.declared.closed.RestCell.{RestCell}
 use Rattle.tj_program.specs.CommandLine.{IsCommand}
 use Rattle.tj_program.specs.Output.{IsStart}
-use Rattle.tj_program.specs.Runs.{Start, NeedsMore, IsOutcomeOf, status_of, text_of}
+use Rattle.tj_program.specs.RelayRuns.{relay_start}
+use Rattle.tj_program.specs.Runs.{Start, StartOf, NeedsMore, IsOutcomeOf, status_of, text_of}
 use Rattle.tj_program.specs.declared.command.Command.{Command}
-use Rattle.tj_program.specs.declared.command.Command.TheVariants.{Run, Gen, Watch}
+use Rattle.tj_program.specs.declared.command.Command.TheVariants.{Run, Gen, Relay, Watch}
 use Rattle.tj_program.specs.declared.script_run.Told.{Told}
 use Rattle.tj_program.specs.declared.script_run.Told.TheVariants.{Report, Root, Summary}
 use Rattle.tj_program.specs.declared.status.Status.{Status}
@@ -24,44 +25,53 @@ HasOutcome Clean = Unit {0}
 HasOutcome Marked = Unit {0}
 HasOutcome _ = ⊥
 
--- whether the command runs a script over workers
+-- whether the command runs tasks over workers
 abbrev pub has_workers : Command → Bool
 has_workers (Run workers cells steps strict) = true
 has_workers (Gen size workers cells steps) = true
+has_workers (Relay size workers cells) = true
 has_workers (Watch workers cells steps) = true
 has_workers _ = false
 
--- the words are a command that runs a script over workers
+-- the words are a command that runs tasks over workers
 abbrev pub HaveWorkers : List (String Global) → Type 0
 HaveWorkers words = (command : Command) × IsCommand words command × (has_workers command ≡ true)
 
--- how a command tells the outcome of the script that it runs
+-- how a command tells the outcome of what it runs
 abbrev pub told_of : Command → Told
 told_of (Gen size workers cells steps) = Summary size
 told_of (Watch workers cells steps) = Root
 told_of _ = Report
 
--- Status, text and closed words are of one run. It isn't full; the text and the status are those of its outcome; the
--- words are at rest, and are those of its meaning. Each cycle, of the outcome and of the words, has a member that has
--- alarmed, and each task that has alarmed is on a cycle.
-pub record IsRunClosed (told : Told) (start : Start) (status : Status) (text : List ℕ) (closed : List RestCell)
-    : Type 0 where
-  pub fits : ¬ NeedsMore start
-  pub outcome : Outcome
-  pub is : IsOutcomeOf start outcome
-  pub status_is : status ≡ status_of (is_marked outcome)
-  pub text_is : text ≡ text_of told outcome
-  pub words : HaveWords start.program start.cells closed
-  pub rest : AreAtRest closed
-  pub alarmed : AreCyclesOfOutcomeAlarmed closed outcome
-  pub cycles : AreCyclesAlarmed closed
-  pub alarms : AreAlarmsOnCycles closed
+module _ {B : Type 0} where
+  -- Status, text and closed words are of one run. It isn't full; the text and the status are those of its outcome; the
+  -- words are at rest, and are those of its meaning. Each cycle, of the outcome and of the words, has a member that has
+  -- alarmed, and each task that has alarmed is on a cycle.
+  pub record IsRunClosed (told : Told) (start : StartOf B) (status : Status) (text : List ℕ) (closed : List RestCell)
+      : Type 0 where
+    pub fits : ¬ NeedsMore start
+    pub outcome : Outcome
+    pub is : IsOutcomeOf start outcome
+    pub status_is : status ≡ status_of (is_marked outcome)
+    pub text_is : text ≡ text_of told outcome
+    pub words : HaveWords start.program start.cells closed
+    pub rest : AreAtRest closed
+    pub alarmed : AreCyclesOfOutcomeAlarmed closed outcome
+    pub cycles : AreCyclesAlarmed closed
+    pub alarms : AreAlarmsOnCycles closed
+
+-- status, text and closed words are of one run of a command and an input: of a relay over promises, or of a script
+abbrev pub IsCommandClosed : Command → (input : List ℕ) → Status → List ℕ → (closed : List RestCell) → Type 0
+IsCommandClosed (Relay size workers cells) input status text closed =
+    IsRunClosed Report (relay_start size cells) status text closed
+IsCommandClosed command input status text closed =
+    (start : Start) × IsStart command input start × IsRunClosed (told_of command) start status text closed
 
 -- closed words of the run of a command and an input, whose text was put whole and whose status this is
 abbrev pub IsClosedRun : Command → (input : List ℕ) → (before after : Option (List ℕ)) → Status
     → (closed : List RestCell) → Type 0
-IsClosedRun command input before after status closed = (start : Start) × (text : List ℕ) × IsStart command input start
-    × IsRunClosed (told_of command) start status text closed × Appends before after text
+IsClosedRun command input before after status closed =
+    (text : List ℕ) × IsCommandClosed command input status text closed × Appends before after text
 
 -- the same of the command that the words are
 abbrev pub IsClosedRunOf : List (String Global) → (input : List ℕ) → (before after : Option (List ℕ)) → Status

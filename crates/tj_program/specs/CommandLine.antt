@@ -21,6 +21,7 @@ mode_text modes.List = codes "list"
 mode_text modes.Judge = codes "judge"
 mode_text modes.Gen = codes "gen"
 mode_text modes.Known = codes "known"
+mode_text modes.Relay = codes "relay"
 mode_text modes.Watch = codes "watch"
 
 -- the word of each option
@@ -49,12 +50,14 @@ words_of strict = codes "--strict" ∷ []
 abbrev pub greatest : Mode → OptionName → Option ℕ
 greatest modes.Run Workers = Some 64
 greatest modes.Gen Workers = Some 64
+greatest modes.Relay Workers = Some 64
 greatest modes.Watch Workers = Some 64
 greatest modes.Run Cells = Some 16384
 greatest modes.Plan Cells = Some 16384
 greatest modes.Judge Cells = Some 1024
 greatest modes.Gen Cells = Some 16384
 greatest modes.Known Cells = Some 4096
+greatest modes.Relay Cells = Some 16384
 greatest modes.Watch Cells = Some 16384
 greatest modes.Run Steps = Some 1000000
 greatest modes.Plan Steps = Some 1000000
@@ -62,6 +65,7 @@ greatest modes.Gen Steps = Some 1000000
 greatest modes.Known Steps = Some 1000000
 greatest modes.Watch Steps = Some 1000000
 greatest modes.Gen Size = Some 4000
+greatest modes.Relay Size = Some 4000
 greatest _ _ = None
 
 -- what stands for an option that is absent
@@ -133,6 +137,8 @@ asked modes.Judge items = commands.Judge (number modes.Judge items Cells)
 asked modes.Gen items = commands.Gen (number modes.Gen items Size) (number modes.Gen items Workers)
     (number modes.Gen items Cells) (number modes.Gen items Steps)
 asked modes.Known items = commands.Known (number modes.Known items Cells) (number modes.Known items Steps)
+asked modes.Relay items = commands.Relay (number modes.Relay items Size) (number modes.Relay items Workers)
+    (number modes.Relay items Cells)
 asked modes.Watch items = commands.Watch (number modes.Watch items Workers) (number modes.Watch items Cells)
     (number modes.Watch items Steps)
 
@@ -155,5 +161,7 @@ HasLimits (commands.Judge cells) = IsWithin modes.Judge Cells cells
 HasLimits (commands.Gen size workers cells steps) = IsWithin modes.Gen Size size
     × IsWithin modes.Gen Workers workers × IsWithin modes.Gen Cells cells × IsWithin modes.Gen Steps steps
 HasLimits (commands.Known cells steps) = IsWithin modes.Known Cells cells × IsWithin modes.Known Steps steps
+HasLimits (commands.Relay size workers cells) =
+    IsWithin modes.Relay Size size × IsWithin modes.Relay Workers workers × IsWithin modes.Relay Cells cells
 HasLimits (commands.Watch workers cells steps) =
     IsWithin modes.Watch Workers workers × IsWithin modes.Watch Cells cells × IsWithin modes.Watch Steps steps

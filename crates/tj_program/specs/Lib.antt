@@ -13,3 +13,4 @@ pub mod ClosedRuns
 pub mod KnownRuns
 pub mod RootLines
 pub mod ShyAsks
+pub mod RelayRuns

@@ -7,11 +7,13 @@ use Rattle.tj_syntax.specs.Trees.{Task}
 use Rattle.tj_program.specs.CommandLine.{IsCommand, HasNoForm}
 use Rattle.tj_program.specs.Judgings.{IsJudging}
 use Rattle.tj_program.specs.KnownRuns.{IsKnownOf}
+use Rattle.tj_program.specs.RelayRuns.{IsRelayRun}
 use Rattle.tj_program.specs.Runs.{Start, IsStartOf, IsRunOf}
 use Rattle.tj_program.specs.ScriptTexts.{IsScriptOf, IsFaultLine}
 use Rattle.tj_program.specs.Texts.{usage_line}
 use Rattle.tj_program.specs.declared.command.Command.{Command}
-use Rattle.tj_program.specs.declared.command.Command.TheVariants.{Run, Plan, List as list, Judge, Gen, Known, Watch}
+use Rattle.tj_program.specs.declared.command.Command.TheVariants.{Run, Plan, List as list, Judge, Gen, Known}
+use Rattle.tj_program.specs.declared.command.Command.TheVariants.{Relay, Watch}
 use Rattle.tj_program.specs.declared.script_run.Limits.{Limits}
 use Rattle.tj_program.specs.declared.script_run.Told.{Told}
 use Rattle.tj_program.specs.declared.script_run.Told.TheVariants.{Report, Root, Summary}
@@ -22,9 +24,9 @@ use Rattle.tj_program.specs.declared.status.Status.TheVariants.{Clean, Usage, Sc
 abbrev pub IsStartOfText : Limits → List ℕ → Start → Type 0
 IsStartOfText limits text start = (script : List Task) × IsScriptOf text script × IsStartOf limits script start
 
--- what the run of a command and an input begins with: the rule, the limit of cells and the root's body. `gen` runs the
--- generated script, `known` and `watch` the input, without the strict rule; `list` and `judge` run none. The number of
--- workers has no part in it.
+-- what the run of a command's script begins with: the rule, the limit of cells and the root's body. `gen` runs the
+-- generated script, `known` and `watch` the input, without the strict rule; `list`, `judge` and `relay` run no script.
+-- The number of workers has no part in it.
 abbrev pub IsStart : Command → (input : List ℕ) → Start → Type 0
 IsStart (Run workers cells steps strict) input =
     IsStartOfText (record { cells = cells; steps = steps; strict = strict }) input
@@ -35,6 +37,7 @@ IsStart (Judge cells) input = λ start. ⊥
 IsStart (Gen size workers cells steps) input =
     IsStartOfText (record { cells = cells; steps = steps; strict = false }) (script_text size)
 IsStart (Known cells steps) input = IsStartOfText (record { cells = cells; steps = steps; strict = false }) input
+IsStart (Relay size workers cells) input = λ start. ⊥
 IsStart (Watch workers cells steps) input =
     IsStartOfText (record { cells = cells; steps = steps; strict = false }) input
 
@@ -67,6 +70,7 @@ IsCommandOutput (Gen size workers cells steps) input status text =
     IsRun (Summary size) (Gen size workers cells steps) input status text
 IsCommandOutput (Known cells steps) input status text =
     IsRefused input status text ⊎ IsKnown (Known cells steps) input status text
+IsCommandOutput (Relay size workers cells) input status text = IsRelayRun size cells status text
 IsCommandOutput (Watch workers cells steps) input status text =
     IsRefused input status text ⊎ IsRun Root (Watch workers cells steps) input status text
 
@@ -84,6 +88,7 @@ takes_input list = true
 takes_input (Judge cells) = true
 takes_input (Gen size workers cells steps) = false
 takes_input (Known cells steps) = true
+takes_input (Relay size workers cells) = false
 takes_input (Watch workers cells steps) = true
 
 -- the words are a command that takes the input

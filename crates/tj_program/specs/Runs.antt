@@ -32,14 +32,22 @@ text_of Root outcome = root_line outcome.lines
 abbrev pub script_program : Bool → TaskState → Program TaskState
 script_program = program_of script_places script_awaits script_left script_asks script_then
 
--- what a run begins with: the program, which has the rule and the root's body, and the most cells
-pub record Start : Type 0 where
-  pub program : Program TaskState
+-- what a run of such bodies begins with: the program, which has the rule and the root's body, and the most cells
+pub record StartOf (B : Type 0) : Type 0 where
+  pub program : Program B
   pub cells : ℕ
 
--- the run of a root with such a body, under this rule and with so many cells at most
+-- the run of a program's root, under this rule and with so many cells at most
+abbrev pub started : {B : Type 0} → (Bool → B → Program B) → Bool → (cells : ℕ) → B → StartOf B
+started program strict cells root = record { program = program strict root; cells = cells }
+
+-- what the run of a script begins with
+abbrev pub Start : Type 0
+Start = StartOf TaskState
+
+-- the run of a root whose body is that of a script's task
 abbrev pub start_of : Bool → (cells : ℕ) → TaskState → Start
-start_of strict cells root = record { program = script_program strict root; cells = cells }
+start_of strict cells root = started script_program strict cells root
 
 -- the run of a script under these limits begins with this: its root has the body of `main`
 abbrev pub IsStartOf : Limits → List Task → Start → Type 0
@@ -47,18 +55,19 @@ IsStartOf limits script start = (root : TaskState) × IsMainBody script limits.s
     × (start ≡ start_of limits.strict limits.cells root)
 
 -- the program needs more cells
-abbrev pub NeedsMore : Start → Type 0
+abbrev pub NeedsMore : {B : Type 0} → StartOf B → Type 0
 NeedsMore start = IsFull start.program start.cells
 
 -- the outcome of the program's meaning
-abbrev pub IsOutcomeOf : Start → Outcome → Type 0
+abbrev pub IsOutcomeOf : {B : Type 0} → StartOf B → Outcome → Type 0
 IsOutcomeOf start = IsOutcome (meaning start.program start.cells)
 
--- what the run gives: that it is full, or its outcome as it is told
-pub data IsRunOf (told : Told) (start : Start) : Status → List ℕ → Type 0 where
-  full : NeedsMore start → IsRunOf told start Full (full_line start.cells)
-  ended : (outcome : Outcome) → ¬ NeedsMore start → IsOutcomeOf start outcome
-      → IsRunOf told start (status_of (is_marked outcome)) (text_of told outcome)
+module _ {B : Type 0} where
+  -- what the run gives: that it is full, or its outcome as it is told
+  pub data IsRunOf (told : Told) (start : StartOf B) : Status → List ℕ → Type 0 where
+    full : NeedsMore start → IsRunOf told start Full (full_line start.cells)
+    ended : (outcome : Outcome) → ¬ NeedsMore start → IsOutcomeOf start outcome
+        → IsRunOf told start (status_of (is_marked outcome)) (text_of told outcome)
 
 -- the cells and the statements of a run are within the program's limits
 pub record AreLimits (limits : Limits) : Type 0 where

@@ -5,7 +5,7 @@ use Rattle.tj_lex.specs.declared.place.Place.{Place}
 -- where the words have no form
 abbrev pub usage_line : List ℕ
 usage_line =
-    codes "usage: tj run|plan|list|judge|gen|known|watch [--workers N] [--cells N] [--steps N] [--size N] [--strict]\n"
+    codes "usage: tj run|plan|list|judge|gen|known|relay|watch [--workers N] [--cells N] [--steps N] [--size N] [--strict]\n"
 
 -- the fault of a script that has this letter and number, at this place
 abbrev pub script_fault : List ℕ → Place → List ℕ

@@ -48,6 +48,11 @@ pub enum Command {
         cells: u32,
         steps: u32,
     },
+    Relay {
+        size: u32,
+        workers: u32,
+        cells: u32,
+    },
     Watch {
         workers: u32,
         cells: u32,
@@ -153,6 +158,11 @@ fn command_for(mode: Mode, numbers: Numbers, strict: bool) -> Command
             steps,
         },
         Mode::Known => Command::Known { cells, steps },
+        Mode::Relay => Command::Relay {
+            size,
+            workers,
+            cells,
+        },
         Mode::Watch => Command::Watch {
             workers,
             cells,

@@ -40,6 +40,14 @@ fn known_with(cells: u32, steps: u32) -> Option<Command> {
     Some(Command::Known { cells, steps })
 }
 
+fn relay_with(size: u32, workers: u32, cells: u32) -> Option<Command> {
+    Some(Command::Relay {
+        size,
+        workers,
+        cells,
+    })
+}
+
 fn watch_with(workers: u32, cells: u32, steps: u32) -> Option<Command> {
     Some(Command::Watch {
         workers,
@@ -57,6 +65,7 @@ fn absent_options(rt: HostRuntime) -> Result<(), Fail> {
     assert!(rt; asks(alloc, "judge", Some(Command::Judge { cells: 256 }))?);
     assert!(rt; asks(alloc, "gen", gen_with(100, 4, 4096, 100_000))?);
     assert!(rt; asks(alloc, "known", known_with(4096, 100_000))?);
+    assert!(rt; asks(alloc, "relay", relay_with(100, 4, 4096))?);
     assert!(rt; asks(alloc, "watch", watch_with(4, 4096, 100_000))?);
     Ok(())
 }
@@ -111,6 +120,13 @@ fn options_in_any_order(rt: HostRuntime) -> Result<(), Fail> {
     assert!(rt;
         asks(
             alloc,
+            "relay --cells 16384 --size 4000 --workers 64",
+            relay_with(4000, 64, 16_384)
+        )?
+    );
+    assert!(rt;
+        asks(
+            alloc,
             "watch --steps 7 --cells 16384 --workers 64",
             watch_with(64, 16_384, 7)
         )?
@@ -143,6 +159,9 @@ fn lines_that_ask_for_nothing(rt: HostRuntime) -> Result<(), Fail> {
         "known --cells 4097",
         "known --workers 2",
         "known --strict",
+        "relay --size 4001",
+        "relay --steps 1",
+        "relay --strict",
         "watch --workers 65",
         "watch --size 1",
         "watch --strict",

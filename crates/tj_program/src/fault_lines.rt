@@ -12,7 +12,7 @@ use tj_syntax::ParseFault;
 
 /// What is written where the words have no form.
 pub const USAGE_LINE: &[u8] =
-    b"usage: tj run|plan|list|judge|gen|known|watch [--workers N] [--cells N] [--steps N] [--size N] [--strict]\n";
+    b"usage: tj run|plan|list|judge|gen|known|relay|watch [--workers N] [--cells N] [--steps N] [--size N] [--strict]\n";
 
 /// The line of a script's fault. Want of memory has none.
 pub fn fault_line(alloc: Global, fault: NoScript) -> Result<Vec<u8>, Oom>

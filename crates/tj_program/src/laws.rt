@@ -1,7 +1,11 @@
 //! Laws of the output. They speak of the definitions alone.
-ghost use Rattle.std.specs.Prelude.{◌≡◌, ℕ, List, String};
+ghost use Rattle.std.specs.Prelude.{◌≡◌, ◌<◌, ◌≤◌, ℕ, List, String};
 ghost use Rattle.std.specs.declared.alloc.Global.{Global};
+ghost use Rattle.tj_chan.specs.ChannelOutcomes.{IsChatOutcome};
+ghost use Rattle.tj_chan.specs.ChannelRounds.{chat_meaning};
+ghost use Rattle.tj_mean.specs.declared.outcome.Outcome.{Outcome};
 ghost use Rattle.tj_program.specs.CommandLine.{HasLimits};
+ghost use Rattle.tj_program.specs.RelayRuns.{relay_chats};
 ghost use Rattle.tj_program.specs.StrictRuns.{StrictRunsNeverWait};
 ghost use Rattle.tj_program.specs.KnownRuns.{KnownJoinsOfMeaningAreAlong};
 ghost use Rattle.tj_program.specs.Output.{IsOutput, IsStart};
@@ -9,6 +13,7 @@ ghost use Rattle.tj_program.specs.Runs.{Start};
 ghost use Rattle.tj_program.specs.declared.command.Command.{Command};
 ghost use Rattle.tj_program.specs.declared.status.Status.{Status};
 
+use tj_chan::{ChanBody, Relay, channels_are_lists};
 use tj_core::{one_judging, one_reading};
 use tj_eval::ScriptBody;
 use tj_eval::laws::{no_get, scripts_without_the_keyword};
@@ -27,8 +32,19 @@ pub fn one_output()
     one_fault();
     scripts_have_no_fault();
     one_outcome::<ScriptBody<'static>>();
+    one_relay();
     one_reading();
     one_judging();
+}
+
+/// A relay has one outcome at most by channels as lists.
+fn one_relay()
+    ensures { (size cells : ℕ) → 0 < size → size ≤ 4000 → (a b : Outcome)
+        → IsChatOutcome (chat_meaning (relay_chats size) cells) a
+        → IsChatOutcome (chat_meaning (relay_chats size) cells) b → a ≡ b }
+{
+    channels_are_lists::<Relay>();
+    one_outcome::<ChanBody<Relay>>();
 }
 
 /// No outcome of a script without the keyword `get` has a cycle or a task that waits, where it runs

@@ -22,6 +22,9 @@ mod mode_outputs;
 mod mode_tests;
 mod output;
 mod places;
+mod relay_run;
+#[cfg(test)]
+mod relay_tests;
 mod root_lines;
 #[cfg(test)]
 mod row_tests;

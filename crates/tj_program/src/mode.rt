@@ -12,6 +12,7 @@ pub enum Mode {
     Judge,
     Gen,
     Known,
+    Relay,
     Watch,
 }
 
@@ -37,6 +38,7 @@ impl Mode {
             "judge" => Some(Mode::Judge),
             "gen" => Some(Mode::Gen),
             "known" => Some(Mode::Known),
+            "relay" => Some(Mode::Relay),
             "watch" => Some(Mode::Watch),
             _ => None,
         }
@@ -47,12 +49,13 @@ impl Mode {
         ensures { result ≡ greatest self name }
     {
         match (name, self) {
-            (OptionName::Workers, Mode::Run | Mode::Gen | Mode::Watch) => Some(64),
-            (OptionName::Cells, Mode::Run | Mode::Plan | Mode::Gen | Mode::Watch) => Some(16_384),
+            (OptionName::Workers, Mode::Run | Mode::Gen | Mode::Relay | Mode::Watch) => Some(64),
             (OptionName::Cells, Mode::Judge) => Some(1024),
             (OptionName::Cells, Mode::Known) => Some(4096),
-            (OptionName::Size, Mode::Gen) => Some(4000),
-            (OptionName::Steps, Mode::List | Mode::Judge) => None,
+            (OptionName::Cells, Mode::List) => None,
+            (OptionName::Cells, _) => Some(16_384),
+            (OptionName::Size, Mode::Gen | Mode::Relay) => Some(4000),
+            (OptionName::Steps, Mode::List | Mode::Judge | Mode::Relay) => None,
             (OptionName::Steps, _) => Some(1_000_000),
             _ => None,
         }
@@ -77,7 +80,7 @@ impl Mode {
     {
         match self {
             Mode::Run | Mode::Plan => true,
-            Mode::List | Mode::Judge | Mode::Gen | Mode::Known | Mode::Watch => false,
+            Mode::List | Mode::Judge | Mode::Gen | Mode::Known | Mode::Relay | Mode::Watch => false,
         }
     }
 }

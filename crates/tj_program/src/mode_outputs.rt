@@ -1,4 +1,4 @@
-//! What each mode gives. A mode that runs a script over workers has the handle for waiting and for
+//! What each mode gives. A mode that runs tasks over workers has the handle for waiting and for
 //! threads; the others have none, and what they give comes back.
 ghost use Rattle.std.specs.Prelude.{ℕ, ◌≡◌, ◌⊎◌, false, List, IfOk};
 ghost use Rattle.tj_ports.specs.Reading.{IsWithin};
@@ -16,6 +16,7 @@ use crate::fault_lines::fault_line;
 use crate::judging::judging_of;
 use crate::known_run::joins_of;
 use crate::output::{ClosedOutput, Output};
+use crate::relay_run::relay_by_workers;
 use crate::script_run::{Limits, Told, run_by_rounds};
 use crate::script_text::{NoScript, script_of};
 use crate::status::Status;
@@ -68,6 +69,11 @@ pub fn given_by<G: Gate, R: Wait + Threads + Sync>(
             };
             summary_by_workers(rt, alloc, size, limits, workers, gate)
         }
+        Command::Relay {
+            size,
+            workers,
+            cells,
+        } => relay_by_workers(rt, alloc, size, cells, workers, gate),
         Command::Watch {
             workers,
             cells,
@@ -107,7 +113,8 @@ fn output_of(alloc: Global, command: Command, input: &ReadEnd) -> Result<Output,
         Command::List => listing(alloc, input),
         Command::Judge { cells } => judging_of(alloc, input, cells),
         Command::Known { cells, steps } => joins_of(alloc, input, cells, steps),
-        Command::Run { .. } | Command::Gen { .. } | Command::Watch { .. } => unreachable!(),
+        Command::Run { .. } | Command::Gen { .. } | Command::Relay { .. } | Command::Watch { .. } =>
+            unreachable!(),
     }
 }
 

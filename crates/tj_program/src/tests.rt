@@ -14,7 +14,7 @@ use std::thread::Threads;
 use tj_ports::{MemSink, MemSource, OpenGate};
 
 pub const USAGE: &str =
-    "usage: tj run|plan|list|judge|gen|known|watch [--workers N] [--cells N] [--steps N] [--size N] [--strict]\n";
+    "usage: tj run|plan|list|judge|gen|known|relay|watch [--workers N] [--cells N] [--steps N] [--size N] [--strict]\n";
 
 pub const THREE: &str = "task main() { return 1 + 2; }";
 

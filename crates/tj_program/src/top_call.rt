@@ -1,7 +1,7 @@
 //! The top call: from the words and the input to the text and the status.
 //!
 //! The words come first, then the whole input, then the text is made and put. So want of memory
-//! comes only before the first byte is put. Where a script is run over workers, the closed words of
+//! comes only before the first byte is put. Where tasks are run over workers, the closed words of
 //! the table that they leave at rest are answered beside the status.
 ghost use Rattle.std.specs.Prelude.{ℕ, suc, true, false, ◌≡◌, ◌≢◌, ◌≤◌, ◌↔◌, List, Some, IfOk, IfSome, IsSome, OnOk, drop, length};
 ghost use Rattle.std.specs.Io.KnownBytes.{Appends};
@@ -163,7 +163,7 @@ fn input_of<S: Source>(
     ensures sound { S.never_fails source.old → (result ≢ Err ReadFault.Failed)
         × IsSound (S.faults source.old) (S.faults source.new) (S.never_fails source.new) }
 {
-    if let Command::Gen { .. } = command {
+    if let Command::Gen { .. } | Command::Relay { .. } = command {
         return Ok(ReadEnd::Whole(ByteList::of(Vec::new(alloc))));
     }
     read_all(alloc, source, MAX_TEXT as u32)

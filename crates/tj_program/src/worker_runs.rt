@@ -1,13 +1,14 @@
 //! Running a script over workers. What is written is told from the table that they leave at rest,
 //! and the closed words of that table come with it.
 ghost use Rattle.std.specs.Prelude.{ℕ, ◌≡◌, ◌<◌, ◌≤◌, ◌⊎◌, List, IfOk, None};
+ghost use Rattle.tj_body.specs.Programs.{program_of};
 ghost use Rattle.tj_gen.specs.Script.{script_text};
 ghost use Rattle.tj_ports.specs.Reading.{IsWithin};
 ghost use Rattle.tj_run.specs.Runs.{RestsAt};
 ghost use Rattle.tj_program.specs.Inner.ClosedOutputs.{IsRunGiven};
 ghost use Rattle.tj_program.specs.Inner.Inputs.{IsReadOf};
 ghost use Rattle.tj_program.specs.Output.{IsRefused, IsStartOfText};
-ghost use Rattle.tj_program.specs.Runs.{Start, AreLimits, IsStartOf, script_program, start_of};
+ghost use Rattle.tj_program.specs.Runs.{Start, AreLimits, IsStartOf, started};
 ghost use Rattle.tj_program.specs.ScriptTexts.{most_bytes, IsSomeScript};
 ghost use Rattle.tj_syntax.specs.View as view;
 
@@ -20,6 +21,7 @@ use std::alloc::Global;
 use std::sync::Wait;
 use std::thread::Threads;
 use tj_base::Oom;
+use tj_body::Body;
 use tj_eval::{ScriptBody, main_body};
 use tj_gen::gen_script;
 use tj_ports::{Gate, ReadEnd};
@@ -130,14 +132,16 @@ fn run_by_workers<G: Gate, R: Wait + Threads + Sync>(
 }
 
 /// The outcome of a table at rest, as it is told, and the table's closed words.
-pub fn ended_at_rest(
+pub fn ended_at_rest<B: Body>(
     alloc: Global,
-    rest: RestWords<ScriptBody<'_>>,
+    rest: RestWords<B>,
     told: Told,
 ) -> Result<ClosedOutput, Oom>
-    requires { RestsAt script_program rest.root rest.limit rest.strict rest }
+    requires { RestsAt (program_of B.places B.awaits B.left B.asks B.then) rest.root rest.limit
+        rest.strict rest }
     ensures { IfOk result (λ given. IsRunGiven told
-        (start_of rest.entry.strict rest.entry.limit rest.entry.root)
+        (started (program_of B.places B.awaits B.left B.asks B.then) rest.strict rest.limit
+        rest.root)
         given.output.status given.output.text.items given.closed) }
 {
     let outcome = outcome_of(alloc, &rest)?;

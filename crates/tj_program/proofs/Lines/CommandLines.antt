@@ -40,6 +40,7 @@ mode_of word = if bytes_eq word (codes "run") then Some modes.Run
     else if bytes_eq word (codes "judge") then Some modes.Judge
     else if bytes_eq word (codes "gen") then Some modes.Gen
     else if bytes_eq word (codes "known") then Some modes.Known
+    else if bytes_eq word (codes "relay") then Some modes.Relay
     else if bytes_eq word (codes "watch") then Some modes.Watch else None
 
 mode_of-text : (mode : Mode) → mode_of (mode_text mode) ≡ Some mode
@@ -49,6 +50,7 @@ mode_of-text modes.List = refl
 mode_of-text modes.Judge = refl
 mode_of-text modes.Gen = refl
 mode_of-text modes.Known = refl
+mode_of-text modes.Relay = refl
 mode_of-text modes.Watch = refl
 
 abbrev name_of : Text → Option OptionName
@@ -176,6 +178,11 @@ asked_within modes.Gen items all = (
 asked_within modes.Known items all = (
   number_within modes.Known Cells items all (omega arith, omega arith),
   number_within modes.Known Steps items all (omega arith, omega arith),
+)
+asked_within modes.Relay items all = (
+  number_within modes.Relay Size items all (omega arith, omega arith),
+  number_within modes.Relay Workers items all (omega arith, omega arith),
+  number_within modes.Relay Cells items all (omega arith, omega arith),
 )
 asked_within modes.Watch items all = (
   number_within modes.Watch Workers items all (omega arith, omega arith),

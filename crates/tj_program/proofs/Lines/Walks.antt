@@ -78,6 +78,7 @@ first_step modes.List = refl
 first_step modes.Judge = refl
 first_step modes.Gen = refl
 first_step modes.Known = refl
+first_step modes.Relay = refl
 first_step modes.Watch = refl
 
 pub first_fault : (mode : Mode) → turn_fault top [] (walk_from nothing_held) (mode_text mode) ≡ []
@@ -88,6 +89,7 @@ first_fault modes.List = refl
 first_fault modes.Judge = refl
 first_fault modes.Gen = refl
 first_fault modes.Known = refl
+first_fault modes.Relay = refl
 first_fault modes.Watch = refl
 
 pub name_step : (rows : List Row) (o : Unsettled) (name : OptionName)

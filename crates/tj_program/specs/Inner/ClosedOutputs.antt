@@ -1,12 +1,12 @@
--- What a command gives, with the closed words of its run where it ran a script over workers.
+-- What a command gives, with the closed words of its run where it ran tasks over workers.
 use Rattle.std.specs.Prelude.{ℕ, ◌≡◌, ◌<◌, ◌⊎◌, ◌↔◌, true, List, length, Option, None, IfSome, IsSome, MatchOption}
 use Rattle.std.specs.Io.KnownBytes.{Appends}
 use Rattle.tj_ports.specs.Faults.{HasFault}
 use Rattle.tj_ports.specs.Putting.{GrowsByPart}
 use Rattle.tj_words.specs.declared.closed.RestCell.{RestCell}
-use Rattle.tj_program.specs.ClosedRuns.{HasOutcome, IsRunClosed, has_workers, told_of}
-use Rattle.tj_program.specs.Output.{IsCommandOutput, IsStart}
-use Rattle.tj_program.specs.Runs.{Start, NeedsMore}
+use Rattle.tj_program.specs.ClosedRuns.{HasOutcome, IsCommandClosed, IsRunClosed, has_workers}
+use Rattle.tj_program.specs.Output.{IsCommandOutput}
+use Rattle.tj_program.specs.Runs.{StartOf, NeedsMore}
 use Rattle.tj_program.specs.Texts.{full_line}
 use Rattle.tj_program.specs.declared.command.Command.{Command}
 use Rattle.tj_program.specs.declared.script_run.Told.{Told}
@@ -14,7 +14,7 @@ use Rattle.tj_program.specs.declared.status.Status.{Status}
 use Rattle.tj_program.specs.declared.status.Status.TheVariants.{Full, WriteFault}
 
 -- what a run over workers gives: the line that it is full, or an outcome as it is told and closed words of the same run
-abbrev pub IsRunGiven : Told → Start → Status → List ℕ → Option (List RestCell) → Type 0
+abbrev pub IsRunGiven : {B : Type 0} → Told → StartOf B → Status → List ℕ → Option (List RestCell) → Type 0
 IsRunGiven told start status text closed =
     MatchOption closed (NeedsMore start × (status ≡ Full) × (text ≡ full_line start.cells))
     (IsRunClosed told start status text)
@@ -28,8 +28,7 @@ pub record IsGiven (command : Command) (input : List ℕ) (status : Status) (tex
     (closed : Option (List RestCell)) : Type 0 where
   pub is_output : IsCommandOutput command input status text
   pub are_with : AreWith command status closed
-  pub of_run : IfSome closed (λ words. (start : Start) × IsStart command input start
-      × IsRunClosed (told_of command) start status text words)
+  pub of_run : IfSome closed (IsCommandClosed command input status text)
 
 -- The text was put whole, and its status and its closed words are answered; or the sink failed before the text's end,
 -- and had no room for it without a fault, and no closed words are.

@@ -11,6 +11,7 @@ returns c = one_output (record {
   fault = c.one_fault.ensures;
   no_fault = c.scripts_have_no_fault.ensures;
   outcome = c.one_outcome.ensures;
+  lists = c.one_relay.ensures;
   events = c.one_reading.ensures.events;
   line = c.one_reading.ensures.fault;
   no_line = c.one_reading.ensures.not_both;

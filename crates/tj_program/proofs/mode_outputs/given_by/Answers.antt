@@ -1,8 +1,9 @@
 use Rattle.std.proofs.Common.{◌≡◌, ◌∙◌, true, None, refl, subst, sym}
 use Rattle.std.proofs.lemmas.Bool.{false≢true}
 use Rattle.tj_program.specs.Output.{takes_input}
-use Rattle.tj_program.proofs.ClosedRuns.{alone, IsGiven-alone, IsGiven-gen, IsGiven-report, IsGiven-watch}
-use Rattle.tj_program.proofs.Outputs.{if_ok}
+use Rattle.tj_program.proofs.ClosedRuns.{alone, IsGiven-alone, IsGiven-gen, IsGiven-relay, IsGiven-report}
+use Rattle.tj_program.proofs.ClosedRuns.{IsGiven-watch}
+use Rattle.tj_program.proofs.Outputs.{if_both, if_ok}
 use Rattle.tj_program.proofs.mode_outputs.given_by.Goals as goal
 
 pub returns-in-Run : goal.returns-in-Run
@@ -14,6 +15,11 @@ pub returns-in-Gen : goal.returns-in-Gen
 returns-in-Gen g c = if_ok c.summary_by_workers.result (λ given ran all read.
     IsGiven-gen c.args.command c.in-Gen.size c.in-Gen.workers c.in-Gen.cells c.in-Gen.steps all _ _ _ c.in-Gen.is ran)
     c.summary_by_workers.ensures
+
+pub returns-in-Relay : goal.returns-in-Relay
+returns-in-Relay g c = if_both c.relay_by_workers.result (λ given lists ran all read.
+    IsGiven-relay c.args.command c.in-Relay.size c.in-Relay.workers c.in-Relay.cells all _ _ _ c.in-Relay.is lists ran)
+    c.relay_by_workers.ensures.lists c.relay_by_workers.ensures.run
 
 pub returns-in-Watch : goal.returns-in-Watch
 returns-in-Watch g c = if_ok c.watch_by_workers.result (λ given ran all read.

@@ -3,6 +3,7 @@ use denote.Param.Send.{sendable}
 use Rattle.std.proofs.Common.{false}
 use Rattle.std.proofs.Crossing.{crosses}
 use Rattle.tj_syntax.proofs.Sends.{expr_sync, stmt_sync, script_sync}
+use Rattle.tj_program.specs.Runs.{script_program}
 use Rattle.tj_program.proofs.ClosedRuns.{rests_named}
 use Rattle.tj_program.proofs.shy_tests.is_refused.Goals as goal
 
@@ -11,5 +12,7 @@ pub run_all-requires-send-B : goal.run_all-requires-send-B
 run_all-requires-send-B g c κs within = search (sendable, crosses, expr_sync, stmt_sync, script_sync) depth 40
 
 pub ended_at_rest-requires : goal.ended_at_rest-requires
-ended_at_rest-requires g c =
-    rests_named c.in_ok-root.root 4096 false c.in-Ok-run_all.rest c.in-Ok-run_all.ensures.rest
+ended_at_rest-requires g c κs = (
+  search (sendable, crosses, expr_sync, stmt_sync, script_sync) depth 40,
+  rests_named script_program c.in_ok-root.root 4096 false c.in-Ok-run_all.rest c.in-Ok-run_all.ensures.rest,
+)

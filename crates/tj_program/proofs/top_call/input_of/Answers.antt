@@ -1,7 +1,8 @@
-use Rattle.std.proofs.Common.{◌≡◌, true, subst}
+use Rattle.std.proofs.Common.{◌∙◌, sym}
 use Rattle.std.proofs.lemmas.Bool.{false≢true}
-use Rattle.tj_program.specs.Output.{takes_input}
+use Rattle.tj_program.proofs.Inputs.{takes_none}
 use Rattle.tj_program.proofs.top_call.input_of.Goals as goal
 
 pub returns-in-Gen-clause-rest : goal.returns-in-Gen-clause-rest
-returns-in-Gen-clause-rest g c = λ does. absurd (false≢true (subst (λ k. takes_input k ≡ true) c.in-Gen.is does))
+returns-in-Gen-clause-rest g c =
+    λ does. absurd (false≢true (sym (takes_none c.args.command c.in-Gen.is) ∙ does))

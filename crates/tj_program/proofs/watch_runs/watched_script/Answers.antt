@@ -2,7 +2,7 @@ use denote.Param.Send.{sendable}
 use Rattle.std.proofs.Common.{refl, false}
 use Rattle.std.proofs.Crossing.{crosses}
 use Rattle.tj_syntax.proofs.Sends.{expr_sync, stmt_sync, script_sync}
-use Rattle.tj_program.specs.Runs.{start_of}
+use Rattle.tj_program.specs.Runs.{script_program, start_of}
 use Rattle.tj_program.specs.declared.script_run.Told.TheVariants.{Root}
 use Rattle.tj_program.proofs.ClosedRuns.{given_named, rests_named}
 use Rattle.tj_program.proofs.Outputs.{if_ok}
@@ -14,7 +14,7 @@ run_watched-requires-send-B g c κs = search (sendable, crosses, expr_sync, stmt
 
 pub watched_at_rest-requires-clause-rest : goal.watched_at_rest-requires-clause-rest
 watched_at_rest-requires-clause-rest g c =
-    rests_named c.in_ok-root.root c.args.cells false c.in-Ok.rest c.in-Ok.ensures.rest
+    rests_named script_program c.in_ok-root.root c.args.cells false c.in-Ok.rest c.in-Ok.ensures.rest
 
 pub returns-in-Ok : goal.returns-in-Ok
 returns-in-Ok g c =
@@ -22,7 +22,7 @@ returns-in-Ok g c =
     if_ok c.watched_at_rest.result (λ given is. (
       start_of false c.args.cells root,
       (root, c.in_ok-root.ensures.main, refl),
-      given_named Root root c.args.cells false c.in-Ok.rest _ _ _ c.in-Ok.ensures.rest is,
+      given_named script_program Root root c.args.cells false c.in-Ok.rest _ _ _ c.in-Ok.ensures.rest is,
     )) c.watched_at_rest.ensures
 
 pub returns-in_ok-full-in-Err-Full : goal.returns-in_ok-full-in-Err-Full

@@ -2,7 +2,7 @@ use denote.Param.Send.{sendable}
 use Rattle.std.proofs.Common.{refl}
 use Rattle.std.proofs.Crossing.{crosses}
 use Rattle.tj_syntax.proofs.Sends.{expr_sync, stmt_sync, script_sync}
-use Rattle.tj_program.specs.Runs.{start_of}
+use Rattle.tj_program.specs.Runs.{script_program, start_of}
 use Rattle.tj_program.proofs.ClosedRuns.{given_named, rests_named}
 use Rattle.tj_program.proofs.Outputs.{if_ok}
 use Rattle.tj_program.proofs.worker_runs.run_by_workers.Goals as goal
@@ -12,8 +12,11 @@ pub run_all-requires-send-B : goal.run_all-requires-send-B
 run_all-requires-send-B g c κs = search (sendable, crosses, expr_sync, stmt_sync, script_sync) depth 40
 
 pub ended_at_rest-requires : goal.ended_at_rest-requires
-ended_at_rest-requires g c =
-    rests_named c.in_ok-root.root c.args.limits.cells c.args.limits.strict c.in-Ok.rest c.in-Ok.ensures.rest
+ended_at_rest-requires g c κs = (
+  search (sendable, crosses, expr_sync, stmt_sync, script_sync) depth 40,
+  rests_named script_program c.in_ok-root.root c.args.limits.cells c.args.limits.strict c.in-Ok.rest
+      c.in-Ok.ensures.rest,
+)
 
 pub returns-in-Ok : goal.returns-in-Ok
 returns-in-Ok g c =
@@ -22,7 +25,7 @@ returns-in-Ok g c =
     if_ok c.ended_at_rest.result (λ given is. (
       start_of limits.strict limits.cells root,
       (root, c.in_ok-root.ensures.main, refl),
-      given_named c.args.told root limits.cells limits.strict c.in-Ok.rest _ _ _ c.in-Ok.ensures.rest is,
+      given_named script_program c.args.told root limits.cells limits.strict c.in-Ok.rest _ _ _ c.in-Ok.ensures.rest is,
     )) c.ended_at_rest.ensures
 
 pub returns-in_ok-full-in-Err-Full : goal.returns-in_ok-full-in-Err-Full

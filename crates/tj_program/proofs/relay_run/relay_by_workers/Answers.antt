@@ -1,0 +1,50 @@
+use denote.Param.Send.{sendable}
+use Rattle.std.proofs.Common.{◌∙◌, None, ap, false}
+use Rattle.std.proofs.Crossing.{crosses}
+use Rattle.tj_chan.specs.ChanBodies.{root_body}
+use Rattle.tj_chan.specs.ChannelLaws.{bodies_of}
+use Rattle.tj_program.specs.RelayRuns.{relay_rules, relay_start}
+use Rattle.tj_program.specs.declared.script_run.Told.TheVariants.{Report}
+use Rattle.tj_program.proofs.ClosedRuns.{IsRunOf-given, given_named, rests_named}
+use Rattle.tj_program.proofs.Outputs.{if_ok}
+use Rattle.tj_program.proofs.RelayRuns.{by_lists, meant_named, named}
+use Rattle.tj_program.proofs.relay_run.relay_by_workers.Goals as goal
+
+-- the body of a relay may cross threads
+pub run_all-requires-send-B : goal.run_all-requires-send-B
+run_all-requires-send-B g c κs = search (sendable, crosses) depth 40
+
+pub ended_at_rest-requires : goal.ended_at_rest-requires
+ended_at_rest-requires g c = (
+  search (sendable, crosses) depth 40,
+  rests_named (bodies_of relay_rules) c.in_ok-root.root c.args.cells false c.in-Ok.rest c.in-Ok.ensures.rest,
+)
+
+pub returns-in-Ok-clause-run : goal.returns-in-Ok-clause-run
+returns-in-Ok-clause-run g c =
+    let root = c.in_ok-root.root in
+    if_ok c.ended_at_rest.result (λ given is. named c.args.size c.args.cells root _ _ _
+    (c.in_ok-root.ensures.root ∙ ap root_body c.relay_root.ensures.root)
+    (given_named (bodies_of relay_rules) Report root c.args.cells false c.in-Ok.rest _ _ _ c.in-Ok.ensures.rest is))
+    c.ended_at_rest.ensures
+
+pub returns-in-Ok-clause-lists : goal.returns-in-Ok-clause-lists
+returns-in-Ok-clause-lists g c = if_ok c.ended_at_rest.result (λ given run.
+    by_lists c.args.size c.args.cells (meant_named c.args.size c.relay_root.result c.in_ok-root.root
+    c.relay_root.ensures.root c.in_ok-root.ensures.root c.in_ok-root.ensures.lists) _ _
+    (IsRunOf-given Report (relay_start c.args.size c.args.cells) _ _ _ run)) (returns-in-Ok-clause-run g c)
+
+pub returns-in_ok-full-in-Err-Full-clause-run : goal.returns-in_ok-full-in-Err-Full-clause-run
+returns-in_ok-full-in-Err-Full-clause-run g c = named c.args.size c.args.cells c.in_ok-root.root _ _ None
+    (c.in_ok-root.ensures.root ∙ ap root_body c.relay_root.ensures.root) (
+      c.in-Err-Full.ensures.full c.in-Err-Full.field-0-is,
+      c.in_ok-full-in-Err-Full.ensures.status,
+      c.in_ok-full-in-Err-Full.ensures.text,
+    )
+
+pub returns-in_ok-full-in-Err-Full-clause-lists : goal.returns-in_ok-full-in-Err-Full-clause-lists
+returns-in_ok-full-in-Err-Full-clause-lists g c =
+    by_lists c.args.size c.args.cells (meant_named c.args.size c.relay_root.result c.in_ok-root.root
+    c.relay_root.ensures.root c.in_ok-root.ensures.root c.in_ok-root.ensures.lists) _ _
+    (IsRunOf-given Report (relay_start c.args.size c.args.cells) _ _ None
+    (returns-in_ok-full-in-Err-Full-clause-run g c))

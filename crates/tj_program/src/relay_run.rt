@@ -1,0 +1,49 @@
+//! Running a relay over workers: tasks that hand a channel's sending end on. The outcome is that of
+//! channels as lists.
+ghost use Rattle.std.specs.Prelude.{◌<◌, ◌≤◌, IfOk};
+ghost use Rattle.tj_program.specs.Inner.ClosedOutputs.{IsRunGiven};
+ghost use Rattle.tj_program.specs.RelayRuns.{IsRelayRun, relay_start};
+
+use crate::output::ClosedOutput;
+use crate::script_run::{Told, full};
+use crate::worker_runs::ended_at_rest;
+use std::alloc::Global;
+use std::sync::Wait;
+use std::thread::Threads;
+use tj_base::Oom;
+use tj_chan::{ChanBody, Relay, relay_root};
+use tj_ports::Gate;
+use tj_ready::StealPool;
+use tj_run::{RunFault, run_all};
+
+/// The report of a run of the relay of so many items, or that it is full.
+pub fn relay_by_workers<G: Gate, R: Wait + Threads + Sync>(
+    rt: &R,
+    alloc: Global,
+    size: u32,
+    cells: u32,
+    workers: u32,
+    gate: &G,
+) -> Result<ClosedOutput, Oom>
+    requires size { (0 < size) × (size ≤ 4000) }
+    requires cells { (0 < cells) × (cells ≤ 16384) }
+    requires workers { (0 < workers) × (workers ≤ 64) }
+
+    // Status and text are those of channels as lists.
+    ensures lists { IfOk result (λ given.
+        IsRelayRun size cells given.output.status given.output.text.items) }
+    ensures run { IfOk result (λ given. IsRunGiven Told.Report (relay_start size cells)
+        given.output.status given.output.text.items given.closed) }
+{
+    let root = ChanBody::new(alloc, relay_root(size))?;
+    match run_all::<ChanBody<Relay>, StealPool, G, R>(
+        rt, alloc, root, cells, workers, gate, false,
+    ) {
+        Ok(rest) => ended_at_rest(alloc, rest, Told::Report),
+        Err(RunFault::Full) => Ok(ClosedOutput {
+            output: full(alloc, cells)?,
+            closed: None,
+        }),
+        Err(RunFault::Oom) => Err(Oom),
+    }
+}
