@@ -24,13 +24,13 @@ module _ {A : Type 0} (Leads : A → A → Type 0) where
   through a z [] l = (a, refl, l)
   through a z (b ∷ bs) l = reach_after Leads a b (suc (length bs)) z l.0 (through b z bs l.1)
 
-  -- the node at place i of such a list is reached by i steps
-  pub at_place : (a z : A) (bs : List A) → LeadsAlong Leads a bs z → (i : ℕ) (d : A) → i < suc (length bs)
+  -- the node at index i of such a list is reached by i steps
+  pub at_index : (a z : A) (bs : List A) → LeadsAlong Leads a bs z → (i : ℕ) (d : A) → i < suc (length bs)
       → Reaches Leads a i (get_or (a ∷ bs) i d)
-  at_place a z bs l zero d h = refl
-  at_place a z [] l (suc i) d h = absurd (omega arith)
-  at_place a z (b ∷ bs) l (suc i) d h =
-      reach_after Leads a b i (get_or (b ∷ bs) i d) l.0 (at_place b z bs l.1 i d (omega arith))
+  at_index a z bs l zero d h = refl
+  at_index a z [] l (suc i) d h = absurd (omega arith)
+  at_index a z (b ∷ bs) l (suc i) d h =
+      reach_after Leads a b i (get_or (b ∷ bs) i d) l.0 (at_index b z bs l.1 i d (omega arith))
 
 module _ {A : Type 0} (Leads : A → A → Type 0) (one : LeadsToOne Leads) where
   -- as many steps lead through the same nodes
@@ -57,7 +57,7 @@ module _ {A : Type 0} (Leads : A → A → Type 0) (one : LeadsToOne Leads) wher
     distinct a z bs l n e c = IsDistinct-from_apart equal (a ∷ bs) (λ i j d x y.
         apart (get_or (a ∷ bs) i d) (get_or (a ∷ bs) j d) (λ q.
         cycle_once Leads one a n i j (get_or (a ∷ bs) j d) c x (omega arith)
-        (subst (Reaches Leads a i) q (at_place Leads a z bs l i d (omega arith))) (at_place Leads a z bs l j d y)))
+        (subst (Reaches Leads a i) q (at_index Leads a z bs l i d (omega arith))) (at_index Leads a z bs l j d y)))
 
     -- the first node of a cycle is on one of as many nodes
     pub first_round : (a : A) (bs : List A) → IsCycle Leads equal (a ∷ bs) → IsOnCycleOf Leads a (suc (length bs))
@@ -66,7 +66,7 @@ module _ {A : Type 0} (Leads : A → A → Type 0) (one : LeadsToOne Leads) wher
       round = through Leads a a bs c.1;
       least = λ k x y r.
           let q : a ≡ get_or (a ∷ bs) k a =
-          reach_one Leads one a k a (get_or (a ∷ bs) k a) r (at_place Leads a a bs c.1 k a y) in
+          reach_one Leads one a k a (get_or (a ∷ bs) k a) r (at_index Leads a a bs c.1 k a y) in
           let e = apart_from_distinct equal (a ∷ bs) 0 k a c.0 x y in
           let f = (same a (get_or (a ∷ bs) k a)).1 q in
           let z : false ≡ true = sym e ∙ f in absurd (cc);
@@ -94,19 +94,19 @@ module _ {A : Type 0} (Leads : A → A → Type 0) (one : LeadsToOne Leads) wher
     cycles_return [] a c h = absurd c
     cycles_return (b ∷ bs) a c h =
         cycle_at Leads one b (suc (length bs)) h.0 a (first_round b bs c)
-        (subst (Reaches Leads b h.0) h.2 (at_place Leads b b bs c.1 h.0 a h.1))
+        (subst (Reaches Leads b h.0) h.2 (at_index Leads b b bs c.1 h.0 a h.1))
 
     -- what is reached from a cycle's first node is a node of it
     pub reached_contained : (a : A) (bs : List A) → IsCycle Leads equal (a ∷ bs) → (k : ℕ) (z : A)
         → Reaches Leads a k z → Contains (a ∷ bs) z
     reached_contained a bs c k z r =
-        let x = at_a_place k z r in
-        (x.0, x.1, reach_one Leads one a x.0 (get_or (a ∷ bs) x.0 z) z (at_place Leads a a bs c.1 x.0 z x.1) x.2)
+        let x = at_an_index k z r in
+        (x.0, x.1, reach_one Leads one a x.0 (get_or (a ∷ bs) x.0 z) z (at_index Leads a a bs c.1 x.0 z x.1) x.2)
       where
-        at_a_place : (k : ℕ) (z : A) → Reaches Leads a k z → (i : ℕ) × (i < suc (length bs)) × Reaches Leads a i z
-        at_a_place zero z r = (0, omega arith, r)
-        at_a_place (suc k) z r =
-            let x = at_a_place k r.0 r.1 in
+        at_an_index : (k : ℕ) (z : A) → Reaches Leads a k z → (i : ℕ) × (i < suc (length bs)) × Reaches Leads a i z
+        at_an_index zero z r = (0, omega arith, r)
+        at_an_index (suc k) z r =
+            let x = at_an_index k r.0 r.1 in
             let small = x.1 in
             dite (ℕ_discrete (suc x.0) (suc (length bs)))
             (λ e. (

@@ -5,3 +5,4 @@ pub mod CyclesOn
 pub mod Orders
 pub mod Puts
 pub mod Ways
+pub mod ChildNames

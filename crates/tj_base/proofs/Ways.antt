@@ -82,7 +82,7 @@ module _ {A : Type 0} (Leads : A → A → Type 0) (one : LeadsToOne Leads) wher
   cycle_at a n zero b c r = subst (λ z. IsOnCycleOf Leads z n) r c
   cycle_at a n (suc k) b c r = cycle_next r.0 n b (cycle_at a n k r.0 c r.1) r.2
 
-  -- no node stands at two places of a cycle
+  -- no node stands at two indexes of a cycle
   pub cycle_once : (a : A) (n j k : ℕ) (b : A) → IsOnCycleOf Leads a n → j < k → k < n → Reaches Leads a j b
       → Reaches Leads a k b → ⊥
   cycle_once a n j k b c x y p q =

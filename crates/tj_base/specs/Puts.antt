@@ -1,4 +1,4 @@
--- Functions changed at one place.
+-- Functions changed at one index.
 use Rattle.std.specs.Prelude.{ℕ, cond, nat_eq}
 
 -- the function with the value a at i

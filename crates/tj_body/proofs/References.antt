@@ -14,7 +14,7 @@ use Rattle.tj_body.specs.History.{next_child, after_read, after_look, after_stag
 use Rattle.tj_body.specs.Rounds.{family, writes_by, given, tasks}
 use Rattle.tj_body.specs.Points.{IsIn, IsProper}
 use Rattle.tj_body.specs.RoundPoints.{IsNamed}
-use Rattle.tj_body.specs.Turns.{IsTurn, fails, ends, makes, forks, sets, gets, joins, prints}
+use Rattle.tj_body.specs.Inner.AskSteps.{IsAskStep, fails, ends, makes, forks, sets, gets, joins, prints}
 use Rattle.tj_body.specs.declared.ask.Ask.{Ask}
 use Rattle.tj_body.specs.declared.point.Reference.{Reference}
 use Rattle.tj_body.specs.declared.point.Value.{Value}
@@ -26,7 +26,7 @@ use Rattle.tj_body.specs.declared.point.PointStage.TheVariants as stage
 use Rattle.tj_body.specs.declared.point.Task.{Task}
 use Rattle.tj_body.specs.declared.point.Point.{Point}
 use Rattle.tj_body.proofs.Lists.{in_either, in_right, in_flat_map, from_flat_map, in_map}
-use Rattle.tj_body.proofs.Turns.{is_turn}
+use Rattle.tj_body.proofs.Histories.AskSteps.{is_ask_step}
 use Rattle.tj_body.proofs.Rounds.Rises.{in_entries}
 use Rattle.tj_body.proofs.Rounds.Keeps.{forked}
 
@@ -101,23 +101,23 @@ module _ (Named : Sort → Name → Type 0) where
         further p.writes (map (with_entry entry.Broken) (in_order p.holds)) p.name r h.3 n (broken (in_order p.holds))
 
     -- an ask keeps it, where what it makes is named
-    turns : (strict : Bool) (p : Point B) (a : Ask B) (p' : Point B) → IsTurn strict p a p' → HasNamed p
+    ask_steps : (strict : Bool) (p : Point B) (a : Ask B) (p' : Point B) → IsAskStep strict p a p' → HasNamed p
         → HasNamedThings p' → HasNamed p'
-    turns strict p _ _ (fails a c) h t = (h.0, h.1, h.2, closes p entry.Broken h tt)
-    turns strict p _ _ (ends v) h t = (
+    ask_steps strict p _ _ (fails a c) h t = (h.0, h.1, h.2, closes p entry.Broken h tt)
+    ask_steps strict p _ _ (ends v) h t = (
       h.0,
       h.1,
       h.2,
       closes p (entry.Value (value_at p.name p.references v)) h
           (value_named p.name p.references v h.0 h.1),
     )
-    turns strict p _ _ makes h t = (
+    ask_steps strict p _ _ makes h t = (
       h.0,
       one_more p.references _ h.1 (t.0 (next_name p) (in_right (next_name p) p.promises _ (inl refl))),
       h.2,
       h.3,
     )
-    turns strict p _ _ (forks b pass hand l e) h t = (
+    ask_steps strict p _ _ (forks b pass hand l e) h t = (
       h.0,
       one_more p.references (to_task (next_name p)) h.1 (t.1 child (in_right child p.children _ (inl refl))),
       λ c i. ⊎_elim (λ j. h.2 c j) (λ j. newest c j) (in_either c p.children _ i),
@@ -130,16 +130,16 @@ module _ (Named : Sort → Name → Type 0) where
       newest c (inl e) =
           subst (λ (z : Task B). AllNamed z.passed) (sym e) (passed_named p.name p.references pass h.0 h.1)
       newest c (inr j) = absurd j
-    turns strict p _ _ (sets k v s o) h t = (
+    ask_steps strict p _ _ (sets k v s o) h t = (
       h.0,
       h.1,
       h.2,
       further p.writes [] _ (entry.Value (value_at p.name p.references v)) h.3
           (value_named p.name p.references v h.0 h.1) (λ q x i. absurd i),
     )
-    turns strict p _ _ (gets spare k s) h t = h
-    turns strict p _ _ (joins spare k s o) h t = h
-    turns strict p _ _ (prints i) h t = h
+    ask_steps strict p _ _ (gets spare k s) h t = h
+    ask_steps strict p _ _ (joins spare k s o) h t = h
+    ask_steps strict p _ _ (prints i) h t = h
 
     reads : (spare : Bool) (c : Name) (x : Entry) (p : Point B) → HasNamed p → IsNamedEntry x
         → HasNamed (after_read spare c x p)
@@ -158,7 +158,7 @@ module _ (Named : Sort → Name → Type 0) where
         → HasNamed (after_stage rules V st p)
     goes rules V n (stage.Answered a) p h t =
         let b = rules.asks p.body a in let next : Point B = record p { body = rules.then p.body a } in
-        turns rules.strict next b _ (is_turn rules.strict next b) h t
+        ask_steps rules.strict next b _ (is_ask_step rules.strict next b) h t
     goes rules V n (stage.Waits q spare) p h t = looks spare q (V q) p h (n q)
     goes rules V n (stage.Closed e) p h t = h
 
@@ -169,16 +169,16 @@ module _ (Named : Sort → Name → Type 0) where
   WaitsNamed (stage.Closed e) = Unit {0}
 
   module _ {B : Type 0} where
-    turns_wait : (strict : Bool) (p : Point B) (a : Ask B) (p' : Point B) → IsTurn strict p a p' → HasNamed p
+    ask_steps_wait : (strict : Bool) (p : Point B) (a : Ask B) (p' : Point B) → IsAskStep strict p a p' → HasNamed p
         → WaitsNamed p'.stage
-    turns_wait strict p _ _ (fails a c) h = tt
-    turns_wait strict p _ _ (ends v) h = tt
-    turns_wait strict p _ _ makes h = tt
-    turns_wait strict p _ _ (forks b pass hand l e) h = tt
-    turns_wait strict p _ _ (sets k v s o) h = tt
-    turns_wait strict p _ _ (gets spare k s) h = ((reference p k).sort, at_place p.name p.references k h.0 h.1)
-    turns_wait strict p _ _ (joins spare k s o) h = ((reference p k).sort, at_place p.name p.references k h.0 h.1)
-    turns_wait strict p _ _ (prints i) h = tt
+    ask_steps_wait strict p _ _ (fails a c) h = tt
+    ask_steps_wait strict p _ _ (ends v) h = tt
+    ask_steps_wait strict p _ _ makes h = tt
+    ask_steps_wait strict p _ _ (forks b pass hand l e) h = tt
+    ask_steps_wait strict p _ _ (sets k v s o) h = tt
+    ask_steps_wait strict p _ _ (gets spare k s) h = ((reference p k).sort, at_place p.name p.references k h.0 h.1)
+    ask_steps_wait strict p _ _ (joins spare k s o) h = ((reference p k).sort, at_place p.name p.references k h.0 h.1)
+    ask_steps_wait strict p _ _ (prints i) h = tt
 
     reads_wait : (spare : Bool) (c : Name) (x : Entry) (p : Point B) → WaitsNamed (after_read spare c x p).stage
     reads_wait true c entry.Broken p = tt
@@ -195,7 +195,7 @@ module _ (Named : Sort → Name → Type 0) where
         → WaitsNamed (after_stage rules V st p).stage
     goes_wait rules V (stage.Answered a) p h w =
         let b = rules.asks p.body a in let next : Point B = record p { body = rules.then p.body a } in
-        turns_wait rules.strict next b _ (is_turn rules.strict next b) h
+        ask_steps_wait rules.strict next b _ (is_ask_step rules.strict next b) h
     goes_wait rules V (stage.Waits q spare) p h w = looks_wait spare q (V q) p w
     goes_wait rules V (stage.Closed e) p h w = w
 

@@ -18,11 +18,11 @@ use Rattle.tj_body.proofs.Lists.{in_left, in_right, in_map, to_map}
 use Rattle.tj_body.proofs.Counts.{is, times, times_map, total, total_append, total_le}
 use Rattle.tj_body.proofs.Counts.{times_of_in, in_of_times, at_most_one}
 use Rattle.tj_body.proofs.Counts.{distinct_of_times}
-use Rattle.tj_body.proofs.Prefixes.{begins, under, under_is, numbered_once}
-use Rattle.tj_body.proofs.Accounts.{numbered, fair}
-use Rattle.tj_body.proofs.Grows.{extends, takes, reads}
-use Rattle.tj_body.proofs.Good.{good, task_proper}
-use Rattle.tj_body.proofs.Points.{asks_on, point_up}
+use Rattle.tj_body.proofs.Histories.Prefixes.{begins, under, under_is, numbered_once}
+use Rattle.tj_body.proofs.Histories.Accounts.{numbered, fair}
+use Rattle.tj_body.proofs.Histories.Grows.{extends, takes, reads}
+use Rattle.tj_body.proofs.Histories.Good.{good, task_proper}
+use Rattle.tj_body.proofs.Histories.Points.{asks_on, point_up}
 use Rattle.tj_body.proofs.Rounds.Rises.{within, tasks_within, entry_cell}
 use Rattle.tj_body.proofs.Rounds.Keeps.{reads_later, task_cell, written, promised, forked}
 use Rattle.tj_body.proofs.References.{has_named}

@@ -7,7 +7,6 @@ pub mod Programs
 pub mod Laws
 pub mod NameLaws
 pub mod RoundPoints
-pub mod Turns
 pub mod Table
 pub mod NeverWaits
 pub mod WaitGraph

@@ -6,7 +6,7 @@ use Rattle.tj_body.specs.declared.point.Entry.{Entry}
 use Rattle.tj_body.specs.declared.point.Reference.{Reference}
 use Rattle.tj_body.proofs.Lists.{begins_self, in_right}
 use Rattle.tj_words.specs.declared.view.View.{View}
-use Rattle.tj_words.specs.KnowsMore.{KnowsMore, HasSameWakes, HasSameHand, HasSameCounts}
+use Rattle.tj_words.specs.SeatViews.KnowsMore.{KnowsMore, HasSameWakes, HasSameHand, HasSameCounts}
 use Rattle.tj_cells.specs.FilledCells.{became}
 use Rattle.tj_cells.specs.MadeCells.{IsMade}
 use Rattle.tj_cells.specs.SeenValues.{saw_value}

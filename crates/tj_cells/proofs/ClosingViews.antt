@@ -16,18 +16,18 @@ use Rattle.tj_words.specs.declared.record.Fill.TheVariants as fill
 use Rattle.tj_words.specs.declared.view.Custody.{Custody}
 use Rattle.tj_words.specs.declared.view.Due.{Due}
 use Rattle.tj_words.specs.declared.view.View.{View}
-use Rattle.tj_words.specs.Lists.{All}
-use Rattle.tj_words.specs.Holding.{held_in}
-use Rattle.tj_words.specs.LiveCount.{IsBacked}
-use Rattle.tj_words.specs.KnownEntries.{HasSeen, MayStoreBits, NamesOneOf}
-use Rattle.tj_words.specs.TreeWords.{IsCell, IsDue}
-use Rattle.tj_words.specs.Telling.{BitsSay, FillSays, tag_of}
-use Rattle.tj_words.specs.Values.{fill_in, tag_word}
-use Rattle.tj_words.specs.EntryViews.{MayPutBits, MayPutTag, PutsBits, PutsTag, wrote_bits, wrote_tag}
-use Rattle.tj_words.specs.OwnerViews.{PutsOwner, closed_cell, gave_up}
-use Rattle.tj_words.proofs.NotedEntries.{noted_here}
-use Rattle.tj_words.proofs.OnceStores.{due_else, due_still}
-use Rattle.tj_words.proofs.StoredWords.{same_word}
+use Rattle.tj_words.specs.Words.Lists.{All}
+use Rattle.tj_words.specs.LawParts.Holding.{held_in}
+use Rattle.tj_words.specs.LawParts.LiveCount.{IsBacked}
+use Rattle.tj_words.specs.SeatViews.KnownEntries.{HasSeen, MayStoreBits, NamesOneOf}
+use Rattle.tj_words.specs.LawParts.TreeWords.{IsCell, IsDue}
+use Rattle.tj_words.specs.LawParts.Telling.{BitsSay, FillSays, tag_of}
+use Rattle.tj_words.specs.Words.Values.{fill_in, tag_word}
+use Rattle.tj_words.specs.Calls.EntryViews.{MayPutBits, MayPutTag, PutsBits, PutsTag, wrote_bits, wrote_tag}
+use Rattle.tj_words.specs.Calls.OwnerViews.{PutsOwner, closed_cell, gave_up}
+use Rattle.tj_words.proofs.Holders.NotedEntries.{noted_here}
+use Rattle.tj_words.proofs.Stores.OnceStores.{due_else, due_still}
+use Rattle.tj_words.proofs.Stores.StoredWords.{same_word}
 use Rattle.tj_cells.specs.FilledCells.{MayGiveUp, WillBecome, became, cells_named}
 use Rattle.tj_cells.proofs.DueWords.{due_of, both_written}
 

@@ -5,10 +5,10 @@ use Rattle.tj_base.specs.declared.cell.Sort.TheVariants as sort
 use Rattle.tj_words.specs.declared.offsets.Once.{Once}
 use Rattle.tj_words.specs.declared.offsets.Once.TheVariants as once
 use Rattle.tj_words.specs.declared.view.Due.{Due}
-use Rattle.tj_words.specs.Lists.{All}
-use Rattle.tj_words.specs.Offsets.{once_at}
-use Rattle.tj_words.specs.DrawViews.{new_dues, without_due}
-use Rattle.tj_words.proofs.StoredWords.{same_cell, same_word}
+use Rattle.tj_words.specs.Words.Lists.{All}
+use Rattle.tj_words.specs.Words.Offsets.{once_at}
+use Rattle.tj_words.specs.Calls.DrawViews.{new_dues, without_due}
+use Rattle.tj_words.proofs.Stores.StoredWords.{same_cell, same_word}
 use Rattle.tj_cells.specs.MakingSteps.{dues_left}
 
 -- the word of the cell

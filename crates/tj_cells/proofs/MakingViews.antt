@@ -15,25 +15,26 @@ use Rattle.tj_words.specs.declared.offsets.Once.TheVariants as once
 use Rattle.tj_words.specs.declared.view.Due.{Due}
 use Rattle.tj_words.specs.declared.view.SeenWord.{SeenWord}
 use Rattle.tj_words.specs.declared.view.View.{View}
-use Rattle.tj_words.specs.Lists.{All}
-use Rattle.tj_words.specs.Holding.{held_in}
-use Rattle.tj_words.specs.TreeWords.{IsCell, IsDue, AreCells}
-use Rattle.tj_words.specs.SeenWords.{IsTaskIn, MayReadTree, ShowsNode, seen_word}
-use Rattle.tj_words.specs.DrawViews.{FindsCell, MayGive, MayMark, MayWrite, drawn_next, gave_owner, marked_promise}
-use Rattle.tj_words.specs.DrawViews.{new_dues, new_hand, new_task, new_tasks, runs_on, without_due, wrote_word}
-use Rattle.tj_words.specs.TaskLists.{noted}
-use Rattle.tj_words.specs.TreeReads.{HasReadTree}
-use Rattle.tj_words.proofs.Merging.{begins_at}
-use Rattle.tj_words.proofs.SeatLists.{inside}
-use Rattle.tj_words.proofs.NotedEntries.{noted_here}
-use Rattle.tj_words.proofs.OnceStores.{due_still}
-use Rattle.tj_words.proofs.StoredWords.{same_word}
+use Rattle.tj_words.specs.Words.Lists.{All}
+use Rattle.tj_words.specs.LawParts.Holding.{held_in}
+use Rattle.tj_words.specs.LawParts.TreeWords.{IsCell, IsDue, AreCells}
+use Rattle.tj_words.specs.SeatViews.SeenWords.{IsTaskIn, MayReadTree, ShowsNode, seen_word}
+use Rattle.tj_words.specs.Calls.DrawViews.{FindsCell, MayGive, MayMark, MayWrite, drawn_next, gave_owner}
+use Rattle.tj_words.specs.Calls.DrawViews.{marked_promise}
+use Rattle.tj_words.specs.Calls.DrawViews.{new_dues, new_hand, new_task, new_tasks, runs_on, without_due, wrote_word}
+use Rattle.tj_words.specs.SeatViews.TaskLists.{noted}
+use Rattle.tj_words.specs.SeatViews.TreeReads.{HasReadTree}
+use Rattle.tj_words.proofs.Seating.Merging.{begins_at}
+use Rattle.tj_words.proofs.Stores.SeatLists.{inside}
+use Rattle.tj_words.proofs.Holders.NotedEntries.{noted_here}
+use Rattle.tj_words.proofs.Stores.OnceStores.{due_still}
+use Rattle.tj_words.proofs.Stores.StoredWords.{same_word}
 use Rattle.tj_cells.specs.MadeCells.{IsMade, MayMake}
-use Rattle.tj_cells.specs.MakingSteps.{DrawsNamed, HasInHand, WritesPlace, child_jump_of, drew_named, dues_left}
+use Rattle.tj_cells.specs.MakingSteps.{DrawsNamed, HasInHand, WritesNode, child_jump_of, drew_named, dues_left}
 use Rattle.tj_cells.proofs.DueWords.{due_of, both_alone, named_dues}
 use Rattle.tj_cells.proofs.TaskNotes.{maker_held, promise_notes, task_notes}
 
--- the last of a list stands at the place of its length
+-- the last of a list stands at the index of its length
 pub last_at : {A : Type 0} (l : List A) (x : A) (c : ℕ) → length l ≡ c → get_elem? (l ++ x ∷ []) c ≡ some x
 last_at [] x zero e = refl
 last_at [] x (suc c) e = absurd (omega (arith, e))
@@ -146,7 +147,7 @@ module _ {B : Type 0} (program : Bool → B → Program B) (cells t kid : ℕ) (
             rest = λ i. record (gave_owner c t (marked_promise drawn)) { hand = sym may.draw.no_hand i };
           })
 
-  -- a task that was drawn owns its result, once its place in the tree is written
+  -- a task that was drawn owns its result, once its node is written
   module _ (c : ℕ) (v2 : View B) (d : DrawsNamed cells t kid sort.Task c v v2) where
     abbrev drawn_task : View B
     drawn_task = drew_named t kid sort.Task c d.born v
@@ -169,7 +170,7 @@ module _ {B : Type 0} (program : Bool → B → Program B) (cells t kid : ℕ) (
       i.2,
     )
 
-    module _ (v3 : View B) (p : WritesPlace cells c v2 v3) where
+    module _ (v3 : View B) (p : WritesNode cells c v2 v3) where
       -- all but what was read of the tree is as it was drawn
       abbrev read_as : View B → View B
       read_as u = record u {

@@ -3,12 +3,12 @@ use Rattle.std.proofs.Common.{◌≡◌, ◌≢◌, ◌∙◌, ℕ, cond, List, 
 use mathlib.Core.Logic.{dite}
 use native.Mathlib.Decide.{ℕ_discrete}
 use Rattle.tj_words.specs.declared.view.Custody.{Custody}
-use Rattle.tj_words.specs.Holding.{held_in}
-use Rattle.tj_words.specs.TaskLists.{let_go, hold, noted}
-use Rattle.tj_words.specs.DrawViews.{runs_on, made_one, owns_also, new_task}
-use Rattle.tj_words.proofs.HeldChanges.{held_task}
-use Rattle.tj_words.proofs.NotedEntries.{noted_here}
-use Rattle.tj_words.proofs.NotedTasks.{noted_is}
+use Rattle.tj_words.specs.LawParts.Holding.{held_in}
+use Rattle.tj_words.specs.SeatViews.TaskLists.{let_go, hold, noted}
+use Rattle.tj_words.specs.Calls.DrawViews.{runs_on, made_one, owns_also, new_task}
+use Rattle.tj_words.proofs.Holders.HeldChanges.{held_task}
+use Rattle.tj_words.proofs.Holders.NotedEntries.{noted_here}
+use Rattle.tj_words.proofs.Holders.NotedTasks.{noted_is}
 use Rattle.tj_cells.specs.MadeCells.{makes_promise, makes_task, new_born}
 
 module _ {B : Type 0} where

@@ -13,13 +13,13 @@ use Rattle.tj_body.proofs.Lists.{begins_trans}
 use Rattle.tj_words.specs.declared.record.Fill.{Fill}
 use Rattle.tj_words.specs.declared.record.Fill.TheVariants as fill
 use Rattle.tj_words.specs.declared.view.View.{View}
-use Rattle.tj_words.specs.SeenWords.{FindsBits, FindsEntry, bits_cells}
-use Rattle.tj_words.specs.Telling.{BitsSay, sort_tag, tag_of}
-use Rattle.tj_words.specs.TreeWords.{IsCell}
-use Rattle.tj_words.specs.Values.{NamesCell, fill_in}
-use Rattle.tj_words.specs.Views.{saw_bits}
-use Rattle.tj_words.proofs.Merging.{begins_at}
-use Rattle.tj_words.proofs.SeatLists.{inside}
+use Rattle.tj_words.specs.SeatViews.SeenWords.{FindsBits, FindsEntry, bits_cells}
+use Rattle.tj_words.specs.LawParts.Telling.{BitsSay, sort_tag, tag_of}
+use Rattle.tj_words.specs.LawParts.TreeWords.{IsCell}
+use Rattle.tj_words.specs.Words.Values.{NamesCell, fill_in}
+use Rattle.tj_words.specs.SeatViews.Views.{saw_bits}
+use Rattle.tj_words.proofs.Seating.Merging.{begins_at}
+use Rattle.tj_words.proofs.Stores.SeatLists.{inside}
 use Rattle.tj_cells.specs.SeenValues.{SeenSays, SeesValue, cells_seen, saw_value, seen_in}
 use Rattle.tj_cells.specs.declared.seen.Seen.{Seen}
 use Rattle.tj_cells.specs.declared.seen.Seen.TheVariants as seen

@@ -10,12 +10,12 @@ use Rattle.tj_words.specs.declared.record.Fill.{Fill}
 use Rattle.tj_words.specs.declared.record.Fill.TheVariants as fill
 use Rattle.tj_words.specs.declared.view.About.{About}
 use Rattle.tj_words.specs.declared.view.View.{View}
-use Rattle.tj_words.specs.Lists.{All}
-use Rattle.tj_words.specs.Telling.{FillSays}
-use Rattle.tj_words.specs.KnownEntries.{IsToBecome}
-use Rattle.tj_words.specs.TaskLists.{noted}
-use Rattle.tj_words.specs.DrawViews.{without_due}
-use Rattle.tj_words.specs.OwnerViews.{MayClose, gave_up}
+use Rattle.tj_words.specs.Words.Lists.{All}
+use Rattle.tj_words.specs.LawParts.Telling.{FillSays}
+use Rattle.tj_words.specs.SeatViews.KnownEntries.{IsToBecome}
+use Rattle.tj_words.specs.SeatViews.TaskLists.{noted}
+use Rattle.tj_words.specs.Calls.DrawViews.{without_due}
+use Rattle.tj_words.specs.Calls.OwnerViews.{MayClose, gave_up}
 
 -- the cell that a value names
 abbrev pub cells_named : Fill → List ℕ

@@ -10,11 +10,11 @@ use Rattle.tj_words.specs.declared.view.Does.TheVariants as does
 use Rattle.tj_words.specs.declared.view.Custody.{Custody}
 use Rattle.tj_words.specs.declared.view.SeenWord.{SeenWord}
 use Rattle.tj_words.specs.declared.view.View.{View}
-use Rattle.tj_words.specs.TreeWords.{IsCell, AreCells}
-use Rattle.tj_words.specs.TaskLists.{hold, noted}
-use Rattle.tj_words.specs.SeenWords.{seen_word}
-use Rattle.tj_words.specs.DrawViews.{MayDraw, drawn_next}
-use Rattle.tj_words.specs.OwnerViews.{MayHand}
+use Rattle.tj_words.specs.LawParts.TreeWords.{IsCell, AreCells}
+use Rattle.tj_words.specs.SeatViews.TaskLists.{hold, noted}
+use Rattle.tj_words.specs.SeatViews.SeenWords.{seen_word}
+use Rattle.tj_words.specs.Calls.DrawViews.{MayDraw, drawn_next}
+use Rattle.tj_words.specs.Calls.OwnerViews.{MayHand}
 
 -- how many words that are written once are loaded as a cell is made: those of three nodes for the jump of a task
 abbrev pub loads_of : Sort → ℕ

@@ -9,12 +9,12 @@ use Rattle.tj_tree.specs.Nodes.{node_of, jump_from}
 use Rattle.tj_words.specs.declared.offsets.Once.TheVariants as once
 use Rattle.tj_words.specs.declared.view.Due.{Due}
 use Rattle.tj_words.specs.declared.view.View.{View}
-use Rattle.tj_words.specs.Lists.{All}
-use Rattle.tj_words.specs.TreeWords.{AreCells}
-use Rattle.tj_words.specs.TaskLists.{noted}
-use Rattle.tj_words.specs.SeenWords.{seen_word}
-use Rattle.tj_words.specs.DrawViews.{drawn_next, new_hand, new_tasks, runs_on, wrote_word}
-use Rattle.tj_words.specs.TreeReads.{HasReadTree}
+use Rattle.tj_words.specs.Words.Lists.{All}
+use Rattle.tj_words.specs.LawParts.TreeWords.{AreCells}
+use Rattle.tj_words.specs.SeatViews.TaskLists.{noted}
+use Rattle.tj_words.specs.SeatViews.SeenWords.{seen_word}
+use Rattle.tj_words.specs.Calls.DrawViews.{drawn_next, new_hand, new_tasks, runs_on, wrote_word}
+use Rattle.tj_words.specs.SeatViews.TreeReads.{HasReadTree}
 
 -- where a child of the task jumps
 abbrev pub child_jump_of : ℕ → Forks → ℕ
@@ -55,7 +55,7 @@ module _ {B : Type 0} where
     pub fresh : All (λ (d : Due). d.cell ≢ c) left
 
   -- the nodes of t and of two tasks above it were read, and DEPTH and JUMP of c are written
-  pub record WritesPlace (cells c : ℕ) (v w : View B) : Type 0 where
+  pub record WritesNode (cells c : ℕ) (v w : View B) : Type 0 where
     pub read : View B
     pub reads : HasReadTree cells v read
     pub loads : read.once_loads ≡ 12 + v.once_loads

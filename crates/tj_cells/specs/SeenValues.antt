@@ -12,9 +12,9 @@ use Rattle.tj_words.specs.declared.record.Fill.{Fill}
 use Rattle.tj_words.specs.declared.record.Fill.TheVariants as fill
 use Rattle.tj_words.specs.declared.view.Filled.{Filled}
 use Rattle.tj_words.specs.declared.view.View.{View}
-use Rattle.tj_words.specs.Lists.{All}
-use Rattle.tj_words.specs.TreeWords.{IsCell, AreCells}
-use Rattle.tj_words.specs.SeenWords.{WillHave}
+use Rattle.tj_words.specs.Words.Lists.{All}
+use Rattle.tj_words.specs.LawParts.TreeWords.{IsCell, AreCells}
+use Rattle.tj_words.specs.SeatViews.SeenWords.{WillHave}
 use Rattle.tj_cells.specs.declared.seen.Seen.{Seen}
 use Rattle.tj_cells.specs.declared.seen.Seen.TheVariants as seen
 

@@ -4,12 +4,12 @@ ghost use Rattle.std.specs.Prelude.{◌≡◌, ◌≢◌, ◌+◌, ◌∷◌, If
 ghost use Rattle.tj_base.specs.declared.cell.Sort.TheVariants as sorts;
 ghost use Rattle.tj_body.specs.Programs.{program_of};
 ghost use Rattle.tj_tree.specs.Nodes.{InEachTree};
-ghost use Rattle.tj_words.specs.DrawViews.{FindsNone, new_slots};
-ghost use Rattle.tj_words.specs.OwnerViews.{handed_promise};
-ghost use Rattle.tj_words.specs.SeatSteps.{IsCellOf, IsSameSeat, IsSeatOf};
-ghost use Rattle.tj_words.specs.TreeReads.{IsLater, KnowsTask, MayLook, TreeShown};
+ghost use Rattle.tj_words.specs.Calls.DrawViews.{FindsNone, new_slots};
+ghost use Rattle.tj_words.specs.Calls.OwnerViews.{handed_promise};
+ghost use Rattle.tj_words.specs.SeatViews.SeatSteps.{IsCellOf, IsSameSeat, IsSeatOf};
+ghost use Rattle.tj_words.specs.SeatViews.TreeReads.{IsLater, KnowsTask, MayLook, TreeShown};
 ghost use Rattle.tj_cells.specs.MadeCells.{IsMade, MayGiveAway, MayMake};
-ghost use Rattle.tj_cells.specs.MakingSteps.{DrawsNamed, HasInHand, WritesPlace, child_jump_of};
+ghost use Rattle.tj_cells.specs.MakingSteps.{DrawsNamed, HasInHand, WritesNode, child_jump_of};
 
 use tj_base::{CellId, Sort};
 use tj_body::Body;
@@ -68,7 +68,7 @@ pub fn birth<B: Body>(
     match draw_named(laid, seat, t, kid, Sort::Task) {
         None => Err(Full),
         Some(c) => {
-            put_place(laid, seat, t, c);
+            put_node(laid, seat, t, c);
             laid.put_owner(seat, c, Some(c));
             Ok(c)
         }
@@ -112,12 +112,12 @@ fn draw_named<B: Body>(
 }
 
 // Writes DEPTH and JUMP of a new child of task `t`.
-fn put_place<B: Body>(laid: &Laid<B>, seat: &mut WSeat<B>, t: CellId, c: CellId)
+fn put_node<B: Body>(laid: &Laid<B>, seat: &mut WSeat<B>, t: CellId, c: CellId)
     requires look { MayLook laid.now seat.old t.0 }
     requires cell { IsCellOf laid.now c.0 }
     requires hand { HasInHand t.0 c.0 seat.old.me.0 }
     ensures seat { IsSameSeat seat.old seat.new }
-    ensures place { WritesPlace laid.now.cells c.0 seat.old.me.0 seat.new.me.0 }
+    ensures node { WritesNode laid.now.cells c.0 seat.old.me.0 seat.new.me.0 }
 {
     let maker = laid.see_node(seat, t);
     let jump = child_jump(laid, seat, t, maker);

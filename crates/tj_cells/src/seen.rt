@@ -1,8 +1,8 @@
 //! What has become of a cell, as a seat sees it.
 ghost use Rattle.std.specs.Prelude.{◌≡◌, ◌≢◌};
 ghost use Rattle.tj_body.specs.Programs.{program_of};
-ghost use Rattle.tj_words.specs.SeatSteps.{IsCellOf, IsSameSeat, IsSeatOf};
-ghost use Rattle.tj_words.specs.SeenWords.{FindsNothing};
+ghost use Rattle.tj_words.specs.SeatViews.SeatSteps.{IsCellOf, IsSameSeat, IsSeatOf};
+ghost use Rattle.tj_words.specs.SeatViews.SeenWords.{FindsNothing};
 ghost use Rattle.tj_cells.specs.SeenValues.{SeesValue, seen_in};
 
 use tj_base::CellId;

@@ -6,4 +6,4 @@ pub mod OwnedCounts
 pub mod Puts
 pub mod Slots
 pub mod Starts
-pub mod WalkTurns
+pub mod StepEvents

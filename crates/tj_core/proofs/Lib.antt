@@ -1,6 +1,7 @@
-pub mod WalkPlaces
+pub mod WalkLaws
 pub mod Examples
 pub mod Graph
 pub mod Events
 pub mod Columns
 pub mod Journals
+pub mod OneCell

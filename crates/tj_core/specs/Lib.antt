@@ -5,14 +5,10 @@ pub mod WaitGraph
 pub mod Facts
 pub mod CoreFacts
 pub mod Laws
-pub mod StagesShown
 pub mod StateLaws
 pub mod EventLaws
 pub mod WalkLaws
 pub mod RunLaws
-pub mod Loads
-pub mod Core
-pub mod Journal
-pub mod Judging
-pub mod JournalLaws
 pub mod Inner
+pub mod Journals
+pub mod Checker

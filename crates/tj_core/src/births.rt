@@ -1,13 +1,13 @@
 //! Who made each cell, and the how-many-th thing of its maker it is: enough for its name. The fork
 //! order of two tasks is found on the ways from them up to the root.
 ghost use Rattle.std.specs.Prelude.{◌≡◌, ℕ, suc, ◌≤◌, ◌<◌, ◌||◌, ◌&&◌, nat_eq, nat_lt, length, slice_index_or, vec_capacity};
-ghost use Rattle.tj_core.specs.declared.births.TheConstants.{MAX_CELLS};
+ghost use Rattle.tj_core.specs.declared.births.TheConstants.{MAX_CORE_CELLS};
 ghost use Rattle.tj_core.specs.Inner.Births.{AreBorn};
 
 use std::alloc::{AllocError, Global};
 
 /// The most cells of a core.
-pub const MAX_CELLS: u32 = 1024;
+pub const MAX_CORE_CELLS: u32 = 1024;
 
 /// The birth of a cell other than the root.
 #[derive(Clone, Copy, Debug)]
@@ -30,7 +30,7 @@ pub(crate) struct Births {
     ghost fits: { length made.items ≤ limit },
     ghost room: { limit ≤ vec_capacity births },
     ghost made_room: { limit ≤ vec_capacity made },
-    ghost small: { limit ≤ MAX_CELLS },
+    ghost small: { limit ≤ MAX_CORE_CELLS },
 }
 
 impl Births {
@@ -41,7 +41,7 @@ impl Births {
     /// The root alone, with room for so many cells.
     pub(crate) fn new(alloc: Global, cells: u32) -> Result<Births, AllocError>
         requires some { 0 < cells }
-        requires small { cells ≤ MAX_CELLS }
+        requires small { cells ≤ MAX_CORE_CELLS }
         ensures births { IfOk result (λ new. new.births.items ≡ []) }
         ensures made { IfOk result (λ new. new.made.items ≡ 0 ∷ []) }
         ensures limit { IfOk result (λ new. new.limit ≡ cells) }

@@ -2,7 +2,7 @@
 //! cells that it names, with one space between words.
 ghost use Rattle.std.specs.Prelude.{◌≡◌, ℕ, ◌∷◌, ◌<◌, ◌≤◌, ◌==◌, not, length, IfOk, IfErr, IsErrAnd, IfSome, IfNone};
 ghost use Rattle.std.specs.List.{prefix_len};
-ghost use Rattle.tj_core.specs.Journal.{lines_of, words_of, AreEventLines, IsEventLine, IsFirstFault, OrMemory, HasSmallCells, Names};
+ghost use Rattle.tj_core.specs.Journals.Lines.{lines_of, words_of, AreEventLines, IsEventLine, IsFirstFault, OrMemory, HasSmallCells, Names};
 
 use crate::event::Event;
 use crate::line::event_of;

@@ -1,6 +1,6 @@
 //! The laws of journals: what is defined of reading and of judging leaves one answer.
-ghost use Rattle.tj_core.specs.JournalLaws.{EventsAreOne, FirstFaultIsOne};
-ghost use Rattle.tj_core.specs.JournalLaws.{EventsHaveNoFault, JudgingIsOne};
+ghost use Rattle.tj_core.specs.Journals.Laws.{EventsAreOne, FirstFaultIsOne};
+ghost use Rattle.tj_core.specs.Journals.Laws.{EventsHaveNoFault, JudgingIsOne};
 
 /// The lines of a journal are those of one list of events at most, or have one first fault at most,
 /// and not both.

@@ -4,11 +4,11 @@ ghost use Rattle.std.specs.Prelude.{◌≡◌, ◌≤◌, ◌<◌, ◌∷◌, �
 ghost use Rattle.std.specs.List.{flat_map};
 ghost use Rattle.tj_core.specs.CoreFacts.{CoreFacts};
 ghost use Rattle.tj_core.specs.Events.{Allowed};
-ghost use Rattle.tj_core.specs.Core.{core_state, core_limit};
-ghost use Rattle.tj_core.specs.Judging.{IsJudged, IsSaid, settled_line, alarm_line, wait_text, legal_line, illegal_line};
-ghost use Rattle.tj_core.specs.Judging as spec;
+ghost use Rattle.tj_core.specs.Checker.Core.{core_state, core_limit};
+ghost use Rattle.tj_core.specs.Journals.Judging.{IsJudged, IsSaid, settled_line, alarm_line, wait_text, legal_line, illegal_line};
+ghost use Rattle.tj_core.specs.Journals.Judging as spec;
 
-use crate::births::MAX_CELLS;
+use crate::births::MAX_CORE_CELLS;
 use crate::event::Event;
 use crate::plain_core::Core;
 use crate::stage::Illegal;
@@ -26,7 +26,7 @@ pub struct Judged {
 /// What the rules make of a run from the root alone on, with room for so many cells.
 pub fn judge_text(alloc: Global, events: &[Event], cells: u32) -> Result<Judged, Oom>
     requires some { 0 < cells }
-    requires small { cells ≤ MAX_CELLS }
+    requires small { cells ≤ MAX_CORE_CELLS }
     ensures { IfOk result (λ judged. IsJudged cells events.now judged.text judged.marked) }
 {
     let mut core = Core::new(alloc, cells)?;

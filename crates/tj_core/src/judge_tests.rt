@@ -1,5 +1,5 @@
 //! Journals as texts, each with the text of judging by hand from the rules.
-use crate::{JournalFault, Judged, MAX_CELLS, MAX_JOURNAL, judge_text, read_journal};
+use crate::{JournalFault, Judged, MAX_CORE_CELLS, MAX_JOURNAL, judge_text, read_journal};
 use std::alloc::Global;
 use std::test::Fail;
 use tj_base::{Oom, add_number};
@@ -10,7 +10,7 @@ const CLOSED_LAST: &str = "fork 0\nfork 0\npublish 2 1\nothers 2\nsettle 2\nrais
     wait 0\nagain 0\nsettle 0\ncount 1\nowner 1\nwait 1\nagain 1\nowner 1\nalarm 1\n";
 
 fn outcome(alloc: Global, journal: &[u8], cells: u32) -> Result<Judged, JournalFault> {
-    if journal.len() > MAX_JOURNAL || cells == 0 || cells > MAX_CELLS {
+    if journal.len() > MAX_JOURNAL || cells == 0 || cells > MAX_CORE_CELLS {
         return Err(JournalFault::Line(0));
     }
     let events = read_journal(alloc, journal)?;
@@ -218,7 +218,7 @@ fn a_cycle_of_all_cells(rt: HostRuntime) -> Result<(), Fail> {
     add_line(&mut journal, b"alarm", &[1])?;
     wanted.extend_from_slice(alarm.as_slice())?;
     wanted.extend_from_slice(b"\nlegal 7166 events\n")?;
-    let judged = outcome(rt.alloc(), journal.as_slice(), MAX_CELLS)?;
+    let judged = outcome(rt.alloc(), journal.as_slice(), MAX_CORE_CELLS)?;
     assert_eq!(rt; judged.text.items(), wanted.as_slice());
     assert!(rt; judged.marked);
     Ok(())

@@ -26,7 +26,7 @@ mod walk_reads;
 mod walk_step;
 mod walker_law;
 
-pub use births::MAX_CELLS;
+pub use births::MAX_CORE_CELLS;
 pub use event::Event;
 pub use event_laws::{
     event_keeps_alarms, event_keeps_cycles, event_keeps_watches, event_leaves_others,

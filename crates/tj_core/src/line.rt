@@ -1,7 +1,7 @@
 //! The event of the words of a line.
 ghost use Rattle.std.specs.Prelude.{◌≡◌, ◌≢◌, ℕ, ◌<◌, ◌^◌, [], ◌∷◌, map, decimal, IfSome, IfNone};
 ghost use Rattle.tj_core.specs.declared.event.Event.{Event};
-ghost use Rattle.tj_core.specs.Journal.{verb_of, cells_of, HasSmallCells, Names};
+ghost use Rattle.tj_core.specs.Journals.Lines.{verb_of, cells_of, HasSmallCells, Names};
 
 use crate::event::Event;
 use itoa::Buffer;

@@ -2,7 +2,7 @@
 ghost use Rattle.std.specs.Prelude.{◌≡◌, ◌≤◌, ◌+◌, suc, length, vec_capacity, IfOk};
 ghost use Rattle.tj_core.specs.Inner.Columns.{HaveRoom};
 
-use crate::births::{Births, MAX_CELLS};
+use crate::births::{Births, MAX_CORE_CELLS};
 use crate::owners::Owners;
 use crate::slot::Slot;
 use crate::slot_stage::SlotStage;
@@ -39,7 +39,7 @@ impl Machine {
     /// The root alone, with room for so many cells.
     pub(crate) fn new(alloc: Global, cells: u32) -> Result<Machine, Oom>
         requires some { 0 < cells }
-        requires small { cells ≤ MAX_CELLS }
+        requires small { cells ≤ MAX_CORE_CELLS }
         ensures state { IfOk result (λ m. state_of m ≡ root_alone) }
         ensures limit { IfOk result (λ m. limit_of m ≡ cells) }
         ensures loads { IfOk result (λ m. (t : ℕ) → loads_of m t ≡ 0) }

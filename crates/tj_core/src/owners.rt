@@ -1,10 +1,10 @@
 //! Who owns each cell, and how many cells each task owns, so that a task's last cell is known at
 //! once.
 ghost use Rattle.std.specs.Prelude.{◌≡◌, ℕ, ◌+◌, ◌≤◌, ◌<◌, length, slice_index_or};
-ghost use Rattle.tj_core.specs.declared.births.TheConstants.{MAX_CELLS};
+ghost use Rattle.tj_core.specs.declared.births.TheConstants.{MAX_CORE_CELLS};
 ghost use Rattle.tj_core.specs.Inner.Owners.{AreCounts, AreOwnersInside, IsInside, one_if};
 
-use crate::births::MAX_CELLS;
+use crate::births::MAX_CORE_CELLS;
 use std::alloc::{AllocError, Global};
 
 /// The owners of a given number of cells.
@@ -15,7 +15,7 @@ pub(crate) struct Owners {
     ghost counted: { AreCounts owners.items counts.items },
     ghost inside: { AreOwnersInside owners.items (length owners.items) },
     ghost same: { length counts.items ≡ length owners.items },
-    ghost small: { length owners.items ≤ MAX_CELLS },
+    ghost small: { length owners.items ≤ MAX_CORE_CELLS },
 }
 
 impl Owners {
@@ -24,7 +24,7 @@ impl Owners {
 
     /// So many cells that nobody owns.
     pub(crate) fn new(alloc: Global, cells: u32) -> Result<Owners, AllocError>
-        requires { cells ≤ MAX_CELLS }
+        requires { cells ≤ MAX_CORE_CELLS }
         ensures { IfOk result (λ new. new.owners.items ≡ replicate cells None) }
     {
         let owners = Vec::from_elem(alloc, None, cells as usize)?;
@@ -68,7 +68,7 @@ impl Owners {
 fn count_up(counts: &mut Vec<u32>, owner: Option<u32>)
     requires owner { IsInside owner (length counts.old.items) }
     requires room { (t : ℕ) → t < length counts.old.items
-        → slice_index_or counts.old.items t 0 ≤ MAX_CELLS }
+        → slice_index_or counts.old.items t 0 ≤ MAX_CORE_CELLS }
     ensures length { length counts.new.items ≡ length counts.old.items }
     ensures counts { (t : ℕ) → t < length counts.old.items
         → slice_index_or counts.new.items t 0 ≡ slice_index_or counts.old.items t 0 + one_if owner t }

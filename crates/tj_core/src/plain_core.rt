@@ -1,7 +1,7 @@
 //! The core: the machine, and how many events were applied to it.
 ghost use Rattle.std.specs.Prelude.{◌≤◌};
 
-use crate::births::MAX_CELLS;
+use crate::births::MAX_CORE_CELLS;
 use crate::event::Event;
 use crate::machine::Machine;
 use crate::stage::{Illegal, Stage};
@@ -23,14 +23,14 @@ impl Core {
     ghost use Rattle.tj_core.specs.CoreState.{root_alone, stage, wait};
     ghost use Rattle.tj_core.specs.Events.{Allowed, Walks};
     ghost use Rattle.tj_core.specs.WaitGraph.{IsOnCycle, IsCycleFrom};
-    ghost use Rattle.tj_core.specs.Core.{core_state, core_limit, core_loads, core_applied, Applies, IsSame};
+    ghost use Rattle.tj_core.specs.Checker.Core.{core_state, core_limit, core_loads, core_applied, Applies, IsSame};
     ghost use Rattle.tj_core.specs.CoreFacts.{CoreFacts};
-    ghost use Rattle.tj_core.specs.StagesShown.{stage_shown};
+    ghost use Rattle.tj_core.specs.Checker.StagesShown.{stage_shown};
 
     /// The root alone, running, with room for so many cells.
     pub fn new(alloc: Global, cells: u32) -> Result<Core, Oom>
         requires some { 0 < cells }
-        requires small { cells ≤ MAX_CELLS }
+        requires small { cells ≤ MAX_CORE_CELLS }
         ensures state { IfOk result (λ core. core_state core ≡ root_alone) }
         ensures limit { IfOk result (λ core. core_limit core ≡ cells) }
         ensures loads { IfOk result (λ core. (t : ℕ) → core_loads core t ≡ 0) }

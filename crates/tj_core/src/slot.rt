@@ -1,12 +1,12 @@
 //! One cell of the checker: its stage, and the walk of its task. The calls of a walk test the
 //! walker's last read, and then change it.
 ghost use Rattle.std.specs.Prelude.{◌≡◌, ℕ, ◌+◌, ◌*◌, ◌<◌, ◌≤◌, length, vec_capacity};
-ghost use Rattle.tj_core.specs.declared.births.TheConstants.{MAX_CELLS};
+ghost use Rattle.tj_core.specs.declared.births.TheConstants.{MAX_CORE_CELLS};
 ghost use Rattle.tj_core.specs.declared.slot_stage.Progress.TheVariants.{Walking};
 ghost use Rattle.tj_core.specs.declared.slot_stage.SlotStage.TheVariants.{Waiting};
 ghost use Rattle.tj_core.specs.Inner.SlotStages.{stage_passes, stage_loads, stage_bound};
 
-use crate::births::MAX_CELLS;
+use crate::births::MAX_CORE_CELLS;
 use crate::slot_stage::{Progress, SlotStage};
 use crate::stage::{Illegal, Stage};
 use crate::walk::{LastRead, TrailLink, Way};
@@ -25,7 +25,7 @@ pub(crate) struct Slot {
     ghost loaded: { loads ≤ 3 * length trail.items + stage_loads stage },
     ghost room: { bound ≤ vec_capacity trail },
     // Before a walk has read its bound, that is 0.
-    ghost small: { bound ≤ MAX_CELLS * stage_bound stage },
+    ghost small: { bound ≤ MAX_CORE_CELLS * stage_bound stage },
 }
 
 impl Slot {
@@ -35,7 +35,7 @@ impl Slot {
     ghost use Rattle.tj_core.specs.Inner.Slots.{stage_of, walker};
     ghost use Rattle.tj_core.specs.declared.slot_stage.Progress.TheVariants.{Walking};
     ghost use Rattle.tj_core.specs.declared.slot_stage.SlotStage.TheVariants.{Waiting};
-    ghost use Rattle.tj_core.specs.StagesShown.{stage_shown};
+    ghost use Rattle.tj_core.specs.Checker.StagesShown.{stage_shown};
     ghost use Rattle.tj_core.specs.Inner.SlotStages.{cell_stage, IsIdle};
     ghost use Rattle.tj_core.specs.Inner.WalkSteps.{MayStep, stage_by, loads_by, HasRoom};
 

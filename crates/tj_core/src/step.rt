@@ -8,7 +8,7 @@ use crate::walk_step::WalkStep;
 impl Machine {
     ghost use Rattle.std.specs.Prelude.{◌≡◌, ◌<◌, ◌^◌, OnOk, OnErr, MatchOption};
     ghost use Rattle.tj_core.specs.Inner.Columns.{stage_in, loads_in};
-    ghost use Rattle.tj_core.specs.StagesShown.{stage_shown};
+    ghost use Rattle.tj_core.specs.Checker.StagesShown.{stage_shown};
     ghost use Rattle.tj_core.specs.Inner.Machine.{Accepts, Refuses, state_of};
     ghost use Rattle.tj_core.specs.Events.{Walks};
 

@@ -10,15 +10,15 @@ use Rattle.tj_words.specs.declared.view.Custody.{Custody}
 use Rattle.tj_words.specs.declared.view.Does.{Does}
 use Rattle.tj_words.specs.declared.view.Does.TheVariants as does
 use Rattle.tj_words.specs.declared.view.View.{View}
-use Rattle.tj_words.specs.Holding.{held_in}
-use Rattle.tj_words.specs.ShownState.{does_walk}
-use Rattle.tj_words.specs.TaskLists.{let_go, hold, noted}
-use Rattle.tj_words.specs.WaitViews.{now_does, now_alarmed, published, alarmed}
-use Rattle.tj_words.specs.WalkViews.{does_next, turned}
-use Rattle.tj_words.proofs.HeldChanges.{held_task}
-use Rattle.tj_words.proofs.HeldTasks.{none_some}
-use Rattle.tj_words.proofs.NotedTasks.{noted_is}
-use Rattle.tj_words.proofs.SeatTasks.{let_go_here, hold_here}
+use Rattle.tj_words.specs.LawParts.Holding.{held_in}
+use Rattle.tj_words.specs.LawParts.ShownState.{does_walk}
+use Rattle.tj_words.specs.SeatViews.TaskLists.{let_go, hold, noted}
+use Rattle.tj_words.specs.Calls.WaitViews.{now_does, now_alarmed, published, alarmed}
+use Rattle.tj_words.specs.Calls.WalkViews.{does_next, turned}
+use Rattle.tj_words.proofs.Holders.HeldChanges.{held_task}
+use Rattle.tj_words.proofs.Holders.HeldTasks.{none_some}
+use Rattle.tj_words.proofs.Holders.NotedTasks.{noted_is}
+use Rattle.tj_words.proofs.Holders.SeatTasks.{let_go_here, hold_here}
 use Rattle.tj_detect.specs.Blocks.{doing}
 
 module _ {B : Type 0} where

@@ -1,4 +1,4 @@
-pub mod WalkPlaces
+pub mod WalkNodes
 pub mod WayOrders
 pub mod Doings
 pub mod WalkReads

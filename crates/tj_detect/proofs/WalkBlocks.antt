@@ -11,12 +11,12 @@ use Rattle.tj_words.specs.declared.view.Custody.{Custody}
 use Rattle.tj_words.specs.declared.view.Does.{Does}
 use Rattle.tj_words.specs.declared.view.Does.TheVariants as does
 use Rattle.tj_words.specs.declared.view.View.{View}
-use Rattle.tj_words.specs.Holding.{held_in}
-use Rattle.tj_words.specs.WaitViews.{now_does, published, MayPublishWait}
-use Rattle.tj_words.specs.WalkSteps.{MayWait}
-use Rattle.tj_words.specs.WalkViews.{IsWalking, MayRaise, read_on, turned, walk_with}
-use Rattle.tj_words.proofs.HeldTasks.{one_some}
-use Rattle.tj_words.proofs.WalkersShown.{walker_shown, alarm_shown}
+use Rattle.tj_words.specs.LawParts.Holding.{held_in}
+use Rattle.tj_words.specs.Calls.WaitViews.{now_does, published, MayPublishWait}
+use Rattle.tj_words.specs.Steps.WalkSteps.{MayWait}
+use Rattle.tj_words.specs.Calls.WalkViews.{IsWalking, MayRaise, read_on, turned, walk_with}
+use Rattle.tj_words.proofs.Holders.HeldTasks.{one_some}
+use Rattle.tj_words.proofs.Events.WalkersShown.{walker_shown, alarm_shown}
 use Rattle.tj_detect.specs.Blocks.{IsLoad, IsWalkOf, walk_published, walk_others, MayBlock, Blocks, HasReadNoOthers}
 use Rattle.tj_detect.specs.Blocks.{IsStepCount, doing}
 use Rattle.tj_detect.specs.Blocks.{EndsWith, does_after, tokens_given, InEachTable, StandsOnCycle, OthersWatch, shown}

@@ -10,8 +10,8 @@ use Rattle.tj_core.specs.CoreState.{present}
 use Rattle.tj_core.specs.Events.{count_read, owner_read, EndsWalk, MayReadOwner}
 use Rattle.tj_words.specs.declared.view.Does.TheVariants as does
 use Rattle.tj_words.specs.declared.view.View.{View}
-use Rattle.tj_words.specs.WaitViews.{now_does, alarmed, MayStoreAlarm}
-use Rattle.tj_words.specs.WalkViews.{IsWalking, read_on}
+use Rattle.tj_words.specs.Calls.WaitViews.{now_does, alarmed, MayStoreAlarm}
+use Rattle.tj_words.specs.Calls.WalkViews.{IsWalking, read_on}
 use Rattle.tj_detect.specs.Blocks.{IsLoad, walk_count, doing}
 use Rattle.tj_detect.specs.WalkHops.{WalksWith, WalksOn, Hops, IsAtCount, Comes, passed_on}
 use Rattle.tj_detect.specs.declared.blocking.Hop.TheVariants.{Next, Ended, Own}

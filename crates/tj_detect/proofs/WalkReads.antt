@@ -10,10 +10,10 @@ use Rattle.tj_words.specs.declared.view.Custody.{Custody}
 use Rattle.tj_words.specs.declared.view.Does.{Does}
 use Rattle.tj_words.specs.declared.view.Does.TheVariants as does
 use Rattle.tj_words.specs.declared.view.View.{View}
-use Rattle.tj_words.specs.Holding.{held_in}
-use Rattle.tj_words.specs.WaitViews.{now_does}
-use Rattle.tj_words.specs.WalkViews.{IsWalking, MayLoadWait, owner_seen, read_on, walk_with}
-use Rattle.tj_words.proofs.HeldTasks.{one_some}
+use Rattle.tj_words.specs.LawParts.Holding.{held_in}
+use Rattle.tj_words.specs.Calls.WaitViews.{now_does}
+use Rattle.tj_words.specs.Calls.WalkViews.{IsWalking, MayLoadWait, owner_seen, read_on, walk_with}
+use Rattle.tj_words.proofs.Holders.HeldTasks.{one_some}
 use Rattle.tj_detect.specs.Blocks.{IsWalkOf, walk_owner, walk_wait, walk_again, doing}
 use Rattle.tj_detect.specs.WalkHops.{WalksWith, WalksOn, Passes, Hops, passed_on}
 use Rattle.tj_detect.specs.declared.blocking.Hop.{Hop}

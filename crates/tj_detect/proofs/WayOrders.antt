@@ -12,9 +12,9 @@ use Rattle.tj_tree.specs.Forks.{Forks, IsEarlier, IsHistory, name_of, order_of}
 use Rattle.tj_tree.specs.Laws.{OrderIsThatOfNames}
 use Rattle.tj_tree.specs.Nodes.{HasNodes, node_of}
 use Rattle.tj_words.specs.declared.view.SeenWord.{SeenWord}
-use Rattle.tj_words.specs.SeenWords.{IsTaskIn, SeesTree, ShowsNode}
-use Rattle.tj_words.specs.ShownState.{reference_of}
-use Rattle.tj_words.specs.WalkSteps.{is_task_sort, way_by}
+use Rattle.tj_words.specs.SeatViews.SeenWords.{IsTaskIn, SeesTree, ShowsNode}
+use Rattle.tj_words.specs.LawParts.ShownState.{reference_of}
+use Rattle.tj_words.specs.Steps.WalkSteps.{is_task_sort, way_by}
 use Rattle.tj_detect.specs.TreeReads.{IsWithinCost}
 
 at_index : (l : List Reference) (c : ℕ) (d x : Reference) → get_elem? l c ≡ some x → get_or l c d ≡ x

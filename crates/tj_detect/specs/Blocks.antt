@@ -22,15 +22,15 @@ use Rattle.tj_words.specs.declared.view.Custody.{Custody}
 use Rattle.tj_words.specs.declared.view.Does.{Does}
 use Rattle.tj_words.specs.declared.view.Does.TheVariants as does
 use Rattle.tj_words.specs.declared.view.View.{View}
-use Rattle.tj_words.specs.Contents.{contents_of, core_shown}
-use Rattle.tj_words.specs.Holding.{held_in}
+use Rattle.tj_words.specs.LawParts.Contents.{contents_of, core_shown}
+use Rattle.tj_words.specs.LawParts.Holding.{held_in}
 use Rattle.tj_words.specs.Law.{Rule}
-use Rattle.tj_words.specs.LiveCount.{HasWakeToCome}
-use Rattle.tj_words.specs.StepEvents.{MayAct}
-use Rattle.tj_words.specs.TaskLists.{noted}
-use Rattle.tj_words.specs.WaitViews.{now_does}
-use Rattle.tj_words.specs.WalkSteps.{way_by}
-use Rattle.tj_words.specs.WalkViews.{MayLoadWait}
+use Rattle.tj_words.specs.LawParts.LiveCount.{HasWakeToCome}
+use Rattle.tj_words.specs.Steps.StepEvents.{MayAct}
+use Rattle.tj_words.specs.SeatViews.TaskLists.{noted}
+use Rattle.tj_words.specs.Calls.WaitViews.{now_does}
+use Rattle.tj_words.specs.Steps.WalkSteps.{way_by}
+use Rattle.tj_words.specs.Calls.WalkViews.{MayLoadWait}
 use Rattle.tj_detect.specs.declared.blocking.Verdict.{Verdict}
 use Rattle.tj_detect.specs.declared.blocking.Verdict.TheVariants.{Alarm, Walked, Skipped}
 

@@ -6,7 +6,7 @@ use Rattle.tj_core.specs.Events.{owner_read, wait_found, owner_found, MayCount, 
 use Rattle.tj_words.specs.declared.view.Custody.{Custody}
 use Rattle.tj_words.specs.declared.view.Does.TheVariants as does
 use Rattle.tj_words.specs.declared.view.View.{View}
-use Rattle.tj_words.specs.Holding.{held_in}
+use Rattle.tj_words.specs.LawParts.Holding.{held_in}
 use Rattle.tj_detect.specs.Blocks.{IsLoad, IsWalkOf, EndsWith, does_after, tokens_given, doing}
 use Rattle.tj_detect.specs.declared.blocking.Verdict.{Verdict}
 use Rattle.tj_detect.specs.declared.blocking.Verdict.TheVariants.{Skipped}

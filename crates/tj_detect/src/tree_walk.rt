@@ -2,11 +2,11 @@
 //! a reader of nodes; a look here is four loads of words that are written once.
 ghost use Rattle.std.specs.Prelude.{ℕ, ◌≡◌, ◌≢◌, ◌+◌, ◌*◌, ◌^◌, ◌<◌, ◌≤◌, ◌↔◌, nat_le, max, IsTrue};
 ghost use Rattle.tj_tree.specs.Forks.{order_of, IsEarlier};
-ghost use Rattle.tj_tree.specs.Nodes.{node_of, ArePartOfTree, InEachTree};
+ghost use Rattle.tj_tree.specs.Nodes.{node_of, ArePartOfTree, InEachTree, move_from};
 ghost use Rattle.tj_tree.specs.Walk.{GoesOn};
-ghost use Rattle.tj_tree.specs.Inner.Moves.{IsKnown, IsAtOrAbove, move_from};
-ghost use Rattle.tj_words.specs.SeenWords.{SeesTree};
-ghost use Rattle.tj_words.specs.TreeReads.{IsLater, MayLook, TreeShown};
+ghost use Rattle.tj_tree.specs.Inner.Moves.{IsKnown, IsAtOrAbove};
+ghost use Rattle.tj_words.specs.SeatViews.SeenWords.{SeesTree};
+ghost use Rattle.tj_words.specs.SeatViews.TreeReads.{IsLater, MayLook, TreeShown};
 
 use std::sync::ledger::Ledger;
 use tj_base::{CellId, Steps};

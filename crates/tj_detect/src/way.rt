@@ -1,8 +1,8 @@
 //! The way of a wait.
 ghost use Rattle.std.specs.Prelude.{◌≡◌, ◌+◌, ◌*◌};
-ghost use Rattle.tj_words.specs.SeatSteps.{IsSeatOf, IsCellOf, IsSameSeat};
-ghost use Rattle.tj_words.specs.WalkSteps.{way_by};
-ghost use Rattle.tj_words.specs.TreeReads.{KnowsTask, HasReadTree};
+ghost use Rattle.tj_words.specs.SeatViews.SeatSteps.{IsSeatOf, IsCellOf, IsSameSeat};
+ghost use Rattle.tj_words.specs.Steps.WalkSteps.{way_by};
+ghost use Rattle.tj_words.specs.SeatViews.TreeReads.{KnowsTask, HasReadTree};
 ghost use Rattle.tj_detect.specs.TreeReads.{IsWithinCost};
 
 use crate::tree_walk::is_before;

@@ -17,7 +17,7 @@ use Rattle.tj_syntax.specs.Marks as marks
 use Rattle.tj_syntax.specs.Trees as tree
 use Rattle.tj_syntax.specs.Trees.{Argument, Given, Statement, Statements, Otherwise, Task}
 use Rattle.tj_eval.specs.Expressions.{Computed, is_zero, held}
-use Rattle.tj_eval.specs.Statements.{TaskState, Turn, goes_on, asks, fails, Next, kept, listed, otherwise, then_turn}
+use Rattle.tj_eval.specs.Statements.{TaskState, Effect, goes_on, asks, fails, Next, kept, listed, otherwise, then_effect}
 use Rattle.tj_eval.specs.Statements.{arguments, forked, reference_of}
 use Rattle.tj_eval.specs.Statements.{asked, given, begun, next_from, next_of, next_ask, next_after, Due, start, place}
 use Rattle.tj_eval.specs.Statements.{cell, cell_or, done, over}
@@ -52,17 +52,17 @@ without-parts t h = let a = script_has_no_get t.script in let b = list_all has_n
 without-test : (t : TaskState) → IsWithout t → asks_no_get t ≡ true
 without-test t h = and_from (script_has_no_get t.script) (list_all has_no_get t.rest) h.0 h.1
 
-abbrev IsTurnWithout : Turn → Type 0
-IsTurnWithout (goes_on new) = IsWithout new
-IsTurnWithout (asks q new) = IsNoGet q × IsWithout new
-IsTurnWithout (fails fault) = Unit {0}
+abbrev IsEffectWithout : Effect → Type 0
+IsEffectWithout (goes_on new) = IsWithout new
+IsEffectWithout (asks q new) = IsNoGet q × IsWithout new
+IsEffectWithout (fails fault) = Unit {0}
 
-without-turn : {A : Type 0} (c : Result A Trouble) (go : A → Turn) → ((x : A) → IsTurnWithout (go x))
-    → IsTurnWithout (then_turn c go)
-without-turn (Ok x) go h = h x
-without-turn (Err fault) go h = tt
+without-effect : {A : Type 0} (c : Result A Trouble) (go : A → Effect) → ((x : A) → IsEffectWithout (go x))
+    → IsEffectWithout (then_effect c go)
+without-effect (Ok x) go h = h x
+without-effect (Err fault) go h = tt
 
-without-if : (b : Bool) (x y : Turn) → IsTurnWithout x → IsTurnWithout y → IsTurnWithout (if b then x else y)
+without-if : (b : Bool) (x y : Effect) → IsEffectWithout x → IsEffectWithout y → IsEffectWithout (if b then x else y)
 without-if true x y h k = h
 without-if false x y h k = k
 
@@ -79,50 +79,50 @@ task-without (d ∷ script) (suc f) h =
     task-without script f (second_so (have_no_get d.body) (script_has_no_get script) h)
 
 without-forked : (t : TaskState) (d : Option Task) (into : Option ℕ) (list : List Argument) → IsWithout t
-    → IfTask (λ d. have_no_get d.body ≡ true) d → IsTurnWithout (forked t d into list)
+    → IfTask (λ d. have_no_get d.body ≡ true) d → IsEffectWithout (forked t d into list)
 without-forked t None into list h k = tt
 without-forked t (Some d) into list h k = without-if (nat_eq _ d.params) _ (fails trouble.Kind)
-    (without-turn (arguments t.vars list) _
+    (without-effect (arguments t.vars list) _
     (λ values. (and_from (script_has_no_get t.script) _ h.0 (listed-without d.body k), h))) tt
 
 no_truth : false ≡ true → ⊥
 no_truth e = cc
 
 without-asked : (t : TaskState) (into : Option ℕ) (q : tree.Ask) → IsWithout t → is_no_get q ≡ true
-    → IsTurnWithout (asked t into q)
+    → IsEffectWithout (asked t into q)
 without-asked t into tree.new h e = (tt, h)
 without-asked t into (tree.fork f list) h e =
     without-forked t (slice_get t.script f) into list h (task-without t.script f h.0)
 without-asked t into (tree.get r other) h e = absurd (no_truth e)
-without-asked t into (tree.join r None) h e = without-turn (reference_of t r) _ (λ k. (tt, h))
-without-asked t into (tree.join r (Some other)) h e = without-turn (reference_of t r) _ (λ k. (tt, h))
+without-asked t into (tree.join r None) h e = without-effect (reference_of t r) _ (λ k. (tt, h))
+without-asked t into (tree.join r (Some other)) h e = without-effect (reference_of t r) _ (λ k. (tt, h))
 
 without-kept : (t : TaskState) (into : Option ℕ) (v : Pay) → IsWithout t → IsWithout (kept into v t)
 without-kept t None v h = h
 without-kept t (Some x) v h = h
 
 without-given : (t : TaskState) (x : ℕ) (side : Given) → IsWithout t → gives_no_get side ≡ true
-    → IsTurnWithout (given t x side)
+    → IsEffectWithout (given t x side)
 without-given t x (tree.answer q) h e = without-asked t (Some x) q h e
-without-given t x (tree.result_of e) h _ = without-turn (value_in t e) _ (λ v. without-kept t (Some x) v h)
+without-given t x (tree.result_of e) h _ = without-effect (value_in t e) _ (λ v. without-kept t (Some x) v h)
 
 without-first : (t : TaskState) (b : Bool) (xs ys : List Statement) → IsWithout t → list_all has_no_get xs ≡ true
     → list_all has_no_get ys ≡ true → IsWithout (first (if b then xs else ys) t)
 without-first t true xs ys h k l = (h.0, all-append has_no_get xs t.rest k h.1)
 without-first t false xs ys h k l = (h.0, all-append has_no_get ys t.rest l h.1)
 
-without-begun : (t : TaskState) (s : Statement) → IsWithout t → has_no_get s ≡ true → IsTurnWithout (begun t s)
+without-begun : (t : TaskState) (s : Statement) → IsWithout t → has_no_get s ≡ true → IsEffectWithout (begun t s)
 without-begun t (tree.let_new x side) h e = without-given t x side h e
 without-begun t (tree.assign x side) h e = without-given t x side h e
 without-begun t (tree.ask q) h e = without-asked t None q h e
-without-begun t (tree.print x) h e = without-turn (number (value_in t x)) _ (λ n. (tt, h))
+without-begun t (tree.print x) h e = without-effect (number (value_in t x)) _ (λ n. (tt, h))
 without-begun t (tree.set_cell x v) h e =
-    without-turn (reference (Ok (held t.vars x))) _ (λ k. without-turn (value_in t v) _ (λ v. (tt, h)))
-without-begun t (tree.return x) h e = without-turn (value_in t x) _ (λ v. (tt, h))
+    without-effect (reference (Ok (held t.vars x))) _ (λ k. without-effect (value_in t v) _ (λ v. (tt, h)))
+without-begun t (tree.return x) h e = without-effect (value_in t x) _ (λ v. (tt, h))
 without-begun t (tree.choose x body other) h e = let a = have_no_get body in let b = other_has_no_get other in
-    without-turn (number (value_in t x)) _ (λ n. without-first t (is_zero n) (otherwise other) (listed body) h
+    without-effect (number (value_in t x)) _ (λ n. without-first t (is_zero n) (otherwise other) (listed body) h
     (otherwise-without other (second_so a b e)) (listed-without body (first_so a b e)))
-without-begun t (tree.repeat x body) h e = without-turn (number (value_in t x)) _
+without-begun t (tree.repeat x body) h e = without-effect (number (value_in t x)) _
     (λ n. without-first t (is_zero n) [] (listed body ++ tree.repeat x body ∷ []) h refl
     (all-append has_no_get (listed body) (tree.repeat x body ∷ []) (listed-without body e)
     (and_from (have_no_get body) true e refl)))
@@ -131,8 +131,8 @@ without-begun t (tree.repeat x body) h e = without-turn (number (value_in t x)) 
 abbrev IsNextWithout : Next → Type 0
 IsNextWithout n = IsNoGet n.0 × IsWithout n.1
 
-without-next_from : (t : TaskState) (turn : Turn) (go : TaskState → Next) → IsWithout t → IsTurnWithout turn
-    → ((new : TaskState) → IsWithout new → IsNextWithout (go new)) → IsNextWithout (next_from t turn go)
+without-next_from : (t : TaskState) (effect : Effect) (go : TaskState → Next) → IsWithout t → IsEffectWithout effect
+    → ((new : TaskState) → IsWithout new → IsNextWithout (go new)) → IsNextWithout (next_from t effect go)
 without-next_from t (goes_on new) go h k more = more new k
 without-next_from t (asks q new) go h k more = k
 without-next_from t (fails fault) go h k more = (tt, h)

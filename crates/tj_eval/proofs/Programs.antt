@@ -31,7 +31,7 @@ length-one_more : {A : Type 0} (front : List A) (x : A) → length (front ++ x �
 length-one_more [] x = refl
 length-one_more (y ∷ front) x = let e = length-one_more front x in omega (arith, e)
 
--- the first task whose name passes is the one at that name's place
+-- the first task whose name passes is the one at that name's index
 found-from : (test : Name → Bool) (front : List Task) (decls : List Decl)
     → task_at (front ++ map view.task decls)
     (position_from test (length front) (map (λ t. t.name) (map view.task decls)))

@@ -7,7 +7,7 @@ use Rattle.tj_body.specs.declared.ask.Ask.TheVariants as ask
 use Rattle.tj_syntax.specs.Trees.{Statement}
 use Rattle.std.specs.Prelude.{Bool, true, false, Ok, Err}
 use Rattle.tj_eval.specs.declared.halt.Halt.TheVariants.{Fault}
-use Rattle.tj_eval.specs.Inner.Turns.{IsStep, is_ask}
+use Rattle.tj_eval.specs.Inner.Effects.{IsStep, is_ask}
 use Rattle.tj_eval.specs.Statements.{TaskState, ended, begun, next_from, next_of, next_ask}
 
 -- where no statement is left the task ends, at no cost

@@ -1,5 +1,5 @@
 -- What only the functions inside the crate speak of, and proofs that the kit wants in specs. No public clause does.
 pub mod Laws
 pub mod Codes
-pub mod Turns
+pub mod Effects
 pub mod View

@@ -52,10 +52,10 @@ pub record TaskState : Type 0 where
   pub due : Due
 
 -- what a statement comes to: the task goes on without an ask, it asks, or it fails
-pub data Turn : Type 0 where
-  goes_on : TaskState → Turn
-  asks : Ask TaskState → TaskState → Turn
-  fails : Trouble → Turn
+pub data Effect : Type 0 where
+  goes_on : TaskState → Effect
+  asks : Ask TaskState → TaskState → Effect
+  fails : Trouble → Effect
 
 -- a task that has ended awaits nothing any more
 abbrev pub ended : TaskState → TaskState
@@ -76,9 +76,9 @@ abbrev pub value_in : TaskState → Expression → Computed
 value_in t e = value t.vars e
 
 -- goes on with what was computed, or fails
-abbrev pub then_turn : {A : Type 0} → Result A Trouble → (A → Turn) → Turn
-then_turn (Ok x) go = go x
-then_turn (Err fault) go = fails fault
+abbrev pub then_effect : {A : Type 0} → Result A Trouble → (A → Effect) → Effect
+then_effect (Ok x) go = go x
+then_effect (Err fault) go = fails fault
 
 -- what was computed, where it has to be a number
 abbrev pub number : Computed → Result ℤ Trouble
@@ -144,10 +144,10 @@ fork_of t d list values =
     ask.Fork (task_of t.script t.limit d values) (references values) (references (handed t.vars list))
 
 -- A fork of the task, with as many arguments as it has parameters. No other fork stands in a script that was parsed.
-abbrev pub forked : TaskState → Option Task → Option ℕ → List Argument → Turn
+abbrev pub forked : TaskState → Option Task → Option ℕ → List Argument → Effect
 forked t None into list = fails trouble.Kind
 forked t (Some d) into list = if nat_eq (length list) d.params
-    then then_turn (arguments t.vars list) (λ values. asks (fork_of t d list values) (record t { due = place into }))
+    then then_effect (arguments t.vars list) (λ values. asks (fork_of t d list values) (record t { due = place into }))
     else fails trouble.Kind
 
 -- what holds the reference that a get or a join asks for
@@ -156,20 +156,20 @@ reference_of t (ref.Var x) = reference (Ok (held t.vars x))
 reference_of t ref.Me = Ok 0
 
 -- an ask, whose value is for the variable or is dropped
-abbrev pub asked : TaskState → Option ℕ → tree.Ask → Turn
+abbrev pub asked : TaskState → Option ℕ → tree.Ask → Effect
 asked t into tree.new = asks ask.New (record t { due = place into })
 asked t into (tree.fork f list) = forked t (slice_get t.script f) into list
-asked t into (tree.get r None) = then_turn (reference_of t r) (λ k. asks (ask.Get k) (record t { due = cell into }))
+asked t into (tree.get r None) = then_effect (reference_of t r) (λ k. asks (ask.Get k) (record t { due = cell into }))
 asked t into (tree.get r (Some e)) =
-    then_turn (reference_of t r) (λ k. asks (ask.GetOr k) (record t { due = cell_or into e }))
-asked t into (tree.join r None) = then_turn (reference_of t r) (λ k. asks (ask.Join k) (record t { due = cell into }))
+    then_effect (reference_of t r) (λ k. asks (ask.GetOr k) (record t { due = cell_or into e }))
+asked t into (tree.join r None) = then_effect (reference_of t r) (λ k. asks (ask.Join k) (record t { due = cell into }))
 asked t into (tree.join r (Some e)) =
-    then_turn (reference_of t r) (λ k. asks (ask.JoinOr k) (record t { due = cell_or into e }))
+    then_effect (reference_of t r) (λ k. asks (ask.JoinOr k) (record t { due = cell_or into e }))
 
 -- a variable is given the answer to an ask, or the value of an expression
-abbrev pub given : TaskState → ℕ → Given → Turn
+abbrev pub given : TaskState → ℕ → Given → Effect
 given t x (tree.answer ask) = asked t (Some x) ask
-given t x (tree.result_of e) = then_turn (value_in t e) (λ v. goes_on (kept (Some x) v t))
+given t x (tree.result_of e) = then_effect (value_in t e) (λ v. goes_on (kept (Some x) v t))
 
 -- the task with these statements to come first
 abbrev pub first : List Statement → TaskState → TaskState
@@ -181,25 +181,25 @@ otherwise tree.nothing = []
 otherwise (tree.block body) = listed body
 
 -- what a statement comes to, where t has what remains after it
-abbrev pub begun : TaskState → Statement → Turn
+abbrev pub begun : TaskState → Statement → Effect
 begun t (tree.let_new x side) = given t x side
 begun t (tree.assign x side) = given t x side
 begun t (tree.ask q) = asked t None q
-begun t (tree.print e) = then_turn (number (value_in t e)) (λ n. asks (ask.Emit n) (record t { due = done }))
-begun t (tree.set_cell x e) = then_turn (reference (Ok (held t.vars x)))
-    (λ k. then_turn (value_in t e) (λ v. asks (ask.Set k v) (record t { due = done })))
-begun t (tree.return e) = then_turn (value_in t e) (λ v. asks (ask.End v) (ended t))
-begun t (tree.choose e body other) = then_turn (number (value_in t e))
+begun t (tree.print e) = then_effect (number (value_in t e)) (λ n. asks (ask.Emit n) (record t { due = done }))
+begun t (tree.set_cell x e) = then_effect (reference (Ok (held t.vars x)))
+    (λ k. then_effect (value_in t e) (λ v. asks (ask.Set k v) (record t { due = done })))
+begun t (tree.return e) = then_effect (value_in t e) (λ v. asks (ask.End v) (ended t))
+begun t (tree.choose e body other) = then_effect (number (value_in t e))
     (λ n. goes_on (first (if is_zero n then otherwise other else listed body) t))
-begun t (tree.repeat e body) = then_turn (number (value_in t e))
+begun t (tree.repeat e body) = then_effect (number (value_in t e))
     (λ n. goes_on (first (if is_zero n then [] else listed body ++ tree.repeat e body ∷ []) t))
 
 -- what a task asks, and what it is from then on
 abbrev pub Next : Type 0
 Next = Ask TaskState × TaskState
 
--- the first ask on the way on from a turn
-abbrev pub next_from : TaskState → Turn → (TaskState → Next) → Next
+-- the first ask on the way on from an effect
+abbrev pub next_from : TaskState → Effect → (TaskState → Next) → Next
 next_from t (goes_on new) go = go new
 next_from t (asks a new) go = (a, new)
 next_from t (fails fault) go = (ask.Fail fault, ended t)

@@ -4,7 +4,7 @@ ghost use Rattle.std.specs.Option.{option_map};
 ghost use Rattle.tj_eval.specs.Bodies.{all_have_few_params};
 ghost use Rattle.tj_syntax.specs.View as view;
 ghost use Rattle.tj_eval.specs.Statements as state;
-ghost use Rattle.tj_eval.specs.Inner.Turns.{IsAskOf};
+ghost use Rattle.tj_eval.specs.Inner.Effects.{IsAskOf};
 
 use crate::expression::{held, reference_in};
 use crate::halt::Halt;

@@ -10,7 +10,7 @@ ghost use Rattle.tj_syntax.specs.View as view;
 ghost use Rattle.tj_eval.specs.Bodies.{all_have_few_params, IsMainBody};
 ghost use Rattle.tj_eval.specs.Bodies.{script_places, script_awaits, script_left};
 ghost use Rattle.tj_eval.specs.Statements as state;
-ghost use Rattle.tj_eval.specs.Inner.Turns.{IsNext, IsNextAsk, IsAnswered};
+ghost use Rattle.tj_eval.specs.Inner.Effects.{IsNext, IsNextAsk, IsAnswered};
 
 use crate::expression::value;
 use crate::fork::task_of;

@@ -4,7 +4,7 @@ ghost use Rattle.std.specs.Prelude.{IfOk, IsTrue};
 ghost use Rattle.tj_syntax.specs.View as view;
 ghost use Rattle.tj_eval.specs.Statements as state;
 ghost use Rattle.tj_eval.specs.Bodies.{most_params, all_have_few_params};
-ghost use Rattle.tj_eval.specs.Inner.Turns.{IsComputed, IsChild, IsForkOf};
+ghost use Rattle.tj_eval.specs.Inner.Effects.{IsComputed, IsChild, IsForkOf};
 
 use crate::expression::{held, reference_in, value};
 use crate::halt::Halt;

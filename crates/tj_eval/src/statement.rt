@@ -3,7 +3,7 @@ ghost use Rattle.std.specs.Prelude.{◌≡◌, IsTrue};
 ghost use Rattle.tj_eval.specs.Bodies.{all_have_few_params};
 ghost use Rattle.tj_syntax.specs.View as view;
 ghost use Rattle.tj_eval.specs.Statements as state;
-ghost use Rattle.tj_eval.specs.Inner.Turns.{IsAskOf, IsGiven, IsOnWay, IsStep, is_ask};
+ghost use Rattle.tj_eval.specs.Inner.Effects.{IsAskOf, IsGiven, IsOnWay, IsStep, is_ask};
 
 use crate::expression::{held, number, reference_in, value, whole};
 use crate::halt::Halt;

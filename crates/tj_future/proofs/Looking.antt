@@ -6,11 +6,11 @@ use Rattle.tj_cells.specs.declared.seen.Seen.{Seen}
 use Rattle.tj_cells.specs.declared.seen.Seen.TheVariants as seen
 use Rattle.tj_cells.specs.SeenValues.{SeesValue}
 use Rattle.tj_words.specs.declared.view.View.{View}
-use Rattle.tj_words.specs.KnowsMore.{KnowsMore}
-use Rattle.tj_words.specs.RestedRuns.{NoValueComes}
-use Rattle.tj_words.specs.SeenWords.{FindsNothing}
-use Rattle.tj_words.specs.Views.{loaded_once, saw_live, saw_stop}
-use Rattle.tj_words.proofs.KnowsMoreOn.{more_itself, more_on}
+use Rattle.tj_words.specs.SeatViews.KnowsMore.{KnowsMore}
+use Rattle.tj_words.specs.CallLaws.RestedRuns.{NoValueComes}
+use Rattle.tj_words.specs.SeatViews.SeenWords.{FindsNothing}
+use Rattle.tj_words.specs.SeatViews.Views.{loaded_once, saw_live, saw_stop}
+use Rattle.tj_words.proofs.SeatLoads.KnowsMoreOn.{more_itself, more_on}
 use Rattle.tj_future.specs.declared.watched.Watched.{Watched}
 use Rattle.tj_future.specs.Looks.{Answers, ComesToRest, GoesOn, IsNeverFilled, IsWatched, RestsWithout, told_as}
 

@@ -11,9 +11,9 @@ use Rattle.tj_body.specs.declared.point.Reference.{Reference}
 use Rattle.tj_words.specs.declared.closed.RestCell.{RestCell}
 use Rattle.tj_words.specs.declared.phase.Phase.{Phase}
 use Rattle.tj_words.specs.declared.phase.Phase.TheVariants as phase
-use Rattle.tj_words.specs.ClosedCells.{AreNamed, IsPromise}
-use Rattle.tj_words.specs.ShownState.{phase_sort}
-use Rattle.tj_words.proofs.SeatLists.{inside}
+use Rattle.tj_words.specs.AtRest.ClosedCells.{AreNamed, IsPromise}
+use Rattle.tj_words.specs.LawParts.ShownState.{phase_sort}
+use Rattle.tj_words.proofs.Stores.SeatLists.{inside}
 
 -- a task is no promise
 apart : sort.Task ≢ sort.Promise

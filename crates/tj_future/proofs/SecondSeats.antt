@@ -5,11 +5,11 @@ use Rattle.tj_body.specs.declared.table.Row.{Row}
 use Rattle.tj_body.specs.declared.table.TableBody.{TableBody}
 use Rattle.tj_words.specs.declared.record.Rec.{Rec}
 use Rattle.tj_words.specs.declared.view.View.{View}
-use Rattle.tj_words.specs.ExchangeViews.{KnowsTable}
-use Rattle.tj_words.specs.FirstState.{first_view}
-use Rattle.tj_words.specs.SeatSteps.{SeatMe}
-use Rattle.tj_words.specs.TakenRecords.{custody_of}
-use Rattle.tj_words.specs.Views.{IsIdle, MaySplit, left_half, loaded_once, right_half, saw_live, saw_stop}
+use Rattle.tj_words.specs.Calls.ExchangeViews.{KnowsTable}
+use Rattle.tj_words.specs.LawParts.FirstState.{first_view}
+use Rattle.tj_words.specs.SeatViews.SeatSteps.{SeatMe}
+use Rattle.tj_words.specs.Calls.TakenRecords.{custody_of}
+use Rattle.tj_words.specs.SeatViews.Views.{IsIdle, MaySplit, left_half, loaded_once, right_half, saw_live, saw_stop}
 use Rattle.tj_park.specs.ChildViews.{Claimed}
 use Rattle.tj_park.proofs.TestRoots.{RootRuns, claimed_by, has_rows, its, with_rows}
 use Rattle.tj_future.specs.Looks.{GoesOn}

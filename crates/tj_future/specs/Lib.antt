@@ -1,4 +1,4 @@
 pub mod Looks
 pub mod Polls
 pub mod RootWatches
-pub mod Greetings
+pub mod TestBodies

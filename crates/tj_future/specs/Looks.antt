@@ -9,12 +9,12 @@ use Rattle.tj_cells.specs.SeenValues.{SeesValue, seen_in}
 use Rattle.tj_words.specs.declared.record.Fill.TheVariants as fill
 use Rattle.tj_words.specs.declared.table.Key.{Key}
 use Rattle.tj_words.specs.declared.view.View.{View}
-use Rattle.tj_words.specs.KnowsMore.{KnowsMore}
-use Rattle.tj_words.specs.RestedRuns.{AreMoments, Ruled, last_moment, tag_at}
-use Rattle.tj_words.specs.SeenWords.{FindsNothing}
-use Rattle.tj_words.specs.Views.{saw_live, saw_rest, saw_stop}
+use Rattle.tj_words.specs.SeatViews.KnowsMore.{KnowsMore}
+use Rattle.tj_words.specs.CallLaws.RestedRuns.{AreMoments, Ruled, last_moment, tag_at}
+use Rattle.tj_words.specs.SeatViews.SeenWords.{FindsNothing}
+use Rattle.tj_words.specs.SeatViews.Views.{saw_live, saw_rest, saw_stop}
 use Rattle.tj_run.specs.declared.why.Why.{Why}
-use Rattle.tj_run.specs.Going.{IsTold, stop_word}
+use Rattle.tj_run.specs.Leaving.{IsTold, stop_word}
 use Rattle.tj_future.specs.declared.watched.Watched.{Watched}
 use Rattle.tj_future.specs.declared.watched.Watched.TheVariants as watched
 

@@ -5,8 +5,8 @@ use Rattle.tj_body.specs.Programs.{Program}
 use Rattle.tj_words.specs.declared.record.Rec.{Rec}
 use Rattle.tj_words.specs.declared.table.Laid.{Laid}
 use Rattle.tj_words.specs.declared.view.View.{View}
-use Rattle.tj_words.specs.SeatSteps.{IsCellOf, IsSeatOf}
-use Rattle.tj_words.specs.Views.{IsIdle}
+use Rattle.tj_words.specs.SeatViews.SeatSteps.{IsCellOf, IsSeatOf}
+use Rattle.tj_words.specs.SeatViews.Views.{IsIdle}
 use Rattle.tj_future.specs.declared.watched.Watched.{Watched}
 use Rattle.tj_future.specs.Looks.{GoesOn, IsWatched}
 

@@ -1,9 +1,9 @@
 //! One look at a cell, and a watch, which looks until it is answered.
 ghost use Rattle.std.specs.Prelude.{◌≡◌, ◌<◌, ◌≤◌, [], IfSome, None};
 ghost use Rattle.tj_body.specs.Programs.{program_of};
-ghost use Rattle.tj_words.specs.SeatSteps.{IsCellOf, IsSameSeat, IsSeatOf};
-ghost use Rattle.tj_words.specs.Views.{IsIdle};
-ghost use Rattle.tj_run.specs.Going.{stop_word};
+ghost use Rattle.tj_words.specs.SeatViews.SeatSteps.{IsCellOf, IsSameSeat, IsSeatOf};
+ghost use Rattle.tj_words.specs.SeatViews.Views.{IsIdle};
+ghost use Rattle.tj_run.specs.Leaving.{stop_word};
 ghost use Rattle.tj_future.specs.Looks.{Answers, GoesOn, IsWatched, told_as};
 
 use crate::watched::Watched;

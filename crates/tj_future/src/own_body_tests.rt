@@ -1,5 +1,5 @@
 //! A program of one's own: a body, a run of it, and a run with a watch of the root beside.
-ghost use Rattle.tj_future.specs.Greetings.{greets_at, greeting_awaits};
+ghost use Rattle.tj_future.specs.TestBodies.Greetings.{greets_at, greeting_awaits};
 
 use crate::{Polled, Watched, look_at, run_watched};
 use std::alloc::Global;
@@ -23,7 +23,7 @@ struct Greeting {
 
 impl Body for Greeting {
     ghost use Rattle.std.specs.Prelude.{suc, ◌-◌};
-    ghost use Rattle.tj_future.specs.Greetings.{greets_at, greeting_awaits, greeting_obeys};
+    ghost use Rattle.tj_future.specs.TestBodies.Greetings.{greets_at, greeting_awaits, greeting_obeys};
 
     ghost places = { λ b. 1 };
 

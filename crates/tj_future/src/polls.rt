@@ -6,8 +6,8 @@ ghost use Rattle.futures.specs.Task.{Covers, Keeps};
 ghost use Rattle.tj_body.specs.Programs.{program_of};
 ghost use Rattle.tj_words.specs.declared.record.Rec.{Rec};
 ghost use Rattle.tj_words.specs.declared.view.View.{View};
-ghost use Rattle.tj_words.specs.SeatSteps.{IsCellOf, IsSameSeat, IsSeatOf};
-ghost use Rattle.tj_words.specs.Views.{IsIdle};
+ghost use Rattle.tj_words.specs.SeatViews.SeatSteps.{IsCellOf, IsSameSeat, IsSeatOf};
+ghost use Rattle.tj_words.specs.SeatViews.Views.{IsIdle};
 ghost use Rattle.tj_future.specs.Looks.{Answers, GoesOn};
 ghost use Rattle.tj_future.specs.Polls.{IsGiven, MayPoll, StillWaits};
 

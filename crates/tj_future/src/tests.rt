@@ -7,10 +7,10 @@ ghost use Rattle.tj_body.specs.Programs.{program_of};
 ghost use Rattle.tj_body.specs.Table.{is_table};
 ghost use Rattle.tj_body.specs.declared.table.Row.TheVariants.{New, Set};
 ghost use Rattle.tj_words.specs.Law.{IsRooted};
-ghost use Rattle.tj_words.specs.Lots.{least_lot};
-ghost use Rattle.tj_words.specs.SeatSteps.{IsSeatOf};
-ghost use Rattle.tj_words.specs.Views.{IsIdle};
-ghost use Rattle.tj_run.specs.Carried.{IsFree, table_program};
+ghost use Rattle.tj_words.specs.LawParts.Lots.{least_lot};
+ghost use Rattle.tj_words.specs.SeatViews.SeatSteps.{IsSeatOf};
+ghost use Rattle.tj_words.specs.SeatViews.Views.{IsIdle};
+ghost use Rattle.tj_run.specs.Workers.{IsFree, table_program};
 
 use crate::{CellWait, Polled, Watched, look_at, run_watched};
 use futures::executor::block_on;

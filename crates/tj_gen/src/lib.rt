@@ -5,4 +5,4 @@ mod script;
 #[cfg(test)]
 mod tests;
 
-pub use script::{MOST_SIZE, gen_script};
+pub use script::{MAX_SIZE, gen_script};

@@ -9,7 +9,7 @@ use std::alloc::Global;
 use tj_base::Oom;
 
 /// The greatest size of a generated script.
-pub const MOST_SIZE: u32 = 4000;
+pub const MAX_SIZE: u32 = 4000;
 
 const HEAD: &[u8] = b"task main() {\n  let a = new;\n  let p = a;\n  let q = 0;\n  let t = 0;\n";
 
@@ -22,7 +22,7 @@ const TAIL: &[u8] = b"  set a = 0;\n  let v = get p;\n  print v;\n  return v;\n}
 
 /// The script of this size, in its canonical listing.
 pub fn gen_script(alloc: Global, size: u32) -> Result<Vec<u8>, Oom>
-    requires { (0 < size) × (size ≤ MOST_SIZE) }
+    requires { (0 < size) × (size ≤ MAX_SIZE) }
     ensures { IfOk result (λ text. text.items ≡ script_text size) }
 {
     let mut text = Vec::from_slice(alloc, HEAD)?;

@@ -11,8 +11,8 @@ use Rattle.tj_mean.specs.ActLines.{AreActLines, HasAct}
 use Rattle.tj_mean.specs.declared.act.Act.{Act}
 use Rattle.tj_mean.specs.declared.act.Act.TheVariants as act
 use Rattle.tj_mean.specs.declared.act.ActLine.{ActLine}
-use Rattle.tj_mean.proofs.LineIndexes.{acts_at, name_at}
-use Rattle.tj_mean.proofs.Elements.{get_less, get_there, some_is}
+use Rattle.tj_mean.proofs.NotedActs.LineIndexes.{acts_at, name_at}
+use Rattle.tj_mean.proofs.Lists.Elements.{get_less, get_there, some_is}
 use Rattle.tj_known.specs.Knowledge.{Knows}
 use Rattle.tj_known.specs.Inner.Learners.{IsLearner, IsUnderWay, IsWorkedOff, NextAt, has_index, next_of, worked}
 use Rattle.tj_known.specs.Inner.Steps.{AreSteps, HasName, IsStep}

@@ -7,7 +7,7 @@ use Rattle.std.specs.Prelude.{slice_get}
 use Rattle.std.specs.Option.{option_map_or}
 use native.Mathlib.Decide.{dec_le}
 use mathlib.Core.Logic.{dite}
-use Rattle.tj_mean.proofs.Elements.{get_less}
+use Rattle.tj_mean.proofs.Lists.Elements.{get_less}
 use Rattle.tj_known.specs.Inner.Learners.{AreStuck, IsWorkedOff, NextAt, acts_left, can_do, can_go_on, can_go_on_at}
 use Rattle.tj_known.specs.Inner.Learners.{has_index, is_done, is_done_at, next_of, worked}
 use Rattle.tj_known.specs.declared.learner.Learner.{Learner}

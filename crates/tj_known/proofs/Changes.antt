@@ -12,7 +12,7 @@ use Rattle.tj_mean.specs.ActLines.{AreActLines, HasAct}
 use Rattle.tj_mean.specs.declared.act.Act.{Act}
 use Rattle.tj_mean.specs.declared.act.Act.TheVariants as act
 use Rattle.tj_mean.specs.declared.act.ActLine.{ActLine}
-use Rattle.tj_mean.proofs.Elements.{get_less, some_is}
+use Rattle.tj_mean.proofs.Lists.Elements.{get_less, some_is}
 use Rattle.tj_known.specs.Knowledge.{Knows}
 use Rattle.tj_known.specs.Inner.Learners.{IsForked, IsLearner, IsUnderWay, IsWorkedOff, has_index, worked}
 use Rattle.tj_known.specs.Inner.Steps.{HasName, IsStep}

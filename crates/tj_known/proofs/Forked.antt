@@ -10,9 +10,9 @@ use Rattle.tj_mean.specs.ActLines.{AreActLines, HasAct}
 use Rattle.tj_mean.specs.declared.act.Act.{Act}
 use Rattle.tj_mean.specs.declared.act.Act.TheVariants as act
 use Rattle.tj_mean.specs.declared.act.ActLine.{ActLine}
-use Rattle.tj_mean.proofs.ChildNames.{child_some}
-use Rattle.tj_mean.proofs.Elements.{get_less, get_there, some_is}
-use Rattle.tj_mean.proofs.LineIndexes.{line_at, name_at, one_index}
+use Rattle.tj_base.proofs.ChildNames.{child_some}
+use Rattle.tj_mean.proofs.Lists.Elements.{get_less, get_there, some_is}
+use Rattle.tj_mean.proofs.NotedActs.LineIndexes.{line_at, name_at, one_index}
 use Rattle.tj_known.specs.Knowledge.{Knows}
 use Rattle.tj_known.specs.Inner.Learners.{IsForked, IsLearner, IsUnderWay, IsWorkedOff, has_index, worked}
 use Rattle.tj_known.specs.Inner.Steps.{AreSteps, HasName, IsStep}

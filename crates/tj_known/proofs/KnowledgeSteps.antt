@@ -8,7 +8,7 @@ use Rattle.tj_mean.specs.declared.act.Act.{Act}
 use Rattle.tj_mean.specs.declared.act.Act.TheVariants as act
 use Rattle.tj_mean.specs.declared.act.ActLine.{ActLine}
 use Rattle.tj_known.specs.Knowledge.{Knows, stays, forks, inherits, learns}
-use Rattle.tj_mean.proofs.ChildNames.{child_some, child_same}
+use Rattle.tj_base.proofs.ChildNames.{child_some, child_same}
 
 -- the other task of an act
 abbrev other : Act → Name

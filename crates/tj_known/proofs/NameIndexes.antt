@@ -18,8 +18,8 @@ use Rattle.tj_mean.specs.ActLines.{names_of}
 use Rattle.tj_mean.specs.declared.act.ActLine.{ActLine}
 use Rattle.tj_body.specs.Points.{IsIn}
 use Rattle.tj_body.proofs.Counts.{same_is}
-use Rattle.tj_mean.proofs.Elements.{get_in, get_less, get_there}
-use Rattle.tj_mean.proofs.LineIndexes.{line_at, name_at}
+use Rattle.tj_mean.proofs.Lists.Elements.{get_in, get_less, get_there}
+use Rattle.tj_mean.proofs.NotedActs.LineIndexes.{line_at, name_at}
 use Rattle.tj_known.specs.Inner.Steps.{HasName}
 
 abbrev order : Name → Name → Ordering

@@ -6,7 +6,7 @@ use Rattle.std.proofs.lemmas.Option.{slice_get_read}
 use Rattle.std.specs.Prelude.{slice_get}
 use Rattle.tj_mean.specs.declared.act.Act.{Act}
 use Rattle.tj_mean.specs.declared.act.ActLine.{ActLine}
-use Rattle.tj_mean.proofs.Elements.{some_is}
+use Rattle.tj_mean.proofs.Lists.Elements.{some_is}
 use Rattle.tj_known.specs.Inner.Steps.{AreSteps, AreThere, IsStep, IsThere}
 use Rattle.tj_known.specs.declared.step.Step.{Step}
 

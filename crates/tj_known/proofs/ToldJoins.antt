@@ -10,8 +10,8 @@ use Rattle.tj_mean.specs.declared.act.Act.{Act}
 use Rattle.tj_mean.specs.declared.act.Act.TheVariants as act
 use Rattle.tj_mean.specs.declared.act.ActLine.{ActLine}
 use Rattle.std.proofs.lemmas.Option.{get_or_from_slice_get}
-use Rattle.tj_mean.proofs.Elements.{get_less}
-use Rattle.tj_mean.proofs.LineIndexes.{acts_at}
+use Rattle.tj_mean.proofs.Lists.Elements.{get_less}
+use Rattle.tj_mean.proofs.NotedActs.LineIndexes.{acts_at}
 use Rattle.tj_known.specs.Knowledge.{Knows}
 use Rattle.tj_known.specs.KnownLines.{AreTold, IsTold, Join, KnownAreAlong, how_of, joins_from, joins_in, joins_of}
 use Rattle.tj_known.specs.declared.known.How.{How}

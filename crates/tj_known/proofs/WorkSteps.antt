@@ -1,4 +1,4 @@
--- The steps of the work, as the code takes them: what an act makes of all tasks, and what a turn does.
+-- The steps of the work, as the code takes them: what an act makes of all tasks, and what a sweep does.
 use Rattle.std.proofs.Common.{◌≡◌, ℕ, zero, suc, ◌+◌, ◌<◌, ◌≤◌, Bool, true, false, ◌&&◌, ◌||◌, List, [], ◌∷◌, Some}
 use Rattle.std.proofs.Common.{None}
 use Rattle.std.proofs.Common.{length, set, get_or, refl, sym, ap, ◌∙◌, subst, arith, true≢false, length-set}
@@ -9,9 +9,9 @@ use native.Mathlib.Decide.{ℕ_discrete}
 use mathlib.Core.Logic.{dite}
 use Rattle.tj_mean.specs.ActLines.{AreActLines}
 use Rattle.tj_mean.specs.declared.act.ActLine.{ActLine}
-use Rattle.tj_mean.proofs.Elements.{get_less, get_there, some_is}
-use Rattle.tj_mean.proofs.LineIndexes.{line_at}
-use Rattle.tj_known.specs.Inner.Learners.{AreDone, IsAdvanced, IsTried, IsTurnTaken, IsUnderWay, IsWorkedOff}
+use Rattle.tj_mean.proofs.Lists.Elements.{get_less, get_there, some_is}
+use Rattle.tj_mean.proofs.NotedActs.LineIndexes.{line_at}
+use Rattle.tj_known.specs.Inner.Learners.{AreDone, IsAdvanced, IsTried, IsSweep, IsUnderWay, IsWorkedOff}
 use Rattle.tj_known.specs.Inner.Learners.{NextAt, acts_left, can_go_on_at, has_index, is_done, knows_at}
 use Rattle.tj_known.specs.Inner.Learners.{next_of}
 use Rattle.tj_known.specs.declared.learner.Learner.{Learner}
@@ -277,62 +277,62 @@ further lines i old now new moved tried fewer still =
     let one = tried.fewer refl in
     fell moved (acts_left new) (acts_left now) (acts_left old) fewer (λ e. ap acts_left (still e)) (omega arith)
 
--- how far a turn has come
-pub record IsTurn (lines : List ActLine) (count : ℕ) (old now : List Learner) (moved : Bool) : Type 0 where
+-- how far a sweep has come
+pub record IsSwept (lines : List ActLine) (count : ℕ) (old now : List Learner) (moved : Bool) : Type 0 where
   pub under_way : IsUnderWay lines now
   pub fewer : moved ≡ true → acts_left now < acts_left old
   pub still : moved ≡ false → now ≡ old
   pub stuck : moved ≡ false → (k : ℕ) → k < count → can_go_on_at now k ≡ false
 
--- a turn begins
-pub turn_begins : (lines : List ActLine) (ls : List Learner) → IsUnderWay lines ls → IsTurn lines 0 ls ls false
-turn_begins lines ls under = record {
+-- a sweep begins
+pub sweep_begins : (lines : List ActLine) (ls : List Learner) → IsUnderWay lines ls → IsSwept lines 0 ls ls false
+sweep_begins lines ls under = record {
   under_way = under;
   fewer = λ e. absurd (true≢false (sym e));
   still = λ _. refl;
   stuck = λ _ k less. absurd (omega arith);
 }
 
--- one task more in a turn
-pub turn_more : (lines : List ActLine) (i : ℕ) (old now new : List Learner) (moved went : Bool)
-    → IsTurn lines i old now moved → IsAdvanced lines i now new went → IsTurn lines (i + 1) old new (moved || went)
-turn_more lines i old now new true true turn on = record {
+-- one task more in a sweep
+pub sweep_more : (lines : List ActLine) (i : ℕ) (old now new : List Learner) (moved went : Bool)
+    → IsSwept lines i old now moved → IsAdvanced lines i now new went → IsSwept lines (i + 1) old new (moved || went)
+sweep_more lines i old now new true true sweep on = record {
   under_way = on.under_way;
-  fewer = λ _. let a = turn.fewer refl in let b = on.fewer refl in omega arith;
+  fewer = λ _. let a = sweep.fewer refl in let b = on.fewer refl in omega arith;
   still = λ e. absurd (true≢false e);
   stuck = λ e. absurd (true≢false e);
 }
-turn_more lines i old now new true false turn on = record {
+sweep_more lines i old now new true false sweep on = record {
   under_way = on.under_way;
-  fewer = λ _. subst (λ ls. acts_left ls < acts_left old) (sym (on.still refl)) (turn.fewer refl);
+  fewer = λ _. subst (λ ls. acts_left ls < acts_left old) (sym (on.still refl)) (sweep.fewer refl);
   still = λ e. absurd (true≢false e);
   stuck = λ e. absurd (true≢false e);
 }
-turn_more lines i old now new false true turn on = record {
+sweep_more lines i old now new false true sweep on = record {
   under_way = on.under_way;
-  fewer = λ _. let b = on.fewer refl in let a = ap acts_left (turn.still refl) in omega arith;
+  fewer = λ _. let b = on.fewer refl in let a = ap acts_left (sweep.still refl) in omega arith;
   still = λ e. absurd (true≢false e);
   stuck = λ e. absurd (true≢false e);
 }
-turn_more lines i old now new false false turn on = record {
+sweep_more lines i old now new false false sweep on = record {
   under_way = on.under_way;
   fewer = λ e. absurd (true≢false (sym e));
-  still = λ _. on.still refl ∙ turn.still refl;
+  still = λ _. on.still refl ∙ sweep.still refl;
   stuck = λ _ k less. subst (λ ls. can_go_on_at ls k ≡ false) (sym (on.still refl)) (dite (ℕ_discrete k i)
       (λ e. subst (λ m. can_go_on_at now m ≡ false) (sym e) (on.stuck refl))
-      (λ differs. turn.stuck refl k (omega (arith, differs))));
+      (λ differs. sweep.stuck refl k (omega (arith, differs))));
 }
 
--- a turn ends
-pub turn_ends : (lines : List ActLine) (count : ℕ) (old now : List Learner) (moved : Bool)
-    → IsTurn lines count old now moved → length now ≤ count → IsTurnTaken lines old now moved
-turn_ends lines count old now moved turn whole = record {
-  under_way = turn.under_way;
-  fewer = turn.fewer;
-  stuck = λ e. stuck_all now (λ k less. turn.stuck e k (omega arith));
+-- a sweep ends
+pub sweep_ends : (lines : List ActLine) (count : ℕ) (old now : List Learner) (moved : Bool)
+    → IsSwept lines count old now moved → length now ≤ count → IsSweep lines old now moved
+sweep_ends lines count old now moved sweep whole = record {
+  under_way = sweep.under_way;
+  fewer = sweep.fewer;
+  stuck = λ e. stuck_all now (λ k less. sweep.stuck e k (omega arith));
 }
 
--- all turns leave as many tasks
+-- all sweeps leave as many tasks
 pub as_many : (lines : List ActLine) (ls ms : List Learner) → IsUnderWay lines ls → IsUnderWay lines ms
     → length ms ≡ length ls
 as_many lines ls ms under after = after.count ∙ sym under.count

@@ -14,8 +14,8 @@ use Rattle.tj_mean.specs.ActLines.{root_begins, child_begins, forks, waits, answ
 use Rattle.tj_mean.specs.declared.act.Act.{Act}
 use Rattle.tj_mean.specs.declared.act.Act.TheVariants as act
 use Rattle.tj_mean.specs.declared.act.ActLine.{ActLine}
-use Rattle.tj_mean.proofs.LineIndexes.{acts_at, line_at, name_at, one_index, index_of_acting}
-use Rattle.tj_mean.proofs.Elements.{all_of_in, get_in, get_less, get_there, in_get, some_is}
+use Rattle.tj_mean.proofs.NotedActs.LineIndexes.{acts_at, line_at, name_at, one_index, index_of_acting}
+use Rattle.tj_mean.proofs.Lists.Elements.{all_of_in, get_in, get_less, get_there, in_get, some_is}
 use Rattle.tj_known.specs.Inner.Learners.{AreDone, AreStuck, IsLearner, IsUnderWay, can_do, can_go_on}
 use Rattle.tj_known.specs.Inner.Learners.{can_go_on_at}
 use Rattle.tj_known.specs.Inner.Learners.{has_index, is_done, is_done_at, next_of, worked}
@@ -126,13 +126,13 @@ module _ (lines : List ActLine) (learners : List Learner) (fit : AreActLines lin
         → is_done f.learner ≡ true → can_do learners x (Some s) ≡ true
     can_join x u (step.Fork i) f is done = absurd is
     can_join x u (step.Join i b) f is done = told (not (has_index x.knows.items i && b)) (is_done_at learners i)
-        (ap (λ o. option_map_or is_done o false) at_place ∙ done) where
+        (ap (λ o. option_map_or is_done o false) at_index ∙ done) where
           told : (b d : Bool) → d ≡ true → (b || d) ≡ true
           told true d e = refl
           told false d e = e
 
-          at_place : slice_get learners i ≡ Some f.learner
-          at_place = subst (λ k. slice_get learners k ≡ Some f.learner)
+          at_index : slice_get learners i ≡ Some f.learner
+          at_index = subst (λ k. slice_get learners k ≡ Some f.learner)
               (one_index lines fit.in_order u f.index i f.named is.0) f.learner_there
 
     -- a task whose last act is worked off is done

@@ -1,4 +1,4 @@
-//! All acts are worked off in turns. In a turn each task goes on as far as it can: it stops at an
+//! All acts are worked off in sweeps. In a sweep each task goes on as far as it can: it stops at an
 //! answered join of a task that it knows while that task has acts left, since it learns what that
 //! one knows after its last act. A join is answered only after the joined task ended; so while acts
 //! are left, some task can go on.
@@ -45,16 +45,16 @@ impl<'l> Monitor<'l> {
             IsUnderWay self.old.lines.now self.new.learners.items) }
         ensures done { IfOk result (λ _. AreDone self.new.learners.items) }
     {
-        while self.take_turn(alloc)? {}
+        while self.sweep(alloc)? {}
         Ok(())
     }
 
     /// Each task goes on as far as it can. False: none could.
-    fn take_turn(&mut self, alloc: Global) -> Result<bool, Oom>
+    fn sweep(&mut self, alloc: Global) -> Result<bool, Oom>
         requires lines { AreActLines self.old.lines.now }
         requires under_way { IsUnderWay self.old.lines.now self.old.learners.items }
         ensures lines { IfOk result (λ _. self.new.lines.now ≡ self.old.lines.now) }
-        ensures turn { IfOk result (λ moved. spec.IsTurnTaken self.old.lines.now
+        ensures sweep { IfOk result (λ moved. spec.IsSweep self.old.lines.now
             self.old.learners.items self.new.learners.items moved) }
     {
         let mut moved = false;

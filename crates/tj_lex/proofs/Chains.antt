@@ -33,7 +33,7 @@ IsToken-behind text a b token apart from h =
       within = h.within;
       gap = rw from (apart.before_more (omega arith));
       spelled = h.spelled;
-      place = h.place;
+      position = h.position;
     }
 
 -- a fault behind a gap

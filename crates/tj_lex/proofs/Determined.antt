@@ -11,7 +11,7 @@ use Rattle.tj_lex.specs.declared.token.Mark.{Mark}
 use Rattle.tj_lex.specs.declared.token.LexFault.{LexFault}
 use Rattle.tj_lex.specs.declared.token.LexFault.TheVariants as faults
 use Rattle.tj_lex.specs.Bytes.{is_name_byte, is_gap_start, begins_with}
-use Rattle.tj_lex.specs.Places.{place_after}
+use Rattle.tj_lex.specs.Positions.{position_after}
 use Rattle.tj_lex.specs.Spelling.{decimal}
 use Rattle.tj_lex.specs.Tokens.{Spells, IsFaultAt, IsToken, IsEnd, IsFaultFrom, HasTokens, AreTokens, IsFirstFault, Answers, OrMemory, longest_name}
 use Rattle.tj_lex.proofs.Behind.{StandsAt, StandsAt-one, StandsAt-last}
@@ -78,19 +78,19 @@ Spells-bytes text a b (toks.Mark v) h k = sym h.0 ∙ k.0
 Spells-bytes text a b toks.End h k = absurd h
 
 -- a text begins with one fault
-IsFaultAt-one : (place : Place) (text : List ℕ) (v w : LexFault) → IsFaultAt place text v → IsFaultAt place text w
+IsFaultAt-one : (position : Place) (text : List ℕ) (v w : LexFault) → IsFaultAt position text v → IsFaultAt position text w
     → v ≡ w
-IsFaultAt-one place text (faults.Byte a) (faults.Byte b) h k = ap faults.Byte (h.0 ∙ sym k.0)
-IsFaultAt-one place text (faults.Byte a) (faults.Number b) h k = absurd (cc (h.2, k.1))
-IsFaultAt-one place text (faults.Byte a) (faults.Long b) h k = absurd (cc (h.1, k.1))
-IsFaultAt-one place text (faults.Number a) (faults.Byte b) h k = absurd (cc (h.1, k.2))
-IsFaultAt-one place text (faults.Number a) (faults.Number b) h k = ap faults.Number (h.0 ∙ sym k.0)
-IsFaultAt-one place text (faults.Number a) (faults.Long b) h k = absurd (number-no_name text h.1 k.1)
-IsFaultAt-one place text (faults.Long a) (faults.Byte b) h k = absurd (cc (h.1, k.1))
-IsFaultAt-one place text (faults.Long a) (faults.Number b) h k = absurd (number-no_name text k.1 h.1)
-IsFaultAt-one place text (faults.Long a) (faults.Long b) h k = ap faults.Long (h.0 ∙ sym k.0)
-IsFaultAt-one place text faults.Oom w h k = absurd h
-IsFaultAt-one place text v faults.Oom h k = absurd k
+IsFaultAt-one position text (faults.Byte a) (faults.Byte b) h k = ap faults.Byte (h.0 ∙ sym k.0)
+IsFaultAt-one position text (faults.Byte a) (faults.Number b) h k = absurd (cc (h.2, k.1))
+IsFaultAt-one position text (faults.Byte a) (faults.Long b) h k = absurd (cc (h.1, k.1))
+IsFaultAt-one position text (faults.Number a) (faults.Byte b) h k = absurd (cc (h.1, k.2))
+IsFaultAt-one position text (faults.Number a) (faults.Number b) h k = ap faults.Number (h.0 ∙ sym k.0)
+IsFaultAt-one position text (faults.Number a) (faults.Long b) h k = absurd (number-no_name text h.1 k.1)
+IsFaultAt-one position text (faults.Long a) (faults.Byte b) h k = absurd (cc (h.1, k.1))
+IsFaultAt-one position text (faults.Long a) (faults.Number b) h k = absurd (number-no_name text k.1 h.1)
+IsFaultAt-one position text (faults.Long a) (faults.Long b) h k = ap faults.Long (h.0 ∙ sym k.0)
+IsFaultAt-one position text faults.Oom w h k = absurd h
+IsFaultAt-one position text v faults.Oom h k = absurd k
 
 -- a name that isn't too long
 name-short : (text bytes : List ℕ) → bytes ≡ take_while is_name_byte text → length bytes ≤ longest_name
@@ -98,25 +98,25 @@ name-short : (text bytes : List ℕ) → bytes ≡ take_while is_name_byte text 
 name-short text bytes e short long = omega (arith, ap length e, length-prefix_len is_name_byte text)
 
 -- a text that begins with a token begins with no fault
-Spells-no_fault : (place : Place) (text bytes : List ℕ) (v : Tok) (w : LexFault) → Spells text bytes v
-    → IsFaultAt place text w → ⊥
-Spells-no_fault place text bytes (toks.Name v) (faults.Byte b) h k = absurd (cc (h.0, k.1))
-Spells-no_fault place text bytes (toks.Name v) (faults.Number b) h k = number-no_name text k.1 h.0
-Spells-no_fault place text bytes (toks.Name v) (faults.Long b) h k = name-short text bytes h.1 h.2 k.2
-Spells-no_fault place text bytes (toks.Key v) (faults.Byte b) h k = absurd (cc (h.0, k.1))
-Spells-no_fault place text bytes (toks.Key v) (faults.Number b) h k = number-no_name text k.1 h.0
-Spells-no_fault place text bytes (toks.Key v) (faults.Long b) h k =
+Spells-no_fault : (position : Place) (text bytes : List ℕ) (v : Tok) (w : LexFault) → Spells text bytes v
+    → IsFaultAt position text w → ⊥
+Spells-no_fault position text bytes (toks.Name v) (faults.Byte b) h k = absurd (cc (h.0, k.1))
+Spells-no_fault position text bytes (toks.Name v) (faults.Number b) h k = number-no_name text k.1 h.0
+Spells-no_fault position text bytes (toks.Name v) (faults.Long b) h k = name-short text bytes h.1 h.2 k.2
+Spells-no_fault position text bytes (toks.Key v) (faults.Byte b) h k = absurd (cc (h.0, k.1))
+Spells-no_fault position text bytes (toks.Key v) (faults.Number b) h k = number-no_name text k.1 h.0
+Spells-no_fault position text bytes (toks.Key v) (faults.Long b) h k =
     name-short text bytes h.1 (rw (← h.2) (key_text-short v)) k.2
-Spells-no_fault place text bytes (toks.Num v) (faults.Byte b) h k = absurd (cc (h.0, k.2))
-Spells-no_fault place text bytes (toks.Num v) (faults.Number b) h k = omega (arith, h.2, k.2, ap decimal h.1)
-Spells-no_fault place text bytes (toks.Num v) (faults.Long b) h k = number-no_name text h.0 k.1
-Spells-no_fault place text bytes (toks.Mark v) (faults.Byte b) h k = k.3 v (rw h.0 h.1)
-Spells-no_fault place text bytes (toks.Mark v) (faults.Number b) h k =
+Spells-no_fault position text bytes (toks.Num v) (faults.Byte b) h k = absurd (cc (h.0, k.2))
+Spells-no_fault position text bytes (toks.Num v) (faults.Number b) h k = omega (arith, h.2, k.2, ap decimal h.1)
+Spells-no_fault position text bytes (toks.Num v) (faults.Long b) h k = number-no_name text h.0 k.1
+Spells-no_fault position text bytes (toks.Mark v) (faults.Byte b) h k = k.3 v (rw h.0 h.1)
+Spells-no_fault position text bytes (toks.Mark v) (faults.Number b) h k =
     let none = (mark-at text bytes v h).no_number in absurd (cc (none, k.1))
-Spells-no_fault place text bytes (toks.Mark v) (faults.Long b) h k =
+Spells-no_fault position text bytes (toks.Mark v) (faults.Long b) h k =
     let none = (mark-at text bytes v h).no_name in absurd (cc (none, k.1))
-Spells-no_fault place text bytes toks.End w h k = absurd h
-Spells-no_fault place text bytes v faults.Oom h k = absurd k
+Spells-no_fault position text bytes toks.End w h k = absurd h
+Spells-no_fault position text bytes v faults.Oom h k = absurd k
 
 -- tokens are their fields
 token_is : (t u : Token) → t.what ≡ u.what → t.at ≡ u.at → t.from ≡ u.from → t.to ≡ u.to → t ≡ u
@@ -165,11 +165,11 @@ IsToken-one text start t u h k =
           (omega (arith, h.some, h.within, from, length-drop u.from text)),
       length-take-le (u.to - u.from) (drop u.from text) (omega (arith, k.some, k.within, length-drop u.from text)),
     ) in
-    token_is t u what (h.place ∙ ap (λ i. place_after (take i text)) from ∙ sym k.place) from to
+    token_is t u what (h.position ∙ ap (λ i. position_after (take i text)) from ∙ sym k.position) from to
 
 IsEnd-one : (text : List ℕ) (start : ℕ) (t u : Token) → IsEnd text start t → IsEnd text start u → t ≡ u
 IsEnd-one text start t u h k =
-    token_is t u (h.what ∙ sym k.what) (h.place ∙ sym k.place) (h.from ∙ sym k.from) (h.to ∙ sym k.to)
+    token_is t u (h.what ∙ sym k.what) (h.position ∙ sym k.position) (h.from ∙ sym k.from) (h.to ∙ sym k.to)
 
 -- what ends the reading at an index: the end of the text, or a fault
 abbrev pub Finishes : (text : List ℕ) (start : ℕ) → Result Token LexFault → Type 0
@@ -186,8 +186,8 @@ Finishes-one text start (Err f) (Ok u) h k =
 Finishes-one text start (Err f) (Err g) h k =
     let same =
     StandsAt-one text start h.0 k.0 (fault-stands text start h.0 f h.1) (fault-stands text start k.0 g k.1) in
-    let stands : IsFaultAt (place_after (take k.0 text)) (drop k.0 text) f = rw (← same) h.1.stands in
-    ap Err (IsFaultAt-one (place_after (take k.0 text)) (drop k.0 text) f g stands k.1.stands)
+    let stands : IsFaultAt (position_after (take k.0 text)) (drop k.0 text) f = rw (← same) h.1.stands in
+    ap Err (IsFaultAt-one (position_after (take k.0 text)) (drop k.0 text) f g stands k.1.stands)
 
 token-or-finish : (text : List ℕ) (start : ℕ) (t : Token) (x : Result Token LexFault) → IsToken text start t
     → Finishes text start x → ⊥
@@ -195,7 +195,7 @@ token-or-finish text start t (Ok u) h k = StandsAt-last text start t.from (token
 token-or-finish text start t (Err f) h k =
     let same = StandsAt-one text start t.from k.0 (token-stands text start t h) (fault-stands text start k.0 f k.1) in
     let spelled : Spells (drop k.0 text) (slice_range text k.0 t.to) t.what = rw (← same) h.spelled in
-    Spells-no_fault (place_after (take k.0 text)) (drop k.0 text)
+    Spells-no_fault (position_after (take k.0 text)) (drop k.0 text)
     (slice_range text k.0 t.to) t.what f spelled k.1.stands
 
 -- a reading, from an index on: its tokens, and what finishes it

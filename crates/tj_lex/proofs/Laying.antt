@@ -11,7 +11,7 @@ use Rattle.tj_lex.specs.declared.token.Tok.TheVariants as toks
 use Rattle.tj_lex.specs.declared.token.Mark.{Mark}
 use Rattle.tj_lex.specs.declared.token.Mark.TheVariants as marks
 use Rattle.tj_lex.specs.Bytes.{is_name_start, is_name_byte, begins_with, line_feed}
-use Rattle.tj_lex.specs.Places.{place_after}
+use Rattle.tj_lex.specs.Positions.{position_after}
 use Rattle.tj_lex.specs.Spelling.{mark_text}
 use Rattle.tj_lex.specs.Tokens.{IsGap, StartsWith, Spells, IsToken, IsEnd, HasTokens, AreTokens}
 use Rattle.tj_lex.specs.Pieces.{Piece, text_of, extends, AreLaidOut, tokens_of}
@@ -148,7 +148,7 @@ pub record AreTokensFrom (text : List ℕ) (start : ℕ) (tokens : List Token) :
 abbrev first_token : List ℕ → Piece → Token
 first_token before piece = record {
   what = piece.what;
-  at = place_after before;
+  at = position_after before;
   from = length before;
   to = length before + length piece.bytes;
 }
@@ -176,7 +176,7 @@ IsToken-piece before start piece rest h gap spelled ends =
       within = omega (arith, length-append before more, length-append piece.bytes (piece.gap ++ rest));
       gap = rw front gap;
       spelled = rw (read, behind) (Spells-append piece.bytes (piece.gap ++ rest) piece.what spelled ends);
-      place = ap place_after (sym (take_at before more n refl));
+      position = ap position_after (sym (take_at before more n refl));
     }
 
 lay : (before : List ℕ) (start : ℕ) (pieces : List Piece) → start ≤ length before
@@ -187,7 +187,7 @@ lay before start [] h gap laid =
     rw (append-nil before) (record {
       front = [];
       stop = start;
-      last = record { what = toks.End; at = place_after before; from = length before; to = length before };
+      last = record { what = toks.End; at = position_after before; from = length before; to = length before };
       whole = refl;
       has_front = refl;
       ends = record {
@@ -195,7 +195,7 @@ lay before start [] h gap laid =
         from = refl;
         to = refl;
         gap = IsGap-append (drop start before) (line_feed ∷ []) (rw left at gap) (inl (refl, tt));
-        place = refl;
+        position = refl;
       };
     })
 lay before start (piece ∷ pieces) h gap laid =

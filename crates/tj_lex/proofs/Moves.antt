@@ -4,20 +4,20 @@ use Rattle.std.specs.List.{list_all}
 use Rattle.std.proofs.lemmas.List.{take_more, length-take, length-take-le, length-drop}
 use Rattle.tj_lex.specs.declared.gap.Spot.{Spot}
 use Rattle.tj_lex.specs.Bytes.{line_feed, stays_on_line}
-use Rattle.tj_lex.specs.Places.{place_after}
+use Rattle.tj_lex.specs.Positions.{position_after}
 use Rattle.tj_lex.specs.Inner.Spots.{IsSpot}
 use Rattle.tj_lex.proofs.Stretches.{take-split}
-use Rattle.tj_lex.proofs.Lines.{place_is, line-feed, column-feed, line-along, column-along, line-small, column-small}
+use Rattle.tj_lex.proofs.Lines.{position_is, line-feed, column-feed, line-along, column-along, line-small, column-small}
 
 -- a spot's line and column are at most one more than its index
 pub line-spot : (text : List ℕ) (spot : Spot) → IsSpot text spot → spot.at.line ≤ spot.next + 1
 line-spot text spot h =
-    let same = ap (λ at. at.line) h.place in
+    let same = ap (λ at. at.line) h.position in
     omega (arith, same, line-small (take spot.next text), length-take spot.next text)
 
 pub column-spot : (text : List ℕ) (spot : Spot) → IsSpot text spot → spot.at.column ≤ spot.next + 1
 column-spot text spot h =
-    let same = ap (λ at. at.column) h.place in
+    let same = ap (λ at. at.column) h.position in
     omega (arith, same, column-small (take spot.next text), length-take spot.next text)
 
 -- behind bytes that stay on the line
@@ -30,13 +30,13 @@ IsSpot-along text spot after n h within stays next line column =
     let more = take n (drop spot.next text) in
     let read : take after.next text ≡ before ++ more = ap (λ i. take i text) next ∙ take-split spot.next n text in
     let size : length more ≡ n = length-take-le n (drop spot.next text) (omega (arith, length-drop spot.next text)) in
-    let same_line : after.at.line ≡ (place_after (before ++ more)).line =
-    line ∙ ap (λ at. at.line) h.place ∙ sym (line-along before more stays) in
-    let same_column : after.at.column ≡ (place_after (before ++ more)).column =
-    omega (arith, column, ap (λ at. at.column) h.place, column-along before more stays, size) in
+    let same_line : after.at.line ≡ (position_after (before ++ more)).line =
+    line ∙ ap (λ at. at.line) h.position ∙ sym (line-along before more stays) in
+    let same_column : after.at.column ≡ (position_after (before ++ more)).column =
+    omega (arith, column, ap (λ at. at.column) h.position, column-along before more stays, size) in
     record {
       within = omega arith;
-      place = place_is after.at _ _ same_line same_column ∙ ap place_after (sym read);
+      position = position_is after.at _ _ same_line same_column ∙ ap position_after (sym read);
     }
 
 -- behind a line feed
@@ -47,11 +47,11 @@ IsSpot-feed text spot after h inside feed next line column =
     let before = take spot.next text in
     let read : take after.next text ≡ before ++ line_feed ∷ [] =
     ap (λ i. take i text) next ∙ take_more text spot.next 0 inside ∙ ap (λ b. before ++ b ∷ []) feed in
-    let same_line : after.at.line ≡ (place_after (before ++ line_feed ∷ [])).line =
-    omega (arith, line, ap (λ at. at.line) h.place, line-feed before) in
-    let same_column : after.at.column ≡ (place_after (before ++ line_feed ∷ [])).column =
+    let same_line : after.at.line ≡ (position_after (before ++ line_feed ∷ [])).line =
+    omega (arith, line, ap (λ at. at.line) h.position, line-feed before) in
+    let same_column : after.at.column ≡ (position_after (before ++ line_feed ∷ [])).column =
     column ∙ sym (column-feed before) in
     record {
       within = omega arith;
-      place = place_is after.at _ _ same_line same_column ∙ ap place_after (sym read);
+      position = position_is after.at _ _ same_line same_column ∙ ap position_after (sym read);
     }

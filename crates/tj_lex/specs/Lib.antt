@@ -1,5 +1,5 @@
 pub mod Bytes
-pub mod Places
+pub mod Positions
 pub mod Pieces
 pub mod Spelling
 pub mod Inner

@@ -6,7 +6,7 @@ use Rattle.tj_lex.specs.declared.token.Token.{Token}
 use Rattle.tj_lex.specs.declared.token.Tok.{Tok}
 use Rattle.tj_lex.specs.declared.token.Tok.TheVariants as toks
 use Rattle.tj_lex.specs.Bytes.{is_name_byte, begins_with}
-use Rattle.tj_lex.specs.Places.{place_after}
+use Rattle.tj_lex.specs.Positions.{position_after}
 use Rattle.tj_lex.specs.Tokens.{IsGap, Spells}
 
 -- a token, its bytes, and the blanks and comments behind it
@@ -37,11 +37,11 @@ AreLaidOut (piece ∷ pieces) =
 -- the tokens of the pieces that stand behind these bytes, and the end
 abbrev pub tokens_of : List ℕ → List Piece → List Token
 tokens_of before [] =
-    record { what = toks.End; at = place_after before; from = length before; to = length before } ∷ []
+    record { what = toks.End; at = position_after before; from = length before; to = length before } ∷ []
 tokens_of before (piece ∷ pieces) =
     record {
       what = piece.what;
-      at = place_after before;
+      at = position_after before;
       from = length before;
       to = length before + length piece.bytes;
     } ∷ tokens_of (before ++ (piece.bytes ++ piece.gap)) pieces

@@ -11,7 +11,7 @@ use Rattle.tj_lex.specs.declared.token.Mark.{Mark}
 use Rattle.tj_lex.specs.declared.token.LexFault.{LexFault}
 use Rattle.tj_lex.specs.declared.token.LexFault.TheVariants as faults
 use Rattle.tj_lex.specs.Bytes.{is_blank, is_name_start, is_name_byte, is_gap_start, begins_with, line_feed, hash}
-use Rattle.tj_lex.specs.Places.{place_after}
+use Rattle.tj_lex.specs.Positions.{position_after}
 use Rattle.tj_lex.specs.Spelling.{key_text, mark_text, decimal}
 
 abbrev mutual
@@ -56,17 +56,17 @@ Spells text bytes toks.End = ⊥
 abbrev pub BeginsWithName : List ℕ → Type 0
 BeginsWithName text = let bytes = take_while is_name_byte text in Spells text bytes (toks.Name bytes)
 
--- the text begins with a fault, which stands at this place
+-- the text begins with a fault, which stands at this position
 abbrev pub IsFaultAt : Place → List ℕ → LexFault → Type 0
-IsFaultAt place text (faults.Byte at) =
-    (at ≡ place) × (begins_with is_name_start text ≡ false) × (begins_with is_ascii_digit text ≡ false)
+IsFaultAt position text (faults.Byte at) =
+    (at ≡ position) × (begins_with is_name_start text ≡ false) × (begins_with is_ascii_digit text ≡ false)
     × ((mark : Mark) → StartsWith (mark_text mark) text → ⊥)
-IsFaultAt place text (faults.Number at) =
-    (at ≡ place) × (begins_with is_ascii_digit text ≡ true)
+IsFaultAt position text (faults.Number at) =
+    (at ≡ position) × (begins_with is_ascii_digit text ≡ true)
     × (greatest_number < decimal (take_while is_ascii_digit text))
-IsFaultAt place text (faults.Long at) =
-    (at ≡ place) × (begins_with is_name_start text ≡ true) × (longest_name < prefix_len is_name_byte text)
-IsFaultAt place text faults.Oom = ⊥
+IsFaultAt position text (faults.Long at) =
+    (at ≡ position) × (begins_with is_name_start text ≡ true) × (longest_name < prefix_len is_name_byte text)
+IsFaultAt position text faults.Oom = ⊥
 
 -- from index start on, the next thing in the text is this token
 pub record IsToken (text : List ℕ) (start : ℕ) (token : Token) : Type 0 where
@@ -75,7 +75,7 @@ pub record IsToken (text : List ℕ) (start : ℕ) (token : Token) : Type 0 wher
   pub within : token.to ≤ length text
   pub gap : IsGap (slice_range text start token.from)
   pub spelled : Spells (drop token.from text) (slice_range text token.from token.to) token.what
-  pub place : token.at ≡ place_after (take token.from text)
+  pub position : token.at ≡ position_after (take token.from text)
 
 -- from index start on, nothing is left but the end; a last comment may lack its line feed
 pub record IsEnd (text : List ℕ) (start : ℕ) (token : Token) : Type 0 where
@@ -83,7 +83,7 @@ pub record IsEnd (text : List ℕ) (start : ℕ) (token : Token) : Type 0 where
   pub from : token.from ≡ length text
   pub to : token.to ≡ length text
   pub gap : IsGap (drop start text ++ line_feed ∷ [])
-  pub place : token.at ≡ place_after text
+  pub position : token.at ≡ position_after text
 
 -- from index start on, the next thing in the text is this fault, at index i
 pub record IsFaultFrom (text : List ℕ) (start i : ℕ) (fault : LexFault) : Type 0 where
@@ -91,7 +91,7 @@ pub record IsFaultFrom (text : List ℕ) (start i : ℕ) (fault : LexFault) : Ty
   pub within : i < length text
   pub gap : IsGap (slice_range text start i)
   pub no_gap : begins_with is_gap_start (drop i text) ≡ false
-  pub stands : IsFaultAt (place_after (take i text)) (drop i text) fault
+  pub stands : IsFaultAt (position_after (take i text)) (drop i text) fault
 
 -- from index start up to index stop the text has these tokens, one behind the other
 abbrev pub HasTokens : (text : List ℕ) (start : ℕ) → List Token → (stop : ℕ) → Type 0

@@ -1,4 +1,4 @@
-//! Places of a text, and what may stand between tokens: blanks and comments.
+//! Positions of a text, and what may stand between tokens: blanks and comments.
 ghost use Rattle.std.specs.Prelude.{◌≡◌, ◌+◌, ◌^◌, ◌-◌, slice_index, ◌<◌, ◌≤◌, length, drop, IfSome, IfNone, false};
 ghost use Rattle.tj_lex.specs.declared.place.Place.{Place};
 ghost use Rattle.tj_lex.specs.Bytes.{is_gap_start, begins_with};

@@ -11,7 +11,7 @@ pub fn one_answer()
         → Answers text a → Answers text b → a ≡ b }
 {}
 
-/// A text that is laid out token by token has these tokens, each at the place where it was put.
+/// A text that is laid out token by token has these tokens, each at the position where it was put.
 pub fn laid_out()
     ensures { (pieces : List Piece) → AreLaidOut pieces
         → AreTokens (text_of pieces) (tokens_of [] pieces) }

@@ -1,5 +1,5 @@
-//! The tokens of the script language: names, numbers, keywords and marks, each with its place,
-//! or the place of the first fault.
+//! The tokens of the script language: names, numbers, keywords and marks, each with its position,
+//! or the position of the first fault.
 #![tactic(auto)]
 
 mod bytes;

@@ -1,4 +1,4 @@
-//! Places in a text, as a reader counts them.
+//! Positions in a text, as a reader counts them.
 
 /// A line and a column, both from 1. A column counts bytes.
 #[derive(Clone, Copy, Debug, PartialEq, Eq)]

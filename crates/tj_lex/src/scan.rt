@@ -95,7 +95,7 @@ struct Lexeme {
     len: usize,
 }
 
-/// The token or the fault that a text begins with. The text's place is `at`.
+/// The token or the fault that a text begins with. The text's position is `at`.
 fn lexeme_at(alloc: Global, text: &[u8], at: Place) -> Result<Lexeme, LexFault>
     requires { 0 < length text.now }
     ensures token { IfOk result (IsLexeme text.now) }

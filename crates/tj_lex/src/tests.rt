@@ -116,7 +116,7 @@ fn spellings(rt: HostRuntime) -> Result<(), Fail> {
 }
 
 #[test]
-fn places(rt: HostRuntime) -> Result<(), Fail> {
+fn positions(rt: HostRuntime) -> Result<(), Fail> {
     // Of each token: its line, its column, and the bytes that it takes.
     let rows = [
         ("an empty text", &b""[..], &[(1, 1, 0, 0)][..]),

@@ -3,7 +3,7 @@ use crate::place::Place;
 use crate::word::Word;
 use std::alloc::{AllocError, AllocFailed};
 
-/// A token, its place, and the bytes of the text that it takes: those from `from` up to `to`.
+/// A token, its position, and the bytes of the text that it takes: those from `from` up to `to`.
 #[derive(Debug, PartialEq, Eq, Drop)]
 pub struct Token {
     pub what: Tok,

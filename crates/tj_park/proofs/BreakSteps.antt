@@ -12,20 +12,20 @@ use Rattle.tj_body.specs.declared.point.Entry.TheVariants as entry
 use Rattle.tj_words.specs.declared.offsets.Once.TheVariants as once
 use Rattle.tj_words.specs.declared.view.Custody.{Custody}
 use Rattle.tj_words.specs.declared.view.View.{View}
-use Rattle.tj_words.specs.DrawViews.{without_due}
-use Rattle.tj_words.specs.Holding.{held_in}
-use Rattle.tj_words.specs.KnownEntries.{HasSeen, IsToBecome}
-use Rattle.tj_words.specs.KnowsMore.{KnowsMore}
-use Rattle.tj_words.specs.Lists.{AreApart, cell, numbers, without}
-use Rattle.tj_words.specs.LiveCount.{HasAlarmed}
-use Rattle.tj_words.specs.LiveViews.{SlotsOf}
-use Rattle.tj_words.specs.OwnerViews.{gave_up}
-use Rattle.tj_words.specs.TaskLists.{let_go}
-use Rattle.tj_words.proofs.HeldChanges.{held_task}
-use Rattle.tj_words.proofs.HeldTasks.{one_some}
-use Rattle.tj_words.proofs.KnowsMoreOn.{more_itself}
-use Rattle.tj_words.proofs.NotedEntries.{noted_here, noted_else}
-use Rattle.tj_words.proofs.SeatLists.{inside}
+use Rattle.tj_words.specs.Calls.DrawViews.{without_due}
+use Rattle.tj_words.specs.LawParts.Holding.{held_in}
+use Rattle.tj_words.specs.SeatViews.KnownEntries.{HasSeen, IsToBecome}
+use Rattle.tj_words.specs.SeatViews.KnowsMore.{KnowsMore}
+use Rattle.tj_words.specs.Words.Lists.{AreApart, cell, numbers, without}
+use Rattle.tj_words.specs.LawParts.LiveCount.{HasAlarmed}
+use Rattle.tj_words.specs.Calls.LiveViews.{SlotsOf}
+use Rattle.tj_words.specs.Calls.OwnerViews.{gave_up}
+use Rattle.tj_words.specs.SeatViews.TaskLists.{let_go}
+use Rattle.tj_words.proofs.Holders.HeldChanges.{held_task}
+use Rattle.tj_words.proofs.Holders.HeldTasks.{one_some}
+use Rattle.tj_words.proofs.SeatLoads.KnowsMoreOn.{more_itself}
+use Rattle.tj_words.proofs.Holders.NotedEntries.{noted_here, noted_else}
+use Rattle.tj_words.proofs.Stores.SeatLists.{inside}
 use Rattle.tj_cells.specs.FilledCells.{MayGiveUp, WillBecome, became}
 use Rattle.tj_cells.proofs.TaskNotes.{let_go_again, let_go_first, noted_front}
 use Rattle.tj_park.specs.Breaks.{HasBroken, MayBreak, OwnsStill}

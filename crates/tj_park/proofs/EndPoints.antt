@@ -20,12 +20,12 @@ use Rattle.tj_words.specs.declared.record.Finish.{Finish}
 use Rattle.tj_words.specs.declared.record.Rec.{Rec}
 use Rattle.tj_words.specs.declared.view.Filled.{Filled}
 use Rattle.tj_words.specs.declared.view.View.{View}
-use Rattle.tj_words.specs.KnownEntries.{HasSeen, IsToBecome, ToldBy}
-use Rattle.tj_words.specs.KnowsMore.{AreAmong}
-use Rattle.tj_words.specs.Lists.{All, cell}
-use Rattle.tj_words.specs.Meaning.{HasCell}
-use Rattle.tj_words.specs.Telling.{ArePairs, HasName, TellsStage}
-use Rattle.tj_words.specs.TreeWords.{IsCell}
+use Rattle.tj_words.specs.SeatViews.KnownEntries.{HasSeen, IsToBecome, ToldBy}
+use Rattle.tj_words.specs.SeatViews.KnowsMore.{AreAmong}
+use Rattle.tj_words.specs.Words.Lists.{All, cell}
+use Rattle.tj_words.specs.LawParts.Meaning.{HasCell}
+use Rattle.tj_words.specs.LawParts.Telling.{ArePairs, HasName, TellsStage}
+use Rattle.tj_words.specs.LawParts.TreeWords.{IsCell}
 use Rattle.tj_park.specs.Endings.{HaveApartNames, IsEnding, IsOpen, ended_record, result_of}
 
 -- a task that hasn't ended owns its result, and then what it holds

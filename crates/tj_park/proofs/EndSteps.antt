@@ -20,21 +20,21 @@ use Rattle.tj_words.specs.declared.record.Finish.{Finish}
 use Rattle.tj_words.specs.declared.record.Held.{Held}
 use Rattle.tj_words.specs.declared.record.Rec.{Rec}
 use Rattle.tj_words.specs.declared.view.View.{View}
-use Rattle.tj_words.specs.DrawViews.{without_due}
-use Rattle.tj_words.specs.KnownEntries.{HasSeen, IsToBecome, ToldBy}
-use Rattle.tj_words.specs.KnowsMore.{KnowsMore}
-use Rattle.tj_words.specs.Lists.{AreApart, cell, numbers, without}
-use Rattle.tj_words.specs.LiveCount.{Backing, HasAlarmed, Holds}
-use Rattle.tj_words.specs.LiveViews.{MayEnd, MayLowerLive, Shelves, SlotsOf, ended, lowered_with}
-use Rattle.tj_words.specs.NamedCells.{finish_cells, record_cells}
-use Rattle.tj_words.specs.OwnerViews.{gave_up}
-use Rattle.tj_words.specs.ParkSteps.{with_tokens}
-use Rattle.tj_words.specs.SeatSteps.{SeatMe}
-use Rattle.tj_words.specs.TaskLists.{let_go}
-use Rattle.tj_words.specs.Telling.{FinishSays}
-use Rattle.tj_words.proofs.ChainLists.{no_some}
-use Rattle.tj_words.proofs.LiveSteps.{backing_idle}
-use Rattle.tj_words.proofs.SeatLists.{inside}
+use Rattle.tj_words.specs.Calls.DrawViews.{without_due}
+use Rattle.tj_words.specs.SeatViews.KnownEntries.{HasSeen, IsToBecome, ToldBy}
+use Rattle.tj_words.specs.SeatViews.KnowsMore.{KnowsMore}
+use Rattle.tj_words.specs.Words.Lists.{AreApart, cell, numbers, without}
+use Rattle.tj_words.specs.LawParts.LiveCount.{Backing, HasAlarmed, Holds}
+use Rattle.tj_words.specs.Calls.LiveViews.{MayEnd, MayLowerLive, Shelves, SlotsOf, ended, lowered_with}
+use Rattle.tj_words.specs.LawParts.NamedCells.{finish_cells, record_cells}
+use Rattle.tj_words.specs.Calls.OwnerViews.{gave_up}
+use Rattle.tj_words.specs.Calls.ParkSteps.{with_tokens}
+use Rattle.tj_words.specs.SeatViews.SeatSteps.{SeatMe}
+use Rattle.tj_words.specs.SeatViews.TaskLists.{let_go}
+use Rattle.tj_words.specs.LawParts.Telling.{FinishSays}
+use Rattle.tj_words.proofs.Waiters.ChainLists.{no_some}
+use Rattle.tj_words.proofs.Waiters.LiveSteps.{backing_idle}
+use Rattle.tj_words.proofs.Stores.SeatLists.{inside}
 use Rattle.tj_cells.specs.FilledCells.{became}
 use Rattle.tj_park.specs.Breaks.{HasBroken, MayBreak}
 use Rattle.tj_park.specs.Endings.{HasFinished, MayCloseResult, MayFinish, ended_record, result_of}

@@ -9,11 +9,12 @@ use Rattle.tj_words.specs.declared.head.Head.TheVariants as head
 use Rattle.tj_words.specs.declared.view.Found.{Found}
 use Rattle.tj_words.specs.declared.view.Push.{Push}
 use Rattle.tj_words.specs.declared.view.View.{View}
-use Rattle.tj_words.specs.Chains.{head_of}
-use Rattle.tj_words.specs.ChainSteps.{HasPush, HasPushBehind, KnowsEntry, pushed, stored_next, with_next, without_push}
-use Rattle.tj_words.specs.Heads.{head_word}
-use Rattle.tj_words.specs.SeenWords.{FindsChain, FindsShut}
-use Rattle.tj_words.proofs.KnowsMoreOn.{more_itself, more_on, hand_on, counts_on}
+use Rattle.tj_words.specs.LawParts.Chains.{head_of}
+use Rattle.tj_words.specs.Calls.ChainSteps.{HasPush, HasPushBehind, KnowsEntry, pushed, stored_next, with_next}
+use Rattle.tj_words.specs.Calls.ChainSteps.{without_push}
+use Rattle.tj_words.specs.Words.Heads.{head_word}
+use Rattle.tj_words.specs.SeatViews.SeenWords.{FindsChain, FindsShut}
+use Rattle.tj_words.proofs.SeatLoads.KnowsMoreOn.{more_itself, more_on, hand_on, counts_on}
 use Rattle.tj_park.specs.JoinViews.{LooksOn, IsAdded, push_behind, last_found, pushes_left, join_steps}
 
 -- the sums of steps and of pushes

@@ -8,19 +8,19 @@ use Rattle.tj_words.specs.declared.record.Rec.{Rec}
 use Rattle.tj_words.specs.declared.view.Custody.{Custody}
 use Rattle.tj_words.specs.declared.view.Does.{Does}
 use Rattle.tj_words.specs.declared.view.View.{View}
-use Rattle.tj_words.specs.Holding.{held_in}
-use Rattle.tj_words.specs.LiveCount.{DoesRun, HasAlarmed, Holds, Backing}
-use Rattle.tj_words.specs.LiveViews.{MayRaiseLive, MayLowerLive, MayRelease, SlotsOf}
-use Rattle.tj_words.specs.LiveViews.{came_home, now_home, released, without_task}
-use Rattle.tj_words.specs.ParkSteps.{with_tokens}
-use Rattle.tj_words.specs.PutRecords.{PutsHome}
-use Rattle.tj_words.specs.TaskLists.{let_go, hold, noted}
-use Rattle.tj_words.proofs.HeldChanges.{held_task}
-use Rattle.tj_words.proofs.HeldTasks.{none_some, one_some}
-use Rattle.tj_words.proofs.LiveSteps.{backing_token, backing_running, backing_idle}
-use Rattle.tj_words.proofs.NotedEntries.{noted_here}
-use Rattle.tj_words.proofs.NotedTasks.{noted_is}
-use Rattle.tj_words.proofs.SeatTasks.{let_go_here, let_go_else}
+use Rattle.tj_words.specs.LawParts.Holding.{held_in}
+use Rattle.tj_words.specs.LawParts.LiveCount.{DoesRun, HasAlarmed, Holds, Backing}
+use Rattle.tj_words.specs.Calls.LiveViews.{MayRaiseLive, MayLowerLive, MayRelease, SlotsOf}
+use Rattle.tj_words.specs.Calls.LiveViews.{came_home, now_home, released, without_task}
+use Rattle.tj_words.specs.Calls.ParkSteps.{with_tokens}
+use Rattle.tj_words.specs.Calls.PutRecords.{PutsHome}
+use Rattle.tj_words.specs.SeatViews.TaskLists.{let_go, hold, noted}
+use Rattle.tj_words.proofs.Holders.HeldChanges.{held_task}
+use Rattle.tj_words.proofs.Holders.HeldTasks.{none_some, one_some}
+use Rattle.tj_words.proofs.Waiters.LiveSteps.{backing_token, backing_running, backing_idle}
+use Rattle.tj_words.proofs.Holders.NotedEntries.{noted_here}
+use Rattle.tj_words.proofs.Holders.NotedTasks.{noted_is}
+use Rattle.tj_words.proofs.Holders.SeatTasks.{let_go_here, let_go_else}
 use Rattle.tj_park.specs.ChildViews.{MayReleaseChild, MayShelve, released_child, shelved}
 use Rattle.tj_park.specs.Records.{MayLeaveHome}
 

@@ -10,21 +10,21 @@ use Rattle.tj_core.specs.Events.{raised_by_way}
 use Rattle.tj_words.specs.declared.head.Head.{Head}
 use Rattle.tj_words.specs.declared.record.Rec.{Rec}
 use Rattle.tj_words.specs.declared.view.View.{View}
-use Rattle.tj_words.specs.ChainSteps.{without_push}
-use Rattle.tj_words.specs.ExchangeViews.{MayGoBack}
-use Rattle.tj_words.specs.Holding.{held_in}
-use Rattle.tj_words.specs.KnowsMore.{KnowsMore}
-use Rattle.tj_words.specs.LiveCount.{HasAlarmed, Holds, Backing}
-use Rattle.tj_words.specs.LiveViews.{IfRecord, MayLowerLive, SlotsOf, live_lowered, lowered_with}
-use Rattle.tj_words.specs.ParkSteps.{new_push, with_tokens}
-use Rattle.tj_words.specs.SeatSteps.{SeatMe}
-use Rattle.tj_words.specs.TakenRecords.{custody_of}
-use Rattle.tj_words.specs.TaskLists.{hold}
-use Rattle.tj_words.specs.TreeWords.{AreCells}
-use Rattle.tj_words.specs.WaitViews.{MayPark, parked}
-use Rattle.tj_words.proofs.HeldTasks.{none_some}
-use Rattle.tj_words.proofs.KnowsMoreOn.{more_itself, more_on}
-use Rattle.tj_words.proofs.LiveSteps.{backing_idle}
+use Rattle.tj_words.specs.Calls.ChainSteps.{without_push}
+use Rattle.tj_words.specs.Calls.ExchangeViews.{MayGoBack}
+use Rattle.tj_words.specs.LawParts.Holding.{held_in}
+use Rattle.tj_words.specs.SeatViews.KnowsMore.{KnowsMore}
+use Rattle.tj_words.specs.LawParts.LiveCount.{HasAlarmed, Holds, Backing}
+use Rattle.tj_words.specs.Calls.LiveViews.{IfRecord, MayLowerLive, SlotsOf, live_lowered, lowered_with}
+use Rattle.tj_words.specs.Calls.ParkSteps.{new_push, with_tokens}
+use Rattle.tj_words.specs.SeatViews.SeatSteps.{SeatMe}
+use Rattle.tj_words.specs.Calls.TakenRecords.{custody_of}
+use Rattle.tj_words.specs.SeatViews.TaskLists.{hold}
+use Rattle.tj_words.specs.LawParts.TreeWords.{AreCells}
+use Rattle.tj_words.specs.Calls.WaitViews.{MayPark, parked}
+use Rattle.tj_words.proofs.Holders.HeldTasks.{none_some}
+use Rattle.tj_words.proofs.SeatLoads.KnowsMoreOn.{more_itself, more_on}
+use Rattle.tj_words.proofs.Waiters.LiveSteps.{backing_idle}
 use Rattle.tj_park.specs.JoinViews.{LooksOn, IsAdded, TakesBack, join_steps, push_behind}
 use Rattle.tj_park.specs.ParkViews.{MayParkTask, LeftTask, GaveBack}
 use Rattle.tj_park.specs.Records.{HasNoRecord}

@@ -10,10 +10,10 @@ use Rattle.tj_words.specs.declared.record.Finish.{Finish}
 use Rattle.tj_words.specs.declared.record.Finish.TheVariants as ends
 use Rattle.tj_words.specs.declared.record.Hurt.{Hurt}
 use Rattle.tj_words.specs.declared.view.View.{View}
-use Rattle.tj_words.specs.KnownEntries.{IsToBecome}
-use Rattle.tj_words.specs.NamedCells.{fill_cells, finish_cells}
-use Rattle.tj_words.specs.Telling.{FinishSays}
-use Rattle.tj_words.proofs.HeldTasks.{one_some}
+use Rattle.tj_words.specs.SeatViews.KnownEntries.{IsToBecome}
+use Rattle.tj_words.specs.LawParts.NamedCells.{fill_cells, finish_cells}
+use Rattle.tj_words.specs.LawParts.Telling.{FinishSays}
+use Rattle.tj_words.proofs.Holders.HeldTasks.{one_some}
 use Rattle.tj_cells.specs.FilledCells.{IsFilledWith, MayFill, MayGiveUp, WillBecome, became, cells_named}
 use Rattle.tj_park.specs.Endings.{ClosesResult, MayCloseResult, result_of}
 

@@ -12,15 +12,15 @@ use Rattle.tj_words.specs.declared.phase.Phase.{Phase}
 use Rattle.tj_words.specs.declared.phase.Phase.TheVariants as phase
 use Rattle.tj_words.specs.declared.record.Rec.{Rec}
 use Rattle.tj_words.specs.declared.view.View.{View}
-use Rattle.tj_words.specs.Chains.{parked_phase}
-use Rattle.tj_words.specs.ExchangeViews.{Swaps, GoesBack, went_back}
-use Rattle.tj_words.specs.LiveViews.{HasSlot}
-use Rattle.tj_words.specs.NamedCells.{record_cells}
-use Rattle.tj_words.specs.SeatSteps.{SeatMe}
-use Rattle.tj_words.specs.TakenRecords.{took_record}
-use Rattle.tj_words.specs.Views.{stepped_on}
-use Rattle.tj_words.specs.WalkViews.{lowered}
-use Rattle.tj_words.proofs.HeldTasks.{one_some}
+use Rattle.tj_words.specs.LawParts.Chains.{parked_phase}
+use Rattle.tj_words.specs.Calls.ExchangeViews.{Swaps, GoesBack, went_back}
+use Rattle.tj_words.specs.Calls.LiveViews.{HasSlot}
+use Rattle.tj_words.specs.LawParts.NamedCells.{record_cells}
+use Rattle.tj_words.specs.SeatViews.SeatSteps.{SeatMe}
+use Rattle.tj_words.specs.Calls.TakenRecords.{took_record}
+use Rattle.tj_words.specs.SeatViews.Views.{stepped_on}
+use Rattle.tj_words.specs.Calls.WalkViews.{lowered}
+use Rattle.tj_words.proofs.Holders.HeldTasks.{one_some}
 use Rattle.tj_park.specs.JoinViews.{TakesBack}
 use Rattle.tj_park.proofs.TakenTasks.{has_taken, slot_in_front, taken_out}
 

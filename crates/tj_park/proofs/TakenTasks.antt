@@ -9,16 +9,16 @@ use Rattle.tj_words.specs.declared.record.Rec.{Rec}
 use Rattle.tj_words.specs.declared.view.About.{About}
 use Rattle.tj_words.specs.declared.view.Filled.{Filled}
 use Rattle.tj_words.specs.declared.view.View.{View}
-use Rattle.tj_words.specs.ExchangeViews.{Claims}
-use Rattle.tj_words.specs.Holding.{held_in}
-use Rattle.tj_words.specs.LiveViews.{HasSlot, SlotsOf}
-use Rattle.tj_words.specs.NamedCells.{record_cells}
-use Rattle.tj_words.specs.SeatSteps.{SeatMe}
-use Rattle.tj_words.specs.TakenRecords.{TakesRecord, IsKnownRecord, custody_of, took_record}
-use Rattle.tj_words.specs.TaskLists.{hold}
-use Rattle.tj_words.specs.TreeWords.{AreCells}
-use Rattle.tj_words.specs.Views.{stepped_on}
-use Rattle.tj_words.proofs.SeatTasks.{hold_here}
+use Rattle.tj_words.specs.Calls.ExchangeViews.{Claims}
+use Rattle.tj_words.specs.LawParts.Holding.{held_in}
+use Rattle.tj_words.specs.Calls.LiveViews.{HasSlot, SlotsOf}
+use Rattle.tj_words.specs.LawParts.NamedCells.{record_cells}
+use Rattle.tj_words.specs.SeatViews.SeatSteps.{SeatMe}
+use Rattle.tj_words.specs.Calls.TakenRecords.{TakesRecord, IsKnownRecord, custody_of, took_record}
+use Rattle.tj_words.specs.SeatViews.TaskLists.{hold}
+use Rattle.tj_words.specs.LawParts.TreeWords.{AreCells}
+use Rattle.tj_words.specs.SeatViews.Views.{stepped_on}
+use Rattle.tj_words.proofs.Holders.SeatTasks.{hold_here}
 use Rattle.tj_park.specs.ChildViews.{Claimed}
 use Rattle.tj_park.specs.Records.{HasTaken}
 

@@ -27,20 +27,20 @@ use Rattle.tj_words.specs.declared.record.Fill.TheVariants as fill
 use Rattle.tj_words.specs.declared.record.Rec.{Rec}
 use Rattle.tj_words.specs.declared.view.Custody.{Custody}
 use Rattle.tj_words.specs.declared.view.View.{View}
-use Rattle.tj_words.specs.DrawViews.{drawn_next}
-use Rattle.tj_words.specs.FirstState.{first_view}
-use Rattle.tj_words.specs.Holding.{held_in, made_by}
-use Rattle.tj_words.specs.Lists.{without}
-use Rattle.tj_words.specs.OwnerViews.{gave_up}
-use Rattle.tj_words.specs.QuietSteps.{does_first}
-use Rattle.tj_words.specs.SeatSteps.{SeatMe}
-use Rattle.tj_words.specs.SeenWords.{FindsBits, FindsNothing, SeesOnce}
-use Rattle.tj_words.specs.StepEvents.{MayAct}
-use Rattle.tj_words.specs.TakenRecords.{custody_of}
-use Rattle.tj_words.specs.TreeWords.{IsCell}
-use Rattle.tj_words.proofs.Merging.{begins_at}
-use Rattle.tj_words.proofs.NotedEntries.{noted_here}
-use Rattle.tj_words.proofs.SeatLists.{inside}
+use Rattle.tj_words.specs.Calls.DrawViews.{drawn_next}
+use Rattle.tj_words.specs.LawParts.FirstState.{first_view}
+use Rattle.tj_words.specs.LawParts.Holding.{held_in, made_by}
+use Rattle.tj_words.specs.Words.Lists.{without}
+use Rattle.tj_words.specs.Calls.OwnerViews.{gave_up}
+use Rattle.tj_words.specs.Steps.QuietSteps.{does_first}
+use Rattle.tj_words.specs.SeatViews.SeatSteps.{SeatMe}
+use Rattle.tj_words.specs.SeatViews.SeenWords.{FindsBits, FindsNothing, SeesOnce}
+use Rattle.tj_words.specs.Steps.StepEvents.{MayAct}
+use Rattle.tj_words.specs.Calls.TakenRecords.{custody_of}
+use Rattle.tj_words.specs.LawParts.TreeWords.{IsCell}
+use Rattle.tj_words.proofs.Seating.Merging.{begins_at}
+use Rattle.tj_words.proofs.Holders.NotedEntries.{noted_here}
+use Rattle.tj_words.proofs.Stores.SeatLists.{inside}
 use Rattle.tj_cells.specs.declared.seen.Seen.{Seen}
 use Rattle.tj_cells.specs.declared.seen.Seen.TheVariants as seen
 use Rattle.tj_cells.specs.FilledCells.{MayFill, MayGiveUp, WillBecome, became}
@@ -97,7 +97,7 @@ in_without : (p x : ℕ) (ns : List ℕ) → x ≢ p → IsIn x ns → IsIn x (w
 in_without p x [] n i = absurd i
 in_without p x (y ∷ ns) n i = without_one p x y ns n i (in_without p x ns n) (nat_eq y p) refl
 
--- what stands at a place of a list is what is got there
+-- what stands at an index of a list is what is got there
 got_at : (l : List Reference) (c : ℕ) (x d : Reference) → get_elem? l c ≡ some x → get_or l c d ≡ x
 got_at [] zero x d e = absurd (some-ne-none x (sym e))
 got_at [] (suc c) x d e = absurd (some-ne-none x (sym e))

@@ -7,12 +7,12 @@ use Rattle.tj_words.specs.declared.head.Head.{Head}
 use Rattle.tj_words.specs.declared.head.Head.TheVariants.{Empty, Task, Shut}
 use Rattle.tj_words.specs.declared.view.Rest.{Rest}
 use Rattle.tj_words.specs.declared.view.View.{View}
-use Rattle.tj_words.specs.Lists.{cell, without}
-use Rattle.tj_words.specs.Chains.{head_of}
-use Rattle.tj_words.specs.ChainSteps.{TakesChain, found_taken, rest_of}
-use Rattle.tj_words.specs.Heads.{head_word}
-use Rattle.tj_words.specs.LiveViews.{SlotsOf}
-use Rattle.tj_words.proofs.ChainsSaid.{shut_or}
+use Rattle.tj_words.specs.Words.Lists.{cell, without}
+use Rattle.tj_words.specs.LawParts.Chains.{head_of}
+use Rattle.tj_words.specs.Calls.ChainSteps.{TakesChain, found_taken, rest_of}
+use Rattle.tj_words.specs.Words.Heads.{head_word}
+use Rattle.tj_words.specs.Calls.LiveViews.{SlotsOf}
+use Rattle.tj_words.proofs.Waiters.ChainsSaid.{shut_or}
 use Rattle.tj_park.specs.Wakes.{HavePut, HasWoken, MayWakeTasks, WakesAll, WakesFirst, WakesSome}
 
 -- the head begins the list of those who are left, and names a cell; or it was shut, and nobody is

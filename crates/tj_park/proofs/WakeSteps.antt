@@ -11,16 +11,16 @@ use Rattle.tj_words.specs.declared.phase.Phase.{Phase}
 use Rattle.tj_words.specs.declared.phase.Phase.TheVariants as phase
 use Rattle.tj_words.specs.declared.view.Rest.{Rest}
 use Rattle.tj_words.specs.declared.view.View.{View}
-use Rattle.tj_words.specs.Chains.{head_of, parked_phase}
-use Rattle.tj_words.specs.ChainSteps.{rest_of}
-use Rattle.tj_words.specs.ExchangeViews.{MaySwap, Swaps, woke_first}
-use Rattle.tj_words.specs.LiveCount.{Backing, DoesRun, Holds}
-use Rattle.tj_words.specs.LiveViews.{LaysChild, MayRaiseLive, SlotsOf, live_raised, raised_with}
-use Rattle.tj_words.specs.ParkSteps.{FirstTold, first_way, loaded_phase, parked_way, rest_loaded, with_tokens}
-use Rattle.tj_words.specs.SeatSteps.{SeatMe}
-use Rattle.tj_words.specs.SeenWords.{NextTold}
-use Rattle.tj_words.specs.Views.{stepped_on}
-use Rattle.tj_words.proofs.LiveSteps.{backing_token, backing_running}
+use Rattle.tj_words.specs.LawParts.Chains.{head_of, parked_phase}
+use Rattle.tj_words.specs.Calls.ChainSteps.{rest_of}
+use Rattle.tj_words.specs.Calls.ExchangeViews.{MaySwap, Swaps, woke_first}
+use Rattle.tj_words.specs.LawParts.LiveCount.{Backing, DoesRun, Holds}
+use Rattle.tj_words.specs.Calls.LiveViews.{LaysChild, MayRaiseLive, SlotsOf, live_raised, raised_with}
+use Rattle.tj_words.specs.Calls.ParkSteps.{FirstTold, first_way, loaded_phase, parked_way, rest_loaded, with_tokens}
+use Rattle.tj_words.specs.SeatViews.SeatSteps.{SeatMe}
+use Rattle.tj_words.specs.SeatViews.SeenWords.{NextTold}
+use Rattle.tj_words.specs.SeatViews.Views.{stepped_on}
+use Rattle.tj_words.proofs.Waiters.LiveSteps.{backing_token, backing_running}
 use Rattle.tj_park.specs.Records.{HasNoRecord}
 use Rattle.tj_park.proofs.ParkedViews.{no_record}
 use Rattle.tj_park.specs.Wakes.{MayWakeTasks, counted_in, lowered_for}

@@ -7,12 +7,12 @@ use Rattle.tj_body.specs.declared.point.Entry.TheVariants as entry
 use Rattle.tj_words.specs.declared.view.About.{About}
 use Rattle.tj_words.specs.declared.view.Custody.{Custody}
 use Rattle.tj_words.specs.declared.view.View.{View}
-use Rattle.tj_words.specs.Holding.{held_in}
-use Rattle.tj_words.specs.KnownEntries.{HasSeen, IsToBecome}
-use Rattle.tj_words.specs.KnowsMore.{AreAmong, KnowsMore, HasSameHand, HasSameCounts}
-use Rattle.tj_words.specs.Lists.{All, AreApart, numbers}
-use Rattle.tj_words.specs.StepEvents.{MayAct}
-use Rattle.tj_words.specs.TaskLists.{let_go}
+use Rattle.tj_words.specs.LawParts.Holding.{held_in}
+use Rattle.tj_words.specs.SeatViews.KnownEntries.{HasSeen, IsToBecome}
+use Rattle.tj_words.specs.SeatViews.KnowsMore.{AreAmong, KnowsMore, HasSameHand, HasSameCounts}
+use Rattle.tj_words.specs.Words.Lists.{All, AreApart, numbers}
+use Rattle.tj_words.specs.Steps.StepEvents.{MayAct}
+use Rattle.tj_words.specs.SeatViews.TaskLists.{let_go}
 use Rattle.tj_park.specs.Records.{AlarmsLeave, HasNothingToCome}
 
 module _ {B : Type 0} where

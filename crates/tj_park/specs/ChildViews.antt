@@ -9,13 +9,13 @@ use Rattle.tj_words.specs.declared.view.Custody.{Custody}
 use Rattle.tj_words.specs.declared.view.Does.TheVariants as does
 use Rattle.tj_words.specs.declared.view.Hand.{Hand}
 use Rattle.tj_words.specs.declared.view.View.{View}
-use Rattle.tj_words.specs.Holding.{held_in}
-use Rattle.tj_words.specs.KnowsMore.{KnowsMore, HasSameWakes, HasSameHand, HasSameCounts}
-use Rattle.tj_words.specs.LiveCount.{IsBacked}
-use Rattle.tj_words.specs.LiveViews.{without_task}
-use Rattle.tj_words.specs.RecordPhases.{WaitsFor}
-use Rattle.tj_words.specs.TakenRecords.{custody_of}
-use Rattle.tj_words.specs.TaskLists.{hold, let_go}
+use Rattle.tj_words.specs.LawParts.Holding.{held_in}
+use Rattle.tj_words.specs.SeatViews.KnowsMore.{KnowsMore, HasSameWakes, HasSameHand, HasSameCounts}
+use Rattle.tj_words.specs.LawParts.LiveCount.{IsBacked}
+use Rattle.tj_words.specs.Calls.LiveViews.{without_task}
+use Rattle.tj_words.specs.LawParts.RecordPhases.{WaitsFor}
+use Rattle.tj_words.specs.Calls.TakenRecords.{custody_of}
+use Rattle.tj_words.specs.SeatViews.TaskLists.{hold, let_go}
 use Rattle.tj_park.specs.Records.{MayLeaveHome, HasTaken, HasNothingToCome, AlarmsLeave}
 
 module _ {B : Type 0} where

@@ -19,17 +19,17 @@ use Rattle.tj_words.specs.declared.record.Rec.{Rec}
 use Rattle.tj_words.specs.declared.view.About.{About}
 use Rattle.tj_words.specs.declared.view.Custody.{Custody}
 use Rattle.tj_words.specs.declared.view.View.{View}
-use Rattle.tj_words.specs.Holding.{held_in}
+use Rattle.tj_words.specs.LawParts.Holding.{held_in}
 use Rattle.tj_words.specs.Law.{IsRooted}
-use Rattle.tj_words.specs.KnownEntries.{HasSeen, IsToBecome}
-use Rattle.tj_words.specs.KnowsMore.{KnowsMore, HasSameWakes, HasSameHand, HasSameCounts}
-use Rattle.tj_words.specs.Lists.{All, AreApart}
-use Rattle.tj_words.specs.Meaning.{StandsIn}
-use Rattle.tj_words.specs.NamedCells.{finish_cells}
-use Rattle.tj_words.specs.StepEvents.{MayAct}
-use Rattle.tj_words.specs.TaskLists.{let_go}
-use Rattle.tj_words.specs.Telling.{FinishSays, Tells}
-use Rattle.tj_words.specs.TreeWords.{IsCell}
+use Rattle.tj_words.specs.SeatViews.KnownEntries.{HasSeen, IsToBecome}
+use Rattle.tj_words.specs.SeatViews.KnowsMore.{KnowsMore, HasSameWakes, HasSameHand, HasSameCounts}
+use Rattle.tj_words.specs.Words.Lists.{All, AreApart}
+use Rattle.tj_words.specs.LawParts.Meaning.{StandsIn}
+use Rattle.tj_words.specs.LawParts.NamedCells.{finish_cells}
+use Rattle.tj_words.specs.Steps.StepEvents.{MayAct}
+use Rattle.tj_words.specs.SeatViews.TaskLists.{let_go}
+use Rattle.tj_words.specs.LawParts.Telling.{FinishSays, Tells}
+use Rattle.tj_words.specs.LawParts.TreeWords.{IsCell}
 use Rattle.tj_cells.specs.FilledCells.{became}
 use Rattle.tj_park.specs.Breaks.{OwnsStill}
 use Rattle.tj_park.specs.Records.{AlarmsLeave, HasNothingToCome, HasRecord}

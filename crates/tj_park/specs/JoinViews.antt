@@ -9,12 +9,12 @@ use Rattle.tj_words.specs.declared.record.Rec.{Rec}
 use Rattle.tj_words.specs.declared.view.Found.{Found}
 use Rattle.tj_words.specs.declared.view.Push.{Push}
 use Rattle.tj_words.specs.declared.view.View.{View}
-use Rattle.tj_words.specs.ChainSteps.{KnowsEntry, without_push}
-use Rattle.tj_words.specs.KnowsMore.{KnowsMore, HasSameHand, HasSameCounts}
-use Rattle.tj_words.specs.RecordPhases.{WaitsFor}
-use Rattle.tj_words.specs.TakenRecords.{custody_of}
-use Rattle.tj_words.specs.TaskLists.{hold}
-use Rattle.tj_words.specs.TreeWords.{AreCells}
+use Rattle.tj_words.specs.Calls.ChainSteps.{KnowsEntry, without_push}
+use Rattle.tj_words.specs.SeatViews.KnowsMore.{KnowsMore, HasSameHand, HasSameCounts}
+use Rattle.tj_words.specs.LawParts.RecordPhases.{WaitsFor}
+use Rattle.tj_words.specs.Calls.TakenRecords.{custody_of}
+use Rattle.tj_words.specs.SeatViews.TaskLists.{hold}
+use Rattle.tj_words.specs.LawParts.TreeWords.{AreCells}
 use Rattle.tj_park.specs.Records.{HasTaken}
 
 -- the push of t to the chain of q, and what was stored last into NEXT of t

@@ -7,13 +7,13 @@ use Rattle.tj_core.specs.Events.{MaySettle, raised_by_way}
 use Rattle.tj_words.specs.declared.record.Rec.{Rec}
 use Rattle.tj_words.specs.declared.view.About.{About}
 use Rattle.tj_words.specs.declared.view.View.{View}
-use Rattle.tj_words.specs.ChainSteps.{KnowsEntry}
-use Rattle.tj_words.specs.KnowsMore.{KnowsMore, HasSameWakes, HasSameHand, HasSameCounts}
-use Rattle.tj_words.specs.RecordPhases.{WaitsFor}
-use Rattle.tj_words.specs.TakenRecords.{custody_of}
-use Rattle.tj_words.specs.TaskLists.{hold, let_go}
-use Rattle.tj_words.specs.TreeWords.{AreCells}
-use Rattle.tj_words.specs.WaitViews.{HasWalker}
+use Rattle.tj_words.specs.Calls.ChainSteps.{KnowsEntry}
+use Rattle.tj_words.specs.SeatViews.KnowsMore.{KnowsMore, HasSameWakes, HasSameHand, HasSameCounts}
+use Rattle.tj_words.specs.LawParts.RecordPhases.{WaitsFor}
+use Rattle.tj_words.specs.Calls.TakenRecords.{custody_of}
+use Rattle.tj_words.specs.SeatViews.TaskLists.{hold, let_go}
+use Rattle.tj_words.specs.LawParts.TreeWords.{AreCells}
+use Rattle.tj_words.specs.Calls.WaitViews.{HasWalker}
 use Rattle.tj_park.specs.declared.parking.Parked.{Parked}
 use Rattle.tj_park.specs.declared.parking.Parked.TheVariants as parked
 use Rattle.tj_park.specs.Records.{MayLeaveHome, HasTaken, HasNothingToCome, AlarmsLeave}

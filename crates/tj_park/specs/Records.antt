@@ -6,14 +6,14 @@ use Rattle.tj_words.specs.declared.record.Rec.{Rec}
 use Rattle.tj_words.specs.declared.view.About.{About}
 use Rattle.tj_words.specs.declared.view.Custody.{Custody}
 use Rattle.tj_words.specs.declared.view.View.{View}
-use Rattle.tj_words.specs.Holding.{held_in}
-use Rattle.tj_words.specs.Lists.{All, AreApart, numbers}
-use Rattle.tj_words.specs.LiveCount.{HasAlarmed, Holds}
-use Rattle.tj_words.specs.LiveViews.{IfRecord, SlotsOf}
-use Rattle.tj_words.specs.NamedCells.{record_cells}
-use Rattle.tj_words.specs.PutRecords.{TellsPoint}
-use Rattle.tj_words.specs.TakenRecords.{IsKnownRecord, custody_of}
-use Rattle.tj_words.specs.TreeWords.{AreCells}
+use Rattle.tj_words.specs.LawParts.Holding.{held_in}
+use Rattle.tj_words.specs.Words.Lists.{All, AreApart, numbers}
+use Rattle.tj_words.specs.LawParts.LiveCount.{HasAlarmed, Holds}
+use Rattle.tj_words.specs.Calls.LiveViews.{IfRecord, SlotsOf}
+use Rattle.tj_words.specs.LawParts.NamedCells.{record_cells}
+use Rattle.tj_words.specs.Calls.PutRecords.{TellsPoint}
+use Rattle.tj_words.specs.Calls.TakenRecords.{IsKnownRecord, custody_of}
+use Rattle.tj_words.specs.LawParts.TreeWords.{AreCells}
 
 module _ {B : Type 0} where
   -- the record is that of task t, says what the seat has for the task, and names cells that the seat knows

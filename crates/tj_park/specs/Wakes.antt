@@ -6,11 +6,11 @@ use Rattle.tj_words.specs.declared.head.Head.{Head}
 use Rattle.tj_words.specs.declared.phase.Phase.{Phase}
 use Rattle.tj_words.specs.declared.phase.Phase.TheVariants as phase
 use Rattle.tj_words.specs.declared.view.View.{View}
-use Rattle.tj_words.specs.Lists.{cell, without}
-use Rattle.tj_words.specs.Chains.{head_of}
-use Rattle.tj_words.specs.ChainSteps.{KnowsEntry, rest_of}
-use Rattle.tj_words.specs.LiveCount.{IsBacked}
-use Rattle.tj_words.specs.SeatSteps.{SeatMe}
+use Rattle.tj_words.specs.Words.Lists.{cell, without}
+use Rattle.tj_words.specs.LawParts.Chains.{head_of}
+use Rattle.tj_words.specs.Calls.ChainSteps.{KnowsEntry, rest_of}
+use Rattle.tj_words.specs.LawParts.LiveCount.{IsBacked}
+use Rattle.tj_words.specs.SeatViews.SeatSteps.{SeatMe}
 use Rattle.tj_park.specs.Records.{AlarmsLeave, HasNoRecord}
 
 -- the tasks of a list joined a pool one after the other, each once

@@ -1,8 +1,8 @@
 //! A task whose cell has a value already goes on.
 ghost use Rattle.std.specs.Prelude.{◌≡◌, ◌∷◌, None};
 ghost use Rattle.tj_body.specs.Programs.{program_of};
-ghost use Rattle.tj_words.specs.ExchangeViews.{MayGoBack};
-ghost use Rattle.tj_words.specs.SeatSteps.{IsCellOf, IsSeatOf};
+ghost use Rattle.tj_words.specs.Calls.ExchangeViews.{MayGoBack};
+ghost use Rattle.tj_words.specs.SeatViews.SeatSteps.{IsCellOf, IsSeatOf};
 ghost use Rattle.tj_park.specs.JoinViews.{TakesBack};
 
 use tj_base::CellId;

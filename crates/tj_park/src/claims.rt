@@ -1,9 +1,9 @@
 //! A ready task is claimed.
 ghost use Rattle.std.specs.Prelude.{◌≡◌, ◌∷◌, IfSome, None};
 ghost use Rattle.tj_body.specs.Programs.{program_of};
-ghost use Rattle.tj_words.specs.ExchangeViews.{KnowsTable};
-ghost use Rattle.tj_words.specs.SeatSteps.{IsCellOf, IsSeatOf};
-ghost use Rattle.tj_words.specs.Views.{stepped_on};
+ghost use Rattle.tj_words.specs.Calls.ExchangeViews.{KnowsTable};
+ghost use Rattle.tj_words.specs.SeatViews.SeatSteps.{IsCellOf, IsSeatOf};
+ghost use Rattle.tj_words.specs.SeatViews.Views.{stepped_on};
 ghost use Rattle.tj_park.specs.ChildViews.{Claimed};
 
 use tj_base::CellId;

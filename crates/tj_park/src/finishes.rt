@@ -4,7 +4,7 @@
 ghost use Rattle.std.specs.Prelude.{◌≡◌, ◌≢◌, ◌≤◌, [], ◌∷◌, length, None, OnOk, Some};
 ghost use Rattle.atomic_table.specs.Table.{rest};
 ghost use Rattle.tj_body.specs.Programs.{program_of};
-ghost use Rattle.tj_words.specs.SeatSteps.{IsCellOf, IsSameSeat, IsSeatOf};
+ghost use Rattle.tj_words.specs.SeatViews.SeatSteps.{IsCellOf, IsSameSeat, IsSeatOf};
 ghost use Rattle.tj_park.specs.Breaks.{HasBroken, MayBreak};
 ghost use Rattle.tj_park.specs.Endings.{ClosesResult, HasFinished, MayCloseResult, MayFinish, ended_record};
 ghost use Rattle.tj_park.specs.Records.{HasNoRecord};

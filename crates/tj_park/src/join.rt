@@ -1,7 +1,7 @@
 //! A task that its seat has parked is added to the chain of those who wait for its cell.
 ghost use Rattle.std.specs.Prelude.{◌≡◌, ◌+◌, ◌≤◌, [], ◌∷◌};
-ghost use Rattle.tj_words.specs.ParkSteps.{new_push};
-ghost use Rattle.tj_words.specs.SeatSteps.{IsCellOf, IsSameSeat, IsSeatOf};
+ghost use Rattle.tj_words.specs.Calls.ParkSteps.{new_push};
+ghost use Rattle.tj_words.specs.SeatViews.SeatSteps.{IsCellOf, IsSameSeat, IsSeatOf};
 ghost use Rattle.tj_park.specs.JoinViews.{IsAdded, LooksOn, join_steps};
 
 use tj_base::CellId;

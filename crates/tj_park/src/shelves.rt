@@ -2,8 +2,8 @@
 ghost use Rattle.std.specs.Prelude.{◌≡◌};
 ghost use Rattle.atomic_table.specs.Table.{rest};
 ghost use Rattle.tj_body.specs.Programs.{program_of};
-ghost use Rattle.tj_words.specs.LiveViews.{HasSlot};
-ghost use Rattle.tj_words.specs.SeatSteps.{IsCellOf, IsSeatOf};
+ghost use Rattle.tj_words.specs.Calls.LiveViews.{HasSlot};
+ghost use Rattle.tj_words.specs.SeatViews.SeatSteps.{IsCellOf, IsSeatOf};
 ghost use Rattle.tj_park.specs.ChildViews.{MayShelve, shelved};
 
 use tj_base::CellId;

@@ -2,8 +2,8 @@
 //! seat as its rest; then the first of the rest becomes ready, until nobody is left. A token is taken
 //! before each task becomes ready, and spent by that, so that LIVE isn't 0 in between.
 ghost use Rattle.std.specs.Prelude.{◌≡◌, ◌≤◌, IfOk, OnErr};
-ghost use Rattle.tj_words.specs.SeatSteps.{IsSeatOf, IsCellOf, IsSameSeat};
-ghost use Rattle.tj_words.specs.Heads.{head_word};
+ghost use Rattle.tj_words.specs.SeatViews.SeatSteps.{IsSeatOf, IsCellOf, IsSameSeat};
+ghost use Rattle.tj_words.specs.Words.Heads.{head_word};
 ghost use Rattle.tj_park.specs.Wakes.{MayWake, MayWakeFirst, WakesAll, WakesFirst, WakesSome, counted_in, lowered_for};
 
 use std::alloc::Global;

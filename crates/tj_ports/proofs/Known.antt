@@ -19,7 +19,7 @@ Appends-more (Some xs) (Some ys) (Some zs) n m text p q =
     q ∙ ap (λ l. l ++ take m (drop n text)) p ∙ append_assoc xs (take n text) (take m (drop n text))
     ∙ ap (λ l. xs ++ l) (sym (take-add n m text))
 
--- the part that a call is given, the text from a place on
+-- the part that a call is given, the text from an index on
 pub Appends-rest : (a b c : Option (List ℕ)) (n m : ℕ) (text : List ℕ) → Appends a b (take n text)
     → Appends b c (take m (take (length text - n) (drop n text))) → Appends a c (take (n + m) text)
 Appends-rest a b c n m text p q = Appends-more a b c n m text p
@@ -59,7 +59,7 @@ Consumes-more (Some s) None c xs ys p q = absurd p
 Consumes-more (Some s) (Some t) None xs ys p q = absurd q
 Consumes-more (Some s) (Some t) (Some u) xs ys p q = p ∙ ap (λ l. xs ++ l) q ∙ sym (append_assoc xs ys u)
 
--- a part of the text from a place on isn't longer than that
+-- a part of the text from an index on isn't longer than that
 pub rest_bound : (n m : ℕ) (text : List ℕ) → m ≤ length (take (length text - n) (drop n text)) → m ≤ length text - n
 rest_bound n m text le = subst (λ k. m ≤ k) (ap length (take_rest text n) ∙ length-drop n text) le
 

@@ -11,7 +11,7 @@ use Rattle.tj_report.specs.ClosedOutcomes.{AreCyclesOfOutcomeAlarmed}
 use Rattle.tj_ports.specs.Faults.{HasFault}
 use Rattle.tj_ports.specs.Putting.{GrowsByPart}
 use Rattle.tj_run.specs.Runs.{RestsAt}
-use Rattle.tj_words.specs.RestShown.{RestShown}
+use Rattle.tj_words.specs.AtRest.RestShown.{RestShown}
 use Rattle.tj_words.specs.declared.closed.RestCell.{RestCell}
 use Rattle.tj_program.specs.ClosedRuns.{HasOutcome, HaveWorkers, IsClosedRun, IsClosedRunOf, IsCommandClosed}
 use Rattle.tj_program.specs.ClosedRuns.{IsRunClosed, has_workers}

@@ -4,8 +4,8 @@ use Rattle.tj_base.specs.declared.memory.Oom.{Oom}
 use Rattle.tj_body.specs.Programs.{Program}
 use Rattle.tj_mean.specs.Acts.{AreActsOf, meant_lines}
 use Rattle.tj_mean.specs.declared.act.ActLine.{ActLine}
-use Rattle.tj_mean.proofs.NameOrder.{in_permuted, in_unpermuted}
-use Rattle.tj_mean.proofs.OneOutcome.{same_in_order}
+use Rattle.tj_mean.proofs.Lists.NameOrder.{in_permuted, in_unpermuted}
+use Rattle.tj_mean.proofs.Outcomes.OneOutcome.{same_in_order}
 use Rattle.tj_known.specs.KnownLines.{AreTold, IsTold, Join, joins_in}
 use Rattle.tj_known.specs.KnownTexts.{known_text}
 use Rattle.tj_known.specs.declared.known.How.{How}

@@ -6,9 +6,9 @@ use Rattle.tj_body.specs.declared.point.Point.{Point}
 use Rattle.tj_chan.specs.ChannelOutcomes.{IsChatOutcome}
 use Rattle.tj_chan.specs.ChannelRounds.{chat_meaning}
 use Rattle.tj_core.specs.declared.event.Event.{Event}
-use Rattle.tj_core.specs.Journal as journal
-use Rattle.tj_core.specs.Journal.{lines_of}
-use Rattle.tj_core.specs.JournalLaws.{EventsAreOne, FirstFaultIsOne, EventsHaveNoFault, JudgingIsOne}
+use Rattle.tj_core.specs.Journals.Lines as journal
+use Rattle.tj_core.specs.Journals.Lines.{lines_of}
+use Rattle.tj_core.specs.Journals.Laws.{EventsAreOne, FirstFaultIsOne, EventsHaveNoFault, JudgingIsOne}
 use Rattle.tj_eval.specs.Statements.{TaskState, task_of}
 use Rattle.tj_gen.specs.Script.{script_text}
 use Rattle.tj_lex.specs.declared.token.Tok.{Tok}
@@ -16,7 +16,7 @@ use Rattle.tj_lex.specs.declared.token.Token.{Token}
 use Rattle.tj_lex.specs.declared.token.LexFault.{LexFault}
 use Rattle.tj_lex.specs.Tokens as tokens
 use Rattle.tj_lex.specs.Tokens.{Answers, AreTokens}
-use Rattle.tj_core.specs.Judging.{IsJudged}
+use Rattle.tj_core.specs.Journals.Judging.{IsJudged}
 use Rattle.tj_mean.specs.declared.outcome.Outcome.{Outcome}
 use Rattle.tj_mean.specs.Outcomes.{is_marked}
 use Rattle.tj_mean.specs.OutcomeLaws.{HasOneOutcome}

@@ -4,7 +4,7 @@ use Rattle.tj_lex.specs.declared.place.Place.{Place}
 use Rattle.tj_lex.specs.declared.token.Token.{Token}
 use Rattle.tj_lex.specs.declared.token.LexFault.{LexFault}
 use Rattle.tj_lex.specs.declared.token.LexFault.TheVariants as lex
-use Rattle.tj_lex.specs.Places.{place_after}
+use Rattle.tj_lex.specs.Positions.{position_after}
 use Rattle.tj_lex.specs.Tokens as tokens
 use Rattle.tj_lex.specs.Tokens.{AreTokens}
 use Rattle.tj_mean.specs.declared.outcome.Outcome.{Outcome}
@@ -82,16 +82,16 @@ grammar_refused text found fault only (inr none) = inr (λ script is.
     none script (subst (λ l. IsScript (kinds_of l) script) (sym (only is.tokens is.has_tokens)) is.is_script))
 
 -- the fault of a text that is too long, of which these are the first bytes
-pub long_first : (at : Place) (text bytes : List ℕ) → at ≡ place_after bytes → bytes ≡ take most_bytes text
+pub long_first : (at : Place) (text bytes : List ℕ) → at ≡ position_after bytes → bytes ≡ take most_bytes text
     → most_bytes < length text → IsFirstFault text (Long at)
-long_first at text bytes place first long =
-    subst (λ p. IsFirstFault text (Long p)) (sym (place ∙ ap place_after first)) (too_long long)
+long_first at text bytes position first long =
+    subst (λ p. IsFirstFault text (Long p)) (sym (position ∙ ap position_after first)) (too_long long)
 
 -- the same of a journal that is too long
-pub long_fault : (at : Place) (journal bytes : List ℕ) → at ≡ place_after bytes → bytes ≡ take most_bytes journal
+pub long_fault : (at : Place) (journal bytes : List ℕ) → at ≡ position_after bytes → bytes ≡ take most_bytes journal
     → most_bytes < length journal → IsJournalFault journal at.line
-long_fault at journal bytes place first long =
-    subst (λ p. IsJournalFault journal p.line) (sym (place ∙ ap place_after first)) (journal_too_long long)
+long_fault at journal bytes position first long =
+    subst (λ p. IsJournalFault journal p.line) (sym (position ∙ ap position_after first)) (journal_too_long long)
 
 -- the line of a journal's fault is what judging it gives
 pub IsJudging-fault : (cells line : ℕ) (journal text : List ℕ) → IsJournalFault journal line

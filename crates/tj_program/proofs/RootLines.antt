@@ -26,11 +26,11 @@ use Rattle.tj_mean.specs.declared.outcome.Ending.TheVariants as ending
 use Rattle.tj_mean.specs.declared.outcome.Outcome.{Outcome}
 use Rattle.tj_mean.specs.declared.outcome.TaskLine.{TaskLine}
 use Rattle.tj_mean.specs.declared.stopped.Stopped.{Stopped}
-use Rattle.tj_mean.proofs.Elements.{some_is}
-use Rattle.tj_mean.proofs.NameOrder.{in_unpermuted, order}
-use Rattle.tj_mean.proofs.ToldOutcomes.{of_told, told_name}
-use Rattle.tj_words.specs.RestMeaning.{AreRecordsOf, AreWordsOf, HaveMeaning, TellsHistory}
-use Rattle.tj_words.specs.Telling.{TellsStage}
+use Rattle.tj_mean.proofs.Lists.Elements.{some_is}
+use Rattle.tj_mean.proofs.Lists.NameOrder.{in_unpermuted, order}
+use Rattle.tj_mean.proofs.Outcomes.ToldOutcomes.{of_told, told_name}
+use Rattle.tj_words.specs.AtRest.RestMeaning.{AreRecordsOf, AreWordsOf, HaveMeaning, TellsHistory}
+use Rattle.tj_words.specs.LawParts.Telling.{TellsStage}
 use Rattle.tj_words.specs.declared.closed.RestCell.{RestCell}
 use Rattle.tj_words.specs.declared.record.Fill.TheVariants as fill
 use Rattle.tj_words.specs.declared.record.Finish.{Finish}

@@ -5,8 +5,8 @@ use Rattle.std.specs.declared.alloc.Global.{Global}
 use Rattle.tj_mean.specs.declared.outcome.Outcome.{Outcome}
 use Rattle.tj_mean.specs.Outcomes.{is_marked}
 use Rattle.tj_report.specs.ClosedOutcomes.{AreCyclesOfOutcomeAlarmed}
-use Rattle.tj_words.specs.ClosedCells.{AreAtRest, AreCyclesAlarmed, AreAlarmsOnCycles}
-use Rattle.tj_words.specs.RestMeaning.{HaveWords}
+use Rattle.tj_words.specs.AtRest.ClosedCells.{AreAtRest, AreCyclesAlarmed, AreAlarmsOnCycles}
+use Rattle.tj_words.specs.AtRest.RestMeaning.{HaveWords}
 use Rattle.tj_words.specs.declared.closed.RestCell.{RestCell}
 use Rattle.tj_program.specs.CommandLine.{IsCommand}
 use Rattle.tj_program.specs.Output.{IsStart}

@@ -1,9 +1,9 @@
 -- What judging a journal gives: the line of its fault, or what the rules make of its events.
 use Rattle.std.specs.Prelude.{ℕ, ◌≡◌, ◌<◌, ◌≤◌, ◌⊎◌, Bool, List, length, take}
 use Rattle.tj_core.specs.declared.event.Event.{Event}
-use Rattle.tj_core.specs.Journal.{lines_of, AreEventLines, IsFirstFault}
-use Rattle.tj_core.specs.Judging.{IsJudged}
-use Rattle.tj_lex.specs.Places.{place_after}
+use Rattle.tj_core.specs.Journals.Lines.{lines_of, AreEventLines, IsFirstFault}
+use Rattle.tj_core.specs.Journals.Judging.{IsJudged}
+use Rattle.tj_lex.specs.Positions.{position_after}
 use Rattle.tj_program.specs.Runs.{status_of}
 use Rattle.tj_program.specs.ScriptTexts.{most_bytes}
 use Rattle.tj_program.specs.Texts.{journal_fault}
@@ -12,7 +12,7 @@ use Rattle.tj_program.specs.declared.status.Status.TheVariants.{Script}
 
 -- the line of a journal's fault: where its first byte too many stands, or else the first that isn't one of an event
 pub data IsJournalFault (journal : List ℕ) : ℕ → Type 0 where
-  too_long : most_bytes < length journal → IsJournalFault journal (place_after (take most_bytes journal)).line
+  too_long : most_bytes < length journal → IsJournalFault journal (position_after (take most_bytes journal)).line
   bad_line : (line : ℕ) → length journal ≤ most_bytes → IsFirstFault (lines_of journal) line
       → IsJournalFault journal line
 

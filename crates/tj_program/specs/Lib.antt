@@ -12,5 +12,5 @@ pub mod Inner
 pub mod ClosedRuns
 pub mod KnownRuns
 pub mod RootLines
-pub mod ShyAsks
+pub mod TestBodies
 pub mod RelayRuns

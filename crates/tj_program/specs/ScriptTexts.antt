@@ -5,7 +5,7 @@ use Rattle.tj_lex.specs.declared.token.Tok.{Tok}
 use Rattle.tj_lex.specs.declared.token.Token.{Token}
 use Rattle.tj_lex.specs.declared.token.LexFault.{LexFault}
 use Rattle.tj_lex.specs.declared.token.LexFault.TheVariants as lex
-use Rattle.tj_lex.specs.Places.{place_after}
+use Rattle.tj_lex.specs.Positions.{position_after}
 use Rattle.tj_lex.specs.Tokens as tokens
 use Rattle.tj_lex.specs.Tokens.{AreTokens}
 use Rattle.tj_syntax.specs.declared.fault.ParseFault.{ParseFault}
@@ -54,7 +54,7 @@ grammar_fault parse.Oom = []
 -- what is wrong first with a text that is no script: its first byte too many, or else the first fault of the tokens, or
 -- else that of the grammar
 pub data IsFirstFault (text : List ℕ) : NoScript → Type 0 where
-  too_long : most_bytes < length text → IsFirstFault text (Long (place_after (take most_bytes text)))
+  too_long : most_bytes < length text → IsFirstFault text (Long (position_after (take most_bytes text)))
   in_tokens : (fault : LexFault) → length text ≤ most_bytes → tokens.IsFirstFault text fault
       → IsFirstFault text (Tokens fault)
   in_grammar : (found : List Token) (fault : ParseFault) → length text ≤ most_bytes → AreTokens text found

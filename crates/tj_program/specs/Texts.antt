@@ -7,7 +7,7 @@ abbrev pub usage_line : List ℕ
 usage_line =
     codes "usage: tj run|plan|list|judge|gen|known|relay|watch [--workers N] [--cells N] [--steps N] [--size N] [--strict]\n"
 
--- the fault of a script that has this letter and number, at this place
+-- the fault of a script that has this letter and number, at this position
 abbrev pub script_fault : List ℕ → Place → List ℕ
 script_fault mark at =
     codes "script fault " ++ mark ++ codes " at " ++ decimal at.line ++ codes ":" ++ decimal at.column ++ codes "\n"

@@ -7,7 +7,7 @@ ghost use Rattle.tj_program.specs.Judgings.{IsJudging};
 
 use crate::fault_lines::journal_fault;
 use crate::output::{Output, status_of};
-use crate::places::place_behind;
+use crate::positions::position_behind;
 use crate::status::Status;
 use std::alloc::Global;
 use tj_base::Oom;
@@ -25,7 +25,7 @@ pub fn judging_of(alloc: Global, journal: &ReadEnd, cells: u32) -> Result<Output
         ReadEnd::Whole(bytes) => judged(alloc, bytes.items(), cells),
         ReadEnd::Long(bytes) => Ok(Output {
             status: Status::Script,
-            text: journal_fault(alloc, place_behind(bytes.items()).line)?,
+            text: journal_fault(alloc, position_behind(bytes.items()).line)?,
         }),
     }
 }

@@ -21,7 +21,7 @@ mod mode_outputs;
 #[cfg(test)]
 mod mode_tests;
 mod output;
-mod places;
+mod positions;
 mod relay_run;
 #[cfg(test)]
 mod relay_tests;

@@ -6,7 +6,7 @@ ghost use Rattle.tj_program.specs.ScriptTexts.{most_bytes, IsFirstFault, IsMemor
 ghost use Rattle.tj_syntax.specs.Trees.{Task};
 ghost use Rattle.tj_syntax.specs.View as view;
 
-use crate::places::place_behind;
+use crate::positions::position_behind;
 use std::alloc::Global;
 use tj_lex::{LexFault, Place, tokens};
 use tj_ports::ReadEnd;
@@ -15,7 +15,7 @@ use tj_syntax::{ParseFault, Script, parse};
 /// Why bytes give no script. Want of memory is one of the tokens' faults and of the grammar's.
 #[derive(Clone, Copy, Debug)]
 pub enum NoScript {
-    /// They are too many: the place of the first byte too many.
+    /// They are too many: the position of the first byte too many.
     Long(Place),
     /// Their tokens have a fault.
     Tokens(LexFault),
@@ -34,7 +34,7 @@ pub fn script_of(alloc: Global, input: &ReadEnd) -> Result<Script, NoScript>
 {
     match input {
         ReadEnd::Whole(text) => script_in(alloc, text.items()),
-        ReadEnd::Long(text) => Err(NoScript::Long(place_behind(text.items()))),
+        ReadEnd::Long(text) => Err(NoScript::Long(position_behind(text.items()))),
     }
 }
 

@@ -2,7 +2,7 @@
 //! run over them has no memory, or the outcome that it has with ample memory.
 ghost use Rattle.std.specs.Prelude.{◌≡◌, ◌<◌, length, IfOk, IsTrue};
 ghost use Rattle.tj_body.specs.Table.{is_table};
-ghost use Rattle.tj_program.specs.ShyAsks as shy;
+ghost use Rattle.tj_program.specs.TestBodies.ShyAsks as shy;
 
 use crate::script_run::Told;
 use crate::script_text::script_in;
@@ -70,7 +70,7 @@ struct ShyBody<B> {
 impl<B: Body> Body for ShyBody<B> {
     ghost use Rattle.std.specs.Prelude.{◌-◌};
     ghost use Rattle.std.proofs.Common.{refl};
-    ghost use Rattle.tj_program.specs.ShyAsks.{ask_of, obeys_of};
+    ghost use Rattle.tj_program.specs.TestBodies.ShyAsks.{ask_of, obeys_of};
 
     ghost places = { λ b. B.places b.body };
 

@@ -1,7 +1,7 @@
 //! How a call of the program ended.
 ghost use Rattle.std.specs.Prelude.{◌≡◌};
 
-/// What the program answers. The exit status is the place in this list, from 0.
+/// What the program answers. The exit status is the index in this list, from 0.
 #[derive(Clone, Copy, Debug, PartialEq, Eq)]
 pub enum Status {
     /// All is well.

@@ -1,7 +1,7 @@
-pub mod BoundedLaws
 pub mod Ends
 pub mod Meetings
 pub mod Queues
 pub mod Rules
 pub mod Stealing
 pub mod Victims
+pub mod Inner

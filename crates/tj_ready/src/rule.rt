@@ -56,7 +56,7 @@ impl QueueRule<u32> for Bounded {
 impl PoolRule<u32> for Bounded {
     ghost use Rattle.std.specs.Prelude.{◌≡◌, ⊤, All};
     ghost use Rattle.tj_ready.specs.Queues.{IsBelow};
-    ghost use Rattle.tj_ready.specs.BoundedLaws.{kept};
+    ghost use Rattle.tj_ready.specs.Inner.BoundedLaws.{kept};
 
     ghost own = { λ n. n };
 

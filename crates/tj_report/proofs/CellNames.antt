@@ -5,12 +5,12 @@ use Rattle.tj_base.specs.ForkOrder.{Name, child}
 use Rattle.tj_body.specs.History.{to_task}
 use Rattle.tj_body.specs.Points.{Begins}
 use Rattle.tj_body.specs.declared.point.Reference.{Reference}
-use Rattle.tj_words.specs.ClosedCells.{IsShown, AreNamed}
-use Rattle.tj_words.specs.RestMeaning.{names}
-use Rattle.tj_words.specs.TreeWords.{IsCell}
+use Rattle.tj_words.specs.AtRest.ClosedCells.{IsShown, AreNamed}
+use Rattle.tj_words.specs.AtRest.RestMeaning.{names}
+use Rattle.tj_words.specs.LawParts.TreeWords.{IsCell}
 use Rattle.tj_words.specs.declared.closed.RestCell.{RestCell}
 use Rattle.tj_report.specs.Inner.CellNames.{next_name}
-use Rattle.tj_report.proofs.CellPlaces.{there, within, name_there}
+use Rattle.tj_report.proofs.CellIndexes.{there, within, name_there}
 
 at_end : (ns rest : List Name) → get_or (ns ++ rest) (length ns) [] ≡ get_or rest 0 []
 at_end [] rest = refl

@@ -14,10 +14,10 @@ use Rattle.tj_mean.specs.Outcomes.{AreApart, IsOutcome, IsOutcomeOf, Waits, Owns
 use Rattle.tj_mean.specs.declared.outcome.Link.{Link}
 use Rattle.tj_mean.specs.declared.outcome.Outcome.{Outcome}
 use Rattle.tj_mean.specs.declared.stopped.Stopped.{Stopped}
-use Rattle.tj_mean.proofs.NameOrder.{in_permuted}
-use Rattle.tj_mean.proofs.ToldOutcomes.{apart_in_order, told_in_order, any_order, meaning_apart}
-use Rattle.tj_mean.proofs.ToldOutcomes.{told_of, told_name, told_owned, told_waits}
-use Rattle.tj_words.specs.RestMeaning.{AreWordsOf, AreCyclesOfMeaningAlarmed}
+use Rattle.tj_mean.proofs.Lists.NameOrder.{in_permuted}
+use Rattle.tj_mean.proofs.Outcomes.ToldOutcomes.{apart_in_order, told_in_order, any_order, meaning_apart}
+use Rattle.tj_mean.proofs.Outcomes.ToldOutcomes.{told_of, told_name, told_owned, told_waits}
+use Rattle.tj_words.specs.AtRest.RestMeaning.{AreWordsOf, AreCyclesOfMeaningAlarmed}
 use Rattle.tj_words.specs.declared.closed.RestCell.{RestCell}
 use Rattle.tj_report.specs.ClosedOutcomes.{AreCyclesOfOutcomeAlarmed}
 use Rattle.tj_mean.specs.Inner.ToldOrder.{AreToldInSomeOrder}

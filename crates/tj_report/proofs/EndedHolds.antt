@@ -7,7 +7,7 @@ use Rattle.tj_body.specs.History.{after_read, after_look, after_stage, point_aft
 use Rattle.tj_body.specs.Points.{IsIn}
 use Rattle.tj_body.specs.Programs.{Rules, Program}
 use Rattle.tj_body.specs.Rounds.{given, tasks, last_round, meaning}
-use Rattle.tj_body.specs.Turns.{IsTurn, fails, ends, makes, forks, sets, gets, joins, prints}
+use Rattle.tj_body.specs.Inner.AskSteps.{IsAskStep, fails, ends, makes, forks, sets, gets, joins, prints}
 use Rattle.tj_body.specs.declared.ask.Ask.{Ask}
 use Rattle.tj_body.specs.declared.point.Entry.{Entry}
 use Rattle.tj_body.specs.declared.point.Entry.TheVariants as entry
@@ -17,7 +17,7 @@ use Rattle.tj_body.specs.declared.point.PointStage.TheVariants as stage
 use Rattle.tj_body.specs.declared.point.Task.{Task}
 use Rattle.tj_body.specs.declared.point.Value.TheVariants as value
 use Rattle.tj_body.proofs.Lists.{in_map}
-use Rattle.tj_body.proofs.Turns.{is_turn}
+use Rattle.tj_body.proofs.Histories.AskSteps.{is_ask_step}
 
 -- nothing is held in a stage that is the end
 abbrev HoldsIn : PointStage → List Name → Type 0
@@ -34,15 +34,15 @@ module _ {B : Type 0} where
   abbrev Holds : Point B → Type 0
   Holds p = HoldsIn p.stage p.holds
 
-  turned : (strict : Bool) (p : Point B) (a : Ask B) (p' : Point B) → IsTurn strict p a p' → Holds p'
-  turned strict p _ _ (fails ask c) = refl
-  turned strict p _ _ (ends v) = refl
-  turned strict p _ _ makes = tt
-  turned strict p _ _ (forks b pass hand left e) = tt
-  turned strict p _ _ (sets k v s h) = tt
-  turned strict p _ _ (gets spare k s) = tt
-  turned strict p _ _ (joins spare k s h) = tt
-  turned strict p _ _ (prints i) = tt
+  ask_steps : (strict : Bool) (p : Point B) (a : Ask B) (p' : Point B) → IsAskStep strict p a p' → Holds p'
+  ask_steps strict p _ _ (fails ask c) = refl
+  ask_steps strict p _ _ (ends v) = refl
+  ask_steps strict p _ _ makes = tt
+  ask_steps strict p _ _ (forks b pass hand left e) = tt
+  ask_steps strict p _ _ (sets k v s h) = tt
+  ask_steps strict p _ _ (gets spare k s) = tt
+  ask_steps strict p _ _ (joins spare k s h) = tt
+  ask_steps strict p _ _ (prints i) = tt
 
   read : (spare : Bool) (q : Name) (e : Entry) (p : Point B) → Holds (after_read spare q e p)
   read true q entry.Broken p = tt
@@ -58,7 +58,7 @@ module _ {B : Type 0} where
     stepped : (s : PointStage) (p : Point B) → Holds p → Holds (after_stage rules V s p)
     stepped (stage.Answered a) p h =
         let next : Point B = record p { body = rules.then p.body a } in
-        turned rules.strict next (rules.asks p.body a) _ (is_turn rules.strict next (rules.asks p.body a))
+        ask_steps rules.strict next (rules.asks p.body a) _ (is_ask_step rules.strict next (rules.asks p.body a))
     stepped (stage.Waits q spare) p h = looked spare q (V q) p h
     stepped (stage.Closed e) p h = h
 

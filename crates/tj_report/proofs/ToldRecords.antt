@@ -22,8 +22,9 @@ use Rattle.tj_mean.specs.Outcomes.{shown_of, ending_of, stopped_of}
 use Rattle.tj_mean.specs.declared.outcome.Ending.{Ending}
 use Rattle.tj_mean.specs.declared.outcome.Ending.TheVariants as ending
 use Rattle.tj_mean.specs.declared.stopped.Stopped.{Stopped}
-use Rattle.tj_words.specs.RestMeaning.{names}
-use Rattle.tj_words.specs.Telling.{ArePairs, HasName, HeldSays, FillSays, HurtSays, FinishSays, Tells, TellsStage}
+use Rattle.tj_words.specs.AtRest.RestMeaning.{names}
+use Rattle.tj_words.specs.LawParts.Telling.{ArePairs, HasName, HeldSays, FillSays, HurtSays, FinishSays, Tells}
+use Rattle.tj_words.specs.LawParts.Telling.{TellsStage}
 use Rattle.tj_words.specs.declared.record.Fill.{Fill}
 use Rattle.tj_words.specs.declared.record.Fill.TheVariants as fill
 use Rattle.tj_words.specs.declared.record.Hurt.{Hurt}
@@ -32,7 +33,7 @@ use Rattle.tj_words.specs.declared.record.Finish.{Finish}
 use Rattle.tj_words.specs.declared.record.Finish.TheVariants as finish
 use Rattle.tj_words.specs.declared.record.Held.{Held}
 use Rattle.tj_words.specs.declared.record.Rec.{Rec}
-use Rattle.tj_report.proofs.CellPlaces.{name_there}
+use Rattle.tj_report.proofs.CellIndexes.{name_there}
 use Rattle.tj_report.specs.Inner.CellNames.{IsBelow, name_in}
 use Rattle.tj_report.specs.Inner.ToldRecords.{shown_by, cause_by, finished_by, ending_by, told_by}
 use Rattle.tj_report.specs.Inner.ToldRecords.{IsFillBelow, IsHurtBelow, IsFinishBelow, IsEndBelow, IsRecordBelow}

@@ -16,18 +16,18 @@ use Rattle.tj_body.proofs.Counts.{is}
 use Rattle.tj_body.proofs.Lists.{in_left, in_right, in_either, in_map}
 use Rattle.tj_mean.specs.Outcomes.{AreTold, ending_of, stopped_of}
 use Rattle.tj_mean.specs.declared.stopped.Stopped.{Stopped}
-use Rattle.tj_mean.proofs.Elements.{some_is}
+use Rattle.tj_mean.proofs.Lists.Elements.{some_is}
 use Rattle.tj_mean.proofs.MeaningNames.{meaning_distinct}
-use Rattle.tj_words.specs.RestMeaning.{names, IsPhaseAt, TellsHistory, AreWordsOf, AreRecordsOf}
-use Rattle.tj_words.specs.TreeWords.{IsCell}
+use Rattle.tj_words.specs.AtRest.RestMeaning.{names, IsPhaseAt, TellsHistory, AreWordsOf, AreRecordsOf}
+use Rattle.tj_words.specs.LawParts.TreeWords.{IsCell}
 use Rattle.tj_words.specs.declared.closed.RestCell.{RestCell}
 use Rattle.tj_words.specs.declared.phase.Phase.{Phase}
 use Rattle.tj_words.specs.declared.record.Rec.{Rec}
 use Rattle.tj_mean.specs.Inner.ToldOrder.{AreToldInSomeOrder}
 use Rattle.tj_report.specs.Inner.ToldRecords.{IsRecordBelow, told_by}
-use Rattle.tj_report.proofs.CellPlaces.{name_of, within, cells_apart, elem_of_get, get_of_elem}
+use Rattle.tj_report.proofs.CellIndexes.{name_of, within, cells_apart, elem_of_get, get_of_elem}
 use Rattle.tj_report.proofs.EndedHolds.{meant_holds}
-use Rattle.tj_mean.proofs.KeyedLists.{one_of_key, same_permuted, distinct_more}
+use Rattle.tj_mean.proofs.Lists.KeyedLists.{one_of_key, same_permuted, distinct_more}
 use Rattle.tj_report.proofs.ToldRecords.{record_told}
 
 map_append : {A C : Type 0} (f : A → C) (xs ys : List A) → map f (xs ++ ys) ≡ map f xs ++ map f ys

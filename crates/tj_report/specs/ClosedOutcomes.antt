@@ -5,8 +5,8 @@ use Rattle.tj_body.specs.Points.{IsIn}
 use Rattle.tj_body.specs.declared.point.Reference.{Reference}
 use Rattle.tj_mean.specs.declared.outcome.Link.{Link}
 use Rattle.tj_mean.specs.declared.outcome.Outcome.{Outcome}
-use Rattle.tj_words.specs.ClosedCells.{AreNamed, HasAlarmed}
-use Rattle.tj_words.specs.TreeWords.{IsCell}
+use Rattle.tj_words.specs.AtRest.ClosedCells.{AreNamed, HasAlarmed}
+use Rattle.tj_words.specs.LawParts.TreeWords.{IsCell}
 use Rattle.tj_words.specs.declared.closed.RestCell.{RestCell}
 
 module _ (shown : List RestCell) where

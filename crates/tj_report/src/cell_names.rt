@@ -5,7 +5,7 @@ ghost use Rattle.std.specs.List.{AllByRecursion};
 ghost use Rattle.tj_body.specs.Names.{in_order};
 ghost use Rattle.tj_body.specs.declared.point.Reference.{Reference};
 ghost use Rattle.tj_report.specs.Inner.CellNames.{AreNames, IsBelow, name_in, next_name};
-ghost use Rattle.tj_words.specs.ClosedCells.{AreNamed};
+ghost use Rattle.tj_words.specs.AtRest.ClosedCells.{AreNamed};
 
 use std::alloc::Global;
 use tj_base::{CellId, Items, Name, NameList, Oom, name_cmp};

@@ -7,7 +7,7 @@ ghost use Rattle.tj_mean.specs.Outcomes.{IsOutcome};
 ghost use Rattle.tj_report.specs.ClosedOutcomes.{AreCyclesOfOutcomeAlarmed};
 ghost use Rattle.tj_report.specs.Inner.CellNames.{AreNames};
 ghost use Rattle.tj_mean.specs.Inner.ToldOrder.{AreToldInSomeOrder};
-ghost use Rattle.tj_words.specs.RestMeaning.{AreCyclesOfMeaningAlarmed, HaveMeaning};
+ghost use Rattle.tj_words.specs.AtRest.RestMeaning.{AreCyclesOfMeaningAlarmed, HaveMeaning};
 
 use crate::cell_names::names_of;
 use crate::told_records::told_by;

@@ -1,9 +1,5 @@
-pub mod Carried
-pub mod Going
-pub mod Pieces
-pub mod Children
-pub mod Answers
-pub mod Waits
-pub mod Turns
+pub mod Workers
+pub mod Leaving
 pub mod Runs
-pub mod MeetingAsks
+pub mod Inner
+pub mod TestBodies

@@ -2,10 +2,10 @@
 use Rattle.std.specs.Prelude.{◌≡◌, ℕ, ◌+◌, ◌*◌, ◌<◌, ◌≤◌, Bool, List, length}
 use Rattle.tj_body.specs.Programs.{Program}
 use Rattle.tj_words.specs.declared.view.View.{View}
-use Rattle.tj_words.specs.Lots.{least_lot}
-use Rattle.tj_words.specs.ClosedCells.{AreAtRest, AreCyclesAlarmed, AreAlarmsOnCycles}
-use Rattle.tj_words.specs.RestMeaning.{HaveMeaning, AreCyclesOfMeaningAlarmed}
-use Rattle.tj_words.specs.RestShown.{RestShown}
+use Rattle.tj_words.specs.LawParts.Lots.{least_lot}
+use Rattle.tj_words.specs.AtRest.ClosedCells.{AreAtRest, AreCyclesAlarmed, AreAlarmsOnCycles}
+use Rattle.tj_words.specs.AtRest.RestMeaning.{HaveMeaning, AreCyclesOfMeaningAlarmed}
+use Rattle.tj_words.specs.AtRest.RestShown.{RestShown}
 
 module _ {B : Type 0} where
   -- there are so many workers, one at least and 64 at most, and the seat's lot can be split among them

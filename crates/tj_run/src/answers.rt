@@ -2,11 +2,12 @@
 ghost use Rattle.std.specs.Prelude.{◌≡◌, ◌+◌, ◌<◌, ◌^◌, IfErr, IfOk, None, length};
 ghost use Rattle.tj_body.specs.Programs.{program_of};
 ghost use Rattle.tj_words.specs.Law.{IsRooted};
-ghost use Rattle.tj_words.specs.SeatSteps.{IsSeatOf};
-ghost use Rattle.tj_words.specs.TakenRecords.{IsKnownRecord};
-ghost use Rattle.tj_run.specs.Carried.{IsWaiting, RunsTask, table_program};
-ghost use Rattle.tj_run.specs.Answers.{next_broken, with_lost, with_reference};
-ghost use Rattle.tj_run.specs.Going.{Goes, HasAnswer, IsCauseOfWait, Lacks};
+ghost use Rattle.tj_words.specs.SeatViews.SeatSteps.{IsSeatOf};
+ghost use Rattle.tj_words.specs.Calls.TakenRecords.{IsKnownRecord};
+ghost use Rattle.tj_run.specs.Workers.{table_program};
+ghost use Rattle.tj_run.specs.Inner.Carried.{IsWaiting, RunsTask};
+ghost use Rattle.tj_run.specs.Inner.Answers.{next_broken, with_lost, with_reference};
+ghost use Rattle.tj_run.specs.Inner.Going.{Goes, HasAnswer, IsCauseOfWait, Lacks};
 
 use crate::next::Next;
 use crate::why::Why;

@@ -8,10 +8,10 @@ ghost use Rattle.tj_body.specs.Asks.{IsFresh};
 ghost use Rattle.tj_body.specs.Programs.{program_of};
 ghost use Rattle.tj_body.specs.Rounds.{IsFull};
 ghost use Rattle.tj_words.specs.Law.{IsRooted};
-ghost use Rattle.tj_words.specs.SeatSteps.{IsSeatOf};
-ghost use Rattle.tj_words.specs.Views.{IsIdle, both};
-ghost use Rattle.tj_run.specs.Carried.{IsFree, table_program};
-ghost use Rattle.tj_run.specs.Going.{Leaves};
+ghost use Rattle.tj_words.specs.SeatViews.SeatSteps.{IsSeatOf};
+ghost use Rattle.tj_words.specs.SeatViews.Views.{IsIdle, both};
+ghost use Rattle.tj_run.specs.Workers.{IsFree, table_program};
+ghost use Rattle.tj_run.specs.Leaving.{Leaves};
 ghost use Rattle.tj_run.specs.Runs.{HasLots, RestsAt};
 
 use crate::turns::worker;

@@ -3,11 +3,12 @@
 ghost use Rattle.std.specs.Prelude.{◌≡◌, ◌+◌, ◌<◌, ◌^◌, IfErr, IfOk, OnOk, length};
 ghost use Rattle.tj_body.specs.Programs.{program_of};
 ghost use Rattle.tj_body.specs.declared.ask.Ask.TheVariants as ask;
-ghost use Rattle.tj_words.specs.SeatSteps.{IsCellOf, IsSameSeat, IsSeatOf};
-ghost use Rattle.tj_words.specs.Lists.{All};
-ghost use Rattle.tj_run.specs.Carried.{IsAsked, RunsTask, table_program};
-ghost use Rattle.tj_run.specs.Children.{MayGiveEach, gave_each, with_child};
-ghost use Rattle.tj_run.specs.Going.{Goes, Lacks};
+ghost use Rattle.tj_words.specs.SeatViews.SeatSteps.{IsCellOf, IsSameSeat, IsSeatOf};
+ghost use Rattle.tj_words.specs.Words.Lists.{All};
+ghost use Rattle.tj_run.specs.Workers.{table_program};
+ghost use Rattle.tj_run.specs.Inner.Carried.{IsAsked, RunsTask};
+ghost use Rattle.tj_run.specs.Inner.Children.{MayGiveEach, gave_each, with_child};
+ghost use Rattle.tj_run.specs.Inner.Going.{Goes, Lacks};
 
 use crate::next::Next;
 use crate::pieces::{cells_of, child_record, hand_all, held_at};

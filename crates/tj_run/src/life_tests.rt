@@ -3,13 +3,14 @@
 ghost use Rattle.std.specs.Prelude.{◌≡◌, ◌<◌, ◌≤◌, [], ◌∷◌, length, IfOk, IsTrue, OnOk};
 ghost use Rattle.tj_body.specs.Programs.{program_of};
 ghost use Rattle.tj_body.specs.Table.{is_table, table_asks, table_awaits, table_left, table_places, table_then};
-ghost use Rattle.tj_words.specs.ExchangeViews.{KnowsTable};
-ghost use Rattle.tj_words.specs.KnowsMore.{KnowsMore};
+ghost use Rattle.tj_words.specs.Calls.ExchangeViews.{KnowsTable};
+ghost use Rattle.tj_words.specs.SeatViews.KnowsMore.{KnowsMore};
 ghost use Rattle.tj_words.specs.Law.{IsRooted};
-ghost use Rattle.tj_words.specs.Lots.{all_lots};
-ghost use Rattle.tj_words.specs.SeatSteps.{IsCellOf, IsSeatOf};
-ghost use Rattle.tj_run.specs.Carried.{IsAsked, IsFree, RunsTask, table_program};
-ghost use Rattle.tj_run.specs.Waits.{ComesBack, IsLeft};
+ghost use Rattle.tj_words.specs.LawParts.Lots.{all_lots};
+ghost use Rattle.tj_words.specs.SeatViews.SeatSteps.{IsCellOf, IsSeatOf};
+ghost use Rattle.tj_run.specs.Workers.{IsFree, table_program};
+ghost use Rattle.tj_run.specs.Inner.Carried.{IsAsked, RunsTask};
+ghost use Rattle.tj_run.specs.Inner.Waits.{ComesBack, IsLeft};
 
 use crate::next::Next;
 use crate::pieces::{fill_at, take_out};

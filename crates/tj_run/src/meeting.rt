@@ -1,5 +1,5 @@
 //! Two tasks that see each other run: a run whose tasks run one after another fails here.
-ghost use Rattle.tj_run.specs.MeetingAsks.{asks_at, awaits_at, places_at, few_asks, task_ends, root_ends};
+ghost use Rattle.tj_run.specs.TestBodies.MeetingAsks.{asks_at, awaits_at, places_at, few_asks, task_ends, root_ends};
 
 use crate::run_all;
 use std::alloc::Global;
@@ -62,7 +62,7 @@ struct Meeting<'a> {
 impl<'a> Body for Meeting<'a> {
     ghost use Rattle.std.specs.Prelude.{suc, ◌-◌};
     ghost use Rattle.std.proofs.Common.{refl};
-    ghost use Rattle.tj_run.specs.MeetingAsks.{asks_at, awaits_at, obeys_at, places_at};
+    ghost use Rattle.tj_run.specs.TestBodies.MeetingAsks.{asks_at, awaits_at, obeys_at, places_at};
 
     ghost places = { λ b. places_at b.step };
 

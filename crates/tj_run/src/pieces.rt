@@ -4,8 +4,8 @@ ghost use Rattle.std.specs.List.{AllByRecursion, remove};
 ghost use Rattle.tj_body.specs.Asks.{IsPaid};
 ghost use Rattle.tj_body.specs.NameLaws.{has_cell, without_cell, hand_cells};
 ghost use Rattle.tj_words.specs.declared.record.Held.{Held};
-ghost use Rattle.tj_words.specs.Lists.{numbers};
-ghost use Rattle.tj_run.specs.Pieces as pieces;
+ghost use Rattle.tj_words.specs.Words.Lists.{numbers};
+ghost use Rattle.tj_run.specs.Inner.Pieces as pieces;
 
 use std::alloc::Global;
 use std::mem::replace;
@@ -45,8 +45,8 @@ pub(crate) fn hurt_of(trouble: Trouble) -> Hurt
     }
 }
 
-/// Where the cell stands first.
-fn place_of(cells: &[CellId], c: CellId) -> Option<usize>
+/// The index at which the cell stands first.
+fn index_of(cells: &[CellId], c: CellId) -> Option<usize>
     ensures none { result ≡ None → has_cell c.0 (numbers cells.now) ≡ false }
     ensures has { IfSome result (λ i. has_cell c.0 (numbers cells.now) ≡ true) }
     ensures rest { IfSome result (λ i. numbers (remove cells.now i)
@@ -69,7 +69,7 @@ pub(crate) fn take_out(alloc: Global, cells: &mut CellList, c: CellId) -> bool
     ensures left { IsTrue result → numbers cells.new ≡ without_cell c.0 (numbers cells.old) }
     ensures same { IsFalse result → cells.new ≡ cells.old }
 {
-    let Some(at) = place_of(cells.items(), c) else {
+    let Some(at) = index_of(cells.items(), c) else {
         return false;
     };
     let mut list = replace(cells, Items::of(Vec::new(alloc))).into_vec();
@@ -104,7 +104,7 @@ pub(crate) fn hand_all(
         if let Sort::Task = h.sort {
             return Ok(Err(Hurt::Kind));
         }
-        match place_of(left.as_slice(), h.cell) {
+        match index_of(left.as_slice(), h.cell) {
             None => return Ok(Err(Hurt::Owner(h.cell))),
             Some(at) => {
                 left.remove(at);

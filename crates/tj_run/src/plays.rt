@@ -3,10 +3,11 @@ ghost use Rattle.std.specs.Prelude.{◌≡◌, ◌+◌, ◌<◌, ◌≤◌, IfOk
 ghost use Rattle.tj_body.specs.Asks.{IsFresh};
 ghost use Rattle.tj_body.specs.Programs.{program_of};
 ghost use Rattle.tj_words.specs.Law.{IsRooted};
-ghost use Rattle.tj_words.specs.SeatSteps.{IsCellOf, IsSameSeat, IsSeatOf};
+ghost use Rattle.tj_words.specs.SeatViews.SeatSteps.{IsCellOf, IsSameSeat, IsSeatOf};
 ghost use Rattle.tj_detect.specs.Blocks.{MayBlock};
-ghost use Rattle.tj_run.specs.Carried.{IsFree, IsWaiting, RunsTask, table_program};
-ghost use Rattle.tj_run.specs.Waits.{Blocked, ComesBack, IsLeft};
+ghost use Rattle.tj_run.specs.Workers.{IsFree, table_program};
+ghost use Rattle.tj_run.specs.Inner.Carried.{IsWaiting, RunsTask};
+ghost use Rattle.tj_run.specs.Inner.Waits.{Blocked, ComesBack, IsLeft};
 
 use crate::answers::resume;
 use crate::next::Next;

@@ -3,8 +3,9 @@ ghost use Rattle.std.specs.Prelude.{◌≡◌, ◌⊎◌, ◌<◌, IfErr, IfOk};
 ghost use Rattle.tj_body.specs.Asks.{Ends};
 ghost use Rattle.tj_body.specs.Programs.{program_of};
 ghost use Rattle.tj_body.specs.declared.ask.Ask.TheVariants as ask;
-ghost use Rattle.tj_run.specs.Carried.{IsAsked, IsRunning, RunsTask, table_program};
-ghost use Rattle.tj_run.specs.Going.{Goes, Stops};
+ghost use Rattle.tj_run.specs.Workers.{table_program};
+ghost use Rattle.tj_run.specs.Inner.Carried.{IsAsked, IsRunning, RunsTask};
+ghost use Rattle.tj_run.specs.Inner.Going.{Goes, Stops};
 
 use crate::next::Next;
 use crate::pieces::{fill_at, hurt_of};

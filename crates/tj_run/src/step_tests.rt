@@ -2,11 +2,12 @@
 ghost use Rattle.std.specs.Prelude.{◌≡◌, [], length, Some};
 ghost use Rattle.tj_body.specs.Programs.{program_of};
 ghost use Rattle.tj_words.specs.declared.record.Finish.TheVariants.{Done};
-ghost use Rattle.tj_words.specs.KnowsMore.{KnowsMore};
+ghost use Rattle.tj_words.specs.SeatViews.KnowsMore.{KnowsMore};
 ghost use Rattle.tj_words.specs.Law.{IsRooted};
-ghost use Rattle.tj_words.specs.SeatSteps.{IsCellOf, IsSeatOf};
-ghost use Rattle.tj_run.specs.Carried.{IsClosing, IsFree, RunsTask, table_program};
-ghost use Rattle.tj_run.specs.Waits.{ComesBack, IsLeft};
+ghost use Rattle.tj_words.specs.SeatViews.SeatSteps.{IsCellOf, IsSeatOf};
+ghost use Rattle.tj_run.specs.Workers.{IsFree, table_program};
+ghost use Rattle.tj_run.specs.Inner.Carried.{IsClosing, RunsTask};
+ghost use Rattle.tj_run.specs.Inner.Waits.{ComesBack, IsLeft};
 
 use crate::life_tests::{asks_first, has_the_root_alone, table_of};
 use crate::pieces::fill_at;

@@ -1,10 +1,11 @@
 //! A claimed task runs ask by ask, until it ends or leaves its worker in a wait.
 ghost use Rattle.std.specs.Prelude.{◌≡◌, ◌⊎◌, ◌<◌, IfErr, IfOk, IfSome, None, OnOk};
 ghost use Rattle.tj_body.specs.Programs.{program_of};
-ghost use Rattle.tj_words.specs.SeatSteps.{IsSeatOf};
-ghost use Rattle.tj_run.specs.Carried.{IsAsked, IsRunning, RunsTask, table_program};
-ghost use Rattle.tj_run.specs.Going.{Goes, Lacks, Stops, StopsWhere};
-ghost use Rattle.tj_run.specs.Waits.{ComesBack, IsLeft};
+ghost use Rattle.tj_words.specs.SeatViews.SeatSteps.{IsSeatOf};
+ghost use Rattle.tj_run.specs.Workers.{table_program};
+ghost use Rattle.tj_run.specs.Inner.Carried.{IsAsked, IsRunning, RunsTask};
+ghost use Rattle.tj_run.specs.Inner.Going.{Goes, Lacks, Stops, StopsWhere};
+ghost use Rattle.tj_run.specs.Inner.Waits.{ComesBack, IsLeft};
 
 use crate::answers::resume;
 use crate::forks::fork;

@@ -3,11 +3,11 @@
 ghost use Rattle.std.specs.Prelude.{◌≡◌, ◌<◌, IfSome, None};
 ghost use Rattle.tj_body.specs.Programs.{program_of};
 ghost use Rattle.tj_words.specs.Law.{IsRooted};
-ghost use Rattle.tj_words.specs.SeatSteps.{IsCellOf, IsSameSeat, IsSeatOf};
-ghost use Rattle.tj_words.specs.Views.{saw_stop};
-ghost use Rattle.tj_run.specs.Carried.{IsFree, table_program};
-ghost use Rattle.tj_run.specs.Going.{HasStopped, Leaves};
-ghost use Rattle.tj_run.specs.Turns.{TurnsTo};
+ghost use Rattle.tj_words.specs.SeatViews.SeatSteps.{IsCellOf, IsSameSeat, IsSeatOf};
+ghost use Rattle.tj_words.specs.SeatViews.Views.{saw_stop};
+ghost use Rattle.tj_run.specs.Workers.{IsFree, table_program};
+ghost use Rattle.tj_run.specs.Leaving.{HasStopped, Leaves};
+ghost use Rattle.tj_run.specs.Inner.Turns.{TurnsTo};
 
 use crate::tasks::run;
 use crate::why::{Left, Why};

@@ -2,11 +2,12 @@
 //! blocks and is parked; then the root closes a cycle, or sets the promise and wakes the child.
 ghost use Rattle.std.specs.Prelude.{◌≡◌, IfOk};
 ghost use Rattle.tj_body.specs.Programs.{program_of};
-ghost use Rattle.tj_words.specs.ExchangeViews.{KnowsTable};
-ghost use Rattle.tj_words.specs.KnowsMore.{KnowsMore};
+ghost use Rattle.tj_words.specs.Calls.ExchangeViews.{KnowsTable};
+ghost use Rattle.tj_words.specs.SeatViews.KnowsMore.{KnowsMore};
 ghost use Rattle.tj_words.specs.Law.{IsRooted};
-ghost use Rattle.tj_words.specs.SeatSteps.{IsCellOf, IsSeatOf};
-ghost use Rattle.tj_run.specs.Carried.{IsFree, IsRunning, RunsTask, table_program};
+ghost use Rattle.tj_words.specs.SeatViews.SeatSteps.{IsCellOf, IsSeatOf};
+ghost use Rattle.tj_run.specs.Workers.{IsFree, table_program};
+ghost use Rattle.tj_run.specs.Inner.Carried.{IsRunning, RunsTask};
 
 use crate::answers::resume;
 use crate::life_tests::{one_end, set_asked, table_of};

@@ -1,13 +1,14 @@
 //! Waits: the tests of a get and of a join, and how a task that waits leaves its worker.
 ghost use Rattle.std.specs.Prelude.{◌≡◌, ◌<◌, IfErr, IfOk, IfSome, None};
 ghost use Rattle.tj_body.specs.Programs.{program_of};
-ghost use Rattle.tj_body.specs.Turns.{get_of, join_of};
-ghost use Rattle.tj_words.specs.SeatSteps.{IsCellOf, IsSameSeat, IsSeatOf};
-ghost use Rattle.tj_words.specs.TreeReads.{HasReadTree, KnowsTask};
-ghost use Rattle.tj_words.specs.WalkSteps.{way_by};
-ghost use Rattle.tj_run.specs.Carried.{IsAsked, IsWaiting, RunsTask, table_program};
-ghost use Rattle.tj_run.specs.Going.{Goes, Lacks};
-ghost use Rattle.tj_run.specs.Waits.{Blocked, ComesBack, IsHeldAs, IsLeft};
+ghost use Rattle.tj_body.specs.Inner.AskSteps.{get_of, join_of};
+ghost use Rattle.tj_words.specs.SeatViews.SeatSteps.{IsCellOf, IsSameSeat, IsSeatOf};
+ghost use Rattle.tj_words.specs.SeatViews.TreeReads.{HasReadTree, KnowsTask};
+ghost use Rattle.tj_words.specs.Steps.WalkSteps.{way_by};
+ghost use Rattle.tj_run.specs.Workers.{table_program};
+ghost use Rattle.tj_run.specs.Inner.Carried.{IsAsked, IsWaiting, RunsTask};
+ghost use Rattle.tj_run.specs.Inner.Going.{Goes, Lacks};
+ghost use Rattle.tj_run.specs.Inner.Waits.{Blocked, ComesBack, IsHeldAs, IsLeft};
 ghost use Rattle.tj_detect.specs.Blocks.{MayBlock};
 
 use crate::answers::look;

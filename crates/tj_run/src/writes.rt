@@ -2,10 +2,11 @@
 ghost use Rattle.std.specs.Prelude.{◌≡◌, IfErr, IfOk, OnOk};
 ghost use Rattle.tj_body.specs.Programs.{program_of};
 ghost use Rattle.tj_body.specs.declared.ask.Ask.TheVariants as ask;
-ghost use Rattle.tj_words.specs.SeatSteps.{IsSeatOf};
-ghost use Rattle.tj_run.specs.Carried.{IsAsked, IsClosing, RunsTask, table_program};
-ghost use Rattle.tj_run.specs.Going.{Goes, Lacks};
-ghost use Rattle.tj_run.specs.Waits.{IsLeft};
+ghost use Rattle.tj_words.specs.SeatViews.SeatSteps.{IsSeatOf};
+ghost use Rattle.tj_run.specs.Workers.{table_program};
+ghost use Rattle.tj_run.specs.Inner.Carried.{IsAsked, IsClosing, RunsTask};
+ghost use Rattle.tj_run.specs.Inner.Going.{Goes, Lacks};
+ghost use Rattle.tj_run.specs.Inner.Waits.{IsLeft};
 
 use crate::next::Next;
 use crate::pieces::{fill_at, take_out};

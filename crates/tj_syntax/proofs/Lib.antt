@@ -1,13 +1,9 @@
-pub mod Fresh
-pub mod HeadNames
-pub mod HeadSteps
-pub mod Indexes
 pub mod Taken
-pub mod TaskNames
 pub mod Repeats
 pub mod Unrolls
 pub mod Views
 pub mod Sends
+pub mod Naming
 pub mod Sound
 pub mod Complete
 pub mod Stops

@@ -18,7 +18,7 @@ use Rattle.tj_syntax.specs.Grammar.{IsProgram}
 abbrev pub tokens_of : List Noted → List Tok
 tokens_of = map (λ noted. noted.0)
 
--- what the tokens of a text are, without their places
+-- what the tokens of a text are, without their positions
 abbrev pub kinds_of : List Token → List Tok
 kinds_of = map (λ token. token.what)
 

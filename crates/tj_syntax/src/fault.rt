@@ -2,7 +2,7 @@
 use std::alloc::{AllocError, AllocFailed};
 use tj_lex::Place;
 
-/// The first fault of a list of tokens, with its place.
+/// The first fault of a list of tokens, with its position.
 #[derive(Clone, Copy, Debug, PartialEq, Eq)]
 pub enum ParseFault {
     /// A token that can't follow.

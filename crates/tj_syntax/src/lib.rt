@@ -1,4 +1,4 @@
-//! The grammar of scripts: what a list of tokens says, or the place of its first fault, and the
+//! The grammar of scripts: what a list of tokens says, or the position of its first fault, and the
 //! canonical listing of a script.
 #![tactic(auto)]
 

@@ -1,5 +1,5 @@
 //! Listing expressions: an operand stands in parentheses where its level is below the one that
-//! its place needs.
+//! is needed where it stands.
 ghost use Rattle.std.specs.Prelude.{◌≡◌, ◌++◌, ◌∷◌, [], OnOk, get_or, map};
 ghost use Rattle.std.specs.Fmt.{signed_decimal};
 ghost use Rattle.tj_lex.specs.Spelling.{mark_text};

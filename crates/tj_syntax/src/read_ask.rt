@@ -98,7 +98,7 @@ impl<'t> Parser<'t> {
         if self.sees(Mark::ParenClose) {
             return Ok(found);
         }
-        for _turn in 0..self.left() {
+        for _repeat in 0..self.left() {
             found.push(self.argument(room)?)?;
             if !self.eat(Mark::Comma) {
                 return Ok(found);

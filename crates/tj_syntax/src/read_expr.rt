@@ -116,7 +116,7 @@ impl<'t> Parser<'t> {
             result (input_of self.new) }
     {
         let mut found = Vec::new(self.alloc);
-        for _turn in 0..self.left() {
+        for _repeat in 0..self.left() {
             let Some(op) = operator(level, self.peek()) else {
                 return Ok(found);
             };

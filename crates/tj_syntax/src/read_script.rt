@@ -79,20 +79,20 @@ fn fault(tokens: &[Token], stop: Stop) -> ParseFault
         → AreLeft stop (length back) → result ≡ fault_at stop token.at }
 {
     match stop {
-        Stop::Expected(left) => ParseFault::Expected(place(tokens, left)),
-        Stop::Broken(Breach::Unknown, left) => ParseFault::Unknown(place(tokens, left)),
-        Stop::Broken(Breach::Twice, left) => ParseFault::Twice(place(tokens, left)),
-        Stop::Broken(Breach::Count, left) => ParseFault::Count(place(tokens, left)),
-        Stop::Broken(Breach::Deep, left) => ParseFault::Deep(place(tokens, left)),
-        Stop::Broken(Breach::Many, left) => ParseFault::Many(place(tokens, left)),
+        Stop::Expected(left) => ParseFault::Expected(position(tokens, left)),
+        Stop::Broken(Breach::Unknown, left) => ParseFault::Unknown(position(tokens, left)),
+        Stop::Broken(Breach::Twice, left) => ParseFault::Twice(position(tokens, left)),
+        Stop::Broken(Breach::Count, left) => ParseFault::Count(position(tokens, left)),
+        Stop::Broken(Breach::Deep, left) => ParseFault::Deep(position(tokens, left)),
+        Stop::Broken(Breach::Many, left) => ParseFault::Many(position(tokens, left)),
         Stop::NoMain => ParseFault::NoMain(START),
-        Stop::MainParams(left) => ParseFault::MainParams(place(tokens, left)),
+        Stop::MainParams(left) => ParseFault::MainParams(position(tokens, left)),
         Stop::Oom => ParseFault::Oom,
     }
 }
 
-/// The place of the token behind which so many stand.
-fn place(tokens: &[Token], left: usize) -> Place
+/// The position of the token behind which so many stand.
+fn position(tokens: &[Token], left: usize) -> Place
     ensures { (front back : List Token) (token : Token) → tokens.now ≡ front ++ token ∷ back
         → left ≡ length back → result ≡ token.at }
 {

@@ -36,7 +36,7 @@ impl<'t> Parser<'t> {
             result (input_of self.new) }
     {
         let mut stmts = Vec::new(self.alloc);
-        for _turn in 0..self.left() {
+        for _repeat in 0..self.left() {
             if self.eat(Mark::BraceClose) {
                 return Ok(Block { stmts });
             }

@@ -20,7 +20,7 @@ impl<'t> Parser<'t> {
     {
         let mut found = Vec::new(self.alloc);
         let mut earlier = Names::new(self.alloc);
-        for _turn in 0..self.left() {
+        for _repeat in 0..self.left() {
             if self.left() == 0 {
                 return Ok(found);
             }
@@ -78,7 +78,7 @@ impl<'t> Parser<'t> {
         if self.sees(Mark::ParenClose) {
             return Ok(());
         }
-        for _turn in 0..self.left() {
+        for _repeat in 0..self.left() {
             let name = self.fresh_variable()?;
             self.add_variable(name)?;
             if !self.eat(Mark::Comma) {

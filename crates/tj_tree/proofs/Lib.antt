@@ -5,5 +5,5 @@ pub mod Orders
 pub mod Readings
 pub mod Skew
 pub mod Trees
-pub mod Consecutive
+pub mod Gapless
 pub mod Walks

@@ -4,9 +4,9 @@ use Rattle.tj_tree.specs.declared.node.Node.{Node}
 use Rattle.tj_tree.specs.declared.node.TaskNode.{TaskNode}
 use Rattle.std.specs.Prelude.{◌↔◌}
 use Rattle.tj_tree.specs.Forks.{Forks, IsEarlier, order_of}
-use Rattle.tj_tree.specs.Nodes.{node_of, InEachTree}
+use Rattle.tj_tree.specs.Nodes.{node_of, InEachTree, move_from}
 use Rattle.tj_tree.specs.Walk.{GoesOn}
-use Rattle.tj_tree.specs.Inner.Moves.{IsKnown, IsAtOrAbove, move_from}
+use Rattle.tj_tree.specs.Inner.Moves.{IsKnown, IsAtOrAbove}
 use Rattle.tj_tree.proofs.Skew.{ranks, moves}
 use Rattle.tj_tree.proofs.Walks.{MovesUp, MovesUp-higher, MoveTogether, MoveTogether-up, floor_of, before-same, before-apart}
 use Rattle.tj_tree.proofs.Orders.{IsEarlier-order}

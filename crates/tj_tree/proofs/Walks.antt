@@ -5,8 +5,8 @@ use Rattle.std.proofs.lemmas.Bool.Decides.{nat_tests}
 use Rattle.std.proofs.lemmas.List.{length-append, append_assoc}
 use Rattle.tj_base.specs.ForkOrder.{Name, before}
 use Rattle.tj_tree.specs.Forks.{Forks, HasTask, IsHistory, name_of}
-use Rattle.tj_tree.specs.Nodes.{node_of}
-use Rattle.tj_tree.specs.Inner.Moves.{IsAtOrAbove, move_from}
+use Rattle.tj_tree.specs.Nodes.{node_of, move_from}
+use Rattle.tj_tree.specs.Inner.Moves.{IsAtOrAbove}
 use Rattle.tj_tree.proofs.Names.{before-append_same}
 use Rattle.tj_tree.proofs.Skew.{ranks, moves, moves_jump, moves_step, jump_shallower, jump_level}
 use Rattle.tj_tree.proofs.Trees.{IsChild-of, IsJump-of, depth-of, kids_apart, names_apart, root_name, root_there}

@@ -2,3 +2,4 @@
 pub mod Moves
 pub mod Tree
 pub mod Gapped
+pub mod Stays

@@ -1,5 +1,5 @@
 -- The nodes of a tree that forks build, and nodes of such a tree that are shown.
-use Rattle.std.specs.Prelude.{ℕ, ◌≡◌, ◌+◌, ◌-◌, ◌==◌, if◌then◌else◌, [], ◌∷◌}
+use Rattle.std.specs.Prelude.{ℕ, ◌≡◌, ◌+◌, ◌-◌, ◌==◌, Bool, if◌then◌else◌, [], ◌∷◌}
 use Rattle.tj_tree.specs.declared.node.Node.{Node}
 use Rattle.tj_tree.specs.declared.node.NodeId.{NodeId}
 use Rattle.tj_tree.specs.Forks.{Fork, Forks, HasTask, IsHistory}
@@ -40,3 +40,7 @@ ArePartOfTree shown = (forks : Forks) × (IsHistory forks × HasNodes forks show
 -- P holds of each tree that forks build and that has these nodes
 abbrev pub InEachTree : (ℕ → Node → Type 0) → (Forks → Type 0) → Type 0
 InEachTree shown P = (forks : Forks) → IsHistory forks → HasNodes forks shown → P forks
+
+-- where a move from a node leads: by its jump, or to its parent
+abbrev pub move_from : Node → Bool → NodeId
+move_from node by_jump = if by_jump then node.jump else node.parent

@@ -5,9 +5,9 @@
 //! of looks that is linear in the digits of the depth.
 ghost use Rattle.std.specs.Prelude.{ℕ, ◌≡◌, ◌≢◌, ◌+◌, ◌*◌, ◌^◌, ◌<◌, ◌≤◌, ◌↔◌, max, nat_le, IsTrue};
 ghost use Rattle.tj_tree.specs.Forks.{order_of, IsEarlier};
-ghost use Rattle.tj_tree.specs.Nodes.{node_of, ArePartOfTree, InEachTree};
+ghost use Rattle.tj_tree.specs.Nodes.{node_of, ArePartOfTree, InEachTree, move_from};
 ghost use Rattle.tj_tree.specs.Walk.{GoesOn};
-ghost use Rattle.tj_tree.specs.Inner.Moves.{IsKnown, IsAtOrAbove, move_from};
+ghost use Rattle.tj_tree.specs.Inner.Moves.{IsKnown, IsAtOrAbove};
 
 use crate::node::{NodeId, TaskNode};
 use crate::reader::NodeReader;

@@ -1,6 +1,6 @@
 //! Nodes of a fork tree.
 ghost use Rattle.std.specs.Prelude.{◌≡◌};
-ghost use Rattle.tj_tree.specs.Inner.Moves.{move_from};
+ghost use Rattle.tj_tree.specs.Nodes.{move_from};
 
 /// The number of a task. The root is 0, and a task's number is greater than its parent's.
 #[derive(Clone, Copy, Debug, PartialEq, Eq)]

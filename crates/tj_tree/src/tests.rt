@@ -32,7 +32,7 @@ impl<C: Ledger> NodeReader for DeskReader<'_, '_, '_, C> {
     ghost use Rattle.std.specs.Prelude.{◌≡◌, ◌<◌, refl};
     ghost use Rattle.tj_tree.specs.Forks.{HasTask, task_count};
     ghost use Rattle.tj_tree.specs.Nodes.{node_of};
-    ghost use Rattle.tj_tree.specs.Stays.{same_on};
+    ghost use Rattle.tj_tree.specs.Inner.Stays.{same_on};
 
     ghost shows = { λ reader n node.
         HasTask reader.desk.now.tree.now n × (node_of reader.desk.now.tree.now n ≡ node) };

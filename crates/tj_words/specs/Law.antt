@@ -11,23 +11,23 @@ use Rattle.tj_words.specs.declared.record.Rec.{Rec}
 use Rattle.tj_words.specs.declared.table.Key.{Key}
 use Rattle.tj_words.specs.declared.view.About.{About}
 use Rattle.tj_words.specs.declared.view.View.{View}
-use Rattle.tj_words.specs.Lists.{Each, All}
-use Rattle.tj_words.specs.Offsets.{words_for}
-use Rattle.tj_words.specs.Codes.{Codes}
-use Rattle.tj_words.specs.Contents.{Contents, contents_of, drawn_in, tag_in, bits_in, home_of, owned_of}
-use Rattle.tj_words.specs.Contents.{made_of, core_shown, hand_of}
-use Rattle.tj_words.specs.Lots.{IsWithinLot, Lots}
-use Rattle.tj_words.specs.Hands.{Hands}
-use Rattle.tj_words.specs.NamedCells.{NamesCells}
-use Rattle.tj_words.specs.TreeWords.{IsCell, Births, IsForkTree, TreeWords}
-use Rattle.tj_words.specs.Custodies.{Custodies, OwnedLists}
-use Rattle.tj_words.specs.OnceWords.{OnceWords}
-use Rattle.tj_words.specs.Chains.{Chains}
-use Rattle.tj_words.specs.LiveCount.{LiveCount, Backing}
+use Rattle.tj_words.specs.Words.Lists.{Each, All}
+use Rattle.tj_words.specs.Words.Offsets.{words_for}
+use Rattle.tj_words.specs.Words.Codes.{Codes}
+use Rattle.tj_words.specs.LawParts.Contents.{Contents, contents_of, drawn_in, tag_in, bits_in, home_of, owned_of}
+use Rattle.tj_words.specs.LawParts.Contents.{made_of, core_shown, hand_of}
+use Rattle.tj_words.specs.LawParts.Lots.{IsWithinLot, Lots}
+use Rattle.tj_words.specs.LawParts.Hands.{Hands}
+use Rattle.tj_words.specs.LawParts.NamedCells.{NamesCells}
+use Rattle.tj_words.specs.LawParts.TreeWords.{IsCell, Births, IsForkTree, TreeWords}
+use Rattle.tj_words.specs.LawParts.Custodies.{Custodies, OwnedLists}
+use Rattle.tj_words.specs.LawParts.OnceWords.{OnceWords}
+use Rattle.tj_words.specs.LawParts.Chains.{Chains}
+use Rattle.tj_words.specs.LawParts.LiveCount.{LiveCount, Backing}
 use Rattle.tj_body.specs.Asks.{IsFresh}
 use Rattle.tj_body.specs.Programs.{Program}
-use Rattle.tj_words.specs.Meaning.{Meaning}
-use Rattle.tj_words.specs.RecordPhases.{WaitersOwn, RecordsFit}
+use Rattle.tj_words.specs.LawParts.Meaning.{Meaning}
+use Rattle.tj_words.specs.LawParts.RecordPhases.{WaitersOwn, RecordsFit}
 
 -- the most cells of a table
 abbrev pub most_cells : ℕ

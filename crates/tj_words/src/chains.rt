@@ -1,12 +1,12 @@
 //! Steps on the chains of waiters.
 ghost use Rattle.std.specs.Prelude.{◌≡◌, ◌≢◌, ◌<◌, ◌≤◌};
 ghost use Rattle.tj_body.specs.Programs.{program_of};
-ghost use Rattle.tj_words.specs.ChainSteps.{HasPush, HasPushBehind, KnowsEntry, TakesChain};
-ghost use Rattle.tj_words.specs.ChainSteps.{found_taken, pushed, stored_next};
-ghost use Rattle.tj_words.specs.Heads as heads;
-ghost use Rattle.tj_words.specs.LiveCount.{IsBacked};
-ghost use Rattle.tj_words.specs.SeatSteps.{IsSameSeat};
-ghost use Rattle.tj_words.specs.SeenWords.{FindsChain, FindsShut};
+ghost use Rattle.tj_words.specs.Calls.ChainSteps.{HasPush, HasPushBehind, KnowsEntry, TakesChain};
+ghost use Rattle.tj_words.specs.Calls.ChainSteps.{found_taken, pushed, stored_next};
+ghost use Rattle.tj_words.specs.Words.Heads as heads;
+ghost use Rattle.tj_words.specs.LawParts.LiveCount.{IsBacked};
+ghost use Rattle.tj_words.specs.SeatViews.SeatSteps.{IsSameSeat};
+ghost use Rattle.tj_words.specs.SeatViews.SeenWords.{FindsChain, FindsShut};
 
 use crate::head::Head;
 use crate::offsets::{head_at, next_at};

@@ -46,7 +46,7 @@ impl Model for Closed {
 }
 
 impl Closed {
-    ghost use Rattle.tj_words.specs.ClosedCells.{IsShown};
+    ghost use Rattle.tj_words.specs.AtRest.ClosedCells.{IsShown};
 
     /// How many cells were drawn.
     pub fn drawn(&self) -> u32

@@ -1,7 +1,7 @@
 //! What the steps tell that draw a cell and write its words.
 ghost use Rattle.std.specs.Prelude.{ℕ};
 ghost use Rattle.tj_base.specs.declared.cell.Sort.{Sort};
-ghost use Rattle.tj_words.specs.DrawViews.{mark_store, word_store};
+ghost use Rattle.tj_words.specs.Calls.DrawViews.{mark_store, word_store};
 
 use crate::plays::Naming;
 use crate::record::Rec;
@@ -38,7 +38,7 @@ pub(crate) struct Draw<M> {
 
 impl<B: Body, M: Drawing> Play<Option<Rec<B>>, View<B>> for Draw<M> {
     ghost use Rattle.tj_body.specs.Programs.{program_of};
-    ghost use Rattle.tj_words.specs.DrawViews.{draw_step};
+    ghost use Rattle.tj_words.specs.Calls.DrawViews.{draw_step};
 
     ghost then = { draw_step (program_of B.places B.awaits B.left B.asks B.then) M.cells M.maker M.sort };
 }

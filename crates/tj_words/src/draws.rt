@@ -1,10 +1,10 @@
 //! Draws of cells, and the words of a cell that its drawer writes while it has the cell in hand.
 ghost use Rattle.std.specs.Prelude.{◌≡◌, ◌<◌, ◌≤◌, IfSome, None};
 ghost use Rattle.tj_body.specs.Programs.{program_of};
-ghost use Rattle.tj_words.specs.DrawViews as draws;
-ghost use Rattle.tj_words.specs.DrawViews.{FindsCell, FindsNone, MayDraw, MayMark, MayWrite};
-ghost use Rattle.tj_words.specs.DrawViews.{new_slots};
-ghost use Rattle.tj_words.specs.SeatSteps.{IsSameSeat};
+ghost use Rattle.tj_words.specs.Calls.DrawViews as draws;
+ghost use Rattle.tj_words.specs.Calls.DrawViews.{FindsCell, FindsNone, MayDraw, MayMark, MayWrite};
+ghost use Rattle.tj_words.specs.Calls.DrawViews.{new_slots};
+ghost use Rattle.tj_words.specs.SeatViews.SeatSteps.{IsSameSeat};
 
 use crate::draw_plays::{Draw, Drawing, MarkStore, WordStore};
 use crate::offsets::{COUNT, Once, once_at, phase_at};

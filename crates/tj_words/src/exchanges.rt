@@ -2,10 +2,10 @@
 //! parked goes on.
 ghost use Rattle.std.specs.Prelude.{◌≡◌, ◌≢◌, ◌<◌, IfErr, OnOk};
 ghost use Rattle.tj_body.specs.Programs.{program_of};
-ghost use Rattle.tj_words.specs.Codes as codes;
-ghost use Rattle.tj_words.specs.ExchangeViews.{MaySwap, Swaps};
-ghost use Rattle.tj_words.specs.Phases as phases;
-ghost use Rattle.tj_words.specs.Views.{stepped_on};
+ghost use Rattle.tj_words.specs.Words.Codes as codes;
+ghost use Rattle.tj_words.specs.Calls.ExchangeViews.{MaySwap, Swaps};
+ghost use Rattle.tj_words.specs.Words.Phases as phases;
+ghost use Rattle.tj_words.specs.SeatViews.Views.{stepped_on};
 
 use crate::exchange_plays::PhaseExchange;
 use crate::offsets::phase_at;

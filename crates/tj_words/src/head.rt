@@ -1,7 +1,7 @@
 //! The head of a chain of waiters, and the word that stands for it. The word NEXT of a task has the
 //! same form.
 ghost use Rattle.std.specs.Prelude.{◌≡◌, ◌≤◌, ◌^◌};
-ghost use Rattle.tj_words.specs.Heads.{HasWord, head_word, head_in};
+ghost use Rattle.tj_words.specs.Words.Heads.{HasWord, head_word, head_in};
 
 use tj_base::CellId;
 

@@ -5,14 +5,14 @@
 //!
 //! The laws stand over the definitions alone, so the functions do nothing: who calls one may rest on
 //! its clauses.
-ghost use Rattle.tj_words.specs.CallSteps as call;
-ghost use Rattle.tj_words.specs.EventCalls as event;
-ghost use Rattle.tj_words.specs.OneStates as state;
-ghost use Rattle.tj_words.specs.OwnerCalls as owner;
-ghost use Rattle.tj_words.specs.RestedRuns as rested;
-ghost use Rattle.tj_words.specs.StepLaws as law;
-ghost use Rattle.tj_words.specs.TableRuns as run;
-ghost use Rattle.tj_words.specs.TaskCalls as task;
+ghost use Rattle.tj_words.specs.CallLaws.CallSteps as call;
+ghost use Rattle.tj_words.specs.CallLaws.EventCalls as event;
+ghost use Rattle.tj_words.specs.Steps.OneStates as state;
+ghost use Rattle.tj_words.specs.CallLaws.OwnerCalls as owner;
+ghost use Rattle.tj_words.specs.CallLaws.RestedRuns as rested;
+ghost use Rattle.tj_words.specs.Steps.StepLaws as law;
+ghost use Rattle.tj_words.specs.Steps.TableRuns as run;
+ghost use Rattle.tj_words.specs.CallLaws.TaskCalls as task;
 
 /// Steps on COUNT: draws, and loads.
 pub fn count_steps<B>()

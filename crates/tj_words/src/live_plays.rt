@@ -1,5 +1,6 @@
 //! What the steps on LIVE and STOP, and the stores of Ready and of Ended, tell their caller.
-ghost use Rattle.tj_words.specs.LiveViews.{ended_store, live_add, live_sub, ready_store, stop_store};
+ghost use Rattle.tj_words.specs.Calls.LiveViews.{ended_store, live_add, live_sub, ready_store};
+ghost use Rattle.tj_words.specs.Calls.LiveViews.{stop_store};
 
 use crate::plays::Naming;
 use crate::record::Rec;

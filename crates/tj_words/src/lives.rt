@@ -3,10 +3,11 @@
 ghost use Rattle.std.specs.Prelude.{◌≡◌, ◌<◌, ◌≤◌, ◌∷◌};
 ghost use Rattle.atomic_table.specs.Table.{rest};
 ghost use Rattle.tj_body.specs.Programs.{program_of};
-ghost use Rattle.tj_words.specs.LiveViews.{HasSlot, MayEnd, MayLowerLive, MayRaiseLive, MayRelease};
-ghost use Rattle.tj_words.specs.LiveViews.{ended, live_lowered, live_raised, released};
-ghost use Rattle.tj_words.specs.SeatSteps.{IsSameSeat};
-ghost use Rattle.tj_words.specs.Views.{stepped_on};
+ghost use Rattle.tj_words.specs.Calls.LiveViews.{HasSlot, MayEnd, MayLowerLive, MayRaiseLive};
+ghost use Rattle.tj_words.specs.Calls.LiveViews.{MayRelease};
+ghost use Rattle.tj_words.specs.Calls.LiveViews.{ended, live_lowered, live_raised, released};
+ghost use Rattle.tj_words.specs.SeatViews.SeatSteps.{IsSameSeat};
+ghost use Rattle.tj_words.specs.SeatViews.Views.{stepped_on};
 
 use crate::live_plays::{EndedStore, LiveAdd, LiveSub, ReadyStore, StopStore};
 use crate::offsets::{LIVE, STOP, phase_at};

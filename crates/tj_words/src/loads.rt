@@ -1,16 +1,18 @@
 //! Loads that are no event of the core.
 ghost use Rattle.std.specs.Prelude.{◌≡◌, ◌≢◌, ℕ, ◌<◌, ◌≤◌, Some};
 ghost use Rattle.tj_body.specs.Programs.{program_of};
-ghost use Rattle.tj_words.specs.FullMeaning.{NamesFull};
-ghost use Rattle.tj_words.specs.Heads as heads;
-ghost use Rattle.tj_words.specs.ParkSteps.{FirstTold, loaded_phase};
-ghost use Rattle.tj_words.specs.Phases as phases;
-ghost use Rattle.tj_words.specs.SeatSteps.{IsSameSeat};
-ghost use Rattle.tj_words.specs.SeenWords.{FindsChain, FindsShut, MayRead, NextTold, SeesOnce};
-ghost use Rattle.tj_words.specs.SeatSteps as steps;
-ghost use Rattle.tj_words.specs.StepEvents.{wait_in};
-ghost use Rattle.tj_words.specs.Codes as codes;
-ghost use Rattle.tj_words.specs.Views.{loaded_plain, saw_live, saw_rest, saw_stop, stepped_on};
+ghost use Rattle.tj_words.specs.SeatViews.FullMeaning.{NamesFull};
+ghost use Rattle.tj_words.specs.Words.Heads as heads;
+ghost use Rattle.tj_words.specs.Calls.ParkSteps.{FirstTold, loaded_phase};
+ghost use Rattle.tj_words.specs.Words.Phases as phases;
+ghost use Rattle.tj_words.specs.SeatViews.SeatSteps.{IsSameSeat};
+ghost use Rattle.tj_words.specs.SeatViews.SeenWords.{FindsChain, FindsShut, MayRead, NextTold};
+ghost use Rattle.tj_words.specs.SeatViews.SeenWords.{SeesOnce};
+ghost use Rattle.tj_words.specs.SeatViews.SeatSteps as steps;
+ghost use Rattle.tj_words.specs.Steps.StepEvents.{wait_in};
+ghost use Rattle.tj_words.specs.Words.Codes as codes;
+ghost use Rattle.tj_words.specs.SeatViews.Views.{loaded_plain, saw_live, saw_rest, saw_stop};
+ghost use Rattle.tj_words.specs.SeatViews.Views.{stepped_on};
 
 use crate::head::Head;
 use crate::offsets::{COUNT, LIVE, Once, STOP, head_at, next_at, once_at, own_at, phase_at};

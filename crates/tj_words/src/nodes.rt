@@ -2,7 +2,7 @@
 //! once.
 ghost use Rattle.std.specs.Prelude.{◌≡◌, ◌+◌};
 ghost use Rattle.tj_tree.specs.Walk.{GoesOn};
-ghost use Rattle.tj_words.specs.TreeReads.{IsLater, MayLook, TreeShown};
+ghost use Rattle.tj_words.specs.SeatViews.TreeReads.{IsLater, MayLook, TreeShown};
 
 use crate::offsets::Once;
 use crate::table::{Laid, WSeat};

@@ -1,6 +1,6 @@
 //! Which word is which. The table has four words of its own, and then ten for each cell.
 ghost use Rattle.std.specs.Prelude.{◌≡◌, ◌<◌, ◌^◌};
-ghost use Rattle.tj_words.specs.Offsets as offsets;
+ghost use Rattle.tj_words.specs.Words.Offsets as offsets;
 
 use tj_base::CellId;
 
@@ -15,7 +15,7 @@ pub enum Once {
     Jump,
 }
 
-/// The places of the words of the table itself: the number of draws, LIVE, OTHERS and STOP.
+/// The indexes of the words of the table itself: the number of draws, LIVE, OTHERS and STOP.
 pub(crate) const COUNT: usize = 0;
 
 pub(crate) const LIVE: usize = 1;
@@ -36,21 +36,21 @@ fn first_word(cell: CellId) -> usize
     TABLE_WORDS + CELL_WORDS * cell.0 as usize
 }
 
-/// The place of the word OWN.
+/// The index of the word OWN.
 pub(crate) fn own_at(cell: CellId) -> usize
     ensures { result ≡ offsets.own_at cell.0 }
 {
     first_word(cell)
 }
 
-/// The place of the word PHASE.
+/// The index of the word PHASE.
 pub(crate) fn phase_at(cell: CellId) -> usize
     ensures { result ≡ offsets.phase_at cell.0 }
 {
     first_word(cell) + 1
 }
 
-/// The place of a word that is written once.
+/// The index of a word that is written once.
 pub(crate) fn once_at(cell: CellId, word: Once) -> usize
     ensures { result ≡ offsets.once_at cell.0 word }
 {
@@ -65,14 +65,14 @@ pub(crate) fn once_at(cell: CellId, word: Once) -> usize
     first_word(cell) + offset
 }
 
-/// The place of the word HEAD.
+/// The index of the word HEAD.
 pub(crate) fn head_at(cell: CellId) -> usize
     ensures { result ≡ offsets.head_at cell.0 }
 {
     first_word(cell) + 8
 }
 
-/// The place of the word NEXT.
+/// The index of the word NEXT.
 pub(crate) fn next_at(cell: CellId) -> usize
     ensures { result ≡ offsets.next_at cell.0 }
 {

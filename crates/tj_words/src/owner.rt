@@ -1,6 +1,6 @@
 //! The owner of a cell, and the word that stands for it. The word PARENT of a cell has the same form.
 ghost use Rattle.std.specs.Prelude.{◌≡◌, ◌≤◌, ◌^◌};
-ghost use Rattle.tj_words.specs.Owners.{owner_word, owner_in, owner_number};
+ghost use Rattle.tj_words.specs.Words.Owners.{owner_word, owner_in, owner_number};
 
 use tj_base::CellId;
 

@@ -1,6 +1,6 @@
 //! What the stores of an owner, and of what becomes of a cell, tell.
-ghost use Rattle.tj_words.specs.EntryViews.{tag_store};
-ghost use Rattle.tj_words.specs.OwnerViews.{owner_put};
+ghost use Rattle.tj_words.specs.Calls.EntryViews.{tag_store};
+ghost use Rattle.tj_words.specs.Calls.OwnerViews.{owner_put};
 
 use crate::plays::Naming;
 use crate::record::Rec;
@@ -25,7 +25,7 @@ pub(crate) struct BitsPut<M> {
 
 impl<B: Body, M: Naming> Play<Option<Rec<B>>, View<B>> for BitsPut<M> {
     ghost use Rattle.tj_body.specs.Programs.{program_of};
-    ghost use Rattle.tj_words.specs.EntryViews.{bits_store};
+    ghost use Rattle.tj_words.specs.Calls.EntryViews.{bits_store};
 
     ghost then = { bits_store (program_of B.places B.awaits B.left B.asks B.then) M.cell };
 }

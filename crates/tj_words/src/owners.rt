@@ -1,11 +1,11 @@
 //! Stores of owners, and of the words that are written once.
 ghost use Rattle.std.specs.Prelude.{◌≡◌, ◌<◌};
 ghost use Rattle.tj_body.specs.Programs.{program_of};
-ghost use Rattle.tj_words.specs.EntryViews.{MayPutBits, MayPutOnce, MayPutTag};
-ghost use Rattle.tj_words.specs.EntryViews.{PutsBits, PutsOnce, PutsTag};
-ghost use Rattle.tj_words.specs.OwnerViews.{MayPutOwner, PutsOwner};
-ghost use Rattle.tj_words.specs.Owners.{owner_in, owner_number};
-ghost use Rattle.tj_words.specs.SeatSteps.{IsSameSeat};
+ghost use Rattle.tj_words.specs.Calls.EntryViews.{MayPutBits, MayPutOnce, MayPutTag};
+ghost use Rattle.tj_words.specs.Calls.EntryViews.{PutsBits, PutsOnce, PutsTag};
+ghost use Rattle.tj_words.specs.Calls.OwnerViews.{MayPutOwner, PutsOwner};
+ghost use Rattle.tj_words.specs.Words.Owners.{owner_in, owner_number};
+ghost use Rattle.tj_words.specs.SeatViews.SeatSteps.{IsSameSeat};
 
 use crate::offsets::{Once, once_at, own_at};
 use crate::owner::word_of_owner;

@@ -1,7 +1,7 @@
 //! The phase of a cell, and the word that stands for it.
 ghost use Rattle.std.specs.Prelude.{◌≡◌, ◌<◌, ◌/◌, ◌^◌};
-ghost use Rattle.tj_words.specs.Phases.{phase_word, phase_in};
-ghost use Rattle.tj_words.specs.Phases as phases;
+ghost use Rattle.tj_words.specs.Words.Phases.{phase_word, phase_in};
+ghost use Rattle.tj_words.specs.Words.Phases as phases;
 
 use tj_base::CellId;
 use tj_core::Way;

@@ -1,10 +1,10 @@
 //! What each step on the table tells its caller, and how a view is cut in two and two are made one.
 ghost use Rattle.std.specs.Prelude.{ℕ, ◌≤◌};
-ghost use Rattle.tj_words.specs.ChainSteps.{next_store, push_exchange, shut_swap};
-ghost use Rattle.tj_words.specs.ParkSteps.{phase_load};
-ghost use Rattle.tj_words.specs.SeenWords.{head_load, next_load, once_load};
+ghost use Rattle.tj_words.specs.Calls.ChainSteps.{next_store, push_exchange, shut_swap};
+ghost use Rattle.tj_words.specs.Calls.ParkSteps.{phase_load};
+ghost use Rattle.tj_words.specs.SeatViews.SeenWords.{head_load, next_load, once_load};
 ghost use Rattle.tj_words.specs.declared.offsets.Once.{Once};
-ghost use Rattle.tj_words.specs.SeatSteps.{IsCount, live_load, plain_load};
+ghost use Rattle.tj_words.specs.SeatViews.SeatSteps.{IsCount, live_load, plain_load};
 
 use crate::offsets::Once;
 use crate::record::Rec;
@@ -72,7 +72,7 @@ pub(crate) struct StopLoad;
 
 impl<B: Body> Play<Option<Rec<B>>, View<B>> for StopLoad {
     ghost use Rattle.tj_body.specs.Programs.{program_of};
-    ghost use Rattle.tj_words.specs.FullMeaning.{stop_load};
+    ghost use Rattle.tj_words.specs.SeatViews.FullMeaning.{stop_load};
 
     ghost then = { stop_load (program_of B.places B.awaits B.left B.asks B.then) };
 }

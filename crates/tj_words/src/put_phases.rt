@@ -1,7 +1,7 @@
 //! Stores of PHASE. The phase that is stored tells which of them it is.
 ghost use Rattle.std.specs.Prelude.{◌≡◌, ◌<◌};
 ghost use Rattle.tj_body.specs.Programs.{program_of};
-ghost use Rattle.tj_words.specs.PhaseViews.{MayPutPhase, PutsPhase, WaitsBelow};
+ghost use Rattle.tj_words.specs.Calls.PhaseViews.{MayPutPhase, PutsPhase, WaitsBelow};
 
 use crate::phase::Phase;
 use crate::table::{Laid, WSeat};

@@ -2,11 +2,11 @@
 ghost use Rattle.std.specs.Prelude.{◌≡◌, ◌↔◌, ◌<◌, ◌≤◌, length, get_or, None};
 ghost use Rattle.std.specs.Option.{option_map};
 ghost use Rattle.tj_body.specs.Programs.{program_of};
-ghost use Rattle.tj_words.specs.RestingSeats.{MayRest};
-ghost use Rattle.tj_words.specs.ClosedCells.{AreAlarmsOnCycles, AreAtRest, AreCyclesAlarmed};
-ghost use Rattle.tj_words.specs.ClosedCells.{IsPromise, IsShown};
-ghost use Rattle.tj_words.specs.RestMeaning.{HaveMeaning, AreCyclesOfMeaningAlarmed};
-ghost use Rattle.tj_words.specs.ShownCells.{AreCellsOf, AreTableWords, cell_of};
+ghost use Rattle.tj_words.specs.AtRest.RestingSeats.{MayRest};
+ghost use Rattle.tj_words.specs.AtRest.ClosedCells.{AreAlarmsOnCycles, AreAtRest, AreCyclesAlarmed};
+ghost use Rattle.tj_words.specs.AtRest.ClosedCells.{IsPromise, IsShown};
+ghost use Rattle.tj_words.specs.AtRest.RestMeaning.{HaveMeaning, AreCyclesOfMeaningAlarmed};
+ghost use Rattle.tj_words.specs.AtRest.ShownCells.{AreCellsOf, AreTableWords, cell_of};
 ghost use Rattle.std.specs.Slots.{IsFull, slots_items};
 
 use crate::closed::{Closed, RestCell};
@@ -34,7 +34,7 @@ pub struct RestWords<B: Body> {
 }
 
 impl<B: Body> Model for RestWords<B> {
-    ghost use Rattle.tj_words.specs.RestShown.{AreSlots, RestShown};
+    ghost use Rattle.tj_words.specs.AtRest.RestShown.{AreSlots, RestShown};
     ghost use Rattle.std.specs.Slots.{slots_items};
 
     ghost Value = { RestShown B };

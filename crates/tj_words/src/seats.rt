@@ -1,6 +1,6 @@
 //! Seats of a table: one is split off for each worker, and merged again when it is done.
 ghost use Rattle.std.specs.Prelude.{◌≡◌, []};
-ghost use Rattle.tj_words.specs.Views.{IsIdle, MaySplit, both, left_half, right_half};
+ghost use Rattle.tj_words.specs.SeatViews.Views.{IsIdle, MaySplit, both, left_half, right_half};
 
 use crate::record::Rec;
 use crate::table::{Laid, WSeat};
@@ -12,7 +12,7 @@ use tj_body::Body;
 pub(crate) struct Halves;
 
 impl<B: Body> Split<View<B>> for Halves {
-    ghost use Rattle.tj_words.specs.Views.{left_half, right_half};
+    ghost use Rattle.tj_words.specs.SeatViews.Views.{left_half, right_half};
 
     ghost left = { left_half };
 
@@ -20,7 +20,7 @@ impl<B: Body> Split<View<B>> for Halves {
 }
 
 impl<B: Body> Join<View<B>> for Halves {
-    ghost use Rattle.tj_words.specs.Views.{both, spent};
+    ghost use Rattle.tj_words.specs.SeatViews.Views.{both, spent};
 
     ghost both = { both };
 

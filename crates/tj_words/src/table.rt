@@ -2,9 +2,9 @@
 ghost use Rattle.std.specs.Prelude.{◌≡◌, ℕ, ◌+◌, ◌*◌, ◌<◌, ◌≤◌, List, [], ◌∷◌, IfOk, length, replicate, Some, None};
 ghost use Rattle.tj_body.specs.Asks.{IsFresh};
 ghost use Rattle.tj_words.specs.Law.{most_cells};
-ghost use Rattle.tj_words.specs.Offsets.{words_for};
-ghost use Rattle.tj_words.specs.FirstState as first;
-ghost use Rattle.tj_words.specs.FirstState.{first_slots, first_words, first_view};
+ghost use Rattle.tj_words.specs.Words.Offsets.{words_for};
+ghost use Rattle.tj_words.specs.LawParts.FirstState as first;
+ghost use Rattle.tj_words.specs.LawParts.FirstState.{first_slots, first_words, first_view};
 
 use crate::closed::RestCell;
 use crate::offsets::{CELL_WORDS, COUNT, LIVE, Once, TABLE_WORDS, once_at, own_at, phase_at};
@@ -34,7 +34,7 @@ pub struct Law;
 impl<B: Body> TableRule<Option<Rec<B>>, View<B>, Key<B>> for Law {
     ghost use Rattle.tj_body.specs.Programs.{program_of};
     ghost use Rattle.tj_words.specs.Law.{Rule};
-    ghost use Rattle.tj_words.specs.FirstState.{first_view};
+    ghost use Rattle.tj_words.specs.LawParts.FirstState.{first_view};
 
     ghost holds = { Rule (program_of B.places B.awaits B.left B.asks B.then) };
 

@@ -1,7 +1,7 @@
 //! A new table by hand: what its loads find, that a second seat finds the same, and that its root is
 //! claimed once.
 ghost use Rattle.std.specs.Prelude.{◌≡◌, ◌<◌};
-ghost use Rattle.tj_words.specs.ExchangeViews.{KnowsTable};
+ghost use Rattle.tj_words.specs.Calls.ExchangeViews.{KnowsTable};
 
 use crate::{Head, Laid, Once, Phase, Rec, WSeat};
 use std::test::Fail;

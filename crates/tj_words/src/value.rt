@@ -1,7 +1,7 @@
 //! What becomes of a cell, and the two words that stand for it: TAG, which is 0 until something has,
 //! and BITS.
 ghost use Rattle.std.specs.Prelude.{◌≡◌, ◌<◌, ◌≢◌, ◌⊎◌, ◌^◌, None};
-ghost use Rattle.tj_words.specs.Values as values;
+ghost use Rattle.tj_words.specs.Words.Values as values;
 
 use crate::record::Fill;
 use tj_base::CellId;

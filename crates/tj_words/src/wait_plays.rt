@@ -1,5 +1,5 @@
 //! What the stores of a wait into PHASE tell their caller.
-ghost use Rattle.tj_words.specs.WaitViews.{wait_store};
+ghost use Rattle.tj_words.specs.Calls.WaitViews.{wait_store};
 
 use crate::plays::Naming;
 use crate::record::Rec;

@@ -2,7 +2,7 @@
 //! has alarmed.
 ghost use Rattle.std.specs.Prelude.{◌≡◌, ◌<◌};
 ghost use Rattle.tj_body.specs.Programs.{program_of};
-ghost use Rattle.tj_words.specs.WaitViews.{MayPutWait, PutsWait};
+ghost use Rattle.tj_words.specs.Calls.WaitViews.{MayPutWait, PutsWait};
 
 use crate::offsets::phase_at;
 use crate::phase::{Phase, Walk};

@@ -1,12 +1,13 @@
 //! What the loads of a walker and the steps on OTHERS tell their caller.
 ghost use Rattle.std.specs.Prelude.{ℕ, ◌<◌, ◌≤◌, ◌^◌, min};
 ghost use Rattle.tj_core.specs.Events.{count_read, others_read, wait_found};
-ghost use Rattle.tj_words.specs.Codes.{IsPhaseWord};
-ghost use Rattle.tj_words.specs.Owners.{owner_in};
-ghost use Rattle.tj_words.specs.Phases.{phase_in};
-ghost use Rattle.tj_words.specs.SeatSteps.{IsCount};
-ghost use Rattle.tj_words.specs.StepEvents.{wait_in};
-ghost use Rattle.tj_words.specs.WalkViews.{others_add, others_subtraction, owner_seen, walk_load};
+ghost use Rattle.tj_words.specs.Words.Codes.{IsPhaseWord};
+ghost use Rattle.tj_words.specs.Words.Owners.{owner_in};
+ghost use Rattle.tj_words.specs.Words.Phases.{phase_in};
+ghost use Rattle.tj_words.specs.SeatViews.SeatSteps.{IsCount};
+ghost use Rattle.tj_words.specs.Steps.StepEvents.{wait_in};
+ghost use Rattle.tj_words.specs.Calls.WalkViews.{others_add, others_subtraction, owner_seen};
+ghost use Rattle.tj_words.specs.Calls.WalkViews.{walk_load};
 
 use crate::record::Rec;
 use crate::view::View;

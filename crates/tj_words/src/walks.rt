@@ -3,17 +3,17 @@ ghost use Rattle.std.specs.Prelude.{◌≡◌, ℕ, ◌<◌, ◌≤◌, ◌^◌,
 ghost use Rattle.tj_core.specs.CoreState.{present};
 ghost use Rattle.tj_core.specs.Events.{MayCount, MayReadOthers};
 ghost use Rattle.tj_core.specs.Events.{count_read, others_read, wait_found};
-ghost use Rattle.tj_words.specs.Codes as codes;
-ghost use Rattle.tj_words.specs.Owners.{owner_in, owner_number};
-ghost use Rattle.tj_words.specs.ParkSteps.{FirstTold, loaded_phase};
-ghost use Rattle.tj_words.specs.Phases.{phase_in};
-ghost use Rattle.tj_words.specs.SeatSteps as steps;
-ghost use Rattle.tj_words.specs.SeatSteps.{IsSameSeat};
-ghost use Rattle.tj_words.specs.StepEvents.{wait_in};
-ghost use Rattle.tj_words.specs.Views.{loaded_plain};
-ghost use Rattle.tj_words.specs.WalkViews.{IsWalking, MayLoadBy, MayLoadOwner, MayLoadWait};
-ghost use Rattle.tj_words.specs.WalkViews.{MayRaise, loaded_by, lowered, owner_seen, read_on};
-ghost use Rattle.tj_words.specs.WalkViews.{turned};
+ghost use Rattle.tj_words.specs.Words.Codes as codes;
+ghost use Rattle.tj_words.specs.Words.Owners.{owner_in, owner_number};
+ghost use Rattle.tj_words.specs.Calls.ParkSteps.{FirstTold, loaded_phase};
+ghost use Rattle.tj_words.specs.Words.Phases.{phase_in};
+ghost use Rattle.tj_words.specs.SeatViews.SeatSteps as steps;
+ghost use Rattle.tj_words.specs.SeatViews.SeatSteps.{IsSameSeat};
+ghost use Rattle.tj_words.specs.Steps.StepEvents.{wait_in};
+ghost use Rattle.tj_words.specs.SeatViews.Views.{loaded_plain};
+ghost use Rattle.tj_words.specs.Calls.WalkViews.{IsWalking, MayLoadBy, MayLoadOwner, MayLoadWait};
+ghost use Rattle.tj_words.specs.Calls.WalkViews.{MayRaise, loaded_by, lowered, owner_seen, read_on};
+ghost use Rattle.tj_words.specs.Calls.WalkViews.{turned};
 
 use crate::offsets::{COUNT, OTHERS, own_at, phase_at};
 use crate::owner::owner_of_word;

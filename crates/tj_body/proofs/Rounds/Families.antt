@@ -10,12 +10,12 @@ use Rattle.tj_body.specs.Points.{IsIn}
 use Rattle.tj_body.specs.declared.point.Entry.{Entry}
 use Rattle.tj_body.specs.declared.point.Task.{Task}
 use Rattle.tj_body.specs.declared.point.Point.{Point}
-use Rattle.tj_body.proofs.Grows.{from_start}
+use Rattle.tj_body.proofs.Histories.Grows.{from_start}
 use Rattle.tj_body.proofs.Counts.{one_if, is, is_one, total, times, wrote, same_self, same_is, total_le, total_add}
 use Rattle.tj_body.proofs.Counts.{total_same}
 use Rattle.tj_body.proofs.Counts.{total_flat_map}
-use Rattle.tj_body.proofs.Prefixes.{under, below, under_is, numbered_once}
-use Rattle.tj_body.proofs.Accounts.{fair}
+use Rattle.tj_body.proofs.Histories.Prefixes.{under, below, under_is, numbered_once}
+use Rattle.tj_body.proofs.Histories.Accounts.{fair}
 
 module _ {B : Type 0} (rules : Rules B) where
   -- a history has the name of its task

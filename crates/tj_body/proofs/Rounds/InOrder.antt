@@ -11,7 +11,7 @@ use Rattle.tj_body.specs.History.{after_read, after_look, after_stage, point_aft
 use Rattle.tj_body.specs.Rounds.{given, tasks, last_round, meaning, IsFull}
 use Rattle.tj_body.specs.Points.{IsIn, IsProper, HasStopped}
 use Rattle.tj_body.specs.NeverWaits.{NoneWaits, WaitInOrder}
-use Rattle.tj_body.specs.Turns.{IsTurn, fails, ends, makes, forks, sets, gets, joins, prints}
+use Rattle.tj_body.specs.Inner.AskSteps.{IsAskStep, fails, ends, makes, forks, sets, gets, joins, prints}
 use Rattle.tj_body.specs.declared.ask.Ask.{Ask}
 use Rattle.tj_body.specs.declared.point.Value.TheVariants as value
 use Rattle.tj_body.specs.declared.point.Entry.{Entry}
@@ -21,11 +21,11 @@ use Rattle.tj_body.specs.declared.point.PointStage.{PointStage}
 use Rattle.tj_body.specs.declared.point.PointStage.TheVariants as stage
 use Rattle.tj_body.specs.declared.point.Task.{Task}
 use Rattle.tj_body.specs.declared.point.Point.{Point}
-use Rattle.tj_body.proofs.Turns.{is_turn}
+use Rattle.tj_body.proofs.Histories.AskSteps.{is_ask_step}
 use Rattle.tj_body.proofs.Lists.{in_right, in_map}
 use Rattle.tj_body.proofs.Counts.{one_if, is, is_one, same_is, total, total_le, total_add, total_in}
-use Rattle.tj_body.proofs.Good.{task_proper}
-use Rattle.tj_body.proofs.Points.{stopped}
+use Rattle.tj_body.proofs.Histories.Good.{task_proper}
+use Rattle.tj_body.proofs.Histories.Points.{stopped}
 use Rattle.tj_body.proofs.Rounds.Rises.{tasks_within}
 use Rattle.tj_body.proofs.Rounds.Settles.{is_last}
 use Rattle.tj_body.proofs.Rounds.Keeps.{written}
@@ -52,15 +52,15 @@ module _ {B : Type 0} where
       → (x : Entry) × IsIn (p.name, x) (p.writes ++ (p.name, r) ∷ map (with_entry entry.Broken) (in_order p.holds))
   closes r p = (r, in_right (p.name, r) p.writes _ (inl refl))
 
-  turns : (strict : Bool) (p : Point B) (a : Ask B) (p' : Point B) → IsTurn strict p a p' → TellsOwn p'
-  turns strict p _ _ (fails a c) = closes _ p
-  turns strict p _ _ (ends v) = closes _ p
-  turns strict p _ _ makes = tt
-  turns strict p _ _ (forks b pass hand l e) = tt
-  turns strict p _ _ (sets k v s o) = tt
-  turns strict p _ _ (gets spare k s) = tt
-  turns strict p _ _ (joins spare k s o) = tt
-  turns strict p _ _ (prints i) = tt
+  ask_steps : (strict : Bool) (p : Point B) (a : Ask B) (p' : Point B) → IsAskStep strict p a p' → TellsOwn p'
+  ask_steps strict p _ _ (fails a c) = closes _ p
+  ask_steps strict p _ _ (ends v) = closes _ p
+  ask_steps strict p _ _ makes = tt
+  ask_steps strict p _ _ (forks b pass hand l e) = tt
+  ask_steps strict p _ _ (sets k v s o) = tt
+  ask_steps strict p _ _ (gets spare k s) = tt
+  ask_steps strict p _ _ (joins spare k s o) = tt
+  ask_steps strict p _ _ (prints i) = tt
 
   reads : (spare : Bool) (c : Name) (x : Entry) (p : Point B) → TellsOwn (after_read spare c x p)
   reads true c entry.Broken p = tt
@@ -76,7 +76,7 @@ module _ {B : Type 0} where
     goes : (st : PointStage) (p : Point B) → TellsOwn p → TellsOwn (after_stage rules V st p)
     goes (stage.Answered a) p g =
         let ask = rules.asks p.body a in let next : Point B = record p { body = rules.then p.body a } in
-        turns rules.strict next ask _ (is_turn rules.strict next ask)
+        ask_steps rules.strict next ask _ (is_ask_step rules.strict next ask)
     goes (stage.Waits c spare) p g = looks spare c (V c) p g
     goes (stage.Closed x) p g = g
 

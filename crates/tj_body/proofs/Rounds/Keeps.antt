@@ -10,9 +10,9 @@ use Rattle.tj_body.specs.declared.point.PointStage.TheVariants as stage
 use Rattle.tj_body.specs.declared.point.Task.{Task}
 use Rattle.tj_body.specs.declared.point.Point.{Point}
 use Rattle.tj_body.proofs.Lists.{in_begins, in_flat_map, from_flat_map}
-use Rattle.tj_body.proofs.Grows.{more}
-use Rattle.tj_body.proofs.Good.{task_proper}
-use Rattle.tj_body.proofs.Points.{reads_on, point_up, in_history}
+use Rattle.tj_body.proofs.Histories.Grows.{more}
+use Rattle.tj_body.proofs.Histories.Good.{task_proper}
+use Rattle.tj_body.proofs.Histories.Points.{reads_on, point_up, in_history}
 use Rattle.tj_body.proofs.Rounds.Rises.{within, of_entries}
 
 module _ {B : Type 0} (rules : Rules B) where

@@ -14,10 +14,10 @@ use Rattle.tj_body.specs.declared.point.Entry.{Entry}
 use Rattle.tj_body.specs.declared.point.Task.{Task}
 use Rattle.tj_body.specs.declared.point.Point.{Point}
 use Rattle.tj_body.proofs.Lists.{in_begins, from_flat_map}
-use Rattle.tj_body.proofs.Grows.{GoesOn, from_start, waiting_stays, same_or_waiting}
+use Rattle.tj_body.proofs.Histories.Grows.{GoesOn, from_start, waiting_stays, same_or_waiting}
 use Rattle.tj_body.proofs.Counts.{fewer, at_least}
-use Rattle.tj_body.proofs.Good.{task_proper}
-use Rattle.tj_body.proofs.Points.{point_up, stopped_stays, later_point, stays, halt}
+use Rattle.tj_body.proofs.Histories.Good.{task_proper}
+use Rattle.tj_body.proofs.Histories.Points.{point_up, stopped_stays, later_point, stays, halt}
 use Rattle.tj_body.proofs.Rounds.Rises.{tasks_within, one_of_all, within, in_entries, once_name}
 use Rattle.tj_body.proofs.Rounds.Settles.{last, last_task}
 use Rattle.tj_body.proofs.Rounds.Keeps.{written, forked}

@@ -12,11 +12,11 @@ use Rattle.tj_body.specs.declared.point.Entry.{Entry}
 use Rattle.tj_body.specs.declared.point.Task.{Task}
 use Rattle.tj_body.specs.declared.point.Point.{Point}
 use Rattle.tj_body.proofs.Lists.{Sub, sub_nil, sub_cons, sub_begins, sub_in, flat_map_sub, from_flat_map}
-use Rattle.tj_body.proofs.Grows.{GoesOn, more}
+use Rattle.tj_body.proofs.Histories.Grows.{GoesOn, more}
 use Rattle.tj_body.proofs.Counts.{is, is_one, total, total_in, total_one, total_le, total_flat_map, times}
 use Rattle.tj_body.proofs.Counts.{times_map, times_of_in}
 use Rattle.tj_body.proofs.Counts.{wrote, in_of_times, at_most_one, distinct_of_times}
-use Rattle.tj_body.proofs.Prefixes.{begins}
+use Rattle.tj_body.proofs.Histories.Prefixes.{begins}
 use Rattle.tj_body.proofs.Rounds.Families.{uses, once_used, once_cell, used_cells, from_entry, to_entry}
 
 -- a name is written as often as it stands among the names of the entries

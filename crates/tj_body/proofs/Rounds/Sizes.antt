@@ -17,11 +17,11 @@ use Rattle.tj_body.proofs.Lists.{sub_begins, sub_length, in_right}
 use Rattle.tj_body.proofs.Counts.{is, total_some, name_of_is, total, total_le, times}
 use Rattle.tj_body.proofs.Counts.{times_of_in, in_of_times, fewer, at_least}
 use Rattle.tj_body.proofs.Counts.{at_most_one}
-use Rattle.tj_body.proofs.Prefixes.{begins, under, under_is, numbered_once}
-use Rattle.tj_body.proofs.Accounts.{numbered, fair}
-use Rattle.tj_body.proofs.Grows.{from_start}
-use Rattle.tj_body.proofs.Good.{task_proper}
-use Rattle.tj_body.proofs.Points.{in_history}
+use Rattle.tj_body.proofs.Histories.Prefixes.{begins, under, under_is, numbered_once}
+use Rattle.tj_body.proofs.Histories.Accounts.{numbered, fair}
+use Rattle.tj_body.proofs.Histories.Grows.{from_start}
+use Rattle.tj_body.proofs.Histories.Good.{task_proper}
+use Rattle.tj_body.proofs.Histories.Points.{in_history}
 use Rattle.tj_body.proofs.Rounds.Rises.{cells_within}
 use Rattle.tj_body.proofs.Rounds.Keeps.{task_cell, promised, forked}
 

@@ -12,7 +12,7 @@ use Rattle.tj_body.specs.Rounds.{family, given, tasks, last_round, meaning, IsFu
 use Rattle.tj_body.specs.Points.{IsIn, IsProper, MayAnswer, IsGoodAt, IsGood}
 use Rattle.tj_body.specs.RoundPoints.{IsNamed}
 use Rattle.tj_body.specs.NeverWaits.{NoneWaits, WaitInOrder, IsNoGet, IsWithoutGet}
-use Rattle.tj_body.specs.Turns.{get_of, IsTurn, fails, ends, makes, forks, sets, gets, joins, prints}
+use Rattle.tj_body.specs.Inner.AskSteps.{get_of, IsAskStep, fails, ends, makes, forks, sets, gets, joins, prints}
 use Rattle.tj_body.specs.declared.ask.Ask.{Ask}
 use Rattle.tj_body.specs.declared.point.Entry.{Entry}
 use Rattle.tj_body.specs.declared.point.Value.TheVariants as value
@@ -22,9 +22,9 @@ use Rattle.tj_body.specs.declared.point.PointStage.TheVariants as stage
 use Rattle.tj_body.specs.declared.point.Task.{Task}
 use Rattle.tj_body.specs.declared.point.Point.{Point}
 use Rattle.tj_body.proofs.Lists.{in_either, in_flat_map, from_flat_map, in_map, to_map}
-use Rattle.tj_body.proofs.Turns.{is_turn}
+use Rattle.tj_body.proofs.Histories.AskSteps.{is_ask_step}
 use Rattle.tj_body.proofs.Rounds.Families.{same_name}
-use Rattle.tj_body.proofs.Good.{good, task_proper}
+use Rattle.tj_body.proofs.Histories.Good.{good, task_proper}
 use Rattle.tj_body.proofs.Rounds.Rises.{tasks_within}
 use Rattle.tj_body.proofs.Rounds.Settles.{is_last}
 use Rattle.tj_body.proofs.References.{at_place, has_named}
@@ -53,22 +53,22 @@ module _ {B : Type 0} (calm : B → Bool) (TaskName : Name → Type 0) where
   no_get_of false k h = h
 
   -- an ask that is no get keeps it
-  turns : (p : Point B) (a : Ask B) (p' : Point B) → IsTurn true p a p' → IsNoGet calm a → IsKept p
+  ask_steps : (p : Point B) (a : Ask B) (p' : Point B) → IsAskStep true p a p' → IsNoGet calm a → IsKept p
       → ((k : ℕ) → (reference p k).sort ≡ sort.Task → TaskName (reference p k).name) → IsCalm p'
-  turns p _ _ (fails a c) y k n = (k, tt)
-  turns p _ _ (ends v) y k n = (k, tt)
-  turns p _ _ makes y k n = (k, tt)
-  turns p _ _ (forks b pass hand l e) y k n =
+  ask_steps p _ _ (fails a c) y k n = (k, tt)
+  ask_steps p _ _ (ends v) y k n = (k, tt)
+  ask_steps p _ _ makes y k n = (k, tt)
+  ask_steps p _ _ (forks b pass hand l e) y k n =
       ((k.0, λ c i. ⊎_elim (λ j. k.1 c j) (λ j. newest c j) (in_either c p.children _ i)), tt) where
         newest : (c : Task B)
             → IsIn c (next_child b (map (reference p) pass) (map (λ k. (reference p k).name) hand) p ∷ [])
             → calm c.body ≡ true
         newest c (inl e) = subst (λ (z : Task B). calm z.body ≡ true) (sym e) y
         newest c (inr j) = absurd j
-  turns p _ _ (sets i v s o) y k n = (k, tt)
-  turns p _ _ (gets spare i s) y k n = absurd (no_get_of spare i y)
-  turns p _ _ (joins spare i s o) y k n = (k, (n i s, before_so (before p.name (reference p i).name) o))
-  turns p _ _ (prints i) y k n = (k, tt)
+  ask_steps p _ _ (sets i v s o) y k n = (k, tt)
+  ask_steps p _ _ (gets spare i s) y k n = absurd (no_get_of spare i y)
+  ask_steps p _ _ (joins spare i s o) y k n = (k, (n i s, before_so (before p.name (reference p i).name) o))
+  ask_steps p _ _ (prints i) y k n = (k, tt)
 
   -- and so does the answer of a wait
   reads : (spare : Bool) (c : Name) (x : Entry) (p : Point B) → IsKept p → IsCalm (after_read spare c x p)
@@ -105,7 +105,7 @@ module _ {B : Type 0} (given_program : Program B) (obeys : AreLawful given_progr
       let n = no_get p.body a k.0.0 m.fits in
       let ask = program.rules.asks p.body a in
       let next : Point B = record p { body = program.rules.then p.body a } in
-      turns calm (IsNamed program sort.Task) next ask _ (is_turn true next ask) n.0 (n.1, k.0.1) f
+      ask_steps calm (IsNamed program sort.Task) next ask _ (is_ask_step true next ask) n.0 (n.1, k.0.1) f
   goes W (stage.Waits q spare) p e g k f = looks calm (IsNamed program sort.Task) spare q (W q) p k
   goes W (stage.Closed x) p e g k f = k
 

@@ -10,7 +10,7 @@ use Rattle.tj_base.specs.Puts.{put}
 use Rattle.tj_base.proofs.Puts.{at_put, put_here, put_else, put_same}
 use Rattle.tj_core.specs.CoreState.{CellStage, promise, walks, waits, CellState, CoreState, owner, stage}
 use Rattle.tj_core.specs.Events.{Allowed, WalksAt, restage, staged, walked, alter, owned_by}
-use Rattle.tj_core.specs.Loads.{one_load}
+use Rattle.tj_core.specs.Checker.Loads.{one_load}
 use Rattle.tj_core.specs.Inner.Slots.{stage_of}
 use Rattle.tj_core.specs.Inner.Columns.{stage_in, loads_in, room_in, HaveRoom, state_in}
 use Rattle.tj_core.specs.Inner.Machine.{state_of, limit_of, Refuses}

@@ -16,12 +16,12 @@ use Rattle.tj_core.specs.WaitGraph.{Leads, Reaches, IsOnCycleOf}
 use Rattle.tj_core.specs.Facts.{Watches, LastCloserFact}
 use Rattle.tj_core.specs.CoreFacts.{CoreFacts}
 use Rattle.tj_core.proofs.Columns.Puts.{re_owner, re_here, re_else}
-use Rattle.tj_core.proofs.Events.Frames.{Frame, some_none, leads_stays}
+use Rattle.tj_core.proofs.OneCell.Frames.{Frame, some_none, leads_stays}
 use Rattle.tj_core.proofs.Graph.WaitSteps.{cycle_at, cycle_leads}
 use Rattle.tj_core.proofs.Graph.Watches.{watch_keeps, IsKept}
-use Rattle.tj_core.proofs.Events.SoundTasks.{IsSoundWait}
-use Rattle.tj_core.proofs.Events.CellChanges.{Fits, cell_frame, facts_by, sound_by, goes_by, kept_once}
-use Rattle.tj_core.proofs.Events.RunChanges.{at_stage, stage_fits}
+use Rattle.tj_core.proofs.OneCell.SoundTasks.{IsSoundWait}
+use Rattle.tj_core.proofs.OneCell.CellChanges.{Fits, cell_frame, facts_by, sound_by, goes_by, kept_once}
+use Rattle.tj_core.proofs.OneCell.RunChanges.{at_stage, stage_fits}
 
 -- who may publish lives, doesn't wait, and has raised OTHERS by as much as its wait does
 publishes_calmly : (way : Way) (st : CellStage)

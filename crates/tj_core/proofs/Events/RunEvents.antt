@@ -12,14 +12,14 @@ use Rattle.tj_base.specs.Puts.{put}
 use Rattle.tj_core.specs.Events.{Allowed, after, new_cell, staged, owned_by, stage_after_close, raised_by}
 use Rattle.tj_core.specs.CoreFacts.{CoreFacts}
 use Rattle.tj_base.proofs.Puts.{at_put, put_here, put_else}
-use Rattle.tj_core.proofs.Events.Frames.{some_none}
+use Rattle.tj_core.proofs.OneCell.Frames.{some_none}
 use Rattle.tj_core.proofs.Graph.Watches.{GoesOn, IsKept}
 use Rattle.tj_core.proofs.Graph.ForkOrders.{task_there}
-use Rattle.tj_core.proofs.Events.SoundTasks.{lives_task}
-use Rattle.tj_core.proofs.Events.Makers.{IsFromMaker, from_maker_child, next_name_new, thing_made, thing_before}
-use Rattle.tj_core.proofs.Events.CellChanges.{with_cell, Fits, calmly_kept, kept_once}
-use Rattle.tj_core.proofs.Events.RunChanges.{runs_calmly, at_stage, stage_fits, owner_fits, ended_cell, end_fits}
-use Rattle.tj_core.proofs.Events.NewCells.{IsNewName, new_fits}
+use Rattle.tj_core.proofs.OneCell.SoundTasks.{lives_task}
+use Rattle.tj_core.proofs.OneCell.Makers.{IsFromMaker, from_maker_child, next_name_new, thing_made, thing_before}
+use Rattle.tj_core.proofs.OneCell.CellChanges.{with_cell, Fits, calmly_kept, kept_once}
+use Rattle.tj_core.proofs.OneCell.RunChanges.{runs_calmly, at_stage, stage_fits, owner_fits, ended_cell, end_fits}
+use Rattle.tj_core.proofs.OneCell.NewCells.{IsNewName, new_fits}
 
 -- what is kept by two changes is kept by an event
 kept_twice : (s m z : CoreState) → GoesOn s m → CoreFacts z × GoesOn m z → IsKept s z

@@ -6,8 +6,8 @@ use Rattle.tj_core.specs.CoreState.{running, CoreState, stage, wait, wait_of, Li
 use Rattle.tj_core.specs.Events.{Allowed, after, raised_by}
 use Rattle.tj_core.specs.CoreFacts.{CoreFacts}
 use Rattle.tj_core.proofs.Graph.Watches.{same_goes_on, IsKept}
-use Rattle.tj_core.proofs.Events.CellChanges.{with_cell, calmly_kept, kept_once}
-use Rattle.tj_core.proofs.Events.RunChanges.{at_stage, stage_fits}
+use Rattle.tj_core.proofs.OneCell.CellChanges.{with_cell, calmly_kept, kept_once}
+use Rattle.tj_core.proofs.OneCell.RunChanges.{at_stage, stage_fits}
 
 module _ (s : CoreState) (x : CoreFacts s) where
   -- Unwait keeps the facts: its cell is closed, so the task is on no cycle

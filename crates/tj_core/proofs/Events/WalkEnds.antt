@@ -12,10 +12,10 @@ use Rattle.tj_core.specs.Events.{Allowed, after, EndsWalk, walk_ended}
 use Rattle.tj_core.specs.WaitGraph.{Reaches, IsOnCycle}
 use Rattle.tj_core.specs.Facts.{IsLinked, IsTrail, IsOnCourse}
 use Rattle.tj_core.specs.CoreFacts.{CoreFacts}
-use Rattle.tj_core.proofs.Events.Frames.{some_none}
+use Rattle.tj_core.proofs.OneCell.Frames.{some_none}
 use Rattle.tj_core.proofs.Graph.WaitSteps.{round_least}
 use Rattle.tj_core.proofs.Graph.Watches.{IsKept}
-use Rattle.tj_core.proofs.Events.WaitChanges.{walker_of, last_read_is, restaged}
+use Rattle.tj_core.proofs.OneCell.WaitChanges.{walker_of, last_read_is, restaged}
 
 -- a walk that ends is off course
 pub off_course : (cells : Cells) (n c : ℕ) (w : Walker) (a : LastRead)

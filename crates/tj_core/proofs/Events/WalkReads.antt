@@ -24,8 +24,8 @@ use Rattle.tj_core.proofs.Graph.Chains.{chain_owner}
 use Rattle.tj_core.proofs.Graph.Watches.{IsKept}
 use Rattle.tj_core.proofs.Graph.ForkOrders.{waiter_there, no_return}
 use Rattle.tj_core.proofs.Graph.CycleLists.{cycle_fits}
-use Rattle.tj_core.proofs.Events.SoundTasks.{IsSoundWalker}
-use Rattle.tj_core.proofs.Events.WaitChanges.{walker_of, last_read_is, loads_are, restaged}
+use Rattle.tj_core.proofs.OneCell.SoundTasks.{IsSoundWalker}
+use Rattle.tj_core.proofs.OneCell.WaitChanges.{walker_of, last_read_is, loads_are, restaged}
 
 module _ (s : CoreState) (x : CoreFacts s) (task : CellId) where
   abbrev t : ℕ

@@ -6,7 +6,7 @@ use Rattle.tj_core.specs.declared.walk.TrailLink.{TrailLink}
 use Rattle.tj_core.specs.WaitGraph.{Leads, IsCycle, Reaches, IsOnCycle, IsOnCycleOf}
 use Rattle.tj_core.specs.Facts.{IsPresentChain}
 use Rattle.tj_core.proofs.Graph.WaitSteps.{some_same, leads_one, cycle_at, cycle_leads}
-use Rattle.tj_core.proofs.Events.Frames.{Frame, leads_stays}
+use Rattle.tj_core.proofs.OneCell.Frames.{Frame, leads_stays}
 
 module _ (s : Cells) where
   -- the task at the end of a chain of waits from t

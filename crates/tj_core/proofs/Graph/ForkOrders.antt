@@ -11,7 +11,7 @@ use Rattle.tj_core.specs.Events.{raised_by}
 use Rattle.tj_core.specs.WaitGraph.{Leads, Reaches}
 use Rattle.tj_core.specs.Facts.{raised_by_all}
 use Rattle.tj_core.specs.CoreFacts.{CoreFacts}
-use Rattle.tj_core.proofs.Events.Frames.{some_none}
+use Rattle.tj_core.proofs.OneCell.Frames.{some_none}
 
 none_raised : (n : ℕ) (f : Cells) (i : ℕ) → i < n → raised_by_all n f ≡ 0 → raised_by (stage f i) ≡ 0
 none_raised zero f i h e = absurd (omega arith)

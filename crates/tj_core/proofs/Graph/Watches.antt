@@ -11,7 +11,7 @@ use Rattle.tj_core.specs.WaitGraph.{Leads, IsOnCycleOf}
 use Rattle.tj_core.specs.Facts.{IsPresentChain, IsOnCourse, Watches, LastCloserFact}
 use Rattle.tj_core.specs.CoreFacts.{CoreFacts}
 use Rattle.tj_core.proofs.Graph.WaitSteps.{some_same, leads_one, cycle_at, cycle_next, cycle_leads}
-use Rattle.tj_core.proofs.Events.Frames.{Frame, leads_stays, course_stays}
+use Rattle.tj_core.proofs.OneCell.Frames.{Frame, leads_stays, course_stays}
 use Rattle.tj_core.proofs.Graph.Chains.{chain_end}
 
 module _ (s s' : CoreState) (f : Frame s s') where

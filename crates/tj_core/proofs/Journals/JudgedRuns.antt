@@ -4,7 +4,7 @@ use Rattle.tj_core.specs.declared.event.Event.{Event}
 use Rattle.tj_core.specs.CoreState.{CoreState, root_alone}
 use Rattle.tj_core.specs.CoreFacts.{CoreFacts}
 use Rattle.tj_core.specs.Events.{Allowed, after}
-use Rattle.tj_core.specs.Judging.{IsSaid, is_alarm, IsJudged, IsJudgedFrom, legal_line, illegal_line}
+use Rattle.tj_core.specs.Journals.Judging.{IsSaid, is_alarm, IsJudged, IsJudgedFrom, legal_line, illegal_line}
 use Rattle.tj_core.proofs.Events.EachEvent.{facts_after_event}
 use Rattle.tj_core.proofs.Events.LegalRuns.{start_facts}
 

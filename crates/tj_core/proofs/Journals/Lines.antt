@@ -3,7 +3,7 @@ use Rattle.std.proofs.Common.{◌≡◌, ℕ, suc, ◌+◌, ◌<◌, ◌≤◌, 
 use Rattle.std.specs.Prelude.{◌==◌}
 use Rattle.std.specs.List.{prefix_len, onto_first}
 use Rattle.tj_core.specs.declared.event.Event.{Event}
-use Rattle.tj_core.specs.Journal.{lines_of, words_of, HasSmallCells, Names, AreEventLines, IsFirstFault}
+use Rattle.tj_core.specs.Journals.Lines.{lines_of, words_of, HasSmallCells, Names, AreEventLines, IsFirstFault}
 
 abbrev pub on_line : ℕ → Bool
 on_line b = not (b == 10)
@@ -73,7 +73,7 @@ event_lines_length (l ∷ lines) (f ∷ events) h = ap suc (event_lines_length l
 -- the first line that isn't one of an event is one line
 pub one_fault : (lines : List (List ℕ)) (m n : ℕ) → IsFirstFault lines m → IsFirstFault lines n → m ≡ n
 one_fault lines m n a b =
-    a.place ∙ ap suc (go a.before a.events b.before b.events (sym a.whole ∙ b.whole) a.good b.good) ∙ sym b.place
+    a.number ∙ ap suc (go a.before a.events b.before b.events (sym a.whole ∙ b.whole) a.good b.good) ∙ sym b.number
   where
     go : (xs : List (List ℕ)) (es : List Event) (ys : List (List ℕ)) (fs : List Event)
         → xs ++ a.line ∷ a.after ≡ ys ++ b.line ∷ b.after → AreEventLines xs es → AreEventLines ys fs → length xs

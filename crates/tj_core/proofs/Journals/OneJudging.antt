@@ -5,8 +5,8 @@ use Rattle.tj_core.specs.declared.event.Event.TheVariants.{Alarm, Settle}
 use Rattle.tj_core.specs.declared.walk.Walker.{Walker}
 use Rattle.tj_core.specs.CoreState.{CoreState, root_alone}
 use Rattle.tj_core.specs.Events.{after}
-use Rattle.tj_core.specs.Judging.{IsSaid, is_alarm, IsJudgedFrom, settled_line, alarm_line}
-use Rattle.tj_core.specs.JournalLaws.{JudgingIsOne}
+use Rattle.tj_core.specs.Journals.Judging.{IsSaid, is_alarm, IsJudgedFrom, settled_line, alarm_line}
+use Rattle.tj_core.specs.Journals.Laws.{JudgingIsOne}
 use Rattle.tj_core.proofs.Graph.CycleLists.{cycle_one}
 
 -- what is said of an event is one text

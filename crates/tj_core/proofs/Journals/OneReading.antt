@@ -6,8 +6,8 @@ use Rattle.tj_core.specs.declared.event.Event.{Event}
 use Rattle.tj_core.specs.declared.event.Event.TheVariants.{Make, Fork, Hand, Close, Raise, Publish, LoadOthers}
 use Rattle.tj_core.specs.declared.event.Event.TheVariants.{LoadCount, ReadOwner, ReadWait, ReadOwnerAgain, Alarm}
 use Rattle.tj_core.specs.declared.event.Event.TheVariants.{Settle, Unwait, Lower}
-use Rattle.tj_core.specs.Journal.{verb_of, cells_of, words_of, HasSmallCells, Names}
-use Rattle.tj_core.specs.JournalLaws.{EventsAreOne, EventsHaveNoFault}
+use Rattle.tj_core.specs.Journals.Lines.{verb_of, cells_of, words_of, HasSmallCells, Names}
+use Rattle.tj_core.specs.Journals.Laws.{EventsAreOne, EventsHaveNoFault}
 use Rattle.tj_core.proofs.Journals.Lines.{fault_or_events}
 use Rattle.tj_core.proofs.Journals.Words.{cells_are}
 

@@ -5,7 +5,7 @@ use Rattle.std.specs.Result.{IfOk, IfErr, IsErrAnd}
 use Rattle.tj_core.specs.declared.event.Event.{Event}
 use Rattle.tj_core.specs.declared.journal.JournalFault.{JournalFault}
 use Rattle.tj_core.specs.declared.journal.JournalFault.TheVariants.{Line, Oom}
-use Rattle.tj_core.specs.Journal.{lines_of, words_of, HasSmallCells, Names, IsEventLine, AreEventLines, IsFirstFault, OrMemory}
+use Rattle.tj_core.specs.Journals.Lines.{lines_of, words_of, HasSmallCells, Names, IsEventLine, AreEventLines, IsFirstFault, OrMemory}
 use Rattle.tj_core.proofs.Journals.Lines.{event_lines_more, event_lines_length, one_fault, fault_or_events}
 
 -- the events are those of the lines in front of the rest
@@ -29,13 +29,13 @@ read_on bytes rest line after events more e h cut shorter named same = record {
 pub read_fault : (bytes rest line after : List ℕ) (events : List Event) (n : ℕ)
     → IsReadTo bytes rest events → lines_of rest ≡ line ∷ lines_of after → ¬ IsEventLine line
     → n ≡ length events + 1 → IsFirstFault (lines_of bytes) n
-read_fault bytes rest line after events n h cut bad place = record {
+read_fault bytes rest line after events n h cut bad number = record {
   before = h.before;
   line = line;
   after = lines_of after;
   events = events;
   whole = h.whole ∙ ap (λ ls. h.before ++ ls) cut;
-  place = let l = event_lines_length h.before events h.good in omega arith;
+  number = let l = event_lines_length h.before events h.good in omega arith;
   good = h.good;
   bad = bad;
 }

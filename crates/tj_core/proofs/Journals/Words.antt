@@ -4,7 +4,7 @@ use Rattle.std.specs.List.{AllByRecursion}
 use Rattle.std.specs.Option.{IfSome, IfNone}
 use Rattle.std.proofs.lemmas.Fmt.{decimal_injective}
 use Rattle.tj_core.specs.declared.event.Event.{Event}
-use Rattle.tj_core.specs.Journal.{verb_of, cells_of, HasSmallCells, Names}
+use Rattle.tj_core.specs.Journals.Lines.{verb_of, cells_of, HasSmallCells, Names}
 
 -- small numbers, all of them
 abbrev pub AreSmall : List ℕ → Type 0

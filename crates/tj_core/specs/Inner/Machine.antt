@@ -6,7 +6,7 @@ use Rattle.tj_core.specs.declared.slot_stage.SlotStage.{SlotStage}
 use Rattle.tj_core.specs.CoreState.{CoreState}
 use Rattle.tj_core.specs.Inner.SlotStages.{cell_stage}
 use Rattle.tj_core.specs.Events.{Allowed, after, IsRunning, with_new}
-use Rattle.tj_core.specs.Loads.{loads_after}
+use Rattle.tj_core.specs.Checker.Loads.{loads_after}
 use Rattle.tj_core.specs.Inner.Columns.{state_in, loads_in}
 
 -- the state that a machine keeps

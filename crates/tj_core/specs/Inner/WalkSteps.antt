@@ -1,7 +1,7 @@
 -- One step of a walk, with what it reads: its event, where it is the next one, and what it makes of the walk.
 use Rattle.std.specs.Prelude.{◌≡◌, ℕ, suc, ◌<◌, ◌≤◌, Option, Some, None}
 use Rattle.tj_base.specs.declared.cell.CellId.{CellId}
-use Rattle.tj_core.specs.declared.births.TheConstants.{MAX_CELLS}
+use Rattle.tj_core.specs.declared.births.TheConstants.{MAX_CORE_CELLS}
 use Rattle.tj_core.specs.declared.event.Event.{Event}
 use Rattle.tj_core.specs.declared.event.Event.TheVariants as events
 use Rattle.tj_core.specs.declared.walk.Way.{Way}
@@ -79,7 +79,7 @@ loads_by Settle loads = loads
 -- a count that the step reads is one that the trail has room for
 abbrev pub HasRoom : ℕ → WalkStep → Type 0
 HasRoom room (Others n) = Unit {0}
-HasRoom room (Count n) = (0 < n) × (n ≤ MAX_CELLS) × (n ≤ room)
+HasRoom room (Count n) = (0 < n) × (n ≤ MAX_CORE_CELLS) × (n ≤ room)
 HasRoom room (Owner o) = Unit {0}
 HasRoom room (Wait o) = Unit {0}
 HasRoom room (Again o) = Unit {0}

@@ -29,7 +29,7 @@ use Rattle.tj_syntax.specs.Trees.{Argument, Given, Statement, Statements, Task}
 use Rattle.tj_syntax.specs.Trees as tree
 use Rattle.tj_eval.specs.Expressions.{Computed, with_number, with_reference, exact, is_i64, applied, compares, truth}
 use Rattle.tj_eval.specs.Expressions.{held, value, chained}
-use Rattle.tj_eval.specs.Statements.{TaskState, Turn, goes_on, asks, fails, Next, ended, kept, value_in, then_turn}
+use Rattle.tj_eval.specs.Statements.{TaskState, Effect, goes_on, asks, fails, Next, ended, kept, value_in, then_effect}
 use Rattle.tj_eval.specs.Statements.{number, reference}
 use Rattle.tj_eval.specs.Statements.{Due, start, place, cell, cell_or, done, over, next_from, next_of, next_ask}
 use Rattle.tj_eval.specs.Statements.{next_after, next}
@@ -173,23 +173,23 @@ record IsGood (n p : ℕ) (q : Ask TaskState) (new : TaskState) : Type 0 where
 abbrev Good : ℕ → ℕ → Next → Type 0
 Good n p next = IsGood n p next.0 next.1
 
--- the turn of a task leaves it sound
-abbrev IsGoodTurn : TaskState → Turn → Type 0
-IsGoodTurn t (goes_on new) = IsSound new × (new.places ≡ t.places)
-IsGoodTurn t (asks q new) = IsGood (suc t.steps) t.places q new
-IsGoodTurn t (fails fault) = Unit {0}
+-- the effect of a task leaves it sound
+abbrev IsGoodEffect : TaskState → Effect → Type 0
+IsGoodEffect t (goes_on new) = IsSound new × (new.places ≡ t.places)
+IsGoodEffect t (asks q new) = IsGood (suc t.steps) t.places q new
+IsGoodEffect t (fails fault) = Unit {0}
 
-good-turn : {A : Type 0} (P : A → Type 0) (t : TaskState) (c : Result A Trouble) (go : A → Turn) → IfGood P c
-    → ((x : A) → P x → IsGoodTurn t (go x)) → IsGoodTurn t (then_turn c go)
-good-turn P t (Ok x) go h k = k x h
-good-turn P t (Err fault) go h k = tt
+good-effect : {A : Type 0} (P : A → Type 0) (t : TaskState) (c : Result A Trouble) (go : A → Effect) → IfGood P c
+    → ((x : A) → P x → IsGoodEffect t (go x)) → IsGoodEffect t (then_effect c go)
+good-effect P t (Ok x) go h k = k x h
+good-effect P t (Err fault) go h k = tt
 
 sound-due : (t : TaskState) (d : Due) → IsSound t → IsSound (record t { due = d })
 sound-due t d s = record { few = s.few; limit = s.limit; some = s.some; paid = s.paid }
 
 -- a sound task asks
 good-ask : (t : TaskState) (d : Due) (q : Ask TaskState) → IsSound t → await_of d ≡ awaited q → Placed t.places q
-    → IsGoodTurn t (asks q (record t { due = d }))
+    → IsGoodEffect t (asks q (record t { due = d }))
 good-ask t d q s e h = record {
   falls = inr (omega arith);
   awaits = awaits-sound (record t { due = d }) (sound-due t d s) ∙ e;
@@ -310,15 +310,15 @@ good-fork t d list values s l h = record {
   few : length (references values) ≤ most_passed
   few = let a = few-references values in let b : length values ≡ length list = h.1 in omega (arith, a, b, l)
 
-good-if : (t : TaskState) (b : Bool) (x y : Turn) → (b ≡ true → IsGoodTurn t x) → IsGoodTurn t y
-    → IsGoodTurn t (if b then x else y)
+good-if : (t : TaskState) (b : Bool) (x y : Effect) → (b ≡ true → IsGoodEffect t x) → IsGoodEffect t y
+    → IsGoodEffect t (if b then x else y)
 good-if t true x y h k = h refl
 good-if t false x y h k = k
 
 good-forked : (t : TaskState) (d : Task) (into : Option ℕ) (list : List Argument) → IsSound t → has_few_params d ≡ true
-    → IsGoodTurn t (forked t (Some d) into list)
+    → IsGoodEffect t (forked t (Some d) into list)
 good-forked t d into list s e = good-if t (nat_eq (length list) d.params) _ (fails trouble.Kind)
-    (λ f. good-turn (AreArguments t.places list) t (arguments t.vars list) _
+    (λ f. good-effect (AreArguments t.places list) t (arguments t.vars list) _
     (fine-arguments t.places t.vars list s.some s.paid)
     (λ values h. good-ask t (place into) (fork_of t d list values) s refl
     (good-fork t d list values s (few f) h))) tt where
@@ -331,58 +331,58 @@ TaskAt script f = ((d : Task) × (f < length script) × (slice_get script f ≡ 
     × (get_or script f d ≡ d)) ⊎ ((length script ≤ f) × (slice_get script f ≡ None))
 
 good-fork-at : (t : TaskState) (f : ℕ) (into : Option ℕ) (list : List Argument) → IsSound t
-    → IsGoodTurn t (forked t (slice_get t.script f) into list)
+    → IsGoodEffect t (forked t (slice_get t.script f) into list)
 good-fork-at t f into list s = by (slice_get_cases t.script f).1 where
-  by : TaskAt t.script f → IsGoodTurn t (forked t (slice_get t.script f) into list)
-  by (inl d) = subst (λ z. IsGoodTurn t (forked t z into list)) (sym d.2) (good-forked t d.0 into list s
+  by : TaskAt t.script f → IsGoodEffect t (forked t (slice_get t.script f) into list)
+  by (inl d) = subst (λ z. IsGoodEffect t (forked t z into list)) (sym d.2) (good-forked t d.0 into list s
       (subst (λ z. has_few_params z ≡ true) d.3 (AllPass-from_list_all has_few_params t.script s.few f d.0 d.1)))
-  by (inr h) = subst (λ z. IsGoodTurn t (forked t z into list)) (sym h.1) tt
+  by (inr h) = subst (λ z. IsGoodEffect t (forked t z into list)) (sym h.1) tt
 
 -- Statements.
 good-reference_of : (t : TaskState) (r : RefOf) → IsSound t → IfGood (λ k. k < t.places) (reference_of t r)
 good-reference_of t (ref.Var x) s = fine-reference t.places (Ok (held t.vars x)) (fine-held t.places t.vars x s.paid)
 good-reference_of t ref.Me s = s.some
 
-good-asked : (t : TaskState) (into : Option ℕ) (call : tree.Ask) → IsSound t → IsGoodTurn t (asked t into call)
+good-asked : (t : TaskState) (into : Option ℕ) (call : tree.Ask) → IsSound t → IsGoodEffect t (asked t into call)
 good-asked t into tree.new s = good-ask t (place into) ask.New s refl tt
 good-asked t into (tree.fork f list) s = good-fork-at t f into list s
-good-asked t into (tree.get r None) s = good-turn (λ k. k < t.places) t (reference_of t r) _ (good-reference_of t r s)
+good-asked t into (tree.get r None) s = good-effect (λ k. k < t.places) t (reference_of t r) _ (good-reference_of t r s)
     (λ k h. good-ask t (cell into) (ask.Get k) s refl h)
 good-asked t into (tree.get r (Some e)) s =
-    good-turn (λ k. k < t.places) t (reference_of t r) _ (good-reference_of t r s)
+    good-effect (λ k. k < t.places) t (reference_of t r) _ (good-reference_of t r s)
     (λ k h. good-ask t (cell_or into e) (ask.GetOr k) s refl h)
-good-asked t into (tree.join r None) s = good-turn (λ k. k < t.places) t (reference_of t r) _ (good-reference_of t r s)
+good-asked t into (tree.join r None) s = good-effect (λ k. k < t.places) t (reference_of t r) _ (good-reference_of t r s)
     (λ k h. good-ask t (cell into) (ask.Join k) s refl h)
 good-asked t into (tree.join r (Some e)) s =
-    good-turn (λ k. k < t.places) t (reference_of t r) _ (good-reference_of t r s)
+    good-effect (λ k. k < t.places) t (reference_of t r) _ (good-reference_of t r s)
     (λ k h. good-ask t (cell_or into e) (ask.JoinOr k) s refl h)
 
 fine-value_in : (t : TaskState) (e : Expression) → IsSound t → IsFine t.places (value_in t e)
 fine-value_in t e s = fine-value t.places t.vars e s.some s.paid
 
-good-given : (t : TaskState) (x : ℕ) (side : Given) → IsSound t → IsGoodTurn t (given t x side)
+good-given : (t : TaskState) (x : ℕ) (side : Given) → IsSound t → IsGoodEffect t (given t x side)
 good-given t x (tree.answer call) s = good-asked t (Some x) call s
-good-given t x (tree.result_of e) s = good-turn (IsPaid t.places) t (value_in t e) _ (fine-value_in t e s)
+good-given t x (tree.result_of e) s = good-effect (IsPaid t.places) t (value_in t e) _ (fine-value_in t e s)
     (λ v h. (sound-kept t (Some x) v s h, refl))
 
 sound-first : (t : TaskState) (list : List Statement) → IsSound t → IsSound (first list t)
 sound-first t list s = record { few = s.few; limit = s.limit; some = s.some; paid = s.paid }
 
-good-begun : (t : TaskState) (s : Statement) → IsSound t → IsGoodTurn t (begun t s)
+good-begun : (t : TaskState) (s : Statement) → IsSound t → IsGoodEffect t (begun t s)
 good-begun t (tree.let_new x side) h = good-given t x side h
 good-begun t (tree.assign x side) h = good-given t x side h
 good-begun t (tree.ask call) h = good-asked t None call h
-good-begun t (tree.print e) h = good-turn (λ _. Unit {0}) t (number (value_in t e)) _ (any (number (value_in t e)))
+good-begun t (tree.print e) h = good-effect (λ _. Unit {0}) t (number (value_in t e)) _ (any (number (value_in t e)))
     (λ n _. good-ask t done (ask.Emit n) h refl tt)
-good-begun t (tree.set_cell x e) h = good-turn (λ k. k < t.places) t (reference (Ok (held t.vars x))) _
+good-begun t (tree.set_cell x e) h = good-effect (λ k. k < t.places) t (reference (Ok (held t.vars x))) _
     (good-reference_of t (ref.Var x) h)
-    (λ k p. good-turn (IsPaid t.places) t (value_in t e) _ (fine-value_in t e h)
+    (λ k p. good-effect (IsPaid t.places) t (value_in t e) _ (fine-value_in t e h)
     (λ v q. good-ask t done (ask.Set k v) h refl (p, q)))
-good-begun t (tree.return e) h = good-turn (IsPaid t.places) t (value_in t e) _ (fine-value_in t e h)
+good-begun t (tree.return e) h = good-effect (IsPaid t.places) t (value_in t e) _ (fine-value_in t e h)
     (λ v p. good-end (suc t.steps) t (ask.End v) tt refl p)
-good-begun t (tree.choose e body other) h = good-turn (λ _. Unit {0}) t (number (value_in t e)) _
+good-begun t (tree.choose e body other) h = good-effect (λ _. Unit {0}) t (number (value_in t e)) _
     (any (number (value_in t e))) (λ n _. (sound-first t _ h, refl))
-good-begun t (tree.repeat e body) h = good-turn (λ _. Unit {0}) t (number (value_in t e)) _
+good-begun t (tree.repeat e body) h = good-effect (λ _. Unit {0}) t (number (value_in t e)) _
     (any (number (value_in t e))) (λ n _. (sound-first t _ h, refl))
 
 -- Whole ways to the next ask.
@@ -402,10 +402,10 @@ one_less : (q : Ask TaskState) (k n : ℕ) → Ends q ⊎ (k < n) → Ends q ⊎
 one_less q k n (inl e) = inl e
 one_less q k n (inr l) = inr (omega arith)
 
-good-next_from : (n : ℕ) (t : TaskState) (rest : List Statement) (turn : Turn) (go : TaskState → Next)
+good-next_from : (n : ℕ) (t : TaskState) (rest : List Statement) (effect : Effect) (go : TaskState → Next)
     → ((new : TaskState) → IsSound new → Good n new.places (go new))
-    → IsGoodTurn (record t { rest = rest; steps = n }) turn
-    → Good (suc n) t.places (next_from (record t { rest = rest; steps = n }) turn go)
+    → IsGoodEffect (record t { rest = rest; steps = n }) effect
+    → Good (suc n) t.places (next_from (record t { rest = rest; steps = n }) effect go)
 good-next_from n t rest (goes_on new) go h k = let g = h new k.0 in record {
   falls = one_less (go new).0 (go new).1.steps n g.falls;
   awaits = g.awaits;

@@ -134,7 +134,7 @@ module _ (lines : List ActLine) where
     pub stuck : moved ≡ false → can_go_on_at old i ≡ false
 
   -- Each task goes on as far as it can. Where one could, fewer acts are left, and else no task can go on.
-  pub record IsTurnTaken (old new : List Learner) (moved : Bool) : Type 0 where
+  pub record IsSweep (old new : List Learner) (moved : Bool) : Type 0 where
     pub under_way : IsUnderWay new
     pub fewer : moved ≡ true → acts_left new < acts_left old
     pub stuck : moved ≡ false → AreStuck new

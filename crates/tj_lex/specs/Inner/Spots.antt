@@ -3,14 +3,14 @@ use Rattle.std.specs.Prelude.{ℕ, ◌≡◌, ◌<◌, ◌≤◌, List, [], ◌�
 use Rattle.std.specs.List.{slice_range}
 use Rattle.tj_lex.specs.declared.gap.Spot.{Spot}
 use Rattle.tj_lex.specs.Bytes.{line_feed}
-use Rattle.tj_lex.specs.Places.{place_after}
+use Rattle.tj_lex.specs.Positions.{position_after}
 use Rattle.tj_lex.specs.Tokens.{IsGap, Spells}
 use Rattle.tj_lex.specs.declared.scan.Lexeme.{Lexeme}
 
--- the spot stands within the text, or at its end, and its place is that of its index
+-- the spot stands within the text, or at its end, and its position is that of its index
 pub record IsSpot (text : List ℕ) (spot : Spot) : Type 0 where
   pub within : spot.next ≤ length text
-  pub place : spot.at ≡ place_after (take spot.next text)
+  pub position : spot.at ≡ position_after (take spot.next text)
 
 -- from one index to another there are blanks and comments; at the end a comment may lack its line feed
 pub record AreApart (text : List ℕ) (start stop : ℕ) : Type 0 where

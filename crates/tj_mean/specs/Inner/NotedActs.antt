@@ -40,6 +40,6 @@ module _ {B : Type 0} where
   fork_noted None = []
   fork_noted (Some c) = act.Fork c.name ∷ []
 
-  -- the fork of the child with this place
+  -- the fork of the child with this index
   abbrev pub forked_since : ℕ → Point B → List Act
   forked_since i p = fork_noted (slice_get p.children i)

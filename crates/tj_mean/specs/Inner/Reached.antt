@@ -19,7 +19,7 @@ module _ {B : Type 0} (rules : Rules B) (V : Assignment) where
   abbrev pub Reaches : Point B → Point B → Type 0
   Reaches p r = (k : ℕ) × (r ≡ steps_from p k)
 
--- the place is that of a task that hasn't stopped
+-- the index is that of a task that hasn't stopped
 abbrev pub CanGoOn : {B : Type 0} → Assignment → List (Point B) → ℕ → Type 0
 CanGoOn {B} V points at = (at < length points) × ((d : Point B) → ¬ HasStopped V (get_or points at d))
 

@@ -3,8 +3,8 @@ use Rattle.std.specs.Prelude.{◌≡◌, ℕ, ◌<◌, List, [], ◌∷◌, get_
 use Rattle.tj_base.specs.ForkOrder.{Name, child}
 use Rattle.tj_base.specs.declared.cell.CellId.{CellId}
 use Rattle.tj_body.specs.declared.point.Reference.{Reference}
-use Rattle.tj_words.specs.ClosedCells.{AreNamed}
-use Rattle.tj_words.specs.RestMeaning.{names}
+use Rattle.tj_words.specs.AtRest.ClosedCells.{AreNamed}
+use Rattle.tj_words.specs.AtRest.RestMeaning.{names}
 use Rattle.tj_words.specs.declared.closed.RestCell.{RestCell}
 
 -- the cell is one of the first n

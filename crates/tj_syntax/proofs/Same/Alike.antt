@@ -125,7 +125,7 @@ no_end_within (n ∷ notes) h (t ∷ front) more e =
 
 -- ---- lists that end so
 
--- the last of a list stands at a place, or behind it
+-- the last of a list stands at an index, or behind it
 abbrev pub LastOf : (a : List Tok) → Tok → List Tok → Tok → List Tok → Type 0
 LastOf a t front u back = ((back ≡ []) × (a ≡ front) × (t ≡ u)) ⊎
     ((more : List Tok) × (a ≡ front ++ u ∷ more) × (back ≡ more ++ t ∷ []))

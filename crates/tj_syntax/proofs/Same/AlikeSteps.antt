@@ -36,7 +36,7 @@ abbrev pub left_behind : {A : Type 0} → Outcome A → ℕ
 left_behind (Ok p) = length p.1.ahead
 left_behind (Err e) = left_at e
 
--- The outcomes of two readings, of a list that ends in `x` and of one that ends in `y`: both are read to the same place
+-- The outcomes of two readings, of a list that ends in `x` and of one that ends in `y`: both are read equally far
 -- before these ends, or stop for the same cause there; or the first has gone into its end.
 pub data Alike (x y : List Tok) {A K : Type 0} (see : A → K) (n m : ℕ) : Outcome A → Outcome A → Type 0 where
   read : (before : List Tok) (vars : List Name) (heads heads' : List Head) (flaw flaw' : Option Stop) (a b : A)

@@ -103,23 +103,23 @@ unfolding tasks_from
 tasks_narrow zero found = end_narrow (pure_narrow found) (refuse_local {see = any} 0 0 0 0).narrow
 tasks_narrow (suc n) found = turn_narrow n (tasks_narrow n) found
 
-tasks_turns : (n d : ℕ) (found found' : List Task) → names found ≡ names found'
+tasks_repeats : (n d : ℕ) (found found' : List Task) → names found ≡ names found'
     → Local n d n d any (tasks_from n found) (tasks_from d found')
 unfolding tasks_from
-tasks_turns zero zero found found' same = if_end _ _ _ _ (pure_local {a = found} {b = found'} refl 0 0)
+tasks_repeats zero zero found found' same = if_end _ _ _ _ (pure_local {a = found} {b = found'} refl 0 0)
     (refuse_local 0 0 0 0)
-tasks_turns zero (suc d) found found' same = at_end zero (suc d) zero (suc d) (inl refl) (tasks_narrow zero found)
+tasks_repeats zero (suc d) found found' same = at_end zero (suc d) zero (suc d) (inl refl) (tasks_narrow zero found)
     (λ vars heads heads' flaw flaw'. read [] vars heads heads' flaw flaw' found found' refl (omega arith) (omega arith))
-tasks_turns (suc n) zero found found' same = at_end (suc n) zero (suc n) zero (inr refl) (tasks_narrow (suc n) found)
+tasks_repeats (suc n) zero found found' same = at_end (suc n) zero (suc n) zero (inr refl) (tasks_narrow (suc n) found)
     (λ vars heads heads' flaw flaw'. read [] vars heads heads' flaw flaw' found found' refl (omega arith) (omega arith))
-tasks_turns (suc n) (suc d) found found' same =
+tasks_repeats (suc n) (suc d) found found' same =
     if_end _ _ _ _ (pure_local {a = found} {b = found'} refl (suc n) (suc d))
     (strictly n d (bind_local {see = name_of}
     (subst (λ l. Local (suc n) (suc d) n d name_of (task (names found)) (task l)) same (task_local (names found) n d))
-    (λ t u e. tasks_turns n d (found ++ t ∷ []) (found' ++ u ∷ [])
+    (λ t u e. tasks_repeats n d (found ++ t ∷ []) (found' ++ u ∷ [])
     (names-push found t ∙ ap (λ l. l ++ t.name ∷ []) same ∙ ap (λ x. names found' ++ x ∷ []) e
     ∙ sym (names-push found' u)))))
 
 pub tasks_local : Loose any tasks tasks
 unfolding tasks
-tasks_local n d = by_count (λ c. tasks_from c []) (λ c. tasks_from c []) (λ a b. tasks_turns a b [] [] refl)
+tasks_local n d = by_count (λ c. tasks_from c []) (λ c. tasks_from c []) (λ a b. tasks_repeats a b [] [] refl)

@@ -53,15 +53,15 @@ longer_heads found (t ∷ rest) =
     (one.0 ++ all.0, all.1 ∙ ap (λ hs. hs ++ all.0) one.1 ∙ append_assoc found one.0 all.0)
 
 -- a head whose name isn't there before is found
-place_here : (found more : List Head) (h : Head) (i : ℕ)
+index_here : (found more : List Head) (h : Head) (i : ℕ)
     → position_from (λ name. bytes_eq name h.name) i (names_of found) ≡ None
     → position_from (λ name. bytes_eq name h.name) i (names_of (found ++ h ∷ more)) ≡ Some (i + length found)
-place_here [] more h i e =
+index_here [] more h i e =
     let same : bytes_eq h.name h.name ≡ true = (bytes_eq-Decides h.name h.name).1 refl in
     let far : i ≡ i + 0 = omega arith in
     ap (λ b. cond b (Some i) (position_from (λ name. bytes_eq name h.name) (i + 1) (names_of more))) same
     ∙ ap (λ n. Some n) far
-place_here (x ∷ found) more h i e =
+index_here (x ∷ found) more h i e =
     let far : (i + 1) + length found ≡ i + length (x ∷ found) = omega arith in
     ⊎_elim
     (λ y. let some : Some i ≡ None = subst (λ b. cond b (Some i)
@@ -69,7 +69,7 @@ place_here (x ∷ found) more h i e =
     (λ n. let later : position_from (λ name. bytes_eq name h.name) (i + 1) (names_of found) ≡ None =
     subst (λ b. cond b (Some i) (position_from (λ name. bytes_eq name h.name) (i + 1) (names_of found)) ≡ None) n e in
     ap (λ b. cond b (Some i) (position_from (λ name. bytes_eq name h.name) (i + 1) (names_of (found ++ h ∷ more)))) n
-    ∙ place_here found more h (i + 1) later ∙ ap (λ l. Some l) far)
+    ∙ index_here found more h (i + 1) later ∙ ap (λ l. Some l) far)
     (cases_Bool (bytes_eq x.name h.name))
 
 get_here : (found more : List Head) (h : Head) → slice_get (found ++ h ∷ more) (length found) ≡ Some h
@@ -80,7 +80,7 @@ found_here : (found more : List Head) (h : Head) → index_of (names_of found) h
     → head_named (found ++ h ∷ more) h.name ≡ Some h
 found_here found more h e =
     let zero_more : 0 + length found ≡ length found = omega arith in
-    ap (λ o. head_at (found ++ h ∷ more) o) (place_here found more h 0 e ∙ ap (λ n. Some n) zero_more)
+    ap (λ o. head_at (found ++ h ∷ more) o) (index_here found more h 0 e ∙ ap (λ n. Some n) zero_more)
     ∙ get_here found more h
 
 -- ---- names that are declared

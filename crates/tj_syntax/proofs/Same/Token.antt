@@ -31,14 +31,14 @@ use Rattle.tj_syntax.proofs.Same.Stop.{stop_in, IsOfStop}
 -- ---- a token
 
 -- a token of the body, or the end
-record IsAtPlace (ts : List Tok) (front : List Tok) (back : List Token) : Type 0 where
+record IsBodyOrEnd (ts : List Tok) (front : List Tok) (back : List Token) : Type 0 where
   behind : List Tok
   body : ts ≡ front ++ behind
   count : length behind ≡ length back
 
-at_place : (ts : List Tok) (front : List Tok) (t : Tok) (back : List Token)
-    → ts ++ toks.End ∷ [] ≡ front ++ t ∷ kinds_of back → IsAtPlace ts front back
-at_place ts front t back e =
+body_or_end : (ts : List Tok) (front : List Tok) (t : Tok) (back : List Token)
+    → ts ++ toks.End ∷ [] ≡ front ++ t ∷ kinds_of back → IsBodyOrEnd ts front back
+body_or_end ts front t back e =
     ⊎_elim
     (λ p. record {
       behind = [];
@@ -122,28 +122,28 @@ front_read : (ts : List Tok) (front : List Tok) (t : Tok) (back : List Token) (n
 front_read ts front t back notes e begins unbroken cause left h =
     ⊎_elim (λ far. absurd (by far)) (λ y. y) (cases_lt (length back) left)
   where
-    place : IsAtPlace ts front back
-    place = at_place ts front t back e
+    there : IsBodyOrEnd ts front back
+    there = body_or_end ts front t back e
 
     by : length back < left → ⊥
     by far =
         let narrow : left_behind (tasks (start_of ts)) ≤ length ts = (tasks_local 0 0).narrow.stays (start_of ts) in
         let its : left_behind (tasks (start_of ts)) ≡ left = ap (λ (o : Outcome (List Task)). left_behind o) h
         ∙ left-is cause left in
-        let size : length ts ≡ length front + length back = ap length place.body ∙ length-append front place.behind
-        ∙ ap (λ n. length front + n) place.count in
+        let size : length ts ≡ length front + length back = ap length there.body ∙ length-append front there.behind
+        ∙ ap (λ n. length front + n) there.count in
         let p = parted_by front (left - length back - 1) (omega arith) in
-        let x = p.token ∷ (p.back ++ place.behind) in
+        let x = p.token ∷ (p.back ++ there.behind) in
         let y = p.token ∷ (p.back ++ tokens_of begins.back) in
-        let body : ts ≡ p.front ++ x = place.body ∙ ap (λ l. l ++ place.behind) p.is
-        ∙ append_assoc p.front (p.token ∷ p.back) place.behind in
+        let body : ts ≡ p.front ++ x = there.body ∙ ap (λ l. l ++ there.behind) p.is
+        ∙ append_assoc p.front (p.token ∷ p.back) there.behind in
         let others : tokens_of (notes ++ begins.back) ≡ p.front ++ y =
         tokens_of-append notes begins.back ∙ ap (λ l. l ++ tokens_of begins.back) (sym begins.spells ∙ p.is)
         ∙ append_assoc p.front (p.token ∷ p.back) (tokens_of begins.back) in
         let far_enough : length x ≡ left =
-        let n : length (p.back ++ place.behind) ≡ length p.back + length place.behind =
-        length-append p.back place.behind in
-        let c = p.count in let d = place.count in omega arith in
+        let n : length (p.back ++ there.behind) ≡ length p.back + length there.behind =
+        length-append p.back there.behind in
+        let c = p.count in let d = there.count in omega arith in
         let heads = heads_from [] ts in
         let stopped : tasks (at heads (p.front ++ x) [] None) ≡ Err (stop_for cause left) =
         subst (λ l. ◌≡◌ {A = Outcome (List Task)} (tasks (at heads l [] None)) (Err (stop_for cause left))) body h in

@@ -30,7 +30,7 @@ use Rattle.tj_syntax.proofs.Stops.Steps.{IsStopAt}
 use Rattle.tj_syntax.proofs.Stops.Task.{tasks_halt}
 use Rattle.tj_syntax.proofs.Same.Alike.{refused_token}
 
--- ---- tokens with their places
+-- ---- tokens with their positions
 
 -- the tokens, parted where their kinds are
 pub record Parted (tokens : List Token) (a : List Tok) (t : Tok) (b : List Tok) : Type 0 where
@@ -324,7 +324,7 @@ no_main_first body last end found j h flaw none =
     no_task (Some t) e = absurd (cc)
 
 -- the index of a name is that of a head of this name
-record Placed (P : Head → Type 0) (heads : List Head) (f : Name) (i n : ℕ) : Type 0 where
+record HasHead (P : Head → Type 0) (heads : List Head) (f : Name) (i n : ℕ) : Type 0 where
   at : ℕ
   far : n ≡ at + i
   head : Head
@@ -332,10 +332,10 @@ record Placed (P : Head → Type 0) (heads : List Head) (f : Name) (i n : ℕ) :
   named : head.name ≡ f
   holds : P head
 
-placed : (P : Head → Type 0) (heads : List Head) (f : Name) (i n : ℕ) → AllByRecursion P heads → position_from
-    (λ name. bytes_eq name f) i (names_of heads) ≡ Some n → Placed P heads f i n
-placed P [] f i n all e = absurd (cc)
-placed P (h ∷ heads) f i n all e =
+has_head : (P : Head → Type 0) (heads : List Head) (f : Name) (i n : ℕ) → AllByRecursion P heads → position_from
+    (λ name. bytes_eq name f) i (names_of heads) ≡ Some n → HasHead P heads f i n
+has_head P [] f i n all e = absurd (cc)
+has_head P (h ∷ heads) f i n all e =
     ⊎_elim
     (λ y. let here : Some i ≡ Some n = subst
     (λ b. cond b (Some i) (position_from (λ name. bytes_eq name f) (i + 1) (names_of heads)) ≡ Some n) y e in
@@ -350,7 +350,7 @@ placed P (h ∷ heads) f i n all e =
     })
     (λ no. let later : position_from (λ name. bytes_eq name f) (i + 1) (names_of heads) ≡ Some n =
     subst (λ b. cond b (Some i) (position_from (λ name. bytes_eq name f) (i + 1) (names_of heads)) ≡ Some n) no e in
-    let p = placed P heads f (i + 1) n all.1 later in
+    let p = has_head P heads f (i + 1) n all.1 later in
     let far = p.far in
     record { at = suc p.at; far = omega arith; head = p.head; there = p.there; named = p.named; holds = p.holds })
     (cases_Bool (bytes_eq h.name f))
@@ -362,7 +362,7 @@ head_found P heads f h all e = by (index_of (names_of heads) f) refl e
     by : (o : Option ℕ) → index_of (names_of heads) f ≡ o → head_at heads o ≡ Some h → P h × (h.name ≡ f)
     by None is e' = absurd (cc)
     by (Some n) is e' =
-        let p = placed P heads f 0 n all is in
+        let p = has_head P heads f 0 n all is in
         let far : n ≡ p.at = let d = p.far in omega arith in
         let found : Some p.head ≡ Some h = sym p.there ∙ sym (ap (λ m. slice_get heads m) far) ∙ e' in
         let same : p.head ≡ h = cc in

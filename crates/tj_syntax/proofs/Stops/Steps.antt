@@ -1,4 +1,4 @@
--- Where a reading stops: what it read can be completed, and what it stopped at stands at its place in that.
+-- Where a reading stops: what it read can be completed, and what it stopped at stands at its index in that.
 use Rattle.std.proofs.Common.{◌≡◌, ℕ, zero, suc, Bool, true, false, cond, is_some, nat_eq, List, [], ◌∷◌, ◌++◌, length}
 use Rattle.std.proofs.Common.{Option, Some, None, Ok, Err, refl, ap, sym, ◌∙◌, subst, arith, append_assoc, eqb-true}
 use Rattle.std.proofs.Common.{⊎_elim, ◌⊎◌, inl, inr}

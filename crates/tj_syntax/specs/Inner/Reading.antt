@@ -57,7 +57,7 @@ unfoldable pub pairs_from : Parser Expression → Level → ℕ → PairList →
 pairs_from item level zero found = pure found
 pairs_from item level (suc n) found = peek >>= (λ t. pair_by item found (pairs_from item level n) (operator level t))
 
--- each pair takes a token, so that the count of tokens is enough turns
+-- each pair takes a token, so that the count of tokens is enough repeats
 unfoldable pub pairs : Parser Expression → Level → Parser PairList
 pairs item level = λ i. pairs_from item level (length i.ahead) [] i
 

@@ -8,7 +8,7 @@ use Rattle.tj_syntax.specs.declared.fault.Stop.{Stop}
 use Rattle.tj_syntax.specs.declared.fault.Stop.TheVariants as stop
 use Rattle.tj_syntax.specs.Faults.{fault_of, IsFirstFault}
 
--- the fault of a stop at a token of this place
+-- the fault of a stop at a token of this position
 abbrev pub fault_at : Stop → Place → ParseFault
 fault_at (stop.Expected left) at = faults.Expected at
 fault_at (stop.Broken breach left) at = fault_of breach at

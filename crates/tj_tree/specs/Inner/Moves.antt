@@ -1,8 +1,7 @@
 -- Moves up a tree from node to node.
-use Rattle.std.specs.Prelude.{ℕ, ◌≡◌, ◌++◌, Bool, if◌then◌else◌}
+use Rattle.std.specs.Prelude.{ℕ, ◌≡◌, ◌++◌}
 use Rattle.tj_base.specs.ForkOrder.{Name}
 use Rattle.tj_tree.specs.declared.node.Node.{Node}
-use Rattle.tj_tree.specs.declared.node.NodeId.{NodeId}
 use Rattle.tj_tree.specs.declared.node.TaskNode.{TaskNode}
 use Rattle.tj_tree.specs.Forks.{Forks, HasTask, name_of}
 
@@ -17,7 +16,3 @@ pub record IsAtOrAbove (forks : Forks) (top n : ℕ) : Type 0 where
   pub there : HasTask forks top
   pub rest : Name
   pub goes_on : name_of forks n ≡ name_of forks top ++ rest
-
--- where a move from a node leads: by its jump, or to its parent
-abbrev pub move_from : Node → Bool → NodeId
-move_from node by_jump = if by_jump then node.jump else node.parent

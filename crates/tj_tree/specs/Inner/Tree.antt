@@ -20,14 +20,14 @@ abbrev pub forks_of : List Entry → Forks
 forks_of entries = forks_up_to entries (length entries - 1)
 
 -- each fork took the next numbers, and its parent was there
-abbrev pub AreInTurn : Forks → Type 0
-AreInTurn [] = Unit {0}
-AreInTurn (fork ∷ earlier) = (fork ≡ next_fork earlier fork.parent) × (fork.parent < task_count earlier) × AreInTurn
+abbrev pub AreGapless : Forks → Type 0
+AreGapless [] = Unit {0}
+AreGapless (fork ∷ earlier) = (fork ≡ next_fork earlier fork.parent) × (fork.parent < task_count earlier) × AreGapless
     earlier
 
 -- the entries have the nodes of these forks, and how many children each task has
 pub record AreEntriesOf (forks : Forks) (entries : List Entry) : Type 0 where
-  pub in_turn : AreInTurn forks
+  pub gapless : AreGapless forks
   pub size : length entries ≡ task_count forks
   pub few : length entries ≤ 16384
   pub nodes : (n : ℕ) (d : Entry) → n < length entries → (slice_index_or entries n d).node ≡ node_of forks n

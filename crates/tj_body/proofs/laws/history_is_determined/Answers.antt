@@ -1,5 +1,5 @@
 use Rattle.tj_body.specs.Programs.{rules_of}
-use Rattle.tj_body.proofs.Points.{same_history}
+use Rattle.tj_body.proofs.Histories.Points.{same_history}
 use Rattle.tj_body.proofs.laws.history_is_determined.Goals as goal
 
 pub returns : goal.returns

@@ -1,7 +1,7 @@
 use Rattle.std.proofs.Common.{◌*◌, suc, sym}
 use Rattle.tj_body.specs.History.{history}
 use Rattle.tj_body.specs.Programs.{rules_of}
-use Rattle.tj_body.proofs.Grows.{extends, ended_same, still_point, more}
+use Rattle.tj_body.proofs.Histories.Grows.{extends, ended_same, still_point, more}
 use Rattle.tj_body.proofs.laws.history_is_monotone.Goals as goal
 
 pub returns : goal.returns

@@ -1,7 +1,7 @@
 use Rattle.tj_body.specs.History.{history}
 use Rattle.tj_body.specs.Programs.{rules_of}
-use Rattle.tj_body.proofs.Grows.{extends}
-use Rattle.tj_body.proofs.Points.{stopped, in_history, whole}
+use Rattle.tj_body.proofs.Histories.Grows.{extends}
+use Rattle.tj_body.proofs.Histories.Points.{stopped, in_history, whole}
 use Rattle.tj_body.proofs.laws.history_stops.Goals as goal
 
 pub returns : goal.returns

@@ -1,5 +1,5 @@
 use Rattle.tj_body.specs.Programs.{rules_of}
-use Rattle.tj_body.proofs.Points.{asks_on}
+use Rattle.tj_body.proofs.Histories.Points.{asks_on}
 use Rattle.tj_body.proofs.laws.point_asks_on.Goals as goal
 
 pub returns : goal.returns

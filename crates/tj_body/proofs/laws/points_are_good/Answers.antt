@@ -2,7 +2,7 @@ use Rattle.std.proofs.Common.{subst, sym}
 use Rattle.tj_body.specs.Points.{IsGood}
 use Rattle.tj_body.specs.Rounds.{given}
 use Rattle.tj_body.specs.Laws.{IsAllGood}
-use Rattle.tj_body.proofs.Good.{good, task_proper}
+use Rattle.tj_body.proofs.Histories.Good.{good, task_proper}
 use Rattle.tj_body.proofs.Proper.{of_lawful}
 use Rattle.tj_body.proofs.laws.points_are_good.Goals as goal
 

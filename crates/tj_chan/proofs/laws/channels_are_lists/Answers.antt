@@ -1,6 +1,6 @@
 use Rattle.tj_chan.specs.ChannelLaws.{rules_of}
 use Rattle.tj_chan.specs.Inner.ChanBodyLaws.{chan_obeys}
-use Rattle.tj_chan.proofs.ChannelTheorem.{lists_are_meant}
+use Rattle.tj_chan.proofs.Linked.Theorem.{lists_are_meant}
 use Rattle.tj_chan.proofs.laws.channels_are_lists.Goals as goal
 
 pub returns : goal.returns

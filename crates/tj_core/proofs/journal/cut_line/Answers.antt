@@ -1,5 +1,5 @@
 use Rattle.std.proofs.Common.{rules, ◌≡◌, ℕ, ◌+◌, ◌<◌, suc, List, ◌∷◌, length, take, drop, sym, ap, ◌∙◌, subst, arith, add-one}
-use Rattle.tj_core.specs.Journal.{lines_of}
+use Rattle.tj_core.specs.Journals.Lines.{lines_of}
 use Rattle.tj_core.proofs.Journals.Lines.{on_line, lines_cut, lines_whole}
 use Rattle.tj_core.proofs.Journals.Reads.{rest_whole}
 use Rattle.std.specs.List.{prefix_len}

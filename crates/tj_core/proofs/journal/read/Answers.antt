@@ -1,5 +1,5 @@
 use Rattle.std.proofs.Common.{rules, ◌+◌}
-use Rattle.tj_core.specs.Journal.{IsEventLine, words_of, HasSmallCells, Names}
+use Rattle.tj_core.specs.Journals.Lines.{IsEventLine, words_of, HasSmallCells, Names}
 use Rattle.tj_core.proofs.Journals.Reads.{read_on, read_fault}
 use Rattle.tj_core.proofs.Journals.Words.{none_at, some_at}
 use Rattle.tj_core.proofs.journal.read.Goals as goal

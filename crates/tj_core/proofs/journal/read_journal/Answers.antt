@@ -1,4 +1,4 @@
-use Rattle.tj_core.specs.Journal.{lines_of}
+use Rattle.tj_core.specs.Journals.Lines.{lines_of}
 use Rattle.tj_core.proofs.Journals.Reads.{only_line}
 use Rattle.tj_core.proofs.journal.read_journal.Goals as goal
 

@@ -1,7 +1,7 @@
 use Rattle.std.proofs.Common.{ℕ, List, ◌++◌, get_or, ap, ◌∙◌, arith}
 use Rattle.tj_base.specs.declared.cell.CellId.{CellId}
-use Rattle.tj_core.specs.Core.{core_state}
-use Rattle.tj_core.specs.Judging.{wait_text}
+use Rattle.tj_core.specs.Checker.Core.{core_state}
+use Rattle.tj_core.specs.Journals.Judging.{wait_text}
 use Rattle.tj_core.proofs.Journals.AlarmLines.{alarm_head, head_said, waits_more, alarm_whole}
 use Rattle.tj_core.proofs.judge.alarmed.Goals as goal
 

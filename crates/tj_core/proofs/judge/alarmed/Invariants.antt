@@ -1,5 +1,5 @@
 use Rattle.std.proofs.Common.{◌≡◌, ◌++◌, take}
-use Rattle.tj_core.specs.Core.{core_state}
+use Rattle.tj_core.specs.Checker.Core.{core_state}
 use Rattle.tj_core.proofs.Journals.AlarmLines.{alarm_head, other_waits, numbers}
 use Rattle.tj_core.proofs.judge.alarmed.Given as goal
 

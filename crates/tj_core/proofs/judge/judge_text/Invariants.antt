@@ -1,5 +1,5 @@
 use Rattle.std.proofs.Common.{◌≡◌}
-use Rattle.tj_core.specs.Core.{core_state, core_limit, core_applied}
+use Rattle.tj_core.specs.Checker.Core.{core_state, core_limit, core_applied}
 use Rattle.tj_core.proofs.Journals.JudgedRuns.{IsJudgedTo}
 use Rattle.tj_core.proofs.judge.judge_text.Given as goal
 

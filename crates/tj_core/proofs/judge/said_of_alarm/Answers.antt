@@ -4,8 +4,8 @@ use Rattle.std.proofs.lemmas.Result.{IfOk-weaker}
 use Rattle.tj_base.specs.declared.cell.CellId.{CellId}
 use Rattle.tj_core.specs.CoreState.{Cells}
 use Rattle.tj_core.specs.WaitGraph.{IsCycle, IsOnCycle, IsCycleFrom}
-use Rattle.tj_core.specs.Judging.{alarm_line}
-use Rattle.tj_core.specs.Core.{core_state, core_limit}
+use Rattle.tj_core.specs.Journals.Judging.{alarm_line}
+use Rattle.tj_core.specs.Checker.Core.{core_state, core_limit}
 use Rattle.tj_core.proofs.Events.WalkEnds.{alarm_on_cycle}
 use Rattle.tj_core.proofs.judge.said_of_alarm.Goals as goal
 

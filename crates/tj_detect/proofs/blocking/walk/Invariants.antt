@@ -1,4 +1,4 @@
-use Rattle.tj_words.specs.SeatSteps.{IsSameSeat}
+use Rattle.tj_words.specs.SeatViews.SeatSteps.{IsSameSeat}
 use Rattle.tj_detect.proofs.WalkLoops.{IsUnderWay}
 use Rattle.tj_detect.proofs.blocking.walk.Given as goal
 

@@ -1,12 +1,11 @@
 use Rattle.std.proofs.Common.{◌≡◌, ◌∙◌, true, false, nat_le, sym, ap, subst, le-leb}
 use Rattle.tj_tree.specs.declared.node.Node.{Node}
 use Rattle.tj_tree.specs.declared.node.NodeId.{NodeId}
-use Rattle.tj_tree.specs.Nodes.{node_of}
-use Rattle.tj_tree.specs.Inner.Moves.{move_from}
+use Rattle.tj_tree.specs.Nodes.{node_of, move_from}
 use Rattle.tj_tree.proofs.Readings.{GoesOn_trans}
-use Rattle.tj_words.specs.TreeReads.{MayLook, TreeShown}
-use Rattle.tj_words.proofs.LaterSeats.{later_on}
-use Rattle.tj_detect.proofs.WalkPlaces.{not_le}
+use Rattle.tj_words.specs.SeatViews.TreeReads.{MayLook, TreeShown}
+use Rattle.tj_words.proofs.SeatLoads.LaterSeats.{later_on}
+use Rattle.tj_detect.proofs.WalkNodes.{not_le}
 use Rattle.tj_detect.proofs.tree_walk.higher.Goals as goal
 
 pub visit-requires-after_bounds : goal.visit-requires-after_bounds

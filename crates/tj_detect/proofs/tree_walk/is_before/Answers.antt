@@ -5,9 +5,9 @@ use Rattle.tj_tree.specs.Inner.Moves.{IsAtOrAbove}
 use Rattle.tj_tree.proofs.Skew.{cost_of_parts}
 use Rattle.tj_tree.proofs.Walks.{above_trans}
 use Rattle.tj_tree.proofs.Readings.{IsKnown_on, InEachTree_on, order-same, order-apart}
-use Rattle.tj_words.specs.TreeReads.{MayLook, TreeShown}
-use Rattle.tj_words.proofs.LaterSeats.{later_on}
-use Rattle.tj_words.proofs.NodeLooks.{tree_of}
+use Rattle.tj_words.specs.SeatViews.TreeReads.{MayLook, TreeShown}
+use Rattle.tj_words.proofs.SeatLoads.LaterSeats.{later_on}
+use Rattle.tj_words.proofs.SeatLoads.NodeLooks.{tree_of}
 use Rattle.tj_detect.proofs.tree_walk.is_before.Goals as goal
 
 pub returns-then-x-y-clause-order : goal.returns-then-x-y-clause-order

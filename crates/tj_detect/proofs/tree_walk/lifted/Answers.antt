@@ -3,9 +3,9 @@ use Rattle.tj_tree.specs.Inner.Moves.{IsAtOrAbove}
 use Rattle.tj_tree.proofs.Skew.{moves-ranks}
 use Rattle.tj_tree.proofs.Walks.{above_trans}
 use Rattle.tj_tree.proofs.Readings.{GoesOn_trans, InEachTree_on, Raises-higher}
-use Rattle.tj_words.specs.TreeReads.{MayLook, TreeShown}
-use Rattle.tj_words.proofs.LaterSeats.{later_itself, later_on}
-use Rattle.tj_detect.proofs.WalkPlaces.{above_itself, goes_itself}
+use Rattle.tj_words.specs.SeatViews.TreeReads.{MayLook, TreeShown}
+use Rattle.tj_words.proofs.SeatLoads.LaterSeats.{later_itself, later_on}
+use Rattle.tj_detect.proofs.WalkNodes.{above_itself, goes_itself}
 use Rattle.tj_detect.proofs.tree_walk.lifted.Goals as goal
 
 pub loop-at-init : goal.loop-at-init

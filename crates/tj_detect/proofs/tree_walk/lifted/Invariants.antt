@@ -3,7 +3,7 @@ use Rattle.tj_tree.specs.Nodes.{ArePartOfTree, InEachTree}
 use Rattle.tj_tree.specs.Walk.{GoesOn}
 use Rattle.tj_tree.specs.Inner.Moves.{IsKnown, IsAtOrAbove}
 use Rattle.tj_tree.proofs.Skew.{ranks, moves}
-use Rattle.tj_words.specs.TreeReads.{IsLater, MayLook, TreeShown}
+use Rattle.tj_words.specs.SeatViews.TreeReads.{IsLater, MayLook, TreeShown}
 use Rattle.tj_detect.proofs.tree_walk.lifted.Given as goal
 
 abbrev pub invariant-loop-at : goal.invariant-loop-at

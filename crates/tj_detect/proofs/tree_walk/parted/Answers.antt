@@ -5,9 +5,9 @@ use Rattle.tj_tree.specs.Inner.Moves.{IsAtOrAbove}
 use Rattle.tj_tree.proofs.Skew.{moves-ranks}
 use Rattle.tj_tree.proofs.Walks.{above_trans, floor_of}
 use Rattle.tj_tree.proofs.Readings.{GoesOn_trans, IsKnown_on, InEachTree_on, RaisesBoth, RaisesBoth-up}
-use Rattle.tj_words.specs.TreeReads.{MayLook, TreeShown}
-use Rattle.tj_words.proofs.LaterSeats.{later_itself, later_on}
-use Rattle.tj_detect.proofs.WalkPlaces.{above_itself, goes_itself, move_may}
+use Rattle.tj_words.specs.SeatViews.TreeReads.{MayLook, TreeShown}
+use Rattle.tj_words.proofs.SeatLoads.LaterSeats.{later_itself, later_on}
+use Rattle.tj_detect.proofs.WalkNodes.{above_itself, goes_itself, move_may}
 use Rattle.tj_detect.proofs.tree_walk.parted.Given.{Over}
 use Rattle.tj_detect.proofs.tree_walk.parted.Goals as goal
 

@@ -1,7 +1,7 @@
 use Rattle.std.proofs.Common.{false, sym, subst}
 use Rattle.tj_body.specs.Programs.{program_of}
 use Rattle.tj_run.specs.Runs.{RestsAt}
-use Rattle.tj_run.proofs.RunsAtRest.{full_told, rests_at}
+use Rattle.tj_run.proofs.Runs.RunsAtRest.{full_told, rests_at}
 use Rattle.tj_future.specs.RootWatches.{IsRootWatched}
 use Rattle.tj_future.proofs.beside.run_watched.Goals as goal
 

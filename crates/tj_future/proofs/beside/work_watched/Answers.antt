@@ -5,7 +5,7 @@ use denote.Param.Send.{arg_send, param_send, shr_send}
 use Rattle.atomic_table.proofs.shared.Seat.TheSendSync as seat
 use Rattle.std.proofs.Common.{[]}
 use Rattle.tj_words.specs.contracts.view.View as view
-use Rattle.tj_run.proofs.ThreadSends.{laid_sync, slot_send}
+use Rattle.tj_run.proofs.Seats.ThreadSends.{laid_sync, slot_send}
 use Rattle.tj_future.proofs.ThreadSends.{three_send}
 use Rattle.tj_future.proofs.beside.work_watched.Goals as goal
 

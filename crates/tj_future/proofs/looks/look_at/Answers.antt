@@ -1,6 +1,6 @@
 use Rattle.std.proofs.Common.{◌∙◌, ap}
 use Rattle.tj_body.specs.Programs.{program_of}
-use Rattle.tj_words.specs.Views.{saw_stop}
+use Rattle.tj_words.specs.SeatViews.Views.{saw_stop}
 use Rattle.tj_future.proofs.Looking.{tells_last}
 use Rattle.tj_future.proofs.looks.look_at.Goals as goal
 

@@ -1,7 +1,7 @@
 use Rattle.std.proofs.Common.{◌≡◌, []}
-use Rattle.tj_words.specs.KnowsMore.{KnowsMore}
-use Rattle.tj_words.specs.SeatSteps.{IsSeatOf}
-use Rattle.tj_words.specs.Views.{IsIdle}
+use Rattle.tj_words.specs.SeatViews.KnowsMore.{KnowsMore}
+use Rattle.tj_words.specs.SeatViews.SeatSteps.{IsSeatOf}
+use Rattle.tj_words.specs.SeatViews.Views.{IsIdle}
 use Rattle.tj_future.proofs.looks.watch.Given as goal
 
 -- the seat may be merged, and knows what it knew

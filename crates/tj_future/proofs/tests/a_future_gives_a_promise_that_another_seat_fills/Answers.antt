@@ -2,7 +2,7 @@ use Rattle.std.proofs.Common.{◌∙◌, [], IfOk, pos, refl, subst}
 use Rattle.tj_base.specs.ForkOrder.{child}
 use Rattle.tj_base.specs.declared.cell.CellId.{CellId}
 use Rattle.tj_base.specs.declared.cell.Sort.TheVariants as sort
-use Rattle.tj_words.specs.TakenRecords.{custody_of}
+use Rattle.tj_words.specs.Calls.TakenRecords.{custody_of}
 use Rattle.tj_cells.specs.MadeCells.{IsMade, makes_promise}
 use Rattle.tj_park.proofs.TestRoots.{first_named, first_set, made_is, made_owned, made_root, may_close_promise}
 use Rattle.tj_park.proofs.TestRoots.{may_fill_number, may_make, not_root, three_promises, with_rows}

@@ -4,7 +4,7 @@ use Rattle.tj_body.specs.Programs.{program_of}
 use Rattle.tj_body.specs.Rounds.{given}
 use Rattle.tj_mean.specs.Acts.{AreActsOf}
 use Rattle.tj_mean.specs.ActLines.{names_of}
-use Rattle.tj_mean.proofs.MeantLines.{are_acts, lines_distinct}
+use Rattle.tj_mean.proofs.NotedActs.MeantLines.{are_acts, lines_distinct}
 use Rattle.tj_mean.proofs.act_lines.acts.Goals as goal
 
 pub in_name_order-requires : goal.in_name_order-requires

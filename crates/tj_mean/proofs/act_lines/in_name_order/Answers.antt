@@ -1,6 +1,6 @@
 use Rattle.std.proofs.Common.{rules}
 use Rattle.tj_mean.specs.declared.act.ActLine.{ActLine}
-use Rattle.tj_mean.proofs.NameOrder.{ascends, sorted_by, distinct_permuted}
+use Rattle.tj_mean.proofs.Lists.NameOrder.{ascends, sorted_by, distinct_permuted}
 use Rattle.tj_mean.proofs.act_lines.in_name_order.Goals as goal
 
 pub returns-clause-ascend : goal.returns-clause-ascend

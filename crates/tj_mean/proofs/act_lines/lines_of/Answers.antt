@@ -4,10 +4,10 @@ use Rattle.tj_body.specs.History.{history}
 use Rattle.tj_body.specs.Programs.{program_of}
 use Rattle.tj_body.specs.Rounds.{given}
 use Rattle.tj_body.proofs.Proper.{root_proper}
-use Rattle.tj_body.proofs.Good.{task_proper}
+use Rattle.tj_body.proofs.Histories.Good.{task_proper}
 use Rattle.tj_mean.specs.Acts.{line_of}
 use Rattle.tj_mean.specs.declared.round.Pending.{Pending}
-use Rattle.tj_mean.proofs.NotedRounds.{begins_noted, ends_noted, falls_noted, next_noted, takes_noted}
+use Rattle.tj_mean.proofs.NotedActs.NotedRounds.{begins_noted, ends_noted, falls_noted, next_noted, takes_noted}
 use Rattle.tj_mean.proofs.act_lines.lines_of.Goals as goal
 
 pub loop-task-init : goal.loop-task-init

@@ -2,7 +2,7 @@ use Rattle.std.proofs.Common.{length, false}
 use Rattle.tj_body.specs.Programs.{program_of}
 use Rattle.tj_body.specs.Rounds.{given}
 use Rattle.tj_mean.specs.Inner.KeptRounds.{still}
-use Rattle.tj_mean.proofs.NotedRounds.{IsNoted}
+use Rattle.tj_mean.proofs.NotedActs.NotedRounds.{IsNoted}
 use Rattle.tj_mean.proofs.act_lines.lines_of.Given as goal
 
 -- the tasks that were taken, with their acts, and those that are pending are together the round

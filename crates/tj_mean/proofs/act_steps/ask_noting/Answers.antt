@@ -3,7 +3,7 @@ use Rattle.std.proofs.lemmas.Result.{IfOk-equal}
 use Rattle.tj_mean.specs.Acts.{ask_acts}
 use Rattle.tj_mean.specs.Inner.Assignments.{assignment_in}
 use Rattle.tj_mean.specs.Inner.NotedActs.{forked_since}
-use Rattle.tj_mean.proofs.NotedAsks.{acts_noted}
+use Rattle.tj_mean.proofs.NotedActs.NotedAsks.{acts_noted}
 use Rattle.tj_mean.proofs.act_steps.ask_noting.Goals as goal
 
 pub returns-clause-acts : goal.returns-clause-acts

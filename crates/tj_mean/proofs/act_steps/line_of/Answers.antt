@@ -1,11 +1,11 @@
 use Rattle.std.proofs.Common.{◌++◌, suc, false, sym, ap, subst, ◌∙◌}
 use Rattle.tj_body.specs.History.{after_step}
 use Rattle.tj_body.specs.Programs.{rules_of}
-use Rattle.tj_body.proofs.Good.{good}
+use Rattle.tj_body.proofs.Histories.Good.{good}
 use Rattle.tj_body.specs.Points.{IsGood}
 use Rattle.tj_mean.specs.Acts.{acts_within, step_acts}
 use Rattle.tj_mean.specs.Inner.Assignments.{assignment_in}
-use Rattle.tj_mean.proofs.SeenActs.{line_at_halt}
+use Rattle.tj_mean.proofs.NotedActs.SeenActs.{line_at_halt}
 use Rattle.tj_mean.proofs.act_steps.line_of.Goals as goal
 
 pub loop-acts-init : goal.loop-acts-init

@@ -3,7 +3,7 @@ use native.Mathlib.Decide.{dec_le}
 use mathlib.Core.Logic.{dite}
 use Rattle.tj_body.specs.Points.{HasStopped}
 use Rattle.tj_mean.specs.Inner.Assignments.{assignment_in}
-use Rattle.tj_mean.proofs.KeptPoints.{any_default, all_stopped}
+use Rattle.tj_mean.proofs.AtWork.KeptPoints.{any_default, all_stopped}
 use Rattle.tj_mean.proofs.agenda.first_of.Goals as goal
 
 pub loop-at-preserved : goal.loop-at-preserved

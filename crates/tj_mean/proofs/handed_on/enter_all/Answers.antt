@@ -1,7 +1,7 @@
 use Rattle.std.proofs.Common.{Some, cond, ap, sym, ◌∙◌}
 use Rattle.std.specs.Cmp.Lexicographic.{texts_ties, nat_list_eq_equiv}
 use Rattle.tj_mean.specs.Inner.Assignments.{assignment_in}
-use Rattle.tj_mean.proofs.EnteredCells.{enters_more}
+use Rattle.tj_mean.proofs.AtWork.EnteredCells.{enters_more}
 use Rattle.tj_mean.proofs.handed_on.enter_all.Goals as goal
 
 pub loop-cell-preserved : goal.loop-cell-preserved

@@ -1,6 +1,6 @@
 use Rattle.std.proofs.Common.{ap, ◌∙◌, rules}
 use Rattle.tj_body.specs.Names.{in_order}
-use Rattle.tj_mean.proofs.NameOrder.{self, sorted_by, sorted_is_ordered}
+use Rattle.tj_mean.proofs.Lists.NameOrder.{self, sorted_by, sorted_is_ordered}
 use Rattle.tj_mean.proofs.held_names.sorted.Goals as goal
 
 pub returns : goal.returns

@@ -5,7 +5,7 @@ use Rattle.tj_body.specs.Programs.{rules_of}
 use Rattle.tj_body.specs.declared.point.Point.{Point}
 use Rattle.tj_mean.specs.Inner.Assignments.{assignment_in}
 use Rattle.tj_mean.specs.Inner.Reached.{Reaches}
-use Rattle.tj_mean.proofs.PointSteps.{good_reaches}
+use Rattle.tj_mean.proofs.AtWork.PointSteps.{good_reaches}
 use Rattle.tj_mean.proofs.history_steps.go_on.Goals as goal
 
 pub loop-init : goal.loop-init

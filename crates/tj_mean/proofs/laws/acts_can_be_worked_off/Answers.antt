@@ -1,6 +1,6 @@
 use Rattle.tj_body.specs.Programs.{program_of}
 use Rattle.tj_body.proofs.Proper.{root_proper}
-use Rattle.tj_mean.proofs.ActsAgree.{acts_agree}
+use Rattle.tj_mean.proofs.NotedActs.ActsAgree.{acts_agree}
 use Rattle.tj_mean.proofs.laws.acts_can_be_worked_off.Goals as goal
 
 pub returns : goal.returns

@@ -1,7 +1,7 @@
 use Rattle.std.proofs.lemmas.List.Sorted.{IsPermutation-sym}
 use Rattle.tj_body.specs.Programs.{program_of}
 use Rattle.tj_body.specs.Rounds.{meaning}
-use Rattle.tj_mean.proofs.ToldOutcomes.{apart_in_order, meaning_apart, told_in_order}
+use Rattle.tj_mean.proofs.Outcomes.ToldOutcomes.{apart_in_order, meaning_apart, told_in_order}
 use Rattle.tj_mean.proofs.laws.meaning_is_apart.Goals as goal
 
 pub returns : goal.returns

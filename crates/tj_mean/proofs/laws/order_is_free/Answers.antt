@@ -1,4 +1,4 @@
-use Rattle.tj_mean.proofs.ToldOutcomes.{any_order}
+use Rattle.tj_mean.proofs.Outcomes.ToldOutcomes.{any_order}
 use Rattle.tj_mean.proofs.laws.order_is_free.Goals as goal
 
 pub returns : goal.returns

@@ -2,8 +2,8 @@ use Rattle.tj_body.specs.Programs.{program_of}
 use Rattle.tj_body.specs.Rounds.{meaning}
 use Rattle.tj_body.proofs.Proper.{root_proper}
 use Rattle.tj_body.proofs.WaitGraph.{waits_lead}
-use Rattle.tj_mean.proofs.StandingCycles.{has_cycle_where_waits}
-use Rattle.tj_mean.proofs.ToldOutcomes.{meaning_apart}
+use Rattle.tj_mean.proofs.Outcomes.StandingCycles.{has_cycle_where_waits}
+use Rattle.tj_mean.proofs.Outcomes.ToldOutcomes.{meaning_apart}
 use Rattle.tj_mean.proofs.laws.outcome_has_cycle_where_waits.Goals as goal
 
 pub returns : goal.returns

@@ -2,7 +2,7 @@ use Rattle.tj_body.specs.Programs.{program_of, strictly}
 use Rattle.tj_body.specs.Rounds.{meaning}
 use Rattle.tj_body.proofs.Proper.{root_proper}
 use Rattle.tj_body.proofs.Rounds.WithoutGets.{never_waits}
-use Rattle.tj_mean.proofs.NoWaits.{has_no_wait}
+use Rattle.tj_mean.proofs.Outcomes.NoWaits.{has_no_wait}
 use Rattle.tj_mean.proofs.laws.strict_outcome_has_no_wait.Goals as goal
 
 pub returns : goal.returns

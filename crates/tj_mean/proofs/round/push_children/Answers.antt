@@ -3,7 +3,7 @@ use Rattle.std.specs.List.{flat_map}
 use Rattle.tj_body.specs.Rounds.{family}
 use Rattle.tj_mean.specs.Inner.KeptRounds.{still}
 use Rattle.tj_mean.specs.declared.round.Pending.{Pending}
-use Rattle.tj_mean.proofs.RoundSteps.{still_push}
+use Rattle.tj_mean.proofs.AtWork.RoundSteps.{still_push}
 use Rattle.tj_mean.proofs.round.push_children.Goals as goal
 
 pub loop-task-preserved : goal.loop-task-preserved

@@ -12,8 +12,8 @@ use Rattle.tj_body.specs.declared.point.Point.{Point}
 use Rattle.tj_body.proofs.Proper.{root_proper}
 use Rattle.tj_mean.specs.Inner.Assignments.{assignment_in}
 use Rattle.tj_mean.specs.Inner.Reached.{CanGoOn}
-use Rattle.tj_mean.proofs.TakenUp.{has_ending, made_in_room, good_point, full_point, at_work, fewer_left}
-use Rattle.tj_mean.proofs.TasksAtWork.{begins, fits, told, last_entries, before_last}
+use Rattle.tj_mean.proofs.AtWork.TakenUp.{has_ending, made_in_room, good_point, full_point, at_work, fewer_left}
+use Rattle.tj_mean.proofs.AtWork.TasksAtWork.{begins, fits, told, last_entries, before_last}
 use Rattle.tj_mean.proofs.rounds.settle.Goals as goal
 
 pub loop-at-init : goal.loop-at-init

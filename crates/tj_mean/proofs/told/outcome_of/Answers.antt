@@ -4,8 +4,8 @@ use Rattle.std.proofs.lemmas.List.Sorted.{IsPermutation-refl}
 use Rattle.tj_mean.specs.Outcomes.{AreApart, AreCycles, Ascend}
 use Rattle.tj_mean.specs.declared.outcome.TaskLine.{TaskLine}
 use Rattle.tj_mean.specs.declared.stopped.Stopped.{Stopped}
-use Rattle.tj_mean.proofs.SettledRounds.{map_map}
-use Rattle.tj_mean.proofs.ToldOutcomes.{apart_in_order, outcome_in_order}
+use Rattle.tj_mean.proofs.Lists.Maps.{map_map}
+use Rattle.tj_mean.proofs.Outcomes.ToldOutcomes.{apart_in_order, outcome_in_order}
 use Rattle.tj_mean.proofs.told.outcome_of.Goals as goal
 
 pub cycles-requires-clause-apart : goal.cycles-requires-clause-apart

@@ -4,8 +4,8 @@ use Rattle.std.specs.List.{All}
 use Rattle.tj_mean.specs.Outcomes.{AreCycles}
 use Rattle.tj_mean.specs.Inner.Indexes.{IsLeastCycle, Next, WaitsAt, link_at}
 use Rattle.tj_mean.specs.declared.outcome.Link.{Link}
-use Rattle.tj_mean.proofs.Indexes.{next_length, next_there}
-use Rattle.tj_mean.proofs.LeastCycles.{Found, found_none, found_on, found_more, all_found, all_there, all_wait}
+use Rattle.tj_mean.proofs.Outcomes.Indexes.{next_length, next_there}
+use Rattle.tj_mean.proofs.Outcomes.LeastCycles.{Found, found_none, found_on, found_more, all_found, all_there, all_wait}
 use Rattle.tj_mean.proofs.wait_graph.cycles.Goals as goal
 use Rattle.tj_mean.proofs.wait_graph.cycles.Goals.{in-Some+in_ok-links+in_ok-push, in_default}
 

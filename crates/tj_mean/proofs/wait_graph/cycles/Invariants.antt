@@ -1,4 +1,4 @@
-use Rattle.tj_mean.proofs.LeastCycles.{Found}
+use Rattle.tj_mean.proofs.Outcomes.LeastCycles.{Found}
 use Rattle.tj_mean.proofs.wait_graph.cycles.Given as goal
 
 -- the cycles from the indexes before this one on

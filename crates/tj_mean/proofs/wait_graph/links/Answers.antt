@@ -3,8 +3,8 @@ use Rattle.std.proofs.lemmas.List.{map-append, take_more}
 use Rattle.std.proofs.lemmas.Option.{slice_get_read}
 use Rattle.tj_mean.specs.Inner.Indexes.{Waiting, link_at}
 use Rattle.tj_mean.specs.declared.outcome.Link.{Link}
-use Rattle.tj_mean.proofs.Elements.{some_is}
-use Rattle.tj_mean.proofs.Indexes.{link_is}
+use Rattle.tj_mean.proofs.Lists.Elements.{some_is}
+use Rattle.tj_mean.proofs.Outcomes.Indexes.{link_is}
 use Rattle.tj_mean.proofs.wait_graph.links.Goals as goal
 
 pub link_of-requires : goal.link_of-requires

@@ -1,4 +1,4 @@
-use Rattle.tj_mean.proofs.Indexes.{led}
+use Rattle.tj_mean.proofs.Outcomes.Indexes.{led}
 use Rattle.tj_mean.proofs.wait_graph.next_of.Goals as goal
 
 pub returns-in-Waits : goal.returns-in-Waits

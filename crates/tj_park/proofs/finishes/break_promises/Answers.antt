@@ -1,6 +1,6 @@
 use Rattle.std.proofs.Common.{◌∙◌, ◌+◌, drop, get_or, refl, sym, subst, arith}
 use Rattle.tj_body.specs.Programs.{program_of}
-use Rattle.tj_words.specs.Lists.{cell}
+use Rattle.tj_words.specs.Words.Lists.{cell}
 use Rattle.tj_park.specs.Wakes.{MayWake, WakesAll}
 use Rattle.tj_park.proofs.BreakSteps.{none_broken, may_give_up, will_break, is_small, may_wake_broken, one_broken}
 use Rattle.tj_park.proofs.BreakSteps.{about_kept, next_left, none_left}

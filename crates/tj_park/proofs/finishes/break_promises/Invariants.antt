@@ -1,5 +1,5 @@
 use Rattle.std.proofs.Common.{◌≡◌, drop}
-use Rattle.tj_words.specs.SeatSteps.{IsSameSeat}
+use Rattle.tj_words.specs.SeatViews.SeatSteps.{IsSameSeat}
 use Rattle.tj_park.specs.Breaks.{HasBroken}
 use Rattle.tj_park.proofs.finishes.break_promises.Given as goal
 

@@ -1,7 +1,7 @@
 use Rattle.std.proofs.Common.{◌≡◌, ◌∙◌, [], ap, subst, sym}
 use Rattle.atomic_table.specs.Table.{rest}
 use Rattle.tj_body.specs.Programs.{program_of}
-use Rattle.tj_words.specs.LiveViews.{MayLowerLive, lowered_with}
+use Rattle.tj_words.specs.Calls.LiveViews.{MayLowerLive, lowered_with}
 use Rattle.tj_park.specs.Breaks.{HasBroken, MayBreak}
 use Rattle.tj_park.proofs.EndSteps.{slice_rest, is_cell, may_break, may_close, closed_is, laid_is, may_end_then}
 use Rattle.tj_park.proofs.EndSteps.{ended_is, about_woken, may_wake_then, woke_then, may_lower, has_finished}

@@ -5,9 +5,9 @@ use Rattle.tj_base.specs.declared.cell.Sort.TheVariants as sort
 use Rattle.tj_body.specs.History.{to_promise}
 use Rattle.tj_body.specs.declared.point.Entry.TheVariants as entry
 use Rattle.tj_body.specs.declared.point.Value.TheVariants as value
-use Rattle.tj_words.specs.OwnerViews.{gave_up}
-use Rattle.tj_words.specs.TakenRecords.{custody_of}
-use Rattle.tj_words.proofs.Merging.{begins_at}
+use Rattle.tj_words.specs.Calls.OwnerViews.{gave_up}
+use Rattle.tj_words.specs.Calls.TakenRecords.{custody_of}
+use Rattle.tj_words.proofs.Seating.Merging.{begins_at}
 use Rattle.tj_cells.specs.MadeCells.{IsMade, makes_promise}
 use Rattle.tj_park.proofs.TestRoots.{bits_root, claimed_first, closed_root, first_named, first_set, made_is, made_owned}
 use Rattle.tj_park.proofs.TestRoots.{made_root, may_close_promise, may_fill_number, may_make, not_root, second_named}

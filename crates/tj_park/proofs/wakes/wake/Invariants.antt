@@ -1,5 +1,5 @@
 use Rattle.std.proofs.Common.{◌≡◌}
-use Rattle.tj_words.specs.SeatSteps.{IsSameSeat}
+use Rattle.tj_words.specs.SeatViews.SeatSteps.{IsSameSeat}
 use Rattle.tj_park.proofs.WakeLoops.{Waking, rest_length}
 use Rattle.tj_park.proofs.wakes.wake.Given as goal
 

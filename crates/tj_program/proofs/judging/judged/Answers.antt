@@ -1,6 +1,6 @@
 use Rattle.std.proofs.Common.{subst}
-use Rattle.tj_core.specs.Journal as journal
-use Rattle.tj_core.specs.Journal.{lines_of}
+use Rattle.tj_core.specs.Journals.Lines as journal
+use Rattle.tj_core.specs.Journals.Lines.{lines_of}
 use Rattle.tj_program.specs.Judgings.{bad_line}
 use Rattle.tj_program.proofs.Outputs.{IsJudging-fault}
 use Rattle.tj_program.proofs.judging.judged.Goals as goal

@@ -14,5 +14,5 @@ pub returns-in_ok-journal_fault-in-Long : goal.returns-in_ok-journal_fault-in-Lo
 returns-in_ok-journal_fault-in-Long c = λ all read.
     let long = read_long c.in-Long.bytes all (subst (IsReadOf all) c.in-Long.is read) in
     IsJudging-fault c.args.cells _ all _
-    (long_fault c.place_behind.result all _ c.place_behind.ensures (c.items-in-Long.ensures ∙ long.first) long.long)
+    (long_fault c.position_behind.result all _ c.position_behind.ensures (c.items-in-Long.ensures ∙ long.first) long.long)
     c.in_ok-journal_fault-in-Long.ensures

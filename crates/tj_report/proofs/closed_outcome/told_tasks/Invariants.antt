@@ -1,7 +1,7 @@
 use Rattle.std.proofs.Common.{List}
 use Rattle.tj_body.specs.Programs.{program_of}
 use Rattle.tj_body.specs.declared.point.Reference.{Reference}
-use Rattle.tj_words.specs.RestMeaning.{AreWordsOf, AreRecordsOf}
+use Rattle.tj_words.specs.AtRest.RestMeaning.{AreWordsOf, AreRecordsOf}
 use Rattle.tj_report.proofs.ToldTasks.{ToldBelow}
 use Rattle.tj_report.proofs.closed_outcome.told_tasks.Given as goal
 

@@ -7,12 +7,12 @@ use Rattle.atomic_table.proofs.shared.Seat.TheSendSync as seat
 use Rattle.std.proofs.Common.{◌≡◌, ◌<◌, ◌∙◌, [], length, Some, ap, sym, subst, arith}
 use Rattle.std.proofs.Crossing.{send}
 use Rattle.std.proofs.lemmas.List.Elements.{All-pop}
-use Rattle.tj_words.specs.SeatSteps.{SeatMe}
-use Rattle.tj_run.specs.Carried.{IsFree}
+use Rattle.tj_words.specs.SeatViews.SeatSteps.{SeatMe}
+use Rattle.tj_run.specs.Workers.{IsFree}
 use Rattle.tj_run.specs.Runs.{HasLots}
-use Rattle.tj_run.proofs.FreeSeats.{free_left, free_right}
-use Rattle.tj_run.proofs.ThreadSends.{laid_sync, seven_send, slot_send, u32_send, unseen_quiet}
-use Rattle.tj_run.proofs.SplitLots.{falls_by, length_last, lots_left, lots_two, some_more}
+use Rattle.tj_run.proofs.Seats.FreeSeats.{free_left, free_right}
+use Rattle.tj_run.proofs.Seats.ThreadSends.{laid_sync, seven_send, slot_send, u32_send, unseen_quiet}
+use Rattle.tj_run.proofs.Seats.SplitLots.{falls_by, length_last, lots_left, lots_two, some_more}
 use Rattle.tj_run.proofs.crew.+workers.Goals as goal
 
 pub overflow_cast-number : goal.overflow_cast-number

@@ -1,5 +1,5 @@
 use Rattle.tj_body.specs.Programs.{program_of}
-use Rattle.tj_run.proofs.RunsAtRest.{full_told, rests_at}
+use Rattle.tj_run.proofs.Runs.RunsAtRest.{full_told, rests_at}
 use Rattle.tj_run.proofs.crew.run_all.Goals as goal
 
 pub returns-in-Rested-clause-rest : goal.returns-in-Rested-clause-rest

@@ -1,6 +1,6 @@
 use Rattle.std.proofs.Common.{◌≡◌, drop}
-use Rattle.tj_words.specs.SeatSteps.{IsSameSeat}
-use Rattle.tj_run.specs.Children.{MayGiveEach, gave_each}
+use Rattle.tj_words.specs.SeatViews.SeatSteps.{IsSameSeat}
+use Rattle.tj_run.specs.Inner.Children.{MayGiveEach, gave_each}
 use Rattle.tj_run.proofs.forks.hand_each.Given as goal
 
 -- the promises from this one on may be handed, and the view is then as it is to be

@@ -1,6 +1,6 @@
 use Rattle.tj_body.specs.Programs.{program_of}
-use Rattle.tj_run.specs.Carried.{table_program}
-use Rattle.tj_run.proofs.ResumedTasks.{IsPlace, starts}
+use Rattle.tj_run.specs.Workers.{table_program}
+use Rattle.tj_run.proofs.Waiting.ResumedTasks.{IsPlace, starts}
 use Rattle.std.proofs.Common.{subst}
 use Rattle.tj_run.proofs.life_tests.asks_first.Goals as goal
 

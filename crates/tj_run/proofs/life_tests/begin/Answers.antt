@@ -1,5 +1,5 @@
 use Rattle.tj_body.specs.Programs.{program_of}
-use Rattle.tj_run.proofs.TestRuns.{claim_back}
+use Rattle.tj_run.proofs.ForTests.TestRuns.{claim_back}
 use Rattle.tj_run.proofs.life_tests.begin.Goals as goal
 
 pub asks_first-requires-clause-back : goal.asks_first-requires-clause-back

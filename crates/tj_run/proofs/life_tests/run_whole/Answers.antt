@@ -1,6 +1,6 @@
 use Rattle.tj_body.specs.Programs.{program_of}
-use Rattle.tj_run.proofs.TestRuns.{claim_back, claim_knows}
-use Rattle.tj_run.proofs.WorkersSteps.{left_on}
+use Rattle.tj_run.proofs.ForTests.TestRuns.{claim_back, claim_knows}
+use Rattle.tj_run.proofs.Seats.WorkersSteps.{left_on}
 use Rattle.tj_run.proofs.life_tests.run_whole.Goals as goal
 
 pub run-requires-clause-back : goal.run-requires-clause-back

@@ -2,9 +2,10 @@ use Rattle.std.proofs.Common.{◌∙◌, ◌<◌, ap, length, subst, sym}
 use Rattle.tj_body.specs.Asks.{IsPaid}
 use Rattle.tj_body.specs.Programs.{program_of}
 use Rattle.tj_body.specs.declared.ask.Ask.TheVariants as ask
-use Rattle.tj_run.specs.Carried.{IsAsked, about_table, table_program}
-use Rattle.tj_run.specs.Pieces.{fill_at, held_at}
-use Rattle.tj_run.proofs.SetPromises.{sets_cell, sets_fills, sets_gives, sets_wakes}
+use Rattle.tj_run.specs.Workers.{about_table, table_program}
+use Rattle.tj_run.specs.Inner.Carried.{IsAsked}
+use Rattle.tj_run.specs.Inner.Pieces.{fill_at, held_at}
+use Rattle.tj_run.proofs.Asks.SetPromises.{sets_cell, sets_fills, sets_gives, sets_wakes}
 use Rattle.tj_run.proofs.life_tests.set_asked.Goals as goal
 
 pub bounds-items-p : goal.bounds-items-p

@@ -1,10 +1,11 @@
 use Rattle.std.proofs.Common.{◌<◌, ap, inl, length, subst, sym}
 use Rattle.tj_body.specs.Programs.{program_of}
-use Rattle.tj_run.specs.Carried.{IsAsked, table_program}
-use Rattle.tj_run.specs.Pieces.{held_at}
-use Rattle.tj_run.proofs.RunLoops.{waits_here}
-use Rattle.tj_run.proofs.WaitConditions.{block_then, held_as, knows_task, others_then, park_then, place_inside}
-use Rattle.tj_run.proofs.WaitConditions.{quiet_either, slot_then, task_cell, wait_cell}
+use Rattle.tj_run.specs.Workers.{table_program}
+use Rattle.tj_run.specs.Inner.Carried.{IsAsked}
+use Rattle.tj_run.specs.Inner.Pieces.{held_at}
+use Rattle.tj_run.proofs.Runs.RunLoops.{waits_here}
+use Rattle.tj_run.proofs.Waiting.WaitConditions.{block_then, held_as, knows_task, others_then, park_then, place_inside}
+use Rattle.tj_run.proofs.Waiting.WaitConditions.{quiet_either, slot_then, task_cell, wait_cell}
 use Rattle.tj_run.proofs.life_tests.set_before_park.Goals as goal
 
 pub get-requires-clause-asked : goal.get-requires-clause-asked

@@ -4,11 +4,12 @@ use Rattle.tj_body.specs.Programs.{program_of}
 use Rattle.tj_body.specs.Table.{table_asks, table_awaits, table_left, table_places, table_then}
 use Rattle.tj_body.specs.declared.ask.Ask.TheVariants as ask
 use Rattle.tj_words.specs.declared.record.Finish.TheVariants as finish
-use Rattle.tj_run.specs.Carried.{IsAsked, table_program}
-use Rattle.tj_run.specs.Pieces.{fill_at}
-use Rattle.tj_run.proofs.EndConditions.{ended_left, may_finish, none_other, slot_is}
-use Rattle.tj_run.proofs.PureAsks.{end_goes}
-use Rattle.tj_run.proofs.TestRuns.{may_rest}
+use Rattle.tj_run.specs.Workers.{table_program}
+use Rattle.tj_run.specs.Inner.Carried.{IsAsked}
+use Rattle.tj_run.specs.Inner.Pieces.{fill_at}
+use Rattle.tj_run.proofs.Runs.EndConditions.{ended_left, may_finish, none_other, slot_is}
+use Rattle.tj_run.proofs.Asks.PureAsks.{end_goes}
+use Rattle.tj_run.proofs.ForTests.TestRuns.{may_rest}
 use Rattle.tj_run.proofs.life_tests.the_root_ends_and_its_table_is_closed.Goals as goal
 
 pub fill_at-given-requires : goal.fill_at-given-requires

@@ -1,7 +1,7 @@
 use Rattle.std.proofs.Common.{◌≡◌, drop, map}
 use Rattle.tj_body.specs.NameLaws.{hand_cells}
-use Rattle.tj_words.specs.Lists.{numbers}
-use Rattle.tj_run.specs.Pieces.{numbered}
+use Rattle.tj_words.specs.Words.Lists.{numbers}
+use Rattle.tj_run.specs.Inner.Pieces.{numbered}
 use Rattle.tj_run.proofs.pieces.hand_all.Given as goal
 
 -- what is left of the rest decides

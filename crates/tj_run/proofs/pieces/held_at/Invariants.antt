@@ -1,5 +1,5 @@
 use Rattle.std.proofs.Common.{◌≡◌, map, take}
-use Rattle.tj_run.specs.Pieces.{held_at}
+use Rattle.tj_run.specs.Inner.Pieces.{held_at}
 use Rattle.tj_run.proofs.pieces.held_at.Given as goal
 
 abbrev pub invariant-loop-place : goal.invariant-loop-place

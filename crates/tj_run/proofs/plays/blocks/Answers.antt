@@ -1,4 +1,4 @@
-use Rattle.tj_run.proofs.PlaySteps.{two_steps}
+use Rattle.tj_run.proofs.ForTests.PlaySteps.{two_steps}
 use Rattle.tj_run.proofs.plays.blocks.Goals as goal
 
 pub returns-clause-view : goal.returns-clause-view

@@ -1,7 +1,7 @@
 use Rattle.std.proofs.Common.{◌≡◌}
 use Rattle.tj_body.specs.Programs.{program_of}
-use Rattle.tj_run.specs.Going.{Goes}
-use Rattle.tj_run.proofs.RunLoops.{asks_left}
+use Rattle.tj_run.specs.Inner.Going.{Goes}
+use Rattle.tj_run.proofs.Runs.RunLoops.{asks_left}
 use Rattle.tj_run.proofs.plays.run_to_stop.Given as goal
 
 -- how the task goes on since the call

@@ -1,5 +1,5 @@
 use Rattle.tj_body.specs.Programs.{program_of}
-use Rattle.tj_run.proofs.TurnSteps.{claimed_back}
+use Rattle.tj_run.proofs.Runs.TurnSteps.{claimed_back}
 use Rattle.tj_run.proofs.plays.turn_of.Goals as goal
 
 pub run_to_stop-requires-clause-back : goal.run_to_stop-requires-clause-back

@@ -1,5 +1,5 @@
 use Rattle.std.proofs.Common.{◌≡◌}
-use Rattle.tj_run.specs.Carried.{IsFree}
+use Rattle.tj_run.specs.Workers.{IsFree}
 use Rattle.tj_run.proofs.plays.turns_of.Given as goal
 
 -- the seat is free between two turns

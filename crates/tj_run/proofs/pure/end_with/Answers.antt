@@ -1,7 +1,7 @@
 use Rattle.std.proofs.Common.{ap, ◌∙◌}
 use Rattle.tj_body.specs.Programs.{program_of}
-use Rattle.tj_run.specs.Pieces.{fill_at}
-use Rattle.tj_run.proofs.PureAsks.{end_goes}
+use Rattle.tj_run.specs.Inner.Pieces.{fill_at}
+use Rattle.tj_run.proofs.Asks.PureAsks.{end_goes}
 use Rattle.tj_run.proofs.pure.end_with.Goals as goal
 
 pub returns-clause-goes : goal.returns-clause-goes

@@ -1,5 +1,5 @@
 use Rattle.tj_body.specs.Programs.{program_of}
-use Rattle.tj_run.proofs.PureAsks.{fail_goes}
+use Rattle.tj_run.proofs.Asks.PureAsks.{fail_goes}
 use Rattle.tj_run.proofs.pure.fail.Goals as goal
 
 pub returns-clause-goes : goal.returns-clause-goes

@@ -1,8 +1,8 @@
 use Rattle.std.proofs.Common.{Some, inl, refl}
 use Rattle.tj_body.specs.Programs.{program_of}
 use Rattle.tj_park.proofs.TakenTasks.{claimed, slot_in_front}
-use Rattle.tj_run.specs.Carried.{about_table}
-use Rattle.tj_run.proofs.TestRuns.{claim_back, claim_knows}
+use Rattle.tj_run.specs.Workers.{about_table}
+use Rattle.tj_run.proofs.ForTests.TestRuns.{claim_back, claim_knows}
 use Rattle.tj_run.proofs.step_tests.claim_in_steps.Goals as goal
 
 pub swap_phase-requires-clause-may : goal.swap_phase-requires-clause-may

@@ -1,7 +1,8 @@
 use Rattle.std.proofs.Common.{◌∙◌}
 use Rattle.tj_body.specs.Programs.{program_of}
-use Rattle.tj_run.proofs.StepEnds.{bits_next, ends_next, few_cell, gives_up, left_so, lowers_next, nobody_woken}
-use Rattle.tj_run.proofs.StepEnds.{slot_next, tag_next, wakes_next}
+use Rattle.tj_run.proofs.ForTests.StepEnds.{bits_next, ends_next, few_cell, gives_up, left_so, lowers_next}
+use Rattle.tj_run.proofs.ForTests.StepEnds.{nobody_woken}
+use Rattle.tj_run.proofs.ForTests.StepEnds.{slot_next, tag_next, wakes_next}
 use Rattle.tj_run.proofs.step_tests.end_in_steps.Goals as goal
 
 pub put_owner-requires-clause-cell : goal.put_owner-requires-clause-cell

@@ -3,10 +3,11 @@ use Rattle.tj_body.specs.Asks.{IsPaid}
 use Rattle.tj_body.specs.Programs.{program_of}
 use Rattle.tj_body.specs.Table.{table_asks, table_awaits, table_left, table_places, table_then}
 use Rattle.tj_body.specs.declared.ask.Ask.TheVariants as ask
-use Rattle.tj_run.specs.Carried.{IsAsked, table_program}
-use Rattle.tj_run.specs.Pieces.{fill_at}
-use Rattle.tj_run.proofs.PureAsks.{end_goes}
-use Rattle.tj_run.proofs.TestRuns.{may_rest}
+use Rattle.tj_run.specs.Workers.{table_program}
+use Rattle.tj_run.specs.Inner.Carried.{IsAsked}
+use Rattle.tj_run.specs.Inner.Pieces.{fill_at}
+use Rattle.tj_run.proofs.Asks.PureAsks.{end_goes}
+use Rattle.tj_run.proofs.ForTests.TestRuns.{may_rest}
 use Rattle.tj_run.proofs.step_tests.the_root_ends_by_step_calls.Goals as goal
 
 pub fill_at-given-requires : goal.fill_at-given-requires

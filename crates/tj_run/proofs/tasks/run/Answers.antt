@@ -1,7 +1,7 @@
 use Rattle.std.proofs.Common.{◌∙◌, IfSome, subst}
 use Rattle.tj_body.specs.Programs.{program_of}
-use Rattle.tj_run.specs.Waits.{ComesBack}
-use Rattle.tj_run.proofs.WorkersSteps.{back_on, left_on}
+use Rattle.tj_run.specs.Inner.Waits.{ComesBack}
+use Rattle.tj_run.proofs.Seats.WorkersSteps.{back_on, left_on}
 use Rattle.tj_run.proofs.tasks.run.Goals as goal
 
 pub returns-in-None-2-clause-left : goal.returns-in-None-2-clause-left

@@ -1,6 +1,6 @@
 use Rattle.std.proofs.Common.{◌≡◌}
 use Rattle.tj_body.specs.Programs.{program_of}
-use Rattle.tj_run.specs.Waits.{ComesBack}
+use Rattle.tj_run.specs.Inner.Waits.{ComesBack}
 use Rattle.tj_run.proofs.tasks.run.Given as goal
 
 -- the task has come back each time

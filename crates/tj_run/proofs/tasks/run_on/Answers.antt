@@ -1,7 +1,7 @@
 use Rattle.std.proofs.Common.{◌∙◌}
 use Rattle.tj_body.specs.Programs.{program_of}
-use Rattle.tj_run.proofs.TaskReturns.{backs_on}
-use Rattle.tj_run.proofs.WorkersSteps.{goes_since, left_on}
+use Rattle.tj_run.proofs.Runs.TaskReturns.{backs_on}
+use Rattle.tj_run.proofs.Seats.WorkersSteps.{goes_since, left_on}
 use Rattle.tj_run.proofs.tasks.run_on.Goals as goal
 
 pub loop-next-preserved : goal.loop-next-preserved

@@ -1,8 +1,8 @@
 use Rattle.std.proofs.Common.{ap, ◌∙◌}
-use Rattle.tj_words.specs.SeatSteps.{SeatMe}
+use Rattle.tj_words.specs.SeatViews.SeatSteps.{SeatMe}
 use Rattle.tj_words.specs.declared.view.View.{View}
 use Rattle.tj_body.specs.Programs.{program_of}
-use Rattle.tj_run.proofs.TurnSteps.{stopped_since}
+use Rattle.tj_run.proofs.Runs.TurnSteps.{stopped_since}
 use Rattle.tj_run.proofs.turns.stop_run.Goals as goal
 
 pub loop-i-init : goal.loop-i-init

@@ -1,5 +1,5 @@
 use Rattle.std.proofs.Common.{◌≡◌}
-use Rattle.tj_words.specs.SeatSteps.{IsSeatOf}
+use Rattle.tj_words.specs.SeatViews.SeatSteps.{IsSeatOf}
 use Rattle.tj_run.proofs.turns.stop_run.Given as goal
 
 abbrev pub invariant-loop-i : goal.invariant-loop-i

@@ -1,5 +1,5 @@
 use Rattle.tj_body.specs.Programs.{program_of}
-use Rattle.tj_run.proofs.TurnSteps.{stop_seen, turns_since}
+use Rattle.tj_run.proofs.Runs.TurnSteps.{stop_seen, turns_since}
 use Rattle.tj_run.proofs.turns.take_turn.Goals as goal
 
 pub returns-in-None-clause-turns : goal.returns-in-None-clause-turns

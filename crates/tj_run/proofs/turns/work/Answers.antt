@@ -1,6 +1,6 @@
 use Rattle.tj_body.specs.Programs.{program_of}
-use Rattle.tj_run.proofs.TurnSteps.{claimed_back}
-use Rattle.tj_run.proofs.WorkersSteps.{left_on}
+use Rattle.tj_run.proofs.Runs.TurnSteps.{claimed_back}
+use Rattle.tj_run.proofs.Seats.WorkersSteps.{left_on}
 use Rattle.tj_run.proofs.turns.work.Goals as goal
 
 pub run-requires-clause-back : goal.run-requires-clause-back

@@ -1,8 +1,8 @@
 use Rattle.std.proofs.Common.{◌∙◌, sym}
 use Rattle.tj_body.specs.Programs.{program_of}
-use Rattle.tj_words.proofs.KnowsMoreOn.{more_itself}
-use Rattle.tj_run.proofs.TurnSteps.{leaves_since, turns_on}
-use Rattle.tj_run.proofs.WorkersSteps.{left_on}
+use Rattle.tj_words.proofs.SeatLoads.KnowsMoreOn.{more_itself}
+use Rattle.tj_run.proofs.Runs.TurnSteps.{leaves_since, turns_on}
+use Rattle.tj_run.proofs.Seats.WorkersSteps.{left_on}
 use Rattle.tj_run.proofs.turns.worker.Goals as goal
 
 pub loop-i-init : goal.loop-i-init

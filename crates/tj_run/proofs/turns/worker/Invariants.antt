@@ -1,6 +1,6 @@
 use Rattle.std.proofs.Common.{◌≡◌}
-use Rattle.tj_words.specs.SeatSteps.{IsSeatOf}
-use Rattle.tj_run.specs.Waits.{IsLeft}
+use Rattle.tj_words.specs.SeatViews.SeatSteps.{IsSeatOf}
+use Rattle.tj_run.specs.Inner.Waits.{IsLeft}
 use Rattle.tj_run.proofs.turns.worker.Given as goal
 
 abbrev pub invariant-loop-i : goal.invariant-loop-i

@@ -1,12 +1,13 @@
 use Rattle.std.proofs.Common.{◌≢◌, ◌<◌, length, ap, subst, sym}
 use Rattle.tj_body.specs.Programs.{program_of}
 use Rattle.tj_core.specs.declared.walk.Way.TheVariants.{Other}
-use Rattle.tj_run.specs.Carried.{about_table, table_program}
-use Rattle.tj_run.specs.Pieces.{held_at}
-use Rattle.tj_run.specs.Waits.{Blocked}
-use Rattle.tj_run.proofs.NextAsks.{few_places, fits_record}
-use Rattle.tj_run.proofs.TwoTasks.{alone, begins, blocks_too, inside, knows_on, no_other, parks_too, runs_on_still}
-use Rattle.tj_run.proofs.TwoTasks.{slot_first, there}
+use Rattle.tj_run.specs.Workers.{about_table, table_program}
+use Rattle.tj_run.specs.Inner.Pieces.{held_at}
+use Rattle.tj_run.specs.Inner.Waits.{Blocked}
+use Rattle.tj_run.proofs.Asks.NextAsks.{few_places, fits_record}
+use Rattle.tj_run.proofs.ForTests.TwoTasks.{alone, begins, blocks_too, inside, knows_on, no_other, parks_too}
+use Rattle.tj_run.proofs.ForTests.TwoTasks.{runs_on_still}
+use Rattle.tj_run.proofs.ForTests.TwoTasks.{slot_first, there}
 use Rattle.tj_run.proofs.two_task_tests.park_beside.Goals as goal
 
 pub claim-requires-clause-knows : goal.claim-requires-clause-knows

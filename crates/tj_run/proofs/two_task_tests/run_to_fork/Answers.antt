@@ -1,5 +1,5 @@
 use Rattle.tj_body.specs.Programs.{program_of}
-use Rattle.tj_run.proofs.TestRuns.{claim_back}
+use Rattle.tj_run.proofs.ForTests.TestRuns.{claim_back}
 use Rattle.tj_run.proofs.two_task_tests.run_to_fork.Goals as goal
 
 pub resume-requires-clause-runs : goal.resume-requires-clause-runs

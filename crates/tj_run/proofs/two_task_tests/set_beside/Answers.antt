@@ -1,6 +1,6 @@
 use Rattle.tj_body.specs.Programs.{program_of}
-use Rattle.tj_run.specs.Carried.{table_program}
-use Rattle.tj_run.proofs.TwoTasks.{running_on}
+use Rattle.tj_run.specs.Workers.{table_program}
+use Rattle.tj_run.proofs.ForTests.TwoTasks.{running_on}
 use Rattle.tj_run.proofs.two_task_tests.set_beside.Goals as goal
 
 pub next_ask-requires-clause-running : goal.next_ask-requires-clause-running

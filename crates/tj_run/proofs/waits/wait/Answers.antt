@@ -1,10 +1,12 @@
 use Rattle.std.proofs.Common.{◌∙◌, ◌<◌, length, ap, refl, subst, sym}
 use Rattle.tj_body.specs.Programs.{program_of}
-use Rattle.tj_words.proofs.ChainLists.{no_some}
-use Rattle.tj_run.specs.Pieces.{held_at}
-use Rattle.tj_run.specs.Waits.{Blocked}
-use Rattle.tj_run.proofs.WaitConditions.{back_parked, block_then, held_as, knows_task, left_parked, left_shelved}
-use Rattle.tj_run.proofs.WaitConditions.{park_then, place_inside, quiet_either, shelve_then, task_cell, wait_cell}
+use Rattle.tj_words.proofs.Waiters.ChainLists.{no_some}
+use Rattle.tj_run.specs.Inner.Pieces.{held_at}
+use Rattle.tj_run.specs.Inner.Waits.{Blocked}
+use Rattle.tj_run.proofs.Waiting.WaitConditions.{back_parked, block_then, held_as, knows_task, left_parked}
+use Rattle.tj_run.proofs.Waiting.WaitConditions.{left_shelved}
+use Rattle.tj_run.proofs.Waiting.WaitConditions.{park_then, place_inside, quiet_either, shelve_then, task_cell}
+use Rattle.tj_run.proofs.Waiting.WaitConditions.{wait_cell}
 use Rattle.tj_run.proofs.waits.wait.Goals as goal
 
 pub bounds-items-place : goal.bounds-items-place

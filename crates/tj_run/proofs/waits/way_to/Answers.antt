@@ -1,6 +1,6 @@
 use Rattle.std.proofs.Common.{◌∙◌}
-use Rattle.tj_words.proofs.LaterSeats.{read_itself}
-use Rattle.tj_run.proofs.JoinTests.{promise_way}
+use Rattle.tj_words.proofs.SeatLoads.LaterSeats.{read_itself}
+use Rattle.tj_run.proofs.Waiting.JoinTests.{promise_way}
 use Rattle.tj_run.proofs.waits.way_to.Goals as goal
 
 pub returns-in-Promise-clause-view : goal.returns-in-Promise-clause-view

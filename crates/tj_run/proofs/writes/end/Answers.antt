@@ -1,5 +1,5 @@
 use Rattle.tj_body.specs.Programs.{program_of}
-use Rattle.tj_run.proofs.EndConditions.{may_finish}
+use Rattle.tj_run.proofs.Runs.EndConditions.{may_finish}
 use Rattle.tj_run.proofs.writes.end.Goals as goal
 
 pub finish-requires-clause-may : goal.finish-requires-clause-may

@@ -1,6 +1,6 @@
 use Rattle.std.proofs.Common.{ap, length}
 use Rattle.tj_body.specs.Programs.{program_of}
-use Rattle.tj_run.proofs.MadePromises.{may_make_promise, promise_made}
+use Rattle.tj_run.proofs.Asks.MadePromises.{may_make_promise, promise_made}
 use Rattle.tj_run.proofs.writes.make_promise.Goals as goal
 
 pub make-requires-clause-may : goal.make-requires-clause-may

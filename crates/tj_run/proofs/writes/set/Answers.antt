@@ -1,10 +1,10 @@
 use Rattle.std.proofs.Common.{◌∙◌, ap}
 use Rattle.tj_body.specs.Programs.{program_of}
 use Rattle.tj_park.specs.Wakes.{WakesAll, WakesSome}
-use Rattle.tj_run.specs.Pieces.{fill_at, held_at}
-use Rattle.tj_run.proofs.NewThings.{lacks_memory}
-use Rattle.tj_run.proofs.SetPromises.{not_so, promise_if, sets_about, sets_cell, sets_fills, sets_gives, sets_goes}
-use Rattle.tj_run.proofs.SetPromises.{sets_task, sets_unowned, sets_wakes}
+use Rattle.tj_run.specs.Inner.Pieces.{fill_at, held_at}
+use Rattle.tj_run.proofs.Asks.NewThings.{lacks_memory}
+use Rattle.tj_run.proofs.Asks.SetPromises.{not_so, promise_if, sets_about, sets_cell, sets_fills, sets_gives, sets_goes}
+use Rattle.tj_run.proofs.Asks.SetPromises.{sets_task, sets_unowned, sets_wakes}
 use Rattle.tj_run.proofs.writes.set.Goals as goal
 
 pub returns-in-Task-clause-goes : goal.returns-in-Task-clause-goes

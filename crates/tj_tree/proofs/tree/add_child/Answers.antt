@@ -4,7 +4,7 @@ use Rattle.tj_tree.specs.declared.tree.Entry.{Entry}
 use Rattle.tj_tree.specs.Forks.{next_fork, kid_count}
 use Rattle.tj_tree.specs.Nodes.{child_node, node_of}
 use Rattle.tj_tree.specs.Inner.Tree.{AreEntriesOf, forks_of}
-use Rattle.tj_tree.proofs.Consecutive.{AreEntriesOf-fork}
+use Rattle.tj_tree.proofs.Gapless.{AreEntriesOf-fork}
 use Rattle.tj_tree.proofs.tree.add_child.Goals as goal
 
 pub returns-clause-ok : goal.returns-clause-ok

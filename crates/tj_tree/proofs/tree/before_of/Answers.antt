@@ -3,8 +3,8 @@ use Rattle.std.specs.Prelude.{◌↔◌, IsTrue}
 use Rattle.tj_tree.specs.declared.tree.Entry.{Entry}
 use Rattle.tj_tree.specs.Forks.{Forks, IsEarlier, order_of, task_count}
 use Rattle.tj_tree.specs.Nodes.{node_of}
-use Rattle.tj_tree.specs.Inner.Tree.{AreInTurn, AreEntriesOf, MayLook, forks_of}
-use Rattle.tj_tree.proofs.Consecutive.{HasTask-below, IsHistory-in_turn}
+use Rattle.tj_tree.specs.Inner.Tree.{AreGapless, AreEntriesOf, MayLook, forks_of}
+use Rattle.tj_tree.proofs.Gapless.{HasTask-below, IsHistory-gapless}
 use Rattle.tj_tree.proofs.tree.before_of.Goals as goal
 
 may_look : (forks fs now : Forks) (entries items : List Entry) (n : ℕ) → entries ≡ items → AreEntriesOf fs items
@@ -14,7 +14,7 @@ may_look forks fs now entries items n same of view read there =
     (subst (λ gs. AreEntriesOf gs items) (view ∙ read) of) in
     record {
       entries_of = whole;
-      there = HasTask-below forks whole.in_turn n
+      there = HasTask-below forks whole.gapless n
           (subst (λ gs. n < task_count gs) read there);
     }
 
@@ -22,8 +22,8 @@ pub before_in-requires-clause-tree : goal.before_in-requires-clause-tree
 before_in-requires-clause-tree g c = (
   g.F.Forked.forks,
   (
-    IsHistory-in_turn g.F.Forked.forks
-        (subst (λ (fs : Forks). AreInTurn fs) (c.tree.view_is ∙ c.requires.forks) c.tree.invariant.in_turn),
+    IsHistory-gapless g.F.Forked.forks
+        (subst (λ (fs : Forks). AreGapless fs) (c.tree.view_is ∙ c.requires.forks) c.tree.invariant.gapless),
     λ n node
         h. h,
   ),
@@ -43,16 +43,16 @@ before_in-requires-clause-b_open g c =
 
 pub returns-clause-order : goal.returns-clause-order
 returns-clause-order g c =
-    let history = IsHistory-in_turn g.F.Forked.forks
-    (subst (λ (fs : Forks). AreInTurn fs) (c.tree.view_is ∙ c.requires.forks) c.tree.invariant.in_turn) in
+    let history = IsHistory-gapless g.F.Forked.forks
+    (subst (λ (fs : Forks). AreGapless fs) (c.tree.view_is ∙ c.requires.forks) c.tree.invariant.gapless) in
     subst (λ (fs : Forks). IsTrue c.before_in.result ↔ IsEarlier (order_of fs) c.args.a.0 c.args.b.0)
     (sym c.requires.forks)
     (c.before_in.ensures.order g.F.Forked.forks history (λ n node h. h))
 
 pub returns-clause-cost : goal.returns-clause-cost
 returns-clause-cost g c =
-    let history = IsHistory-in_turn g.F.Forked.forks
-    (subst (λ (fs : Forks). AreInTurn fs) (c.tree.view_is ∙ c.requires.forks) c.tree.invariant.in_turn) in
+    let history = IsHistory-gapless g.F.Forked.forks
+    (subst (λ (fs : Forks). AreGapless fs) (c.tree.view_is ∙ c.requires.forks) c.tree.invariant.gapless) in
     subst (λ (fs : Forks). (digits : ℕ) → max (node_of fs c.args.a.0).depth (node_of fs c.args.b.0).depth + 1 < 2 ^
     digits → c.before_in.new.steps ≤ c.args.steps.now + (16 * digits + 16)) (sym c.requires.forks)
     (c.before_in.ensures.cost g.F.Forked.forks history (λ n node h. h))

@@ -1,5 +1,5 @@
 use Rattle.tj_tree.specs.Inner.Tree.{forks_of}
-use Rattle.tj_tree.proofs.Consecutive.{entry_shallow, entry_parent, entry_jump, entry_up}
+use Rattle.tj_tree.proofs.Gapless.{entry_shallow, entry_parent, entry_jump, entry_up}
 use Rattle.tj_tree.proofs.tree.node_at.Goals as goal
 
 pub returns-clause-shallow : goal.returns-clause-shallow

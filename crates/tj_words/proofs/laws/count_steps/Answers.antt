@@ -1,5 +1,5 @@
-use Rattle.tj_words.proofs.DrawEvents.{draw_shown}
-use Rattle.tj_words.proofs.WalkEvents.{count_shown}
+use Rattle.tj_words.proofs.Events.DrawEvents.{draw_shown}
+use Rattle.tj_words.proofs.Events.WalkEvents.{count_shown}
 use Rattle.tj_words.proofs.laws.count_steps.Goals as goal
 
 pub returns-clause-draw : goal.returns-clause-draw

@@ -1,13 +1,14 @@
 use Rattle.std.proofs.Common.{ap, subst, ◌∙◌}
 use Rattle.tj_core.specs.Events.{is_owner, owner_found, owner_read}
-use Rattle.tj_words.specs.Offsets.{word, own_at}
-use Rattle.tj_words.specs.Owners.{owner_in}
-use Rattle.tj_words.specs.Contents.{contents_of}
-use Rattle.tj_words.specs.WalkSteps.{ReadsOn}
-use Rattle.tj_words.specs.WalkViews.{owner_seen}
-use Rattle.tj_words.specs.Phases.{phase_in}
-use Rattle.tj_words.specs.WaitViews.{PutsIfWait}
-use Rattle.tj_words.proofs.EventCalls.{call_publishes, call_alarms, call_raises, call_lowers, call_reads, first_seen}
+use Rattle.tj_words.specs.Words.Offsets.{word, own_at}
+use Rattle.tj_words.specs.Words.Owners.{owner_in}
+use Rattle.tj_words.specs.LawParts.Contents.{contents_of}
+use Rattle.tj_words.specs.Steps.WalkSteps.{ReadsOn}
+use Rattle.tj_words.specs.Calls.WalkViews.{owner_seen}
+use Rattle.tj_words.specs.Words.Phases.{phase_in}
+use Rattle.tj_words.specs.Calls.WaitViews.{PutsIfWait}
+use Rattle.tj_words.proofs.Calls.EventCalls.{call_publishes, call_alarms, call_raises, call_lowers, call_reads}
+use Rattle.tj_words.proofs.Calls.EventCalls.{first_seen}
 use Rattle.tj_words.proofs.laws.event_calls.Goals as goal
 
 pub returns-clause-others_up : goal.returns-clause-others_up

@@ -1,4 +1,4 @@
-use Rattle.tj_words.proofs.QuietMoves.{record_shown, shelve_shown}
+use Rattle.tj_words.proofs.Events.QuietMoves.{record_shown, shelve_shown}
 use Rattle.tj_words.proofs.laws.live_steps.Goals as goal
 
 pub returns-clause-record : goal.returns-clause-record

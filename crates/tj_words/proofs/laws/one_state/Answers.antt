@@ -1,5 +1,5 @@
 use Rattle.std.proofs.Common.{arith}
-use Rattle.tj_words.proofs.OneStates.{chained, drawn_chained, one_shown}
+use Rattle.tj_words.proofs.Calls.OneStates.{chained, drawn_chained, one_shown}
 use Rattle.tj_words.proofs.laws.one_state.Goals as goal
 
 pub returns-clause-one : goal.returns-clause-one

@@ -1,5 +1,5 @@
-use Rattle.tj_words.proofs.WalkEvents.{raise_shown, others_shown}
-use Rattle.tj_words.proofs.WaitClears.{lower_shown}
+use Rattle.tj_words.proofs.Events.WalkEvents.{raise_shown, others_shown}
+use Rattle.tj_words.proofs.Events.WaitClears.{lower_shown}
 use Rattle.tj_words.proofs.laws.others_steps.Goals as goal
 
 pub returns-clause-add : goal.returns-clause-add

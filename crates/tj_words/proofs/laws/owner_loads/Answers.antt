@@ -1,4 +1,4 @@
-use Rattle.tj_words.proofs.WalkEvents.{owner_shown_read, again_shown_read}
+use Rattle.tj_words.proofs.Events.WalkEvents.{owner_shown_read, again_shown_read}
 use Rattle.tj_words.proofs.laws.owner_loads.Goals as goal
 
 pub returns-clause-owner : goal.returns-clause-owner

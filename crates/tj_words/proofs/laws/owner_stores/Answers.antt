@@ -1,5 +1,5 @@
-use Rattle.tj_words.proofs.DrawEvents.{give_shown}
-use Rattle.tj_words.proofs.OwnerEvents.{hand_shown, close_shown, end_shown}
+use Rattle.tj_words.proofs.Events.DrawEvents.{give_shown}
+use Rattle.tj_words.proofs.Events.OwnerEvents.{hand_shown, close_shown, end_shown}
 use Rattle.tj_words.proofs.laws.owner_stores.Goals as goal
 
 pub returns-clause-first : goal.returns-clause-first

@@ -1,5 +1,5 @@
-use Rattle.tj_words.proofs.QuietMoves.{claim_shown}
-use Rattle.tj_words.proofs.WaitClears.{clear_shown}
+use Rattle.tj_words.proofs.Events.QuietMoves.{claim_shown}
+use Rattle.tj_words.proofs.Events.WaitClears.{clear_shown}
 use Rattle.tj_words.proofs.laws.phase_exchanges.Goals as goal
 
 pub returns-clause-ready : goal.returns-clause-ready

@@ -1,4 +1,4 @@
-use Rattle.tj_words.proofs.WalkEvents.{wait_shown_read}
+use Rattle.tj_words.proofs.Events.WalkEvents.{wait_shown_read}
 use Rattle.tj_words.proofs.laws.phase_loads.Goals as goal
 
 pub returns-clause-wait : goal.returns-clause-wait

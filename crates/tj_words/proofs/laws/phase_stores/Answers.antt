@@ -1,5 +1,5 @@
-use Rattle.tj_words.proofs.QuietMoves.{mark_shown, release_shown, end_shown}
-use Rattle.tj_words.proofs.WalkEvents.{publish_shown, settle_shown, alarm_shown}
+use Rattle.tj_words.proofs.Events.QuietMoves.{mark_shown, release_shown, end_shown}
+use Rattle.tj_words.proofs.Events.WalkEvents.{publish_shown, settle_shown, alarm_shown}
 use Rattle.tj_words.proofs.laws.phase_stores.Goals as goal
 
 pub returns-clause-promise : goal.returns-clause-promise

@@ -1,4 +1,4 @@
-use Rattle.tj_words.proofs.RestedRuns.{no_value_comes, rest_stays}
+use Rattle.tj_words.proofs.Calls.RestedRuns.{no_value_comes, rest_stays}
 use Rattle.tj_words.proofs.laws.rested_runs.Goals as goal
 
 pub returns-clause-stays : goal.returns-clause-stays

@@ -1,4 +1,4 @@
-use Rattle.tj_words.proofs.QuietMoves.{split_shown}
+use Rattle.tj_words.proofs.Events.QuietMoves.{split_shown}
 use Rattle.tj_words.proofs.laws.splits.Goals as goal
 
 pub returns : goal.returns

@@ -1,4 +1,4 @@
-use Rattle.tj_words.proofs.TableRuns.{runs_are_legal, steps_are_runs}
+use Rattle.tj_words.proofs.Calls.TableRuns.{runs_are_legal, steps_are_runs}
 use Rattle.tj_words.proofs.laws.table_runs.Goals as goal
 
 pub returns-clause-steps : goal.returns-clause-steps

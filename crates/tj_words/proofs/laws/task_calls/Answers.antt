@@ -1,9 +1,9 @@
 use Rattle.std.proofs.Common.{ap, subst, sym, ◌∙◌}
-use Rattle.tj_words.specs.Phases.{phase_in}
-use Rattle.tj_words.specs.SeatSteps.{SeatMe}
-use Rattle.tj_words.specs.WaitViews.{PutsIfWait}
-use Rattle.tj_words.proofs.TaskCalls.{call_ends, call_moves, call_releases, call_settles, call_shelves}
-use Rattle.tj_words.proofs.TakenTasks.{call_claims, call_goes_back, call_wakes}
+use Rattle.tj_words.specs.Words.Phases.{phase_in}
+use Rattle.tj_words.specs.SeatViews.SeatSteps.{SeatMe}
+use Rattle.tj_words.specs.Calls.WaitViews.{PutsIfWait}
+use Rattle.tj_words.proofs.Calls.TaskCalls.{call_ends, call_moves, call_releases, call_settles, call_shelves}
+use Rattle.tj_words.proofs.Calls.TakenTasks.{call_claims, call_goes_back, call_wakes}
 use Rattle.tj_words.proofs.laws.task_calls.Goals as goal
 
 pub returns-clause-ready : goal.returns-clause-ready

@@ -1,9 +1,9 @@
 use Rattle.std.proofs.Common.{◌<◌, ◌≤◌, min, length, arith, refl, ap, ◌∙◌, subst}
 use Rattle.std.specs.Slots.{slots_items}
 use lib.ListN.{length-set, get_elem?}
-use Rattle.tj_words.specs.Offsets.{count_at}
-use Rattle.tj_words.specs.ShownCells.{cell_of}
-use Rattle.tj_words.proofs.ClosedWords.{read_at, filled_more, front_length, front_at}
+use Rattle.tj_words.specs.Words.Offsets.{count_at}
+use Rattle.tj_words.specs.AtRest.ShownCells.{cell_of}
+use Rattle.tj_words.proofs.Meaning.ClosedWords.{read_at, filled_more, front_length, front_at}
 use Rattle.tj_words.proofs.rest.show_cells.Goals as goal
 
 pub loop-c-init : goal.loop-c-init

@@ -1,5 +1,5 @@
 use Rattle.std.proofs.Common.{◌≡◌, ◌≤◌, ◌∷◌, ◌-◌, replicate, Some, None}
-use Rattle.tj_words.specs.FirstState.{root_record}
+use Rattle.tj_words.specs.LawParts.FirstState.{root_record}
 use Rattle.tj_words.proofs.table.slots_at_first.Given as goal
 
 -- the slots so far are the first of those wanted

@@ -3,8 +3,8 @@ use Rattle.std.specs.Prelude.{Some}
 use Rattle.atomic_table.specs.Table.{rest}
 use Rattle.tj_words.specs.declared.record.Rec.{Rec}
 use Rattle.tj_words.specs.declared.view.View.{View}
-use Rattle.tj_words.specs.LiveViews.{HasSlot}
-use Rattle.tj_words.specs.SeatSteps.{SeatMe}
+use Rattle.tj_words.specs.Calls.LiveViews.{HasSlot}
+use Rattle.tj_words.specs.SeatViews.SeatSteps.{SeatMe}
 use Rattle.tj_words.proofs.tests.claim.Goals as goal
 
 -- a seat that took the slot of t last has it

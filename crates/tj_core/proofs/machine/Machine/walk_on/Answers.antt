@@ -5,7 +5,7 @@ use Rattle.tj_core.specs.Inner.Columns.{state_in, loads_in}
 use Rattle.tj_core.specs.Inner.Machine.{state_of, limit_of}
 use Rattle.tj_core.specs.Inner.WalkSteps.{event_of, MayStep, stage_by}
 use Rattle.tj_core.proofs.Columns.ColumnLists.{rooms_stay, room_here, shows, state_changed, refused, set_same, none_walks}
-use Rattle.tj_core.proofs.Columns.WalkTurns.{may_step, step_allowed, after_step, step_has_room, step_loads}
+use Rattle.tj_core.proofs.Columns.StepEvents.{may_step, step_allowed, after_step, step_has_room, step_loads}
 use Rattle.tj_core.proofs.machine.Machine.walk_on.Goals as goal
 
 pub step-requires : goal.step-requires

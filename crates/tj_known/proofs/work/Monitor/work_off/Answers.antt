@@ -5,6 +5,6 @@ use Rattle.tj_known.proofs.work.Monitor.work_off.Goals as goal
 
 pub returns-clause-done : goal.returns-clause-done
 returns-clause-done c =
-    let turn = c.in_ok-take_turn.ensures.turn in
-    all_done c.loop.self.lines.now c.take_turn.new.self.learners.items
-    (subst AreActLines (sym c.loop.invariant.lines) c.requires.lines) turn.under_way (turn.stuck c.if-branch.false)
+    let sweep = c.in_ok-sweep.ensures.sweep in
+    all_done c.loop.self.lines.now c.sweep.new.self.learners.items
+    (subst AreActLines (sym c.loop.invariant.lines) c.requires.lines) sweep.under_way (sweep.stuck c.if-branch.false)

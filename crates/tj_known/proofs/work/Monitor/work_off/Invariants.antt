@@ -9,6 +9,6 @@ invariant-loop l = record {
   under_way : IsUnderWay l.initial.self.lines.now l.self.learners.items;
 }
 
--- each turn leaves fewer acts
+-- each sweep leaves fewer acts
 abbrev pub decreases-loop : goal.decreases-loop
 decreases-loop l = acts_left l.self.learners.items

@@ -8,7 +8,7 @@ use Rattle.tj_syntax.specs.Marks.{most_tasks}
 use Rattle.tj_syntax.specs.Inner.Heads.{head_of}
 use Rattle.tj_syntax.specs.Inner.Input as spec
 use Rattle.tj_syntax.specs.Inner.Input.{breach_of, count_params}
-use Rattle.tj_syntax.proofs.HeadNames.{with_head-same, with_head-more}
+use Rattle.tj_syntax.proofs.Naming.HeadNames.{with_head-same, with_head-more}
 use Rattle.tj_syntax.proofs.heads.Heads.add.Goals as goal
 
 pub returns-then-is_some : goal.returns-then-is_some

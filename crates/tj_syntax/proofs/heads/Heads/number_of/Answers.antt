@@ -1,6 +1,6 @@
 use Rattle.std.proofs.Common.{ap, sym, ◌∙◌}
 use Rattle.tj_syntax.specs.Marks.{index_of}
-use Rattle.tj_syntax.proofs.HeadNames.{names_of-heads, found_below}
+use Rattle.tj_syntax.proofs.Naming.HeadNames.{names_of-heads, found_below}
 use Rattle.tj_syntax.proofs.heads.Heads.number_of.Goals as goal
 
 pub returns-clause-value : goal.returns-clause-value

@@ -1,8 +1,8 @@
--- Each turn looks for the head at one token more.
+-- Each repeat looks for the head at one token more.
 use Rattle.std.proofs.Common.{rules, arith}
 use Rattle.std.proofs.lemmas.Grind.{common_steps}
 use Rattle.tj_syntax.specs.Inner.Heads.{heads_of}
-use Rattle.tj_syntax.proofs.HeadSteps.{heads_step, heads_end}
+use Rattle.tj_syntax.proofs.Naming.HeadSteps.{heads_step, heads_end}
 use Rattle.tj_syntax.proofs.heads.Heads.of.Goals as goal
 
 pub loop-at-preserved : goal.loop-at-preserved

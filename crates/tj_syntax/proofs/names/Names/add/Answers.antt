@@ -3,7 +3,7 @@ use Rattle.std.proofs.Common.{arith, ◌≡◌, [], ◌∷◌, ◌++◌, length,
 use Rattle.std.proofs.lemmas.Grind.{common_steps}
 use Rattle.std.proofs.lemmas.Map.Text.{btree_map_updates_str}
 use Rattle.tj_syntax.specs.Marks.{index_of, most_tasks}
-use Rattle.tj_syntax.proofs.Indexes.{indexed_push}
+use Rattle.tj_syntax.proofs.Naming.Indexes.{indexed_push}
 use Rattle.tj_syntax.proofs.names.Names.add.Goals as goal
 
 pub invariant_of-self-in-Ok : goal.invariant_of-self-in-Ok

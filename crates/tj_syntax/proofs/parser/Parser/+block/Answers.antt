@@ -23,15 +23,15 @@ pub block-returns-in_ok-open-in-Some-Mark-BraceOpen : goal.block-returns-in_ok-o
 block-returns-in_ok-open-in-Some-Mark-BraceOpen t c = rw (block-is c.args.room (input_of c.args.self.now)) (first_of
     (search rules, grind (arith, common_steps)))
 
-pub statements-loop-turn-init : goal.statements-loop-turn-init
+pub statements-loop-repeat-init : goal.statements-loop-repeat-init
 unfolding statements
-statements-loop-turn-init t c = first_of (search rules, grind (arith, common_steps))
+statements-loop-repeat-init t c = first_of (search rules, grind (arith, common_steps))
 
 pub statements-returns-then-eat : goal.statements-returns-then-eat
 unfolding statements_from eat
 statements-returns-then-eat t c =
-    let e = one_more (λ n. statements_from (statement c.args.room) n (map view.statement c.loop-turn.stmts.items)
-    (input_of c.loop-turn.self)) _ c.loop-turn._turn c.loop-turn-test.true c.loop-turn.invariant in
+    let e = one_more (λ n. statements_from (statement c.args.room) n (map view.statement c.loop-repeat.stmts.items)
+    (input_of c.loop-repeat.self)) _ c.loop-repeat._repeat c.loop-repeat-test.true c.loop-repeat.invariant in
     first_of (
       search rules,
       grind (arith, common_steps),
@@ -44,8 +44,8 @@ statements-returns-then-eat t c =
 pub statements-returns-in_err-statement : goal.statements-returns-in_err-statement
 unfolding statements_from eat
 statements-returns-in_err-statement t c =
-    let e = one_more (λ n. statements_from (statement c.args.room) n (map view.statement c.loop-turn.stmts.items)
-    (input_of c.loop-turn.self)) _ c.loop-turn._turn c.loop-turn-test.true c.loop-turn.invariant in
+    let e = one_more (λ n. statements_from (statement c.args.room) n (map view.statement c.loop-repeat.stmts.items)
+    (input_of c.loop-repeat.self)) _ c.loop-repeat._repeat c.loop-repeat-test.true c.loop-repeat.invariant in
     first_of (
       search rules,
       grind (arith, common_steps),
@@ -55,11 +55,11 @@ statements-returns-in_err-statement t c =
           (arith, common_steps, map-append),
     )
 
-pub statements-loop-turn-preserved : goal.statements-loop-turn-preserved
+pub statements-loop-repeat-preserved : goal.statements-loop-repeat-preserved
 unfolding statements_from eat
-statements-loop-turn-preserved t c =
-    let e = one_more (λ n. statements_from (statement c.args.room) n (map view.statement c.loop-turn.stmts.items)
-    (input_of c.loop-turn.self)) _ c.loop-turn._turn c.loop-turn-test.true c.loop-turn.invariant in
+statements-loop-repeat-preserved t c =
+    let e = one_more (λ n. statements_from (statement c.args.room) n (map view.statement c.loop-repeat.stmts.items)
+    (input_of c.loop-repeat.self)) _ c.loop-repeat._repeat c.loop-repeat-test.true c.loop-repeat.invariant in
     first_of (
       search rules,
       grind (arith, common_steps),
@@ -72,6 +72,6 @@ statements-loop-turn-preserved t c =
 pub statements-returns : goal.statements-returns
 unfolding statements_from
 statements-returns t c =
-    let e = no_more (λ n. statements_from (statement c.args.room) n (map view.statement c.loop-turn.stmts.items)
-    (input_of c.loop-turn.self)) _ c.loop-turn._turn c.loop-turn-test.false c.loop-turn.invariant in
+    let e = no_more (λ n. statements_from (statement c.args.room) n (map view.statement c.loop-repeat.stmts.items)
+    (input_of c.loop-repeat.self)) _ c.loop-repeat._repeat c.loop-repeat-test.false c.loop-repeat.invariant in
     first_of (search rules, grind (arith, common_steps))

@@ -23,8 +23,8 @@ decreases-statement l = 8 * l.room + 3
 abbrev pub decreases-statements : goal.decreases-statements
 decreases-statements l = 8 * l.room + 4
 
-abbrev pub invariant-statements-loop-turn : goal.invariant-statements-loop-turn
-invariant-statements-loop-turn l =
+abbrev pub invariant-statements-loop-repeat : goal.invariant-statements-loop-repeat
+invariant-statements-loop-repeat l =
     reading.statements (reading.statement l.room) (input_of l.fn.self)
-    ≡ reading.statements_from (reading.statement l.room) (l._turn-end - l._turn) (map view.statement l.stmts.items)
+    ≡ reading.statements_from (reading.statement l.room) (l._repeat-end - l._repeat) (map view.statement l.stmts.items)
     (input_of l.self)

@@ -10,40 +10,40 @@ use Rattle.tj_syntax.proofs.Repeats.{one_more, no_more}
 use Rattle.tj_syntax.proofs.Unrolls.{unary-is}
 use Rattle.tj_syntax.proofs.parser.Parser.+expression.Goals as goal
 
-pub pairs-loop-turn-init : goal.pairs-loop-turn-init
+pub pairs-loop-repeat-init : goal.pairs-loop-repeat-init
 unfolding pairs
-pairs-loop-turn-init t c = first_of (search rules, grind (arith, common_steps))
+pairs-loop-repeat-init t c = first_of (search rules, grind (arith, common_steps))
 
 pub pairs-returns-in_default : goal.pairs-returns-in_default
 unfolding pairs_from
 pairs-returns-in_default t c =
     let e = one_more (λ n. pairs_from (operand c.args.room c.args.level) c.args.level n (map pair
-    c.loop-turn.found.items) (input_of c.loop-turn.self)) c.left-turn-end.result c.loop-turn._turn
-    c.loop-turn-test.true c.loop-turn.invariant in
+    c.loop-repeat.found.items) (input_of c.loop-repeat.self)) c.left-repeat-end.result c.loop-repeat._repeat
+    c.loop-repeat-test.true c.loop-repeat.invariant in
     first_of (search rules, grind (arith, common_steps))
 
 pub pairs-returns-in_err-y : goal.pairs-returns-in_err-y
 unfolding pairs_from
 pairs-returns-in_err-y t c =
     let e = one_more (λ n. pairs_from (operand c.args.room c.args.level) c.args.level n (map pair
-    c.loop-turn.found.items) (input_of c.loop-turn.self)) c.left-turn-end.result c.loop-turn._turn
-    c.loop-turn-test.true c.loop-turn.invariant in
+    c.loop-repeat.found.items) (input_of c.loop-repeat.self)) c.left-repeat-end.result c.loop-repeat._repeat
+    c.loop-repeat-test.true c.loop-repeat.invariant in
     first_of (search rules, grind (arith, common_steps))
 
-pub pairs-loop-turn-preserved : goal.pairs-loop-turn-preserved
+pub pairs-loop-repeat-preserved : goal.pairs-loop-repeat-preserved
 unfolding pairs_from
-pairs-loop-turn-preserved t c =
+pairs-loop-repeat-preserved t c =
     let e = one_more (λ n. pairs_from (operand c.args.room c.args.level) c.args.level n (map pair
-    c.loop-turn.found.items) (input_of c.loop-turn.self)) c.left-turn-end.result c.loop-turn._turn
-    c.loop-turn-test.true c.loop-turn.invariant in
+    c.loop-repeat.found.items) (input_of c.loop-repeat.self)) c.left-repeat-end.result c.loop-repeat._repeat
+    c.loop-repeat-test.true c.loop-repeat.invariant in
     first_of (search rules, grind (arith, common_steps), grind (arith, common_steps, map-append))
 
 pub pairs-returns : goal.pairs-returns
 unfolding pairs_from
 pairs-returns t c =
     let e = no_more (λ n. pairs_from (operand c.args.room c.args.level) c.args.level n (map pair
-    c.loop-turn.found.items) (input_of c.loop-turn.self)) c.left-turn-end.result c.loop-turn._turn
-    c.loop-turn-test.false c.loop-turn.invariant in
+    c.loop-repeat.found.items) (input_of c.loop-repeat.self)) c.left-repeat-end.result c.loop-repeat._repeat
+    c.loop-repeat-test.false c.loop-repeat.invariant in
     first_of (search rules, grind (arith, common_steps))
 
 pub unary-returns-in-Some-Num : goal.unary-returns-in-Some-Num

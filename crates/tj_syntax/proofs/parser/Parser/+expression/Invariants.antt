@@ -26,8 +26,8 @@ decreases-chain l = 8 * l.room + 3 + rank l.level
 abbrev pub decreases-expression : goal.decreases-expression
 decreases-expression l = 8 * l.room + 7
 
-abbrev pub invariant-pairs-loop-turn : goal.invariant-pairs-loop-turn
-invariant-pairs-loop-turn l =
+abbrev pub invariant-pairs-loop-repeat : goal.invariant-pairs-loop-repeat
+invariant-pairs-loop-repeat l =
     reading.pairs (reading.operand l.room l.level) l.level (input_of l.fn.self)
-    ≡ reading.pairs_from (reading.operand l.room l.level) l.level (l._turn-end - l._turn) (map pair l.found.items)
+    ≡ reading.pairs_from (reading.operand l.room l.level) l.level (l._repeat-end - l._repeat) (map pair l.found.items)
     (input_of l.self)

@@ -12,34 +12,34 @@ pub returns-then-sees : goal.returns-then-sees
 unfolding separated
 returns-then-sees c = first_of (search rules, grind (arith, common_steps))
 
-pub loop-turn-init : goal.loop-turn-init
+pub loop-repeat-init : goal.loop-repeat-init
 unfolding separated
-loop-turn-init c = first_of (search rules, grind (arith, common_steps))
+loop-repeat-init c = first_of (search rules, grind (arith, common_steps))
 
 pub returns-in_err-argument : goal.returns-in_err-argument
 unfolding separated_from
 returns-in_err-argument c =
-    let e = one_more (λ n. separated_from (argument c.args.room) n (map view.argument c.loop-turn.found.items)
-    (input_of c.loop-turn.self)) _ c.loop-turn._turn c.loop-turn-test.true c.loop-turn.invariant in
+    let e = one_more (λ n. separated_from (argument c.args.room) n (map view.argument c.loop-repeat.found.items)
+    (input_of c.loop-repeat.self)) _ c.loop-repeat._repeat c.loop-repeat-test.true c.loop-repeat.invariant in
     first_of (search rules, grind (arith, common_steps), grind (arith, common_steps, map-append))
 
 pub returns-then-not-eat : goal.returns-then-not-eat
 unfolding separated_from
 returns-then-not-eat c =
-    let e = one_more (λ n. separated_from (argument c.args.room) n (map view.argument c.loop-turn.found.items)
-    (input_of c.loop-turn.self)) _ c.loop-turn._turn c.loop-turn-test.true c.loop-turn.invariant in
+    let e = one_more (λ n. separated_from (argument c.args.room) n (map view.argument c.loop-repeat.found.items)
+    (input_of c.loop-repeat.self)) _ c.loop-repeat._repeat c.loop-repeat-test.true c.loop-repeat.invariant in
     first_of (search rules, grind (arith, common_steps), grind (arith, common_steps, map-append))
 
-pub loop-turn-preserved : goal.loop-turn-preserved
+pub loop-repeat-preserved : goal.loop-repeat-preserved
 unfolding separated_from
-loop-turn-preserved c =
-    let e = one_more (λ n. separated_from (argument c.args.room) n (map view.argument c.loop-turn.found.items)
-    (input_of c.loop-turn.self)) _ c.loop-turn._turn c.loop-turn-test.true c.loop-turn.invariant in
+loop-repeat-preserved c =
+    let e = one_more (λ n. separated_from (argument c.args.room) n (map view.argument c.loop-repeat.found.items)
+    (input_of c.loop-repeat.self)) _ c.loop-repeat._repeat c.loop-repeat-test.true c.loop-repeat.invariant in
     first_of (search rules, grind (arith, common_steps), grind (arith, common_steps, map-append))
 
 pub returns : goal.returns
 unfolding separated_from
 returns c =
-    let e = no_more (λ n. separated_from (argument c.args.room) n (map view.argument c.loop-turn.found.items)
-    (input_of c.loop-turn.self)) _ c.loop-turn._turn c.loop-turn-test.false c.loop-turn.invariant in
+    let e = no_more (λ n. separated_from (argument c.args.room) n (map view.argument c.loop-repeat.found.items)
+    (input_of c.loop-repeat.self)) _ c.loop-repeat._repeat c.loop-repeat-test.false c.loop-repeat.invariant in
     first_of (search rules, grind (arith, common_steps))

@@ -1,6 +1,6 @@
 -- The variable isn't known before its declaration ends.
 use Rattle.std.proofs.Common.{rules, arith}
-use Rattle.tj_syntax.proofs.Fresh.{let_free}
+use Rattle.tj_syntax.proofs.Naming.Fresh.{let_free}
 use Rattle.tj_syntax.proofs.parser.Parser.let_new.Goals as goal
 
 pub overflow_cast-number : goal.overflow_cast-number

@@ -3,7 +3,7 @@ use Rattle.std.proofs.Common.{rules, arith}
 use Rattle.std.proofs.lemmas.Grind.{common_steps}
 use Rattle.tj_syntax.specs.Inner.State.{input_of}
 use Rattle.tj_syntax.specs.Inner.Reading.{params, params_from}
-use Rattle.tj_syntax.proofs.Fresh.{variable_free}
+use Rattle.tj_syntax.proofs.Naming.Fresh.{variable_free}
 use Rattle.tj_syntax.proofs.Repeats.{one_more, no_more}
 use Rattle.tj_syntax.proofs.parser.Parser.params.Goals as goal
 
@@ -11,9 +11,9 @@ pub returns-then-sees : goal.returns-then-sees
 unfolding params
 returns-then-sees c = first_of (search rules, grind (arith, common_steps))
 
-pub loop-turn-init : goal.loop-turn-init
+pub loop-repeat-init : goal.loop-repeat-init
 unfolding params
-loop-turn-init c = first_of (search rules, grind (arith, common_steps))
+loop-repeat-init c = first_of (search rules, grind (arith, common_steps))
 
 pub add_variable-requires-clause-new : goal.add_variable-requires-clause-new
 add_variable-requires-clause-new c = (variable_free _ _ _ c.in_ok-name.ensures.reads).new
@@ -24,27 +24,27 @@ add_variable-requires-clause-few c = (variable_free _ _ _ c.in_ok-name.ensures.r
 pub returns-in_err-name : goal.returns-in_err-name
 unfolding params_from
 returns-in_err-name c =
-    let e = one_more (λ n. params_from n (input_of c.loop-turn.self)) _ c.loop-turn._turn c.loop-turn-test.true
-    c.loop-turn.invariant in
+    let e = one_more (λ n. params_from n (input_of c.loop-repeat.self)) _ c.loop-repeat._repeat c.loop-repeat-test.true
+    c.loop-repeat.invariant in
     first_of (search rules, grind (arith, common_steps))
 
 pub returns-then-not-eat : goal.returns-then-not-eat
 unfolding params_from
 returns-then-not-eat c =
-    let e = one_more (λ n. params_from n (input_of c.loop-turn.self)) _ c.loop-turn._turn c.loop-turn-test.true
-    c.loop-turn.invariant in
+    let e = one_more (λ n. params_from n (input_of c.loop-repeat.self)) _ c.loop-repeat._repeat c.loop-repeat-test.true
+    c.loop-repeat.invariant in
     first_of (search rules, grind (arith, common_steps))
 
-pub loop-turn-preserved : goal.loop-turn-preserved
+pub loop-repeat-preserved : goal.loop-repeat-preserved
 unfolding params_from
-loop-turn-preserved c =
-    let e = one_more (λ n. params_from n (input_of c.loop-turn.self)) _ c.loop-turn._turn c.loop-turn-test.true
-    c.loop-turn.invariant in
+loop-repeat-preserved c =
+    let e = one_more (λ n. params_from n (input_of c.loop-repeat.self)) _ c.loop-repeat._repeat c.loop-repeat-test.true
+    c.loop-repeat.invariant in
     first_of (search rules, grind (arith, common_steps))
 
 pub returns : goal.returns
 unfolding params_from
 returns c =
-    let e = no_more (λ n. params_from n (input_of c.loop-turn.self)) _ c.loop-turn._turn c.loop-turn-test.false
-    c.loop-turn.invariant in
+    let e = no_more (λ n. params_from n (input_of c.loop-repeat.self)) _ c.loop-repeat._repeat c.loop-repeat-test.false
+    c.loop-repeat.invariant in
     first_of (search rules, grind (arith, common_steps))

@@ -5,9 +5,9 @@ use Rattle.tj_syntax.specs.Trees.{Task}
 use Rattle.tj_syntax.specs.Inner.Reading as reading
 use Rattle.tj_syntax.proofs.parser.Parser.tasks.Given as goal
 
-abbrev pub invariant-loop-turn : goal.invariant-loop-turn
-invariant-loop-turn l = record {
-  reads : reading.tasks (input_of l.fn.self) ≡ reading.tasks_from (l._turn-end - l._turn) (map view.task
+abbrev pub invariant-loop-repeat : goal.invariant-loop-repeat
+invariant-loop-repeat l = record {
+  reads : reading.tasks (input_of l.fn.self) ≡ reading.tasks_from (l._repeat-end - l._repeat) (map view.task
       l.found.items) (input_of l.self);
   names : l.earlier ≡ map (λ (t : Task). t.name) (map view.task l.found.items);
 }

@@ -2,13 +2,13 @@ use Rattle.std.proofs.Common.{List, ◌∷◌, ap, ◌∙◌, subst, sym}
 use Rattle.tj_tree.specs.declared.tree.Entry.{Entry}
 use Rattle.tj_tree.specs.Forks.{Forks, IsHistory, next_fork}
 use Rattle.tj_tree.specs.Inner.Tree.{AreEntriesOf, forks_of}
-use Rattle.tj_tree.proofs.Consecutive.{forks_of-entries, IsHistory-in_turn}
+use Rattle.tj_tree.proofs.Gapless.{forks_of-entries, IsHistory-gapless}
 use Rattle.tj_tree.proofs.tree.ForkTree.fork.Goals as goal
 
 pub returns-in_err-add_child-clause-history : goal.returns-in_err-add_child-clause-history
 returns-in_err-add_child-clause-history c =
     subst (λ (entries : List Entry). IsHistory (forks_of entries)) (sym c.in_err-add_child.ensures.err)
-    (IsHistory-in_turn (forks_of c.self.inside.entries.items) c.self.invariant.in_turn)
+    (IsHistory-gapless (forks_of c.self.inside.entries.items) c.self.invariant.gapless)
 
 pub invariant_of-self-2 : goal.invariant_of-self-2
 invariant_of-self-2 c =
@@ -30,4 +30,4 @@ returns-clause-history c =
     let forks = forks_of c.self.inside.entries.items in
     let entries = c.in_ok-add_child.ensures.ok in
     subst IsHistory (sym (forks_of-entries (next_fork forks c.args.parent.0 ∷ forks) c.add_child.new.entries.items
-    entries)) (IsHistory-in_turn (next_fork forks c.args.parent.0 ∷ forks) entries.in_turn)
+    entries)) (IsHistory-gapless (next_fork forks c.args.parent.0 ∷ forks) entries.gapless)

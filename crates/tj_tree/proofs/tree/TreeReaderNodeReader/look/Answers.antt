@@ -1,5 +1,5 @@
 use Rattle.tj_tree.specs.Inner.Tree.{root_entry}
-use Rattle.tj_tree.proofs.Consecutive.{entry_inside, entry_node, MayLook-parent, MayLook-jump}
+use Rattle.tj_tree.proofs.Gapless.{entry_inside, entry_node, MayLook-parent, MayLook-jump}
 use Rattle.tj_tree.proofs.tree.TreeReaderNodeReader.look.Goals as goal
 
 pub bounds-self-task : goal.bounds-self-task

@@ -1,8 +1,8 @@
 use Rattle.std.proofs.Common.{◌≡◌, ◌↔◌, ◌<◌, length, None, ap, sym, subst}
-use Rattle.tj_words.specs.ClosedCells.{IsPromise}
-use Rattle.tj_words.specs.RestShown.{RestShown}
-use Rattle.tj_words.proofs.ClosedWords.{mapped_none}
-use Rattle.tj_words.proofs.Rested.{promise_at}
+use Rattle.tj_words.specs.AtRest.ClosedCells.{IsPromise}
+use Rattle.tj_words.specs.AtRest.RestShown.{RestShown}
+use Rattle.tj_words.proofs.Meaning.ClosedWords.{mapped_none}
+use Rattle.tj_words.proofs.Meaning.Rested.{promise_at}
 use Rattle.tj_words.proofs.rest.RestWords.rec.Goals as goal
 
 pub returns-clause-promise : goal.returns-clause-promise

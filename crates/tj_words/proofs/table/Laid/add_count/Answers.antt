@@ -1,5 +1,5 @@
 use Rattle.std.proofs.Common.{arith, sym, ◌∙◌}
-use Rattle.tj_words.proofs.DrawSteps.{draw_allowed}
+use Rattle.tj_words.proofs.Cells.DrawSteps.{draw_allowed}
 use Rattle.tj_words.proofs.table.Laid.add_count.Goals as goal
 
 pub fetch_add-requires : goal.fetch_add-requires

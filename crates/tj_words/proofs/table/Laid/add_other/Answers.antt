@@ -1,5 +1,5 @@
 use Rattle.std.proofs.Common.{arith}
-use Rattle.tj_words.proofs.OthersSteps.{raise_allowed}
+use Rattle.tj_words.proofs.Waiters.OthersSteps.{raise_allowed}
 use Rattle.tj_words.proofs.table.Laid.add_other.Goals as goal
 
 pub fetch_add-requires : goal.fetch_add-requires

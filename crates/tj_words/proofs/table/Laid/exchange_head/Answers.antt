@@ -1,5 +1,5 @@
 use Rattle.std.proofs.Common.{arith, ◌+◌, ◌∙◌, sym}
-use Rattle.tj_words.proofs.HeadSteps.{push_allowed, is_open}
+use Rattle.tj_words.proofs.Waiters.HeadSteps.{push_allowed, is_open}
 use Rattle.tj_words.proofs.table.Laid.exchange_head.Goals as goal
 
 pub compare_exchange-requires : goal.compare_exchange-requires

@@ -1,5 +1,5 @@
 use Rattle.std.proofs.Common.{arith, sym, ◌∙◌}
-use Rattle.tj_words.proofs.PhaseExchanges.{swap_allowed}
+use Rattle.tj_words.proofs.Phases.PhaseExchanges.{swap_allowed}
 use Rattle.tj_words.proofs.table.Laid.exchange_phase.Goals as goal
 
 pub compare_exchange-requires : goal.compare_exchange-requires

@@ -1,5 +1,5 @@
 use Rattle.std.proofs.Common.{arith}
-use Rattle.tj_words.proofs.LoadSteps.{live_allowed}
+use Rattle.tj_words.proofs.SeatLoads.LoadSteps.{live_allowed}
 use Rattle.tj_words.proofs.table.Laid.live.Goals as goal
 
 pub load-requires : goal.load-requires

@@ -1,5 +1,5 @@
 use Rattle.std.proofs.Common.{arith}
-use Rattle.tj_words.proofs.LiveCalls.{down_allowed}
+use Rattle.tj_words.proofs.Waiters.LiveCalls.{down_allowed}
 use Rattle.tj_words.proofs.table.Laid.live_down.Goals as goal
 
 pub fetch_sub-requires : goal.fetch_sub-requires

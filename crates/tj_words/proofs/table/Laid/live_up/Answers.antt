@@ -1,5 +1,5 @@
 use Rattle.std.proofs.Common.{arith}
-use Rattle.tj_words.proofs.LiveCalls.{up_allowed}
+use Rattle.tj_words.proofs.Waiters.LiveCalls.{up_allowed}
 use Rattle.tj_words.proofs.table.Laid.live_up.Goals as goal
 
 pub fetch_add-requires : goal.fetch_add-requires

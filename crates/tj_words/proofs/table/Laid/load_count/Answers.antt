@@ -1,5 +1,5 @@
 use Rattle.std.proofs.Common.{arith, sym, ◌∙◌}
-use Rattle.tj_words.proofs.LoadSteps.{count_allowed}
+use Rattle.tj_words.proofs.SeatLoads.LoadSteps.{count_allowed}
 use Rattle.tj_words.proofs.table.Laid.load_count.Goals as goal
 
 pub load-requires : goal.load-requires

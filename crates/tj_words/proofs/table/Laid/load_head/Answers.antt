@@ -1,5 +1,5 @@
 use Rattle.std.proofs.Common.{arith, ◌∙◌, sym}
-use Rattle.tj_words.proofs.HeadLoads.{head_allowed}
+use Rattle.tj_words.proofs.SeatLoads.HeadLoads.{head_allowed}
 use Rattle.tj_words.proofs.table.Laid.load_head.Goals as goal
 
 pub load-requires : goal.load-requires

@@ -1,5 +1,5 @@
 use Rattle.std.proofs.Common.{arith, sym, ◌∙◌}
-use Rattle.tj_words.proofs.KnowLoads.{next_allowed}
+use Rattle.tj_words.proofs.SeatLoads.KnowLoads.{next_allowed}
 use Rattle.tj_words.proofs.table.Laid.load_next.Goals as goal
 
 pub load-requires : goal.load-requires

@@ -1,5 +1,5 @@
 use Rattle.std.proofs.Common.{arith, sym, ◌∙◌}
-use Rattle.tj_words.proofs.KnowLoads.{once_allowed, once_within}
+use Rattle.tj_words.proofs.SeatLoads.KnowLoads.{once_allowed, once_within}
 use Rattle.tj_words.proofs.table.Laid.load_once.Goals as goal
 
 pub load-requires : goal.load-requires

@@ -1,5 +1,5 @@
 use Rattle.std.proofs.Common.{arith, sym, ◌∙◌}
-use Rattle.tj_words.proofs.LoadSteps.{owner_allowed}
+use Rattle.tj_words.proofs.SeatLoads.LoadSteps.{owner_allowed}
 use Rattle.tj_words.proofs.table.Laid.load_owner.Goals as goal
 
 pub load-requires : goal.load-requires

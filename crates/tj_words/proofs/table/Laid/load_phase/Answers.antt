@@ -1,7 +1,7 @@
 use Rattle.std.proofs.Common.{arith, sym, subst, ◌∙◌}
-use Rattle.tj_words.specs.ParkSteps.{FirstTold}
-use Rattle.tj_words.specs.Phases.{phase_in}
-use Rattle.tj_words.proofs.PhaseLoads.{phase_allowed}
+use Rattle.tj_words.specs.Calls.ParkSteps.{FirstTold}
+use Rattle.tj_words.specs.Words.Phases.{phase_in}
+use Rattle.tj_words.proofs.SeatLoads.PhaseLoads.{phase_allowed}
 use Rattle.tj_words.proofs.table.Laid.load_phase.Goals as goal
 
 pub load-requires : goal.load-requires

@@ -1,5 +1,5 @@
 use Rattle.std.proofs.Common.{arith}
-use Rattle.tj_words.proofs.Merging.{rule_joins}
+use Rattle.tj_words.proofs.Seating.Merging.{rule_joins}
 use Rattle.tj_words.proofs.table.Laid.merge.Goals as goal
 
 pub join_seat-requires : goal.join_seat-requires

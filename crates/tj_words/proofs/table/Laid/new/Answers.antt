@@ -1,10 +1,10 @@
 use Rattle.std.proofs.Common.{ap, ◌∙◌, sym, refl, length, subst}
 use Rattle.tj_body.specs.Programs.{program_of}
 use Rattle.tj_body.specs.RoundPoints.{TasksStart}
-use Rattle.tj_words.specs.FirstState.{first_slots}
+use Rattle.tj_words.specs.LawParts.FirstState.{first_slots}
 use Rattle.tj_words.specs.Law.{IsRooted}
-use Rattle.tj_words.proofs.Opening.{opening_meets, first_deep}
-use Rattle.tj_words.proofs.FirstWords.{first_wide}
+use Rattle.tj_words.proofs.Seating.Opening.{opening_meets, first_deep}
+use Rattle.tj_words.proofs.Seating.FirstWords.{first_wide}
 use Rattle.tj_words.proofs.table.Laid.new.Goals as goal
 
 pub new-requires : goal.new-requires

@@ -1,5 +1,5 @@
 use Rattle.std.proofs.Common.{arith}
-use Rattle.tj_words.proofs.OthersSteps.{lower_allowed}
+use Rattle.tj_words.proofs.Waiters.OthersSteps.{lower_allowed}
 use Rattle.tj_words.proofs.table.Laid.others_down.Goals as goal
 
 pub fetch_sub-requires : goal.fetch_sub-requires

@@ -1,5 +1,5 @@
 use Rattle.std.proofs.Common.{sym, subst}
-use Rattle.tj_words.specs.ParkSteps.{FirstTold}
+use Rattle.tj_words.specs.Calls.ParkSteps.{FirstTold}
 use Rattle.tj_words.proofs.table.Laid.plain_phase.Goals as goal
 
 pub returns-clause-first : goal.returns-clause-first

@@ -1,5 +1,5 @@
 use Rattle.std.proofs.Common.{arith}
-use Rattle.tj_words.proofs.MarkedPromises.{mark_allowed}
+use Rattle.tj_words.proofs.Phases.MarkedPromises.{mark_allowed}
 use Rattle.tj_words.proofs.table.Laid.put_promise.Goals as goal
 
 pub store-requires : goal.store-requires

@@ -1,5 +1,5 @@
 use Rattle.std.proofs.Common.{arith}
-use Rattle.tj_words.proofs.Splitting.{rule_splits}
+use Rattle.tj_words.proofs.Seating.Splitting.{rule_splits}
 use Rattle.tj_words.proofs.table.Laid.split.Goals as goal
 
 pub split_seat-other-requires : goal.split_seat-other-requires

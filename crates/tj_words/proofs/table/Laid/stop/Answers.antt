@@ -1,5 +1,5 @@
 use Rattle.std.proofs.Common.{arith}
-use Rattle.tj_words.proofs.LiveCalls.{stop_allowed}
+use Rattle.tj_words.proofs.Waiters.LiveCalls.{stop_allowed}
 use Rattle.tj_words.proofs.table.Laid.stop.Goals as goal
 
 pub store-requires : goal.store-requires

@@ -1,5 +1,5 @@
 use Rattle.std.proofs.Common.{arith}
-use Rattle.tj_words.proofs.StopLoads.{stop_allowed}
+use Rattle.tj_words.proofs.SeatLoads.StopLoads.{stop_allowed}
 use Rattle.tj_words.proofs.table.Laid.stopped.Goals as goal
 
 pub load-requires : goal.load-requires

@@ -1,5 +1,5 @@
 use Rattle.std.proofs.Common.{arith}
-use Rattle.tj_words.proofs.HeadSteps.{next_allowed}
+use Rattle.tj_words.proofs.Waiters.HeadSteps.{next_allowed}
 use Rattle.tj_words.proofs.table.Laid.store_next.Goals as goal
 
 pub store-requires : goal.store-requires

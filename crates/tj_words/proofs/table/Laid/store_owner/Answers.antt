@@ -1,7 +1,7 @@
 use Rattle.std.proofs.Common.{arith, subst}
-use Rattle.tj_words.specs.OwnerViews.{PutsOwner}
-use Rattle.tj_words.specs.Owners.{owner_in}
-use Rattle.tj_words.proofs.OwnerStores.{owner_allowed}
+use Rattle.tj_words.specs.Calls.OwnerViews.{PutsOwner}
+use Rattle.tj_words.specs.Words.Owners.{owner_in}
+use Rattle.tj_words.proofs.Cells.OwnerStores.{owner_allowed}
 use Rattle.tj_words.proofs.table.Laid.store_owner.Goals as goal
 
 pub store-requires : goal.store-requires

@@ -1,5 +1,5 @@
 use Rattle.std.proofs.Common.{arith}
-use Rattle.tj_words.proofs.LiveStoreSteps.{ready_allowed}
+use Rattle.tj_words.proofs.Phases.LiveStoreSteps.{ready_allowed}
 use Rattle.tj_words.proofs.table.Laid.store_ready.Goals as goal
 
 pub store-requires : goal.store-requires

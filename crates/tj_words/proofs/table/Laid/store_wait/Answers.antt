@@ -1,5 +1,5 @@
 use Rattle.std.proofs.Common.{arith}
-use Rattle.tj_words.proofs.WaitSteps.{wait_allowed}
+use Rattle.tj_words.proofs.Phases.WaitSteps.{wait_allowed}
 use Rattle.tj_words.proofs.table.Laid.store_wait.Goals as goal
 
 pub store-requires : goal.store-requires

@@ -1,6 +1,6 @@
 use Rattle.std.proofs.Common.{arith}
-use Rattle.tj_words.proofs.KnowLoads.{once_within}
-use Rattle.tj_words.proofs.WordStores.{word_allowed}
+use Rattle.tj_words.proofs.SeatLoads.KnowLoads.{once_within}
+use Rattle.tj_words.proofs.Stores.WordStores.{word_allowed}
 use Rattle.tj_words.proofs.table.Laid.store_word.Goals as goal
 
 pub store-requires : goal.store-requires

@@ -1,5 +1,5 @@
 use Rattle.std.proofs.Common.{arith, ◌∙◌, sym}
-use Rattle.tj_words.proofs.HeadSteps.{shut_allowed}
+use Rattle.tj_words.proofs.Waiters.HeadSteps.{shut_allowed}
 use Rattle.tj_words.proofs.table.Laid.swap_head.Goals as goal
 
 pub swap-requires : goal.swap-requires

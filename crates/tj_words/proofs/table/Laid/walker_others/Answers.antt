@@ -1,5 +1,5 @@
 use Rattle.std.proofs.Common.{arith}
-use Rattle.tj_words.proofs.WalkLoads.{others_read_allowed}
+use Rattle.tj_words.proofs.SeatLoads.WalkLoads.{others_read_allowed}
 use Rattle.tj_words.proofs.table.Laid.walker_others.Goals as goal
 
 pub load-requires : goal.load-requires

@@ -1,5 +1,5 @@
 use Rattle.std.proofs.Common.{arith, sym, ◌∙◌}
-use Rattle.tj_words.proofs.WalkLoads.{owner_read_allowed}
+use Rattle.tj_words.proofs.SeatLoads.WalkLoads.{owner_read_allowed}
 use Rattle.tj_words.proofs.table.Laid.walker_owner.Goals as goal
 
 pub load-requires : goal.load-requires

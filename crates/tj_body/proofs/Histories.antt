@@ -1,0 +1,7 @@
+-- What histories have, point by point.
+pub mod Accounts
+pub mod AskSteps
+pub mod Good
+pub mod Grows
+pub mod Points
+pub mod Prefixes

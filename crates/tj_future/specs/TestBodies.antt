@@ -1,0 +1,2 @@
+-- Bodies for tests.
+pub mod Greetings

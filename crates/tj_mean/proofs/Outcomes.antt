@@ -1,0 +1,7 @@
+-- The outcome of histories that have stopped.
+pub mod Indexes
+pub mod LeastCycles
+pub mod NoWaits
+pub mod OneOutcome
+pub mod StandingCycles
+pub mod ToldOutcomes

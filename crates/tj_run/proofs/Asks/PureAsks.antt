@@ -1,0 +1,58 @@
+-- How a task goes on after an ask that needs nothing of the table.
+use Rattle.std.proofs.Common.{◌≡◌, ℤ, Bool, List, [], ◌∷◌, ◌++◌, refl, sym, subst}
+use Rattle.tj_base.specs.declared.cause.Trouble.{Trouble}
+use Rattle.tj_base.specs.declared.value.Pay.{Pay}
+use Rattle.tj_body.specs.Programs.{Program}
+use Rattle.tj_body.specs.RoundPoints.{PointsAsk}
+use Rattle.tj_body.specs.declared.ask.Answer.TheVariants as answer
+use Rattle.tj_body.specs.declared.ask.Ask.TheVariants as ask
+use Rattle.tj_words.specs.declared.record.Fill.{Fill}
+use Rattle.tj_words.specs.declared.record.Finish.{Finish}
+use Rattle.tj_words.specs.declared.record.Finish.TheVariants as finish
+use Rattle.tj_words.specs.declared.record.Hurt.{Hurt}
+use Rattle.tj_words.specs.declared.record.Rec.{Rec}
+use Rattle.tj_words.specs.declared.table.Laid.{Laid}
+use Rattle.tj_words.specs.SeatViews.SeatSteps.{SeatMe}
+use Rattle.tj_words.proofs.SeatLoads.KnowsMoreOn.{more_itself}
+use Rattle.tj_run.specs.declared.next.Next.TheVariants as next
+use Rattle.tj_run.specs.Workers.{table_program}
+use Rattle.tj_run.specs.Inner.Carried.{IsAsked, IsClosing, RunsTask}
+use Rattle.tj_run.specs.Inner.Going.{Goes}
+use Rattle.tj_run.specs.Inner.Pieces.{fill_at, hurt_of}
+use Rattle.tj_run.proofs.Asks.PointSteps.{emitted, ended, failed}
+use Rattle.tj_run.proofs.Seats.RunningTasks.{gives_known, runs_too}
+
+module _ {B : Type 0} (program : Bool → B → Program B) (laid : Laid B) (r : Rec B) (me : SeatMe B)
+    (runs : RunsTask laid r me) where
+  -- it is to end like this, by what its seat knows already
+  pub goes_to_end : (f : Finish) → IsClosing (table_program program laid) me.0 r f
+      → Goes program laid (next.Ends f) r me.0 me
+  goes_to_end f h = record { knows = more_itself me.0; runs = runs; goes_on = h }
+
+  module _ (law : PointsAsk (table_program program laid)) where
+    -- a print
+    pub emit_goes : (i : ℤ) (l : List ℤ) → l ≡ r.prints ++ i ∷ []
+        → IsAsked (table_program program laid) me.0 r (ask.Emit i)
+        → Goes program laid next.Runs (record r { prints = l; answer = answer.Done }) me.0 me
+    emit_goes i l e h = subst (λ (z : List ℤ). Goes program laid next.Runs
+        (record r { prints = z; answer = answer.Done }) me.0 me) (sym e) (record {
+          knows = more_itself me.0;
+          runs = runs_too laid r (record r { prints = r.prints ++ i ∷ []; answer = answer.Done }) me refl refl refl
+              runs.has.knows runs;
+          goes_on = emitted (table_program program laid) me.0 law r i h;
+        })
+
+    -- an end
+    pub end_goes : (y : Pay) (f : Fill) → f ≡ fill_at r.held y
+        → IsAsked (table_program program laid) me.0 r (ask.End y)
+        → Goes program laid (next.Ends (finish.Done f)) r me.0 me
+    end_goes y f e h = subst (λ z. Goes program laid (next.Ends (finish.Done z)) r me.0 me) (sym e)
+        (goes_to_end (finish.Done (fill_at r.held y)) (ended (table_program program laid) me.0 law r y h
+        (gives_known r me.0.known y runs.has.knows h.placed)))
+
+    -- a failure of the body's own
+    pub fail_goes : (t : Trouble) (f : Hurt) → f ≡ hurt_of t
+        → IsAsked (table_program program laid) me.0 r (ask.Fail t)
+        → Goes program laid (next.Ends (finish.Failed f)) r me.0 me
+    fail_goes t f e h = subst (λ z. Goes program laid (next.Ends (finish.Failed z)) r me.0 me) (sym e)
+        (goes_to_end (finish.Failed (hurt_of t)) (failed (table_program program laid) me.0 law r t h))

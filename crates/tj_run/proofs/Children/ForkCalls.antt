@@ -1,0 +1,141 @@
+-- The calls of a fork, by the lists that it has made on the way: the held cells that are handed over and passed on, the
+-- promises, and what the task keeps.
+use Rattle.std.proofs.Common.{◌≡◌, ℕ, ◌+◌, ◌<◌, Bool, List, ◌∷◌, map, length, None, Result, Ok, Err}
+use Rattle.std.proofs.Common.{IfOk, OnOk, sym, ap, ◌∙◌, subst, arith}
+use Rattle.std.specs.List.{AllByRecursion}
+use Rattle.atomic_table.specs.Table.{rest}
+use Rattle.tj_base.specs.declared.cell.CellId.{CellId}
+use Rattle.tj_base.specs.declared.cell.Sort.TheVariants as sort
+use Rattle.tj_body.specs.History.{to_task}
+use Rattle.tj_body.specs.NameLaws.{NamesTellCells, hand_cells}
+use Rattle.tj_body.specs.Programs.{Program}
+use Rattle.tj_body.specs.RoundPoints.{PointsAsk, TasksStart, ThingsInRounds}
+use Rattle.tj_body.specs.declared.ask.Ask.TheVariants as ask
+use Rattle.tj_words.specs.declared.record.Finish.TheVariants as finish
+use Rattle.tj_words.specs.declared.record.Held.{Held}
+use Rattle.tj_words.specs.declared.record.Hurt.{Hurt}
+use Rattle.tj_words.specs.declared.record.Rec.{Rec}
+use Rattle.tj_words.specs.declared.table.Laid.{Laid}
+use Rattle.tj_words.specs.declared.view.View.{View}
+use Rattle.tj_words.specs.Words.Lists.{All, numbers}
+use Rattle.tj_words.specs.Calls.LiveViews.{SlotsOf}
+use Rattle.tj_words.specs.SeatViews.SeatSteps.{SeatMe}
+use Rattle.tj_words.specs.SeatViews.TreeReads.{KnowsTask}
+use Rattle.tj_words.proofs.SeatLoads.KnowsMoreOn.{more_itself}
+use Rattle.tj_words.proofs.Stores.SeatLists.{inside}
+use Rattle.tj_cells.specs.MadeCells.{IsMade, MayMake}
+use Rattle.tj_park.specs.ChildViews.{MayReleaseChild, released_child}
+use Rattle.tj_run.specs.Workers.{table_program}
+use Rattle.tj_run.specs.Inner.Carried.{IsAsked, RunsTask}
+use Rattle.tj_run.specs.Inner.Children.{MayGiveEach, gave_each, with_child}
+use Rattle.tj_run.specs.Inner.Going.{Goes}
+use Rattle.tj_run.specs.Inner.Pieces.{AreLeft, child_record, held_at, numbered}
+use Rattle.tj_run.specs.declared.next.Next.{Next}
+use Rattle.tj_run.specs.declared.next.Next.TheVariants as next
+use Rattle.tj_run.specs.declared.why.Why.{Why}
+use Rattle.tj_run.proofs.Children.ForkedChildren.{fork_about, fork_fails, fork_goes, knows_parent, may_birth}
+use Rattle.tj_run.proofs.Children.ForkedChildren.{may_hand_each}
+use Rattle.tj_run.proofs.Children.ForkedChildren.{may_release, promise_cells}
+
+-- each place of a list is inside another
+pub places_inside : (held now : List Held) (places ks : List ℕ) → now ≡ held → ks ≡ places
+    → AllByRecursion (λ k. k < length held) places
+    → AllByRecursion (λ k. k < length now) ks
+places_inside held now places ks e f h = subst (λ l. AllByRecursion (λ k. k < length l) ks) (sym e)
+    (subst (λ l. AllByRecursion (λ k. k < length held) l) (sym f) h)
+
+-- the held cells at the places
+pub found_held : (held now : List Held) (places ks : List ℕ) (found : List Held) → found ≡ map (held_at now) ks
+    → now ≡ held
+    → ks ≡ places
+    → found ≡ map (held_at held) places
+found_held held now places ks found m e f = m ∙ (λ i. map (held_at (e i)) (f i))
+
+-- their cells
+pub found_cells : (found all : List Held) (cells : List CellId) → cells ≡ map (λ (h : Held). h.cell) found → found ≡ all
+    → cells ≡ map (λ (h : Held). h.cell) all
+found_cells found all cells m e = m ∙ ap (λ l. map (λ (h : Held). h.cell) l) e
+
+-- what is left of the lists that are these
+pub left_of : (x y : Result (List CellId) Hurt) (owned now : List CellId) (given found : List Held) → x ≡ y
+    → now ≡ owned
+    → found ≡ given
+    → AreLeft x (hand_cells (numbers now) (map numbered found))
+    → AreLeft y (hand_cells (numbers owned) (map numbered given))
+left_of x y owned now given found e o g h = subst (λ z. AreLeft z (hand_cells (numbers owned) (map numbered given))) e
+    (subst (λ l. AreLeft x (hand_cells (numbers owned) (map numbered l))) g
+    (subst (λ l. AreLeft x (hand_cells (numbers l) (map numbered found))) o h))
+
+module _ {B : Type 0} (program : Bool → B → Program B) (laid : Laid B) (r : Rec B) (b : B) (pass handed : List ℕ)
+    (me : SeatMe B) (runs : RunsTask laid r me)
+    (asked : IsAsked (table_program program laid) me.0 r (ask.Fork b pass handed))
+    (law : PointsAsk (table_program program laid)) (tell : NamesTellCells) where
+  -- the task is a cell of the table
+  pub parent_cell : r.cell.0 < laid.cells
+  parent_cell = let l = inside me.0.born r.cell.0 (to_task asked.point.name) asked.tells.of in
+      let f = runs.worker.cells.few in omega arith
+
+  -- a fork that isn't allowed
+  pub forks_fail : (h : Hurt) → AreLeft (Err h)
+      (hand_cells (numbers r.owned) (map numbered (map (held_at r.held) handed)))
+      → Goes program laid (next.Ends (finish.Failed h)) r me.0 me
+  forks_fail h left = record {
+    knows = more_itself me.0;
+    runs = runs;
+    goes_on = fork_fails program laid r b pass handed me runs asked law tell h left;
+  }
+
+  module _ (left : List CellId)
+      (are_left : AreLeft (Ok left) (hand_cells (numbers r.owned) (map numbered (map (held_at r.held) handed))))
+      (things : ThingsInRounds (table_program program laid)) (starts : TasksStart (table_program program laid)) where
+    pub forks_birth : MayMake program r.cell.0 (r.made + 1) me.0
+    forks_birth = may_birth program laid r b pass handed me runs asked law tell left are_left things starts
+
+    pub forks_known : KnowsTask r.cell.0 me.0
+    forks_known = knows_parent program laid r b pass handed me runs asked law tell left are_left things starts
+
+    module _ (c : CellId) (w : View B) (m : IsMade sort.Task laid.cells r.cell.0 c.0 me.0 w) (promises : List CellId)
+        (are : promises ≡ map (λ (h : Held). h.cell) (map (held_at r.held) handed)) where
+      pub forks_cells : All (λ (d : CellId). d.0 < laid.cells) promises
+      forks_cells = subst (λ l. All (λ (d : CellId). d.0 < laid.cells) l) (sym are)
+          (promise_cells program laid r b pass handed me runs asked law tell left are_left things starts c w m)
+
+      pub forks_hand : MayGiveEach r.cell.0 promises c.0 w
+      forks_hand = subst (λ l. MayGiveEach r.cell.0 l c.0 w) (sym are)
+          (may_hand_each program laid r b pass handed me runs asked law tell left are_left things starts c w m)
+
+      module _ (u : View B) (gave : u ≡ gave_each r.cell.0 promises c.0 w) where
+        gave_so : u ≡ gave_each r.cell.0 (map (λ (h : Held). h.cell) (map (held_at r.held) handed)) c.0 w
+        gave_so = gave ∙ ap (λ l. gave_each r.cell.0 l c.0 w) are
+
+        pub forks_about : u.about ≡ me.0.about
+        forks_about = fork_about program laid r b pass handed me runs asked law tell left are_left things starts c w m u
+            gave_so
+
+        pub forks_release : (passed : List Held) → passed ≡ map (held_at r.held) pass → (kid : Rec B)
+            → kid ≡ child_record c b passed promises
+            → MayReleaseChild program c.0 kid u
+        forks_release passed is kid made = subst (λ (z : View B). MayReleaseChild program c.0 kid z) (sym gave_so)
+            (subst (λ (z : Rec B). MayReleaseChild program c.0 z
+            (gave_each r.cell.0 (map (λ (h : Held). h.cell) (map (held_at r.held) handed)) c.0 w))
+            (sym (made ∙ (λ i. child_record c b (is i) (are i))))
+            (may_release program laid r b pass handed me runs asked law tell left are_left things starts c w m))
+
+        module _ (s : SeatMe B) (slots : SlotsOf B) (released : s ≡ (released_child c.0 u, rest slots))
+            (its_slot : slots ≡ (c.0, None) ∷ me.1) where
+          pub released_about : s.0.about ≡ me.0.about
+          released_about = ap (λ (z : SeatMe B). z.0.about) released ∙ forks_about
+
+          pub forks_go : Goes program laid next.Runs (with_child c left r) me.0 s
+          forks_go = subst (λ (z : SeatMe B). Goes program laid next.Runs (with_child c left r) me.0 z)
+              (sym (released ∙ (λ i. (released_child c.0 u, rest (its_slot i)))))
+              (fork_goes program laid r b pass handed me runs asked law tell left are_left things starts c w m
+              (released_child c.0 u) (ap (released_child c.0) gave_so))
+
+          -- the record is noted
+          pub forks_goes : (res : Result Next Why) (q : Rec B) → IfOk res (λ n. n ≡ next.Runs)
+              → OnOk res (q ≡ with_child c left r)
+              → IfOk res (λ n. Goes program laid n q me.0 s)
+          forks_goes (Ok n) q runs_on noted = subst (λ z. Goes program laid z q me.0 s) (sym runs_on)
+              (subst (λ (z : Rec B). Goes program laid next.Runs z me.0 s) (sym noted) forks_go)
+          forks_goes (Err e) q runs_on noted = tt

@@ -1,0 +1,5 @@
+-- What only tests need.
+pub mod PlaySteps
+pub mod StepEnds
+pub mod TestRuns
+pub mod TwoTasks

@@ -1,0 +1,84 @@
+-- What a turn comes to since an earlier view of the seat: a worker that goes on, rests or was stopped since a later view
+-- does so since an earlier one.
+use Rattle.std.proofs.Common.{◌≡◌, ℕ, Bool, [], ◌∷◌, Option, Some, None, refl, sym, ap, ◌∙◌, subst}
+use Rattle.tj_body.specs.Programs.{Program}
+use Rattle.tj_body.proofs.Lists.{begins_self}
+use Rattle.tj_words.specs.declared.record.Rec.{Rec}
+use Rattle.tj_words.specs.declared.table.Laid.{Laid}
+use Rattle.tj_words.specs.declared.view.About.{About}
+use Rattle.tj_words.specs.declared.view.View.{View}
+use Rattle.tj_words.specs.SeatViews.KnowsMore.{KnowsMore}
+use Rattle.tj_words.specs.Law.{IsRooted}
+use Rattle.tj_words.specs.SeatViews.SeatSteps.{SeatMe}
+use Rattle.tj_words.specs.Calls.TakenRecords.{custody_of}
+use Rattle.tj_words.specs.SeatViews.TaskLists.{hold}
+use Rattle.tj_words.specs.SeatViews.Views.{saw_stop}
+use Rattle.tj_words.proofs.SeatLoads.KnowsMoreOn.{more_itself, more_on}
+use Rattle.tj_park.specs.ChildViews.{Claimed}
+use Rattle.tj_run.specs.declared.why.Left.{Left}
+use Rattle.tj_run.specs.declared.why.Left.TheVariants as left
+use Rattle.tj_run.specs.declared.why.Why.{Why}
+use Rattle.tj_run.specs.declared.why.Why.TheVariants as why
+use Rattle.tj_run.specs.Workers.{IsFree, about_table, table_program}
+use Rattle.tj_run.specs.Leaving.{HasStopped, Leaves}
+use Rattle.tj_run.specs.Inner.Turns.{TurnsTo}
+use Rattle.tj_run.specs.Inner.Waits.{ComesBack, IsLeft}
+use Rattle.tj_run.proofs.Seats.FreeSeats.{rested_since}
+use Rattle.tj_run.proofs.Waiting.WaitConditions.{taken_runs}
+use Rattle.tj_run.proofs.Seats.WorkersSteps.{left_on, workers_on}
+
+module _ {B : Type 0} where
+  -- the load of STOP leaves what the seat knew
+  pub stop_seen : (v w : View B) → w ≡ saw_stop 0 v → KnowsMore v w
+  stop_seen v w e = subst (λ u. KnowsMore v u) (sym e) (record {
+    about = refl;
+    lot = refl;
+    born = begins_self v.born;
+    known = λ x i. i;
+    wrote = λ x i. i;
+    filled = λ x i. i;
+    seen = λ x i. i;
+    closed = λ x i. i;
+    rested = λ r. r;
+  })
+
+  module _ (program : Bool → B → Program B) where
+    -- a stop tells of each seat of the table the same
+    pub stopped_since : (u v w : View B) (cause : Why) → v.about ≡ u.about → HasStopped program cause v w
+        → HasStopped program cause u w
+    stopped_since u v w why.Full e h = record { stop = h.stop; told = λ a i. h.told a (e ∙ i) }
+    stopped_since u v w why.Memory e h = record { stop = h.stop; told = tt }
+
+    pub leaves_since : (u v : View B) (how : Left) → KnowsMore u v → (me : SeatMe B) → Leaves program how v me
+        → Leaves program how u me
+    leaves_since u v left.Rested k me h = rested_since u v k me h
+    leaves_since u v (left.Stopped cause) k me h = stopped_since u v me.0 cause k.about h
+
+    pub turns_since : (laid : Laid B) (u v : View B) (how : Option Left) → KnowsMore u v → (me : SeatMe B)
+        → TurnsTo program laid how v me
+        → TurnsTo program laid how u me
+    turns_since laid u v None k me h = left_on laid u v k me h
+    turns_since laid u v (Some how) k me h = leaves_since u v how k me h
+
+    -- a worker that doesn't leave goes on
+    pub turns_on : (laid : Laid B) (how : Option Left) → how ≡ None → (v : View B) (me : SeatMe B)
+        → TurnsTo program laid how v me
+        → IsLeft laid v me
+    turns_on laid None e v me h = h
+    turns_on laid (Some how) e v me h = let z : Some how ≡ None = e in absurd (cc)
+
+    -- a free seat that has claimed a task runs it
+    pub claimed_back : (laid : Laid B) (r : Rec B) (t : ℕ) (old new : SeatMe B) → IsFree laid old
+        → IsRooted (table_program program laid) → Claimed program t r old.0 new.0
+        → new.1 ≡ (t, None) ∷ old.1
+        → ComesBack program laid r new.0 new
+    claimed_back laid r t old new free rooted h slot = let of = h.knows.about ∙ free.worker.of_table in record {
+      knows = more_itself new.0;
+      runs = taken_runs laid program r new
+          (workers_on laid old.0 new.0 h.knows h.hand h.wakes h.counts (h.taken.all (about_table laid) of) free.worker)
+          t h.taken (h.tasks ∙ ap (λ ks. hold (custody_of r) ks) free.tasks)
+          (slot ∙ ap (λ l. (t, None) ∷ l) free.slots);
+      rooted = rooted;
+      known = h.taken.known (about_table laid) of;
+      unfinished = h.taken.unfinished;
+    }

@@ -1,0 +1,151 @@
+-- Seats of workers between their turns: they may be merged, a load leaves them free, and halves of them are free.
+use Rattle.std.proofs.Common.{◌≡◌, ℕ, zero, suc, ◌+◌, ◌-◌, ◌*◌, ◌<◌, ◌≤◌, Bool, true, List, [], ◌∷◌, length, Option}
+use Rattle.std.proofs.Common.{Some}
+use Rattle.std.proofs.Common.{refl, sym, ap, ◌∙◌, subst, arith}
+use mathlib.Core.Option.{some, some-injective, some-ne-none}
+use lib.ListN.{get_elem?}
+use Rattle.tj_body.specs.History.{to_task}
+use Rattle.tj_body.specs.declared.point.Reference.{Reference}
+use Rattle.tj_words.specs.declared.record.Rec.{Rec}
+use Rattle.tj_words.specs.declared.table.Laid.{Laid}
+use Rattle.tj_words.specs.declared.view.About.{About}
+use Rattle.tj_words.specs.declared.view.View.{View}
+use Rattle.tj_words.specs.LawParts.FirstState.{first_view}
+use Rattle.tj_words.specs.SeatViews.KnowsMore.{KnowsMore}
+use Rattle.tj_words.specs.LawParts.Lots.{least_lot}
+use Rattle.tj_words.specs.SeatViews.SeatSteps.{SeatMe}
+use Rattle.tj_words.specs.LawParts.TreeWords.{IsCell, AreCells}
+use Rattle.tj_words.specs.SeatViews.Views.{IsIdle, left_half, right_half, saw_rest, stepped_on}
+use Rattle.tj_run.specs.Workers.{IsFree, IsWorkers, about_table}
+use Rattle.tj_run.specs.Leaving.{HasRested}
+
+-- the root alone is a cell of each table
+pub root_alone : (cells : ℕ) → 0 < cells → AreCells cells (to_task [] ∷ [])
+root_alone cells some_cells = record { few = omega arith; apart = λ c d y z a b e. by c d y z a b }
+  where
+    by : (c d : ℕ) (y z : Reference) → IsCell (to_task [] ∷ []) c y → IsCell (to_task [] ∷ []) d z → c ≡ d
+    by zero zero y z a b = refl
+    by (suc c) d y z a b = absurd (some-ne-none y (sym a))
+    by zero (suc d) y z a b = absurd (some-ne-none z (sym b))
+
+module _ {B : Type 0} (laid : Laid B) where
+  -- a worker's seat that has made a step more, or has lost a part of its lot, is a worker's
+  pub workers_stepped : (v : View B) → IsWorkers laid v → IsWorkers laid (stepped_on v)
+  workers_stepped v w = record {
+    of_table = w.of_table;
+    lot = w.lot;
+    refused = w.refused;
+    tokens = w.tokens;
+    cleared = w.cleared;
+    nothing = record {
+      hand = w.nothing.hand;
+      dues = w.nothing.dues;
+      pushes = w.nothing.pushes;
+      shuts = w.nothing.shuts;
+      rest = w.nothing.rest;
+    };
+    cells = w.cells;
+  }
+
+  -- a free seat is free after a load that tells nothing
+  pub free_stepped : (me : SeatMe B) → IsFree laid me → IsFree laid (stepped_on me.0, me.1)
+  free_stepped me f =
+      record { worker = workers_stepped me.0 f.worker; tasks = f.tasks; slots = f.slots }
+
+  -- it may be merged
+  pub free_idle : (me : SeatMe B) → IsFree laid me → IsIdle me.0
+  free_idle me f = let w = f.worker in record {
+    tasks = f.tasks;
+    tokens = w.tokens;
+    hand = w.nothing.hand;
+    dues = w.nothing.dues;
+    cleared = w.cleared;
+    pushes = w.nothing.pushes;
+    shuts = w.nothing.shuts;
+    rest = w.nothing.rest;
+  }
+
+  -- where it has loaded LIVE as 0 it has rested
+  pub free_rested : (me : SeatMe B) → IsFree laid me → HasRested me.0 (saw_rest me.0, me.1)
+  free_rested me f = let w = f.worker in record {
+    rested = refl;
+    idle = record {
+      tasks = f.tasks;
+      tokens = w.tokens;
+      hand = w.nothing.hand;
+      dues = w.nothing.dues;
+      cleared = w.cleared;
+      pushes = w.nothing.pushes;
+      shuts = w.nothing.shuts;
+      rest = w.nothing.rest;
+    };
+    slots = f.slots;
+    lot = refl;
+    about = refl;
+  }
+
+  -- the first half of a free seat is free, where its lot is large enough
+  pub free_left : (me : SeatMe B) → 2 * least_lot ≤ me.0.lot → IsFree laid me
+      → IsFree laid (left_half me.0, me.1)
+  free_left me room f = let w = f.worker in record {
+    worker = record {
+      of_table = w.of_table;
+      lot = omega arith;
+      refused = w.refused;
+      tokens = w.tokens;
+      cleared = w.cleared;
+      nothing = record {
+        hand = w.nothing.hand;
+        dues = w.nothing.dues;
+        pushes = w.nothing.pushes;
+        shuts = w.nothing.shuts;
+        rest = w.nothing.rest;
+      };
+      cells = w.cells;
+    };
+    tasks = f.tasks;
+    slots = f.slots;
+  }
+
+  -- and so is the second half
+  pub free_right : (me : SeatMe B) → IsFree laid me → IsFree laid (right_half me.0, [])
+  free_right me f = let w = f.worker in record {
+    worker = record {
+      of_table = w.of_table;
+      lot = omega arith;
+      refused = refl;
+      tokens = refl;
+      cleared = refl;
+      nothing = record { hand = refl; dues = refl; pushes = refl; shuts = refl; rest = refl };
+      cells = w.cells;
+    };
+    tasks = refl;
+    slots = refl;
+  }
+
+  -- the first seat of a table is free
+  pub free_first : 0 < laid.cells → IsFree laid (first_view laid.cells laid.root.value laid.strict, [])
+  free_first some_cells = record {
+    worker = record {
+      of_table = refl;
+      lot = omega arith;
+      refused = refl;
+      tokens = refl;
+      cleared = refl;
+      nothing = record { hand = refl; dues = refl; pushes = refl; shuts = refl; rest = refl };
+      cells = root_alone laid.cells some_cells;
+    };
+    tasks = refl;
+    slots = refl;
+  }
+
+module _ {B : Type 0} (u v : View B) (k : KnowsMore u v) where
+  -- what has rested since a later view has since an earlier one
+  pub rested_since : (me : SeatMe B) → HasRested v me → HasRested u me
+  rested_since me h = record {
+    rested = h.rested;
+    idle = h.idle;
+    slots = h.slots;
+    lot = h.lot ∙ k.lot;
+    about = h.about ∙ k.about;
+  }

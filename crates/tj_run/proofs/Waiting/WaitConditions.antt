@@ -1,0 +1,471 @@
+-- A task that waits may block, and may then be parked or shelved; how it leaves its worker, or comes back.
+use Rattle.std.proofs.Common.{◌≡◌, ◌⊎◌, ℕ, ◌<◌, ◌≤◌, Bool, true, false, cond, nat_eq, [], ◌∷◌, length}
+use Rattle.std.proofs.Common.{Some, None}
+use Rattle.std.proofs.Common.{refl, sym, ap, ◌∙◌, subst, inl, inr, arith}
+use Rattle.std.proofs.lemmas.Option.{slice_get-get_or}
+use Rattle.atomic_table.specs.Table.{rest}
+use Rattle.tj_base.specs.declared.cell.Sort.TheVariants as sort
+use Rattle.tj_body.specs.Points.{IsIn}
+use Rattle.tj_body.specs.Programs.{Program}
+use Rattle.tj_body.specs.declared.ask.Answer.{Answer}
+use Rattle.tj_body.specs.declared.ask.Answer.TheVariants as answer
+use Rattle.tj_body.proofs.Lists.{begins_self}
+use Rattle.tj_core.specs.declared.walk.LastRead.TheVariants.{SawOthers}
+use Rattle.tj_core.specs.declared.walk.Way.{Way}
+use Rattle.tj_core.specs.declared.walk.Way.TheVariants as way
+use Rattle.tj_core.specs.declared.walk.Walker.{Walker}
+use Rattle.tj_core.specs.Events.{EndsWalk, MaySettle, raised_by_way}
+use Rattle.tj_words.specs.declared.record.Held.{Held}
+use Rattle.tj_words.specs.declared.record.Rec.{Rec}
+use Rattle.tj_words.specs.declared.table.Laid.{Laid}
+use Rattle.tj_words.specs.declared.view.Custody.{Custody}
+use Rattle.tj_words.specs.declared.view.Does.{Does}
+use Rattle.tj_words.specs.declared.view.Does.TheVariants as does
+use Rattle.tj_words.specs.declared.view.View.{View}
+use Rattle.tj_words.specs.LawParts.Holding.{held_in}
+use Rattle.tj_words.specs.SeatViews.KnowsMore.{KnowsMore}
+use Rattle.tj_words.specs.LawParts.LiveCount.{HasAlarmed, HasWakeToCome, Holds}
+use Rattle.tj_words.specs.Calls.LiveViews.{HasSlot}
+use Rattle.tj_words.specs.Words.Lists.{numbers}
+use Rattle.tj_words.specs.LawParts.RecordPhases.{WaitsFor}
+use Rattle.tj_words.specs.Steps.QuietSteps.{does_first}
+use Rattle.tj_words.specs.SeatViews.SeatSteps.{SeatMe}
+use Rattle.tj_words.specs.Steps.StepEvents.{MayAct}
+use Rattle.tj_words.specs.Calls.TakenRecords.{custody_of}
+use Rattle.tj_words.specs.SeatViews.TaskLists.{let_go, noted}
+use Rattle.tj_words.specs.LawParts.Telling.{HeldSays, TellsStage}
+use Rattle.tj_words.specs.SeatViews.TreeReads.{HasReadTree, KnowsTask}
+use Rattle.tj_words.specs.Calls.WaitViews.{now_does}
+use Rattle.tj_words.specs.Steps.WalkSteps.{way_by}
+use Rattle.tj_words.proofs.Waiters.ChainLists.{no_some, same_some}
+use Rattle.tj_words.proofs.SeatLoads.KnowsMoreOn.{more_on}
+use Rattle.tj_detect.specs.Blocks.{EndsWith, MayBlock, does_after, doing, tokens_given}
+use Rattle.tj_detect.specs.declared.blocking.Verdict.{Verdict}
+use Rattle.tj_detect.specs.declared.blocking.Verdict.TheVariants as verdict
+use Rattle.tj_park.specs.ChildViews.{MayShelve, shelved}
+use Rattle.tj_park.specs.ParkViews.{GaveBack, HasParked, LeftTask, MayParkTask}
+use Rattle.tj_park.specs.Records.{HasNoRecord, HasNothingToCome, HasTaken, MayLeaveHome}
+use Rattle.tj_run.specs.Workers.{IsWorkers, about_table, table_program}
+use Rattle.tj_run.specs.Inner.Carried.{IsWaiting, RunsTask}
+use Rattle.tj_run.specs.Inner.Pieces.{held_at}
+use Rattle.tj_run.specs.Inner.Waits.{Blocked, ComesBack, IsHeldAs, IsLeft}
+use Rattle.tj_run.proofs.Seats.OneTask.{held_one, let_go_one, noted_one}
+use Rattle.tj_run.proofs.Asks.PointSteps.{pairs_length}
+use Rattle.tj_run.proofs.Cells.ToldCells.{cell_known, task_known, told_cell, told_held, told_knows, told_task}
+use Rattle.tj_run.proofs.Seats.WorkersSteps.{back_on, left_on, read_more, runs_read, waits_on, workers_on}
+
+-- the record of a task that is to wait for the cell at the place
+abbrev pub waits_at : {B : Type 0} → ℕ → Bool → Rec B → Rec B
+waits_at k spare r = record r { answer = answer.RefAt k; spare = spare }
+
+-- the walk has ended without an alarm
+abbrev pub IsQuiet : Verdict → Type 0
+IsQuiet verdict.Alarm = ⊥
+IsQuiet verdict.Walked = Unit {0}
+IsQuiet verdict.Skipped = Unit {0}
+
+pub quiet_either : (d : Verdict) → (d ≡ verdict.Walked) ⊎ (d ≡ verdict.Skipped) → IsQuiet d
+quiet_either d (inl e) = subst IsQuiet (sym e) tt
+quiet_either d (inr e) = subst IsQuiet (sym e) tt
+
+-- then the task walks, its walk is at its end, and no token was given
+skips : (w : Walker) → w.last ≡ SawOthers 0 → MaySettle w
+skips w e = subst (λ l. EndsWalk (length w.trail) w.bound l) (sym e) refl
+
+quiet_settles : (d : Verdict) (t : ℕ) (wait : Way) (w : Walker) → IsQuiet d → EndsWith d t wait w → MaySettle w
+quiet_settles verdict.Alarm t wait w n h = absurd n
+quiet_settles verdict.Walked t wait w n h = h.0
+quiet_settles verdict.Skipped t wait w n h = skips w h.1
+
+quiet_walks : (d : Verdict) (q : ℕ) (wait : Way) (w : Walker) → IsQuiet d
+    → does_after d q wait w ≡ does.Walking q wait w
+quiet_walks verdict.Alarm q wait w n = absurd n
+quiet_walks verdict.Walked q wait w n = refl
+quiet_walks verdict.Skipped q wait w n = refl
+
+quiet_tokens : (d : Verdict) → IsQuiet d → tokens_given d ≡ 0
+quiet_tokens verdict.Alarm n = absurd n
+quiet_tokens verdict.Walked n = refl
+quiet_tokens verdict.Skipped n = refl
+
+-- an other wait is counted once in OTHERS
+raised_few : (wait : Way) → raised_by_way wait ≤ 1
+raised_few way.Along = omega arith
+raised_few way.Other = omega arith
+
+-- a seat with one task alone holds an alarmed one only where that has alarmed
+pub one_alarmed : {B : Type 0} (v : View B) (c : Custody B) → v.tasks ≡ c ∷ [] → ¬ HasAlarmed c.does
+    → ¬ Holds HasAlarmed v
+one_alarmed {B = B} v c e n h = n (by (nat_eq c.task h.0) h.1 (subst (λ l. held_in l h.0 ≡ Some h.1) e h.2) h.3)
+  where
+    by : (b : Bool) (k : Custody B) → cond b (Some c) None ≡ Some k → HasAlarmed k.does → HasAlarmed c.does
+    by true k q a = subst (λ (x : Custody B). HasAlarmed x.does) (sym (same_some refl q)) a
+    by false k q a = no_some refl q
+
+-- a task that was claimed may act
+acts_first : (a : Answer) → MayAct (does_first a)
+acts_first answer.Start = tt
+acts_first (answer.Local k) = tt
+acts_first answer.Done = tt
+acts_first (answer.Num i) = tt
+acts_first (answer.RefAt k) = tt
+acts_first answer.Lost = tt
+
+-- a seat that has taken the record of a task, and has nothing else, runs it
+pub taken_runs : {B : Type 0} (laid : Laid B) (program : Bool → B → Program B) (x : Rec B) (m : SeatMe B)
+    → IsWorkers laid m.0
+    → (t : ℕ) → HasTaken program t x m.0
+    → m.0.tasks ≡ custody_of x ∷ []
+    → m.1 ≡ (t, None) ∷ []
+    → RunsTask laid x m
+taken_runs laid program x m worker t g tasks slots = record {
+  worker = worker;
+  custody = custody_of x;
+  tasks = tasks;
+  slots = slots ∙ ap (λ u. (u, None) ∷ []) (sym g.has.cell);
+  task = refl;
+  runs = acts_first x.answer;
+  out = refl;
+  has = record { cell = refl; owned = refl; made = refl; knows = g.has.knows };
+  result = subst (λ u. IsIn u (numbers x.owned)) (sym g.has.cell) g.owns_result;
+  owned_apart = g.owned_apart;
+}
+
+module _ {B : Type 0} (program : Bool → B → Program B) (laid : Laid B) (r : Rec B) (k : ℕ) (spare : Bool)
+    (me : SeatMe B) (runs : RunsTask laid r me) (h : IsWaiting (table_program program laid) me.0 r k spare) where
+  -- the place is one of the record
+  pub place_inside : k < length r.held
+  place_inside = let e = pairs_length (HeldSays me.0.born) r.held h.point.references h.tells.held in
+      let i = h.inside in omega arith
+
+-- the cell that it waits for is this one
+module _ {B : Type 0} (program : Bool → B → Program B) (laid : Laid B) (r : Rec B) (k : ℕ) (spare : Bool)
+    (me : SeatMe B) (runs : RunsTask laid r me) (h : IsWaiting (table_program program laid) me.0 r k spare)
+    (cell : Held) (is : cell ≡ held_at r.held k) where
+  abbrev t : ℕ
+  t = r.cell.0
+
+  abbrev default : Held
+  default = record { cell = record { 0 = 0 }; sort = sort.Task }
+
+  inside_record : k < length r.held
+  inside_record = place_inside program laid r k spare me runs h
+
+  -- the task and the cell are cells of the table
+  pub task_cell : t < laid.cells
+  task_cell = told_task laid r me runs h.point h.tells
+
+  pub wait_cell : cell.cell.0 < laid.cells
+  wait_cell = told_cell laid r me runs h.point h.tells k inside_record cell is
+
+  -- the seat knows the task, and the cell as the record says
+  pub knows_task : KnowsTask t me.0
+  knows_task = told_knows laid r me runs h.point h.tells
+
+  pub held_as : IsHeldAs cell me.0
+  held_as = told_held laid r me runs h.point h.tells k inside_record cell is
+
+  held : held_in me.0.tasks t ≡ Some runs.custody
+  held = ap (λ l. held_in l t) runs.tasks ∙ held_one t runs.custody runs.task
+
+  no_wakes : ¬ HasWakeToCome me.0
+  no_wakes (inl n) = n runs.worker.nothing.pushes
+  no_wakes (inr (inl n)) = n runs.worker.nothing.shuts
+  no_wakes (inr (inr w)) = no_some runs.worker.nothing.rest w.1
+
+  -- it may block
+  pub may_block : (wait : Way) → wait ≡ way_by me.0.born t cell.cell.0 → MayBlock t cell.cell.0 wait me.0
+  may_block wait e = record {
+    custody = runs.custody;
+    held = held;
+    out = runs.out;
+    runs = runs.runs;
+    result = runs.result;
+    task_known = task_known laid r me runs h.point h.tells;
+    cell_known = cell_known laid r me runs h.point h.tells k inside_record cell is;
+    its_way = e;
+    wakes = λ w. absurd (no_wakes w);
+    room = let z = runs.worker.tokens in let l = runs.worker.lot in omega arith;
+  }
+
+  -- it has blocked, and does this since
+  module _ (d : Does) (n m : ℕ) where
+    abbrev since : View B
+    since = doing t d n m me.0
+
+    abbrev custody : Custody B
+    custody = now_does d runs.custody
+
+    tasks_since : since.tasks ≡ custody ∷ []
+    tasks_since = ap (λ l. noted t (now_does d) l) runs.tasks
+        ∙ noted_one t runs.custody runs.task (now_does d) refl
+
+    held_since : held_in since.tasks t ≡ Some custody
+    held_since = ap (λ l. held_in l t) tasks_since ∙ held_one t custody runs.task
+
+    left_since : let_go t since.tasks ≡ []
+    left_since = ap (let_go t) tasks_since ∙ let_go_one t custody runs.task
+
+    leaves : MayLeaveHome program t custody (waits_at k spare r) since
+    leaves = record {
+      has = record {
+        cell = refl;
+        owned = runs.has.owned;
+        made = runs.has.made;
+        knows = runs.has.knows;
+      };
+      told = (
+        about_table laid,
+        runs.worker.of_table,
+        record {
+          point = h.point;
+          tells = record {
+            of = h.tells.of;
+            body = h.tells.body;
+            held = h.tells.held;
+            owned_cells = h.tells.owned_cells;
+            made = h.tells.made;
+            prints = h.tells.prints;
+            owed = h.tells.owed;
+          };
+          tells_stage = subst
+              (λ f. TellsStage me.0.born f (answer.RefAt k) spare h.point)
+              (sym h.unfinished) (h.inside, h.at_stage);
+          stands = h.stands;
+        },
+      );
+      unfinished = h.unfinished;
+    }
+
+    waits : WaitsFor (waits_at k spare r) cell.cell.0
+    waits = (k, held_at r.held k, refl, slice_get-get_or r.held k default inside_record, ap (λ d. d.cell.0) (sym is))
+
+    since_more : KnowsMore me.0 since
+    since_more = record {
+      about = refl;
+      lot = refl;
+      born = begins_self me.0.born;
+      known = λ x i. i;
+      wrote = λ x i. i;
+      filled = λ x i. i;
+      seen = λ x i. i;
+      closed = λ x i. i;
+      rested = λ e. e;
+    }
+
+    nothing_since : HasNothingToCome since
+    nothing_since = record {
+      hand = runs.worker.nothing.hand;
+      dues = runs.worker.nothing.dues;
+      pushes = runs.worker.nothing.pushes;
+      shuts = runs.worker.nothing.shuts;
+      rest = runs.worker.nothing.rest;
+    }
+
+    -- where no token was given it is a worker's seat
+    workers_since : m ≡ 0 → IsWorkers laid since
+    workers_since e = record {
+      of_table = runs.worker.of_table;
+      lot = runs.worker.lot;
+      refused = runs.worker.refused;
+      tokens = (let z = runs.worker.tokens in omega arith);
+      cleared = runs.worker.cleared;
+      nothing = nothing_since;
+      cells = runs.worker.cells;
+    }
+
+  -- its seat took its slot last, and no other
+  pub slot_last : (m : SeatMe B) → m.1 ≡ me.1 → HasSlot t m
+  slot_last m e = (None, slots ∙ ap (λ l. (t, None) ∷ rest l) (sym slots))
+    where
+      slots : m.1 ≡ (t, None) ∷ []
+      slots = e ∙ runs.slots
+
+  no_slots : (m : SeatMe B) → m.1 ≡ me.1 → rest m.1 ≡ []
+  no_slots m e = ap rest (e ∙ runs.slots)
+
+  pub no_others : (m : SeatMe B) → m.1 ≡ me.1 → HasNoRecord (rest m.1)
+  no_others m e = subst HasNoRecord (sym (no_slots m e)) tt
+
+  module _ (wait : Way) (m2 : SeatMe B) (same : m2.1 ≡ me.1) where
+    -- a task that has alarmed is shelved
+    module _ (b : Blocked verdict.Alarm t cell.cell.0 wait me.0 m2.0) where
+      abbrev alarms : Does
+      alarms = does.Alarmed cell.cell.0 wait b.walker
+
+      pub may_shelve : MayShelve program t (waits_at k spare r) m2.0
+      may_shelve = subst (MayShelve program t (waits_at k spare r)) (sym b.view) (record {
+        custody = now_does alarms runs.custody;
+        held = held_since alarms b.steps 1;
+        cell = cell.cell.0;
+        way = wait;
+        walker = b.walker;
+        alarmed = refl;
+        leaves = leaves alarms b.steps 1;
+        waits = waits alarms b.steps 1;
+        idle = nothing_since alarms b.steps 1;
+        token = omega arith;
+        alarms = λ a. absurd (no_some (ap (λ l. held_in l a.0) (left_since alarms b.steps 1)) a.2);
+      })
+
+      -- it has left then
+      pub shelved_left : (m3 : SeatMe B) → m3 ≡ (shelved t m2.0, rest m2.1) → IsLeft laid me.0 m3
+      shelved_left m3 e = subst (IsLeft laid me.0) (sym gone) (record {
+        knows = record {
+          about = refl;
+          lot = refl;
+          born = begins_self me.0.born;
+          known = λ x i. i;
+          wrote = λ x i. i;
+          filled = λ x i. i;
+          seen = λ x i. i;
+          closed = λ x i. i;
+          rested = λ z. z;
+        };
+        free = record {
+          worker = record {
+            of_table = runs.worker.of_table;
+            lot = runs.worker.lot;
+            refused = runs.worker.refused;
+            tokens = (let z = runs.worker.tokens in omega arith);
+            cleared = runs.worker.cleared;
+            nothing = record {
+              hand = runs.worker.nothing.hand;
+              dues = runs.worker.nothing.dues;
+              pushes = runs.worker.nothing.pushes;
+              shuts = runs.worker.nothing.shuts;
+              rest = runs.worker.nothing.rest;
+            };
+            cells = runs.worker.cells;
+          };
+          tasks = left_since alarms b.steps 1;
+          slots = refl;
+        };
+      })
+        where
+          gone : m3 ≡ (shelved t (since alarms b.steps 1), [])
+          gone = e ∙ (ap (λ (v : View B). (shelved t v, rest m2.1)) b.view
+              ∙ ap (λ l. (shelved t (since alarms b.steps 1), l)) (no_slots m2 same))
+
+    -- a task whose walk has ended is parked
+    module _ (d : Verdict) (quiet : IsQuiet d) (b : Blocked d t cell.cell.0 wait me.0 m2.0) where
+      abbrev does_now : Does
+      does_now = does_after d cell.cell.0 wait b.walker
+
+      abbrev view_now : View B
+      view_now = since does_now b.steps (tokens_given d)
+
+      no_alarm : ¬ HasAlarmed does_now
+      no_alarm a = subst HasAlarmed (quiet_walks d cell.cell.0 wait b.walker quiet) a
+
+      pub may_park : MayParkTask program t cell.cell.0 wait (waits_at k spare r) m2.0
+      may_park = subst (MayParkTask program t cell.cell.0 wait (waits_at k spare r)) (sym b.view) (record {
+        walks = record {
+          custody = now_does does_now runs.custody;
+          walker = b.walker;
+          held = held_since does_now b.steps (tokens_given d);
+          walks = quiet_walks d cell.cell.0 wait b.walker quiet;
+          room = (let z = runs.worker.tokens in let l = runs.worker.lot in let q = quiet_tokens d quiet in omega arith);
+        };
+        settles = quiet_settles d t wait b.walker quiet b.ends;
+        leaves = leaves does_now b.steps (tokens_given d);
+        waits = waits does_now b.steps (tokens_given d);
+        idle = nothing_since does_now b.steps (tokens_given d);
+        room = (let z = runs.worker.cleared in let l = runs.worker.lot in let q = raised_few wait in omega arith);
+        alarms = λ a. absurd (one_alarmed view_now (now_does does_now runs.custody)
+            (tasks_since does_now b.steps (tokens_given d)) no_alarm a);
+      })
+
+      workers_now : IsWorkers laid view_now
+      workers_now = workers_since does_now b.steps (tokens_given d) (quiet_tokens d quiet)
+
+      -- what the seat is after the call
+      module _ (w : View B) (p : HasParked laid.cells m2.0 w) where
+        parked : HasParked laid.cells view_now w
+        parked = subst (λ z. HasParked laid.cells z w) b.view p
+
+        knows_then : KnowsMore me.0 w
+        knows_then = more_on me.0 view_now w (since_more does_now b.steps (tokens_given d)) parked.knows
+
+        workers_then : IsWorkers laid w
+        workers_then = workers_on laid view_now w parked.knows parked.hand parked.wakes parked.counts
+            (parked.all (about_table laid) runs.worker.of_table refl runs.worker.cells) workers_now
+
+      -- it has left
+      pub parked_left : (m3 : SeatMe B) → LeftTask laid.cells t m2.0 m3.0 → m3.1 ≡ rest m2.1 → IsLeft laid me.0 m3
+      parked_left m3 p e = record {
+        knows = knows_then m3.0 p.parked;
+        free = record {
+          worker = workers_then m3.0 p.parked;
+          tasks = p.tasks ∙ (ap (λ (v : View B). let_go t v.tasks) b.view
+              ∙ left_since does_now b.steps (tokens_given d));
+          slots = e ∙ no_slots m2 same;
+        };
+      }
+
+      -- it comes back
+      pub parked_back : (m3 : SeatMe B) (x : Rec B) → GaveBack program laid.cells t cell.cell.0 x m2.0 m3.0
+          → m3.1 ≡ (t, None) ∷ rest m2.1
+          → ComesBack program laid x me.0 m3
+      parked_back m3 x g e = record {
+        knows = knows_then m3.0 g.parked;
+        runs = taken_runs laid program x m3 (workers_then m3.0 g.parked) t g.taken (
+            g.tasks ∙ ap (λ l. custody_of x ∷ let_go x.cell.0 l) (ap (λ (v : View B). let_go t v.tasks) b.view
+            ∙ left_since does_now b.steps (tokens_given d))
+            ) (e ∙ ap (λ l. (t, None) ∷ l) (no_slots m2 same));
+        rooted = h.rooted;
+        known = g.taken.known (about_table laid) (workers_then m3.0 g.parked).of_table;
+        unfinished = g.taken.unfinished;
+      }
+
+-- the same after loads of the tree, by which the way of the wait was found
+module _ {B : Type 0} (program : Bool → B → Program B) (laid : Laid B) (r : Rec B) (k : ℕ) (spare : Bool)
+    (me : SeatMe B) (runs : RunsTask laid r me) (h : IsWaiting (table_program program laid) me.0 r k spare)
+    (cell : Held) (is : cell ≡ held_at r.held k) (m1 : SeatMe B) (read : HasReadTree laid.cells me.0 m1.0)
+    (same : m1.1 ≡ me.1) where
+  more : KnowsMore me.0 m1.0
+  more = read_more laid.cells me.0 m1.0 read
+
+  runs_then : RunsTask laid r m1
+  runs_then = runs_read laid r me m1 read same runs
+
+  waits_then : IsWaiting (table_program program laid) m1.0 r k spare
+  waits_then = waits_on (table_program program laid) me.0 m1.0 more r k spare h
+
+  abbrev q : ℕ
+  q = cell.cell.0
+
+  pub block_then : (wait : Way) → wait ≡ way_by m1.0.born r.cell.0 q → MayBlock r.cell.0 q wait m1.0
+  block_then = may_block program laid r k spare m1 runs_then waits_then cell is
+
+  pub slot_then : (m2 : SeatMe B) → m2.1 ≡ m1.1 → HasSlot r.cell.0 m2
+  slot_then = slot_last program laid r k spare m1 runs_then waits_then cell is
+
+  pub others_then : (m2 : SeatMe B) → m2.1 ≡ m1.1 → HasNoRecord (rest m2.1)
+  others_then = no_others program laid r k spare m1 runs_then waits_then cell is
+
+  module _ (wait : Way) (m2 : SeatMe B) (slots : m2.1 ≡ m1.1) where
+    pub shelve_then : Blocked verdict.Alarm r.cell.0 q wait m1.0 m2.0
+        → MayShelve program r.cell.0 (waits_at k spare r) m2.0
+    shelve_then = may_shelve program laid r k spare m1 runs_then waits_then cell is wait m2 slots
+
+    pub left_shelved : Blocked verdict.Alarm r.cell.0 q wait m1.0 m2.0 → (m3 : SeatMe B)
+        → m3 ≡ (shelved r.cell.0 m2.0, rest m2.1)
+        → IsLeft laid me.0 m3
+    left_shelved b m3 e = left_on laid me.0 m1.0 more m3
+        (shelved_left program laid r k spare m1 runs_then waits_then cell is wait m2 slots b m3 e)
+
+    module _ (d : Verdict) (quiet : IsQuiet d) (b : Blocked d r.cell.0 q wait m1.0 m2.0) where
+      pub park_then : MayParkTask program r.cell.0 q wait (waits_at k spare r) m2.0
+      park_then = may_park program laid r k spare m1 runs_then waits_then cell is wait m2 slots d quiet b
+
+      pub left_parked : (m3 : SeatMe B) → LeftTask laid.cells r.cell.0 m2.0 m3.0 → m3.1 ≡ rest m2.1
+          → IsLeft laid me.0 m3
+      left_parked m3 p e = left_on laid me.0 m1.0 more m3
+          (parked_left program laid r k spare m1 runs_then waits_then cell is wait m2 slots d quiet b m3 p e)
+
+      pub back_parked : (m3 : SeatMe B) (x : Rec B) → GaveBack program laid.cells r.cell.0 q x m2.0 m3.0
+          → m3.1 ≡ (r.cell.0, None) ∷ rest m2.1
+          → ComesBack program laid x me.0 m3
+      back_parked m3 x g e = back_on program laid x me.0 m1.0 more m3
+          (parked_back program laid r k spare m1 runs_then waits_then cell is wait m2 slots d quiet b m3 x g e)

@@ -1,0 +1,40 @@
+-- How a worker leaves: it is at rest, or the run was stopped, and why.
+use Rattle.std.specs.Prelude.{◌≡◌, ℕ, Bool, true, []}
+use Rattle.tj_body.specs.Programs.{Program}
+use Rattle.tj_words.specs.declared.view.View.{View}
+use Rattle.tj_words.specs.SeatViews.FullMeaning.{NamesFull}
+use Rattle.tj_words.specs.SeatViews.SeatSteps.{SeatMe}
+use Rattle.tj_words.specs.SeatViews.Views.{IsIdle}
+use Rattle.tj_run.specs.declared.why.Why.{Why}
+use Rattle.tj_run.specs.declared.why.Why.TheVariants as why
+use Rattle.tj_run.specs.declared.why.Left.{Left}
+use Rattle.tj_run.specs.declared.why.Left.TheVariants as left
+
+-- how STOP says why
+abbrev pub stop_word : Why → ℕ
+stop_word why.Full = 1
+stop_word why.Memory = 2
+
+module _ {B : Type 0} where
+  -- what a run that was stopped for this tells of the meaning
+  abbrev pub IsTold : (Bool → B → Program B) → Why → View B → Type 0
+  IsTold program why.Full v = NamesFull program v
+  IsTold program why.Memory v = Unit {0}
+
+  -- the worker has loaded LIVE as 0, its seat may be merged, and it has the lot that it came with
+  pub record HasRested (v : View B) (me : SeatMe B) : Type 0 where
+    pub rested : me.0.rested ≡ true
+    pub idle : IsIdle me.0
+    pub slots : me.1 ≡ []
+    pub lot : me.0.lot ≡ v.lot
+    pub about : me.0.about ≡ v.about
+
+  -- what the seat loaded from STOP last says why the run was stopped; it is full only where the meaning is
+  pub record HasStopped (program : Bool → B → Program B) (cause : Why) (v w : View B) : Type 0 where
+    pub stop : w.stop ≡ stop_word cause
+    pub told : IsTold program cause v
+
+  -- what a worker leaves: it is at rest, or the run was stopped
+  abbrev pub Leaves : (Bool → B → Program B) → Left → View B → SeatMe B → Type 0
+  Leaves program left.Rested v me = HasRested v me
+  Leaves program (left.Stopped cause) v me = HasStopped program cause v me.0

@@ -1,0 +1,13 @@
+-- Each call is such a step, and calls one after the other are a run of the core.
+pub mod StepParts
+pub mod KeptCells
+pub mod CallChanges
+pub mod EventCalls
+pub mod TaskCalls
+pub mod TakenTasks
+pub mod OwnerCalls
+pub mod HandCalls
+pub mod DrawCalls
+pub mod OneStates
+pub mod TableRuns
+pub mod RestedRuns

@@ -1,0 +1,293 @@
+-- What a call does which is no event is such a change as the law of steps speaks of: the words say what was stored, and
+-- the hand, the tasks and the waits cleared of the view are as they were.
+use Rattle.std.proofs.Common.{◌≡◌, ◌≢◌, ℕ, suc, ◌≤◌, Bool, [], ◌∷◌, ◌++◌, map, set, Option, Some, None}
+use Rattle.std.proofs.Common.{refl, sym, ap, ◌∙◌, subst, inl, inr, ⊎_elim, ◌⊎◌, ◌+◌}
+use mathlib.Core.Logic.{dite}
+use mathlib.Core.Option.{some}
+use native.Mathlib.Decide.{ℕ_discrete}
+use lib.ListN.{get_elem?}
+use mathlib.Core.List.{map-append}
+use Rattle.atomic_table.specs.Table.{State, Step}
+use Rattle.atomic_table.proofs.Lists.{at_map}
+use Rattle.tj_base.specs.Puts.{put}
+use Rattle.tj_base.specs.declared.cell.Sort.{Sort}
+use Rattle.tj_body.specs.Programs.{Program}
+use Rattle.tj_words.specs.declared.offsets.Once.{Once}
+use Rattle.tj_words.specs.declared.offsets.Once.TheVariants as once
+use Rattle.tj_words.specs.declared.record.Rec.{Rec}
+use Rattle.tj_words.specs.declared.view.Hand.{Hand}
+use Rattle.tj_words.specs.declared.view.View.{View}
+use Rattle.tj_words.specs.Words.Offsets.{word, count_at, live_at, stop_at, head_at, next_at, once_at}
+use Rattle.tj_words.specs.Words.Heads.{head_in}
+use Rattle.tj_words.specs.LawParts.Hands.{hand_in, making, IsThere}
+use Rattle.tj_words.specs.LawParts.Holding.{find_in, home_in, made_by}
+use Rattle.tj_words.specs.LawParts.Contents.{WordsSay, Contents, words_say, seats_have, contents_of, drawn_in, hand_of}
+use Rattle.tj_words.specs.SeatViews.SeatSteps.{SeatMe, live_load}
+use Rattle.tj_words.specs.SeatViews.SeenWords.{head_load, SeesOnce}
+use Rattle.tj_words.specs.Calls.ChainSteps.{push_exchange, shut_swap}
+use Rattle.tj_words.specs.Calls.DrawViews.{draw_step}
+use Rattle.tj_words.specs.Calls.LiveViews.{IfRecord, SlotsOf, raised_with, lowered_with}
+use Rattle.tj_words.specs.SeatViews.Views.{IsIdle, both, left_half, right_half, spent}
+use Rattle.tj_words.specs.Steps.QuietSteps.{KeepsHoldings, LoadsOnly, StoresOnce, ChangesLive, ChangesStop, ChangesHead}
+use Rattle.tj_words.specs.Steps.QuietSteps.{ChangesNext, DrawIsRefused}
+use Rattle.tj_words.specs.Steps.OneStates.{KeepsCells}
+use Rattle.tj_words.specs.CallLaws.CallSteps.{Makes, Splits, WritesOnce}
+use Rattle.tj_words.proofs.Seating.Appending.{find_snoc, hand_snoc, making_snoc}
+use Rattle.tj_words.proofs.Calls.KeptCells.{kept}
+use Rattle.tj_words.proofs.Waiters.ChainsSaid.{shut_or}
+use Rattle.tj_words.proofs.Holders.HeldTasks.{hand_finds, none_some}
+use Rattle.tj_words.proofs.Stores.SeatLists.{same_field, words_same}
+use Rattle.tj_words.proofs.Stores.StoreSteps.{say_live, say_stop, say_head, say_next}
+use Rattle.tj_words.proofs.Stores.StoredWords.{put_word, put_word_cell, put_word_word, say_once}
+use Rattle.tj_words.proofs.Cells.DrawSteps.{say_count}
+
+module _ {B : Type 0} where
+  -- of the views the core state shows the same
+  pub record ShowsSame (v w : View B) : Type 0 where
+    pub hand : w.hand ≡ v.hand
+    pub tasks : w.tasks ≡ v.tasks
+    pub cleared : w.cleared ≡ v.cleared
+
+  -- hands, tasks, waits cleared and slots stay
+  module _ (s t : State (Option (Rec B)) (View B)) (id i n : ℕ) (m m' : SeatMe B) (h : Makes id i n m m' s t) where
+    holdings : ShowsSame m.0 m'.0 → KeepsHoldings (contents_of s) (contents_of t)
+    holdings q = record {
+      slots = ap (λ (z : State (Option (Rec B)) (View B)). z.homes) h.after;
+      hands = ap (λ (z : State (Option (Rec B)) (View B)). map (λ (v : View B). v.hand) z.views) h.after
+          ∙ same_field (λ (v : View B). v.hand) s.views id m.0 m'.0 h.at q.hand;
+      tasks = ap (λ (z : State (Option (Rec B)) (View B)). map (λ (v : View B). v.tasks) z.views) h.after
+          ∙ same_field (λ (v : View B). v.tasks) s.views id m.0 m'.0 h.at q.tasks;
+      cleared = ap (λ (z : State (Option (Rec B)) (View B)). map (λ (v : View B). v.cleared) z.views) h.after
+          ∙ same_field (λ (v : View B). v.cleared) s.views id m.0 m'.0 h.at q.cleared;
+    }
+
+    -- the words are those after the store
+    stored : words_say t.words ≡ words_say (set s.words i n)
+    stored = ap (λ (z : State (Option (Rec B)) (View B)). words_say z.words) h.after
+
+  -- a load, by a view that shows the same
+  pub loads : (s t : State (Option (Rec B)) (View B)) (id i : ℕ) (m m' : SeatMe B)
+      → Makes id i (word s.words i) m m' s t → ShowsSame m.0 m'.0 → LoadsOnly (contents_of s) (contents_of t)
+  loads s t id i m m' h q = record {
+    words = stored s t id i (word s.words i) m m' h ∙ ap words_say (words_same s.words i);
+    keeps = holdings s t id i (word s.words i) m m' h q;
+  }
+
+  -- a view that is one that shows the same
+  pub is_same : (v w u : View B) → w ≡ u → ShowsSame v u → ShowsSame v w
+  is_same v w u e q = subst (ShowsSame v) (sym e) q
+
+  pub as_it_was : (v w u : View B) → w ≡ u → u.hand ≡ v.hand → u.tasks ≡ v.tasks → u.cleared ≡ v.cleared → ShowsSame v w
+  as_it_was v w u e a b c = is_same v w u e (record { hand = a; tasks = b; cleared = c })
+
+  -- what each play of a load tells
+  pub head_same : (program : Bool → B → Program B) (cells c n : ℕ) (st : Step (Option (Rec B))) (m m' : SeatMe B)
+      → head_load program cells c st m n m' → ShowsSame m.0 m'.0
+  head_same program cells c n st m m' h = ⊎_elim (λ e. as_it_was m.0 m'.0 _ (h.2 e).view refl refl refl)
+      (λ e. as_it_was m.0 m'.0 _ (h.3 e).view refl refl refl) (shut_or (head_in n))
+
+  pub push_same : (program : Bool → B → Program B) (cells p n : ℕ) (st : Step (Option (Rec B))) (m m' : SeatMe B)
+      → n ≢ st.first → push_exchange program cells p st m n m' → ShowsSame m.0 m'.0
+  push_same program cells p n st m m' f h = head_same program cells p n st m m' (h.0, h.1, h.3 f, h.4 f)
+
+  pub live_same : (n : ℕ) (st : Step (Option (Rec B))) (m m' : SeatMe B) → live_load st m n m' → ShowsSame m.0 m'.0
+  live_same n st m m' h = dite (ℕ_discrete n 0)
+      (λ e. as_it_was m.0 m'.0 _ (h.1 e) refl refl refl)
+      (λ e. as_it_was m.0 m'.0 _ (h.2 e) refl refl refl)
+
+  pub once_same : (program : Bool → B → Program B) (cells c n : ℕ) (f : Once) (v w : View B)
+      → SeesOnce program cells f c n v w → ShowsSame v w
+  once_same program cells c n once.Tag v w h = dite (ℕ_discrete n 0)
+      (λ e. as_it_was v w _ (h.0 e).view refl refl refl)
+      (λ e. as_it_was v w _ (h.1 e).view refl refl refl)
+  once_same program cells c n once.Bits v w h =
+      as_it_was v w _ h.view refl refl refl
+  once_same program cells c n once.Parent v w h =
+      as_it_was v w _ h.view refl refl refl
+  once_same program cells c n once.Kid v w h =
+      as_it_was v w _ h.view refl refl refl
+  once_same program cells c n once.Depth v w h =
+      as_it_was v w _ h.view refl refl refl
+  once_same program cells c n once.Jump v w h =
+      as_it_was v w _ h.view refl refl refl
+
+  -- LIVE up and down, where no record comes home
+  pub raise_same : (v : View B) (slots : SlotsOf B) → IfRecord (λ t r. ⊥) slots → ShowsSame v (raised_with v slots).0
+  raise_same v [] h = record { hand = refl; tasks = refl; cleared = refl }
+  raise_same v ((t, None) ∷ slots) h = record { hand = refl; tasks = refl; cleared = refl }
+  raise_same v ((t, Some r) ∷ slots) h = absurd h
+
+  pub lower_same : (v : View B) (slots : SlotsOf B) → IfRecord (λ t r. ⊥) slots → ShowsSame v (lowered_with v slots).0
+  lower_same v [] h = record { hand = refl; tasks = refl; cleared = refl }
+  lower_same v ((t, None) ∷ slots) h = record { hand = refl; tasks = refl; cleared = refl }
+  lower_same v ((t, Some r) ∷ slots) h = absurd h
+
+  -- stores of LIVE, STOP, HEAD and NEXT, and a refused draw, by a view that shows the same
+  pub live_changes : (s t : State (Option (Rec B)) (View B)) (id n : ℕ) (m m' : SeatMe B)
+      → Makes id live_at n m m' s t → ShowsSame m.0 m'.0 → ChangesLive (contents_of s) (contents_of t)
+  live_changes s t id n m m' h q = record {
+    live = n;
+    words = stored s t id live_at n m m' h ∙ say_live s.words n h.inside;
+    keeps = holdings s t id live_at n m m' h q;
+  }
+
+  pub stop_changes : (s t : State (Option (Rec B)) (View B)) (id n : ℕ) (m m' : SeatMe B)
+      → Makes id stop_at n m m' s t → ShowsSame m.0 m'.0 → ChangesStop (contents_of s) (contents_of t)
+  stop_changes s t id n m m' h q = record {
+    stop = n;
+    words = stored s t id stop_at n m m' h ∙ say_stop s.words n h.inside;
+    keeps = holdings s t id stop_at n m m' h q;
+  }
+
+  pub head_changes : (p : ℕ) (s t : State (Option (Rec B)) (View B)) (id n : ℕ) (m m' : SeatMe B)
+      → Makes id (head_at p) n m m' s t → ShowsSame m.0 m'.0 → ChangesHead (contents_of s) (contents_of t)
+  head_changes p s t id n m m' h q = record {
+    head = put (words_say s.words).head p (head_in n);
+    words = stored s t id (head_at p) n m m' h ∙ say_head s.words n p h.inside;
+    keeps = holdings s t id (head_at p) n m m' h q;
+  }
+
+  pub next_changes : (c : ℕ) (s t : State (Option (Rec B)) (View B)) (id n : ℕ) (m m' : SeatMe B)
+      → Makes id (next_at c) n m m' s t → ShowsSame m.0 m'.0 → ChangesNext (contents_of s) (contents_of t)
+  next_changes c s t id n m m' h q = record {
+    next = put (words_say s.words).next c (head_in n);
+    words = stored s t id (next_at c) n m m' h ∙ say_next s.words n c h.inside;
+    keeps = holdings s t id (next_at c) n m m' h q;
+  }
+
+  pub shut_same : (cells p n : ℕ) (st : Step (Option (Rec B))) (m m' : SeatMe B) → shut_swap cells p st m n m'
+      → ShowsSame m.0 m'.0
+  shut_same cells p n st m m' h = ⊎_elim (λ e. as_it_was m.0 m'.0 _ (h.2 e) refl refl refl)
+      (λ e. as_it_was m.0 m'.0 _ (h.3 e).view refl refl refl) (shut_or (head_in n))
+
+  pub refused_counts : (program : Bool → B → Program B) (cells t : ℕ) (o : Sort) (a b : State (Option (Rec B)) (View B))
+      (id : ℕ) (m m' : SeatMe B) (st : Step (Option (Rec B)))
+      → Makes id count_at (suc (word a.words count_at)) m m' a b → cells ≤ word a.words count_at
+      → draw_step program cells t o st m (word a.words count_at) m'
+      → DrawIsRefused (contents_of a) (contents_of b) cells
+  refused_counts program cells t o a b id m m' st h full d = record {
+    full = full;
+    words = stored a b id count_at (suc (word a.words count_at)) m m' h
+        ∙ say_count a.words (suc (word a.words count_at)) h.inside;
+    keeps = holdings a b id count_at (suc (word a.words count_at)) m m' h
+        (as_it_was m.0 m'.0 _ (d.1 full).0.view refl refl refl);
+  }
+
+  -- makers and numbers of cells stay where hands, tasks and slots do, and PARENT and KID of the cells that are there
+  pub keeps_cells : (cells : ℕ) (x y : Contents B) → KeepsHoldings x y
+      → ((c : ℕ) → IsThere (drawn_in cells x) (hand_of x) c
+      → (y.words.once c once.Parent ≡ x.words.once c once.Parent) × (y.words.once c once.Kid ≡ x.words.once c once.Kid))
+      → KeepsCells cells x y
+  keeps_cells cells x y k once = kept cells x y (λ c. ap (λ l. hand_in l c) k.hands)
+      (λ c j. made_by (find_in (k.tasks j) c) (home_in (k.slots j) c) + making (k.hands j) c) once
+
+  -- a store of a word that is written once
+  module _ (c : ℕ) (f : Once) (s t : State (Option (Rec B)) (View B)) (id n : ℕ) (m m' : SeatMe B)
+      (h : Makes id (once_at c f) n m m' s t) (q : ShowsSame m.0 m'.0) where
+    once_words : words_say t.words ≡ record (words_say s.words) { once = put_word (words_say s.words).once c f n }
+    once_words = stored s t id (once_at c f) n m m' h ∙ say_once s.words n c f h.inside
+
+    once_holdings : KeepsHoldings (contents_of s) (contents_of t)
+    once_holdings = holdings s t id (once_at c f) n m m' h q
+
+    once_stores : StoresOnce (contents_of s) (contents_of t)
+    once_stores = record {
+      once = put_word (words_say s.words).once c f n;
+      words = once_words;
+      keeps = once_holdings;
+    }
+
+    once_is : (d : ℕ) (g : Once) → (words_say t.words).once d g ≡ put_word (words_say s.words).once c f n d g
+    once_is d g = ap (λ (z : WordsSay). z.once d g) once_words
+
+    -- where PARENT and KID of the cells that are there aren't that word
+    writes : ((d : ℕ) → hand_of (contents_of s) d ≡ None → (d ≢ c) ⊎ ((once.Parent ≢ f) × (once.Kid ≢ f)))
+        → WritesOnce B (contents_of s) (contents_of t)
+    writes else = (
+      once_stores,
+      (λ cells. keeps_cells cells (contents_of s) (contents_of t) once_holdings (λ d i.
+          ⊎_elim
+          (λ e. (
+            once_is d once.Parent ∙ put_word_cell (words_say s.words).once c f n d once.Parent e,
+            once_is d once.Kid ∙ put_word_cell (words_say s.words).once c f n d once.Kid e,
+          ))
+          (λ e. (
+            once_is d once.Parent ∙ put_word_word (words_say s.words).once c f n d once.Parent e.0,
+            once_is d once.Kid ∙ put_word_word (words_say s.words).once c f n d once.Kid e.1,
+          )) (else d i.1))),
+    )
+
+    -- a word of the cell that the seat has in hand
+    pub writes_hand : (g : Hand) → m.0.hand ≡ Some g → g.cell ≡ c → WritesOnce B (contents_of s) (contents_of t)
+    writes_hand g has its_cell = writes (λ d out. inl (λ e. none_some (hand_of (contents_of s) d) found.0 out
+        (ap (hand_of (contents_of s)) (e ∙ sym its_cell) ∙ found.1)))
+      where
+        found : (k : Hand) × (hand_of (contents_of s) g.cell ≡ Some k)
+        found = hand_finds (seats_have s.views).hands id g
+            (at_map (λ (v : View B). v.hand) s.views id m.0 h.at ∙ ap some has)
+
+    -- a word that isn't one of the tree
+    pub writes_value : once.Parent ≢ f → once.Kid ≢ f → WritesOnce B (contents_of s) (contents_of t)
+    writes_value a b = writes (λ d out. inr (a, b))
+
+  -- a split, and a merge
+  pub split_splits : (s : State (Option (Rec B)) (View B)) (id : ℕ) (v : View B) → get_elem? s.views id ≡ some v
+      → Splits B (contents_of s) (contents_of (record {
+        words = s.words;
+        homes = s.homes;
+        views = set s.views id (left_half v) ++ right_half v ∷ [];
+      }))
+  split_splits s id v at = (
+    record {
+      words = refl;
+      slots = refl;
+      hands = hands;
+      tasks = tasks;
+      cleared = more (λ (u : View B). u.cleared) refl;
+    },
+    (λ cells. kept cells (contents_of s) (contents_of (record {
+      words = s.words;
+      homes = s.homes;
+      views = set s.views id (left_half v) ++ right_half v ∷ [];
+    }))
+        (λ c. ap (λ l. hand_in l c) hands ∙ hand_snoc (seats_have s.views).hands c)
+        (λ c. (λ j. made_by (find_in (tasks j) c) (home_in s.homes c) + making (hands j) c)
+        ∙ (λ j. made_by (find_snoc (seats_have s.views).tasks c j) (home_in s.homes c)
+        + making_snoc (seats_have s.views).hands c j))
+        (λ c i. (refl, refl))),
+  )
+    where
+      more : {A : Type 0} (f : View B → A) → f (left_half v) ≡ f v
+          → map f (set s.views id (left_half v) ++ right_half v ∷ []) ≡ map f s.views ++ f (right_half v) ∷ []
+      more f e = map-append f (set s.views id (left_half v)) (right_half v ∷ [])
+          ∙ ap (λ l. l ++ f (right_half v) ∷ []) (same_field f s.views id v (left_half v) at e)
+
+      hands : map (λ (u : View B). u.hand) (set s.views id (left_half v) ++ right_half v ∷ [])
+          ≡ (seats_have s.views).hands ++ None ∷ []
+      hands = more (λ (u : View B). u.hand) refl
+
+      tasks : map (λ (u : View B). u.tasks) (set s.views id (left_half v) ++ right_half v ∷ [])
+          ≡ (seats_have s.views).tasks ++ [] ∷ []
+      tasks = more (λ (u : View B). u.tasks) refl
+
+  pub merge_merges : (s : State (Option (Rec B)) (View B)) (id other : ℕ) (v w : View B)
+      → get_elem? s.views id ≡ some v → get_elem? (set s.views id (both v w)) other ≡ some w → IsIdle w
+      → LoadsOnly (contents_of s) (contents_of (record {
+        words = s.words;
+        homes = s.homes;
+        views = set (set s.views id (both v w)) other spent;
+      }))
+  merge_merges s id other v w at there idle = record {
+    words = refl;
+    keeps = record {
+      slots = refl;
+      hands = same (λ (u : View B). u.hand) refl (sym idle.hand);
+      tasks = same (λ (u : View B). u.tasks) refl (sym idle.tasks);
+      cleared = same (λ (u : View B). u.cleared) refl (sym idle.cleared);
+    };
+  }
+    where
+      same : {A : Type 0} (f : View B → A) → f (both v w) ≡ f v → f spent ≡ f w
+          → map f (set (set s.views id (both v w)) other spent) ≡ map f s.views
+      same f a b = same_field f (set s.views id (both v w)) other w spent there b
+          ∙ same_field f s.views id v (both v w) at a

@@ -1,0 +1,118 @@
+-- A draw that finds a cell is a change of the law of steps, and leaves makers and numbers of the cells that were drawn
+-- before.
+use Rattle.std.proofs.Common.{◌≡◌, ℕ, suc, ◌<◌, Bool, set, Option, Some, None}
+use Rattle.std.proofs.Common.{refl, sym, ap, ◌∙◌, subst, inl, arith}
+use mathlib.Core.Option.{some}
+use lib.ListN.{get_elem?}
+use Rattle.atomic_table.specs.Table.{State, homes_after}
+use Rattle.atomic_table.proofs.Lists.{at_map}
+use Rattle.tj_base.specs.declared.cell.Sort.{Sort}
+use Rattle.tj_base.specs.declared.cell.Sort.TheVariants as sort
+use Rattle.tj_body.specs.Programs.{Program}
+use Rattle.tj_words.specs.declared.offsets.Once.TheVariants as once
+use Rattle.tj_words.specs.declared.record.Rec.{Rec}
+use Rattle.tj_words.specs.declared.table.Key.{Key}
+use Rattle.tj_words.specs.declared.view.Hand.{Hand}
+use Rattle.tj_words.specs.declared.view.View.{View}
+use Rattle.tj_words.specs.LawParts.Contents.{WordsSay, Contents, words_say, contents_of, drawn_in}
+use Rattle.tj_words.specs.Calls.DrawViews.{FindsCell, MayDraw, new_hand, new_tasks, runs_on}
+use Rattle.tj_words.specs.Law.{Law, Rule}
+use Rattle.tj_words.specs.Words.Lists.{total}
+use Rattle.tj_words.specs.Words.Offsets.{word, count_at}
+use Rattle.tj_words.specs.Steps.OneStates.{KeepsCells}
+use Rattle.tj_words.specs.CallLaws.OwnerCalls.{takes_new}
+use Rattle.tj_words.specs.Steps.OwnerSteps.{DrawsCell}
+use Rattle.tj_words.specs.SeatViews.SeatSteps.{SeatMe}
+use Rattle.tj_words.specs.SeatViews.TaskLists.{noted}
+use Rattle.tj_words.specs.CallLaws.CallSteps.{MakesWith}
+use Rattle.tj_words.specs.CallLaws.EventCalls.{Keeping}
+use Rattle.tj_words.proofs.Events.DrawEvents.{drawn_into, may_draw}
+use Rattle.tj_words.proofs.Cells.DrawSteps.{say_count}
+use Rattle.tj_words.proofs.Cells.DrawnCells.{draws_in}
+use Rattle.tj_words.proofs.Cells.DrawnTasks.{slots_after}
+use Rattle.tj_words.proofs.Holders.HeldTasks.{hand_found}
+use Rattle.tj_words.proofs.Calls.StepParts.{field_now, field_same}
+
+-- makers and numbers of the cells that were drawn before stay: the drawer had none in hand, and no other cell in hand
+-- is one that it makes
+draw_keeps : {B : Type 0} {program : Program B} {cells : ℕ} {x : Contents B} (r : Law program cells x) (y : Contents B)
+    (id t : ℕ) (h : Hand) → DrawsCell cells x y id t h → y.words.once ≡ x.words.once → KeepsCells cells x y
+draw_keeps {cells = cells} {x = x} r y id t h s words = record {
+  there = λ d i. record {
+    out = s.same.hands d (λ e. let l = i.0 in omega arith) ∙ i.1;
+    parent_is = ap (λ z. z d once.Parent) words;
+    kid_is = ap (λ z. z d once.Kid) words;
+  };
+  hands = λ d g e. let f = hand_found x.seats.hands d g e in let l = (r.hands.each f.0.0 g f.0.1).drawn_cell in
+      let q = f.1 in let calm = (may_draw r y id t h s).calm d g e in inl (record {
+        hand = g;
+        in_hand = s.same.hands d (λ z. omega arith) ∙ e;
+        maker_is = refl;
+        made_is = (drawn_into r y id t h s).made_else g.maker calm.0 calm.1;
+      });
+}
+
+module _ {B : Type 0} (program : Bool → B → Program B) (key : Key B) (s t : State (Option (Rec B)) (View B))
+    (r : Rule program key s) (id n u c : ℕ) (o : Sort) (m m' : SeatMe B) where
+  abbrev x : Contents B
+  x = contents_of s
+
+  abbrev y : Contents B
+  y = contents_of t
+
+  slots_now : (p : Sort) → homes_after s.homes m.1 (takes_new B c p) ≡ slots_after c p s.homes
+  slots_now sort.Promise = refl
+  slots_now sort.Task = refl
+
+  pub call_draws : MakesWith (takes_new B c o) id count_at n m m' s t → word s.words count_at ≡ c → n ≡ suc c
+      → word s.words count_at < key.cells → FindsCell key.cells u o (word s.words count_at) m.0 m'.0
+      → MayDraw program u m.0 → Keeping key.cells x y (DrawsCell key.cells x y id u (new_hand c u o))
+  call_draws h found next left finds may = subst
+      (λ k. Keeping key.cells x y (DrawsCell key.cells x y id u (new_hand k u o))) (sym same) (
+        change,
+        draw_keeps r.law y id u (new_hand (drawn_in key.cells x) u o) change
+            (ap (λ (z : WordsSay). z.once) says),
+      )
+    where
+      v : View B
+      v = m.0
+
+      same : c ≡ drawn_in key.cells x
+      same = omega (arith, found, left)
+
+      says : words_say t.words ≡ record (words_say s.words) { count = n }
+      says = ap (λ (z : State (Option (Rec B)) (View B)). words_say z.words) h.after ∙ say_count s.words n h.inside
+
+      now : t.views ≡ set s.views id m'.0
+      now = ap (λ (z : State (Option (Rec B)) (View B)). z.views) h.after
+
+      at : get_elem? x.seats.tasks id ≡ some v.tasks
+      at = at_map (λ (w : View B). w.tasks) s.views id v h.at
+
+      dues : get_elem? x.seats.dues id ≡ some v.dues
+      dues = at_map (λ (w : View B). w.dues) s.views id v h.at
+
+      free : get_elem? x.seats.hands id ≡ some None
+      free = at_map (λ (w : View B). w.hand) s.views id v h.at ∙ ap (λ (z : Option Hand). some z) may.no_hand
+
+      found_next : word s.words count_at ≡ drawn_in key.cells x
+      found_next = found ∙ same
+
+      change : DrawsCell key.cells x y id u (new_hand (drawn_in key.cells x) u o)
+      change = draws_in r.law id u o v.tasks v.dues may.has at dues may.held may.may may.result may.out free left y
+          (field_now (λ (w : View B). w.tasks) s.views t.views id m'.0 now
+          (new_tasks (drawn_in key.cells x) o (noted u runs_on v.tasks))
+          (ap (λ (w : View B). w.tasks) finds.view ∙ ap (λ k. new_tasks k o (noted u runs_on v.tasks)) found_next))
+          (ap (λ (z : WordsSay). z.phase) says)
+          (ap (λ (z : State (Option (Rec B)) (View B)). z.homes) h.after ∙ (slots_now o
+          ∙ ap (λ k. slots_after k o s.homes) same))
+          (record {
+            others = ap (λ (z : WordsSay). z.others) says;
+            cleared = ap total (field_same (λ (w : View B). w.cleared) s.views t.views id m'.0 now m.0 h.at
+                (ap (λ (w : View B). w.cleared) finds.view));
+          })
+          (ap (λ (z : WordsSay). z.count) says ∙ (next ∙ ap suc (sym found)))
+          (field_now (λ (w : View B). w.hand) s.views t.views id m'.0 now
+          (Some (new_hand (drawn_in key.cells x) u o))
+          (ap (λ (w : View B). w.hand) finds.view ∙ ap (λ k. Some (new_hand k u o)) found_next))
+          (ap (λ (z : WordsSay). z.own) says)

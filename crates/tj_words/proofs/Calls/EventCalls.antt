@@ -1,0 +1,241 @@
+-- The calls on OTHERS, a walker's loads, and the stores of Walking and Alarmed are the changes of the law of steps: a
+-- task of the seat does something else, and no word but OTHERS or its PHASE is changed; so makers and numbers of cells
+-- stay.
+use Rattle.std.proofs.Common.{◌≡◌, ℕ, suc, ◌-◌, ◌<◌, Bool, set, Option, Some, refl, sym, ap, ◌∙◌, subst, ⊎_elim}
+use Rattle.std.proofs.Common.{arith}
+use Rattle.atomic_table.specs.Table.{State}
+use Rattle.atomic_table.proofs.Lists.{at_map}
+use Rattle.tj_base.specs.Puts.{put}
+use Rattle.tj_body.specs.Programs.{Program}
+use Rattle.tj_core.specs.Events.{owner_read, MayReadOwner, start_walk}
+use Rattle.tj_core.specs.declared.walk.Way.{Way}
+use Rattle.tj_core.specs.declared.walk.Walker.{Walker}
+use Rattle.tj_words.specs.declared.record.Rec.{Rec}
+use Rattle.tj_words.specs.declared.table.Key.{Key}
+use Rattle.tj_words.specs.declared.view.Custody.{Custody}
+use Rattle.tj_words.specs.declared.view.Does.{Does}
+use Rattle.tj_words.specs.declared.view.Does.TheVariants as does
+use Rattle.tj_words.specs.declared.view.View.{View}
+use Rattle.tj_words.specs.declared.phase.Phase.TheVariants as phase
+use Rattle.tj_words.specs.declared.phase.Walk.TheVariants as walk
+use Rattle.tj_words.specs.LawParts.Contents.{Contents, SeatsHave, words_say, seats_have, contents_of, hand_of, made_of}
+use Rattle.tj_words.specs.LawParts.Holding.{held_in, phase_of}
+use Rattle.tj_words.specs.Law.{Rule}
+use Rattle.tj_words.specs.Words.Lists.{total, cell}
+use Rattle.tj_words.specs.Words.Offsets.{word, others_at, phase_at}
+use Rattle.tj_words.specs.Words.Phases.{phase_in}
+use Rattle.tj_words.specs.SeatViews.SeatSteps.{SeatMe}
+use Rattle.tj_words.specs.Steps.ShownParts.{parts_of}
+use Rattle.tj_words.specs.SeatViews.TaskLists.{hold}
+use Rattle.tj_words.specs.Calls.WalkViews.{IsWalking, MayRaise, lowered, owner_seen, read_on, turned, walk_with}
+use Rattle.tj_words.specs.Steps.WalkSteps.{Turns, ReadsOn, RaisesOthers, LowersOthers, PublishesWait, StoresAlarm}
+use Rattle.tj_words.specs.CallLaws.CallSteps.{Makes}
+use Rattle.tj_words.specs.CallLaws.EventCalls.{Keeping}
+use Rattle.tj_words.specs.LawParts.ShownState.{does_walk}
+use Rattle.tj_words.specs.Calls.WaitViews.{MayPublishWait, MayStoreAlarm, alarmed, now_alarmed, now_does, published}
+use Rattle.tj_words.proofs.Seating.Splitting.{total_set}
+use Rattle.tj_words.proofs.Waiters.OthersSteps.{say_others, acting_phase}
+use Rattle.tj_words.proofs.Stores.SeatContents.{seats_set, seats_same}
+use Rattle.tj_words.proofs.Stores.SeatLists.{words_same}
+use Rattle.tj_words.proofs.SeatLoads.WalkLoads.{held_by_view, turned_seats}
+use Rattle.tj_words.proofs.SeatLoads.WalkReads.{doing, task_turned, turned_to}
+use Rattle.tj_words.proofs.Holders.NotedTasks.{noted_is}
+use Rattle.tj_words.proofs.Stores.StoredWords.{say_phase}
+use Rattle.tj_words.proofs.Phases.WaitStores.{after_store, alarms, publishes}
+use Rattle.tj_words.proofs.Calls.KeptCells.{kept_turns, kept_words}
+
+module _ {B : Type 0} (program : Bool → B → Program B) (key : Key B) (s t : State (Option (Rec B)) (View B))
+    (r : Rule program key s) (id i n : ℕ) (m m' : SeatMe B) (h : Makes id i n m m' s t) where
+  abbrev x : Contents B
+  x = contents_of s
+
+  abbrev y : Contents B
+  y = contents_of t
+
+  -- the seat's task c did d and does d' from now on, and no word but OTHERS is changed
+  module _ (others : ℕ) (say : words_say (set s.words i n) ≡ record (words_say s.words) { others = others }) (c : ℕ)
+      (f : Does → Does) (view : m'.0 ≡ turned c f m.0) (k : Custody B) (held : held_in m.0.tasks c ≡ Some k)
+      (d d' : Does) (did : k.does ≡ d) (now : f d ≡ d') (same : phase_of d' ≡ phase_of d) where
+    does_now : f k.does ≡ d'
+    does_now = ap f did ∙ now
+
+    pub changed : y ≡ turned_to x id c k (held_by_view program key s id c m.0 h.at k held) d' others
+    changed = ap contents_of h.after ∙ (λ j. record { words = say j; slots = s.homes; seats = seats j })
+      where
+        seats : seats_have (set s.views id m'.0)
+            ≡ record (seats_have s.views) { tasks = set (seats_have s.views).tasks id (hold (doing d' k) m.0.tasks) }
+        seats = ap (λ v. seats_have (set s.views id v)) view ∙ (seats_set s.views id (turned c f m.0)
+            ∙ turned_seats program key s id c f m.0 h.at k held d' does_now)
+
+    pub call_turns : Turns key.cells x y id c d d'
+    call_turns = subst (λ z. Turns key.cells x z id c d d') (sym changed) (record {
+      before_it = k;
+      after_it = doing d' k;
+      held = held_by_view program key s id c m.0 h.at k held;
+      did = did;
+      now = refl;
+      turned = task_turned r.law id c k (held_by_view program key s id c m.0 h.at k held) d'
+          (same ∙ ap phase_of (sym did)) others;
+    })
+
+    pub call_others : y.words.others ≡ others
+    call_others = ap (λ (z : Contents B). z.words.others) changed
+
+    pub call_once : y.words.once ≡ x.words.once
+    call_once = ap (λ (z : Contents B). z.words.once) changed
+
+    pub call_cleared : total y.seats.cleared ≡ total x.seats.cleared
+    call_cleared = ap (λ (z : Contents B). total z.seats.cleared) changed
+
+module _ {B : Type 0} (program : Bool → B → Program B) (key : Key B) (s t : State (Option (Rec B)) (View B))
+    (r : Rule program key s) (id : ℕ) (m m' : SeatMe B) where
+  -- the add to OTHERS
+  pub call_raises : (c : ℕ) → Makes id others_at (suc (word s.words others_at)) m m' s t
+      → m'.0 ≡ turned c (λ _. does.Raised) m.0 → (may : MayRaise c m.0)
+      → Keeping key.cells (contents_of s) (contents_of t)
+      (RaisesOthers key.cells (contents_of s) (contents_of t) id c may.task.does)
+  call_raises c h view may = let n = suc (word s.words others_at) in let k = may.task in
+      let has = held_by_view program key s id c m.0 h.at k may.held in
+      let same = acting_phase k.does may.acts in
+      subst (λ z. Keeping key.cells (contents_of s) z (RaisesOthers key.cells (contents_of s) z id c k.does))
+      (sym (changed program key s t r id others_at n m m' h n (say_others s.words n h.inside) c (λ _. does.Raised) view
+      k may.held k.does does.Raised refl refl same))
+      (let turns : Turns key.cells (contents_of s) (turned_to (contents_of s) id c k has does.Raised n) id c k.does
+      does.Raised = record {
+        before_it = k;
+        after_it = doing does.Raised k;
+        held = has;
+        did = refl;
+        now = refl;
+        turned = task_turned r.law id c k has does.Raised same n;
+      } in (
+        record {
+          turns = record { turns = turns; result = may.result };
+          may = may.acts;
+          others = refl;
+          cleared = refl;
+        },
+        kept_turns r.law (turned_to (contents_of s) id c k has does.Raised n) id c k.does does.Raised turns refl,
+      ))
+
+  -- the subtraction from OTHERS
+  pub call_lowers : Makes id others_at (word s.words others_at - 1) m m' s t → m'.0 ≡ lowered m.0 → 0 < m.0.cleared
+      → Keeping key.cells (contents_of s) (contents_of t) (LowersOthers key.cells (contents_of s) (contents_of t))
+  call_lowers h view some_left = let old = seats_have s.views in let v = m.0 in
+      let u = total_set old.cleared id v.cleared (v.cleared - 1)
+      (at_map (λ (u : View B). u.cleared) s.views id v h.at) in (
+        record {
+          some = omega (arith, u, some_left);
+          same = ap (λ z. parts_of key.cells z) now ∙ (λ j. record (parts_of key.cells (contents_of s)) {
+            others = word s.words others_at - 1;
+            cleared = less j;
+          });
+        },
+        kept_words key.cells (contents_of s) (contents_of t) (λ c. ap (λ (z : Contents B). hand_of z c) now)
+            (λ c. ap (λ (z : Contents B). made_of z c) now) (ap (λ (z : Contents B). z.words.once) now),
+      )
+    where
+      less : total (set (seats_have s.views).cleared id (m.0.cleared - 1)) ≡ total (seats_have s.views).cleared - 1
+      less = let u = total_set (seats_have s.views).cleared id m.0.cleared (m.0.cleared - 1)
+          (at_map (λ (w : View B). w.cleared) s.views id m.0 h.at) in omega (arith, u, some_left)
+
+      seats : seats_have (set s.views id m'.0)
+          ≡ record (seats_have s.views) { cleared = set (seats_have s.views).cleared id (m.0.cleared - 1) }
+      seats = ap (λ v. seats_have (set s.views id v)) view ∙ (seats_set s.views id (lowered m.0)
+          ∙ ap (λ (z : SeatsHave B). record z { cleared = set (seats_have s.views).cleared id (m.0.cleared - 1) })
+          (seats_same s.views id m.0 h.at))
+
+      now : contents_of t ≡ record (contents_of s) {
+        words = record (words_say s.words) { others = word s.words others_at - 1 };
+        seats = record (seats_have s.views) { cleared = set (seats_have s.views).cleared id (m.0.cleared - 1) };
+      }
+      now = ap contents_of h.after ∙ (λ j. record {
+        words = say_others s.words (word s.words others_at - 1) h.inside j;
+        slots = s.homes;
+        seats = seats j;
+      })
+
+  -- a walker's load of word i, by which it reads g of what is found there
+  pub call_reads : (i c : ℕ) (g : Walker → Walker) (F : ℕ → Way → Walker → Type 0)
+      → Makes id i (word s.words i) m m' s t → m'.0 ≡ read_on c g m.0 → (w : IsWalking c F m.0)
+      → Keeping key.cells (contents_of s) (contents_of t)
+      (ReadsOn key.cells (contents_of s) (contents_of t) id c w.wait w.way w.walker (g w.walker))
+  call_reads i c g F h view w = let n = word s.words i in let o = word s.words others_at in
+      let say = ap words_say (words_same s.words i) in let d = does.Walking w.wait w.way w.walker in
+      let d' = does.Walking w.wait w.way (g w.walker) in
+      let turns = call_turns program key s t r id i n m m' h o say c (walk_with g) view w.task w.held d d' w.does refl
+      refl in (
+        record {
+          turns = turns;
+          keeps = record {
+            others = call_others program key s t r id i n m m' h o say c (walk_with g) view w.task w.held d d' w.does
+                refl refl;
+            cleared = call_cleared program key s t r id i n m m' h o say c (walk_with g) view w.task w.held d d' w.does
+                refl refl;
+          };
+        },
+        kept_turns r.law (contents_of t) id c d d' turns
+            (call_once program key s t r id i n m m' h o say c (walk_with g) view w.task w.held d d' w.does refl refl),
+      )
+
+-- what a walker reads of OWN
+pub first_seen : (o : Option ℕ) (w : Walker) → MayReadOwner w → owner_seen o w w.last ≡ owner_read o w
+first_seen o w may = ⊎_elim (λ e. ap (owner_seen o w) e) (λ e. ap (owner_seen o w) e.0) may
+
+-- a store of PHASE by which a task of the seat does something else
+module _ {B : Type 0} (program : Bool → B → Program B) (key : Key B) (s t : State (Option (Rec B)) (View B))
+    (r : Rule program key s) (id c p n : ℕ) (way : Way) (inside : c < key.cells) (m m' : SeatMe B)
+    (h : Makes id (phase_at c) n m m' s t) where
+  -- the contents are then those of its law
+  call_notes : (k : Custody B) (held : held_in m.0.tasks c ≡ Some k) (d : Does) (tokens : ℕ) → phase_in n ≡ phase_of d
+      → m'.0 ≡ record m.0 { steps = suc m.0.steps; tokens = tokens; tasks = hold (now_does d k) m.0.tasks }
+      → contents_of t ≡ after_store program key s r id c p n way inside m.0 h.at k held d tokens
+  call_notes k held d tokens is view = ap contents_of h.after
+      ∙ (λ j. record { words = words j; slots = s.homes; seats = seats j })
+    where
+      words : words_say (set s.words (phase_at c) n)
+          ≡ record (words_say s.words) { phase = put (words_say s.words).phase c (phase_of d) }
+      words = say_phase s.words n c h.inside
+          ∙ ap (λ q. record (words_say s.words) { phase = put (words_say s.words).phase c q }) is
+
+      seats : seats_have (set s.views id m'.0) ≡ record (seats_have s.views) {
+        tokens = set (seats_have s.views).tokens id tokens;
+        tasks = set (seats_have s.views).tasks id (hold (now_does d k) m.0.tasks);
+      }
+      seats = ap (λ v. seats_have (set s.views id v)) view
+          ∙ (seats_set s.views id (record m.0 {
+            steps = suc m.0.steps;
+            tokens = tokens;
+            tasks = hold (now_does d k) m.0.tasks;
+          }) ∙ ap (λ (z : SeatsHave B). record z {
+            tokens = set (seats_have s.views).tokens id tokens;
+            tasks = set (seats_have s.views).tasks id (hold (now_does d k) m.0.tasks);
+          }) (seats_same s.views id m.0 h.at))
+
+  pub call_publishes : phase_in n ≡ phase.Waiting (cell p) way walk.Walking → (may : MayPublishWait c p way m.0)
+      → m' ≡ (published c p way m.0, m.1)
+      → Keeping key.cells (contents_of s) (contents_of t)
+      (PublishesWait key.cells (contents_of s) (contents_of t) id c r.law.born may.custody.does p way)
+  call_publishes is may view = let k = may.custody in let d = does.Walking p way start_walk in
+      let now = after_store program key s r id c p n way inside m.0 h.at k may.held d m.0.tokens in
+      let change = publishes program key s r id c p n way inside m.0 h.at may in
+      subst (λ z. Keeping key.cells (contents_of s) z
+      (PublishesWait key.cells (contents_of s) z id c r.law.born k.does p way))
+      (sym (call_notes k may.held d m.0.tokens is (ap (λ (z : SeatMe B). z.0) view
+      ∙ ap (λ l. record m.0 { steps = suc m.0.steps; tasks = l }) (noted_is m.0.tasks c k (now_does d) may.held))))
+      (change, kept_turns r.law now id c k.does d change.turns.turns refl)
+
+  pub call_alarms : phase_in n ≡ phase.Waiting (cell p) way walk.Alarmed → (may : MayStoreAlarm c p way m.0)
+      → m' ≡ (alarmed c p way m.0, m.1)
+      → Keeping key.cells (contents_of s) (contents_of t)
+      (StoresAlarm key.cells (contents_of s) (contents_of t) id c p way may.walks.walker)
+  call_alarms is may view = let k = may.walks.custody in let d = does.Alarmed p way may.walks.walker in
+      let now = after_store program key s r id c p n way inside m.0 h.at k may.walks.held d (suc m.0.tokens) in
+      let change = alarms program key s r id c p n way inside m.0 h.at may in
+      subst (λ z. Keeping key.cells (contents_of s) z
+      (StoresAlarm key.cells (contents_of s) z id c p way may.walks.walker))
+      (sym (call_notes k may.walks.held d (suc m.0.tokens) is (ap (λ (z : SeatMe B). z.0) view
+      ∙ ap (λ l. record m.0 { steps = suc m.0.steps; tokens = suc m.0.tokens; tasks = l })
+      (noted_is m.0.tasks c k (now_alarmed p way) may.walks.held
+      ∙ ap (λ z. hold (record k { does = does.Alarmed p way (does_walk z) }) m.0.tasks) may.walks.walks))))
+      (change, kept_turns r.law now id c (does.Walking p way may.walks.walker) d change.turns refl)

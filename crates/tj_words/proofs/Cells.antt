@@ -1,0 +1,16 @@
+-- A cell is drawn, in hand, given to its first owner, handed on and closed.
+pub mod SeatHands
+pub mod CellFacts
+pub mod CellNames
+pub mod MadeThings
+pub mod DrawnSeats
+pub mod DrawnTasks
+pub mod TreeDraws
+pub mod DrawnCells
+pub mod DrawSteps
+pub mod HandChanges
+pub mod GivenCells
+pub mod OwnedChanges
+pub mod ClosedCells
+pub mod HandedPromises
+pub mod OwnerStores

@@ -1,0 +1,136 @@
+-- What the core state shows of a cell that is there: its name, its sort and what it waits for.
+use Rattle.std.proofs.Common.{◌≡◌, ◌≢◌, ℕ, ◌<◌, Bool, true, false, ◌&&◌, cond, nat_eq, Option, Some, None, refl, sym, ap, ◌∙◌, subst}
+use Rattle.tj_base.specs.ForkOrder.{before}
+use Rattle.tj_base.specs.declared.cell.CellId.{CellId}
+use Rattle.tj_body.specs.Programs.{Program}
+use Rattle.tj_body.specs.declared.ask.Answer.{Answer}
+use Rattle.tj_body.specs.declared.ask.Answer.TheVariants as answer
+use Rattle.tj_core.specs.declared.walk.Way.{Way}
+use Rattle.tj_core.specs.CoreState.{CellStage, CellState, CoreState, name, stage, wait, wait_of, is_task, running, fresh}
+use Rattle.tj_core.specs.Events.{way_if, way_of_wait}
+use Rattle.tj_words.specs.declared.phase.Walk.{Walk}
+use Rattle.tj_words.specs.declared.phase.Walk.TheVariants as walk
+use Rattle.tj_words.specs.declared.phase.Phase.{Phase}
+use Rattle.tj_words.specs.declared.phase.Phase.TheVariants as phase
+use Rattle.tj_words.specs.declared.record.Rec.{Rec}
+use Rattle.tj_words.specs.declared.view.Hand.{Hand}
+use Rattle.tj_words.specs.declared.view.Does.{Does}
+use Rattle.tj_words.specs.declared.view.Does.TheVariants as does
+use Rattle.tj_words.specs.declared.view.Custody.{Custody}
+use Rattle.tj_words.specs.LawParts.Hands.{IsThere}
+use Rattle.tj_words.specs.LawParts.TreeWords.{IsCell}
+use Rattle.tj_words.specs.LawParts.ShownState.{phase_sort, sort_shown, new_stage, answer_stage, does_stage, stage_there}
+use Rattle.tj_words.specs.LawParts.ShownState.{reference_of}
+use Rattle.tj_words.specs.LawParts.Contents.{Contents, hand_of, drawn_in, held_of, home_of, core_shown}
+use Rattle.tj_words.specs.Law.{Law}
+use Rattle.tj_words.specs.Steps.ShownParts.{parts_of}
+use Rattle.tj_words.specs.Steps.StepEvents.{wait_in}
+use Rattle.tj_words.specs.Steps.WalkSteps.{way_by, is_task_sort}
+use Rattle.tj_words.proofs.Holders.HeldTasks.{at_index}
+use Rattle.tj_words.proofs.Events.ShownCells.{stage_out, cell_there}
+
+-- a stage that is no wait, and is a task's
+record IsCalm (st : CellStage) : Type 0 where
+  pub task : is_task st ≡ true
+  pub free : wait_of st ≡ None
+
+is_running : IsCalm running
+is_running = record { task = refl; free = refl }
+
+new_calm : (t : ℕ) → IsCalm (new_stage t)
+new_calm t = by (nat_eq t 0)
+  where
+    by : (b : Bool) → IsCalm (cond b running fresh)
+    by true = record { task = refl; free = refl }
+    by false = record { task = refl; free = refl }
+
+answer_calm : (t : ℕ) (a : Answer) → IsCalm (answer_stage t a)
+answer_calm t answer.Start = new_calm t
+answer_calm t (answer.Local k) = is_running
+answer_calm t answer.Done = is_running
+answer_calm t (answer.Num i) = is_running
+answer_calm t (answer.RefAt k) = is_running
+answer_calm t answer.Lost = is_running
+
+does_calm : (t : ℕ) (d : Does) → IsCalm (does_stage t d)
+does_calm t does.Unborn = is_running
+does_calm t does.Fresh = new_calm t
+does_calm t does.Running = is_running
+does_calm t does.Raised = record { task = refl; free = refl }
+does_calm t (does.Walking c way w) = is_running
+does_calm t (does.Alarmed c way w) = is_running
+
+module _ {B : Type 0} where
+  -- a cell shows that it is a task, or a promise, as its phase says
+  task_there : (t : ℕ) (o : Option ℕ) (p : Phase) (held : Option (Custody B)) (home : Option (Rec B))
+      → is_task (stage_there t (phase_sort p) o p held home) ≡ is_task_sort (phase_sort p)
+  task_there t None phase.Unborn held home = refl
+  task_there t None phase.Ready held home = refl
+  task_there t None phase.Running held home = refl
+  task_there t None phase.Ended held home = refl
+  task_there t None phase.Promise held home = refl
+  task_there t None (phase.Waiting c way w) held home = refl
+  task_there t (Some u) phase.Unborn held home = (new_calm t).task
+  task_there t (Some u) phase.Ready held None = refl
+  task_there t (Some u) phase.Ready held (Some r) = (answer_calm t r.answer).task
+  task_there t (Some u) phase.Running None home = refl
+  task_there t (Some u) phase.Running (Some k) home = (does_calm t k.does).task
+  task_there t (Some u) phase.Ended held home = refl
+  task_there t (Some u) phase.Promise held home = refl
+  task_there t (Some u) (phase.Waiting c way walk.Walking) held home = refl
+  task_there t (Some u) (phase.Waiting c way walk.Parked) held home = refl
+  task_there t (Some u) (phase.Waiting c way walk.Alarmed) held home = refl
+
+  -- and what it waits for
+  wait_there : (t : ℕ) (o : Option ℕ) (p : Phase) (held : Option (Custody B)) (home : Option (Rec B))
+      → ((c : CellId) (way : Way) (w : Walk) → p ≡ phase.Waiting c way w → o ≢ None)
+      → wait_of (stage_there t (phase_sort p) o p held home) ≡ wait_in p
+  wait_there t None phase.Unborn held home h = refl
+  wait_there t None phase.Ready held home h = refl
+  wait_there t None phase.Running held home h = refl
+  wait_there t None phase.Ended held home h = refl
+  wait_there t None phase.Promise held home h = refl
+  wait_there t None (phase.Waiting c way w) held home h = absurd (h c way w refl refl)
+  wait_there t (Some u) phase.Unborn held home h = (new_calm t).free
+  wait_there t (Some u) phase.Ready held None h = refl
+  wait_there t (Some u) phase.Ready held (Some r) h = (answer_calm t r.answer).free
+  wait_there t (Some u) phase.Running None home h = refl
+  wait_there t (Some u) phase.Running (Some k) home h = (does_calm t k.does).free
+  wait_there t (Some u) phase.Ended held home h = refl
+  wait_there t (Some u) phase.Promise held home h = refl
+  wait_there t (Some u) (phase.Waiting c way walk.Walking) held home h = refl
+  wait_there t (Some u) (phase.Waiting c way walk.Parked) held home h = refl
+  wait_there t (Some u) (phase.Waiting c way walk.Alarmed) held home h = refl
+
+  module _ {program : Program B} {cells : ℕ} {x : Contents B} (r : Law program cells x) where
+    abbrev n : ℕ
+    n = drawn_in cells x
+
+    abbrev K : CoreState
+    K = core_shown cells r.born r.maker x
+
+    -- a cell that is drawn is one of those that are born
+    pub cell_born : (c : ℕ) → c < n → IsCell r.born c (reference_of r.born c)
+    cell_born c l = at_index r.born c _ (subst (λ k. c < k) (sym r.births.all) l)
+
+    pub name_shown : (c : ℕ) → c < n → name K.cells c ≡ (reference_of r.born c).name
+    name_shown c l = ap (λ (z : CellState). z.name) (cell_there r.born r.maker (parts_of cells x) c l)
+
+    module _ (c : ℕ) (there : IsThere n (hand_of x) c) where
+      pub sort_is : (reference_of r.born c).sort ≡ phase_sort (x.words.phase c)
+      sort_is = r.births.sorts c (reference_of r.born c) (cell_born c there.0)
+          ∙ ap (λ (o : Option Hand). sort_shown o (x.words.phase c)) there.1
+
+      pub task_shown : is_task (stage K.cells c) ≡ is_task_sort (reference_of r.born c).sort
+      task_shown = ap is_task (stage_out r.born r.maker (parts_of cells x) c there.0 there.1)
+          ∙ (task_there c (x.words.own c) (x.words.phase c) (held_of x c) (home_of x c)
+          ∙ ap is_task_sort (sym sort_is))
+
+      -- the way of a wait for it
+      pub way_shown : (t : ℕ) → t < n → way_of_wait K t c ≡ way_by r.born t c
+      way_shown t l = λ j.
+          way_if (task_shown j && before (name_shown t l j) (name_shown c there.0 j))
+
+      pub wait_shown : wait K.cells c ≡ wait_in (x.words.phase c)
+      wait_shown = ap wait_of (stage_out r.born r.maker (parts_of cells x) c there.0 there.1)
+          ∙ wait_there c (x.words.own c) (x.words.phase c) (held_of x c) (home_of x c) (r.waiters_own c)

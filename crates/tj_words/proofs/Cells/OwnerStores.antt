@@ -1,0 +1,269 @@
+-- The stores of OWN keep the rule.
+use Rattle.std.proofs.Common.{◌≡◌, ◌≢◌, ℕ, zero, suc, ◌<◌, Bool, List, length, set, Option, Some, None, refl, sym}
+use Rattle.std.proofs.Common.{ap, ◌∙◌, subst, inl, inr, arith}
+use mathlib.Core.Option.{some, none}
+use lib.ListN.{get_elem?}
+use lib.Seq.{set-set}
+use Rattle.atomic_table.specs.Table.{State, step, Allows}
+use Rattle.atomic_table.proofs.Lists.{at_map}
+use Rattle.tj_base.specs.Puts.{put}
+use Rattle.tj_base.specs.declared.cell.Sort.{Sort}
+use Rattle.tj_base.specs.declared.cell.Sort.TheVariants as sort
+use Rattle.tj_body.specs.Programs.{Program}
+use Rattle.tj_core.specs.Laws.{EventKeepsFacts}
+use Rattle.tj_words.specs.declared.record.Rec.{Rec}
+use Rattle.tj_words.specs.declared.table.Key.{Key}
+use Rattle.tj_words.specs.declared.view.Does.{Does}
+use Rattle.tj_words.specs.declared.view.Does.TheVariants as does
+use Rattle.tj_words.specs.declared.view.Custody.{Custody}
+use Rattle.tj_words.specs.declared.view.Due.{Due}
+use Rattle.tj_words.specs.declared.view.View.{View}
+use Rattle.tj_words.specs.Words.Offsets.{own_at}
+use Rattle.tj_words.specs.Words.Owners.{owner_in}
+use Rattle.tj_words.specs.LawParts.Holding.{held_in}
+use Rattle.tj_words.specs.LawParts.ShownState.{first_owner}
+use Rattle.tj_words.specs.LawParts.LiveCount.{HasAlarmed, Backing}
+use Rattle.tj_words.specs.LawParts.Contents.{SeatsHave, words_say, seats_have, contents_of, drawn_in, hand_of}
+use Rattle.tj_words.specs.Law.{Law, Rule, IsSeat}
+use Rattle.tj_words.specs.SeatViews.SeatSteps.{SeatMe}
+use Rattle.tj_words.specs.Steps.StepEvents.{MayAct}
+use Rattle.tj_words.specs.SeatViews.TaskLists.{hold, noted}
+use Rattle.tj_words.specs.Calls.DrawViews.{MayGive, gave_owner, owns_also}
+use Rattle.tj_words.specs.Calls.OwnerViews.{IsOwnersSeat, MayClose, MayHand, MayPutOwner, PutsOwner, gave_up}
+use Rattle.tj_words.specs.Calls.OwnerViews.{closed_cell}
+use Rattle.tj_words.specs.Calls.OwnerViews.{handed_promise, owner_put}
+use Rattle.tj_words.proofs.Holders.HeldTasks.{none_some, one_some, hand_finds}
+use Rattle.tj_words.proofs.Stores.SeatContents.{set_seats, seats_same}
+use Rattle.tj_words.proofs.Holders.TaskPlaces.{list_owned}
+use Rattle.tj_words.proofs.Holders.HeldChanges.{held_task}
+use Rattle.tj_words.proofs.Holders.NotedTasks.{noted_is, holder_lot}
+use Rattle.tj_words.proofs.Holders.NotedEntries.{noted_here, noted_else}
+use Rattle.tj_words.proofs.Waiters.LiveSteps.{backing_running, alarms_else}
+use Rattle.tj_words.proofs.Waiters.Backings.{backing_runs}
+use Rattle.tj_words.proofs.Stores.StoreSteps.{Stores, step_allowed}
+use Rattle.tj_words.proofs.Stores.StoredWords.{say_own, may_own}
+use Rattle.tj_words.proofs.Stores.WordStores.{hand_here}
+use Rattle.tj_words.proofs.Cells.GivenCells.{give_stores}
+use Rattle.tj_words.proofs.Cells.ClosedCells.{law_closed}
+use Rattle.tj_words.proofs.Cells.HandedPromises.{law_handed}
+
+module _ {B : Type 0} where
+  -- a task that acts isn't unborn
+  pub unborn_other : (v : View B) (c u : ℕ) (m : MayHand c u v) → u ≢ m.task
+  unborn_other v c u m e = by m.owner.custody.does (ap (λ (z : Custody B). z.does)
+      (one_some m.owner.custody m.child (sym m.owner.held ∙ (ap (held_in v.tasks) (sym e) ∙ m.child_held))) ∙ m.unborn)
+      m.owner.may
+    where
+      by : (d : Does) → d ≡ does.Unborn → MayAct d → ⊥
+      by d q a = subst MayAct q a
+
+  -- the view between: the owner has given the cell up
+  abbrev pub gave_view : ℕ → ℕ → View B → View B
+  gave_view t c v = record v { tasks = noted t (gave_up c) v.tasks }
+
+  pub gave_child : (v : View B) (c u : ℕ) (m : MayHand c u v) → held_in (gave_view m.task c v).tasks u ≡ Some m.child
+  gave_child v c u m =
+      noted_else v.tasks m.task m.owner.custody (gave_up c) m.owner.held refl u (unborn_other v c u m) ∙ m.child_held
+
+module _ {B : Type 0} (program : Bool → B → Program B) (key : Key B) (events : EventKeepsFacts) where
+  abbrev P : Program B
+  P = program key.strict key.root.value
+
+  -- the seat of a cell's owner, with other tasks and dues
+  owner_seat : (v : View B) (t c steps : ℕ) (ks : List (Custody B)) (ds : List Due) → IsOwnersSeat t c v → IsSeat key v
+      → Backing (record v { steps = steps; tasks = ks; dues = ds })
+      → IsSeat key (record v { steps = steps; tasks = ks; dues = ds })
+  owner_seat v t c steps ks ds m q b = let l = q.within_lot in record {
+    about = q.about;
+    within_lot = record {
+      least = inr (holder_lot v t m.custody m.held l);
+      refused_fit = l.refused_fit;
+      tokens_fit = l.tokens_fit;
+      cleared_fit = l.cleared_fit;
+    };
+    backing = b;
+    known_born = q.known_born;
+  }
+
+  -- a seat one of whose tasks gives a cell up is backed, whatever is due then
+  gave_backing : (v : View B) (t c steps : ℕ) (ds : List Due) (m : IsOwnersSeat t c v) → Backing v
+      → Backing (record v { steps = steps; tasks = noted t (gave_up c) v.tasks; dues = ds })
+  gave_backing v t c steps ds m b =
+      backing_runs v (record v { steps = steps; tasks = noted t (gave_up c) v.tasks; dues = ds }) t refl
+      (noted_else v.tasks t m.custody (gave_up c) m.held refl) (gave_up c m.custody)
+      (noted_here v.tasks t m.custody (gave_up c) m.held refl) tt (λ a. a) b
+
+  -- the store of nobody
+  close_stores : (s : State (Option (Rec B)) (View B)) (r : Rule program key s) (id c : ℕ) (v : View B)
+      → get_elem? s.views id ≡ some v
+      → c < key.cells
+      → (m : MayClose c v)
+      → Stores program key s id (own_at c) 0 (closed_cell m.task c v)
+  close_stores s r id c v at l m = let y = seats_have s.views in let w = closed_cell m.task c v in
+      let o = m.owner in let k = o.custody in
+      let inside : own_at c < length s.words = (let e = r.all_words in omega arith) in
+      let tasks = at_map (λ (u : View B). u.tasks) s.views id v at in
+      let dues = at_map (λ (u : View B). u.dues) s.views id v at in
+      record {
+        inside = inside;
+        may = may_own key.cells c 0 (omega arith);
+        seat = owner_seat v m.task c w.steps w.tasks w.dues o (r.seats id v at)
+            (gave_backing v m.task c w.steps w.dues o (r.seats id v at).backing);
+        law = subst (λ z. Law P key.cells (record { words = z; slots = s.homes; seats = set_seats y id w }))
+            (sym (say_own s.words 0 c inside))
+            (subst (λ z. Law P key.cells (record {
+              words = record (words_say s.words) { own = put (words_say s.words).own c None };
+              slots = s.homes;
+              seats = z;
+            }))
+            (sym (ap (λ (z : SeatsHave B). record z {
+              tasks = set y.tasks id w.tasks;
+              dues = set y.dues id w.dues;
+            }) (seats_same s.views id v at)))
+            (subst (λ z. Law P key.cells (record {
+              words = record (words_say s.words) { own = put (words_say s.words).own c None };
+              slots = s.homes;
+              seats = record y { tasks = set y.tasks id z; dues = set y.dues id w.dues };
+            }))
+            (sym (noted_is v.tasks m.task k (gave_up c) o.held))
+            (law_closed r.law events id m.task c k (v.tasks, tasks, o.held) (held_task v.tasks m.task k o.held)
+            o.may o.out o.result o.owns
+            (λ e. ((m.last e).0, at_map (λ (u : View B). u.hand) s.views id v at ∙ ap some (m.last e).1))
+            v.dues dues)));
+      }
+
+  -- the seat that hands a promise is backed
+  handed_backing : (v : View B) (c u : ℕ) (m : MayHand c u v) → Backing v → Backing (handed_promise m.task c u v)
+  handed_backing v c u m b = let k = m.owner.custody in let w = handed_promise m.task c u v in
+      let v1 = gave_view m.task c v in let held = gave_child v c u m in
+      let else = noted_else v1.tasks u m.child (owns_also c) held refl in
+      let here = noted_here v1.tasks u m.child (owns_also c) held refl in
+      backing_running w (
+        m.task,
+        gave_up c k,
+        else m.task (λ e. unborn_other v c u m (sym e))
+            ∙ noted_here v.tasks m.task k (gave_up c) m.owner.held refl,
+        tt,
+      )
+      (alarms_else v1 w u refl else
+      (λ z e a. subst HasAlarmed
+      (ap (λ (i : Custody B). i.does) (sym (one_some (owns_also c m.child) z (sym here ∙ e))) ∙ m.unborn) a)
+      (gave_backing v m.task c v.steps v.dues m.owner b))
+
+  -- the store of a child
+  hand_stores : (s : State (Option (Rec B)) (View B)) (r : Rule program key s) (id c u : ℕ) (v : View B)
+      → get_elem? s.views id ≡ some v
+      → c < key.cells
+      → (m : MayHand c u v)
+      → Stores program key s id (own_at c) (suc u) (handed_promise m.task c u v)
+  hand_stores s r id c u v at l m = let y = seats_have s.views in let w = handed_promise m.task c u v in
+      let o = m.owner in let k = o.custody in let its = held_task v.tasks m.task k o.held in
+      let child_its = held_task v.tasks u m.child m.child_held in
+      let inside : own_at c < length s.words = (let e = r.all_words in omega arith) in
+      let tasks = at_map (λ (z : View B). z.tasks) s.views id v at in
+      let dues = at_map (λ (z : View B). z.dues) s.views id v at in
+      let u_there = (list_owned r.law id u m.child (v.tasks, tasks, m.child_held) u m.child_result).0.0 in
+      let seen = at_map (λ (z : View B). z.seen) s.views id v at in
+      let parent = (r.law.once_words.stands id v.seen seen _ m.is_child).value in
+      let list : hold (owns_also c m.child) (hold (gave_up c k) v.tasks) ≡ w.tasks =
+      ap (hold (owns_also c m.child)) (sym (noted_is v.tasks m.task k (gave_up c) o.held))
+      ∙ sym (noted_is (gave_view m.task c v).tasks u m.child (owns_also c) (gave_child v c u m)) in
+      record {
+        inside = inside;
+        may = may_own key.cells c (suc u) (omega arith);
+        seat = owner_seat v m.task c w.steps w.tasks w.dues o (r.seats id v at)
+            (handed_backing v c u m (r.seats id v at).backing);
+        law = subst (λ z. Law P key.cells (record { words = z; slots = s.homes; seats = set_seats y id w }))
+            (sym (say_own s.words (suc u) c inside))
+            (subst (λ z. Law P key.cells (record {
+              words = record (words_say s.words) { own = put (words_say s.words).own c (Some u) };
+              slots = s.homes;
+              seats = z;
+            }))
+            (sym (ap (λ (z : SeatsHave B). record z { tasks = set y.tasks id w.tasks }) (seats_same s.views id v at)))
+            (subst (λ z. Law P key.cells (record {
+              words = record (words_say s.words) { own = put (words_say s.words).own c (Some u) };
+              slots = s.homes;
+              seats = record y { tasks = z };
+            }))
+            (set-set y.tasks id (hold (gave_up c k) v.tasks) (hold (owns_also c m.child) (hold (gave_up c k) v.tasks))
+            ∙ ap (set y.tasks id) list)
+            (law_handed r.law events id m.task c u k (v.tasks, tasks, o.held) its o.may o.out o.result o.owns m.promise
+            v.dues dues m.child m.child_held child_its m.unborn m.child_out m.child_result parent)));
+      }
+
+  -- a cell has one owner among the tasks of a seat
+  one_owner : (s : State (Option (Rec B)) (View B)) (r : Rule program key s) (id c t u : ℕ) (v : View B)
+      → get_elem? s.views id ≡ some v
+      → IsOwnersSeat t c v → IsOwnersSeat u c v → t ≡ u
+  one_owner s r id c t u v at a b =
+      let tasks = at_map (λ (z : View B). z.tasks) s.views id v at in
+      one_some t u (sym (list_owned r.law id t a.custody (v.tasks, tasks, a.held) c a.owns).1
+      ∙ (list_owned r.law id u b.custody (v.tasks, tasks, b.held) c b.owns).1)
+
+  -- a cell in hand isn't in a list of those that a task owns
+  not_given : (s : State (Option (Rec B)) (View B)) (r : Rule program key s) (id c t u : ℕ) (v : View B)
+      → get_elem? s.views id ≡ some v
+      → IsOwnersSeat t c v → MayGive c u v → ⊥
+  not_given s r id c t u v at a g =
+      let tasks = at_map (λ (z : View B). z.tasks) s.views id v at in
+      let hands = at_map (λ (z : View B). z.hand) s.views id v at ∙ ap some g.has in
+      let f = hand_finds (seats_have s.views).hands id g.hand hands in
+      none_some (hand_of (contents_of s) c) f.0 (list_owned r.law id t a.custody (v.tasks, tasks, a.held) c a.owns).0.1
+      (ap (hand_of (contents_of s)) (sym g.its_cell) ∙ f.1)
+
+  -- the first owner of a cell is one of those that there are
+  owner_small : (s : State (Option (Rec B)) (View B)) (r : Rule program key s) (id c o : ℕ) (v : View B)
+      → get_elem? s.views id ≡ some v
+      → c < key.cells
+      → MayGive c o v
+      → o < key.cells
+  owner_small s r id c o v at l g = subst (λ k. k < key.cells) (sym g.owner) (by g.hand.sort)
+    where
+      has : get_elem? (seats_have s.views).hands id ≡ some (Some g.hand)
+      has = at_map (λ (z : View B). z.hand) s.views id v at ∙ ap some g.has
+
+      maker_is : r.law.maker g.hand.cell ≡ g.hand.maker
+      maker_is = (r.law.births.in_hand g.hand.cell g.hand (hand_here r.law id g.hand has)).0
+
+      maker_there : r.law.maker g.hand.cell < drawn_in key.cells (contents_of s)
+      maker_there = (r.law.births.makers_there g.hand.cell (r.law.hands.each id g.hand has).drawn_cell).0
+
+      by : (k : Sort) → first_owner k g.hand.maker c < key.cells
+      by sort.Task = l
+      by sort.Promise = omega (arith, maker_is, maker_there)
+
+  -- the step of a store of any owner
+  owner_stores : (s : State (Option (Rec B)) (View B)) (r : Rule program key s) (id c o : ℕ) (v : View B)
+      → get_elem? s.views id ≡ some v
+      → c < key.cells
+      → MayPutOwner c (owner_in o) v
+      → (w : View B) × Stores program key s id (own_at c) o w × PutsOwner c (owner_in o) v w
+  owner_stores s r id c zero v at l m = (
+    closed_cell m.task c v,
+    close_stores s r id c v at l m,
+    (λ k j. closed_cell (one_owner s r id c m.task k.task v at m.owner k.owner j) c v),
+  )
+  owner_stores s r id c (suc u) v at l (inl g) = (
+    gave_owner c u v,
+    give_stores program key s r id c u v at l (owner_small s r id c u v at l g) g,
+    ((λ k. refl), (λ k. absurd (not_given s r id c k.task u v at k.owner g))),
+  )
+  owner_stores s r id c (suc u) v at l (inr m) = (
+    handed_promise m.task c u v,
+    hand_stores s r id c u v at l m,
+    (
+      (λ g. absurd (not_given s r id c m.task u v at m.owner g)),
+      (λ k j. handed_promise (one_owner s r id c m.task k.task v at m.owner k.owner j) c u v),
+    ),
+  )
+
+  pub owner_allowed : (slots id : ℕ) (me : SeatMe B) (c i o cell : ℕ) → c < key.cells → i ≡ own_at c → cell ≡ c
+      → MayPutOwner c (owner_in o) me.0
+      → Allows (Rule program key) slots id me i (λ k. o) (λ k. owner_put cell (step slots i o 0 none) me o)
+  owner_allowed slots id me c i o cell l at e m = step_allowed program key slots id me i (λ k. o)
+      (λ k. owner_put cell (step slots i o 0 none) me o) (λ s r k. let t = owner_stores s r id c o me.0 k l m in (
+        t.0,
+        subst (λ j. Stores program key s id j o t.0) (sym at) t.1,
+        (refl, subst (λ d. PutsOwner d (owner_in o) me.0 t.0) (sym e) t.2),
+      ))

@@ -1,0 +1,270 @@
+-- A draw is a Make or a Fork; the first store of OWN shows nothing.
+use Rattle.std.proofs.Common.{◌≡◌, ◌≢◌, ℕ, zero, suc, ◌+◌, ◌<◌, ◌≤◌, List, [], ◌∷◌, ◌++◌, length, get_or, Option, Some, None, refl, sym, ap, ◌∙◌, subst, arith}
+use mathlib.Core.Option.{some, some-injective}
+use lib.ListN.{get_elem?}
+use Rattle.tj_base.specs.declared.cell.Sort.{Sort}
+use Rattle.tj_base.specs.declared.cell.Sort.TheVariants as sort
+use Rattle.tj_body.specs.History.{to_task}
+use Rattle.tj_body.specs.Programs.{Program}
+use Rattle.tj_body.specs.declared.point.Reference.{Reference}
+use Rattle.tj_core.specs.CoreState.{CellState, CoreState, name, maker}
+use Rattle.tj_base.specs.Puts.{put}
+use Rattle.tj_base.specs.ForkOrder.{child}
+use Rattle.tj_core.specs.Events.{Allowed, after, with_new}
+use Rattle.tj_core.proofs.OneCell.Makers.{thing_made}
+use Rattle.tj_words.specs.declared.phase.Phase.TheVariants as phase
+use Rattle.tj_words.specs.declared.record.Rec.{Rec}
+use Rattle.tj_words.specs.declared.view.Hand.{Hand}
+use Rattle.tj_words.specs.declared.view.Custody.{Custody}
+use Rattle.tj_words.specs.LawParts.Holding.{Slots, made_by, record_in, home_in, IsEmpty}
+use Rattle.tj_words.specs.LawParts.Hands.{hand_in, hand_phase, making, IsThere, IsMarkedRight}
+use Rattle.tj_words.specs.LawParts.TreeWords.{IsCell}
+use Rattle.tj_words.specs.Inner.TreeDraws.{IsDrawnInto, MayDraw}
+use Rattle.tj_words.specs.LawParts.ShownState.{phase_sort, first_owner, hand_stage, reference_of, stage_there}
+use Rattle.tj_words.specs.LawParts.ShownState.{stage_shown}
+use Rattle.tj_words.specs.LawParts.Contents.{Contents, hand_of, drawn_in, held_of, home_of, made_of, core_shown}
+use Rattle.tj_words.specs.Law.{Law}
+use Rattle.tj_words.specs.Steps.ShownParts.{parts_of}
+use Rattle.tj_words.specs.Steps.StepEvents.{ShowsEvent, ShowsNothing}
+use Rattle.tj_words.specs.Steps.OwnerSteps.{next_reference, draw_event, DrawsCell, GivesOwner}
+use Rattle.tj_words.proofs.Holders.HeldTasks.{none_some, one_some, hand_found, hand_finds, makes_none, makes_one}
+use Rattle.tj_words.proofs.Events.ShownCells.{states_same, cell_there}
+use Rattle.tj_words.proofs.Events.ShownDraws.{one_drawn}
+use Rattle.tj_words.proofs.Cells.CellFacts.{cell_born, name_shown, sort_is}
+use Rattle.tj_words.proofs.Cells.TreeDraws.{place_inside}
+use Rattle.tj_words.proofs.Events.ShownOwners.{owner_given}
+use Rattle.tj_words.proofs.Holders.TaskPlaces.{custody, held_here}
+use Rattle.tj_words.proofs.Events.QuietMoves.{kept_stage}
+use Rattle.tj_words.proofs.Events.OwnerEvents.{new_fresh, acts_there, acts_phase, acts_made, acts_stage, acts_run}
+use Rattle.tj_words.proofs.Events.OwnerEvents.{hand_seat}
+
+-- the last element of a list, and each before it
+pub last_or : {A : Type 0} (l : List A) (a d : A) → get_or (l ++ a ∷ []) (length l) d ≡ a
+last_or [] a d = refl
+last_or (x ∷ l) a d = last_or l a d
+
+pub before_or : {A : Type 0} (l : List A) (a d : A) (i : ℕ) → i < length l → get_or (l ++ a ∷ []) i d ≡ get_or l i d
+before_or [] a d i h = absurd (omega arith)
+before_or (x ∷ l) a d zero h = refl
+before_or (x ∷ l) a d (suc i) h = before_or l a d i (omega arith)
+
+-- the event of a draw adds the cell that is drawn
+drawn_after : (s : CoreState) (t : ℕ) (o : Sort)
+    → after s (draw_event o t) ≡ with_new s t (first_owner o t s.count) (hand_stage o)
+drawn_after s t sort.Promise = refl
+drawn_after s t sort.Task = refl
+
+-- nothing lies in an empty slot
+pub empty_none : {B : Type 0} (slots : Slots B) (c : ℕ) → IsEmpty slots c → home_in slots c ≡ None
+empty_none slots c e = ap record_in e
+
+module _ {B : Type 0} {program : Program B} {cells : ℕ} {x : Contents B} (r : Law program cells x) (y : Contents B)
+    (id t : ℕ) where
+  abbrev n : ℕ
+  n = drawn_in cells x
+
+  abbrev K : CoreState
+  K = core_shown cells r.born r.maker x
+
+  -- a draw, as the seat with nothing in hand makes it
+  module _ (h : Hand) (s : DrawsCell cells x y id t h) where
+    room : n < cells
+    room = let l = s.left in omega arith
+
+    pub t_there : IsThere n (hand_of x) t
+    t_there = acts_there r y id t s.acts
+
+    calm : (j : ℕ) (g : Hand) → get_elem? x.seats.hands j ≡ some (Some g) → g.maker ≢ t
+    calm j g e q =
+        let k : j ≡ id = one_some j id (sym (hand_seat r y id t j g e)
+        ∙ (ap r.custody.holder q ∙ (custody r id t s.acts.before_it s.acts.held).mine)) in
+        let z : None ≡ Some g = some-injective None (Some g)
+        (sym s.no_hand ∙ (ap (λ (i : ℕ). get_elem? x.seats.hands i) (sym k) ∙ e)) in absurd (cc)
+
+    undrawn : (j : ℕ) (g : Hand) → get_elem? x.seats.hands j ≡ some (Some g) → g.maker ≢ n
+    undrawn j g e q = none_some (r.custody.holder n) j (r.custody.undrawn_free n (omega arith))
+        (ap r.custody.holder (sym q) ∙ hand_seat r y id t j g e)
+
+    pub made_t : made_of y t ≡ suc (made_of x t)
+    made_t =
+        let a : made_by (held_of y t) (home_of y t) ≡ made_by (held_of x t) (home_of x t) =
+        (λ j. made_by (held_of y t) (s.same.home j t)) ∙ acts_made r y id t s.acts in
+        let b = s.making in
+        let c = makes_none x.seats.hands t calm in omega arith
+
+    not_t : n ≢ t
+    not_t e = let l = t_there.0 in omega arith
+
+    no_record : home_of y n ≡ None
+    no_record = ap (λ (g : ℕ → Option (Rec B)). g n) s.same.home
+        ∙ empty_none x.slots n (r.custody.undrawn_empty n (omega arith) room)
+
+    made_new : made_of y n ≡ 0
+    made_new =
+        let a : made_by (held_of y n) (home_of y n) ≡ 0 =
+        (λ j. made_by (held_of y n) (no_record j)) ∙ made_none (held_of y n) refl in
+        let b : making y.seats.hands n ≡ 0 =
+        s.same.makings n not_t ∙ makes_none x.seats.hands n undrawn in omega arith
+      where
+        made_none : (o : Option (Custody B)) → held_of y n ≡ o → made_by o None ≡ 0
+        made_none None e = refl
+        made_none (Some k) e = s.new_held k e
+
+    -- what the draw makes of the things made and of the hands
+    pub drawn_into : IsDrawnInto n r.born r.maker r.number (made_of x) (hand_of x) h (made_of y) (hand_of y)
+    drawn_into = record {
+      here = s.same.hand;
+      else = s.same.hands;
+      made_one = ap (made_of y) s.hand_maker ∙ (made_t ∙ ap (λ m. suc (made_of x m)) (sym s.hand_maker));
+      made_none = made_new;
+      made_else = λ c a b.
+          let d : c ≢ t = λ e. a (e ∙ sym s.hand_maker) in
+          λ j. made_by (s.same.helds c d b j) (s.same.home j c) + s.same.makings c d j;
+    }
+
+    -- what a draw needs of the cells that there are
+    pub may_draw : MayDraw n r.born r.maker r.number (made_of x) (hand_of x) h
+    may_draw = record {
+      maker_there = subst (IsThere n (hand_of x)) (sym s.hand_maker) t_there;
+      task = reference_of r.born t;
+      is_task = (
+        subst (λ m. IsCell r.born m (reference_of r.born t)) (sym s.hand_maker) (cell_born r t t_there.0),
+        sort_is r t t_there ∙ ap phase_sort (acts_phase r y id t s.acts),
+      );
+      calm = λ c g e.
+          let f = hand_found x.seats.hands c g e in
+          (λ q. calm f.0.0 g f.0.1 (q ∙ s.hand_maker), undrawn f.0.0 g f.0.1);
+      numbered = number_made;
+    }
+      where
+        number_made : (c : ℕ) (z : Reference) → IsCell r.born c z → c ≢ 0 → r.number c ≤ made_of x (r.maker c)
+        number_made c z e d =
+            let inside : c < n = subst (λ m. c < m) r.births.all (place_inside r.born c z e) in
+            let w = r.births.named c z e d in
+            let l = (r.births.makers_there c inside).0 in
+            let same : z ≡ reference_of r.born c = some-injective z (reference_of r.born c)
+            (sym e ∙ cell_born r c inside) in
+            let up : w.0 ≡ reference_of r.born (r.maker c) =
+            some-injective w.0 (reference_of r.born (r.maker c)) (sym w.1 ∙ cell_born r (r.maker c) l) in
+            let m : maker K.cells c ≡ r.maker c =
+            ap (λ (q : CellState). q.maker) (cell_there r.born r.maker (parts_of cells x) c inside) in
+            let thing : name K.cells c ≡ child (name K.cells (maker K.cells c)) (r.number c) =
+            name_shown r c inside
+            ∙ (ap (λ (q : Reference). q.name) (sym same)
+            ∙ (w.2
+            ∙ ap (λ a. child a (r.number c))
+            (ap (λ (q : Reference). q.name) up
+            ∙ (sym (name_shown r (r.maker c) l) ∙ ap (name K.cells) (sym m))))) in
+            let made : (K.cells (maker K.cells c)).made ≡ made_of x (r.maker c) =
+            ap (λ i. (K.cells i).made) m
+            ∙ ap (λ (q : CellState). q.made) (cell_there r.born r.maker (parts_of cells x) (r.maker c) l) in
+            let few = thing_made n K.cells r.facts.makers c (r.number c) inside thing in omega arith
+
+    -- a draw is a Make or a Fork, and the cell is one more of those that are born
+    pub draw_shown : ShowsEvent cells r.born r.maker x y (draw_event h.sort t)
+        (r.born ++ next_reference r.born t (made_of x t) h.sort ∷ []) (put r.maker n t)
+    draw_shown = record {
+      allowed = may h.sort;
+      shown = one_drawn r.born born' r.maker (put r.maker n t) (parts_of cells x) (parts_of cells y) t h s.same
+          t_there.0 t_there.1 s.hand_maker made_t (acts_stage r y id t s.acts (home_of x t)) made_new named names refl
+          s.keeps.others s.keeps.cleared
+          ∙ sym (drawn_after K t h.sort);
+    }
+      where
+        may : (o : Sort) → Allowed cells K (draw_event o t)
+        may sort.Promise = (acts_run r y id t s.acts, room)
+        may sort.Task = (acts_run r y id t s.acts, room)
+
+        new : Reference
+        new = next_reference r.born t (made_of x t) h.sort
+
+        born' : List Reference
+        born' = r.born ++ next_reference r.born t (made_of x t) h.sort ∷ []
+
+        named : (reference_of born' n).name ≡ new.name
+        named = ap (λ (z : Reference). z.name)
+            ((λ j. get_or born' (sym r.births.all j) (to_task [])) ∙ last_or r.born new (to_task []))
+
+        names : (d : ℕ) → d < n → (reference_of born' d).name ≡ (reference_of r.born d).name
+        names d l = ap (λ (z : Reference). z.name)
+            (before_or r.born new (to_task []) d (subst (λ k. d < k) (sym r.births.all) l))
+
+  -- the first store of OWN shows nothing
+  pub give_shown : (c : ℕ) (h : Hand) → GivesOwner cells x y id t c h → ShowsNothing cells r.born r.maker x y
+  give_shown c h s =
+      owner_given r.born r.maker (parts_of cells x) (parts_of cells y) t c h s.same apart inside in_hand owns s.new_made
+      at_stage made_t (shown_as (hand_in x.seats.hands t))
+      ∙ states_same
+      (record K { others = y.words.others; cleared = (parts_of cells y).cleared }) K refl (λ d. refl) s.keeps.others
+      s.keeps.cleared
+    where
+      inside : c < n
+      inside = subst (λ k. k < n) s.hand_cell (r.hands.each id h s.in_hand).drawn_cell
+
+      one : making x.seats.hands t ≡ 1
+      one = ap (making x.seats.hands) (sym s.hand_maker) ∙ makes_one x.seats.hands id h s.in_hand
+
+      in_hand : hand_in x.seats.hands c ≡ Some h
+      in_hand =
+          let g = hand_finds x.seats.hands id h s.in_hand in
+          let f = hand_found x.seats.hands h.cell g.0 g.1 in
+          let j : f.0.0 ≡ id = r.hands.apart f.0.0 id g.0 h f.0.1 s.in_hand f.1 in
+          let q : g.0 ≡ h = one_some g.0 h (some-injective (Some g.0) (Some h)
+          (sym f.0.1 ∙ (ap (λ (i : ℕ). get_elem? x.seats.hands i) j ∙ s.in_hand))) in
+          ap (hand_in x.seats.hands) (sym s.hand_cell) ∙ (g.1 ∙ ap (λ (z : Hand). Some z) q)
+
+      not_root : c ≢ 0
+      not_root e =
+          let a : r.number c ≡ made_of x t = (r.births.in_hand c h in_hand).1 ∙ ap (made_of x) s.hand_maker in
+          let b : r.number c ≡ 0 = ap r.number e ∙ r.births.root_number in
+          let d : making x.seats.hands t ≡ 1 = one in omega arith
+
+      its_maker : maker K.cells c ≡ t
+      its_maker = ap (λ (z : CellState). z.maker) (cell_there r.born r.maker (parts_of cells x) c inside)
+          ∙ ((r.births.in_hand c h in_hand).0 ∙ s.hand_maker)
+
+      apart : t ≢ c
+      apart e = let l : maker K.cells c < c = r.facts.makers.makers_before c inside not_root in
+          let q : maker K.cells c ≡ t = its_maker in omega arith
+
+      owns : y.words.own c ≡ Some (first_owner h.sort h.maker c)
+      owns = s.owns ∙ ap (λ (m : ℕ). Some (first_owner h.sort m c)) (sym s.hand_maker)
+
+      its_phase : x.words.phase c ≡ hand_phase h.marked
+      its_phase = ap x.words.phase (sym s.hand_cell) ∙ (r.hands.each id h s.in_hand).marked
+
+      stage_by : (o : Sort) → h.sort ≡ o
+          → stage_there c (phase_sort (x.words.phase c)) (y.words.own c) (x.words.phase c) (held_of y c) (home_of y c)
+          ≡ hand_stage o
+      stage_by sort.Promise e = (λ j. stage_there c (phase_sort (s.marked e j)) (y.words.own c) (s.marked e j)
+          (held_of y c) (home_of y c))
+      stage_by sort.Task e =
+          let m = subst (λ z. IsMarkedRight z h.marked) e (r.hands.each id h s.in_hand).marked_right in
+          let p : x.words.phase c ≡ phase.Unborn = its_phase ∙ ap hand_phase m in
+          (λ j. stage_there c (phase_sort (p j)) (s.owns j) (p j) (held_of y c) (home_of y c)) ∙ new_fresh c not_root
+
+      at_stage : stage_there c (phase_sort (x.words.phase c)) (y.words.own c) (x.words.phase c) (held_of y c)
+          (home_of y c) ≡ hand_stage h.sort
+      at_stage = stage_by h.sort refl
+
+      made_t : made_by (held_of y t) (home_of y t) + making y.seats.hands t
+          ≡ made_by (held_of x t) (home_of x t) + making x.seats.hands t
+      made_t =
+          let a : made_by (held_of y t) (home_of y t) ≡ suc s.before_it.made =
+          ap (λ (o : Option (Custody B)). made_by o (home_of y t)) s.held_now ∙ s.made in
+          let b : made_by (held_of x t) (home_of x t) ≡ s.before_it.made =
+          ap (λ (o : Option (Custody B)). made_by o (home_of x t)) (held_here r id t s.before_it s.held) in
+          let d : making y.seats.hands t ≡ 0 = s.not_making in
+          let e : making x.seats.hands t ≡ 1 = one in omega arith
+
+      shown_as : (o : Option Hand)
+          → stage_shown t o (x.words.own t) (x.words.phase t) (held_of y t) (home_of y t)
+          ≡ stage_shown t o (x.words.own t) (x.words.phase t) (held_of x t) (home_of x t)
+      shown_as (Some g) = refl
+      shown_as None =
+          let p = (custody r id t s.before_it s.held).does in
+          (λ j. stage_there t (phase_sort (p j)) (x.words.own t) (p j) (s.held_now j) (home_of y t))
+          ∙ (kept_stage t (x.words.own t) s.before_it s.after_it (home_of x t) (home_of y t) s.before_it.does refl
+          s.does_same
+          ∙ (λ j. stage_there t (phase_sort (sym p j)) (x.words.own t) (sym p j)
+          (sym (held_here r id t s.before_it s.held) j) (home_of x t)))

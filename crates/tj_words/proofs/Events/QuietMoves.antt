@@ -1,0 +1,262 @@
+-- Steps that show nothing.
+use Rattle.std.proofs.Common.{◌≡◌, ◌≢◌, ℕ, suc, ◌+◌, min, cond, nat_lt, [], ◌∷◌, ◌++◌, arith, Option, Some, None, refl, sym, ap, ◌∙◌, subst}
+use mathlib.Core.Logic.{dite}
+use native.Mathlib.Decide.{ℕ_discrete}
+use Rattle.tj_base.specs.declared.cell.Sort.TheVariants as sort
+use Rattle.tj_body.specs.Programs.{Program}
+use Rattle.tj_body.specs.declared.ask.Answer.{Answer}
+use Rattle.tj_body.specs.declared.ask.Answer.TheVariants as answer
+use Rattle.tj_core.specs.declared.walk.Way.{Way}
+use Rattle.tj_core.specs.declared.walk.Walker.{Walker}
+use Rattle.tj_core.specs.CoreState.{CoreState, blank}
+use Rattle.tj_words.specs.declared.phase.Walk.TheVariants as walk
+use Rattle.tj_words.specs.declared.phase.Phase.{Phase}
+use Rattle.tj_words.specs.declared.phase.Phase.TheVariants as phase
+use Rattle.tj_words.specs.declared.record.Rec.{Rec}
+use Rattle.tj_words.specs.declared.view.Hand.{Hand}
+use Rattle.tj_words.specs.declared.view.Does.{Does}
+use Rattle.tj_words.specs.declared.view.Does.TheVariants as does
+use Rattle.tj_words.specs.declared.view.Custody.{Custody}
+use Rattle.tj_words.specs.Words.Lists.{total, cell}
+use Rattle.tj_words.specs.LawParts.Holding.{made_by, phase_of}
+use Rattle.tj_words.specs.LawParts.Hands.{IsThere}
+use Rattle.tj_words.specs.LawParts.ShownState.{phase_sort, answer_stage, does_stage, stage_there, stage_shown}
+use Rattle.tj_words.specs.LawParts.ShownState.{owner_shown, hand_stage, first_owner, reference_of}
+use Rattle.tj_words.specs.LawParts.Contents.{WordsSay, Contents, hand_of, drawn_in, held_of, home_of, core_shown}
+use Rattle.tj_words.specs.Law.{Law}
+use Rattle.tj_words.specs.Steps.ShownParts.{Parts, parts_of, shown_by, cell_by}
+use Rattle.tj_words.specs.Steps.StepEvents.{IsBegun, ShowsNothing, IsMoved}
+use Rattle.tj_words.specs.Steps.WalkSteps.{KeepsOthers, Leaves}
+use Rattle.tj_words.specs.Steps.QuietSteps.{does_first, IsMarked, KeepsHoldings, LoadsOnly, StoresOnce, ChangesLive}
+use Rattle.tj_words.specs.Steps.QuietSteps.{ChangesStop, ChangesHead, ChangesNext, DrawIsRefused, SplitsSeat}
+use Rattle.tj_words.specs.Steps.QuietSteps.{ClaimsTask, ReleasesTask, EndsTask, ShelvesTask, MovesRecord, MarksPromise}
+use Rattle.tj_words.proofs.Seating.Appending.{hand_snoc, making_snoc, find_snoc, total_snoc}
+use Rattle.tj_words.proofs.Events.ShownCells.{states_same, stage_out}
+use Rattle.tj_words.proofs.Holders.TaskPlaces.{does_stage_there, begun_there, custody, held_here}
+use Rattle.tj_words.proofs.Events.TurnedTasks.{moved_nothing}
+
+-- what a claimed task shows is what it showed while it was ready
+first_shown : (t : ℕ) (a : Answer) → does_stage t (does_first a) ≡ answer_stage t a
+first_shown t answer.Start = refl
+first_shown t (answer.Local k) = refl
+first_shown t answer.Done = refl
+first_shown t (answer.Num i) = refl
+first_shown t (answer.RefAt k) = refl
+first_shown t answer.Lost = refl
+
+module _ {B : Type 0} where
+  claim_stage : (t : ℕ) (o : Option ℕ) (k k' : Option (Custody B)) (r : Rec B) (c : Custody B) (home : Option (Rec B))
+      → c.does ≡ does_first r.answer
+      → stage_there t sort.Task o phase.Running (Some c) home ≡ stage_there t sort.Task o phase.Ready k' (Some r)
+  claim_stage t None k k' r c home e = refl
+  claim_stage t (Some u) k k' r c home e = ap (does_stage t) e ∙ first_shown t r.answer
+
+  release_stage : (t : ℕ) (o : Option ℕ) (k : Option (Custody B)) (r : Rec B) (home : Option (Rec B))
+      → r.answer ≡ answer.Start
+      → stage_there t sort.Task o phase.Ready None (Some r) ≡ stage_there t sort.Task o phase.Unborn k home
+  release_stage t None k r home e = refl
+  release_stage t (Some u) k r home e = ap (answer_stage t) e
+
+  shelve_stage : (t p : ℕ) (way : Way) (o : Option ℕ) (k : Option (Custody B)) (r h : Option (Rec B))
+      → stage_there t sort.Task o (phase.Waiting (cell p) way walk.Alarmed) None r
+      ≡ stage_there t sort.Task o (phase.Waiting (cell p) way walk.Alarmed) k h
+  shelve_stage t p way None k r h = refl
+  shelve_stage t p way (Some u) k r h = refl
+
+  -- what a held task shows is the same where it does the same
+  pub kept_stage : (t : ℕ) (o : Option ℕ) (k k' : Custody B) (h h' : Option (Rec B)) (d : Does)
+      → k.does ≡ d → k'.does ≡ d
+      → stage_there t (phase_sort (phase_of d)) o (phase_of d) (Some k') h'
+      ≡ stage_there t (phase_sort (phase_of d)) o (phase_of d) (Some k) h
+  kept_stage t (Some u) k k' h h' d e e' = does_stage_there t u k' h' d e' ∙ sym (does_stage_there t u k h d e)
+  kept_stage t None k k' h h' does.Unborn e e' = refl
+  kept_stage t None k k' h h' does.Fresh e e' = refl
+  kept_stage t None k k' h h' does.Running e e' = refl
+  kept_stage t None k k' h h' does.Raised e e' = refl
+  kept_stage t None k k' h h' (does.Walking c way w) e e' = refl
+  kept_stage t None k k' h h' (does.Alarmed c way w) e e' = refl
+
+  module _ {program : Program B} {cells : ℕ} {x : Contents B} (r : Law program cells x) (y : Contents B) where
+    abbrev n : ℕ
+    n = drawn_in cells x
+
+    abbrev K : CoreState
+    K = core_shown cells r.born r.maker x
+
+    abbrev Quiet : Type 0
+    Quiet = ShowsNothing cells r.born r.maker x y
+
+    -- where the parts by which the core state is shown are the same, so is that
+    nothing_changed : parts_of cells y ≡ parts_of cells x → Quiet
+    nothing_changed e = ap (shown_by r.born r.maker) e
+
+    -- a step on a word by which nothing is shown
+    still : (words : WordsSay) → y.words ≡ words → KeepsHoldings x y
+        → min words.count cells ≡ n
+        → words.own ≡ x.words.own
+        → words.phase ≡ x.words.phase
+        → words.others ≡ x.words.others
+        → Quiet
+    still words e k drawn own phases others = nothing_changed
+        ((λ j. parts_of cells (record {
+          words = e j;
+          slots = k.slots j;
+          seats = record y.seats { hands = k.hands j; tasks = k.tasks j; cleared = k.cleared j };
+        }))
+        ∙ (λ j. record (parts_of cells x) { drawn = drawn j; own = own j; phase = phases j; others = others j }))
+
+    pub load_shown : LoadsOnly x y → Quiet
+    load_shown s = still x.words s.words s.keeps refl refl refl refl
+
+    pub once_shown : StoresOnce x y → Quiet
+    once_shown s = still (record x.words { once = s.once }) s.words s.keeps refl refl refl refl
+
+    pub live_shown : ChangesLive x y → Quiet
+    live_shown s = still (record x.words { live = s.live }) s.words s.keeps refl refl refl refl
+
+    pub stop_shown : ChangesStop x y → Quiet
+    stop_shown s = still (record x.words { stop = s.stop }) s.words s.keeps refl refl refl refl
+
+    pub head_shown : ChangesHead x y → Quiet
+    head_shown s = still (record x.words { head = s.head }) s.words s.keeps refl refl refl refl
+
+    pub next_shown : ChangesNext x y → Quiet
+    next_shown s = still (record x.words { next = s.next }) s.words s.keeps refl refl refl refl
+
+    pub refused_shown : DrawIsRefused x y cells → Quiet
+    refused_shown s = still (record x.words { count = suc x.words.count }) s.words s.keeps
+        (let l = s.full in omega arith) refl refl refl
+
+    pub split_shown : SplitsSeat x y → Quiet
+    split_shown s = nothing_changed
+        ((λ j. parts_of cells (record {
+          words = s.words j;
+          slots = s.slots j;
+          seats = record y.seats { hands = s.hands j; tasks = s.tasks j; cleared = s.cleared j };
+        }))
+        ∙ (λ j. record (parts_of cells x) {
+          hand = λ c. hand_snoc x.seats.hands c j;
+          making = λ t. making_snoc x.seats.hands t j;
+          held = λ t. find_snoc x.seats.tasks t j;
+          cleared = cleared_same j;
+        }))
+      where
+        cleared_same : total (x.seats.cleared ++ 0 ∷ []) ≡ total x.seats.cleared
+        cleared_same = let e = total_snoc x.seats.cleared 0 in omega arith
+
+    -- a move of a task that is there shows nothing, where what it shows is the same
+    quiet_move : (t : ℕ) (p : Phase) (held : Option (Custody B)) (home : Option (Rec B))
+        → IsMoved cells x y t p held home
+        → IsThere n (hand_of x) t
+        → KeepsOthers cells x y
+        → (stage_there t (phase_sort p) (x.words.own t) p held home
+        ≡ stage_there t (phase_sort (x.words.phase t)) (x.words.own t) (x.words.phase t) (held_of x t) (home_of x t))
+        → Quiet
+    quiet_move t p held home m there keeps e = moved_nothing r y t p held home m there.0 there.1 (x.words.own t) refl
+        (e ∙ sym (stage_out r.born r.maker (parts_of cells x) t there.0 there.1)) keeps.others keeps.cleared
+
+    pub claim_shown : (t : ℕ) (c : Rec B) → ClaimsTask cells x y t c → Quiet
+    claim_shown t c s =
+        quiet_move t phase.Running (Some s.has) s.home s.moved
+        (begun_there r t (subst IsBegun (sym s.ready) tt)) s.keeps
+        (claim_stage t (x.words.own t) None (held_of x t) c s.has s.home s.first
+        ∙ (λ j. stage_there t (phase_sort (sym s.ready j)) (x.words.own t) (sym s.ready j) (held_of x t)
+        (sym s.lies j)))
+
+    module _ (id t : ℕ) where
+      module _ (d : Does) (p : Phase) (s : Leaves cells x y id t d p) where
+        left_phase : x.words.phase t ≡ phase_of d
+        left_phase = (custody r id t s.before_it s.held).does ∙ ap phase_of s.did
+
+        leaving : IsThere n (hand_of x) t
+            → KeepsOthers cells x y
+            → stage_there t (phase_sort p) (x.words.own t) p None (Some s.record_of)
+            ≡ stage_there t (phase_sort (phase_of d)) (x.words.own t) (phase_of d) (held_of x t) (home_of x t)
+            → Quiet
+        leaving there keeps e = quiet_move t p None (Some s.record_of) s.moved there keeps
+            (e ∙ (λ j. stage_there t (phase_sort (sym left_phase j)) (x.words.own t) (sym left_phase j) (held_of x t)
+            (home_of x t)))
+
+      pub release_shown : ReleasesTask cells x y id t → Quiet
+      release_shown s = leaving does.Unborn phase.Ready s.leaves s.there s.keeps
+          (release_stage t (x.words.own t) (held_of x t) s.leaves.record_of (home_of x t) s.starts)
+
+      pub end_shown : EndsTask cells x y id t → Quiet
+      end_shown s =
+          let p = left_phase does.Running phase.Ended s.leaves in
+          leaving does.Running phase.Ended s.leaves (begun_there r t (subst IsBegun (sym p) tt)) s.keeps
+          ((λ j. stage_there t sort.Task (s.closed j) phase.Ended None (Some s.leaves.record_of))
+          ∙ (λ j. stage_there t sort.Task (sym s.closed j) phase.Running (held_of x t) (home_of x t)))
+
+      pub shelve_shown : (p : ℕ) (way : Way) (w : Walker) → ShelvesTask cells x y id t p way w → Quiet
+      shelve_shown p way w s =
+          let alarm = phase.Waiting (cell p) way walk.Alarmed in
+          let e = left_phase (does.Alarmed p way w) alarm s.leaves in
+          leaving (does.Alarmed p way w) alarm s.leaves (begun_there r t (subst IsBegun (sym e) tt)) s.keeps
+          (shelve_stage t p way (x.words.own t) (held_of x t) (Some s.leaves.record_of) (home_of x t))
+
+      pub record_shown : (d : Does) → MovesRecord cells x y id t d → Quiet
+      record_shown d s =
+          let u = s.turns in
+          let same : x.words.phase t ≡ phase_of d =
+          (custody r id t u.before_it u.held).does ∙ ap phase_of u.did in
+          quiet_move t (phase_of d) (Some u.after_it) (home_of y t) (record {
+            same = u.turned.same;
+            phase_is = u.turned.phase ∙ ap phase_of u.now;
+            held_is = u.turned.held;
+            home_is = refl;
+            made = u.turned.made
+                ∙ sym (ap (λ (o : Option (Custody B)). made_by o (home_of x t)) (held_here r id t u.before_it u.held));
+          }) s.there s.keeps
+          (kept_stage t (x.words.own t) u.before_it u.after_it (home_of x t) (home_of y t) d u.did u.now
+          ∙ (λ j. stage_there t (phase_sort (sym same j)) (x.words.own t) (sym same j)
+          (sym (held_here r id t u.before_it u.held) j) (home_of x t)))
+
+    pub mark_shown : (c : ℕ) (h h' : Hand) → MarksPromise cells x y c h h' → Quiet
+    mark_shown c h h' s =
+        states_same (shown_by r.born r.maker Y) (shown_by r.born r.maker X) m.drawn same m.others m.cleared
+      where
+        X : Parts B
+        X = parts_of cells x
+
+        Y : Parts B
+        Y = parts_of cells y
+
+        m : IsMarked c (parts_of cells x) (parts_of cells y)
+        m = s.others
+
+        here : cell_by r.born r.maker (parts_of cells y) c ≡ cell_by r.born r.maker (parts_of cells x) c
+        here = λ j. record {
+          maker = r.maker c;
+          name = (reference_of r.born c).name;
+          made = made_by (m.held j c) (m.home j c) + m.making j c;
+          owner = (ap (λ (o : Option Hand). owner_shown c o (y.words.own c)) s.marked
+              ∙ ((λ i. Some (first_owner (s.same_hand.2 i) (s.same_hand.1 i) c))
+              ∙ ap (λ (o : Option Hand). owner_shown c o (x.words.own c)) (sym s.in_hand))) j;
+          stage = (ap (λ (o : Option Hand).
+              stage_shown c o (y.words.own c) (y.words.phase c) (held_of y c) (home_of y c)) s.marked
+              ∙ ((λ i. hand_stage (s.same_hand.2 i))
+              ∙ ap (λ (o : Option Hand).
+              stage_shown c o (x.words.own c) (x.words.phase c) (held_of x c) (home_of x c)) (sym s.in_hand))) j;
+        }
+
+        else : (d : ℕ) → d ≢ c
+            → cell_by r.born r.maker (parts_of cells y) d ≡ cell_by r.born r.maker (parts_of cells x) d
+        else d n = λ j. record {
+          maker = r.maker d;
+          name = (reference_of r.born d).name;
+          made = made_by (m.held j d) (m.home j d) + m.making j d;
+          owner = owner_shown d (m.hands d n j) (m.own j d);
+          stage = stage_shown d (m.hands d n j) (m.own j d) (m.phases d n j) (m.held j d) (m.home j d);
+        }
+
+        cell_same : (d : ℕ) → cell_by r.born r.maker (parts_of cells y) d ≡ cell_by r.born r.maker (parts_of cells x) d
+        cell_same d = dite (ℕ_discrete d c)
+            (λ e. subst
+            (λ k. cell_by r.born r.maker (parts_of cells y) k ≡ cell_by r.born r.maker (parts_of cells x) k) (sym e)
+            here)
+            (λ n. else d n)
+
+        same : (d : ℕ) → (shown_by r.born r.maker (parts_of cells y)).cells d
+            ≡ (shown_by r.born r.maker (parts_of cells x)).cells d
+        same d = λ j. cond (nat_lt d (m.drawn j)) (cell_same d j) blank

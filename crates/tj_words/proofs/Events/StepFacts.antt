@@ -1,0 +1,76 @@
+-- The facts after a step: of the core state by the core's law, and of births and the tree of forks after a draw.
+use Rattle.std.proofs.Common.{◌≡◌, ◌⊎◌, ℕ, suc, List, [], ◌∷◌, ◌++◌, sym, subst}
+use Rattle.tj_body.specs.Programs.{Program}
+use Rattle.tj_body.specs.declared.point.Reference.{Reference}
+use Rattle.tj_core.specs.declared.event.Event.{Event}
+use Rattle.tj_base.specs.Puts.{put}
+use Rattle.tj_core.specs.CoreFacts.{CoreFacts}
+use Rattle.tj_core.specs.Laws.{EventKeepsFacts}
+use Rattle.tj_words.specs.declared.offsets.Once.{Once}
+use Rattle.tj_words.specs.declared.view.Hand.{Hand}
+use Rattle.tj_words.specs.Words.Lists.{OfSeat}
+use Rattle.tj_words.specs.LawParts.Contents.{Contents, drawn_in, hand_of, made_of, core_shown}
+use Rattle.tj_words.specs.LawParts.TreeWords.{IsOfTree, IsDue, tree_word, Births, IsForkTree, TreeWords}
+use Rattle.tj_words.specs.Law.{Law}
+use Rattle.tj_words.specs.Steps.StepEvents.{ShowsEvent, ShowsNothing}
+use Rattle.tj_words.specs.Steps.OwnerSteps.{next_reference, DrawsCell}
+use Rattle.tj_words.specs.Inner.TreeDraws.{forks_after}
+use Rattle.tj_words.proofs.Stores.SeatLists.{back}
+use Rattle.tj_words.proofs.Cells.TreeDraws.{births_drawn, tree_drawn, tree_words_drawn}
+use Rattle.tj_words.proofs.Events.DrawEvents.{drawn_into, may_draw}
+
+module _ {B : Type 0} {cells : ℕ} {born : List Reference} {maker : ℕ → ℕ} {x y : Contents B} where
+  -- a step that is an event keeps the facts
+  pub facts_after : EventKeepsFacts → {e : Event} {born' : List Reference} {maker' : ℕ → ℕ}
+      → ShowsEvent cells born maker x y e born' maker'
+      → CoreFacts (core_shown cells born maker x)
+      → CoreFacts (core_shown cells born' maker' y)
+  facts_after law {e} s facts =
+      subst CoreFacts (sym s.shown) (law cells (core_shown cells born maker x) e facts s.allowed)
+
+-- and so does one that is none
+pub facts_same : {B : Type 0} (cells : ℕ) (born : List Reference) (maker : ℕ → ℕ) (x y : Contents B)
+    → ShowsNothing cells born maker x y
+    → CoreFacts (core_shown cells born maker x)
+    → CoreFacts (core_shown cells born maker y)
+facts_same cells born maker x y s facts = subst CoreFacts (sym s) facts
+
+module _ {B : Type 0} {program : Program B} {cells : ℕ} {x : Contents B} (r : Law program cells x) (y : Contents B)
+    (id t : ℕ) (h : Hand) (s : DrawsCell cells x y id t h) where
+  abbrev n : ℕ
+  n = drawn_in cells x
+
+  abbrev k : ℕ
+  k = suc (made_of x h.maker)
+
+  abbrev born' : List Reference
+  born' = r.born ++ next_reference r.born h.maker (made_of x h.maker) h.sort ∷ []
+
+  abbrev maker' : ℕ → ℕ
+  maker' = put r.maker n h.maker
+
+  abbrev number' : ℕ → ℕ
+  number' = put r.number n k
+
+  -- births after a draw
+  pub births_after : Births (drawn_in cells y) born' maker' number' (made_of y) (hand_of y) y.words.phase
+  births_after = back (λ j. Births (s.same.drawn j) born' maker' number' (made_of y) (hand_of y) (s.same.phase j))
+      (births_drawn (may_draw r y id t h s) (drawn_into r y id t h s) r.births)
+
+  -- the tree of forks after a draw
+  pub tree_after : IsForkTree (drawn_in cells y) born' maker' number' (forks_after h.sort h.maker n k r.forks)
+      (hand_of y)
+  tree_after = back (λ j. IsForkTree (s.same.drawn j) born' maker' number'
+      (forks_after h.sort h.maker n k r.forks) (hand_of y))
+      (tree_drawn (may_draw r y id t h s) (drawn_into r y id t h s) r.births r.tree)
+
+  -- the words of the tree after a draw that writes none of them
+  pub tree_words_after : y.words.once ≡ x.words.once
+      → ((c : ℕ) (f : Once) → (j : ℕ) × OfSeat (IsDue c f) x.seats.dues j → (j : ℕ) × OfSeat (IsDue c f) y.seats.dues j)
+      → ((f : Once) → IsOfTree f → ((j : ℕ) × OfSeat (IsDue n f) y.seats.dues j)
+      ⊎ (x.words.once n f ≡ tree_word maker' number' (forks_after h.sort h.maker n k r.forks) h.sort n f))
+      → TreeWords (drawn_in cells y) born' maker' number' (forks_after h.sort h.maker n k r.forks) (hand_of y)
+      y.words.once y.seats.dues
+  tree_words_after same keeps news = back (λ j. TreeWords (s.same.drawn j) born' maker' number'
+      (forks_after h.sort h.maker n k r.forks) (hand_of y) (same j) y.seats.dues)
+      (tree_words_drawn (may_draw r y id t h s) (drawn_into r y id t h s) r.births r.tree_words keeps news)

@@ -1,0 +1,129 @@
+-- A task turns from one thing to another: the shared lemmas of all events by which it does so.
+use Rattle.std.proofs.Common.{◌≡◌, ℕ, ◌<◌, cond, nat_eq, Bool, true, false, Option, Some, None, refl, sym, ap, ◌∙◌, subst}
+use Rattle.tj_body.specs.Programs.{Program}
+use Rattle.tj_core.specs.declared.event.Event.{Event}
+use Rattle.tj_core.specs.CoreState.{CellStage, CoreState, stage, fresh, running, Runs}
+use Rattle.tj_core.specs.Events.{Allowed, after, restage}
+use Rattle.tj_words.specs.declared.phase.Phase.{Phase}
+use Rattle.tj_words.specs.declared.record.Rec.{Rec}
+use Rattle.tj_words.specs.declared.view.Does.{Does}
+use Rattle.tj_words.specs.declared.view.Does.TheVariants as does
+use Rattle.tj_words.specs.declared.view.Custody.{Custody}
+use Rattle.tj_words.specs.Words.Lists.{total}
+use Rattle.tj_words.specs.LawParts.Holding.{phase_of, made_by}
+use Rattle.tj_words.specs.LawParts.Hands.{hand_in}
+use Rattle.tj_words.specs.LawParts.ShownState.{phase_sort, new_stage, stage_there}
+use Rattle.tj_words.specs.LawParts.Contents.{Contents, drawn_in, held_of, home_of, core_shown}
+use Rattle.tj_words.specs.Law.{Law}
+use Rattle.tj_words.specs.Steps.ShownParts.{parts_of}
+use Rattle.tj_words.specs.Steps.StepEvents.{IsBegun, MayAct, IsHeldWith, ShowsEvent, ShowsNothing, IsTurned, IsMoved}
+use Rattle.tj_words.proofs.Events.ShownCells.{states_same, restaged, stage_out}
+use Rattle.tj_words.proofs.Events.ShownOwners.{stage_again}
+use Rattle.tj_words.proofs.Holders.TaskPlaces.{does_shown, does_stage_there, begun_out, held_here, held_drawn, custody}
+use Rattle.tj_words.proofs.Holders.TaskPlaces.{stage_held}
+
+-- a new task runs
+pub new_runs : (t : ℕ) → Runs (new_stage t)
+new_runs t = by (nat_eq t 0)
+  where
+    by : (b : Bool) → Runs (cond b running fresh)
+    by true = tt
+    by false = tt
+
+-- a task that may act runs, and has begun
+pub acting_runs : (t : ℕ) (d : Does) → MayAct d → Runs (does_shown t d)
+acting_runs t does.Unborn m = absurd m
+acting_runs t does.Fresh m = new_runs t
+acting_runs t does.Running m = tt
+acting_runs t does.Raised m = absurd m
+acting_runs t (does.Walking c way w) m = absurd m
+acting_runs t (does.Alarmed c way w) m = absurd m
+
+pub acting_begun : (d : Does) → MayAct d → IsBegun (phase_of d)
+acting_begun does.Unborn m = absurd m
+acting_begun does.Fresh m = tt
+acting_begun does.Running m = tt
+acting_begun does.Raised m = absurd m
+acting_begun (does.Walking c way w) m = absurd m
+acting_begun (does.Alarmed c way w) m = absurd m
+
+module _ {B : Type 0} {program : Program B} {cells : ℕ} {x : Contents B} (r : Law program cells x) (y : Contents B)
+    (t : ℕ) where
+  abbrev n : ℕ
+  n = drawn_in cells x
+
+  abbrev K : CoreState
+  K = core_shown cells r.born r.maker x
+
+  module _ (p : Phase) (held : Option (Custody B)) (home : Option (Rec B)) (m : IsMoved cells x y t p held home)
+      (there : t < n) (out : hand_in x.seats.hands t ≡ None) where
+    same_made : made_by (held_of y t) (home_of y t) ≡ made_by (held_of x t) (home_of x t)
+    same_made = (λ j. made_by (m.held_is j) (m.home_is j)) ∙ m.made
+
+    -- a task that moves is at another stage
+    pub moved : (u : Option ℕ) (f : CellStage → CellStage)
+        → x.words.own t ≡ u
+        → stage_there t (phase_sort p) u p held home ≡ f (stage K.cells t)
+        → core_shown cells r.born r.maker y
+        ≡ record (restage K t f) { others = y.words.others; cleared = total y.seats.cleared }
+    moved u f owns fits =
+        restaged r.born r.maker (parts_of cells x) (parts_of cells y) t m.same f there out same_made
+        ((λ j. stage_there t (phase_sort (m.phase_is j)) (owns j) (m.phase_is j) (m.held_is j) (m.home_is j))
+        ∙ (fits ∙ ap f (stage_out r.born r.maker (parts_of cells x) t there out)))
+
+    -- so the step is the event that does this
+    pub moved_event : (u : Option ℕ) (f : CellStage → CellStage) (e : Event) (others cleared : ℕ)
+        → x.words.own t ≡ u
+        → stage_there t (phase_sort p) u p held home ≡ f (stage K.cells t)
+        → Allowed cells K e
+        → after K e ≡ record (restage K t f) { others = others; cleared = cleared }
+        → y.words.others ≡ others
+        → total y.seats.cleared ≡ cleared
+        → ShowsEvent cells r.born r.maker x y e r.born r.maker
+    moved_event u f e others cleared owns fits may is same_others same_cleared = record {
+      allowed = may;
+      shown = moved u f owns fits
+          ∙ ((λ j. record (restage K t f) { others = same_others j; cleared = same_cleared j }) ∙ sym is);
+    }
+
+    -- where the stage is as it was, the step shows nothing
+    pub moved_nothing : (u : Option ℕ)
+        → x.words.own t ≡ u
+        → stage_there t (phase_sort p) u p held home ≡ stage K.cells t
+        → y.words.others ≡ x.words.others
+        → total y.seats.cleared ≡ total x.seats.cleared
+        → ShowsNothing cells r.born r.maker x y
+    moved_nothing u owns fits same_others same_cleared =
+        moved u (λ st. st) owns fits
+        ∙ states_same
+        (record (restage K t (λ st. st)) { others = y.words.others; cleared = total y.seats.cleared }) K refl
+        (stage_again K t) same_others same_cleared
+
+  module _ (id : ℕ) (k k' : Custody B) (h : IsHeldWith x id t k) (s : IsTurned cells x y t k k')
+      (begun : IsBegun (phase_of k.does)) where
+    pub turned_out : hand_in x.seats.hands t ≡ None
+    turned_out = begun_out r t (subst IsBegun (sym (custody r id t k h).does) begun)
+
+    turned_moved : IsMoved cells x y t (phase_of k'.does) (Some k') (home_of y t)
+    turned_moved = record {
+      same = s.same;
+      phase_is = s.phase;
+      held_is = s.held;
+      home_is = refl;
+      made = s.made ∙ sym (ap (λ (o : Option (Custody B)). made_by o (home_of x t)) (held_here r id t k h));
+    }
+
+    -- a held task that turns from one thing to another is the event that does this
+    pub turned_event : (u : ℕ) (f : CellStage → CellStage) (e : Event) (others cleared : ℕ)
+        → x.words.own t ≡ Some u
+        → does_shown t k'.does ≡ f (does_shown t k.does)
+        → Allowed cells K e
+        → after K e ≡ record (restage K t f) { others = others; cleared = cleared }
+        → y.words.others ≡ others
+        → total y.seats.cleared ≡ cleared
+        → ShowsEvent cells r.born r.maker x y e r.born r.maker
+    turned_event u f e others cleared owns fits =
+        moved_event (phase_of k'.does) (Some k') (home_of y t) turned_moved (held_drawn r id t k h) turned_out
+        (Some u) f e others cleared owns
+        (does_stage_there t u k' (home_of y t) k'.does refl
+        ∙ (fits ∙ ap f (sym (stage_held r id t k h u turned_out owns))))

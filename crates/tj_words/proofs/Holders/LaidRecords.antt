@@ -1,0 +1,132 @@
+-- A record that a seat put into the slot that it took last comes home: what the seat's view and the law say of it.
+use Rattle.std.proofs.Common.{◌≡◌, ◌≢◌, ℕ, ◌<◌, Bool, length, set, Option, Some, refl, sym, ◌∙◌}
+use Rattle.std.proofs.Common.{subst, inl, arith, length-set}
+use mathlib.Core.Option.{some, some-injective}
+use lib.ListN.{get_elem?}
+use Rattle.atomic_table.specs.Table.{State}
+use Rattle.atomic_table.proofs.Lists.{at_map, set_else}
+use Rattle.tj_base.specs.declared.cell.CellId.{CellId}
+use Rattle.tj_base.specs.declared.cell.Sort.TheVariants as sort
+use Rattle.tj_body.specs.Points.{IsIn}
+use Rattle.tj_body.specs.Programs.{Program}
+use Rattle.tj_core.specs.declared.walk.Way.{Way}
+use Rattle.tj_words.specs.declared.phase.Walk.{Walk}
+use Rattle.tj_words.specs.declared.phase.Phase.{Phase}
+use Rattle.tj_words.specs.declared.phase.Phase.TheVariants as phase
+use Rattle.tj_words.specs.declared.record.Rec.{Rec}
+use Rattle.tj_words.specs.declared.table.Key.{Key}
+use Rattle.tj_words.specs.declared.view.Custody.{Custody}
+use Rattle.tj_words.specs.declared.view.Hand.{Hand}
+use Rattle.tj_words.specs.declared.view.View.{View}
+use Rattle.tj_words.specs.LawParts.Holding.{Slots, home_in, held_in}
+use Rattle.tj_words.specs.LawParts.Hands.{IsThere}
+use Rattle.tj_words.specs.LawParts.NamedCells.{record_cells, AreThere}
+use Rattle.tj_words.specs.LawParts.Custodies.{LiesAtHome, IsKept}
+use Rattle.tj_words.specs.LawParts.RecordPhases.{IsRecordIn, RecordsFit}
+use Rattle.tj_words.specs.LawParts.ShownState.{phase_sort}
+use Rattle.tj_words.specs.LawParts.Contents.{SeatsHave, seats_have, Contents, contents_of, drawn_in, tag_in, hand_of}
+use Rattle.tj_words.specs.LawParts.Contents.{home_of}
+use Rattle.tj_words.specs.Law.{Rule}
+use Rattle.tj_words.specs.Calls.LiveViews.{SlotsOf}
+use Rattle.tj_words.specs.Calls.PutRecords.{PutsHome}
+use Rattle.tj_words.specs.LawParts.Meaning.{IsToldRecord}
+use Rattle.tj_words.specs.Steps.StepEvents.{IsHeldWith}
+use Rattle.tj_words.proofs.Holders.HomeSlots.{home_laid, home_else_laid}
+use Rattle.tj_words.proofs.Holders.RecordSteps.{laid_fit}
+use Rattle.tj_words.proofs.Meaning.MeaningGrows.{Meant}
+use Rattle.tj_words.proofs.Meaning.MeaningSteps.{home_meant}
+use Rattle.tj_words.proofs.Meaning.LawMeant.{ground_of, known_of, law_meant}
+use Rattle.tj_words.proofs.Phases.WaitStores.{about_program}
+use Rattle.tj_words.proofs.Phases.Departures.{Departs}
+
+module _ {B : Type 0} (program : Bool → B → Program B) (key : Key B) (s : State (Option (Rec B)) (View B))
+    (r : Rule program key s) (id t : ℕ) (v : View B) (at : get_elem? s.views id ≡ some v) where
+  abbrev P : Program B
+  P = program key.strict key.root.value
+
+  abbrev old : SeatsHave B
+  old = seats_have s.views
+
+  abbrev x : Contents B
+  x = contents_of s
+
+  pub tokens_at : get_elem? old.tokens id ≡ some v.tokens
+  tokens_at = at_map (λ (u : View B). u.tokens) s.views id v at
+
+  pub tasks_at : get_elem? old.tasks id ≡ some v.tasks
+  tasks_at = at_map (λ (u : View B). u.tasks) s.views id v at
+
+  pub hand_at : (g : Hand) → get_elem? old.hands id ≡ some (Some g) → v.hand ≡ Some g
+  hand_at g e = some-injective v.hand (Some g) (sym (at_map (λ (u : View B). u.hand) s.views id v at) ∙ e)
+
+  -- a record that was put into its slot, which the seat took last, comes home
+  module _ (mine : SlotsOf B) (k : Custody B) (held : held_in v.tasks t ≡ Some k) (c : Rec B)
+      (puts : PutsHome program t k c (v, mine)) (no_hand : (g : Hand) → v.hand ≡ Some g → g.maker ≢ t) where
+    abbrev pub laid_slots : Slots B
+    laid_slots = set s.homes t (some (Some c))
+
+    pub as_many : length laid_slots ≡ length s.homes
+    as_many = length-set s.homes t (some (Some c))
+
+    pub else_home : (u : ℕ) → u ≢ t → home_in laid_slots u ≡ home_of x u
+    else_home u m = home_else_laid s.homes t c u m
+
+    abbrev has_it : IsHeldWith x id t k
+    has_it = (v.tasks, tasks_at, held)
+
+    pub cells_there : AreThere (drawn_in key.cells x) (hand_of x) (record_cells c)
+    cells_there d i = r.law.names.knows id v.known (at_map (λ (u : View B). u.known) s.views id v at) d (puts.knows d i)
+
+    pub task_there : IsThere (drawn_in key.cells x) (hand_of x) t
+    task_there = subst (IsThere (drawn_in key.cells x) (hand_of x)) puts.cell (cells_there c.cell.0 (inl refl))
+
+    few : t < length s.homes
+    few = let l = task_there.0 in let e = r.all_slots in omega arith
+
+    pub lies : home_in laid_slots t ≡ Some c
+    lies = home_laid s.homes t c few
+
+    -- it is within the meaning
+    pub meant : Meant P key.cells x.words.count x.words.stop (ground_of key.cells r.law.born x) (home_in laid_slots)
+        (known_of x)
+    meant = home_meant P key.cells {g = ground_of key.cells r.law.born x} {home = home_of x} {k = known_of x}
+        (law_meant P key.cells x r.law) id v.born v.wrote v.filled (at_map (λ (u : View B). u.born) s.views id v at)
+        (at_map (λ (u : View B). u.wrote) s.views id v at) (at_map (λ (u : View B). u.filled) s.views id v at)
+        (home_in laid_slots) t c lies else_home
+        (subst (λ z. IsToldRecord z v.born (λ d e. IsIn (record { cell = d; entry = e }) v.filled) c)
+        (about_program program key v puts.told.0 (r.seats id v at) puts.told.1) puts.told.2)
+
+    -- it fits the phase that its task has then
+    pub fits : (phases : ℕ → Phase) (q : Phase) → phases t ≡ q → ((u : ℕ) → u ≢ t → phases u ≡ x.words.phase u)
+        → IsRecordIn (tag_in x) q c
+        → RecordsFit (tag_in x) phases (home_in laid_slots)
+    fits phases q now else h = laid_fit (tag_in x) x.words.phase (home_of x) r.law.records_fit t phases
+        (home_in laid_slots) q now else else_home c lies h
+
+    -- its task leaves the seat
+    module _ (phases : ℕ → Phase) (q : Phase) (now : phases t ≡ q)
+        (else : (u : ℕ) → u ≢ t → phases u ≡ x.words.phase u) (is_task : phase_sort q ≡ sort.Task)
+        (waits : (d : CellId) (way : Way) (w : Walk) → q ≡ phase.Waiting d way w
+        → (u : Walk) × (x.words.phase t ≡ phase.Waiting d way u))
+        (kept : (o : Option ℕ) (h : Option (Rec B)) → LiesAtHome o h → IsKept q o h) where
+      abbrev pub departs_laid : Departs r.law id t phases q laid_slots
+      departs_laid = record {
+        tasks = v.tasks;
+        tasks_at = tasks_at;
+        custody_of = k;
+        held = held;
+        out = task_there.1;
+        free = λ g e. no_hand g (hand_at g e);
+        here = now;
+        else = else;
+        is_task = is_task;
+        waits = waits;
+        kept = kept;
+        record_of = c;
+        lies = lies;
+        apart = λ u m. set_else s.homes t u (some (Some c)) m;
+        its = puts.cell;
+        owned = puts.owned;
+        made = puts.made;
+        there = cells_there;
+      }

@@ -1,0 +1,21 @@
+-- A seat's list of tasks in which what it has for one of them is noted anew.
+use Rattle.std.proofs.Common.{◌≡◌, ℕ, ◌≤◌, List, Some, ap, ⊎_elim}
+use Rattle.tj_words.specs.declared.view.Custody.{Custody}
+use Rattle.tj_words.specs.declared.view.View.{View}
+use Rattle.tj_words.specs.LawParts.Holding.{held_in}
+use Rattle.tj_words.specs.LawParts.Lots.{least_lot, IsSpent, IsWithinLot}
+use Rattle.tj_words.specs.SeatViews.TaskLists.{hold, note, noted}
+use Rattle.tj_words.proofs.Holders.HeldTasks.{none_some}
+
+-- what is noted of a task that the seat has stands in its place
+pub noted_is : {B : Type 0} (ks : List (Custody B)) (t : ℕ) (k : Custody B) (f : Custody B → Custody B)
+    → held_in ks t ≡ Some k
+    → noted t f ks ≡ hold (f k) ks
+noted_is ks t k f e = ap (λ o. note o f ks) e
+
+-- a seat that holds a task isn't spent
+pub holder_lot : {B : Type 0} (v : View B) (t : ℕ) (k : Custody B) → held_in v.tasks t ≡ Some k → IsWithinLot v
+    → least_lot ≤ v.lot
+holder_lot v t k e l = ⊎_elim
+    (λ (s : IsSpent v). none_some (held_in v.tasks t) k (ap (λ ks. held_in ks t) s.1) e)
+    (λ h. h) l.least

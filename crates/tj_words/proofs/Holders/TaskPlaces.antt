@@ -1,0 +1,126 @@
+-- Where a task is and what the core state shows of it, under the law.
+use Rattle.std.proofs.Common.{◌≡◌, ℕ, ◌<◌, ◌≤◌, Bool, true, false, Option, Some, None, refl, sym, ap, ◌∙◌, subst, arith}
+use mathlib.Core.Logic.{dite}
+use mathlib.Core.Option.{some-injective}
+use native.Mathlib.Decide.{dec_le}
+use lib.ListN.{get_elem?}
+use Rattle.tj_base.specs.declared.cell.Sort.TheVariants as sort
+use Rattle.tj_body.specs.Points.{IsIn}
+use Rattle.tj_body.specs.Programs.{Program}
+use Rattle.tj_core.specs.CoreState.{CellStage, CoreState, stage, waits, walks, alarmed, running, raised}
+use Rattle.tj_words.specs.declared.phase.Walk.TheVariants as walk
+use Rattle.tj_words.specs.declared.phase.Phase.TheVariants as phase
+use Rattle.tj_words.specs.declared.record.Rec.{Rec}
+use Rattle.tj_words.specs.declared.view.Hand.{Hand}
+use Rattle.tj_words.specs.declared.view.Does.{Does}
+use Rattle.tj_words.specs.declared.view.Does.TheVariants as does
+use Rattle.tj_words.specs.declared.view.Custody.{Custody}
+use Rattle.tj_words.specs.Words.Lists.{cell}
+use Rattle.tj_words.specs.LawParts.Holding.{held_in, phase_of, owned_by}
+use Rattle.tj_words.specs.LawParts.Hands.{hand_in, hand_phase, IsThere}
+use Rattle.tj_words.specs.LawParts.Custodies.{IsCustody}
+use Rattle.tj_words.specs.LawParts.ShownState.{phase_sort, new_stage, stage_there}
+use Rattle.tj_words.specs.LawParts.Contents.{Contents, hand_of, drawn_in, held_of, home_of, owned_of, core_shown}
+use Rattle.tj_words.specs.Law.{Law}
+use Rattle.tj_words.specs.Steps.ShownParts.{parts_of}
+use Rattle.tj_words.specs.Steps.StepEvents.{IsBegun, IsHeldWith}
+use Rattle.tj_words.proofs.Holders.HeldTasks.{none_some, one_some, found, finds, hand_found}
+use Rattle.tj_words.proofs.Events.ShownCells.{stage_out}
+
+-- what is shown of a task that a seat holds
+abbrev pub does_shown : ℕ → Does → CellStage
+does_shown t does.Unborn = new_stage t
+does_shown t does.Fresh = new_stage t
+does_shown t does.Running = running
+does_shown t does.Raised = raised
+does_shown t (does.Walking c way w) = waits c way (walks w)
+does_shown t (does.Alarmed c way w) = waits c way alarmed
+
+module _ {B : Type 0} where
+  -- its phase, and what its seat has for it, show that
+  pub does_stage_there : (t u : ℕ) (k : Custody B) (home : Option (Rec B)) (d : Does) → k.does ≡ d
+      → stage_there t (phase_sort (phase_of d)) (Some u) (phase_of d) (Some k) home ≡ does_shown t d
+  does_stage_there t u k home does.Unborn e = refl
+  does_stage_there t u k home does.Fresh e = ap (λ (d : Does). stage_there t sort.Task (Some u) phase.Running
+      (Some (record k { does = d })) home) e
+  does_stage_there t u k home does.Running e = ap (λ (d : Does). stage_there t sort.Task (Some u) phase.Running
+      (Some (record k { does = d })) home) e
+  does_stage_there t u k home does.Raised e = ap (λ (d : Does). stage_there t sort.Task (Some u) phase.Running
+      (Some (record k { does = d })) home) e
+  does_stage_there t u k home (does.Walking c way w) e =
+      ap (λ (d : Does). stage_there t sort.Task (Some u) (phase.Waiting (cell c) way walk.Walking)
+      (Some (record k { does = d })) home) e
+  does_stage_there t u k home (does.Alarmed c way w) e = refl
+
+  module _ {program : Program B} {cells : ℕ} {x : Contents B} (r : Law program cells x) where
+    abbrev n : ℕ
+    n = drawn_in cells x
+
+    abbrev K : CoreState
+    K = core_shown cells r.born r.maker x
+
+    -- the task is where its phase says, drawn and not in hand
+    pub begun_drawn : (t : ℕ) → IsBegun (x.words.phase t) → t < n
+    begun_drawn t b = dite (dec_le n t) (λ (l : n ≤ t). absurd (subst IsBegun (r.undrawn t l) b)) (λ l. omega arith)
+
+    pub begun_out : (t : ℕ) → IsBegun (x.words.phase t) → hand_in x.seats.hands t ≡ None
+    begun_out t b = by (hand_in x.seats.hands t) refl
+      where
+        unbegun : (m : Bool) → IsBegun (hand_phase m) → ⊥
+        unbegun true h = h
+        unbegun false h = h
+
+        by : (o : Option Hand) → hand_in x.seats.hands t ≡ o → o ≡ None
+        by None e = refl
+        by (Some h) e =
+            let f = hand_found x.seats.hands t h e in
+            let i = r.hands.each f.0.0 h f.0.1 in
+            absurd (unbegun h.marked (subst IsBegun (ap x.words.phase (sym f.1) ∙ i.marked) b))
+
+    pub begun_there : (t : ℕ) → IsBegun (x.words.phase t) → IsThere n (hand_of x) t
+    begun_there t b = (begun_drawn t b, begun_out t b)
+
+    -- where nobody holds a task, nothing is found for it
+    pub unheld : (t : ℕ) → r.custody.holder t ≡ None → held_of x t ≡ None
+    unheld t e = by (held_of x t) refl
+      where
+        by : (o : Option (Custody B)) → held_of x t ≡ o → o ≡ None
+        by None q = refl
+        by (Some k) q =
+            let f = found x.seats.tasks t k q in
+            none_some (r.custody.holder t) f.0 e (r.custody.held f.0 f.1.0 f.1.1 t k f.1.2).mine
+
+    module _ (id t : ℕ) (k : Custody B) (h : IsHeldWith x id t k) where
+      pub custody : IsCustody r.custody.holder x.words.phase (home_of x) id t k
+      custody = r.custody.held id h.0 h.1 t k h.2
+
+      -- what the seat has for it is what is found
+      pub held_here : held_of x t ≡ Some k
+      held_here =
+          let g = finds x.seats.tasks t id k h in
+          let f = found x.seats.tasks t g.0 g.1 in
+          let j : f.0 ≡ id = one_some f.0 id (sym (r.custody.held f.0 f.1.0 f.1.1 t g.0 f.1.2).mine ∙ custody.mine) in
+          let ks : f.1.0 ≡ h.0 = some-injective f.1.0 h.0
+          (sym f.1.1 ∙ (ap (λ (i : ℕ). get_elem? x.seats.tasks i) j ∙ h.1)) in
+          let e : g.0 ≡ k = one_some g.0 k (sym f.1.2 ∙ (ap (λ l. held_in l t) ks ∙ h.2)) in
+          g.1 ∙ ap (λ (z : Custody B). Some z) e
+
+      pub held_drawn : t < n
+      held_drawn = dite (dec_le n t)
+          (λ (l : n ≤ t). none_some (r.custody.holder t) id (r.custody.undrawn_free t l) custody.mine)
+          (λ l. omega arith)
+
+      -- a cell that stands in its list is owned by it
+      pub list_owned : (c : ℕ) → IsIn c k.owned → IsThere n (hand_of x) c × (x.words.own c ≡ Some t)
+      list_owned c i =
+          let l : IsIn c (owned_of x t) =
+          subst (λ (o : Option (Custody B)). IsIn c (owned_by o (home_of x t))) (sym held_here) i in
+          let there = r.owned.owned_there c t l in
+          (there, (r.owned.owners c t there).1 l)
+
+      -- what is shown of it
+      pub stage_held : (u : ℕ) → hand_in x.seats.hands t ≡ None → x.words.own t ≡ Some u
+          → stage K.cells t ≡ does_shown t k.does
+      stage_held u out owns = stage_out r.born r.maker (parts_of cells x) t held_drawn out
+          ∙ ((λ j. stage_there t (phase_sort (custody.does j)) (owns j) (custody.does j) (held_here j) (home_of x t))
+          ∙ does_stage_there t u k (home_of x t) k.does refl)

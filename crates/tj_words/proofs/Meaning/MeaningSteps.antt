@@ -1,0 +1,319 @@
+-- Each kind of step keeps what stands within the meaning.
+use Rattle.std.proofs.Common.{◌≡◌, ◌≢◌, ◌⊎◌, ℕ, zero, suc, ◌<◌, ◌≤◌, List, [], ◌∷◌, ◌++◌, Option, Some, None}
+use Rattle.std.proofs.Common.{refl, sym, ap, ◌∙◌, subst, inl, inr, ⊎_elim, arith}
+use mathlib.Core.Logic.{dite}
+use mathlib.Core.Option.{some, some-injective, some-ne-none}
+use native.Mathlib.Decide.{ℕ_discrete}
+use lib.ListN.{get_elem?}
+use Rattle.atomic_table.proofs.Lists.{at_snoc}
+use Rattle.tj_base.specs.ForkOrder.{Name}
+use Rattle.tj_body.specs.Points.{IsIn, Begins}
+use Rattle.tj_body.specs.Programs.{Program}
+use Rattle.tj_body.specs.Rounds.{IsFull}
+use Rattle.tj_body.specs.RoundPoints.{Becomes, InRounds}
+use Rattle.tj_body.specs.declared.point.Reference.{Reference}
+use Rattle.tj_body.specs.declared.point.Entry.{Entry}
+use Rattle.tj_body.proofs.Lists.{begins_self, begins_more, in_left}
+use Rattle.tj_body.proofs.RoundPoints.{entries_are_one}
+use Rattle.tj_words.specs.declared.record.Rec.{Rec}
+use Rattle.tj_words.specs.declared.view.Hand.{Hand}
+use Rattle.tj_words.specs.declared.view.Filled.{Filled}
+use Rattle.tj_words.specs.Words.Lists.{All, total}
+use Rattle.tj_words.specs.LawParts.Lots.{Lots}
+use Rattle.tj_words.specs.LawParts.TreeWords.{IsCell}
+use Rattle.tj_words.specs.LawParts.Telling.{tag_of, BitsSay}
+use Rattle.tj_words.specs.LawParts.Meaning.{HasCell, IsNamedThere}
+use Rattle.tj_words.specs.SeatViews.KnownEntries.{HasSeen, ToldBy}
+use Rattle.tj_words.proofs.Meaning.MeaningGrows.{Ground, Known, knows_now, IsThereOn, WrittenIn, FilledIn, AreWrittenIn}
+use Rattle.tj_words.proofs.Meaning.MeaningGrows.{AreFilledIn, ToldIn, Grew, wider, grew_wider, Meant, meaning_grows}
+use Rattle.tj_words.proofs.Meaning.MeaningGrows.{meaning_learns, meaning_moves, meaning_counts, told_on}
+
+-- one element more
+all_more : {A : Type 0} (F : A → Type 0) (x : A) (l : List A) → F x → All F l → All F (x ∷ l)
+all_more F x l h all y i = ⊎_elim (λ (q : y ≡ x). subst F (sym q) h) (λ j. all y j) i
+
+-- what holds of all elements of two lists holds of all of both together
+all_both : {A : Type 0} (F : A → Type 0) (l m : List A) → All F l → All F m → All F (l ++ m)
+all_both F [] m h k y i = k y i
+all_both F (x ∷ l) m h k y (inl e) = h y (inl e)
+all_both F (x ∷ l) m h k y (inr i) = all_both F l m (λ z j. h z (inr j)) k y i
+
+module _ {B : Type 0} (program : Program B) (cells : ℕ) where
+  module _ {count stop : ℕ} {g : Ground} {home : ℕ → Option (Rec B)} {k : Known}
+      (m : Meant program cells count stop g home k) where
+    -- seats that draw no cell and refuse none, and records that stay, leave COUNT and the rest: STOP is stored
+    pub stop_meant : (stop' : ℕ) → (stop' ≡ 1 → cells < count) → Meant program cells count stop' g home k
+    stop_meant stop' above = meaning_counts program cells m count stop' m.full above
+
+    -- a draw that finds no cell left, where the meaning needs more cells than there are
+    pub refused_meant : IsFull program cells → Meant program cells (suc count) stop g home k
+    refused_meant full =
+        meaning_counts program cells m (suc count) stop (λ l. full) (λ e. let l = m.stopped e in omega arith)
+
+    -- a record leaves its slot
+    pub out_meant : (home' : ℕ → Option (Rec B)) (t : ℕ) → home' t ≡ None → ((u : ℕ) → u ≢ t → home' u ≡ home u)
+        → Meant program cells count stop g home' k
+    out_meant home' t out else = meaning_moves program cells m home' lies where
+      lies : (u : ℕ) (r : Rec B) → home' u ≡ Some r → (home u ≡ Some r) ⊎ ToldIn program g r
+      lies u r e = dite (ℕ_discrete u t)
+          (λ q. let z : None ≡ Some r = sym out ∙ (ap home' (sym q) ∙ e) in absurd (cc))
+          (λ n. inl (sym (else u n) ∙ e))
+
+    -- the seat
+    module _ (id : ℕ) (b : List Reference) (w f : List Filled) (seen : get_elem? k.born_seen id ≡ some b)
+        (wrote : get_elem? k.wrote id ≡ some w) (filled : get_elem? k.filled id ≡ some f) where
+      begins : Begins b g.born
+      begins = m.begins id b seen
+
+      writes : AreWrittenIn program g w
+      writes = m.wrote_stands id w wrote
+
+      knows : AreFilledIn program g f
+      knows = m.filled_stands id f filled
+
+      -- a step that touches none of it
+      pub same_meant : Meant program cells count stop g home (knows_now id b w f k)
+      same_meant = meaning_learns program cells m id b w f begins writes knows
+
+      -- a load at which the seat learns what all cells are
+      pub all_meant : Meant program cells count stop g home (knows_now id g.born w f k)
+      all_meant = meaning_learns program cells m id g.born w f (begins_self g.born) writes knows
+
+      -- and one that finds a TAG
+      pub tag_seen : (c : ℕ) → g.tag c ≢ 0 → (e : Entry) × FilledIn program g c e
+          × Meant program cells count stop g home
+          (knows_now id g.born w (record { cell = c; entry = e } ∷ f) k)
+      tag_seen c n = let h = m.entries c n in (
+        h.0,
+        h.1,
+        meaning_learns program cells m id g.born w (record { cell = c; entry = h.0 } ∷ f) (begins_self g.born) writes
+            (all_more _ (record { cell = c; entry = h.0 }) f h.1 knows),
+      )
+
+      -- a draw that finds a cell left: it has a name of some round, and is in hand
+      pub draw_meant : (drawn' : ℕ) (hand' : ℕ → Option Hand) (x : Reference)
+          → count < cells
+          → drawn' ≡ suc g.drawn
+          → ((c : ℕ) → c ≢ g.drawn → hand' c ≡ g.hand c)
+          → InRounds program x.name
+          → Meant program cells (suc count) stop (wider program g drawn' hand' (g.born ++ x ∷ [])) home
+          (knows_now id (g.born ++ x ∷ []) w f k)
+      draw_meant drawn' hand' x left more else named =
+          meaning_learns program cells counted id born' w f (begins_self born')
+          (λ y i. on.written y.cell y.entry (writes y i))
+          (λ y i. on.filled y.cell y.entry (knows y i))
+        where
+          born' : List Reference
+          born' = g.born ++ x ∷ []
+
+          g' : Ground
+          g' = wider program g drawn' hand' born'
+
+          there : IsThereOn g g'
+          there c h = let l = h.0 in ((omega arith), else c (λ q. omega arith) ∙ h.1)
+
+          on : Grew program g g'
+          on = grew_wider program g drawn' hand' born' (begins_more g.born (x ∷ [])) there
+
+          grown : Meant program cells count stop g' home k
+          grown = meaning_grows program cells m g' on
+              (λ c y i. ⊎_elim (λ (q : IsCell g.born c y). inl q)
+              (λ (q : x ≡ y). inr (subst (λ (z : Reference). InRounds program z.name) q named))
+              (at_snoc g.born x y c i))
+              (λ c n. inl n)
+
+          counted : Meant program cells (suc count) stop g' home k
+          counted = meaning_counts program cells grown (suc count) stop (λ l. absurd (omega arith))
+              (λ e. let l = m.stopped e in omega arith)
+
+      -- the first store of OWN of c: it comes out of hand
+      pub given_meant : (hand' : ℕ → Option Hand) (c : ℕ) → hand' c ≡ None → ((d : ℕ) → d ≢ c → hand' d ≡ g.hand d)
+          → Meant program cells count stop (wider program g g.drawn hand' g.born) home (knows_now id b w f k)
+      given_meant hand' c out else =
+          meaning_learns program cells grown id b w f begins (λ y i. on.written y.cell y.entry (writes y i))
+          (λ y i. on.filled y.cell y.entry (knows y i))
+        where
+          g' : Ground
+          g' = wider program g g.drawn hand' g.born
+
+          there : IsThereOn g g'
+          there d h = (h.0, dite (ℕ_discrete d c) (λ q. ap hand' q ∙ out) (λ n. else d n ∙ h.1))
+
+          on : Grew program g g'
+          on = grew_wider program g g.drawn hand' g.born (begins_self g.born) there
+
+          grown : Meant program cells count stop g' home k
+          grown = meaning_grows program cells m g' on (λ d x i. inl i) (λ d n. inl n)
+
+      -- a record comes home that tells a point, by what the seat knows
+      pub home_meant : (home' : ℕ → Option (Rec B)) (t : ℕ) (r : Rec B) → home' t ≡ Some r
+          → ((u : ℕ) → u ≢ t → home' u ≡ home u) → ToldBy program b f r → Meant program cells count stop g home' k
+      home_meant home' t r here else told = meaning_moves program cells m home' lies where
+        now : ToldIn program g r
+        now = told_on program b g.born begins (HasSeen f) (FilledIn program g) (λ c e i. knows _ i) r told
+
+        lies : (u : ℕ) (y : Rec B) → home' u ≡ Some y → (home u ≡ Some y) ⊎ ToldIn program g y
+        lies u y e = dite (ℕ_discrete u t)
+            (λ q. let z : Some r ≡ Some y = sym here ∙ (ap home' (sym q) ∙ e) in let same : r ≡ y = cc in
+            inr (subst (ToldIn program g) same now))
+            (λ n. inl (sym (else u n) ∙ e))
+
+      -- a record at home is claimed: the seat knows then what all cells are and what has become of those that the
+      -- record's point wrote, and the record tells its point by that
+      pub claim_seen : (t : ℕ) (r : Rec B) → home t ≡ Some r → (more : List Filled)
+          × AreFilledIn program g more × ToldBy program g.born (more ++ f) r
+          × Meant program cells count stop g home (knows_now id g.born w (more ++ f) k)
+      claim_seen t r e = let told = m.records t r e in let s = told.stands in
+          let l = known_of told.point.writes s.writes in (
+            l.0,
+            l.1,
+            record {
+              point = told.point;
+              tells = told.tells;
+              tells_stage = told.tells_stage;
+              stands = record {
+                of_rounds = s.of_rounds;
+                children = s.children;
+                promises = s.promises;
+                writes = λ q d i. let h = l.2 q d i in (h.0, h.1, h.2, h.3, in_left _ l.0 f h.4);
+              };
+            },
+            meaning_learns program cells m id g.born w (l.0 ++ f) (begins_self g.born) writes
+                (all_both _ l.0 f l.1 knows),
+          )
+        where
+          known_of : (l : List (Name × Entry))
+              → ((q : Name) (e : Entry) → IsIn (q, e) l → HasCell g.born q (λ c x. FilledIn program g c e))
+              → (more : List Filled) × AreFilledIn program g more
+              × ((q : Name) (e : Entry) → IsIn (q, e) l → HasCell g.born q (λ c x. HasSeen more c e))
+          known_of [] h = ([], (λ y i. absurd i), (λ q e i. absurd i))
+          known_of (z ∷ zs) h = let one = h z.0 z.1 (inl refl) in
+              let rest = known_of zs (λ q e i. h q e (inr i)) in (
+                record { cell = one.0; entry = z.1 } ∷ rest.0,
+                all_more _ (record { cell = one.0; entry = z.1 }) rest.0 one.4 rest.1,
+                (λ q e i. ⊎_elim
+                    (λ (p : (q, e) ≡ (z.0, z.1)). (
+                      one.0,
+                      one.1,
+                      one.2,
+                      one.3 ∙ sym (ap (λ (y : Name × Entry). y.0) p),
+                      inl (λ j. record { cell = one.0; entry = (p j).1 }),
+                    ))
+                    (λ j. let d = rest.2 q e j in (d.0, d.1, d.2, d.3, inr d.4)) i),
+              )
+
+      -- the cell's name becomes this
+      module _ (c : ℕ) (e : Entry) (x : Reference) (is : IsCell g.born c x) (becomes : Becomes program x.name e) where
+        -- and nothing else
+        one : (d : Entry) → WrittenIn program g c d → d ≡ e
+        one d h = let same : h.reference ≡ x = some-injective h.reference x (sym h.is ∙ is) in
+            (entries_are_one program x.name d e
+            (subst (λ (z : Reference). Becomes program z.name d) same h.becomes) becomes).0
+
+        -- the store of BITS
+        pub bits_meant : (bits' : ℕ → ℕ) (n : ℕ) → bits' c ≡ n → ((d : ℕ) → d ≢ c → bits' d ≡ g.bits d)
+            → BitsSay g.born e n → IsNamedThere g.drawn g.hand e n
+            → Meant program cells count stop (record g { bits = bits' }) home
+            (knows_now id b (record { cell = c; entry = e } ∷ w) f k)
+        bits_meant bits' n here else say named =
+            meaning_learns program cells grown id b (record { cell = c; entry = e } ∷ w) f begins
+            (all_more _ (record { cell = c; entry = e }) w
+            (record {
+              reference = x;
+              is = is;
+              becomes = becomes;
+              bits_say = subst (BitsSay g.born e) (sym here) say;
+              named_there = subst (IsNamedThere g.drawn g.hand e) (sym here) named;
+            })
+            (λ y i. written y.cell y.entry (writes y i)))
+            (λ y i. on.filled y.cell y.entry (knows y i))
+          where
+            g' : Ground
+            g' = record g { bits = bits' }
+
+            written : (d : ℕ) (y : Entry) → WrittenIn program g d y → WrittenIn program g' d y
+            written d y h = dite (ℕ_discrete d c)
+                (λ q. let h' : WrittenIn program g c y = subst (λ i. WrittenIn program g i y) q h in
+                let same = one y h' in let at : bits' d ≡ n = ap bits' q ∙ here in record {
+                  reference = h.reference;
+                  is = h.is;
+                  becomes = h.becomes;
+                  bits_say = subst (BitsSay g.born y) (sym at) (subst (λ z. BitsSay g.born z n) (sym same) say);
+                  named_there = subst (IsNamedThere g.drawn g.hand y) (sym at)
+                      (subst (λ z. IsNamedThere g.drawn g.hand z n) (sym same) named);
+                })
+                (λ q. record {
+                  reference = h.reference;
+                  is = h.is;
+                  becomes = h.becomes;
+                  bits_say = subst (BitsSay g.born y) (sym (else d q)) h.bits_say;
+                  named_there = subst (IsNamedThere g.drawn g.hand y) (sym (else d q)) h.named_there;
+                })
+
+            on : Grew program g g'
+            on = record {
+              more = begins_self g.born;
+              written = written;
+              filled = λ d y h. record { written = written d y h.written; tag_is = h.tag_is };
+            }
+
+            grown : Meant program cells count stop g' home k
+            grown = meaning_grows program cells m g' on (λ d y i. inl i) (λ d q. inl q)
+
+      -- the store of TAG, after that of BITS
+      pub tag_meant : (tag' : ℕ → ℕ) (c : ℕ) (e : Entry) → HasSeen w c e → tag' c ≡ tag_of e
+          → ((d : ℕ) → d ≢ c → tag' d ≡ g.tag d)
+          → Meant program cells count stop (record g { tag = tag' }) home
+          (knows_now id b w (record { cell = c; entry = e } ∷ f) k)
+      tag_meant tag' c e due here else =
+          meaning_learns program cells grown id b w (record { cell = c; entry = e } ∷ f) begins
+          (λ y i. written y.cell y.entry (writes y i))
+          (all_more _ (record { cell = c; entry = e }) f new (λ y i. filled_on y.cell y.entry (knows y i)))
+        where
+          g' : Ground
+          g' = record g { tag = tag' }
+
+          wrote_it : WrittenIn program g c e
+          wrote_it = writes _ due
+
+          written : (d : ℕ) (y : Entry) → WrittenIn program g d y → WrittenIn program g' d y
+          written d y h = record {
+            reference = h.reference;
+            is = h.is;
+            becomes = h.becomes;
+            bits_say = h.bits_say;
+            named_there = h.named_there;
+          }
+
+          filled_on : (d : ℕ) (y : Entry) → FilledIn program g d y → FilledIn program g' d y
+          filled_on d y h = record {
+            written = written d y h.written;
+            tag_is = dite (ℕ_discrete d c)
+                (λ q. ap tag' q ∙ (here ∙ ap tag_of (sym (one c e wrote_it.reference wrote_it.is wrote_it.becomes y
+                (subst (λ i. WrittenIn program g i y) q h.written)))))
+                (λ q. else d q ∙ h.tag_is);
+          }
+
+          new : FilledIn program g' c e
+          new = record { written = written c e wrote_it; tag_is = here }
+
+          on : Grew program g g'
+          on = record { more = begins_self g.born; written = written; filled = filled_on }
+
+          grown : Meant program cells count stop g' home k
+          grown = meaning_grows program cells m g' on (λ d y i. inl i)
+              (λ d q. dite (ℕ_discrete d c)
+              (λ s. inr (e, subst (λ i. FilledIn program g' i e) (sym s) new))
+              (λ s. inl (λ z. q (else d s ∙ z))))
+
+-- a seat's number is at most the sum of all
+total_has : (l : List ℕ) (i a : ℕ) → get_elem? l i ≡ some a → a ≤ total l
+total_has [] i a e = absurd (some-ne-none a (sym e))
+total_has (x ∷ xs) zero a e = let q : x ≡ a = some-injective x a e in omega arith
+total_has (x ∷ xs) (suc i) a e = let h = total_has xs i a e in omega arith
+
+-- where a seat has had a draw refused, COUNT is above the number of cells: it may store STOP
+pub refused_above : (cells count : ℕ) (lots refused : List ℕ) → Lots cells count lots refused → (id r : ℕ)
+    → get_elem? refused id ≡ some r → 0 < r → cells < count
+refused_above cells count lots refused h id r at some_refused =
+    let a = h.counted in let b = total_has refused id r at in omega arith

@@ -1,0 +1,298 @@
+-- A table whose last seat has come back: no other seat is in use, no task is held, ready or live, no cell is in hand,
+-- and nothing has become of what a task waits for.
+use Rattle.std.proofs.Common.{◌≡◌, ◌≢◌, ℕ, zero, suc, ◌+◌, ◌<◌, ◌≤◌, Bool, List, [], ◌∷◌, map, Option, Some, None}
+use Rattle.std.proofs.Common.{refl, sym, ap, ◌∙◌, subst, ⊎_elim, arith}
+use mathlib.Core.Option.{some, some-injective, some-ne-none}
+use mathlib.Core.Logic.{dite}
+use native.Mathlib.Decide.{ℕ_discrete, dec_le}
+use lib.ListN.{get_elem?}
+use Rattle.atomic_table.specs.Table.{State}
+use Rattle.atomic_table.proofs.Lists.{at_map}
+use Rattle.tj_base.proofs.Ways.{reach_front}
+use Rattle.tj_base.specs.declared.cell.CellId.{CellId}
+use Rattle.tj_base.specs.declared.cell.Sort.TheVariants as sort
+use Rattle.tj_body.specs.Programs.{Program}
+use Rattle.tj_core.specs.CoreState.{CellStage, CoreState, waits, walks, parked, alarmed, promise, ended, running, owner}
+use Rattle.tj_core.specs.CoreState.{stage, wait, blank}
+use Rattle.tj_core.specs.WaitGraph.{Leads}
+use Rattle.tj_core.specs.declared.walk.Walker.{Walker}
+use Rattle.tj_core.specs.declared.walk.Way.{Way}
+use Rattle.tj_words.specs.declared.phase.Phase.{Phase}
+use Rattle.tj_words.specs.declared.phase.Phase.TheVariants as phase
+use Rattle.tj_words.specs.declared.phase.Walk.{Walk}
+use Rattle.tj_words.specs.declared.phase.Walk.TheVariants as walk
+use Rattle.tj_words.specs.declared.record.Rec.{Rec}
+use Rattle.tj_words.specs.declared.table.Key.{Key}
+use Rattle.tj_words.specs.declared.view.Custody.{Custody}
+use Rattle.tj_words.specs.declared.view.Hand.{Hand}
+use Rattle.tj_words.specs.declared.view.View.{View}
+use Rattle.tj_words.specs.AtRest.ClosedCells.{IsStill}
+use Rattle.tj_words.specs.LawParts.Contents.{Contents, contents_of, drawn_in, tag_in, hand_of, held_of, home_of}
+use Rattle.tj_words.specs.LawParts.Contents.{core_shown}
+use Rattle.tj_words.specs.LawParts.Custodies.{IsHeld, IsKept}
+use Rattle.tj_words.specs.LawParts.Hands.{IsThere}
+use Rattle.tj_words.specs.Law.{Rule}
+use Rattle.tj_words.specs.Words.Lists.{Each, cell, total}
+use Rattle.tj_words.specs.LawParts.LiveCount.{live_part}
+use Rattle.tj_words.specs.LawParts.Lots.{IsSpent, IsWithinLot, least_lot}
+use Rattle.tj_words.specs.AtRest.RestingSeats.{MayRest}
+use Rattle.tj_words.specs.Steps.ShownParts.{parts_of}
+use Rattle.tj_words.specs.LawParts.ShownState.{phase_sort, stage_there}
+use Rattle.tj_words.specs.Steps.StepEvents.{wait_in}
+use Rattle.tj_words.proofs.Cells.CellFacts.{wait_shown}
+use Rattle.tj_words.proofs.Holders.HeldTasks.{hand_found, none_some}
+use Rattle.tj_words.proofs.Waiters.LiveSteps.{none_left_waiting}
+use Rattle.tj_words.proofs.Meaning.RestingTables.{none_live}
+use Rattle.tj_words.proofs.Events.ShownCells.{cell_blank, stage_out, owner_out}
+
+-- what stands at an index of a mapped list
+pub map_back : {A C : Type 0} (f : A → C) (l : List A) (i : ℕ) (c : C) → get_elem? (map f l) i ≡ some c
+    → (a : A) × (get_elem? l i ≡ some a) × (f a ≡ c)
+map_back f [] i c e = absurd (some-ne-none c (sym e))
+map_back f (x ∷ xs) zero c e = (x, refl, some-injective (f x) c e)
+map_back f (x ∷ xs) (suc i) c e = map_back f xs i c e
+
+-- one of the numbers, and two of them, are no more than the sum
+one_part : (l : List ℕ) (i a : ℕ) → get_elem? l i ≡ some a → a ≤ total l
+one_part [] i a e = absurd (some-ne-none a (sym e))
+one_part (x ∷ xs) zero a e = let q : x ≡ a = some-injective x a e in omega arith
+one_part (x ∷ xs) (suc i) a e = let q = one_part xs i a e in omega arith
+
+two_parts : (l : List ℕ) (i j a b : ℕ) → j ≢ i → get_elem? l i ≡ some a → get_elem? l j ≡ some b → a + b ≤ total l
+two_parts [] i j a b n e f = absurd (some-ne-none a (sym e))
+two_parts (x ∷ xs) zero zero a b n e f = absurd (n refl)
+two_parts (x ∷ xs) zero (suc j) a b n e f = let q : x ≡ a = some-injective x a e in let p = one_part xs j b f in
+    omega arith
+two_parts (x ∷ xs) (suc i) zero a b n e f = let q : x ≡ b = some-injective x b f in let p = one_part xs i a e in
+    omega arith
+two_parts (x ∷ xs) (suc i) (suc j) a b n e f = let p = two_parts xs i j a b (λ q. n (ap suc q)) e f in omega arith
+
+module _ {B : Type 0} where
+  -- a seat that holds a task, or has a lot, isn't spent
+  pub lot_of_holder : (v : View B) → IsWithinLot v → v.tasks ≢ [] → least_lot ≤ v.lot
+  lot_of_holder v l n = ⊎_elim (λ (q : IsSpent v). absurd (n q.1)) (λ q. q) l.least
+
+  pub no_lot_no_task : (v : View B) → IsWithinLot v → v.lot ≡ 0 → v.tasks ≡ []
+  no_lot_no_task v l z = ⊎_elim (λ (q : IsSpent v). q.1) (λ q. absurd (omega arith)) l.least
+
+-- what a still task shows
+module _ {B : Type 0} (t : ℕ) where
+  -- one that has alarmed shows it
+  alarm_out : (o : Option ℕ) (p : Phase) (c : CellId) (way : Way) (held : Option (Custody B)) (home : Option (Rec B))
+      → o ≢ None → p ≡ phase.Waiting c way walk.Alarmed
+      → stage_there t (phase_sort p) o p held home ≡ waits c.0 way alarmed
+  alarm_out None p c way held home n e = absurd (n refl)
+  alarm_out (Some u) p c way held home n e = ap (λ z. stage_there t (phase_sort z) (Some u) z held home) e
+
+  -- and what shows it has alarmed
+  alarm_back : (o : Option ℕ) (p : Phase) (c : ℕ) (way : Way) (held : Option (Custody B)) (home : Option (Rec B))
+      → IsStill p → stage_there t (phase_sort p) o p held home ≡ waits c way alarmed
+      → p ≡ phase.Waiting (cell c) way walk.Alarmed
+  alarm_back None phase.Unborn c way held home s e = absurd s
+  alarm_back None phase.Ready c way held home s e = absurd s
+  alarm_back None phase.Running c way held home s e = absurd s
+  alarm_back None (phase.Waiting d y walk.Walking) c way held home s e = absurd s
+  alarm_back (Some u) phase.Unborn c way held home s e = absurd s
+  alarm_back (Some u) phase.Ready c way held home s e = absurd s
+  alarm_back (Some u) phase.Running c way held home s e = absurd s
+  alarm_back (Some u) (phase.Waiting d y walk.Walking) c way held home s e = absurd s
+  alarm_back None phase.Ended c way held home s e = cc
+  alarm_back (Some u) phase.Ended c way held home s e = cc
+  alarm_back None phase.Promise c way held home s e = cc
+  alarm_back (Some u) phase.Promise c way held home s e = cc
+  alarm_back None (phase.Waiting d y walk.Parked) c way held home s e = cc
+  alarm_back (Some u) (phase.Waiting d y walk.Parked) c way held home s e = cc
+  alarm_back None (phase.Waiting d y walk.Alarmed) c way held home s e = cc
+  alarm_back (Some u) (phase.Waiting d y walk.Alarmed) c way held home s e =
+      let p : d.0 ≡ c = cc in let q : y ≡ way = cc in
+      λ j. phase.Waiting (record { 0 = p j }) (q j) walk.Alarmed
+
+  -- no still task shows a walk
+  walk_back : (o : Option ℕ) (p : Phase) (c : ℕ) (way : Way) (w : Walker) (held : Option (Custody B))
+      (home : Option (Rec B)) → IsStill p → stage_there t (phase_sort p) o p held home ≡ waits c way (walks w) → ⊥
+  walk_back None phase.Unborn c way w held home s e = s
+  walk_back None phase.Ready c way w held home s e = s
+  walk_back None phase.Running c way w held home s e = s
+  walk_back None (phase.Waiting d y walk.Walking) c way w held home s e = s
+  walk_back (Some u) phase.Unborn c way w held home s e = s
+  walk_back (Some u) phase.Ready c way w held home s e = s
+  walk_back (Some u) phase.Running c way w held home s e = s
+  walk_back (Some u) (phase.Waiting d y walk.Walking) c way w held home s e = s
+  walk_back None phase.Ended c way w held home s e = cc
+  walk_back (Some u) phase.Ended c way w held home s e = cc
+  walk_back None phase.Promise c way w held home s e = cc
+  walk_back (Some u) phase.Promise c way w held home s e = cc
+  walk_back None (phase.Waiting d y walk.Parked) c way w held home s e = cc
+  walk_back (Some u) (phase.Waiting d y walk.Parked) c way w held home s e = cc
+  walk_back None (phase.Waiting d y walk.Alarmed) c way w held home s e = cc
+  walk_back (Some u) (phase.Waiting d y walk.Alarmed) c way w held home s e = cc
+
+-- a phase that names a cell waits for it
+waits_back : (p : Phase) (c : ℕ) → wait_in p ≡ Some c
+    → (d : CellId) × (way : Way) × (w : Walk) × (p ≡ phase.Waiting d way w) × (d.0 ≡ c)
+waits_back phase.Unborn c e = cc
+waits_back phase.Ready c e = cc
+waits_back phase.Running c e = cc
+waits_back phase.Ended c e = cc
+waits_back phase.Promise c e = cc
+waits_back (phase.Waiting d way w) c e = (d, way, w, refl, (let q : d.0 ≡ c = cc in q))
+
+module _ {B : Type 0} (program : Bool → B → Program B) (key : Key B) (s : State (Option (Rec B)) (View B))
+    (r : Rule program key s) (id : ℕ) (v : View B) (at : get_elem? s.views id ≡ some v) (may : MayRest v) where
+  abbrev pub P : Program B
+  P = program key.strict key.root.value
+
+  abbrev pub x : Contents B
+  x = contents_of s
+
+  abbrev pub n : ℕ
+  n = drawn_in key.cells x
+
+  abbrev pub K : CoreState
+  K = core_shown key.cells r.law.born r.law.maker x
+
+  pub few : n ≤ key.cells
+  few = omega arith
+
+  pub live_zero : x.words.live ≡ 0
+  live_zero = r.law.live_count.stays_at_rest id v.rested (at_map (λ (u : View B). u.rested) s.views id v at) may.rested
+
+  no_tasks : (j : ℕ) (u : View B) → get_elem? s.views j ≡ some u → u.tasks ≡ []
+  no_tasks j u e = dite (ℕ_discrete j id)
+      (λ q. ap (λ (w : View B). w.tasks)
+      (some-injective u v (sym e ∙ (ap (λ k. get_elem? s.views k) q ∙ at))) ∙ may.tasks)
+      (λ q. let l = two_parts x.seats.lots id j v.lot u.lot q (at_map (λ (w : View B). w.lot) s.views id v at)
+      (at_map (λ (w : View B). w.lot) s.views j u e) in let a = r.law.lots.all in let m = may.alone in
+      no_lot_no_task u (r.seats j u e).within_lot (omega arith))
+
+  -- no seat holds a task
+  pub idle : Each (λ j ks. ks ≡ []) x.seats.tasks
+  idle j ks e = let w = map_back (λ (u : View B). u.tasks) s.views j ks e in sym w.2 ∙ no_tasks j w.0 w.1
+
+  pub not_held : (t : ℕ) → ¬ IsHeld (r.law.custody.holder t)
+  not_held t h = let z = r.law.custody.holders t h.0 h.1 in
+      none_some None z.2.0 refl (sym (ap (λ l. Rattle.tj_words.specs.LawParts.Holding.held_in l t) (idle h.0 z.0 z.1)) ∙ z.2.1)
+
+  pub free : (t : ℕ) → r.law.custody.holder t ≡ None
+  free t = by (r.law.custody.holder t) refl where
+    by : (o : Option ℕ) → r.law.custody.holder t ≡ o → o ≡ None
+    by None e = refl
+    by (Some j) e = absurd (not_held t (j, e))
+
+  -- no cell is in hand
+  pub no_hand : (c : ℕ) → hand_of x c ≡ None
+  no_hand c = by (hand_of x c) refl where
+    by : (o : Option Hand) → hand_of x c ≡ o → o ≡ None
+    by None e = refl
+    by (Some h) e = let f = hand_found x.seats.hands c h e in
+        let m = (r.law.hands.each f.0.0 h f.0.1).maker_held in
+        none_some None m.2.0 refl
+        (sym (ap (λ l. Rattle.tj_words.specs.LawParts.Holding.held_in l h.maker) (idle f.0.0 m.0 m.1)) ∙ m.2.1)
+
+  pub there : (c : ℕ) → c < n → IsThere n (hand_of x) c
+  there c l = (l, no_hand c)
+
+  -- no task is live
+  pub not_live : (t : ℕ) → t < n → live_part (x.words.phase t) ≡ 0
+  not_live t l = let c = r.law.live_count.counted in let z = live_zero in let f = few in
+      none_live x.words.phase key.cells t (omega arith) (omega arith)
+
+  pub kept : (t : ℕ) → t < n → (p : Phase) → x.words.phase t ≡ p → phase_sort p ≡ sort.Task
+      → IsKept p (r.law.custody.holder t) (home_of x t)
+  kept t l p e is = subst (λ z. IsKept z (r.law.custody.holder t) (home_of x t)) e
+      (r.law.custody.tasks_kept t l
+      (ap (λ (o : Option Hand). Rattle.tj_words.specs.LawParts.ShownState.sort_shown o (x.words.phase t)) (no_hand t)
+      ∙ (ap phase_sort e ∙ is)))
+
+  -- each task has ended, or waits and has parked or alarmed
+  pub still : (t : ℕ) → t < n → IsStill (x.words.phase t)
+  still t l = by (x.words.phase t) refl where
+    by : (p : Phase) → x.words.phase t ≡ p → IsStill p
+    by phase.Unborn e = absurd (not_held t (kept t l phase.Unborn e refl))
+    by phase.Ready e = let z : live_part phase.Ready ≡ 0 = ap live_part (sym e) ∙ not_live t l in absurd (omega arith)
+    by phase.Running e = absurd (not_held t (kept t l phase.Running e refl))
+    by phase.Ended e = tt
+    by phase.Promise e = tt
+    by (phase.Waiting c way walk.Walking) e = absurd (not_held t (kept t l (phase.Waiting c way walk.Walking) e refl))
+    by (phase.Waiting c way walk.Parked) e = tt
+    by (phase.Waiting c way walk.Alarmed) e = tt
+
+  -- a task that waits is there
+  pub waiter_there : (t : ℕ) (c : CellId) (way : Way) (w : Walk) → x.words.phase t ≡ phase.Waiting c way w → t < n
+  waiter_there t c way w e = dite (dec_le n t)
+      (λ (l : n ≤ t). let q : phase.Unborn ≡ phase.Waiting c way w = sym (r.law.undrawn t l) ∙ e in absurd (cc))
+      (λ l. omega arith)
+
+  -- the stage that a task shows
+  pub stage_is : (t : ℕ) → t < n → stage K.cells t
+      ≡ stage_there t (phase_sort (x.words.phase t)) (x.words.own t) (x.words.phase t) (held_of x t) (home_of x t)
+  stage_is t l = stage_out r.law.born r.law.maker (parts_of key.cells x) t l (no_hand t)
+
+  pub alarm_shown : (t : ℕ) (c : CellId) (way : Way) → x.words.phase t ≡ phase.Waiting c way walk.Alarmed
+      → stage K.cells t ≡ waits c.0 way alarmed
+  alarm_shown t c way e = stage_is t (waiter_there t c way walk.Alarmed e)
+      ∙ alarm_out t (x.words.own t) (x.words.phase t) c way (held_of x t) (home_of x t)
+      (r.law.waiters_own t c way walk.Alarmed e) e
+
+  drawn_stage : (t c : ℕ) (way : Way) (w : Rattle.tj_core.specs.CoreState.WaitStage)
+      → stage K.cells t ≡ waits c way w → t < n
+  drawn_stage t c way w e = dite (dec_le n t)
+      (λ (l : n ≤ t). let q : promise ≡ waits c way w =
+      sym (ap (λ (z : Rattle.tj_core.specs.CoreState.CellState). z.stage)
+      (cell_blank r.law.born r.law.maker (parts_of key.cells x) t l)) ∙ e in absurd (cc))
+      (λ l. omega arith)
+
+  pub alarm_phase : (t c : ℕ) (way : Way) → stage K.cells t ≡ waits c way alarmed
+      → x.words.phase t ≡ phase.Waiting (cell c) way walk.Alarmed
+  alarm_phase t c way e = let l = drawn_stage t c way alarmed e in
+      alarm_back t (x.words.own t) (x.words.phase t) c way (held_of x t) (home_of x t) (still t l)
+      (sym (stage_is t l) ∙ e)
+
+  pub no_walk : (t c : ℕ) (way : Way) (w : Walker) → stage K.cells t ≡ waits c way (walks w) → ⊥
+  no_walk t c way w e = let l = drawn_stage t c way (walks w) e in
+      walk_back t (x.words.own t) (x.words.phase t) c way w (held_of x t) (home_of x t) (still t l)
+      (sym (stage_is t l) ∙ e)
+
+  -- the wait graph that is shown is that of the words
+  pub leads_shown : (t u : ℕ) (c : CellId) (way : Way) (w : Walk) → x.words.phase t ≡ phase.Waiting c way w
+      → x.words.own c.0 ≡ Some u → Leads K.cells t u
+  leads_shown t u c way w e o = (
+    c.0,
+    wait_shown r.law t (there t (waiter_there t c way w e)) ∙ ap wait_in e,
+    owner_out r.law.born r.law.maker (parts_of key.cells x) c.0 (r.law.names.waits t c way w e).0 (no_hand c.0) ∙ o,
+  )
+
+  pub leads_back : (t u : ℕ) → Leads K.cells t u
+      → (c : CellId) × (way : Way) × (w : Walk) × (x.words.phase t ≡ phase.Waiting c way w) × (x.words.own c.0 ≡ Some u)
+  leads_back t u h =
+      let l : t < n = dite (dec_le n t)
+      (λ (l : n ≤ t). let q : None ≡ Some h.0 = sym (ap (λ (z : Rattle.tj_core.specs.CoreState.CellState).
+      Rattle.tj_core.specs.CoreState.wait_of z.stage) (cell_blank r.law.born r.law.maker (parts_of key.cells x) t l))
+      ∙ h.1 in absurd (cc)) (λ l. omega arith) in
+      let y = waits_back (x.words.phase t) h.0 (sym (wait_shown r.law t (there t l)) ∙ h.1) in
+      let o = owner_out r.law.born r.law.maker (parts_of key.cells x) y.0.0 (r.law.names.waits t y.0 y.1 y.2 y.3).0
+      (no_hand y.0.0) in
+      (y.0, y.1, y.2, y.3, sym o ∙ (ap (λ k. owner K.cells k) y.4 ∙ h.2))
+
+  -- nothing has become of a cell that a task waits for
+  pub no_value : (t : ℕ) (c : CellId) (way : Way) (w : Walk) → x.words.phase t ≡ phase.Waiting c way w
+      → tag_in x c.0 ≡ 0
+  no_value t c way walk.Walking e = let z : live_part (phase.Waiting c way walk.Walking) ≡ 0 =
+      ap live_part (sym e) ∙ not_live t (waiter_there t c way walk.Walking e) in absurd (omega arith)
+  no_value t c way walk.Parked e = none_left_waiting program key s r id v at may.rested t c.0 (way, e)
+  no_value t c way walk.Alarmed e = dite (ℕ_discrete (tag_in x c.0) 0) (λ q. q)
+      (λ q. let closed = r.law.once_words.valued c.0 Rattle.tj_words.specs.declared.offsets.Once.TheVariants.Tag
+      (λ h. h) q in
+      let cycle = r.law.facts.alarm t c.0 way (alarm_shown t c way e) in
+      let first = first_of t cycle.0 cycle.1.some cycle.1.round in
+      let h = leads_back t first.0 first.1 in
+      let same : h.0.0 ≡ c.0 = one_cell (sym h.3 ∙ e) in
+      none_some (x.words.own c.0) first.0 closed.1 (ap (λ k. x.words.own k) (sym same) ∙ h.4))
+    where
+      first_of : (a m : ℕ) → 0 < m → Rattle.tj_core.specs.WaitGraph.Reaches K.cells a m a
+          → (b : ℕ) × Leads K.cells a b
+      first_of a zero l h = absurd (omega arith)
+      first_of a (suc m) l h = let z = reach_front (Leads K.cells) a m a h in (z.0, z.1)
+
+      one_cell : {c d : CellId} {y z : Way} {w u : Walk} → phase.Waiting c y w ≡ phase.Waiting d z u → c.0 ≡ d.0
+      one_cell e = cc

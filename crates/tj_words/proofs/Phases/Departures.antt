@@ -1,0 +1,132 @@
+-- The law after a task leaves its seat with its record at home: it is ready, has ended, or was shelved.
+use Rattle.std.proofs.Common.{◌≡◌, ◌≢◌, ℕ, List, set, Option, Some, None, refl, sym, ap, ◌∙◌, subst}
+use mathlib.Core.Logic.{dite}
+use mathlib.Core.Option.{some}
+use native.Mathlib.Decide.{ℕ_discrete}
+use lib.ListN.{get_elem?}
+use Rattle.tj_base.specs.declared.cell.CellId.{CellId}
+use Rattle.tj_base.specs.declared.cell.Sort.TheVariants as sort
+use Rattle.tj_body.specs.Programs.{Program}
+use Rattle.tj_core.specs.CoreFacts.{CoreFacts}
+use Rattle.tj_core.specs.declared.walk.Way.{Way}
+use Rattle.tj_words.specs.declared.phase.Walk.{Walk}
+use Rattle.tj_words.specs.declared.phase.Phase.{Phase}
+use Rattle.tj_words.specs.declared.phase.Phase.TheVariants as phase
+use Rattle.tj_words.specs.declared.record.Rec.{Rec}
+use Rattle.tj_words.specs.declared.view.Custody.{Custody}
+use Rattle.tj_words.specs.declared.view.Does.{Does}
+use Rattle.tj_words.specs.declared.view.Hand.{Hand}
+use Rattle.tj_words.specs.declared.view.Push.{Push}
+use Rattle.tj_words.specs.Words.Lists.{numbers}
+use Rattle.tj_words.specs.LawParts.Holding.{Slots, record_in, home_in, held_in}
+use Rattle.tj_words.specs.LawParts.NamedCells.{record_cells, AreThere}
+use Rattle.tj_words.specs.LawParts.ShownState.{phase_sort}
+use Rattle.tj_words.specs.LawParts.Custodies.{LiesAtHome, IsKept}
+use Rattle.tj_words.specs.LawParts.RecordPhases.{RecordsFit}
+use Rattle.tj_words.specs.LawParts.Chains.{Chains}
+use Rattle.tj_words.specs.LawParts.LiveCount.{LiveCount}
+use Rattle.tj_words.specs.SeatViews.TaskLists.{let_go}
+use Rattle.tj_words.specs.LawParts.Contents.{Contents, drawn_in, tag_in, hand_of, home_of, core_shown}
+use Rattle.tj_words.specs.Law.{Law}
+use Rattle.tj_words.specs.Steps.StepEvents.{IsHeldWith}
+use Rattle.tj_words.specs.Steps.WalkSteps.{Leaves}
+use Rattle.tj_words.proofs.Meaning.MeaningGrows.{Meant}
+use Rattle.tj_words.proofs.Meaning.LawMeant.{ground_of, known_of}
+use Rattle.tj_words.proofs.Holders.SeatTasks.{let_go_moved}
+use Rattle.tj_words.proofs.Holders.LeavingTasks.{leaving_hands, leaving_names, leaving_births, leaving_owned}
+use Rattle.tj_words.proofs.Holders.LeavingTasks.{leaving_custody}
+use Rattle.tj_words.proofs.Holders.LeavingTasks.{leaving_undrawn}
+
+module _ {B : Type 0} {program : Program B} {cells : ℕ} {x : Contents B} (r : Law program cells x) (id t : ℕ) where
+  abbrev n : ℕ
+  n = drawn_in cells x
+
+  -- a task that seat id holds leaves it: from then on these are the phases and the slots, where its record lies
+  pub record Departs (phases : ℕ → Phase) (q : Phase) (slots : Slots B) : Type 0 where
+    pub tasks : List (Custody B)
+    pub tasks_at : get_elem? x.seats.tasks id ≡ some tasks
+    pub custody_of : Custody B
+    pub held : held_in tasks t ≡ Some custody_of
+    pub out : hand_of x t ≡ None
+    pub free : (h : Hand) → get_elem? x.seats.hands id ≡ some (Some h) → h.maker ≢ t
+    pub here : phases t ≡ q
+    pub else : (u : ℕ) → u ≢ t → phases u ≡ x.words.phase u
+    pub is_task : phase_sort q ≡ sort.Task
+    pub waits : (c : CellId) (way : Way) (w : Walk) → q ≡ phase.Waiting c way w
+        → (u : Walk) × (x.words.phase t ≡ phase.Waiting c way u)
+    pub kept : (o : Option ℕ) (h : Option (Rec B)) → LiesAtHome o h → IsKept q o h
+    pub record_of : Rec B
+    pub lies : home_in slots t ≡ Some record_of
+    pub apart : (u : ℕ) → u ≢ t → get_elem? slots u ≡ get_elem? x.slots u
+    pub its : record_of.cell.0 ≡ t
+    pub owned : numbers record_of.owned ≡ custody_of.owned
+    pub made : record_of.made ≡ custody_of.made
+    pub there : AreThere n (hand_of x) (record_cells record_of)
+
+  module _ (phases : ℕ → Phase) (q : Phase) (slots : Slots B) (d : Departs phases q slots) (live : ℕ) (tokens : List ℕ)
+      (pushes : List (List Push)) where
+    -- the contents after it
+    abbrev pub after_leaving : Contents B
+    after_leaving = record {
+      words = record x.words { live = live; phase = phases };
+      slots = slots;
+      seats = record x.seats { tokens = tokens; tasks = set x.seats.tasks id (let_go t d.tasks); pushes = pushes };
+    }
+
+    abbrev has : IsHeldWith x id t d.custody_of
+    has = (d.tasks, d.tasks_at, d.held)
+
+    pub homes : (u : ℕ) → u ≢ t → home_in slots u ≡ home_of x u
+    homes u m = ap record_in (d.apart u m)
+
+    -- the task leaves
+    abbrev pub does_leave : (e : Does) → d.custody_of.does ≡ e → Leaves cells x after_leaving id t e q
+    does_leave e did = record {
+      before_it = d.custody_of;
+      record_of = d.record_of;
+      held = has;
+      did = did;
+      moved = let_go_moved r after_leaving id t d.custody_of q d.record_of has refl refl refl refl d.here d.else d.lies
+          homes d.made;
+    }
+
+    -- the law holds of them, where the chains, the count, the record, the meaning and the facts are as they should be
+    pub law_leaves : Chains (tag_in x) x.words.head x.words.next phases pushes x.seats.shuts x.seats.rests
+        x.seats.closed x.seats.found
+        → LiveCount cells live phases tokens x.seats.rested
+        → RecordsFit (tag_in x) phases (home_in slots)
+        → Meant program cells x.words.count x.words.stop (ground_of cells r.born x) (home_in slots) (known_of x)
+        → CoreFacts (core_shown cells r.born r.maker after_leaving)
+        → Law program cells after_leaving
+    law_leaves chains count fit meant facts = record {
+      born = r.born;
+      maker = r.maker;
+      number = r.number;
+      forks = r.forks;
+      lots = r.lots;
+      hands = leaving_hands r id t d.tasks d.custody_of d.tasks_at d.held phases q d.here d.else d.is_task slots
+          d.record_of d.lies d.apart d.out d.free;
+      names = leaving_names r id t d.tasks d.custody_of d.tasks_at d.held phases q d.here d.else d.is_task slots
+          d.record_of d.lies d.apart d.out d.there
+          (λ c way w e. let y = d.waits c way w e in r.names.waits t c way y.0 y.1);
+      births = leaving_births r id t d.tasks d.custody_of d.tasks_at d.held phases q d.here d.else d.is_task slots
+          d.record_of d.lies d.apart d.out d.made;
+      tree = r.tree;
+      tree_words = r.tree_words;
+      custody = leaving_custody r id t d.tasks d.custody_of d.tasks_at d.held phases q d.here d.else d.is_task slots
+          d.record_of d.lies d.apart d.out d.its d.kept;
+      owned = leaving_owned r id t d.tasks d.custody_of d.tasks_at d.held phases q d.here d.else d.is_task slots
+          d.record_of d.lies d.apart d.out d.owned;
+      once_words = r.once_words;
+      chains = chains;
+      live_count = count;
+      waiters_own = λ u c way w e. dite (ℕ_discrete u t)
+          (λ z. let y = d.waits c way w (sym d.here ∙ (ap phases (sym z) ∙ e)) in
+          subst (λ i. x.words.own i ≢ None) (sym z) (r.waiters_own t c way y.0 y.1))
+          (λ m. r.waiters_own u c way w (sym (d.else u m) ∙ e));
+      records_fit = fit;
+      meaning = meant;
+      undrawn = leaving_undrawn r id t d.tasks d.custody_of d.tasks_at d.held phases q d.here d.else d.is_task slots
+          d.record_of d.lies d.apart d.out;
+      facts = facts;
+    }

@@ -1,0 +1,161 @@
+-- The law after a store of PHASE by which a task that its seat holds does something else from then on: it walks, or has
+-- alarmed.
+use Rattle.std.proofs.Common.{◌≡◌, ◌≢◌, ℕ, ◌&&◌, List, set, Some, None, refl, sym, ap, ◌∙◌}
+use Rattle.std.proofs.Common.{subst, inl, arith}
+use mathlib.Core.Logic.{dite}
+use mathlib.Core.Option.{some, some-injective}
+use native.Mathlib.Decide.{ℕ_discrete}
+use lib.ListN.{get_elem?}
+use Rattle.atomic_table.proofs.Lists.{at_longer}
+use Rattle.tj_base.specs.ForkOrder.{before}
+use Rattle.tj_base.specs.Puts.{put}
+use Rattle.tj_base.specs.declared.cell.CellId.{CellId}
+use Rattle.tj_body.specs.Points.{Begins, IsIn}
+use Rattle.tj_body.specs.Programs.{Program}
+use Rattle.tj_body.specs.declared.point.Reference.{Reference}
+use Rattle.tj_core.specs.CoreFacts.{CoreFacts}
+use Rattle.tj_core.specs.Events.{way_if}
+use Rattle.tj_core.specs.declared.walk.Way.{Way}
+use Rattle.tj_words.specs.declared.phase.Walk.{Walk}
+use Rattle.tj_words.specs.declared.phase.Phase.{Phase}
+use Rattle.tj_words.specs.declared.phase.Phase.TheVariants as phase
+use Rattle.tj_words.specs.declared.view.Does.{Does}
+use Rattle.tj_words.specs.declared.view.Does.TheVariants as does
+use Rattle.tj_words.specs.declared.view.Custody.{Custody}
+use Rattle.tj_words.specs.declared.view.Hand.{Hand}
+use Rattle.tj_words.specs.LawParts.Holding.{phase_of}
+use Rattle.tj_words.specs.LawParts.Hands.{hand_in}
+use Rattle.tj_words.specs.LawParts.NamedCells.{does_cells, AreThere}
+use Rattle.tj_words.specs.LawParts.TreeWords.{IsCell}
+use Rattle.tj_words.specs.LawParts.Custodies.{OwnedLists}
+use Rattle.tj_words.specs.LawParts.LiveCount.{LiveCount}
+use Rattle.tj_words.specs.LawParts.Chains.{IsParkedOn}
+use Rattle.tj_words.specs.LawParts.ShownState.{phase_sort, sort_shown, reference_of}
+use Rattle.tj_words.specs.SeatViews.TaskLists.{hold}
+use Rattle.tj_words.specs.LawParts.Contents.{Contents, drawn_in, tag_in, hand_of, home_of, core_shown}
+use Rattle.tj_words.specs.Law.{Law}
+use Rattle.tj_words.specs.Steps.StepEvents.{IsBegun, wait_in, IsHeldWith, IsTurned}
+use Rattle.tj_words.specs.Steps.WalkSteps.{way_by, is_task_sort}
+use Rattle.tj_words.specs.Calls.WaitViews.{now_does}
+use Rattle.tj_words.proofs.Stores.StoreSteps.{put_here, put_else}
+use Rattle.tj_words.proofs.Stores.SeatLists.{inside}
+use Rattle.tj_words.proofs.Holders.HeldTasks.{none_some, one_some, hand_finds, at_index}
+use Rattle.tj_words.proofs.Holders.TaskPlaces.{begun_there, custody, held_drawn}
+use Rattle.tj_words.proofs.Holders.SeatTasks.{noted_turned}
+use Rattle.tj_words.proofs.Holders.HeldChanges.{owned_held, made_held, hands_held, walks_held, custody_held}
+use Rattle.tj_words.proofs.Waiters.ChainFacts.{held_free}
+use Rattle.tj_words.proofs.Waiters.ChainPhases.{chains_turn}
+use Rattle.tj_words.proofs.Holders.RecordSteps.{out_fit}
+use Rattle.tj_words.proofs.Cells.HandChanges.{births_on}
+use Rattle.tj_words.proofs.Phases.PhaseSorts.{does_sort, sorts_same}
+
+-- what a list of cells has at an index
+reference_there : (l : List Reference) (c : ℕ) (y : Reference) → IsCell l c y → reference_of l c ≡ y
+reference_there l c y e = some-injective (reference_of l c) y (sym (at_index l c _ (inside l c y e)) ∙ e)
+
+-- a beginning of the cells tells what a cell is that stands in it
+begun_reference : (b l : List Reference) (c : ℕ) → Begins b l → (y : Reference) × IsCell b c y
+    → reference_of b c ≡ reference_of l c
+begun_reference b l c h y = reference_there b c y.0 y.1
+    ∙ sym (reference_there l c y.0 (subst (λ z. IsCell z c y.0) (sym h.1) (at_longer b h.0 c y.0 y.1)))
+
+-- and so it tells the way of a wait
+pub begun_way : (b l : List Reference) (t p : ℕ) → Begins b l → (y : Reference) × IsCell b t y
+    → (y : Reference) × IsCell b p y → way_by b t p ≡ way_by l t p
+begun_way b l t p h i j = let e = begun_reference b l t h i in let f = begun_reference b l p h j in
+    λ z. way_if (is_task_sort (f z).sort && before (e z).name (f z).name)
+
+-- the cell of a wait is one that what the task does names
+wait_cells : (d : Does) (c : CellId) (way : Way) (w : Walk) → phase_of d ≡ phase.Waiting c way w
+    → IsIn c.0 (does_cells d)
+wait_cells does.Unborn c way w e = let z = ap wait_in e in cc
+wait_cells does.Fresh c way w e = let z = ap wait_in e in cc
+wait_cells does.Running c way w e = let z = ap wait_in e in cc
+wait_cells does.Raised c way w e = let z = ap wait_in e in cc
+wait_cells (does.Walking p v u) c way w e = inl (one_some c.0 p (sym (ap wait_in e)))
+wait_cells (does.Alarmed p v u) c way w e = inl (one_some c.0 p (sym (ap wait_in e)))
+
+module _ {B : Type 0} {program : Program B} {cells : ℕ} {x : Contents B} (r : Law program cells x) (id t : ℕ)
+    (k : Custody B) (h : IsHeldWith x id t k) (its : k.task ≡ t) (d : Does) (tokens : List ℕ) where
+  abbrev n : ℕ
+  n = drawn_in cells x
+
+  abbrev k' : Custody B
+  k' = now_does d k
+
+  abbrev phases : ℕ → Phase
+  phases = put x.words.phase t (phase_of d)
+
+  -- the contents after it
+  abbrev pub after_note : Contents B
+  after_note = record {
+    words = record x.words { phase = phases };
+    slots = x.slots;
+    seats = record x.seats { tokens = tokens; tasks = set x.seats.tasks id (hold k' h.0) };
+  }
+
+  here : phases t ≡ phase_of d
+  here = put_here x.words.phase t t (phase_of d) refl
+
+  else : (u : ℕ) → u ≢ t → phases u ≡ x.words.phase u
+  else u m = put_else x.words.phase t u (phase_of d) m
+
+  -- the task turns to what it does now
+  pub note_turns : IsTurned cells x after_note t k k'
+  note_turns = noted_turned r after_note id t k k' h its refl refl refl refl here else (λ c m. refl) refl
+
+  module _ (out : k.home ≡ None) (begun : IsBegun (phase_of k.does))
+      (there : AreThere n (hand_of x) (does_cells d)) where
+    empty : home_of x t ≡ None
+    empty = (custody r id t k h).out out
+
+    t_out : hand_in x.seats.hands t ≡ None
+    t_out = (begun_there r t (subst IsBegun (sym (custody r id t k h).does) begun)).1
+
+    not_hand : (j : ℕ) (g : Hand) → get_elem? x.seats.hands j ≡ some (Some g) → g.cell ≢ t
+    not_hand j g e z = let f = hand_finds x.seats.hands j g e in
+        none_some (hand_in x.seats.hands t) f.0 t_out (ap (hand_in x.seats.hands) (sym z) ∙ f.1)
+
+    sorts : (u : ℕ) → sort_shown (hand_of x u) (phases u) ≡ sort_shown (hand_of x u) (x.words.phase u)
+    sorts = sorts_same (hand_of x) x.words.phase phases t t_out
+        (ap phase_sort (custody r id t k h).does ∙ does_sort k.does) (ap phase_sort here ∙ does_sort d) else
+
+    -- the law holds of them, where it does of the live count and of what is shown
+    pub note_law : x.words.own t ≢ None → LiveCount cells x.words.live phases tokens x.seats.rested
+        → CoreFacts (core_shown cells r.born r.maker after_note)
+        → Law program cells after_note
+    note_law owns live facts = record {
+      born = r.born;
+      maker = r.maker;
+      number = r.number;
+      forks = r.forks;
+      lots = r.lots;
+      hands = hands_held r id t k k' h its phases (λ j g e. else g.cell (not_hand j g e)) (λ e. e);
+      names = record {
+        owned = r.names.owned;
+        waits = λ u c way w e. dite (ℕ_discrete u t)
+            (λ z. there c.0 (wait_cells d c way w (sym here ∙ (ap phases (sym z) ∙ e))))
+            (λ m. r.names.waits u c way w (sym (else u m) ∙ e));
+        records = r.names.records;
+        walks = walks_held r id t k k' h its there;
+        knows = r.names.knows;
+      };
+      births = births_on r.births (λ u i. i) sorts (λ u g e. (g, e, refl)) (made_held r id t k k' h its refl);
+      tree = r.tree;
+      tree_words = r.tree_words;
+      custody = custody_held r id t k k' h its phases else here (λ a. empty)
+          (λ c e. none_some k.home c out e) (λ e. empty);
+      owned = subst (OwnedLists n (hand_of x) x.words.own) (sym (λ j u. owned_held r id t k k' h its refl u j)) r.owned;
+      once_words = r.once_words;
+      chains = chains_turn r.chains t (phase_of d)
+          (λ c q. held_free k.does c (subst (λ z. IsParkedOn z c) (custody r id t k h).does q)) (held_free d);
+      live_count = live;
+      waiters_own = λ u c way w e. dite (ℕ_discrete u t)
+          (λ z. subst (λ i. x.words.own i ≢ None) (sym z) owns)
+          (λ m. r.waiters_own u c way w (sym (else u m) ∙ e));
+      records_fit = out_fit (tag_in x) x.words.phase (home_of x) r.records_fit t phases (home_of x) (phase_of d) here
+          else (λ u m. refl) empty;
+      meaning = r.meaning;
+      undrawn = λ c l. else c (λ z. (let m = held_drawn r id t k h in omega arith)) ∙ r.undrawn c l;
+      facts = facts;
+    }

@@ -1,0 +1,136 @@
+-- The store of Parked keeps the rule: the record comes home, the task leaves its seat, and its push is to come.
+use Rattle.std.proofs.Common.{◌≡◌, ℕ, suc, ◌<◌, Bool, List, ◌∷◌, set, Option, Some, refl, sym, ap, ◌∙◌}
+use Rattle.std.proofs.Common.{subst, arith}
+use mathlib.Core.Option.{some}
+use lib.ListN.{get_elem?}
+use Rattle.atomic_table.specs.Table.{State}
+use Rattle.atomic_table.proofs.Lists.{at_map}
+use Rattle.tj_base.specs.Puts.{put}
+use Rattle.tj_body.specs.Programs.{Program}
+use Rattle.tj_core.specs.Laws.{EventKeepsFacts}
+use Rattle.tj_core.specs.declared.walk.Way.{Way}
+use Rattle.tj_words.specs.declared.phase.Walk.TheVariants as walk
+use Rattle.tj_words.specs.declared.phase.Phase.{Phase}
+use Rattle.tj_words.specs.declared.phase.Phase.TheVariants as phase
+use Rattle.tj_words.specs.declared.record.Rec.{Rec}
+use Rattle.tj_words.specs.declared.table.Key.{Key}
+use Rattle.tj_words.specs.declared.view.Custody.{Custody}
+use Rattle.tj_words.specs.declared.view.Does.TheVariants as does
+use Rattle.tj_words.specs.declared.view.Push.{Push}
+use Rattle.tj_words.specs.declared.view.View.{View}
+use Rattle.tj_words.specs.Words.Lists.{cell}
+use Rattle.tj_words.specs.LawParts.Holding.{phase_of, Slots}
+use Rattle.tj_words.specs.Words.Offsets.{phase_at}
+use Rattle.tj_words.specs.Words.Phases.{phase_in}
+use Rattle.tj_words.specs.Words.Codes.{IsPhaseWord}
+use Rattle.tj_words.specs.LawParts.Chains.{IsParkedOn}
+use Rattle.tj_words.specs.LawParts.LiveCount.{live_part}
+use Rattle.tj_words.specs.Calls.ParkSteps.{new_push}
+use Rattle.tj_words.specs.SeatViews.TaskLists.{let_go}
+use Rattle.tj_words.specs.LawParts.Contents.{SeatsHave, seats_have, Contents, contents_of}
+use Rattle.tj_words.specs.Law.{Law, Rule}
+use Rattle.tj_words.specs.SeatViews.SeatSteps.{SeatMe}
+use Rattle.tj_words.specs.Steps.StepEvents.{IsHeldWith}
+use Rattle.tj_words.specs.Steps.WalkSteps.{StoresParked}
+use Rattle.tj_words.specs.Calls.WaitViews.{parked, MayPark}
+use Rattle.tj_words.proofs.Stores.SeatContents.{seats_same}
+use Rattle.tj_words.proofs.Stores.StoreSteps.{put_here, put_else}
+use Rattle.tj_words.proofs.Stores.SlotStores.{StoresWith}
+use Rattle.tj_words.proofs.Phases.PhaseStores.{with_phase, phase_stores}
+use Rattle.tj_words.proofs.Holders.TaskPlaces.{custody}
+use Rattle.tj_words.proofs.Waiters.ChainFacts.{held_free}
+use Rattle.tj_words.proofs.Waiters.ChainPhases.{chains_park}
+use Rattle.tj_words.proofs.Waiters.LiveSteps.{count_turned}
+use Rattle.tj_words.proofs.Events.StepFacts.{facts_after}
+use Rattle.tj_words.proofs.Events.WalkEvents.{settle_shown}
+use Rattle.tj_words.proofs.Phases.WaitStores.{more_seat}
+use Rattle.tj_words.proofs.Holders.LaidRecords.{tokens_at, tasks_at, laid_slots, as_many, meant, departs_laid, fits}
+use Rattle.tj_words.proofs.Phases.Departures.{Departs, after_leaving, does_leave, law_leaves}
+
+-- a wait as it was while its task walked
+abbrev walking_of : Phase → Phase
+walking_of phase.Unborn = phase.Unborn
+walking_of phase.Ready = phase.Ready
+walking_of phase.Running = phase.Running
+walking_of phase.Ended = phase.Ended
+walking_of phase.Promise = phase.Promise
+walking_of (phase.Waiting c way w) = phase.Waiting c way walk.Walking
+
+module _ {B : Type 0} (program : Bool → B → Program B) (key : Key B) (s : State (Option (Rec B)) (View B))
+    (r : Rule program key s) (id t p : ℕ) (way : Way) (inside : t < key.cells) (kept : EventKeepsFacts) (me : SeatMe B)
+    (at : get_elem? s.views id ≡ some me.0) (h : MayPark program t p way me) where
+  abbrev P : Program B
+  P = program key.strict key.root.value
+
+  abbrev old : SeatsHave B
+  old = seats_have s.views
+
+  abbrev x : Contents B
+  x = contents_of s
+
+  abbrev v : View B
+  v = me.0
+
+  abbrev k : Custody B
+  k = h.walks.custody
+
+  abbrev has : IsHeldWith x id t k
+  has = (v.tasks, tasks_at program key s r id t v at, h.walks.held)
+
+  abbrev q : Phase
+  q = phase.Waiting (cell p) way walk.Parked
+
+  abbrev phases : ℕ → Phase
+  phases = put x.words.phase t q
+
+  was : x.words.phase t ≡ phase.Waiting (cell p) way walk.Walking
+  was = (custody r.law id t k has).does ∙ ap phase_of h.walks.walks
+
+  abbrev slots : Slots B
+  slots = laid_slots program key s r id t v at me.1 k h.walks.held h.record_of h.puts h.no_hand
+
+  abbrev departs : Departs r.law id t phases q slots
+  departs = departs_laid program key s r id t v at me.1 k h.walks.held h.record_of h.puts h.no_hand phases q
+      (put_here x.words.phase t t q refl) (λ u m. put_else x.words.phase t u q m) refl
+      (λ d y w e. (walk.Walking, was ∙ ap walking_of e)) (λ o y l. l)
+
+  abbrev tokens : List ℕ
+  tokens = set old.tokens id (suc v.tokens)
+
+  abbrev pushes : List (List Push)
+  pushes = set old.pushes id (new_push t p way ∷ v.pushes)
+
+  abbrev after : Contents B
+  after = after_leaving r.law id t phases q slots departs x.words.live tokens pushes
+
+  settles : StoresParked key.cells x after id t p way h.walks.walker
+  settles = record {
+    leaves = does_leave r.law id t phases q slots departs x.words.live tokens pushes
+        (does.Walking p way h.walks.walker) h.walks.walks;
+    may = h.settles;
+    keeps = record { others = refl; cleared = refl };
+  }
+
+  law : Law P key.cells after
+  law = law_leaves r.law id t phases q slots departs x.words.live tokens pushes
+      (chains_park r.law.chains t q id p way v.pushes (at_map (λ (u : View B). u.pushes) s.views id v at)
+      (λ c y. held_free k.does c (subst (λ z. IsParkedOn z c) (custody r.law id t k has).does y)) refl)
+      (count_turned r.law.live_count t q id v.tokens (suc v.tokens) inside (tokens_at program key s r id t v at)
+      (let e = ap live_part was in omega arith))
+      (fits program key s r id t v at me.1 k h.walks.held h.record_of h.puts h.no_hand phases q departs.here
+      departs.else (h.unfinished, h.waits))
+      (meant program key s r id t v at me.1 k h.walks.held h.record_of h.puts h.no_hand)
+      (facts_after kept (settle_shown r.law after id t p way h.walks.walker settles) r.law.facts)
+
+  pub parked_stores : (word : ℕ) → IsPhaseWord key.cells word → phase_in word ≡ q
+      → StoresWith program key s (set s.homes t (some (Some h.record_of))) id (phase_at t) word (parked t p way v)
+  parked_stores word code is = phase_stores program key s r id t inside slots
+      (as_many program key s r id t v at me.1 k h.walks.held h.record_of h.puts h.no_hand) q word is code
+      (parked t p way v) (more_seat program key v (parked t p way v) t p way h.walks (r.seats id v at) refl)
+      (subst
+      (λ z. Law P key.cells record { words = with_phase program key s r id t inside q; slots = slots; seats = z })
+      (sym (ap (λ (y : SeatsHave B). record y {
+        tokens = tokens;
+        tasks = set old.tasks id (let_go t v.tasks);
+        pushes = pushes;
+      }) (seats_same s.views id v at))) law)

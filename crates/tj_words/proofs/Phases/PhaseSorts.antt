@@ -1,0 +1,34 @@
+-- A change of the phase of one task leaves the sort of each cell.
+use Rattle.std.proofs.Common.{◌≡◌, ◌≢◌, ℕ, Option, None, refl, sym, ap, ◌∙◌}
+use mathlib.Core.Logic.{dite}
+use native.Mathlib.Decide.{ℕ_discrete}
+use Rattle.tj_base.specs.declared.cell.Sort.TheVariants as sort
+use Rattle.tj_words.specs.declared.phase.Phase.{Phase}
+use Rattle.tj_words.specs.declared.view.Hand.{Hand}
+use Rattle.tj_words.specs.declared.view.Does.{Does}
+use Rattle.tj_words.specs.declared.view.Does.TheVariants as does
+use Rattle.tj_words.specs.LawParts.Holding.{phase_of}
+use Rattle.tj_words.specs.LawParts.ShownState.{phase_sort, sort_shown}
+
+-- a task that a seat holds stands in the phase of a task
+pub does_sort : (d : Does) → phase_sort (phase_of d) ≡ sort.Task
+does_sort does.Unborn = refl
+does_sort does.Fresh = refl
+does_sort does.Running = refl
+does_sort does.Raised = refl
+does_sort (does.Walking c way w) = refl
+does_sort (does.Alarmed c way w) = refl
+
+-- a task that is in no hand goes from one phase of tasks to another; the phases of other cells are as before
+pub sorts_same : (hand : ℕ → Option Hand) (phase phases : ℕ → Phase) (t : ℕ) → hand t ≡ None
+    → phase_sort (phase t) ≡ sort.Task
+    → phase_sort (phases t) ≡ sort.Task
+    → ((u : ℕ) → u ≢ t → phases u ≡ phase u)
+    → (c : ℕ)
+    → sort_shown (hand c) (phases c) ≡ sort_shown (hand c) (phase c)
+sorts_same hand phase phases t out was is else c = dite (ℕ_discrete c t)
+    (λ z. ap (λ i. sort_shown (hand i) (phases i)) z ∙ (here ∙ ap (λ i. sort_shown (hand i) (phase i)) (sym z)))
+    (λ m. ap (sort_shown (hand c)) (else c m))
+  where
+    here : sort_shown (hand t) (phases t) ≡ sort_shown (hand t) (phase t)
+    here = ap (λ o. sort_shown o (phases t)) out ∙ (is ∙ (sym was ∙ ap (λ o. sort_shown o (phase t)) (sym out)))

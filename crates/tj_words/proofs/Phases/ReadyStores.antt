@@ -1,0 +1,147 @@
+-- The store of Ready keeps the rule: the task leaves its seat, with its record at home.
+use Rattle.std.proofs.Common.{◌≡◌, ℕ, ◌-◌, ◌<◌, Bool, set}
+use Rattle.std.proofs.Common.{Option, refl, sym, ap, ◌∙◌, subst, inl, arith}
+use mathlib.Core.Option.{some, some-injective}
+use lib.ListN.{get_elem?}
+use Rattle.atomic_table.specs.Table.{State}
+use Rattle.tj_base.specs.Puts.{put}
+use Rattle.tj_body.specs.Programs.{Program}
+use Rattle.tj_words.specs.declared.phase.Phase.{Phase}
+use Rattle.tj_words.specs.declared.phase.Phase.TheVariants as phase
+use Rattle.tj_words.specs.declared.record.Rec.{Rec}
+use Rattle.tj_words.specs.declared.table.Key.{Key}
+use Rattle.tj_words.specs.declared.view.Custody.{Custody}
+use Rattle.tj_words.specs.declared.view.Does.TheVariants as does
+use Rattle.tj_words.specs.declared.view.View.{View}
+use Rattle.tj_words.specs.LawParts.Holding.{phase_of, held_in}
+use Rattle.tj_words.specs.LawParts.Hands.{IsThere}
+use Rattle.tj_words.specs.LawParts.NamedCells.{record_cells, AreThere}
+use Rattle.tj_words.specs.LawParts.Custodies.{IsLaid}
+use Rattle.tj_words.specs.LawParts.RecordPhases.{IsRecordIn}
+use Rattle.tj_words.specs.Words.Offsets.{word, phase_at}
+use Rattle.tj_words.specs.Words.Phases.{phase_word, phase_in}
+use Rattle.tj_words.specs.LawParts.LiveCount.{live_part}
+use Rattle.tj_words.specs.LawParts.Contents.{SeatsHave, seats_have, Contents, contents_of, drawn_in, tag_in, hand_of}
+use Rattle.tj_words.specs.LawParts.Contents.{home_of}
+use Rattle.tj_words.specs.Law.{Law, Rule}
+use Rattle.tj_words.specs.Calls.LiveViews.{released, MayRelease}
+use Rattle.tj_words.specs.Steps.StepEvents.{IsHeldWith, wait_in}
+use Rattle.tj_words.proofs.Stores.StoreSteps.{put_here, put_else}
+use Rattle.tj_words.proofs.Stores.SlotStores.{StoresWith}
+use Rattle.tj_words.proofs.Holders.HeldTasks.{none_some, one_some}
+use Rattle.tj_words.proofs.Holders.TaskPlaces.{custody}
+use Rattle.tj_words.proofs.Waiters.ChainFacts.{IsNotParked, held_free}
+use Rattle.tj_words.proofs.Waiters.ChainPhases.{chains_turn}
+use Rattle.tj_words.proofs.Waiters.LiveSteps.{count_turned}
+use Rattle.tj_words.proofs.Holders.RecordSteps.{kept_fit, ready_fits}
+use Rattle.tj_words.proofs.Meaning.LawMeant.{law_meant}
+use Rattle.tj_words.proofs.Events.StepFacts.{facts_same}
+use Rattle.tj_words.proofs.Events.QuietMoves.{release_shown}
+use Rattle.tj_words.proofs.Holders.LaidRecords.{tokens_at, tasks_at}
+use Rattle.tj_words.proofs.Phases.Departures.{Departs, after_leaving, does_leave, law_leaves}
+use Rattle.tj_words.proofs.Holders.LeftSeats.{left_seat, left_stores}
+
+module _ {B : Type 0} (program : Bool → B → Program B) (key : Key B) (s : State (Option (Rec B)) (View B))
+    (r : Rule program key s) (id t : ℕ) (inside : t < key.cells) (v : View B) (at : get_elem? s.views id ≡ some v) where
+  abbrev P : Program B
+  P = program key.strict key.root.value
+
+  abbrev old : SeatsHave B
+  old = seats_have s.views
+
+  abbrev x : Contents B
+  x = contents_of s
+
+  abbrev tokens_here : get_elem? old.tokens id ≡ some v.tokens
+  tokens_here = tokens_at program key s r id t v at
+
+  abbrev tasks_here : get_elem? old.tasks id ≡ some v.tasks
+  tasks_here = tasks_at program key s r id t v at
+
+  -- the store of Ready
+  module _ (h : MayRelease t v) where
+    abbrev k : Custody B
+    k = h.custody
+
+    abbrev c : Rec B
+    c = h.record_of
+
+    abbrev has : IsHeldWith x id t k
+    has = (v.tasks, tasks_here, h.held)
+
+    pub laid : IsLaid k (home_of x t) c
+    laid = (custody r.law id t k has).laid c h.home
+
+    was : x.words.phase t ≡ phase.Unborn
+    was = (custody r.law id t k has).does ∙ ap phase_of h.unborn
+
+    there : AreThere (drawn_in key.cells x) (hand_of x) (record_cells c)
+    there = r.law.names.records t c laid.here
+
+    its : c.cell.0 ≡ t
+    its = r.law.custody.own_slots t c laid.here
+
+    pub here : IsThere (drawn_in key.cells x) (hand_of x) t
+    here = subst (IsThere (drawn_in key.cells x) (hand_of x)) its (there c.cell.0 (inl refl))
+
+    pub at_start : IsRecordIn (tag_in x) phase.Unborn c
+    at_start = subst (λ p. IsRecordIn (tag_in x) p c) was (r.law.records_fit t c laid.here)
+
+    abbrev readied : ℕ → Phase
+    readied = put x.words.phase t phase.Ready
+
+    abbrev departs : Departs r.law id t readied phase.Ready s.homes
+    departs = record {
+      tasks = v.tasks;
+      tasks_at = tasks_here;
+      custody_of = k;
+      held = h.held;
+      out = here.1;
+      free = λ g e z. let m = (r.law.hands.each id g e).maker_held in
+          let ks : m.0 ≡ v.tasks = some-injective m.0 v.tasks (sym m.1 ∙ tasks_here) in
+          let same : m.2.0 ≡ k = one_some m.2.0 k (sym m.2.1 ∙ (ap (λ l. held_in l g.maker) ks
+          ∙ (ap (held_in v.tasks) z ∙ h.held))) in
+          none_some k.home c (ap (λ (a : Custody B). a.home) (sym same) ∙ m.2.2) h.home;
+      here = put_here x.words.phase t t phase.Ready refl;
+      else = λ u m. put_else x.words.phase t u phase.Ready m;
+      is_task = refl;
+      waits = λ d way w e. none_some (wait_in phase.Ready) d.0 refl (ap wait_in e);
+      kept = λ o y l. l;
+      record_of = c;
+      lies = laid.here;
+      apart = λ u m. refl;
+      its = its;
+      owned = laid.owned;
+      made = laid.made;
+      there = there;
+    }
+
+    abbrev after_ready : Contents B
+    after_ready = after_leaving r.law id t readied phase.Ready s.homes departs x.words.live
+        (set old.tokens id (v.tokens - 1)) old.pushes
+
+    ready_law : Law P key.cells after_ready
+    ready_law = law_leaves r.law id t readied phase.Ready s.homes departs x.words.live
+        (set old.tokens id (v.tokens - 1)) old.pushes
+        (chains_turn r.law.chains t phase.Ready
+        (subst IsNotParked (sym (custody r.law id t k has).does) (held_free k.does))
+        (λ p y. let e = ap wait_in y.1 in cc))
+        (count_turned r.law.live_count t phase.Ready id v.tokens (v.tokens - 1) inside tokens_here
+        (let e = ap live_part was in let g = h.token in omega arith))
+        (kept_fit (tag_in x) x.words.phase (home_of x) r.law.records_fit t readied (home_of x) phase.Ready departs.here
+        departs.else (λ u m. refl) phase.Unborn was refl (λ y i. ready_fits (tag_in x) y i))
+        (law_meant P key.cells x r.law)
+        (facts_same key.cells r.law.born r.law.maker x after_ready
+        (release_shown r.law after_ready id t record {
+          leaves = does_leave r.law id t readied phase.Ready s.homes departs x.words.live
+              (set old.tokens id (v.tokens - 1)) old.pushes does.Unborn h.unborn;
+          there = here;
+          starts = at_start.1;
+          keeps = record { others = refl; cleared = refl };
+        }) r.law.facts)
+
+    pub ready_stores : (word : ℕ) → phase_in word ≡ phase.Ready → word ≡ phase_word phase.Ready
+        → StoresWith program key s s.homes id (phase_at t) word (released t v)
+    ready_stores word is from = left_stores program key s r id t v at inside phase.Ready word is from refl s.homes refl
+        (v.tokens - 1) (left_seat program key s r id t v at (v.tokens - 1) k h.held
+        (let l = (r.seats id v at).within_lot.tokens_fit in omega arith) h.backing) ready_law

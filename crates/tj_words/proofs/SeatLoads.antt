@@ -1,0 +1,13 @@
+-- A load keeps the law, and its seat learns.
+pub mod Learning
+pub mod LoadSteps
+pub mod KnowLoads
+pub mod HeadLoads
+pub mod StopLoads
+pub mod PhaseLoads
+pub mod WalkReads
+pub mod WalkLoads
+pub mod KnowsMoreOn
+pub mod LaterSeats
+pub mod NodeLooks
+pub mod TurnedViews

@@ -1,0 +1,127 @@
+-- Loads of HEAD.
+use Rattle.std.proofs.Common.{◌≡◌, ◌≢◌, ℕ, suc, ◌<◌, ◌≤◌, Bool, [], ◌∷◌, ◌++◌, refl, sym, ap}
+use Rattle.std.proofs.Common.{subst, inr, ⊎_elim, arith, Option}
+use mathlib.Core.Option.{some, none}
+use mathlib.Core.Logic.{dite}
+use native.Mathlib.Decide.{ℕ_discrete}
+use lib.ListN.{get_elem?}
+use Rattle.atomic_table.specs.Table.{State, step, Allows}
+use Rattle.tj_body.specs.Programs.{Program}
+use Rattle.tj_body.proofs.Lists.{begins_self}
+use Rattle.tj_words.specs.declared.head.Head.TheVariants.{Shut}
+use Rattle.tj_words.specs.declared.record.Rec.{Rec}
+use Rattle.tj_words.specs.declared.table.Key.{Key}
+use Rattle.tj_words.specs.declared.view.View.{View}
+use Rattle.tj_words.specs.Words.Offsets.{word, head_at}
+use Rattle.tj_words.specs.Words.Heads.{shut_word, head_in}
+use Rattle.tj_words.specs.LawParts.Contents.{contents_of, drawn_in}
+use Rattle.tj_words.specs.Law.{Rule}
+use Rattle.tj_words.specs.SeatViews.SeatSteps.{SeatMe}
+use Rattle.tj_words.specs.SeatViews.SeenWords.{head_load}
+use Rattle.tj_words.proofs.SeatLoads.Learning.{Knowing, knowing_of, IsSo}
+use Rattle.tj_words.proofs.SeatLoads.LoadSteps.{knows, knows_so, load_allowed}
+use Rattle.tj_words.proofs.Seating.Merging.{begins_at}
+use Rattle.tj_words.proofs.Cells.CellNames.{are_cells}
+use Rattle.tj_words.proofs.SeatLoads.KnowLoads.{all_cons, HasBecome, one_become, shut_is, will_have}
+use Rattle.tj_words.proofs.Waiters.ChainCells.{line_small, head_small}
+
+module _ {B : Type 0} (program : Bool → B → Program B) (key : Key B) where
+  abbrev P : Program B
+  P = program key.strict key.root.value
+
+  -- the load of HEAD
+  pub head_allowed : (slots id : ℕ) (m : SeatMe B) (c i cells cell : ℕ) → c < key.cells → i ≡ head_at c
+      → cells ≡ key.cells → cell ≡ c
+      → Allows (Rule program key) slots id m i (λ n. n) (head_load program cells cell (step slots i 0 0 none) m)
+  head_allowed slots id m c i cells cell l at f e =
+      load_allowed program key slots id m i (head_load program cells cell (step slots i 0 0 none) m)
+      (λ s r k. subst (λ d. (y : Knowing) × (plain loads steps : ℕ) × IsSo P key.cells (contents_of s) r.law y
+      × head_load program cells d (step slots i 0 0 none) m (word s.words i)
+      (knows y plain loads steps m.0, m.1)) (sym e)
+      (subst (λ d. (y : Knowing) × (plain loads steps : ℕ) × IsSo P key.cells (contents_of s) r.law y
+      × head_load program d c (step slots i 0 0 none) m (word s.words i) (knows y plain loads steps m.0, m.1)) (sym f)
+      (subst (λ j. (y : Knowing) × (plain loads steps : ℕ) × IsSo P key.cells (contents_of s) r.law y
+      × head_load program key.cells c (step slots i 0 0 none) m (word s.words j)
+      (knows y plain loads steps m.0, m.1)) (sym at)
+      (head_found s r k))))
+    where
+      head_found : (s : State (Option (Rec B)) (View B)) (r : Rule program key s) → get_elem? s.views id ≡ some m.0
+          → (y : Knowing) × (plain loads steps : ℕ) × IsSo P key.cells (contents_of s) r.law y
+          × head_load program key.cells c (step slots i 0 0 none) m (word s.words (head_at c))
+          (knows y plain loads steps m.0, m.1)
+      head_found s r k = let v = m.0 in let so = knows_so program key s r id v k in let law = r.law in
+          let small : word s.words (head_at c) ≤ shut_word = ⊎_elim (λ q. (omega arith))
+          (λ q. let f = r.few_cells in (omega arith)) (r.codes.each c l).head in
+          dite (ℕ_discrete (word s.words (head_at c)) shut_word)
+          (λ q. let shut : head_in (word s.words (head_at c)) ≡ Shut = ap head_in q in
+          let has = law.meaning.entries c (law.chains.tagged c shut) in let w = has.1.written in (
+            record (knowing_of v) {
+              born = law.born;
+              closed = c ∷ v.closed;
+              filled = record { cell = c; entry = has.0 } ∷ v.filled;
+            },
+            v.plain_loads,
+            v.once_loads,
+            suc v.steps,
+            record {
+              known = so.known;
+              begins = begins_self law.born;
+              known_born = λ d n. let b = so.known_born d n in (b.0, begins_at v.born law.born so.begins d b.0 b.1);
+              wrote = so.wrote;
+              filled = all_cons _ (record { cell = c; entry = has.0 }) v.filled has.1 so.filled;
+              seen = so.seen;
+              closed = all_cons _ c v.closed shut so.closed;
+              found = so.found;
+              rested = so.rested;
+            },
+            (
+              refl,
+              small,
+              (λ z. record {
+                born = law.born;
+                entry = has.0;
+                reference = w.reference;
+                begins = so.begins;
+                is = w.is;
+                becomes = will_have program key v w.reference.name has.0 (r.seats id v k).about w.becomes;
+                same = λ y j e. one_become P key.cells (contents_of s) law c y.entry has.0
+                    (subst (λ d. HasBecome P key.cells (contents_of s) law d y.entry) e (so.filled y j)) has.1;
+                all = are_cells law;
+                view = refl;
+              }),
+              (λ n. absurd (n shut)),
+            ),
+          ))
+          (λ q. let is_open : head_in (word s.words (head_at c)) ≢ Shut = λ z. q (shut_is _ small z) in
+          let chain = law.chains.line c in let drawn = drawn_in key.cells (contents_of s) in (
+            record (knowing_of v) { found = record { cell = c; chain = chain } ∷ v.found },
+            v.plain_loads,
+            v.once_loads,
+            suc v.steps,
+            record {
+              known = so.known;
+              begins = so.begins;
+              known_born = so.known_born;
+              wrote = so.wrote;
+              filled = so.filled;
+              seen = so.seen;
+              closed = so.closed;
+              found = all_cons _ (record { cell = c; chain = chain }) v.found (inr ([], refl)) so.found;
+              rested = so.rested;
+            },
+            (
+              refl,
+              small,
+              (λ z. absurd (is_open z)),
+              (λ n. record {
+                chain = chain;
+                is = law.chains.heads c is_open;
+                short = line_small law.chains key.cells drawn (omega arith) law.undrawn c;
+                small = head_small law.chains key.cells drawn (omega arith) law.undrawn c is_open;
+                grown = λ f n z. ⊎_elim
+                    (λ y. absurd (is_open (subst (λ d. head_in (word s.words (head_at d)) ≡ Shut) z y)))
+                    (λ y. (y.0, subst (λ d. law.chains.line d ≡ y.0 ++ f.chain) z y.1)) (so.found f n);
+                view = refl;
+              }),
+            ),
+          ))

@@ -1,0 +1,147 @@
+-- A seat learns: the law stays where what the seat knows from now on is so.
+use Rattle.std.proofs.Common.{◌≡◌, ℕ, Bool, true, List, set}
+use Rattle.tj_body.specs.Programs.{Program}
+use Rattle.tj_body.specs.Points.{Begins}
+use Rattle.tj_body.specs.declared.point.Reference.{Reference}
+use Rattle.tj_words.specs.declared.head.Head.TheVariants.{Shut}
+use Rattle.tj_words.specs.declared.view.SeenWord.{SeenWord}
+use Rattle.tj_words.specs.declared.view.Filled.{Filled}
+use Rattle.tj_words.specs.declared.view.Found.{Found}
+use Rattle.tj_words.specs.declared.view.RunLoad.{RunLoad}
+use Rattle.tj_words.specs.declared.view.View.{View}
+use Rattle.tj_words.specs.Words.Lists.{All}
+use Rattle.tj_words.specs.LawParts.NamedCells.{AreThere}
+use Rattle.tj_words.specs.LawParts.TreeWords.{IsCell}
+use Rattle.tj_words.specs.LawParts.OnceWords.{Stands}
+use Rattle.tj_words.specs.LawParts.Chains.{HasGrown}
+use Rattle.tj_words.specs.LawParts.Meaning.{IsWritten, IsFilled}
+use Rattle.tj_words.specs.LawParts.Contents.{Contents, drawn_in, hand_of, tag_in, bits_in}
+use Rattle.tj_words.specs.Law.{Law}
+use Rattle.tj_words.proofs.Stores.SeatLists.{each_set}
+
+-- what a seat knows
+pub record Knowing : Type 0 where
+  pub known : List ℕ
+  pub born : List Reference
+  pub wrote : List Filled
+  pub filled : List Filled
+  pub seen : List SeenWord
+  pub closed : List ℕ
+  pub found : List Found
+  pub rested : Bool
+  pub stop : ℕ
+  pub run_loads : List RunLoad
+
+abbrev pub knowing_of : {B : Type 0} → View B → Knowing
+knowing_of v = record {
+  known = v.known;
+  born = v.born;
+  wrote = v.wrote;
+  filled = v.filled;
+  seen = v.seen;
+  closed = v.closed;
+  found = v.found;
+  rested = v.rested;
+  stop = v.stop;
+  run_loads = v.run_loads;
+}
+
+module _ {B : Type 0} (program : Program B) (cells : ℕ) (x : Contents B) (law : Law program cells x) where
+  -- what a seat knows is so
+  pub record IsSo (k : Knowing) : Type 0 where
+    pub known : AreThere (drawn_in cells x) (hand_of x) k.known
+    pub begins : Begins k.born law.born
+    pub known_born : All (λ c. (r : Reference) × IsCell k.born c r) k.known
+    pub wrote : All (λ (f : Filled).
+        IsWritten program (drawn_in cells x) (hand_of x) law.born (tag_in x) (bits_in x) f.cell f.entry) k.wrote
+    pub filled : All (λ (f : Filled).
+        IsFilled program (drawn_in cells x) (hand_of x) law.born (tag_in x) (bits_in x) f.cell f.entry) k.filled
+    pub seen : All (Stands (drawn_in cells x) x.words.once law.once_words.due_to) k.seen
+    pub closed : All (λ p. x.words.head p ≡ Shut) k.closed
+    pub found : All (λ (f : Found). HasGrown (x.words.head f.cell) (law.chains.line f.cell) f.chain) k.found
+    pub rested : k.rested ≡ true → x.words.live ≡ 0
+
+  -- the contents where seat id knows this
+  abbrev pub learns : ℕ → Knowing → Contents B
+  learns id k = record x {
+    seats = record x.seats {
+      known = set x.seats.known id k.known;
+      born_seen = set x.seats.born_seen id k.born;
+      wrote = set x.seats.wrote id k.wrote;
+      filled = set x.seats.filled id k.filled;
+      seen = set x.seats.seen id k.seen;
+      closed = set x.seats.closed id k.closed;
+      found = set x.seats.found id k.found;
+      rested = set x.seats.rested id k.rested;
+    };
+  }
+
+  -- the law stays
+  pub law_learns : (id : ℕ) (k : Knowing) → IsSo k → Law program cells (learns id k)
+  law_learns id k so = record {
+    born = law.born;
+    maker = law.maker;
+    number = law.number;
+    forks = law.forks;
+    lots = law.lots;
+    hands = law.hands;
+    names = (let n = law.names in record {
+      owned = n.owned;
+      waits = n.waits;
+      records = n.records;
+      walks = n.walks;
+      knows = each_set _ x.seats.known id k.known n.knows so.known;
+    });
+    births = law.births;
+    tree = law.tree;
+    tree_words = law.tree_words;
+    custody = law.custody;
+    owned = law.owned;
+    once_words = (let o = law.once_words in record {
+      due_to = o.due_to;
+      stands = each_set _ x.seats.seen id k.seen o.stands so.seen;
+      dues_mine = o.dues_mine;
+      due = o.due;
+      may_be_due = o.may_be_due;
+      unwritten = o.unwritten;
+      valued = o.valued;
+      closed = o.closed;
+      undrawn = o.undrawn;
+    });
+    chains = (let c = law.chains in record {
+      line = c.line;
+      pusher = c.pusher;
+      taker = c.taker;
+      shutter = c.shutter;
+      heads = c.heads;
+      linked = c.linked;
+      parked = c.parked;
+      placed = c.placed;
+      tagged = c.tagged;
+      due = c.due;
+      pushing = c.pushing;
+      to_push = c.to_push;
+      resting = c.resting;
+      rest = c.rest;
+      stays_shut = each_set _ x.seats.closed id k.closed c.stays_shut so.closed;
+      grows = each_set _ x.seats.found id k.found c.grows so.found;
+    });
+    live_count = (let c = law.live_count in record {
+      counted = c.counted;
+      stays_at_rest = each_set _ x.seats.rested id k.rested c.stays_at_rest so.rested;
+    });
+    waiters_own = law.waiters_own;
+    records_fit = law.records_fit;
+    meaning = (let m = law.meaning in record {
+      names = m.names;
+      entries = m.entries;
+      records = m.records;
+      full = m.full;
+      stopped = m.stopped;
+      begins = each_set _ x.seats.born_seen id k.born m.begins so.begins;
+      wrote_stands = each_set _ x.seats.wrote id k.wrote m.wrote_stands so.wrote;
+      filled_stands = each_set _ x.seats.filled id k.filled m.filled_stands so.filled;
+    });
+    undrawn = law.undrawn;
+    facts = law.facts;
+  }

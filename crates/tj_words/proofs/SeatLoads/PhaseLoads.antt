@@ -1,0 +1,137 @@
+-- A load of PHASE that is no event: where the task is the first of the seat's rest, the way of its wait is known then.
+use Rattle.std.proofs.Common.{◌≡◌, ◌⊎◌, ℕ, ◌<◌, Bool, cond, List, [], ◌∷◌, set, Option, Some, None, refl}
+use Rattle.std.proofs.Common.{sym, ap, ◌∙◌, subst, inl, inr, ⊎_elim, arith, eq-eqb, ne_eqb}
+use mathlib.Core.Option.{some, none}
+use mathlib.Core.Logic.{dite}
+use native.Mathlib.Decide.{ℕ_discrete}
+use lib.ListN.{get_elem?}
+use Rattle.atomic_table.specs.Table.{State, step, Allows}
+use Rattle.atomic_table.proofs.Lists.{at_map, set_again}
+use Rattle.tj_body.specs.Programs.{Program}
+use Rattle.tj_core.specs.declared.walk.Way.{Way}
+use Rattle.tj_words.specs.declared.phase.Phase.{Phase}
+use Rattle.tj_words.specs.declared.record.Rec.{Rec}
+use Rattle.tj_words.specs.declared.table.Key.{Key}
+use Rattle.tj_words.specs.declared.view.Rest.{Rest}
+use Rattle.tj_words.specs.declared.view.View.{View}
+use Rattle.tj_words.specs.LawParts.Chains.{Chains, parked_phase, IsFirstIn}
+use Rattle.tj_words.specs.LawParts.Contents.{SeatsHave, words_say, seats_have, contents_of, tag_in}
+use Rattle.tj_words.specs.Law.{Law, Rule, IsSeat}
+use Rattle.tj_words.specs.Words.Offsets.{word, phase_at}
+use Rattle.tj_words.specs.Calls.ParkSteps.{parked_way, first_way, rest_loaded, loaded_phase, FirstTold, phase_load}
+use Rattle.tj_words.specs.Words.Phases.{phase_in}
+use Rattle.tj_words.specs.SeatViews.SeatSteps.{SeatMe}
+use Rattle.tj_words.proofs.Waiters.ChainLists.{no_some}
+use Rattle.tj_words.proofs.Waiters.ChainPhases.{chains_read, rest_first}
+use Rattle.tj_words.proofs.Stores.LawChanges.{law_chains}
+use Rattle.tj_words.proofs.Stores.SeatContents.{set_seats, seats_same}
+use Rattle.tj_words.proofs.Stores.SeatLists.{words_same}
+use Rattle.tj_words.proofs.Stores.SlotStores.{StoresWith, Acts, acts_keeping}
+use Rattle.tj_words.proofs.Stores.StoredWords.{may_phase}
+
+-- what is known of the way of a first task is as before, or the task is the one that was loaded
+first_or : (t : ℕ) (p : Phase) (l : List ℕ) (o : Option Way)
+    → (first_way t p l o ≡ o) ⊎ ((ts : List ℕ) × (l ≡ t ∷ ts))
+first_or t p [] o = inl refl
+first_or t p (u ∷ us) o = dite (ℕ_discrete u t) (λ e. inr (us, ap (λ k. k ∷ us) e))
+    (λ n. inl (ap (λ (b : Bool). cond b (parked_way p o) o) (ne_eqb u t n)))
+
+first_is : (t : ℕ) (p : Phase) (ts : List ℕ) (o : Option Way) → first_way t p (t ∷ ts) o ≡ parked_way p o
+first_is t p ts o = ap (λ (b : Bool). cond b (parked_way p o) o) (eq-eqb t t refl)
+
+-- there is a rest still where there was one
+rest_back : (t : ℕ) (p : Phase) (o : Option Rest) → ((r : Rest) × (rest_loaded t p o ≡ Some r))
+    → (r : Rest) × (o ≡ Some r)
+rest_back t p None h = no_some refl h.1
+rest_back t p (Some r) h = (r, refl)
+
+module _ {B : Type 0} (program : Bool → B → Program B) (key : Key B) where
+  module _ (s : State (Option (Rec B)) (View B)) (r : Rule program key s) (id t : ℕ) (v : View B)
+      (at : get_elem? s.views id ≡ some v) where
+    abbrev y : SeatsHave B
+    y = seats_have s.views
+
+    abbrev p : Phase
+    p = phase_in (word s.words (phase_at t))
+
+    rest_at : get_elem? y.rests id ≡ some v.rest
+    rest_at = at_map (λ (u : View B). u.rest) s.views id v at
+
+    -- the first of the seat's rest is parked on the rest's cell
+    pub first_told : FirstTold t p v
+    first_told q ts e f = (rest_first r.law.chains id q t ts (rest_at ∙ ap some e) f).0
+
+    abbrev ChainsWith : Option Rest → Type 0
+    ChainsWith o = Chains (tag_in (contents_of s)) (words_say s.words).head (words_say s.words).next
+        (words_say s.words).phase y.pushes y.shuts (set y.rests id o) y.closed y.found
+
+    loaded_chains : ChainsWith (rest_loaded t p v.rest)
+    loaded_chains = by v.rest refl
+      where
+        same : ChainsWith v.rest
+        same = subst (λ z. Chains (tag_in (contents_of s)) (words_say s.words).head (words_say s.words).next
+            (words_say s.words).phase y.pushes y.shuts z y.closed y.found)
+            (sym (set_again y.rests id v.rest rest_at)) r.law.chains
+
+        by : (o : Option Rest) → v.rest ≡ o → ChainsWith (rest_loaded t p o)
+        by None e = subst ChainsWith e same
+        by (Some q) e = ⊎_elim
+            (λ (k : first_way t p q.tasks q.way ≡ q.way). subst (λ w. ChainsWith (Some (record q { way = w })))
+            (sym k) (subst ChainsWith e same))
+            (λ (k : (ts : List ℕ) × (q.tasks ≡ t ∷ ts)). let f = first_told q k.0 e k.1 in
+            let w : first_way t p q.tasks q.way ≡ Some f.0 = ap (λ l. first_way t p l q.way) k.1
+            ∙ (first_is t p k.0 q.way ∙ ap (λ z. parked_way z q.way) f.1) in
+            subst (λ z. ChainsWith (Some (record q { way = z }))) (sym w)
+            (chains_read r.law.chains id q f.0 (rest_at ∙ ap some e)
+            (subst (λ l. IsFirstIn (words_say s.words).phase l (parked_phase q.cell f.0)) (sym k.1) f.1)))
+            (first_or t p q.tasks q.way)
+
+    abbrev w : View B
+    w = loaded_phase t p v
+
+    loaded_seat : IsSeat key w
+    loaded_seat = let h = r.seats id v at in let l = h.within_lot in let b = h.backing in record {
+      about = h.about;
+      within_lot = record {
+        least = l.least;
+        refused_fit = l.refused_fit;
+        tokens_fit = l.tokens_fit;
+        cleared_fit = l.cleared_fit;
+      };
+      backing = record {
+        wakes = λ c. b.wakes (⊎_elim (λ a. inl a) (λ d. inr (⊎_elim (λ a. inl a)
+            (λ e. inr (rest_back t p v.rest e)) d)) c);
+        tags = b.tags;
+        alarms = b.alarms;
+      };
+      known_born = h.known_born;
+    }
+
+    loaded_stores : t < key.cells → StoresWith program key s s.homes id (phase_at t) (word s.words (phase_at t)) w
+    loaded_stores l = record {
+      inside = let e = r.all_words in omega arith;
+      as_many = refl;
+      may = may_phase key.cells t (word s.words (phase_at t)) (r.codes.each t l).phase;
+      seat = loaded_seat;
+      law = subst (λ z. Law (program key.strict key.root.value) key.cells
+          (record { words = words_say z; slots = s.homes; seats = set_seats y id w }))
+          (sym (words_same s.words (phase_at t)))
+          (subst (λ z. Law (program key.strict key.root.value) key.cells
+          (record { words = words_say s.words; slots = s.homes; seats = z }))
+          (sym (ap (λ (z : SeatsHave B). record z { rests = set y.rests id w.rest }) (seats_same s.views id v at)))
+          (law_chains r.law (words_say s.words).head (words_say s.words).next y.pushes y.shuts
+          (set y.rests id w.rest) y.closed y.found loaded_chains));
+    }
+
+  pub phase_allowed : (slots id : ℕ) (m : SeatMe B) (cells c t i : ℕ) → cells ≡ key.cells → c ≡ t → t < key.cells
+      → i ≡ phase_at t
+      → Allows (Rule program key) slots id m i (λ n. n) (phase_load cells c (step slots i 0 0 none) m)
+  phase_allowed slots id m cells c t i few is l place s r deep at small =
+      subst (λ (k : ℕ × ℕ × ℕ). Acts program key s id m k.2 (word s.words k.2)
+      (λ m'. phase_load k.0 k.1 (step slots i 0 0 none) m (word s.words k.2) m'))
+      (λ j. (sym few j, sym is j, sym place j))
+      (acts_keeping program key s r id m (phase_at t) (word s.words (phase_at t))
+      (phase_load key.cells t (step slots i 0 0 none) m (word s.words (phase_at t)))
+      (loaded_phase t (p s r id t m.0 at) m.0)
+      (loaded_stores s r id t m.0 at l)
+      (refl, refl, (r.codes.each t l).phase, first_told s r id t m.0 at))

@@ -1,0 +1,39 @@
+-- A load of STOP tells whether the meaning is full.
+use Rattle.std.proofs.Common.{ℕ, suc, Bool, ◌∷◌, refl, sym, subst}
+use mathlib.Core.Option.{none}
+use Rattle.atomic_table.specs.Table.{Allows, step}
+use Rattle.tj_body.specs.Programs.{Program}
+use Rattle.tj_body.specs.Rounds.{IsFull}
+use Rattle.tj_words.specs.declared.table.Key.{Key}
+use Rattle.tj_words.specs.declared.view.About.{About}
+use Rattle.tj_words.specs.SeatViews.FullMeaning.{stop_load}
+use Rattle.tj_words.specs.Law.{Rule}
+use Rattle.tj_words.specs.Words.Offsets.{stop_at, word}
+use Rattle.tj_words.specs.SeatViews.SeatSteps.{SeatMe}
+use Rattle.tj_words.specs.SeatViews.Views.{run_load}
+use Rattle.tj_words.specs.declared.view.RunWord.TheVariants as run
+use Rattle.tj_words.proofs.SeatLoads.Learning.{knowing_of}
+use Rattle.tj_words.proofs.SeatLoads.LoadSteps.{knows_so, load_allowed, noted_so}
+
+module _ {B : Type 0} (program : Bool → B → Program B) (key : Key B) where
+  pub stop_allowed : (slots id : ℕ) (m : SeatMe B)
+      → Allows (Rule program key) slots id m stop_at (λ n. n) (stop_load program (step slots stop_at 0 0 none) m)
+  stop_allowed slots id m =
+      load_allowed program key slots id m stop_at (stop_load program (step slots stop_at 0 0 none) m) (λ s r at. (
+        record (knowing_of m.0) {
+          stop = word s.words stop_at;
+          run_loads = run_load run.Stop (word s.words stop_at) m.0 ∷ m.0.run_loads;
+        },
+        m.0.plain_loads,
+        m.0.once_loads,
+        suc m.0.steps,
+        (let o = knows_so program key s r id m.0 at in noted_so (knowing_of m.0) m.0.rested (word s.words stop_at)
+            (run_load run.Stop (word s.words stop_at) m.0 ∷ m.0.run_loads) o o.rested),
+        (
+          refl,
+          refl,
+          r.codes.stop,
+          λ e a f. subst (λ (z : About B). IsFull (program z.strict z.root) z.cells)
+              (sym ((r.seats id m.0 at).about a f)) (r.law.meaning.full (r.law.meaning.stopped e)),
+        ),
+      ))

@@ -1,0 +1,264 @@
+-- A task of a seat does something else, in the same phase: the law after it, and the loads of a walker as events.
+use Rattle.std.proofs.Common.{◌≡◌, ◌≢◌, ℕ, suc, Bool, true, false, [], ◌∷◌, ◌++◌, set, Option, Some, None}
+use Rattle.std.proofs.Common.{refl, sym, ap, ◌∙◌, subst, inl, inr, ⊎_elim, length, ◌<◌}
+use Rattle.tj_body.specs.Points.{IsIn}
+use Rattle.tj_body.specs.Programs.{Program}
+use Rattle.tj_core.specs.declared.event.Event.{Event}
+use Rattle.tj_core.specs.declared.event.Event.TheVariants as event
+use Rattle.tj_core.specs.declared.walk.Way.{Way}
+use Rattle.tj_core.specs.declared.walk.Walker.{Walker}
+use Rattle.tj_core.specs.declared.walk.LastRead.{LastRead}
+use Rattle.tj_core.specs.declared.walk.LastRead.TheVariants.{Counted, Passed, SawOwner, SawWait}
+use Rattle.tj_core.specs.CoreFacts.{CoreFacts}
+use Rattle.tj_core.specs.CoreState.{present}
+use Rattle.tj_core.specs.Laws.{EventKeepsFacts}
+use Rattle.tj_core.specs.Events.{others_read, count_read, owner_read, wait_found, owner_found, is_owner}
+use Rattle.tj_core.specs.Events.{MayReadOthers, MayCount, MayReadOwner, MayReadAgain}
+use Rattle.tj_words.specs.declared.phase.Phase.{Phase}
+use Rattle.tj_words.specs.declared.phase.Phase.TheVariants as phase
+use Rattle.tj_words.specs.declared.view.Does.{Does}
+use Rattle.tj_words.specs.declared.view.Does.TheVariants as does
+use Rattle.tj_words.specs.declared.record.Rec.{Rec}
+use Rattle.tj_words.specs.declared.view.Custody.{Custody}
+use Rattle.tj_words.specs.Words.Lists.{All, cell}
+use Rattle.tj_words.specs.LawParts.Holding.{phase_of}
+use Rattle.tj_words.specs.LawParts.Hands.{IsThere}
+use Rattle.tj_words.specs.LawParts.NamedCells.{walk_cells, does_cells, read_cells, trail_cells, AreThere}
+use Rattle.tj_words.specs.SeatViews.TaskLists.{hold}
+use Rattle.tj_words.specs.LawParts.Contents.{Contents, drawn_in, hand_of, home_of, core_shown}
+use Rattle.tj_words.specs.LawParts.LiveCount.{HasAlarmed}
+use Rattle.tj_words.specs.Law.{Law}
+use Rattle.tj_words.specs.LawParts.TreeWords.{Births}
+use Rattle.tj_words.specs.LawParts.Custodies.{IsLaid, OwnedLists}
+use Rattle.tj_words.specs.Steps.StepEvents.{wait_in, IsHeldWith, IsTurned, ShowsEvent}
+use Rattle.tj_words.specs.Steps.WalkSteps.{ReadsOn}
+use Rattle.tj_words.specs.Calls.WalkViews.{owner_seen, MayLoadOwner}
+use Rattle.tj_words.proofs.Holders.HeldTasks.{none_some, one_some, held_listed, in_front, in_back}
+use Rattle.tj_words.proofs.Seating.Merging.{all_append}
+use Rattle.tj_words.proofs.SeatLoads.KnowLoads.{all_cons}
+use Rattle.tj_words.proofs.Holders.TaskPlaces.{custody}
+use Rattle.tj_words.proofs.Holders.SeatTasks.{noted_turned}
+use Rattle.tj_words.proofs.Holders.HeldChanges.{held_task, hands_held, walks_held, custody_held, owned_held, made_held}
+use Rattle.tj_words.proofs.Events.StepFacts.{facts_after}
+use Rattle.tj_words.proofs.Events.WalkEvents.{others_shown, count_shown, owner_shown_read, wait_shown_read}
+use Rattle.tj_words.proofs.Events.WalkEvents.{again_shown_read}
+
+-- what holds of the cells of a walk and of those of its newest read holds of the walk with that read
+module _ (F : ℕ → Type 0) where
+  none : All F []
+  none c i = absurd i
+
+  module _ (p : ℕ) (w : Walker) (h : All F (walk_cells p w)) where
+    pub last_there : (l : LastRead) → w.last ≡ l → All F (read_cells l)
+    last_there l e c i =
+        h c (inr (in_back c (trail_cells w.trail) (read_cells w.last) (subst (λ z. IsIn c (read_cells z)) (sym e) i)))
+
+    trail_there : All F (trail_cells w.trail)
+    trail_there c i = h c (inr (in_front c (trail_cells w.trail) (read_cells w.last) i))
+
+    walk_with_read : (l : LastRead) (bound loads : ℕ) → All F (read_cells l)
+        → All F (walk_cells p record { trail = w.trail; bound = bound; loads = loads; last = l })
+    walk_with_read l bound loads a = all_cons F p (trail_cells w.trail ++ read_cells l) (h p (inl refl))
+        (all_append F (trail_cells w.trail) (read_cells l) trail_there a)
+
+    pub others_there : (n : ℕ) → All F (walk_cells p (others_read n w))
+    others_there n = walk_with_read (others_read n w).last w.bound w.loads none
+
+    pub count_there : (n : ℕ) → All F (walk_cells p (count_read n w))
+    count_there n = walk_with_read (count_read n w).last n w.loads none
+
+    pub owner_there : (o : Option ℕ) → ((u : ℕ) → o ≡ Some u → F u) → All F (walk_cells p (owner_read o w))
+    owner_there None a = walk_with_read (SawOwner None) w.bound (suc w.loads) none
+    owner_there (Some u) a = walk_with_read (SawOwner (Some u)) w.bound (suc w.loads) (all_cons F u [] (a u refl) none)
+
+    pub wait_there : (u : ℕ) (o : Option ℕ) → F u → ((c : ℕ) → o ≡ Some c → F c)
+        → All F (walk_cells p (wait_found u o w))
+    wait_there u None f a = walk_with_read (SawWait u None) w.bound (suc w.loads) (all_cons F u [] f none)
+    wait_there u (Some c) f a =
+        walk_with_read (SawWait u (Some c)) w.bound (suc w.loads)
+        (all_cons F u (c ∷ []) f (all_cons F c [] (a c refl) none))
+
+    pub again_there : (b : Bool) (u v : ℕ) → F u → F v → All F (walk_cells p (owner_found b u v w))
+    again_there true u v f g = all_cons F p (u ∷ v ∷ (trail_cells w.trail ++ [])) (h p (inl refl))
+        (all_cons F u (v ∷ (trail_cells w.trail ++ [])) f (all_cons F v (trail_cells w.trail ++ []) g
+        (all_append F (trail_cells w.trail) [] trail_there none)))
+    again_there false u v f g = walk_with_read (owner_found false u v w).last w.bound (suc w.loads) none
+
+module _ {B : Type 0} where
+  -- what its seat has for a task that does this from now on
+  abbrev pub doing : Does → Custody B → Custody B
+  doing d k = record k { does = d }
+
+  -- the contents where a seat's task does this from now on, with this OTHERS
+  abbrev pub turned_to : (x : Contents B) (id t : ℕ) (k : Custody B) → IsHeldWith x id t k → Does → ℕ → Contents B
+  turned_to x id t k h d others = record x {
+    words = record x.words { others = others };
+    seats = record x.seats { tasks = set x.seats.tasks id (hold (doing d k) h.0) };
+  }
+
+  -- the contents where a seat's walker has read on
+  abbrev pub read_to : (x : Contents B) (id t : ℕ) (k : Custody B) → IsHeldWith x id t k → ℕ → Way → Walker → Contents B
+  read_to x id t k h p way w = turned_to x id t k h (does.Walking p way w) x.words.others
+
+module _ {B : Type 0} {program : Program B} {cells : ℕ} {x : Contents B} (r : Law program cells x) (id t : ℕ)
+    (k : Custody B) (h : IsHeldWith x id t k) (d : Does) (same : phase_of d ≡ phase_of k.does) (others : ℕ) where
+  abbrev k' : Custody B
+  k' = doing d k
+
+  abbrev y : Contents B
+  y = turned_to x id t k h d others
+
+  pub its : k'.task ≡ t
+  its = held_task h.0 t k h.2
+
+  pub task_turned : IsTurned cells x y t k k'
+  task_turned = noted_turned r y id t k k' h its refl refl refl refl ((custody r id t k h).does ∙ sym same)
+      (λ c n. refl) (λ c n. refl) refl
+
+  -- the law after a task of a seat does something else in the same phase, which names cells that are there, where the
+  -- facts of what is shown then hold
+  pub law_turned : (¬ HasAlarmed d)
+      → AreThere (drawn_in cells x) (hand_of x) (does_cells d)
+      → CoreFacts (core_shown cells r.born r.maker y)
+      → Law program cells y
+  law_turned calm there facts = record {
+    born = r.born;
+    maker = r.maker;
+    number = r.number;
+    forks = r.forks;
+    lots = r.lots;
+    hands = hands_held r id t k k' h its x.words.phase (λ j g at. refl) (λ e. e);
+    names = record {
+      owned = r.names.owned;
+      waits = r.names.waits;
+      records = r.names.records;
+      walks = walks_held r id t k k' h its there;
+      knows = r.names.knows;
+    };
+    births = subst (λ f. Births (drawn_in cells x) r.born r.maker r.number f (hand_of x) x.words.phase)
+        (λ j u. sym (made_held r id t k k' h its refl u) j) r.births;
+    tree = r.tree;
+    tree_words = r.tree_words;
+    custody = custody_held r id t k k' h its x.words.phase (λ u n. refl) ((custody r id t k h).does ∙ sym same)
+        (λ a. absurd (calm a)) laid (custody r id t k h).out;
+    owned = subst (λ f. OwnedLists (drawn_in cells x) (hand_of x) x.words.own f)
+        (λ j u. sym (owned_held r id t k k' h its refl u) j) r.owned;
+    once_words = r.once_words;
+    chains = r.chains;
+    live_count = r.live_count;
+    waiters_own = r.waiters_own;
+    records_fit = r.records_fit;
+    meaning = r.meaning;
+    undrawn = r.undrawn;
+    facts = facts;
+  }
+    where
+      laid : (c : Rec B) → k.home ≡ Some c → IsLaid k' (home_of x t) c
+      laid c e = let l = (custody r id t k h).laid c e in record { here = l.here; owned = l.owned; made = l.made }
+
+-- a walker of a seat reads on: each of its loads is the event of the core, and the law holds after it
+module _ {B : Type 0} {program : Program B} {cells : ℕ} {x : Contents B} (event_keeps : EventKeepsFacts)
+    (r : Law program cells x) (id t : ℕ) (k : Custody B) (h : IsHeldWith x id t k) (p : ℕ) (way : Way) (w : Walker)
+    (walks : k.does ≡ does.Walking p way w) where
+  -- every cell that the walk names is there
+  named : AreThere (drawn_in cells x) (hand_of x) (walk_cells p w)
+  named = subst (λ z. AreThere (drawn_in cells x) (hand_of x) (does_cells z)) walks
+      (r.names.walks id h.0 h.1 k (held_listed h.0 t k h.2))
+
+  module _ (w' : Walker) where
+    abbrev d' : Does
+    d' = does.Walking p way w'
+
+    same : phase_of d' ≡ phase_of k.does
+    same = ap phase_of (sym walks)
+
+    abbrev read_y : Contents B
+    read_y = read_to x id t k h p way w'
+
+    reads : ReadsOn cells x read_y id t p way w w'
+    reads = record {
+      turns = record {
+        before_it = k;
+        after_it = doing d' k;
+        held = h;
+        did = walks;
+        now = refl;
+        turned = task_turned r id t k h d' same x.words.others;
+      };
+      keeps = record { others = refl; cleared = refl };
+    }
+
+    read_law : (e : Event) → ShowsEvent cells r.born r.maker x read_y e r.born r.maker
+        → AreThere (drawn_in cells x) (hand_of x) (walk_cells p w')
+        → Law program cells read_y
+    read_law e s there = law_turned r id t k h d' same x.words.others (λ a. a) there (facts_after event_keeps s r.facts)
+
+  -- the load of OTHERS
+  pub law_reads_others : MayReadOthers way w
+      → Law program cells (read_to x id t k h p way (others_read x.words.others w))
+  law_reads_others may = let w' = others_read x.words.others w in
+      read_law w' (event.LoadOthers (cell t))
+      (others_shown r (read_y w') id t p way w record { reads = reads w'; may = may })
+      (others_there (IsThere (drawn_in cells x) (hand_of x)) p w named x.words.others)
+
+  -- the load of COUNT
+  pub law_reads_count : MayCount way w → Law program cells (read_to x id t k h p way (count_read (drawn_in cells x) w))
+  law_reads_count may = let w' = count_read (drawn_in cells x) w in
+      read_law w' (event.LoadCount (cell t))
+      (count_shown r (read_y w') id t p way w record { reads = reads w'; may = may })
+      (count_there (IsThere (drawn_in cells x) (hand_of x)) p w named (drawn_in cells x))
+
+  -- the first load of OWN of the present cell
+  pub law_reads_owner : MayReadOwner w
+      → Law program cells (read_to x id t k h p way (owner_read (x.words.own (present p w.trail)) w))
+  law_reads_owner may = let o = x.words.own (present p w.trail) in let w' = owner_read o w in
+      read_law w' (event.ReadOwner (cell t))
+      (owner_shown_read r (read_y w') id t p way w record { reads = reads w'; may = may })
+      (owner_there (IsThere (drawn_in cells x) (hand_of x)) p w named o
+      (λ u e. (r.names.owned (present p w.trail) u e).1))
+
+  -- the load of PHASE of the owner u
+  pub law_reads_wait : (u : ℕ) → w.last ≡ SawOwner (Some u) → u ≢ t
+      → Law program cells (read_to x id t k h p way (wait_found u (wait_in (x.words.phase u)) w))
+  law_reads_wait u last other = let o = wait_in (x.words.phase u) in let w' = wait_found u o w in
+      read_law w' (event.ReadWait (cell t))
+      (wait_shown_read r (read_y w') id t p way w u record { reads = reads w'; last = last; other = other })
+      (wait_there (IsThere (drawn_in cells x) (hand_of x)) p w named u o
+      (last_there (IsThere (drawn_in cells x) (hand_of x)) p w named (SawOwner (Some u)) last u (inl refl))
+      (λ c e. waits_there (x.words.phase u) refl c e))
+    where
+      waits_there : (f : Phase) → x.words.phase u ≡ f → (c : ℕ) → wait_in f ≡ Some c
+          → IsThere (drawn_in cells x) (hand_of x) c
+      waits_there phase.Unborn q c e = none_some None c refl e
+      waits_there phase.Ready q c e = none_some None c refl e
+      waits_there phase.Running q c e = none_some None c refl e
+      waits_there phase.Ended q c e = none_some None c refl e
+      waits_there phase.Promise q c e = none_some None c refl e
+      waits_there (phase.Waiting d v g) q c e =
+          subst (IsThere (drawn_in cells x) (hand_of x)) (one_some d.0 c e) (r.names.waits u d v g q)
+
+  -- the second load of OWN of the present cell, whose owner u was seen to wait for v
+  pub law_reads_again : (u v : ℕ) → w.last ≡ SawWait u (Some v)
+      → Law program cells (read_to x id t k h p way (owner_found (is_owner (x.words.own (present p w.trail)) u) u v w))
+  law_reads_again u v last = let b = is_owner (x.words.own (present p w.trail)) u in let w' = owner_found b u v w in
+      let seen = last_there (IsThere (drawn_in cells x) (hand_of x)) p w named (SawWait u (Some v)) last in
+      read_law w' (event.ReadOwnerAgain (cell t))
+      (again_shown_read r (read_y w') id t p way w u v record { reads = reads w'; last = last })
+      (again_there (IsThere (drawn_in cells x) (hand_of x)) p w named b u v (seen u (inl refl))
+      (seen v (inr (inl refl))))
+
+  -- the load of OWN of the present cell, for the first or the second time
+  pub law_reads_seen : MayLoadOwner w
+      → Law program cells (read_to x id t k h p way (owner_seen (x.words.own (present p w.trail)) w w.last))
+  law_reads_seen may = ⊎_elim
+      (λ (a : MayReadOwner w). ⊎_elim
+      (λ (c : w.last ≡ Counted). by Counted c (law_reads_owner a))
+      (λ (c : (w.last ≡ Passed) × (length w.trail < w.bound)). by Passed c.0 (law_reads_owner a)) a)
+      (λ (a : MayReadAgain w). by (SawWait a.0 (Some a.1)) a.2 (law_reads_again a.0 a.1 a.2)) may
+    where
+      o : Option ℕ
+      o = x.words.own (present p w.trail)
+
+      by : (l : LastRead) → w.last ≡ l → Law program cells (read_to x id t k h p way (owner_seen o w l))
+          → Law program cells (read_to x id t k h p way (owner_seen o w w.last))
+      by l e q = subst (λ z. Law program cells (read_to x id t k h p way (owner_seen o w z))) (sym e) q

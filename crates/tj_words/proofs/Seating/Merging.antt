@@ -1,0 +1,310 @@
+-- A merge keeps the rule of the table.
+use Rattle.std.proofs.Common.{◌≡◌, ◌⊎◌, ℕ, zero, suc, ◌+◌, ◌<◌, ◌≤◌, Bool, true, false, cond, nat_lt, ◌||◌, List, []}
+use Rattle.std.proofs.Common.{◌∷◌, ◌++◌, length, Option, Some, None, map, set, refl, sym, ap, ◌∙◌, subst, ⊎_elim, inl}
+use Rattle.std.proofs.Common.{inr, arith, ltb-true, ltb-false}
+use mathlib.Core.Option.{some}
+use lib.ListN.{get_elem?}
+use Rattle.atomic_table.specs.Table.{State, Joins}
+use Rattle.atomic_table.proofs.Lists.{at_map, set_again, set_else, at_longer}
+use Rattle.tj_body.specs.Programs.{Program}
+use Rattle.tj_body.specs.Points.{Begins}
+use Rattle.tj_body.specs.declared.point.Reference.{Reference}
+use Rattle.tj_words.specs.declared.record.Rec.{Rec}
+use Rattle.tj_words.specs.declared.table.Key.{Key}
+use Rattle.tj_words.specs.declared.view.Custody.{Custody}
+use Rattle.tj_words.specs.declared.view.View.{View}
+use Rattle.tj_words.specs.Words.Lists.{All}
+use Rattle.tj_words.specs.LawParts.LiveCount.{HasWakeToCome}
+use Rattle.tj_words.specs.LawParts.TreeWords.{IsCell}
+use Rattle.tj_words.specs.LawParts.Contents.{Contents, SeatsHave, words_say, seats_have, contents_of}
+use Rattle.tj_words.specs.Law.{Law, Rule, IsSeat}
+use Rattle.tj_words.specs.LawParts.Lots.{Lots}
+use Rattle.tj_words.specs.SeatViews.Views.{longer, both, spent, IsIdle}
+use Rattle.tj_words.proofs.Stores.SeatLists.{each_set, inside}
+use Rattle.tj_words.proofs.Stores.SeatContents.{set_seats, seats_set, seats_same, rule_views}
+use Rattle.tj_words.proofs.SeatLoads.Learning.{Knowing, knowing_of, IsSo, learns, law_learns}
+use Rattle.tj_words.proofs.SeatLoads.LoadSteps.{knows_so}
+use Rattle.tj_words.proofs.Seating.Splitting.{total_set}
+
+-- what holds of all elements of two lists holds of all of both together
+pub all_append : {A : Type 0} (F : A → Type 0) (xs ys : List A) → All F xs → All F ys → All F (xs ++ ys)
+all_append F [] ys h k y i = k y i
+all_append F (x ∷ xs) ys h k y (inl e) = h y (inl e)
+all_append F (x ∷ xs) ys h k y (inr i) = all_append F xs ys (λ z m. h z (inr m)) k y i
+
+-- an element of a beginning is one of the list, and the other way round where the beginning is long enough
+pub begins_at : {A : Type 0} (xs l : List A) → Begins xs l → (c : ℕ) (x : A) → get_elem? xs c ≡ some x
+    → get_elem? l c ≡ some x
+begins_at xs l b c x e = subst (λ z. get_elem? z c ≡ some x) (sym b.1) (at_longer xs b.0 c x e)
+
+at_front : {A : Type 0} (xs more : List A) (c : ℕ) (x : A) → c < length xs → get_elem? (xs ++ more) c ≡ some x
+    → get_elem? xs c ≡ some x
+at_front [] more c x h e = absurd (omega arith)
+at_front (y ∷ ys) more zero x h e = e
+at_front (y ∷ ys) more (suc c) x h e = at_front ys more c x (omega arith) e
+
+pub begins_back : {A : Type 0} (xs l : List A) → Begins xs l → (c : ℕ) (x : A) → c < length xs
+    → get_elem? l c ≡ some x
+    → get_elem? xs c ≡ some x
+begins_back xs l b c x h e = at_front xs b.0 c x h (subst (λ z. get_elem? z c ≡ some x) b.1 e)
+
+-- the longer of two beginnings of a list begins it too, and has what either of them has
+module _ (xs ys l : List Reference) (a : Begins xs l) (b : Begins ys l) where
+  pub begins_longer : Begins (longer xs ys) l
+  begins_longer = by (nat_lt (length xs) (length ys)) where
+    by : (t : Bool) → Begins (cond t ys xs) l
+    by true = b
+    by false = a
+
+  pub longer_left : (c : ℕ) (x : Reference) → IsCell xs c x → IsCell (longer xs ys) c x
+  longer_left c x e = by (nat_lt (length xs) (length ys)) refl where
+    by : (t : Bool) → nat_lt (length xs) (length ys) ≡ t → IsCell (cond t ys xs) c x
+    by true q = let i = inside xs c x e in let m : length xs < length ys = ltb-true (length xs) (length ys) q in
+        begins_back ys l b c x (omega arith) (begins_at xs l a c x e)
+    by false q = e
+
+  pub longer_right : (c : ℕ) (x : Reference) → IsCell ys c x → IsCell (longer xs ys) c x
+  longer_right c x e = by (nat_lt (length xs) (length ys)) refl where
+    by : (t : Bool) → nat_lt (length xs) (length ys) ≡ t → IsCell (cond t ys xs) c x
+    by true q = e
+    by false q = let i = inside ys c x e in let m : length ys ≤ length xs = ltb-false (length xs) (length ys) q in
+        begins_back xs l a c x (omega arith) (begins_at ys l b c x e)
+
+either_true : (a b : Bool) → (a || b) ≡ true → (a ≡ true) ⊎ (b ≡ true)
+either_true true b e = inl refl
+either_true false b e = inr e
+
+-- what either of two knows, and nothing
+abbrev pub both_know : Knowing → Knowing → Knowing
+both_know k l = record {
+  known = k.known ++ l.known;
+  born = longer k.born l.born;
+  wrote = k.wrote ++ l.wrote;
+  filled = k.filled ++ l.filled;
+  seen = k.seen ++ l.seen;
+  closed = k.closed ++ l.closed;
+  found = k.found ++ l.found;
+  rested = k.rested || l.rested;
+  stop = k.stop;
+  run_loads = k.run_loads;
+}
+
+abbrev pub nothing_known : Knowing
+nothing_known = record {
+  known = [];
+  born = [];
+  wrote = [];
+  filled = [];
+  seen = [];
+  closed = [];
+  found = [];
+  rested = false;
+  stop = 0;
+  run_loads = [];
+}
+
+module _ {B : Type 0} (program : Program B) (cells : ℕ) (x : Contents B) (law : Law program cells x) where
+  pub both_so : (k l : Knowing) → IsSo program cells x law k → IsSo program cells x law l
+      → IsSo program cells x law (both_know k l)
+  both_so k l a b = record {
+    known = all_append _ k.known l.known a.known b.known;
+    begins = begins_longer k.born l.born law.born a.begins b.begins;
+    known_born = all_append (λ c. (r : Reference) × IsCell (longer k.born l.born) c r) k.known l.known
+        (λ c i. let h = a.known_born c i in (h.0, longer_left k.born l.born law.born a.begins b.begins c h.0 h.1))
+        (λ c i. let h = b.known_born c i in (h.0, longer_right k.born l.born law.born a.begins b.begins c h.0 h.1));
+    wrote = all_append _ k.wrote l.wrote a.wrote b.wrote;
+    filled = all_append _ k.filled l.filled a.filled b.filled;
+    seen = all_append _ k.seen l.seen a.seen b.seen;
+    closed = all_append _ k.closed l.closed a.closed b.closed;
+    found = all_append _ k.found l.found a.found b.found;
+    rested = λ e. ⊎_elim a.rested b.rested (either_true k.rested l.rested e);
+  }
+
+  pub nothing_so : IsSo program cells x law nothing_known
+  nothing_so = record {
+    known = λ c i. absurd i;
+    begins = (law.born, refl);
+    known_born = λ c i. absurd i;
+    wrote = λ c i. absurd i;
+    filled = λ c i. absurd i;
+    seen = λ c i. absurd i;
+    closed = λ c i. absurd i;
+    found = λ c i. absurd i;
+    rested = λ e. cc;
+  }
+
+  -- the contents with other lots and refused draws
+  abbrev pub with_lots : List ℕ → List ℕ → Contents B
+  with_lots lots refused = record x { seats = record x.seats { lots = lots; refused = refused } }
+
+  pub law_lots : (lots refused : List ℕ) → Lots cells x.words.count lots refused
+      → Law program cells (with_lots lots refused)
+  law_lots lots refused h = record {
+    born = law.born;
+    maker = law.maker;
+    number = law.number;
+    forks = law.forks;
+    lots = h;
+    hands = law.hands;
+    names = law.names;
+    births = law.births;
+    tree = law.tree;
+    tree_words = law.tree_words;
+    custody = law.custody;
+    owned = law.owned;
+    once_words = law.once_words;
+    chains = law.chains;
+    live_count = law.live_count;
+    waiters_own = law.waiters_own;
+    records_fit = law.records_fit;
+    meaning = law.meaning;
+    undrawn = law.undrawn;
+    facts = law.facts;
+  }
+
+module _ {B : Type 0} where
+  both_seat : (key : Key B) (v w : View B) → IsSeat key v → IsSeat key w
+      → All (λ c. (r : Reference) × IsCell (longer v.born w.born) c r) (v.known ++ w.known) → IsSeat key (both v w)
+  both_seat key v w h i kb = let b = h.backing in let l = h.within_lot in let m = i.within_lot in
+      let a = l.refused_fit in let c = l.tokens_fit in let d = l.cleared_fit in let e = m.refused_fit in record {
+        about = h.about;
+        within_lot = record {
+          least = ⊎_elim (λ q. inl q) (λ q. inr (omega arith)) l.least;
+          refused_fit = omega arith;
+          tokens_fit = omega arith;
+          cleared_fit = omega arith;
+        };
+        backing = record { wakes = b.wakes; tags = b.tags; alarms = b.alarms };
+        known_born = kb;
+      }
+
+  spent_seat : (key : Key B) → IsSeat key spent
+  spent_seat key = record {
+    about = λ a e. cc;
+    within_lot = record {
+      least = inl (refl, refl);
+      refused_fit = omega arith;
+      tokens_fit = omega arith;
+      cleared_fit = omega arith;
+    };
+    backing = record { wakes = λ h. absurd (none h); tags = λ t. absurd t.1; alarms = λ a. absurd (no_task a.1 a.2) };
+    known_born = λ c i. absurd i;
+  }
+    where
+      none : HasWakeToCome {B = B} spent → ⊥
+      none (inl n) = n refl
+      none (inr (inl n)) = n refl
+      none (inr (inr h)) = cc
+
+      no_task : (k : Custody B) → None ≡ Some k → ⊥
+      no_task k e = cc
+
+  module _ (program : Bool → B → Program B) (key : Key B) (id : ℕ) (v : View B) (other : ℕ) (w : View B)
+      (iv : IsIdle v) (iw : IsIdle w) (s : State (Option (Rec B)) (View B)) (r : Rule program key s)
+      (at : get_elem? s.views id ≡ some v) (ne : ¬ (other ≡ id))
+      (at' : get_elem? (set s.views id (both v w)) other ≡ some w) where
+    abbrev P : Program B
+    P = program key.strict key.root.value
+
+    abbrev old : SeatsHave B
+    old = seats_have s.views
+
+    there : get_elem? s.views other ≡ some w
+    there = sym (set_else s.views id other (both v w) ne) ∙ at'
+
+    abbrev k : Knowing
+    k = both_know (knowing_of v) (knowing_of w)
+
+    so : IsSo P key.cells (contents_of s) r.law k
+    so = both_so P key.cells (contents_of s) r.law (knowing_of v) (knowing_of w)
+        (knows_so program key s r id v at) (knows_so program key s r other w there)
+
+    abbrev x1 : Contents B
+    x1 = learns P key.cells (contents_of s) r.law id k
+
+    law1 : Law P key.cells x1
+    law1 = law_learns P key.cells (contents_of s) r.law id k so
+
+    abbrev x2 : Contents B
+    x2 = learns P key.cells x1 law1 other nothing_known
+
+    law2 : Law P key.cells x2
+    law2 = law_learns P key.cells x1 law1 other nothing_known (nothing_so P key.cells x1 law1)
+
+    lots : Lots key.cells (words_say s.words).count (set (set old.lots id (v.lot + w.lot)) other 0)
+        (set (set old.refused id (v.refused + w.refused)) other 0)
+    lots = let a = total_set old.lots id v.lot (v.lot + w.lot) (at_map (λ (u : View B). u.lot) s.views id v at) in
+        let b = total_set (set old.lots id (v.lot + w.lot)) other w.lot 0
+        (set_else old.lots id other (v.lot + w.lot) ne ∙ at_map (λ (u : View B). u.lot) s.views other w there) in
+        let c =
+        total_set old.refused id v.refused (v.refused + w.refused)
+        (at_map (λ (u : View B). u.refused) s.views id v at) in
+        let d = total_set (set old.refused id (v.refused + w.refused)) other w.refused 0
+        (set_else old.refused id other (v.refused + w.refused) ne ∙ at_map (λ (u : View B). u.refused) s.views
+        other w there) in
+        let e = r.law.lots.all in let f = r.law.lots.counted in record { all = omega arith; counted = omega arith }
+
+    -- what the seats have, where v has become both
+    abbrev X : SeatsHave B
+    X = record old {
+      lots = set old.lots id (v.lot + w.lot);
+      refused = set old.refused id (v.refused + w.refused);
+      known = set old.known id k.known;
+      born_seen = set old.born_seen id k.born;
+      wrote = set old.wrote id k.wrote;
+      filled = set old.filled id k.filled;
+      seen = set old.seen id k.seen;
+      closed = set old.closed id k.closed;
+      found = set old.found id k.found;
+      rested = set old.rested id k.rested;
+    }
+
+    p1 : seats_have (set (set s.views id (both v w)) other spent) ≡ set_seats X other spent
+    p1 = seats_set (set s.views id (both v w)) other spent
+        ∙ ap (λ (y : SeatsHave B). set_seats y other spent) (seats_set s.views id (both v w)
+        ∙ ap (λ (y : SeatsHave B). record y {
+          lots = set old.lots id (v.lot + w.lot);
+          refused = set old.refused id (v.refused + w.refused);
+          known = set old.known id k.known;
+          born_seen = set old.born_seen id k.born;
+          wrote = set old.wrote id k.wrote;
+          filled = set old.filled id k.filled;
+          seen = set old.seen id k.seen;
+          closed = set old.closed id k.closed;
+          found = set old.found id k.found;
+          rested = set old.rested id k.rested;
+        }) (seats_same s.views id v at))
+
+    -- the other seat had as little before
+    again : {A : Type 0} (f : View B → A) (a : A) → f w ≡ a → set (map f s.views) other a ≡ map f s.views
+    again f a e =
+        ap (set (map f s.views) other) (sym e) ∙ set_again (map f s.views) other (f w)
+        (at_map f s.views other w there)
+
+    p2 : set_seats X other spent ≡ (with_lots P key.cells x2 law2 (set (set old.lots id (v.lot + w.lot)) other 0)
+        (set (set old.refused id (v.refused + w.refused)) other 0)).seats
+    p2 j = record (with_lots P key.cells x2 law2 (set (set old.lots id (v.lot + w.lot)) other 0)
+        (set (set old.refused id (v.refused + w.refused)) other 0)).seats {
+          tokens = again (λ u. u.tokens) 0 iw.tokens j;
+          cleared = again (λ u. u.cleared) 0 iw.cleared j;
+          hands = again (λ u. u.hand) None iw.hand j;
+          tasks = again (λ u. u.tasks) [] iw.tasks j;
+          dues = again (λ u. u.dues) [] iw.dues j;
+          pushes = again (λ u. u.pushes) [] iw.pushes j;
+          shuts = again (λ u. u.shuts) [] iw.shuts j;
+          rests = again (λ u. u.rest) None iw.rest j;
+        }
+
+    rule_glued : Rule program key
+        record { words = s.words; homes = s.homes; views = set (set s.views id (both v w)) other spent }
+    rule_glued = rule_views r (set (set s.views id (both v w)) other spent) _ (p1 ∙ p2)
+        (each_set _ (set s.views id (both v w)) other spent
+        (each_set _ s.views id (both v w) r.seats
+        (both_seat key v w (r.seats id v at) (r.seats other w there) so.known_born))
+        (spent_seat key))
+        (law_lots P key.cells x2 law2 _ _ lots)
+
+  -- a merge keeps the rule
+  pub rule_joins : (program : Bool → B → Program B) (key : Key B) (id : ℕ) (v : View B) (other : ℕ) (w : View B)
+      → IsIdle v → IsIdle w → Joins (Rule program key) id v other w (both v w) spent
+  rule_joins program key id v other w iv iw s r at ne at' = rule_glued program key id v other w iv iw s r at ne at'

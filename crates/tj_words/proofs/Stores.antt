@@ -1,0 +1,13 @@
+-- A store keeps the law; words that are written once.
+pub mod SeatLists
+pub mod SeatContents
+pub mod LawChanges
+pub mod StoredWords
+pub mod StoreSteps
+pub mod SlotStores
+pub mod GivenSlots
+pub mod WrittenOnce
+pub mod OnceStores
+pub mod WordStores
+pub mod ValueStores
+pub mod EntryStores

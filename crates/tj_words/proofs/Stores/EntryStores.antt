@@ -1,0 +1,292 @@
+-- The stores of BITS and TAG keep the rule.
+use Rattle.std.proofs.Common.{◌≡◌, ◌≢◌, ℕ, ◌<◌, ◌≤◌, Bool, List, [], ◌∷◌, set, Option, refl, sym, ap, ◌∙◌}
+use Rattle.std.proofs.Common.{subst, arith}
+use mathlib.Core.Logic.{dite}
+use mathlib.Core.Option.{some, some-injective, none}
+use native.Mathlib.Decide.{ℕ_discrete}
+use lib.ListN.{get_elem?}
+use Rattle.atomic_table.specs.Table.{State, step, Allows}
+use Rattle.atomic_table.proofs.Lists.{at_map}
+use Rattle.tj_base.specs.Puts.{put}
+use Rattle.tj_body.specs.Programs.{Program}
+use Rattle.tj_body.specs.RoundPoints.{Becomes}
+use Rattle.tj_body.specs.declared.point.Reference.{Reference}
+use Rattle.tj_base.specs.declared.cell.Sort.{Sort}
+use Rattle.tj_base.specs.declared.cell.Sort.TheVariants as sort
+use Rattle.tj_body.specs.declared.point.Value.TheVariants as value
+use Rattle.tj_body.specs.declared.point.Entry.{Entry}
+use Rattle.tj_body.specs.declared.point.Entry.TheVariants as entry
+use Rattle.tj_body.proofs.RoundPoints.{entries_are_one}
+use Rattle.tj_words.specs.declared.offsets.Once.{Once}
+use Rattle.tj_words.specs.declared.offsets.Once.TheVariants as once
+use Rattle.tj_words.specs.declared.record.Rec.{Rec}
+use Rattle.tj_words.specs.declared.table.Key.{Key}
+use Rattle.tj_words.specs.declared.view.About.{About}
+use Rattle.tj_words.specs.declared.view.Filled.{Filled}
+use Rattle.tj_words.specs.declared.view.View.{View}
+use Rattle.tj_words.specs.Words.Offsets.{once_at}
+use Rattle.tj_words.specs.LawParts.TreeWords.{IsDue}
+use Rattle.tj_words.specs.LawParts.Telling.{tag_of, sort_tag}
+use Rattle.tj_words.specs.LawParts.Chains.{Chains}
+use Rattle.tj_words.specs.LawParts.LiveCount.{IsBacked, HasWakeToCome}
+use Rattle.tj_words.specs.LawParts.RecordPhases.{RecordsFit}
+use Rattle.tj_words.specs.LawParts.Meaning.{Meaning}
+use Rattle.tj_words.specs.LawParts.Contents.{SeatsHave, seats_have, Contents, drawn_in, hand_of, home_of, tag_in}
+use Rattle.tj_words.specs.LawParts.Contents.{bits_in}
+use Rattle.tj_words.specs.Law.{Law, Rule, IsSeat}
+use Rattle.tj_words.specs.SeatViews.SeatSteps.{SeatMe}
+use Rattle.tj_words.specs.Calls.DrawViews.{without_due}
+use Rattle.tj_words.specs.SeatViews.KnownEntries.{HasSeen, MayStoreBits}
+use Rattle.tj_words.specs.Calls.EntryViews.{MayPutBits, MayPutTag, wrote_bits, wrote_tag, bits_store, tag_store}
+use Rattle.tj_words.proofs.Stores.SeatContents.{seats_same}
+use Rattle.tj_words.proofs.Waiters.ChainPhases.{chains_tag}
+use Rattle.tj_words.proofs.Waiters.HeadSteps.{tag_some}
+use Rattle.tj_words.proofs.Stores.LawChanges.{law_once}
+use Rattle.tj_words.proofs.Meaning.LawMeant.{ground_of, known_of, law_meant}
+use Rattle.tj_words.proofs.Meaning.MeaningSteps.{tag_meant}
+use Rattle.tj_words.proofs.Holders.RecordSteps.{tags_fit}
+use Rattle.tj_words.proofs.Stores.StoreSteps.{put_here, put_else, Stores, step_allowed}
+use Rattle.tj_words.proofs.Stores.StoredWords.{put_word, put_word_here, put_word_cell, put_word_word}
+use Rattle.tj_words.proofs.Stores.OnceStores.{due_else, once_stored, tree_words_stored}
+use Rattle.tj_words.proofs.Stores.ValueStores.{bits_stored}
+use Rattle.tj_words.proofs.Stores.WrittenOnce.{once_stores}
+
+-- z with the fields of seats that had y, once seat id, which had v, has written the word f of c, and has w
+abbrev written : {B : Type 0} → SeatsHave B → ℕ → ℕ → Once → View B → View B → List (List ℕ) → SeatsHave B → SeatsHave B
+written y id c f v w shuts z = record z {
+  seen = set y.seen id v.seen;
+  dues = set y.dues id (without_due c f v.dues);
+  born_seen = set y.born_seen id v.born;
+  wrote = set y.wrote id w.wrote;
+  filled = set y.filled id w.filled;
+  shuts = shuts;
+}
+
+module _ {B : Type 0} {program : Program B} {cells : ℕ} {x : Contents B} (r : Law program cells x)
+    (id c : ℕ) (v : View B)
+    (born : get_elem? x.seats.born_seen id ≡ some v.born) (wrote : get_elem? x.seats.wrote id ≡ some v.wrote)
+    (filled : get_elem? x.seats.filled id ≡ some v.filled) (seen : get_elem? x.seats.seen id ≡ some v.seen)
+    (dues : get_elem? x.seats.dues id ≡ some v.dues) where
+  -- the word f of the cell is n, and the seat has this
+  abbrev entered : Once → ℕ → View B → List (List ℕ) → Contents B
+  entered f n w shuts = record {
+    words = record x.words { once = put_word x.words.once c f n };
+    slots = x.slots;
+    seats = written x.seats id c f v w shuts x.seats;
+  }
+
+  -- the law after the store of BITS
+  law_bits : (e : Entry) (n : ℕ) → IsDue c once.Bits v.dues
+      → get_elem? x.seats.known id ≡ some v.known
+      → MayStoreBits program v.born v.known c e n
+      → Law program cells (entered once.Bits n (wrote_bits c e v) x.seats.shuts)
+  law_bits e n due known may = law_once r (put_word x.words.once c once.Bits n) (set x.seats.seen id v.seen)
+      (set x.seats.dues id (without_due c once.Bits v.dues)) (set x.seats.born_seen id v.born)
+      (set x.seats.wrote id (record { cell = c; entry = e } ∷ v.wrote)) (set x.seats.filled id v.filled) x.seats.shuts
+      (tree_words_stored r.tree_words id c once.Bits n v.dues dues (λ o. absurd o) (λ y i o. absurd o))
+      (once_stored r.once_words id c once.Bits n v.dues dues due v.seen [] seen (λ y i. absurd i)
+      (λ q. absurd (bits_tag q)))
+      (subst (λ tags. Chains tags x.words.head x.words.next x.words.phase x.seats.pushes x.seats.shuts
+      x.seats.rests x.seats.closed x.seats.found) tags r.chains)
+      (subst (λ tags. RecordsFit tags x.words.phase (home_of x)) tags r.records_fit)
+      (subst (λ tags. Meaning program cells x.words.count x.words.stop (drawn_in cells x) (hand_of x) r.born
+      tags (λ d. put_word x.words.once c once.Bits n d once.Bits) (home_of x) (set x.seats.born_seen id v.born)
+      (set x.seats.wrote id (record { cell = c; entry = e } ∷ v.wrote)) (set x.seats.filled id v.filled)) tags
+      (bits_stored program cells {g = ground_of cells r.born x} {home = home_of x} {k = known_of x}
+      (law_meant program cells x r) id v.born v.wrote v.filled born wrote filled v.known
+      (r.names.knows id v.known known) c e n may (λ d. put_word x.words.once c once.Bits n d once.Bits)
+      (put_word_here x.words.once c once.Bits n) (λ d q. put_word_cell x.words.once c once.Bits n d once.Bits q)))
+    where
+      bits_tag : once.Bits ≡ once.Tag → ⊥
+      bits_tag q = absurd (cc)
+
+      tag_bits : once.Tag ≡ once.Bits → ⊥
+      tag_bits q = absurd (cc)
+
+      tags : tag_in x ≡ (λ d. put_word x.words.once c once.Bits n d once.Tag)
+      tags j d = sym (put_word_word x.words.once c once.Bits n d once.Tag tag_bits) j
+
+  -- the law after the store of TAG
+  law_tag : (e : Entry) (n : ℕ) → IsDue c once.Tag v.dues
+      → ¬ IsDue c once.Bits v.dues
+      → HasSeen v.wrote c e
+      → n ≡ tag_of e
+      → get_elem? x.seats.shuts id ≡ some v.shuts
+      → Law program cells (entered once.Tag n (wrote_tag c e v) (set x.seats.shuts id (c ∷ v.shuts)))
+  law_tag e n due bits_first has is shuts = law_once r (put_word x.words.once c once.Tag n) (set x.seats.seen id v.seen)
+      (set x.seats.dues id (without_due c once.Tag v.dues)) (set x.seats.born_seen id v.born)
+      (set x.seats.wrote id v.wrote) (set x.seats.filled id (record { cell = c; entry = e } ∷ v.filled))
+      (set x.seats.shuts id (c ∷ v.shuts))
+      (tree_words_stored r.tree_words id c once.Tag n v.dues dues (λ o. absurd o) (λ y i o. absurd o))
+      (once_stored r.once_words id c once.Tag n v.dues dues due v.seen [] seen (λ y i. absurd i)
+      (λ q. (some_tag, bits_first)))
+      (subst (λ tags. Chains tags x.words.head x.words.next x.words.phase x.seats.pushes
+      (set x.seats.shuts id (c ∷ v.shuts)) x.seats.rests x.seats.closed x.seats.found) tags
+      (chains_tag r.chains c n id v.shuts some_tag shuts))
+      (tags_fit (tag_in x) x.words.phase (home_of x) r.records_fit (tag_now) stays)
+      (subst (λ bits. Meaning program cells x.words.count x.words.stop (drawn_in cells x) (hand_of x) r.born
+      tag_now bits (home_of x) (set x.seats.born_seen id v.born) (set x.seats.wrote id v.wrote)
+      (set x.seats.filled id (record { cell = c; entry = e } ∷ v.filled))) same_bits
+      (tag_meant program cells {g = ground_of cells r.born x} {home = home_of x} {k = known_of x}
+      (law_meant program cells x r) id v.born v.wrote v.filled born wrote filled tag_now c e has
+      (put_word_here x.words.once c once.Tag n ∙ is) (λ d q. put_word_cell x.words.once c once.Tag n d once.Tag q)))
+    where
+      tag_now : ℕ → ℕ
+      tag_now d = put_word x.words.once c once.Tag n d once.Tag
+
+      some_tag : n ≢ 0
+      some_tag z = tag_some e (sym is ∙ z)
+
+      bits_tag : once.Bits ≡ once.Tag → ⊥
+      bits_tag q = absurd (cc)
+
+      same_bits : bits_in x ≡ (λ d. put_word x.words.once c once.Tag n d once.Bits)
+      same_bits j d = sym (put_word_word x.words.once c once.Tag n d once.Bits bits_tag) j
+
+      each : (d : ℕ) → put (tag_in x) c n d ≡ tag_now d
+      each d = dite (ℕ_discrete d c)
+          (λ q. put_here (tag_in x) c d n q ∙ sym (ap tag_now q ∙ put_word_here x.words.once c once.Tag n))
+          (λ q. put_else (tag_in x) c d n q ∙ sym (put_word_cell x.words.once c once.Tag n d once.Tag q))
+
+      tags : put (tag_in x) c n ≡ tag_now
+      tags j d = each d j
+
+      stays : (d : ℕ) → tag_in x d ≢ 0 → tag_now d ≢ 0
+      stays d s z = dite (ℕ_discrete d c)
+          (λ q. some_tag (sym (ap tag_now q ∙ put_word_here x.words.once c once.Tag n) ∙ z))
+          (λ q. s (sym (put_word_cell x.words.once c once.Tag n d once.Tag q) ∙ z))
+
+-- TAG of what has become of a cell is at most 4
+tag_small : (e : Entry) → tag_of e ≤ 4
+tag_small entry.Broken = omega arith
+tag_small (entry.Value (value.Num i)) = omega arith
+tag_small (entry.Value (value.Ref r)) = by r.sort
+  where
+    by : (o : Sort) → sort_tag o ≤ 4
+    by sort.Task = omega arith
+    by sort.Promise = omega arith
+
+module _ {B : Type 0} (program : Bool → B → Program B) (key : Key B) where
+  abbrev P : Program B
+  P = program key.strict key.root.value
+
+  -- the view of a seat without something that was due
+  seat_written : (v : View B) (c steps : ℕ) (f : Once) (wrote filled : List Filled) (shuts : List ℕ) → IsSeat key v
+      → (HasWakeToCome (record v { shuts = shuts }) → IsBacked v)
+      → IsSeat key (record v {
+        steps = steps;
+        dues = without_due c f v.dues;
+        wrote = wrote;
+        filled = filled;
+        shuts = shuts;
+      })
+  seat_written v c steps f wrote filled shuts q wakes = record {
+    about = q.about;
+    within_lot = record {
+      least = q.within_lot.least;
+      refused_fit = q.within_lot.refused_fit;
+      tokens_fit = q.within_lot.tokens_fit;
+      cleared_fit = q.within_lot.cleared_fit;
+    };
+    backing = record {
+      wakes = wakes;
+      tags = λ a. q.backing.tags (a.0, (due_else c f v.dues a.0 a.1).0, a.2);
+      alarms = q.backing.alarms;
+    };
+    known_born = q.known_born;
+  }
+
+  -- the cell that a seat is to write is to become one thing
+  one_entry : (v : View B) (c : ℕ) (n : ℕ) (m k : MayPutBits program c n v) → m.entry ≡ k.entry
+  one_entry v c n m k = (entries_are_one (program k.about.strict k.about.root) k.may.to_become.0.name m.entry k.entry
+      becomes k.may.to_become.2).0
+    where
+      same_about : m.about ≡ k.about
+      same_about = cc
+
+      same_cell : m.may.to_become.0 ≡ k.may.to_become.0
+      same_cell = some-injective m.may.to_become.0 k.may.to_become.0 (sym m.may.to_become.1 ∙ k.may.to_become.1)
+
+      becomes : Becomes (program k.about.strict k.about.root) k.may.to_become.0.name m.entry
+      becomes = subst (λ (a : About B). Becomes (program a.strict a.root) k.may.to_become.0.name m.entry) same_about
+          (subst (λ (y : Reference). Becomes (program m.about.strict m.about.root) y.name m.entry) same_cell
+          m.may.to_become.2)
+
+  -- the store of BITS is one of the rule
+  bits_stores : (s : State (Option (Rec B)) (View B)) (r : Rule program key s) (id c n : ℕ) (v : View B)
+      → get_elem? s.views id ≡ some v
+      → c < key.cells
+      → (m : MayPutBits program c n v)
+      → Stores program key s id (once_at c once.Bits) n (wrote_bits c m.entry v)
+  bits_stores s r id c n v at l m = let y = seats_have s.views in let w = wrote_bits c m.entry v in
+      let q = r.seats id v at in
+      let same : m.about ≡ record { root = key.root.value; cells = key.cells; strict = key.strict } =
+      q.about m.about m.is_about in
+      once_stores program key s r id c n once.Bits l w (written y id c once.Bits v w y.shuts y) tt
+      (seat_written v c w.steps once.Bits w.wrote w.filled w.shuts q q.backing.wakes)
+      (ap (λ (z : SeatsHave B). written y id c once.Bits v w z.shuts z) (seats_same s.views id v at))
+      (law_bits r.law id c v (at_map (λ (u : View B). u.born) s.views id v at)
+      (at_map (λ (u : View B). u.wrote) s.views id v at) (at_map (λ (u : View B). u.filled) s.views id v at)
+      (at_map (λ (u : View B). u.seen) s.views id v at) (at_map (λ (u : View B). u.dues) s.views id v at)
+      m.entry n m.due (at_map (λ (u : View B). u.known) s.views id v at)
+      (subst (λ (a : About B). MayStoreBits (program a.strict a.root) v.born v.known c m.entry n) same m.may))
+
+  pub bits_allowed : (slots id : ℕ) (me : SeatMe B) (c i n cell : ℕ) → c < key.cells → i ≡ once_at c once.Bits
+      → cell ≡ c
+      → MayPutBits program c n me.0
+      → Allows (Rule program key) slots id me i (λ k. n) (λ k. bits_store program cell (step slots i n 0 none) me n)
+  bits_allowed slots id me c i n cell l at e m = step_allowed program key slots id me i (λ k. n)
+      (λ k. bits_store program cell (step slots i n 0 none) me n) (λ s r k. (
+        wrote_bits c m.entry me.0,
+        subst (λ j. Stores program key s id j n (wrote_bits c m.entry me.0)) (sym at)
+            (bits_stores s r id c n me.0 k l m),
+        (
+          refl,
+          subst (λ d. (h : MayPutBits program d n me.0) → wrote_bits c m.entry me.0 ≡ wrote_bits d h.entry me.0) (sym e)
+              (λ h j. wrote_bits c (one_entry me.0 c n m h j) me.0),
+        ),
+      ))
+
+  -- the store of TAG is one of the rule
+  tag_stores : (s : State (Option (Rec B)) (View B)) (r : Rule program key s) (id c n : ℕ) (v : View B)
+      → get_elem? s.views id ≡ some v
+      → c < key.cells
+      → (m : MayPutTag c n v)
+      → Stores program key s id (once_at c once.Tag) n (wrote_tag c m.entry v)
+  tag_stores s r id c n v at l m = let y = seats_have s.views in let w = wrote_tag c m.entry v in
+      once_stores program key s r id c n once.Tag l w (written y id c once.Tag v w (set y.shuts id w.shuts) y)
+      (subst (λ k. k ≤ 4) (sym m.tag) (tag_small m.entry))
+      (seat_written v c w.steps once.Tag w.wrote w.filled w.shuts (r.seats id v at) (λ h. m.backed))
+      (ap (written y id c once.Tag v w (set y.shuts id w.shuts)) (seats_same s.views id v at))
+      (law_tag r.law id c v (at_map (λ (u : View B). u.born) s.views id v at)
+      (at_map (λ (u : View B). u.wrote) s.views id v at) (at_map (λ (u : View B). u.filled) s.views id v at)
+      (at_map (λ (u : View B). u.seen) s.views id v at) (at_map (λ (u : View B). u.dues) s.views id v at)
+      m.entry n m.due m.bits_first m.wrote m.tag (at_map (λ (u : View B). u.shuts) s.views id v at))
+
+  -- what a seat has written of one cell is one thing
+  one_written : (s : State (Option (Rec B)) (View B)) (r : Rule program key s) (id c : ℕ) (v : View B)
+      → get_elem? s.views id ≡ some v
+      → (d e : Entry) → HasSeen v.wrote c d → HasSeen v.wrote c e → d ≡ e
+  one_written s r id c v at d e a b =
+      let wrote = at_map (λ (u : View B). u.wrote) s.views id v at in
+      let h = r.law.meaning.wrote_stands id v.wrote wrote (record { cell = c; entry = d }) a in
+      let k = r.law.meaning.wrote_stands id v.wrote wrote (record { cell = c; entry = e }) b in
+      (entries_are_one P k.reference.name d e
+      (subst (λ (y : Reference). Becomes P y.name d)
+      (some-injective h.reference k.reference (sym h.is ∙ k.is)) h.becomes) k.becomes).0
+
+  pub tag_allowed : (slots id : ℕ) (me : SeatMe B) (c i n cell : ℕ) → c < key.cells → i ≡ once_at c once.Tag
+      → cell ≡ c
+      → MayPutTag c n me.0
+      → Allows (Rule program key) slots id me i (λ k. n) (λ k. tag_store cell (step slots i n 0 none) me n)
+  tag_allowed slots id me c i n cell l at e m = step_allowed program key slots id me i (λ k. n)
+      (λ k. tag_store cell (step slots i n 0 none) me n) (λ s r k. (
+        wrote_tag c m.entry me.0,
+        subst (λ j. Stores program key s id j n (wrote_tag c m.entry me.0)) (sym at)
+            (tag_stores s r id c n me.0 k l m),
+        (
+          refl,
+          subst (λ d. (h : MayPutTag d n me.0) → wrote_tag c m.entry me.0 ≡ wrote_tag d h.entry me.0) (sym e)
+              (λ h j. wrote_tag c (one_written s r id c me.0 k m.entry h.entry m.wrote h.wrote j) me.0),
+        ),
+      ))

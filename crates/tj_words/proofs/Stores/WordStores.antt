@@ -1,0 +1,266 @@
+-- The store of a word of the tree of a cell in hand: what it asks is the right word, and the rule is kept.
+use Rattle.std.proofs.Common.{◌≡◌, ◌≢◌, ℕ, zero, suc, ◌<◌, ◌^◌, List, [], ◌∷◌, set, Option, Some, refl, sym}
+use Rattle.std.proofs.Common.{ap, ◌∙◌, subst, inl, inr, arith, Bool}
+use mathlib.Core.Option.{some, some-injective, none}
+use lib.ListN.{get_elem?}
+use Rattle.atomic_table.specs.Table.{State, step, Allows}
+use Rattle.atomic_table.proofs.Lists.{at_map}
+use Rattle.tj_base.specs.declared.cell.Sort.TheVariants as sort
+use Rattle.tj_body.specs.Points.{IsIn}
+use Rattle.tj_body.specs.Programs.{Program}
+use Rattle.tj_body.specs.declared.point.Reference.{Reference}
+use Rattle.tj_tree.specs.declared.node.NodeId.{NodeId}
+use Rattle.tj_tree.specs.Forks.{HasTask}
+use Rattle.tj_tree.specs.Nodes.{node_of, jump_from, InEachTree}
+use Rattle.tj_tree.proofs.Trees.{IsChild-of}
+use Rattle.tj_words.specs.declared.offsets.Once.{Once}
+use Rattle.tj_words.specs.declared.offsets.Once.TheVariants as once
+use Rattle.tj_words.specs.declared.record.Rec.{Rec}
+use Rattle.tj_words.specs.declared.table.Key.{Key}
+use Rattle.tj_words.specs.declared.view.Custody.{Custody}
+use Rattle.tj_words.specs.declared.view.Hand.{Hand}
+use Rattle.tj_words.specs.declared.view.SeenWord.{SeenWord}
+use Rattle.tj_words.specs.declared.view.View.{View}
+use Rattle.tj_words.specs.Words.Lists.{All}
+use Rattle.tj_words.specs.Words.Offsets.{once_at}
+use Rattle.tj_words.specs.LawParts.Holding.{held_in, made_by}
+use Rattle.tj_words.specs.LawParts.Hands.{making, IsThere}
+use Rattle.tj_words.specs.LawParts.TreeWords.{IsCell, IsOfTree, IsDue, depth_word, jump_word, parent_word, tree_word}
+use Rattle.tj_words.specs.LawParts.OnceWords.{Stands}
+use Rattle.tj_words.specs.LawParts.ShownState.{sort_shown}
+use Rattle.tj_words.specs.LawParts.Chains.{Chains}
+use Rattle.tj_words.specs.LawParts.RecordPhases.{RecordsFit}
+use Rattle.tj_words.specs.LawParts.Meaning.{Meaning}
+use Rattle.tj_words.specs.LawParts.Contents.{SeatsHave, seats_have, Contents, contents_of, drawn_in, hand_of}
+use Rattle.tj_words.specs.LawParts.Contents.{held_of, home_of, made_of}
+use Rattle.tj_words.specs.Law.{Law, Rule}
+use Rattle.tj_words.specs.SeatViews.SeatSteps.{SeatMe}
+use Rattle.tj_words.specs.SeatViews.SeenWords.{seen_word, ShowsNode}
+use Rattle.tj_words.specs.Calls.DrawViews.{without_due, IsRightWord, MayWrite, wrote_word, word_store}
+use Rattle.tj_words.proofs.Stores.LawChanges.{law_once}
+use Rattle.tj_words.proofs.Holders.HeldTasks.{none_some, one_some, hand_found, hand_finds, makes_one}
+use Rattle.tj_words.proofs.Holders.TaskPlaces.{held_here}
+use Rattle.tj_words.proofs.Stores.SeatLists.{back}
+use Rattle.tj_words.proofs.Stores.SeatContents.{seats_same}
+use Rattle.tj_words.proofs.SeatLoads.LoadSteps.{knows_so}
+use Rattle.tj_words.proofs.SeatLoads.KnowLoads.{root_there, born_at, sees_tree}
+use Rattle.tj_words.proofs.Stores.StoreSteps.{Stores, step_allowed}
+use Rattle.tj_words.proofs.Stores.StoredWords.{put_word, put_word_word, MayStand}
+use Rattle.tj_words.proofs.Stores.OnceStores.{due_else, once_stored, tree_words_stored}
+use Rattle.tj_words.proofs.Cells.MadeThings.{made_few, child_jump}
+use Rattle.tj_words.proofs.Stores.WrittenOnce.{once_stores}
+
+module _ {B : Type 0} {program : Program B} {cells : ℕ} {x : Contents B} (r : Law program cells x) where
+  -- what a seat has in hand is in that hand
+  pub hand_here : (id : ℕ) (h : Hand) → get_elem? x.seats.hands id ≡ some (Some h) → hand_of x h.cell ≡ Some h
+  hand_here id h e =
+      let g = hand_finds x.seats.hands id h e in
+      let f = hand_found x.seats.hands h.cell g.0 g.1 in
+      let j : f.0.0 ≡ id = r.hands.apart f.0.0 id g.0 h f.0.1 e f.1 in
+      let q : g.0 ≡ h = one_some g.0 h (some-injective (Some g.0) (Some h)
+      (sym f.0.1 ∙ (ap (get_elem? x.seats.hands) j ∙ e))) in
+      g.1 ∙ ap (λ (z : Hand). Some z) q
+
+  -- the root is in no hand
+  pub hand_not_root : (h : Hand) → hand_of x h.cell ≡ Some h → h.cell ≢ 0
+  hand_not_root h e z = none_some (hand_of x 0) h (root_there program cells x r).1 (ap (hand_of x) (sym z) ∙ e)
+
+  module _ (id : ℕ) (h : Hand) (has : get_elem? x.seats.hands id ≡ some (Some h)) where
+    here : hand_of x h.cell ≡ Some h
+    here = hand_here id h has
+
+    not_root : h.cell ≢ 0
+    not_root = hand_not_root h here
+
+    drawn : h.cell < drawn_in cells x
+    drawn = (r.hands.each id h has).drawn_cell
+
+    its_maker : r.maker h.cell ≡ h.maker
+    its_maker = (r.births.in_hand h.cell h here).0
+
+    maker_there : IsThere (drawn_in cells x) (hand_of x) h.maker
+    maker_there = subst (IsThere (drawn_in cells x) (hand_of x)) its_maker (r.births.makers_there h.cell drawn)
+
+    sort_here : (y : Reference) → IsCell r.born h.cell y → y.sort ≡ h.sort
+    sort_here y e = r.births.sorts h.cell y e ∙ ap (λ o. sort_shown o (x.words.phase h.cell)) here
+
+    module _ (ks : List (Custody B)) (ws : List SeenWord) (tasks : get_elem? x.seats.tasks id ≡ some ks)
+        (stands : All (Stands (drawn_in cells x) x.words.once r.once_words.due_to) ws) where
+      -- the number of the cell is the number of things that its maker has made, and one
+      number_here : (k : Custody B) → held_in ks h.maker ≡ Some k → r.number h.cell ≡ suc k.made
+      number_here k e =
+          let a : r.number h.cell ≡ made_of x h.maker = (r.births.in_hand h.cell h here).1 in
+          let b : made_by (held_of x h.maker) (home_of x h.maker) ≡ k.made =
+          ap (λ (o : Option (Custody B)). made_by o (home_of x h.maker)) (held_here r id h.maker k (ks, tasks, e)) in
+          let d : making x.seats.hands h.maker ≡ 1 = makes_one x.seats.hands id h has in omega arith
+
+      -- what holds in each tree that fits what was seen holds in the tree of forks
+      in_tree : (F : Rattle.tj_tree.specs.Forks.Forks → Type 0) → InEachTree (ShowsNode ws) F → F r.forks
+      in_tree F each = each r.forks r.tree.history (sees_tree program cells x r ws [] stands (r.born, refl)).nodes
+
+      task_there : (y : Reference) → IsCell r.born h.cell y → h.sort ≡ sort.Task → HasTask r.forks h.cell
+      task_there y e is = (r.tree.tasks h.cell).1 (y, e, sort_here y e ∙ is)
+
+      parent_is : (y : Reference) → IsCell r.born h.cell y → h.sort ≡ sort.Task
+          → (node_of r.forks h.cell).parent ≡ record { 0 = h.maker }
+      parent_is y e is j =
+          record { 0 = (r.tree.parents h.cell (task_there y e is) ∙ its_maker) j }
+
+      right_word : (f : Once) (n : ℕ) (v : View B) → v.seen ≡ ws → v.tasks ≡ ks → IsRightWord f n h v
+          → (y : Reference) → IsCell r.born h.cell y
+          → n ≡ tree_word r.maker r.number r.forks y.sort h.cell f
+      right_word once.Tag n v s t w y e = absurd w
+      right_word once.Bits n v s t w y e = absurd w
+      right_word once.Parent n v s t w y e = by h.cell not_root its_maker
+        where
+          by : (c : ℕ) → c ≢ 0 → r.maker c ≡ h.maker → n ≡ parent_word c (r.maker c)
+          by zero z q = absurd (z refl)
+          by (suc c) z q = w ∙ ap suc (sym q)
+      right_word once.Kid n v s t w y e = w.2 ∙ sym (number_here w.0 (ap (λ l. held_in l h.maker) (sym t) ∙ w.1))
+      right_word once.Depth n v s t w y e =
+          let task = task_there y e w.0 in
+          let d = (IsChild-of r.forks r.tree.history h.cell task not_root).deeper in
+          let p : (node_of r.forks (node_of r.forks h.cell).parent.0).depth ≡ (node_of r.forks h.maker).depth =
+          ap (λ (i : NodeId). (node_of r.forks i.0).depth) (parent_is y e w.0) in
+          let m : n ≡ suc (node_of r.forks h.maker).depth =
+          in_tree (λ forks. n ≡ suc (node_of forks h.maker).depth)
+          (subst (λ l. InEachTree (ShowsNode l) (λ forks. n ≡ suc (node_of forks h.maker).depth)) s w.1) in
+          let q : n ≡ (node_of r.forks h.cell).depth = omega arith in
+          q ∙ ap (λ o. depth_word o (node_of r.forks h.cell)) (sym (sort_here y e ∙ w.0))
+      right_word once.Jump n v s t w y e =
+          let task = task_there y e w.0 in
+          let m : n ≡ suc (jump_from (node_of r.forks) (record { 0 = h.maker })).0 =
+          in_tree (λ forks. n ≡ suc (jump_from (node_of forks) (record { 0 = h.maker })).0)
+          (subst (λ l. InEachTree (ShowsNode l)
+          (λ forks. n ≡ suc (jump_from (node_of forks) (record { 0 = h.maker })).0)) s w.1) in
+          let q : (node_of r.forks h.cell).jump ≡ jump_from (node_of r.forks) (record { 0 = h.maker }) =
+          child_jump r.forks r.tree.history h.cell task not_root
+          ∙ ap (jump_from (node_of r.forks)) (parent_is y e w.0) in
+          m ∙ (ap (λ (i : NodeId). suc i.0) (sym q)
+          ∙ ap (λ o. jump_word o (node_of r.forks h.cell)) (sym (sort_here y e ∙ w.0)))
+
+      -- and it may stand there
+      may_stand : cells < 2 ^ 32 → (f : Once) (n : ℕ) (v : View B) → v.seen ≡ ws → v.tasks ≡ ks → IsRightWord f n h v
+          → (y : Reference) → IsCell r.born h.cell y → MayStand cells f n
+      may_stand few once.Tag n v s t w y e = absurd w
+      may_stand few once.Bits n v s t w y e = absurd w
+      may_stand few once.Parent n v s t w y e = let l = maker_there.0 in let q : n ≡ suc h.maker = w in omega arith
+      may_stand few once.Kid n v s t w y e =
+          let a : n ≡ suc w.0.made = w.2 in
+          let b = number_here w.0 (ap (λ l. held_in l h.maker) (sym t) ∙ w.1) in
+          let d : r.number h.cell ≡ made_of x h.maker = (r.births.in_hand h.cell h here).1 in
+          let l = made_few r h.maker in omega arith
+      may_stand few once.Depth n v s t w y e =
+          let q : n ≡ (node_of r.forks h.cell).depth = right_word once.Depth n v s t w y e
+          ∙ ap (λ o. depth_word o (node_of r.forks h.cell)) (sort_here y e ∙ w.0) in
+          let d = r.tree.depths h.cell (task_there y e w.0) in let l = drawn in omega arith
+      may_stand few once.Jump n v s t w y e =
+          let q : n ≡ suc (node_of r.forks h.cell).jump.0 = right_word once.Jump n v s t w y e
+          ∙ ap (λ o. jump_word o (node_of r.forks h.cell)) (sort_here y e ∙ w.0) in
+          let d = (r.tree.jumps_there h.cell (task_there y e w.0)).0 in omega arith
+
+      -- the law after the store
+      law_written : (c : ℕ) (f : Once) (n : ℕ) (v : View B) → h.cell ≡ c → v.seen ≡ ws → v.tasks ≡ ks
+          → get_elem? x.seats.seen id ≡ some v.seen
+          → get_elem? x.seats.dues id ≡ some v.dues
+          → IsDue c f v.dues
+          → IsRightWord f n h v
+          → Law program cells record {
+            words = record x.words { once = put_word x.words.once c f n };
+            slots = x.slots;
+            seats = record x.seats {
+              seen = set x.seats.seen id (seen_word c f n ∷ v.seen);
+              dues = set x.seats.dues id (without_due c f v.dues);
+            };
+          }
+      law_written c f n v is s t seen dues due w = law_once r (put_word x.words.once c f n)
+          (set x.seats.seen id (seen_word c f n ∷ v.seen)) (set x.seats.dues id (without_due c f v.dues))
+          x.seats.born_seen x.seats.wrote x.seats.filled x.seats.shuts
+          (tree_words_stored r.tree_words id c f n v.dues dues
+          (λ o e. none_some (hand_of x c) h e (ap (hand_of x) (sym is) ∙ here))
+          (λ y e o. right_word f n v s t w y (subst (λ d. IsCell r.born d y) (sym is) e)
+          ∙ ap (λ d. tree_word r.maker r.number r.forks y.sort d f) is))
+          (once_stored r.once_words id c f n v.dues dues due v.seen (seen_word c f n ∷ []) seen
+          (λ y i. (tree f w, only y i)) (λ e. absurd (not_tag f e w)))
+          (subst (λ tags. Chains tags x.words.head x.words.next x.words.phase x.seats.pushes x.seats.shuts
+          x.seats.rests x.seats.closed x.seats.found) (sym (same once.Tag (not_tag f))) r.chains)
+          (subst (λ tags. RecordsFit tags x.words.phase (home_of x)) (sym (same once.Tag (not_tag f)))
+          r.records_fit)
+          (back (λ j. Meaning program cells x.words.count x.words.stop (drawn_in cells x) (hand_of x) r.born
+          (same once.Tag (not_tag f) j) (same once.Bits (not_bits f) j) (home_of x) x.seats.born_seen x.seats.wrote
+          x.seats.filled) r.meaning)
+        where
+          tree : (f : Once) → IsRightWord f n h v → IsOfTree f
+          tree once.Tag q = absurd q
+          tree once.Bits q = absurd q
+          tree once.Parent q = tt
+          tree once.Kid q = tt
+          tree once.Depth q = tt
+          tree once.Jump q = tt
+
+          not_tag : (f : Once) → f ≡ once.Tag → ¬ IsRightWord f n h v
+          not_tag f e q = subst (λ z. IsRightWord z n h v) e q
+
+          not_bits : (f : Once) → f ≡ once.Bits → ¬ IsRightWord f n h v
+          not_bits f e q = subst (λ z. IsRightWord z n h v) e q
+
+          same : (g : Once) → (f ≡ g → ¬ IsRightWord f n h v)
+              → ◌≡◌ {A = ℕ → ℕ} (λ d. put_word x.words.once c f n d g) (λ d. x.words.once d g)
+          same g not = λ j d. put_word_word x.words.once c f n d g (λ e. not (sym e) w) j
+
+          only : (y : SeenWord) → IsIn y (seen_word c f n ∷ []) → y ≡ record { cell = c; word = f; value = n }
+          only y (inl e) = e
+          only y (inr i) = absurd i
+
+module _ {B : Type 0} (program : Bool → B → Program B) (key : Key B) where
+  abbrev P : Program B
+  P = program key.strict key.root.value
+
+  -- the store is one of the rule
+  pub word_stores : (s : State (Option (Rec B)) (View B)) (r : Rule program key s) (id c : ℕ) (f : Once) (n : ℕ)
+      (v : View B)
+      → get_elem? s.views id ≡ some v
+      → c < key.cells
+      → MayWrite c f n v
+      → Stores program key s id (once_at c f) n (wrote_word c f n v)
+  word_stores s r id c f n v at l m = let y = seats_have s.views in let w = wrote_word c f n v in
+      let law = r.law in let h = m.hand in
+      let has : get_elem? y.hands id ≡ some (Some h) =
+      at_map (λ (u : View B). u.hand) s.views id v at ∙ ap (λ (o : Option Hand). some o) m.has in
+      let tasks = at_map (λ (u : View B). u.tasks) s.views id v at in
+      let seen = at_map (λ (u : View B). u.seen) s.views id v at in
+      let dues = at_map (λ (u : View B). u.dues) s.views id v at in
+      let stands = (knows_so program key s r id v at).seen in
+      let q = r.seats id v at in
+      let born = born_at P key.cells (contents_of s) law h.cell (law.hands.each id h has).drawn_cell in
+      once_stores program key s r id c n f l w (record y { seen = set y.seen id w.seen; dues = set y.dues id w.dues })
+      (may_stand law id h has v.tasks v.seen tasks stands (let a = r.few_cells in omega arith) f n v refl refl m.right
+      born.0 born.1)
+      record {
+        about = q.about;
+        within_lot = record {
+          least = q.within_lot.least;
+          refused_fit = q.within_lot.refused_fit;
+          tokens_fit = q.within_lot.tokens_fit;
+          cleared_fit = q.within_lot.cleared_fit;
+        };
+        backing = record {
+          wakes = q.backing.wakes;
+          tags = λ a. q.backing.tags (a.0, (due_else c f v.dues a.0 a.1).0, a.2);
+          alarms = q.backing.alarms;
+        };
+        known_born = q.known_born;
+      }
+      (ap (λ (z : SeatsHave B). record z { seen = set y.seen id w.seen; dues = set y.dues id w.dues })
+      (seats_same s.views id v at))
+      (law_written law id h has v.tasks v.seen tasks stands c f n v m.its_cell refl refl seen dues m.due m.right)
+
+  pub word_allowed : (slots id : ℕ) (m : SeatMe B) (c i n cell : ℕ) (f kind : Once) → c < key.cells → i ≡ once_at c f
+      → cell ≡ c → kind ≡ f → MayWrite c f n m.0
+      → Allows (Rule program key) slots id m i (λ k. n) (λ k. word_store cell kind (step slots i n 0 none) m n)
+  word_allowed slots id m c i n cell f kind l at e g may = step_allowed program key slots id m i (λ k. n)
+      (λ k. word_store cell kind (step slots i n 0 none) m n) (λ s r k. (
+        wrote_word c f n m.0,
+        subst (λ j. Stores program key s id j n (wrote_word c f n m.0)) (sym at) (word_stores s r id c f n m.0 k l may),
+        (refl, λ j. wrote_word (sym e j) (sym g j) n m.0),
+      ))

@@ -1,0 +1,41 @@
+-- The store of a word that is written once is one of the rule, where its seat is so, and the law holds with what the
+-- seats have then.
+use Rattle.std.proofs.Common.{◌≡◌, ℕ, ◌<◌, Bool, length, Option, sym, subst, arith}
+use Rattle.atomic_table.specs.Table.{State}
+use Rattle.tj_body.specs.Programs.{Program}
+use Rattle.tj_words.specs.declared.offsets.Once.{Once}
+use Rattle.tj_words.specs.declared.record.Rec.{Rec}
+use Rattle.tj_words.specs.declared.table.Key.{Key}
+use Rattle.tj_words.specs.declared.view.View.{View}
+use Rattle.tj_words.specs.LawParts.Contents.{SeatsHave, seats_have, words_say}
+use Rattle.tj_words.specs.Law.{IsSeat, Law, Rule}
+use Rattle.tj_words.specs.Words.Offsets.{once_at}
+use Rattle.tj_words.proofs.SeatLoads.KnowLoads.{once_within}
+use Rattle.tj_words.proofs.Stores.SeatContents.{set_seats}
+use Rattle.tj_words.proofs.Stores.StoreSteps.{Stores}
+use Rattle.tj_words.proofs.Stores.StoredWords.{MayStand, may_once, put_word, say_once}
+
+module _ {B : Type 0} (program : Bool → B → Program B) (key : Key B) (s : State (Option (Rec B)) (View B))
+    (r : Rule program key s) (id c n : ℕ) (f : Once) (l : c < key.cells) where
+  -- the law with these seats, where the word was stored
+  abbrev LawWith : SeatsHave B → Type 0
+  LawWith y = Law (program key.strict key.root.value) key.cells record {
+    words = record (words_say s.words) { once = put_word (words_say s.words).once c f n };
+    slots = s.homes;
+    seats = y;
+  }
+
+  pub once_stores : (w : View B) (y : SeatsHave B) → MayStand key.cells f n → IsSeat key w
+      → set_seats (seats_have s.views) id w ≡ y → LawWith y
+      → Stores program key s id (once_at c f) n w
+  once_stores w y may seat same law = record {
+    inside = inside;
+    may = may_once key.cells c n f may;
+    seat = seat;
+    law = subst (λ z. Law (program key.strict key.root.value) key.cells
+        (record { words = z; slots = s.homes; seats = set_seats (seats_have s.views) id w }))
+        (sym (say_once s.words n c f inside)) (subst LawWith (sym same) law);
+  }
+    where
+      inside : once_at c f < length s.words
+      inside = let e = r.all_words in let i = once_within c key.cells f l in omega arith

@@ -1,0 +1,74 @@
+-- Chains and cells: nobody waits for a cell that isn't there, and a chain has no more tasks than there are cells.
+use Rattle.std.proofs.Common.{◌≡◌, ◌≢◌, ℕ, ◌<◌, ◌≤◌, List, [], ◌∷◌, length, Option, refl, sym, subst, arith}
+use Rattle.std.proofs.Common.{inl}
+use mathlib.Core.Logic.{dite}
+use native.Mathlib.Decide.{ℕ_discrete, dec_le}
+use Rattle.tj_words.specs.declared.head.Head.{Head}
+use Rattle.tj_words.specs.declared.head.Head.TheVariants.{Empty, Shut}
+use Rattle.tj_words.specs.declared.offsets.Once.{Once}
+use Rattle.tj_words.specs.declared.offsets.Once.TheVariants as once
+use Rattle.tj_words.specs.declared.phase.Walk.TheVariants as walk
+use Rattle.tj_words.specs.declared.phase.Phase.{Phase}
+use Rattle.tj_words.specs.declared.phase.Phase.TheVariants.{Unborn}
+use Rattle.tj_words.specs.declared.record.Rec.{Rec}
+use Rattle.tj_words.specs.declared.view.Hand.{Hand}
+use Rattle.tj_words.specs.declared.view.Custody.{Custody}
+use Rattle.tj_words.specs.declared.view.SeenWord.{SeenWord}
+use Rattle.tj_words.specs.declared.view.Due.{Due}
+use Rattle.tj_words.specs.declared.view.Push.{Push}
+use Rattle.tj_words.specs.declared.view.Rest.{Rest}
+use Rattle.tj_words.specs.declared.view.Found.{Found}
+use Rattle.tj_body.specs.Points.{IsIn}
+use Rattle.tj_words.specs.Words.Lists.{cell}
+use Rattle.tj_words.specs.Words.Heads.{head_word}
+use Rattle.tj_words.specs.LawParts.Hands.{IsThere}
+use Rattle.tj_words.specs.LawParts.NamedCells.{NamesCells}
+use Rattle.tj_words.specs.LawParts.OnceWords.{OnceWords}
+use Rattle.tj_words.specs.LawParts.Chains.{head_of, IsParkedOn, Chains}
+use Rattle.tj_words.proofs.Waiters.ChainFacts.{unborn_free, no_line, no_head, line_fits}
+
+-- a task that is parked is drawn
+pub parked_drawn : (phase : ℕ → Phase) (drawn : ℕ) → ((t : ℕ) → drawn ≤ t → phase t ≡ Unborn) → (t p : ℕ)
+    → IsParkedOn (phase t) p → t < drawn
+parked_drawn phase drawn undrawn t p w = dite (dec_le drawn t)
+    (λ (l : drawn ≤ t). absurd (unborn_free p (subst (λ z. IsParkedOn z p) (undrawn t l) w)))
+    (λ l. omega arith)
+
+module _ {tag : ℕ → ℕ} {head next : ℕ → Head} {phase : ℕ → Phase} {pushes : List (List Push)} {shuts : List (List ℕ)}
+    {rests : List (Option Rest)} {closed : List (List ℕ)} {found : List (List Found)}
+    (c : Chains tag head next phase pushes shuts rests closed found) where
+  module _ (cells drawn : ℕ) (few : drawn ≤ cells) (undrawn : (t : ℕ) → drawn ≤ t → phase t ≡ Unborn) (p : ℕ) where
+    -- the tasks of a chain and of a rest are cells, and are no more than there are
+    pub task_small : (t : ℕ) → IsIn t (c.line p) → t < cells
+    task_small t i = let l = parked_drawn phase drawn undrawn t p ((c.parked p t i).0) in omega arith
+
+    pub line_small : length (c.line p) ≤ cells
+    line_small = line_fits c cells p (λ t w. let l = parked_drawn phase drawn undrawn t p w in (omega arith))
+
+    -- so the head that isn't shut names a cell
+    pub head_small : head p ≢ Shut → head_word (head p) ≤ cells
+    head_small unshut = subst (λ h. head_word h ≤ cells) (sym (c.heads p unshut)) (by (c.line p) task_small)
+      where
+        by : (l : List ℕ) → ((t : ℕ) → IsIn t l → t < cells) → head_word (head_of l) ≤ cells
+        by [] small = omega arith
+        by (t ∷ ts) small = let h = small t (inl refl) in omega arith
+
+  module _ {B : Type 0} {drawn : ℕ} {hand : ℕ → Option Hand} {own : ℕ → Option ℕ} {home : ℕ → Option (Rec B)}
+      {tasks : List (List (Custody B))} {known : List (List ℕ)}
+      (names : NamesCells drawn hand own phase home tasks known) (p : ℕ) (away : ¬ IsThere drawn hand p) where
+    nobody_waits : (t : ℕ) → ¬ IsParkedOn (phase t) p
+    nobody_waits t w = away (names.waits t (cell p) w.0 walk.Parked w.1)
+
+    -- nobody is in the line of a cell that isn't there, and its head is empty
+    pub away_line : c.line p ≡ []
+    away_line = no_line c p nobody_waits
+
+    pub away_head : tag p ≡ 0 → head p ≡ Empty
+    away_head = no_head c p nobody_waits
+
+-- TAG of a cell that isn't there is 0
+pub away_tag : {drawn : ℕ} {hand : ℕ → Option Hand} {hands : List (Option Hand)} {own : ℕ → Option ℕ}
+    {word : ℕ → Once → ℕ} {seen : List (List SeenWord)} {dues : List (List Due)}
+    → OnceWords drawn hand hands own word seen dues → (p : ℕ) → ¬ IsThere drawn hand p → word p once.Tag ≡ 0
+away_tag {word = word} o p away = dite (ℕ_discrete (word p once.Tag) 0) (λ e. e)
+    (λ n. absurd (away (o.valued p once.Tag (λ h. h) n).0))

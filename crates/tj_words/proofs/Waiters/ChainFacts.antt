@@ -1,0 +1,169 @@
+-- What holds where chains are as the law says: which phases are parked, that a chain has no task twice, and that a cell
+-- on which nobody is parked has none.
+use Rattle.std.proofs.Common.{◌≡◌, ◌≢◌, ℕ, ◌<◌, ◌≤◌, List, [], ◌∷◌, ◌++◌, length, Option, Some, None, refl}
+use Rattle.std.proofs.Common.{sym, ap, ◌∙◌, subst, ⊎_elim, inl, arith, length-append}
+use mathlib.Core.Option.{some}
+use lib.ListN.{get_elem?}
+use Rattle.tj_body.specs.Points.{IsIn}
+use Rattle.tj_words.specs.declared.head.Head.{Head}
+use Rattle.tj_words.specs.declared.head.Head.TheVariants.{Empty, Task, Shut}
+use Rattle.tj_words.specs.declared.phase.Phase.{Phase}
+use Rattle.tj_words.specs.declared.phase.Phase.TheVariants as phase
+use Rattle.tj_words.specs.declared.view.Does.{Does}
+use Rattle.tj_words.specs.declared.view.Does.TheVariants as does
+use Rattle.tj_words.specs.declared.view.Push.{Push}
+use Rattle.tj_words.specs.declared.view.Rest.{Rest}
+use Rattle.tj_words.specs.declared.view.Found.{Found}
+use Rattle.tj_words.specs.Words.Lists.{AreApart, cell}
+use Rattle.tj_words.specs.LawParts.Holding.{phase_of}
+use Rattle.tj_words.specs.LawParts.Chains.{head_of, AreLinked, IsParkedOn, IsFirstIn, IsPush, Chains}
+use Rattle.tj_words.proofs.Waiters.ChainHeads.{one_cell}
+use Rattle.tj_words.proofs.Waiters.ChainLists.{no_some, same_some, none_or, few_apart}
+
+-- a phase that is parked on no cell
+abbrev pub IsNotParked : Phase → Type 0
+IsNotParked p = (c : ℕ) → ¬ IsParkedOn p c
+
+pub unborn_free : IsNotParked phase.Unborn
+unborn_free c h = let e = h.1 in cc
+
+pub ready_free : IsNotParked phase.Ready
+ready_free c h = let e = h.1 in cc
+
+pub running_free : IsNotParked phase.Running
+running_free c h = let e = h.1 in cc
+
+pub ended_free : IsNotParked phase.Ended
+ended_free c h = let e = h.1 in cc
+
+pub promise_free : IsNotParked phase.Promise
+promise_free c h = let e = h.1 in cc
+
+-- a task that a seat holds is parked on no cell
+pub held_free : (d : Does) → IsNotParked (phase_of d)
+held_free does.Unborn = unborn_free
+held_free does.Fresh = running_free
+held_free does.Running = running_free
+held_free does.Raised = running_free
+held_free (does.Walking p way w) = λ c h. let e = h.1 in cc
+held_free (does.Alarmed p way w) = λ c h. let e = h.1 in cc
+
+abbrev head_cell : Head → ℕ
+head_cell Empty = 0
+head_cell (Task c) = c.0
+head_cell Shut = 0
+
+-- the first of a list is known by its head
+pub first_is : (t u : ℕ) (ts us : List ℕ) → head_of (t ∷ ts) ≡ head_of (u ∷ us) → t ≡ u
+first_is t u ts us e = ap head_cell e
+
+pub no_shut : (l : List ℕ) → head_of l ≢ Shut
+no_shut [] e = cc
+no_shut (t ∷ ts) e = cc
+
+-- a task at which the head of a list points is its first
+pub first_of : (l : List ℕ) (t : ℕ) → head_of l ≡ Task (cell t) → (ts : List ℕ) × (l ≡ t ∷ ts)
+first_of [] t e = absurd (cc)
+first_of (u ∷ ts) t e = (ts, ap (λ z. z ∷ ts) (ap head_cell e))
+
+pub none_of : (l : List ℕ) → head_of l ≡ Empty → l ≡ []
+none_of [] e = refl
+none_of (t ∷ ts) e = absurd (cc)
+
+-- a list that NEXT links is known by its head
+linked_one : (next : ℕ → Head) (l m : List ℕ) → AreLinked next l → AreLinked next m → head_of l ≡ head_of m → l ≡ m
+linked_one next [] [] a b e = refl
+linked_one next [] (u ∷ m) a b e = absurd (cc)
+linked_one next (t ∷ l) [] a b e = absurd (cc)
+linked_one next (t ∷ l) (u ∷ m) a b e = let q : t ≡ u = first_is t u l m e in
+    let h = linked_one next l m a.1 b.1 (sym a.0 ∙ (ap next q ∙ b.0)) in λ i. q i ∷ h i
+
+linked_from : (next : ℕ → Head) (l : List ℕ) (t : ℕ) → IsIn t l → AreLinked next l
+    → (m : List ℕ) × AreLinked next (t ∷ m) × (length m < length l)
+linked_from next [] t i h = absurd i
+linked_from next (x ∷ xs) t i h = ⊎_elim
+    (λ (e : t ≡ x). (xs, subst (λ z. AreLinked next (z ∷ xs)) (sym e) h, (omega arith)))
+    (λ (j : IsIn t xs). let k = linked_from next xs t j h.1 in let s = k.2 in (k.0, k.1, (omega arith))) i
+
+-- so no task stands in it twice
+pub linked_once : (next : ℕ → Head) (t : ℕ) (ts : List ℕ) → AreLinked next (t ∷ ts) → ¬ IsIn t ts
+linked_once next t ts h i = let k = linked_from next ts t i h.1 in
+    let e = linked_one next (t ∷ k.0) (t ∷ ts) k.1 h refl in
+    let n : length (t ∷ k.0) ≡ length (t ∷ ts) = ap length e in let s = k.2 in omega arith
+
+pub linked_apart : (next : ℕ → Head) (l : List ℕ) → AreLinked next l → AreApart l
+linked_apart next [] h = tt
+linked_apart next (t ∷ ts) h = (linked_once next t ts h, linked_apart next ts h.1)
+
+-- the phase of the first stays where the phases of all do
+pub first_else : (phase phase' : ℕ → Phase) (l : List ℕ) (w : Phase)
+    → ((u : ℕ) → IsIn u l → phase' u ≡ phase u)
+    → IsFirstIn phase l w
+    → IsFirstIn phase' l w
+first_else phase phase' [] w s h = tt
+first_else phase phase' (t ∷ ts) w s h = s t (inl refl) ∙ h
+
+-- what has no element is empty
+pub nothing_in : (l : List ℕ) → ((x : ℕ) → ¬ IsIn x l) → l ≡ []
+nothing_in [] n = refl
+nothing_in (x ∷ xs) n = absurd (n x (inl refl))
+
+pub not_empty : {A : Type 0} (l : List A) (x : A) → IsIn x l → l ≢ []
+not_empty l x i e = subst (IsIn x) e i
+
+-- a list of which another is an end is longer, where their heads differ
+pub grown_longer : (chain more old : List ℕ) → chain ≡ more ++ old → head_of old ≢ head_of chain
+    → length old < length chain
+grown_longer chain [] old e new = absurd (new (ap head_of (sym e)))
+grown_longer chain (t ∷ more) old e new = let a : length chain ≡ length ((t ∷ more) ++ old) = ap length e in
+    let b = length-append (t ∷ more) old in omega arith
+
+module _ {tag : ℕ → ℕ} {head next : ℕ → Head} {phase : ℕ → Phase} {pushes : List (List Push)} {shuts : List (List ℕ)}
+    {rests : List (Option Rest)} {closed : List (List ℕ)} {found : List (List Found)}
+    (c : Chains tag head next phase pushes shuts rests closed found) where
+  -- the push that is to come for a task that has a pusher
+  pub push_of : (t j : ℕ) → c.pusher t ≡ Some j
+      → (e : Push) × IsPush next phase c.pusher j e × (e.task ≡ t)
+  push_of t j q = let h = c.pushing t j q in (h.2.0, c.to_push j h.0 h.1 h.2.0 h.2.1, h.2.2)
+
+  pub push_parked : (t j : ℕ) (e : Push) → IsPush next phase c.pusher j e → e.task ≡ t → IsParkedOn (phase t) e.cell
+  push_parked t j e f q = (e.way, ap phase (sym q) ∙ f.parked)
+
+  -- a task that isn't parked has no push to come
+  pub no_push : (t : ℕ) → IsNotParked (phase t) → c.pusher t ≡ None
+  no_push t n = ⊎_elim (λ (e : c.pusher t ≡ None). e)
+      (λ (s : (j : ℕ) × (c.pusher t ≡ Some j)). let h = push_of t s.0 s.1 in
+      absurd (n h.0.cell (push_parked t s.0 h.0 h.1 h.2))) (none_or (c.pusher t))
+
+  -- a task that has one is in no line, and is no other seat's
+  pub not_in_line : (p t j u : ℕ) → c.pusher t ≡ Some j → IsIn u (c.line p) → u ≢ t
+  not_in_line p t j u e i q = no_some ((c.parked p u i).1) (ap c.pusher q ∙ e)
+
+  pub not_mine : (t i j : ℕ) (e : Push) → c.pusher t ≡ Some i → IsPush next phase c.pusher j e → j ≢ i → e.task ≢ t
+  not_mine t i j e m f n q = n (same_some f.mine (ap c.pusher q ∙ m))
+
+  -- no task stands in two lines
+  pub one_line : (p q t : ℕ) → IsIn t (c.line p) → IsIn t (c.line q) → p ≡ q
+  one_line p q t i j = one_cell (phase t) p q ((c.parked p t i).0) ((c.parked q t j).0)
+
+  -- nobody is in the line of a cell on which nobody is parked; so its head is empty, where nothing has become of it
+  pub no_line : (p : ℕ) → ((t : ℕ) → ¬ IsParkedOn (phase t) p) → c.line p ≡ []
+  no_line p n = nothing_in (c.line p) (λ t i. n t ((c.parked p t i).0))
+
+  pub no_head : (p : ℕ) → ((t : ℕ) → ¬ IsParkedOn (phase t) p) → tag p ≡ 0 → head p ≡ Empty
+  no_head p n e = c.heads p (λ s. c.tagged p s e) ∙ ap head_of (no_line p n)
+
+  -- a line has no more tasks than there are cells
+  pub line_fits : (cells p : ℕ) → ((t : ℕ) → IsParkedOn (phase t) p → t < cells) → length (c.line p) ≤ cells
+  line_fits cells p few = few_apart cells (c.line p) (linked_apart next (c.line p) (c.linked p))
+      (λ t i. few t ((c.parked p t i).0))
+
+  -- a chain is longer than each that was found before with another head
+  pub longer : (id : ℕ) (l : List Found) (f : Found) → get_elem? found id ≡ some l → IsIn f l
+      → head f.cell ≢ Shut
+      → head_of f.chain ≢ head f.cell
+      → length f.chain < length (c.line f.cell)
+  longer id l f at i unshut new = ⊎_elim (λ (s : head f.cell ≡ Shut). absurd (unshut s))
+      (λ (m : (more : List ℕ) × (c.line f.cell ≡ more ++ f.chain)).
+      grown_longer (c.line f.cell) m.0 f.chain m.1 (λ e. new (e ∙ sym (c.heads f.cell unshut))))
+      (c.grows id l at f i)

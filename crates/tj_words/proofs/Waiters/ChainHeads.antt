@@ -1,0 +1,323 @@
+-- No lost wake is kept by the steps on HEAD and NEXT.
+use Rattle.std.proofs.Common.{◌≡◌, ◌≢◌, ◌⊎◌, ℕ, Bool, true, false, cond, nat_eq, List, [], ◌∷◌, ◌++◌, set}
+use Rattle.std.proofs.Common.{Option, Some, None, refl, sym, ap, ◌∙◌, subst, ⊎_elim, inl, inr, eq-eqb, ne_eqb}
+use mathlib.Core.Option.{some}
+use mathlib.Core.Logic.{dite}
+use native.Mathlib.Decide.{ℕ_discrete}
+use lib.ListN.{get_elem?}
+use Rattle.tj_base.specs.Puts.{put}
+use Rattle.tj_body.specs.Points.{IsIn}
+use Rattle.tj_words.specs.declared.head.Head.{Head}
+use Rattle.tj_words.specs.declared.head.Head.TheVariants.{Task, Shut}
+use Rattle.tj_words.specs.declared.phase.Phase.{Phase}
+use Rattle.tj_words.specs.declared.view.Push.{Push}
+use Rattle.tj_words.specs.declared.view.Rest.{Rest}
+use Rattle.tj_words.specs.declared.view.Found.{Found}
+use Rattle.tj_words.specs.Words.Lists.{OfSeat, All, Any, cell, without}
+use Rattle.tj_words.specs.LawParts.Chains.{head_of, AreLinked, parked_phase, IsParkedOn, IsPush, IsRest}
+use Rattle.tj_words.specs.LawParts.Chains.{Chains}
+use Rattle.tj_words.specs.Calls.ChainSteps.{with_next, without_push, rest_of}
+use Rattle.tj_words.proofs.Stores.SeatLists.{each_set, each_else, of_seat_here, of_seat_set}
+use Rattle.tj_words.proofs.Stores.StoreSteps.{put_here, put_else}
+use Rattle.tj_words.proofs.SeatLoads.KnowLoads.{all_cons}
+
+none_some : {P : Type 0} {A : Type 0} {a : A} {o : Option A} → o ≡ None → o ≡ Some a → P
+none_some a b = let e = sym a ∙ b in absurd (cc)
+
+-- a push of the list after NEXT of t was stored is one of before
+pub in_with_next : (t : ℕ) (h : Head) (l : List Push) (x : Push) → IsIn x (with_next t h l)
+    → (e : Push) × IsIn e l × (((e.task ≡ t) × (x ≡ record e { next = Some h })) ⊎ ((e.task ≢ t) × (x ≡ e)))
+in_with_next t h [] x i = absurd i
+in_with_next t h (e ∷ es) x (inl q) = (
+  e,
+  inl refl,
+  dite (ℕ_discrete e.task t)
+      (λ z. inl (z, q ∙ ap (λ b. cond b (record e { next = Some h }) e) (eq-eqb e.task t z)))
+      (λ n. inr (n, q ∙ ap (λ b. cond b (record e { next = Some h }) e) (ne_eqb e.task t n))),
+)
+in_with_next t h (e ∷ es) x (inr i) = let r = in_with_next t h es x i in (r.0, inr r.1, r.2)
+
+-- and a task that had a push has one
+pub any_with_next : (t : ℕ) (h : Head) (u : ℕ) (l : List Push) → Any (λ (e : Push). e.task ≡ u) l
+    → Any (λ (e : Push). e.task ≡ u) (with_next t h l)
+any_with_next t h u [] a = a
+any_with_next t h u (e ∷ es) a = ⊎_elim
+    (λ (q : a.0 ≡ e). (
+      cond (nat_eq e.task t) (record e { next = Some h }) e,
+      inl refl,
+      task (nat_eq e.task t) ∙ (ap (λ z. z.task) (sym q) ∙ a.2),
+    ))
+    (λ q. let r = any_with_next t h u es (a.0, q, a.2) in (r.0, inr r.1, r.2)) a.1
+  where
+    task : (b : Bool) → (cond b (record e { next = Some h }) e).task ≡ e.task
+    task true = refl
+    task false = refl
+
+-- a push of the list without that of t is one of before, and not of t
+pub in_without_push : (t : ℕ) (l : List Push) (x : Push) → IsIn x (without_push t l) → IsIn x l × (x.task ≢ t)
+in_without_push t [] x i = absurd i
+in_without_push t (e ∷ es) x i = dite (ℕ_discrete e.task t)
+    (λ z. let r = in_without_push t es x
+    (subst (λ b. IsIn x (cond b (without_push t es) (e ∷ without_push t es))) (eq-eqb e.task t z) i) in (inr r.0, r.1))
+    (λ n. ⊎_elim (λ (q : x ≡ e). (inl q, (λ z. n (ap (λ y. y.task) (sym q) ∙ z))))
+    (λ q. let r = in_without_push t es x q in (inr r.0, r.1))
+    (subst (λ b. IsIn x (cond b (without_push t es) (e ∷ without_push t es))) (ne_eqb e.task t n) i))
+
+-- a task other than t keeps its push
+pub any_without_push : (t u : ℕ) (l : List Push) → u ≢ t → Any (λ (e : Push). e.task ≡ u) l
+    → Any (λ (e : Push). e.task ≡ u) (without_push t l)
+any_without_push t u [] n a = a
+any_without_push t u (e ∷ es) n a = dite (ℕ_discrete e.task t)
+    (λ z. subst (λ b. Any (λ (e : Push). e.task ≡ u) (cond b (without_push t es) (e ∷ without_push t es)))
+    (sym (eq-eqb e.task t z)) (any_without_push t u es n (later z)))
+    (λ z. subst (λ b. Any (λ (e : Push). e.task ≡ u) (cond b (without_push t es) (e ∷ without_push t es)))
+    (sym (ne_eqb e.task t z)) (⊎_elim (λ (q : a.0 ≡ e). (a.0, inl q, a.2))
+    (λ q. let r = any_without_push t u es n (a.0, q, a.2) in (r.0, inr r.1, r.2)) a.1))
+  where
+    later : e.task ≡ t → Any (λ (e : Push). e.task ≡ u) es
+    later z = ⊎_elim (λ (q : a.0 ≡ e). absurd (n (sym a.2 ∙ (ap (λ y. y.task) q ∙ z)))) (λ q. (a.0, q, a.2)) a.1
+
+-- a cell other than p stays among those that a seat is to shut
+pub in_without : (p q : ℕ) (l : List ℕ) → q ≢ p → IsIn q l → IsIn q (without p l)
+in_without p q [] n i = i
+in_without p q (x ∷ xs) n i = dite (ℕ_discrete x p)
+    (λ z. subst (λ b. IsIn q (cond b (without p xs) (x ∷ without p xs))) (sym (eq-eqb x p z))
+    (⊎_elim (λ (e : q ≡ x). absurd (n (e ∙ z))) (λ k. in_without p q xs n k) i))
+    (λ z. subst (λ b. IsIn q (cond b (without p xs) (x ∷ without p xs))) (sym (ne_eqb x p z))
+    (⊎_elim (λ (e : q ≡ x). inl e) (λ k. inr (in_without p q xs n k)) i))
+
+-- a list whose tasks keep NEXT stays linked
+pub linked_else : (next next' : ℕ → Head) (l : List ℕ) → ((u : ℕ) → IsIn u l → next' u ≡ next u) → AreLinked next l
+    → AreLinked next' l
+linked_else next next' [] h k = tt
+linked_else next next' (t ∷ ts) h k = (h t (inl refl) ∙ k.0, linked_else next next' ts (λ u i. h u (inr i)) k.1)
+
+-- a task is parked on one cell
+pub one_cell : (phase : Phase) (p q : ℕ) → IsParkedOn phase p → IsParkedOn phase q → p ≡ q
+one_cell phase p q a b = let e : parked_phase p a.0 ≡ parked_phase q b.0 = sym a.1 ∙ b.1 in
+    let f : cell p ≡ cell q = cc in ap (λ z. z.0) f
+
+module _ (tag : ℕ → ℕ) (head next : ℕ → Head) (phase : ℕ → Phase) (pl : List (List Push)) (sl : List (List ℕ))
+    (rl : List (Option Rest)) (cl : List (List ℕ)) (fl : List (List Found))
+    (r : Chains tag head next phase pl sl rl cl fl) where
+  -- what a seat has to push is none of another seat's
+  not_mine : (t id j : ℕ) (x : Push) → r.pusher t ≡ Some id → r.pusher x.task ≡ Some j → j ≢ id → x.task ≢ t
+  not_mine t id j x a b n z = let q : Some j ≡ Some id = sym b ∙ (ap r.pusher z ∙ a) in n (cc)
+
+  -- the store of NEXT of a task whose push is to come
+  pub nexts : (t id : ℕ) (h : Head) (old : List Push) → get_elem? pl id ≡ some old → Any (λ (e : Push). e.task ≡ t) old
+      → Chains tag head (put next t h) phase (set pl id (with_next t h old)) sl rl cl fl
+  nexts t id h old at has = let mine : r.pusher t ≡ Some id = ap r.pusher (sym has.2) ∙
+      (r.to_push id old at has.0 has.1).mine in record {
+        line = r.line;
+        pusher = r.pusher;
+        taker = r.taker;
+        shutter = r.shutter;
+        heads = r.heads;
+        linked = λ p. linked_else next (put next t h) (r.line p)
+            (λ u i. put_else next t u h (λ z. none_some (r.parked p u i).1 (ap r.pusher z ∙ mine))) (r.linked p);
+        parked = r.parked;
+        placed = r.placed;
+        tagged = r.tagged;
+        due = r.due;
+        pushing = λ u j e. of_seat_set (Any (λ (e : Push). e.task ≡ u)) pl id j old (with_next t h old) at
+            (any_with_next t h u old) (r.pushing u j e);
+        to_push = each_else (λ j l. All (IsPush (put next t h) phase r.pusher j) l) pl id (with_next t h old)
+            (λ j l n e x i. let f = r.to_push j l e x i in record {
+              mine = f.mine;
+              parked = f.parked;
+              stored = λ g q. put_else next t x.task h (not_mine t id j x mine f.mine n) ∙ f.stored g q;
+            })
+            (λ x i. let w = in_with_next t h old x i in let f = r.to_push id old at w.0 w.1 in ⊎_elim
+            (λ (z : (w.0.task ≡ t) × (x ≡ record w.0 { next = Some h })).
+            subst (IsPush (put next t h) phase r.pusher id) (sym z.1) record {
+              mine = f.mine;
+              parked = f.parked;
+              stored = λ g q. put_here next t w.0.task h z.0 ∙ (cc);
+            })
+            (λ (z : (w.0.task ≢ t) × (x ≡ w.0)). subst (IsPush (put next t h) phase r.pusher id) (sym z.1) record {
+              mine = f.mine;
+              parked = f.parked;
+              stored = λ g q. put_else next t w.0.task h z.0 ∙ f.stored g q;
+            }) w.2);
+        resting = r.resting;
+        rest = r.rest;
+        stays_shut = r.stays_shut;
+        grows = r.grows;
+      }
+
+  -- a push that succeeds, behind the head that was there
+  pub pushes : (t p id : ℕ) (old : List Push) (e : Push) → get_elem? pl id ≡ some old → IsIn e old → e.task ≡ t →
+      e.cell ≡ p
+      → e.next ≡ Some (head p) → head p ≢ Shut
+      → Chains tag (put head p (Task (cell t))) next phase (set pl id (without_push t old)) sl rl cl fl
+  pushes t p id old e at i is_t is_p behind unshut =
+      let f0 = r.to_push id old at e i in
+      let mine : r.pusher t ≡ Some id = ap r.pusher (sym is_t) ∙ f0.mine in
+      let parked_on : IsParkedOn (phase t) p =
+      (e.way, ap phase (sym is_t) ∙ (f0.parked ∙ ap (λ c. parked_phase c e.way) is_p)) in
+      let line : ℕ → List ℕ = put r.line p (t ∷ r.line p) in let who : ℕ → Option ℕ = put r.pusher t None in
+      let head' : ℕ → Head = put head p (Task (cell t)) in
+      let apart : (q : ℕ) → head q ≡ Shut → q ≢ p = λ q e z. unshut (ap head (sym z) ∙ e) in
+      let apart' : (q : ℕ) → head' q ≡ Shut → q ≢ p
+      = λ q e z. (let y : Task (cell t) ≡ Shut = sym (put_here head p q (Task (cell t)) z) ∙ e in cc) in
+      let linked : next t ≡ head_of (r.line p) = ap next (sym is_t) ∙ (f0.stored (head p) behind ∙ r.heads p unshut) in
+      let freed : (u : ℕ) → r.pusher u ≡ None → who u ≡ None
+      = λ u q. dite (ℕ_discrete u t) (λ z. put_here r.pusher t u None z) (λ n. put_else r.pusher t u None n ∙ q) in
+      record {
+        line = line;
+        pusher = who;
+        taker = r.taker;
+        shutter = r.shutter;
+        heads = λ q n. dite (ℕ_discrete q p)
+            (λ z. put_here head p q (Task (cell t)) z ∙ ap head_of (sym (put_here r.line p q (t ∷ r.line p) z)))
+            (λ d. put_else head p q (Task (cell t)) d ∙ (r.heads q (λ y. n (put_else head p q (Task (cell t)) d ∙ y))
+            ∙ ap head_of (sym (put_else r.line p q (t ∷ r.line p) d))));
+        linked = λ q. dite (ℕ_discrete q p)
+            (λ z. subst (AreLinked next) (sym (put_here r.line p q (t ∷ r.line p) z)) (linked, r.linked p))
+            (λ d. subst (AreLinked next) (sym (put_else r.line p q (t ∷ r.line p) d)) (r.linked q));
+        parked = λ q u g. dite (ℕ_discrete q p)
+            (λ z. ⊎_elim
+            (λ (y : u ≡ t). (
+              subst (λ v. IsParkedOn (phase v) q) (sym y) (subst (IsParkedOn (phase t)) (sym z) parked_on),
+              put_here r.pusher t u None y,
+            ))
+            (λ (k : IsIn u (r.line p)). let m = r.parked p u k in
+            (subst (IsParkedOn (phase u)) (sym z) m.0, freed u m.1))
+            (subst (IsIn u) (put_here r.line p q (t ∷ r.line p) z) g))
+            (λ d. let m = r.parked q u (subst (IsIn u) (put_else r.line p q (t ∷ r.line p) d) g) in (m.0, freed u m.1));
+        placed = λ q u g y. dite (ℕ_discrete u t)
+            (λ z. let c : q ≡ p = one_cell (phase t) q p (subst (λ v. IsParkedOn (phase v) q) z g) parked_on in
+            subst (IsIn u) (sym (put_here r.line p q (t ∷ r.line p) c)) (inl z))
+            (λ n. let k = r.placed q u g (sym (put_else r.pusher t u None n) ∙ y) in dite (ℕ_discrete q p)
+            (λ z. subst (IsIn u) (sym (put_here r.line p q (t ∷ r.line p) z)) (inr (subst (IsIn u) (ap r.line z) k)))
+            (λ d. subst (IsIn u) (sym (put_else r.line p q (t ∷ r.line p) d)) k));
+        tagged = λ q y. r.tagged q (sym (put_else head p q (Task (cell t)) (apart' q y)) ∙ y);
+        due = λ q g n. dite (ℕ_discrete q p) (λ z. r.due q g (λ y. unshut (ap head (sym z) ∙ y)))
+            (λ d. r.due q g (λ y. n (put_else head p q (Task (cell t)) d ∙ y)));
+        pushing = λ u j y. dite (ℕ_discrete u t) (λ z. none_some (put_here r.pusher t u None z) y)
+            (λ n. of_seat_set (Any (λ (e : Push). e.task ≡ u)) pl id j old (without_push t old) at
+            (any_without_push t u old n) (r.pushing u j (sym (put_else r.pusher t u None n) ∙ y)));
+        to_push = each_else (λ j l. All (IsPush next phase who j) l) pl id (without_push t old)
+            (λ j l n y x k. let f = r.to_push j l y x k in record {
+              mine = put_else r.pusher t x.task None (not_mine t id j x mine f.mine n) ∙ f.mine;
+              parked = f.parked;
+              stored = f.stored;
+            })
+            (λ x k. let w = in_without_push t old x k in let f = r.to_push id old at x w.0 in record {
+              mine = put_else r.pusher t x.task None w.1 ∙ f.mine;
+              parked = f.parked;
+              stored = f.stored;
+            });
+        resting = λ q y n. let d = apart' q y in
+            r.resting q (sym (put_else head p q (Task (cell t)) d) ∙ y)
+            (λ k. n (put_else r.line p q (t ∷ r.line p) d ∙ k));
+        rest = λ j o y x q. let f = r.rest j o y x q in let d = apart x.cell f.is_shut in record {
+          mine = f.mine;
+          is_shut = put_else head p x.cell (Task (cell t)) d ∙ f.is_shut;
+          left = put_else r.line p x.cell (t ∷ r.line p) d ∙ f.left;
+          some = f.some;
+          read = f.read;
+        };
+        stays_shut = λ j l y q k. let g = r.stays_shut j l y q k in put_else head p q (Task (cell t)) (apart q g) ∙ g;
+        grows = λ j l y x k. ⊎_elim
+            (λ g. inl (put_else head p x.cell (Task (cell t)) (apart x.cell g) ∙ g))
+            (λ (g : (more : List ℕ) × (r.line x.cell ≡ more ++ x.chain)). dite (ℕ_discrete x.cell p)
+            (λ z. inr (t ∷ g.0, put_here r.line p x.cell (t ∷ r.line p) z ∙ ap (λ l. t ∷ l) (ap r.line (sym z) ∙ g.1)))
+            (λ n. inr (g.0, put_else r.line p x.cell (t ∷ r.line p) n ∙ g.1)))
+            (r.grows j l y x k);
+      }
+
+  -- the shut of a head that wasn't, by a seat without a rest
+  pub shuts : (p id : ℕ) (olds oldc : List ℕ) → get_elem? sl id ≡ some olds → get_elem? rl id ≡ some None
+      → get_elem? cl id ≡ some oldc → head p ≢ Shut → tag p ≢ 0
+      → Chains tag (put head p Shut) next phase pl (set sl id (without p olds)) (set rl id (rest_of p (r.line p)))
+      (set cl id (p ∷ oldc)) fl
+  shuts p id olds oldc ats atr atc unshut has_tag =
+      let head' : ℕ → Head = put head p Shut in let taker : ℕ → ℕ = put r.taker p id in
+      let apart : (q : ℕ) → head q ≡ Shut → q ≢ p = λ q e z. unshut (ap head (sym z) ∙ e) in
+      let closes : (q : ℕ) → head q ≡ Shut → head' q ≡ Shut = λ q e. put_else head p q Shut (apart q e) ∙ e in
+      let apart' : (q : ℕ) → head' q ≢ Shut → q ≢ p = λ q n z. n (put_here head p q Shut z) in record {
+        line = r.line;
+        pusher = r.pusher;
+        taker = taker;
+        shutter = r.shutter;
+        heads = λ q n. let d = apart' q n in put_else head p q Shut d ∙ r.heads q
+            (λ e. n (put_else head p q Shut d ∙ e));
+        linked = r.linked;
+        parked = r.parked;
+        placed = r.placed;
+        tagged = λ q e. dite (ℕ_discrete q p) (λ z. subst (λ c. tag c ≢ 0) (sym z) has_tag)
+            (λ d. r.tagged q (sym (put_else head p q Shut d) ∙ e));
+        due = λ q g n. let d = apart' q n in of_seat_set (IsIn q) sl id (r.shutter q) olds (without p olds) ats
+            (in_without p q olds d) (r.due q g (λ e. n (put_else head p q Shut d ∙ e)));
+        pushing = r.pushing;
+        to_push = r.to_push;
+        resting = λ q e n. dite (ℕ_discrete q p)
+            (λ z. subst (OfSeat (λ rest. (x : Rest) × (rest ≡ Some x) × (x.cell ≡ q))
+            (set rl id (rest_of p (r.line p))))
+            (sym (put_here r.taker p q id z))
+            (of_seat_here (λ rest. (x : Rest) × (rest ≡ Some x) × (x.cell ≡ q)) rl id None (rest_of p (r.line p)) atr
+            (some_rest q z (r.line p) (λ k. n (ap r.line z ∙ k)))))
+            (λ d. let h = r.resting q (sym (put_else head p q Shut d) ∙ e) n in
+            subst (OfSeat (λ rest. (x : Rest) × (rest ≡ Some x) × (x.cell ≡ q)) (set rl id (rest_of p (r.line p))))
+            (sym (put_else r.taker p q id d))
+            (of_seat_set (λ rest. (x : Rest) × (rest ≡ Some x) × (x.cell ≡ q)) rl id (r.taker q) None
+            (rest_of p (r.line p)) atr
+            (λ k. none_some refl k.1) h));
+        rest = each_set (λ j rest. (x : Rest) → rest ≡ Some x → IsRest head' phase r.line taker j x) rl id
+            (rest_of p (r.line p))
+            (λ j o y x q. let f = r.rest j o y x q in let d = apart x.cell f.is_shut in record {
+              mine = put_else r.taker p x.cell id d ∙ f.mine;
+              is_shut = closes x.cell f.is_shut;
+              left = f.left;
+              some = f.some;
+              read = f.read;
+            })
+            (λ x q. new_rest x (r.line p) refl q);
+        stays_shut = each_set (λ j l. All (λ q. head' q ≡ Shut) l) cl id (p ∷ oldc)
+            (λ j l y q k. closes q (r.stays_shut j l y q k))
+            (all_cons (λ q. head' q ≡ Shut) p oldc (put_here head p p Shut refl)
+            (λ q k. closes q (r.stays_shut id oldc atc q k)));
+        grows = λ j l y x k. ⊎_elim (λ g. inl (closes x.cell g)) (λ g. inr g) (r.grows j l y x k);
+      }
+    where
+      some_rest : (q : ℕ) → q ≡ p → (l : List ℕ) → l ≢ [] → (x : Rest) × (rest_of p l ≡ Some x) × (x.cell ≡ q)
+      some_rest q z [] n = absurd (n refl)
+      some_rest q z (t ∷ ts) n = (record { cell = p; tasks = t ∷ ts; way = None }, refl, sym z)
+
+      new_rest : (x : Rest) (l : List ℕ) → r.line p ≡ l → rest_of p l ≡ Some x
+          → IsRest (put head p Shut) phase r.line (put r.taker p id) id x
+      new_rest x [] e q = none_some refl q
+      new_rest x (t ∷ ts) e q = let y : record { cell = p; tasks = t ∷ ts; way = None } ≡ x = cc in
+          subst (IsRest (put head p Shut) phase r.line (put r.taker p id) id) y record {
+            mine = put_here r.taker p p id refl;
+            is_shut = put_here head p p Shut refl;
+            left = e;
+            some = λ k. cc;
+            read = λ way k. none_some refl k;
+          }
+
+  -- the shut of a head that was shut already
+  pub shuts_again : (p id : ℕ) (olds oldc : List ℕ) → get_elem? sl id ≡ some olds → get_elem? cl id ≡ some oldc
+      → head p ≡ Shut → Chains tag head next phase pl (set sl id (without p olds)) rl (set cl id (p ∷ oldc)) fl
+  shuts_again p id olds oldc ats atc is_shut = record {
+    line = r.line;
+    pusher = r.pusher;
+    taker = r.taker;
+    shutter = r.shutter;
+    heads = r.heads;
+    linked = r.linked;
+    parked = r.parked;
+    placed = r.placed;
+    tagged = r.tagged;
+    due = λ q g n. of_seat_set (IsIn q) sl id (r.shutter q) olds (without p olds) ats
+        (in_without p q olds (λ z. n (ap head z ∙ is_shut))) (r.due q g n);
+    pushing = r.pushing;
+    to_push = r.to_push;
+    resting = r.resting;
+    rest = r.rest;
+    stays_shut = each_set (λ j l. All (λ q. head q ≡ Shut) l) cl id (p ∷ oldc) r.stays_shut
+        (all_cons (λ q. head q ≡ Shut) p oldc is_shut (r.stays_shut id oldc atc));
+    grows = r.grows;
+  }

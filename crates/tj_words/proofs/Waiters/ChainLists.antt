@@ -1,0 +1,96 @@
+-- Lists of pushes, rests and tasks, of which one changes.
+use Rattle.std.proofs.Common.{◌≡◌, ◌≢◌, ◌⊎◌, ℕ, zero, suc, ◌<◌, ◌≤◌, Bool, cond, List, []}
+use Rattle.std.proofs.Common.{◌∷◌, length, Option, Some, None, refl, sym, ap, ◌∙◌, subst, ⊎_elim, inl, inr, arith}
+use Rattle.std.proofs.Common.{eq-eqb, ne_eqb}
+use mathlib.Core.Logic.{dite}
+use native.Mathlib.Decide.{ℕ_discrete}
+use Rattle.tj_base.specs.Puts.{put}
+use Rattle.tj_body.specs.Points.{IsIn}
+use Rattle.tj_words.specs.declared.view.Push.{Push}
+use Rattle.tj_words.specs.declared.view.Rest.{Rest}
+use Rattle.tj_words.specs.Words.Lists.{All, AreApart, without}
+use Rattle.tj_words.specs.Calls.ChainSteps.{without_push, rest_of}
+use Rattle.tj_words.proofs.Stores.StoreSteps.{put_here, put_else}
+use Rattle.tj_words.proofs.Waiters.ChainHeads.{in_without_push}
+
+-- nothing isn't something
+pub no_some : {P A : Type 0} {a : A} {o : Option A} → o ≡ None → o ≡ Some a → P
+no_some a b = let e = sym a ∙ b in absurd (cc)
+
+pub same_some : {A : Type 0} {a b : A} {o : Option A} → o ≡ Some a → o ≡ Some b → a ≡ b
+same_some a b = let e = sym a ∙ b in cc
+
+pub none_or : {A : Type 0} (o : Option A) → (o ≡ None) ⊎ ((a : A) × (o ≡ Some a))
+none_or None = inl refl
+none_or (Some a) = inr (a, refl)
+
+-- where f has nothing at u, so has f with nothing at t
+pub none_none : (f : ℕ → Option ℕ) (t u : ℕ) → f u ≡ None → put f t None u ≡ None
+none_none f t u e = dite (ℕ_discrete u t) (λ q. put_here f t u None q) (λ n. put_else f t u None n ∙ e)
+
+-- the push is of this task
+abbrev pub IsOfTask : ℕ → Push → Type 0
+IsOfTask u e = e.task ≡ u
+
+-- what holds of the pushes of other tasks
+pub all_without : (t : ℕ) (F : Push → Type 0) (l : List Push) → ((e : Push) → IsIn e l → e.task ≢ t → F e)
+    → All F (without_push t l)
+all_without t F l h x i = let w = in_without_push t l x i in h x w.0 w.1
+
+-- what a rest is for a list of tasks
+pub rest_is : (p : ℕ) (ts : List ℕ) (r : Rest) → rest_of p ts ≡ Some r
+    → (r.cell ≡ p) × (r.tasks ≡ ts) × (r.way ≡ None) × (ts ≢ [])
+rest_is p [] r e = no_some refl e
+rest_is p (t ∷ ts) r e = let q : record { cell = p; tasks = t ∷ ts; way = None } ≡ r = same_some refl e in (
+  ap (λ (z : Rest). z.cell) (sym q),
+  ap (λ (z : Rest). z.tasks) (sym q),
+  ap (λ (z : Rest). z.way) (sym q),
+  (λ n. cc),
+)
+
+pub rest_some : (p : ℕ) (ts : List ℕ) → ts ≢ [] → (r : Rest) × (rest_of p ts ≡ Some r) × (r.cell ≡ p)
+rest_some p [] n = absurd (n refl)
+rest_some p (t ∷ ts) n = (record { cell = p; tasks = t ∷ ts; way = None }, refl, refl)
+
+-- what is left was there, and isn't the number that was taken out
+pub of_without : (c x : ℕ) (l : List ℕ) → IsIn x (without c l) → IsIn x l × (x ≢ c)
+of_without c x [] i = absurd i
+of_without c x (y ∷ ys) i = dite (ℕ_discrete y c)
+    (λ q. let r = of_without c x ys
+    (subst (λ (b : Bool). IsIn x (cond b (without c ys) (y ∷ without c ys))) (eq-eqb y c q) i) in (inr r.0, r.1))
+    (λ q. ⊎_elim (λ (z : x ≡ y). (inl z, (λ e. q (sym z ∙ e))))
+    (λ (j : IsIn x (without c ys)). let r = of_without c x ys j in (inr r.0, r.1))
+    (subst (λ (b : Bool). IsIn x (cond b (without c ys) (y ∷ without c ys))) (ne_eqb y c q) i))
+
+pub apart_without : (c : ℕ) (l : List ℕ) → AreApart l → AreApart (without c l)
+apart_without c [] h = tt
+apart_without c (y ∷ ys) h = dite (ℕ_discrete y c)
+    (λ q. subst (λ (b : Bool). AreApart (cond b (without c ys) (y ∷ without c ys))) (sym (eq-eqb y c q))
+    (apart_without c ys h.1))
+    (λ q. subst (λ (b : Bool). AreApart (cond b (without c ys) (y ∷ without c ys))) (sym (ne_eqb y c q))
+    ((λ i. h.0 (of_without c y ys i).0), apart_without c ys h.1))
+
+-- nothing is taken out where the number isn't there, and one at most where none stands twice
+absent : (c : ℕ) (l : List ℕ) → ¬ IsIn c l → without c l ≡ l
+absent c [] n = refl
+absent c (y ∷ ys) n = ap (λ (b : Bool). cond b (without c ys) (y ∷ without c ys)) (ne_eqb y c (λ e. n (inl (sym e))))
+    ∙ ap (λ l. y ∷ l) (absent c ys (λ i. n (inr i)))
+
+one_out : (c : ℕ) (l : List ℕ) → AreApart l → length l ≤ suc (length (without c l))
+one_out c [] h = omega arith
+one_out c (y ∷ ys) h = dite (ℕ_discrete y c)
+    (λ q. let e : without c (y ∷ ys) ≡ ys = ap (λ (b : Bool). cond b (without c ys) (y ∷ without c ys)) (eq-eqb y c q)
+    ∙ absent c ys (λ i. h.0 (subst (λ z. IsIn z ys) (sym q) i)) in
+    let n : length (without c (y ∷ ys)) ≡ length ys = ap length e in omega arith)
+    (λ q. let e : without c (y ∷ ys) ≡ y ∷ without c ys = ap (λ (b : Bool). cond b (without c ys) (y ∷ without c ys))
+    (ne_eqb y c q) in
+    let n : length (without c (y ∷ ys)) ≡ suc (length (without c ys)) = ap length e in
+    let r = one_out c ys h.1 in omega arith)
+
+-- so many numbers below n, none of them twice, are at most n
+pub few_apart : (n : ℕ) (l : List ℕ) → AreApart l → ((x : ℕ) → IsIn x l → x < n) → length l ≤ n
+few_apart zero [] h small = omega arith
+few_apart zero (x ∷ xs) h small = let s = small x (inl refl) in absurd (omega arith)
+few_apart (suc n) l h small = let r = few_apart n (without n l) (apart_without n l h)
+    (λ x i. let w = of_without n x l i in let s = small x w.0 in let d = w.1 in
+    dite (ℕ_discrete x n) (λ e. absurd (d e)) (λ e. omega arith)) in let o = one_out n l h in omega arith

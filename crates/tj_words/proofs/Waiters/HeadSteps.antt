@@ -1,0 +1,301 @@
+-- The steps on HEAD and NEXT keep the rule.
+use Rattle.std.proofs.Common.{◌≡◌, ◌≢◌, ℕ, suc, ◌-◌, ◌<◌, ◌≤◌, List, ◌∷◌, length, set, refl, sym}
+use Rattle.std.proofs.Common.{ap, ◌∙◌, subst, inl, inr, ⊎_elim, arith, eqb, Bool, Option, None}
+use prog.Atomic.{either}
+use mathlib.Core.Option.{some, none}
+use mathlib.Core.Logic.{dite}
+use native.Mathlib.Decide.{ℕ_discrete}
+use lib.ListN.{get_elem?}
+use Rattle.atomic_table.specs.Table.{State, step, keeps, Allows}
+use Rattle.atomic_table.proofs.Lists.{at_map, exchanged}
+use Rattle.tj_base.specs.Puts.{put}
+use Rattle.tj_base.specs.declared.cell.Sort.{Sort}
+use Rattle.tj_base.specs.declared.cell.Sort.TheVariants as sort
+use Rattle.tj_body.specs.Points.{IsIn}
+use Rattle.tj_body.specs.Programs.{Program}
+use Rattle.tj_body.specs.declared.point.Value.TheVariants as value
+use Rattle.tj_body.specs.declared.point.Entry.{Entry}
+use Rattle.tj_body.specs.declared.point.Entry.TheVariants as entry
+use Rattle.tj_words.specs.declared.head.Head.{Head}
+use Rattle.tj_words.specs.declared.head.Head.TheVariants.{Empty, Task, Shut}
+use Rattle.tj_words.specs.declared.record.Rec.{Rec}
+use Rattle.tj_words.specs.declared.table.Key.{Key}
+use Rattle.tj_words.specs.declared.view.Push.{Push}
+use Rattle.tj_words.specs.declared.view.Rest.{Rest}
+use Rattle.tj_words.specs.declared.view.View.{View}
+use Rattle.tj_words.specs.Words.Lists.{cell}
+use Rattle.tj_words.specs.Words.Offsets.{word, head_at, next_at}
+use Rattle.tj_words.specs.Words.Heads.{head_word, head_in, HasWord, shut_word}
+use Rattle.tj_words.specs.LawParts.Chains.{Chains}
+use Rattle.tj_words.specs.Calls.ChainSteps.{with_next, without_push, rest_of}
+use Rattle.tj_words.specs.Words.Lists.{without}
+use Rattle.tj_words.specs.Calls.ChainSteps.{stored_next, pushed, took_chain, found_taken}
+use Rattle.tj_words.specs.Calls.ChainSteps.{HasPush, HasPushBehind, KnowsEntry, next_store, shut_swap, push_exchange}
+use Rattle.tj_words.specs.LawParts.LiveCount.{IsBacked}
+use Rattle.tj_words.specs.LawParts.Telling.{tag_of, sort_tag}
+use Rattle.tj_words.specs.LawParts.Contents.{WordsSay, words_say, SeatsHave, seats_have, contents_of, tag_in, drawn_in}
+use Rattle.tj_words.specs.Law.{Law, Rule, IsSeat}
+use Rattle.tj_words.specs.SeatViews.SeatSteps.{SeatMe}
+use Rattle.tj_words.proofs.Stores.SeatContents.{set_seats, seats_same}
+use Rattle.tj_words.proofs.Stores.StoreSteps.{put_here, put_else}
+use Rattle.tj_words.proofs.Stores.StoreSteps.{say_head, say_next, MayStore, may_head, may_next, Stores, rule_stores}
+use Rattle.tj_words.proofs.Stores.StoreSteps.{step_allowed}
+use Rattle.tj_words.proofs.Stores.SlotStores.{Acts}
+use Rattle.tj_words.proofs.Stores.LawChanges.{law_chains}
+use Rattle.tj_words.proofs.SeatLoads.LoadSteps.{knows_so}
+use Rattle.tj_words.proofs.SeatLoads.KnowLoads.{task_in, shut_is}
+use Rattle.tj_words.proofs.SeatLoads.HeadLoads.{head_allowed}
+use Rattle.tj_words.proofs.Waiters.ChainHeads.{nexts, pushes, shuts, shuts_again}
+use Rattle.tj_words.proofs.Waiters.ChainCells.{line_small, head_small}
+
+-- what has become of a cell has a tag
+pub tag_some : (e : Entry) → tag_of e ≢ 0
+tag_some entry.Broken z = omega arith
+tag_some (entry.Value (value.Num j)) z = omega arith
+tag_some (entry.Value (value.Ref r)) z = by r.sort z where
+  by : (k : Sort) → sort_tag k ≢ 0
+  by sort.Task z = omega arith
+  by sort.Promise z = omega arith
+
+-- a head whose word is that small has it for itself
+pub has_word : (h : Head) (n : ℕ) → n < shut_word → head_word h ≤ n → HasWord h
+has_word Empty n l k = tt
+has_word (Task t) n l k = omega arith
+has_word Shut n l k = tt
+
+-- and isn't shut
+pub is_open : (h : Head) (n : ℕ) → n < shut_word → head_word h ≤ n → h ≢ Shut
+is_open Empty n l k e = let z : 0 ≡ shut_word = ap head_word e in omega arith
+is_open (Task t) n l k e = let z : suc t.0 ≡ shut_word = ap head_word e in omega arith
+is_open Shut n l k e = omega arith
+
+module _ {B : Type 0} (program : Bool → B → Program B) (key : Key B) where
+  abbrev P : Program B
+  P = program key.strict key.root.value
+
+  -- a seat that has a push to come is backed
+  push_backed : (v : View B) (e : Push) → IsSeat key v → IsIn e v.pushes → IsBacked v
+  push_backed v e q i = q.backing.wakes (inl (λ z. subst (IsIn e) z i))
+
+  module _ (s : State (Option (Rec B)) (View B)) (r : Rule program key s) (id : ℕ) (v : View B)
+      (at : get_elem? s.views id ≡ some v) where
+    abbrev words : WordsSay
+    words = words_say s.words
+
+    abbrev seats : SeatsHave B
+    seats = seats_have s.views
+
+    head_inside : (p : ℕ) → p < key.cells → head_at p < length s.words
+    head_inside p l = let e = r.all_words in omega arith
+
+    next_inside : (t : ℕ) → t < key.cells → next_at t < length s.words
+    next_inside t l = let e = r.all_words in omega arith
+
+    -- a step on HEAD or NEXT by a backed seat, whose view changes in what it has of the chains
+    chain_stores : (w : View B) → w ≡ record v {
+      pushes = w.pushes;
+      shuts = w.shuts;
+      rest = w.rest;
+      closed = w.closed;
+      steps = w.steps;
+    } → IsBacked v → (i n : ℕ) → i < length s.words → MayStore key.cells i n → (head next : ℕ → Head)
+        → words_say (set s.words i n) ≡ record words { head = head; next = next }
+        → (pl : List (List Push)) (sl : List (List ℕ)) (rl : List (Option Rest)) (cl : List (List ℕ))
+        → set_seats seats id w ≡ record seats { pushes = pl; shuts = sl; rests = rl; closed = cl }
+        → Chains (tag_in (contents_of s)) head next words.phase pl sl rl cl seats.found
+        → Stores program key s id i n w
+    chain_stores w same back i n inside may head next say pl sl rl cl path chains = record {
+      inside = inside;
+      may = may;
+      seat = subst (IsSeat key) (sym same) (let q = r.seats id v at in let l = q.within_lot in record {
+        about = q.about;
+        within_lot = record {
+          least = l.least;
+          refused_fit = l.refused_fit;
+          tokens_fit = l.tokens_fit;
+          cleared_fit = l.cleared_fit;
+        };
+        backing = record { wakes = λ k. back; tags = q.backing.tags; alarms = q.backing.alarms };
+        known_born = q.known_born;
+      });
+      law = subst (λ z. Law P key.cells (record { words = z; slots = s.homes; seats = set_seats seats id w })) (sym say)
+          (subst (λ z. Law P key.cells (record {
+            words = record words { head = head; next = next };
+            slots = s.homes;
+            seats = z;
+          })) (sym path) (law_chains r.law head next pl sl rl cl seats.found chains));
+    }
+
+    -- a store of NEXT
+    next_stores : (t n : ℕ) → t < key.cells → n ≤ key.cells → HasPush t v
+        → Stores program key s id (next_at t) n (stored_next t (head_in n) v)
+    next_stores t n l small has = chain_stores (stored_next t (head_in n) v) refl
+        (push_backed v has.0 (r.seats id v at) has.1) (next_at t) n (next_inside t l) (may_next key.cells t n small)
+        words.head (put words.next t (head_in n)) (say_next s.words n t (next_inside t l))
+        (set seats.pushes id (with_next t (head_in n) v.pushes)) seats.shuts seats.rests seats.closed
+        (ap (λ (z : SeatsHave B). record z { pushes = set seats.pushes id (with_next t (head_in n) v.pushes) })
+        (seats_same s.views id v at))
+        (nexts _ _ _ _ _ _ _ _ _ r.law.chains t id (head_in n) v.pushes
+        (at_map (λ (u : View B). u.pushes) s.views id v at) has)
+
+    -- a push that succeeds
+    push_stores : (t p : ℕ) → t < key.cells → p < key.cells
+        → HasPushBehind t p (head_in (word s.words (head_at p))) v → head_in (word s.words (head_at p)) ≢ Shut
+        → Stores program key s id (head_at p) (suc t) (pushed t v)
+    push_stores t p lt lp has unshut = chain_stores (pushed t v) refl
+        (push_backed v has.0 (r.seats id v at) has.1) (head_at p) (suc t) (head_inside p lp)
+        (may_head key.cells p (suc t) (inr (omega arith))) (put words.head p (Task (cell t))) words.next
+        (say_head s.words (suc t) p (head_inside p lp)
+        ∙ ap (λ h. record words { head = put words.head p h }) (sym is_task))
+        (set seats.pushes id (without_push t v.pushes)) seats.shuts seats.rests seats.closed
+        (ap (λ (z : SeatsHave B). record z { pushes = set seats.pushes id (without_push t v.pushes) })
+        (seats_same s.views id v at))
+        (pushes _ _ _ _ _ _ _ _ _ r.law.chains t p id v.pushes has.0
+        (at_map (λ (u : View B). u.pushes) s.views id v at) has.1 has.2.0 has.2.1 has.2.2 unshut)
+      where
+        is_task : Task (cell t) ≡ head_in (suc t)
+        is_task = let f = r.few_cells in let less : t ≡ suc t - 1 = omega arith in
+            ap (λ n. Task (cell n)) less ∙ sym (task_in (suc t) (λ z. omega arith) (λ z. omega arith))
+
+    -- a shut
+    shut_stores : (p : ℕ) → p < key.cells → KnowsEntry p v → v.rest ≡ None → IsBacked v
+        → head_in (word s.words (head_at p)) ≢ Shut
+        → Stores program key s id (head_at p) shut_word (took_chain p (r.law.chains.line p) v)
+    shut_stores p lp knows free back unshut = chain_stores (took_chain p chain v) refl back (head_at p) shut_word
+        (head_inside p lp) (may_head key.cells p shut_word (inl refl)) (put words.head p Shut) words.next
+        (say_head s.words shut_word p (head_inside p lp)) seats.pushes (set seats.shuts id (without p v.shuts))
+        (set seats.rests id (rest_of p chain)) (set seats.closed id (p ∷ v.closed))
+        (ap (λ (z : SeatsHave B). record z {
+          shuts = set seats.shuts id (without p v.shuts);
+          rests = set seats.rests id (rest_of p chain);
+          closed = set seats.closed id (p ∷ v.closed);
+        }) (seats_same s.views id v at))
+        (shuts _ _ _ _ _ _ _ _ _ r.law.chains p id v.shuts v.closed (at_map (λ (u : View B). u.shuts) s.views id v at)
+        (at_map (λ (u : View B). u.rest) s.views id v at ∙ ap some free)
+        (at_map (λ (u : View B). u.closed) s.views id v at) unshut has_tag)
+      where
+        chain : List ℕ
+        chain = r.law.chains.line p
+
+        has_tag : tag_in (contents_of s) p ≢ 0
+        has_tag z = let f = (knows_so program key s r id v at).filled knows.0 knows.1 in tag_some knows.0.entry
+            (sym f.tag_is ∙ subst (λ c. tag_in (contents_of s) c ≡ 0) (sym knows.2) z)
+
+    -- a shut of a head that was shut
+    shut_again : (p : ℕ) → p < key.cells → IsBacked v → head_in (word s.words (head_at p)) ≡ Shut
+        → Stores program key s id (head_at p) shut_word (found_taken p v)
+    shut_again p lp back is_shut = chain_stores (found_taken p v) refl back (head_at p) shut_word (head_inside p lp)
+        (may_head key.cells p shut_word (inl refl)) words.head words.next
+        (say_head s.words shut_word p (head_inside p lp) ∙ (λ j. record words { head = λ c. same c j }))
+        seats.pushes (set seats.shuts id (without p v.shuts)) seats.rests (set seats.closed id (p ∷ v.closed))
+        (ap (λ (z : SeatsHave B). record z {
+          shuts = set seats.shuts id (without p v.shuts);
+          closed = set seats.closed id (p ∷ v.closed);
+        }) (seats_same s.views id v at))
+        (shuts_again _ _ _ _ _ _ _ _ _ r.law.chains p id v.shuts v.closed
+        (at_map (λ (u : View B). u.shuts) s.views id v at) (at_map (λ (u : View B). u.closed) s.views id v at) is_shut)
+      where
+        same : (c : ℕ) → put words.head p Shut c ≡ words.head c
+        same c = dite (ℕ_discrete c p)
+            (λ z. put_here words.head p c Shut z ∙ (sym is_shut ∙ ap words.head (sym z)))
+            (λ n. put_else words.head p c Shut n)
+
+    -- the word of a head is no more than that of one that is shut
+    head_word_small : (p : ℕ) → p < key.cells → word s.words (head_at p) ≤ shut_word
+    head_word_small p lp = let f = r.few_cells in
+        ⊎_elim (λ q. (omega arith)) (λ q. (omega arith)) (r.codes.each p lp).head
+
+    -- a swap that shuts a head, or finds it shut
+    shut_swaps : (slots p new : ℕ) (mine : List (ℕ × Option (Rec B))) → p < key.cells → KnowsEntry p v → v.rest ≡ None
+        → IsBacked v → (w : View B) × Stores program key s id (head_at p) shut_word w
+        × shut_swap key.cells p (step slots (head_at p) new 0 none) (v, mine) (word s.words (head_at p)) (w, mine)
+    shut_swaps slots p new mine lp knows free back = let small = head_word_small p lp in
+        dite (ℕ_discrete (word s.words (head_at p)) shut_word)
+        (λ q. let y : head_in (word s.words (head_at p)) ≡ Shut = ap head_in q in (
+          found_taken p v,
+          shut_again p lp back y,
+          (refl, small, (λ z. refl), (λ n. absurd (n y))),
+        ))
+        (λ q. let n : head_in (word s.words (head_at p)) ≢ Shut = λ z. q (shut_is _ small z) in (
+          took_chain p (r.law.chains.line p) v,
+          shut_stores p lp knows free back n,
+          (
+            refl,
+            small,
+            (λ z. absurd (n z)),
+            (λ z. record {
+              chain = r.law.chains.line p;
+              is = r.law.chains.heads p n;
+              short = line_small r.law.chains key.cells drawn (omega arith) r.law.undrawn p;
+              small = head_small r.law.chains key.cells drawn (omega arith) r.law.undrawn p n;
+              view = refl;
+            }),
+          ),
+        ))
+      where
+        drawn : ℕ
+        drawn = drawn_in key.cells (contents_of s)
+
+  pub next_allowed : (slots id : ℕ) (m : SeatMe B) (t i new cell : ℕ) → t < key.cells → i ≡ next_at t → cell ≡ t
+      → new ≤ key.cells → HasPush t m.0
+      → Allows (Rule program key) slots id m i (λ n. new) (λ n. next_store cell (step slots i new 0 none) m new)
+  next_allowed slots id m t i new cell l at e small has = step_allowed program key slots id m i (λ n. new)
+      (λ n. next_store cell (step slots i new 0 none) m new) (λ s r k. (
+        stored_next t (head_in new) m.0,
+        subst (λ j. Stores program key s id j new (stored_next t (head_in new) m.0)) (sym at)
+            (next_stores s r id m.0 k t new l small has),
+        (refl, ap (λ c. stored_next c (head_in new) m.0) (sym e)),
+      ))
+
+  pub push_allowed : (slots id : ℕ) (m : SeatMe B) (p t i old new cells cell : ℕ) (behind : Head) → p < key.cells
+      → t < key.cells → i ≡ head_at p → cells ≡ key.cells → cell ≡ p → head_in old ≡ behind → new ≡ suc t
+      → HasPushBehind t p behind m.0 → behind ≢ Shut
+      → Allows (Rule program key) slots id m i (λ n. either (eqb n old) new n)
+      (push_exchange program cells cell (step slots i old new none) m)
+  push_allowed slots id m p t i old new cells cell behind lp lt at f e is_old is_new has unshut s r homes k small =
+      exchanged (word s.words i) old new (λ n. Acts program key s id m i n Then) hit miss
+    where
+      Then : SeatMe B → Type 0
+      Then = push_exchange program cells cell (step slots i old new none) m (word s.words i)
+
+      hit : word s.words i ≡ old → Acts program key s id m i new Then
+      hit z = (
+        pushed t m.0,
+        keeps,
+        tt,
+        rule_stores program key s r id i new (pushed t m.0) stores,
+        (
+          refl,
+          subst (λ j. word s.words j ≤ shut_word) (sym at) (head_word_small s r id m.0 k p lp),
+          (λ q. let less : t ≡ new - 1 = omega (arith, is_new) in ap (λ x. pushed x m.0) less),
+          (λ n q. absurd (n z)),
+          (λ n q. absurd (n z)),
+        ),
+      )
+        where
+          now : head_in (word s.words (head_at p)) ≡ behind
+          now = ap (λ j. head_in (word s.words j)) (sym at) ∙ (ap head_in z ∙ is_old)
+
+          stores : Stores program key s id i new (pushed t m.0)
+          stores = subst (λ j. Stores program key s id j new (pushed t m.0)) (sym at)
+              (subst (λ n. Stores program key s id (head_at p) n (pushed t m.0)) (sym is_new)
+              (push_stores s r id m.0 k t p lt lp (subst (λ h. HasPushBehind t p h m.0) (sym now) has)
+              (λ q. unshut (sym now ∙ q))))
+
+      miss : word s.words i ≢ old → Acts program key s id m i (word s.words i) Then
+      miss n = let h = head_allowed program key slots id m p i cells cell lp at f e s r homes k small in
+          (h.0, h.1, h.2, h.3, (h.4.0, h.4.1, (λ q. absurd (n q)), (λ z q. h.4.2 q), (λ z q. h.4.3 q)))
+
+  pub shut_allowed : (slots id : ℕ) (m : SeatMe B) (p i new cells c : ℕ) → p < key.cells → i ≡ head_at p
+      → cells ≡ key.cells → c ≡ p → new ≡ shut_word → KnowsEntry p m.0 → m.0.rest ≡ None → IsBacked m.0
+      → Allows (Rule program key) slots id m i (λ n. new) (shut_swap cells c (step slots i new 0 none) m)
+  shut_allowed slots id m p i new cells c lp at f e is knows free back =
+      step_allowed program key slots id m i (λ n. new) (shut_swap cells c (step slots i new 0 none) m)
+      (λ s r k. subst (λ j. Goes s j new cells c) (sym at) (subst (λ x. Goes s (head_at p) x cells c) (sym is)
+      (subst (λ n. Goes s (head_at p) shut_word n c) (sym f)
+      (subst (Goes s (head_at p) shut_word key.cells) (sym e)
+      (shut_swaps s r id m.0 k slots p new m.1 lp knows free back)))))
+    where
+      Goes : State (Option (Rec B)) (View B) → ℕ → ℕ → ℕ → ℕ → Type 0
+      Goes s j x n d = (w : View B) × Stores program key s id j x w
+          × shut_swap n d (step slots i new 0 none) m (word s.words j) (w, m.1)

@@ -1,0 +1,299 @@
+-- The steps on LIVE and the store of STOP keep the rule.
+use Rattle.std.proofs.Common.{◌≡◌, ℕ, suc, ◌+◌, ◌-◌, ◌%◌, ◌<◌, ◌≤◌, ◌^◌, Bool, List, [], ◌∷◌, length, set}
+use Rattle.std.proofs.Common.{Option, Some, None, refl, sym, ap, ◌∙◌, subst, inl, inr, arith}
+use mathlib.Core.Option.{some, none}
+use lib.ListN.{get_elem?}
+use Rattle.atomic_table.specs.Table.{State, step, Allows}
+use Rattle.atomic_table.proofs.Lists.{at_map}
+use Rattle.tj_body.specs.Programs.{Program}
+use Rattle.tj_words.specs.declared.record.Rec.{Rec}
+use Rattle.tj_words.specs.declared.table.Key.{Key}
+use Rattle.tj_words.specs.declared.view.View.{View}
+use Rattle.tj_words.specs.Words.Offsets.{word, live_at, stop_at}
+use Rattle.tj_words.specs.LawParts.Contents.{SeatsHave, words_say, seats_have, contents_of}
+use Rattle.tj_words.specs.Law.{Law, Rule, IsSeat}
+use Rattle.tj_words.specs.Calls.LiveViews.{SlotsOf, came_home, without_task, raised_with, lowered_with, live_raised}
+use Rattle.tj_words.specs.Calls.LiveViews.{live_lowered, LaysChild, Shelves, MayRaiseLive, MayLowerLive, live_add}
+use Rattle.tj_words.specs.Calls.LiveViews.{live_sub}
+use Rattle.tj_words.specs.Calls.LiveViews.{now_home, stop_store}
+use Rattle.tj_words.specs.SeatViews.SeatSteps.{SeatMe}
+use Rattle.tj_words.specs.SeatViews.Views.{stepped_on}
+use Rattle.tj_words.proofs.Stores.SeatContents.{set_seats, seats_same}
+use Rattle.tj_words.proofs.Stores.StoreSteps.{say_stop, may_stop, Stores, step_allowed}
+use Rattle.tj_words.proofs.Waiters.StopSteps.{law_stops}
+use Rattle.tj_words.proofs.Meaning.MeaningSteps.{refused_above}
+use Rattle.atomic_table.specs.Table.{keeps}
+use Rattle.atomic_table.proofs.Lists.{set_else}
+use Rattle.tj_words.specs.declared.phase.Phase.{Phase}
+use Rattle.tj_words.specs.declared.phase.Phase.TheVariants as phase
+use Rattle.tj_words.specs.declared.phase.Walk.TheVariants as walk
+use Rattle.tj_words.specs.declared.view.Custody.{Custody}
+use Rattle.tj_words.specs.declared.view.Does.TheVariants as does
+use Rattle.tj_words.specs.Words.Lists.{cell}
+use Rattle.tj_words.specs.LawParts.Holding.{Slots, phase_of}
+use Rattle.tj_words.specs.LawParts.LiveCount.{IsBacked, Backing, LiveCount}
+use Rattle.tj_words.specs.Calls.ParkSteps.{with_tokens}
+use Rattle.tj_words.specs.SeatViews.TaskLists.{hold, let_go}
+use Rattle.tj_words.specs.LawParts.Contents.{Contents}
+use Rattle.tj_words.specs.Steps.StepEvents.{IsHeldWith}
+use Rattle.tj_words.proofs.Stores.StoreSteps.{say_live, may_count, rule_stores}
+use Rattle.tj_words.proofs.Stores.SlotStores.{StoresWith, Acts}
+use Rattle.tj_words.proofs.Stores.GivenSlots.{acts_giving}
+use Rattle.tj_words.proofs.SeatLoads.LoadSteps.{live_small}
+use Rattle.tj_words.proofs.Waiters.LiveStores.{live_some, live_up_stores, live_down_stores}
+use Rattle.tj_words.proofs.Waiters.LiveSteps.{count_up, count_down, backed_lively, backing_token}
+use Rattle.tj_words.proofs.Holders.TaskPlaces.{custody}
+use Rattle.tj_words.proofs.Holders.HeldChanges.{held_task}
+use Rattle.tj_words.proofs.Holders.NotedTasks.{noted_is, holder_lot}
+use Rattle.tj_words.proofs.Events.StepFacts.{facts_same}
+use Rattle.tj_words.proofs.Events.QuietMoves.{shelve_shown}
+use Rattle.tj_words.proofs.Holders.LaidRecords.{tokens_at, tasks_at, hand_at, laid_slots, as_many, lies, cells_there}
+use Rattle.tj_words.proofs.Holders.LaidRecords.{task_there, meant, fits, departs_laid}
+use Rattle.tj_words.proofs.Phases.Departures.{Departs, after_leaving, does_leave, law_leaves}
+use Rattle.tj_words.proofs.Holders.LeftSeats.{left_seat}
+use Rattle.tj_words.proofs.Phases.HomeComings.{law_home}
+
+module _ {B : Type 0} (program : Bool → B → Program B) (key : Key B) where
+  abbrev P : Program B
+  P = program key.strict key.root.value
+
+  module _ (s : State (Option (Rec B)) (View B)) (r : Rule program key s) (id : ℕ) (v : View B)
+      (at : get_elem? s.views id ≡ some v) where
+    stop_stores : (w : ℕ) → w ≤ 2 → (w ≡ 1 → 0 < v.refused) → Stores program key s id stop_at w (stepped_on v)
+    stop_stores w small refused = let h = r.seats id v at in let l = h.within_lot in let b = h.backing in record {
+      inside = inside;
+      may = may_stop key.cells w small;
+      seat = record {
+        about = h.about;
+        within_lot = record {
+          least = l.least;
+          refused_fit = l.refused_fit;
+          tokens_fit = l.tokens_fit;
+          cleared_fit = l.cleared_fit;
+        };
+        backing = record { wakes = b.wakes; tags = b.tags; alarms = b.alarms };
+        known_born = h.known_born;
+      };
+      law = subst
+          (λ z. Law P key.cells record { words = words_say (set s.words stop_at w); slots = s.homes; seats = z })
+          (sym (seats_same s.views id v at))
+          (subst (λ z. Law P key.cells record { words = z; slots = s.homes; seats = seats_have s.views })
+          (sym (say_stop s.words w inside)) (law_stops P key.cells (contents_of s) r.law w
+          (λ e. refused_above key.cells (contents_of s).words.count (contents_of s).seats.lots
+          (contents_of s).seats.refused r.law.lots id v.refused (at_map (λ (u : View B). u.refused) s.views id v at)
+          (refused e))));
+    }
+      where
+        inside : stop_at < length s.words
+        inside = let e = r.all_words in omega arith
+
+  pub stop_allowed : (slots id : ℕ) (m : SeatMe B) (w : ℕ) → w ≤ 2 → (w ≡ 1 → 0 < m.0.refused)
+      → Allows (Rule program key) slots id m stop_at (λ n. w) (λ n. stop_store (step slots stop_at w 0 none) m w)
+  stop_allowed slots id m w small refused = step_allowed program key slots id m stop_at (λ n. w)
+      (λ n. stop_store (step slots stop_at w 0 none) m w)
+      (λ s r at. (stepped_on m.0, stop_stores s r id m.0 at w small refused, refl))
+
+  -- a step on LIVE that leaves the seat with the view w, where the record of t comes home or not
+  module _ (s : State (Option (Rec B)) (View B)) (r : Rule program key s) (id : ℕ) (v : View B)
+      (at : get_elem? s.views id ≡ some v) where
+    abbrev old : SeatsHave B
+    old = seats_have s.views
+
+    abbrev x : Contents B
+    x = contents_of s
+
+    live_inside : live_at < length s.words
+    live_inside = let e = r.all_words in omega arith
+
+    -- LIVE, the tokens, the tasks and the slots change
+    live_changes : (live tokens : ℕ) (tasks : List (Custody B)) (slots : Slots B) → length slots ≡ length s.homes
+        → IsSeat key (record v { steps = suc v.steps; tokens = tokens; tasks = tasks })
+        → Law P key.cells record {
+          words = record (words_say s.words) { live = live };
+          slots = slots;
+          seats = record old { tokens = set old.tokens id tokens; tasks = set old.tasks id tasks };
+        }
+        → StoresWith program key s slots id live_at live
+        (record v { steps = suc v.steps; tokens = tokens; tasks = tasks })
+    live_changes live tokens tasks slots many seat law = record {
+      inside = live_inside;
+      as_many = many;
+      may = may_count key.cells live_at live (omega arith);
+      seat = seat;
+      law = subst (λ z. Law P key.cells record {
+        words = z;
+        slots = slots;
+        seats = set_seats old id (record v { steps = suc v.steps; tokens = tokens; tasks = tasks });
+      }) (sym (say_live s.words live live_inside))
+          (subst (λ z. Law P key.cells record {
+            words = record (words_say s.words) { live = live };
+            slots = slots;
+            seats = z;
+          }) (sym (ap (λ (y : SeatsHave B). record y {
+            tokens = set old.tokens id tokens;
+            tasks = set old.tasks id tasks;
+          }) (seats_same s.views id v at))) law);
+    }
+
+    -- LIVE up, where the record of an unborn task comes home
+    module _ (mine : SlotsOf B) (t : ℕ) (c : Rec B) (h : LaysChild program t c (v, mine)) where
+      abbrev k : Custody B
+      k = h.custody
+
+      abbrev has : IsHeldWith x id t k
+      has = (v.tasks, tasks_at program key s r id t v at, h.held)
+
+      abbrev home_slots : Slots B
+      home_slots = laid_slots program key s r id t v at mine k h.held c h.puts h.no_hand
+
+      up_law : IsBacked v → Law P key.cells record {
+        words = record (words_say s.words) { live = suc (word s.words live_at) };
+        slots = home_slots;
+        seats = record old {
+          tokens = set old.tokens id (suc v.tokens);
+          tasks = set old.tasks id (hold (now_home c k) v.tasks);
+        };
+      }
+      up_law b = law_home r.law id t k has (held_task v.tasks t k h.held) h.unborn c home_slots
+          (lies program key s r id t v at mine k h.held c h.puts h.no_hand)
+          (λ u m. set_else s.homes t u (some (Some c)) m)
+          (suc (word s.words live_at)) (set old.tokens id (suc v.tokens))
+          (λ g e. h.no_hand g (hand_at program key s r id t v at g e))
+          (cells_there program key s r id t v at mine k h.held c h.puts h.no_hand)
+          (task_there program key s r id t v at mine k h.held c h.puts h.no_hand) h.puts.cell h.puts.owned h.puts.made
+          (count_up r.law.live_count id v.tokens (tokens_at program key s r id t v at)
+          (live_some program key s r id v at (backed_lively v b)))
+          (fits program key s r id t v at mine k h.held c h.puts h.no_hand x.words.phase phase.Unborn was
+          (λ u m. refl) (h.unfinished, h.starts))
+          (meant program key s r id t v at mine k h.held c h.puts h.no_hand)
+        where
+          was : x.words.phase t ≡ phase.Unborn
+          was = (custody r.law id t k has).does ∙ ap phase_of h.unborn
+
+      abbrev up_view : View B
+      up_view = record v { steps = suc v.steps; tokens = suc v.tokens; tasks = hold (now_home c k) v.tasks }
+
+      up_stores : IsBacked v → v.tokens < v.lot
+          → StoresWith program key s (set s.homes t (some (Some c))) id live_at (suc (word s.words live_at))
+          (came_home t c (with_tokens (suc v.tokens) v))
+      up_stores b room = subst (StoresWith program key s home_slots id live_at (suc (word s.words live_at)))
+          (ap (λ l. record v { steps = suc v.steps; tokens = suc v.tokens; tasks = l })
+          (sym (noted_is v.tasks t k (now_home c) h.held)))
+          (live_changes (suc (word s.words live_at)) (suc v.tokens) (hold (now_home c k) v.tasks) home_slots
+          (as_many program key s r id t v at mine k h.held c h.puts h.no_hand)
+          (let a = r.seats id v at in let l = a.within_lot in record {
+            about = a.about;
+            within_lot = record {
+              least = inr (holder_lot v t k h.held l);
+              refused_fit = l.refused_fit;
+              tokens_fit = room;
+              cleared_fit = l.cleared_fit;
+            };
+            backing = backing_token up_view (omega arith);
+            known_born = a.known_born;
+          }) (up_law b))
+
+    -- LIVE down, where the record of a task that has alarmed comes home
+    module _ (mine : SlotsOf B) (t : ℕ) (c : Rec B) (h : Shelves program t c (v, mine)) where
+      abbrev a : Custody B
+      a = h.custody
+
+      abbrev has_alarmed : IsHeldWith x id t a
+      has_alarmed = (v.tasks, tasks_at program key s r id t v at, h.held)
+
+      abbrev alarm : Phase
+      alarm = phase.Waiting (cell h.cell) h.way walk.Alarmed
+
+      waits : x.words.phase t ≡ alarm
+      waits = (custody r.law id t a has_alarmed).does ∙ ap phase_of h.alarmed
+
+      abbrev shelf : Slots B
+      shelf = laid_slots program key s r id t v at mine a h.held c h.puts h.no_hand
+
+      abbrev departs : Departs r.law id t x.words.phase alarm shelf
+      departs = departs_laid program key s r id t v at mine a h.held c h.puts h.no_hand x.words.phase alarm waits
+          (λ u m. refl) refl (λ d way w e. (w, waits ∙ e)) (λ o y l. inr l)
+
+      module _ (token : 0 < v.tokens) where
+        abbrev lower : ℕ
+        lower = word s.words live_at - 1
+
+        abbrev fewer : ℕ
+        fewer = v.tokens - 1
+
+        abbrev after_shelf : Contents B
+        after_shelf = after_leaving r.law id t x.words.phase alarm shelf departs lower (set old.tokens id fewer)
+            old.pushes
+
+        counted : LiveCount key.cells lower x.words.phase (set old.tokens id fewer) old.rested
+        counted = (count_down r.law.live_count id fewer
+            (tokens_at program key s r id t v at ∙ ap some (let g = token in omega arith))).1
+
+        shelf_law : Law P key.cells after_shelf
+        shelf_law = law_leaves r.law id t x.words.phase alarm shelf departs lower (set old.tokens id fewer) old.pushes
+            r.law.chains counted
+            (fits program key s r id t v at mine a h.held c h.puts h.no_hand x.words.phase alarm waits (λ u m. refl)
+            (h.unfinished, h.waits))
+            (meant program key s r id t v at mine a h.held c h.puts h.no_hand)
+            (facts_same key.cells r.law.born r.law.maker x after_shelf
+            (shelve_shown r.law after_shelf id t h.cell h.way h.walker record {
+              leaves = does_leave r.law id t x.words.phase alarm shelf departs lower (set old.tokens id fewer)
+                  old.pushes (does.Alarmed h.cell h.way h.walker) h.alarmed;
+              keeps = record { others = refl; cleared = refl };
+            }) r.law.facts)
+
+        shelf_stores : Backing (without_task t (with_tokens fewer v))
+            → StoresWith program key s (set s.homes t (some (Some c))) id live_at lower
+            (without_task t (with_tokens fewer v))
+        shelf_stores backs = live_changes lower fewer (let_go t v.tasks) shelf
+            (as_many program key s r id t v at mine a h.held c h.puts h.no_hand)
+            (left_seat program key s r id t v at fewer a h.held
+            (let f = (r.seats id v at).within_lot.tokens_fit in omega arith) backs) shelf_law
+
+    -- a step on LIVE alone
+    plain : (n : ℕ) (w : View B) (F : SeatMe B → Type 0) (mine : SlotsOf B) → Stores program key s id live_at n w
+        → F (w, mine) → Acts program key s id (v, mine) live_at n F
+    plain n w F mine h f = (w, keeps, tt, rule_stores program key s r id live_at n w h, f)
+
+    up_acts : (mine : SlotsOf B) → MayRaiseLive program (v, mine)
+        → Acts program key s id (v, mine) live_at (suc (word s.words live_at)) (λ m'. m' ≡ raised_with v mine)
+    up_acts [] may = plain (suc (word s.words live_at)) (with_tokens (suc v.tokens) v) (λ m'. m' ≡ raised_with v []) []
+        (live_up_stores program key s r id v at may.backed may.room) refl
+    up_acts ((t, None) ∷ mine) may = plain (suc (word s.words live_at)) (with_tokens (suc v.tokens) v)
+        (λ m'. m' ≡ raised_with v ((t, None) ∷ mine)) ((t, None) ∷ mine)
+        (live_up_stores program key s r id v at may.backed may.room) refl
+    up_acts ((t, Some c) ∷ mine) may = acts_giving program key s r id (v, (t, Some c) ∷ mine) live_at
+        (suc (word s.words live_at)) (λ m'. m' ≡ raised_with v ((t, Some c) ∷ mine))
+        (came_home t c (with_tokens (suc v.tokens) v)) t (Some c) refl
+        (up_stores ((t, Some c) ∷ mine) t c may.lays may.backed may.room) refl
+
+    down_acts : (mine : SlotsOf B) → MayLowerLive program (v, mine)
+        → Acts program key s id (v, mine) live_at (word s.words live_at - 1) (λ m'. m' ≡ lowered_with v mine)
+    down_acts [] may = plain (word s.words live_at - 1) (with_tokens (v.tokens - 1) v) (λ m'. m' ≡ lowered_with v []) []
+        (live_down_stores program key s r id v at (v.tokens - 1) (let g = may.token in omega arith) may.backing).1 refl
+    down_acts ((t, None) ∷ mine) may = plain (word s.words live_at - 1) (with_tokens (v.tokens - 1) v)
+        (λ m'. m' ≡ lowered_with v ((t, None) ∷ mine)) ((t, None) ∷ mine)
+        (live_down_stores program key s r id v at (v.tokens - 1) (let g = may.token in omega arith) may.backing).1 refl
+    down_acts ((t, Some c) ∷ mine) may = acts_giving program key s r id (v, (t, Some c) ∷ mine) live_at
+        (word s.words live_at - 1) (λ m'. m' ≡ lowered_with v ((t, Some c) ∷ mine))
+        (without_task t (with_tokens (v.tokens - 1) v)) t (Some c) refl
+        (shelf_stores ((t, Some c) ∷ mine) t c may.shelves may.token may.backing) refl
+
+  -- the add to LIVE
+  pub up_allowed : (slots id : ℕ) (m : SeatMe B) → MayRaiseLive program m
+      → Allows (Rule program key) slots id m live_at (λ n. (n + 1) % 2 ^ 64)
+      (live_add (step slots live_at 1 0 none) m)
+  up_allowed slots id m may s r many at small =
+      let l = live_small program key s r in
+      let same : suc (word s.words live_at) ≡ (word s.words live_at + 1) % 2 ^ 64 = omega arith in
+      subst (λ n. Acts program key s id m live_at n (λ m'. m' ≡ live_raised m)) same (up_acts s r id m.0 at m.1 may)
+
+  -- the subtraction from LIVE
+  pub down_allowed : (slots id : ℕ) (m : SeatMe B) → MayLowerLive program m
+      → Allows (Rule program key) slots id m live_at (λ n. (n + (2 ^ 64 - 1)) % 2 ^ 64)
+      (live_sub (step slots live_at 1 0 none) m)
+  down_allowed slots id m may s r many at small =
+      let l = live_small program key s r in
+      let some_live = live_some program key s r id m.0 at (inl may.token) in
+      let same : word s.words live_at - 1 ≡ (word s.words live_at + (2 ^ 64 - 1)) % 2 ^ 64 = omega arith in
+      subst (λ n. Acts program key s id m live_at n (λ m'. m' ≡ live_lowered m)) same (down_acts s r id m.0 at m.1 may)

@@ -1,0 +1,286 @@
+-- The live count is kept by the changes of PHASE and by the steps on LIVE; and where a seat has loaded LIVE as 0,
+-- nobody waits for a cell of which something has become.
+use Rattle.std.proofs.Common.{◌≡◌, ◌≢◌, ◌⊎◌, ℕ, zero, suc, ◌+◌, ◌-◌, ◌<◌, ◌≤◌, Bool, true, List, [], ◌∷◌, map, set}
+use Rattle.std.proofs.Common.{Option, Some, None, refl, sym, ap, ◌∙◌, subst, ⊎_elim, inl, inr, arith}
+use mathlib.Core.Option.{some, some-injective, some-ne-none}
+use mathlib.Core.Logic.{dite}
+use native.Mathlib.Decide.{ℕ_discrete, dec_le}
+use lib.ListN.{get_elem?}
+use Rattle.atomic_table.specs.Table.{State}
+use Rattle.atomic_table.proofs.Lists.{at_map}
+use Rattle.tj_base.specs.Puts.{put}
+use Rattle.tj_body.specs.Programs.{Program}
+use Rattle.tj_words.specs.declared.head.Head.{Head}
+use Rattle.tj_words.specs.declared.head.Head.TheVariants.{Shut}
+use Rattle.tj_words.specs.declared.offsets.Once.TheVariants as once
+use Rattle.tj_words.specs.declared.phase.Phase.{Phase}
+use Rattle.tj_words.specs.declared.record.Rec.{Rec}
+use Rattle.tj_words.specs.declared.table.Key.{Key}
+use Rattle.tj_words.specs.declared.view.Hand.{Hand}
+use Rattle.tj_words.specs.declared.view.Does.{Does}
+use Rattle.tj_words.specs.declared.view.Does.TheVariants as does
+use Rattle.tj_words.specs.declared.view.Custody.{Custody}
+use Rattle.tj_words.specs.declared.view.Due.{Due}
+use Rattle.tj_words.specs.declared.view.Rest.{Rest}
+use Rattle.tj_words.specs.declared.view.View.{View}
+use Rattle.tj_words.specs.Words.Lists.{Each, Any, total}
+use Rattle.tj_words.specs.LawParts.Holding.{phase_of, Slots, held_in}
+use Rattle.tj_words.specs.LawParts.Custodies.{Custodies}
+use Rattle.tj_words.specs.LawParts.Chains.{IsParkedOn, Chains}
+use Rattle.tj_words.specs.LawParts.LiveCount.{live_part, live_tasks, LiveCount, DoesRun, DoesWalk, HasAlarmed, Holds}
+use Rattle.tj_words.specs.LawParts.LiveCount.{IsBacked}
+use Rattle.tj_words.specs.LawParts.LiveCount.{IsLively, HasWakeToCome, Backing}
+use Rattle.tj_words.specs.LawParts.Contents.{contents_of}
+use Rattle.tj_words.specs.Law.{Rule}
+use Rattle.tj_words.proofs.Stores.StoreSteps.{put_here, put_else}
+use Rattle.tj_words.proofs.Stores.SeatLists.{each_set}
+use Rattle.tj_words.proofs.Seating.Splitting.{total_set}
+use Rattle.tj_words.proofs.Waiters.ChainLists.{no_some, none_or}
+use Rattle.tj_words.proofs.Waiters.ChainFacts.{not_empty}
+use Rattle.tj_words.proofs.Waiters.ChainsSaid.{shut_or}
+
+-- how many live tasks there are, where the phases are the same, and where one changes
+live_same : (phase phase' : ℕ → Phase) (n : ℕ) → ((u : ℕ) → u < n → phase' u ≡ phase u)
+    → live_tasks phase' n ≡ live_tasks phase n
+live_same phase phase' zero s = refl
+live_same phase phase' (suc n) s =
+    let a : live_part (phase' n) ≡ live_part (phase n) = ap live_part (s n (omega arith)) in
+    let b = live_same phase phase' n (λ u h. s u (omega arith)) in omega arith
+
+live_set : (phase phase' : ℕ → Phase) (t n : ℕ) → ((u : ℕ) → u ≢ t → phase' u ≡ phase u) → t < n
+    → live_tasks phase' n + live_part (phase t) ≡ live_tasks phase n + live_part (phase' t)
+live_set phase phase' t zero s h = absurd (omega arith)
+live_set phase phase' t (suc n) s h = dite (ℕ_discrete t n)
+    (λ e. let b = live_same phase phase' n (λ u k. s u (λ z. omega arith)) in
+    let c : live_part (phase t) ≡ live_part (phase n) = ap (λ u. live_part (phase u)) e in
+    let d : live_part (phase' t) ≡ live_part (phase' n) = ap (λ u. live_part (phase' u)) e in omega arith)
+    (λ e. let a : live_part (phase' n) ≡ live_part (phase n) = ap live_part (s n (λ z. e (sym z))) in
+    let b = live_set phase phase' t n s (omega arith) in omega arith)
+
+live_some : (phase : ℕ → Phase) (t n : ℕ) → t < n → live_part (phase t) ≤ live_tasks phase n
+live_some phase t zero h = absurd (omega arith)
+live_some phase t (suc n) h = dite (ℕ_discrete t n)
+    (λ e. let c : live_part (phase t) ≡ live_part (phase n) = ap (λ u. live_part (phase u)) e in omega arith)
+    (λ e. let b = live_some phase t n (omega arith) in omega arith)
+
+total_some : (l : List ℕ) (i a : ℕ) → get_elem? l i ≡ some a → a ≤ total l
+total_some [] i a e = absurd (some-ne-none a (sym e))
+total_some (x ∷ xs) zero a e = let q : x ≡ a = some-injective x a e in omega arith
+total_some (x ∷ xs) (suc i) a e = let h = total_some xs i a e in omega arith
+
+module _ {cells live : ℕ} {phase : ℕ → Phase} {tokens : List ℕ} {rested : List Bool}
+    (c : LiveCount cells live phase tokens rested) where
+  -- any change of the phase of a task, whose tokens make it even
+  pub count_turned : (t : ℕ) (w : Phase) (id k k' : ℕ) → t < cells → get_elem? tokens id ≡ some k
+      → live_part w + k' ≡ live_part (phase t) + k
+      → LiveCount cells live (put phase t w) (set tokens id k') rested
+  count_turned t w id k k' small at even = let a = c.counted in let s = total_set tokens id k k' at in
+      let p = live_set phase (put phase t w) t cells (λ u n. put_else phase t u w n) small in
+      let h = ap live_part (put_here phase t t w refl) in
+      record { counted = (omega arith); stays_at_rest = c.stays_at_rest }
+
+  -- one that counts no more and no less
+  pub count_same : (t : ℕ) (w : Phase) → t < cells → live_part w ≡ live_part (phase t)
+      → LiveCount cells live (put phase t w) tokens rested
+  count_same t w small even = let a = c.counted in
+      let p = live_set phase (put phase t w) t cells (λ u n. put_else phase t u w n) small in
+      let h = ap live_part (put_here phase t t w refl) in
+      record { counted = (omega arith); stays_at_rest = c.stays_at_rest }
+
+  -- LIVE up: a token more, while something is live
+  pub count_up : (id k : ℕ) → get_elem? tokens id ≡ some k → 0 < live
+      → LiveCount cells (suc live) phase (set tokens id (suc k)) rested
+  count_up id k at some_live = let a = c.counted in let s = total_set tokens id k (suc k) at in record {
+    counted = (omega arith);
+    stays_at_rest = λ j b e q. let z = c.stays_at_rest j b e q in absurd (omega arith);
+  }
+
+  -- LIVE down: a token less
+  pub count_down : (id k : ℕ) → get_elem? tokens id ≡ some (suc k)
+      → (0 < live) × LiveCount cells (live - 1) phase (set tokens id k) rested
+  count_down id k at = let a = c.counted in let s = total_set tokens id (suc k) k at in
+      let t = total_some tokens id (suc k) at in (
+        (omega arith),
+        record {
+          counted = (omega arith);
+          stays_at_rest = λ j b e q. let z = c.stays_at_rest j b e q in absurd (omega arith);
+        },
+      )
+
+  -- LIVE is loaded as 0
+  pub count_rest : (id : ℕ) → live ≡ 0 → LiveCount cells live phase tokens (set rested id true)
+  count_rest id z = record {
+    counted = c.counted;
+    stays_at_rest = each_set (λ j b. b ≡ true → live ≡ 0) rested id true c.stays_at_rest (λ _. z);
+  }
+
+-- what a running or walking task counts
+running_part : (d : Does) → DoesRun d → live_part (phase_of d) ≡ 1
+running_part does.Unborn h = absurd h
+running_part does.Fresh h = refl
+running_part does.Running h = refl
+running_part does.Raised h = refl
+running_part (does.Walking c way w) h = absurd h
+running_part (does.Alarmed c way w) h = absurd h
+
+walking_part : (d : Does) → DoesWalk d → live_part (phase_of d) ≡ 1
+walking_part does.Unborn h = absurd h
+walking_part does.Fresh h = absurd h
+walking_part does.Running h = absurd h
+walking_part does.Raised h = absurd h
+walking_part (does.Walking c way w) h = refl
+walking_part (does.Alarmed c way w) h = absurd h
+
+module _ {B : Type 0} where
+  -- what a seat holds stands in these phases
+  abbrev pub HoldsInPhase : ℕ → (ℕ → Phase) → List (Custody B) → Type 0
+  HoldsInPhase cells phase ks = (t : ℕ) (k : Custody B) → held_in ks t ≡ Some k
+      → (t < cells) × (phase t ≡ phase_of k.does)
+
+  pub held_in_phase : {cells drawn : ℕ} {hand : ℕ → Option Hand} {phase : ℕ → Phase} {slots : Slots B}
+      {tasks : List (List (Custody B))} → Custodies cells drawn hand phase slots tasks → drawn ≤ cells
+      → Each (λ j ks. HoldsInPhase cells phase ks) tasks
+  held_in_phase {cells} {drawn} c few j ks at t k e = let h = c.held j ks at t k e in (
+    dite (dec_le drawn t) (λ (l : drawn ≤ t). no_some (c.undrawn_free t l) h.mine) (λ l. (omega arith)),
+    h.does,
+  )
+
+  -- a seat that has a token, or a task that runs or walks, shows that LIVE isn't 0
+  pub lively_live : {cells live : ℕ} {phase : ℕ → Phase} {tokens : List ℕ} {rested : List Bool}
+      → LiveCount cells live phase tokens rested → (id : ℕ) (v : View B) → get_elem? tokens id ≡ some v.tokens
+      → HoldsInPhase cells phase v.tasks → IsLively v → 0 < live
+  lively_live {cells} {live} {phase} {tokens} c id v at h l = let a = c.counted in ⊎_elim
+      (λ (t : 0 < v.tokens). let s = total_some tokens id v.tokens at in (omega arith))
+      (λ (w : Holds DoesRun v ⊎ Holds DoesWalk v). ⊎_elim
+      (λ (r : Holds DoesRun v). let f = h r.0 r.1 r.2 in let s = live_some phase r.0 cells f.0 in
+      let e : live_part (phase r.0) ≡ 1 = ap live_part f.1 ∙ running_part r.1.does r.3 in (omega arith))
+      (λ (r : Holds DoesWalk v). let f = h r.0 r.1 r.2 in let s = live_some phase r.0 cells f.0 in
+      let e : live_part (phase r.0) ≡ 1 = ap live_part f.1 ∙ walking_part r.1.does r.3 in (omega arith)) w) l
+
+  pub backed_lively : (v : View B) → IsBacked v → IsLively v
+  backed_lively v b = ⊎_elim (λ (t : 0 < v.tokens). inl t) (λ (r : Holds DoesRun v). inr (inl r)) b
+
+  -- Backing of a view that has a token
+  pub backing_token : (v : View B) → 0 < v.tokens → Backing v
+  backing_token v h = record { wakes = λ _. inl h; tags = λ _. inl h; alarms = λ _. h }
+
+  -- of one that holds a running task
+  pub backing_running : (v : View B) → Holds DoesRun v → (Holds HasAlarmed v → 0 < v.tokens) → Backing v
+  backing_running v r a = record { wakes = λ _. inr r; tags = λ _. inr (inl r); alarms = a }
+
+  -- of one that holds a walking task
+  pub backing_walking : (v : View B) → Holds DoesWalk v → (HasWakeToCome v → IsBacked v)
+      → (Holds HasAlarmed v → 0 < v.tokens) → Backing v
+  backing_walking v r b a = record { wakes = b; tags = λ _. inr (inr r); alarms = a }
+
+  -- of one that has no wake and no TAG to come
+  pub backing_idle : (v : View B) → v.pushes ≡ [] → v.shuts ≡ [] → v.rest ≡ None
+      → ¬ Any (λ (d : Due). d.word ≡ once.Tag) v.dues → (Holds HasAlarmed v → 0 < v.tokens) → Backing v
+  backing_idle v p s r d a = record {
+    wakes = λ h. absurd (⊎_elim (λ (n : v.pushes ≢ []). n p)
+        (λ (h' : (v.shuts ≢ []) ⊎ ((x : Rest) × (v.rest ≡ Some x))).
+        ⊎_elim (λ (n : v.shuts ≢ []). n s) (λ (x : (x : Rest) × (v.rest ≡ Some x)). no_some r x.1) h') h);
+    tags = λ t. absurd (d t);
+    alarms = a;
+  }
+
+  -- a step after which the seat holds what it held
+  module _ (v w : View B) (same_tokens : w.tokens ≡ v.tokens) (same_tasks : w.tasks ≡ v.tasks) where
+    holds_same : (F : Does → Type 0) → Holds F v → Holds F w
+    holds_same F h = (h.0, h.1, ap (λ l. held_in l h.0) same_tasks ∙ h.2, h.3)
+
+    holds_back : (F : Does → Type 0) → Holds F w → Holds F v
+    holds_back F h = (h.0, h.1, ap (λ l. held_in l h.0) (sym same_tasks) ∙ h.2, h.3)
+
+    token_same : 0 < v.tokens → 0 < w.tokens
+    token_same h = subst (λ n. 0 < n) (sym same_tokens) h
+
+    pub backed_same : IsBacked v → IsBacked w
+    backed_same b = ⊎_elim (λ (t : 0 < v.tokens). inl (token_same t))
+        (λ (r : Holds DoesRun v). inr (holds_same DoesRun r)) b
+
+    pub lively_same : IsLively v → IsLively w
+    lively_same b = ⊎_elim (λ (t : 0 < v.tokens). inl (token_same t))
+        (λ (r : Holds DoesRun v ⊎ Holds DoesWalk v). inr (⊎_elim (λ (k : Holds DoesRun v). inl (holds_same DoesRun k))
+        (λ (k : Holds DoesWalk v). inr (holds_same DoesWalk k)) r)) b
+
+    -- and has no more to come
+    pub backing_less : (HasWakeToCome w → HasWakeToCome v)
+        → (Any (λ (d : Due). d.word ≡ once.Tag) w.dues → Any (λ (d : Due). d.word ≡ once.Tag) v.dues)
+        → Backing v
+        → Backing w
+    backing_less wakes tags b = record {
+      wakes = λ h. backed_same (b.wakes (wakes h));
+      tags = λ h. lively_same (b.tags (tags h));
+      alarms = λ h. token_same (b.alarms (holds_back HasAlarmed h));
+    }
+
+    -- or has whatever to come, where it was backed
+    pub backing_backed : IsBacked v → Backing v → Backing w
+    backing_backed h b = record {
+      wakes = λ _. backed_same h;
+      tags = λ _. lively_same (backed_lively v h);
+      alarms = λ a. token_same (b.alarms (holds_back HasAlarmed a));
+    }
+
+  -- what is so of alarmed tasks, where one task's entry changes to one that hasn't alarmed
+  pub alarms_else : (v w : View B) (t : ℕ) → w.tokens ≡ v.tokens
+      → ((u : ℕ) → u ≢ t → held_in w.tasks u ≡ held_in v.tasks u)
+      → ((k : Custody B) → held_in w.tasks t ≡ Some k → ¬ HasAlarmed k.does) → Backing v → Holds HasAlarmed w
+      → 0 < w.tokens
+  alarms_else v w t e else here b a = dite (ℕ_discrete a.0 t)
+      (λ q. absurd (here a.1 (subst (λ u. held_in w.tasks u ≡ Some a.1) q a.2) a.3))
+      (λ n. subst (λ m. 0 < m) (sym e) (b.alarms (a.0, a.1, sym (else a.0 n) ∙ a.2, a.3)))
+
+-- what a field of some view is
+field_of : {A C : Type 0} (f : A → C) (l : List A) (i : ℕ) (b : C) → get_elem? (map f l) i ≡ some b
+    → (a : A) × (get_elem? l i ≡ some a) × (f a ≡ b)
+field_of f [] i b e = absurd (some-ne-none b (sym e))
+field_of f (x ∷ xs) zero b e = (x, refl, some-injective (f x) b e)
+field_of f (x ∷ xs) (suc i) b e = field_of f xs i b e
+
+module _ {B : Type 0} (cells live : ℕ) (tag : ℕ → ℕ) (head next : ℕ → Head) (phase : ℕ → Phase) (views : List (View B))
+    (c : Chains tag head next phase (map (λ (v : View B). v.pushes) views) (map (λ (v : View B). v.shuts) views)
+    (map (λ (v : View B). v.rest) views) (map (λ (v : View B). v.closed) views)
+    (map (λ (v : View B). v.found) views))
+    (l : LiveCount cells live phase (map (λ (v : View B). v.tokens) views) (map (λ (v : View B). v.rested) views))
+    (holds : Each (λ j (v : View B). HoldsInPhase cells phase v.tasks) views)
+    (backs : Each (λ j (v : View B). Backing v) views) where
+  -- LIVE isn't 0 while a seat has a wake to come
+  wake_live : (j : ℕ) (v : View B) → get_elem? views j ≡ some v → HasWakeToCome v → 0 < live
+  wake_live j v at h = lively_live l j v (at_map (λ (u : View B). u.tokens) views j v at) (holds j v at)
+      (backed_lively v ((backs j v at).wakes h))
+
+  -- where a seat has loaded LIVE as 0, no task is left that is parked on a cell of which something has become
+  pub none_left : (id : ℕ) (v : View B) → get_elem? views id ≡ some v → v.rested ≡ true → (t p : ℕ)
+      → IsParkedOn (phase t) p → tag p ≡ 0
+  none_left id v at rested t p waits =
+      let at_rest : live ≡ 0 = l.stays_at_rest id v.rested (at_map (λ (u : View B). u.rested) views id v at) rested in
+      let idle : (j : ℕ) (u : View B) → get_elem? views j ≡ some u → ¬ HasWakeToCome u
+      = λ j u e h. let q = wake_live j u e h in (omega arith) in
+      dite (ℕ_discrete (tag p) 0) (λ e. e) (λ n. absurd (⊎_elim
+      (λ (s : head p ≡ Shut). ⊎_elim
+      (λ (e : c.pusher t ≡ None). let g = c.resting p s (not_empty (c.line p) t (c.placed p t waits e)) in
+      let a = field_of (λ (u : View B). u.rest) views (c.taker p) g.0 g.1 in
+      idle (c.taker p) a.0 a.1 (inr (inr (g.2.0, a.2 ∙ g.2.1))))
+      (λ (k : (j : ℕ) × (c.pusher t ≡ Some j)). let g = c.pushing t k.0 k.1 in
+      let a = field_of (λ (u : View B). u.pushes) views k.0 g.0 g.1 in
+      idle k.0 a.0 a.1 (inl (λ z. not_empty g.0 g.2.0 g.2.1 (sym a.2 ∙ z))))
+      (none_or (c.pusher t)))
+      (λ (s : head p ≢ Shut). let g = c.due p n s in
+      let a = field_of (λ (u : View B). u.shuts) views (c.shutter p) g.0 g.1 in
+      idle (c.shutter p) a.0 a.1 (inr (inl (λ z. not_empty g.0 p g.2 (sym a.2 ∙ z)))))
+      (shut_or (head p))))
+
+-- so it is under the rule of a table
+pub none_left_waiting : {B : Type 0} (program : Bool → B → Program B) (key : Key B)
+    (s : State (Option (Rec B)) (View B)) (r : Rule program key s) (id : ℕ) (v : View B)
+    → get_elem? s.views id ≡ some v → v.rested ≡ true → (t p : ℕ)
+    → IsParkedOn ((contents_of s).words.phase t) p
+    → (contents_of s).words.once p once.Tag ≡ 0
+none_left_waiting {B} program key s r id v at rested t p waits =
+    none_left key.cells (contents_of s).words.live (λ c. (contents_of s).words.once c once.Tag)
+    (contents_of s).words.head (contents_of s).words.next (contents_of s).words.phase s.views r.law.chains
+    r.law.live_count
+    (λ j u e. held_in_phase r.law.custody (omega arith) j u.tasks (at_map (λ (w : View B). w.tasks) s.views j u e))
+    (λ j u e. (r.seats j u e).backing) id v at rested t p waits

@@ -1,0 +1,78 @@
+-- The steps on LIVE keep the rule.
+use Rattle.std.proofs.Common.{◌≡◌, ℕ, suc, ◌-◌, ◌<◌, ◌≤◌, Bool, length, Option, set, sym, ap, ◌∙◌}
+use Rattle.std.proofs.Common.{subst, arith}
+use mathlib.Core.Option.{some}
+use lib.ListN.{get_elem?}
+use Rattle.atomic_table.specs.Table.{State}
+use Rattle.atomic_table.proofs.Lists.{at_map}
+use Rattle.tj_body.specs.Programs.{Program}
+use Rattle.tj_words.specs.declared.record.Rec.{Rec}
+use Rattle.tj_words.specs.declared.table.Key.{Key}
+use Rattle.tj_words.specs.declared.view.View.{View}
+use Rattle.tj_words.specs.Words.Offsets.{word, live_at}
+use Rattle.tj_words.specs.LawParts.LiveCount.{LiveCount, IsBacked, IsLively, Backing}
+use Rattle.tj_words.specs.LawParts.Contents.{SeatsHave, words_say, seats_have}
+use Rattle.tj_words.specs.Law.{Law, Rule}
+use Rattle.tj_words.specs.Calls.ParkSteps.{with_tokens}
+use Rattle.tj_words.proofs.Stores.SeatContents.{set_seats, seats_same}
+use Rattle.tj_words.proofs.Stores.StoreSteps.{say_live, may_count, Stores}
+use Rattle.tj_words.proofs.Waiters.LiveSteps.{count_up, count_down, held_in_phase, lively_live, backed_lively}
+use Rattle.tj_words.proofs.Waiters.LiveSteps.{backing_token}
+use Rattle.tj_words.proofs.Stores.LawChanges.{law_live}
+
+module _ {B : Type 0} (program : Bool → B → Program B) (key : Key B) (s : State (Option (Rec B)) (View B))
+    (r : Rule program key s) (id : ℕ) (v : View B) (at : get_elem? s.views id ≡ some v) where
+  abbrev P : Program B
+  P = program key.strict key.root.value
+
+  abbrev old : SeatsHave B
+  old = seats_have s.views
+
+  tokens_at : get_elem? old.tokens id ≡ some v.tokens
+  tokens_at = at_map (λ (u : View B). u.tokens) s.views id v at
+
+  -- a seat that has a token, or a task that runs or walks, knows that LIVE isn't 0
+  pub live_some : IsLively v → 0 < word s.words live_at
+  live_some h = lively_live r.law.live_count id v tokens_at
+      (held_in_phase r.law.custody (omega arith) id v.tasks (at_map (λ (u : View B). u.tasks) s.views id v at)) h
+
+  module _ (n k : ℕ) (fits : k ≤ v.lot) (backs : Backing (with_tokens k v))
+      (count : LiveCount key.cells n (words_say s.words).phase (set old.tokens id k) old.rested) where
+    inside : live_at < length s.words
+    inside = let w = r.all_words in omega arith
+
+    path : set_seats old id (with_tokens k v) ≡ record old { tokens = set old.tokens id k }
+    path = ap (λ (y : SeatsHave B). record y { tokens = set old.tokens id k }) (seats_same s.views id v at)
+
+    live_stores : Stores program key s id live_at n (with_tokens k v)
+    live_stores = let h = r.seats id v at in let l = h.within_lot in record {
+      inside = inside;
+      may = may_count key.cells live_at n (omega arith);
+      seat = record {
+        about = h.about;
+        within_lot =
+            record { least = l.least; refused_fit = l.refused_fit; tokens_fit = fits; cleared_fit = l.cleared_fit };
+        backing = backs;
+        known_born = h.known_born;
+      };
+      law = subst
+          (λ z. Law P key.cells record { words = words_say (set s.words live_at n); slots = s.homes; seats = z })
+          (sym path)
+          (subst (λ z. Law P key.cells
+          record { words = z; slots = s.homes; seats = record old { tokens = set old.tokens id k } })
+          (sym (say_live s.words n inside)) (law_live r.law n (set old.tokens id k) count));
+    }
+
+  -- LIVE up, by a seat that has a token or a running task
+  pub live_up_stores : IsBacked v → suc v.tokens ≤ v.lot
+      → Stores program key s id live_at (suc (word s.words live_at)) (with_tokens (suc v.tokens) v)
+  live_up_stores b fits = live_stores (suc (word s.words live_at)) (suc v.tokens) fits
+      (backing_token (with_tokens (suc v.tokens) v) (omega arith))
+      (count_up r.law.live_count id v.tokens tokens_at (live_some (backed_lively v b)))
+
+  -- LIVE down, by a seat that has a token, and that is as it has to be without it
+  pub live_down_stores : (k : ℕ) → v.tokens ≡ suc k → Backing (with_tokens k v)
+      → (0 < word s.words live_at) × Stores program key s id live_at (word s.words live_at - 1) (with_tokens k v)
+  live_down_stores k e b = let l = (r.seats id v at).within_lot in let f = l.tokens_fit in
+      let c = count_down r.law.live_count id k (tokens_at ∙ ap some e) in
+      (c.0, live_stores (word s.words live_at - 1) k (omega arith) b c.1)

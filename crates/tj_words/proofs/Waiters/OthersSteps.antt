@@ -1,0 +1,209 @@
+-- The add to OTHERS and the subtraction from it keep the rule.
+use Rattle.std.proofs.Common.{◌≡◌, ℕ, suc, ◌+◌, ◌-◌, ◌%◌, ◌<◌, ◌^◌, Bool, List, set, length, Option, refl, sym}
+use Rattle.std.proofs.Common.{ap, subst, arith}
+use mathlib.Core.Option.{some, none}
+use lib.ListN.{get_elem?}
+use Rattle.atomic_table.specs.Table.{State, step, Allows}
+use Rattle.atomic_table.proofs.Lists.{at_map}
+use Rattle.tj_body.specs.Programs.{Program}
+use Rattle.tj_core.specs.Laws.{EventKeepsFacts}
+use Rattle.tj_core.specs.WalkLaws.{OthersAreFew}
+use Rattle.tj_words.specs.declared.record.Rec.{Rec}
+use Rattle.tj_words.specs.declared.table.Key.{Key}
+use Rattle.tj_words.specs.declared.view.Does.{Does}
+use Rattle.tj_words.specs.declared.view.Does.TheVariants as does
+use Rattle.tj_words.specs.declared.view.Custody.{Custody}
+use Rattle.tj_words.specs.declared.view.View.{View}
+use Rattle.tj_body.specs.Points.{IsIn}
+use Rattle.tj_words.specs.Words.Lists.{total}
+use Rattle.tj_words.specs.LawParts.Holding.{phase_of}
+use Rattle.tj_words.specs.LawParts.LiveCount.{DoesWalk}
+use Rattle.tj_words.specs.LawParts.Contents.{SeatsHave, Contents, words_say, seats_have}
+use Rattle.tj_words.specs.Law.{Law, Rule, IsSeat}
+use Rattle.tj_words.specs.Words.Offsets.{word, count_at, live_at, others_at, stop_at, own_at, phase_at, once_at}
+use Rattle.tj_words.specs.Words.Offsets.{head_at, next_at}
+use Rattle.tj_words.specs.Words.Owners.{owner_in}
+use Rattle.tj_words.specs.Words.Phases.{phase_in}
+use Rattle.tj_words.specs.Words.Heads.{head_in}
+use Rattle.tj_words.specs.SeatViews.SeatSteps.{SeatMe}
+use Rattle.tj_words.specs.Steps.ShownParts.{parts_of}
+use Rattle.tj_words.specs.Steps.StepEvents.{MayAct, IsHeldWith}
+use Rattle.tj_words.specs.Calls.WalkViews.{turned, lowered, MayRaise, others_add, others_subtraction}
+use Rattle.tj_words.proofs.Stores.LawChanges.{law_counts}
+use Rattle.tj_words.proofs.Stores.SeatContents.{set_seats, seats_same}
+use Rattle.tj_words.proofs.Stores.SeatLists.{word_else, word_here}
+use Rattle.tj_words.proofs.Seating.Splitting.{total_set}
+use Rattle.tj_words.proofs.Events.StepFacts.{facts_after}
+use Rattle.tj_words.proofs.Stores.StoreSteps.{once_low, may_count, Stores, step_allowed}
+use Rattle.tj_words.proofs.Events.WaitClears.{lower_shown}
+use Rattle.tj_words.proofs.Events.WalkEvents.{raise_shown}
+use Rattle.tj_words.proofs.SeatLoads.WalkLoads.{turned_seat, turned_seats, held_by_view, others_small}
+use Rattle.tj_words.proofs.SeatLoads.WalkReads.{doing, turned_to, task_turned, law_turned}
+
+-- what the words say after a store of OTHERS
+pub say_others : (ws : List ℕ) (n : ℕ) → others_at < length ws
+    → words_say (set ws others_at n) ≡ record (words_say ws) { others = n }
+say_others ws n l j = record {
+  count = word_else ws others_at count_at n (λ e. omega arith) j;
+  live = word_else ws others_at live_at n (λ e. omega arith) j;
+  others = word_here ws others_at n l j;
+  stop = word_else ws others_at stop_at n (λ e. omega arith) j;
+  own = λ c. owner_in (word_else ws others_at (own_at c) n (λ e. omega arith) j);
+  phase = λ c. phase_in (word_else ws others_at (phase_at c) n (λ e. omega arith) j);
+  once = λ c f. word_else ws others_at (once_at c f) n (once_low c others_at f (omega arith)) j;
+  head = λ c. head_in (word_else ws others_at (head_at c) n (λ e. omega arith) j);
+  next = λ c. head_in (word_else ws others_at (next_at c) n (λ e. omega arith) j);
+}
+
+-- a task that may act runs
+pub acting_phase : (d : Does) → MayAct d → phase_of does.Raised ≡ phase_of d
+acting_phase does.Unborn m = absurd m
+acting_phase does.Fresh m = refl
+acting_phase does.Running m = refl
+acting_phase does.Raised m = absurd m
+acting_phase (does.Walking p way w) m = absurd m
+acting_phase (does.Alarmed p way w) m = absurd m
+
+module _ {B : Type 0} {program : Program B} {cells : ℕ} {x : Contents B} (event_keeps : EventKeepsFacts)
+    (r : Law program cells x) where
+  -- the law after a task of a seat has raised OTHERS
+  pub law_raises : (id t : ℕ) (k : Custody B) (h : IsHeldWith x id t k) → MayAct k.does → IsIn t k.owned
+      → Law program cells (turned_to x id t k h does.Raised (suc x.words.others))
+  law_raises id t k h acts result = law_turned r id t k h does.Raised same (suc x.words.others) (λ a. a)
+      (λ c i. absurd i) (facts_after event_keeps (raise_shown r y id t k.does record {
+        turns = record {
+          turns = record {
+            before_it = k;
+            after_it = doing does.Raised k;
+            held = h;
+            did = refl;
+            now = refl;
+            turned = task_turned r id t k h does.Raised same (suc x.words.others);
+          };
+          result = result;
+        };
+        may = acts;
+        others = refl;
+        cleared = refl;
+      }) r.facts)
+    where
+      same : phase_of does.Raised ≡ phase_of k.does
+      same = acting_phase k.does acts
+
+      y : Contents B
+      y = turned_to x id t k h does.Raised (suc x.words.others)
+
+  -- the contents where OTHERS is lowered, and a seat has a wait less to lower it for
+  abbrev pub lowered_to : List ℕ → Contents B
+  lowered_to cleared = record x {
+    words = record x.words { others = x.words.others - 1 };
+    seats = record x.seats { cleared = cleared };
+  }
+
+  -- the law after the subtraction from OTHERS
+  pub law_lowers : (cleared : List ℕ) → total x.seats.cleared ≡ suc (total cleared)
+      → Law program cells (lowered_to cleared)
+  law_lowers cleared e = law_counts r (x.words.others - 1) x.words.stop cleared r.meaning
+      (facts_after event_keeps (lower_shown r (lowered_to cleared) record {
+        some = omega (arith, e);
+        same = λ j. record (parts_of cells x) { others = x.words.others - 1; cleared = less j };
+      }) r.facts)
+    where
+      less : total cleared ≡ total x.seats.cleared - 1
+      less = omega (arith, e)
+
+module _ {B : Type 0} (program : Bool → B → Program B) (key : Key B) (event_keeps : EventKeepsFacts)
+    (few : OthersAreFew) (s : State (Option (Rec B)) (View B)) (r : Rule program key s) (id : ℕ) (v : View B)
+    (at : get_elem? s.views id ≡ some v) where
+  abbrev P : Program B
+  P = program key.strict key.root.value
+
+  inside : others_at < length s.words
+  inside = let w = r.all_words in omega arith
+
+  -- a store of OTHERS
+  stores : (n : ℕ) (w : View B) (seats : SeatsHave B) → set_seats (seats_have s.views) id w ≡ seats → IsSeat key w
+      → Law P key.cells record { words = record (words_say s.words) { others = n }; slots = s.homes; seats = seats }
+      → Stores program key s id others_at n w
+  stores n w seats e q law = record {
+    inside = inside;
+    may = may_count key.cells others_at n (omega arith);
+    seat = q;
+    law = subst (λ z. Law P key.cells record {
+      words = words_say (set s.words others_at n);
+      slots = s.homes;
+      seats = z;
+    }) (sym e) (subst (λ z. Law P key.cells record { words = z; slots = s.homes; seats = seats })
+        (sym (say_others s.words n inside)) law);
+  }
+
+  -- the add, by a seat with a running task
+  pub raise_stores : (t : ℕ) → MayRaise t v
+      → Stores program key s id others_at (suc (word s.words others_at)) (turned t (λ _. does.Raised) v)
+  raise_stores t h = let n = suc (word s.words others_at) in let k = h.task in
+      stores n (turned t (λ _. does.Raised) v) _
+      (turned_seats program key s id t (λ _. does.Raised) v at k h.held does.Raised refl)
+      (turned_seat t (λ _. does.Raised) v k h.held key does.Raised refl (λ a. tt) (λ a. walks k.does h.acts a) (λ a. a)
+      (r.seats id v at))
+      (law_raises event_keeps r.law id t k (held_by_view program key s id t v at k h.held) h.acts h.result)
+    where
+      walks : (d : Does) → MayAct d → DoesWalk d → ⊥
+      walks does.Unborn m a = a
+      walks does.Fresh m a = a
+      walks does.Running m a = a
+      walks does.Raised m a = a
+      walks (does.Walking p way w) m a = m
+      walks (does.Alarmed p way w) m a = a
+
+  -- the subtraction, by a seat with a wait cleared and not yet lowered
+  pub lower_stores : 0 < v.cleared
+      → (0 < word s.words others_at) × Stores program key s id others_at (word s.words others_at - 1) (lowered v)
+  lower_stores some_left = let old = seats_have s.views in
+      let t = total_set old.cleared id v.cleared (v.cleared - 1) (at_map (λ (u : View B). u.cleared) s.views id v at) in
+      let less : total old.cleared ≡ suc (total (set old.cleared id (v.cleared - 1))) = omega (arith, t, some_left) in
+      let c = r.law.facts.others_count in let q = r.seats id v at in let l = q.within_lot in let f = l.cleared_fit in (
+        omega (arith, c, less),
+        stores (word s.words others_at - 1) (lowered v) _
+            (ap (λ (z : SeatsHave B). record z { cleared = set old.cleared id (v.cleared - 1) })
+            (seats_same s.views id v at))
+            record {
+              about = q.about;
+              within_lot = record {
+                least = l.least;
+                refused_fit = l.refused_fit;
+                tokens_fit = l.tokens_fit;
+                cleared_fit = omega (arith, f);
+              };
+              backing = record { wakes = q.backing.wakes; tags = q.backing.tags; alarms = q.backing.alarms };
+              known_born = q.known_born;
+            }
+            (law_lowers event_keeps r.law (set old.cleared id (v.cleared - 1)) less),
+      )
+
+module _ {B : Type 0} (program : Bool → B → Program B) (key : Key B) (event_keeps : EventKeepsFacts)
+    (few : OthersAreFew) (slots id : ℕ) (m : SeatMe B) where
+  pub raise_allowed : (t task : ℕ) → task ≡ t → MayRaise t m.0
+      → Allows (Rule program key) slots id m others_at (λ n. (n + 1) % 2 ^ 64)
+      (others_add task (step slots others_at 1 0 none) m)
+  raise_allowed t task e h = step_allowed program key slots id m others_at (λ n. (n + 1) % 2 ^ 64)
+      (others_add task (step slots others_at 1 0 none) m) (λ s r at.
+      let n = word s.words others_at in let small = others_small program key few s r in
+      let up : suc n ≡ (n + 1) % 2 ^ 64 = omega (arith, small) in (
+        turned t (λ _. does.Raised) m.0,
+        subst (λ z. Stores program key s id others_at z (turned t (λ _. does.Raised) m.0)) up
+            (raise_stores program key event_keeps few s r id m.0 at t h),
+        (refl, ap (λ z. turned z (λ _. does.Raised) m.0) (sym e)),
+      ))
+
+  pub lower_allowed : 0 < m.0.cleared
+      → Allows (Rule program key) slots id m others_at (λ n. (n + (2 ^ 64 - 1)) % 2 ^ 64)
+      (others_subtraction (step slots others_at 1 0 none) m)
+  lower_allowed h = step_allowed program key slots id m others_at (λ n. (n + (2 ^ 64 - 1)) % 2 ^ 64)
+      (others_subtraction (step slots others_at 1 0 none) m) (λ s r at.
+      let n = word s.words others_at in let small = others_small program key few s r in
+      let l = lower_stores program key event_keeps few s r id m.0 at h in let some_left = l.0 in
+      let down : n - 1 ≡ (n + (2 ^ 64 - 1)) % 2 ^ 64 = omega (arith, small, some_left) in (
+        lowered m.0,
+        subst (λ z. Stores program key s id others_at z (lowered m.0)) down l.1,
+        (refl, refl),
+      ))

@@ -1,0 +1,7 @@
+-- That the step calls are such steps, and runs of them.
+pub mod CallSteps
+pub mod EventCalls
+pub mod TaskCalls
+pub mod OwnerCalls
+pub mod StepCalls
+pub mod RestedRuns

@@ -1,0 +1,46 @@
+-- What the step calls say of their seat, and what each step tells.
+use Rattle.std.specs.Prelude.{◌≡◌, ◌≢◌, ℕ, ◌<◌, ◌^◌, min, Option}
+use Rattle.atomic_table.specs.Table.{Me, Step}
+use Rattle.atomic_table.specs.declared.shared.Seat.{Seat}
+use Rattle.tj_words.specs.declared.record.Rec.{Rec}
+use Rattle.tj_words.specs.declared.table.Laid.{Laid}
+use Rattle.tj_words.specs.declared.view.View.{View}
+use Rattle.tj_words.specs.SeatViews.Views.{loaded_plain, saw_live, saw_rest, stepped_on}
+
+-- a seat with the slots that it has
+abbrev pub SeatMe : Type 0 → Type 0
+SeatMe B = Me (Option (Rec B)) (View B)
+
+-- what a step may tell: of the step, the seat before, the number found and the seat after
+abbrev pub Tells : Type 0 → Type 1
+Tells B = Step (Option (Rec B)) → SeatMe B → ℕ → SeatMe B → Type 0
+
+module _ {B : Type 0} where
+  -- a seat of this table
+  abbrev pub IsSeatOf : Laid B → Seat (Option (Rec B)) (View B) → Type 0
+  IsSeatOf laid seat = seat.table_id ≡ laid.table.shared.table_id
+
+  -- a cell of this table
+  abbrev pub IsCellOf : Laid B → ℕ → Type 0
+  IsCellOf laid c = c < laid.cells
+
+  -- the seat is still the same seat of the same table, with the same slots
+  abbrev pub IsSameSeat : Seat (Option (Rec B)) (View B) → Seat (Option (Rec B)) (View B) → Type 0
+  IsSameSeat old new = (new.table_id ≡ old.table_id) × (new.id ≡ old.id) × (new.me.1 ≡ old.me.1)
+
+  -- a load that is no event, which tells of the number found that it may stand there
+  abbrev pub plain_load : (ℕ → Type 0) → Tells B
+  plain_load May st m n m' = (m'.1 ≡ m.1) × (m'.0 ≡ loaded_plain m.0) × May n
+
+  -- the load of LIVE
+  abbrev pub live_load : Tells B
+  live_load st m n m' = (m'.1 ≡ m.1) × (n ≡ 0 → m'.0 ≡ saw_rest m.0) × (n ≢ 0 → m'.0 ≡ saw_live n m.0)
+      × (n < 2 ^ 32)
+
+  -- a load that tells the view nothing
+  abbrev pub simple_load : (ℕ → Type 0) → Tells B
+  simple_load May st m n m' = (m'.1 ≡ m.1) × (m'.0 ≡ stepped_on m.0) × May n
+
+-- some cells are drawn
+abbrev pub IsCount : ℕ → ℕ → Type 0
+IsCount cells n = 0 < min n cells

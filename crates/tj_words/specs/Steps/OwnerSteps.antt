@@ -1,0 +1,112 @@
+-- The stores of OWN and the draws, by what they need and what they change of all by which the core state is shown.
+use Rattle.std.specs.Prelude.{◌≡◌, ◌≢◌, ℕ, suc, ◌<◌, List, Some, None}
+use mathlib.Core.Option.{some}
+use lib.ListN.{get_elem?}
+use Rattle.tj_base.specs.ForkOrder.{child}
+use Rattle.tj_base.specs.declared.cell.Sort.{Sort}
+use Rattle.tj_base.specs.declared.cell.Sort.TheVariants as sort
+use Rattle.tj_body.specs.Points.{IsIn}
+use Rattle.tj_body.specs.declared.point.Reference.{Reference}
+use Rattle.tj_core.specs.declared.event.Event.{Event}
+use Rattle.tj_core.specs.declared.event.Event.TheVariants.{Make, Fork}
+use Rattle.tj_words.specs.declared.offsets.Once.TheVariants as once
+use Rattle.tj_words.specs.declared.phase.Phase.TheVariants as phase
+use Rattle.tj_words.specs.declared.view.Hand.{Hand}
+use Rattle.tj_words.specs.declared.view.Does.TheVariants as does
+use Rattle.tj_words.specs.declared.view.Custody.{Custody}
+use Rattle.tj_words.specs.Words.Lists.{cell}
+use Rattle.tj_words.specs.LawParts.Hands.{making}
+use Rattle.tj_words.specs.LawParts.ShownState.{first_owner, reference_of}
+use Rattle.tj_words.specs.LawParts.Contents.{Contents, drawn_in, held_of, home_of}
+use Rattle.tj_words.specs.LawParts.Holding.{made_by}
+use Rattle.tj_words.specs.Steps.ShownParts.{parts_of, IsSameButOwner, IsDrawn, IsGivenOwner}
+use Rattle.tj_words.specs.Steps.StepEvents.{MayAct, IsHeldWith}
+use Rattle.tj_words.specs.Steps.WalkSteps.{KeepsOthers}
+
+-- the cells that there are, one more drawn: its name is its maker's and the number of things made so far, and one
+abbrev pub next_reference : List Reference → ℕ → ℕ → Sort → Reference
+next_reference born t made sort = record { name = child (reference_of born t).name (suc made); sort = sort }
+
+-- the event of a draw of this sort by t
+abbrev pub draw_event : Sort → ℕ → Event
+draw_event sort.Promise t = Make (cell t)
+draw_event sort.Task t = Fork (cell t)
+
+module _ {B : Type 0} (cells : ℕ) (x y : Contents B) (id t : ℕ) where
+  -- seat id holds t, which runs, has its result and may act; it is running from now on
+  pub record ActsOn : Type 0 where
+    pub before_it : Custody B
+    pub after_it : Custody B
+    pub held : IsHeldWith x id t before_it
+    pub may : MayAct before_it.does
+    pub result : IsIn t before_it.owned
+    pub held_now : held_of y t ≡ Some after_it
+    pub runs : after_it.does ≡ does.Running
+    pub made : after_it.made ≡ before_it.made
+
+  -- the store of c into the OWN of p, a promise that t owns: c is a child of t, as PARENT says, that is Unborn yet
+  pub record HandsPromise (p c : ℕ) : Type 0 where
+    pub acts : ActsOn
+    pub owned : IsIn p acts.before_it.owned
+    pub promise : x.words.phase p ≡ phase.Promise
+    pub child_before : Custody B
+    pub child_after : Custody B
+    pub child_held : IsHeldWith x id c child_before
+    pub unborn : child_before.does ≡ does.Unborn
+    pub its_result : IsIn c child_before.owned
+    pub its_parent : x.words.once c once.Parent ≡ suc t
+    pub other : c ≢ t
+    pub child_now : held_of y c ≡ Some child_after
+    pub still_unborn : child_after.does ≡ does.Unborn
+    pub child_made : child_after.made ≡ child_before.made
+    pub owns : y.words.own p ≡ Some c
+    pub same : IsSameButOwner p t c (parts_of cells x) (parts_of cells y)
+    pub keeps : KeepsOthers cells x y
+
+  -- the store of nobody into the OWN of p, a promise that t owns
+  pub record ClosesPromise (p : ℕ) : Type 0 where
+    pub acts : ActsOn
+    pub owned : IsIn p acts.before_it.owned
+    pub promise : x.words.phase p ≡ phase.Promise
+    pub free : y.words.own p ≡ None
+    pub same : IsSameButOwner p t t (parts_of cells x) (parts_of cells y)
+    pub keeps : KeepsOthers cells x y
+
+  -- the store of nobody into the OWN of t, which owns nothing else
+  pub record ClosesResult : Type 0 where
+    pub acts : ActsOn
+    pub alone : (c : ℕ) → IsIn c acts.before_it.owned → c ≡ t
+    pub no_hand : get_elem? x.seats.hands id ≡ some None
+    pub free : y.words.own t ≡ None
+    pub same : IsSameButOwner t t t (parts_of cells x) (parts_of cells y)
+    pub keeps : KeepsOthers cells x y
+
+  -- the draw of a cell of this sort by t, where fewer than all cells are drawn
+  pub record DrawsCell (h : Hand) : Type 0 where
+    pub acts : ActsOn
+    pub no_hand : get_elem? x.seats.hands id ≡ some None
+    pub left : x.words.count < cells
+    pub hand_maker : h.maker ≡ t
+    pub hand_cell : h.cell ≡ drawn_in cells x
+    pub making : making y.seats.hands t ≡ 1
+    pub new_held : (k : Custody B) → held_of y (drawn_in cells x) ≡ Some k → k.made ≡ 0
+    pub same : IsDrawn t h (parts_of cells x) (parts_of cells y)
+    pub keeps : KeepsOthers cells x y
+
+  -- the first store of OWN of cell c, in hand of seat id: its owner is the one that is shown already
+  pub record GivesOwner (c : ℕ) (h : Hand) : Type 0 where
+    pub in_hand : get_elem? x.seats.hands id ≡ some (Some h)
+    pub hand_maker : h.maker ≡ t
+    pub hand_cell : h.cell ≡ c
+    pub marked : h.sort ≡ sort.Promise → x.words.phase c ≡ phase.Promise
+    pub before_it : Custody B
+    pub after_it : Custody B
+    pub held : IsHeldWith x id t before_it
+    pub held_now : held_of y t ≡ Some after_it
+    pub does_same : after_it.does ≡ before_it.does
+    pub made : after_it.made ≡ suc before_it.made
+    pub not_making : making y.seats.hands t ≡ 0
+    pub owns : y.words.own c ≡ Some (first_owner h.sort t c)
+    pub new_made : made_by (held_of y c) (home_of y c) ≡ made_by (held_of x c) (home_of x c)
+    pub same : IsGivenOwner t c (parts_of cells x) (parts_of cells y)
+    pub keeps : KeepsOthers cells x y

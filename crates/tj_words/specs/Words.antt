@@ -1,0 +1,8 @@
+-- Which word is which, and what stands in it.
+pub mod Offsets
+pub mod Owners
+pub mod Phases
+pub mod Heads
+pub mod Values
+pub mod Codes
+pub mod Lists
