@@ -1,5 +1,8 @@
 //! Cells: the tasks and promises of a run.
 
+/// The most cells of a run.
+pub const MAX_CELLS: u32 = 16_384;
+
 /// The number of a cell, in the order in which a run draws them. The root task is cell 0.
 #[derive(Clone, Copy, Debug, PartialEq, Eq, PartialOrd, Ord, Hash)]
 pub struct CellId(pub u32);

@@ -15,11 +15,11 @@ mod text;
 mod value;
 
 pub use cause::{Cause, Trouble};
-pub use cell::{CellId, Sort};
+pub use cell::{CellId, MAX_CELLS, Sort};
 pub use items::{ByteList, CellList, Items, NameList, NumList, PlaceList};
 pub use memory::Oom;
 pub use name::Name;
 pub use order::{name_cmp, path_before};
 pub use step_count::Steps;
-pub use text::{add_number, add_signed};
+pub use text::{add_count, add_number, add_signed};
 pub use value::{Pay, Shown};

@@ -1,6 +1,7 @@
 //! Numbers in texts.
 ghost use Rattle.std.specs.Prelude.{◌≡◌, ◌++◌, IfOk, OnErr, decimal};
 ghost use Rattle.std.specs.Fmt.{signed_decimal};
+ghost use Rattle.tj_base.specs.Texts.{counted};
 
 use crate::memory::Oom;
 use itoa::Buffer;
@@ -23,4 +24,12 @@ pub fn add_signed(text: &mut Vec<u8>, number: i64) -> Result<(), Oom>
     let mut buffer = Buffer::new();
     text.extend_from_slice(buffer.format(number).as_bytes())?;
     Ok(())
+}
+
+/// Adds a word and a number in decimal.
+pub fn add_count(text: &mut Vec<u8>, word: &[u8], number: u128) -> Result<(), Oom>
+    ensures { IfOk result (λ _. text.new.items ≡ text.old.items ++ counted word.now number) }
+{
+    text.extend_from_slice(word)?;
+    add_number(text, number)
 }

@@ -21,9 +21,12 @@ use tj_base::{Oom, Pay, Trouble};
 use tj_body::{Answer, Ask, Body};
 use tj_syntax::{Decl, Expr, Script};
 
+/// The most statements that a task may be let begin.
+pub const MAX_STEPS: u32 = 1_000_000;
+
 /// The body of the script's task `main`, each of whose tasks makes at most so many statements.
 pub fn main_body<'s>(alloc: Global, script: &'s Script, steps: u32) -> Result<ScriptBody<'s>, Oom>
-    requires steps { (0 < steps) × (steps ≤ 1000000) }
+    requires steps { (0 < steps) × (steps ≤ MAX_STEPS) }
     requires script { (tokens : List Tok) × IsScript tokens (view.script script.now) }
     ensures main { IfOk result (IsMainBody (view.script script.now) steps) }
     ensures fresh { IfOk result (IsFresh script_places script_awaits script_left 1) }

@@ -19,5 +19,5 @@ mod transcripts;
 #[cfg(test)]
 mod wait_tests;
 
-pub use body::main_body;
+pub use body::{MAX_STEPS, main_body};
 pub use state::ScriptBody;

@@ -1,7 +1,7 @@
 -- The text of what is told of joins: a line for each, and a line of counts.
-use Rattle.std.specs.Prelude.{ℕ, Bool, true, false, List, ◌∷◌, [], ◌++◌, codes, decimal, length}
+use Rattle.std.specs.Prelude.{ℕ, Bool, true, false, List, ◌∷◌, [], ◌++◌, codes, length}
 use Rattle.std.specs.List.{count_by, flat_map}
-use Rattle.tj_base.specs.Texts.{name_text}
+use Rattle.tj_base.specs.Texts.{name_text, counted}
 use Rattle.tj_known.specs.declared.known.How.{How}
 use Rattle.tj_known.specs.declared.known.How.TheVariants as how
 use Rattle.tj_known.specs.declared.known.KnownLine.{KnownLine}
@@ -41,10 +41,6 @@ is_against how.Against = true
 -- how many joins pass a test
 abbrev pub count_with : (How → Bool) → List KnownLine → ℕ
 count_with test ks = count_by (λ (k : KnownLine). test k.how) ks
-
--- a word and a number
-abbrev pub counted : List ℕ → ℕ → List ℕ
-counted word n = word ++ decimal n
 
 -- the line of counts
 abbrev pub count_line : List KnownLine → List ℕ

@@ -1,10 +1,10 @@
 //! The text of what is told of joins: a line for each, and a line of counts.
-ghost use Rattle.std.specs.Prelude.{◌≡◌, ◌++◌, decimal, IfOk};
+ghost use Rattle.std.specs.Prelude.{◌≡◌, ◌++◌, IfOk};
 ghost use Rattle.tj_known.specs.KnownTexts as spec;
 
 use crate::known::{How, KnownLine, KnownList};
 use std::alloc::Global;
-use tj_base::{Oom, add_number};
+use tj_base::{Oom, add_count};
 
 /// How many joins there are of each kind.
 #[derive(Clone, Copy)]
@@ -55,20 +55,12 @@ fn add_counts(lines: &[KnownLine], text: &mut Vec<u8>) -> Result<(), Oom>
     ensures { IfOk result (λ _. text.new.items ≡ text.old.items ++ spec.count_line lines.now) }
 {
     let counts = count(lines);
-    add_count(b"joins ", lines.len() as u128, text)?;
-    add_count(b" known ", counts.known as u128, text)?;
-    add_count(b" along ", counts.along as u128, text)?;
-    add_count(b" against ", counts.against as u128, text)?;
+    add_count(text, b"joins ", lines.len() as u128)?;
+    add_count(text, b" known ", counts.known as u128)?;
+    add_count(text, b" along ", counts.along as u128)?;
+    add_count(text, b" against ", counts.against as u128)?;
     text.push(b'\n')?;
     Ok(())
-}
-
-/// Adds a word and a number.
-fn add_count(word: &[u8], count: u128, text: &mut Vec<u8>) -> Result<(), Oom>
-    ensures { IfOk result (λ _. text.new.items ≡ text.old.items ++ (word.now ++ decimal count)) }
-{
-    text.extend_from_slice(word)?;
-    add_number(text, count)
 }
 
 /// Counts the joins of each kind.

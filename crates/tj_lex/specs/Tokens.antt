@@ -2,6 +2,7 @@
 use Rattle.std.specs.Prelude.{ℕ, ◌-◌, ◌^◌, ◌≡◌, ◌≢◌, ◌<◌, ◌≤◌, ◌⊎◌, true, false, pos, List, [], ◌∷◌, ◌++◌, length, take, drop, take_while, Result, Ok, Err}
 use Rattle.std.specs.List.{prefix_len, slice_range}
 use Rattle.std.specs.Char.{is_ascii_digit}
+use Rattle.tj_lex.specs.declared.bytes.TheConstants.{MAX_NAME}
 use Rattle.tj_lex.specs.declared.place.Place.{Place}
 use Rattle.tj_lex.specs.declared.token.Token.{Token}
 use Rattle.tj_lex.specs.declared.token.Tok.{Tok}
@@ -31,7 +32,7 @@ greatest_number = 2 ^ 63 - 1
 
 -- the most bytes of a name
 abbrev pub longest_name : ℕ
-longest_name = 64
+longest_name = MAX_NAME
 
 -- the text begins with these bytes
 abbrev pub StartsWith : List ℕ → List ℕ → Type 0

@@ -3,6 +3,7 @@
 //! same assignment, and its acts are noted.
 ghost use Rattle.std.specs.Prelude.{◌≡◌, ◌<◌, ◌≤◌, ◌^◌, suc, false, map, IfOk, IfErr};
 ghost use Rattle.std.specs.List.Sorted.{IsPermutation};
+ghost use Rattle.tj_base.specs.declared.cell.TheConstants.{MAX_CELLS};
 ghost use Rattle.tj_body.specs.Asks.{IsFresh};
 ghost use Rattle.tj_body.specs.Laws.{AreDistinct};
 ghost use Rattle.tj_body.specs.Programs.{program_of};
@@ -27,7 +28,7 @@ use tj_body::{Body, Entry};
 /// order.
 pub fn acts<B: Body>(alloc: Global, root: &B, cells: u32) -> Result<ActLines, PlanFault>
     requires root { IsFresh B.places B.awaits B.left 1 root.now }
-    requires cells { (0 < cells) × (cells ≤ 16384) }
+    requires cells { (0 < cells) × (cells ≤ MAX_CELLS) }
 
     // `Full` comes exactly where the meaning needs more than `cells` cells.
     ensures fits { let p = program_of B.places B.awaits B.left B.asks B.then false root.now in

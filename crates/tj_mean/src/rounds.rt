@@ -3,6 +3,7 @@
 //! entry. Points and entries are those of rounds all the time, though no round is computed, and
 //! where no task can go on, what the tasks have come to is the meaning.
 ghost use Rattle.std.specs.Prelude.{◌≡◌, ◌<◌, ◌≤◌, IfOk, IfErr};
+ghost use Rattle.tj_base.specs.declared.cell.TheConstants.{MAX_CELLS};
 ghost use Rattle.tj_body.specs.Asks.{IsFresh};
 ghost use Rattle.tj_body.specs.Programs.{program_of};
 ghost use Rattle.tj_body.specs.Rounds as rounds;
@@ -32,7 +33,7 @@ pub fn plan<B: Body>(
     strict: bool,
 ) -> Result<Outcome, PlanFault>
     requires root { IsFresh B.places B.awaits B.left 1 root.now }
-    requires cells { (0 < cells) × (cells ≤ 16384) }
+    requires cells { (0 < cells) × (cells ≤ MAX_CELLS) }
 
     // `Full` comes exactly where the meaning needs more than `cells` cells.
     ensures fits { let p = program_of B.places B.awaits B.left B.asks B.then strict root.now in
@@ -70,7 +71,7 @@ pub fn settle<B: Body>(
     strict: bool,
 ) -> Result<Settled, PlanFault>
     requires root { IsFresh B.places B.awaits B.left 1 root.now }
-    requires cells { (0 < cells) × (cells ≤ 16384) }
+    requires cells { (0 < cells) × (cells ≤ MAX_CELLS) }
     ensures fits { let p = program_of B.places B.awaits B.left B.asks B.then strict root.now in
         IfOk result (λ _. ¬ rounds.IsFull p cells) }
     ensures full { let p = program_of B.places B.awaits B.left B.asks B.then strict root.now in

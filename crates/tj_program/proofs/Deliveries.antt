@@ -4,7 +4,8 @@ use Rattle.std.specs.declared.alloc.Global.{Global}
 use Rattle.std.specs.Io.KnownBytes.{Appends}
 use Rattle.tj_ports.specs.Faults.{HasFault, HasNoFault}
 use Rattle.tj_program.specs.CommandLine.{IsCommand}
-use Rattle.tj_program.specs.Delivery.{HasText, IsAnswered, IsOutputPart, IsPutAs, IsAnswerPut}
+use Rattle.tj_program.specs.Delivery.{HasText, IsAnswered, IsOutputPart, IsPutAs}
+use Rattle.tj_program.specs.Inner.ClosedOutputs.{IsAnswerPut}
 use Rattle.tj_program.specs.Judgings.{IsJudging}
 use Rattle.tj_program.specs.KnownRuns.{IsKnownOf, needs_more, tells}
 use Rattle.tj_program.specs.Output.{IsOutput, IsCommandOutput, IsKnown, IsListed, IsRefused, IsRun, of_command}

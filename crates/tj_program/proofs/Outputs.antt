@@ -23,7 +23,8 @@ use Rattle.tj_program.specs.Judgings.{IsJudging, IsJournalFault, too_long as jou
 use Rattle.tj_program.specs.Output.{IsCommandOutput, IsRefused, takes_input}
 use Rattle.tj_program.specs.declared.command.Command.{Command}
 use Rattle.tj_program.specs.Runs.{Start, IsStartOf, status_of, text_of, NeedsMore, IsOutcomeOf, IsRunOf, full, ended}
-use Rattle.tj_program.specs.ScriptTexts.{most_bytes, IsScriptOf, IsFirstFault, IsMemory, fault_line, too_long, in_tokens, in_grammar}
+use Rattle.tj_program.specs.ScriptTexts.{most_bytes, IsScriptOf, IsFirstFault, fault_line, too_long, in_tokens, in_grammar}
+use Rattle.tj_program.specs.Inner.ScriptRuns.{IsMemory}
 use Rattle.tj_program.specs.Texts.{journal_fault, full_line}
 use Rattle.tj_program.specs.declared.output.Output.{Output}
 use Rattle.tj_program.specs.declared.script_text.NoScript.{NoScript}

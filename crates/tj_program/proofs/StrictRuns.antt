@@ -5,6 +5,7 @@ use Rattle.tj_body.specs.Asks.{IsFresh}
 use Rattle.tj_body.specs.Programs.{rules_of}
 use Rattle.tj_body.specs.NeverWaits.{IsNoGet, IsWithoutGet}
 use Rattle.tj_body.specs.declared.ask.Answer.{Answer}
+use Rattle.tj_eval.specs.declared.body.TheConstants.{MAX_STEPS}
 use Rattle.tj_eval.specs.Bodies.{IsMainBody, script_places, script_awaits, script_left, script_asks, script_then}
 use Rattle.tj_eval.specs.Gets.{asks_no_get, AreWithoutGet}
 use Rattle.tj_eval.specs.Inner.Laws.{fresh-main}
@@ -29,7 +30,7 @@ use Rattle.tj_program.proofs.Lines.CommandLines.{within_limits}
 
 -- the body of a script's root has asked nothing yet
 pub fresh-root : (tokens : List Tok) (script : List Task) (steps : ℕ) (root : TaskState) → IsScript tokens script
-    → IsMainBody script steps root → steps ≤ 1000000
+    → IsMainBody script steps root → steps ≤ MAX_STEPS
     → IsFresh script_places script_awaits script_left 1 root
 fresh-root tokens script steps root is main few = subst (IsFresh script_places script_awaits script_left 1) (sym main.2)
     (fresh-main script steps main.0 (few-script tokens script is) (omega arith))
@@ -42,7 +43,7 @@ IsWithoutGet-script law strict b a calm fits = law b a calm
 
 -- of each script under limits that the program allows
 abbrev pub OfScripts : Type 0
-OfScripts = (limits : Limits) → limits.steps ≤ 1000000 → (input : List ℕ) (start : Start)
+OfScripts = (limits : Limits) → limits.steps ≤ MAX_STEPS → (input : List ℕ) (start : Start)
     → IsStartOfText limits input start → start.program.rules.strict ≡ true → (tokens : List Token)
     → AreTokens input tokens → AreWithoutGet (kinds_of tokens) → ¬ NeedsMore start → (outcome : Outcome)
     → IsOutcomeOf start outcome → HasNoWait outcome

@@ -6,6 +6,10 @@ use Rattle.std.specs.Option.{IsSomeAnd, option_map_or}
 use Rattle.std.specs.Str.{all_ascii_digits, bytes_eq}
 use Rattle.std.specs.Str.Parse.{digits_value}
 use Rattle.std.specs.declared.alloc.Global.{Global}
+use Rattle.tj_base.specs.declared.cell.TheConstants.{MAX_CELLS}
+use Rattle.tj_core.specs.declared.births.TheConstants.{MAX_CORE_CELLS}
+use Rattle.tj_eval.specs.declared.body.TheConstants.{MAX_STEPS}
+use Rattle.tj_gen.specs.declared.script.TheConstants.{MAX_SIZE}
 use Rattle.tj_program.specs.declared.command.Command.{Command}
 use Rattle.tj_program.specs.declared.command.Command.TheVariants as commands
 use Rattle.tj_program.specs.declared.mode.Mode.{Mode}
@@ -52,20 +56,20 @@ greatest modes.Run Workers = Some 64
 greatest modes.Gen Workers = Some 64
 greatest modes.Relay Workers = Some 64
 greatest modes.Watch Workers = Some 64
-greatest modes.Run Cells = Some 16384
-greatest modes.Plan Cells = Some 16384
-greatest modes.Judge Cells = Some 1024
-greatest modes.Gen Cells = Some 16384
+greatest modes.Run Cells = Some MAX_CELLS
+greatest modes.Plan Cells = Some MAX_CELLS
+greatest modes.Judge Cells = Some MAX_CORE_CELLS
+greatest modes.Gen Cells = Some MAX_CELLS
 greatest modes.Known Cells = Some 4096
-greatest modes.Relay Cells = Some 16384
-greatest modes.Watch Cells = Some 16384
-greatest modes.Run Steps = Some 1000000
-greatest modes.Plan Steps = Some 1000000
-greatest modes.Gen Steps = Some 1000000
-greatest modes.Known Steps = Some 1000000
-greatest modes.Watch Steps = Some 1000000
-greatest modes.Gen Size = Some 4000
-greatest modes.Relay Size = Some 4000
+greatest modes.Relay Cells = Some MAX_CELLS
+greatest modes.Watch Cells = Some MAX_CELLS
+greatest modes.Run Steps = Some MAX_STEPS
+greatest modes.Plan Steps = Some MAX_STEPS
+greatest modes.Gen Steps = Some MAX_STEPS
+greatest modes.Known Steps = Some MAX_STEPS
+greatest modes.Watch Steps = Some MAX_STEPS
+greatest modes.Gen Size = Some MAX_SIZE
+greatest modes.Relay Size = Some MAX_SIZE
 greatest _ _ = None
 
 -- what stands for an option that is absent

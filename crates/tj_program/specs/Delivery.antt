@@ -4,8 +4,7 @@ use Rattle.std.specs.Io.KnownBytes.{Appends}
 use Rattle.std.specs.declared.alloc.Global.{Global}
 use Rattle.tj_ports.specs.Faults.{HasFault}
 use Rattle.tj_ports.specs.Putting.{GrowsByPart}
-use Rattle.tj_program.specs.Output.{IsOutput, IsCommandOutput}
-use Rattle.tj_program.specs.declared.command.Command.{Command}
+use Rattle.tj_program.specs.Output.{IsOutput}
 use Rattle.tj_program.specs.declared.status.Status.{Status}
 use Rattle.tj_program.specs.declared.status.Status.TheVariants.{ReadFault, WriteFault, Memory}
 
@@ -34,10 +33,3 @@ IsPutAs HasRoom status text before after count_before count_after answer =
     ((answer ≡ status) × Appends before after text)
     ⊎ ((answer ≡ WriteFault) × GrowsByPart before after text × HasFault count_before count_after
     × ((room : ℕ) → HasRoom room → room < length text))
-
--- the output of a command was put, or the sink failed before its end
-abbrev pub IsAnswerPut : (HasRoom : ℕ → Type 0) → Command → List ℕ → Option (List ℕ) → Option (List ℕ) → ℕ → ℕ → Status
-    → Type 0
-IsAnswerPut HasRoom command input before after count_before count_after answer =
-    (status : Status) × (text : List ℕ) × IsCommandOutput command input status text
-    × IsPutAs HasRoom status text before after count_before count_after answer

@@ -5,3 +5,4 @@ pub mod LineWords
 pub mod Inputs
 pub mod ClosedOutputs
 pub mod WatchTells
+pub mod ScriptRuns

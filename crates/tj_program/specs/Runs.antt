@@ -1,5 +1,5 @@
 -- Runs of scripts: what a run begins with, and what it gives, which is that it is full, or its outcome as it is told.
-use Rattle.std.specs.Prelude.{ℕ, ◌≡◌, ◌<◌, ◌≤◌, Bool, true, false, List}
+use Rattle.std.specs.Prelude.{ℕ, ◌≡◌, Bool, true, false, List}
 use Rattle.tj_body.specs.Programs.{Program, program_of}
 use Rattle.tj_body.specs.Rounds.{IsFull, meaning}
 use Rattle.tj_eval.specs.Bodies.{IsMainBody, script_places, script_awaits, script_left, script_asks, script_then}
@@ -68,10 +68,3 @@ module _ {B : Type 0} where
     full : NeedsMore start → IsRunOf told start Full (full_line start.cells)
     ended : (outcome : Outcome) → ¬ NeedsMore start → IsOutcomeOf start outcome
         → IsRunOf told start (status_of (is_marked outcome)) (text_of told outcome)
-
--- the cells and the statements of a run are within the program's limits
-pub record AreLimits (limits : Limits) : Type 0 where
-  pub some_cells : 0 < limits.cells
-  pub few_cells : limits.cells ≤ 16384
-  pub some_steps : 0 < limits.steps
-  pub few_steps : limits.steps ≤ 1000000

@@ -28,10 +28,6 @@ pub record IsScriptOf (text : List ℕ) (script : List Task) : Type 0 where
   pub has_tokens : AreTokens text tokens
   pub is_script : IsScript (kinds_of tokens) script
 
--- some tokens are the script
-abbrev pub IsSomeScript : List Task → Type 0
-IsSomeScript script = (tokens : List Tok) × IsScript tokens script
-
 -- the line of a fault of the tokens, and none for want of memory
 abbrev pub token_fault : LexFault → List ℕ
 token_fault (lex.Byte at) = script_fault (codes "L1") at
@@ -69,9 +65,3 @@ fault_line (Grammar fault) = grammar_fault fault
 -- the line of the first fault
 abbrev pub IsFaultLine : (text : List ℕ) → List ℕ → Type 0
 IsFaultLine text line = (fault : NoScript) × IsFirstFault text fault × (line ≡ fault_line fault)
-
--- memory was wanting
-abbrev pub IsMemory : NoScript → Type 0
-IsMemory (Long at) = ⊥
-IsMemory (Tokens fault) = fault ≡ lex.Oom
-IsMemory (Grammar fault) = fault ≡ parse.Oom

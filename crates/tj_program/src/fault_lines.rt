@@ -1,6 +1,7 @@
 //! The lines that are written in place of a report: why an input is refused, or that it needs more
 //! cells.
 ghost use Rattle.std.specs.Prelude.{◌≡◌, ◌≢◌, IfOk};
+ghost use Rattle.tj_program.specs.Inner.ScriptRuns.{IsMemory};
 ghost use Rattle.tj_program.specs.ScriptTexts as script_texts;
 ghost use Rattle.tj_program.specs.Texts as texts;
 
@@ -17,7 +18,7 @@ pub const USAGE_LINE: &[u8] =
 /// The line of a script's fault. Want of memory has none.
 pub fn fault_line(alloc: Global, fault: NoScript) -> Result<Vec<u8>, Oom>
     ensures line { IfOk result (λ line. line.items ≡ script_texts.fault_line fault) }
-    ensures none { IfOk result (λ _. ¬ script_texts.IsMemory fault) }
+    ensures none { IfOk result (λ _. ¬ IsMemory fault) }
 {
     match fault {
         NoScript::Long(at) => script_fault(alloc, b"T1", at),

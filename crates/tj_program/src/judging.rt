@@ -1,5 +1,6 @@
 //! Judging a journal.
 ghost use Rattle.std.specs.Prelude.{◌≡◌, ◌<◌, ◌≤◌, ℕ, List, length, IfOk};
+ghost use Rattle.tj_core.specs.declared.births.TheConstants.{MAX_CORE_CELLS};
 ghost use Rattle.tj_ports.specs.Reading.{IsWithin};
 ghost use Rattle.tj_program.specs.ScriptTexts.{most_bytes};
 ghost use Rattle.tj_program.specs.Inner.Inputs.{IsReadOf};
@@ -16,7 +17,7 @@ use tj_ports::ReadEnd;
 
 /// What judging the journal gives, with room for so many cells, or the line of its fault.
 pub fn judging_of(alloc: Global, journal: &ReadEnd, cells: u32) -> Result<Output, Oom>
-    requires cells { (0 < cells) × (cells ≤ 1024) }
+    requires cells { (0 < cells) × (cells ≤ MAX_CORE_CELLS) }
     requires within { IsWithin most_bytes journal.now }
     ensures { IfOk result (λ output. (all : List ℕ) → IsReadOf all journal.now
         → IsJudging cells all output.status output.text.items) }
@@ -32,7 +33,7 @@ pub fn judging_of(alloc: Global, journal: &ReadEnd, cells: u32) -> Result<Output
 
 /// The same of a journal that isn't too long.
 fn judged(alloc: Global, journal: &[u8], cells: u32) -> Result<Output, Oom>
-    requires cells { (0 < cells) × (cells ≤ 1024) }
+    requires cells { (0 < cells) × (cells ≤ MAX_CORE_CELLS) }
     requires short { length journal.now ≤ most_bytes }
     ensures { IfOk result (λ output.
         IsJudging cells journal.now output.status output.text.items) }

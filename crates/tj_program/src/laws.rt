@@ -1,6 +1,7 @@
 //! Laws of the output. They speak of the definitions alone.
 ghost use Rattle.std.specs.Prelude.{◌≡◌, ◌<◌, ◌≤◌, ℕ, List, String};
 ghost use Rattle.std.specs.declared.alloc.Global.{Global};
+ghost use Rattle.tj_gen.specs.declared.script.TheConstants.{MAX_SIZE};
 ghost use Rattle.tj_chan.specs.ChannelOutcomes.{IsChatOutcome};
 ghost use Rattle.tj_chan.specs.ChannelRounds.{chat_meaning};
 ghost use Rattle.tj_mean.specs.declared.outcome.Outcome.{Outcome};
@@ -39,7 +40,7 @@ pub fn one_output()
 
 /// A relay has one outcome at most by channels as lists.
 fn one_relay()
-    ensures { (size cells : ℕ) → 0 < size → size ≤ 4000 → (a b : Outcome)
+    ensures { (size cells : ℕ) → 0 < size → size ≤ MAX_SIZE → (a b : Outcome)
         → IsChatOutcome (chat_meaning (relay_chats size) cells) a
         → IsChatOutcome (chat_meaning (relay_chats size) cells) b → a ≡ b }
 {

@@ -3,6 +3,11 @@ ghost use Rattle.std.specs.Prelude.{◌≡◌, ◌≢◌, MatchOption};
 ghost use Rattle.tj_program.specs.CommandLine.{default, greatest, has_flag, mode_text};
 ghost use Rattle.tj_program.specs.Inner.LineParse.{id_of};
 
+use tj_base::MAX_CELLS;
+use tj_core::MAX_CORE_CELLS;
+use tj_eval::MAX_STEPS;
+use tj_gen::MAX_SIZE;
+
 /// What the program is to do.
 #[derive(Clone, Copy, Debug, PartialEq, Eq)]
 pub enum Mode {
@@ -50,13 +55,13 @@ impl Mode {
     {
         match (name, self) {
             (OptionName::Workers, Mode::Run | Mode::Gen | Mode::Relay | Mode::Watch) => Some(64),
-            (OptionName::Cells, Mode::Judge) => Some(1024),
+            (OptionName::Cells, Mode::Judge) => Some(MAX_CORE_CELLS),
             (OptionName::Cells, Mode::Known) => Some(4096),
             (OptionName::Cells, Mode::List) => None,
-            (OptionName::Cells, _) => Some(16_384),
-            (OptionName::Size, Mode::Gen | Mode::Relay) => Some(4000),
+            (OptionName::Cells, _) => Some(MAX_CELLS),
+            (OptionName::Size, Mode::Gen | Mode::Relay) => Some(MAX_SIZE),
             (OptionName::Steps, Mode::List | Mode::Judge | Mode::Relay) => None,
-            (OptionName::Steps, _) => Some(1_000_000),
+            (OptionName::Steps, _) => Some(MAX_STEPS),
             _ => None,
         }
     }

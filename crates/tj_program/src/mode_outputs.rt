@@ -5,10 +5,11 @@ ghost use Rattle.tj_ports.specs.Reading.{IsWithin};
 ghost use Rattle.tj_program.specs.ClosedRuns.{has_workers};
 ghost use Rattle.tj_program.specs.CommandLine.{HasLimits};
 ghost use Rattle.tj_program.specs.ScriptTexts as script_texts;
-ghost use Rattle.tj_program.specs.ScriptTexts.{most_bytes, IsMemory};
+ghost use Rattle.tj_program.specs.ScriptTexts.{most_bytes};
 ghost use Rattle.tj_program.specs.Inner.ClosedOutputs.{IsGiven};
 ghost use Rattle.tj_program.specs.Inner.Inputs.{HasRead, IsReadOf};
-ghost use Rattle.tj_program.specs.Runs.{Start, AreLimits, IsRunOf};
+ghost use Rattle.tj_program.specs.Runs.{Start, IsRunOf};
+ghost use Rattle.tj_program.specs.Inner.ScriptRuns.{AreLimits, IsMemory};
 ghost use Rattle.tj_program.specs.Output.{IsCommandOutput, IsListed, IsRefused, IsStartOfText};
 
 use crate::command::Command;

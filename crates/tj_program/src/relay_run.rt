@@ -1,6 +1,8 @@
 //! Running a relay over workers: tasks that hand a channel's sending end on. The outcome is that of
 //! channels as lists.
 ghost use Rattle.std.specs.Prelude.{◌<◌, ◌≤◌, IfOk};
+ghost use Rattle.tj_gen.specs.declared.script.TheConstants.{MAX_SIZE};
+ghost use Rattle.tj_base.specs.declared.cell.TheConstants.{MAX_CELLS};
 ghost use Rattle.tj_program.specs.Inner.ClosedOutputs.{IsRunGiven};
 ghost use Rattle.tj_program.specs.RelayRuns.{IsRelayRun, relay_start};
 
@@ -25,8 +27,8 @@ pub fn relay_by_workers<G: Gate, R: Wait + Threads + Sync>(
     workers: u32,
     gate: &G,
 ) -> Result<ClosedOutput, Oom>
-    requires size { (0 < size) × (size ≤ 4000) }
-    requires cells { (0 < cells) × (cells ≤ 16384) }
+    requires size { (0 < size) × (size ≤ MAX_SIZE) }
+    requires cells { (0 < cells) × (cells ≤ MAX_CELLS) }
     requires workers { (0 < workers) × (workers ≤ 64) }
 
     // Status and text are those of channels as lists.

@@ -2,7 +2,8 @@
 ghost use Rattle.std.specs.Prelude.{◌≤◌, ◌⊎◌, List, ℕ, length, IfOk, IfErr};
 ghost use Rattle.tj_ports.specs.Reading.{IsWithin};
 ghost use Rattle.tj_program.specs.Inner.Inputs.{IsReadOf};
-ghost use Rattle.tj_program.specs.ScriptTexts.{most_bytes, IsFirstFault, IsMemory, IsScriptOf, IsSomeScript};
+ghost use Rattle.tj_program.specs.ScriptTexts.{most_bytes, IsFirstFault, IsScriptOf};
+ghost use Rattle.tj_program.specs.Inner.ScriptRuns.{IsMemory, IsSomeScript};
 ghost use Rattle.tj_syntax.specs.Trees.{Task};
 ghost use Rattle.tj_syntax.specs.View as view;
 

@@ -14,12 +14,12 @@ ghost use Rattle.tj_program.specs.declared.command.Command.{Command};
 ghost use Rattle.tj_program.specs.declared.status.Status.{Status};
 ghost use Rattle.tj_program.specs.ScriptTexts.{most_bytes};
 ghost use Rattle.tj_program.specs.Texts.{usage_line};
-ghost use Rattle.tj_program.specs.Inner.ClosedOutputs.{AreWith, IsPutWith};
+ghost use Rattle.tj_program.specs.Inner.ClosedOutputs.{AreWith, IsPutWith, IsAnswerPut};
 ghost use Rattle.tj_program.specs.Inner.Inputs.{HasRead};
 ghost use Rattle.tj_program.specs.KnownRuns.{KnownJoinsOfMeaningAreAlong};
 ghost use Rattle.tj_program.specs.Output.{IsOutput, IsStart, TakesInput, takes_input};
 ghost use Rattle.tj_program.specs.Runs.{Start};
-ghost use Rattle.tj_program.specs.Delivery.{HasText, IsAnswered, IsOutputPart, IsPutAs, IsAnswerPut};
+ghost use Rattle.tj_program.specs.Delivery.{HasText, IsAnswered, IsOutputPart, IsPutAs};
 
 use crate::command::{Command, command_of};
 use crate::fault_lines::USAGE_LINE;

@@ -1,6 +1,7 @@
 //! Running a script over workers. What is written is told from the table that they leave at rest,
 //! and the closed words of that table come with it.
 ghost use Rattle.std.specs.Prelude.{ℕ, ◌≡◌, ◌<◌, ◌≤◌, ◌⊎◌, List, IfOk, None};
+ghost use Rattle.tj_gen.specs.declared.script.TheConstants.{MAX_SIZE};
 ghost use Rattle.tj_body.specs.Programs.{program_of};
 ghost use Rattle.tj_gen.specs.Script.{script_text};
 ghost use Rattle.tj_ports.specs.Reading.{IsWithin};
@@ -8,8 +9,9 @@ ghost use Rattle.tj_run.specs.Runs.{RestsAt};
 ghost use Rattle.tj_program.specs.Inner.ClosedOutputs.{IsRunGiven};
 ghost use Rattle.tj_program.specs.Inner.Inputs.{IsReadOf};
 ghost use Rattle.tj_program.specs.Output.{IsRefused, IsStartOfText};
-ghost use Rattle.tj_program.specs.Runs.{Start, AreLimits, IsStartOf, started};
-ghost use Rattle.tj_program.specs.ScriptTexts.{most_bytes, IsSomeScript};
+ghost use Rattle.tj_program.specs.Runs.{Start, IsStartOf, started};
+ghost use Rattle.tj_program.specs.Inner.ScriptRuns.{AreLimits, IsSomeScript};
+ghost use Rattle.tj_program.specs.ScriptTexts.{most_bytes};
 ghost use Rattle.tj_syntax.specs.View as view;
 
 use crate::generated::generated_text_is_a_script;
@@ -66,7 +68,7 @@ pub fn summary_by_workers<G: Gate, R: Wait + Threads + Sync>(
     workers: u32,
     gate: &G,
 ) -> Result<ClosedOutput, Oom>
-    requires size { (0 < size) × (size ≤ 4000) }
+    requires size { (0 < size) × (size ≤ MAX_SIZE) }
     requires limits { AreLimits limits }
     requires workers { (0 < workers) × (workers ≤ 64) }
     ensures { IfOk result (λ given. (start : Start)

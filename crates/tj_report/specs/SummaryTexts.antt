@@ -1,6 +1,7 @@
 -- The text of a summary.
-use Rattle.std.specs.Prelude.{ℕ, Bool, true, false, cond, List, [], ◌∷◌, ◌++◌, codes, decimal, length}
+use Rattle.std.specs.Prelude.{ℕ, Bool, true, false, cond, List, [], ◌∷◌, ◌++◌, codes, length}
 use Rattle.std.specs.List.{count_by, sum_by}
+use Rattle.tj_base.specs.Texts.{counted}
 use Rattle.tj_mean.specs.Outcomes.{is_nil, is_marked}
 use Rattle.tj_mean.specs.declared.outcome.Ending.{Ending}
 use Rattle.tj_mean.specs.declared.outcome.Ending.TheVariants as ending
@@ -29,10 +30,6 @@ is_waiting (ending.Waits q) = true
 -- how many of the tasks have such an ending
 abbrev pub count_with : (Ending → Bool) → List TaskLine → ℕ
 count_with test lines = count_by (λ l. test l.ending) lines
-
--- a word and a number
-abbrev pub counted : List ℕ → ℕ → List ℕ
-counted word n = word ++ decimal n
 
 -- the numbers of tasks: all, those that are done, those that failed, and those that wait
 abbrev pub task_counts : List TaskLine → List ℕ

@@ -6,7 +6,7 @@ ghost use Rattle.tj_report.specs.SummaryTexts as spec;
 
 use crate::report::{add_shown, add_verdict};
 use std::alloc::Global;
-use tj_base::{Oom, add_number};
+use tj_base::{Oom, add_count};
 use tj_mean::{Ending, Outcome, TaskLine};
 
 /// How many tasks there are of each kind.
@@ -22,10 +22,10 @@ pub fn summary_text(alloc: Global, size: u32, o: &Outcome) -> Result<Vec<u8>, Oo
     ensures { IfOk result (λ text. text.items ≡ spec.summary size o.now) }
 {
     let mut text = Vec::new(alloc);
-    add_count(b"size ", size as u128, &mut text)?;
+    add_count(&mut text, b"size ", size as u128)?;
     add_tasks(o.lines.items(), &mut text)?;
-    add_count(b" owed ", owed(o.lines.items()), &mut text)?;
-    add_count(b" cycles ", o.cycles.items().len() as u128, &mut text)?;
+    add_count(&mut text, b" owed ", owed(o.lines.items()))?;
+    add_count(&mut text, b" cycles ", o.cycles.items().len() as u128)?;
     text.extend_from_slice(b" result ")?;
     add_result(alloc, o.lines.items(), &mut text)?;
     text.push(b'\n')?;
@@ -33,23 +33,15 @@ pub fn summary_text(alloc: Global, size: u32, o: &Outcome) -> Result<Vec<u8>, Oo
     Ok(text)
 }
 
-/// Adds a word and a number.
-fn add_count(word: &[u8], count: u128, text: &mut Vec<u8>) -> Result<(), Oom>
-    ensures { IfOk result (λ _. text.new.items ≡ text.old.items ++ (word.now ++ decimal count)) }
-{
-    text.extend_from_slice(word)?;
-    add_number(text, count)
-}
-
 /// Adds how many tasks there are, and how many of each kind.
 fn add_tasks(lines: &[TaskLine], text: &mut Vec<u8>) -> Result<(), Oom>
     ensures { IfOk result (λ _. text.new.items ≡ text.old.items ++ spec.task_counts lines.now) }
 {
     let counts = count(lines);
-    add_count(b" tasks ", lines.len() as u128, text)?;
-    add_count(b" done ", counts.done as u128, text)?;
-    add_count(b" failed ", counts.failed as u128, text)?;
-    add_count(b" waiting ", counts.waiting as u128, text)
+    add_count(text, b" tasks ", lines.len() as u128)?;
+    add_count(text, b" done ", counts.done as u128)?;
+    add_count(text, b" failed ", counts.failed as u128)?;
+    add_count(text, b" waiting ", counts.waiting as u128)
 }
 
 /// Counts the tasks of each kind.

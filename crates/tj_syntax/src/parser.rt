@@ -146,6 +146,20 @@ impl<'t> Parser<'t> {
         }
     }
 
+    // Takes the name that comes next, unless it breaks a rule.
+    fn take_unless(&mut self, breach: Option<Breach>, name: &'t Word) -> Result<&'t Word, Stop>
+        ensures reads { Reads (λ x. x.now)
+            (spec.unless breach (λ i. Ok (name.now, spec.next i)) (input_of self.old))
+            result (input_of self.new) }
+        ensures no_memory { result ≢ Err Stop.Oom }
+    {
+        if let Some(breach) = breach {
+            return Err(self.breaks(breach));
+        }
+        self.skip();
+        Ok(name)
+    }
+
     /// Takes a name that is declared, where these are declared already and so many may be.
     #[tactic(auto, unfolding(crate::specs::Inner::Input::fresh))]
     pub(crate) fn fresh(&mut self, most: usize, earlier: &Names<'t>) -> Result<&'t Word, Stop>
@@ -154,13 +168,7 @@ impl<'t> Parser<'t> {
         ensures no_memory { result ≢ Err Stop.Oom }
     {
         match self.peek() {
-            Some(Tok::Name(name)) => {
-                if let Some(breach) = breach(most, earlier, name) {
-                    return Err(self.breaks(breach));
-                }
-                self.skip();
-                Ok(name)
-            }
+            Some(Tok::Name(name)) => self.take_unless(breach(most, earlier, name), name),
             _ => Err(self.refuse()),
         }
     }
@@ -174,11 +182,8 @@ impl<'t> Parser<'t> {
     {
         match self.peek() {
             Some(Tok::Name(name)) => {
-                if let Some(breach) = breach(MAX_VARS, &self.vars, name) {
-                    return Err(self.breaks(breach));
-                }
-                self.skip();
-                Ok(name)
+                let breach = breach(MAX_VARS, &self.vars, name);
+                self.take_unless(breach, name)
             }
             _ => Err(self.refuse()),
         }

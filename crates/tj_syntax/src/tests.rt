@@ -230,7 +230,11 @@ fn nesting(rt: HostRuntime) -> Result<(), Fail> {
             back,
         };
         let text = written(rt.alloc(), &parts)?;
-        assert_eq!(rt; fault(rt.alloc(), text.as_slice()), position, "{open} {times}");
+        assert_eq!(rt;
+            fault(rt.alloc(), text.as_slice()),
+            position,
+            "{open} {times}"
+        );
     }
     Ok(())
 }

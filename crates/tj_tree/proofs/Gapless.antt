@@ -7,6 +7,7 @@ use Rattle.std.proofs.lemmas.List.Sums.{sum_by-cons}
 use Rattle.tj_tree.specs.declared.node.Node.{Node}
 use Rattle.tj_tree.specs.declared.node.NodeId.{NodeId}
 use Rattle.tj_tree.specs.declared.tree.Entry.{Entry}
+use Rattle.tj_base.specs.declared.cell.TheConstants.{MAX_CELLS}
 use Rattle.tj_tree.specs.Forks.{Fork, Forks, HasTask, HasKid, IsHistory, task_count, kid_count, next_fork}
 use Rattle.tj_tree.specs.Nodes.{child_node, node_of}
 use Rattle.tj_tree.specs.Inner.Tree.{AreGapless, AreEntriesOf, MayLook, forks_up_to, forks_of, root_entry}
@@ -162,7 +163,7 @@ read_after entries p child parent P n d l k at_parent older at_child =
 
 -- the entries after a fork: a further one, and one more child counted at the parent
 module _ (fs : Forks) (entries : List Entry) (p : ℕ) (child parent : Entry) (h : AreEntriesOf fs entries)
-    (l : p < length entries) (few : length entries < 16384)
+    (l : p < length entries) (few : length entries < MAX_CELLS)
     (node : child.node ≡ child_node (node_of fs) (next_fork fs p)) (none : child.kids ≡ 0)
     (above : parent.node ≡ node_of fs p) (more : parent.kids ≡ kid_count fs p + 1) where
   gapless_on : AreGapless (next_fork fs p ∷ fs)

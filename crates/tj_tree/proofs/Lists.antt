@@ -4,6 +4,7 @@ use Rattle.std.proofs.lemmas.Bool.{cases_eq}
 use Rattle.std.specs.Prelude.{Contains, ◌↔◌}
 use Rattle.std.proofs.lemmas.List.{drop_more, drop_all}
 use Rattle.std.proofs.lemmas.Bool.Decides.{nat_tests}
+use Rattle.tj_base.specs.declared.cell.TheConstants.{MAX_CELLS}
 use Rattle.tj_tree.specs.Forks.{insert_after, IsNumbering, IsEarlier}
 
 -- the list contains n
@@ -174,7 +175,7 @@ numbers_grow b xs l all n h = Contains-from_has _ n (
     ])
 
 -- the next number, put in behind one that is there, keeps a numbering
-pub IsNumbering-insert_after : (b : ℕ) (xs ys : List ℕ) → b < length xs → length xs < 16384 → IsNumbering xs
+pub IsNumbering-insert_after : (b : ℕ) (xs ys : List ℕ) → b < length xs → length xs < MAX_CELLS → IsNumbering xs
     → ys ≡ insert_after b (length xs) xs → IsNumbering ys
 IsNumbering-insert_after b xs ys l few is e =
     let grown = length-insert_after b (length xs) xs (has_from_Contains xs b (is.each b l)) in

@@ -1,5 +1,6 @@
 -- Forks, and the order of tasks that they build.
 use Rattle.std.specs.Prelude.{ℕ, ◌≡◌, ◌<◌, ◌==◌, ◌+◌, ◌⊎◌, if◌then◌else◌, List, [], ◌∷◌, Some, slice_get, length, count_by, Contains, ◌≤◌}
+use Rattle.tj_base.specs.declared.cell.TheConstants.{MAX_CELLS}
 use Rattle.tj_base.specs.ForkOrder.{Name, child}
 
 -- a fork: the parent, the number of the child, and which of the parent's things the child is
@@ -25,7 +26,7 @@ order_of (fork ∷ earlier) = insert_after fork.parent fork.child (order_of earl
 -- the list has each number below its length, and isn't too long
 pub record IsNumbering (order : List ℕ) : Type 0 where
   pub each : (n : ℕ) → n < length order → Contains order n
-  pub few : length order ≤ 16384
+  pub few : length order ≤ MAX_CELLS
 
 -- a stands in the list before b
 pub record IsEarlier (order : List ℕ) (a b : ℕ) : Type 0 where

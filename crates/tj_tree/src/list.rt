@@ -1,5 +1,6 @@
 //! The fork order as the list that defines it.
 ghost use Rattle.std.specs.Prelude.{ℕ, ◌≡◌, ◌+◌, ◌<◌, ◌≤◌, ◌↔◌, [], ◌∷◌, length, insert, Contains, IfOk, OnErr, IsTrue};
+ghost use Rattle.tj_base.specs.declared.cell.TheConstants.{MAX_CELLS};
 ghost use Rattle.tj_tree.specs.Forks.{insert_after, IsEarlier};
 
 use crate::node::NodeId;
@@ -37,7 +38,7 @@ impl OrderList {
     /// A further task, directly after its parent. The tasks are numbered as they come.
     pub fn fork(&mut self, parent: NodeId) -> Result<NodeId, Oom>
         requires parent_there { parent.0 < length self.old }
-        requires room { length self.old < 16384 }
+        requires room { length self.old < MAX_CELLS }
         ensures number { IfOk result (λ child. child.0 ≡ length self.old) }
         ensures ok { IfOk result (λ child. self.new ≡ insert_after parent.0 child.0 self.old) }
         ensures err { OnErr result (self.new ≡ self.old) }

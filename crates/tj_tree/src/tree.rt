@@ -1,5 +1,6 @@
 //! The tree of forks, whose order is found by a walk over a few of its nodes.
 ghost use Rattle.std.specs.Prelude.{ℕ, ◌≡◌, ◌+◌, ◌*◌, ◌^◌, ◌<◌, ◌≤◌, ◌↔◌, [], ◌∷◌, length, max, IfOk, OnOk, OnErr, IsTrue};
+ghost use Rattle.tj_base.specs.declared.cell.TheConstants.{MAX_CELLS};
 ghost use Rattle.tj_tree.specs.Forks.{Forks, HasTask, IsHistory, IsEarlier, order_of, task_count, next_fork};
 ghost use Rattle.tj_tree.specs.Nodes.{child_node, node_of};
 ghost use Rattle.tj_tree.specs.Inner.Tree.{forks_of, AreEntriesOf};
@@ -56,7 +57,7 @@ impl ForkTree {
     /// A further task. Tasks, and the children of each, are numbered as they come.
     pub fn fork(&mut self, parent: NodeId) -> Result<NodeId, Oom>
         requires parent_there { parent.0 < task_count self.old }
-        requires room { task_count self.old < 16384 }
+        requires room { task_count self.old < MAX_CELLS }
         ensures number { IfOk result (λ child. child.0 ≡ task_count self.old) }
         ensures ok { OnOk result (self.new ≡ next_fork self.old parent.0 ∷ self.old) }
         ensures err { OnErr result (self.new ≡ self.old) }
@@ -172,7 +173,7 @@ fn before_of<F: Forked, C: Ledger, L: Ledger>(
 fn add_child(entries: &mut Vec<Entry>, parent: NodeId) -> Result<(), Oom>
     requires entries { AreEntriesOf (forks_of entries.old.items) entries.old.items }
     requires parent_there { parent.0 < length entries.old.items }
-    requires room { length entries.old.items < 16384 }
+    requires room { length entries.old.items < MAX_CELLS }
     ensures ok { OnOk result (let forks = forks_of entries.old.items in
         AreEntriesOf (next_fork forks parent.0 ∷ forks) entries.new.items) }
     ensures err { OnErr result (entries.new.items ≡ entries.old.items) }
@@ -189,7 +190,7 @@ fn add_child(entries: &mut Vec<Entry>, parent: NodeId) -> Result<(), Oom>
 fn child_of(entries: &[Entry], parent: NodeId) -> Node
     requires entries { AreEntriesOf (forks_of entries.now) entries.now }
     requires parent_there { parent.0 < length entries.now }
-    requires room { length entries.now < 16384 }
+    requires room { length entries.now < MAX_CELLS }
     ensures { let forks = forks_of entries.now in
         result ≡ child_node (node_of forks) (next_fork forks parent.0) }
 {

@@ -5,6 +5,7 @@ use Rattle.tj_ports.specs.Faults.{HasFault}
 use Rattle.tj_ports.specs.Putting.{GrowsByPart}
 use Rattle.tj_words.specs.declared.closed.RestCell.{RestCell}
 use Rattle.tj_program.specs.ClosedRuns.{HasOutcome, IsCommandClosed, IsRunClosed, has_workers}
+use Rattle.tj_program.specs.Delivery.{IsPutAs}
 use Rattle.tj_program.specs.Output.{IsCommandOutput}
 use Rattle.tj_program.specs.Runs.{StartOf, NeedsMore}
 use Rattle.tj_program.specs.Texts.{full_line}
@@ -38,3 +39,10 @@ IsPutWith HasRoom status text closed before after count_before count_after answe
     ((answer ≡ status) × (words ≡ closed) × Appends before after text)
     ⊎ ((answer ≡ WriteFault) × (words ≡ None) × GrowsByPart before after text × HasFault count_before count_after
     × ((room : ℕ) → HasRoom room → room < length text))
+
+-- the output of a command was put, or the sink failed before its end
+abbrev pub IsAnswerPut : (HasRoom : ℕ → Type 0) → Command → List ℕ → Option (List ℕ) → Option (List ℕ) → ℕ → ℕ → Status
+    → Type 0
+IsAnswerPut HasRoom command input before after count_before count_after answer =
+    (status : Status) × (text : List ℕ) × IsCommandOutput command input status text
+    × IsPutAs HasRoom status text before after count_before count_after answer

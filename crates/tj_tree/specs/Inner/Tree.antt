@@ -1,6 +1,7 @@
 -- The entries of a fork tree, in the order of their tasks' numbers.
 use Rattle.std.specs.Prelude.{ℕ, zero, suc, ◌≡◌, ◌-◌, ◌<◌, ◌≤◌, List, [], ◌∷◌, length, slice_index_or}
 use Rattle.tj_tree.specs.declared.tree.Entry.{Entry}
+use Rattle.tj_base.specs.declared.cell.TheConstants.{MAX_CELLS}
 use Rattle.tj_tree.specs.Forks.{Forks, HasTask, task_count, kid_count, next_fork}
 use Rattle.tj_tree.specs.Nodes.{root_node, node_of}
 
@@ -29,7 +30,7 @@ AreGapless (fork ∷ earlier) = (fork ≡ next_fork earlier fork.parent) × (for
 pub record AreEntriesOf (forks : Forks) (entries : List Entry) : Type 0 where
   pub gapless : AreGapless forks
   pub size : length entries ≡ task_count forks
-  pub few : length entries ≤ 16384
+  pub few : length entries ≤ MAX_CELLS
   pub nodes : (n : ℕ) (d : Entry) → n < length entries → (slice_index_or entries n d).node ≡ node_of forks n
   pub kids : (n : ℕ) (d : Entry) → n < length entries → (slice_index_or entries n d).kids ≡ kid_count forks n
 
