@@ -9,8 +9,6 @@ mod memory;
 mod name;
 mod order;
 mod step_count;
-#[cfg(test)]
-mod tests;
 mod text;
 mod value;
 

@@ -6,8 +6,6 @@ mod body;
 mod laws;
 mod point;
 mod table;
-#[cfg(test)]
-mod tests;
 
 pub use ask::{Answer, Ask};
 pub use body::Body;

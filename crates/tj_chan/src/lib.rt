@@ -10,8 +10,6 @@ mod relay;
 mod rows;
 mod spawn;
 mod table;
-#[cfg(test)]
-mod tests;
 
 pub use body::ChanBody;
 pub use chat::{ChatAnswer, ChatAsk};

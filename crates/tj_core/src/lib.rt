@@ -49,8 +49,3 @@ pub use walk_laws::{
     settlers_are_not_alone,
 };
 pub use walker_law::walkers_have_one_event;
-
-#[cfg(test)]
-mod judge_tests;
-#[cfg(test)]
-mod tests;

@@ -141,6 +141,15 @@ impl<'s> ScriptBody<'s> {
     }
 }
 
+impl ScriptBody<'_> {
+    /// How many places its task has: a new reference gets this number.
+    pub fn places(&self) -> u32
+        ensures { result ≡ script_places self.now }
+    {
+        self.places
+    }
+}
+
 impl<'s> Body for ScriptBody<'s> {
     ghost use Rattle.tj_eval.specs.Bodies.{script_places, script_awaits, script_left};
     ghost use Rattle.tj_eval.specs.Bodies.{script_asks, script_then};

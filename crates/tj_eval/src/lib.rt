@@ -5,19 +5,11 @@ mod ask;
 mod body;
 mod expression;
 mod fork;
-#[cfg(test)]
-mod fork_tests;
 mod halt;
 pub mod laws;
 mod quick;
 mod state;
 mod statement;
-#[cfg(test)]
-mod tests;
-#[cfg(test)]
-mod transcripts;
-#[cfg(test)]
-mod wait_tests;
 
 pub use body::{MAX_STEPS, main_body};
 pub use state::ScriptBody;

@@ -7,8 +7,6 @@ mod known;
 mod laws;
 mod learner;
 mod step;
-#[cfg(test)]
-mod tests;
 mod text;
 mod work;
 

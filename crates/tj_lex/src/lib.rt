@@ -9,8 +9,6 @@ mod number;
 mod place;
 mod scan;
 mod spelling;
-#[cfg(test)]
-mod tests;
 mod token;
 mod word;
 

@@ -14,8 +14,6 @@ mod outcome;
 mod round;
 mod rounds;
 mod stopped;
-#[cfg(test)]
-mod tests;
 mod told;
 mod wait_graph;
 

@@ -10,8 +10,6 @@ mod list_ask;
 mod list_expr;
 mod list_stmt;
 mod listing;
-#[cfg(test)]
-mod listing_tests;
 mod names;
 mod parser;
 mod read_ask;
@@ -22,8 +20,6 @@ mod read_stmt;
 mod read_task;
 mod script;
 mod stmt;
-#[cfg(test)]
-mod tests;
 
 pub use expr::{Expr, Op, RefOf, Rel};
 pub use fault::ParseFault;

@@ -1,5 +1,5 @@
 //! Journals of events, each with what the rules say of it.
-use crate::{Core, Event, Stage};
+use tj_core::{Core, Event, Stage};
 use std::test::Fail;
 use tj_base::CellId;
 

@@ -3,18 +3,13 @@ ghost use Rattle.std.specs.Prelude.{◌≡◌, ◌<◌, ◌≤◌, ◌∷◌, []
 ghost use Rattle.tj_chan.specs.ChatTables.{is_chat_table};
 ghost use Rattle.tj_chan.specs.declared.table.ChatRow.TheVariants as row;
 
-use crate::{ChanBody, ChatAnswer, ChatAsk, ChatRow, ChatRowList, Chatter, TableChat, relay_root};
+use tj_chan::{ChanBody, ChatAnswer, ChatAsk, ChatRow, ChatRowList, Chatter, TableChat, relay_root};
+use crate::tables::places;
 use std::alloc::Global;
 use std::process::Abort;
 use std::test::Fail;
-use tj_base::{Cause, Items, Name, Oom, PlaceList, Shown, Trouble};
+use tj_base::{Cause, Items, Name, Oom, Shown, Trouble};
 use tj_mean::{Ending, Outcome, PlanFault, TaskLine, marked, plan};
-
-fn places(alloc: Global, list: &[u32]) -> Result<PlaceList, Oom>
-    ensures { IfOk result (λ places. places ≡ list.now) }
-{
-    Ok(Items::of(Vec::from_slice(alloc, list)?))
-}
 
 fn spawn(alloc: Global, list: u32, pass: &[u32], give: &[u32]) -> Result<ChatRow, Oom>
     ensures { IfOk result (λ r. r ≡ row.Spawn list pass.now give.now) }

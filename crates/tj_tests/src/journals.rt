@@ -1,5 +1,5 @@
 //! Journals as texts, each with the text of judging by hand from the rules.
-use crate::{JournalFault, Judged, MAX_CORE_CELLS, MAX_JOURNAL, judge_text, read_journal};
+use tj_core::{JournalFault, Judged, MAX_CORE_CELLS, MAX_JOURNAL, judge_text, read_journal};
 use std::alloc::Global;
 use std::test::Fail;
 use tj_base::{Oom, add_number};

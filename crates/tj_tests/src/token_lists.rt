@@ -1,4 +1,4 @@
-use super::*;
+use tj_lex::{Key, LexFault, MAX_TEXT, Mark, Place, Tok, Token, tokens};
 use std::test::Fail;
 
 /// What a row expects a token to be.
@@ -116,7 +116,7 @@ fn spellings(rt: HostRuntime) -> Result<(), Fail> {
 }
 
 #[test]
-fn positions(rt: HostRuntime) -> Result<(), Fail> {
+fn places(rt: HostRuntime) -> Result<(), Fail> {
     // Of each token: its line, its column, and the bytes that it takes.
     let rows = [
         ("an empty text", &b""[..], &[(1, 1, 0, 0)][..]),

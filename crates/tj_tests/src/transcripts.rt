@@ -7,7 +7,7 @@ ghost use Rattle.tj_lex.specs.declared.token.Tok.{Tok};
 ghost use Rattle.tj_syntax.specs.Faults.{IsScript};
 ghost use Rattle.tj_syntax.specs.View as view;
 
-use crate::{ScriptBody, main_body};
+use tj_eval::{ScriptBody, main_body};
 use std::alloc::Global;
 use std::process::Abort;
 use std::test::Fail;
@@ -91,7 +91,7 @@ fn follows<'s>(
     *followed += 1;
     let mut last = None;
     for (answer, expected) in tasks[at] {
-        if body.places >= MOST_PLACES || !is_answer(&last, body.places, *answer) {
+        if body.places() >= MOST_PLACES || !is_answer(&last, body.places(), *answer) {
             panic!(rt; "task {at}: {answer:?} is no answer");
         }
         let same = asked_of_twin(body, alloc, *answer)?;

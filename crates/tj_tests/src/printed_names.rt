@@ -1,5 +1,5 @@
 //! Printed names and the two orders, by hand.
-use crate::{Name, add_number, add_signed, name_cmp, path_before};
+use tj_base::{Name, add_number, add_signed, name_cmp, path_before};
 use std::alloc::Global;
 use std::cmp::Ordering;
 use std::test::Fail;

@@ -1,5 +1,5 @@
 //! The generated text, by hand.
-use crate::gen_script;
+use tj_gen::gen_script;
 use std::test::Fail;
 
 #[test]

@@ -1,5 +1,5 @@
 //! Listings of scripts, and the parentheses of expressions.
-use crate::{list_text, parse};
+use tj_syntax::{list_text, parse};
 use std::alloc::Global;
 use std::test::Fail;
 use tj_lex::{MAX_TEXT, tokens};

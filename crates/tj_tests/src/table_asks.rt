@@ -1,18 +1,13 @@
 //! The asks of a table's body, by hand.
-ghost use Rattle.std.specs.Prelude.{◌≡◌, ◌<◌, length, IfOk, IsTrue};
+ghost use Rattle.std.specs.Prelude.{◌<◌, length, IfOk, IsTrue};
 ghost use Rattle.tj_body.specs.Table.{is_row, is_table};
 
-use crate::{Answer, Ask, Body, Row, RowList, TableBody};
+use tj_body::{Answer, Ask, Body, Row, RowList, TableBody};
+use crate::tables::places;
 use std::alloc::Global;
 use std::process::Abort;
 use std::test::Fail;
-use tj_base::{Items, Oom, Pay, PlaceList, Trouble};
-
-fn places(alloc: Global, list: &[u32]) -> Result<PlaceList, Oom>
-    ensures { IfOk result (λ places. places ≡ list.now) }
-{
-    Ok(Items::of(Vec::from_slice(alloc, list)?))
-}
+use tj_base::{Items, Oom, Pay, Trouble};
 
 /// The table of one list with one row.
 fn table(alloc: Global, row: Row) -> Result<[RowList; 1], Oom>

@@ -1,7 +1,7 @@
 //! How tasks end, by hand from the rules: expressions at their edges, and the limit of statements.
 ghost use Rattle.std.specs.Prelude.{◌<◌, ◌≤◌};
 
-use crate::main_body;
+use tj_eval::main_body;
 use crate::transcripts::script;
 use std::alloc::Global;
 use std::process::Abort;

@@ -1,37 +1,14 @@
 //! Outcomes of small programs, by hand.
-ghost use Rattle.std.specs.Prelude.{◌≡◌, ◌<◌, length, IfOk, IsTrue};
+ghost use Rattle.std.specs.Prelude.{◌<◌, length, IsTrue};
 ghost use Rattle.tj_body.specs.Table.{is_table};
-ghost use Rattle.tj_body.specs.declared.table.Row.TheVariants as row;
 
-use crate::{Act, ActLines, Ending, Outcome, PlanFault, acts, marked, plan};
+use tj_mean::{Act, ActLines, Ending, Outcome, PlanFault, acts, marked, plan};
+use crate::tables::{fork, rows};
 use std::alloc::Global;
 use std::process::Abort;
 use std::test::Fail;
-use tj_base::{Cause, Items, Name, Oom, Pay, PlaceList, Shown, Trouble};
+use tj_base::{Cause, Name, Oom, Pay, Shown, Trouble};
 use tj_body::{Row, RowList, TableBody};
-
-fn places(alloc: Global, list: &[u32]) -> Result<PlaceList, Oom>
-    ensures { IfOk result (λ places. places ≡ list.now) }
-{
-    Ok(Items::of(Vec::from_slice(alloc, list)?))
-}
-
-fn fork(alloc: Global, list: u32, pass: &[u32], hand: &[u32]) -> Result<Row, Oom>
-    ensures { IfOk result (λ r. r ≡ row.Fork list pass.now hand.now) }
-{
-    Ok(Row::Fork {
-        list,
-        pass: places(alloc, pass)?,
-        hand: places(alloc, hand)?,
-    })
-}
-
-/// A list of rows, from an array.
-fn rows<const N: usize>(alloc: Global, rows: [Row; N]) -> Result<RowList, Oom>
-    ensures { IfOk result (λ list. list ≡ rows.entry) }
-{
-    Ok(Items::of(Vec::from_array(alloc, rows)?))
-}
 
 /// Adds the printed lines of an outcome, without its numbers' signs.
 fn text(alloc: Global, o: &Outcome) -> Result<Vec<u8>, Oom> {

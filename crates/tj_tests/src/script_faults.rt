@@ -1,5 +1,5 @@
-//! Faults and their positions, on scripts of one line.
-use crate::{ParseFault, parse};
+//! Faults and their places, on scripts of one line.
+use tj_syntax::{ParseFault, parse};
 use std::alloc::Global;
 use std::test::Fail;
 use tj_lex::{MAX_TEXT, tokens};
@@ -159,8 +159,8 @@ fn first_faults(rt: HostRuntime) -> Result<(), Fail> {
             (2, 1, 21),
         ),
     ];
-    for (shows, text, position) in rows {
-        assert_eq!(rt; fault(rt.alloc(), text.as_bytes()), position, "{shows}");
+    for (shows, text, place) in rows {
+        assert_eq!(rt; fault(rt.alloc(), text.as_bytes()), place, "{shows}");
     }
     Ok(())
 }
@@ -220,7 +220,7 @@ fn nesting(rt: HostRuntime) -> Result<(), Fail> {
         ),
         (BLOCK, "fork main(); ", 90, "", "", "}", (0, 0, 0)),
     ];
-    for (front, open, times, middle, close, back, position) in rows {
+    for (front, open, times, middle, close, back, place) in rows {
         let parts = Nested {
             front,
             open,
@@ -262,9 +262,9 @@ fn variables(rt: HostRuntime) -> Result<(), Fail> {
         ("the 257th, declared twice", "let _aa = 1; }", (3, 1, 3347)),
         ("the last of them is known", "print _pp; }", (0, 0, 0)),
     ];
-    for (shows, back, position) in rows {
+    for (shows, back, place) in rows {
         let text = with_variables(rt.alloc(), back)?;
-        assert_eq!(rt; fault(rt.alloc(), text.as_slice()), position, "{shows}");
+        assert_eq!(rt; fault(rt.alloc(), text.as_slice()), place, "{shows}");
     }
     Ok(())
 }
