@@ -220,7 +220,7 @@ fn nesting(rt: HostRuntime) -> Result<(), Fail> {
         ),
         (BLOCK, "fork main(); ", 90, "", "", "}", (0, 0, 0)),
     ];
-    for (front, open, times, middle, close, back, place) in rows {
+    for (front, open, times, middle, close, back, position) in rows {
         let parts = Nested {
             front,
             open,
