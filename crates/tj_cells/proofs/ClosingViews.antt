@@ -27,7 +27,7 @@ use Rattle.tj_words.specs.Calls.EntryViews.{MayPutBits, MayPutTag, PutsBits, Put
 use Rattle.tj_words.specs.Calls.OwnerViews.{PutsOwner, closed_cell, gave_up}
 use Rattle.tj_words.proofs.Holders.NotedEntries.{noted_here}
 use Rattle.tj_words.proofs.Stores.OnceStores.{due_else, due_still}
-use Rattle.tj_words.proofs.Stores.StoredWords.{same_word}
+use Rattle.tj_words.proofs.Stores.TableWords.{same_word}
 use Rattle.tj_cells.specs.FilledCells.{MayGiveUp, WillBecome, became, cells_named}
 use Rattle.tj_cells.proofs.DueWords.{due_of, both_written}
 

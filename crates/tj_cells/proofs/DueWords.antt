@@ -8,7 +8,7 @@ use Rattle.tj_words.specs.declared.view.Due.{Due}
 use Rattle.tj_words.specs.Words.Lists.{All}
 use Rattle.tj_words.specs.Words.Offsets.{once_at}
 use Rattle.tj_words.specs.Calls.DrawViews.{new_dues, without_due}
-use Rattle.tj_words.proofs.Stores.StoredWords.{same_cell, same_word}
+use Rattle.tj_words.proofs.Stores.TableWords.{same_cell, same_word}
 use Rattle.tj_cells.specs.MakingSteps.{dues_left}
 
 -- the word of the cell

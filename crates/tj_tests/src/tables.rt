@@ -6,13 +6,13 @@ use std::alloc::Global;
 use tj_base::{Items, Oom, PlaceList};
 use tj_body::{Row, RowList};
 
-pub fn places(alloc: Global, list: &[u32]) -> Result<PlaceList, Oom>
+pub(crate) fn places(alloc: Global, list: &[u32]) -> Result<PlaceList, Oom>
     ensures { IfOk result (λ places. places ≡ list.now) }
 {
     Ok(Items::of(Vec::from_slice(alloc, list)?))
 }
 
-pub fn fork(alloc: Global, list: u32, pass: &[u32], hand: &[u32]) -> Result<Row, Oom>
+pub(crate) fn fork(alloc: Global, list: u32, pass: &[u32], hand: &[u32]) -> Result<Row, Oom>
     ensures { IfOk result (λ r. r ≡ row.Fork list pass.now hand.now) }
 {
     Ok(Row::Fork {
@@ -23,7 +23,7 @@ pub fn fork(alloc: Global, list: u32, pass: &[u32], hand: &[u32]) -> Result<Row,
 }
 
 /// A list of rows, from an array.
-pub fn rows<const N: usize>(alloc: Global, rows: [Row; N]) -> Result<RowList, Oom>
+pub(crate) fn rows<const N: usize>(alloc: Global, rows: [Row; N]) -> Result<RowList, Oom>
     ensures { IfOk result (λ list. list ≡ rows.entry) }
 {
     Ok(Items::of(Vec::from_array(alloc, rows)?))

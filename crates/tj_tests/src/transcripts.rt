@@ -47,7 +47,7 @@ pub struct Row {
 }
 
 /// The script that the text is.
-pub fn script(rt: &impl Abort, alloc: Global, text: &str) -> Script
+pub(crate) fn script(rt: &impl Abort, alloc: Global, text: &str) -> Script
     ensures { (tokens : List Tok) × IsScript tokens (view.script result) }
 {
     if text.len() > MAX_TEXT {
@@ -63,7 +63,7 @@ pub fn script(rt: &impl Abort, alloc: Global, text: &str) -> Script
 }
 
 /// Asserts that the tasks of the row's script follow its transcripts.
-pub fn script_follows(rt: &impl Abort, alloc: Global, row: &Row) -> Result<(), Fail> {
+pub(crate) fn script_follows(rt: &impl Abort, alloc: Global, row: &Row) -> Result<(), Fail> {
     let script = script(rt, alloc, row.script);
     let mut body = main_body(alloc, &script, STEPS)?;
     let mut followed = 0;

@@ -10,4 +10,5 @@ pub mod HandCalls
 pub mod DrawCalls
 pub mod OneStates
 pub mod TableRuns
+pub mod CallRuns
 pub mod RestedRuns

@@ -2,6 +2,7 @@
 pub mod SeatLists
 pub mod SeatContents
 pub mod LawChanges
+pub mod TableWords
 pub mod StoredWords
 pub mod StoreSteps
 pub mod SlotStores

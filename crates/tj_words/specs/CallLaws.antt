@@ -4,4 +4,5 @@ pub mod EventCalls
 pub mod TaskCalls
 pub mod OwnerCalls
 pub mod StepCalls
+pub mod CallRuns
 pub mod RestedRuns

@@ -3,22 +3,24 @@
 ghost use Rattle.std.specs.Prelude.{◌≡◌, ◌≢◌, ◌<◌, IfErr, OnOk};
 ghost use Rattle.tj_body.specs.Programs.{program_of};
 ghost use Rattle.tj_words.specs.Words.Codes as codes;
-ghost use Rattle.tj_words.specs.Calls.ExchangeViews.{MaySwap, Swaps};
+ghost use Rattle.tj_words.specs.Calls.ExchangeViews.{MaySwap, Swaps, missed};
 ghost use Rattle.tj_words.specs.Words.Phases as phases;
-ghost use Rattle.tj_words.specs.SeatViews.Views.{stepped_on};
+ghost use Rattle.tj_words.specs.SeatViews.Views.{noted_step};
 
 use crate::exchange_plays::PhaseExchange;
 use crate::offsets::phase_at;
 use crate::phase::Phase;
 use crate::plays::Naming;
 use crate::table::{Laid, WSeat};
+use crate::view::Noted;
 use std::marker::Brand;
 use tj_base::CellId;
 use tj_body::Body;
 use tj_core::event_keeps_facts;
 
 impl<B: Body> Laid<B> {
-    /// Changes the phase of a task, if it is as it is thought to be; else tells the phase found.
+    /// Changes the phase of a task, if it is as it is thought to be; else tells the phase found, and the view says that
+    /// this step found it.
     pub fn swap_phase(
         &self,
         seat: &mut WSeat<B>,
@@ -34,7 +36,7 @@ impl<B: Body> Laid<B> {
         ensures swapped { OnOk result (Swaps (program_of B.places B.awaits B.left B.asks B.then)
             t.0 was to seat.old.me seat.new.me) }
         ensures found { IfErr result (λ p. (was ≡ Phase.Ready) × (p ≢ was)
-            × (seat.new.me ≡ (stepped_on seat.old.me.0, seat.old.me.1))) }
+            × (seat.new.me ≡ (missed t.0 p seat.old.me.0, seat.old.me.1))) }
     {
         let found = self.exchange_phase::<Brand>(seat, t, was, to);
         if found == was.word() {
@@ -61,7 +63,7 @@ impl<B: Body> Laid<B> {
             → Swaps (program_of B.places B.awaits B.left B.asks B.then) t.0 was to
             seat.old.me seat.new.me }
         ensures found { result ≢ phases.phase_word was → (was ≡ Phase.Ready)
-            × (seat.new.me ≡ (stepped_on seat.old.me.0, seat.old.me.1))
+            × (seat.new.me ≡ (noted_step (Noted.Missed t.0) result seat.old.me.0, seat.old.me.1))
             × codes.IsPhaseWord self.now.cells result }
     {
         event_keeps_facts();

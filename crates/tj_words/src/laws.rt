@@ -5,6 +5,7 @@
 //!
 //! The laws stand over the definitions alone, so the functions do nothing: who calls one may rest on
 //! its clauses.
+ghost use Rattle.tj_words.specs.CallLaws.CallRuns as called;
 ghost use Rattle.tj_words.specs.CallLaws.CallSteps as call;
 ghost use Rattle.tj_words.specs.CallLaws.EventCalls as event;
 ghost use Rattle.tj_words.specs.Steps.OneStates as state;
@@ -204,4 +205,13 @@ pub fn table_runs<B>()
 pub fn rested_runs<B>()
     ensures stays { rested.RestStays B }
     ensures no_value { rested.NoValueComes B }
+{}
+
+/// Runs of a table by its calls: each call of a seat of which what the call asks is so, each split,
+/// and each merge of idle seats is the one event of the core that is named there, or none, as the
+/// laws of steps have it. So from a new table on they show a legal run.
+pub fn call_runs<B>()
+    ensures calls { called.CallsAreSteps B }
+    ensures seats { called.SeatsAreQuiet B }
+    ensures legal { called.CallRunsAreLegal B }
 {}

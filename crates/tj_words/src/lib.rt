@@ -38,10 +38,10 @@ mod walks;
 pub use closed::{Closed, RestCell};
 pub use head::Head;
 pub use laws::{
-    count_steps, event_calls, head_steps, live_steps, load_calls, merges, next_steps, once_loads,
-    once_stores, one_state, others_steps, owner_calls, owner_loads, owner_stores, phase_exchanges,
-    phase_loads, phase_stores, rested_runs, seat_calls, slot_steps, splits, stop_steps,
-    store_calls, table_runs, task_calls,
+    call_runs, count_steps, event_calls, head_steps, live_steps, load_calls, merges, next_steps,
+    once_loads, once_stores, one_state, others_steps, owner_calls, owner_loads, owner_stores,
+    phase_exchanges, phase_loads, phase_stores, rested_runs, seat_calls, slot_steps, splits,
+    stop_steps, store_calls, table_runs, task_calls,
 };
 pub use offsets::Once;
 pub use phase::{Phase, Walk};
@@ -50,4 +50,6 @@ pub use rest::RestWords;
 pub use table::{Key, Laid, Law, WSeat};
 pub use tj_core::Way;
 pub use value::{value_of_words, value_words};
-pub use view::{About, Custody, Does, Due, Filled, Found, Hand, Push, Rest, SeenWord, View};
+pub use view::{
+    About, Custody, Does, Due, Filled, Found, Hand, Note, Noted, Push, Rest, SeenWord, View,
+};

@@ -7,7 +7,7 @@ ghost use Rattle.tj_words.specs.Calls.LiveViews.{HasSlot, MayEnd, MayLowerLive, 
 ghost use Rattle.tj_words.specs.Calls.LiveViews.{MayRelease};
 ghost use Rattle.tj_words.specs.Calls.LiveViews.{ended, live_lowered, live_raised, released};
 ghost use Rattle.tj_words.specs.SeatViews.SeatSteps.{IsSameSeat};
-ghost use Rattle.tj_words.specs.SeatViews.Views.{stepped_on};
+ghost use Rattle.tj_words.specs.SeatViews.Views.{noted_step};
 
 use crate::live_plays::{EndedStore, LiveAdd, LiveSub, ReadyStore, StopStore};
 use crate::offsets::{LIVE, STOP, phase_at};
@@ -15,6 +15,7 @@ use crate::phase::Phase;
 use crate::plays::Naming;
 use crate::record::Rec;
 use crate::table::{Laid, WSeat};
+use crate::view::Noted;
 use std::marker::Brand;
 use tj_base::CellId;
 use tj_body::Body;
@@ -46,7 +47,7 @@ impl<B: Body> Laid<B> {
     }
 
     /// Ends the run: 1 says that it is full, which needs a refused draw, and 2 that memory is
-    /// lacking.
+    /// lacking. The view says what was stored.
     pub fn stop(&self, seat: &mut WSeat<B>, w: u64)
         requires table { seat.old.table_id ≡ self.now.table.shared.table_id }
         requires some { 0 < w }
@@ -54,7 +55,8 @@ impl<B: Body> Laid<B> {
         requires refused { w ≡ 1 → 0 < seat.old.me.0.refused }
         ensures table { seat.new.table_id ≡ seat.old.table_id }
         ensures id { seat.new.id ≡ seat.old.id }
-        ensures me { seat.new.me ≡ (stepped_on seat.old.me.0, seat.old.me.1) }
+        ensures me { seat.new.me
+            ≡ (noted_step Noted.StoredStop w seat.old.me.0, seat.old.me.1) }
     {
         self.table.shared.store::<StopStore>(seat, STOP, w);
     }

@@ -1,5 +1,5 @@
 //! Loads that are no event of the core.
-ghost use Rattle.std.specs.Prelude.{◌≡◌, ◌≢◌, ℕ, ◌<◌, ◌≤◌, Some};
+ghost use Rattle.std.specs.Prelude.{◌≡◌, ◌≢◌, ℕ, ◌<◌, ◌≤◌, min, None, Some};
 ghost use Rattle.tj_body.specs.Programs.{program_of};
 ghost use Rattle.tj_words.specs.SeatViews.FullMeaning.{NamesFull};
 ghost use Rattle.tj_words.specs.Words.Heads as heads;
@@ -11,8 +11,10 @@ ghost use Rattle.tj_words.specs.SeatViews.SeenWords.{SeesOnce};
 ghost use Rattle.tj_words.specs.SeatViews.SeatSteps as steps;
 ghost use Rattle.tj_words.specs.Steps.StepEvents.{wait_in};
 ghost use Rattle.tj_words.specs.Words.Codes as codes;
-ghost use Rattle.tj_words.specs.SeatViews.Views.{loaded_plain, saw_live, saw_rest, saw_stop};
-ghost use Rattle.tj_words.specs.SeatViews.Views.{stepped_on};
+ghost use Rattle.tj_words.specs.Words.Owners.{owner_number, owner_word};
+ghost use Rattle.tj_words.specs.Calls.WalkViews.{ReadsCount};
+ghost use Rattle.tj_words.specs.SeatViews.Views.{loaded_plain, noted_step, saw_live, saw_rest};
+ghost use Rattle.tj_words.specs.SeatViews.Views.{saw_stop};
 
 use crate::head::Head;
 use crate::offsets::{COUNT, LIVE, Once, STOP, head_at, next_at, once_at, own_at, phase_at};
@@ -22,6 +24,7 @@ use crate::plays::{
     CountLoad, HeadLoad, LiveLoad, Naming, NextLoad, OnceLoad, OwnerLoad, PhaseLoad, StopLoad,
 };
 use crate::table::{Laid, WSeat};
+use crate::view::Noted;
 use std::marker::Brand;
 use tj_base::CellId;
 use tj_body::Body;
@@ -54,7 +57,7 @@ impl<B: Body> Laid<B> {
     pub(crate) fn plain_count(&self, seat: &mut WSeat<B>) -> u32
         requires table { seat.old.table_id ≡ self.now.table.shared.table_id }
         ensures seat { IsSameSeat seat.old seat.new }
-        ensures view { seat.new.me.0 ≡ loaded_plain seat.old.me.0 }
+        ensures view { ReadsCount None self.now.cells result seat.old.me.0 seat.new.me.0 }
         ensures some { 0 < result }
         ensures few { result ≤ self.now.cells }
     {
@@ -66,7 +69,7 @@ impl<B: Body> Laid<B> {
         requires named { M.cells ≡ self.now.cells }
         requires table { seat.old.table_id ≡ self.now.table.shared.table_id }
         ensures seat { IsSameSeat seat.old seat.new }
-        ensures view { seat.new.me.0 ≡ loaded_plain seat.old.me.0 }
+        ensures view { seat.new.me.0 ≡ loaded_plain Noted.Count result seat.old.me.0 }
         ensures some { steps.IsCount self.now.cells result }
     {
         self.table.shared.load::<CountLoad<M>>(seat, COUNT)
@@ -77,18 +80,19 @@ impl<B: Body> Laid<B> {
         requires table { seat.old.table_id ≡ self.now.table.shared.table_id }
         requires cell { c.0 < self.now.cells }
         ensures seat { IsSameSeat seat.old seat.new }
-        ensures view { seat.new.me.0 ≡ loaded_plain seat.old.me.0 }
+        ensures view { seat.new.me.0
+            ≡ loaded_plain (Noted.Owner c.0) (owner_word (owner_number result)) seat.old.me.0 }
         ensures task { (u : CellId) → result ≡ Some u → u.0 < self.now.cells }
     {
         owner_of_word(self.load_owner::<Brand>(seat, c))
     }
 
     fn load_owner<M: Naming>(&self, seat: &mut WSeat<B>, c: CellId) -> u64
-        requires named { M.cells ≡ self.now.cells }
+        requires named { (M.cells ≡ self.now.cells) × (M.cell ≡ c.0) }
         requires table { seat.old.table_id ≡ self.now.table.shared.table_id }
         requires cell { c.0 < self.now.cells }
         ensures seat { IsSameSeat seat.old seat.new }
-        ensures view { seat.new.me.0 ≡ loaded_plain seat.old.me.0 }
+        ensures view { seat.new.me.0 ≡ loaded_plain (Noted.Owner c.0) result seat.old.me.0 }
         ensures owner { result ≤ self.now.cells }
     {
         self.table.shared.load::<OwnerLoad<M>>(seat, own_at(c))
@@ -147,12 +151,13 @@ impl<B: Body> Laid<B> {
         self.table.shared.load::<HeadLoad<M>>(seat, head_at(p))
     }
 
-    /// What NEXT of a task names.
+    /// What NEXT of a task names. The view says what was loaded.
     pub fn next_of(&self, seat: &mut WSeat<B>, t: CellId) -> Head
         requires table { seat.old.table_id ≡ self.now.table.shared.table_id }
         requires cell { t.0 < self.now.cells }
         ensures seat { IsSameSeat seat.old seat.new }
-        ensures view { seat.new.me.0 ≡ stepped_on seat.old.me.0 }
+        ensures view { seat.new.me.0
+            ≡ noted_step (Noted.Next t.0) (heads.head_word result) seat.old.me.0 }
         ensures small { heads.head_word result ≤ self.now.cells }
         ensures rest { NextTold t.0 result seat.old.me.0 }
     {
@@ -164,7 +169,7 @@ impl<B: Body> Laid<B> {
         requires table { seat.old.table_id ≡ self.now.table.shared.table_id }
         requires cell { t.0 < self.now.cells }
         ensures seat { IsSameSeat seat.old seat.new }
-        ensures view { seat.new.me.0 ≡ stepped_on seat.old.me.0 }
+        ensures view { seat.new.me.0 ≡ noted_step (Noted.Next t.0) result seat.old.me.0 }
         ensures next { result ≤ self.now.cells }
         ensures rest { NextTold t.0 (heads.head_in result) seat.old.me.0 }
     {

@@ -5,6 +5,7 @@ ghost use Rattle.tj_words.specs.Calls.ParkSteps.{phase_load};
 ghost use Rattle.tj_words.specs.SeatViews.SeenWords.{head_load, next_load, once_load};
 ghost use Rattle.tj_words.specs.declared.offsets.Once.{Once};
 ghost use Rattle.tj_words.specs.SeatViews.SeatSteps.{IsCount, live_load, plain_load};
+ghost use Rattle.tj_words.specs.declared.view.Noted.TheVariants as note;
 
 use crate::offsets::Once;
 use crate::record::Rec;
@@ -39,7 +40,7 @@ pub(crate) struct CountLoad<M> {
 }
 
 impl<B: Body, M: Naming> Play<Option<Rec<B>>, View<B>> for CountLoad<M> {
-    ghost then = { plain_load (IsCount M.cells) };
+    ghost then = { plain_load note.Count (IsCount M.cells) };
 }
 
 /// A load of OWN that is no event.
@@ -48,7 +49,7 @@ pub(crate) struct OwnerLoad<M> {
 }
 
 impl<B: Body, M: Naming> Play<Option<Rec<B>>, View<B>> for OwnerLoad<M> {
-    ghost then = { plain_load (λ n. n ≤ M.cells) };
+    ghost then = { plain_load (note.Owner M.cell) (λ n. n ≤ M.cells) };
 }
 
 /// A load of PHASE that is no event.

@@ -104,19 +104,33 @@ pub struct Found {
     pub chain: [u32; 0],
 }
 
-/// The words that say how a run goes.
+/// A step of which no other part of a view tells.
 #[derive(Drop)]
-pub enum RunWord {
+pub enum Noted {
+    /// A load of LIVE.
     Live,
+    /// A load of STOP.
     Stop,
+    /// A store of STOP.
+    StoredStop,
+    /// A load of COUNT.
+    Count,
+    /// A load of OWN of the cell.
+    Owner(u32),
+    /// A load of PHASE of the cell.
+    Phase(u32),
+    /// A load of NEXT of the task.
+    Next(u32),
+    /// An exchange of PHASE of the task that found another phase than it was to change.
+    Missed(u32),
 }
 
-/// A load of LIVE or of STOP: what it found, and how many words that are written once the seat had
-/// loaded before.
+/// A step: the word that it found, or that it stored, where it is the store of STOP; and how many
+/// words that are written once the seat had loaded before.
 #[derive(Drop)]
-pub struct RunLoad {
-    pub word: RunWord,
-    pub found: u64,
+pub struct Note {
+    pub step: Noted,
+    pub word: u64,
     pub once_loads: u64,
 }
 
@@ -168,6 +182,6 @@ pub struct View<B> {
     pub steps: u64,
     /// What it loaded from STOP last, 0 at first.
     pub stop: u64,
-    /// Its loads of LIVE and of STOP, the last first.
-    pub run_loads: [RunLoad; 0],
+    /// Its steps of which nothing else here tells, the last first.
+    pub notes: [Note; 0],
 }

@@ -4,7 +4,7 @@ ghost use Rattle.tj_core.specs.CoreState.{present};
 ghost use Rattle.tj_core.specs.Events.{MayCount, MayReadOthers};
 ghost use Rattle.tj_core.specs.Events.{count_read, others_read, wait_found};
 ghost use Rattle.tj_words.specs.Words.Codes as codes;
-ghost use Rattle.tj_words.specs.Words.Owners.{owner_in, owner_number};
+ghost use Rattle.tj_words.specs.Words.Owners.{owner_in, owner_number, owner_word};
 ghost use Rattle.tj_words.specs.Calls.ParkSteps.{FirstTold, loaded_phase};
 ghost use Rattle.tj_words.specs.Words.Phases.{phase_in};
 ghost use Rattle.tj_words.specs.SeatViews.SeatSteps as steps;
@@ -12,14 +12,15 @@ ghost use Rattle.tj_words.specs.SeatViews.SeatSteps.{IsSameSeat};
 ghost use Rattle.tj_words.specs.Steps.StepEvents.{wait_in};
 ghost use Rattle.tj_words.specs.SeatViews.Views.{loaded_plain};
 ghost use Rattle.tj_words.specs.Calls.WalkViews.{IsWalking, MayLoadBy, MayLoadOwner, MayLoadWait};
-ghost use Rattle.tj_words.specs.Calls.WalkViews.{MayRaise, loaded_by, lowered, owner_seen, read_on};
+ghost use Rattle.tj_words.specs.Calls.WalkViews.{MayRaise, ReadsCount, loaded_by, lowered};
+ghost use Rattle.tj_words.specs.Calls.WalkViews.{owner_seen, read_on};
 ghost use Rattle.tj_words.specs.Calls.WalkViews.{turned};
 
 use crate::offsets::{COUNT, OTHERS, own_at, phase_at};
 use crate::owner::owner_of_word;
 use crate::phase::Phase;
 use crate::table::{Laid, WSeat};
-use crate::view::Does;
+use crate::view::{Does, Noted};
 use crate::walk_plays::{
     Acting, OthersAdd, OthersSubtraction, WalkerCount, WalkerOthers, WalkerOwner, WalkerWait,
 };
@@ -29,13 +30,13 @@ use tj_body::Body;
 use tj_core::{event_keeps_facts, others_are_few};
 
 impl<B: Body> Laid<B> {
-    /// How many cells are there. A walker that counts has its bound then.
+    /// How many cells are there. A walker that counts has its bound then; where nobody walks, the view says what was
+    /// loaded.
     pub fn count(&self, seat: &mut WSeat<B>, by: Option<CellId>) -> u32
         requires table { seat.old.table_id ≡ self.now.table.shared.table_id }
         requires walks { MayLoadBy by (λ t p way w. MayCount way w) seat.old.me.0 }
         ensures seat { IsSameSeat seat.old seat.new }
-        ensures view { seat.new.me.0
-            ≡ loaded_by by loaded_plain (count_read result) seat.old.me.0 }
+        ensures view { ReadsCount by self.now.cells result seat.old.me.0 seat.new.me.0 }
         ensures some { 0 < result }
         ensures few { result ≤ self.now.cells }
     {
@@ -71,7 +72,8 @@ impl<B: Body> Laid<B> {
         self.table.shared.load::<WalkerCount<M>>(seat, COUNT)
     }
 
-    /// The owner of a cell. A walker reads that of its present cell, and then again.
+    /// The owner of a cell. A walker reads that of its present cell, and then again; where nobody walks, the view says
+    /// what was loaded.
     pub fn see_owner(&self, seat: &mut WSeat<B>, c: CellId, by: Option<CellId>) -> Option<CellId>
         requires table { seat.old.table_id ≡ self.now.table.shared.table_id }
         requires cell { c.0 < self.now.cells }
@@ -79,8 +81,8 @@ impl<B: Body> Laid<B> {
             seat.old.me.0 }
         ensures seat { IsSameSeat seat.old seat.new }
         ensures view { seat.new.me.0
-            ≡ loaded_by by loaded_plain (λ w. owner_seen (owner_number result) w w.last)
-            seat.old.me.0 }
+            ≡ loaded_by by (loaded_plain (Noted.Owner c.0) (owner_word (owner_number result)))
+            (λ w. owner_seen (owner_number result) w w.last) seat.old.me.0 }
         ensures task { (u : CellId) → result ≡ Some u → u.0 < self.now.cells }
     {
         match by {
@@ -118,8 +120,8 @@ impl<B: Body> Laid<B> {
         self.table.shared.load::<WalkerOwner<M>>(seat, own_at(c))
     }
 
-    /// The phase of a cell. Where the load is no event, and the cell the first of the seat's rest, the
-    /// way of its wait is known then.
+    /// The phase of a cell. Where nobody walks, the view says what was loaded; and where the cell is the first of the
+    /// seat's rest, the way of its wait is known then.
     pub fn see_phase(&self, seat: &mut WSeat<B>, t: CellId, by: Option<CellId>) -> Phase
         requires table { seat.old.table_id ≡ self.now.table.shared.table_id }
         requires cell { t.0 < self.now.cells }

@@ -37,9 +37,8 @@ use Rattle.tj_words.proofs.Calls.KeptCells.{kept}
 use Rattle.tj_words.proofs.Waiters.ChainsSaid.{shut_or}
 use Rattle.tj_words.proofs.Holders.HeldTasks.{hand_finds, none_some}
 use Rattle.tj_words.proofs.Stores.SeatLists.{same_field, words_same}
-use Rattle.tj_words.proofs.Stores.StoreSteps.{say_live, say_stop, say_head, say_next}
 use Rattle.tj_words.proofs.Stores.StoredWords.{put_word, put_word_cell, put_word_word, say_once}
-use Rattle.tj_words.proofs.Cells.DrawSteps.{say_count}
+use Rattle.tj_words.proofs.Stores.StoredWords.{say_count, say_live, say_stop, say_head, say_next}
 
 module _ {B : Type 0} where
   -- of the views the core state shows the same

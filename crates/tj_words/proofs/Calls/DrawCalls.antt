@@ -27,7 +27,7 @@ use Rattle.tj_words.specs.SeatViews.TaskLists.{noted}
 use Rattle.tj_words.specs.CallLaws.CallSteps.{MakesWith}
 use Rattle.tj_words.specs.CallLaws.EventCalls.{Keeping}
 use Rattle.tj_words.proofs.Events.DrawEvents.{drawn_into, may_draw}
-use Rattle.tj_words.proofs.Cells.DrawSteps.{say_count}
+use Rattle.tj_words.proofs.Stores.StoredWords.{say_count}
 use Rattle.tj_words.proofs.Cells.DrawnCells.{draws_in}
 use Rattle.tj_words.proofs.Cells.DrawnTasks.{slots_after}
 use Rattle.tj_words.proofs.Holders.HeldTasks.{hand_found}

@@ -34,13 +34,13 @@ use Rattle.tj_words.specs.CallLaws.EventCalls.{Keeping}
 use Rattle.tj_words.specs.LawParts.ShownState.{does_walk}
 use Rattle.tj_words.specs.Calls.WaitViews.{MayPublishWait, MayStoreAlarm, alarmed, now_alarmed, now_does, published}
 use Rattle.tj_words.proofs.Seating.Splitting.{total_set}
-use Rattle.tj_words.proofs.Waiters.OthersSteps.{say_others, acting_phase}
+use Rattle.tj_words.proofs.Waiters.OthersSteps.{acting_phase}
 use Rattle.tj_words.proofs.Stores.SeatContents.{seats_set, seats_same}
 use Rattle.tj_words.proofs.Stores.SeatLists.{words_same}
 use Rattle.tj_words.proofs.SeatLoads.WalkLoads.{held_by_view, turned_seats}
 use Rattle.tj_words.proofs.SeatLoads.WalkReads.{doing, task_turned, turned_to}
 use Rattle.tj_words.proofs.Holders.NotedTasks.{noted_is}
-use Rattle.tj_words.proofs.Stores.StoredWords.{say_phase}
+use Rattle.tj_words.proofs.Stores.StoredWords.{say_others, say_phase}
 use Rattle.tj_words.proofs.Phases.WaitStores.{after_store, alarms, publishes}
 use Rattle.tj_words.proofs.Calls.KeptCells.{kept_turns, kept_words}
 

@@ -139,7 +139,7 @@ module _ {B : Type 0} where
     keeps_rest call.sees_live n k st m m' h = dite (ℕ_discrete k 0)
         (λ e r. ap (λ (x : View B). x.rested) (h.1.1 e))
         (λ e. by_view m.0 m'.0 _ (h.1.2 e) refl)
-    keeps_rest call.stops n k st m m' h = by_me m m' _ h.1 refl
+    keeps_rest call.stops n k st m m' h = by_me m m' _ h.1.0 refl
     keeps_rest call.sees_stop n k st m m' h = by_view m.0 m'.0 _ h.1.1 refl
     keeps_rest (call.sees_head p) n k st m m' h = see_head p k st m m' h.1
     keeps_rest (call.pushes p) n k st m m' h = dite (ℕ_discrete k st.first)

@@ -25,8 +25,8 @@ use Rattle.tj_words.specs.SeatViews.TaskLists.{hold, let_go}
 use Rattle.tj_words.specs.Steps.WalkSteps.{KeepsOthers, Leaves, Turns}
 use Rattle.tj_words.proofs.Stores.SeatLists.{same_field}
 use Rattle.tj_words.proofs.Holders.SeatTasks.{let_go_moved, noted_turned, same_but, taken_moved}
-use Rattle.tj_words.proofs.Stores.StoreSteps.{put_here, put_else, say_live}
-use Rattle.tj_words.proofs.Stores.StoredWords.{say_phase}
+use Rattle.tj_words.proofs.Stores.StoreSteps.{put_here, put_else}
+use Rattle.tj_words.proofs.Stores.StoredWords.{say_live, say_phase}
 use Rattle.tj_words.proofs.Seating.Splitting.{total_set}
 
 -- a field of the views, where one view has become another

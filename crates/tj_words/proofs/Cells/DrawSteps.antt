@@ -50,7 +50,9 @@ use Rattle.tj_words.proofs.Holders.HeldTasks.{none_some, one_some, makes_none, a
 use Rattle.tj_words.proofs.Stores.SeatLists.{back, inside, word_else, word_here}
 use Rattle.tj_words.proofs.Stores.SeatContents.{set_seats, seats_same}
 use Rattle.tj_words.proofs.Holders.TaskPlaces.{held_here, held_drawn}
-use Rattle.tj_words.proofs.Stores.StoreSteps.{once_low, may_count}
+use Rattle.tj_words.proofs.Stores.StoreSteps.{may_store}
+use Rattle.tj_words.proofs.Stores.StoredWords.{say_count}
+use Rattle.tj_words.proofs.Stores.TableWords.{Count}
 use Rattle.tj_words.proofs.Seating.Splitting.{total_set}
 use Rattle.tj_words.proofs.Stores.SlotStores.{StoresWith, Acts, acts_keeping, acts_taking}
 use Rattle.tj_words.proofs.SeatLoads.LoadSteps.{total_fits, knows_so}
@@ -64,21 +66,6 @@ use Rattle.tj_words.proofs.Waiters.StopSteps.{law_refuses}
 use Rattle.tj_words.proofs.Cells.MadeThings.{made_few}
 use Rattle.tj_words.proofs.Cells.DrawnTasks.{slots_after}
 use Rattle.tj_words.proofs.Cells.DrawnCells.{law_drawn}
-
--- what the words say after a step on COUNT
-pub say_count : (ws : List ℕ) (n : ℕ) → count_at < length ws
-    → words_say (set ws count_at n) ≡ record (words_say ws) { count = n }
-say_count ws n l j = record {
-  count = word_here ws count_at n l j;
-  live = word_else ws count_at live_at n (λ e. omega arith) j;
-  others = word_else ws count_at others_at n (λ e. omega arith) j;
-  stop = word_else ws count_at stop_at n (λ e. omega arith) j;
-  own = λ c. owner_in (word_else ws count_at (own_at c) n (λ e. omega arith) j);
-  phase = λ c. phase_in (word_else ws count_at (phase_at c) n (λ e. omega arith) j);
-  once = λ c f. word_else ws count_at (once_at c f) n (once_low c count_at f (omega arith)) j;
-  head = λ c. head_in (word_else ws count_at (head_at c) n (λ e. omega arith) j);
-  next = λ c. head_in (word_else ws count_at (next_at c) n (λ e. omega arith) j);
-}
 
 module _ {B : Type 0} (program : Bool → B → Program B) (key : Key B) (keeps : EventKeepsFacts)
     (full : (strict : Bool) (root : B) → IsRooted (program strict root) → IsFullWhere (program strict root)) where
@@ -202,7 +189,7 @@ module _ {B : Type 0} (program : Bool → B → Program B) (key : Key B) (keeps 
     draw_stores left = let y = seats_have s.views in let q = r.seats id v at in let w = drew_view in record {
       inside = count_room;
       as_many = many o;
-      may = may_count key.cells count_at (suc (word s.words count_at)) (omega arith);
+      may = may_store key.cells Count (suc (word s.words count_at)) tt;
       seat = record {
         about = q.about;
         within_lot = record {
@@ -291,7 +278,7 @@ module _ {B : Type 0} (program : Bool → B → Program B) (key : Key B) (keeps 
         let w = was_refused v in record {
           inside = count_room;
           as_many = refl;
-          may = may_count key.cells count_at (suc (word s.words count_at)) (omega arith);
+          may = may_store key.cells Count (suc (word s.words count_at)) tt;
           seat = record {
             about = q.about;
             within_lot = record {

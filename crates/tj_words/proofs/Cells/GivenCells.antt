@@ -46,8 +46,9 @@ use Rattle.tj_words.proofs.Cells.SeatHands.{hand_kept, hand_set, makes_kept, mak
 use Rattle.tj_words.proofs.Holders.SeatTasks.{find_changed, find_same, held_alone}
 use Rattle.tj_words.proofs.Holders.TaskPlaces.{held_here}
 use Rattle.tj_words.proofs.Stores.SeatContents.{set_seats, seats_same}
-use Rattle.tj_words.proofs.Stores.StoreSteps.{put_here, put_else, Stores}
-use Rattle.tj_words.proofs.Stores.StoredWords.{say_own, may_own}
+use Rattle.tj_words.proofs.Stores.StoreSteps.{put_here, put_else, Stores, may_store}
+use Rattle.tj_words.proofs.Stores.StoredWords.{say_own}
+use Rattle.tj_words.proofs.Stores.TableWords.{Own}
 use Rattle.tj_words.proofs.Cells.CellFacts.{cell_born}
 use Rattle.tj_words.proofs.Cells.DrawnSeats.{gives_owner}
 use Rattle.tj_words.proofs.Events.DrawEvents.{give_shown}
@@ -568,7 +569,7 @@ module _ {B : Type 0} (program : Bool → B → Program B) (key : Key B) where
       let maker = (law.hands.each id h has).maker_held in
       record {
         inside = room;
-        may = may_own key.cells c (suc o) (omega arith);
+        may = may_store key.cells (Own c) (suc o) (omega arith);
         seat = record {
           about = q.about;
           within_lot = record {

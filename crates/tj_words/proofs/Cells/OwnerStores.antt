@@ -40,8 +40,9 @@ use Rattle.tj_words.proofs.Holders.NotedTasks.{noted_is, holder_lot}
 use Rattle.tj_words.proofs.Holders.NotedEntries.{noted_here, noted_else}
 use Rattle.tj_words.proofs.Waiters.LiveSteps.{backing_running, alarms_else}
 use Rattle.tj_words.proofs.Waiters.Backings.{backing_runs}
-use Rattle.tj_words.proofs.Stores.StoreSteps.{Stores, step_allowed}
-use Rattle.tj_words.proofs.Stores.StoredWords.{say_own, may_own}
+use Rattle.tj_words.proofs.Stores.StoreSteps.{Stores, may_store, step_allowed}
+use Rattle.tj_words.proofs.Stores.StoredWords.{say_own}
+use Rattle.tj_words.proofs.Stores.TableWords.{Own}
 use Rattle.tj_words.proofs.Stores.WordStores.{hand_here}
 use Rattle.tj_words.proofs.Cells.GivenCells.{give_stores}
 use Rattle.tj_words.proofs.Cells.ClosedCells.{law_closed}
@@ -106,7 +107,7 @@ module _ {B : Type 0} (program : Bool → B → Program B) (key : Key B) (events
       let dues = at_map (λ (u : View B). u.dues) s.views id v at in
       record {
         inside = inside;
-        may = may_own key.cells c 0 (omega arith);
+        may = may_store key.cells (Own c) 0 (omega arith);
         seat = owner_seat v m.task c w.steps w.tasks w.dues o (r.seats id v at)
             (gave_backing v m.task c w.steps w.dues o (r.seats id v at).backing);
         law = subst (λ z. Law P key.cells (record { words = z; slots = s.homes; seats = set_seats y id w }))
@@ -170,7 +171,7 @@ module _ {B : Type 0} (program : Bool → B → Program B) (key : Key B) (events
       ∙ sym (noted_is (gave_view m.task c v).tasks u m.child (owns_also c) (gave_child v c u m)) in
       record {
         inside = inside;
-        may = may_own key.cells c (suc u) (omega arith);
+        may = may_store key.cells (Own c) (suc u) (omega arith);
         seat = owner_seat v m.task c w.steps w.tasks w.dues o (r.seats id v at)
             (handed_backing v c u m (r.seats id v at).backing);
         law = subst (λ z. Law P key.cells (record { words = z; slots = s.homes; seats = set_seats y id w }))

@@ -16,6 +16,8 @@ use Rattle.tj_body.specs.declared.point.Reference.{Reference}
 use Rattle.tj_body.proofs.Lists.{begins_self}
 use Rattle.tj_words.specs.declared.phase.Phase.TheVariants as phase
 use Rattle.tj_words.specs.declared.record.Rec.{Rec}
+use Rattle.tj_words.specs.declared.view.Does.{Does}
+use Rattle.tj_words.specs.declared.view.Does.TheVariants as does
 use Rattle.tj_words.specs.declared.view.Filled.{Filled}
 use Rattle.tj_words.specs.LawParts.Contents.{Contents, tag_in, home_of}
 use Rattle.tj_words.specs.LawParts.Holding.{Slots, phase_of, record_in, home_in}
@@ -37,38 +39,27 @@ use Rattle.tj_words.proofs.Meaning.LawMeant.{ground_of, known_of}
 use Rattle.tj_words.proofs.Meaning.MeaningGrows.{AreFilledIn, FilledIn, told_on}
 use Rattle.tj_words.proofs.Meaning.MeaningSteps.{claim_seen}
 
+-- what holds of a new task and of one that runs along holds of what a task does first
+first_is : (F : Does → Type 0) → F does.Fresh → F does.Running → (a : Answer) → F (does_first a)
+first_is F f r answer.Start = f
+first_is F f r (answer.Local k) = r
+first_is F f r answer.Done = r
+first_is F f r (answer.Num i) = r
+first_is F f r (answer.RefAt k) = r
+first_is F f r answer.Lost = r
+
 -- a task that a seat takes runs from then on
 pub first_phase : (a : Answer) → phase_of (does_first a) ≡ phase.Running
-first_phase answer.Start = refl
-first_phase (answer.Local k) = refl
-first_phase answer.Done = refl
-first_phase (answer.Num i) = refl
-first_phase (answer.RefAt k) = refl
-first_phase answer.Lost = refl
+first_phase = first_is (λ d. phase_of d ≡ phase.Running) refl refl
 
 pub first_runs : (a : Answer) → DoesRun (does_first a)
-first_runs answer.Start = tt
-first_runs (answer.Local k) = tt
-first_runs answer.Done = tt
-first_runs (answer.Num i) = tt
-first_runs (answer.RefAt k) = tt
-first_runs answer.Lost = tt
+first_runs = first_is DoesRun tt tt
 
 pub first_calm : (a : Answer) → ¬ HasAlarmed (does_first a)
-first_calm answer.Start h = h
-first_calm (answer.Local k) h = h
-first_calm answer.Done h = h
-first_calm (answer.Num i) h = h
-first_calm (answer.RefAt k) h = h
-first_calm answer.Lost h = h
+first_calm = first_is (λ d. ¬ HasAlarmed d) (λ h. h) (λ h. h)
 
 pub first_cells : (a : Answer) → does_cells (does_first a) ≡ []
-first_cells answer.Start = refl
-first_cells (answer.Local k) = refl
-first_cells answer.Done = refl
-first_cells (answer.Num i) = refl
-first_cells (answer.RefAt k) = refl
-first_cells answer.Lost = refl
+first_cells = first_is (λ d. does_cells d ≡ []) refl refl
 
 -- the first of the cells of these names is the one that has the first name
 own_first : (born : List Reference) → AreApartByName born → (cells : List CellId) (q : Name) (more : List Name) (c : ℕ)

@@ -1,7 +1,7 @@
 -- The cycles of waits of a meaning are those that closed words of it show; so each of them has a member that has
 -- alarmed.
 use Rattle.std.proofs.Common.{◌≡◌, ◌≢◌, ◌⊎◌, ℕ, zero, suc, ◌<◌, nat_eq, eqb-true, eq-eqb, true, List, [], ◌∷◌, map}
-use Rattle.std.proofs.Common.{length, get_or, Some, refl, sym, ap, ◌∙◌, subst, inl, inr, arith}
+use Rattle.std.proofs.Common.{length, get_or, Some, refl, sym, ap, ◌∙◌, subst, inl, inr, arith, Bool}
 use Rattle.std.specs.Bool.{Decides}
 use mathlib.Core.Option.{some-injective, some-ne-none}
 use Rattle.tj_base.specs.Cycles as graph
@@ -30,7 +30,7 @@ use Rattle.tj_words.specs.declared.phase.Walk.{Walk}
 use Rattle.tj_words.specs.AtRest.ClosedCells.{IsShown, Waits, Owns, Leads, HasAlarmed, AreCyclesAlarmed}
 use Rattle.tj_words.specs.Words.Lists.{cell}
 use Rattle.tj_words.specs.AtRest.RestMeaning.{names, IsPhaseAt, AreWordsOf, AreCyclesOfMeaningAlarmed}
-use Rattle.tj_words.specs.LawParts.ShownState.{reference_of}
+use Rattle.tj_words.specs.LawParts.ShownState.{reference_of, phase_sort}
 use Rattle.tj_words.specs.LawParts.TreeWords.{IsCell}
 use Rattle.tj_words.proofs.Cells.CellNames.{name_of}
 use Rattle.tj_words.proofs.Holders.HeldTasks.{at_index, one_some}
@@ -54,7 +54,7 @@ contains_in (y ∷ ys) zero x l e = inl (sym e)
 contains_in (y ∷ ys) (suc k) x l e = inr (contains_in ys k x (omega arith) e)
 
 -- a history that waits is shown by a wait
-waits_there : (born : List Reference) (q : PointStage) (p : Phase) (name : Name) (spare : Rattle.std.proofs.Common.Bool)
+waits_there : (born : List Reference) (q : PointStage) (p : Phase) (name : Name) (spare : Bool)
     → IsPhaseAt born q p → q ≡ stage.Waits name spare
     → (c : CellId) × (way : Way) × (w : Walk) × (r : Reference) × (p ≡ phase.Waiting c way w) × IsCell born c.0 r
     × (r.name ≡ name)
@@ -64,7 +64,7 @@ waits_there born q p name spare h e = let w = subst (λ z. IsPhaseAt born z p) e
 -- and a wait that is shown is one of the history
 waits_at : (born : List Reference) (q : PointStage) (p : Phase) (c : CellId) (way : Way) (w : Walk) → IsPhaseAt born q p
     → p ≡ phase.Waiting c way w
-    → (r : Reference) × (spare : Rattle.std.proofs.Common.Bool) × IsCell born c.0 r × (q ≡ stage.Waits r.name spare)
+    → (r : Reference) × (spare : Bool) × IsCell born c.0 r × (q ≡ stage.Waits r.name spare)
 waits_at born (stage.Answered a) p c way w h e = absurd h
 waits_at born (stage.Closed k) p c way w h e =
     let z : phase.Waiting c way w ≡ phase.Ended = sym e ∙ h in absurd (cc)
@@ -133,7 +133,7 @@ module _ {B : Type 0} (program : Program B) (N : ℕ) (shown : List RestCell) (b
         reference_of born t,
         e,
         words.named.sorts t h.0 (reference_of born t) h.3 e
-            ∙ ap Rattle.tj_words.specs.LawParts.ShownState.phase_sort h.4,
+            ∙ ap phase_sort h.4,
       )
 
   image : AreImages named There (Leads shown) (meant.WaitsFor ps)

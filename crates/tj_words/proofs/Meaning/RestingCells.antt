@@ -10,7 +10,7 @@ use Rattle.tj_base.specs.declared.cell.CellId.{CellId}
 use Rattle.tj_base.proofs.CyclesOn.{cycle_list_moves}
 use Rattle.tj_body.specs.Programs.{Program}
 use Rattle.tj_body.specs.declared.point.Reference.{Reference}
-use Rattle.tj_core.specs.CoreState.{CoreState}
+use Rattle.tj_core.specs.CoreState.{CoreState, CellState, stage, waits}
 use Rattle.tj_core.specs.StateLaws.{AlarmsAreOnCycles, CyclesAreWatched}
 use Rattle.tj_core.specs.WaitGraph as core
 use Rattle.tj_core.specs.declared.walk.Way.{Way}
@@ -23,6 +23,7 @@ use Rattle.tj_words.specs.declared.record.Rec.{Rec}
 use Rattle.tj_words.specs.declared.table.Key.{Key}
 use Rattle.tj_words.specs.declared.view.View.{View}
 use Rattle.tj_words.specs.AtRest.ClosedCells.{IsShown, Waits, HasAlarmed, Owns, Leads, AreAtRest, AreCyclesAlarmed}
+use Rattle.tj_words.specs.AtRest.ClosedCells.{IsStill}
 use Rattle.tj_words.specs.AtRest.ClosedCells.{AreAlarmsOnCycles, AreNamed}
 use Rattle.tj_words.specs.Law.{Rule}
 use Rattle.tj_words.specs.Words.Lists.{cell}
@@ -31,7 +32,9 @@ use Rattle.tj_words.specs.Words.Owners.{owner_in}
 use Rattle.tj_words.specs.AtRest.RestingSeats.{MayRest}
 use Rattle.tj_words.specs.AtRest.ShownCells.{AreCellsOf, cell_of, task_in, maker_in}
 use Rattle.tj_words.specs.LawParts.ShownState.{phase_sort, sort_shown}
-use Rattle.tj_words.specs.LawParts.TreeWords.{IsCell, parent_word}
+use Rattle.tj_words.specs.LawParts.TreeWords.{IsCell, parent_word, tree_word, IsOfTree}
+use Rattle.tj_words.specs.declared.offsets.Once.{Once}
+use Rattle.tj_words.specs.Steps.ShownParts.{parts_of}
 use Rattle.tj_words.proofs.Stores.SeatLists.{inside}
 use Rattle.tj_words.proofs.Holders.HeldTasks.{one_some}
 use Rattle.tj_words.proofs.Events.ShownCells.{cell_there}
@@ -76,7 +79,7 @@ module _ {B : Type 0} (program : Bool → B → Program B) (key : Key B) (s : St
   -- they are at rest
   pub at_rest : AreAtRest shown
   at_rest = record {
-    still = λ c x e. subst Rattle.tj_words.specs.AtRest.ClosedCells.IsStill (sym (phase_shown c x e))
+    still = λ c x e. subst IsStill (sym (phase_shown c x e))
         (rests.still program key s r id v at may c (inside_shown c x e));
     waits_open = λ t c h.
         let e = sym (phase_shown t h.0 h.3) ∙ h.4 in
@@ -114,8 +117,8 @@ module _ {B : Type 0} (program : Bool → B → Program B) (key : Key B) (s : St
             (λ h. absurd (rests.no_walk program key s r id v at may w.0 h.0 h.1 h.2 h.3)) w.2,
       )
     where
-      alarmed : (u c : ℕ) (way : Way) → Rattle.tj_core.specs.CoreState.stage K.cells u
-          ≡ Rattle.tj_core.specs.CoreState.waits c way Rattle.tj_core.specs.CoreState.alarmed → HasAlarmed shown u
+      alarmed : (u c : ℕ) (way : Way) → stage K.cells u
+          ≡ waits c way Rattle.tj_core.specs.CoreState.alarmed → HasAlarmed shown u
       alarmed u c way e = let p = rests.alarm_phase program key s r id v at may u c way e in
           let l = rests.waiter_there program key s r id v at may u (cell c) way walk.Alarmed p in
           (cell_of s.words u, cell c, way, is_shown u l, p)
@@ -149,8 +152,8 @@ module _ {B : Type 0} (program : Bool → B → Program B) (key : Key B) (s : St
         let kid : x.kid ≡ r.law.number c = ap (λ (z : RestCell). z.kid) (shown_is c x e) ∙ tree c l f once.Kid tt in
         let b = r.law.births.named c y f nz in
         let before : r.law.maker c < c = subst (λ k. k < c)
-        (ap (λ (z : Rattle.tj_core.specs.CoreState.CellState). z.maker)
-        (cell_there r.law.born r.law.maker (Rattle.tj_words.specs.Steps.ShownParts.parts_of key.cells
+        (ap (λ (z : CellState). z.maker)
+        (cell_there r.law.born r.law.maker (parts_of key.cells
         (rests.x program key s r id v at may)) c l)) (r.law.facts.makers.makers_before c l nz) in (
           subst (λ k. k < c) (sym maker) before,
           (b.0, subst (λ k. IsCell r.law.born k b.0) (sym maker) b.1, b.2 ∙ ap (child b.0.name) (sym kid)),
@@ -161,7 +164,7 @@ module _ {B : Type 0} (program : Bool → B → Program B) (key : Key B) (s : St
   }
     where
       tree : (c : ℕ) → c < n → {y : Reference} → IsCell r.law.born c y
-          → (f : Rattle.tj_words.specs.declared.offsets.Once.Once) → Rattle.tj_words.specs.LawParts.TreeWords.IsOfTree f
-          → word s.words (once_at c f) ≡ Rattle.tj_words.specs.LawParts.TreeWords.tree_word r.law.maker r.law.number r.law.forks
+          → (f : Once) → IsOfTree f
+          → word s.words (once_at c f) ≡ tree_word r.law.maker r.law.number r.law.forks
           y.sort c f
       tree c l {y} e f t = r.law.tree_words.written c y f (rests.there program key s r id v at may c l) e t

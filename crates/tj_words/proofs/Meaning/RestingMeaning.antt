@@ -27,7 +27,7 @@ use Rattle.tj_words.specs.declared.record.Rec.{Rec}
 use Rattle.tj_words.specs.declared.table.Key.{Key}
 use Rattle.tj_words.specs.declared.view.View.{View}
 use Rattle.tj_words.specs.AtRest.ClosedCells.{IsStill, Owns}
-use Rattle.tj_words.specs.LawParts.Contents.{tag_in, bits_in, home_of, held_of, owned_of}
+use Rattle.tj_words.specs.LawParts.Contents.{tag_in, bits_in, home_of, held_of, owned_of, Contents}
 use Rattle.tj_words.specs.LawParts.Holding.{record_in, owned_by}
 use Rattle.tj_words.specs.Law.{Rule}
 use Rattle.tj_words.specs.Words.Lists.{numbers}
@@ -38,7 +38,7 @@ use Rattle.tj_words.specs.AtRest.RestMeaning.{tag_for}
 use Rattle.tj_words.specs.AtRest.RestShown.{AreSlots}
 use Rattle.tj_words.specs.AtRest.RestingSeats.{MayRest}
 use Rattle.tj_words.specs.AtRest.ShownCells.{AreCellsOf, cell_of}
-use Rattle.tj_words.specs.LawParts.ShownState.{phase_sort, reference_of, stage_there}
+use Rattle.tj_words.specs.LawParts.ShownState.{phase_sort, reference_of, stage_there, sort_shown}
 use Rattle.tj_words.specs.LawParts.Telling.{ArePairs, HasName, HeldSays, Tells, TellsStage}
 use Rattle.tj_words.specs.LawParts.TreeWords.{IsCell}
 use Rattle.tj_words.proofs.Cells.CellNames.{name_of, born_apart, distinct_names, cell_of_name}
@@ -47,6 +47,7 @@ use Rattle.tj_words.proofs.Meaning.ClosedWords.{read_or}
 use Rattle.tj_words.proofs.Events.ShownCells.{owner_out}
 use Rattle.tj_words.specs.Steps.ShownParts.{parts_of}
 use Rattle.tj_core.specs.CoreState.{Lives}
+use Rattle.tj_core.specs.declared.walk.Way.{Way}
 use Rattle.tj_words.proofs.Holders.HeldTasks.{none_some, one_some}
 use Rattle.tj_words.proofs.Meaning.Resting.{IsMeant, pairs_at, in_of_index}
 use Rattle.tj_words.proofs.Meaning.RestingCells as cells
@@ -96,7 +97,7 @@ module _ {B : Type 0} (program : Bool → B → Program B) (key : Key B) (s : St
   abbrev P : Program B
   P = program key.strict key.root.value
 
-  abbrev x : Rattle.tj_words.specs.LawParts.Contents.Contents B
+  abbrev x : Contents B
   x = rests.x program key s r id v at may
 
   abbrev n : ℕ
@@ -110,7 +111,7 @@ module _ {B : Type 0} (program : Bool → B → Program B) (key : Key B) (s : St
 
   sort_is : (c : ℕ) (y : Reference) → IsCell born c y → y.sort ≡ phase_sort (x.words.phase c)
   sort_is c y e = r.law.births.sorts c y e
-      ∙ ap (λ o. Rattle.tj_words.specs.LawParts.ShownState.sort_shown o (x.words.phase c))
+      ∙ ap (λ o. sort_shown o (x.words.phase c))
       (rests.no_hand program key s r id v at may c)
 
   -- the slots
@@ -124,7 +125,7 @@ module _ {B : Type 0} (program : Bool → B → Program B) (key : Key B) (s : St
 
   promise_slot : (t : ℕ) → t < n → phase_sort (x.words.phase t) ≡ sort.Promise → get_elem? slots t ≡ some None
   promise_slot t l e = left t None (r.law.custody.promises_empty t l
-      (ap (λ o. Rattle.tj_words.specs.LawParts.ShownState.sort_shown o (x.words.phase t))
+      (ap (λ o. sort_shown o (x.words.phase t))
       (rests.no_hand program key s r id v at may t) ∙ e)).0
 
   slot_back : (t : ℕ) (y : Rec B) → get_elem? slots t ≡ some (Some y) → home_of x t ≡ Some y
@@ -166,7 +167,7 @@ module _ {B : Type 0} (program : Bool → B → Program B) (key : Key B) (s : St
     its_phase = by (x.words.phase t) refl (rests.still program key s r id v at may t (inside_born t _ its_cell))
         (r.law.records_fit t y e)
       where
-        not_walking : (c : CellId) (way : Rattle.tj_core.specs.declared.walk.Way.Way) (w : Walk)
+        not_walking : (c : CellId) (way : Way) (w : Walk)
             → IsStill (phase.Waiting c way w) → w ≢ walk.Walking
         not_walking c way walk.Walking h q = h
         not_walking c way walk.Parked h q = cc

@@ -13,8 +13,8 @@ use Rattle.tj_base.specs.declared.cell.CellId.{CellId}
 use Rattle.tj_base.specs.declared.cell.Sort.TheVariants as sort
 use Rattle.tj_body.specs.Programs.{Program}
 use Rattle.tj_core.specs.CoreState.{CellStage, CoreState, waits, walks, parked, alarmed, promise, ended, running, owner}
-use Rattle.tj_core.specs.CoreState.{stage, wait, blank}
-use Rattle.tj_core.specs.WaitGraph.{Leads}
+use Rattle.tj_core.specs.CoreState.{stage, wait, blank, WaitStage, CellState, wait_of}
+use Rattle.tj_core.specs.WaitGraph.{Leads, Reaches}
 use Rattle.tj_core.specs.declared.walk.Walker.{Walker}
 use Rattle.tj_core.specs.declared.walk.Way.{Way}
 use Rattle.tj_words.specs.declared.phase.Phase.{Phase}
@@ -37,8 +37,10 @@ use Rattle.tj_words.specs.LawParts.LiveCount.{live_part}
 use Rattle.tj_words.specs.LawParts.Lots.{IsSpent, IsWithinLot, least_lot}
 use Rattle.tj_words.specs.AtRest.RestingSeats.{MayRest}
 use Rattle.tj_words.specs.Steps.ShownParts.{parts_of}
-use Rattle.tj_words.specs.LawParts.ShownState.{phase_sort, stage_there}
+use Rattle.tj_words.specs.LawParts.ShownState.{phase_sort, stage_there, sort_shown}
 use Rattle.tj_words.specs.Steps.StepEvents.{wait_in}
+use Rattle.tj_words.specs.declared.offsets.Once.TheVariants.{Tag}
+use Rattle.tj_words.specs.LawParts.Holding.{held_in}
 use Rattle.tj_words.proofs.Cells.CellFacts.{wait_shown}
 use Rattle.tj_words.proofs.Holders.HeldTasks.{hand_found, none_some}
 use Rattle.tj_words.proofs.Waiters.LiveSteps.{none_left_waiting}
@@ -171,7 +173,7 @@ module _ {B : Type 0} (program : Bool → B → Program B) (key : Key B) (s : St
 
   pub not_held : (t : ℕ) → ¬ IsHeld (r.law.custody.holder t)
   not_held t h = let z = r.law.custody.holders t h.0 h.1 in
-      none_some None z.2.0 refl (sym (ap (λ l. Rattle.tj_words.specs.LawParts.Holding.held_in l t) (idle h.0 z.0 z.1)) ∙ z.2.1)
+      none_some None z.2.0 refl (sym (ap (λ l. held_in l t) (idle h.0 z.0 z.1)) ∙ z.2.1)
 
   pub free : (t : ℕ) → r.law.custody.holder t ≡ None
   free t = by (r.law.custody.holder t) refl where
@@ -187,7 +189,7 @@ module _ {B : Type 0} (program : Bool → B → Program B) (key : Key B) (s : St
     by (Some h) e = let f = hand_found x.seats.hands c h e in
         let m = (r.law.hands.each f.0.0 h f.0.1).maker_held in
         none_some None m.2.0 refl
-        (sym (ap (λ l. Rattle.tj_words.specs.LawParts.Holding.held_in l h.maker) (idle f.0.0 m.0 m.1)) ∙ m.2.1)
+        (sym (ap (λ l. held_in l h.maker) (idle f.0.0 m.0 m.1)) ∙ m.2.1)
 
   pub there : (c : ℕ) → c < n → IsThere n (hand_of x) c
   there c l = (l, no_hand c)
@@ -201,7 +203,7 @@ module _ {B : Type 0} (program : Bool → B → Program B) (key : Key B) (s : St
       → IsKept p (r.law.custody.holder t) (home_of x t)
   kept t l p e is = subst (λ z. IsKept z (r.law.custody.holder t) (home_of x t)) e
       (r.law.custody.tasks_kept t l
-      (ap (λ (o : Option Hand). Rattle.tj_words.specs.LawParts.ShownState.sort_shown o (x.words.phase t)) (no_hand t)
+      (ap (λ (o : Option Hand). sort_shown o (x.words.phase t)) (no_hand t)
       ∙ (ap phase_sort e ∙ is)))
 
   -- each task has ended, or waits and has parked or alarmed
@@ -234,11 +236,11 @@ module _ {B : Type 0} (program : Bool → B → Program B) (key : Key B) (s : St
       ∙ alarm_out t (x.words.own t) (x.words.phase t) c way (held_of x t) (home_of x t)
       (r.law.waiters_own t c way walk.Alarmed e) e
 
-  drawn_stage : (t c : ℕ) (way : Way) (w : Rattle.tj_core.specs.CoreState.WaitStage)
+  drawn_stage : (t c : ℕ) (way : Way) (w : WaitStage)
       → stage K.cells t ≡ waits c way w → t < n
   drawn_stage t c way w e = dite (dec_le n t)
       (λ (l : n ≤ t). let q : promise ≡ waits c way w =
-      sym (ap (λ (z : Rattle.tj_core.specs.CoreState.CellState). z.stage)
+      sym (ap (λ (z : CellState). z.stage)
       (cell_blank r.law.born r.law.maker (parts_of key.cells x) t l)) ∙ e in absurd (cc))
       (λ l. omega arith)
 
@@ -266,8 +268,8 @@ module _ {B : Type 0} (program : Bool → B → Program B) (key : Key B) (s : St
       → (c : CellId) × (way : Way) × (w : Walk) × (x.words.phase t ≡ phase.Waiting c way w) × (x.words.own c.0 ≡ Some u)
   leads_back t u h =
       let l : t < n = dite (dec_le n t)
-      (λ (l : n ≤ t). let q : None ≡ Some h.0 = sym (ap (λ (z : Rattle.tj_core.specs.CoreState.CellState).
-      Rattle.tj_core.specs.CoreState.wait_of z.stage) (cell_blank r.law.born r.law.maker (parts_of key.cells x) t l))
+      (λ (l : n ≤ t). let q : None ≡ Some h.0 = sym (ap (λ (z : CellState).
+      wait_of z.stage) (cell_blank r.law.born r.law.maker (parts_of key.cells x) t l))
       ∙ h.1 in absurd (cc)) (λ l. omega arith) in
       let y = waits_back (x.words.phase t) h.0 (sym (wait_shown r.law t (there t l)) ∙ h.1) in
       let o = owner_out r.law.born r.law.maker (parts_of key.cells x) y.0.0 (r.law.names.waits t y.0 y.1 y.2 y.3).0
@@ -281,7 +283,7 @@ module _ {B : Type 0} (program : Bool → B → Program B) (key : Key B) (s : St
       ap live_part (sym e) ∙ not_live t (waiter_there t c way walk.Walking e) in absurd (omega arith)
   no_value t c way walk.Parked e = none_left_waiting program key s r id v at may.rested t c.0 (way, e)
   no_value t c way walk.Alarmed e = dite (ℕ_discrete (tag_in x c.0) 0) (λ q. q)
-      (λ q. let closed = r.law.once_words.valued c.0 Rattle.tj_words.specs.declared.offsets.Once.TheVariants.Tag
+      (λ q. let closed = r.law.once_words.valued c.0 Tag
       (λ h. h) q in
       let cycle = r.law.facts.alarm t c.0 way (alarm_shown t c way e) in
       let first = first_of t cycle.0 cycle.1.some cycle.1.round in
@@ -289,7 +291,7 @@ module _ {B : Type 0} (program : Bool → B → Program B) (key : Key B) (s : St
       let same : h.0.0 ≡ c.0 = one_cell (sym h.3 ∙ e) in
       none_some (x.words.own c.0) first.0 closed.1 (ap (λ k. x.words.own k) (sym same) ∙ h.4))
     where
-      first_of : (a m : ℕ) → 0 < m → Rattle.tj_core.specs.WaitGraph.Reaches K.cells a m a
+      first_of : (a m : ℕ) → 0 < m → Reaches K.cells a m a
           → (b : ℕ) × Leads K.cells a b
       first_of a zero l h = absurd (omega arith)
       first_of a (suc m) l h = let z = reach_front (Leads K.cells) a m a h in (z.0, z.1)

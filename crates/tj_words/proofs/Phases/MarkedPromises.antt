@@ -48,8 +48,9 @@ use Rattle.tj_words.proofs.Holders.HeldTasks.{none_some, one_some}
 use Rattle.tj_words.proofs.Stores.SeatLists.{of_seat_set}
 use Rattle.tj_words.proofs.Cells.SeatHands.{hand_kept, hand_set, makes_kept, other_cell, own_cell}
 use Rattle.tj_words.proofs.Stores.SeatContents.{set_seats, seats_same}
-use Rattle.tj_words.proofs.Stores.StoreSteps.{put_here, put_else, Stores, step_allowed}
-use Rattle.tj_words.proofs.Stores.StoredWords.{say_phase, may_phase}
+use Rattle.tj_words.proofs.Stores.StoreSteps.{put_here, put_else, Stores, may_store, step_allowed}
+use Rattle.tj_words.proofs.Stores.StoredWords.{say_phase}
+use Rattle.tj_words.proofs.Stores.TableWords as table_word
 use Rattle.tj_words.proofs.Waiters.ChainFacts.{IsNotParked, unborn_free, promise_free}
 use Rattle.tj_words.proofs.Waiters.ChainPhases.{chains_turn}
 use Rattle.tj_words.proofs.Waiters.LiveSteps.{count_same}
@@ -304,7 +305,7 @@ module _ {B : Type 0} (program : Bool → B → Program B) (key : Key B) where
       (at_map (λ (u : View B). u.known) s.views id v at) (subst (λ d. d < key.cells) (sym m.its_cell) l) in
       record {
         inside = inside;
-        may = may_phase key.cells c (phase_word phase.Promise) (promise_word key.cells);
+        may = may_store key.cells (table_word.Phase c) (phase_word phase.Promise) (promise_word key.cells);
         seat = record {
           about = q.about;
           within_lot = record {

@@ -29,6 +29,7 @@ use Rattle.tj_words.specs.declared.table.Key.{Key}
 use Rattle.tj_words.specs.declared.view.About.{About}
 use Rattle.tj_words.specs.declared.view.Custody.{Custody}
 use Rattle.tj_words.specs.declared.view.Filled.{Filled}
+use Rattle.tj_words.specs.declared.view.Noted.TheVariants as note
 use Rattle.tj_words.specs.declared.view.Push.{Push}
 use Rattle.tj_words.specs.declared.view.Rest.{Rest}
 use Rattle.tj_words.specs.declared.view.View.{View}
@@ -73,7 +74,7 @@ use Rattle.tj_words.proofs.Cells.CellNames.{are_cells, born_apart}
 use Rattle.tj_words.proofs.SeatLoads.KnowLoads.{all_cons, born_at}
 use Rattle.tj_words.proofs.Meaning.LawMeant.{ground_of, known_of}
 use Rattle.tj_words.proofs.Waiters.LiveSteps.{count_turned, backing_running}
-use Rattle.tj_words.proofs.SeatLoads.LoadSteps.{simple_allowed}
+use Rattle.tj_words.proofs.SeatLoads.LoadSteps.{noted_allowed}
 use Rattle.tj_words.proofs.Meaning.MeaningGrows.{AreFilledIn, meaning_learns}
 use Rattle.tj_words.proofs.Meaning.MeaningSteps.{out_meant}
 use Rattle.tj_words.proofs.Seating.Merging.{all_append}
@@ -85,8 +86,9 @@ use Rattle.tj_words.proofs.Holders.SeatTasks.{hold_here, hold_else, same_but, ta
 use Rattle.tj_words.proofs.Stores.SlotStores.{StoresWith, Acts, acts_keeping, acts_taking}
 use Rattle.tj_words.proofs.Seating.Splitting.{total_set}
 use Rattle.tj_words.proofs.Events.StepFacts.{facts_after, facts_same}
-use Rattle.tj_words.proofs.Stores.StoredWords.{say_phase, may_phase}
-use Rattle.tj_words.proofs.Stores.StoreSteps.{put_here, put_else}
+use Rattle.tj_words.proofs.Stores.StoredWords.{say_phase}
+use Rattle.tj_words.proofs.Stores.TableWords as table_word
+use Rattle.tj_words.proofs.Stores.StoreSteps.{put_here, put_else, may_store}
 use Rattle.tj_words.proofs.Holders.TakingRecords.{first_phase, first_runs, first_calm, first_cells, slot_has}
 use Rattle.tj_words.proofs.Holders.TakingRecords.{owns_itself}
 use Rattle.tj_words.proofs.Holders.TakingRecords.{learnt}
@@ -327,7 +329,8 @@ module _ {B : Type 0} (program : Bool → B → Program B) (key : Key B) (s : St
       took_stores table tokens cleared pushes fit room alarms h = record {
         inside = inside;
         as_many = length-set s.homes t none;
-        may = may_phase key.cells t (phase_word phase.Running) (record { code = refl; waits = λ d way q e. cc });
+        may = may_store key.cells (table_word.Phase t) (phase_word phase.Running)
+            (record { code = refl; waits = λ d way q e. cc });
         seat = let q = r.seats id v at in record {
           about = q.about;
           within_lot = record {
@@ -523,7 +526,8 @@ module _ {B : Type 0} (program : Bool → B → Program B) (key : Key B) (s : St
         record {
           inside = inside;
           as_many = refl;
-          may = may_phase key.cells t (phase_word phase.Ready) (record { code = refl; waits = λ d w u e. cc });
+          may = may_store key.cells (table_word.Phase t) (phase_word phase.Ready)
+              (record { code = refl; waits = λ d w u e. cc });
           seat = let h = r.seats id v at in record {
             about = h.about;
             within_lot = record {
@@ -791,7 +795,7 @@ module _ {B : Type 0} (program : Bool → B → Program B) (key : Key B) (keeps 
           miss : word s.words (phase_at t) ≢ old → F (word s.words (phase_at t))
           miss ne = ⊎_elim
               (λ (h : (was ≡ phase.Ready) × (to ≡ phase.Running) × KnowsTable m.0).
-              let a = simple_allowed program key slots id m (phase_at t) (IsPhaseWord key.cells)
+              let a = noted_allowed program key slots id m (phase_at t) (note.Missed t) (IsPhaseWord key.cells) refl
               (λ s' r'. (r'.codes.each t small).phase) s r homes at deep in (
                 a.0,
                 a.1,
@@ -799,7 +803,7 @@ module _ {B : Type 0} (program : Bool → B → Program B) (key : Key B) (keeps 
                 a.3,
                 (
                   (λ q. absurd (ne q)),
-                  (λ q. (was_is ∙ h.0, (λ j. (a.4.1 j, a.4.0 j)), a.4.2)),
+                  (λ q. (was_is ∙ h.0, (λ j. (a.4.1 j, a.4.0 j)), a.4.2, a.4.3)),
                 ),
               ))
               (λ (h : MayClearFrom t was to m.0). absurd (ne (stands_so h.0 h.1 h.2 (⊎_elim

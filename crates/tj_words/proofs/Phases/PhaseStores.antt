@@ -15,7 +15,9 @@ use Rattle.tj_words.specs.Words.Offsets.{phase_at}
 use Rattle.tj_words.specs.Words.Phases.{phase_in}
 use Rattle.tj_words.proofs.Stores.SeatContents.{set_seats}
 use Rattle.tj_words.proofs.Stores.SlotStores.{StoresWith}
-use Rattle.tj_words.proofs.Stores.StoredWords.{say_phase, may_phase}
+use Rattle.tj_words.proofs.Stores.StoredWords.{say_phase}
+use Rattle.tj_words.proofs.Stores.StoreSteps.{may_store}
+use Rattle.tj_words.proofs.Stores.TableWords as table_word
 
 module _ {B : Type 0} (program : Bool → B → Program B) (key : Key B) (s : State (Option (Rec B)) (View B))
     (r : Rule program key s) (id t : ℕ) (inside : t < key.cells) where
@@ -33,7 +35,7 @@ module _ {B : Type 0} (program : Bool → B → Program B) (key : Key B) (s : St
   phase_stores slots as_many q word is code w seat law = record {
     inside = phase_inside;
     as_many = as_many;
-    may = may_phase key.cells t word code;
+    may = may_store key.cells (table_word.Phase t) word code;
     seat = seat;
     law = subst
         (λ z. Law (program key.strict key.root.value) key.cells

@@ -30,6 +30,7 @@ use Rattle.tj_words.specs.declared.record.Rec.{Rec}
 use Rattle.tj_words.specs.declared.table.Key.{Key}
 use Rattle.tj_words.specs.declared.view.About.{About}
 use Rattle.tj_words.specs.declared.view.Hand.{Hand}
+use Rattle.tj_words.specs.declared.view.Noted.TheVariants as note
 use Rattle.tj_words.specs.declared.view.SeenWord.{SeenWord}
 use Rattle.tj_words.specs.declared.view.View.{View}
 use Rattle.tj_words.specs.Words.Lists.{All, OfSeat}
@@ -50,7 +51,7 @@ use Rattle.tj_words.specs.SeatViews.SeenWords.{WillHave}
 use Rattle.tj_words.specs.SeatViews.SeenWords.{bits_cells, once_load, next_load}
 use Rattle.tj_words.proofs.Cells.CellNames.{are_cells}
 use Rattle.tj_words.proofs.SeatLoads.Learning.{Knowing, knowing_of, IsSo}
-use Rattle.tj_words.proofs.SeatLoads.LoadSteps.{knows, knows_so, load_allowed}
+use Rattle.tj_words.proofs.SeatLoads.LoadSteps.{knows, knows_so, load_allowed, notes_so, with_note}
 use Rattle.tj_words.proofs.Seating.Merging.{all_append, begins_at}
 
 -- a word that is written once lies within the words of its cell
@@ -303,11 +304,11 @@ module _ {B : Type 0} (program : Bool → B → Program B) (key : Key B) where
       → Allows (Rule program key) slots id m i (λ n. n) (next_load cells task (step slots i 0 0 none) m)
   next_allowed slots id m t i cells task l at e f = load_allowed program key slots id m i
       (next_load cells task (step slots i 0 0 none) m) (λ s r k. (
-        knowing_of m.0,
+        with_note m.0 (note.Next task) (word s.words i),
         m.0.plain_loads,
         m.0.once_loads,
         suc m.0.steps,
-        knows_so program key s r id m.0 k,
+        notes_so program key s r id m.0 k (note.Next task) (word s.words i),
         (
           refl,
           refl,
@@ -317,6 +318,7 @@ module _ {B : Type 0} (program : Bool → B → Program B) (key : Key B) where
               (let o = r.law.chains.rest id m.0.rest (at_map (λ (u : View B). u.rest) s.views id m.0 k) rest q in
               (subst (AreLinked (λ c. head_in (word s.words (next_at c)))) (o.left ∙ (z ∙ ap (λ y. y ∷ ts) f))
               (r.law.chains.linked rest.cell)).0)),
+          at ∙ ap next_at (sym f),
         ),
       ))
 

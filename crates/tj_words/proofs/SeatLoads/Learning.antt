@@ -7,7 +7,7 @@ use Rattle.tj_words.specs.declared.head.Head.TheVariants.{Shut}
 use Rattle.tj_words.specs.declared.view.SeenWord.{SeenWord}
 use Rattle.tj_words.specs.declared.view.Filled.{Filled}
 use Rattle.tj_words.specs.declared.view.Found.{Found}
-use Rattle.tj_words.specs.declared.view.RunLoad.{RunLoad}
+use Rattle.tj_words.specs.declared.view.Note.{Note}
 use Rattle.tj_words.specs.declared.view.View.{View}
 use Rattle.tj_words.specs.Words.Lists.{All}
 use Rattle.tj_words.specs.LawParts.NamedCells.{AreThere}
@@ -30,7 +30,7 @@ pub record Knowing : Type 0 where
   pub found : List Found
   pub rested : Bool
   pub stop : ℕ
-  pub run_loads : List RunLoad
+  pub notes : List Note
 
 abbrev pub knowing_of : {B : Type 0} → View B → Knowing
 knowing_of v = record {
@@ -43,7 +43,7 @@ knowing_of v = record {
   found = v.found;
   rested = v.rested;
   stop = v.stop;
-  run_loads = v.run_loads;
+  notes = v.notes;
 }
 
 module _ {B : Type 0} (program : Program B) (cells : ℕ) (x : Contents B) (law : Law program cells x) where

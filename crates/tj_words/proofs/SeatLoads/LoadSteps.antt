@@ -10,7 +10,8 @@ use Rattle.atomic_table.proofs.Lists.{at_map}
 use Rattle.tj_body.specs.Programs.{Program}
 use Rattle.tj_words.specs.declared.record.Rec.{Rec}
 use Rattle.tj_words.specs.declared.table.Key.{Key}
-use Rattle.tj_words.specs.declared.view.RunLoad.{RunLoad}
+use Rattle.tj_words.specs.declared.view.Note.{Note}
+use Rattle.tj_words.specs.declared.view.Noted.{Noted}
 use Rattle.tj_words.specs.declared.view.View.{View}
 use Rattle.tj_body.specs.declared.point.Reference.{Reference}
 use Rattle.tj_words.specs.LawParts.TreeWords.{IsCell}
@@ -23,11 +24,11 @@ use Rattle.tj_words.specs.Words.Lists.{Each, All, total}
 use Rattle.tj_words.specs.Words.Offsets.{word, own_at, phase_at, live_at, count_at}
 use Rattle.tj_words.specs.LawParts.Contents.{Contents, SeatsHave, contents_of, seats_have}
 use Rattle.tj_words.specs.Law.{Law, Rule, IsSeat}
-use Rattle.tj_words.specs.SeatViews.SeatSteps.{SeatMe, plain_load, live_load, simple_load, IsCount}
+use Rattle.tj_words.specs.SeatViews.SeatSteps.{SeatMe, plain_load, live_load, noted_at, noted_load, IsCount}
 use Rattle.tj_words.proofs.Stores.SeatLists.{each_set, words_same}
 use Rattle.tj_words.proofs.Stores.SeatContents.{seats_set, seats_same, rule_views}
-use Rattle.tj_words.specs.SeatViews.Views.{run_load}
-use Rattle.tj_words.specs.declared.view.RunWord.TheVariants as run
+use Rattle.tj_words.specs.SeatViews.Views.{note_of}
+use Rattle.tj_words.specs.declared.view.Noted.TheVariants as note
 use Rattle.tj_words.proofs.SeatLoads.Learning.{Knowing, knowing_of, IsSo, learns, law_learns}
 
 -- there are no more live tasks than cells
@@ -68,8 +69,12 @@ module _ {B : Type 0} where
     once_loads = once;
     steps = steps;
     stop = k.stop;
-    run_loads = k.run_loads;
+    notes = k.notes;
   }
+
+  -- what a seat knows that has noted a step besides
+  abbrev pub with_note : View B → Noted → ℕ → Knowing
+  with_note v kind n = record (knowing_of v) { notes = note_of kind n v ∷ v.notes }
 
   -- what holds of a view alone holds of it
   pub knows_seat : (key : Key B) (k : Knowing) (plain once steps : ℕ) (v : View B) → IsSeat key v
@@ -84,11 +89,11 @@ module _ {B : Type 0} where
     known_born = kb;
   }
 
-  -- what it knows is so with other loads of LIVE and STOP besides
+  -- what it knows is so with other notes, and other loads of LIVE and STOP, besides
   pub noted_so : {P : Program B} {cells : ℕ} {x : Contents B} {law : Law P cells x} (k : Knowing) (rested : Bool)
-      (stop : ℕ) (loads : List RunLoad) → IsSo P cells x law k → (rested ≡ true → x.words.live ≡ 0)
-      → IsSo P cells x law (record k { rested = rested; stop = stop; run_loads = loads })
-  noted_so k rested stop loads o now = record {
+      (stop : ℕ) (notes : List Note) → IsSo P cells x law k → (rested ≡ true → x.words.live ≡ 0)
+      → IsSo P cells x law (record k { rested = rested; stop = stop; notes = notes })
+  noted_so k rested stop notes o now = record {
     known = o.known;
     begins = o.begins;
     known_born = o.known_born;
@@ -116,6 +121,13 @@ module _ {B : Type 0} where
       found = l.chains.grows id v.found (at_map (λ (u : View B). u.found) s.views id v at);
       rested = l.live_count.stays_at_rest id v.rested (at_map (λ (u : View B). u.rested) s.views id v at);
     }
+
+    -- so it is with a step noted
+    pub notes_so : (s : State (Option (Rec B)) (View B)) (r : Rule program key s) (id : ℕ) (v : View B)
+        → get_elem? s.views id ≡ some v → (kind : Noted) (n : ℕ)
+        → IsSo (program key.strict key.root.value) key.cells (contents_of s) r.law (with_note v kind n)
+    notes_so s r id v at kind n = let o = knows_so s r id v at in
+        noted_so (knowing_of v) v.rested v.stop (note_of kind n v ∷ v.notes) o o.rested
 
     -- a seat that learns what is so keeps the rule
     pub rule_learns : (s : State (Option (Rec B)) (View B)) (r : Rule program key s) (id : ℕ) (v : View B)
@@ -161,30 +173,30 @@ module _ {B : Type 0} where
         )
 
     -- a load that is no event
-    pub plain_allowed : (slots id : ℕ) (m : SeatMe B) (i : ℕ) (May : ℕ → Type 0)
-        → ((s : State (Option (Rec B)) (View B)) → Rule program key s → May (word s.words i))
-        → Allows (Rule program key) slots id m i (λ n. n) (plain_load May (step slots i 0 0 none) m)
-    plain_allowed slots id m i May may =
-        load_allowed slots id m i (plain_load May (step slots i 0 0 none) m) (λ s r at. (
-          knowing_of m.0,
+    pub plain_allowed : (slots id : ℕ) (m : SeatMe B) (i : ℕ) (kind : Noted) (May : ℕ → Type 0)
+        → i ≡ noted_at kind → ((s : State (Option (Rec B)) (View B)) → Rule program key s → May (word s.words i))
+        → Allows (Rule program key) slots id m i (λ n. n) (plain_load kind May (step slots i 0 0 none) m)
+    plain_allowed slots id m i kind May on may =
+        load_allowed slots id m i (plain_load kind May (step slots i 0 0 none) m) (λ s r at. (
+          with_note m.0 kind (word s.words i),
           suc m.0.plain_loads,
           m.0.once_loads,
           suc m.0.steps,
-          knows_so s r id m.0 at,
-          (refl, refl, may s r),
+          notes_so s r id m.0 at kind (word s.words i),
+          (refl, refl, may s r, on),
         ))
 
-    pub simple_allowed : (slots id : ℕ) (m : SeatMe B) (i : ℕ) (May : ℕ → Type 0)
-        → ((s : State (Option (Rec B)) (View B)) → Rule program key s → May (word s.words i))
-        → Allows (Rule program key) slots id m i (λ n. n) (simple_load May (step slots i 0 0 none) m)
-    simple_allowed slots id m i May may =
-        load_allowed slots id m i (simple_load May (step slots i 0 0 none) m) (λ s r at. (
-          knowing_of m.0,
+    pub noted_allowed : (slots id : ℕ) (m : SeatMe B) (i : ℕ) (kind : Noted) (May : ℕ → Type 0)
+        → i ≡ noted_at kind → ((s : State (Option (Rec B)) (View B)) → Rule program key s → May (word s.words i))
+        → Allows (Rule program key) slots id m i (λ n. n) (noted_load kind May (step slots i 0 0 none) m)
+    noted_allowed slots id m i kind May on may =
+        load_allowed slots id m i (noted_load kind May (step slots i 0 0 none) m) (λ s r at. (
+          with_note m.0 kind (word s.words i),
           m.0.plain_loads,
           m.0.once_loads,
           suc m.0.steps,
-          knows_so s r id m.0 at,
-          (refl, refl, may s r),
+          notes_so s r id m.0 at kind (word s.words i),
+          (refl, refl, may s r, on),
         ))
 
     -- LIVE is small
@@ -203,34 +215,35 @@ module _ {B : Type 0} where
         load_allowed slots id m live_at (live_load (step slots live_at 0 0 none) m)
         (λ s r at. dite (ℕ_discrete (word s.words live_at) 0)
         (λ z. (
-          record (knowing_of m.0) { rested = true; run_loads = run_load run.Live 0 m.0 ∷ m.0.run_loads },
+          record (knowing_of m.0) { rested = true; notes = note_of note.Live 0 m.0 ∷ m.0.notes },
           m.0.plain_loads,
           m.0.once_loads,
           suc m.0.steps,
-          noted_so (knowing_of m.0) true m.0.stop (run_load run.Live 0 m.0 ∷ m.0.run_loads)
+          noted_so (knowing_of m.0) true m.0.stop (note_of note.Live 0 m.0 ∷ m.0.notes)
               (knows_so s r id m.0 at) (λ e. z),
-          (refl, (λ e. refl), (λ n. absurd (n z)), live_small s r),
+          (refl, (λ e. refl), (λ n. absurd (n z)), live_small s r, refl),
         ))
         (λ n. (
-          record (knowing_of m.0) { run_loads = run_load run.Live (word s.words live_at) m.0 ∷ m.0.run_loads },
+          with_note m.0 note.Live (word s.words live_at),
           m.0.plain_loads,
           m.0.once_loads,
           suc m.0.steps,
-          (let o = knows_so s r id m.0 at in noted_so (knowing_of m.0) m.0.rested m.0.stop
-              (run_load run.Live (word s.words live_at) m.0 ∷ m.0.run_loads) o o.rested),
-          (refl, (λ e. absurd (n e)), (λ e. refl), live_small s r),
+          notes_so s r id m.0 at note.Live (word s.words live_at),
+          (refl, (λ e. absurd (n e)), (λ e. refl), live_small s r, refl),
         )))
 
     -- what may stand in the words that are loaded
     pub count_allowed : (slots id : ℕ) (m : SeatMe B) (cells : ℕ) → cells ≡ key.cells
         → Allows (Rule program key) slots id m count_at (λ n. n)
-        (plain_load (IsCount cells) (step slots count_at 0 0 none) m)
-    count_allowed slots id m cells e = plain_allowed slots id m count_at (IsCount cells)
+        (plain_load note.Count (IsCount cells) (step slots count_at 0 0 none) m)
+    count_allowed slots id m cells e = plain_allowed slots id m count_at note.Count (IsCount cells) refl
         (λ s r. subst (λ n. IsCount n (word s.words count_at)) (sym e) r.law.facts.makers.root_there)
 
-    pub owner_allowed : (slots id : ℕ) (m : SeatMe B) (cells c i : ℕ) → cells ≡ key.cells → c < key.cells
-        → i ≡ own_at c
-        → Allows (Rule program key) slots id m i (λ n. n) (plain_load (λ n. n ≤ cells) (step slots i 0 0 none) m)
-    owner_allowed slots id m cells c i e l at = plain_allowed slots id m i (λ n. n ≤ cells)
+    pub owner_allowed : (slots id : ℕ) (m : SeatMe B) (cells named c i : ℕ) → cells ≡ key.cells → named ≡ c
+        → c < key.cells → i ≡ own_at c
+        → Allows (Rule program key) slots id m i (λ n. n)
+        (plain_load (note.Owner named) (λ n. n ≤ cells) (step slots i 0 0 none) m)
+    owner_allowed slots id m cells named c i e is l at = plain_allowed slots id m i (note.Owner named) (λ n. n ≤ cells)
+        (at ∙ ap own_at (sym is))
         (λ s r. subst (λ n. word s.words i ≤ n) (sym e)
         (subst (λ k. word s.words k ≤ key.cells) (sym at) (r.codes.each c l).own))

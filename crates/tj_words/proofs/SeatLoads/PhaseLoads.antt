@@ -27,7 +27,8 @@ use Rattle.tj_words.proofs.Stores.LawChanges.{law_chains}
 use Rattle.tj_words.proofs.Stores.SeatContents.{set_seats, seats_same}
 use Rattle.tj_words.proofs.Stores.SeatLists.{words_same}
 use Rattle.tj_words.proofs.Stores.SlotStores.{StoresWith, Acts, acts_keeping}
-use Rattle.tj_words.proofs.Stores.StoredWords.{may_phase}
+use Rattle.tj_words.proofs.Stores.StoreSteps.{may_store}
+use Rattle.tj_words.proofs.Stores.TableWords as table_word
 
 -- what is known of the way of a first task is as before, or the task is the one that was loaded
 first_or : (t : ℕ) (p : Phase) (l : List ℕ) (o : Option Way)
@@ -111,7 +112,7 @@ module _ {B : Type 0} (program : Bool → B → Program B) (key : Key B) where
     loaded_stores l = record {
       inside = let e = r.all_words in omega arith;
       as_many = refl;
-      may = may_phase key.cells t (word s.words (phase_at t)) (r.codes.each t l).phase;
+      may = may_store key.cells (table_word.Phase t) (word s.words (phase_at t)) (r.codes.each t l).phase;
       seat = loaded_seat;
       law = subst (λ z. Law (program key.strict key.root.value) key.cells
           (record { words = words_say z; slots = s.homes; seats = set_seats y id w }))
@@ -134,4 +135,4 @@ module _ {B : Type 0} (program : Bool → B → Program B) (key : Key B) where
       (phase_load key.cells t (step slots i 0 0 none) m (word s.words (phase_at t)))
       (loaded_phase t (p s r id t m.0 at) m.0)
       (loaded_stores s r id t m.0 at l)
-      (refl, refl, (r.codes.each t l).phase, first_told s r id t m.0 at))
+      (refl, refl, (r.codes.each t l).phase, first_told s r id t m.0 at, place))

@@ -10,8 +10,8 @@ use Rattle.tj_words.specs.SeatViews.FullMeaning.{stop_load}
 use Rattle.tj_words.specs.Law.{Rule}
 use Rattle.tj_words.specs.Words.Offsets.{stop_at, word}
 use Rattle.tj_words.specs.SeatViews.SeatSteps.{SeatMe}
-use Rattle.tj_words.specs.SeatViews.Views.{run_load}
-use Rattle.tj_words.specs.declared.view.RunWord.TheVariants as run
+use Rattle.tj_words.specs.SeatViews.Views.{note_of}
+use Rattle.tj_words.specs.declared.view.Noted.TheVariants as note
 use Rattle.tj_words.proofs.SeatLoads.Learning.{knowing_of}
 use Rattle.tj_words.proofs.SeatLoads.LoadSteps.{knows_so, load_allowed, noted_so}
 
@@ -22,18 +22,19 @@ module _ {B : Type 0} (program : Bool → B → Program B) (key : Key B) where
       load_allowed program key slots id m stop_at (stop_load program (step slots stop_at 0 0 none) m) (λ s r at. (
         record (knowing_of m.0) {
           stop = word s.words stop_at;
-          run_loads = run_load run.Stop (word s.words stop_at) m.0 ∷ m.0.run_loads;
+          notes = note_of note.Stop (word s.words stop_at) m.0 ∷ m.0.notes;
         },
         m.0.plain_loads,
         m.0.once_loads,
         suc m.0.steps,
         (let o = knows_so program key s r id m.0 at in noted_so (knowing_of m.0) m.0.rested (word s.words stop_at)
-            (run_load run.Stop (word s.words stop_at) m.0 ∷ m.0.run_loads) o o.rested),
+            (note_of note.Stop (word s.words stop_at) m.0 ∷ m.0.notes) o o.rested),
         (
           refl,
           refl,
           r.codes.stop,
-          λ e a f. subst (λ (z : About B). IsFull (program z.strict z.root) z.cells)
-              (sym ((r.seats id m.0 at).about a f)) (r.law.meaning.full (r.law.meaning.stopped e)),
+          (λ e a f. subst (λ (z : About B). IsFull (program z.strict z.root) z.cells)
+              (sym ((r.seats id m.0 at).about a f)) (r.law.meaning.full (r.law.meaning.stopped e))),
+          refl,
         ),
       ))

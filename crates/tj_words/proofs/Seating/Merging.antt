@@ -86,7 +86,7 @@ both_know k l = record {
   found = k.found ++ l.found;
   rested = k.rested || l.rested;
   stop = k.stop;
-  run_loads = k.run_loads;
+  notes = k.notes;
 }
 
 abbrev pub nothing_known : Knowing
@@ -100,7 +100,7 @@ nothing_known = record {
   found = [];
   rested = false;
   stop = 0;
-  run_loads = [];
+  notes = [];
 }
 
 module _ {B : Type 0} (program : Program B) (cells : ℕ) (x : Contents B) (law : Law program cells x) where
@@ -245,8 +245,8 @@ module _ {B : Type 0} where
         let e = r.law.lots.all in let f = r.law.lots.counted in record { all = omega arith; counted = omega arith }
 
     -- what the seats have, where v has become both
-    abbrev X : SeatsHave B
-    X = record old {
+    abbrev have_both : SeatsHave B → SeatsHave B
+    have_both y = record y {
       lots = set old.lots id (v.lot + w.lot);
       refused = set old.refused id (v.refused + w.refused);
       known = set old.known id k.known;
@@ -259,21 +259,10 @@ module _ {B : Type 0} where
       rested = set old.rested id k.rested;
     }
 
-    p1 : seats_have (set (set s.views id (both v w)) other spent) ≡ set_seats X other spent
+    p1 : seats_have (set (set s.views id (both v w)) other spent) ≡ set_seats (have_both old) other spent
     p1 = seats_set (set s.views id (both v w)) other spent
         ∙ ap (λ (y : SeatsHave B). set_seats y other spent) (seats_set s.views id (both v w)
-        ∙ ap (λ (y : SeatsHave B). record y {
-          lots = set old.lots id (v.lot + w.lot);
-          refused = set old.refused id (v.refused + w.refused);
-          known = set old.known id k.known;
-          born_seen = set old.born_seen id k.born;
-          wrote = set old.wrote id k.wrote;
-          filled = set old.filled id k.filled;
-          seen = set old.seen id k.seen;
-          closed = set old.closed id k.closed;
-          found = set old.found id k.found;
-          rested = set old.rested id k.rested;
-        }) (seats_same s.views id v at))
+        ∙ ap have_both (seats_same s.views id v at))
 
     -- the other seat had as little before
     again : {A : Type 0} (f : View B → A) (a : A) → f w ≡ a → set (map f s.views) other a ≡ map f s.views
@@ -281,7 +270,8 @@ module _ {B : Type 0} where
         ap (set (map f s.views) other) (sym e) ∙ set_again (map f s.views) other (f w)
         (at_map f s.views other w there)
 
-    p2 : set_seats X other spent ≡ (with_lots P key.cells x2 law2 (set (set old.lots id (v.lot + w.lot)) other 0)
+    p2 : set_seats (have_both old) other spent
+        ≡ (with_lots P key.cells x2 law2 (set (set old.lots id (v.lot + w.lot)) other 0)
         (set (set old.refused id (v.refused + w.refused)) other 0)).seats
     p2 j = record (with_lots P key.cells x2 law2 (set (set old.lots id (v.lot + w.lot)) other 0)
         (set (set old.refused id (v.refused + w.refused)) other 0)).seats {

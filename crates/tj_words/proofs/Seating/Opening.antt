@@ -1,7 +1,7 @@
 -- A new table meets the rule.
 use Rattle.std.proofs.Common.{◌≡◌, ◌≢◌, ◌⊎◌, ℕ, zero, suc, ◌+◌, ◌*◌, ◌-◌, ◌<◌, ◌≤◌, min, Bool, true, false, List, []}
 use Rattle.std.proofs.Common.{◌∷◌, ◌++◌, map, length, replicate, Option, Some, None, refl, sym, ap, ◌∙◌, subst, inl}
-use Rattle.std.proofs.Common.{inr, ⊎_elim, arith, cond, nat_lt, le-ltb, ne_eqb}
+use Rattle.std.proofs.Common.{inr, ⊎_elim, arith, cond, nat_lt, le-ltb, ne_eqb, ◌↔◌}
 use mathlib.Core.Option.{some, none, some-injective, some-ne-none}
 use mathlib.Core.Option as maybe
 use lib.ListN.{get_elem?, length-replicate}
@@ -24,21 +24,23 @@ use Rattle.tj_words.specs.declared.record.Rec.{Rec}
 use Rattle.tj_words.specs.declared.table.Key.{Key}
 use Rattle.tj_words.specs.declared.view.Hand.{Hand}
 use Rattle.tj_words.specs.declared.view.Custody.{Custody}
-use Rattle.tj_words.specs.Words.Lists.{Each, All, cell, numbers}
-use Rattle.tj_words.specs.LawParts.Holding.{Slots, home_in, held_in}
+use Rattle.tj_words.specs.Words.Lists.{Each, All, cell, numbers, AreApart}
+use Rattle.tj_words.specs.LawParts.Holding.{Slots, home_in, held_in, owned_by, made_by}
 use Rattle.tj_words.specs.LawParts.Hands.{IsThere, Hands, hand_in}
-use Rattle.tj_words.specs.LawParts.NamedCells.{NamesCells}
-use Rattle.tj_words.specs.LawParts.TreeWords.{IsCell, Births, IsForkTree, TreeWords}
-use Rattle.tj_words.specs.LawParts.Custodies.{Custodies, OwnedLists}
+use Rattle.tj_words.specs.LawParts.NamedCells.{NamesCells, record_cells}
+use Rattle.tj_words.specs.LawParts.TreeWords.{IsCell, Births, IsForkTree, TreeWords, tree_word, IsOfTree}
+use Rattle.tj_words.specs.LawParts.Custodies.{Custodies, OwnedLists, IsKept}
 use Rattle.tj_words.specs.LawParts.OnceWords.{OnceWords}
-use Rattle.tj_words.specs.LawParts.Chains.{Chains}
-use Rattle.tj_words.specs.LawParts.LiveCount.{live_tasks}
-use Rattle.tj_words.specs.LawParts.Contents.{Contents, contents_of, seats_have, core_shown, home_of, owned_of}
+use Rattle.tj_words.specs.LawParts.Chains.{Chains, parked_phase}
+use Rattle.tj_words.specs.LawParts.LiveCount.{live_tasks, HasWakeToCome}
+use Rattle.tj_words.specs.LawParts.Contents.{Contents, contents_of, seats_have, core_shown, home_of, owned_of, made_of}
 use Rattle.tj_words.specs.Law.{IsRooted, Law, Rule, IsSeat, most_cells}
 use Rattle.tj_body.specs.Programs.{Program, root_task}
 use Rattle.tj_body.specs.RoundPoints.{InRounds, TasksStart}
 use Rattle.tj_words.specs.LawParts.Meaning.{IsFilled, IsToldRecord, Meaning}
 use Rattle.tj_words.specs.LawParts.FirstState.{root_record, first_slots, first_words, first_view}
+use Rattle.tj_words.specs.LawParts.RecordPhases.{IsRecordIn}
+use Rattle.tj_words.specs.LawParts.ShownState.{sort_shown}
 use Rattle.tj_words.proofs.Stores.SeatLists.{each_only}
 use Rattle.tj_words.proofs.Seating.FirstWords.{first_own, first_phase, first_once, root_once, first_say, first_wide}
 use Rattle.tj_words.proofs.Seating.FirstWords.{first_words_say, first_codes}
@@ -148,7 +150,7 @@ module _ {B : Type 0} (program : Program B) (cells : ℕ) (some_cells : 0 < cell
     owned = owned_there;
     waits = λ t c way walk e. ⊎_elim (λ q. cc) (λ q. cc) (no_wait t (Waiting c way walk) e);
     records =
-        λ t r e. subst (λ (y : Rec B). All (IsThere 1 hand0) (Rattle.tj_words.specs.LawParts.NamedCells.record_cells y))
+        λ t r e. subst (λ (y : Rec B). All (IsThere 1 hand0) (record_cells y))
         (only_home t r e).1
         (λ c i. there c (zero_in c i));
     walks = each_only _ [] (λ k i. absurd i);
@@ -161,11 +163,11 @@ module _ {B : Type 0} (program : Program B) (cells : ℕ) (some_cells : 0 < cell
       zero_in c (inr (inr (inl e))) = e
       zero_in c (inr (inr (inr i))) = absurd i
 
-  no_made : (t : ℕ) → Rattle.tj_words.specs.LawParts.Contents.made_of x0 t ≡ 0
+  no_made : (t : ℕ) → made_of x0 t ≡ 0
   no_made zero = refl
-  no_made (suc t) = ap (λ o. Rattle.tj_words.specs.LawParts.Holding.made_by None o + 0) (nones (cells - 1) t)
+  no_made (suc t) = ap (λ o. made_by None o + 0) (nones (cells - 1) t)
 
-  births : Births 1 (to_task [] ∷ []) (λ _. 0) (λ _. 0) (Rattle.tj_words.specs.LawParts.Contents.made_of x0) hand0 first_phase
+  births : Births 1 (to_task [] ∷ []) (λ _. 0) (λ _. 0) (made_of x0) hand0 first_phase
   births = record {
     all = refl;
     root = refl;
@@ -173,7 +175,7 @@ module _ {B : Type 0} (program : Program B) (cells : ℕ) (some_cells : 0 < cell
     root_number = refl;
     named = λ c x e n. absurd (n (only_cell c x e).0);
     sorts = λ c x e. let q = only_cell c x e in
-        subst (λ d. x.sort ≡ Rattle.tj_words.specs.LawParts.ShownState.sort_shown None (first_phase d)) (sym q.0)
+        subst (λ d. x.sort ≡ sort_shown None (first_phase d)) (sym q.0)
         (ap (λ (y : Reference). y.sort) q.1);
     makers_there = λ c l. there 0 refl;
     in_hand = λ c h e. cc;
@@ -197,16 +199,16 @@ module _ {B : Type 0} (program : Program B) (cells : ℕ) (some_cells : 0 < cell
   tree_words : TreeWords 1 (to_task [] ∷ []) (λ _. 0) (λ _. 0) [] hand0 first_once ([] ∷ [])
   tree_words = record {
     written = λ c x f t e o. let q = only_cell c x e in
-        subst (λ d. first_once d f ≡ Rattle.tj_words.specs.LawParts.TreeWords.tree_word (λ _. 0) (λ _. 0) [] x.sort d f)
+        subst (λ d. first_once d f ≡ tree_word (λ _. 0) (λ _. 0) [] x.sort d f)
         (sym q.0)
         (subst
-        (λ (y : Reference). first_once 0 f ≡ Rattle.tj_words.specs.LawParts.TreeWords.tree_word (λ _. 0) (λ _. 0) [] y.sort
+        (λ (y : Reference). first_once 0 f ≡ tree_word (λ _. 0) (λ _. 0) [] y.sort
         0 f) (sym q.1) (right f o));
     in_hand = λ c h x f e. cc;
   }
     where
-      right : (f : Once) → Rattle.tj_words.specs.LawParts.TreeWords.IsOfTree f
-          → root_once f ≡ Rattle.tj_words.specs.LawParts.TreeWords.tree_word (λ _. 0) (λ _. 0) [] sort.Task 0 f
+      right : (f : Once) → IsOfTree f
+          → root_once f ≡ tree_word (λ _. 0) (λ _. 0) [] sort.Task 0 f
       right Tag o = absurd o
       right Bits o = absurd o
       right Parent o = refl
@@ -218,7 +220,7 @@ module _ {B : Type 0} (program : Program B) (cells : ℕ) (some_cells : 0 < cell
   custody = record {
     holder = λ _. None;
     tasks_kept =
-        λ t l s. subst (λ d. Rattle.tj_words.specs.LawParts.Custodies.IsKept (first_phase d) None (home d))
+        λ t l s. subst (λ d. IsKept (first_phase d) None (home d))
         (sym (only_root t l)) (refl, (r0, refl));
     promises_empty = λ c l s. absurd (no_promise c l s);
     undrawn_empty = empty;
@@ -228,7 +230,7 @@ module _ {B : Type 0} (program : Program B) (cells : ℕ) (some_cells : 0 < cell
     own_slots = λ t r e. let q = only_home t r e in ap (λ (y : Rec B). y.cell.0) (sym q.1) ∙ sym q.0;
   }
     where
-      no_promise : (c : ℕ) → c < 1 → Rattle.tj_words.specs.LawParts.ShownState.sort_shown None (first_phase c) ≡ sort.Promise
+      no_promise : (c : ℕ) → c < 1 → sort_shown None (first_phase c) ≡ sort.Promise
           → ⊥
       no_promise zero l e = cc
       no_promise (suc c) l e = omega arith
@@ -245,14 +247,14 @@ module _ {B : Type 0} (program : Program B) (cells : ℕ) (some_cells : 0 < cell
   }
     where
       none_owned : (t : ℕ) → owned_of x0 (suc t) ≡ []
-      none_owned t = ap (λ o. Rattle.tj_words.specs.LawParts.Holding.owned_by None o) (nones (cells - 1) t)
+      none_owned t = ap (λ o. owned_by None o) (nones (cells - 1) t)
 
       owned_zero : (c t : ℕ) → IsIn c (owned_of x0 t) → (c ≡ 0) × (t ≡ 0)
       owned_zero c zero (inl e) = (e, refl)
       owned_zero c zero (inr i) = absurd i
       owned_zero c (suc t) i = absurd (subst (IsIn c) (none_owned t) i)
 
-      owner : (c t : ℕ) → c ≡ 0 → Rattle.std.proofs.Common.◌↔◌ (first_own c ≡ Some t) (IsIn c (owned_of x0 t))
+      owner : (c t : ℕ) → c ≡ 0 → (first_own c ≡ Some t) ↔ IsIn c (owned_of x0 t)
       owner zero zero e = ((λ q. inl refl), (λ i. refl))
       owner zero (suc t) e = (
         (λ q. absurd (let z : 0 ≡ suc t = cc in omega arith)),
@@ -260,11 +262,11 @@ module _ {B : Type 0} (program : Program B) (cells : ℕ) (some_cells : 0 < cell
       )
       owner (suc c) t e = absurd (omega arith)
 
-      apart : (t : ℕ) → Rattle.tj_words.specs.Words.Lists.AreApart (owned_of x0 t)
+      apart : (t : ℕ) → AreApart (owned_of x0 t)
       apart zero = ((λ i. i), tt)
-      apart (suc t) = subst Rattle.tj_words.specs.Words.Lists.AreApart (sym (none_owned t)) tt
+      apart (suc t) = subst AreApart (sym (none_owned t)) tt
 
-  no_value : (c : ℕ) (f : Once) → ¬ Rattle.tj_words.specs.LawParts.TreeWords.IsOfTree f → first_once c f ≡ 0
+  no_value : (c : ℕ) (f : Once) → ¬ IsOfTree f → first_once c f ≡ 0
   no_value zero Tag n = refl
   no_value zero Bits n = refl
   no_value zero Parent n = absurd (n tt)
@@ -303,7 +305,7 @@ module _ {B : Type 0} (program : Program B) (cells : ℕ) (some_cells : 0 < cell
     heads = λ p n. refl;
     linked = λ p. tt;
     parked = λ p t i. absurd i;
-    placed = λ p t h n. ⊎_elim (λ q. cc) (λ q. cc) (no_wait t (Rattle.tj_words.specs.LawParts.Chains.parked_phase p h.0) h.1);
+    placed = λ p t h n. ⊎_elim (λ q. cc) (λ q. cc) (no_wait t (parked_phase p h.0) h.1);
     tagged = λ p e. cc;
     due = λ p n o. absurd (n (no_tag p));
     pushing = λ t j e. cc;
@@ -370,7 +372,7 @@ module _ {B : Type 0} (program : Program B) (cells : ℕ) (some_cells : 0 < cell
     names = subst (λ d. NamesCells d hand0 first_own first_phase home ([] ∷ []) ([] ∷ [])) (sym one) names;
     births =
         subst
-        (λ d. Births d (to_task [] ∷ []) (λ _. 0) (λ _. 0) (Rattle.tj_words.specs.LawParts.Contents.made_of x0) hand0
+        (λ d. Births d (to_task [] ∷ []) (λ _. 0) (λ _. 0) (made_of x0) hand0
         first_phase)
         (sym one) births;
     tree = subst (λ d. IsForkTree d (to_task [] ∷ []) (λ _. 0) (λ _. 0) [] hand0) (sym one) tree;
@@ -388,9 +390,9 @@ module _ {B : Type 0} (program : Program B) (cells : ℕ) (some_cells : 0 < cell
     waiters_own = λ t c way walk e. ⊎_elim (λ q. cc) (λ q. cc) (no_wait t (Waiting c way walk) e);
     records_fit =
         λ t r e. subst
-        (λ (y : Rec B). Rattle.tj_words.specs.LawParts.RecordPhases.IsRecordIn (λ c. first_once c Tag) (first_phase t) y)
+        (λ (y : Rec B). IsRecordIn (λ c. first_once c Tag) (first_phase t) y)
         (only_home t r e).1
-        (subst (λ d. Rattle.tj_words.specs.LawParts.RecordPhases.IsRecordIn (λ c. first_once c Tag) (first_phase d) r0)
+        (subst (λ d. IsRecordIn (λ c. first_once c Tag) (first_phase d) r0)
         (sym (only_home t r e).0) (refl, inl refl));
     meaning =
         subst
@@ -451,7 +453,7 @@ module _ {B : Type 0} (program : Bool → B → Program B) (key : Key B) (some_c
             })) same (first_law (program key.strict root_of) key.cells some_cells key.strict start_meets starts));
       }))
     where
-      no_wake : Rattle.tj_words.specs.LawParts.LiveCount.HasWakeToCome (first_view key.cells root_of key.strict) → ⊥
+      no_wake : HasWakeToCome (first_view key.cells root_of key.strict) → ⊥
       no_wake (inl n) = n refl
       no_wake (inr (inl n)) = n refl
       no_wake (inr (inr h)) = cc

@@ -22,7 +22,8 @@ use Rattle.tj_words.specs.LawParts.OnceWords.{Stands, OnceWords}
 use Rattle.tj_words.specs.Calls.DrawViews.{without_due}
 use Rattle.tj_words.proofs.Stores.SeatLists.{each_set, each_else, of_seat_set}
 use Rattle.tj_words.proofs.Holders.HeldTasks.{none_some, one_some}
-use Rattle.tj_words.proofs.Stores.StoredWords.{same_cell, same_word, put_word, put_word_here, put_word_else}
+use Rattle.tj_words.proofs.Stores.StoredWords.{put_word, put_word_here, put_word_else}
+use Rattle.tj_words.proofs.Stores.TableWords.{same_cell, same_word}
 
 -- what is due still isn't the word that was written
 pub due_else : (c : ℕ) (f : Once) (ds : List Due) (d : Due) → IsIn d (without_due c f ds)

@@ -1,6 +1,6 @@
--- Stores: what the words say after a store, and a step that stores a word and changes the view of its seat.
+-- Stores: what may be stored into a word, and a step that stores a word and changes the view of its seat.
 use Rattle.std.proofs.Common.{◌≡◌, ◌≢◌, ◌⊎◌, ℕ, ◌<◌, ◌≤◌, ◌^◌, List, length, set, sym}
-use Rattle.std.proofs.Common.{ap, ◌∙◌, subst, arith, cond, Option, length-set, eq-eqb, ne_eqb, Bool}
+use Rattle.std.proofs.Common.{ap, ◌∙◌, subst, cond, Option, length-set, eq-eqb, ne_eqb, Bool}
 use mathlib.Core.Option.{some}
 use mathlib.Core.Logic.{dite}
 use native.Mathlib.Decide.{ℕ_discrete}
@@ -13,17 +13,15 @@ use Rattle.tj_words.specs.declared.offsets.Once.TheVariants as once
 use Rattle.tj_words.specs.declared.record.Rec.{Rec}
 use Rattle.tj_words.specs.declared.table.Key.{Key}
 use Rattle.tj_words.specs.declared.view.View.{View}
-use Rattle.tj_words.specs.Words.Offsets.{word, count_at, live_at, others_at, stop_at, own_at, phase_at, once_at}
-use Rattle.tj_words.specs.Words.Offsets.{head_at, next_at}
-use Rattle.tj_words.specs.Words.Heads.{shut_word, head_in}
-use Rattle.tj_words.specs.Words.Phases.{phase_in}
-use Rattle.tj_words.specs.Words.Owners.{owner_in}
+use Rattle.tj_words.specs.Words.Offsets.{word}
+use Rattle.tj_words.specs.Words.Heads.{shut_word}
 use Rattle.tj_words.specs.Words.Codes.{IsPhaseWord, Codes}
 use Rattle.tj_words.specs.LawParts.Contents.{words_say, seats_have}
 use Rattle.tj_words.specs.Law.{Law, Rule, IsSeat}
 use Rattle.tj_words.specs.SeatViews.SeatSteps.{SeatMe}
 use Rattle.tj_words.proofs.Stores.SeatLists.{each_set, word_else, word_here}
 use Rattle.tj_words.proofs.Stores.SeatContents.{set_seats, seats_set}
+use Rattle.tj_words.proofs.Stores.TableWords.{TableWord, Stop, Own, Phase, Written, Head, Next, index, same_word_at}
 
 module _ {A : Type 0} where
   pub put_here : (f : ℕ → A) (i j : ℕ) (a : A) → j ≡ i → put f i a j ≡ a
@@ -32,112 +30,31 @@ module _ {A : Type 0} where
   pub put_else : (f : ℕ → A) (i j : ℕ) (a : A) → j ≢ i → put f i a j ≡ f j
   put_else f i j a n = ap (λ (b : Bool). cond b a (f j)) (ne_eqb j i n)
 
-  -- words of one kind, read in this way, after the one of cell c was stored
-  pub read_put : (ws : List ℕ) (index : ℕ → ℕ) (read : ℕ → A) (c n : ℕ) → index c < length ws
-      → ((d : ℕ) → d ≢ c → index d ≢ index c) → (d : ℕ)
-      → read (word (set ws (index c) n) (index d)) ≡ put (λ e. read (word ws (index e))) c (read n) d
-  read_put ws index read c n l apart d = dite (ℕ_discrete d c)
-      (λ e. ap read (ap (λ k. word (set ws (index c) n) (index k)) e ∙ word_here ws (index c) n l)
-      ∙ sym (put_here (λ e. read (word ws (index e))) c d (read n) e))
-      (λ e. ap read (word_else ws (index c) (index d) n (apart d e))
-      ∙ sym (put_else (λ e. read (word ws (index e))) c d (read n) e))
+-- what may stand in a word that is written once, where there are so many cells
+abbrev pub MayStand : ℕ → Once → ℕ → Type 0
+MayStand cells once.Tag n = n ≤ 4
+MayStand cells once.Bits n = Unit {0}
+MayStand cells once.Parent n = n ≤ cells
+MayStand cells once.Kid n = n < 2 ^ 32
+MayStand cells once.Depth n = n ≤ cells
+MayStand cells once.Jump n = n ≤ cells
 
--- the words that are written once stand apart from all others
-pub once_low : (c i : ℕ) (f : Once) → i < 4 → once_at c f ≢ i
-once_low c i once.Tag l e = omega arith
-once_low c i once.Bits l e = omega arith
-once_low c i once.Parent l e = omega arith
-once_low c i once.Kid l e = omega arith
-once_low c i once.Depth l e = omega arith
-once_low c i once.Jump l e = omega arith
+-- and in any word
+abbrev pub MayHold : ℕ → TableWord → ℕ → Type 0
+MayHold cells Stop n = n ≤ 2
+MayHold cells (Own c) n = n ≤ cells
+MayHold cells (Phase c) n = IsPhaseWord cells n
+MayHold cells (Written c f) n = MayStand cells f n
+MayHold cells (Head c) n = (n ≡ shut_word) ⊎ (n ≤ cells)
+MayHold cells (Next c) n = n ≤ cells
+MayHold cells w n = Unit {0}
 
-once_head : (c d : ℕ) (f : Once) → once_at c f ≢ head_at d
-once_head c d once.Tag e = omega arith
-once_head c d once.Bits e = omega arith
-once_head c d once.Parent e = omega arith
-once_head c d once.Kid e = omega arith
-once_head c d once.Depth e = omega arith
-once_head c d once.Jump e = omega arith
+-- a number may be stored at an index where it may stand in the word there
+abbrev pub MayStore : (cells i n : ℕ) → Type 0
+MayStore cells i n = (w : TableWord) → index w ≡ i → MayHold cells w n
 
-once_next : (c d : ℕ) (f : Once) → once_at c f ≢ next_at d
-once_next c d once.Tag e = omega arith
-once_next c d once.Bits e = omega arith
-once_next c d once.Parent e = omega arith
-once_next c d once.Kid e = omega arith
-once_next c d once.Depth e = omega arith
-once_next c d once.Jump e = omega arith
-
-module _ (ws : List ℕ) (n : ℕ) where
-  -- a store of LIVE
-  pub say_live : live_at < length ws → words_say (set ws live_at n) ≡ record (words_say ws) { live = n }
-  say_live l j = record {
-    count = word_else ws live_at count_at n (λ e. omega arith) j;
-    live = word_here ws live_at n l j;
-    others = word_else ws live_at others_at n (λ e. omega arith) j;
-    stop = word_else ws live_at stop_at n (λ e. omega arith) j;
-    own = λ c. owner_in (word_else ws live_at (own_at c) n (λ e. omega arith) j);
-    phase = λ c. phase_in (word_else ws live_at (phase_at c) n (λ e. omega arith) j);
-    once = λ c f. word_else ws live_at (once_at c f) n (once_low c live_at f (omega arith)) j;
-    head = λ c. head_in (word_else ws live_at (head_at c) n (λ e. omega arith) j);
-    next = λ c. head_in (word_else ws live_at (next_at c) n (λ e. omega arith) j);
-  }
-
-  -- a store of STOP
-  pub say_stop : stop_at < length ws → words_say (set ws stop_at n) ≡ record (words_say ws) { stop = n }
-  say_stop l j = record {
-    count = word_else ws stop_at count_at n (λ e. omega arith) j;
-    live = word_else ws stop_at live_at n (λ e. omega arith) j;
-    others = word_else ws stop_at others_at n (λ e. omega arith) j;
-    stop = word_here ws stop_at n l j;
-    own = λ c. owner_in (word_else ws stop_at (own_at c) n (λ e. omega arith) j);
-    phase = λ c. phase_in (word_else ws stop_at (phase_at c) n (λ e. omega arith) j);
-    once = λ c f. word_else ws stop_at (once_at c f) n (once_low c stop_at f (omega arith)) j;
-    head = λ c. head_in (word_else ws stop_at (head_at c) n (λ e. omega arith) j);
-    next = λ c. head_in (word_else ws stop_at (next_at c) n (λ e. omega arith) j);
-  }
-
-  -- a store of HEAD of p
-  pub say_head : (p : ℕ) → head_at p < length ws
-      → words_say (set ws (head_at p) n) ≡ record (words_say ws) { head = put (words_say ws).head p (head_in n) }
-  say_head p l j = record {
-    count = word_else ws (head_at p) count_at n (λ e. omega arith) j;
-    live = word_else ws (head_at p) live_at n (λ e. omega arith) j;
-    others = word_else ws (head_at p) others_at n (λ e. omega arith) j;
-    stop = word_else ws (head_at p) stop_at n (λ e. omega arith) j;
-    own = λ c. owner_in (word_else ws (head_at p) (own_at c) n (λ e. omega arith) j);
-    phase = λ c. phase_in (word_else ws (head_at p) (phase_at c) n (λ e. omega arith) j);
-    once = λ c f. word_else ws (head_at p) (once_at c f) n (once_head c p f) j;
-    head = λ c. read_put ws head_at head_in p n l (λ d a e. a (omega arith)) c j;
-    next = λ c. head_in (word_else ws (head_at p) (next_at c) n (λ e. omega arith) j);
-  }
-
-  -- a store of NEXT of t
-  pub say_next : (t : ℕ) → next_at t < length ws
-      → words_say (set ws (next_at t) n) ≡ record (words_say ws) { next = put (words_say ws).next t (head_in n) }
-  say_next t l j = record {
-    count = word_else ws (next_at t) count_at n (λ e. omega arith) j;
-    live = word_else ws (next_at t) live_at n (λ e. omega arith) j;
-    others = word_else ws (next_at t) others_at n (λ e. omega arith) j;
-    stop = word_else ws (next_at t) stop_at n (λ e. omega arith) j;
-    own = λ c. owner_in (word_else ws (next_at t) (own_at c) n (λ e. omega arith) j);
-    phase = λ c. phase_in (word_else ws (next_at t) (phase_at c) n (λ e. omega arith) j);
-    once = λ c f. word_else ws (next_at t) (once_at c f) n (once_next c t f) j;
-    head = λ c. head_in (word_else ws (next_at t) (head_at c) n (λ e. omega arith) j);
-    next = λ c. read_put ws next_at head_in t n l (λ d a e. a (omega arith)) c j;
-  }
-
--- what a stored word may be, by its index
-pub record MayStore (cells i n : ℕ) : Type 0 where
-  pub stop : stop_at ≡ i → n ≤ 2
-  pub own : (c : ℕ) → own_at c ≡ i → n ≤ cells
-  pub phase : (c : ℕ) → phase_at c ≡ i → IsPhaseWord cells n
-  pub tag : (c : ℕ) → once_at c once.Tag ≡ i → n ≤ 4
-  pub parent : (c : ℕ) → once_at c once.Parent ≡ i → n ≤ cells
-  pub kid : (c : ℕ) → once_at c once.Kid ≡ i → n < 2 ^ 32
-  pub depth : (c : ℕ) → once_at c once.Depth ≡ i → n ≤ cells
-  pub jump : (c : ℕ) → once_at c once.Jump ≡ i → n ≤ cells
-  pub head : (c : ℕ) → head_at c ≡ i → (n ≡ shut_word) ⊎ (n ≤ cells)
-  pub next : (c : ℕ) → next_at c ≡ i → n ≤ cells
+pub may_store : (cells : ℕ) (w : TableWord) (n : ℕ) → MayHold cells w n → MayStore cells (index w) n
+may_store cells w n m x e = subst (λ z. MayHold cells z n) (sym (same_word_at w x e)) m
 
 -- what holds of a word at an index holds after a store that keeps it there
 pub word_keeps : (F : ℕ → Type 0) (ws : List ℕ) (i n index : ℕ) → i < length ws → (index ≡ i → F n) → F (word ws index)
@@ -150,76 +67,22 @@ word_keeps F ws i n index l h k = dite (ℕ_discrete index i)
 pub codes_store : (cells : ℕ) (ws : List ℕ) (i n : ℕ) → i < length ws → MayStore cells i n → Codes cells ws
     → Codes cells (set ws i n)
 codes_store cells ws i n l m k = record {
-  stop = word_keeps (λ z. z ≤ 2) ws i n stop_at l m.stop k.stop;
+  stop = holds Stop k.stop;
   each = λ c h. let w = k.each c h in record {
-    own = word_keeps (λ z. z ≤ cells) ws i n (own_at c) l (m.own c) w.own;
-    phase = word_keeps (IsPhaseWord cells) ws i n (phase_at c) l (m.phase c) w.phase;
-    tag = word_keeps (λ z. z ≤ 4) ws i n (once_at c once.Tag) l (m.tag c) w.tag;
-    parent = word_keeps (λ z. z ≤ cells) ws i n (once_at c once.Parent) l (m.parent c) w.parent;
-    kid = word_keeps (λ z. z < 2 ^ 32) ws i n (once_at c once.Kid) l (m.kid c) w.kid;
-    depth = word_keeps (λ z. z ≤ cells) ws i n (once_at c once.Depth) l (m.depth c) w.depth;
-    jump = word_keeps (λ z. z ≤ cells) ws i n (once_at c once.Jump) l (m.jump c) w.jump;
-    head = word_keeps (λ z. (z ≡ shut_word) ⊎ (z ≤ cells)) ws i n (head_at c) l (m.head c) w.head;
-    next = word_keeps (λ z. z ≤ cells) ws i n (next_at c) l (m.next c) w.next;
+    own = holds (Own c) w.own;
+    phase = holds (Phase c) w.phase;
+    tag = holds (Written c once.Tag) w.tag;
+    parent = holds (Written c once.Parent) w.parent;
+    kid = holds (Written c once.Kid) w.kid;
+    depth = holds (Written c once.Depth) w.depth;
+    jump = holds (Written c once.Jump) w.jump;
+    head = holds (Head c) w.head;
+    next = holds (Next c) w.next;
   };
 }
-
--- a counter of the table may be anything
-pub may_count : (cells i n : ℕ) → i < stop_at → MayStore cells i n
-may_count cells i n l = record {
-  stop = λ e. absurd (omega arith);
-  own = λ c e. absurd (omega arith);
-  phase = λ c e. absurd (omega arith);
-  tag = λ c e. absurd (omega arith);
-  parent = λ c e. absurd (omega arith);
-  kid = λ c e. absurd (omega arith);
-  depth = λ c e. absurd (omega arith);
-  jump = λ c e. absurd (omega arith);
-  head = λ c e. absurd (omega arith);
-  next = λ c e. absurd (omega arith);
-}
-
-pub may_stop : (cells n : ℕ) → n ≤ 2 → MayStore cells stop_at n
-may_stop cells n l = record {
-  stop = λ e. l;
-  own = λ c e. absurd (omega arith);
-  phase = λ c e. absurd (omega arith);
-  tag = λ c e. absurd (omega arith);
-  parent = λ c e. absurd (omega arith);
-  kid = λ c e. absurd (omega arith);
-  depth = λ c e. absurd (omega arith);
-  jump = λ c e. absurd (omega arith);
-  head = λ c e. absurd (omega arith);
-  next = λ c e. absurd (omega arith);
-}
-
-pub may_head : (cells p n : ℕ) → (n ≡ shut_word) ⊎ (n ≤ cells) → MayStore cells (head_at p) n
-may_head cells p n l = record {
-  stop = λ e. absurd (omega arith);
-  own = λ c e. absurd (omega arith);
-  phase = λ c e. absurd (omega arith);
-  tag = λ c e. absurd (omega arith);
-  parent = λ c e. absurd (omega arith);
-  kid = λ c e. absurd (omega arith);
-  depth = λ c e. absurd (omega arith);
-  jump = λ c e. absurd (omega arith);
-  head = λ c e. l;
-  next = λ c e. absurd (omega arith);
-}
-
-pub may_next : (cells t n : ℕ) → n ≤ cells → MayStore cells (next_at t) n
-may_next cells t n l = record {
-  stop = λ e. absurd (omega arith);
-  own = λ c e. absurd (omega arith);
-  phase = λ c e. absurd (omega arith);
-  tag = λ c e. absurd (omega arith);
-  parent = λ c e. absurd (omega arith);
-  kid = λ c e. absurd (omega arith);
-  depth = λ c e. absurd (omega arith);
-  jump = λ c e. absurd (omega arith);
-  head = λ c e. absurd (omega arith);
-  next = λ c e. l;
-}
+  where
+    holds : (w : TableWord) → MayHold cells w (word ws (index w)) → MayHold cells w (word (set ws i n) (index w))
+    holds w h = word_keeps (MayHold cells w) ws i n (index w) l (m w) h
 
 module _ {B : Type 0} (program : Bool → B → Program B) (key : Key B) where
   -- what a step owes that stores n at i and leaves its seat with the view w

@@ -44,8 +44,8 @@ use Rattle.tj_words.proofs.Stores.SeatLists.{back}
 use Rattle.tj_words.proofs.Stores.SeatContents.{seats_same}
 use Rattle.tj_words.proofs.SeatLoads.LoadSteps.{knows_so}
 use Rattle.tj_words.proofs.SeatLoads.KnowLoads.{root_there, born_at, sees_tree}
-use Rattle.tj_words.proofs.Stores.StoreSteps.{Stores, step_allowed}
-use Rattle.tj_words.proofs.Stores.StoredWords.{put_word, put_word_word, MayStand}
+use Rattle.tj_words.proofs.Stores.StoreSteps.{MayStand, Stores, step_allowed}
+use Rattle.tj_words.proofs.Stores.StoredWords.{put_word, put_word_word}
 use Rattle.tj_words.proofs.Stores.OnceStores.{due_else, once_stored, tree_words_stored}
 use Rattle.tj_words.proofs.Cells.MadeThings.{made_few, child_jump}
 use Rattle.tj_words.proofs.Stores.WrittenOnce.{once_stores}

@@ -12,8 +12,9 @@ use Rattle.tj_words.specs.Law.{IsSeat, Law, Rule}
 use Rattle.tj_words.specs.Words.Offsets.{once_at}
 use Rattle.tj_words.proofs.SeatLoads.KnowLoads.{once_within}
 use Rattle.tj_words.proofs.Stores.SeatContents.{set_seats}
-use Rattle.tj_words.proofs.Stores.StoreSteps.{Stores}
-use Rattle.tj_words.proofs.Stores.StoredWords.{MayStand, may_once, put_word, say_once}
+use Rattle.tj_words.proofs.Stores.StoreSteps.{MayStand, may_store, Stores}
+use Rattle.tj_words.proofs.Stores.StoredWords.{put_word, say_once}
+use Rattle.tj_words.proofs.Stores.TableWords.{Written}
 
 module _ {B : Type 0} (program : Bool → B → Program B) (key : Key B) (s : State (Option (Rec B)) (View B))
     (r : Rule program key s) (id c n : ℕ) (f : Once) (l : c < key.cells) where
@@ -30,7 +31,7 @@ module _ {B : Type 0} (program : Bool → B → Program B) (key : Key B) (s : St
       → Stores program key s id (once_at c f) n w
   once_stores w y may seat same law = record {
     inside = inside;
-    may = may_once key.cells c n f may;
+    may = may_store key.cells (Written c f) n may;
     seat = seat;
     law = subst (λ z. Law (program key.strict key.root.value) key.cells
         (record { words = z; slots = s.homes; seats = set_seats (seats_have s.views) id w }))

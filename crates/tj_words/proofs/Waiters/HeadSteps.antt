@@ -38,8 +38,9 @@ use Rattle.tj_words.specs.Law.{Law, Rule, IsSeat}
 use Rattle.tj_words.specs.SeatViews.SeatSteps.{SeatMe}
 use Rattle.tj_words.proofs.Stores.SeatContents.{set_seats, seats_same}
 use Rattle.tj_words.proofs.Stores.StoreSteps.{put_here, put_else}
-use Rattle.tj_words.proofs.Stores.StoreSteps.{say_head, say_next, MayStore, may_head, may_next, Stores, rule_stores}
-use Rattle.tj_words.proofs.Stores.StoreSteps.{step_allowed}
+use Rattle.tj_words.proofs.Stores.StoreSteps.{MayStore, may_store, Stores, rule_stores, step_allowed}
+use Rattle.tj_words.proofs.Stores.StoredWords.{say_head, say_next}
+use Rattle.tj_words.proofs.Stores.TableWords as table_word
 use Rattle.tj_words.proofs.Stores.SlotStores.{Acts}
 use Rattle.tj_words.proofs.Stores.LawChanges.{law_chains}
 use Rattle.tj_words.proofs.SeatLoads.LoadSteps.{knows_so}
@@ -130,7 +131,8 @@ module _ {B : Type 0} (program : Bool → B → Program B) (key : Key B) where
     next_stores : (t n : ℕ) → t < key.cells → n ≤ key.cells → HasPush t v
         → Stores program key s id (next_at t) n (stored_next t (head_in n) v)
     next_stores t n l small has = chain_stores (stored_next t (head_in n) v) refl
-        (push_backed v has.0 (r.seats id v at) has.1) (next_at t) n (next_inside t l) (may_next key.cells t n small)
+        (push_backed v has.0 (r.seats id v at) has.1) (next_at t) n (next_inside t l)
+        (may_store key.cells (table_word.Next t) n small)
         words.head (put words.next t (head_in n)) (say_next s.words n t (next_inside t l))
         (set seats.pushes id (with_next t (head_in n) v.pushes)) seats.shuts seats.rests seats.closed
         (ap (λ (z : SeatsHave B). record z { pushes = set seats.pushes id (with_next t (head_in n) v.pushes) })
@@ -144,7 +146,8 @@ module _ {B : Type 0} (program : Bool → B → Program B) (key : Key B) where
         → Stores program key s id (head_at p) (suc t) (pushed t v)
     push_stores t p lt lp has unshut = chain_stores (pushed t v) refl
         (push_backed v has.0 (r.seats id v at) has.1) (head_at p) (suc t) (head_inside p lp)
-        (may_head key.cells p (suc t) (inr (omega arith))) (put words.head p (Task (cell t))) words.next
+        (may_store key.cells (table_word.Head p) (suc t) (inr (omega arith)))
+        (put words.head p (Task (cell t))) words.next
         (say_head s.words (suc t) p (head_inside p lp)
         ∙ ap (λ h. record words { head = put words.head p h }) (sym is_task))
         (set seats.pushes id (without_push t v.pushes)) seats.shuts seats.rests seats.closed
@@ -162,7 +165,8 @@ module _ {B : Type 0} (program : Bool → B → Program B) (key : Key B) where
         → head_in (word s.words (head_at p)) ≢ Shut
         → Stores program key s id (head_at p) shut_word (took_chain p (r.law.chains.line p) v)
     shut_stores p lp knows free back unshut = chain_stores (took_chain p chain v) refl back (head_at p) shut_word
-        (head_inside p lp) (may_head key.cells p shut_word (inl refl)) (put words.head p Shut) words.next
+        (head_inside p lp) (may_store key.cells (table_word.Head p) shut_word (inl refl))
+        (put words.head p Shut) words.next
         (say_head s.words shut_word p (head_inside p lp)) seats.pushes (set seats.shuts id (without p v.shuts))
         (set seats.rests id (rest_of p chain)) (set seats.closed id (p ∷ v.closed))
         (ap (λ (z : SeatsHave B). record z {
@@ -185,7 +189,7 @@ module _ {B : Type 0} (program : Bool → B → Program B) (key : Key B) where
     shut_again : (p : ℕ) → p < key.cells → IsBacked v → head_in (word s.words (head_at p)) ≡ Shut
         → Stores program key s id (head_at p) shut_word (found_taken p v)
     shut_again p lp back is_shut = chain_stores (found_taken p v) refl back (head_at p) shut_word (head_inside p lp)
-        (may_head key.cells p shut_word (inl refl)) words.head words.next
+        (may_store key.cells (table_word.Head p) shut_word (inl refl)) words.head words.next
         (say_head s.words shut_word p (head_inside p lp) ∙ (λ j. record words { head = λ c. same c j }))
         seats.pushes (set seats.shuts id (without p v.shuts)) seats.rests (set seats.closed id (p ∷ v.closed))
         (ap (λ (z : SeatsHave B). record z {

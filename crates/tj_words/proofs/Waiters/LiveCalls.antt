@@ -17,9 +17,11 @@ use Rattle.tj_words.specs.Calls.LiveViews.{live_lowered, LaysChild, Shelves, May
 use Rattle.tj_words.specs.Calls.LiveViews.{live_sub}
 use Rattle.tj_words.specs.Calls.LiveViews.{now_home, stop_store}
 use Rattle.tj_words.specs.SeatViews.SeatSteps.{SeatMe}
-use Rattle.tj_words.specs.SeatViews.Views.{stepped_on}
+use Rattle.tj_words.specs.SeatViews.Views.{noted_step}
+use Rattle.tj_words.specs.declared.view.Noted.TheVariants as note
 use Rattle.tj_words.proofs.Stores.SeatContents.{set_seats, seats_same}
-use Rattle.tj_words.proofs.Stores.StoreSteps.{say_stop, may_stop, Stores, step_allowed}
+use Rattle.tj_words.proofs.Stores.StoreSteps.{may_store, Stores, step_allowed, rule_stores}
+use Rattle.tj_words.proofs.Stores.StoredWords.{say_live, say_stop}
 use Rattle.tj_words.proofs.Waiters.StopSteps.{law_stops}
 use Rattle.tj_words.proofs.Meaning.MeaningSteps.{refused_above}
 use Rattle.atomic_table.specs.Table.{keeps}
@@ -36,7 +38,7 @@ use Rattle.tj_words.specs.Calls.ParkSteps.{with_tokens}
 use Rattle.tj_words.specs.SeatViews.TaskLists.{hold, let_go}
 use Rattle.tj_words.specs.LawParts.Contents.{Contents}
 use Rattle.tj_words.specs.Steps.StepEvents.{IsHeldWith}
-use Rattle.tj_words.proofs.Stores.StoreSteps.{say_live, may_count, rule_stores}
+use Rattle.tj_words.proofs.Stores.TableWords.{Live, Stop}
 use Rattle.tj_words.proofs.Stores.SlotStores.{StoresWith, Acts}
 use Rattle.tj_words.proofs.Stores.GivenSlots.{acts_giving}
 use Rattle.tj_words.proofs.SeatLoads.LoadSteps.{live_small}
@@ -59,10 +61,11 @@ module _ {B : Type 0} (program : Bool → B → Program B) (key : Key B) where
 
   module _ (s : State (Option (Rec B)) (View B)) (r : Rule program key s) (id : ℕ) (v : View B)
       (at : get_elem? s.views id ≡ some v) where
-    stop_stores : (w : ℕ) → w ≤ 2 → (w ≡ 1 → 0 < v.refused) → Stores program key s id stop_at w (stepped_on v)
+    stop_stores : (w : ℕ) → w ≤ 2 → (w ≡ 1 → 0 < v.refused)
+        → Stores program key s id stop_at w (noted_step note.StoredStop w v)
     stop_stores w small refused = let h = r.seats id v at in let l = h.within_lot in let b = h.backing in record {
       inside = inside;
-      may = may_stop key.cells w small;
+      may = may_store key.cells Stop w small;
       seat = record {
         about = h.about;
         within_lot = record {
@@ -91,7 +94,7 @@ module _ {B : Type 0} (program : Bool → B → Program B) (key : Key B) where
       → Allows (Rule program key) slots id m stop_at (λ n. w) (λ n. stop_store (step slots stop_at w 0 none) m w)
   stop_allowed slots id m w small refused = step_allowed program key slots id m stop_at (λ n. w)
       (λ n. stop_store (step slots stop_at w 0 none) m w)
-      (λ s r at. (stepped_on m.0, stop_stores s r id m.0 at w small refused, refl))
+      (λ s r at. (noted_step note.StoredStop w m.0, stop_stores s r id m.0 at w small refused, (refl, refl)))
 
   -- a step on LIVE that leaves the seat with the view w, where the record of t comes home or not
   module _ (s : State (Option (Rec B)) (View B)) (r : Rule program key s) (id : ℕ) (v : View B)
@@ -118,7 +121,7 @@ module _ {B : Type 0} (program : Bool → B → Program B) (key : Key B) where
     live_changes live tokens tasks slots many seat law = record {
       inside = live_inside;
       as_many = many;
-      may = may_count key.cells live_at live (omega arith);
+      may = may_store key.cells Live live tt;
       seat = seat;
       law = subst (λ z. Law P key.cells record {
         words = z;

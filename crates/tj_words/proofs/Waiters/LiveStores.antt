@@ -15,7 +15,9 @@ use Rattle.tj_words.specs.LawParts.Contents.{SeatsHave, words_say, seats_have}
 use Rattle.tj_words.specs.Law.{Law, Rule}
 use Rattle.tj_words.specs.Calls.ParkSteps.{with_tokens}
 use Rattle.tj_words.proofs.Stores.SeatContents.{set_seats, seats_same}
-use Rattle.tj_words.proofs.Stores.StoreSteps.{say_live, may_count, Stores}
+use Rattle.tj_words.proofs.Stores.StoreSteps.{may_store, Stores}
+use Rattle.tj_words.proofs.Stores.StoredWords.{say_live}
+use Rattle.tj_words.proofs.Stores.TableWords.{Live}
 use Rattle.tj_words.proofs.Waiters.LiveSteps.{count_up, count_down, held_in_phase, lively_live, backed_lively}
 use Rattle.tj_words.proofs.Waiters.LiveSteps.{backing_token}
 use Rattle.tj_words.proofs.Stores.LawChanges.{law_live}
@@ -47,7 +49,7 @@ module _ {B : Type 0} (program : Bool → B → Program B) (key : Key B) (s : St
     live_stores : Stores program key s id live_at n (with_tokens k v)
     live_stores = let h = r.seats id v at in let l = h.within_lot in record {
       inside = inside;
-      may = may_count key.cells live_at n (omega arith);
+      may = may_store key.cells Live n tt;
       seat = record {
         about = h.about;
         within_lot =

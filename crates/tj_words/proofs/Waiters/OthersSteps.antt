@@ -34,26 +34,13 @@ use Rattle.tj_words.proofs.Stores.SeatContents.{set_seats, seats_same}
 use Rattle.tj_words.proofs.Stores.SeatLists.{word_else, word_here}
 use Rattle.tj_words.proofs.Seating.Splitting.{total_set}
 use Rattle.tj_words.proofs.Events.StepFacts.{facts_after}
-use Rattle.tj_words.proofs.Stores.StoreSteps.{once_low, may_count, Stores, step_allowed}
+use Rattle.tj_words.proofs.Stores.StoreSteps.{may_store, Stores, step_allowed}
+use Rattle.tj_words.proofs.Stores.StoredWords.{say_others}
+use Rattle.tj_words.proofs.Stores.TableWords.{Others}
 use Rattle.tj_words.proofs.Events.WaitClears.{lower_shown}
 use Rattle.tj_words.proofs.Events.WalkEvents.{raise_shown}
 use Rattle.tj_words.proofs.SeatLoads.WalkLoads.{turned_seat, turned_seats, held_by_view, others_small}
 use Rattle.tj_words.proofs.SeatLoads.WalkReads.{doing, turned_to, task_turned, law_turned}
-
--- what the words say after a store of OTHERS
-pub say_others : (ws : List ℕ) (n : ℕ) → others_at < length ws
-    → words_say (set ws others_at n) ≡ record (words_say ws) { others = n }
-say_others ws n l j = record {
-  count = word_else ws others_at count_at n (λ e. omega arith) j;
-  live = word_else ws others_at live_at n (λ e. omega arith) j;
-  others = word_here ws others_at n l j;
-  stop = word_else ws others_at stop_at n (λ e. omega arith) j;
-  own = λ c. owner_in (word_else ws others_at (own_at c) n (λ e. omega arith) j);
-  phase = λ c. phase_in (word_else ws others_at (phase_at c) n (λ e. omega arith) j);
-  once = λ c f. word_else ws others_at (once_at c f) n (once_low c others_at f (omega arith)) j;
-  head = λ c. head_in (word_else ws others_at (head_at c) n (λ e. omega arith) j);
-  next = λ c. head_in (word_else ws others_at (next_at c) n (λ e. omega arith) j);
-}
 
 -- a task that may act runs
 pub acting_phase : (d : Does) → MayAct d → phase_of does.Raised ≡ phase_of d
@@ -127,7 +114,7 @@ module _ {B : Type 0} (program : Bool → B → Program B) (key : Key B) (event_
       → Stores program key s id others_at n w
   stores n w seats e q law = record {
     inside = inside;
-    may = may_count key.cells others_at n (omega arith);
+    may = may_store key.cells Others n tt;
     seat = q;
     law = subst (λ z. Law P key.cells record {
       words = words_say (set s.words others_at n);

@@ -9,6 +9,7 @@ use Rattle.tj_body.specs.Programs.{Program}
 use Rattle.tj_words.specs.declared.offsets.Once.{Once}
 use Rattle.tj_words.specs.declared.offsets.Once.TheVariants as once
 use Rattle.tj_words.specs.declared.record.Rec.{Rec}
+use Rattle.tj_words.specs.declared.view.Noted.TheVariants as note
 use Rattle.tj_words.specs.declared.view.View.{View}
 use Rattle.tj_words.specs.Words.Offsets.{word, count_at, live_at, stop_at, head_at, next_at, once_at}
 use Rattle.tj_words.specs.LawParts.Contents.{Contents, contents_of}
@@ -50,11 +51,11 @@ module _ (B : Type 0) where
 
   -- a load of COUNT that is no event
   abbrev pub CountCallsLoad : Type 0
-  CountCallsLoad = (cells : ℕ) → IsLoad (plain_load (IsCount cells))
+  CountCallsLoad = (cells : ℕ) → IsLoad (plain_load note.Count (IsCount cells))
 
   -- one of OWN
   abbrev pub OwnerCallsLoad : Type 0
-  OwnerCallsLoad = (cells : ℕ) → IsLoad (plain_load (λ n. n ≤ cells))
+  OwnerCallsLoad = (cells c : ℕ) → IsLoad (plain_load (note.Owner c) (λ n. n ≤ cells))
 
   -- one of PHASE
   abbrev pub PhaseCallsLoad : Type 0

@@ -6,6 +6,7 @@ use Rattle.tj_body.specs.Programs.{Program}
 use Rattle.tj_core.specs.Events.{count_read, others_read, wait_found}
 use Rattle.tj_words.specs.declared.offsets.Once.{Once}
 use Rattle.tj_words.specs.declared.record.Rec.{Rec}
+use Rattle.tj_words.specs.declared.view.Noted.TheVariants as note
 use Rattle.tj_words.specs.Calls.ChainSteps.{next_store, push_exchange, shut_swap}
 use Rattle.tj_words.specs.Words.Codes.{IsPhaseWord}
 use Rattle.tj_words.specs.Calls.DrawViews.{draw_step}
@@ -105,13 +106,13 @@ module _ {B : Type 0} where
     -- a seat of which this is so
     abbrev pub told_by : StepCall → ℕ → Tells B
     told_by (draws t o) = leaves (λ st k. suc k) (draw_step program cells t o)
-    told_by counts = loads (plain_load (IsCount cells))
+    told_by counts = loads (plain_load note.Count (IsCount cells))
     told_by (counts_by t) = loads (walk_load t (λ n. count_read (min n cells)) (IsCount cells))
     told_by (puts_once c f) = stores (λ st m k m'. MayPutOnce program f c st.first m.0 × (m'.1 ≡ m.1)
         × PutsOnce program f c st.first m.0 m'.0)
     told_by (sees_once c f) = loads (once_load program cells f c)
     told_by (puts_owner c) = stores (λ st m k m'. MayPutOwner c (owner_in st.first) m.0 × owner_put c st m k m')
-    told_by (sees_owner c) = loads (plain_load (λ n. n ≤ cells))
+    told_by (sees_owner c) = loads (plain_load (note.Owner c) (λ n. n ≤ cells))
     told_by (sees_owner_by t c) = loads (walk_load t (λ n w. owner_seen (owner_in n) w w.last) (λ n. n ≤ cells))
     told_by (puts_phase t) = stores (λ st m k m'. PutsPhase t (phase_in st.first) m m')
     told_by (sees_phase t) = loads (phase_load cells t)

@@ -9,6 +9,7 @@ use Rattle.tj_words.specs.declared.phase.Phase.{Phase}
 use Rattle.tj_words.specs.declared.phase.Phase.TheVariants.{Ready, Running}
 use Rattle.tj_words.specs.declared.record.Rec.{Rec}
 use Rattle.tj_words.specs.declared.view.About.{About}
+use Rattle.tj_words.specs.declared.view.Noted.TheVariants as note
 use Rattle.tj_words.specs.declared.view.Push.{Push}
 use Rattle.tj_words.specs.declared.view.Rest.{Rest}
 use Rattle.tj_words.specs.declared.view.View.{View}
@@ -16,11 +17,11 @@ use Rattle.tj_words.specs.LawParts.Chains.{parked_phase}
 use Rattle.tj_words.specs.Calls.ChainSteps.{without_push, rest_of}
 use Rattle.tj_words.specs.Words.Codes.{IsPhaseWord}
 use Rattle.tj_words.specs.LawParts.LiveCount.{HasAlarmed, Holds, Backing}
-use Rattle.tj_words.specs.Words.Phases.{phase_in}
+use Rattle.tj_words.specs.Words.Phases.{phase_in, phase_word}
 use Rattle.tj_words.specs.LawParts.RecordPhases.{WaitsFor}
-use Rattle.tj_words.specs.SeatViews.SeatSteps.{SeatMe, Tells}
+use Rattle.tj_words.specs.SeatViews.SeatSteps.{IsOn, SeatMe, Tells}
 use Rattle.tj_words.specs.Calls.TakenRecords.{took_record, TakesRecord}
-use Rattle.tj_words.specs.SeatViews.Views.{stepped_on}
+use Rattle.tj_words.specs.SeatViews.Views.{noted_step, stepped_on}
 
 -- the rest without its first task
 abbrev pub without_first : Option Rest → Option Rest
@@ -45,6 +46,10 @@ module _ {B : Type 0} where
     cleared = v.cleared + raised_by_way way;
     pushes = without_push t v.pushes;
   }
+
+  -- an exchange of PHASE of t found the phase p, which isn't the one that it was to change
+  abbrev pub missed : ℕ → Phase → View B → View B
+  missed t p v = noted_step (note.Missed t) (phase_word p) v
 
   -- the view isn't one that another has taken in
   abbrev pub KnowsTable : View B → Type 0
@@ -109,7 +114,8 @@ module _ {B : Type 0} where
       pub wakes : (p : ℕ) (way : Way) → was ≡ parked_phase p way → to ≡ Ready → Wakes way m m'
       pub goes_back : (p : ℕ) (way : Way) → was ≡ parked_phase p way → to ≡ Running → GoesBack p way m m'
 
-    -- an exchange of PHASE: from Parked it doesn't fail
+    -- an exchange of PHASE: from Parked it doesn't fail; where it fails, the seat notes it with the number found
     abbrev pub phase_swap : ℕ → Tells B
     phase_swap cells st m n m' = (n ≡ st.first → Swaps (phase_in st.first) (phase_in st.second) m m')
-        × (n ≢ st.first → (phase_in st.first ≡ Ready) × (m' ≡ (stepped_on m.0, m.1)) × IsPhaseWord cells n)
+        × (n ≢ st.first → (phase_in st.first ≡ Ready) × (m' ≡ (noted_step (note.Missed t) n m.0, m.1))
+        × IsPhaseWord cells n × IsOn (note.Missed t) st)

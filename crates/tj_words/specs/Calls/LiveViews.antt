@@ -11,15 +11,16 @@ use Rattle.tj_words.specs.declared.record.Rec.{Rec}
 use Rattle.tj_words.specs.declared.view.Custody.{Custody}
 use Rattle.tj_words.specs.declared.view.Does.TheVariants as does
 use Rattle.tj_words.specs.declared.view.Hand.{Hand}
+use Rattle.tj_words.specs.declared.view.Noted.TheVariants as note
 use Rattle.tj_words.specs.declared.view.View.{View}
 use Rattle.tj_words.specs.LawParts.Holding.{held_in}
 use Rattle.tj_words.specs.LawParts.LiveCount.{IsBacked, Backing}
 use Rattle.tj_words.specs.Calls.ParkSteps.{with_tokens}
 use Rattle.tj_words.specs.Calls.PutRecords.{PutsHome}
 use Rattle.tj_words.specs.LawParts.RecordPhases.{WaitsFor}
-use Rattle.tj_words.specs.SeatViews.SeatSteps.{SeatMe, Tells}
+use Rattle.tj_words.specs.SeatViews.SeatSteps.{IsOn, SeatMe, Tells}
 use Rattle.tj_words.specs.SeatViews.TaskLists.{let_go, noted}
-use Rattle.tj_words.specs.SeatViews.Views.{stepped_on}
+use Rattle.tj_words.specs.SeatViews.Views.{noted_step}
 
 -- the slots that a seat has
 abbrev pub SlotsOf : Type 0 → Type 0
@@ -144,9 +145,9 @@ module _ {B : Type 0} where
   abbrev pub live_sub : Tells B
   live_sub st m n m' = m' ≡ live_lowered m
 
-  -- the store of STOP
+  -- the store of STOP, which the seat notes with the number stored
   abbrev pub stop_store : Tells B
-  stop_store st m n m' = m' ≡ (stepped_on m.0, m.1)
+  stop_store st m n m' = (m' ≡ (noted_step note.StoredStop st.first m.0, m.1)) × IsOn note.StoredStop st
 
   -- the stores of Ready and of Ended into PHASE of t
   abbrev pub ready_store : ℕ → Tells B

@@ -4,13 +4,15 @@ use Rattle.tj_core.specs.declared.walk.Way.{Way}
 use Rattle.tj_words.specs.declared.phase.Walk.TheVariants as walk
 use Rattle.tj_words.specs.declared.phase.Phase.{Phase}
 use Rattle.tj_words.specs.declared.phase.Phase.TheVariants as phase
+use Rattle.tj_words.specs.declared.view.Noted.TheVariants as note
 use Rattle.tj_words.specs.declared.view.Push.{Push}
 use Rattle.tj_words.specs.declared.view.Rest.{Rest}
 use Rattle.tj_words.specs.declared.view.View.{View}
 use Rattle.tj_words.specs.LawParts.Chains.{parked_phase}
 use Rattle.tj_words.specs.Words.Codes.{IsPhaseWord}
-use Rattle.tj_words.specs.Words.Phases.{phase_in}
-use Rattle.tj_words.specs.SeatViews.SeatSteps.{Tells}
+use Rattle.tj_words.specs.Words.Phases.{phase_in, phase_word}
+use Rattle.tj_words.specs.SeatViews.SeatSteps.{IsOn, Tells}
+use Rattle.tj_words.specs.SeatViews.Views.{note_of}
 
 -- the push to come of a seat that has parked the task
 abbrev pub new_push : ℕ → ℕ → Way → Push
@@ -42,12 +44,13 @@ rest_loaded t p None = None
 rest_loaded t p (Some r) = Some (record r { way = first_way t p r.tasks r.way })
 
 module _ {B : Type 0} where
-  -- PHASE of t was loaded, by nobody's walk: the way of the first of the rest is known, if that is t
+  -- PHASE of t was loaded as p, by nobody's walk: the way of the first of the rest is known, if that is t
   abbrev pub loaded_phase : ℕ → Phase → View B → View B
   loaded_phase t p v = record v {
     steps = suc v.steps;
     plain_loads = suc v.plain_loads;
     rest = rest_loaded t p v.rest;
+    notes = note_of (note.Phase t) (phase_word p) v ∷ v.notes;
   }
 
   -- the first of the seat's rest is parked on the rest's cell
@@ -58,7 +61,7 @@ module _ {B : Type 0} where
   -- a load of PHASE of t that is no event
   abbrev pub phase_load : ℕ → ℕ → Tells B
   phase_load cells t st m n m' = (m'.1 ≡ m.1) × (m'.0 ≡ loaded_phase t (phase_in n) m.0) × IsPhaseWord cells n
-      × FirstTold t (phase_in n) m.0
+      × FirstTold t (phase_in n) m.0 × IsOn (note.Phase t) st
 
 -- the view after a step on LIVE that leaves the seat with so many tokens
 abbrev pub with_tokens : {B : Type 0} → ℕ → View B → View B

@@ -1,5 +1,5 @@
 -- What the loads of a walker and the steps on OTHERS make of the view of their seat, and when they may be made.
-use Rattle.std.specs.Prelude.{◌≡◌, ◌≢◌, ◌⊎◌, ℕ, suc, ◌-◌, Option, Some, None}
+use Rattle.std.specs.Prelude.{◌≡◌, ◌≢◌, ◌⊎◌, ℕ, suc, ◌-◌, min, Option, Some, None}
 use Rattle.tj_base.specs.declared.cell.CellId.{CellId}
 use Rattle.tj_body.specs.Points.{IsIn}
 use Rattle.tj_core.specs.declared.walk.Way.{Way}
@@ -7,15 +7,17 @@ use Rattle.tj_core.specs.declared.walk.Walker.{Walker}
 use Rattle.tj_core.specs.declared.walk.LastRead.{LastRead}
 use Rattle.tj_core.specs.declared.walk.LastRead.TheVariants.{Published, SawOthers, Counted, SawOwner, SawWait, Passed}
 use Rattle.tj_core.specs.declared.walk.LastRead.TheVariants.{Changed}
-use Rattle.tj_core.specs.Events.{owner_read, owner_found, is_owner, MayReadOwner, MayReadAgain}
+use Rattle.tj_core.specs.Events.{count_read, owner_read, owner_found, is_owner, MayReadOwner, MayReadAgain}
 use Rattle.tj_words.specs.declared.view.Does.{Does}
 use Rattle.tj_words.specs.declared.view.Does.TheVariants as does
 use Rattle.tj_words.specs.declared.view.Custody.{Custody}
+use Rattle.tj_words.specs.declared.view.Noted.TheVariants as note
 use Rattle.tj_words.specs.declared.view.View.{View}
 use Rattle.tj_words.specs.LawParts.Holding.{held_in}
 use Rattle.tj_words.specs.Steps.StepEvents.{MayAct}
 use Rattle.tj_words.specs.SeatViews.TaskLists.{noted}
 use Rattle.tj_words.specs.SeatViews.SeatSteps.{Tells}
+use Rattle.tj_words.specs.SeatViews.Views.{loaded_plain}
 
 -- what a task does, with its walk changed
 abbrev pub walk_with : (Walker → Walker) → Does → Does
@@ -81,6 +83,11 @@ module _ {B : Type 0} where
   abbrev pub loaded_by : Option CellId → (View B → View B) → (Walker → Walker) → View B → View B
   loaded_by None plain f v = plain v
   loaded_by (Some t) plain f v = read_on t.0 f v
+
+  -- COUNT was loaded as n where the load is no event, of which so many are cells of the table; a walker has its bound
+  abbrev pub ReadsCount : Option CellId → ℕ → ℕ → View B → View B → Type 0
+  ReadsCount None cells found v w = (n : ℕ) × (found ≡ min n cells) × (w ≡ loaded_plain note.Count n v)
+  ReadsCount (Some t) cells found v w = w ≡ read_on t.0 (count_read found) v
 
   -- the seat holds t, which runs, hasn't raised OTHERS, and has its result
   pub record MayRaise (t : ℕ) (v : View B) : Type 0 where

@@ -3,8 +3,9 @@ use Rattle.std.specs.Prelude.{◌≡◌, ◌≤◌, Bool, Some}
 use Rattle.tj_body.specs.Programs.{Program}
 use Rattle.tj_body.specs.Rounds.{IsFull}
 use Rattle.tj_words.specs.declared.view.About.{About}
+use Rattle.tj_words.specs.declared.view.Noted.TheVariants as note
 use Rattle.tj_words.specs.declared.view.View.{View}
-use Rattle.tj_words.specs.SeatViews.SeatSteps.{Tells}
+use Rattle.tj_words.specs.SeatViews.SeatSteps.{IsOn, Tells}
 use Rattle.tj_words.specs.SeatViews.Views.{saw_stop}
 
 module _ {B : Type 0} (program : Bool → B → Program B) where
@@ -12,6 +13,7 @@ module _ {B : Type 0} (program : Bool → B → Program B) where
   abbrev pub NamesFull : View B → Type 0
   NamesFull v = (a : About B) → v.about ≡ Some a → IsFull (program a.strict a.root) a.cells
 
-  -- the load of STOP: it is 1 only where the meaning is full
+  -- the load of STOP, which the seat notes: it is 1 only where the meaning is full
   abbrev pub stop_load : Tells B
   stop_load st m n m' = (m'.1 ≡ m.1) × (m'.0 ≡ saw_stop n m.0) × (n ≤ 2) × (n ≡ 1 → NamesFull m.0)
+      × IsOn note.Stop st

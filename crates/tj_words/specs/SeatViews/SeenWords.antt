@@ -20,6 +20,7 @@ use Rattle.tj_words.specs.declared.offsets.Once.TheVariants as once
 use Rattle.tj_words.specs.declared.view.About.{About}
 use Rattle.tj_words.specs.declared.view.Filled.{Filled}
 use Rattle.tj_words.specs.declared.view.Found.{Found}
+use Rattle.tj_words.specs.declared.view.Noted.TheVariants as note
 use Rattle.tj_words.specs.declared.view.Rest.{Rest}
 use Rattle.tj_words.specs.declared.view.SeenWord.{SeenWord}
 use Rattle.tj_words.specs.declared.view.View.{View}
@@ -28,8 +29,8 @@ use Rattle.tj_words.specs.Words.Heads.{shut_word, head_word, head_in}
 use Rattle.tj_words.specs.LawParts.TreeWords.{IsCell, AreCells}
 use Rattle.tj_words.specs.LawParts.Telling.{tag_of, BitsSay}
 use Rattle.tj_words.specs.LawParts.Chains.{head_of}
-use Rattle.tj_words.specs.SeatViews.SeatSteps.{Tells}
-use Rattle.tj_words.specs.SeatViews.Views.{stepped_on, loaded_once, found_chain, found_shut, saw_word, saw_entry}
+use Rattle.tj_words.specs.SeatViews.SeatSteps.{IsOn, Tells}
+use Rattle.tj_words.specs.SeatViews.Views.{noted_step, loaded_once, found_chain, found_shut, saw_word, saw_entry}
 use Rattle.tj_words.specs.SeatViews.Views.{saw_bits}
 
 -- a word as it was seen
@@ -179,6 +180,7 @@ module _ {B : Type 0} where
   abbrev pub NextTold : ℕ → Head → View B → Type 0
   NextTold t h v = (r : Rest) (ts : List ℕ) → v.rest ≡ Some r → r.tasks ≡ t ∷ ts → h ≡ head_of ts
 
-  -- the load of a NEXT
+  -- the load of a NEXT, which the seat notes
   abbrev pub next_load : ℕ → ℕ → Tells B
-  next_load cells t st m n m' = (m'.1 ≡ m.1) × (m'.0 ≡ stepped_on m.0) × (n ≤ cells) × NextTold t (head_in n) m.0
+  next_load cells t st m n m' = (m'.1 ≡ m.1) × (m'.0 ≡ noted_step (note.Next t) n m.0) × (n ≤ cells)
+      × NextTold t (head_in n) m.0 × IsOn (note.Next t) st

@@ -5,9 +5,9 @@ use Rattle.std.specs.Prelude.{None}
 use Rattle.tj_body.specs.declared.point.Reference.{Reference}
 use Rattle.tj_body.specs.declared.point.Entry.{Entry}
 use Rattle.tj_words.specs.declared.offsets.Once.{Once}
-use Rattle.tj_words.specs.declared.view.RunLoad.{RunLoad}
-use Rattle.tj_words.specs.declared.view.RunWord.{RunWord}
-use Rattle.tj_words.specs.declared.view.RunWord.TheVariants as run
+use Rattle.tj_words.specs.declared.view.Note.{Note}
+use Rattle.tj_words.specs.declared.view.Noted.{Noted}
+use Rattle.tj_words.specs.declared.view.Noted.TheVariants as note
 use Rattle.tj_words.specs.declared.view.View.{View}
 use Rattle.tj_words.specs.LawParts.Lots.{least_lot}
 
@@ -16,25 +16,33 @@ module _ {B : Type 0} where
   abbrev pub stepped_on : View B → View B
   stepped_on v = record v { steps = suc v.steps }
 
-  -- the step was a load that is no event
-  abbrev pub loaded_plain : View B → View B
-  loaded_plain v = record v { steps = suc v.steps; plain_loads = suc v.plain_loads }
+  -- a step of a seat with this view, at which the word was n
+  abbrev pub note_of : Noted → ℕ → View B → Note
+  note_of step n v = record { step = step; word = n; once_loads = v.once_loads }
 
-  -- a load of LIVE or of STOP by a seat with this view
-  abbrev pub run_load : RunWord → ℕ → View B → RunLoad
-  run_load word n v = record { word = word; found = n; once_loads = v.once_loads }
+  -- it has made this step more, at which the word was n
+  abbrev pub noted_step : Noted → ℕ → View B → View B
+  noted_step step n v = record v { steps = suc v.steps; notes = note_of step n v ∷ v.notes }
+
+  -- the step was a load that is no event, and the word was n
+  abbrev pub loaded_plain : Noted → ℕ → View B → View B
+  loaded_plain step n v = record v {
+    steps = suc v.steps;
+    plain_loads = suc v.plain_loads;
+    notes = note_of step n v ∷ v.notes;
+  }
 
   -- it loaded LIVE as 0
   abbrev pub saw_rest : View B → View B
-  saw_rest v = record v { steps = suc v.steps; rested = true; run_loads = run_load run.Live 0 v ∷ v.run_loads }
+  saw_rest v = record v { steps = suc v.steps; rested = true; notes = note_of note.Live 0 v ∷ v.notes }
 
   -- it loaded LIVE as n, which isn't 0
   abbrev pub saw_live : ℕ → View B → View B
-  saw_live n v = record v { steps = suc v.steps; run_loads = run_load run.Live n v ∷ v.run_loads }
+  saw_live n v = record v { steps = suc v.steps; notes = note_of note.Live n v ∷ v.notes }
 
   -- it loaded STOP as n
   abbrev pub saw_stop : ℕ → View B → View B
-  saw_stop n v = record v { steps = suc v.steps; stop = n; run_loads = run_load run.Stop n v ∷ v.run_loads }
+  saw_stop n v = record v { steps = suc v.steps; stop = n; notes = note_of note.Stop n v ∷ v.notes }
 
   -- it found the chain of a cell
   abbrev pub found_chain : ℕ → List ℕ → View B → View B
@@ -86,8 +94,7 @@ abbrev pub longer : List Reference → List Reference → List Reference
 longer xs ys = cond (nat_lt (length xs) (length ys)) ys xs
 
 module _ {B : Type 0} where
-  -- a view is cut in two: the second seat has a lot of 4, and knows what the first one knows, but for what that one
-  -- loaded from LIVE and STOP
+  -- a view is cut in two: the second seat has a lot of 4, and knows what the first one knows, but for that one's notes
   abbrev pub left_half : View B → View B
   left_half v = record v { lot = v.lot - least_lot }
 
@@ -117,11 +124,10 @@ module _ {B : Type 0} where
     once_loads = 0;
     steps = 0;
     stop = 0;
-    run_loads = [];
+    notes = [];
   }
 
-  -- a seat takes another in, and knows what either of them knew, but for what that one loaded from LIVE and
-  -- STOP
+  -- a seat takes another in, and knows what either of them knew, but for that one's notes
   abbrev pub both : View B → View B → View B
   both v w = record v {
     lot = v.lot + w.lot;
@@ -165,7 +171,7 @@ module _ {B : Type 0} where
     once_loads = 0;
     steps = 0;
     stop = 0;
-    run_loads = [];
+    notes = [];
   }
 
   -- a seat that may be merged: it holds no task and no token, has no cell in hand, and has nothing to come

@@ -8,7 +8,7 @@ returns-clause-count g c = λ cells s t id i m m' st h p.
     loads s t id i m m' h (as_it_was m.0 m'.0 _ p.1 refl refl refl)
 
 pub returns-clause-owner : goal.returns-clause-owner
-returns-clause-owner g c = λ cells s t id i m m' st h p.
+returns-clause-owner g c = λ cells d s t id i m m' st h p.
     loads s t id i m m' h (as_it_was m.0 m'.0 _ p.1 refl refl refl)
 
 pub returns-clause-phase : goal.returns-clause-phase

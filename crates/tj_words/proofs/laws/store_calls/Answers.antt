@@ -16,7 +16,7 @@ returns-clause-live_down g c = λ s t id n m m' st h p. live_changes s t id n m 
 
 pub returns-clause-stop : goal.returns-clause-stop
 returns-clause-stop g c = λ s t id n m m' st h p. stop_changes s t id n m m' h
-    (as_it_was m.0 m'.0 _ (ap (λ (z : SeatMe _). z.0) p) refl refl refl)
+    (as_it_was m.0 m'.0 _ (ap (λ (z : SeatMe _). z.0) p.0) refl refl refl)
 
 pub returns-clause-push : goal.returns-clause-push
 returns-clause-push g c = λ program cells d s t id n m m' st h p. head_changes d s t id n m m' h

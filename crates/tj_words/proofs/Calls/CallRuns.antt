@@ -1,0 +1,548 @@
+-- Each call of a seat is one event of the core or none, by what it asks and what it tells; so are a split and a merge
+-- of idle seats. So what the calls show from a new table on is a legal run.
+use Rattle.std.proofs.Common.{◌≡◌, ◌≢◌, ℕ, suc, ◌-◌, ◌<◌, ◌≤◌, min, Bool, true, false, nat_lt, List, [], ◌∷◌}
+use Rattle.std.proofs.Common.{◌++◌, Option, Some, None, refl, sym, ap, ◌∙◌, subst, inl, inr, ⊎_elim, set, arith}
+use Rattle.std.proofs.Common.{ltb-true, ltb-false}
+use mathlib.Core.Logic.{dite}
+use native.Mathlib.Decide.{ℕ_discrete}
+use Rattle.atomic_table.specs.Table.{State, Step, Act, keeps, takes, gives}
+use Rattle.atomic_table.proofs.Lists.{set_else}
+use Rattle.tj_base.specs.declared.cell.Sort.{Sort}
+use Rattle.tj_body.specs.Programs.{Program}
+use Rattle.tj_core.specs.Events.{MayReadAgain, MayReadOwner, is_owner, owner_found, owner_read}
+use Rattle.tj_core.specs.declared.event.Event.{Event}
+use Rattle.tj_core.specs.declared.event.Event.TheVariants as event
+use Rattle.tj_words.specs.declared.offsets.Once.{Once}
+use Rattle.tj_words.specs.declared.offsets.Once.TheVariants as once
+use Rattle.tj_words.specs.declared.phase.Phase.{Phase}
+use Rattle.tj_words.specs.declared.phase.Phase.TheVariants as phase
+use Rattle.tj_words.specs.declared.phase.Walk.TheVariants as walk
+use Rattle.tj_words.specs.declared.record.Rec.{Rec}
+use Rattle.tj_words.specs.declared.table.Key.{Key}
+use Rattle.tj_words.specs.declared.view.Does.TheVariants as does
+use Rattle.tj_words.specs.declared.view.View.{View}
+use Rattle.tj_words.specs.CallLaws.CallRuns.{AreAskedMoments, CallRunsAreLegal, CallsAreSteps, IsAskedCall, IsAskedStep}
+use Rattle.tj_words.specs.CallLaws.CallRuns.{IsIdleMerge, OwnerEvents, OwnerReads, SeatsAreQuiet, acts_by, asked_by}
+use Rattle.tj_words.specs.CallLaws.CallRuns.{events_by}
+use Rattle.tj_words.specs.CallLaws.CallRuns.{live_act, phase_act, phase_events, swap_events, under}
+use Rattle.tj_words.specs.CallLaws.CallSteps.{Makes, MakesWith, WritesOnce}
+use Rattle.tj_words.specs.LawParts.Contents.{Contents, WordsSay, contents_of, drawn_in}
+use Rattle.tj_words.specs.Calls.DrawViews.{new_hand}
+use Rattle.tj_words.specs.Calls.EntryViews.{MayPutOnce, PutsOnce}
+use Rattle.tj_words.specs.Calls.ExchangeViews.{KnowsTable, MayClearFrom, MayGoBack, MayWake}
+use Rattle.tj_words.specs.Law.{Rule}
+use Rattle.tj_words.specs.Words.Lists.{cell}
+use Rattle.tj_words.specs.Calls.LiveViews.{IfRecord, LaysChild, Shelves, SlotsOf, raised_with, lowered_with}
+use Rattle.tj_words.specs.Words.Offsets.{word, count_at, live_at, others_at, stop_at, own_at, phase_at, once_at}
+use Rattle.tj_words.specs.Words.Offsets.{head_at}
+use Rattle.tj_words.specs.Words.Offsets.{next_at}
+use Rattle.tj_words.specs.Steps.OneStates.{KeepsCells}
+use Rattle.tj_words.specs.CallLaws.OwnerCalls.{takes_new}
+use Rattle.tj_words.specs.Steps.OwnerSteps.{draw_event}
+use Rattle.tj_words.specs.Words.Owners.{owner_in}
+use Rattle.tj_words.specs.Calls.OwnerViews.{MayPutOwner, PutsOwner}
+use Rattle.tj_words.specs.Words.Phases.{phase_in}
+use Rattle.tj_words.specs.Calls.PhaseViews.{MayPutPhase, PutsPhase}
+use Rattle.tj_words.specs.Steps.QuietSteps.{ChangesHead, ChangesLive, ChangesNext, ChangesStop, DrawIsRefused}
+use Rattle.tj_words.specs.Steps.QuietSteps.{KeepsHoldings}
+use Rattle.tj_words.specs.Steps.QuietSteps.{LoadsOnly}
+use Rattle.tj_words.specs.CallLaws.RestedRuns.{IsSplit, Ruled, last_moment}
+use Rattle.tj_words.specs.SeatViews.SeatSteps.{SeatMe}
+use Rattle.tj_words.specs.CallLaws.StepCalls.{StepCall, place_of, told_by}
+use Rattle.tj_words.specs.CallLaws.StepCalls as call
+use Rattle.tj_words.specs.Steps.StepEvents.{ShowsEvent, ShowsNothing}
+use Rattle.tj_words.specs.Steps.TableRuns.{AreSteps, IsStep, Under, last_of, state_of}
+use Rattle.tj_words.specs.SeatViews.Views.{both, left_half, right_half}
+use Rattle.tj_words.specs.Steps.WalkSteps.{ReadsOn}
+use Rattle.tj_words.specs.Calls.WalkViews.{owner_seen}
+use Rattle.tj_words.proofs.Calls.CallChanges.{ShowsSame, as_it_was, head_changes, head_same, is_same, keeps_cells}
+use Rattle.tj_words.proofs.Calls.CallChanges.{live_changes, live_same, loads, lower_same, merge_merges, next_changes}
+use Rattle.tj_words.proofs.Calls.CallChanges.{once_same, push_same, raise_same, refused_counts, shut_same, split_splits}
+use Rattle.tj_words.proofs.Calls.CallChanges.{stop_changes, writes_hand, writes_value}
+use Rattle.tj_words.proofs.Calls.DrawCalls.{call_draws}
+use Rattle.tj_words.proofs.Events.DrawEvents.{give_shown}
+use Rattle.tj_words.proofs.Calls.EventCalls.{call_alarms, call_lowers, call_publishes, call_raises, call_reads}
+use Rattle.tj_words.proofs.Calls.EventCalls.{first_seen}
+use Rattle.tj_words.proofs.Calls.HandCalls.{call_gives, call_marks}
+use Rattle.tj_words.proofs.Calls.OwnerCalls.{call_closes, call_closes_own, call_hands}
+use Rattle.tj_words.proofs.Events.OwnerEvents.{close_shown, hand_shown}
+use Rattle.tj_words.proofs.Events.OwnerEvents as owners
+use Rattle.tj_words.proofs.Events.QuietMoves.{claim_shown, end_shown, head_shown, live_shown, load_shown, mark_shown}
+use Rattle.tj_words.proofs.Events.QuietMoves.{next_shown, once_shown, record_shown, refused_shown, release_shown}
+use Rattle.tj_words.proofs.Events.QuietMoves.{shelve_shown, split_shown, stop_shown}
+use Rattle.tj_words.proofs.Stores.SeatLists.{word_else, words_same}
+use Rattle.tj_words.proofs.Calls.TableRuns.{runs_are_legal}
+use Rattle.tj_words.proofs.Calls.TakenTasks.{call_claims, call_goes_back, call_wakes}
+use Rattle.tj_words.proofs.Calls.TaskCalls.{call_ends, call_moves, call_releases, call_settles, call_shelves}
+use Rattle.tj_words.proofs.Events.WaitClears.{clear_shown, lower_shown}
+use Rattle.tj_words.proofs.Events.WalkEvents.{again_shown_read, alarm_shown, count_shown, others_shown}
+use Rattle.tj_words.proofs.Events.WalkEvents.{owner_shown_read}
+use Rattle.tj_words.proofs.Events.WalkEvents.{publish_shown, raise_shown, settle_shown, wait_shown_read}
+
+module _ {B : Type 0} (program : Bool → B → Program B) (key : Key B) (u w : Ruled program key) where
+  abbrev s : State (Option (Rec B)) (View B)
+  s = u.now
+
+  abbrev t : State (Option (Rec B)) (View B)
+  t = w.now
+
+  abbrev r : Rule program key s
+  r = u.rule
+
+  abbrev x : Contents B
+  x = contents_of s
+
+  abbrev y : Contents B
+  y = contents_of t
+
+  -- the step is these events, one at most
+  abbrev Goes : List Event → Type 0
+  Goes es = IsStep (program key.strict key.root.value) key.cells (under program key u) es (under program key w)
+
+  abbrev Quiet : Type 0
+  Quiet = Goes []
+
+  -- it is events of which this is so
+  abbrev Shows : (List Event → Type 0) → Type 0
+  Shows F = (es : List Event) × F es × Goes es
+
+  abbrev SameCells : Type 0
+  SameCells = drawn_in key.cells y ≡ drawn_in key.cells x
+
+  quiet : KeepsCells key.cells x y → SameCells → ShowsNothing key.cells r.law.born r.law.maker x y → Quiet
+  quiet k d n = record { keeps = k; shows = inl (d, inl (refl, n)) }
+
+  shows : (e : Event) → KeepsCells key.cells x y → SameCells
+      → ShowsEvent key.cells r.law.born r.law.maker x y e r.law.born r.law.maker
+      → Goes (e ∷ [])
+  shows e k d v = record { keeps = k; shows = inl (d, inr (e, refl, v)) }
+
+  held : KeepsHoldings x y → y.words.once ≡ x.words.once → KeepsCells key.cells x y
+  held k e = keeps_cells key.cells x y k (λ d i. (ap (λ z. z d once.Parent) e, ap (λ z. z d once.Kid) e))
+
+  -- a step that leaves what seats hold, and of the words COUNT and those that are written once
+  still : (words : WordsSay) → y.words ≡ words → words.once ≡ x.words.once → words.count ≡ x.words.count
+      → KeepsHoldings x y → ShowsNothing key.cells r.law.born r.law.maker x y → Quiet
+  still words e same count k n = quiet (held k (ap (λ (z : WordsSay). z.once) e ∙ same))
+      (ap (λ (z : WordsSay). min z.count key.cells) e ∙ ap (λ c. min c key.cells) count) n
+
+  looks : LoadsOnly x y → Quiet
+  looks l = still x.words l.words refl refl l.keeps (load_shown r.law y l)
+
+  lives : ChangesLive x y → Quiet
+  lives l = still (record x.words { live = l.live }) l.words refl refl l.keeps (live_shown r.law y l)
+
+  stops : ChangesStop x y → Quiet
+  stops l = still (record x.words { stop = l.stop }) l.words refl refl l.keeps (stop_shown r.law y l)
+
+  heads : ChangesHead x y → Quiet
+  heads l = still (record x.words { head = l.head }) l.words refl refl l.keeps (head_shown r.law y l)
+
+  nexts : ChangesNext x y → Quiet
+  nexts l = still (record x.words { next = l.next }) l.words refl refl l.keeps (next_shown r.law y l)
+
+  writes : WritesOnce B x y → Quiet
+  writes q = quiet (q.1 key.cells) (ap (λ (z : WordsSay). min z.count key.cells) q.0.words) (once_shown r.law y q.0)
+
+  refuses : DrawIsRefused x y key.cells → Quiet
+  refuses q = quiet (held q.keeps (ap (λ (z : WordsSay). z.once) q.words))
+      (ap (λ (z : WordsSay). min z.count key.cells) q.words ∙ (let l = q.full in omega arith))
+      (refused_shown r.law y q)
+
+  module _ (act : Act (Option (Rec B))) (id n : ℕ) (m m' : SeatMe B) (st : Step (Option (Rec B))) where
+    abbrev Made : ℕ → Type 0
+    Made i = MakesWith act id i n m m' s t
+
+    with_act : (a : Act (Option (Rec B))) (i : ℕ) → Made i → act ≡ a → MakesWith a id i n m m' s t
+    with_act a i h e = subst (λ z. MakesWith z id i n m m' s t) e h
+
+    plain : (i : ℕ) → Made i → act ≡ keeps → Makes id i n m m' s t
+    plain i h e = let g = with_act keeps i h e in record { at = g.at; inside = g.inside; after = g.after }
+
+    found : (k i : ℕ) → Made i → act ≡ keeps → n ≡ k → Makes id i k m m' s t
+    found k i h e q = subst (λ z. Makes id i z m m' s t) q (plain i h e)
+
+    look : (i : ℕ) → Made i → act ≡ keeps → n ≡ word s.words i → ShowsSame m.0 m'.0 → Quiet
+    look i h e q same = looks (loads s t id i m m' (found (word s.words i) i h e q) same)
+
+    -- a step on another word than COUNT leaves the cells that there are
+    else_cells : (i : ℕ) → Made i → count_at ≢ i → SameCells
+    else_cells i h e = ap (λ (z : State (Option (Rec B)) (View B)). min (word z.words count_at) key.cells) h.after
+        ∙ ap (λ k. min k key.cells) (word_else s.words i count_at n e)
+
+    same_cells : Made count_at → n ≡ word s.words count_at → SameCells
+    same_cells h e = ap (λ (z : State (Option (Rec B)) (View B)). min (word z.words count_at) key.cells) h.after
+        ∙ (ap (λ k. min (word (set s.words count_at k) count_at) key.cells) e
+        ∙ ap (λ ws. min (word ws count_at) key.cells) (words_same s.words count_at))
+
+    -- COUNT, as a draw finds it
+    abbrev drawn_now : ℕ
+    drawn_now = word s.words count_at
+
+    draws : (d : ℕ) (o : Sort) → Made count_at
+        → told_by program key.cells (call.draws d o) n st m (word s.words count_at) m'
+        → asked_by program key (call.draws d o) st m
+        → acts_by program key (call.draws d o) st (word s.words count_at) m act
+        → Shows (events_by key.cells (call.draws d o) st (word s.words count_at) m.0)
+    draws d o h p ask a = by (nat_lt drawn_now key.cells) refl
+      where
+        by : (b : Bool) → nat_lt drawn_now key.cells ≡ b
+            → Shows (events_by key.cells (call.draws d o) st (word s.words count_at) m.0)
+        by true e = let l : drawn_now < key.cells = ltb-true drawn_now key.cells e in
+            let q = call_draws program key s t r id n d drawn_now o m m'
+            (with_act (takes_new B drawn_now o) count_at h (a.0 l)) refl p.0 l (p.1.0 l).0 ask in (
+              draw_event o d ∷ [],
+              ((λ z. refl), (λ z. absurd (omega (arith, l, z)))),
+              record { keeps = q.1; shows = inr (id, d, new_hand drawn_now d o, refl, q.0) },
+            )
+        by false e = let l : key.cells ≤ drawn_now = ltb-false drawn_now key.cells e in (
+          [],
+          ((λ z. absurd (omega (arith, l, z))), (λ z. refl)),
+          refuses (refused_counts program key.cells d o s t id m m' st
+              (found (suc drawn_now) count_at h (a.1 l) p.0) l p.1),
+        )
+
+    puts_once : (f : Once) (c : ℕ) → Made (once_at c f) → act ≡ keeps → MayPutOnce program f c st.first m.0
+        → PutsOnce program f c st.first m.0 m'.0 → Quiet
+    puts_once once.Tag c h a may p = writes (writes_value c once.Tag s t id n m m' (plain (once_at c once.Tag) h a)
+        (as_it_was m.0 m'.0 _ (p may) refl refl refl) (λ e. absurd (cc)) (λ e. absurd (cc)))
+    puts_once once.Bits c h a may p = writes (writes_value c once.Bits s t id n m m' (plain (once_at c once.Bits) h a)
+        (as_it_was m.0 m'.0 _ (p may) refl refl refl) (λ e. absurd (cc)) (λ e. absurd (cc)))
+    puts_once once.Parent c h a may p = writes (writes_hand c once.Parent s t id n m m'
+        (plain (once_at c once.Parent) h a) (as_it_was m.0 m'.0 _ p refl refl refl) may.hand may.has may.its_cell)
+    puts_once once.Kid c h a may p = writes (writes_hand c once.Kid s t id n m m'
+        (plain (once_at c once.Kid) h a) (as_it_was m.0 m'.0 _ p refl refl refl) may.hand may.has may.its_cell)
+    puts_once once.Depth c h a may p = writes (writes_hand c once.Depth s t id n m m'
+        (plain (once_at c once.Depth) h a) (as_it_was m.0 m'.0 _ p refl refl refl) may.hand may.has may.its_cell)
+    puts_once once.Jump c h a may p = writes (writes_hand c once.Jump s t id n m m'
+        (plain (once_at c once.Jump) h a) (as_it_was m.0 m'.0 _ p refl refl refl) may.hand may.has may.its_cell)
+
+    puts_owner : (o : Option ℕ) (c : ℕ) → Made (own_at c) → act ≡ keeps → owner_in n ≡ o → MayPutOwner c o m.0
+        → PutsOwner c o m.0 m'.0 → Shows (OwnerEvents c o m.0)
+    puts_owner None c h a is may p = let g = with_act keeps (own_at c) h a in
+        let d = else_cells (own_at c) h (λ z. omega arith) in dite (ℕ_discrete c may.task)
+        (λ e. let q = call_closes_own program key s t r id c n m m' g is may (p may) e in (
+          event.Close (cell c) (cell c) ∷ [],
+          (may, ap (λ z. event.Close (cell z) (cell c) ∷ []) e),
+          shows (event.Close (cell c) (cell c)) q.1 d (owners.end_shown r.law y id c q.0),
+        ))
+        (λ e. let q = call_closes program key s t r id c n m m' g is may (p may) e in (
+          event.Close (cell may.task) (cell c) ∷ [],
+          (may, refl),
+          shows (event.Close (cell may.task) (cell c)) q.1 d (close_shown r.law y id may.task c q.0),
+        ))
+    puts_owner (Some v) c h a is (inl may) p =
+        let q = call_gives program key s t r id c n m m' (with_act keeps (own_at c) h a) v is may (p.0 may) in (
+          [],
+          inl (may, refl),
+          quiet q.1 (else_cells (own_at c) h (λ z. omega arith)) (give_shown r.law y id may.hand.maker c may.hand q.0),
+        )
+    puts_owner (Some v) c h a is (inr may) p =
+        let q = call_hands program key s t r id c n m m' (with_act keeps (own_at c) h a) v is may (p.1 may) in (
+          event.Hand (cell may.task) (cell c) (cell v) ∷ [],
+          inr (may, refl),
+          shows (event.Hand (cell may.task) (cell c) (cell v)) q.1 (else_cells (own_at c) h (λ z. omega arith))
+              (hand_shown r.law y id may.task c v q.0),
+        )
+
+    puts_phase : (q : Phase) (c : ℕ) → Made (phase_at c) → c < key.cells → phase_in n ≡ q → PutsPhase c q m m'
+        → MayPutPhase program c q m → act ≡ phase_act q → Goes (phase_events c q)
+    puts_phase phase.Unborn c h l is p may a = absurd p
+    puts_phase phase.Ready c h l is p may a =
+        let q = call_releases program key s t r id m m' c n (with_act keeps (phase_at c) h a) is
+        (ap (λ (z : SeatMe B). z.0) p) may in
+        quiet q.1 (else_cells (phase_at c) h (λ z. omega arith)) (release_shown r.law y id c q.0)
+    puts_phase phase.Running c h l is p may a = absurd p
+    puts_phase phase.Ended c h l is p may a =
+        let q = call_ends program key s t r id m m' c n (with_act gives (phase_at c) h a) is
+        (ap (λ (z : SeatMe B). z.0) p) may in
+        quiet q.1 (else_cells (phase_at c) h (λ z. omega arith)) (end_shown r.law y id c q.0)
+    puts_phase phase.Promise c h l is p may a =
+        let q = call_marks program key s t r id c n m m' (with_act keeps (phase_at c) h a) is
+        (ap (λ (z : SeatMe B). z.0) p) may in
+        quiet q.1 (else_cells (phase_at c) h (λ z. omega arith))
+        (mark_shown r.law y c may.hand (record may.hand { marked = true }) q.0)
+    puts_phase (phase.Waiting d way walk.Walking) c h l is p may a =
+        let q = call_publishes program key s t r id c d.0 n way l m m' (plain (phase_at c) h a) is may p in
+        shows (event.Publish (cell c) (cell d.0)) q.1 (else_cells (phase_at c) h (λ z. omega arith))
+        (publish_shown r.law y id c may.custody.does d.0 way q.0)
+    puts_phase (phase.Waiting d way walk.Parked) c h l is p may a =
+        let q = call_settles program key s t r id m m' c d.0 way n (with_act gives (phase_at c) h a) is
+        (ap (λ (z : SeatMe B). z.0) p) may in
+        shows (event.Settle (cell c)) q.1 (else_cells (phase_at c) h (λ z. omega arith))
+        (settle_shown r.law y id c d.0 way may.walks.walker q.0)
+    puts_phase (phase.Waiting d way walk.Alarmed) c h l is p may a =
+        let q = call_alarms program key s t r id c d.0 n way l m m' (plain (phase_at c) h a) is may p in
+        shows (event.Alarm (cell c)) q.1 (else_cells (phase_at c) h (λ z. omega arith))
+        (alarm_shown r.law y id c d.0 way may.walks.walker q.0)
+
+    swaps : (c : ℕ) → Made (phase_at c)
+        → told_by program key.cells (call.swaps_phase c) n st m (word s.words (phase_at c)) m'
+        → acts_by program key (call.swaps_phase c) st (word s.words (phase_at c)) m act
+        → Shows (events_by key.cells (call.swaps_phase c) st (word s.words (phase_at c)) m.0)
+    swaps c h p a = dite (ℕ_discrete (word s.words (phase_at c)) st.first)
+        (λ e. let went = p.2.1.0 e in let acts = a.0 e in
+        let was : phase_in (word s.words (phase_at c)) ≡ phase_in st.first = ap phase_in e in
+        let to : phase_in n ≡ phase_in st.second = ap phase_in (p.0 e) in ⊎_elim
+        (λ (q : (phase_in st.first ≡ phase.Ready) × (phase_in st.second ≡ phase.Running) × KnowsTable m.0).
+        let f = acts.0 q.1 in
+        let g = call_claims program key s t r id m m' c n f.0 (with_act (takes c (Some f.0)) (phase_at c) h f.1)
+        (to ∙ q.1) (was ∙ q.0) (went.claims q.0) in (
+          [],
+          ((λ z. sym (ap (swap_events c) q.0)), (λ z. refl)),
+          quiet g.1 cells (claim_shown r.law y c f.0 g.0),
+        ))
+        (λ (q : MayClearFrom c (phase_in st.first) (phase_in st.second) m.0). ⊎_elim
+        (λ (z : (phase_in st.second ≡ phase.Ready) × MayWake c q.0 q.1 m.0).
+        let g = call_wakes program key s t r id m m' c q.0 q.1 n (with_act keeps (phase_at c) h (acts.1 z.0))
+        (to ∙ z.0) (was ∙ q.2) (went.wakes q.0 q.1 q.2 z.0) z.1 in (
+          event.Unwait (cell c) ∷ [],
+          ((λ j. sym (ap (swap_events c) q.2)), (λ j. absurd (j e))),
+          shows (event.Unwait (cell c)) g.1 cells (clear_shown r.law y c q.0 q.1 phase.Ready None g.0),
+        ))
+        (λ (z : (phase_in st.second ≡ phase.Running) × MayGoBack c q.0 q.1 m.0).
+        let f = acts.0 z.0 in
+        let g = call_goes_back program key s t r id m m' c q.0 q.1 n f.0
+        (with_act (takes c (Some f.0)) (phase_at c) h f.1) (to ∙ z.0) (was ∙ q.2)
+        (went.goes_back q.0 q.1 q.2 z.0) z.1 in (
+          event.Unwait (cell c) ∷ [],
+          ((λ j. sym (ap (swap_events c) q.2)), (λ j. absurd (j e))),
+          shows (event.Unwait (cell c)) g.1 cells (clear_shown r.law y c q.0 q.1 phase.Running _ g.0),
+        )) q.3) p.2.0)
+        (λ e. (
+          [],
+          ((λ z. absurd (e z)), (λ z. refl)),
+          look (phase_at c) h (a.1 e) (p.1 e)
+              (as_it_was m.0 m'.0 _ (ap (λ (z : SeatMe B). z.0) (p.2.1.1 e).1) refl refl refl),
+        ))
+      where
+        cells : SameCells
+        cells = else_cells (phase_at c) h (λ z. omega arith)
+
+    raises : (slots : SlotsOf B) → m.1 ≡ slots → Made live_at → act ≡ live_act slots → m' ≡ raised_with m.0 m.1
+        → IfRecord (λ c a. LaysChild program c a m) slots → Quiet
+    raises [] e h a p may = lives (live_changes s t id n m m' (plain live_at h a) (is_same m.0 m'.0 _
+        (ap (λ (z : SeatMe B). z.0) p) (raise_same m.0 m.1 (subst (IfRecord (λ c a. ⊥)) (sym e) tt))))
+    raises ((c, None) ∷ slots) e h a p may = lives (live_changes s t id n m m' (plain live_at h a) (is_same m.0 m'.0 _
+        (ap (λ (z : SeatMe B). z.0) p) (raise_same m.0 m.1 (subst (IfRecord (λ c a. ⊥)) (sym e) tt))))
+    raises ((c, Some f) ∷ slots) e h a p may =
+        let q = call_moves program key s t r id m m' c n f (with_act gives live_at h a) p may in
+        quiet q.1 (else_cells live_at h (λ z. omega arith)) (record_shown r.law y id c does.Unborn q.0)
+
+    lowers : (slots : SlotsOf B) → m.1 ≡ slots → Made live_at → act ≡ live_act slots → m' ≡ lowered_with m.0 m.1
+        → IfRecord (λ c a. Shelves program c a m) slots → Quiet
+    lowers [] e h a p may = lives (live_changes s t id n m m' (plain live_at h a) (is_same m.0 m'.0 _
+        (ap (λ (z : SeatMe B). z.0) p) (lower_same m.0 m.1 (subst (IfRecord (λ c a. ⊥)) (sym e) tt))))
+    lowers ((c, None) ∷ slots) e h a p may = lives (live_changes s t id n m m' (plain live_at h a) (is_same m.0 m'.0 _
+        (ap (λ (z : SeatMe B). z.0) p) (lower_same m.0 m.1 (subst (IfRecord (λ c a. ⊥)) (sym e) tt))))
+    lowers ((c, Some f) ∷ slots) e h a p may =
+        let q = call_shelves program key s t r id m m' c n f (with_act gives live_at h a) p may in
+        quiet q.1 (else_cells live_at h (λ z. omega arith))
+        (shelve_shown r.law y id c may.cell may.way may.walker q.0)
+
+    -- a load of OWN by a walker, for the first time or for the second
+    reads_owner : (d c : ℕ) → Made (own_at c)
+        → told_by program key.cells (call.sees_owner_by d c) n st m (word s.words (own_at c)) m'
+        → asked_by program key (call.sees_owner_by d c) st m → act ≡ keeps → Shows (OwnerReads d m.0)
+    reads_owner d c h p ask a = let q = call_reads program key s t r id m m' (own_at c) d _ _
+        (found (word s.words (own_at c)) (own_at c) h a p.0) p.1.1 ask in ⊎_elim
+        (λ (f : MayReadOwner ask.walker). (
+          event.ReadOwner (cell d) ∷ [],
+          inl (
+            record {
+              task = ask.task;
+              wait = ask.wait;
+              way = ask.way;
+              walker = ask.walker;
+              held = ask.held;
+              does = ask.does;
+              may = f;
+            },
+            refl,
+          ),
+          shows (event.ReadOwner (cell d)) q.1 cells
+              (owner_shown_read r.law y id d ask.wait ask.way ask.walker (record {
+                reads = subst (λ z. ReadsOn key.cells x y id d ask.wait ask.way ask.walker z)
+                    (first_seen (owner_in (word s.words (own_at c))) ask.walker f
+                    ∙ ap (λ z. owner_read (owner_in (word s.words (own_at z))) ask.walker) ask.may.0) q.0;
+                may = f;
+              })),
+        ))
+        (λ (f : MayReadAgain ask.walker). (
+          event.ReadOwnerAgain (cell d) ∷ [],
+          inr (
+            record {
+              task = ask.task;
+              wait = ask.wait;
+              way = ask.way;
+              walker = ask.walker;
+              held = ask.held;
+              does = ask.does;
+              may = f;
+            },
+            refl,
+          ),
+          shows (event.ReadOwnerAgain (cell d)) q.1 cells
+              (again_shown_read r.law y id d ask.wait ask.way ask.walker f.0 f.1 (record {
+                reads = subst (λ z. ReadsOn key.cells x y id d ask.wait ask.way ask.walker z)
+                    (ap (owner_seen (owner_in (word s.words (own_at c))) ask.walker) f.2
+                    ∙ ap (λ z. owner_found (is_owner (owner_in (word s.words (own_at z))) f.0) f.0 f.1 ask.walker)
+                    ask.may.0)
+                    q.0;
+                last = f.2;
+              })),
+        )) ask.may.1
+      where
+        cells : SameCells
+        cells = else_cells (own_at c) h (λ z. omega arith)
+
+    goes : (a : StepCall) → Made (place_of a) → told_by program key.cells a n st m (word s.words (place_of a)) m'
+        → asked_by program key a st m → acts_by program key a st (word s.words (place_of a)) m act
+        → Shows (events_by key.cells a st (word s.words (place_of a)) m.0)
+    goes (call.draws d o) h p ask a = draws d o h p ask a
+    goes call.counts h p ask a = ([], refl, look count_at h a p.0 (as_it_was m.0 m'.0 _ p.1.1 refl refl refl))
+    goes (call.counts_by d) h p ask a = (
+      event.LoadCount (cell d) ∷ [],
+      refl,
+      let q = call_reads program key s t r id m m' count_at d _ _ (found (word s.words count_at) count_at h a p.0)
+          p.1.1 ask in
+          shows (event.LoadCount (cell d)) q.1 (same_cells h p.0)
+          (count_shown r.law y id d ask.wait ask.way ask.walker (record { reads = q.0; may = ask.may })),
+    )
+    goes (call.puts_once c f) h p ask a = ([], refl, puts_once f c h a p.1.0 p.1.2)
+    goes (call.sees_once c f) h p ask a = (
+      [],
+      refl,
+      look (once_at c f) h a p.0
+          (once_same program key.cells c (word s.words (once_at c f)) f m.0 m'.0 p.1.1),
+    )
+    goes (call.puts_owner c) h p ask a = puts_owner (owner_in st.first) c h a (ap owner_in p.0) p.1.0 p.1.1.1
+    goes (call.sees_owner c) h p ask a = ([], refl, look (own_at c) h a p.0 (as_it_was m.0 m'.0 _ p.1.1 refl refl refl))
+    goes (call.sees_owner_by d c) h p ask a = reads_owner d c h p ask a
+    goes (call.puts_phase c) h p ask a = (
+      phase_events c (phase_in st.first),
+      refl,
+      puts_phase (phase_in st.first) c h ask.0 (ap phase_in p.0) p.1 ask.1 a,
+    )
+    goes (call.sees_phase c) h p ask a =
+        ([], refl, look (phase_at c) h a p.0 (as_it_was m.0 m'.0 _ p.1.1 refl refl refl))
+    goes (call.sees_phase_by d c) h p ask a = (
+      event.ReadWait (cell d) ∷ [],
+      refl,
+      let q = call_reads program key s t r id m m' (phase_at c) d _ _
+          (found (word s.words (phase_at c)) (phase_at c) h a p.0) p.1.1 ask in
+          shows (event.ReadWait (cell d)) q.1 (else_cells (phase_at c) h (λ z. omega arith))
+          (wait_shown_read r.law y id d ask.wait ask.way ask.walker c
+          (record { reads = q.0; last = ask.may.0; other = ask.may.1 })),
+    )
+    goes (call.swaps_phase c) h p ask a = swaps c h p a
+    goes (call.raises_others d) h p ask a = (
+      event.Raise (cell d) ∷ [],
+      refl,
+      let q = call_raises program key s t r id m m' d (found (suc (word s.words others_at)) others_at h a p.0) p.1.1
+          ask in shows (event.Raise (cell d)) q.1 (else_cells others_at h (λ z. omega arith))
+          (raise_shown r.law y id d ask.task.does q.0),
+    )
+    goes call.lowers_others h p ask a = (
+      event.Lower ∷ [],
+      refl,
+      let q = call_lowers program key s t r id m m' (found (word s.words others_at - 1) others_at h a p.0) p.1.1 ask
+          in shows event.Lower q.1 (else_cells others_at h (λ z. omega arith)) (lower_shown r.law y q.0),
+    )
+    goes (call.sees_others_by d) h p ask a = (
+      event.LoadOthers (cell d) ∷ [],
+      refl,
+      let q = call_reads program key s t r id m m' others_at d _ _ (found (word s.words others_at) others_at h a p.0)
+          p.1.1 ask in
+          shows (event.LoadOthers (cell d)) q.1 (else_cells others_at h (λ z. omega arith))
+          (others_shown r.law y id d ask.wait ask.way ask.walker (record { reads = q.0; may = ask.may })),
+    )
+    goes call.raises_live h p ask a = ([], refl, raises m.1 refl h a p.1 ask.lays)
+    goes call.lowers_live h p ask a = ([], refl, lowers m.1 refl h a p.1 ask.shelves)
+    goes call.sees_live h p ask a = ([], refl, look live_at h a p.0 (live_same (word s.words live_at) st m m' p.1))
+    goes call.stops h p ask a = (
+      [],
+      refl,
+      stops (stop_changes s t id n m m' (plain stop_at h a)
+          (as_it_was m.0 m'.0 _ (ap (λ (z : SeatMe B). z.0) p.1.0) refl refl refl)),
+    )
+    goes call.sees_stop h p ask a = ([], refl, look stop_at h a p.0 (as_it_was m.0 m'.0 _ p.1.1 refl refl refl))
+    goes (call.sees_head c) h p ask a = (
+      [],
+      refl,
+      look (head_at c) h a p.0
+          (head_same program key.cells c (word s.words (head_at c)) st m m' p.1),
+    )
+    goes (call.pushes c) h p ask a = (
+      [],
+      refl,
+      dite (ℕ_discrete (word s.words (head_at c)) st.first)
+          (λ e. heads (head_changes c s t id n m m' (plain (head_at c) h a)
+          (as_it_was m.0 m'.0 _ (p.2.2 e) refl refl refl)))
+          (λ e. look (head_at c) h a (p.1 e) (push_same program key.cells c (word s.words (head_at c)) st m m' e p.2)),
+    )
+    goes (call.shuts c) h p ask a = (
+      [],
+      refl,
+      heads (head_changes c s t id n m m' (plain (head_at c) h a)
+          (shut_same key.cells c (word s.words (head_at c)) st m m' p.1)),
+    )
+    goes (call.puts_next c) h p ask a = (
+      [],
+      refl,
+      nexts (next_changes c s t id n m m' (plain (next_at c) h a)
+          (as_it_was m.0 m'.0 _ p.1.1 refl refl refl)),
+    )
+    goes (call.sees_next c) h p ask a = ([], refl, look (next_at c) h a p.0 (as_it_was m.0 m'.0 _ p.1.1 refl refl refl))
+
+  call_goes : (c : IsAskedCall program key s t)
+      → Shows (events_by key.cells c.made.call c.made.operands (word s.words (place_of c.made.call)) c.made.seat.0)
+  call_goes c = goes c.made.act c.made.id c.made.number c.made.seat c.made.seat_after c.made.operands c.made.call
+      c.made.makes c.made.told c.asks c.acts
+
+  split_goes : IsSplit s t → Quiet
+  split_goes p = let now : State (Option (Rec B)) (View B) = record {
+    words = s.words;
+    homes = s.homes;
+    views = set s.views p.id (left_half p.view) ++ right_half p.view ∷ [];
+  } in let q = split_splits s p.id p.view p.at in
+      quiet (subst (λ z. KeepsCells key.cells x (contents_of z)) (sym p.after) (q.1 key.cells))
+      (ap (λ z. drawn_in key.cells (contents_of z)) p.after)
+      (subst (λ z. ShowsNothing key.cells r.law.born r.law.maker x (contents_of z)) (sym p.after)
+      (split_shown r.law (contents_of now) q.0))
+
+  merge_goes : IsIdleMerge s t → Quiet
+  merge_goes p = let g = p.merge in looks (subst (λ z. LoadsOnly x (contents_of z)) (sym g.after)
+      (merge_merges s g.id g.other g.view g.taken g.at
+      (set_else s.views g.id g.other (both g.view g.taken) g.apart ∙ g.other_at) p.idle))
+
+  step_goes : IsAskedStep program key s t → (es : List Event) × Goes es
+  step_goes a = ⊎_elim (λ c. let g = call_goes c in (g.0, g.2)) (λ b. ([], ⊎_elim split_goes merge_goes b)) a
+
+pub calls_are_steps : (B : Type 0) → CallsAreSteps B
+calls_are_steps B program key u w c = call_goes program key u w c
+
+pub seats_are_quiet : (B : Type 0) → SeatsAreQuiet B
+seats_are_quiet B program key u w a = ⊎_elim (split_goes program key u w) (merge_goes program key u w) a
+
+module _ {B : Type 0} (program : Bool → B → Program B) (key : Key B) where
+  abbrev P : Program B
+  P = program key.strict key.root.value
+
+  -- the steps of moments one after the other
+  all_go : (u : Ruled program key) (later : List (Ruled program key)) → AreAskedMoments program key u later
+      → (steps : List (List Event × Under P key.cells)) × AreSteps P key.cells (under program key u) steps
+      × (last_of P key.cells (under program key u) steps ≡ under program key (last_moment program key u later))
+  all_go u [] a = ([], tt, refl)
+  all_go u (w ∷ ws) a = let g = step_goes program key u w a.0 in let o = all_go w ws a.1 in
+      ((g.0, under program key w) ∷ o.0, (g.1, o.1), o.2)
+
+pub call_runs_are_legal : (B : Type 0) → CallRunsAreLegal B
+call_runs_are_legal B program key u later e a = let P = program key.strict key.root.value in
+    let g = all_go program key u later a in
+    let q = runs_are_legal B P key.cells u.rule.some_cells key.root.value key.strict (under program key u) g.0
+    (ap contents_of e) g.1 in (
+      _,
+      q.0,
+      ap (state_of P key.cells) (sym g.2) ∙ q.1,
+    )
