@@ -8,7 +8,7 @@ use Rattle.tj_tree.specs.Walk.{GoesOn}
 use Rattle.tj_words.specs.declared.record.Rec.{Rec}
 use Rattle.tj_words.specs.declared.view.View.{View}
 use Rattle.tj_words.specs.SeatViews.TreeReads.{TreeShown}
-use Rattle.tj_cells.specs.MakingSteps.{child_jump_of}
+use Rattle.tj_cells.specs.Inner.MakingSteps.{child_jump_of}
 
 module _ (nodes : ℕ → Node) (p : NodeId) (node near far : Node) (here : nodes p.0 ≡ node)
     (up : nodes node.jump.0 ≡ near) (top : nodes near.jump.0 ≡ far) where

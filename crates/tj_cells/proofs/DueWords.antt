@@ -9,7 +9,7 @@ use Rattle.tj_words.specs.Words.Lists.{All}
 use Rattle.tj_words.specs.Words.Offsets.{once_at}
 use Rattle.tj_words.specs.Calls.DrawViews.{new_dues, without_due}
 use Rattle.tj_words.proofs.Stores.TableWords.{same_cell, same_word}
-use Rattle.tj_cells.specs.MakingSteps.{dues_left}
+use Rattle.tj_cells.specs.Inner.MakingSteps.{dues_left}
 
 -- the word of the cell
 abbrev pub due_of : ℕ → Once → Due

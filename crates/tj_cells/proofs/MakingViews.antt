@@ -30,7 +30,7 @@ use Rattle.tj_words.proofs.Holders.NotedEntries.{noted_here}
 use Rattle.tj_words.proofs.Stores.OnceStores.{due_still}
 use Rattle.tj_words.proofs.Stores.TableWords.{same_word}
 use Rattle.tj_cells.specs.MadeCells.{IsMade, MayMake}
-use Rattle.tj_cells.specs.MakingSteps.{DrawsNamed, HasInHand, WritesNode, child_jump_of, drew_named, dues_left}
+use Rattle.tj_cells.specs.Inner.MakingSteps.{DrawsNamed, HasInHand, WritesNode, child_jump_of, drew_named, dues_left}
 use Rattle.tj_cells.proofs.DueWords.{due_of, both_alone, named_dues}
 use Rattle.tj_cells.proofs.TaskNotes.{maker_held, promise_notes, task_notes}
 

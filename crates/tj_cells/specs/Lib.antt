@@ -1,4 +1,4 @@
 pub mod MadeCells
-pub mod MakingSteps
+pub mod Inner
 pub mod FilledCells
 pub mod SeenValues

@@ -9,7 +9,7 @@ ghost use Rattle.tj_words.specs.Calls.OwnerViews.{handed_promise};
 ghost use Rattle.tj_words.specs.SeatViews.SeatSteps.{IsCellOf, IsSameSeat, IsSeatOf};
 ghost use Rattle.tj_words.specs.SeatViews.TreeReads.{IsLater, KnowsTask, MayLook, TreeShown};
 ghost use Rattle.tj_cells.specs.MadeCells.{IsMade, MayGiveAway, MayMake};
-ghost use Rattle.tj_cells.specs.MakingSteps.{DrawsNamed, HasInHand, WritesNode, child_jump_of};
+ghost use Rattle.tj_cells.specs.Inner.MakingSteps.{DrawsNamed, HasInHand, WritesNode, child_jump_of};
 
 use tj_base::{CellId, Sort};
 use tj_body::Body;

@@ -20,7 +20,7 @@ use Rattle.tj_words.proofs.Events.WalkersShown.{walker_shown, alarm_shown}
 use Rattle.tj_detect.specs.Blocks.{IsLoad, IsWalkOf, walk_published, walk_others, MayBlock, Blocks, HasReadNoOthers}
 use Rattle.tj_detect.specs.Blocks.{IsStepCount, doing}
 use Rattle.tj_detect.specs.Blocks.{EndsWith, does_after, tokens_given, InEachTable, StandsOnCycle, OthersWatch, shown}
-use Rattle.tj_detect.specs.WalkHops.{WalksWith, IsAtCount, Comes}
+use Rattle.tj_detect.specs.Inner.WalkHops.{WalksWith, IsAtCount, Comes}
 use Rattle.tj_detect.specs.declared.blocking.Verdict.{Verdict}
 use Rattle.tj_detect.specs.declared.blocking.Verdict.TheVariants.{Alarm, Walked, Skipped}
 use Rattle.tj_detect.proofs.Doings.{doing_held, doing_on, turned_doing, published_doing}

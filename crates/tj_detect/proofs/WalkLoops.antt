@@ -13,7 +13,7 @@ use Rattle.tj_words.specs.declared.view.View.{View}
 use Rattle.tj_words.specs.Calls.WaitViews.{now_does, alarmed, MayStoreAlarm}
 use Rattle.tj_words.specs.Calls.WalkViews.{IsWalking, read_on}
 use Rattle.tj_detect.specs.Blocks.{IsLoad, walk_count, doing}
-use Rattle.tj_detect.specs.WalkHops.{WalksWith, WalksOn, Hops, IsAtCount, Comes, passed_on}
+use Rattle.tj_detect.specs.Inner.WalkHops.{WalksWith, WalksOn, Hops, IsAtCount, Comes, passed_on}
 use Rattle.tj_detect.specs.declared.blocking.Hop.TheVariants.{Next, Ended, Own}
 use Rattle.tj_detect.specs.declared.blocking.Verdict.TheVariants.{Alarm, Walked}
 use Rattle.tj_detect.proofs.Doings.{doing_held, doing_on, alarmed_doing}

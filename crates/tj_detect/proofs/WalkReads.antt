@@ -15,7 +15,7 @@ use Rattle.tj_words.specs.Calls.WaitViews.{now_does}
 use Rattle.tj_words.specs.Calls.WalkViews.{IsWalking, MayLoadWait, owner_seen, read_on, walk_with}
 use Rattle.tj_words.proofs.Holders.HeldTasks.{one_some}
 use Rattle.tj_detect.specs.Blocks.{IsWalkOf, walk_owner, walk_wait, walk_again, doing}
-use Rattle.tj_detect.specs.WalkHops.{WalksWith, WalksOn, Passes, Hops, passed_on}
+use Rattle.tj_detect.specs.Inner.WalkHops.{WalksWith, WalksOn, Passes, Hops, passed_on}
 use Rattle.tj_detect.specs.declared.blocking.Hop.{Hop}
 use Rattle.tj_detect.specs.declared.blocking.Hop.TheVariants.{Next, Ended, Own}
 use Rattle.tj_detect.proofs.Doings.{doing_held, doing_on, turned_doing}

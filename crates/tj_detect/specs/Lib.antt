@@ -1,3 +1,3 @@
 pub mod TreeReads
 pub mod Blocks
-pub mod WalkHops
+pub mod Inner

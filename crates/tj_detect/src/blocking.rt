@@ -13,7 +13,7 @@ ghost use Rattle.tj_words.specs.Calls.WaitViews.{MayPublishWait, MayStoreAlarm, 
 ghost use Rattle.tj_words.specs.Calls.WalkViews.{IsWalking, MayLoadWait};
 ghost use Rattle.tj_detect.specs.Blocks.{Blocks, HasReadNoOthers, InEachTable, MayBlock};
 ghost use Rattle.tj_detect.specs.Blocks.{OthersWatch, StandsOnCycle};
-ghost use Rattle.tj_detect.specs.WalkHops.{Comes, Hops, IsAtCount, Passes, WalksWith};
+ghost use Rattle.tj_detect.specs.Inner.WalkHops.{Comes, Hops, IsAtCount, Passes, WalksWith};
 
 use std::sync::ledger::Ledger;
 use tj_base::{CellId, Steps};

@@ -28,7 +28,7 @@ use Rattle.tj_words.proofs.Holders.NotedEntries.{noted_here, noted_else}
 use Rattle.tj_words.proofs.Stores.SeatLists.{inside}
 use Rattle.tj_cells.specs.FilledCells.{MayGiveUp, WillBecome, became}
 use Rattle.tj_cells.proofs.TaskNotes.{let_go_again, let_go_first, noted_front}
-use Rattle.tj_park.specs.Breaks.{HasBroken, MayBreak, OwnsStill}
+use Rattle.tj_park.specs.Inner.Breaks.{HasBroken, MayBreak, OwnsStill}
 use Rattle.tj_park.specs.Records.{AlarmsLeave, HasNoRecord}
 use Rattle.tj_park.specs.Wakes.{HasWoken, MayWake}
 
@@ -119,14 +119,15 @@ module _ {B : Type 0} (program : Bool → B → Program B) (t : ℕ) (promises l
         (let a = h.counts.tokens in let l = h.knows.lot in let r = may.token_room in omega arith)
         (let a = h.counts.cleared in let l = h.knows.lot in let r = may.cleared_room in omega arith) h.alarms)
 
-    module _ (n : ℕ) (w2 : View B) (woke : HasWoken c.0 n [] w1 w2) where
+    module _ (chain : List ℕ) (w2 : View B) (woke : HasWoken c.0 chain [] w1 w2) where
       abbrev woken : View B → View B
       woken x = record x {
         steps = w2.steps;
-        plain_loads = x.plain_loads + n;
+        plain_loads = x.plain_loads + length chain;
         shuts = without c.0 x.shuts;
         rest = None;
         closed = c.0 ∷ x.closed;
+        notes = w2.notes;
       }
 
       abbrev now : View B
@@ -222,7 +223,7 @@ module _ {B : Type 0} (t : ℕ) (promises : List CellId) (i : ℕ) (v w : View B
   none_left most = subst (λ l. HasBroken t promises l v w) (drop_all i promises most) h
 
 -- of which table the seat is stays known, where a promise was broken and some were woken
-pub about_kept : {B : Type 0} (p n : ℕ) (left : List ℕ) (t : ℕ) (v v1 v2 v3 : View B) → v1.about ≡ v.about
-    → v2 ≡ became t p entry.Broken v1 → HasWoken p n left v2 v3 → v3.about ≡ v.about
-about_kept {B} p n left t v v1 v2 v3 e broke woke = ap (λ (u : View B). u.about) woke.view
+pub about_kept : {B : Type 0} (p : ℕ) (woken left : List ℕ) (t : ℕ) (v v1 v2 v3 : View B) → v1.about ≡ v.about
+    → v2 ≡ became t p entry.Broken v1 → HasWoken p woken left v2 v3 → v3.about ≡ v.about
+about_kept {B} p woken left t v v1 v2 v3 e broke woke = ap (λ (u : View B). u.about) woke.view
     ∙ (ap (λ (u : View B). u.about) broke ∙ e)

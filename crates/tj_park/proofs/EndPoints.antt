@@ -26,7 +26,8 @@ use Rattle.tj_words.specs.Words.Lists.{All, cell}
 use Rattle.tj_words.specs.LawParts.Meaning.{HasCell}
 use Rattle.tj_words.specs.LawParts.Telling.{ArePairs, HasName, TellsStage}
 use Rattle.tj_words.specs.LawParts.TreeWords.{IsCell}
-use Rattle.tj_park.specs.Endings.{HaveApartNames, IsEnding, IsOpen, ended_record, result_of}
+use Rattle.tj_park.specs.Endings.{HaveApartNames, IsEnding, IsOpen, result_of}
+use Rattle.tj_park.specs.Inner.Closings.{ended_record}
 
 -- a task that hasn't ended owns its result, and then what it holds
 open_owned : (s : PointStage) (x : Name) (holds : List Name) → IsOpen s → owned_in s x holds ≡ x ∷ holds

@@ -36,8 +36,9 @@ use Rattle.tj_words.proofs.Waiters.ChainLists.{no_some}
 use Rattle.tj_words.proofs.Waiters.LiveSteps.{backing_idle}
 use Rattle.tj_words.proofs.Stores.SeatLists.{inside}
 use Rattle.tj_cells.specs.FilledCells.{became}
-use Rattle.tj_park.specs.Breaks.{HasBroken, MayBreak}
-use Rattle.tj_park.specs.Endings.{HasFinished, MayCloseResult, MayFinish, ended_record, result_of}
+use Rattle.tj_park.specs.Inner.Breaks.{HasBroken, MayBreak}
+use Rattle.tj_park.specs.Endings.{HasFinished, MayFinish, result_of}
+use Rattle.tj_park.specs.Inner.Closings.{MayCloseResult, ended_record}
 use Rattle.tj_park.specs.Records.{HasNoRecord}
 use Rattle.tj_park.specs.Wakes.{HasWoken, MayWake}
 use Rattle.tj_park.proofs.BreakSteps.{without_first, held_closed, others_closed, alarms_closed}
@@ -214,28 +215,29 @@ module _ {B : Type 0} (program : Bool → B → Program B) (t : ℕ) (r : Rec B)
       pub may_wake_then : (m4 : SeatMe B) → m4 ≡ (ended t closed, slots) → MayWake t m4
       may_wake_then m4 e = subst (λ m. MayWake t m) (sym e) may_wake_last
 
-      pub woke_then : (n : ℕ) (m4 : SeatMe B) (v5 : View B) → m4 ≡ (ended t closed, slots)
-          → HasWoken t n [] m4.0 v5
-          → HasWoken t n [] (ended t closed) v5
-      woke_then n m4 v5 e k = subst (λ (m : SeatMe B). HasWoken t n [] m.0 v5) e k
+      pub woke_then : (chain : List ℕ) (m4 : SeatMe B) (v5 : View B) → m4 ≡ (ended t closed, slots)
+          → HasWoken t chain [] m4.0 v5
+          → HasWoken t chain [] (ended t closed) v5
+      woke_then chain m4 v5 e k = subst (λ (m : SeatMe B). HasWoken t chain [] m.0 v5) e k
 
       -- of which table the seat is stays known, where some were woken
-      pub about_woken : (n : ℕ) (left : List ℕ) (m4 : SeatMe B) (v5 : View B) → m4 ≡ (ended t closed, slots)
-          → HasWoken t n left m4.0 v5 → v5.about ≡ v.about
-      about_woken n left m4 v5 e k = ap (λ (u : View B). u.about) k.view
+      pub about_woken : (chain left : List ℕ) (m4 : SeatMe B) (v5 : View B) → m4 ≡ (ended t closed, slots)
+          → HasWoken t chain left m4.0 v5 → v5.about ≡ v.about
+      about_woken chain left m4 v5 e k = ap (λ (u : View B). u.about) k.view
           ∙ (ap (λ (m : SeatMe B). m.0.about) e ∙ h.knows.about)
 
       no_dues : without_due t once.Tag (without_due t once.Bits v1.dues) ≡ []
       no_dues = ap (λ d. without_due t once.Tag (without_due t once.Bits d)) h.idle.dues
 
-      module _ (n : ℕ) (v5 : View B) (woke : HasWoken t n [] (ended t closed) v5) where
+      module _ (chain : List ℕ) (v5 : View B) (woke : HasWoken t chain [] (ended t closed) v5) where
         abbrev woken : View B
         woken = record (ended t closed) {
           steps = v5.steps;
-          plain_loads = (ended t closed).plain_loads + n;
+          plain_loads = (ended t closed).plain_loads + length chain;
           shuts = without t (t ∷ v1.shuts);
           rest = None;
           closed = t ∷ v1.closed;
+          notes = v5.notes;
         }
 
         abbrev last : View B

@@ -15,7 +15,7 @@ use Rattle.tj_words.specs.Calls.ChainSteps.{without_push}
 use Rattle.tj_words.specs.Words.Heads.{head_word}
 use Rattle.tj_words.specs.SeatViews.SeenWords.{FindsChain, FindsShut}
 use Rattle.tj_words.proofs.SeatLoads.KnowsMoreOn.{more_itself, more_on, hand_on, counts_on}
-use Rattle.tj_park.specs.JoinViews.{LooksOn, IsAdded, push_behind, last_found, pushes_left, join_steps}
+use Rattle.tj_park.specs.Inner.JoinViews.{LooksOn, IsAdded, push_behind, last_found, pushes_left, join_steps}
 
 -- the sums of steps and of pushes
 shut_cost : (s v c : ℕ) → s ≡ suc v → s + 2 * 0 ≤ v + (2 * c + 3)

@@ -25,7 +25,7 @@ use Rattle.tj_words.specs.Calls.WaitViews.{MayPark, parked}
 use Rattle.tj_words.proofs.Holders.HeldTasks.{none_some}
 use Rattle.tj_words.proofs.SeatLoads.KnowsMoreOn.{more_itself, more_on}
 use Rattle.tj_words.proofs.Waiters.LiveSteps.{backing_idle}
-use Rattle.tj_park.specs.JoinViews.{LooksOn, IsAdded, TakesBack, join_steps, push_behind}
+use Rattle.tj_park.specs.Inner.JoinViews.{LooksOn, IsAdded, TakesBack, join_steps, push_behind}
 use Rattle.tj_park.specs.ParkViews.{MayParkTask, LeftTask, GaveBack}
 use Rattle.tj_park.specs.Records.{HasNoRecord}
 use Rattle.tj_park.proofs.LeftTasks.{holds_before, puts_home}

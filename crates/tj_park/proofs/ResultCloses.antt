@@ -15,7 +15,8 @@ use Rattle.tj_words.specs.LawParts.NamedCells.{fill_cells, finish_cells}
 use Rattle.tj_words.specs.LawParts.Telling.{FinishSays}
 use Rattle.tj_words.proofs.Holders.HeldTasks.{one_some}
 use Rattle.tj_cells.specs.FilledCells.{IsFilledWith, MayFill, MayGiveUp, WillBecome, became, cells_named}
-use Rattle.tj_park.specs.Endings.{ClosesResult, MayCloseResult, result_of}
+use Rattle.tj_park.specs.Endings.{result_of}
+use Rattle.tj_park.specs.Inner.Closings.{ClosesResult, MayCloseResult}
 
 named_cells : (x : Fill) (c : ℕ) → IsIn c (cells_named x) → IsIn c (fill_cells x)
 named_cells (fill.Num i) c h = h

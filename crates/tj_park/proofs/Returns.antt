@@ -13,15 +13,14 @@ use Rattle.tj_words.specs.declared.phase.Phase.TheVariants as phase
 use Rattle.tj_words.specs.declared.record.Rec.{Rec}
 use Rattle.tj_words.specs.declared.view.View.{View}
 use Rattle.tj_words.specs.LawParts.Chains.{parked_phase}
-use Rattle.tj_words.specs.Calls.ExchangeViews.{Swaps, GoesBack, went_back}
+use Rattle.tj_words.specs.Calls.ExchangeViews.{Swaps, GoesBack, missed, went_back}
 use Rattle.tj_words.specs.Calls.LiveViews.{HasSlot}
 use Rattle.tj_words.specs.LawParts.NamedCells.{record_cells}
 use Rattle.tj_words.specs.SeatViews.SeatSteps.{SeatMe}
 use Rattle.tj_words.specs.Calls.TakenRecords.{took_record}
-use Rattle.tj_words.specs.SeatViews.Views.{stepped_on}
 use Rattle.tj_words.specs.Calls.WalkViews.{lowered}
 use Rattle.tj_words.proofs.Holders.HeldTasks.{one_some}
-use Rattle.tj_park.specs.JoinViews.{TakesBack}
+use Rattle.tj_park.specs.Inner.JoinViews.{TakesBack}
 use Rattle.tj_park.proofs.TakenTasks.{has_taken, slot_in_front, taken_out}
 
 -- what can't fail has succeeded
@@ -37,7 +36,7 @@ not_ready q way e = cc
 module _ {B : Type 0} (program : Bool → B → Program B) (t q : ℕ) (way : Way) (m m' : SeatMe B) where
   -- the exchange from Parked to Running has succeeded
   pub goes_back : {A : Type 0} (o : Result A Phase) → OnOk o (Swaps program t (parked_phase q way) phase.Running m m')
-      → IfErr o (λ p. (parked_phase q way ≡ phase.Ready) × (p ≢ parked_phase q way) × (m' ≡ (stepped_on m.0, m.1)))
+      → IfErr o (λ p. (parked_phase q way ≡ phase.Ready) × (p ≢ parked_phase q way) × (m' ≡ (missed t p m.0, m.1)))
       → GoesBack program t q way m m'
   goes_back o s e = (never_fails o _ _ (λ p h. not_ready q way h.0) s e).goes_back q way refl refl
 

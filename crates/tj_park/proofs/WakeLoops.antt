@@ -1,10 +1,12 @@
 -- The loop that wakes a chain: so many of its tasks are woken, and the others are the seat's rest.
 use Rattle.std.proofs.Common.{◌≡◌, ◌≢◌, ◌⊎◌, ℕ, suc, ◌+◌, ◌<◌, ◌≤◌, List, [], ◌∷◌, ◌++◌, length, Option, Some, None}
 use Rattle.std.proofs.Common.{Result, Ok, Err, OnErr, refl, sym, ap, ◌∙◌, subst, inl, inr, ⊎_elim, arith}
-use Rattle.std.proofs.Common.{length-append}
+use Rattle.std.proofs.Common.{append_assoc, length-append}
 use Rattle.tj_base.specs.declared.cell.CellId.{CellId}
+use Rattle.tj_core.specs.declared.walk.Way.{Way}
 use Rattle.tj_words.specs.declared.head.Head.{Head}
 use Rattle.tj_words.specs.declared.head.Head.TheVariants.{Empty, Task, Shut}
+use Rattle.tj_words.specs.declared.view.Note.{Note}
 use Rattle.tj_words.specs.declared.view.Rest.{Rest}
 use Rattle.tj_words.specs.declared.view.View.{View}
 use Rattle.tj_words.specs.Words.Lists.{cell, without}
@@ -13,7 +15,8 @@ use Rattle.tj_words.specs.Calls.ChainSteps.{TakesChain, found_taken, rest_of}
 use Rattle.tj_words.specs.Words.Heads.{head_word}
 use Rattle.tj_words.specs.Calls.LiveViews.{SlotsOf}
 use Rattle.tj_words.proofs.Waiters.ChainsSaid.{shut_or}
-use Rattle.tj_park.specs.Wakes.{HavePut, HasWoken, MayWakeTasks, WakesAll, WakesFirst, WakesSome}
+use Rattle.tj_park.specs.Wakes.{HaveNoted, HavePut, HasWoken, MayWakeTasks, WakesAll, WakesSome, wake_notes}
+use Rattle.tj_park.specs.Inner.FirstWaiters.{WakesFirst}
 
 -- the head begins the list of those who are left, and names a cell; or it was shut, and nobody is
 abbrev pub Begins : ℕ → Head → List ℕ → Type 0
@@ -32,7 +35,7 @@ module _ {B P : Type 0} (puts : P → CellId → P → Type 0) (cells p : ℕ) w
     pub begins : Begins cells first left
     pub few : length front + length left ≤ cells
     pub counted : length front ≡ woken
-    pub woke : HasWoken p woken left v w
+    pub woke : HasWoken p front left v w
     pub put : HavePut puts front a b
 
 -- the number of the task that a head names
@@ -71,25 +74,40 @@ on_err (Ok x) h = tt
 on_err (Err e) h = h
 
 module _ {B : Type 0} where
-  -- the view after so many steps and plain loads, of which these are left
-  abbrev woken_with : ℕ → List ℕ → ℕ → ℕ → View B → View B
-  woken_with p left n l v = record v {
+  -- the view after so many steps and plain loads, with these notes, of which these are left
+  abbrev woken_with : ℕ → List ℕ → ℕ → ℕ → List Note → View B → View B
+  woken_with p left n l ns v = record v {
     steps = n;
     plain_loads = l;
     shuts = without p v.shuts;
     rest = rest_of p left;
     closed = p ∷ v.closed;
+    notes = ns;
   }
 
-  woken_view : (p woken : ℕ) (left : List ℕ) (v w : View B) (n l : ℕ) → w ≡ woken_with p left n l v
-      → l ≡ v.plain_loads + woken → HasWoken p woken left v w
-  woken_view p woken left v w n l e q = record {
-    view = e ∙ (ap (λ k. woken_with p left k l v) (sym (ap (λ (u : View B). u.steps) e))
-        ∙ ap (λ k. woken_with p left w.steps k v) q);
+  woken_view : (p : ℕ) (woken left : List ℕ) (v w : View B) (n l : ℕ) (ns : List Note) → w ≡ woken_with p left n l ns v
+      → l ≡ v.plain_loads + length woken → HaveNoted p woken left v v.notes ns → HasWoken p woken left v w
+  woken_view p woken left v w n l ns e q noted = record {
+    noted = subst (HaveNoted p woken left v v.notes) (sym (ap (λ (u : View B). u.notes) e)) noted;
+    view = e ∙ (ap (λ k. woken_with p left k l ns v) (sym (ap (λ (u : View B). u.steps) e))
+        ∙ (ap (λ k. woken_with p left w.steps l k v) (sym (ap (λ (u : View B). u.notes) e))
+        ∙ ap (λ k. woken_with p left w.steps k w.notes v) q));
   }
+
+  -- one more is woken, the first of those who were left
+  noted_more : (p t : ℕ) (way : Way) (front left : List ℕ) (v : View B) (old new ns : List Note)
+      → HaveNoted p front (t ∷ left) v old new → ns ≡ wake_notes p t way left v ++ new
+      → HaveNoted p (front ++ t ∷ []) left v old ns
+  noted_more p t way [] left v old new ns h e = (way, e ∙ ap (λ l. wake_notes p t way left v ++ l) h)
+  noted_more p t way (u ∷ us) left v old new ns h e = (
+    h.0,
+    noted_more p t way us left v (wake_notes p u h.0 ((us ++ t ∷ []) ++ left) v ++ old) new ns
+        (subst (λ l. HaveNoted p us (t ∷ left) v (wake_notes p u h.0 l v ++ old) new)
+        (sym (append_assoc us (t ∷ []) left)) h.1) e,
+  )
 
   -- the seat may go on
-  pub may_go_on : (p woken : ℕ) (left : List ℕ) (v w : View B) (slots : SlotsOf B) → MayWakeTasks (v, slots)
+  pub may_go_on : (p : ℕ) (woken left : List ℕ) (v w : View B) (slots : SlotsOf B) → MayWakeTasks (v, slots)
       → HasWoken p woken left v w → MayWakeTasks (w, slots)
   may_go_on p woken left v w slots m h = subst (λ (x : View B). MayWakeTasks (x, slots)) (sym h.view) (record {
     backed = m.backed;
@@ -99,9 +117,9 @@ module _ {B : Type 0} where
     no_record = m.no_record;
   })
 
-  pub rest_now : (p woken t : ℕ) (left ts : List ℕ) (v w : View B) → HasWoken p woken left v w → left ≡ t ∷ ts
+  pub rest_now : (p t : ℕ) (woken left ts : List ℕ) (v w : View B) → HasWoken p woken left v w → left ≡ t ∷ ts
       → w.rest ≡ rest_of p (t ∷ ts)
-  rest_now p woken t left ts v w h e = ap (λ (u : View B). u.rest) h.view ∙ ap (rest_of p) e
+  rest_now p t woken left ts v w h e = ap (λ (u : View B). u.rest) h.view ∙ ap (rest_of p) e
 
 module _ {P : Type 0} (puts : P → CellId → P → Type 0) where
   put_more : (front : List ℕ) (a b c : P) (t : CellId) → HavePut puts front a b → puts b t c
@@ -120,13 +138,13 @@ module _ {B P : Type 0} (puts : P → CellId → P → Type 0) (cells p : ℕ) w
         begins = inr (s, refl);
         few = (omega arith);
         counted = refl;
-        woke = woken_view p 0 [] v w (suc v.steps) v.plain_loads
+        woke = woken_view p [] [] v w (suc v.steps) v.plain_loads v.notes
             (again s ∙ ap (λ o. record v {
               steps = suc v.steps;
               shuts = without p v.shuts;
               rest = o;
               closed = p ∷ v.closed;
-            }) no_rest) (omega arith);
+            }) no_rest) (omega arith) refl;
         put = refl;
       })
       (λ (n : h ≢ Shut). let c = takes n in record {
@@ -135,7 +153,7 @@ module _ {B P : Type 0} (puts : P → CellId → P → Type 0) (cells p : ℕ) w
         begins = inl (c.is, c.small);
         few = (let k = c.short in omega arith);
         counted = refl;
-        woke = woken_view p 0 c.chain v w (suc v.steps) v.plain_loads c.view (omega arith);
+        woke = woken_view p [] c.chain v w (suc v.steps) v.plain_loads v.notes c.view (omega arith) refl;
         put = refl;
       }) (shut_or h)
 
@@ -145,15 +163,29 @@ module _ {B P : Type 0} (puts : P → CellId → P → Type 0) (cells p : ℕ) w
     the_first = first_task cells first t k.left k.begins names
 
     rests : w.rest ≡ rest_of p (t.0 ∷ the_first.0)
-    rests = rest_now p woken t.0 k.left the_first.0 v w k.woke the_first.1
+    rests = rest_now p t.0 k.front k.left the_first.0 v w k.woke the_first.1
 
-    woke_more : HasWoken p (woken + 1) the_first.0 v w'
-    woke_more = woken_view p (woken + 1) the_first.0 v w' w'.steps (suc (v.plain_loads + woken))
-        ((wakes the_first.0 rests).1 ∙ ap (λ (u : View B). record u {
+    abbrev woke_it : (way : Way) × (w' ≡ record w {
+      steps = w'.steps;
+      plain_loads = suc w.plain_loads;
+      rest = rest_of p the_first.0;
+      notes = wake_notes p t.0 way the_first.0 w ++ w.notes;
+    })
+    woke_it = (wakes the_first.0 rests).1
+
+    woke_more : HasWoken p (k.front ++ t.0 ∷ []) the_first.0 v w'
+    woke_more = woken_view p (k.front ++ t.0 ∷ []) the_first.0 v w' w'.steps (suc (v.plain_loads + length k.front))
+        (wake_notes p t.0 woke_it.0 the_first.0 v ++ w.notes)
+        (woke_it.1 ∙ ap (λ (u : View B). record u {
           steps = w'.steps;
           plain_loads = suc u.plain_loads;
           rest = rest_of p the_first.0;
-        }) k.woke.view) (omega arith)
+          notes = wake_notes p t.0 woke_it.0 the_first.0 u ++ w.notes;
+        }) k.woke.view)
+        (let n = length-append k.front (t.0 ∷ []) in omega arith)
+        (noted_more p t.0 woke_it.0 k.front the_first.0 v v.notes w.notes
+        (wake_notes p t.0 woke_it.0 the_first.0 v ++ w.notes)
+        (subst (λ l. HaveNoted p k.front l v v.notes w.notes) the_first.1 k.woke.noted) refl)
 
     lengths : length k.left ≡ suc (length the_first.0)
     lengths = ap length the_first.1
@@ -183,9 +215,10 @@ module _ {B P : Type 0} (puts : P → CellId → P → Type 0) (cells p : ℕ) w
     pub woke_some : (same : P → P → Type 0) (c : P) → same b c → WakesSome puts same p v w' a c
     woke_some same c q = record {
       woken = k.front;
+      next = t.0;
       left = the_first.0;
       between = b;
-      woke = subst (λ n. HasWoken p n the_first.0 v w') (let f = k.counted in omega arith) woke_more;
+      woke = woke_more;
       put = k.put;
       refused = q;
     }
@@ -196,6 +229,6 @@ module _ {B P : Type 0} (puts : P → CellId → P → Type 0) (cells p : ℕ) w
   woke_all first woken v w a b k n = record {
     chain = k.front;
     all = k.counted;
-    woke = subst (λ l. HasWoken p woken l v w) (none_left cells first k.left k.begins n) k.woke;
+    woke = subst (λ l. HasWoken p k.front l v w) (none_left cells first k.left k.begins n) k.woke;
     put = k.put;
   }

@@ -1,5 +1,6 @@
 -- The steps by which a seat makes the first of its rest ready.
-use Rattle.std.proofs.Common.{◌≡◌, ◌≢◌, ℕ, suc, ◌+◌, ◌-◌, ◌<◌, ◌≤◌, List, [], ◌∷◌, Bool, cond, Option, Some, None}
+use Rattle.std.proofs.Common.{◌≡◌, ◌≢◌, ℕ, suc, ◌+◌, ◌-◌, ◌<◌, ◌≤◌, List, [], ◌∷◌, ◌++◌, Bool, cond, Option}
+use Rattle.std.proofs.Common.{Some, None}
 use Rattle.std.proofs.Common.{Result, Ok, Err, OnOk, IfErr, refl, sym, ap, ◌∙◌, subst, inl, inr, ⊎_elim, arith, eq-eqb}
 use Rattle.std.specs.Bool.{⊤}
 use Rattle.tj_body.specs.Programs.{Program}
@@ -9,21 +10,25 @@ use Rattle.tj_core.specs.Events.{raised_by_way}
 use Rattle.tj_words.specs.declared.head.Head.{Head}
 use Rattle.tj_words.specs.declared.phase.Phase.{Phase}
 use Rattle.tj_words.specs.declared.phase.Phase.TheVariants as phase
+use Rattle.tj_words.specs.declared.view.Noted.TheVariants as note
 use Rattle.tj_words.specs.declared.view.Rest.{Rest}
 use Rattle.tj_words.specs.declared.view.View.{View}
 use Rattle.tj_words.specs.LawParts.Chains.{head_of, parked_phase}
 use Rattle.tj_words.specs.Calls.ChainSteps.{rest_of}
-use Rattle.tj_words.specs.Calls.ExchangeViews.{MaySwap, Swaps, woke_first}
+use Rattle.tj_words.specs.Calls.ExchangeViews.{MaySwap, Swaps, missed, woke_first}
+use Rattle.tj_words.specs.Words.Heads.{head_word}
 use Rattle.tj_words.specs.LawParts.LiveCount.{Backing, DoesRun, Holds}
 use Rattle.tj_words.specs.Calls.LiveViews.{LaysChild, MayRaiseLive, SlotsOf, live_raised, raised_with}
 use Rattle.tj_words.specs.Calls.ParkSteps.{FirstTold, first_way, loaded_phase, parked_way, rest_loaded, with_tokens}
+use Rattle.tj_words.specs.Words.Phases.{phase_word}
 use Rattle.tj_words.specs.SeatViews.SeatSteps.{SeatMe}
 use Rattle.tj_words.specs.SeatViews.SeenWords.{NextTold}
-use Rattle.tj_words.specs.SeatViews.Views.{stepped_on}
+use Rattle.tj_words.specs.SeatViews.Views.{note_of, noted_step}
 use Rattle.tj_words.proofs.Waiters.LiveSteps.{backing_token, backing_running}
 use Rattle.tj_park.specs.Records.{HasNoRecord}
 use Rattle.tj_park.proofs.ParkedViews.{no_record}
-use Rattle.tj_park.specs.Wakes.{MayWakeTasks, counted_in, lowered_for}
+use Rattle.tj_park.specs.Wakes.{MayWakeTasks, wake_notes}
+use Rattle.tj_park.specs.Inner.FirstWaiters.{counted_in, lowered_for}
 
 first_is : (t : ℕ) (q : Phase) (ts : List ℕ) (o : Option Way) → first_way t q (t ∷ ts) o ≡ parked_way q o
 first_is t q ts o = ap (λ (b : Bool). cond b (parked_way q o) o) (eq-eqb t t refl)
@@ -46,14 +51,24 @@ module _ {B : Type 0} where
     steps = suc (suc v.steps);
     plain_loads = suc v.plain_loads;
     rest = Some (record { cell = p; tasks = t ∷ left; way = Some way });
+    notes = wake_notes p t way left v ++ v.notes;
   }
 
   -- then a token was taken
   abbrev pub token_more : View B → View B
   token_more v = with_tokens (suc v.tokens) v
 
-  module _ (p t : ℕ) (left : List ℕ) (v v' w : View B) (was : Phase) (rests : v.rest ≡ rest_of p (t ∷ left))
-      (went : v' ≡ stepped_on v) where
+  -- the view once PHASE of the first was read too, of whose rest that way is known
+  abbrev read_then : ℕ → Head → Phase → Option Rest → View B → View B
+  read_then t next was rest v = record v {
+    steps = suc (suc v.steps);
+    plain_loads = suc v.plain_loads;
+    rest = rest;
+    notes = note_of (note.Phase t) (phase_word was) v ∷ note_of (note.Next t) (head_word next) v ∷ v.notes;
+  }
+
+  module _ (p t : ℕ) (left : List ℕ) (v v' w : View B) (next : Head) (was : Phase)
+      (rests : v.rest ≡ rest_of p (t ∷ left)) (went : v' ≡ noted_step (note.Next t) (head_word next) v) where
     abbrev the_rest : Rest
     the_rest = record { cell = p; tasks = t ∷ left; way = None }
 
@@ -61,25 +76,24 @@ module _ {B : Type 0} where
     rest_then = ap (λ (u : View B). u.rest) went ∙ rests
 
     -- NEXT of the first names the one behind it
-    pub next_behind : (next : Head) → NextTold t next v → next ≡ head_of left
-    next_behind next told = told the_rest left rests refl
+    pub next_behind : NextTold t next v → next ≡ head_of left
+    next_behind told = told the_rest left rests refl
 
     -- the first is parked on p
     pub first_parked : FirstTold t was v' → (way : Way) × (was ≡ parked_phase p way)
     first_parked told = told the_rest left rest_then refl
 
     -- the view then
-    pub reads_first : (way : Way) → was ≡ parked_phase p way → w ≡ loaded_phase t was v'
+    pub reads_first : (way : Way) → was ≡ parked_phase p way → next ≡ head_of left → w ≡ loaded_phase t was v'
         → w ≡ read_first p t left way v
-    reads_first way is loaded = loaded
+    reads_first way is behind loaded = loaded
         ∙ (ap (loaded_phase t was) went
-        ∙ (ap (λ o. record v { steps = suc (suc v.steps); plain_loads = suc v.plain_loads; rest = rest_loaded t was o })
-        rests
-        ∙ ap (λ o. record v {
-          steps = suc (suc v.steps);
-          plain_loads = suc v.plain_loads;
-          rest = Some (record { cell = p; tasks = t ∷ left; way = o });
-        }) (first_is t was left None ∙ ap (λ q. parked_way q None) is)))
+        ∙ (ap (λ o. read_then t next was (rest_loaded t was o) v) rests
+        ∙ (ap (λ o. read_then t next was (Some (record { cell = p; tasks = t ∷ left; way = o })) v)
+        (first_is t was left None ∙ ap (λ q. parked_way q None) is)
+        ∙ (ap (λ q. read_then t next q (Some (record { cell = p; tasks = t ∷ left; way = Some way })) v) is
+        ∙ ap (λ h. read_then t h (parked_phase p way)
+        (Some (record { cell = p; tasks = t ∷ left; way = Some way })) v) behind))))
 
   module _ (p t : ℕ) (left : List ℕ) (way : Way) (v : View B) (slots : SlotsOf B) (may : MayWakeTasks (v, slots)) where
     abbrev taken : View B
@@ -127,29 +141,20 @@ module _ {B : Type 0} where
     }
 
     -- the view after the exchange and the subtraction from OTHERS
-    woken_then : (n cleared tokens : ℕ) → cleared ≡ v.cleared → tokens ≡ v.tokens
-        → record v {
-          steps = n;
-          plain_loads = suc v.plain_loads;
-          rest = rest_of p left;
-          cleared = cleared;
-          tokens = tokens;
-        } ≡ record v { steps = n; plain_loads = suc v.plain_loads; rest = rest_of p left }
-    woken_then n cleared tokens a b = ap (λ k. record v {
+    abbrev woken_at : ℕ → View B
+    woken_at n = record v {
       steps = n;
       plain_loads = suc v.plain_loads;
       rest = rest_of p left;
-      cleared = k;
-      tokens = tokens;
-    }) a ∙ ap (λ k. record v {
-      steps = n;
-      plain_loads = suc v.plain_loads;
-      rest = rest_of p left;
-      tokens = k;
-    }) b
+      notes = wake_notes p t way left v ++ v.notes;
+    }
 
-    pub lowers : (n : ℕ) → lowered_for (parked_phase p way) n (woke_first way taken)
-        ≡ record v { steps = n; plain_loads = suc v.plain_loads; rest = rest_of p left }
+    woken_then : (n cleared tokens : ℕ) → cleared ≡ v.cleared → tokens ≡ v.tokens
+        → record (woken_at n) { cleared = cleared; tokens = tokens } ≡ woken_at n
+    woken_then n cleared tokens a b = ap (λ k. record (woken_at n) { cleared = k; tokens = tokens }) a
+        ∙ ap (λ k. record (woken_at n) { tokens = k }) b
+
+    pub lowers : (n : ℕ) → lowered_for (parked_phase p way) n (woke_first way taken) ≡ woken_at n
     lowers n = woken_then n (v.cleared + raised_by_way way - raised_by_way way) (suc v.tokens - 1) (omega arith)
         (omega arith)
 
@@ -161,26 +166,30 @@ module _ {B : Type 0} where
   pair_is m v slots a b = ap (λ x. (x, m.1)) a ∙ ap (λ y. (v, y)) b
 
   -- an exchange that was tried on a parked task has succeeded
-  exchanged : {P : Type 0} (p : ℕ) (way : Way) (m m' : SeatMe B) (r : Result ⊤ Phase) → OnOk r P
-      → IfErr r (λ q. (parked_phase p way ≡ phase.Ready) × (q ≢ parked_phase p way) × (m' ≡ (stepped_on m.0, m.1)))
+  exchanged : {P : Type 0} (t p : ℕ) (way : Way) (m m' : SeatMe B) (r : Result ⊤ Phase) → OnOk r P
+      → IfErr r (λ q. (parked_phase p way ≡ phase.Ready) × (q ≢ parked_phase p way) × (m' ≡ (missed t q m.0, m.1)))
       → P
-  exchanged p way m m' (Ok x) ok err = ok
-  exchanged p way m m' (Err q) ok err = parked_unready p way err.0
+  exchanged t p way m m' (Ok x) ok err = ok
+  exchanged t p way m m' (Err q) ok err = parked_unready p way err.0
 
   -- the five steps, one after the other
   module _ (program : Bool → B → Program B) (p t : ℕ) (me m1 m2 : SeatMe B) (next : Head) (was : Phase)
       (may : MayWakeTasks me) (left : List ℕ) (rests : me.0.rest ≡ rest_of p (t ∷ left))
-      (view1 : m1.0 ≡ stepped_on me.0) (slots1 : m1.1 ≡ me.1) (next_told : NextTold t next me.0)
-      (view2 : m2.0 ≡ loaded_phase t was m1.0) (slots2 : m2.1 ≡ m1.1) (first_told : FirstTold t was m1.0) where
+      (view1 : m1.0 ≡ noted_step (note.Next t) (head_word next) me.0) (slots1 : m1.1 ≡ me.1)
+      (next_told : NextTold t next me.0) (view2 : m2.0 ≡ loaded_phase t was m1.0) (slots2 : m2.1 ≡ m1.1)
+      (first_told : FirstTold t was m1.0) where
     parked : (way : Way) × (was ≡ parked_phase p way)
-    parked = first_parked p t left me.0 m1.0 m2.0 was rests view1 first_told
+    parked = first_parked p t left me.0 m1.0 m2.0 next was rests view1 first_told
+
+    behind : next ≡ head_of left
+    behind = next_behind p t left me.0 m1.0 m2.0 next was rests view1 next_told
 
     abbrev read : View B
     read = read_first p t left parked.0 me.0
 
     reads : m2 ≡ (read, me.1)
     reads = pair_is m2 read me.1
-        (reads_first p t left me.0 m1.0 m2.0 was rests view1 parked.0 parked.1 view2) (slots2 ∙ slots1)
+        (reads_first p t left me.0 m1.0 m2.0 next was rests view1 parked.0 parked.1 behind view2) (slots2 ∙ slots1)
 
     pub may_up : MayRaiseLive program m2
     may_up = subst (λ m. MayRaiseLive program m) (sym reads) (may_raise p t left parked.0 me.0 me.1 may program)
@@ -195,10 +204,10 @@ module _ {B : Type 0} where
           (may_wake p t left parked.0 me.0 me.1 may))
 
       module _ (m4 : SeatMe B) (r : Result ⊤ Phase) (ok : OnOk r (Swaps program t was phase.Ready m3 m4))
-          (err : IfErr r (λ q. (was ≡ phase.Ready) × (q ≢ was) × (m4 ≡ (stepped_on m3.0, m3.1)))) where
+          (err : IfErr r (λ q. (was ≡ phase.Ready) × (q ≢ was) × (m4 ≡ (missed t q m3.0, m3.1)))) where
         woke : m4 ≡ (woke_first parked.0 (token_more read), me.1)
-        woke = let s = exchanged p parked.0 m3 m4 r ok (subst (λ k. IfErr r (λ q. (k ≡ phase.Ready) × (q ≢ k)
-            × (m4 ≡ (stepped_on m3.0, m3.1)))) parked.1 err) in
+        woke = let s = exchanged t p parked.0 m3 m4 r ok (subst (λ k. IfErr r (λ q. (k ≡ phase.Ready) × (q ≢ k)
+            × (m4 ≡ (missed t q m3.0, m3.1)))) parked.1 err) in
             s.wakes p parked.0 parked.1 refl ∙ ap (λ (m : SeatMe B). (woke_first parked.0 m.0, m.1)) up
 
         pub slots_woke : m4.1 ≡ me.1
@@ -210,10 +219,18 @@ module _ {B : Type 0} where
             (counted_then p t left parked.0 me.0 me.1 may))
 
         pub wakes_first : (w : View B) → w ≡ lowered_for was w.steps m4.0 → (next ≡ head_of left)
-            × (w ≡ record me.0 { steps = w.steps; plain_loads = suc me.0.plain_loads; rest = rest_of p left })
+            × ((way : Way) × (w ≡ record me.0 {
+              steps = w.steps;
+              plain_loads = suc me.0.plain_loads;
+              rest = rest_of p left;
+              notes = wake_notes p t way left me.0 ++ me.0.notes;
+            }))
         wakes_first w e = (
-          next_behind p t left me.0 m1.0 m2.0 was rests view1 next next_told,
-          e ∙ (ap (λ (m : SeatMe B). lowered_for was w.steps m.0) woke
-              ∙ (ap (λ q. lowered_for q w.steps (woke_first parked.0 (token_more read))) parked.1
-              ∙ lowers p t left parked.0 me.0 me.1 may w.steps)),
+          behind,
+          (
+            parked.0,
+            e ∙ (ap (λ (m : SeatMe B). lowered_for was w.steps m.0) woke
+                ∙ (ap (λ q. lowered_for q w.steps (woke_first parked.0 (token_more read))) parked.1
+                ∙ lowers p t left parked.0 me.0 me.1 may w.steps)),
+          ),
         )

@@ -1,6 +1,6 @@
 -- How a task ends: what `finish` asks of the record, of the point of the task's history that it tells and of the seat,
 -- and what it makes of the seat.
-use Rattle.std.specs.Prelude.{◌≡◌, ℕ, ◌+◌, ◌<◌, Bool, List, [], drop, Option, Some, None}
+use Rattle.std.specs.Prelude.{◌≡◌, ℕ, ◌+◌, ◌<◌, Bool, List, drop, Some, None}
 use Rattle.tj_base.specs.declared.cell.CellId.{CellId}
 use Rattle.tj_body.specs.History.{after_close}
 use Rattle.tj_body.specs.Points.{IsIn}
@@ -21,17 +21,14 @@ use Rattle.tj_words.specs.declared.view.Custody.{Custody}
 use Rattle.tj_words.specs.declared.view.View.{View}
 use Rattle.tj_words.specs.LawParts.Holding.{held_in}
 use Rattle.tj_words.specs.Law.{IsRooted}
-use Rattle.tj_words.specs.SeatViews.KnownEntries.{HasSeen, IsToBecome}
+use Rattle.tj_words.specs.SeatViews.KnownEntries.{HasSeen}
 use Rattle.tj_words.specs.SeatViews.KnowsMore.{KnowsMore, HasSameWakes, HasSameHand, HasSameCounts}
 use Rattle.tj_words.specs.Words.Lists.{All, AreApart}
 use Rattle.tj_words.specs.LawParts.Meaning.{StandsIn}
-use Rattle.tj_words.specs.LawParts.NamedCells.{finish_cells}
 use Rattle.tj_words.specs.Steps.StepEvents.{MayAct}
 use Rattle.tj_words.specs.SeatViews.TaskLists.{let_go}
 use Rattle.tj_words.specs.LawParts.Telling.{FinishSays, Tells}
 use Rattle.tj_words.specs.LawParts.TreeWords.{IsCell}
-use Rattle.tj_cells.specs.FilledCells.{became}
-use Rattle.tj_park.specs.Breaks.{OwnsStill}
 use Rattle.tj_park.specs.Records.{AlarmsLeave, HasNothingToCome, HasRecord}
 
 -- what becomes of the result of a task that ends like this
@@ -50,10 +47,6 @@ abbrev pub HaveApartNames : List Reference → Type 0
 HaveApartNames born = (c d : ℕ) (x y : Reference) → IsCell born c x → IsCell born d y → x.name ≡ y.name → c ≡ d
 
 module _ {B : Type 0} where
-  -- the record of a task that has ended: it owns nothing, and owes what it owned beside its result
-  abbrev pub ended_record : Rec B → Rec B
-  ended_record r = record r { owned = []; owed = drop 1 r.owned }
-
   -- the record tells, but for its ending, a point at which the body has given its last ask; the task is to end there as
   -- the record says, and the point at which it has ended is one of some round
   pub record IsEnding (program : Program B) (f : Finish) (r : Rec B) (v : View B) : Type 0 where
@@ -87,25 +80,6 @@ module _ {B : Type 0} where
     pub token_room : v.tokens + 1 < v.lot
     pub cleared_room : v.cleared < v.lot
     pub alarms : AlarmsLeave 0 v
-
-  -- the seat may close the result of t, which owns nothing else, by this ending
-  pub record MayCloseResult (program : Bool → B → Program B) (t : ℕ) (finish : Option Finish) (v : View B) : Type 0
-    where
-      pub about : About B
-      pub is_about : v.about ≡ Some about
-      pub owns : OwnsStill t [] v
-      pub no_hand : v.hand ≡ None
-      pub ending_of : Finish
-      pub is : finish ≡ Some ending_of
-      pub ending : Close
-      pub says : FinishSays v.born ending_of ending
-      pub knows : All (λ c. IsIn c v.known) (finish_cells finish)
-      pub becomes : IsToBecome (program about.strict about.root) v.born t (result_of ending)
-
-  -- the result of t is closed by the ending
-  abbrev pub ClosesResult : ℕ → Option Finish → View B → View B → Type 0
-  ClosesResult t finish v w = (f : Finish) (ending : Close) → finish ≡ Some f → FinishSays v.born f ending
-      → w ≡ became t t (result_of ending) v
 
   -- each promise that the task owed is broken, and its result is what the ending says; the task has left the seat,
   -- which knows of no other cells, and has nothing to come, as before

@@ -3,7 +3,7 @@ ghost use Rattle.std.specs.Prelude.{◌≡◌, ◌∷◌, None};
 ghost use Rattle.tj_body.specs.Programs.{program_of};
 ghost use Rattle.tj_words.specs.Calls.ExchangeViews.{MayGoBack};
 ghost use Rattle.tj_words.specs.SeatViews.SeatSteps.{IsCellOf, IsSeatOf};
-ghost use Rattle.tj_park.specs.JoinViews.{TakesBack};
+ghost use Rattle.tj_park.specs.Inner.JoinViews.{TakesBack};
 
 use tj_base::CellId;
 use tj_body::Body;

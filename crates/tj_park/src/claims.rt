@@ -1,9 +1,8 @@
 //! A ready task is claimed.
-ghost use Rattle.std.specs.Prelude.{◌≡◌, ◌∷◌, IfSome, None};
+ghost use Rattle.std.specs.Prelude.{◌≡◌, ◌≢◌, ◌∷◌, IfSome, None};
 ghost use Rattle.tj_body.specs.Programs.{program_of};
-ghost use Rattle.tj_words.specs.Calls.ExchangeViews.{KnowsTable};
+ghost use Rattle.tj_words.specs.Calls.ExchangeViews.{KnowsTable, missed};
 ghost use Rattle.tj_words.specs.SeatViews.SeatSteps.{IsCellOf, IsSeatOf};
-ghost use Rattle.tj_words.specs.SeatViews.Views.{stepped_on};
 ghost use Rattle.tj_park.specs.ChildViews.{Claimed};
 
 use tj_base::CellId;
@@ -11,14 +10,16 @@ use tj_body::Body;
 use tj_words::{Laid, Phase, Rec, WSeat};
 
 /// Claims a task, and takes its record. `None` comes only where this call's one exchange found a
-/// phase other than Ready.
+/// phase other than Ready; then the seat has this phase among its notes, and nothing else of it has
+/// changed.
 pub fn claim<B: Body>(laid: &Laid<B>, seat: &mut WSeat<B>, t: CellId) -> Option<Rec<B>>
     requires table { IsSeatOf laid.now seat.old }
     requires cell { IsCellOf laid.now t.0 }
     requires knows { KnowsTable seat.old.me.0 }
     ensures table { seat.new.table_id ≡ seat.old.table_id }
     ensures id { seat.new.id ≡ seat.old.id }
-    ensures none { result ≡ None → seat.new.me ≡ (stepped_on seat.old.me.0, seat.old.me.1) }
+    ensures none { result ≡ None → (p : Phase) × (p ≢ Phase.Ready)
+        × (seat.new.me ≡ (missed t.0 p seat.old.me.0, seat.old.me.1)) }
     ensures some { IfSome result (λ r. Claimed (program_of B.places B.awaits B.left B.asks B.then)
         t.0 r seat.old.me.0 seat.new.me.0) }
     ensures slot { IfSome result (λ _. seat.new.me.1 ≡ (t.0, None) ∷ seat.old.me.1) }

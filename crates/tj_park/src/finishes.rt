@@ -5,8 +5,9 @@ ghost use Rattle.std.specs.Prelude.{◌≡◌, ◌≢◌, ◌≤◌, [], ◌∷�
 ghost use Rattle.atomic_table.specs.Table.{rest};
 ghost use Rattle.tj_body.specs.Programs.{program_of};
 ghost use Rattle.tj_words.specs.SeatViews.SeatSteps.{IsCellOf, IsSameSeat, IsSeatOf};
-ghost use Rattle.tj_park.specs.Breaks.{HasBroken, MayBreak};
-ghost use Rattle.tj_park.specs.Endings.{ClosesResult, HasFinished, MayCloseResult, MayFinish, ended_record};
+ghost use Rattle.tj_park.specs.Inner.Breaks.{HasBroken, MayBreak};
+ghost use Rattle.tj_park.specs.Endings.{HasFinished, MayFinish};
+ghost use Rattle.tj_park.specs.Inner.Closings.{ClosesResult, MayCloseResult, ended_record};
 ghost use Rattle.tj_park.specs.Records.{HasNoRecord};
 
 use crate::wakes::wake;

@@ -2,7 +2,7 @@
 ghost use Rattle.std.specs.Prelude.{◌≡◌, ◌+◌, ◌≤◌, [], ◌∷◌};
 ghost use Rattle.tj_words.specs.Calls.ParkSteps.{new_push};
 ghost use Rattle.tj_words.specs.SeatViews.SeatSteps.{IsCellOf, IsSameSeat, IsSeatOf};
-ghost use Rattle.tj_park.specs.JoinViews.{IsAdded, LooksOn, join_steps};
+ghost use Rattle.tj_park.specs.Inner.JoinViews.{IsAdded, LooksOn, join_steps};
 
 use tj_base::CellId;
 use tj_body::Body;

@@ -4,7 +4,8 @@
 ghost use Rattle.std.specs.Prelude.{◌≡◌, ◌≤◌, IfOk, OnErr};
 ghost use Rattle.tj_words.specs.SeatViews.SeatSteps.{IsSeatOf, IsCellOf, IsSameSeat};
 ghost use Rattle.tj_words.specs.Words.Heads.{head_word};
-ghost use Rattle.tj_park.specs.Wakes.{MayWake, MayWakeFirst, WakesAll, WakesFirst, WakesSome, counted_in, lowered_for};
+ghost use Rattle.tj_park.specs.Wakes.{MayWake, WakesAll, WakesSome};
+ghost use Rattle.tj_park.specs.Inner.FirstWaiters.{MayWakeFirst, WakesFirst, counted_in, lowered_for};
 
 use std::alloc::Global;
 use std::sync::Wait;

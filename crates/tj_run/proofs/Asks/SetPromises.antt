@@ -1,6 +1,6 @@
 -- A running task sets a promise that it owns, or fails since it may not.
 use Rattle.std.proofs.Common.{◌≡◌, ◌≢◌, ◌⊎◌, ◌↔◌, ℕ, ◌+◌, ◌<◌, Bool, true, false, cond, nat_eq, List, []}
-use Rattle.std.proofs.Common.{◌∷◌, ◌++◌}
+use Rattle.std.proofs.Common.{◌∷◌, ◌++◌, length}
 use Rattle.std.proofs.Common.{map, Some, None, refl, sym, ap, ◌∙◌, subst, inl, inr, ⊎_elim, arith}
 use Rattle.tj_base.specs.ForkOrder.{Name}
 use Rattle.tj_base.specs.declared.cause.Cause.TheVariants as cause
@@ -230,15 +230,16 @@ module _ {B : Type 0} (program : Bool → B → Program B) (laid : Laid B) (r : 
               (let l = runs.worker.lot in let z = runs.worker.tokens in omega arith)
               (let l = runs.worker.lot in let z = runs.worker.cleared in omega arith) none_alarmed))
 
-          module _ (n : ℕ) (u : View B) (woke : HasWoken d.cell.0 n [] w u) (left : List CellId)
+          module _ (chain : List ℕ) (u : View B) (woke : HasWoken d.cell.0 chain [] w u) (left : List CellId)
               (left_is : numbers left ≡ without_cell d.cell.0 (numbers r.owned)) where
             abbrev woken : View B → View B
             woken z = record z {
               steps = u.steps;
-              plain_loads = z.plain_loads + n;
+              plain_loads = z.plain_loads + length chain;
               shuts = without d.cell.0 z.shuts;
               rest = None;
               closed = d.cell.0 ∷ z.closed;
+              notes = u.notes;
             }
 
             abbrev now : View B
@@ -421,13 +422,13 @@ module _ {B : Type 0} (program : Bool → B → Program B) (laid : Laid B) (r : 
               (subst (λ s. MayWake (held_at r.held k).cell.0 (m.0, s)) (sym slots)
               (set_wakes program laid r k y me runs asked law its_sort tell its_own m.0 became_so))
 
-          pub sets_goes : (n : ℕ) (u : SeatMe B) → HasWoken h.cell.0 n [] m.0 u.0 → u.1 ≡ m.1
+          pub sets_goes : (chain : List ℕ) (u : SeatMe B) → HasWoken h.cell.0 chain [] m.0 u.0 → u.1 ≡ m.1
               → (left : List CellId)
               → numbers left ≡ without_cell h.cell.0 (numbers r.owned)
               → Goes program laid next.Runs (record r { owned = left; answer = answer.Done }) me.0 u
-          sets_goes n u woke stays left left_is =
+          sets_goes chain u woke stays left left_is =
               subst (λ (z : SeatMe B). Goes program laid next.Runs (record r { owned = left; answer = answer.Done })
               me.0 z) (λ i. (u.0, sym (stays ∙ slots) i))
-              (set_goes program laid r k y me runs asked law its_sort tell its_own m.0 became_so n u.0
-              (subst (λ (z : Held). HasWoken z.cell.0 n [] m.0 u.0) is woke) left
+              (set_goes program laid r k y me runs asked law its_sort tell its_own m.0 became_so chain u.0
+              (subst (λ (z : Held). HasWoken z.cell.0 chain [] m.0 u.0) is woke) left
               (left_is ∙ ap (λ (z : Held). without_cell z.cell.0 (numbers r.owned)) is))

@@ -23,10 +23,11 @@ use Rattle.tj_words.specs.SeatViews.SeatSteps.{SeatMe}
 use Rattle.tj_words.specs.Words.Values.{fill_in, tag_word}
 use Rattle.tj_cells.specs.FilledCells.{IsFilledWith, MayFill, MayGiveUp, became}
 use Rattle.tj_cells.proofs.ClosingViews.{cell_became, fill_bits, fill_known, fill_tag, may_bits, may_tag, says_one}
-use Rattle.tj_park.specs.Breaks.{HasBroken}
-use Rattle.tj_park.specs.Endings.{MayCloseResult, MayFinish, ended_record, result_of}
+use Rattle.tj_park.specs.Inner.Breaks.{HasBroken}
+use Rattle.tj_park.specs.Endings.{MayFinish, result_of}
+use Rattle.tj_park.specs.Inner.Closings.{MayCloseResult, ended_record}
 use Rattle.tj_park.specs.Records.{HasNoRecord}
-use Rattle.tj_park.specs.Wakes.{HasWoken, MayWake}
+use Rattle.tj_park.specs.Wakes.{HasWoken, MayWake, WakesAll}
 use Rattle.tj_park.proofs.BreakSteps.{none_broken}
 use Rattle.tj_park.proofs.EndSteps as steps
 use Rattle.tj_park.proofs.ResultCloses.{filled_closes, may_close_last, may_fill_last}
@@ -44,11 +45,18 @@ alone_rest (x ∷ (y ∷ l)) e = absurd (cc)
 
 -- a seat that shut a chain that was empty has woken nobody
 pub nobody_woken : {B : Type 0} (cells p : ℕ) (h : Head) (v w : View B) → h ≡ head.Empty → v.rest ≡ None
-    → (h ≡ head.Shut → w ≡ found_taken p v) → (h ≢ head.Shut → TakesChain cells p h v w) → HasWoken p 0 [] v w
+    → (h ≡ head.Shut → w ≡ found_taken p v) → (h ≢ head.Shut → TakesChain cells p h v w) → HasWoken p [] [] v w
 nobody_woken {B} cells p h v w is none again takes =
-    (woke_all {P = Unit {0}} (λ a t b. Unit {0}) cells p h 0 v w tt tt
-    (waking_at_first {P = Unit {0}} (λ a t b. Unit {0}) cells p h v w tt none again takes)
-    (λ t e. let z = sym is ∙ e in absurd (cc))).woke
+    subst (λ l. HasWoken p l [] v w) (is_empty all.chain all.all) all.woke
+  where
+    is_empty : (l : List ℕ) → length l ≡ 0 → l ≡ []
+    is_empty [] e = refl
+    is_empty (x ∷ l) e = absurd (cc)
+
+    all : WakesAll {P = Unit {0}} (λ a t b. Unit {0}) p 0 v w tt tt
+    all = woke_all {P = Unit {0}} (λ a t b. Unit {0}) cells p h 0 v w tt tt
+        (waking_at_first {P = Unit {0}} (λ a t b. Unit {0}) cells p h v w tt none again takes)
+        (λ t e. let z = sym is ∙ e in absurd (cc))
 
 module _ {B : Type 0} (program : Bool → B → Program B) (laid : Laid B) (r : Rec B) (f : Fill) (me : SeatMe B)
     (runs : RunsTask laid r me) (closing : IsClosing (table_program program laid) me.0 r (finish.Done f))
@@ -157,9 +165,9 @@ module _ {B : Type 0} (program : Bool → B → Program B) (laid : Laid B) (r : 
                 m5 over_is
 
             -- nobody was there, and the token is given up
-            module _ (m6 : SeatMe B) (woke : HasWoken t 0 [] m5.0 m6.0) (mine : m6.1 ≡ m5.1) where
-              woke_is : HasWoken t 0 [] (ended t done_view) m6.0
-              woke_is = steps.woke_then program t r' me.0 may written ordered me.0 broken (rest me.1) no_other 0 m5
+            module _ (m6 : SeatMe B) (woke : HasWoken t [] [] m5.0 m6.0) (mine : m6.1 ≡ m5.1) where
+              woke_is : HasWoken t [] [] (ended t done_view) m6.0
+              woke_is = steps.woke_then program t r' me.0 may written ordered me.0 broken (rest me.1) no_other [] m5
                   m6.0 over_is woke
 
               mine_is : m6.1 ≡ rest me.1
@@ -167,14 +175,14 @@ module _ {B : Type 0} (program : Bool → B → Program B) (laid : Laid B) (r : 
 
               pub lowers_next : MayLowerLive program m6
               lowers_next = subst (λ s. MayLowerLive program (m6.0, s)) (sym mine_is)
-                  (steps.may_lower program t r' me.0 may written ordered me.0 broken (rest me.1) no_other 0 m6.0
+                  (steps.may_lower program t r' me.0 may written ordered me.0 broken (rest me.1) no_other [] m6.0
                   woke_is)
 
               pub left_so : (m7 : SeatMe B) → m7 ≡ lowered_with m6.0 m6.1 → IsLeft laid me.0 m7
               left_so m7 e = let lowers : m7 ≡ lowered_with m6.0 (rest me.1)
                   = e ∙ ap (λ s. lowered_with m6.0 s) mine_is in
                   ended_left program laid r (finish.Done f) me runs closing m7
-                  (steps.has_finished program t r' me.0 may written ordered me.0 broken (rest me.1) no_other 0 m6.0
+                  (steps.has_finished program t r' me.0 may written ordered me.0 broken (rest me.1) no_other [] m6.0
                   woke_is m7 lowers)
-                  (steps.same_slots program t r' me.0 may written ordered me.0 broken (rest me.1) no_other 0 m6.0
+                  (steps.same_slots program t r' me.0 may written ordered me.0 broken (rest me.1) no_other [] m6.0
                   woke_is m7 lowers)

@@ -88,7 +88,7 @@ loop-p-preserved g c = let ps = c.args.promises.now in let i = c.loop-p.p-index 
       limit = c.wake.ensures.limit ∙ c.loop-p.invariant.limit;
       broken = one_broken (program_of g.B.Body.places g.B.Body.awaits g.B.Body.left g.B.Body.asks g.B.Body.then)
           c.args.t.0 ps (drop (i + 1) ps) (get_or ps i (cell 0)) c.args.seat.now.me.0 c.loop-p.seat.me.0
-          c.requires.may h c.break_off.new.seat.me.0 c.break_off.ensures.view c.in_ok-wake.field-0 c.wake.new.seat.me.0 woke.woke;
+          c.requires.may h c.break_off.new.seat.me.0 c.break_off.ensures.view woke.chain c.wake.new.seat.me.0 woke.woke;
     }
 
 pub returns-clause-seat : goal.returns-clause-seat

@@ -1,6 +1,6 @@
 use Rattle.std.proofs.Common.{◌≡◌, drop}
 use Rattle.tj_words.specs.SeatViews.SeatSteps.{IsSameSeat}
-use Rattle.tj_park.specs.Breaks.{HasBroken}
+use Rattle.tj_park.specs.Inner.Breaks.{HasBroken}
 use Rattle.tj_park.proofs.finishes.break_promises.Given as goal
 
 -- the promises from this one on are left, and the others are broken

@@ -2,7 +2,7 @@ use Rattle.std.proofs.Common.{◌≡◌, ◌∙◌, [], ap, subst, sym}
 use Rattle.atomic_table.specs.Table.{rest}
 use Rattle.tj_body.specs.Programs.{program_of}
 use Rattle.tj_words.specs.Calls.LiveViews.{MayLowerLive, lowered_with}
-use Rattle.tj_park.specs.Breaks.{HasBroken, MayBreak}
+use Rattle.tj_park.specs.Inner.Breaks.{HasBroken, MayBreak}
 use Rattle.tj_park.proofs.EndSteps.{slice_rest, is_cell, may_break, may_close, closed_is, laid_is, may_end_then}
 use Rattle.tj_park.proofs.EndSteps.{ended_is, about_woken, may_wake_then, woke_then, may_lower, has_finished}
 use Rattle.tj_park.proofs.EndSteps.{same_slots}
@@ -126,7 +126,7 @@ live_down-requires-clause-may g c κs within = let m = c.requires.may in
     (subst (λ l. HasBroken c.args.t.0 l [] c.args.seat.now.me.0 c.break_promises.new.seat.me.0)
     (slice_rest c.items.result.now c.args.rec.owned c.items.ensures) c.in_ok-break_promises.ensures.broken)
     (rest c.args.seat.now.me.1) c.requires.others
-    c.in_ok-wake.field-0 c.put_phase.new.seat.me c.wake.new.seat.me.0 ended c.in_ok-wake.ensures.woke.woke in
+    c.in_ok-wake.ensures.woke.chain c.put_phase.new.seat.me c.wake.new.seat.me.0 ended c.in_ok-wake.ensures.woke.woke in
     let mine : c.wake.new.seat.me.1 ≡ rest c.args.seat.now.me.1
     = c.wake.ensures.seat.2 ∙ ap (λ m. m.1) ended in
     subst (λ s. MayLowerLive (program_of g.B.Body.places g.B.Body.awaits g.B.Body.left g.B.Body.asks g.B.Body.then)
@@ -136,7 +136,7 @@ live_down-requires-clause-may g c κs within = let m = c.requires.may in
     (subst (λ l. HasBroken c.args.t.0 l [] c.args.seat.now.me.0 c.break_promises.new.seat.me.0)
     (slice_rest c.items.result.now c.args.rec.owned c.items.ensures) c.in_ok-break_promises.ensures.broken)
     (rest c.args.seat.now.me.1) c.requires.others
-    c.in_ok-wake.field-0 c.wake.new.seat.me.0 woke)
+    c.in_ok-wake.ensures.woke.chain c.wake.new.seat.me.0 woke)
 
 pub returns-clause-ended : goal.returns-clause-ended
 returns-clause-ended g c = let m = c.requires.may in
@@ -165,7 +165,7 @@ returns-clause-ended g c = let m = c.requires.may in
     (subst (λ l. HasBroken c.args.t.0 l [] c.args.seat.now.me.0 c.break_promises.new.seat.me.0)
     (slice_rest c.items.result.now c.args.rec.owned c.items.ensures) c.in_ok-break_promises.ensures.broken)
     (rest c.args.seat.now.me.1) c.requires.others
-    c.in_ok-wake.field-0 c.put_phase.new.seat.me c.wake.new.seat.me.0 ended c.in_ok-wake.ensures.woke.woke in
+    c.in_ok-wake.ensures.woke.chain c.put_phase.new.seat.me c.wake.new.seat.me.0 ended c.in_ok-wake.ensures.woke.woke in
     let mine : c.wake.new.seat.me.1 ≡ rest c.args.seat.now.me.1
     = c.wake.ensures.seat.2 ∙ ap (λ m. m.1) ended in
     has_finished (program_of g.B.Body.places g.B.Body.awaits g.B.Body.left g.B.Body.asks g.B.Body.then)
@@ -173,7 +173,7 @@ returns-clause-ended g c = let m = c.requires.may in
     (subst (λ l. HasBroken c.args.t.0 l [] c.args.seat.now.me.0 c.break_promises.new.seat.me.0)
     (slice_rest c.items.result.now c.args.rec.owned c.items.ensures) c.in_ok-break_promises.ensures.broken)
     (rest c.args.seat.now.me.1) c.requires.others
-    c.in_ok-wake.field-0 c.wake.new.seat.me.0 woke c.live_down.new.seat.me
+    c.in_ok-wake.ensures.woke.chain c.wake.new.seat.me.0 woke c.live_down.new.seat.me
     (c.live_down.ensures.me ∙ ap (λ s. lowered_with c.wake.new.seat.me.0 s) mine)
 
 pub returns-in_err-break_promises-clause-about : goal.returns-in_err-break_promises-clause-about
@@ -238,7 +238,7 @@ returns-clause-slots g c = let m = c.requires.may in
     (subst (λ l. HasBroken c.args.t.0 l [] c.args.seat.now.me.0 c.break_promises.new.seat.me.0)
     (slice_rest c.items.result.now c.args.rec.owned c.items.ensures) c.in_ok-break_promises.ensures.broken)
     (rest c.args.seat.now.me.1) c.requires.others
-    c.in_ok-wake.field-0 c.put_phase.new.seat.me c.wake.new.seat.me.0 ended c.in_ok-wake.ensures.woke.woke in
+    c.in_ok-wake.ensures.woke.chain c.put_phase.new.seat.me c.wake.new.seat.me.0 ended c.in_ok-wake.ensures.woke.woke in
     let mine : c.wake.new.seat.me.1 ≡ rest c.args.seat.now.me.1
     = c.wake.ensures.seat.2 ∙ ap (λ m. m.1) ended in
     same_slots (program_of g.B.Body.places g.B.Body.awaits g.B.Body.left g.B.Body.asks g.B.Body.then)
@@ -246,5 +246,5 @@ returns-clause-slots g c = let m = c.requires.may in
     (subst (λ l. HasBroken c.args.t.0 l [] c.args.seat.now.me.0 c.break_promises.new.seat.me.0)
     (slice_rest c.items.result.now c.args.rec.owned c.items.ensures) c.in_ok-break_promises.ensures.broken)
     (rest c.args.seat.now.me.1) c.requires.others
-    c.in_ok-wake.field-0 c.wake.new.seat.me.0 woke c.live_down.new.seat.me
+    c.in_ok-wake.ensures.woke.chain c.wake.new.seat.me.0 woke c.live_down.new.seat.me
     (c.live_down.ensures.me ∙ ap (λ s. lowered_with c.wake.new.seat.me.0 s) mine)

@@ -1,5 +1,5 @@
 use Rattle.tj_words.specs.SeatViews.SeatSteps.{IsSameSeat}
-use Rattle.tj_park.specs.JoinViews.{pushes_left}
+use Rattle.tj_park.specs.Inner.JoinViews.{pushes_left}
 use Rattle.tj_park.proofs.Joining.{Joining}
 use Rattle.tj_park.proofs.join.join_chain.Given as goal
 

@@ -24,9 +24,9 @@ wake_first-first-requires-clause-may g c κs within = let i = c.loop-first.invar
     let l = first_task c.args.laid.now.cells c.loop-first.first c.in-Task.t k.left k.begins c.in-Task.is in
     let old = c.args.seat.now.me in let now = c.loop-first.seat.me in record {
       wakes = subst (λ s. MayWakeTasks (now.0, s)) (sym i.seat.2)
-          (may_go_on c.args.p.0 c.loop-first.woken k.left old.0 now.0 old.1 c.requires.may.wakes k.woke);
+          (may_go_on c.args.p.0 k.front k.left old.0 now.0 old.1 c.requires.may.wakes k.woke);
       left = l.0;
-      first = rest_now c.args.p.0 c.loop-first.woken c.in-Task.t.0 k.left l.0 old.0 now.0 k.woke l.1;
+      first = rest_now c.args.p.0 c.in-Task.t.0 k.front k.left l.0 old.0 now.0 k.woke l.1;
     }
 
 pub put-requires : goal.put-requires

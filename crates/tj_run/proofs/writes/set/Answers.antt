@@ -99,5 +99,5 @@ returns-clause-goes g c = let l = c.args.laid.now in let a = c.requires.asked in
     c.names_and_cells.ensures.cells (c.take_out.ensures.found.0 c.if-not-take_out.false)
     c.fill_at-value.result (c.fill_at-value.ensures ∙ ap (λ z. fill_at z c.args.v) c.items-2.ensures)
     c.fill.new.seat.me c.fill.ensures.view c.fill.ensures.seat.2
-    c.in_ok-wake.field-0 c.wake.new.seat.me woke.woke c.wake.ensures.seat.2
+    woke.chain c.wake.new.seat.me woke.woke c.wake.ensures.seat.2
     c.take_out.new.cells (c.take_out.ensures.left c.if-not-take_out.false)
