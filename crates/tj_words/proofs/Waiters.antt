@@ -1,5 +1,6 @@
 -- No lost wake: chains of waiters, LIVE, STOP and OTHERS.
 pub mod ChainLists
+pub mod ChainSeats
 pub mod ChainFacts
 pub mod ChainCells
 pub mod ChainHeads

@@ -1,3 +1,4 @@
--- What only proofs speak of. No public clause does.
+-- What only proofs and private functions speak of. No public clause does.
 pub mod ChainSentences
 pub mod TreeDraws
+pub mod ShownCells

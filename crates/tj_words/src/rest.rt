@@ -6,7 +6,7 @@ ghost use Rattle.tj_words.specs.AtRest.RestingSeats.{MayRest};
 ghost use Rattle.tj_words.specs.AtRest.ClosedCells.{AreAlarmsOnCycles, AreAtRest, AreCyclesAlarmed};
 ghost use Rattle.tj_words.specs.AtRest.ClosedCells.{IsPromise, IsShown};
 ghost use Rattle.tj_words.specs.AtRest.RestMeaning.{HaveMeaning, AreCyclesOfMeaningAlarmed};
-ghost use Rattle.tj_words.specs.AtRest.ShownCells.{AreCellsOf, AreTableWords, cell_of};
+ghost use Rattle.tj_words.specs.Inner.ShownCells.{AreCellsOf, AreTableWords, cell_of};
 ghost use Rattle.std.specs.Slots.{IsFull, slots_items};
 
 use crate::closed::{Closed, RestCell};

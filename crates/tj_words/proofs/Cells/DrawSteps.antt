@@ -1,5 +1,5 @@
 -- A draw keeps the rule, whether it finds a cell left or not.
-use Rattle.std.proofs.Common.{◌≡◌, ◌⊎◌, ℕ, suc, ◌+◌, ◌%◌, ◌<◌, ◌≤◌, ◌^◌, min, Bool, List, [], ◌∷◌, ◌++◌, length}
+use Rattle.std.proofs.Common.{◌≡◌, ◌⊎◌, ℕ, suc, ◌+◌, ◌%◌, ◌<◌, ◌≤◌, ◌^◌, min, Bool, [], ◌∷◌, ◌++◌, length}
 use Rattle.std.proofs.Common.{length-set, set, Option, Some, None, refl, sym, ap, ◌∙◌, subst, inl, inr, ⊎_elim, arith}
 use Rattle.std.proofs.Common.{cond, eq-eqb, ne_eqb}
 use mathlib.Core.Option.{some, none, some-injective}
@@ -26,12 +26,7 @@ use Rattle.tj_words.specs.declared.view.Custody.{Custody}
 use Rattle.tj_words.specs.declared.view.Hand.{Hand}
 use Rattle.tj_words.specs.declared.view.View.{View}
 use Rattle.tj_words.specs.Words.Lists.{total}
-use Rattle.tj_words.specs.Words.Offsets.{word, count_at, live_at, others_at, stop_at, own_at, phase_at, once_at}
-use Rattle.tj_words.specs.Words.Offsets.{head_at}
-use Rattle.tj_words.specs.Words.Offsets.{next_at}
-use Rattle.tj_words.specs.Words.Heads.{head_in}
-use Rattle.tj_words.specs.Words.Owners.{owner_in}
-use Rattle.tj_words.specs.Words.Phases.{phase_in}
+use Rattle.tj_words.specs.Words.Offsets.{word, count_at}
 use Rattle.tj_words.specs.LawParts.Holding.{held_in, made_by}
 use Rattle.tj_words.specs.LawParts.Hands.{making}
 use Rattle.tj_words.specs.LawParts.LiveCount.{HasAlarmed, Holds}
@@ -47,7 +42,7 @@ use Rattle.tj_words.specs.Calls.DrawViews.{runs_on, new_task, new_tasks, new_slo
 use Rattle.tj_words.specs.Calls.DrawViews.{MayDraw}
 use Rattle.tj_words.specs.Calls.DrawViews.{FindsCell, FindsNone, draw_step}
 use Rattle.tj_words.proofs.Holders.HeldTasks.{none_some, one_some, makes_none, at_index}
-use Rattle.tj_words.proofs.Stores.SeatLists.{back, inside, word_else, word_here}
+use Rattle.tj_words.proofs.Stores.SeatLists.{back, inside}
 use Rattle.tj_words.proofs.Stores.SeatContents.{set_seats, seats_same}
 use Rattle.tj_words.proofs.Holders.TaskPlaces.{held_here, held_drawn}
 use Rattle.tj_words.proofs.Stores.StoreSteps.{may_store}

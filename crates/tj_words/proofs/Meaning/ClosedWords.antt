@@ -19,7 +19,7 @@ use Rattle.tj_words.specs.Words.Lists.{cell}
 use Rattle.tj_words.specs.Words.Offsets.{word}
 use Rattle.tj_words.specs.Words.Owners.{owner_number, owner_in}
 use Rattle.tj_words.specs.Words.Phases.{wait_code, phase_word, phase_in}
-use Rattle.tj_words.specs.AtRest.ShownCells.{task_in, maker_in}
+use Rattle.tj_words.specs.Inner.ShownCells.{task_in, maker_in}
 
 -- what stands at an index
 pub read_or : {A : Type 0} (l : List A) (i : ℕ) (a d : A) → get_elem? l i ≡ some a → get_or l i d ≡ a

@@ -1,7 +1,7 @@
 -- The cycles of waits of a meaning are those that closed words of it show; so each of them has a member that has
 -- alarmed.
-use Rattle.std.proofs.Common.{◌≡◌, ◌≢◌, ◌⊎◌, ℕ, zero, suc, ◌<◌, nat_eq, eqb-true, eq-eqb, true, List, [], ◌∷◌, map}
-use Rattle.std.proofs.Common.{length, get_or, Some, refl, sym, ap, ◌∙◌, subst, inl, inr, arith, Bool}
+use Rattle.std.proofs.Common.{◌≡◌, ℕ, zero, suc, ◌<◌, nat_eq, eqb-true, eq-eqb, true, List, [], ◌∷◌}
+use Rattle.std.proofs.Common.{length, get_or, refl, sym, ap, ◌∙◌, subst, inl, inr, arith, Bool}
 use Rattle.std.specs.Bool.{Decides}
 use mathlib.Core.Option.{some-injective, some-ne-none}
 use Rattle.tj_base.specs.Cycles as graph

@@ -13,7 +13,7 @@ use Rattle.tj_words.specs.Law.{Rule, IsRooted}
 use Rattle.tj_words.specs.AtRest.RestMeaning.{HaveMeaning}
 use Rattle.tj_words.specs.AtRest.RestShown.{AreSlots}
 use Rattle.tj_words.specs.AtRest.RestingSeats.{MayRest}
-use Rattle.tj_words.specs.AtRest.ShownCells.{AreCellsOf, AreTableWords, cell_of}
+use Rattle.tj_words.specs.Inner.ShownCells.{AreCellsOf, AreTableWords, cell_of}
 use Rattle.tj_words.proofs.Holders.HeldTasks.{at_index}
 use Rattle.tj_words.proofs.Meaning.RestingCells as cells
 use Rattle.tj_words.proofs.Meaning.RestingMeaning as meaning

@@ -22,15 +22,14 @@ use Rattle.tj_words.specs.declared.phase.Walk.TheVariants as walk
 use Rattle.tj_words.specs.declared.record.Rec.{Rec}
 use Rattle.tj_words.specs.declared.table.Key.{Key}
 use Rattle.tj_words.specs.declared.view.View.{View}
-use Rattle.tj_words.specs.AtRest.ClosedCells.{IsShown, Waits, HasAlarmed, Owns, Leads, AreAtRest, AreCyclesAlarmed}
-use Rattle.tj_words.specs.AtRest.ClosedCells.{IsStill}
+use Rattle.tj_words.specs.AtRest.ClosedCells.{IsShown, Waits, HasAlarmed, Leads, AreAtRest, AreCyclesAlarmed, IsStill}
 use Rattle.tj_words.specs.AtRest.ClosedCells.{AreAlarmsOnCycles, AreNamed}
 use Rattle.tj_words.specs.Law.{Rule}
 use Rattle.tj_words.specs.Words.Lists.{cell}
 use Rattle.tj_words.specs.Words.Offsets.{word, own_at, once_at}
 use Rattle.tj_words.specs.Words.Owners.{owner_in}
 use Rattle.tj_words.specs.AtRest.RestingSeats.{MayRest}
-use Rattle.tj_words.specs.AtRest.ShownCells.{AreCellsOf, cell_of, task_in, maker_in}
+use Rattle.tj_words.specs.Inner.ShownCells.{AreCellsOf, cell_of, task_in, maker_in}
 use Rattle.tj_words.specs.LawParts.ShownState.{phase_sort, sort_shown}
 use Rattle.tj_words.specs.LawParts.TreeWords.{IsCell, parent_word, tree_word, IsOfTree}
 use Rattle.tj_words.specs.declared.offsets.Once.{Once}

@@ -37,7 +37,7 @@ use Rattle.tj_words.specs.AtRest.RestMeaning.{names, IsPhaseAt, ShowsHistory, Te
 use Rattle.tj_words.specs.AtRest.RestMeaning.{tag_for}
 use Rattle.tj_words.specs.AtRest.RestShown.{AreSlots}
 use Rattle.tj_words.specs.AtRest.RestingSeats.{MayRest}
-use Rattle.tj_words.specs.AtRest.ShownCells.{AreCellsOf, cell_of}
+use Rattle.tj_words.specs.Inner.ShownCells.{AreCellsOf, cell_of}
 use Rattle.tj_words.specs.LawParts.ShownState.{phase_sort, reference_of, stage_there, sort_shown}
 use Rattle.tj_words.specs.LawParts.Telling.{ArePairs, HasName, HeldSays, Tells, TellsStage}
 use Rattle.tj_words.specs.LawParts.TreeWords.{IsCell}

@@ -12,8 +12,8 @@ use Rattle.tj_base.proofs.Ways.{reach_front}
 use Rattle.tj_base.specs.declared.cell.CellId.{CellId}
 use Rattle.tj_base.specs.declared.cell.Sort.TheVariants as sort
 use Rattle.tj_body.specs.Programs.{Program}
-use Rattle.tj_core.specs.CoreState.{CellStage, CoreState, waits, walks, parked, alarmed, promise, ended, running, owner}
-use Rattle.tj_core.specs.CoreState.{stage, wait, blank, WaitStage, CellState, wait_of}
+use Rattle.tj_core.specs.CoreState.{CoreState, waits, walks, alarmed, promise, owner}
+use Rattle.tj_core.specs.CoreState.{stage, WaitStage, CellState, wait_of}
 use Rattle.tj_core.specs.WaitGraph.{Leads, Reaches}
 use Rattle.tj_core.specs.declared.walk.Walker.{Walker}
 use Rattle.tj_core.specs.declared.walk.Way.{Way}

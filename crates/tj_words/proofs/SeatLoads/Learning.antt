@@ -18,6 +18,7 @@ use Rattle.tj_words.specs.LawParts.Meaning.{IsWritten, IsFilled}
 use Rattle.tj_words.specs.LawParts.Contents.{Contents, drawn_in, hand_of, tag_in, bits_in}
 use Rattle.tj_words.specs.Law.{Law}
 use Rattle.tj_words.proofs.Stores.SeatLists.{each_set}
+use Rattle.tj_words.proofs.Waiters.ChainSeats.{chains_seats}
 
 -- what a seat knows
 pub record Knowing : Type 0 where
@@ -108,24 +109,9 @@ module _ {B : Type 0} (program : Program B) (cells : ℕ) (x : Contents B) (law 
       closed = o.closed;
       undrawn = o.undrawn;
     });
-    chains = (let c = law.chains in record {
-      line = c.line;
-      pusher = c.pusher;
-      taker = c.taker;
-      shutter = c.shutter;
-      heads = c.heads;
-      linked = c.linked;
-      parked = c.parked;
-      placed = c.placed;
-      tagged = c.tagged;
-      due = c.due;
-      pushing = c.pushing;
-      to_push = c.to_push;
-      resting = c.resting;
-      rest = c.rest;
-      stays_shut = each_set _ x.seats.closed id k.closed c.stays_shut so.closed;
-      grows = each_set _ x.seats.found id k.found c.grows so.found;
-    });
+    chains = (let c = law.chains in chains_seats c c.due c.pushing c.to_push c.resting c.rest
+        (each_set _ x.seats.closed id k.closed c.stays_shut so.closed)
+        (each_set _ x.seats.found id k.found c.grows so.found));
     live_count = (let c = law.live_count in record {
       counted = c.counted;
       stays_at_rest = each_set _ x.seats.rested id k.rested c.stays_at_rest so.rested;

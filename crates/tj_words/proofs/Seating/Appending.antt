@@ -24,6 +24,7 @@ use Rattle.tj_words.specs.LawParts.Contents.{core_shown}
 use Rattle.tj_words.specs.Law.{Law}
 use Rattle.tj_words.proofs.Stores.SeatLists.{back, each_snoc, of_seat_snoc}
 use Rattle.tj_words.proofs.SeatLoads.Learning.{Knowing, IsSo}
+use Rattle.tj_words.proofs.Waiters.ChainSeats.{chains_seats}
 
 pub hand_snoc : (hands : List (Option Hand)) (c : ℕ) → hand_in (hands ++ None ∷ []) c ≡ hand_in hands c
 hand_snoc [] c = refl
@@ -161,24 +162,14 @@ module _ {B : Type 0} (program : Program B) (cells : ℕ) (x : Contents B) (law 
           closed = o.closed;
           undrawn = o.undrawn;
         });
-    chains = (let c = law.chains in record {
-      line = c.line;
-      pusher = c.pusher;
-      taker = c.taker;
-      shutter = c.shutter;
-      heads = c.heads;
-      linked = c.linked;
-      parked = c.parked;
-      placed = c.placed;
-      tagged = c.tagged;
-      due = λ p n s. of_seat_snoc _ x.seats.shuts [] (c.shutter p) (c.due p n s);
-      pushing = λ t j e. of_seat_snoc _ x.seats.pushes [] j (c.pushing t j e);
-      to_push = each_snoc _ x.seats.pushes [] c.to_push (λ j e i. absurd i);
-      resting = λ p e n. of_seat_snoc _ x.seats.rests None (c.taker p) (c.resting p e n);
-      rest = each_snoc _ x.seats.rests None c.rest (λ j r e. cc);
-      stays_shut = each_snoc _ x.seats.closed k.closed c.stays_shut (λ j. so.closed);
-      grows = each_snoc _ x.seats.found k.found c.grows (λ j. so.found);
-    });
+    chains = (let c = law.chains in chains_seats c
+        (λ p n s. of_seat_snoc _ x.seats.shuts [] (c.shutter p) (c.due p n s))
+        (λ t j e. of_seat_snoc _ x.seats.pushes [] j (c.pushing t j e))
+        (each_snoc _ x.seats.pushes [] c.to_push (λ j e i. absurd i))
+        (λ p e n. of_seat_snoc _ x.seats.rests None (c.taker p) (c.resting p e n))
+        (each_snoc _ x.seats.rests None c.rest (λ j r e. cc))
+        (each_snoc _ x.seats.closed k.closed c.stays_shut (λ j. so.closed))
+        (each_snoc _ x.seats.found k.found c.grows (λ j. so.found)));
     live_count = (let c = law.live_count in record {
       counted = (let e = c.counted in let t = total_snoc x.seats.tokens 0 in omega arith);
       stays_at_rest = each_snoc _ x.seats.rested k.rested c.stays_at_rest (λ j. so.rested);

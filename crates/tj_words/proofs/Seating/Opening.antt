@@ -1,6 +1,6 @@
 -- A new table meets the rule.
-use Rattle.std.proofs.Common.{◌≡◌, ◌≢◌, ◌⊎◌, ℕ, zero, suc, ◌+◌, ◌*◌, ◌-◌, ◌<◌, ◌≤◌, min, Bool, true, false, List, []}
-use Rattle.std.proofs.Common.{◌∷◌, ◌++◌, map, length, replicate, Option, Some, None, refl, sym, ap, ◌∙◌, subst, inl}
+use Rattle.std.proofs.Common.{◌≡◌, ◌⊎◌, ℕ, zero, suc, ◌+◌, ◌-◌, ◌<◌, ◌≤◌, min, Bool, false, List, []}
+use Rattle.std.proofs.Common.{◌∷◌, map, length, replicate, Option, Some, None, refl, sym, ap, ◌∙◌, subst, inl}
 use Rattle.std.proofs.Common.{inr, ⊎_elim, arith, cond, nat_lt, le-ltb, ne_eqb, ◌↔◌}
 use mathlib.Core.Option.{some, none, some-injective, some-ne-none}
 use mathlib.Core.Option as maybe
@@ -24,8 +24,8 @@ use Rattle.tj_words.specs.declared.record.Rec.{Rec}
 use Rattle.tj_words.specs.declared.table.Key.{Key}
 use Rattle.tj_words.specs.declared.view.Hand.{Hand}
 use Rattle.tj_words.specs.declared.view.Custody.{Custody}
-use Rattle.tj_words.specs.Words.Lists.{Each, All, cell, numbers, AreApart}
-use Rattle.tj_words.specs.LawParts.Holding.{Slots, home_in, held_in, owned_by, made_by}
+use Rattle.tj_words.specs.Words.Lists.{All, AreApart}
+use Rattle.tj_words.specs.LawParts.Holding.{home_in, owned_by, made_by}
 use Rattle.tj_words.specs.LawParts.Hands.{IsThere, Hands, hand_in}
 use Rattle.tj_words.specs.LawParts.NamedCells.{NamesCells, record_cells}
 use Rattle.tj_words.specs.LawParts.TreeWords.{IsCell, Births, IsForkTree, TreeWords, tree_word, IsOfTree}
@@ -33,7 +33,7 @@ use Rattle.tj_words.specs.LawParts.Custodies.{Custodies, OwnedLists, IsKept}
 use Rattle.tj_words.specs.LawParts.OnceWords.{OnceWords}
 use Rattle.tj_words.specs.LawParts.Chains.{Chains, parked_phase}
 use Rattle.tj_words.specs.LawParts.LiveCount.{live_tasks, HasWakeToCome}
-use Rattle.tj_words.specs.LawParts.Contents.{Contents, contents_of, seats_have, core_shown, home_of, owned_of, made_of}
+use Rattle.tj_words.specs.LawParts.Contents.{Contents, seats_have, core_shown, owned_of, made_of}
 use Rattle.tj_words.specs.Law.{IsRooted, Law, Rule, IsSeat, most_cells}
 use Rattle.tj_body.specs.Programs.{Program, root_task}
 use Rattle.tj_body.specs.RoundPoints.{InRounds, TasksStart}

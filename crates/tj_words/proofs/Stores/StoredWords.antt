@@ -1,11 +1,10 @@
 -- What the words say after a store of one of them.
-use Rattle.std.proofs.Common.{◌≡◌, ◌≢◌, ℕ, ◌<◌, ◌≤◌, ◌^◌, Bool, cond, nat_eq, List, length, set}
+use Rattle.std.proofs.Common.{◌≡◌, ◌≢◌, ℕ, ◌<◌, Bool, cond, nat_eq, List, length, set}
 use Rattle.std.proofs.Common.{refl, sym, ap, ◌∙◌, eq-eqb, ne_eqb}
 use mathlib.Core.Logic.{dite}
 use native.Mathlib.Decide.{ℕ_discrete}
 use Rattle.tj_base.specs.Puts.{put}
 use Rattle.tj_words.specs.declared.offsets.Once.{Once}
-use Rattle.tj_words.specs.declared.offsets.Once.TheVariants as once
 use Rattle.tj_words.specs.Words.Offsets.{word, count_at, live_at, others_at, stop_at, own_at, phase_at, once_at}
 use Rattle.tj_words.specs.Words.Offsets.{head_at, next_at}
 use Rattle.tj_words.specs.Words.Heads.{head_in}
@@ -14,7 +13,7 @@ use Rattle.tj_words.specs.Words.Owners.{owner_in}
 use Rattle.tj_words.specs.LawParts.Contents.{WordsSay, words_say}
 use Rattle.tj_words.proofs.Stores.SeatLists.{word_else, word_here}
 use Rattle.tj_words.proofs.Stores.TableWords.{TableWord, Count, Live, Others, Stop, Own, Phase, Written, Head, Next}
-use Rattle.tj_words.proofs.Stores.TableWords.{place}
+use Rattle.tj_words.proofs.Stores.TableWords.{index}
 use Rattle.tj_words.proofs.Stores.TableWords.{is_word, is_word_here, is_word_else, same_cell, same_word}
 
 -- what is so of each word that is written once, where it becomes a of one
@@ -51,15 +50,15 @@ said words w n = record {
 
 module _ (ws : List ℕ) (n : ℕ) where
   -- what is read of a word x after the store of w
-  read_store : {A : Type 0} (read : ℕ → A) (w x : TableWord) → place w < length ws
-      → read (word (set ws (place w) n) (place x)) ≡ cond (is_word x w) (read n) (read (word ws (place x)))
-  read_store read w x l = dite (ℕ_discrete (place x) (place w))
-      (λ e. ap read (ap (λ k. word (set ws (place w) n) k) e ∙ word_here ws (place w) n l)
-      ∙ sym (ap (λ (b : Bool). cond b (read n) (read (word ws (place x)))) (is_word_here w x e)))
-      (λ e. ap read (word_else ws (place w) (place x) n e)
-      ∙ sym (ap (λ (b : Bool). cond b (read n) (read (word ws (place x)))) (is_word_else w x e)))
+  read_store : {A : Type 0} (read : ℕ → A) (w x : TableWord) → index w < length ws
+      → read (word (set ws (index w) n) (index x)) ≡ cond (is_word x w) (read n) (read (word ws (index x)))
+  read_store read w x l = dite (ℕ_discrete (index x) (index w))
+      (λ e. ap read (ap (λ k. word (set ws (index w) n) k) e ∙ word_here ws (index w) n l)
+      ∙ sym (ap (λ (b : Bool). cond b (read n) (read (word ws (index x)))) (is_word_here w x e)))
+      (λ e. ap read (word_else ws (index w) (index x) n e)
+      ∙ sym (ap (λ (b : Bool). cond b (read n) (read (word ws (index x)))) (is_word_else w x e)))
 
-  say : (w : TableWord) → place w < length ws → words_say (set ws (place w) n) ≡ said (words_say ws) w n
+  say : (w : TableWord) → index w < length ws → words_say (set ws (index w) n) ≡ said (words_say ws) w n
   say w l j = record {
     count = read_store (λ k. k) w Count l j;
     live = read_store (λ k. k) w Live l j;

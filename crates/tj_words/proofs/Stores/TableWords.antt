@@ -1,4 +1,4 @@
--- The words of a table: no two of them stand at one place.
+-- The words of a table: no two of them stand at one index.
 use Rattle.std.proofs.Common.{◌≡◌, ◌≢◌, ℕ, zero, suc, ◌+◌, ◌*◌, ◌≤◌, Bool, true, false, cond, nat_eq}
 use Rattle.std.proofs.Common.{refl, sym, ap, ◌∙◌, arith, eq-eqb, ne_eqb}
 use mathlib.Core.Logic.{dite}
@@ -21,16 +21,16 @@ pub data TableWord : Type 0 where
   Next : ℕ → TableWord
 
 -- where a word stands
-abbrev pub place : TableWord → ℕ
-place Count = count_at
-place Live = live_at
-place Others = others_at
-place Stop = stop_at
-place (Own c) = own_at c
-place (Phase c) = phase_at c
-place (Written c f) = once_at c f
-place (Head c) = head_at c
-place (Next c) = next_at c
+abbrev pub index : TableWord → ℕ
+index Count = count_at
+index Live = live_at
+index Others = others_at
+index Stop = stop_at
+index (Own c) = own_at c
+index (Phase c) = phase_at c
+index (Written c f) = once_at c f
+index (Head c) = head_at c
+index (Next c) = next_at c
 
 -- the words by tens: those of cell c are the ten after those of the cell before it, and the table's own end the first
 abbrev ten : TableWord → ℕ
@@ -66,7 +66,7 @@ word_by (suc c) k = cond (nat_eq k 0) (Own c) (cond (nat_eq k 1) (Phase c) (cond
     (cond (nat_eq k 5) (Written c once.Kid) (cond (nat_eq k 6) (Written c once.Depth)
     (cond (nat_eq k 7) (Written c once.Jump) (cond (nat_eq k 8) (Head c) (Next c)))))))))
 
--- the kind of a word, and which one of its kind it is: its cell, or its place where it is written once
+-- the kind of a word, and which one of its kind it is: its cell, or its index where it is written once
 abbrev kind : TableWord → ℕ
 kind Count = 0
 kind Live = 1
@@ -86,17 +86,17 @@ key (Head c) = c
 key (Next c) = c
 key w = 0
 
--- the place by both
+-- the index by both
 abbrev place_by : ℕ → ℕ → ℕ
 place_by k a = cond (nat_eq k 4) (own_at a) (cond (nat_eq k 5) (phase_at a) (cond (nat_eq k 6) a
     (cond (nat_eq k 7) (head_at a) (cond (nat_eq k 8) (next_at a) k))))
 
--- a word is told by its place, and its place by its kind
+-- a word is told by its index, and its index by its kind
 record IsToldBy (w : TableWord) : Type 0 where
-  at : place w + 6 ≡ 10 * ten w + rank w
+  at : index w + 6 ≡ 10 * ten w + rank w
   small : rank w ≤ 9
   back : word_by (ten w) (rank w) ≡ w
-  by : place w ≡ place_by (kind w) (key w)
+  by : index w ≡ place_by (kind w) (key w)
 
 told_by : (w : TableWord) → IsToldBy w
 told_by Count = record { at = refl; small = omega arith; back = refl; by = refl }
@@ -114,8 +114,8 @@ told_by (Written c once.Jump) = record { at = omega arith; small = omega arith; 
 told_by (Head c) = record { at = omega arith; small = omega arith; back = refl; by = refl }
 told_by (Next c) = record { at = omega arith; small = omega arith; back = refl; by = refl }
 
--- so two words that stand at one place are one
-pub same_word_at : (w x : TableWord) → place x ≡ place w → x ≡ w
+-- so two words that stand at one index are one
+pub same_word_at : (w x : TableWord) → index x ≡ index w → x ≡ w
 same_word_at w x e = let a = told_by w in let b = told_by x in let p = a.at in let q = b.at in let k = a.small in
     let l = b.small in let t : ten x ≡ ten w = omega arith in let r : rank x ≡ rank w = omega arith in
     sym b.back ∙ ((λ j. word_by (t j) (r j)) ∙ a.back)
@@ -129,7 +129,7 @@ abbrev once_of : TableWord → Once
 once_of (Written c f) = f
 once_of w = once.Tag
 
--- a place tells the cell and the word
+-- a index tells the cell and the word
 pub same_cell : (c d : ℕ) (f g : Once) → once_at d g ≡ once_at c f → d ≡ c
 same_cell c d f g e = ap cell_of (same_word_at (Written c f) (Written d g) e)
 
@@ -140,11 +140,11 @@ same_word c d f g e = ap once_of (same_word_at (Written c f) (Written d g) e)
 abbrev pub is_word : TableWord → TableWord → Bool
 is_word x w = cond (nat_eq (kind x) (kind w)) (nat_eq (key x) (key w)) false
 
-pub is_word_here : (w x : TableWord) → place x ≡ place w → is_word x w ≡ true
+pub is_word_here : (w x : TableWord) → index x ≡ index w → is_word x w ≡ true
 is_word_here w x e = let s = same_word_at w x e in
     λ j. cond (eq-eqb (kind x) (kind w) (ap kind s) j) (eq-eqb (key x) (key w) (ap key s) j) false
 
-pub is_word_else : (w x : TableWord) → place x ≢ place w → is_word x w ≡ false
+pub is_word_else : (w x : TableWord) → index x ≢ index w → is_word x w ≡ false
 is_word_else w x n = dite (ℕ_discrete (kind x) (kind w))
     (λ e. dite (ℕ_discrete (key x) (key w))
     (λ d. absurd (n ((told_by x).by ∙ ((λ j. place_by (e j) (d j)) ∙ sym (told_by w).by))))

@@ -20,6 +20,7 @@ use Rattle.tj_words.specs.Calls.ChainSteps.{with_next, without_push, rest_of}
 use Rattle.tj_words.proofs.Stores.SeatLists.{each_set, each_else, of_seat_here, of_seat_set}
 use Rattle.tj_words.proofs.Stores.StoreSteps.{put_here, put_else}
 use Rattle.tj_words.proofs.SeatLoads.KnowLoads.{all_cons}
+use Rattle.tj_words.proofs.Waiters.ChainSeats.{chains_seats}
 
 none_some : {P : Type 0} {A : Type 0} {a : A} {o : Option A} → o ≡ None → o ≡ Some a → P
 none_some a b = let e = sym a ∙ b in absurd (cc)
@@ -301,23 +302,8 @@ module _ (tag : ℕ → ℕ) (head next : ℕ → Head) (phase : ℕ → Phase) 
   -- the shut of a head that was shut already
   pub shuts_again : (p id : ℕ) (olds oldc : List ℕ) → get_elem? sl id ≡ some olds → get_elem? cl id ≡ some oldc
       → head p ≡ Shut → Chains tag head next phase pl (set sl id (without p olds)) rl (set cl id (p ∷ oldc)) fl
-  shuts_again p id olds oldc ats atc is_shut = record {
-    line = r.line;
-    pusher = r.pusher;
-    taker = r.taker;
-    shutter = r.shutter;
-    heads = r.heads;
-    linked = r.linked;
-    parked = r.parked;
-    placed = r.placed;
-    tagged = r.tagged;
-    due = λ q g n. of_seat_set (IsIn q) sl id (r.shutter q) olds (without p olds) ats
-        (in_without p q olds (λ z. n (ap head z ∙ is_shut))) (r.due q g n);
-    pushing = r.pushing;
-    to_push = r.to_push;
-    resting = r.resting;
-    rest = r.rest;
-    stays_shut = each_set (λ j l. All (λ q. head q ≡ Shut) l) cl id (p ∷ oldc) r.stays_shut
-        (all_cons (λ q. head q ≡ Shut) p oldc is_shut (r.stays_shut id oldc atc));
-    grows = r.grows;
-  }
+  shuts_again p id olds oldc ats atc is_shut = chains_seats r
+      (λ q g n. of_seat_set (IsIn q) sl id (r.shutter q) olds (without p olds) ats
+      (in_without p q olds (λ z. n (ap head z ∙ is_shut))) (r.due q g n)) r.pushing r.to_push r.resting r.rest
+      (each_set (λ j l. All (λ q. head q ≡ Shut) l) cl id (p ∷ oldc) r.stays_shut
+      (all_cons (λ q. head q ≡ Shut) p oldc is_shut (r.stays_shut id oldc atc))) r.grows

@@ -23,6 +23,7 @@ use Rattle.tj_words.specs.Calls.ParkSteps.{new_push, read_way}
 use Rattle.tj_words.proofs.Stores.StoreSteps.{put_here, put_else}
 use Rattle.tj_words.proofs.SeatLoads.KnowLoads.{all_cons}
 use Rattle.tj_words.proofs.Waiters.ChainHeads.{one_cell, any_without_push}
+use Rattle.tj_words.proofs.Waiters.ChainSeats.{chains_seats}
 use Rattle.tj_words.proofs.Stores.SeatLists.{each_set, each_else, of_seat_here, of_seat_set}
 use Rattle.tj_words.proofs.Waiters.ChainLists.{no_some, same_some, none_none, IsOfTask, all_without}
 use Rattle.tj_words.proofs.Waiters.ChainLists.{rest_is, rest_some}
@@ -248,37 +249,21 @@ module _ {tag : ℕ → ℕ} {head next : ℕ → Head} {phase : ℕ → Phase} 
   pub chains_read : (id : ℕ) (r0 : Rest) (way : Way) → get_elem? rests id ≡ some (Some r0)
       → IsFirstIn phase r0.tasks (parked_phase r0.cell way)
       → Chains tag head next phase pushes shuts (set rests id (Some (read_way way r0))) closed found
-  chains_read id r0 way at first = let f0 = c.rest id (Some r0) at r0 refl in record {
-    line = c.line;
-    pusher = c.pusher;
-    taker = c.taker;
-    shutter = c.shutter;
-    heads = c.heads;
-    linked = c.linked;
-    parked = c.parked;
-    placed = c.placed;
-    tagged = c.tagged;
-    due = c.due;
-    pushing = c.pushing;
-    to_push = c.to_push;
-    resting = λ q h n. of_seat_set (λ rest. (r : Rest) × (rest ≡ Some r) × (r.cell ≡ q)) rests id (c.taker q)
-        (Some r0)
-        (Some (read_way way r0)) at
-        (λ h. (read_way way r0, refl, ap (λ (z : Rest). z.cell) (same_some refl h.1) ∙ h.2))
-        (c.resting q h n);
-    rest = each_set (λ j o. (r : Rest) → o ≡ Some r → IsRest head phase c.line c.taker j r) rests id
-        (Some (read_way way r0)) c.rest
-        (λ r q. let e : read_way way r0 ≡ r = same_some refl q in
-        subst (IsRest head phase c.line c.taker id) e (record {
-          mine = f0.mine;
-          is_shut = f0.is_shut;
-          left = f0.left;
-          some = f0.some;
-          read = λ w k. subst (λ z. IsFirstIn phase r0.tasks (parked_phase r0.cell z)) (same_some refl k) first;
-        }));
-    stays_shut = c.stays_shut;
-    grows = c.grows;
-  }
+  chains_read id r0 way at first = let f0 = c.rest id (Some r0) at r0 refl in
+      chains_seats c c.due c.pushing c.to_push
+      (λ q h n. of_seat_set (λ rest. (r : Rest) × (rest ≡ Some r) × (r.cell ≡ q)) rests id (c.taker q) (Some r0)
+      (Some (read_way way r0)) at
+      (λ h. (read_way way r0, refl, ap (λ (z : Rest). z.cell) (same_some refl h.1) ∙ h.2)) (c.resting q h n))
+      (each_set (λ j o. (r : Rest) → o ≡ Some r → IsRest head phase c.line c.taker j r) rests id
+      (Some (read_way way r0)) c.rest
+      (λ r q. let e : read_way way r0 ≡ r = same_some refl q in
+      subst (IsRest head phase c.line c.taker id) e (record {
+        mine = f0.mine;
+        is_shut = f0.is_shut;
+        left = f0.left;
+        some = f0.some;
+        read = λ w k. subst (λ z. IsFirstIn phase r0.tasks (parked_phase r0.cell z)) (same_some refl k) first;
+      }))) c.stays_shut c.grows
 
   -- the store of TAG: a shut is to come
   pub chains_tag : (p n id : ℕ) (old : List ℕ) → n ≢ 0 → get_elem? shuts id ≡ some old

@@ -20,18 +20,13 @@ use Rattle.tj_words.specs.LawParts.Holding.{phase_of}
 use Rattle.tj_words.specs.LawParts.LiveCount.{DoesWalk}
 use Rattle.tj_words.specs.LawParts.Contents.{SeatsHave, Contents, words_say, seats_have}
 use Rattle.tj_words.specs.Law.{Law, Rule, IsSeat}
-use Rattle.tj_words.specs.Words.Offsets.{word, count_at, live_at, others_at, stop_at, own_at, phase_at, once_at}
-use Rattle.tj_words.specs.Words.Offsets.{head_at, next_at}
-use Rattle.tj_words.specs.Words.Owners.{owner_in}
-use Rattle.tj_words.specs.Words.Phases.{phase_in}
-use Rattle.tj_words.specs.Words.Heads.{head_in}
+use Rattle.tj_words.specs.Words.Offsets.{word, others_at}
 use Rattle.tj_words.specs.SeatViews.SeatSteps.{SeatMe}
 use Rattle.tj_words.specs.Steps.ShownParts.{parts_of}
 use Rattle.tj_words.specs.Steps.StepEvents.{MayAct, IsHeldWith}
 use Rattle.tj_words.specs.Calls.WalkViews.{turned, lowered, MayRaise, others_add, others_subtraction}
 use Rattle.tj_words.proofs.Stores.LawChanges.{law_counts}
 use Rattle.tj_words.proofs.Stores.SeatContents.{set_seats, seats_same}
-use Rattle.tj_words.proofs.Stores.SeatLists.{word_else, word_here}
 use Rattle.tj_words.proofs.Seating.Splitting.{total_set}
 use Rattle.tj_words.proofs.Events.StepFacts.{facts_after}
 use Rattle.tj_words.proofs.Stores.StoreSteps.{may_store, Stores, step_allowed}

@@ -2,7 +2,7 @@ use Rattle.std.proofs.Common.{◌<◌, ◌≤◌, min, length, arith, refl, ap, 
 use Rattle.std.specs.Slots.{slots_items}
 use lib.ListN.{length-set, get_elem?}
 use Rattle.tj_words.specs.Words.Offsets.{count_at}
-use Rattle.tj_words.specs.AtRest.ShownCells.{cell_of}
+use Rattle.tj_words.specs.Inner.ShownCells.{cell_of}
 use Rattle.tj_words.proofs.Meaning.ClosedWords.{read_at, filled_more, front_length, front_at}
 use Rattle.tj_words.proofs.rest.show_cells.Goals as goal
 

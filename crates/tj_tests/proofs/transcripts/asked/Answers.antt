@@ -6,7 +6,7 @@ use Rattle.tj_body.specs.Asks.{Fits, IsPlaced, IsNext, awaited}
 use Rattle.tj_eval.specs.Statements.{TaskState}
 use Rattle.tj_eval.specs.Bodies.{script_places, script_awaits, script_left, script_asks, script_then}
 use Rattle.tj_eval.specs.Inner.Laws.{script_obeys}
-use Rattle.tj_eval.proofs.transcripts.asked.Goals as goal
+use Rattle.tj_tests.proofs.transcripts.asked.Goals as goal
 
 -- the law of one ask, of what the call gave
 module _ (E : Type 0) (t : TaskState) (a : Answer) (new : TaskState)

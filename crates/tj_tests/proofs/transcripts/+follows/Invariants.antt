@@ -1,7 +1,7 @@
 use Rattle.std.proofs.Common.{◌≡◌, ◌<◌, MatchOption, ◌-◌, length}
 use Rattle.tj_body.specs.Asks.{awaited, begin}
 use Rattle.tj_eval.specs.Bodies.{script_awaits}
-use Rattle.tj_eval.proofs.transcripts.+follows.Given as goal
+use Rattle.tj_tests.proofs.transcripts.+follows.Given as goal
 
 -- how many transcripts are left
 abbrev pub decreases-follows : goal.decreases-follows
