@@ -1,7 +1,6 @@
 -- Which texts are scripts, and the line of the first fault of a text that is none.
 use Rattle.std.specs.Prelude.{ℕ, ◌≡◌, ◌<◌, ◌≤◌, List, [], length, take, codes}
 use Rattle.tj_lex.specs.declared.bytes.TheConstants.{MAX_TEXT}
-use Rattle.tj_lex.specs.declared.token.Tok.{Tok}
 use Rattle.tj_lex.specs.declared.token.Token.{Token}
 use Rattle.tj_lex.specs.declared.token.LexFault.{LexFault}
 use Rattle.tj_lex.specs.declared.token.LexFault.TheVariants as lex

@@ -1,5 +1,5 @@
 -- What runs of a script ask of its limits and of the script, and that a text gave none for want of memory.
-use Rattle.std.specs.Prelude.{ℕ, ◌<◌, ◌≤◌, List}
+use Rattle.std.specs.Prelude.{◌≡◌, ◌<◌, ◌≤◌, List}
 use Rattle.tj_base.specs.declared.cell.TheConstants.{MAX_CELLS}
 use Rattle.tj_eval.specs.declared.body.TheConstants.{MAX_STEPS}
 use Rattle.tj_lex.specs.declared.token.Tok.{Tok}
