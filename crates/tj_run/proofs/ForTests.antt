@@ -1,5 +1,6 @@
 -- What only tests need.
-pub mod PlaySteps
 pub mod StepEnds
 pub mod TestRuns
 pub mod TwoTasks
+pub mod ParkedBeside
+pub mod SetBeside

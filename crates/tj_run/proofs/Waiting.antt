@@ -3,3 +3,4 @@ pub mod JoinTests
 pub mod LookedCells
 pub mod ResumedTasks
 pub mod WaitConditions
+pub mod BlockedTasks

@@ -6,3 +6,5 @@ pub mod Children
 pub mod Answers
 pub mod Waits
 pub mod Turns
+pub mod Beside
+pub mod EndsAlone

@@ -18,6 +18,8 @@ mod pieces;
 mod plays;
 mod pure;
 #[cfg(test)]
+mod same_seat_tests;
+#[cfg(test)]
 mod step_tests;
 mod tasks;
 #[cfg(test)]

@@ -13,23 +13,21 @@ ghost use Rattle.tj_run.specs.Inner.Carried.{IsAsked, RunsTask};
 ghost use Rattle.tj_run.specs.Inner.Waits.{ComesBack, IsLeft};
 
 use crate::next::Next;
-use crate::pieces::{fill_at, take_out};
-use crate::plays::blocks;
+use crate::pieces::fill_at;
 use crate::pure::next_ask;
 use crate::tasks::run;
-use crate::waits::{get, way_to};
+use crate::waits::{block_at, get};
 use crate::why::Why;
+use crate::writes::set_and_wake;
 use std::alloc::Global;
-use std::marker::Brand;
 use std::process::Abort;
 use std::sync::Wait;
-use std::sync::ledger::Blank;
 use std::test::Fail;
-use tj_base::{CellId, Items, Oom, Pay, PlaceList, Sort};
-use tj_body::{Answer, Ask, Body, Row, RowList, TableBody, names_and_cells, points_in_rounds};
-use tj_cells::{Seen, fill, value};
+use tj_base::{CellId, Items, Oom, Pay, PlaceList};
+use tj_body::{Answer, Ask, Body, Row, RowList, TableBody, points_in_rounds};
+use tj_cells::{Seen, value};
 use tj_detect::Verdict;
-use tj_park::{Parked, claim, finish, park, wake};
+use tj_park::{Parked, claim, finish, park};
 use tj_ready::{LockedPool, Pool};
 use tj_words::{Fill, Finish, Laid, Phase, Rec, RestWords, WSeat};
 
@@ -225,45 +223,35 @@ fn set_first<B: Body, P: Pool, R: Wait + Abort>(
     ensures table { seat.new.table_id ≡ seat.old.table_id }
     ensures knows { IfOk result (λ _. KnowsTable seat.new.me.0) }
 {
-    let (rec, ask) = begin(rt, alloc, laid, seat, t)?;
-    set_asked(rt, alloc, laid, seat, rec, ask, pool)
+    let (mut rec, ask) = begin(rt, alloc, laid, seat, t)?;
+    set_asked(rt, alloc, laid, seat, &mut rec, ask, pool)
 }
 
-/// The task asks to set a promise: it fills the promise, and wakes those who wait for it. Tells how many
-/// there were.
+/// The task asks to set a promise, which is done. Tells how many were woken.
 pub(crate) fn set_asked<B: Body, P: Pool, R: Wait + Abort>(
     rt: &R,
     alloc: Global,
     laid: &Laid<B>,
     seat: &mut WSeat<B>,
-    rec: Rec<B>,
+    rec: &mut Rec<B>,
     ask: Ask<B>,
     pool: &mut P,
 ) -> Result<u32, Why>
     requires table { IsSeatOf laid.now seat.old }
-    requires runs { RunsTask laid.now rec seat.old.me }
+    requires runs { RunsTask laid.now rec.old seat.old.me }
     requires asked { IsAsked (table_program (program_of B.places B.awaits B.left B.asks B.then)
-        laid.now) seat.old.me.0 rec ask }
+        laid.now) seat.old.me.0 rec.old ask }
     requires pool { P.limit pool.old ≡ laid.now.cells }
     ensures table { seat.new.table_id ≡ seat.old.table_id }
     ensures knows { IfOk result (λ _. KnowsTable seat.new.me.0) }
 {
-    points_in_rounds::<B>();
-    names_and_cells();
     let Ask::Set { p, v } = ask else {
         panic!(rt; "it sets a promise");
     };
-    let h = rec.held.items()[p as usize];
-    let Sort::Promise = h.sort else {
-        panic!(rt; "no task is set");
-    };
-    let given = fill_at(rec.held.items(), v);
-    let mut owned = rec.owned;
-    if !take_out(alloc, &mut owned, h.cell) {
+    let (next, woken) = set_and_wake(rt, alloc, laid, seat, rec, pool, p, v)?;
+    let Next::Runs = next else {
         panic!(rt; "it owns the promise");
-    }
-    fill(laid, seat, rec.cell, h.cell, given);
-    let woken = wake(rt, alloc, laid, seat, h.cell, pool)?;
+    };
     Ok(woken)
 }
 
@@ -294,20 +282,17 @@ fn set_before_park<B: Body, P: Pool, R: Wait + Abort>(
     let Next::Waits { place, spare } = next else {
         panic!(rt; "nothing has become of it yet");
     };
-    let t = rec.cell;
-    let h = rec.held.items()[place as usize];
-    rec.answer = Answer::RefAt(place);
-    rec.spare = spare;
-    let way = way_to::<B, Brand>(laid, seat, t, h, Blank::new(1));
-    let verdict = blocks::<B, Brand>(laid, seat, t, h.cell, way, Blank::new(1));
+    let blocked = block_at(laid, seat, &mut rec, place, spare);
+    let (q, way, verdict) = blocked;
     let Verdict::Walked = verdict else {
         panic!(rt; "its owner doesn't wait");
     };
     let woken = set_first(rt, alloc, laid, other, pool, CellId(3))?;
     assert_eq!(rt; woken, 0, "it isn't in the chain yet");
-    match park(laid, seat, t, h.cell, way, rec) {
+    let t = rec.cell;
+    match park(laid, seat, t, q, way, rec) {
         Parked::Left => panic!(rt; "it would never be woken"),
-        Parked::Back(_) => Ok(value(laid, seat, h.cell)),
+        Parked::Back(_) => Ok(value(laid, seat, q)),
     }
 }
 
@@ -333,29 +318,5 @@ fn a_root_that_runs_is_claimed_by_nobody(rt: HostRuntime) -> Result<(), Fail> {
     let again = claim(&laid, &mut seat, CellId(0));
     assert!(rt; again.is_none(), "it runs already");
     assert_eq!(rt; begun.1, Ask::End(Pay::Num(0)), "to end with 0");
-    Ok(())
-}
-
-#[test]
-fn a_task_that_waits_is_woken_once(rt: HostRuntime) -> Result<(), Fail> {
-    let a = rt.alloc();
-    let lists = reader_and_writer(a)?;
-    let mut pool = one_end::<LockedPool, HostRuntime>(&rt, a, 4)?;
-    let (laid, mut seat) = table_of(a, &lists, 4)?;
-    run_whole(&rt, a, &laid, &mut seat, &mut pool, CellId(0))?;
-    run_whole(&rt, a, &laid, &mut seat, &mut pool, CellId(2))?;
-    let woken = set_first(&rt, a, &laid, &mut seat, &mut pool, CellId(3))?;
-    assert_eq!(rt; woken, 1, "the reader, which is parked");
-    assert_eq!(rt; pool.take(&rt), Some(CellId(2)), "the reader at its start");
-    assert_eq!(rt; pool.take(&rt), Some(CellId(3)), "the writer");
-    assert_eq!(rt; pool.take(&rt), Some(CellId(2)), "the reader again");
-    assert_eq!(rt; pool.take(&rt), None, "and nobody else");
-    let rec = claim(&laid, &mut seat, CellId(2)).expect(&rt, "it is ready again");
-    assert!(rt;
-        matches!(rec.answer, Answer::RefAt(1)),
-        "to read the promise"
-    );
-    let again = claim(&laid, &mut seat, CellId(2));
-    assert!(rt; again.is_none(), "it runs already");
     Ok(())
 }

@@ -1,28 +1,25 @@
-//! Plays, for tests: the tasks of a program take their turns by one seat, as a pool gives them.
-ghost use Rattle.std.specs.Prelude.{◌≡◌, ◌+◌, ◌<◌, ◌≤◌, IfOk, IfSome};
+//! Plays, for tests: one seat takes its turns, each with the task that a pool gives it.
+ghost use Rattle.std.specs.Prelude.{◌≡◌, ◌<◌, ◌≤◌, IfOk, IfSome};
 ghost use Rattle.tj_body.specs.Asks.{IsFresh};
 ghost use Rattle.tj_body.specs.Programs.{program_of};
 ghost use Rattle.tj_words.specs.Law.{IsRooted};
-ghost use Rattle.tj_words.specs.SeatViews.SeatSteps.{IsCellOf, IsSameSeat, IsSeatOf};
-ghost use Rattle.tj_detect.specs.Blocks.{MayBlock};
+ghost use Rattle.tj_words.specs.SeatViews.SeatSteps.{IsCellOf, IsSeatOf};
 ghost use Rattle.tj_run.specs.Workers.{IsFree, table_program};
 ghost use Rattle.tj_run.specs.Inner.Carried.{IsWaiting, RunsTask};
-ghost use Rattle.tj_run.specs.Inner.Waits.{Blocked, ComesBack, IsLeft};
+ghost use Rattle.tj_run.specs.Inner.Waits.{ComesBack, IsLeft};
 
 use crate::answers::resume;
 use crate::next::Next;
 use crate::tasks::one_ask;
-use crate::waits::way_to;
+use crate::waits::block_at;
 use crate::why::Why;
 use crate::writes::end;
 use std::alloc::Global;
-use std::marker::Brand;
 use std::sync::Wait;
-use std::sync::ledger::{Blank, Ledger};
-use tj_base::{CellId, Steps};
-use tj_body::{Answer, Body};
+use tj_base::CellId;
+use tj_body::Body;
 use tj_cells::{Seen, value};
-use tj_detect::{Verdict, block};
+use tj_detect::Verdict;
 use tj_park::{Parked, claim, park, shelve};
 use tj_ready::Pool;
 use tj_words::{Laid, Rec, WSeat, Way};
@@ -30,7 +27,7 @@ use tj_words::{Laid, Rec, WSeat, Way};
 /// A play is over after so many turns.
 const MOST_TURNS: u32 = 16;
 
-/// What came of a task's turn.
+/// What came of a turn with a task.
 #[derive(Clone, Copy, Debug, PartialEq, Eq)]
 pub(crate) enum Turn {
     /// It wasn't ready.
@@ -53,8 +50,8 @@ pub(crate) struct Played {
     pub(crate) live: u32,
 }
 
-/// A table of so many cells for a program with this root, and the turns of its tasks, as the pool gives
-/// them. `None` comes where a task came back from its wait.
+/// A table of so many cells for a program with this root, and the turns of its first seat, with the tasks
+/// that the pool gives. `None` comes where a task came back from its wait.
 pub(crate) fn play<B: Body, P: Pool, R: Wait>(
     rt: &R,
     alloc: Global,
@@ -129,7 +126,7 @@ fn look_at_cells<B: Body>(
     Ok(seen)
 }
 
-/// The turn of this task: it is claimed, and runs until it ends or waits.
+/// The turn with this task: it is claimed, and runs until it ends or waits.
 pub(crate) fn turn_of<B: Body, P: Pool, R: Wait>(
     rt: &R,
     alloc: Global,
@@ -201,18 +198,15 @@ pub(crate) fn leave<B: Body>(
     ensures left { IfSome result (λ _. IsLeft laid.now seat.old.me.0 seat.new.me) }
 {
     let mut rec = rec;
+    let blocked = block_at(laid, seat, &mut rec, place, spare);
+    let (q, way, verdict) = blocked;
     let t = rec.cell;
-    let h = rec.held.items()[place as usize];
-    rec.answer = Answer::RefAt(place);
-    rec.spare = spare;
-    let way = way_to::<B, Brand>(laid, seat, t, h, Blank::new(1));
-    let verdict = blocks::<B, Brand>(laid, seat, t, h.cell, way, Blank::new(1));
     match verdict {
         Verdict::Alarm => {
             shelve(laid, seat, t, rec);
             Some(Turn::Waits(way, verdict))
         }
-        Verdict::Walked | Verdict::Skipped => match park(laid, seat, t, h.cell, way, rec) {
+        Verdict::Walked | Verdict::Skipped => match park(laid, seat, t, q, way, rec) {
             Parked::Left => Some(Turn::Waits(way, verdict)),
             Parked::Back(back) => {
                 drop(back);
@@ -220,28 +214,4 @@ pub(crate) fn leave<B: Body>(
             }
         },
     }
-}
-
-/// Task `t` blocks on its wait for `q`. Where the walk is skipped it makes two steps.
-pub(crate) fn blocks<B: Body, L: Ledger>(
-    laid: &Laid<B>,
-    seat: &mut WSeat<B>,
-    t: CellId,
-    q: CellId,
-    way: Way,
-    blank: Blank,
-) -> Verdict
-    requires name { blank.name ≡ L.name }
-    requires parts { blank.parts ≡ L.parts }
-    requires some { 0 < blank.parts }
-    requires table { IsSeatOf laid.now seat.old }
-    requires task { IsCellOf laid.now t.0 }
-    requires cell { IsCellOf laid.now q.0 }
-    requires may { MayBlock t.0 q.0 way seat.old.me.0 }
-    ensures seat { IsSameSeat seat.old seat.new }
-    ensures view { Blocked result t.0 q.0 way seat.old.me.0 seat.new.me.0 }
-    ensures two { result ≡ Verdict.Skipped → seat.new.me.0.steps ≡ 2 + seat.old.me.0.steps }
-{
-    let mut steps = Steps::<L>::new(blank);
-    block(laid, seat, t, q, way, &mut steps)
 }

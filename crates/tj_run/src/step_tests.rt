@@ -1,12 +1,16 @@
 //! The root goes from Ready to Ended by step calls of the table alone, and its table is closed.
-ghost use Rattle.std.specs.Prelude.{◌≡◌, [], length, Some};
+ghost use Rattle.std.specs.Prelude.{◌≡◌, [], ◌∷◌, length, Some};
+ghost use Rattle.atomic_table.specs.Table.{rest};
 ghost use Rattle.tj_body.specs.Programs.{program_of};
 ghost use Rattle.tj_words.specs.declared.record.Finish.TheVariants.{Done};
 ghost use Rattle.tj_words.specs.SeatViews.KnowsMore.{KnowsMore};
 ghost use Rattle.tj_words.specs.Law.{IsRooted};
-ghost use Rattle.tj_words.specs.SeatViews.SeatSteps.{IsCellOf, IsSeatOf};
+ghost use Rattle.tj_words.specs.Calls.LiveViews.{HasSlot, MayEnd, ended};
+ghost use Rattle.tj_words.specs.SeatViews.SeatSteps.{IsCellOf, IsSameSeat, IsSeatOf};
+ghost use Rattle.tj_cells.specs.FilledCells.{IsFilledWith, MayFill, MayGiveUp};
 ghost use Rattle.tj_run.specs.Workers.{IsFree, table_program};
 ghost use Rattle.tj_run.specs.Inner.Carried.{IsClosing, RunsTask};
+ghost use Rattle.tj_run.specs.Inner.EndsAlone.{EndsAlone};
 ghost use Rattle.tj_run.specs.Inner.Waits.{ComesBack, IsLeft};
 
 use crate::life_tests::{asks_first, has_the_root_alone, table_of};
@@ -43,8 +47,38 @@ fn claim_in_steps<B: Body, R: Abort>(
     }
 }
 
-/// Ends a task that owns its result alone and that nobody waits for, step by step: OWN, BITS and TAG of
-/// its result, the record into its slot, PHASE, HEAD and LIVE.
+/// Fills a cell that its owner gives up: OWN, BITS and TAG.
+fn fill_in_steps<B: Body>(laid: &Laid<B>, seat: &mut WSeat<B>, t: CellId, v: Fill)
+    requires table { IsSeatOf laid.now seat.old }
+    requires cell { IsCellOf laid.now t.0 }
+    requires gives { MayGiveUp t.0 t.0 seat.old.me.0 }
+    requires fills { MayFill (program_of B.places B.awaits B.left B.asks B.then) t.0 v
+        seat.old.me.0 }
+    ensures seat { IsSameSeat seat.old seat.new }
+    ensures filled { IsFilledWith t.0 t.0 v seat.old.me.0 seat.new.me.0 }
+{
+    let (tag, bits) = value_words(Some(v));
+    laid.put_owner(seat, t, None);
+    laid.put_once(seat, t, Once::Bits, bits);
+    laid.put_once(seat, t, Once::Tag, tag);
+}
+
+/// Lays down the record of a task that ends: its slot, and PHASE.
+fn lay_in_steps<B: Body>(laid: &Laid<B>, seat: &mut WSeat<B>, t: CellId, rec: Rec<B>)
+    requires table { IsSeatOf laid.now seat.old }
+    requires cell { IsCellOf laid.now t.0 }
+    requires slot { HasSlot t.0 seat.old.me }
+    requires may { MayEnd (program_of B.places B.awaits B.left B.asks B.then) t.0
+        (seat.old.me.0, (t.0, Some rec) ∷ rest seat.old.me.1) }
+    ensures table { seat.new.table_id ≡ seat.old.table_id }
+    ensures me { seat.new.me ≡ (ended t.0 seat.old.me.0, rest seat.old.me.1) }
+{
+    drop(laid.slot_swap(seat, t, Some(rec)));
+    laid.put_phase(seat, t, Phase::Ended);
+}
+
+/// Ends a task that owns its result alone and that nobody waits for, step by step: its result, its
+/// record, HEAD and LIVE.
 fn end_in_steps<B: Body, R: Abort>(
     rt: &R,
     alloc: Global,
@@ -61,21 +95,34 @@ fn end_in_steps<B: Body, R: Abort>(
     ensures table { seat.new.table_id ≡ seat.old.table_id }
     ensures left { IsLeft laid.now seat.old.me.0 seat.new.me }
 {
-    points_in_rounds::<B>();
-    names_and_cells();
+    ends_alone(laid, seat, &rec, v);
     let t = rec.cell;
-    let (tag, bits) = value_words(Some(v));
-    laid.put_owner(seat, t, None);
-    laid.put_once(seat, t, Once::Bits, bits);
-    laid.put_once(seat, t, Once::Tag, tag);
+    fill_in_steps(laid, seat, t, v);
     let ended = ended_alone(alloc, rec, v);
-    drop(laid.slot_swap(seat, t, Some(ended)));
-    laid.put_phase(seat, t, Phase::Ended);
+    lay_in_steps(laid, seat, t, ended);
     let head = laid.shut(seat, t);
     let Head::Empty = head else {
         panic!(rt; "nobody waits for it");
     };
     laid.live_down(seat);
+}
+
+// What each step of the end rests on.
+fn ends_alone<B: Body>(laid: &Laid<B>, seat: &WSeat<B>, rec: &Rec<B>, v: Fill)
+    requires runs { RunsTask laid.now rec.now seat.now.me }
+    requires closing { IsClosing (table_program (program_of B.places B.awaits B.left B.asks B.then)
+        laid.now) seat.now.me.0 rec.now (Done v) }
+    requires alone { length rec.now.owned ≡ 1 }
+    ensures cell { IsCellOf laid.now rec.now.cell.0 }
+    ensures ends { EndsAlone (program_of B.places B.awaits B.left B.asks B.then) laid.now rec.now v
+        seat.now.me }
+{
+    let _ = laid;
+    let _ = seat;
+    let _ = rec;
+    let _ = v;
+    points_in_rounds::<B>();
+    names_and_cells();
 }
 
 // The record of a task that has ended like this and owes nothing.

@@ -7,15 +7,17 @@ ghost use Rattle.tj_words.specs.SeatViews.KnowsMore.{KnowsMore};
 ghost use Rattle.tj_words.specs.Law.{IsRooted};
 ghost use Rattle.tj_words.specs.SeatViews.SeatSteps.{IsCellOf, IsSeatOf};
 ghost use Rattle.tj_run.specs.Workers.{IsFree, table_program};
+ghost use Rattle.tj_run.specs.Inner.Beside.{HasBegun, WaitsBeside};
 ghost use Rattle.tj_run.specs.Inner.Carried.{IsRunning, RunsTask};
 
 use crate::answers::resume;
 use crate::life_tests::{one_end, set_asked, table_of};
 use crate::next::Next;
 use crate::pass_tests::{fork, rows};
-use crate::plays::{Turn, blocks, leave};
+use crate::plays::{Turn, leave};
 use crate::pure::next_ask;
 use crate::tasks::one_ask;
+use crate::waits::block_on;
 use crate::why::Why;
 use std::alloc::Global;
 use std::marker::Brand;
@@ -28,10 +30,10 @@ use tj_body::{Answer, Ask, Body, Row, points_in_rounds};
 use tj_detect::Verdict;
 use tj_park::{Parked, claim, park};
 use tj_ready::{LockedPool, Pool};
-use tj_words::{Laid, Rec, WSeat, Way};
+use tj_words::{Held, Laid, Rec, WSeat, Way};
 
 /// Claims the root, which makes a promise and forks a child.
-fn run_to_fork<B: Body, P: Pool, R: Wait + Abort>(
+pub(crate) fn run_to_fork<B: Body, P: Pool, R: Wait + Abort>(
     rt: &R,
     alloc: Global,
     laid: &Laid<B>,
@@ -66,8 +68,67 @@ fn run_to_fork<B: Body, P: Pool, R: Wait + Abort>(
     Ok(rec)
 }
 
-/// The seat runs a task, and claims another one besides, which gets a promise: it blocks, its walk ends
-/// without an alarm, and it is parked.
+/// The seat runs a task, and claims another one besides, which begins.
+fn claim_beside<B: Body, R: Abort>(
+    rt: &R,
+    laid: &Laid<B>,
+    seat: &mut WSeat<B>,
+    mine: &Rec<B>,
+    t: CellId,
+) -> Rec<B>
+    requires table { IsSeatOf laid.now seat.old }
+    requires runs { RunsTask laid.now mine.now seat.old.me }
+    requires task { IsCellOf laid.now t.0 }
+    requires rooted { IsRooted (table_program (program_of B.places B.awaits B.left B.asks B.then)
+        laid.now) }
+    ensures table { seat.new.table_id ≡ seat.old.table_id }
+    ensures begun { HasBegun (program_of B.places B.awaits B.left B.asks B.then) laid.now mine.now
+        result seat.old.me seat.new.me }
+{
+    if t.0 == mine.cell.0 {
+        panic!(rt; "another one");
+    }
+    let rec = claim(laid, seat, t).expect(rt, "it is ready");
+    let Answer::Start = rec.answer else {
+        panic!(rt; "it begins");
+    };
+    rec
+}
+
+/// The other task's body asks for a promise. Tells which.
+pub(crate) fn ask_beside<B: Body, R: Abort>(
+    rt: &R,
+    alloc: Global,
+    laid: &Laid<B>,
+    seat: &mut WSeat<B>,
+    mine: &Rec<B>,
+    t: CellId,
+) -> (Rec<B>, u32, Held)
+    requires table { IsSeatOf laid.now seat.old }
+    requires runs { RunsTask laid.now mine.now seat.old.me }
+    requires task { IsCellOf laid.now t.0 }
+    requires rooted { IsRooted (table_program (program_of B.places B.awaits B.left B.asks B.then)
+        laid.now) }
+    ensures table { seat.new.table_id ≡ seat.old.table_id }
+    ensures waits { WaitsBeside (program_of B.places B.awaits B.left B.asks B.then) laid.now
+        mine.now result.0 result.1 result.2 seat.old.me seat.new.me }
+{
+    points_in_rounds::<B>();
+    let mut rec = claim_beside(rt, laid, seat, mine, t);
+    let Ok(ask) = rec.body.next(alloc, rec.answer) else {
+        panic!(rt; "no memory");
+    };
+    let Ask::Get { p } = ask else {
+        panic!(rt; "it gets");
+    };
+    let h = rec.held.items()[p as usize];
+    let Sort::Promise = h.sort else {
+        panic!(rt; "a promise");
+    };
+    (rec, p, h)
+}
+
+/// The other task blocks, its walk ends without an alarm, and it is parked.
 fn park_beside<B: Body, R: Abort>(
     rt: &R,
     alloc: Global,
@@ -85,30 +146,15 @@ fn park_beside<B: Body, R: Abort>(
     ensures knows { KnowsMore seat.old.me.0 seat.new.me.0 }
     ensures runs { RunsTask laid.now mine.now seat.new.me }
 {
-    points_in_rounds::<B>();
-    if t.0 == mine.cell.0 {
-        panic!(rt; "another one");
-    }
-    let mut rec = claim(laid, seat, t).expect(rt, "it is ready");
-    let Answer::Start = rec.answer else {
-        panic!(rt; "it begins");
-    };
-    let Ok(ask) = rec.body.next(alloc, rec.answer) else {
-        panic!(rt; "no memory");
-    };
-    let Ask::Get { p } = ask else {
-        panic!(rt; "it gets");
-    };
-    let h = rec.held.items()[p as usize];
-    let Sort::Promise = h.sort else {
-        panic!(rt; "a promise");
-    };
-    rec.answer = Answer::RefAt(p);
-    rec.spare = false;
-    let verdict = blocks::<B, Brand>(laid, seat, t, h.cell, Way::Other, Blank::new(1));
+    let told = ask_beside(rt, alloc, laid, seat, mine, t);
+    let (mut rec, p, h) = told;
+    let t = rec.cell;
+    let verdict = block_on::<B, Brand>(laid, seat, t, h.cell, Way::Other, Blank::new(1));
     let Verdict::Walked = verdict else {
         panic!(rt; "its owner doesn't wait");
     };
+    rec.answer = Answer::RefAt(p);
+    rec.spare = false;
     let Parked::Left = park(laid, seat, t, h.cell, Way::Other, rec) else {
         panic!(rt; "nothing has become of it");
     };
@@ -158,7 +204,7 @@ fn set_beside<B: Body, P: Pool, R: Wait + Abort>(
     let mut rec = run_to_fork(rt, alloc, laid, seat, pool)?;
     park_beside(rt, alloc, laid, seat, &rec, CellId(2));
     let ask = next_ask(alloc, laid, seat, &mut rec)?;
-    set_asked(rt, alloc, laid, seat, rec, ask, pool)
+    set_asked(rt, alloc, laid, seat, &mut rec, ask, pool)
 }
 
 #[test]

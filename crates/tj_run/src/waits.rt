@@ -8,7 +8,7 @@ ghost use Rattle.tj_words.specs.Steps.WalkSteps.{way_by};
 ghost use Rattle.tj_run.specs.Workers.{table_program};
 ghost use Rattle.tj_run.specs.Inner.Carried.{IsAsked, IsWaiting, RunsTask};
 ghost use Rattle.tj_run.specs.Inner.Going.{Goes, Lacks};
-ghost use Rattle.tj_run.specs.Inner.Waits.{Blocked, ComesBack, IsHeldAs, IsLeft};
+ghost use Rattle.tj_run.specs.Inner.Waits.{Blocked, ComesBack, HasBlocked, IsHeldAs, IsLeft};
 ghost use Rattle.tj_detect.specs.Blocks.{MayBlock};
 
 use crate::answers::look;
@@ -109,8 +109,8 @@ pub(crate) fn way_to<B: Body, L: Ledger>(
     }
 }
 
-// Task `t` blocks on its wait for `q`.
-fn block_on<B: Body, L: Ledger>(
+/// Task `t` blocks on its wait for `q`.
+pub(crate) fn block_on<B: Body, L: Ledger>(
     laid: &Laid<B>,
     seat: &mut WSeat<B>,
     t: CellId,
@@ -132,6 +132,34 @@ fn block_on<B: Body, L: Ledger>(
     block(laid, seat, t, q, way, &mut steps)
 }
 
+/// The task blocks on its wait for the cell at the place. Tells the cell, the way of the wait and the
+/// verdict.
+pub(crate) fn block_at<B: Body>(
+    laid: &Laid<B>,
+    seat: &mut WSeat<B>,
+    rec: &mut Rec<B>,
+    place: u32,
+    spare: bool,
+) -> (CellId, Way, Verdict)
+    requires table { IsSeatOf laid.now seat.old }
+    requires runs { RunsTask laid.now rec.old seat.old.me }
+    requires waiting { IsWaiting (table_program (program_of B.places B.awaits B.left B.asks B.then)
+        laid.now) seat.old.me.0 rec.old place spare }
+    ensures table { seat.new.table_id ≡ seat.old.table_id }
+    ensures task { IsCellOf laid.now rec.new.cell.0 }
+    ensures cell { IsCellOf laid.now result.0.0 }
+    ensures blocked { HasBlocked (program_of B.places B.awaits B.left B.asks B.then) laid.now
+        rec.new result.0.0 result.1 result.2 seat.old.me seat.new.me }
+{
+    let t = rec.cell;
+    let h = rec.held.items()[place as usize];
+    let way = way_to::<B, Brand>(laid, seat, t, h, Blank::new(1));
+    let verdict = block_on::<B, Brand>(laid, seat, t, h.cell, way, Blank::new(1));
+    rec.answer = Answer::RefAt(place);
+    rec.spare = spare;
+    (h.cell, way, verdict)
+}
+
 /// The task waits for the cell at the place: it blocks, and leaves the worker, parked or on a standing
 /// cycle. It comes back where something has become of the cell by then.
 pub(crate) fn wait<B: Body>(
@@ -151,17 +179,14 @@ pub(crate) fn wait<B: Body>(
         laid.now r seat.old.me.0 seat.new.me) }
 {
     let mut rec = rec;
+    let (q, way, verdict) = block_at(laid, seat, &mut rec, place, spare);
     let t = rec.cell;
-    let h = rec.held.items()[place as usize];
-    rec.answer = Answer::RefAt(place);
-    rec.spare = spare;
-    let way = way_to::<B, Brand>(laid, seat, t, h, Blank::new(1));
-    match block_on::<B, Brand>(laid, seat, t, h.cell, way, Blank::new(1)) {
+    match verdict {
         Verdict::Alarm => {
             shelve(laid, seat, t, rec);
             None
         }
-        Verdict::Walked | Verdict::Skipped => match park(laid, seat, t, h.cell, way, rec) {
+        Verdict::Walked | Verdict::Skipped => match park(laid, seat, t, q, way, rec) {
             Parked::Left => None,
             Parked::Back(rec) => Some(rec),
         },

@@ -27,7 +27,7 @@ name_in born c = (reference_of born c).name
 abbrev pub HaveCells : List Reference → List ℕ → Type 0
 HaveCells born = All (λ c. (x : Reference) × IsCell born c x)
 
--- what the list of all cells has at a place
+-- what the list of all cells has at an index
 pub cell_reference : (born : List Reference) (c : ℕ) (x : Reference) → IsCell born c x → reference_of born c ≡ x
 cell_reference [] zero x h = absurd (some-ne-none x (sym h))
 cell_reference [] (suc c) x h = absurd (some-ne-none x (sym h))

@@ -55,7 +55,7 @@ each_apart [] l a = a
 each_apart (p ∷ ps) l a = each_apart ps (without p.0 l)
     (subst AreApart (sym (without_one p.0 l a)) (apart_without p.0 l a))
 
--- the cells are others than t, and each is one of those that are left when its turn comes
+-- the cells are others than t, and each is one of those that are left when it is handed
 abbrev pub AreGiven : ℕ → List CellId → List ℕ → Type 0
 AreGiven t [] l = Unit {0}
 AreGiven t (p ∷ ps) l = (IsIn p.0 l × (p.0 ≢ t)) × AreGiven t ps (without p.0 l)

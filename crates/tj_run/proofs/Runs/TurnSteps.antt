@@ -1,19 +1,23 @@
--- What a turn comes to since an earlier view of the seat: a worker that goes on, rests or was stopped since a later view
--- does so since an earlier one.
-use Rattle.std.proofs.Common.{◌≡◌, ℕ, Bool, [], ◌∷◌, Option, Some, None, refl, sym, ap, ◌∙◌, subst}
+-- What a turn comes to since an earlier view of the seat: a worker that goes on, rests or was stopped since a later
+-- view does so since an earlier one.
+use Rattle.std.proofs.Common.{◌≡◌, ◌≢◌, ℕ, Bool, ◌∷◌, Option, Some, None, refl, sym, ap, ◌∙◌, subst}
 use Rattle.tj_body.specs.Programs.{Program}
 use Rattle.tj_body.proofs.Lists.{begins_self}
+use Rattle.tj_words.specs.declared.phase.Phase.{Phase}
+use Rattle.tj_words.specs.declared.phase.Phase.TheVariants as phase
 use Rattle.tj_words.specs.declared.record.Rec.{Rec}
 use Rattle.tj_words.specs.declared.table.Laid.{Laid}
-use Rattle.tj_words.specs.declared.view.About.{About}
+use Rattle.tj_words.specs.declared.view.Noted.TheVariants as note
 use Rattle.tj_words.specs.declared.view.View.{View}
+use Rattle.tj_words.specs.Calls.ExchangeViews.{missed}
 use Rattle.tj_words.specs.SeatViews.KnowsMore.{KnowsMore}
 use Rattle.tj_words.specs.Law.{IsRooted}
+use Rattle.tj_words.specs.Words.Phases.{phase_word}
 use Rattle.tj_words.specs.SeatViews.SeatSteps.{SeatMe}
 use Rattle.tj_words.specs.Calls.TakenRecords.{custody_of}
 use Rattle.tj_words.specs.SeatViews.TaskLists.{hold}
 use Rattle.tj_words.specs.SeatViews.Views.{saw_stop}
-use Rattle.tj_words.proofs.SeatLoads.KnowsMoreOn.{more_itself, more_on}
+use Rattle.tj_words.proofs.SeatLoads.KnowsMoreOn.{more_itself}
 use Rattle.tj_park.specs.ChildViews.{Claimed}
 use Rattle.tj_run.specs.declared.why.Left.{Left}
 use Rattle.tj_run.specs.declared.why.Left.TheVariants as left
@@ -23,7 +27,7 @@ use Rattle.tj_run.specs.Workers.{IsFree, about_table, table_program}
 use Rattle.tj_run.specs.Leaving.{HasStopped, Leaves}
 use Rattle.tj_run.specs.Inner.Turns.{TurnsTo}
 use Rattle.tj_run.specs.Inner.Waits.{ComesBack, IsLeft}
-use Rattle.tj_run.proofs.Seats.FreeSeats.{rested_since}
+use Rattle.tj_run.proofs.Seats.FreeSeats.{free_noted, rested_since}
 use Rattle.tj_run.proofs.Waiting.WaitConditions.{taken_runs}
 use Rattle.tj_run.proofs.Seats.WorkersSteps.{left_on, workers_on}
 
@@ -40,6 +44,25 @@ module _ {B : Type 0} where
     seen = λ x i. i;
     closed = λ x i. i;
     rested = λ r. r;
+  })
+
+  -- a free seat whose exchange found that a task isn't ready is free still, and knows what it knew
+  pub left_missed : (laid : Laid B) (t : ℕ) (old new : SeatMe B) → IsFree laid old
+      → (p : Phase) × (p ≢ phase.Ready) × (new ≡ (missed t p old.0, old.1))
+      → IsLeft laid old.0 new
+  left_missed laid t old new free h = subst (IsLeft laid old.0) (sym h.2) (record {
+    knows = record {
+      about = refl;
+      lot = refl;
+      born = begins_self old.0.born;
+      known = λ x i. i;
+      wrote = λ x i. i;
+      filled = λ x i. i;
+      seen = λ x i. i;
+      closed = λ x i. i;
+      rested = λ r. r;
+    };
+    free = free_noted laid (note.Missed t) (phase_word h.0) old free;
   })
 
   module _ (program : Bool → B → Program B) where

@@ -1,22 +1,20 @@
--- Seats of workers between their turns: they may be merged, a load leaves them free, and halves of them are free.
-use Rattle.std.proofs.Common.{◌≡◌, ℕ, zero, suc, ◌+◌, ◌-◌, ◌*◌, ◌<◌, ◌≤◌, Bool, true, List, [], ◌∷◌, length, Option}
-use Rattle.std.proofs.Common.{Some}
-use Rattle.std.proofs.Common.{refl, sym, ap, ◌∙◌, subst, arith}
-use mathlib.Core.Option.{some, some-injective, some-ne-none}
-use lib.ListN.{get_elem?}
+-- Seats of workers between their turns: they may be merged, steps that change no word leave them free, and halves of
+-- them are free.
+use Rattle.std.proofs.Common.{◌≡◌, ℕ, zero, suc, ◌-◌, ◌*◌, ◌<◌, ◌≤◌, [], ◌∷◌}
+use Rattle.std.proofs.Common.{refl, sym, ◌∙◌, arith}
+use mathlib.Core.Option.{some, some-ne-none}
 use Rattle.tj_body.specs.History.{to_task}
 use Rattle.tj_body.specs.declared.point.Reference.{Reference}
-use Rattle.tj_words.specs.declared.record.Rec.{Rec}
 use Rattle.tj_words.specs.declared.table.Laid.{Laid}
-use Rattle.tj_words.specs.declared.view.About.{About}
+use Rattle.tj_words.specs.declared.view.Noted.{Noted}
 use Rattle.tj_words.specs.declared.view.View.{View}
 use Rattle.tj_words.specs.LawParts.FirstState.{first_view}
 use Rattle.tj_words.specs.SeatViews.KnowsMore.{KnowsMore}
 use Rattle.tj_words.specs.LawParts.Lots.{least_lot}
 use Rattle.tj_words.specs.SeatViews.SeatSteps.{SeatMe}
 use Rattle.tj_words.specs.LawParts.TreeWords.{IsCell, AreCells}
-use Rattle.tj_words.specs.SeatViews.Views.{IsIdle, left_half, right_half, saw_rest, stepped_on}
-use Rattle.tj_run.specs.Workers.{IsFree, IsWorkers, about_table}
+use Rattle.tj_words.specs.SeatViews.Views.{IsIdle, left_half, noted_step, right_half, saw_rest}
+use Rattle.tj_run.specs.Workers.{IsFree, IsWorkers}
 use Rattle.tj_run.specs.Leaving.{HasRested}
 
 -- the root alone is a cell of each table
@@ -29,9 +27,9 @@ root_alone cells some_cells = record { few = omega arith; apart = λ c d y z a b
     by zero (suc d) y z a b = absurd (some-ne-none z (sym b))
 
 module _ {B : Type 0} (laid : Laid B) where
-  -- a worker's seat that has made a step more, or has lost a part of its lot, is a worker's
-  pub workers_stepped : (v : View B) → IsWorkers laid v → IsWorkers laid (stepped_on v)
-  workers_stepped v w = record {
+  -- a worker's seat that has noted a step more is a worker's
+  workers_noted : (step : Noted) (n : ℕ) (v : View B) → IsWorkers laid v → IsWorkers laid (noted_step step n v)
+  workers_noted step n v w = record {
     of_table = w.of_table;
     lot = w.lot;
     refused = w.refused;
@@ -47,10 +45,10 @@ module _ {B : Type 0} (laid : Laid B) where
     cells = w.cells;
   }
 
-  -- a free seat is free after a load that tells nothing
-  pub free_stepped : (me : SeatMe B) → IsFree laid me → IsFree laid (stepped_on me.0, me.1)
-  free_stepped me f =
-      record { worker = workers_stepped me.0 f.worker; tasks = f.tasks; slots = f.slots }
+  -- and a free one is free
+  pub free_noted : (step : Noted) (n : ℕ) (me : SeatMe B) → IsFree laid me → IsFree laid (noted_step step n me.0, me.1)
+  free_noted step n me f =
+      record { worker = workers_noted step n me.0 f.worker; tasks = f.tasks; slots = f.slots }
 
   -- it may be merged
   pub free_idle : (me : SeatMe B) → IsFree laid me → IsIdle me.0

@@ -18,7 +18,7 @@ use Rattle.tj_words.specs.SeatViews.SeatSteps.{SeatMe}
 use Rattle.tj_run.specs.Inner.Carried.{RunsTask}
 use Rattle.tj_run.specs.Inner.Pieces.{fill_at, fill_of, held_at}
 
--- what stands at a place stands in the list
+-- what stands at an index stands in the list
 pub in_at : {A : Type 0} (l : List A) (d : A) (k : ℕ) → k < length l → IsIn (get_or l k d) l
 in_at [] d k h = absurd (omega arith)
 in_at (x ∷ xs) d zero h = inl refl

@@ -48,15 +48,11 @@ use Rattle.tj_park.specs.Records.{HasNoRecord, HasNothingToCome, HasTaken, MayLe
 use Rattle.tj_run.specs.Workers.{IsWorkers, about_table, table_program}
 use Rattle.tj_run.specs.Inner.Carried.{IsWaiting, RunsTask}
 use Rattle.tj_run.specs.Inner.Pieces.{held_at}
-use Rattle.tj_run.specs.Inner.Waits.{Blocked, ComesBack, IsHeldAs, IsLeft}
+use Rattle.tj_run.specs.Inner.Waits.{Blocked, ComesBack, IsHeldAs, IsLeft, waits_at}
 use Rattle.tj_run.proofs.Seats.OneTask.{held_one, let_go_one, noted_one}
 use Rattle.tj_run.proofs.Asks.PointSteps.{pairs_length}
 use Rattle.tj_run.proofs.Cells.ToldCells.{cell_known, task_known, told_cell, told_held, told_knows, told_task}
 use Rattle.tj_run.proofs.Seats.WorkersSteps.{back_on, left_on, read_more, runs_read, waits_on, workers_on}
-
--- the record of a task that is to wait for the cell at the place
-abbrev pub waits_at : {B : Type 0} → ℕ → Bool → Rec B → Rec B
-waits_at k spare r = record r { answer = answer.RefAt k; spare = spare }
 
 -- the walk has ended without an alarm
 abbrev pub IsQuiet : Verdict → Type 0

@@ -1,5 +1,6 @@
 -- How a task that waits leaves its worker, or comes back to it.
 use Rattle.std.specs.Prelude.{◌≡◌, ℕ, Bool, None}
+use Rattle.tj_body.specs.declared.ask.Answer.TheVariants as answer
 use Rattle.tj_body.specs.Points.{IsIn}
 use Rattle.tj_body.specs.Programs.{Program}
 use Rattle.tj_body.specs.declared.point.Reference.{Reference}
@@ -13,11 +14,13 @@ use Rattle.tj_words.specs.SeatViews.KnowsMore.{KnowsMore}
 use Rattle.tj_words.specs.Law.{IsRooted}
 use Rattle.tj_words.specs.SeatViews.SeatSteps.{SeatMe}
 use Rattle.tj_words.specs.Calls.TakenRecords.{IsKnownRecord}
+use Rattle.tj_words.specs.SeatViews.TreeReads.{HasReadTree}
 use Rattle.tj_words.specs.LawParts.TreeWords.{IsCell}
 use Rattle.tj_detect.specs.Blocks.{EndsWith, doing, does_after, tokens_given}
 use Rattle.tj_detect.specs.declared.blocking.Verdict.{Verdict}
 use Rattle.tj_run.specs.Workers.{IsFree, table_program}
-use Rattle.tj_run.specs.Inner.Carried.{RunsTask}
+use Rattle.tj_run.specs.Inner.Carried.{IsWaiting, RunsTask}
+use Rattle.tj_run.specs.Inner.Pieces.{held_at}
 
 module _ {B : Type 0} where
   -- the seat knows the held cell, which is of the sort that the record says
@@ -33,6 +36,27 @@ module _ {B : Type 0} where
     pub steps : ℕ
     pub ends : EndsWith verdict t way walker
     pub view : w ≡ doing t (does_after verdict q way walker) steps (tokens_given verdict) v
+
+  -- the record of a task that is to wait for the cell at the place
+  abbrev pub waits_at : ℕ → Bool → Rec B → Rec B
+  waits_at place spare r = record r { answer = answer.RefAt place; spare = spare }
+
+  -- the task of the record, which the seat ran, has blocked on its wait for q, after loads of the tree by which the way
+  -- of the wait was found; the record says of which held cell it is
+  pub record HasBlocked (program : Bool → B → Program B) (laid : Laid B) (r : Rec B) (q : ℕ) (way : Way)
+      (verdict : Verdict) (old new : SeatMe B) : Type 0 where
+    pub before : Rec B
+    pub place : ℕ
+    pub spare : Bool
+    pub runs : RunsTask laid before old
+    pub waits : IsWaiting (table_program program laid) old.0 before place spare
+    pub record_is : r ≡ waits_at place spare before
+    pub cell_is : q ≡ (held_at before.held place).cell.0
+    pub looked : SeatMe B
+    pub read : HasReadTree laid.cells old.0 looked.0
+    pub looked_slots : looked.1 ≡ old.1
+    pub blocked : Blocked verdict before.cell.0 (held_at before.held place).cell.0 way looked.0 new.0
+    pub slots : new.1 ≡ looked.1
 
   -- the worker has let the task go, and has none
   pub record IsLeft (laid : Laid B) (v : View B) (me : SeatMe B) : Type 0 where

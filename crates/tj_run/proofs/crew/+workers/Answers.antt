@@ -80,10 +80,12 @@ join-a-requires-after_bounds g t c κs within =
                     b,
                     p,
                     s.table ∙ c.requires.table,
-                    subst (IsFree laid) (sym s.view) (free_left laid me (lots_two c.requires.lots last rest) c.requires.free),
+                    subst (IsFree laid) (sym s.view)
+                        (free_left laid me (lots_two c.requires.lots last rest) c.requires.free),
                     c.requires.rooted,
                     pops.0,
-                    subst (λ v. HasLots (length c.pop.new.self.items) v) (sym (ap (λ (m : SeatMe g.row.B.Denot). m.0) s.view))
+                    subst (λ v. HasLots (length c.pop.new.self.items) v)
+                        (sym (ap (λ (m : SeatMe g.row.B.Denot). m.0) s.view))
                         (lots_left c.requires.lots last rest),
                   ),
                   (b, p, u, r),

@@ -14,7 +14,8 @@ loop-i-init g c = record {
 pub loop-i-preserved : goal.loop-i-preserved
 loop-i-preserved g c = record {
   table = c.stop_word.ensures.seat.0 ∙ c.loop-i.invariant.table;
-  about = ap (λ (v : View g.row.B.Denot). v.about) (c.stop_word.ensures.none c.in_default.is) ∙ c.loop-i.invariant.about;
+  about = ap (λ (v : View g.row.B.Denot). v.about) (c.stop_word.ensures.none c.in_default.is)
+      ∙ c.loop-i.invariant.about;
 }
 
 pub returns-in-Some-stop_word-clause-stopped : goal.returns-in-Some-stop_word-clause-stopped

@@ -24,5 +24,5 @@ loop-i-preserved g c = let i = c.loop-i.invariant in let e = c.take_turn.ensures
 
 pub returns-in-Some-take_turn-clause-left : goal.returns-in-Some-take_turn-clause-left
 returns-in-Some-take_turn-clause-left g c = let i = c.loop-i.invariant in let b = g.B.Body in
-    leaves_since (program_of b.places b.awaits b.left b.asks b.then) c.args.seat.me.0 c.loop-i.seat.me.0 c.in-Some-take_turn.how
-    i.left.knows c.take_turn.new.seat.me c.in-Some-take_turn.ensures.turns
+    leaves_since (program_of b.places b.awaits b.left b.asks b.then) c.args.seat.me.0 c.loop-i.seat.me.0
+    c.in-Some-take_turn.how i.left.knows c.take_turn.new.seat.me c.in-Some-take_turn.ensures.turns

@@ -5,7 +5,7 @@ use Rattle.tj_run.specs.Inner.Pieces.{fill_at, held_at}
 use Rattle.tj_run.proofs.Asks.NewThings.{lacks_memory}
 use Rattle.tj_run.proofs.Asks.SetPromises.{not_so, promise_if, sets_about, sets_cell, sets_fills, sets_gives, sets_goes}
 use Rattle.tj_run.proofs.Asks.SetPromises.{sets_task, sets_unowned, sets_wakes}
-use Rattle.tj_run.proofs.writes.set.Goals as goal
+use Rattle.tj_run.proofs.writes.set_and_wake.Goals as goal
 
 pub returns-in-Task-clause-goes : goal.returns-in-Task-clause-goes
 returns-in-Task-clause-goes g c = let l = c.args.laid.now in let a = c.requires.asked in let k = c.args.place in
@@ -70,11 +70,11 @@ wake-requires-clause-may g c κs within = let l = c.args.laid.now in let a = c.r
     c.fill_at-value.result (c.fill_at-value.ensures ∙ ap (λ z. fill_at z c.args.v) c.items-2.ensures)
     c.fill.new.seat.me c.fill.ensures.view c.fill.ensures.seat.2
 
-pub returns-in_err-wake-clause-lacks : goal.returns-in_err-wake-clause-lacks
-returns-in_err-wake-clause-lacks g c = let l = c.args.laid.now in let a = c.requires.asked in
+pub returns-in_err-woken-clause-lacks : goal.returns-in_err-woken-clause-lacks
+returns-in_err-woken-clause-lacks g c = let l = c.args.laid.now in let a = c.requires.asked in
     let k = c.args.place in let h = held_at c.items.result.now k in
     let some : WakesSome g.P.Pool.puts g.P.Pool.same h.cell.0 c.fill.new.seat.me.0
-    c.wake.new.seat.me.0 c.args.pool.now c.wake.new.pool = c.in_err-wake.ensures.memory in
+    c.wake.new.seat.me.0 c.args.pool.now c.wake.new.pool = c.in_err-woken.ensures.memory in
     lacks_memory c.args.seat.now.me.0 c.wake.new.seat.me.0
     (ap (λ u. u.about) some.woke.view
     ∙ sets_about (program_of g.B.Body.places g.B.Body.awaits g.B.Body.left g.B.Body.asks g.B.Body.then) l c.args.rec.now
@@ -90,8 +90,8 @@ returns-in_err-wake-clause-lacks g c = let l = c.args.laid.now in let a = c.requ
 pub returns-clause-goes : goal.returns-clause-goes
 returns-clause-goes g c = let l = c.args.laid.now in let a = c.requires.asked in
     let k = c.args.place in let h = held_at c.items.result.now k in
-    let woke : WakesAll g.P.Pool.puts h.cell.0 c.in_ok-wake.field-0 c.fill.new.seat.me.0
-    c.wake.new.seat.me.0 c.args.pool.now c.wake.new.pool = c.in_ok-wake.ensures.woke in
+    let woke : WakesAll g.P.Pool.puts h.cell.0 c.in_ok-woken.woken c.fill.new.seat.me.0
+    c.wake.new.seat.me.0 c.args.pool.now c.wake.new.pool = c.in_ok-woken.ensures.woke in
     sets_goes (program_of g.B.Body.places g.B.Body.awaits g.B.Body.left g.B.Body.asks g.B.Body.then) l c.args.rec.now k
     c.args.v c.args.seat.now.me c.requires.runs a
     (c.points_in_rounds.ensures.ask l.strict l.root.value a.rooted)
