@@ -3,13 +3,9 @@
 
 mod cell_names;
 mod closed_outcome;
-#[cfg(test)]
-mod plan_tests;
 mod report;
 mod shown_names;
 mod summary;
-#[cfg(test)]
-mod tests;
 mod told_records;
 
 pub use closed_outcome::outcome_of;

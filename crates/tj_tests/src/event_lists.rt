@@ -1,7 +1,7 @@
 //! Journals of events, each with what the rules say of it.
-use tj_core::{Core, Event, Stage};
 use std::test::Fail;
 use tj_base::CellId;
+use tj_core::{Core, Event, Stage};
 
 const ROOT: CellId = CellId(0);
 

@@ -1,6 +1,6 @@
 //! The generated text, by hand.
-use tj_gen::gen_script;
 use std::test::Fail;
+use tj_gen::gen_script;
 
 #[test]
 fn the_script_of_two_steps(rt: HostRuntime) -> Result<(), Fail> {

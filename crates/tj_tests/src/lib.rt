@@ -1,5 +1,5 @@
-//! Tests by hand of the crates below, up to channels. A crate with tests is proved twice, so these
-//! stand apart: here nothing but the tests is proved.
+//! Tests by hand of the crates below, up to channels, and of reports. A crate with tests is proved
+//! twice, so these stand apart: here nothing but the tests is proved.
 #![tactic(auto)]
 
 #[cfg(test)]
@@ -20,6 +20,8 @@ mod listings;
 mod outcomes;
 #[cfg(test)]
 mod printed_names;
+#[cfg(test)]
+mod reports;
 #[cfg(test)]
 mod script_faults;
 #[cfg(test)]

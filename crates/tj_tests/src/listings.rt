@@ -1,8 +1,8 @@
 //! Listings of scripts, and the parentheses of expressions.
-use tj_syntax::{list_text, parse};
 use std::alloc::Global;
 use std::test::Fail;
 use tj_lex::{MAX_TEXT, tokens};
+use tj_syntax::{list_text, parse};
 
 /// The listing of the script that a text is, or nothing where it is none.
 fn listed(alloc: Global, text: &[u8]) -> Result<Vec<u8>, Fail> {

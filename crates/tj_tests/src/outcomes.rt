@@ -1,52 +1,132 @@
 //! Outcomes of small programs, by hand.
-ghost use Rattle.std.specs.Prelude.{◌<◌, length, IsTrue};
-ghost use Rattle.tj_body.specs.Table.{is_table};
-
-use tj_mean::{Act, ActLines, Ending, Outcome, PlanFault, acts, marked, plan};
-use crate::tables::{fork, rows};
+use crate::tables::Says::{Emit, End, Fail, Fork, Get, GetOr, Join, New, Set};
+use crate::tables::{Says, is_table, lists};
 use std::alloc::Global;
 use std::process::Abort;
-use std::test::Fail;
-use tj_base::{Cause, Name, Oom, Pay, Shown, Trouble};
-use tj_body::{Row, RowList, TableBody};
+use std::test;
+use tj_base::{Cause, Name, Oom, Pay, Shown, Trouble, add_signed};
+use tj_body::TableBody;
+use tj_mean::{Act, ActLines, Ending, Outcome, PlanFault, acts, marked, plan};
 
-/// Adds the printed lines of an outcome, without its numbers' signs.
-fn text(alloc: Global, o: &Outcome) -> Result<Vec<u8>, Oom> {
+/// What is told of the root with the first of these lists.
+struct Case {
+    shows: &'static str,
+    lists: &'static [&'static [Says]],
+    strict: bool,
+    text: &'static str,
+}
+
+pub(crate) const OF_A_PROMISE: &[&[Says]] = &[&[
+    New,
+    Set(1, Pay::Num(5)),
+    Get(1),
+    Emit(8),
+    End(Pay::Ref(1)),
+]];
+
+const JOINS: &[&[Says]] = &[&[Fork(1, &[0], &[]), Join(1)], &[Join(1)]];
+
+const OF_ONESELF: &[&[Says]] = &[&[Join(0)]];
+
+const CASES: &[Case] = &[
+    Case {
+        shows: "a value through a promise",
+        lists: OF_A_PROMISE,
+        strict: false,
+        text: "0:8,@0.1 clean",
+    },
+    Case {
+        shows: "an owed promise",
+        lists: &[&[New, Fork(1, &[1], &[])], &[Get(1)]],
+        strict: false,
+        text: "0:d0-0.1 0.2:broken 0.1 marked",
+    },
+    Case {
+        shows: "a broken one with or",
+        lists: &[&[New, Fork(1, &[1], &[1]), GetOr(1), Emit(1)], &[]],
+        strict: false,
+        text: "0:1,d0 0.2:d0-0.1 marked",
+    },
+    Case {
+        shows: "two wait for each other",
+        lists: &[
+            &[New, New, Fork(1, &[1, 2], &[1]), Fork(1, &[2, 1], &[2])],
+            &[Get(2), Set(1, Pay::Num(1))],
+        ],
+        strict: false,
+        text: "0:d0 0.3:w0.2 0.4:w0.1 !0.3>0.2,0.4>0.1, marked",
+    },
+    Case {
+        shows: "its own promise",
+        lists: &[&[New, Get(1)]],
+        strict: false,
+        text: "0:w0.1 !0>0.1, marked",
+    },
+    Case {
+        shows: "joins",
+        lists: JOINS,
+        strict: false,
+        text: "0:w0.1 0.1:w0 !0>0.1,0.1>0, marked",
+    },
+    Case {
+        shows: "strict joins",
+        lists: JOINS,
+        strict: true,
+        text: "0:broken 0.1 0.1:order 0 marked",
+    },
+    Case {
+        shows: "a join of oneself",
+        lists: OF_ONESELF,
+        strict: false,
+        text: "0:w0 !0>0, marked",
+    },
+    Case {
+        shows: "a strict join of oneself",
+        lists: OF_ONESELF,
+        strict: true,
+        text: "0:order 0 marked",
+    },
+    Case {
+        shows: "two cycles",
+        lists: &[&[Fork(1, &[], &[]), Fork(1, &[], &[])], &[New, Get(1)]],
+        strict: false,
+        text: "0:d0 0.1:w0.1.1 0.2:w0.2.1 !0.1>0.1.1, !0.2>0.2.1, marked",
+    },
+    Case {
+        shows: "numbers in order",
+        lists: &[
+            &[
+                New,
+                Fork(1, &[], &[]),
+                New,
+                New,
+                New,
+                New,
+                New,
+                New,
+                New,
+                Fork(1, &[], &[]),
+                New,
+                Fail(Trouble::Arith),
+            ],
+            &[],
+        ],
+        strict: false,
+        text: "0:arith-0.1-0.3-0.4-0.5-0.6-0.7-0.8-0.9-0.11 0.2:d0 0.10:d0 marked",
+    },
+];
+
+/// What is told of a program, in short.
+pub(crate) fn outcome_text(alloc: Global, o: &Outcome) -> Result<Vec<u8>, Oom> {
     let mut text = Vec::new(alloc);
     for line in o.lines.items() {
         line.name.text_into(alloc, &mut text)?;
         text.push(b':')?;
-        for _ in line.prints.items() {
-            text.push(b'*')?;
+        for number in line.prints.items() {
+            add_signed(&mut text, *number)?;
+            text.push(b',')?;
         }
-        match &line.ending {
-            Ending::Done(Shown::Num(i)) => {
-                text.push(b'd')?;
-                text.push(if *i == 0 { b'0' } else { b'n' })?;
-            }
-            Ending::Done(Shown::Ref(q)) => {
-                text.push(b'@')?;
-                q.text_into(alloc, &mut text)?;
-            }
-            Ending::Failed(cause) => {
-                let (word, cell): (&[u8], Option<&Name>) = match cause {
-                    Cause::Arith => (b"arith", None),
-                    Cause::Kind => (b"kind", None),
-                    Cause::Steps => (b"steps", None),
-                    Cause::Owner(q) => (b"owner ", Some(q)),
-                    Cause::Broken(q) => (b"broken ", Some(q)),
-                    Cause::Order(q) => (b"order ", Some(q)),
-                };
-                text.extend_from_slice(word)?;
-                if let Some(q) = cell {
-                    q.text_into(alloc, &mut text)?;
-                }
-            }
-            Ending::Waits(q) => {
-                text.push(b'w')?;
-                q.text_into(alloc, &mut text)?;
-            }
-        }
+        add_ending(alloc, &line.ending, &mut text)?;
         for q in line.owes.items() {
             text.push(b'-')?;
             q.text_into(alloc, &mut text)?;
@@ -67,219 +147,72 @@ fn text(alloc: Global, o: &Outcome) -> Result<Vec<u8>, Oom> {
     Ok(text)
 }
 
-fn check(
+fn add_ending(alloc: Global, ending: &Ending, text: &mut Vec<u8>) -> Result<(), Oom> {
+    let (word, cell): (&[u8], Option<&Name>) = match ending {
+        Ending::Done(Shown::Num(i)) => {
+            text.push(b'd')?;
+            add_signed(text, *i)?;
+            return Ok(());
+        }
+        Ending::Done(Shown::Ref(q)) => (b"@", Some(q)),
+        Ending::Waits(q) => (b"w", Some(q)),
+        Ending::Failed(Cause::Arith) => (b"arith", None),
+        Ending::Failed(Cause::Kind) => (b"kind", None),
+        Ending::Failed(Cause::Steps) => (b"steps", None),
+        Ending::Failed(Cause::Owner(q)) => (b"owner ", Some(q)),
+        Ending::Failed(Cause::Broken(q)) => (b"broken ", Some(q)),
+        Ending::Failed(Cause::Order(q)) => (b"order ", Some(q)),
+    };
+    text.extend_from_slice(word)?;
+    if let Some(q) = cell {
+        q.text_into(alloc, text)?;
+    }
+    Ok(())
+}
+
+/// What is told of the root with the first of these lists, or "full".
+fn planned(
     rt: &impl Abort,
     alloc: Global,
-    shows: &str,
-    lists: &[RowList],
+    written: &[&[Says]],
+    cells: u32,
     strict: bool,
-    expected: &[u8],
-) -> Result<(), Oom>
-    requires lists { 0 < length lists.now }
-    requires table { IsTrue (is_table lists.now) }
-{
-    let body = TableBody::new(lists, 0);
-    match plan(alloc, &body, 4096, strict) {
-        Ok(o) => {
-            let text = text(alloc, &o)?;
-            assert_eq!(rt; text.as_slice(), expected, "{shows}");
-        }
-        Err(PlanFault::Full) => panic!(rt; "full"),
-        Err(PlanFault::Oom) => return Err(Oom),
+) -> Result<Vec<u8>, Oom> {
+    let lists = lists(alloc, written)?;
+    if lists.is_empty() || !is_table(&lists) || cells == 0 || cells > 16_384 {
+        panic!(rt; "no table");
+    }
+    let body = TableBody::new(&lists, 0);
+    match plan(alloc, &body, cells, strict) {
+        Ok(o) => outcome_text(alloc, &o),
+        Err(PlanFault::Full) => Ok(Vec::from_slice(alloc, b"full")?),
+        Err(PlanFault::Oom) => Err(Oom),
+    }
+}
+
+#[test]
+fn programs_end_as_told(rt: HostRuntime) -> Result<(), test::Fail> {
+    for case in CASES {
+        let text = planned(&rt, rt.alloc(), case.lists, 4096, case.strict)?;
+        assert_eq!(rt; text.as_slice(), case.text.as_bytes(), "{}", case.shows);
     }
     Ok(())
 }
 
 #[test]
-fn a_value_through_a_promise(rt: HostRuntime) -> Result<(), Fail> {
-    let a = rt.alloc();
-    let main = rows(
-        a,
-        [
-            Row::New,
-            Row::Set {
-                p: 1,
-                v: Pay::Num(5),
-            },
-            Row::Get { p: 1 },
-            Row::Emit(8),
-            Row::End(Pay::Ref(1)),
-        ],
-    )?;
-    let lists = [main];
-    check(
-        &rt,
-        a,
-        "a value through a promise",
-        &lists,
-        false,
-        b"0:*@0.1 clean",
-    )?;
-    let body = TableBody::new(&lists, 0);
-    assert!(rt; matches!(plan(a, &body, 1, false), Err(PlanFault::Full)));
-    assert!(rt; matches!(plan(a, &body, 2, false), Ok(_)));
+fn a_value_through_a_promise(rt: HostRuntime) -> Result<(), test::Fail> {
+    for (cells, expected) in [(1, "full"), (2, "0:8,@0.1 clean")] {
+        let text = planned(&rt, rt.alloc(), OF_A_PROMISE, cells, false)?;
+        assert_eq!(rt; text.as_slice(), expected.as_bytes());
+    }
     Ok(())
 }
 
 #[test]
-fn what_waits_and_what_is_owed(rt: HostRuntime) -> Result<(), Fail> {
-    let a = rt.alloc();
-    let owes = [
-        rows(a, [Row::New, fork(a, 1, &[1], &[])?])?,
-        rows(a, [Row::Get { p: 1 }])?,
-    ];
-    check(
-        &rt,
-        a,
-        "an owed promise",
-        &owes,
-        false,
-        b"0:d0-0.1 0.2:broken 0.1 marked",
-    )?;
-    let or = [
-        rows(
-            a,
-            [
-                Row::New,
-                fork(a, 1, &[1], &[1])?,
-                Row::GetOr { p: 1 },
-                Row::Emit(1),
-            ],
-        )?,
-        rows(a, [])?,
-    ];
-    check(
-        &rt,
-        a,
-        "a broken one with or",
-        &or,
-        false,
-        b"0:*d0 0.2:d0-0.1 marked",
-    )?;
-    let two = [
-        rows(
-            a,
-            [
-                Row::New,
-                Row::New,
-                fork(a, 1, &[1, 2], &[1])?,
-                fork(a, 1, &[2, 1], &[2])?,
-            ],
-        )?,
-        rows(
-            a,
-            [
-                Row::Get { p: 2 },
-                Row::Set {
-                    p: 1,
-                    v: Pay::Num(1),
-                },
-            ],
-        )?,
-    ];
-    check(
-        &rt,
-        a,
-        "two wait for each other",
-        &two,
-        false,
-        b"0:d0 0.3:w0.2 0.4:w0.1 !0.3>0.2,0.4>0.1, marked",
-    )?;
-    let own = [rows(a, [Row::New, Row::Get { p: 1 }])?];
-    check(
-        &rt,
-        a,
-        "its own promise",
-        &own,
-        false,
-        b"0:w0.1 !0>0.1, marked",
-    )?;
-    let join = [
-        rows(a, [fork(a, 1, &[0], &[])?, Row::Join { t: 1 }])?,
-        rows(a, [Row::Join { t: 1 }])?,
-    ];
-    check(
-        &rt,
-        a,
-        "joins",
-        &join,
-        false,
-        b"0:w0.1 0.1:w0 !0>0.1,0.1>0, marked",
-    )?;
-    check(
-        &rt,
-        a,
-        "strict joins",
-        &join,
-        true,
-        b"0:broken 0.1 0.1:order 0 marked",
-    )?;
-    let oneself = [rows(a, [Row::Join { t: 0 }])?];
-    check(
-        &rt,
-        a,
-        "a join of oneself",
-        &oneself,
-        false,
-        b"0:w0 !0>0, marked",
-    )?;
-    check(
-        &rt,
-        a,
-        "a strict join of oneself",
-        &oneself,
-        true,
-        b"0:order 0 marked",
-    )?;
-    Ok(())
-}
-
-#[test]
-fn cycles_and_lines_in_order(rt: HostRuntime) -> Result<(), Fail> {
-    let a = rt.alloc();
-    let own = [
-        rows(a, [fork(a, 1, &[], &[])?, fork(a, 1, &[], &[])?])?,
-        rows(a, [Row::New, Row::Get { p: 1 }])?,
-    ];
-    check(
-        &rt,
-        a,
-        "two cycles",
-        &own,
-        false,
-        b"0:d0 0.1:w0.1.1 0.2:w0.2.1 !0.1>0.1.1, !0.2>0.2.1, marked",
-    )?;
-    let many = [
-        rows(
-            a,
-            [
-                Row::New,
-                fork(a, 1, &[], &[])?,
-                Row::New,
-                Row::New,
-                Row::New,
-                Row::New,
-                Row::New,
-                Row::New,
-                Row::New,
-                fork(a, 1, &[], &[])?,
-                Row::New,
-                Row::Fail(Trouble::Arith),
-            ],
-        )?,
-        rows(a, [])?,
-    ];
-    check(
-        &rt,
-        a,
-        "numbers in order",
-        &many,
-        false,
-        b"0:arith-0.1-0.3-0.4-0.5-0.6-0.7-0.8-0.9-0.11 0.2:d0 0.10:d0 marked",
-    )?;
-    let twice = [rows(a, [fork(a, 0, &[], &[])?, fork(a, 0, &[], &[])?])?];
-    let body = TableBody::new(&twice, 0);
-    assert!(rt; matches!(plan(a, &body, 16384, false), Err(PlanFault::Full)));
+fn tasks_that_fork_for_ever_are_full(rt: HostRuntime) -> Result<(), test::Fail> {
+    let twice: &[&[Says]] = &[&[Fork(0, &[], &[]), Fork(0, &[], &[])]];
+    let text = planned(&rt, rt.alloc(), twice, 16384, false)?;
+    assert_eq!(rt; text.as_slice(), b"full".as_slice());
     Ok(())
 }
 
@@ -305,43 +238,40 @@ fn acts_text(alloc: Global, lines: &ActLines) -> Result<Vec<u8>, Oom> {
     Ok(text)
 }
 
+/// What the tasks of the root with the first of these lists do with one another, or "full".
+fn acted(rt: &impl Abort, alloc: Global, written: &[&[Says]], cells: u32) -> Result<Vec<u8>, Oom> {
+    let lists = lists(alloc, written)?;
+    if lists.is_empty() || !is_table(&lists) || cells == 0 || cells > 16_384 {
+        panic!(rt; "no table");
+    }
+    match acts(alloc, &TableBody::new(&lists, 0), cells) {
+        Ok(lines) => acts_text(alloc, &lines),
+        Err(PlanFault::Full) => Ok(Vec::from_slice(alloc, b"full")?),
+        Err(PlanFault::Oom) => Err(Oom),
+    }
+}
+
 /// A join that is answered by a value, one by a break, one that isn't answered, and one of a
 /// promise, which is no act.
+const WITH_ONE_ANOTHER: &[&[Says]] = &[
+    &[
+        New,
+        Fork(1, &[], &[]),
+        Fork(2, &[2, 1], &[]),
+        Says::JoinOr(2),
+        Join(3),
+    ],
+    &[],
+    &[Fork(3, &[], &[]), Says::JoinOr(1), Join(2)],
+    &[Join(0)],
+];
+
 #[test]
-fn what_tasks_do_with_one_another(rt: HostRuntime) -> Result<(), Fail> {
-    let a = rt.alloc();
-    let lists = [
-        rows(
-            a,
-            [
-                Row::New,
-                fork(a, 1, &[], &[])?,
-                fork(a, 2, &[2, 1], &[])?,
-                Row::JoinOr { t: 2 },
-                Row::Join { t: 3 },
-            ],
-        )?,
-        rows(a, [])?,
-        rows(
-            a,
-            [
-                fork(a, 3, &[], &[])?,
-                Row::JoinOr { t: 1 },
-                Row::Join { t: 2 },
-            ],
-        )?,
-        rows(a, [Row::Join { t: 0 }])?,
-    ];
-    let body = TableBody::new(&lists, 0);
-    assert!(rt; matches!(acts(a, &body, 4), Err(PlanFault::Full)));
-    match acts(a, &body, 5) {
-        Ok(lines) => {
-            let text = acts_text(a, &lines)?;
-            let expected: &[u8] = b"0:+0.2 +0.3 ?0.2!?0.3!;0.2:;0.3:+0.3.1 ?0.2!;0.3.1:?0.3.1 ;";
-            assert_eq!(rt; text.as_slice(), expected, "acts");
-        }
-        Err(PlanFault::Full) => panic!(rt; "full"),
-        Err(PlanFault::Oom) => return Err(Oom.into()),
+fn what_tasks_do_with_one_another(rt: HostRuntime) -> Result<(), test::Fail> {
+    let whole = "0:+0.2 +0.3 ?0.2!?0.3!;0.2:;0.3:+0.3.1 ?0.2!;0.3.1:?0.3.1 ;";
+    for (cells, expected) in [(4, "full"), (5, whole)] {
+        let text = acted(&rt, rt.alloc(), WITH_ONE_ANOTHER, cells)?;
+        assert_eq!(rt; text.as_slice(), expected.as_bytes());
     }
     Ok(())
 }

@@ -1,8 +1,8 @@
 //! Printed names and the two orders, by hand.
-use tj_base::{Name, add_number, add_signed, name_cmp, path_before};
 use std::alloc::Global;
 use std::cmp::Ordering;
 use std::test::Fail;
+use tj_base::{Name, add_number, add_signed, name_cmp, path_before};
 
 fn name(alloc: Global, numbers: &[u32]) -> Result<Name, Fail> {
     let mut name = Name::root();

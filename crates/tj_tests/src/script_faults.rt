@@ -1,8 +1,8 @@
 //! Faults and their places, on scripts of one line.
-use tj_syntax::{ParseFault, parse};
 use std::alloc::Global;
 use std::test::Fail;
 use tj_lex::{MAX_TEXT, tokens};
+use tj_syntax::{ParseFault, parse};
 
 /// The number of a fault's kind, its line and its column, or three times 0 where the text is a
 /// script.

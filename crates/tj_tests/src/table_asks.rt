@@ -2,12 +2,12 @@
 ghost use Rattle.std.specs.Prelude.{◌<◌, length, IfOk, IsTrue};
 ghost use Rattle.tj_body.specs.Table.{is_row, is_table};
 
-use tj_body::{Answer, Ask, Body, Row, RowList, TableBody};
 use crate::tables::places;
 use std::alloc::Global;
 use std::process::Abort;
 use std::test::Fail;
 use tj_base::{Items, Oom, Pay, Trouble};
+use tj_body::{Answer, Ask, Body, Row, RowList, TableBody};
 
 /// The table of one list with one row.
 fn table(alloc: Global, row: Row) -> Result<[RowList; 1], Oom>

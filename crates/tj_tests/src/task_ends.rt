@@ -1,13 +1,13 @@
 //! How tasks end, by hand from the rules: expressions at their edges, and the limit of statements.
 ghost use Rattle.std.specs.Prelude.{◌<◌, ◌≤◌};
 
-use tj_eval::main_body;
 use crate::transcripts::script;
 use std::alloc::Global;
 use std::process::Abort;
 use std::test::Fail;
 use tj_base::{Pay, Trouble};
 use tj_body::{Answer, Ask, Body};
+use tj_eval::main_body;
 
 /// Asserts that a task with these statements, of which so many may begin, ends so at its first ask.
 fn ends(

@@ -1,5 +1,5 @@
-use tj_lex::{Key, LexFault, MAX_TEXT, Mark, Place, Tok, Token, tokens};
 use std::test::Fail;
+use tj_lex::{Key, LexFault, MAX_TEXT, Mark, Place, Tok, Token, tokens};
 
 /// What a row expects a token to be.
 #[derive(Clone, Copy)]

@@ -7,12 +7,12 @@ ghost use Rattle.tj_lex.specs.declared.token.Tok.{Tok};
 ghost use Rattle.tj_syntax.specs.Faults.{IsScript};
 ghost use Rattle.tj_syntax.specs.View as view;
 
-use tj_eval::{ScriptBody, main_body};
 use std::alloc::Global;
 use std::process::Abort;
 use std::test::Fail;
 use tj_base::{Items, Oom, Pay, Trouble};
 use tj_body::{Answer, Ask, Body};
+use tj_eval::{ScriptBody, main_body};
 use tj_lex::{MAX_TEXT, tokens};
 use tj_syntax::{Script, parse};
 
