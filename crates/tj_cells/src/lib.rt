@@ -5,6 +5,8 @@ mod closing;
 mod making;
 mod seen;
 #[cfg(test)]
+mod table_tests;
+#[cfg(test)]
 mod tests;
 
 pub use closing::{break_off, fill};

@@ -2,6 +2,7 @@
 ghost use Rattle.std.specs.Prelude.{◌≡◌, ◌⊎◌, ◌<◌, ◌≤◌, ◌*◌, List, [], All, false, IfErr, IfOk, length};
 ghost use Rattle.std.specs.Thread.{IsSync};
 ghost use denote.Param.Send.{IsSend};
+ghost use Rattle.tj_base.specs.declared.cell.TheConstants.{MAX_CELLS};
 ghost use Rattle.tj_body.specs.Asks.{IsFresh};
 ghost use Rattle.tj_body.specs.Programs.{program_of};
 ghost use Rattle.tj_body.specs.Rounds.{IsFull};
@@ -40,7 +41,7 @@ pub fn run_watched<B: Body, P: Pool, G: Gate, R: Wait + Threads + Sync>(
     workers: u32,
     gate: &G,
 ) -> Result<(Watched, RestWords<B>), RunFault>
-    requires cells { (0 < cells) × (cells ≤ 16384) }
+    requires cells { (0 < cells) × (cells ≤ MAX_CELLS) }
     requires workers { (0 < workers) × (workers ≤ 64) }
     requires root { IsFresh B.places B.awaits B.left 1 root }
     ensures rest { IfOk result (λ out. RestsAt (program_of B.places B.awaits B.left B.asks B.then)

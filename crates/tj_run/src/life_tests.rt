@@ -1,6 +1,7 @@
 //! The life of the root, call by call, from a table's first seat to its closed words; and a promise that
 //! is filled while a task blocks on it.
 ghost use Rattle.std.specs.Prelude.{◌≡◌, ◌<◌, ◌≤◌, [], ◌∷◌, length, IfOk, IsTrue, OnOk};
+ghost use Rattle.tj_base.specs.declared.cell.TheConstants.{MAX_CELLS};
 ghost use Rattle.tj_body.specs.Programs.{program_of};
 ghost use Rattle.tj_body.specs.Table.{is_table, table_asks, table_awaits, table_left, table_places, table_then};
 ghost use Rattle.tj_words.specs.Calls.ExchangeViews.{KnowsTable};
@@ -33,7 +34,7 @@ use tj_words::{Fill, Finish, Laid, Phase, Rec, RestWords, WSeat};
 
 /// The one end of a pool for so many cells.
 pub(crate) fn one_end<P: Pool, R: Wait>(rt: &R, alloc: Global, cells: u32) -> Result<P, Oom>
-    requires cells { (0 < cells) × (cells ≤ 16384) }
+    requires cells { (0 < cells) × (cells ≤ MAX_CELLS) }
     ensures limit { IfOk result (λ end. P.limit end ≡ cells) }
 {
     let mut ends = P::make(rt, alloc, 1, cells)?;
@@ -48,7 +49,7 @@ pub(crate) fn table_of<'s>(
 ) -> Result<(Laid<TableBody<'s>>, WSeat<TableBody<'s>>), Oom>
     requires some { 0 < length lists.now }
     requires table { IsTrue (is_table lists.now) }
-    requires cells { (0 < cells) × (cells ≤ 16384) }
+    requires cells { (0 < cells) × (cells ≤ MAX_CELLS) }
     ensures cells { IfOk result (λ made. made.0.cells ≡ cells) }
     ensures table { IfOk result (λ made. IsSeatOf made.0 made.1) }
     ensures lot { IfOk result (λ made. made.1.me.0.lot ≡ all_lots) }

@@ -1,6 +1,7 @@
 //! What tasks that wait come to, in plays by one seat: an alarm on an own promise, a walk and an alarm
 //! along the order, a walk that is skipped, a task that is woken, and a promise that is broken.
 ghost use Rattle.std.specs.Prelude.{◌≡◌, ◌<◌, ◌≤◌, length, IfOk, IsTrue};
+ghost use Rattle.tj_base.specs.declared.cell.TheConstants.{MAX_CELLS};
 ghost use Rattle.tj_body.specs.Table.{is_table};
 ghost use Rattle.tj_body.specs.declared.table.Row.TheVariants as row;
 
@@ -51,7 +52,7 @@ fn plays<R: Wait + Abort>(
 )
     requires lists { 0 < length lists.now }
     requires table { IsTrue (is_table lists.now) }
-    requires cells { (0 < cells) × (cells ≤ 16384) }
+    requires cells { (0 < cells) × (cells ≤ MAX_CELLS) }
 {
     let root = TableBody::new(lists, 0);
     match play::<TableBody<'_>, LockedPool, R>(rt, alloc, root, cells) {

@@ -1,5 +1,6 @@
 //! Plays, for tests: one seat takes its turns, each with the task that a pool gives it.
 ghost use Rattle.std.specs.Prelude.{◌≡◌, ◌<◌, ◌≤◌, IfOk, IfSome};
+ghost use Rattle.tj_base.specs.declared.cell.TheConstants.{MAX_CELLS};
 ghost use Rattle.tj_body.specs.Asks.{IsFresh};
 ghost use Rattle.tj_body.specs.Programs.{program_of};
 ghost use Rattle.tj_words.specs.Law.{IsRooted};
@@ -58,7 +59,7 @@ pub(crate) fn play<B: Body, P: Pool, R: Wait>(
     root: B,
     cells: u32,
 ) -> Result<Option<Played>, Why>
-    requires cells { (0 < cells) × (cells ≤ 16384) }
+    requires cells { (0 < cells) × (cells ≤ MAX_CELLS) }
     requires root { IsFresh B.places B.awaits B.left 1 root }
 {
     let mut ends = P::make(rt, alloc, 1, cells)?;

@@ -1,5 +1,6 @@
 //! Lists of rows as tests write them, and the tables that bodies take.
 ghost use Rattle.std.specs.Prelude.{◌≡◌, IfOk};
+ghost use Rattle.std.specs.List.{list_all};
 ghost use Rattle.tj_body.specs.Table as table;
 ghost use Rattle.tj_chan.specs.ChatTables as chats;
 
@@ -99,10 +100,16 @@ fn is_row(count: usize, row: &Row) -> bool
     }
 }
 
+fn are_rows(count: usize, rows: &[Row]) -> bool
+    ensures { result ≡ list_all (table.is_row count) rows.now }
+{
+    rows.iter().all(|row| is_row(count, row))
+}
+
 fn is_list(count: usize, list: &RowList) -> bool
     ensures { result ≡ table.is_row_list count list.now }
 {
-    list.items().len() <= MOST_ROWS && list.items().iter().all(|row| is_row(count, row))
+    list.items().len() <= MOST_ROWS && are_rows(count, list.items())
 }
 
 /// Whether the lists are those of a table.
@@ -153,10 +160,16 @@ fn is_chat_row(count: usize, row: &ChatRow) -> bool
     }
 }
 
+fn are_chat_rows(count: usize, rows: &[ChatRow]) -> bool
+    ensures { result ≡ list_all (chats.is_chat_row count) rows.now }
+{
+    rows.iter().all(|row| is_chat_row(count, row))
+}
+
 fn is_chat_list(count: usize, list: &ChatRowList) -> bool
     ensures { result ≡ chats.is_chat_list count list.now }
 {
-    list.items().len() <= MOST_CHAT_ROWS && list.items().iter().all(|row| is_chat_row(count, row))
+    list.items().len() <= MOST_CHAT_ROWS && are_chat_rows(count, list.items())
 }
 
 /// Whether the lists are those of a table of channels.

@@ -3,6 +3,7 @@
 -- it.
 use Rattle.std.specs.Prelude.{◌≡◌, ℕ, ◌<◌, ◌≤◌, Bool, List, length, Option, Some}
 use Rattle.atomic_table.specs.Table.{State}
+use Rattle.tj_base.specs.declared.cell.TheConstants.{MAX_CELLS}
 use Rattle.tj_body.specs.declared.point.Reference.{Reference}
 use Rattle.tj_core.specs.CoreFacts.{CoreFacts}
 use Rattle.tj_tree.specs.Forks.{Forks}
@@ -28,10 +29,6 @@ use Rattle.tj_body.specs.Asks.{IsFresh}
 use Rattle.tj_body.specs.Programs.{Program}
 use Rattle.tj_words.specs.LawParts.Meaning.{Meaning}
 use Rattle.tj_words.specs.LawParts.RecordPhases.{WaitersOwn, RecordsFit}
-
--- the most cells of a table
-abbrev pub most_cells : ℕ
-most_cells = 16384
 
 module _ {B : Type 0} where
   -- the root's body has asked nothing yet, and has one place
@@ -84,7 +81,7 @@ module _ {B : Type 0} where
   -- the rule of a table
   pub record Rule (program : Bool → B → Program B) (key : Key B) (s : State (Option (Rec B)) (View B)) : Type 0 where
     pub some_cells : 0 < key.cells
-    pub few_cells : key.cells ≤ most_cells
+    pub few_cells : key.cells ≤ MAX_CELLS
     pub rooted : IsRooted (program key.strict key.root.value)
     pub all_words : length s.words ≡ words_for key.cells
     pub all_slots : length s.homes ≡ key.cells

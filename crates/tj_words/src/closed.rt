@@ -35,14 +35,14 @@ pub struct Closed {
 
 impl Model for Closed {
     ghost use Rattle.std.specs.Prelude.{List, ◌≤◌, length};
-    ghost use Rattle.tj_words.specs.Law.{most_cells};
+    ghost use Rattle.tj_base.specs.declared.cell.TheConstants.{MAX_CELLS};
     ghost use Rattle.tj_words.specs.declared.closed.RestCell.{RestCell};
 
     ghost Value = { List RestCell };
 
     ghost view = { λ closed. closed.cells.items };
 
-    ghost invariant = { λ closed. length closed.cells.items ≤ most_cells };
+    ghost invariant = { λ closed. length closed.cells.items ≤ MAX_CELLS };
 }
 
 impl Closed {

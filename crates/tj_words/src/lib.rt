@@ -26,8 +26,6 @@ mod records;
 mod rest;
 mod seats;
 mod table;
-#[cfg(test)]
-mod tests;
 mod value;
 mod view;
 mod wait_plays;

@@ -1,7 +1,7 @@
 //! The table: its words and slots under the law, and seats that know of it.
 ghost use Rattle.std.specs.Prelude.{◌≡◌, ℕ, ◌+◌, ◌*◌, ◌<◌, ◌≤◌, List, [], ◌∷◌, IfOk, length, replicate, Some, None};
+ghost use Rattle.tj_base.specs.declared.cell.TheConstants.{MAX_CELLS};
 ghost use Rattle.tj_body.specs.Asks.{IsFresh};
-ghost use Rattle.tj_words.specs.Law.{most_cells};
 ghost use Rattle.tj_words.specs.Words.Offsets.{words_for};
 ghost use Rattle.tj_words.specs.LawParts.FirstState as first;
 ghost use Rattle.tj_words.specs.LawParts.FirstState.{first_slots, first_words, first_view};
@@ -60,14 +60,14 @@ pub struct Laid<B: Body> {
     ghost key_root: { table.shared.key.root.value ≡ root.value },
     ghost roomy: { length room.items ≡ cells },
     ghost some: { 0 < cells },
-    ghost few: { cells ≤ most_cells },
+    ghost few: { cells ≤ MAX_CELLS },
 }
 
 impl<B: Body> Laid<B> {
     /// A table of the root alone, which is ready, and the first seat.
     pub fn new(alloc: Global, cells: u32, root: B, strict: bool) -> Result<(Laid<B>, WSeat<B>), Oom>
         requires some { 0 < cells }
-        requires few { cells ≤ most_cells }
+        requires few { cells ≤ MAX_CELLS }
         requires root { IsFresh B.places B.awaits B.left 1 root }
         ensures cells { IfOk result (λ made. made.0.cells ≡ cells) }
         ensures strict { IfOk result (λ made. made.0.strict ≡ strict) }
@@ -115,7 +115,7 @@ impl<B: Body> Laid<B> {
 /// The words of a new table: the root is drawn and ready, and owns its result.
 fn words_at_first(alloc: Global, cells: u32) -> Result<Vec<u64>, Oom>
     requires some { 0 < cells }
-    requires few { cells ≤ most_cells }
+    requires few { cells ≤ MAX_CELLS }
     ensures { IfOk result (λ words. words.items ≡ first_words cells) }
 {
     let root = CellId(0);

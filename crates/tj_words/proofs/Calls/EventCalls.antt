@@ -28,7 +28,7 @@ use Rattle.tj_words.specs.SeatViews.SeatSteps.{SeatMe}
 use Rattle.tj_words.specs.Steps.ShownParts.{parts_of}
 use Rattle.tj_words.specs.SeatViews.TaskLists.{hold}
 use Rattle.tj_words.specs.Calls.WalkViews.{IsWalking, MayRaise, lowered, owner_seen, read_on, turned, walk_with}
-use Rattle.tj_words.specs.Steps.WalkSteps.{Turns, ReadsOn, RaisesOthers, LowersOthers, PublishesWait, StoresAlarm}
+use Rattle.tj_words.specs.Steps.WalkSteps.{Proceeds, ReadsOn, RaisesOthers, LowersOthers, PublishesWait, StoresAlarm}
 use Rattle.tj_words.specs.CallLaws.CallSteps.{Makes}
 use Rattle.tj_words.specs.CallLaws.EventCalls.{Keeping}
 use Rattle.tj_words.specs.LawParts.ShownState.{does_walk}
@@ -67,8 +67,8 @@ module _ {B : Type 0} (program : Bool → B → Program B) (key : Key B) (s t : 
         seats = ap (λ v. seats_have (set s.views id v)) view ∙ (seats_set s.views id (turned c f m.0)
             ∙ turned_seats program key s id c f m.0 h.at k held d' does_now)
 
-    pub call_turns : Turns key.cells x y id c d d'
-    call_turns = subst (λ z. Turns key.cells x z id c d d') (sym changed) (record {
+    pub call_turns : Proceeds key.cells x y id c d d'
+    call_turns = subst (λ z. Proceeds key.cells x z id c d d') (sym changed) (record {
       before_it = k;
       after_it = doing d' k;
       held = held_by_view program key s id c m.0 h.at k held;
@@ -100,7 +100,7 @@ module _ {B : Type 0} (program : Bool → B → Program B) (key : Key B) (s t : 
       subst (λ z. Keeping key.cells (contents_of s) z (RaisesOthers key.cells (contents_of s) z id c k.does))
       (sym (changed program key s t r id others_at n m m' h n (say_others s.words n h.inside) c (λ _. does.Raised) view
       k may.held k.does does.Raised refl refl same))
-      (let turns : Turns key.cells (contents_of s) (turned_to (contents_of s) id c k has does.Raised n) id c k.does
+      (let turns : Proceeds key.cells (contents_of s) (turned_to (contents_of s) id c k has does.Raised n) id c k.does
       does.Raised = record {
         before_it = k;
         after_it = doing does.Raised k;

@@ -15,7 +15,7 @@ use Rattle.tj_words.specs.LawParts.Contents.{Contents, drawn_in, hand_of, held_o
 use Rattle.tj_words.specs.Law.{Law}
 use Rattle.tj_words.specs.Steps.ShownParts.{parts_of, IsSameBut, IsSameButOwner}
 use Rattle.tj_words.specs.Steps.StepEvents.{IsHeldWith, IsMoved}
-use Rattle.tj_words.specs.Steps.WalkSteps.{Turns}
+use Rattle.tj_words.specs.Steps.WalkSteps.{Proceeds}
 use Rattle.tj_words.specs.Steps.OneStates.{KeepsCells}
 use Rattle.tj_words.proofs.Holders.TaskPlaces.{held_here}
 
@@ -69,6 +69,6 @@ module _ {B : Type 0} {program : Program B} {cells : ℕ} {x : Contents B} (r : 
   same_made k k' h now made = ap (λ (o : Option (Custody B)). made_by o (home_of y t)) now
       ∙ (made ∙ sym (ap (λ (o : Option (Custody B)). made_by o (home_of x t)) (held_here r id t k h)))
 
-  pub kept_turns : (d d' : Does) → Turns cells x y id t d d' → y.words.once ≡ x.words.once → KeepsCells cells x y
+  pub kept_turns : (d d' : Does) → Proceeds cells x y id t d d' → y.words.once ≡ x.words.once → KeepsCells cells x y
   kept_turns d d' u = kept_but cells x y t u.turned.same
       (same_made u.before_it u.after_it u.held u.turned.held u.turned.made)

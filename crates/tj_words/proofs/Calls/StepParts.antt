@@ -22,7 +22,7 @@ use Rattle.tj_words.specs.Words.Offsets.{live_at, phase_at}
 use Rattle.tj_words.specs.Words.Phases.{phase_in}
 use Rattle.tj_words.specs.Steps.StepEvents.{IsMoved}
 use Rattle.tj_words.specs.SeatViews.TaskLists.{hold, let_go}
-use Rattle.tj_words.specs.Steps.WalkSteps.{KeepsOthers, Leaves, Turns}
+use Rattle.tj_words.specs.Steps.WalkSteps.{KeepsOthers, Leaves, Proceeds}
 use Rattle.tj_words.proofs.Stores.SeatLists.{same_field}
 use Rattle.tj_words.proofs.Holders.SeatTasks.{let_go_moved, noted_turned, same_but, taken_moved}
 use Rattle.tj_words.proofs.Stores.StoreSteps.{put_here, put_else}
@@ -118,7 +118,7 @@ module _ {B : Type 0} {program : Program B} {cells : ℕ} (s t : State (Option (
 
     -- the seat has this for its task from now on
     pub call_turns : (k k' : Custody B) → held_in v.tasks c ≡ Some k → w.tasks ≡ hold k' v.tasks → k'.task ≡ c
-        → phase_of k'.does ≡ q → k'.made ≡ k.made → Turns cells x y id c k.does k'.does
+        → phase_of k'.does ≡ q → k'.made ≡ k.made → Proceeds cells x y id c k.does k'.does
     call_turns k k' held l its same made = record {
       before_it = k;
       after_it = k';

@@ -30,7 +30,7 @@ use Rattle.tj_words.specs.Calls.PutRecords.{PutsHome}
 use Rattle.tj_words.specs.Steps.QuietSteps.{EndsTask, MovesRecord, ReleasesTask, ShelvesTask}
 use Rattle.tj_words.specs.SeatViews.SeatSteps.{SeatMe}
 use Rattle.tj_words.specs.Calls.WaitViews.{MayPark, parked}
-use Rattle.tj_words.specs.Steps.WalkSteps.{StoresParked, Turns}
+use Rattle.tj_words.specs.Steps.WalkSteps.{StoresParked, Proceeds}
 use Rattle.tj_words.specs.CallLaws.CallSteps.{MakesWith}
 use Rattle.tj_words.specs.CallLaws.EventCalls.{Keeping}
 use Rattle.tj_words.proofs.Phases.EndedStores.{unowned}
@@ -230,7 +230,7 @@ module _ {B : Type 0} (program : Bool → B → Program B) (key : Key B) (s t : 
 
       change : MovesRecord key.cells x y id c does.Unborn
       change = record {
-        turns = subst (λ d. Turns key.cells x y id c d d) may.unborn
+        turns = subst (λ d. Proceeds key.cells x y id c d d) may.unborn
             (call_turns s t r.law id c phase.Unborn m.0 m'.0 (set s.homes c (some (Some a))) h.at says
             (slots_laid c live_at n a k h may.held may.puts may.no_hand)
             (views_now gives live_at n h) (ap (λ (z : SeatMe B). z.0.hand) view) (Some a)

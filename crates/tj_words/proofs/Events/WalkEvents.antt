@@ -24,7 +24,7 @@ use Rattle.tj_words.specs.LawParts.Contents.{Contents, hand_of, drawn_in, core_s
 use Rattle.tj_words.specs.Law.{Law}
 use Rattle.tj_words.specs.Steps.ShownParts.{parts_of}
 use Rattle.tj_words.specs.Steps.StepEvents.{IsBegun, wait_in, ShowsEvent}
-use Rattle.tj_words.specs.Steps.WalkSteps.{MayWait, KeepsOthers, Turns, TurnsOpen, RaisesOthers, PublishesWait}
+use Rattle.tj_words.specs.Steps.WalkSteps.{MayWait, KeepsOthers, Proceeds, ProceedsOpen, RaisesOthers, PublishesWait}
 use Rattle.tj_words.specs.Steps.WalkSteps.{ReadsOthers, ReadsCount, ReadsOwner, ReadsWait, ReadsAgain, StoresAlarm}
 use Rattle.tj_words.specs.Steps.WalkSteps.{StoresParked}
 use Rattle.tj_words.proofs.Holders.HeldTasks.{held_listed, in_back}
@@ -56,7 +56,7 @@ module _ {B : Type 0} {program : Program B} {cells : ℕ} {x : Contents B} (r : 
 
   module _ (id t : ℕ) where
     -- a task that has its result acts: it is at the stage of what it does
-    module _ (d d' : Does) (o : TurnsOpen cells x y id t d d') (begun : IsBegun (phase_of d)) where
+    module _ (d d' : Does) (o : ProceedsOpen cells x y id t d d') (begun : IsBegun (phase_of d)) where
       owns_result : x.words.own t ≡ Some t
       owns_result = (list_owned r id t o.turns.before_it o.turns.held t o.result).1
 
@@ -117,7 +117,7 @@ module _ {B : Type 0} {program : Program B} {cells : ℕ} {x : Contents B} (r : 
         is_way = way_shown r p s.there t (held_drawn r id t s.turns.turns.before_it s.turns.turns.held) ∙ sym s.its_way
 
     -- a walker is shown to walk as its seat has it
-    module _ (p : ℕ) (way : Way) (w : Walker) (d' : Does) (s : Turns cells x y id t (does.Walking p way w) d') where
+    module _ (p : ℕ) (way : Way) (w : Walker) (d' : Does) (s : Proceeds cells x y id t (does.Walking p way w) d') where
       walker_begun : IsBegun (phase_of s.before_it.does)
       walker_begun = subst (λ z. IsBegun (phase_of z)) (sym s.did) tt
 
@@ -173,7 +173,7 @@ module _ {B : Type 0} {program : Program B} {cells : ℕ} {x : Contents B} (r : 
     present_listed p (link ∷ links) rest = inr (inr (inl refl))
 
     -- its owner is the one that OWN tells
-    present_owner : (p : ℕ) (way : Way) (w : Walker) (d' : Does) → Turns cells x y id t (does.Walking p way w) d'
+    present_owner : (p : ℕ) (way : Way) (w : Walker) (d' : Does) → Proceeds cells x y id t (does.Walking p way w) d'
         → owner K.cells (present p w.trail) ≡ x.words.own (present p w.trail)
     present_owner p way w d' s =
         let there = walk_there p way w d' s (present p w.trail) (present_listed p w.trail (read_cells w.last)) in

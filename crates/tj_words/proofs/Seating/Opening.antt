@@ -7,6 +7,7 @@ use mathlib.Core.Option as maybe
 use lib.ListN.{get_elem?, length-replicate}
 use Rattle.atomic_table.specs.Table.{opening}
 use Rattle.tj_base.specs.declared.cell.Sort.TheVariants as sort
+use Rattle.tj_base.specs.declared.cell.TheConstants.{MAX_CELLS}
 use Rattle.tj_body.specs.History.{to_task, start}
 use Rattle.tj_body.specs.Points.{IsIn}
 use Rattle.tj_body.proofs.Lists.{begins_self}
@@ -34,7 +35,7 @@ use Rattle.tj_words.specs.LawParts.OnceWords.{OnceWords}
 use Rattle.tj_words.specs.LawParts.Chains.{Chains, parked_phase}
 use Rattle.tj_words.specs.LawParts.LiveCount.{live_tasks, HasWakeToCome}
 use Rattle.tj_words.specs.LawParts.Contents.{Contents, seats_have, core_shown, owned_of, made_of}
-use Rattle.tj_words.specs.Law.{IsRooted, Law, Rule, IsSeat, most_cells}
+use Rattle.tj_words.specs.Law.{IsRooted, Law, Rule, IsSeat}
 use Rattle.tj_body.specs.Programs.{Program, root_task}
 use Rattle.tj_body.specs.RoundPoints.{InRounds, TasksStart}
 use Rattle.tj_words.specs.LawParts.Meaning.{IsFilled, IsToldRecord, Meaning}
@@ -416,7 +417,7 @@ first_deep cells some_cells root_body = ap suc (length-replicate (cells - 1) Non
     ∙ (let z : suc (cells - 1) ≡ cells = omega arith in z)
 
 module _ {B : Type 0} (program : Bool → B → Program B) (key : Key B) (some_cells : 0 < key.cells)
-    (few : key.cells ≤ most_cells) where
+    (few : key.cells ≤ MAX_CELLS) where
   length_some : {S : Type 0} (l : List S) → length (map some l) ≡ length l
   length_some [] = refl
   length_some (x ∷ xs) = ap suc (length_some xs)

@@ -3,10 +3,10 @@ use Rattle.std.specs.Prelude.{◌≡◌, ℕ, zero, suc, ◌<◌, ◌≤◌, min
 use mathlib.Core.Option.{some}
 use lib.ListN.{get_elem?}
 use Rattle.tj_base.specs.declared.cell.CellId.{CellId}
+use Rattle.tj_base.specs.declared.cell.TheConstants.{MAX_CELLS}
 use Rattle.tj_words.specs.declared.closed.RestCell.{RestCell}
 use Rattle.tj_words.specs.declared.offsets.Once.TheVariants.{Tag, Parent, Kid}
 use Rattle.tj_words.specs.Words.Codes.{Codes}
-use Rattle.tj_words.specs.Law.{most_cells}
 use Rattle.tj_words.specs.Words.Lists.{cell}
 use Rattle.tj_words.specs.Words.Offsets.{word, words_for, count_at, own_at, phase_at, once_at}
 use Rattle.tj_words.specs.Words.Phases.{phase_in}
@@ -14,7 +14,7 @@ use Rattle.tj_words.specs.Words.Phases.{phase_in}
 -- the words of a table of so many cells, each of which may stand in its place
 pub record AreTableWords (cells : ℕ) (words : List ℕ) : Type 0 where
   pub all : length words ≡ words_for cells
-  pub few : cells ≤ most_cells
+  pub few : cells ≤ MAX_CELLS
   pub codes : Codes cells words
 
 -- the cell of a word OWN

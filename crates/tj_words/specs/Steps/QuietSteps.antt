@@ -18,7 +18,7 @@ use Rattle.tj_words.specs.LawParts.Hands.{hand_in, IsThere}
 use Rattle.tj_words.specs.LawParts.Contents.{Contents, hand_of, drawn_in, home_of}
 use Rattle.tj_words.specs.Steps.ShownParts.{Parts, parts_of}
 use Rattle.tj_words.specs.Steps.StepEvents.{IsMoved}
-use Rattle.tj_words.specs.Steps.WalkSteps.{KeepsOthers, Turns, Leaves}
+use Rattle.tj_words.specs.Steps.WalkSteps.{KeepsOthers, Proceeds, Leaves}
 
 -- what a task does first that was ready with this answer
 abbrev pub does_first : Answer → Does
@@ -134,7 +134,7 @@ module _ {B : Type 0} (cells : ℕ) (x y : Contents B) where
 
     -- the record of a task that its seat holds comes home
     pub record MovesRecord (d : Does) : Type 0 where
-      pub turns : Turns cells x y id t d d
+      pub turns : Proceeds cells x y id t d d
       pub there : IsThere (drawn_in cells x) (hand_of x) t
       pub keeps : KeepsOthers cells x y
 

@@ -56,8 +56,8 @@ module _ {B : Type 0} (cells : ℕ) (x y : Contents B) where
     pub cleared : total y.seats.cleared ≡ total x.seats.cleared
 
   module _ (id t : ℕ) where
-    -- seat id's task t did this, and does that from now on
-    pub record Turns (d d' : Does) : Type 0 where
+    -- seat id's task t proceeds from this to that: it did the one, and does the other from now on
+    pub record Proceeds (d d' : Does) : Type 0 where
       pub before_it : Custody B
       pub after_it : Custody B
       pub held : IsHeldWith x id t before_it
@@ -66,20 +66,20 @@ module _ {B : Type 0} (cells : ℕ) (x y : Contents B) where
       pub turned : IsTurned cells x y t before_it after_it
 
     -- the same of a task that has its result still
-    pub record TurnsOpen (d d' : Does) : Type 0 where
-      pub turns : Turns d d'
+    pub record ProceedsOpen (d d' : Does) : Type 0 where
+      pub turns : Proceeds d d'
       pub result : IsIn t turns.before_it.owned
 
     -- the add to OTHERS
     pub record RaisesOthers (d : Does) : Type 0 where
-      pub turns : TurnsOpen d does.Raised
+      pub turns : ProceedsOpen d does.Raised
       pub may : MayAct d
       pub others : y.words.others ≡ suc x.words.others
       pub cleared : total y.seats.cleared ≡ total x.seats.cleared
 
     -- the store of Walking into PHASE, where the cells are these
     pub record PublishesWait (born : List Reference) (d : Does) (p : ℕ) (way : Way) : Type 0 where
-      pub turns : TurnsOpen d (does.Walking p way start_walk)
+      pub turns : ProceedsOpen d (does.Walking p way start_walk)
       pub may : MayWait way d
       pub there : IsThere (drawn_in cells x) (hand_of x) p
       pub its_way : way ≡ way_by born t p
@@ -87,7 +87,7 @@ module _ {B : Type 0} (cells : ℕ) (x y : Contents B) where
 
     -- a load of a walker, which has read so much then
     pub record ReadsOn (p : ℕ) (way : Way) (w w' : Walker) : Type 0 where
-      pub turns : Turns (does.Walking p way w) (does.Walking p way w')
+      pub turns : Proceeds (does.Walking p way w) (does.Walking p way w')
       pub keeps : KeepsOthers
 
     -- the load of OTHERS
@@ -118,7 +118,7 @@ module _ {B : Type 0} (cells : ℕ) (x y : Contents B) where
 
     -- the store of Alarmed into PHASE, by a walker that has read its own task as owner
     pub record StoresAlarm (p : ℕ) (way : Way) (w : Walker) : Type 0 where
-      pub turns : Turns (does.Walking p way w) (does.Alarmed p way w)
+      pub turns : Proceeds (does.Walking p way w) (does.Alarmed p way w)
       pub last : w.last ≡ SawOwner (Some t)
       pub keeps : KeepsOthers
 

@@ -5,7 +5,7 @@ use Rattle.tj_words.specs.declared.record.Rec.{Rec}
 use Rattle.tj_words.specs.declared.view.View.{View}
 use Rattle.tj_words.specs.Calls.LiveViews.{HasSlot}
 use Rattle.tj_words.specs.SeatViews.SeatSteps.{SeatMe}
-use Rattle.tj_words.proofs.tests.claim.Goals as goal
+use Rattle.tj_cells.proofs.table_tests.claim.Goals as goal
 
 -- a seat that took the slot of t last has it
 took_last : {B : Type 0} (t : ℕ) (r : Rec B) (v : View B) (m m' : SeatMe B) → m' ≡ (v, (t, Some r) ∷ m.1)

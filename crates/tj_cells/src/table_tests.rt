@@ -1,12 +1,13 @@
 //! A new table by hand: what its loads find, that a second seat finds the same, and that its root is
 //! claimed once.
-ghost use Rattle.std.specs.Prelude.{◌≡◌, ◌<◌};
+ghost use Rattle.std.specs.Prelude.{◌≡◌};
 ghost use Rattle.tj_words.specs.Calls.ExchangeViews.{KnowsTable};
+ghost use Rattle.tj_words.specs.SeatViews.SeatSteps.{IsCellOf, IsSeatOf};
 
-use crate::{Head, Laid, Once, Phase, Rec, WSeat};
 use std::test::Fail;
 use tj_base::{CellId, Items};
 use tj_body::{Body, RowList, TableBody};
+use tj_words::{Head, Laid, Once, Phase, Rec, WSeat};
 
 #[test]
 fn the_words_of_a_new_table(rt: HostRuntime) -> Result<(), Fail> {
@@ -53,8 +54,8 @@ fn two_seats_of_one_table(rt: HostRuntime) -> Result<(), Fail> {
 
 /// Claims a task, and takes its record out of its slot.
 fn claim<B: Body>(laid: &Laid<B>, seat: &mut WSeat<B>, t: CellId) -> Result<Option<Rec<B>>, Phase>
-    requires table { seat.old.table_id ≡ laid.now.table.shared.table_id }
-    requires cell { t.0 < laid.now.cells }
+    requires table { IsSeatOf laid.now seat.old }
+    requires cell { IsCellOf laid.now t.0 }
     requires knows { KnowsTable seat.old.me.0 }
     ensures table { seat.new.table_id ≡ seat.old.table_id }
     ensures about { seat.new.me.0.about ≡ seat.old.me.0.about }
