@@ -1,8 +1,8 @@
 //! Journals as texts, each with the text of judging by hand from the rules.
-use tj_core::{JournalFault, Judged, MAX_CORE_CELLS, MAX_JOURNAL, judge_text, read_journal};
 use std::alloc::Global;
 use std::test::Fail;
 use tj_base::{Oom, add_number};
+use tj_core::{JournalFault, Judged, MAX_CORE_CELLS, MAX_JOURNAL, judge_text, read_journal};
 
 /// The last publisher closes the cycle and alarms; the walk before it settled in front of the cycle.
 const CLOSED_LAST: &str = "fork 0\nfork 0\npublish 2 1\nothers 2\nsettle 2\nraise 1\npublish 1 2\n\
