@@ -8,4 +8,6 @@ pub mod References
 pub mod RoundPoints
 pub mod WaitGraph
 pub mod Rounds
+pub mod SeenAs
+pub mod KeptFacts
 pub mod Histories

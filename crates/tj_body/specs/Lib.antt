@@ -2,6 +2,8 @@ pub mod Names
 pub mod Asks
 pub mod History
 pub mod Rounds
+pub mod SeenAs
+pub mod KeptFacts
 pub mod Points
 pub mod Programs
 pub mod Laws

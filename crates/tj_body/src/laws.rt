@@ -13,6 +13,7 @@ ghost use Rattle.tj_body.specs.RoundPoints.{PointsAreGood, AsksArePlaced, Refere
 ghost use Rattle.tj_body.specs.RoundPoints.{ThingsAreMade, StepsExtend};
 ghost use Rattle.tj_body.specs.WaitGraph.{OwnersWait, WaitsLeadToCycle};
 ghost use Rattle.tj_body.specs.NeverWaits.{JoinsInOrderEnd, StrictWithoutGetEnds};
+ghost use Rattle.tj_body.specs.SeenAs.{AreSeenAlike};
 
 use crate::body::Body;
 
@@ -184,4 +185,9 @@ pub fn joins_in_order_never_wait<B: Body>()
 /// Under the strict rule no task of a program without gets waits.
 pub fn strict_without_get_never_waits<B: Body>()
     ensures { HoldsOfPrograms B.places B.awaits B.left B.asks B.then StrictWithoutGetEnds }
+{}
+
+/// Bodies that are seen as others have their histories, rounds and meaning.
+pub fn seen_alike<B: Body, C: Body>()
+    ensures { AreSeenAlike B C }
 {}

@@ -1,5 +1,5 @@
 -- What a seat knows and has to do after a call of this crate.
-use Rattle.std.proofs.Common.{◌∙◌, ℕ, List, refl, sym, ap, subst, inr}
+use Rattle.std.proofs.Common.{◌∙◌, ℕ, List, [], refl, sym, ap, subst, inr}
 use Rattle.tj_base.specs.declared.cell.Sort.{Sort}
 use Rattle.tj_body.specs.Points.{IsIn, Begins}
 use Rattle.tj_body.specs.declared.point.Entry.{Entry}
@@ -25,6 +25,7 @@ module _ {B : Type 0} where
       seen = λ x i. subst (IsIn x) (sym m.seen) (in_right x m.more v.seen i);
       closed = λ x i. subst (IsIn x) (sym (ap (λ (u : View B). u.closed) m.rest)) i;
       rested = λ e. ap (λ (u : View B). u.rested) m.rest ∙ e;
+      notes = ([], ap (λ (u : View B). u.notes) m.rest);
     }
 
     pub made_wakes : HasSameWakes v w
@@ -59,6 +60,7 @@ module _ {B : Type 0} where
     seen = λ x i. i;
     closed = λ x i. i;
     rested = λ q. q;
+    notes = ([], refl);
   }
 
   -- a value was read
@@ -74,4 +76,5 @@ module _ {B : Type 0} where
     seen = λ x i. i;
     closed = λ x i. i;
     rested = λ q. q;
+    notes = ([], refl);
   }

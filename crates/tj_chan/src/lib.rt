@@ -10,6 +10,7 @@ mod relay;
 mod rows;
 mod spawn;
 mod table;
+mod table_form;
 
 pub use body::ChanBody;
 pub use chat::{ChatAnswer, ChatAsk};
@@ -17,3 +18,4 @@ pub use chatter::Chatter;
 pub use laws::channels_are_lists;
 pub use relay::{Relay, relay_root};
 pub use table::{ChatRow, ChatRowList, TableChat};
+pub use table_form::is_chat_table;

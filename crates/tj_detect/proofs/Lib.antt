@@ -1,6 +1,9 @@
+pub mod VerdictRuns
 pub mod WalkNodes
 pub mod WayOrders
 pub mod Doings
 pub mod WalkReads
 pub mod WalkLoops
 pub mod WalkBlocks
+pub mod Skips
+pub mod NeededWalks

@@ -17,12 +17,13 @@ use Rattle.tj_words.specs.Steps.WalkSteps.{MayWait}
 use Rattle.tj_words.specs.Calls.WalkViews.{IsWalking, MayRaise, read_on, turned, walk_with}
 use Rattle.tj_words.proofs.Holders.HeldTasks.{one_some}
 use Rattle.tj_words.proofs.Events.WalkersShown.{walker_shown, alarm_shown}
-use Rattle.tj_detect.specs.Blocks.{IsLoad, IsWalkOf, walk_published, walk_others, MayBlock, Blocks, HasReadNoOthers}
+use Rattle.tj_detect.specs.Blocks.{IsLoad, IsWalkOf, walk_first, walk_others, MayBlock, Blocks, HasReadNoOthers}
 use Rattle.tj_detect.specs.Blocks.{IsStepCount, doing}
 use Rattle.tj_detect.specs.Blocks.{EndsWith, does_after, tokens_given, InEachTable, StandsOnCycle, OthersWatch, shown}
 use Rattle.tj_detect.specs.Inner.WalkHops.{WalksWith, IsAtCount, Comes}
 use Rattle.tj_detect.specs.declared.blocking.Verdict.{Verdict}
 use Rattle.tj_detect.specs.declared.blocking.Verdict.TheVariants.{Alarm, Walked, Skipped}
+use Rattle.tj_detect.proofs.NeededWalks.{needed}
 use Rattle.tj_detect.proofs.Doings.{doing_held, doing_on, turned_doing, published_doing}
 
 -- the steps of a walk and at most two before it
@@ -144,6 +145,7 @@ module _ {B : Type 0} (v : View B) (t q : ℕ) (way : Way) (m : MayBlock t q way
           steps = h.steps + n;
           walk = h.walk;
           ends = h.ends;
+          needed = needed t way verdict h.walker h.walk h.ends;
           few_loads = h.few_loads;
           few_steps = few_from verdict h.walker.bound h.steps n h.walked h.few_steps less;
           counted = omega (arith, c, d);
@@ -171,7 +173,7 @@ module _ {B : Type 0} (v : View B) (t q : ℕ) (way : Way) (m : MayBlock t q way
           1 1 0 0))
 
       pub others_walk : IsWalkOf t way (others_read n start_walk)
-      others_walk = walk_others start_walk n walk_published (along, refl)
+      others_walk = walk_others start_walk n walk_first (along, refl)
 
       -- the walk is skipped
       pub skips : (old new : ℕ) → new ≡ old + 2 → n ≡ 0 → Blocks Skipped t q way old new v v2
@@ -180,6 +182,7 @@ module _ {B : Type 0} (v : View B) (t q : ℕ) (way : Way) (m : MayBlock t q way
         steps = 2;
         walk = others_walk;
         ends = (along, ap (λ x. SawOthers x) none);
+        needed = tt;
         few_loads = omega arith;
         few_steps = refl;
         counted = c;

@@ -1,7 +1,7 @@
 -- The way of a wait, by the fork order of the tree that was seen.
 use Rattle.std.proofs.Common.{◌≡◌, ◌∙◌, ℕ, zero, suc, ◌+◌, ◌*◌, ◌<◌, ◌≤◌, ◌^◌, ◌&&◌, ◌↔◌, max, Bool, true, false}
 use Rattle.std.proofs.Common.{IsTrue}
-use Rattle.std.proofs.Common.{List, [], ◌∷◌, get_or, refl, sym, ap, arith}
+use Rattle.std.proofs.Common.{List, [], ◌∷◌, length, get_or, refl, sym, ap, arith}
 use mathlib.Core.Option.{some, none, some-injective}
 use lib.ListN.{get_elem?}
 use Rattle.tj_base.specs.ForkOrder.{Name, before}
@@ -15,7 +15,8 @@ use Rattle.tj_words.specs.declared.view.SeenWord.{SeenWord}
 use Rattle.tj_words.specs.SeatViews.SeenWords.{IsTaskIn, SeesTree, ShowsNode}
 use Rattle.tj_words.specs.LawParts.ShownState.{reference_of}
 use Rattle.tj_words.specs.Steps.WalkSteps.{is_task_sort, way_by}
-use Rattle.tj_detect.specs.TreeReads.{IsWithinCost}
+use Rattle.tj_tree.proofs.Trees.{depth-of}
+use Rattle.tj_detect.specs.TreeReads.{IsWithinCost, depth_in}
 
 at_index : (l : List Reference) (c : ℕ) (d x : Reference) → get_elem? l c ≡ some x → get_or l c d ≡ x
 at_index [] c d x e = let z : none ≡ some x = e in cc
@@ -53,13 +54,22 @@ seen_way names seen born tree t u a b answer tells =
     ap (λ (q : Bool). way_if (q && before (reference_of born t).name (reference_of born u).name)) task
     ∙ ap way_if (sym named ∙ same)
 
--- the tasks of a tree that was seen aren't deep
-pub few_steps : (seen : List SeenWord) (born : List Reference) → SeesTree seen born → (cells t u old new : ℕ)
-    → IsTaskIn born t → IsTaskIn born u → t < cells → u < cells
+-- a task of a tree that was seen is as deep there as its name is long
+depth_is : (seen : List SeenWord) (born : List Reference) → (tree : SeesTree seen born) → (t : ℕ) → IsTaskIn born t
+    → (node_of tree.forks t).depth ≡ depth_in born t
+depth_is seen born tree t a =
+    let s = tree.tasks t a.0 a.1 a.2 in
+    depth-of tree.forks tree.history t s.0
+    ∙ ap (λ (q : Name). length q)
+    (s.1 ∙ ap (λ (z : Reference). z.name) (sym (at_index born t (to_task []) a.0 a.1)))
+
+-- so the cost by the depths there is that by the names
+pub few_steps : (seen : List SeenWord) (born : List Reference) → SeesTree seen born → (t u old new : ℕ)
+    → IsTaskIn born t → IsTaskIn born u
     → ((forks : Forks) → IsHistory forks → HasNodes forks (ShowsNode seen) → (digits : ℕ)
     → max (node_of forks t).depth (node_of forks u).depth + 1 < 2 ^ digits → new ≤ old + (16 * digits + 16))
-    → IsWithinCost cells old new
-few_steps seen born tree cells t u old new a b l m cost digits h =
-    let x = tree.depths t (tree.tasks t a.0 a.1 a.2).0 in
-    let y = tree.depths u (tree.tasks u b.0 b.1 b.2).0 in
-    cost tree.forks tree.history tree.nodes digits (omega (arith, x, y, l, m, h))
+    → IsWithinCost born t u old new
+few_steps seen born tree t u old new a b cost digits h =
+    let x = depth_is seen born tree t a in
+    let y = depth_is seen born tree u b in
+    cost tree.forks tree.history tree.nodes digits (omega (arith, x, y, h))

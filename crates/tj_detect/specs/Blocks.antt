@@ -1,12 +1,12 @@
 -- What a call that blocks on a wait needs of its seat and makes of it, and what its verdict says of standing cycles.
-use Rattle.std.specs.Prelude.{◌≡◌, ◌≢◌, ℕ, ◌+◌, ◌*◌, ◌<◌, ◌≤◌, Bool, Option, Some, None}
+use Rattle.std.specs.Prelude.{◌≡◌, ◌≢◌, ◌⊎◌, ℕ, ◌+◌, ◌*◌, ◌<◌, ◌≤◌, Bool, Option, Some, None}
 use mathlib.Core.Option.{some}
 use lib.ListN.{get_elem?}
 use Rattle.atomic_table.specs.Table.{State}
 use Rattle.tj_body.specs.Points.{IsIn}
 use Rattle.tj_body.specs.Programs.{Program}
 use Rattle.tj_core.specs.declared.walk.Way.{Way}
-use Rattle.tj_core.specs.declared.walk.Way.TheVariants.{Along}
+use Rattle.tj_core.specs.declared.walk.Way.TheVariants.{Along, Other}
 use Rattle.tj_core.specs.declared.walk.Walker.{Walker}
 use Rattle.tj_core.specs.declared.walk.LastRead.{LastRead}
 use Rattle.tj_core.specs.declared.walk.LastRead.TheVariants.{Published, SawOthers, Counted, SawOwner, SawWait, Passed}
@@ -44,16 +44,27 @@ IsLoad (SawWait u o) = Unit {0}
 IsLoad Passed = Unit {0}
 IsLoad Changed = Unit {0}
 
--- a walk of t from the publish of its wait on, whatever its reads found: each of them is one that may come next there
-pub data IsWalkOf (t : ℕ) (way : Way) : Walker → Type 0 where
-  walk_published : IsWalkOf t way start_walk
-  walk_others : (w : Walker) (n : ℕ) → IsWalkOf t way w → MayReadOthers way w → IsWalkOf t way (others_read n w)
-  walk_count : (w : Walker) (n : ℕ) → IsWalkOf t way w → MayCount way w → IsWalkOf t way (count_read n w)
-  walk_owner : (w : Walker) (o : Option ℕ) → IsWalkOf t way w → MayReadOwner w → IsWalkOf t way (owner_read o w)
-  walk_wait : (w : Walker) (u : ℕ) (o : Option ℕ) → IsWalkOf t way w → MayLoadWait t u w
-      → IsWalkOf t way (wait_found u o w)
-  walk_again : (w : Walker) (u v : ℕ) (o : Option ℕ) → IsWalkOf t way w → w.last ≡ SawWait u (Some v)
-      → IsWalkOf t way (owner_found (is_owner o u) u v w)
+-- a walk of t from the first walker on, whatever its reads found: each of them is one that may come next there
+pub data IsWalkFrom (t : ℕ) (way : Way) (first : Walker) : Walker → Type 0 where
+  walk_first : IsWalkFrom t way first first
+  walk_others : (w : Walker) (n : ℕ) → IsWalkFrom t way first w → MayReadOthers way w
+      → IsWalkFrom t way first (others_read n w)
+  walk_count : (w : Walker) (n : ℕ) → IsWalkFrom t way first w → MayCount way w
+      → IsWalkFrom t way first (count_read n w)
+  walk_owner : (w : Walker) (o : Option ℕ) → IsWalkFrom t way first w → MayReadOwner w
+      → IsWalkFrom t way first (owner_read o w)
+  walk_wait : (w : Walker) (u : ℕ) (o : Option ℕ) → IsWalkFrom t way first w → MayLoadWait t u w
+      → IsWalkFrom t way first (wait_found u o w)
+  walk_again : (w : Walker) (u v : ℕ) (o : Option ℕ) → IsWalkFrom t way first w → w.last ≡ SawWait u (Some v)
+      → IsWalkFrom t way first (owner_found (is_owner o u) u v w)
+
+-- a walk of t from the publish of its wait on
+abbrev pub IsWalkOf : ℕ → Way → Walker → Type 0
+IsWalkOf t way w = IsWalkFrom t way start_walk w
+
+-- a walk that was needed: the way is other, or the walk has read OTHERS above 0 first, and has gone on from there
+abbrev pub IsNeeded : ℕ → Way → Walker → Type 0
+IsNeeded t way w = (way ≡ Other) ⊎ ((n : ℕ) × (0 < n) × IsWalkFrom t way (others_read n start_walk) w)
 
 -- what t does after the call, with this walk
 abbrev pub does_after : Verdict → ℕ → Way → Walker → Does
@@ -72,6 +83,12 @@ abbrev pub EndsWith : Verdict → ℕ → Way → Walker → Type 0
 EndsWith Alarm t way w = w.last ≡ SawOwner (Some t)
 EndsWith Walked t way w = MaySettle w × IsLoad w.last
 EndsWith Skipped t way w = (way ≡ Along) × (w.last ≡ SawOthers 0)
+
+-- a walk that has ended without an alarm was needed
+abbrev pub WasNeeded : Verdict → ℕ → Way → Walker → Type 0
+WasNeeded Alarm t way w = Unit {0}
+WasNeeded Walked t way w = IsNeeded t way w
+WasNeeded Skipped t way w = Unit {0}
 
 -- how many steps the call may make, with so many cells counted: two where the walk is skipped
 abbrev pub IsStepCount : Verdict → ℕ → ℕ → Type 0
@@ -109,6 +126,7 @@ module _ {B : Type 0} where
     pub steps : ℕ
     pub walk : IsWalkOf t way walker
     pub ends : EndsWith verdict t way walker
+    pub needed : WasNeeded verdict t way walker
     pub few_loads : walker.loads ≤ 3 * walker.bound
     pub few_steps : IsStepCount verdict walker.bound steps
     pub counted : new ≡ old + steps

@@ -1,3 +1,5 @@
 pub mod TreeReads
 pub mod Blocks
+pub mod Skips
 pub mod Inner
+pub mod VerdictRuns

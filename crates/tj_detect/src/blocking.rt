@@ -13,6 +13,7 @@ ghost use Rattle.tj_words.specs.Calls.WaitViews.{MayPublishWait, MayStoreAlarm, 
 ghost use Rattle.tj_words.specs.Calls.WalkViews.{IsWalking, MayLoadWait};
 ghost use Rattle.tj_detect.specs.Blocks.{Blocks, HasReadNoOthers, InEachTable, MayBlock};
 ghost use Rattle.tj_detect.specs.Blocks.{OthersWatch, StandsOnCycle};
+ghost use Rattle.tj_detect.specs.Skips.{LoadsOthers};
 ghost use Rattle.tj_detect.specs.Inner.WalkHops.{Comes, Hops, IsAtCount, Passes, WalksWith};
 
 use std::sync::ledger::Ledger;
@@ -61,6 +62,8 @@ pub fn block<B: Body, L: Ledger>(
     // With n cells counted, at most 3n loads of the walk and 3n + 3 steps; two steps for a skip.
     ensures view { Blocks result t.0 q.0 way steps.old steps.new seat.old.me.0 seat.new.me.0 }
     ensures skipped { result ≡ Verdict.Skipped ↔ HasReadNoOthers t.0 q.0 seat.new.me.0 }
+    ensures others { way ≡ Way.Along → LoadsOthers
+        (program_of B.places B.awaits B.left B.asks B.then) result t.0 q.0 seat.old.me.0 }
     ensures alarm { result ≡ Verdict.Alarm
         → InEachTable (program_of B.places B.awaits B.left B.asks B.then) seat.new.me.0
         (StandsOnCycle t.0) }
@@ -90,6 +93,8 @@ fn block_along<B: Body, L: Ledger>(
     ensures seat { IsSameSeat seat.old seat.new }
     ensures view { Blocks result t.0 q.0 Way.Along steps.old steps.new seat.old.me.0
         seat.new.me.0 }
+    ensures others { LoadsOthers (program_of B.places B.awaits B.left B.asks B.then) result t.0
+        q.0 seat.old.me.0 }
 {
     publish(laid, seat, t, q, Way::Along, steps);
     let others = laid.others(seat, t);

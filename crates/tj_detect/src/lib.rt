@@ -3,8 +3,10 @@
 #![tactic(auto)]
 
 mod blocking;
+mod laws;
 mod tree_walk;
 mod way;
 
 pub use blocking::{Verdict, block};
+pub use laws::verdicts;
 pub use way::way_of;

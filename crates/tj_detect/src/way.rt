@@ -31,8 +31,8 @@ pub fn way_of<B: Body, L: Ledger>(
     ensures way { result ≡ way_by seat.new.me.0.born t.0 u.0 }
     ensures loads { seat.new.me.0.once_loads + 4 * steps.old
         ≡ seat.old.me.0.once_loads + 4 * steps.new }
-    // With b binary digits of the number of cells, at most 16b + 16 steps.
-    ensures cost { IsWithinCost laid.now.cells steps.old steps.new }
+    // With b binary digits of the greater depth plus one, at most 16b + 16 steps.
+    ensures cost { IsWithinCost seat.new.me.0.born t.0 u.0 steps.old steps.new }
 {
     order_is_that_of_names();
     if is_before(laid, seat, NodeId(t.0), NodeId(u.0), steps) {

@@ -4,3 +4,9 @@ pub mod Gets
 pub mod Programs
 pub mod Runs
 pub mod Views
+pub mod Stands
+pub mod StandRuns
+pub mod StandBlocks
+pub mod StandExample
+pub mod Passed
+pub mod AskedAt

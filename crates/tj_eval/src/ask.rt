@@ -8,13 +8,13 @@ ghost use Rattle.tj_eval.specs.Inner.Effects.{IsAskOf};
 
 use crate::expression::{held, reference_in};
 use crate::halt::Halt;
-use crate::state::{Due, ScriptBody};
+use crate::state::{Due, ScriptBody, State};
 use std::alloc::Global;
 use tj_base::{Pay, Trouble};
 use tj_body::Ask;
 use tj_syntax::{Call, Expr, RefOf};
 
-impl<'s> ScriptBody<'s> {
+impl<'s> State<'s> {
     /// The place of the reference that a get or a join asks for.
     fn reference(&self, r: RefOf) -> Result<u32, Trouble>
         ensures { result ≡ state.reference_of self.now r }

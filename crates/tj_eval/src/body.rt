@@ -1,5 +1,5 @@
 //! A task of a script as a body: it takes its answer, and goes on to its next ask.
-ghost use Rattle.std.specs.Prelude.{◌≡◌, ◌<◌, ◌≤◌, codes, IfOk, IsTrue, List, Some};
+ghost use Rattle.std.specs.Prelude.{◌≡◌, ◌<◌, ◌≤◌, ◌^◌, codes, IfOk, IsTrue, List, Some};
 ghost use Rattle.std.specs.Str.{bytes_eq};
 ghost use Rattle.tj_body.specs.Asks as asks;
 ghost use Rattle.tj_body.specs.Asks.{IsFresh};
@@ -15,7 +15,7 @@ ghost use Rattle.tj_eval.specs.Inner.Effects.{IsNext, IsNextAsk, IsAnswered};
 use crate::expression::value;
 use crate::fork::task_of;
 use crate::halt::Halt;
-use crate::state::{Due, ScriptBody};
+use crate::state::{Due, ScriptBody, State};
 use std::alloc::Global;
 use tj_base::{Oom, Pay, Trouble};
 use tj_body::{Answer, Ask, Body};
@@ -31,7 +31,7 @@ pub fn main_body<'s>(alloc: Global, script: &'s Script, steps: u32) -> Result<Sc
     ensures main { IfOk result (IsMainBody (view.script script.now) steps) }
     ensures fresh { IfOk result (IsFresh script_places script_awaits script_left 1) }
 {
-    let body = task_of(alloc, script, steps, main_task(script), &[], 0)?;
+    let body = task_of(alloc, script, steps, main_task(script), Vec::new(alloc), 0)?;
     Ok(body)
 }
 
@@ -56,7 +56,7 @@ fn is_main(decl: &Decl) -> bool
 }
 
 /// How many places the answer adds.
-fn new_places(a: Answer) -> u32
+pub(crate) fn new_places(a: Answer) -> u32
     ensures { result ≡ asks.new_places a }
 {
     match a {
@@ -65,9 +65,9 @@ fn new_places(a: Answer) -> u32
     }
 }
 
-impl<'s> ScriptBody<'s> {
+impl<'s> State<'s> {
     /// Takes the answer.
-    fn settle(&mut self, a: Answer) -> Result<(), Trouble>
+    pub(crate) fn settle(&mut self, a: Answer) -> Result<(), Trouble>
         ensures { IsAnswered self.old (state.answered self.old self.old.due a) result self.new }
     {
         let due = self.due;
@@ -131,8 +131,37 @@ impl<'s> ScriptBody<'s> {
         }
     }
 
+    /// Takes the answer, and goes on to the next ask.
+    fn answer(&mut self, alloc: Global, a: Answer) -> Result<Ask<ScriptBody<'s>>, Oom>
+        requires few { IsTrue (all_have_few_params self.old.script) }
+        requires room { self.old.places < 2 ^ 31 }
+        ensures { IfOk result (λ ask. IsNextAsk (state.next self.old a) ask self.new) }
+    {
+        self.places += new_places(a);
+        match self.settle(a) {
+            Ok(()) => self.run(alloc),
+            Err(fault) => Ok(self.fail(fault)),
+        }
+    }
+
+    /// An equal state.
+    pub(crate) fn twin(&self, alloc: Global) -> Result<State<'s>, Oom>
+        ensures { IfOk result (λ twin. twin ≡ self.now) }
+    {
+        Ok(State {
+            script: self.script,
+            limit: self.limit,
+            block: self.block,
+            around: Vec::from_slice(alloc, &self.around)?,
+            vars: Vec::from_slice(alloc, &self.vars)?,
+            steps: self.steps,
+            places: self.places,
+            due: self.due,
+        })
+    }
+
     /// Fails.
-    fn fail(&mut self, fault: Trouble) -> Ask<ScriptBody<'s>>
+    pub(crate) fn fail(&mut self, fault: Trouble) -> Ask<ScriptBody<'s>>
         ensures ask { result ≡ Ask.Fail fault }
         ensures ended { self.new ≡ state.ended self.old }
     {
@@ -146,7 +175,7 @@ impl ScriptBody<'_> {
     pub fn places(&self) -> u32
         ensures { result ≡ script_places self.now }
     {
-        self.places
+        self.state.places
     }
 }
 
@@ -166,24 +195,12 @@ impl<'s> Body for ScriptBody<'s> {
     ghost then = { script_then };
 
     fn next(&mut self, alloc: Global, a: Answer) -> Result<Ask<Self>, Oom> {
-        self.places += new_places(a);
-        match self.settle(a) {
-            Ok(()) => self.run(alloc),
-            Err(fault) => Ok(self.fail(fault)),
-        }
+        self.state.answer(alloc, a)
     }
 
     fn twin(&self, alloc: Global) -> Result<Self, Oom> {
-        Ok(ScriptBody {
-            script: self.script,
-            limit: self.limit,
-            block: self.block,
-            around: Vec::from_slice(alloc, &self.around)?,
-            vars: Vec::from_slice(alloc, &self.vars)?,
-            steps: self.steps,
-            places: self.places,
-            due: self.due,
-        })
+        let state = Box::new(alloc, self.state.twin(alloc)?)?;
+        Ok(ScriptBody { state })
     }
 
     ghost obeys = { script_obeys };

@@ -1,14 +1,14 @@
 //! Forks: the arguments from the left, and the task that they make.
 ghost use Rattle.std.specs.Prelude.{◌≡◌, ◌≤◌, ◌-◌, ◌++◌, length, map, replicate, pos, slice_get};
-ghost use Rattle.std.specs.Prelude.{IfOk, IsTrue};
+ghost use Rattle.std.specs.Prelude.{List, IfOk, IsTrue, OnOk};
 ghost use Rattle.tj_syntax.specs.View as view;
 ghost use Rattle.tj_eval.specs.Statements as state;
 ghost use Rattle.tj_eval.specs.Bodies.{most_params, all_have_few_params};
-ghost use Rattle.tj_eval.specs.Inner.Effects.{IsComputed, IsChild, IsForkOf};
+ghost use Rattle.tj_eval.specs.Inner.Effects.{IsAdded, IsPassed, IsChild, IsForkOf};
 
 use crate::expression::{held, reference_in, value};
 use crate::halt::Halt;
-use crate::state::{Due, ScriptBody};
+use crate::state::{Due, ScriptBody, State};
 use std::alloc::Global;
 use tj_base::{Items, Oom, Pay, PlaceList, Trouble};
 use tj_body::Ask;
@@ -24,63 +24,70 @@ fn argument(vars: &[Pay], arg: &Arg) -> Result<Pay, Trouble>
     }
 }
 
-/// The values of the arguments.
-fn arguments(alloc: Global, vars: &[Pay], args: &[Arg]) -> Result<Vec<Pay>, Halt>
-    ensures { IsComputed (state.arguments vars.now (map view.argument args.now))
-        (λ values. values.items) result }
-{
-    let mut values = Vec::with_capacity(alloc, args.len())?;
-    for arg in args {
-        let v = argument(vars, arg)?;
-        values.push(v)?;
-    }
-    Ok(values)
+/// What a child is given.
+#[derive(Drop)]
+struct Passed {
+    /// The arguments as the child has them: its references have its own places.
+    vars: Vec<Pay>,
+    /// The places of these references in the task that forks.
+    places: PlaceList,
 }
 
-/// The places of the references among the values.
-fn references(alloc: Global, values: &[Pay]) -> Result<PlaceList, Oom>
-    ensures { IfOk result (λ places. places ≡ state.references values.now) }
+/// Adds a value to a child's variables, and its place to the others if it is a reference.
+#[inline(always)]
+fn add(vars: &mut Vec<Pay>, places: &mut Vec<u32>, v: Pay) -> Result<(), Oom>
+    requires few { length places.old.items ≤ most_params }
+    ensures { OnOk result (IsAdded v vars.old.items places.old.items vars.new.items places.new.items) }
+{
+    match v {
+        Pay::Num(_) => vars.push(v)?,
+        Pay::Ref(place) => {
+            places.push(place)?;
+            vars.push(Pay::Ref(places.len() as u32))?;
+        }
+    }
+    Ok(())
+}
+
+/// The arguments, in a list with room for n variables.
+fn arguments(alloc: Global, vars: &[Pay], args: &[Arg], n: usize) -> Result<Passed, Halt>
+    requires few { length args.now ≤ most_params }
+    ensures { IsPassed (state.arguments vars.now (map view.argument args.now)) result }
+{
+    let mut values = Vec::with_capacity(alloc, n)?;
+    let mut places = Vec::new(alloc);
+    for arg in args {
+        let v = argument(vars, arg)?;
+        add(&mut values, &mut places, v)?;
+    }
+    Ok(Passed {
+        vars: values,
+        places: Items::of(places),
+    })
+}
+
+/// The places of the references that are handed.
+fn handed(alloc: Global, vars: &[Pay], args: &[Arg]) -> Result<PlaceList, Oom>
+    ensures { IfOk result (λ places. places
+        ≡ state.references (state.handed vars.now (map view.argument args.now))) }
 {
     let mut places = Vec::new(alloc);
-    for v in values {
-        if let Pay::Ref(place) = v {
-            places.push(*place)?;
+    for arg in args {
+        if let Arg::Own(x) = arg {
+            if let Pay::Ref(place) = held(vars, *x) {
+                places.push(place)?;
+            }
         }
     }
     Ok(Items::of(places))
 }
 
-/// The values of the variables that are handed.
-fn handed(alloc: Global, vars: &[Pay], args: &[Arg]) -> Result<Vec<Pay>, Oom>
-    ensures { IfOk result (λ values. values.items
-        ≡ state.handed vars.now (map view.argument args.now)) }
+/// The variables of a child: these, and 0 for the others of its n.
+fn variables(mut vars: Vec<Pay>, n: usize) -> Result<Vec<Pay>, Oom>
+    ensures { IfOk result (λ all. all.items ≡ vars.items
+        ++ replicate (n - length vars.items) (Pay.Num (pos 0))) }
 {
-    let mut values = Vec::new(alloc);
-    for arg in args {
-        if let Arg::Own(x) = arg {
-            values.push(held(vars, *x))?;
-        }
-    }
-    Ok(values)
-}
-
-/// The variables of a child with these arguments, n at least.
-fn variables(alloc: Global, values: &[Pay], n: usize) -> Result<Vec<Pay>, Oom>
-    requires few { length values.now ≤ most_params }
-    ensures { IfOk result (λ vars. vars.items
-        ≡ state.as_passed 1 values.now ++ replicate (n - length values.now) (Pay.Num (pos 0))) }
-{
-    let mut vars = Vec::with_capacity(alloc, n)?;
-    let mut next = 1;
-    for v in values {
-        if let Pay::Ref(_) = v {
-            vars.push(Pay::Ref(next))?;
-            next += 1;
-        } else {
-            vars.push(*v)?;
-        }
-    }
-    for _ in values.len()..n {
+    for _ in vars.len()..n {
         vars.push(Pay::Num(0))?;
     }
     Ok(vars)
@@ -92,27 +99,30 @@ pub(crate) fn task_of<'s>(
     script: &'s Script,
     limit: u32,
     decl: &'s Decl,
-    values: &[Pay],
+    vars: Vec<Pay>,
     passed: usize,
 ) -> Result<ScriptBody<'s>, Oom>
-    requires passed { passed ≡ length (state.references values.now) }
-    requires few { length values.now ≤ most_params }
-    ensures { IfOk result (λ body. body
-        ≡ state.task_of (view.script script.now) limit (view.task decl.now) values.now) }
+    requires few { passed ≤ most_params }
+    ensures { (values : List Pay) → vars.items ≡ state.as_passed 1 values
+        → passed ≡ length (state.references values) → IfOk result (λ body. body
+        ≡ state.task_of (view.script script.now) limit (view.task decl.now) values) }
 {
-    Ok(ScriptBody {
+    let state = State {
         script,
         limit,
         block: &decl.body.stmts,
         around: Vec::new(alloc),
-        vars: variables(alloc, values, decl.vars.len())?,
+        vars: variables(vars, decl.vars.len())?,
         steps: limit,
         places: passed as u32 + 1,
         due: Due::Start,
+    };
+    Ok(ScriptBody {
+        state: Box::new(alloc, state)?,
     })
 }
 
-impl<'s> ScriptBody<'s> {
+impl<'s> State<'s> {
     /// The ask for a child: a task of the script with as many parameters as there are arguments.
     pub(crate) fn fork(
         &self,
@@ -143,11 +153,11 @@ impl<'s> ScriptBody<'s> {
         requires few { length args.now ≤ most_params }
         ensures { IsChild self.now (view.task decl.now) (map view.argument args.now) result }
     {
-        let values = arguments(alloc, &self.vars, args)?;
-        let pass = references(alloc, &values)?;
-        let hand = references(alloc, &handed(alloc, &self.vars, args)?)?;
-        let passed = pass.items().len();
-        let body = task_of(alloc, self.script, self.limit, decl, &values, passed)?;
+        let passed = arguments(alloc, &self.vars, args, decl.vars.len())?;
+        let hand = handed(alloc, &self.vars, args)?;
+        let pass = passed.places;
+        let n = pass.items().len();
+        let body = task_of(alloc, self.script, self.limit, decl, passed.vars, n)?;
         Ok(Ask::Fork { body, pass, hand })
     }
 }

@@ -1,5 +1,13 @@
 //! Laws of scripts without `get`. They speak of the definitions alone.
-ghost use Rattle.std.specs.Prelude.{ℕ, IsTrue, List};
+ghost use Rattle.std.specs.Prelude.{ℕ, Bool, IsTrue, List};
+ghost use Rattle.tj_body.specs.Programs.{program_of, rules_of};
+ghost use Rattle.tj_body.specs.KeptFacts.{HoldsInRounds};
+ghost use Rattle.tj_body.specs.SeenAs.{AreSeenAs};
+ghost use Rattle.tj_eval.specs.Bodies.{script_places, script_awaits, script_left};
+ghost use Rattle.tj_eval.specs.Stands.{erased, placed_places, placed_awaits, placed_left};
+ghost use Rattle.tj_eval.specs.Stands.{placed_asks, placed_then, ForkStandsRight, PlacedState};
+ghost use Rattle.tj_eval.specs.Stands.{StandsRight};
+ghost use Rattle.tj_eval.specs.AskedAt.{StandsAtItsAsk};
 ghost use Rattle.tj_body.specs.declared.ask.Answer.{Answer};
 ghost use Rattle.tj_lex.specs.declared.token.Tok.{Tok};
 ghost use Rattle.tj_syntax.specs.Faults.{IsScript};
@@ -24,4 +32,28 @@ pub fn no_get()
 pub fn scripts_without_the_keyword()
     ensures { (tokens : List Tok) (script : List Task) → IsScript tokens script
         → AreWithoutGet tokens → IsTrue (script_has_no_get script) }
+{}
+
+/// A task that knows where it stands asks what the task asks without that.
+pub fn placed_is_seen()
+    ensures { (strict : Bool) → AreSeenAs erased
+        (rules_of placed_places placed_awaits placed_left placed_asks placed_then strict)
+        (rules_of script_places script_awaits script_left script_asks script_then strict) }
+{}
+
+/// What is ahead of a task stays right at each ask, and is right for what it forks.
+pub fn stands_stay_right()
+    ensures { (x : PlacedState) (a : Answer) → StandsRight x
+        → StandsRight (placed_then x a) × ForkStandsRight (placed_asks x a) }
+{}
+
+/// A task that stands right stands, at each of its asks, at the statement whose beginning gave it.
+pub fn stands_at_its_ask()
+    ensures { StandsAtItsAsk }
+{}
+
+/// A task of a program whose root stands right does so at each point of each round.
+pub fn stands_are_right()
+    ensures { (strict : Bool) (root : PlacedState) → StandsRight root → HoldsInRounds StandsRight
+        (program_of placed_places placed_awaits placed_left placed_asks placed_then strict root) }
 {}

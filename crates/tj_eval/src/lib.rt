@@ -7,9 +7,11 @@ mod expression;
 mod fork;
 mod halt;
 pub mod laws;
+mod placed;
 mod quick;
 mod state;
 mod statement;
 
 pub use body::{MAX_STEPS, main_body};
+pub use placed::PlacedBody;
 pub use state::ScriptBody;

@@ -19,9 +19,28 @@ pub(crate) enum Due<'s> {
     Over,
 }
 
-/// A body that runs one task of a script.
+/// A body that runs one task of a script. It is handed on often, so what the task is lies in a box.
 #[derive(Drop)]
 pub struct ScriptBody<'s> {
+    pub(crate) state: Box<State<'s>>,
+}
+
+impl<'s> Model for ScriptBody<'s> {
+    ghost use Rattle.tj_eval.specs.Statements.{TaskState};
+
+    ghost Value = { TaskState };
+
+    ghost use Rattle.std.specs.Coded.{codes};
+    ghost use Rattle.tj_eval.specs.Inner.Codes.{expression_code, statement_code, statements_code};
+
+    ghost coded = { Prim.hlevel (codes, expression_code, statement_code, statements_code) };
+
+    ghost view = { λ b. b.state.value };
+}
+
+/// A task of a script between two of its asks.
+#[derive(Drop)]
+pub(crate) struct State<'s> {
     pub(crate) script: &'s Script,
     pub(crate) limit: u32,
     /// What remains of the innermost open block.
@@ -34,7 +53,7 @@ pub struct ScriptBody<'s> {
     pub(crate) due: Due<'s>,
 }
 
-impl<'s> Model for ScriptBody<'s> {
+impl<'s> Model for State<'s> {
     ghost use Rattle.std.specs.Prelude.{map, ◌<◌, ◌++◌, length};
     ghost use Rattle.std.specs.List.{AllByRecursion};
     ghost use Rattle.tj_eval.specs.Statements.{TaskState};
@@ -78,7 +97,7 @@ fn push<'s>(blocks: &mut Vec<&'s [Stmt]>, block: &'s [Stmt]) -> Result<(), Oom>
     Ok(())
 }
 
-impl<'s> ScriptBody<'s> {
+impl<'s> State<'s> {
     /// Takes the next of the remaining statements, if there is one.
     pub(crate) fn take(&mut self) -> Option<&'s Stmt>
         ensures { MatchOption result ((self.old.rest ≡ []) × (self.new ≡ self.old))

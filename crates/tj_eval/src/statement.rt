@@ -8,14 +8,14 @@ ghost use Rattle.tj_eval.specs.Inner.Effects.{IsAskOf, IsGiven, IsOnWay, IsStep,
 use crate::expression::{held, number, reference_in, value, whole};
 use crate::halt::Halt;
 use crate::quick::quick;
-use crate::state::{Due, ScriptBody};
+use crate::state::{Due, ScriptBody, State};
 use std::alloc::Global;
 use std::slice;
 use tj_base::{Pay, Trouble};
 use tj_body::Ask;
 use tj_syntax::{Expr, Rhs, Stmt};
 
-impl<'s> ScriptBody<'s> {
+impl<'s> State<'s> {
     /// Goes on to the next statement that asks, if one is left, which has then begun. The statements
     /// on the way hand nothing on that is as large as an ask.
     #[inline(never)]
@@ -58,7 +58,7 @@ impl<'s> ScriptBody<'s> {
     }
 
     /// Carries a statement out that asks nothing. False: it asks, and isn't carried out.
-    fn passes(&mut self, stmt: &'s Stmt) -> Result<bool, Halt>
+    pub(crate) fn passes(&mut self, stmt: &'s Stmt) -> Result<bool, Halt>
         ensures { IsStep self.old (view.statement stmt.now) result self.new }
     {
         match stmt {

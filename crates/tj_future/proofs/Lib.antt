@@ -3,3 +3,4 @@ pub mod Polling
 pub mod RootRecords
 mod ThreadSends
 mod SecondSeats
+mod TakenSeats

@@ -1,22 +1,31 @@
 -- What a seat knew it knows after a look, and what the last of some looks was answered is what all of them came to.
-use Rattle.std.proofs.Common.{◌≡◌, ◌≢◌, ℕ, Bool, true, refl, sym, ap, ◌∙◌, subst, inr}
+use Rattle.std.proofs.Common.{◌≡◌, ◌≢◌, ℕ, [], ◌∷◌, Bool, true, refl, sym, ap, ◌∙◌, subst, inr, arith}
 use Rattle.tj_body.specs.Programs.{Program}
 use Rattle.tj_body.proofs.Lists.{begins_self}
 use Rattle.tj_cells.specs.declared.seen.Seen.{Seen}
 use Rattle.tj_cells.specs.declared.seen.Seen.TheVariants as seen
 use Rattle.tj_cells.specs.SeenValues.{SeesValue}
+use Rattle.tj_words.specs.declared.view.Noted.TheVariants as note
 use Rattle.tj_words.specs.declared.view.View.{View}
 use Rattle.tj_words.specs.SeatViews.KnowsMore.{KnowsMore}
+use Rattle.tj_words.specs.SeatViews.Moments.{WasSo}
+use Rattle.tj_words.specs.Words.Offsets.{live_at, stop_at}
 use Rattle.tj_words.specs.CallLaws.RestedRuns.{NoValueComes}
+use Rattle.tj_words.specs.SeatViews.FullMeaning.{NamesFull}
 use Rattle.tj_words.specs.SeatViews.SeenWords.{FindsNothing}
-use Rattle.tj_words.specs.SeatViews.Views.{loaded_once, saw_live, saw_stop}
+use Rattle.tj_words.specs.SeatViews.Views.{IsIdle, loaded_once, note_of, saw_live, saw_rest, saw_stop}
 use Rattle.tj_words.proofs.SeatLoads.KnowsMoreOn.{more_itself, more_on}
+use Rattle.tj_run.specs.declared.why.Why.{Why}
+use Rattle.tj_run.specs.declared.why.Why.TheVariants as why
+use Rattle.tj_run.specs.Leaving.{IsTold, stop_word}
 use Rattle.tj_future.specs.declared.watched.Watched.{Watched}
-use Rattle.tj_future.specs.Looks.{Answers, ComesToRest, GoesOn, IsNeverFilled, IsWatched, RestsWithout, told_as}
+use Rattle.tj_future.specs.declared.watched.Watched.TheVariants as watched
+use Rattle.tj_future.specs.Looks.{Answers, ComesToRest, GoesOn, IsNeverFilled, IsWatched, LoadsStop, RestsWithout}
+use Rattle.tj_future.specs.Looks.{told_as}
 
 module _ {B : Type 0} where
   -- a look that found nothing left what the seat knew
-  pub knows_still : (p : ℕ) (v w : View B) → GoesOn p v w → KnowsMore v w
+  pub knows_still : {program : Bool → B → Program B} (p : ℕ) (v w : View B) → GoesOn program p v w → KnowsMore v w
   knows_still p v w h =
       let s = h.not_stopped in
       subst (KnowsMore v) (sym h.view)
@@ -31,7 +40,62 @@ module _ {B : Type 0} where
         seen = λ x i. i;
         closed = λ x i. i;
         rested = λ e. e;
+        notes = (
+          note_of note.Live h.live (saw_stop 0 (loaded_once v)) ∷ note_of note.Stop 0 (loaded_once v) ∷ [],
+          refl,
+        );
       })))
+
+  -- a look found STOP to be 0
+  not_stopped : (program : Bool → B → Program B) (p stop : ℕ) (v u s : View B) → FindsNothing p v u
+      → WasSo program stop_at stop u → s ≡ saw_stop stop u → stop ≡ 0 → LoadsStop program p 0 v s
+  not_stopped program p stop v u s f was e z = record {
+    looked = u;
+    nothing = f;
+    stop = subst (λ n. WasSo program stop_at n u) z was;
+    view = e ∙ ap (λ n. saw_stop n u) z;
+  }
+
+  -- a look that found STOP and LIVE to be 0 has come to rest
+  pub rests_at : (program : Bool → B → Program B) (p stop live : ℕ) (v u s w : View B) → FindsNothing p v u
+      → WasSo program stop_at stop u → s ≡ saw_stop stop u → stop ≡ 0
+      → WasSo program live_at live s → live ≡ 0 → w ≡ saw_rest s → ComesToRest program p v w
+  rests_at program p stop live v u s w f was e z lives y k = record {
+    open_still = s;
+    not_stopped = not_stopped program p stop v u s f was e z;
+    none_live = subst (λ n. WasSo program live_at n s) y lives;
+    view = k;
+  }
+
+  -- one that found LIVE above 0 goes on
+  pub goes_on_at : (program : Bool → B → Program B) (p stop live : ℕ) (v u s w : View B) → FindsNothing p v u
+      → WasSo program stop_at stop u → s ≡ saw_stop stop u → stop ≡ 0
+      → WasSo program live_at live s → live ≢ 0 → w ≡ saw_live live s → GoesOn program p v w
+  goes_on_at program p stop live v u s w f was e z lives some k = record {
+    open_still = s;
+    not_stopped = not_stopped program p stop v u s f was e z;
+    live = live;
+    above = omega (arith, some);
+    some_live = lives;
+    view = k;
+  }
+
+  -- which leaves an idle seat idle
+  pub idle_at_rest : (program : Bool → B → Program B) (p : ℕ) (v w : View B) → IsIdle v → ComesToRest program p v w
+      → IsIdle w
+  idle_at_rest program p v w i h = let s = h.not_stopped in
+      subst IsIdle (sym (h.view ∙ ap (λ (u : View B). saw_rest u)
+      (s.view ∙ ap (λ (u : View B). saw_stop 0 u) s.nothing.view)))
+      (record {
+        tasks = i.tasks;
+        tokens = i.tokens;
+        hand = i.hand;
+        dues = i.dues;
+        cleared = i.cleared;
+        pushes = i.pushes;
+        shuts = i.shuts;
+        rest = i.rest;
+      })
 
   -- a seat that has loaded LIVE as 0 shows that a cell whose TAG is 0 is never filled
   pub never_filled : NoValueComes B → (program : Bool → B → Program B) (p : ℕ) (v : View B) → v.rested ≡ true
@@ -53,9 +117,63 @@ module _ {B : Type 0} where
         → IsWatched program cells p a u w
     watched_on a u v w k h = (h.0, more_on u v h.0 k h.1, h.2)
 
+    -- what STOP said is told
+    pub tells_stopped : (cause : Why) (stop : ℕ) (v u w : View B) → FindsNothing p v u → WasSo program stop_at stop u
+        → w ≡ saw_stop stop u → stop_word cause ≡ stop → (stop ≡ 1 → NamesFull program u)
+        → Answers program cells p (watched.Stopped cause) v w
+    tells_stopped cause stop v u w f was e is full = (
+      record {
+        looked = u;
+        nothing = f;
+        stop = subst (λ n. WasSo program stop_at n u) (sym is) was;
+        view = e ∙ ap (λ n. saw_stop n u) (sym is);
+      },
+      by cause is,
+    )
+      where
+        by : (z : Why) → stop_word z ≡ stop → IsTold program z v
+        by why.Full i = λ a q. full (sym i) a (ap (λ (z : View B). z.about) f.view ∙ q)
+        by why.Memory i = tt
+
+    -- reading the cell leaves an idle seat idle
+    pub idle_seen : (s : Seen) (v w : View B) → IsIdle v → (s ≡ seen.NotYet → FindsNothing p v w)
+        → (s ≢ seen.NotYet → SeesValue program cells p s v w) → IsIdle w
+    idle_seen s v w i none sees = by s refl
+      where
+        nothing : FindsNothing p v w → IsIdle w
+        nothing f = subst IsIdle (sym f.view) (record {
+          tasks = i.tasks;
+          tokens = i.tokens;
+          hand = i.hand;
+          dues = i.dues;
+          cleared = i.cleared;
+          pushes = i.pushes;
+          shuts = i.shuts;
+          rest = i.rest;
+        })
+
+        value : SeesValue program cells p s v w → IsIdle w
+        value f = subst IsIdle (sym f.view) (record {
+          tasks = i.tasks;
+          tokens = i.tokens;
+          hand = i.hand;
+          dues = i.dues;
+          cleared = i.cleared;
+          pushes = i.pushes;
+          shuts = i.shuts;
+          rest = i.rest;
+        })
+
+        by : (z : Seen) → s ≡ z → IsIdle w
+        by seen.NotYet e = nothing (none e)
+        by (seen.Num n) e = value (sees (λ q. let d : seen.Num n ≡ seen.NotYet = sym e ∙ q in cc))
+        by (seen.Promise c) e = value (sees (λ q. let d : seen.Promise c ≡ seen.NotYet = sym e ∙ q in cc))
+        by (seen.Task c) e = value (sees (λ q. let d : seen.Task c ≡ seen.NotYet = sym e ∙ q in cc))
+        by seen.Broken e = value (sees (λ q. let d : seen.Broken ≡ seen.NotYet = sym e ∙ q in cc))
+
   -- a look that found LIVE to be 0 tells what it found of the cell after that
   module _ (law : NoValueComes B) (program : Bool → B → Program B) (cells p : ℕ) (v at w : View B)
-      (comes : ComesToRest p v at) where
+      (comes : ComesToRest program p v at) where
     rests_then : FindsNothing p at w → RestsWithout program p v w
     rests_then f = record {
       at_rest = at;

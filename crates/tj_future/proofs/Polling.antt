@@ -23,7 +23,7 @@ module _ {B : Type 0} (program : Bool → B → Program B) (laid : Laid B) (p : 
       → held ≡ Some before
       → after.table_id ≡ before.table_id
       → after.me.0.lot ≡ before.me.0.lot
-      → GoesOn p before.me.0 after.me.0
+      → GoesOn program p before.me.0 after.me.0
       → (answer : Watched) (back : Seat (Option (Rec B)) (View B)) → IsGiven program laid (Some after) p answer back
       → IsGiven program laid held p answer back
   given_before held before after is table lot goes answer back h =

@@ -1,5 +1,6 @@
 -- The first seat of a new table, once it has looked at the root and given a second seat: it claims the root.
-use Rattle.std.proofs.Common.{◌≡◌, ℕ, true, List, [], Option, Some, IfSome, refl, sym, ap, ◌∙◌, subst, arith}
+use Rattle.std.proofs.Common.{◌≡◌, ℕ, Bool, true, List, [], Option, Some, IfSome, refl, sym, ap, ◌∙◌, subst, arith}
+use Rattle.tj_body.specs.Programs.{Program}
 use Rattle.tj_body.specs.Table.{body_at, lists_of}
 use Rattle.tj_body.specs.declared.table.Row.{Row}
 use Rattle.tj_body.specs.declared.table.TableBody.{TableBody}
@@ -15,13 +16,13 @@ use Rattle.tj_park.proofs.TestRoots.{RootRuns, claimed_by, has_rows, its, with_r
 use Rattle.tj_future.specs.Looks.{GoesOn}
 
 -- a look that found nothing left the view but for its loads
-pub looked : {B : Type 0} (p : ℕ) (v w : View B) → (h : GoesOn p v w)
+pub looked : {B : Type 0} {program : Bool → B → Program B} (p : ℕ) (v w : View B) → (h : GoesOn program p v w)
     → w ≡ saw_live h.live (saw_stop 0 (loaded_once v))
 looked p v w h = h.view ∙ ap (saw_live h.live)
     (h.not_stopped.view ∙ ap (saw_stop 0) h.not_stopped.nothing.view)
 
-module _ (cells : ℕ) (root : TableBody) (m m' : SeatMe TableBody) (new : m ≡ (first_view cells root true, []))
-    (h : GoesOn 0 m.0 m'.0) where
+module _ {program : Bool → TableBody → Program TableBody} (cells : ℕ) (root : TableBody) (m m' : SeatMe TableBody)
+    (new : m ≡ (first_view cells root true, [])) (h : GoesOn program 0 m.0 m'.0) where
   abbrev before : View TableBody
   before = saw_live h.live (saw_stop 0 (loaded_once (first_view cells root true)))
 

@@ -24,6 +24,7 @@ module _ {B : Type 0} where
       × IsWatched program laid.cells p answer seat.me.0 back.me.0)
 
   -- the look found that it goes on, and the wait has its seat again, with the lot that it came with
-  abbrev pub StillWaits : ℕ → Option (Seat (Option (Rec B)) (View B)) → Option (Seat (Option (Rec B)) (View B)) → Type 0
-  StillWaits p old new = IsSomeAnd old (λ before. IsSomeAnd new (λ after.
-      (after.table_id ≡ before.table_id) × (after.me.0.lot ≡ before.me.0.lot) × GoesOn p before.me.0 after.me.0))
+  abbrev pub StillWaits : (Bool → B → Program B) → ℕ → Option (Seat (Option (Rec B)) (View B))
+      → Option (Seat (Option (Rec B)) (View B)) → Type 0
+  StillWaits program p old new = IsSomeAnd old (λ before. IsSomeAnd new (λ after.
+      (after.table_id ≡ before.table_id) × (after.me.0.lot ≡ before.me.0.lot) × GoesOn program p before.me.0 after.me.0))

@@ -26,7 +26,8 @@ pub fn look_at<B: Body>(laid: &Laid<B>, seat: &mut WSeat<B>, p: CellId) -> Optio
     ensures idle { IsIdle seat.new.me.0 }
     ensures slots { seat.new.me.1 ≡ [] }
     ensures lot { seat.new.me.0.lot ≡ seat.old.me.0.lot }
-    ensures none { result ≡ None → GoesOn p.0 seat.old.me.0 seat.new.me.0 }
+    ensures none { result ≡ None → GoesOn (program_of B.places B.awaits B.left B.asks B.then) p.0
+        seat.old.me.0 seat.new.me.0 }
     ensures some { IfSome result (λ watched. Answers (program_of B.places B.awaits B.left B.asks
         B.then) laid.now.cells p.0 watched seat.old.me.0 seat.new.me.0) }
 {

@@ -22,6 +22,7 @@ use tj_words::{Laid, WSeat};
 /// A body whose tables may be polled. An `impl` calls `look_at`, whose clauses these are. (A poll is
 /// a method of an `impl`, which can't call a function over all bodies.)
 pub trait Polled: Body {
+    /// One look at cell `p`, as `look_at` makes it.
     fn look(laid: &Laid<Self>, seat: &mut WSeat<Self>, p: CellId) -> Option<Watched>
         requires table { IsSeatOf laid.now seat.old }
         requires cell { IsCellOf laid.now p.0 }
@@ -31,7 +32,8 @@ pub trait Polled: Body {
         ensures idle { IsIdle seat.new.me.0 }
         ensures slots { seat.new.me.1 ≡ [] }
         ensures lot { seat.new.me.0.lot ≡ seat.old.me.0.lot }
-        ensures none { result ≡ None → GoesOn p.0 seat.old.me.0 seat.new.me.0 }
+        ensures none { result ≡ None → GoesOn (program_of Self.places Self.awaits Self.left
+            Self.asks Self.then) p.0 seat.old.me.0 seat.new.me.0 }
         ensures some { IfSome result (λ watched. Answers (program_of Self.places Self.awaits
             Self.left Self.asks Self.then) laid.now.cells p.0 watched seat.old.me.0
             seat.new.me.0) };
@@ -52,6 +54,7 @@ pub struct CellWait<'a, B: Body> {
 }
 
 impl<'a, B: Body> CellWait<'a, B> {
+    /// A wait for cell `p` by this seat, which has nothing under way.
     pub fn new(laid: &'a Laid<B>, seat: WSeat<B>, p: CellId) -> CellWait<'a, B>
         requires table { IsSeatOf laid.now seat }
         requires cell { IsCellOf laid.now p.0 }
@@ -87,7 +90,8 @@ impl<'a, B: Polled> Future for CellWait<'a, B> {
             (program_of B.places B.awaits B.left B.asks B.then) self.old.laid.now.cells self.old.p.0
             given.0 seat.me.0 given.1.me.0)) }
         // It is pending only where this look answered nothing, and it has yielded then.
-        ensures pending { OnPending result (StillWaits self.old.p.0 self.old.seat self.new.seat) }
+        ensures pending { OnPending result (StillWaits (program_of B.places B.awaits B.left B.asks
+            B.then) self.old.p.0 self.old.seat self.new.seat) }
         ensures yielded { OnPending result (cx.new.is_woken ≡ true) }
         ensures again { OnPending result (MayPoll self.new.laid.now self.new.seat self.new.p.0) }
         ensures same { OnPending result ((given : Watched × Seat (Option (Rec B)) (View B)) → IsGiven

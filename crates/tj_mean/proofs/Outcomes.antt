@@ -5,3 +5,5 @@ pub mod NoWaits
 pub mod OneOutcome
 pub mod StandingCycles
 pub mod ToldOutcomes
+pub mod LeastIndexes
+pub mod OwnerMaps

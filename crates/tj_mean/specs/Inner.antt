@@ -6,3 +6,5 @@ pub mod SettledRounds
 pub mod Reached
 pub mod ToldOrder
 pub mod NotedActs
+pub mod Owners
+pub mod MetIndexes

@@ -1,10 +1,11 @@
 -- The laws of outcomes.
-use Rattle.std.specs.Prelude.{◌≡◌, ℕ, Bool, true, List, []}
+use Rattle.std.specs.Prelude.{◌≡◌, ◌↔◌, ℕ, Bool, true, List, [], map}
 use Rattle.std.specs.List.Sorted.{IsPermutation}
 use Rattle.tj_base.specs.ForkOrder.{Name}
 use Rattle.tj_body.specs.Programs.{Program, strictly}
 use Rattle.tj_body.specs.Rounds.{meaning, IsFull}
 use Rattle.tj_body.specs.Points.{IsIn}
+use Rattle.tj_body.specs.SeenAs.{point_as}
 use Rattle.tj_body.specs.NeverWaits.{IsWithoutGet}
 use Rattle.tj_body.specs.declared.point.Point.{Point}
 use Rattle.tj_mean.specs.Outcomes.{AreTold, AreApart, IsOutcome}
@@ -46,3 +47,7 @@ OrderIsFree B = (ps qs : List (Point B)) (o : Outcome) → IsPermutation ps qs �
 abbrev pub MeaningIsApart : {B : Type 0} → Program B → Type 0
 MeaningIsApart {B} program = (N : ℕ) (ps : List (Point B)) (ss : List Stopped) → IsPermutation (meaning program N) ps
     → AreTold ps ss → AreApart ss
+
+-- histories that are seen as others have the outcome of those
+abbrev pub OutcomeIsSeen : Type 0 → Type 0 → Type 0
+OutcomeIsSeen B C = (e : B → C) (ps : List (Point B)) (o : Outcome) → IsOutcome (map (point_as e) ps) o ↔ IsOutcome ps o

@@ -16,6 +16,7 @@ use crate::ask_steps::take;
 use crate::history_steps::{advance, start};
 use std::alloc::Global;
 use std::collections::BTreeMap;
+use std::mem::replace;
 use tj_base::{Items, Name, Oom, Sort};
 use tj_body::{Answer, Ask, Body, Entry, Point, PointStage, Task};
 
@@ -140,7 +141,27 @@ pub fn line_of<B: Body>(
 {
     let mut p = start(alloc, task)?;
     let mut acts = Items::of(Vec::new(alloc));
-    while advance_noting(alloc, &mut p, given, &mut acts)? {}
-    let line = ActLine { name: p.name, acts };
-    Ok((line, p.children.into_vec()))
+    loop {
+        match advance_noting(alloc, &mut p, given, &mut acts) {
+            Ok(true) => {}
+            Ok(false) => return Ok(parts_of(alloc, p, acts)),
+            Err(fault) => {
+                drop(p);
+                drop(acts);
+                return Err(fault);
+            }
+        }
+    }
+}
+
+/// The line of a point with these acts, and its children.
+fn parts_of<B: Body>(alloc: Global, p: Point<B>, acts: ActList) -> (ActLine, Vec<Task<B>>)
+    ensures line { result.0 ≡ record { name = p.name; acts = acts } }
+    ensures children { result.1.items ≡ p.children }
+{
+    let mut p = p;
+    let name = replace(&mut p.name, Name::root());
+    let children = replace(&mut p.children, Items::of(Vec::new(alloc))).into_vec();
+    drop(p);
+    (ActLine { name, acts }, children)
 }

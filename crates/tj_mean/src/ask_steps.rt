@@ -61,11 +61,11 @@ fn make<B: Body>(alloc: Global, p: &mut Point<B>) -> Result<(), Oom>
 fn end<B: Body>(alloc: Global, p: &mut Point<B>, close: Close, became: Entry) -> Result<(), Oom>
     ensures { IfOk result (λ _. p.new ≡ history.after_close close became p.old) }
 {
-    let owed = sorted(replace(&mut p.holds, Items::of(Vec::new(alloc))))?;
+    drop(replace(&mut p.stage, PointStage::Closed(close)));
     p.writes.push((p.name.copy(alloc)?, became))?;
+    let owed = sorted(replace(&mut p.holds, Items::of(Vec::new(alloc))))?;
     break_all(alloc, &mut p.writes, owed.items())?;
     p.owed = owed;
-    p.stage = PointStage::Closed(close);
     Ok(())
 }
 

@@ -6,6 +6,7 @@ ghost use Rattle.tj_body.specs.declared.point.Point.{Point};
 ghost use Rattle.tj_mean.specs.ActLaws.{ActsCanBeWorkedOff};
 ghost use Rattle.tj_mean.specs.OutcomeLaws.{HasOneOutcome, MeaningIsApart, OrderIsFree};
 ghost use Rattle.tj_mean.specs.OutcomeLaws.{OutcomeHasCycleWhereWaits, StrictOutcomeHasNoWait};
+ghost use Rattle.tj_mean.specs.OutcomeLaws.{OutcomeIsSeen};
 
 use tj_body::Body;
 
@@ -38,4 +39,9 @@ pub fn strict_outcome_has_no_wait<B: Body>()
 /// worked off.
 pub fn acts_can_be_worked_off<B: Body>()
     ensures { HoldsOfPrograms B.places B.awaits B.left B.asks B.then ActsCanBeWorkedOff }
+{}
+
+/// Histories of bodies that are seen as others have the outcome of those.
+pub fn outcome_is_seen<B: Body, C: Body>()
+    ensures { OutcomeIsSeen B C }
 {}

@@ -10,7 +10,9 @@ mod handed_on;
 mod held_names;
 mod history_steps;
 mod laws;
+mod least_indexes;
 mod outcome;
+mod owners;
 mod round;
 mod rounds;
 mod stopped;
@@ -21,7 +23,7 @@ pub use act::{Act, ActLine, ActLines, ActList};
 pub use act_lines::acts;
 pub use laws::{
     acts_can_be_worked_off, meaning_is_apart, one_outcome, order_is_free,
-    outcome_has_cycle_where_waits, strict_outcome_has_no_wait,
+    outcome_has_cycle_where_waits, outcome_is_seen, strict_outcome_has_no_wait,
 };
 pub use outcome::{
     CycleList, Ending, LineList, Link, LinkList, Outcome, PlanFault, TaskLine, marked,

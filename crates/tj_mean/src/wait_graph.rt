@@ -1,16 +1,19 @@
 //! The wait graph of tasks that have stopped, and its cycles. The tasks stand in name order and go
 //! by their indexes in it, so that the least name on a cycle is the least index.
-ghost use Rattle.std.specs.Prelude.{◌≡◌, ◌↔◌, ℕ, ◌<◌, length, map, slice_get, true, false};
+ghost use Rattle.std.specs.Prelude.{◌≡◌, ◌↔◌, ℕ, ◌<◌, length, map};
 ghost use Rattle.std.specs.Prelude.{Some, List, IfOk, IfSome, IsNone};
 ghost use Rattle.std.specs.List.{All};
-ghost use Rattle.tj_body.specs.Names.{has};
-ghost use Rattle.tj_mean.specs.Outcomes.{AreApart, AreCycles, Ascend, owned_by};
+ghost use Rattle.tj_mean.specs.Inner.MetIndexes.{AreLeastTold};
+ghost use Rattle.tj_mean.specs.Inner.Owners.{AreOwners};
+ghost use Rattle.tj_mean.specs.Outcomes.{AreApart, AreCycles, Ascend};
 ghost use Rattle.tj_mean.specs.Inner.Indexes.{AreNext, IsLeastCycle, LeadsTo, Next, Waiting, WaitsAt, link_at, link_of};
 
-use crate::held_names::index_of;
+use crate::least_indexes::least_indexes;
 use crate::outcome::{CycleList, Ending, Link, LinkList};
+use crate::owners::{owner, owners_of};
 use crate::stopped::Stopped;
 use std::alloc::Global;
+use std::collections::BTreeMap;
 use tj_base::{Items, Name, Oom};
 
 /// All cycles, each from its least name on, in the order of these names.
@@ -20,9 +23,10 @@ pub fn cycles(alloc: Global, tasks: &[Stopped]) -> Result<CycleList, Oom>
     ensures { IfOk result (AreCycles tasks.now) }
 {
     let next = next_tasks(alloc, tasks)?;
+    let least = least_indexes(alloc, next.as_slice())?;
     let mut cycles = Vec::new(alloc);
     for first in 0..tasks.len() {
-        if let Some(indexes) = cycle_from(alloc, next.as_slice(), first)? {
+        if let Some(indexes) = cycle_of(alloc, next.as_slice(), least.as_slice(), first)? {
             cycles.push(links(alloc, tasks, indexes.as_slice())?)?;
         }
     }
@@ -35,50 +39,47 @@ fn next_tasks(alloc: Global, tasks: &[Stopped]) -> Result<Vec<Option<usize>>, Oo
     requires in_order { Ascend (map (λ s. s.line.name) tasks.now) }
     ensures { IfOk result (λ next. AreNext tasks.now tasks.now next.items) }
 {
+    let owners = owners_of(alloc, tasks)?;
     let mut next = Vec::new(alloc);
     for task in tasks {
-        next.push(next_of(tasks, task))?;
+        next.push(next_of(tasks, &owners, task))?;
     }
     Ok(next)
 }
 
 /// The index of the task that owns the cell that this task waits for, if it waits.
-fn next_of(tasks: &[Stopped], task: &Stopped) -> Option<usize>
+fn next_of(tasks: &[Stopped], owners: &BTreeMap<Name, usize>, task: &Stopped) -> Option<usize>
     requires apart { AreApart tasks.now }
     requires in_order { Ascend (map (λ s. s.line.name) tasks.now) }
+    requires owners { AreOwners tasks.now owners.now }
     ensures { (p : ℕ) → (result ≡ Some p) ↔ LeadsTo tasks.now task.now p }
 {
     match &task.line.ending {
-        Ending::Waits(cell) => owner_of(tasks, cell),
+        Ending::Waits(cell) => owner(owners, cell),
         _ => None,
     }
 }
 
-/// The index of the task that owns the cell.
-fn owner_of(tasks: &[Stopped], cell: &Name) -> Option<usize>
-    ensures some { IfSome result (λ p. (s : Stopped) × (slice_get tasks.now p ≡ Some s)
-        × (has cell.now (owned_by s) ≡ true)) }
-    ensures none { IsNone result → (p : ℕ) → (s : Stopped) → slice_get tasks.now p ≡ Some s →
-        has cell.now (owned_by s) ≡ false }
+/// The indexes of the cycle with this least index, if there is one.
+fn cycle_of(
+    alloc: Global,
+    next: &[Option<usize>],
+    least: &[bool],
+    first: usize,
+) -> Result<Option<Vec<usize>>, Oom>
+    requires first { first < length next.now }
+    requires indexes { (i j : ℕ) → Next next.now i j → j < length next.now }
+    requires length { length least.now ≡ length next.now }
+    requires least { AreLeastTold next.now least.now }
+    ensures some { IfOk result (λ found. IfSome found (λ indexes.
+        IsLeastCycle next.now first indexes.items)) }
+    ensures none { IfOk result (λ found. IsNone found
+        → (indexes : List ℕ) → ¬ IsLeastCycle next.now first indexes) }
 {
-    for (index, task) in tasks.iter().enumerate() {
-        if owns(task, cell) {
-            return Some(index);
-        }
+    if !least[first] {
+        return Ok(None);
     }
-    None
-}
-
-/// Whether the task owns the cell.
-fn owns(task: &Stopped, cell: &Name) -> bool
-    ensures { result ≡ has cell.now (owned_by task.now) }
-{
-    match &task.line.ending {
-        Ending::Waits(_) => {
-            *cell == task.line.name || index_of(task.holds.items(), cell).is_some()
-        }
-        _ => false,
-    }
+    cycle_from(alloc, next, first)
 }
 
 /// The indexes from this one on along waits, if the way comes back to it, and over greater indexes

@@ -1,7 +1,8 @@
 -- A promise that a task owes is broken, and those who wait for it are woken.
 use Rattle.std.proofs.Common.{◌≡◌, ◌⊎◌, ℕ, ◌+◌, ◌<◌, ◌≤◌, Bool, cond, List, [], ◌∷◌, length, Some, None}
-use Rattle.std.proofs.Common.{refl, sym, ap, ◌∙◌, subst, inl, inr, ⊎_elim, arith, eq-eqb, ne_eqb, drop, get_or}
-use Rattle.std.proofs.lemmas.List.{drop_all, drop_more}
+use Rattle.std.proofs.Common.{refl, sym, ap, ◌∙◌, subst, inl, inr, ⊎_elim, arith, eq-eqb, ne_eqb, drop, get_or, take}
+use mathlib.Core.List.{map-append}
+use Rattle.std.proofs.lemmas.List.{drop_all, drop_more, take_all, take_more}
 use mathlib.Core.Logic.{dite}
 use native.Mathlib.Decide.{ℕ_discrete}
 use Rattle.tj_base.specs.declared.cell.CellId.{CellId}
@@ -15,7 +16,7 @@ use Rattle.tj_words.specs.declared.view.View.{View}
 use Rattle.tj_words.specs.Calls.DrawViews.{without_due}
 use Rattle.tj_words.specs.LawParts.Holding.{held_in}
 use Rattle.tj_words.specs.SeatViews.KnownEntries.{HasSeen, IsToBecome}
-use Rattle.tj_words.specs.SeatViews.KnowsMore.{KnowsMore}
+use Rattle.tj_words.specs.SeatViews.KnowsMore.{IsTailOf, KnowsMore}
 use Rattle.tj_words.specs.Words.Lists.{AreApart, cell, numbers, without}
 use Rattle.tj_words.specs.LawParts.LiveCount.{HasAlarmed}
 use Rattle.tj_words.specs.Calls.LiveViews.{SlotsOf}
@@ -23,14 +24,16 @@ use Rattle.tj_words.specs.Calls.OwnerViews.{gave_up}
 use Rattle.tj_words.specs.SeatViews.TaskLists.{let_go}
 use Rattle.tj_words.proofs.Holders.HeldChanges.{held_task}
 use Rattle.tj_words.proofs.Holders.HeldTasks.{one_some}
-use Rattle.tj_words.proofs.SeatLoads.KnowsMoreOn.{more_itself}
+use Rattle.tj_words.proofs.SeatLoads.KnowsMoreOn.{more_itself, tail_on}
 use Rattle.tj_words.proofs.Holders.NotedEntries.{noted_here, noted_else}
 use Rattle.tj_words.proofs.Stores.SeatLists.{inside}
 use Rattle.tj_cells.specs.FilledCells.{MayGiveUp, WillBecome, became}
 use Rattle.tj_cells.proofs.TaskNotes.{let_go_again, let_go_first, noted_front}
 use Rattle.tj_park.specs.Inner.Breaks.{HasBroken, MayBreak, OwnsStill}
 use Rattle.tj_park.specs.Records.{AlarmsLeave, HasNoRecord}
-use Rattle.tj_park.specs.Wakes.{HasWoken, MayWake}
+use Rattle.tj_park.specs.Wakes.{HasWoken, MayWake, WakesAll, WakesEach}
+use Rattle.tj_cells.proofs.CallsKnowMore.{became_more}
+use Rattle.tj_park.proofs.WakeLoops.{noted_tail, one_wake_more}
 
 -- what isn't there is left out of nothing
 without_none : (p : ℕ) (ns : List ℕ) → ¬ IsIn p ns → without p ns ≡ ns
@@ -150,6 +153,9 @@ module _ {B : Type 0} (program : Bool → B → Program B) (t : ℕ) (promises l
         seen = h.knows.seen;
         closed = λ x i. inr (h.knows.closed x i);
         rested = h.knows.rested;
+        notes = tail_on v.notes w.notes w2.notes h.knows.notes
+            (subst (λ l. IsTailOf l w2.notes) (ap (λ (u : View B). u.notes) broke)
+            (noted_tail c.0 chain [] w1 w1.notes w2.notes woke.noted));
       }
 
       abbrev owns_now : OwnsStill t left now
@@ -227,3 +233,31 @@ pub about_kept : {B : Type 0} (p : ℕ) (woken left : List ℕ) (t : ℕ) (v v1 
     → v2 ≡ became t p entry.Broken v1 → HasWoken p woken left v2 v3 → v3.about ≡ v.about
 about_kept {B} p woken left t v v1 v2 v3 e broke woke = ap (λ (u : View B). u.about) woke.view
     ∙ (ap (λ (u : View B). u.about) broke ∙ e)
+
+-- what the seat noted then stands in front of its notes
+pub notes_kept : {B : Type 0} (p : ℕ) (woken left : List ℕ) (t : ℕ) (v v1 v2 v3 : View B) → IsTailOf v.notes v1.notes
+    → v2 ≡ became t p entry.Broken v1 → HasWoken p woken left v2 v3 → IsTailOf v.notes v3.notes
+notes_kept {B} p woken left t v v1 v2 v3 e broke woke = tail_on v.notes v2.notes v3.notes
+    (subst (λ (u : View B). IsTailOf v.notes u.notes) (sym broke) e)
+    (noted_tail p woken left v2 v2.notes v3.notes woke.noted)
+
+module _ {B P : Type 0} (puts : P → CellId → P → Type 0) where
+  -- those who waited for one promise more were woken, once it was broken
+  pub one_break_woke : (t : ℕ) (ps : List CellId) (i n : ℕ) (v w before after : View B) (a b c : P)
+      → WakesEach puts (numbers (take i ps)) v w a b → i < length ps
+      → before ≡ became t (get_or ps i (cell 0)).0 entry.Broken w
+      → WakesAll puts (get_or ps i (cell 0)).0 n before after b c
+      → WakesEach puts (numbers (take (i + 1) ps)) v after a c
+  one_break_woke t ps i n v w before after a b c h few broke woke =
+      let p : ℕ = (get_or ps i (cell 0)).0 in
+      subst (λ l. WakesEach puts l v after a c)
+      (sym (ap numbers (take_more ps i (cell 0) few)
+      ∙ map-append (λ (d : CellId). d.0) (take i ps) (get_or ps i (cell 0) ∷ [])))
+      (one_wake_more puts (numbers (take i ps)) p n v w before after after a b c h
+      (subst (KnowsMore w) (sym broke) (became_more t p entry.Broken w)) woke (more_itself after))
+
+  -- all are broken
+  pub all_woke : (ps : List CellId) (i : ℕ) (v w : View B) (a b : P)
+      → WakesEach puts (numbers (take i ps)) v w a b → length ps ≤ i
+      → WakesEach puts (numbers ps) v w a b
+  all_woke ps i v w a b h most = subst (λ l. WakesEach puts (numbers l) v w a b) (take_all i ps most) h

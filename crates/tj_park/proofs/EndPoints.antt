@@ -36,14 +36,14 @@ open_owned (stage.Waits q spare) x holds o = refl
 open_owned (stage.Closed e) x holds o = absurd o
 
 -- of lists that agree element by element, what stands beside an element of either
-beside : {A C : Type 0} (F : A → C → Type 0) (xs : List A) (ys : List C) → ArePairs F xs ys → (x : A) → IsIn x xs
+pub beside : {A C : Type 0} (F : A → C → Type 0) (xs : List A) (ys : List C) → ArePairs F xs ys → (x : A) → IsIn x xs
     → (y : C) × IsIn y ys × F x y
 beside F [] ys h x i = absurd i
 beside F (a ∷ xs) [] h x i = absurd h
 beside F (a ∷ xs) (c ∷ ys) h x (inl e) = (c, inl refl, subst (λ z. F z c) (sym e) h.0)
 beside F (a ∷ xs) (c ∷ ys) h x (inr i) = let w = beside F xs ys h.1 x i in (w.0, inr w.1, w.2)
 
-beside_back : {A C : Type 0} (F : A → C → Type 0) (xs : List A) (ys : List C) → ArePairs F xs ys → (y : C) → IsIn y ys
+pub beside_back : {A C : Type 0} (F : A → C → Type 0) (xs : List A) (ys : List C) → ArePairs F xs ys → (y : C) → IsIn y ys
     → (x : A) × IsIn x xs × F x y
 beside_back F xs [] h y i = absurd i
 beside_back F [] (c ∷ ys) h y i = absurd h
@@ -56,7 +56,7 @@ module _ {B : Type 0} (program : Program B) (t : ℕ) (f : Finish) (r : Rec B) (
   abbrev last : Point B
   last = record m.point { body = m.body }
 
-  abbrev closed : Point B
+  abbrev pub closed : Point B
   closed = after_close m.ending (result_of m.ending) last
 
   pub its_name : IsCell v.born t (to_task m.point.name)

@@ -14,7 +14,7 @@ use Rattle.tj_body.specs.RoundPoints.{WritesBecome}
 use Rattle.tj_body.specs.declared.point.Close.{Close}
 use Rattle.tj_body.specs.declared.point.Entry.{Entry}
 use Rattle.tj_body.specs.declared.point.Entry.TheVariants as entry
-use Rattle.tj_body.proofs.Lists.{in_left, in_right, in_either}
+use Rattle.tj_body.proofs.Lists.{begins_self, in_left, in_right, in_either}
 use Rattle.tj_words.specs.declared.offsets.Once.TheVariants as once
 use Rattle.tj_words.specs.declared.record.Finish.{Finish}
 use Rattle.tj_words.specs.declared.record.Held.{Held}
@@ -22,7 +22,8 @@ use Rattle.tj_words.specs.declared.record.Rec.{Rec}
 use Rattle.tj_words.specs.declared.view.View.{View}
 use Rattle.tj_words.specs.Calls.DrawViews.{without_due}
 use Rattle.tj_words.specs.SeatViews.KnownEntries.{HasSeen, IsToBecome, ToldBy}
-use Rattle.tj_words.specs.SeatViews.KnowsMore.{KnowsMore}
+use Rattle.tj_words.specs.SeatViews.KnowsMore.{IsTailOf, KnowsMore}
+use Rattle.tj_words.proofs.SeatLoads.KnowsMoreOn.{tail_on}
 use Rattle.tj_words.specs.Words.Lists.{AreApart, cell, numbers, without}
 use Rattle.tj_words.specs.LawParts.LiveCount.{Backing, HasAlarmed, Holds}
 use Rattle.tj_words.specs.Calls.LiveViews.{MayEnd, MayLowerLive, Shelves, SlotsOf, ended, lowered_with}
@@ -45,6 +46,7 @@ use Rattle.tj_park.proofs.BreakSteps.{without_first, held_closed, others_closed,
 use Rattle.tj_park.proofs.LeftTasks.{holds_before}
 use Rattle.tj_park.proofs.ParkedViews.{lowered_alone, no_record}
 use Rattle.tj_park.proofs.EndPoints.{its_name, result_first, to_break, result_becomes, told_ended}
+use Rattle.tj_park.proofs.WakeLoops.{noted_tail}
 
 -- all of a list but its first, as a slice
 pub slice_rest : (l m : List CellId) → l ≡ m → take (length l - 1) (drop 1 l) ≡ drop 1 m
@@ -212,6 +214,35 @@ module _ {B : Type 0} (program : Bool → B → Program B) (t : ℕ) (r : Rec B)
           → m4 ≡ (ended t closed, slots)
       ended_is m3 m4 a b = b ∙ ap (λ (m : SeatMe B). (ended t m.0, rest m.1)) a
 
+      -- the seat knows what it knew
+      pub ended_more : (m4 : SeatMe B) → m4 ≡ (ended t closed, slots) → KnowsMore v1 m4.0
+      ended_more m4 e = subst (λ (m : SeatMe B). KnowsMore v1 m.0) (sym e) (record {
+        about = refl;
+        lot = refl;
+        born = begins_self v1.born;
+        known = λ x i. i;
+        wrote = λ x i. inr i;
+        filled = λ x i. inr i;
+        seen = λ x i. i;
+        closed = λ x i. i;
+        rested = λ q. q;
+        notes = ([], refl);
+      })
+
+      pub lowered_more : (v5 : View B) (m6 : SeatMe B) → m6 ≡ lowered_with v5 slots → KnowsMore v5 m6.0
+      lowered_more v5 m6 e = subst (λ (m : SeatMe B). KnowsMore v5 m.0) (sym (e ∙ lowered_alone v5 slots none)) (record {
+        about = refl;
+        lot = refl;
+        born = begins_self v5.born;
+        known = λ x i. i;
+        wrote = λ x i. i;
+        filled = λ x i. i;
+        seen = λ x i. i;
+        closed = λ x i. i;
+        rested = λ q. q;
+        notes = ([], refl);
+      })
+
       pub may_wake_then : (m4 : SeatMe B) → m4 ≡ (ended t closed, slots) → MayWake t m4
       may_wake_then m4 e = subst (λ m. MayWake t m) (sym e) may_wake_last
 
@@ -225,6 +256,13 @@ module _ {B : Type 0} (program : Bool → B → Program B) (t : ℕ) (r : Rec B)
           → HasWoken t chain left m4.0 v5 → v5.about ≡ v.about
       about_woken chain left m4 v5 e k = ap (λ (u : View B). u.about) k.view
           ∙ (ap (λ (m : SeatMe B). m.0.about) e ∙ h.knows.about)
+
+      -- and what it noted stands in front of its notes
+      pub notes_woken : (chain left : List ℕ) (m4 : SeatMe B) (v5 : View B) → m4 ≡ (ended t closed, slots)
+          → HasWoken t chain left m4.0 v5 → IsTailOf v.notes v5.notes
+      notes_woken chain left m4 v5 e k = tail_on v.notes m4.0.notes v5.notes
+          (subst (λ (m : SeatMe B). IsTailOf v.notes m.0.notes) (sym e) h.knows.notes)
+          (noted_tail t chain left m4.0 m4.0.notes v5.notes k.noted)
 
       no_dues : without_due t once.Tag (without_due t once.Bits v1.dues) ≡ []
       no_dues = ap (λ d. without_due t once.Tag (without_due t once.Bits d)) h.idle.dues
@@ -275,6 +313,8 @@ module _ {B : Type 0} (program : Bool → B → Program B) (t : ℕ) (r : Rec B)
           seen = h.knows.seen;
           closed = λ x i. inr (h.knows.closed x i);
           rested = h.knows.rested;
+          notes = tail_on v.notes v1.notes v5.notes h.knows.notes
+              (noted_tail t chain [] (ended t closed) v1.notes v5.notes woke.noted);
         }
 
         finished_last : HasFinished t r v last

@@ -16,6 +16,7 @@ use Rattle.tj_words.specs.Words.Heads.{head_word}
 use Rattle.tj_words.specs.SeatViews.SeenWords.{FindsChain, FindsShut}
 use Rattle.tj_words.proofs.SeatLoads.KnowsMoreOn.{more_itself, more_on, hand_on, counts_on}
 use Rattle.tj_park.specs.Inner.JoinViews.{LooksOn, IsAdded, push_behind, last_found, pushes_left, join_steps}
+use Rattle.tj_park.specs.ParkViews.{HasFoundChains}
 
 -- the sums of steps and of pushes
 shut_cost : (s v c : ℕ) → s ≡ suc v → s + 2 * 0 ≤ v + (2 * c + 3)
@@ -42,6 +43,13 @@ none_left a b c e f = omega arith
 as_long : (xs more : List ℕ) → length xs ≤ length (more ++ xs)
 as_long xs [] = omega arith
 as_long xs (y ∷ more) = let b = as_long xs more in omega arith
+
+-- one chain more was found, which is longer than the last one before
+more_found : (n last old new now : ℕ) → n ≤ suc last → last ≡ old → old < new → now ≡ new → suc n ≤ suc now
+more_found n last old new now a b c d = omega arith
+
+no_more_found : (n last old new cells : ℕ) → n ≤ suc last → last ≡ old → old < new → new ≤ cells → suc n ≤ suc cells
+no_more_found n last old new cells a b c d = omega arith
 
 -- how many pushes are left after the last chain that was found
 left_open : (cells : ℕ) (behind : Head) (fs : List Found) → behind ≢ head.Shut
@@ -101,11 +109,16 @@ module _ {B : Type 0} where
     pub open_at : behind ≢ head.Shut → IsOpenAt cells q behind w
     pub shut_at : behind ≡ head.Shut → IsShutAt q w
     pub cost : w.steps + 2 * pushes_left cells behind w.found ≤ v.steps + join_steps cells
+    pub chains : List Found
+    pub found : w.found ≡ chains ++ v.found
+    pub few : length chains ≤ suc (length (last_found w.found))
+    pub most : length chains ≤ suc cells
 
   shut_looks : {program : Bool → B → Program B} (cells q : ℕ) (v w : View B) → FindsShut program cells q v w
-      → LooksOn cells v w × IsShutAt q w × (w.pushes ≡ v.pushes) × (w.steps ≡ suc v.steps)
+      → LooksOn cells v w × IsShutAt q w × (w.pushes ≡ v.pushes) × (w.steps ≡ suc v.steps) × (w.found ≡ v.found)
   shut_looks cells q v w f = subst
-      (λ (z : View B). LooksOn cells v z × IsShutAt q z × (z.pushes ≡ v.pushes) × (z.steps ≡ suc v.steps))
+      (λ (z : View B). LooksOn cells v z × IsShutAt q z × (z.pushes ≡ v.pushes) × (z.steps ≡ suc v.steps)
+      × (z.found ≡ v.found))
       (sym f.view) (
         record {
           knows = record {
@@ -118,6 +131,7 @@ module _ {B : Type 0} where
             seen = λ x i. i;
             closed = λ x i. inr i;
             rested = λ e. e;
+            notes = ([], refl);
           };
           all = λ _. f.all;
           hand = record { hand = refl; dues = refl };
@@ -129,6 +143,7 @@ module _ {B : Type 0} where
           once_loads = refl;
         },
         (inl refl, (record { cell = q; entry = f.entry }, inl refl, refl)),
+        refl,
         refl,
         refl,
       )
@@ -147,6 +162,7 @@ module _ {B : Type 0} where
       seen = λ x i. i;
       closed = λ x i. i;
       rested = λ e. e;
+      notes = ([], refl);
     };
     all = λ a. a;
     hand = record { hand = refl; dues = refl };
@@ -189,6 +205,10 @@ module _ {B : Type 0} where
       open_at = λ n. absurd (n refl);
       shut_at = λ _. f.1;
       cost = shut_cost w.steps v.steps cells f.3;
+      chains = [];
+      found = f.4;
+      few = omega arith;
+      most = omega arith;
     }
     joining_first head.Empty v w e s o = let f = o (λ z. cc) in let l = chain_looks cells q head.Empty v w f in record {
       looks = l.0;
@@ -197,6 +217,10 @@ module _ {B : Type 0} where
       open_at = λ _. open_is cells q head.Empty v w f;
       shut_at = λ z. absurd (cc);
       cost = first_cost w.steps v.steps cells (length (last_found w.found)) l.3;
+      chains = record { cell = q; chain = f.chain } ∷ [];
+      found = l.1;
+      few = omega arith;
+      most = omega arith;
     }
     joining_first (head.Task u) v w e s o = let f = o (λ z. cc) in
         let l = chain_looks cells q (head.Task u) v w f in record {
@@ -206,6 +230,10 @@ module _ {B : Type 0} where
           open_at = λ _. open_is cells q (head.Task u) v w f;
           shut_at = λ z. absurd (cc);
           cost = first_cost w.steps v.steps cells (length (last_found w.found)) l.3;
+          chains = record { cell = q; chain = f.chain } ∷ [];
+          found = l.1;
+          few = omega arith;
+          most = omega arith;
         }
 
     -- NEXT of t may be stored
@@ -248,12 +276,18 @@ module _ {B : Type 0} where
         -- the push succeeds
         pub joined : (x : View B) → x ≡ pushed t u
             → LooksOn cells v x × (x.pushes ≡ []) × (x.steps ≤ v.steps + join_steps cells)
+            × HasFoundChains (suc cells) v x
         joined x e = (
           looks_on v u x stored_looks (subst (λ (z : View B). LooksOn cells u z) (sym e)
               (same_looks u (suc u.steps) (without_push t u.pushes) u.found)),
           ap (λ (z : View B). z.pushes) e ∙ (ap (without_push t) stored_pushes ∙ without_one t q way (Some behind)),
           joined_cost x.steps u.steps w.steps v.steps (cells - length at.chain) (pushes_left cells behind w.found)
               (join_steps cells) (ap (λ (z : View B). z.steps) e) stored_steps left_now j.cost,
+          record {
+            chains = j.chains;
+            found = ap (λ (z : View B). z.found) e ∙ (stored_found ∙ j.found);
+            few = j.most;
+          },
         )
 
         grown : (h : Head) (x : View B) (f : FindsChain cells q h u x) → h ≢ behind
@@ -298,6 +332,13 @@ module _ {B : Type 0} where
                 open_at = λ _. open_is cells q h u x f;
                 shut_at = λ e. absurd (n e);
                 cost = went l.3;
+                chains = record { cell = q; chain = f.chain } ∷ j.chains;
+                found = l.1 ∙ ap (λ fs. record { cell = q; chain = f.chain } ∷ fs) (stored_found ∙ j.found);
+                few = more_found (length j.chains) (length (last_found w.found)) (length at.chain) (length f.chain)
+                    (length (last_found x.found)) j.few (ap (λ fs. length (last_found fs)) at.found) (grown h x f fails)
+                    (ap (λ fs. length (last_found fs)) l.1);
+                most = no_more_found (length j.chains) (length (last_found w.found)) (length at.chain)
+                    (length f.chain) cells j.few (ap (λ fs. length (last_found fs)) at.found) (grown h x f fails) f.short;
               }
 
               by : (z : Head) → h ≡ z → Joining cells t q way h v x
@@ -308,6 +349,10 @@ module _ {B : Type 0} where
                 open_at = λ n. absurd (n e);
                 shut_at = λ _. f.1;
                 cost = went f.3;
+                chains = j.chains;
+                found = f.4 ∙ (stored_found ∙ j.found);
+                few = subst (λ fs. length j.chains ≤ suc (length (last_found fs))) (sym (f.4 ∙ stored_found)) j.few;
+                most = j.most;
               }
               by head.Empty e = more (λ y. let d : head.Empty ≡ head.Shut = sym e ∙ y in cc)
               by (head.Task z) e = more (λ y. let d : head.Task z ≡ head.Shut = sym e ∙ y in cc)
@@ -315,6 +360,11 @@ module _ {B : Type 0} where
     -- where the head is shut, the task isn't added
     pub not_added : (v w : View B) → Joining cells t q way head.Shut v w → IsAdded t q way false w
     not_added v w j = ((j.next, j.pushes), (j.shut_at refl).0, (j.shut_at refl).1)
+
+    -- so many chains were found
+    pub found_chains : (behind : Head) (v w : View B) → Joining cells t q way behind v w
+        → HasFoundChains (suc cells) v w
+    found_chains behind v w j = record { chains = j.chains; found = j.found; few = j.most }
 
     -- the steps are as few as they are to be
     pub few_steps : (behind : Head) (v w : View B) → Joining cells t q way behind v w

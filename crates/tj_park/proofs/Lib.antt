@@ -10,3 +10,4 @@ pub mod EndPoints
 pub mod EndSteps
 pub mod ResultCloses
 pub mod TestRoots
+pub mod OwedRecords

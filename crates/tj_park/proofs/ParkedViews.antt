@@ -1,5 +1,5 @@
 -- A task is parked, and then left in a chain, or taken back.
-use Rattle.std.proofs.Common.{◌≡◌, ℕ, suc, ◌+◌, ◌-◌, ◌*◌, ◌<◌, ◌≤◌, Bool, true, false, [], ◌∷◌, Option}
+use Rattle.std.proofs.Common.{◌≡◌, ℕ, suc, ◌+◌, ◌-◌, ◌*◌, ◌<◌, ◌≤◌, Bool, true, false, [], ◌∷◌, ◌++◌, Option}
 use Rattle.std.proofs.Common.{Some, None}
 use Rattle.std.proofs.Common.{refl, sym, ap, ◌∙◌, subst, inl, arith, cond, eq-eqb}
 use Rattle.atomic_table.specs.Table.{rest}
@@ -26,7 +26,7 @@ use Rattle.tj_words.proofs.Holders.HeldTasks.{none_some}
 use Rattle.tj_words.proofs.SeatLoads.KnowsMoreOn.{more_itself, more_on}
 use Rattle.tj_words.proofs.Waiters.LiveSteps.{backing_idle}
 use Rattle.tj_park.specs.Inner.JoinViews.{LooksOn, IsAdded, TakesBack, join_steps, push_behind}
-use Rattle.tj_park.specs.ParkViews.{MayParkTask, LeftTask, GaveBack}
+use Rattle.tj_park.specs.ParkViews.{HasFoundChains, MayParkTask, LeftTask, GaveBack}
 use Rattle.tj_park.specs.Records.{HasNoRecord}
 use Rattle.tj_park.proofs.LeftTasks.{holds_before, puts_home}
 
@@ -80,11 +80,12 @@ module _ {B : Type 0} where
       seen = λ x i. i;
       closed = λ x i. i;
       rested = λ e. e;
+      notes = ([], refl);
     }
 
     -- w is the view after the task was added to the chain, or the head found shut
     module _ (w : View B) (looks : LooksOn cells (parked t q way v) w)
-        (few : w.steps ≤ suc v.steps + join_steps cells) where
+        (few : w.steps ≤ suc v.steps + join_steps cells) (news : HasFoundChains (suc cells) v w) where
       knows : KnowsMore v w
       knows = more_on v (parked t q way v) w knows_parked looks.knows
 
@@ -130,6 +131,7 @@ module _ {B : Type 0} where
                     seen = λ x i. i;
                     closed = λ x i. i;
                     rested = λ a. a;
+                    notes = ([], refl);
                   });
                   all = λ a e c. looks.all;
                   hand = record { hand = looks.hand.hand; dues = looks.hand.dues };
@@ -142,6 +144,7 @@ module _ {B : Type 0} where
                   plain_loads = looks.plain_loads;
                   once_loads = looks.once_loads;
                   steps = left_steps w.steps v.steps cells few;
+                  pushes = record { chains = news.chains; found = news.found; few = news.few };
                 };
                 tasks = looks.tasks;
               },
@@ -192,6 +195,7 @@ module _ {B : Type 0} where
             plain_loads = b.plain_loads ∙ looks.plain_loads;
             once_loads = b.once_loads ∙ looks.once_loads;
             steps = back_steps u.steps w.steps v.steps cells few b.steps;
+            pushes = record { chains = news.chains; found = b.found ∙ news.found; few = news.few };
           };
           tasks = b.tasks ∙ ap (hold (custody_of x)) looks.tasks;
           taken = b.taken;
@@ -214,7 +218,7 @@ module _ {B : Type 0} where
       parked_push = ap (λ (z : SeatMe B). z.0.pushes) is_parked ∙ one_push
 
       module _ (same : m3.1 ≡ m2.1) (looks : LooksOn cells m2.0 m3.0) (few : m3.0.steps ≤ m2.0.steps + join_steps cells)
-          (b : Bool) (added : IsAdded t q way b m3.0) where
+          (chains : HasFoundChains (suc cells) m2.0 m3.0) (b : Bool) (added : IsAdded t q way b m3.0) where
         pub parked_slots : m3.1 ≡ l
         parked_slots = same ∙ ap (λ (z : SeatMe B). z.1) is_parked
 
@@ -227,23 +231,30 @@ module _ {B : Type 0} where
         in_few : m3.0.steps ≤ suc v.steps + join_steps cells
         in_few = subst (λ (z : SeatMe B). m3.0.steps ≤ z.0.steps + join_steps cells) is_parked few
 
+        news : HasFoundChains (suc cells) v m3.0
+        news = record {
+          chains = chains.chains;
+          found = chains.found ∙ ap (λ (z : SeatMe B). chains.chains ++ z.0.found) is_parked;
+          few = chains.few;
+        }
+
         module _ (was_added : b ≡ true) (none : HasNoRecord l) where
           gone : m3.0.pushes ≡ []
           gone = subst (λ z. IsAdded t q way z m3.0) was_added added
 
           pub parked_lower : MayLowerLive program m3
-          parked_lower = subst (MayLowerLive program) (sym joined) (lower_left m3.0 looked in_few gone l none)
+          parked_lower = subst (MayLowerLive program) (sym joined) (lower_left m3.0 looked in_few news gone l none)
 
           pub parked_left : (m4 : SeatMe B) → m4 ≡ live_lowered m3 → LeftTask cells t v m4.0 × (m4.1 ≡ l)
-          parked_left m4 e = left_task m3.0 looked in_few gone m4 l none (e ∙ ap live_lowered joined)
+          parked_left m4 e = left_task m3.0 looked in_few news gone m4 l none (e ∙ ap live_lowered joined)
 
         module _ (was_shut : b ≡ false) where
           stays : IsAdded t q way false m3.0
           stays = subst (λ z. IsAdded t q way z m3.0) was_shut added
 
           pub parked_back_may : MayGoBack t q way m3.0
-          parked_back_may = may_go_back m3.0 looked in_few stays
+          parked_back_may = may_go_back m3.0 looked in_few news stays
 
           pub parked_back : (x : Rec B) (u : View B) → TakesBack program t q x m3.0 u
               → GaveBack program cells t q x v u
-          parked_back x u back = gave_back m3.0 looked in_few stays x u back
+          parked_back x u back = gave_back m3.0 looked in_few news stays x u back

@@ -1,5 +1,5 @@
 -- A task that its seat had parked is taken back.
-use Rattle.std.proofs.Common.{◌≡◌, ◌≢◌, ℕ, suc, ◌+◌, ◌-◌, ◌<◌, ◌≤◌, Bool, ◌∷◌, Option}
+use Rattle.std.proofs.Common.{◌≡◌, ◌≢◌, ℕ, suc, ◌+◌, ◌-◌, ◌<◌, ◌≤◌, Bool, [], ◌∷◌, Option}
 use Rattle.std.proofs.Common.{Some, None, Result, Ok, Err}
 use Rattle.std.proofs.Common.{refl, sym, ap, ◌∙◌, subst, arith, true, is_some, IfErr, OnOk}
 use Rattle.atomic_table.specs.Table.{rest}
@@ -66,6 +66,7 @@ module _ {B : Type 0} (program : Bool → B → Program B) (t q : ℕ) (way : Wa
         seen = λ x i. i;
         closed = λ x i. i;
         rested = λ e. e;
+        notes = ([], refl);
       };
       hand = record { hand = refl; dues = refl };
       tokens = refl;
@@ -77,6 +78,7 @@ module _ {B : Type 0} (program : Bool → B → Program B) (t q : ℕ) (way : Wa
       rest = refl;
       plain_loads = refl;
       once_loads = refl;
+      found = refl;
       steps = few;
       taken = has_taken program t m.0 b.0 b.1 (record went { cleared = n; steps = s }) m.0 refl refl refl refl refl;
       waited = b.2;

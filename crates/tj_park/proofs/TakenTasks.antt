@@ -99,6 +99,7 @@ module _ {B : Type 0} where
           seen = λ x i. i;
           closed = λ x i. i;
           rested = λ e. e;
+          notes = ([], refl);
         };
         hand = record { hand = refl; dues = refl };
         wakes = record { pushes = refl; shuts = refl; rest = refl };

@@ -14,8 +14,10 @@ use Rattle.tj_words.specs.LawParts.Chains.{head_of}
 use Rattle.tj_words.specs.Calls.ChainSteps.{TakesChain, found_taken, rest_of}
 use Rattle.tj_words.specs.Words.Heads.{head_word}
 use Rattle.tj_words.specs.Calls.LiveViews.{SlotsOf}
+use Rattle.tj_words.specs.SeatViews.KnowsMore.{IsTailOf, KnowsMore}
+use Rattle.tj_words.proofs.SeatLoads.KnowsMoreOn.{more_on, tail_on}
 use Rattle.tj_words.proofs.Waiters.ChainsSaid.{shut_or}
-use Rattle.tj_park.specs.Wakes.{HaveNoted, HavePut, HasWoken, MayWakeTasks, WakesAll, WakesSome, wake_notes}
+use Rattle.tj_park.specs.Wakes.{HaveNoted, HavePut, HasWoken, MayWakeTasks, WakesAll, WakesEach, WakesSome, wake_notes}
 use Rattle.tj_park.specs.Inner.FirstWaiters.{WakesFirst}
 
 -- the head begins the list of those who are left, and names a cell; or it was shut, and nobody is
@@ -232,3 +234,35 @@ module _ {B P : Type 0} (puts : P → CellId → P → Type 0) (cells p : ℕ) w
     woke = subst (λ l. HasWoken p k.front l v w) (none_left cells first k.left k.begins n) k.woke;
     put = k.put;
   }
+
+-- what a wake notes stands in front of what was noted
+pub noted_tail : {B : Type 0} (p : ℕ) (woken left : List ℕ) (v : View B) (old new : List Note)
+    → HaveNoted p woken left v old new → IsTailOf old new
+noted_tail p [] left v old new h = ([], h)
+noted_tail p (t ∷ ts) left v old new h =
+    tail_on old (wake_notes p t h.0 (ts ++ left) v ++ old) new (wake_notes p t h.0 (ts ++ left) v, refl)
+    (noted_tail p ts left v (wake_notes p t h.0 (ts ++ left) v ++ old) new h.1)
+
+module _ {B P : Type 0} (puts : P → CellId → P → Type 0) where
+  -- those who wait for one cell more were woken
+  pub one_wake_more : (ps : List ℕ) (p n : ℕ) (v w before after end : View B) (a b c : P)
+      → WakesEach puts ps v w a b → KnowsMore w before → WakesAll puts p n before after b c → KnowsMore after end
+      → WakesEach puts (ps ++ p ∷ []) v end a c
+  one_wake_more [] p n v w before after end a b c h k x m = (
+    before,
+    after,
+    c,
+    n,
+    more_on v w before h.0 k,
+    subst (λ z. WakesAll puts p n before after z c) h.1 x,
+    (m, refl),
+  )
+  one_wake_more (q ∷ ps) p n v w before after end a b c h k x m = (
+    h.0,
+    h.1,
+    h.2,
+    h.3,
+    h.4,
+    h.5,
+    one_wake_more ps p n h.1 w before after end h.2 b c h.6 k x m,
+  )

@@ -1,11 +1,12 @@
 -- What `park` asks of the seat, and what it makes of it.
-use Rattle.std.specs.Prelude.{◌≡◌, ℕ, ◌+◌, ◌*◌, ◌≤◌, Bool, Some}
+use Rattle.std.specs.Prelude.{◌≡◌, ℕ, suc, ◌+◌, ◌*◌, ◌≤◌, Bool, List, ◌++◌, length, Some}
 use Rattle.tj_body.specs.Points.{IsIn}
 use Rattle.tj_body.specs.Programs.{Program}
 use Rattle.tj_core.specs.declared.walk.Way.{Way}
 use Rattle.tj_core.specs.Events.{MaySettle, raised_by_way}
 use Rattle.tj_words.specs.declared.record.Rec.{Rec}
 use Rattle.tj_words.specs.declared.view.About.{About}
+use Rattle.tj_words.specs.declared.view.Found.{Found}
 use Rattle.tj_words.specs.declared.view.View.{View}
 use Rattle.tj_words.specs.Calls.ChainSteps.{KnowsEntry}
 use Rattle.tj_words.specs.SeatViews.KnowsMore.{KnowsMore, HasSameWakes, HasSameHand, HasSameCounts}
@@ -45,6 +46,13 @@ module _ {B : Type 0} where
       pub room : v.cleared + raised_by_way way ≤ v.lot
       pub alarms : AlarmsLeave 0 v
 
+  -- since then the seat has found chains, at most so many. A push comes after the load of a head or after a push that
+  -- failed, which found a chain; so there were at most as many pushes
+  pub record HasFoundChains (most : ℕ) (v w : View B) : Type 0 where
+    pub chains : List Found
+    pub found : w.found ≡ chains ++ v.found
+    pub few : length chains ≤ most
+
   -- the seat knows more, and has nothing to come; no load was made that is counted. What it knew as the cells of the
   -- table it knows as these still
   pub record HasParked (cells : ℕ) (v w : View B) : Type 0 where
@@ -56,6 +64,7 @@ module _ {B : Type 0} where
     pub plain_loads : w.plain_loads ≡ v.plain_loads
     pub once_loads : w.once_loads ≡ v.once_loads
     pub steps : w.steps ≤ v.steps + park_steps cells
+    pub pushes : HasFoundChains (suc cells) v w
 
   -- t has left the seat, and stands in the chain of those who wait for q
   pub record LeftTask (cells t : ℕ) (v w : View B) : Type 0 where

@@ -11,6 +11,7 @@ use Rattle.tj_words.specs.Calls.ChainSteps.{KnowsEntry, rest_of}
 use Rattle.tj_words.specs.Words.Heads.{head_word}
 use Rattle.tj_words.specs.LawParts.LiveCount.{IsBacked}
 use Rattle.tj_words.specs.Words.Phases.{phase_word}
+use Rattle.tj_words.specs.SeatViews.KnowsMore.{KnowsMore}
 use Rattle.tj_words.specs.SeatViews.SeatSteps.{SeatMe}
 use Rattle.tj_words.specs.SeatViews.Views.{note_of}
 use Rattle.tj_park.specs.Records.{AlarmsLeave, HasNoRecord}
@@ -68,6 +69,13 @@ module _ {B : Type 0} where
       pub all : length chain ≡ n
       pub woke : HasWoken p chain [] v w
       pub put : HavePut puts chain a b
+
+    -- for one of these cells after the other, all who waited for it were woken and put into the pool; what the seat did
+    -- besides left the pool alone
+    abbrev pub WakesEach : List ℕ → View B → View B → P → P → Type 0
+    WakesEach [] v w a b = KnowsMore v w × (b ≡ a)
+    WakesEach (p ∷ ps) v w a b = (before after : View B) × (between : P) × (n : ℕ)
+        × KnowsMore v before × WakesAll p n before after a between × WakesEach ps after w between b
 
     -- each of these tasks was made ready and put into the pool; one more was made ready, of which the pool has
     -- nothing; the others are left

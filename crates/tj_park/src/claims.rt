@@ -2,7 +2,10 @@
 ghost use Rattle.std.specs.Prelude.{◌≡◌, ◌≢◌, ◌∷◌, IfSome, None};
 ghost use Rattle.tj_body.specs.Programs.{program_of};
 ghost use Rattle.tj_words.specs.Calls.ExchangeViews.{KnowsTable, missed};
+ghost use Rattle.tj_words.specs.SeatViews.Moments.{WasSo};
 ghost use Rattle.tj_words.specs.SeatViews.SeatSteps.{IsCellOf, IsSeatOf};
+ghost use Rattle.tj_words.specs.Words.Offsets.{phase_at};
+ghost use Rattle.tj_words.specs.Words.Phases.{phase_word};
 ghost use Rattle.tj_park.specs.ChildViews.{Claimed};
 
 use tj_base::CellId;
@@ -19,7 +22,9 @@ pub fn claim<B: Body>(laid: &Laid<B>, seat: &mut WSeat<B>, t: CellId) -> Option<
     ensures table { seat.new.table_id ≡ seat.old.table_id }
     ensures id { seat.new.id ≡ seat.old.id }
     ensures none { result ≡ None → (p : Phase) × (p ≢ Phase.Ready)
-        × (seat.new.me ≡ (missed t.0 p seat.old.me.0, seat.old.me.1)) }
+        × (seat.new.me ≡ (missed t.0 p seat.old.me.0, seat.old.me.1))
+        × WasSo (program_of B.places B.awaits B.left B.asks B.then) (phase_at t.0) (phase_word p)
+        seat.old.me.0 }
     ensures some { IfSome result (λ r. Claimed (program_of B.places B.awaits B.left B.asks B.then)
         t.0 r seat.old.me.0 seat.new.me.0) }
     ensures slot { IfSome result (λ _. seat.new.me.1 ≡ (t.0, None) ∷ seat.old.me.1) }

@@ -1,20 +1,25 @@
 //! The end of a task. Each promise that it owes is broken, and those who wait for it are woken; then its
 //! result is set or broken. From then on the task has ended, and its record goes home for good. Those
 //! who wait for the result are woken last, by the token that the end of the task gives.
-ghost use Rattle.std.specs.Prelude.{◌≡◌, ◌≢◌, ◌≤◌, [], ◌∷◌, length, None, OnOk, Some};
+ghost use Rattle.std.specs.Prelude.{◌≡◌, ◌≢◌, ◌≤◌, [], ◌∷◌, ◌++◌, drop, length, None, OnOk, Some};
 ghost use Rattle.atomic_table.specs.Table.{rest};
 ghost use Rattle.tj_body.specs.Programs.{program_of};
+ghost use Rattle.tj_words.specs.SeatViews.KnowsMore.{IsTailOf};
 ghost use Rattle.tj_words.specs.SeatViews.SeatSteps.{IsCellOf, IsSameSeat, IsSeatOf};
 ghost use Rattle.tj_park.specs.Inner.Breaks.{HasBroken, MayBreak};
-ghost use Rattle.tj_park.specs.Endings.{HasFinished, MayFinish};
+ghost use Rattle.tj_park.specs.Endings.{HasFinished, MayFinish, OwesAtHome};
 ghost use Rattle.tj_park.specs.Inner.Closings.{ClosesResult, MayCloseResult, ended_record};
 ghost use Rattle.tj_park.specs.Records.{HasNoRecord};
+ghost use Rattle.tj_park.specs.Wakes.{WakesEach};
+ghost use Rattle.tj_words.specs.Words.Lists.{numbers};
 
 use crate::wakes::wake;
 use std::alloc::Global;
 use std::sync::Wait;
 use tj_base::{CellId, Items, Oom};
-use tj_body::{Body, names_and_cells, points_in_rounds};
+use tj_body::{
+    Body, history_stops, names_and_cells, names_are_apart, points_are_good, points_in_rounds,
+};
 use tj_cells::{break_off, fill};
 use tj_ready::Pool;
 use tj_words::{Finish, Laid, Phase, Rec, WSeat};
@@ -40,11 +45,21 @@ pub fn finish<B: Body, P: Pool, R: Wait>(
     ensures table { seat.new.table_id ≡ seat.old.table_id }
     ensures id { seat.new.id ≡ seat.old.id }
     ensures about { seat.new.me.0.about ≡ seat.old.me.0.about }
+    ensures notes { IsTailOf seat.old.me.0.notes seat.new.me.0.notes }
     ensures limit { P.limit pool.new ≡ P.limit pool.old }
     ensures ended { OnOk result (HasFinished t.0 rec seat.old.me.0 seat.new.me.0) }
     ensures slots { OnOk result (seat.new.me.1 ≡ rest seat.old.me.1) }
+    // Its record went home with the broken promises as owed, and with nothing owned.
+    ensures home { OnOk result (OwesAtHome (program_of B.places B.awaits B.left B.asks B.then) t.0
+        (drop 1 rec.owned) seat.new.me.0) }
+    // Those who waited for a promise that it owed, or for its result, were woken as `wake` says.
+    ensures woke { OnOk result (WakesEach P.puts (numbers (drop 1 rec.owned) ++ t.0 ∷ [])
+        seat.old.me.0 seat.new.me.0 pool.old pool.new) }
 {
     points_in_rounds::<B>();
+    points_are_good::<B>();
+    history_stops::<B>();
+    names_are_apart::<B>();
     names_and_cells();
     break_promises(rt, alloc, laid, seat, t, &rec.owned.items()[1..], pool)?;
     close_result(laid, seat, t, rec.finish);
@@ -73,8 +88,11 @@ fn break_promises<B: Body, P: Pool, R: Wait>(
     requires pool { P.limit pool.old ≡ laid.now.cells }
     ensures seat { IsSameSeat seat.old seat.new }
     ensures about { seat.new.me.0.about ≡ seat.old.me.0.about }
+    ensures notes { IsTailOf seat.old.me.0.notes seat.new.me.0.notes }
     ensures limit { P.limit pool.new ≡ P.limit pool.old }
     ensures broken { OnOk result (HasBroken t.0 promises.now [] seat.old.me.0 seat.new.me.0) }
+    ensures woke { OnOk result (WakesEach P.puts (numbers promises.now) seat.old.me.0
+        seat.new.me.0 pool.old pool.new) }
 {
     for p in promises {
         break_off(laid, seat, t, *p);

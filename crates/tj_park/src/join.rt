@@ -1,7 +1,8 @@
 //! A task that its seat has parked is added to the chain of those who wait for its cell.
-ghost use Rattle.std.specs.Prelude.{◌≡◌, ◌+◌, ◌≤◌, [], ◌∷◌};
+ghost use Rattle.std.specs.Prelude.{suc, ◌≡◌, ◌+◌, ◌≤◌, [], ◌∷◌};
 ghost use Rattle.tj_words.specs.Calls.ParkSteps.{new_push};
 ghost use Rattle.tj_words.specs.SeatViews.SeatSteps.{IsCellOf, IsSameSeat, IsSeatOf};
+ghost use Rattle.tj_park.specs.ParkViews.{HasFoundChains};
 ghost use Rattle.tj_park.specs.Inner.JoinViews.{IsAdded, LooksOn, join_steps};
 
 use tj_base::CellId;
@@ -23,6 +24,7 @@ pub(crate) fn join_chain<B: Body>(
     requires push { seat.old.me.0.pushes ≡ new_push t.0 q.0 way ∷ [] }
     ensures seat { IsSameSeat seat.old seat.new }
     ensures looks { LooksOn laid.now.cells seat.old.me.0 seat.new.me.0 }
+    ensures pushes { HasFoundChains (suc laid.now.cells) seat.old.me.0 seat.new.me.0 }
     ensures steps { seat.new.me.0.steps ≤ seat.old.me.0.steps + join_steps laid.now.cells }
     ensures added { IsAdded t.0 q.0 way result seat.new.me.0 }
 {

@@ -9,7 +9,7 @@ use Rattle.tj_ports.specs.declared.source.ReadEnd.TheVariants.{Whole, Long}
 use Rattle.tj_ports.specs.Reading.{IsWithin}
 use Rattle.tj_program.specs.Inner.Inputs.{IsReadOf}
 use Rattle.tj_program.specs.Output.{takes_input}
-use Rattle.tj_program.specs.ScriptTexts.{most_bytes}
+use Rattle.tj_embed.specs.ScriptTexts.{most_bytes}
 use Rattle.tj_program.specs.declared.command.Command.{Command}
 use Rattle.tj_program.specs.declared.command.Command.TheVariants.{Gen, Relay}
 

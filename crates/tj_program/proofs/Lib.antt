@@ -9,3 +9,4 @@ pub mod ClosedRuns
 pub mod KnownRuns
 pub mod RootLines
 pub mod RelayRuns
+mod TopAnswers

@@ -34,15 +34,16 @@ use Rattle.tj_program.specs.KnownRuns.{IsKnownOf}
 use Rattle.tj_program.specs.RelayRuns as relays
 use Rattle.tj_program.specs.RelayRuns.{IsRelayRun, relay_chats}
 use Rattle.tj_program.specs.Runs.{Start, IsRunOf, IsStartOf, start_of, status_of, text_of, full, ended}
-use Rattle.tj_program.specs.ScriptTexts.{most_bytes, IsScriptOf, IsFaultLine, IsFirstFault, fault_line, too_long, in_tokens, in_grammar}
+use Rattle.tj_embed.specs.ScriptTexts.{most_bytes, IsScriptOf, IsFirstFault, too_long, in_tokens, in_grammar}
+use Rattle.tj_program.specs.ScriptTexts.{IsFaultLine, fault_line}
 use Rattle.tj_program.specs.Texts.{journal_fault}
 use Rattle.tj_program.specs.declared.command.Command.{Command}
 use Rattle.tj_program.specs.declared.command.Command.TheVariants as command
 use Rattle.tj_program.specs.declared.script_run.Limits.{Limits}
 use Rattle.tj_program.specs.declared.script_run.Told.{Told}
 use Rattle.tj_program.specs.declared.script_run.Told.TheVariants.{Report, Root, Summary}
-use Rattle.tj_program.specs.declared.script_text.NoScript.{NoScript}
-use Rattle.tj_program.specs.declared.script_text.NoScript.TheVariants.{Tokens, Grammar}
+use Rattle.tj_embed.specs.declared.script_text.NoScript.{NoScript}
+use Rattle.tj_embed.specs.declared.script_text.NoScript.TheVariants.{Tokens, Grammar}
 use Rattle.tj_program.specs.declared.status.Status.{Status}
 use Rattle.tj_program.proofs.KnownRuns.{one_known}
 use Rattle.tj_program.proofs.Lines.CommandLines.{one_command, within_limits}

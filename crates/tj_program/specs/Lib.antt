@@ -14,3 +14,4 @@ pub mod KnownRuns
 pub mod RootLines
 pub mod TestBodies
 pub mod RelayRuns
+pub mod TopAnswers

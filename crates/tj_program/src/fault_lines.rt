@@ -1,13 +1,13 @@
 //! The lines that are written in place of a report: why an input is refused, or that it needs more
 //! cells.
 ghost use Rattle.std.specs.Prelude.{◌≡◌, ◌≢◌, IfOk};
-ghost use Rattle.tj_program.specs.Inner.ScriptRuns.{IsMemory};
+ghost use Rattle.tj_embed.specs.ScriptTexts.{IsMemory};
 ghost use Rattle.tj_program.specs.ScriptTexts as script_texts;
 ghost use Rattle.tj_program.specs.Texts as texts;
 
-use crate::script_text::NoScript;
 use std::alloc::Global;
 use tj_base::{Oom, add_number};
+use tj_embed::NoScript;
 use tj_lex::{LexFault, Place};
 use tj_syntax::ParseFault;
 

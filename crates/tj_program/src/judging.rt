@@ -1,18 +1,18 @@
 //! Judging a journal.
-ghost use Rattle.std.specs.Prelude.{◌≡◌, ◌<◌, ◌≤◌, ℕ, List, length, IfOk};
+ghost use Rattle.std.specs.Prelude.{◌<◌, ◌≤◌, ℕ, List, length, IfOk};
 ghost use Rattle.tj_core.specs.declared.births.TheConstants.{MAX_CORE_CELLS};
 ghost use Rattle.tj_ports.specs.Reading.{IsWithin};
-ghost use Rattle.tj_program.specs.ScriptTexts.{most_bytes};
+ghost use Rattle.tj_embed.specs.ScriptTexts.{most_bytes};
 ghost use Rattle.tj_program.specs.Inner.Inputs.{IsReadOf};
 ghost use Rattle.tj_program.specs.Judgings.{IsJudging};
 
 use crate::fault_lines::journal_fault;
 use crate::output::{Output, status_of};
-use crate::positions::position_behind;
 use crate::status::Status;
 use std::alloc::Global;
 use tj_base::Oom;
 use tj_core::{JournalFault, judge_text, read_journal};
+use tj_embed::position_behind;
 use tj_ports::ReadEnd;
 
 /// What judging the journal gives, with room for so many cells, or the line of its fault.

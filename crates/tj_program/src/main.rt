@@ -9,6 +9,8 @@ mod command_tests;
 mod edge_tests;
 mod fault_lines;
 mod generated;
+#[cfg(test)]
+mod hostile_tests;
 mod judging;
 mod known_run;
 #[cfg(test)]
@@ -21,7 +23,6 @@ mod mode_outputs;
 #[cfg(test)]
 mod mode_tests;
 mod output;
-mod positions;
 mod relay_run;
 #[cfg(test)]
 mod relay_tests;
@@ -35,6 +36,8 @@ mod script_text;
 #[cfg(test)]
 mod shy_tests;
 mod status;
+#[cfg(test)]
+mod storm_tests;
 #[cfg(test)]
 mod tests;
 mod top_call;
@@ -57,6 +60,6 @@ fn main(rt: HostRuntime) -> ExitCode {
     let mut source = StdSource::new(rt.reader());
     let mut sink = StdSink::new(io::writer(&rt));
     let given = words_given(&rt);
-    let status = run_given(&rt, rt.alloc(), given, &mut source, &mut sink, &OpenGate);
+    let (status, _closed) = run_given(&rt, rt.alloc(), given, &mut source, &mut sink, &OpenGate);
     ExitCode::from(status.exit_code())
 }

@@ -1,11 +1,90 @@
 //! Worked rows of the other modes, and of words without a form.
-use crate::row_tests::shows;
+use crate::row_tests::{Row, shows, shows_each};
 use crate::status::Status;
 use crate::tests::{THREE, USAGE};
 use std::test::Fail;
 
 const CYCLE_OF_TWO: &str = "make 0\nfork 0\nraise 2\npublish 2 1\ncount 2\nowner 2\nwait 2\n\
     settle 2\npublish 0 2\nothers 0\ncount 0\nowner 0\nwait 0\nagain 0\nowner 0\nalarm 0\n";
+
+pub const TWO_WALKS: &str =
+    "fork 0\nfork 0\npublish 2 1\nothers 2\nsettle 2\nraise 1\npublish 1 2\n\
+    publish 0 1\nothers 0\ncount 0\nowner 0\nwait 0\nagain 0\nowner 0\nwait 0\nagain 0\nowner 0\nwait \
+    0\nagain 0\nsettle 0\ncount 1\nowner 1\nwait 1\nagain 1\nowner 1\nalarm 1\n";
+
+// Of these the one of 26 events has a walk that ends after nine loads, and another that alarms.
+const JOURNALS: &[Row] = &[
+    (
+        "judge",
+        CYCLE_OF_TWO,
+        Status::Marked,
+        "task 2 walked after 2 loads\ntask 0 alarmed after 4 loads: 0 waits for 2, 2 waits \
+            for 1\nlegal 16 events\n",
+    ),
+    (
+        "judge",
+        "make 0\nfork 0\nraise 2\npublish 2 1\ncount 2\nowner 2\nwait 2\nsettle 2\npublish 0 2\
+            \nothers 0\nsettle 0\n",
+        Status::Marked,
+        "task 2 walked after 2 loads\nillegal at line 11\n",
+    ),
+    (
+        "judge",
+        "fork 0\nmake 0\nraise 1\npublish 1 2\ncount 1\nowner 1\nfork 0\nhand 0 2 3\npublish \
+            0 1\nwait 1\nagain 1\nsettle 1\n",
+        Status::Clean,
+        "task 1 walked after 3 loads\nlegal 12 events\n",
+    ),
+    (
+        "judge",
+        "fork 0\nmake 0\nraise 1\npublish 1 2\ncount 1\nowner 1\nfork 0\nhand 0 2 3\npublish \
+            0 1\nwait 1\nowner 1\nalarm 1\n",
+        Status::Marked,
+        "illegal at line 11\n",
+    ),
+    (
+        "judge --cells 3",
+        "fork 0\nfork 0\npublish 0 2\nothers 0\nsettle 0\npublish 2 1\nothers 2\nsettle 2\n\
+            raise 1\npublish 1 0\ncount 1\nowner 1\nwait 1\nagain 1\nowner 1\nwait 1\nagain 1\
+            \nowner 1\nalarm 1\n",
+        Status::Marked,
+        "task 0 skipped\ntask 2 skipped\ntask 1 alarmed after 7 loads: 1 waits for 0, 0 waits \
+            for 2, 2 waits for 1\nlegal 19 events\n",
+    ),
+    (
+        "judge --cells 2",
+        "fork 0\nfork 0\n",
+        Status::Marked,
+        "illegal at line 2\n",
+    ),
+    (
+        "judge",
+        "raise",
+        Status::Script,
+        "journal fault at line 1\n",
+    ),
+    ("judge", "", Status::Clean, "legal 0 events\n"),
+    (
+        "judge",
+        "make 0\nfork 0\nraise 2\npublish 2 1\ncount 2\nowner 2\nwait 2\nsettle 2\nclose 0 1\n\
+            unwait 2\nclose 2 2\nlower\nclose 0 0\n",
+        Status::Clean,
+        "task 2 walked after 2 loads\nlegal 13 events\n",
+    ),
+    (
+        "judge",
+        "make 0\nfork 0\nraise 2\npublish 2 1\ncount 2\nowner 2\nwait 2\nsettle 2\nunwait 2\n",
+        Status::Marked,
+        "task 2 walked after 2 loads\nillegal at line 9\n",
+    ),
+    (
+        "judge",
+        TWO_WALKS,
+        Status::Marked,
+        "task 2 skipped\ntask 0 walked after 9 loads\ntask 1 alarmed after 4 loads: 1 waits for 2, 2 \
+            waits for 1\nlegal 26 events\n",
+    ),
+];
 
 const THOUSAND: &str = "size 1000 tasks 1001 done 1001 failed 0 waiting 0 owed 0 cycles 0 \
     result 500500\nclean\n";
@@ -51,79 +130,7 @@ fn listings(rt: HostRuntime) -> Result<(), Fail> {
 
 #[test]
 fn journals(rt: HostRuntime) -> Result<(), Fail> {
-    shows(
-        &rt,
-        "judge",
-        CYCLE_OF_TWO,
-        Status::Marked,
-        "task 2 walked after 2 loads\ntask 0 alarmed after 4 loads: 0 waits for 2, 2 waits \
-            for 1\nlegal 16 events\n",
-    )?;
-    shows(
-        &rt,
-        "judge",
-        "make 0\nfork 0\nraise 2\npublish 2 1\ncount 2\nowner 2\nwait 2\nsettle 2\npublish 0 2\
-            \nothers 0\nsettle 0\n",
-        Status::Marked,
-        "task 2 walked after 2 loads\nillegal at line 11\n",
-    )?;
-    shows(
-        &rt,
-        "judge",
-        "fork 0\nmake 0\nraise 1\npublish 1 2\ncount 1\nowner 1\nfork 0\nhand 0 2 3\npublish \
-            0 1\nwait 1\nagain 1\nsettle 1\n",
-        Status::Clean,
-        "task 1 walked after 3 loads\nlegal 12 events\n",
-    )?;
-    shows(
-        &rt,
-        "judge",
-        "fork 0\nmake 0\nraise 1\npublish 1 2\ncount 1\nowner 1\nfork 0\nhand 0 2 3\npublish \
-            0 1\nwait 1\nowner 1\nalarm 1\n",
-        Status::Marked,
-        "illegal at line 11\n",
-    )?;
-    shows(
-        &rt,
-        "judge --cells 3",
-        "fork 0\nfork 0\npublish 0 2\nothers 0\nsettle 0\npublish 2 1\nothers 2\nsettle 2\n\
-            raise 1\npublish 1 0\ncount 1\nowner 1\nwait 1\nagain 1\nowner 1\nwait 1\nagain 1\
-            \nowner 1\nalarm 1\n",
-        Status::Marked,
-        "task 0 skipped\ntask 2 skipped\ntask 1 alarmed after 7 loads: 1 waits for 0, 0 waits \
-            for 2, 2 waits for 1\nlegal 19 events\n",
-    )?;
-    shows(
-        &rt,
-        "judge --cells 2",
-        "fork 0\nfork 0\n",
-        Status::Marked,
-        "illegal at line 2\n",
-    )?;
-    shows(
-        &rt,
-        "judge",
-        "raise",
-        Status::Script,
-        "journal fault at line 1\n",
-    )?;
-    shows(&rt, "judge", "", Status::Clean, "legal 0 events\n")?;
-    shows(
-        &rt,
-        "judge",
-        "make 0\nfork 0\nraise 2\npublish 2 1\ncount 2\nowner 2\nwait 2\nsettle 2\nclose 0 1\n\
-            unwait 2\nclose 2 2\nlower\nclose 0 0\n",
-        Status::Clean,
-        "task 2 walked after 2 loads\nlegal 13 events\n",
-    )?;
-    shows(
-        &rt,
-        "judge",
-        "make 0\nfork 0\nraise 2\npublish 2 1\ncount 2\nowner 2\nwait 2\nsettle 2\nunwait 2\n",
-        Status::Marked,
-        "task 2 walked after 2 loads\nillegal at line 9\n",
-    )?;
-    Ok(())
+    shows_each(&rt, JOURNALS)
 }
 
 #[test]

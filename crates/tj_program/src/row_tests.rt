@@ -10,7 +10,7 @@ use std::thread::Threads;
 use tj_ports::{Gate, MemSink, MemSource, OpenGate};
 use tj_words::Closed;
 
-const HANDED_DOWN: &str = "task main() { let p = new; fork kid(own p); let v = get p; \
+pub const HANDED_DOWN: &str = "task main() { let p = new; fork kid(own p); let v = get p; \
     print v; return v; } task kid(p) { fork grand(own p); return 0; } task grand(p) { set p = \
     7; return 1; }";
 
@@ -40,10 +40,21 @@ pub fn answered<G: Gate>(
     input: &str,
     gate: &G,
 ) -> Result<(Status, Option<Closed>, MemSink), Fail> {
+    answered_within(rt, line, input, 131_072, gate)
+}
+
+/// The same where the sink has room for so many bytes.
+pub fn answered_within<G: Gate>(
+    rt: &(impl Abort + AllocGlobal + Wait + Threads + Sync),
+    line: &str,
+    input: &str,
+    room: u32,
+    gate: &G,
+) -> Result<(Status, Option<Closed>, MemSink), Fail> {
     let alloc = rt.alloc();
     let words = words_of(alloc, line)?;
     let mut source = MemSource::new(input.as_bytes().to_vec(alloc)?, 4096, Vec::new(alloc));
-    let mut sink = MemSink::new(alloc, 131_072, 4096, Vec::new(alloc))?;
+    let mut sink = MemSink::new(alloc, room, 65_536, Vec::new(alloc))?;
     let (status, closed) = run_words(rt, alloc, words.as_slice(), &mut source, &mut sink, gate);
     Ok((status, closed, sink))
 }
@@ -59,6 +70,21 @@ pub fn shows(
     let (found, _closed, sink) = answered(rt, line, input, &OpenGate)?;
     assert_eq!(rt; found, status, "{line}");
     assert_eq!(rt; sink.bytes(), output.as_bytes(), "{line}");
+    Ok(())
+}
+
+/// A row: the words, the input, the status, and what is written.
+pub type Row = (&'static str, &'static str, Status, &'static str);
+
+/// Asserts each row.
+pub fn shows_each(
+    rt: &(impl Abort + AllocGlobal + Wait + Threads + Sync),
+    rows: &[Row],
+) -> Result<(), Fail> {
+    for row in rows {
+        let (line, input, status, output) = *row;
+        shows(rt, line, input, status, output)?;
+    }
     Ok(())
 }
 

@@ -1,6 +1,8 @@
 //! Worked rows of limits of cells and of statements, of broken cells and of the strict rule, by hand
 //! from the rules.
-use crate::row_tests::{AGAINST_THE_ORDER, JOIN_EACH_OTHER, TWO_WAIT, answered, shows, shows_any};
+use crate::row_tests::{
+    AGAINST_THE_ORDER, JOIN_EACH_OTHER, Row, TWO_WAIT, answered, shows, shows_any, shows_each,
+};
 use crate::status::Status;
 use std::process::Abort;
 use std::sync::Wait;
@@ -96,52 +98,67 @@ fn broken_cells(rt: HostRuntime) -> Result<(), Fail> {
     Ok(())
 }
 
-#[test]
-fn strict_rule(rt: HostRuntime) -> Result<(), Fail> {
-    shows(
-        &rt,
+const STRICT: &[Row] = &[
+    (
         "run --strict --workers 1",
         JOIN_EACH_OTHER,
         Status::Marked,
         "0 failed broken 0.1\n0.1 failed order 0\nmarked\n",
-    )?;
-    shows(
-        &rt,
+    ),
+    (
         "run --strict --workers 2",
         JOIN_EACH_OTHER,
         Status::Marked,
         "0 failed broken 0.1\n0.1 failed order 0\nmarked\n",
-    )?;
-    shows(
-        &rt,
+    ),
+    (
         "run --strict --workers 8",
         JOIN_EACH_OTHER,
         Status::Marked,
         "0 failed broken 0.1\n0.1 failed order 0\nmarked\n",
-    )?;
-    shows(
-        &rt,
+    ),
+    (
         "plan --strict",
         AGAINST_THE_ORDER,
         Status::Marked,
         "0 done 0\n0.2 failed order 0.3\n0.3 done 1\nmarked\n",
-    )?;
-    shows(
-        &rt,
+    ),
+    (
         "run --strict",
         "task main() { let v = join me; return v; }",
         Status::Marked,
         "0 failed order 0\nmarked\n",
-    )?;
-    shows(
-        &rt,
+    ),
+    (
         "run --strict",
         TWO_WAIT,
         Status::Marked,
         "0 done 0\n0.3 waits for 0.2\n0.4 waits for 0.1\nalarm 0.3 waits for 0.2, 0.4 waits \
             for 0.1\nmarked\n",
-    )?;
-    Ok(())
+    ),
+    (
+        "run --strict --workers 1",
+        AGAINST_THE_ORDER,
+        Status::Marked,
+        "0 done 0\n0.2 failed order 0.3\n0.3 done 1\nmarked\n",
+    ),
+    (
+        "run --strict --workers 2",
+        AGAINST_THE_ORDER,
+        Status::Marked,
+        "0 done 0\n0.2 failed order 0.3\n0.3 done 1\nmarked\n",
+    ),
+    (
+        "run --strict --workers 8",
+        AGAINST_THE_ORDER,
+        Status::Marked,
+        "0 done 0\n0.2 failed order 0.3\n0.3 done 1\nmarked\n",
+    ),
+];
+
+#[test]
+fn strict_rule(rt: HostRuntime) -> Result<(), Fail> {
+    shows_each(&rt, STRICT)
 }
 
 /// Asserts that the words over the input end clean, how many lines they write, and the first ones.

@@ -2,7 +2,8 @@
 ghost use Rattle.std.specs.Prelude.{◌≡◌, IfOk};
 ghost use Rattle.tj_mean.specs.Outcomes.{is_marked};
 ghost use Rattle.tj_program.specs.Runs.{Start, IsRunOf, IsStartOf};
-ghost use Rattle.tj_program.specs.Inner.ScriptRuns.{AreLimits, IsSomeScript};
+ghost use Rattle.tj_embed.specs.ScriptTexts.{IsSomeScript};
+ghost use Rattle.tj_program.specs.Inner.ScriptRuns.{AreLimits};
 ghost use Rattle.tj_program.specs.Runs as runs;
 ghost use Rattle.tj_program.specs.Texts as texts;
 ghost use Rattle.tj_syntax.specs.View as view;

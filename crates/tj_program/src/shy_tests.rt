@@ -5,7 +5,6 @@ ghost use Rattle.tj_body.specs.Table.{is_table};
 ghost use Rattle.tj_program.specs.TestBodies.ShyAsks as shy;
 
 use crate::script_run::Told;
-use crate::script_text::script_in;
 use crate::worker_runs::ended_at_rest;
 use std::alloc::Global;
 use std::sync::Wait;
@@ -13,6 +12,7 @@ use std::test::Fail;
 use std::thread::Threads;
 use tj_base::{CellId, Items, Oom, Pay};
 use tj_body::{Answer, Ask, Body, Row, RowList, TableBody};
+use tj_embed::script_in;
 use tj_eval::{ScriptBody, main_body};
 use tj_mean::{PlanFault, plan};
 use tj_ports::OpenGate;

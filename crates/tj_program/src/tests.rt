@@ -27,12 +27,13 @@ pub fn words_of(alloc: Global, line: &str) -> Result<Vec<String>, AllocError> {
     Ok(words)
 }
 
-/// Asserts what the words write for so many of a byte, then the tail.
+/// Asserts what the words write for so many of a byte, then the tail, and the status.
 fn shows_long(
     rt: &(impl Abort + AllocGlobal + Wait + Threads + Sync),
     line: &str,
     (byte, count): (u8, usize),
     tail: &str,
+    status: Status,
     output: &str,
 ) -> Result<(), Fail> {
     let alloc = rt.alloc();
@@ -41,7 +42,7 @@ fn shows_long(
     input.extend_from_slice(tail.as_bytes())?;
     let mut source = MemSource::new(input, 65536, Vec::new(alloc));
     let mut sink = MemSink::new(alloc, 100, 100, Vec::new(alloc))?;
-    let _answer = run_words(
+    let (found, _closed) = run_words(
         rt,
         alloc,
         words.as_slice(),
@@ -49,6 +50,7 @@ fn shows_long(
         &mut sink,
         &OpenGate,
     );
+    assert_eq!(rt; found, status);
     assert_eq!(rt; sink.bytes(), output.as_bytes());
     Ok(())
 }
@@ -56,21 +58,37 @@ fn shows_long(
 #[test]
 fn long_inputs(rt: HostRuntime) -> Result<(), Fail> {
     let too_long = "script fault T1 at 1:1048577\n";
-    shows_long(&rt, "run", (b' ', 1_048_577), "", too_long)?;
+    shows_long(&rt, "run", (b' ', 1_048_577), "", Status::Script, too_long)?;
     shows_long(
         &rt,
         "list",
         (b' ', 1_048_576),
         "",
+        Status::Script,
         "script fault P5 at 1:1\n",
     )?;
-    shows_long(&rt, "plan", (b' ', 1_048_547), THREE, "0 done 3\nclean\n")?;
-    shows_long(&rt, "plan", (b' ', 1_048_548), THREE, too_long)?;
+    shows_long(
+        &rt,
+        "plan",
+        (b' ', 1_048_547),
+        THREE,
+        Status::Clean,
+        "0 done 3\nclean\n",
+    )?;
+    shows_long(
+        &rt,
+        "plan",
+        (b' ', 1_048_548),
+        THREE,
+        Status::Script,
+        too_long,
+    )?;
     shows_long(
         &rt,
         "run",
         (b'\n', 1_048_570),
         "task @ ",
+        Status::Script,
         "script fault T1 at 1048571:7\n",
     )?;
     shows_long(
@@ -78,6 +96,7 @@ fn long_inputs(rt: HostRuntime) -> Result<(), Fail> {
         "judge",
         (b'\n', 1_048_577),
         "",
+        Status::Script,
         "journal fault at line 1048577\n",
     )
 }

@@ -1,10 +1,8 @@
 //! The words of the command line, and the status that belongs to them.
-ghost use Rattle.std.specs.Prelude.{ℕ, ◌≡◌, Some};
-ghost use Rattle.tj_ports.specs.Faults.{HasNoFault};
-ghost use Rattle.tj_program.specs.Delivery.{IsAnswered, IsPutAs};
-ghost use Rattle.tj_program.specs.Output.{TakesInput};
+ghost use Rattle.std.specs.Prelude.{◌≡◌, None, String};
+ghost use Rattle.tj_program.specs.Delivery.{IsPutAs};
 ghost use Rattle.tj_program.specs.Texts.{usage_line};
-ghost use Rattle.std.specs.Prelude.{List, String};
+ghost use Rattle.tj_program.specs.TopAnswers.{IsTopAnswer};
 ghost use Rattle.std.specs.declared.vec.Vec.{Vec};
 ghost use Rattle.std.specs.declared.alloc.Global.{Global};
 
@@ -18,6 +16,7 @@ use std::rt::Env;
 use std::sync::Wait;
 use std::thread::Threads;
 use tj_ports::{Gate, Sink, Source};
+use tj_words::Closed;
 
 /// What the command line gives.
 #[derive(Debug, Drop)]
@@ -42,7 +41,8 @@ pub fn words_given(rt: &(impl Env + AllocGlobal)) -> Given {
     }
 }
 
-/// Does what the command line says. Words that aren't text have no form.
+/// Does what the command line says, and answers what the top call answers. Words that aren't text
+/// have no form.
 pub fn run_given<S: Source, K: Sink, G: Gate, R: Wait + Threads + Sync>(
     rt: &R,
     alloc: Global,
@@ -50,32 +50,26 @@ pub fn run_given<S: Source, K: Sink, G: Gate, R: Wait + Threads + Sync>(
     source: &mut S,
     sink: &mut K,
     gate: &G,
-) -> Status
-    // Of words, where the ports tell their bytes and don't fail, the sink grows by the output, or
-    // memory is wanting.
-    ensures words { (words : Vec (String Global) Global) (input held : List ℕ)
-        → given ≡ Given.Words words
-        → (TakesInput words.items → S.left source.old ≡ Some input)
-        → K.held sink.old ≡ Some held
-        → (TakesInput words.items → HasNoFault (S.faults source.old) (S.faults source.new))
-        → HasNoFault (K.faults sink.old) (K.faults sink.new)
-        → IsAnswered words.items input held result (K.held sink.new) }
+) -> (Status, Option<Closed>)
+    // Of words, it is what the top call answers, clause by clause.
+    ensures words { (words : Vec (String Global) Global) → given ≡ Given.Words words
+        → IsTopAnswer words.items (S.left source.old) (S.left source.new) (S.faults source.old)
+        (S.faults source.new) (source.new ≡ source.old) (S.never_fails source.old)
+        (S.never_fails source.new) (K.held sink.old) (K.held sink.new) (K.faults sink.old)
+        (K.faults sink.new) (K.has_room sink.old) (sink.new ≡ sink.old) result.0 result.1 }
 
     // Of words that aren't text, the usage line is put.
     ensures not_text { given ≡ Given.NotText
-        → (source.new ≡ source.old) × IsPutAs (K.has_room sink.old) Status.Usage usage_line
-        (K.held sink.old) (K.held sink.new) (K.faults sink.old) (K.faults sink.new) result }
+        → (source.new ≡ source.old) × (result.1 ≡ None) × IsPutAs (K.has_room sink.old) Status.Usage
+        usage_line (K.held sink.old) (K.held sink.new) (K.faults sink.old) (K.faults sink.new) result.0 }
 
     // Where memory is wanting before any word is read, the ports are left as they were.
-    ensures oom { given ≡ Given.Oom → (result ≡ Status.Memory) × (source.new ≡ source.old)
+    ensures oom { given ≡ Given.Oom → (result ≡ (Status.Memory, None)) × (source.new ≡ source.old)
         × (sink.new ≡ sink.old) }
 {
     match given {
-        Given::Words(words) => {
-            let (status, _closed) = run_words(rt, alloc, words.as_slice(), source, sink, gate);
-            status
-        }
-        Given::NotText => put_text(sink, Status::Usage, USAGE_LINE),
-        Given::Oom => Status::Memory,
+        Given::Words(words) => run_words(rt, alloc, words.as_slice(), source, sink, gate),
+        Given::NotText => (put_text(sink, Status::Usage, USAGE_LINE), None),
+        Given::Oom => (Status::Memory, None),
     }
 }

@@ -37,28 +37,31 @@ impl Env for Line {
     }
 }
 
-/// The status of a command line over an input, and the sink that was written to.
+/// The status of a command line over an input, and the sink that was written to, where the takes
+/// and puts of these numbers fail.
 fn answered(
     rt: &(impl Abort + AllocGlobal + Wait + Threads + Sync),
     given: Given,
-    input: &str,
+    (take, put): (u32, u32),
 ) -> Result<(Status, MemSink), Fail> {
     let alloc = rt.alloc();
-    let mut source = MemSource::new(input.as_bytes().to_vec(alloc)?, 4096, Vec::new(alloc));
-    let mut sink = MemSink::new(alloc, 200, 4096, Vec::new(alloc))?;
-    let status = run_given(rt, alloc, given, &mut source, &mut sink, &OpenGate);
+    let input = THREE.as_bytes().to_vec(alloc)?;
+    let mut source = MemSource::new(input, 4096, [take].to_vec(alloc)?);
+    let mut sink = MemSink::new(alloc, 200, 4, [put].to_vec(alloc)?)?;
+    let (status, _closed) = run_given(rt, alloc, given, &mut source, &mut sink, &OpenGate);
     Ok((status, sink))
 }
 
-/// Asserts what a command line over an input writes, and the status.
+/// Asserts what a command line writes over ports of which these calls fail, and the status.
 fn shows(
     rt: &(impl Abort + AllocGlobal + Wait + Threads + Sync),
     line: Line,
+    faults: (u32, u32),
     status: Status,
     output: &str,
 ) -> Result<(), Fail> {
     let given = words_given(&(line, rt.alloc()));
-    let (found, sink) = answered(rt, given, THREE)?;
+    let (found, sink) = answered(rt, given, faults)?;
     assert_eq!(rt; found, status);
     assert_eq!(rt; sink.bytes(), output.as_bytes());
     Ok(())
@@ -73,15 +76,17 @@ fn words_of_a_command_line(rt: HostRuntime) -> Result<(), Fail> {
         words: &[b"tj", b"run", b"\xff"],
     };
     let no_word = Line { words: &[b"tj"] };
-    shows(&rt, run, Status::Clean, "0 done 3\nclean\n")?;
-    shows(&rt, not_text, Status::Usage, USAGE)?;
-    shows(&rt, no_word, Status::Usage, USAGE)?;
-    shows(&rt, Line { words: &[] }, Status::Usage, USAGE)
+    shows(&rt, run, (0, 0), Status::Clean, "0 done 3\nclean\n")?;
+    shows(&rt, run, (1, 0), Status::ReadFault, "")?;
+    shows(&rt, run, (0, 2), Status::WriteFault, "0 do")?;
+    shows(&rt, not_text, (0, 0), Status::Usage, USAGE)?;
+    shows(&rt, no_word, (0, 0), Status::Usage, USAGE)?;
+    shows(&rt, Line { words: &[] }, (0, 0), Status::Usage, USAGE)
 }
 
 #[test]
 fn no_memory_for_the_words(rt: HostRuntime) -> Result<(), Fail> {
-    let (found, sink) = answered(&rt, Given::Oom, THREE)?;
+    let (found, sink) = answered(&rt, Given::Oom, (0, 0))?;
     assert_eq!(rt; found, Status::Memory);
     assert!(rt; sink.bytes().is_empty());
     Ok(())

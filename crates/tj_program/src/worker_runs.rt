@@ -10,25 +10,27 @@ ghost use Rattle.tj_program.specs.Inner.ClosedOutputs.{IsRunGiven};
 ghost use Rattle.tj_program.specs.Inner.Inputs.{IsReadOf};
 ghost use Rattle.tj_program.specs.Output.{IsRefused, IsStartOfText};
 ghost use Rattle.tj_program.specs.Runs.{Start, IsStartOf, started};
-ghost use Rattle.tj_program.specs.Inner.ScriptRuns.{AreLimits, IsSomeScript};
-ghost use Rattle.tj_program.specs.ScriptTexts.{most_bytes};
+ghost use Rattle.tj_embed.specs.ScriptTexts.{IsSomeScript};
+ghost use Rattle.tj_program.specs.Inner.ScriptRuns.{AreLimits};
+ghost use Rattle.tj_embed.specs.ScriptTexts.{most_bytes};
 ghost use Rattle.tj_syntax.specs.View as view;
 
 use crate::generated::generated_text_is_a_script;
 use crate::mode_outputs::refused;
-use crate::output::ClosedOutput;
+use crate::output::{ClosedOutput, Output, status_of};
 use crate::script_run::{Limits, Told, ended, full};
-use crate::script_text::{script_in, script_of};
+use crate::script_text::script_of;
 use std::alloc::Global;
 use std::sync::Wait;
 use std::thread::Threads;
 use tj_base::Oom;
 use tj_body::Body;
+use tj_embed::script_in;
 use tj_eval::{ScriptBody, main_body};
 use tj_gen::gen_script;
 use tj_ports::{Gate, ReadEnd};
 use tj_ready::StealPool;
-use tj_report::outcome_of;
+use tj_report::{outcome_of, report_at_rest};
 use tj_run::{RunFault, run_all};
 use tj_syntax::Script;
 use tj_words::RestWords;
@@ -139,6 +141,41 @@ pub fn ended_at_rest<B: Body>(
     rest: RestWords<B>,
     told: Told,
 ) -> Result<ClosedOutput, Oom>
+    requires { RestsAt (program_of B.places B.awaits B.left B.asks B.then) rest.root rest.limit
+        rest.strict rest }
+    ensures { IfOk result (λ given. IsRunGiven told
+        (started (program_of B.places B.awaits B.left B.asks B.then) rest.strict rest.limit
+        rest.root)
+        given.output.status given.output.text.items given.closed) }
+{
+    match told {
+        Told::Report => reported_at_rest(alloc, rest),
+        _ => told_at_rest(alloc, rest, told),
+    }
+}
+
+/// The report of a table at rest, and the table's closed words.
+fn reported_at_rest<B: Body>(alloc: Global, rest: RestWords<B>) -> Result<ClosedOutput, Oom>
+    requires { RestsAt (program_of B.places B.awaits B.left B.asks B.then) rest.root rest.limit
+        rest.strict rest }
+    ensures { IfOk result (λ given. IsRunGiven Told.Report
+        (started (program_of B.places B.awaits B.left B.asks B.then) rest.strict rest.limit
+        rest.root)
+        given.output.status given.output.text.items given.closed) }
+{
+    let report = report_at_rest(alloc, &rest)?;
+    let output = Output {
+        status: status_of(report.marked),
+        text: report.text,
+    };
+    Ok(ClosedOutput {
+        output,
+        closed: Some(rest.into_closed()),
+    })
+}
+
+/// The outcome of a table at rest, as it is told, and the table's closed words.
+fn told_at_rest<B: Body>(alloc: Global, rest: RestWords<B>, told: Told) -> Result<ClosedOutput, Oom>
     requires { RestsAt (program_of B.places B.awaits B.left B.asks B.then) rest.root rest.limit
         rest.strict rest }
     ensures { IfOk result (λ given. IsRunGiven told

@@ -73,7 +73,7 @@ impl PoolRule<u32> for Bounded {
     ghost kept = { kept };
 }
 
-// The rule as the deque wants it.
+/// The rule as the deque wants it.
 pub struct Ruled<K> {
     rule: PhantomData<K>,
 }
@@ -86,7 +86,7 @@ impl<V, K: QueueRule<V>> Protocol<CellId, V> for Ruled<K> {
     ghost guest = { K.first };
 }
 
-// What a put on the own deque tells.
+/// What a put on the own deque tells.
 pub struct Putting<K> {
     rule: PhantomData<K>,
 }
@@ -95,7 +95,7 @@ impl<V, K: PoolRule<V>> Outcome<CellId, V> for Putting<K> {
     ghost then = { K.puts };
 }
 
-// What a take from a deque tells.
+/// What a take from a deque tells.
 pub struct Taking<K> {
     rule: PhantomData<K>,
 }

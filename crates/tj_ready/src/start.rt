@@ -13,10 +13,10 @@ use std::alloc::Global;
 use std::marker::{Brand, PhantomData};
 use tj_base::{CellId, Oom};
 
-// The deque of an end, for its own puts.
+/// The deque of an end, for its own puts.
 pub type Owner<V, K> = Worker<CellId, Global, V, Ruled<K>>;
 
-// For how many cells a pool is.
+/// For how many cells a pool is.
 pub trait Size {
     ghost cells: { ℕ };
 }
@@ -51,7 +51,7 @@ impl<V, K: PoolRule<V>> Split<V> for Joining<K> {
 // How many cells a deque has room for at first.
 const ROOM: usize = 64;
 
-// An empty deque.
+/// An empty deque.
 pub fn owner<V, K: PoolRule<V>, S: Size>(alloc: Global, cells: u32) -> Result<Owner<V, K>, Oom>
     requires { (S.cells ≡ cells) × (0 < cells) }
     ensures { IfOk result
@@ -62,7 +62,7 @@ pub fn owner<V, K: PoolRule<V>, S: Size>(alloc: Global, cells: u32) -> Result<Ow
     Ok(own)
 }
 
-// A way into the deque of another end, which has put and taken nothing yet.
+/// A way into the deque of another end, which has put and taken nothing yet.
 pub fn way_into<V, K: PoolRule<V>>(own: &mut Owner<V, K>, cells: u32) -> Result<Victim<V, K>, Oom>
     requires { (worker_flavor own.old ≡ 0) × (0 < cells) × (worker_view own.old ≡ K.own cells) }
     ensures same { (worker_flavor own.new ≡ 0) × (worker_view own.new ≡ K.own cells) }

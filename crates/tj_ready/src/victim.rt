@@ -8,7 +8,7 @@ use std::alloc::Global;
 use std::sync::Wait;
 use tj_base::CellId;
 
-// A deque to steal from, with the seat that the end has in its rule.
+/// A deque to steal from, with the seat that the end has in its rule.
 #[derive(Drop)]
 pub struct Victim<V, K: QueueRule<V>> {
     pub deque: Stealer<CellId, Global, V, Ruled<K>>,
@@ -22,7 +22,7 @@ impl<V, K: PoolRule<V>> Victim<V, K> {
     ghost use Rattle.tj_ready.specs.Ends.{StepsOne};
     ghost use Rattle.tj_ready.specs.Victims.{known_there, known_in};
 
-    // Takes the front cell. Where another end was faster it tries again.
+    /// Takes the front cell. Where another end was faster it tries again.
     pub fn steal<R: Wait>(&mut self, rt: &R) -> Option<CellId>
         ensures { MatchOption result
             ((known_there self.new ≡ known_there self.old) × K.empty (known_there self.old))
@@ -38,7 +38,7 @@ impl<V, K: PoolRule<V>> Victim<V, K> {
         unreachable!()
     }
 
-    // Takes the front cell of the first of these deques that isn't empty.
+    /// Takes the front cell of the first of these deques that isn't empty.
     pub fn steal_first<R: Wait>(victims: &mut Vec<Self>, rt: &R) -> Option<CellId>
         ensures { MatchOption result
             ((known_in victims.new.items ≡ known_in victims.old.items)

@@ -29,7 +29,7 @@ append_nil : (l : List Name) → l ++ [] ≡ l
 append_nil [] = refl
 append_nil (x ∷ xs) = ap (λ z. x ∷ z) (append_nil xs)
 
-length_names : (l : List Reference) → length (names l) ≡ length l
+pub length_names : (l : List Reference) → length (names l) ≡ length l
 length_names [] = refl
 length_names (x ∷ xs) = ap suc (length_names xs)
 

@@ -20,7 +20,7 @@ last_part name n within = let x = get_or name n 0 in
     ∙ ap (λ z. parts_text (take n name) ++ z) (append-nil (part_text x)))
 
 -- where the last number is cut from a text with its dot, the text before stays
-cut_part : (t p : List ℕ) (x left : ℕ) → t ≡ p ++ part_text x → left ≡ length t - length (decimal x) - 1
+pub cut_part : (t p : List ℕ) (x left : ℕ) → t ≡ p ++ part_text x → left ≡ length t - length (decimal x) - 1
     → take left t ≡ p
 cut_part t p x left whole cut =
     let sizes : length t ≡ length p + suc (length (decimal x)) = ap length whole ∙ length-append p (part_text x) in
@@ -38,3 +38,14 @@ pub goes_on : (a b : List ℕ) (n : ℕ) → take n a ≡ take n b
     → name_text (take n a) ++ parts_text (drop n b) ≡ name_text b
 goes_on a b n same = ap (λ z. name_text z ++ parts_text (drop n b)) same
     ∙ ap (λ z. 48 ∷ z) (sym (parts_append (take n b) (drop n b)) ∙ ap parts_text (take-append-drop n b))
+
+-- a number more
+pub name_more : (name : List ℕ) (x : ℕ) → name_text (name ++ x ∷ []) ≡ name_text name ++ part_text x
+name_more name x = ap (λ z. 48 ∷ z) (parts_append name (x ∷ [])
+    ∙ ap (λ z. parts_text name ++ z) (append-nil (part_text x)))
+
+-- the text of what a task made
+pub child_text : (up c : List ℕ) (k : ℕ) (old new : List ℕ) → old ≡ name_text up → new ≡ old ++ parts_text (k ∷ [])
+    → c ≡ up ++ k ∷ [] → new ≡ name_text c
+child_text up c k old new e f g =
+    f ∙ ap (λ z. z ++ parts_text (k ∷ [])) e ∙ ap (λ z. 48 ∷ z) (sym (parts_append up (k ∷ []))) ∙ ap name_text (sym g)

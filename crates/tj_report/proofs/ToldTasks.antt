@@ -30,11 +30,11 @@ use Rattle.tj_report.proofs.EndedHolds.{meant_holds}
 use Rattle.tj_mean.proofs.Lists.KeyedLists.{one_of_key, same_permuted, distinct_more}
 use Rattle.tj_report.proofs.ToldRecords.{record_told}
 
-map_append : {A C : Type 0} (f : A → C) (xs ys : List A) → map f (xs ++ ys) ≡ map f xs ++ map f ys
+pub map_append : {A C : Type 0} (f : A → C) (xs ys : List A) → map f (xs ++ ys) ≡ map f xs ++ map f ys
 map_append f [] ys = refl
 map_append f (x ∷ xs) ys = ap (λ l. f x ∷ l) (map_append f xs ys)
 
-told_more : {B : Type 0} (ps : List (Point B)) (ss : List Stopped) (p : Point B) (s : Stopped) → AreTold ps ss
+pub told_more : {B : Type 0} (ps : List (Point B)) (ss : List Stopped) (p : Point B) (s : Stopped) → AreTold ps ss
     → stopped_of p ≡ Some s → AreTold (ps ++ p ∷ []) (ss ++ s ∷ [])
 told_more ps ss p s t e =
     map_append stopped_of ps (p ∷ []) ∙ ap (λ l. l ++ stopped_of p ∷ []) t
@@ -113,7 +113,7 @@ module _ {B : Type 0} (program : Program B) (N : ℕ) where
         (subst (λ n. IsCell born n (to_task p.name)) h.own h.tells.of)
         (subst (λ n. IsCell born n (to_task q.name)) k.own k.tells.of) e
 
-    same_point : (c : ℕ) (p q : Point B) → IsIn p (meaning program N) → IsIn q (meaning program N) → Of c p
+    pub same_point : (c : ℕ) (p q : Point B) → IsIn p (meaning program N) → IsIn q (meaning program N) → Of c p
         → Of c q → p ≡ q
     same_point c p q i j h k =
         one_of_key (λ (x : Point B). x.name) (meaning program N) (meaning_distinct program N) p q i j

@@ -1,3 +1,5 @@
 -- What only the functions inside the crate speak of. No public clause does.
 pub mod CellNames
 pub mod ToldRecords
+pub mod CellNamesBy
+pub mod EndedReports

@@ -2,12 +2,17 @@
 #![tactic(auto)]
 
 mod cell_names;
+mod climbed_names;
 mod closed_outcome;
+mod ended_lines;
+mod fork_walk;
 mod report;
+mod rest_report;
 mod shown_names;
 mod summary;
 mod told_records;
 
 pub use closed_outcome::outcome_of;
 pub use report::report_text;
+pub use rest_report::{RestReport, report_at_rest};
 pub use summary::summary_text;

@@ -41,6 +41,15 @@ pub fn add_verdict(o: &Outcome, text: &mut Vec<u8>) -> Result<(), Oom>
     Ok(())
 }
 
+/// Adds the last line, of an outcome that is marked or not.
+pub fn add_last(marked: bool, text: &mut Vec<u8>) -> Result<(), Oom>
+    ensures { IfOk result (λ _. text.new.items ≡ text.old.items ++ verdict_line marked) }
+{
+    let verdict: &[u8] = if marked { b"marked\n" } else { b"clean\n" };
+    text.extend_from_slice(verdict)?;
+    Ok(())
+}
+
 /// Adds the lines of the task with this printed name.
 fn add_task(alloc: Global, name: &[u8], line: &TaskLine, text: &mut Vec<u8>) -> Result<(), Oom>
     ensures { IfOk result (λ _. text.new.items ≡ text.old.items ++ lines_of name.now line.now) }
@@ -53,7 +62,7 @@ fn add_task(alloc: Global, name: &[u8], line: &TaskLine, text: &mut Vec<u8>) -> 
 }
 
 /// Adds a line for each number that the task with this printed name has printed.
-fn add_prints(name: &[u8], prints: &[i64], text: &mut Vec<u8>) -> Result<(), Oom>
+pub fn add_prints(name: &[u8], prints: &[i64], text: &mut Vec<u8>) -> Result<(), Oom>
     ensures { IfOk result (λ _.
         text.new.items ≡ text.old.items ++ flat_map (print_line name.now) prints.now) }
 {

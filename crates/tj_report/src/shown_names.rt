@@ -47,7 +47,7 @@ fn cut_back(name: &[u32], kept: usize, text: &mut Vec<u8>)
 }
 
 /// Adds further numbers of the name.
-fn add_parts(parts: &[u32], text: &mut Vec<u8>) -> Result<(), Oom>
+pub fn add_parts(parts: &[u32], text: &mut Vec<u8>) -> Result<(), Oom>
     ensures { IfOk result (λ _. text.new.items ≡ text.old.items ++ parts_text parts.now) }
 {
     let mut buffer = Buffer::new();

@@ -3,8 +3,11 @@ use Rattle.std.specs.Prelude.{◌≡◌, ℕ, Bool, true, []}
 use Rattle.tj_body.specs.Programs.{Program}
 use Rattle.tj_words.specs.declared.view.View.{View}
 use Rattle.tj_words.specs.SeatViews.FullMeaning.{NamesFull}
+use Rattle.tj_words.specs.SeatViews.KnowsMore.{IsTailOf}
+use Rattle.tj_words.specs.SeatViews.Moments.{WasSo}
 use Rattle.tj_words.specs.SeatViews.SeatSteps.{SeatMe}
-use Rattle.tj_words.specs.SeatViews.Views.{IsIdle}
+use Rattle.tj_words.specs.SeatViews.Views.{IsIdle, saw_rest, saw_stop}
+use Rattle.tj_words.specs.Words.Offsets.{live_at, stop_at}
 use Rattle.tj_run.specs.declared.why.Why.{Why}
 use Rattle.tj_run.specs.declared.why.Why.TheVariants as why
 use Rattle.tj_run.specs.declared.why.Left.{Left}
@@ -33,6 +36,25 @@ module _ {B : Type 0} where
   pub record HasStopped (program : Bool → B → Program B) (cause : Why) (v w : View B) : Type 0 where
     pub stop : w.stop ≡ stop_word cause
     pub told : IsTold program cause v
+
+  -- the last step of a call was a load of LIVE, which was 0 then
+  pub record FoundRest (program : Bool → B → Program B) (v w : View B) : Type 0 where
+    pub at : View B
+    pub since : IsTailOf v.notes at.notes
+    pub was : WasSo program live_at 0 at
+    pub loaded : w ≡ saw_rest at
+
+  -- the last step of a call was a load of STOP, which said then why the run was stopped
+  pub record FoundStop (program : Bool → B → Program B) (cause : Why) (v w : View B) : Type 0 where
+    pub at : View B
+    pub since : IsTailOf v.notes at.notes
+    pub was : WasSo program stop_at (stop_word cause) at
+    pub loaded : w ≡ saw_stop (stop_word cause) at
+
+  -- what the last step of a worker found, by how it leaves
+  abbrev pub Found : (Bool → B → Program B) → Left → View B → View B → Type 0
+  Found program left.Rested v w = FoundRest program v w
+  Found program (left.Stopped cause) v w = FoundStop program cause v w
 
   -- what a worker leaves: it is at rest, or the run was stopped
   abbrev pub Leaves : (Bool → B → Program B) → Left → View B → SeatMe B → Type 0

@@ -13,7 +13,7 @@ use tj_ports::OpenGate;
 use tj_ready::{LockedPool, Pool, StealPool};
 
 /// How often a task looks for the other one before it gives up.
-const LOOKS: u32 = 200_000_000;
+const LOOKS: u32 = 1_000_000_000;
 
 /// What the two tasks raise, and what a task raises that has looked in vain.
 #[derive(Drop)]

@@ -1,12 +1,13 @@
 //! A worker's turns. In each it loads STOP, and takes a task from its pool. Where there is none it
 //! loads LIVE: at 0 no task is ready, runs or walks, and no worker is about to make one ready.
-ghost use Rattle.std.specs.Prelude.{◌≡◌, ◌<◌, IfSome, None};
+ghost use Rattle.std.specs.Prelude.{◌≡◌, ◌≢◌, ℕ, ◌<◌, IfSome, None};
+ghost use Rattle.tj_body.specs.Points.{IsIn};
 ghost use Rattle.tj_body.specs.Programs.{program_of};
 ghost use Rattle.tj_words.specs.Law.{IsRooted};
 ghost use Rattle.tj_words.specs.SeatViews.SeatSteps.{IsCellOf, IsSameSeat, IsSeatOf};
 ghost use Rattle.tj_words.specs.SeatViews.Views.{saw_stop};
 ghost use Rattle.tj_run.specs.Workers.{IsFree, table_program};
-ghost use Rattle.tj_run.specs.Leaving.{HasStopped, Leaves};
+ghost use Rattle.tj_run.specs.Leaving.{Found, FoundStop, HasStopped, Leaves};
 ghost use Rattle.tj_run.specs.Inner.Turns.{TurnsTo};
 
 use crate::tasks::run;
@@ -23,7 +24,7 @@ use tj_words::{Laid, WSeat};
 
 /// A worker: it takes its turns until nothing goes on any more, or the run is stopped. `gate` is
 /// entered before each turn, with the worker's number and the turn, both from 1. `Rested` comes only
-/// where this call loaded LIVE as 0, and `Stopped` only where it loaded STOP as that.
+/// where this call loaded LIVE as 0, as its last step, and `Stopped` only where it loaded STOP so.
 pub fn worker<B: Body, P: Pool, G: Gate, R: Wait>(
     rt: &R,
     alloc: Global,
@@ -41,6 +42,8 @@ pub fn worker<B: Body, P: Pool, G: Gate, R: Wait>(
     ensures table { result.0.table_id ≡ seat.table_id }
     ensures left { Leaves (program_of B.places B.awaits B.left B.asks B.then) result.1 seat.me.0
         result.0.me }
+    ensures found { Found (program_of B.places B.awaits B.left B.asks B.then) result.1 seat.me.0
+        result.0.me.0 }
 {
     let mut seat = seat;
     let mut pool = pool;
@@ -72,6 +75,8 @@ fn take_turn<B: Body, P: Pool, R: Wait>(
     ensures limit { P.limit pool.new ≡ P.limit pool.old }
     ensures turns { TurnsTo (program_of B.places B.awaits B.left B.asks B.then) laid.now result
         seat.old.me.0 seat.new.me }
+    ensures found { IfSome result (λ how. Found
+        (program_of B.places B.awaits B.left B.asks B.then) how seat.old.me.0 seat.new.me.0) }
 {
     if let Some(why) = stop_word(laid, seat) {
         return Some(Left::Stopped(why));
@@ -89,6 +94,9 @@ fn stop_word<B: Body>(laid: &Laid<B>, seat: &mut WSeat<B>) -> Option<Why>
     ensures none { result ≡ None → seat.new.me.0 ≡ saw_stop 0 seat.old.me.0 }
     ensures some { IfSome result (λ why. HasStopped
         (program_of B.places B.awaits B.left B.asks B.then) why seat.old.me.0 seat.new.me.0) }
+    ensures stands { (n : ℕ) → IsIn n seat.old.me.0.stored → result ≢ None }
+    ensures found { IfSome result (λ why. FoundStop
+        (program_of B.places B.awaits B.left B.asks B.then) why seat.old.me.0 seat.new.me.0) }
 {
     match laid.stopped(seat) {
         0 => None,
@@ -104,6 +112,8 @@ fn idle<B: Body>(laid: &Laid<B>, seat: &mut WSeat<B>) -> Option<Left>
     ensures table { seat.new.table_id ≡ seat.old.table_id }
     ensures turns { TurnsTo (program_of B.places B.awaits B.left B.asks B.then) laid.now result
         seat.old.me.0 seat.new.me }
+    ensures found { IfSome result (λ how. Found
+        (program_of B.places B.awaits B.left B.asks B.then) how seat.old.me.0 seat.new.me.0) }
 {
     if laid.live(seat) == 0 {
         return Some(Left::Rested);
@@ -131,20 +141,24 @@ fn work<B: Body, P: Pool, R: Wait>(
     ensures limit { P.limit pool.new ≡ P.limit pool.old }
     ensures turns { TurnsTo (program_of B.places B.awaits B.left B.asks B.then) laid.now result
         seat.old.me.0 seat.new.me }
+    ensures found { IfSome result (λ how. Found
+        (program_of B.places B.awaits B.left B.asks B.then) how seat.old.me.0 seat.new.me.0) }
 {
     let rec = claim(laid, seat, t)?;
     match run(rt, alloc, laid, seat, rec, pool) {
         Ok(()) => None,
-        Err(why) => Some(Left::Stopped(stop_run(rt, laid, seat, why))),
+        Err(why) => Some(Left::Stopped(stop_run(laid, seat, why))),
     }
 }
 
 // Stores STOP, and loads it: another worker may have stored it too.
-fn stop_run<B: Body, R: Wait>(rt: &R, laid: &Laid<B>, seat: &mut WSeat<B>, why: Why) -> Why
+fn stop_run<B: Body>(laid: &Laid<B>, seat: &mut WSeat<B>, why: Why) -> Why
     requires table { IsSeatOf laid.now seat.old }
     requires refused { why ≡ Why.Full → 0 < seat.old.me.0.refused }
     ensures table { seat.new.table_id ≡ seat.old.table_id }
     ensures stopped { HasStopped (program_of B.places B.awaits B.left B.asks B.then) result
+        seat.old.me.0 seat.new.me.0 }
+    ensures found { FoundStop (program_of B.places B.awaits B.left B.asks B.then) result
         seat.old.me.0 seat.new.me.0 }
 {
     let word = match why {
@@ -152,10 +166,8 @@ fn stop_run<B: Body, R: Wait>(rt: &R, laid: &Laid<B>, seat: &mut WSeat<B>, why: 
         Why::Memory => 2,
     };
     laid.stop(seat, word);
-    for _i in rt.forever() {
-        if let Some(told) = stop_word(laid, seat) {
-            return told;
-        }
+    match stop_word(laid, seat) {
+        Some(told) => told,
+        None => unreachable!(),
     }
-    unreachable!()
 }

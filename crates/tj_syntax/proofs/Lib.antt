@@ -9,3 +9,4 @@ pub mod Complete
 pub mod Stops
 pub mod Same
 pub mod Listed
+pub mod Starting

@@ -5,3 +5,4 @@ pub mod Stops
 pub mod Input
 pub mod Index
 pub mod Heads
+pub mod Scan

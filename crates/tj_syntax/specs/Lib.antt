@@ -6,3 +6,7 @@ pub mod View
 pub mod Back
 pub mod Listing
 pub mod Inner
+pub mod Within
+pub mod Starts
+pub mod PlacesOf
+pub mod Parts

@@ -1,8 +1,12 @@
 //! Laws of the grammar. They speak of the definitions alone.
-ghost use Rattle.std.specs.Prelude.{◌≡◌, List};
+ghost use Rattle.std.specs.Prelude.{◌≡◌, List, map};
 ghost use Rattle.tj_lex.specs.declared.token.Tok.{Tok};
 ghost use Rattle.tj_lex.specs.declared.token.Token.{Token};
 ghost use Rattle.tj_syntax.specs.Faults.{EndsInEnd, IsFirstFault, IsScript, kinds_of};
+ghost use Rattle.tj_syntax.specs.Grammar.{IsProgram};
+ghost use Rattle.tj_syntax.specs.Marks.{Noted};
+ghost use Rattle.tj_syntax.specs.Parts.{TasksStandAt};
+ghost use Rattle.tj_syntax.specs.Starts.{in_tasks};
 ghost use Rattle.tj_syntax.specs.Trees.{Task};
 ghost use Rattle.tj_syntax.specs.declared.fault.ParseFault.{ParseFault};
 
@@ -22,4 +26,10 @@ pub fn one_fault()
 pub fn scripts_have_no_fault()
     ensures { (tokens : List Token) (script : List Task) (fault : ParseFault) → EndsInEnd tokens
         → IsScript (kinds_of tokens) script → IsFirstFault tokens fault → ⊥ }
+{}
+
+/// Each task stands at its start, and in each the n-th start is that of the n-th statement.
+pub fn parts_stand_at_their_starts()
+    ensures { (notes : List Noted) (script : List Task) (derived : IsProgram notes script)
+        → TasksStandAt (map (λ t. t.name) script) notes script (in_tasks derived 0) }
 {}

@@ -3,13 +3,14 @@ ghost use Rattle.std.specs.Prelude.{◌≡◌, ◌<◌, ◌≤◌, IfOk};
 
 use crate::outcomes::outcome_text;
 use crate::tables::Chats::{Emit, Fail, Open, Recv, Send, Spawn};
-use crate::tables::{Chats, chat_lists, is_chat_table};
+use crate::tables::{Chats, chat_lists};
 use std::alloc::Global;
 use std::process::Abort;
 use std::test;
 use tj_base::{Items, Oom, Trouble};
 use tj_chan::{
-    ChanBody, ChatAnswer, ChatAsk, ChatRow, ChatRowList, Chatter, TableChat, relay_root,
+    ChanBody, ChatAnswer, ChatAsk, ChatRow, ChatRowList, Chatter, TableChat, is_chat_table,
+    relay_root,
 };
 use tj_mean::{PlanFault, plan};
 

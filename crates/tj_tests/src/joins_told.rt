@@ -1,11 +1,11 @@
 //! Texts of small programs' joins, by hand.
 use crate::tables::Says::{Fork, Get, Join, JoinOr, New, Set};
-use crate::tables::{Says, is_table, lists};
+use crate::tables::{Says, lists};
 use std::alloc::Global;
 use std::process::Abort;
 use std::test;
 use tj_base::{Oom, Pay};
-use tj_body::TableBody;
+use tj_body::{TableBody, is_table};
 use tj_known::{known_joins, known_text};
 use tj_mean::{PlanFault, acts};
 

@@ -19,6 +19,8 @@ mod listings;
 #[cfg(test)]
 mod outcomes;
 #[cfg(test)]
+mod places_of_parts;
+#[cfg(test)]
 mod printed_names;
 #[cfg(test)]
 mod reports;

@@ -1,11 +1,11 @@
 //! Outcomes of small programs, by hand.
 use crate::tables::Says::{Emit, End, Fail, Fork, Get, GetOr, Join, New, Set};
-use crate::tables::{Says, is_table, lists};
+use crate::tables::{Says, lists};
 use std::alloc::Global;
 use std::process::Abort;
 use std::test;
 use tj_base::{Cause, Name, Oom, Pay, Shown, Trouble, add_signed};
-use tj_body::TableBody;
+use tj_body::{TableBody, is_table};
 use tj_mean::{Act, ActLines, Ending, Outcome, PlanFault, acts, marked, plan};
 
 /// What is told of the root with the first of these lists.

@@ -1,12 +1,12 @@
 //! Reports and summaries of outcomes, by hand.
 use crate::outcomes::OF_A_PROMISE;
 use crate::tables::Says::{Fork, Get, New};
-use crate::tables::{Says, is_table, lists};
+use crate::tables::{Says, lists};
 use std::alloc::Global;
 use std::process::Abort;
 use std::test;
 use tj_base::{Cause, Items, Name, Oom, Shown};
-use tj_body::TableBody;
+use tj_body::{TableBody, is_table};
 use tj_mean::{Ending, Link, LinkList, Outcome, PlanFault, TaskLine, plan};
 use tj_report::{report_text, summary_text};
 

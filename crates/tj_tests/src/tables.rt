@@ -1,8 +1,5 @@
 //! Lists of rows as tests write them, and the tables that bodies take.
 ghost use Rattle.std.specs.Prelude.{◌≡◌, IfOk};
-ghost use Rattle.std.specs.List.{list_all};
-ghost use Rattle.tj_body.specs.Table as table;
-ghost use Rattle.tj_chan.specs.ChatTables as chats;
 
 use std::alloc::Global;
 use tj_base::{Items, Oom, Pay, PlaceList, Trouble};
@@ -36,19 +33,6 @@ pub(crate) enum Chats {
     Emit(i64),
     Fail(Trouble),
 }
-
-// What a table has at most: rows in a list, and places that a child is passed.
-const MOST_ROWS: usize = 1_048_576;
-
-const MOST_PASSED: usize = 1_048_576;
-
-// What a table of channels has at most: rows in a list, and items of a channel and channels that a
-// child is passed.
-const MOST_CHAT_ROWS: usize = 32_768;
-
-const MOST_ITEMS: u32 = 4000;
-
-const MOST_CHANNELS: usize = 256;
 
 pub(crate) fn places(alloc: Global, list: &[u32]) -> Result<PlaceList, Oom>
     ensures { IfOk result (λ places. places ≡ list.now) }
@@ -89,36 +73,6 @@ pub(crate) fn lists(alloc: Global, written: &[&[Says]]) -> Result<Vec<RowList>, 
     Ok(lists)
 }
 
-fn is_row(count: usize, row: &Row) -> bool
-    ensures { result ≡ table.is_row count row.now }
-{
-    match row {
-        Row::Fork { list, pass, .. } => {
-            (*list as usize) < count && pass.items().len() <= MOST_PASSED
-        }
-        _ => true,
-    }
-}
-
-fn are_rows(count: usize, rows: &[Row]) -> bool
-    ensures { result ≡ list_all (table.is_row count) rows.now }
-{
-    rows.iter().all(|row| is_row(count, row))
-}
-
-fn is_list(count: usize, list: &RowList) -> bool
-    ensures { result ≡ table.is_row_list count list.now }
-{
-    list.items().len() <= MOST_ROWS && are_rows(count, list.items())
-}
-
-/// Whether the lists are those of a table.
-pub(crate) fn is_table(lists: &[RowList]) -> bool
-    ensures { result ≡ table.is_table lists.now }
-{
-    lists.iter().all(|list| is_list(lists.len(), list))
-}
-
 fn chat_row(alloc: Global, says: Chats) -> Result<ChatRow, Oom> {
     let row = match says {
         Chats::Open(items) => ChatRow::Open(items),
@@ -146,35 +100,4 @@ pub(crate) fn chat_lists(alloc: Global, written: &[&[Chats]]) -> Result<Vec<Chat
         lists.push(Items::of(rows))?;
     }
     Ok(lists)
-}
-
-fn is_chat_row(count: usize, row: &ChatRow) -> bool
-    ensures { result ≡ chats.is_chat_row count row.now }
-{
-    match row {
-        ChatRow::Open(items) => 0 < *items && *items <= MOST_ITEMS,
-        ChatRow::Spawn { list, pass, .. } => {
-            (*list as usize) < count && pass.items().len() <= MOST_CHANNELS
-        }
-        _ => true,
-    }
-}
-
-fn are_chat_rows(count: usize, rows: &[ChatRow]) -> bool
-    ensures { result ≡ list_all (chats.is_chat_row count) rows.now }
-{
-    rows.iter().all(|row| is_chat_row(count, row))
-}
-
-fn is_chat_list(count: usize, list: &ChatRowList) -> bool
-    ensures { result ≡ chats.is_chat_list count list.now }
-{
-    list.items().len() <= MOST_CHAT_ROWS && are_chat_rows(count, list.items())
-}
-
-/// Whether the lists are those of a table of channels.
-pub(crate) fn is_chat_table(lists: &[ChatRowList]) -> bool
-    ensures { result ≡ chats.is_chat_table lists.now }
-{
-    lists.iter().all(|list| is_chat_list(lists.len(), list))
 }

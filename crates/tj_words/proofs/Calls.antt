@@ -12,3 +12,7 @@ pub mod OneStates
 pub mod TableRuns
 pub mod CallRuns
 pub mod RestedRuns
+pub mod LastingWords
+pub mod OneHolders
+pub mod PushRuns
+pub mod Verdicts

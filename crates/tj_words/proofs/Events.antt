@@ -10,3 +10,4 @@ pub mod OwnerEvents
 pub mod DrawEvents
 pub mod QuietMoves
 pub mod StepFacts
+pub mod QuietCells

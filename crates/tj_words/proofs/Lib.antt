@@ -1,3 +1,4 @@
+pub mod Prelude
 pub mod Stores
 pub mod SeatLoads
 pub mod Waiters

@@ -1,6 +1,10 @@
 -- A load keeps the law, and its seat learns.
 pub mod Learning
 pub mod LoadSteps
+pub mod MomentSteps
+pub mod MomentLaws
+pub mod FreeNext
+pub mod OneCell
 pub mod KnowLoads
 pub mod HeadLoads
 pub mod StopLoads

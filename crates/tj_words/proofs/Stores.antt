@@ -5,6 +5,8 @@ pub mod LawChanges
 pub mod TableWords
 pub mod StoredWords
 pub mod StoreSteps
+pub mod StepContents
+pub mod Columns
 pub mod SlotStores
 pub mod GivenSlots
 pub mod WrittenOnce

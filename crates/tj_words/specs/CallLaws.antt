@@ -6,3 +6,6 @@ pub mod OwnerCalls
 pub mod StepCalls
 pub mod CallRuns
 pub mod RestedRuns
+pub mod LastingWords
+pub mod PushRuns
+pub mod Verdicts

@@ -11,3 +11,4 @@ pub mod LiveViews
 pub mod WaitViews
 pub mod PhaseViews
 pub mod ExchangeViews
+pub mod PushSteps

@@ -3,6 +3,7 @@ pub mod Lots
 pub mod Telling
 pub mod TreeWords
 pub mod ShownState
+pub mod Looks
 pub mod Holding
 pub mod Hands
 pub mod NamedCells
@@ -10,6 +11,7 @@ pub mod Custodies
 pub mod OnceWords
 pub mod Chains
 pub mod LiveCount
+pub mod Stops
 pub mod Meaning
 pub mod RecordPhases
 pub mod Contents

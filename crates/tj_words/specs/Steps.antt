@@ -7,3 +7,4 @@ pub mod QuietSteps
 pub mod StepLaws
 pub mod OneStates
 pub mod TableRuns
+pub mod OneHolders

@@ -3,8 +3,11 @@ ghost use Rattle.std.specs.Prelude.{◌≡◌, ◌≢◌, ◌<◌, ◌≤◌};
 ghost use Rattle.tj_body.specs.Programs.{program_of};
 ghost use Rattle.tj_words.specs.Calls.ChainSteps.{HasPush, HasPushBehind, KnowsEntry, TakesChain};
 ghost use Rattle.tj_words.specs.Calls.ChainSteps.{found_taken, pushed, stored_next};
+ghost use Rattle.tj_words.specs.Calls.PushSteps.{ChainIsFound, FindsLonger};
 ghost use Rattle.tj_words.specs.Words.Heads as heads;
+ghost use Rattle.tj_words.specs.Words.Offsets.{head_at};
 ghost use Rattle.tj_words.specs.LawParts.LiveCount.{IsBacked};
+ghost use Rattle.tj_words.specs.SeatViews.Moments.{WasSo};
 ghost use Rattle.tj_words.specs.SeatViews.SeatSteps.{IsSameSeat};
 ghost use Rattle.tj_words.specs.SeatViews.SeenWords.{FindsChain, FindsShut};
 
@@ -57,6 +60,15 @@ impl<B: Body> Laid<B> {
             self.now.cells p.0 seat.old.me.0 seat.new.me.0 }
         ensures other { result ≢ behind → result ≢ Head.Shut
             → FindsChain self.now.cells p.0 result seat.old.me.0 seat.new.me.0 }
+        ensures moment { WasSo (program_of B.places B.awaits B.left B.asks B.then) (head_at p.0)
+            (heads.head_word result) seat.old.me.0 }
+
+        // A push that succeeds lengthens the very chain that was found; else a longer one is found.
+        ensures lengthens { result ≡ behind
+            → ChainIsFound (program_of B.places B.awaits B.left B.asks B.then) p.0 behind
+            seat.old.me.0 }
+        ensures longer { result ≢ behind → result ≢ Head.Shut
+            → FindsLonger p.0 behind result seat.old.me.0 seat.new.me.0 }
     {
         Head::of_word(self.exchange_head::<Brand>(seat, p, t, behind))
     }
@@ -83,6 +95,8 @@ impl<B: Body> Laid<B> {
             self.now.cells p.0 seat.old.me.0 seat.new.me.0 }
         ensures other { result ≢ heads.head_word behind → heads.head_in result ≢ Head.Shut
             → FindsChain self.now.cells p.0 (heads.head_in result) seat.old.me.0 seat.new.me.0 }
+        ensures moment { WasSo (program_of B.places B.awaits B.left B.asks B.then) (head_at p.0)
+            result seat.old.me.0 }
     {
         self.table
             .shared

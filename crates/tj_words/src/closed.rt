@@ -1,5 +1,5 @@
 //! What the words of a table show of its cells, once the table is closed.
-ghost use Rattle.std.specs.Prelude.{◌≡◌, ◌<◌, length};
+ghost use Rattle.std.specs.Prelude.{◌≡◌, ◌<◌, ◌≤◌, length};
 
 use crate::phase::Phase;
 use std::marker::Model;
@@ -46,11 +46,13 @@ impl Model for Closed {
 }
 
 impl Closed {
+    ghost use Rattle.tj_base.specs.declared.cell.TheConstants.{MAX_CELLS};
     ghost use Rattle.tj_words.specs.AtRest.ClosedCells.{IsShown};
 
-    /// How many cells were drawn.
+    /// How many cells were drawn: no more than any table has.
     pub fn drawn(&self) -> u32
-        ensures { result ≡ length self.now }
+        ensures all { result ≡ length self.now }
+        ensures few { result ≤ MAX_CELLS }
     {
         self.cells.len() as u32
     }

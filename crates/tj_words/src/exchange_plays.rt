@@ -14,6 +14,8 @@ pub(crate) struct PhaseExchange<M> {
 impl<B: Body, M: Naming> Play<Option<Rec<B>>, View<B>> for PhaseExchange<M> {
     ghost use Rattle.tj_body.specs.Programs.{program_of};
     ghost use Rattle.tj_words.specs.Calls.ExchangeViews.{phase_swap};
+    ghost use Rattle.tj_words.specs.SeatViews.Moments.{at_moment};
 
-    ghost then = { phase_swap (program_of B.places B.awaits B.left B.asks B.then) M.cell M.cells };
+    ghost then = { at_moment (program_of B.places B.awaits B.left B.asks B.then)
+        (phase_swap (program_of B.places B.awaits B.left B.asks B.then) M.cell M.cells) };
 }

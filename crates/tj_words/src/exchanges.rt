@@ -2,6 +2,8 @@
 //! parked goes on.
 ghost use Rattle.std.specs.Prelude.{◌≡◌, ◌≢◌, ◌<◌, IfErr, OnOk};
 ghost use Rattle.tj_body.specs.Programs.{program_of};
+ghost use Rattle.tj_words.specs.SeatViews.Moments.{WasSo};
+ghost use Rattle.tj_words.specs.Words.Offsets.{phase_at};
 ghost use Rattle.tj_words.specs.Words.Codes as codes;
 ghost use Rattle.tj_words.specs.Calls.ExchangeViews.{MaySwap, Swaps, missed};
 ghost use Rattle.tj_words.specs.Words.Phases as phases;
@@ -37,6 +39,9 @@ impl<B: Body> Laid<B> {
             t.0 was to seat.old.me seat.new.me) }
         ensures found { IfErr result (λ p. (was ≡ Phase.Ready) × (p ≢ was)
             × (seat.new.me ≡ (missed t.0 p seat.old.me.0, seat.old.me.1))) }
+        ensures moment { IfErr result (λ p. WasSo
+            (program_of B.places B.awaits B.left B.asks B.then) (phase_at t.0) (phases.phase_word p)
+            seat.old.me.0) }
     {
         let found = self.exchange_phase::<Brand>(seat, t, was, to);
         if found == was.word() {
@@ -65,6 +70,8 @@ impl<B: Body> Laid<B> {
         ensures found { result ≢ phases.phase_word was → (was ≡ Phase.Ready)
             × (seat.new.me ≡ (noted_step (Noted.Missed t.0) result seat.old.me.0, seat.old.me.1))
             × codes.IsPhaseWord self.now.cells result }
+        ensures moment { WasSo (program_of B.places B.awaits B.left B.asks B.then) (phase_at t.0)
+            result seat.old.me.0 }
     {
         event_keeps_facts();
         self.table

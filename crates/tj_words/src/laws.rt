@@ -8,12 +8,18 @@
 ghost use Rattle.tj_words.specs.CallLaws.CallRuns as called;
 ghost use Rattle.tj_words.specs.CallLaws.CallSteps as call;
 ghost use Rattle.tj_words.specs.CallLaws.EventCalls as event;
+ghost use Rattle.tj_words.specs.CallLaws.LastingWords as lasting;
+ghost use Rattle.tj_words.specs.Steps.OneHolders as holder;
 ghost use Rattle.tj_words.specs.Steps.OneStates as state;
 ghost use Rattle.tj_words.specs.CallLaws.OwnerCalls as owner;
+ghost use Rattle.tj_words.specs.CallLaws.PushRuns as push;
 ghost use Rattle.tj_words.specs.CallLaws.RestedRuns as rested;
+ghost use Rattle.tj_words.specs.Inner.ChainSentences as chain;
+ghost use Rattle.tj_words.specs.SeatViews.MomentLaws as moment;
 ghost use Rattle.tj_words.specs.Steps.StepLaws as law;
 ghost use Rattle.tj_words.specs.Steps.TableRuns as run;
 ghost use Rattle.tj_words.specs.CallLaws.TaskCalls as task;
+ghost use Rattle.tj_words.specs.CallLaws.Verdicts as verdict;
 
 /// Steps on COUNT: draws, and loads.
 pub fn count_steps<B>()
@@ -21,6 +27,22 @@ pub fn count_steps<B>()
     ensures refused { law.RefusedDrawsShow B }
     ensures load { law.CountsShow B }
     ensures plain_load { law.PlainLoadsShow B }
+{}
+
+/// What a word can't be while a seat has such a view, and what is left open; and that no step hides
+/// what it does with STOP.
+pub fn moments<B>()
+    ensures live { moment.LiveCountsTokens B }
+    ensures count { moment.CountIsAbove B }
+    ensures owner { moment.OwnerIsTheTask B }
+    ensures phase { moment.PhaseIsDone B }
+    ensures others { moment.OthersCountsCleared B }
+    ensures stop { moment.StopStands B }
+    ensures claim { moment.LoneSeatClaims B }
+    ensures one_count { moment.OneCellCounts B }
+    ensures one_live { moment.OneCellLives B }
+    ensures free_next { moment.NextIsFree B }
+    ensures no_hidden { moment.NoHiddenStop B }
 {}
 
 /// Stores of words that are written once.
@@ -35,7 +57,6 @@ pub fn once_loads<B>()
 
 /// Stores of OWN.
 pub fn owner_stores<B>()
-    ensures first { law.FirstOwnersShow B }
     ensures hand { law.HandsShow B }
     ensures close { law.ClosesShow B }
     ensures close_own { law.EndingClosesShow B }
@@ -50,7 +71,6 @@ pub fn owner_loads<B>()
 
 /// Stores of PHASE.
 pub fn phase_stores<B>()
-    ensures promise { law.MarksShow B }
     ensures ready { law.ReleasesShow B }
     ensures walking { law.PublishesShow B }
     ensures parked { law.SettlesShow B }
@@ -116,11 +136,15 @@ pub fn merges<B>()
 {}
 
 /// The core state that is shown at a moment is one, and what a step leaves of it is what the next
-/// moment shows: so steps make a run.
+/// moment shows: so steps make a run. One seat at most holds a task, as one has its push to come,
+/// and one line of a cell stands.
 pub fn one_state<B>()
     ensures one { state.OneStateIsShown B }
     ensures steps { state.StepsChain B }
     ensures draws { state.DrawsChain B }
+    ensures holders { holder.OneSeatHolds B }
+    ensures lines { holder.OneLineStands B }
+    ensures pushers { holder.OneSeatPushes B }
 {}
 
 /// Calls that load what is no event, and exchanges that fail.
@@ -200,6 +224,12 @@ pub fn table_runs<B>()
     ensures legal { run.TableRunsAreLegal B }
 {}
 
+/// No wake is lost: each task that waits and is parked stands in the chain of its cell, in the rest of a seat, or has
+/// its push to come.
+pub fn wakes<B>()
+    ensures { chain.NoWakeIsLost B }
+{}
+
 /// Once a seat has loaded LIVE as 0, LIVE stays 0, and each TAG stays as it is: so a cell that has no
 /// value then never gets one.
 pub fn rested_runs<B>()
@@ -214,4 +244,29 @@ pub fn call_runs<B>()
     ensures calls { called.CallsAreSteps B }
     ensures seats { called.SeatsAreQuiet B }
     ensures legal { called.CallRunsAreLegal B }
+{}
+
+/// What never changes in a run of a table: a value is set once, for good; a head that is shut stays
+/// shut; COUNT never falls; and of a cell that is drawn and isn't in hand, which it stays, an owner
+/// that is nobody stays so, and PARENT, KID, DEPTH and JUMP stay.
+pub fn lasting_words<B>()
+    ensures values { lasting.ValuesAreForGood B }
+    ensures shuts { lasting.ShutsAreForGood B }
+    ensures count { lasting.CountNeverFalls B }
+    ensures cells { lasting.CellsAreForGood B }
+    ensures closes { lasting.ClosesAreForGood B }
+    ensures tree_words { lasting.TreeWordsAreForGood B }
+{}
+
+/// A chain that begins as a seat has found it is that chain still: so a push that succeeds lengthens
+/// the very chain that was found, and no chain is taken and built again in between.
+pub fn found_chains<B>()
+    ensures stand { push.FoundChainsStand B }
+    ensures pushes { push.PushesLengthen B }
+{}
+
+/// Where the walk of a task is at its end, no cycle through the task stood just after it had
+/// published, whatever calls were made in between.
+pub fn ended_walks<B>()
+    ensures { verdict.EndedWalksAreOffCycles B }
 {}

@@ -7,7 +7,7 @@ ghost use Rattle.tj_words.specs.Calls.LiveViews.{HasSlot, MayEnd, MayLowerLive, 
 ghost use Rattle.tj_words.specs.Calls.LiveViews.{MayRelease};
 ghost use Rattle.tj_words.specs.Calls.LiveViews.{ended, live_lowered, live_raised, released};
 ghost use Rattle.tj_words.specs.SeatViews.SeatSteps.{IsSameSeat};
-ghost use Rattle.tj_words.specs.SeatViews.Views.{noted_step};
+ghost use Rattle.tj_words.specs.SeatViews.Views.{stored_stop};
 
 use crate::live_plays::{EndedStore, LiveAdd, LiveSub, ReadyStore, StopStore};
 use crate::offsets::{LIVE, STOP, phase_at};
@@ -15,7 +15,6 @@ use crate::phase::Phase;
 use crate::plays::Naming;
 use crate::record::Rec;
 use crate::table::{Laid, WSeat};
-use crate::view::Noted;
 use std::marker::Brand;
 use tj_base::CellId;
 use tj_body::Body;
@@ -56,7 +55,7 @@ impl<B: Body> Laid<B> {
         ensures table { seat.new.table_id ≡ seat.old.table_id }
         ensures id { seat.new.id ≡ seat.old.id }
         ensures me { seat.new.me
-            ≡ (noted_step Noted.StoredStop w seat.old.me.0, seat.old.me.1) }
+            ≡ (stored_stop w seat.old.me.0, seat.old.me.1) }
     {
         self.table.shared.store::<StopStore>(seat, STOP, w);
     }

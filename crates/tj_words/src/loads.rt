@@ -1,7 +1,10 @@
 //! Loads that are no event of the core.
 ghost use Rattle.std.specs.Prelude.{◌≡◌, ◌≢◌, ℕ, ◌<◌, ◌≤◌, min, None, Some};
+ghost use Rattle.tj_body.specs.Points.{IsIn};
 ghost use Rattle.tj_body.specs.Programs.{program_of};
 ghost use Rattle.tj_words.specs.SeatViews.FullMeaning.{NamesFull};
+ghost use Rattle.tj_words.specs.SeatViews.Moments.{WasSo};
+ghost use Rattle.tj_words.specs.Words.Offsets.{count_at, live_at, next_at, own_at, phase_at, stop_at};
 ghost use Rattle.tj_words.specs.Words.Heads as heads;
 ghost use Rattle.tj_words.specs.Calls.ParkSteps.{FirstTold, loaded_phase};
 ghost use Rattle.tj_words.specs.Words.Phases as phases;
@@ -37,6 +40,8 @@ impl<B: Body> Laid<B> {
         ensures seat { IsSameSeat seat.old seat.new }
         ensures rested { result ≡ 0 → seat.new.me.0 ≡ saw_rest seat.old.me.0 }
         ensures live { result ≢ 0 → seat.new.me.0 ≡ saw_live result seat.old.me.0 }
+        ensures moment { WasSo (program_of B.places B.awaits B.left B.asks B.then) live_at result
+            seat.old.me.0 }
     {
         self.table.shared.load::<LiveLoad>(seat, LIVE) as u32
     }
@@ -49,6 +54,9 @@ impl<B: Body> Laid<B> {
         ensures stop { result ≤ 2 }
         ensures full { result ≡ 1
             → NamesFull (program_of B.places B.awaits B.left B.asks B.then) seat.old.me.0 }
+        ensures stands { (n : ℕ) → IsIn n seat.old.me.0.stored → result ≢ 0 }
+        ensures moment { WasSo (program_of B.places B.awaits B.left B.asks B.then) stop_at result
+            seat.old.me.0 }
     {
         self.table.shared.load::<StopLoad>(seat, STOP)
     }
@@ -58,6 +66,9 @@ impl<B: Body> Laid<B> {
         requires table { seat.old.table_id ≡ self.now.table.shared.table_id }
         ensures seat { IsSameSeat seat.old seat.new }
         ensures view { ReadsCount None self.now.cells result seat.old.me.0 seat.new.me.0 }
+        ensures moment { (n : ℕ) × (result ≡ min n self.now.cells)
+            × (seat.new.me.0 ≡ loaded_plain Noted.Count n seat.old.me.0)
+            × WasSo (program_of B.places B.awaits B.left B.asks B.then) count_at n seat.old.me.0 }
         ensures some { 0 < result }
         ensures few { result ≤ self.now.cells }
     {
@@ -71,6 +82,8 @@ impl<B: Body> Laid<B> {
         ensures seat { IsSameSeat seat.old seat.new }
         ensures view { seat.new.me.0 ≡ loaded_plain Noted.Count result seat.old.me.0 }
         ensures some { steps.IsCount self.now.cells result }
+        ensures moment { WasSo (program_of B.places B.awaits B.left B.asks B.then) count_at result
+            seat.old.me.0 }
     {
         self.table.shared.load::<CountLoad<M>>(seat, COUNT)
     }
@@ -83,6 +96,8 @@ impl<B: Body> Laid<B> {
         ensures view { seat.new.me.0
             ≡ loaded_plain (Noted.Owner c.0) (owner_word (owner_number result)) seat.old.me.0 }
         ensures task { (u : CellId) → result ≡ Some u → u.0 < self.now.cells }
+        ensures moment { WasSo (program_of B.places B.awaits B.left B.asks B.then) (own_at c.0)
+            (owner_word (owner_number result)) seat.old.me.0 }
     {
         owner_of_word(self.load_owner::<Brand>(seat, c))
     }
@@ -94,6 +109,8 @@ impl<B: Body> Laid<B> {
         ensures seat { IsSameSeat seat.old seat.new }
         ensures view { seat.new.me.0 ≡ loaded_plain (Noted.Owner c.0) result seat.old.me.0 }
         ensures owner { result ≤ self.now.cells }
+        ensures moment { WasSo (program_of B.places B.awaits B.left B.asks B.then) (own_at c.0)
+            result seat.old.me.0 }
     {
         self.table.shared.load::<OwnerLoad<M>>(seat, own_at(c))
     }
@@ -106,6 +123,8 @@ impl<B: Body> Laid<B> {
         ensures view { seat.new.me.0 ≡ loaded_phase t.0 result seat.old.me.0 }
         ensures first { FirstTold t.0 result seat.old.me.0 }
         ensures wait { (c : ℕ) → wait_in result ≡ Some c → c < self.now.cells }
+        ensures moment { WasSo (program_of B.places B.awaits B.left B.asks B.then) (phase_at t.0)
+            (phases.phase_word result) seat.old.me.0 }
     {
         Phase::of_word(self.load_phase::<Brand>(seat, t))
     }
@@ -118,6 +137,8 @@ impl<B: Body> Laid<B> {
         ensures view { seat.new.me.0 ≡ loaded_phase t.0 (phases.phase_in result) seat.old.me.0 }
         ensures first { FirstTold t.0 (phases.phase_in result) seat.old.me.0 }
         ensures phase { codes.IsPhaseWord self.now.cells result }
+        ensures moment { WasSo (program_of B.places B.awaits B.left B.asks B.then) (phase_at t.0)
+            result seat.old.me.0 }
     {
         self.table.shared.load::<PhaseLoad<M>>(seat, phase_at(t))
     }
@@ -160,6 +181,8 @@ impl<B: Body> Laid<B> {
             ≡ noted_step (Noted.Next t.0) (heads.head_word result) seat.old.me.0 }
         ensures small { heads.head_word result ≤ self.now.cells }
         ensures rest { NextTold t.0 result seat.old.me.0 }
+        ensures moment { WasSo (program_of B.places B.awaits B.left B.asks B.then) (next_at t.0)
+            (heads.head_word result) seat.old.me.0 }
     {
         Head::of_word(self.load_next::<Brand>(seat, t))
     }
@@ -172,6 +195,8 @@ impl<B: Body> Laid<B> {
         ensures view { seat.new.me.0 ≡ noted_step (Noted.Next t.0) result seat.old.me.0 }
         ensures next { result ≤ self.now.cells }
         ensures rest { NextTold t.0 (heads.head_in result) seat.old.me.0 }
+        ensures moment { WasSo (program_of B.places B.awaits B.left B.asks B.then) (next_at t.0)
+            result seat.old.me.0 }
     {
         self.table.shared.load::<NextLoad<M>>(seat, next_at(t))
     }

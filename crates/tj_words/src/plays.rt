@@ -4,6 +4,7 @@ ghost use Rattle.tj_words.specs.Calls.ChainSteps.{next_store, push_exchange, shu
 ghost use Rattle.tj_words.specs.Calls.ParkSteps.{phase_load};
 ghost use Rattle.tj_words.specs.SeatViews.SeenWords.{head_load, next_load, once_load};
 ghost use Rattle.tj_words.specs.declared.offsets.Once.{Once};
+ghost use Rattle.tj_words.specs.SeatViews.Moments.{at_moment};
 ghost use Rattle.tj_words.specs.SeatViews.SeatSteps.{IsCount, live_load, plain_load};
 ghost use Rattle.tj_words.specs.declared.view.Noted.TheVariants as note;
 
@@ -40,7 +41,10 @@ pub(crate) struct CountLoad<M> {
 }
 
 impl<B: Body, M: Naming> Play<Option<Rec<B>>, View<B>> for CountLoad<M> {
-    ghost then = { plain_load note.Count (IsCount M.cells) };
+    ghost use Rattle.tj_body.specs.Programs.{program_of};
+
+    ghost then = { at_moment (program_of B.places B.awaits B.left B.asks B.then)
+        (plain_load note.Count (IsCount M.cells)) };
 }
 
 /// A load of OWN that is no event.
@@ -49,7 +53,10 @@ pub(crate) struct OwnerLoad<M> {
 }
 
 impl<B: Body, M: Naming> Play<Option<Rec<B>>, View<B>> for OwnerLoad<M> {
-    ghost then = { plain_load (note.Owner M.cell) (λ n. n ≤ M.cells) };
+    ghost use Rattle.tj_body.specs.Programs.{program_of};
+
+    ghost then = { at_moment (program_of B.places B.awaits B.left B.asks B.then)
+        (plain_load (note.Owner M.cell) (λ n. n ≤ M.cells)) };
 }
 
 /// A load of PHASE that is no event.
@@ -58,14 +65,18 @@ pub(crate) struct PhaseLoad<M> {
 }
 
 impl<B: Body, M: Naming> Play<Option<Rec<B>>, View<B>> for PhaseLoad<M> {
-    ghost then = { phase_load M.cells M.cell };
+    ghost use Rattle.tj_body.specs.Programs.{program_of};
+
+    ghost then = { at_moment (program_of B.places B.awaits B.left B.asks B.then) (phase_load M.cells M.cell) };
 }
 
 /// A load of LIVE.
 pub(crate) struct LiveLoad;
 
 impl<B: Body> Play<Option<Rec<B>>, View<B>> for LiveLoad {
-    ghost then = { live_load };
+    ghost use Rattle.tj_body.specs.Programs.{program_of};
+
+    ghost then = { at_moment (program_of B.places B.awaits B.left B.asks B.then) live_load };
 }
 
 /// A load of STOP.
@@ -75,7 +86,8 @@ impl<B: Body> Play<Option<Rec<B>>, View<B>> for StopLoad {
     ghost use Rattle.tj_body.specs.Programs.{program_of};
     ghost use Rattle.tj_words.specs.SeatViews.FullMeaning.{stop_load};
 
-    ghost then = { stop_load (program_of B.places B.awaits B.left B.asks B.then) };
+    ghost then = { at_moment (program_of B.places B.awaits B.left B.asks B.then)
+        (stop_load (program_of B.places B.awaits B.left B.asks B.then)) };
 }
 
 /// A load of HEAD.
@@ -95,7 +107,9 @@ pub(crate) struct NextLoad<M> {
 }
 
 impl<B: Body, M: Naming> Play<Option<Rec<B>>, View<B>> for NextLoad<M> {
-    ghost then = { next_load M.cells M.cell };
+    ghost use Rattle.tj_body.specs.Programs.{program_of};
+
+    ghost then = { at_moment (program_of B.places B.awaits B.left B.asks B.then) (next_load M.cells M.cell) };
 }
 
 /// A load of a word that is written once.
@@ -127,7 +141,8 @@ pub(crate) struct PushExchange<M> {
 impl<B: Body, M: Naming> Play<Option<Rec<B>>, View<B>> for PushExchange<M> {
     ghost use Rattle.tj_body.specs.Programs.{program_of};
 
-    ghost then = { push_exchange (program_of B.places B.awaits B.left B.asks B.then) M.cells M.cell };
+    ghost then = { at_moment (program_of B.places B.awaits B.left B.asks B.then)
+        (push_exchange (program_of B.places B.awaits B.left B.asks B.then) M.cells M.cell) };
 }
 
 /// A swap of HEAD that shuts it.

@@ -34,6 +34,7 @@ pub struct RestWords<B: Body> {
 }
 
 impl<B: Body> Model for RestWords<B> {
+    ghost use Rattle.std.specs.Prelude.{◌≤◌, length};
     ghost use Rattle.tj_words.specs.AtRest.RestShown.{AreSlots, RestShown};
     ghost use Rattle.std.specs.Slots.{slots_items};
 
@@ -47,13 +48,15 @@ impl<B: Body> Model for RestWords<B> {
       strict = w.strict;
     } };
 
-    ghost invariant = { λ w. AreSlots w.closed (slots_items w.records.table.slots) };
+    ghost invariant = { λ w. AreSlots w.closed (slots_items w.records.table.slots)
+        × (length w.closed ≤ w.limit) };
 }
 
 impl<B: Body> RestWords<B> {
-    /// How many cells were drawn.
+    /// How many cells were drawn: no more than the table was made for.
     pub fn drawn(&self) -> u32
-        ensures { result ≡ length self.now.cells }
+        ensures all { result ≡ length self.now.cells }
+        ensures few { result ≤ self.now.limit }
     {
         self.closed.drawn()
     }

@@ -182,6 +182,10 @@ pub struct View<B> {
     pub steps: u64,
     /// What it loaded from STOP last, 0 at first.
     pub stop: u64,
+    /// What it stored into STOP, the last first.
+    pub stored: [u64; 0],
+    /// What it loaded from STOP, the last first.
+    pub told: [u64; 0],
     /// Its steps of which nothing else here tells, the last first.
     pub notes: [Note; 0],
 }

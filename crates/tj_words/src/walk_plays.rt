@@ -4,6 +4,7 @@ ghost use Rattle.tj_core.specs.Events.{count_read, others_read, wait_found};
 ghost use Rattle.tj_words.specs.Words.Codes.{IsPhaseWord};
 ghost use Rattle.tj_words.specs.Words.Owners.{owner_in};
 ghost use Rattle.tj_words.specs.Words.Phases.{phase_in};
+ghost use Rattle.tj_words.specs.SeatViews.Moments.{at_moment};
 ghost use Rattle.tj_words.specs.SeatViews.SeatSteps.{IsCount};
 ghost use Rattle.tj_words.specs.Steps.StepEvents.{wait_in};
 ghost use Rattle.tj_words.specs.Calls.WalkViews.{others_add, others_subtraction, owner_seen};
@@ -41,7 +42,10 @@ pub(crate) struct WalkerCount<M> {
 }
 
 impl<B: Body, M: Acting> Play<Option<Rec<B>>, View<B>> for WalkerCount<M> {
-    ghost then = { walk_load M.task (λ n. count_read (min n M.cells)) (IsCount M.cells) };
+    ghost use Rattle.tj_body.specs.Programs.{program_of};
+
+    ghost then = { at_moment (program_of B.places B.awaits B.left B.asks B.then)
+        (walk_load M.task (λ n. count_read (min n M.cells)) (IsCount M.cells)) };
 }
 
 /// A load of OWN by a walker.
@@ -50,7 +54,10 @@ pub(crate) struct WalkerOwner<M> {
 }
 
 impl<B: Body, M: Acting> Play<Option<Rec<B>>, View<B>> for WalkerOwner<M> {
-    ghost then = { walk_load M.task (λ n w. owner_seen (owner_in n) w w.last) (λ n. n ≤ M.cells) };
+    ghost use Rattle.tj_body.specs.Programs.{program_of};
+
+    ghost then = { at_moment (program_of B.places B.awaits B.left B.asks B.then)
+        (walk_load M.task (λ n w. owner_seen (owner_in n) w w.last) (λ n. n ≤ M.cells)) };
 }
 
 /// A load of PHASE by a walker.
@@ -59,8 +66,11 @@ pub(crate) struct WalkerWait<M> {
 }
 
 impl<B: Body, M: Acting> Play<Option<Rec<B>>, View<B>> for WalkerWait<M> {
-    ghost then = { walk_load M.task (λ n. wait_found M.owner (wait_in (phase_in n)))
-        (IsPhaseWord M.cells) };
+    ghost use Rattle.tj_body.specs.Programs.{program_of};
+
+    ghost then = { at_moment (program_of B.places B.awaits B.left B.asks B.then)
+        (walk_load M.task (λ n. wait_found M.owner (wait_in (phase_in n)))
+        (IsPhaseWord M.cells)) };
 }
 
 /// A load of OTHERS.
@@ -69,7 +79,10 @@ pub(crate) struct WalkerOthers<M> {
 }
 
 impl<B: Body, M: Acting> Play<Option<Rec<B>>, View<B>> for WalkerOthers<M> {
-    ghost then = { walk_load M.task others_read (λ n. n < 2 ^ 32) };
+    ghost use Rattle.tj_body.specs.Programs.{program_of};
+
+    ghost then = { at_moment (program_of B.places B.awaits B.left B.asks B.then)
+        (walk_load M.task others_read (λ n. n < 2 ^ 32)) };
 }
 
 /// An add to OTHERS.

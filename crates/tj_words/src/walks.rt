@@ -1,12 +1,15 @@
 //! Loads that are events of a walker, where they name one, and steps on OTHERS.
 ghost use Rattle.std.specs.Prelude.{◌≡◌, ℕ, ◌<◌, ◌≤◌, ◌^◌, min, None, Some};
+ghost use Rattle.tj_body.specs.Programs.{program_of};
 ghost use Rattle.tj_core.specs.CoreState.{present};
 ghost use Rattle.tj_core.specs.Events.{MayCount, MayReadOthers};
 ghost use Rattle.tj_core.specs.Events.{count_read, others_read, wait_found};
+ghost use Rattle.tj_words.specs.SeatViews.Moments.{WasSo};
+ghost use Rattle.tj_words.specs.Words.Offsets.{count_at, others_at, own_at, phase_at};
 ghost use Rattle.tj_words.specs.Words.Codes as codes;
 ghost use Rattle.tj_words.specs.Words.Owners.{owner_in, owner_number, owner_word};
 ghost use Rattle.tj_words.specs.Calls.ParkSteps.{FirstTold, loaded_phase};
-ghost use Rattle.tj_words.specs.Words.Phases.{phase_in};
+ghost use Rattle.tj_words.specs.Words.Phases.{phase_in, phase_word};
 ghost use Rattle.tj_words.specs.SeatViews.SeatSteps as steps;
 ghost use Rattle.tj_words.specs.SeatViews.SeatSteps.{IsSameSeat};
 ghost use Rattle.tj_words.specs.Steps.StepEvents.{wait_in};
@@ -37,6 +40,9 @@ impl<B: Body> Laid<B> {
         requires walks { MayLoadBy by (λ t p way w. MayCount way w) seat.old.me.0 }
         ensures seat { IsSameSeat seat.old seat.new }
         ensures view { ReadsCount by self.now.cells result seat.old.me.0 seat.new.me.0 }
+        ensures moment { (n : ℕ) × (result ≡ min n self.now.cells)
+            × (by ≡ None → seat.new.me.0 ≡ loaded_plain Noted.Count n seat.old.me.0)
+            × WasSo (program_of B.places B.awaits B.left B.asks B.then) count_at n seat.old.me.0 }
         ensures some { 0 < result }
         ensures few { result ≤ self.now.cells }
     {
@@ -51,6 +57,8 @@ impl<B: Body> Laid<B> {
         requires walks { IsWalking t.0 (λ p way w. MayCount way w) seat.old.me.0 }
         ensures seat { IsSameSeat seat.old seat.new }
         ensures view { seat.new.me.0 ≡ read_on t.0 (count_read result) seat.old.me.0 }
+        ensures moment { (n : ℕ) × (result ≡ min n self.now.cells)
+            × WasSo (program_of B.places B.awaits B.left B.asks B.then) count_at n seat.old.me.0 }
         ensures some { 0 < result }
         ensures few { result ≤ self.now.cells }
     {
@@ -66,6 +74,8 @@ impl<B: Body> Laid<B> {
         ensures view { seat.new.me.0
             ≡ read_on t.0 (count_read (min result self.now.cells)) seat.old.me.0 }
         ensures some { steps.IsCount self.now.cells result }
+        ensures moment { WasSo (program_of B.places B.awaits B.left B.asks B.then) count_at result
+            seat.old.me.0 }
     {
         event_keeps_facts();
         let _ = t;
@@ -84,6 +94,8 @@ impl<B: Body> Laid<B> {
             ≡ loaded_by by (loaded_plain (Noted.Owner c.0) (owner_word (owner_number result)))
             (λ w. owner_seen (owner_number result) w w.last) seat.old.me.0 }
         ensures task { (u : CellId) → result ≡ Some u → u.0 < self.now.cells }
+        ensures moment { WasSo (program_of B.places B.awaits B.left B.asks B.then) (own_at c.0)
+            (owner_word (owner_number result)) seat.old.me.0 }
     {
         match by {
             None => self.plain_owner(seat, c),
@@ -100,6 +112,8 @@ impl<B: Body> Laid<B> {
         ensures view { seat.new.me.0
             ≡ read_on t.0 (λ w. owner_seen (owner_number result) w w.last) seat.old.me.0 }
         ensures task { (u : CellId) → result ≡ Some u → u.0 < self.now.cells }
+        ensures moment { WasSo (program_of B.places B.awaits B.left B.asks B.then) (own_at c.0)
+            (owner_word (owner_number result)) seat.old.me.0 }
     {
         owner_of_word(self.walker_owner::<Brand>(seat, c, t))
     }
@@ -114,6 +128,8 @@ impl<B: Body> Laid<B> {
         ensures view { seat.new.me.0
             ≡ read_on t.0 (λ w. owner_seen (owner_in result) w w.last) seat.old.me.0 }
         ensures owner { result ≤ self.now.cells }
+        ensures moment { WasSo (program_of B.places B.awaits B.left B.asks B.then) (own_at c.0)
+            result seat.old.me.0 }
     {
         event_keeps_facts();
         let _ = t;
@@ -132,6 +148,8 @@ impl<B: Body> Laid<B> {
             seat.old.me.0 }
         ensures first { by ≡ None → FirstTold t.0 result seat.old.me.0 }
         ensures wait { (c : ℕ) → wait_in result ≡ Some c → c < self.now.cells }
+        ensures moment { WasSo (program_of B.places B.awaits B.left B.asks B.then) (phase_at t.0)
+            (phase_word result) seat.old.me.0 }
     {
         match by {
             None => self.plain_phase(seat, t),
@@ -147,6 +165,8 @@ impl<B: Body> Laid<B> {
         ensures view { seat.new.me.0
             ≡ read_on t.0 (wait_found u.0 (wait_in result)) seat.old.me.0 }
         ensures wait { (c : ℕ) → wait_in result ≡ Some c → c < self.now.cells }
+        ensures moment { WasSo (program_of B.places B.awaits B.left B.asks B.then) (phase_at u.0)
+            (phase_word result) seat.old.me.0 }
     {
         Phase::of_word(self.walker_wait::<Brand>(seat, u, t))
     }
@@ -160,6 +180,8 @@ impl<B: Body> Laid<B> {
         ensures view { seat.new.me.0
             ≡ read_on t.0 (wait_found u.0 (wait_in (phase_in result))) seat.old.me.0 }
         ensures phase { codes.IsPhaseWord self.now.cells result }
+        ensures moment { WasSo (program_of B.places B.awaits B.left B.asks B.then) (phase_at u.0)
+            result seat.old.me.0 }
     {
         event_keeps_facts();
         let _ = t;
@@ -172,6 +194,8 @@ impl<B: Body> Laid<B> {
         requires walks { IsWalking by.0 (λ p way w. MayReadOthers way w) seat.old.me.0 }
         ensures seat { IsSameSeat seat.old seat.new }
         ensures view { seat.new.me.0 ≡ read_on by.0 (others_read result) seat.old.me.0 }
+        ensures moment { WasSo (program_of B.places B.awaits B.left B.asks B.then) others_at result
+            seat.old.me.0 }
     {
         self.walker_others::<Brand>(seat, by) as u32
     }
@@ -183,6 +207,8 @@ impl<B: Body> Laid<B> {
         ensures seat { IsSameSeat seat.old seat.new }
         ensures view { seat.new.me.0 ≡ read_on t.0 (others_read result) seat.old.me.0 }
         ensures few { result < 2 ^ 32 }
+        ensures moment { WasSo (program_of B.places B.awaits B.left B.asks B.then) others_at result
+            seat.old.me.0 }
     {
         event_keeps_facts();
         others_are_few();

@@ -1,22 +1,29 @@
 -- How what a function answers fits the meaning. Where memory was wanting nothing is said.
-use Rattle.std.specs.Prelude.{◌≡◌, ℕ, pos, Bool, true, false, List, Option, Some, None, Result, Ok, Err}
+use Rattle.std.specs.Prelude.{◌≡◌, ◌++◌, ◌∷◌, [], length, ℕ, pos, Bool, true, false, List, Option, Some, None, Result, Ok, Err}
 use Rattle.tj_base.specs.declared.cause.Trouble.{Trouble}
 use Rattle.tj_body.specs.declared.ask.Ask.{Ask}
 use Rattle.tj_body.specs.declared.ask.Ask.TheVariants as ask
+use Rattle.tj_eval.specs.declared.fork.Passed.{Passed}
 use Rattle.tj_eval.specs.declared.halt.Halt.{Halt}
 use Rattle.tj_eval.specs.declared.halt.Halt.TheVariants.{Fault, Memory}
 use Rattle.tj_eval.specs.Statements.{TaskState, Effect, goes_on, asks, fails, place, arguments, forked, fork_of, Next}
-use Rattle.tj_eval.specs.Statements.{begun, ended, kept, next_ask, next_from, value_in}
+use Rattle.tj_eval.specs.Statements.{as_passed, references, begun, ended, kept, next_ask, next_from, value_in}
 use Rattle.tj_base.specs.declared.value.Pay.{Pay}
 use Rattle.tj_base.specs.declared.value.Pay.TheVariants as pay
 use Rattle.tj_syntax.specs.Trees as tree
 use Rattle.tj_syntax.specs.Trees.{Argument, Expression, Statement, Task}
 
--- what was computed, or its fault
-abbrev pub IsComputed : {A B : Type 0} → Result A Trouble → (B → A) → Result B Halt → Type 0
-IsComputed computed view (Ok x) = computed ≡ Ok (view x)
-IsComputed computed view (Err (Fault fault)) = computed ≡ Err fault
-IsComputed computed view (Err Memory) = Unit {0}
+-- one value more as a child has it, whose place is noted if it is a reference
+abbrev pub IsAdded : Pay → List Pay → List ℕ → List Pay → List ℕ → Type 0
+IsAdded (pay.Num i) vars places new all = (all ≡ places) × (new ≡ vars ++ pay.Num i ∷ [])
+IsAdded (pay.Ref k) vars places new all = (all ≡ places ++ k ∷ []) × (new ≡ vars ++ pay.Ref (length all) ∷ [])
+
+-- the values as a child has them, with the places of the references among them, or the fault
+abbrev pub IsPassed : Result (List Pay) Trouble → Result Passed Halt → Type 0
+IsPassed computed (Ok p) =
+    (values : List Pay) × (computed ≡ Ok values) × (p.vars.items ≡ as_passed 1 values) × (p.places ≡ references values)
+IsPassed computed (Err (Fault fault)) = computed ≡ Err fault
+IsPassed computed (Err Memory) = Unit {0}
 
 -- the statement asks, or ends the task; the others are carried out without an ask
 abbrev pub is_ask : Statement → Bool
@@ -84,3 +91,9 @@ abbrev pub IsForkOf : TaskState → Option Task → List Argument → Result (As
 IsForkOf t d list (Ok ask) = (into : Option ℕ) → forked t d into list ≡ asks ask (record t { due = place into })
 IsForkOf t d list (Err (Fault fault)) = (into : Option ℕ) → forked t d into list ≡ fails fault
 IsForkOf t d list (Err Memory) = Unit {0}
+
+-- it holds where memory wasn't wanting
+abbrev pub IsSaid : {A : Type 0} → Result A Halt → Type 0 → Type 0
+IsSaid (Ok x) P = P
+IsSaid (Err (Fault fault)) P = P
+IsSaid (Err Memory) P = Unit {0}

@@ -42,7 +42,7 @@ module _ (next : List (Option ℕ)) where
   pub one : graph.LeadsToOne (Next next)
   one i j k p q = some_is j k (sym p ∙ q)
 
-  index_less : (os : List (Option ℕ)) (i j : ℕ) → slice_index_or os i None ≡ Some j → i < length os
+  pub index_less : (os : List (Option ℕ)) (i j : ℕ) → slice_index_or os i None ≡ Some j → i < length os
   index_less [] i j e = absurd (cc)
   index_less (o ∷ os) zero j e = omega arith
   index_less (o ∷ os) (suc i) j e = let r = index_less os i j e in omega arith

@@ -68,6 +68,7 @@ module _ {B : Type 0} where
     pub rest : w.rest ≡ v.rest
     pub plain_loads : w.plain_loads ≡ v.plain_loads
     pub once_loads : w.once_loads ≡ v.once_loads
+    pub found : w.found ≡ v.found
     pub steps : w.steps ≤ v.steps + 2
     pub taken : HasTaken program t r w
     pub waited : WaitsFor r q

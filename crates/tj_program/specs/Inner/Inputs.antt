@@ -3,7 +3,7 @@ use Rattle.std.specs.Prelude.{ℕ, ◌≡◌, true, List}
 use Rattle.tj_ports.specs.declared.source.ReadEnd.{ReadEnd}
 use Rattle.tj_ports.specs.Reading.{read_of}
 use Rattle.tj_program.specs.Output.{takes_input}
-use Rattle.tj_program.specs.ScriptTexts.{most_bytes}
+use Rattle.tj_embed.specs.ScriptTexts.{most_bytes}
 use Rattle.tj_program.specs.declared.command.Command.{Command}
 
 -- reading the input, up to the most bytes, gave this

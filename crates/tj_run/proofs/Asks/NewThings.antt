@@ -23,7 +23,7 @@ use Rattle.tj_words.specs.declared.view.View.{View}
 use Rattle.tj_words.specs.Calls.DrawViews.{drawn_next}
 use Rattle.tj_words.specs.LawParts.Holding.{held_in, made_by}
 use Rattle.tj_words.specs.SeatViews.KnownEntries.{HasSeen}
-use Rattle.tj_words.specs.SeatViews.KnowsMore.{KnowsMore}
+use Rattle.tj_words.specs.SeatViews.KnowsMore.{IsTailOf, KnowsMore}
 use Rattle.tj_words.specs.Words.Lists.{AreApart}
 use Rattle.tj_words.specs.SeatViews.SeatSteps.{SeatMe}
 use Rattle.tj_words.specs.LawParts.Telling.{ArePairs, HasName, HeldSays, Tells}
@@ -144,17 +144,21 @@ module _ {B : Type 0} (program : Program B) (v w : View B) (more : KnowsMore v w
 
 module _ {B : Type 0} where
   -- want of memory has no other cause
-  pub lacks_noted : {A : Type 0} (v w : View B) → w.about ≡ v.about → (r : Result A Why)
+  pub lacks_noted : {A : Type 0} (v w : View B) → w.about ≡ v.about → IsTailOf v.notes w.notes → (r : Result A Why)
       → IfErr r (λ (z : Why). z ≡ why.Memory)
       → IfErr r (λ (z : Why). Lacks z v w)
-  lacks_noted v w same (Ok a) h = tt
-  lacks_noted v w same (Err z) h = record { about = same; refused = λ e. absurd (apart (sym h ∙ e)) }
+  lacks_noted v w same more (Ok a) h = tt
+  lacks_noted v w same more (Err z) h = record {
+    about = same;
+    notes = more;
+    refused = λ e. absurd (apart (sym h ∙ e));
+  }
     where
       apart : why.Memory ≡ why.Full → ⊥
       apart q = cc
 
-  pub lacks_memory : {A : Type 0} (v w : View B) → w.about ≡ v.about → (r : Result A Why)
+  pub lacks_memory : {A : Type 0} (v w : View B) → w.about ≡ v.about → IsTailOf v.notes w.notes → (r : Result A Why)
       → IsErrAnd r (λ (z : Why). z ≡ why.Memory)
       → IfErr r (λ (z : Why). Lacks z v w)
-  lacks_memory {A = A} v w same (Ok a) h = tt
-  lacks_memory {A = A} v w same (Err z) h = lacks_noted {A = A} v w same (Err z) h
+  lacks_memory {A = A} v w same more (Ok a) h = tt
+  lacks_memory {A = A} v w same more (Err z) h = lacks_noted {A = A} v w same more (Err z) h

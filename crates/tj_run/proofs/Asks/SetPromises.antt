@@ -37,7 +37,7 @@ use Rattle.tj_words.specs.declared.view.View.{View}
 use Rattle.tj_words.specs.Calls.DrawViews.{without_due}
 use Rattle.tj_words.specs.LawParts.Holding.{held_in}
 use Rattle.tj_words.specs.SeatViews.KnownEntries.{HasSeen}
-use Rattle.tj_words.specs.SeatViews.KnowsMore.{KnowsMore}
+use Rattle.tj_words.specs.SeatViews.KnowsMore.{IsTailOf, KnowsMore}
 use Rattle.tj_words.specs.Words.Lists.{AreApart, numbers, without}
 use Rattle.tj_words.specs.LawParts.LiveCount.{HasAlarmed}
 use Rattle.tj_words.specs.LawParts.Meaning.{HasCell}
@@ -71,6 +71,7 @@ use Rattle.tj_run.proofs.Seats.OneTask.{noted_one}
 use Rattle.tj_run.proofs.Cells.OwnedCells.{holds_are, others as its_others, others_there, owned_is, promise_other}
 use Rattle.tj_run.proofs.Asks.PointSteps.{after_rounds, before, fill_at_says, pairs_at, stands_next}
 use Rattle.tj_run.proofs.Seats.RunningTasks.{gives_known, in_at}
+use Rattle.tj_park.proofs.WakeLoops.{noted_tail}
 
 -- the cell that a value names, as the words and as the records have it
 named_same : (f : Fill) → cells_named f ≡ fill_cells f
@@ -262,6 +263,8 @@ module _ {B : Type 0} (program : Bool → B → Program B) (laid : Laid B) (r : 
               seen = λ z i. i;
               closed = λ z i. inr i;
               rested = λ e. e;
+              notes = subst (λ l. IsTailOf l u.notes) (ap (λ (z : View B). z.notes) filled)
+                  (noted_tail d.cell.0 chain [] w w.notes u.notes woke.noted);
             }
 
             left_among : (c : ℕ) → IsIn c (numbers left) → IsIn c (numbers r.owned)
@@ -416,6 +419,12 @@ module _ {B : Type 0} (program : Bool → B → Program B) (laid : Laid B) (r : 
 
           pub sets_about : m.0.about ≡ me.0.about
           sets_about = ap (λ (u : View B). u.about) became_so
+
+          -- and what it noted stands in front of its notes, where some were woken then
+          pub sets_notes : (woken left : List ℕ) (u : View B) → HasWoken h.cell.0 woken left m.0 u
+              → IsTailOf me.0.notes u.notes
+          sets_notes woken left u woke = subst (λ l. IsTailOf l u.notes) (ap (λ (z : View B). z.notes) became_so)
+              (noted_tail h.cell.0 woken left m.0 m.0.notes u.notes woke.noted)
 
           pub sets_wakes : MayWake h.cell.0 m
           sets_wakes = subst (λ (z : Held). MayWake z.cell.0 m) (sym is)

@@ -19,6 +19,7 @@ use Rattle.tj_words.specs.declared.table.Laid.{Laid}
 use Rattle.tj_words.specs.declared.view.View.{View}
 use Rattle.tj_words.specs.Words.Lists.{All, numbers}
 use Rattle.tj_words.specs.Calls.LiveViews.{SlotsOf}
+use Rattle.tj_words.specs.SeatViews.KnowsMore.{IsTailOf}
 use Rattle.tj_words.specs.SeatViews.SeatSteps.{SeatMe}
 use Rattle.tj_words.specs.SeatViews.TreeReads.{KnowsTask}
 use Rattle.tj_words.proofs.SeatLoads.KnowsMoreOn.{more_itself}
@@ -33,7 +34,7 @@ use Rattle.tj_run.specs.Inner.Pieces.{AreLeft, child_record, held_at, numbered}
 use Rattle.tj_run.specs.declared.next.Next.{Next}
 use Rattle.tj_run.specs.declared.next.Next.TheVariants as next
 use Rattle.tj_run.specs.declared.why.Why.{Why}
-use Rattle.tj_run.proofs.Children.ForkedChildren.{fork_about, fork_fails, fork_goes, knows_parent, may_birth}
+use Rattle.tj_run.proofs.Children.ForkedChildren.{fork_about, fork_notes, fork_fails, fork_goes, knows_parent, may_birth}
 use Rattle.tj_run.proofs.Children.ForkedChildren.{may_hand_each}
 use Rattle.tj_run.proofs.Children.ForkedChildren.{may_release, promise_cells}
 
@@ -112,6 +113,10 @@ module _ {B : Type 0} (program : Bool → B → Program B) (laid : Laid B) (r : 
         forks_about = fork_about program laid r b pass handed me runs asked law tell left are_left things starts c w m u
             gave_so
 
+        pub forks_notes : IsTailOf me.0.notes u.notes
+        forks_notes = fork_notes program laid r b pass handed me runs asked law tell left are_left things starts c w m u
+            gave_so
+
         pub forks_release : (passed : List Held) → passed ≡ map (held_at r.held) pass → (kid : Rec B)
             → kid ≡ child_record c b passed promises
             → MayReleaseChild program c.0 kid u
@@ -125,6 +130,9 @@ module _ {B : Type 0} (program : Bool → B → Program B) (laid : Laid B) (r : 
             (its_slot : slots ≡ (c.0, None) ∷ me.1) where
           pub released_about : s.0.about ≡ me.0.about
           released_about = ap (λ (z : SeatMe B). z.0.about) released ∙ forks_about
+
+          pub released_notes : IsTailOf me.0.notes s.0.notes
+          released_notes = subst (λ (z : SeatMe B). IsTailOf me.0.notes z.0.notes) (sym released) forks_notes
 
           pub forks_go : Goes program laid next.Runs (with_child c left r) me.0 s
           forks_go = subst (λ (z : SeatMe B). Goes program laid next.Runs (with_child c left r) me.0 z)

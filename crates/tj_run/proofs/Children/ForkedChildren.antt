@@ -30,7 +30,7 @@ use Rattle.tj_words.specs.declared.record.Rec.{Rec}
 use Rattle.tj_words.specs.declared.table.Laid.{Laid}
 use Rattle.tj_words.specs.declared.view.Custody.{Custody}
 use Rattle.tj_words.specs.declared.view.View.{View}
-use Rattle.tj_words.specs.SeatViews.KnowsMore.{KnowsMore}
+use Rattle.tj_words.specs.SeatViews.KnowsMore.{IsTailOf, KnowsMore}
 use Rattle.tj_words.specs.Words.Lists.{All, cell, numbers}
 use Rattle.tj_words.specs.LawParts.LiveCount.{HasAlarmed, Holds}
 use Rattle.tj_words.specs.LawParts.Meaning.{HasCell}
@@ -458,6 +458,7 @@ module _ {B : Type 0} (program : Bool → B → Program B) (laid : Laid B) (r : 
           seen = more.seen;
           closed = more.closed;
           rested = more.rested;
+          notes = more.notes;
         }
 
         running_after : IsRunning P after q
@@ -497,3 +498,7 @@ module _ {B : Type 0} (program : Bool → B → Program B) (laid : Laid B) (r : 
         -- the seat is of the same table all the while
         pub fork_about : (u : View B) → u ≡ gave_each r.cell.0 promises c.0 w → u.about ≡ me.0.about
         fork_about u e = ap (λ (z : View B). z.about) (e ∙ now_is) ∙ more.about
+
+        -- and what it noted stands in front of its notes
+        pub fork_notes : (u : View B) → u ≡ gave_each r.cell.0 promises c.0 w → IsTailOf me.0.notes u.notes
+        fork_notes u e = subst (λ (z : View B). IsTailOf me.0.notes z.notes) (sym (e ∙ now_is)) more.notes

@@ -222,6 +222,7 @@ module _ {B : Type 0} (program : Bool → B → Program B) (laid : Laid B) (r0 r
         seen = λ x i. i;
         closed = λ x i. i;
         rested = λ y. y;
+        notes = ([], refl);
       }
 
       parked : HasParked laid.cells now z.0

@@ -121,6 +121,7 @@ module _ {B : Type 0} (program : Bool → B → Program B) (laid : Laid B) (r0 r
       seen = c.knows.seen;
       closed = c.knows.closed;
       rested = c.knows.rested;
+      notes = c.knows.notes;
     };
     hand = record { hand = c.hand.hand; dues = c.hand.dues };
     wakes = record { pushes = c.wakes.pushes; shuts = c.wakes.shuts; rest = c.wakes.rest };

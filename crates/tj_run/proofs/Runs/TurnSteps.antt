@@ -1,6 +1,6 @@
 -- What a turn comes to since an earlier view of the seat: a worker that goes on, rests or was stopped since a later
 -- view does so since an earlier one.
-use Rattle.std.proofs.Common.{◌≡◌, ◌≢◌, ℕ, Bool, ◌∷◌, Option, Some, None, refl, sym, ap, ◌∙◌, subst}
+use Rattle.std.proofs.Common.{◌≡◌, ◌≢◌, ℕ, Bool, [], ◌∷◌, Option, Some, None, IfSome, refl, sym, ap, ◌∙◌, subst}
 use Rattle.tj_body.specs.Programs.{Program}
 use Rattle.tj_body.proofs.Lists.{begins_self}
 use Rattle.tj_words.specs.declared.phase.Phase.{Phase}
@@ -10,21 +10,23 @@ use Rattle.tj_words.specs.declared.table.Laid.{Laid}
 use Rattle.tj_words.specs.declared.view.Noted.TheVariants as note
 use Rattle.tj_words.specs.declared.view.View.{View}
 use Rattle.tj_words.specs.Calls.ExchangeViews.{missed}
-use Rattle.tj_words.specs.SeatViews.KnowsMore.{KnowsMore}
+use Rattle.tj_words.specs.SeatViews.KnowsMore.{IsTailOf, KnowsMore}
+use Rattle.tj_words.specs.SeatViews.Moments.{WasSo}
+use Rattle.tj_words.specs.Words.Offsets.{live_at, stop_at}
 use Rattle.tj_words.specs.Law.{IsRooted}
 use Rattle.tj_words.specs.Words.Phases.{phase_word}
 use Rattle.tj_words.specs.SeatViews.SeatSteps.{SeatMe}
 use Rattle.tj_words.specs.Calls.TakenRecords.{custody_of}
 use Rattle.tj_words.specs.SeatViews.TaskLists.{hold}
-use Rattle.tj_words.specs.SeatViews.Views.{saw_stop}
-use Rattle.tj_words.proofs.SeatLoads.KnowsMoreOn.{more_itself}
+use Rattle.tj_words.specs.SeatViews.Views.{note_of, saw_live, saw_rest, saw_stop}
+use Rattle.tj_words.proofs.SeatLoads.KnowsMoreOn.{more_itself, tail_on}
 use Rattle.tj_park.specs.ChildViews.{Claimed}
 use Rattle.tj_run.specs.declared.why.Left.{Left}
 use Rattle.tj_run.specs.declared.why.Left.TheVariants as left
 use Rattle.tj_run.specs.declared.why.Why.{Why}
 use Rattle.tj_run.specs.declared.why.Why.TheVariants as why
 use Rattle.tj_run.specs.Workers.{IsFree, about_table, table_program}
-use Rattle.tj_run.specs.Leaving.{HasStopped, Leaves}
+use Rattle.tj_run.specs.Leaving.{Found, FoundRest, FoundStop, HasStopped, Leaves, stop_word}
 use Rattle.tj_run.specs.Inner.Turns.{TurnsTo}
 use Rattle.tj_run.specs.Inner.Waits.{ComesBack, IsLeft}
 use Rattle.tj_run.proofs.Seats.FreeSeats.{free_noted, rested_since}
@@ -44,6 +46,7 @@ module _ {B : Type 0} where
     seen = λ x i. i;
     closed = λ x i. i;
     rested = λ r. r;
+    notes = (note_of note.Stop 0 v ∷ [], refl);
   })
 
   -- a free seat whose exchange found that a task isn't ready is free still, and knows what it knew
@@ -61,8 +64,28 @@ module _ {B : Type 0} where
       seen = λ x i. i;
       closed = λ x i. i;
       rested = λ r. r;
+      notes = (note_of (note.Missed t) (phase_word h.0) old.0 ∷ [], refl);
     };
     free = free_noted laid (note.Missed t) (phase_word h.0) old free;
+  })
+
+  -- a free seat that has loaded LIVE as not 0 is free still
+  pub left_live : (laid : Laid B) (n : ℕ) (old new : SeatMe B) → IsFree laid old → new.0 ≡ saw_live n old.0
+      → new.1 ≡ old.1 → IsLeft laid old.0 new
+  left_live laid n old new free view slots = subst (IsLeft laid old.0) (λ i. (sym view i, sym slots i)) (record {
+    knows = record {
+      about = refl;
+      lot = refl;
+      born = begins_self old.0.born;
+      known = λ x i. i;
+      wrote = λ x i. i;
+      filled = λ x i. i;
+      seen = λ x i. i;
+      closed = λ x i. i;
+      rested = λ r. r;
+      notes = (note_of note.Live n old.0 ∷ [], refl);
+    };
+    free = free_noted laid note.Live n old free;
   })
 
   module _ (program : Bool → B → Program B) where
@@ -82,6 +105,50 @@ module _ {B : Type 0} where
         → TurnsTo program laid how u me
     turns_since laid u v None k me h = left_on laid u v k me h
     turns_since laid u v (Some how) k me h = leaves_since u v how k me h
+
+    -- the load of STOP said why
+    pub stop_found : (cause : Why) (n : ℕ) (v w : View B) → n ≡ stop_word cause → WasSo program stop_at n v
+        → w ≡ saw_stop n v → FoundStop program cause v w
+    stop_found cause n v w is was loaded = record {
+      at = v;
+      since = ([], refl);
+      was = subst (λ k. WasSo program stop_at k v) is was;
+      loaded = loaded ∙ ap (λ k. saw_stop k v) is;
+    }
+
+    -- the load of LIVE found 0
+    pub rest_found : (n : ℕ) (v w : View B) → n ≡ 0 → WasSo program live_at n v → w ≡ saw_rest v → FoundRest program v w
+    rest_found n v w is was loaded = record {
+      at = v;
+      since = ([], refl);
+      was = subst (λ k. WasSo program live_at k v) is was;
+      loaded = loaded;
+    }
+
+    -- what was found since a later view was found since an earlier one
+    pub stop_since : (cause : Why) (u v w : View B) → IsTailOf u.notes v.notes → FoundStop program cause v w
+        → FoundStop program cause u w
+    stop_since cause u v w k h = record {
+      at = h.at;
+      since = tail_on u.notes v.notes h.at.notes k h.since;
+      was = h.was;
+      loaded = h.loaded;
+    }
+
+    pub found_since : (how : Left) (u v w : View B) → IsTailOf u.notes v.notes → Found program how v w
+        → Found program how u w
+    found_since left.Rested u v w k h = record {
+      at = h.at;
+      since = tail_on u.notes v.notes h.at.notes k h.since;
+      was = h.was;
+      loaded = h.loaded;
+    }
+    found_since (left.Stopped cause) u v w k h = stop_since cause u v w k h
+
+    pub if_found_since : (how : Option Left) (u v w : View B) → IsTailOf u.notes v.notes
+        → IfSome how (λ h. Found program h v w) → IfSome how (λ h. Found program h u w)
+    if_found_since None u v w k h = tt
+    if_found_since (Some how) u v w k h = found_since how u v w k h
 
     -- a worker that doesn't leave goes on
     pub turns_on : (laid : Laid B) (how : Option Left) → how ≡ None → (v : View B) (me : SeatMe B)

@@ -1,6 +1,6 @@
 -- The seat of a worker after calls that leave it nothing new to do: it is a worker's seat still, it runs the task that
 -- it ran, and the task's record tells what it told.
-use Rattle.std.proofs.Common.{◌≡◌, ℕ, ◌≤◌, Bool, sym, ap, ◌∙◌, subst}
+use Rattle.std.proofs.Common.{◌≡◌, ℕ, ◌≤◌, Bool, [], Result, Ok, Err, IfErr, IsErrAnd, sym, ap, ◌∙◌, subst}
 use Rattle.tj_body.specs.Points.{IsIn}
 use Rattle.tj_body.specs.Programs.{Program}
 use Rattle.tj_body.proofs.Lists.{in_right}
@@ -13,7 +13,7 @@ use Rattle.tj_words.specs.LawParts.Lots.{least_lot}
 use Rattle.tj_words.specs.SeatViews.SeatSteps.{SeatMe}
 use Rattle.tj_words.specs.SeatViews.TreeReads.{HasReadTree}
 use Rattle.tj_words.specs.LawParts.TreeWords.{AreCells}
-use Rattle.tj_words.proofs.SeatLoads.KnowsMoreOn.{more_itself, more_on}
+use Rattle.tj_words.proofs.SeatLoads.KnowsMoreOn.{more_itself, more_on, tail_on}
 use Rattle.tj_words.proofs.Meaning.MeaningGrows.{stands_on, tells_on}
 use Rattle.tj_run.specs.declared.next.Next.{Next}
 use Rattle.tj_run.specs.declared.why.Why.{Why}
@@ -94,6 +94,7 @@ module _ {B : Type 0} (cells : ℕ) (v w : View B) (h : HasReadTree cells v w) w
     seen = λ x i. subst (IsIn x) (sym h.seen) (in_right x h.more v.seen i);
     closed = λ x i. subst (IsIn x) (sym (ap (λ (u : View B). u.closed) h.rest)) i;
     rested = λ e. ap (λ (u : View B). u.rested) h.rest ∙ e;
+    notes = ([], ap (λ (u : View B). u.notes) h.rest);
   }
 
   pub read_wakes : HasSameWakes v w
@@ -152,7 +153,17 @@ goes_since program laid n r u v k m h = record {
 }
 
 pub lacks_since : {B : Type 0} (cause : Why) (u v w : View B) → KnowsMore u v → Lacks cause v w → Lacks cause u w
-lacks_since cause u v w k h = record { about = h.about ∙ k.about; refused = h.refused }
+lacks_since cause u v w k h = record {
+  about = h.about ∙ k.about;
+  notes = tail_on u.notes v.notes w.notes k.notes h.notes;
+  refused = h.refused;
+}
+
+-- why a run is to stop is handed on
+pub lacks_on : {A B : Type 0} (cause : Why) (u v w : View B) → KnowsMore u v → Lacks cause v w → (r : Result A Why)
+    → IsErrAnd r (λ (z : Why). z ≡ cause) → IfErr r (λ (z : Why). Lacks z u w)
+lacks_on cause u v w k h (Ok a) i = tt
+lacks_on cause u v w k h (Err z) i = lacks_since z u v w k (subst (λ y. Lacks y v w) (sym i) h)
 
 -- the task goes on like this, by what the seat knows already
 pub goes_itself : {B : Type 0} (program : Bool → B → Program B) (laid : Laid B) (n : Next) (r : Rec B) (me : SeatMe B)

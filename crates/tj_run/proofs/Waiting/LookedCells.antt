@@ -1,6 +1,6 @@
 -- A task that looks at the cell for which it waits: nothing has become of it, or its value is the answer, or it is
 -- broken.
-use Rattle.std.proofs.Common.{◌≡◌, ◌≢◌, ℕ, ℤ, ◌<◌, Bool, true, false, length, Result, Ok, Err, IfOk, inl, inr, ⊎_elim}
+use Rattle.std.proofs.Common.{◌≡◌, ◌≢◌, ℕ, ℤ, ◌<◌, Bool, true, false, [], length, Result, Ok, Err, IfOk, inl, inr, ⊎_elim}
 use Rattle.std.proofs.Common.{refl, sym, ap, subst, ◌∙◌, arith}
 use mathlib.Core.Option.{some-injective}
 use Rattle.tj_base.specs.declared.cell.CellId.{CellId}
@@ -89,6 +89,7 @@ module _ {B : Type 0} (program : Bool → B → Program B) (laid : Laid B) (r : 
     seen = λ x i. i;
     closed = λ x i. i;
     rested = λ e. e;
+    notes = ([], refl);
   }
 
   waits_still : Goes program laid (next.Waits k spare) r me.0 (loaded_once me.0, me.1)
@@ -124,6 +125,7 @@ module _ {B : Type 0} (program : Bool → B → Program B) (laid : Laid B) (r : 
       seen = λ x i. i;
       closed = λ x i. i;
       rested = λ z. z;
+      notes = ([], refl);
     }
 
     filled_on : (d : ℕ) (x : Entry) → HasSeen me.0.filled d x → HasSeen w.filled d x

@@ -247,6 +247,7 @@ module _ {B : Type 0} (program : Bool → B → Program B) (laid : Laid B) (r : 
       seen = λ x i. i;
       closed = λ x i. i;
       rested = λ e. e;
+      notes = ([], refl);
     }
 
     nothing_since : HasNothingToCome since
@@ -317,6 +318,7 @@ module _ {B : Type 0} (program : Bool → B → Program B) (laid : Laid B) (r : 
           seen = λ x i. i;
           closed = λ x i. i;
           rested = λ z. z;
+          notes = ([], refl);
         };
         free = record {
           worker = record {

@@ -6,7 +6,7 @@ use Rattle.tj_body.specs.declared.ask.Ask.{Ask}
 use Rattle.tj_words.specs.declared.record.Rec.{Rec}
 use Rattle.tj_words.specs.declared.table.Laid.{Laid}
 use Rattle.tj_words.specs.declared.view.View.{View}
-use Rattle.tj_words.specs.SeatViews.KnowsMore.{KnowsMore}
+use Rattle.tj_words.specs.SeatViews.KnowsMore.{IsTailOf, KnowsMore}
 use Rattle.tj_words.specs.SeatViews.SeatSteps.{SeatMe}
 use Rattle.tj_words.specs.SeatViews.SeenWords.{FindsNothing}
 use Rattle.tj_run.specs.declared.next.Next.{Next}
@@ -35,9 +35,10 @@ StopsWhere ask n = Ends ask → Stops n
 
 module _ {B : Type 0} where
   -- why a run is to stop: where it is full a draw of the seat was refused; want of memory has no other cause. The seat
-  -- is of the same table as before
+  -- is of the same table as before, and what it has noted since stands in front of its notes
   pub record Lacks (cause : Why) (v w : View B) : Type 0 where
     pub about : w.about ≡ v.about
+    pub notes : IsTailOf v.notes w.notes
     pub refused : cause ≡ why.Full → 0 < w.refused
 
   module _ (program : Program B) where

@@ -23,7 +23,7 @@ use Rattle.tj_words.specs.declared.view.Does.TheVariants as does
 use Rattle.tj_words.specs.declared.view.View.{View}
 use Rattle.tj_words.specs.CallLaws.CallRuns.{AreAskedMoments, CallRunsAreLegal, CallsAreSteps, IsAskedCall, IsAskedStep}
 use Rattle.tj_words.specs.CallLaws.CallRuns.{IsIdleMerge, OwnerEvents, OwnerReads, SeatsAreQuiet, acts_by, asked_by}
-use Rattle.tj_words.specs.CallLaws.CallRuns.{events_by}
+use Rattle.tj_words.specs.CallLaws.CallRuns.{AreShown, StepShows, events_by, joined}
 use Rattle.tj_words.specs.CallLaws.CallRuns.{live_act, phase_act, phase_events, swap_events, under}
 use Rattle.tj_words.specs.CallLaws.CallSteps.{Makes, MakesWith, WritesOnce}
 use Rattle.tj_words.specs.LawParts.Contents.{Contents, WordsSay, contents_of, drawn_in}
@@ -51,7 +51,9 @@ use Rattle.tj_words.specs.SeatViews.SeatSteps.{SeatMe}
 use Rattle.tj_words.specs.CallLaws.StepCalls.{StepCall, place_of, told_by}
 use Rattle.tj_words.specs.CallLaws.StepCalls as call
 use Rattle.tj_words.specs.Steps.StepEvents.{ShowsEvent, ShowsNothing}
-use Rattle.tj_words.specs.Steps.TableRuns.{AreSteps, IsStep, Under, last_of, state_of}
+use Rattle.tj_words.specs.Steps.TableRuns.{AreSteps, IsStep, Under, events_of, last_of, state_of}
+use Rattle.tj_core.specs.CoreState.{root_alone}
+use Rattle.tj_core.specs.Runs.{IsLegalRun, after_all}
 use Rattle.tj_words.specs.SeatViews.Views.{both, left_half, right_half}
 use Rattle.tj_words.specs.Steps.WalkSteps.{ReadsOn}
 use Rattle.tj_words.specs.Calls.WalkViews.{owner_seen}
@@ -60,14 +62,13 @@ use Rattle.tj_words.proofs.Calls.CallChanges.{live_changes, live_same, loads, lo
 use Rattle.tj_words.proofs.Calls.CallChanges.{once_same, push_same, raise_same, refused_counts, shut_same, split_splits}
 use Rattle.tj_words.proofs.Calls.CallChanges.{stop_changes, writes_hand, writes_value}
 use Rattle.tj_words.proofs.Calls.DrawCalls.{call_draws}
-use Rattle.tj_words.proofs.Events.DrawEvents.{give_shown}
 use Rattle.tj_words.proofs.Calls.EventCalls.{call_alarms, call_lowers, call_publishes, call_raises, call_reads}
 use Rattle.tj_words.proofs.Calls.EventCalls.{first_seen}
 use Rattle.tj_words.proofs.Calls.HandCalls.{call_gives, call_marks}
 use Rattle.tj_words.proofs.Calls.OwnerCalls.{call_closes, call_closes_own, call_hands}
 use Rattle.tj_words.proofs.Events.OwnerEvents.{close_shown, hand_shown}
 use Rattle.tj_words.proofs.Events.OwnerEvents as owners
-use Rattle.tj_words.proofs.Events.QuietMoves.{claim_shown, end_shown, head_shown, live_shown, load_shown, mark_shown}
+use Rattle.tj_words.proofs.Events.QuietMoves.{claim_shown, end_shown, head_shown, live_shown, load_shown}
 use Rattle.tj_words.proofs.Events.QuietMoves.{next_shown, once_shown, record_shown, refused_shown, release_shown}
 use Rattle.tj_words.proofs.Events.QuietMoves.{shelve_shown, split_shown, stop_shown}
 use Rattle.tj_words.proofs.Stores.SeatLists.{word_else, words_same}
@@ -235,7 +236,7 @@ module _ {B : Type 0} (program : Bool → B → Program B) (key : Key B) (u w : 
         let q = call_gives program key s t r id c n m m' (with_act keeps (own_at c) h a) v is may (p.0 may) in (
           [],
           inl (may, refl),
-          quiet q.1 (else_cells (own_at c) h (λ z. omega arith)) (give_shown r.law y id may.hand.maker c may.hand q.0),
+          quiet q.1 (else_cells (own_at c) h (λ z. omega arith)) (q.0 r.law.born r.law.maker),
         )
     puts_owner (Some v) c h a is (inr may) p =
         let q = call_hands program key s t r id c n m m' (with_act keeps (own_at c) h a) v is may (p.1 may) in (
@@ -261,7 +262,7 @@ module _ {B : Type 0} (program : Bool → B → Program B) (key : Key B) (u w : 
         let q = call_marks program key s t r id c n m m' (with_act keeps (phase_at c) h a) is
         (ap (λ (z : SeatMe B). z.0) p) may in
         quiet q.1 (else_cells (phase_at c) h (λ z. omega arith))
-        (mark_shown r.law y c may.hand (record may.hand { marked = true }) q.0)
+        (q.0 r.law.born r.law.maker)
     puts_phase (phase.Waiting d way walk.Walking) c h l is p may a =
         let q = call_publishes program key s t r id c d.0 n way l m m' (plain (phase_at c) h a) is may p in
         shows (event.Publish (cell c) (cell d.0)) q.1 (else_cells (phase_at c) h (λ z. omega arith))
@@ -516,8 +517,9 @@ module _ {B : Type 0} (program : Bool → B → Program B) (key : Key B) (u w : 
       (merge_merges s g.id g.other g.view g.taken g.at
       (set_else s.views g.id g.other (both g.view g.taken) g.apart ∙ g.other_at) p.idle))
 
-  step_goes : IsAskedStep program key s t → (es : List Event) × Goes es
-  step_goes a = ⊎_elim (λ c. let g = call_goes c in (g.0, g.2)) (λ b. ([], ⊎_elim split_goes merge_goes b)) a
+  step_goes : (a : IsAskedStep program key s t) → Shows (StepShows program key u w a)
+  step_goes (inl c) = call_goes c
+  step_goes (inr b) = ([], refl, ⊎_elim split_goes merge_goes b)
 
 pub calls_are_steps : (B : Type 0) → CallsAreSteps B
 calls_are_steps B program key u w c = call_goes program key u w c
@@ -530,19 +532,28 @@ module _ {B : Type 0} (program : Bool → B → Program B) (key : Key B) where
   P = program key.strict key.root.value
 
   -- the steps of moments one after the other
-  all_go : (u : Ruled program key) (later : List (Ruled program key)) → AreAskedMoments program key u later
+  pub all_go : (u : Ruled program key) (later : List (Ruled program key)) (a : AreAskedMoments program key u later)
       → (steps : List (List Event × Under P key.cells)) × AreSteps P key.cells (under program key u) steps
       × (last_of P key.cells (under program key u) steps ≡ under program key (last_moment program key u later))
-  all_go u [] a = ([], tt, refl)
-  all_go u (w ∷ ws) a = let g = step_goes program key u w a.0 in let o = all_go w ws a.1 in
-      ((g.0, under program key w) ∷ o.0, (g.1, o.1), o.2)
+      × (shown : List (List Event)) × AreShown program key u later a shown
+      × (joined shown ≡ events_of P key.cells steps)
+  all_go u [] a = ([], tt, refl, [], tt, refl)
+  all_go u (w ∷ ws) a = let g = step_goes program key u w a.0 in let o = all_go w ws a.1 in (
+    (g.0, under program key w) ∷ o.0,
+    (g.2, o.1),
+    o.2,
+    g.0 ∷ o.3,
+    (g.1, o.4),
+    ap (λ es. g.0 ++ es) o.5,
+  )
 
 pub call_runs_are_legal : (B : Type 0) → CallRunsAreLegal B
 call_runs_are_legal B program key u later e a = let P = program key.strict key.root.value in
     let g = all_go program key u later a in
     let q = runs_are_legal B P key.cells u.rule.some_cells key.root.value key.strict (under program key u) g.0
     (ap contents_of e) g.1 in (
-      _,
-      q.0,
-      ap (state_of P key.cells) (sym g.2) ∙ q.1,
+      g.3,
+      g.4,
+      subst (IsLegalRun key.cells) (sym g.5) q.0,
+      ap (state_of P key.cells) (sym g.2) ∙ (q.1 ∙ ap (after_all root_alone) (sym g.5)),
     )

@@ -1,7 +1,7 @@
 -- The calls by which a task leaves its seat, is taken by one or is made ready, or by which its record comes home, are
 -- changes of the law of steps, and leave makers and numbers of cells.
 use Rattle.std.proofs.Common.{◌≡◌, ◌≢◌, ℕ, ◌<◌, Bool, ◌∷◌, set, Option, Some, None}
-use Rattle.std.proofs.Common.{refl, sym, ap, ◌∙◌, subst, arith}
+use Rattle.std.proofs.Common.{refl, ap, ◌∙◌, subst, arith}
 use mathlib.Core.Option.{some}
 use lib.ListN.{get_elem?}
 use Rattle.atomic_table.specs.Table.{State, keeps, gives, put_back, rest}
@@ -17,13 +17,13 @@ use Rattle.tj_words.specs.declared.view.View.{View}
 use Rattle.tj_words.specs.declared.phase.Phase.{Phase}
 use Rattle.tj_words.specs.declared.phase.Phase.TheVariants as phase
 use Rattle.tj_words.specs.declared.phase.Walk.TheVariants as walk
-use Rattle.tj_words.specs.LawParts.Contents.{Contents, words_say, contents_of, drawn_in, home_of}
+use Rattle.tj_words.specs.LawParts.Contents.{Contents, words_say, contents_of, home_of}
 use Rattle.tj_words.specs.LawParts.Holding.{Slots, held_in, home_in, phase_of}
 use Rattle.tj_words.specs.Law.{Rule}
 use Rattle.tj_words.specs.Calls.LiveViews.{LaysChild, MayEnd, MayRelease, Shelves, SlotsOf, ended, live_lowered}
 use Rattle.tj_words.specs.Calls.LiveViews.{live_raised}
 use Rattle.tj_words.specs.Calls.LiveViews.{lowered_with, now_home, raised_with, released}
-use Rattle.tj_words.specs.Words.Lists.{cell, numbers}
+use Rattle.tj_words.specs.Words.Lists.{cell}
 use Rattle.tj_words.specs.Words.Offsets.{live_at, phase_at}
 use Rattle.tj_words.specs.Words.Phases.{phase_in}
 use Rattle.tj_words.specs.Calls.PutRecords.{PutsHome}
@@ -33,14 +33,17 @@ use Rattle.tj_words.specs.Calls.WaitViews.{MayPark, parked}
 use Rattle.tj_words.specs.Steps.WalkSteps.{StoresParked, Proceeds}
 use Rattle.tj_words.specs.CallLaws.CallSteps.{MakesWith}
 use Rattle.tj_words.specs.CallLaws.EventCalls.{Keeping}
-use Rattle.tj_words.proofs.Phases.EndedStores.{unowned}
 use Rattle.tj_words.proofs.Holders.HeldChanges.{held_task}
 use Rattle.tj_words.proofs.Calls.KeptCells.{kept_moved, kept_turns}
 use Rattle.tj_words.proofs.Holders.LaidRecords.{else_home, lies, task_there}
 use Rattle.tj_words.proofs.Holders.NotedTasks.{noted_is}
-use Rattle.tj_words.proofs.Phases.ReadyStores.{at_start, here, laid}
-use Rattle.tj_words.proofs.Calls.StepParts.{SaysPhase, call_leaves, call_turns, keeps_others, live_says, phase_says}
+use Rattle.tj_words.proofs.Calls.StepParts.{SaysPhase, call_leaves, call_turns, keeps_others, live_says}
 use Rattle.tj_words.proofs.Holders.TaskPlaces.{custody, held_drawn}
+use Rattle.tj_words.proofs.Phases.ParkedStores.{park_keeps}
+use Rattle.tj_words.proofs.Stores.StepContents.{call_stores, call_stores_with}
+use Rattle.tj_words.proofs.Phases.ReadyStores.{ready_keeps}
+use Rattle.tj_words.proofs.Phases.EndedStores.{end_keeps}
+use Rattle.tj_words.proofs.Stores.TableWords as table_word
 
 module _ {B : Type 0} (program : Bool → B → Program B) (key : Key B) (s t : State (Option (Rec B)) (View B))
     (r : Rule program key s) (id : ℕ) (m m' : SeatMe B) where
@@ -61,39 +64,12 @@ module _ {B : Type 0} (program : Bool → B → Program B) (key : Key B) (s t : 
   pub call_releases : (c n : ℕ) → MakesWith keeps id (phase_at c) n m m' s t → phase_in n ≡ phase.Ready
       → m'.0 ≡ released c m.0 → MayRelease c m.0
       → Keeping key.cells x y (ReleasesTask key.cells x y id c)
-  call_releases c n h is view may = (
-    change,
-    kept_moved key.cells x y c phase.Ready None (Some may.record_of)
-        change.leaves.moved says.once,
-  )
+  call_releases c n h is view may = ready_keeps program key s r id c small m.0 h.at may y n is
+      (call_stores s t id (table_word.Phase c) n m m' h (released c m.0) view)
     where
-      says : SaysPhase c phase.Ready (words_say s.words) (words_say t.words)
-      says = phase_says s.words (words_say t.words) c n phase.Ready (words_now keeps (phase_at c) n h) h.inside is
-
-      slots : t.homes ≡ s.homes
-      slots = ap (λ (z : State (Option (Rec B)) (View B)). z.homes) h.after
-
-      views : t.views ≡ set s.views id m'.0
-      views = views_now keeps (phase_at c) n h
-
-      drawn : c < drawn_in key.cells x
-      drawn = held_drawn r.law id c may.custody
-          (m.0.tasks, at_map (λ (u : View B). u.tasks) s.views id m.0 h.at, may.held)
-
       small : c < key.cells
-      small = let d = drawn in omega arith
-
-      change : ReleasesTask key.cells x y id c
-      change = record {
-        leaves = call_leaves s t r.law id c phase.Ready m.0 m'.0 s.homes h.at says slots views
-            (ap (λ (z : View B). z.hand) view) may.custody may.record_of may.held (ap (λ (z : View B). z.tasks) view)
-            (laid program key s r id c small m.0 h.at may).here (λ u e. refl)
-            (laid program key s r id c small m.0 h.at may).made does.Unborn may.unborn;
-        there = here program key s r id c small m.0 h.at may;
-        starts = (at_start program key s r id c small m.0 h.at may).1;
-        keeps = keeps_others s t r.law id c phase.Ready m.0 m'.0 s.homes h.at says slots views
-            (ap (λ (z : View B). z.hand) view) (ap (λ (z : View B). z.cleared) view);
-      }
+      small = let d = held_drawn r.law id c may.custody
+          (m.0.tasks, at_map (λ (u : View B). u.tasks) s.views id m.0 h.at, may.held) in omega arith
 
   -- the record that was put into the slot comes home
   module _ (c i n : ℕ) (a : Rec B) (k : Custody B) (h : MakesWith gives id i n m m' s t)
@@ -117,64 +93,20 @@ module _ {B : Type 0} (program : Bool → B → Program B) (key : Key B) (s t : 
       → phase_in n ≡ phase.Waiting (cell p) way walk.Parked → m'.0 ≡ parked c p way m.0
       → (may : MayPark program c p way m)
       → Keeping key.cells x y (StoresParked key.cells x y id c p way may.walks.walker)
-  call_settles c p way n h is view may = (
-    change,
-    kept_moved key.cells x y c q None (Some may.record_of)
-        change.leaves.moved says.once,
-  )
-    where
-      q : Phase
-      q = phase.Waiting (cell p) way walk.Parked
-
-      says : SaysPhase c q (words_say s.words) (words_say t.words)
-      says = phase_says s.words (words_say t.words) c n q (words_now gives (phase_at c) n h) h.inside is
-
-      change : StoresParked key.cells x y id c p way may.walks.walker
-      change = record {
-        leaves = call_leaves s t r.law id c q m.0 m'.0 (set s.homes c (some (Some may.record_of))) h.at says
-            (slots_laid c (phase_at c) n may.record_of may.walks.custody h may.walks.held may.puts may.no_hand)
-            (views_now gives (phase_at c) n h) (ap (λ (z : View B). z.hand) view) may.walks.custody may.record_of
-            may.walks.held (ap (λ (z : View B). z.tasks) view)
-            (lies_home c (phase_at c) n may.record_of may.walks.custody h may.walks.held may.puts may.no_hand)
-            (apart_home c (phase_at c) n may.record_of may.walks.custody h may.walks.held may.puts may.no_hand)
-            may.puts.made (does.Walking p way may.walks.walker) may.walks.walks;
-        may = may.settles;
-        keeps = keeps_others s t r.law id c q m.0 m'.0 (set s.homes c (some (Some may.record_of))) h.at says
-            (slots_laid c (phase_at c) n may.record_of may.walks.custody h may.walks.held may.puts may.no_hand)
-            (views_now gives (phase_at c) n h) (ap (λ (z : View B). z.hand) view) (ap (λ (z : View B). z.cleared) view);
-      }
+  call_settles c p way n h is view may = park_keeps program key s r id c p way m h.at may y n is
+      (call_stores_with s t id (table_word.Phase c) n m m' gives h (set s.homes c (some (Some may.record_of)))
+      (ap (λ (l : SlotsOf B). put_back s.homes l) may.puts.slot) (parked c p way m.0) view)
 
   -- the store of Ended
   pub call_ends : (c n : ℕ) → MakesWith gives id (phase_at c) n m m' s t → phase_in n ≡ phase.Ended
       → m'.0 ≡ ended c m.0 → (may : MayEnd program c m) → Keeping key.cells x y (EndsTask key.cells x y id c)
-  call_ends c n h is view may = (
-    change,
-    kept_moved key.cells x y c phase.Ended None (Some may.record_of)
-        change.leaves.moved says.once,
-  )
+  call_ends c n h is view may = end_keeps program key s r id c small m.0 h.at m.1 may y n is
+      (call_stores_with s t id (table_word.Phase c) n m m' gives h (set s.homes c (some (Some may.record_of)))
+      (ap (λ (l : SlotsOf B). put_back s.homes l) may.puts.slot) (ended c m.0) view)
     where
-      says : SaysPhase c phase.Ended (words_say s.words) (words_say t.words)
-      says = phase_says s.words (words_say t.words) c n phase.Ended (words_now gives (phase_at c) n h) h.inside is
-
-      tasks_at : get_elem? x.seats.tasks id ≡ some m.0.tasks
-      tasks_at = at_map (λ (u : View B). u.tasks) s.views id m.0 h.at
-
-      change : EndsTask key.cells x y id c
-      change = record {
-        leaves = call_leaves s t r.law id c phase.Ended m.0 m'.0 (set s.homes c (some (Some may.record_of))) h.at says
-            (slots_laid c (phase_at c) n may.record_of may.custody h may.held may.puts may.no_hand)
-            (views_now gives (phase_at c) n h) (ap (λ (z : View B). z.hand) view) may.custody may.record_of
-            may.held (ap (λ (z : View B). z.tasks) view)
-            (lies_home c (phase_at c) n may.record_of may.custody h may.held may.puts may.no_hand)
-            (apart_home c (phase_at c) n may.record_of may.custody h may.held may.puts may.no_hand)
-            may.puts.made does.Running may.runs;
-        closed = unowned r.law id c may.custody (m.0.tasks, tasks_at, may.held) may.runs
-            (sym may.puts.owned ∙ ap numbers may.owns_none)
-            (task_there program key s r id c m.0 h.at m.1 may.custody may.held may.record_of may.puts may.no_hand).1;
-        keeps = keeps_others s t r.law id c phase.Ended m.0 m'.0 (set s.homes c (some (Some may.record_of))) h.at says
-            (slots_laid c (phase_at c) n may.record_of may.custody h may.held may.puts may.no_hand)
-            (views_now gives (phase_at c) n h) (ap (λ (z : View B). z.hand) view) (ap (λ (z : View B). z.cleared) view);
-      }
+      small : c < key.cells
+      small = let d = held_drawn r.law id c may.custody
+          (m.0.tasks, at_map (λ (u : View B). u.tasks) s.views id m.0 h.at, may.held) in omega arith
 
   -- LIVE down, where the record of a task that has alarmed comes home
   pub call_shelves : (c n : ℕ) (a : Rec B) → MakesWith gives id live_at n m m' s t → m' ≡ live_lowered m

@@ -53,7 +53,7 @@ use Rattle.tj_words.proofs.Stores.SlotStores.{StoresWith, Acts, acts_keeping, ac
 use Rattle.tj_words.proofs.SeatLoads.LoadSteps.{total_fits, knows_so}
 use Rattle.tj_words.proofs.Seating.Merging.{begins_at}
 use Rattle.tj_words.proofs.Waiters.LiveSteps.{backing_running}
-use Rattle.tj_words.proofs.Holders.NotedTasks.{holder_lot}
+use Rattle.tj_words.proofs.Holders.NotedTasks.{holder_lot, holder_named}
 use Rattle.tj_words.proofs.Holders.NotedEntries.{noted_here, noted_else}
 use Rattle.tj_words.proofs.Cells.CellFacts.{cell_born}
 use Rattle.tj_words.proofs.Cells.CellNames.{born_apart, cells_more, next_new, refused_full}
@@ -187,6 +187,7 @@ module _ {B : Type 0} (program : Bool → B → Program B) (key : Key B) (keeps 
       may = may_store key.cells Count (suc (word s.words count_at)) tt;
       seat = record {
         about = q.about;
+        named = inr (holder_named v t k may.held q.named);
         within_lot = record {
           least = inr (holder_lot v t k may.held q.within_lot);
           refused_fit = q.within_lot.refused_fit;
@@ -276,6 +277,7 @@ module _ {B : Type 0} (program : Bool → B → Program B) (key : Key B) (keeps 
           may = may_store key.cells Count (suc (word s.words count_at)) tt;
           seat = record {
             about = q.about;
+            named = q.named;
             within_lot = record {
               least = q.within_lot.least;
               refused_fit = (let l = may.room in omega arith);

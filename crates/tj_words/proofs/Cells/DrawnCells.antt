@@ -313,6 +313,7 @@ module _ {B : Type 0} {program : Program B} {cells : ℕ} {x : Contents B} (r : 
         (once_drawn r.once_words id o h ds refl dues free hand' on back_there);
     chains = r.chains;
     live_count = r.live_count;
+    stops = r.stops;
     waiters_own = r.waiters_own;
     records_fit = λ u q e. r.records_fit u q (sym (home_same u) ∙ e);
     meaning = subst (λ home. Meant program cells (suc x.words.count) x.words.stop

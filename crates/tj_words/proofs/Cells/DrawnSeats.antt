@@ -2,21 +2,18 @@
 use Rattle.std.proofs.Common.{◌≡◌, ◌≢◌, ℕ, suc, ◌<◌, List, set, Option, Some, None, sym, ap, ◌∙◌, subst, arith}
 use mathlib.Core.Option.{some}
 use lib.ListN.{get_elem?}
-use Rattle.tj_base.specs.declared.cell.Sort.TheVariants as sort
 use Rattle.tj_body.specs.Points.{IsIn}
 use Rattle.tj_body.specs.Programs.{Program}
-use Rattle.tj_words.specs.declared.phase.Phase.TheVariants.{Promise}
 use Rattle.tj_words.specs.declared.view.Hand.{Hand}
 use Rattle.tj_words.specs.declared.view.Does.TheVariants.{Running}
 use Rattle.tj_words.specs.declared.view.Custody.{Custody}
-use Rattle.tj_words.specs.LawParts.Holding.{held_in, find_in, made_by}
+use Rattle.tj_words.specs.LawParts.Holding.{held_in, find_in}
 use Rattle.tj_words.specs.LawParts.Hands.{hand_in, making}
-use Rattle.tj_words.specs.LawParts.ShownState.{first_owner}
 use Rattle.tj_words.specs.LawParts.Contents.{Contents, drawn_in, held_of, home_of}
 use Rattle.tj_words.specs.Law.{Law}
 use Rattle.tj_words.specs.Steps.StepEvents.{MayAct}
 use Rattle.tj_words.specs.Steps.WalkSteps.{KeepsOthers}
-use Rattle.tj_words.specs.Steps.OwnerSteps.{DrawsCell, GivesOwner}
+use Rattle.tj_words.specs.Steps.OwnerSteps.{DrawsCell}
 use Rattle.tj_words.proofs.Holders.HeldTasks.{one_some}
 use Rattle.tj_words.proofs.Events.OwnerEvents.{hand_seat}
 use Rattle.tj_words.proofs.Holders.SeatTasks.{find_changed, find_same, held_alone, free_alone}
@@ -105,51 +102,3 @@ module _ {B : Type 0} {program : Program B} {cells : ℕ} {x : Contents B} (r : 
       new_found : held_of y n ≡ held_in new n
       new_found = ap (λ l. find_in l n) tasks
           ∙ find_changed x.seats.tasks id n ks new at (free_alone r id n (r.custody.undrawn_free n (omega arith)))
-
-  -- the first store of OWN: the seat has nothing in hand, and the cell is one of its owner's
-  pub gives_owner : (c : ℕ)
-      → get_elem? x.seats.hands id ≡ some (Some h)
-      → h.cell ≡ c
-      → (h.sort ≡ sort.Promise → x.words.phase c ≡ Promise)
-      → k'.does ≡ k.does
-      → k'.made ≡ suc k.made
-      → ((u : ℕ) → u ≢ t → u ≢ c → held_in new u ≡ held_in ks u)
-      → made_by (held_of y c) (home_of y c) ≡ made_by (held_of x c) (home_of x c)
-      → y.seats.hands ≡ set x.seats.hands id None
-      → drawn_in cells y ≡ drawn_in cells x
-      → y.words.own c ≡ Some (first_owner h.sort t c)
-      → ((u : ℕ) → u ≢ c → y.words.own u ≡ x.words.own u)
-      → GivesOwner cells x y id t c h
-  gives_owner c in_hand is marked does made else made_c hands drawn own owns = record {
-    in_hand = in_hand;
-    hand_maker = its;
-    hand_cell = is;
-    marked = marked;
-    before_it = k;
-    after_it = k';
-    held = (ks, at, held);
-    held_now = held_now;
-    does_same = does;
-    made = made;
-    not_making = ap (λ l. making l t) hands ∙ makes_set x.seats.hands id t (Some h) None in_hand only_maker;
-    owns = own;
-    new_made = made_c;
-    same = record {
-      drawn = drawn;
-      hand = ap (λ l. hand_in l c) hands ∙ hand_set x.seats.hands id c (Some h) None in_hand only_cell;
-      hands = λ d q. ap (λ l. hand_in l d) hands
-          ∙ hand_kept x.seats.hands id d (Some h) None in_hand
-          (λ rest. sym (other_cell h d rest (λ e. q (e ∙ is))));
-      makings = λ m q. ap (λ l. making l m) hands
-          ∙ makes_kept x.seats.hands id m (Some h) None in_hand
-          (λ rest. sym (other_maker h m rest (λ e. q (e ∙ its))));
-      owns = owns;
-      phase = phase;
-      helds = λ d a b. ap (λ l. find_in l d) tasks ∙ find_same x.seats.tasks id d ks new at (else d a b);
-      home = home;
-    };
-    keeps = keeps;
-  }
-    where
-      only_cell : (j : ℕ) (g : Hand) → j ≢ id → get_elem? x.seats.hands j ≡ some (Some g) → g.cell ≢ c
-      only_cell j g d e q = d (r.hands.apart j id g h e in_hand (q ∙ sym is))

@@ -28,7 +28,7 @@ use Rattle.tj_words.specs.Words.Lists.{OfSeat, All}
 use Rattle.tj_words.specs.LawParts.Holding.{Slots, held_in, home_in, phase_of}
 use Rattle.tj_words.specs.LawParts.Hands.{IsThere, IsInHand, Hands}
 use Rattle.tj_words.specs.LawParts.NamedCells.{AreThere, NamesCells, does_cells, record_cells}
-use Rattle.tj_words.specs.LawParts.TreeWords.{IsOfTree, Births, IsForkTree}
+use Rattle.tj_words.specs.LawParts.TreeWords.{IsOfTree, BirthsBy, IsForkTree}
 use Rattle.tj_words.specs.LawParts.Custodies.{IsKept, IsCustody, Custodies}
 use Rattle.tj_words.specs.LawParts.OnceWords.{HasInHand, OnceWords}
 use Rattle.tj_words.specs.LawParts.ShownState.{sort_shown}
@@ -144,12 +144,12 @@ once_on r on before drawer = record {
 
 -- what the cells are is as before
 pub births_on : {drawn : ℕ} {born : List Reference} {maker number made made' : ℕ → ℕ} {hand hand' : ℕ → Option Hand}
-    {phase phase' : ℕ → Phase} → Births drawn born maker number made hand phase
+    {shown shown' : ℕ → Sort} → BirthsBy drawn born maker number made hand shown
     → ((c : ℕ) → IsThere drawn hand c → IsThere drawn hand' c)
-    → ((c : ℕ) → sort_shown (hand' c) (phase' c) ≡ sort_shown (hand c) (phase c))
+    → ((c : ℕ) → shown' c ≡ shown c)
     → ((c : ℕ) (h' : Hand) → hand' c ≡ Some h' → (h : Hand) × (hand c ≡ Some h) × (h'.maker ≡ h.maker))
     → ((t : ℕ) → made' t ≡ made t)
-    → Births drawn born maker number made' hand' phase'
+    → BirthsBy drawn born maker number made' hand' shown'
 births_on {maker} {number} {made'} b on sorts hands same = record {
   all = b.all;
   root = b.root;

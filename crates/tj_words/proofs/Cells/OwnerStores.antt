@@ -36,7 +36,7 @@ use Rattle.tj_words.proofs.Holders.HeldTasks.{none_some, one_some, hand_finds}
 use Rattle.tj_words.proofs.Stores.SeatContents.{set_seats, seats_same}
 use Rattle.tj_words.proofs.Holders.TaskPlaces.{list_owned}
 use Rattle.tj_words.proofs.Holders.HeldChanges.{held_task}
-use Rattle.tj_words.proofs.Holders.NotedTasks.{noted_is, holder_lot}
+use Rattle.tj_words.proofs.Holders.NotedTasks.{noted_is, holder_lot, holder_named}
 use Rattle.tj_words.proofs.Holders.NotedEntries.{noted_here, noted_else}
 use Rattle.tj_words.proofs.Waiters.LiveSteps.{backing_running, alarms_else}
 use Rattle.tj_words.proofs.Waiters.Backings.{backing_runs}
@@ -76,6 +76,7 @@ module _ {B : Type 0} (program : Bool → B → Program B) (key : Key B) (events
       → IsSeat key (record v { steps = steps; tasks = ks; dues = ds })
   owner_seat v t c steps ks ds m q b = let l = q.within_lot in record {
     about = q.about;
+    named = inr (holder_named v t m.custody m.held q.named);
     within_lot = record {
       least = inr (holder_lot v t m.custody m.held l);
       refused_fit = l.refused_fit;
@@ -247,7 +248,7 @@ module _ {B : Type 0} (program : Bool → B → Program B) (key : Key B) (events
   )
   owner_stores s r id c (suc u) v at l (inl g) = (
     gave_owner c u v,
-    give_stores program key s r id c u v at l (owner_small s r id c u v at l g) g,
+    give_stores program key s r id c u v at g l (owner_small s r id c u v at l g),
     ((λ k. refl), (λ k. absurd (not_given s r id c k.task u v at k.owner g))),
   )
   owner_stores s r id c (suc u) v at l (inr m) = (

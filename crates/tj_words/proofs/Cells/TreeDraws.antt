@@ -109,7 +109,7 @@ module _ {n : ℕ} {born : List Reference} {maker number made : ℕ → ℕ} {ha
       (λ e. let q : None ≡ Some h = sym i.1 ∙ (ap hand' e ∙ d.here) in absurd (cc))
       (λ q. let l = i.0 in ((omega arith), sym (d.else c q) ∙ i.1))
 
-  module _ {phase : ℕ → Phase} (b : Births n born maker number made hand phase) where
+  module _ (phase : ℕ → Phase) (b : Births n born maker number made hand phase) where
     cell_inside : (c : ℕ) (x : Reference) → IsCell born c x → c < n
     cell_inside c x e = subst (λ m. c < m) b.all (place_inside born c x e)
 

@@ -12,30 +12,26 @@ use Rattle.tj_base.specs.Puts.{put}
 use Rattle.tj_base.specs.ForkOrder.{child}
 use Rattle.tj_core.specs.Events.{Allowed, after, with_new}
 use Rattle.tj_core.proofs.OneCell.Makers.{thing_made}
-use Rattle.tj_words.specs.declared.phase.Phase.TheVariants as phase
 use Rattle.tj_words.specs.declared.record.Rec.{Rec}
 use Rattle.tj_words.specs.declared.view.Hand.{Hand}
 use Rattle.tj_words.specs.declared.view.Custody.{Custody}
 use Rattle.tj_words.specs.LawParts.Holding.{Slots, made_by, record_in, home_in, IsEmpty}
-use Rattle.tj_words.specs.LawParts.Hands.{hand_in, hand_phase, making, IsThere, IsMarkedRight}
+use Rattle.tj_words.specs.LawParts.Hands.{making, IsThere}
 use Rattle.tj_words.specs.LawParts.TreeWords.{IsCell}
 use Rattle.tj_words.specs.Inner.TreeDraws.{IsDrawnInto, MayDraw}
-use Rattle.tj_words.specs.LawParts.ShownState.{phase_sort, first_owner, hand_stage, reference_of, stage_there}
-use Rattle.tj_words.specs.LawParts.ShownState.{stage_shown}
+use Rattle.tj_words.specs.LawParts.ShownState.{phase_sort, first_owner, hand_stage, reference_of}
 use Rattle.tj_words.specs.LawParts.Contents.{Contents, hand_of, drawn_in, held_of, home_of, made_of, core_shown}
 use Rattle.tj_words.specs.Law.{Law}
 use Rattle.tj_words.specs.Steps.ShownParts.{parts_of}
-use Rattle.tj_words.specs.Steps.StepEvents.{ShowsEvent, ShowsNothing}
-use Rattle.tj_words.specs.Steps.OwnerSteps.{next_reference, draw_event, DrawsCell, GivesOwner}
-use Rattle.tj_words.proofs.Holders.HeldTasks.{none_some, one_some, hand_found, hand_finds, makes_none, makes_one}
-use Rattle.tj_words.proofs.Events.ShownCells.{states_same, cell_there}
+use Rattle.tj_words.specs.Steps.StepEvents.{ShowsEvent}
+use Rattle.tj_words.specs.Steps.OwnerSteps.{next_reference, draw_event, DrawsCell}
+use Rattle.tj_words.proofs.Holders.HeldTasks.{none_some, one_some, hand_found, makes_none}
+use Rattle.tj_words.proofs.Events.ShownCells.{cell_there}
 use Rattle.tj_words.proofs.Events.ShownDraws.{one_drawn}
 use Rattle.tj_words.proofs.Cells.CellFacts.{cell_born, name_shown, sort_is}
 use Rattle.tj_words.proofs.Cells.TreeDraws.{place_inside}
-use Rattle.tj_words.proofs.Events.ShownOwners.{owner_given}
-use Rattle.tj_words.proofs.Holders.TaskPlaces.{custody, held_here}
-use Rattle.tj_words.proofs.Events.QuietMoves.{kept_stage}
-use Rattle.tj_words.proofs.Events.OwnerEvents.{new_fresh, acts_there, acts_phase, acts_made, acts_stage, acts_run}
+use Rattle.tj_words.proofs.Holders.TaskPlaces.{custody}
+use Rattle.tj_words.proofs.Events.OwnerEvents.{acts_there, acts_phase, acts_made, acts_stage, acts_run}
 use Rattle.tj_words.proofs.Events.OwnerEvents.{hand_seat}
 
 -- the last element of a list, and each before it
@@ -188,83 +184,3 @@ module _ {B : Type 0} {program : Program B} {cells : ℕ} {x : Contents B} (r : 
         names : (d : ℕ) → d < n → (reference_of born' d).name ≡ (reference_of r.born d).name
         names d l = ap (λ (z : Reference). z.name)
             (before_or r.born new (to_task []) d (subst (λ k. d < k) (sym r.births.all) l))
-
-  -- the first store of OWN shows nothing
-  pub give_shown : (c : ℕ) (h : Hand) → GivesOwner cells x y id t c h → ShowsNothing cells r.born r.maker x y
-  give_shown c h s =
-      owner_given r.born r.maker (parts_of cells x) (parts_of cells y) t c h s.same apart inside in_hand owns s.new_made
-      at_stage made_t (shown_as (hand_in x.seats.hands t))
-      ∙ states_same
-      (record K { others = y.words.others; cleared = (parts_of cells y).cleared }) K refl (λ d. refl) s.keeps.others
-      s.keeps.cleared
-    where
-      inside : c < n
-      inside = subst (λ k. k < n) s.hand_cell (r.hands.each id h s.in_hand).drawn_cell
-
-      one : making x.seats.hands t ≡ 1
-      one = ap (making x.seats.hands) (sym s.hand_maker) ∙ makes_one x.seats.hands id h s.in_hand
-
-      in_hand : hand_in x.seats.hands c ≡ Some h
-      in_hand =
-          let g = hand_finds x.seats.hands id h s.in_hand in
-          let f = hand_found x.seats.hands h.cell g.0 g.1 in
-          let j : f.0.0 ≡ id = r.hands.apart f.0.0 id g.0 h f.0.1 s.in_hand f.1 in
-          let q : g.0 ≡ h = one_some g.0 h (some-injective (Some g.0) (Some h)
-          (sym f.0.1 ∙ (ap (λ (i : ℕ). get_elem? x.seats.hands i) j ∙ s.in_hand))) in
-          ap (hand_in x.seats.hands) (sym s.hand_cell) ∙ (g.1 ∙ ap (λ (z : Hand). Some z) q)
-
-      not_root : c ≢ 0
-      not_root e =
-          let a : r.number c ≡ made_of x t = (r.births.in_hand c h in_hand).1 ∙ ap (made_of x) s.hand_maker in
-          let b : r.number c ≡ 0 = ap r.number e ∙ r.births.root_number in
-          let d : making x.seats.hands t ≡ 1 = one in omega arith
-
-      its_maker : maker K.cells c ≡ t
-      its_maker = ap (λ (z : CellState). z.maker) (cell_there r.born r.maker (parts_of cells x) c inside)
-          ∙ ((r.births.in_hand c h in_hand).0 ∙ s.hand_maker)
-
-      apart : t ≢ c
-      apart e = let l : maker K.cells c < c = r.facts.makers.makers_before c inside not_root in
-          let q : maker K.cells c ≡ t = its_maker in omega arith
-
-      owns : y.words.own c ≡ Some (first_owner h.sort h.maker c)
-      owns = s.owns ∙ ap (λ (m : ℕ). Some (first_owner h.sort m c)) (sym s.hand_maker)
-
-      its_phase : x.words.phase c ≡ hand_phase h.marked
-      its_phase = ap x.words.phase (sym s.hand_cell) ∙ (r.hands.each id h s.in_hand).marked
-
-      stage_by : (o : Sort) → h.sort ≡ o
-          → stage_there c (phase_sort (x.words.phase c)) (y.words.own c) (x.words.phase c) (held_of y c) (home_of y c)
-          ≡ hand_stage o
-      stage_by sort.Promise e = (λ j. stage_there c (phase_sort (s.marked e j)) (y.words.own c) (s.marked e j)
-          (held_of y c) (home_of y c))
-      stage_by sort.Task e =
-          let m = subst (λ z. IsMarkedRight z h.marked) e (r.hands.each id h s.in_hand).marked_right in
-          let p : x.words.phase c ≡ phase.Unborn = its_phase ∙ ap hand_phase m in
-          (λ j. stage_there c (phase_sort (p j)) (s.owns j) (p j) (held_of y c) (home_of y c)) ∙ new_fresh c not_root
-
-      at_stage : stage_there c (phase_sort (x.words.phase c)) (y.words.own c) (x.words.phase c) (held_of y c)
-          (home_of y c) ≡ hand_stage h.sort
-      at_stage = stage_by h.sort refl
-
-      made_t : made_by (held_of y t) (home_of y t) + making y.seats.hands t
-          ≡ made_by (held_of x t) (home_of x t) + making x.seats.hands t
-      made_t =
-          let a : made_by (held_of y t) (home_of y t) ≡ suc s.before_it.made =
-          ap (λ (o : Option (Custody B)). made_by o (home_of y t)) s.held_now ∙ s.made in
-          let b : made_by (held_of x t) (home_of x t) ≡ s.before_it.made =
-          ap (λ (o : Option (Custody B)). made_by o (home_of x t)) (held_here r id t s.before_it s.held) in
-          let d : making y.seats.hands t ≡ 0 = s.not_making in
-          let e : making x.seats.hands t ≡ 1 = one in omega arith
-
-      shown_as : (o : Option Hand)
-          → stage_shown t o (x.words.own t) (x.words.phase t) (held_of y t) (home_of y t)
-          ≡ stage_shown t o (x.words.own t) (x.words.phase t) (held_of x t) (home_of x t)
-      shown_as (Some g) = refl
-      shown_as None =
-          let p = (custody r id t s.before_it s.held).does in
-          (λ j. stage_there t (phase_sort (p j)) (x.words.own t) (p j) (s.held_now j) (home_of y t))
-          ∙ (kept_stage t (x.words.own t) s.before_it s.after_it (home_of x t) (home_of y t) s.before_it.does refl
-          s.does_same
-          ∙ (λ j. stage_there t (phase_sort (sym p j)) (x.words.own t) (sym p j)
-          (sym (held_here r id t s.before_it s.held) j) (home_of x t)))

@@ -1,37 +1,33 @@
 -- Steps that show nothing.
-use Rattle.std.proofs.Common.{◌≡◌, ◌≢◌, ℕ, suc, ◌+◌, min, cond, nat_lt, [], ◌∷◌, ◌++◌, arith, Option, Some, None, refl, sym, ap, ◌∙◌, subst}
-use mathlib.Core.Logic.{dite}
-use native.Mathlib.Decide.{ℕ_discrete}
+use Rattle.std.proofs.Common.{◌≡◌, ℕ, suc, min, [], ◌∷◌, ◌++◌, arith, Option, Some, None, refl, sym, ap, ◌∙◌, subst}
 use Rattle.tj_base.specs.declared.cell.Sort.TheVariants as sort
 use Rattle.tj_body.specs.Programs.{Program}
 use Rattle.tj_body.specs.declared.ask.Answer.{Answer}
 use Rattle.tj_body.specs.declared.ask.Answer.TheVariants as answer
 use Rattle.tj_core.specs.declared.walk.Way.{Way}
 use Rattle.tj_core.specs.declared.walk.Walker.{Walker}
-use Rattle.tj_core.specs.CoreState.{CoreState, blank}
+use Rattle.tj_core.specs.CoreState.{CoreState}
 use Rattle.tj_words.specs.declared.phase.Walk.TheVariants as walk
 use Rattle.tj_words.specs.declared.phase.Phase.{Phase}
 use Rattle.tj_words.specs.declared.phase.Phase.TheVariants as phase
 use Rattle.tj_words.specs.declared.record.Rec.{Rec}
-use Rattle.tj_words.specs.declared.view.Hand.{Hand}
 use Rattle.tj_words.specs.declared.view.Does.{Does}
 use Rattle.tj_words.specs.declared.view.Does.TheVariants as does
 use Rattle.tj_words.specs.declared.view.Custody.{Custody}
 use Rattle.tj_words.specs.Words.Lists.{total, cell}
 use Rattle.tj_words.specs.LawParts.Holding.{made_by, phase_of}
 use Rattle.tj_words.specs.LawParts.Hands.{IsThere}
-use Rattle.tj_words.specs.LawParts.ShownState.{phase_sort, answer_stage, does_stage, stage_there, stage_shown}
-use Rattle.tj_words.specs.LawParts.ShownState.{owner_shown, hand_stage, first_owner, reference_of}
+use Rattle.tj_words.specs.LawParts.ShownState.{phase_sort, answer_stage, does_stage, stage_there}
 use Rattle.tj_words.specs.LawParts.Contents.{WordsSay, Contents, hand_of, drawn_in, held_of, home_of, core_shown}
 use Rattle.tj_words.specs.Law.{Law}
-use Rattle.tj_words.specs.Steps.ShownParts.{Parts, parts_of, shown_by, cell_by}
+use Rattle.tj_words.specs.Steps.ShownParts.{parts_of, shown_by}
 use Rattle.tj_words.specs.Steps.StepEvents.{IsBegun, ShowsNothing, IsMoved}
 use Rattle.tj_words.specs.Steps.WalkSteps.{KeepsOthers, Leaves}
-use Rattle.tj_words.specs.Steps.QuietSteps.{does_first, IsMarked, KeepsHoldings, LoadsOnly, StoresOnce, ChangesLive}
+use Rattle.tj_words.specs.Steps.QuietSteps.{does_first, KeepsHoldings, LoadsOnly, StoresOnce, ChangesLive}
 use Rattle.tj_words.specs.Steps.QuietSteps.{ChangesStop, ChangesHead, ChangesNext, DrawIsRefused, SplitsSeat}
-use Rattle.tj_words.specs.Steps.QuietSteps.{ClaimsTask, ReleasesTask, EndsTask, ShelvesTask, MovesRecord, MarksPromise}
+use Rattle.tj_words.specs.Steps.QuietSteps.{ClaimsTask, ReleasesTask, EndsTask, ShelvesTask, MovesRecord}
 use Rattle.tj_words.proofs.Seating.Appending.{hand_snoc, making_snoc, find_snoc, total_snoc}
-use Rattle.tj_words.proofs.Events.ShownCells.{states_same, stage_out}
+use Rattle.tj_words.proofs.Events.ShownCells.{stage_out}
 use Rattle.tj_words.proofs.Holders.TaskPlaces.{does_stage_there, begun_there, custody, held_here}
 use Rattle.tj_words.proofs.Events.TurnedTasks.{moved_nothing}
 
@@ -211,52 +207,3 @@ module _ {B : Type 0} where
           (kept_stage t (x.words.own t) u.before_it u.after_it (home_of x t) (home_of y t) d u.did u.now
           ∙ (λ j. stage_there t (phase_sort (sym same j)) (x.words.own t) (sym same j)
           (sym (held_here r id t u.before_it u.held) j) (home_of x t)))
-
-    pub mark_shown : (c : ℕ) (h h' : Hand) → MarksPromise cells x y c h h' → Quiet
-    mark_shown c h h' s =
-        states_same (shown_by r.born r.maker Y) (shown_by r.born r.maker X) m.drawn same m.others m.cleared
-      where
-        X : Parts B
-        X = parts_of cells x
-
-        Y : Parts B
-        Y = parts_of cells y
-
-        m : IsMarked c (parts_of cells x) (parts_of cells y)
-        m = s.others
-
-        here : cell_by r.born r.maker (parts_of cells y) c ≡ cell_by r.born r.maker (parts_of cells x) c
-        here = λ j. record {
-          maker = r.maker c;
-          name = (reference_of r.born c).name;
-          made = made_by (m.held j c) (m.home j c) + m.making j c;
-          owner = (ap (λ (o : Option Hand). owner_shown c o (y.words.own c)) s.marked
-              ∙ ((λ i. Some (first_owner (s.same_hand.2 i) (s.same_hand.1 i) c))
-              ∙ ap (λ (o : Option Hand). owner_shown c o (x.words.own c)) (sym s.in_hand))) j;
-          stage = (ap (λ (o : Option Hand).
-              stage_shown c o (y.words.own c) (y.words.phase c) (held_of y c) (home_of y c)) s.marked
-              ∙ ((λ i. hand_stage (s.same_hand.2 i))
-              ∙ ap (λ (o : Option Hand).
-              stage_shown c o (x.words.own c) (x.words.phase c) (held_of x c) (home_of x c)) (sym s.in_hand))) j;
-        }
-
-        else : (d : ℕ) → d ≢ c
-            → cell_by r.born r.maker (parts_of cells y) d ≡ cell_by r.born r.maker (parts_of cells x) d
-        else d n = λ j. record {
-          maker = r.maker d;
-          name = (reference_of r.born d).name;
-          made = made_by (m.held j d) (m.home j d) + m.making j d;
-          owner = owner_shown d (m.hands d n j) (m.own j d);
-          stage = stage_shown d (m.hands d n j) (m.own j d) (m.phases d n j) (m.held j d) (m.home j d);
-        }
-
-        cell_same : (d : ℕ) → cell_by r.born r.maker (parts_of cells y) d ≡ cell_by r.born r.maker (parts_of cells x) d
-        cell_same d = dite (ℕ_discrete d c)
-            (λ e. subst
-            (λ k. cell_by r.born r.maker (parts_of cells y) k ≡ cell_by r.born r.maker (parts_of cells x) k) (sym e)
-            here)
-            (λ n. else d n)
-
-        same : (d : ℕ) → (shown_by r.born r.maker (parts_of cells y)).cells d
-            ≡ (shown_by r.born r.maker (parts_of cells x)).cells d
-        same d = λ j. cond (nat_lt d (m.drawn j)) (cell_same d j) blank

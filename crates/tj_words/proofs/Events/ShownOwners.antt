@@ -1,19 +1,19 @@
 -- What the core state shows after a cell has another owner, or a cell in hand has its first one.
-use Rattle.std.proofs.Common.{◌≡◌, ◌≢◌, ℕ, ◌+◌, ◌<◌, cond, nat_lt, List, Option, Some, None, refl, sym, ap, ◌∙◌, subst}
+use Rattle.std.proofs.Common.{◌≡◌, ◌≢◌, ℕ, ◌+◌, ◌<◌, List, Option, None, refl, sym, ap, ◌∙◌, subst}
 use mathlib.Core.Logic.{dite}
 use native.Mathlib.Decide.{ℕ_discrete}
 use Rattle.tj_base.specs.declared.cell.Sort.TheVariants as sort
 use Rattle.tj_body.specs.declared.point.Reference.{Reference}
-use Rattle.tj_core.specs.CoreState.{CellState, Cells, CoreState, blank, ended, promise}
+use Rattle.tj_core.specs.CoreState.{CellState, Cells, CoreState, ended, promise}
 use Rattle.tj_base.specs.Puts.{put}
 use Rattle.tj_core.specs.Events.{staged, owned_by, alter, restage}
 use Rattle.tj_base.proofs.Puts.{put_here, put_else}
 use Rattle.tj_words.specs.declared.phase.Phase.{Phase}
 use Rattle.tj_words.specs.declared.view.Hand.{Hand}
 use Rattle.tj_words.specs.LawParts.Holding.{made_by}
-use Rattle.tj_words.specs.LawParts.ShownState.{phase_sort, first_owner, hand_stage, reference_of, owner_shown}
+use Rattle.tj_words.specs.LawParts.ShownState.{phase_sort, reference_of, owner_shown}
 use Rattle.tj_words.specs.LawParts.ShownState.{stage_there, stage_shown}
-use Rattle.tj_words.specs.Steps.ShownParts.{Parts, cell_by, shown_by, IsSameBut, IsSameButOwner, IsGivenOwner}
+use Rattle.tj_words.specs.Steps.ShownParts.{Parts, cell_by, shown_by, IsSameBut, IsSameButOwner}
 use Rattle.tj_words.proofs.Events.ShownCells.{states_same, with_cell, put_again, cell_there, one_cell, restaged}
 
 -- a stage put back is no change
@@ -172,61 +172,3 @@ module _ {B : Type 0} (born : List Reference) (maker : ℕ → ℕ) where
         owner = (ap (λ (o : Option Hand). owner_shown t o (y.own t)) no_hand ∙ free) j;
         stage = is_ended j;
       }
-
-  -- a cell in hand gets the owner that was shown: nothing shown is changed
-  pub owner_given : (x y : Parts B) (t c : ℕ) (h : Hand)
-      → IsGivenOwner t c x y
-      → t ≢ c
-      → c < x.drawn
-      → x.hand c ≡ Some h
-      → y.own c ≡ Some (first_owner h.sort h.maker c)
-      → made_by (y.held c) (y.home c) ≡ made_by (x.held c) (x.home c)
-      → stage_there c (phase_sort (x.phase c)) (y.own c) (x.phase c) (y.held c) (y.home c) ≡ hand_stage h.sort
-      → made_by (y.held t) (y.home t) + y.making t ≡ made_by (x.held t) (x.home t) + x.making t
-      → stage_shown t (x.hand t) (x.own t) (x.phase t) (y.held t) (y.home t)
-      ≡ stage_shown t (x.hand t) (x.own t) (x.phase t) (x.held t) (x.home t)
-      → shown_by born maker y ≡ record (shown_by born maker x) { others = y.others; cleared = y.cleared }
-  owner_given x y t c h s apart inside in_hand owns made_here stage_here made_maker stage_maker =
-      states_same (shown_by born maker y) (record (shown_by born maker x) { others = y.others; cleared = y.cleared })
-      s.drawn same refl refl
-    where
-      given : cell_by born maker y c ≡ cell_by born maker x c
-      given = λ j. record {
-        maker = maker c;
-        name = (reference_of born c).name;
-        made = made_here j + s.makings c (λ e. apart (sym e)) j;
-        owner = ((λ i. owner_shown c (s.hand i) (owns i))
-            ∙ ap (λ (o : Option Hand). owner_shown c o (x.own c)) (sym in_hand)) j;
-        stage = ((λ i. stage_shown c (s.hand i) (y.own c) (s.phase i c) (y.held c) (y.home c))
-            ∙ (stage_here
-            ∙ ap (λ (o : Option Hand). stage_shown c o (x.own c) (x.phase c) (x.held c) (x.home c)) (sym in_hand))) j;
-      }
-
-      its_maker : cell_by born maker y t ≡ cell_by born maker x t
-      its_maker = λ j. record {
-        maker = maker t;
-        name = (reference_of born t).name;
-        made = made_maker j;
-        owner = owner_shown t (s.hands t apart j) (s.owns t apart j);
-        stage = ((λ i. stage_shown t (s.hands t apart i) (s.owns t apart i) (s.phase i t) (y.held t) (y.home t))
-            ∙ stage_maker) j;
-      }
-
-      other : (d : ℕ) → d ≢ t → d ≢ c → cell_by born maker y d ≡ cell_by born maker x d
-      other d m n = λ j. record {
-        maker = maker d;
-        name = (reference_of born d).name;
-        made = made_by (s.helds d m n j) (s.home j d) + s.makings d m j;
-        owner = owner_shown d (s.hands d n j) (s.owns d n j);
-        stage = stage_shown d (s.hands d n j) (s.owns d n j) (s.phase j d) (s.helds d m n j) (s.home j d);
-      }
-
-      cell : (d : ℕ) → cell_by born maker y d ≡ cell_by born maker x d
-      cell d = dite (ℕ_discrete d c)
-          (λ e. subst (λ k. cell_by born maker y k ≡ cell_by born maker x k) (sym e) given)
-          (λ n. dite (ℕ_discrete d t)
-          (λ e. subst (λ k. cell_by born maker y k ≡ cell_by born maker x k) (sym e) its_maker)
-          (λ m. other d m n))
-
-      same : (d : ℕ) → (shown_by born maker y).cells d ≡ (shown_by born maker x).cells d
-      same d = λ j. cond (nat_lt d (s.drawn j)) (cell d j) blank

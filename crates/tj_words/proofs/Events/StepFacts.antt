@@ -55,14 +55,14 @@ module _ {B : Type 0} {program : Program B} {cells : ℕ} {x : Contents B} (r : 
   -- births after a draw
   pub births_after : Births (drawn_in cells y) born' maker' number' (made_of y) (hand_of y) y.words.phase
   births_after = back (λ j. Births (s.same.drawn j) born' maker' number' (made_of y) (hand_of y) (s.same.phase j))
-      (births_drawn (may_draw r y id t h s) (drawn_into r y id t h s) r.births)
+      (births_drawn (may_draw r y id t h s) (drawn_into r y id t h s) x.words.phase r.births)
 
   -- the tree of forks after a draw
   pub tree_after : IsForkTree (drawn_in cells y) born' maker' number' (forks_after h.sort h.maker n k r.forks)
       (hand_of y)
   tree_after = back (λ j. IsForkTree (s.same.drawn j) born' maker' number'
       (forks_after h.sort h.maker n k r.forks) (hand_of y))
-      (tree_drawn (may_draw r y id t h s) (drawn_into r y id t h s) r.births r.tree)
+      (tree_drawn (may_draw r y id t h s) (drawn_into r y id t h s) x.words.phase r.births r.tree)
 
   -- the words of the tree after a draw that writes none of them
   pub tree_words_after : y.words.once ≡ x.words.once
@@ -73,4 +73,5 @@ module _ {B : Type 0} {program : Program B} {cells : ℕ} {x : Contents B} (r : 
       y.words.once y.seats.dues
   tree_words_after same keeps news = back (λ j. TreeWords (s.same.drawn j) born' maker' number'
       (forks_after h.sort h.maker n k r.forks) (hand_of y) (same j) y.seats.dues)
-      (tree_words_drawn (may_draw r y id t h s) (drawn_into r y id t h s) r.births r.tree_words keeps news)
+      (tree_words_drawn (may_draw r y id t h s) (drawn_into r y id t h s) x.words.phase r.births r.tree_words keeps
+      news)

@@ -21,7 +21,7 @@ use Rattle.tj_words.specs.Steps.StepEvents.{wait_in}
 use Rattle.tj_words.proofs.Stores.SeatContents.{set_seats, seats_same}
 use Rattle.tj_words.proofs.Stores.SlotStores.{StoresWith}
 use Rattle.tj_words.proofs.Holders.HeldTasks.{none_some}
-use Rattle.tj_words.proofs.Holders.NotedTasks.{holder_lot}
+use Rattle.tj_words.proofs.Holders.NotedTasks.{holder_lot, holder_named}
 use Rattle.tj_words.proofs.Holders.LaidRecords.{fits}
 use Rattle.tj_words.proofs.Phases.PhaseStores.{with_phase, phase_stores}
 
@@ -42,6 +42,7 @@ module _ {B : Type 0} (program : Bool → B → Program B) (key : Key B) (s : St
       → IsSeat key (left_view tokens)
   left_seat tokens k held fits backs = let h = r.seats id v at in let l = h.within_lot in record {
     about = h.about;
+    named = inr (holder_named v t k held h.named);
     within_lot = record {
       least = inr (holder_lot v t k held l);
       refused_fit = l.refused_fit;

@@ -3,6 +3,8 @@ use Rattle.std.proofs.Common.{◌≡◌, ℕ, ◌≤◌, List, Some, ap, ⊎_eli
 use Rattle.tj_words.specs.declared.view.Custody.{Custody}
 use Rattle.tj_words.specs.declared.view.View.{View}
 use Rattle.tj_words.specs.LawParts.Holding.{held_in}
+use Rattle.tj_words.specs.Law.{IsNamed}
+use Rattle.tj_words.specs.declared.view.About.{About}
 use Rattle.tj_words.specs.LawParts.Lots.{least_lot, IsSpent, IsWithinLot}
 use Rattle.tj_words.specs.SeatViews.TaskLists.{hold, note, noted}
 use Rattle.tj_words.proofs.Holders.HeldTasks.{none_some}
@@ -19,3 +21,10 @@ pub holder_lot : {B : Type 0} (v : View B) (t : ℕ) (k : Custody B) → held_in
 holder_lot v t k e l = ⊎_elim
     (λ (s : IsSpent v). none_some (held_in v.tasks t) k (ap (λ ks. held_in ks t) s.1) e)
     (λ h. h) l.least
+
+-- and names a table
+pub holder_named : {B : Type 0} (v : View B) (t : ℕ) (k : Custody B) → held_in v.tasks t ≡ Some k → IsNamed v
+    → (a : About B) × (v.about ≡ Some a)
+holder_named v t k e n = ⊎_elim
+    (λ (s : IsSpent v). none_some (held_in v.tasks t) k (ap (λ ks. held_in ks t) s.1) e)
+    (λ h. h) n

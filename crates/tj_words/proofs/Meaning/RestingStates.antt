@@ -55,12 +55,12 @@ map_back f (x ∷ xs) zero c e = (x, refl, some-injective (f x) c e)
 map_back f (x ∷ xs) (suc i) c e = map_back f xs i c e
 
 -- one of the numbers, and two of them, are no more than the sum
-one_part : (l : List ℕ) (i a : ℕ) → get_elem? l i ≡ some a → a ≤ total l
+pub one_part : (l : List ℕ) (i a : ℕ) → get_elem? l i ≡ some a → a ≤ total l
 one_part [] i a e = absurd (some-ne-none a (sym e))
 one_part (x ∷ xs) zero a e = let q : x ≡ a = some-injective x a e in omega arith
 one_part (x ∷ xs) (suc i) a e = let q = one_part xs i a e in omega arith
 
-two_parts : (l : List ℕ) (i j a b : ℕ) → j ≢ i → get_elem? l i ≡ some a → get_elem? l j ≡ some b → a + b ≤ total l
+pub two_parts : (l : List ℕ) (i j a b : ℕ) → j ≢ i → get_elem? l i ≡ some a → get_elem? l j ≡ some b → a + b ≤ total l
 two_parts [] i j a b n e f = absurd (some-ne-none a (sym e))
 two_parts (x ∷ xs) zero zero a b n e f = absurd (n refl)
 two_parts (x ∷ xs) zero (suc j) a b n e f = let q : x ≡ a = some-injective x a e in let p = one_part xs j b f in

@@ -1,34 +1,11 @@
 -- The law after a task leaves its seat with its record at home: it is ready, has ended, or was shelved.
-use Rattle.std.proofs.Common.{◌≡◌, ◌≢◌, ℕ, List, set, Option, Some, None, refl, sym, ap, ◌∙◌, subst}
-use mathlib.Core.Logic.{dite}
-use mathlib.Core.Option.{some}
-use native.Mathlib.Decide.{ℕ_discrete}
-use lib.ListN.{get_elem?}
-use Rattle.tj_base.specs.declared.cell.CellId.{CellId}
+use Rattle.tj_words.proofs.Prelude.{AreThere, CellId, Chains, Contents, CoreFacts, Custody, Does, Hand, IsHeldWith}
+use Rattle.tj_words.proofs.Prelude.{IsKept, Law, LiesAtHome, List, LiveCount, None, Option, Phase, Program, Push, Rec}
+use Rattle.tj_words.proofs.Prelude.{RecordsFit, Slots, Some, Walk, Way, ap, core_shown, dite, drawn_in, get_elem?}
+use Rattle.tj_words.proofs.Prelude.{hand_of, held_in, home_in, home_of, let_go, numbers, phase_sort, record_cells}
+use Rattle.tj_words.proofs.Prelude.{record_in, refl, set, some, subst, sym, tag_in, ℕ, ℕ_discrete, ◌∙◌, ◌≡◌, ◌≢◌}
 use Rattle.tj_base.specs.declared.cell.Sort.TheVariants as sort
-use Rattle.tj_body.specs.Programs.{Program}
-use Rattle.tj_core.specs.CoreFacts.{CoreFacts}
-use Rattle.tj_core.specs.declared.walk.Way.{Way}
-use Rattle.tj_words.specs.declared.phase.Walk.{Walk}
-use Rattle.tj_words.specs.declared.phase.Phase.{Phase}
 use Rattle.tj_words.specs.declared.phase.Phase.TheVariants as phase
-use Rattle.tj_words.specs.declared.record.Rec.{Rec}
-use Rattle.tj_words.specs.declared.view.Custody.{Custody}
-use Rattle.tj_words.specs.declared.view.Does.{Does}
-use Rattle.tj_words.specs.declared.view.Hand.{Hand}
-use Rattle.tj_words.specs.declared.view.Push.{Push}
-use Rattle.tj_words.specs.Words.Lists.{numbers}
-use Rattle.tj_words.specs.LawParts.Holding.{Slots, record_in, home_in, held_in}
-use Rattle.tj_words.specs.LawParts.NamedCells.{record_cells, AreThere}
-use Rattle.tj_words.specs.LawParts.ShownState.{phase_sort}
-use Rattle.tj_words.specs.LawParts.Custodies.{LiesAtHome, IsKept}
-use Rattle.tj_words.specs.LawParts.RecordPhases.{RecordsFit}
-use Rattle.tj_words.specs.LawParts.Chains.{Chains}
-use Rattle.tj_words.specs.LawParts.LiveCount.{LiveCount}
-use Rattle.tj_words.specs.SeatViews.TaskLists.{let_go}
-use Rattle.tj_words.specs.LawParts.Contents.{Contents, drawn_in, tag_in, hand_of, home_of, core_shown}
-use Rattle.tj_words.specs.Law.{Law}
-use Rattle.tj_words.specs.Steps.StepEvents.{IsHeldWith}
 use Rattle.tj_words.specs.Steps.WalkSteps.{Leaves}
 use Rattle.tj_words.proofs.Meaning.MeaningGrows.{Meant}
 use Rattle.tj_words.proofs.Meaning.LawMeant.{ground_of, known_of}
@@ -120,6 +97,7 @@ module _ {B : Type 0} {program : Program B} {cells : ℕ} {x : Contents B} (r : 
       once_words = r.once_words;
       chains = chains;
       live_count = count;
+      stops = r.stops;
       waiters_own = λ u c way w e. dite (ℕ_discrete u t)
           (λ z. let y = d.waits c way w (sym d.here ∙ (ap phases (sym z) ∙ e)) in
           subst (λ i. x.words.own i ≢ None) (sym z) (r.waiters_own t c way y.0 y.1))

@@ -1,31 +1,13 @@
 -- The store of Ended keeps the rule: the record comes home with its finish, and the task leaves its seat.
-use Rattle.std.proofs.Common.{◌≡◌, ℕ, suc, ◌<◌, Bool, true, [], set}
-use Rattle.std.proofs.Common.{Option, Some, None, refl, sym, ap, ◌∙◌, subst, arith}
-use mathlib.Core.Option.{some}
-use lib.ListN.{get_elem?}
-use Rattle.atomic_table.specs.Table.{State}
-use Rattle.tj_base.specs.Puts.{put}
-use Rattle.tj_body.specs.Points.{IsIn}
-use Rattle.tj_body.specs.Programs.{Program}
-use Rattle.tj_core.specs.CoreState.{CoreState, owner, is_task, IsTask}
-use Rattle.tj_words.specs.declared.phase.Phase.{Phase}
+use Rattle.tj_words.proofs.Prelude.{Bool, Contents, CoreState, Custody, IsHeldWith, IsIn, Key, Law, None, Option, Phase}
+use Rattle.tj_words.proofs.Prelude.{Program, Rec, Rule, SeatsHave, Slots, SlotsOf, Some, State, View, [], ap, arith}
+use Rattle.tj_words.proofs.Prelude.{contents_of, core_shown, drawn_in, get_elem?, hand_of, home_of, live_part, numbers}
+use Rattle.tj_words.proofs.Prelude.{owned_by, owner, parts_of, phase_at, phase_in, phase_of, phase_word, put, refl}
+use Rattle.tj_words.proofs.Prelude.{seats_have, set, some, subst, suc, sym, true, wait_in, word, ℕ, ◌<◌, ◌∙◌, ◌≡◌}
+use Rattle.tj_core.specs.CoreState.{is_task, IsTask}
 use Rattle.tj_words.specs.declared.phase.Phase.TheVariants as phase
-use Rattle.tj_words.specs.declared.record.Rec.{Rec}
-use Rattle.tj_words.specs.declared.table.Key.{Key}
-use Rattle.tj_words.specs.declared.view.Custody.{Custody}
 use Rattle.tj_words.specs.declared.view.Does.TheVariants as does
-use Rattle.tj_words.specs.declared.view.View.{View}
-use Rattle.tj_words.specs.Words.Lists.{numbers}
-use Rattle.tj_words.specs.LawParts.Holding.{phase_of, Slots, owned_by}
-use Rattle.tj_words.specs.Words.Offsets.{word, phase_at}
-use Rattle.tj_words.specs.Words.Phases.{phase_word, phase_in}
-use Rattle.tj_words.specs.LawParts.LiveCount.{live_part}
-use Rattle.tj_words.specs.LawParts.Contents.{SeatsHave, seats_have, Contents, contents_of, drawn_in, hand_of}
-use Rattle.tj_words.specs.LawParts.Contents.{home_of, core_shown}
-use Rattle.tj_words.specs.Law.{Law, Rule}
-use Rattle.tj_words.specs.Calls.LiveViews.{SlotsOf, ended, MayEnd}
-use Rattle.tj_words.specs.Steps.ShownParts.{parts_of}
-use Rattle.tj_words.specs.Steps.StepEvents.{IsHeldWith, wait_in}
+use Rattle.tj_words.specs.Calls.LiveViews.{ended, MayEnd}
 use Rattle.tj_words.proofs.Stores.StoreSteps.{put_here, put_else}
 use Rattle.tj_words.proofs.Stores.SlotStores.{StoresWith}
 use Rattle.tj_words.proofs.Holders.HeldTasks.{none_some}
@@ -40,6 +22,13 @@ use Rattle.tj_words.proofs.Holders.LaidRecords.{tokens_at, tasks_at, laid_slots,
 use Rattle.tj_words.proofs.Holders.LaidRecords.{departs_laid, fits}
 use Rattle.tj_words.proofs.Phases.Departures.{Departs, after_leaving, does_leave, law_leaves}
 use Rattle.tj_words.proofs.Holders.LeftSeats.{left_seat, left_stores}
+use Rattle.tj_words.specs.Steps.QuietSteps.{EndsTask}
+use Rattle.tj_words.proofs.Stores.StepContents.{stored_with}
+use Rattle.tj_words.specs.CallLaws.EventCalls.{Keeping}
+use Rattle.tj_words.proofs.Calls.KeptCells.{kept_moved}
+use Rattle.tj_words.proofs.Stores.TableWords as table_word
+use Rattle.tj_words.proofs.Stores.SeatContents.{seats_same}
+use Rattle.tj_words.specs.SeatViews.TaskLists.{let_go}
 
 module _ {B : Type 0} {program : Program B} {cells : ℕ} {x : Contents B} (r : Law program cells x) (id t : ℕ)
     (k : Custody B) (h : IsHeldWith x id t k) where
@@ -108,6 +97,30 @@ module _ {B : Type 0} (program : Bool → B → Program B) (key : Key B) (s : St
     after_end = after_leaving r.law id t over phase.Ended end_slots departs_over x.words.live
         (set old.tokens id (suc v.tokens)) old.pushes
 
+    abbrev ends : EndsTask key.cells x after_end id t
+    ends = record {
+      leaves = does_leave r.law id t over phase.Ended end_slots departs_over x.words.live
+          (set old.tokens id (suc v.tokens)) old.pushes does.Running h.runs;
+      closed = unowned r.law id t h.custody (v.tasks, tasks_here, h.held) h.runs none
+          (task_there program key s r id t v at mine h.custody h.held h.record_of h.puts h.no_hand).1;
+      keeps = record { others = refl; cleared = refl };
+    }
+
+    -- a call that makes the store ends the task
+    pub end_keeps : (y : Contents B) (word : ℕ) → phase_in word ≡ phase.Ended
+        → y ≡ stored_with s id (table_word.Phase t) word end_slots (ended t v)
+        → Keeping key.cells x y (EndsTask key.cells x y id t)
+    end_keeps y word is e = subst (λ z. Keeping key.cells x z (EndsTask key.cells x z id t))
+        (sym (e ∙ (λ j. record {
+          words = record x.words { phase = put x.words.phase t (is j) };
+          slots = end_slots;
+          seats = record (seats_same s.views id v at j) {
+            tokens = set old.tokens id (suc v.tokens);
+            tasks = set old.tasks id (let_go t v.tasks);
+          };
+        })))
+        (ends, kept_moved key.cells x after_end t phase.Ended None (Some h.record_of) ends.leaves.moved refl)
+
     end_law : Law P key.cells after_end
     end_law = law_leaves r.law id t over phase.Ended end_slots departs_over x.words.live
         (set old.tokens id (suc v.tokens)) old.pushes
@@ -121,13 +134,7 @@ module _ {B : Type 0} (program : Bool → B → Program B) (key : Key B) (s : St
         departs_over.here departs_over.else ((h.finish, h.finished), h.owns_none))
         (meant program key s r id t v at mine h.custody h.held h.record_of h.puts h.no_hand)
         (facts_same key.cells r.law.born r.law.maker x after_end
-        (end_shown r.law after_end id t record {
-          leaves = does_leave r.law id t over phase.Ended end_slots departs_over x.words.live
-              (set old.tokens id (suc v.tokens)) old.pushes does.Running h.runs;
-          closed = unowned r.law id t h.custody (v.tasks, tasks_here, h.held) h.runs none
-              (task_there program key s r id t v at mine h.custody h.held h.record_of h.puts h.no_hand).1;
-          keeps = record { others = refl; cleared = refl };
-        }) r.law.facts)
+        (end_shown r.law after_end id t ends) r.law.facts)
 
     pub end_stores : (word : ℕ) → phase_in word ≡ phase.Ended → word ≡ phase_word phase.Ended
         → StoresWith program key s (set s.homes t (some (Some h.record_of))) id (phase_at t) word (ended t v)

@@ -1,28 +1,13 @@
 -- The law after the record of an unborn task has come home, while a seat holds the task.
-use Rattle.std.proofs.Common.{◌≡◌, ◌≢◌, ℕ, ◌+◌, List, set, Option, Some, None, refl, sym, ap, ◌∙◌, subst, arith}
-use mathlib.Core.Logic.{dite}
-use mathlib.Core.Option.{some}
-use native.Mathlib.Decide.{ℕ_discrete}
-use lib.ListN.{get_elem?}
-use Rattle.tj_body.specs.Programs.{Program}
+use Rattle.tj_words.proofs.Prelude.{AreThere, Births, Contents, Custodies, Custody, Hand, Hands, IsCustody, IsHeldWith}
+use Rattle.tj_words.proofs.Prelude.{IsKept, IsThere, Law, List, LiveCount, NamesCells, None, Option, OwnedLists}
+use Rattle.tj_words.proofs.Prelude.{Program, Rec, RecordsFit, Slots, Some, ap, arith, dite, drawn_in, find_in}
+use Rattle.tj_words.proofs.Prelude.{get_elem?, hand_of, held_in, held_of, hold, home_in, home_of, made_by, made_of}
+use Rattle.tj_words.proofs.Prelude.{making, numbers, owned_by, owned_of, phase_of, record_cells, record_in, refl, set}
+use Rattle.tj_words.proofs.Prelude.{some, subst, sym, tag_in, ℕ, ℕ_discrete, ◌+◌, ◌∙◌, ◌≡◌, ◌≢◌}
 use Rattle.tj_words.specs.declared.phase.Phase.TheVariants as phase
-use Rattle.tj_words.specs.declared.record.Rec.{Rec}
-use Rattle.tj_words.specs.declared.view.Custody.{Custody}
 use Rattle.tj_words.specs.declared.view.Does.TheVariants as does
-use Rattle.tj_words.specs.declared.view.Hand.{Hand}
-use Rattle.tj_words.specs.Words.Lists.{numbers}
-use Rattle.tj_words.specs.LawParts.Holding.{phase_of, Slots, record_in, home_in, held_in, find_in, owned_by, made_by}
-use Rattle.tj_words.specs.LawParts.Hands.{making, Hands, IsThere}
-use Rattle.tj_words.specs.LawParts.NamedCells.{record_cells, AreThere, NamesCells}
-use Rattle.tj_words.specs.LawParts.Custodies.{OwnedLists, IsKept, IsCustody, Custodies}
-use Rattle.tj_words.specs.LawParts.TreeWords.{Births}
-use Rattle.tj_words.specs.LawParts.RecordPhases.{RecordsFit}
-use Rattle.tj_words.specs.LawParts.LiveCount.{LiveCount}
-use Rattle.tj_words.specs.SeatViews.TaskLists.{hold}
-use Rattle.tj_words.specs.LawParts.Contents.{Contents, drawn_in, tag_in, hand_of, held_of, home_of, owned_of, made_of}
-use Rattle.tj_words.specs.Law.{Law}
 use Rattle.tj_words.specs.Calls.LiveViews.{now_home}
-use Rattle.tj_words.specs.Steps.StepEvents.{IsHeldWith}
 use Rattle.tj_words.specs.Steps.QuietSteps.{MovesRecord}
 use Rattle.tj_words.proofs.Meaning.MeaningGrows.{Meant}
 use Rattle.tj_words.proofs.Meaning.LawMeant.{ground_of, known_of}
@@ -216,6 +201,7 @@ module _ {B : Type 0} {program : Program B} {cells : ℕ} {x : Contents B} (r : 
       once_words = r.once_words;
       chains = r.chains;
       live_count = count;
+      stops = r.stops;
       waiters_own = r.waiters_own;
       records_fit = fit;
       meaning = meant;

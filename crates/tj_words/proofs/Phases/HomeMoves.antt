@@ -1,41 +1,15 @@
 -- The task of a record that lies at home goes to another phase: it stays at home, or a seat takes it, with its record.
 -- The law after that.
-use Rattle.std.proofs.Common.{◌≡◌, ◌≢◌, ℕ, ◌+◌, ◌≤◌, List, set, Option, Some, None, refl, sym, ap, ◌∙◌, subst}
-use Rattle.std.proofs.Common.{arith}
-use mathlib.Core.Logic.{dite}
-use mathlib.Core.Option.{some}
-use native.Mathlib.Decide.{ℕ_discrete}
-use lib.ListN.{get_elem?}
-use Rattle.tj_base.specs.Puts.{put}
-use Rattle.tj_base.specs.declared.cell.CellId.{CellId}
+use Rattle.tj_words.proofs.Prelude.{All, AreThere, Births, CellId, Chains, Contents, CoreFacts, Custodies, Custody}
+use Rattle.tj_words.proofs.Prelude.{Filled, Hand, Hands, IsCustody, IsKept, IsThere, Law, List, LiveCount, Meaning}
+use Rattle.tj_words.proofs.Prelude.{NamesCells, None, OfSeat, Option, OwnedLists, Phase, Program, Push, Rec, RecordsFit}
+use Rattle.tj_words.proofs.Prelude.{Reference, Rest, Slots, Some, WaitersOwn, Walk, Way, ap, arith, bits_in, core_shown}
+use Rattle.tj_words.proofs.Prelude.{dite, does_cells, drawn_in, find_in, get_elem?, hand_of, held_in, held_of, home_in}
+use Rattle.tj_words.proofs.Prelude.{home_of, made_by, making, numbers, owned_by, owned_of, phase_sort, put, record_in}
+use Rattle.tj_words.proofs.Prelude.{refl, set, some, sort_shown, subst, sym, tag_in, ℕ, ℕ_discrete, ◌+◌, ◌∙◌, ◌≡◌, ◌≢◌}
+use Rattle.tj_words.proofs.Prelude.{◌≤◌}
 use Rattle.tj_base.specs.declared.cell.Sort.TheVariants as sort
-use Rattle.tj_body.specs.Programs.{Program}
-use Rattle.tj_body.specs.declared.point.Reference.{Reference}
-use Rattle.tj_core.specs.CoreFacts.{CoreFacts}
-use Rattle.tj_core.specs.declared.walk.Way.{Way}
-use Rattle.tj_words.specs.declared.phase.Walk.{Walk}
-use Rattle.tj_words.specs.declared.phase.Phase.{Phase}
 use Rattle.tj_words.specs.declared.phase.Phase.TheVariants as phase
-use Rattle.tj_words.specs.declared.record.Rec.{Rec}
-use Rattle.tj_words.specs.declared.view.Hand.{Hand}
-use Rattle.tj_words.specs.declared.view.Custody.{Custody}
-use Rattle.tj_words.specs.declared.view.Filled.{Filled}
-use Rattle.tj_words.specs.declared.view.Push.{Push}
-use Rattle.tj_words.specs.declared.view.Rest.{Rest}
-use Rattle.tj_words.specs.Words.Lists.{OfSeat, All, numbers}
-use Rattle.tj_words.specs.LawParts.Holding.{Slots, record_in, home_in, held_in, find_in, owned_by, made_by}
-use Rattle.tj_words.specs.LawParts.Hands.{IsThere, making, Hands}
-use Rattle.tj_words.specs.LawParts.NamedCells.{does_cells, AreThere, NamesCells}
-use Rattle.tj_words.specs.LawParts.ShownState.{phase_sort, sort_shown}
-use Rattle.tj_words.specs.LawParts.TreeWords.{Births}
-use Rattle.tj_words.specs.LawParts.Custodies.{OwnedLists, IsKept, IsCustody, Custodies}
-use Rattle.tj_words.specs.LawParts.Chains.{Chains}
-use Rattle.tj_words.specs.LawParts.LiveCount.{LiveCount}
-use Rattle.tj_words.specs.LawParts.RecordPhases.{WaitersOwn, RecordsFit}
-use Rattle.tj_words.specs.LawParts.Meaning.{Meaning}
-use Rattle.tj_words.specs.LawParts.Contents.{Contents, drawn_in, tag_in, bits_in, hand_of, held_of, home_of, owned_of}
-use Rattle.tj_words.specs.LawParts.Contents.{core_shown}
-use Rattle.tj_words.specs.Law.{Law}
 use Rattle.tj_words.proofs.Cells.HandChanges.{births_on}
 use Rattle.tj_words.proofs.Phases.PhaseSorts.{sorts_same}
 use Rattle.tj_words.proofs.Stores.StoreSteps.{put_here, put_else}
@@ -268,6 +242,7 @@ module _ {B : Type 0} {program : Program B} {cells : ℕ} {x : Contents B} (r : 
         once_words = r.once_words;
         chains = chains;
         live_count = live;
+        stops = r.stops;
         waiters_own = moved_waiters;
         records_fit = fit;
         meaning = meaning;

@@ -1,15 +1,8 @@
 -- The stores of Ready and of Ended as steps of the table.
-use Rattle.std.proofs.Common.{◌≡◌, ℕ, ◌<◌, Bool, Some, sym, ap, subst}
-use mathlib.Core.Option.{none}
-use Rattle.atomic_table.specs.Table.{step, rest, Allows}
-use Rattle.tj_body.specs.Programs.{Program}
+use Rattle.tj_words.proofs.Prelude.{Allows, Bool, Key, Program, Rule, SeatMe, Some, ap, none, phase_at, phase_in}
+use Rattle.tj_words.proofs.Prelude.{phase_word, rest, step, subst, sym, ℕ, ◌<◌, ◌≡◌}
 use Rattle.tj_words.specs.declared.phase.Phase.TheVariants as phase
-use Rattle.tj_words.specs.declared.table.Key.{Key}
-use Rattle.tj_words.specs.Law.{Rule}
 use Rattle.tj_words.specs.Calls.LiveViews.{released, ended, ready_store, ended_store, MayRelease, MayEnd}
-use Rattle.tj_words.specs.Words.Offsets.{phase_at}
-use Rattle.tj_words.specs.Words.Phases.{phase_word, phase_in}
-use Rattle.tj_words.specs.SeatViews.SeatSteps.{SeatMe}
 use Rattle.tj_words.proofs.Stores.SlotStores.{Acts, acts_keeping}
 use Rattle.tj_words.proofs.Phases.ReadyStores.{ready_stores}
 use Rattle.tj_words.proofs.Phases.EndedStores.{end_stores}

@@ -1,40 +1,16 @@
 -- The law after a store of PHASE by which a task that its seat holds does something else from then on: it walks, or has
 -- alarmed.
-use Rattle.std.proofs.Common.{◌≡◌, ◌≢◌, ℕ, ◌&&◌, List, set, Some, None, refl, sym, ap, ◌∙◌}
-use Rattle.std.proofs.Common.{subst, inl, arith}
-use mathlib.Core.Logic.{dite}
-use mathlib.Core.Option.{some, some-injective}
-use native.Mathlib.Decide.{ℕ_discrete}
-use lib.ListN.{get_elem?}
-use Rattle.atomic_table.proofs.Lists.{at_longer}
+use Rattle.tj_words.proofs.Prelude.{AreThere, Begins, CellId, Contents, CoreFacts, Custody, Does, Hand, IsBegun, IsCell}
+use Rattle.tj_words.proofs.Prelude.{IsHeldWith, IsIn, IsParkedOn, IsTurned, Law, List, LiveCount, None, OwnedLists}
+use Rattle.tj_words.proofs.Prelude.{Phase, Program, Reference, Some, Walk, Way, ap, arith, at_longer, core_shown, dite}
+use Rattle.tj_words.proofs.Prelude.{does_cells, drawn_in, get_elem?, hand_in, hand_of, hold, home_of, inl, phase_of}
+use Rattle.tj_words.proofs.Prelude.{phase_sort, put, reference_of, refl, set, some, some-injective, sort_shown, subst}
+use Rattle.tj_words.proofs.Prelude.{sym, tag_in, wait_in, ℕ, ℕ_discrete, ◌∙◌, ◌≡◌, ◌≢◌}
+use Rattle.std.proofs.Common.{◌&&◌}
 use Rattle.tj_base.specs.ForkOrder.{before}
-use Rattle.tj_base.specs.Puts.{put}
-use Rattle.tj_base.specs.declared.cell.CellId.{CellId}
-use Rattle.tj_body.specs.Points.{Begins, IsIn}
-use Rattle.tj_body.specs.Programs.{Program}
-use Rattle.tj_body.specs.declared.point.Reference.{Reference}
-use Rattle.tj_core.specs.CoreFacts.{CoreFacts}
 use Rattle.tj_core.specs.Events.{way_if}
-use Rattle.tj_core.specs.declared.walk.Way.{Way}
-use Rattle.tj_words.specs.declared.phase.Walk.{Walk}
-use Rattle.tj_words.specs.declared.phase.Phase.{Phase}
 use Rattle.tj_words.specs.declared.phase.Phase.TheVariants as phase
-use Rattle.tj_words.specs.declared.view.Does.{Does}
 use Rattle.tj_words.specs.declared.view.Does.TheVariants as does
-use Rattle.tj_words.specs.declared.view.Custody.{Custody}
-use Rattle.tj_words.specs.declared.view.Hand.{Hand}
-use Rattle.tj_words.specs.LawParts.Holding.{phase_of}
-use Rattle.tj_words.specs.LawParts.Hands.{hand_in}
-use Rattle.tj_words.specs.LawParts.NamedCells.{does_cells, AreThere}
-use Rattle.tj_words.specs.LawParts.TreeWords.{IsCell}
-use Rattle.tj_words.specs.LawParts.Custodies.{OwnedLists}
-use Rattle.tj_words.specs.LawParts.LiveCount.{LiveCount}
-use Rattle.tj_words.specs.LawParts.Chains.{IsParkedOn}
-use Rattle.tj_words.specs.LawParts.ShownState.{phase_sort, sort_shown, reference_of}
-use Rattle.tj_words.specs.SeatViews.TaskLists.{hold}
-use Rattle.tj_words.specs.LawParts.Contents.{Contents, drawn_in, tag_in, hand_of, home_of, core_shown}
-use Rattle.tj_words.specs.Law.{Law}
-use Rattle.tj_words.specs.Steps.StepEvents.{IsBegun, wait_in, IsHeldWith, IsTurned}
 use Rattle.tj_words.specs.Steps.WalkSteps.{way_by, is_task_sort}
 use Rattle.tj_words.specs.Calls.WaitViews.{now_does}
 use Rattle.tj_words.proofs.Stores.StoreSteps.{put_here, put_else}
@@ -46,7 +22,8 @@ use Rattle.tj_words.proofs.Holders.HeldChanges.{owned_held, made_held, hands_hel
 use Rattle.tj_words.proofs.Waiters.ChainFacts.{held_free}
 use Rattle.tj_words.proofs.Waiters.ChainPhases.{chains_turn}
 use Rattle.tj_words.proofs.Holders.RecordSteps.{out_fit}
-use Rattle.tj_words.proofs.Cells.HandChanges.{births_on}
+use Rattle.tj_words.proofs.Stores.SeatLists.{back}
+use Rattle.tj_words.specs.LawParts.TreeWords.{BirthsBy}
 use Rattle.tj_words.proofs.Phases.PhaseSorts.{does_sort, sorts_same}
 
 -- what a list of cells has at an index
@@ -140,7 +117,8 @@ module _ {B : Type 0} {program : Program B} {cells : ℕ} {x : Contents B} (r : 
         walks = walks_held r id t k k' h its there;
         knows = r.names.knows;
       };
-      births = births_on r.births (λ u i. i) sorts (λ u g e. (g, e, refl)) (made_held r id t k k' h its refl);
+      births = back (λ j. BirthsBy (drawn_in cells x) r.born r.maker r.number
+          (λ u. made_held r id t k k' h its refl u j) (hand_of x) (λ u. sorts u j)) r.births;
       tree = r.tree;
       tree_words = r.tree_words;
       custody = custody_held r id t k k' h its phases else here (λ a. empty)
@@ -150,6 +128,7 @@ module _ {B : Type 0} {program : Program B} {cells : ℕ} {x : Contents B} (r : 
       chains = chains_turn r.chains t (phase_of d)
           (λ c q. held_free k.does c (subst (λ z. IsParkedOn z c) (custody r id t k h).does q)) (held_free d);
       live_count = live;
+      stops = r.stops;
       waiters_own = λ u c way w e. dite (ℕ_discrete u t)
           (λ z. subst (λ i. x.words.own i ≢ None) (sym z) owns)
           (λ m. r.waiters_own u c way w (sym (else u m) ∙ e));

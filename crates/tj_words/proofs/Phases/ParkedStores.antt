@@ -1,36 +1,13 @@
 -- The store of Parked keeps the rule: the record comes home, the task leaves its seat, and its push is to come.
-use Rattle.std.proofs.Common.{◌≡◌, ℕ, suc, ◌<◌, Bool, List, ◌∷◌, set, Option, Some, refl, sym, ap, ◌∙◌}
-use Rattle.std.proofs.Common.{subst, arith}
-use mathlib.Core.Option.{some}
-use lib.ListN.{get_elem?}
-use Rattle.atomic_table.specs.Table.{State}
-use Rattle.atomic_table.proofs.Lists.{at_map}
-use Rattle.tj_base.specs.Puts.{put}
-use Rattle.tj_body.specs.Programs.{Program}
-use Rattle.tj_core.specs.Laws.{EventKeepsFacts}
-use Rattle.tj_core.specs.declared.walk.Way.{Way}
+use Rattle.tj_words.proofs.Prelude.{None, Bool, Contents, Custody, EventKeepsFacts, IsHeldWith, IsParkedOn, IsPhaseWord, Key}
+use Rattle.tj_words.proofs.Prelude.{Law, List, Option, Phase, Program, Push, Rec, Rule, SeatMe, SeatsHave, Slots, Some}
+use Rattle.tj_words.proofs.Prelude.{State, View, Way, ap, arith, at_map, cell, contents_of, get_elem?, let_go}
+use Rattle.tj_words.proofs.Prelude.{live_part, phase_at, phase_in, phase_of, put, refl, seats_have, set, some, subst}
+use Rattle.tj_words.proofs.Prelude.{suc, sym, ℕ, ◌<◌, ◌∙◌, ◌∷◌, ◌≡◌}
 use Rattle.tj_words.specs.declared.phase.Walk.TheVariants as walk
-use Rattle.tj_words.specs.declared.phase.Phase.{Phase}
 use Rattle.tj_words.specs.declared.phase.Phase.TheVariants as phase
-use Rattle.tj_words.specs.declared.record.Rec.{Rec}
-use Rattle.tj_words.specs.declared.table.Key.{Key}
-use Rattle.tj_words.specs.declared.view.Custody.{Custody}
 use Rattle.tj_words.specs.declared.view.Does.TheVariants as does
-use Rattle.tj_words.specs.declared.view.Push.{Push}
-use Rattle.tj_words.specs.declared.view.View.{View}
-use Rattle.tj_words.specs.Words.Lists.{cell}
-use Rattle.tj_words.specs.LawParts.Holding.{phase_of, Slots}
-use Rattle.tj_words.specs.Words.Offsets.{phase_at}
-use Rattle.tj_words.specs.Words.Phases.{phase_in}
-use Rattle.tj_words.specs.Words.Codes.{IsPhaseWord}
-use Rattle.tj_words.specs.LawParts.Chains.{IsParkedOn}
-use Rattle.tj_words.specs.LawParts.LiveCount.{live_part}
 use Rattle.tj_words.specs.Calls.ParkSteps.{new_push}
-use Rattle.tj_words.specs.SeatViews.TaskLists.{let_go}
-use Rattle.tj_words.specs.LawParts.Contents.{SeatsHave, seats_have, Contents, contents_of}
-use Rattle.tj_words.specs.Law.{Law, Rule}
-use Rattle.tj_words.specs.SeatViews.SeatSteps.{SeatMe}
-use Rattle.tj_words.specs.Steps.StepEvents.{IsHeldWith}
 use Rattle.tj_words.specs.Steps.WalkSteps.{StoresParked}
 use Rattle.tj_words.specs.Calls.WaitViews.{parked, MayPark}
 use Rattle.tj_words.proofs.Stores.SeatContents.{seats_same}
@@ -46,6 +23,10 @@ use Rattle.tj_words.proofs.Events.WalkEvents.{settle_shown}
 use Rattle.tj_words.proofs.Phases.WaitStores.{more_seat}
 use Rattle.tj_words.proofs.Holders.LaidRecords.{tokens_at, tasks_at, laid_slots, as_many, meant, departs_laid, fits}
 use Rattle.tj_words.proofs.Phases.Departures.{Departs, after_leaving, does_leave, law_leaves}
+use Rattle.tj_words.specs.CallLaws.EventCalls.{Keeping}
+use Rattle.tj_words.proofs.Calls.KeptCells.{kept_moved}
+use Rattle.tj_words.proofs.Stores.StepContents.{stored_with}
+use Rattle.tj_words.proofs.Stores.TableWords as table_word
 
 -- a wait as it was while its task walked
 abbrev walking_of : Phase → Phase
@@ -57,7 +38,7 @@ walking_of phase.Promise = phase.Promise
 walking_of (phase.Waiting c way w) = phase.Waiting c way walk.Walking
 
 module _ {B : Type 0} (program : Bool → B → Program B) (key : Key B) (s : State (Option (Rec B)) (View B))
-    (r : Rule program key s) (id t p : ℕ) (way : Way) (inside : t < key.cells) (kept : EventKeepsFacts) (me : SeatMe B)
+    (r : Rule program key s) (id t p : ℕ) (way : Way) (me : SeatMe B)
     (at : get_elem? s.views id ≡ some me.0) (h : MayPark program t p way me) where
   abbrev P : Program B
   P = program key.strict key.root.value
@@ -103,7 +84,7 @@ module _ {B : Type 0} (program : Bool → B → Program B) (key : Key B) (s : St
   abbrev after : Contents B
   after = after_leaving r.law id t phases q slots departs x.words.live tokens pushes
 
-  settles : StoresParked key.cells x after id t p way h.walks.walker
+  abbrev settles : StoresParked key.cells x after id t p way h.walks.walker
   settles = record {
     leaves = does_leave r.law id t phases q slots departs x.words.live tokens pushes
         (does.Walking p way h.walks.walker) h.walks.walks;
@@ -111,8 +92,8 @@ module _ {B : Type 0} (program : Bool → B → Program B) (key : Key B) (s : St
     keeps = record { others = refl; cleared = refl };
   }
 
-  law : Law P key.cells after
-  law = law_leaves r.law id t phases q slots departs x.words.live tokens pushes
+  law : t < key.cells → EventKeepsFacts → Law P key.cells after
+  law inside kept = law_leaves r.law id t phases q slots departs x.words.live tokens pushes
       (chains_park r.law.chains t q id p way v.pushes (at_map (λ (u : View B). u.pushes) s.views id v at)
       (λ c y. held_free k.does c (subst (λ z. IsParkedOn z c) (custody r.law id t k has).does y)) refl)
       (count_turned r.law.live_count t q id v.tokens (suc v.tokens) inside (tokens_at program key s r id t v at)
@@ -122,9 +103,29 @@ module _ {B : Type 0} (program : Bool → B → Program B) (key : Key B) (s : St
       (meant program key s r id t v at me.1 k h.walks.held h.record_of h.puts h.no_hand)
       (facts_after kept (settle_shown r.law after id t p way h.walks.walker settles) r.law.facts)
 
-  pub parked_stores : (word : ℕ) → IsPhaseWord key.cells word → phase_in word ≡ q
+  -- what the store leaves
+  parks : (word : ℕ) → phase_in word ≡ q → stored_with s id (table_word.Phase t) word slots (parked t p way v) ≡ after
+  parks word is j = record {
+    words = record x.words { phase = put x.words.phase t (is j) };
+    slots = slots;
+    seats = record (seats_same s.views id v at j) {
+      tokens = tokens;
+      tasks = set old.tasks id (let_go t v.tasks);
+      pushes = pushes;
+    };
+  }
+
+  -- and a call that makes it settles the wait
+  pub park_keeps : (y : Contents B) (word : ℕ) → phase_in word ≡ q
+      → y ≡ stored_with s id (table_word.Phase t) word slots (parked t p way v)
+      → Keeping key.cells x y (StoresParked key.cells x y id t p way h.walks.walker)
+  park_keeps y word is e = subst (λ z. Keeping key.cells x z (StoresParked key.cells x z id t p way h.walks.walker))
+      (sym (e ∙ parks word is))
+      (settles, kept_moved key.cells x after t q None (Some h.record_of) settles.leaves.moved refl)
+
+  pub parked_stores : t < key.cells → EventKeepsFacts → (word : ℕ) → IsPhaseWord key.cells word → phase_in word ≡ q
       → StoresWith program key s (set s.homes t (some (Some h.record_of))) id (phase_at t) word (parked t p way v)
-  parked_stores word code is = phase_stores program key s r id t inside slots
+  parked_stores inside kept word code is = phase_stores program key s r id t inside slots
       (as_many program key s r id t v at me.1 k h.walks.held h.record_of h.puts h.no_hand) q word is code
       (parked t p way v) (more_seat program key v (parked t p way v) t p way h.walks (r.seats id v at) refl)
       (subst
@@ -133,4 +134,4 @@ module _ {B : Type 0} (program : Bool → B → Program B) (key : Key B) (s : St
         tokens = tokens;
         tasks = set old.tasks id (let_go t v.tasks);
         pushes = pushes;
-      }) (seats_same s.views id v at))) law)
+      }) (seats_same s.views id v at))) (law inside kept))

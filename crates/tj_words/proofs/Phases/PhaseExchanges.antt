@@ -1,62 +1,28 @@
 -- The exchanges of PHASE keep the rule: a claim, a wake, and the way back of a task that its seat had parked.
-use Rattle.std.proofs.Common.{◌≡◌, ◌≢◌, ℕ, suc, ◌+◌, ◌-◌, ◌<◌, ◌≤◌, Bool}
-use Rattle.std.proofs.Common.{List, ◌∷◌, ◌++◌, drop, length, map, set}
-use Rattle.std.proofs.Common.{Option, Some, None, refl, sym, ap, ◌∙◌, subst, inl, inr, ⊎_elim, arith, eqb, length-set}
+use Rattle.tj_words.proofs.Prelude.{About, Allows, AreApart, AreCells, AreThere, Backing, Bool, CellId, Chains}
+use Rattle.tj_words.proofs.Prelude.{Contents, CoreFacts, Custody, EventKeepsFacts, Filled, HasAlarmed, Holds, IsBegun}
+use Rattle.tj_words.proofs.Prelude.{IsCustody, IsFirstIn, IsIn, IsKept, IsMoved, IsPhaseWord, IsPush, IsRecordIn}
+use Rattle.tj_words.proofs.Prelude.{IsRest, IsThere, Key, Law, LiesAtHome, List, LiveCount, Meaning, None, OfSeat}
+use Rattle.tj_words.proofs.Prelude.{Option, Phase, Program, Push, Rec, Rest, Rule, SeatMe, SeatsHave, Slots, Some}
+use Rattle.tj_words.proofs.Prelude.{State, View, Walk, Way, ap, arith, at_map, begins_self, bits_in, cell, contents_of}
+use Rattle.tj_words.proofs.Prelude.{core_shown, dite, does_cells, does_first, drawn_in, get_elem?, hand_of, held_in}
+use Rattle.tj_words.proofs.Prelude.{hold, home_in, home_of, inl, inr, length, length-set, let_go, live_part, made_by}
+use Rattle.tj_words.proofs.Prelude.{map, none, numbers, owned_by, parked_phase, phase_at, phase_in, phase_sort}
+use Rattle.tj_words.proofs.Prelude.{phase_word, put, record_cells, refl, rest_of, seats_have, set, set_again, set_else}
+use Rattle.tj_words.proofs.Prelude.{some, step, subst, suc, sym, tag_in, total, without_push, word, words_say, ℕ}
+use Rattle.tj_words.proofs.Prelude.{ℕ_discrete, ⊎_elim, ◌++◌, ◌+◌, ◌-◌, ◌<◌, ◌∙◌, ◌∷◌, ◌≡◌, ◌≢◌, ◌≤◌}
+use Rattle.std.proofs.Common.{drop}
+use Rattle.std.proofs.Common.{eqb}
 use prog.Atomic.{either}
-use mathlib.Core.Option.{some, none}
-use mathlib.Core.Logic.{dite}
-use native.Mathlib.Decide.{ℕ_discrete}
-use lib.ListN.{get_elem?}
-use Rattle.atomic_table.specs.Table.{State, step, Allows, carried_after}
-use Rattle.atomic_table.proofs.Lists.{at_map, exchanged, set_else, set_again}
-use Rattle.tj_base.specs.Puts.{put}
-use Rattle.tj_base.specs.declared.cell.CellId.{CellId}
+use Rattle.atomic_table.specs.Table.{carried_after}
+use Rattle.atomic_table.proofs.Lists.{exchanged}
 use Rattle.tj_base.specs.declared.cell.Sort.TheVariants as sort
-use Rattle.tj_body.specs.Points.{IsIn}
-use Rattle.tj_body.specs.Programs.{Program}
-use Rattle.tj_body.proofs.Lists.{begins_self}
-use Rattle.tj_core.specs.CoreFacts.{CoreFacts}
-use Rattle.tj_core.specs.Laws.{EventKeepsFacts}
 use Rattle.tj_core.specs.Events.{raised_by_way}
-use Rattle.tj_core.specs.declared.walk.Way.{Way}
 use Rattle.tj_words.specs.declared.offsets.Once.TheVariants as once
-use Rattle.tj_words.specs.declared.phase.Walk.{Walk}
 use Rattle.tj_words.specs.declared.phase.Walk.TheVariants as walk
-use Rattle.tj_words.specs.declared.phase.Phase.{Phase}
 use Rattle.tj_words.specs.declared.phase.Phase.TheVariants as phase
-use Rattle.tj_words.specs.declared.record.Rec.{Rec}
-use Rattle.tj_words.specs.declared.table.Key.{Key}
-use Rattle.tj_words.specs.declared.view.About.{About}
-use Rattle.tj_words.specs.declared.view.Custody.{Custody}
-use Rattle.tj_words.specs.declared.view.Filled.{Filled}
 use Rattle.tj_words.specs.declared.view.Noted.TheVariants as note
-use Rattle.tj_words.specs.declared.view.Push.{Push}
-use Rattle.tj_words.specs.declared.view.Rest.{Rest}
-use Rattle.tj_words.specs.declared.view.View.{View}
-use Rattle.tj_words.specs.Words.Lists.{OfSeat, total, numbers, cell, AreApart}
-use Rattle.tj_words.specs.LawParts.TreeWords.{AreCells}
-use Rattle.tj_words.specs.LawParts.Holding.{Slots, home_in, held_in, made_by, owned_by}
-use Rattle.tj_words.specs.LawParts.Hands.{IsThere}
 use Rattle.tj_words.specs.LawParts.Lots.{IsSpent, IsWithinLot}
-use Rattle.tj_words.specs.LawParts.NamedCells.{record_cells, does_cells, AreThere}
-use Rattle.tj_words.specs.LawParts.ShownState.{phase_sort}
-use Rattle.tj_words.specs.LawParts.Custodies.{IsKept, LiesAtHome, IsCustody}
-use Rattle.tj_words.specs.LawParts.RecordPhases.{IsRecordIn}
-use Rattle.tj_words.specs.LawParts.Chains.{Chains, parked_phase, IsFirstIn, IsPush, IsRest}
-use Rattle.tj_words.specs.Calls.ChainSteps.{without_push, rest_of}
-use Rattle.tj_words.specs.Words.Codes.{IsPhaseWord}
-use Rattle.tj_words.specs.LawParts.LiveCount.{live_part, LiveCount, HasAlarmed, Holds, Backing}
-use Rattle.tj_words.specs.Words.Offsets.{word, phase_at}
-use Rattle.tj_words.specs.Words.Phases.{phase_word, phase_in}
-use Rattle.tj_words.specs.LawParts.Contents.{SeatsHave, words_say, seats_have, Contents, contents_of, drawn_in, tag_in}
-use Rattle.tj_words.specs.LawParts.Contents.{hand_of}
-use Rattle.tj_words.specs.LawParts.Contents.{bits_in, home_of, core_shown}
-use Rattle.tj_words.specs.LawParts.Meaning.{Meaning}
-use Rattle.tj_words.specs.Steps.StepEvents.{IsBegun, IsMoved}
-use Rattle.tj_words.specs.Law.{Law, Rule}
-use Rattle.tj_words.specs.Steps.QuietSteps.{does_first}
-use Rattle.tj_words.specs.SeatViews.SeatSteps.{SeatMe}
-use Rattle.tj_words.specs.SeatViews.TaskLists.{hold, let_go}
 use Rattle.tj_words.specs.Calls.TakenRecords.{custody_of, took_record, IsKnownRecord, TakesRecord}
 use Rattle.tj_words.specs.Calls.ExchangeViews.{without_first, woke_first, KnowsTable, MayClear}
 use Rattle.tj_words.specs.Calls.ExchangeViews.{MayWake, MayGoBack, MayClearFrom, MaySwap}
@@ -333,6 +299,7 @@ module _ {B : Type 0} (program : Bool → B → Program B) (key : Key B) (s : St
             (record { code = refl; waits = λ d way q e. cc });
         seat = let q = r.seats id v at in record {
           about = q.about;
+          named = inr table;
           within_lot = record {
             least = inr (⊎_elim (λ (e : IsSpent v). no_some e.0 table.1) (λ e. e) q.within_lot.least);
             refused_fit = q.within_lot.refused_fit;
@@ -530,6 +497,7 @@ module _ {B : Type 0} (program : Bool → B → Program B) (key : Key B) (s : St
               (record { code = refl; waits = λ d w u e. cc });
           seat = let h = r.seats id v at in record {
             about = h.about;
+            named = h.named;
             within_lot = record {
               least = h.within_lot.least;
               refused_fit = h.within_lot.refused_fit;

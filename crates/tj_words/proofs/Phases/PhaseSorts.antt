@@ -1,14 +1,8 @@
 -- A change of the phase of one task leaves the sort of each cell.
-use Rattle.std.proofs.Common.{◌≡◌, ◌≢◌, ℕ, Option, None, refl, sym, ap, ◌∙◌}
-use mathlib.Core.Logic.{dite}
-use native.Mathlib.Decide.{ℕ_discrete}
+use Rattle.tj_words.proofs.Prelude.{Does, Hand, None, Option, Phase, ap, dite, phase_of, phase_sort, refl, sort_shown}
+use Rattle.tj_words.proofs.Prelude.{sym, ℕ, ℕ_discrete, ◌∙◌, ◌≡◌, ◌≢◌}
 use Rattle.tj_base.specs.declared.cell.Sort.TheVariants as sort
-use Rattle.tj_words.specs.declared.phase.Phase.{Phase}
-use Rattle.tj_words.specs.declared.view.Hand.{Hand}
-use Rattle.tj_words.specs.declared.view.Does.{Does}
 use Rattle.tj_words.specs.declared.view.Does.TheVariants as does
-use Rattle.tj_words.specs.LawParts.Holding.{phase_of}
-use Rattle.tj_words.specs.LawParts.ShownState.{phase_sort, sort_shown}
 
 -- a task that a seat holds stands in the phase of a task
 pub does_sort : (d : Does) → phase_sort (phase_of d) ≡ sort.Task

@@ -1,18 +1,7 @@
 -- A store of PHASE, as a step that keeps the rule: what it owes is the law over the phases with the new one.
-use Rattle.std.proofs.Common.{◌≡◌, ℕ, ◌<◌, Bool, length, Option, sym, subst, arith}
-use Rattle.atomic_table.specs.Table.{State}
-use Rattle.tj_base.specs.Puts.{put}
-use Rattle.tj_body.specs.Programs.{Program}
-use Rattle.tj_words.specs.declared.phase.Phase.{Phase}
-use Rattle.tj_words.specs.declared.record.Rec.{Rec}
-use Rattle.tj_words.specs.declared.table.Key.{Key}
-use Rattle.tj_words.specs.declared.view.View.{View}
-use Rattle.tj_words.specs.Words.Codes.{IsPhaseWord}
-use Rattle.tj_words.specs.LawParts.Contents.{WordsSay, words_say, seats_have}
-use Rattle.tj_words.specs.LawParts.Holding.{Slots}
-use Rattle.tj_words.specs.Law.{Law, Rule, IsSeat}
-use Rattle.tj_words.specs.Words.Offsets.{phase_at}
-use Rattle.tj_words.specs.Words.Phases.{phase_in}
+use Rattle.tj_words.proofs.Prelude.{Bool, IsPhaseWord, IsSeat, Key, Law, Option, Phase, Program, Rec, Rule, Slots}
+use Rattle.tj_words.proofs.Prelude.{State, View, WordsSay, arith, length, phase_at, phase_in, put, seats_have, subst}
+use Rattle.tj_words.proofs.Prelude.{sym, words_say, ℕ, ◌<◌, ◌≡◌}
 use Rattle.tj_words.proofs.Stores.SeatContents.{set_seats}
 use Rattle.tj_words.proofs.Stores.SlotStores.{StoresWith}
 use Rattle.tj_words.proofs.Stores.StoredWords.{say_phase}

@@ -40,6 +40,14 @@ use Rattle.tj_words.proofs.Events.QuietMoves.{release_shown}
 use Rattle.tj_words.proofs.Holders.LaidRecords.{tokens_at, tasks_at}
 use Rattle.tj_words.proofs.Phases.Departures.{Departs, after_leaving, does_leave, law_leaves}
 use Rattle.tj_words.proofs.Holders.LeftSeats.{left_seat, left_stores}
+use Rattle.tj_words.specs.Steps.QuietSteps.{ReleasesTask}
+use Rattle.tj_words.proofs.Stores.StepContents.{stored}
+use Rattle.tj_words.specs.CallLaws.EventCalls.{Keeping}
+use Rattle.tj_words.proofs.Calls.KeptCells.{kept_moved}
+use Rattle.tj_words.proofs.Stores.TableWords as table_word
+use Rattle.tj_words.proofs.Stores.SeatContents.{seats_same}
+use Rattle.tj_words.specs.SeatViews.TaskLists.{let_go}
+use Rattle.std.proofs.Common.{None, Some}
 
 module _ {B : Type 0} (program : Bool → B → Program B) (key : Key B) (s : State (Option (Rec B)) (View B))
     (r : Rule program key s) (id t : ℕ) (inside : t < key.cells) (v : View B) (at : get_elem? s.views id ≡ some v) where
@@ -120,6 +128,30 @@ module _ {B : Type 0} (program : Bool → B → Program B) (key : Key B) (s : St
     after_ready = after_leaving r.law id t readied phase.Ready s.homes departs x.words.live
         (set old.tokens id (v.tokens - 1)) old.pushes
 
+    abbrev releases : ReleasesTask key.cells x after_ready id t
+    releases = record {
+      leaves = does_leave r.law id t readied phase.Ready s.homes departs x.words.live
+          (set old.tokens id (v.tokens - 1)) old.pushes does.Unborn h.unborn;
+      there = here;
+      starts = at_start.1;
+      keeps = record { others = refl; cleared = refl };
+    }
+
+    -- a call that makes the store releases the task
+    pub ready_keeps : (y : Contents B) (word : ℕ) → phase_in word ≡ phase.Ready
+        → y ≡ stored s id (table_word.Phase t) word (released t v)
+        → Keeping key.cells x y (ReleasesTask key.cells x y id t)
+    ready_keeps y word is e = subst (λ z. Keeping key.cells x z (ReleasesTask key.cells x z id t))
+        (sym (e ∙ (λ j. record {
+          words = record x.words { phase = put x.words.phase t (is j) };
+          slots = s.homes;
+          seats = record (seats_same s.views id v at j) {
+            tokens = set old.tokens id (v.tokens - 1);
+            tasks = set old.tasks id (let_go t v.tasks);
+          };
+        })))
+        (releases, kept_moved key.cells x after_ready t phase.Ready None (Some c) releases.leaves.moved refl)
+
     ready_law : Law P key.cells after_ready
     ready_law = law_leaves r.law id t readied phase.Ready s.homes departs x.words.live
         (set old.tokens id (v.tokens - 1)) old.pushes
@@ -132,13 +164,7 @@ module _ {B : Type 0} (program : Bool → B → Program B) (key : Key B) (s : St
         departs.else (λ u m. refl) phase.Unborn was refl (λ y i. ready_fits (tag_in x) y i))
         (law_meant P key.cells x r.law)
         (facts_same key.cells r.law.born r.law.maker x after_ready
-        (release_shown r.law after_ready id t record {
-          leaves = does_leave r.law id t readied phase.Ready s.homes departs x.words.live
-              (set old.tokens id (v.tokens - 1)) old.pushes does.Unborn h.unborn;
-          there = here;
-          starts = at_start.1;
-          keeps = record { others = refl; cleared = refl };
-        }) r.law.facts)
+        (release_shown r.law after_ready id t releases) r.law.facts)
 
     pub ready_stores : (word : ℕ) → phase_in word ≡ phase.Ready → word ≡ phase_word phase.Ready
         → StoresWith program key s s.homes id (phase_at t) word (released t v)

@@ -54,7 +54,7 @@ module _ {B : Type 0} (program : Bool → B → Program B) (key : Key B) (kept :
       (then walk.Walking (published t p way m.0, m.1) is refl))
   wait_allowed walk.Parked is from may s r many here small = subst (λ j. Acts program key s id m j word Then) (sym at)
       (acts_giving program key s r id m (phase_at t) word Then (parked t p way m.0) t (Some may.record_of) may.puts.slot
-      (parked_stores program key s r id t p way inside kept m here may word
+      (parked_stores program key s r id t p way m here may inside kept word
       (wait_word key.cells p word way walk.Parked few is from) is)
       (then walk.Parked (parked t p way m.0, rest m.1) is refl))
   wait_allowed walk.Alarmed is from may s r many here small = subst (λ j. Acts program key s id m j word Then) (sym at)

@@ -44,7 +44,7 @@ use Rattle.tj_words.proofs.Stores.SlotStores.{StoresWith}
 use Rattle.tj_words.proofs.Waiters.LiveSteps.{backing_token, count_turned}
 use Rattle.tj_words.proofs.Waiters.Backings.{backing_publish}
 use Rattle.tj_words.proofs.Holders.HeldTasks.{none_some, held_listed}
-use Rattle.tj_words.proofs.Holders.NotedTasks.{noted_is, holder_lot}
+use Rattle.tj_words.proofs.Holders.NotedTasks.{noted_is, holder_lot, holder_named}
 use Rattle.tj_words.proofs.Holders.SeatTasks.{hold_here, hold_else}
 use Rattle.tj_words.proofs.Events.StepFacts.{facts_after}
 use Rattle.tj_words.proofs.Holders.TaskPlaces.{custody, list_owned}
@@ -66,13 +66,15 @@ module _ {B : Type 0} (program : Bool → B → Program B) (key : Key B) where
       → IsSeat key w
   more_seat v w t p way a h same = let l = h.within_lot in subst (IsSeat key) (sym same) record {
     about = h.about;
+    named = inr (holder_named v t a.custody a.held h.named);
     within_lot = record {
       least = inr (holder_lot v t a.custody a.held l);
       refused_fit = l.refused_fit;
       tokens_fit = a.room;
       cleared_fit = l.cleared_fit;
     };
-    backing = backing_token _ (omega arith);
+    backing = backing_token (record v { steps = w.steps; tokens = suc v.tokens; tasks = w.tasks; pushes = w.pushes })
+        (omega arith);
     known_born = h.known_born;
   }
 
@@ -186,6 +188,7 @@ module _ {B : Type 0} (program : Bool → B → Program B) (key : Key B) where
       publish_seat : IsSeat key walks
       publish_seat = let a = r.seats id v at in let l = a.within_lot in record {
         about = a.about;
+        named = inr (holder_named v t k h.held a.named);
         within_lot = record {
           least = inr (holder_lot v t k h.held l);
           refused_fit = l.refused_fit;

@@ -73,6 +73,7 @@ module _ {B : Type 0} (program : Bool → B → Program B) (key : Key B) where
               closed = all_cons _ c v.closed shut so.closed;
               found = so.found;
               rested = so.rested;
+              told = so.told;
             },
             (
               refl,
@@ -108,6 +109,7 @@ module _ {B : Type 0} (program : Bool → B → Program B) (key : Key B) where
               closed = so.closed;
               found = all_cons _ (record { cell = c; chain = chain }) v.found (inr ([], refl)) so.found;
               rested = so.rested;
+              told = so.told;
             },
             (
               refl,

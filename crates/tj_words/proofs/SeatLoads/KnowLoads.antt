@@ -373,6 +373,7 @@ module _ {B : Type 0} (program : Bool → B → Program B) (key : Key B) where
               closed = so.closed;
               found = so.found;
               rested = so.rested;
+              told = so.told;
             },
             (
               refl,
@@ -430,6 +431,7 @@ module _ {B : Type 0} (program : Bool → B → Program B) (key : Key B) where
               closed = so.closed;
               found = so.found;
               rested = so.rested;
+              told = so.told;
             },
             (
               refl,
@@ -487,6 +489,7 @@ module _ {B : Type 0} (program : Bool → B → Program B) (key : Key B) where
               closed = so.closed;
               found = so.found;
               rested = so.rested;
+              told = so.told;
             },
             (
               refl,

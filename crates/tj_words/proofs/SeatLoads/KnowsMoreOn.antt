@@ -1,8 +1,11 @@
 -- What a seat knows over several steps.
-use Rattle.std.proofs.Common.{◌∙◌, refl}
+use Rattle.std.proofs.Common.{◌∙◌, ◌++◌, List, [], refl, sym, ap, append_assoc}
 use Rattle.tj_body.proofs.Lists.{begins_self, begins_trans}
 use Rattle.tj_words.specs.declared.view.View.{View}
-use Rattle.tj_words.specs.SeatViews.KnowsMore.{KnowsMore, HasSameWakes, HasSameHand, HasSameCounts}
+use Rattle.tj_words.specs.SeatViews.KnowsMore.{IsTailOf, KnowsMore, HasSameWakes, HasSameHand, HasSameCounts}
+
+pub tail_on : {A : Type 0} (xs ys zs : List A) → IsTailOf xs ys → IsTailOf ys zs → IsTailOf xs zs
+tail_on xs ys zs p q = (q.0 ++ p.0, q.1 ∙ (ap (λ l. q.0 ++ l) p.1 ∙ sym (append_assoc q.0 p.0 xs)))
 
 module _ {B : Type 0} where
   pub more_itself : (v : View B) → KnowsMore v v
@@ -16,6 +19,7 @@ module _ {B : Type 0} where
     seen = λ x i. i;
     closed = λ x i. i;
     rested = λ e. e;
+    notes = ([], refl);
   }
 
   pub more_on : (u v w : View B) → KnowsMore u v → KnowsMore v w → KnowsMore u w
@@ -29,6 +33,7 @@ module _ {B : Type 0} where
     seen = λ x i. q.seen x (p.seen x i);
     closed = λ x i. q.closed x (p.closed x i);
     rested = λ e. q.rested (p.rested e);
+    notes = tail_on u.notes v.notes w.notes p.notes q.notes;
   }
 
   pub wakes_on : (u v w : View B) → HasSameWakes u v → HasSameWakes v w → HasSameWakes u w

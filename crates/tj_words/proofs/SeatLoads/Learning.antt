@@ -1,7 +1,8 @@
 -- A seat learns: the law stays where what the seat knows from now on is so.
-use Rattle.std.proofs.Common.{◌≡◌, ℕ, Bool, true, List, set}
+use Rattle.std.proofs.Common.{◌≡◌, ◌≢◌, ℕ, Bool, true, List, set}
 use Rattle.tj_body.specs.Programs.{Program}
-use Rattle.tj_body.specs.Points.{Begins}
+use Rattle.tj_body.specs.Points.{Begins, IsIn}
+use Rattle.tj_words.specs.LawParts.Stops.{IsStored}
 use Rattle.tj_body.specs.declared.point.Reference.{Reference}
 use Rattle.tj_words.specs.declared.head.Head.TheVariants.{Shut}
 use Rattle.tj_words.specs.declared.view.SeenWord.{SeenWord}
@@ -31,6 +32,7 @@ pub record Knowing : Type 0 where
   pub found : List Found
   pub rested : Bool
   pub stop : ℕ
+  pub told : List ℕ
   pub notes : List Note
 
 abbrev pub knowing_of : {B : Type 0} → View B → Knowing
@@ -44,6 +46,7 @@ knowing_of v = record {
   found = v.found;
   rested = v.rested;
   stop = v.stop;
+  told = v.told;
   notes = v.notes;
 }
 
@@ -61,6 +64,7 @@ module _ {B : Type 0} (program : Program B) (cells : ℕ) (x : Contents B) (law 
     pub closed : All (λ p. x.words.head p ≡ Shut) k.closed
     pub found : All (λ (f : Found). HasGrown (x.words.head f.cell) (law.chains.line f.cell) f.chain) k.found
     pub rested : k.rested ≡ true → x.words.live ≡ 0
+    pub told : (n : ℕ) → IsIn n k.told → n ≢ 0 → IsStored x.seats.stored n
 
   -- the contents where seat id knows this
   abbrev pub learns : ℕ → Knowing → Contents B
@@ -74,6 +78,7 @@ module _ {B : Type 0} (program : Program B) (cells : ℕ) (x : Contents B) (law 
       closed = set x.seats.closed id k.closed;
       found = set x.seats.found id k.found;
       rested = set x.seats.rested id k.rested;
+      told = set x.seats.told id k.told;
     };
   }
 
@@ -115,6 +120,11 @@ module _ {B : Type 0} (program : Program B) (cells : ℕ) (x : Contents B) (law 
     live_count = (let c = law.live_count in record {
       counted = c.counted;
       stays_at_rest = each_set _ x.seats.rested id k.rested c.stays_at_rest so.rested;
+    });
+    stops = (let q = law.stops in record {
+      given = q.given;
+      stands = q.stands;
+      found = each_set _ x.seats.told id k.told q.found so.told;
     });
     waiters_own = law.waiters_own;
     records_fit = law.records_fit;

@@ -1,5 +1,5 @@
 -- Loads: a step that changes no word, after which its seat knows more.
-use Rattle.std.proofs.Common.{◌≡◌, ℕ, zero, suc, ◌<◌, ◌≤◌, ◌^◌, Bool, true, List, [], ◌∷◌, map, set, refl, sym, ap}
+use Rattle.std.proofs.Common.{◌≡◌, ◌≢◌, ℕ, zero, suc, ◌<◌, ◌≤◌, ◌^◌, Bool, true, List, [], ◌∷◌, map, set, refl, sym, ap}
 use Rattle.std.proofs.Common.{◌∙◌, subst, arith, Option}
 use mathlib.Core.Option.{some, none}
 use mathlib.Core.Logic.{dite}
@@ -7,7 +7,9 @@ use native.Mathlib.Decide.{ℕ_discrete}
 use lib.ListN.{get_elem?}
 use Rattle.atomic_table.specs.Table.{State, step, keeps, Allows}
 use Rattle.atomic_table.proofs.Lists.{at_map}
+use Rattle.tj_body.specs.Points.{IsIn}
 use Rattle.tj_body.specs.Programs.{Program}
+use Rattle.tj_words.specs.LawParts.Stops.{IsStored}
 use Rattle.tj_words.specs.declared.record.Rec.{Rec}
 use Rattle.tj_words.specs.declared.table.Key.{Key}
 use Rattle.tj_words.specs.declared.view.Note.{Note}
@@ -69,6 +71,7 @@ module _ {B : Type 0} where
     once_loads = once;
     steps = steps;
     stop = k.stop;
+    told = k.told;
     notes = k.notes;
   }
 
@@ -82,6 +85,7 @@ module _ {B : Type 0} where
       → IsSeat key (knows k plain once steps v)
   knows_seat key k plain once steps v h kb = let l = h.within_lot in let b = h.backing in record {
     about = h.about;
+    named = h.named;
     within_lot =
         record
         { least = l.least; refused_fit = l.refused_fit; tokens_fit = l.tokens_fit; cleared_fit = l.cleared_fit };
@@ -91,9 +95,10 @@ module _ {B : Type 0} where
 
   -- what it knows is so with other notes, and other loads of LIVE and STOP, besides
   pub noted_so : {P : Program B} {cells : ℕ} {x : Contents B} {law : Law P cells x} (k : Knowing) (rested : Bool)
-      (stop : ℕ) (notes : List Note) → IsSo P cells x law k → (rested ≡ true → x.words.live ≡ 0)
-      → IsSo P cells x law (record k { rested = rested; stop = stop; notes = notes })
-  noted_so k rested stop notes o now = record {
+      (stop : ℕ) (told : List ℕ) (notes : List Note) → IsSo P cells x law k → (rested ≡ true → x.words.live ≡ 0)
+      → ((n : ℕ) → IsIn n told → n ≢ 0 → IsStored x.seats.stored n)
+      → IsSo P cells x law (record k { rested = rested; stop = stop; told = told; notes = notes })
+  noted_so k rested stop told notes o now stored = record {
     known = o.known;
     begins = o.begins;
     known_born = o.known_born;
@@ -103,6 +108,7 @@ module _ {B : Type 0} where
     closed = o.closed;
     found = o.found;
     rested = now;
+    told = stored;
   }
 
   module _ (program : Bool → B → Program B) (key : Key B) where
@@ -120,6 +126,7 @@ module _ {B : Type 0} where
       closed = l.chains.stays_shut id v.closed (at_map (λ (u : View B). u.closed) s.views id v at);
       found = l.chains.grows id v.found (at_map (λ (u : View B). u.found) s.views id v at);
       rested = l.live_count.stays_at_rest id v.rested (at_map (λ (u : View B). u.rested) s.views id v at);
+      told = l.stops.found id v.told (at_map (λ (u : View B). u.told) s.views id v at);
     }
 
     -- so it is with a step noted
@@ -127,7 +134,7 @@ module _ {B : Type 0} where
         → get_elem? s.views id ≡ some v → (kind : Noted) (n : ℕ)
         → IsSo (program key.strict key.root.value) key.cells (contents_of s) r.law (with_note v kind n)
     notes_so s r id v at kind n = let o = knows_so s r id v at in
-        noted_so (knowing_of v) v.rested v.stop (note_of kind n v ∷ v.notes) o o.rested
+        noted_so (knowing_of v) v.rested v.stop v.told (note_of kind n v ∷ v.notes) o o.rested o.told
 
     -- a seat that learns what is so keeps the rule
     pub rule_learns : (s : State (Option (Rec B)) (View B)) (r : Rule program key s) (id : ℕ) (v : View B)
@@ -152,6 +159,7 @@ module _ {B : Type 0} where
               closed = set (seats_have s.views).closed id k.closed;
               found = set (seats_have s.views).found id k.found;
               rested = set (seats_have s.views).rested id k.rested;
+              told = set (seats_have s.views).told id k.told;
             }) (seats_same s.views id v at)
 
     -- a load at which the seat learns what is so
@@ -219,8 +227,8 @@ module _ {B : Type 0} where
           m.0.plain_loads,
           m.0.once_loads,
           suc m.0.steps,
-          noted_so (knowing_of m.0) true m.0.stop (note_of note.Live 0 m.0 ∷ m.0.notes)
-              (knows_so s r id m.0 at) (λ e. z),
+          (let o = knows_so s r id m.0 at in
+              noted_so (knowing_of m.0) true m.0.stop m.0.told (note_of note.Live 0 m.0 ∷ m.0.notes) o (λ e. z) o.told),
           (refl, (λ e. refl), (λ n. absurd (n z)), live_small s r, refl),
         ))
         (λ n. (

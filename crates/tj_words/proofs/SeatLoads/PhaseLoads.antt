@@ -93,6 +93,7 @@ module _ {B : Type 0} (program : Bool → B → Program B) (key : Key B) where
     loaded_seat : IsSeat key w
     loaded_seat = let h = r.seats id v at in let l = h.within_lot in let b = h.backing in record {
       about = h.about;
+      named = h.named;
       within_lot = record {
         least = l.least;
         refused_fit = l.refused_fit;

@@ -35,7 +35,7 @@ use Rattle.tj_words.specs.Calls.WalkViews.{IsWalking, walk_load}
 use Rattle.tj_words.proofs.Waiters.Backings.{backing_turns}
 use Rattle.tj_words.proofs.Waiters.ChainLists.{same_some}
 use Rattle.tj_words.proofs.Holders.HeldChanges.{held_task}
-use Rattle.tj_words.proofs.Holders.NotedTasks.{noted_is, holder_lot}
+use Rattle.tj_words.proofs.Holders.NotedTasks.{noted_is, holder_lot, holder_named}
 use Rattle.tj_words.proofs.SeatLoads.LoadSteps.{total_fits}
 use Rattle.tj_words.proofs.Stores.SeatContents.{set_seats, seats_set, seats_same, rule_views}
 use Rattle.tj_words.proofs.Stores.SeatLists.{back, each_set, words_same}
@@ -56,6 +56,7 @@ module _ {B : Type 0} (t : ℕ) (f : Does → Does) (v : View B) (k : Custody B)
       → IsSeat key (turned t f v)
   turned_seat key d e runs walks calm q = let l = q.within_lot in record {
     about = q.about;
+    named = inr (holder_named v t k held q.named);
     within_lot = record {
       least = inr (holder_lot v t k held l);
       refused_fit = l.refused_fit;

@@ -146,6 +146,7 @@ module _ {B : Type 0} {program : Program B} {cells : ℕ} {x : Contents B} (r : 
     once_words = r.once_words;
     chains = r.chains;
     live_count = r.live_count;
+    stops = r.stops;
     waiters_own = r.waiters_own;
     records_fit = r.records_fit;
     meaning = r.meaning;

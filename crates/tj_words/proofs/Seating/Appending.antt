@@ -69,6 +69,8 @@ module _ {B : Type 0} (program : Program B) (cells : ℕ) (x : Contents B) (law 
       closed = x.seats.closed ++ k.closed ∷ [];
       found = x.seats.found ++ k.found ∷ [];
       rested = x.seats.rested ++ k.rested ∷ [];
+      stored = x.seats.stored ++ [] ∷ [];
+      told = x.seats.told ++ [] ∷ [];
     };
   }
 
@@ -173,6 +175,13 @@ module _ {B : Type 0} (program : Program B) (cells : ℕ) (x : Contents B) (law 
     live_count = (let c = law.live_count in record {
       counted = (let e = c.counted in let t = total_snoc x.seats.tokens 0 in omega arith);
       stays_at_rest = each_snoc _ x.seats.rested k.rested c.stays_at_rest (λ j. so.rested);
+    });
+    stops = (let q = law.stops in record {
+      given = λ n. let g = q.given n in (g.0, of_seat_snoc _ x.seats.stored [] g.0 g.1);
+      stands = each_snoc _ x.seats.stored [] q.stands (λ j n i. absurd i);
+      found = each_snoc _ x.seats.told []
+          (λ j ns e n i z. let g = q.found j ns e n i z in (g.0, of_seat_snoc _ x.seats.stored [] g.0 g.1))
+          (λ j n i. absurd i);
     });
     waiters_own = law.waiters_own;
     records_fit = law.records_fit;

@@ -1,13 +1,15 @@
 -- A merge keeps the rule of the table.
-use Rattle.std.proofs.Common.{◌≡◌, ◌⊎◌, ℕ, zero, suc, ◌+◌, ◌<◌, ◌≤◌, Bool, true, false, cond, nat_lt, ◌||◌, List, []}
+use Rattle.std.proofs.Common.{◌≡◌, ◌≢◌, ◌⊎◌, ℕ, zero, suc, ◌+◌, ◌<◌, ◌≤◌, Bool, true, false, cond, nat_lt, ◌||◌, List, []}
 use Rattle.std.proofs.Common.{◌∷◌, ◌++◌, length, Option, Some, None, map, set, refl, sym, ap, ◌∙◌, subst, ⊎_elim, inl}
 use Rattle.std.proofs.Common.{inr, arith, ltb-true, ltb-false}
-use mathlib.Core.Option.{some}
+use mathlib.Core.Option.{some, some-injective}
+use mathlib.Core.Logic.{dite}
+use native.Mathlib.Decide.{ℕ_discrete}
 use lib.ListN.{get_elem?}
 use Rattle.atomic_table.specs.Table.{State, Joins}
 use Rattle.atomic_table.proofs.Lists.{at_map, set_again, set_else, at_longer}
 use Rattle.tj_body.specs.Programs.{Program}
-use Rattle.tj_body.specs.Points.{Begins}
+use Rattle.tj_body.specs.Points.{Begins, IsIn}
 use Rattle.tj_body.specs.declared.point.Reference.{Reference}
 use Rattle.tj_words.specs.declared.record.Rec.{Rec}
 use Rattle.tj_words.specs.declared.table.Key.{Key}
@@ -19,8 +21,10 @@ use Rattle.tj_words.specs.LawParts.TreeWords.{IsCell}
 use Rattle.tj_words.specs.LawParts.Contents.{Contents, SeatsHave, words_say, seats_have, contents_of}
 use Rattle.tj_words.specs.Law.{Law, Rule, IsSeat}
 use Rattle.tj_words.specs.LawParts.Lots.{Lots}
+use Rattle.tj_words.specs.LawParts.Stops.{IsStored, Stops}
 use Rattle.tj_words.specs.SeatViews.Views.{longer, both, spent, IsIdle}
-use Rattle.tj_words.proofs.Stores.SeatLists.{each_set, inside}
+use Rattle.tj_words.proofs.Stores.SeatLists.{each_set, inside, of_seat_here, of_seat_else}
+use Rattle.tj_words.proofs.Holders.HeldTasks.{in_front, in_back}
 use Rattle.tj_words.proofs.Stores.SeatContents.{set_seats, seats_set, seats_same, rule_views}
 use Rattle.tj_words.proofs.SeatLoads.Learning.{Knowing, knowing_of, IsSo, learns, law_learns}
 use Rattle.tj_words.proofs.SeatLoads.LoadSteps.{knows_so}
@@ -86,6 +90,7 @@ both_know k l = record {
   found = k.found ++ l.found;
   rested = k.rested || l.rested;
   stop = k.stop;
+  told = k.told ++ l.told;
   notes = k.notes;
 }
 
@@ -100,6 +105,7 @@ nothing_known = record {
   found = [];
   rested = false;
   stop = 0;
+  told = [];
   notes = [];
 }
 
@@ -118,6 +124,7 @@ module _ {B : Type 0} (program : Program B) (cells : ℕ) (x : Contents B) (law 
     closed = all_append _ k.closed l.closed a.closed b.closed;
     found = all_append _ k.found l.found a.found b.found;
     rested = λ e. ⊎_elim a.rested b.rested (either_true k.rested l.rested e);
+    told = all_append _ k.told l.told a.told b.told;
   }
 
   pub nothing_so : IsSo program cells x law nothing_known
@@ -131,15 +138,17 @@ module _ {B : Type 0} (program : Program B) (cells : ℕ) (x : Contents B) (law 
     closed = λ c i. absurd i;
     found = λ c i. absurd i;
     rested = λ e. cc;
+    told = λ n i. absurd i;
   }
 
-  -- the contents with other lots and refused draws
-  abbrev pub with_lots : List ℕ → List ℕ → Contents B
-  with_lots lots refused = record x { seats = record x.seats { lots = lots; refused = refused } }
+  -- the contents with other lots and refused draws, and other stores of STOP
+  abbrev pub with_lots : List ℕ → List ℕ → List (List ℕ) → Contents B
+  with_lots lots refused stored =
+      record x { seats = record x.seats { lots = lots; refused = refused; stored = stored } }
 
-  pub law_lots : (lots refused : List ℕ) → Lots cells x.words.count lots refused
-      → Law program cells (with_lots lots refused)
-  law_lots lots refused h = record {
+  pub law_lots : (lots refused : List ℕ) (stored : List (List ℕ)) → Lots cells x.words.count lots refused
+      → Stops x.words.stop stored x.seats.told → Law program cells (with_lots lots refused stored)
+  law_lots lots refused stored h stops = record {
     born = law.born;
     maker = law.maker;
     number = law.number;
@@ -155,6 +164,7 @@ module _ {B : Type 0} (program : Program B) (cells : ℕ) (x : Contents B) (law 
     once_words = law.once_words;
     chains = law.chains;
     live_count = law.live_count;
+    stops = stops;
     waiters_own = law.waiters_own;
     records_fit = law.records_fit;
     meaning = law.meaning;
@@ -168,6 +178,7 @@ module _ {B : Type 0} where
   both_seat key v w h i kb = let b = h.backing in let l = h.within_lot in let m = i.within_lot in
       let a = l.refused_fit in let c = l.tokens_fit in let d = l.cleared_fit in let e = m.refused_fit in record {
         about = h.about;
+        named = h.named;
         within_lot = record {
           least = ⊎_elim (λ q. inl q) (λ q. inr (omega arith)) l.least;
           refused_fit = omega arith;
@@ -181,6 +192,7 @@ module _ {B : Type 0} where
   spent_seat : (key : Key B) → IsSeat key spent
   spent_seat key = record {
     about = λ a e. cc;
+    named = inl (refl, refl);
     within_lot = record {
       least = inl (refl, refl);
       refused_fit = omega arith;
@@ -244,6 +256,44 @@ module _ {B : Type 0} where
         other w there) in
         let e = r.law.lots.all in let f = r.law.lots.counted in record { all = omega arith; counted = omega arith }
 
+    -- what was stored is stored by the one that has taken the other in
+    kept : (n : ℕ) → IsStored old.stored n → IsStored (set (set old.stored id (v.stored ++ w.stored)) other []) n
+    kept n g = dite (ℕ_discrete g.0 id)
+        (λ e. mine (in_front n v.stored w.stored (subst (IsIn n) (one_of g.0 id e g.1.0 v.stored g.1.1
+        (at_map (λ (u : View B). u.stored) s.views id v at)) g.1.2)))
+        (λ e. dite (ℕ_discrete g.0 other)
+        (λ d. mine (in_back n v.stored w.stored (subst (IsIn n) (one_of g.0 other d g.1.0 w.stored g.1.1
+        (at_map (λ (u : View B). u.stored) s.views other w there)) g.1.2)))
+        (λ d. (
+          g.0,
+          of_seat_else _ (set old.stored id (v.stored ++ w.stored)) other g.0 [] d
+              (of_seat_else _ old.stored id g.0 (v.stored ++ w.stored) e g.1),
+        )))
+      where
+        one_of : (j k : ℕ) → j ≡ k → (a b : List ℕ) → get_elem? old.stored j ≡ some a → get_elem? old.stored k ≡ some b
+            → a ≡ b
+        one_of j k e a b p q = some-injective a b (sym p ∙ (ap (get_elem? old.stored) e ∙ q))
+
+        mine : IsIn n (v.stored ++ w.stored) → IsStored (set (set old.stored id (v.stored ++ w.stored)) other []) n
+        mine i = (
+          id,
+          of_seat_else _ (set old.stored id (v.stored ++ w.stored)) other id [] (λ q. ne (sym q))
+              (of_seat_here _ old.stored id v.stored (v.stored ++ w.stored)
+              (at_map (λ (u : View B). u.stored) s.views id v at) i),
+        )
+
+    stops : Stops (words_say s.words).stop (set (set old.stored id (v.stored ++ w.stored)) other []) x2.seats.told
+    stops = let q = law2.stops in record {
+      given = λ n. kept (words_say s.words).stop (q.given n);
+      stands = each_set _ (set old.stored id (v.stored ++ w.stored)) other []
+          (each_set _ old.stored id (v.stored ++ w.stored) q.stands
+          (all_append (λ n. (words_say s.words).stop ≢ 0) v.stored w.stored
+          (q.stands id v.stored (at_map (λ (u : View B). u.stored) s.views id v at))
+          (q.stands other w.stored (at_map (λ (u : View B). u.stored) s.views other w there))))
+          (λ n i. absurd i);
+      found = λ j ns e n i z. kept n (q.found j ns e n i z);
+    }
+
     -- what the seats have, where v has become both
     abbrev have_both : SeatsHave B → SeatsHave B
     have_both y = record y {
@@ -257,6 +307,8 @@ module _ {B : Type 0} where
       closed = set old.closed id k.closed;
       found = set old.found id k.found;
       rested = set old.rested id k.rested;
+      stored = set old.stored id (v.stored ++ w.stored);
+      told = set old.told id k.told;
     }
 
     p1 : seats_have (set (set s.views id (both v w)) other spent) ≡ set_seats (have_both old) other spent
@@ -272,9 +324,11 @@ module _ {B : Type 0} where
 
     p2 : set_seats (have_both old) other spent
         ≡ (with_lots P key.cells x2 law2 (set (set old.lots id (v.lot + w.lot)) other 0)
-        (set (set old.refused id (v.refused + w.refused)) other 0)).seats
+        (set (set old.refused id (v.refused + w.refused)) other 0)
+        (set (set old.stored id (v.stored ++ w.stored)) other [])).seats
     p2 j = record (with_lots P key.cells x2 law2 (set (set old.lots id (v.lot + w.lot)) other 0)
-        (set (set old.refused id (v.refused + w.refused)) other 0)).seats {
+        (set (set old.refused id (v.refused + w.refused)) other 0)
+        (set (set old.stored id (v.stored ++ w.stored)) other [])).seats {
           tokens = again (λ u. u.tokens) 0 iw.tokens j;
           cleared = again (λ u. u.cleared) 0 iw.cleared j;
           hands = again (λ u. u.hand) None iw.hand j;
@@ -292,7 +346,7 @@ module _ {B : Type 0} where
         (each_set _ s.views id (both v w) r.seats
         (both_seat key v w (r.seats id v at) (r.seats other w there) so.known_born))
         (spent_seat key))
-        (law_lots P key.cells x2 law2 _ _ lots)
+        (law_lots P key.cells x2 law2 _ _ _ lots stops)
 
   -- a merge keeps the rule
   pub rule_joins : (program : Bool → B → Program B) (key : Key B) (id : ℕ) (v : View B) (other : ℕ) (w : View B)

@@ -388,6 +388,11 @@ module _ {B : Type 0} (program : Program B) (cells : ℕ) (some_cells : 0 < cell
       counted = live cells some_cells;
       stays_at_rest = each_only _ false (λ e. cc);
     };
+    stops = record {
+      given = λ n. absurd (n refl);
+      stands = each_only _ [] (λ n i. absurd i);
+      found = each_only _ [] (λ n i. absurd i);
+    };
     waiters_own = λ t c way walk e. ⊎_elim (λ q. cc) (λ q. cc) (no_wait t (Waiting c way walk) e);
     records_fit =
         λ t r e. subst
@@ -465,6 +470,7 @@ module _ {B : Type 0} (program : Bool → B → Program B) (key : Key B) (some_c
       seat : IsSeat key (first_view key.cells root_of key.strict)
       seat = record {
         about = λ a e. let q : record { root = root_of; cells = key.cells; strict = key.strict } ≡ a = cc in sym q;
+        named = inr (record { root = root_of; cells = key.cells; strict = key.strict }, refl);
         within_lot =
             record {
               least = inr (omega arith);

@@ -1,6 +1,6 @@
 -- A split keeps the rule of the table.
 use Rattle.std.proofs.Common.{◌≡◌, Bool, ℕ, zero, suc, ◌+◌, ◌-◌, List, [], ◌∷◌, ◌++◌, Option, Some, None, set, refl}
-use Rattle.std.proofs.Common.{sym, ap, ◌∙◌, inl, inr, arith}
+use Rattle.std.proofs.Common.{sym, ap, ◌∙◌, inl, inr, arith, ⊎_elim}
 use mathlib.Core.Option.{some, some-injective, some-ne-none}
 use mathlib.Core.List.{map-append}
 use lib.ListN.{get_elem?}
@@ -12,7 +12,7 @@ use Rattle.tj_words.specs.declared.table.Key.{Key}
 use Rattle.tj_words.specs.declared.view.Custody.{Custody}
 use Rattle.tj_words.specs.declared.view.View.{View}
 use Rattle.tj_words.specs.Words.Lists.{total}
-use Rattle.tj_words.specs.LawParts.Lots.{all_lots, least_lot}
+use Rattle.tj_words.specs.LawParts.Lots.{IsSpent, all_lots, least_lot}
 use Rattle.tj_words.specs.LawParts.LiveCount.{HasWakeToCome}
 use Rattle.tj_words.specs.LawParts.Contents.{SeatsHave, seats_have, contents_of}
 use Rattle.tj_words.specs.Law.{Rule, IsSeat}
@@ -51,6 +51,8 @@ module _ {B : Type 0} where
     closed = x.closed ++ w.closed ∷ [];
     found = x.found ++ w.found ∷ [];
     rested = x.rested ++ w.rested ∷ [];
+    stored = x.stored ++ w.stored ∷ [];
+    told = x.told ++ w.told ∷ [];
   }
 
   pub seats_snoc : (views : List (View B)) (w : View B)
@@ -74,12 +76,15 @@ module _ {B : Type 0} where
     closed = map-append (λ (v : View B). v.closed) views (w ∷ []) j;
     found = map-append (λ (v : View B). v.found) views (w ∷ []) j;
     rested = map-append (λ (v : View B). v.rested) views (w ∷ []) j;
+    stored = map-append (λ (v : View B). v.stored) views (w ∷ []) j;
+    told = map-append (λ (v : View B). v.told) views (w ∷ []) j;
   }
 
   -- both halves are seats
   left_seat : (key : Key B) (v : View B) → MaySplit v → IsSeat key v → IsSeat key (left_half v)
   left_seat key v m h = let b = h.backing in let l = m.lot in record {
     about = h.about;
+    named = h.named;
     within_lot =
         record { least = inr (omega arith); refused_fit = m.refused; tokens_fit = m.tokens; cleared_fit = m.cleared };
     backing = record { wakes = b.wakes; tags = b.tags; alarms = b.alarms };
@@ -89,6 +94,7 @@ module _ {B : Type 0} where
   right_seat : (key : Key B) (v : View B) → IsSeat key v → IsSeat key (right_half v)
   right_seat key v h = record {
     about = h.about;
+    named = ⊎_elim (λ (q : IsSpent v). inl (q.0, refl)) (λ q. inr q) h.named;
     within_lot =
         record
         { least = inr (omega arith); refused_fit = omega arith; tokens_fit = omega arith; cleared_fit = omega arith };

@@ -182,6 +182,7 @@ module _ {B : Type 0} (program : Bool → B → Program B) (key : Key B) where
       })
   seat_written v c steps f wrote filled shuts q wakes = record {
     about = q.about;
+    named = q.named;
     within_lot = record {
       least = q.within_lot.least;
       refused_fit = q.within_lot.refused_fit;

@@ -16,6 +16,7 @@ use Rattle.tj_words.specs.LawParts.Chains.{Chains}
 use Rattle.tj_words.specs.LawParts.Custodies.{Custodies, OwnedLists}
 use Rattle.tj_words.specs.LawParts.Hands.{Hands}
 use Rattle.tj_words.specs.LawParts.LiveCount.{LiveCount}
+use Rattle.tj_words.specs.LawParts.Stops.{Stops}
 use Rattle.tj_words.specs.LawParts.NamedCells.{NamesCells}
 use Rattle.tj_words.specs.LawParts.OnceWords.{OnceWords}
 use Rattle.tj_words.specs.LawParts.RecordPhases.{RecordsFit, WaitersOwn}
@@ -50,12 +51,13 @@ module _ {B : Type 0} {program : Program B} {cells : ℕ} {x : Contents B} (law 
       → Chains (λ c. words.once c once.Tag) words.head words.next x.words.phase seats.pushes seats.shuts seats.rests
       seats.closed seats.found
       → LiveCount cells words.live x.words.phase seats.tokens seats.rested
+      → Stops words.stop seats.stored seats.told
       → RecordsFit (λ c. words.once c once.Tag) x.words.phase (home_of x)
       → Meaning program cells x.words.count words.stop (drawn_in cells x) (hand_of x) law.born
       (λ c. words.once c once.Tag) (λ c. words.once c once.Bits) (home_of x) seats.born_seen seats.wrote seats.filled
       → CoreFacts (core_shown cells law.born law.maker (kept words seats))
       → Law program cells (kept words seats)
-  law_kept words seats tree_words once_words chains live_count fit meaning facts = record {
+  law_kept words seats tree_words once_words chains live_count stops fit meaning facts = record {
     born = law.born;
     maker = law.maker;
     number = law.number;
@@ -71,6 +73,7 @@ module _ {B : Type 0} {program : Program B} {cells : ℕ} {x : Contents B} (law 
     once_words = once_words;
     chains = chains;
     live_count = live_count;
+    stops = stops;
     waiters_own = law.waiters_own;
     records_fit = fit;
     meaning = meaning;
@@ -109,7 +112,7 @@ module _ {B : Type 0} {program : Program B} {cells : ℕ} {x : Contents B} (law 
         rests = rests;
         closed = closed;
         found = found;
-      }) law.tree_words law.once_words c l law.records_fit law.meaning law.facts
+      }) law.tree_words law.once_words c l law.stops law.records_fit law.meaning law.facts
 
   -- the chains alone change
   pub law_chains : (head next : ℕ → Head) (pushes : List (List Push)) (shuts : List (List ℕ))
@@ -135,14 +138,14 @@ module _ {B : Type 0} {program : Program B} {cells : ℕ} {x : Contents B} (law 
   }
 
   -- OTHERS, STOP and the waits cleared alone change
-  pub law_counts : (others stop : ℕ) (cleared : List ℕ)
+  pub law_counts : (others stop : ℕ) (cleared : List ℕ) → Stops stop x.seats.stored x.seats.told
       → Meaning program cells x.words.count stop (drawn_in cells x) (hand_of x) law.born (tag_in x) (bits_in x)
       (home_of x) x.seats.born_seen x.seats.wrote x.seats.filled
       → CoreFacts (core_shown cells law.born law.maker (with_counts others stop cleared))
       → Law program cells (with_counts others stop cleared)
-  law_counts others stop cleared meaning facts =
+  law_counts others stop cleared stops meaning facts =
       law_kept (record x.words { others = others; stop = stop }) (record x.seats { cleared = cleared }) law.tree_words
-      law.once_words law.chains law.live_count law.records_fit meaning facts
+      law.once_words law.chains law.live_count stops law.records_fit meaning facts
 
   -- the contents with other words that are written once, and with what the seats know of these and have to do for them
   abbrev pub with_once : (ℕ → Once → ℕ) → List (List SeenWord) → List (List Due) → List (List Reference)
@@ -181,7 +184,7 @@ module _ {B : Type 0} {program : Program B} {cells : ℕ} {x : Contents B} (law 
         wrote = wrote;
         filled = filled;
         shuts = shuts;
-      }) tree_words once_words chains law.live_count fit meaning law.facts
+      }) tree_words once_words chains law.live_count law.stops fit meaning law.facts
 
   -- the contents with other owners, and with what the seats have for their tasks and are to write
   abbrev pub with_owners : (ℕ → Option ℕ) → List (List (Custody B)) → List (List Due) → Contents B
@@ -219,6 +222,7 @@ module _ {B : Type 0} {program : Program B} {cells : ℕ} {x : Contents B} (law 
     once_words = once_words;
     chains = law.chains;
     live_count = law.live_count;
+    stops = law.stops;
     waiters_own = waiters;
     records_fit = law.records_fit;
     meaning = law.meaning;

@@ -35,6 +35,8 @@ module _ {B : Type 0} where
     closed = set x.closed id w.closed;
     found = set x.found id w.found;
     rested = set x.rested id w.rested;
+    stored = set x.stored id w.stored;
+    told = set x.told id w.told;
   }
 
   -- what the seats have, where the view of one changes
@@ -59,6 +61,8 @@ module _ {B : Type 0} where
     closed = map-set (λ (v : View B). v.closed) views id w j;
     found = map-set (λ (v : View B). v.found) views id w j;
     rested = map-set (λ (v : View B). v.rested) views id w j;
+    stored = map-set (λ (v : View B). v.stored) views id w j;
+    told = map-set (λ (v : View B). v.told) views id w j;
   }
 
   -- the same where a seat keeps its view

@@ -35,7 +35,7 @@ module _ {A : Type 0} (words : ℕ → Once → A) (c : ℕ) (f : Once) (a : A) 
   put_word_word d g e = put_word_else d g (λ q. e (same_word c d f g q))
 
 -- what the words say once the word w of them is n
-abbrev said : WordsSay → TableWord → ℕ → WordsSay
+abbrev pub said : WordsSay → TableWord → ℕ → WordsSay
 said words w n = record {
   count = cond (is_word Count w) n words.count;
   live = cond (is_word Live w) n words.live;
@@ -58,7 +58,7 @@ module _ (ws : List ℕ) (n : ℕ) where
       (λ e. ap read (word_else ws (index w) (index x) n e)
       ∙ sym (ap (λ (b : Bool). cond b (read n) (read (word ws (index x)))) (is_word_else w x e)))
 
-  say : (w : TableWord) → index w < length ws → words_say (set ws (index w) n) ≡ said (words_say ws) w n
+  pub say : (w : TableWord) → index w < length ws → words_say (set ws (index w) n) ≡ said (words_say ws) w n
   say w l j = record {
     count = read_store (λ k. k) w Count l j;
     live = read_store (λ k. k) w Live l j;

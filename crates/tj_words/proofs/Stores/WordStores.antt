@@ -238,6 +238,7 @@ module _ {B : Type 0} (program : Bool → B → Program B) (key : Key B) where
       born.0 born.1)
       record {
         about = q.about;
+        named = q.named;
         within_lot = record {
           least = q.within_lot.least;
           refused_fit = q.within_lot.refused_fit;

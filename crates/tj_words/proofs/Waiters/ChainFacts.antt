@@ -71,7 +71,7 @@ none_of [] e = refl
 none_of (t ∷ ts) e = absurd (cc)
 
 -- a list that NEXT links is known by its head
-linked_one : (next : ℕ → Head) (l m : List ℕ) → AreLinked next l → AreLinked next m → head_of l ≡ head_of m → l ≡ m
+pub linked_one : (next : ℕ → Head) (l m : List ℕ) → AreLinked next l → AreLinked next m → head_of l ≡ head_of m → l ≡ m
 linked_one next [] [] a b e = refl
 linked_one next [] (u ∷ m) a b e = absurd (cc)
 linked_one next (t ∷ l) [] a b e = absurd (cc)

@@ -110,6 +110,7 @@ module _ {B : Type 0} (program : Bool → B → Program B) (key : Key B) where
       may = may;
       seat = subst (IsSeat key) (sym same) (let q = r.seats id v at in let l = q.within_lot in record {
         about = q.about;
+        named = q.named;
         within_lot = record {
           least = l.least;
           refused_fit = l.refused_fit;

@@ -17,8 +17,9 @@ use Rattle.tj_words.specs.Calls.LiveViews.{live_lowered, LaysChild, Shelves, May
 use Rattle.tj_words.specs.Calls.LiveViews.{live_sub}
 use Rattle.tj_words.specs.Calls.LiveViews.{now_home, stop_store}
 use Rattle.tj_words.specs.SeatViews.SeatSteps.{SeatMe}
-use Rattle.tj_words.specs.SeatViews.Views.{noted_step}
-use Rattle.tj_words.specs.declared.view.Noted.TheVariants as note
+use Rattle.tj_words.specs.SeatViews.Views.{stored_stop}
+use Rattle.tj_words.specs.LawParts.Stops.{Stops}
+use Rattle.tj_words.proofs.Stores.SeatLists.{of_seat_here, of_seat_set}
 use Rattle.tj_words.proofs.Stores.SeatContents.{set_seats, seats_same}
 use Rattle.tj_words.proofs.Stores.StoreSteps.{may_store, Stores, step_allowed, rule_stores}
 use Rattle.tj_words.proofs.Stores.StoredWords.{say_live, say_stop}
@@ -46,7 +47,7 @@ use Rattle.tj_words.proofs.Waiters.LiveStores.{live_some, live_up_stores, live_d
 use Rattle.tj_words.proofs.Waiters.LiveSteps.{count_up, count_down, backed_lively, backing_token}
 use Rattle.tj_words.proofs.Holders.TaskPlaces.{custody}
 use Rattle.tj_words.proofs.Holders.HeldChanges.{held_task}
-use Rattle.tj_words.proofs.Holders.NotedTasks.{noted_is, holder_lot}
+use Rattle.tj_words.proofs.Holders.NotedTasks.{noted_is, holder_lot, holder_named}
 use Rattle.tj_words.proofs.Events.StepFacts.{facts_same}
 use Rattle.tj_words.proofs.Events.QuietMoves.{shelve_shown}
 use Rattle.tj_words.proofs.Holders.LaidRecords.{tokens_at, tasks_at, hand_at, laid_slots, as_many, lies, cells_there}
@@ -61,13 +62,14 @@ module _ {B : Type 0} (program : Bool → B → Program B) (key : Key B) where
 
   module _ (s : State (Option (Rec B)) (View B)) (r : Rule program key s) (id : ℕ) (v : View B)
       (at : get_elem? s.views id ≡ some v) where
-    stop_stores : (w : ℕ) → w ≤ 2 → (w ≡ 1 → 0 < v.refused)
-        → Stores program key s id stop_at w (noted_step note.StoredStop w v)
-    stop_stores w small refused = let h = r.seats id v at in let l = h.within_lot in let b = h.backing in record {
+    stop_stores : (w : ℕ) → 0 < w → w ≤ 2 → (w ≡ 1 → 0 < v.refused)
+        → Stores program key s id stop_at w (stored_stop w v)
+    stop_stores w above small refused = let h = r.seats id v at in let l = h.within_lot in let b = h.backing in record {
       inside = inside;
       may = may_store key.cells Stop w small;
       seat = record {
         about = h.about;
+        named = h.named;
         within_lot = record {
           least = l.least;
           refused_fit = l.refused_fit;
@@ -79,9 +81,15 @@ module _ {B : Type 0} (program : Bool → B → Program B) (key : Key B) where
       };
       law = subst
           (λ z. Law P key.cells record { words = words_say (set s.words stop_at w); slots = s.homes; seats = z })
-          (sym (seats_same s.views id v at))
-          (subst (λ z. Law P key.cells record { words = z; slots = s.homes; seats = seats_have s.views })
+          (sym (ap (λ (y : SeatsHave B). record y { stored = set (seats_have s.views).stored id (w ∷ v.stored) })
+          (seats_same s.views id v at)))
+          (subst (λ z. Law P key.cells record {
+            words = z;
+            slots = s.homes;
+            seats = record (seats_have s.views) { stored = set (seats_have s.views).stored id (w ∷ v.stored) };
+          })
           (sym (say_stop s.words w inside)) (law_stops P key.cells (contents_of s) r.law w
+          (set (seats_have s.views).stored id (w ∷ v.stored)) stops
           (λ e. refused_above key.cells (contents_of s).words.count (contents_of s).seats.lots
           (contents_of s).seats.refused r.law.lots id v.refused (at_map (λ (u : View B). u.refused) s.views id v at)
           (refused e))));
@@ -90,11 +98,25 @@ module _ {B : Type 0} (program : Bool → B → Program B) (key : Key B) where
         inside : stop_at < length s.words
         inside = let e = r.all_words in omega arith
 
-  pub stop_allowed : (slots id : ℕ) (m : SeatMe B) (w : ℕ) → w ≤ 2 → (w ≡ 1 → 0 < m.0.refused)
+        mine : get_elem? (seats_have s.views).stored id ≡ some v.stored
+        mine = at_map (λ (u : View B). u.stored) s.views id v at
+
+        -- what was stored still is, and w is
+        stops : Stops w (set (seats_have s.views).stored id (w ∷ v.stored)) (seats_have s.views).told
+        stops = record {
+          given = λ n. (id, of_seat_here _ (seats_have s.views).stored id v.stored (w ∷ v.stored) mine (inl refl));
+          stands = λ j ns e n i z. absurd (omega arith);
+          found = λ j ns e n i z. let g = r.law.stops.found j ns e n i z in (
+            g.0,
+            of_seat_set _ (seats_have s.views).stored id g.0 v.stored (w ∷ v.stored) mine (λ k. inr k) g.1,
+          );
+        }
+
+  pub stop_allowed : (slots id : ℕ) (m : SeatMe B) (w : ℕ) → 0 < w → w ≤ 2 → (w ≡ 1 → 0 < m.0.refused)
       → Allows (Rule program key) slots id m stop_at (λ n. w) (λ n. stop_store (step slots stop_at w 0 none) m w)
-  stop_allowed slots id m w small refused = step_allowed program key slots id m stop_at (λ n. w)
+  stop_allowed slots id m w some_w small refused = step_allowed program key slots id m stop_at (λ n. w)
       (λ n. stop_store (step slots stop_at w 0 none) m w)
-      (λ s r at. (noted_step note.StoredStop w m.0, stop_stores s r id m.0 at w small refused, (refl, refl)))
+      (λ s r at. (stored_stop w m.0, stop_stores s r id m.0 at w some_w small refused, (refl, refl)))
 
   -- a step on LIVE that leaves the seat with the view w, where the record of t comes home or not
   module _ (s : State (Option (Rec B)) (View B)) (r : Rule program key s) (id : ℕ) (v : View B)
@@ -186,6 +208,7 @@ module _ {B : Type 0} (program : Bool → B → Program B) (key : Key B) where
           (as_many program key s r id t v at mine k h.held c h.puts h.no_hand)
           (let a = r.seats id v at in let l = a.within_lot in record {
             about = a.about;
+            named = inr (holder_named v t k h.held a.named);
             within_lot = record {
               least = inr (holder_lot v t k h.held l);
               refused_fit = l.refused_fit;

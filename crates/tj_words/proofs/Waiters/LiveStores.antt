@@ -52,6 +52,7 @@ module _ {B : Type 0} (program : Bool → B → Program B) (key : Key B) (s : St
       may = may_store key.cells Live n tt;
       seat = record {
         about = h.about;
+        named = h.named;
         within_lot =
             record { least = l.least; refused_fit = l.refused_fit; tokens_fit = fits; cleared_fit = l.cleared_fit };
         backing = backs;

@@ -85,7 +85,7 @@ module _ {B : Type 0} {program : Program B} {cells : ℕ} {x : Contents B} (even
   -- the law after the subtraction from OTHERS
   pub law_lowers : (cleared : List ℕ) → total x.seats.cleared ≡ suc (total cleared)
       → Law program cells (lowered_to cleared)
-  law_lowers cleared e = law_counts r (x.words.others - 1) x.words.stop cleared r.meaning
+  law_lowers cleared e = law_counts r (x.words.others - 1) x.words.stop cleared r.stops r.meaning
       (facts_after event_keeps (lower_shown r (lowered_to cleared) record {
         some = omega (arith, e);
         same = λ j. record (parts_of cells x) { others = x.words.others - 1; cleared = less j };
@@ -150,6 +150,7 @@ module _ {B : Type 0} (program : Bool → B → Program B) (key : Key B) (event_
             (seats_same s.views id v at))
             record {
               about = q.about;
+              named = q.named;
               within_lot = record {
                 least = l.least;
                 refused_fit = l.refused_fit;

@@ -4,6 +4,7 @@ use Rattle.tj_body.specs.Programs.{Program}
 use Rattle.tj_body.specs.Rounds.{IsFull}
 use Rattle.tj_core.specs.CoreFacts.{CoreFacts}
 use Rattle.tj_words.specs.LawParts.Lots.{Lots}
+use Rattle.tj_words.specs.LawParts.Stops.{Stops}
 use Rattle.tj_words.specs.LawParts.Hands.{Hands}
 use Rattle.tj_words.specs.LawParts.NamedCells.{NamesCells}
 use Rattle.tj_words.specs.LawParts.TreeWords.{Births, IsForkTree, TreeWords}
@@ -16,14 +17,19 @@ use Rattle.tj_words.specs.LawParts.Contents.{Contents, drawn_in, tag_in, bits_in
 use Rattle.tj_words.specs.LawParts.Contents.{made_of}
 use Rattle.tj_words.specs.Law.{Law}
 use Rattle.tj_words.proofs.Meaning.MeaningSteps.{stop_meant, refused_meant}
-use Rattle.tj_words.proofs.Stores.LawChanges.{law_counts}
+use Rattle.tj_words.proofs.Stores.LawChanges.{law_kept}
 use Rattle.tj_words.proofs.Meaning.LawMeant.{ground_of, known_of, law_meant}
 
 module _ {B : Type 0} (program : Program B) (N : ℕ) (x : Contents B) (r : Law program N x) where
   -- the store of STOP
-  pub law_stops : (stop : ℕ) → (stop ≡ 1 → N < x.words.count)
-      → Law program N (record x { words = record x.words { stop = stop } })
-  law_stops stop above = law_counts r x.words.others stop x.seats.cleared
+  pub law_stops : (stop : ℕ) (stored : List (List ℕ)) → Stops stop stored x.seats.told
+      → (stop ≡ 1 → N < x.words.count)
+      → Law program N (record x {
+        words = record x.words { stop = stop };
+        seats = record x.seats { stored = stored };
+      })
+  law_stops stop stored stops above = law_kept r (record x.words { stop = stop }) (record x.seats { stored = stored })
+      r.tree_words r.once_words r.chains r.live_count stops r.records_fit
       (stop_meant program N {g = ground_of N r.born x} {home = home_of x} {k = known_of x} (law_meant program N x r)
       stop above)
       r.facts
@@ -56,6 +62,7 @@ module _ {B : Type 0} (program : Program B) (N : ℕ) (x : Contents B) (r : Law 
         r.once_words;
     chains = r.chains;
     live_count = r.live_count;
+    stops = r.stops;
     waiters_own = r.waiters_own;
     records_fit = r.records_fit;
     meaning = subst (λ n. Meaning program N (suc x.words.count) x.words.stop n (hand_of x) r.born (tag_in x) (bits_in x)

@@ -1,7 +1,8 @@
 -- Runs of a table by its calls: each call of a seat of which what the call asks is so, each split, and each merge of
 -- idle seats is the one event of the core that is named here, or none. So from a new table on they are a legal run of
 -- the core.
-use Rattle.std.specs.Prelude.{◌≡◌, ◌≢◌, ◌⊎◌, ℕ, ◌≤◌, ◌<◌, Bool, List, [], ◌∷◌, Option, Some, None}
+use Rattle.std.specs.Prelude.{◌≡◌, ◌≢◌, ◌⊎◌, ℕ, ◌≤◌, ◌<◌, Bool, List, [], ◌∷◌, ◌++◌, Option, Some, None}
+use mathlib.Core.Logic.{inl, inr}
 use Rattle.atomic_table.specs.Table.{State, Step, Act, keeps, takes, gives, opening}
 use Rattle.tj_body.specs.Programs.{Program}
 use Rattle.tj_core.specs.CoreState.{present, root_alone}
@@ -198,6 +199,20 @@ module _ {B : Type 0} (program : Bool → B → Program B) (key : Key B) where
   AreAskedMoments u [] = Unit {0}
   AreAskedMoments u (w ∷ ws) = IsAskedStep u.now w.now × AreAskedMoments w ws
 
+  -- these are the events of the step: those of its call, or none
+  abbrev pub StepShows : (u w : Ruled program key) → IsAskedStep u.now w.now → List Event → Type 0
+  StepShows u w (inl c) es =
+      events_by key.cells c.made.call c.made.operands (word u.now.words (place_of c.made.call)) c.made.seat.0 es
+  StepShows u w (inr b) es = es ≡ []
+
+  -- these are the events of the steps, step by step
+  abbrev pub AreShown : (u : Ruled program key) (later : List (Ruled program key)) → AreAskedMoments u later
+      → List (List Event) → Type 0
+  AreShown u [] a [] = Unit {0}
+  AreShown u [] a (es ∷ more) = ⊥
+  AreShown u (w ∷ ws) a [] = ⊥
+  AreShown u (w ∷ ws) a (es ∷ more) = StepShows u w a.0 es × AreShown w ws a.1 more
+
   -- the contents of a moment, under the law
   abbrev pub under : Ruled program key → Under (program key.strict key.root.value) key.cells
   under u = record { now = contents_of u.now; law = u.rule.law }
@@ -216,13 +231,19 @@ SeatsAreQuiet B = (program : Bool → B → Program B) (key : Key B) (u w : Rule
     → IsSplit u.now w.now ⊎ IsIdleMerge u.now w.now
     → IsStep (program key.strict key.root.value) key.cells (under program key u) [] (under program key w)
 
--- from a new table on, what such steps show is a legal run of the core, and the last moment shows the state after it
+-- the lists as one
+abbrev pub joined : List (List Event) → List Event
+joined [] = []
+joined (es ∷ more) = es ++ joined more
+
+-- from a new table on, what such steps show is a legal run of the core, of the events of the calls in their order, and
+-- the last moment shows the state after it
 abbrev pub CallRunsAreLegal : Type 0 → Type 0
 CallRunsAreLegal B = (program : Bool → B → Program B) (key : Key B) (u : Ruled program key)
     (later : List (Ruled program key))
     → u.now ≡ opening (first_words key.cells) (first_slots key.cells key.root.value)
     (first_view key.cells key.root.value key.strict)
-    → AreAskedMoments program key u later
-    → (es : List Event) × IsLegalRun key.cells es
+    → (a : AreAskedMoments program key u later)
+    → (shown : List (List Event)) × AreShown program key u later a shown × IsLegalRun key.cells (joined shown)
     × (state_of (program key.strict key.root.value) key.cells
-    (under program key (last_moment program key u later)) ≡ after_all root_alone es)
+    (under program key (last_moment program key u later)) ≡ after_all root_alone (joined shown))

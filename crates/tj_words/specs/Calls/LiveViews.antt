@@ -20,7 +20,7 @@ use Rattle.tj_words.specs.Calls.PutRecords.{PutsHome}
 use Rattle.tj_words.specs.LawParts.RecordPhases.{WaitsFor}
 use Rattle.tj_words.specs.SeatViews.SeatSteps.{IsOn, SeatMe, Tells}
 use Rattle.tj_words.specs.SeatViews.TaskLists.{let_go, noted}
-use Rattle.tj_words.specs.SeatViews.Views.{noted_step}
+use Rattle.tj_words.specs.SeatViews.Views.{stored_stop}
 
 -- the slots that a seat has
 abbrev pub SlotsOf : Type 0 → Type 0
@@ -147,7 +147,7 @@ module _ {B : Type 0} where
 
   -- the store of STOP, which the seat notes with the number stored
   abbrev pub stop_store : Tells B
-  stop_store st m n m' = (m' ≡ (noted_step note.StoredStop st.first m.0, m.1)) × IsOn note.StoredStop st
+  stop_store st m n m' = (m' ≡ (stored_stop st.first m.0, m.1)) × IsOn note.StoredStop st
 
   -- the stores of Ready and of Ended into PHASE of t
   abbrev pub ready_store : ℕ → Tells B

@@ -10,7 +10,10 @@ use Rattle.tj_words.specs.declared.view.Push.{Push}
 use Rattle.tj_words.specs.declared.view.Rest.{Rest}
 use Rattle.tj_words.specs.declared.view.Found.{Found}
 use Rattle.tj_words.specs.Words.Lists.{cell}
+use Rattle.tj_body.specs.Programs.{Program}
 use Rattle.tj_words.specs.LawParts.Chains.{IsParkedOn, head_of}
+use Rattle.tj_words.specs.LawParts.Contents.{Contents, tag_in}
+use Rattle.tj_words.specs.Law.{Law}
 
 -- the list that begins at this head, goes on by NEXT, and ends where that names nobody
 abbrev pub GoesOn : (ℕ → Head) → Head → List ℕ → Type 0
@@ -68,3 +71,9 @@ pub record ChainSentences (tag : ℕ → ℕ) (head next : ℕ → Head) (phase 
     pub stored : (j : ℕ) (l : List Push) (e : Push) (h : Head) → get_elem? pushes j ≡ some l → IsIn e l
         → e.next ≡ Some h
         → next e.task ≡ h
+
+-- at each moment under the law these are so
+abbrev pub NoWakeIsLost : Type 0 → Type 0
+NoWakeIsLost B = (program : Program B) (cells : ℕ) (x : Contents B) → Law program cells x
+    → ChainSentences (tag_in x) x.words.head x.words.next x.words.phase x.seats.pushes x.seats.shuts x.seats.rests
+    x.seats.closed x.seats.found

@@ -74,6 +74,8 @@ pub record SeatsHave (B : Type 0) : Type 0 where
   pub closed : List (List ℕ)
   pub found : List (List Found)
   pub rested : List Bool
+  pub stored : List (List ℕ)
+  pub told : List (List ℕ)
 
 -- what the seats have
 abbrev pub seats_have : {B : Type 0} → List (View B) → SeatsHave B
@@ -96,6 +98,8 @@ seats_have {B} views = record {
   closed = map (λ (v : View B). v.closed) views;
   found = map (λ (v : View B). v.found) views;
   rested = map (λ (v : View B). v.rested) views;
+  stored = map (λ (v : View B). v.stored) views;
+  told = map (λ (v : View B). v.told) views;
 }
 
 -- the contents of a table

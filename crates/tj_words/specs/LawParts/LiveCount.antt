@@ -1,5 +1,5 @@
 -- Live count: LIVE counts the tasks that are ready, running or walking, and the tokens of the seats.
-use Rattle.std.specs.Prelude.{◌≡◌, ◌≢◌, ◌⊎◌, ℕ, zero, suc, ◌+◌, ◌<◌, Bool, true, List, [], Some}
+use Rattle.std.specs.Prelude.{◌≡◌, ◌≢◌, ◌⊎◌, ℕ, zero, suc, ◌+◌, ◌<◌, Bool, true, List, [], Option, Some}
 use Rattle.tj_words.specs.declared.phase.Walk.TheVariants as walk
 use Rattle.tj_words.specs.declared.phase.Phase.{Phase}
 use Rattle.tj_words.specs.declared.phase.Phase.TheVariants as phase
@@ -9,6 +9,7 @@ use Rattle.tj_words.specs.declared.view.Does.TheVariants as does
 use Rattle.tj_words.specs.declared.view.Custody.{Custody}
 use Rattle.tj_words.specs.declared.view.Due.{Due}
 use Rattle.tj_words.specs.declared.view.Rest.{Rest}
+use Rattle.tj_words.specs.declared.view.Push.{Push}
 use Rattle.tj_words.specs.declared.view.View.{View}
 use Rattle.tj_words.specs.Words.Lists.{Each, Any, total}
 use Rattle.tj_words.specs.LawParts.Holding.{held_in}
@@ -61,25 +62,46 @@ HasAlarmed does.Raised = ⊥
 HasAlarmed (does.Walking c way w) = ⊥
 HasAlarmed (does.Alarmed c way w) = Unit {0}
 
+-- the seat has a step of the chains to come: a push or the exchange in its place, a shut, or a rest
+abbrev pub HasWake : List Push → List ℕ → Option Rest → Type 0
+HasWake pushes shuts rest = (pushes ≢ []) ⊎ ((shuts ≢ []) ⊎ ((r : Rest) × (rest ≡ Some r)))
+
 module _ {B : Type 0} where
   -- the seat holds a task that does so
+  abbrev pub HoldsIn : (Does → Type 0) → List (Custody B) → Type 0
+  HoldsIn F tasks = (t : ℕ) × (k : Custody B) × (held_in tasks t ≡ Some k) × F k.does
+
+  -- the same of a view
   abbrev pub Holds : (Does → Type 0) → View B → Type 0
-  Holds F v = (t : ℕ) × (k : Custody B) × (held_in v.tasks t ≡ Some k) × F k.does
+  Holds F v = HoldsIn F v.tasks
 
   -- the seat holds a token or a running task
+  abbrev pub IsBackedBy : ℕ → List (Custody B) → Type 0
+  IsBackedBy tokens tasks = (0 < tokens) ⊎ HoldsIn DoesRun tasks
+
+  -- the same of a view
   abbrev pub IsBacked : View B → Type 0
-  IsBacked v = (0 < v.tokens) ⊎ Holds DoesRun v
+  IsBacked v = IsBackedBy v.tokens v.tasks
 
   -- the seat holds a token or a running or walking task
-  abbrev pub IsLively : View B → Type 0
-  IsLively v = (0 < v.tokens) ⊎ (Holds DoesRun v ⊎ Holds DoesWalk v)
+  abbrev pub IsLivelyBy : ℕ → List (Custody B) → Type 0
+  IsLivelyBy tokens tasks = (0 < tokens) ⊎ (HoldsIn DoesRun tasks ⊎ HoldsIn DoesWalk tasks)
 
-  -- the seat has a step of the chains to come: a push or the exchange in its place, a shut, or a rest
+  -- the same of a view
+  abbrev pub IsLively : View B → Type 0
+  IsLively v = IsLivelyBy v.tokens v.tasks
+
+  -- a seat with this view has such a step to come
   abbrev pub HasWakeToCome : View B → Type 0
-  HasWakeToCome v = (v.pushes ≢ []) ⊎ ((v.shuts ≢ []) ⊎ ((r : Rest) × (v.rest ≡ Some r)))
+  HasWakeToCome v = HasWake v.pushes v.shuts v.rest
 
   -- what a seat holds that has something to come
-  pub record Backing (v : View B) : Type 0 where
-    pub wakes : HasWakeToCome v → IsBacked v
-    pub tags : Any (λ (d : Due). d.word ≡ once.Tag) v.dues → IsLively v
-    pub alarms : Holds HasAlarmed v → 0 < v.tokens
+  pub record BackingOf (tokens : ℕ) (tasks : List (Custody B)) (pushes : List Push) (shuts : List ℕ)
+      (rest : Option Rest) (dues : List Due) : Type 0 where
+    pub wakes : HasWake pushes shuts rest → IsBackedBy tokens tasks
+    pub tags : Any (λ (d : Due). d.word ≡ once.Tag) dues → IsLivelyBy tokens tasks
+    pub alarms : HoldsIn HasAlarmed tasks → 0 < tokens
+
+  -- the same of a view
+  abbrev pub Backing : View B → Type 0
+  Backing v = BackingOf v.tokens v.tasks v.pushes v.shuts v.rest v.dues

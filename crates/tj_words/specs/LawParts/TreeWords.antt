@@ -69,8 +69,8 @@ module _ (maker number : ℕ → ℕ) (forks : Forks) where
 
 -- what the cells are: the root is the first, and each other one's name is its maker's and the number of it among the
 -- things that the maker has made, all of which are cells; a cell in hand is the last of them; makers aren't in hand
-pub record Births (drawn : ℕ) (born : List Reference) (maker number made : ℕ → ℕ) (hand : ℕ → Option Hand)
-    (phase : ℕ → Phase) :
+pub record BirthsBy (drawn : ℕ) (born : List Reference) (maker number made : ℕ → ℕ) (hand : ℕ → Option Hand)
+    (shown : ℕ → Sort) :
     Type 0 where
   pub all : length born ≡ drawn
   pub root : IsCell born 0 (to_task [])
@@ -78,10 +78,15 @@ pub record Births (drawn : ℕ) (born : List Reference) (maker number made : ℕ
   pub root_number : number 0 ≡ 0
   pub named : (c : ℕ) (x : Reference) → IsCell born c x → c ≢ 0
       → (y : Reference) × IsCell born (maker c) y × (x.name ≡ child y.name (number c))
-  pub sorts : (c : ℕ) (x : Reference) → IsCell born c x → x.sort ≡ sort_shown (hand c) (phase c)
+  pub sorts : (c : ℕ) (x : Reference) → IsCell born c x → x.sort ≡ shown c
   pub makers_there : (c : ℕ) → c < drawn → IsThere drawn hand (maker c)
   pub in_hand : (c : ℕ) (h : Hand) → hand c ≡ Some h → (maker c ≡ h.maker) × (number c ≡ made h.maker)
   pub made_all : (t k : ℕ) → 0 < k → k ≤ made t → (c : ℕ) × (c < drawn) × (maker c ≡ t) × (number c ≡ k)
+
+-- the same, where hands and phases tell the sorts
+abbrev pub Births : ℕ → List Reference → (ℕ → ℕ) → (ℕ → ℕ) → (ℕ → ℕ) → (ℕ → Option Hand) → (ℕ → Phase) → Type 0
+Births drawn born maker number made hand phase =
+    BirthsBy drawn born maker number made hand (λ c. sort_shown (hand c) (phase c))
 
 -- the tasks in the tree of forks, by their names; no jump leads to a cell in hand
 pub record IsForkTree (drawn : ℕ) (born : List Reference) (maker number : ℕ → ℕ) (forks : Forks)

@@ -1,6 +1,6 @@
 -- What a seat knows and has to do, over several steps: what it knew it still knows, and what a call leaves alone is as
 -- it was. The calls that are made of several steps tell their callers this.
-use Rattle.std.specs.Prelude.{◌≡◌, List, true}
+use Rattle.std.specs.Prelude.{◌≡◌, List, ◌++◌, true}
 use Rattle.tj_body.specs.Points.{IsIn, Begins}
 use Rattle.tj_words.specs.declared.view.View.{View}
 
@@ -8,8 +8,13 @@ use Rattle.tj_words.specs.declared.view.View.{View}
 abbrev pub AreAmong : {A : Type 0} → List A → List A → Type 0
 AreAmong {A} xs ys = (x : A) → IsIn x xs → IsIn x ys
 
+-- the second list is the first with more in front of it
+abbrev pub IsTailOf : {A : Type 0} → List A → List A → Type 0
+IsTailOf {A} xs ys = (more : List A) × (ys ≡ more ++ xs)
+
 module _ {B : Type 0} where
-  -- the seat is of the same table and has the same lot, and knows what it knew
+  -- the seat is of the same table and has the same lot, and knows what it knew; what it has noted since stands in front
+  -- of its notes
   pub record KnowsMore (v w : View B) : Type 0 where
     pub about : w.about ≡ v.about
     pub lot : w.lot ≡ v.lot
@@ -20,6 +25,7 @@ module _ {B : Type 0} where
     pub seen : AreAmong v.seen w.seen
     pub closed : AreAmong v.closed w.closed
     pub rested : v.rested ≡ true → w.rested ≡ true
+    pub notes : IsTailOf v.notes w.notes
 
   -- what the seat has to do for chains of waiters is as it was
   pub record HasSameWakes (v w : View B) : Type 0 where

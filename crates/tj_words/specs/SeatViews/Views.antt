@@ -42,7 +42,20 @@ module _ {B : Type 0} where
 
   -- it loaded STOP as n
   abbrev pub saw_stop : ℕ → View B → View B
-  saw_stop n v = record v { steps = suc v.steps; stop = n; notes = note_of note.Stop n v ∷ v.notes }
+  saw_stop n v = record v {
+    steps = suc v.steps;
+    stop = n;
+    told = n ∷ v.told;
+    notes = note_of note.Stop n v ∷ v.notes;
+  }
+
+  -- it stored n into STOP
+  abbrev pub stored_stop : ℕ → View B → View B
+  stored_stop n v = record v {
+    steps = suc v.steps;
+    stored = n ∷ v.stored;
+    notes = note_of note.StoredStop n v ∷ v.notes;
+  }
 
   -- it found the chain of a cell
   abbrev pub found_chain : ℕ → List ℕ → View B → View B
@@ -124,6 +137,8 @@ module _ {B : Type 0} where
     once_loads = 0;
     steps = 0;
     stop = 0;
+    stored = [];
+    told = [];
     notes = [];
   }
 
@@ -143,6 +158,8 @@ module _ {B : Type 0} where
     plain_loads = v.plain_loads + w.plain_loads;
     once_loads = v.once_loads + w.once_loads;
     steps = v.steps + w.steps;
+    stored = v.stored ++ w.stored;
+    told = v.told ++ w.told;
   }
 
   -- what is left of the other view
@@ -171,6 +188,8 @@ module _ {B : Type 0} where
     once_loads = 0;
     steps = 0;
     stop = 0;
+    stored = [];
+    told = [];
     notes = [];
   }
 

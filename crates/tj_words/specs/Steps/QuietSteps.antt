@@ -1,5 +1,5 @@
 -- The steps that show nothing, by what they need and what they change of all by which the core state is shown.
-use Rattle.std.specs.Prelude.{◌≡◌, ◌≢◌, ℕ, suc, ◌≤◌, [], ◌∷◌, ◌++◌, Option, Some, None}
+use Rattle.std.specs.Prelude.{◌≡◌, ℕ, suc, ◌≤◌, [], ◌∷◌, ◌++◌, Option, Some, None}
 use Rattle.tj_body.specs.declared.ask.Answer.{Answer}
 use Rattle.tj_body.specs.declared.ask.Answer.TheVariants as answer
 use Rattle.tj_core.specs.declared.walk.Way.{Way}
@@ -9,14 +9,12 @@ use Rattle.tj_words.specs.declared.offsets.Once.{Once}
 use Rattle.tj_words.specs.declared.phase.Walk.TheVariants as walk
 use Rattle.tj_words.specs.declared.phase.Phase.TheVariants as phase
 use Rattle.tj_words.specs.declared.record.Rec.{Rec}
-use Rattle.tj_words.specs.declared.view.Hand.{Hand}
 use Rattle.tj_words.specs.declared.view.Does.{Does}
 use Rattle.tj_words.specs.declared.view.Does.TheVariants as does
 use Rattle.tj_words.specs.declared.view.Custody.{Custody}
 use Rattle.tj_words.specs.Words.Lists.{cell}
-use Rattle.tj_words.specs.LawParts.Hands.{hand_in, IsThere}
+use Rattle.tj_words.specs.LawParts.Hands.{IsThere}
 use Rattle.tj_words.specs.LawParts.Contents.{Contents, hand_of, drawn_in, home_of}
-use Rattle.tj_words.specs.Steps.ShownParts.{Parts, parts_of}
 use Rattle.tj_words.specs.Steps.StepEvents.{IsMoved}
 use Rattle.tj_words.specs.Steps.WalkSteps.{KeepsOthers, Proceeds, Leaves}
 
@@ -28,18 +26,6 @@ does_first answer.Done = does.Running
 does_first (answer.Num i) = does.Running
 does_first (answer.RefAt k) = does.Running
 does_first answer.Lost = does.Running
-
--- the same but for the phase of c and the hand in which it is
-pub record IsMarked {B : Type 0} (c : ℕ) (x y : Parts B) : Type 0 where
-  pub drawn : y.drawn ≡ x.drawn
-  pub hands : (d : ℕ) → d ≢ c → y.hand d ≡ x.hand d
-  pub making : y.making ≡ x.making
-  pub own : y.own ≡ x.own
-  pub phases : (d : ℕ) → d ≢ c → y.phase d ≡ x.phase d
-  pub held : y.held ≡ x.held
-  pub home : y.home ≡ x.home
-  pub others : y.others ≡ x.others
-  pub cleared : y.cleared ≡ x.cleared
 
 module _ {B : Type 0} (x y : Contents B) where
   -- the slots, and what the seats hold and have cleared, are as they were
@@ -137,10 +123,3 @@ module _ {B : Type 0} (cells : ℕ) (x y : Contents B) where
       pub turns : Proceeds cells x y id t d d
       pub there : IsThere (drawn_in cells x) (hand_of x) t
       pub keeps : KeepsOthers cells x y
-
-  -- the store of Promise into PHASE of a promise in hand: the hand is marked, and nothing else is changed
-  pub record MarksPromise (c : ℕ) (h h' : Hand) : Type 0 where
-    pub in_hand : hand_in x.seats.hands c ≡ Some h
-    pub marked : hand_in y.seats.hands c ≡ Some h'
-    pub same_hand : (h'.cell ≡ h.cell) × (h'.maker ≡ h.maker) × (h'.sort ≡ h.sort)
-    pub others : IsMarked c (parts_of cells x) (parts_of cells y)

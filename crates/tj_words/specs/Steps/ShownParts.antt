@@ -1,5 +1,5 @@
 -- What the core state is shown by, cell by cell, and which of it a step changes.
-use Rattle.std.specs.Prelude.{◌≡◌, ◌≢◌, ℕ, suc, ◌+◌, cond, nat_lt, List, Option, Some, None}
+use Rattle.std.specs.Prelude.{◌≡◌, ◌≢◌, ℕ, suc, ◌+◌, cond, nat_lt, List, Option, Some}
 use Rattle.tj_body.specs.declared.point.Reference.{Reference}
 use Rattle.tj_core.specs.CoreState.{CellState, CoreState, blank}
 use Rattle.tj_words.specs.declared.phase.Phase.{Phase}
@@ -88,16 +88,4 @@ module _ {B : Type 0} where
     pub own : y.own ≡ x.own
     pub phase : y.phase ≡ x.phase
     pub helds : (c : ℕ) → c ≢ t → c ≢ x.drawn → y.held c ≡ x.held c
-    pub home : y.home ≡ x.home
-
-  -- cell c, which was in hand, has its owner and is in hand no longer; what the seats have for its maker t and for it
-  -- may be changed
-  pub record IsGivenOwner (t c : ℕ) (x y : Parts B) : Type 0 where
-    pub drawn : y.drawn ≡ x.drawn
-    pub hand : y.hand c ≡ None
-    pub hands : (d : ℕ) → d ≢ c → y.hand d ≡ x.hand d
-    pub makings : (d : ℕ) → d ≢ t → y.making d ≡ x.making d
-    pub owns : (d : ℕ) → d ≢ c → y.own d ≡ x.own d
-    pub phase : y.phase ≡ x.phase
-    pub helds : (d : ℕ) → d ≢ t → d ≢ c → y.held d ≡ x.held d
     pub home : y.home ≡ x.home

@@ -56,6 +56,10 @@ module _ {B : Type 0} where
     abbrev pub ShowsNothing : Type 0
     ShowsNothing = core_shown cells born maker y ≡ core_shown cells born maker x
 
+  -- and so whatever the cells are
+  abbrev pub IsQuiet : ℕ → Contents B → Contents B → Type 0
+  IsQuiet cells x y = (born : List Reference) (maker : ℕ → ℕ) → ShowsNothing cells born maker x y
+
   -- the seat that holds t has this for it from now on, and its phase says so; nothing else that is shown is changed
   -- but OTHERS and the number of waits cleared
   pub record IsTurned (cells : ℕ) (x y : Contents B) (t : ℕ) (k k' : Custody B) : Type 0 where

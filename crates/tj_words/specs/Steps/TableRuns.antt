@@ -1,5 +1,5 @@
--- Runs of a table: moments one after the other, each left by a step as the law of steps has it. What is shown is a run of
--- the core: each event is allowed where it stands, and the last moment shows the state after them.
+-- Runs of a table: moments one after the other, each left by a step as the law of steps has it. What is shown is a
+-- run of the core: each event is allowed where it stands, and the last moment shows the state after them.
 use Rattle.std.specs.Prelude.{◌≡◌, ◌⊎◌, ℕ, ◌<◌, Bool, List, [], ◌∷◌, ◌++◌}
 use Rattle.atomic_table.specs.Table.{opening}
 use Rattle.tj_body.specs.Programs.{Program}

@@ -33,3 +33,6 @@ returns-in-Other-clause-walked g c =
     others_watch c.block_other.result c.args.t.0 c.args.q.0 Other c.args.steps.now c.block_other.new.steps
     c.args.seat.now.me.0 c.block_other.new.seat.me.0 c.requires.may c.block_other.ensures.view
     _ c.settlers_are_not_alone.ensures
+
+pub returns-in-Along-clause-others : goal.returns-in-Along-clause-others
+returns-in-Along-clause-others g c = λ e. c.block_along.ensures.others

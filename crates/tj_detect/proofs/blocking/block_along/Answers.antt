@@ -1,6 +1,8 @@
 use Rattle.std.proofs.Common.{◌<◌, arith, inr, refl}
 use Rattle.tj_core.specs.declared.walk.Way.TheVariants.{Along}
 use Rattle.tj_core.specs.Events.{others_read, start_walk}
+use Rattle.tj_detect.specs.declared.blocking.Verdict.TheVariants.{Skipped}
+use Rattle.tj_detect.proofs.Skips.{loads_others}
 use Rattle.tj_detect.proofs.WalkBlocks.{may_publish, at_others, at_count, others_on, others_walk, skips, blocks}
 use Rattle.tj_detect.proofs.blocking.block_along.Goals as goal
 
@@ -44,3 +46,14 @@ returns-clause-view g c =
     c.others-others.new.seat.me.0 c.others-others.ensures.view refl)
     c.walk.result c.args.steps.now c.tick.new.self c.walk.new.steps c.walk.new.seat.me.0 (omega (arith, a, b))
     (omega arith) c.walk.ensures.comes
+
+pub returns-then-others-eq0-clause-others : goal.returns-then-others-eq0-clause-others
+returns-then-others-eq0-clause-others g c =
+    loads_others Skipped c.args.t.0 c.args.q.0 c.others-others.result c.args.seat.now.me.0 c.publish.new.seat.me.0
+    c.publish.ensures.view c.others-others.ensures.moment ((λ e. c.if-others-eq0.true), (λ e. refl))
+
+pub returns-clause-others : goal.returns-clause-others
+returns-clause-others g c =
+    loads_others c.walk.result c.args.t.0 c.args.q.0 c.others-others.result c.args.seat.now.me.0
+    c.publish.new.seat.me.0 c.publish.ensures.view c.others-others.ensures.moment
+    ((λ e. absurd (c.walk.ensures.comes.walked e)), (λ e. absurd (c.if-others-eq0.false e)))

@@ -1,7 +1,7 @@
 use Rattle.std.proofs.Common.{arith, inl, refl}
 use Rattle.tj_core.specs.declared.walk.Way.TheVariants.{Other}
 use Rattle.tj_core.specs.Events.{start_walk}
-use Rattle.tj_detect.specs.Blocks.{walk_published}
+use Rattle.tj_detect.specs.Blocks.{walk_first}
 use Rattle.tj_detect.proofs.WalkBlocks.{may_raise, may_publish_other, published_other, at_count, blocks}
 use Rattle.tj_detect.proofs.blocking.block_other.Goals as goal
 
@@ -20,7 +20,7 @@ walk-requires-clause-walks g c κs within =
     at_count v c.args.t.0 c.args.q.0 Other c.requires.may start_walk 2 c.publish.new.seat.me.0
     (published_other v c.args.t.0 c.args.q.0 Other c.requires.may c.others_up.new.seat.me.0 c.others_up.ensures.view
     c.publish.new.seat.me.0 c.publish.ensures.view)
-    walk_published (inl (refl, refl)) refl refl
+    walk_first (inl (refl, refl)) refl refl
 
 pub returns-clause-view : goal.returns-clause-view
 returns-clause-view g c =

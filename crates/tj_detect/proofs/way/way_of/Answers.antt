@@ -28,22 +28,20 @@ returns-else-is_before-clause-way g c = sym
 
 pub returns-then-is_before-clause-cost : goal.returns-then-is_before-clause-cost
 returns-then-is_before-clause-cost g c = few_steps c.is_before.new.seat.me.0.seen c.is_before.new.seat.me.0.born
-    c.is_before.ensures.seen c.args.laid.now.cells
+    c.is_before.ensures.seen
     c.args.t.0 c.args.u.0 c.args.steps.now c.is_before.new.steps
     (task_later c.args.seat.now.me.0 c.is_before.new.seat.me.0 c.is_before.ensures.later.1 c.args.t.0
     c.requires.t_known.1)
     (task_later c.args.seat.now.me.0 c.is_before.new.seat.me.0 c.is_before.ensures.later.1 c.args.u.0
     c.requires.u_known.1)
-    c.requires.t_cell c.requires.u_cell
     (λ forks h has. c.is_before.ensures.cost forks h (λ n node k. has n node k.1))
 
 pub returns-else-is_before-clause-cost : goal.returns-else-is_before-clause-cost
 returns-else-is_before-clause-cost g c = few_steps c.is_before.new.seat.me.0.seen c.is_before.new.seat.me.0.born
-    c.is_before.ensures.seen c.args.laid.now.cells
+    c.is_before.ensures.seen
     c.args.t.0 c.args.u.0 c.args.steps.now c.is_before.new.steps
     (task_later c.args.seat.now.me.0 c.is_before.new.seat.me.0 c.is_before.ensures.later.1 c.args.t.0
     c.requires.t_known.1)
     (task_later c.args.seat.now.me.0 c.is_before.new.seat.me.0 c.is_before.ensures.later.1 c.args.u.0
     c.requires.u_known.1)
-    c.requires.t_cell c.requires.u_cell
     (λ forks h has. c.is_before.ensures.cost forks h (λ n node k. has n node k.1))

@@ -3,7 +3,8 @@ use Rattle.tj_body.specs.Programs.{program_of}
 use Rattle.tj_words.specs.Words.Lists.{cell}
 use Rattle.tj_park.specs.Wakes.{MayWake, WakesAll}
 use Rattle.tj_park.proofs.BreakSteps.{none_broken, may_give_up, will_break, is_small, may_wake_broken, one_broken}
-use Rattle.tj_park.proofs.BreakSteps.{about_kept, next_left, none_left}
+use Rattle.tj_words.proofs.SeatLoads.KnowsMoreOn.{more_itself}
+use Rattle.tj_park.proofs.BreakSteps.{about_kept, all_woke, next_left, none_left, notes_kept, one_break_woke}
 use Rattle.tj_park.proofs.finishes.break_promises.Goals as goal
 
 pub loop-p-init : goal.loop-p-init
@@ -12,6 +13,7 @@ loop-p-init g c = record {
   limit = refl;
   broken = none_broken (program_of g.B.Body.places g.B.Body.awaits g.B.Body.left g.B.Body.asks g.B.Body.then)
       c.args.t.0 c.args.promises.now c.args.seat.now.me.0 c.requires.may;
+  woke = (more_itself c.args.seat.now.me.0, refl);
 }
 
 pub break_off-requires-clause-table : goal.break_off-requires-clause-table
@@ -89,6 +91,9 @@ loop-p-preserved g c = let ps = c.args.promises.now in let i = c.loop-p.p-index 
       broken = one_broken (program_of g.B.Body.places g.B.Body.awaits g.B.Body.left g.B.Body.asks g.B.Body.then)
           c.args.t.0 ps (drop (i + 1) ps) (get_or ps i (cell 0)) c.args.seat.now.me.0 c.loop-p.seat.me.0
           c.requires.may h c.break_off.new.seat.me.0 c.break_off.ensures.view woke.chain c.wake.new.seat.me.0 woke.woke;
+      woke = one_break_woke g.P.Pool.puts c.args.t.0 ps i c.in_ok-wake.field-0 c.args.seat.now.me.0 c.loop-p.seat.me.0
+          c.break_off.new.seat.me.0 c.wake.new.seat.me.0 c.args.pool.now c.loop-p.pool c.wake.new.pool
+          c.loop-p.invariant.woke c.loop-p-test.true c.break_off.ensures.view woke;
     }
 
 pub returns-clause-seat : goal.returns-clause-seat
@@ -104,3 +109,16 @@ pub returns-clause-broken : goal.returns-clause-broken
 returns-clause-broken g c = let most = c.loop-p-test.false in
     none_left c.args.t.0 c.args.promises.now c.loop-p.p-index c.args.seat.now.me.0 c.loop-p.seat.me.0
     c.loop-p.invariant.broken (omega arith)
+
+pub returns-clause-woke : goal.returns-clause-woke
+returns-clause-woke g c = let most = c.loop-p-test.false in
+    all_woke g.P.Pool.puts c.args.promises.now c.loop-p.p-index c.args.seat.now.me.0 c.loop-p.seat.me.0
+    c.args.pool.now c.loop-p.pool c.loop-p.invariant.woke (omega arith)
+
+pub returns-in_err-wake-clause-notes : goal.returns-in_err-wake-clause-notes
+returns-in_err-wake-clause-notes g c =
+    notes_kept _ _ _ c.args.t.0 c.args.seat.now.me.0 c.loop-p.seat.me.0 c.break_off.new.seat.me.0 c.wake.new.seat.me.0
+    c.loop-p.invariant.broken.knows.notes c.break_off.ensures.view c.in_err-wake.ensures.memory.woke
+
+pub returns-clause-notes : goal.returns-clause-notes
+returns-clause-notes g c = c.loop-p.invariant.broken.knows.notes

@@ -1,6 +1,8 @@
-use Rattle.std.proofs.Common.{◌≡◌, drop}
+use Rattle.std.proofs.Common.{◌≡◌, drop, take}
 use Rattle.tj_words.specs.SeatViews.SeatSteps.{IsSameSeat}
+use Rattle.tj_words.specs.Words.Lists.{numbers}
 use Rattle.tj_park.specs.Inner.Breaks.{HasBroken}
+use Rattle.tj_park.specs.Wakes.{WakesEach}
 use Rattle.tj_park.proofs.finishes.break_promises.Given as goal
 
 -- the promises from this one on are left, and the others are broken
@@ -9,4 +11,5 @@ invariant-loop-p g l = record {
   seat : IsSameSeat l.fn.seat l.seat;
   limit : g.P.Pool.limit l.pool ≡ g.P.Pool.limit l.fn.pool;
   broken : HasBroken l.t.0 l.promises (drop l.p-index l.promises) l.fn.seat.me.0 l.seat.me.0;
+  woke : WakesEach g.P.Pool.puts (numbers (take l.p-index l.promises)) l.fn.seat.me.0 l.seat.me.0 l.fn.pool l.pool;
 }

@@ -1,11 +1,15 @@
-use Rattle.std.proofs.Common.{◌≡◌, ◌∙◌, [], ap, subst, sym}
+use Rattle.std.proofs.Common.{◌≡◌, ◌∙◌, [], drop, ap, subst, sym}
 use Rattle.atomic_table.specs.Table.{rest}
 use Rattle.tj_body.specs.Programs.{program_of}
 use Rattle.tj_words.specs.Calls.LiveViews.{MayLowerLive, lowered_with}
+use Rattle.tj_words.specs.Words.Lists.{numbers}
 use Rattle.tj_park.specs.Inner.Breaks.{HasBroken, MayBreak}
+use Rattle.tj_park.specs.Wakes.{WakesEach}
 use Rattle.tj_park.proofs.EndSteps.{slice_rest, is_cell, may_break, may_close, closed_is, laid_is, may_end_then}
 use Rattle.tj_park.proofs.EndSteps.{ended_is, about_woken, may_wake_then, woke_then, may_lower, has_finished}
-use Rattle.tj_park.proofs.EndSteps.{same_slots}
+use Rattle.tj_park.proofs.EndSteps.{ended_more, lowered_more, notes_woken, same_slots}
+use Rattle.tj_park.proofs.OwedRecords.{closes_once, owes_at_home}
+use Rattle.tj_park.proofs.WakeLoops.{one_wake_more}
 use Rattle.tj_park.proofs.finishes.finish.Goals as goal
 
 pub break_promises-requires-clause-may : goal.break_promises-requires-clause-may
@@ -248,3 +252,95 @@ returns-clause-slots g c = let m = c.requires.may in
     (rest c.args.seat.now.me.1) c.requires.others
     c.in_ok-wake.ensures.woke.chain c.wake.new.seat.me.0 woke c.live_down.new.seat.me
     (c.live_down.ensures.me ∙ ap (λ s. lowered_with c.wake.new.seat.me.0 s) mine)
+
+pub returns-clause-woke : goal.returns-clause-woke
+returns-clause-woke g c = let m = c.requires.may in
+    let written = c.points_in_rounds.ensures.written m.about.strict m.about.root m.rooted in
+    let ordered = c.names_and_cells.ensures.elements in
+    let laid = laid_is (program_of g.B.Body.places g.B.Body.awaits g.B.Body.left g.B.Body.asks g.B.Body.then)
+    c.args.t.0 c.args.rec c.args.seat.now.me.0 m written ordered c.break_promises.new.seat.me.0
+    (subst (λ l. HasBroken c.args.t.0 l [] c.args.seat.now.me.0 c.break_promises.new.seat.me.0)
+    (slice_rest c.items.result.now c.args.rec.owned c.items.ensures) c.in_ok-break_promises.ensures.broken)
+    c.slot_swap.new.seat.me c.close_result.new.seat.me.0 c.without_owned.result c.close_result.new.seat.me.1
+    c.args.seat.now.me.1 c.slot_swap.ensures.me
+    (closed_is (program_of g.B.Body.places g.B.Body.awaits g.B.Body.left g.B.Body.asks g.B.Body.then)
+    c.args.t.0 c.args.rec c.args.seat.now.me.0 m written ordered c.break_promises.new.seat.me.0
+    (subst (λ l. HasBroken c.args.t.0 l [] c.args.seat.now.me.0 c.break_promises.new.seat.me.0)
+    (slice_rest c.items.result.now c.args.rec.owned c.items.ensures) c.in_ok-break_promises.ensures.broken)
+    c.close_result.new.seat.me.0 c.close_result.ensures.view) c.without_owned.ensures
+    (c.close_result.ensures.seat.2 ∙ c.break_promises.ensures.seat.2) in
+    let ended = ended_is (program_of g.B.Body.places g.B.Body.awaits g.B.Body.left g.B.Body.asks g.B.Body.then)
+    c.args.t.0 c.args.rec c.args.seat.now.me.0 m written ordered c.break_promises.new.seat.me.0
+    (subst (λ l. HasBroken c.args.t.0 l [] c.args.seat.now.me.0 c.break_promises.new.seat.me.0)
+    (slice_rest c.items.result.now c.args.rec.owned c.items.ensures) c.in_ok-break_promises.ensures.broken)
+    (rest c.args.seat.now.me.1) c.requires.others
+    c.slot_swap.new.seat.me c.put_phase.new.seat.me laid c.put_phase.ensures.puts in
+    let mine : c.wake.new.seat.me.1 ≡ rest c.args.seat.now.me.1
+    = c.wake.ensures.seat.2 ∙ ap (λ m. m.1) ended in
+    one_wake_more g.P.Pool.puts (numbers (drop 1 c.args.rec.owned)) c.args.t.0 c.in_ok-wake.field-0
+    c.args.seat.now.me.0 c.break_promises.new.seat.me.0 c.put_phase.new.seat.me.0 c.wake.new.seat.me.0
+    c.live_down.new.seat.me.0 c.args.pool.now c.break_promises.new.pool c.wake.new.pool
+    (subst (λ l. WakesEach g.P.Pool.puts (numbers l) c.args.seat.now.me.0 c.break_promises.new.seat.me.0
+    c.args.pool.now c.break_promises.new.pool)
+    (slice_rest c.items.result.now c.args.rec.owned c.items.ensures) c.in_ok-break_promises.ensures.woke)
+    (ended_more (program_of g.B.Body.places g.B.Body.awaits g.B.Body.left g.B.Body.asks g.B.Body.then)
+    c.args.t.0 c.args.rec c.args.seat.now.me.0 m written ordered c.break_promises.new.seat.me.0
+    (subst (λ l. HasBroken c.args.t.0 l [] c.args.seat.now.me.0 c.break_promises.new.seat.me.0)
+    (slice_rest c.items.result.now c.args.rec.owned c.items.ensures) c.in_ok-break_promises.ensures.broken)
+    (rest c.args.seat.now.me.1) c.requires.others c.put_phase.new.seat.me ended)
+    c.in_ok-wake.ensures.woke
+    (lowered_more (program_of g.B.Body.places g.B.Body.awaits g.B.Body.left g.B.Body.asks g.B.Body.then)
+    c.args.t.0 c.args.rec c.args.seat.now.me.0 m written ordered c.break_promises.new.seat.me.0
+    (subst (λ l. HasBroken c.args.t.0 l [] c.args.seat.now.me.0 c.break_promises.new.seat.me.0)
+    (slice_rest c.items.result.now c.args.rec.owned c.items.ensures) c.in_ok-break_promises.ensures.broken)
+    (rest c.args.seat.now.me.1) c.requires.others c.wake.new.seat.me.0 c.live_down.new.seat.me
+    (c.live_down.ensures.me ∙ ap (λ s. lowered_with c.wake.new.seat.me.0 s) mine))
+
+pub returns-clause-home : goal.returns-clause-home
+returns-clause-home g c = let m = c.requires.may in
+    let b = g.B.Body in
+    let program = program_of b.places b.awaits b.left b.asks b.then in
+    let s = m.about.strict in
+    let q = m.about.root in
+    let written = c.points_in_rounds.ensures.written s q m.rooted in
+    let knows = (returns-clause-ended g c).knows in
+    owes_at_home program c.args.t.0 c.args.rec c.args.seat.now.me.0 c.live_down.new.seat.me.0 m written
+    c.names_and_cells.ensures.elements
+    (closes_once (program s q) (c.names_are_apart.ensures s q m.rooted) (c.points_are_good.ensures s q m.rooted)
+    (c.history_stops.ensures s) (c.points_in_rounds.ensures.later s q m.rooted))
+    knows.about knows.born
+
+pub returns-in_err-wake-clause-notes : goal.returns-in_err-wake-clause-notes
+returns-in_err-wake-clause-notes g c = let m = c.requires.may in
+    let written = c.points_in_rounds.ensures.written m.about.strict m.about.root m.rooted in
+    let ordered = c.names_and_cells.ensures.elements in
+    let laid = laid_is (program_of g.B.Body.places g.B.Body.awaits g.B.Body.left g.B.Body.asks g.B.Body.then)
+    c.args.t.0 c.args.rec c.args.seat.now.me.0 m written ordered c.break_promises.new.seat.me.0
+    (subst (λ l. HasBroken c.args.t.0 l [] c.args.seat.now.me.0 c.break_promises.new.seat.me.0)
+    (slice_rest c.items.result.now c.args.rec.owned c.items.ensures) c.in_ok-break_promises.ensures.broken)
+    c.slot_swap.new.seat.me c.close_result.new.seat.me.0 c.without_owned.result c.close_result.new.seat.me.1
+    c.args.seat.now.me.1 c.slot_swap.ensures.me
+    (closed_is (program_of g.B.Body.places g.B.Body.awaits g.B.Body.left g.B.Body.asks g.B.Body.then)
+    c.args.t.0 c.args.rec c.args.seat.now.me.0 m written ordered c.break_promises.new.seat.me.0
+    (subst (λ l. HasBroken c.args.t.0 l [] c.args.seat.now.me.0 c.break_promises.new.seat.me.0)
+    (slice_rest c.items.result.now c.args.rec.owned c.items.ensures) c.in_ok-break_promises.ensures.broken)
+    c.close_result.new.seat.me.0 c.close_result.ensures.view) c.without_owned.ensures
+    (c.close_result.ensures.seat.2 ∙ c.break_promises.ensures.seat.2) in
+    let ended = ended_is (program_of g.B.Body.places g.B.Body.awaits g.B.Body.left g.B.Body.asks g.B.Body.then)
+    c.args.t.0 c.args.rec c.args.seat.now.me.0 m written ordered c.break_promises.new.seat.me.0
+    (subst (λ l. HasBroken c.args.t.0 l [] c.args.seat.now.me.0 c.break_promises.new.seat.me.0)
+    (slice_rest c.items.result.now c.args.rec.owned c.items.ensures) c.in_ok-break_promises.ensures.broken)
+    (rest c.args.seat.now.me.1) c.requires.others
+    c.slot_swap.new.seat.me c.put_phase.new.seat.me laid c.put_phase.ensures.puts in
+    notes_woken (program_of g.B.Body.places g.B.Body.awaits g.B.Body.left g.B.Body.asks g.B.Body.then)
+    c.args.t.0 c.args.rec c.args.seat.now.me.0 m written ordered c.break_promises.new.seat.me.0
+    (subst (λ l. HasBroken c.args.t.0 l [] c.args.seat.now.me.0 c.break_promises.new.seat.me.0)
+    (slice_rest c.items.result.now c.args.rec.owned c.items.ensures) c.in_ok-break_promises.ensures.broken)
+    (rest c.args.seat.now.me.1) c.requires.others
+    _ _ c.put_phase.new.seat.me c.wake.new.seat.me.0 ended c.in_err-wake.ensures.memory.woke
+
+pub returns-in_err-break_promises-clause-notes : goal.returns-in_err-break_promises-clause-notes
+returns-in_err-break_promises-clause-notes g c = c.break_promises.ensures.notes
+
+pub returns-clause-notes : goal.returns-clause-notes
+returns-clause-notes g c = (returns-clause-ended g c).knows.notes

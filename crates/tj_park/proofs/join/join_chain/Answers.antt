@@ -1,6 +1,6 @@
 use Rattle.std.proofs.Common.{rules, ◌≡◌, ◌≢◌, ◌∙◌}
 use Rattle.tj_words.specs.declared.head.Head.TheVariants as head
-use Rattle.tj_park.proofs.Joining.{joining_first, joining_next, has_push, has_push_behind, joined, fewer}
+use Rattle.tj_park.proofs.Joining.{found_chains, joining_first, joining_next, has_push, has_push_behind, joined, fewer}
 use Rattle.tj_park.proofs.join.join_chain.Goals as goal
 
 pub loop-t-init : goal.loop-t-init
@@ -27,6 +27,14 @@ returns-then-eq-clause-looks g c =
     c.loop-t.seat.me.0 c.put_next.new.seat.me.0 c.loop-t.invariant.joins c.put_next.ensures.view opened
     c.push-found.new.seat.me.0 (c.push-found.ensures.pushed same)).0
 
+pub returns-then-eq-clause-added : goal.returns-then-eq-clause-added
+returns-then-eq-clause-added g c =
+    let opened : c.loop-t.behind ≢ head.Shut = search rules in
+    let same : c.push-found.result ≡ c.loop-t.behind = search rules in
+    (joined c.args.laid.now.cells c.args.t.0 c.args.q.0 c.args.way c.loop-t.behind c.args.seat.now.me.0
+    c.loop-t.seat.me.0 c.put_next.new.seat.me.0 c.loop-t.invariant.joins c.put_next.ensures.view opened
+    c.push-found.new.seat.me.0 (c.push-found.ensures.pushed same)).1
+
 pub loop-t-smaller : goal.loop-t-smaller
 loop-t-smaller g c =
     let opened : c.loop-t.behind ≢ head.Shut = search rules in
@@ -48,3 +56,15 @@ loop-t-preserved g c =
           c.loop-t.seat.me.0 c.put_next.new.seat.me.0 c.loop-t.invariant.joins c.put_next.ensures.view opened
           c.push-found.result c.push-found.new.seat.me.0 other c.push-found.ensures.shut c.push-found.ensures.other;
     }
+
+pub returns-then-eq-clause-pushes : goal.returns-then-eq-clause-pushes
+returns-then-eq-clause-pushes g c =
+    let opened : c.loop-t.behind ≢ head.Shut = search rules in
+    let same : c.push-found.result ≡ c.loop-t.behind = search rules in
+    (joined c.args.laid.now.cells c.args.t.0 c.args.q.0 c.args.way c.loop-t.behind c.args.seat.now.me.0
+    c.loop-t.seat.me.0 c.put_next.new.seat.me.0 c.loop-t.invariant.joins c.put_next.ensures.view opened
+    c.push-found.new.seat.me.0 (c.push-found.ensures.pushed same)).3
+
+pub returns-clause-pushes : goal.returns-clause-pushes
+returns-clause-pushes g c = found_chains c.args.laid.now.cells c.args.t.0 c.args.q.0 c.args.way c.loop-t.behind
+    c.args.seat.now.me.0 c.loop-t.seat.me.0 c.loop-t.invariant.joins

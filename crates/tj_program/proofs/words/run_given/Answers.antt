@@ -1,14 +1,38 @@
-use Rattle.std.proofs.Common.{◌≡◌, ◌∙◌, ap, subst, sym}
-use Rattle.tj_program.specs.Delivery.{IsAnswered}
-use Rattle.tj_program.specs.Output.{TakesInput}
+use Rattle.std.proofs.Common.{◌≡◌, ◌∙◌, ap, sym}
 use Rattle.tj_program.specs.declared.words.Given.TheVariants.{Words}
+use Rattle.tj_program.proofs.TopAnswers.{to_same_words}
 use Rattle.tj_program.proofs.words.run_given.Goals as goal
 
 pub returns-in-Words-clause-words : goal.returns-in-Words-clause-words
-returns-in-Words-clause-words g c = λ words input held given told holds none_read none_put.
+returns-in-Words-clause-words g c = λ words given.
     let both : Words c.in-Words.words ≡ Words words = sym c.in-Words.is ∙ given in
     let same : c.in-Words.words ≡ words = cc in
     let seen : c.as_slice.result.now ≡ words.items = c.as_slice.ensures.value ∙ ap (λ w. w.items) same in
-    subst (λ ws. IsAnswered ws input held c.run_words-status.result.0 (g.K.Sink.held c.run_words-status.new.sink)) seen
-    (c.run_words-status.ensures.output input held (λ read. told (subst TakesInput seen read)) holds
-    (λ read. none_read (subst TakesInput seen read)) none_put)
+    let top = c.run_words.ensures in
+    to_same_words seen
+    (record {
+      output = top.output;
+      whole = top.whole;
+      exact = top.exact;
+      cause = top.cause;
+      taken = top.taken;
+      usage = top.usage;
+      untouched = top.untouched;
+      read_fault = top.read_fault;
+      unwritten = top.unwritten;
+      write_fault = top.write_fault;
+      part = top.part;
+      fits = top.fits;
+      part_cause = top.part_cause;
+      memory = top.memory;
+      never_waits = top.never_waits;
+      known_is_along = top.known_is_along;
+      source_counted = top.source_counted;
+      source_quiet = top.source_quiet;
+      sink_counted = top.sink_counted;
+      sink_quiet = top.sink_quiet;
+      sound = top.sound;
+      closed_with = top.closed_with;
+      closed_run = top.closed;
+      closed_cause = top.closed_cause;
+    })

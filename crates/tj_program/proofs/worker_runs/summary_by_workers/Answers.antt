@@ -1,15 +1,9 @@
-use Rattle.std.proofs.Common.{◌∙◌, ◌≤◌, length, subst, sym}
+use Rattle.std.proofs.Common.{◌∙◌, subst, sym}
 use Rattle.tj_program.proofs.Outputs.{if_ok, generated_of, never_refused}
 use Rattle.tj_program.specs.Generated.{generated_script}
-use Rattle.tj_program.specs.ScriptTexts.{IsScriptOf, most_bytes}
+use Rattle.tj_embed.specs.ScriptTexts.{IsScriptOf}
 use Rattle.tj_syntax.specs.View as view
 use Rattle.tj_program.proofs.worker_runs.summary_by_workers.Goals as goal
-
-pub script_in-requires : goal.script_in-requires
-script_in-requires g c =
-    let text = c.as_slice.ensures.value ∙ c.in_ok-text.ensures in
-    let generated = generated_of c.args.size (c.generated_text_is_a_script.ensures c.args.size c.requires.size.1) in
-    subst (λ t. length t ≤ most_bytes) (sym text) generated.short
 
 pub returns-in-Ok : goal.returns-in-Ok
 returns-in-Ok g c =

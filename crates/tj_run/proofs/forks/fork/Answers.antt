@@ -5,6 +5,7 @@ use Rattle.tj_words.specs.declared.record.Held.{Held}
 use Rattle.tj_words.specs.Words.Lists.{numbers}
 use Rattle.tj_run.specs.Inner.Pieces.{AreLeft, child_record, held_at, numbered}
 use Rattle.tj_run.proofs.Children.ForkCalls.{forks_about, forks_birth, forks_cells, forks_fail, forks_goes, forks_hand}
+use Rattle.tj_run.proofs.Children.ForkCalls.{forks_notes, released_notes}
 use Rattle.tj_run.proofs.Children.ForkCalls.{forks_known}
 use Rattle.tj_run.proofs.Children.ForkCalls.{forks_release, found_cells, found_held, left_of, parent_cell}
 use Rattle.tj_run.proofs.Children.ForkCalls.{places_inside, released_about}
@@ -155,6 +156,10 @@ returns-in_err-child-clause-lacks g c = let l = c.args.laid.now in let a = c.req
     c.in-Ok.left left things starts c.in_ok-c.c c.birth.new.seat.me.0 c.in_ok-c.ensures.made c.as_slice-3.result.now
     promises
     c.hand_each.new.seat.me.0 c.hand_each.ensures.view)
+    (forks_notes prog l r c.args.body c.args.pass c.args.handed c.args.seat.now.me c.requires.runs a law tell
+    c.in-Ok.left left things starts c.in_ok-c.c c.birth.new.seat.me.0 c.in_ok-c.ensures.made c.as_slice-3.result.now
+    promises
+    c.hand_each.new.seat.me.0 c.hand_each.ensures.view)
     c.from_residual-in_err-child.result c.from_residual-in_err-child.ensures.1
 
 pub release-requires-clause-may : goal.release-requires-clause-may
@@ -216,6 +221,12 @@ returns-in_err-release-clause-lacks g c = let l = c.args.laid.now in let a = c.r
     c.hand_each.new.seat.me.0 c.hand_each.ensures.view c.release.new.seat.me c.hand_each.new.seat.me.1
     c.release.ensures.me
     (c.hand_each.ensures.seat.2 ∙ c.in_ok-c.ensures.slot))
+    (released_notes prog l r c.args.body c.args.pass c.args.handed c.args.seat.now.me c.requires.runs a law tell
+    c.in-Ok.left left things starts c.in_ok-c.c c.birth.new.seat.me.0 c.in_ok-c.ensures.made c.as_slice-3.result.now
+    promises
+    c.hand_each.new.seat.me.0 c.hand_each.ensures.view c.release.new.seat.me c.hand_each.new.seat.me.1
+    c.release.ensures.me
+    (c.hand_each.ensures.seat.2 ∙ c.in_ok-c.ensures.slot))
     c.from_residual-in_err-release.result c.from_residual-in_err-release.ensures.1
 
 pub returns-clause-lacks : goal.returns-clause-lacks
@@ -240,6 +251,12 @@ returns-clause-lacks g c = let l = c.args.laid.now in let a = c.requires.asked i
     c.in_ok-promises.promises.items c.in_ok-promises.ensures given2 in
     lacks_noted c.args.seat.now.me.0 c.release.new.seat.me.0
     (released_about prog l r c.args.body c.args.pass c.args.handed c.args.seat.now.me c.requires.runs a law tell
+    c.in-Ok.left left things starts c.in_ok-c.c c.birth.new.seat.me.0 c.in_ok-c.ensures.made c.as_slice-3.result.now
+    promises
+    c.hand_each.new.seat.me.0 c.hand_each.ensures.view c.release.new.seat.me c.hand_each.new.seat.me.1
+    c.release.ensures.me
+    (c.hand_each.ensures.seat.2 ∙ c.in_ok-c.ensures.slot))
+    (released_notes prog l r c.args.body c.args.pass c.args.handed c.args.seat.now.me c.requires.runs a law tell
     c.in-Ok.left left things starts c.in_ok-c.c c.birth.new.seat.me.0 c.in_ok-c.ensures.made c.as_slice-3.result.now
     promises
     c.hand_each.new.seat.me.0 c.hand_each.ensures.view c.release.new.seat.me c.hand_each.new.seat.me.1

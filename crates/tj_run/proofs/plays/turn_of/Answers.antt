@@ -9,5 +9,6 @@ run_to_stop-requires-clause-back g c κs within = let b = g.B.Body in let e = c.
 
 pub returns-in-None-clause-free : goal.returns-in-None-clause-free
 returns-in-None-clause-free g c =
+    let m = c.claim.ensures.none c.in-None.is in
     (left_missed c.args.laid.now c.args.t.0 c.args.seat.now.me c.claim.new.seat.me c.requires.free
-    (c.claim.ensures.none c.in-None.is)).free
+    (m.0, m.1, m.2)).free

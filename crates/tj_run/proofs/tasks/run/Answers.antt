@@ -1,7 +1,7 @@
 use Rattle.std.proofs.Common.{◌∙◌, IfSome, subst}
 use Rattle.tj_body.specs.Programs.{program_of}
 use Rattle.tj_run.specs.Inner.Waits.{ComesBack}
-use Rattle.tj_run.proofs.Seats.WorkersSteps.{back_on, left_on}
+use Rattle.tj_run.proofs.Seats.WorkersSteps.{back_on, lacks_on, left_on}
 use Rattle.tj_run.proofs.tasks.run.Goals as goal
 
 pub returns-in-None-2-clause-left : goal.returns-in-None-2-clause-left
@@ -20,3 +20,8 @@ loop-i-preserved g c =
           (subst (λ o. IfSome o (λ r. ComesBack program c.args.laid.now r loop.seat.me.0 c.run_on.new.seat.me))
           c.in-Some-2.is done.ensures.back);
     }
+
+pub returns-in_err-run_on-clause-lacks : goal.returns-in_err-run_on-clause-lacks
+returns-in_err-run_on-clause-lacks g c =
+    lacks_on c.in_err-run_on.field-0.0 c.args.seat.now.me.0 c.loop-i.seat.me.0 c.run_on.new.seat.me.0
+    c.loop-i.invariant.back.knows c.in_err-run_on.ensures.lacks c.from_residual.result c.from_residual.ensures.1

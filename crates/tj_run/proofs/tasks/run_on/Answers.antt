@@ -1,7 +1,7 @@
 use Rattle.std.proofs.Common.{◌∙◌}
 use Rattle.tj_body.specs.Programs.{program_of}
 use Rattle.tj_run.proofs.Runs.TaskReturns.{backs_on}
-use Rattle.tj_run.proofs.Seats.WorkersSteps.{goes_since, left_on}
+use Rattle.tj_run.proofs.Seats.WorkersSteps.{goes_since, lacks_on, left_on}
 use Rattle.tj_run.proofs.tasks.run_on.Goals as goal
 
 pub loop-next-preserved : goal.loop-next-preserved
@@ -28,3 +28,15 @@ pub returns-in-Ends-clause-left : goal.returns-in-Ends-clause-left
 returns-in-Ends-clause-left g c = λ none.
     left_on c.args.laid.now c.args.seat.now.me.0 c.loop-next.seat.me.0 c.loop-next.invariant.goes.knows
     c.end.new.seat.me c.in_ok-end-in-Ends.ensures.left
+
+pub returns-in_err-next-in-Runs-clause-lacks : goal.returns-in_err-next-in-Runs-clause-lacks
+returns-in_err-next-in-Runs-clause-lacks g c =
+    lacks_on c.in_err-next-in-Runs.field-0.0 c.args.seat.now.me.0 c.loop-next.seat.me.0 c.one_ask.new.seat.me.0
+    c.loop-next.invariant.goes.knows c.in_err-next-in-Runs.ensures.lacks c.from_residual-in_err-next-in-Runs.result
+    c.from_residual-in_err-next-in-Runs.ensures.1
+
+pub returns-in_err-end-in-Ends-clause-lacks : goal.returns-in_err-end-in-Ends-clause-lacks
+returns-in_err-end-in-Ends-clause-lacks g c =
+    lacks_on c.in_err-end-in-Ends.field-0.0 c.args.seat.now.me.0 c.loop-next.seat.me.0 c.end.new.seat.me.0
+    c.loop-next.invariant.goes.knows c.in_err-end-in-Ends.ensures.lacks c.from_residual-in_err-end-in-Ends.result
+    c.from_residual-in_err-end-in-Ends.ensures.1

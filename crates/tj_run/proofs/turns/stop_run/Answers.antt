@@ -1,24 +1,28 @@
-use Rattle.std.proofs.Common.{ap, ◌∙◌}
-use Rattle.tj_words.specs.SeatViews.SeatSteps.{SeatMe}
-use Rattle.tj_words.specs.declared.view.View.{View}
+use Rattle.std.proofs.Common.{[], ◌∷◌, ap, inl, refl, subst, sym}
+use Rattle.tj_body.specs.Points.{IsIn}
 use Rattle.tj_body.specs.Programs.{program_of}
-use Rattle.tj_run.proofs.Runs.TurnSteps.{stopped_since}
+use Rattle.tj_words.specs.declared.view.Noted.TheVariants as note
+use Rattle.tj_words.specs.SeatViews.SeatSteps.{SeatMe}
+use Rattle.tj_words.specs.SeatViews.Views.{note_of}
+use Rattle.tj_run.proofs.Runs.TurnSteps.{stop_since, stopped_since}
 use Rattle.tj_run.proofs.turns.stop_run.Goals as goal
 
-pub loop-i-init : goal.loop-i-init
-loop-i-init g c = record {
-  table = c.stop.ensures.table ∙ c.requires.table;
-  about = ap (λ (m : SeatMe g.row.B.Denot). m.0.about) c.stop.ensures.me;
-}
+pub unreachable-requires : goal.unreachable-requires
+unreachable-requires g c = c.stop_word.ensures.stands c.match-why.word
+    (subst (IsIn c.match-why.word) (sym (ap (λ (m : SeatMe g.row.B.Denot). m.0.stored) c.stop.ensures.me)) (inl refl))
+    c.in-None.is
 
-pub loop-i-preserved : goal.loop-i-preserved
-loop-i-preserved g c = record {
-  table = c.stop_word.ensures.seat.0 ∙ c.loop-i.invariant.table;
-  about = ap (λ (v : View g.row.B.Denot). v.about) (c.stop_word.ensures.none c.in_default.is)
-      ∙ c.loop-i.invariant.about;
-}
+pub returns-clause-stopped : goal.returns-clause-stopped
+returns-clause-stopped g c = let b = g.B.Body in
+    stopped_since (program_of b.places b.awaits b.left b.asks b.then) c.args.seat.now.me.0 c.stop.new.seat.me.0
+    c.stop_word.new.seat.me.0 c.in-Some.told (ap (λ (m : SeatMe g.row.B.Denot). m.0.about) c.stop.ensures.me)
+    c.in-Some.ensures.some
 
-pub returns-in-Some-stop_word-clause-stopped : goal.returns-in-Some-stop_word-clause-stopped
-returns-in-Some-stop_word-clause-stopped g c = let b = g.B.Body in
-    stopped_since (program_of b.places b.awaits b.left b.asks b.then) c.args.seat.now.me.0 c.loop-i.seat.me.0
-    c.stop_word.new.seat.me.0 c.in-Some-stop_word.told c.loop-i.invariant.about c.in-Some-stop_word.ensures.some
+pub returns-clause-found : goal.returns-clause-found
+returns-clause-found g c = let b = g.B.Body in
+    stop_since (program_of b.places b.awaits b.left b.asks b.then) c.in-Some.told c.args.seat.now.me.0
+    c.stop.new.seat.me.0 c.stop_word.new.seat.me.0 (
+      note_of note.StoredStop c.match-why.word c.args.seat.now.me.0 ∷ [],
+      ap (λ (m : SeatMe g.row.B.Denot). m.0.notes) c.stop.ensures.me,
+    )
+    c.in-Some.ensures.found

@@ -1,7 +1,7 @@
 use Rattle.std.proofs.Common.{◌∙◌, sym}
 use Rattle.tj_body.specs.Programs.{program_of}
 use Rattle.tj_words.proofs.SeatLoads.KnowsMoreOn.{more_itself}
-use Rattle.tj_run.proofs.Runs.TurnSteps.{leaves_since, turns_on}
+use Rattle.tj_run.proofs.Runs.TurnSteps.{found_since, leaves_since, turns_on}
 use Rattle.tj_run.proofs.Seats.WorkersSteps.{left_on}
 use Rattle.tj_run.proofs.turns.worker.Goals as goal
 
@@ -26,3 +26,8 @@ pub returns-in-Some-take_turn-clause-left : goal.returns-in-Some-take_turn-claus
 returns-in-Some-take_turn-clause-left g c = let i = c.loop-i.invariant in let b = g.B.Body in
     leaves_since (program_of b.places b.awaits b.left b.asks b.then) c.args.seat.me.0 c.loop-i.seat.me.0
     c.in-Some-take_turn.how i.left.knows c.take_turn.new.seat.me c.in-Some-take_turn.ensures.turns
+
+pub returns-in-Some-take_turn-clause-found : goal.returns-in-Some-take_turn-clause-found
+returns-in-Some-take_turn-clause-found g c = let b = g.B.Body in
+    found_since (program_of b.places b.awaits b.left b.asks b.then) c.in-Some-take_turn.how c.args.seat.me.0
+    c.loop-i.seat.me.0 c.take_turn.new.seat.me.0 c.loop-i.invariant.left.knows.notes c.in-Some-take_turn.ensures.found

@@ -3,7 +3,7 @@ use Rattle.tj_body.specs.Programs.{program_of}
 use Rattle.tj_park.specs.Wakes.{WakesAll, WakesSome}
 use Rattle.tj_run.specs.Inner.Pieces.{fill_at, held_at}
 use Rattle.tj_run.proofs.Asks.NewThings.{lacks_memory}
-use Rattle.tj_run.proofs.Asks.SetPromises.{not_so, promise_if, sets_about, sets_cell, sets_fills, sets_gives, sets_goes}
+use Rattle.tj_run.proofs.Asks.SetPromises.{not_so, promise_if, sets_about, sets_cell, sets_notes, sets_fills, sets_gives, sets_goes}
 use Rattle.tj_run.proofs.Asks.SetPromises.{sets_task, sets_unowned, sets_wakes}
 use Rattle.tj_run.proofs.writes.set_and_wake.Goals as goal
 
@@ -85,6 +85,14 @@ returns-in_err-woken-clause-lacks g c = let l = c.args.laid.now in let a = c.req
     c.names_and_cells.ensures.cells (c.take_out.ensures.found.0 c.if-not-take_out.false)
     c.fill_at-value.result (c.fill_at-value.ensures ∙ ap (λ z. fill_at z c.args.v) c.items-2.ensures)
     c.fill.new.seat.me c.fill.ensures.view c.fill.ensures.seat.2)
+    (sets_notes (program_of g.B.Body.places g.B.Body.awaits g.B.Body.left g.B.Body.asks g.B.Body.then) l c.args.rec.now
+    k
+    c.args.v c.args.seat.now.me c.requires.runs a
+    (c.points_in_rounds.ensures.ask l.strict l.root.value a.rooted)
+    h (ap (λ z. held_at z k) c.items.ensures) (promise_if h.sort c.in_default.not-Task)
+    c.names_and_cells.ensures.cells (c.take_out.ensures.found.0 c.if-not-take_out.false)
+    c.fill_at-value.result (c.fill_at-value.ensures ∙ ap (λ z. fill_at z c.args.v) c.items-2.ensures)
+    c.fill.new.seat.me c.fill.ensures.view c.fill.ensures.seat.2 _ _ c.wake.new.seat.me.0 some.woke)
     c.from_residual.result c.from_residual.ensures.1
 
 pub returns-clause-goes : goal.returns-clause-goes

@@ -1,4 +1,5 @@
 use Rattle.std.proofs.Common.{arith}
+use Rattle.tj_words.proofs.Calls.OneHolders.{one_line_stands, one_seat_holds, one_seat_pushes}
 use Rattle.tj_words.proofs.Calls.OneStates.{chained, drawn_chained, one_shown}
 use Rattle.tj_words.proofs.laws.one_state.Goals as goal
 
@@ -11,3 +12,12 @@ returns-clause-steps g c = λ m y r k e. chained m.law r k (omega arith) e
 pub returns-clause-draws : goal.returns-clause-draws
 returns-clause-draws g c = λ m y r id t h d k. let e = d.same.drawn in
     drawn_chained m.law r k (omega arith) id t h d
+
+pub returns-clause-holders : goal.returns-clause-holders
+returns-clause-holders g c = λ m r t. one_seat_holds _ m r t
+
+pub returns-clause-lines : goal.returns-clause-lines
+returns-clause-lines g c = λ m r p. one_line_stands _ m r p
+
+pub returns-clause-pushers : goal.returns-clause-pushers
+returns-clause-pushers g c = λ m r t. one_seat_pushes _ m r t

@@ -1,9 +1,5 @@
-use Rattle.tj_words.proofs.Events.DrawEvents.{give_shown}
 use Rattle.tj_words.proofs.Events.OwnerEvents.{hand_shown, close_shown, end_shown}
 use Rattle.tj_words.proofs.laws.owner_stores.Goals as goal
-
-pub returns-clause-first : goal.returns-clause-first
-returns-clause-first g c = λ m y id t c h s. give_shown m.law y id t c h s
 
 pub returns-clause-hand : goal.returns-clause-hand
 returns-clause-hand g c = λ m y id t p c s. hand_shown m.law y id t p c s

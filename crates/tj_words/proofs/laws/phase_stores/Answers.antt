@@ -1,9 +1,6 @@
-use Rattle.tj_words.proofs.Events.QuietMoves.{mark_shown, release_shown, end_shown}
+use Rattle.tj_words.proofs.Events.QuietMoves.{release_shown, end_shown}
 use Rattle.tj_words.proofs.Events.WalkEvents.{publish_shown, settle_shown, alarm_shown}
 use Rattle.tj_words.proofs.laws.phase_stores.Goals as goal
-
-pub returns-clause-promise : goal.returns-clause-promise
-returns-clause-promise g c = λ m y c h h' s. mark_shown m.law y c h h' s
 
 pub returns-clause-ready : goal.returns-clause-ready
 returns-clause-ready g c = λ m y id t s. release_shown m.law y id t s

@@ -1,4 +1,7 @@
-use Rattle.std.proofs.Common.{arith, ◌+◌, ◌∙◌, sym}
+use Rattle.std.proofs.Common.{arith, eqb, refl, ◌+◌, ◌∙◌, sym}
+use prog.Atomic.{either}
+use Rattle.tj_words.specs.Calls.ChainSteps.{push_exchange}
+use Rattle.tj_words.proofs.SeatLoads.MomentSteps.{moment_allowed, so_too}
 use Rattle.tj_words.proofs.Waiters.HeadSteps.{push_allowed, is_open}
 use Rattle.tj_words.proofs.table.Laid.exchange_head.Goals as goal
 
@@ -7,9 +10,15 @@ compare_exchange-requires g c = let a = c.args in let k = a.self.now.table.share
     let e = a.self.now.key_cells in (
       c.requires.table,
       omega (arith, a.self.now.words, a.self.now.some, c.requires.cell, c.head_at.ensures),
-      push_allowed _ k a.self.now.table.shared.table_id.slots a.seat.now.id a.seat.now.me a.p.0 a.t.0 c.head_at.result
-          c.word.result (a.t.0 + 1) g.M.Naming.cells g.M.Naming.cell a.behind (omega (arith, e, c.requires.cell))
-          (omega (arith, e, c.requires.task)) c.head_at.ensures (c.requires.named.0 ∙ sym e) c.requires.named.1
-          c.word.ensures.back (omega arith) c.requires.push
-          (is_open a.behind a.self.now.cells (omega (arith, a.self.now.few)) c.requires.small),
+      moment_allowed _ k a.self.now.table.shared.table_id.slots a.seat.now.id a.seat.now.me c.head_at.result
+          c.word.result (a.t.0 + 1) (λ n. either (eqb n c.word.result) (a.t.0 + 1) n)
+          (push_exchange _ g.M.Naming.cells g.M.Naming.cell)
+          (push_allowed _ k a.self.now.table.shared.table_id.slots a.seat.now.id a.seat.now.me a.p.0 a.t.0
+          c.head_at.result c.word.result (a.t.0 + 1) g.M.Naming.cells g.M.Naming.cell a.behind
+          (omega (arith, e, c.requires.cell)) (omega (arith, e, c.requires.task)) c.head_at.ensures
+          (c.requires.named.0 ∙ sym e) c.requires.named.1 c.word.ensures.back (omega arith) c.requires.push
+          (is_open a.behind a.self.now.cells (omega (arith, a.self.now.few)) c.requires.small)),
     )
+
+pub returns-clause-moment : goal.returns-clause-moment
+returns-clause-moment g c = so_too c.head_at.ensures refl c.compare_exchange.ensures.2.1

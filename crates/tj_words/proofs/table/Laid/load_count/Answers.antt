@@ -1,5 +1,9 @@
 use Rattle.std.proofs.Common.{arith, sym, ◌∙◌}
+use Rattle.tj_words.specs.declared.view.Noted.TheVariants as note
+use Rattle.tj_words.specs.SeatViews.SeatSteps.{IsCount, plain_load}
+use Rattle.tj_words.specs.Words.Offsets.{count_at}
 use Rattle.tj_words.proofs.SeatLoads.LoadSteps.{count_allowed}
+use Rattle.tj_words.proofs.SeatLoads.MomentSteps.{moment_allowed}
 use Rattle.tj_words.proofs.table.Laid.load_count.Goals as goal
 
 pub load-requires : goal.load-requires
@@ -7,6 +11,8 @@ load-requires g c = let a = c.args in let k = a.self.now.table.shared.key in let
     let l = c.requires.named in (
       c.requires.table,
       omega (arith, a.self.now.words, a.self.now.some),
-      count_allowed _ k a.self.now.table.shared.table_id.slots a.seat.now.id a.seat.now.me g.M.Naming.cells
-          (l ∙ sym e),
+      moment_allowed _ k a.self.now.table.shared.table_id.slots a.seat.now.id a.seat.now.me count_at 0 0 (λ n. n)
+          (plain_load note.Count (IsCount g.M.Naming.cells))
+          (count_allowed _ k a.self.now.table.shared.table_id.slots a.seat.now.id a.seat.now.me g.M.Naming.cells
+          (l ∙ sym e)),
     )

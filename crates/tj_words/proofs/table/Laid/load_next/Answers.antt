@@ -1,12 +1,25 @@
-use Rattle.std.proofs.Common.{arith, sym, ◌∙◌}
+use Rattle.std.proofs.Common.{arith, refl, subst, sym, ◌∙◌}
 use Rattle.tj_words.proofs.SeatLoads.KnowLoads.{next_allowed}
 use Rattle.tj_words.proofs.table.Laid.load_next.Goals as goal
+use Rattle.tj_words.specs.SeatViews.SeenWords.{NextTold, next_load}
+use Rattle.tj_words.specs.Words.Heads.{head_in}
+use Rattle.tj_words.proofs.SeatLoads.MomentSteps.{moment_allowed, so_too}
 
 pub load-requires : goal.load-requires
 load-requires g c = let a = c.args in let k = a.self.now.table.shared.key in let e = a.self.now.key_cells in (
   c.requires.table,
   omega (arith, a.self.now.words, a.self.now.some, c.requires.cell, c.next_at.ensures),
-  next_allowed _ k a.self.now.table.shared.table_id.slots a.seat.now.id a.seat.now.me a.t.0 c.next_at.result
+  moment_allowed _ a.self.now.table.shared.key a.self.now.table.shared.table_id.slots a.seat.now.id a.seat.now.me
+      c.next_at.result 0 0 (λ n. n)
+      (next_load g.M.Naming.cells g.M.Naming.cell)
+      (next_allowed _ k a.self.now.table.shared.table_id.slots a.seat.now.id a.seat.now.me a.t.0 c.next_at.result
       g.M.Naming.cells g.M.Naming.cell
-      (omega (arith, e, c.requires.cell)) c.next_at.ensures (c.requires.named.0 ∙ sym e) c.requires.named.1,
+      (omega (arith, e, c.requires.cell)) c.next_at.ensures (c.requires.named.0 ∙ sym e) c.requires.named.1),
 )
+
+pub returns-clause-moment : goal.returns-clause-moment
+returns-clause-moment g c = so_too c.next_at.ensures refl c.load.ensures.2.1
+
+pub returns-clause-rest : goal.returns-clause-rest
+returns-clause-rest g c = subst (λ t. NextTold t (head_in c.load.result) c.args.seat.now.me.0) c.requires.named.1
+    c.load.ensures.2.0.3

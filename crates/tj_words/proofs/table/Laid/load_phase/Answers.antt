@@ -1,19 +1,27 @@
-use Rattle.std.proofs.Common.{arith, sym, subst, ◌∙◌}
+use Rattle.std.proofs.Common.{arith, refl, sym, subst, ◌∙◌}
 use Rattle.tj_words.specs.Calls.ParkSteps.{FirstTold}
 use Rattle.tj_words.specs.Words.Phases.{phase_in}
 use Rattle.tj_words.proofs.SeatLoads.PhaseLoads.{phase_allowed}
 use Rattle.tj_words.proofs.table.Laid.load_phase.Goals as goal
+use Rattle.tj_words.specs.Calls.ParkSteps.{phase_load}
+use Rattle.tj_words.proofs.SeatLoads.MomentSteps.{moment_allowed, so_too}
 
 pub load-requires : goal.load-requires
 load-requires g c = let a = c.args in let k = a.self.now.table.shared.key in let e = a.self.now.key_cells in
     let l = c.requires.named in (
       c.requires.table,
       omega (arith, a.self.now.words, a.self.now.some, c.requires.cell, c.phase_at.ensures),
-      phase_allowed _ k a.self.now.table.shared.table_id.slots a.seat.now.id a.seat.now.me g.M.Naming.cells
+      moment_allowed _ a.self.now.table.shared.key a.self.now.table.shared.table_id.slots a.seat.now.id a.seat.now.me
+          c.phase_at.result 0 0 (λ n. n)
+          (phase_load g.M.Naming.cells g.M.Naming.cell)
+          (phase_allowed _ k a.self.now.table.shared.table_id.slots a.seat.now.id a.seat.now.me g.M.Naming.cells
           g.M.Naming.cell a.t.0 c.phase_at.result (l.0 ∙ sym e) l.1 (omega (arith, e, c.requires.cell))
-          c.phase_at.ensures,
+          c.phase_at.ensures),
     )
 
 pub returns-clause-first : goal.returns-clause-first
 returns-clause-first g c = subst (λ t. FirstTold t (phase_in c.load.result) c.args.seat.now.me.0) c.requires.named.1
-    c.load.ensures.2.3
+    c.load.ensures.2.0.3
+
+pub returns-clause-moment : goal.returns-clause-moment
+returns-clause-moment g c = so_too c.phase_at.ensures refl c.load.ensures.2.1

@@ -1,10 +1,17 @@
 use Rattle.std.proofs.Common.{arith}
 use Rattle.tj_words.proofs.SeatLoads.StopLoads.{stop_allowed}
 use Rattle.tj_words.proofs.table.Laid.stopped.Goals as goal
+use Rattle.tj_body.specs.Programs.{program_of}
+use Rattle.tj_words.specs.SeatViews.FullMeaning.{stop_load}
+use Rattle.tj_words.specs.Words.Offsets.{stop_at}
+use Rattle.tj_words.proofs.SeatLoads.MomentSteps.{moment_allowed}
 
 pub load-requires : goal.load-requires
 load-requires g c = let a = c.args in let k = a.self.now.table.shared.key in (
   c.requires.table,
   omega (arith, a.self.now.words, a.self.now.some),
-  stop_allowed _ k a.self.now.table.shared.table_id.slots a.seat.now.id a.seat.now.me,
+  moment_allowed _ a.self.now.table.shared.key a.self.now.table.shared.table_id.slots a.seat.now.id a.seat.now.me
+      stop_at 0 0 (λ n. n)
+      (stop_load (let b = g.B.Body in program_of b.places b.awaits b.left b.asks b.then))
+      (stop_allowed _ k a.self.now.table.shared.table_id.slots a.seat.now.id a.seat.now.me),
 )

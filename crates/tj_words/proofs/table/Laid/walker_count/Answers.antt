@@ -1,11 +1,21 @@
 use Rattle.std.proofs.Common.{arith, sym, ◌∙◌}
 use Rattle.tj_words.proofs.SeatLoads.WalkLoads.{count_read_allowed}
 use Rattle.tj_words.proofs.table.Laid.walker_count.Goals as goal
+use Rattle.std.proofs.Common.{min}
+use Rattle.tj_core.specs.Events.{count_read}
+use Rattle.tj_words.specs.Calls.WalkViews.{walk_load}
+use Rattle.tj_words.specs.SeatViews.SeatSteps.{IsCount}
+use Rattle.tj_words.specs.Words.Offsets.{count_at}
+use Rattle.tj_words.proofs.SeatLoads.MomentSteps.{moment_allowed}
 
 pub load-requires : goal.load-requires
 load-requires g c = let a = c.args in let k = a.self.now.table.shared.key in let e = a.self.now.key_cells in (
   c.requires.table,
   omega (arith, a.self.now.words, a.self.now.some),
-  count_read_allowed _ k c.event_keeps_facts.ensures a.self.now.table.shared.table_id.slots a.seat.now.id a.seat.now.me
-      a.t.0 g.M.Acting.task g.M.Acting.cells c.requires.named.1 (c.requires.named.0 ∙ sym e) c.requires.walks,
+  moment_allowed _ a.self.now.table.shared.key a.self.now.table.shared.table_id.slots a.seat.now.id a.seat.now.me
+      count_at 0 0 (λ n. n)
+      (walk_load g.M.Acting.task (λ n. count_read (min n g.M.Acting.cells)) (IsCount g.M.Acting.cells))
+      (count_read_allowed _ k c.event_keeps_facts.ensures a.self.now.table.shared.table_id.slots a.seat.now.id
+      a.seat.now.me
+      a.t.0 g.M.Acting.task g.M.Acting.cells c.requires.named.1 (c.requires.named.0 ∙ sym e) c.requires.walks),
 )

@@ -1,11 +1,20 @@
 use Rattle.std.proofs.Common.{arith}
 use Rattle.tj_words.proofs.SeatLoads.WalkLoads.{others_read_allowed}
 use Rattle.tj_words.proofs.table.Laid.walker_others.Goals as goal
+use Rattle.std.proofs.Common.{◌<◌, ◌^◌}
+use Rattle.tj_core.specs.Events.{others_read}
+use Rattle.tj_words.specs.Calls.WalkViews.{walk_load}
+use Rattle.tj_words.specs.Words.Offsets.{others_at}
+use Rattle.tj_words.proofs.SeatLoads.MomentSteps.{moment_allowed}
 
 pub load-requires : goal.load-requires
 load-requires g c = let a = c.args in let k = a.self.now.table.shared.key in (
   c.requires.table,
   omega (arith, a.self.now.words, a.self.now.some),
-  others_read_allowed _ k c.event_keeps_facts.ensures a.self.now.table.shared.table_id.slots a.seat.now.id a.seat.now.me
-      c.others_are_few.ensures a.t.0 g.M.Acting.task c.requires.named c.requires.walks,
+  moment_allowed _ a.self.now.table.shared.key a.self.now.table.shared.table_id.slots a.seat.now.id a.seat.now.me
+      others_at 0 0 (λ n. n)
+      (walk_load g.M.Acting.task others_read (λ n. n < 2 ^ 32))
+      (others_read_allowed _ k c.event_keeps_facts.ensures a.self.now.table.shared.table_id.slots a.seat.now.id
+      a.seat.now.me
+      c.others_are_few.ensures a.t.0 g.M.Acting.task c.requires.named c.requires.walks),
 )

@@ -1,12 +1,23 @@
-use Rattle.std.proofs.Common.{arith, sym, ◌∙◌}
+use Rattle.std.proofs.Common.{arith, refl, sym, ◌∙◌}
 use Rattle.tj_words.proofs.SeatLoads.WalkLoads.{owner_read_allowed}
 use Rattle.tj_words.proofs.table.Laid.walker_owner.Goals as goal
+use Rattle.std.proofs.Common.{◌≤◌}
+use Rattle.tj_words.specs.Calls.WalkViews.{owner_seen, walk_load}
+use Rattle.tj_words.specs.Words.Owners.{owner_in}
+use Rattle.tj_words.proofs.SeatLoads.MomentSteps.{moment_allowed, so_too}
 
 pub load-requires : goal.load-requires
 load-requires g c = let a = c.args in let k = a.self.now.table.shared.key in let e = a.self.now.key_cells in (
   c.requires.table,
   omega (arith, a.self.now.words, a.self.now.some, c.requires.cell, c.own_at.ensures),
-  owner_read_allowed _ k c.event_keeps_facts.ensures a.self.now.table.shared.table_id.slots a.seat.now.id a.seat.now.me
+  moment_allowed _ a.self.now.table.shared.key a.self.now.table.shared.table_id.slots a.seat.now.id a.seat.now.me
+      c.own_at.result 0 0 (λ n. n)
+      (walk_load g.M.Acting.task (λ n w. owner_seen (owner_in n) w w.last) (λ n. n ≤ g.M.Acting.cells))
+      (owner_read_allowed _ k c.event_keeps_facts.ensures a.self.now.table.shared.table_id.slots a.seat.now.id
+      a.seat.now.me
       a.t.0 g.M.Acting.task g.M.Acting.cells a.c.0 c.own_at.result c.requires.named.1 (c.requires.named.0 ∙ sym e)
-      c.own_at.ensures (omega (arith, e, c.requires.cell)) c.requires.walks,
+      c.own_at.ensures (omega (arith, e, c.requires.cell)) c.requires.walks),
 )
+
+pub returns-clause-moment : goal.returns-clause-moment
+returns-clause-moment g c = so_too c.own_at.ensures refl c.load.ensures.2.1

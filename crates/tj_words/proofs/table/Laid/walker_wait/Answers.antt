@@ -1,13 +1,27 @@
-use Rattle.std.proofs.Common.{arith, sym, ◌∙◌}
+use Rattle.std.proofs.Common.{arith, refl, sym, ◌∙◌}
 use Rattle.tj_words.proofs.SeatLoads.WalkLoads.{wait_read_allowed}
 use Rattle.tj_words.proofs.table.Laid.walker_wait.Goals as goal
+use Rattle.tj_core.specs.Events.{wait_found}
+use Rattle.tj_words.specs.Calls.WalkViews.{walk_load}
+use Rattle.tj_words.specs.Steps.StepEvents.{wait_in}
+use Rattle.tj_words.specs.Words.Codes.{IsPhaseWord}
+use Rattle.tj_words.specs.Words.Phases.{phase_in}
+use Rattle.tj_words.proofs.SeatLoads.MomentSteps.{moment_allowed, so_too}
 
 pub load-requires : goal.load-requires
 load-requires g c = let a = c.args in let k = a.self.now.table.shared.key in let e = a.self.now.key_cells in (
   c.requires.table,
   omega (arith, a.self.now.words, a.self.now.some, c.requires.cell, c.phase_at.ensures),
-  wait_read_allowed _ k c.event_keeps_facts.ensures a.self.now.table.shared.table_id.slots a.seat.now.id a.seat.now.me
+  moment_allowed _ a.self.now.table.shared.key a.self.now.table.shared.table_id.slots a.seat.now.id a.seat.now.me
+      c.phase_at.result 0 0 (λ n. n)
+      (walk_load g.M.Acting.task
+      (λ n. wait_found g.M.Acting.owner (wait_in (phase_in n))) (IsPhaseWord g.M.Acting.cells))
+      (wait_read_allowed _ k c.event_keeps_facts.ensures a.self.now.table.shared.table_id.slots a.seat.now.id
+      a.seat.now.me
       a.t.0 g.M.Acting.task a.u.0 g.M.Acting.owner g.M.Acting.cells c.phase_at.result c.requires.named.1
       c.requires.named.2 (c.requires.named.0 ∙ sym e) c.phase_at.ensures (omega (arith, e, c.requires.cell))
-      c.requires.walks,
+      c.requires.walks),
 )
+
+pub returns-clause-moment : goal.returns-clause-moment
+returns-clause-moment g c = so_too c.phase_at.ensures refl c.load.ensures.2.1

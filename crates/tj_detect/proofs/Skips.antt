@@ -1,0 +1,21 @@
+-- What a wait along the order loads from OTHERS, and where it skips its walk.
+use Rattle.std.proofs.Common.{◌≡◌, ◌↔◌, ℕ, Bool, subst}
+use Rattle.tj_body.specs.Programs.{Program}
+use Rattle.tj_core.specs.declared.walk.Way.TheVariants.{Along}
+use Rattle.tj_words.specs.declared.view.View.{View}
+use Rattle.tj_words.specs.Calls.WaitViews.{published}
+use Rattle.tj_words.specs.SeatViews.Moments.{WasSo}
+use Rattle.tj_words.specs.Words.Offsets.{others_at}
+use Rattle.tj_detect.specs.Skips.{LoadsOthers}
+use Rattle.tj_detect.specs.declared.blocking.Verdict.{Verdict}
+use Rattle.tj_detect.specs.declared.blocking.Verdict.TheVariants.{Skipped}
+
+-- the load was the one after the publish
+pub loads_others : {B : Type 0} {program : Bool → B → Program B} (verdict : Verdict) (t q n : ℕ) (v w : View B)
+    → w ≡ published t q Along v → WasSo program others_at n w → (verdict ≡ Skipped ↔ n ≡ 0)
+    → LoadsOthers program verdict t q v
+loads_others {B} {program} verdict t q n v w e was skips = record {
+  others = n;
+  was = subst (λ z. WasSo program others_at n z) e was;
+  skips = skips;
+}

@@ -1,0 +1,129 @@
+//! A script run by workers, and the same on one thread.
+ghost use Rattle.std.specs.Prelude.{◌≡◌, IfOk, IfErr};
+ghost use Rattle.tj_body.specs.Rounds.{IsFull};
+ghost use Rattle.tj_embed.specs.Limits.{AreLimits};
+ghost use Rattle.tj_embed.specs.ScriptRuns.{IsOutcomeOfRun, IsOutcomeOfScript, IsReportOfRun, IsRunOf, NeedsMore};
+ghost use Rattle.tj_embed.specs.ScriptRuns.{script_program};
+ghost use Rattle.tj_embed.specs.ScriptTexts.{IsSomeScript};
+ghost use Rattle.tj_mean.specs.declared.outcome.Outcome.{Outcome};
+ghost use Rattle.tj_mean.specs.Outcomes.{is_marked};
+ghost use Rattle.tj_syntax.specs.View as shown;
+ghost use Rattle.tj_words.specs.AtRest.ClosedCells.{AreAtRest, AreCyclesAlarmed, AreAlarmsOnCycles};
+
+use crate::options::Options;
+use std::alloc::Global;
+use std::marker::Model;
+use std::sync::Wait;
+use std::thread::Threads;
+use tj_base::Oom;
+use tj_eval::{ScriptBody, main_body};
+use tj_mean::{Outcome, PlanFault, marked, plan};
+use tj_ports::OpenGate;
+use tj_ready::StealPool;
+use tj_report::{outcome_of, report_text};
+use tj_run::{RunFault, run_all};
+use tj_syntax::Script;
+use tj_words::{Closed, RestWords};
+
+/// A script that workers have run until nothing went on any more.
+#[derive(Drop)]
+pub struct ScriptRun<'s> {
+    rest: RestWords<ScriptBody<'s>>,
+}
+
+impl<'s> Model for ScriptRun<'s> {
+    ghost use Rattle.tj_embed.specs.ScriptRuns.{script_program};
+    ghost use Rattle.tj_eval.specs.Statements.{TaskState};
+    ghost use Rattle.tj_run.specs.Runs.{RestsAt};
+    ghost use Rattle.tj_words.specs.AtRest.RestShown.{RestShown};
+    ghost use Rattle.std.specs.Coded.{codes};
+    ghost use Rattle.tj_eval.specs.Inner.Codes.{expression_code, statement_code, statements_code};
+
+    ghost Value = { RestShown TaskState };
+
+    ghost coded = { Prim.hlevel (codes, expression_code, statement_code, statements_code) };
+
+    ghost view = { λ run. run.rest };
+
+    ghost invariant = { λ run. RestsAt script_program run.rest.root run.rest.limit run.rest.strict
+        run.rest };
+}
+
+/// Runs the script by as many workers as the options say, over one table. A worker runs in a thread
+/// of its own where one can be made. That the call returns isn't proved.
+pub fn run_script<'s, R: Wait + Threads + Sync>(
+    rt: &R,
+    alloc: Global,
+    script: &'s Script,
+    options: Options,
+) -> Result<ScriptRun<'s>, RunFault>
+    requires limits { AreLimits options }
+    requires script { IsSomeScript (shown.script script.now) }
+    ensures run { IfOk result (IsRunOf (shown.script script.now) options) }
+
+    // It is full exactly where the script needs more cells.
+    ensures fits { IfOk result (λ run. ¬ IsFull (script_program run.strict run.root) run.limit) }
+    ensures full { IfErr result (λ fault. fault ≡ RunFault.Full
+        → NeedsMore (shown.script script.now) options) }
+{
+    let root = main_body(alloc, script, options.steps)?;
+    let rest = run_all::<ScriptBody<'s>, StealPool, OpenGate, R>(
+        rt,
+        alloc,
+        root,
+        options.cells,
+        options.workers,
+        &OpenGate,
+        options.strict,
+    )?;
+    Ok(ScriptRun { rest })
+}
+
+/// The outcome of the script on one thread: that of any run over workers.
+pub fn plan_script(alloc: Global, script: &Script, options: Options) -> Result<Outcome, PlanFault>
+    requires limits { AreLimits options }
+    requires script { IsSomeScript (shown.script script.now) }
+    ensures outcome { IfOk result (IsOutcomeOfScript (shown.script script.now) options) }
+    ensures full { IfErr result (λ fault. fault ≡ PlanFault.Full
+        → NeedsMore (shown.script script.now) options) }
+{
+    let root = main_body(alloc, script, options.steps)?;
+    plan(alloc, &root, options.cells, options.strict)
+}
+
+impl<'s> ScriptRun<'s> {
+    /// What became of each task, and each cycle of waits.
+    pub fn outcome(&self, alloc: Global) -> Result<Outcome, Oom>
+        ensures { IfOk result (IsOutcomeOfRun self.now) }
+    {
+        outcome_of(alloc, &self.rest)
+    }
+
+    /// The report of the outcome, as `tj run` writes it.
+    pub fn report(&self, alloc: Global) -> Result<Vec<u8>, Oom>
+        ensures { IfOk result (λ text. IsReportOfRun self.now text.items) }
+    {
+        let outcome = outcome_of(alloc, &self.rest)?;
+        report_text(alloc, &outcome)
+    }
+
+    /// Whether a task failed, owes or waits.
+    pub fn is_marked(&self, alloc: Global) -> Result<bool, Oom>
+        ensures { IfOk result (λ is. (outcome : Outcome) × IsOutcomeOfRun self.now outcome
+            × (is ≡ is_marked outcome)) }
+    {
+        let outcome = outcome_of(alloc, &self.rest)?;
+        Ok(marked(&outcome))
+    }
+
+    /// What the words of the table show of its cells, at rest: each cycle of waits has a member that
+    /// has alarmed, and each task that has alarmed is on one.
+    pub fn into_closed(self) -> Closed
+        ensures words { result ≡ self.entry.cells }
+        ensures rest { AreAtRest result }
+        ensures cycles { AreCyclesAlarmed result }
+        ensures alarms { AreAlarmsOnCycles result }
+    {
+        self.rest.into_closed()
+    }
+}

@@ -1,0 +1,45 @@
+//! From the bytes of a text to the script that it is, or to what is wrong with it first.
+ghost use Rattle.std.specs.Prelude.{◌⊎◌, List, IfOk, IfErr};
+ghost use Rattle.tj_embed.specs.ScriptTexts.{IsFirstFault, IsMemory, IsScriptOf, IsSomeScript};
+ghost use Rattle.tj_syntax.specs.Trees.{Task};
+ghost use Rattle.tj_syntax.specs.View as view;
+
+use crate::positions::position_behind;
+use std::alloc::Global;
+use tj_lex::{LexFault, MAX_TEXT, Place, tokens};
+use tj_syntax::{ParseFault, Script, parse};
+
+/// Why bytes give no script. Want of memory is one of the tokens' faults and of the grammar's.
+#[derive(Clone, Copy, Debug)]
+pub enum NoScript {
+    /// They are too many: the position of the first byte too many.
+    Long(Place),
+    /// Their tokens have a fault.
+    Tokens(LexFault),
+    /// Their tokens are no script.
+    Grammar(ParseFault),
+}
+
+/// The script that a text is, which may have 1,048,576 bytes.
+pub fn script_in(alloc: Global, text: &[u8]) -> Result<Script, NoScript>
+    ensures ok { IfOk result (λ script. IsScriptOf text.now (view.script script)) }
+    ensures script { IfOk result (λ script. IsSomeScript (view.script script)) }
+
+    // A fault is want of memory, or what is wrong first.
+    ensures fault { IfErr result (λ fault. IsMemory fault ⊎ IsFirstFault text.now fault) }
+    ensures refused { IfErr result (λ fault. IsMemory fault
+        ⊎ ((script : List Task) → IsScriptOf text.now script → ⊥)) }
+{
+    if text.len() > MAX_TEXT {
+        let (front, _) = text.split_at(MAX_TEXT);
+        return Err(NoScript::Long(position_behind(front)));
+    }
+    let found = match tokens(alloc, text) {
+        Ok(found) => found,
+        Err(fault) => return Err(NoScript::Tokens(fault)),
+    };
+    match parse(alloc, found.as_slice()) {
+        Ok(script) => Ok(script),
+        Err(fault) => Err(NoScript::Grammar(fault)),
+    }
+}

@@ -1,0 +1,14 @@
+use Rattle.std.proofs.Common.{arith}
+use Rattle.tj_report.specs.Inner.CellNamesBy.{name_by}
+use Rattle.tj_report.proofs.ShownNames.{child_text}
+use Rattle.tj_report.proofs.fork_walk.fork_after.Goals as goal
+
+pub returns : goal.returns
+returns g c =
+    let shown = c.args.rest.now.cells in let k = c.in-Some.k in let n = c.in-Some.ensures in
+    let more = c.if-k-cell.false in (
+      n.0,
+      child_text (name_by shown c.args.cell.parent.0) (name_by shown c.args.next) k c.args.name.now.items
+          c.add_parts.new.text.items c.requires.name c.in_ok-add_parts.ensures n.1,
+      (k, omega (arith, more), n.1),
+    )

@@ -1,0 +1,48 @@
+//! The printed name of a cell, by its makers up to the root: no names of others are made for it.
+ghost use Rattle.std.specs.Prelude.{◌≡◌, ◌++◌, ◌<◌, List, length, IfOk};
+ghost use Rattle.tj_base.specs.Texts.{name_text};
+ghost use Rattle.tj_body.specs.declared.point.Reference.{Reference};
+ghost use Rattle.tj_report.specs.Inner.CellNamesBy.{name_by};
+ghost use Rattle.tj_words.specs.AtRest.ClosedCells.{AreNamed};
+
+use crate::shown_names::add_parts;
+use std::alloc::Global;
+use tj_base::{CellId, Oom};
+use tj_body::Body;
+use tj_words::RestWords;
+
+/// Adds these bytes and the name of a cell.
+pub fn add_cell<B: Body>(
+    alloc: Global,
+    before: &[u8],
+    rest: &RestWords<B>,
+    c: CellId,
+    text: &mut Vec<u8>,
+) -> Result<(), Oom>
+    requires there { c.0 < length rest.now.cells }
+    requires named { (born : List Reference) × AreNamed rest.now.cells born }
+    ensures { IfOk result (λ _. text.new.items
+        ≡ text.old.items ++ (before.now ++ name_text (name_by rest.now.cells c.0))) }
+{
+    let parts = parts_of(alloc, rest, c)?;
+    text.extend_from_slice(before)?;
+    text.push(b'0')?;
+    add_parts(parts.as_slice(), text)
+}
+
+/// The numbers of the name of a cell.
+fn parts_of<B: Body>(alloc: Global, rest: &RestWords<B>, c: CellId) -> Result<Vec<u32>, Oom>
+    requires there { c.0 < length rest.now.cells }
+    requires named { (born : List Reference) × AreNamed rest.now.cells born }
+    ensures { IfOk result (λ parts. parts.items ≡ name_by rest.now.cells c.0) }
+{
+    let mut parts = Vec::new(alloc);
+    let mut at = c.0;
+    while at > 0 {
+        let cell = rest.cell(CellId(at));
+        parts.push(cell.kid)?;
+        at = cell.parent.0;
+    }
+    parts.reverse();
+    Ok(parts)
+}

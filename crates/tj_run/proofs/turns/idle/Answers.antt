@@ -1,0 +1,12 @@
+use Rattle.tj_body.specs.Programs.{program_of}
+use Rattle.tj_run.proofs.Runs.TurnSteps.{left_live, rest_found}
+use Rattle.tj_run.proofs.turns.idle.Goals as goal
+
+pub returns-then-live-eq0-clause-found : goal.returns-then-live-eq0-clause-found
+returns-then-live-eq0-clause-found g c = let b = g.B.Body in
+    rest_found (program_of b.places b.awaits b.left b.asks b.then) c.live.result c.args.seat.now.me.0
+    c.live.new.seat.me.0 c.if-live-eq0.true c.live.ensures.moment (c.live.ensures.rested c.if-live-eq0.true)
+
+pub returns-clause-turns : goal.returns-clause-turns
+returns-clause-turns g c = left_live c.args.laid.now c.live.result c.args.seat.now.me c.live.new.seat.me c.requires.free
+    (c.live.ensures.live c.if-live-eq0.false) c.live.ensures.seat.2

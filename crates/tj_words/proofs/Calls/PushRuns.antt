@@ -1,0 +1,166 @@
+-- A push that succeeds lengthens the very chain that was found: two lists that NEXT links and that begin alike are one.
+use Rattle.std.proofs.Common.{◌≡◌, ◌≢◌, ℕ, suc, ◌-◌, ◌<◌, ◌≤◌, Bool, Option, List, [], ◌∷◌, ◌++◌, length, set}
+use Rattle.std.proofs.Common.{refl, sym, ap, ◌∙◌, subst, ⊎_elim, arith}
+use mathlib.Core.Option.{some}
+use lib.ListN.{get_elem?}
+use Rattle.atomic_table.specs.Table.{State}
+use Rattle.atomic_table.proofs.Lists.{at_map}
+use Rattle.tj_body.specs.Points.{IsIn}
+use Rattle.tj_body.specs.Programs.{Program}
+use Rattle.tj_words.specs.declared.head.Head.{Head}
+use Rattle.tj_words.specs.declared.head.Head.TheVariants.{Empty, Shut, Task}
+use Rattle.tj_words.specs.declared.record.Rec.{Rec}
+use Rattle.tj_words.specs.declared.table.Key.{Key}
+use Rattle.tj_words.specs.declared.view.Found.{Found}
+use Rattle.tj_words.specs.declared.view.View.{View}
+use Rattle.tj_words.specs.Words.Heads.{head_in, head_word, shut_word}
+use Rattle.tj_words.specs.Words.Lists.{cell}
+use Rattle.tj_words.specs.Words.Offsets.{word, head_at, next_at}
+use Rattle.tj_words.specs.Calls.PushSteps.{ChainIsFound, FindsLonger, chain_is_found}
+use Rattle.tj_words.specs.LawParts.Chains.{AreLinked, head_of}
+use Rattle.tj_words.specs.CallLaws.PushRuns.{AreFoundStill, FoundChainsStand, Pushes, PushesLengthen}
+use Rattle.tj_words.specs.CallLaws.StepCalls.{StepCall, place_of, told_by}
+use Rattle.tj_words.specs.CallLaws.StepCalls as call
+use Rattle.tj_words.specs.CallLaws.RestedRuns.{Ruled}
+use Rattle.tj_words.specs.SeatViews.Moments.{WasSo, was_so}
+use Rattle.tj_words.specs.SeatViews.SeenWords.{FindsChain}
+use Rattle.tj_words.proofs.SeatLoads.KnowLoads.{task_in}
+use Rattle.tj_words.proofs.Stores.SeatLists.{word_else, word_here}
+use Rattle.tj_words.proofs.Waiters.ChainFacts.{first_of, grown_longer, linked_one, no_shut}
+
+-- the end of a list that NEXT links is linked
+linked_end : (next : ℕ → Head) (more old : List ℕ) → AreLinked next (more ++ old) → AreLinked next old
+linked_end next [] old h = h
+linked_end next (t ∷ more) old h = linked_end next more old h.1
+
+-- links stay where NEXT does
+linked_same : (next next' : ℕ → Head) → ((t : ℕ) → next t ≡ next' t) → (l : List ℕ) → AreLinked next l
+    → AreLinked next' l
+linked_same next next' same [] h = tt
+linked_same next next' same (t ∷ ts) h = (sym (same t) ∙ h.0, linked_same next next' same ts h.1)
+
+-- an end of a list that NEXT links, which begins as the list does, is the list
+pub whole_end : (next : ℕ → Head) (line more old : List ℕ) → AreLinked next line → line ≡ more ++ old
+    → head_of old ≡ head_of line → line ≡ old
+whole_end next line more old h e same = linked_one next line old h
+    (linked_end next more old (subst (AreLinked next) e h)) (sym same)
+
+-- what a push finds that doesn't succeed
+pub finds_longer : {B : Type 0} {cells p : ℕ} {h : Head} {v w : View B} (behind : Head) → h ≢ behind
+    → FindsChain cells p h v w → FindsLonger p behind h v w
+finds_longer {B} {cells} {p} {h} {v} {w} behind other f = record {
+  chain = f.chain;
+  is = f.is;
+  found = ap (λ (z : View B). z.found) f.view;
+  longer = λ g i here begins. let k = f.grown g i here in
+      grown_longer f.chain k.0 g.chain k.1 (λ e. other (f.is ∙ (sym e ∙ begins)));
+}
+
+-- the head of the word of a task
+head_suc : (t : ℕ) → suc t ≢ shut_word → head_in (suc t) ≡ Task (cell t)
+head_suc t n = let e : suc t - 1 ≡ t = omega arith in
+    task_in (suc t) (λ z. omega arith) n ∙ ap (λ k. Task (cell k)) e
+
+-- the head of the word of a head that a table may have
+pub word_back : (h : Head) (n : ℕ) → n < shut_word → head_word h ≤ n → head_in (head_word h) ≡ h
+word_back Empty n l k = refl
+word_back (Task t) n l k = head_suc t.0 (λ z. omega arith)
+word_back Shut n l k = refl
+
+-- what a push finds where its word isn't that for which it asks
+pub found_other : {B : Type 0} {cells p : ℕ} {v w : View B} (behind h : Head) (k : ℕ) → h ≡ head_in k
+    → head_in (head_word behind) ≡ behind
+    → (k ≢ head_word behind → head_in k ≢ Shut → FindsChain cells p (head_in k) v w) → h ≢ behind → h ≢ Shut
+    → FindsChain cells p h v w
+found_other {B} {cells} {p} {v} {w} behind h k e back f n m = subst (λ z. FindsChain cells p z v w) (sym e)
+    (f (λ z. n (e ∙ (ap head_in z ∙ back))) (λ z. m (e ∙ z)))
+
+module _ {B : Type 0} (program : Bool → B → Program B) (key : Key B) where
+  found_stand : (u : Ruled program key) (id p : ℕ) (v : View B) → get_elem? u.now.views id ≡ some v
+      → AreFoundStill program key u p v
+  found_stand u id p v at f i here begins = let c = u.rule.law.chains in
+      let grows = c.grows id v.found (at_map (λ (z : View B). z.found) u.now.views id v at) f i in
+      let unshut : head_in (word u.now.words (head_at p)) ≢ Shut = λ e. no_shut f.chain (begins ∙ e) in
+      let is = c.heads p unshut in
+      ⊎_elim
+      (λ (e : head_in (word u.now.words (head_at f.cell)) ≡ Shut).
+      absurd (unshut (ap (λ d. head_in (word u.now.words (head_at d))) (sym here) ∙ e)))
+      (λ (m : (more : List ℕ) × (c.line f.cell ≡ more ++ f.chain)).
+      whole_end _ (c.line p) m.0 f.chain (c.linked p) (ap c.line (sym here) ∙ m.1) (begins ∙ is)) grows
+
+  module _ (u w : Ruled program key) (p t : ℕ) (behind : Head) (e : Pushes program key u w p t behind) where
+    abbrev ws : List ℕ
+    ws = u.now.words
+
+    abbrev i : ℕ
+    i = place_of e.made.call
+
+    at_head : i ≡ head_at p
+    at_head = ap place_of e.is
+
+    -- what the call stored
+    its_number : e.made.number ≡ suc t
+    its_number = by e.made.call e.is e.made.told
+      where
+        by : (a : StepCall) → a ≡ call.pushes p
+            → told_by program key.cells a e.made.number e.made.operands e.made.seat (word ws (place_of a))
+            e.made.seat_after
+            → e.made.number ≡ suc t
+        by a q told = let h = subst (λ a. told_by program key.cells a e.made.number e.made.operands e.made.seat
+            (word ws (place_of a)) e.made.seat_after) q told in h.0 e.succeeds ∙ e.adds
+
+    after : (j : ℕ) → word w.now.words j ≡ word (set ws (head_at p) (suc t)) j
+    after j = ap (λ (z : State (Option (Rec B)) (View B)). word z.words j) e.made.makes.after
+        ∙ (ap (λ k. word (set ws k e.made.number) j) at_head ∙ ap (λ n. word (set ws (head_at p) n) j) its_number)
+
+    head_now : head_in (word w.now.words (head_at p)) ≡ Task (cell t)
+    head_now = ap head_in (after (head_at p)
+        ∙ word_here ws (head_at p) (suc t) (subst (λ j. j < length ws) at_head e.made.makes.inside))
+        ∙ head_suc t (λ z. let f = u.rule.few_cells in let s = e.small in omega arith)
+
+    next_now : (d : ℕ) → head_in (word w.now.words (next_at d)) ≡ head_in (word ws (next_at d))
+    next_now d = ap head_in (after (next_at d) ∙ word_else ws (head_at p) (next_at d) (suc t) (λ z. omega arith))
+
+    longer : w.rule.law.chains.line p ≡ t ∷ u.rule.law.chains.line p
+    longer = let c = u.rule.law.chains in let d = w.rule.law.chains in
+        let unshut : head_in (word w.now.words (head_at p)) ≢ Shut = λ z. let y : Task (cell t) ≡ Shut
+        = sym head_now ∙ z in cc in
+        let first = first_of (d.line p) t (sym (d.heads p unshut) ∙ head_now) in
+        let linked = subst (AreLinked _) first.1 (d.linked p) in
+        let stored : head_in (word ws (next_at t)) ≡ behind = next_is in
+        let begins : head_of first.0 ≡ behind = sym linked.0 ∙ (next_now t ∙ stored) in
+        let was : head_in (word ws (head_at p)) ≡ behind = ap head_in e.succeeds ∙ e.asks in
+        let open_was : head_in (word ws (head_at p)) ≢ Shut = λ z. no_shut first.0 (begins ∙ (sym was ∙ z)) in
+        first.1 ∙ ap (λ l. t ∷ l) (linked_one _ first.0 (c.line p)
+        (linked_same _ _ next_now first.0 linked.1) (c.linked p)
+        (begins ∙ (sym was ∙ c.heads p open_was)))
+      where
+        next_is : head_in (word ws (next_at t)) ≡ behind
+        next_is = let c = u.rule.law.chains in let q = e.has in
+            subst (λ d. head_in (word ws (next_at d)) ≡ behind) q.2.0
+            ((c.to_push e.made.id e.made.seat.0.pushes
+            (at_map (λ (z : View B). z.pushes) u.now.views e.made.id e.made.seat.0 e.made.makes.at)
+            q.0 q.1).stored behind q.2.2)
+
+    of_found : (f : Found) → IsIn f e.made.seat.0.found → f.cell ≡ p → head_of f.chain ≡ behind
+        → w.rule.law.chains.line p ≡ t ∷ f.chain
+    of_found f j here begins = longer ∙ ap (λ l. t ∷ l)
+        (found_stand u e.made.id p e.made.seat.0 e.made.makes.at f j here
+        (begins ∙ (sym e.asks ∙ ap head_in (sym e.succeeds))))
+
+-- at the moment of a push that succeeds the chain is the one that was found
+pub chain_found : {B : Type 0} {program : Bool → B → Program B} {p n : ℕ} {v : View B} (behind : Head)
+    → head_in n ≡ behind → WasSo program (head_at p) n v → ChainIsFound program p behind v
+chain_found {B} {program} {p} {n} {v} behind e (was_so key s id r at is) =
+    let here : head_in (word s.words (head_at p)) ≡ behind = ap head_in is ∙ e in
+    chain_is_found key s id r at here (λ f i its begins.
+    found_stand program key (record { now = s; rule = r }) id p v at f i its (begins ∙ sym here))
+
+pub found_chains_stand : (B : Type 0) → FoundChainsStand B
+found_chains_stand B program key u id p v at = found_stand program key u id p v at
+
+pub pushes_lengthen : (B : Type 0) → PushesLengthen B
+pushes_lengthen B program key u w p t behind e = (
+  longer program key u w p t behind e,
+  λ f i here begins. of_found program key u w p t behind e f i here begins,
+)

@@ -1,0 +1,90 @@
+-- Where a walk has ended, no cycle through its task stood just after the task had published: the calls between are a
+-- run of the core, at whose end the task may settle.
+use Rattle.std.proofs.Common.{◌≡◌, ℕ, Bool, List, [], ◌∷◌, sym, ap, ◌∙◌, subst}
+use mathlib.Core.Option.{some}
+use lib.ListN.{get_elem?}
+use Rattle.tj_body.specs.Programs.{Program}
+use Rattle.tj_core.specs.CoreState.{CoreState}
+use Rattle.tj_core.specs.Events.{Allowed, after}
+use Rattle.tj_core.specs.Runs.{after_all}
+use Rattle.tj_core.specs.WaitGraph.{IsOnCycle}
+use Rattle.tj_core.specs.declared.event.Event.{Event}
+use Rattle.tj_core.specs.declared.event.Event.TheVariants as event
+use Rattle.tj_core.proofs.Events.LegalRuns.{settles_off_cycles}
+use Rattle.tj_words.specs.declared.table.Key.{Key}
+use Rattle.tj_words.specs.declared.view.View.{View}
+use Rattle.tj_words.specs.CallLaws.CallRuns.{AreAskedMoments, events_by, phase_events, under}
+use Rattle.tj_words.specs.CallLaws.RestedRuns.{Ruled, last_moment}
+use Rattle.tj_words.specs.CallLaws.StepCalls.{StepCall, place_of}
+use Rattle.tj_words.specs.CallLaws.StepCalls as call
+use Rattle.tj_words.specs.CallLaws.Verdicts.{EndedWalksAreOffCycles, HasEndedWalk, PublishesAt, IsOnCycleAt}
+use Rattle.tj_words.specs.Steps.TableRuns.{IsStep, events_of, state_of}
+use Rattle.tj_words.specs.Words.Lists.{cell}
+use Rattle.tj_words.specs.Words.Offsets.{word}
+use Rattle.tj_words.specs.Words.Phases.{phase_in}
+use Rattle.tj_words.proofs.Calls.CallRuns.{all_go, calls_are_steps}
+use Rattle.tj_words.proofs.Calls.TableRuns.{steps_are_runs}
+use Rattle.tj_words.proofs.Events.WalkersShown.{walker_shown}
+
+module _ {B : Type 0} (program : Bool → B → Program B) (key : Key B) (u w : Ruled program key) (t p : ℕ)
+    (e : PublishesAt program key u w t p) where
+  abbrev P : Program B
+  P = program key.strict key.root.value
+
+  abbrev from : CoreState
+  from = state_of P key.cells (under program key u)
+
+  abbrev published : Event
+  published = event.Publish (cell t) (cell p)
+
+  -- the call is that event
+  publish_step : IsStep P key.cells (under program key u) (published ∷ []) (under program key w)
+  publish_step = let h = calls_are_steps B program key u w e.publish in
+      subst (λ es. IsStep P key.cells (under program key u) es (under program key w)) (its_events h.0 h.1) h.2
+    where
+      by : (a : StepCall) → a ≡ call.puts_phase t → (es : List Event)
+          → events_by key.cells a e.publish.made.operands (word u.now.words (place_of a)) e.publish.made.seat.0 es
+          → es ≡ phase_events t (phase_in e.publish.made.operands.first)
+      by a q es h = subst (λ a. events_by key.cells a e.publish.made.operands (word u.now.words (place_of a))
+          e.publish.made.seat.0 es) q h
+
+      its_events : (es : List Event)
+          → events_by key.cells e.publish.made.call e.publish.made.operands
+          (word u.now.words (place_of e.publish.made.call)) e.publish.made.seat.0 es
+          → es ≡ published ∷ []
+      its_events es h = by e.publish.made.call e.is es h ∙ ap (phase_events t) e.waits
+
+  -- the state after it is the one that is shown then
+  published_shown : state_of P key.cells (under program key w) ≡ after from published
+  published_shown = (steps_are_runs B P key.cells (under program key u)
+      ((published ∷ [], under program key w) ∷ []) (publish_step, tt)).1
+
+  module _ (later : List (Ruled program key)) (a : AreAskedMoments program key w later) (id : ℕ) (v : View B)
+      (at : get_elem? (last_moment program key w later).now.views id ≡ some v) (h : HasEndedWalk t v) where
+    abbrev last : Ruled program key
+    last = last_moment program key w later
+
+    may_settle : Allowed key.cells (state_of P key.cells (under program key last)) (event.Settle (cell t))
+    may_settle = (
+      h.waits_for,
+      h.way,
+      h.walker,
+      walker_shown program key last.now last.rule id v at t h.custody h.held
+          h.waits_for h.way h.walker h.walks,
+      h.ends,
+    )
+
+    off_cycle : ¬ IsOnCycleAt program key t w
+    off_cycle on = let g = all_go program key w later a in
+        let steps = (published ∷ [], under program key w) ∷ g.0 in
+        let run = steps_are_runs B P key.cells (under program key u) steps (publish_step, g.1) in
+        let es = events_of P key.cells g.0 in
+        let ends : state_of P key.cells (under program key last) ≡ after_all from (published ∷ es)
+        = ap (state_of P key.cells) (sym g.2) ∙ run.1 in
+        settles_off_cycles key.cells from (cell t) (cell p) es u.rule.law.facts run.0
+        (subst (λ s. Allowed key.cells s (event.Settle (cell t))) ends may_settle)
+        (subst (λ s. IsOnCycle s.cells t) published_shown on)
+
+pub ended_walks_off_cycles : (B : Type 0) → EndedWalksAreOffCycles B
+ended_walks_off_cycles B program key u w later t p id v e a at h =
+    off_cycle program key u w t p e later a id v at h

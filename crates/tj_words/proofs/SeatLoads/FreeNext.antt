@@ -1,0 +1,80 @@
+-- What the moment clause leaves open: NEXT of a task that isn't parked may be any number, whatever the seat's view is.
+use Rattle.std.proofs.Common.{◌≡◌, ℕ, ◌<◌, length, sym, ◌∙◌, subst, set, arith}
+use Rattle.atomic_table.proofs.Lists.{set_again}
+use Rattle.tj_words.specs.Law.{Law, Rule}
+use Rattle.tj_words.specs.LawParts.Chains.{Chains, IsParkedOn}
+use Rattle.tj_words.specs.LawParts.Contents.{contents_of, seats_have, tag_in, words_say}
+use Rattle.tj_words.specs.SeatViews.MomentLaws.{NextIsFree}
+use Rattle.tj_words.specs.SeatViews.Moments.{was_so}
+use Rattle.tj_words.specs.Words.Heads.{head_in}
+use Rattle.tj_words.specs.Words.Offsets.{next_at}
+use Rattle.tj_words.proofs.Stores.LawChanges.{law_chains}
+use Rattle.tj_words.proofs.Stores.SeatContents.{seats_same, set_seats}
+use Rattle.tj_words.proofs.Stores.SeatLists.{word_here}
+use Rattle.tj_words.proofs.Stores.StoredWords.{say_next}
+use Rattle.tj_words.proofs.Stores.StoreSteps.{Stores, may_store, put_else, rule_stores}
+use Rattle.tj_words.proofs.Stores.TableWords.{Next}
+use Rattle.tj_words.proofs.Waiters.ChainHeads.{linked_else}
+use Rattle.tj_base.specs.Puts.{put}
+
+module _ {B : Type 0} where
+  pub next_is_free : NextIsFree B
+  next_is_free program key s r id v at t n l small free = was_so key
+      (record { words = set s.words (next_at t) n; homes = s.homes; views = s.views }) id
+      (subst (λ z. Rule program key (record { words = set s.words (next_at t) n; homes = s.homes; views = z }))
+      (set_again s.views id v at) (rule_stores program key s r id (next_at t) n v stores))
+      at (word_here s.words (next_at t) n inside)
+    where
+      inside : next_at t < length s.words
+      inside = let e = r.all_words in omega arith
+
+      else : (u p : ℕ) → IsParkedOn ((words_say s.words).phase u) p
+          → put (words_say s.words).next t (head_in n) u ≡ (words_say s.words).next u
+      else u p k = put_else (words_say s.words).next t u (head_in n)
+          (λ z. free p (subst (λ i. IsParkedOn ((words_say s.words).phase i) p) z k))
+
+      chains : Chains (tag_in (contents_of s)) (words_say s.words).head (put (words_say s.words).next t (head_in n))
+          (words_say s.words).phase (seats_have s.views).pushes (seats_have s.views).shuts (seats_have s.views).rests
+          (seats_have s.views).closed (seats_have s.views).found
+      chains = let c = r.law.chains in record {
+        line = c.line;
+        pusher = c.pusher;
+        taker = c.taker;
+        shutter = c.shutter;
+        heads = c.heads;
+        linked = λ p. linked_else (words_say s.words).next (put (words_say s.words).next t (head_in n)) (c.line p)
+            (λ u i. else u p (c.parked p u i).0) (c.linked p);
+        parked = c.parked;
+        placed = c.placed;
+        tagged = c.tagged;
+        due = c.due;
+        pushing = c.pushing;
+        to_push = λ j l e x i. let f = c.to_push j l e x i in record {
+          mine = f.mine;
+          parked = f.parked;
+          stored = λ g q. else x.task x.cell (x.way, f.parked) ∙ f.stored g q;
+        };
+        resting = c.resting;
+        rest = c.rest;
+        stays_shut = c.stays_shut;
+        grows = c.grows;
+      }
+
+      stores : Stores program key s id (next_at t) n v
+      stores = record {
+        inside = inside;
+        may = may_store key.cells (Next t) n small;
+        seat = r.seats id v at;
+        law = subst (λ z. Law (program key.strict key.root.value) key.cells
+            (record { words = z; slots = s.homes; seats = set_seats (seats_have s.views) id v }))
+            (sym (say_next s.words n t inside))
+            (subst (λ z. Law (program key.strict key.root.value) key.cells (record {
+              words = record (words_say s.words) { next = put (words_say s.words).next t (head_in n) };
+              slots = s.homes;
+              seats = z;
+            })) (sym (seats_same s.views id v at))
+            (law_chains r.law (words_say s.words).head (put (words_say s.words).next t (head_in n))
+            (seats_have s.views).pushes
+            (seats_have s.views).shuts (seats_have s.views).rests (seats_have s.views).closed (seats_have s.views).found
+            chains));
+      }

@@ -1,0 +1,204 @@
+-- What a word can't be while a seat has such a view.
+use Rattle.std.proofs.Common.{◌≡◌, ℕ, zero, suc, Bool, List, map, Option, Some, None, refl, sym, ap, ◌∙◌}
+use Rattle.std.proofs.Common.{subst, set, inl, inr, ◌⊎◌, ⊎_elim, arith}
+use Rattle.std.proofs.lemmas.List.{map-set}
+use mathlib.Core.Option.{some, some-injective}
+use mathlib.Core.Logic.{dite}
+use native.Mathlib.Decide.{ℕ_discrete}
+use lib.ListN.{get_elem?}
+use Rattle.atomic_table.specs.Table.{State}
+use Rattle.atomic_table.proofs.Lists.{at_map, set_again}
+use Rattle.tj_base.specs.declared.cell.Sort.TheVariants as sort
+use Rattle.tj_body.specs.Programs.{Program}
+use Rattle.tj_body.specs.RoundPoints.{IsOfRounds}
+use Rattle.tj_body.specs.declared.ask.Answer.{Answer}
+use Rattle.tj_body.specs.declared.ask.Answer.TheVariants as answer
+use Rattle.tj_body.specs.declared.point.Point.{Point}
+use Rattle.tj_body.specs.History.{to_task}
+use Rattle.tj_words.specs.LawParts.TreeWords.{IsCell}
+use Rattle.tj_words.proofs.Seating.Merging.{begins_at}
+use Rattle.tj_body.specs.declared.point.Reference.{Reference}
+use Rattle.tj_words.specs.declared.phase.Phase.{Phase}
+use Rattle.tj_words.specs.declared.phase.Phase.TheVariants as phase
+use Rattle.tj_words.specs.declared.phase.Walk.TheVariants as walk
+use Rattle.tj_words.specs.declared.record.Finish.{Finish}
+use Rattle.tj_words.specs.declared.record.Rec.{Rec}
+use Rattle.tj_words.specs.declared.table.Key.{Key}
+use Rattle.tj_words.specs.declared.view.About.{About}
+use Rattle.tj_words.specs.declared.view.View.{View}
+use Rattle.tj_words.specs.Law.{Rule}
+use Rattle.tj_words.specs.LawParts.Contents.{Contents, contents_of, home_of, tag_in}
+use Rattle.tj_words.specs.LawParts.Custodies.{IsHeld, IsKept, LiesAtHome}
+use Rattle.tj_words.specs.LawParts.Holding.{held_in}
+use Rattle.tj_words.specs.LawParts.Lots.{all_lots}
+use Rattle.tj_words.specs.LawParts.RecordPhases.{IsRecordIn}
+use Rattle.tj_words.specs.LawParts.ShownState.{phase_sort, sort_shown}
+use Rattle.tj_words.specs.LawParts.Telling.{TellsStage}
+use Rattle.tj_words.specs.Words.Offsets.{word, live_at, count_at, phase_at, stop_at}
+use Rattle.tj_words.specs.Words.Owners.{owner_in}
+use Rattle.tj_words.specs.Words.Phases.{phase_in}
+use Rattle.tj_words.specs.Steps.StepEvents.{IsBegun}
+use Rattle.tj_words.specs.SeatViews.MomentLaws.{IsStopped, LiveCountsTokens, CountIsAbove, OwnerIsTheTask}
+use Rattle.tj_words.specs.SeatViews.MomentLaws.{LoneSeatClaims, NoHiddenStop, OthersCountsCleared, PhaseIsDone, StopStands}
+use Rattle.tj_words.specs.SeatViews.Moments.{was_so}
+use Rattle.tj_words.specs.LawParts.Stops.{IsStored}
+use Rattle.tj_words.proofs.Stores.SeatLists.{word_here}
+use Rattle.tj_words.proofs.Holders.HeldTasks.{none_some}
+use Rattle.tj_words.proofs.Holders.TaskPlaces.{custody, list_owned, begun_there}
+use Rattle.tj_words.proofs.Meaning.RestingStates.{map_back, no_lot_no_task, one_part, two_parts}
+
+module _ {B : Type 0} where
+  pub live_counts : LiveCountsTokens B
+  live_counts program n v (was_so key s id r at e) =
+      let c = r.law.live_count.counted in
+      let p = one_part (map (λ (u : View B). u.tokens) s.views) id v.tokens
+      (at_map (λ (u : View B). u.tokens) s.views id v at) in
+      omega arith
+
+  pub count_above : CountIsAbove B
+  count_above program n c v (was_so key s id r at e) known =
+      let h = (r.law.names.knows id v.known (at_map (λ (u : View B). u.known) s.views id v at) c known).0 in
+      omega arith
+
+  pub owner_is : OwnerIsTheTask B
+  owner_is program n c t k v (was_so key s id r at e) held owned = by n (sym (ap owner_in e)
+      ∙ (list_owned r.law id t k (v.tasks, at_map (λ (u : View B). u.tasks) s.views id v at, held) c owned).1)
+    where
+      by : (m : ℕ) → owner_in m ≡ Some t → m ≡ suc t
+      by zero q = cc
+      by (suc u) q = let d : u ≡ t = cc in ap suc d
+
+  pub phase_is : PhaseIsDone B
+  phase_is program n t k v (was_so key s id r at e) held = ap phase_in (sym e)
+      ∙ (custody r.law id t k (v.tasks, at_map (λ (u : View B). u.tasks) s.views id v at, held)).does
+
+  pub stop_stands : StopStands B
+  stop_stands program n k v (was_so key s id r at e) i z =
+      r.law.stops.stands id v.stored (at_map (λ (u : View B). u.stored) s.views id v at) k i (e ∙ z)
+
+  -- nobody holds a task beside a seat with all lots
+  none_held : (program : Bool → B → Program B) (key : Key B) (s : State (Option (Rec B)) (View B))
+      (r : Rule program key s) (id : ℕ) (v : View B) → get_elem? s.views id ≡ some v → v.lot ≡ all_lots
+      → (t : ℕ) → held_in v.tasks t ≡ None → IsHeld (r.law.custody.holder t) → ⊥
+  none_held program key s r id v at lot t none h =
+      let o = r.law.custody.holders t h.0 h.1 in
+      let w = map_back (λ (u : View B). u.tasks) s.views h.0 o.0 o.1 in
+      none_some (held_in o.0 t) o.2.0 (ap (λ ks. held_in ks t) (sym w.2) ∙ empty h.0 w.0 w.1) o.2.1
+    where
+      empty : (j : ℕ) (w : View B) → get_elem? s.views j ≡ some w → held_in w.tasks t ≡ None
+      empty j w e = dite (ℕ_discrete id j)
+          (λ q. ap (λ (o : View B). held_in o.tasks t)
+          (some-injective w v (sym e ∙ (ap (get_elem? s.views) (sym q) ∙ at))) ∙ none)
+          (λ q. ap (λ ks. held_in ks t) (no_lot_no_task w (r.seats j w e).within_lot
+          (let l = r.law.lots.all in
+          let p = two_parts (map (λ (u : View B). u.lot) s.views) j id w.lot v.lot q
+          (at_map (λ (u : View B). u.lot) s.views j w e) (at_map (λ (u : View B). u.lot) s.views id v at) in
+          omega arith)))
+
+  -- a record that has ended or waits is that of a point that has
+  stopped_by : (born : List Reference) (f : Option Finish) (a : Answer) (spare : Bool) (p : Point B)
+      → TellsStage born f a spare p → ((g : Finish) × (f ≡ Some g)) → IsStopped p.stage
+  stopped_by born (Some g) a spare p h e = subst IsStopped (sym h.2) tt
+  stopped_by born None a spare p h e = absurd (none_some None e.0 refl e.1)
+
+  waits_by : (born : List Reference) (f : Option Finish) (a : Answer) (spare : Bool) (p : Point B)
+      → TellsStage born f a spare p → f ≡ None → (k : ℕ) → a ≡ answer.RefAt k → IsStopped p.stage
+  waits_by born f a spare p h e k d = subst IsStopped
+      (sym (subst (λ (z : Option Finish × Answer). TellsStage born z.0 z.1 spare p) (λ j. (e j, d j)) h).1) tt
+
+  pub lone_claims : LoneSeatClaims B
+  lone_claims program n t v a (was_so key s id r at e) lot none about un_born un_promise un_ready =
+      by (phase_in (word s.words (phase_at t))) refl
+    where
+      x : Contents B
+      x = contents_of s
+
+      kept : IsBegun (x.words.phase t) → phase_sort (x.words.phase t) ≡ sort.Task
+          → IsKept (x.words.phase t) (r.law.custody.holder t) (home_of x t)
+      kept b o = let h = begun_there r.law t b in r.law.custody.tasks_kept t h.0
+          (ap (λ z. sort_shown z (x.words.phase t)) h.1 ∙ o)
+
+      Stops : Type 0
+      Stops = (p : Point B) × IsOfRounds (program a.strict a.root) p × IsStopped p.stage
+          × ((y : Reference) → IsCell v.born t y → p.name ≡ y.name)
+
+      same : (p : Point B) → IsOfRounds (program key.strict key.root.value) p → IsOfRounds (program a.strict a.root) p
+      same p h = subst (λ (z : About B). IsOfRounds (program z.strict z.root) p)
+          (sym ((r.seats id v at).about a about)) h
+
+      home : (p : Phase) → x.words.phase t ≡ p → LiesAtHome (r.law.custody.holder t) (home_of x t)
+          → ((c : Rec B) → IsRecordIn (tag_in x) p c
+          → ((g : Finish) × (c.finish ≡ Some g)) ⊎ ((c.finish ≡ None) × ((k : ℕ) × (c.answer ≡ answer.RefAt k))))
+          → Stops
+      home p e h F =
+          let c = h.1.0 in
+          let m = r.law.meaning.records t c h.1.1 in
+          let f = F c (subst (λ z. IsRecordIn (tag_in x) z c) e (r.law.records_fit t c h.1.1)) in (
+            m.point,
+            same m.point m.stands.of_rounds,
+            ⊎_elim
+                (λ (q : (g : Finish) × (c.finish ≡ Some g)).
+                stopped_by r.law.born c.finish c.answer c.spare m.point m.tells_stage q)
+                (λ (q : (c.finish ≡ None) × ((k : ℕ) × (c.answer ≡ answer.RefAt k))).
+                waits_by r.law.born c.finish c.answer c.spare m.point m.tells_stage q.0 q.1.0 q.1.1) f,
+            (λ y k. ap (λ (z : Reference). z.name) (some-injective (to_task m.point.name) y
+                (sym m.tells.of ∙ (ap (get_elem? r.law.born) (r.law.custody.own_slots t c h.1.1)
+                ∙ begins_at v.born r.law.born
+                (r.law.meaning.begins id v.born (at_map (λ (u : View B). u.born) s.views id v at))
+                t y k)))),
+          )
+
+      at_rest : (p : Phase) → x.words.phase t ≡ p → IsBegun p → phase_sort p ≡ sort.Task
+          → IsKept p (r.law.custody.holder t) (home_of x t)
+      at_rest p e b o = subst (λ z. IsKept z (r.law.custody.holder t) (home_of x t)) e
+          (kept (subst IsBegun (sym e) b) (ap phase_sort e ∙ o))
+
+      by : (p : Phase) → x.words.phase t ≡ p → Stops
+      by phase.Unborn q = absurd (un_born (ap phase_in (sym e) ∙ q))
+      by phase.Promise q = absurd (un_promise (ap phase_in (sym e) ∙ q))
+      by phase.Ready q = absurd (un_ready (ap phase_in (sym e) ∙ q))
+      by phase.Running q = absurd (none_held program key s r id v at lot t none (at_rest phase.Running q tt refl))
+      by phase.Ended q = home phase.Ended q (at_rest phase.Ended q tt refl) (λ c h. inl h.0)
+      by (phase.Waiting c way walk.Walking) q =
+          absurd (none_held program key s r id v at lot t none (at_rest (phase.Waiting c way walk.Walking) q tt refl))
+      by (phase.Waiting c way walk.Parked) q = home (phase.Waiting c way walk.Parked) q
+          (at_rest (phase.Waiting c way walk.Parked) q tt refl) (λ d h. inr (h.0, (h.1.0, h.1.2)))
+      by (phase.Waiting c way walk.Alarmed) q = ⊎_elim
+          (λ (h : IsHeld (r.law.custody.holder t) × (home_of x t ≡ None)).
+          absurd (none_held program key s r id v at lot t none h.0))
+          (λ (h : LiesAtHome (r.law.custody.holder t) (home_of x t)). home (phase.Waiting c way walk.Alarmed) q h
+          (λ d h. inr (h.0, (h.1.0, h.1.2))))
+          (at_rest (phase.Waiting c way walk.Alarmed) q tt refl)
+
+  pub others_count : OthersCountsCleared B
+  others_count program n v (was_so key s id r at e) =
+      let c = r.law.facts.others_count in
+      let p = one_part (map (λ (u : View B). u.cleared) s.views) id v.cleared
+      (at_map (λ (u : View B). u.cleared) s.views id v at) in
+      omega arith
+
+  -- a seat that has stored what it had stored before leaves the lists of what was stored
+  stored_same : (views : List (View B)) (id : ℕ) (v w : View B) → get_elem? views id ≡ some v → w.stored ≡ v.stored
+      → map (λ (u : View B). u.stored) (set views id w) ≡ map (λ (u : View B). u.stored) views
+  stored_same views id v w at e = map-set (λ (u : View B). u.stored) views id w
+      ∙ (ap (λ l. set (map (λ (u : View B). u.stored) views) id l) e
+      ∙ set_again (map (λ (u : View B). u.stored) views) id v.stored (at_map (λ (u : View B). u.stored) views id v at))
+
+  -- where seats have stored the same in two tables under the law, STOP isn't 0 in the one alone
+  none_too : {program : Bool → B → Program B} {key : Key B} {s t : State (Option (Rec B)) (View B)}
+      → Rule program key s → Rule program key t
+      → map (λ (u : View B). u.stored) t.views ≡ map (λ (u : View B). u.stored) s.views
+      → word s.words stop_at ≡ 0 → word t.words stop_at ≡ 0
+  none_too {t = t} r q same z = dite (ℕ_discrete (word t.words stop_at) 0) (λ e. e) (λ ne.
+      let g = subst (λ l. IsStored l (word t.words stop_at)) same (q.law.stops.given ne) in
+      absurd (r.law.stops.stands g.0 g.1.0 g.1.1 (word t.words stop_at) g.1.2 z))
+
+  pub no_hidden_stop : NoHiddenStop B
+  no_hidden_stop program key slots id f m h s r deep at small =
+      let k = h s r deep at small in
+      let after : word (set s.words stop_at (f (word s.words stop_at))) stop_at ≡ f (word s.words stop_at)
+      = word_here s.words stop_at (f (word s.words stop_at)) (let a = r.all_words in omega arith) in
+      let same = stored_same s.views id m.0 k.0 at k.4 in (
+        (λ z. sym after ∙ none_too r k.3 same z),
+        (λ z. none_too k.3 r (sym same) (after ∙ z)),
+      )

@@ -1,0 +1,48 @@
+-- The contents of a table after a store: those with another word, and the seat's view. The law after a step and what a
+-- call shows are both told of these contents, so a kind of step has one path to them and no more.
+use Rattle.std.proofs.Common.{◌≡◌, ℕ, Option, ap, ◌∙◌}
+use Rattle.atomic_table.specs.Table.{Act, State, homes_after, keeps}
+use Rattle.tj_words.specs.declared.record.Rec.{Rec}
+use Rattle.tj_words.specs.declared.view.View.{View}
+use Rattle.tj_words.specs.LawParts.Contents.{Contents, contents_of, seats_have, words_say}
+use Rattle.tj_words.specs.LawParts.Holding.{Slots}
+use Rattle.tj_words.specs.SeatViews.SeatSteps.{SeatMe}
+use Rattle.tj_words.specs.CallLaws.CallSteps.{MakesWith}
+use Rattle.tj_words.proofs.Stores.SeatContents.{seats_set, set_seats}
+use Rattle.tj_words.proofs.Stores.StoredWords.{said, say}
+use Rattle.tj_words.proofs.Stores.TableWords.{TableWord, index}
+
+module _ {B : Type 0} where
+  -- the contents once the word w of them is n, and seat id has the view v
+  abbrev pub stored : State (Option (Rec B)) (View B) → ℕ → TableWord → ℕ → View B → Contents B
+  stored s id w n v = record {
+    words = said (words_say s.words) w n;
+    slots = s.homes;
+    seats = set_seats (seats_have s.views) id v;
+  }
+
+  -- a call that stores n into w leaves these
+  pub call_stores : (s t : State (Option (Rec B)) (View B)) (id : ℕ) (w : TableWord) (n : ℕ) (m m' : SeatMe B)
+      → MakesWith keeps id (index w) n m m' s t → (v : View B) → m'.0 ≡ v → contents_of t ≡ stored s id w n v
+  call_stores s t id w n m m' h v e = ap contents_of h.after ∙ (λ j. record {
+    words = say s.words n w h.inside j;
+    slots = s.homes;
+    seats = (seats_set s.views id m'.0 ∙ ap (set_seats (seats_have s.views) id) e) j;
+  })
+
+  -- the same where slots change
+  abbrev pub stored_with : State (Option (Rec B)) (View B) → ℕ → TableWord → ℕ → Slots B → View B → Contents B
+  stored_with s id w n slots v = record {
+    words = said (words_say s.words) w n;
+    slots = slots;
+    seats = set_seats (seats_have s.views) id v;
+  }
+
+  pub call_stores_with : (s t : State (Option (Rec B)) (View B)) (id : ℕ) (w : TableWord) (n : ℕ) (m m' : SeatMe B)
+      (a : Act (Option (Rec B))) → MakesWith a id (index w) n m m' s t → (slots : Slots B)
+      → homes_after s.homes m.1 a ≡ slots → (v : View B) → m'.0 ≡ v → contents_of t ≡ stored_with s id w n slots v
+  call_stores_with s t id w n m m' a h slots q v e = ap contents_of h.after ∙ (λ j. record {
+    words = say s.words n w h.inside j;
+    slots = q j;
+    seats = (seats_set s.views id m'.0 ∙ ap (set_seats (seats_have s.views) id) e) j;
+  })
