@@ -6,7 +6,9 @@ pub mod Runs
 pub mod Views
 pub mod Stands
 pub mod StandRuns
-pub mod StandBlocks
 pub mod StandExample
 pub mod Passed
 pub mod AskedAt
+pub mod Tables
+pub mod Ready
+pub mod NumbersOpened

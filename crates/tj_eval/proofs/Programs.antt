@@ -19,6 +19,7 @@ use Rattle.tj_syntax.specs.Marks.{Name, Note, Noted, fine, broken, forks, declar
 use Rattle.tj_syntax.specs.Faults.{IsUnbroken, AreUnbroken, IsScript, task_at, main_of}
 use Rattle.tj_syntax.specs.Grammar.{IsParams, no_params, params, IsMoreParams, params_end, params_more, IsTask, task}
 use Rattle.tj_syntax.specs.Grammar.{IsTasks, tasks_end, tasks_more}
+use Rattle.tj_eval.proofs.Views.{get_map}
 use Rattle.tj_eval.specs.Bodies.{has_few_params, all_have_few_params, most_params}
 
 -- the element behind a front
@@ -83,6 +84,20 @@ has_main script main e = main-some _ main (sym (main_found script.tasks.items) �
 pub is_main : (script : Script) (d : Decl) → named_main script.tasks.items ≡ Some d
     → main_of (view.script script) ≡ Some (view.task d)
 is_main script d e = main_found script.tasks.items ∙ ap (option_map view.task) e
+
+-- an element by its index
+at_index : {A : Type 0} (xs : List A) (n : ℕ) (x : A) → n < length xs → x ≡ get_or xs n x → slice_get xs n ≡ Some x
+at_index [] n x l e = absurd (omega arith)
+at_index (y ∷ xs) zero x l e = ap (λ z. Some z) (sym e)
+at_index (y ∷ xs) (suc n) x l e = at_index xs n x (omega arith) e
+
+-- it is the task of the script with that number
+pub main_at : (script : Script) (decls : List Decl) (d : Decl) (i f : ℕ) → decls ≡ script.tasks.items → f ≡ i
+    → named_main script.tasks.items ≡ Some d → i < length decls → d ≡ get_or decls i d
+    → main_of (view.script script) ≡ slice_get (view.script script) f
+main_at script decls d i f same n e l g = is_main script d e
+    ∙ sym (ap (λ k. slice_get (view.script script) k) n ∙ get_map view.task script.tasks.items i
+    ∙ ap (option_map view.task) (ap (λ z. slice_get z i) (sym same) ∙ at_index decls i d l g))
 
 -- where a task of that name stands behind those that were passed, it is the first
 pub first_left : (decls : List Decl) (i : ℕ) (d : Decl) → i < length decls → d ≡ get_or decls i d

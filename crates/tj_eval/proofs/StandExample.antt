@@ -15,7 +15,8 @@ abbrev pub say : Statement
 say = tree.print one
 
 abbrev pub fork_if : Expression → Statement
-fork_if e = tree.choose e (tree.then_do say (tree.then_do say tree.no_more)) (tree.block (tree.then_do say tree.no_more))
+fork_if e = tree.choose e (tree.then_do say (tree.then_do say tree.no_more))
+    (tree.block (tree.then_do say tree.no_more))
 
 abbrev pub loop : Statement
 loop = tree.repeat one (tree.then_do (fork_if one) (tree.then_do say tree.no_more))

@@ -48,7 +48,8 @@ stops t (tree.assign x (tree.answer q)) e = stops_asked t (Some x) q
 stops t (tree.assign x (tree.result_of v)) e = absurd (not_both e)
 stops t (tree.ask q) e = stops_asked t None q
 stops t (tree.print v) e = stops_then (number (value_in t v)) _ (λ n. tt)
-stops t (tree.set_cell x v) e = stops_then (reference (Ok (held t.vars x))) _ (λ k. stops_then (value_in t v) _ (λ w. tt))
+stops t (tree.set_cell x v) e = stops_then (reference (Ok (held t.vars x))) _
+    (λ k. stops_then (value_in t v) _ (λ w. tt))
 stops t (tree.return v) e = stops_then (value_in t v) _ (λ w. tt)
 stops t (tree.choose v body other) e = absurd (not_both e)
 stops t (tree.repeat v body) e = absurd (not_both e)

@@ -43,7 +43,8 @@ named_block all front behind (tree.then_do s more) ahead rest e h =
           (split ∙ sym (append_assoc front (inside s) (within more ++ behind))) h),
     )
 
-all_named : (b : Statements) → AreNamed (within b) (numbers 0 b ++ length (within b) ∷ []) (listed b)
+-- all statements of a declaration remain, with all numbers ahead
+pub all_named : (b : Statements) → AreNamed (within b) (numbers 0 b ++ length (within b) ∷ []) (listed b)
 all_named b = subst (AreNamed (within b) (numbers 0 b ++ length (within b) ∷ [])) (append-nil (listed b))
     (named_block (within b) [] [] b (length (within b) ∷ []) [] (sym (append-nil (within b))) (refl, refl))
 
@@ -66,7 +67,8 @@ module _ (all : List Statement) where
       → length front ≡ n → all ≡ front ++ (within b ++ behind) → AreNamed all ahead rest
       → AreNamed all (numbers n b ++ ahead) (listed b ++ rest)
   named_from n front behind b ahead rest l e h =
-      subst (λ m. AreNamed all (numbers m b ++ ahead) (listed b ++ rest)) l (named_block all front behind b ahead rest e h)
+      subst (λ m. AreNamed all (numbers m b ++ ahead) (listed b ++ rest)) l
+      (named_block all front behind b ahead rest e h)
 
   -- the task has gone on to new, and stands at w
   pub record IsOn (t : TaskState) (z : Stand) (new : TaskState) (w : Stand) : Type 0 where
@@ -79,7 +81,7 @@ module _ (all : List Statement) where
   IsRightEffect t z (asks q new) w = IsOn t z new w × ChildOf t.script q w.called
   IsRightEffect t z (fails fault) w = IsOn t z t w
 
-  abbrev IsRightNext : TaskState → Stand → Next → Stand → Type 0
+  abbrev pub IsRightNext : TaskState → Stand → Next → Stand → Type 0
   IsRightNext t z next w = IsOn t z next.1 w × ChildOf t.script next.0 w.called
 
   stays : (t : TaskState) (z : Stand) → AreNamed all z.ahead t.rest → IsOn t z t z
@@ -88,7 +90,8 @@ module _ (all : List Statement) where
   calls : (t : TaskState) (z : Stand) (f : ℕ) → AreNamed all z.ahead t.rest → IsOn t z t (record z { called = f })
   calls t z f h = record { named = h; script = refl; decl = refl }
 
-  right_then : {A : Type 0} (t : TaskState) (z : Stand) (c : Result A Trouble) (go : A → Effect) (w : Stand) → IsOn t z t w
+  right_then : {A : Type 0} (t : TaskState) (z : Stand) (c : Result A Trouble) (go : A → Effect) (w : Stand)
+      → IsOn t z t w
       → ((x : A) → IsRightEffect t z (go x) w) → IsRightEffect t z (then_effect c go) w
   right_then t z (Ok x) go w h k = k x
   right_then t z (Err fault) go w h k = h
@@ -218,7 +221,8 @@ module _ (all : List Statement) where
       → (go : Statement → List Statement → Next) (on : Statement → List Statement → Stand → Stand)
       → AreNamed all ahead rest
       → ((s : Statement) (more : List Statement) (n : ℕ) (ns : List ℕ) → IsAt all n s → AreNamed all ns more
-      → let w : Stand = record { decl = decl; ahead = ns; at = n; called = 0 } in IsRightNext t w (go s more) (on s more w))
+      → let w : Stand = record { decl = decl; ahead = ns; at = n; called = 0 } in
+      IsRightNext t w (go s more) (on s more w))
       → let z : Stand = record { decl = decl; ahead = ahead; at = at; called = called } in
       IsRightNext t z (next_of t rest go) (stand_of z rest on)
   right_of t decl at called rest [] e go on h k = absurd h
@@ -278,7 +282,8 @@ rest_answered t (cell_or into e) a = rest_answered_or t into e a
 rest_answered t done a = (refl, refl)
 rest_answered t over a = (refl, refl)
 
-right_after : (all : List Statement) (t : TaskState) (z : Stand) (r : Result TaskState Trouble)
+-- what the task asks for an answer, and where it then stands, is right
+pub right_after : (all : List Statement) (t : TaskState) (z : Stand) (r : Result TaskState Trouble)
     → AreNamed all z.ahead t.rest → IsSameRest t r → IsRightNext all t z (next_after t r) (stand_after r z)
 right_after all t z (Ok new) h k = let x = right_ask all new.steps new z (subst (AreNamed all z.ahead) (sym k.0) h) in (
   record { named = x.0.named; script = x.0.script ∙ k.1; decl = x.0.decl },

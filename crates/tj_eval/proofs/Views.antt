@@ -21,6 +21,11 @@ block-of b = search (rules, the_lemmas)
 pub listed_block : (b : Block) → listed (block b) ≡ map statement b.stmts.items
 listed_block b = ap listed (block-of b) ∙ listed-of (map statement b.stmts.items)
 
+-- where no block is open, nothing remains
+pub none_remains : {X : Type 0} (now : X → List tree.Statement) (around : List X) → around ≡ []
+    → rest_of (map now around) ≡ []
+none_remains now around e = ap (λ z. rest_of (map now z)) e
+
 -- an element of a list that is seen by f
 pub get_map : {A B : Type 0} (f : A → B) (list : List A) (n : ℕ) → slice_get (map f list) n
     ≡ option_map f (slice_get list n)

@@ -4,3 +4,4 @@ pub mod StandLaws
 pub mod Codes
 pub mod Effects
 pub mod View
+pub mod Standing

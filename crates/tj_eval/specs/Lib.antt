@@ -5,3 +5,4 @@ pub mod Stands
 pub mod Gets
 pub mod Inner
 pub mod AskedAt
+pub mod Sizes

@@ -9,31 +9,11 @@ use Rattle.tj_body.specs.Asks.{Await, new_places}
 use Rattle.tj_body.specs.SeenAs.{ask_as}
 use Rattle.tj_syntax.specs.Trees as tree
 use Rattle.tj_syntax.specs.Trees.{Given, Statement, Statements, Otherwise, Task}
+pub use Rattle.tj_syntax.specs.Within.{inside, within, within_other}
 use Rattle.tj_eval.specs.Expressions.{is_zero}
 use Rattle.tj_eval.specs.Statements.{TaskState, Effect, goes_on, asks, fails, begun, value_in, number, answered}
-use Rattle.tj_eval.specs.Bodies.{script_places, script_awaits, script_left, script_asks, script_then}
-
-abbrev mutual
-  -- the statement and those within it, in the order of the text
-  pub inside : Statement → List Statement
-  inside (tree.let_new x side) = tree.let_new x side ∷ []
-  inside (tree.assign x side) = tree.assign x side ∷ []
-  inside (tree.ask q) = tree.ask q ∷ []
-  inside (tree.print e) = tree.print e ∷ []
-  inside (tree.set_cell x e) = tree.set_cell x e ∷ []
-  inside (tree.return e) = tree.return e ∷ []
-  inside (tree.choose e body other) = tree.choose e body other ∷ (within body ++ within_other other)
-  inside (tree.repeat e body) = tree.repeat e body ∷ within body
-
-  -- the statements of a block and those within them; number n is the one behind n others
-  pub within : Statements → List Statement
-  within tree.no_more = []
-  within (tree.then_do s more) = inside s ++ within more
-
-  -- the same of the block for a condition that is 0
-  pub within_other : Otherwise → List Statement
-  within_other tree.nothing = []
-  within_other (tree.block body) = within body
+use Rattle.tj_syntax.specs.Faults.{main_of}
+use Rattle.tj_eval.specs.Bodies.{IsMainBody, script_places, script_awaits, script_left, script_asks, script_then}
 
 -- the numbers of a block's own statements, of which the first has number n
 abbrev pub numbers : ℕ → Statements → List ℕ
@@ -153,19 +133,28 @@ erased x = x.task
 abbrev pub placed : ℕ → TaskState → PlacedState
 placed f t = record { task = t; stand = stand_in f (slice_get t.script f) }
 
--- the members of a body
+-- the body of the script's task `main`, which knows that it stands at the beginning of that declaration
+abbrev pub IsPlacedMain : List Task → ℕ → PlacedState → Type 0
+IsPlacedMain script steps x = IsMainBody script steps x.task
+    × ((f : ℕ) × (slice_get script f ≡ main_of script) × (x ≡ placed f x.task))
+
+-- how many places the task has
 abbrev pub placed_places : PlacedState → ℕ
 placed_places x = script_places x.task
 
+-- what it awaits
 abbrev pub placed_awaits : PlacedState → Await
 placed_awaits x = script_awaits x.task
 
+-- at least the number of its asks that are left before its last one
 abbrev pub placed_left : PlacedState → ℕ
 placed_left x = script_left x.task
 
+-- what it asks for an answer; what it forks stands at the beginning of the declaration that is forked
 abbrev pub placed_asks : PlacedState → Answer → Ask PlacedState
 placed_asks x a = ask_as (placed (stand_next x.task a x.stand).called) (script_asks x.task a)
 
+-- what it is from then on
 abbrev pub placed_then : PlacedState → Answer → PlacedState
 placed_then x a = record { task = script_then x.task a; stand = stand_next x.task a x.stand }
 

@@ -1,5 +1,5 @@
 //! A task of a script as a body: it takes its answer, and goes on to its next ask.
-ghost use Rattle.std.specs.Prelude.{◌≡◌, ◌<◌, ◌≤◌, ◌^◌, codes, IfOk, IsTrue, List, Some};
+ghost use Rattle.std.specs.Prelude.{◌≡◌, ◌<◌, ◌≤◌, ◌^◌, codes, length, slice_get, IfOk, IsTrue, List, Some};
 ghost use Rattle.std.specs.Str.{bytes_eq};
 ghost use Rattle.tj_body.specs.Asks as asks;
 ghost use Rattle.tj_body.specs.Asks.{IsFresh};
@@ -40,10 +40,29 @@ fn main_task(script: &Script) -> &Decl
     requires { (main : Task) × (main_of (view.script script.now) ≡ Some main) }
     ensures { main_of (view.script script.now) ≡ Some (view.task result.now) }
 {
+    task_at(script, main_number(script))
+}
+
+/// The task with this number.
+pub(crate) fn task_at(script: &Script, f: usize) -> &Decl
+    requires { f < length (view.script script.now) }
+    ensures { slice_get (view.script script.now) f ≡ Some (view.task result.now) }
+{
+    &script.tasks[f]
+}
+
+/// The number of the task `main`.
+pub(crate) fn main_number(script: &Script) -> usize
+    requires { (main : Task) × (main_of (view.script script.now) ≡ Some main) }
+    ensures index { result < length (view.script script.now) }
+    ensures main { main_of (view.script script.now) ≡ slice_get (view.script script.now) result }
+{
+    let mut f = 0;
     for decl in &script.tasks {
         if is_main(decl) {
-            return decl;
+            return f;
         }
+        f += 1;
     }
     unreachable!()
 }
@@ -92,8 +111,8 @@ impl<'s> State<'s> {
 
     /// The same, or puts the value of the expression there where the cell is broken.
     fn keep_or_else(&mut self, into: Option<u32>, e: &Expr, a: Answer) -> Result<(), Trouble>
-        ensures { IsAnswered self.old (state.answered_or_else self.old into (view.expression e.now) a)
-            result self.new }
+        ensures { let next = state.answered_or_else self.old into (view.expression e.now) a in
+            IsAnswered self.old next result self.new }
     {
         if let Answer::Lost = a {
             let v = value(&self.vars, e)?;

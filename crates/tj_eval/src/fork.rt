@@ -37,7 +37,8 @@ struct Passed {
 #[inline(always)]
 fn add(vars: &mut Vec<Pay>, places: &mut Vec<u32>, v: Pay) -> Result<(), Oom>
     requires few { length places.old.items ≤ most_params }
-    ensures { OnOk result (IsAdded v vars.old.items places.old.items vars.new.items places.new.items) }
+    ensures { OnOk result (IsAdded v
+        vars.old.items places.old.items vars.new.items places.new.items) }
 {
     match v {
         Pay::Num(_) => vars.push(v)?,

@@ -7,11 +7,14 @@ mod expression;
 mod fork;
 mod halt;
 pub mod laws;
+mod numbers;
 mod placed;
 mod quick;
+mod sizes;
 mod state;
 mod statement;
 
 pub use body::{MAX_STEPS, main_body};
-pub use placed::PlacedBody;
+pub use placed::{PlacedBody, placed_main};
+pub use sizes::Sizes;
 pub use state::ScriptBody;

@@ -1,5 +1,6 @@
 -- How what a function answers fits the meaning. Where memory was wanting nothing is said.
-use Rattle.std.specs.Prelude.{◌≡◌, ◌++◌, ◌∷◌, [], length, ℕ, pos, Bool, true, false, List, Option, Some, None, Result, Ok, Err}
+use Rattle.std.specs.Prelude.{◌≡◌, ◌++◌, ◌∷◌, [], length, ℕ, pos, Bool, true, false, List, Option, Some, None}
+use Rattle.std.specs.Prelude.{Result, Ok, Err}
 use Rattle.tj_base.specs.declared.cause.Trouble.{Trouble}
 use Rattle.tj_body.specs.declared.ask.Ask.{Ask}
 use Rattle.tj_body.specs.declared.ask.Ask.TheVariants as ask
@@ -59,7 +60,8 @@ IsAskOf old effect (Err Memory) new = Unit {0}
 -- The task on its way to its next ask, where a statement asks that has begun, where none is left, or at a fault. What
 -- `shown` makes of the answer is the statement.
 abbrev pub IsOnWay : {A : Type 0} → (A → Statement) → TaskState → Result (Option A) Halt → TaskState → Type 0
-IsOnWay shown old (Ok (Some s)) new = (next_ask old.steps old ≡ next_from new (begun new (shown s)) (next_ask new.steps))
+IsOnWay shown old (Ok (Some s)) new =
+    (next_ask old.steps old ≡ next_from new (begun new (shown s)) (next_ask new.steps))
     × (is_ask (shown s) ≡ true) × (new.script ≡ old.script)
 IsOnWay shown old (Ok None) new = next_ask old.steps old ≡ (ask.End (pay.Num (pos 0)), ended new)
 IsOnWay shown old (Err (Fault fault)) new = next_ask old.steps old ≡ (ask.Fail fault, ended new)

@@ -33,8 +33,8 @@ use Rattle.tj_eval.specs.Statements.{TaskState, Effect, goes_on, asks, fails, Ne
 use Rattle.tj_eval.specs.Statements.{number, reference}
 use Rattle.tj_eval.specs.Statements.{Due, start, place, cell, cell_or, done, over, next_from, next_of, next_ask}
 use Rattle.tj_eval.specs.Statements.{next_after, next}
-use Rattle.tj_eval.specs.Statements.{begun, given, asked, forked, answered, answered_or_else, value_of, kept_if, or_else_of}
-use Rattle.tj_eval.specs.Statements.{reference_of}
+use Rattle.tj_eval.specs.Statements.{begun, given, asked, forked, answered, answered_or_else, value_of, kept_if}
+use Rattle.tj_eval.specs.Statements.{or_else_of, reference_of}
 use Rattle.tj_eval.specs.Statements.{argument, arguments, and_more, references, handed, as_passed, task_of, fork_of}
 use Rattle.tj_eval.specs.Statements.{first}
 use Rattle.tj_eval.specs.Bodies.{all_have_few_params, has_few_params, most_params}
@@ -170,6 +170,7 @@ record IsGood (n p : ℕ) (q : Ask TaskState) (new : TaskState) : Type 0 where
   pub places : new.places ≡ p
   pub placed : Placed p q
 
+-- the same of a pair of the ask and the task from then on
 abbrev Good : ℕ → ℕ → Next → Type 0
 Good n p next = IsGood n p next.0 next.1
 
@@ -251,6 +252,7 @@ fine-argument n vars (tree.own x) p h = handed-is (held vars x) (fine-held n var
   handed-is (pay.Ref k) h = h
 fine-argument n vars (tree.value e) p h = fine-value n vars e p h
 
+-- the values of these arguments, each a number or a reference to one of n places
 abbrev AreArguments : ℕ → List Argument → List Pay → Type 0
 AreArguments n list values = ArePaid n values × (length values ≡ length list)
 
@@ -326,6 +328,7 @@ good-forked t d into list s e = good-if t (nat_eq (length list) d.params) _ (fai
       few f = let a : length list ≡ d.params = eqb-true (length list) d.params f in
           let b : d.params ≤ most_params = leb-true d.params most_params e in omega (arith, a, b)
 
+-- the script has a task with this number, which reading gives, or none
 abbrev TaskAt : List Task → ℕ → Type 0
 TaskAt script f = ((d : Task) × (f < length script) × (slice_get script f ≡ Some d)
     × (get_or script f d ≡ d)) ⊎ ((length script ≤ f) × (slice_get script f ≡ None))
@@ -351,7 +354,8 @@ good-asked t into (tree.get r None) s = good-effect (λ k. k < t.places) t (refe
 good-asked t into (tree.get r (Some e)) s =
     good-effect (λ k. k < t.places) t (reference_of t r) _ (good-reference_of t r s)
     (λ k h. good-ask t (cell_or into e) (ask.GetOr k) s refl h)
-good-asked t into (tree.join r None) s = good-effect (λ k. k < t.places) t (reference_of t r) _ (good-reference_of t r s)
+good-asked t into (tree.join r None) s =
+    good-effect (λ k. k < t.places) t (reference_of t r) _ (good-reference_of t r s)
     (λ k h. good-ask t (cell into) (ask.Join k) s refl h)
 good-asked t into (tree.join r (Some e)) s =
     good-effect (λ k. k < t.places) t (reference_of t r) _ (good-reference_of t r s)

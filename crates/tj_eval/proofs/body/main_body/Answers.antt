@@ -15,6 +15,7 @@ returns-clause-main c = let d = c.main_task.result.now in
 
 pub returns-clause-fresh : goal.returns-clause-fresh
 returns-clause-fresh c = let script = view.script c.args.script.now in let d = view.task c.main_task.result.now in
-    subst (λ b. IsFresh script_places script_awaits script_left 1 b) (sym (c.in_ok-body.ensures [] c.new.ensures.items refl))
+    subst (λ b. IsFresh script_places script_awaits script_left 1 b)
+    (sym (c.in_ok-body.ensures [] c.new.ensures.items refl))
     (fresh-main script c.args.steps d (few-script c.requires.script.0 script c.requires.script.1)
     (omega (arith, c.requires.steps)))

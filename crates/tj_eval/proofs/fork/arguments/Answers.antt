@@ -9,6 +9,7 @@ add-requires c = let l = c.loop-arg in
 
 pub loop-arg-preserved : goal.loop-arg-preserved
 loop-arg-preserved c = let l = c.loop-arg in
-    one-passed c.args.vars.now c.args.args.now l.arg-index (l.arg-index + 1) c.arg-item.result (omega arith) c.arg-item.is
+    one-passed c.args.vars.now c.args.args.now l.arg-index (l.arg-index + 1) c.arg-item.result (omega arith)
+    c.arg-item.is
     (omega arith) l.values.items c.add.new.vars.items l.places.items c.add.new.places.items l.invariant
     c.in_ok-v.v (sym c.in_ok-v.ensures) c.in_ok-add.ensures
