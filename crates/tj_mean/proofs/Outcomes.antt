@@ -7,3 +7,4 @@ pub mod StandingCycles
 pub mod ToldOutcomes
 pub mod LeastIndexes
 pub mod OwnerMaps
+pub mod ToldBodies

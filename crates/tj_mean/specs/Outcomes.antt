@@ -24,6 +24,7 @@ use Rattle.tj_mean.specs.declared.outcome.TaskLine.{TaskLine}
 use Rattle.tj_mean.specs.declared.outcome.Link.{Link}
 use Rattle.tj_mean.specs.declared.outcome.Outcome.{Outcome}
 use Rattle.tj_mean.specs.declared.stopped.Stopped.{Stopped}
+use Rattle.tj_mean.specs.declared.stopped.StoppedBody.{StoppedBody}
 
 -- a value is shown as a number or as the name of a cell
 abbrev pub shown_of : Value → Shown
@@ -46,6 +47,14 @@ stopped_of p = option_map
 -- the histories have stopped, and this is told of them
 abbrev pub AreTold : {B : Type 0} → List (Point B) → List Stopped → Type 0
 AreTold ps ss = map stopped_of ps ≡ map Some ss
+
+-- the same, with what its body is then
+abbrev pub body_of : {B : Type 0} → Point B → Option (StoppedBody B)
+body_of p = option_map (λ s. record { told = s; body = p.body }) (stopped_of p)
+
+-- this is told of the histories, in some order, with what the bodies are where they stopped
+abbrev pub AreBodiesOf : {B : Type 0} → List (Point B) → List (StoppedBody B) → Type 0
+AreBodiesOf {B} ps bs = (qs : List (Point B)) × IsPermutation ps qs × (map body_of qs ≡ map Some bs)
 
 -- the cells that a task owns: where it waits, its result and the promises that it holds
 abbrev pub owned_with : Ending → Name → List Name → List Name

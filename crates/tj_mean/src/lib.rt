@@ -28,6 +28,6 @@ pub use laws::{
 pub use outcome::{
     CycleList, Ending, LineList, Link, LinkList, Outcome, PlanFault, TaskLine, marked,
 };
-pub use rounds::plan;
-pub use stopped::Stopped;
+pub use rounds::{bodies, plan};
+pub use stopped::{Stopped, StoppedBody};
 pub use told::outcome_of;

@@ -2,15 +2,17 @@
 //! taken up where it can go on: when it was forked, and when the cell that it waits for has got an
 //! entry. Points and entries are those of rounds all the time, though no round is computed, and
 //! where no task can go on, what the tasks have come to is the meaning.
-ghost use Rattle.std.specs.Prelude.{◌≡◌, ◌<◌, ◌≤◌, IfOk, IfErr};
+ghost use Rattle.std.specs.Prelude.{◌≡◌, ◌<◌, ◌≤◌, IfOk, IfErr, IsSome};
 ghost use Rattle.tj_base.specs.declared.cell.TheConstants.{MAX_CELLS};
 ghost use Rattle.tj_body.specs.Asks.{IsFresh};
 ghost use Rattle.tj_body.specs.Programs.{program_of};
 ghost use Rattle.tj_body.specs.Rounds as rounds;
 ghost use Rattle.tj_mean.specs.Inner.SettledRounds.{IsSettled};
 ghost use Rattle.tj_mean.specs.OutcomeLaws.{HasCycleWhereWaits};
-ghost use Rattle.tj_mean.specs.Inner.ToldOrder.{AreToldInSomeOrder};
-ghost use Rattle.tj_mean.specs.Outcomes.{IsOutcome};
+ghost use Rattle.tj_body.specs.Points.{IsIn};
+ghost use Rattle.tj_mean.specs.Inner.Assignments.{assignment_in};
+ghost use Rattle.tj_mean.specs.Inner.ToldOrder.{AreToldInSomeOrder, AreRestOf, AreEntriesOf};
+ghost use Rattle.tj_mean.specs.Outcomes.{AreBodiesOf, IsOutcome, ending_of};
 
 use crate::agenda::Agenda;
 use crate::handed_on::{enter_all, hand_on, start_all};
@@ -18,12 +20,12 @@ use crate::history_steps::{go_on, start};
 use crate::laws::{meaning_is_apart, order_is_free, outcome_has_cycle_where_waits};
 use crate::outcome::{Outcome, PlanFault};
 use crate::round::root_task;
-use crate::stopped::{Stopped, told_of};
+use crate::stopped::{Stopped, StoppedBody, bodies_of, told_of};
 use crate::told::outcome_of;
 use std::alloc::Global;
 use std::collections::BTreeMap;
 use tj_base::{Name, Oom};
-use tj_body::{Body, Entry};
+use tj_body::{Body, Entry, Point};
 
 /// The outcome of the meaning of this root's program.
 pub fn plan<B: Body>(
@@ -51,6 +53,35 @@ pub fn plan<B: Body>(
     outcome_has_cycle_where_waits::<B>();
     let settled = settle(alloc, root, cells, strict)?;
     Ok(outcome_of(alloc, settled.tasks)?)
+}
+
+/// What is told of the tasks of this root's program, each with what its body is where it stopped.
+pub fn bodies<B: Body>(
+    alloc: Global,
+    root: &B,
+    cells: u32,
+    strict: bool,
+) -> Result<Vec<StoppedBody<B>>, PlanFault>
+    requires root { IsFresh B.places B.awaits B.left 1 root.now }
+    requires cells { (0 < cells) × (cells ≤ MAX_CELLS) }
+
+    // `Full` comes exactly where the meaning needs more than `cells` cells.
+    ensures fits { let p = program_of B.places B.awaits B.left B.asks B.then strict root.now in
+        IfOk result (λ _. ¬ rounds.IsFull p cells) }
+    ensures full { let p = program_of B.places B.awaits B.left B.asks B.then strict root.now in
+        IfErr result (λ e. e ≡ PlanFault.Full → rounds.IsFull p cells) }
+    ensures told { let p = program_of B.places B.awaits B.left B.asks B.then strict root.now in
+        IfOk result (λ tasks. AreBodiesOf (rounds.meaning p cells) tasks.items) }
+{
+    let rest = at_rest(alloc, root, cells, strict)?;
+    Ok(bodies_of(alloc, rest.points)?)
+}
+
+/// Where no task can go on.
+#[derive(Drop)]
+pub struct AtRest<B> {
+    pub given: BTreeMap<Name, Entry>,
+    pub points: Vec<Point<B>>,
 }
 
 /// The round at which the meaning settles.
@@ -81,6 +112,34 @@ pub fn settle<B: Body>(
     ensures settled { let p = program_of B.places B.awaits B.left B.asks B.then strict root.now in
         IfOk result (IsSettled p cells) }
 {
+    let rest = at_rest(alloc, root, cells, strict)?;
+    Ok(Settled {
+        given: rest.given,
+        n: 2 * cells,
+        tasks: told_of(alloc, rest.points)?,
+    })
+}
+
+/// The points that the tasks come to, and all entries.
+fn at_rest<B: Body>(
+    alloc: Global,
+    root: &B,
+    cells: u32,
+    strict: bool,
+) -> Result<AtRest<B>, PlanFault>
+    requires root { IsFresh B.places B.awaits B.left 1 root.now }
+    requires cells { (0 < cells) × (cells ≤ MAX_CELLS) }
+    ensures fits { let p = program_of B.places B.awaits B.left B.asks B.then strict root.now in
+        IfOk result (λ _. ¬ rounds.IsFull p cells) }
+    ensures full { let p = program_of B.places B.awaits B.left B.asks B.then strict root.now in
+        IfErr result (λ e. e ≡ PlanFault.Full → rounds.IsFull p cells) }
+    ensures stopped { IfOk result (λ rest.
+        (p : Point B) → IsIn p rest.points.items → IsSome (ending_of p.stage)) }
+    ensures rest { let p = program_of B.places B.awaits B.left B.asks B.then strict root.now in
+        IfOk result (λ rest. AreRestOf (rounds.meaning p cells) rest.points.items) }
+    ensures entries { let p = program_of B.places B.awaits B.left B.asks B.then strict root.now in
+        IfOk result (λ rest. AreEntriesOf p cells (assignment_in rest.given)) }
+{
     let mut points = Vec::new(alloc);
     points.push(start(alloc, root_task(alloc, root)?)?)?;
     let mut given = BTreeMap::new(alloc);
@@ -96,9 +155,5 @@ pub fn settle<B: Body>(
         enter_all(&mut given, handed.writes)?;
         start_all(alloc, &mut points, handed.children)?;
     }
-    Ok(Settled {
-        given,
-        n: 2 * cells,
-        tasks: told_of(alloc, points)?,
-    })
+    Ok(AtRest { given, points })
 }

@@ -1,5 +1,5 @@
 //! What is told of a task that has stopped: enough for its line and for the wait graph.
-ghost use Rattle.std.specs.Prelude.{◌≡◌, Some, IfOk, IsSome};
+ghost use Rattle.std.specs.Prelude.{◌≡◌, Some, IfOk, IsSome, map};
 ghost use Rattle.tj_body.specs.Points.{IsIn};
 ghost use Rattle.tj_mean.specs.Outcomes as outcomes;
 ghost use Rattle.tj_mean.specs.Outcomes.{AreTold};
@@ -15,6 +15,48 @@ pub struct Stopped {
     pub line: TaskLine,
     /// The promises that it holds where it waits.
     pub holds: NameList,
+}
+
+/// A task whose history has stopped, with what its body is then.
+#[derive(Debug, Drop)]
+pub struct StoppedBody<B> {
+    pub told: Stopped,
+    pub body: B,
+}
+
+/// What is told of tasks that have stopped at these points, with their bodies.
+pub fn bodies_of<B: Body>(
+    alloc: Global,
+    mut points: Vec<Point<B>>,
+) -> Result<Vec<StoppedBody<B>>, Oom>
+    requires stopped { (p : Point B) → IsIn p points.items → IsSome (outcomes.ending_of p.stage) }
+    ensures { IfOk result (λ tasks. map outcomes.body_of points.items ≡ map Some tasks.items) }
+{
+    let mut tasks = Vec::new(alloc);
+    while let Some(point) = points.pop() {
+        tasks.push(body_of(point))?;
+    }
+    tasks.reverse();
+    Ok(tasks)
+}
+
+/// What is told of a task that has stopped at this point, with its body.
+fn body_of<B: Body>(point: Point<B>) -> StoppedBody<B>
+    requires { IsSome (outcomes.ending_of point.stage) }
+    ensures { outcomes.body_of point ≡ Some result }
+{
+    StoppedBody {
+        told: Stopped {
+            line: TaskLine {
+                name: point.name,
+                prints: point.prints,
+                ending: ending_of(point.stage),
+                owes: point.owed,
+            },
+            holds: point.holds,
+        },
+        body: point.body,
+    }
 }
 
 /// What is told of tasks that have stopped at these points.

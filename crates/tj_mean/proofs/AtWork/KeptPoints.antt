@@ -13,7 +13,7 @@ use Rattle.tj_body.specs.declared.point.Task.{Task}
 use Rattle.tj_body.specs.declared.point.Point.{Point}
 use Rattle.tj_body.proofs.Counts.{total}
 use Rattle.tj_mean.specs.Inner.Reached.{emptied}
-use Rattle.tj_mean.specs.Outcomes.{stopped_of}
+use Rattle.tj_mean.specs.Outcomes.{body_of}
 use Rattle.tj_mean.proofs.AtWork.Fronts.{with_front}
 
 -- a list with one element replaced
@@ -111,14 +111,14 @@ module _ {B : Type 0} where
       let e : p.made ≡ q.made = ap (λ (z : Point B). z.made) a.0.stands_for in
       let r = kept_made qs ps a.1 in omega arith
 
-  -- the same is told of them
-  pub kept_told : (qs ps : List (Point B)) → AreKept qs ps → map stopped_of ps ≡ map stopped_of qs
-  kept_told [] [] a = refl
-  kept_told [] (p ∷ ps) a = absurd a
-  kept_told (q ∷ qs) [] a = absurd a
-  kept_told (q ∷ qs) (p ∷ ps) a =
-      let e : stopped_of p ≡ stopped_of q = ap stopped_of a.0.stands_for in
-      let r = kept_told qs ps a.1 in λ i. e i ∷ r i
+  -- the same is told of them with their bodies
+  pub kept_bodies : (qs ps : List (Point B)) → AreKept qs ps → map body_of ps ≡ map body_of qs
+  kept_bodies [] [] a = refl
+  kept_bodies [] (p ∷ ps) a = absurd a
+  kept_bodies (q ∷ qs) [] a = absurd a
+  kept_bodies (q ∷ qs) (p ∷ ps) a =
+      let e : body_of p ≡ body_of q = ap body_of a.0.stands_for in
+      let r = kept_bodies qs ps a.1 in λ i. e i ∷ r i
 
   -- where all kept points have stopped, so have those that they stand for
   pub kept_stopped : (V : Assignment) (qs ps : List (Point B)) → AreKept qs ps

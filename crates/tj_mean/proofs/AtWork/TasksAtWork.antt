@@ -20,15 +20,13 @@ use Rattle.tj_body.proofs.RoundPoints.{points_are_good, tasks_start, things_in_r
 use Rattle.tj_body.proofs.Rounds.Rests.{rests}
 use Rattle.tj_body.proofs.Rounds.Settles.{is_last}
 use Rattle.tj_mean.specs.Inner.Reached.{Reaches, Enters, emptied}
-use Rattle.tj_mean.specs.Inner.ToldOrder.{AreToldInSomeOrder}
-use Rattle.tj_mean.specs.Outcomes.{AreTold}
-use Rattle.tj_mean.specs.declared.stopped.Stopped.{Stopped}
+use Rattle.tj_mean.specs.Inner.ToldOrder.{AreRestOf}
 use Rattle.tj_mean.proofs.AtWork.CellCounts.{names_of, names_at, forked, made_by, cells_at, AreNamed, cells_length, full_at}
 use Rattle.tj_mean.proofs.AtWork.CellCounts.{names_distinct, name_there, promise_there, root_there, child_there}
 use Rattle.tj_mean.proofs.Lists.Elements.{in_get, get_in}
 use Rattle.tj_mean.proofs.AtWork.Fronts.{with_front}
 use Rattle.tj_mean.proofs.AtWork.KeptPoints.{in_set, in_at, total_set, IsKept, AreKept, kept_at, kept_set, kept_append}
-use Rattle.tj_mean.proofs.AtWork.KeptPoints.{kept_starts, kept_length, kept_made, kept_told, kept_stopped, kept_front}
+use Rattle.tj_mean.proofs.AtWork.KeptPoints.{kept_starts, kept_length, kept_made, kept_bodies, kept_stopped, kept_front}
 use Rattle.tj_mean.proofs.AtWork.KeptPoints.{kept_emptied}
 use Rattle.tj_mean.proofs.Lists.KeyedLists.{same_permuted}
 use Rattle.tj_mean.proofs.MeaningNames.{meaning_distinct}
@@ -372,13 +370,13 @@ module _ {B : Type 0} (program : Program B) where
       pub fits : ¬ IsFull program N
       fits = result.0
 
-      -- and this is told of it
-      pub told : (ss : List Stopped) → AreTold qs ss → AreToldInSomeOrder (meaning program N) ss
-      told ss t = (
+      -- and the same is told of it
+      pub rest : AreRestOf (meaning program N) qs
+      rest = (
         w.whole,
         same_permuted (λ (x : Point B). x.name) (meaning program N) w.whole (meaning_distinct program N)
             (names_distinct program obeys proper w.whole [] w.stand.of_rounds w.stand.named) to from,
-        kept_told qs w.whole w.kept ∙ t,
+        kept_bodies qs w.whole w.kept,
       )
         where
           to : (x : Point B) → IsIn x (meaning program N) → IsIn x w.whole

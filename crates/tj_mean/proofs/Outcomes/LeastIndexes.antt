@@ -119,7 +119,8 @@ module _ (next : List (Option ℕ)) where
           begun = inr begun_more;
           kept = kept_more;
           marks = λ i r e. dite (ℕ_discrete i at)
-              (λ q. inl (some_is r first (sym e ∙ subst (λ j. slice_index_or more j None ≡ Some first) (sym q) at_here)))
+              (λ q. inl (some_is r first
+              (sym e ∙ subst (λ j. slice_index_or more j None ≡ Some first) (sym q) at_here)))
               (λ n. w.marks i r (sym (at_other i n) ∙ e));
           cycles = λ m ps c h. on m ps c (hit ps h);
         }
@@ -263,7 +264,8 @@ module _ (next : List (Option ℕ)) where
         on = cycles_return (Next next) (one next) nat_eq Decides-eqb (p ∷ ps) from c.cycle.1 there
 
         to : Reaches (Next next) p there.0 from
-        to = subst (Reaches (Next next) p there.0) there.2 (at_index (Next next) p p ps c.cycle.1.1 there.0 from there.1)
+        to = subst (Reaches (Next next) p there.0) there.2
+            (at_index (Next next) p p ps c.cycle.1.1 there.0 from there.1)
 
         -- the least index is reached after some steps
         home : Reaches (Next next) from (size - there.0) p

@@ -7,19 +7,22 @@ pub returns-in-Some-2-clause-cycles : goal.returns-in-Some-2-clause-cycles
 returns-in-Some-2-clause-cycles c m ps k h =
     let l = c.loop-step in let s = l.invariant.1 in let i = l.invariant.0 in
     let other = c.if-round-first.false in
-    let is = sym (c.index.ensures ∙ get_or_default l.met.items l.at c.index.result.now None (omega arith)) ∙ c.in-Some.is in
+    let is = sym (c.index.ensures ∙ get_or_default l.met.items l.at c.index.result.now None (omega arith))
+    ∙ c.in-Some.is in
     inl (met_before c.args.next.now c.args.met.now.items c.args.first l.step l.at l.met.items l.invariant.2
     c.in-Some.round is other m ps k h)
 
 pub returns-in-None-next-clause-first : goal.returns-in-None-next-clause-first
 returns-in-None-next-clause-first c =
     let l = c.loop-step in let s = l.invariant.1 in let i = l.invariant.0 in
-    begun_more c.args.next.now c.args.met.now.items c.args.first l.step l.at l.met.items l.invariant.2 _ refl (omega arith)
+    begun_more c.args.next.now c.args.met.now.items c.args.first l.step l.at l.met.items l.invariant.2 _ refl
+    (omega arith)
 
 pub returns-in-None-next-clause-kept : goal.returns-in-None-next-clause-kept
 returns-in-None-next-clause-kept c =
     let l = c.loop-step in let s = l.invariant.1 in let i = l.invariant.0 in
-    kept_more c.args.next.now c.args.met.now.items c.args.first l.step l.at l.met.items l.invariant.2 _ refl (omega arith)
+    kept_more c.args.next.now c.args.met.now.items c.args.first l.step l.at l.met.items l.invariant.2 _ refl
+    (omega arith)
 
 pub returns-in-None-next-clause-cycles : goal.returns-in-None-next-clause-cycles
 returns-in-None-next-clause-cycles c m ps k h =

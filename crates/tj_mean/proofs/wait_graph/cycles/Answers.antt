@@ -57,16 +57,16 @@ links-requires-clause-there c =
     subst (All (λ p. p < length c.args.tasks.now)) (sym c.as_slice-in-Some.ensures.value)
     (all_there c.args.tasks.now c.requires.apart c.requires.in_order c.in_ok-next.next.items c.in_ok-next.ensures
     c.loop-first.first c.in-Some.indexes.items
-    (some_least c.as_slice-in-loop-first.result.now c.in_ok-next.next.items c.loop-first.first c.in_ok-indexes.field-0 c.in-Some.indexes
-    c.in-Some.is c.as_slice-in-loop-first.ensures.value c.in_ok-indexes.ensures.some))
+    (some_least c.as_slice-in-loop-first.result.now c.in_ok-next.next.items c.loop-first.first c.in_ok-indexes.field-0
+    c.in-Some.indexes c.in-Some.is c.as_slice-in-loop-first.ensures.value c.in_ok-indexes.ensures.some))
 
 pub links-requires-clause-waiting : goal.links-requires-clause-waiting
 links-requires-clause-waiting c =
     subst (All (WaitsAt c.args.tasks.now)) (sym c.as_slice-in-Some.ensures.value)
     (all_wait c.args.tasks.now c.requires.apart c.requires.in_order c.in_ok-next.next.items c.in_ok-next.ensures
     c.loop-first.first c.in-Some.indexes.items
-    (some_least c.as_slice-in-loop-first.result.now c.in_ok-next.next.items c.loop-first.first c.in_ok-indexes.field-0 c.in-Some.indexes
-    c.in-Some.is c.as_slice-in-loop-first.ensures.value c.in_ok-indexes.ensures.some))
+    (some_least c.as_slice-in-loop-first.result.now c.in_ok-next.next.items c.loop-first.first c.in_ok-indexes.field-0
+    c.in-Some.indexes c.in-Some.is c.as_slice-in-loop-first.ensures.value c.in_ok-indexes.ensures.some))
 
 pub loop-first-preserved : goal.loop-first-preserved
 loop-first-preserved c =
@@ -75,8 +75,8 @@ loop-first-preserved c =
     elim c.match-branch-4.branch [
       | in-Some+in_ok-links+in_ok-push w ↦
           let it = ap (λ (v : Vec (List Link) Global). v.items) w.cycles-is ∙ w.in_ok-push.ensures.items in
-          let k = some_least c.as_slice-in-loop-first.result.now next n c.in_ok-indexes.field-0 w.in-Some.indexes w.in-Some.is
-          c.as_slice-in-loop-first.ensures.value c.in_ok-indexes.ensures.some in
+          let k = some_least c.as_slice-in-loop-first.result.now next n c.in_ok-indexes.field-0 w.in-Some.indexes
+          w.in-Some.is c.as_slice-in-loop-first.ensures.value c.in_ok-indexes.ensures.some in
           subst (λ ds. Found ts next ds (n + 1)) (sym it)
           (found_more ts c.requires.apart c.requires.in_order next c.in_ok-next.ensures cs n w.in-Some.indexes.items
           w.in_ok-links.field-0 c.loop-first.invariant k
@@ -84,8 +84,8 @@ loop-first-preserved c =
       | in_default w ↦
           subst (λ ds. Found ts next ds (n + 1)) (sym (ap (λ (v : Vec (List Link) Global). v.items) w.cycles-is))
           (found_on ts c.requires.apart c.requires.in_order next c.in_ok-next.ensures cs n c.loop-first.invariant
-          (no_least c.as_slice-in-loop-first.result.now next n c.in_ok-indexes.field-0 w.in_default.is c.as_slice-in-loop-first.ensures.value
-          c.in_ok-indexes.ensures.none))
+          (no_least c.as_slice-in-loop-first.result.now next n c.in_ok-indexes.field-0 w.in_default.is
+          c.as_slice-in-loop-first.ensures.value c.in_ok-indexes.ensures.none))
     ]
 
 pub returns : goal.returns

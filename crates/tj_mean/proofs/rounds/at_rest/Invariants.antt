@@ -1,7 +1,7 @@
 use Rattle.tj_body.specs.Programs.{program_of}
 use Rattle.tj_mean.specs.Inner.Assignments.{assignment_in}
 use Rattle.tj_mean.proofs.AtWork.TasksAtWork.{IsAtWork, steps_left}
-use Rattle.tj_mean.proofs.rounds.settle.Given as goal
+use Rattle.tj_mean.proofs.rounds.at_rest.Given as goal
 
 -- the points and the entries are those of tasks at work, and so many cells may still be made
 abbrev pub invariant-loop-at : goal.invariant-loop-at
