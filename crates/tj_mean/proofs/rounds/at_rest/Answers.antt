@@ -1,4 +1,4 @@
-use Rattle.std.proofs.Common.{◌≡◌, ◌*◌, ◌-◌, suc, [], ◌∷◌, ◌++◌, sym, ap, subst, ◌∙◌, arith}
+use Rattle.std.proofs.Common.{◌-◌, [], ◌∷◌, ◌++◌, sym, ap, subst, ◌∙◌, arith}
 use Rattle.std.proofs.lemmas.Result.{err_from_is_err_and}
 use Rattle.std.specs.Cmp.Lexicographic.{slice_cmp}
 use Rattle.std.specs.Ordering.{nat_cmp}
@@ -7,7 +7,6 @@ use Rattle.std.specs.Map.{lookup}
 use Rattle.tj_body.specs.History.{start}
 use Rattle.tj_body.specs.Points.{IsIn, HasStopped}
 use Rattle.tj_body.specs.Programs.{program_of}
-use Rattle.tj_body.specs.Rounds.{last_round, tasks}
 use Rattle.tj_body.specs.declared.point.Point.{Point}
 use Rattle.tj_body.proofs.Proper.{root_proper}
 use Rattle.tj_mean.specs.Inner.Assignments.{assignment_in}
