@@ -6,7 +6,6 @@ pub mod EventCalls
 pub mod TaskCalls
 pub mod TakenTasks
 pub mod OwnerCalls
-pub mod HandCalls
 pub mod DrawCalls
 pub mod OneStates
 pub mod TableRuns

@@ -9,6 +9,7 @@ pub mod TreeDraws
 pub mod DrawnCells
 pub mod DrawSteps
 pub mod HandChanges
+pub mod GivenOwners
 pub mod GivenCells
 pub mod OwnedChanges
 pub mod ClosedCells

@@ -57,6 +57,7 @@ pub fn once_loads<B>()
 
 /// Stores of OWN.
 pub fn owner_stores<B>()
+    ensures first { law.FirstOwnersShow B }
     ensures hand { law.HandsShow B }
     ensures close { law.ClosesShow B }
     ensures close_own { law.EndingClosesShow B }
@@ -71,6 +72,7 @@ pub fn owner_loads<B>()
 
 /// Stores of PHASE.
 pub fn phase_stores<B>()
+    ensures promise { law.MarksShow B }
     ensures ready { law.ReleasesShow B }
     ensures walking { law.PublishesShow B }
     ensures parked { law.SettlesShow B }

@@ -64,9 +64,10 @@ use Rattle.tj_words.proofs.Calls.CallChanges.{stop_changes, writes_hand, writes_
 use Rattle.tj_words.proofs.Calls.DrawCalls.{call_draws}
 use Rattle.tj_words.proofs.Calls.EventCalls.{call_alarms, call_lowers, call_publishes, call_raises, call_reads}
 use Rattle.tj_words.proofs.Calls.EventCalls.{first_seen}
-use Rattle.tj_words.proofs.Calls.HandCalls.{call_gives, call_marks}
-use Rattle.tj_words.proofs.Calls.OwnerCalls.{call_closes, call_closes_own, call_hands}
+use Rattle.tj_words.proofs.Calls.OwnerCalls.{call_closes, call_closes_own, call_gives, call_hands, call_marks}
+use Rattle.tj_words.proofs.Cells.GivenOwners.{give_shown}
 use Rattle.tj_words.proofs.Events.OwnerEvents.{close_shown, hand_shown}
+use Rattle.tj_words.proofs.Events.QuietCells.{mark_shown}
 use Rattle.tj_words.proofs.Events.OwnerEvents as owners
 use Rattle.tj_words.proofs.Events.QuietMoves.{claim_shown, end_shown, head_shown, live_shown, load_shown}
 use Rattle.tj_words.proofs.Events.QuietMoves.{next_shown, once_shown, record_shown, refused_shown, release_shown}
@@ -236,7 +237,8 @@ module _ {B : Type 0} (program : Bool → B → Program B) (key : Key B) (u w : 
         let q = call_gives program key s t r id c n m m' (with_act keeps (own_at c) h a) v is may (p.0 may) in (
           [],
           inl (may, refl),
-          quiet q.1 (else_cells (own_at c) h (λ z. omega arith)) (q.0 r.law.born r.law.maker),
+          quiet q.1 (else_cells (own_at c) h (λ z. omega arith))
+              (give_shown r.law y id may.hand.maker c may.hand q.0 r.law.born r.law.maker),
         )
     puts_owner (Some v) c h a is (inr may) p =
         let q = call_hands program key s t r id c n m m' (with_act keeps (own_at c) h a) v is may (p.1 may) in (
@@ -262,7 +264,7 @@ module _ {B : Type 0} (program : Bool → B → Program B) (key : Key B) (u w : 
         let q = call_marks program key s t r id c n m m' (with_act keeps (phase_at c) h a) is
         (ap (λ (z : SeatMe B). z.0) p) may in
         quiet q.1 (else_cells (phase_at c) h (λ z. omega arith))
-        (q.0 r.law.born r.law.maker)
+        (mark_shown key.cells x y c may.hand (record may.hand { marked = true }) phase.Promise q.0 r.law.born r.law.maker)
     puts_phase (phase.Waiting d way walk.Walking) c h l is p may a =
         let q = call_publishes program key s t r id c d.0 n way l m m' (plain (phase_at c) h a) is may p in
         shows (event.Publish (cell c) (cell d.0)) q.1 (else_cells (phase_at c) h (λ z. omega arith))

@@ -31,7 +31,8 @@ use Rattle.tj_words.specs.Law.{Law}
 use Rattle.tj_words.specs.Steps.ShownParts.{parts_of, IsSameButOwner}
 use Rattle.tj_words.specs.Steps.StepEvents.{MayAct, IsHeldWith}
 use Rattle.tj_words.specs.Steps.WalkSteps.{is_task_sort}
-use Rattle.tj_words.specs.Steps.OwnerSteps.{ActsOn}
+use Rattle.tj_words.specs.Steps.OneStates.{KeepsCells}
+use Rattle.tj_words.specs.Steps.OwnerSteps.{ActsOn, ClosesPromise, ClosesResult}
 use Rattle.tj_words.specs.SeatViews.TaskLists.{hold}
 use Rattle.tj_words.specs.Calls.OwnerViews.{gave_up}
 use Rattle.tj_words.proofs.Stores.LawChanges.{law_owners}
@@ -47,6 +48,7 @@ use Rattle.tj_words.proofs.Holders.HeldChanges.{find_here, find_else, made_held,
 use Rattle.tj_words.proofs.Cells.OwnedChanges.{owned_changed}
 use Rattle.tj_words.proofs.Events.OwnerEvents.{acts_phase, close_shown, end_shown}
 use Rattle.tj_words.proofs.Events.StepFacts.{facts_after}
+use Rattle.tj_words.proofs.Calls.KeptCells.{kept_words}
 
 -- a word is one of the tree, or not
 tree_or_value : (g : Once) → IsOfTree g ⊎ (¬ IsOfTree g)
@@ -205,7 +207,7 @@ module _ {B : Type 0} {program : Program B} {cells : ℕ} {x : Contents B} (r : 
       by (phase.Waiting d way w) e = absurd (no_task (ap phase_sort e))
 
   -- seat id's task t owns c, which it closes
-  module _ (events : EventKeepsFacts) (id t c : ℕ) (k : Custody B) (h : IsHeldWith x id t k) (its : k.task ≡ t)
+  module _ (id t c : ℕ) (k : Custody B) (h : IsHeldWith x id t k) (its : k.task ≡ t)
       (may : MayAct k.does) (out : k.home ≡ None) (result : IsIn t k.owned) (owns : IsIn c k.owned)
       (last : c ≡ t → (k.owned ≡ c ∷ []) × (get_elem? x.seats.hands id ≡ some None))
       (ds : List Due) (at : get_elem? x.seats.dues id ≡ some ds) where
@@ -297,31 +299,41 @@ module _ {B : Type 0} {program : Program B} {cells : ℕ} {x : Contents B} (r : 
       home = refl;
     }
 
-    facts : CoreFacts (core_shown cells r.born r.maker closed)
-    facts = dite (ℕ_discrete c t)
-        (λ e. facts_after events (end_shown r closed id t record {
-          acts = acts;
-          alone = λ d i. ⊎_elim (λ q. q ∙ e) (λ i. absurd i) (subst (IsIn d) (last e).0 i);
-          no_hand = (last e).1;
-          free = put_here x.words.own c t None (sym e);
-          same = subst (λ z. IsSameButOwner z t t (parts_of cells x) (parts_of cells closed)) e same;
-          keeps = record { others = refl; cleared = refl };
-        }) r.facts)
-        (λ q. facts_after events (close_shown r closed id t c record {
-          acts = acts;
-          owned = owns;
-          promise = owned_promise c t owned_here.0 owned_here.1 q;
-          free = put_here x.words.own c c None refl;
-          same = same;
-          keeps = record { others = refl; cleared = refl };
-        }) r.facts)
+    -- the task has closed a promise, or its result
+    pub closes_promise : c ≢ t → ClosesPromise cells x closed id t c
+    closes_promise q = record {
+      acts = acts;
+      owned = owns;
+      promise = owned_promise c t owned_here.0 owned_here.1 q;
+      free = put_here x.words.own c c None refl;
+      same = same;
+      keeps = record { others = refl; cleared = refl };
+    }
+
+    pub closes_own : c ≡ t → ClosesResult cells x closed id t
+    closes_own e = record {
+      acts = acts;
+      alone = λ d i. ⊎_elim (λ q. q ∙ e) (λ i. absurd i) (subst (IsIn d) (last e).0 i);
+      no_hand = (last e).1;
+      free = put_here x.words.own c t None (sym e);
+      same = subst (λ z. IsSameButOwner z t t (parts_of cells x) (parts_of cells closed)) e same;
+      keeps = record { others = refl; cleared = refl };
+    }
+
+    facts : EventKeepsFacts → CoreFacts (core_shown cells r.born r.maker closed)
+    facts events = dite (ℕ_discrete c t)
+        (λ e. facts_after events (end_shown r closed id t (closes_own e)) r.facts)
+        (λ q. facts_after events (close_shown r closed id t c (closes_promise q)) r.facts)
 
     pub closed_made : made_of closed ≡ made_of x
     closed_made j u = made_held r id t k k' h its refl u j
 
+    pub closed_keeps : KeepsCells cells x closed
+    closed_keeps = kept_words cells x closed (λ d. refl) (λ d. ap (λ f. f d) closed_made) refl
+
     -- the law after the close
-    pub law_closed : Law program cells closed
-    law_closed = law_owners r (put x.words.own c None) (set x.seats.tasks id (hold k' h.0))
+    pub law_closed : EventKeepsFacts → Law program cells closed
+    law_closed events = law_owners r (put x.words.own c None) (set x.seats.tasks id (hold k' h.0))
         (set x.seats.dues id (with_values c ds)) closed_made
         (hands_held r id t k k' h its x.words.phase (λ j g e. refl) (λ e. e))
         record {
@@ -349,4 +361,4 @@ module _ {B : Type 0} {program : Program B} {cells : ℕ} {x : Contents B} (r : 
         (λ d q. put_else x.words.own c d None q) lists nobody apart)
         (once_closed r.once_words id c t owned_here.0 owned_here.1 ds at)
         waiters
-        facts
+        (facts events)

@@ -41,11 +41,10 @@ use Rattle.tj_words.specs.LawParts.Contents.{words_say, seats_have, Contents, co
 use Rattle.tj_words.specs.LawParts.Contents.{held_of, owned_of, made_of}
 use Rattle.tj_words.specs.Law.{Law, Rule, IsSeat}
 use Rattle.tj_words.specs.CallLaws.EventCalls.{Keeping}
-use Rattle.tj_words.specs.Steps.StepEvents.{IsQuiet}
 use Rattle.tj_words.specs.Calls.DrawViews.{MayGive, made_one, owns_also, maker_made, gave_owner}
 use Rattle.tj_words.proofs.Holders.HeldTasks.{none_some, one_some, makes_one, held_listed}
-use Rattle.tj_words.proofs.Stores.SeatLists.{of_seat_else}
-use Rattle.tj_words.proofs.Holders.SeatTasks.{find_changed, held_alone}
+use Rattle.tj_words.proofs.Stores.SeatLists.{back, of_seat_else}
+use Rattle.tj_words.proofs.Holders.SeatTasks.{find_changed, find_same, held_alone}
 use Rattle.tj_words.proofs.Holders.TaskPlaces.{custody, held_here}
 use Rattle.tj_words.proofs.Stores.SeatContents.{seats_same}
 use Rattle.tj_words.proofs.Stores.StepContents.{stored}
@@ -54,12 +53,14 @@ use Rattle.tj_words.proofs.Stores.TableWords.{Own}
 use Rattle.tj_words.proofs.Stores.Columns.{IsAsBefore, IsNoted, at_two, before_doing, before_like, before_on, before_same}
 use Rattle.tj_words.proofs.Stores.Columns.{find_kept, hand_off, making_off, noted_as, noted_on, put_kept}
 use Rattle.tj_words.proofs.Cells.CellFacts.{cell_born}
-use Rattle.tj_words.proofs.Events.QuietCells.{quiet_by, stage_does}
+use Rattle.tj_words.proofs.Cells.GivenOwners.{given_made, given_shown}
+use Rattle.tj_words.specs.Steps.OwnerSteps.{GivesOwner}
+use Rattle.tj_words.specs.Steps.ShownParts.{parts_of}
 use Rattle.tj_words.proofs.Meaning.LawMeant.{ground_of, law_meant}
 use Rattle.tj_words.proofs.Meaning.MeaningGrows.{wider, grew_wider, meaning_grows}
 use Rattle.tj_words.proofs.Cells.HandChanges.{names_on, tree_on, once_on, births_on, hands_on, custody_on}
 use Rattle.tj_words.proofs.Holders.NotedEntries.{IsDoing, noted_here, noted_else, noted_in, holds_on, holds_back}
-use Rattle.tj_words.proofs.Stores.WordStores.{hand_here}
+use Rattle.tj_words.proofs.Stores.WordStores.{hand_here, maker_there, not_root}
 use Rattle.tj_words.proofs.Cells.OwnedChanges.{apart_snoc}
 use Rattle.tj_words.proofs.Holders.NotedTasks.{holder_lot, holder_named}
 
@@ -154,14 +155,14 @@ module _ {B : Type 0} {program : Program B} {cells : ℕ} {x : Contents B} (r : 
   }
 
   -- the cell was in hand, and each other one is where it was
-  here : hand_of x c ≡ Some h
-  here = hand_here r id h has
-
   drawn : c < n
   drawn = (r.hands.each id h has).drawn_cell
 
   off : hand_in hands' ≡ put (hand_of x) c None
   off = hand_off r id h has
+
+  here : hand_of x c ≡ Some h
+  here = hand_here r id h has
 
   in_hand : hand_of x c ≢ None
   in_hand e = none_some (hand_of x c) h e here
@@ -185,16 +186,8 @@ module _ {B : Type 0} {program : Program B} {cells : ℕ} {x : Contents B} (r : 
   before d g e = at_put (hand_of x) c None (λ d z. z ≡ Some g → (d ≢ c) × (hand_of x d ≡ Some g)) d
       (λ e. none_some None g refl e) (λ k e. (k, e)) (sym (ap (λ f. f d) off) ∙ e)
 
-  maker_there : IsThere n (hand_of x) t
-  maker_there = subst (IsThere n (hand_of x)) (r.births.in_hand c h here).0 (r.births.makers_there c drawn)
-
   t_other : t ≢ c
-  t_other = there_other t maker_there.1
-
-  not_root : c ≢ 0
-  not_root e = let a : r.number c ≡ 0 = ap r.number e ∙ r.births.root_number in
-      let d = (r.births.in_hand c h here).1 in
-      let g : making x.seats.hands t ≡ 1 = makes_one x.seats.hands id h has in omega arith
+  t_other = there_other t (maker_there r id h has).1
 
   -- what the seat has for the maker, and for the owner once the maker has made one more
   maker_has : (k : Custody B) × (held_in ks t ≡ Some k) × (k.home ≡ None)
@@ -266,32 +259,17 @@ module _ {B : Type 0} {program : Program B} {cells : ℕ} {x : Contents B} (r : 
       (sym (noted_else made_list o m (owns_also c) owner_has.1 refl u z))
       (noted_as (λ k k'. k'.owned ≡ k.owned) (λ k. refl) ks t maker_has.0 made_one maker_has.1 refl refl u))
 
-  -- how many things they have made: the maker as many as with the one in hand
-  made_other : (u : ℕ) → u ≢ t → made_by (find_in tasks' u) (home_of x u) ≡ made_by (held_of x u) (home_of x u)
-  made_other u z = find_kept r id (λ i. made_by i (home_of x u)) (λ k k'. k'.made ≡ k.made) (λ k k' e. e) ks given_list
-      at u (subst (λ i. IsNoted (λ k k'. k'.made ≡ k.made) i (held_in given_list u))
-      (noted_else ks t maker_has.0 made_one maker_has.1 refl u z)
-      (noted_as (λ k k'. k'.made ≡ k.made) (λ k. refl) made_list o m (owns_also c) owner_has.1 refl refl u))
-
-  made_maker : made_by (find_in tasks' t) (home_of x t) ≡ suc (made_by (held_of x t) (home_of x t))
-  made_maker = ap (λ i. made_by i (home_of x t)) (find_at t maker_has.0 now.0 maker_has.1 now.1)
-      ∙ (now.2 ∙ sym (ap (λ i. suc (made_by i (home_of x t))) (held_here r id t maker_has.0 (ks, at, maker_has.1))))
-    where
-      now : (k : Custody B) × (held_in given_list t ≡ Some k) × (k.made ≡ suc maker_has.0.made)
-      now = let a = noted_here ks t maker_has.0 made_one maker_has.1 refl in dite (ℕ_discrete t o)
-          (λ e. (
-            owns_also c m,
-            ap (held_in given_list) e ∙ given_here,
-            ap (λ (z : Custody B). z.made)
-                (one_some m (made_one maker_has.0) (sym owner_has.1 ∙ (ap (held_in made_list) (sym e) ∙ a))),
-          ))
-          (λ z. (made_one maker_has.0, noted_else made_list o m (owns_also c) owner_has.1 refl t z ∙ a, refl))
-
-  made_now : (u : ℕ) → made_by (find_in tasks' u) (home_of x u) + making hands' u ≡ made_of x u
-  made_now u = ap (λ k. made_by (find_in tasks' u) (home_of x u) + k) (making_off r id h has u)
-      ∙ at_put (making x.seats.hands) t 0 (λ u k. made_by (find_in tasks' u) (home_of x u) + k ≡ made_of x u) u
-      (let a = made_maker in let b : making x.seats.hands t ≡ 1 = makes_one x.seats.hands id h has in omega arith)
-      (λ z. ap (λ k. k + making x.seats.hands u) (made_other u z))
+  -- the maker has made one thing more, and does what it did
+  maker_now : (k : Custody B) × (held_in given_list t ≡ Some k) × (k.made ≡ suc maker_has.0.made)
+      × (k.does ≡ maker_has.0.does)
+  maker_now = let a = noted_here ks t maker_has.0 made_one maker_has.1 refl in dite (ℕ_discrete t o)
+      (λ e. let q = one_some m (made_one maker_has.0) (sym owner_has.1 ∙ (ap (held_in made_list) (sym e) ∙ a)) in (
+        owns_also c m,
+        ap (held_in given_list) e ∙ given_here,
+        ap (λ (z : Custody B). z.made) q,
+        ap (λ (z : Custody B). z.does) q,
+      ))
+      (λ z. (made_one maker_has.0, noted_else made_list o m (owns_also c) owner_has.1 refl t z ∙ a, refl, refl))
 
   -- PHASE of a promise in hand says so, and that of a task that it isn't born
   its_phase : (s : Sort) → h.sort ≡ s → phase_sort (x.words.phase c) ≡ s
@@ -336,7 +314,7 @@ module _ {B : Type 0} {program : Program B} {cells : ℕ} {x : Contents B} (r : 
   owner_there = by h.sort
     where
       by : (s : Sort) → IsThere n (hand_in hands') (first_owner s t c)
-      by sort.Promise = on t maker_there
+      by sort.Promise = on t (maker_there r id h has)
       by sort.Task = c_there
 
   does_in : (k : Custody B) → IsIn k given_list → (q : Custody B) × IsIn q ks × (k.does ≡ q.does)
@@ -353,47 +331,46 @@ module _ {B : Type 0} {program : Program B} {cells : ℕ} {x : Contents B} (r : 
       does_owner = subst (λ z. IsDoing z (Some (owns_also c m))) owner_has.3.1
           (subst (IsDoing (held_in ks o)) given_here (before_doing (held_in ks o) (held_in given_list o) (as_before o)))
 
-  -- the step shows nothing
-  pub given_quiet : (l : List ℕ) → IsQuiet cells x (given_contents l)
-  given_quiet l = quiet_by cells x (given_contents l) record {
-    drawn = refl;
-    made = made_now;
-    owner = λ d. ap (λ f. owner_shown d (f d) (own' d)) off ∙ at_two (hand_of x) x.words.own c None (Some o)
-        (λ d z w. owner_shown d z w ≡ owner_shown d (hand_of x d) (x.words.own d)) d
-        (sym (ap (λ z. owner_shown c z (x.words.own c)) here)) (λ _. refl);
-    stage = λ d. ap (λ f. stage_shown d (f d) (own' d) (x.words.phase d) (find_in tasks' d) (home_of x d)) off
-        ∙ (find_kept r id (λ i. stage_shown d (put (hand_of x) c None d) (own' d) (x.words.phase d) i (home_of x d))
-        IsAsBefore (λ k k' e. stage_does d (put (hand_of x) c None d) (own' d) (x.words.phase d) k k' (home_of x d) e.0)
-        ks given_list at d (as_before d)
-        ∙ at_two (hand_of x) x.words.own c None (Some o)
-        (λ d z w. stage_shown d z w (x.words.phase d) (held_of x d) (home_of x d)
-        ≡ stage_shown d (hand_of x d) (x.words.own d) (x.words.phase d) (held_of x d) (home_of x d)) d
-        (stage_in h.sort refl ∙ sym
-        (ap (λ z. stage_shown c z (x.words.own c) (x.words.phase c) (held_of x c) (home_of x c))
-        here)) (λ _. refl));
-    others = refl;
-    cleared = refl;
+  -- the owner is the one that was shown
+  pub gives_owner : (l : List ℕ) → GivesOwner cells x (given_contents l) id t c h
+  gives_owner l = record {
+    in_hand = has;
+    hand_maker = refl;
+    hand_cell = refl;
+    marked = λ e. (r.hands.each id h has).marked ∙ ap hand_phase (marked e);
+    before_it = maker_has.0;
+    after_it = maker_now.0;
+    held = (ks, at, maker_has.1);
+    held_now = find_at t maker_has.0 maker_now.0 maker_has.1 maker_now.1;
+    does_same = maker_now.3;
+    made = maker_now.2;
+    new_made = made_here;
+    helds = λ d a b. find_same x.seats.tasks id d ks given_list at
+        (noted_else made_list o m (owns_also c) owner_has.1 refl d (other h.sort d a b)
+        ∙ noted_else ks t maker_has.0 made_one maker_has.1 refl d a);
+    parts = λ j. record (parts_of cells x) {
+      hand = off j;
+      making = λ u. making_off r id h has u j;
+      own = own';
+      held = find_in tasks';
+    };
   }
     where
-      new : (d : ℕ) → d ≢ 0 → new_stage d ≡ fresh
-      new d z = ap (λ (b : Bool). cond b running fresh) (ne_eqb d 0 z)
+      other : (s : Sort) (d : ℕ) → d ≢ t → d ≢ c → d ≢ first_owner s t c
+      other sort.Promise d a b = a
+      other sort.Task d a b = b
 
-      stage_in : (s : Sort) → h.sort ≡ s
-          → stage_shown c None (Some o) (x.words.phase c) (held_of x c) (home_of x c)
-          ≡ stage_shown c (Some h) (x.words.own c) (x.words.phase c) (held_of x c) (home_of x c)
-      stage_in sort.Promise e =
-          (λ j. stage_shown c None (Some o) (((r.hands.each id h has).marked ∙ ap hand_phase (marked e)) j)
-          (held_of x c)
-          (home_of x c))
-          ∙ (λ j. stage_shown c (Some (record h { sort = sym e j })) (x.words.own c) (x.words.phase c) (held_of x c)
-          (home_of x c))
-      stage_in sort.Task e =
-          let q : h.marked ≡ false = subst (λ s. IsMarkedRight s h.marked) e (r.hands.each id h has).marked_right in
-          (λ j. stage_shown c None (Some o) (((r.hands.each id h has).marked ∙ ap hand_phase q) j) (held_of x c)
-          (home_of x c))
-          ∙ (new c not_root
-          ∙ (λ j. stage_shown c (Some (record h { sort = sym e j })) (x.words.own c) (x.words.phase c) (held_of x c)
-          (home_of x c)))
+      -- the cell's own entry, where there is one, has made as much as before
+      made_here : made_by (find_in tasks' c) (home_of x c) ≡ made_by (held_of x c) (home_of x c)
+      made_here = find_kept r id (λ i. made_by i (home_of x c)) (λ k k'. k'.made ≡ k.made) (λ k k' e. e) ks
+          given_list at c (subst (λ i. IsNoted (λ k k'. k'.made ≡ k.made) i (held_in given_list c))
+          (noted_else ks t maker_has.0 made_one maker_has.1 refl c (λ e. t_other (sym e)))
+          (noted_as (λ k k'. k'.made ≡ k.made) (λ k. refl) made_list o m (owns_also c) owner_has.1 refl refl c))
+
+  -- and each task has made as many things as with the one in hand
+  pub made_now : (u : ℕ) → made_by (find_in tasks' u) (home_of x u) + making hands' u ≡ made_of x u
+  made_now u = ap (λ k. made_by (find_in tasks' u) (home_of x u) + k) (making_off r id h has u)
+      ∙ given_made r id h has (given_contents []) (gives_owner []) u
 
   pub law_given : (l : List ℕ) → get_elem? x.seats.known id ≡ some l → Law program cells (given_contents l)
   law_given l knows = record {
@@ -439,7 +416,7 @@ module _ {B : Type 0} {program : Program B} {cells : ℕ} {x : Contents B} (r : 
         (grew_wider program (ground_of cells r.born x) n (hand_in hands') r.born (begins_self r.born) on)
         (λ d y i. inl i) (λ d z. inl z);
     undrawn = r.undrawn;
-    facts = subst CoreFacts (sym (given_quiet l r.born r.maker)) r.facts;
+    facts = subst CoreFacts (sym (given_shown r id h has (given_contents l) (gives_owner l) r.born r.maker)) r.facts;
   }
 
   -- makers and numbers of cells stay: those of the cell are in PARENT and KID
@@ -461,7 +438,7 @@ module _ {B : Type 0} {program : Program B} {cells : ℕ} {x : Contents B} (r : 
       told = let b = r.births.in_hand c h here in record {
         out = c_there.1;
         parent_is = word_right (reference_of r.born c) once.Parent (cell_born r c drawn) tt
-            ∙ (names_maker c (r.maker c) not_root ∙ ap suc b.0);
+            ∙ (names_maker c (r.maker c) (not_root r id h has) ∙ ap suc b.0);
         kid_is = word_right (reference_of r.born c) once.Kid (cell_born r c drawn) tt ∙ b.1;
       }
 
@@ -544,11 +521,11 @@ module _ {B : Type 0} (program : Bool → B → Program B) (key : Key B) (s : St
       (law_given r.law id h has v.tasks v.dues tasks dues m.marked mine done v.known
       (at_map (λ (u : View B). u.known) s.views id v at)))
 
-  -- and a call that makes it shows nothing
+  -- and a call that makes it gives the cell its owner
   pub give_keeps : (y : Contents B) (n : ℕ) → owner_in n ≡ Some o → y ≡ stored s id (Own c) n w
-      → Keeping key.cells (contents_of s) y (IsQuiet key.cells (contents_of s) y)
-  give_keeps y n is e = subst (λ z. Keeping key.cells (contents_of s) z (IsQuiet key.cells (contents_of s) z))
-      (sym (e ∙ gives n is)) (
-        given_quiet r.law id h has v.tasks v.dues tasks dues m.marked mine done v.known,
+      → Keeping key.cells (contents_of s) y (GivesOwner key.cells (contents_of s) y id h.maker c h)
+  give_keeps y n is e = back (λ j. Keeping key.cells (contents_of s) ((e ∙ gives n is) j)
+      (GivesOwner key.cells (contents_of s) ((e ∙ gives n is) j) id h.maker (sym m.its_cell j) h)) (
+        gives_owner r.law id h has v.tasks v.dues tasks dues m.marked mine done v.known,
         given_keeps r.law id h has v.tasks v.dues tasks dues m.marked mine done v.known,
       )

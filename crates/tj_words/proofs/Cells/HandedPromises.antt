@@ -6,6 +6,7 @@ use mathlib.Core.Logic.{dite}
 use mathlib.Core.Option.{some}
 use native.Mathlib.Decide.{ℕ_discrete}
 use lib.ListN.{get_elem?}
+use lib.Seq.{set-set}
 use Rattle.atomic_table.proofs.Lists.{set_here}
 use Rattle.tj_base.specs.Puts.{put}
 use Rattle.tj_body.specs.Points.{IsIn}
@@ -22,20 +23,22 @@ use Rattle.tj_words.specs.declared.view.Does.TheVariants as does
 use Rattle.tj_words.specs.declared.view.Custody.{Custody}
 use Rattle.tj_words.specs.Words.Lists.{AreApart}
 use Rattle.tj_words.specs.LawParts.Hands.{IsThere}
-use Rattle.tj_words.specs.LawParts.Holding.{held_in, owned_by}
+use Rattle.tj_words.specs.LawParts.Holding.{find_in, held_in, owned_by}
 use Rattle.tj_words.specs.LawParts.LiveCount.{HasAlarmed}
 use Rattle.tj_words.specs.LawParts.NamedCells.{AreThere, does_cells}
 use Rattle.tj_words.specs.LawParts.OnceWords.{OnceWords}
 use Rattle.tj_words.specs.LawParts.RecordPhases.{WaitersOwn}
-use Rattle.tj_words.specs.LawParts.Contents.{Contents, drawn_in, hand_of, home_of, owned_of, made_of}
+use Rattle.tj_words.specs.LawParts.Contents.{Contents, drawn_in, hand_of, held_of, home_of, owned_of, made_of}
 use Rattle.tj_words.specs.Law.{Law}
+use Rattle.tj_words.specs.Steps.OneStates.{KeepsCells}
+use Rattle.tj_words.specs.Steps.OwnerSteps.{HandsPromise}
 use Rattle.tj_words.specs.Steps.StepEvents.{MayAct, IsHeldWith}
 use Rattle.tj_words.specs.SeatViews.TaskLists.{hold}
 use Rattle.tj_words.specs.Calls.DrawViews.{owns_also}
 use Rattle.tj_words.specs.Calls.OwnerViews.{gave_up}
 use Rattle.tj_words.proofs.Stores.LawChanges.{law_owners}
 use Rattle.tj_words.proofs.Stores.SeatLists.{inside}
-use Rattle.tj_words.proofs.Holders.SeatTasks.{hold_else}
+use Rattle.tj_words.proofs.Holders.SeatTasks.{find_changed, find_same, held_alone, hold_else, hold_here}
 use Rattle.tj_words.proofs.Holders.HeldTasks.{none_some, one_some}
 use Rattle.tj_words.proofs.Stores.StoreSteps.{put_here, put_else}
 use Rattle.tj_words.proofs.Holders.TaskPlaces.{custody, held_here, list_owned}
@@ -43,6 +46,7 @@ use Rattle.tj_words.proofs.Holders.HeldChanges.{find_here, find_else, made_held,
 use Rattle.tj_words.proofs.Cells.OwnedChanges.{apart_snoc, owned_changed}
 use Rattle.tj_words.proofs.Events.OwnerEvents.{hand_shown}
 use Rattle.tj_words.proofs.Events.StepFacts.{facts_after}
+use Rattle.tj_words.proofs.Calls.KeptCells.{kept_owner, same_made}
 use Rattle.tj_words.proofs.Cells.ClosedCells.{owned_promise, closed, closed_made, law_closed, owned_here}
 
 -- words that are written once, where a cell that had an owner has another
@@ -74,7 +78,7 @@ once_owned {own = own} o c t u owns = record {
         (λ n. put_else own c d (Some u) n ∙ e)
 
 module _ {B : Type 0} {program : Program B} {cells : ℕ} {x : Contents B} (r : Law program cells x)
-    (events : EventKeepsFacts) (id t c u : ℕ) (k : Custody B) (h : IsHeldWith x id t k) (its : k.task ≡ t)
+    (id t c u : ℕ) (k : Custody B) (h : IsHeldWith x id t k) (its : k.task ≡ t)
     (may : MayAct k.does) (out : k.home ≡ None) (result : IsIn t k.owned) (owns : IsIn c k.owned) (not_own : c ≢ t)
     (ds : List Due) (at : get_elem? x.seats.dues id ≡ some ds)
     (child : Custody B) (held : held_in h.0 u ≡ Some child) (child_its : child.task ≡ u)
@@ -92,30 +96,15 @@ module _ {B : Type 0} {program : Program B} {cells : ℕ} {x : Contents B} (r : 
   last : c ≡ t → (k.owned ≡ c ∷ []) × (get_elem? x.seats.hands id ≡ some None)
   last e = absurd (not_own e)
 
-  -- the promise closed
-  abbrev x1 : Contents B
-  x1 = closed r events id t c k h its may out result owns last ds at
-
-  abbrev r1 : Law program cells x1
-  r1 = law_closed r events id t c k h its may out result owns last ds at
-
   abbrev child_here : IsHeldWith x id u child
   child_here = (h.0, h.1, held)
 
   unborn_acts : (d : Does) → d ≡ does.Unborn → MayAct d → ⊥
   unborn_acts d e m = subst MayAct e m
 
-  other : u ≢ t
+  pub other : u ≢ t
   other e = unborn_acts k.does
       (ap (λ (z : Custody B). z.does) (one_some k child (sym h.2 ∙ (ap (held_in h.0) (sym e) ∙ held))) ∙ unborn) may
-
-  -- the seat has the child still
-  abbrev h1 : IsHeldWith x1 id u child
-  h1 = (
-    hold k' h.0,
-    set_here x.seats.tasks id (hold k' h.0) (inside x.seats.tasks id h.0 h.1),
-    hold_else k' u h.0 (λ e. other (e ∙ its)) ∙ held,
-  )
 
   -- the contents once it has the promise
   abbrev pub handed : Contents B
@@ -125,125 +114,162 @@ module _ {B : Type 0} {program : Program B} {cells : ℕ} {x : Contents B} (r : 
     seats = record x.seats { tasks = set (set x.seats.tasks id (hold k' h.0)) id (hold child' (hold k' h.0)) };
   }
 
-  c_there : IsThere n (hand_of x) c × (x.words.own c ≡ Some t)
-  c_there = owned_here r events id t c k h its may out result owns last ds at
+  pub c_there : IsThere n (hand_of x) c × (x.words.own c ≡ Some t)
+  c_there = owned_here r id t c k h its may out result owns last ds at
 
   u_there : IsThere n (hand_of x) u × (x.words.own u ≡ Some u)
   u_there = list_owned r id u child child_here u child_result
 
-  owned_u : owned_of handed u ≡ child.owned ++ c ∷ []
-  owned_u = ap (λ (o : Option (Custody B)). owned_by o (home_of x u)) (find_here r1 id u child child' h1 child_its)
+  -- what is found for a task that the seat holds, and for another one
+  pub found : (d : ℕ) → r.custody.holder d ≡ Some id → held_of handed d ≡ held_in (hold child' (hold k' h.0)) d
+  found d e = ap (λ l. find_in l d) (set-set x.seats.tasks id (hold k' h.0) (hold child' (hold k' h.0)))
+      ∙ find_changed x.seats.tasks id d h.0 (hold child' (hold k' h.0)) h.1 (held_alone r id d e)
 
-  owned_was : owned_of x1 u ≡ child.owned
-  owned_was = ap (λ (o : Option (Custody B)). owned_by o (home_of x u)) (held_here r1 id u child h1)
+  pub found_else : (d : ℕ) → d ≢ t → d ≢ u → held_of handed d ≡ held_of x d
+  found_else d p q = ap (λ l. find_in l d) (set-set x.seats.tasks id (hold k' h.0) (hold child' (hold k' h.0)))
+      ∙ find_same x.seats.tasks id d h.0 (hold child' (hold k' h.0)) h.1
+      (hold_else child' d (hold k' h.0) (λ e. q (e ∙ child_its)) ∙ hold_else k' d h.0 (λ e. p (e ∙ its)))
 
-  owned_other : (v : ℕ) → v ≢ u → owned_of handed v ≡ owned_of x1 v
-  owned_other v q =
-      ap (λ (o : Option (Custody B)). owned_by o (home_of x v)) (find_else r1 id u child child' h1 child_its v q)
+  -- the task has handed the promise to its child
+  abbrev pub hands : HandsPromise cells x handed id t c u
+  hands = record {
+    acts = record {
+      before_it = k;
+      after_it = k';
+      held = h;
+      may = may;
+      result = result;
+      held_now = found t (custody r id t k h).mine ∙ (hold_else child' t (hold k' h.0)
+          (λ e. other (sym (e ∙ child_its))) ∙ (ap (held_in (hold k' h.0)) (sym its) ∙ hold_here k' h.0));
+      runs = refl;
+      made = refl;
+    };
+    owned = owns;
+    promise = owned_promise r c t c_there.0 c_there.1 not_own;
+    child_before = child;
+    child_after = child';
+    child_held = child_here;
+    unborn = unborn;
+    its_result = child_result;
+    its_parent = its_parent;
+    other = other;
+    child_now = found u (custody r id u child child_here).mine
+        ∙ (ap (held_in (hold child' (hold k' h.0))) (sym child_its) ∙ hold_here child' (hold k' h.0));
+    still_unborn = unborn;
+    child_made = refl;
+    owns = put_here x.words.own c c (Some u) refl;
+    same = record {
+      drawn = refl;
+      hand = refl;
+      making = refl;
+      owns = λ d q. put_else x.words.own c d (Some u) q;
+      phase = refl;
+      helds = found_else;
+      home = refl;
+    };
+    keeps = record { others = refl; cleared = refl };
+  }
 
-  lists : (d v : ℕ) → d ≢ c → IsIn d (owned_of handed v) ↔ IsIn d (owned_of x1 v)
-  lists d v q = dite (ℕ_discrete v u)
-      (λ e. subst (λ z. IsIn d (owned_of handed z) ↔ IsIn d (owned_of x1 z)) (sym e) (
-        (λ i. ⊎_elim (λ (j : IsIn d child.owned). subst (IsIn d) (sym owned_was) j)
-            (λ (j : IsIn d (c ∷ [])). ⊎_elim (λ (p : d ≡ c). absurd (q p)) (λ (p : IsIn d []). absurd p) j)
-            (in_either d child.owned (c ∷ []) (subst (IsIn d) owned_u i))),
-        (λ i. subst (IsIn d) (sym owned_u) (in_left d child.owned (c ∷ []) (subst (IsIn d) owned_was i))),
-      ))
-      (λ m. ((λ i. subst (IsIn d) (owned_other v m) i), (λ i. subst (IsIn d) (sym (owned_other v m)) i)))
+  -- and both have made as many things as before
+  pub handed_keeps : KeepsCells cells x handed
+  handed_keeps = kept_owner cells x handed c t u hands.same (same_made r handed id t k k' h hands.acts.held_now refl)
+      (same_made r handed id u child child' child_here hands.child_now refl) refl
 
-  -- nobody had the promise in between
-  nobody : (v : ℕ) → IsIn c (owned_of x1 v) → ⊥
-  nobody v i = none_some (put x.words.own c None c) v (put_here x.words.own c c None refl)
-      ((r1.owned.owners c v c_there.0).1 i)
+  module _ (events : EventKeepsFacts) where
+    -- the promise closed
+    abbrev x1 : Contents B
+    x1 = closed r id t c k h its may out result owns last ds at
 
-  child_owns : (v : ℕ) → (put x.words.own c (Some u) c ≡ Some v) ↔ IsIn c (owned_of handed v)
-  child_owns v = (
-    (λ e. subst (λ z. IsIn c (owned_of handed z))
-        (one_some u v (sym (put_here x.words.own c c (Some u) refl) ∙ e))
-        (subst (IsIn c) (sym owned_u) (in_right c child.owned (c ∷ []) (inl refl)))),
-    (λ i. dite (ℕ_discrete v u)
-        (λ e. put_here x.words.own c c (Some u) refl ∙ ap (λ z. Some z) (sym e))
-        (λ m. absurd (nobody v (subst (IsIn c) (owned_other v m) i)))),
-  )
+    abbrev r1 : Law program cells x1
+    r1 = law_closed r id t c k h its may out result owns last ds at events
 
-  apart : (v : ℕ) → AreApart (owned_of handed v)
-  apart v = dite (ℕ_discrete v u)
-      (λ e. subst AreApart (sym (ap (owned_of handed) e ∙ owned_u))
-      (apart_snoc c child.owned (subst AreApart owned_was (r1.owned.owned_apart u))
-      (λ i. nobody u (subst (IsIn c) (sym owned_was) i))))
-      (λ m. subst AreApart (sym (owned_other v m)) (r1.owned.owned_apart v))
+    -- the seat has the child still
+    abbrev h1 : IsHeldWith x1 id u child
+    h1 = (
+      hold k' h.0,
+      set_here x.seats.tasks id (hold k' h.0) (inside x.seats.tasks id h.0 h.1),
+      hold_else k' u h.0 (λ e. other (e ∙ its)) ∙ held,
+    )
 
-  waiters : WaitersOwn (put x.words.own c (Some u)) x.words.phase
-  waiters v p way w e z = dite (ℕ_discrete v c)
-      (λ q. none_some (put x.words.own c (Some u) v) u z (put_here x.words.own c v (Some u) q))
-      (λ m. r.waiters_own v p way w e (sym (put_else x.words.own c v (Some u) m) ∙ z))
+    owned_u : owned_of handed u ≡ child.owned ++ c ∷ []
+    owned_u = ap (λ (o : Option (Custody B)). owned_by o (home_of x u)) (find_here r1 id u child child' h1 child_its)
 
-  made : made_of handed ≡ made_of x
-  made = (λ j v. made_held r1 id u child child' h1 child_its refl v j)
-      ∙ closed_made r events id t c k h its may out result owns last ds at
+    owned_was : owned_of x1 u ≡ child.owned
+    owned_was = ap (λ (o : Option (Custody B)). owned_by o (home_of x u)) (held_here r1 id u child h1)
 
-  not_alarmed : HasAlarmed child.does → home_of x u ≡ None
-  not_alarmed a = absurd (subst HasAlarmed unborn a)
+    owned_other : (v : ℕ) → v ≢ u → owned_of handed v ≡ owned_of x1 v
+    owned_other v q =
+        ap (λ (o : Option (Custody B)). owned_by o (home_of x v)) (find_else r1 id u child child' h1 child_its v q)
 
-  -- the law after the hand
-  pub law_handed : Law program cells handed
-  law_handed = law_owners r (put x.words.own c (Some u))
-      (set (set x.seats.tasks id (hold k' h.0)) id (hold child' (hold k' h.0))) x.seats.dues made
-      (hands_held r1 id u child child' h1 child_its x.words.phase (λ j g e. refl) (λ e. e))
-      record {
-        owned = λ d v e. dite (ℕ_discrete d c)
-            (λ q. (
-              subst (IsThere n (hand_of x)) (sym q) c_there.0,
-              subst (IsThere n (hand_of x))
-                  (one_some u v (sym (put_here x.words.own c d (Some u) q) ∙ e)) u_there.0,
-            ))
-            (λ q. r.names.owned d v (sym (put_else x.words.own c d (Some u) q) ∙ e));
-        waits = r.names.waits;
-        records = r.names.records;
-        walks = walks_held r1 id u child child' h1 child_its
-            (subst (λ d. AreThere n (hand_of x) (does_cells d)) (sym unborn) (λ d i. absurd i));
-        knows = r.names.knows;
-      }
-      r.tree_words
-      (custody_held r1 id u child child' h1 child_its x.words.phase (λ v q. refl)
-      (custody r id u child child_here).does not_alarmed
-      (λ y e. none_some child.home y child_out e) (λ e. (custody r id u child child_here).out child_out))
-      (owned_changed r1.owned c c_there.0 (put x.words.own c (Some u)) (owned_of handed)
-      (λ d q. put_else x.words.own c d (Some u) q ∙ sym (put_else x.words.own c d None q)) lists child_owns apart)
-      (once_owned r.once_words c t u c_there.1)
-      waiters
-      (facts_after events (hand_shown r handed id t c u record {
-        acts = record {
-          before_it = k;
-          after_it = k';
-          held = h;
-          may = may;
-          result = result;
-          held_now = find_else r1 id u child child' h1 child_its t (λ e. other (sym e)) ∙ find_here r id t k k' h its;
-          runs = refl;
-          made = refl;
-        };
-        owned = owns;
-        promise = owned_promise r c t c_there.0 c_there.1 not_own;
-        child_before = child;
-        child_after = child';
-        child_held = child_here;
-        unborn = unborn;
-        its_result = child_result;
-        its_parent = its_parent;
-        other = other;
-        child_now = find_here r1 id u child child' h1 child_its;
-        still_unborn = unborn;
-        child_made = refl;
-        owns = put_here x.words.own c c (Some u) refl;
-        same = record {
-          drawn = refl;
-          hand = refl;
-          making = refl;
-          owns = λ d q. put_else x.words.own c d (Some u) q;
-          phase = refl;
-          helds = λ d p q. find_else r1 id u child child' h1 child_its d q ∙ find_else r id t k k' h its d p;
-          home = refl;
-        };
-        keeps = record { others = refl; cleared = refl };
-      }) r.facts)
+    lists : (d v : ℕ) → d ≢ c → IsIn d (owned_of handed v) ↔ IsIn d (owned_of x1 v)
+    lists d v q = dite (ℕ_discrete v u)
+        (λ e. subst (λ z. IsIn d (owned_of handed z) ↔ IsIn d (owned_of x1 z)) (sym e) (
+          (λ i. ⊎_elim (λ (j : IsIn d child.owned). subst (IsIn d) (sym owned_was) j)
+              (λ (j : IsIn d (c ∷ [])). ⊎_elim (λ (p : d ≡ c). absurd (q p)) (λ (p : IsIn d []). absurd p) j)
+              (in_either d child.owned (c ∷ []) (subst (IsIn d) owned_u i))),
+          (λ i. subst (IsIn d) (sym owned_u) (in_left d child.owned (c ∷ []) (subst (IsIn d) owned_was i))),
+        ))
+        (λ m. ((λ i. subst (IsIn d) (owned_other v m) i), (λ i. subst (IsIn d) (sym (owned_other v m)) i)))
+
+    -- nobody had the promise in between
+    nobody : (v : ℕ) → IsIn c (owned_of x1 v) → ⊥
+    nobody v i = none_some (put x.words.own c None c) v (put_here x.words.own c c None refl)
+        ((r1.owned.owners c v c_there.0).1 i)
+
+    child_owns : (v : ℕ) → (put x.words.own c (Some u) c ≡ Some v) ↔ IsIn c (owned_of handed v)
+    child_owns v = (
+      (λ e. subst (λ z. IsIn c (owned_of handed z))
+          (one_some u v (sym (put_here x.words.own c c (Some u) refl) ∙ e))
+          (subst (IsIn c) (sym owned_u) (in_right c child.owned (c ∷ []) (inl refl)))),
+      (λ i. dite (ℕ_discrete v u)
+          (λ e. put_here x.words.own c c (Some u) refl ∙ ap (λ z. Some z) (sym e))
+          (λ m. absurd (nobody v (subst (IsIn c) (owned_other v m) i)))),
+    )
+
+    apart : (v : ℕ) → AreApart (owned_of handed v)
+    apart v = dite (ℕ_discrete v u)
+        (λ e. subst AreApart (sym (ap (owned_of handed) e ∙ owned_u))
+        (apart_snoc c child.owned (subst AreApart owned_was (r1.owned.owned_apart u))
+        (λ i. nobody u (subst (IsIn c) (sym owned_was) i))))
+        (λ m. subst AreApart (sym (owned_other v m)) (r1.owned.owned_apart v))
+
+    waiters : WaitersOwn (put x.words.own c (Some u)) x.words.phase
+    waiters v p way w e z = dite (ℕ_discrete v c)
+        (λ q. none_some (put x.words.own c (Some u) v) u z (put_here x.words.own c v (Some u) q))
+        (λ m. r.waiters_own v p way w e (sym (put_else x.words.own c v (Some u) m) ∙ z))
+
+    made : made_of handed ≡ made_of x
+    made = (λ j v. made_held r1 id u child child' h1 child_its refl v j)
+        ∙ closed_made r id t c k h its may out result owns last ds at
+
+    not_alarmed : HasAlarmed child.does → home_of x u ≡ None
+    not_alarmed a = absurd (subst HasAlarmed unborn a)
+
+    -- the law after the hand
+    pub law_handed : Law program cells handed
+    law_handed = law_owners r (put x.words.own c (Some u))
+        (set (set x.seats.tasks id (hold k' h.0)) id (hold child' (hold k' h.0))) x.seats.dues made
+        (hands_held r1 id u child child' h1 child_its x.words.phase (λ j g e. refl) (λ e. e))
+        record {
+          owned = λ d v e. dite (ℕ_discrete d c)
+              (λ q. (
+                subst (IsThere n (hand_of x)) (sym q) c_there.0,
+                subst (IsThere n (hand_of x))
+                    (one_some u v (sym (put_here x.words.own c d (Some u) q) ∙ e)) u_there.0,
+              ))
+              (λ q. r.names.owned d v (sym (put_else x.words.own c d (Some u) q) ∙ e));
+          waits = r.names.waits;
+          records = r.names.records;
+          walks = walks_held r1 id u child child' h1 child_its
+              (subst (λ d. AreThere n (hand_of x) (does_cells d)) (sym unborn) (λ d i. absurd i));
+          knows = r.names.knows;
+        }
+        r.tree_words
+        (custody_held r1 id u child child' h1 child_its x.words.phase (λ v q. refl)
+        (custody r id u child child_here).does not_alarmed
+        (λ y e. none_some child.home y child_out e) (λ e. (custody r id u child child_here).out child_out))
+        (owned_changed r1.owned c c_there.0 (put x.words.own c (Some u)) (owned_of handed)
+        (λ d q. put_else x.words.own c d (Some u) q ∙ sym (put_else x.words.own c d None q)) lists child_owns apart)
+        (once_owned r.once_words c t u c_there.1)
+        waiters
+        (facts_after events (hand_shown r handed id t c u hands) r.facts)

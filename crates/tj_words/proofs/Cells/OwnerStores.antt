@@ -1,5 +1,5 @@
 -- The stores of OWN keep the rule.
-use Rattle.std.proofs.Common.{◌≡◌, ◌≢◌, ℕ, zero, suc, ◌<◌, Bool, List, length, set, Option, Some, None, refl, sym}
+use Rattle.std.proofs.Common.{◌≡◌, ◌≢◌, ℕ, zero, suc, ◌<◌, Bool, List, [], ◌∷◌, set, Option, Some, None, refl, sym}
 use Rattle.std.proofs.Common.{ap, ◌∙◌, subst, inl, inr, arith}
 use mathlib.Core.Option.{some, none}
 use lib.ListN.{get_elem?}
@@ -23,30 +23,34 @@ use Rattle.tj_words.specs.Words.Owners.{owner_in}
 use Rattle.tj_words.specs.LawParts.Holding.{held_in}
 use Rattle.tj_words.specs.LawParts.ShownState.{first_owner}
 use Rattle.tj_words.specs.LawParts.LiveCount.{HasAlarmed, Backing}
-use Rattle.tj_words.specs.LawParts.Contents.{SeatsHave, words_say, seats_have, contents_of, drawn_in, hand_of}
+use Rattle.tj_words.specs.LawParts.Contents.{Contents, SeatsHave, words_say, seats_have, contents_of, drawn_in, hand_of}
 use Rattle.tj_words.specs.Law.{Law, Rule, IsSeat}
 use Rattle.tj_words.specs.SeatViews.SeatSteps.{SeatMe}
-use Rattle.tj_words.specs.Steps.StepEvents.{MayAct}
+use Rattle.tj_words.specs.Steps.StepEvents.{IsHeldWith, MayAct}
 use Rattle.tj_words.specs.SeatViews.TaskLists.{hold, noted}
 use Rattle.tj_words.specs.Calls.DrawViews.{MayGive, gave_owner, owns_also}
 use Rattle.tj_words.specs.Calls.OwnerViews.{IsOwnersSeat, MayClose, MayHand, MayPutOwner, PutsOwner, gave_up}
 use Rattle.tj_words.specs.Calls.OwnerViews.{closed_cell}
 use Rattle.tj_words.specs.Calls.OwnerViews.{handed_promise, owner_put}
 use Rattle.tj_words.proofs.Holders.HeldTasks.{none_some, one_some, hand_finds}
-use Rattle.tj_words.proofs.Stores.SeatContents.{set_seats, seats_same}
+use Rattle.tj_words.proofs.Stores.SeatContents.{seats_same}
 use Rattle.tj_words.proofs.Holders.TaskPlaces.{list_owned}
 use Rattle.tj_words.proofs.Holders.HeldChanges.{held_task}
 use Rattle.tj_words.proofs.Holders.NotedTasks.{noted_is, holder_lot, holder_named}
 use Rattle.tj_words.proofs.Holders.NotedEntries.{noted_here, noted_else}
 use Rattle.tj_words.proofs.Waiters.LiveSteps.{backing_running, alarms_else}
 use Rattle.tj_words.proofs.Waiters.Backings.{backing_runs}
-use Rattle.tj_words.proofs.Stores.StoreSteps.{Stores, may_store, step_allowed}
-use Rattle.tj_words.proofs.Stores.StoredWords.{say_own}
+use Rattle.tj_words.proofs.Stores.StoreSteps.{Stores, step_allowed, store_word}
+use Rattle.tj_words.proofs.Stores.StepContents.{stored}
+use Rattle.tj_words.proofs.Stores.SeatLists.{back}
+use Rattle.tj_words.specs.Steps.OwnerSteps.{ClosesPromise, ClosesResult, HandsPromise}
+use Rattle.tj_words.specs.CallLaws.EventCalls.{Keeping}
+use Rattle.tj_words.specs.declared.offsets.Once.TheVariants as once
 use Rattle.tj_words.proofs.Stores.TableWords.{Own}
 use Rattle.tj_words.proofs.Stores.WordStores.{hand_here}
 use Rattle.tj_words.proofs.Cells.GivenCells.{give_stores}
-use Rattle.tj_words.proofs.Cells.ClosedCells.{law_closed}
-use Rattle.tj_words.proofs.Cells.HandedPromises.{law_handed}
+use Rattle.tj_words.proofs.Cells.ClosedCells.{closed, closed_keeps, closes_own, closes_promise, law_closed}
+use Rattle.tj_words.proofs.Cells.HandedPromises.{handed, handed_keeps, hands, law_handed}
 
 module _ {B : Type 0} where
   -- a task that acts isn't unborn
@@ -65,6 +69,117 @@ module _ {B : Type 0} where
   pub gave_child : (v : View B) (c u : ℕ) (m : MayHand c u v) → held_in (gave_view m.task c v).tasks u ≡ Some m.child
   gave_child v c u m =
       noted_else v.tasks m.task m.owner.custody (gave_up c) m.owner.held refl u (unborn_other v c u m) ∙ m.child_held
+
+module _ {B : Type 0} (program : Bool → B → Program B) (key : Key B) (s : State (Option (Rec B)) (View B))
+    (r : Rule program key s) (id c : ℕ) where
+  abbrev x : Contents B
+  x = contents_of s
+
+  abbrev old : SeatsHave B
+  old = seats_have s.views
+
+  -- the store of nobody
+  module _ (v : View B) (at : get_elem? s.views id ≡ some v) (m : MayClose c v) where
+    abbrev k : Custody B
+    k = m.owner.custody
+
+    abbrev has : IsHeldWith x id m.task k
+    has = (v.tasks, at_map (λ (u : View B). u.tasks) s.views id v at, m.owner.held)
+
+    pub last_here : c ≡ m.task → (k.owned ≡ c ∷ []) × (get_elem? old.hands id ≡ some None)
+    last_here e = ((m.last e).0, at_map (λ (u : View B). u.hand) s.views id v at ∙ ap some (m.last e).1)
+
+    abbrev dues : get_elem? old.dues id ≡ some v.dues
+    dues = at_map (λ (u : View B). u.dues) s.views id v at
+
+    abbrev its : k.task ≡ m.task
+    its = held_task v.tasks m.task k m.owner.held
+
+    abbrev after : Contents B
+    after = closed r.law id m.task c k has its m.owner.may m.owner.out m.owner.result m.owner.owns last_here v.dues dues
+
+    -- what the store leaves
+    pub closes : (n : ℕ) → owner_in n ≡ None → stored s id (Own c) n (closed_cell m.task c v) ≡ after
+    closes n is j = record {
+      words = record (words_say s.words) { own = put (words_say s.words).own c (is j) };
+      slots = s.homes;
+      seats = record (seats_same s.views id v at j) {
+        tasks = set old.tasks id (noted_is v.tasks m.task k (gave_up c) m.owner.held j);
+        dues = set old.dues id (closed_cell m.task c v).dues;
+      };
+    }
+
+    -- and a call that makes it closes a promise, or the result of its task
+    pub close_keeps : (y : Contents B) (n : ℕ) → owner_in n ≡ None → y ≡ stored s id (Own c) n (closed_cell m.task c v)
+        → c ≢ m.task → Keeping key.cells x y (ClosesPromise key.cells x y id m.task c)
+    close_keeps y n is e other = subst (λ z. Keeping key.cells x z (ClosesPromise key.cells x z id m.task c))
+        (sym (e ∙ closes n is)) (
+          closes_promise r.law id m.task c k has its m.owner.may m.owner.out m.owner.result m.owner.owns last_here
+              v.dues dues other,
+          closed_keeps r.law id m.task c k has its m.owner.may m.owner.out m.owner.result m.owner.owns last_here
+              v.dues dues,
+        )
+
+    pub close_own_keeps : (y : Contents B) (n : ℕ) → owner_in n ≡ None
+        → y ≡ stored s id (Own c) n (closed_cell m.task c v)
+        → c ≡ m.task → Keeping key.cells x y (ClosesResult key.cells x y id c)
+    close_own_keeps y n is e own = back (λ j. Keeping key.cells x ((e ∙ closes n is) j)
+        (ClosesResult key.cells x ((e ∙ closes n is) j) id (own j))) (
+          closes_own r.law id m.task c k has its m.owner.may m.owner.out m.owner.result m.owner.owns last_here
+              v.dues dues own,
+          closed_keeps r.law id m.task c k has its m.owner.may m.owner.out m.owner.result m.owner.owns last_here
+              v.dues dues,
+        )
+
+  -- the store of a child
+  module _ (u : ℕ) (v : View B) (at : get_elem? s.views id ≡ some v) (m : MayHand c u v) where
+    abbrev o : IsOwnersSeat m.task c v
+    o = m.owner
+
+    abbrev held : IsHeldWith x id m.task o.custody
+    held = (v.tasks, at_map (λ (z : View B). z.tasks) s.views id v at, o.held)
+
+    pub is_parent : x.words.once u once.Parent ≡ suc m.task
+    is_parent = (r.law.once_words.stands id v.seen (at_map (λ (z : View B). z.seen) s.views id v at) _ m.is_child).value
+
+    abbrev dues_at : get_elem? old.dues id ≡ some v.dues
+    dues_at = at_map (λ (z : View B). z.dues) s.views id v at
+
+    abbrev owner_its : o.custody.task ≡ m.task
+    owner_its = held_task v.tasks m.task o.custody o.held
+
+    abbrev child_its : m.child.task ≡ u
+    child_its = held_task v.tasks u m.child m.child_held
+
+    abbrev after_hand : Contents B
+    after_hand = handed r.law id m.task c u o.custody held owner_its o.may o.out o.result o.owns m.promise v.dues dues_at
+        m.child m.child_held child_its m.unborn m.child_out m.child_result is_parent
+
+    list : (handed_promise m.task c u v).tasks ≡ hold (owns_also c m.child) (hold (gave_up c o.custody) v.tasks)
+    list = noted_is (gave_view m.task c v).tasks u m.child (owns_also c) (gave_child v c u m)
+        ∙ ap (hold (owns_also c m.child)) (noted_is v.tasks m.task o.custody (gave_up c) o.held)
+
+    pub hands_path : (n : ℕ) → owner_in n ≡ Some u → stored s id (Own c) n (handed_promise m.task c u v) ≡ after_hand
+    hands_path n is j = record {
+      words = record (words_say s.words) { own = put (words_say s.words).own c (is j) };
+      slots = s.homes;
+      seats = record (seats_same s.views id v at j) {
+        tasks = (ap (set old.tasks id) list
+            ∙ sym (set-set old.tasks id (hold (gave_up c o.custody) v.tasks)
+            (hold (owns_also c m.child) (hold (gave_up c o.custody) v.tasks)))) j;
+      };
+    }
+
+    pub hand_keeps : (y : Contents B) (n : ℕ) → owner_in n ≡ Some u
+        → y ≡ stored s id (Own c) n (handed_promise m.task c u v)
+        → Keeping key.cells x y (HandsPromise key.cells x y id m.task c u)
+    hand_keeps y n is e = subst (λ z. Keeping key.cells x z (HandsPromise key.cells x z id m.task c u))
+        (sym (e ∙ hands_path n is)) (
+          hands r.law id m.task c u o.custody held owner_its o.may o.out o.result o.owns m.promise v.dues dues_at
+              m.child m.child_held child_its m.unborn m.child_out m.child_result is_parent,
+          handed_keeps r.law id m.task c u o.custody held owner_its o.may o.out o.result o.owns m.promise v.dues dues_at
+              m.child m.child_held child_its m.unborn m.child_out m.child_result is_parent,
+        )
 
 module _ {B : Type 0} (program : Bool → B → Program B) (key : Key B) (events : EventKeepsFacts) where
   abbrev P : Program B
@@ -101,38 +216,14 @@ module _ {B : Type 0} (program : Bool → B → Program B) (key : Key B) (events
       → c < key.cells
       → (m : MayClose c v)
       → Stores program key s id (own_at c) 0 (closed_cell m.task c v)
-  close_stores s r id c v at l m = let y = seats_have s.views in let w = closed_cell m.task c v in
-      let o = m.owner in let k = o.custody in
-      let inside : own_at c < length s.words = (let e = r.all_words in omega arith) in
-      let tasks = at_map (λ (u : View B). u.tasks) s.views id v at in
-      let dues = at_map (λ (u : View B). u.dues) s.views id v at in
-      record {
-        inside = inside;
-        may = may_store key.cells (Own c) 0 (omega arith);
-        seat = owner_seat v m.task c w.steps w.tasks w.dues o (r.seats id v at)
-            (gave_backing v m.task c w.steps w.dues o (r.seats id v at).backing);
-        law = subst (λ z. Law P key.cells (record { words = z; slots = s.homes; seats = set_seats y id w }))
-            (sym (say_own s.words 0 c inside))
-            (subst (λ z. Law P key.cells (record {
-              words = record (words_say s.words) { own = put (words_say s.words).own c None };
-              slots = s.homes;
-              seats = z;
-            }))
-            (sym (ap (λ (z : SeatsHave B). record z {
-              tasks = set y.tasks id w.tasks;
-              dues = set y.dues id w.dues;
-            }) (seats_same s.views id v at)))
-            (subst (λ z. Law P key.cells (record {
-              words = record (words_say s.words) { own = put (words_say s.words).own c None };
-              slots = s.homes;
-              seats = record y { tasks = set y.tasks id z; dues = set y.dues id w.dues };
-            }))
-            (sym (noted_is v.tasks m.task k (gave_up c) o.held))
-            (law_closed r.law events id m.task c k (v.tasks, tasks, o.held) (held_task v.tasks m.task k o.held)
-            o.may o.out o.result o.owns
-            (λ e. ((m.last e).0, at_map (λ (u : View B). u.hand) s.views id v at ∙ ap some (m.last e).1))
-            v.dues dues)));
-      }
+  close_stores s r id c v at l m = let w = closed_cell m.task c v in
+      store_word program key s id (Own c) 0 w (let e = r.all_words in omega arith) (omega arith)
+      (owner_seat v m.task c w.steps w.tasks w.dues m.owner (r.seats id v at)
+      (gave_backing v m.task c w.steps w.dues m.owner (r.seats id v at).backing))
+      (subst (Law P key.cells) (sym (closes program key s r id c v at m 0 refl))
+      (law_closed r.law id m.task c m.owner.custody (v.tasks, at_map (λ (u : View B). u.tasks) s.views id v at, m.owner.held)
+      (held_task v.tasks m.task m.owner.custody m.owner.held) m.owner.may m.owner.out m.owner.result m.owner.owns
+      (last_here program key s r id c v at m) v.dues (at_map (λ (u : View B). u.dues) s.views id v at) events))
 
   -- the seat that hands a promise is backed
   handed_backing : (v : View B) (c u : ℕ) (m : MayHand c u v) → Backing v → Backing (handed_promise m.task c u v)
@@ -158,41 +249,17 @@ module _ {B : Type 0} (program : Bool → B → Program B) (key : Key B) (events
       → c < key.cells
       → (m : MayHand c u v)
       → Stores program key s id (own_at c) (suc u) (handed_promise m.task c u v)
-  hand_stores s r id c u v at l m = let y = seats_have s.views in let w = handed_promise m.task c u v in
-      let o = m.owner in let k = o.custody in let its = held_task v.tasks m.task k o.held in
-      let child_its = held_task v.tasks u m.child m.child_held in
-      let inside : own_at c < length s.words = (let e = r.all_words in omega arith) in
+  hand_stores s r id c u v at l m = let w = handed_promise m.task c u v in let o = m.owner in
       let tasks = at_map (λ (z : View B). z.tasks) s.views id v at in
-      let dues = at_map (λ (z : View B). z.dues) s.views id v at in
       let u_there = (list_owned r.law id u m.child (v.tasks, tasks, m.child_held) u m.child_result).0.0 in
-      let seen = at_map (λ (z : View B). z.seen) s.views id v at in
-      let parent = (r.law.once_words.stands id v.seen seen _ m.is_child).value in
-      let list : hold (owns_also c m.child) (hold (gave_up c k) v.tasks) ≡ w.tasks =
-      ap (hold (owns_also c m.child)) (sym (noted_is v.tasks m.task k (gave_up c) o.held))
-      ∙ sym (noted_is (gave_view m.task c v).tasks u m.child (owns_also c) (gave_child v c u m)) in
-      record {
-        inside = inside;
-        may = may_store key.cells (Own c) (suc u) (omega arith);
-        seat = owner_seat v m.task c w.steps w.tasks w.dues o (r.seats id v at)
-            (handed_backing v c u m (r.seats id v at).backing);
-        law = subst (λ z. Law P key.cells (record { words = z; slots = s.homes; seats = set_seats y id w }))
-            (sym (say_own s.words (suc u) c inside))
-            (subst (λ z. Law P key.cells (record {
-              words = record (words_say s.words) { own = put (words_say s.words).own c (Some u) };
-              slots = s.homes;
-              seats = z;
-            }))
-            (sym (ap (λ (z : SeatsHave B). record z { tasks = set y.tasks id w.tasks }) (seats_same s.views id v at)))
-            (subst (λ z. Law P key.cells (record {
-              words = record (words_say s.words) { own = put (words_say s.words).own c (Some u) };
-              slots = s.homes;
-              seats = record y { tasks = z };
-            }))
-            (set-set y.tasks id (hold (gave_up c k) v.tasks) (hold (owns_also c m.child) (hold (gave_up c k) v.tasks))
-            ∙ ap (set y.tasks id) list)
-            (law_handed r.law events id m.task c u k (v.tasks, tasks, o.held) its o.may o.out o.result o.owns m.promise
-            v.dues dues m.child m.child_held child_its m.unborn m.child_out m.child_result parent)));
-      }
+      store_word program key s id (Own c) (suc u) w (let e = r.all_words in omega arith) (omega arith)
+      (owner_seat v m.task c w.steps w.tasks w.dues o (r.seats id v at)
+      (handed_backing v c u m (r.seats id v at).backing))
+      (subst (Law P key.cells) (sym (hands_path program key s r id c u v at m (suc u) refl))
+      (law_handed r.law id m.task c u o.custody (v.tasks, tasks, o.held) (held_task v.tasks m.task o.custody o.held)
+      o.may o.out o.result o.owns m.promise v.dues (at_map (λ (z : View B). z.dues) s.views id v at) m.child
+      m.child_held (held_task v.tasks u m.child m.child_held) m.unborn m.child_out m.child_result
+      (is_parent program key s r id c u v at m) events))
 
   -- a cell has one owner among the tasks of a seat
   one_owner : (s : State (Option (Rec B)) (View B)) (r : Rule program key s) (id c t u : ℕ) (v : View B)

@@ -1,5 +1,7 @@
 -- A step after which each cell shows what it showed shows nothing.
-use Rattle.std.proofs.Common.{◌≡◌, ℕ, cond, nat_lt, Option, Some, None, refl, ap}
+use Rattle.std.proofs.Common.{◌≡◌, ℕ, ◌+◌, cond, nat_lt, List, Option, Some, None, refl, sym, ap, ◌∙◌}
+use Rattle.tj_base.specs.Puts.{put}
+use Rattle.tj_body.specs.declared.point.Reference.{Reference}
 use Rattle.tj_core.specs.CoreState.{blank}
 use Rattle.tj_words.specs.declared.phase.Phase.{Phase}
 use Rattle.tj_words.specs.declared.phase.Phase.TheVariants as phase
@@ -8,24 +10,27 @@ use Rattle.tj_words.specs.declared.record.Rec.{Rec}
 use Rattle.tj_words.specs.declared.view.Custody.{Custody}
 use Rattle.tj_words.specs.declared.view.Does.{Does}
 use Rattle.tj_words.specs.declared.view.Hand.{Hand}
-use Rattle.tj_words.specs.Words.Lists.{total}
-use Rattle.tj_words.specs.LawParts.Contents.{Contents, drawn_in, hand_of, held_of, home_of, made_of}
-use Rattle.tj_words.specs.LawParts.ShownState.{does_stage, owner_shown, reference_of, stage_shown}
+use Rattle.tj_words.specs.LawParts.Contents.{Contents, hand_of, held_of, home_of}
+use Rattle.tj_words.specs.LawParts.Holding.{made_by}
+use Rattle.tj_words.specs.LawParts.ShownState.{does_stage, first_owner, hand_stage, owner_shown, reference_of, stage_shown}
+use Rattle.tj_words.specs.Steps.QuietSteps.{MarksPromise}
+use Rattle.tj_words.specs.Steps.ShownParts.{Parts, parts_of, shown_by}
 use Rattle.tj_words.specs.Steps.StepEvents.{IsQuiet}
+use Rattle.tj_words.proofs.Stores.Columns.{at_two, put_kept}
 
-module _ {B : Type 0} (cells : ℕ) (x y : Contents B) where
+module _ {B : Type 0} (x y : Parts B) where
   -- each cell shows what it showed, and so do OTHERS and the waits cleared
   pub record ShowsSame : Type 0 where
-    pub drawn : drawn_in cells y ≡ drawn_in cells x
-    pub made : (c : ℕ) → made_of y c ≡ made_of x c
-    pub owner : (c : ℕ) → owner_shown c (hand_of y c) (y.words.own c) ≡ owner_shown c (hand_of x c) (x.words.own c)
-    pub stage : (c : ℕ) → stage_shown c (hand_of y c) (y.words.own c) (y.words.phase c) (held_of y c) (home_of y c)
-        ≡ stage_shown c (hand_of x c) (x.words.own c) (x.words.phase c) (held_of x c) (home_of x c)
-    pub others : y.words.others ≡ x.words.others
-    pub cleared : total y.seats.cleared ≡ total x.seats.cleared
+    pub drawn : y.drawn ≡ x.drawn
+    pub made : (c : ℕ) → made_by (y.held c) (y.home c) + y.making c ≡ made_by (x.held c) (x.home c) + x.making c
+    pub owner : (c : ℕ) → owner_shown c (y.hand c) (y.own c) ≡ owner_shown c (x.hand c) (x.own c)
+    pub stage : (c : ℕ) → stage_shown c (y.hand c) (y.own c) (y.phase c) (y.held c) (y.home c)
+        ≡ stage_shown c (x.hand c) (x.own c) (x.phase c) (x.held c) (x.home c)
+    pub others : y.others ≡ x.others
+    pub cleared : y.cleared ≡ x.cleared
 
-  pub quiet_by : ShowsSame → IsQuiet cells x y
-  quiet_by s born maker j = record {
+  pub same_shown : ShowsSame → (born : List Reference) (maker : ℕ → ℕ) → shown_by born maker y ≡ shown_by born maker x
+  same_shown s born maker j = record {
     count = s.drawn j;
     cells = λ c. cond (nat_lt c (s.drawn j)) (record {
       maker = maker c;
@@ -36,6 +41,32 @@ module _ {B : Type 0} (cells : ℕ) (x y : Contents B) where
     }) blank;
     others = s.others j;
     cleared = s.cleared j;
+  }
+
+module _ {B : Type 0} (cells : ℕ) (x y : Contents B) where
+  -- parts that show the same, of which a step makes those of the contents
+  pub quiet_parts : (z : Parts B) → parts_of cells y ≡ z → ShowsSame (parts_of cells x) z → IsQuiet cells x y
+  quiet_parts z e s born maker = ap (shown_by born maker) e ∙ same_shown (parts_of cells x) z s born maker
+
+  -- a cell in hand is marked: it shows its maker and its sort
+  pub mark_shown : (c : ℕ) (h h' : Hand) (p : Phase) → MarksPromise cells x y c h h' p → IsQuiet cells x y
+  mark_shown c h h' p s = quiet_parts (record (parts_of cells x) {
+    hand = put (hand_of x) c (Some h');
+    phase = put x.words.phase c p;
+  }) s.parts record {
+    drawn = refl;
+    made = λ d. refl;
+    owner = put_kept (λ d o. owner_shown d o (x.words.own d)) (hand_of x) c (Some h')
+        ((λ j. Some (first_owner (s.same_hand.2 j) (s.same_hand.1 j) c))
+        ∙ ap (λ o. owner_shown c o (x.words.own c)) (sym s.in_hand));
+    stage = λ d. at_two (hand_of x) x.words.phase c (Some h') p
+        (λ d o q. stage_shown d o (x.words.own d) q (held_of x d) (home_of x d)
+        ≡ stage_shown d (hand_of x d) (x.words.own d) (x.words.phase d) (held_of x d) (home_of x d)) d
+        (ap hand_stage s.same_hand.2
+        ∙ ap (λ o. stage_shown c o (x.words.own c) (x.words.phase c) (held_of x c) (home_of x c)) (sym s.in_hand))
+        (λ _. refl);
+    others = refl;
+    cleared = refl;
   }
 
 -- what a cell shows of the seat that holds it is what the task does

@@ -50,7 +50,11 @@ use Rattle.tj_words.proofs.Stores.SeatLists.{of_seat_set}
 use Rattle.tj_words.proofs.Stores.WordStores.{hand_here}
 use Rattle.tj_words.proofs.Holders.HeldTasks.{hand_found, none_some, one_some}
 use Rattle.tj_words.specs.Steps.StepEvents.{IsQuiet}
-use Rattle.tj_words.proofs.Events.QuietCells.{quiet_by}
+use Rattle.tj_words.specs.Steps.OneStates.{KeepsCells}
+use Rattle.tj_words.specs.Steps.QuietSteps.{MarksPromise}
+use Rattle.tj_words.specs.Steps.ShownParts.{parts_of}
+use Rattle.tj_words.proofs.Stores.Columns.{at_two}
+use Rattle.tj_words.proofs.Events.QuietCells.{same_shown}
 use Rattle.tj_core.specs.CoreFacts.{CoreFacts}
 use Rattle.tj_words.specs.CallLaws.EventCalls.{Keeping}
 use Rattle.tj_words.proofs.Meaning.LawMeant.{ground_of, law_meant}
@@ -296,7 +300,7 @@ module _ {B : Type 0} {program : Program B} {cells : ℕ} {x : Contents B} (r : 
   looked = record x { words = record x.words { phase = phase' }; seats = record x.seats { hands = hands' } }
 
   looks_quiet : IsQuiet cells x looked
-  looks_quiet = quiet_by cells x looked record {
+  looks_quiet = same_shown (parts_of cells x) (parts_of cells looked) record {
     drawn = refl;
     made = λ t j. made_by (held_of x t) (home_of x t) + made t j;
     owner = λ c. owner_same c (x.words.own c) (hand_of x c) (hand_in hands' c) (x.words.phase c) (phase' c) (k.same c);
@@ -347,20 +351,17 @@ module _ {B : Type 0} {program : Program B} {cells : ℕ} {x : Contents B} (r : 
     facts = subst CoreFacts (sym (looks_quiet r.born r.maker)) r.facts;
   }
 
-  -- nothing is shown, and makers and numbers of cells stay
-  pub looks_keep : Keeping cells x looked (IsQuiet cells x looked)
-  looks_keep = (
-    looks_quiet,
-    record {
-      there = λ d i. record { out = (there_on k n d i).1; parent_is = refl; kid_is = refl };
-      hands = λ d h e. let b = maker_after k d h e in inl (record {
-        hand = b.0;
-        in_hand = b.1;
-        maker_is = sym b.2;
-        made_is = λ j. made_by (held_of x h.maker) (home_of x h.maker) + made h.maker j;
-      });
-    },
-  )
+  -- makers and numbers of cells stay
+  pub looks_keep : KeepsCells cells x looked
+  looks_keep = record {
+    there = λ d i. record { out = (there_on k n d i).1; parent_is = refl; kid_is = refl };
+    hands = λ d h e. let b = maker_after k d h e in inl (record {
+      hand = b.0;
+      in_hand = b.1;
+      maker_is = sym b.2;
+      made_is = λ j. made_by (held_of x h.maker) (home_of x h.maker) + made h.maker j;
+    });
+  }
 
 -- a seat's hand says something else of the same cell, and PHASE of the cell is p: where the cell looks as before, so do
 -- all
@@ -378,14 +379,19 @@ module _ {B : Type 0} {program : Program B} {cells : ℕ} {x : Contents B} (r : 
   only : (j : ℕ) (g : Hand) → j ≢ id → get_elem? x.seats.hands j ≡ some (Some g) → g.cell ≢ c
   only j g d e q = d (r.hands.apart j id g h e has q)
 
+  hands_at : hand_in hands_now ≡ put (hand_of x) c (Some (record h' { cell = c }))
+  hands_at j d = at_put (hand_of x) c (Some (record h' { cell = c })) (λ d y. hand_in hands_now d ≡ y) d
+      (hand_set x.seats.hands id c (Some h) (Some (record h' { cell = c })) has only
+      ∙ own_cell (record h' { cell = c }) None)
+      (λ n. hand_kept x.seats.hands id d (Some h) (Some (record h' { cell = c })) has
+      (λ rest. other_cell (record h' { cell = c }) d rest n ∙ sym (other_cell h d rest n))) j
+
   pub looks_put : KeepsLooks (hand_of x) (hand_in hands_now) x.words.phase (put x.words.phase c p)
   looks_put = record {
-    same = λ d. at_put x.words.phase c p (λ d q. look (hand_in hands_now d) q ≡ look (hand_of x d) (x.words.phase d)) d
-        ((λ j. look ((hand_set x.seats.hands id c (Some h) (Some (record h' { cell = c })) has only
-        ∙ own_cell (record h' { cell = c }) None) j) p)
-        ∙ (e ∙ (λ j. look (sym (hand_here r id h has) j) (x.words.phase c))))
-        (λ n j. look (hand_kept x.seats.hands id d (Some h) (Some (record h' { cell = c })) has
-        (λ rest. other_cell (record h' { cell = c }) d rest n ∙ sym (other_cell h d rest n)) j) (x.words.phase d));
+    same = λ d. (λ j. look (hands_at j d) (put x.words.phase c p d))
+        ∙ at_two (hand_of x) x.words.phase c (Some (record h' { cell = c })) p
+        (λ d o q. look o q ≡ look (hand_of x d) (x.words.phase d)) d
+        (e ∙ (λ j. look (sym (hand_here r id h has) j) (x.words.phase c))) (λ _. refl);
   }
 
   pub making_put : (t : ℕ) → making hands_now t ≡ making x.seats.hands t
@@ -424,6 +430,19 @@ module _ {B : Type 0} {program : Program B} {cells : ℕ} {x : Contents B} (r : 
       → Law program cells (looked r hands_now (put x.words.phase c p) looks_put making_put)
   law_put is right = law_looks r hands_now (put x.words.phase c p) looks_put making_put (hands_put is right) hands_keep
 
+  -- the cell is marked, which is all that is changed
   pub put_keeps : Keeping cells x (looked r hands_now (put x.words.phase c p) looks_put making_put)
-      (IsQuiet cells x (looked r hands_now (put x.words.phase c p) looks_put making_put))
-  put_keeps = looks_keep r hands_now (put x.words.phase c p) looks_put making_put
+      (MarksPromise cells x (looked r hands_now (put x.words.phase c p) looks_put making_put) c h
+      (record h' { cell = c }) p)
+  put_keeps = (
+    record {
+      in_hand = hand_here r id h has;
+      same_hand = (refl, one_some h'.maker h.maker (λ j. (e j).maker), λ j. (e j).sort);
+      parts = λ j. record (parts_of cells x) {
+        hand = hands_at j;
+        making = λ t. making_put t j;
+        phase = put x.words.phase c p;
+      };
+    },
+    looks_keep r hands_now (put x.words.phase c p) looks_put making_put,
+  )

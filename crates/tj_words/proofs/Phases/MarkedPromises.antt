@@ -22,7 +22,7 @@ use Rattle.tj_words.specs.Law.{Law, Rule}
 use Rattle.tj_words.specs.SeatViews.SeatSteps.{SeatMe}
 use Rattle.tj_words.specs.Calls.DrawViews.{MayMark, mark, marked_promise, mark_store}
 use Rattle.tj_words.specs.CallLaws.EventCalls.{Keeping}
-use Rattle.tj_words.specs.Steps.StepEvents.{IsQuiet}
+use Rattle.tj_words.specs.Steps.QuietSteps.{MarksPromise}
 use Rattle.tj_words.proofs.Phases.Looks.{hands_now, law_put, looked, looks_put, making_put, put_keeps}
 use Rattle.tj_words.proofs.Stores.StepContents.{stored}
 use Rattle.tj_words.proofs.Stores.SeatContents.{seats_same}
@@ -77,12 +77,13 @@ module _ {B : Type 0} (program : Bool → B → Program B) (key : Key B) (s : St
       (sym (marks (phase_word phase.Promise) refl))
       (law_put r.law id h h' has phase.Promise same refl (subst (λ o. IsMarkedRight o true) (sym m.promise) tt)))
 
-  -- and a call that makes it shows nothing
+  -- and a call that makes it marks the promise
   pub mark_keeps : (y : Contents B) (n : ℕ) → phase_in n ≡ phase.Promise
       → y ≡ stored s id (Phase c) n (marked_promise v)
-      → Keeping key.cells (contents_of s) y (IsQuiet key.cells (contents_of s) y)
-  mark_keeps y n is e = subst (λ z. Keeping key.cells (contents_of s) z (IsQuiet key.cells (contents_of s) z))
-      (sym (e ∙ marks n is)) (put_keeps r.law id h h' has phase.Promise same)
+      → Keeping key.cells (contents_of s) y (MarksPromise key.cells (contents_of s) y c h h' phase.Promise)
+  mark_keeps y n is e = back (λ j. Keeping key.cells (contents_of s) ((e ∙ marks n is) j)
+      (MarksPromise key.cells (contents_of s) ((e ∙ marks n is) j) (sym m.its_cell j) h h' phase.Promise))
+      (put_keeps r.law id h h' has phase.Promise same)
 
 pub mark_allowed : {B : Type 0} (program : Bool → B → Program B) (key : Key B)
     (slots id : ℕ) (m : SeatMe B) (c i n : ℕ) → c < key.cells → i ≡ phase_at c

@@ -69,7 +69,7 @@ module _ {B : Type 0} {program : Program B} {cells : ℕ} {x : Contents B} (r : 
     here : hand_of x h.cell ≡ Some h
     here = hand_here id h has
 
-    not_root : h.cell ≢ 0
+    pub not_root : h.cell ≢ 0
     not_root = hand_not_root h here
 
     drawn : h.cell < drawn_in cells x
@@ -78,7 +78,7 @@ module _ {B : Type 0} {program : Program B} {cells : ℕ} {x : Contents B} (r : 
     its_maker : r.maker h.cell ≡ h.maker
     its_maker = (r.births.in_hand h.cell h here).0
 
-    maker_there : IsThere (drawn_in cells x) (hand_of x) h.maker
+    pub maker_there : IsThere (drawn_in cells x) (hand_of x) h.maker
     maker_there = subst (IsThere (drawn_in cells x) (hand_of x)) its_maker (r.births.makers_there h.cell drawn)
 
     sort_here : (y : Reference) → IsCell r.born h.cell y → y.sort ≡ h.sort

@@ -1,6 +1,6 @@
 -- That the store of Promise, the stores of OWN and the draws that find a cell change what the law of steps says, and
 -- leave makers and numbers of cells. The table is under its rule.
-use Rattle.std.specs.Prelude.{◌≡◌, ◌≢◌, ℕ, suc, ◌<◌, Bool, Option, None}
+use Rattle.std.specs.Prelude.{◌≡◌, ◌≢◌, ℕ, suc, ◌<◌, Bool, true, Option, None}
 use Rattle.atomic_table.specs.Table.{Act, keeps, takes}
 use Rattle.tj_base.specs.declared.cell.Sort.{Sort}
 use Rattle.tj_base.specs.declared.cell.Sort.TheVariants as sort
@@ -9,10 +9,10 @@ use Rattle.tj_words.specs.declared.phase.Phase.TheVariants as phase
 use Rattle.tj_words.specs.declared.record.Rec.{Rec}
 use Rattle.tj_words.specs.Calls.DrawViews.{MayDraw, MayGive, MayMark, draw_step, mark_store, new_hand}
 use Rattle.tj_words.specs.Words.Offsets.{count_at, own_at, phase_at}
-use Rattle.tj_words.specs.Steps.OwnerSteps.{ClosesPromise, ClosesResult, DrawsCell, HandsPromise}
+use Rattle.tj_words.specs.Steps.OwnerSteps.{ClosesPromise, ClosesResult, DrawsCell, GivesOwner, HandsPromise}
 use Rattle.tj_words.specs.Calls.OwnerViews.{MayClose, MayHand, owner_put}
 use Rattle.tj_words.specs.Words.Phases.{phase_in}
-use Rattle.tj_words.specs.Steps.StepEvents.{IsQuiet}
+use Rattle.tj_words.specs.Steps.QuietSteps.{MarksPromise}
 use Rattle.tj_words.specs.SeatViews.SeatSteps.{Tells}
 use Rattle.tj_words.specs.CallLaws.EventCalls.{Keeping}
 use Rattle.tj_words.specs.CallLaws.TaskCalls.{OfSteps}
@@ -23,7 +23,7 @@ module _ (B : Type 0) where
   PromiseStoresMark = (c : ℕ) → OfSteps B keeps (phase_at c)
       (λ program cells n st m k m'. (phase_in n ≡ phase.Promise) × mark_store st m k m')
       (λ program cells x y id m. (h : MayMark c m.0)
-      → Keeping cells x y (IsQuiet cells x y))
+      → Keeping cells x y (MarksPromise cells x y c h.hand (record h.hand { marked = true }) phase.Promise))
 
   -- what a store of OWN of c tells at which this is stored
   abbrev pub stores_owner : ℕ → ℕ → (Bool → B → Program B) → ℕ → ℕ → Tells B
@@ -33,7 +33,7 @@ module _ (B : Type 0) where
   abbrev pub FirstOwnersGive : Type 0
   FirstOwnersGive = (c o : ℕ) → OfSteps B keeps (own_at c) (stores_owner c (suc o))
       (λ program cells x y id m. (h : MayGive c o m.0)
-      → Keeping cells x y (IsQuiet cells x y))
+      → Keeping cells x y (GivesOwner cells x y id h.hand.maker c h.hand))
 
   -- the store of a child
   abbrev pub ChildStoresHand : Type 0

@@ -16,8 +16,10 @@ use Rattle.tj_words.specs.declared.view.Does.TheVariants as does
 use Rattle.tj_words.specs.declared.view.Custody.{Custody}
 use Rattle.tj_words.specs.Words.Lists.{cell}
 use Rattle.tj_words.specs.LawParts.Hands.{making}
-use Rattle.tj_words.specs.LawParts.ShownState.{reference_of}
-use Rattle.tj_words.specs.LawParts.Contents.{Contents, drawn_in, held_of}
+use Rattle.tj_words.specs.LawParts.Holding.{made_by}
+use Rattle.tj_words.specs.LawParts.ShownState.{first_owner, reference_of}
+use Rattle.tj_words.specs.LawParts.Contents.{Contents, drawn_in, hand_of, held_of, home_of}
+use Rattle.tj_base.specs.Puts.{put}
 use Rattle.tj_words.specs.Steps.ShownParts.{parts_of, IsSameButOwner, IsDrawn}
 use Rattle.tj_words.specs.Steps.StepEvents.{MayAct, IsHeldWith}
 use Rattle.tj_words.specs.Steps.WalkSteps.{KeepsOthers}
@@ -91,3 +93,25 @@ module _ {B : Type 0} (cells : ℕ) (x y : Contents B) (id t : ℕ) where
     pub new_held : (k : Custody B) → held_of y (drawn_in cells x) ≡ Some k → k.made ≡ 0
     pub same : IsDrawn t h (parts_of cells x) (parts_of cells y)
     pub keeps : KeepsOthers cells x y
+
+  -- the first store of OWN of cell c, in hand of seat id: its owner is the one that is shown already, and its maker t has
+  -- made one thing more and makes none; nothing else that is shown is changed but what a seat has for t and for c
+  pub record GivesOwner (c : ℕ) (h : Hand) : Type 0 where
+    pub in_hand : get_elem? x.seats.hands id ≡ some (Some h)
+    pub hand_maker : h.maker ≡ t
+    pub hand_cell : h.cell ≡ c
+    pub marked : h.sort ≡ sort.Promise → x.words.phase c ≡ phase.Promise
+    pub before_it : Custody B
+    pub after_it : Custody B
+    pub held : IsHeldWith x id t before_it
+    pub held_now : held_of y t ≡ Some after_it
+    pub does_same : after_it.does ≡ before_it.does
+    pub made : after_it.made ≡ suc before_it.made
+    pub new_made : made_by (held_of y c) (home_of x c) ≡ made_by (held_of x c) (home_of x c)
+    pub helds : (d : ℕ) → d ≢ t → d ≢ c → held_of y d ≡ held_of x d
+    pub parts : parts_of cells y ≡ record (parts_of cells x) {
+      hand = put (hand_of x) c None;
+      making = put (making x.seats.hands) t 0;
+      own = put x.words.own c (Some (first_owner h.sort t c));
+      held = held_of y;
+    }

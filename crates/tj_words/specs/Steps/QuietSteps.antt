@@ -12,9 +12,13 @@ use Rattle.tj_words.specs.declared.record.Rec.{Rec}
 use Rattle.tj_words.specs.declared.view.Does.{Does}
 use Rattle.tj_words.specs.declared.view.Does.TheVariants as does
 use Rattle.tj_words.specs.declared.view.Custody.{Custody}
+use Rattle.tj_words.specs.declared.view.Hand.{Hand}
+use Rattle.tj_words.specs.declared.phase.Phase.{Phase}
+use Rattle.tj_base.specs.Puts.{put}
 use Rattle.tj_words.specs.Words.Lists.{cell}
 use Rattle.tj_words.specs.LawParts.Hands.{IsThere}
 use Rattle.tj_words.specs.LawParts.Contents.{Contents, hand_of, drawn_in, home_of}
+use Rattle.tj_words.specs.Steps.ShownParts.{parts_of}
 use Rattle.tj_words.specs.Steps.StepEvents.{IsMoved}
 use Rattle.tj_words.specs.Steps.WalkSteps.{KeepsOthers, Proceeds, Leaves}
 
@@ -123,3 +127,13 @@ module _ {B : Type 0} (cells : ℕ) (x y : Contents B) where
       pub turns : Proceeds cells x y id t d d
       pub there : IsThere (drawn_in cells x) (hand_of x) t
       pub keeps : KeepsOthers cells x y
+
+  -- the store of a phase of cell c, which is in hand as h: it is in hand as h' from then on, of the same maker and sort,
+  -- and nothing else that is shown is changed
+  pub record MarksPromise (c : ℕ) (h h' : Hand) (p : Phase) : Type 0 where
+    pub in_hand : hand_of x c ≡ Some h
+    pub same_hand : (h'.cell ≡ h.cell) × (h'.maker ≡ h.maker) × (h'.sort ≡ h.sort)
+    pub parts : parts_of cells y ≡ record (parts_of cells x) {
+      hand = put (hand_of x) c (Some h');
+      phase = put x.words.phase c p;
+    }

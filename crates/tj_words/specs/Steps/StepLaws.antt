@@ -20,9 +20,9 @@ use Rattle.tj_words.specs.Steps.WalkSteps.{RaisesOthers, PublishesWait, ReadsOth
 use Rattle.tj_words.specs.Steps.WalkSteps.{ReadsAgain, StoresAlarm, StoresParked, ClearsWait, LowersOthers}
 use Rattle.tj_words.specs.Steps.QuietSteps.{LoadsOnly, StoresOnce, ChangesLive, ChangesStop, ChangesHead, ChangesNext}
 use Rattle.tj_words.specs.Steps.QuietSteps.{DrawIsRefused, SplitsSeat, MergesSeats, ClaimsTask, ReleasesTask, EndsTask}
-use Rattle.tj_words.specs.Steps.QuietSteps.{ShelvesTask, MovesRecord}
+use Rattle.tj_words.specs.Steps.QuietSteps.{ShelvesTask, MovesRecord, MarksPromise}
 use Rattle.tj_words.specs.Steps.OwnerSteps.{next_reference, draw_event, HandsPromise, ClosesPromise, ClosesResult}
-use Rattle.tj_words.specs.Steps.OwnerSteps.{DrawsCell}
+use Rattle.tj_words.specs.Steps.OwnerSteps.{DrawsCell, GivesOwner}
 
 -- a moment: the contents of a table of so many cells, under the law
 pub record Moment (B : Type 0) : Type 0 where
@@ -66,7 +66,12 @@ module _ (B : Type 0) where
   abbrev pub OnceStoresShow : Type 0
   OnceStoresShow = (m : Moment B) (y : Contents B) → StoresOnce m.now y → Quiet m y
 
-  -- OWN: the store of a child is a Hand
+  -- OWN: the first store shows nothing
+  abbrev pub FirstOwnersShow : Type 0
+  FirstOwnersShow = (m : Moment B) (y : Contents B) (id t c : ℕ) (h : Hand)
+      → GivesOwner m.cells m.now y id t c h → Quiet m y
+
+  -- the store of a child is a Hand
   abbrev pub HandsShow : Type 0
   HandsShow = (m : Moment B) (y : Contents B) (id t p c : ℕ)
       → HandsPromise m.cells m.now y id t p c
@@ -106,6 +111,11 @@ module _ (B : Type 0) where
   abbrev pub AlarmsShow : Type 0
   AlarmsShow = (m : Moment B) (y : Contents B) (id t p : ℕ) (way : Way) (w : Walker)
       → StoresAlarm m.cells m.now y id t p way w → Shows m y (event.Alarm (cell t))
+
+  -- the store of Promise shows nothing
+  abbrev pub MarksShow : Type 0
+  MarksShow = (m : Moment B) (y : Contents B) (c : ℕ) (h h' : Hand) (p : Phase)
+      → MarksPromise m.cells m.now y c h h' p → Quiet m y
 
   -- the store of Ready shows nothing
   abbrev pub ReleasesShow : Type 0

@@ -1,3 +1,4 @@
+use Rattle.tj_words.proofs.Events.QuietCells.{mark_shown}
 use Rattle.tj_words.proofs.Events.QuietMoves.{release_shown, end_shown}
 use Rattle.tj_words.proofs.Events.WalkEvents.{publish_shown, settle_shown, alarm_shown}
 use Rattle.tj_words.proofs.laws.phase_stores.Goals as goal
@@ -16,3 +17,6 @@ returns-clause-alarmed g c = λ m y id t p way w s. alarm_shown m.law y id t p w
 
 pub returns-clause-ended : goal.returns-clause-ended
 returns-clause-ended g c = λ m y id t s. end_shown m.law y id t s
+
+pub returns-clause-promise : goal.returns-clause-promise
+returns-clause-promise g c = λ m y d h h' p s. mark_shown m.cells m.now y d h h' p s m.law.born m.law.maker
