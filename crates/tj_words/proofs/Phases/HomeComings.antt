@@ -160,7 +160,7 @@ module _ {B : Type 0} {program : Program B} {cells : ℕ} {x : Contents B} (r : 
     }
 
     -- the record moves
-    moves : IsThere n (hand_of x) t → MovesRecord cells x after_home id t does.Unborn
+    pub moves : IsThere n (hand_of x) t → MovesRecord cells x after_home id t does.Unborn
     moves there = record {
       turns = record {
         before_it = k;

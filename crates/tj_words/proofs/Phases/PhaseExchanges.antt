@@ -24,7 +24,7 @@ use Rattle.tj_words.specs.declared.phase.Phase.TheVariants as phase
 use Rattle.tj_words.specs.declared.view.Noted.TheVariants as note
 use Rattle.tj_words.specs.LawParts.Lots.{IsSpent, IsWithinLot}
 use Rattle.tj_words.specs.Calls.TakenRecords.{custody_of, took_record, IsKnownRecord, TakesRecord}
-use Rattle.tj_words.specs.Calls.ExchangeViews.{without_first, woke_first, KnowsTable, MayClear}
+use Rattle.tj_words.specs.Calls.ExchangeViews.{without_first, woke_first, went_back, KnowsTable, MayClear}
 use Rattle.tj_words.specs.Calls.ExchangeViews.{MayWake, MayGoBack, MayClearFrom, MaySwap}
 use Rattle.tj_words.specs.Calls.ExchangeViews.{Claims, Wakes, GoesBack, Swaps, phase_swap}
 use Rattle.tj_words.specs.Calls.ParkSteps.{parked_way}
@@ -47,7 +47,14 @@ use Rattle.tj_words.proofs.Seating.Merging.{all_append}
 use Rattle.tj_words.proofs.Events.QuietMoves.{claim_shown}
 use Rattle.tj_words.proofs.Holders.RecordSteps.{out_fit, kept_fit, woken_fits}
 use Rattle.tj_words.proofs.Stores.SeatContents.{set_seats, seats_same}
-use Rattle.tj_words.proofs.Stores.SeatLists.{of_seat_here}
+use Rattle.tj_words.proofs.Stores.SeatLists.{back, of_seat_here}
+use Rattle.tj_words.proofs.Stores.StepContents.{stored, stored_with}
+use Rattle.tj_words.proofs.Calls.KeptCells.{kept_moved}
+use Rattle.tj_words.specs.CallLaws.EventCalls.{Keeping}
+use Rattle.tj_words.specs.Steps.QuietSteps.{ClaimsTask}
+use Rattle.tj_words.specs.Steps.WalkSteps.{ClearsWait}
+use Rattle.tj_words.specs.SeatViews.Views.{stepped_on}
+use Rattle.tj_body.specs.declared.point.Reference.{Reference}
 use Rattle.tj_words.proofs.Holders.SeatTasks.{hold_here, hold_else, same_but, taken_moved}
 use Rattle.tj_words.proofs.Stores.SlotStores.{StoresWith, Acts, acts_keeping, acts_taking}
 use Rattle.tj_words.proofs.Seating.Splitting.{total_set}
@@ -198,9 +205,9 @@ module _ {B : Type 0} (program : Bool → B → Program B) (key : Key B) (s : St
       knows_more = all_append (IsThere n (hand_of x)) (record_cells c) v.known (law.names.records t c kept.1.1)
           knows_there
 
-      -- the contents and the view after it, with these tokens, waits cleared and pushes
-      abbrev after : ℕ → ℕ → List Push → Contents B
-      after tokens cleared pushes = record {
+      -- the contents and the view after it, with what the seat has learnt, these tokens, waits cleared and pushes
+      abbrev after : List Reference → List Filled → ℕ → ℕ → List Push → Contents B
+      after born extra tokens cleared pushes = record {
         words = record x.words { phase = put x.words.phase t phase.Running };
         slots = slots;
         seats = record y {
@@ -208,25 +215,44 @@ module _ {B : Type 0} (program : Bool → B → Program B) (key : Key B) (s : St
           cleared = set y.cleared id cleared;
           tasks = set y.tasks id new;
           known = set y.known id (record_cells c ++ v.known);
-          born_seen = set y.born_seen id law.born;
-          filled = set y.filled id (more ++ v.filled);
+          born_seen = set y.born_seen id born;
+          filled = set y.filled id (extra ++ v.filled);
           pushes = set y.pushes id pushes;
         };
       }
 
-      abbrev took : ℕ → ℕ → List Push → View B
-      took tokens cleared pushes = record (took_record c law.born more v) {
+      abbrev took : Rec B → List Reference → List Filled → ℕ → ℕ → List Push → View B
+      took a born extra tokens cleared pushes = record (took_record a born extra v) {
         steps = suc v.steps;
         tokens = tokens;
         cleared = cleared;
         pushes = pushes;
       }
 
-      moved : (tokens cleared : ℕ) (pushes : List Push)
-          → IsMoved key.cells x (after tokens cleared pushes) t phase.Running (Some k) None
-      moved tokens cleared pushes = taken_moved law (after tokens cleared pushes) id t v.tasks k phase.Running c None
-          (mine (λ u. u.tasks)) kept.0 of_task refl refl refl refl (here phase.Running) (else phase.Running) out
-          (λ u m. home_else_out s.homes t u m) kept.1.1 (unheld law t kept.0) refl
+      moved : (born : List Reference) (extra : List Filled) (tokens cleared : ℕ) (pushes : List Push)
+          → IsMoved key.cells x (after born extra tokens cleared pushes) t phase.Running (Some k) None
+      moved born extra tokens cleared pushes = taken_moved law (after born extra tokens cleared pushes) id t v.tasks k
+          phase.Running c None (mine (λ u. u.tasks)) kept.0 of_task refl refl refl refl (here phase.Running)
+          (else phase.Running) out (λ u m. home_else_out s.homes t u m) kept.1.1 (unheld law t kept.0) refl
+
+      -- what the exchange leaves
+      pub takes_path : (number : ℕ) → phase_in number ≡ phase.Running → (a : Rec B) → a ≡ c → (born : List Reference)
+          (extra : List Filled) (tokens cleared : ℕ) (pushes : List Push)
+          → stored_with s id (table_word.Phase t) number slots (took a born extra tokens cleared pushes)
+          ≡ after born extra tokens cleared pushes
+      takes_path number is a same born extra tokens cleared pushes j = record {
+        words = record x.words { phase = put x.words.phase t (is j) };
+        slots = slots;
+        seats = record (seats_same s.views id v at j) {
+          tokens = set y.tokens id tokens;
+          cleared = set y.cleared id cleared;
+          tasks = set y.tasks id (hold (custody_of (same j)) v.tasks);
+          known = set y.known id (record_cells (same j) ++ v.known);
+          born_seen = set y.born_seen id born;
+          filled = set y.filled id (extra ++ v.filled);
+          pushes = set y.pushes id pushes;
+        };
+      }
 
       taken : HomeMove law id t phase.Running v.tasks new slots
       taken = record {
@@ -265,8 +291,8 @@ module _ {B : Type 0} (program : Bool → B → Program B) (key : Key B) (s : St
           → Chains (tag_in x) x.words.head x.words.next (put x.words.phase t phase.Running) (set y.pushes id pushes)
           y.shuts y.rests y.closed y.found
           → LiveCount key.cells x.words.live (put x.words.phase t phase.Running) (set y.tokens id tokens) y.rested
-          → CoreFacts (core_shown key.cells law.born law.maker (after tokens cleared pushes))
-          → Law P key.cells (after tokens cleared pushes)
+          → CoreFacts (core_shown key.cells law.born law.maker (after law.born more tokens cleared pushes))
+          → Law P key.cells (after law.born more tokens cleared pushes)
       law_took tokens cleared pushes chains live facts =
           law_moved law id t phase.Running v.tasks new slots taken (record_cells c ++ v.known) (set y.tokens id tokens)
           (set y.cleared id cleared) (set y.born_seen id law.born) (set y.filled id (more ++ v.filled))
@@ -290,8 +316,8 @@ module _ {B : Type 0} (program : Bool → B → Program B) (key : Key B) (s : St
       -- what a step owes at which the seat takes the record
       took_stores : KnowsTable v → (tokens cleared : ℕ) (pushes : List Push) → tokens ≤ v.lot → cleared ≤ v.lot
           → (Holds HasAlarmed v → 0 < tokens)
-          → Law P key.cells (after tokens cleared pushes)
-          → StoresWith program key s slots id (phase_at t) (phase_word phase.Running) (took tokens cleared pushes)
+          → Law P key.cells (after law.born more tokens cleared pushes)
+          → StoresWith program key s slots id (phase_at t) (phase_word phase.Running) (took c law.born more tokens cleared pushes)
       took_stores table tokens cleared pushes fit room alarms h = record {
         inside = inside;
         as_many = length-set s.homes t none;
@@ -306,30 +332,20 @@ module _ {B : Type 0} (program : Bool → B → Program B) (key : Key B) (s : St
             tokens_fit = fit;
             cleared_fit = room;
           };
-          backing = backing_running (took tokens cleared pushes) (t, k, held_now, first_runs c.answer)
+          backing = backing_running (took c law.born more tokens cleared pushes) (t, k, held_now, first_runs c.answer)
               (λ a. dite (ℕ_discrete a.0 t)
               (λ z. absurd (first_calm c.answer (subst (λ (b : Custody B). HasAlarmed b.does)
               (one_some a.1 k (sym (ap (held_in new) (sym z) ∙ a.2) ∙ held_now)) a.3)))
               (λ m. alarms (a.0, a.1, sym (held_same a.0 m) ∙ a.2, a.3)));
           known_born = λ d i. born_at P key.cells x law d (knows_more d i).0;
         };
-        law = subst (λ z. Law P key.cells
-            (record { words = z; slots = slots; seats = set_seats y id (took tokens cleared pushes) }))
-            (sym (say_phase s.words (phase_word phase.Running) t inside))
-            (subst (λ z. Law P key.cells (record {
-              words = record (words_say s.words) { phase = put (words_say s.words).phase t phase.Running };
-              slots = slots;
-              seats = z;
-            }))
-            (sym (ap (λ (z : SeatsHave B). record z {
-              tokens = set y.tokens id tokens;
-              cleared = set y.cleared id cleared;
-              tasks = set y.tasks id new;
-              known = set y.known id (record_cells c ++ v.known);
-              born_seen = set y.born_seen id law.born;
-              filled = set y.filled id (more ++ v.filled);
-              pushes = set y.pushes id pushes;
-            }) (seats_same s.views id v at))) h);
+        law = subst (λ z. Law P key.cells (record {
+          words = z;
+          slots = slots;
+          seats = set_seats y id (took c law.born more tokens cleared pushes);
+        })) (sym (say_phase s.words (phase_word phase.Running) t inside))
+            (subst (Law P key.cells)
+            (sym (takes_path (phase_word phase.Running) refl c refl law.born more tokens cleared pushes)) h);
       }
 
   -- a claim
@@ -345,35 +361,72 @@ module _ {B : Type 0} (program : Bool → B → Program B) (key : Key B) (s : St
     claim_ready = subst (λ z. IsRecordIn (tag_in x) z claim_kept.1.0) stands
         (law.records_fit t claim_kept.1.0 claim_kept.1.1)
 
+    abbrev claimed : Rec B
+    claimed = claim_kept.1.0
+
+    claim_there : IsThere n (hand_of x) t
+    claim_there = begun_there law t claim_begun
+
+    claim_task : phase_sort (x.words.phase t) ≡ sort.Task
+    claim_task = ap phase_sort stands
+
+    -- the seat claims the task
+    abbrev claims : (born : List Reference) (extra : List Filled) → ClaimsTask key.cells x
+        (after claim_there claim_task claim_kept claim_ready born extra v.tokens v.cleared v.pushes) t claimed
+    claims born extra = record {
+      ready = stands;
+      lies = claim_kept.1.1;
+      has = custody_of claimed;
+      first = refl;
+      home = None;
+      moved = moved claim_there claim_task claim_kept claim_ready born extra v.tokens v.cleared v.pushes;
+      keeps = record {
+        others = refl;
+        cleared = ap total (set_again y.cleared id v.cleared (mine (λ u. u.cleared)));
+      };
+    }
+
+    pub claim_keeps : (z : Contents B) (number : ℕ) → phase_in number ≡ phase.Running → (a : Rec B) → home_of x t ≡ Some a
+        → (born : List Reference) (extra : List Filled)
+        → z ≡ stored_with s id (table_word.Phase t) number (set s.homes t none) (stepped_on (took_record a born extra v))
+        → Keeping key.cells x z (ClaimsTask key.cells x z t a)
+    claim_keeps z number is a lay born extra e = back (λ j. Keeping key.cells x ((e ∙ left) j)
+        (ClaimsTask key.cells x ((e ∙ left) j) t (same j)))
+        (claims born extra, kept_moved key.cells x now t phase.Running (Some (custody_of claimed)) None (claims born extra).moved refl)
+      where
+        now : Contents B
+        now = after claim_there claim_task claim_kept claim_ready born extra v.tokens v.cleared v.pushes
+
+        same : a ≡ claimed
+        same = one_some a claimed (sym lay ∙ claim_kept.1.1)
+
+        left : stored_with s id (table_word.Phase t) number (set s.homes t none) (stepped_on (took_record a born extra v))
+            ≡ after claim_there claim_task claim_kept claim_ready born extra v.tokens v.cleared v.pushes
+        left = takes_path claim_there claim_task claim_kept claim_ready number is a same born extra v.tokens v.cleared v.pushes
+
     claim_acts : KnowsTable v → (m : SeatMe B) → m.0 ≡ v
         → Acts program key s id m (phase_at t) (phase_word phase.Running) (Claims program t m)
     unfolding takes
     claim_acts table m is = acts_taking program key s r id m (phase_at t) (phase_word phase.Running)
         (Claims program t m)
-        view t (Some c') (slot_has s.homes t c' claim_kept.1.1)
-        (took_stores there was_task claim_kept claim_ready table v.tokens v.cleared v.pushes within.tokens_fit
+        view t (Some claimed) (slot_has s.homes t claimed claim_kept.1.1)
+        (took_stores claim_there claim_task claim_kept claim_ready table v.tokens v.cleared v.pushes within.tokens_fit
         within.cleared_fit (r.seats id v at).backing.alarms
-        (law_took there was_task claim_kept claim_ready v.tokens v.cleared v.pushes chains live facts))
-        (subst (λ z. Claims program t (z, m.1) (view, (t, Some c') ∷ m.1)) (sym is)
-        (c', takes there was_task claim_kept claim_ready, refl))
+        (law_took claim_there claim_task claim_kept claim_ready v.tokens v.cleared v.pushes chains live facts))
+        (subst (λ z. Claims program t (z, m.1) (view, (t, Some claimed) ∷ m.1)) (sym is)
+        (claimed, takes claim_there claim_task claim_kept claim_ready, refl))
       where
-        c' : Rec B
-        c' = claim_kept.1.0
-
-        there : IsThere n (hand_of x) t
-        there = begun_there law t claim_begun
-
-        was_task : phase_sort (x.words.phase t) ≡ sort.Task
-        was_task = ap phase_sort stands
+        learns : List Filled
+        learns = more claim_there claim_task claim_kept claim_ready
 
         within : IsWithinLot v
         within = (r.seats id v at).within_lot
 
         view : View B
-        view = took there was_task claim_kept claim_ready v.tokens v.cleared v.pushes
+        view = took claim_there claim_task claim_kept claim_ready claimed law.born learns v.tokens v.cleared v.pushes
 
         now : Contents B
-        now = after there was_task claim_kept claim_ready v.tokens v.cleared v.pushes
+        now = after claim_there claim_task claim_kept claim_ready law.born learns v.tokens v.cleared v.pushes
 
         chains : Chains (tag_in x) x.words.head x.words.next (put x.words.phase t phase.Running)
             (set y.pushes id v.pushes) y.shuts y.rests y.closed y.found
@@ -386,22 +439,11 @@ module _ {B : Type 0} (program : Bool → B → Program B) (key : Key B) (s : St
             (ap (λ z. live_part z + v.tokens) (sym stands))
 
         facts : CoreFacts (core_shown key.cells law.born law.maker now)
-        facts = facts_same key.cells law.born law.maker x now (claim_shown law now t c' record {
-          ready = stands;
-          lies = claim_kept.1.1;
-          has = custody_of c';
-          first = refl;
-          home = None;
-          moved = moved there was_task claim_kept claim_ready v.tokens v.cleared v.pushes;
-          keeps = record {
-            others = refl;
-            cleared = ap total (set_again y.cleared id v.cleared (mine (λ u. u.cleared)));
-          };
-        }) law.facts
+        facts = facts_same key.cells law.born law.maker x now (claim_shown law now t claimed (claims law.born learns))
+            law.facts
 
   -- an exchange of a task that is parked on p, of which something has become
-  module _ (keeps : EventKeepsFacts) (p : ℕ) (way : Way) (stands : x.words.phase t ≡ parked_phase p way)
-      (tagged : tag_in x p ≢ 0) (clears : MayClear way v) where
+  module _ (p : ℕ) (way : Way) (stands : x.words.phase t ≡ parked_phase p way) (tagged : tag_in x p ≢ 0) where
     clear_begun : IsBegun (x.words.phase t)
     clear_begun = subst IsBegun (sym stands) tt
 
@@ -422,189 +464,234 @@ module _ {B : Type 0} (program : Bool → B → Program B) (key : Key B) (s : St
     closed : x.words.own p ≡ None
     closed = (law.once_words.valued p once.Tag (λ z. z) tagged).1
 
-    spent : v.tokens - 1 ≤ v.lot
-    spent = let f = (r.seats id v at).within_lot.tokens_fit in omega arith
-
     even : live_part (parked_phase p way) ≡ live_part (x.words.phase t)
     even = ap live_part (sym stands)
 
-    -- its seat takes it back
-    back_acts : KnowsTable v → (e : Push) → IsIn e v.pushes → e.task ≡ t → (Holds HasAlarmed v → 1 < v.tokens)
-        → (m : SeatMe B)
-        → m.0 ≡ v
-        → Acts program key s id m (phase_at t) (phase_word phase.Running) (GoesBack program t p way m)
-    unfolding takes
-    back_acts table e in_pushes its alarms m is =
-        acts_taking program key s r id m (phase_at t) (phase_word phase.Running) (GoesBack program t p way m) view t
-        (Some c') (slot_has s.homes t c' clear_kept.1.1)
-        (took_stores clear_there was_task clear_kept clear_ready table tokens cleared pushes spent clears.room
-        (λ h. let l = alarms h in omega arith)
-        (law_took clear_there was_task clear_kept clear_ready tokens cleared pushes chains live facts))
-        (subst (λ z. GoesBack program t p way (z, m.1) (view, (t, Some c') ∷ m.1)) (sym is)
-        (c', takes clear_there was_task clear_kept clear_ready, was_parked.1, refl))
+    clear_task : phase_sort (x.words.phase t) ≡ sort.Task
+    clear_task = ap phase_sort stands
+
+    abbrev parked_one : Rec B
+    parked_one = clear_kept.1.0
+
+    -- the tokens, waits cleared and pushes of a seat that takes it back
+    abbrev tokens : ℕ
+    tokens = v.tokens - 1
+
+    abbrev cleared : ℕ
+    cleared = v.cleared + raised_by_way way
+
+    abbrev pushes : List Push
+    pushes = without_push t v.pushes
+
+    abbrev goes_back : (born : List Reference) (extra : List Filled) → ClearsWait key.cells x
+        (after clear_there clear_task clear_kept clear_ready born extra tokens cleared pushes) t p way phase.Running
+        (Some (custody_of parked_one))
+    goes_back born extra = record {
+      home = None;
+      goes = inr (refl, refl, (custody_of parked_one, refl, ap does_first was_parked.1.2));
+      parked = stands;
+      closed = closed;
+      moved = moved clear_there clear_task clear_kept clear_ready born extra tokens cleared pushes;
+      others = refl;
+      cleared = cleared_more way;
+    }
+
+    pub back_keeps : (z : Contents B) (number : ℕ) → phase_in number ≡ phase.Running → (a : Rec B) → home_of x t ≡ Some a
+        → (born : List Reference) (extra : List Filled)
+        → z ≡ stored_with s id (table_word.Phase t) number (set s.homes t none)
+        (went_back t way (took_record a born extra v))
+        → Keeping key.cells x z (ClearsWait key.cells x z t p way phase.Running (Some (custody_of a)))
+    back_keeps z number is a lay born extra e = back (λ j. Keeping key.cells x ((e ∙ left) j)
+        (ClearsWait key.cells x ((e ∙ left) j) t p way phase.Running (Some (custody_of (same j))))) (
+          goes_back born extra,
+          kept_moved key.cells x now t phase.Running (Some (custody_of parked_one)) None
+              (goes_back born extra).moved refl,
+        )
       where
-        c' : Rec B
-        c' = clear_kept.1.0
-
-        tokens : ℕ
-        tokens = v.tokens - 1
-
-        cleared : ℕ
-        cleared = v.cleared + raised_by_way way
-
-        pushes : List Push
-        pushes = without_push t v.pushes
-
-        was_task : phase_sort (x.words.phase t) ≡ sort.Task
-        was_task = ap phase_sort stands
-
-        view : View B
-        view = took clear_there was_task clear_kept clear_ready tokens cleared pushes
-
         now : Contents B
-        now = after clear_there was_task clear_kept clear_ready tokens cleared pushes
+        now = after clear_there clear_task clear_kept clear_ready born extra tokens cleared pushes
 
-        chains : Chains (tag_in x) x.words.head x.words.next (put x.words.phase t phase.Running)
-            (set y.pushes id pushes) y.shuts y.rests y.closed y.found
-        chains = chains_run law.chains t phase.Running id v.pushes e (mine (λ u. u.pushes)) in_pushes its running_free
+        same : a ≡ parked_one
+        same = one_some a parked_one (sym lay ∙ clear_kept.1.1)
 
-        live : LiveCount key.cells x.words.live (put x.words.phase t phase.Running) (set y.tokens id tokens) y.rested
-        live = count_turned law.live_count t phase.Running id v.tokens tokens small (mine (λ u. u.tokens))
-            (let f = even in let g = clears.token in omega arith)
+        left : stored_with s id (table_word.Phase t) number (set s.homes t none)
+            (went_back t way (took_record a born extra v))
+            ≡ after clear_there clear_task clear_kept clear_ready born extra tokens cleared pushes
+        left = takes_path clear_there clear_task clear_kept clear_ready number is a same born extra tokens cleared pushes
 
-        facts : CoreFacts (core_shown key.cells law.born law.maker now)
-        facts = facts_after keeps (clear_shown law now t p way phase.Running (Some (custody_of c')) record {
-          home = None;
-          goes = inr (refl, refl, (custody_of c', refl, ap does_first was_parked.1.2));
-          parked = stands;
-          closed = closed;
-          moved = moved clear_there was_task clear_kept clear_ready tokens cleared pushes;
-          others = refl;
-          cleared = cleared_more way;
-        }) law.facts
+    -- the contents where it is woken
+    abbrev woke : Contents B
+    woke = record {
+      words = record x.words { phase = put x.words.phase t phase.Ready };
+      slots = s.homes;
+      seats = record y {
+        tokens = set y.tokens id (v.tokens - 1);
+        cleared = set y.cleared id (v.cleared + raised_by_way way);
+        tasks = set y.tasks id v.tasks;
+        known = set y.known id v.known;
+        rests = set y.rests id (without_first v.rest);
+      };
+    }
 
-    -- it is made ready, where it is the first of a rest
-    wake_acts : (q : Rest) (left : List ℕ) → v.rest ≡ Some q → q.tasks ≡ t ∷ left → Backing (woke_first way v)
-        → (m : SeatMe B)
-        → m.0 ≡ v
-        → Acts program key s id m (phase_at t) (phase_word phase.Ready) (Wakes way m)
-    wake_acts q left has first backing m is =
-        acts_keeping program key s r id m (phase_at t) (phase_word phase.Ready) (Wakes way m) (woke_first way v)
-        record {
-          inside = inside;
-          as_many = refl;
-          may = may_store key.cells (table_word.Phase t) (phase_word phase.Ready)
-              (record { code = refl; waits = λ d w u e. cc });
-          seat = let h = r.seats id v at in record {
-            about = h.about;
-            named = h.named;
-            within_lot = record {
-              least = h.within_lot.least;
-              refused_fit = h.within_lot.refused_fit;
-              tokens_fit = spent;
-              cleared_fit = clears.room;
+    unheld_now : held_in v.tasks t ≡ None
+    unheld_now = unheld_here clear_there clear_task clear_kept
+
+    stays : HomeMove law id t phase.Ready v.tasks v.tasks s.homes
+    stays = record {
+      at = mine (λ u. u.tasks);
+      same = λ u m. refl;
+      there = clear_there;
+      was_task = clear_task;
+      is_task = refl;
+      goes = ready_goes;
+      its_record = clear_kept.1.0;
+      free = clear_kept.0;
+      lay = clear_kept.1.1;
+      apart = λ u m. refl;
+      lies = λ z e. e;
+      walks = law.names.walks id v.tasks (mine (λ u. u.tasks));
+      made = λ j. made_by (unheld_now j) (clear_kept.1.1 j);
+      owned = λ j. owned_by (unheld_now j) (clear_kept.1.1 j);
+      holder = None;
+      kept = (refl, clear_kept.1);
+      custody = λ a e. no_some unheld_now e;
+      holds = λ j e. no_some refl e;
+    }
+
+    -- what a wake leaves
+    wakes_path : (number : ℕ) → phase_in number ≡ phase.Ready
+        → stored s id (table_word.Phase t) number (woke_first way v) ≡ woke
+    wakes_path number is j = record {
+      words = record x.words { phase = put x.words.phase t (is j) };
+      slots = s.homes;
+      seats = record (seats_same s.views id v at j) {
+        tokens = set y.tokens id (v.tokens - 1);
+        cleared = set y.cleared id (v.cleared + raised_by_way way);
+        tasks = set y.tasks id v.tasks;
+        known = set y.known id v.known;
+        rests = set y.rests id (without_first v.rest);
+      };
+    }
+
+    abbrev wakes : ClearsWait key.cells x woke t p way phase.Ready None
+    wakes = record {
+      home = home_of x t;
+      goes = inl (refl, refl, refl);
+      parked = stands;
+      closed = closed;
+      moved = record {
+        same = same_but law woke id t v.tasks v.tasks (mine (λ u. u.tasks)) (λ u m. refl) refl refl refl refl
+            (else phase.Ready) (λ u m. refl);
+        phase_is = here phase.Ready;
+        held_is = found_new law id t phase.Ready v.tasks v.tasks s.homes stays ∙ unheld_now;
+        home_is = refl;
+        made = sym (ap (λ (o : Option (Custody B)). made_by o (home_of x t)) (unheld law t clear_kept.0));
+      };
+      others = refl;
+      cleared = cleared_more way;
+    }
+
+    pub wake_keeps : (z : Contents B) (number : ℕ) → phase_in number ≡ phase.Ready
+        → z ≡ stored s id (table_word.Phase t) number (woke_first way v)
+        → Keeping key.cells x z (ClearsWait key.cells x z t p way phase.Ready None)
+    wake_keeps z number is e = subst (λ z. Keeping key.cells x z (ClearsWait key.cells x z t p way phase.Ready None))
+        (sym (e ∙ wakes_path number is))
+        (wakes, kept_moved key.cells x woke t phase.Ready None (home_of x t) wakes.moved refl)
+
+    module _ (keeps : EventKeepsFacts) (clears : MayClear way v) where
+      spent : v.tokens - 1 ≤ v.lot
+      spent = let f = (r.seats id v at).within_lot.tokens_fit in omega arith
+
+      -- its seat takes it back
+      back_acts : KnowsTable v → (e : Push) → IsIn e v.pushes → e.task ≡ t → (Holds HasAlarmed v → 1 < v.tokens)
+          → (m : SeatMe B)
+          → m.0 ≡ v
+          → Acts program key s id m (phase_at t) (phase_word phase.Running) (GoesBack program t p way m)
+      unfolding takes
+      back_acts table e in_pushes its alarms m is =
+          acts_taking program key s r id m (phase_at t) (phase_word phase.Running) (GoesBack program t p way m) view t
+          (Some parked_one) (slot_has s.homes t parked_one clear_kept.1.1)
+          (took_stores clear_there clear_task clear_kept clear_ready table tokens cleared pushes spent clears.room
+          (λ h. let l = alarms h in omega arith)
+          (law_took clear_there clear_task clear_kept clear_ready tokens cleared pushes chains live facts))
+          (subst (λ z. GoesBack program t p way (z, m.1) (view, (t, Some parked_one) ∷ m.1)) (sym is)
+          (parked_one, takes clear_there clear_task clear_kept clear_ready, was_parked.1, refl))
+        where
+          learns : List Filled
+          learns = more clear_there clear_task clear_kept clear_ready
+
+          view : View B
+          view = took clear_there clear_task clear_kept clear_ready parked_one law.born learns tokens cleared pushes
+
+          now : Contents B
+          now = after clear_there clear_task clear_kept clear_ready law.born learns tokens cleared pushes
+
+          chains : Chains (tag_in x) x.words.head x.words.next (put x.words.phase t phase.Running)
+              (set y.pushes id pushes) y.shuts y.rests y.closed y.found
+          chains = chains_run law.chains t phase.Running id v.pushes e (mine (λ u. u.pushes)) in_pushes its running_free
+
+          live : LiveCount key.cells x.words.live (put x.words.phase t phase.Running) (set y.tokens id tokens) y.rested
+          live = count_turned law.live_count t phase.Running id v.tokens tokens small (mine (λ u. u.tokens))
+              (let f = even in let g = clears.token in omega arith)
+
+          facts : CoreFacts (core_shown key.cells law.born law.maker now)
+          facts = facts_after keeps (clear_shown law now t p way phase.Running (Some (custody_of parked_one))
+              (goes_back law.born learns)) law.facts
+
+      -- it is made ready, where it is the first of a rest
+      wake_acts : (q : Rest) (left : List ℕ) → v.rest ≡ Some q → q.tasks ≡ t ∷ left → Backing (woke_first way v)
+          → (m : SeatMe B)
+          → m.0 ≡ v
+          → Acts program key s id m (phase_at t) (phase_word phase.Ready) (Wakes way m)
+      wake_acts q left has first backing m is =
+          acts_keeping program key s r id m (phase_at t) (phase_word phase.Ready) (Wakes way m) (woke_first way v)
+          record {
+            inside = inside;
+            as_many = refl;
+            may = may_store key.cells (table_word.Phase t) (phase_word phase.Ready)
+                (record { code = refl; waits = λ d w u e. cc });
+            seat = let h = r.seats id v at in record {
+              about = h.about;
+              named = h.named;
+              within_lot = record {
+                least = h.within_lot.least;
+                refused_fit = h.within_lot.refused_fit;
+                tokens_fit = spent;
+                cleared_fit = clears.room;
+              };
+              backing = backing;
+              known_born = h.known_born;
             };
-            backing = backing;
-            known_born = h.known_born;
-          };
-          law = subst (λ z. Law P key.cells
-              (record { words = z; slots = s.homes; seats = set_seats y id (woke_first way v) }))
-              (sym (say_phase s.words (phase_word phase.Ready) t inside))
-              (subst (λ z. Law P key.cells (record {
-                words = record (words_say s.words) { phase = put (words_say s.words).phase t phase.Ready };
-                slots = s.homes;
-                seats = z;
-              }))
-              (sym (ap (λ (z : SeatsHave B). record z {
-                tokens = set y.tokens id (v.tokens - 1);
-                cleared = set y.cleared id (v.cleared + raised_by_way way);
-                tasks = set y.tasks id v.tasks;
-                known = set y.known id v.known;
-                rests = set y.rests id (without_first v.rest);
-              }) (seats_same s.views id v at))) woken);
-        }
-        (subst (λ z. Wakes way (z, m.1) (woke_first way v, m.1)) (sym is) refl)
-      where
-        was_task : phase_sort (x.words.phase t) ≡ sort.Task
-        was_task = ap phase_sort stands
+            law = subst (λ z. Law P key.cells
+                (record { words = z; slots = s.homes; seats = set_seats y id (woke_first way v) }))
+                (sym (say_phase s.words (phase_word phase.Ready) t inside))
+                (subst (Law P key.cells) (sym (wakes_path (phase_word phase.Ready) refl)) woken);
+          }
+          (subst (λ z. Wakes way (z, m.1) (woke_first way v, m.1)) (sym is) refl)
+        where
+          chains : Chains (tag_in x) x.words.head x.words.next (put x.words.phase t phase.Ready) y.pushes y.shuts
+              (set y.rests id (without_first v.rest)) y.closed y.found
+          chains = subst (λ z. Chains (tag_in x) x.words.head x.words.next (put x.words.phase t phase.Ready) y.pushes
+              y.shuts (set y.rests id z) y.closed y.found)
+              (sym (ap without_first has ∙ ap (λ l. rest_of q.cell (drop 1 l)) first))
+              (chains_ready law.chains t phase.Ready id q left ((mine (λ u. u.rest)) ∙ ap some has) first ready_free)
 
-        now : Contents B
-        now = record {
-          words = record x.words { phase = put x.words.phase t phase.Ready };
-          slots = s.homes;
-          seats = record y {
-            tokens = set y.tokens id (v.tokens - 1);
-            cleared = set y.cleared id (v.cleared + raised_by_way way);
-            tasks = set y.tasks id v.tasks;
-            known = set y.known id v.known;
-            rests = set y.rests id (without_first v.rest);
-          };
-        }
+          live : LiveCount key.cells x.words.live (put x.words.phase t phase.Ready) (set y.tokens id (v.tokens - 1))
+              y.rested
+          live = count_turned law.live_count t phase.Ready id v.tokens (v.tokens - 1) small (mine (λ u. u.tokens))
+              (let f = even in let g = clears.token in omega arith)
 
-        unheld_now : held_in v.tasks t ≡ None
-        unheld_now = unheld_here clear_there was_task clear_kept
+          facts : CoreFacts (core_shown key.cells law.born law.maker woke)
+          facts = facts_after keeps (clear_shown law woke t p way phase.Ready None wakes) law.facts
 
-        stays : HomeMove law id t phase.Ready v.tasks v.tasks s.homes
-        stays = record {
-          at = mine (λ u. u.tasks);
-          same = λ u m. refl;
-          there = clear_there;
-          was_task = was_task;
-          is_task = refl;
-          goes = ready_goes;
-          its_record = clear_kept.1.0;
-          free = clear_kept.0;
-          lay = clear_kept.1.1;
-          apart = λ u m. refl;
-          lies = λ z e. e;
-          walks = law.names.walks id v.tasks (mine (λ u. u.tasks));
-          made = λ j. made_by (unheld_now j) (clear_kept.1.1 j);
-          owned = λ j. owned_by (unheld_now j) (clear_kept.1.1 j);
-          holder = None;
-          kept = (refl, clear_kept.1);
-          custody = λ a e. no_some unheld_now e;
-          holds = λ j e. no_some refl e;
-        }
-
-        chains : Chains (tag_in x) x.words.head x.words.next (put x.words.phase t phase.Ready) y.pushes y.shuts
-            (set y.rests id (without_first v.rest)) y.closed y.found
-        chains = subst (λ z. Chains (tag_in x) x.words.head x.words.next (put x.words.phase t phase.Ready) y.pushes
-            y.shuts (set y.rests id z) y.closed y.found)
-            (sym (ap without_first has ∙ ap (λ l. rest_of q.cell (drop 1 l)) first))
-            (chains_ready law.chains t phase.Ready id q left ((mine (λ u. u.rest)) ∙ ap some has) first ready_free)
-
-        live : LiveCount key.cells x.words.live (put x.words.phase t phase.Ready) (set y.tokens id (v.tokens - 1))
-            y.rested
-        live = count_turned law.live_count t phase.Ready id v.tokens (v.tokens - 1) small (mine (λ u. u.tokens))
-            (let f = even in let g = clears.token in omega arith)
-
-        facts : CoreFacts (core_shown key.cells law.born law.maker now)
-        facts = facts_after keeps (clear_shown law now t p way phase.Ready None record {
-          home = home_of x t;
-          goes = inl (refl, refl, refl);
-          parked = stands;
-          closed = closed;
-          moved = record {
-            same = same_but law now id t v.tasks v.tasks (mine (λ u. u.tasks)) (λ u m. refl) refl refl refl
-                refl (else phase.Ready)
-                (λ u m. refl);
-            phase_is = here phase.Ready;
-            held_is = found_new law id t phase.Ready v.tasks v.tasks s.homes stays ∙ unheld_now;
-            home_is = refl;
-            made = sym (ap (λ (o : Option (Custody B)). made_by o (home_of x t)) (unheld law t clear_kept.0));
-          };
-          others = refl;
-          cleared = cleared_more way;
-        }) law.facts
-
-        woken : Law P key.cells now
-        woken = law_moved law id t phase.Ready v.tasks v.tasks s.homes stays v.known (set y.tokens id (v.tokens - 1))
-            (set y.cleared id (v.cleared + raised_by_way way)) y.born_seen y.filled y.pushes
-            (set y.rests id (without_first v.rest)) knows_there chains live
-            (kept_fit (tag_in x) x.words.phase (home_of x) law.records_fit t (put x.words.phase t phase.Ready)
-            (home_of x) phase.Ready (here phase.Ready) (else phase.Ready) (λ u m. refl) (parked_phase p way) stands refl
-            (λ z h. woken_fits (tag_in x) z (cell p) way walk.Parked tagged h))
-            law.meaning facts
+          woken : Law P key.cells woke
+          woken = law_moved law id t phase.Ready v.tasks v.tasks s.homes stays v.known (set y.tokens id (v.tokens - 1))
+              (set y.cleared id (v.cleared + raised_by_way way)) y.born_seen y.filled y.pushes
+              (set y.rests id (without_first v.rest)) knows_there chains live
+              (kept_fit (tag_in x) x.words.phase (home_of x) law.records_fit t (put x.words.phase t phase.Ready)
+              (home_of x) phase.Ready (here phase.Ready) (else phase.Ready) (λ u m. refl) (parked_phase p way) stands refl
+              (λ z h. woken_fits (tag_in x) z (cell p) way walk.Parked tagged h))
+              law.meaning facts
 
 -- something has become of the cell of which a task is woken, or goes back from
 module _ {B : Type 0} (program : Bool → B → Program B) (key : Key B) (s : State (Option (Rec B)) (View B))
@@ -647,7 +734,7 @@ module _ {B : Type 0} (program : Bool → B → Program B) (key : Key B) (keeps 
         (Swaps program t (parked_phase p way) phase.Running m)
     go_back p way h = (
       stands,
-      let a = back_acts program key s r id t m.0 at small keeps p way stands tagged h.clears
+      let a = back_acts program key s r id t m.0 at small p way stands tagged keeps h.clears
           h.table h.push h.has h.task h.alarms m refl in (
             a.0,
             a.1,
@@ -678,7 +765,7 @@ module _ {B : Type 0} (program : Bool → B → Program B) (key : Key B) (keeps 
         (Swaps program t (parked_phase p way) phase.Ready m)
     wake p way h = (
       stands,
-      let a = wake_acts program key s r id t m.0 at small keeps p way stands tagged h.clears
+      let a = wake_acts program key s r id t m.0 at small p way stands tagged keeps h.clears
           h.rest h.left h.has h.first h.backing m refl in (
             a.0,
             a.1,

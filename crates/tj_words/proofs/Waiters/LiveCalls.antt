@@ -54,7 +54,11 @@ use Rattle.tj_words.proofs.Holders.LaidRecords.{tokens_at, tasks_at, hand_at, la
 use Rattle.tj_words.proofs.Holders.LaidRecords.{task_there, meant, fits, departs_laid}
 use Rattle.tj_words.proofs.Phases.Departures.{Departs, after_leaving, does_leave, law_leaves}
 use Rattle.tj_words.proofs.Holders.LeftSeats.{left_seat}
-use Rattle.tj_words.proofs.Phases.HomeComings.{law_home}
+use Rattle.tj_words.proofs.Phases.HomeComings.{after_home, law_home, moves}
+use Rattle.tj_words.proofs.Calls.KeptCells.{kept_moved, kept_turns}
+use Rattle.tj_words.proofs.Stores.StepContents.{stored_with}
+use Rattle.tj_words.specs.CallLaws.EventCalls.{Keeping}
+use Rattle.tj_words.specs.Steps.QuietSteps.{MovesRecord, ShelvesTask}
 
 module _ {B : Type 0} (program : Bool → B → Program B) (key : Key B) where
   abbrev P : Program B
@@ -171,6 +175,37 @@ module _ {B : Type 0} (program : Bool → B → Program B) (key : Key B) where
       abbrev home_slots : Slots B
       home_slots = laid_slots program key s r id t v at mine k h.held c h.puts h.no_hand
 
+      abbrev came : ℕ → Contents B
+      came live = after_home r.law id t k has (held_task v.tasks t k h.held) h.unborn c home_slots
+          (lies program key s r id t v at mine k h.held c h.puts h.no_hand)
+          (λ u m. set_else s.homes t u (some (Some c)) m) live (set old.tokens id (suc v.tokens))
+
+      -- what the step leaves, whatever it stores
+      up_path : (live : ℕ)
+          → stored_with s id Live live home_slots (came_home t c (with_tokens (suc v.tokens) v)) ≡ came live
+      up_path live j = record {
+        words = record (words_say s.words) { live = live };
+        slots = home_slots;
+        seats = record (seats_same s.views id v at j) {
+          tokens = set old.tokens id (suc v.tokens);
+          tasks = set old.tasks id (noted_is v.tasks t k (now_home c) h.held j);
+        };
+      }
+
+      -- and a call that makes it moves the record
+      pub up_keeps : (y : Contents B) (live : ℕ)
+          → y ≡ stored_with s id Live live home_slots (came_home t c (with_tokens (suc v.tokens) v))
+          → Keeping key.cells x y (MovesRecord key.cells x y id t does.Unborn)
+      up_keeps y live e = subst (λ z. Keeping key.cells x z (MovesRecord key.cells x z id t does.Unborn))
+          (sym (e ∙ up_path live))
+          (goes, kept_turns r.law (came live) id t does.Unborn does.Unborn goes.turns refl)
+        where
+          goes : MovesRecord key.cells x (came live) id t does.Unborn
+          goes = moves r.law id t k has (held_task v.tasks t k h.held) h.unborn c home_slots
+              (lies program key s r id t v at mine k h.held c h.puts h.no_hand)
+              (λ u m. set_else s.homes t u (some (Some c)) m) live (set old.tokens id (suc v.tokens))
+              (task_there program key s r id t v at mine k h.held c h.puts h.no_hand)
+
       up_law : IsBacked v → Law P key.cells record {
         words = record (words_say s.words) { live = suc (word s.words live_at) };
         slots = home_slots;
@@ -240,6 +275,37 @@ module _ {B : Type 0} (program : Bool → B → Program B) (key : Key B) where
       departs = departs_laid program key s r id t v at mine a h.held c h.puts h.no_hand x.words.phase alarm waits
           (λ u m. refl) refl (λ d way w e. (w, waits ∙ e)) (λ o y l. inr l)
 
+      abbrev shelved : ℕ → Contents B
+      shelved live = after_leaving r.law id t x.words.phase alarm shelf departs live (set old.tokens id (v.tokens - 1))
+          old.pushes
+
+      abbrev shelves : (live : ℕ) → ShelvesTask key.cells x (shelved live) id t h.cell h.way h.walker
+      shelves live = record {
+        leaves = does_leave r.law id t x.words.phase alarm shelf departs live (set old.tokens id (v.tokens - 1))
+            old.pushes (does.Alarmed h.cell h.way h.walker) h.alarmed;
+        keeps = record { others = refl; cleared = refl };
+      }
+
+      -- what the step leaves, whatever it stores
+      shelf_path : (live : ℕ)
+          → stored_with s id Live live shelf (without_task t (with_tokens (v.tokens - 1) v)) ≡ shelved live
+      shelf_path live j = record {
+        words = record (words_say s.words) { live = live };
+        slots = shelf;
+        seats = record (seats_same s.views id v at j) {
+          tokens = set old.tokens id (v.tokens - 1);
+          tasks = set old.tasks id (let_go t v.tasks);
+        };
+      }
+
+      -- and a call that makes it shelves the task
+      pub shelf_keeps : (y : Contents B) (live : ℕ)
+          → y ≡ stored_with s id Live live shelf (without_task t (with_tokens (v.tokens - 1) v))
+          → Keeping key.cells x y (ShelvesTask key.cells x y id t h.cell h.way h.walker)
+      shelf_keeps y live e = subst (λ z. Keeping key.cells x z (ShelvesTask key.cells x z id t h.cell h.way h.walker))
+          (sym (e ∙ shelf_path live))
+          (shelves live, kept_moved key.cells x (shelved live) t alarm None (Some c) (shelves live).leaves.moved refl)
+
       module _ (token : 0 < v.tokens) where
         abbrev lower : ℕ
         lower = word s.words live_at - 1
@@ -248,8 +314,7 @@ module _ {B : Type 0} (program : Bool → B → Program B) (key : Key B) where
         fewer = v.tokens - 1
 
         abbrev after_shelf : Contents B
-        after_shelf = after_leaving r.law id t x.words.phase alarm shelf departs lower (set old.tokens id fewer)
-            old.pushes
+        after_shelf = shelved lower
 
         counted : LiveCount key.cells lower x.words.phase (set old.tokens id fewer) old.rested
         counted = (count_down r.law.live_count id fewer
@@ -262,11 +327,7 @@ module _ {B : Type 0} (program : Bool → B → Program B) (key : Key B) where
             (h.unfinished, h.waits))
             (meant program key s r id t v at mine a h.held c h.puts h.no_hand)
             (facts_same key.cells r.law.born r.law.maker x after_shelf
-            (shelve_shown r.law after_shelf id t h.cell h.way h.walker record {
-              leaves = does_leave r.law id t x.words.phase alarm shelf departs lower (set old.tokens id fewer)
-                  old.pushes (does.Alarmed h.cell h.way h.walker) h.alarmed;
-              keeps = record { others = refl; cleared = refl };
-            }) r.law.facts)
+            (shelve_shown r.law after_shelf id t h.cell h.way h.walker (shelves lower)) r.law.facts)
 
         shelf_stores : Backing (without_task t (with_tokens fewer v))
             → StoresWith program key s (set s.homes t (some (Some c))) id live_at lower
