@@ -264,7 +264,8 @@ module _ {B : Type 0} (program : Bool → B → Program B) (key : Key B) (u w : 
         let q = call_marks program key s t r id c n m m' (with_act keeps (phase_at c) h a) is
         (ap (λ (z : SeatMe B). z.0) p) may in
         quiet q.1 (else_cells (phase_at c) h (λ z. omega arith))
-        (mark_shown key.cells x y c may.hand (record may.hand { marked = true }) phase.Promise q.0 r.law.born r.law.maker)
+        (mark_shown key.cells x y c may.hand (record may.hand { marked = true }) phase.Promise q.0 r.law.born
+        r.law.maker)
     puts_phase (phase.Waiting d way walk.Walking) c h l is p may a =
         let q = call_publishes program key s t r id c d.0 n way l m m' (plain (phase_at c) h a) is may p in
         shows (event.Publish (cell c) (cell d.0)) q.1 (else_cells (phase_at c) h (λ z. omega arith))

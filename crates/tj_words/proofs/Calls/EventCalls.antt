@@ -5,7 +5,6 @@ use Rattle.std.proofs.Common.{◌≡◌, ℕ, suc, ◌-◌, ◌<◌, Bool, set, 
 use Rattle.std.proofs.Common.{arith}
 use Rattle.atomic_table.specs.Table.{State}
 use Rattle.atomic_table.proofs.Lists.{at_map}
-use Rattle.tj_base.specs.Puts.{put}
 use Rattle.tj_body.specs.Programs.{Program}
 use Rattle.tj_core.specs.Events.{owner_read, MayReadOwner, start_walk}
 use Rattle.tj_core.specs.declared.walk.Way.{Way}
@@ -40,8 +39,10 @@ use Rattle.tj_words.proofs.Stores.SeatLists.{words_same}
 use Rattle.tj_words.proofs.SeatLoads.WalkLoads.{held_by_view, turned_seats}
 use Rattle.tj_words.proofs.SeatLoads.WalkReads.{doing, task_turned, turned_to}
 use Rattle.tj_words.proofs.Holders.NotedTasks.{noted_is}
-use Rattle.tj_words.proofs.Stores.StoredWords.{say_others, say_phase}
-use Rattle.tj_words.proofs.Phases.WaitStores.{after_store, alarms, publishes}
+use Rattle.tj_words.proofs.Stores.StoredWords.{say_others}
+use Rattle.tj_words.proofs.Phases.WaitStores.{after_store, alarms, noted_path, noted_view, publishes}
+use Rattle.tj_words.proofs.Stores.StepContents.{step_stores}
+use Rattle.tj_words.proofs.Stores.TableWords as table_word
 use Rattle.tj_words.proofs.Calls.KeptCells.{kept_turns, kept_words}
 
 module _ {B : Type 0} (program : Bool → B → Program B) (key : Key B) (s t : State (Option (Rec B)) (View B))
@@ -190,27 +191,9 @@ module _ {B : Type 0} (program : Bool → B → Program B) (key : Key B) (s t : 
   call_notes : (k : Custody B) (held : held_in m.0.tasks c ≡ Some k) (d : Does) (tokens : ℕ) → phase_in n ≡ phase_of d
       → m'.0 ≡ record m.0 { steps = suc m.0.steps; tokens = tokens; tasks = hold (now_does d k) m.0.tasks }
       → contents_of t ≡ after_store program key s r id c p n way inside m.0 h.at k held d tokens
-  call_notes k held d tokens is view = ap contents_of h.after
-      ∙ (λ j. record { words = words j; slots = s.homes; seats = seats j })
-    where
-      words : words_say (set s.words (phase_at c) n)
-          ≡ record (words_say s.words) { phase = put (words_say s.words).phase c (phase_of d) }
-      words = say_phase s.words n c h.inside
-          ∙ ap (λ q. record (words_say s.words) { phase = put (words_say s.words).phase c q }) is
-
-      seats : seats_have (set s.views id m'.0) ≡ record (seats_have s.views) {
-        tokens = set (seats_have s.views).tokens id tokens;
-        tasks = set (seats_have s.views).tasks id (hold (now_does d k) m.0.tasks);
-      }
-      seats = ap (λ v. seats_have (set s.views id v)) view
-          ∙ (seats_set s.views id (record m.0 {
-            steps = suc m.0.steps;
-            tokens = tokens;
-            tasks = hold (now_does d k) m.0.tasks;
-          }) ∙ ap (λ (z : SeatsHave B). record z {
-            tokens = set (seats_have s.views).tokens id tokens;
-            tasks = set (seats_have s.views).tasks id (hold (now_does d k) m.0.tasks);
-          }) (seats_same s.views id m.0 h.at))
+  call_notes k held d tokens is view = step_stores s t id (table_word.Phase c) n m m' h.inside h.after
+      (noted_view program key s r id c p n way inside m.0 k d tokens) view
+      ∙ noted_path program key s r id c p n way inside m.0 h.at k held d tokens is
 
   pub call_publishes : phase_in n ≡ phase.Waiting (cell p) way walk.Walking → (may : MayPublishWait c p way m.0)
       → m' ≡ (published c p way m.0, m.1)

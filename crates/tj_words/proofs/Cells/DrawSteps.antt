@@ -33,9 +33,9 @@ use Rattle.tj_words.specs.LawParts.LiveCount.{HasAlarmed, Holds}
 use Rattle.tj_words.specs.LawParts.ShownState.{reference_of}
 use Rattle.tj_words.specs.Steps.OwnerSteps.{next_reference}
 use Rattle.tj_words.specs.LawParts.TreeWords.{AreCells}
-use Rattle.tj_words.specs.LawParts.Contents.{words_say, SeatsHave, seats_have, Contents, contents_of, drawn_in, held_of}
+use Rattle.tj_words.specs.LawParts.Contents.{words_say, seats_have, Contents, contents_of, drawn_in, held_of}
 use Rattle.tj_words.specs.LawParts.Contents.{home_of, made_of}
-use Rattle.tj_words.specs.Law.{IsRooted, Law, Rule}
+use Rattle.tj_words.specs.Law.{IsRooted, Rule}
 use Rattle.tj_words.specs.SeatViews.TaskLists.{noted}
 use Rattle.tj_words.specs.SeatViews.SeatSteps.{SeatMe}
 use Rattle.tj_words.specs.Calls.DrawViews.{runs_on, new_task, new_tasks, new_slots, drawn_next, drew, was_refused}
@@ -43,13 +43,11 @@ use Rattle.tj_words.specs.Calls.DrawViews.{MayDraw}
 use Rattle.tj_words.specs.Calls.DrawViews.{FindsCell, FindsNone, draw_step}
 use Rattle.tj_words.proofs.Holders.HeldTasks.{none_some, one_some, makes_none, at_index}
 use Rattle.tj_words.proofs.Stores.SeatLists.{back, inside}
-use Rattle.tj_words.proofs.Stores.SeatContents.{set_seats, seats_same}
+use Rattle.tj_words.proofs.Stores.SeatContents.{seats_same}
 use Rattle.tj_words.proofs.Holders.TaskPlaces.{held_here, held_drawn}
-use Rattle.tj_words.proofs.Stores.StoreSteps.{may_store}
-use Rattle.tj_words.proofs.Stores.StoredWords.{say_count}
 use Rattle.tj_words.proofs.Stores.TableWords.{Count}
 use Rattle.tj_words.proofs.Seating.Splitting.{total_set}
-use Rattle.tj_words.proofs.Stores.SlotStores.{StoresWith, Acts, acts_keeping, acts_taking}
+use Rattle.tj_words.proofs.Stores.SlotStores.{StoresWith, Acts, acts_keeping, acts_taking, store_word_with}
 use Rattle.tj_words.proofs.SeatLoads.LoadSteps.{total_fits, knows_so}
 use Rattle.tj_words.proofs.Seating.Merging.{begins_at}
 use Rattle.tj_words.proofs.Waiters.LiveSteps.{backing_running}
@@ -181,65 +179,42 @@ module _ {B : Type 0} (program : Bool → B → Program B) (key : Key B) (keeps 
     -- a draw that finds a cell left
     draw_stores : word s.words count_at < key.cells
         → StoresWith program key s (slots_after n o s.homes) id count_at (suc (word s.words count_at)) drew_view
-    draw_stores left = let y = seats_have s.views in let q = r.seats id v at in let w = drew_view in record {
-      inside = count_room;
-      as_many = many o;
-      may = may_store key.cells Count (suc (word s.words count_at)) tt;
-      seat = record {
-        about = q.about;
-        named = inr (holder_named v t k may.held q.named);
-        within_lot = record {
-          least = inr (holder_lot v t k may.held q.within_lot);
-          refused_fit = q.within_lot.refused_fit;
-          tokens_fit = q.within_lot.tokens_fit;
-          cleared_fit = q.within_lot.cleared_fit;
-        };
-        backing = backing_running w (t, runs_on k, maker_now o, tt) (no_alarm w refl refl);
-        known_born = λ d i. let b = q.known_born d i in (
-          b.0,
-          at_longer r.law.born (drawn_next t o v ∷ []) d b.0
-              (begins_at v.born r.law.born (knows_so program key s r id v at).begins d b.0 b.1),
-        );
-      };
-      law = subst (λ z. Law P key.cells (record {
-        words = z;
-        slots = slots_after n o s.homes;
-        seats = set_seats y id w;
-      }))
-          (sym (say_count s.words (suc (word s.words count_at)) count_room))
-          (subst (λ z. Law P key.cells (record {
-            words = record (words_say s.words) { count = suc (word s.words count_at) };
-            slots = slots_after n o s.homes;
-            seats = z;
-          }))
-          (sym (ap (λ (z : SeatsHave B). record z {
+    draw_stores left = let y = seats_have s.views in let q = r.seats id v at in let w = drew_view in
+        store_word_with program key s id Count (suc (word s.words count_at)) (slots_after n o s.homes) w
+        count_room (many o)
+        tt record {
+          about = q.about;
+          named = inr (holder_named v t k may.held q.named);
+          within_lot = record {
+            least = inr (holder_lot v t k may.held q.within_lot);
+            refused_fit = q.within_lot.refused_fit;
+            tokens_fit = q.within_lot.tokens_fit;
+            cleared_fit = q.within_lot.cleared_fit;
+          };
+          backing = backing_running w (t, runs_on k, maker_now o, tt) (no_alarm w refl refl);
+          known_born = λ d i. let b = q.known_born d i in (
+            b.0,
+            at_longer r.law.born (drawn_next t o v ∷ []) d b.0
+                (begins_at v.born r.law.born (knows_so program key s r id v at).begins d b.0 b.1),
+          );
+        } _ (λ j. record {
+          words = record (words_say s.words) { count = suc (word s.words count_at) };
+          slots = slots_after n o s.homes;
+          seats = record (seats_same s.views id v at j) {
             hands = set y.hands id w.hand;
             tasks = set y.tasks id w.tasks;
             known = set y.known id v.known;
-            born_seen = set y.born_seen id w.born;
+            born_seen = set y.born_seen id (r.law.born ++ next_same j ∷ []);
             wrote = set y.wrote id v.wrote;
             filled = set y.filled id v.filled;
             dues = set y.dues id w.dues;
-          }) (seats_same s.views id v at)))
-          (subst (λ (z : Reference). Law P key.cells (record {
-            words = record (words_say s.words) { count = suc (word s.words count_at) };
-            slots = slots_after n o s.homes;
-            seats = record y {
-              hands = set y.hands id w.hand;
-              tasks = set y.tasks id w.tasks;
-              known = set y.known id v.known;
-              born_seen = set y.born_seen id (r.law.born ++ z ∷ []);
-              wrote = set y.wrote id v.wrote;
-              filled = set y.filled id v.filled;
-              dues = set y.dues id w.dues;
-            };
-          })) (sym next_same)
-          (law_drawn r.law id t o v.tasks v.dues k tasks dues may.held may.may may.result may.out free left keeps
-          v.known
-          v.born v.wrote v.filled (at_map (λ (u : View B). u.known) s.views id v at)
-          (at_map (λ (u : View B). u.born) s.views id v at) (at_map (λ (u : View B). u.wrote) s.views id v at)
-          (at_map (λ (u : View B). u.filled) s.views id v at) named)));
-    }
+          };
+        })
+        (law_drawn r.law id t o v.tasks v.dues k tasks dues may.held may.may may.result may.out free left keeps
+        v.known
+        v.born v.wrote v.filled (at_map (λ (u : View B). u.known) s.views id v at)
+        (at_map (λ (u : View B). u.born) s.views id v at) (at_map (λ (u : View B). u.wrote) s.views id v at)
+        (at_map (λ (u : View B). u.filled) s.views id v at) named)
       where
         many : (p : Sort) → length (slots_after n p s.homes) ≡ length s.homes
         many sort.Promise = refl
@@ -270,46 +245,35 @@ module _ {B : Type 0} (program : Bool → B → Program B) (key : Key B) (keeps 
 
     refused_stores : key.cells ≤ word s.words count_at
         → StoresWith program key s s.homes id count_at (suc (word s.words count_at)) (was_refused v)
-    refused_stores none_left = let y = seats_have s.views in let q = r.seats id v at in
-        let w = was_refused v in record {
-          inside = count_room;
-          as_many = refl;
-          may = may_store key.cells Count (suc (word s.words count_at)) tt;
-          seat = record {
-            about = q.about;
-            named = q.named;
-            within_lot = record {
-              least = q.within_lot.least;
-              refused_fit = (let l = may.room in omega arith);
-              tokens_fit = q.within_lot.tokens_fit;
-              cleared_fit = q.within_lot.cleared_fit;
-            };
-            backing = record { wakes = q.backing.wakes; tags = q.backing.tags; alarms = q.backing.alarms };
-            known_born = q.known_born;
+    refused_stores none_left = let y = seats_have s.views in let q = r.seats id v at in let w = was_refused v in
+        store_word_with program key s id Count (suc (word s.words count_at)) s.homes w count_room refl tt record {
+          about = q.about;
+          named = q.named;
+          within_lot = record {
+            least = q.within_lot.least;
+            refused_fit = (let l = may.room in omega arith);
+            tokens_fit = q.within_lot.tokens_fit;
+            cleared_fit = q.within_lot.cleared_fit;
           };
-          law = subst (λ z. Law P key.cells (record { words = z; slots = s.homes; seats = set_seats y id w }))
-              (sym (say_count s.words (suc (word s.words count_at)) count_room))
-              (subst (λ z. Law P key.cells (record {
-                words = record (words_say s.words) { count = suc (word s.words count_at) };
-                slots = s.homes;
-                seats = z;
-              }))
-              (sym (ap (λ (z : SeatsHave B). record z {
-                lots = set y.lots id v.lot;
-                refused = set y.refused id
-                    w.refused;
-              })
-              (seats_same s.views id v at)))
-              (law_refuses P key.cells x r.law (set y.lots id v.lot) (set y.refused id w.refused) none_left
-              (meaning_full none_left) record {
-                all = ap total (set_again y.lots id v.lot (at_map (λ (u : View B). u.lot) s.views id v at))
-                    ∙ r.law.lots.all;
-                counted = (let a = r.law.lots.counted in
-                    let b = total_set y.refused id v.refused (suc v.refused)
-                    (at_map (λ (u : View B). u.refused) s.views id v at) in
-                    omega arith);
-              }));
-        }
+          backing = record { wakes = q.backing.wakes; tags = q.backing.tags; alarms = q.backing.alarms };
+          known_born = q.known_born;
+        } _ (λ j. record {
+          words = record (words_say s.words) { count = suc (word s.words count_at) };
+          slots = s.homes;
+          seats = record (seats_same s.views id v at j) {
+            lots = set y.lots id v.lot;
+            refused = set y.refused id w.refused;
+          };
+        })
+        (law_refuses P key.cells x r.law (set y.lots id v.lot) (set y.refused id w.refused) none_left
+        (meaning_full none_left) record {
+          all = ap total (set_again y.lots id v.lot (at_map (λ (u : View B). u.lot) s.views id v at))
+              ∙ r.law.lots.all;
+          counted = (let a = r.law.lots.counted in
+              let b = total_set y.refused id v.refused (suc v.refused)
+              (at_map (λ (u : View B). u.refused) s.views id v at) in
+              omega arith);
+        })
 
     none_found : key.cells ≤ word s.words count_at → FindsNone program v (was_refused v)
     none_found none_left = record {

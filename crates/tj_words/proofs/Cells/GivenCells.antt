@@ -1,6 +1,7 @@
 -- The first store of OWN of a cell in hand keeps the law: the cell leaves the hand and is there.
-use Rattle.std.proofs.Common.{◌≡◌, ◌≢◌, ◌⊎◌, ◌↔◌, ℕ, zero, suc, ◌<◌, ◌+◌, Bool, List, [], ◌∷◌, ◌++◌, set, Option, Some, None}
-use Rattle.std.proofs.Common.{refl, sym, ap, ◌∙◌, subst, inl, inr, ⊎_elim, arith, cond, true, false, ne_eqb}
+use Rattle.std.proofs.Common.{◌≡◌, ◌≢◌, ◌⊎◌, ◌↔◌, ℕ, zero, suc, ◌<◌, ◌+◌, Bool, List, [], ◌∷◌, ◌++◌, set, Option}
+use Rattle.std.proofs.Common.{Some, None}
+use Rattle.std.proofs.Common.{refl, sym, ap, ◌∙◌, subst, inl, inr, ⊎_elim, arith, true, false}
 use mathlib.Core.Option.{some, some-injective}
 use mathlib.Core.Logic.{dite}
 use native.Mathlib.Decide.{ℕ_discrete}
@@ -12,7 +13,6 @@ use Rattle.tj_base.proofs.Puts.{at_put, put_here, put_else}
 use Rattle.tj_base.specs.declared.cell.Sort.{Sort}
 use Rattle.tj_base.specs.declared.cell.Sort.TheVariants as sort
 use Rattle.tj_core.specs.CoreFacts.{CoreFacts}
-use Rattle.tj_core.specs.CoreState.{fresh, running}
 use Rattle.tj_body.specs.Points.{IsIn}
 use Rattle.tj_body.specs.Programs.{Program}
 use Rattle.tj_body.specs.declared.point.Reference.{Reference}
@@ -35,14 +35,14 @@ use Rattle.tj_words.specs.LawParts.TreeWords.{IsCell, IsOfTree, IsDue, parent_wo
 use Rattle.tj_words.specs.Steps.OneStates.{IsToldBy, KeepsCells}
 use Rattle.tj_words.specs.LawParts.OnceWords.{HasInHand}
 use Rattle.tj_words.specs.LawParts.Custodies.{OwnedLists}
-use Rattle.tj_words.specs.LawParts.ShownState.{first_owner, new_stage, owner_shown, phase_sort, reference_of, sort_shown, stage_shown}
+use Rattle.tj_words.specs.LawParts.ShownState.{first_owner, phase_sort, reference_of, sort_shown}
 use Rattle.tj_words.specs.SeatViews.TaskLists.{noted}
 use Rattle.tj_words.specs.LawParts.Contents.{words_say, seats_have, Contents, contents_of, drawn_in, hand_of, home_of}
 use Rattle.tj_words.specs.LawParts.Contents.{held_of, owned_of, made_of}
 use Rattle.tj_words.specs.Law.{Law, Rule, IsSeat}
 use Rattle.tj_words.specs.CallLaws.EventCalls.{Keeping}
 use Rattle.tj_words.specs.Calls.DrawViews.{MayGive, made_one, owns_also, maker_made, gave_owner}
-use Rattle.tj_words.proofs.Holders.HeldTasks.{none_some, one_some, makes_one, held_listed}
+use Rattle.tj_words.proofs.Holders.HeldTasks.{none_some, one_some, held_listed}
 use Rattle.tj_words.proofs.Stores.SeatLists.{back, of_seat_else}
 use Rattle.tj_words.proofs.Holders.SeatTasks.{find_changed, find_same, held_alone}
 use Rattle.tj_words.proofs.Holders.TaskPlaces.{custody, held_here}
@@ -50,7 +50,7 @@ use Rattle.tj_words.proofs.Stores.SeatContents.{seats_same}
 use Rattle.tj_words.proofs.Stores.StepContents.{stored}
 use Rattle.tj_words.proofs.Stores.StoreSteps.{Stores, store_word}
 use Rattle.tj_words.proofs.Stores.TableWords.{Own}
-use Rattle.tj_words.proofs.Stores.Columns.{IsAsBefore, IsNoted, at_two, before_doing, before_like, before_on, before_same}
+use Rattle.tj_words.proofs.Stores.Columns.{IsAsBefore, IsNoted, before_doing, before_like, before_on, before_same}
 use Rattle.tj_words.proofs.Stores.Columns.{find_kept, hand_off, making_off, noted_as, noted_on, put_kept}
 use Rattle.tj_words.proofs.Cells.CellFacts.{cell_born}
 use Rattle.tj_words.proofs.Cells.GivenOwners.{given_made, given_shown}
@@ -517,9 +517,9 @@ module _ {B : Type 0} (program : Bool → B → Program B) (key : Key B) (s : St
   -- the first store of an owner is one of the rule
   pub give_stores : c < key.cells → o < key.cells → Stores program key s id (own_at c) (suc o) w
   give_stores lc lo = store_word program key s id (Own c) (suc o) w (let e = r.all_words in omega arith)
-      (omega arith) seat (subst (Law (program key.strict key.root.value) key.cells) (sym (gives (suc o) refl))
+      (omega arith) seat after (gives (suc o) refl)
       (law_given r.law id h has v.tasks v.dues tasks dues m.marked mine done v.known
-      (at_map (λ (u : View B). u.known) s.views id v at)))
+      (at_map (λ (u : View B). u.known) s.views id v at))
 
   -- and a call that makes it gives the cell its owner
   pub give_keeps : (y : Contents B) (n : ℕ) → owner_in n ≡ Some o → y ≡ stored s id (Own c) n w

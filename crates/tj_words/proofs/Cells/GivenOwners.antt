@@ -1,5 +1,5 @@
 -- The first store of OWN of a cell in hand shows nothing: its owner is the one that was shown.
-use Rattle.std.proofs.Common.{◌≡◌, ◌≢◌, ℕ, suc, ◌+◌, cond, Bool, false, Option, Some, None, refl, sym, ap, ◌∙◌, subst, arith}
+use Rattle.std.proofs.Common.{◌≡◌, ◌≢◌, ℕ, ◌+◌, cond, Bool, false, Some, None, refl, sym, ap, ◌∙◌, subst, arith}
 use Rattle.std.proofs.Common.{ne_eqb}
 use mathlib.Core.Option.{some}
 use mathlib.Core.Logic.{dite}
@@ -12,8 +12,6 @@ use Rattle.tj_base.specs.declared.cell.Sort.TheVariants as sort
 use Rattle.tj_core.specs.CoreState.{fresh, running}
 use Rattle.tj_body.specs.Programs.{Program}
 use Rattle.tj_words.specs.declared.phase.Phase.TheVariants as phase
-use Rattle.tj_words.specs.declared.record.Rec.{Rec}
-use Rattle.tj_words.specs.declared.view.Custody.{Custody}
 use Rattle.tj_words.specs.declared.view.Hand.{Hand}
 use Rattle.tj_words.specs.LawParts.Holding.{made_by}
 use Rattle.tj_words.specs.LawParts.Hands.{hand_phase, making, IsMarkedRight}

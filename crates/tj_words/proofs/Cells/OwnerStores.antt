@@ -24,7 +24,7 @@ use Rattle.tj_words.specs.LawParts.Holding.{held_in}
 use Rattle.tj_words.specs.LawParts.ShownState.{first_owner}
 use Rattle.tj_words.specs.LawParts.LiveCount.{HasAlarmed, Backing}
 use Rattle.tj_words.specs.LawParts.Contents.{Contents, SeatsHave, words_say, seats_have, contents_of, drawn_in, hand_of}
-use Rattle.tj_words.specs.Law.{Law, Rule, IsSeat}
+use Rattle.tj_words.specs.Law.{Rule, IsSeat}
 use Rattle.tj_words.specs.SeatViews.SeatSteps.{SeatMe}
 use Rattle.tj_words.specs.Steps.StepEvents.{IsHeldWith, MayAct}
 use Rattle.tj_words.specs.SeatViews.TaskLists.{hold, noted}
@@ -36,7 +36,7 @@ use Rattle.tj_words.proofs.Holders.HeldTasks.{none_some, one_some, hand_finds}
 use Rattle.tj_words.proofs.Stores.SeatContents.{seats_same}
 use Rattle.tj_words.proofs.Holders.TaskPlaces.{list_owned}
 use Rattle.tj_words.proofs.Holders.HeldChanges.{held_task}
-use Rattle.tj_words.proofs.Holders.NotedTasks.{noted_is, holder_lot, holder_named}
+use Rattle.tj_words.proofs.Holders.NotedTasks.{noted_is, holder_seat}
 use Rattle.tj_words.proofs.Holders.NotedEntries.{noted_here, noted_else}
 use Rattle.tj_words.proofs.Waiters.LiveSteps.{backing_running, alarms_else}
 use Rattle.tj_words.proofs.Waiters.Backings.{backing_runs}
@@ -152,8 +152,8 @@ module _ {B : Type 0} (program : Bool → B → Program B) (key : Key B) (s : St
     child_its = held_task v.tasks u m.child m.child_held
 
     abbrev after_hand : Contents B
-    after_hand = handed r.law id m.task c u o.custody held owner_its o.may o.out o.result o.owns m.promise v.dues dues_at
-        m.child m.child_held child_its m.unborn m.child_out m.child_result is_parent
+    after_hand = handed r.law id m.task c u o.custody held owner_its o.may o.out o.result o.owns m.promise v.dues
+        dues_at m.child m.child_held child_its m.unborn m.child_out m.child_result is_parent
 
     list : (handed_promise m.task c u v).tasks ≡ hold (owns_also c m.child) (hold (gave_up c o.custody) v.tasks)
     list = noted_is (gave_view m.task c v).tasks u m.child (owns_also c) (gave_child v c u m)
@@ -189,18 +189,8 @@ module _ {B : Type 0} (program : Bool → B → Program B) (key : Key B) (events
   owner_seat : (v : View B) (t c steps : ℕ) (ks : List (Custody B)) (ds : List Due) → IsOwnersSeat t c v → IsSeat key v
       → Backing (record v { steps = steps; tasks = ks; dues = ds })
       → IsSeat key (record v { steps = steps; tasks = ks; dues = ds })
-  owner_seat v t c steps ks ds m q b = let l = q.within_lot in record {
-    about = q.about;
-    named = inr (holder_named v t m.custody m.held q.named);
-    within_lot = record {
-      least = inr (holder_lot v t m.custody m.held l);
-      refused_fit = l.refused_fit;
-      tokens_fit = l.tokens_fit;
-      cleared_fit = l.cleared_fit;
-    };
-    backing = b;
-    known_born = q.known_born;
-  }
+  owner_seat v t c steps ks ds m q b =
+      holder_seat key v t m.custody m.held q v.tokens ks v.pushes ds q.within_lot.tokens_fit b
 
   -- a seat one of whose tasks gives a cell up is backed, whatever is due then
   gave_backing : (v : View B) (t c steps : ℕ) (ds : List Due) (m : IsOwnersSeat t c v) → Backing v
@@ -220,10 +210,11 @@ module _ {B : Type 0} (program : Bool → B → Program B) (key : Key B) (events
       store_word program key s id (Own c) 0 w (let e = r.all_words in omega arith) (omega arith)
       (owner_seat v m.task c w.steps w.tasks w.dues m.owner (r.seats id v at)
       (gave_backing v m.task c w.steps w.dues m.owner (r.seats id v at).backing))
-      (subst (Law P key.cells) (sym (closes program key s r id c v at m 0 refl))
-      (law_closed r.law id m.task c m.owner.custody (v.tasks, at_map (λ (u : View B). u.tasks) s.views id v at, m.owner.held)
+      _ (closes program key s r id c v at m 0 refl)
+      (law_closed r.law id m.task c m.owner.custody
+      (v.tasks, at_map (λ (u : View B). u.tasks) s.views id v at, m.owner.held)
       (held_task v.tasks m.task m.owner.custody m.owner.held) m.owner.may m.owner.out m.owner.result m.owner.owns
-      (last_here program key s r id c v at m) v.dues (at_map (λ (u : View B). u.dues) s.views id v at) events))
+      (last_here program key s r id c v at m) v.dues (at_map (λ (u : View B). u.dues) s.views id v at) events)
 
   -- the seat that hands a promise is backed
   handed_backing : (v : View B) (c u : ℕ) (m : MayHand c u v) → Backing v → Backing (handed_promise m.task c u v)
@@ -255,11 +246,11 @@ module _ {B : Type 0} (program : Bool → B → Program B) (key : Key B) (events
       store_word program key s id (Own c) (suc u) w (let e = r.all_words in omega arith) (omega arith)
       (owner_seat v m.task c w.steps w.tasks w.dues o (r.seats id v at)
       (handed_backing v c u m (r.seats id v at).backing))
-      (subst (Law P key.cells) (sym (hands_path program key s r id c u v at m (suc u) refl))
+      _ (hands_path program key s r id c u v at m (suc u) refl)
       (law_handed r.law id m.task c u o.custody (v.tasks, tasks, o.held) (held_task v.tasks m.task o.custody o.held)
       o.may o.out o.result o.owns m.promise v.dues (at_map (λ (z : View B). z.dues) s.views id v at) m.child
       m.child_held (held_task v.tasks u m.child m.child_held) m.unborn m.child_out m.child_result
-      (is_parent program key s r id c u v at m) events))
+      (is_parent program key s r id c u v at m) events)
 
   -- a cell has one owner among the tasks of a seat
   one_owner : (s : State (Option (Rec B)) (View B)) (r : Rule program key s) (id c t u : ℕ) (v : View B)

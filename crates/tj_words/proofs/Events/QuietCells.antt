@@ -12,7 +12,8 @@ use Rattle.tj_words.specs.declared.view.Does.{Does}
 use Rattle.tj_words.specs.declared.view.Hand.{Hand}
 use Rattle.tj_words.specs.LawParts.Contents.{Contents, hand_of, held_of, home_of}
 use Rattle.tj_words.specs.LawParts.Holding.{made_by}
-use Rattle.tj_words.specs.LawParts.ShownState.{does_stage, first_owner, hand_stage, owner_shown, reference_of, stage_shown}
+use Rattle.tj_words.specs.LawParts.ShownState.{does_stage, first_owner, hand_stage, owner_shown, reference_of}
+use Rattle.tj_words.specs.LawParts.ShownState.{stage_shown}
 use Rattle.tj_words.specs.Steps.QuietSteps.{MarksPromise}
 use Rattle.tj_words.specs.Steps.ShownParts.{Parts, parts_of, shown_by}
 use Rattle.tj_words.specs.Steps.StepEvents.{IsQuiet}

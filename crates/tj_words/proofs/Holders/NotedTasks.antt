@@ -1,9 +1,13 @@
 -- A seat's list of tasks in which what it has for one of them is noted anew.
-use Rattle.std.proofs.Common.{◌≡◌, ℕ, ◌≤◌, List, Some, ap, ⊎_elim}
+use Rattle.std.proofs.Common.{◌≡◌, ℕ, ◌≤◌, List, Some, ap, inr, ⊎_elim}
 use Rattle.tj_words.specs.declared.view.Custody.{Custody}
 use Rattle.tj_words.specs.declared.view.View.{View}
 use Rattle.tj_words.specs.LawParts.Holding.{held_in}
-use Rattle.tj_words.specs.Law.{IsNamed}
+use Rattle.tj_words.specs.Law.{IsNamed, IsSeat, IsSeatOf, seat_part}
+use Rattle.tj_words.specs.LawParts.LiveCount.{BackingOf}
+use Rattle.tj_words.specs.declared.table.Key.{Key}
+use Rattle.tj_words.specs.declared.view.Due.{Due}
+use Rattle.tj_words.specs.declared.view.Push.{Push}
 use Rattle.tj_words.specs.declared.view.About.{About}
 use Rattle.tj_words.specs.LawParts.Lots.{least_lot, IsSpent, IsWithinLot}
 use Rattle.tj_words.specs.SeatViews.TaskLists.{hold, note, noted}
@@ -28,3 +32,21 @@ pub holder_named : {B : Type 0} (v : View B) (t : ℕ) (k : Custody B) → held_
 holder_named v t k e n = ⊎_elim
     (λ (s : IsSpent v). none_some (held_in v.tasks t) k (ap (λ ks. held_in ks t) s.1) e)
     (λ h. h) n
+
+-- a seat that holds a task, with other tokens, tasks, pushes and dues, is one where it is backed
+pub holder_seat : {B : Type 0} (key : Key B) (v : View B) (t : ℕ) (k : Custody B) → held_in v.tasks t ≡ Some k
+    → IsSeat key v → (tokens : ℕ) (ks : List (Custody B)) (pushes : List Push) (dues : List Due) → tokens ≤ v.lot
+    → BackingOf tokens ks pushes v.shuts v.rest dues
+    → IsSeatOf key (record (seat_part v) { tokens = tokens; tasks = ks; pushes = pushes; dues = dues })
+holder_seat key v t k e h tokens ks pushes dues fits backs = record {
+  about = h.about;
+  named = inr (holder_named v t k e h.named);
+  within_lot = record {
+    least = inr (holder_lot v t k e h.within_lot);
+    refused_fit = h.within_lot.refused_fit;
+    tokens_fit = fits;
+    cleared_fit = h.within_lot.cleared_fit;
+  };
+  backing = backs;
+  known_born = h.known_born;
+}

@@ -106,19 +106,24 @@ module _ {B : Type 0} (program : Bool → B → Program B) (key : Key B) (s : St
       keeps = record { others = refl; cleared = refl };
     }
 
+    -- what the store leaves
+    ends_path : (word : ℕ) → phase_in word ≡ phase.Ended
+        → stored_with s id (table_word.Phase t) word end_slots (ended t v) ≡ after_end
+    ends_path word is j = record {
+      words = record x.words { phase = put x.words.phase t (is j) };
+      slots = end_slots;
+      seats = record (seats_same s.views id v at j) {
+        tokens = set old.tokens id (suc v.tokens);
+        tasks = set old.tasks id (let_go t v.tasks);
+      };
+    }
+
     -- a call that makes the store ends the task
     pub end_keeps : (y : Contents B) (word : ℕ) → phase_in word ≡ phase.Ended
         → y ≡ stored_with s id (table_word.Phase t) word end_slots (ended t v)
         → Keeping key.cells x y (EndsTask key.cells x y id t)
     end_keeps y word is e = subst (λ z. Keeping key.cells x z (EndsTask key.cells x z id t))
-        (sym (e ∙ (λ j. record {
-          words = record x.words { phase = put x.words.phase t (is j) };
-          slots = end_slots;
-          seats = record (seats_same s.views id v at j) {
-            tokens = set old.tokens id (suc v.tokens);
-            tasks = set old.tasks id (let_go t v.tasks);
-          };
-        })))
+        (sym (e ∙ ends_path word is))
         (ends, kept_moved key.cells x after_end t phase.Ended None (Some h.record_of) ends.leaves.moved refl)
 
     end_law : Law P key.cells after_end
@@ -141,4 +146,4 @@ module _ {B : Type 0} (program : Bool → B → Program B) (key : Key B) (s : St
     end_stores word is from = left_stores program key s r id t v at inside phase.Ended word is from refl end_slots
         (as_many program key s r id t v at mine h.custody h.held h.record_of h.puts h.no_hand) (suc v.tokens)
         (left_seat program key s r id t v at (suc v.tokens) h.custody h.held h.room
-        (backing_token (ended t v) (omega arith))) end_law
+        (backing_token (ended t v) (omega arith))) after_end (ends_path word is) end_law

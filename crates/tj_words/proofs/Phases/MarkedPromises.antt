@@ -73,9 +73,8 @@ module _ {B : Type 0} (program : Bool → B → Program B) (key : Key B) (s : St
   mark_stores l = store_word program key s id (Phase c) (phase_word phase.Promise) (marked_promise v)
       (let e = r.all_words in omega arith)
       (record { code = refl; waits = λ d way w e. let z : phase.Promise ≡ phase.Waiting d way w = e in absurd (cc) })
-      (r.seats id v at) (subst (Law (program key.strict key.root.value) key.cells)
-      (sym (marks (phase_word phase.Promise) refl))
-      (law_put r.law id h h' has phase.Promise same refl (subst (λ o. IsMarkedRight o true) (sym m.promise) tt)))
+      (r.seats id v at) after (marks (phase_word phase.Promise) refl)
+      (law_put r.law id h h' has phase.Promise same refl (subst (λ o. IsMarkedRight o true) (sym m.promise) tt))
 
   -- and a call that makes it marks the promise
   pub mark_keeps : (y : Contents B) (n : ℕ) → phase_in n ≡ phase.Promise

@@ -13,7 +13,7 @@ use Rattle.tj_words.specs.Calls.WaitViews.{parked, MayPark}
 use Rattle.tj_words.proofs.Stores.SeatContents.{seats_same}
 use Rattle.tj_words.proofs.Stores.StoreSteps.{put_here, put_else}
 use Rattle.tj_words.proofs.Stores.SlotStores.{StoresWith}
-use Rattle.tj_words.proofs.Phases.PhaseStores.{with_phase, phase_stores}
+use Rattle.tj_words.proofs.Phases.PhaseStores.{phase_stores}
 use Rattle.tj_words.proofs.Holders.TaskPlaces.{custody}
 use Rattle.tj_words.proofs.Waiters.ChainFacts.{held_free}
 use Rattle.tj_words.proofs.Waiters.ChainPhases.{chains_park}
@@ -126,12 +126,6 @@ module _ {B : Type 0} (program : Bool → B → Program B) (key : Key B) (s : St
   pub parked_stores : t < key.cells → EventKeepsFacts → (word : ℕ) → IsPhaseWord key.cells word → phase_in word ≡ q
       → StoresWith program key s (set s.homes t (some (Some h.record_of))) id (phase_at t) word (parked t p way v)
   parked_stores inside kept word code is = phase_stores program key s r id t inside slots
-      (as_many program key s r id t v at me.1 k h.walks.held h.record_of h.puts h.no_hand) q word is code
-      (parked t p way v) (more_seat program key v (parked t p way v) t p way h.walks (r.seats id v at) refl)
-      (subst
-      (λ z. Law P key.cells record { words = with_phase program key s r id t inside q; slots = slots; seats = z })
-      (sym (ap (λ (y : SeatsHave B). record y {
-        tokens = tokens;
-        tasks = set old.tasks id (let_go t v.tasks);
-        pushes = pushes;
-      }) (seats_same s.views id v at))) (law inside kept))
+      (as_many program key s r id t v at me.1 k h.walks.held h.record_of h.puts h.no_hand) word code (parked t p way v)
+      (more_seat program key v (parked t p way v) t p way h.walks (r.seats id v at) refl) after (parks word is)
+      (law inside kept)

@@ -46,7 +46,7 @@ use Rattle.tj_words.proofs.Meaning.MeaningSteps.{out_meant}
 use Rattle.tj_words.proofs.Seating.Merging.{all_append}
 use Rattle.tj_words.proofs.Events.QuietMoves.{claim_shown}
 use Rattle.tj_words.proofs.Holders.RecordSteps.{out_fit, kept_fit, woken_fits}
-use Rattle.tj_words.proofs.Stores.SeatContents.{set_seats, seats_same}
+use Rattle.tj_words.proofs.Stores.SeatContents.{seats_same}
 use Rattle.tj_words.proofs.Stores.SeatLists.{back, of_seat_here}
 use Rattle.tj_words.proofs.Stores.StepContents.{stored, stored_with}
 use Rattle.tj_words.proofs.Calls.KeptCells.{kept_moved}
@@ -56,12 +56,11 @@ use Rattle.tj_words.specs.Steps.WalkSteps.{ClearsWait}
 use Rattle.tj_words.specs.SeatViews.Views.{stepped_on}
 use Rattle.tj_body.specs.declared.point.Reference.{Reference}
 use Rattle.tj_words.proofs.Holders.SeatTasks.{hold_here, hold_else, same_but, taken_moved}
-use Rattle.tj_words.proofs.Stores.SlotStores.{StoresWith, Acts, acts_keeping, acts_taking}
+use Rattle.tj_words.proofs.Stores.SlotStores.{StoresWith, Acts, acts_keeping, acts_taking, store_word_with}
 use Rattle.tj_words.proofs.Seating.Splitting.{total_set}
 use Rattle.tj_words.proofs.Events.StepFacts.{facts_after, facts_same}
-use Rattle.tj_words.proofs.Stores.StoredWords.{say_phase}
 use Rattle.tj_words.proofs.Stores.TableWords as table_word
-use Rattle.tj_words.proofs.Stores.StoreSteps.{put_here, put_else, may_store}
+use Rattle.tj_words.proofs.Stores.StoreSteps.{put_here, put_else}
 use Rattle.tj_words.proofs.Holders.TakingRecords.{first_phase, first_runs, first_calm, first_cells, slot_has}
 use Rattle.tj_words.proofs.Holders.TakingRecords.{owns_itself}
 use Rattle.tj_words.proofs.Holders.TakingRecords.{learnt}
@@ -317,36 +316,28 @@ module _ {B : Type 0} (program : Bool → B → Program B) (key : Key B) (s : St
       took_stores : KnowsTable v → (tokens cleared : ℕ) (pushes : List Push) → tokens ≤ v.lot → cleared ≤ v.lot
           → (Holds HasAlarmed v → 0 < tokens)
           → Law P key.cells (after law.born more tokens cleared pushes)
-          → StoresWith program key s slots id (phase_at t) (phase_word phase.Running) (took c law.born more tokens cleared pushes)
-      took_stores table tokens cleared pushes fit room alarms h = record {
-        inside = inside;
-        as_many = length-set s.homes t none;
-        may = may_store key.cells (table_word.Phase t) (phase_word phase.Running)
-            (record { code = refl; waits = λ d way q e. cc });
-        seat = let q = r.seats id v at in record {
-          about = q.about;
-          named = inr table;
-          within_lot = record {
-            least = inr (⊎_elim (λ (e : IsSpent v). no_some e.0 table.1) (λ e. e) q.within_lot.least);
-            refused_fit = q.within_lot.refused_fit;
-            tokens_fit = fit;
-            cleared_fit = room;
-          };
-          backing = backing_running (took c law.born more tokens cleared pushes) (t, k, held_now, first_runs c.answer)
-              (λ a. dite (ℕ_discrete a.0 t)
-              (λ z. absurd (first_calm c.answer (subst (λ (b : Custody B). HasAlarmed b.does)
-              (one_some a.1 k (sym (ap (held_in new) (sym z) ∙ a.2) ∙ held_now)) a.3)))
-              (λ m. alarms (a.0, a.1, sym (held_same a.0 m) ∙ a.2, a.3)));
-          known_born = λ d i. born_at P key.cells x law d (knows_more d i).0;
-        };
-        law = subst (λ z. Law P key.cells (record {
-          words = z;
-          slots = slots;
-          seats = set_seats y id (took c law.born more tokens cleared pushes);
-        })) (sym (say_phase s.words (phase_word phase.Running) t inside))
-            (subst (Law P key.cells)
-            (sym (takes_path (phase_word phase.Running) refl c refl law.born more tokens cleared pushes)) h);
-      }
+          → StoresWith program key s slots id (phase_at t) (phase_word phase.Running)
+          (took c law.born more tokens cleared pushes)
+      took_stores table tokens cleared pushes fit room alarms h = store_word_with program key s id (table_word.Phase t)
+          (phase_word phase.Running) slots (took c law.born more tokens cleared pushes) inside
+          (length-set s.homes t none) record { code = refl; waits = λ d way q e. cc } (
+          let q = r.seats id v at in record {
+            about = q.about;
+            named = inr table;
+            within_lot = record {
+              least = inr (⊎_elim (λ (e : IsSpent v). no_some e.0 table.1) (λ e. e) q.within_lot.least);
+              refused_fit = q.within_lot.refused_fit;
+              tokens_fit = fit;
+              cleared_fit = room;
+            };
+            backing = backing_running (took c law.born more tokens cleared pushes) (t, k, held_now, first_runs c.answer)
+                (λ a. dite (ℕ_discrete a.0 t)
+                (λ z. absurd (first_calm c.answer (subst (λ (b : Custody B). HasAlarmed b.does)
+                (one_some a.1 k (sym (ap (held_in new) (sym z) ∙ a.2) ∙ held_now)) a.3)))
+                (λ m. alarms (a.0, a.1, sym (held_same a.0 m) ∙ a.2, a.3)));
+            known_born = λ d i. born_at P key.cells x law d (knows_more d i).0;
+          }) (after law.born more tokens cleared pushes)
+          (takes_path (phase_word phase.Running) refl c refl law.born more tokens cleared pushes) h
 
   -- a claim
   module _ (stands : x.words.phase t ≡ phase.Ready) where
@@ -386,13 +377,17 @@ module _ {B : Type 0} (program : Bool → B → Program B) (key : Key B) (s : St
       };
     }
 
-    pub claim_keeps : (z : Contents B) (number : ℕ) → phase_in number ≡ phase.Running → (a : Rec B) → home_of x t ≡ Some a
-        → (born : List Reference) (extra : List Filled)
-        → z ≡ stored_with s id (table_word.Phase t) number (set s.homes t none) (stepped_on (took_record a born extra v))
+    pub claim_keeps : (z : Contents B) (number : ℕ) → phase_in number ≡ phase.Running → (a : Rec B)
+        → home_of x t ≡ Some a → (born : List Reference) (extra : List Filled)
+        → z ≡ stored_with s id (table_word.Phase t) number (set s.homes t none)
+        (stepped_on (took_record a born extra v))
         → Keeping key.cells x z (ClaimsTask key.cells x z t a)
     claim_keeps z number is a lay born extra e = back (λ j. Keeping key.cells x ((e ∙ left) j)
-        (ClaimsTask key.cells x ((e ∙ left) j) t (same j)))
-        (claims born extra, kept_moved key.cells x now t phase.Running (Some (custody_of claimed)) None (claims born extra).moved refl)
+        (ClaimsTask key.cells x ((e ∙ left) j) t (same j))) (
+          claims born extra,
+          kept_moved key.cells x now t phase.Running (Some (custody_of claimed)) None
+              (claims born extra).moved refl,
+        )
       where
         now : Contents B
         now = after claim_there claim_task claim_kept claim_ready born extra v.tokens v.cleared v.pushes
@@ -400,9 +395,11 @@ module _ {B : Type 0} (program : Bool → B → Program B) (key : Key B) (s : St
         same : a ≡ claimed
         same = one_some a claimed (sym lay ∙ claim_kept.1.1)
 
-        left : stored_with s id (table_word.Phase t) number (set s.homes t none) (stepped_on (took_record a born extra v))
+        left : stored_with s id (table_word.Phase t) number (set s.homes t none)
+            (stepped_on (took_record a born extra v))
             ≡ after claim_there claim_task claim_kept claim_ready born extra v.tokens v.cleared v.pushes
-        left = takes_path claim_there claim_task claim_kept claim_ready number is a same born extra v.tokens v.cleared v.pushes
+        left = takes_path claim_there claim_task claim_kept claim_ready number is a same born extra v.tokens v.cleared
+            v.pushes
 
     claim_acts : KnowsTable v → (m : SeatMe B) → m.0 ≡ v
         → Acts program key s id m (phase_at t) (phase_word phase.Running) (Claims program t m)
@@ -496,8 +493,8 @@ module _ {B : Type 0} (program : Bool → B → Program B) (key : Key B) (s : St
       cleared = cleared_more way;
     }
 
-    pub back_keeps : (z : Contents B) (number : ℕ) → phase_in number ≡ phase.Running → (a : Rec B) → home_of x t ≡ Some a
-        → (born : List Reference) (extra : List Filled)
+    pub back_keeps : (z : Contents B) (number : ℕ) → phase_in number ≡ phase.Running → (a : Rec B)
+        → home_of x t ≡ Some a → (born : List Reference) (extra : List Filled)
         → z ≡ stored_with s id (table_word.Phase t) number (set s.homes t none)
         (went_back t way (took_record a born extra v))
         → Keeping key.cells x z (ClearsWait key.cells x z t p way phase.Running (Some (custody_of a)))
@@ -517,7 +514,8 @@ module _ {B : Type 0} (program : Bool → B → Program B) (key : Key B) (s : St
         left : stored_with s id (table_word.Phase t) number (set s.homes t none)
             (went_back t way (took_record a born extra v))
             ≡ after clear_there clear_task clear_kept clear_ready born extra tokens cleared pushes
-        left = takes_path clear_there clear_task clear_kept clear_ready number is a same born extra tokens cleared pushes
+        left = takes_path clear_there clear_task clear_kept clear_ready number is a same born extra tokens cleared
+            pushes
 
     -- the contents where it is woken
     abbrev woke : Contents B
@@ -645,28 +643,20 @@ module _ {B : Type 0} (program : Bool → B → Program B) (key : Key B) (s : St
           → Acts program key s id m (phase_at t) (phase_word phase.Ready) (Wakes way m)
       wake_acts q left has first backing m is =
           acts_keeping program key s r id m (phase_at t) (phase_word phase.Ready) (Wakes way m) (woke_first way v)
-          record {
-            inside = inside;
-            as_many = refl;
-            may = may_store key.cells (table_word.Phase t) (phase_word phase.Ready)
-                (record { code = refl; waits = λ d w u e. cc });
-            seat = let h = r.seats id v at in record {
-              about = h.about;
-              named = h.named;
-              within_lot = record {
-                least = h.within_lot.least;
-                refused_fit = h.within_lot.refused_fit;
-                tokens_fit = spent;
-                cleared_fit = clears.room;
-              };
-              backing = backing;
-              known_born = h.known_born;
+          (store_word_with program key s id (table_word.Phase t) (phase_word phase.Ready) s.homes (woke_first way v)
+          inside refl record { code = refl; waits = λ d w u e. cc } (
+          let h = r.seats id v at in record {
+            about = h.about;
+            named = h.named;
+            within_lot = record {
+              least = h.within_lot.least;
+              refused_fit = h.within_lot.refused_fit;
+              tokens_fit = spent;
+              cleared_fit = clears.room;
             };
-            law = subst (λ z. Law P key.cells
-                (record { words = z; slots = s.homes; seats = set_seats y id (woke_first way v) }))
-                (sym (say_phase s.words (phase_word phase.Ready) t inside))
-                (subst (Law P key.cells) (sym (wakes_path (phase_word phase.Ready) refl)) woken);
-          }
+            backing = backing;
+            known_born = h.known_born;
+          }) woke (wakes_path (phase_word phase.Ready) refl) woken)
           (subst (λ z. Wakes way (z, m.1) (woke_first way v, m.1)) (sym is) refl)
         where
           chains : Chains (tag_in x) x.words.head x.words.next (put x.words.phase t phase.Ready) y.pushes y.shuts
@@ -689,7 +679,8 @@ module _ {B : Type 0} (program : Bool → B → Program B) (key : Key B) (s : St
               (set y.cleared id (v.cleared + raised_by_way way)) y.born_seen y.filled y.pushes
               (set y.rests id (without_first v.rest)) knows_there chains live
               (kept_fit (tag_in x) x.words.phase (home_of x) law.records_fit t (put x.words.phase t phase.Ready)
-              (home_of x) phase.Ready (here phase.Ready) (else phase.Ready) (λ u m. refl) (parked_phase p way) stands refl
+              (home_of x) phase.Ready (here phase.Ready) (else phase.Ready) (λ u m. refl) (parked_phase p way) stands
+              refl
               (λ z h. woken_fits (tag_in x) z (cell p) way walk.Parked tagged h))
               law.meaning facts
 

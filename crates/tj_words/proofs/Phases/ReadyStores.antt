@@ -137,19 +137,24 @@ module _ {B : Type 0} (program : Bool → B → Program B) (key : Key B) (s : St
       keeps = record { others = refl; cleared = refl };
     }
 
+    -- what the store leaves
+    releases_path : (word : ℕ) → phase_in word ≡ phase.Ready
+        → stored s id (table_word.Phase t) word (released t v) ≡ after_ready
+    releases_path word is j = record {
+      words = record x.words { phase = put x.words.phase t (is j) };
+      slots = s.homes;
+      seats = record (seats_same s.views id v at j) {
+        tokens = set old.tokens id (v.tokens - 1);
+        tasks = set old.tasks id (let_go t v.tasks);
+      };
+    }
+
     -- a call that makes the store releases the task
     pub ready_keeps : (y : Contents B) (word : ℕ) → phase_in word ≡ phase.Ready
         → y ≡ stored s id (table_word.Phase t) word (released t v)
         → Keeping key.cells x y (ReleasesTask key.cells x y id t)
     ready_keeps y word is e = subst (λ z. Keeping key.cells x z (ReleasesTask key.cells x z id t))
-        (sym (e ∙ (λ j. record {
-          words = record x.words { phase = put x.words.phase t (is j) };
-          slots = s.homes;
-          seats = record (seats_same s.views id v at j) {
-            tokens = set old.tokens id (v.tokens - 1);
-            tasks = set old.tasks id (let_go t v.tasks);
-          };
-        })))
+        (sym (e ∙ releases_path word is))
         (releases, kept_moved key.cells x after_ready t phase.Ready None (Some c) releases.leaves.moved refl)
 
     ready_law : Law P key.cells after_ready
@@ -170,4 +175,5 @@ module _ {B : Type 0} (program : Bool → B → Program B) (key : Key B) (s : St
         → StoresWith program key s s.homes id (phase_at t) word (released t v)
     ready_stores word is from = left_stores program key s r id t v at inside phase.Ready word is from refl s.homes refl
         (v.tokens - 1) (left_seat program key s r id t v at (v.tokens - 1) k h.held
-        (let l = (r.seats id v at).within_lot.tokens_fit in omega arith) h.backing) ready_law
+        (let l = (r.seats id v at).within_lot.tokens_fit in omega arith) h.backing) after_ready (releases_path word is)
+        ready_law

@@ -1,6 +1,6 @@
 -- The stores of Walking and of Alarmed into PHASE keep the rule.
 use Rattle.std.proofs.Common.{◌≡◌, ℕ, suc, ◌<◌, Bool, set, Option, Some, refl, sym, ap, ◌∙◌}
-use Rattle.std.proofs.Common.{subst, inr, ⊎_elim, arith}
+use Rattle.std.proofs.Common.{subst, ⊎_elim, arith}
 use mathlib.Core.Option.{some}
 use lib.ListN.{get_elem?}
 use Rattle.atomic_table.specs.Table.{State}
@@ -39,12 +39,16 @@ use Rattle.tj_words.specs.Law.{Law, Rule, IsSeat}
 use Rattle.tj_words.specs.Calls.WaitViews.{now_does, now_alarmed, published, alarmed}
 use Rattle.tj_words.specs.Calls.WaitViews.{HasWalker, MayPublishWait, MayStoreAlarm}
 use Rattle.tj_words.proofs.Stores.SeatContents.{seats_same}
-use Rattle.tj_words.proofs.Phases.PhaseStores.{with_phase, phase_stores}
+use Rattle.tj_base.specs.Puts.{put}
+use Rattle.tj_words.specs.LawParts.Contents.{words_say}
+use Rattle.tj_words.proofs.Phases.PhaseStores.{phase_stores}
+use Rattle.tj_words.proofs.Stores.StepContents.{stored}
+use Rattle.tj_words.proofs.Stores.TableWords as table_word
 use Rattle.tj_words.proofs.Stores.SlotStores.{StoresWith}
 use Rattle.tj_words.proofs.Waiters.LiveSteps.{backing_token, count_turned}
 use Rattle.tj_words.proofs.Waiters.Backings.{backing_publish}
 use Rattle.tj_words.proofs.Holders.HeldTasks.{none_some, held_listed}
-use Rattle.tj_words.proofs.Holders.NotedTasks.{noted_is, holder_lot, holder_named}
+use Rattle.tj_words.proofs.Holders.NotedTasks.{noted_is, holder_seat}
 use Rattle.tj_words.proofs.Holders.SeatTasks.{hold_here, hold_else}
 use Rattle.tj_words.proofs.Events.StepFacts.{facts_after}
 use Rattle.tj_words.proofs.Holders.TaskPlaces.{custody, list_owned}
@@ -64,19 +68,10 @@ module _ {B : Type 0} (program : Bool → B → Program B) (key : Key B) where
   pub more_seat : (v w : View B) (t p : ℕ) (way : Way) → HasWalker t p way v → IsSeat key v
       → w ≡ record v { steps = w.steps; tokens = suc v.tokens; tasks = w.tasks; pushes = w.pushes }
       → IsSeat key w
-  more_seat v w t p way a h same = let l = h.within_lot in subst (IsSeat key) (sym same) record {
-    about = h.about;
-    named = inr (holder_named v t a.custody a.held h.named);
-    within_lot = record {
-      least = inr (holder_lot v t a.custody a.held l);
-      refused_fit = l.refused_fit;
-      tokens_fit = a.room;
-      cleared_fit = l.cleared_fit;
-    };
-    backing = backing_token (record v { steps = w.steps; tokens = suc v.tokens; tasks = w.tasks; pushes = w.pushes })
-        (omega arith);
-    known_born = h.known_born;
-  }
+  more_seat v w t p way a h same = subst (IsSeat key) (sym same)
+      (holder_seat key v t a.custody a.held h (suc v.tokens) w.tasks w.pushes v.dues a.room
+      (backing_token (record v { steps = w.steps; tokens = suc v.tokens; tasks = w.tasks; pushes = w.pushes })
+      (omega arith)))
 
   module _ (s : State (Option (Rec B)) (View B)) (r : Rule program key s) (id t p word : ℕ) (way : Way)
       (inside : t < key.cells) where
@@ -103,19 +98,23 @@ module _ {B : Type 0} (program : Bool → B → Program B) (key : Key B) where
       abbrev pub after_store : Contents B
       after_store = after_note r.law id t k has its d (set old.tokens id tokens)
 
+      -- what the store leaves
+      pub noted_path : phase_in word ≡ phase_of d
+          → stored s id (table_word.Phase t) word (noted_view v k d tokens) ≡ after_store
+      noted_path is j = record {
+        words = record (words_say s.words) { phase = put (words_say s.words).phase t (is j) };
+        slots = s.homes;
+        seats = record (seats_same s.views id v at j) {
+          tokens = set old.tokens id tokens;
+          tasks = set old.tasks id (hold (now_does d k) v.tasks);
+        };
+      }
+
       noted_stores : IsPhaseWord key.cells word → phase_in word ≡ phase_of d → IsSeat key (noted_view v k d tokens)
           → Law P key.cells after_store
           → StoresWith program key s s.homes id (phase_at t) word (noted_view v k d tokens)
-      noted_stores code is seat law = phase_stores program key s r id t inside s.homes refl (phase_of d) word is code
-          (noted_view v k d tokens) seat
-          (subst (λ z. Law P key.cells record {
-            words = with_phase program key s r id t inside (phase_of d);
-            slots = s.homes;
-            seats = z;
-          }) (sym (ap (λ (y : SeatsHave B). record y {
-            tokens = set old.tokens id tokens;
-            tasks = set old.tasks id (hold (now_does d k) v.tasks);
-          }) (seats_same s.views id v at))) law)
+      noted_stores code is seat = phase_stores program key s r id t inside s.homes refl word code
+          (noted_view v k d tokens) seat after_store (noted_path is)
 
     -- the store of Walking
     module _ (v : View B) (at : get_elem? s.views id ≡ some v) (h : MayPublishWait t p way v) where
@@ -186,22 +185,13 @@ module _ {B : Type 0} (program : Bool → B → Program B) (key : Key B) where
           acts ways.Other m = ap (λ e. live_part (phase_of e)) m
 
       publish_seat : IsSeat key walks
-      publish_seat = let a = r.seats id v at in let l = a.within_lot in record {
-        about = a.about;
-        named = inr (holder_named v t k h.held a.named);
-        within_lot = record {
-          least = inr (holder_lot v t k h.held l);
-          refused_fit = l.refused_fit;
-          tokens_fit = l.tokens_fit;
-          cleared_fit = l.cleared_fit;
-        };
-        backing = backing_publish v walks t refl
-            (λ u m. hold_else (now_does walking k) u v.tasks (λ e. m (e ∙ its v at k h.held walking v.tokens)))
-            (now_does walking k)
-            (ap (held_in (hold (now_does walking k) v.tasks)) (sym (its v at k h.held walking v.tokens))
-            ∙ hold_here (now_does walking k) v.tasks) tt (λ z. z) h.wakes a.backing;
-        known_born = a.known_born;
-      }
+      publish_seat = let a = r.seats id v at in
+          holder_seat key v t k h.held a v.tokens (hold (now_does walking k) v.tasks) v.pushes v.dues
+          a.within_lot.tokens_fit (backing_publish v walks t refl
+          (λ u m. hold_else (now_does walking k) u v.tasks (λ e. m (e ∙ its v at k h.held walking v.tokens)))
+          (now_does walking k)
+          (ap (held_in (hold (now_does walking k) v.tasks)) (sym (its v at k h.held walking v.tokens))
+          ∙ hold_here (now_does walking k) v.tasks) tt (λ z. z) h.wakes a.backing)
 
       pub published_stores : EventKeepsFacts → IsPhaseWord key.cells word
           → phase_in word ≡ phase.Waiting (cell p) way walk.Walking

@@ -1,6 +1,6 @@
 -- The loads of a walker keep the rule.
 use Rattle.std.proofs.Common.{◌≡◌, ◌≢◌, ℕ, ◌<◌, ◌≤◌, ◌^◌, min, set, Option, Some, refl, sym, ap, ◌∙◌, subst, arith}
-use Rattle.std.proofs.Common.{Bool, inr}
+use Rattle.std.proofs.Common.{Bool}
 use mathlib.Core.Option.{some, none}
 use lib.ListN.{get_elem?}
 use Rattle.atomic_table.specs.Table.{State, step, keeps, Allows}
@@ -35,7 +35,7 @@ use Rattle.tj_words.specs.Calls.WalkViews.{IsWalking, walk_load}
 use Rattle.tj_words.proofs.Waiters.Backings.{backing_turns}
 use Rattle.tj_words.proofs.Waiters.ChainLists.{same_some}
 use Rattle.tj_words.proofs.Holders.HeldChanges.{held_task}
-use Rattle.tj_words.proofs.Holders.NotedTasks.{noted_is, holder_lot, holder_named}
+use Rattle.tj_words.proofs.Holders.NotedTasks.{holder_seat, noted_is}
 use Rattle.tj_words.proofs.SeatLoads.LoadSteps.{total_fits}
 use Rattle.tj_words.proofs.Stores.SeatContents.{set_seats, seats_set, seats_same, rule_views}
 use Rattle.tj_words.proofs.Stores.SeatLists.{back, each_set, words_same}
@@ -54,20 +54,11 @@ module _ {B : Type 0} (t : ℕ) (f : Does → Does) (v : View B) (k : Custody B)
       → (¬ HasAlarmed d)
       → IsSeat key v
       → IsSeat key (turned t f v)
-  turned_seat key d e runs walks calm q = let l = q.within_lot in record {
-    about = q.about;
-    named = inr (holder_named v t k held q.named);
-    within_lot = record {
-      least = inr (holder_lot v t k held l);
-      refused_fit = l.refused_fit;
-      tokens_fit = l.tokens_fit;
-      cleared_fit = l.cleared_fit;
-    };
-    backing = backing_turns v (turned t f v) t refl else (λ k0 at r. (t, doing d k, here, runs (was DoesRun k0 at r)))
-        (λ k0 at r. (t, doing d k, here, walks (was DoesWalk k0 at r)))
-        (λ k0 at. subst (λ (z : Custody B). ¬ HasAlarmed z.does) (same_some here at) calm) (λ h. h) (λ h. h) q.backing;
-    known_born = q.known_born;
-  }
+  turned_seat key d e runs walks calm q = holder_seat key v t k held q v.tokens (turned t f v).tasks v.pushes v.dues
+      q.within_lot.tokens_fit (backing_turns v (turned t f v) t refl else
+      (λ k0 at r. (t, doing d k, here, runs (was DoesRun k0 at r)))
+      (λ k0 at r. (t, doing d k, here, walks (was DoesWalk k0 at r)))
+      (λ k0 at. subst (λ (z : Custody B). ¬ HasAlarmed z.does) (same_some here at) calm) (λ h. h) (λ h. h) q.backing)
     where
       its : k.task ≡ t
       its = held_task v.tasks t k held

@@ -9,12 +9,15 @@ use Rattle.tj_words.specs.declared.record.Rec.{Rec}
 use Rattle.tj_words.specs.declared.table.Key.{Key}
 use Rattle.tj_words.specs.declared.view.View.{View}
 use Rattle.tj_words.specs.LawParts.Holding.{Slots}
-use Rattle.tj_words.specs.LawParts.Contents.{words_say, seats_have}
+use Rattle.tj_words.specs.LawParts.Contents.{Contents, words_say, seats_have}
 use Rattle.tj_words.specs.Law.{Law, Rule, IsSeat}
 use Rattle.tj_words.specs.SeatViews.SeatSteps.{SeatMe}
 use Rattle.tj_words.proofs.Stores.SeatLists.{each_set}
 use Rattle.tj_words.proofs.Stores.SeatContents.{set_seats, seats_set}
-use Rattle.tj_words.proofs.Stores.StoreSteps.{MayStore, codes_store}
+use Rattle.tj_words.proofs.Stores.StoreSteps.{MayHold, MayStore, codes_store, may_store}
+use Rattle.tj_words.proofs.Stores.StepContents.{stored_with}
+use Rattle.tj_words.proofs.Stores.StoredWords.{say}
+use Rattle.tj_words.proofs.Stores.TableWords.{TableWord, index}
 
 module _ {B : Type 0} (program : Bool → B → Program B) (key : Key B) where
   -- what a step owes that stores n at i, leaves the slots like this, and its seat with the view w
@@ -26,6 +29,21 @@ module _ {B : Type 0} (program : Bool → B → Program B) (key : Key B) where
       pub seat : IsSeat key w
       pub law : Law (program key.strict key.root.value) key.cells
           record { words = words_say (set s.words i n); slots = slots; seats = set_seats (seats_have s.views) id w }
+
+  -- a store of n into the word w, by the law over contents to which there is a path from those that it leaves
+  pub store_word_with : (s : State (Option (Rec B)) (View B)) (id : ℕ) (w : TableWord) (n : ℕ) (slots : Slots B)
+      (v : View B) → index w < length s.words → length slots ≡ length s.homes → MayHold key.cells w n → IsSeat key v
+      → (y : Contents B) → stored_with s id w n slots v ≡ y → Law (program key.strict key.root.value) key.cells y
+      → StoresWith s slots id (index w) n v
+  store_word_with s id w n slots v l many m seat y path law = record {
+    inside = l;
+    as_many = many;
+    may = may_store key.cells w n m;
+    seat = seat;
+    law = subst (λ z. Law (program key.strict key.root.value) key.cells
+        record { words = z; slots = slots; seats = set_seats (seats_have s.views) id v })
+        (sym (say s.words n w l)) (subst (Law (program key.strict key.root.value) key.cells) (sym path) law);
+  }
 
   -- such a step keeps the rule
   pub rule_stores_with : (s : State (Option (Rec B)) (View B)) (r : Rule program key s) (slots : Slots B) (id i n : ℕ)

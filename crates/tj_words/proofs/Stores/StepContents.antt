@@ -1,7 +1,7 @@
 -- The contents of a table after a store: those with another word, and the seat's view. The law after a step and what a
 -- call shows are both told of these contents, so a kind of step has one path to them and no more.
-use Rattle.std.proofs.Common.{◌≡◌, ℕ, Option, ap, ◌∙◌}
-use Rattle.atomic_table.specs.Table.{Act, State, homes_after, keeps}
+use Rattle.std.proofs.Common.{◌≡◌, ℕ, ◌<◌, Option, ap, length, ◌∙◌}
+use Rattle.atomic_table.specs.Table.{Act, State, homes_after, keeps, stepped}
 use Rattle.tj_words.specs.declared.record.Rec.{Rec}
 use Rattle.tj_words.specs.declared.view.View.{View}
 use Rattle.tj_words.specs.LawParts.Contents.{Contents, contents_of, seats_have, words_say}
@@ -21,14 +21,19 @@ module _ {B : Type 0} where
     seats = set_seats (seats_have s.views) id v;
   }
 
-  -- a call that stores n into w leaves these
-  pub call_stores : (s t : State (Option (Rec B)) (View B)) (id : ℕ) (w : TableWord) (n : ℕ) (m m' : SeatMe B)
-      → MakesWith keeps id (index w) n m m' s t → (v : View B) → m'.0 ≡ v → contents_of t ≡ stored s id w n v
-  call_stores s t id w n m m' h v e = ap contents_of h.after ∙ (λ j. record {
-    words = say s.words n w h.inside j;
+  -- a step that stores n into w leaves these
+  pub step_stores : (s t : State (Option (Rec B)) (View B)) (id : ℕ) (w : TableWord) (n : ℕ) (m m' : SeatMe B)
+      → index w < length s.words → t ≡ stepped s (index w) n id m.1 m'.0 keeps → (v : View B) → m'.0 ≡ v
+      → contents_of t ≡ stored s id w n v
+  step_stores s t id w n m m' l h v e = ap contents_of h ∙ (λ j. record {
+    words = say s.words n w l j;
     slots = s.homes;
     seats = (seats_set s.views id m'.0 ∙ ap (set_seats (seats_have s.views) id) e) j;
   })
+
+  pub call_stores : (s t : State (Option (Rec B)) (View B)) (id : ℕ) (w : TableWord) (n : ℕ) (m m' : SeatMe B)
+      → MakesWith keeps id (index w) n m m' s t → (v : View B) → m'.0 ≡ v → contents_of t ≡ stored s id w n v
+  call_stores s t id w n m m' h = step_stores s t id w n m m' h.inside h.after
 
   -- the same where slots change
   abbrev pub stored_with : State (Option (Rec B)) (View B) → ℕ → TableWord → ℕ → Slots B → View B → Contents B

@@ -16,12 +16,13 @@ use Rattle.tj_words.specs.declared.view.View.{View}
 use Rattle.tj_words.specs.Words.Offsets.{word}
 use Rattle.tj_words.specs.Words.Heads.{shut_word}
 use Rattle.tj_words.specs.Words.Codes.{IsPhaseWord, Codes}
-use Rattle.tj_words.specs.LawParts.Contents.{words_say, seats_have}
+use Rattle.tj_words.specs.LawParts.Contents.{Contents, words_say, seats_have}
 use Rattle.tj_words.specs.Law.{Law, Rule, IsSeat}
 use Rattle.tj_words.specs.SeatViews.SeatSteps.{SeatMe}
 use Rattle.tj_words.proofs.Stores.SeatLists.{each_set, word_else, word_here}
 use Rattle.tj_words.proofs.Stores.SeatContents.{set_seats, seats_set}
-use Rattle.tj_words.proofs.Stores.StoredWords.{said, say}
+use Rattle.tj_words.proofs.Stores.StepContents.{stored}
+use Rattle.tj_words.proofs.Stores.StoredWords.{say}
 use Rattle.tj_words.proofs.Stores.TableWords.{TableWord, Stop, Own, Phase, Written, Head, Next, index, same_word_at}
 
 module _ {A : Type 0} where
@@ -119,17 +120,16 @@ module _ {B : Type 0} (program : Bool → B → Program B) (key : Key B) where
   step_allowed slots id m i f then h s r deep at small = let t = h s r at in
       (t.0, keeps, tt, rule_stores s r id i (f (word s.words i)) t.0 t.1, t.2)
 
-  -- a store of n into the word w, by the law over what the words say then
+  -- a store of n into the word w, by the law over contents to which there is a path from those that it leaves
   pub store_word : (s : State (Option (Rec B)) (View B)) (id : ℕ) (w : TableWord) (n : ℕ) (v : View B)
       → index w < length s.words → MayHold key.cells w n → IsSeat key v
-      → Law (program key.strict key.root.value) key.cells
-      record { words = said (words_say s.words) w n; slots = s.homes; seats = set_seats (seats_have s.views) id v }
+      → (y : Contents B) → stored s id w n v ≡ y → Law (program key.strict key.root.value) key.cells y
       → Stores s id (index w) n v
-  store_word s id w n v l m seat law = record {
+  store_word s id w n v l m seat y path law = record {
     inside = l;
     may = may_store key.cells w n m;
     seat = seat;
     law = subst (λ z. Law (program key.strict key.root.value) key.cells
         record { words = z; slots = s.homes; seats = set_seats (seats_have s.views) id v })
-        (sym (say s.words n w l)) law;
+        (sym (say s.words n w l)) (subst (Law (program key.strict key.root.value) key.cells) (sym path) law);
   }

@@ -1,6 +1,6 @@
 -- The store of a word that is written once is one of the rule, where its seat is so, and the law holds with what the
 -- seats have then.
-use Rattle.std.proofs.Common.{◌≡◌, ℕ, ◌<◌, Bool, length, Option, sym, subst, arith}
+use Rattle.std.proofs.Common.{◌≡◌, ℕ, ◌<◌, Bool, Option, arith}
 use Rattle.atomic_table.specs.Table.{State}
 use Rattle.tj_body.specs.Programs.{Program}
 use Rattle.tj_words.specs.declared.offsets.Once.{Once}
@@ -12,8 +12,8 @@ use Rattle.tj_words.specs.Law.{IsSeat, Law, Rule}
 use Rattle.tj_words.specs.Words.Offsets.{once_at}
 use Rattle.tj_words.proofs.SeatLoads.KnowLoads.{once_within}
 use Rattle.tj_words.proofs.Stores.SeatContents.{set_seats}
-use Rattle.tj_words.proofs.Stores.StoreSteps.{MayStand, may_store, Stores}
-use Rattle.tj_words.proofs.Stores.StoredWords.{put_word, say_once}
+use Rattle.tj_words.proofs.Stores.StoreSteps.{MayStand, Stores, store_word}
+use Rattle.tj_words.proofs.Stores.StoredWords.{put_word}
 use Rattle.tj_words.proofs.Stores.TableWords.{Written}
 
 module _ {B : Type 0} (program : Bool → B → Program B) (key : Key B) (s : State (Option (Rec B)) (View B))
@@ -29,14 +29,9 @@ module _ {B : Type 0} (program : Bool → B → Program B) (key : Key B) (s : St
   pub once_stores : (w : View B) (y : SeatsHave B) → MayStand key.cells f n → IsSeat key w
       → set_seats (seats_have s.views) id w ≡ y → LawWith y
       → Stores program key s id (once_at c f) n w
-  once_stores w y may seat same law = record {
-    inside = inside;
-    may = may_store key.cells (Written c f) n may;
-    seat = seat;
-    law = subst (λ z. Law (program key.strict key.root.value) key.cells
-        (record { words = z; slots = s.homes; seats = set_seats (seats_have s.views) id w }))
-        (sym (say_once s.words n c f inside)) (subst LawWith (sym same) law);
-  }
-    where
-      inside : once_at c f < length s.words
-      inside = let e = r.all_words in let i = once_within c key.cells f l in omega arith
+  once_stores w y may seat same = store_word program key s id (Written c f) n w
+      (let e = r.all_words in let i = once_within c key.cells f l in omega arith) may seat _ (λ j. record {
+        words = record (words_say s.words) { once = put_word (words_say s.words).once c f n };
+        slots = s.homes;
+        seats = same j;
+      })

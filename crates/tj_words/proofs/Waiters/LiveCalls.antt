@@ -1,5 +1,5 @@
 -- The steps on LIVE and the store of STOP keep the rule.
-use Rattle.std.proofs.Common.{◌≡◌, ℕ, suc, ◌+◌, ◌-◌, ◌%◌, ◌<◌, ◌≤◌, ◌^◌, Bool, List, [], ◌∷◌, length, set}
+use Rattle.std.proofs.Common.{◌≡◌, ℕ, suc, ◌+◌, ◌-◌, ◌%◌, ◌<◌, ◌≤◌, ◌^◌, Bool, [], ◌∷◌, length, set}
 use Rattle.std.proofs.Common.{Option, Some, None, refl, sym, ap, ◌∙◌, subst, inl, inr, arith}
 use mathlib.Core.Option.{some, none}
 use lib.ListN.{get_elem?}
@@ -20,9 +20,8 @@ use Rattle.tj_words.specs.SeatViews.SeatSteps.{SeatMe}
 use Rattle.tj_words.specs.SeatViews.Views.{stored_stop}
 use Rattle.tj_words.specs.LawParts.Stops.{Stops}
 use Rattle.tj_words.proofs.Stores.SeatLists.{of_seat_here, of_seat_set}
-use Rattle.tj_words.proofs.Stores.SeatContents.{set_seats, seats_same}
-use Rattle.tj_words.proofs.Stores.StoreSteps.{may_store, Stores, step_allowed, rule_stores}
-use Rattle.tj_words.proofs.Stores.StoredWords.{say_live, say_stop}
+use Rattle.tj_words.proofs.Stores.SeatContents.{seats_same}
+use Rattle.tj_words.proofs.Stores.StoreSteps.{Stores, step_allowed, rule_stores, store_word}
 use Rattle.tj_words.proofs.Waiters.StopSteps.{law_stops}
 use Rattle.tj_words.proofs.Meaning.MeaningSteps.{refused_above}
 use Rattle.atomic_table.specs.Table.{keeps}
@@ -40,14 +39,14 @@ use Rattle.tj_words.specs.SeatViews.TaskLists.{hold, let_go}
 use Rattle.tj_words.specs.LawParts.Contents.{Contents}
 use Rattle.tj_words.specs.Steps.StepEvents.{IsHeldWith}
 use Rattle.tj_words.proofs.Stores.TableWords.{Live, Stop}
-use Rattle.tj_words.proofs.Stores.SlotStores.{StoresWith, Acts}
+use Rattle.tj_words.proofs.Stores.SlotStores.{StoresWith, Acts, store_word_with}
 use Rattle.tj_words.proofs.Stores.GivenSlots.{acts_giving}
 use Rattle.tj_words.proofs.SeatLoads.LoadSteps.{live_small}
 use Rattle.tj_words.proofs.Waiters.LiveStores.{live_some, live_up_stores, live_down_stores}
 use Rattle.tj_words.proofs.Waiters.LiveSteps.{count_up, count_down, backed_lively, backing_token}
 use Rattle.tj_words.proofs.Holders.TaskPlaces.{custody}
 use Rattle.tj_words.proofs.Holders.HeldChanges.{held_task}
-use Rattle.tj_words.proofs.Holders.NotedTasks.{noted_is, holder_lot, holder_named}
+use Rattle.tj_words.proofs.Holders.NotedTasks.{noted_is, holder_seat}
 use Rattle.tj_words.proofs.Events.StepFacts.{facts_same}
 use Rattle.tj_words.proofs.Events.QuietMoves.{shelve_shown}
 use Rattle.tj_words.proofs.Holders.LaidRecords.{tokens_at, tasks_at, hand_at, laid_slots, as_many, lies, cells_there}
@@ -56,7 +55,7 @@ use Rattle.tj_words.proofs.Phases.Departures.{Departs, after_leaving, does_leave
 use Rattle.tj_words.proofs.Holders.LeftSeats.{left_seat}
 use Rattle.tj_words.proofs.Phases.HomeComings.{after_home, law_home, moves}
 use Rattle.tj_words.proofs.Calls.KeptCells.{kept_moved, kept_turns}
-use Rattle.tj_words.proofs.Stores.StepContents.{stored_with}
+use Rattle.tj_words.proofs.Stores.StepContents.{stored, stored_with}
 use Rattle.tj_words.specs.CallLaws.EventCalls.{Keeping}
 use Rattle.tj_words.specs.Steps.QuietSteps.{MovesRecord, ShelvesTask}
 
@@ -68,39 +67,28 @@ module _ {B : Type 0} (program : Bool → B → Program B) (key : Key B) where
       (at : get_elem? s.views id ≡ some v) where
     stop_stores : (w : ℕ) → 0 < w → w ≤ 2 → (w ≡ 1 → 0 < v.refused)
         → Stores program key s id stop_at w (stored_stop w v)
-    stop_stores w above small refused = let h = r.seats id v at in let l = h.within_lot in let b = h.backing in record {
-      inside = inside;
-      may = may_store key.cells Stop w small;
-      seat = record {
-        about = h.about;
-        named = h.named;
-        within_lot = record {
-          least = l.least;
-          refused_fit = l.refused_fit;
-          tokens_fit = l.tokens_fit;
-          cleared_fit = l.cleared_fit;
-        };
-        backing = record { wakes = b.wakes; tags = b.tags; alarms = b.alarms };
-        known_born = h.known_born;
-      };
-      law = subst
-          (λ z. Law P key.cells record { words = words_say (set s.words stop_at w); slots = s.homes; seats = z })
-          (sym (ap (λ (y : SeatsHave B). record y { stored = set (seats_have s.views).stored id (w ∷ v.stored) })
-          (seats_same s.views id v at)))
-          (subst (λ z. Law P key.cells record {
-            words = z;
-            slots = s.homes;
-            seats = record (seats_have s.views) { stored = set (seats_have s.views).stored id (w ∷ v.stored) };
-          })
-          (sym (say_stop s.words w inside)) (law_stops P key.cells (contents_of s) r.law w
-          (set (seats_have s.views).stored id (w ∷ v.stored)) stops
-          (λ e. refused_above key.cells (contents_of s).words.count (contents_of s).seats.lots
-          (contents_of s).seats.refused r.law.lots id v.refused (at_map (λ (u : View B). u.refused) s.views id v at)
-          (refused e))));
-    }
+    stop_stores w above small refused =
+        store_word program key s id Stop w (stored_stop w v) inside small (r.seats id v at) _ path
+        (law_stops P key.cells (contents_of s) r.law w
+        (set (seats_have s.views).stored id (w ∷ v.stored)) stops
+        (λ e. refused_above key.cells (contents_of s).words.count (contents_of s).seats.lots
+        (contents_of s).seats.refused r.law.lots id v.refused (at_map (λ (u : View B). u.refused) s.views id v at)
+        (refused e)))
       where
         inside : stop_at < length s.words
         inside = let e = r.all_words in omega arith
+
+        path : stored s id Stop w (stored_stop w v) ≡ record (contents_of s) {
+          words = record (words_say s.words) { stop = w };
+          seats = record (seats_have s.views) { stored = set (seats_have s.views).stored id (w ∷ v.stored) };
+        }
+        path j = record {
+          words = record (words_say s.words) { stop = w };
+          slots = s.homes;
+          seats = record (seats_same s.views id v at j) {
+            stored = set (seats_have s.views).stored id (w ∷ v.stored);
+          };
+        }
 
         mine : get_elem? (seats_have s.views).stored id ≡ some v.stored
         mine = at_map (λ (u : View B). u.stored) s.views id v at
@@ -133,36 +121,6 @@ module _ {B : Type 0} (program : Bool → B → Program B) (key : Key B) where
 
     live_inside : live_at < length s.words
     live_inside = let e = r.all_words in omega arith
-
-    -- LIVE, the tokens, the tasks and the slots change
-    live_changes : (live tokens : ℕ) (tasks : List (Custody B)) (slots : Slots B) → length slots ≡ length s.homes
-        → IsSeat key (record v { steps = suc v.steps; tokens = tokens; tasks = tasks })
-        → Law P key.cells record {
-          words = record (words_say s.words) { live = live };
-          slots = slots;
-          seats = record old { tokens = set old.tokens id tokens; tasks = set old.tasks id tasks };
-        }
-        → StoresWith program key s slots id live_at live
-        (record v { steps = suc v.steps; tokens = tokens; tasks = tasks })
-    live_changes live tokens tasks slots many seat law = record {
-      inside = live_inside;
-      as_many = many;
-      may = may_store key.cells Live live tt;
-      seat = seat;
-      law = subst (λ z. Law P key.cells record {
-        words = z;
-        slots = slots;
-        seats = set_seats old id (record v { steps = suc v.steps; tokens = tokens; tasks = tasks });
-      }) (sym (say_live s.words live live_inside))
-          (subst (λ z. Law P key.cells record {
-            words = record (words_say s.words) { live = live };
-            slots = slots;
-            seats = z;
-          }) (sym (ap (λ (y : SeatsHave B). record y {
-            tokens = set old.tokens id tokens;
-            tasks = set old.tasks id tasks;
-          }) (seats_same s.views id v at))) law);
-    }
 
     -- LIVE up, where the record of an unborn task comes home
     module _ (mine : SlotsOf B) (t : ℕ) (c : Rec B) (h : LaysChild program t c (v, mine)) where
@@ -206,14 +164,7 @@ module _ {B : Type 0} (program : Bool → B → Program B) (key : Key B) where
               (λ u m. set_else s.homes t u (some (Some c)) m) live (set old.tokens id (suc v.tokens))
               (task_there program key s r id t v at mine k h.held c h.puts h.no_hand)
 
-      up_law : IsBacked v → Law P key.cells record {
-        words = record (words_say s.words) { live = suc (word s.words live_at) };
-        slots = home_slots;
-        seats = record old {
-          tokens = set old.tokens id (suc v.tokens);
-          tasks = set old.tasks id (hold (now_home c k) v.tasks);
-        };
-      }
+      up_law : IsBacked v → Law P key.cells (came (suc (word s.words live_at)))
       up_law b = law_home r.law id t k has (held_task v.tasks t k h.held) h.unborn c home_slots
           (lies program key s r id t v at mine k h.held c h.puts h.no_hand)
           (λ u m. set_else s.homes t u (some (Some c)) m)
@@ -236,23 +187,14 @@ module _ {B : Type 0} (program : Bool → B → Program B) (key : Key B) where
       up_stores : IsBacked v → v.tokens < v.lot
           → StoresWith program key s (set s.homes t (some (Some c))) id live_at (suc (word s.words live_at))
           (came_home t c (with_tokens (suc v.tokens) v))
-      up_stores b room = subst (StoresWith program key s home_slots id live_at (suc (word s.words live_at)))
-          (ap (λ l. record v { steps = suc v.steps; tokens = suc v.tokens; tasks = l })
+      up_stores b room = store_word_with program key s id Live (suc (word s.words live_at)) home_slots
+          (came_home t c (with_tokens (suc v.tokens) v)) live_inside
+          (as_many program key s r id t v at mine k h.held c h.puts h.no_hand) tt
+          (subst (IsSeat key) (ap (λ l. record v { steps = suc v.steps; tokens = suc v.tokens; tasks = l })
           (sym (noted_is v.tasks t k (now_home c) h.held)))
-          (live_changes (suc (word s.words live_at)) (suc v.tokens) (hold (now_home c k) v.tasks) home_slots
-          (as_many program key s r id t v at mine k h.held c h.puts h.no_hand)
-          (let a = r.seats id v at in let l = a.within_lot in record {
-            about = a.about;
-            named = inr (holder_named v t k h.held a.named);
-            within_lot = record {
-              least = inr (holder_lot v t k h.held l);
-              refused_fit = l.refused_fit;
-              tokens_fit = room;
-              cleared_fit = l.cleared_fit;
-            };
-            backing = backing_token up_view (omega arith);
-            known_born = a.known_born;
-          }) (up_law b))
+          (holder_seat key v t k h.held (r.seats id v at) (suc v.tokens) (hold (now_home c k) v.tasks) v.pushes v.dues
+          room (backing_token up_view (omega arith)))) (came (suc (word s.words live_at)))
+          (up_path (suc (word s.words live_at))) (up_law b)
 
     -- LIVE down, where the record of a task that has alarmed comes home
     module _ (mine : SlotsOf B) (t : ℕ) (c : Rec B) (h : Shelves program t c (v, mine)) where
@@ -332,10 +274,11 @@ module _ {B : Type 0} (program : Bool → B → Program B) (key : Key B) where
         shelf_stores : Backing (without_task t (with_tokens fewer v))
             → StoresWith program key s (set s.homes t (some (Some c))) id live_at lower
             (without_task t (with_tokens fewer v))
-        shelf_stores backs = live_changes lower fewer (let_go t v.tasks) shelf
-            (as_many program key s r id t v at mine a h.held c h.puts h.no_hand)
+        shelf_stores backs = store_word_with program key s id Live lower shelf (without_task t (with_tokens fewer v))
+            live_inside (as_many program key s r id t v at mine a h.held c h.puts h.no_hand) tt
             (left_seat program key s r id t v at fewer a h.held
-            (let f = (r.seats id v at).within_lot.tokens_fit in omega arith) backs) shelf_law
+            (let f = (r.seats id v at).within_lot.tokens_fit in omega arith) backs) after_shelf (shelf_path lower)
+            shelf_law
 
     -- a step on LIVE alone
     plain : (n : ℕ) (w : View B) (F : SeatMe B → Type 0) (mine : SlotsOf B) → Stores program key s id live_at n w

@@ -1,6 +1,6 @@
 -- The steps on LIVE keep the rule.
-use Rattle.std.proofs.Common.{◌≡◌, ℕ, suc, ◌-◌, ◌<◌, ◌≤◌, Bool, length, Option, set, sym, ap, ◌∙◌}
-use Rattle.std.proofs.Common.{subst, arith}
+use Rattle.std.proofs.Common.{◌≡◌, ℕ, suc, ◌-◌, ◌<◌, ◌≤◌, Bool, length, Option, set, ap, ◌∙◌}
+use Rattle.std.proofs.Common.{arith}
 use mathlib.Core.Option.{some}
 use lib.ListN.{get_elem?}
 use Rattle.atomic_table.specs.Table.{State}
@@ -11,12 +11,12 @@ use Rattle.tj_words.specs.declared.table.Key.{Key}
 use Rattle.tj_words.specs.declared.view.View.{View}
 use Rattle.tj_words.specs.Words.Offsets.{word, live_at}
 use Rattle.tj_words.specs.LawParts.LiveCount.{LiveCount, IsBacked, IsLively, Backing}
-use Rattle.tj_words.specs.LawParts.Contents.{SeatsHave, words_say, seats_have}
-use Rattle.tj_words.specs.Law.{Law, Rule}
+use Rattle.tj_words.specs.LawParts.Contents.{SeatsHave, contents_of, words_say, seats_have}
+use Rattle.tj_words.specs.Law.{Rule}
 use Rattle.tj_words.specs.Calls.ParkSteps.{with_tokens}
-use Rattle.tj_words.proofs.Stores.SeatContents.{set_seats, seats_same}
-use Rattle.tj_words.proofs.Stores.StoreSteps.{may_store, Stores}
-use Rattle.tj_words.proofs.Stores.StoredWords.{say_live}
+use Rattle.tj_words.proofs.Stores.SeatContents.{seats_same}
+use Rattle.tj_words.proofs.Stores.StoreSteps.{Stores, store_word}
+use Rattle.tj_words.proofs.Stores.StepContents.{stored}
 use Rattle.tj_words.proofs.Stores.TableWords.{Live}
 use Rattle.tj_words.proofs.Waiters.LiveSteps.{count_up, count_down, held_in_phase, lively_live, backed_lively}
 use Rattle.tj_words.proofs.Waiters.LiveSteps.{backing_token}
@@ -43,28 +43,26 @@ module _ {B : Type 0} (program : Bool → B → Program B) (key : Key B) (s : St
     inside : live_at < length s.words
     inside = let w = r.all_words in omega arith
 
-    path : set_seats old id (with_tokens k v) ≡ record old { tokens = set old.tokens id k }
-    path = ap (λ (y : SeatsHave B). record y { tokens = set old.tokens id k }) (seats_same s.views id v at)
+    path : stored s id Live n (with_tokens k v) ≡ record (contents_of s) {
+      words = record (words_say s.words) { live = n };
+      seats = record old { tokens = set old.tokens id k };
+    }
+    path j = record {
+      words = record (words_say s.words) { live = n };
+      slots = s.homes;
+      seats = record (seats_same s.views id v at j) { tokens = set old.tokens id k };
+    }
 
     live_stores : Stores program key s id live_at n (with_tokens k v)
-    live_stores = let h = r.seats id v at in let l = h.within_lot in record {
-      inside = inside;
-      may = may_store key.cells Live n tt;
-      seat = record {
-        about = h.about;
-        named = h.named;
-        within_lot =
-            record { least = l.least; refused_fit = l.refused_fit; tokens_fit = fits; cleared_fit = l.cleared_fit };
-        backing = backs;
-        known_born = h.known_born;
-      };
-      law = subst
-          (λ z. Law P key.cells record { words = words_say (set s.words live_at n); slots = s.homes; seats = z })
-          (sym path)
-          (subst (λ z. Law P key.cells
-          record { words = z; slots = s.homes; seats = record old { tokens = set old.tokens id k } })
-          (sym (say_live s.words n inside)) (law_live r.law n (set old.tokens id k) count));
-    }
+    live_stores = let h = r.seats id v at in let l = h.within_lot in
+        store_word program key s id Live n (with_tokens k v) inside tt record {
+          about = h.about;
+          named = h.named;
+          within_lot =
+              record { least = l.least; refused_fit = l.refused_fit; tokens_fit = fits; cleared_fit = l.cleared_fit };
+          backing = backs;
+          known_born = h.known_born;
+        } _ path (law_live r.law n (set old.tokens id k) count)
 
   -- LIVE up, by a seat that has a token or a running task
   pub live_up_stores : IsBacked v → suc v.tokens ≤ v.lot

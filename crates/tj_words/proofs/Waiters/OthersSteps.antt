@@ -29,8 +29,7 @@ use Rattle.tj_words.proofs.Stores.LawChanges.{law_counts}
 use Rattle.tj_words.proofs.Stores.SeatContents.{set_seats, seats_same}
 use Rattle.tj_words.proofs.Seating.Splitting.{total_set}
 use Rattle.tj_words.proofs.Events.StepFacts.{facts_after}
-use Rattle.tj_words.proofs.Stores.StoreSteps.{may_store, Stores, step_allowed}
-use Rattle.tj_words.proofs.Stores.StoredWords.{say_others}
+use Rattle.tj_words.proofs.Stores.StoreSteps.{Stores, step_allowed, store_word}
 use Rattle.tj_words.proofs.Stores.TableWords.{Others}
 use Rattle.tj_words.proofs.Events.WaitClears.{lower_shown}
 use Rattle.tj_words.proofs.Events.WalkEvents.{raise_shown}
@@ -107,17 +106,8 @@ module _ {B : Type 0} (program : Bool → B → Program B) (key : Key B) (event_
   stores : (n : ℕ) (w : View B) (seats : SeatsHave B) → set_seats (seats_have s.views) id w ≡ seats → IsSeat key w
       → Law P key.cells record { words = record (words_say s.words) { others = n }; slots = s.homes; seats = seats }
       → Stores program key s id others_at n w
-  stores n w seats e q law = record {
-    inside = inside;
-    may = may_store key.cells Others n tt;
-    seat = q;
-    law = subst (λ z. Law P key.cells record {
-      words = words_say (set s.words others_at n);
-      slots = s.homes;
-      seats = z;
-    }) (sym e) (subst (λ z. Law P key.cells record { words = z; slots = s.homes; seats = seats })
-        (sym (say_others s.words n inside)) law);
-  }
+  stores n w seats e q = store_word program key s id Others n w inside tt q _
+      (λ j. record { words = record (words_say s.words) { others = n }; slots = s.homes; seats = e j })
 
   -- the add, by a seat with a running task
   pub raise_stores : (t : ℕ) → MayRaise t v

@@ -94,8 +94,8 @@ module _ {B : Type 0} (cells : ℕ) (x y : Contents B) (id t : ℕ) where
     pub same : IsDrawn t h (parts_of cells x) (parts_of cells y)
     pub keeps : KeepsOthers cells x y
 
-  -- the first store of OWN of cell c, in hand of seat id: its owner is the one that is shown already, and its maker t has
-  -- made one thing more and makes none; nothing else that is shown is changed but what a seat has for t and for c
+  -- the first store of OWN of cell c, in hand of seat id: its owner is the one that is shown already, and its maker t
+  -- has made one thing more and makes none; nothing else that is shown is changed but what a seat has for t and for c
   pub record GivesOwner (c : ℕ) (h : Hand) : Type 0 where
     pub in_hand : get_elem? x.seats.hands id ≡ some (Some h)
     pub hand_maker : h.maker ≡ t

@@ -128,8 +128,8 @@ module _ {B : Type 0} (cells : ℕ) (x y : Contents B) where
       pub there : IsThere (drawn_in cells x) (hand_of x) t
       pub keeps : KeepsOthers cells x y
 
-  -- the store of a phase of cell c, which is in hand as h: it is in hand as h' from then on, of the same maker and sort,
-  -- and nothing else that is shown is changed
+  -- the store of a phase of cell c, which is in hand as h: it is in hand as h' from then on, of the same maker and
+  -- sort, and nothing else that is shown is changed
   pub record MarksPromise (c : ℕ) (h h' : Hand) (p : Phase) : Type 0 where
     pub in_hand : hand_of x c ≡ Some h
     pub same_hand : (h'.cell ≡ h.cell) × (h'.maker ≡ h.maker) × (h'.sort ≡ h.sort)
