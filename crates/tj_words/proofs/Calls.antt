@@ -1,5 +1,4 @@
 -- Each call is such a step, and calls one after the other are a run of the core.
-pub mod StepParts
 pub mod KeptCells
 pub mod CallChanges
 pub mod EventCalls

@@ -2,3 +2,4 @@
 pub mod ChainSentences
 pub mod TreeDraws
 pub mod ShownCells
+pub mod Looks

@@ -3,7 +3,6 @@ pub mod Lots
 pub mod Telling
 pub mod TreeWords
 pub mod ShownState
-pub mod Looks
 pub mod Holding
 pub mod Hands
 pub mod NamedCells

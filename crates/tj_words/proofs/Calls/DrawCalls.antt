@@ -1,11 +1,10 @@
 -- A draw that finds a cell is a change of the law of steps, and leaves makers and numbers of the cells that were drawn
 -- before.
-use Rattle.std.proofs.Common.{◌≡◌, ℕ, suc, ◌<◌, Bool, set, Option, Some, None}
-use Rattle.std.proofs.Common.{refl, sym, ap, ◌∙◌, subst, inl, arith}
+use Rattle.std.proofs.Common.{◌≡◌, ℕ, suc, ◌<◌, Bool, Option}
+use Rattle.std.proofs.Common.{refl, sym, ap, ◌∙◌, inl, arith}
 use mathlib.Core.Option.{some}
-use lib.ListN.{get_elem?}
 use Rattle.atomic_table.specs.Table.{State, homes_after}
-use Rattle.atomic_table.proofs.Lists.{at_map}
+use Rattle.atomic_table.proofs.Lists.{at_map, set_again}
 use Rattle.tj_base.specs.declared.cell.Sort.{Sort}
 use Rattle.tj_base.specs.declared.cell.Sort.TheVariants as sort
 use Rattle.tj_body.specs.Programs.{Program}
@@ -14,8 +13,8 @@ use Rattle.tj_words.specs.declared.record.Rec.{Rec}
 use Rattle.tj_words.specs.declared.table.Key.{Key}
 use Rattle.tj_words.specs.declared.view.Hand.{Hand}
 use Rattle.tj_words.specs.declared.view.View.{View}
-use Rattle.tj_words.specs.LawParts.Contents.{WordsSay, Contents, words_say, contents_of, drawn_in}
-use Rattle.tj_words.specs.Calls.DrawViews.{FindsCell, MayDraw, new_hand, new_tasks, runs_on}
+use Rattle.tj_words.specs.LawParts.Contents.{Contents, contents_of, drawn_in, seats_have}
+use Rattle.tj_words.specs.Calls.DrawViews.{FindsCell, MayDraw, drew, new_hand}
 use Rattle.tj_words.specs.Law.{Law, Rule}
 use Rattle.tj_words.specs.Words.Lists.{total}
 use Rattle.tj_words.specs.Words.Offsets.{word, count_at}
@@ -23,15 +22,15 @@ use Rattle.tj_words.specs.Steps.OneStates.{KeepsCells}
 use Rattle.tj_words.specs.CallLaws.OwnerCalls.{takes_new}
 use Rattle.tj_words.specs.Steps.OwnerSteps.{DrawsCell}
 use Rattle.tj_words.specs.SeatViews.SeatSteps.{SeatMe}
-use Rattle.tj_words.specs.SeatViews.TaskLists.{noted}
 use Rattle.tj_words.specs.CallLaws.CallSteps.{MakesWith}
 use Rattle.tj_words.specs.CallLaws.EventCalls.{Keeping}
 use Rattle.tj_words.proofs.Events.DrawEvents.{drawn_into, may_draw}
-use Rattle.tj_words.proofs.Stores.StoredWords.{say_count}
 use Rattle.tj_words.proofs.Cells.DrawnCells.{draws_in}
 use Rattle.tj_words.proofs.Cells.DrawnTasks.{slots_after}
 use Rattle.tj_words.proofs.Holders.HeldTasks.{hand_found}
-use Rattle.tj_words.proofs.Calls.StepParts.{field_now, field_same}
+use Rattle.tj_words.proofs.Stores.SeatLists.{back}
+use Rattle.tj_words.proofs.Stores.StepContents.{call_stores_with, stored_with}
+use Rattle.tj_words.proofs.Stores.TableWords.{Count}
 
 -- makers and numbers of the cells that were drawn before stay: the drawer had none in hand, and no other cell in hand
 -- is one that it makes
@@ -67,11 +66,10 @@ module _ {B : Type 0} (program : Bool → B → Program B) (key : Key B) (s t : 
   pub call_draws : MakesWith (takes_new B c o) id count_at n m m' s t → word s.words count_at ≡ c → n ≡ suc c
       → word s.words count_at < key.cells → FindsCell key.cells u o (word s.words count_at) m.0 m'.0
       → MayDraw program u m.0 → Keeping key.cells x y (DrawsCell key.cells x y id u (new_hand c u o))
-  call_draws h found next left finds may = subst
-      (λ k. Keeping key.cells x y (DrawsCell key.cells x y id u (new_hand k u o))) (sym same) (
+  call_draws h found next left finds may = back
+      (λ j. Keeping key.cells x (leaves j) (DrawsCell key.cells x (leaves j) id u (new_hand (same j) u o))) (
         change,
-        draw_keeps r.law y id u (new_hand (drawn_in key.cells x) u o) change
-            (ap (λ (z : WordsSay). z.once) says),
+        draw_keeps r.law after id u (new_hand (drawn_in key.cells x) u o) change refl,
       )
     where
       v : View B
@@ -80,39 +78,22 @@ module _ {B : Type 0} (program : Bool → B → Program B) (key : Key B) (s t : 
       same : c ≡ drawn_in key.cells x
       same = omega (arith, found, left)
 
-      says : words_say t.words ≡ record (words_say s.words) { count = n }
-      says = ap (λ (z : State (Option (Rec B)) (View B)). words_say z.words) h.after ∙ say_count s.words n h.inside
+      -- what the draw leaves
+      after : Contents B
+      after = stored_with s id Count n (slots_after (drawn_in key.cells x) o s.homes)
+          (drew (drawn_in key.cells x) u o finds.born v)
 
-      now : t.views ≡ set s.views id m'.0
-      now = ap (λ (z : State (Option (Rec B)) (View B)). z.views) h.after
+      leaves : y ≡ after
+      leaves = call_stores_with s t id Count n m m' (takes_new B c o) h (slots_after (drawn_in key.cells x) o s.homes)
+          (slots_now o ∙ ap (λ k. slots_after k o s.homes) same) (drew (drawn_in key.cells x) u o finds.born v)
+          (finds.view ∙ ap (λ k. drew k u o finds.born v) (found ∙ same))
 
-      at : get_elem? x.seats.tasks id ≡ some v.tasks
-      at = at_map (λ (w : View B). w.tasks) s.views id v h.at
-
-      dues : get_elem? x.seats.dues id ≡ some v.dues
-      dues = at_map (λ (w : View B). w.dues) s.views id v h.at
-
-      free : get_elem? x.seats.hands id ≡ some None
-      free = at_map (λ (w : View B). w.hand) s.views id v h.at ∙ ap (λ (z : Option Hand). some z) may.no_hand
-
-      found_next : word s.words count_at ≡ drawn_in key.cells x
-      found_next = found ∙ same
-
-      change : DrawsCell key.cells x y id u (new_hand (drawn_in key.cells x) u o)
-      change = draws_in r.law id u o v.tasks v.dues may.has at dues may.held may.may may.result may.out free left y
-          (field_now (λ (w : View B). w.tasks) s.views t.views id m'.0 now
-          (new_tasks (drawn_in key.cells x) o (noted u runs_on v.tasks))
-          (ap (λ (w : View B). w.tasks) finds.view ∙ ap (λ k. new_tasks k o (noted u runs_on v.tasks)) found_next))
-          (ap (λ (z : WordsSay). z.phase) says)
-          (ap (λ (z : State (Option (Rec B)) (View B)). z.homes) h.after ∙ (slots_now o
-          ∙ ap (λ k. slots_after k o s.homes) same))
-          (record {
-            others = ap (λ (z : WordsSay). z.others) says;
-            cleared = ap total (field_same (λ (w : View B). w.cleared) s.views t.views id m'.0 now m.0 h.at
-                (ap (λ (w : View B). w.cleared) finds.view));
-          })
-          (ap (λ (z : WordsSay). z.count) says ∙ (next ∙ ap suc (sym found)))
-          (field_now (λ (w : View B). w.hand) s.views t.views id m'.0 now
-          (Some (new_hand (drawn_in key.cells x) u o))
-          (ap (λ (w : View B). w.hand) finds.view ∙ ap (λ k. Some (new_hand k u o)) found_next))
-          (ap (λ (z : WordsSay). z.own) says)
+      change : DrawsCell key.cells x after id u (new_hand (drawn_in key.cells x) u o)
+      change = draws_in r.law id u o v.tasks v.dues may.has (at_map (λ (w : View B). w.tasks) s.views id v h.at)
+          (at_map (λ (w : View B). w.dues) s.views id v h.at) may.held may.may may.result may.out
+          (at_map (λ (w : View B). w.hand) s.views id v h.at ∙ ap (λ (z : Option Hand). some z) may.no_hand) left
+          after refl refl refl (record {
+            others = refl;
+            cleared = ap total (set_again (seats_have s.views).cleared id v.cleared
+                (at_map (λ (w : View B). w.cleared) s.views id v h.at));
+          }) (next ∙ ap suc (sym found)) refl refl

@@ -39,7 +39,7 @@ use Rattle.tj_words.specs.LawParts.ShownState.{sort_shown, phase_sort, stage_sho
 use Rattle.tj_words.specs.LawParts.ShownState.{stage_there}
 use Rattle.tj_words.specs.LawParts.TreeWords.{Births, IsForkTree, TreeWords}
 use Rattle.tj_words.specs.LawParts.Contents.{Contents, drawn_in, hand_of, home_of, held_of, tag_in}
-use Rattle.tj_words.specs.LawParts.Looks.{look, maker_in, task_in, wait_part, KeepsLooks}
+use Rattle.tj_words.specs.Inner.Looks.{look, maker_in, task_in, wait_part, KeepsLooks}
 use Rattle.tj_words.specs.Law.{Law}
 use Rattle.tj_words.proofs.Cells.HandChanges.{births_on, hands_on, held_sort, once_on, tree_on}
 use Rattle.atomic_table.proofs.Lists.{set_again}

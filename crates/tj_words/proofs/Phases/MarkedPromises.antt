@@ -16,7 +16,7 @@ use Rattle.tj_words.specs.declared.view.View.{View}
 use Rattle.tj_words.specs.Words.Offsets.{phase_at}
 use Rattle.tj_words.specs.Words.Phases.{phase_in, phase_word}
 use Rattle.tj_words.specs.LawParts.Hands.{IsMarkedRight, hand_phase}
-use Rattle.tj_words.specs.LawParts.Looks.{look}
+use Rattle.tj_words.specs.Inner.Looks.{look}
 use Rattle.tj_words.specs.LawParts.Contents.{Contents, contents_of, seats_have, words_say}
 use Rattle.tj_words.specs.Law.{Law, Rule}
 use Rattle.tj_words.specs.SeatViews.SeatSteps.{SeatMe}

@@ -91,15 +91,10 @@ module _ {B : Type 0} (program : Bool → B → Program B) (key : Key B) where
     w = loaded_phase t p v
 
     loaded_seat : IsSeat key w
-    loaded_seat = let h = r.seats id v at in let l = h.within_lot in let b = h.backing in record {
+    loaded_seat = let h = r.seats id v at in let b = h.backing in record {
       about = h.about;
       named = h.named;
-      within_lot = record {
-        least = l.least;
-        refused_fit = l.refused_fit;
-        tokens_fit = l.tokens_fit;
-        cleared_fit = l.cleared_fit;
-      };
+      within_lot = h.within_lot;
       backing = record {
         wakes = λ c. b.wakes (⊎_elim (λ a. inl a) (λ d. inr (⊎_elim (λ a. inl a)
             (λ e. inr (rest_back t p v.rest e)) d)) c);

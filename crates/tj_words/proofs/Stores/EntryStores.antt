@@ -183,12 +183,7 @@ module _ {B : Type 0} (program : Bool → B → Program B) (key : Key B) where
   seat_written v c steps f wrote filled shuts q wakes = record {
     about = q.about;
     named = q.named;
-    within_lot = record {
-      least = q.within_lot.least;
-      refused_fit = q.within_lot.refused_fit;
-      tokens_fit = q.within_lot.tokens_fit;
-      cleared_fit = q.within_lot.cleared_fit;
-    };
+    within_lot = q.within_lot;
     backing = record {
       wakes = wakes;
       tags = λ a. q.backing.tags (a.0, (due_else c f v.dues a.0 a.1).0, a.2);

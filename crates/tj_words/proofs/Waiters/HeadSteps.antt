@@ -108,15 +108,10 @@ module _ {B : Type 0} (program : Bool → B → Program B) (key : Key B) where
     chain_stores w same back i n inside may head next say pl sl rl cl path chains = record {
       inside = inside;
       may = may;
-      seat = subst (IsSeat key) (sym same) (let q = r.seats id v at in let l = q.within_lot in record {
+      seat = subst (IsSeat key) (sym same) (let q = r.seats id v at in record {
         about = q.about;
         named = q.named;
-        within_lot = record {
-          least = l.least;
-          refused_fit = l.refused_fit;
-          tokens_fit = l.tokens_fit;
-          cleared_fit = l.cleared_fit;
-        };
+        within_lot = q.within_lot;
         backing = record { wakes = λ k. back; tags = q.backing.tags; alarms = q.backing.alarms };
         known_born = q.known_born;
       });
