@@ -80,7 +80,8 @@ impl<B: Body> RestWords<B> {
 
     /// The words without the records.
     pub fn into_closed(self) -> Closed
-        ensures { result ≡ self.cells }
+        ensures same { result ≡ self.cells }
+        ensures few { length result ≤ self.limit }
     {
         self.closed
     }
