@@ -14,3 +14,4 @@ pub mod LastingWords
 pub mod OneHolders
 pub mod PushRuns
 pub mod Verdicts
+pub mod AlikeSeats

@@ -9,3 +9,4 @@ pub mod RestedRuns
 pub mod LastingWords
 pub mod PushRuns
 pub mod Verdicts
+pub mod AlikeSeats

@@ -52,3 +52,8 @@ pub use value::{value_of_words, value_words};
 pub use view::{
     About, Custody, Does, Due, Filled, Found, Hand, Note, Noted, Push, Rest, SeenWord, View,
 };
+
+mod alike_laws;
+mod parking;
+
+pub use alike_laws::alike_seats;
