@@ -1,31 +1,11 @@
 -- What a seat has of names and values is the table's own at each later moment of a run: a step keeps the names of the
 -- cells that are there, and a value is set for good.
-use Rattle.std.proofs.Common.{◌≡◌, ◌≢◌, ◌↔◌, ℕ, ◌<◌, ◌≤◌, Bool, List, [], ◌∷◌, Option, refl, sym, ap, ◌∙◌, subst, inl}
-use Rattle.std.proofs.Common.{inr, arith}
-use mathlib.Core.Option.{some, some-injective}
-use lib.ListN.{get_elem?}
-use Rattle.atomic_table.specs.Table.{State}
-use Rattle.tj_base.specs.ForkOrder.{Name}
-use Rattle.tj_base.specs.declared.cell.Sort.{Sort}
-use Rattle.tj_base.specs.declared.cell.Sort.TheVariants as sort
-use Rattle.tj_body.specs.Points.{IsIn}
-use Rattle.tj_body.specs.Programs.{Program}
-use Rattle.tj_body.specs.declared.point.Entry.{Entry}
-use Rattle.tj_body.specs.declared.point.Entry.TheVariants as entry
-use Rattle.tj_body.specs.declared.point.Reference.{Reference}
-use Rattle.tj_body.specs.declared.point.Value.TheVariants as value
-use Rattle.tj_words.specs.declared.record.Rec.{Rec}
-use Rattle.tj_words.specs.declared.table.Key.{Key}
-use Rattle.tj_words.specs.declared.view.Filled.{Filled}
-use Rattle.tj_words.specs.declared.view.View.{View}
+use Rattle.tj_words.proofs.Prelude.{AreAskedMoments, AreMoments, BitsSay, Bool, Contents, Entry, Filled, IsAskedStep}
+use Rattle.tj_words.proofs.Prelude.{IsCell, IsIn, IsTableStep, KeepsCells, Key, List, Name, Option, Program, Rec}
+use Rattle.tj_words.proofs.Prelude.{Reference, Ruled, Sort, State, View, [], ap, arith, bits_in, contents_of, drawn_in}
+use Rattle.tj_words.proofs.Prelude.{get_elem?, inl, inr, last_moment, reference_of, refl, some, some-injective}
+use Rattle.tj_words.proofs.Prelude.{sort_tag, subst, sym, tag_in, tag_of, ℕ, ◌<◌, ◌↔◌, ◌∙◌, ◌∷◌, ◌≡◌, ◌≢◌, ◌≤◌}
 use Rattle.tj_words.specs.CallLaws.AlikeSeats.{IsTheTables, MergedSeatsAgree, SeatsKnowForGood, SeatsNumberAlike}
-use Rattle.tj_words.specs.CallLaws.CallRuns.{AreAskedMoments, IsAskedStep}
-use Rattle.tj_words.specs.CallLaws.RestedRuns.{AreMoments, IsTableStep, Ruled, last_moment}
-use Rattle.tj_words.specs.LawParts.Contents.{Contents, bits_in, contents_of, drawn_in, tag_in}
-use Rattle.tj_words.specs.LawParts.ShownState.{reference_of}
-use Rattle.tj_words.specs.LawParts.Telling.{BitsSay, sort_tag, tag_of}
-use Rattle.tj_words.specs.LawParts.TreeWords.{IsCell}
-use Rattle.tj_words.specs.Steps.OneStates.{KeepsCells}
 use Rattle.tj_words.proofs.Calls.CallRuns.{calls_are_steps, seats_are_quiet}
 use Rattle.tj_words.proofs.Calls.LastingWords.{count_never_falls, values_for_good}
 use Rattle.tj_words.proofs.Calls.OneStates.{kept_name}
@@ -35,6 +15,9 @@ use Rattle.tj_words.proofs.SeatLoads.Learning.{IsSo, knowing_of}
 use Rattle.tj_words.proofs.SeatLoads.LoadSteps.{knows_so}
 use Rattle.tj_words.proofs.Seating.Merging.{begins_at}
 use Rattle.tj_words.proofs.Stores.SeatLists.{inside}
+use Rattle.tj_base.specs.declared.cell.Sort.TheVariants as sort
+use Rattle.tj_body.specs.declared.point.Entry.TheVariants as entry
+use Rattle.tj_body.specs.declared.point.Value.TheVariants as value
 
 -- TAG of a sort says which sort it is
 same_sort : (k l : Sort) → sort_tag k ≡ sort_tag l → k ≡ l

@@ -1,44 +1,23 @@
 -- What a call does which is no event is such a change as the law of steps speaks of: the words say what was stored, and
 -- the hand, the tasks and the waits cleared of the view are as they were.
-use Rattle.std.proofs.Common.{◌≡◌, ◌≢◌, ℕ, suc, ◌≤◌, Bool, [], ◌∷◌, ◌++◌, map, set, Option, Some, None}
-use Rattle.std.proofs.Common.{refl, sym, ap, ◌∙◌, subst, inl, inr, ⊎_elim, ◌⊎◌, ◌+◌}
-use mathlib.Core.Logic.{dite}
-use mathlib.Core.Option.{some}
-use native.Mathlib.Decide.{ℕ_discrete}
-use lib.ListN.{get_elem?}
-use mathlib.Core.List.{map-append}
-use Rattle.atomic_table.specs.Table.{State, Step}
-use Rattle.atomic_table.proofs.Lists.{at_map}
-use Rattle.tj_base.specs.Puts.{put}
-use Rattle.tj_base.specs.declared.cell.Sort.{Sort}
-use Rattle.tj_body.specs.Programs.{Program}
-use Rattle.tj_words.specs.declared.offsets.Once.{Once}
-use Rattle.tj_words.specs.declared.offsets.Once.TheVariants as once
-use Rattle.tj_words.specs.declared.record.Rec.{Rec}
-use Rattle.tj_words.specs.declared.view.Hand.{Hand}
-use Rattle.tj_words.specs.declared.view.View.{View}
-use Rattle.tj_words.specs.Words.Offsets.{word, count_at, live_at, stop_at, head_at, next_at, once_at}
-use Rattle.tj_words.specs.Words.Heads.{head_in}
-use Rattle.tj_words.specs.LawParts.Hands.{hand_in, making, IsThere}
-use Rattle.tj_words.specs.LawParts.Holding.{find_in, home_in, made_by}
-use Rattle.tj_words.specs.LawParts.Contents.{WordsSay, Contents, words_say, seats_have, contents_of, drawn_in, hand_of}
-use Rattle.tj_words.specs.SeatViews.SeatSteps.{SeatMe, live_load}
-use Rattle.tj_words.specs.SeatViews.SeenWords.{head_load, SeesOnce}
-use Rattle.tj_words.specs.Calls.ChainSteps.{push_exchange, shut_swap}
-use Rattle.tj_words.specs.Calls.DrawViews.{draw_step}
-use Rattle.tj_words.specs.Calls.LiveViews.{IfRecord, SlotsOf, raised_with, lowered_with}
-use Rattle.tj_words.specs.SeatViews.Views.{IsIdle, both, left_half, right_half, spent}
-use Rattle.tj_words.specs.Steps.QuietSteps.{KeepsHoldings, LoadsOnly, StoresOnce, ChangesLive, ChangesStop, ChangesHead}
-use Rattle.tj_words.specs.Steps.QuietSteps.{ChangesNext, DrawIsRefused}
-use Rattle.tj_words.specs.Steps.OneStates.{KeepsCells}
-use Rattle.tj_words.specs.CallLaws.CallSteps.{Makes, Splits, WritesOnce}
+use Rattle.tj_words.proofs.Prelude.{Bool, ChangesHead, ChangesLive, ChangesNext, ChangesStop, Contents, DrawIsRefused}
+use Rattle.tj_words.proofs.Prelude.{Hand, IfRecord, IsIdle, IsThere, KeepsCells, KeepsHoldings, LoadsOnly, Makes, None}
+use Rattle.tj_words.proofs.Prelude.{Once, Option, Program, Rec, SeatMe, SeesOnce, SlotsOf, Some, Sort, State, Step}
+use Rattle.tj_words.proofs.Prelude.{StoresOnce, View, WordsSay, WritesOnce, [], ap, at_map, both, contents_of, count_at}
+use Rattle.tj_words.proofs.Prelude.{dite, draw_step, drawn_in, find_in, get_elem?, hand_in, hand_of, head_at, head_in}
+use Rattle.tj_words.proofs.Prelude.{head_load, home_in, inl, inr, left_half, live_at, live_load, lowered_with, made_by}
+use Rattle.tj_words.proofs.Prelude.{making, map, map-append, next_at, once_at, push_exchange, put, raised_with, refl}
+use Rattle.tj_words.proofs.Prelude.{right_half, seats_have, set, shut_swap, some, spent, stop_at, subst, suc, sym, word}
+use Rattle.tj_words.proofs.Prelude.{words_say, ℕ, ℕ_discrete, ⊎_elim, ◌++◌, ◌+◌, ◌∙◌, ◌∷◌, ◌≡◌, ◌≢◌, ◌≤◌, ◌⊎◌}
+use Rattle.tj_words.specs.CallLaws.CallSteps.{Splits}
 use Rattle.tj_words.proofs.Seating.Appending.{find_snoc, hand_snoc, making_snoc}
 use Rattle.tj_words.proofs.Calls.KeptCells.{kept}
 use Rattle.tj_words.proofs.Waiters.ChainsSaid.{shut_or}
 use Rattle.tj_words.proofs.Holders.HeldTasks.{hand_finds, none_some}
 use Rattle.tj_words.proofs.Stores.SeatLists.{same_field, words_same}
-use Rattle.tj_words.proofs.Stores.StoredWords.{put_word, put_word_cell, put_word_word, say_once}
-use Rattle.tj_words.proofs.Stores.StoredWords.{say_count, say_live, say_stop, say_head, say_next}
+use Rattle.tj_words.proofs.Stores.StoredWords.{put_word, put_word_cell, put_word_word, say_once, say_count, say_live}
+use Rattle.tj_words.proofs.Stores.StoredWords.{say_stop, say_head, say_next}
+use Rattle.tj_words.specs.declared.offsets.Once.TheVariants as once
 
 module _ {B : Type 0} where
   -- of the views the core state shows the same

@@ -1,62 +1,25 @@
 -- Each call of a seat is one event of the core or none, by what it asks and what it tells; so are a split and a merge
 -- of idle seats. So what the calls show from a new table on is a legal run.
-use Rattle.std.proofs.Common.{◌≡◌, ◌≢◌, ℕ, suc, ◌-◌, ◌<◌, ◌≤◌, min, Bool, true, false, nat_lt, List, [], ◌∷◌}
-use Rattle.std.proofs.Common.{◌++◌, Option, Some, None, refl, sym, ap, ◌∙◌, subst, inl, inr, ⊎_elim, set, arith}
-use Rattle.std.proofs.Common.{ltb-true, ltb-false}
-use mathlib.Core.Logic.{dite}
-use native.Mathlib.Decide.{ℕ_discrete}
-use Rattle.atomic_table.specs.Table.{State, Step, Act, keeps, takes, gives}
-use Rattle.atomic_table.proofs.Lists.{set_else}
-use Rattle.tj_base.specs.declared.cell.Sort.{Sort}
-use Rattle.tj_body.specs.Programs.{Program}
-use Rattle.tj_core.specs.Events.{MayReadAgain, MayReadOwner, is_owner, owner_found, owner_read}
-use Rattle.tj_core.specs.declared.event.Event.{Event}
-use Rattle.tj_core.specs.declared.event.Event.TheVariants as event
-use Rattle.tj_words.specs.declared.offsets.Once.{Once}
-use Rattle.tj_words.specs.declared.offsets.Once.TheVariants as once
-use Rattle.tj_words.specs.declared.phase.Phase.{Phase}
-use Rattle.tj_words.specs.declared.phase.Phase.TheVariants as phase
-use Rattle.tj_words.specs.declared.phase.Walk.TheVariants as walk
-use Rattle.tj_words.specs.declared.record.Rec.{Rec}
-use Rattle.tj_words.specs.declared.table.Key.{Key}
-use Rattle.tj_words.specs.declared.view.Does.TheVariants as does
-use Rattle.tj_words.specs.declared.view.View.{View}
-use Rattle.tj_words.specs.CallLaws.CallRuns.{AreAskedMoments, CallRunsAreLegal, CallsAreSteps, IsAskedCall, IsAskedStep}
-use Rattle.tj_words.specs.CallLaws.CallRuns.{IsIdleMerge, OwnerEvents, OwnerReads, SeatsAreQuiet, acts_by, asked_by}
-use Rattle.tj_words.specs.CallLaws.CallRuns.{AreShown, StepShows, events_by, joined}
-use Rattle.tj_words.specs.CallLaws.CallRuns.{live_act, phase_act, phase_events, swap_events, under}
-use Rattle.tj_words.specs.CallLaws.CallSteps.{Makes, MakesWith, WritesOnce}
-use Rattle.tj_words.specs.LawParts.Contents.{Contents, WordsSay, contents_of, drawn_in}
-use Rattle.tj_words.specs.Calls.DrawViews.{new_hand}
-use Rattle.tj_words.specs.Calls.EntryViews.{MayPutOnce, PutsOnce}
-use Rattle.tj_words.specs.Calls.ExchangeViews.{KnowsTable, MayClearFrom, MayGoBack, MayWake}
-use Rattle.tj_words.specs.Law.{Rule}
-use Rattle.tj_words.specs.Words.Lists.{cell}
-use Rattle.tj_words.specs.Calls.LiveViews.{IfRecord, LaysChild, Shelves, SlotsOf, raised_with, lowered_with}
-use Rattle.tj_words.specs.Words.Offsets.{word, count_at, live_at, others_at, stop_at, own_at, phase_at, once_at}
-use Rattle.tj_words.specs.Words.Offsets.{head_at}
-use Rattle.tj_words.specs.Words.Offsets.{next_at}
-use Rattle.tj_words.specs.Steps.OneStates.{KeepsCells}
-use Rattle.tj_words.specs.CallLaws.OwnerCalls.{takes_new}
-use Rattle.tj_words.specs.Steps.OwnerSteps.{draw_event}
-use Rattle.tj_words.specs.Words.Owners.{owner_in}
-use Rattle.tj_words.specs.Calls.OwnerViews.{MayPutOwner, PutsOwner}
-use Rattle.tj_words.specs.Words.Phases.{phase_in}
-use Rattle.tj_words.specs.Calls.PhaseViews.{MayPutPhase, PutsPhase}
-use Rattle.tj_words.specs.Steps.QuietSteps.{ChangesHead, ChangesLive, ChangesNext, ChangesStop, DrawIsRefused}
-use Rattle.tj_words.specs.Steps.QuietSteps.{KeepsHoldings}
-use Rattle.tj_words.specs.Steps.QuietSteps.{LoadsOnly}
-use Rattle.tj_words.specs.CallLaws.RestedRuns.{IsSplit, Ruled, last_moment}
-use Rattle.tj_words.specs.SeatViews.SeatSteps.{SeatMe}
-use Rattle.tj_words.specs.CallLaws.StepCalls.{StepCall, place_of, told_by}
-use Rattle.tj_words.specs.CallLaws.StepCalls as call
-use Rattle.tj_words.specs.Steps.StepEvents.{ShowsEvent, ShowsNothing}
-use Rattle.tj_words.specs.Steps.TableRuns.{AreSteps, IsStep, Under, events_of, last_of, state_of}
-use Rattle.tj_core.specs.CoreState.{root_alone}
-use Rattle.tj_core.specs.Runs.{IsLegalRun, after_all}
-use Rattle.tj_words.specs.SeatViews.Views.{both, left_half, right_half}
-use Rattle.tj_words.specs.Steps.WalkSteps.{ReadsOn}
-use Rattle.tj_words.specs.Calls.WalkViews.{owner_seen}
+use Rattle.tj_words.proofs.Prelude.{Act, AreAskedMoments, AreSteps, Bool, ChangesHead, ChangesLive, ChangesNext}
+use Rattle.tj_words.proofs.Prelude.{ChangesStop, Contents, DrawIsRefused, Event, IfRecord, IsAskedStep, IsSplit, IsStep}
+use Rattle.tj_words.proofs.Prelude.{KeepsCells, KeepsHoldings, Key, KnowsTable, LaysChild, List, LoadsOnly, Makes}
+use Rattle.tj_words.proofs.Prelude.{MakesWith, MayClearFrom, MayGoBack, MayPutOnce, MayPutOwner, MayReadAgain}
+use Rattle.tj_words.proofs.Prelude.{MayReadOwner, MayWake, None, Once, Option, Phase, Program, PutsOnce, PutsOwner}
+use Rattle.tj_words.proofs.Prelude.{PutsPhase, ReadsOn, Rec, Rule, Ruled, SeatMe, Shelves, ShowsEvent, ShowsNothing}
+use Rattle.tj_words.proofs.Prelude.{SlotsOf, Some, Sort, State, Step, StepCall, Under, View, WordsSay, WritesOnce, []}
+use Rattle.tj_words.proofs.Prelude.{after_all, ap, arith, both, cell, contents_of, count_at, dite, draw_event, drawn_in}
+use Rattle.tj_words.proofs.Prelude.{events_by, events_of, false, gives, head_at, inl, inr, is_owner, keeps, last_moment}
+use Rattle.tj_words.proofs.Prelude.{last_of, left_half, live_at, lowered_with, ltb-false, ltb-true, min, nat_lt}
+use Rattle.tj_words.proofs.Prelude.{new_hand, next_at, once_at, others_at, own_at, owner_found, owner_in, owner_read}
+use Rattle.tj_words.proofs.Prelude.{owner_seen, phase_at, phase_events, phase_in, place_of, raised_with, refl}
+use Rattle.tj_words.proofs.Prelude.{right_half, root_alone, set, set_else, state_of, stop_at, subst, suc, sym, takes}
+use Rattle.tj_words.proofs.Prelude.{takes_new, told_by, true, under, word, ℕ, ℕ_discrete, ⊎_elim, ◌++◌, ◌-◌, ◌<◌, ◌∙◌}
+use Rattle.tj_words.proofs.Prelude.{◌∷◌, ◌≡◌, ◌≢◌, ◌≤◌}
+use Rattle.tj_words.specs.CallLaws.CallRuns.{CallRunsAreLegal, CallsAreSteps, IsAskedCall, IsIdleMerge, OwnerEvents}
+use Rattle.tj_words.specs.CallLaws.CallRuns.{OwnerReads, SeatsAreQuiet, acts_by, asked_by, AreShown, StepShows, joined}
+use Rattle.tj_words.specs.CallLaws.CallRuns.{live_act, phase_act, swap_events}
+use Rattle.tj_words.specs.Calls.PhaseViews.{MayPutPhase}
+use Rattle.tj_core.specs.Runs.{IsLegalRun}
 use Rattle.tj_words.proofs.Calls.CallChanges.{ShowsSame, as_it_was, head_changes, head_same, is_same, keeps_cells}
 use Rattle.tj_words.proofs.Calls.CallChanges.{live_changes, live_same, loads, lower_same, merge_merges, next_changes}
 use Rattle.tj_words.proofs.Calls.CallChanges.{once_same, push_same, raise_same, refused_counts, shut_same, split_splits}
@@ -68,18 +31,24 @@ use Rattle.tj_words.proofs.Calls.OwnerCalls.{call_closes, call_closes_own, call_
 use Rattle.tj_words.proofs.Cells.GivenOwners.{give_shown}
 use Rattle.tj_words.proofs.Events.OwnerEvents.{close_shown, hand_shown}
 use Rattle.tj_words.proofs.Events.QuietCells.{mark_shown}
-use Rattle.tj_words.proofs.Events.OwnerEvents as owners
-use Rattle.tj_words.proofs.Events.QuietMoves.{claim_shown, end_shown, head_shown, live_shown, load_shown}
-use Rattle.tj_words.proofs.Events.QuietMoves.{next_shown, once_shown, record_shown, refused_shown, release_shown}
-use Rattle.tj_words.proofs.Events.QuietMoves.{shelve_shown, split_shown, stop_shown}
+use Rattle.tj_words.proofs.Events.QuietMoves.{claim_shown, end_shown, head_shown, live_shown, load_shown, next_shown}
+use Rattle.tj_words.proofs.Events.QuietMoves.{once_shown, record_shown, refused_shown, release_shown, shelve_shown}
+use Rattle.tj_words.proofs.Events.QuietMoves.{split_shown, stop_shown}
 use Rattle.tj_words.proofs.Stores.SeatLists.{word_else, words_same}
 use Rattle.tj_words.proofs.Calls.TableRuns.{runs_are_legal}
 use Rattle.tj_words.proofs.Calls.TakenTasks.{call_claims, call_goes_back, call_wakes}
 use Rattle.tj_words.proofs.Calls.TaskCalls.{call_ends, call_moves, call_releases, call_settles, call_shelves}
 use Rattle.tj_words.proofs.Events.WaitClears.{clear_shown, lower_shown}
 use Rattle.tj_words.proofs.Events.WalkEvents.{again_shown_read, alarm_shown, count_shown, others_shown}
-use Rattle.tj_words.proofs.Events.WalkEvents.{owner_shown_read}
-use Rattle.tj_words.proofs.Events.WalkEvents.{publish_shown, raise_shown, settle_shown, wait_shown_read}
+use Rattle.tj_words.proofs.Events.WalkEvents.{owner_shown_read, publish_shown, raise_shown, settle_shown}
+use Rattle.tj_words.proofs.Events.WalkEvents.{wait_shown_read}
+use Rattle.tj_core.specs.declared.event.Event.TheVariants as event
+use Rattle.tj_words.specs.declared.offsets.Once.TheVariants as once
+use Rattle.tj_words.specs.declared.phase.Phase.TheVariants as phase
+use Rattle.tj_words.specs.declared.phase.Walk.TheVariants as walk
+use Rattle.tj_words.specs.declared.view.Does.TheVariants as does
+use Rattle.tj_words.specs.CallLaws.StepCalls as call
+use Rattle.tj_words.proofs.Events.OwnerEvents as owners
 
 module _ {B : Type 0} (program : Bool → B → Program B) (key : Key B) (u w : Ruled program key) where
   abbrev s : State (Option (Rec B)) (View B)

@@ -1,29 +1,10 @@
 -- A draw that finds a cell is a change of the law of steps, and leaves makers and numbers of the cells that were drawn
 -- before.
-use Rattle.std.proofs.Common.{◌≡◌, ℕ, suc, ◌<◌, Bool, Option}
-use Rattle.std.proofs.Common.{refl, sym, ap, ◌∙◌, inl, arith}
-use mathlib.Core.Option.{some}
-use Rattle.atomic_table.specs.Table.{State, homes_after}
-use Rattle.atomic_table.proofs.Lists.{at_map, set_again}
-use Rattle.tj_base.specs.declared.cell.Sort.{Sort}
-use Rattle.tj_base.specs.declared.cell.Sort.TheVariants as sort
-use Rattle.tj_body.specs.Programs.{Program}
-use Rattle.tj_words.specs.declared.offsets.Once.TheVariants as once
-use Rattle.tj_words.specs.declared.record.Rec.{Rec}
-use Rattle.tj_words.specs.declared.table.Key.{Key}
-use Rattle.tj_words.specs.declared.view.Hand.{Hand}
-use Rattle.tj_words.specs.declared.view.View.{View}
-use Rattle.tj_words.specs.LawParts.Contents.{Contents, contents_of, drawn_in, seats_have}
-use Rattle.tj_words.specs.Calls.DrawViews.{FindsCell, MayDraw, drew, new_hand}
-use Rattle.tj_words.specs.Law.{Law, Rule}
-use Rattle.tj_words.specs.Words.Lists.{total}
-use Rattle.tj_words.specs.Words.Offsets.{word, count_at}
-use Rattle.tj_words.specs.Steps.OneStates.{KeepsCells}
-use Rattle.tj_words.specs.CallLaws.OwnerCalls.{takes_new}
-use Rattle.tj_words.specs.Steps.OwnerSteps.{DrawsCell}
-use Rattle.tj_words.specs.SeatViews.SeatSteps.{SeatMe}
-use Rattle.tj_words.specs.CallLaws.CallSteps.{MakesWith}
-use Rattle.tj_words.specs.CallLaws.EventCalls.{Keeping}
+use Rattle.tj_words.proofs.Prelude.{Bool, Contents, DrawsCell, FindsCell, Hand, Keeping, KeepsCells, Key, Law}
+use Rattle.tj_words.proofs.Prelude.{MakesWith, MayDraw, Option, Program, Rec, Rule, SeatMe, Sort, State, View, ap}
+use Rattle.tj_words.proofs.Prelude.{arith, at_map, contents_of, count_at, drawn_in, drew, homes_after, inl, new_hand}
+use Rattle.tj_words.proofs.Prelude.{refl, seats_have, set_again, some, suc, sym, takes_new, total, word, ℕ, ◌<◌, ◌∙◌}
+use Rattle.tj_words.proofs.Prelude.{◌≡◌}
 use Rattle.tj_words.proofs.Events.DrawEvents.{drawn_into, may_draw}
 use Rattle.tj_words.proofs.Cells.DrawnCells.{draws_in}
 use Rattle.tj_words.proofs.Cells.DrawnTasks.{slots_after}
@@ -31,6 +12,8 @@ use Rattle.tj_words.proofs.Holders.HeldTasks.{hand_found}
 use Rattle.tj_words.proofs.Stores.SeatLists.{back}
 use Rattle.tj_words.proofs.Stores.StepContents.{call_stores_with, stored_with}
 use Rattle.tj_words.proofs.Stores.TableWords.{Count}
+use Rattle.tj_base.specs.declared.cell.Sort.TheVariants as sort
+use Rattle.tj_words.specs.declared.offsets.Once.TheVariants as once
 
 -- makers and numbers of the cells that were drawn before stay: the drawer had none in hand, and no other cell in hand
 -- is one that it makes

@@ -1,36 +1,13 @@
 -- The calls on OTHERS, a walker's loads, and the stores of Walking and Alarmed are the changes of the law of steps: a
 -- task of the seat does something else, and no word but OTHERS or its PHASE is changed; so makers and numbers of cells
 -- stay.
-use Rattle.std.proofs.Common.{◌≡◌, ℕ, suc, ◌-◌, ◌<◌, Bool, set, Option, Some, refl, sym, ap, ◌∙◌, subst, ⊎_elim}
-use Rattle.std.proofs.Common.{arith}
-use Rattle.atomic_table.specs.Table.{State}
-use Rattle.atomic_table.proofs.Lists.{at_map}
-use Rattle.tj_body.specs.Programs.{Program}
-use Rattle.tj_core.specs.Events.{owner_read, MayReadOwner, start_walk}
-use Rattle.tj_core.specs.declared.walk.Way.{Way}
-use Rattle.tj_core.specs.declared.walk.Walker.{Walker}
-use Rattle.tj_words.specs.declared.record.Rec.{Rec}
-use Rattle.tj_words.specs.declared.table.Key.{Key}
-use Rattle.tj_words.specs.declared.view.Custody.{Custody}
-use Rattle.tj_words.specs.declared.view.Does.{Does}
-use Rattle.tj_words.specs.declared.view.Does.TheVariants as does
-use Rattle.tj_words.specs.declared.view.View.{View}
-use Rattle.tj_words.specs.declared.phase.Phase.TheVariants as phase
-use Rattle.tj_words.specs.declared.phase.Walk.TheVariants as walk
-use Rattle.tj_words.specs.LawParts.Contents.{Contents, SeatsHave, words_say, seats_have, contents_of, hand_of, made_of}
-use Rattle.tj_words.specs.LawParts.Holding.{held_in, phase_of}
-use Rattle.tj_words.specs.Law.{Rule}
-use Rattle.tj_words.specs.Words.Lists.{total, cell}
-use Rattle.tj_words.specs.Words.Offsets.{word, others_at, phase_at}
-use Rattle.tj_words.specs.Words.Phases.{phase_in}
-use Rattle.tj_words.specs.SeatViews.SeatSteps.{SeatMe}
-use Rattle.tj_words.specs.Steps.ShownParts.{parts_of}
-use Rattle.tj_words.specs.SeatViews.TaskLists.{hold}
-use Rattle.tj_words.specs.Calls.WalkViews.{IsWalking, MayRaise, lowered, owner_seen, read_on, turned, walk_with}
-use Rattle.tj_words.specs.Steps.WalkSteps.{Proceeds, ReadsOn, RaisesOthers, LowersOthers, PublishesWait, StoresAlarm}
-use Rattle.tj_words.specs.CallLaws.CallSteps.{Makes}
-use Rattle.tj_words.specs.CallLaws.EventCalls.{Keeping}
-use Rattle.tj_words.specs.LawParts.ShownState.{does_walk}
+use Rattle.tj_words.proofs.Prelude.{Bool, Contents, Custody, Does, Keeping, Key, LowersOthers, Makes, MayReadOwner}
+use Rattle.tj_words.proofs.Prelude.{Option, Proceeds, Program, PublishesWait, RaisesOthers, ReadsOn, Rec, Rule, SeatMe}
+use Rattle.tj_words.proofs.Prelude.{SeatsHave, Some, State, StoresAlarm, View, Walker, Way, ap, arith, at_map, cell}
+use Rattle.tj_words.proofs.Prelude.{contents_of, does_walk, hand_of, held_in, hold, made_of, others_at, owner_read}
+use Rattle.tj_words.proofs.Prelude.{parts_of, phase_at, phase_in, phase_of, refl, seats_have, set, start_walk, subst}
+use Rattle.tj_words.proofs.Prelude.{suc, sym, total, turned, walk_with, word, words_say, ℕ, ⊎_elim, ◌-◌, ◌<◌, ◌∙◌, ◌≡◌}
+use Rattle.tj_words.specs.Calls.WalkViews.{IsWalking, MayRaise, lowered, owner_seen, read_on}
 use Rattle.tj_words.specs.Calls.WaitViews.{MayPublishWait, MayStoreAlarm, alarmed, now_alarmed, now_does, published}
 use Rattle.tj_words.proofs.Seating.Splitting.{total_set}
 use Rattle.tj_words.proofs.Waiters.OthersSteps.{acting_phase}
@@ -42,8 +19,11 @@ use Rattle.tj_words.proofs.Holders.NotedTasks.{noted_is}
 use Rattle.tj_words.proofs.Stores.StoredWords.{say_others}
 use Rattle.tj_words.proofs.Phases.WaitStores.{after_store, alarms, noted_path, noted_view, publishes}
 use Rattle.tj_words.proofs.Stores.StepContents.{step_stores}
-use Rattle.tj_words.proofs.Stores.TableWords as table_word
 use Rattle.tj_words.proofs.Calls.KeptCells.{kept_turns, kept_words}
+use Rattle.tj_words.specs.declared.view.Does.TheVariants as does
+use Rattle.tj_words.specs.declared.phase.Phase.TheVariants as phase
+use Rattle.tj_words.specs.declared.phase.Walk.TheVariants as walk
+use Rattle.tj_words.proofs.Stores.TableWords as table_word
 
 module _ {B : Type 0} (program : Bool → B → Program B) (key : Key B) (s t : State (Option (Rec B)) (View B))
     (r : Rule program key s) (id i n : ℕ) (m m' : SeatMe B) (h : Makes id i n m m' s t) where

@@ -1,23 +1,11 @@
 -- Makers and numbers of cells stay where hands and the numbers of things made do, and PARENT and KID of the cells that
 -- are there: so they stay at each step by which one task does something else, or a cell has another owner.
-use Rattle.std.proofs.Common.{◌≡◌, ℕ, ◌+◌, Option, Some, refl, sym, ap, ◌∙◌, subst, inl}
-use mathlib.Core.Logic.{dite}
-use native.Mathlib.Decide.{ℕ_discrete}
-use Rattle.tj_body.specs.Programs.{Program}
-use Rattle.tj_words.specs.declared.offsets.Once.TheVariants as once
-use Rattle.tj_words.specs.declared.phase.Phase.{Phase}
-use Rattle.tj_words.specs.declared.record.Rec.{Rec}
-use Rattle.tj_words.specs.declared.view.Custody.{Custody}
-use Rattle.tj_words.specs.declared.view.Does.{Does}
-use Rattle.tj_words.specs.LawParts.Hands.{IsThere}
-use Rattle.tj_words.specs.LawParts.Holding.{made_by}
-use Rattle.tj_words.specs.LawParts.Contents.{Contents, drawn_in, hand_of, held_of, home_of, made_of}
-use Rattle.tj_words.specs.Law.{Law}
-use Rattle.tj_words.specs.Steps.ShownParts.{parts_of, IsSameBut, IsSameButOwner}
-use Rattle.tj_words.specs.Steps.StepEvents.{IsHeldWith, IsMoved}
-use Rattle.tj_words.specs.Steps.WalkSteps.{Proceeds}
-use Rattle.tj_words.specs.Steps.OneStates.{KeepsCells}
+use Rattle.tj_words.proofs.Prelude.{Contents, Custody, Does, IsHeldWith, IsMoved, IsSameBut, IsSameButOwner, IsThere}
+use Rattle.tj_words.proofs.Prelude.{KeepsCells, Law, Option, Phase, Proceeds, Program, Rec, Some, ap, dite, drawn_in}
+use Rattle.tj_words.proofs.Prelude.{hand_of, held_of, home_of, inl, made_by, made_of, parts_of, refl, subst, sym, ℕ}
+use Rattle.tj_words.proofs.Prelude.{ℕ_discrete, ◌+◌, ◌∙◌, ◌≡◌}
 use Rattle.tj_words.proofs.Holders.TaskPlaces.{held_here}
+use Rattle.tj_words.specs.declared.offsets.Once.TheVariants as once
 
 module _ {B : Type 0} (cells : ℕ) (x y : Contents B) where
   -- how many things the task has made by what a seat has for it, or else by its record

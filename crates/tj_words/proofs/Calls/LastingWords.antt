@@ -1,56 +1,30 @@
 -- What never changes in a run of a table. A call stores into one word; so a word stays, or the call is one of those
 -- that store into it, and what such a call asks of its seat can't be so where the law says that the word is written for
 -- good.
-use Rattle.std.proofs.Common.{◌≡◌, ◌≢◌, ◌⊎◌, ℕ, suc, ◌<◌, ◌≤◌, Bool, true, false, List, [], ◌∷◌, set}
-use Rattle.std.proofs.Common.{map, length, cond, Option, Some, None, refl, sym, ap, ◌∙◌, subst, inl, inr, ⊎_elim, arith}
-use Rattle.std.proofs.Common.{ne_eqb}
-use mathlib.Core.Logic.{dite}
-use native.Mathlib.Decide.{ℕ_discrete, dec_le}
-use Rattle.atomic_table.specs.Table.{State, Step}
-use Rattle.atomic_table.proofs.Lists.{at_map}
-use Rattle.tj_base.specs.declared.cell.Sort.{Sort}
-use Rattle.tj_body.specs.Programs.{Program}
-use Rattle.tj_words.specs.declared.offsets.Once.{Once}
-use Rattle.tj_words.specs.declared.offsets.Once.TheVariants as once
-use Rattle.tj_words.specs.declared.phase.Phase.{Phase}
-use Rattle.tj_words.specs.declared.phase.Phase.TheVariants as phase
-use Rattle.tj_words.specs.declared.phase.Walk.TheVariants as walk
-use Rattle.tj_words.specs.declared.record.Rec.{Rec}
-use Rattle.tj_words.specs.declared.table.Key.{Key}
-use Rattle.tj_words.specs.declared.view.Hand.{Hand}
-use Rattle.tj_words.specs.declared.view.View.{View}
-use Rattle.tj_words.specs.Calls.DrawViews.{draw_step, mark}
-use Rattle.tj_words.specs.Calls.EntryViews.{MayPutOnce, PutsOnce}
-use Rattle.tj_words.specs.Calls.ExchangeViews.{MaySwap, Swaps}
-use Rattle.tj_words.specs.Calls.LiveViews.{SlotsOf, lowered_with, raised_with}
-use Rattle.tj_words.specs.Words.Heads.{head_in, shut_word}
-use Rattle.tj_words.specs.Words.Lists.{Each}
-use Rattle.tj_words.specs.Words.Offsets.{word, count_at, once_at, own_at, head_at}
-use Rattle.tj_words.specs.Words.Owners.{owner_in}
-use Rattle.tj_words.specs.Words.Phases.{phase_in}
-use Rattle.tj_words.specs.Calls.OwnerViews.{MayPutOwner, PutsOwner}
-use Rattle.tj_words.specs.Calls.PhaseViews.{PutsPhase}
-use Rattle.tj_words.specs.CallLaws.LastingWords.{AreOpenPushes, CellsAreForGood, ClosesAreForGood}
-use Rattle.tj_words.specs.CallLaws.LastingWords.{CellsStay, CountNeverFalls, CountStays, IsOpenPush, NobodyStays}
-use Rattle.tj_words.specs.CallLaws.LastingWords.{ShutHeadsStay, ShutsAreForGood, TreeWordsAreForGood, TreeWordsStay}
-use Rattle.tj_words.specs.CallLaws.LastingWords.{ValuesAreForGood, ValuesStay}
-use Rattle.tj_words.specs.CallLaws.RestedRuns.{AreMoments, IsCallStep, IsMerge, IsSplit, IsTableStep, Ruled}
-use Rattle.tj_words.specs.CallLaws.RestedRuns.{last_moment}
-use Rattle.tj_words.specs.CallLaws.StepCalls.{StepCall, place_of, told_by}
-use Rattle.tj_words.specs.CallLaws.StepCalls as call
-use Rattle.tj_words.specs.LawParts.Contents.{Contents, contents_of, drawn_in, hand_of}
-use Rattle.tj_words.specs.LawParts.Hands.{IsThere, hand_in}
-use Rattle.tj_words.specs.LawParts.TreeWords.{IsDue, IsOfTree}
-use Rattle.tj_words.specs.SeatViews.Moments.{was_so}
-use Rattle.tj_words.specs.SeatViews.SeatSteps.{SeatMe}
-use Rattle.tj_words.specs.SeatViews.SeenWords.{SeesOnce, head_load}
-use Rattle.tj_words.specs.SeatViews.Views.{both, left_half, right_half, spent}
+use Rattle.tj_words.proofs.Prelude.{AreMoments, Bool, Contents, Each, Hand, IsCallStep, IsDue, IsMerge, IsOfTree}
+use Rattle.tj_words.proofs.Prelude.{IsSplit, IsTableStep, IsThere, Key, List, MayPutOnce, MayPutOwner, MaySwap, None}
+use Rattle.tj_words.proofs.Prelude.{Once, Option, Phase, Program, PutsOnce, PutsOwner, PutsPhase, Rec, Ruled, SeatMe}
+use Rattle.tj_words.proofs.Prelude.{SeesOnce, SlotsOf, Some, Sort, State, Step, StepCall, Swaps, View, [], ap, arith}
+use Rattle.tj_words.proofs.Prelude.{at_map, both, cond, contents_of, count_at, dec_le, dite, draw_step, drawn_in, false}
+use Rattle.tj_words.proofs.Prelude.{hand_in, hand_of, head_at, head_in, head_load, inl, inr, last_moment, left_half}
+use Rattle.tj_words.proofs.Prelude.{length, lowered_with, map, mark, ne_eqb, once_at, own_at, owner_in, phase_in}
+use Rattle.tj_words.proofs.Prelude.{place_of, raised_with, refl, right_half, set, shut_word, spent, subst, suc, sym}
+use Rattle.tj_words.proofs.Prelude.{told_by, true, was_so, word, ℕ, ℕ_discrete, ⊎_elim, ◌<◌, ◌∙◌, ◌∷◌, ◌≡◌, ◌≢◌, ◌≤◌}
+use Rattle.tj_words.proofs.Prelude.{◌⊎◌}
+use Rattle.tj_words.specs.CallLaws.LastingWords.{AreOpenPushes, CellsAreForGood, ClosesAreForGood, CellsStay}
+use Rattle.tj_words.specs.CallLaws.LastingWords.{CountNeverFalls, CountStays, IsOpenPush, NobodyStays, ShutHeadsStay}
+use Rattle.tj_words.specs.CallLaws.LastingWords.{ShutsAreForGood, TreeWordsAreForGood, TreeWordsStay, ValuesAreForGood}
+use Rattle.tj_words.specs.CallLaws.LastingWords.{ValuesStay}
 use Rattle.tj_words.proofs.SeatLoads.KnowLoads.{hand_not}
 use Rattle.tj_words.proofs.SeatLoads.MomentLaws.{owner_is}
 use Rattle.tj_words.proofs.Stores.SeatLists.{each_set, each_snoc, word_else, word_here, words_same}
 use Rattle.tj_words.proofs.Stores.TableWords.{TableWord, index, is_word, is_word_here, same_cell, same_word}
-use Rattle.tj_words.proofs.Stores.TableWords as table_word
 use Rattle.tj_words.proofs.Waiters.ChainsSaid.{shut_or}
+use Rattle.tj_words.specs.declared.offsets.Once.TheVariants as once
+use Rattle.tj_words.specs.declared.phase.Phase.TheVariants as phase
+use Rattle.tj_words.specs.declared.phase.Walk.TheVariants as walk
+use Rattle.tj_words.specs.CallLaws.StepCalls as call
+use Rattle.tj_words.proofs.Stores.TableWords as table_word
 
 -- what a call may do with the words, where it stores n at word i of these: it stores what stands there, or this is the
 -- call by which a word of its kind is stored; of PHASE, NEXT, LIVE, OTHERS and STOP no more is said

@@ -1,16 +1,6 @@
 -- A moment has one holder of each task and one line of each cell.
-use Rattle.std.proofs.Common.{◌≡◌, ◌≢◌, ◌⊎◌, ℕ, List, [], ◌∷◌, Option, Some, None, refl, sym, ap, ◌∙◌, subst, inl, inr}
-use Rattle.std.proofs.Common.{⊎_elim}
-use Rattle.tj_body.specs.Programs.{Program}
-use Rattle.tj_words.specs.declared.head.Head.{Head}
-use Rattle.tj_words.specs.declared.head.Head.TheVariants.{Shut}
-use Rattle.tj_words.specs.declared.phase.Phase.{Phase}
-use Rattle.tj_words.specs.declared.view.Found.{Found}
-use Rattle.tj_words.specs.declared.view.Push.{Push}
-use Rattle.tj_words.specs.declared.view.Rest.{Rest}
-use Rattle.tj_words.specs.LawParts.Chains.{Chains}
-use Rattle.tj_words.specs.LawParts.Contents.{Contents}
-use Rattle.tj_words.specs.Law.{Law}
+use Rattle.tj_words.proofs.Prelude.{Chains, Contents, Found, Head, Law, List, None, Option, Phase, Program, Push, Rest}
+use Rattle.tj_words.proofs.Prelude.{Shut, Some, [], ap, inl, inr, refl, subst, sym, ℕ, ⊎_elim, ◌∙◌, ◌∷◌, ◌≡◌, ◌≢◌, ◌⊎◌}
 use Rattle.tj_words.specs.Steps.OneHolders.{OneLineStands, OneSeatHolds, OneSeatPushes}
 use Rattle.tj_words.proofs.Waiters.ChainFacts.{linked_one}
 use Rattle.tj_words.proofs.Waiters.ChainsSaid.{shut_or}

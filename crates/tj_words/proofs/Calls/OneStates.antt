@@ -1,28 +1,14 @@
 -- The core state that is shown is one: makers, numbers and names are those that words and hands tell.
-use Rattle.std.proofs.Common.{◌≡◌, ◌≢◌, ℕ, zero, suc, ◌<◌, ◌≤◌, List, [], ◌∷◌, ◌++◌, get_or, Option, Some}
-use Rattle.std.proofs.Common.{None}
-use Rattle.std.proofs.Common.{refl, sym, ap, ◌∙◌, subst, inl, ⊎_elim, arith}
-use mathlib.Core.Logic.{dite}
-use mathlib.Core.Option.{some-injective}
-use native.Mathlib.Decide.{ℕ_discrete, dec_le}
-use Rattle.tj_base.specs.ForkOrder.{Name, child}
-use Rattle.tj_base.specs.Puts.{put}
-use Rattle.tj_base.proofs.Puts.{put_here, put_else}
-use Rattle.tj_body.specs.History.{to_task}
-use Rattle.tj_body.specs.Programs.{Program}
-use Rattle.tj_body.specs.declared.point.Reference.{Reference}
-use Rattle.tj_core.specs.CoreState.{CellState}
-use Rattle.tj_words.specs.declared.offsets.Once.TheVariants as once
-use Rattle.tj_words.specs.declared.view.Hand.{Hand}
-use Rattle.tj_words.specs.LawParts.ShownState.{owner_shown, reference_of, stage_shown}
-use Rattle.tj_words.specs.Steps.ShownParts.{parts_of}
-use Rattle.tj_words.specs.Steps.OwnerSteps.{next_reference, DrawsCell}
-use Rattle.tj_words.specs.LawParts.Contents.{Contents, drawn_in, hand_of, held_of, home_of, made_of, core_shown}
-use Rattle.tj_words.specs.Law.{Law}
+use Rattle.tj_words.proofs.Prelude.{CellState, Contents, DrawsCell, Hand, Law, List, Name, None, Option, Program}
+use Rattle.tj_words.proofs.Prelude.{Reference, Some, [], ap, arith, child, core_shown, dec_le, dite, drawn_in, get_or}
+use Rattle.tj_words.proofs.Prelude.{hand_of, held_of, home_of, inl, made_of, next_reference, owner_shown, parts_of, put}
+use Rattle.tj_words.proofs.Prelude.{put_else, put_here, reference_of, refl, some-injective, stage_shown, subst, suc}
+use Rattle.tj_words.proofs.Prelude.{sym, to_task, zero, ℕ, ℕ_discrete, ⊎_elim, ◌++◌, ◌<◌, ◌∙◌, ◌∷◌, ◌≡◌, ◌≢◌, ◌≤◌}
 use Rattle.tj_words.specs.Steps.OneStates.{IsToldBy, IsInHandOf, KeepsCells}
 use Rattle.tj_words.proofs.Cells.CellFacts.{cell_born}
 use Rattle.tj_words.proofs.Events.DrawEvents.{before_or, last_or, made_t, t_there}
 use Rattle.tj_words.proofs.Events.ShownCells.{cell_blank, cell_there, states_same}
+use Rattle.tj_words.specs.declared.offsets.Once.TheVariants as once
 
 abbrev name_in : List Reference → ℕ → Name
 name_in born c = (reference_of born c).name

@@ -1,28 +1,15 @@
 -- The store of Promise and the stores of OWN are changes of the law of steps, and leave makers and numbers of cells.
-use Rattle.std.proofs.Common.{◌≡◌, ◌≢◌, ℕ, Bool, true, Option, Some, None}
-use Rattle.atomic_table.specs.Table.{State, keeps}
-use Rattle.tj_body.specs.Programs.{Program}
-use Rattle.tj_words.specs.declared.record.Rec.{Rec}
-use Rattle.tj_words.specs.declared.table.Key.{Key}
-use Rattle.tj_words.specs.declared.view.View.{View}
-use Rattle.tj_words.specs.declared.phase.Phase.TheVariants as phase
-use Rattle.tj_words.specs.LawParts.Contents.{Contents, contents_of}
-use Rattle.tj_words.specs.Calls.DrawViews.{MayGive, MayMark, gave_owner, marked_promise}
-use Rattle.tj_words.specs.Calls.OwnerViews.{MayClose, MayHand, closed_cell, handed_promise}
-use Rattle.tj_words.specs.Law.{Rule}
-use Rattle.tj_words.specs.Words.Offsets.{own_at, phase_at}
-use Rattle.tj_words.specs.Words.Owners.{owner_in}
-use Rattle.tj_words.specs.Words.Phases.{phase_in}
-use Rattle.tj_words.specs.Steps.OwnerSteps.{ClosesPromise, ClosesResult, GivesOwner, HandsPromise}
-use Rattle.tj_words.specs.Steps.QuietSteps.{MarksPromise}
-use Rattle.tj_words.specs.SeatViews.SeatSteps.{SeatMe}
-use Rattle.tj_words.specs.CallLaws.CallSteps.{MakesWith}
-use Rattle.tj_words.specs.CallLaws.EventCalls.{Keeping}
+use Rattle.tj_words.proofs.Prelude.{Bool, ClosesPromise, ClosesResult, Contents, GivesOwner, HandsPromise, Keeping, Key}
+use Rattle.tj_words.proofs.Prelude.{MakesWith, MarksPromise, MayClose, MayGive, MayHand, MayMark, None, Option, Program}
+use Rattle.tj_words.proofs.Prelude.{Rec, Rule, SeatMe, Some, State, View, closed_cell, contents_of, gave_owner}
+use Rattle.tj_words.proofs.Prelude.{handed_promise, keeps, marked_promise, own_at, owner_in, phase_at, phase_in, true}
+use Rattle.tj_words.proofs.Prelude.{ℕ, ◌≡◌, ◌≢◌}
 use Rattle.tj_words.proofs.Cells.GivenCells.{give_keeps}
 use Rattle.tj_words.proofs.Cells.OwnerStores.{close_keeps, close_own_keeps, hand_keeps}
 use Rattle.tj_words.proofs.Phases.MarkedPromises.{mark_keeps}
 use Rattle.tj_words.proofs.Stores.StepContents.{call_stores}
 use Rattle.tj_words.proofs.Stores.TableWords.{Own, Phase}
+use Rattle.tj_words.specs.declared.phase.Phase.TheVariants as phase
 
 module _ {B : Type 0} (program : Bool → B → Program B) (key : Key B) (s t : State (Option (Rec B)) (View B))
     (r : Rule program key s) (id c n : ℕ) (m m' : SeatMe B) where

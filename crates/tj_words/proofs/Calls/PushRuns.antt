@@ -1,32 +1,16 @@
 -- A push that succeeds lengthens the very chain that was found: two lists that NEXT links and that begin alike are one.
-use Rattle.std.proofs.Common.{◌≡◌, ◌≢◌, ℕ, suc, ◌-◌, ◌<◌, ◌≤◌, Bool, Option, List, [], ◌∷◌, ◌++◌, length, set}
-use Rattle.std.proofs.Common.{refl, sym, ap, ◌∙◌, subst, ⊎_elim, arith}
-use mathlib.Core.Option.{some}
-use lib.ListN.{get_elem?}
-use Rattle.atomic_table.specs.Table.{State}
-use Rattle.atomic_table.proofs.Lists.{at_map}
-use Rattle.tj_body.specs.Points.{IsIn}
-use Rattle.tj_body.specs.Programs.{Program}
-use Rattle.tj_words.specs.declared.head.Head.{Head}
-use Rattle.tj_words.specs.declared.head.Head.TheVariants.{Empty, Shut, Task}
-use Rattle.tj_words.specs.declared.record.Rec.{Rec}
-use Rattle.tj_words.specs.declared.table.Key.{Key}
-use Rattle.tj_words.specs.declared.view.Found.{Found}
-use Rattle.tj_words.specs.declared.view.View.{View}
-use Rattle.tj_words.specs.Words.Heads.{head_in, head_word, shut_word}
-use Rattle.tj_words.specs.Words.Lists.{cell}
-use Rattle.tj_words.specs.Words.Offsets.{word, head_at, next_at}
+use Rattle.tj_words.proofs.Prelude.{AreLinked, Bool, Empty, Found, Head, IsIn, Key, List, Option, Program, Rec, Ruled}
+use Rattle.tj_words.proofs.Prelude.{Shut, State, StepCall, Task, View, WasSo, [], ap, arith, at_map, cell, get_elem?}
+use Rattle.tj_words.proofs.Prelude.{head_at, head_in, head_of, head_word, length, next_at, place_of, refl, set}
+use Rattle.tj_words.proofs.Prelude.{shut_word, some, subst, suc, sym, told_by, was_so, word, ℕ, ⊎_elim, ◌++◌, ◌-◌, ◌<◌}
+use Rattle.tj_words.proofs.Prelude.{◌∙◌, ◌∷◌, ◌≡◌, ◌≢◌, ◌≤◌}
 use Rattle.tj_words.specs.Calls.PushSteps.{ChainIsFound, FindsLonger, chain_is_found}
-use Rattle.tj_words.specs.LawParts.Chains.{AreLinked, head_of}
 use Rattle.tj_words.specs.CallLaws.PushRuns.{AreFoundStill, FoundChainsStand, Pushes, PushesLengthen}
-use Rattle.tj_words.specs.CallLaws.StepCalls.{StepCall, place_of, told_by}
-use Rattle.tj_words.specs.CallLaws.StepCalls as call
-use Rattle.tj_words.specs.CallLaws.RestedRuns.{Ruled}
-use Rattle.tj_words.specs.SeatViews.Moments.{WasSo, was_so}
 use Rattle.tj_words.specs.SeatViews.SeenWords.{FindsChain}
 use Rattle.tj_words.proofs.SeatLoads.KnowLoads.{task_in}
 use Rattle.tj_words.proofs.Stores.SeatLists.{word_else, word_here}
 use Rattle.tj_words.proofs.Waiters.ChainFacts.{first_of, grown_longer, linked_one, no_shut}
+use Rattle.tj_words.specs.CallLaws.StepCalls as call
 
 -- the end of a list that NEXT links is linked
 linked_end : (next : ℕ → Head) (more old : List ℕ) → AreLinked next (more ++ old) → AreLinked next old

@@ -1,43 +1,21 @@
 -- Once a seat has loaded LIVE as 0, each call, split and merge leaves some seat that has, so LIVE stays 0. A seat to
 -- which TAG is due would be lively, so none is written.
-use Rattle.std.proofs.Common.{◌≡◌, ◌≢◌, ◌⊎◌, ℕ, Bool, true, false, ◌||◌, List, [], ◌∷◌, ◌++◌, set}
-use Rattle.std.proofs.Common.{Option, Some, None, refl, sym, ap, ◌∙◌, subst, inl, inr, ⊎_elim, arith}
-use mathlib.Core.Logic.{dite}
-use mathlib.Core.Option.{some, some-injective}
-use native.Mathlib.Decide.{ℕ_discrete, dec_le}
-use lib.ListN.{get_elem?}
-use Rattle.atomic_table.specs.Table.{State, Step}
-use Rattle.atomic_table.proofs.Lists.{at_longer, at_map, set_else, set_here}
-use Rattle.tj_base.specs.declared.cell.Sort.{Sort}
-use Rattle.tj_body.specs.Programs.{Program}
-use Rattle.tj_words.specs.declared.offsets.Once.{Once}
-use Rattle.tj_words.specs.declared.offsets.Once.TheVariants as once
-use Rattle.tj_words.specs.declared.phase.Phase.{Phase}
-use Rattle.tj_words.specs.declared.phase.Phase.TheVariants as phase
-use Rattle.tj_words.specs.declared.phase.Walk.TheVariants as walk
-use Rattle.tj_words.specs.declared.record.Rec.{Rec}
-use Rattle.tj_words.specs.declared.table.Key.{Key}
-use Rattle.tj_words.specs.declared.view.View.{View}
-use Rattle.tj_words.specs.Calls.DrawViews.{draw_step}
-use Rattle.tj_words.specs.Calls.EntryViews.{MayPutOnce, PutsOnce}
-use Rattle.tj_words.specs.Calls.ExchangeViews.{MaySwap, Swaps}
-use Rattle.tj_words.specs.Calls.LiveViews.{SlotsOf, lowered_with, raised_with}
-use Rattle.tj_words.specs.Words.Offsets.{word, once_at}
-use Rattle.tj_words.specs.Calls.OwnerViews.{MayPutOwner, PutsOwner}
-use Rattle.tj_words.specs.Words.Phases.{phase_in}
-use Rattle.tj_words.specs.Calls.PhaseViews.{PutsPhase}
-use Rattle.tj_words.specs.CallLaws.RestedRuns.{AreMoments, HasRested, IsCallStep, IsMerge, IsSplit, IsTableStep}
-use Rattle.tj_words.specs.CallLaws.RestedRuns.{NoValueComes}
-use Rattle.tj_words.specs.CallLaws.RestedRuns.{RestStays, Ruled, last_moment, live_in, tag_at}
-use Rattle.tj_words.specs.SeatViews.SeatSteps.{SeatMe}
-use Rattle.tj_words.specs.SeatViews.SeenWords.{SeesOnce, head_load}
-use Rattle.tj_words.specs.CallLaws.StepCalls.{StepCall, place_of, told_by}
-use Rattle.tj_words.specs.CallLaws.StepCalls as call
-use Rattle.tj_words.specs.LawParts.TreeWords.{IsDue}
-use Rattle.tj_words.specs.SeatViews.Views.{both, left_half, right_half, spent}
+use Rattle.tj_words.proofs.Prelude.{AreMoments, Bool, IsCallStep, IsDue, IsMerge, IsSplit, IsTableStep, Key, List}
+use Rattle.tj_words.proofs.Prelude.{MayPutOnce, MayPutOwner, MaySwap, None, Once, Option, Phase, Program, PutsOnce}
+use Rattle.tj_words.proofs.Prelude.{PutsOwner, PutsPhase, Rec, Ruled, SeatMe, SeesOnce, SlotsOf, Some, Sort, State}
+use Rattle.tj_words.proofs.Prelude.{Step, StepCall, Swaps, View, [], ap, arith, at_longer, at_map, both, dec_le, dite}
+use Rattle.tj_words.proofs.Prelude.{draw_step, false, get_elem?, head_load, inl, inr, last_moment, left_half}
+use Rattle.tj_words.proofs.Prelude.{lowered_with, once_at, phase_in, place_of, raised_with, refl, right_half, set}
+use Rattle.tj_words.proofs.Prelude.{set_else, set_here, some, some-injective, spent, subst, sym, told_by, true, word, ℕ}
+use Rattle.tj_words.proofs.Prelude.{ℕ_discrete, ⊎_elim, ◌++◌, ◌||◌, ◌∙◌, ◌∷◌, ◌≡◌, ◌≢◌, ◌⊎◌}
+use Rattle.tj_words.specs.CallLaws.RestedRuns.{HasRested, NoValueComes, RestStays, live_in, tag_at}
 use Rattle.tj_words.proofs.Waiters.ChainsSaid.{shut_or}
 use Rattle.tj_words.proofs.Waiters.LiveSteps.{held_in_phase, lively_live}
 use Rattle.tj_words.proofs.Stores.SeatLists.{inside, word_else, words_same}
+use Rattle.tj_words.specs.declared.offsets.Once.TheVariants as once
+use Rattle.tj_words.specs.declared.phase.Phase.TheVariants as phase
+use Rattle.tj_words.specs.declared.phase.Walk.TheVariants as walk
+use Rattle.tj_words.specs.CallLaws.StepCalls as call
 
 module _ {B : Type 0} where
   -- from the view v on a seat keeps that it has loaded LIVE as 0

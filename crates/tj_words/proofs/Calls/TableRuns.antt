@@ -1,23 +1,12 @@
 -- The steps of a table, one after the other, are a run of the core: each is one event or none, and what it leaves is
 -- what the next moment shows.
-use Rattle.std.proofs.Common.{◌≡◌, ◌⊎◌, ℕ, ◌<◌, min, Bool, List, [], ◌∷◌, ◌++◌, map, refl, sym, ap, ◌∙◌, subst}
-use Rattle.std.proofs.Common.{⊎_elim, arith}
-use mathlib.Core.Option.{some}
-use Rattle.atomic_table.specs.Table.{opening}
-use Rattle.tj_body.specs.History.{to_task}
-use Rattle.tj_body.specs.Programs.{Program}
-use Rattle.tj_core.specs.CoreState.{CoreState, root_alone}
-use Rattle.tj_core.specs.Events.{after}
-use Rattle.tj_core.specs.Runs.{AreAllowed, after_all}
-use Rattle.tj_core.specs.declared.event.Event.{Event}
-use Rattle.tj_words.specs.declared.view.Hand.{Hand}
-use Rattle.tj_words.specs.LawParts.Contents.{contents_of, core_shown, drawn_in, seats_have}
-use Rattle.tj_words.specs.LawParts.FirstState.{first_slots, first_view, first_words}
-use Rattle.tj_words.specs.LawParts.ShownState.{reference_of}
-use Rattle.tj_words.specs.Steps.OwnerSteps.{DrawsCell, draw_event}
-use Rattle.tj_words.specs.Steps.StepEvents.{ShowsEvent, ShowsNothing}
-use Rattle.tj_words.specs.Steps.TableRuns.{AreSteps, IsStep, StepsAreRuns, TableRunsAreLegal, Under, events_of, last_of}
-use Rattle.tj_words.specs.Steps.TableRuns.{state_of}
+use Rattle.tj_words.proofs.Prelude.{AreSteps, Bool, CoreState, DrawsCell, Event, Hand, IsStep, List, Program}
+use Rattle.tj_words.proofs.Prelude.{ShowsEvent, ShowsNothing, Under, [], after, after_all, ap, arith, contents_of}
+use Rattle.tj_words.proofs.Prelude.{core_shown, draw_event, drawn_in, events_of, first_slots, first_view, first_words}
+use Rattle.tj_words.proofs.Prelude.{last_of, map, min, opening, reference_of, refl, root_alone, seats_have, some}
+use Rattle.tj_words.proofs.Prelude.{state_of, subst, sym, to_task, ℕ, ⊎_elim, ◌++◌, ◌<◌, ◌∙◌, ◌∷◌, ◌≡◌, ◌⊎◌}
+use Rattle.tj_core.specs.Runs.{AreAllowed}
+use Rattle.tj_words.specs.Steps.TableRuns.{StepsAreRuns, TableRunsAreLegal}
 use Rattle.tj_words.proofs.Events.DrawEvents.{draw_shown}
 use Rattle.tj_words.proofs.Seating.FirstWords.{first_words_say}
 use Rattle.tj_words.proofs.Calls.OneStates.{chained, drawn_chained, keeps_itself, root_name, shown_with}

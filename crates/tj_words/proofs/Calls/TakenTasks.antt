@@ -1,39 +1,15 @@
 -- The exchanges of PHASE that succeed are changes of the law of steps, and leave makers and numbers of cells: a claim,
 -- a wake, and the way back of a task that its seat had parked.
-use Rattle.std.proofs.Common.{◌≡◌, ℕ, Bool, [], ◌∷◌, set, Option, Some, None}
-use Rattle.std.proofs.Common.{refl, sym, ap, ◌∙◌, subst}
-use mathlib.Core.Option.{none}
-use Rattle.atomic_table.specs.Table.{State, keeps, takes}
-use Rattle.tj_body.specs.Programs.{Program}
-use Rattle.tj_core.specs.declared.walk.Way.{Way}
-use Rattle.tj_words.specs.declared.record.Rec.{Rec}
-use Rattle.tj_words.specs.declared.table.Key.{Key}
-use Rattle.tj_words.specs.declared.view.View.{View}
-use Rattle.tj_words.specs.declared.phase.Phase.TheVariants as phase
-use Rattle.tj_words.specs.LawParts.Chains.{parked_phase}
-use Rattle.tj_words.specs.LawParts.Contents.{Contents, contents_of}
-use Rattle.tj_words.specs.Calls.ExchangeViews.{Claims, GoesBack, MayGoBack, MayWake, Wakes}
-use Rattle.tj_words.specs.LawParts.Holding.{record_in}
-use Rattle.tj_words.specs.Law.{Rule}
-use Rattle.tj_words.specs.Calls.LiveViews.{SlotsOf}
-use Rattle.tj_words.specs.Words.Offsets.{phase_at}
-use Rattle.tj_words.specs.Words.Phases.{phase_in}
-use Rattle.tj_words.specs.Steps.QuietSteps.{ClaimsTask}
-use Rattle.tj_words.specs.SeatViews.SeatSteps.{SeatMe}
-use Rattle.tj_words.specs.Steps.StepEvents.{IsBegun}
-use Rattle.tj_words.specs.Calls.TakenRecords.{custody_of}
-use Rattle.tj_words.specs.Steps.WalkSteps.{ClearsWait}
-use Rattle.tj_words.specs.CallLaws.CallSteps.{MakesWith}
-use Rattle.tj_words.specs.CallLaws.EventCalls.{Keeping}
+use Rattle.tj_words.proofs.Prelude.{Bool, Claims, ClaimsTask, ClearsWait, Contents, GoesBack, IsBegun, Keeping, Key}
+use Rattle.tj_words.proofs.Prelude.{MakesWith, MayGoBack, MayWake, None, Option, Program, Rec, Rule, SeatMe, SlotsOf}
+use Rattle.tj_words.proofs.Prelude.{Some, State, View, Wakes, Way, [], ap, arith, contents_of, custody_of, keeps, none}
+use Rattle.tj_words.proofs.Prelude.{parked_phase, phase_at, phase_in, record_in, refl, set, stepped_on, subst, sym}
+use Rattle.tj_words.proofs.Prelude.{takes, took_record, went_back, woke_first, ℕ, ◌<◌, ◌∙◌, ◌∷◌, ◌≡◌}
 use Rattle.tj_words.proofs.Holders.HeldTasks.{one_some}
-use Rattle.tj_words.proofs.Phases.PhaseExchanges.{back_tagged, wake_tagged}
-use Rattle.std.proofs.Common.{◌<◌, arith}
-use Rattle.tj_words.specs.Calls.ExchangeViews.{went_back, woke_first}
-use Rattle.tj_words.specs.Calls.TakenRecords.{took_record}
-use Rattle.tj_words.specs.SeatViews.Views.{stepped_on}
+use Rattle.tj_words.proofs.Phases.PhaseExchanges.{back_tagged, wake_tagged, back_keeps, claim_keeps, wake_keeps}
 use Rattle.tj_words.proofs.Holders.TaskPlaces.{begun_there}
-use Rattle.tj_words.proofs.Phases.PhaseExchanges.{back_keeps, claim_keeps, wake_keeps}
 use Rattle.tj_words.proofs.Stores.StepContents.{call_stores, call_stores_with}
+use Rattle.tj_words.specs.declared.phase.Phase.TheVariants as phase
 use Rattle.tj_words.proofs.Stores.TableWords as table_word
 
 -- the record in the slot that was taken last

@@ -1,42 +1,21 @@
 -- The calls by which a task leaves its seat, is taken by one or is made ready, or by which its record comes home, are
 -- changes of the law of steps, and leave makers and numbers of cells.
-use Rattle.std.proofs.Common.{◌≡◌, ℕ, ◌<◌, Bool, set, Option, Some}
-use Rattle.std.proofs.Common.{ap, ◌∙◌, arith}
-use mathlib.Core.Option.{some}
-use Rattle.atomic_table.specs.Table.{State, keeps, gives, put_back}
-use Rattle.atomic_table.proofs.Lists.{at_map}
-use Rattle.tj_body.specs.Programs.{Program}
-use Rattle.tj_core.specs.declared.walk.Way.{Way}
-use Rattle.tj_words.specs.declared.record.Rec.{Rec}
-use Rattle.tj_words.specs.declared.table.Key.{Key}
-use Rattle.tj_words.specs.declared.view.Does.TheVariants as does
-use Rattle.tj_words.specs.declared.view.View.{View}
-use Rattle.tj_words.specs.declared.phase.Phase.TheVariants as phase
-use Rattle.tj_words.specs.declared.phase.Walk.TheVariants as walk
-use Rattle.tj_words.specs.LawParts.Contents.{Contents, contents_of}
-use Rattle.tj_words.specs.Law.{Rule}
-use Rattle.tj_words.specs.Calls.LiveViews.{LaysChild, MayEnd, MayRelease, Shelves, SlotsOf, ended, live_lowered}
-use Rattle.tj_words.specs.Calls.LiveViews.{live_raised}
-use Rattle.tj_words.specs.Calls.LiveViews.{lowered_with, raised_with, released}
-use Rattle.tj_words.specs.Words.Lists.{cell}
-use Rattle.tj_words.specs.Words.Offsets.{live_at, phase_at}
-use Rattle.tj_words.specs.Words.Phases.{phase_in}
-use Rattle.tj_words.specs.Steps.QuietSteps.{EndsTask, MovesRecord, ReleasesTask, ShelvesTask}
-use Rattle.tj_words.specs.SeatViews.SeatSteps.{SeatMe}
-use Rattle.tj_words.specs.Calls.WaitViews.{MayPark, parked}
-use Rattle.tj_words.specs.Steps.WalkSteps.{StoresParked}
-use Rattle.tj_words.specs.CallLaws.CallSteps.{MakesWith}
-use Rattle.tj_words.specs.CallLaws.EventCalls.{Keeping}
+use Rattle.tj_words.proofs.Prelude.{Bool, Contents, EndsTask, Keeping, Key, LaysChild, MakesWith, MayEnd, MayPark}
+use Rattle.tj_words.proofs.Prelude.{MayRelease, MovesRecord, Option, Program, Rec, ReleasesTask, Rule, SeatMe, Shelves}
+use Rattle.tj_words.proofs.Prelude.{ShelvesTask, SlotsOf, Some, State, StoresParked, View, Way, ap, arith, at_map}
+use Rattle.tj_words.proofs.Prelude.{came_home, cell, contents_of, ended, gives, keeps, live_at, live_lowered}
+use Rattle.tj_words.proofs.Prelude.{live_raised, lowered_with, parked, phase_at, phase_in, put_back, raised_with}
+use Rattle.tj_words.proofs.Prelude.{released, set, some, suc, with_tokens, without_task, ℕ, ◌-◌, ◌<◌, ◌∙◌, ◌≡◌}
 use Rattle.tj_words.proofs.Holders.TaskPlaces.{held_drawn}
 use Rattle.tj_words.proofs.Phases.ParkedStores.{park_keeps}
 use Rattle.tj_words.proofs.Stores.StepContents.{call_stores, call_stores_with}
 use Rattle.tj_words.proofs.Phases.ReadyStores.{ready_keeps}
 use Rattle.tj_words.proofs.Phases.EndedStores.{end_keeps}
-use Rattle.tj_words.proofs.Stores.TableWords as table_word
-use Rattle.std.proofs.Common.{suc, ◌-◌}
-use Rattle.tj_words.specs.Calls.LiveViews.{came_home, without_task}
-use Rattle.tj_words.specs.Calls.ParkSteps.{with_tokens}
 use Rattle.tj_words.proofs.Waiters.LiveCalls.{shelf_keeps, up_keeps}
+use Rattle.tj_words.specs.declared.view.Does.TheVariants as does
+use Rattle.tj_words.specs.declared.phase.Phase.TheVariants as phase
+use Rattle.tj_words.specs.declared.phase.Walk.TheVariants as walk
+use Rattle.tj_words.proofs.Stores.TableWords as table_word
 
 module _ {B : Type 0} (program : Bool → B → Program B) (key : Key B) (s t : State (Option (Rec B)) (View B))
     (r : Rule program key s) (id : ℕ) (m m' : SeatMe B) where

@@ -1,30 +1,17 @@
 -- Where a walk has ended, no cycle through its task stood just after the task had published: the calls between are a
 -- run of the core, at whose end the task may settle.
-use Rattle.std.proofs.Common.{◌≡◌, ℕ, Bool, List, [], ◌∷◌, sym, ap, ◌∙◌, subst}
-use mathlib.Core.Option.{some}
-use lib.ListN.{get_elem?}
-use Rattle.tj_body.specs.Programs.{Program}
-use Rattle.tj_core.specs.CoreState.{CoreState}
-use Rattle.tj_core.specs.Events.{Allowed, after}
-use Rattle.tj_core.specs.Runs.{after_all}
+use Rattle.tj_words.proofs.Prelude.{Allowed, AreAskedMoments, Bool, CoreState, Event, IsStep, Key, List, Program, Ruled}
+use Rattle.tj_words.proofs.Prelude.{StepCall, View, [], after, after_all, ap, cell, events_by, events_of, get_elem?}
+use Rattle.tj_words.proofs.Prelude.{last_moment, phase_events, phase_in, place_of, some, state_of, subst, sym, under}
+use Rattle.tj_words.proofs.Prelude.{word, ℕ, ◌∙◌, ◌∷◌, ◌≡◌}
 use Rattle.tj_core.specs.WaitGraph.{IsOnCycle}
-use Rattle.tj_core.specs.declared.event.Event.{Event}
-use Rattle.tj_core.specs.declared.event.Event.TheVariants as event
 use Rattle.tj_core.proofs.Events.LegalRuns.{settles_off_cycles}
-use Rattle.tj_words.specs.declared.table.Key.{Key}
-use Rattle.tj_words.specs.declared.view.View.{View}
-use Rattle.tj_words.specs.CallLaws.CallRuns.{AreAskedMoments, events_by, phase_events, under}
-use Rattle.tj_words.specs.CallLaws.RestedRuns.{Ruled, last_moment}
-use Rattle.tj_words.specs.CallLaws.StepCalls.{StepCall, place_of}
-use Rattle.tj_words.specs.CallLaws.StepCalls as call
 use Rattle.tj_words.specs.CallLaws.Verdicts.{EndedWalksAreOffCycles, HasEndedWalk, PublishesAt, IsOnCycleAt}
-use Rattle.tj_words.specs.Steps.TableRuns.{IsStep, events_of, state_of}
-use Rattle.tj_words.specs.Words.Lists.{cell}
-use Rattle.tj_words.specs.Words.Offsets.{word}
-use Rattle.tj_words.specs.Words.Phases.{phase_in}
 use Rattle.tj_words.proofs.Calls.CallRuns.{all_go, calls_are_steps}
 use Rattle.tj_words.proofs.Calls.TableRuns.{steps_are_runs}
 use Rattle.tj_words.proofs.Events.WalkersShown.{walker_shown}
+use Rattle.tj_core.specs.declared.event.Event.TheVariants as event
+use Rattle.tj_words.specs.CallLaws.StepCalls as call
 
 module _ {B : Type 0} (program : Bool → B → Program B) (key : Key B) (u w : Ruled program key) (t p : ℕ)
     (e : PublishesAt program key u w t p) where

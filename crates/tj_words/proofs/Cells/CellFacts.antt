@@ -1,33 +1,17 @@
 -- What the core state shows of a cell that is there: its name, its sort and what it waits for.
-use Rattle.std.proofs.Common.{◌≡◌, ◌≢◌, ℕ, ◌<◌, Bool, true, false, ◌&&◌, cond, nat_eq, Option, Some, None, refl, sym, ap, ◌∙◌, subst}
-use Rattle.tj_base.specs.ForkOrder.{before}
-use Rattle.tj_base.specs.declared.cell.CellId.{CellId}
-use Rattle.tj_body.specs.Programs.{Program}
-use Rattle.tj_body.specs.declared.ask.Answer.{Answer}
-use Rattle.tj_body.specs.declared.ask.Answer.TheVariants as answer
-use Rattle.tj_core.specs.declared.walk.Way.{Way}
-use Rattle.tj_core.specs.CoreState.{CellStage, CellState, CoreState, name, stage, wait, wait_of, is_task, running, fresh}
-use Rattle.tj_core.specs.Events.{way_if, way_of_wait}
-use Rattle.tj_words.specs.declared.phase.Walk.{Walk}
-use Rattle.tj_words.specs.declared.phase.Walk.TheVariants as walk
-use Rattle.tj_words.specs.declared.phase.Phase.{Phase}
-use Rattle.tj_words.specs.declared.phase.Phase.TheVariants as phase
-use Rattle.tj_words.specs.declared.record.Rec.{Rec}
-use Rattle.tj_words.specs.declared.view.Hand.{Hand}
-use Rattle.tj_words.specs.declared.view.Does.{Does}
-use Rattle.tj_words.specs.declared.view.Does.TheVariants as does
-use Rattle.tj_words.specs.declared.view.Custody.{Custody}
-use Rattle.tj_words.specs.LawParts.Hands.{IsThere}
-use Rattle.tj_words.specs.LawParts.TreeWords.{IsCell}
-use Rattle.tj_words.specs.LawParts.ShownState.{phase_sort, sort_shown, new_stage, answer_stage, does_stage, stage_there}
-use Rattle.tj_words.specs.LawParts.ShownState.{reference_of}
-use Rattle.tj_words.specs.LawParts.Contents.{Contents, hand_of, drawn_in, held_of, home_of, core_shown}
-use Rattle.tj_words.specs.Law.{Law}
-use Rattle.tj_words.specs.Steps.ShownParts.{parts_of}
-use Rattle.tj_words.specs.Steps.StepEvents.{wait_in}
-use Rattle.tj_words.specs.Steps.WalkSteps.{way_by, is_task_sort}
+use Rattle.tj_words.proofs.Prelude.{Answer, Bool, CellId, CellStage, CellState, Contents, CoreState, Custody, Does}
+use Rattle.tj_words.proofs.Prelude.{Hand, IsCell, IsThere, Law, None, Option, Phase, Program, Rec, Some, Walk, Way}
+use Rattle.tj_words.proofs.Prelude.{answer_stage, ap, before, cond, core_shown, does_stage, drawn_in, false, fresh}
+use Rattle.tj_words.proofs.Prelude.{hand_of, held_of, home_of, is_task, is_task_sort, name, nat_eq, new_stage, parts_of}
+use Rattle.tj_words.proofs.Prelude.{phase_sort, reference_of, refl, running, sort_shown, stage, stage_there, subst, sym}
+use Rattle.tj_words.proofs.Prelude.{true, wait_in, wait_of, way_by, way_if, way_of_wait, ℕ, ◌&&◌, ◌<◌, ◌∙◌, ◌≡◌, ◌≢◌}
+use Rattle.tj_core.specs.CoreState.{wait}
 use Rattle.tj_words.proofs.Holders.HeldTasks.{at_index}
 use Rattle.tj_words.proofs.Events.ShownCells.{stage_out, cell_there}
+use Rattle.tj_body.specs.declared.ask.Answer.TheVariants as answer
+use Rattle.tj_words.specs.declared.phase.Walk.TheVariants as walk
+use Rattle.tj_words.specs.declared.phase.Phase.TheVariants as phase
+use Rattle.tj_words.specs.declared.view.Does.TheVariants as does
 
 -- a stage that is no wait, and is a task's
 record IsCalm (st : CellStage) : Type 0 where

@@ -1,27 +1,13 @@
 -- No two cells have one name, and what a task makes next has a new one; so where no cell is left for it, the meaning
 -- needs more cells than there are.
-use Rattle.std.proofs.Common.{◌≡◌, ◌≢◌, ◌⊎◌, ℕ, zero, suc, ◌<◌, ◌≤◌, List, [], ◌∷◌, ◌++◌, map, length, refl, sym, ap}
-use Rattle.std.proofs.Common.{◌∙◌, subst, inl, inr, ⊎_elim, arith, length-append}
-use mathlib.Core.Option.{some, some-injective, some-ne-none}
-use lib.ListN.{get_elem?}
-use Rattle.tj_base.specs.ForkOrder.{Name, child}
-use Rattle.tj_base.specs.declared.cell.Sort.{Sort}
-use Rattle.tj_body.specs.Points.{IsIn}
-use Rattle.tj_body.specs.Programs.{Program}
-use Rattle.tj_body.specs.Rounds.{IsFull, cells}
-use Rattle.tj_body.specs.RoundPoints.{InRounds}
-use Rattle.tj_body.specs.Laws.{AreDistinct, IsFullWhere}
-use Rattle.tj_body.specs.declared.point.Reference.{Reference}
-use Rattle.tj_body.proofs.Lists.{in_map}
-use Rattle.tj_core.specs.CoreState.{CellState, CoreState, name}
+use Rattle.tj_words.proofs.Prelude.{AreCells, AreDistinct, CellState, Contents, CoreState, InRounds, IsCell, IsFull}
+use Rattle.tj_words.proofs.Prelude.{IsFullWhere, IsIn, Law, List, Name, Program, Reference, Sort, [], ap, arith, cells}
+use Rattle.tj_words.proofs.Prelude.{child, core_shown, drawn_in, get_elem?, in_map, inl, inr, length, length-append}
+use Rattle.tj_words.proofs.Prelude.{made_of, map, name, next_reference, parts_of, reference_of, refl, some}
+use Rattle.tj_words.proofs.Prelude.{some-injective, some-ne-none, subst, suc, sym, zero, ℕ, ⊎_elim, ◌++◌, ◌<◌, ◌∙◌, ◌∷◌}
+use Rattle.tj_words.proofs.Prelude.{◌≡◌, ◌≢◌, ◌≤◌, ◌⊎◌}
 use Rattle.tj_core.specs.Facts.{MakersFact}
 use Rattle.tj_core.proofs.OneCell.Makers.{next_name_new}
-use Rattle.tj_words.specs.LawParts.TreeWords.{IsCell, AreCells}
-use Rattle.tj_words.specs.LawParts.ShownState.{reference_of}
-use Rattle.tj_words.specs.Steps.ShownParts.{parts_of}
-use Rattle.tj_words.specs.Steps.OwnerSteps.{next_reference}
-use Rattle.tj_words.specs.LawParts.Contents.{Contents, drawn_in, made_of, core_shown}
-use Rattle.tj_words.specs.Law.{Law}
 use Rattle.tj_words.proofs.Stores.SeatLists.{inside}
 use Rattle.tj_words.proofs.Events.ShownCells.{cell_there}
 use Rattle.tj_words.proofs.Cells.CellFacts.{cell_born, name_shown}

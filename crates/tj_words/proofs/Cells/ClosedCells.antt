@@ -1,40 +1,12 @@
 -- A cell is closed: nobody owns it from now on, and its TAG and BITS are due to the seat of its owner.
-use Rattle.std.proofs.Common.{◌≡◌, ◌≢◌, ◌⊎◌, ◌↔◌, ℕ, Bool, cond, nat_eq, List, [], ◌∷◌, set, Option, Some, None}
-use Rattle.std.proofs.Common.{refl, sym, ap, ◌∙◌, subst, inl, inr, ⊎_elim, arith, eq-eqb, ne_eqb}
-use mathlib.Core.Logic.{dite}
-use mathlib.Core.Option.{some}
-use native.Mathlib.Decide.{ℕ_discrete}
-use lib.ListN.{get_elem?}
-use Rattle.tj_base.specs.Puts.{put}
-use Rattle.tj_base.specs.declared.cell.Sort.TheVariants as sort
-use Rattle.tj_body.specs.Points.{IsIn}
-use Rattle.tj_body.specs.Programs.{Program}
-use Rattle.tj_core.specs.CoreFacts.{CoreFacts}
-use Rattle.tj_core.specs.Laws.{EventKeepsFacts}
-use Rattle.tj_words.specs.declared.offsets.Once.{Once}
-use Rattle.tj_words.specs.declared.offsets.Once.TheVariants as once
-use Rattle.tj_words.specs.declared.phase.Phase.{Phase}
-use Rattle.tj_words.specs.declared.phase.Phase.TheVariants as phase
-use Rattle.tj_words.specs.declared.view.Hand.{Hand}
-use Rattle.tj_words.specs.declared.view.SeenWord.{SeenWord}
-use Rattle.tj_words.specs.declared.view.Due.{Due}
-use Rattle.tj_words.specs.declared.view.Custody.{Custody}
-use Rattle.tj_words.specs.Words.Lists.{OfSeat, All, AreApart, without}
-use Rattle.tj_words.specs.LawParts.Hands.{IsThere}
-use Rattle.tj_words.specs.LawParts.Holding.{owned_by}
-use Rattle.tj_words.specs.LawParts.TreeWords.{IsOfTree, IsDue}
-use Rattle.tj_words.specs.LawParts.ShownState.{phase_sort}
-use Rattle.tj_words.specs.LawParts.OnceWords.{OnceWords}
-use Rattle.tj_words.specs.LawParts.RecordPhases.{WaitersOwn}
-use Rattle.tj_words.specs.LawParts.Contents.{Contents, drawn_in, hand_of, home_of, owned_of, made_of, core_shown}
-use Rattle.tj_words.specs.Law.{Law}
-use Rattle.tj_words.specs.Steps.ShownParts.{parts_of, IsSameButOwner}
-use Rattle.tj_words.specs.Steps.StepEvents.{MayAct, IsHeldWith}
-use Rattle.tj_words.specs.Steps.WalkSteps.{is_task_sort}
-use Rattle.tj_words.specs.Steps.OneStates.{KeepsCells}
-use Rattle.tj_words.specs.Steps.OwnerSteps.{ActsOn, ClosesPromise, ClosesResult}
-use Rattle.tj_words.specs.SeatViews.TaskLists.{hold}
-use Rattle.tj_words.specs.Calls.OwnerViews.{gave_up}
+use Rattle.tj_words.proofs.Prelude.{ActsOn, All, AreApart, Bool, ClosesPromise, ClosesResult, Contents, CoreFacts}
+use Rattle.tj_words.proofs.Prelude.{Custody, Due, EventKeepsFacts, Hand, IsDue, IsHeldWith, IsIn, IsOfTree}
+use Rattle.tj_words.proofs.Prelude.{IsSameButOwner, IsThere, KeepsCells, Law, List, MayAct, None, OfSeat, Once}
+use Rattle.tj_words.proofs.Prelude.{OnceWords, Option, Phase, Program, SeenWord, Some, WaitersOwn, [], ap, arith, cond}
+use Rattle.tj_words.proofs.Prelude.{core_shown, dite, drawn_in, eq-eqb, gave_up, get_elem?, hand_of, hold, home_of, inl}
+use Rattle.tj_words.proofs.Prelude.{inr, is_task_sort, made_of, nat_eq, ne_eqb, owned_by, owned_of, parts_of}
+use Rattle.tj_words.proofs.Prelude.{phase_sort, put, refl, set, some, subst, sym, without, ℕ, ℕ_discrete, ⊎_elim, ◌↔◌}
+use Rattle.tj_words.proofs.Prelude.{◌∙◌, ◌∷◌, ◌≡◌, ◌≢◌, ◌⊎◌}
 use Rattle.tj_words.proofs.Stores.LawChanges.{law_owners}
 use Rattle.tj_words.proofs.Stores.SeatLists.{each_else, of_seat_here, of_seat_set}
 use Rattle.tj_words.proofs.Holders.HeldTasks.{none_some, one_some}
@@ -49,6 +21,9 @@ use Rattle.tj_words.proofs.Cells.OwnedChanges.{owned_changed}
 use Rattle.tj_words.proofs.Events.OwnerEvents.{acts_phase, close_shown, end_shown}
 use Rattle.tj_words.proofs.Events.StepFacts.{facts_after}
 use Rattle.tj_words.proofs.Calls.KeptCells.{kept_words}
+use Rattle.tj_base.specs.declared.cell.Sort.TheVariants as sort
+use Rattle.tj_words.specs.declared.offsets.Once.TheVariants as once
+use Rattle.tj_words.specs.declared.phase.Phase.TheVariants as phase
 
 -- a word is one of the tree, or not
 tree_or_value : (g : Once) → IsOfTree g ⊎ (¬ IsOfTree g)

@@ -1,46 +1,14 @@
 -- A draw keeps the rule, whether it finds a cell left or not.
-use Rattle.std.proofs.Common.{◌≡◌, ◌⊎◌, ℕ, suc, ◌+◌, ◌%◌, ◌<◌, ◌≤◌, ◌^◌, min, Bool, [], ◌∷◌, ◌++◌, length}
-use Rattle.std.proofs.Common.{length-set, set, Option, Some, None, refl, sym, ap, ◌∙◌, subst, inl, inr, ⊎_elim, arith}
-use Rattle.std.proofs.Common.{cond, eq-eqb, ne_eqb}
-use mathlib.Core.Option.{some, none, some-injective}
-use mathlib.Core.Logic.{dite}
-use native.Mathlib.Decide.{ℕ_discrete, dec_le}
-use lib.ListN.{get_elem?}
-use Rattle.atomic_table.specs.Table.{State, step, Allows}
-use Rattle.atomic_table.proofs.Lists.{at_map, at_longer, set_again}
-use Rattle.tj_base.specs.declared.cell.Sort.{Sort}
-use Rattle.tj_base.specs.declared.cell.Sort.TheVariants as sort
-use Rattle.tj_base.specs.ForkOrder.{child}
-use Rattle.tj_body.specs.Programs.{Program}
-use Rattle.tj_body.specs.Laws.{IsFullWhere}
-use Rattle.tj_body.specs.Rounds.{IsFull}
-use Rattle.tj_body.specs.RoundPoints.{InRounds}
-use Rattle.tj_body.specs.History.{to_task}
-use Rattle.tj_body.specs.declared.point.Reference.{Reference}
-use Rattle.tj_core.specs.Laws.{EventKeepsFacts}
-use Rattle.tj_words.specs.declared.record.Rec.{Rec}
-use Rattle.tj_words.specs.declared.table.Key.{Key}
-use Rattle.tj_words.specs.declared.view.About.{About}
-use Rattle.tj_words.specs.declared.view.Does.TheVariants as does
-use Rattle.tj_words.specs.declared.view.Custody.{Custody}
-use Rattle.tj_words.specs.declared.view.Hand.{Hand}
-use Rattle.tj_words.specs.declared.view.View.{View}
-use Rattle.tj_words.specs.Words.Lists.{total}
-use Rattle.tj_words.specs.Words.Offsets.{word, count_at}
-use Rattle.tj_words.specs.LawParts.Holding.{held_in, made_by}
-use Rattle.tj_words.specs.LawParts.Hands.{making}
-use Rattle.tj_words.specs.LawParts.LiveCount.{HasAlarmed, Holds}
-use Rattle.tj_words.specs.LawParts.ShownState.{reference_of}
-use Rattle.tj_words.specs.Steps.OwnerSteps.{next_reference}
-use Rattle.tj_words.specs.LawParts.TreeWords.{AreCells}
-use Rattle.tj_words.specs.LawParts.Contents.{words_say, seats_have, Contents, contents_of, drawn_in, held_of}
-use Rattle.tj_words.specs.LawParts.Contents.{home_of, made_of}
-use Rattle.tj_words.specs.Law.{IsRooted, Rule}
-use Rattle.tj_words.specs.SeatViews.TaskLists.{noted}
-use Rattle.tj_words.specs.SeatViews.SeatSteps.{SeatMe}
-use Rattle.tj_words.specs.Calls.DrawViews.{runs_on, new_task, new_tasks, new_slots, drawn_next, drew, was_refused}
-use Rattle.tj_words.specs.Calls.DrawViews.{MayDraw}
-use Rattle.tj_words.specs.Calls.DrawViews.{FindsCell, FindsNone, draw_step}
+use Rattle.tj_words.proofs.Prelude.{About, Allows, AreCells, Bool, Contents, Custody, EventKeepsFacts, FindsCell, Hand}
+use Rattle.tj_words.proofs.Prelude.{HasAlarmed, Holds, InRounds, IsFull, IsFullWhere, IsRooted, Key, MayDraw, None}
+use Rattle.tj_words.proofs.Prelude.{Option, Program, Rec, Reference, Rule, SeatMe, Some, Sort, State, View, [], ap}
+use Rattle.tj_words.proofs.Prelude.{arith, at_longer, at_map, child, cond, contents_of, count_at, dec_le, dite}
+use Rattle.tj_words.proofs.Prelude.{draw_step, drawn_in, drew, eq-eqb, get_elem?, held_in, held_of, home_of, inl, inr}
+use Rattle.tj_words.proofs.Prelude.{length, length-set, made_by, made_of, making, min, ne_eqb, new_task, new_tasks}
+use Rattle.tj_words.proofs.Prelude.{next_reference, none, noted, reference_of, refl, runs_on, seats_have, set}
+use Rattle.tj_words.proofs.Prelude.{set_again, some, some-injective, step, subst, suc, sym, to_task, total, word}
+use Rattle.tj_words.proofs.Prelude.{words_say, ℕ, ℕ_discrete, ⊎_elim, ◌%◌, ◌++◌, ◌+◌, ◌<◌, ◌^◌, ◌∙◌, ◌∷◌, ◌≡◌, ◌≤◌, ◌⊎◌}
+use Rattle.tj_words.specs.Calls.DrawViews.{new_slots, drawn_next, was_refused, FindsNone}
 use Rattle.tj_words.proofs.Holders.HeldTasks.{none_some, one_some, makes_none, at_index}
 use Rattle.tj_words.proofs.Stores.SeatLists.{back, inside}
 use Rattle.tj_words.proofs.Stores.SeatContents.{seats_same}
@@ -59,6 +27,8 @@ use Rattle.tj_words.proofs.Waiters.StopSteps.{law_refuses}
 use Rattle.tj_words.proofs.Cells.MadeThings.{made_few}
 use Rattle.tj_words.proofs.Cells.DrawnTasks.{slots_after}
 use Rattle.tj_words.proofs.Cells.DrawnCells.{law_drawn}
+use Rattle.tj_base.specs.declared.cell.Sort.TheVariants as sort
+use Rattle.tj_words.specs.declared.view.Does.TheVariants as does
 
 module _ {B : Type 0} (program : Bool → B → Program B) (key : Key B) (keeps : EventKeepsFacts)
     (full : (strict : Bool) (root : B) → IsRooted (program strict root) → IsFullWhere (program strict root)) where

@@ -1,49 +1,14 @@
 -- The law after a draw that finds a cell left.
-use Rattle.std.proofs.Common.{◌≡◌, ◌≢◌, ◌⊎◌, ◌↔◌, ℕ, suc, ◌<◌, min, List, [], ◌∷◌, ◌++◌, set, Option, Some, None}
-use Rattle.std.proofs.Common.{refl, sym, ap, ◌∙◌, subst, inl, inr, ⊎_elim, arith}
-use Rattle.std.proofs.Common.{cond, Bool, false, eq-eqb, ne_eqb, set-set}
-use mathlib.Core.Option.{some}
-use mathlib.Core.Logic.{dite}
-use native.Mathlib.Decide.{ℕ_discrete}
-use lib.ListN.{get_elem?}
-use Rattle.tj_base.specs.Puts.{put}
-use Rattle.tj_base.specs.declared.cell.Sort.{Sort}
-use Rattle.tj_base.specs.declared.cell.Sort.TheVariants as sort
-use Rattle.tj_body.specs.Points.{IsIn}
-use Rattle.tj_body.specs.Programs.{Program}
-use Rattle.tj_body.specs.RoundPoints.{InRounds}
-use Rattle.tj_body.specs.declared.point.Reference.{Reference}
-use Rattle.tj_body.proofs.Lists.{in_left, in_right}
-use Rattle.tj_tree.specs.Forks.{Forks}
-use Rattle.atomic_table.proofs.Lists.{set_here}
-use Rattle.tj_core.specs.Laws.{EventKeepsFacts}
-use Rattle.tj_words.specs.declared.offsets.Once.{Once}
-use Rattle.tj_words.specs.declared.offsets.Once.TheVariants as once
-use Rattle.tj_words.specs.declared.phase.Phase.TheVariants as phase
-use Rattle.tj_words.specs.declared.view.Does.{Does}
-use Rattle.tj_words.specs.declared.view.Does.TheVariants as does
-use Rattle.tj_words.specs.declared.view.Custody.{Custody}
-use Rattle.tj_words.specs.declared.view.Due.{Due}
-use Rattle.tj_words.specs.declared.view.Filled.{Filled}
-use Rattle.tj_words.specs.declared.view.Hand.{Hand}
-use Rattle.tj_words.specs.Words.Lists.{AreApart}
-use Rattle.tj_words.specs.LawParts.Holding.{held_in, find_in, home_in, phase_of, owned_by}
-use Rattle.tj_words.specs.LawParts.Hands.{IsThere, IsInHand, hand_in, IsMarkedRight}
-use Rattle.tj_words.specs.LawParts.NamedCells.{does_cells}
-use Rattle.tj_words.specs.LawParts.TreeWords.{IsOfTree, IsDue, tree_word}
-use Rattle.tj_words.specs.Inner.TreeDraws.{forks_after}
-use Rattle.tj_words.specs.LawParts.Custodies.{Custodies, OwnedLists}
-use Rattle.tj_words.specs.LawParts.ShownState.{sort_shown}
-use Rattle.tj_words.specs.Steps.OwnerSteps.{next_reference, DrawsCell}
-use Rattle.tj_words.specs.Steps.StepEvents.{MayAct}
-use Rattle.tj_words.specs.SeatViews.TaskLists.{noted}
-use Rattle.tj_words.specs.LawParts.NamedCells.{NamesCells}
-use Rattle.tj_words.specs.LawParts.OnceWords.{OnceWords}
-use Rattle.tj_words.specs.LawParts.Hands.{Hands}
-use Rattle.tj_words.specs.LawParts.Contents.{Contents, drawn_in, hand_of, held_of, home_of, owned_of, made_of}
-use Rattle.tj_words.specs.Law.{Law}
-use Rattle.tj_words.specs.Steps.WalkSteps.{KeepsOthers}
-use Rattle.tj_words.specs.Calls.DrawViews.{runs_on, new_hand, new_task, new_tasks, new_dues}
+use Rattle.tj_words.proofs.Prelude.{AreApart, Bool, Contents, Custodies, Custody, Does, DrawsCell, Due, EventKeepsFacts}
+use Rattle.tj_words.proofs.Prelude.{Filled, Forks, Hand, Hands, InRounds, IsDue, IsIn, IsInHand, IsMarkedRight}
+use Rattle.tj_words.proofs.Prelude.{IsOfTree, IsThere, KeepsOthers, Law, List, MayAct, NamesCells, None, Once}
+use Rattle.tj_words.proofs.Prelude.{OnceWords, Option, OwnedLists, Program, Reference, Some, Sort, [], ap, arith, cond}
+use Rattle.tj_words.proofs.Prelude.{dite, does_cells, drawn_in, eq-eqb, false, find_in, forks_after, get_elem?, hand_in}
+use Rattle.tj_words.proofs.Prelude.{hand_of, held_in, held_of, home_in, home_of, in_left, in_right, inl, inr, made_of}
+use Rattle.tj_words.proofs.Prelude.{min, new_dues, new_hand, new_task, new_tasks, next_reference, noted, owned_by}
+use Rattle.tj_words.proofs.Prelude.{owned_of, phase_of, put, refl, runs_on, set, set_here, some, sort_shown, subst, suc}
+use Rattle.tj_words.proofs.Prelude.{sym, tree_word, ℕ, ℕ_discrete, ⊎_elim, ◌++◌, ◌<◌, ◌↔◌, ◌∙◌, ◌∷◌, ◌≡◌, ◌≢◌, ◌⊎◌}
+use Rattle.std.proofs.Common.{ne_eqb, set-set}
 use Rattle.tj_words.proofs.Holders.HeldTasks.{none_some, one_some}
 use Rattle.tj_words.proofs.Stores.SeatLists.{inside, of_seat_here, of_seat_set}
 use Rattle.tj_words.proofs.Cells.SeatHands.{hand_kept, hand_set, other_cell, own_cell}
@@ -58,6 +23,10 @@ use Rattle.tj_words.proofs.Meaning.MeaningGrows.{Meant, wider, knows_now}
 use Rattle.tj_words.proofs.Cells.HandChanges.{names_on, hands_on, custody_on}
 use Rattle.tj_words.proofs.Holders.NotedEntries.{noted_here, noted_else, noted_in, like_noted}
 use Rattle.tj_words.proofs.Cells.DrawnTasks.{slots_after, homes_after, custody_drawn, once_drawn}
+use Rattle.tj_base.specs.declared.cell.Sort.TheVariants as sort
+use Rattle.tj_words.specs.declared.offsets.Once.TheVariants as once
+use Rattle.tj_words.specs.declared.phase.Phase.TheVariants as phase
+use Rattle.tj_words.specs.declared.view.Does.TheVariants as does
 
 module _ {B : Type 0} {program : Program B} {cells : ℕ} {x : Contents B} (r : Law program cells x) (id t : ℕ) (o : Sort)
     (ks : List (Custody B)) (ds : List Due) (k : Custody B) (at : get_elem? x.seats.tasks id ≡ some ks)

@@ -1,19 +1,8 @@
 -- A draw, and the first store of OWN, as what one seat's hand and list of tasks become.
-use Rattle.std.proofs.Common.{◌≡◌, ◌≢◌, ℕ, suc, ◌<◌, List, set, Option, Some, None, sym, ap, ◌∙◌, subst, arith}
-use mathlib.Core.Option.{some}
-use lib.ListN.{get_elem?}
-use Rattle.tj_body.specs.Points.{IsIn}
-use Rattle.tj_body.specs.Programs.{Program}
-use Rattle.tj_words.specs.declared.view.Hand.{Hand}
+use Rattle.tj_words.proofs.Prelude.{Contents, Custody, DrawsCell, Hand, IsIn, KeepsOthers, Law, List, MayAct, None}
+use Rattle.tj_words.proofs.Prelude.{Option, Program, Some, ap, arith, drawn_in, find_in, get_elem?, hand_in, held_in}
+use Rattle.tj_words.proofs.Prelude.{held_of, home_of, making, set, some, subst, suc, sym, ℕ, ◌<◌, ◌∙◌, ◌≡◌, ◌≢◌}
 use Rattle.tj_words.specs.declared.view.Does.TheVariants.{Running}
-use Rattle.tj_words.specs.declared.view.Custody.{Custody}
-use Rattle.tj_words.specs.LawParts.Holding.{held_in, find_in}
-use Rattle.tj_words.specs.LawParts.Hands.{hand_in, making}
-use Rattle.tj_words.specs.LawParts.Contents.{Contents, drawn_in, held_of, home_of}
-use Rattle.tj_words.specs.Law.{Law}
-use Rattle.tj_words.specs.Steps.StepEvents.{MayAct}
-use Rattle.tj_words.specs.Steps.WalkSteps.{KeepsOthers}
-use Rattle.tj_words.specs.Steps.OwnerSteps.{DrawsCell}
 use Rattle.tj_words.proofs.Holders.HeldTasks.{one_some}
 use Rattle.tj_words.proofs.Events.OwnerEvents.{hand_seat}
 use Rattle.tj_words.proofs.Holders.SeatTasks.{find_changed, find_same, held_alone, free_alone}

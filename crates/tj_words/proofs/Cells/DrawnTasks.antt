@@ -1,39 +1,19 @@
 -- A cell more is drawn: custody, and the words that are written once. Its drawer holds it, if it is a task, and is to
 -- write its words of the tree.
-use Rattle.std.proofs.Common.{◌≡◌, ◌≢◌, ℕ, suc, ◌<◌, List, ◌∷◌, ◌++◌, set, Option, Some, None, refl, sym, ap, ◌∙◌}
-use Rattle.std.proofs.Common.{subst, inl, inr, ⊎_elim, arith}
-use Rattle.std.proofs.Common.{cond, Bool, eq-eqb, ne_eqb}
-use mathlib.Core.Option.{some, none}
-use mathlib.Core.Logic.{dite}
-use native.Mathlib.Decide.{ℕ_discrete}
-use lib.ListN.{get_elem?}
-use Rattle.atomic_table.proofs.Lists.{set_else, set_again}
-use Rattle.tj_base.specs.Puts.{put}
-use Rattle.tj_base.specs.declared.cell.Sort.{Sort}
-use Rattle.tj_base.specs.declared.cell.Sort.TheVariants as sort
-use Rattle.tj_body.specs.Points.{IsIn}
-use Rattle.tj_body.proofs.Lists.{in_left, in_right, in_either}
-use Rattle.tj_words.specs.declared.offsets.Once.{Once}
-use Rattle.tj_words.specs.declared.offsets.Once.TheVariants as once
-use Rattle.tj_words.specs.declared.phase.Phase.{Phase}
-use Rattle.tj_words.specs.declared.phase.Phase.TheVariants as phase
-use Rattle.tj_words.specs.declared.view.Custody.{Custody}
-use Rattle.tj_words.specs.declared.view.Due.{Due}
-use Rattle.tj_words.specs.declared.view.Hand.{Hand}
-use Rattle.tj_words.specs.declared.view.SeenWord.{SeenWord}
-use Rattle.tj_words.specs.Words.Lists.{OfSeat, All}
-use Rattle.tj_words.specs.LawParts.Holding.{Slots, held_in, home_in, IsEmpty}
-use Rattle.tj_words.specs.LawParts.Hands.{IsThere}
-use Rattle.tj_words.specs.LawParts.TreeWords.{IsOfTree, IsDue}
-use Rattle.tj_words.specs.LawParts.Custodies.{IsKept, IsCustody, Custodies}
-use Rattle.tj_words.specs.LawParts.OnceWords.{HasInHand, OnceWords}
-use Rattle.tj_words.specs.LawParts.ShownState.{sort_shown}
-use Rattle.tj_words.specs.Calls.DrawViews.{new_task, new_tasks, new_dues}
+use Rattle.tj_words.proofs.Prelude.{All, Bool, Custodies, Custody, Due, Hand, HasInHand, IsCustody, IsDue, IsEmpty}
+use Rattle.tj_words.proofs.Prelude.{IsIn, IsKept, IsOfTree, IsThere, List, None, OfSeat, Once, OnceWords, Option, Phase}
+use Rattle.tj_words.proofs.Prelude.{SeenWord, Slots, Some, Sort, ap, arith, cond, dite, eq-eqb, get_elem?, held_in}
+use Rattle.tj_words.proofs.Prelude.{home_in, in_either, in_left, in_right, inl, inr, ne_eqb, new_dues, new_task}
+use Rattle.tj_words.proofs.Prelude.{new_tasks, none, put, refl, set, set_again, set_else, some, sort_shown, subst, suc}
+use Rattle.tj_words.proofs.Prelude.{sym, ℕ, ℕ_discrete, ⊎_elim, ◌++◌, ◌<◌, ◌∙◌, ◌∷◌, ◌≡◌, ◌≢◌}
 use Rattle.tj_words.proofs.Stores.SeatLists.{each_set, inside, of_seat_here, of_seat_set}
 use Rattle.tj_words.proofs.Holders.HeldTasks.{none_some, one_some}
 use Rattle.tj_words.proofs.Holders.HomeSlots.{home_out, home_else_out}
 use Rattle.tj_words.proofs.Stores.StoreSteps.{put_here, put_else}
 use Rattle.tj_words.proofs.Events.DrawEvents.{empty_none}
+use Rattle.tj_base.specs.declared.cell.Sort.TheVariants as sort
+use Rattle.tj_words.specs.declared.offsets.Once.TheVariants as once
+use Rattle.tj_words.specs.declared.phase.Phase.TheVariants as phase
 
 -- the slots once the drawer of a task has the one of its cell
 abbrev pub slots_after : {B : Type 0} → ℕ → Sort → Slots B → Slots B

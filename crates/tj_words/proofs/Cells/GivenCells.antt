@@ -1,47 +1,16 @@
 -- The first store of OWN of a cell in hand keeps the law: the cell leaves the hand and is there.
-use Rattle.std.proofs.Common.{◌≡◌, ◌≢◌, ◌⊎◌, ◌↔◌, ℕ, zero, suc, ◌<◌, ◌+◌, Bool, List, [], ◌∷◌, ◌++◌, set, Option}
-use Rattle.std.proofs.Common.{Some, None}
-use Rattle.std.proofs.Common.{refl, sym, ap, ◌∙◌, subst, inl, inr, ⊎_elim, arith, true, false}
-use mathlib.Core.Option.{some, some-injective}
-use mathlib.Core.Logic.{dite}
-use native.Mathlib.Decide.{ℕ_discrete}
-use lib.ListN.{get_elem?}
-use Rattle.atomic_table.specs.Table.{State}
-use Rattle.atomic_table.proofs.Lists.{at_map}
-use Rattle.tj_base.specs.Puts.{put}
-use Rattle.tj_base.proofs.Puts.{at_put, put_here, put_else}
-use Rattle.tj_base.specs.declared.cell.Sort.{Sort}
-use Rattle.tj_base.specs.declared.cell.Sort.TheVariants as sort
-use Rattle.tj_core.specs.CoreFacts.{CoreFacts}
-use Rattle.tj_body.specs.Points.{IsIn}
-use Rattle.tj_body.specs.Programs.{Program}
-use Rattle.tj_body.specs.declared.point.Reference.{Reference}
-use Rattle.tj_body.proofs.Lists.{begins_self, in_left, in_right, in_either}
-use Rattle.tj_words.specs.declared.offsets.Once.{Once}
-use Rattle.tj_words.specs.declared.offsets.Once.TheVariants as once
-use Rattle.tj_words.specs.declared.record.Rec.{Rec}
-use Rattle.tj_words.specs.declared.table.Key.{Key}
-use Rattle.tj_words.specs.declared.view.Custody.{Custody}
-use Rattle.tj_words.specs.declared.view.Due.{Due}
-use Rattle.tj_words.specs.declared.view.Hand.{Hand}
-use Rattle.tj_words.specs.declared.view.View.{View}
-use Rattle.tj_words.specs.Words.Lists.{OfSeat, AreApart, All}
-use Rattle.tj_words.specs.Words.Offsets.{own_at}
-use Rattle.tj_words.specs.Words.Owners.{owner_in}
-use Rattle.tj_words.specs.LawParts.Holding.{held_in, find_in, made_by, owned_by}
-use Rattle.tj_words.specs.LawParts.Hands.{IsThere, hand_in, hand_phase, making, IsMarkedRight}
-use Rattle.tj_words.specs.LawParts.LiveCount.{DoesRun, DoesWalk, HasAlarmed, Holds}
-use Rattle.tj_words.specs.LawParts.TreeWords.{IsCell, IsOfTree, IsDue, parent_word, tree_word}
-use Rattle.tj_words.specs.Steps.OneStates.{IsToldBy, KeepsCells}
-use Rattle.tj_words.specs.LawParts.OnceWords.{HasInHand}
-use Rattle.tj_words.specs.LawParts.Custodies.{OwnedLists}
-use Rattle.tj_words.specs.LawParts.ShownState.{first_owner, phase_sort, reference_of, sort_shown}
-use Rattle.tj_words.specs.SeatViews.TaskLists.{noted}
-use Rattle.tj_words.specs.LawParts.Contents.{words_say, seats_have, Contents, contents_of, drawn_in, hand_of, home_of}
-use Rattle.tj_words.specs.LawParts.Contents.{held_of, owned_of, made_of}
-use Rattle.tj_words.specs.Law.{Law, Rule, IsSeat}
-use Rattle.tj_words.specs.CallLaws.EventCalls.{Keeping}
-use Rattle.tj_words.specs.Calls.DrawViews.{MayGive, made_one, owns_also, maker_made, gave_owner}
+use Rattle.tj_words.proofs.Prelude.{All, AreApart, Bool, Contents, CoreFacts, Custody, DoesRun, DoesWalk, Due}
+use Rattle.tj_words.proofs.Prelude.{GivesOwner, Hand, HasAlarmed, HasInHand, Holds, IsCell, IsDue, IsIn, IsMarkedRight}
+use Rattle.tj_words.proofs.Prelude.{IsOfTree, IsSeat, IsThere, IsToldBy, Keeping, KeepsCells, Key, Law, List, MayGive}
+use Rattle.tj_words.proofs.Prelude.{None, OfSeat, Once, Option, OwnedLists, Program, Rec, Reference, Rule, Some, Sort}
+use Rattle.tj_words.proofs.Prelude.{State, View, [], ap, arith, at_map, at_put, begins_self, contents_of, dite}
+use Rattle.tj_words.proofs.Prelude.{drawn_in, false, find_in, first_owner, get_elem?, hand_in, hand_of, hand_phase}
+use Rattle.tj_words.proofs.Prelude.{held_in, held_of, home_of, in_either, in_left, in_right, inl, inr, made_by, made_of}
+use Rattle.tj_words.proofs.Prelude.{making, noted, own_at, owned_by, owned_of, owner_in, owns_also, parent_word}
+use Rattle.tj_words.proofs.Prelude.{parts_of, phase_sort, put, put_else, put_here, reference_of, refl, seats_have, set}
+use Rattle.tj_words.proofs.Prelude.{some, some-injective, sort_shown, subst, suc, sym, tree_word, true, words_say, zero}
+use Rattle.tj_words.proofs.Prelude.{ℕ, ℕ_discrete, ⊎_elim, ◌++◌, ◌+◌, ◌<◌, ◌↔◌, ◌∙◌, ◌∷◌, ◌≡◌, ◌≢◌, ◌⊎◌}
+use Rattle.tj_words.specs.Calls.DrawViews.{made_one, maker_made, gave_owner}
 use Rattle.tj_words.proofs.Holders.HeldTasks.{none_some, one_some, held_listed}
 use Rattle.tj_words.proofs.Stores.SeatLists.{back, of_seat_else}
 use Rattle.tj_words.proofs.Holders.SeatTasks.{find_changed, find_same, held_alone}
@@ -54,8 +23,6 @@ use Rattle.tj_words.proofs.Stores.Columns.{IsAsBefore, IsNoted, before_doing, be
 use Rattle.tj_words.proofs.Stores.Columns.{find_kept, hand_off, making_off, noted_as, noted_on, put_kept}
 use Rattle.tj_words.proofs.Cells.CellFacts.{cell_born}
 use Rattle.tj_words.proofs.Cells.GivenOwners.{given_made, given_shown}
-use Rattle.tj_words.specs.Steps.OwnerSteps.{GivesOwner}
-use Rattle.tj_words.specs.Steps.ShownParts.{parts_of}
 use Rattle.tj_words.proofs.Meaning.LawMeant.{ground_of, law_meant}
 use Rattle.tj_words.proofs.Meaning.MeaningGrows.{wider, grew_wider, meaning_grows}
 use Rattle.tj_words.proofs.Cells.HandChanges.{names_on, tree_on, once_on, births_on, hands_on, custody_on}
@@ -63,6 +30,8 @@ use Rattle.tj_words.proofs.Holders.NotedEntries.{IsDoing, noted_here, noted_else
 use Rattle.tj_words.proofs.Stores.WordStores.{hand_here, maker_there, not_root}
 use Rattle.tj_words.proofs.Cells.OwnedChanges.{apart_snoc}
 use Rattle.tj_words.proofs.Holders.NotedTasks.{holder_lot, holder_named}
+use Rattle.tj_base.specs.declared.cell.Sort.TheVariants as sort
+use Rattle.tj_words.specs.declared.offsets.Once.TheVariants as once
 
 -- the list of one task has one cell more, which it owns: so the lists are right
 pub owned_gives : {n : ℕ} {hand : ℕ → Option Hand} {own : ℕ → Option ℕ} {owned : ℕ → List ℕ}

@@ -1,32 +1,16 @@
 -- The first store of OWN of a cell in hand shows nothing: its owner is the one that was shown.
-use Rattle.std.proofs.Common.{◌≡◌, ◌≢◌, ℕ, ◌+◌, cond, Bool, false, Some, None, refl, sym, ap, ◌∙◌, subst, arith}
-use Rattle.std.proofs.Common.{ne_eqb}
-use mathlib.Core.Option.{some}
-use mathlib.Core.Logic.{dite}
-use native.Mathlib.Decide.{ℕ_discrete}
-use lib.ListN.{get_elem?}
-use Rattle.tj_base.specs.Puts.{put}
-use Rattle.tj_base.proofs.Puts.{at_put}
-use Rattle.tj_base.specs.declared.cell.Sort.{Sort}
-use Rattle.tj_base.specs.declared.cell.Sort.TheVariants as sort
-use Rattle.tj_core.specs.CoreState.{fresh, running}
-use Rattle.tj_body.specs.Programs.{Program}
-use Rattle.tj_words.specs.declared.phase.Phase.TheVariants as phase
-use Rattle.tj_words.specs.declared.view.Hand.{Hand}
-use Rattle.tj_words.specs.LawParts.Holding.{made_by}
-use Rattle.tj_words.specs.LawParts.Hands.{hand_phase, making, IsMarkedRight}
-use Rattle.tj_words.specs.LawParts.ShownState.{first_owner, new_stage, owner_shown, stage_shown}
-use Rattle.tj_words.specs.LawParts.Contents.{Contents, hand_of, held_of, home_of, made_of}
-use Rattle.tj_words.specs.Law.{Law}
-use Rattle.tj_words.specs.Steps.OwnerSteps.{GivesOwner}
-use Rattle.tj_words.specs.Steps.ShownParts.{parts_of}
-use Rattle.tj_words.specs.Steps.StepEvents.{IsQuiet}
+use Rattle.tj_words.proofs.Prelude.{Bool, Contents, GivesOwner, Hand, IsMarkedRight, IsQuiet, Law, None, Program, Some}
+use Rattle.tj_words.proofs.Prelude.{Sort, ap, arith, at_put, cond, dite, false, first_owner, fresh, get_elem?, hand_of}
+use Rattle.tj_words.proofs.Prelude.{hand_phase, held_of, home_of, made_by, made_of, making, ne_eqb, new_stage}
+use Rattle.tj_words.proofs.Prelude.{owner_shown, parts_of, put, refl, running, some, stage_shown, subst, sym, ℕ}
+use Rattle.tj_words.proofs.Prelude.{ℕ_discrete, ◌+◌, ◌∙◌, ◌≡◌, ◌≢◌}
 use Rattle.tj_words.proofs.Events.QuietCells.{quiet_parts, stage_does}
 use Rattle.tj_words.proofs.Holders.HeldTasks.{makes_one}
 use Rattle.tj_words.proofs.Holders.TaskPlaces.{held_here}
 use Rattle.tj_words.proofs.Stores.Columns.{at_two}
 use Rattle.tj_words.proofs.Stores.SeatLists.{back}
 use Rattle.tj_words.proofs.Stores.WordStores.{hand_here, not_root}
+use Rattle.tj_base.specs.declared.cell.Sort.TheVariants as sort
 
 module _ {B : Type 0} {program : Program B} {cells : ℕ} {x : Contents B} (r : Law program cells x) (id : ℕ) (h : Hand)
     (has : get_elem? x.seats.hands id ≡ some (Some h)) where

@@ -1,39 +1,15 @@
 -- What one seat has in hand changes, and with it what it has for its tasks: what of the law speaks of cells that are
 -- there, of tasks that are held and of cells in hand is kept.
-use Rattle.std.proofs.Common.{◌≡◌, ◌≢◌, ◌⊎◌, ℕ, ◌<◌, ◌≤◌, List, set, Option, Some, None, refl, sym, ap, ◌∙◌, subst}
-use Rattle.std.proofs.Common.{inl, ⊎_elim}
-use Rattle.std.proofs.Common.{arith, []}
-use mathlib.Core.Option.{some}
-use mathlib.Core.Logic.{dite}
-use native.Mathlib.Decide.{dec_le}
-use lib.ListN.{get_elem?}
-use Rattle.atomic_table.proofs.Lists.{at_set}
-use Rattle.tj_base.specs.declared.cell.CellId.{CellId}
-use Rattle.tj_base.specs.declared.cell.Sort.{Sort}
-use Rattle.tj_base.specs.declared.cell.Sort.TheVariants as sort
-use Rattle.tj_body.specs.Points.{IsIn}
-use Rattle.tj_body.specs.declared.point.Reference.{Reference}
-use Rattle.tj_core.specs.declared.walk.Way.{Way}
-use Rattle.tj_tree.specs.Forks.{Forks}
-use Rattle.tj_words.specs.declared.offsets.Once.{Once}
-use Rattle.tj_words.specs.declared.phase.Phase.{Phase}
-use Rattle.tj_words.specs.declared.phase.Phase.TheVariants as phases
-use Rattle.tj_words.specs.declared.phase.Walk.{Walk}
-use Rattle.tj_words.specs.declared.record.Rec.{Rec}
-use Rattle.tj_words.specs.declared.view.Custody.{Custody}
-use Rattle.tj_words.specs.declared.view.Hand.{Hand}
-use Rattle.tj_words.specs.declared.view.SeenWord.{SeenWord}
-use Rattle.tj_words.specs.declared.view.Due.{Due}
-use Rattle.tj_words.specs.Words.Lists.{OfSeat, All}
-use Rattle.tj_words.specs.LawParts.Holding.{Slots, held_in, home_in, phase_of}
-use Rattle.tj_words.specs.LawParts.Hands.{IsThere, IsInHand, Hands}
-use Rattle.tj_words.specs.LawParts.NamedCells.{AreThere, NamesCells, does_cells, record_cells}
-use Rattle.tj_words.specs.LawParts.TreeWords.{IsOfTree, BirthsBy, IsForkTree}
-use Rattle.tj_words.specs.LawParts.Custodies.{IsKept, IsCustody, Custodies}
-use Rattle.tj_words.specs.LawParts.OnceWords.{HasInHand, OnceWords}
-use Rattle.tj_words.specs.LawParts.ShownState.{sort_shown}
+use Rattle.tj_words.proofs.Prelude.{All, AreThere, BirthsBy, CellId, Custodies, Custody, Due, Forks, Hand, Hands}
+use Rattle.tj_words.proofs.Prelude.{HasInHand, IsCustody, IsForkTree, IsIn, IsInHand, IsKept, IsOfTree, IsThere, List}
+use Rattle.tj_words.proofs.Prelude.{NamesCells, None, OfSeat, Once, OnceWords, Option, Phase, Rec, Reference, SeenWord}
+use Rattle.tj_words.proofs.Prelude.{Slots, Some, Sort, Walk, Way, [], ap, arith, at_set, dec_le, dite, does_cells}
+use Rattle.tj_words.proofs.Prelude.{get_elem?, held_in, home_in, inl, phase_of, record_cells, refl, set, some}
+use Rattle.tj_words.proofs.Prelude.{sort_shown, subst, sym, ℕ, ⊎_elim, ◌<◌, ◌∙◌, ◌≡◌, ◌≢◌, ◌≤◌, ◌⊎◌}
 use Rattle.tj_words.proofs.Stores.SeatLists.{each_set, of_seat_set, of_seat_else}
 use Rattle.tj_words.proofs.Holders.HeldTasks.{none_some, one_some}
+use Rattle.tj_base.specs.declared.cell.Sort.TheVariants as sort
+use Rattle.tj_words.specs.declared.phase.Phase.TheVariants as phases
 
 -- a task is held as before: what its seat has for it is the same, or has the same phase and no record at home
 pub record IsStill {B : Type 0} (k k' : Custody B) : Type 0 where

@@ -1,41 +1,12 @@
 -- A promise is handed to a child that isn't born yet: to the lists of tasks this is as if it were closed first, and
 -- then given to the child.
-use Rattle.std.proofs.Common.{◌≡◌, ◌≢◌, ◌↔◌, ℕ, suc, List, [], ◌∷◌, ◌++◌, set, Option, Some, None}
-use Rattle.std.proofs.Common.{refl, sym, ap, ◌∙◌, subst, inl, ⊎_elim}
-use mathlib.Core.Logic.{dite}
-use mathlib.Core.Option.{some}
-use native.Mathlib.Decide.{ℕ_discrete}
-use lib.ListN.{get_elem?}
-use lib.Seq.{set-set}
-use Rattle.atomic_table.proofs.Lists.{set_here}
-use Rattle.tj_base.specs.Puts.{put}
-use Rattle.tj_body.specs.Points.{IsIn}
-use Rattle.tj_body.specs.Programs.{Program}
-use Rattle.tj_body.proofs.Lists.{in_left, in_right, in_either}
-use Rattle.tj_core.specs.Laws.{EventKeepsFacts}
-use Rattle.tj_words.specs.declared.offsets.Once.{Once}
-use Rattle.tj_words.specs.declared.offsets.Once.TheVariants as once
-use Rattle.tj_words.specs.declared.view.Hand.{Hand}
-use Rattle.tj_words.specs.declared.view.SeenWord.{SeenWord}
-use Rattle.tj_words.specs.declared.view.Due.{Due}
-use Rattle.tj_words.specs.declared.view.Does.{Does}
-use Rattle.tj_words.specs.declared.view.Does.TheVariants as does
-use Rattle.tj_words.specs.declared.view.Custody.{Custody}
-use Rattle.tj_words.specs.Words.Lists.{AreApart}
-use Rattle.tj_words.specs.LawParts.Hands.{IsThere}
-use Rattle.tj_words.specs.LawParts.Holding.{find_in, held_in, owned_by}
-use Rattle.tj_words.specs.LawParts.LiveCount.{HasAlarmed}
-use Rattle.tj_words.specs.LawParts.NamedCells.{AreThere, does_cells}
-use Rattle.tj_words.specs.LawParts.OnceWords.{OnceWords}
-use Rattle.tj_words.specs.LawParts.RecordPhases.{WaitersOwn}
-use Rattle.tj_words.specs.LawParts.Contents.{Contents, drawn_in, hand_of, held_of, home_of, owned_of, made_of}
-use Rattle.tj_words.specs.Law.{Law}
-use Rattle.tj_words.specs.Steps.OneStates.{KeepsCells}
-use Rattle.tj_words.specs.Steps.OwnerSteps.{HandsPromise}
-use Rattle.tj_words.specs.Steps.StepEvents.{MayAct, IsHeldWith}
-use Rattle.tj_words.specs.SeatViews.TaskLists.{hold}
-use Rattle.tj_words.specs.Calls.DrawViews.{owns_also}
-use Rattle.tj_words.specs.Calls.OwnerViews.{gave_up}
+use Rattle.tj_words.proofs.Prelude.{AreApart, AreThere, Contents, Custody, Does, Due, EventKeepsFacts, Hand}
+use Rattle.tj_words.proofs.Prelude.{HandsPromise, HasAlarmed, IsHeldWith, IsIn, IsThere, KeepsCells, Law, List, MayAct}
+use Rattle.tj_words.proofs.Prelude.{None, Once, OnceWords, Option, Program, SeenWord, Some, WaitersOwn, [], ap, dite}
+use Rattle.tj_words.proofs.Prelude.{does_cells, drawn_in, find_in, gave_up, get_elem?, hand_of, held_in, held_of, hold}
+use Rattle.tj_words.proofs.Prelude.{home_of, in_either, in_left, in_right, inl, made_of, owned_by, owned_of, owns_also}
+use Rattle.tj_words.proofs.Prelude.{put, refl, set, set-set, set_here, some, subst, suc, sym, ℕ, ℕ_discrete, ⊎_elim}
+use Rattle.tj_words.proofs.Prelude.{◌++◌, ◌↔◌, ◌∙◌, ◌∷◌, ◌≡◌, ◌≢◌}
 use Rattle.tj_words.proofs.Stores.LawChanges.{law_owners}
 use Rattle.tj_words.proofs.Stores.SeatLists.{inside}
 use Rattle.tj_words.proofs.Holders.SeatTasks.{find_changed, find_same, held_alone, hold_else, hold_here}
@@ -48,6 +19,8 @@ use Rattle.tj_words.proofs.Events.OwnerEvents.{hand_shown}
 use Rattle.tj_words.proofs.Events.StepFacts.{facts_after}
 use Rattle.tj_words.proofs.Calls.KeptCells.{kept_owner, same_made}
 use Rattle.tj_words.proofs.Cells.ClosedCells.{owned_promise, closed, closed_made, law_closed, owned_here}
+use Rattle.tj_words.specs.declared.offsets.Once.TheVariants as once
+use Rattle.tj_words.specs.declared.view.Does.TheVariants as does
 
 -- words that are written once, where a cell that had an owner has another
 pub once_owned : {drawn : ℕ} {hand : ℕ → Option Hand} {hands : List (Option Hand)} {own : ℕ → Option ℕ}

@@ -1,23 +1,11 @@
 -- How many things a task may have made, and where a new task jumps.
-use Rattle.std.proofs.Common.{◌≡◌, ◌≢◌, ℕ, zero, suc, ◌-◌, ◌==◌, ◌<◌, ◌≤◌, if◌then◌else◌, [], ◌∷◌, refl, sym, ap, ◌∙◌}
-use Rattle.std.proofs.Common.{subst, inl, inr, arith}
-use mathlib.Core.Logic.{dite}
-use mathlib.Core.Option.{some-injective}
-use native.Mathlib.Decide.{ℕ_discrete, dec_le}
-use Rattle.tj_base.specs.ForkOrder.{child}
-use Rattle.tj_body.specs.Programs.{Program}
-use Rattle.tj_body.specs.declared.point.Reference.{Reference}
-use Rattle.tj_core.specs.CoreState.{CellState, CoreState, name, maker}
+use Rattle.tj_words.proofs.Prelude.{CellState, Contents, CoreState, Fork, Forks, HasTask, IsHistory, IsJump-of, Law}
+use Rattle.tj_words.proofs.Prelude.{Node, NodeId, Program, Reference, [], ap, arith, child, core_shown, dec_le, dite}
+use Rattle.tj_words.proofs.Prelude.{drawn_in, if◌then◌else◌, inl, inr, jump_from, made_of, maker, name, node_of}
+use Rattle.tj_words.proofs.Prelude.{node_of-child, node_of-older, parts_of, reference_of, refl, some-injective, subst}
+use Rattle.tj_words.proofs.Prelude.{suc, sym, zero, ℕ, ℕ_discrete, ◌-◌, ◌<◌, ◌==◌, ◌∙◌, ◌∷◌, ◌≡◌, ◌≢◌, ◌≤◌}
 use Rattle.tj_core.specs.Facts.{IsThing}
-use Rattle.tj_tree.specs.declared.node.Node.{Node}
-use Rattle.tj_tree.specs.declared.node.NodeId.{NodeId}
-use Rattle.tj_tree.specs.Forks.{Fork, Forks, HasTask, IsHistory}
-use Rattle.tj_tree.specs.Nodes.{jump_from, node_of}
-use Rattle.tj_tree.proofs.Trees.{node_of-older, node_of-child, IsJump-of, parent_there}
-use Rattle.tj_words.specs.LawParts.ShownState.{reference_of}
-use Rattle.tj_words.specs.Steps.ShownParts.{parts_of}
-use Rattle.tj_words.specs.LawParts.Contents.{Contents, drawn_in, made_of, core_shown}
-use Rattle.tj_words.specs.Law.{Law}
+use Rattle.tj_tree.proofs.Trees.{parent_there}
 use Rattle.tj_words.proofs.Events.ShownCells.{cell_there}
 use Rattle.tj_words.proofs.Cells.CellFacts.{cell_born, name_shown}
 

@@ -1,13 +1,6 @@
 -- What the tasks own, where one cell has another owner.
-use Rattle.std.proofs.Common.{◌≡◌, ◌≢◌, ◌↔◌, ℕ, List, [], ◌∷◌, ◌++◌, Option, Some, sym, ◌∙◌, subst, inl, inr, ⊎_elim}
-use mathlib.Core.Logic.{dite}
-use native.Mathlib.Decide.{ℕ_discrete}
-use Rattle.tj_body.specs.Points.{IsIn}
-use Rattle.tj_body.proofs.Lists.{in_either}
-use Rattle.tj_words.specs.declared.view.Hand.{Hand}
-use Rattle.tj_words.specs.Words.Lists.{AreApart}
-use Rattle.tj_words.specs.LawParts.Hands.{IsThere}
-use Rattle.tj_words.specs.LawParts.Custodies.{OwnedLists}
+use Rattle.tj_words.proofs.Prelude.{AreApart, Hand, IsIn, IsThere, List, Option, OwnedLists, Some, [], dite, in_either}
+use Rattle.tj_words.proofs.Prelude.{inl, inr, subst, sym, ℕ, ℕ_discrete, ⊎_elim, ◌++◌, ◌↔◌, ◌∙◌, ◌∷◌, ◌≡◌, ◌≢◌}
 
 -- a number more, which isn't among them, leaves numbers apart
 pub apart_snoc : (c : ℕ) (l : List ℕ) → AreApart l → ¬ IsIn c l → AreApart (l ++ c ∷ [])

@@ -1,37 +1,12 @@
 -- The stores of OWN keep the rule.
-use Rattle.std.proofs.Common.{◌≡◌, ◌≢◌, ℕ, zero, suc, ◌<◌, Bool, List, [], ◌∷◌, set, Option, Some, None, refl, sym}
-use Rattle.std.proofs.Common.{ap, ◌∙◌, subst, inl, inr, arith}
-use mathlib.Core.Option.{some, none}
-use lib.ListN.{get_elem?}
-use lib.Seq.{set-set}
-use Rattle.atomic_table.specs.Table.{State, step, Allows}
-use Rattle.atomic_table.proofs.Lists.{at_map}
-use Rattle.tj_base.specs.Puts.{put}
-use Rattle.tj_base.specs.declared.cell.Sort.{Sort}
-use Rattle.tj_base.specs.declared.cell.Sort.TheVariants as sort
-use Rattle.tj_body.specs.Programs.{Program}
-use Rattle.tj_core.specs.Laws.{EventKeepsFacts}
-use Rattle.tj_words.specs.declared.record.Rec.{Rec}
-use Rattle.tj_words.specs.declared.table.Key.{Key}
-use Rattle.tj_words.specs.declared.view.Does.{Does}
-use Rattle.tj_words.specs.declared.view.Does.TheVariants as does
-use Rattle.tj_words.specs.declared.view.Custody.{Custody}
-use Rattle.tj_words.specs.declared.view.Due.{Due}
-use Rattle.tj_words.specs.declared.view.View.{View}
-use Rattle.tj_words.specs.Words.Offsets.{own_at}
-use Rattle.tj_words.specs.Words.Owners.{owner_in}
-use Rattle.tj_words.specs.LawParts.Holding.{held_in}
-use Rattle.tj_words.specs.LawParts.ShownState.{first_owner}
-use Rattle.tj_words.specs.LawParts.LiveCount.{HasAlarmed, Backing}
-use Rattle.tj_words.specs.LawParts.Contents.{Contents, SeatsHave, words_say, seats_have, contents_of, drawn_in, hand_of}
-use Rattle.tj_words.specs.Law.{Rule, IsSeat}
-use Rattle.tj_words.specs.SeatViews.SeatSteps.{SeatMe}
-use Rattle.tj_words.specs.Steps.StepEvents.{IsHeldWith, MayAct}
-use Rattle.tj_words.specs.SeatViews.TaskLists.{hold, noted}
-use Rattle.tj_words.specs.Calls.DrawViews.{MayGive, gave_owner, owns_also}
-use Rattle.tj_words.specs.Calls.OwnerViews.{IsOwnersSeat, MayClose, MayHand, MayPutOwner, PutsOwner, gave_up}
-use Rattle.tj_words.specs.Calls.OwnerViews.{closed_cell}
-use Rattle.tj_words.specs.Calls.OwnerViews.{handed_promise, owner_put}
+use Rattle.tj_words.proofs.Prelude.{Allows, Backing, Bool, ClosesPromise, ClosesResult, Contents, Custody, Does, Due}
+use Rattle.tj_words.proofs.Prelude.{EventKeepsFacts, HandsPromise, HasAlarmed, IsHeldWith, IsSeat, Keeping, Key, List}
+use Rattle.tj_words.proofs.Prelude.{MayAct, MayClose, MayGive, MayHand, None, Option, Program, PutsOwner, Rec, Rule}
+use Rattle.tj_words.proofs.Prelude.{SeatMe, SeatsHave, Some, Sort, State, View, [], ap, arith, at_map, contents_of}
+use Rattle.tj_words.proofs.Prelude.{drawn_in, first_owner, gave_owner, gave_up, get_elem?, hand_of, held_in, hold, inl}
+use Rattle.tj_words.proofs.Prelude.{inr, none, noted, own_at, owner_in, owns_also, put, refl, seats_have, set, set-set}
+use Rattle.tj_words.proofs.Prelude.{some, step, subst, suc, sym, words_say, zero, ℕ, ◌<◌, ◌∙◌, ◌∷◌, ◌≡◌, ◌≢◌}
+use Rattle.tj_words.specs.Calls.OwnerViews.{IsOwnersSeat, MayPutOwner, closed_cell, handed_promise, owner_put}
 use Rattle.tj_words.proofs.Holders.HeldTasks.{none_some, one_some, hand_finds}
 use Rattle.tj_words.proofs.Stores.SeatContents.{seats_same}
 use Rattle.tj_words.proofs.Holders.TaskPlaces.{list_owned}
@@ -43,14 +18,14 @@ use Rattle.tj_words.proofs.Waiters.Backings.{backing_runs}
 use Rattle.tj_words.proofs.Stores.StoreSteps.{Stores, step_allowed, store_word}
 use Rattle.tj_words.proofs.Stores.StepContents.{stored}
 use Rattle.tj_words.proofs.Stores.SeatLists.{back}
-use Rattle.tj_words.specs.Steps.OwnerSteps.{ClosesPromise, ClosesResult, HandsPromise}
-use Rattle.tj_words.specs.CallLaws.EventCalls.{Keeping}
-use Rattle.tj_words.specs.declared.offsets.Once.TheVariants as once
 use Rattle.tj_words.proofs.Stores.TableWords.{Own}
 use Rattle.tj_words.proofs.Stores.WordStores.{hand_here}
 use Rattle.tj_words.proofs.Cells.GivenCells.{give_stores}
 use Rattle.tj_words.proofs.Cells.ClosedCells.{closed, closed_keeps, closes_own, closes_promise, law_closed}
 use Rattle.tj_words.proofs.Cells.HandedPromises.{handed, handed_keeps, hands, law_handed}
+use Rattle.tj_base.specs.declared.cell.Sort.TheVariants as sort
+use Rattle.tj_words.specs.declared.view.Does.TheVariants as does
+use Rattle.tj_words.specs.declared.offsets.Once.TheVariants as once
 
 module _ {B : Type 0} where
   -- a task that acts isn't unborn

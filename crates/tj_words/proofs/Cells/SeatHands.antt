@@ -1,10 +1,7 @@
 -- What is in hand, and who makes it, after one seat's hand has changed.
-use Rattle.std.proofs.Common.{◌≡◌, ◌≢◌, ℕ, zero, suc, cond, nat_eq, Bool, List, [], ◌∷◌, set, Option, Some, None}
-use Rattle.std.proofs.Common.{refl, sym, ap, ◌∙◌, eq-eqb, ne_eqb}
-use mathlib.Core.Option.{some, some-injective, some-ne-none}
-use lib.ListN.{get_elem?}
-use Rattle.tj_words.specs.declared.view.Hand.{Hand}
-use Rattle.tj_words.specs.LawParts.Hands.{hand_in, making}
+use Rattle.tj_words.proofs.Prelude.{Bool, Hand, List, None, Option, Some, [], ap, cond, eq-eqb, get_elem?, hand_in}
+use Rattle.tj_words.proofs.Prelude.{making, nat_eq, ne_eqb, refl, set, some, some-injective, some-ne-none, suc, sym}
+use Rattle.tj_words.proofs.Prelude.{zero, ℕ, ◌∙◌, ◌∷◌, ◌≡◌, ◌≢◌}
 
 -- a number of each hand, its cell or its maker, and what a hand says of it
 module _ {A : Type 0} (number : Hand → ℕ) (says : Hand → A) where

@@ -1,35 +1,18 @@
 -- A draw keeps what is said of births and of the tree of forks.
-use Rattle.std.proofs.Common.{◌≡◌, ◌≢◌, ◌⊎◌, ℕ, zero, suc, ◌-◌, ◌<◌, ◌≤◌, ◌==◌, if◌then◌else◌, Bool, true, false, List, [], ◌∷◌, ◌++◌, length, Option, Some, None, refl, sym, ap, ◌∙◌, subst, inl, inr, ⊎_elim, arith, ne_eqb}
-use mathlib.Core.Logic.{dite}
-use mathlib.Core.Option.{some, some-injective, some-ne-none}
-use native.Mathlib.Decide.{ℕ_discrete}
-use lib.ListN.{get_elem?}
-use Rattle.atomic_table.proofs.Lists.{at_longer}
-use Rattle.tj_base.specs.ForkOrder.{child}
-use Rattle.tj_base.specs.declared.cell.Sort.{Sort}
-use Rattle.tj_base.specs.declared.cell.Sort.TheVariants as sort
-use Rattle.tj_body.specs.History.{to_task}
-use Rattle.tj_body.specs.declared.point.Reference.{Reference}
-use Rattle.tj_base.specs.Puts.{put}
-use Rattle.tj_base.proofs.Puts.{put_here, put_else}
-use Rattle.tj_tree.specs.declared.node.Node.{Node}
-use Rattle.tj_tree.specs.declared.node.NodeId.{NodeId}
-use Rattle.tj_tree.specs.Forks.{Fork, Forks, HasTask, HasKid, IsNext, IsHistory, name_of}
-use Rattle.tj_tree.specs.Nodes.{jump_from, child_node, node_of}
+use Rattle.tj_words.proofs.Prelude.{Births, Bool, Due, Fork, Forks, Hand, HasTask, IsCell, IsDue, IsForkTree, IsHistory}
+use Rattle.tj_words.proofs.Prelude.{IsOfTree, IsThere, List, Node, NodeId, None, OfSeat, Once, Option, Phase, Reference}
+use Rattle.tj_words.proofs.Prelude.{Some, Sort, TreeWords, [], ap, arith, at_longer, child, depth_word, dite, false}
+use Rattle.tj_words.proofs.Prelude.{get_elem?, if◌then◌else◌, inl, inr, jump_word, length, ne_eqb, next_reference}
+use Rattle.tj_words.proofs.Prelude.{node_of, parent_word, put, put_else, put_here, reference_of, refl, some}
+use Rattle.tj_words.proofs.Prelude.{some-injective, some-ne-none, sort_shown, subst, suc, sym, to_task, tree_word, true}
+use Rattle.tj_words.proofs.Prelude.{zero, ℕ, ℕ_discrete, ⊎_elim, ◌++◌, ◌-◌, ◌<◌, ◌==◌, ◌∙◌, ◌∷◌, ◌≡◌, ◌≢◌, ◌≤◌, ◌⊎◌}
+use Rattle.tj_tree.specs.Forks.{HasKid, IsNext, name_of}
+use Rattle.tj_tree.specs.Nodes.{jump_from, child_node}
 use Rattle.tj_tree.proofs.Trees.{node_of-older, node_of-child, name_of-older, name_of-child, root_there, IsJump-of}
-use Rattle.tj_words.specs.declared.phase.Phase.{Phase}
-use Rattle.tj_words.specs.declared.view.Hand.{Hand}
-use Rattle.tj_words.specs.LawParts.Hands.{IsThere}
-use Rattle.tj_words.specs.LawParts.ShownState.{reference_of, sort_shown}
-use Rattle.tj_words.specs.declared.offsets.Once.{Once}
-use Rattle.tj_words.specs.declared.offsets.Once.TheVariants as once
-use Rattle.tj_words.specs.declared.view.Due.{Due}
-use Rattle.tj_words.specs.Words.Lists.{OfSeat}
-use Rattle.tj_words.specs.LawParts.TreeWords.{IsCell, IsOfTree, IsDue, parent_word, depth_word, jump_word, tree_word}
-use Rattle.tj_words.specs.LawParts.TreeWords.{Births, IsForkTree, TreeWords}
-use Rattle.tj_words.specs.Steps.OwnerSteps.{next_reference}
 use Rattle.tj_words.specs.Inner.TreeDraws.{forks_after, IsDrawnInto, MayDraw}
 use Rattle.tj_words.proofs.Holders.HeldTasks.{one_some, at_index}
+use Rattle.tj_base.specs.declared.cell.Sort.TheVariants as sort
+use Rattle.tj_words.specs.declared.offsets.Once.TheVariants as once
 
 -- where a list is longer by one, each element is one of the old ones, or the new one
 last_at : {A : Type 0} (l : List A) (a : A) → get_elem? (l ++ a ∷ []) (length l) ≡ some a

@@ -1,38 +1,21 @@
 -- A draw is a Make or a Fork; the first store of OWN shows nothing.
-use Rattle.std.proofs.Common.{◌≡◌, ◌≢◌, ℕ, zero, suc, ◌+◌, ◌<◌, ◌≤◌, List, [], ◌∷◌, ◌++◌, length, get_or, Option, Some, None, refl, sym, ap, ◌∙◌, subst, arith}
-use mathlib.Core.Option.{some, some-injective}
-use lib.ListN.{get_elem?}
-use Rattle.tj_base.specs.declared.cell.Sort.{Sort}
-use Rattle.tj_base.specs.declared.cell.Sort.TheVariants as sort
-use Rattle.tj_body.specs.History.{to_task}
-use Rattle.tj_body.specs.Programs.{Program}
-use Rattle.tj_body.specs.declared.point.Reference.{Reference}
-use Rattle.tj_core.specs.CoreState.{CellState, CoreState, name, maker}
-use Rattle.tj_base.specs.Puts.{put}
-use Rattle.tj_base.specs.ForkOrder.{child}
-use Rattle.tj_core.specs.Events.{Allowed, after, with_new}
+use Rattle.tj_words.proofs.Prelude.{Allowed, CellState, Contents, CoreState, Custody, DrawsCell, Hand, IsCell}
+use Rattle.tj_words.proofs.Prelude.{IsDrawnInto, IsEmpty, IsThere, Law, List, None, Option, Program, Rec, Reference}
+use Rattle.tj_words.proofs.Prelude.{ShowsEvent, Slots, Some, Sort, [], after, ap, arith, child, core_shown, draw_event}
+use Rattle.tj_words.proofs.Prelude.{drawn_in, first_owner, get_elem?, get_or, hand_of, hand_stage, held_of, home_in}
+use Rattle.tj_words.proofs.Prelude.{home_of, length, made_by, made_of, maker, making, name, next_reference, parts_of}
+use Rattle.tj_words.proofs.Prelude.{phase_sort, put, record_in, reference_of, refl, some, some-injective, subst, suc}
+use Rattle.tj_words.proofs.Prelude.{sym, to_task, with_new, zero, ℕ, ◌++◌, ◌+◌, ◌<◌, ◌∙◌, ◌∷◌, ◌≡◌, ◌≢◌, ◌≤◌}
 use Rattle.tj_core.proofs.OneCell.Makers.{thing_made}
-use Rattle.tj_words.specs.declared.record.Rec.{Rec}
-use Rattle.tj_words.specs.declared.view.Hand.{Hand}
-use Rattle.tj_words.specs.declared.view.Custody.{Custody}
-use Rattle.tj_words.specs.LawParts.Holding.{Slots, made_by, record_in, home_in, IsEmpty}
-use Rattle.tj_words.specs.LawParts.Hands.{making, IsThere}
-use Rattle.tj_words.specs.LawParts.TreeWords.{IsCell}
-use Rattle.tj_words.specs.Inner.TreeDraws.{IsDrawnInto, MayDraw}
-use Rattle.tj_words.specs.LawParts.ShownState.{phase_sort, first_owner, hand_stage, reference_of}
-use Rattle.tj_words.specs.LawParts.Contents.{Contents, hand_of, drawn_in, held_of, home_of, made_of, core_shown}
-use Rattle.tj_words.specs.Law.{Law}
-use Rattle.tj_words.specs.Steps.ShownParts.{parts_of}
-use Rattle.tj_words.specs.Steps.StepEvents.{ShowsEvent}
-use Rattle.tj_words.specs.Steps.OwnerSteps.{next_reference, draw_event, DrawsCell}
+use Rattle.tj_words.specs.Inner.TreeDraws.{MayDraw}
 use Rattle.tj_words.proofs.Holders.HeldTasks.{none_some, one_some, hand_found, makes_none}
 use Rattle.tj_words.proofs.Events.ShownCells.{cell_there}
 use Rattle.tj_words.proofs.Events.ShownDraws.{one_drawn}
 use Rattle.tj_words.proofs.Cells.CellFacts.{cell_born, name_shown, sort_is}
 use Rattle.tj_words.proofs.Cells.TreeDraws.{place_inside}
 use Rattle.tj_words.proofs.Holders.TaskPlaces.{custody}
-use Rattle.tj_words.proofs.Events.OwnerEvents.{acts_there, acts_phase, acts_made, acts_stage, acts_run}
-use Rattle.tj_words.proofs.Events.OwnerEvents.{hand_seat}
+use Rattle.tj_words.proofs.Events.OwnerEvents.{acts_there, acts_phase, acts_made, acts_stage, acts_run, hand_seat}
+use Rattle.tj_base.specs.declared.cell.Sort.TheVariants as sort
 
 -- the last element of a list, and each before it
 pub last_or : {A : Type 0} (l : List A) (a d : A) → get_or (l ++ a ∷ []) (length l) d ≡ a

@@ -1,38 +1,14 @@
 -- The stores of OWN are events of the core, or show nothing.
-use Rattle.std.proofs.Common.{◌≡◌, ◌≢◌, ℕ, zero, suc, ◌<◌, ◌≤◌, cond, Bool, List, Option, Some, None, refl, sym, ap, ◌∙◌, subst, eq-eqb, ne_eqb, arith}
-use mathlib.Core.Logic.{dite}
-use mathlib.Core.Option.{some, some-injective}
-use native.Mathlib.Decide.{dec_le}
-use lib.ListN.{get_elem?}
-use Rattle.tj_base.specs.declared.cell.Sort.{Sort}
-use Rattle.tj_base.specs.declared.cell.Sort.TheVariants as sort
-use Rattle.tj_body.specs.Points.{IsIn}
-use Rattle.tj_body.specs.Programs.{Program}
-use Rattle.tj_body.specs.declared.point.Reference.{Reference}
-use Rattle.tj_core.specs.declared.event.Event.TheVariants as event
-use Rattle.tj_core.specs.CoreState.{CellState, CoreState, owner, maker, stage, running, fresh, ended, promise, Runs}
-use Rattle.tj_base.specs.Puts.{put}
-use Rattle.tj_core.specs.Events.{owned_by, alter, restage, stage_after_close}
-use Rattle.tj_base.proofs.Puts.{put_here, put_else}
-use Rattle.tj_words.specs.declared.offsets.Once.TheVariants as once
-use Rattle.tj_words.specs.declared.phase.Phase.{Phase}
-use Rattle.tj_words.specs.declared.phase.Phase.TheVariants as phase
-use Rattle.tj_words.specs.declared.view.Hand.{Hand}
-use Rattle.tj_words.specs.declared.view.Does.{Does}
-use Rattle.tj_words.specs.declared.view.Does.TheVariants as does
-use Rattle.tj_words.specs.declared.view.Custody.{Custody}
-use Rattle.tj_words.specs.Words.Lists.{cell}
-use Rattle.tj_words.specs.LawParts.Holding as holding
-use Rattle.tj_words.specs.LawParts.Holding.{made_by, phase_of, held_in}
-use Rattle.tj_words.specs.LawParts.Hands.{hand_in, IsThere}
-use Rattle.tj_words.specs.LawParts.TreeWords.{parent_word}
-use Rattle.tj_words.specs.LawParts.ShownState.{phase_sort, first_owner, owner_shown, new_stage, stage_there}
-use Rattle.tj_words.specs.LawParts.ShownState.{reference_of}
-use Rattle.tj_words.specs.LawParts.Contents.{Contents, hand_of, drawn_in, held_of, home_of, core_shown}
-use Rattle.tj_words.specs.Law.{Law}
-use Rattle.tj_words.specs.Steps.ShownParts.{Parts, parts_of, shown_by, IsSameButOwner}
-use Rattle.tj_words.specs.Steps.StepEvents.{IsBegun, MayAct, ShowsEvent}
-use Rattle.tj_words.specs.Steps.OwnerSteps.{ActsOn, HandsPromise, ClosesPromise, ClosesResult}
+use Rattle.tj_words.proofs.Prelude.{ActsOn, Bool, CellState, ClosesPromise, ClosesResult, Contents, Custody, Does, Hand}
+use Rattle.tj_words.proofs.Prelude.{HandsPromise, IsBegun, IsIn, IsSameButOwner, IsThere, Law, List, MayAct, None}
+use Rattle.tj_words.proofs.Prelude.{Option, Parts, Phase, Program, Reference, Runs, ShowsEvent, Some, Sort, alter, ap}
+use Rattle.tj_words.proofs.Prelude.{arith, cell, cond, core_shown, dec_le, dite, drawn_in, eq-eqb, first_owner, fresh}
+use Rattle.tj_words.proofs.Prelude.{get_elem?, hand_in, hand_of, held_of, home_of, made_by, maker, ne_eqb, new_stage}
+use Rattle.tj_words.proofs.Prelude.{owner, owner_shown, parent_word, parts_of, phase_of, phase_sort, put, put_else}
+use Rattle.tj_words.proofs.Prelude.{put_here, reference_of, refl, restage, running, shown_by, some, some-injective}
+use Rattle.tj_words.proofs.Prelude.{stage, stage_there, subst, suc, sym, zero, ℕ, ◌<◌, ◌∙◌, ◌≡◌, ◌≢◌, ◌≤◌}
+use Rattle.tj_core.specs.CoreState.{CoreState, ended, promise}
+use Rattle.tj_core.specs.Events.{owned_by, stage_after_close}
 use Rattle.tj_words.proofs.Holders.HeldTasks.{none_some, one_some, hand_found}
 use Rattle.tj_words.proofs.Events.ShownCells.{restaged, stage_out, owner_out, cell_there, cell_blank}
 use Rattle.tj_words.proofs.Events.ShownOwners.{unchanged, first, second, to_first, to_second, promise_owned}
@@ -41,6 +17,12 @@ use Rattle.tj_words.proofs.Holders.TaskPlaces.{does_shown, does_stage_there, beg
 use Rattle.tj_words.proofs.Holders.TaskPlaces.{list_owned, stage_held}
 use Rattle.tj_words.proofs.Cells.CellFacts.{cell_born}
 use Rattle.tj_words.proofs.Events.TurnedTasks.{acting_runs}
+use Rattle.tj_base.specs.declared.cell.Sort.TheVariants as sort
+use Rattle.tj_core.specs.declared.event.Event.TheVariants as event
+use Rattle.tj_words.specs.declared.offsets.Once.TheVariants as once
+use Rattle.tj_words.specs.declared.phase.Phase.TheVariants as phase
+use Rattle.tj_words.specs.declared.view.Does.TheVariants as does
+use Rattle.tj_words.specs.LawParts.Holding as holding
 
 -- a task that acts runs, by its phase
 acting_phase : (d : Does) → MayAct d → phase_of d ≡ phase.Running

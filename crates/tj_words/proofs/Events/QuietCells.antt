@@ -1,23 +1,11 @@
 -- A step after which each cell shows what it showed shows nothing.
-use Rattle.std.proofs.Common.{◌≡◌, ℕ, ◌+◌, cond, nat_lt, List, Option, Some, None, refl, sym, ap, ◌∙◌}
-use Rattle.tj_base.specs.Puts.{put}
-use Rattle.tj_body.specs.declared.point.Reference.{Reference}
-use Rattle.tj_core.specs.CoreState.{blank}
-use Rattle.tj_words.specs.declared.phase.Phase.{Phase}
+use Rattle.tj_words.proofs.Prelude.{Contents, Custody, Does, Hand, IsQuiet, List, MarksPromise, None, Option, Parts}
+use Rattle.tj_words.proofs.Prelude.{Phase, Rec, Reference, Some, ap, blank, cond, does_stage, first_owner, hand_of}
+use Rattle.tj_words.proofs.Prelude.{hand_stage, held_of, home_of, made_by, nat_lt, owner_shown, parts_of, put}
+use Rattle.tj_words.proofs.Prelude.{reference_of, refl, shown_by, stage_shown, sym, ℕ, ◌+◌, ◌∙◌, ◌≡◌}
+use Rattle.tj_words.proofs.Stores.Columns.{at_two, put_kept}
 use Rattle.tj_words.specs.declared.phase.Phase.TheVariants as phase
 use Rattle.tj_words.specs.declared.phase.Walk.TheVariants as walk
-use Rattle.tj_words.specs.declared.record.Rec.{Rec}
-use Rattle.tj_words.specs.declared.view.Custody.{Custody}
-use Rattle.tj_words.specs.declared.view.Does.{Does}
-use Rattle.tj_words.specs.declared.view.Hand.{Hand}
-use Rattle.tj_words.specs.LawParts.Contents.{Contents, hand_of, held_of, home_of}
-use Rattle.tj_words.specs.LawParts.Holding.{made_by}
-use Rattle.tj_words.specs.LawParts.ShownState.{does_stage, first_owner, hand_stage, owner_shown, reference_of}
-use Rattle.tj_words.specs.LawParts.ShownState.{stage_shown}
-use Rattle.tj_words.specs.Steps.QuietSteps.{MarksPromise}
-use Rattle.tj_words.specs.Steps.ShownParts.{Parts, parts_of, shown_by}
-use Rattle.tj_words.specs.Steps.StepEvents.{IsQuiet}
-use Rattle.tj_words.proofs.Stores.Columns.{at_two, put_kept}
 
 module _ {B : Type 0} (x y : Parts B) where
   -- each cell shows what it showed, and so do OTHERS and the waits cleared

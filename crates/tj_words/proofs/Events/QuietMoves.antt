@@ -1,35 +1,21 @@
 -- Steps that show nothing.
-use Rattle.std.proofs.Common.{◌≡◌, ℕ, suc, min, [], ◌∷◌, ◌++◌, arith, Option, Some, None, refl, sym, ap, ◌∙◌, subst}
-use Rattle.tj_base.specs.declared.cell.Sort.TheVariants as sort
-use Rattle.tj_body.specs.Programs.{Program}
-use Rattle.tj_body.specs.declared.ask.Answer.{Answer}
-use Rattle.tj_body.specs.declared.ask.Answer.TheVariants as answer
-use Rattle.tj_core.specs.declared.walk.Way.{Way}
-use Rattle.tj_core.specs.declared.walk.Walker.{Walker}
-use Rattle.tj_core.specs.CoreState.{CoreState}
-use Rattle.tj_words.specs.declared.phase.Walk.TheVariants as walk
-use Rattle.tj_words.specs.declared.phase.Phase.{Phase}
-use Rattle.tj_words.specs.declared.phase.Phase.TheVariants as phase
-use Rattle.tj_words.specs.declared.record.Rec.{Rec}
-use Rattle.tj_words.specs.declared.view.Does.{Does}
-use Rattle.tj_words.specs.declared.view.Does.TheVariants as does
-use Rattle.tj_words.specs.declared.view.Custody.{Custody}
-use Rattle.tj_words.specs.Words.Lists.{total, cell}
-use Rattle.tj_words.specs.LawParts.Holding.{made_by, phase_of}
-use Rattle.tj_words.specs.LawParts.Hands.{IsThere}
-use Rattle.tj_words.specs.LawParts.ShownState.{phase_sort, answer_stage, does_stage, stage_there}
-use Rattle.tj_words.specs.LawParts.Contents.{WordsSay, Contents, hand_of, drawn_in, held_of, home_of, core_shown}
-use Rattle.tj_words.specs.Law.{Law}
-use Rattle.tj_words.specs.Steps.ShownParts.{parts_of, shown_by}
-use Rattle.tj_words.specs.Steps.StepEvents.{IsBegun, ShowsNothing, IsMoved}
-use Rattle.tj_words.specs.Steps.WalkSteps.{KeepsOthers, Leaves}
-use Rattle.tj_words.specs.Steps.QuietSteps.{does_first, KeepsHoldings, LoadsOnly, StoresOnce, ChangesLive}
-use Rattle.tj_words.specs.Steps.QuietSteps.{ChangesStop, ChangesHead, ChangesNext, DrawIsRefused, SplitsSeat}
-use Rattle.tj_words.specs.Steps.QuietSteps.{ClaimsTask, ReleasesTask, EndsTask, ShelvesTask, MovesRecord}
+use Rattle.tj_words.proofs.Prelude.{Answer, ChangesHead, ChangesLive, ChangesNext, ChangesStop, ClaimsTask, Contents}
+use Rattle.tj_words.proofs.Prelude.{CoreState, Custody, Does, DrawIsRefused, EndsTask, IsBegun, IsMoved, IsThere}
+use Rattle.tj_words.proofs.Prelude.{KeepsOthers, Law, Leaves, LoadsOnly, MovesRecord, None, Option, Phase, Program, Rec}
+use Rattle.tj_words.proofs.Prelude.{ReleasesTask, ShelvesTask, ShowsNothing, Some, StoresOnce, Walker, Way, WordsSay}
+use Rattle.tj_words.proofs.Prelude.{[], answer_stage, ap, arith, cell, core_shown, does_first, does_stage, drawn_in}
+use Rattle.tj_words.proofs.Prelude.{hand_of, held_of, home_of, made_by, min, parts_of, phase_of, phase_sort, refl}
+use Rattle.tj_words.proofs.Prelude.{shown_by, stage_there, subst, suc, sym, total, ℕ, ◌++◌, ◌∙◌, ◌∷◌, ◌≡◌}
+use Rattle.tj_words.specs.Steps.QuietSteps.{KeepsHoldings, SplitsSeat}
 use Rattle.tj_words.proofs.Seating.Appending.{hand_snoc, making_snoc, find_snoc, total_snoc}
 use Rattle.tj_words.proofs.Events.ShownCells.{stage_out}
 use Rattle.tj_words.proofs.Holders.TaskPlaces.{does_stage_there, begun_there, custody, held_here}
 use Rattle.tj_words.proofs.Events.TurnedTasks.{moved_nothing}
+use Rattle.tj_base.specs.declared.cell.Sort.TheVariants as sort
+use Rattle.tj_body.specs.declared.ask.Answer.TheVariants as answer
+use Rattle.tj_words.specs.declared.phase.Walk.TheVariants as walk
+use Rattle.tj_words.specs.declared.phase.Phase.TheVariants as phase
+use Rattle.tj_words.specs.declared.view.Does.TheVariants as does
 
 -- what a claimed task shows is what it showed while it was ready
 first_shown : (t : ℕ) (a : Answer) → does_stage t (does_first a) ≡ answer_stage t a

@@ -1,16 +1,9 @@
 -- What the core state shows after the parts of one cell or two have changed.
-use Rattle.std.proofs.Common.{◌≡◌, ◌≢◌, ℕ, ◌+◌, ◌<◌, ◌≤◌, cond, nat_lt, nat_eq, Bool, true, false, List, Option, None, refl, sym, ap, ◌∙◌, subst, lt-ltb, le-ltb}
-use mathlib.Core.Logic.{dite}
-use native.Mathlib.Decide.{ℕ_discrete}
-use Rattle.tj_body.specs.declared.point.Reference.{Reference}
-use Rattle.tj_core.specs.CoreState.{CellStage, CellState, CoreState, blank, owner, stage}
-use Rattle.tj_base.specs.Puts.{put}
-use Rattle.tj_core.specs.Events.{staged, restage}
-use Rattle.tj_base.proofs.Puts.{put_here, put_else}
-use Rattle.tj_words.specs.declared.view.Hand.{Hand}
-use Rattle.tj_words.specs.LawParts.Holding.{made_by}
-use Rattle.tj_words.specs.LawParts.ShownState.{phase_sort, reference_of, owner_shown, stage_there, stage_shown}
-use Rattle.tj_words.specs.Steps.ShownParts.{Parts, cell_by, shown_by, IsSameBut}
+use Rattle.tj_words.proofs.Prelude.{Bool, CellStage, CellState, CoreState, Hand, IsSameBut, List, None, Option, Parts}
+use Rattle.tj_words.proofs.Prelude.{Reference, ap, blank, cell_by, cond, dite, made_by, owner, owner_shown, phase_sort}
+use Rattle.tj_words.proofs.Prelude.{put, put_else, put_here, reference_of, refl, restage, shown_by, stage, stage_shown}
+use Rattle.tj_words.proofs.Prelude.{stage_there, staged, subst, sym, true, ℕ, ℕ_discrete, ◌+◌, ◌<◌, ◌∙◌, ◌≡◌, ◌≢◌, ◌≤◌}
+use Rattle.std.proofs.Common.{nat_lt, nat_eq, false, lt-ltb, le-ltb}
 
 -- two states that agree are the same
 pub states_same : (s z : CoreState) → s.count ≡ z.count → ((c : ℕ) → s.cells c ≡ z.cells c)

@@ -1,18 +1,10 @@
 -- What the core state shows after a cell is drawn.
-use Rattle.std.proofs.Common.{◌≡◌, ◌≢◌, ℕ, suc, ◌+◌, ◌<◌, ◌≤◌, List, Option, Some, None, sym, ap, ◌∙◌, subst, arith}
-use mathlib.Core.Logic.{dite}
-use native.Mathlib.Decide.{ℕ_discrete, dec_le}
-use Rattle.tj_base.specs.ForkOrder.{child}
-use Rattle.tj_body.specs.declared.point.Reference.{Reference}
-use Rattle.tj_core.specs.CoreState.{CellState, Cells, CoreState, running}
-use Rattle.tj_base.specs.Puts.{put}
-use Rattle.tj_core.specs.Events.{one_made, new_cell, with_new}
-use Rattle.tj_base.proofs.Puts.{put_here, put_else}
-use Rattle.tj_words.specs.declared.view.Hand.{Hand}
-use Rattle.tj_words.specs.LawParts.Holding.{made_by}
-use Rattle.tj_words.specs.LawParts.ShownState.{phase_sort, first_owner, hand_stage, reference_of, owner_shown}
-use Rattle.tj_words.specs.LawParts.ShownState.{stage_there, stage_shown}
-use Rattle.tj_words.specs.Steps.ShownParts.{Parts, cell_by, shown_by, IsDrawn}
+use Rattle.tj_words.proofs.Prelude.{CellState, Cells, CoreState, Hand, List, None, Option, Parts, Reference, Some, ap}
+use Rattle.tj_words.proofs.Prelude.{arith, cell_by, child, dec_le, dite, first_owner, hand_stage, made_by, owner_shown}
+use Rattle.tj_words.proofs.Prelude.{phase_sort, put, put_else, put_here, reference_of, running, shown_by, stage_shown}
+use Rattle.tj_words.proofs.Prelude.{stage_there, subst, suc, sym, with_new, ℕ, ℕ_discrete, ◌+◌, ◌<◌, ◌∙◌, ◌≡◌, ◌≢◌, ◌≤◌}
+use Rattle.tj_core.specs.Events.{one_made, new_cell}
+use Rattle.tj_words.specs.Steps.ShownParts.{IsDrawn}
 use Rattle.tj_words.proofs.Events.ShownCells.{states_same, cell_there, cell_blank}
 
 module _ {B : Type 0} (born born' : List Reference) (maker maker' : ℕ → ℕ) (x y : Parts B) (t : ℕ) (h : Hand)

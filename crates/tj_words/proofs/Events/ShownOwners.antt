@@ -1,20 +1,12 @@
 -- What the core state shows after a cell has another owner, or a cell in hand has its first one.
-use Rattle.std.proofs.Common.{◌≡◌, ◌≢◌, ℕ, ◌+◌, ◌<◌, List, Option, None, refl, sym, ap, ◌∙◌, subst}
-use mathlib.Core.Logic.{dite}
-use native.Mathlib.Decide.{ℕ_discrete}
-use Rattle.tj_base.specs.declared.cell.Sort.TheVariants as sort
-use Rattle.tj_body.specs.declared.point.Reference.{Reference}
-use Rattle.tj_core.specs.CoreState.{CellState, Cells, CoreState, ended, promise}
-use Rattle.tj_base.specs.Puts.{put}
-use Rattle.tj_core.specs.Events.{staged, owned_by, alter, restage}
-use Rattle.tj_base.proofs.Puts.{put_here, put_else}
-use Rattle.tj_words.specs.declared.phase.Phase.{Phase}
-use Rattle.tj_words.specs.declared.view.Hand.{Hand}
-use Rattle.tj_words.specs.LawParts.Holding.{made_by}
-use Rattle.tj_words.specs.LawParts.ShownState.{phase_sort, reference_of, owner_shown}
-use Rattle.tj_words.specs.LawParts.ShownState.{stage_there, stage_shown}
-use Rattle.tj_words.specs.Steps.ShownParts.{Parts, cell_by, shown_by, IsSameBut, IsSameButOwner}
+use Rattle.tj_words.proofs.Prelude.{CellState, Cells, Hand, IsSameBut, IsSameButOwner, List, None, Option, Parts, Phase}
+use Rattle.tj_words.proofs.Prelude.{Reference, alter, ap, cell_by, dite, made_by, owner_shown, phase_sort, promise, put}
+use Rattle.tj_words.proofs.Prelude.{put_else, put_here, reference_of, refl, restage, shown_by, stage_shown, stage_there}
+use Rattle.tj_words.proofs.Prelude.{staged, subst, sym, ℕ, ℕ_discrete, ◌+◌, ◌<◌, ◌∙◌, ◌≡◌, ◌≢◌}
+use Rattle.tj_core.specs.CoreState.{CoreState, ended}
+use Rattle.tj_core.specs.Events.{owned_by}
 use Rattle.tj_words.proofs.Events.ShownCells.{states_same, with_cell, put_again, cell_there, one_cell, restaged}
+use Rattle.tj_base.specs.declared.cell.Sort.TheVariants as sort
 
 -- a stage put back is no change
 pub stage_again : (s : CoreState) (t : ℕ) (c : ℕ) → (restage s t (λ st. st)).cells c ≡ s.cells c

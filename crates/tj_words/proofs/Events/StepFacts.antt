@@ -1,20 +1,8 @@
 -- The facts after a step: of the core state by the core's law, and of births and the tree of forks after a draw.
-use Rattle.std.proofs.Common.{◌≡◌, ◌⊎◌, ℕ, suc, List, [], ◌∷◌, ◌++◌, sym, subst}
-use Rattle.tj_body.specs.Programs.{Program}
-use Rattle.tj_body.specs.declared.point.Reference.{Reference}
-use Rattle.tj_core.specs.declared.event.Event.{Event}
-use Rattle.tj_base.specs.Puts.{put}
-use Rattle.tj_core.specs.CoreFacts.{CoreFacts}
-use Rattle.tj_core.specs.Laws.{EventKeepsFacts}
-use Rattle.tj_words.specs.declared.offsets.Once.{Once}
-use Rattle.tj_words.specs.declared.view.Hand.{Hand}
-use Rattle.tj_words.specs.Words.Lists.{OfSeat}
-use Rattle.tj_words.specs.LawParts.Contents.{Contents, drawn_in, hand_of, made_of, core_shown}
-use Rattle.tj_words.specs.LawParts.TreeWords.{IsOfTree, IsDue, tree_word, Births, IsForkTree, TreeWords}
-use Rattle.tj_words.specs.Law.{Law}
-use Rattle.tj_words.specs.Steps.StepEvents.{ShowsEvent, ShowsNothing}
-use Rattle.tj_words.specs.Steps.OwnerSteps.{next_reference, DrawsCell}
-use Rattle.tj_words.specs.Inner.TreeDraws.{forks_after}
+use Rattle.tj_words.proofs.Prelude.{Births, Contents, CoreFacts, DrawsCell, Event, EventKeepsFacts, Hand, IsDue}
+use Rattle.tj_words.proofs.Prelude.{IsForkTree, IsOfTree, Law, List, OfSeat, Once, Program, Reference, ShowsEvent}
+use Rattle.tj_words.proofs.Prelude.{ShowsNothing, TreeWords, [], core_shown, drawn_in, forks_after, hand_of, made_of}
+use Rattle.tj_words.proofs.Prelude.{next_reference, put, subst, suc, sym, tree_word, ℕ, ◌++◌, ◌∷◌, ◌≡◌, ◌⊎◌}
 use Rattle.tj_words.proofs.Stores.SeatLists.{back}
 use Rattle.tj_words.proofs.Cells.TreeDraws.{births_drawn, tree_drawn, tree_words_drawn}
 use Rattle.tj_words.proofs.Events.DrawEvents.{drawn_into, may_draw}

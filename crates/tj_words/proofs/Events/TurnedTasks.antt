@@ -1,26 +1,15 @@
 -- A task turns from one thing to another: the shared lemmas of all events by which it does so.
-use Rattle.std.proofs.Common.{◌≡◌, ℕ, ◌<◌, cond, nat_eq, Bool, true, false, Option, Some, None, refl, sym, ap, ◌∙◌, subst}
-use Rattle.tj_body.specs.Programs.{Program}
-use Rattle.tj_core.specs.declared.event.Event.{Event}
-use Rattle.tj_core.specs.CoreState.{CellStage, CoreState, stage, fresh, running, Runs}
-use Rattle.tj_core.specs.Events.{Allowed, after, restage}
-use Rattle.tj_words.specs.declared.phase.Phase.{Phase}
-use Rattle.tj_words.specs.declared.record.Rec.{Rec}
-use Rattle.tj_words.specs.declared.view.Does.{Does}
-use Rattle.tj_words.specs.declared.view.Does.TheVariants as does
-use Rattle.tj_words.specs.declared.view.Custody.{Custody}
-use Rattle.tj_words.specs.Words.Lists.{total}
-use Rattle.tj_words.specs.LawParts.Holding.{phase_of, made_by}
-use Rattle.tj_words.specs.LawParts.Hands.{hand_in}
-use Rattle.tj_words.specs.LawParts.ShownState.{phase_sort, new_stage, stage_there}
-use Rattle.tj_words.specs.LawParts.Contents.{Contents, drawn_in, held_of, home_of, core_shown}
-use Rattle.tj_words.specs.Law.{Law}
-use Rattle.tj_words.specs.Steps.ShownParts.{parts_of}
-use Rattle.tj_words.specs.Steps.StepEvents.{IsBegun, MayAct, IsHeldWith, ShowsEvent, ShowsNothing, IsTurned, IsMoved}
+use Rattle.tj_words.proofs.Prelude.{Allowed, Bool, CellStage, Contents, CoreState, Custody, Does, Event, IsBegun}
+use Rattle.tj_words.proofs.Prelude.{IsHeldWith, IsMoved, IsTurned, Law, MayAct, None, Option, Phase, Program, Rec, Runs}
+use Rattle.tj_words.proofs.Prelude.{ShowsEvent, ShowsNothing, Some, after, ap, cond, core_shown, drawn_in, false, fresh}
+use Rattle.tj_words.proofs.Prelude.{hand_in, held_of, home_of, made_by, nat_eq, new_stage, parts_of, phase_of}
+use Rattle.tj_words.proofs.Prelude.{phase_sort, refl, restage, running, stage, stage_there, subst, sym, total, true, ℕ}
+use Rattle.tj_words.proofs.Prelude.{◌<◌, ◌∙◌, ◌≡◌}
 use Rattle.tj_words.proofs.Events.ShownCells.{states_same, restaged, stage_out}
 use Rattle.tj_words.proofs.Events.ShownOwners.{stage_again}
 use Rattle.tj_words.proofs.Holders.TaskPlaces.{does_shown, does_stage_there, begun_out, held_here, held_drawn, custody}
 use Rattle.tj_words.proofs.Holders.TaskPlaces.{stage_held}
+use Rattle.tj_words.specs.declared.view.Does.TheVariants as does
 
 -- a new task runs
 pub new_runs : (t : ℕ) → Runs (new_stage t)

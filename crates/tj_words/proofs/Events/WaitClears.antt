@@ -1,30 +1,19 @@
 -- A wait is cleared, and OTHERS is lowered for it.
-use Rattle.std.proofs.Common.{◌≡◌, ℕ, ◌+◌, Option, Some, None, refl, sym, ap, ◌∙◌, subst, ⊎_elim}
-use Rattle.tj_base.specs.declared.cell.Sort.TheVariants as sort
-use Rattle.tj_body.specs.Programs.{Program}
-use Rattle.tj_core.specs.declared.event.Event.TheVariants as event
-use Rattle.tj_core.specs.declared.walk.Way.{Way}
-use Rattle.tj_core.specs.CoreState.{CoreState, stage, running, waits, parked}
-use Rattle.tj_core.specs.Events.{restage, raised_by, raised_by_way}
-use Rattle.tj_words.specs.declared.phase.Walk.TheVariants as walk
-use Rattle.tj_words.specs.declared.phase.Phase.{Phase}
-use Rattle.tj_words.specs.declared.phase.Phase.TheVariants as phase
-use Rattle.tj_words.specs.declared.view.Hand.{Hand}
-use Rattle.tj_words.specs.declared.view.Does.TheVariants as does
-use Rattle.tj_words.specs.declared.view.Custody.{Custody}
-use Rattle.tj_words.specs.Words.Lists.{cell}
-use Rattle.tj_words.specs.LawParts.Hands.{IsThere}
-use Rattle.tj_words.specs.LawParts.Custodies.{IsKept, LiesAtHome}
-use Rattle.tj_words.specs.LawParts.RecordPhases.{IsRecordIn}
-use Rattle.tj_words.specs.LawParts.ShownState.{phase_sort, sort_shown, answer_stage, does_stage, stage_there}
-use Rattle.tj_words.specs.LawParts.Contents.{Contents, hand_of, drawn_in, held_of, home_of, tag_in, core_shown}
-use Rattle.tj_words.specs.Law.{Law}
-use Rattle.tj_words.specs.Steps.ShownParts.{parts_of, shown_by}
-use Rattle.tj_words.specs.Steps.StepEvents.{IsBegun, ShowsEvent}
-use Rattle.tj_words.specs.Steps.WalkSteps.{ClearsWait, LowersOthers}
+use Rattle.tj_words.proofs.Prelude.{ClearsWait, Contents, CoreState, Custody, Hand, IsBegun, IsKept, IsRecordIn}
+use Rattle.tj_words.proofs.Prelude.{IsThere, Law, LiesAtHome, LowersOthers, None, Option, Phase, Program, ShowsEvent}
+use Rattle.tj_words.proofs.Prelude.{Some, Way, answer_stage, ap, cell, core_shown, does_stage, drawn_in, hand_of}
+use Rattle.tj_words.proofs.Prelude.{held_of, home_of, parts_of, phase_sort, refl, restage, running, shown_by}
+use Rattle.tj_words.proofs.Prelude.{sort_shown, stage, stage_there, subst, sym, tag_in, waits, ℕ, ⊎_elim, ◌+◌, ◌∙◌, ◌≡◌}
+use Rattle.tj_core.specs.CoreState.{parked}
+use Rattle.tj_core.specs.Events.{raised_by, raised_by_way}
 use Rattle.tj_words.proofs.Events.ShownCells.{stage_out, owner_out}
 use Rattle.tj_words.proofs.Holders.TaskPlaces.{begun_there}
 use Rattle.tj_words.proofs.Events.TurnedTasks.{moved_event}
+use Rattle.tj_base.specs.declared.cell.Sort.TheVariants as sort
+use Rattle.tj_core.specs.declared.event.Event.TheVariants as event
+use Rattle.tj_words.specs.declared.phase.Walk.TheVariants as walk
+use Rattle.tj_words.specs.declared.phase.Phase.TheVariants as phase
+use Rattle.tj_words.specs.declared.view.Does.TheVariants as does
 
 module _ {B : Type 0} {program : Program B} {cells : ℕ} {x : Contents B} (r : Law program cells x) where
   abbrev n : ℕ

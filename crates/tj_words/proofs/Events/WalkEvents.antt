@@ -1,37 +1,25 @@
 -- The steps of a task from its wait on are events of the core.
-use Rattle.std.proofs.Common.{◌≡◌, ℕ, suc, List, [], ◌∷◌, ◌++◌, Option, Some, None, refl, sym, ap, ◌∙◌, subst, inl, inr}
-use Rattle.tj_base.specs.declared.cell.CellId.{CellId}
-use Rattle.tj_body.specs.Points.{IsIn}
-use Rattle.tj_body.specs.Programs.{Program}
-use Rattle.tj_core.specs.declared.event.Event.{Event}
-use Rattle.tj_core.specs.declared.event.Event.TheVariants as event
-use Rattle.tj_core.specs.declared.walk.Way.{Way}
+use Rattle.tj_words.proofs.Prelude.{Allowed, CellId, Contents, Does, Event, IsBegun, IsIn, IsThere, KeepsOthers, Law}
+use Rattle.tj_words.proofs.Prelude.{List, MayCount, MayReadAgain, MayReadOthers, MayReadOwner, MayWait, None, Option}
+use Rattle.tj_words.proofs.Prelude.{Proceeds, Program, PublishesWait, RaisesOthers, Runs, ShowsEvent, Some, StoresAlarm}
+use Rattle.tj_words.proofs.Prelude.{StoresParked, Walker, Way, [], after, ap, cell, core_shown, count_read, does_cells}
+use Rattle.tj_words.proofs.Prelude.{drawn_in, hand_of, inl, inr, is_owner, others_read, owner, owner_found, owner_read}
+use Rattle.tj_words.proofs.Prelude.{parts_of, phase_of, read_cells, refl, restage, start_walk, subst, suc, sym, total}
+use Rattle.tj_words.proofs.Prelude.{trail_cells, wait_found, wait_in, walk_cells, way_of_wait, ℕ, ◌++◌, ◌∙◌, ◌∷◌, ◌≡◌}
 use Rattle.tj_core.specs.declared.walk.Way.TheVariants.{Along, Other}
 use Rattle.tj_core.specs.declared.walk.TrailLink.{TrailLink}
-use Rattle.tj_core.specs.declared.walk.Walker.{Walker}
-use Rattle.tj_core.specs.CoreState.{CellStage, CoreState, owner, stage, present, raised, waits, walks, parked, alarmed, Runs}
-use Rattle.tj_core.specs.Events.{Allowed, after, restage, walked, walk_ended, way_of_wait, start_walk, others_read, count_read, owner_read, wait_read, wait_found, owner_again, owner_found, is_owner}
-use Rattle.tj_core.specs.Events.{Walks, MayPublish, MayReadOthers, MayCount, MayReadOwner, MayReadWait, MayReadAgain, MayAlarm}
-use Rattle.tj_words.specs.declared.phase.Walk.TheVariants as walk
-use Rattle.tj_words.specs.declared.phase.Phase.TheVariants as phase
-use Rattle.tj_words.specs.declared.view.Does.{Does}
-use Rattle.tj_words.specs.declared.view.Does.TheVariants as does
-use Rattle.tj_words.specs.Words.Lists.{total, cell}
-use Rattle.tj_words.specs.LawParts.Holding.{phase_of}
-use Rattle.tj_words.specs.LawParts.Hands.{IsThere}
-use Rattle.tj_words.specs.LawParts.NamedCells.{walk_cells, does_cells, read_cells, trail_cells}
-use Rattle.tj_words.specs.LawParts.Contents.{Contents, hand_of, drawn_in, core_shown}
-use Rattle.tj_words.specs.Law.{Law}
-use Rattle.tj_words.specs.Steps.ShownParts.{parts_of}
-use Rattle.tj_words.specs.Steps.StepEvents.{IsBegun, wait_in, ShowsEvent}
-use Rattle.tj_words.specs.Steps.WalkSteps.{MayWait, KeepsOthers, Proceeds, ProceedsOpen, RaisesOthers, PublishesWait}
-use Rattle.tj_words.specs.Steps.WalkSteps.{ReadsOthers, ReadsCount, ReadsOwner, ReadsWait, ReadsAgain, StoresAlarm}
-use Rattle.tj_words.specs.Steps.WalkSteps.{StoresParked}
+use Rattle.tj_core.specs.CoreState.{CellStage, CoreState, stage, present, raised, waits, walks, parked, alarmed}
+use Rattle.tj_core.specs.Events.{walked, walk_ended, wait_read, owner_again, Walks, MayPublish, MayReadWait, MayAlarm}
+use Rattle.tj_words.specs.Steps.WalkSteps.{ProceedsOpen, ReadsOthers, ReadsCount, ReadsOwner, ReadsWait, ReadsAgain}
 use Rattle.tj_words.proofs.Holders.HeldTasks.{held_listed, in_back}
 use Rattle.tj_words.proofs.Cells.CellFacts.{way_shown, wait_shown}
 use Rattle.tj_words.proofs.Events.ShownCells.{owner_out}
 use Rattle.tj_words.proofs.Holders.TaskPlaces.{does_shown, begun_there, custody, held_drawn, list_owned, stage_held}
 use Rattle.tj_words.proofs.Events.TurnedTasks.{acting_runs, acting_begun, turned_out, turned_event, moved_event}
+use Rattle.tj_core.specs.declared.event.Event.TheVariants as event
+use Rattle.tj_words.specs.declared.phase.Walk.TheVariants as walk
+use Rattle.tj_words.specs.declared.phase.Phase.TheVariants as phase
+use Rattle.tj_words.specs.declared.view.Does.TheVariants as does
 
 module _ {B : Type 0} {program : Program B} {cells : ℕ} {x : Contents B} (r : Law program cells x)
     (y : Contents B) where

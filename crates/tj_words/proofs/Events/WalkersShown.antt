@@ -1,27 +1,12 @@
 -- What the core state shows of a task that a seat's view has walking or alarmed.
-use Rattle.std.proofs.Common.{◌≡◌, ℕ, Bool, Option, Some, None, refl, sym, ap, ◌∙◌, subst}
-use mathlib.Core.Option.{some}
-use lib.ListN.{get_elem?}
-use Rattle.atomic_table.specs.Table.{State}
-use Rattle.tj_body.specs.Programs.{Program}
-use Rattle.tj_core.specs.declared.walk.Way.{Way}
-use Rattle.tj_core.specs.declared.walk.Walker.{Walker}
-use Rattle.tj_core.specs.CoreState.{CoreState, stage, waits, walks, alarmed}
-use Rattle.tj_words.specs.declared.record.Rec.{Rec}
-use Rattle.tj_words.specs.declared.table.Key.{Key}
-use Rattle.tj_words.specs.declared.phase.Walk.{Walk}
-use Rattle.tj_words.specs.declared.phase.Walk.TheVariants as walk
-use Rattle.tj_words.specs.declared.phase.Phase.TheVariants.{Waiting}
-use Rattle.tj_words.specs.declared.view.Does.TheVariants as does
-use Rattle.tj_words.specs.declared.view.Custody.{Custody}
-use Rattle.tj_words.specs.declared.view.View.{View}
-use Rattle.tj_words.specs.LawParts.Contents.{contents_of, core_shown}
-use Rattle.tj_words.specs.LawParts.Holding.{held_in, phase_of}
-use Rattle.tj_words.specs.Law.{Rule}
-use Rattle.tj_words.specs.Words.Lists.{cell}
-use Rattle.tj_words.specs.Steps.StepEvents.{IsBegun, IsHeldWith}
+use Rattle.tj_words.proofs.Prelude.{Bool, CoreState, Custody, IsBegun, IsHeldWith, Key, None, Option, Program, Rec}
+use Rattle.tj_words.proofs.Prelude.{Rule, Some, State, View, Waiting, Walk, Walker, Way, alarmed, ap, cell, contents_of}
+use Rattle.tj_words.proofs.Prelude.{core_shown, get_elem?, held_in, phase_of, refl, some, stage, subst, sym, waits}
+use Rattle.tj_words.proofs.Prelude.{walks, ℕ, ◌∙◌, ◌≡◌}
 use Rattle.tj_words.proofs.Holders.TaskPlaces.{does_shown, begun_out, custody, stage_held}
 use Rattle.tj_words.proofs.SeatLoads.WalkLoads.{held_by_view}
+use Rattle.tj_words.specs.declared.phase.Walk.TheVariants as walk
+use Rattle.tj_words.specs.declared.view.Does.TheVariants as does
 
 module _ {B : Type 0} (program : Bool → B → Program B) (key : Key B) (s : State (Option (Rec B)) (View B))
     (r : Rule program key s) (id : ℕ) (v : View B) (at : get_elem? s.views id ≡ some v) (t : ℕ) (k : Custody B)

@@ -1,18 +1,12 @@
 -- What a seat knows of the stage of the point that the record tells which it has claimed.
-use Rattle.std.proofs.Common.{◌≡◌, ◌≢◌, ◌⊎◌, ℕ, None, subst, inl, inr, ⊎_elim}
-use Rattle.tj_body.specs.History.{to_task, reference}
+use Rattle.tj_words.proofs.Prelude.{HeldSays, IsCell, IsRecordIn, None, Point, Rec, Reference, Tells, TellsStage}
+use Rattle.tj_words.proofs.Prelude.{WaitsFor, inl, inr, reference, subst, to_task, ℕ, ⊎_elim, ◌≡◌, ◌≢◌, ◌⊎◌}
+use Rattle.std.specs.Prelude.{List}
+use Rattle.tj_words.specs.Calls.TakenRecords.{HasWaitedFor}
+use Rattle.tj_words.proofs.Meaning.Resting.{pairs_at}
 use Rattle.tj_body.specs.declared.ask.Answer.TheVariants as answer
 use Rattle.tj_body.specs.declared.point.PointStage.TheVariants as stage
-use Rattle.tj_body.specs.declared.point.Reference.{Reference}
-use Rattle.tj_body.specs.declared.point.Point.{Point}
-use Rattle.std.specs.Prelude.{List}
 use Rattle.tj_words.specs.declared.phase.Phase.TheVariants as phase
-use Rattle.tj_words.specs.declared.record.Rec.{Rec}
-use Rattle.tj_words.specs.LawParts.RecordPhases.{WaitsFor, IsRecordIn}
-use Rattle.tj_words.specs.Calls.TakenRecords.{HasWaitedFor}
-use Rattle.tj_words.specs.LawParts.TreeWords.{IsCell}
-use Rattle.tj_words.specs.LawParts.Telling.{HeldSays, Tells, TellsStage}
-use Rattle.tj_words.proofs.Meaning.Resting.{pairs_at}
 
 module _ {B : Type 0} (born : List Reference) (r : Rec B) (p : Point B) where
   module _ (tells : Tells born r p) (told : TellsStage born r.finish r.answer r.spare p)

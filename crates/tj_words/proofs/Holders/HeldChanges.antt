@@ -1,36 +1,17 @@
 -- A seat notes something else for a task that it holds: what of the law speaks of the lists of tasks is kept.
-use Rattle.std.proofs.Common.{◌≡◌, ◌≢◌, ℕ, ◌+◌, cond, Bool, List, [], ◌∷◌, set, Option, Some, None}
-use Rattle.std.proofs.Common.{refl, sym, ap, ◌∙◌, subst, inl, inr, ⊎_elim, eq-eqb, ne_eqb}
-use mathlib.Core.Logic.{dite}
-use mathlib.Core.Option.{some}
-use native.Mathlib.Decide.{ℕ_discrete}
-use lib.ListN.{get_elem?}
-use Rattle.tj_base.specs.declared.cell.Sort.{Sort}
-use Rattle.tj_base.specs.declared.cell.Sort.TheVariants as sort
-use Rattle.tj_body.specs.Points.{IsIn}
-use Rattle.tj_body.specs.Programs.{Program}
-use Rattle.tj_words.specs.declared.phase.Phase.{Phase}
-use Rattle.tj_words.specs.declared.record.Rec.{Rec}
-use Rattle.tj_words.specs.declared.view.Hand.{Hand}
-use Rattle.tj_words.specs.declared.view.Does.{Does}
-use Rattle.tj_words.specs.declared.view.Does.TheVariants as does
-use Rattle.tj_words.specs.declared.view.Custody.{Custody}
-use Rattle.tj_words.specs.Words.Lists.{Each, All}
-use Rattle.tj_words.specs.LawParts.Holding.{held_in, find_in, phase_of, owned_by, made_by}
-use Rattle.tj_words.specs.LawParts.Hands.{making, Hands}
-use Rattle.tj_words.specs.LawParts.LiveCount.{HasAlarmed}
-use Rattle.tj_words.specs.LawParts.ShownState.{sort_shown}
-use Rattle.tj_words.specs.LawParts.NamedCells.{does_cells, AreThere}
-use Rattle.tj_words.specs.LawParts.Custodies.{IsKept, IsLaid, IsCustody, Custodies}
-use Rattle.tj_words.specs.SeatViews.TaskLists.{let_go, hold}
-use Rattle.tj_words.specs.LawParts.Contents.{Contents, drawn_in, hand_of, home_of, owned_of, made_of}
-use Rattle.tj_words.specs.Law.{Law}
-use Rattle.tj_words.specs.Steps.StepEvents.{IsHeldWith}
+use Rattle.tj_words.proofs.Prelude.{All, AreThere, Bool, Contents, Custodies, Custody, Does, Each, Hand, Hands}
+use Rattle.tj_words.proofs.Prelude.{HasAlarmed, IsCustody, IsHeldWith, IsIn, IsKept, IsLaid, Law, List, None, Option}
+use Rattle.tj_words.proofs.Prelude.{Phase, Program, Rec, Some, Sort, [], ap, cond, dite, does_cells, drawn_in, eq-eqb}
+use Rattle.tj_words.proofs.Prelude.{find_in, get_elem?, hand_of, held_in, hold, home_of, inl, inr, let_go, made_by}
+use Rattle.tj_words.proofs.Prelude.{made_of, making, ne_eqb, owned_by, owned_of, phase_of, refl, set, some, sort_shown}
+use Rattle.tj_words.proofs.Prelude.{subst, sym, ℕ, ℕ_discrete, ⊎_elim, ◌+◌, ◌∙◌, ◌∷◌, ◌≡◌, ◌≢◌}
 use Rattle.tj_words.proofs.Stores.SeatLists.{each_set, each_else, of_seat_set}
 use Rattle.tj_words.proofs.Holders.HeldTasks.{none_some, one_some}
 use Rattle.tj_words.proofs.Holders.TaskPlaces.{custody, held_here, held_drawn}
 use Rattle.tj_words.proofs.Phases.PhaseSorts.{does_sort}
 use Rattle.tj_words.proofs.Holders.SeatTasks.{hold_here, hold_else, held_alone, find_changed, find_same}
+use Rattle.tj_base.specs.declared.cell.Sort.TheVariants as sort
+use Rattle.tj_words.specs.declared.view.Does.TheVariants as does
 
 module _ {B : Type 0} where
   -- what a seat has for a task is of that task

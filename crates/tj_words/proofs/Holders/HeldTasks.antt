@@ -1,15 +1,8 @@
 -- Tasks that seats hold and cells in hand, as searches through the views find them.
-use Rattle.std.proofs.Common.{◌≡◌, ◌≢◌, ℕ, zero, suc, ◌<◌, cond, nat_eq, Bool, true, false, List, [], ◌∷◌, ◌++◌, length, get_or, inl, inr, ⊎_elim, arith, Option, Some, None, refl, sym, ap, ◌∙◌, eq-eqb, ne_eqb}
-use mathlib.Core.Logic.{dite}
-use mathlib.Core.Option.{some, some-injective, some-ne-none}
-use native.Mathlib.Decide.{ℕ_discrete}
-use lib.ListN.{get_elem?}
-use Rattle.tj_body.specs.Points.{IsIn}
-use Rattle.tj_words.specs.declared.view.Hand.{Hand}
-use Rattle.tj_words.specs.declared.view.Custody.{Custody}
-use Rattle.tj_words.specs.Words.Lists.{OfSeat}
-use Rattle.tj_words.specs.LawParts.Holding.{held_in, find_in, or_else}
-use Rattle.tj_words.specs.LawParts.Hands.{hand_in, making}
+use Rattle.tj_words.proofs.Prelude.{Bool, Custody, Hand, IsIn, List, None, OfSeat, Option, Some, [], ap, arith, cond}
+use Rattle.tj_words.proofs.Prelude.{dite, eq-eqb, false, find_in, get_elem?, get_or, hand_in, held_in, inl, inr, length}
+use Rattle.tj_words.proofs.Prelude.{making, nat_eq, ne_eqb, or_else, refl, some, some-injective, some-ne-none, suc, sym}
+use Rattle.tj_words.proofs.Prelude.{true, zero, ℕ, ℕ_discrete, ⊎_elim, ◌++◌, ◌<◌, ◌∙◌, ◌∷◌, ◌≡◌, ◌≢◌}
 
 -- nothing is something
 pub none_some : {A : Type 0} {Z : Type 0} (o : Option A) (a : A) → o ≡ None → o ≡ Some a → Z

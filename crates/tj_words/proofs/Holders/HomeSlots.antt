@@ -1,9 +1,6 @@
 -- Which records lie at home after one slot has changed.
-use Rattle.std.proofs.Common.{◌≡◌, ◌≢◌, ℕ, ◌<◌, length, set, Some, None, ap}
-use mathlib.Core.Option.{some, none}
-use Rattle.atomic_table.proofs.Lists.{set_here, set_else}
-use Rattle.tj_words.specs.declared.record.Rec.{Rec}
-use Rattle.tj_words.specs.LawParts.Holding.{Slots, record_in, home_in}
+use Rattle.tj_words.proofs.Prelude.{None, Rec, Slots, Some, ap, home_in, length, none, record_in, set, set_else}
+use Rattle.tj_words.proofs.Prelude.{set_here, some, ℕ, ◌<◌, ◌≡◌, ◌≢◌}
 
 module _ {B : Type 0} (slots : Slots B) (t : ℕ) where
   -- a record has come home

@@ -1,36 +1,11 @@
 -- A record that a seat put into the slot that it took last comes home: what the seat's view and the law say of it.
-use Rattle.std.proofs.Common.{◌≡◌, ◌≢◌, ℕ, ◌<◌, Bool, length, set, Option, Some, refl, sym, ◌∙◌}
-use Rattle.std.proofs.Common.{subst, inl, arith, length-set}
-use mathlib.Core.Option.{some, some-injective}
-use lib.ListN.{get_elem?}
-use Rattle.atomic_table.specs.Table.{State}
-use Rattle.atomic_table.proofs.Lists.{at_map, set_else}
-use Rattle.tj_base.specs.declared.cell.CellId.{CellId}
-use Rattle.tj_base.specs.declared.cell.Sort.TheVariants as sort
-use Rattle.tj_body.specs.Points.{IsIn}
-use Rattle.tj_body.specs.Programs.{Program}
-use Rattle.tj_core.specs.declared.walk.Way.{Way}
-use Rattle.tj_words.specs.declared.phase.Walk.{Walk}
-use Rattle.tj_words.specs.declared.phase.Phase.{Phase}
-use Rattle.tj_words.specs.declared.phase.Phase.TheVariants as phase
-use Rattle.tj_words.specs.declared.record.Rec.{Rec}
-use Rattle.tj_words.specs.declared.table.Key.{Key}
-use Rattle.tj_words.specs.declared.view.Custody.{Custody}
-use Rattle.tj_words.specs.declared.view.Hand.{Hand}
-use Rattle.tj_words.specs.declared.view.View.{View}
-use Rattle.tj_words.specs.LawParts.Holding.{Slots, home_in, held_in}
-use Rattle.tj_words.specs.LawParts.Hands.{IsThere}
-use Rattle.tj_words.specs.LawParts.NamedCells.{record_cells, AreThere}
-use Rattle.tj_words.specs.LawParts.Custodies.{LiesAtHome, IsKept}
-use Rattle.tj_words.specs.LawParts.RecordPhases.{IsRecordIn, RecordsFit}
-use Rattle.tj_words.specs.LawParts.ShownState.{phase_sort}
-use Rattle.tj_words.specs.LawParts.Contents.{SeatsHave, seats_have, Contents, contents_of, drawn_in, tag_in, hand_of}
-use Rattle.tj_words.specs.LawParts.Contents.{home_of}
-use Rattle.tj_words.specs.Law.{Rule}
-use Rattle.tj_words.specs.Calls.LiveViews.{SlotsOf}
+use Rattle.tj_words.proofs.Prelude.{AreThere, Bool, CellId, Contents, Custody, Hand, IsHeldWith, IsIn, IsKept}
+use Rattle.tj_words.proofs.Prelude.{IsRecordIn, IsThere, IsToldRecord, Key, LiesAtHome, Option, Phase, Program, Rec}
+use Rattle.tj_words.proofs.Prelude.{RecordsFit, Rule, SeatsHave, Slots, SlotsOf, Some, State, View, Walk, Way, arith}
+use Rattle.tj_words.proofs.Prelude.{at_map, contents_of, drawn_in, get_elem?, hand_of, held_in, home_in, home_of, inl}
+use Rattle.tj_words.proofs.Prelude.{length, length-set, phase_sort, record_cells, refl, seats_have, set, set_else, some}
+use Rattle.tj_words.proofs.Prelude.{some-injective, subst, sym, tag_in, ℕ, ◌<◌, ◌∙◌, ◌≡◌, ◌≢◌}
 use Rattle.tj_words.specs.Calls.PutRecords.{PutsHome}
-use Rattle.tj_words.specs.LawParts.Meaning.{IsToldRecord}
-use Rattle.tj_words.specs.Steps.StepEvents.{IsHeldWith}
 use Rattle.tj_words.proofs.Holders.HomeSlots.{home_laid, home_else_laid}
 use Rattle.tj_words.proofs.Holders.RecordSteps.{laid_fit}
 use Rattle.tj_words.proofs.Meaning.MeaningGrows.{Meant}
@@ -38,6 +13,8 @@ use Rattle.tj_words.proofs.Meaning.MeaningSteps.{home_meant}
 use Rattle.tj_words.proofs.Meaning.LawMeant.{ground_of, known_of, law_meant}
 use Rattle.tj_words.proofs.Phases.WaitStores.{about_program}
 use Rattle.tj_words.proofs.Phases.Departures.{Departs}
+use Rattle.tj_base.specs.declared.cell.Sort.TheVariants as sort
+use Rattle.tj_words.specs.declared.phase.Phase.TheVariants as phase
 
 module _ {B : Type 0} (program : Bool → B → Program B) (key : Key B) (s : State (Option (Rec B)) (View B))
     (r : Rule program key s) (id t : ℕ) (v : View B) (at : get_elem? s.views id ≡ some v) where

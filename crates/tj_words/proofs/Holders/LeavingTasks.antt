@@ -1,31 +1,11 @@
 -- A seat lets a task go, whose record lies at home from then on: the parts of the law that this changes.
-use Rattle.std.proofs.Common.{◌≡◌, ◌≢◌, ℕ, ◌+◌, ◌<◌, ◌≤◌, List, set}
-use Rattle.std.proofs.Common.{Option, Some, None, refl, sym, ap, ◌∙◌, subst, arith}
-use mathlib.Core.Logic.{dite}
-use mathlib.Core.Option.{some}
-use native.Mathlib.Decide.{ℕ_discrete}
-use lib.ListN.{get_elem?}
-use Rattle.tj_base.specs.declared.cell.CellId.{CellId}
-use Rattle.tj_base.specs.declared.cell.Sort.TheVariants as sort
-use Rattle.tj_base.specs.Puts.{put}
-use Rattle.tj_body.specs.Programs.{Program}
-use Rattle.tj_core.specs.declared.walk.Way.{Way}
-use Rattle.tj_words.specs.declared.phase.Walk.{Walk}
-use Rattle.tj_words.specs.declared.phase.Phase.{Phase}
-use Rattle.tj_words.specs.declared.phase.Phase.TheVariants as phase
-use Rattle.tj_words.specs.declared.record.Rec.{Rec}
-use Rattle.tj_words.specs.declared.view.Hand.{Hand}
-use Rattle.tj_words.specs.declared.view.Custody.{Custody}
-use Rattle.tj_words.specs.Words.Lists.{OfSeat, All, numbers}
-use Rattle.tj_words.specs.LawParts.Holding.{Slots, record_in, home_in, held_in, find_in, owned_by, made_by}
-use Rattle.tj_words.specs.LawParts.Hands.{IsThere, making, hand_in, Hands}
-use Rattle.tj_words.specs.LawParts.NamedCells.{record_cells, does_cells, AreThere, NamesCells}
-use Rattle.tj_words.specs.LawParts.ShownState.{phase_sort, sort_shown}
-use Rattle.tj_words.specs.LawParts.TreeWords.{Births}
-use Rattle.tj_words.specs.LawParts.Custodies.{OwnedLists, LiesAtHome, IsKept, IsCustody, Custodies}
-use Rattle.tj_words.specs.SeatViews.TaskLists.{let_go}
-use Rattle.tj_words.specs.LawParts.Contents.{Contents, drawn_in, hand_of, held_of, home_of, owned_of}
-use Rattle.tj_words.specs.Law.{Law}
+use Rattle.tj_words.proofs.Prelude.{All, AreThere, Births, CellId, Contents, Custodies, Custody, Hand, Hands, IsCustody}
+use Rattle.tj_words.proofs.Prelude.{IsKept, IsThere, Law, LiesAtHome, List, NamesCells, None, OfSeat, Option}
+use Rattle.tj_words.proofs.Prelude.{OwnedLists, Phase, Program, Rec, Slots, Some, Walk, Way, ap, arith, dite}
+use Rattle.tj_words.proofs.Prelude.{does_cells, drawn_in, find_in, get_elem?, hand_in, hand_of, held_in, held_of}
+use Rattle.tj_words.proofs.Prelude.{home_in, home_of, let_go, made_by, making, numbers, owned_by, owned_of, phase_sort}
+use Rattle.tj_words.proofs.Prelude.{put, record_cells, record_in, refl, set, some, sort_shown, subst, sym, ℕ}
+use Rattle.tj_words.proofs.Prelude.{ℕ_discrete, ◌+◌, ◌<◌, ◌∙◌, ◌≡◌, ◌≢◌, ◌≤◌}
 use Rattle.tj_words.proofs.Stores.StoreSteps.{put_here, put_else}
 use Rattle.tj_words.proofs.Stores.SeatLists.{back, each_set, each_else, of_seat_set, of_seat_else}
 use Rattle.tj_words.proofs.Holders.HeldTasks.{none_some, one_some, hand_finds}
@@ -34,6 +14,8 @@ use Rattle.tj_words.proofs.Cells.HandChanges.{births_on}
 use Rattle.tj_words.proofs.Holders.HeldChanges.{let_go_in}
 use Rattle.tj_words.proofs.Phases.PhaseSorts.{does_sort, sorts_same}
 use Rattle.tj_words.proofs.Holders.SeatTasks.{let_go_here, let_go_else, find_changed, find_same, held_alone}
+use Rattle.tj_base.specs.declared.cell.Sort.TheVariants as sort
+use Rattle.tj_words.specs.declared.phase.Phase.TheVariants as phase
 
 module _ {B : Type 0} {program : Program B} {cells : ℕ} {x : Contents B} (r : Law program cells x) (id t : ℕ)
     (ks : List (Custody B)) (k : Custody B) (at : get_elem? x.seats.tasks id ≡ some ks) (held : held_in ks t ≡ Some k)

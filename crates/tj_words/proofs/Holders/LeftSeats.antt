@@ -1,23 +1,8 @@
 -- The seat that a task has left, and the store of a phase at which it leaves.
-use Rattle.std.proofs.Common.{◌≡◌, ℕ, suc, ◌<◌, ◌≤◌, Bool, length}
-use Rattle.std.proofs.Common.{Option, Some, None, sym, ap, ◌∙◌}
-use mathlib.Core.Option.{some}
-use lib.ListN.{get_elem?}
-use Rattle.atomic_table.specs.Table.{State}
-use Rattle.tj_body.specs.Programs.{Program}
-use Rattle.tj_words.specs.declared.phase.Phase.{Phase}
-use Rattle.tj_words.specs.declared.record.Rec.{Rec}
-use Rattle.tj_words.specs.declared.table.Key.{Key}
-use Rattle.tj_words.specs.declared.view.Custody.{Custody}
-use Rattle.tj_words.specs.declared.view.View.{View}
-use Rattle.tj_words.specs.LawParts.Holding.{Slots, held_in}
-use Rattle.tj_words.specs.Words.Offsets.{word, phase_at}
-use Rattle.tj_words.specs.Words.Phases.{phase_word, phase_in}
-use Rattle.tj_words.specs.LawParts.LiveCount.{Backing}
-use Rattle.tj_words.specs.SeatViews.TaskLists.{let_go}
-use Rattle.tj_words.specs.LawParts.Contents.{Contents}
-use Rattle.tj_words.specs.Law.{Law, Rule, IsSeat}
-use Rattle.tj_words.specs.Steps.StepEvents.{wait_in}
+use Rattle.tj_words.proofs.Prelude.{Backing, Bool, Contents, Custody, IsSeat, Key, Law, None, Option, Phase, Program}
+use Rattle.tj_words.proofs.Prelude.{Rec, Rule, Slots, Some, State, View, ap, get_elem?, held_in, length, let_go}
+use Rattle.tj_words.proofs.Prelude.{phase_at, phase_in, phase_word, some, suc, sym, wait_in, word, ℕ, ◌<◌, ◌∙◌, ◌≡◌}
+use Rattle.tj_words.proofs.Prelude.{◌≤◌}
 use Rattle.tj_words.proofs.Stores.SlotStores.{StoresWith}
 use Rattle.tj_words.proofs.Holders.HeldTasks.{none_some}
 use Rattle.tj_words.proofs.Holders.NotedTasks.{holder_seat}

@@ -1,14 +1,7 @@
 -- What is found in a seat's list of tasks in which what it has for one of them is noted anew.
-use Rattle.std.proofs.Common.{◌≡◌, ◌≢◌, ◌⊎◌, ℕ, List, Option, Some, None, refl, sym, ap, ◌∙◌, subst, inl, inr, ⊎_elim}
-use mathlib.Core.Logic.{dite}
-use native.Mathlib.Decide.{ℕ_discrete}
-use Rattle.tj_body.specs.Points.{IsIn}
-use Rattle.tj_words.specs.declared.view.Does.{Does}
-use Rattle.tj_words.specs.declared.view.Custody.{Custody}
-use Rattle.tj_words.specs.declared.view.View.{View}
-use Rattle.tj_words.specs.LawParts.Holding.{held_in, phase_of}
-use Rattle.tj_words.specs.LawParts.LiveCount.{Holds}
-use Rattle.tj_words.specs.SeatViews.TaskLists.{let_go, hold, noted}
+use Rattle.tj_words.proofs.Prelude.{Custody, Does, Holds, IsIn, List, None, Option, Some, View, ap, dite, held_in, hold}
+use Rattle.tj_words.proofs.Prelude.{inl, inr, let_go, noted, phase_of, refl, subst, sym, ℕ, ℕ_discrete, ⊎_elim, ◌∙◌}
+use Rattle.tj_words.proofs.Prelude.{◌≡◌, ◌≢◌, ◌⊎◌}
 use Rattle.tj_words.proofs.Holders.HeldChanges.{held_task, let_go_in}
 use Rattle.tj_words.proofs.Holders.SeatTasks.{hold_here, hold_else}
 use Rattle.tj_words.proofs.Holders.NotedTasks.{noted_is}

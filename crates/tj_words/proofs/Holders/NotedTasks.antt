@@ -1,16 +1,8 @@
 -- A seat's list of tasks in which what it has for one of them is noted anew.
-use Rattle.std.proofs.Common.{◌≡◌, ℕ, ◌≤◌, List, Some, ap, inr, ⊎_elim}
-use Rattle.tj_words.specs.declared.view.Custody.{Custody}
-use Rattle.tj_words.specs.declared.view.View.{View}
-use Rattle.tj_words.specs.LawParts.Holding.{held_in}
-use Rattle.tj_words.specs.Law.{IsNamed, IsSeat, IsSeatOf, seat_part}
+use Rattle.tj_words.proofs.Prelude.{About, Custody, Due, IsSeat, IsSpent, IsWithinLot, Key, List, Push, Some, View, ap}
+use Rattle.tj_words.proofs.Prelude.{held_in, hold, inr, least_lot, note, noted, ℕ, ⊎_elim, ◌≡◌, ◌≤◌}
+use Rattle.tj_words.specs.Law.{IsNamed, IsSeatOf, seat_part}
 use Rattle.tj_words.specs.LawParts.LiveCount.{BackingOf}
-use Rattle.tj_words.specs.declared.table.Key.{Key}
-use Rattle.tj_words.specs.declared.view.Due.{Due}
-use Rattle.tj_words.specs.declared.view.Push.{Push}
-use Rattle.tj_words.specs.declared.view.About.{About}
-use Rattle.tj_words.specs.LawParts.Lots.{least_lot, IsSpent, IsWithinLot}
-use Rattle.tj_words.specs.SeatViews.TaskLists.{hold, note, noted}
 use Rattle.tj_words.proofs.Holders.HeldTasks.{none_some}
 
 -- what is noted of a task that the seat has stands in its place

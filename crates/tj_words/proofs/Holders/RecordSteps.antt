@@ -1,14 +1,7 @@
 -- Each kind of step keeps what a record at home says of its task's wait, against PHASE.
-use Rattle.std.proofs.Common.{◌≡◌, ◌≢◌, ℕ, Option, Some, None, sym, ap, ◌∙◌, subst, inl, inr, ⊎_elim}
-use mathlib.Core.Logic.{dite}
-use native.Mathlib.Decide.{ℕ_discrete}
-use Rattle.tj_base.specs.declared.cell.CellId.{CellId}
-use Rattle.tj_core.specs.declared.walk.Way.{Way}
-use Rattle.tj_words.specs.declared.phase.Phase.{Phase}
+use Rattle.tj_words.proofs.Prelude.{CellId, IsRecordIn, None, Option, Phase, Rec, RecordsFit, Some, Walk, Way, ap, dite}
+use Rattle.tj_words.proofs.Prelude.{inl, inr, subst, sym, ℕ, ℕ_discrete, ⊎_elim, ◌∙◌, ◌≡◌, ◌≢◌}
 use Rattle.tj_words.specs.declared.phase.Phase.TheVariants as phase
-use Rattle.tj_words.specs.declared.phase.Walk.{Walk}
-use Rattle.tj_words.specs.declared.record.Rec.{Rec}
-use Rattle.tj_words.specs.LawParts.RecordPhases.{IsRecordIn, RecordsFit}
 
 module _ {B : Type 0} where
   -- a record fits still where TAGs are written

@@ -1,20 +1,10 @@
 -- What is found for a task after one seat's list of tasks has changed.
-use Rattle.std.proofs.Common.{◌≡◌, ◌≢◌, ℕ, zero, suc, cond, nat_eq, Bool, true, false, List, [], ◌∷◌, set, Option, Some, None, refl, sym, ap, ◌∙◌, eq-eqb, ne_eqb}
-use mathlib.Core.Logic.{dite}
-use mathlib.Core.Option.{some, some-injective, some-ne-none}
-use native.Mathlib.Decide.{ℕ_discrete}
-use lib.ListN.{get_elem?}
-use Rattle.tj_body.specs.Programs.{Program}
-use Rattle.tj_words.specs.declared.phase.Phase.{Phase}
-use Rattle.tj_words.specs.declared.record.Rec.{Rec}
-use Rattle.tj_words.specs.declared.view.Custody.{Custody}
-use Rattle.tj_words.specs.LawParts.Holding.{held_in, find_in, or_else, phase_of, made_by}
-use Rattle.tj_words.specs.LawParts.Hands.{hand_in, making}
-use Rattle.tj_words.specs.SeatViews.TaskLists.{let_go, hold}
-use Rattle.tj_words.specs.LawParts.Contents.{Contents, drawn_in, held_of, home_of}
-use Rattle.tj_words.specs.Law.{Law}
-use Rattle.tj_words.specs.Steps.ShownParts.{parts_of, IsSameBut}
-use Rattle.tj_words.specs.Steps.StepEvents.{IsHeldWith, IsTurned, IsMoved}
+use Rattle.tj_words.proofs.Prelude.{Bool, Contents, Custody, IsHeldWith, IsMoved, IsSameBut, IsTurned, Law, List, None}
+use Rattle.tj_words.proofs.Prelude.{Option, Phase, Program, Rec, Some, [], ap, cond, dite, drawn_in, eq-eqb, false}
+use Rattle.tj_words.proofs.Prelude.{find_in, get_elem?, hand_in, held_in, held_of, hold, home_of, let_go, made_by}
+use Rattle.tj_words.proofs.Prelude.{making, nat_eq, ne_eqb, or_else, parts_of, phase_of, refl, set, some}
+use Rattle.tj_words.proofs.Prelude.{some-injective, some-ne-none, suc, sym, true, zero, ℕ, ℕ_discrete, ◌∙◌, ◌∷◌, ◌≡◌}
+use Rattle.tj_words.proofs.Prelude.{◌≢◌}
 use Rattle.tj_words.proofs.Holders.HeldTasks.{none_some, one_some}
 use Rattle.tj_words.proofs.Holders.TaskPlaces.{custody, held_here}
 

@@ -1,36 +1,11 @@
 -- What a seat has and knows of a record that it takes out of its slot.
-use Rattle.std.proofs.Common.{◌≡◌, ◌≢◌, ℕ, List, [], ◌∷◌, ◌++◌, Option, Some, None, refl, sym, ap, subst}
-use Rattle.std.proofs.Common.{inl, inr, ⊎_elim}
-use mathlib.Core.Option as maybe
-use mathlib.Core.Option.{some, none}
-use lib.ListN.{get_elem?}
-use Rattle.tj_base.specs.ForkOrder.{Name}
-use Rattle.tj_base.specs.declared.cell.CellId.{CellId}
-use Rattle.tj_body.specs.History.{to_task, owned, owned_in}
-use Rattle.tj_body.specs.Points.{IsIn}
-use Rattle.tj_body.specs.Programs.{Program}
-use Rattle.tj_body.specs.declared.ask.Answer.{Answer}
-use Rattle.tj_body.specs.declared.ask.Answer.TheVariants as answer
-use Rattle.tj_body.specs.declared.point.Point.{Point}
-use Rattle.tj_body.specs.declared.point.Reference.{Reference}
-use Rattle.tj_body.proofs.Lists.{begins_self}
-use Rattle.tj_words.specs.declared.phase.Phase.TheVariants as phase
-use Rattle.tj_words.specs.declared.record.Rec.{Rec}
-use Rattle.tj_words.specs.declared.view.Does.{Does}
-use Rattle.tj_words.specs.declared.view.Does.TheVariants as does
-use Rattle.tj_words.specs.declared.view.Filled.{Filled}
-use Rattle.tj_words.specs.LawParts.Contents.{Contents, tag_in, home_of}
-use Rattle.tj_words.specs.LawParts.Holding.{Slots, phase_of, record_in, home_in}
-use Rattle.tj_words.specs.Law.{Law}
-use Rattle.tj_words.specs.Words.Lists.{numbers}
-use Rattle.tj_words.specs.LawParts.LiveCount.{DoesRun, HasAlarmed}
-use Rattle.tj_words.specs.LawParts.NamedCells.{does_cells}
-use Rattle.tj_words.specs.Steps.QuietSteps.{does_first}
-use Rattle.tj_words.specs.LawParts.RecordPhases.{WaitsFor, IsRecordIn}
-use Rattle.tj_words.specs.SeatViews.KnownEntries.{HasSeen, ToldBy}
-use Rattle.tj_words.specs.Calls.TakenRecords.{IsKnownRecord}
-use Rattle.tj_words.specs.LawParts.Telling.{HasName, ArePairs, Tells, TellsStage}
-use Rattle.tj_words.specs.LawParts.TreeWords.{IsCell}
+use Rattle.tj_words.proofs.Prelude.{Answer, ArePairs, CellId, Contents, Does, DoesRun, Filled, HasAlarmed, HasName}
+use Rattle.tj_words.proofs.Prelude.{HasSeen, IsCell, IsIn, IsKnownRecord, IsRecordIn, Law, List, Name, None, Option}
+use Rattle.tj_words.proofs.Prelude.{Point, Program, Rec, Reference, Slots, Some, Tells, TellsStage, ToldBy, WaitsFor}
+use Rattle.tj_words.proofs.Prelude.{[], ap, begins_self, does_cells, does_first, get_elem?, home_in, home_of, inl, inr}
+use Rattle.tj_words.proofs.Prelude.{none, numbers, owned, phase_of, record_in, refl, some, subst, sym, tag_in, to_task}
+use Rattle.tj_words.proofs.Prelude.{ℕ, ⊎_elim, ◌++◌, ◌∷◌, ◌≡◌, ◌≢◌}
+use Rattle.tj_body.specs.History.{owned_in}
 use Rattle.tj_words.proofs.Cells.CellNames.{AreApartByName}
 use Rattle.tj_words.proofs.Waiters.ChainLists.{no_some}
 use Rattle.tj_words.proofs.Holders.ClaimedRecords.{starts, waited}
@@ -38,6 +13,10 @@ use Rattle.tj_words.proofs.SeatLoads.KnowLoads.{all_cons}
 use Rattle.tj_words.proofs.Meaning.LawMeant.{ground_of, known_of}
 use Rattle.tj_words.proofs.Meaning.MeaningGrows.{AreFilledIn, FilledIn, told_on}
 use Rattle.tj_words.proofs.Meaning.MeaningSteps.{claim_seen}
+use mathlib.Core.Option as maybe
+use Rattle.tj_body.specs.declared.ask.Answer.TheVariants as answer
+use Rattle.tj_words.specs.declared.phase.Phase.TheVariants as phase
+use Rattle.tj_words.specs.declared.view.Does.TheVariants as does
 
 -- what holds of a new task and of one that runs along holds of what a task does first
 first_is : (F : Does → Type 0) → F does.Fresh → F does.Running → (a : Answer) → F (does_first a)

@@ -1,31 +1,16 @@
 -- Where a task is and what the core state shows of it, under the law.
-use Rattle.std.proofs.Common.{◌≡◌, ℕ, ◌<◌, ◌≤◌, Bool, true, false, Option, Some, None, refl, sym, ap, ◌∙◌, subst, arith}
-use mathlib.Core.Logic.{dite}
-use mathlib.Core.Option.{some-injective}
-use native.Mathlib.Decide.{dec_le}
-use lib.ListN.{get_elem?}
-use Rattle.tj_base.specs.declared.cell.Sort.TheVariants as sort
-use Rattle.tj_body.specs.Points.{IsIn}
-use Rattle.tj_body.specs.Programs.{Program}
-use Rattle.tj_core.specs.CoreState.{CellStage, CoreState, stage, waits, walks, alarmed, running, raised}
-use Rattle.tj_words.specs.declared.phase.Walk.TheVariants as walk
-use Rattle.tj_words.specs.declared.phase.Phase.TheVariants as phase
-use Rattle.tj_words.specs.declared.record.Rec.{Rec}
-use Rattle.tj_words.specs.declared.view.Hand.{Hand}
-use Rattle.tj_words.specs.declared.view.Does.{Does}
-use Rattle.tj_words.specs.declared.view.Does.TheVariants as does
-use Rattle.tj_words.specs.declared.view.Custody.{Custody}
-use Rattle.tj_words.specs.Words.Lists.{cell}
-use Rattle.tj_words.specs.LawParts.Holding.{held_in, phase_of, owned_by}
-use Rattle.tj_words.specs.LawParts.Hands.{hand_in, hand_phase, IsThere}
-use Rattle.tj_words.specs.LawParts.Custodies.{IsCustody}
-use Rattle.tj_words.specs.LawParts.ShownState.{phase_sort, new_stage, stage_there}
-use Rattle.tj_words.specs.LawParts.Contents.{Contents, hand_of, drawn_in, held_of, home_of, owned_of, core_shown}
-use Rattle.tj_words.specs.Law.{Law}
-use Rattle.tj_words.specs.Steps.ShownParts.{parts_of}
-use Rattle.tj_words.specs.Steps.StepEvents.{IsBegun, IsHeldWith}
+use Rattle.tj_words.proofs.Prelude.{Bool, CellStage, Contents, CoreState, Custody, Does, Hand, IsBegun, IsCustody}
+use Rattle.tj_words.proofs.Prelude.{IsHeldWith, IsIn, IsThere, Law, None, Option, Program, Rec, Some, alarmed, ap}
+use Rattle.tj_words.proofs.Prelude.{arith, cell, core_shown, dec_le, dite, drawn_in, false, get_elem?, hand_in, hand_of}
+use Rattle.tj_words.proofs.Prelude.{hand_phase, held_in, held_of, home_of, new_stage, owned_by, owned_of, parts_of}
+use Rattle.tj_words.proofs.Prelude.{phase_of, phase_sort, raised, refl, running, some-injective, stage, stage_there}
+use Rattle.tj_words.proofs.Prelude.{subst, sym, true, waits, walks, ℕ, ◌<◌, ◌∙◌, ◌≡◌, ◌≤◌}
 use Rattle.tj_words.proofs.Holders.HeldTasks.{none_some, one_some, found, finds, hand_found}
 use Rattle.tj_words.proofs.Events.ShownCells.{stage_out}
+use Rattle.tj_base.specs.declared.cell.Sort.TheVariants as sort
+use Rattle.tj_words.specs.declared.phase.Walk.TheVariants as walk
+use Rattle.tj_words.specs.declared.phase.Phase.TheVariants as phase
+use Rattle.tj_words.specs.declared.view.Does.TheVariants as does
 
 -- what is shown of a task that a seat holds
 abbrev pub does_shown : ℕ → Does → CellStage

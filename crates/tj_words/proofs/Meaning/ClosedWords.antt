@@ -1,25 +1,14 @@
 -- What the words of a cell are read as once they are closed.
-use Rattle.std.proofs.Common.{◌≡◌, ◌↔◌, ℕ, zero, suc, ◌+◌, ◌*◌, ◌/◌, ◌<◌, ◌≤◌, List, [], ◌∷◌, length, Option, Some}
-use Rattle.std.proofs.Common.{None, set, take, get_or, refl, sym, ap, ◌∙◌, subst, arith}
+use Rattle.tj_words.proofs.Prelude.{CellId, IsPhaseWord, List, None, Phase, Walk, Way, [], ap, cell, dite, get_elem?}
+use Rattle.tj_words.proofs.Prelude.{maker_in, set, set_else, set_here, some, some-injective, some-ne-none, suc, sym}
+use Rattle.tj_words.proofs.Prelude.{task_in, word, zero, ℕ, ℕ_discrete, ◌*◌, ◌+◌, ◌/◌, ◌<◌, ◌↔◌, ◌∙◌, ◌∷◌, ◌≡◌, ◌≤◌}
+use Rattle.std.proofs.Common.{length, Option, Some, take, get_or, refl, subst, arith}
 use Rattle.std.specs.Option.{unwrap_or, option_map}
-use mathlib.Core.Option.{some, some-injective, some-ne-none}
-use mathlib.Core.Logic.{dite}
-use native.Mathlib.Decide.{ℕ_discrete}
-use lib.ListN.{get_elem?}
-use Rattle.atomic_table.proofs.Lists.{set_here, set_else}
-use Rattle.tj_base.specs.declared.cell.CellId.{CellId}
-use Rattle.tj_core.specs.declared.walk.Way.{Way}
-use Rattle.tj_core.specs.declared.walk.Way.TheVariants as way
-use Rattle.tj_words.specs.declared.phase.Walk.{Walk}
-use Rattle.tj_words.specs.declared.phase.Walk.TheVariants as walk
-use Rattle.tj_words.specs.declared.phase.Phase.{Phase}
-use Rattle.tj_words.specs.declared.phase.Phase.TheVariants as phase
-use Rattle.tj_words.specs.Words.Codes.{IsPhaseWord}
-use Rattle.tj_words.specs.Words.Lists.{cell}
-use Rattle.tj_words.specs.Words.Offsets.{word}
 use Rattle.tj_words.specs.Words.Owners.{owner_number, owner_in}
 use Rattle.tj_words.specs.Words.Phases.{wait_code, phase_word, phase_in}
-use Rattle.tj_words.specs.Inner.ShownCells.{task_in, maker_in}
+use Rattle.tj_core.specs.declared.walk.Way.TheVariants as way
+use Rattle.tj_words.specs.declared.phase.Walk.TheVariants as walk
+use Rattle.tj_words.specs.declared.phase.Phase.TheVariants as phase
 
 -- what stands at an index
 pub read_or : {A : Type 0} (l : List A) (i : ℕ) (a d : A) → get_elem? l i ≡ some a → get_or l i d ≡ a

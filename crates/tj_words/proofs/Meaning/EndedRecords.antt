@@ -1,56 +1,30 @@
 -- Where a table may be closed, TAG and BITS of a task's result say what its record at home does: a task that has ended
 -- has written its result, and one that waits owns it still.
-use Rattle.std.proofs.Common.{◌≡◌, ℕ, zero, suc, ◌<◌, Bool, true, false, List, ◌∷◌, ◌++◌, map, Option, Some, None}
-use Rattle.std.proofs.Common.{refl, sym, ap, ◌∙◌, subst, inl}
-use mathlib.Core.Logic.{dite}
-use mathlib.Core.Option.{some}
-use native.Mathlib.Decide.{ℕ_discrete}
-use lib.ListN.{get_elem?}
-use Rattle.tj_base.specs.ForkOrder.{Name}
-use Rattle.tj_body.specs.History.{Assignment, after_look, after_read, after_stage, point_after, to_task, with_entry}
+use Rattle.tj_words.proofs.Prelude.{BitsSay, Bool, Close, Contents, Entry, Fill, FillSays, Finish, FinishSays, IsCell}
+use Rattle.tj_words.proofs.Prelude.{IsFilled, IsIn, IsRecordIn, IsStill, IsToldRecord, Key, Law, List, MayRest, Name}
+use Rattle.tj_words.proofs.Prelude.{None, Option, Phase, Point, PointStage, Program, Rec, Reference, Ruled, Some, Tag}
+use Rattle.tj_words.proofs.Prelude.{TellsStage, Value, View, ap, bits_in, contents_of, dite, drawn_in, false, get_elem?}
+use Rattle.tj_words.proofs.Prelude.{hand_of, home_of, in_right, inl, map, refl, some, subst, suc, sym, tag_in, tag_of}
+use Rattle.tj_words.proofs.Prelude.{to_task, true, zero, ℕ, ℕ_discrete, ◌++◌, ◌<◌, ◌∙◌, ◌∷◌, ◌≡◌}
+use Rattle.tj_body.specs.History.{Assignment, after_look, after_read, after_stage, point_after, with_entry}
 use Rattle.tj_body.specs.Inner.AskSteps.{IsAskStep, ends, fails, forks, gets, joins, makes, prints, sets}
 use Rattle.tj_body.specs.Names.{in_order}
-use Rattle.tj_body.specs.Points.{IsIn}
-use Rattle.tj_body.specs.Programs.{Program, Rules}
+use Rattle.tj_body.specs.Programs.{Rules}
 use Rattle.tj_body.specs.declared.ask.Ask.{Ask}
-use Rattle.tj_body.specs.declared.point.Close.{Close}
-use Rattle.tj_body.specs.declared.point.Close.TheVariants as close
-use Rattle.tj_body.specs.declared.point.Entry.{Entry}
-use Rattle.tj_body.specs.declared.point.Entry.TheVariants as entry
-use Rattle.tj_body.specs.declared.point.Point.{Point}
-use Rattle.tj_body.specs.declared.point.PointStage.{PointStage}
-use Rattle.tj_body.specs.declared.point.PointStage.TheVariants as stage
-use Rattle.tj_body.specs.declared.point.Reference.{Reference}
 use Rattle.tj_body.specs.declared.point.Task.{Task}
-use Rattle.tj_body.specs.declared.point.Value.{Value}
-use Rattle.tj_body.specs.declared.point.Value.TheVariants as value
 use Rattle.tj_body.proofs.Histories.AskSteps.{is_ask_step}
-use Rattle.tj_body.proofs.Lists.{in_right}
-use Rattle.tj_words.specs.declared.offsets.Once.TheVariants.{Tag}
-use Rattle.tj_words.specs.declared.phase.Phase.{Phase}
-use Rattle.tj_words.specs.declared.phase.Phase.TheVariants as phase
-use Rattle.tj_words.specs.declared.phase.Walk.TheVariants as walk
-use Rattle.tj_words.specs.declared.record.Fill.{Fill}
-use Rattle.tj_words.specs.declared.record.Fill.TheVariants as fill
-use Rattle.tj_words.specs.declared.record.Finish.{Finish}
-use Rattle.tj_words.specs.declared.record.Finish.TheVariants as finish
-use Rattle.tj_words.specs.declared.record.Rec.{Rec}
-use Rattle.tj_words.specs.declared.table.Key.{Key}
-use Rattle.tj_words.specs.declared.view.View.{View}
-use Rattle.tj_words.specs.AtRest.ClosedCells.{IsStill}
 use Rattle.tj_words.specs.CallLaws.AlikeSeats.{RecordsSayResults, ResultSays, fill_of}
-use Rattle.tj_words.specs.CallLaws.RestedRuns.{Ruled}
-use Rattle.tj_words.specs.Law.{Law}
-use Rattle.tj_words.specs.LawParts.Contents.{Contents, bits_in, contents_of, drawn_in, hand_of, home_of, tag_in}
-use Rattle.tj_words.specs.LawParts.Meaning.{IsFilled, IsToldRecord}
-use Rattle.tj_words.specs.LawParts.RecordPhases.{IsRecordIn}
-use Rattle.tj_words.specs.LawParts.Telling.{BitsSay, FillSays, FinishSays, TellsStage, tag_of}
-use Rattle.tj_words.specs.LawParts.TreeWords.{IsCell}
 use Rattle.tj_words.specs.Words.Values.{fill_in, tag_word}
-use Rattle.tj_words.specs.AtRest.RestingSeats.{MayRest}
 use Rattle.tj_words.proofs.Cells.CellNames.{AreApartByName, born_apart}
-use Rattle.tj_words.proofs.Meaning.RestingStates as rests
 use Rattle.tj_words.proofs.Stores.SeatLists.{inside}
+use Rattle.tj_body.specs.declared.point.Close.TheVariants as close
+use Rattle.tj_body.specs.declared.point.Entry.TheVariants as entry
+use Rattle.tj_body.specs.declared.point.PointStage.TheVariants as stage
+use Rattle.tj_body.specs.declared.point.Value.TheVariants as value
+use Rattle.tj_words.specs.declared.phase.Phase.TheVariants as phase
+use Rattle.tj_words.specs.declared.record.Fill.TheVariants as fill
+use Rattle.tj_words.specs.declared.record.Finish.TheVariants as finish
+use Rattle.tj_words.proofs.Meaning.RestingStates as rests
 
 -- what becomes of the result of a task that has closed like this
 abbrev result_of : Close → Entry

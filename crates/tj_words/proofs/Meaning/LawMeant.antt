@@ -1,16 +1,10 @@
 -- What the law says of the meaning, and what a seat knows of its own view, in the terms of the kinds of step.
-use Rattle.std.proofs.Common.{ℕ, List}
-use Rattle.tj_body.specs.Programs.{Program}
-use Rattle.tj_body.specs.declared.point.Reference.{Reference}
-use Rattle.tj_body.specs.declared.point.Value.TheVariants as value
-use Rattle.tj_body.specs.declared.point.Entry.{Entry}
-use Rattle.tj_body.specs.declared.point.Entry.TheVariants as entry
-use Rattle.tj_words.specs.LawParts.NamedCells.{AreThere}
-use Rattle.tj_words.specs.LawParts.Meaning.{IsNamedThere}
+use Rattle.tj_words.proofs.Prelude.{AreThere, Contents, Entry, IsNamedThere, Law, List, Program, Reference, bits_in}
+use Rattle.tj_words.proofs.Prelude.{drawn_in, hand_of, home_of, tag_in, ℕ}
 use Rattle.tj_words.specs.SeatViews.KnownEntries.{NamesOneOf}
-use Rattle.tj_words.specs.LawParts.Contents.{Contents, drawn_in, tag_in, bits_in, hand_of, home_of}
-use Rattle.tj_words.specs.Law.{Law}
 use Rattle.tj_words.proofs.Meaning.MeaningGrows.{Ground, Known, Meant}
+use Rattle.tj_body.specs.declared.point.Value.TheVariants as value
+use Rattle.tj_body.specs.declared.point.Entry.TheVariants as entry
 
 module _ {B : Type 0} where
   -- what the meaning reads of the contents of a table of so many cells, where the cells are these

@@ -1,40 +1,20 @@
 -- What a record says of a point, and what stands of the meaning, stays as cells are drawn, come out of hand and get
 -- entries.
-use Rattle.std.proofs.Common.{◌≡◌, ◌≢◌, ◌⊎◌, ℕ, Bool, List, [], ◌∷◌, set, Option, Some, None, ◌<◌, sym, subst}
-use Rattle.std.proofs.Common.{⊎_elim}
-use Rattle.atomic_table.proofs.Lists.{at_longer}
-use Rattle.tj_body.specs.History.{to_task}
-use Rattle.tj_body.specs.Points.{Begins}
-use Rattle.tj_body.specs.Programs.{Program}
-use Rattle.tj_body.specs.Rounds.{IsFull}
-use Rattle.tj_body.specs.RoundPoints.{InRounds}
-use Rattle.tj_body.specs.declared.ask.Answer.{Answer}
-use Rattle.tj_body.specs.declared.ask.Answer.TheVariants as answer
+use Rattle.tj_words.proofs.Prelude.{All, Answer, ArePairs, Begins, BitsSay, Bool, Close, Entry, Fill, FillSays, Filled}
+use Rattle.tj_words.proofs.Prelude.{Finish, FinishSays, Hand, HasName, HeldSays, InRounds, IsCell, IsFilled, IsFull}
+use Rattle.tj_words.proofs.Prelude.{IsNamedThere, IsThere, IsToldRecord, IsWritten, List, Meaning, None, Option, Point}
+use Rattle.tj_words.proofs.Prelude.{Program, Rec, Reference, Some, StandsIn, Tells, TellsStage, Value, [], at_longer}
+use Rattle.tj_words.proofs.Prelude.{begins_trans, set, subst, sym, to_task, ℕ, ⊎_elim, ◌<◌, ◌∷◌, ◌≡◌, ◌≢◌, ◌⊎◌}
 use Rattle.tj_base.specs.declared.cause.Cause.{Cause}
-use Rattle.tj_body.specs.declared.point.Reference.{Reference}
-use Rattle.tj_body.specs.declared.point.Value.{Value}
-use Rattle.tj_body.specs.declared.point.Value.TheVariants as value
-use Rattle.tj_body.specs.declared.point.Entry.{Entry}
-use Rattle.tj_body.specs.declared.point.Entry.TheVariants as entry
-use Rattle.tj_body.specs.declared.point.Close.{Close}
-use Rattle.tj_body.specs.declared.point.Point.{Point}
-use Rattle.tj_body.proofs.Lists.{begins_trans}
-use Rattle.tj_words.specs.declared.record.Fill.{Fill}
-use Rattle.tj_words.specs.declared.record.Fill.TheVariants as fill
 use Rattle.tj_words.specs.declared.record.Hurt.{Hurt}
-use Rattle.tj_words.specs.declared.record.Hurt.TheVariants as hurt
-use Rattle.tj_words.specs.declared.record.Finish.{Finish}
-use Rattle.tj_words.specs.declared.record.Finish.TheVariants as finish
-use Rattle.tj_words.specs.declared.record.Rec.{Rec}
-use Rattle.tj_words.specs.declared.view.Hand.{Hand}
-use Rattle.tj_words.specs.declared.view.Filled.{Filled}
-use Rattle.tj_words.specs.Words.Lists.{All}
-use Rattle.tj_words.specs.LawParts.Hands.{IsThere}
-use Rattle.tj_words.specs.LawParts.TreeWords.{IsCell}
-use Rattle.tj_words.specs.LawParts.Telling.{ArePairs, HasName, BitsSay, HeldSays, FillSays, HurtSays, FinishSays}
-use Rattle.tj_words.specs.LawParts.Telling.{Tells, TellsStage}
-use Rattle.tj_words.specs.LawParts.Meaning.{IsNamedThere, IsWritten, IsFilled, StandsIn, IsToldRecord, Meaning}
+use Rattle.tj_words.specs.LawParts.Telling.{HurtSays}
 use Rattle.tj_words.proofs.Stores.SeatLists.{each_set}
+use Rattle.tj_body.specs.declared.ask.Answer.TheVariants as answer
+use Rattle.tj_body.specs.declared.point.Value.TheVariants as value
+use Rattle.tj_body.specs.declared.point.Entry.TheVariants as entry
+use Rattle.tj_words.specs.declared.record.Fill.TheVariants as fill
+use Rattle.tj_words.specs.declared.record.Hurt.TheVariants as hurt
+use Rattle.tj_words.specs.declared.record.Finish.TheVariants as finish
 
 -- lists agree by a relation that the one by which they agree implies
 pub pairs_map : {A C : Type 0} (F G : A → C → Type 0) → ((x : A) (y : C) → F x y → G x y) → (xs : List A)

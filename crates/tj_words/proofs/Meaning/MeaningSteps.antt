@@ -1,29 +1,11 @@
 -- Each kind of step keeps what stands within the meaning.
-use Rattle.std.proofs.Common.{◌≡◌, ◌≢◌, ◌⊎◌, ℕ, zero, suc, ◌<◌, ◌≤◌, List, [], ◌∷◌, ◌++◌, Option, Some, None}
-use Rattle.std.proofs.Common.{refl, sym, ap, ◌∙◌, subst, inl, inr, ⊎_elim, arith}
-use mathlib.Core.Logic.{dite}
-use mathlib.Core.Option.{some, some-injective, some-ne-none}
-use native.Mathlib.Decide.{ℕ_discrete}
-use lib.ListN.{get_elem?}
-use Rattle.atomic_table.proofs.Lists.{at_snoc}
-use Rattle.tj_base.specs.ForkOrder.{Name}
-use Rattle.tj_body.specs.Points.{IsIn, Begins}
-use Rattle.tj_body.specs.Programs.{Program}
-use Rattle.tj_body.specs.Rounds.{IsFull}
-use Rattle.tj_body.specs.RoundPoints.{Becomes, InRounds}
-use Rattle.tj_body.specs.declared.point.Reference.{Reference}
-use Rattle.tj_body.specs.declared.point.Entry.{Entry}
-use Rattle.tj_body.proofs.Lists.{begins_self, begins_more, in_left}
-use Rattle.tj_body.proofs.RoundPoints.{entries_are_one}
-use Rattle.tj_words.specs.declared.record.Rec.{Rec}
-use Rattle.tj_words.specs.declared.view.Hand.{Hand}
-use Rattle.tj_words.specs.declared.view.Filled.{Filled}
-use Rattle.tj_words.specs.Words.Lists.{All, total}
-use Rattle.tj_words.specs.LawParts.Lots.{Lots}
-use Rattle.tj_words.specs.LawParts.TreeWords.{IsCell}
-use Rattle.tj_words.specs.LawParts.Telling.{tag_of, BitsSay}
-use Rattle.tj_words.specs.LawParts.Meaning.{HasCell, IsNamedThere}
-use Rattle.tj_words.specs.SeatViews.KnownEntries.{HasSeen, ToldBy}
+use Rattle.tj_words.proofs.Prelude.{All, Becomes, Begins, BitsSay, Entry, Filled, Hand, HasSeen, InRounds, IsCell}
+use Rattle.tj_words.proofs.Prelude.{IsFull, IsIn, IsNamedThere, List, Lots, Name, None, Option, Program, Rec, Reference}
+use Rattle.tj_words.proofs.Prelude.{Some, ToldBy, [], ap, arith, at_snoc, begins_self, dite, entries_are_one, get_elem?}
+use Rattle.tj_words.proofs.Prelude.{in_left, inl, inr, refl, some, some-injective, some-ne-none, subst, suc, sym}
+use Rattle.tj_words.proofs.Prelude.{tag_of, total, zero, ℕ, ℕ_discrete, ⊎_elim, ◌++◌, ◌<◌, ◌∙◌, ◌∷◌, ◌≡◌, ◌≢◌, ◌≤◌, ◌⊎◌}
+use Rattle.tj_body.proofs.Lists.{begins_more}
+use Rattle.tj_words.specs.LawParts.Meaning.{HasCell}
 use Rattle.tj_words.proofs.Meaning.MeaningGrows.{Ground, Known, knows_now, IsThereOn, WrittenIn, FilledIn, AreWrittenIn}
 use Rattle.tj_words.proofs.Meaning.MeaningGrows.{AreFilledIn, ToldIn, Grew, wider, grew_wider, Meant, meaning_grows}
 use Rattle.tj_words.proofs.Meaning.MeaningGrows.{meaning_learns, meaning_moves, meaning_counts, told_on}

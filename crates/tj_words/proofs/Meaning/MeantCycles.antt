@@ -1,41 +1,23 @@
 -- The cycles of waits of a meaning are those that closed words of it show; so each of them has a member that has
 -- alarmed.
-use Rattle.std.proofs.Common.{◌≡◌, ℕ, zero, suc, ◌<◌, nat_eq, eqb-true, eq-eqb, true, List, [], ◌∷◌}
-use Rattle.std.proofs.Common.{length, get_or, refl, sym, ap, ◌∙◌, subst, inl, inr, arith, Bool}
+use Rattle.tj_words.proofs.Prelude.{AreDistinct, Bool, CellId, IsCell, IsIn, List, Name, Owns, Phase, Point, PointStage}
+use Rattle.tj_words.proofs.Prelude.{Program, Reference, RestCell, Walk, Way, [], ap, arith, cell, inl, inr, meaning}
+use Rattle.tj_words.proofs.Prelude.{owned, phase_sort, reference_of, refl, same, same_is, same_self, some-injective}
+use Rattle.tj_words.proofs.Prelude.{some-ne-none, subst, suc, sym, to_map, to_task, true, zero, ℕ, ◌<◌, ◌∙◌, ◌∷◌, ◌≡◌}
+use Rattle.std.proofs.Common.{nat_eq, eqb-true, eq-eqb, length, get_or}
 use Rattle.std.specs.Bool.{Decides}
-use mathlib.Core.Option.{some-injective, some-ne-none}
-use Rattle.tj_base.specs.Cycles as graph
-use Rattle.tj_base.specs.ForkOrder.{Name}
-use Rattle.tj_base.specs.declared.cell.CellId.{CellId}
-use Rattle.tj_base.specs.declared.cell.Sort.TheVariants as sort
 use Rattle.tj_base.proofs.CycleImages.{AreImages, cycle_list_from}
-use Rattle.tj_body.specs.Names.{same}
-use Rattle.tj_body.specs.History.{to_task, owned}
-use Rattle.tj_body.specs.Laws.{AreDistinct}
-use Rattle.tj_body.specs.Points.{IsIn}
-use Rattle.tj_body.specs.Programs.{Program}
-use Rattle.tj_body.specs.Rounds.{meaning}
-use Rattle.tj_body.specs.WaitGraph as meant
-use Rattle.tj_body.specs.declared.point.Point.{Point}
-use Rattle.tj_body.specs.declared.point.PointStage.{PointStage}
-use Rattle.tj_body.specs.declared.point.PointStage.TheVariants as stage
-use Rattle.tj_body.specs.declared.point.Reference.{Reference}
-use Rattle.tj_body.proofs.Counts.{same_self, same_is}
-use Rattle.tj_body.proofs.Lists.{to_map}
-use Rattle.tj_core.specs.declared.walk.Way.{Way}
-use Rattle.tj_words.specs.declared.closed.RestCell.{RestCell}
-use Rattle.tj_words.specs.declared.phase.Phase.{Phase}
-use Rattle.tj_words.specs.declared.phase.Phase.TheVariants as phase
-use Rattle.tj_words.specs.declared.phase.Walk.{Walk}
-use Rattle.tj_words.specs.AtRest.ClosedCells.{IsShown, Waits, Owns, Leads, HasAlarmed, AreCyclesAlarmed}
-use Rattle.tj_words.specs.Words.Lists.{cell}
+use Rattle.tj_words.specs.AtRest.ClosedCells.{IsShown, Waits, Leads, HasAlarmed, AreCyclesAlarmed}
 use Rattle.tj_words.specs.AtRest.RestMeaning.{names, IsPhaseAt, AreWordsOf, AreCyclesOfMeaningAlarmed}
-use Rattle.tj_words.specs.LawParts.ShownState.{reference_of, phase_sort}
-use Rattle.tj_words.specs.LawParts.TreeWords.{IsCell}
 use Rattle.tj_words.proofs.Cells.CellNames.{name_of}
 use Rattle.tj_words.proofs.Holders.HeldTasks.{at_index, one_some}
 use Rattle.tj_words.proofs.Meaning.Resting.{in_of_index}
 use Rattle.tj_words.proofs.Stores.SeatLists.{inside}
+use Rattle.tj_base.specs.Cycles as graph
+use Rattle.tj_base.specs.declared.cell.Sort.TheVariants as sort
+use Rattle.tj_body.specs.WaitGraph as meant
+use Rattle.tj_body.specs.declared.point.PointStage.TheVariants as stage
+use Rattle.tj_words.specs.declared.phase.Phase.TheVariants as phase
 
 -- cells whose names stand once each are told apart by their names
 names_apart : (l : List Reference) → AreDistinct (names l) → (c d : ℕ) (y z : Reference) → IsCell l c y → IsCell l d z

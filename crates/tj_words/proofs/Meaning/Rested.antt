@@ -1,19 +1,11 @@
 -- What holds of a table that was closed with its last seat.
-use Rattle.std.proofs.Common.{◌≡◌, ◌↔◌, ◌<◌, ℕ, Bool, List, [], length, get_or, Option, None, sym, subst}
+use Rattle.tj_words.proofs.Prelude.{AlarmsAreOnCycles, AreAlarmsOnCycles, AreAtRest, AreCellsOf, AreCyclesAlarmed}
+use Rattle.tj_words.proofs.Prelude.{AreSlots, Bool, CyclesAreWatched, IsLast, IsPromise, IsRooted, Key, List, MayRest}
+use Rattle.tj_words.proofs.Prelude.{None, Option, Program, Rec, RestCell, RestsAtMeaning, Rule, View, [], cell_of}
+use Rattle.tj_words.proofs.Prelude.{get_or, length, subst, sym, ℕ, ◌<◌, ◌↔◌, ◌≡◌}
 use Rattle.atomic_table.specs.Table.{Final, Seen}
-use Rattle.tj_body.specs.Laws.{RestsAtMeaning, IsLast}
-use Rattle.tj_body.specs.Programs.{Program}
-use Rattle.tj_core.specs.StateLaws.{AlarmsAreOnCycles, CyclesAreWatched}
-use Rattle.tj_words.specs.declared.closed.RestCell.{RestCell}
-use Rattle.tj_words.specs.declared.record.Rec.{Rec}
-use Rattle.tj_words.specs.declared.table.Key.{Key}
-use Rattle.tj_words.specs.declared.view.View.{View}
-use Rattle.tj_words.specs.AtRest.ClosedCells.{IsPromise, AreAtRest, AreCyclesAlarmed, AreAlarmsOnCycles}
-use Rattle.tj_words.specs.Law.{Rule, IsRooted}
 use Rattle.tj_words.specs.AtRest.RestMeaning.{HaveMeaning}
-use Rattle.tj_words.specs.AtRest.RestShown.{AreSlots}
-use Rattle.tj_words.specs.AtRest.RestingSeats.{MayRest}
-use Rattle.tj_words.specs.Inner.ShownCells.{AreCellsOf, AreTableWords, cell_of}
+use Rattle.tj_words.specs.Inner.ShownCells.{AreTableWords}
 use Rattle.tj_words.proofs.Holders.HeldTasks.{at_index}
 use Rattle.tj_words.proofs.Meaning.RestingCells as cells
 use Rattle.tj_words.proofs.Meaning.RestingMeaning as meaning

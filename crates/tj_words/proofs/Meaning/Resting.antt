@@ -1,38 +1,19 @@
 -- A table at rest has the meaning: what stands in its words and records is what the last round gives.
-use Rattle.std.proofs.Common.{◌≡◌, ◌≢◌, ◌⊎◌, ℕ, zero, suc, ◌+◌, ◌≤◌, Bool, true, false, cond, List, [], ◌∷◌}
-use Rattle.std.proofs.Common.{map, length, get_or, Option, Some, None, refl, sym, ap, ◌∙◌, subst, inl, inr, ⊎_elim}
-use Rattle.std.proofs.Common.{arith}
+use Rattle.tj_words.proofs.Prelude.{Answer, ArePairs, Assignment, Becomes, BitsSay, Bool, Entry, Finish, HeldSays}
+use Rattle.tj_words.proofs.Prelude.{IsCell, IsFull, IsIn, List, Name, None, Option, Point, Program, Rec, Reference}
+use Rattle.tj_words.proofs.Prelude.{RestsAtMeaning, Some, Sort, StandsIn, Tells, TellsStage, WaitsFor, [], ap, arith}
+use Rattle.tj_words.proofs.Prelude.{cells, cond, false, get_elem?, get_or, given, history, inl, inr, last_round, length}
+use Rattle.tj_words.proofs.Prelude.{map, reference, refl, same, same_is, same_self, some, some-injective, some-ne-none}
+use Rattle.tj_words.proofs.Prelude.{sort_tag, subst, suc, sym, tag_of, tasks, to_map, to_task, true, zero, ℕ}
+use Rattle.tj_words.proofs.Prelude.{ℕ_discrete, ⊎_elim, ◌+◌, ◌∙◌, ◌∷◌, ◌≡◌, ◌≢◌, ◌≤◌, ◌⊎◌}
 use Rattle.std.specs.Prelude.{slice_get}
-use mathlib.Core.Option.{some, some-injective, some-ne-none}
-use native.Mathlib.Decide.{ℕ_discrete}
-use lib.ListN.{get_elem?}
-use Rattle.tj_base.specs.ForkOrder.{Name}
-use Rattle.tj_base.specs.declared.cell.Sort.{Sort}
-use Rattle.tj_base.specs.declared.cell.Sort.TheVariants as sort
-use Rattle.tj_body.specs.Names.{same}
-use Rattle.tj_body.specs.History.{Assignment, to_task, reference, history}
-use Rattle.tj_body.specs.Programs.{Program}
-use Rattle.tj_body.specs.Rounds.{given, tasks, cells, last_round, IsFull}
-use Rattle.tj_body.specs.RoundPoints.{Becomes}
-use Rattle.tj_body.specs.Points.{IsIn, IsAtRest, HasStopped}
-use Rattle.tj_body.specs.Laws.{RestsAtMeaning}
-use Rattle.tj_body.specs.declared.ask.Answer.{Answer}
-use Rattle.tj_body.specs.declared.point.Reference.{Reference}
-use Rattle.tj_body.specs.declared.point.Entry.{Entry}
-use Rattle.tj_body.specs.declared.point.Entry.TheVariants as entry
-use Rattle.tj_body.specs.declared.point.Value.TheVariants as value
+use Rattle.tj_body.specs.Points.{IsAtRest, HasStopped}
 use Rattle.tj_body.specs.declared.point.Task.{Task}
-use Rattle.tj_body.specs.declared.point.Point.{Point}
-use Rattle.tj_body.proofs.Counts.{same_self, same_is}
-use Rattle.tj_body.proofs.Lists.{to_map}
-use Rattle.tj_words.specs.declared.record.Finish.{Finish}
-use Rattle.tj_words.specs.declared.record.Rec.{Rec}
-use Rattle.tj_words.specs.LawParts.RecordPhases.{WaitsFor}
-use Rattle.tj_words.specs.LawParts.TreeWords.{IsCell}
-use Rattle.tj_words.specs.LawParts.Telling.{ArePairs, sort_tag, tag_of, BitsSay, HeldSays, Tells, TellsStage}
-use Rattle.tj_words.specs.LawParts.Meaning.{StandsIn}
 use Rattle.tj_words.proofs.Meaning.MeaningGrows.{Ground, Known, FilledIn, Meant}
 use Rattle.tj_words.proofs.Cells.CellNames.{name_of, AreApartByName, length_names, cell_of_name}
+use Rattle.tj_base.specs.declared.cell.Sort.TheVariants as sort
+use Rattle.tj_body.specs.declared.point.Entry.TheVariants as entry
+use Rattle.tj_body.specs.declared.point.Value.TheVariants as value
 
 module _ {B : Type 0} (born : List Reference) (tag : ℕ → ℕ) (home : ℕ → Option (Rec B)) where
   -- rest: the record of each task lies at home, where the task has ended or waits for a cell of which nothing has

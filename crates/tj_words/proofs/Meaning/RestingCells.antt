@@ -1,42 +1,21 @@
 -- What is shown of the cells of a table whose last seat has come back: they are at rest, who they are, and their
 -- cycles.
-use Rattle.std.proofs.Common.{◌≡◌, ◌≢◌, ℕ, zero, suc, ◌<◌, nat_eq, Bool, List, ◌∷◌, Option, Some}
-use Rattle.std.proofs.Common.{refl, sym, ap, ◌∙◌, subst, ⊎_elim}
-use mathlib.Core.Option.{some, some-injective}
-use lib.ListN.{get_elem?}
-use Rattle.atomic_table.specs.Table.{State}
-use Rattle.tj_base.specs.ForkOrder.{child}
-use Rattle.tj_base.specs.declared.cell.CellId.{CellId}
+use Rattle.tj_words.proofs.Prelude.{AlarmsAreOnCycles, AreAlarmsOnCycles, AreAtRest, AreCellsOf, AreCyclesAlarmed, Bool}
+use Rattle.tj_words.proofs.Prelude.{CellId, CellState, CoreState, CyclesAreWatched, IsCell, IsOfTree, IsShown, IsStill}
+use Rattle.tj_words.proofs.Prelude.{Key, Leads, List, MayRest, Once, Option, Program, Rec, Reference, RestCell, Rule}
+use Rattle.tj_words.proofs.Prelude.{Some, State, View, Waits, Walk, Way, ap, cell, cell_of, child, get_elem?, maker_in}
+use Rattle.tj_words.proofs.Prelude.{nat_eq, once_at, own_at, owner_in, parent_word, parts_of, phase_sort, refl, some}
+use Rattle.tj_words.proofs.Prelude.{some-injective, sort_shown, stage, subst, suc, sym, task_in, tree_word, waits, word}
+use Rattle.tj_words.proofs.Prelude.{zero, ℕ, ⊎_elim, ◌<◌, ◌∙◌, ◌∷◌, ◌≡◌, ◌≢◌}
 use Rattle.tj_base.proofs.CyclesOn.{cycle_list_moves}
-use Rattle.tj_body.specs.Programs.{Program}
-use Rattle.tj_body.specs.declared.point.Reference.{Reference}
-use Rattle.tj_core.specs.CoreState.{CoreState, CellState, stage, waits}
-use Rattle.tj_core.specs.StateLaws.{AlarmsAreOnCycles, CyclesAreWatched}
-use Rattle.tj_core.specs.WaitGraph as core
-use Rattle.tj_core.specs.declared.walk.Way.{Way}
-use Rattle.tj_words.specs.declared.closed.RestCell.{RestCell}
-use Rattle.tj_words.specs.declared.offsets.Once.TheVariants as once
-use Rattle.tj_words.specs.declared.phase.Phase.TheVariants as phase
-use Rattle.tj_words.specs.declared.phase.Walk.{Walk}
-use Rattle.tj_words.specs.declared.phase.Walk.TheVariants as walk
-use Rattle.tj_words.specs.declared.record.Rec.{Rec}
-use Rattle.tj_words.specs.declared.table.Key.{Key}
-use Rattle.tj_words.specs.declared.view.View.{View}
-use Rattle.tj_words.specs.AtRest.ClosedCells.{IsShown, Waits, HasAlarmed, Leads, AreAtRest, AreCyclesAlarmed, IsStill}
-use Rattle.tj_words.specs.AtRest.ClosedCells.{AreAlarmsOnCycles, AreNamed}
-use Rattle.tj_words.specs.Law.{Rule}
-use Rattle.tj_words.specs.Words.Lists.{cell}
-use Rattle.tj_words.specs.Words.Offsets.{word, own_at, once_at}
-use Rattle.tj_words.specs.Words.Owners.{owner_in}
-use Rattle.tj_words.specs.AtRest.RestingSeats.{MayRest}
-use Rattle.tj_words.specs.Inner.ShownCells.{AreCellsOf, cell_of, task_in, maker_in}
-use Rattle.tj_words.specs.LawParts.ShownState.{phase_sort, sort_shown}
-use Rattle.tj_words.specs.LawParts.TreeWords.{IsCell, parent_word, tree_word, IsOfTree}
-use Rattle.tj_words.specs.declared.offsets.Once.{Once}
-use Rattle.tj_words.specs.Steps.ShownParts.{parts_of}
+use Rattle.tj_words.specs.AtRest.ClosedCells.{HasAlarmed, AreNamed}
 use Rattle.tj_words.proofs.Stores.SeatLists.{inside}
 use Rattle.tj_words.proofs.Holders.HeldTasks.{one_some}
 use Rattle.tj_words.proofs.Events.ShownCells.{cell_there}
+use Rattle.tj_core.specs.WaitGraph as core
+use Rattle.tj_words.specs.declared.offsets.Once.TheVariants as once
+use Rattle.tj_words.specs.declared.phase.Phase.TheVariants as phase
+use Rattle.tj_words.specs.declared.phase.Walk.TheVariants as walk
 use Rattle.tj_words.proofs.Meaning.RestingStates as rests
 
 -- an owner that is shown is that of the word

@@ -1,60 +1,30 @@
 -- What stands in the words and slots of a table whose last seat has come back is the meaning.
-use Rattle.std.proofs.Common.{◌≡◌, ◌≢◌, ◌↔◌, ℕ, ◌<◌, ◌≤◌, Bool, List, [], ◌∷◌, length, get_or}
-use Rattle.std.proofs.Common.{Option, Some, None, refl, sym, ap, ◌∙◌, subst, inl, inr, arith}
-use mathlib.Core.Option as maybe
-use mathlib.Core.Option.{some, some-injective}
-use mathlib.Core.Logic.{dite}
-use native.Mathlib.Decide.{ℕ_discrete, dec_le}
-use lib.ListN.{get_elem?}
-use Rattle.atomic_table.specs.Table.{State}
-use Rattle.tj_base.specs.declared.cell.CellId.{CellId}
-use Rattle.tj_base.specs.declared.cell.Sort.{Sort}
-use Rattle.tj_base.specs.declared.cell.Sort.TheVariants as sort
-use Rattle.tj_body.proofs.Lists.{in_map, to_map}
-use Rattle.tj_body.specs.History.{to_task, reference, owned, history}
-use Rattle.tj_body.specs.Laws.{RestsAtMeaning, IsLast}
-use Rattle.tj_body.specs.Points.{IsIn}
-use Rattle.tj_body.specs.Programs.{Program}
-use Rattle.tj_body.specs.Rounds.{given, tasks, meaning, last_round}
-use Rattle.tj_body.specs.declared.point.Point.{Point}
-use Rattle.tj_body.specs.declared.point.Reference.{Reference}
-use Rattle.tj_words.specs.declared.closed.RestCell.{RestCell}
-use Rattle.tj_words.specs.declared.phase.Phase.{Phase}
-use Rattle.tj_words.specs.declared.phase.Phase.TheVariants as phase
-use Rattle.tj_words.specs.declared.phase.Walk.{Walk}
-use Rattle.tj_words.specs.declared.phase.Walk.TheVariants as walk
-use Rattle.tj_words.specs.declared.record.Rec.{Rec}
-use Rattle.tj_words.specs.declared.table.Key.{Key}
-use Rattle.tj_words.specs.declared.view.View.{View}
-use Rattle.tj_words.specs.AtRest.ClosedCells.{IsStill, Owns}
-use Rattle.tj_words.specs.LawParts.Contents.{tag_in, bits_in, home_of, held_of, owned_of, Contents}
-use Rattle.tj_words.specs.LawParts.Holding.{record_in, owned_by}
-use Rattle.tj_words.specs.Law.{Rule}
-use Rattle.tj_words.specs.Words.Lists.{numbers}
-use Rattle.tj_words.specs.Words.Offsets.{word, own_at}
-use Rattle.tj_words.specs.LawParts.RecordPhases.{IsRecordIn}
-use Rattle.tj_words.specs.AtRest.RestMeaning.{names, IsPhaseAt, ShowsHistory, TellsHistory, AreWordsOf, AreRecordsOf}
-use Rattle.tj_words.specs.AtRest.RestMeaning.{tag_for}
-use Rattle.tj_words.specs.AtRest.RestShown.{AreSlots}
-use Rattle.tj_words.specs.AtRest.RestingSeats.{MayRest}
-use Rattle.tj_words.specs.Inner.ShownCells.{AreCellsOf, cell_of}
-use Rattle.tj_words.specs.LawParts.ShownState.{phase_sort, reference_of, stage_there, sort_shown}
-use Rattle.tj_words.specs.LawParts.Telling.{ArePairs, HasName, HeldSays, Tells, TellsStage}
-use Rattle.tj_words.specs.LawParts.TreeWords.{IsCell}
+use Rattle.tj_words.proofs.Prelude.{AreCellsOf, ArePairs, AreSlots, AreWordsOf, Bool, CellId, Contents, HasName}
+use Rattle.tj_words.proofs.Prelude.{HeldSays, IsCell, IsIn, IsLast, IsPhaseAt, IsRecordIn, IsStill, Key, List, MayRest}
+use Rattle.tj_words.proofs.Prelude.{None, Option, Owns, Phase, Point, Program, Rec, Reference, RestCell, RestsAtMeaning}
+use Rattle.tj_words.proofs.Prelude.{Rule, Some, Sort, State, Tells, TellsStage, View, Walk, Way, [], ap, arith, bits_in}
+use Rattle.tj_words.proofs.Prelude.{cell_of, dec_le, dite, get_elem?, get_or, given, held_of, history, home_of, in_map}
+use Rattle.tj_words.proofs.Prelude.{inl, inr, last_round, length, meaning, names, numbers, own_at, owned, owned_by}
+use Rattle.tj_words.proofs.Prelude.{owned_of, parts_of, phase_sort, record_in, reference, reference_of, refl, some}
+use Rattle.tj_words.proofs.Prelude.{some-injective, sort_shown, stage_there, subst, sym, tag_in, tasks, to_map, to_task}
+use Rattle.tj_words.proofs.Prelude.{word, ℕ, ℕ_discrete, ◌<◌, ◌↔◌, ◌∙◌, ◌∷◌, ◌≡◌, ◌≢◌, ◌≤◌}
+use Rattle.tj_words.specs.AtRest.RestMeaning.{ShowsHistory, TellsHistory, AreRecordsOf, tag_for}
 use Rattle.tj_words.proofs.Cells.CellNames.{name_of, born_apart, distinct_names, cell_of_name}
 use Rattle.tj_words.proofs.Cells.CellFacts.{cell_born}
 use Rattle.tj_words.proofs.Meaning.ClosedWords.{read_or}
 use Rattle.tj_words.proofs.Events.ShownCells.{owner_out}
-use Rattle.tj_words.specs.Steps.ShownParts.{parts_of}
 use Rattle.tj_core.specs.CoreState.{Lives}
-use Rattle.tj_core.specs.declared.walk.Way.{Way}
 use Rattle.tj_words.proofs.Holders.HeldTasks.{none_some, one_some}
 use Rattle.tj_words.proofs.Meaning.Resting.{IsMeant, pairs_at, in_of_index}
-use Rattle.tj_words.proofs.Meaning.RestingCells as cells
-use Rattle.tj_words.proofs.Meaning.RestingStates as rests
 use Rattle.tj_words.proofs.Meaning.RestingTables.{lies, rest_shows, none_ready_at_zero}
 use Rattle.tj_words.proofs.Stores.SeatLists.{inside}
 use Rattle.tj_words.proofs.Holders.TaskPlaces.{unheld}
+use mathlib.Core.Option as maybe
+use Rattle.tj_base.specs.declared.cell.Sort.TheVariants as sort
+use Rattle.tj_words.specs.declared.phase.Phase.TheVariants as phase
+use Rattle.tj_words.specs.declared.phase.Walk.TheVariants as walk
+use Rattle.tj_words.proofs.Meaning.RestingCells as cells
+use Rattle.tj_words.proofs.Meaning.RestingStates as rests
 
 -- each element of one list has its partner in the other
 pub partner : {A C : Type 0} (F : A → C → Type 0) (xs : List A) (ys : List C) (x : A) → ArePairs F xs ys → IsIn x xs

@@ -1,51 +1,23 @@
 -- A table whose last seat has come back: no other seat is in use, no task is held, ready or live, no cell is in hand,
 -- and nothing has become of what a task waits for.
-use Rattle.std.proofs.Common.{◌≡◌, ◌≢◌, ℕ, zero, suc, ◌+◌, ◌<◌, ◌≤◌, Bool, List, [], ◌∷◌, map, Option, Some, None}
-use Rattle.std.proofs.Common.{refl, sym, ap, ◌∙◌, subst, ⊎_elim, arith}
-use mathlib.Core.Option.{some, some-injective, some-ne-none}
-use mathlib.Core.Logic.{dite}
-use native.Mathlib.Decide.{ℕ_discrete, dec_le}
-use lib.ListN.{get_elem?}
-use Rattle.atomic_table.specs.Table.{State}
-use Rattle.atomic_table.proofs.Lists.{at_map}
+use Rattle.tj_words.proofs.Prelude.{Bool, CellId, Contents, Custody, Each, Hand, IsHeld, IsKept, IsSpent, IsStill}
+use Rattle.tj_words.proofs.Prelude.{IsThere, IsWithinLot, Key, List, MayRest, None, Option, Phase, Program, Rec, Rule}
+use Rattle.tj_words.proofs.Prelude.{Some, State, Tag, View, Walk, Walker, Way, [], ap, arith, at_map, cell, contents_of}
+use Rattle.tj_words.proofs.Prelude.{core_shown, dec_le, dite, drawn_in, get_elem?, hand_of, held_in, held_of, home_of}
+use Rattle.tj_words.proofs.Prelude.{least_lot, live_part, map, owner, parts_of, phase_sort, refl, some, some-injective}
+use Rattle.tj_words.proofs.Prelude.{some-ne-none, sort_shown, stage, stage_there, subst, suc, sym, tag_in, total}
+use Rattle.tj_words.proofs.Prelude.{wait_in, waits, zero, ℕ, ℕ_discrete, ⊎_elim, ◌+◌, ◌<◌, ◌∙◌, ◌∷◌, ◌≡◌, ◌≢◌, ◌≤◌}
 use Rattle.tj_base.proofs.Ways.{reach_front}
-use Rattle.tj_base.specs.declared.cell.CellId.{CellId}
-use Rattle.tj_base.specs.declared.cell.Sort.TheVariants as sort
-use Rattle.tj_body.specs.Programs.{Program}
-use Rattle.tj_core.specs.CoreState.{CoreState, waits, walks, alarmed, promise, owner}
-use Rattle.tj_core.specs.CoreState.{stage, WaitStage, CellState, wait_of}
+use Rattle.tj_core.specs.CoreState.{CoreState, walks, alarmed, promise, WaitStage, CellState, wait_of}
 use Rattle.tj_core.specs.WaitGraph.{Leads, Reaches}
-use Rattle.tj_core.specs.declared.walk.Walker.{Walker}
-use Rattle.tj_core.specs.declared.walk.Way.{Way}
-use Rattle.tj_words.specs.declared.phase.Phase.{Phase}
-use Rattle.tj_words.specs.declared.phase.Phase.TheVariants as phase
-use Rattle.tj_words.specs.declared.phase.Walk.{Walk}
-use Rattle.tj_words.specs.declared.phase.Walk.TheVariants as walk
-use Rattle.tj_words.specs.declared.record.Rec.{Rec}
-use Rattle.tj_words.specs.declared.table.Key.{Key}
-use Rattle.tj_words.specs.declared.view.Custody.{Custody}
-use Rattle.tj_words.specs.declared.view.Hand.{Hand}
-use Rattle.tj_words.specs.declared.view.View.{View}
-use Rattle.tj_words.specs.AtRest.ClosedCells.{IsStill}
-use Rattle.tj_words.specs.LawParts.Contents.{Contents, contents_of, drawn_in, tag_in, hand_of, held_of, home_of}
-use Rattle.tj_words.specs.LawParts.Contents.{core_shown}
-use Rattle.tj_words.specs.LawParts.Custodies.{IsHeld, IsKept}
-use Rattle.tj_words.specs.LawParts.Hands.{IsThere}
-use Rattle.tj_words.specs.Law.{Rule}
-use Rattle.tj_words.specs.Words.Lists.{Each, cell, total}
-use Rattle.tj_words.specs.LawParts.LiveCount.{live_part}
-use Rattle.tj_words.specs.LawParts.Lots.{IsSpent, IsWithinLot, least_lot}
-use Rattle.tj_words.specs.AtRest.RestingSeats.{MayRest}
-use Rattle.tj_words.specs.Steps.ShownParts.{parts_of}
-use Rattle.tj_words.specs.LawParts.ShownState.{phase_sort, stage_there, sort_shown}
-use Rattle.tj_words.specs.Steps.StepEvents.{wait_in}
-use Rattle.tj_words.specs.declared.offsets.Once.TheVariants.{Tag}
-use Rattle.tj_words.specs.LawParts.Holding.{held_in}
 use Rattle.tj_words.proofs.Cells.CellFacts.{wait_shown}
 use Rattle.tj_words.proofs.Holders.HeldTasks.{hand_found, none_some}
 use Rattle.tj_words.proofs.Waiters.LiveSteps.{none_left_waiting}
 use Rattle.tj_words.proofs.Meaning.RestingTables.{none_live}
 use Rattle.tj_words.proofs.Events.ShownCells.{cell_blank, stage_out, owner_out}
+use Rattle.tj_base.specs.declared.cell.Sort.TheVariants as sort
+use Rattle.tj_words.specs.declared.phase.Phase.TheVariants as phase
+use Rattle.tj_words.specs.declared.phase.Walk.TheVariants as walk
 
 -- what stands at an index of a mapped list
 pub map_back : {A C : Type 0} (f : A → C) (l : List A) (i : ℕ) (c : C) → get_elem? (map f l) i ≡ some c

@@ -1,34 +1,17 @@
 -- A table under its law at which no seat holds a task, no task is ready and none waits for a cell of which something
 -- has become, has the meaning.
-use Rattle.std.proofs.Common.{◌≡◌, ◌≢◌, ◌⊎◌, ℕ, ◌<◌, [], Option, Some, None, refl, sym, ◌∙◌, subst}
-use Rattle.std.proofs.Common.{inl, inr, ⊎_elim, arith, zero, suc, ap}
-use mathlib.Core.Logic.{dite}
-use native.Mathlib.Decide.{ℕ_discrete, dec_le}
-use Rattle.tj_base.specs.declared.cell.CellId.{CellId}
-use Rattle.tj_base.specs.declared.cell.Sort.TheVariants as sort
-use Rattle.tj_body.specs.History.{to_task}
-use Rattle.tj_body.specs.Laws.{RestsAtMeaning}
-use Rattle.tj_body.specs.Programs.{Program}
-use Rattle.tj_body.specs.declared.point.Reference.{Reference}
-use Rattle.tj_core.specs.declared.walk.Way.{Way}
-use Rattle.tj_words.specs.declared.phase.Phase.{Phase}
-use Rattle.tj_words.specs.declared.phase.Phase.TheVariants as phase
-use Rattle.tj_words.specs.declared.phase.Walk.{Walk}
-use Rattle.tj_words.specs.declared.phase.Walk.TheVariants as walk
-use Rattle.tj_words.specs.declared.record.Finish.{Finish}
-use Rattle.tj_words.specs.declared.record.Rec.{Rec}
-use Rattle.tj_words.specs.Words.Lists.{Each}
-use Rattle.tj_words.specs.LawParts.LiveCount.{live_part, live_tasks}
-use Rattle.tj_words.specs.LawParts.Holding.{held_in}
-use Rattle.tj_words.specs.LawParts.Custodies.{IsHeld, IsKept}
-use Rattle.tj_words.specs.LawParts.RecordPhases.{WaitsFor, IsRecordIn}
-use Rattle.tj_words.specs.LawParts.TreeWords.{IsCell}
-use Rattle.tj_words.specs.LawParts.Contents.{Contents, tag_in, bits_in, home_of}
-use Rattle.tj_words.specs.Law.{Law}
+use Rattle.tj_words.proofs.Prelude.{CellId, Contents, Each, Finish, IsCell, IsHeld, IsKept, IsRecordIn, Law, None}
+use Rattle.tj_words.proofs.Prelude.{Option, Phase, Program, Rec, Reference, RestsAtMeaning, Some, WaitsFor, Walk, Way}
+use Rattle.tj_words.proofs.Prelude.{[], ap, arith, bits_in, dec_le, dite, held_in, home_of, inl, inr, live_part}
+use Rattle.tj_words.proofs.Prelude.{live_tasks, refl, subst, suc, sym, tag_in, to_task, zero, ℕ, ℕ_discrete, ⊎_elim}
+use Rattle.tj_words.proofs.Prelude.{◌<◌, ◌∙◌, ◌≡◌, ◌≢◌, ◌⊎◌}
 use Rattle.tj_words.proofs.Stores.SeatLists.{inside}
 use Rattle.tj_words.proofs.Cells.CellNames.{born_apart}
 use Rattle.tj_words.proofs.Meaning.LawMeant.{ground_of, known_of, law_meant}
 use Rattle.tj_words.proofs.Meaning.Resting.{IsResting, IsMeant, rest_meant}
+use Rattle.tj_base.specs.declared.cell.Sort.TheVariants as sort
+use Rattle.tj_words.specs.declared.phase.Phase.TheVariants as phase
+use Rattle.tj_words.specs.declared.phase.Walk.TheVariants as walk
 
 -- where no task is live, each of them isn't
 pub none_live : (phases : ℕ → Phase) (n t : ℕ) → t < n → live_tasks phases n ≡ 0 → live_part (phases t) ≡ 0

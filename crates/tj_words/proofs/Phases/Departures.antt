@@ -1,18 +1,17 @@
 -- The law after a task leaves its seat with its record at home: it is ready, has ended, or was shelved.
 use Rattle.tj_words.proofs.Prelude.{AreThere, CellId, Chains, Contents, CoreFacts, Custody, Does, Hand, IsHeldWith}
-use Rattle.tj_words.proofs.Prelude.{IsKept, Law, LiesAtHome, List, LiveCount, None, Option, Phase, Program, Push, Rec}
-use Rattle.tj_words.proofs.Prelude.{RecordsFit, Slots, Some, Walk, Way, ap, core_shown, dite, drawn_in, get_elem?}
-use Rattle.tj_words.proofs.Prelude.{hand_of, held_in, home_in, home_of, let_go, numbers, phase_sort, record_cells}
-use Rattle.tj_words.proofs.Prelude.{record_in, refl, set, some, subst, sym, tag_in, ℕ, ℕ_discrete, ◌∙◌, ◌≡◌, ◌≢◌}
-use Rattle.tj_base.specs.declared.cell.Sort.TheVariants as sort
-use Rattle.tj_words.specs.declared.phase.Phase.TheVariants as phase
-use Rattle.tj_words.specs.Steps.WalkSteps.{Leaves}
+use Rattle.tj_words.proofs.Prelude.{IsKept, Law, Leaves, LiesAtHome, List, LiveCount, None, Option, Phase, Program}
+use Rattle.tj_words.proofs.Prelude.{Push, Rec, RecordsFit, Slots, Some, Walk, Way, ap, core_shown, dite, drawn_in}
+use Rattle.tj_words.proofs.Prelude.{get_elem?, hand_of, held_in, home_in, home_of, let_go, numbers, phase_sort}
+use Rattle.tj_words.proofs.Prelude.{record_cells, record_in, refl, set, some, subst, sym, tag_in, ℕ, ℕ_discrete, ◌∙◌}
+use Rattle.tj_words.proofs.Prelude.{◌≡◌, ◌≢◌}
 use Rattle.tj_words.proofs.Meaning.MeaningGrows.{Meant}
 use Rattle.tj_words.proofs.Meaning.LawMeant.{ground_of, known_of}
 use Rattle.tj_words.proofs.Holders.SeatTasks.{let_go_moved}
 use Rattle.tj_words.proofs.Holders.LeavingTasks.{leaving_hands, leaving_names, leaving_births, leaving_owned}
-use Rattle.tj_words.proofs.Holders.LeavingTasks.{leaving_custody}
-use Rattle.tj_words.proofs.Holders.LeavingTasks.{leaving_undrawn}
+use Rattle.tj_words.proofs.Holders.LeavingTasks.{leaving_custody, leaving_undrawn}
+use Rattle.tj_base.specs.declared.cell.Sort.TheVariants as sort
+use Rattle.tj_words.specs.declared.phase.Phase.TheVariants as phase
 
 module _ {B : Type 0} {program : Program B} {cells : ℕ} {x : Contents B} (r : Law program cells x) (id t : ℕ) where
   abbrev n : ℕ

@@ -1,13 +1,11 @@
 -- The store of Ended keeps the rule: the record comes home with its finish, and the task leaves its seat.
-use Rattle.tj_words.proofs.Prelude.{Bool, Contents, CoreState, Custody, IsHeldWith, IsIn, Key, Law, None, Option, Phase}
-use Rattle.tj_words.proofs.Prelude.{Program, Rec, Rule, SeatsHave, Slots, SlotsOf, Some, State, View, [], ap, arith}
-use Rattle.tj_words.proofs.Prelude.{contents_of, core_shown, drawn_in, get_elem?, hand_of, home_of, live_part, numbers}
-use Rattle.tj_words.proofs.Prelude.{owned_by, owner, parts_of, phase_at, phase_in, phase_of, phase_word, put, refl}
-use Rattle.tj_words.proofs.Prelude.{seats_have, set, some, subst, suc, sym, true, wait_in, word, ℕ, ◌<◌, ◌∙◌, ◌≡◌}
-use Rattle.tj_core.specs.CoreState.{is_task, IsTask}
-use Rattle.tj_words.specs.declared.phase.Phase.TheVariants as phase
-use Rattle.tj_words.specs.declared.view.Does.TheVariants as does
-use Rattle.tj_words.specs.Calls.LiveViews.{ended, MayEnd}
+use Rattle.tj_words.proofs.Prelude.{Bool, Contents, CoreState, Custody, EndsTask, IsHeldWith, IsIn, Keeping, Key, Law}
+use Rattle.tj_words.proofs.Prelude.{MayEnd, None, Option, Phase, Program, Rec, Rule, SeatsHave, Slots, SlotsOf, Some}
+use Rattle.tj_words.proofs.Prelude.{State, View, [], ap, arith, contents_of, core_shown, drawn_in, ended, get_elem?}
+use Rattle.tj_words.proofs.Prelude.{hand_of, home_of, is_task, let_go, live_part, numbers, owned_by, owner, parts_of}
+use Rattle.tj_words.proofs.Prelude.{phase_at, phase_in, phase_of, phase_word, put, refl, seats_have, set, some, subst}
+use Rattle.tj_words.proofs.Prelude.{suc, sym, true, wait_in, word, ℕ, ◌<◌, ◌∙◌, ◌≡◌}
+use Rattle.tj_core.specs.CoreState.{IsTask}
 use Rattle.tj_words.proofs.Stores.StoreSteps.{put_here, put_else}
 use Rattle.tj_words.proofs.Stores.SlotStores.{StoresWith}
 use Rattle.tj_words.proofs.Holders.HeldTasks.{none_some}
@@ -22,13 +20,12 @@ use Rattle.tj_words.proofs.Holders.LaidRecords.{tokens_at, tasks_at, laid_slots,
 use Rattle.tj_words.proofs.Holders.LaidRecords.{departs_laid, fits}
 use Rattle.tj_words.proofs.Phases.Departures.{Departs, after_leaving, does_leave, law_leaves}
 use Rattle.tj_words.proofs.Holders.LeftSeats.{left_seat, left_stores}
-use Rattle.tj_words.specs.Steps.QuietSteps.{EndsTask}
 use Rattle.tj_words.proofs.Stores.StepContents.{stored_with}
-use Rattle.tj_words.specs.CallLaws.EventCalls.{Keeping}
 use Rattle.tj_words.proofs.Calls.KeptCells.{kept_moved}
-use Rattle.tj_words.proofs.Stores.TableWords as table_word
 use Rattle.tj_words.proofs.Stores.SeatContents.{seats_same}
-use Rattle.tj_words.specs.SeatViews.TaskLists.{let_go}
+use Rattle.tj_words.specs.declared.phase.Phase.TheVariants as phase
+use Rattle.tj_words.specs.declared.view.Does.TheVariants as does
+use Rattle.tj_words.proofs.Stores.TableWords as table_word
 
 module _ {B : Type 0} {program : Program B} {cells : ℕ} {x : Contents B} (r : Law program cells x) (id t : ℕ)
     (k : Custody B) (h : IsHeldWith x id t k) where

@@ -1,14 +1,10 @@
 -- The law after the record of an unborn task has come home, while a seat holds the task.
 use Rattle.tj_words.proofs.Prelude.{AreThere, Births, Contents, Custodies, Custody, Hand, Hands, IsCustody, IsHeldWith}
-use Rattle.tj_words.proofs.Prelude.{IsKept, IsThere, Law, List, LiveCount, NamesCells, None, Option, OwnedLists}
-use Rattle.tj_words.proofs.Prelude.{Program, Rec, RecordsFit, Slots, Some, ap, arith, dite, drawn_in, find_in}
-use Rattle.tj_words.proofs.Prelude.{get_elem?, hand_of, held_in, held_of, hold, home_in, home_of, made_by, made_of}
-use Rattle.tj_words.proofs.Prelude.{making, numbers, owned_by, owned_of, phase_of, record_cells, record_in, refl, set}
-use Rattle.tj_words.proofs.Prelude.{some, subst, sym, tag_in, ℕ, ℕ_discrete, ◌+◌, ◌∙◌, ◌≡◌, ◌≢◌}
-use Rattle.tj_words.specs.declared.phase.Phase.TheVariants as phase
-use Rattle.tj_words.specs.declared.view.Does.TheVariants as does
-use Rattle.tj_words.specs.Calls.LiveViews.{now_home}
-use Rattle.tj_words.specs.Steps.QuietSteps.{MovesRecord}
+use Rattle.tj_words.proofs.Prelude.{IsKept, IsThere, Law, List, LiveCount, MovesRecord, NamesCells, None, Option}
+use Rattle.tj_words.proofs.Prelude.{OwnedLists, Program, Rec, RecordsFit, Slots, Some, ap, arith, dite, drawn_in}
+use Rattle.tj_words.proofs.Prelude.{find_in, get_elem?, hand_of, held_in, held_of, hold, home_in, home_of, made_by}
+use Rattle.tj_words.proofs.Prelude.{made_of, making, now_home, numbers, owned_by, owned_of, phase_of, record_cells}
+use Rattle.tj_words.proofs.Prelude.{record_in, refl, set, some, subst, sym, tag_in, ℕ, ℕ_discrete, ◌+◌, ◌∙◌, ◌≡◌, ◌≢◌}
 use Rattle.tj_words.proofs.Meaning.MeaningGrows.{Meant}
 use Rattle.tj_words.proofs.Meaning.LawMeant.{ground_of, known_of}
 use Rattle.tj_words.proofs.Stores.SeatLists.{each_else, of_seat_set, of_seat_else}
@@ -18,6 +14,8 @@ use Rattle.tj_words.proofs.Holders.SeatTasks.{hold_here, hold_else, noted_turned
 use Rattle.tj_words.proofs.Holders.HeldChanges.{find_here, find_else, walks_held}
 use Rattle.tj_words.proofs.Events.StepFacts.{facts_same}
 use Rattle.tj_words.proofs.Events.QuietMoves.{record_shown}
+use Rattle.tj_words.specs.declared.phase.Phase.TheVariants as phase
+use Rattle.tj_words.specs.declared.view.Does.TheVariants as does
 
 module _ {B : Type 0} {program : Program B} {cells : ℕ} {x : Contents B} (r : Law program cells x) (id t : ℕ)
     (k : Custody B) (h : IsHeldWith x id t k) (its : k.task ≡ t) (unborn : k.does ≡ does.Unborn) (c : Rec B)

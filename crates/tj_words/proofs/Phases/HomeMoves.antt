@@ -8,8 +8,6 @@ use Rattle.tj_words.proofs.Prelude.{dite, does_cells, drawn_in, find_in, get_ele
 use Rattle.tj_words.proofs.Prelude.{home_of, made_by, making, numbers, owned_by, owned_of, phase_sort, put, record_in}
 use Rattle.tj_words.proofs.Prelude.{refl, set, some, sort_shown, subst, sym, tag_in, ℕ, ℕ_discrete, ◌+◌, ◌∙◌, ◌≡◌, ◌≢◌}
 use Rattle.tj_words.proofs.Prelude.{◌≤◌}
-use Rattle.tj_base.specs.declared.cell.Sort.TheVariants as sort
-use Rattle.tj_words.specs.declared.phase.Phase.TheVariants as phase
 use Rattle.tj_words.proofs.Cells.HandChanges.{births_on}
 use Rattle.tj_words.proofs.Phases.PhaseSorts.{sorts_same}
 use Rattle.tj_words.proofs.Stores.StoreSteps.{put_here, put_else}
@@ -17,6 +15,8 @@ use Rattle.tj_words.proofs.Stores.SeatLists.{back, each_set, each_else, of_seat_
 use Rattle.tj_words.proofs.Holders.HeldTasks.{none_some, hand_finds}
 use Rattle.tj_words.proofs.Holders.TaskPlaces.{unheld}
 use Rattle.tj_words.proofs.Holders.SeatTasks.{find_changed, find_same, free_alone}
+use Rattle.tj_base.specs.declared.cell.Sort.TheVariants as sort
+use Rattle.tj_words.specs.declared.phase.Phase.TheVariants as phase
 
 module _ {B : Type 0} {program : Program B} {cells : ℕ} {x : Contents B} (r : Law program cells x) where
   abbrev n : ℕ

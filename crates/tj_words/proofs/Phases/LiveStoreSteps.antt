@@ -1,12 +1,12 @@
 -- The stores of Ready and of Ended as steps of the table.
-use Rattle.tj_words.proofs.Prelude.{Allows, Bool, Key, Program, Rule, SeatMe, Some, ap, none, phase_at, phase_in}
-use Rattle.tj_words.proofs.Prelude.{phase_word, rest, step, subst, sym, ℕ, ◌<◌, ◌≡◌}
-use Rattle.tj_words.specs.declared.phase.Phase.TheVariants as phase
-use Rattle.tj_words.specs.Calls.LiveViews.{released, ended, ready_store, ended_store, MayRelease, MayEnd}
+use Rattle.tj_words.proofs.Prelude.{Allows, Bool, Key, MayEnd, MayRelease, Program, Rule, SeatMe, Some, ap, ended, none}
+use Rattle.tj_words.proofs.Prelude.{phase_at, phase_in, phase_word, released, rest, step, subst, sym, ℕ, ◌<◌, ◌≡◌}
+use Rattle.tj_words.specs.Calls.LiveViews.{ready_store, ended_store}
 use Rattle.tj_words.proofs.Stores.SlotStores.{Acts, acts_keeping}
 use Rattle.tj_words.proofs.Phases.ReadyStores.{ready_stores}
 use Rattle.tj_words.proofs.Phases.EndedStores.{end_stores}
 use Rattle.tj_words.proofs.Stores.GivenSlots.{acts_giving}
+use Rattle.tj_words.specs.declared.phase.Phase.TheVariants as phase
 
 module _ {B : Type 0} (program : Bool → B → Program B) (key : Key B) (slots id : ℕ)
     (m : SeatMe B) (t i word c : ℕ) (inside : t < key.cells) (at : i ≡ phase_at t) (named : c ≡ t) where

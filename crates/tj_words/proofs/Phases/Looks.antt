@@ -1,64 +1,28 @@
 -- What the law reads of the hand and PHASE of a cell is its look. Where a step leaves the looks of all cells, each
 -- part of the law that speaks of hands and phases is kept.
-use Rattle.std.proofs.Common.{◌≡◌, ℕ, zero, suc, ◌≤◌, ◌+◌, ◌≢◌, Bool, set, cond, nat_eq, List, [], ◌∷◌, Option, Some, None}
-use Rattle.std.proofs.Common.{refl, sym, ap, ◌∙◌, subst, inl, arith}
-use mathlib.Core.Option.{some}
-use lib.ListN.{get_elem?}
-use Rattle.tj_base.specs.declared.cell.CellId.{CellId}
-use Rattle.tj_base.specs.declared.cell.Sort.{Sort}
-use Rattle.tj_base.specs.declared.cell.Sort.TheVariants as sort
-use Rattle.tj_core.specs.declared.walk.Way.{Way}
-use Rattle.tj_core.specs.CoreState.{CellStage, promise}
-use Rattle.tj_body.specs.Programs.{Program}
-use Rattle.tj_body.specs.declared.point.Reference.{Reference}
-use Rattle.tj_body.proofs.Lists.{begins_self}
-use Rattle.tj_tree.specs.Forks.{Forks}
-use Rattle.tj_words.specs.declared.head.Head.{Head}
-use Rattle.tj_words.specs.declared.offsets.Once.{Once}
-use Rattle.tj_words.specs.declared.phase.Phase.{Phase}
-use Rattle.tj_words.specs.declared.phase.Phase.TheVariants as phases
-use Rattle.tj_words.specs.declared.phase.Walk.{Walk}
-use Rattle.tj_words.specs.declared.record.Rec.{Rec}
-use Rattle.tj_words.specs.declared.view.Custody.{Custody}
-use Rattle.tj_words.specs.declared.view.Due.{Due}
-use Rattle.tj_words.specs.declared.view.Found.{Found}
-use Rattle.tj_words.specs.declared.view.Hand.{Hand}
-use Rattle.tj_words.specs.declared.view.Push.{Push}
-use Rattle.tj_words.specs.declared.view.Rest.{Rest}
-use Rattle.tj_words.specs.declared.view.SeenWord.{SeenWord}
-use Rattle.tj_words.specs.Words.Lists.{OfSeat, total}
-use Rattle.tj_words.specs.LawParts.Holding.{Slots, held_in, home_in, made_by}
-use Rattle.tj_words.specs.LawParts.Hands.{Hands, IsInHand, IsMarkedRight, IsThere, hand_in, hand_phase, making}
-use Rattle.tj_words.specs.LawParts.LiveCount.{LiveCount, live_tasks}
-use Rattle.tj_words.specs.LawParts.Custodies.{Custodies, OwnedLists, IsKept}
-use Rattle.tj_words.specs.LawParts.Chains.{Chains, IsFirstIn}
-use Rattle.tj_words.specs.LawParts.NamedCells.{NamesCells}
-use Rattle.tj_words.specs.LawParts.OnceWords.{HasInHand, OnceWords}
-use Rattle.tj_words.specs.LawParts.RecordPhases.{IsRecordIn, RecordsFit, WaitersOwn}
-use Rattle.tj_words.specs.LawParts.ShownState.{sort_shown, phase_sort, stage_shown, owner_shown, first_owner, hand_stage}
-use Rattle.tj_words.specs.LawParts.ShownState.{stage_there}
-use Rattle.tj_words.specs.LawParts.TreeWords.{Births, IsForkTree, TreeWords}
-use Rattle.tj_words.specs.LawParts.Contents.{Contents, drawn_in, hand_of, home_of, held_of, tag_in}
-use Rattle.tj_words.specs.Inner.Looks.{look, maker_in, task_in, wait_part, KeepsLooks}
-use Rattle.tj_words.specs.Law.{Law}
+use Rattle.tj_words.proofs.Prelude.{Births, Bool, CellId, CellStage, Chains, Contents, CoreFacts, Custodies, Custody}
+use Rattle.tj_words.proofs.Prelude.{Due, Forks, Found, Hand, Hands, HasInHand, Head, IsFirstIn, IsForkTree, IsInHand}
+use Rattle.tj_words.proofs.Prelude.{IsKept, IsMarkedRight, IsQuiet, IsRecordIn, IsThere, Keeping, KeepsCells, Law, List}
+use Rattle.tj_words.proofs.Prelude.{LiveCount, MarksPromise, NamesCells, None, OfSeat, Once, OnceWords, Option}
+use Rattle.tj_words.proofs.Prelude.{OwnedLists, Phase, Program, Push, Rec, RecordsFit, Reference, Rest, SeenWord, Slots}
+use Rattle.tj_words.proofs.Prelude.{Some, Sort, TreeWords, WaitersOwn, Walk, Way, [], ap, arith, at_put, begins_self}
+use Rattle.tj_words.proofs.Prelude.{cond, drawn_in, first_owner, get_elem?, hand_in, hand_of, hand_phase, hand_stage}
+use Rattle.tj_words.proofs.Prelude.{held_in, held_of, home_in, home_of, inl, live_tasks, look, made_by, making, nat_eq}
+use Rattle.tj_words.proofs.Prelude.{owner_shown, parts_of, phase_sort, promise, put, put_else, put_here, refl, set}
+use Rattle.tj_words.proofs.Prelude.{set_again, some, sort_shown, stage_shown, stage_there, subst, suc, sym, tag_in}
+use Rattle.tj_words.proofs.Prelude.{total, zero, ℕ, ◌+◌, ◌∙◌, ◌∷◌, ◌≡◌, ◌≢◌, ◌≤◌}
+use Rattle.tj_words.specs.Inner.Looks.{maker_in, task_in, wait_part, KeepsLooks}
 use Rattle.tj_words.proofs.Cells.HandChanges.{births_on, hands_on, held_sort, once_on, tree_on}
-use Rattle.atomic_table.proofs.Lists.{set_again}
-use Rattle.tj_base.specs.Puts.{put}
-use Rattle.tj_base.proofs.Puts.{at_put, put_here, put_else}
 use Rattle.tj_words.proofs.Cells.SeatHands.{hand_kept, hand_set, makes_kept, other_cell, own_cell}
 use Rattle.tj_words.proofs.Stores.SeatLists.{of_seat_set}
 use Rattle.tj_words.proofs.Stores.WordStores.{hand_here}
 use Rattle.tj_words.proofs.Holders.HeldTasks.{hand_found, none_some, one_some}
-use Rattle.tj_words.specs.Steps.StepEvents.{IsQuiet}
-use Rattle.tj_words.specs.Steps.OneStates.{KeepsCells}
-use Rattle.tj_words.specs.Steps.QuietSteps.{MarksPromise}
-use Rattle.tj_words.specs.Steps.ShownParts.{parts_of}
 use Rattle.tj_words.proofs.Stores.Columns.{at_two}
 use Rattle.tj_words.proofs.Events.QuietCells.{same_shown}
-use Rattle.tj_core.specs.CoreFacts.{CoreFacts}
-use Rattle.tj_words.specs.CallLaws.EventCalls.{Keeping}
 use Rattle.tj_words.proofs.Meaning.LawMeant.{ground_of, law_meant}
 use Rattle.tj_words.proofs.Meaning.MeaningGrows.{wider, grew_wider, meaning_grows}
+use Rattle.tj_base.specs.declared.cell.Sort.TheVariants as sort
+use Rattle.tj_words.specs.declared.phase.Phase.TheVariants as phases
 
 out_by : (o o' : Option Hand) → maker_in o' ≡ maker_in o → o ≡ None → o' ≡ None
 out_by o None e q = refl

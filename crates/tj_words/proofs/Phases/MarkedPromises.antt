@@ -1,34 +1,18 @@
 -- The store of Promise into PHASE of a promise in hand keeps the law: the cell looks as before.
-use Rattle.std.proofs.Common.{◌≡◌, ℕ, ◌<◌, Bool, true, false, set, Option, Some, refl, sym, ap, ◌∙◌, subst}
-use Rattle.std.proofs.Common.{arith}
-use mathlib.Core.Option.{some, none}
-use lib.ListN.{get_elem?}
-use Rattle.atomic_table.specs.Table.{State, step, Allows}
-use Rattle.atomic_table.proofs.Lists.{at_map}
-use Rattle.tj_base.specs.Puts.{put}
-use Rattle.tj_base.specs.declared.cell.Sort.TheVariants as sort
-use Rattle.tj_body.specs.Programs.{Program}
-use Rattle.tj_words.specs.declared.phase.Phase.TheVariants as phase
-use Rattle.tj_words.specs.declared.record.Rec.{Rec}
-use Rattle.tj_words.specs.declared.table.Key.{Key}
-use Rattle.tj_words.specs.declared.view.Hand.{Hand}
-use Rattle.tj_words.specs.declared.view.View.{View}
-use Rattle.tj_words.specs.Words.Offsets.{phase_at}
-use Rattle.tj_words.specs.Words.Phases.{phase_in, phase_word}
-use Rattle.tj_words.specs.LawParts.Hands.{IsMarkedRight, hand_phase}
-use Rattle.tj_words.specs.Inner.Looks.{look}
-use Rattle.tj_words.specs.LawParts.Contents.{Contents, contents_of, seats_have, words_say}
-use Rattle.tj_words.specs.Law.{Law, Rule}
-use Rattle.tj_words.specs.SeatViews.SeatSteps.{SeatMe}
-use Rattle.tj_words.specs.Calls.DrawViews.{MayMark, mark, marked_promise, mark_store}
-use Rattle.tj_words.specs.CallLaws.EventCalls.{Keeping}
-use Rattle.tj_words.specs.Steps.QuietSteps.{MarksPromise}
+use Rattle.tj_words.proofs.Prelude.{Allows, Bool, Contents, Hand, IsMarkedRight, Keeping, Key, Law, MarksPromise}
+use Rattle.tj_words.proofs.Prelude.{MayMark, Option, Program, Rec, Rule, SeatMe, Some, State, View, ap, arith, at_map}
+use Rattle.tj_words.proofs.Prelude.{contents_of, false, get_elem?, hand_phase, look, mark, marked_promise, none}
+use Rattle.tj_words.proofs.Prelude.{phase_at, phase_in, phase_word, put, refl, seats_have, set, some, step, subst, sym}
+use Rattle.tj_words.proofs.Prelude.{true, words_say, ℕ, ◌<◌, ◌∙◌, ◌≡◌}
+use Rattle.tj_words.specs.Calls.DrawViews.{mark_store}
 use Rattle.tj_words.proofs.Phases.Looks.{hands_now, law_put, looked, looks_put, making_put, put_keeps}
 use Rattle.tj_words.proofs.Stores.StepContents.{stored}
 use Rattle.tj_words.proofs.Stores.SeatContents.{seats_same}
 use Rattle.tj_words.proofs.Stores.SeatLists.{back}
 use Rattle.tj_words.proofs.Stores.StoreSteps.{Stores, step_allowed, store_word}
 use Rattle.tj_words.proofs.Stores.TableWords.{Phase}
+use Rattle.tj_base.specs.declared.cell.Sort.TheVariants as sort
+use Rattle.tj_words.specs.declared.phase.Phase.TheVariants as phase
 
 pub marked_look : {B : Type 0} {program : Program B} {cells : ℕ} {x : Contents B} (r : Law program cells x) (id : ℕ)
     (h : Hand) → get_elem? x.seats.hands id ≡ some (Some h) → h.sort ≡ sort.Promise

@@ -1,20 +1,14 @@
 -- The law after a store of PHASE by which a task that its seat holds does something else from then on: it walks, or has
 -- alarmed.
-use Rattle.tj_words.proofs.Prelude.{AreThere, Begins, CellId, Contents, CoreFacts, Custody, Does, Hand, IsBegun, IsCell}
-use Rattle.tj_words.proofs.Prelude.{IsHeldWith, IsIn, IsParkedOn, IsTurned, Law, List, LiveCount, None, OwnedLists}
-use Rattle.tj_words.proofs.Prelude.{Phase, Program, Reference, Some, Walk, Way, ap, arith, at_longer, core_shown, dite}
-use Rattle.tj_words.proofs.Prelude.{does_cells, drawn_in, get_elem?, hand_in, hand_of, hold, home_of, inl, phase_of}
-use Rattle.tj_words.proofs.Prelude.{phase_sort, put, reference_of, refl, set, some, some-injective, sort_shown, subst}
-use Rattle.tj_words.proofs.Prelude.{sym, tag_in, wait_in, ℕ, ℕ_discrete, ◌∙◌, ◌≡◌, ◌≢◌}
-use Rattle.std.proofs.Common.{◌&&◌}
-use Rattle.tj_base.specs.ForkOrder.{before}
-use Rattle.tj_core.specs.Events.{way_if}
-use Rattle.tj_words.specs.declared.phase.Phase.TheVariants as phase
-use Rattle.tj_words.specs.declared.view.Does.TheVariants as does
-use Rattle.tj_words.specs.Steps.WalkSteps.{way_by, is_task_sort}
-use Rattle.tj_words.specs.Calls.WaitViews.{now_does}
+use Rattle.tj_words.proofs.Prelude.{AreThere, Begins, BirthsBy, CellId, Contents, CoreFacts, Custody, Does, Hand}
+use Rattle.tj_words.proofs.Prelude.{IsBegun, IsCell, IsHeldWith, IsIn, IsParkedOn, IsTurned, Law, List, LiveCount, None}
+use Rattle.tj_words.proofs.Prelude.{OwnedLists, Phase, Program, Reference, Some, Walk, Way, ap, arith, at_longer}
+use Rattle.tj_words.proofs.Prelude.{before, core_shown, dite, does_cells, drawn_in, get_elem?, hand_in, hand_of, hold}
+use Rattle.tj_words.proofs.Prelude.{home_of, inl, is_task_sort, now_does, phase_of, phase_sort, put, reference_of, refl}
+use Rattle.tj_words.proofs.Prelude.{set, some, some-injective, sort_shown, subst, sym, tag_in, wait_in, way_by, way_if}
+use Rattle.tj_words.proofs.Prelude.{ℕ, ℕ_discrete, ◌&&◌, ◌∙◌, ◌≡◌, ◌≢◌}
 use Rattle.tj_words.proofs.Stores.StoreSteps.{put_here, put_else}
-use Rattle.tj_words.proofs.Stores.SeatLists.{inside}
+use Rattle.tj_words.proofs.Stores.SeatLists.{inside, back}
 use Rattle.tj_words.proofs.Holders.HeldTasks.{none_some, one_some, hand_finds, at_index}
 use Rattle.tj_words.proofs.Holders.TaskPlaces.{begun_there, custody, held_drawn}
 use Rattle.tj_words.proofs.Holders.SeatTasks.{noted_turned}
@@ -22,9 +16,9 @@ use Rattle.tj_words.proofs.Holders.HeldChanges.{owned_held, made_held, hands_hel
 use Rattle.tj_words.proofs.Waiters.ChainFacts.{held_free}
 use Rattle.tj_words.proofs.Waiters.ChainPhases.{chains_turn}
 use Rattle.tj_words.proofs.Holders.RecordSteps.{out_fit}
-use Rattle.tj_words.proofs.Stores.SeatLists.{back}
-use Rattle.tj_words.specs.LawParts.TreeWords.{BirthsBy}
 use Rattle.tj_words.proofs.Phases.PhaseSorts.{does_sort, sorts_same}
+use Rattle.tj_words.specs.declared.phase.Phase.TheVariants as phase
+use Rattle.tj_words.specs.declared.view.Does.TheVariants as does
 
 -- what a list of cells has at an index
 reference_there : (l : List Reference) (c : ℕ) (y : Reference) → IsCell l c y → reference_of l c ≡ y

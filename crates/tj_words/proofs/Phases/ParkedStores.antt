@@ -1,15 +1,10 @@
 -- The store of Parked keeps the rule: the record comes home, the task leaves its seat, and its push is to come.
-use Rattle.tj_words.proofs.Prelude.{None, Bool, Contents, Custody, EventKeepsFacts, IsHeldWith, IsParkedOn, IsPhaseWord, Key}
-use Rattle.tj_words.proofs.Prelude.{Law, List, Option, Phase, Program, Push, Rec, Rule, SeatMe, SeatsHave, Slots, Some}
-use Rattle.tj_words.proofs.Prelude.{State, View, Way, ap, arith, at_map, cell, contents_of, get_elem?, let_go}
-use Rattle.tj_words.proofs.Prelude.{live_part, phase_at, phase_in, phase_of, put, refl, seats_have, set, some, subst}
-use Rattle.tj_words.proofs.Prelude.{suc, sym, ℕ, ◌<◌, ◌∙◌, ◌∷◌, ◌≡◌}
-use Rattle.tj_words.specs.declared.phase.Walk.TheVariants as walk
-use Rattle.tj_words.specs.declared.phase.Phase.TheVariants as phase
-use Rattle.tj_words.specs.declared.view.Does.TheVariants as does
-use Rattle.tj_words.specs.Calls.ParkSteps.{new_push}
-use Rattle.tj_words.specs.Steps.WalkSteps.{StoresParked}
-use Rattle.tj_words.specs.Calls.WaitViews.{parked, MayPark}
+use Rattle.tj_words.proofs.Prelude.{Bool, Contents, Custody, EventKeepsFacts, IsHeldWith, IsParkedOn, IsPhaseWord}
+use Rattle.tj_words.proofs.Prelude.{Keeping, Key, Law, List, MayPark, None, Option, Phase, Program, Push, Rec, Rule}
+use Rattle.tj_words.proofs.Prelude.{SeatMe, SeatsHave, Slots, Some, State, StoresParked, View, Way, ap, arith, at_map}
+use Rattle.tj_words.proofs.Prelude.{cell, contents_of, get_elem?, let_go, live_part, new_push, parked, phase_at}
+use Rattle.tj_words.proofs.Prelude.{phase_in, phase_of, put, refl, seats_have, set, some, subst, suc, sym, ℕ, ◌<◌, ◌∙◌}
+use Rattle.tj_words.proofs.Prelude.{◌∷◌, ◌≡◌}
 use Rattle.tj_words.proofs.Stores.SeatContents.{seats_same}
 use Rattle.tj_words.proofs.Stores.StoreSteps.{put_here, put_else}
 use Rattle.tj_words.proofs.Stores.SlotStores.{StoresWith}
@@ -23,9 +18,11 @@ use Rattle.tj_words.proofs.Events.WalkEvents.{settle_shown}
 use Rattle.tj_words.proofs.Phases.WaitStores.{more_seat}
 use Rattle.tj_words.proofs.Holders.LaidRecords.{tokens_at, tasks_at, laid_slots, as_many, meant, departs_laid, fits}
 use Rattle.tj_words.proofs.Phases.Departures.{Departs, after_leaving, does_leave, law_leaves}
-use Rattle.tj_words.specs.CallLaws.EventCalls.{Keeping}
 use Rattle.tj_words.proofs.Calls.KeptCells.{kept_moved}
 use Rattle.tj_words.proofs.Stores.StepContents.{stored_with}
+use Rattle.tj_words.specs.declared.phase.Walk.TheVariants as walk
+use Rattle.tj_words.specs.declared.phase.Phase.TheVariants as phase
+use Rattle.tj_words.specs.declared.view.Does.TheVariants as does
 use Rattle.tj_words.proofs.Stores.TableWords as table_word
 
 -- a wait as it was while its task walked

@@ -1,33 +1,21 @@
 -- The exchanges of PHASE keep the rule: a claim, a wake, and the way back of a task that its seat had parked.
-use Rattle.tj_words.proofs.Prelude.{About, Allows, AreApart, AreCells, AreThere, Backing, Bool, CellId, Chains}
-use Rattle.tj_words.proofs.Prelude.{Contents, CoreFacts, Custody, EventKeepsFacts, Filled, HasAlarmed, Holds, IsBegun}
-use Rattle.tj_words.proofs.Prelude.{IsCustody, IsFirstIn, IsIn, IsKept, IsMoved, IsPhaseWord, IsPush, IsRecordIn}
-use Rattle.tj_words.proofs.Prelude.{IsRest, IsThere, Key, Law, LiesAtHome, List, LiveCount, Meaning, None, OfSeat}
-use Rattle.tj_words.proofs.Prelude.{Option, Phase, Program, Push, Rec, Rest, Rule, SeatMe, SeatsHave, Slots, Some}
-use Rattle.tj_words.proofs.Prelude.{State, View, Walk, Way, ap, arith, at_map, begins_self, bits_in, cell, contents_of}
-use Rattle.tj_words.proofs.Prelude.{core_shown, dite, does_cells, does_first, drawn_in, get_elem?, hand_of, held_in}
-use Rattle.tj_words.proofs.Prelude.{hold, home_in, home_of, inl, inr, length, length-set, let_go, live_part, made_by}
-use Rattle.tj_words.proofs.Prelude.{map, none, numbers, owned_by, parked_phase, phase_at, phase_in, phase_sort}
-use Rattle.tj_words.proofs.Prelude.{phase_word, put, record_cells, refl, rest_of, seats_have, set, set_again, set_else}
-use Rattle.tj_words.proofs.Prelude.{some, step, subst, suc, sym, tag_in, total, without_push, word, words_say, ℕ}
-use Rattle.tj_words.proofs.Prelude.{ℕ_discrete, ⊎_elim, ◌++◌, ◌+◌, ◌-◌, ◌<◌, ◌∙◌, ◌∷◌, ◌≡◌, ◌≢◌, ◌≤◌}
-use Rattle.std.proofs.Common.{drop}
-use Rattle.std.proofs.Common.{eqb}
-use prog.Atomic.{either}
-use Rattle.atomic_table.specs.Table.{carried_after}
-use Rattle.atomic_table.proofs.Lists.{exchanged}
-use Rattle.tj_base.specs.declared.cell.Sort.TheVariants as sort
-use Rattle.tj_core.specs.Events.{raised_by_way}
-use Rattle.tj_words.specs.declared.offsets.Once.TheVariants as once
-use Rattle.tj_words.specs.declared.phase.Walk.TheVariants as walk
-use Rattle.tj_words.specs.declared.phase.Phase.TheVariants as phase
-use Rattle.tj_words.specs.declared.view.Noted.TheVariants as note
-use Rattle.tj_words.specs.LawParts.Lots.{IsSpent, IsWithinLot}
+use Rattle.tj_words.proofs.Prelude.{About, Allows, AreApart, AreCells, AreThere, Backing, Bool, CellId, Chains, Claims}
+use Rattle.tj_words.proofs.Prelude.{ClaimsTask, ClearsWait, Contents, CoreFacts, Custody, EventKeepsFacts, Filled}
+use Rattle.tj_words.proofs.Prelude.{GoesBack, HasAlarmed, Holds, IsBegun, IsCustody, IsFirstIn, IsIn, IsKept, IsMoved}
+use Rattle.tj_words.proofs.Prelude.{IsPhaseWord, IsPush, IsRecordIn, IsRest, IsSpent, IsThere, IsWithinLot, Keeping}
+use Rattle.tj_words.proofs.Prelude.{Key, Law, LiesAtHome, List, LiveCount, MayGoBack, MaySwap, MayWake, Meaning, None}
+use Rattle.tj_words.proofs.Prelude.{OfSeat, Option, Phase, Program, Push, Rec, Reference, Rest, Rule, SeatMe, SeatsHave}
+use Rattle.tj_words.proofs.Prelude.{Slots, Some, State, Swaps, View, Wakes, Walk, Way, ap, arith, at_map, begins_self}
+use Rattle.tj_words.proofs.Prelude.{bits_in, carried_after, cell, contents_of, core_shown, dite, does_cells, does_first}
+use Rattle.tj_words.proofs.Prelude.{drawn_in, either, eqb, exchanged, get_elem?, hand_of, held_in, hold, home_in}
+use Rattle.tj_words.proofs.Prelude.{home_of, inl, inr, length, let_go, live_part, made_by, map, none, numbers, owned_by}
+use Rattle.tj_words.proofs.Prelude.{parked_phase, parked_way, phase_at, phase_in, phase_sort, phase_swap, phase_word}
+use Rattle.tj_words.proofs.Prelude.{put, raised_by_way, record_cells, refl, rest_of, seats_have, set, set_again}
+use Rattle.tj_words.proofs.Prelude.{set_else, some, step, stepped_on, subst, suc, sym, tag_in, total, without_push}
+use Rattle.tj_words.proofs.Prelude.{word, words_say, ℕ, ℕ_discrete, ◌++◌, ◌+◌, ◌-◌, ◌<◌, ◌∙◌, ◌∷◌, ◌≡◌, ◌≢◌, ◌≤◌}
+use Rattle.std.proofs.Common.{length-set, ⊎_elim, drop}
 use Rattle.tj_words.specs.Calls.TakenRecords.{custody_of, took_record, IsKnownRecord, TakesRecord}
-use Rattle.tj_words.specs.Calls.ExchangeViews.{without_first, woke_first, went_back, KnowsTable, MayClear}
-use Rattle.tj_words.specs.Calls.ExchangeViews.{MayWake, MayGoBack, MayClearFrom, MaySwap}
-use Rattle.tj_words.specs.Calls.ExchangeViews.{Claims, Wakes, GoesBack, Swaps, phase_swap}
-use Rattle.tj_words.specs.Calls.ParkSteps.{parked_way}
+use Rattle.tj_words.specs.Calls.ExchangeViews.{without_first, woke_first, went_back, KnowsTable, MayClear, MayClearFrom}
 use Rattle.tj_words.proofs.Waiters.ChainHeads.{one_cell}
 use Rattle.tj_words.proofs.Waiters.ChainFacts.{IsNotParked, ready_free, running_free}
 use Rattle.tj_words.proofs.Waiters.ChainLists.{no_some}
@@ -50,22 +38,21 @@ use Rattle.tj_words.proofs.Stores.SeatContents.{seats_same}
 use Rattle.tj_words.proofs.Stores.SeatLists.{back, of_seat_here}
 use Rattle.tj_words.proofs.Stores.StepContents.{stored, stored_with}
 use Rattle.tj_words.proofs.Calls.KeptCells.{kept_moved}
-use Rattle.tj_words.specs.CallLaws.EventCalls.{Keeping}
-use Rattle.tj_words.specs.Steps.QuietSteps.{ClaimsTask}
-use Rattle.tj_words.specs.Steps.WalkSteps.{ClearsWait}
-use Rattle.tj_words.specs.SeatViews.Views.{stepped_on}
-use Rattle.tj_body.specs.declared.point.Reference.{Reference}
 use Rattle.tj_words.proofs.Holders.SeatTasks.{hold_here, hold_else, same_but, taken_moved}
 use Rattle.tj_words.proofs.Stores.SlotStores.{StoresWith, Acts, acts_keeping, acts_taking, store_word_with}
 use Rattle.tj_words.proofs.Seating.Splitting.{total_set}
 use Rattle.tj_words.proofs.Events.StepFacts.{facts_after, facts_same}
-use Rattle.tj_words.proofs.Stores.TableWords as table_word
 use Rattle.tj_words.proofs.Stores.StoreSteps.{put_here, put_else}
 use Rattle.tj_words.proofs.Holders.TakingRecords.{first_phase, first_runs, first_calm, first_cells, slot_has}
-use Rattle.tj_words.proofs.Holders.TakingRecords.{owns_itself}
-use Rattle.tj_words.proofs.Holders.TakingRecords.{learnt}
+use Rattle.tj_words.proofs.Holders.TakingRecords.{owns_itself, learnt}
 use Rattle.tj_words.proofs.Holders.TaskPlaces.{begun_there, unheld}
 use Rattle.tj_words.proofs.Events.WaitClears.{begun_kept, clear_shown}
+use Rattle.tj_base.specs.declared.cell.Sort.TheVariants as sort
+use Rattle.tj_words.specs.declared.offsets.Once.TheVariants as once
+use Rattle.tj_words.specs.declared.phase.Walk.TheVariants as walk
+use Rattle.tj_words.specs.declared.phase.Phase.TheVariants as phase
+use Rattle.tj_words.specs.declared.view.Noted.TheVariants as note
+use Rattle.tj_words.proofs.Stores.TableWords as table_word
 
 -- a task is parked on one cell, in one way
 same_park : (p p' : ℕ) (way way' : Way) → parked_phase p way ≡ parked_phase p' way' → (p ≡ p') × (way ≡ way')

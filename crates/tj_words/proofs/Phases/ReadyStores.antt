@@ -1,31 +1,10 @@
 -- The store of Ready keeps the rule: the task leaves its seat, with its record at home.
-use Rattle.std.proofs.Common.{◌≡◌, ℕ, ◌-◌, ◌<◌, Bool, set}
-use Rattle.std.proofs.Common.{Option, refl, sym, ap, ◌∙◌, subst, inl, arith}
-use mathlib.Core.Option.{some, some-injective}
-use lib.ListN.{get_elem?}
-use Rattle.atomic_table.specs.Table.{State}
-use Rattle.tj_base.specs.Puts.{put}
-use Rattle.tj_body.specs.Programs.{Program}
-use Rattle.tj_words.specs.declared.phase.Phase.{Phase}
-use Rattle.tj_words.specs.declared.phase.Phase.TheVariants as phase
-use Rattle.tj_words.specs.declared.record.Rec.{Rec}
-use Rattle.tj_words.specs.declared.table.Key.{Key}
-use Rattle.tj_words.specs.declared.view.Custody.{Custody}
-use Rattle.tj_words.specs.declared.view.Does.TheVariants as does
-use Rattle.tj_words.specs.declared.view.View.{View}
-use Rattle.tj_words.specs.LawParts.Holding.{phase_of, held_in}
-use Rattle.tj_words.specs.LawParts.Hands.{IsThere}
-use Rattle.tj_words.specs.LawParts.NamedCells.{record_cells, AreThere}
-use Rattle.tj_words.specs.LawParts.Custodies.{IsLaid}
-use Rattle.tj_words.specs.LawParts.RecordPhases.{IsRecordIn}
-use Rattle.tj_words.specs.Words.Offsets.{word, phase_at}
-use Rattle.tj_words.specs.Words.Phases.{phase_word, phase_in}
-use Rattle.tj_words.specs.LawParts.LiveCount.{live_part}
-use Rattle.tj_words.specs.LawParts.Contents.{SeatsHave, seats_have, Contents, contents_of, drawn_in, tag_in, hand_of}
-use Rattle.tj_words.specs.LawParts.Contents.{home_of}
-use Rattle.tj_words.specs.Law.{Law, Rule}
-use Rattle.tj_words.specs.Calls.LiveViews.{released, MayRelease}
-use Rattle.tj_words.specs.Steps.StepEvents.{IsHeldWith, wait_in}
+use Rattle.tj_words.proofs.Prelude.{AreThere, Bool, Contents, Custody, IsHeldWith, IsLaid, IsRecordIn, IsThere, Keeping}
+use Rattle.tj_words.proofs.Prelude.{Key, Law, MayRelease, None, Option, Phase, Program, Rec, ReleasesTask, Rule}
+use Rattle.tj_words.proofs.Prelude.{SeatsHave, Some, State, View, ap, arith, contents_of, drawn_in, get_elem?, hand_of}
+use Rattle.tj_words.proofs.Prelude.{held_in, home_of, inl, let_go, live_part, phase_at, phase_in, phase_of, phase_word}
+use Rattle.tj_words.proofs.Prelude.{put, record_cells, refl, released, seats_have, set, some, some-injective, subst}
+use Rattle.tj_words.proofs.Prelude.{sym, tag_in, wait_in, word, ℕ, ◌-◌, ◌<◌, ◌∙◌, ◌≡◌}
 use Rattle.tj_words.proofs.Stores.StoreSteps.{put_here, put_else}
 use Rattle.tj_words.proofs.Stores.SlotStores.{StoresWith}
 use Rattle.tj_words.proofs.Holders.HeldTasks.{none_some, one_some}
@@ -40,14 +19,12 @@ use Rattle.tj_words.proofs.Events.QuietMoves.{release_shown}
 use Rattle.tj_words.proofs.Holders.LaidRecords.{tokens_at, tasks_at}
 use Rattle.tj_words.proofs.Phases.Departures.{Departs, after_leaving, does_leave, law_leaves}
 use Rattle.tj_words.proofs.Holders.LeftSeats.{left_seat, left_stores}
-use Rattle.tj_words.specs.Steps.QuietSteps.{ReleasesTask}
 use Rattle.tj_words.proofs.Stores.StepContents.{stored}
-use Rattle.tj_words.specs.CallLaws.EventCalls.{Keeping}
 use Rattle.tj_words.proofs.Calls.KeptCells.{kept_moved}
-use Rattle.tj_words.proofs.Stores.TableWords as table_word
 use Rattle.tj_words.proofs.Stores.SeatContents.{seats_same}
-use Rattle.tj_words.specs.SeatViews.TaskLists.{let_go}
-use Rattle.std.proofs.Common.{None, Some}
+use Rattle.tj_words.specs.declared.phase.Phase.TheVariants as phase
+use Rattle.tj_words.specs.declared.view.Does.TheVariants as does
+use Rattle.tj_words.proofs.Stores.TableWords as table_word
 
 module _ {B : Type 0} (program : Bool → B → Program B) (key : Key B) (s : State (Option (Rec B)) (View B))
     (r : Rule program key s) (id t : ℕ) (inside : t < key.cells) (v : View B) (at : get_elem? s.views id ≡ some v) where

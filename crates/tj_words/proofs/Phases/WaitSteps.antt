@@ -1,27 +1,15 @@
 -- The step call that stores a wait into PHASE is allowed, whatever the table is.
-use Rattle.std.proofs.Common.{◌≡◌, ℕ, ◌<◌, Bool, refl, sym, ap, ◌∙◌, subst, Some}
-use mathlib.Core.Option.{none}
-use Rattle.atomic_table.specs.Table.{step, rest, Allows}
-use Rattle.tj_body.specs.Programs.{Program}
-use Rattle.tj_core.specs.Laws.{EventKeepsFacts}
-use Rattle.tj_core.specs.declared.walk.Way.{Way}
-use Rattle.tj_words.specs.declared.phase.Walk.{Walk}
-use Rattle.tj_words.specs.declared.phase.Walk.TheVariants as walk
-use Rattle.tj_words.specs.declared.phase.Phase.TheVariants as phase
-use Rattle.tj_words.specs.declared.table.Key.{Key}
-use Rattle.tj_words.specs.Words.Codes.{IsPhaseWord}
-use Rattle.tj_words.specs.Law.{Rule}
-use Rattle.tj_words.specs.Words.Lists.{cell}
-use Rattle.tj_words.specs.Words.Offsets.{phase_at}
-use Rattle.tj_words.specs.Words.Phases.{phase_word, phase_in}
-use Rattle.tj_words.specs.SeatViews.SeatSteps.{SeatMe}
-use Rattle.tj_words.specs.Steps.StepEvents.{wait_in}
-use Rattle.tj_words.specs.Calls.WaitViews.{MayPutWait, PutsWait, PutsIfWait, wait_store, published, alarmed, parked}
+use Rattle.tj_words.proofs.Prelude.{Allows, Bool, EventKeepsFacts, IsPhaseWord, Key, Program, PutsIfWait, Rule, SeatMe}
+use Rattle.tj_words.proofs.Prelude.{Some, Walk, Way, ap, cell, none, parked, phase_at, phase_in, phase_word, published}
+use Rattle.tj_words.proofs.Prelude.{refl, rest, step, subst, sym, wait_in, ℕ, ◌<◌, ◌∙◌, ◌≡◌}
+use Rattle.tj_words.specs.Calls.WaitViews.{MayPutWait, PutsWait, wait_store, alarmed}
 use Rattle.tj_words.proofs.Holders.HeldTasks.{one_some}
 use Rattle.tj_words.proofs.Stores.SlotStores.{Acts, acts_keeping}
 use Rattle.tj_words.proofs.Stores.GivenSlots.{acts_giving}
 use Rattle.tj_words.proofs.Phases.WaitStores.{published_stores, alarmed_stores}
 use Rattle.tj_words.proofs.Phases.ParkedStores.{parked_stores}
+use Rattle.tj_words.specs.declared.phase.Walk.TheVariants as walk
+use Rattle.tj_words.specs.declared.phase.Phase.TheVariants as phase
 
 -- the word of a wait for one of so many cells
 wait_word : (cells p word : ℕ) (way : Way) (w : Walk) → p < cells → phase_in word ≡ phase.Waiting (cell p) way w

@@ -1,49 +1,16 @@
 -- The stores of Walking and of Alarmed into PHASE keep the rule.
-use Rattle.std.proofs.Common.{◌≡◌, ℕ, suc, ◌<◌, Bool, set, Option, Some, refl, sym, ap, ◌∙◌}
-use Rattle.std.proofs.Common.{subst, ⊎_elim, arith}
-use mathlib.Core.Option.{some}
-use lib.ListN.{get_elem?}
-use Rattle.atomic_table.specs.Table.{State}
-use Rattle.atomic_table.proofs.Lists.{at_map}
-use Rattle.tj_body.specs.Points.{IsIn}
-use Rattle.tj_body.specs.Programs.{Program}
-use Rattle.tj_core.specs.Laws.{EventKeepsFacts}
-use Rattle.tj_core.specs.declared.walk.Way.{Way}
-use Rattle.tj_words.specs.declared.phase.Walk.TheVariants as walk
-use Rattle.tj_words.specs.declared.phase.Phase.TheVariants as phase
-use Rattle.tj_words.specs.declared.record.Rec.{Rec}
-use Rattle.tj_words.specs.declared.table.Key.{Key}
-use Rattle.tj_words.specs.declared.view.About.{About}
-use Rattle.tj_words.specs.declared.view.Custody.{Custody}
-use Rattle.tj_words.specs.declared.view.View.{View}
-use Rattle.tj_words.specs.Words.Lists.{cell}
-use Rattle.tj_words.specs.LawParts.Holding.{phase_of, held_in}
-use Rattle.tj_words.specs.Words.Offsets.{phase_at}
-use Rattle.tj_words.specs.Words.Phases.{phase_in}
-use Rattle.tj_words.specs.Words.Codes.{IsPhaseWord}
-use Rattle.tj_words.specs.LawParts.LiveCount.{live_part}
-use Rattle.tj_words.specs.SeatViews.TaskLists.{hold}
-use Rattle.tj_words.specs.Steps.StepEvents.{IsBegun, MayAct, IsHeldWith}
-use Rattle.tj_words.specs.Steps.WalkSteps.{MayWait, PublishesWait, StoresAlarm}
-use Rattle.tj_words.specs.LawParts.Hands.{IsThere}
-use Rattle.tj_words.specs.LawParts.NamedCells.{does_cells}
-use Rattle.tj_words.specs.LawParts.ShownState.{does_walk}
-use Rattle.tj_core.specs.Events.{start_walk}
-use Rattle.tj_core.specs.declared.walk.Walker.{Walker}
-use Rattle.tj_core.specs.declared.walk.Way.TheVariants as ways
-use Rattle.tj_words.specs.declared.view.Does.{Does}
-use Rattle.tj_words.specs.declared.view.Does.TheVariants as does
+use Rattle.tj_words.proofs.Prelude.{About, Bool, Contents, Custody, Does, EventKeepsFacts, IsBegun, IsHeldWith, IsIn}
+use Rattle.tj_words.proofs.Prelude.{IsPhaseWord, IsSeat, IsThere, Key, Law, MayAct, MayPublishWait, MayStoreAlarm}
+use Rattle.tj_words.proofs.Prelude.{MayWait, Option, Program, PublishesWait, Rec, Rule, SeatsHave, Some, State}
+use Rattle.tj_words.proofs.Prelude.{StoresAlarm, View, Walker, Way, ap, arith, at_map, cell, contents_of, does_cells}
+use Rattle.tj_words.proofs.Prelude.{does_walk, drawn_in, get_elem?, hand_of, held_in, hold, live_part, now_alarmed}
+use Rattle.tj_words.proofs.Prelude.{now_does, phase_at, phase_in, phase_of, published, put, refl, seats_have, set, some}
+use Rattle.tj_words.proofs.Prelude.{start_walk, subst, suc, sym, words_say, ℕ, ⊎_elim, ◌<◌, ◌∙◌, ◌≡◌}
 use Rattle.tj_words.proofs.Holders.HeldChanges.{held_task}
-use Rattle.tj_words.specs.LawParts.Contents.{SeatsHave, seats_have, Contents, contents_of, drawn_in, hand_of}
-use Rattle.tj_words.specs.Law.{Law, Rule, IsSeat}
-use Rattle.tj_words.specs.Calls.WaitViews.{now_does, now_alarmed, published, alarmed}
-use Rattle.tj_words.specs.Calls.WaitViews.{HasWalker, MayPublishWait, MayStoreAlarm}
+use Rattle.tj_words.specs.Calls.WaitViews.{alarmed, HasWalker}
 use Rattle.tj_words.proofs.Stores.SeatContents.{seats_same}
-use Rattle.tj_base.specs.Puts.{put}
-use Rattle.tj_words.specs.LawParts.Contents.{words_say}
 use Rattle.tj_words.proofs.Phases.PhaseStores.{phase_stores}
 use Rattle.tj_words.proofs.Stores.StepContents.{stored}
-use Rattle.tj_words.proofs.Stores.TableWords as table_word
 use Rattle.tj_words.proofs.Stores.SlotStores.{StoresWith}
 use Rattle.tj_words.proofs.Waiters.LiveSteps.{backing_token, count_turned}
 use Rattle.tj_words.proofs.Waiters.Backings.{backing_publish}
@@ -55,6 +22,11 @@ use Rattle.tj_words.proofs.Holders.TaskPlaces.{custody, list_owned}
 use Rattle.tj_words.proofs.Events.TurnedTasks.{acting_begun}
 use Rattle.tj_words.proofs.Events.WalkEvents.{publish_shown, alarm_shown}
 use Rattle.tj_words.proofs.Phases.NotedWaits.{after_note, note_turns, note_law, begun_way}
+use Rattle.tj_words.specs.declared.phase.Walk.TheVariants as walk
+use Rattle.tj_words.specs.declared.phase.Phase.TheVariants as phase
+use Rattle.tj_core.specs.declared.walk.Way.TheVariants as ways
+use Rattle.tj_words.specs.declared.view.Does.TheVariants as does
+use Rattle.tj_words.proofs.Stores.TableWords as table_word
 
 module _ {B : Type 0} (program : Bool → B → Program B) (key : Key B) where
   abbrev P : Program B

@@ -1,13 +1,7 @@
 -- What the moment clause leaves open: NEXT of a task that isn't parked may be any number, whatever the seat's view is.
-use Rattle.std.proofs.Common.{◌≡◌, ℕ, ◌<◌, length, sym, ◌∙◌, subst, set, arith}
-use Rattle.atomic_table.proofs.Lists.{set_again}
-use Rattle.tj_words.specs.Law.{Law, Rule}
-use Rattle.tj_words.specs.LawParts.Chains.{Chains, IsParkedOn}
-use Rattle.tj_words.specs.LawParts.Contents.{contents_of, seats_have, tag_in, words_say}
+use Rattle.tj_words.proofs.Prelude.{Chains, IsParkedOn, Law, Rule, arith, contents_of, head_in, length, next_at, put}
+use Rattle.tj_words.proofs.Prelude.{seats_have, set, set_again, subst, sym, tag_in, was_so, words_say, ℕ, ◌<◌, ◌∙◌, ◌≡◌}
 use Rattle.tj_words.specs.SeatViews.MomentLaws.{NextIsFree}
-use Rattle.tj_words.specs.SeatViews.Moments.{was_so}
-use Rattle.tj_words.specs.Words.Heads.{head_in}
-use Rattle.tj_words.specs.Words.Offsets.{next_at}
 use Rattle.tj_words.proofs.Stores.LawChanges.{law_chains}
 use Rattle.tj_words.proofs.Stores.SeatContents.{seats_same, set_seats}
 use Rattle.tj_words.proofs.Stores.SeatLists.{word_here}
@@ -15,7 +9,6 @@ use Rattle.tj_words.proofs.Stores.StoredWords.{say_next}
 use Rattle.tj_words.proofs.Stores.StoreSteps.{Stores, may_store, put_else, rule_stores}
 use Rattle.tj_words.proofs.Stores.TableWords.{Next}
 use Rattle.tj_words.proofs.Waiters.ChainHeads.{linked_else}
-use Rattle.tj_base.specs.Puts.{put}
 
 module _ {B : Type 0} where
   pub next_is_free : NextIsFree B

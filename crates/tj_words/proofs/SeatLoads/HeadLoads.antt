@@ -1,23 +1,8 @@
 -- Loads of HEAD.
-use Rattle.std.proofs.Common.{◌≡◌, ◌≢◌, ℕ, suc, ◌<◌, ◌≤◌, Bool, [], ◌∷◌, ◌++◌, refl, sym, ap}
-use Rattle.std.proofs.Common.{subst, inr, ⊎_elim, arith, Option}
-use mathlib.Core.Option.{some, none}
-use mathlib.Core.Logic.{dite}
-use native.Mathlib.Decide.{ℕ_discrete}
-use lib.ListN.{get_elem?}
-use Rattle.atomic_table.specs.Table.{State, step, Allows}
-use Rattle.tj_body.specs.Programs.{Program}
-use Rattle.tj_body.proofs.Lists.{begins_self}
-use Rattle.tj_words.specs.declared.head.Head.TheVariants.{Shut}
-use Rattle.tj_words.specs.declared.record.Rec.{Rec}
-use Rattle.tj_words.specs.declared.table.Key.{Key}
-use Rattle.tj_words.specs.declared.view.View.{View}
-use Rattle.tj_words.specs.Words.Offsets.{word, head_at}
-use Rattle.tj_words.specs.Words.Heads.{shut_word, head_in}
-use Rattle.tj_words.specs.LawParts.Contents.{contents_of, drawn_in}
-use Rattle.tj_words.specs.Law.{Rule}
-use Rattle.tj_words.specs.SeatViews.SeatSteps.{SeatMe}
-use Rattle.tj_words.specs.SeatViews.SeenWords.{head_load}
+use Rattle.tj_words.proofs.Prelude.{Allows, Bool, Key, Option, Program, Rec, Rule, SeatMe, Shut, State, View, [], ap}
+use Rattle.tj_words.proofs.Prelude.{arith, begins_self, contents_of, dite, drawn_in, get_elem?, head_at, head_in}
+use Rattle.tj_words.proofs.Prelude.{head_load, inr, none, refl, shut_word, some, step, subst, suc, sym, word, ℕ}
+use Rattle.tj_words.proofs.Prelude.{ℕ_discrete, ⊎_elim, ◌++◌, ◌<◌, ◌∷◌, ◌≡◌, ◌≢◌, ◌≤◌}
 use Rattle.tj_words.proofs.SeatLoads.Learning.{Knowing, knowing_of, IsSo}
 use Rattle.tj_words.proofs.SeatLoads.LoadSteps.{knows, knows_so, load_allowed}
 use Rattle.tj_words.proofs.Seating.Merging.{begins_at}

@@ -1,58 +1,26 @@
 -- Loads of HEAD, of NEXT and of words that are written once.
-use Rattle.std.proofs.Common.{◌≡◌, ◌≢◌, ℕ, zero, suc, ◌+◌, ◌-◌, ◌*◌, ◌<◌, ◌≤◌, ◌^◌, Bool, cond, nat_eq, List, [], ◌∷◌}
-use Rattle.std.proofs.Common.{◌++◌, length, Option, Some, None, refl, sym, ap, ◌∙◌, subst, inl, inr, ⊎_elim, arith}
-use Rattle.std.proofs.Common.{eq-eqb, ne_eqb}
-use mathlib.Core.Option.{some, none, some-injective, some-ne-none}
-use mathlib.Core.Logic.{dite}
-use native.Mathlib.Decide.{ℕ_discrete}
-use lib.ListN.{get_elem?}
-use Rattle.atomic_table.specs.Table.{State, step, Allows}
-use Rattle.atomic_table.proofs.Lists.{at_map}
-use Rattle.tj_base.specs.declared.cell.Sort.{Sort}
-use Rattle.tj_base.specs.declared.cell.Sort.TheVariants as sort
-use Rattle.tj_body.specs.Programs.{Program}
-use Rattle.tj_body.specs.RoundPoints.{Becomes}
-use Rattle.tj_body.specs.Points.{IsIn, Begins}
-use Rattle.tj_body.proofs.Lists.{begins_self}
-use Rattle.tj_body.proofs.RoundPoints.{entries_are_one}
-use Rattle.tj_body.specs.declared.point.Reference.{Reference}
-use Rattle.tj_body.specs.declared.point.Value.TheVariants as value
-use Rattle.tj_body.specs.declared.point.Entry.{Entry}
-use Rattle.tj_body.specs.declared.point.Entry.TheVariants as entry
-use Rattle.tj_tree.specs.declared.node.Node.{Node}
-use Rattle.tj_tree.specs.Forks.{HasTask}
-use Rattle.tj_tree.specs.Nodes.{node_of}
+use Rattle.tj_words.proofs.Prelude.{About, All, Allows, AreLinked, Becomes, Begins, BitsSay, Bool, Contents, Empty}
+use Rattle.tj_words.proofs.Prelude.{Entry, FindsWord, Hand, HasInHand, HasTask, IsCell, IsFilled, IsIn, IsNamedThere}
+use Rattle.tj_words.proofs.Prelude.{IsOfTree, IsTaskIn, IsThere, Key, Law, List, MayReadTree, Node, None, OfSeat, Once}
+use Rattle.tj_words.proofs.Prelude.{Option, Program, Rec, Reference, Rule, SeatMe, SeenWord, ShowsNode, Shut, Some}
+use Rattle.tj_words.proofs.Prelude.{Sort, Stands, State, Task, View, [], ap, arith, at_map, begins_self, bits_in, cond}
+use Rattle.tj_words.proofs.Prelude.{contents_of, dite, drawn_in, entries_are_one, eq-eqb, get_elem?, hand_in, hand_of}
+use Rattle.tj_words.proofs.Prelude.{head_in, head_of, inl, inr, length, nat_eq, ne_eqb, next_at, next_load, node_of}
+use Rattle.tj_words.proofs.Prelude.{none, once_at, refl, seen_word, shut_word, some, some-injective, some-ne-none}
+use Rattle.tj_words.proofs.Prelude.{sort_tag, step, subst, suc, sym, tag_in, tag_of, tree_word, word, zero, ℕ}
+use Rattle.tj_words.proofs.Prelude.{ℕ_discrete, ⊎_elim, ◌*◌, ◌++◌, ◌+◌, ◌-◌, ◌<◌, ◌^◌, ◌∙◌, ◌∷◌, ◌≡◌, ◌≢◌, ◌≤◌}
 use Rattle.tj_tree.specs.Laws.{LinksLeadToTasks}
-use Rattle.tj_words.specs.declared.head.Head.TheVariants.{Empty, Task, Shut}
-use Rattle.tj_words.specs.declared.offsets.Once.{Once}
-use Rattle.tj_words.specs.declared.offsets.Once.TheVariants as once
-use Rattle.tj_words.specs.declared.record.Rec.{Rec}
-use Rattle.tj_words.specs.declared.table.Key.{Key}
-use Rattle.tj_words.specs.declared.view.About.{About}
-use Rattle.tj_words.specs.declared.view.Hand.{Hand}
-use Rattle.tj_words.specs.declared.view.Noted.TheVariants as note
-use Rattle.tj_words.specs.declared.view.SeenWord.{SeenWord}
-use Rattle.tj_words.specs.declared.view.View.{View}
-use Rattle.tj_words.specs.Words.Lists.{All, OfSeat}
-use Rattle.tj_words.specs.Words.Offsets.{word, next_at, once_at}
-use Rattle.tj_words.specs.Words.Heads.{shut_word, head_in}
-use Rattle.tj_words.specs.LawParts.Hands.{IsThere, hand_in}
-use Rattle.tj_words.specs.LawParts.TreeWords.{IsCell, IsOfTree, tree_word}
-use Rattle.tj_words.specs.LawParts.OnceWords.{Stands, HasInHand}
-use Rattle.tj_words.specs.LawParts.Chains.{head_of, AreLinked}
-use Rattle.tj_words.specs.LawParts.Telling.{tag_of, sort_tag, BitsSay}
-use Rattle.tj_words.specs.LawParts.Meaning.{IsFilled, IsNamedThere}
-use Rattle.tj_words.specs.LawParts.Contents.{Contents, contents_of, drawn_in, hand_of, tag_in, bits_in}
-use Rattle.tj_words.specs.Law.{Law, Rule, IsAbout}
-use Rattle.tj_words.specs.SeatViews.SeatSteps.{SeatMe}
-use Rattle.tj_words.specs.SeatViews.SeenWords.{IsTaskIn, LeadsTo}
-use Rattle.tj_words.specs.SeatViews.SeenWords.{ShowsNode, SeesTree, seen_word, MayRead, MayReadTree, FindsWord}
-use Rattle.tj_words.specs.SeatViews.SeenWords.{WillHave}
-use Rattle.tj_words.specs.SeatViews.SeenWords.{bits_cells, once_load, next_load}
+use Rattle.tj_words.specs.Law.{IsAbout}
+use Rattle.tj_words.specs.SeatViews.SeenWords.{LeadsTo, SeesTree, MayRead, WillHave, bits_cells, once_load}
 use Rattle.tj_words.proofs.Cells.CellNames.{are_cells}
 use Rattle.tj_words.proofs.SeatLoads.Learning.{Knowing, knowing_of, IsSo}
 use Rattle.tj_words.proofs.SeatLoads.LoadSteps.{knows, knows_so, load_allowed, notes_so, with_note}
 use Rattle.tj_words.proofs.Seating.Merging.{all_append, begins_at}
+use Rattle.tj_base.specs.declared.cell.Sort.TheVariants as sort
+use Rattle.tj_body.specs.declared.point.Value.TheVariants as value
+use Rattle.tj_body.specs.declared.point.Entry.TheVariants as entry
+use Rattle.tj_words.specs.declared.offsets.Once.TheVariants as once
+use Rattle.tj_words.specs.declared.view.Noted.TheVariants as note
 
 -- a word that is written once lies within the words of its cell
 pub once_within : (c cells : ℕ) (f : Once) → c < cells → once_at c f < 4 + 10 * cells

@@ -1,7 +1,6 @@
 -- What a seat knows over several steps.
-use Rattle.std.proofs.Common.{◌∙◌, ◌++◌, List, [], refl, sym, ap, append_assoc}
-use Rattle.tj_body.proofs.Lists.{begins_self, begins_trans}
-use Rattle.tj_words.specs.declared.view.View.{View}
+use Rattle.tj_words.proofs.Prelude.{List, View, [], ap, begins_self, begins_trans, refl, sym, ◌++◌, ◌∙◌}
+use Rattle.std.proofs.Common.{append_assoc}
 use Rattle.tj_words.specs.SeatViews.KnowsMore.{IsTailOf, KnowsMore, HasSameWakes, HasSameHand, HasSameCounts}
 
 pub tail_on : {A : Type 0} (xs ys zs : List A) → IsTailOf xs ys → IsTailOf ys zs → IsTailOf xs zs

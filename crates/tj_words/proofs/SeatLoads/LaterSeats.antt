@@ -1,9 +1,6 @@
 -- Loads after loads of words of the tree.
-use Rattle.std.proofs.Common.{◌≡◌, ◌∙◌, ℕ, List, [], ◌∷◌, ◌++◌, Option, refl, sym, ap, arith}
-use Rattle.atomic_table.specs.declared.shared.Seat.{Seat}
-use Rattle.tj_words.specs.declared.record.Rec.{Rec}
-use Rattle.tj_words.specs.declared.view.View.{View}
-use Rattle.tj_words.specs.SeatViews.TreeReads.{HasReadTree, IsLater}
+use Rattle.tj_words.proofs.Prelude.{HasReadTree, IsLater, List, Option, Rec, Seat, View, [], ap, arith, refl, sym, ℕ}
+use Rattle.tj_words.proofs.Prelude.{◌++◌, ◌∙◌, ◌∷◌, ◌≡◌}
 
 append_nil : {A : Type 0} (l : List A) → l ≡ l ++ []
 append_nil [] = refl

@@ -1,23 +1,7 @@
 -- A seat learns: the law stays where what the seat knows from now on is so.
-use Rattle.std.proofs.Common.{◌≡◌, ◌≢◌, ℕ, Bool, true, List, set}
-use Rattle.tj_body.specs.Programs.{Program}
-use Rattle.tj_body.specs.Points.{Begins, IsIn}
-use Rattle.tj_words.specs.LawParts.Stops.{IsStored}
-use Rattle.tj_body.specs.declared.point.Reference.{Reference}
-use Rattle.tj_words.specs.declared.head.Head.TheVariants.{Shut}
-use Rattle.tj_words.specs.declared.view.SeenWord.{SeenWord}
-use Rattle.tj_words.specs.declared.view.Filled.{Filled}
-use Rattle.tj_words.specs.declared.view.Found.{Found}
-use Rattle.tj_words.specs.declared.view.Note.{Note}
-use Rattle.tj_words.specs.declared.view.View.{View}
-use Rattle.tj_words.specs.Words.Lists.{All}
-use Rattle.tj_words.specs.LawParts.NamedCells.{AreThere}
-use Rattle.tj_words.specs.LawParts.TreeWords.{IsCell}
-use Rattle.tj_words.specs.LawParts.OnceWords.{Stands}
-use Rattle.tj_words.specs.LawParts.Chains.{HasGrown}
-use Rattle.tj_words.specs.LawParts.Meaning.{IsWritten, IsFilled}
-use Rattle.tj_words.specs.LawParts.Contents.{Contents, drawn_in, hand_of, tag_in, bits_in}
-use Rattle.tj_words.specs.Law.{Law}
+use Rattle.tj_words.proofs.Prelude.{All, AreThere, Begins, Bool, Contents, Filled, Found, HasGrown, IsCell, IsFilled}
+use Rattle.tj_words.proofs.Prelude.{IsIn, IsStored, IsWritten, Law, List, Note, Program, Reference, SeenWord, Shut}
+use Rattle.tj_words.proofs.Prelude.{Stands, View, bits_in, drawn_in, hand_of, set, tag_in, true, ℕ, ◌≡◌, ◌≢◌}
 use Rattle.tj_words.proofs.Stores.SeatLists.{each_set}
 use Rattle.tj_words.proofs.Waiters.ChainSeats.{chains_seats}
 

@@ -1,37 +1,18 @@
 -- Loads: a step that changes no word, after which its seat knows more.
-use Rattle.std.proofs.Common.{◌≡◌, ◌≢◌, ℕ, zero, suc, ◌<◌, ◌≤◌, ◌^◌, Bool, true, List, [], ◌∷◌, map, set, refl, sym, ap}
-use Rattle.std.proofs.Common.{◌∙◌, subst, arith, Option}
-use mathlib.Core.Option.{some, none}
-use mathlib.Core.Logic.{dite}
-use native.Mathlib.Decide.{ℕ_discrete}
-use lib.ListN.{get_elem?}
-use Rattle.atomic_table.specs.Table.{State, step, keeps, Allows}
-use Rattle.atomic_table.proofs.Lists.{at_map}
-use Rattle.tj_body.specs.Points.{IsIn}
-use Rattle.tj_body.specs.Programs.{Program}
-use Rattle.tj_words.specs.LawParts.Stops.{IsStored}
-use Rattle.tj_words.specs.declared.record.Rec.{Rec}
-use Rattle.tj_words.specs.declared.table.Key.{Key}
-use Rattle.tj_words.specs.declared.view.Note.{Note}
+use Rattle.tj_words.proofs.Prelude.{All, Allows, Bool, Contents, Each, IsCell, IsCount, IsIn, IsSeat, IsStored, Key}
+use Rattle.tj_words.proofs.Prelude.{Law, List, Note, Option, Phase, Program, Rec, Reference, Rule, SeatMe, SeatsHave}
+use Rattle.tj_words.proofs.Prelude.{State, View, [], ap, arith, at_map, contents_of, count_at, dite, get_elem?, keeps}
+use Rattle.tj_words.proofs.Prelude.{live_at, live_load, live_part, live_tasks, map, none, note_of, own_at, phase_at}
+use Rattle.tj_words.proofs.Prelude.{phase_in, plain_load, refl, seats_have, set, some, step, subst, suc, sym, total}
+use Rattle.tj_words.proofs.Prelude.{true, word, zero, ℕ, ℕ_discrete, ◌<◌, ◌^◌, ◌∙◌, ◌∷◌, ◌≡◌, ◌≢◌, ◌≤◌}
 use Rattle.tj_words.specs.declared.view.Noted.{Noted}
-use Rattle.tj_words.specs.declared.view.View.{View}
-use Rattle.tj_body.specs.declared.point.Reference.{Reference}
-use Rattle.tj_words.specs.LawParts.TreeWords.{IsCell}
-use Rattle.tj_words.specs.declared.phase.Phase.{Phase}
-use Rattle.tj_words.specs.declared.phase.Phase.TheVariants as phases
-use Rattle.tj_words.specs.declared.phase.Walk.TheVariants as walks
-use Rattle.tj_words.specs.Words.Phases.{phase_in}
-use Rattle.tj_words.specs.LawParts.LiveCount.{live_part, live_tasks}
-use Rattle.tj_words.specs.Words.Lists.{Each, All, total}
-use Rattle.tj_words.specs.Words.Offsets.{word, own_at, phase_at, live_at, count_at}
-use Rattle.tj_words.specs.LawParts.Contents.{Contents, SeatsHave, contents_of, seats_have}
-use Rattle.tj_words.specs.Law.{Law, Rule, IsSeat}
-use Rattle.tj_words.specs.SeatViews.SeatSteps.{SeatMe, plain_load, live_load, noted_at, noted_load, IsCount}
+use Rattle.tj_words.specs.SeatViews.SeatSteps.{noted_at, noted_load}
 use Rattle.tj_words.proofs.Stores.SeatLists.{each_set, words_same}
 use Rattle.tj_words.proofs.Stores.SeatContents.{seats_set, seats_same, rule_views}
-use Rattle.tj_words.specs.SeatViews.Views.{note_of}
-use Rattle.tj_words.specs.declared.view.Noted.TheVariants as note
 use Rattle.tj_words.proofs.SeatLoads.Learning.{Knowing, knowing_of, IsSo, learns, law_learns}
+use Rattle.tj_words.specs.declared.phase.Phase.TheVariants as phases
+use Rattle.tj_words.specs.declared.phase.Walk.TheVariants as walks
+use Rattle.tj_words.specs.declared.view.Noted.TheVariants as note
 
 -- there are no more live tasks than cells
 pub live_few : (phase : ℕ → Phase) (n : ℕ) → live_tasks phase n ≤ n

@@ -1,51 +1,25 @@
 -- What a word can't be while a seat has such a view.
-use Rattle.std.proofs.Common.{◌≡◌, ℕ, zero, suc, Bool, List, map, Option, Some, None, refl, sym, ap, ◌∙◌}
-use Rattle.std.proofs.Common.{subst, set, inl, inr, ◌⊎◌, ⊎_elim, arith}
+use Rattle.tj_words.proofs.Prelude.{About, Answer, Bool, Contents, Finish, IsBegun, IsCell, IsHeld, IsKept, IsRecordIn}
+use Rattle.tj_words.proofs.Prelude.{IsStored, Key, LiesAtHome, List, None, Option, Phase, Point, Program, Rec}
+use Rattle.tj_words.proofs.Prelude.{Reference, Rule, Some, State, TellsStage, View, all_lots, ap, arith, at_map}
+use Rattle.tj_words.proofs.Prelude.{contents_of, dite, get_elem?, held_in, home_of, inl, inr, map, owner_in, phase_at}
+use Rattle.tj_words.proofs.Prelude.{phase_in, phase_sort, refl, set, set_again, some, some-injective, sort_shown}
+use Rattle.tj_words.proofs.Prelude.{stop_at, subst, suc, sym, tag_in, to_task, was_so, word, zero, ℕ, ℕ_discrete}
+use Rattle.tj_words.proofs.Prelude.{⊎_elim, ◌∙◌, ◌≡◌, ◌⊎◌}
 use Rattle.std.proofs.lemmas.List.{map-set}
-use mathlib.Core.Option.{some, some-injective}
-use mathlib.Core.Logic.{dite}
-use native.Mathlib.Decide.{ℕ_discrete}
-use lib.ListN.{get_elem?}
-use Rattle.atomic_table.specs.Table.{State}
-use Rattle.atomic_table.proofs.Lists.{at_map, set_again}
-use Rattle.tj_base.specs.declared.cell.Sort.TheVariants as sort
-use Rattle.tj_body.specs.Programs.{Program}
 use Rattle.tj_body.specs.RoundPoints.{IsOfRounds}
-use Rattle.tj_body.specs.declared.ask.Answer.{Answer}
-use Rattle.tj_body.specs.declared.ask.Answer.TheVariants as answer
-use Rattle.tj_body.specs.declared.point.Point.{Point}
-use Rattle.tj_body.specs.History.{to_task}
-use Rattle.tj_words.specs.LawParts.TreeWords.{IsCell}
 use Rattle.tj_words.proofs.Seating.Merging.{begins_at}
-use Rattle.tj_body.specs.declared.point.Reference.{Reference}
-use Rattle.tj_words.specs.declared.phase.Phase.{Phase}
-use Rattle.tj_words.specs.declared.phase.Phase.TheVariants as phase
-use Rattle.tj_words.specs.declared.phase.Walk.TheVariants as walk
-use Rattle.tj_words.specs.declared.record.Finish.{Finish}
-use Rattle.tj_words.specs.declared.record.Rec.{Rec}
-use Rattle.tj_words.specs.declared.table.Key.{Key}
-use Rattle.tj_words.specs.declared.view.About.{About}
-use Rattle.tj_words.specs.declared.view.View.{View}
-use Rattle.tj_words.specs.Law.{Rule}
-use Rattle.tj_words.specs.LawParts.Contents.{Contents, contents_of, home_of, tag_in}
-use Rattle.tj_words.specs.LawParts.Custodies.{IsHeld, IsKept, LiesAtHome}
-use Rattle.tj_words.specs.LawParts.Holding.{held_in}
-use Rattle.tj_words.specs.LawParts.Lots.{all_lots}
-use Rattle.tj_words.specs.LawParts.RecordPhases.{IsRecordIn}
-use Rattle.tj_words.specs.LawParts.ShownState.{phase_sort, sort_shown}
-use Rattle.tj_words.specs.LawParts.Telling.{TellsStage}
-use Rattle.tj_words.specs.Words.Offsets.{word, live_at, count_at, phase_at, stop_at}
-use Rattle.tj_words.specs.Words.Owners.{owner_in}
-use Rattle.tj_words.specs.Words.Phases.{phase_in}
-use Rattle.tj_words.specs.Steps.StepEvents.{IsBegun}
 use Rattle.tj_words.specs.SeatViews.MomentLaws.{IsStopped, LiveCountsTokens, CountIsAbove, OwnerIsTheTask}
-use Rattle.tj_words.specs.SeatViews.MomentLaws.{LoneSeatClaims, NoHiddenStop, OthersCountsCleared, PhaseIsDone, StopStands}
-use Rattle.tj_words.specs.SeatViews.Moments.{was_so}
-use Rattle.tj_words.specs.LawParts.Stops.{IsStored}
+use Rattle.tj_words.specs.SeatViews.MomentLaws.{LoneSeatClaims, NoHiddenStop, OthersCountsCleared, PhaseIsDone}
+use Rattle.tj_words.specs.SeatViews.MomentLaws.{StopStands}
 use Rattle.tj_words.proofs.Stores.SeatLists.{word_here}
 use Rattle.tj_words.proofs.Holders.HeldTasks.{none_some}
 use Rattle.tj_words.proofs.Holders.TaskPlaces.{custody, list_owned, begun_there}
 use Rattle.tj_words.proofs.Meaning.RestingStates.{map_back, no_lot_no_task, one_part, two_parts}
+use Rattle.tj_base.specs.declared.cell.Sort.TheVariants as sort
+use Rattle.tj_body.specs.declared.ask.Answer.TheVariants as answer
+use Rattle.tj_words.specs.declared.phase.Phase.TheVariants as phase
+use Rattle.tj_words.specs.declared.phase.Walk.TheVariants as walk
 
 module _ {B : Type 0} where
   pub live_counts : LiveCountsTokens B

@@ -1,12 +1,6 @@
 -- Each step tells, beside what its play tells, that its word was what it found.
-use Rattle.std.proofs.Common.{◌≡◌, ℕ, Bool, refl, subst}
-use Rattle.atomic_table.specs.Table.{Allows, step}
-use mathlib.Core.Option.{none}
-use Rattle.tj_body.specs.Programs.{Program}
-use Rattle.tj_words.specs.declared.table.Key.{Key}
-use Rattle.tj_words.specs.Law.{Rule}
-use Rattle.tj_words.specs.SeatViews.Moments.{WasSo, at_moment, was_so}
-use Rattle.tj_words.specs.declared.view.View.{View}
+use Rattle.tj_words.proofs.Prelude.{Allows, Bool, Key, Program, Rule, View, WasSo, none, refl, step, subst, ℕ, ◌≡◌}
+use Rattle.tj_words.specs.SeatViews.Moments.{at_moment, was_so}
 use Rattle.tj_words.specs.SeatViews.SeatSteps.{SeatMe, Tells}
 
 module _ {B : Type 0} (program : Bool → B → Program B) (key : Key B) where

@@ -1,27 +1,16 @@
 -- A look at a node of the tree of forks: four loads of words that are written once.
-use Rattle.std.proofs.Common.{◌≡◌, ◌⊎◌, ◌∙◌, ℕ, zero, suc, ◌-◌, ◌<◌, ◌≤◌, List, [], ◌∷◌, ◌++◌, length, Option}
-use Rattle.std.proofs.Common.{refl, sym, ap, subst, arith, inl, inr}
-use mathlib.Core.Option.{some, none}
-use lib.ListN.{get_elem?}
-use Rattle.atomic_table.specs.declared.shared.Seat.{Seat}
-use Rattle.tj_body.specs.Points.{IsIn, Begins}
-use Rattle.tj_body.specs.declared.point.Reference.{Reference}
-use Rattle.tj_body.proofs.Lists.{in_right}
-use Rattle.tj_tree.specs.declared.node.Node.{Node}
+use Rattle.tj_words.proofs.Prelude.{AreCells, Begins, FindsWord, HasReadTree, IsIn, IsLater, IsTaskIn, List}
+use Rattle.tj_words.proofs.Prelude.{MayReadTree, Node, Once, Option, Rec, Reference, Seat, SeenWord, ShowsNode, View}
+use Rattle.tj_words.proofs.Prelude.{[], ap, arith, get_elem?, in_right, inl, inr, length, none, refl, seen_word, some}
+use Rattle.tj_words.proofs.Prelude.{subst, suc, sym, zero, ℕ, ◌++◌, ◌-◌, ◌<◌, ◌∙◌, ◌∷◌, ◌≡◌, ◌≤◌, ◌⊎◌}
 use Rattle.tj_tree.specs.Nodes.{ArePartOfTree}
 use Rattle.tj_tree.specs.Walk.{GoesOn}
-use Rattle.tj_words.specs.declared.offsets.Once.{Once}
-use Rattle.tj_words.specs.declared.offsets.Once.TheVariants as once
-use Rattle.tj_words.specs.declared.record.Rec.{Rec}
 use Rattle.tj_words.specs.declared.table.Laid.{Laid}
-use Rattle.tj_words.specs.declared.view.SeenWord.{SeenWord}
-use Rattle.tj_words.specs.declared.view.View.{View}
 use Rattle.tj_words.specs.SeatViews.SeatSteps.{IsSameSeat, IsSeatOf}
-use Rattle.tj_words.specs.SeatViews.SeenWords.{FindsWord, IsTaskIn, MayReadTree, ShowsNode, seen_word}
-use Rattle.tj_words.specs.LawParts.TreeWords.{AreCells}
 use Rattle.tj_words.proofs.Seating.Merging.{begins_at}
 use Rattle.tj_words.proofs.SeatLoads.LaterSeats.{later_on}
-use Rattle.tj_words.specs.SeatViews.TreeReads.{HasReadTree, IsLater, MayLook, TreeShown}
+use Rattle.tj_words.specs.SeatViews.TreeReads.{MayLook, TreeShown}
+use Rattle.tj_words.specs.declared.offsets.Once.TheVariants as once
 
 -- an index at which something stands is below the length
 below : {A : Type 0} (l : List A) (i : ℕ) (x : A) → get_elem? l i ≡ some x → i < length l

@@ -1,34 +1,14 @@
 -- Where the program has one cell, a seat with all lots that holds the root knows COUNT and LIVE.
-use Rattle.std.proofs.Common.{◌≡◌, ◌≢◌, ℕ, zero, suc, ◌+◌, ◌-◌, ◌<◌, ◌≤◌, Bool, List, [], ◌∷◌, map, length, Option, Some}
-use Rattle.std.proofs.Common.{refl, sym, ap, ◌∙◌, subst, arith}
-use mathlib.Core.Option.{some, some-injective, some-ne-none}
-use mathlib.Core.Logic.{dite}
-use native.Mathlib.Decide.{dec_le}
-use lib.ListN.{get_elem?}
-use Rattle.atomic_table.specs.Table.{State}
-use Rattle.atomic_table.proofs.Lists.{at_map}
-use Rattle.tj_base.specs.ForkOrder.{Name}
-use Rattle.tj_body.specs.Programs.{Program}
-use Rattle.tj_body.specs.RoundPoints.{InRounds}
-use Rattle.tj_body.specs.declared.point.Reference.{Reference}
-use Rattle.tj_words.specs.declared.phase.Phase.{Phase}
-use Rattle.tj_words.specs.declared.phase.Phase.TheVariants as phase
-use Rattle.tj_words.specs.declared.record.Rec.{Rec}
-use Rattle.tj_words.specs.declared.table.Key.{Key}
-use Rattle.tj_words.specs.declared.view.About.{About}
-use Rattle.tj_words.specs.declared.view.View.{View}
-use Rattle.tj_words.specs.Law.{Rule}
-use Rattle.tj_words.specs.LawParts.Contents.{contents_of, drawn_in}
-use Rattle.tj_words.specs.LawParts.LiveCount.{live_part, live_tasks}
-use Rattle.tj_words.specs.LawParts.Lots.{all_lots}
-use Rattle.tj_words.specs.LawParts.TreeWords.{IsCell}
-use Rattle.tj_words.specs.Words.Lists.{total}
-use Rattle.tj_words.specs.Words.Offsets.{word, count_at}
+use Rattle.tj_words.proofs.Prelude.{About, Bool, InRounds, IsCell, Key, List, Name, Option, Phase, Program, Rec}
+use Rattle.tj_words.proofs.Prelude.{Reference, Rule, Some, State, View, [], all_lots, ap, arith, at_map, contents_of}
+use Rattle.tj_words.proofs.Prelude.{count_at, dec_le, dite, drawn_in, get_elem?, length, live_part, live_tasks, map}
+use Rattle.tj_words.proofs.Prelude.{refl, some, some-injective, some-ne-none, subst, suc, sym, total, was_so, word}
+use Rattle.tj_words.proofs.Prelude.{zero, ℕ, ◌+◌, ◌-◌, ◌<◌, ◌∙◌, ◌∷◌, ◌≡◌, ◌≢◌, ◌≤◌}
 use Rattle.tj_words.specs.SeatViews.MomentLaws.{OneCellCounts, OneCellLives}
-use Rattle.tj_words.specs.SeatViews.Moments.{was_so}
 use Rattle.tj_words.proofs.Cells.CellNames.{born_apart}
 use Rattle.tj_words.proofs.Holders.TaskPlaces.{custody}
 use Rattle.tj_words.proofs.Meaning.RestingStates.{map_back, two_parts}
+use Rattle.tj_words.specs.declared.phase.Phase.TheVariants as phase
 
 -- a sum of which all parts but one are 0
 none_of : (l : List ℕ) → ((j b : ℕ) → get_elem? l j ≡ some b → b ≡ 0) → total l ≡ 0

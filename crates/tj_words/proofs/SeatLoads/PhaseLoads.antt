@@ -1,26 +1,10 @@
 -- A load of PHASE that is no event: where the task is the first of the seat's rest, the way of its wait is known then.
-use Rattle.std.proofs.Common.{◌≡◌, ◌⊎◌, ℕ, ◌<◌, Bool, cond, List, [], ◌∷◌, set, Option, Some, None, refl}
-use Rattle.std.proofs.Common.{sym, ap, ◌∙◌, subst, inl, inr, ⊎_elim, arith, eq-eqb, ne_eqb}
-use mathlib.Core.Option.{some, none}
-use mathlib.Core.Logic.{dite}
-use native.Mathlib.Decide.{ℕ_discrete}
-use lib.ListN.{get_elem?}
-use Rattle.atomic_table.specs.Table.{State, step, Allows}
-use Rattle.atomic_table.proofs.Lists.{at_map, set_again}
-use Rattle.tj_body.specs.Programs.{Program}
-use Rattle.tj_core.specs.declared.walk.Way.{Way}
-use Rattle.tj_words.specs.declared.phase.Phase.{Phase}
-use Rattle.tj_words.specs.declared.record.Rec.{Rec}
-use Rattle.tj_words.specs.declared.table.Key.{Key}
-use Rattle.tj_words.specs.declared.view.Rest.{Rest}
-use Rattle.tj_words.specs.declared.view.View.{View}
-use Rattle.tj_words.specs.LawParts.Chains.{Chains, parked_phase, IsFirstIn}
-use Rattle.tj_words.specs.LawParts.Contents.{SeatsHave, words_say, seats_have, contents_of, tag_in}
-use Rattle.tj_words.specs.Law.{Law, Rule, IsSeat}
-use Rattle.tj_words.specs.Words.Offsets.{word, phase_at}
-use Rattle.tj_words.specs.Calls.ParkSteps.{parked_way, first_way, rest_loaded, loaded_phase, FirstTold, phase_load}
-use Rattle.tj_words.specs.Words.Phases.{phase_in}
-use Rattle.tj_words.specs.SeatViews.SeatSteps.{SeatMe}
+use Rattle.tj_words.proofs.Prelude.{Allows, Bool, Chains, FirstTold, IsFirstIn, IsSeat, Key, Law, List, None, Option}
+use Rattle.tj_words.proofs.Prelude.{Phase, Program, Rec, Rest, Rule, SeatMe, SeatsHave, Some, State, View, Way, [], ap}
+use Rattle.tj_words.proofs.Prelude.{arith, at_map, cond, contents_of, dite, eq-eqb, get_elem?, inl, inr, ne_eqb, none}
+use Rattle.tj_words.proofs.Prelude.{parked_phase, phase_at, phase_in, refl, seats_have, set, set_again, some, step}
+use Rattle.tj_words.proofs.Prelude.{subst, sym, tag_in, word, words_say, ℕ, ℕ_discrete, ⊎_elim, ◌<◌, ◌∙◌, ◌∷◌, ◌≡◌, ◌⊎◌}
+use Rattle.tj_words.specs.Calls.ParkSteps.{parked_way, first_way, rest_loaded, loaded_phase, phase_load}
 use Rattle.tj_words.proofs.Waiters.ChainLists.{no_some}
 use Rattle.tj_words.proofs.Waiters.ChainPhases.{chains_read, rest_first}
 use Rattle.tj_words.proofs.Stores.LawChanges.{law_chains}

@@ -1,23 +1,10 @@
 -- A load of STOP tells whether the meaning is full.
-use Rattle.std.proofs.Common.{◌≡◌, ℕ, suc, Bool, ◌∷◌, refl, sym, subst, ◌∙◌, ⊎_elim}
-use mathlib.Core.Option.{none}
-use Rattle.atomic_table.specs.Table.{Allows, step}
-use Rattle.atomic_table.proofs.Lists.{at_map}
-use Rattle.tj_body.specs.Programs.{Program}
-use Rattle.tj_body.specs.Rounds.{IsFull}
-use Rattle.tj_words.specs.declared.table.Key.{Key}
-use Rattle.tj_words.specs.declared.view.View.{View}
-use Rattle.tj_words.specs.LawParts.Contents.{seats_have}
-use Rattle.tj_words.specs.LawParts.Stops.{IsStored}
-use Rattle.tj_words.specs.declared.view.About.{About}
-use Rattle.tj_words.specs.SeatViews.FullMeaning.{stop_load}
-use Rattle.tj_words.specs.Law.{Rule}
-use Rattle.tj_words.specs.Words.Offsets.{stop_at, word}
-use Rattle.tj_words.specs.SeatViews.SeatSteps.{SeatMe}
-use Rattle.tj_words.specs.SeatViews.Views.{note_of}
-use Rattle.tj_words.specs.declared.view.Noted.TheVariants as note
+use Rattle.tj_words.proofs.Prelude.{About, Allows, Bool, IsFull, IsStored, Key, Program, Rule, SeatMe, View, at_map}
+use Rattle.tj_words.proofs.Prelude.{none, note_of, refl, seats_have, step, stop_at, stop_load, subst, suc, sym, word, ℕ}
+use Rattle.tj_words.proofs.Prelude.{⊎_elim, ◌∙◌, ◌∷◌, ◌≡◌}
 use Rattle.tj_words.proofs.SeatLoads.Learning.{knowing_of}
 use Rattle.tj_words.proofs.SeatLoads.LoadSteps.{knows_so, load_allowed, noted_so}
+use Rattle.tj_words.specs.declared.view.Noted.TheVariants as note
 
 module _ {B : Type 0} (program : Bool → B → Program B) (key : Key B) where
   pub stop_allowed : (slots id : ℕ) (m : SeatMe B)

@@ -1,14 +1,7 @@
 -- A view in which a task does something else by what it did: what it then has for its tasks, and one change after
 -- another.
-use Rattle.std.proofs.Common.{◌≡◌, ◌≢◌, ℕ, Bool, cond, List, [], ◌∷◌, Some, refl, sym, ap, ◌∙◌}
-use Rattle.std.proofs.Common.{eq-eqb, ne_eqb}
-use mathlib.Core.Logic.{dite}
-use native.Mathlib.Decide.{ℕ_discrete}
-use Rattle.tj_words.specs.declared.view.Does.{Does}
-use Rattle.tj_words.specs.declared.view.Custody.{Custody}
-use Rattle.tj_words.specs.LawParts.Holding.{held_in}
-use Rattle.tj_words.specs.SeatViews.TaskLists.{let_go, hold, note, noted}
-use Rattle.tj_words.specs.Calls.WalkViews.{does_next}
+use Rattle.tj_words.proofs.Prelude.{Bool, Custody, Does, List, Some, [], ap, cond, dite, does_next, eq-eqb, held_in}
+use Rattle.tj_words.proofs.Prelude.{hold, let_go, ne_eqb, note, noted, refl, sym, ℕ, ℕ_discrete, ◌∙◌, ◌∷◌, ◌≡◌, ◌≢◌}
 use Rattle.tj_words.proofs.Holders.HeldChanges.{held_task}
 use Rattle.tj_words.proofs.Holders.SeatTasks.{hold_here, hold_else}
 

@@ -1,37 +1,12 @@
 -- The loads of a walker keep the rule.
-use Rattle.std.proofs.Common.{◌≡◌, ◌≢◌, ℕ, ◌<◌, ◌≤◌, ◌^◌, min, set, Option, Some, refl, sym, ap, ◌∙◌, subst, arith}
-use Rattle.std.proofs.Common.{Bool}
-use mathlib.Core.Option.{some, none}
-use lib.ListN.{get_elem?}
-use Rattle.atomic_table.specs.Table.{State, step, keeps, Allows}
-use Rattle.atomic_table.proofs.Lists.{at_map}
-use Rattle.tj_body.specs.Programs.{Program}
-use Rattle.tj_core.specs.declared.walk.Way.{Way}
-use Rattle.tj_core.specs.declared.walk.Walker.{Walker}
-use Rattle.tj_core.specs.CoreState.{present}
-use Rattle.tj_core.specs.Laws.{EventKeepsFacts}
-use Rattle.tj_core.specs.WalkLaws.{OthersAreFew}
-use Rattle.tj_core.specs.Events.{others_read, count_read, wait_found}
-use Rattle.tj_core.specs.Events.{MayReadOthers, MayCount}
-use Rattle.tj_words.specs.declared.record.Rec.{Rec}
-use Rattle.tj_words.specs.declared.table.Key.{Key}
-use Rattle.tj_words.specs.declared.view.Does.{Does}
-use Rattle.tj_words.specs.declared.view.Does.TheVariants as does
-use Rattle.tj_words.specs.declared.view.Custody.{Custody}
-use Rattle.tj_words.specs.declared.view.View.{View}
-use Rattle.tj_words.specs.Words.Codes.{IsPhaseWord}
-use Rattle.tj_words.specs.LawParts.Contents.{SeatsHave, words_say, seats_have, contents_of}
-use Rattle.tj_words.specs.LawParts.Holding.{held_in}
-use Rattle.tj_words.specs.Law.{Law, Rule, IsSeat}
-use Rattle.tj_words.specs.LawParts.LiveCount.{DoesRun, DoesWalk, HasAlarmed}
-use Rattle.tj_words.specs.Words.Offsets.{word, count_at, others_at, own_at, phase_at}
-use Rattle.tj_words.specs.Words.Owners.{owner_in}
-use Rattle.tj_words.specs.Words.Phases.{phase_in}
-use Rattle.tj_words.specs.SeatViews.SeatSteps.{SeatMe, IsCount}
-use Rattle.tj_words.specs.Steps.StepEvents.{IsHeldWith, wait_in}
-use Rattle.tj_words.specs.SeatViews.TaskLists.{hold}
-use Rattle.tj_words.specs.Calls.WalkViews.{walk_with, owner_seen, MayLoadOwner, MayLoadWait, does_next, turned}
-use Rattle.tj_words.specs.Calls.WalkViews.{IsWalking, walk_load}
+use Rattle.tj_words.proofs.Prelude.{Allows, Bool, Custody, Does, DoesRun, DoesWalk, EventKeepsFacts, HasAlarmed}
+use Rattle.tj_words.proofs.Prelude.{IsCount, IsHeldWith, IsPhaseWord, IsSeat, Key, Law, MayCount, MayReadOthers, Option}
+use Rattle.tj_words.proofs.Prelude.{OthersAreFew, Program, Rec, Rule, SeatMe, SeatsHave, Some, State, View, Walker, Way}
+use Rattle.tj_words.proofs.Prelude.{ap, arith, at_map, contents_of, count_at, count_read, get_elem?, held_in, hold}
+use Rattle.tj_words.proofs.Prelude.{keeps, min, none, others_at, others_read, own_at, owner_in, phase_at, phase_in}
+use Rattle.tj_words.proofs.Prelude.{present, refl, seats_have, set, some, step, subst, sym, turned, wait_found, wait_in}
+use Rattle.tj_words.proofs.Prelude.{walk_load, walk_with, word, words_say, ℕ, ◌<◌, ◌^◌, ◌∙◌, ◌≡◌, ◌≢◌, ◌≤◌}
+use Rattle.tj_words.specs.Calls.WalkViews.{owner_seen, MayLoadOwner, MayLoadWait, does_next, IsWalking}
 use Rattle.tj_words.proofs.Waiters.Backings.{backing_turns}
 use Rattle.tj_words.proofs.Waiters.ChainLists.{same_some}
 use Rattle.tj_words.proofs.Holders.HeldChanges.{held_task}
@@ -40,8 +15,9 @@ use Rattle.tj_words.proofs.SeatLoads.LoadSteps.{total_fits}
 use Rattle.tj_words.proofs.Stores.SeatContents.{set_seats, seats_set, seats_same, rule_views}
 use Rattle.tj_words.proofs.Stores.SeatLists.{back, each_set, words_same}
 use Rattle.tj_words.proofs.Holders.SeatTasks.{hold_here, hold_else}
-use Rattle.tj_words.proofs.SeatLoads.WalkReads.{doing, read_to, law_reads_others, law_reads_count}
-use Rattle.tj_words.proofs.SeatLoads.WalkReads.{law_reads_wait, law_reads_seen}
+use Rattle.tj_words.proofs.SeatLoads.WalkReads.{doing, read_to, law_reads_others, law_reads_count, law_reads_wait}
+use Rattle.tj_words.proofs.SeatLoads.WalkReads.{law_reads_seen}
+use Rattle.tj_words.specs.declared.view.Does.TheVariants as does
 
 module _ {B : Type 0} (t : ℕ) (f : Does → Does) (v : View B) (k : Custody B) (held : held_in v.tasks t ≡ Some k) where
   -- what a seat has for its tasks once t does something else

@@ -1,38 +1,14 @@
 -- A task of a seat does something else, in the same phase: the law after it, and the loads of a walker as events.
-use Rattle.std.proofs.Common.{◌≡◌, ◌≢◌, ℕ, suc, Bool, true, false, [], ◌∷◌, ◌++◌, set, Option, Some, None}
-use Rattle.std.proofs.Common.{refl, sym, ap, ◌∙◌, subst, inl, inr, ⊎_elim, length, ◌<◌}
-use Rattle.tj_body.specs.Points.{IsIn}
-use Rattle.tj_body.specs.Programs.{Program}
-use Rattle.tj_core.specs.declared.event.Event.{Event}
-use Rattle.tj_core.specs.declared.event.Event.TheVariants as event
-use Rattle.tj_core.specs.declared.walk.Way.{Way}
-use Rattle.tj_core.specs.declared.walk.Walker.{Walker}
+use Rattle.tj_words.proofs.Prelude.{All, AreThere, Births, Bool, Contents, CoreFacts, Custody, Does, Event}
+use Rattle.tj_words.proofs.Prelude.{EventKeepsFacts, HasAlarmed, IsHeldWith, IsIn, IsLaid, IsThere, IsTurned, Law}
+use Rattle.tj_words.proofs.Prelude.{MayCount, MayLoadOwner, MayReadAgain, MayReadOthers, MayReadOwner, None, Option}
+use Rattle.tj_words.proofs.Prelude.{OwnedLists, Phase, Program, ReadsOn, Rec, ShowsEvent, Some, Walker, Way, [], ap}
+use Rattle.tj_words.proofs.Prelude.{cell, core_shown, count_read, does_cells, drawn_in, false, hand_of, hold, home_of}
+use Rattle.tj_words.proofs.Prelude.{inl, inr, is_owner, length, others_read, owner_found, owner_read, owner_seen}
+use Rattle.tj_words.proofs.Prelude.{phase_of, present, read_cells, refl, set, subst, suc, sym, trail_cells, true}
+use Rattle.tj_words.proofs.Prelude.{wait_found, wait_in, walk_cells, ℕ, ⊎_elim, ◌++◌, ◌<◌, ◌∙◌, ◌∷◌, ◌≡◌, ◌≢◌}
 use Rattle.tj_core.specs.declared.walk.LastRead.{LastRead}
 use Rattle.tj_core.specs.declared.walk.LastRead.TheVariants.{Counted, Passed, SawOwner, SawWait}
-use Rattle.tj_core.specs.CoreFacts.{CoreFacts}
-use Rattle.tj_core.specs.CoreState.{present}
-use Rattle.tj_core.specs.Laws.{EventKeepsFacts}
-use Rattle.tj_core.specs.Events.{others_read, count_read, owner_read, wait_found, owner_found, is_owner}
-use Rattle.tj_core.specs.Events.{MayReadOthers, MayCount, MayReadOwner, MayReadAgain}
-use Rattle.tj_words.specs.declared.phase.Phase.{Phase}
-use Rattle.tj_words.specs.declared.phase.Phase.TheVariants as phase
-use Rattle.tj_words.specs.declared.view.Does.{Does}
-use Rattle.tj_words.specs.declared.view.Does.TheVariants as does
-use Rattle.tj_words.specs.declared.record.Rec.{Rec}
-use Rattle.tj_words.specs.declared.view.Custody.{Custody}
-use Rattle.tj_words.specs.Words.Lists.{All, cell}
-use Rattle.tj_words.specs.LawParts.Holding.{phase_of}
-use Rattle.tj_words.specs.LawParts.Hands.{IsThere}
-use Rattle.tj_words.specs.LawParts.NamedCells.{walk_cells, does_cells, read_cells, trail_cells, AreThere}
-use Rattle.tj_words.specs.SeatViews.TaskLists.{hold}
-use Rattle.tj_words.specs.LawParts.Contents.{Contents, drawn_in, hand_of, home_of, core_shown}
-use Rattle.tj_words.specs.LawParts.LiveCount.{HasAlarmed}
-use Rattle.tj_words.specs.Law.{Law}
-use Rattle.tj_words.specs.LawParts.TreeWords.{Births}
-use Rattle.tj_words.specs.LawParts.Custodies.{IsLaid, OwnedLists}
-use Rattle.tj_words.specs.Steps.StepEvents.{wait_in, IsHeldWith, IsTurned, ShowsEvent}
-use Rattle.tj_words.specs.Steps.WalkSteps.{ReadsOn}
-use Rattle.tj_words.specs.Calls.WalkViews.{owner_seen, MayLoadOwner}
 use Rattle.tj_words.proofs.Holders.HeldTasks.{none_some, one_some, held_listed, in_front, in_back}
 use Rattle.tj_words.proofs.Seating.Merging.{all_append}
 use Rattle.tj_words.proofs.SeatLoads.KnowLoads.{all_cons}
@@ -42,6 +18,9 @@ use Rattle.tj_words.proofs.Holders.HeldChanges.{held_task, hands_held, walks_hel
 use Rattle.tj_words.proofs.Events.StepFacts.{facts_after}
 use Rattle.tj_words.proofs.Events.WalkEvents.{others_shown, count_shown, owner_shown_read, wait_shown_read}
 use Rattle.tj_words.proofs.Events.WalkEvents.{again_shown_read}
+use Rattle.tj_core.specs.declared.event.Event.TheVariants as event
+use Rattle.tj_words.specs.declared.phase.Phase.TheVariants as phase
+use Rattle.tj_words.specs.declared.view.Does.TheVariants as does
 
 -- what holds of the cells of a walk and of those of its newest read holds of the walk with that read
 module _ (F : ℕ → Type 0) where

@@ -1,27 +1,10 @@
 -- A seat more: the law stays where it holds nothing, has nothing to do, and what it knows is so.
-use Rattle.std.proofs.Common.{◌≡◌, ℕ, ◌+◌, List, [], ◌∷◌, ◌++◌, Option, Some, None, refl, sym, ap, subst, ⊎_elim, inl}
-use Rattle.std.proofs.Common.{inr, arith, cond, nat_eq}
-use mathlib.Core.Option.{some}
-use lib.ListN.{get_elem?}
-use Rattle.atomic_table.proofs.Lists.{at_snoc}
-use Rattle.tj_body.specs.Programs.{Program}
-use Rattle.tj_core.specs.CoreFacts.{CoreFacts}
-use Rattle.tj_words.specs.declared.view.Hand.{Hand}
-use Rattle.tj_words.specs.declared.view.Custody.{Custody}
-use Rattle.tj_words.specs.Words.Lists.{total}
-use Rattle.tj_words.specs.LawParts.Lots.{all_lots}
-use Rattle.tj_words.specs.LawParts.Holding.{held_in, find_in, or_else, made_by, owned_by}
-use Rattle.tj_words.specs.LawParts.Hands.{hand_in, making}
-use Rattle.tj_words.specs.LawParts.NamedCells.{NamesCells}
-use Rattle.tj_words.specs.LawParts.ShownState.{state_shown}
-use Rattle.tj_words.specs.LawParts.TreeWords.{Births, IsForkTree, TreeWords}
-use Rattle.tj_words.specs.LawParts.Custodies.{Custodies, OwnedLists}
-use Rattle.tj_words.specs.LawParts.OnceWords.{OnceWords}
-use Rattle.tj_words.specs.LawParts.Meaning.{Meaning}
-use Rattle.tj_words.specs.LawParts.Contents.{Contents, drawn_in, hand_of, held_of, home_of, made_of, owned_of, tag_in}
-use Rattle.tj_words.specs.LawParts.Contents.{bits_in}
-use Rattle.tj_words.specs.LawParts.Contents.{core_shown}
-use Rattle.tj_words.specs.Law.{Law}
+use Rattle.tj_words.proofs.Prelude.{Births, Contents, CoreFacts, Custodies, Custody, Hand, IsForkTree, Law, List}
+use Rattle.tj_words.proofs.Prelude.{Meaning, NamesCells, None, OnceWords, Option, OwnedLists, Program, Some, TreeWords}
+use Rattle.tj_words.proofs.Prelude.{[], all_lots, ap, arith, at_snoc, bits_in, cond, core_shown, drawn_in, find_in}
+use Rattle.tj_words.proofs.Prelude.{get_elem?, hand_in, hand_of, held_in, held_of, home_of, inl, inr, made_by, made_of}
+use Rattle.tj_words.proofs.Prelude.{making, nat_eq, or_else, owned_by, owned_of, refl, some, state_shown, subst, sym}
+use Rattle.tj_words.proofs.Prelude.{tag_in, total, ℕ, ⊎_elim, ◌++◌, ◌+◌, ◌∷◌, ◌≡◌}
 use Rattle.tj_words.proofs.Stores.SeatLists.{back, each_snoc, of_seat_snoc}
 use Rattle.tj_words.proofs.SeatLoads.Learning.{Knowing, IsSo}
 use Rattle.tj_words.proofs.Waiters.ChainSeats.{chains_seats}

@@ -1,19 +1,10 @@
 -- What the words of a new table say.
-use Rattle.std.proofs.Common.{◌≡◌, ◌≢◌, ℕ, zero, suc, ◌+◌, ◌*◌, ◌<◌, List, length, set, replicate, Option, Some, None}
-use Rattle.std.proofs.Common.{refl, sym, ap, ◌∙◌, subst, inr, arith, length-set}
-use lib.ListN.{length-replicate}
-use Rattle.tj_words.specs.declared.head.Head.TheVariants.{Empty}
-use Rattle.tj_words.specs.declared.offsets.Once.{Once}
-use Rattle.tj_words.specs.declared.offsets.Once.TheVariants.{Tag, Bits, Parent, Kid, Depth, Jump}
-use Rattle.tj_words.specs.declared.phase.Phase.{Phase}
-use Rattle.tj_words.specs.declared.phase.Phase.TheVariants.{Unborn, Ready}
-use Rattle.tj_words.specs.Words.Offsets.{word, words_for, own_at, phase_at, once_at, head_at, next_at}
-use Rattle.tj_words.specs.Words.Owners.{owner_in}
-use Rattle.tj_words.specs.Words.Phases.{phase_in}
-use Rattle.tj_words.specs.Words.Heads.{head_in}
-use Rattle.tj_words.specs.Words.Codes.{IsPhaseWord, AreCellWords, Codes}
-use Rattle.tj_words.specs.LawParts.Contents.{WordsSay, words_say}
-use Rattle.tj_words.specs.LawParts.FirstState.{first_words}
+use Rattle.tj_words.proofs.Prelude.{Bits, Codes, Depth, Empty, Jump, Kid, List, None, Once, Option, Parent, Phase}
+use Rattle.tj_words.proofs.Prelude.{Ready, Some, Tag, Unborn, WordsSay, ap, arith, first_words, head_in, inr, length}
+use Rattle.tj_words.proofs.Prelude.{length-replicate, length-set, once_at, own_at, owner_in, phase_in, refl, replicate}
+use Rattle.tj_words.proofs.Prelude.{set, subst, suc, sym, word, words_say, zero, ℕ, ◌*◌, ◌+◌, ◌<◌, ◌∙◌, ◌≡◌, ◌≢◌}
+use Rattle.tj_words.specs.Words.Offsets.{words_for, phase_at, head_at, next_at}
+use Rattle.tj_words.specs.Words.Codes.{IsPhaseWord, AreCellWords}
 use Rattle.tj_words.proofs.Stores.SeatLists.{word_else, word_here}
 
 abbrev pub first_own : ℕ → Option ℕ

@@ -1,28 +1,12 @@
 -- A merge keeps the rule of the table.
-use Rattle.std.proofs.Common.{◌≡◌, ◌≢◌, ◌⊎◌, ℕ, zero, suc, ◌+◌, ◌<◌, ◌≤◌, Bool, true, false, cond, nat_lt, ◌||◌, List, []}
-use Rattle.std.proofs.Common.{◌∷◌, ◌++◌, length, Option, Some, None, map, set, refl, sym, ap, ◌∙◌, subst, ⊎_elim, inl}
-use Rattle.std.proofs.Common.{inr, arith, ltb-true, ltb-false}
-use mathlib.Core.Option.{some, some-injective}
-use mathlib.Core.Logic.{dite}
-use native.Mathlib.Decide.{ℕ_discrete}
-use lib.ListN.{get_elem?}
+use Rattle.tj_words.proofs.Prelude.{All, Begins, Bool, Contents, Custody, HasWakeToCome, IsCell, IsIn, IsSeat, IsStored}
+use Rattle.tj_words.proofs.Prelude.{Key, Law, List, Lots, None, Option, Program, Rec, Reference, Rule, SeatsHave, Some}
+use Rattle.tj_words.proofs.Prelude.{Stops, View, [], ap, arith, at_longer, at_map, both, cond, contents_of, dite, false}
+use Rattle.tj_words.proofs.Prelude.{get_elem?, inl, inr, length, ltb-false, ltb-true, map, nat_lt, refl, seats_have}
+use Rattle.tj_words.proofs.Prelude.{set, set_again, set_else, some, some-injective, subst, suc, sym, true, words_say}
+use Rattle.tj_words.proofs.Prelude.{zero, ℕ, ℕ_discrete, ⊎_elim, ◌++◌, ◌+◌, ◌<◌, ◌||◌, ◌∙◌, ◌∷◌, ◌≡◌, ◌≢◌, ◌≤◌, ◌⊎◌}
 use Rattle.atomic_table.specs.Table.{State, Joins}
-use Rattle.atomic_table.proofs.Lists.{at_map, set_again, set_else, at_longer}
-use Rattle.tj_body.specs.Programs.{Program}
-use Rattle.tj_body.specs.Points.{Begins, IsIn}
-use Rattle.tj_body.specs.declared.point.Reference.{Reference}
-use Rattle.tj_words.specs.declared.record.Rec.{Rec}
-use Rattle.tj_words.specs.declared.table.Key.{Key}
-use Rattle.tj_words.specs.declared.view.Custody.{Custody}
-use Rattle.tj_words.specs.declared.view.View.{View}
-use Rattle.tj_words.specs.Words.Lists.{All}
-use Rattle.tj_words.specs.LawParts.LiveCount.{HasWakeToCome}
-use Rattle.tj_words.specs.LawParts.TreeWords.{IsCell}
-use Rattle.tj_words.specs.LawParts.Contents.{Contents, SeatsHave, words_say, seats_have, contents_of}
-use Rattle.tj_words.specs.Law.{Law, Rule, IsSeat}
-use Rattle.tj_words.specs.LawParts.Lots.{Lots}
-use Rattle.tj_words.specs.LawParts.Stops.{IsStored, Stops}
-use Rattle.tj_words.specs.SeatViews.Views.{longer, both, spent, IsIdle}
+use Rattle.tj_words.specs.SeatViews.Views.{longer, spent, IsIdle}
 use Rattle.tj_words.proofs.Stores.SeatLists.{each_set, inside, of_seat_here, of_seat_else}
 use Rattle.tj_words.proofs.Holders.HeldTasks.{in_front, in_back}
 use Rattle.tj_words.proofs.Stores.SeatContents.{set_seats, seats_set, seats_same, rule_views}

@@ -1,50 +1,25 @@
 -- A new table meets the rule.
-use Rattle.std.proofs.Common.{◌≡◌, ◌⊎◌, ℕ, zero, suc, ◌+◌, ◌-◌, ◌<◌, ◌≤◌, min, Bool, false, List, []}
-use Rattle.std.proofs.Common.{◌∷◌, map, length, replicate, Option, Some, None, refl, sym, ap, ◌∙◌, subst, inl}
-use Rattle.std.proofs.Common.{inr, ⊎_elim, arith, cond, nat_lt, le-ltb, ne_eqb, ◌↔◌}
-use mathlib.Core.Option.{some, none, some-injective, some-ne-none}
-use mathlib.Core.Option as maybe
-use lib.ListN.{get_elem?, length-replicate}
-use Rattle.atomic_table.specs.Table.{opening}
-use Rattle.tj_base.specs.declared.cell.Sort.TheVariants as sort
+use Rattle.tj_words.proofs.Prelude.{All, AreApart, Births, Bits, Bool, CellState, Chains, Contents, CoreFacts}
+use Rattle.tj_words.proofs.Prelude.{Custodies, Custody, Depth, Empty, Entry, Hand, Hands, HasWakeToCome, InRounds}
+use Rattle.tj_words.proofs.Prelude.{IsCell, IsFilled, IsForkTree, IsIn, IsKept, IsOfTree, IsRecordIn, IsRooted, IsSeat}
+use Rattle.tj_words.proofs.Prelude.{IsThere, IsToldRecord, Jump, Key, Kid, Law, List, Meaning, NamesCells, None, Once}
+use Rattle.tj_words.proofs.Prelude.{OnceWords, Option, OwnedLists, Parent, Phase, Program, Ready, Rec, Reference, Rule}
+use Rattle.tj_words.proofs.Prelude.{Some, Tag, TasksStart, TreeWords, Unborn, Waiting, [], ap, arith, begins_self}
+use Rattle.tj_words.proofs.Prelude.{blank, cond, core_shown, false, first_slots, first_view, first_words, get_elem?}
+use Rattle.tj_words.proofs.Prelude.{hand_in, home_in, inl, inr, le-ltb, length, length-replicate, live_tasks, made_by}
+use Rattle.tj_words.proofs.Prelude.{made_of, map, min, nat_lt, ne_eqb, opening, owned_by, owned_of, parked_phase}
+use Rattle.tj_words.proofs.Prelude.{record_cells, refl, replicate, root_alone, root_record, seats_have, some}
+use Rattle.tj_words.proofs.Prelude.{some-injective, some-ne-none, sort_shown, subst, suc, sym, to_task, tree_word, zero}
+use Rattle.tj_words.proofs.Prelude.{ℕ, ⊎_elim, ◌+◌, ◌-◌, ◌<◌, ◌↔◌, ◌∙◌, ◌∷◌, ◌≡◌, ◌≤◌, ◌⊎◌}
 use Rattle.tj_base.specs.declared.cell.TheConstants.{MAX_CELLS}
-use Rattle.tj_body.specs.History.{to_task, start}
-use Rattle.tj_body.specs.Points.{IsIn}
-use Rattle.tj_body.proofs.Lists.{begins_self}
-use Rattle.tj_body.specs.declared.point.Reference.{Reference}
-use Rattle.tj_body.specs.declared.point.Entry.{Entry}
-use Rattle.tj_core.specs.CoreState.{CellState, blank, root_alone}
-use Rattle.tj_core.specs.CoreFacts.{CoreFacts}
+use Rattle.tj_body.specs.History.{start}
 use Rattle.tj_core.specs.Laws.{StartMeetsFacts}
-use Rattle.tj_words.specs.declared.head.Head.TheVariants.{Empty}
-use Rattle.tj_words.specs.declared.offsets.Once.{Once}
-use Rattle.tj_words.specs.declared.offsets.Once.TheVariants.{Tag, Bits, Parent, Kid, Depth, Jump}
-use Rattle.tj_words.specs.declared.phase.Phase.{Phase}
-use Rattle.tj_words.specs.declared.phase.Phase.TheVariants.{Unborn, Ready, Waiting}
-use Rattle.tj_words.specs.declared.record.Rec.{Rec}
-use Rattle.tj_words.specs.declared.table.Key.{Key}
-use Rattle.tj_words.specs.declared.view.Hand.{Hand}
-use Rattle.tj_words.specs.declared.view.Custody.{Custody}
-use Rattle.tj_words.specs.Words.Lists.{All, AreApart}
-use Rattle.tj_words.specs.LawParts.Holding.{home_in, owned_by, made_by}
-use Rattle.tj_words.specs.LawParts.Hands.{IsThere, Hands, hand_in}
-use Rattle.tj_words.specs.LawParts.NamedCells.{NamesCells, record_cells}
-use Rattle.tj_words.specs.LawParts.TreeWords.{IsCell, Births, IsForkTree, TreeWords, tree_word, IsOfTree}
-use Rattle.tj_words.specs.LawParts.Custodies.{Custodies, OwnedLists, IsKept}
-use Rattle.tj_words.specs.LawParts.OnceWords.{OnceWords}
-use Rattle.tj_words.specs.LawParts.Chains.{Chains, parked_phase}
-use Rattle.tj_words.specs.LawParts.LiveCount.{live_tasks, HasWakeToCome}
-use Rattle.tj_words.specs.LawParts.Contents.{Contents, seats_have, core_shown, owned_of, made_of}
-use Rattle.tj_words.specs.Law.{IsRooted, Law, Rule, IsSeat}
-use Rattle.tj_body.specs.Programs.{Program, root_task}
-use Rattle.tj_body.specs.RoundPoints.{InRounds, TasksStart}
-use Rattle.tj_words.specs.LawParts.Meaning.{IsFilled, IsToldRecord, Meaning}
-use Rattle.tj_words.specs.LawParts.FirstState.{root_record, first_slots, first_words, first_view}
-use Rattle.tj_words.specs.LawParts.RecordPhases.{IsRecordIn}
-use Rattle.tj_words.specs.LawParts.ShownState.{sort_shown}
+use Rattle.tj_body.specs.Programs.{root_task}
 use Rattle.tj_words.proofs.Stores.SeatLists.{each_only}
 use Rattle.tj_words.proofs.Seating.FirstWords.{first_own, first_phase, first_once, root_once, first_say, first_wide}
 use Rattle.tj_words.proofs.Seating.FirstWords.{first_words_say, first_codes}
+use mathlib.Core.Option as maybe
+use Rattle.tj_base.specs.declared.cell.Sort.TheVariants as sort
 
 -- what is there in a table of one cell is that cell
 pub only_root : (c : ℕ) → c < 1 → c ≡ 0

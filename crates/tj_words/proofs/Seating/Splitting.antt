@@ -1,22 +1,11 @@
 -- A split keeps the rule of the table.
-use Rattle.std.proofs.Common.{◌≡◌, Bool, ℕ, zero, suc, ◌+◌, ◌-◌, List, [], ◌∷◌, ◌++◌, Option, Some, None, set, refl}
-use Rattle.std.proofs.Common.{sym, ap, ◌∙◌, inl, inr, arith, ⊎_elim}
-use mathlib.Core.Option.{some, some-injective, some-ne-none}
-use mathlib.Core.List.{map-append}
-use lib.ListN.{get_elem?}
-use Rattle.atomic_table.specs.Table.{State, Splits}
-use Rattle.atomic_table.proofs.Lists.{at_map}
-use Rattle.tj_body.specs.Programs.{Program}
-use Rattle.tj_words.specs.declared.record.Rec.{Rec}
-use Rattle.tj_words.specs.declared.table.Key.{Key}
-use Rattle.tj_words.specs.declared.view.Custody.{Custody}
-use Rattle.tj_words.specs.declared.view.View.{View}
-use Rattle.tj_words.specs.Words.Lists.{total}
-use Rattle.tj_words.specs.LawParts.Lots.{IsSpent, all_lots, least_lot}
-use Rattle.tj_words.specs.LawParts.LiveCount.{HasWakeToCome}
-use Rattle.tj_words.specs.LawParts.Contents.{SeatsHave, seats_have, contents_of}
-use Rattle.tj_words.specs.Law.{Rule, IsSeat}
-use Rattle.tj_words.specs.SeatViews.Views.{left_half, right_half, MaySplit}
+use Rattle.tj_words.proofs.Prelude.{Bool, Custody, HasWakeToCome, IsSeat, IsSpent, Key, List, None, Option, Program}
+use Rattle.tj_words.proofs.Prelude.{Rec, Rule, SeatsHave, Some, State, View, [], all_lots, ap, arith, at_map}
+use Rattle.tj_words.proofs.Prelude.{contents_of, get_elem?, inl, inr, least_lot, left_half, map-append, refl}
+use Rattle.tj_words.proofs.Prelude.{right_half, seats_have, set, some, some-injective, some-ne-none, suc, sym, total}
+use Rattle.tj_words.proofs.Prelude.{zero, ℕ, ⊎_elim, ◌++◌, ◌+◌, ◌-◌, ◌∙◌, ◌∷◌, ◌≡◌}
+use Rattle.atomic_table.specs.Table.{Splits}
+use Rattle.tj_words.specs.SeatViews.Views.{MaySplit}
 use Rattle.tj_words.proofs.Stores.SeatLists.{each_set, each_snoc}
 use Rattle.tj_words.proofs.Stores.SeatContents.{seats_set, seats_same, rule_views}
 use Rattle.tj_words.proofs.SeatLoads.Learning.{knowing_of}

@@ -1,21 +1,9 @@
 -- Columns, functions of a cell, of which a step changes one value: what is read of them is kept, or changes there
 -- alone.
-use Rattle.std.proofs.Common.{◌≡◌, ◌≢◌, ℕ, List, set, Option, Some, None, refl, sym, ap, ◌∙◌, subst, inl, inr, ⊎_elim}
-use Rattle.std.proofs.Common.{◌⊎◌}
-use mathlib.Core.Option.{some}
-use mathlib.Core.Logic.{dite}
-use native.Mathlib.Decide.{ℕ_discrete}
-use lib.ListN.{get_elem?}
-use Rattle.tj_base.specs.Puts.{put}
-use Rattle.tj_base.proofs.Puts.{at_put, put_here, put_else}
-use Rattle.tj_body.specs.Programs.{Program}
-use Rattle.tj_words.specs.declared.view.Custody.{Custody}
-use Rattle.tj_words.specs.declared.view.Hand.{Hand}
-use Rattle.tj_words.specs.LawParts.Contents.{Contents, hand_of, held_of}
-use Rattle.tj_words.specs.LawParts.Hands.{hand_in, making}
-use Rattle.tj_words.specs.LawParts.Holding.{find_in, held_in, phase_of}
-use Rattle.tj_words.specs.SeatViews.TaskLists.{noted}
-use Rattle.tj_words.specs.Law.{Law}
+use Rattle.tj_words.proofs.Prelude.{Contents, Custody, Hand, Law, List, None, Option, Program, Some, ap, at_put, dite}
+use Rattle.tj_words.proofs.Prelude.{find_in, get_elem?, hand_in, hand_of, held_in, held_of, inl, inr, making, noted}
+use Rattle.tj_words.proofs.Prelude.{phase_of, put, put_else, put_here, refl, set, some, subst, sym, ℕ, ℕ_discrete}
+use Rattle.tj_words.proofs.Prelude.{⊎_elim, ◌∙◌, ◌≡◌, ◌≢◌, ◌⊎◌}
 use Rattle.tj_words.proofs.Cells.HandChanges.{IsLike}
 use Rattle.tj_words.proofs.Cells.SeatHands.{hand_kept, hand_set, makes_kept, makes_set, other_cell, other_maker}
 use Rattle.tj_words.proofs.Holders.HeldTasks.{one_some}

@@ -1,42 +1,11 @@
 -- The stores of BITS and TAG keep the rule.
-use Rattle.std.proofs.Common.{◌≡◌, ◌≢◌, ℕ, ◌<◌, ◌≤◌, Bool, List, [], ◌∷◌, set, Option, refl, sym, ap, ◌∙◌}
-use Rattle.std.proofs.Common.{subst, arith}
-use mathlib.Core.Logic.{dite}
-use mathlib.Core.Option.{some, some-injective, none}
-use native.Mathlib.Decide.{ℕ_discrete}
-use lib.ListN.{get_elem?}
-use Rattle.atomic_table.specs.Table.{State, step, Allows}
-use Rattle.atomic_table.proofs.Lists.{at_map}
-use Rattle.tj_base.specs.Puts.{put}
-use Rattle.tj_body.specs.Programs.{Program}
-use Rattle.tj_body.specs.RoundPoints.{Becomes}
-use Rattle.tj_body.specs.declared.point.Reference.{Reference}
-use Rattle.tj_base.specs.declared.cell.Sort.{Sort}
-use Rattle.tj_base.specs.declared.cell.Sort.TheVariants as sort
-use Rattle.tj_body.specs.declared.point.Value.TheVariants as value
-use Rattle.tj_body.specs.declared.point.Entry.{Entry}
-use Rattle.tj_body.specs.declared.point.Entry.TheVariants as entry
-use Rattle.tj_body.proofs.RoundPoints.{entries_are_one}
-use Rattle.tj_words.specs.declared.offsets.Once.{Once}
-use Rattle.tj_words.specs.declared.offsets.Once.TheVariants as once
-use Rattle.tj_words.specs.declared.record.Rec.{Rec}
-use Rattle.tj_words.specs.declared.table.Key.{Key}
-use Rattle.tj_words.specs.declared.view.About.{About}
-use Rattle.tj_words.specs.declared.view.Filled.{Filled}
-use Rattle.tj_words.specs.declared.view.View.{View}
-use Rattle.tj_words.specs.Words.Offsets.{once_at}
-use Rattle.tj_words.specs.LawParts.TreeWords.{IsDue}
-use Rattle.tj_words.specs.LawParts.Telling.{tag_of, sort_tag}
-use Rattle.tj_words.specs.LawParts.Chains.{Chains}
-use Rattle.tj_words.specs.LawParts.LiveCount.{IsBacked, HasWakeToCome}
-use Rattle.tj_words.specs.LawParts.RecordPhases.{RecordsFit}
-use Rattle.tj_words.specs.LawParts.Meaning.{Meaning}
-use Rattle.tj_words.specs.LawParts.Contents.{SeatsHave, seats_have, Contents, drawn_in, hand_of, home_of, tag_in}
-use Rattle.tj_words.specs.LawParts.Contents.{bits_in}
-use Rattle.tj_words.specs.Law.{Law, Rule, IsSeat}
-use Rattle.tj_words.specs.SeatViews.SeatSteps.{SeatMe}
-use Rattle.tj_words.specs.Calls.DrawViews.{without_due}
-use Rattle.tj_words.specs.SeatViews.KnownEntries.{HasSeen, MayStoreBits}
+use Rattle.tj_words.proofs.Prelude.{About, Allows, Becomes, Bool, Chains, Contents, Entry, Filled, HasSeen}
+use Rattle.tj_words.proofs.Prelude.{HasWakeToCome, IsBacked, IsDue, IsSeat, Key, Law, List, MayStoreBits, Meaning, Once}
+use Rattle.tj_words.proofs.Prelude.{Option, Program, Rec, RecordsFit, Reference, Rule, SeatMe, SeatsHave, Sort, State}
+use Rattle.tj_words.proofs.Prelude.{View, [], ap, arith, at_map, bits_in, dite, drawn_in, entries_are_one, get_elem?}
+use Rattle.tj_words.proofs.Prelude.{hand_of, home_of, none, once_at, put, refl, seats_have, set, some, some-injective}
+use Rattle.tj_words.proofs.Prelude.{sort_tag, step, subst, sym, tag_in, tag_of, without_due, ℕ, ℕ_discrete, ◌<◌, ◌∙◌}
+use Rattle.tj_words.proofs.Prelude.{◌∷◌, ◌≡◌, ◌≢◌, ◌≤◌}
 use Rattle.tj_words.specs.Calls.EntryViews.{MayPutBits, MayPutTag, wrote_bits, wrote_tag, bits_store, tag_store}
 use Rattle.tj_words.proofs.Stores.SeatContents.{seats_same}
 use Rattle.tj_words.proofs.Waiters.ChainPhases.{chains_tag}
@@ -50,6 +19,10 @@ use Rattle.tj_words.proofs.Stores.StoredWords.{put_word, put_word_here, put_word
 use Rattle.tj_words.proofs.Stores.OnceStores.{due_else, once_stored, tree_words_stored}
 use Rattle.tj_words.proofs.Stores.ValueStores.{bits_stored}
 use Rattle.tj_words.proofs.Stores.WrittenOnce.{once_stores}
+use Rattle.tj_base.specs.declared.cell.Sort.TheVariants as sort
+use Rattle.tj_body.specs.declared.point.Value.TheVariants as value
+use Rattle.tj_body.specs.declared.point.Entry.TheVariants as entry
+use Rattle.tj_words.specs.declared.offsets.Once.TheVariants as once
 
 -- z with the fields of seats that had y, once seat id, which had v, has written the word f of c, and has w
 abbrev written : {B : Type 0} → SeatsHave B → ℕ → ℕ → Once → View B → View B → List (List ℕ) → SeatsHave B → SeatsHave B

@@ -1,13 +1,6 @@
 -- Steps on a word at which the seat gives the slot back that it took last.
-use Rattle.std.proofs.Common.{◌≡◌, ℕ, Bool, ◌∷◌, set, Option, sym, ap, subst}
-use mathlib.Core.Option.{some}
-use Rattle.atomic_table.specs.Table.{State, gives, put_back, rest}
-use Rattle.tj_body.specs.Programs.{Program}
-use Rattle.tj_words.specs.declared.record.Rec.{Rec}
-use Rattle.tj_words.specs.declared.table.Key.{Key}
-use Rattle.tj_words.specs.declared.view.View.{View}
-use Rattle.tj_words.specs.Law.{Rule}
-use Rattle.tj_words.specs.SeatViews.SeatSteps.{SeatMe}
+use Rattle.tj_words.proofs.Prelude.{Bool, Key, Option, Program, Rec, Rule, SeatMe, State, View, ap, gives, put_back}
+use Rattle.tj_words.proofs.Prelude.{rest, set, some, subst, sym, ℕ, ◌∷◌, ◌≡◌}
 use Rattle.tj_words.proofs.Stores.SlotStores.{StoresWith, rule_stores_with, Acts}
 
 -- the slot of t comes home with y

@@ -1,32 +1,11 @@
 -- Steps on HEAD, on NEXT and on LIVE change one part of the law, and steps on OTHERS and on STOP two at most.
-use Rattle.std.proofs.Common.{◌≡◌, ℕ, List, Option}
-use Rattle.tj_body.specs.Programs.{Program}
-use Rattle.tj_body.specs.declared.point.Reference.{Reference}
-use Rattle.tj_words.specs.declared.head.Head.{Head}
-use Rattle.tj_words.specs.declared.offsets.Once.{Once}
-use Rattle.tj_words.specs.declared.offsets.Once.TheVariants as once
-use Rattle.tj_words.specs.declared.view.Custody.{Custody}
-use Rattle.tj_words.specs.declared.view.Due.{Due}
-use Rattle.tj_words.specs.declared.view.Filled.{Filled}
-use Rattle.tj_words.specs.declared.view.SeenWord.{SeenWord}
-use Rattle.tj_words.specs.declared.view.Push.{Push}
-use Rattle.tj_words.specs.declared.view.Rest.{Rest}
-use Rattle.tj_words.specs.declared.view.Found.{Found}
-use Rattle.tj_words.specs.LawParts.Chains.{Chains}
-use Rattle.tj_words.specs.LawParts.Custodies.{Custodies, OwnedLists}
-use Rattle.tj_words.specs.LawParts.Hands.{Hands}
-use Rattle.tj_words.specs.LawParts.LiveCount.{LiveCount}
-use Rattle.tj_words.specs.LawParts.Stops.{Stops}
-use Rattle.tj_words.specs.LawParts.NamedCells.{NamesCells}
-use Rattle.tj_words.specs.LawParts.OnceWords.{OnceWords}
-use Rattle.tj_words.specs.LawParts.RecordPhases.{RecordsFit, WaitersOwn}
-use Rattle.tj_words.specs.LawParts.TreeWords.{Births, TreeWords}
-use Rattle.tj_core.specs.CoreFacts.{CoreFacts}
-use Rattle.tj_words.specs.LawParts.Meaning.{Meaning}
-use Rattle.tj_words.specs.LawParts.Contents.{WordsSay, SeatsHave, Contents, tag_in, bits_in, drawn_in, hand_of, home_of}
-use Rattle.tj_words.specs.LawParts.Contents.{owned_of, made_of, core_shown}
-use Rattle.tj_words.specs.Law.{Law}
+use Rattle.tj_words.proofs.Prelude.{Births, Chains, Contents, CoreFacts, Custodies, Custody, Due, Filled, Found, Hands}
+use Rattle.tj_words.proofs.Prelude.{Head, Law, List, LiveCount, Meaning, NamesCells, Once, OnceWords, Option}
+use Rattle.tj_words.proofs.Prelude.{OwnedLists, Program, Push, RecordsFit, Reference, Rest, SeatsHave, SeenWord, Stops}
+use Rattle.tj_words.proofs.Prelude.{TreeWords, WaitersOwn, WordsSay, bits_in, core_shown, drawn_in, hand_of, home_of}
+use Rattle.tj_words.proofs.Prelude.{made_of, owned_of, tag_in, ℕ, ◌≡◌}
 use Rattle.tj_words.proofs.Stores.SeatLists.{back}
+use Rattle.tj_words.specs.declared.offsets.Once.TheVariants as once
 
 module _ {B : Type 0} {program : Program B} {cells : ℕ} {x : Contents B} (law : Law program cells x) where
   -- the contents with these words and seats, but for draws, owners, phases, hands, tasks, lots and known cells, which

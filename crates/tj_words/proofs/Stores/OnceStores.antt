@@ -1,29 +1,15 @@
 -- The store of a word that is written once: what was seen of these words stands, each other one is due as before, and
 -- the words of the tree are right.
-use Rattle.std.proofs.Common.{◌≡◌, ◌≢◌, ℕ, ◌<◌, Bool, cond, nat_eq, List, [], ◌∷◌, ◌++◌, set, Option, Some, None}
-use Rattle.std.proofs.Common.{refl, sym, ap, ◌∙◌, subst, inl, inr, ⊎_elim, arith, eq-eqb, ne_eqb}
-use mathlib.Core.Option.{some, some-injective}
-use mathlib.Core.Logic.{dite}
-use native.Mathlib.Decide.{ℕ_discrete, dec_le}
-use lib.ListN.{get_elem?}
-use Rattle.tj_body.specs.Points.{IsIn}
-use Rattle.tj_body.proofs.Lists.{in_either}
-use Rattle.tj_body.specs.declared.point.Reference.{Reference}
-use Rattle.tj_tree.specs.Forks.{Forks}
-use Rattle.tj_words.specs.declared.offsets.Once.{Once}
-use Rattle.tj_words.specs.declared.offsets.Once.TheVariants as once
-use Rattle.tj_words.specs.declared.view.Hand.{Hand}
-use Rattle.tj_words.specs.declared.view.SeenWord.{SeenWord}
-use Rattle.tj_words.specs.declared.view.Due.{Due}
-use Rattle.tj_words.specs.Words.Lists.{OfSeat, All}
-use Rattle.tj_words.specs.Words.Offsets.{once_at}
-use Rattle.tj_words.specs.LawParts.TreeWords.{IsCell, IsOfTree, IsDue, tree_word, TreeWords}
-use Rattle.tj_words.specs.LawParts.OnceWords.{Stands, OnceWords}
-use Rattle.tj_words.specs.Calls.DrawViews.{without_due}
+use Rattle.tj_words.proofs.Prelude.{All, Bool, Due, Forks, Hand, IsCell, IsDue, IsIn, IsOfTree, List, None, OfSeat}
+use Rattle.tj_words.proofs.Prelude.{Once, OnceWords, Option, Reference, SeenWord, Some, Stands, TreeWords, [], ap}
+use Rattle.tj_words.proofs.Prelude.{arith, cond, dec_le, dite, eq-eqb, get_elem?, in_either, inl, inr, nat_eq, ne_eqb}
+use Rattle.tj_words.proofs.Prelude.{once_at, refl, set, some, some-injective, subst, sym, tree_word, without_due, ℕ}
+use Rattle.tj_words.proofs.Prelude.{ℕ_discrete, ⊎_elim, ◌++◌, ◌<◌, ◌∙◌, ◌∷◌, ◌≡◌, ◌≢◌}
 use Rattle.tj_words.proofs.Stores.SeatLists.{each_set, each_else, of_seat_set}
 use Rattle.tj_words.proofs.Holders.HeldTasks.{none_some, one_some}
 use Rattle.tj_words.proofs.Stores.StoredWords.{put_word, put_word_here, put_word_else}
 use Rattle.tj_words.proofs.Stores.TableWords.{same_cell, same_word}
+use Rattle.tj_words.specs.declared.offsets.Once.TheVariants as once
 
 -- what is due still isn't the word that was written
 pub due_else : (c : ℕ) (f : Once) (ds : List Due) (d : Due) → IsIn d (without_due c f ds)

@@ -1,17 +1,7 @@
 -- The contents of a table after a step of one seat: what the seats have, where one view changes.
-use Rattle.std.proofs.Common.{◌≡◌, ℕ, Bool, List, set, Option, sym, ap, subst, ◌∙◌}
-use mathlib.Core.Option.{some}
-use lib.ListN.{get_elem?}
-use lib.Seq.{map-set}
-use Rattle.atomic_table.proofs.Lists.{set_again}
-use Rattle.atomic_table.specs.Table.{State}
-use Rattle.tj_body.specs.Programs.{Program}
-use Rattle.tj_words.specs.declared.record.Rec.{Rec}
-use Rattle.tj_words.specs.declared.table.Key.{Key}
-use Rattle.tj_words.specs.declared.view.View.{View}
-use Rattle.tj_words.specs.Words.Lists.{Each}
-use Rattle.tj_words.specs.LawParts.Contents.{SeatsHave, seats_have, words_say}
-use Rattle.tj_words.specs.Law.{IsSeat, Law, Rule}
+use Rattle.tj_words.proofs.Prelude.{Bool, Each, IsSeat, Key, Law, List, Option, Program, Rec, Rule, SeatsHave, State}
+use Rattle.tj_words.proofs.Prelude.{View, ap, get_elem?, map-set, seats_have, set, set_again, some, subst, sym}
+use Rattle.tj_words.proofs.Prelude.{words_say, ℕ, ◌∙◌, ◌≡◌}
 
 module _ {B : Type 0} where
   -- seat id has the view w

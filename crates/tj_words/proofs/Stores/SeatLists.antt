@@ -1,15 +1,8 @@
 -- Lists over seats, in which one seat's element changes, and words of which one changes.
-use Rattle.std.proofs.Common.{◌≡◌, ◌≢◌, ℕ, zero, suc, ◌<◌, List, [], ◌∷◌, ◌++◌, map, length, set, refl, sym, ap, ◌∙◌}
-use Rattle.std.proofs.Common.{subst, arith}
-use Rattle.std.proofs.Common.{⊎_elim, get_or-set_other, get_or-set_same}
-use mathlib.Core.Option.{some, some-injective, some-ne-none}
-use lib.ListN.{get_elem?}
-use lib.Seq.{map-set}
-use mathlib.Core.Logic.{dite}
-use native.Mathlib.Decide.{ℕ_discrete}
-use Rattle.atomic_table.proofs.Lists.{at_set, set_here, set_else, set_again, at_map, at_snoc, at_longer}
-use Rattle.tj_words.specs.Words.Lists.{Each, OfSeat}
-use Rattle.tj_words.specs.Words.Offsets.{word}
+use Rattle.tj_words.proofs.Prelude.{Each, List, OfSeat, [], ap, arith, at_longer, at_map, at_set, at_snoc, dite}
+use Rattle.tj_words.proofs.Prelude.{get_elem?, get_or-set_other, get_or-set_same, length, map, map-set, refl, set}
+use Rattle.tj_words.proofs.Prelude.{set_again, set_else, set_here, some, some-injective, some-ne-none, subst, suc, sym}
+use Rattle.tj_words.proofs.Prelude.{word, zero, ℕ, ℕ_discrete, ⊎_elim, ◌++◌, ◌<◌, ◌∙◌, ◌∷◌, ◌≡◌, ◌≢◌}
 
 -- a proof goes back along a path of facts
 pub back : {X Y : Type 0} → X ≡ Y → Y → X

@@ -1,17 +1,8 @@
 -- Steps on a word at which the seat also takes a slot, gives one back, or leaves them as they are.
-use Rattle.std.proofs.Common.{◌≡◌, ℕ, ◌<◌, Bool, ◌∷◌, length, set, Option, sym, ◌∙◌, subst}
-use Rattle.std.proofs.Common.{length-set}
-use mathlib.Core.Option.{some, none}
-use lib.ListN.{get_elem?}
-use Rattle.atomic_table.specs.Table.{State, Act, keeps, takes, Valid, stepped, carried_after}
-use Rattle.tj_body.specs.Programs.{Program}
-use Rattle.tj_words.specs.declared.record.Rec.{Rec}
-use Rattle.tj_words.specs.declared.table.Key.{Key}
-use Rattle.tj_words.specs.declared.view.View.{View}
-use Rattle.tj_words.specs.LawParts.Holding.{Slots}
-use Rattle.tj_words.specs.LawParts.Contents.{Contents, words_say, seats_have}
-use Rattle.tj_words.specs.Law.{Law, Rule, IsSeat}
-use Rattle.tj_words.specs.SeatViews.SeatSteps.{SeatMe}
+use Rattle.tj_words.proofs.Prelude.{Act, Bool, Contents, IsSeat, Key, Law, Option, Program, Rec, Rule, SeatMe, Slots}
+use Rattle.tj_words.proofs.Prelude.{State, View, carried_after, get_elem?, keeps, length, length-set, none, seats_have}
+use Rattle.tj_words.proofs.Prelude.{set, some, stepped, subst, sym, takes, words_say, ℕ, ◌<◌, ◌∙◌, ◌∷◌, ◌≡◌}
+use Rattle.atomic_table.specs.Table.{Valid}
 use Rattle.tj_words.proofs.Stores.SeatLists.{each_set}
 use Rattle.tj_words.proofs.Stores.SeatContents.{set_seats, seats_set}
 use Rattle.tj_words.proofs.Stores.StoreSteps.{MayHold, MayStore, codes_store, may_store}

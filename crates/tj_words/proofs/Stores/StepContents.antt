@@ -1,13 +1,7 @@
 -- The contents of a table after a store: those with another word, and the seat's view. The law after a step and what a
 -- call shows are both told of these contents, so a kind of step has one path to them and no more.
-use Rattle.std.proofs.Common.{◌≡◌, ℕ, ◌<◌, Option, ap, length, ◌∙◌}
-use Rattle.atomic_table.specs.Table.{Act, State, homes_after, keeps, stepped}
-use Rattle.tj_words.specs.declared.record.Rec.{Rec}
-use Rattle.tj_words.specs.declared.view.View.{View}
-use Rattle.tj_words.specs.LawParts.Contents.{Contents, contents_of, seats_have, words_say}
-use Rattle.tj_words.specs.LawParts.Holding.{Slots}
-use Rattle.tj_words.specs.SeatViews.SeatSteps.{SeatMe}
-use Rattle.tj_words.specs.CallLaws.CallSteps.{MakesWith}
+use Rattle.tj_words.proofs.Prelude.{Act, Contents, MakesWith, Option, Rec, SeatMe, Slots, State, View, ap, contents_of}
+use Rattle.tj_words.proofs.Prelude.{homes_after, keeps, length, seats_have, stepped, words_say, ℕ, ◌<◌, ◌∙◌, ◌≡◌}
 use Rattle.tj_words.proofs.Stores.SeatContents.{seats_set, set_seats}
 use Rattle.tj_words.proofs.Stores.StoredWords.{said, say}
 use Rattle.tj_words.proofs.Stores.TableWords.{TableWord, index}

@@ -1,29 +1,14 @@
 -- Stores: what may be stored into a word, and a step that stores a word and changes the view of its seat.
-use Rattle.std.proofs.Common.{◌≡◌, ◌≢◌, ◌⊎◌, ℕ, ◌<◌, ◌≤◌, ◌^◌, List, length, set, sym}
-use Rattle.std.proofs.Common.{ap, ◌∙◌, subst, cond, Option, length-set, eq-eqb, ne_eqb, Bool}
-use mathlib.Core.Option.{some}
-use mathlib.Core.Logic.{dite}
-use native.Mathlib.Decide.{ℕ_discrete}
-use lib.ListN.{get_elem?}
-use Rattle.atomic_table.specs.Table.{State, keeps, Allows}
-use Rattle.tj_base.specs.Puts.{put}
-use Rattle.tj_body.specs.Programs.{Program}
-use Rattle.tj_words.specs.declared.offsets.Once.{Once}
-use Rattle.tj_words.specs.declared.offsets.Once.TheVariants as once
-use Rattle.tj_words.specs.declared.record.Rec.{Rec}
-use Rattle.tj_words.specs.declared.table.Key.{Key}
-use Rattle.tj_words.specs.declared.view.View.{View}
-use Rattle.tj_words.specs.Words.Offsets.{word}
-use Rattle.tj_words.specs.Words.Heads.{shut_word}
-use Rattle.tj_words.specs.Words.Codes.{IsPhaseWord, Codes}
-use Rattle.tj_words.specs.LawParts.Contents.{Contents, words_say, seats_have}
-use Rattle.tj_words.specs.Law.{Law, Rule, IsSeat}
-use Rattle.tj_words.specs.SeatViews.SeatSteps.{SeatMe}
+use Rattle.tj_words.proofs.Prelude.{Allows, Bool, Codes, Contents, IsPhaseWord, IsSeat, Key, Law, List, Once, Option}
+use Rattle.tj_words.proofs.Prelude.{Program, Rec, Rule, SeatMe, State, View, ap, cond, dite, eq-eqb, get_elem?, keeps}
+use Rattle.tj_words.proofs.Prelude.{length, length-set, ne_eqb, put, seats_have, set, shut_word, some, subst, sym, word}
+use Rattle.tj_words.proofs.Prelude.{words_say, ℕ, ℕ_discrete, ◌<◌, ◌^◌, ◌∙◌, ◌≡◌, ◌≢◌, ◌≤◌, ◌⊎◌}
 use Rattle.tj_words.proofs.Stores.SeatLists.{each_set, word_else, word_here}
 use Rattle.tj_words.proofs.Stores.SeatContents.{set_seats, seats_set}
 use Rattle.tj_words.proofs.Stores.StepContents.{stored}
 use Rattle.tj_words.proofs.Stores.StoredWords.{say}
 use Rattle.tj_words.proofs.Stores.TableWords.{TableWord, Stop, Own, Phase, Written, Head, Next, index, same_word_at}
+use Rattle.tj_words.specs.declared.offsets.Once.TheVariants as once
 
 module _ {A : Type 0} where
   pub put_here : (f : ℕ → A) (i j : ℕ) (a : A) → j ≡ i → put f i a j ≡ a

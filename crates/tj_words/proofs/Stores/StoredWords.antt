@@ -1,20 +1,11 @@
 -- What the words say after a store of one of them.
-use Rattle.std.proofs.Common.{◌≡◌, ◌≢◌, ℕ, ◌<◌, Bool, cond, nat_eq, List, length, set}
-use Rattle.std.proofs.Common.{refl, sym, ap, ◌∙◌, eq-eqb, ne_eqb}
-use mathlib.Core.Logic.{dite}
-use native.Mathlib.Decide.{ℕ_discrete}
-use Rattle.tj_base.specs.Puts.{put}
-use Rattle.tj_words.specs.declared.offsets.Once.{Once}
-use Rattle.tj_words.specs.Words.Offsets.{word, count_at, live_at, others_at, stop_at, own_at, phase_at, once_at}
-use Rattle.tj_words.specs.Words.Offsets.{head_at, next_at}
-use Rattle.tj_words.specs.Words.Heads.{head_in}
-use Rattle.tj_words.specs.Words.Phases.{phase_in}
-use Rattle.tj_words.specs.Words.Owners.{owner_in}
-use Rattle.tj_words.specs.LawParts.Contents.{WordsSay, words_say}
+use Rattle.tj_words.proofs.Prelude.{Bool, List, Once, WordsSay, ap, cond, count_at, dite, eq-eqb, head_at, head_in}
+use Rattle.tj_words.proofs.Prelude.{length, live_at, nat_eq, ne_eqb, next_at, once_at, others_at, own_at, owner_in}
+use Rattle.tj_words.proofs.Prelude.{phase_at, phase_in, put, refl, set, stop_at, sym, word, words_say, ℕ, ℕ_discrete}
+use Rattle.tj_words.proofs.Prelude.{◌<◌, ◌∙◌, ◌≡◌, ◌≢◌}
 use Rattle.tj_words.proofs.Stores.SeatLists.{word_else, word_here}
 use Rattle.tj_words.proofs.Stores.TableWords.{TableWord, Count, Live, Others, Stop, Own, Phase, Written, Head, Next}
-use Rattle.tj_words.proofs.Stores.TableWords.{index}
-use Rattle.tj_words.proofs.Stores.TableWords.{is_word, is_word_here, is_word_else, same_cell, same_word}
+use Rattle.tj_words.proofs.Stores.TableWords.{index, is_word, is_word_here, is_word_else, same_cell, same_word}
 
 -- what is so of each word that is written once, where it becomes a of one
 abbrev pub put_word : {A : Type 0} → (ℕ → Once → A) → ℕ → Once → A → ℕ → Once → A

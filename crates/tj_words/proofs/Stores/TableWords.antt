@@ -1,12 +1,8 @@
 -- The words of a table: no two of them stand at one index.
-use Rattle.std.proofs.Common.{◌≡◌, ◌≢◌, ℕ, zero, suc, ◌+◌, ◌*◌, ◌≤◌, Bool, true, false, cond, nat_eq}
-use Rattle.std.proofs.Common.{refl, sym, ap, ◌∙◌, arith, eq-eqb, ne_eqb}
-use mathlib.Core.Logic.{dite}
-use native.Mathlib.Decide.{ℕ_discrete}
-use Rattle.tj_words.specs.declared.offsets.Once.{Once}
+use Rattle.tj_words.proofs.Prelude.{Bool, Once, ap, arith, cond, count_at, dite, eq-eqb, false, head_at, live_at}
+use Rattle.tj_words.proofs.Prelude.{nat_eq, ne_eqb, next_at, once_at, others_at, own_at, phase_at, refl, stop_at, suc}
+use Rattle.tj_words.proofs.Prelude.{sym, true, zero, ℕ, ℕ_discrete, ◌*◌, ◌+◌, ◌∙◌, ◌≡◌, ◌≢◌, ◌≤◌}
 use Rattle.tj_words.specs.declared.offsets.Once.TheVariants as once
-use Rattle.tj_words.specs.Words.Offsets.{count_at, live_at, others_at, stop_at, own_at, phase_at, once_at, head_at}
-use Rattle.tj_words.specs.Words.Offsets.{next_at}
 
 -- the words of a table; Written are those that are written once
 pub data TableWord : Type 0 where

@@ -1,14 +1,6 @@
 -- The stores of BITS and TAG, by what their seat knows.
-use Rattle.std.proofs.Common.{◌≡◌, ◌≢◌, ℕ, List, ◌∷◌, Option}
-use mathlib.Core.Option.{some}
-use lib.ListN.{get_elem?}
-use Rattle.tj_body.specs.Programs.{Program}
-use Rattle.tj_body.specs.declared.point.Reference.{Reference}
-use Rattle.tj_body.specs.declared.point.Entry.{Entry}
-use Rattle.tj_words.specs.declared.record.Rec.{Rec}
-use Rattle.tj_words.specs.declared.view.Filled.{Filled}
-use Rattle.tj_words.specs.LawParts.NamedCells.{AreThere}
-use Rattle.tj_words.specs.SeatViews.KnownEntries.{MayStoreBits}
+use Rattle.tj_words.proofs.Prelude.{AreThere, Entry, Filled, List, MayStoreBits, Option, Program, Rec, Reference}
+use Rattle.tj_words.proofs.Prelude.{get_elem?, some, ℕ, ◌∷◌, ◌≡◌, ◌≢◌}
 use Rattle.tj_words.proofs.Meaning.MeaningGrows.{Ground, Known, knows_now, Meant, cell_on, bits_on}
 use Rattle.tj_words.proofs.Meaning.MeaningSteps.{bits_meant}
 use Rattle.tj_words.proofs.Meaning.LawMeant.{known_named}

@@ -1,41 +1,13 @@
 -- The store of a word of the tree of a cell in hand: what it asks is the right word, and the rule is kept.
-use Rattle.std.proofs.Common.{◌≡◌, ◌≢◌, ℕ, zero, suc, ◌<◌, ◌^◌, List, [], ◌∷◌, set, Option, Some, refl, sym}
-use Rattle.std.proofs.Common.{ap, ◌∙◌, subst, inl, inr, arith, Bool}
-use mathlib.Core.Option.{some, some-injective, none}
-use lib.ListN.{get_elem?}
-use Rattle.atomic_table.specs.Table.{State, step, Allows}
-use Rattle.atomic_table.proofs.Lists.{at_map}
-use Rattle.tj_base.specs.declared.cell.Sort.TheVariants as sort
-use Rattle.tj_body.specs.Points.{IsIn}
-use Rattle.tj_body.specs.Programs.{Program}
-use Rattle.tj_body.specs.declared.point.Reference.{Reference}
-use Rattle.tj_tree.specs.declared.node.NodeId.{NodeId}
-use Rattle.tj_tree.specs.Forks.{HasTask}
+use Rattle.tj_words.proofs.Prelude.{All, Allows, Bool, Chains, Contents, Custody, Hand, HasTask, IsCell, IsDue, IsIn}
+use Rattle.tj_words.proofs.Prelude.{IsOfTree, IsThere, Key, Law, List, Meaning, NodeId, Once, Option, Program, Rec}
+use Rattle.tj_words.proofs.Prelude.{RecordsFit, Reference, Rule, SeatMe, SeatsHave, SeenWord, ShowsNode, Some, Stands}
+use Rattle.tj_words.proofs.Prelude.{State, View, [], ap, arith, at_map, contents_of, depth_word, drawn_in, get_elem?}
+use Rattle.tj_words.proofs.Prelude.{hand_of, held_in, held_of, home_of, inl, inr, jump_word, made_by, made_of, making}
+use Rattle.tj_words.proofs.Prelude.{none, once_at, parent_word, refl, seats_have, seen_word, set, some, some-injective}
+use Rattle.tj_words.proofs.Prelude.{sort_shown, step, subst, suc, sym, tree_word, zero, ℕ, ◌<◌, ◌^◌, ◌∙◌, ◌∷◌, ◌≡◌, ◌≢◌}
 use Rattle.tj_tree.specs.Nodes.{node_of, jump_from, InEachTree}
 use Rattle.tj_tree.proofs.Trees.{IsChild-of}
-use Rattle.tj_words.specs.declared.offsets.Once.{Once}
-use Rattle.tj_words.specs.declared.offsets.Once.TheVariants as once
-use Rattle.tj_words.specs.declared.record.Rec.{Rec}
-use Rattle.tj_words.specs.declared.table.Key.{Key}
-use Rattle.tj_words.specs.declared.view.Custody.{Custody}
-use Rattle.tj_words.specs.declared.view.Hand.{Hand}
-use Rattle.tj_words.specs.declared.view.SeenWord.{SeenWord}
-use Rattle.tj_words.specs.declared.view.View.{View}
-use Rattle.tj_words.specs.Words.Lists.{All}
-use Rattle.tj_words.specs.Words.Offsets.{once_at}
-use Rattle.tj_words.specs.LawParts.Holding.{held_in, made_by}
-use Rattle.tj_words.specs.LawParts.Hands.{making, IsThere}
-use Rattle.tj_words.specs.LawParts.TreeWords.{IsCell, IsOfTree, IsDue, depth_word, jump_word, parent_word, tree_word}
-use Rattle.tj_words.specs.LawParts.OnceWords.{Stands}
-use Rattle.tj_words.specs.LawParts.ShownState.{sort_shown}
-use Rattle.tj_words.specs.LawParts.Chains.{Chains}
-use Rattle.tj_words.specs.LawParts.RecordPhases.{RecordsFit}
-use Rattle.tj_words.specs.LawParts.Meaning.{Meaning}
-use Rattle.tj_words.specs.LawParts.Contents.{SeatsHave, seats_have, Contents, contents_of, drawn_in, hand_of}
-use Rattle.tj_words.specs.LawParts.Contents.{held_of, home_of, made_of}
-use Rattle.tj_words.specs.Law.{Law, Rule}
-use Rattle.tj_words.specs.SeatViews.SeatSteps.{SeatMe}
-use Rattle.tj_words.specs.SeatViews.SeenWords.{seen_word, ShowsNode}
 use Rattle.tj_words.specs.Calls.DrawViews.{without_due, IsRightWord, MayWrite, wrote_word, word_store}
 use Rattle.tj_words.proofs.Stores.LawChanges.{law_once}
 use Rattle.tj_words.proofs.Holders.HeldTasks.{none_some, one_some, hand_found, hand_finds, makes_one}
@@ -49,6 +21,8 @@ use Rattle.tj_words.proofs.Stores.StoredWords.{put_word, put_word_word}
 use Rattle.tj_words.proofs.Stores.OnceStores.{due_else, once_stored, tree_words_stored}
 use Rattle.tj_words.proofs.Cells.MadeThings.{made_few, child_jump}
 use Rattle.tj_words.proofs.Stores.WrittenOnce.{once_stores}
+use Rattle.tj_base.specs.declared.cell.Sort.TheVariants as sort
+use Rattle.tj_words.specs.declared.offsets.Once.TheVariants as once
 
 module _ {B : Type 0} {program : Program B} {cells : ℕ} {x : Contents B} (r : Law program cells x) where
   -- what a seat has in hand is in that hand

@@ -1,15 +1,7 @@
 -- The store of a word that is written once is one of the rule, where its seat is so, and the law holds with what the
 -- seats have then.
-use Rattle.std.proofs.Common.{◌≡◌, ℕ, ◌<◌, Bool, Option, arith}
-use Rattle.atomic_table.specs.Table.{State}
-use Rattle.tj_body.specs.Programs.{Program}
-use Rattle.tj_words.specs.declared.offsets.Once.{Once}
-use Rattle.tj_words.specs.declared.record.Rec.{Rec}
-use Rattle.tj_words.specs.declared.table.Key.{Key}
-use Rattle.tj_words.specs.declared.view.View.{View}
-use Rattle.tj_words.specs.LawParts.Contents.{SeatsHave, seats_have, words_say}
-use Rattle.tj_words.specs.Law.{IsSeat, Law, Rule}
-use Rattle.tj_words.specs.Words.Offsets.{once_at}
+use Rattle.tj_words.proofs.Prelude.{Bool, IsSeat, Key, Law, Once, Option, Program, Rec, Rule, SeatsHave, State, View}
+use Rattle.tj_words.proofs.Prelude.{arith, once_at, seats_have, words_say, ℕ, ◌<◌, ◌≡◌}
 use Rattle.tj_words.proofs.SeatLoads.KnowLoads.{once_within}
 use Rattle.tj_words.proofs.Stores.SeatContents.{set_seats}
 use Rattle.tj_words.proofs.Stores.StoreSteps.{MayStand, Stores, store_word}

@@ -1,18 +1,10 @@
 -- What a seat holds that has something to come, after each step.
-use Rattle.std.proofs.Common.{◌≡◌, ◌≢◌, ◌⊎◌, ℕ, suc, ◌<◌, Some, sym, ◌∙◌, subst, ⊎_elim, inl, inr}
-use Rattle.std.proofs.Common.{arith}
-use mathlib.Core.Logic.{dite}
-use native.Mathlib.Decide.{ℕ_discrete}
-use Rattle.tj_words.specs.declared.offsets.Once.TheVariants as once
-use Rattle.tj_words.specs.declared.view.Does.{Does}
-use Rattle.tj_words.specs.declared.view.Custody.{Custody}
-use Rattle.tj_words.specs.declared.view.Due.{Due}
-use Rattle.tj_words.specs.declared.view.View.{View}
-use Rattle.tj_words.specs.Words.Lists.{Any}
-use Rattle.tj_words.specs.LawParts.Holding.{held_in}
-use Rattle.tj_words.specs.LawParts.LiveCount.{DoesRun, DoesWalk, HasAlarmed, Holds, HasWakeToCome, Backing}
+use Rattle.tj_words.proofs.Prelude.{Any, Backing, Custody, Does, DoesRun, DoesWalk, Due, HasAlarmed, HasWakeToCome}
+use Rattle.tj_words.proofs.Prelude.{Holds, Some, View, arith, dite, held_in, inl, inr, subst, suc, sym, ℕ, ℕ_discrete}
+use Rattle.tj_words.proofs.Prelude.{⊎_elim, ◌<◌, ◌∙◌, ◌≡◌, ◌≢◌, ◌⊎◌}
 use Rattle.tj_words.proofs.Waiters.ChainLists.{same_some}
 use Rattle.tj_words.proofs.Waiters.LiveSteps.{backing_token, backing_running, backing_walking, alarms_else}
+use Rattle.tj_words.specs.declared.offsets.Once.TheVariants as once
 
 module _ {B : Type 0} where
   -- a TAG is to come

@@ -1,31 +1,11 @@
 -- Chains and cells: nobody waits for a cell that isn't there, and a chain has no more tasks than there are cells.
-use Rattle.std.proofs.Common.{◌≡◌, ◌≢◌, ℕ, ◌<◌, ◌≤◌, List, [], ◌∷◌, length, Option, refl, sym, subst, arith}
-use Rattle.std.proofs.Common.{inl}
-use mathlib.Core.Logic.{dite}
-use native.Mathlib.Decide.{ℕ_discrete, dec_le}
-use Rattle.tj_words.specs.declared.head.Head.{Head}
-use Rattle.tj_words.specs.declared.head.Head.TheVariants.{Empty, Shut}
-use Rattle.tj_words.specs.declared.offsets.Once.{Once}
+use Rattle.tj_words.proofs.Prelude.{Chains, Custody, Due, Empty, Found, Hand, Head, IsIn, IsParkedOn, IsThere, List}
+use Rattle.tj_words.proofs.Prelude.{NamesCells, Once, OnceWords, Option, Phase, Push, Rec, Rest, SeenWord, Shut, Unborn}
+use Rattle.tj_words.proofs.Prelude.{[], arith, cell, dec_le, dite, head_of, head_word, inl, length, refl, subst, sym, ℕ}
+use Rattle.tj_words.proofs.Prelude.{ℕ_discrete, ◌<◌, ◌∷◌, ◌≡◌, ◌≢◌, ◌≤◌}
+use Rattle.tj_words.proofs.Waiters.ChainFacts.{unborn_free, no_line, no_head, line_fits}
 use Rattle.tj_words.specs.declared.offsets.Once.TheVariants as once
 use Rattle.tj_words.specs.declared.phase.Walk.TheVariants as walk
-use Rattle.tj_words.specs.declared.phase.Phase.{Phase}
-use Rattle.tj_words.specs.declared.phase.Phase.TheVariants.{Unborn}
-use Rattle.tj_words.specs.declared.record.Rec.{Rec}
-use Rattle.tj_words.specs.declared.view.Hand.{Hand}
-use Rattle.tj_words.specs.declared.view.Custody.{Custody}
-use Rattle.tj_words.specs.declared.view.SeenWord.{SeenWord}
-use Rattle.tj_words.specs.declared.view.Due.{Due}
-use Rattle.tj_words.specs.declared.view.Push.{Push}
-use Rattle.tj_words.specs.declared.view.Rest.{Rest}
-use Rattle.tj_words.specs.declared.view.Found.{Found}
-use Rattle.tj_body.specs.Points.{IsIn}
-use Rattle.tj_words.specs.Words.Lists.{cell}
-use Rattle.tj_words.specs.Words.Heads.{head_word}
-use Rattle.tj_words.specs.LawParts.Hands.{IsThere}
-use Rattle.tj_words.specs.LawParts.NamedCells.{NamesCells}
-use Rattle.tj_words.specs.LawParts.OnceWords.{OnceWords}
-use Rattle.tj_words.specs.LawParts.Chains.{head_of, IsParkedOn, Chains}
-use Rattle.tj_words.proofs.Waiters.ChainFacts.{unborn_free, no_line, no_head, line_fits}
 
 -- a task that is parked is drawn
 pub parked_drawn : (phase : ℕ → Phase) (drawn : ℕ) → ((t : ℕ) → drawn ≤ t → phase t ≡ Unborn) → (t p : ℕ)

@@ -1,24 +1,13 @@
 -- What holds where chains are as the law says: which phases are parked, that a chain has no task twice, and that a cell
 -- on which nobody is parked has none.
-use Rattle.std.proofs.Common.{◌≡◌, ◌≢◌, ℕ, ◌<◌, ◌≤◌, List, [], ◌∷◌, ◌++◌, length, Option, Some, None, refl}
-use Rattle.std.proofs.Common.{sym, ap, ◌∙◌, subst, ⊎_elim, inl, arith, length-append}
-use mathlib.Core.Option.{some}
-use lib.ListN.{get_elem?}
-use Rattle.tj_body.specs.Points.{IsIn}
-use Rattle.tj_words.specs.declared.head.Head.{Head}
-use Rattle.tj_words.specs.declared.head.Head.TheVariants.{Empty, Task, Shut}
-use Rattle.tj_words.specs.declared.phase.Phase.{Phase}
-use Rattle.tj_words.specs.declared.phase.Phase.TheVariants as phase
-use Rattle.tj_words.specs.declared.view.Does.{Does}
-use Rattle.tj_words.specs.declared.view.Does.TheVariants as does
-use Rattle.tj_words.specs.declared.view.Push.{Push}
-use Rattle.tj_words.specs.declared.view.Rest.{Rest}
-use Rattle.tj_words.specs.declared.view.Found.{Found}
-use Rattle.tj_words.specs.Words.Lists.{AreApart, cell}
-use Rattle.tj_words.specs.LawParts.Holding.{phase_of}
-use Rattle.tj_words.specs.LawParts.Chains.{head_of, AreLinked, IsParkedOn, IsFirstIn, IsPush, Chains}
+use Rattle.tj_words.proofs.Prelude.{AreApart, AreLinked, Chains, Does, Empty, Found, Head, IsFirstIn, IsIn, IsParkedOn}
+use Rattle.tj_words.proofs.Prelude.{IsPush, List, None, Option, Phase, Push, Rest, Shut, Some, Task, [], ap, arith}
+use Rattle.tj_words.proofs.Prelude.{cell, get_elem?, head_of, inl, length, length-append, phase_of, refl, some, subst}
+use Rattle.tj_words.proofs.Prelude.{sym, ℕ, ⊎_elim, ◌++◌, ◌<◌, ◌∙◌, ◌∷◌, ◌≡◌, ◌≢◌, ◌≤◌}
 use Rattle.tj_words.proofs.Waiters.ChainHeads.{one_cell}
 use Rattle.tj_words.proofs.Waiters.ChainLists.{no_some, same_some, none_or, few_apart}
+use Rattle.tj_words.specs.declared.phase.Phase.TheVariants as phase
+use Rattle.tj_words.specs.declared.view.Does.TheVariants as does
 
 -- a phase that is parked on no cell
 abbrev pub IsNotParked : Phase → Type 0

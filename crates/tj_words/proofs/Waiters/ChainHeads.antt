@@ -1,22 +1,9 @@
 -- No lost wake is kept by the steps on HEAD and NEXT.
-use Rattle.std.proofs.Common.{◌≡◌, ◌≢◌, ◌⊎◌, ℕ, Bool, true, false, cond, nat_eq, List, [], ◌∷◌, ◌++◌, set}
-use Rattle.std.proofs.Common.{Option, Some, None, refl, sym, ap, ◌∙◌, subst, ⊎_elim, inl, inr, eq-eqb, ne_eqb}
-use mathlib.Core.Option.{some}
-use mathlib.Core.Logic.{dite}
-use native.Mathlib.Decide.{ℕ_discrete}
-use lib.ListN.{get_elem?}
-use Rattle.tj_base.specs.Puts.{put}
-use Rattle.tj_body.specs.Points.{IsIn}
-use Rattle.tj_words.specs.declared.head.Head.{Head}
-use Rattle.tj_words.specs.declared.head.Head.TheVariants.{Task, Shut}
-use Rattle.tj_words.specs.declared.phase.Phase.{Phase}
-use Rattle.tj_words.specs.declared.view.Push.{Push}
-use Rattle.tj_words.specs.declared.view.Rest.{Rest}
-use Rattle.tj_words.specs.declared.view.Found.{Found}
-use Rattle.tj_words.specs.Words.Lists.{OfSeat, All, Any, cell, without}
-use Rattle.tj_words.specs.LawParts.Chains.{head_of, AreLinked, parked_phase, IsParkedOn, IsPush, IsRest}
-use Rattle.tj_words.specs.LawParts.Chains.{Chains}
-use Rattle.tj_words.specs.Calls.ChainSteps.{with_next, without_push, rest_of}
+use Rattle.tj_words.proofs.Prelude.{All, Any, AreLinked, Bool, Chains, Found, Head, IsIn, IsParkedOn, IsPush, IsRest}
+use Rattle.tj_words.proofs.Prelude.{List, None, OfSeat, Option, Phase, Push, Rest, Shut, Some, Task, [], ap, cell, cond}
+use Rattle.tj_words.proofs.Prelude.{dite, eq-eqb, false, get_elem?, head_of, inl, inr, nat_eq, ne_eqb, parked_phase}
+use Rattle.tj_words.proofs.Prelude.{put, refl, rest_of, set, some, subst, sym, true, with_next, without, without_push}
+use Rattle.tj_words.proofs.Prelude.{ℕ, ℕ_discrete, ⊎_elim, ◌++◌, ◌∙◌, ◌∷◌, ◌≡◌, ◌≢◌, ◌⊎◌}
 use Rattle.tj_words.proofs.Stores.SeatLists.{each_set, each_else, of_seat_here, of_seat_set}
 use Rattle.tj_words.proofs.Stores.StoreSteps.{put_here, put_else}
 use Rattle.tj_words.proofs.SeatLoads.KnowLoads.{all_cons}

@@ -1,15 +1,8 @@
 -- Lists of pushes, rests and tasks, of which one changes.
-use Rattle.std.proofs.Common.{◌≡◌, ◌≢◌, ◌⊎◌, ℕ, zero, suc, ◌<◌, ◌≤◌, Bool, cond, List, []}
-use Rattle.std.proofs.Common.{◌∷◌, length, Option, Some, None, refl, sym, ap, ◌∙◌, subst, ⊎_elim, inl, inr, arith}
-use Rattle.std.proofs.Common.{eq-eqb, ne_eqb}
-use mathlib.Core.Logic.{dite}
-use native.Mathlib.Decide.{ℕ_discrete}
-use Rattle.tj_base.specs.Puts.{put}
-use Rattle.tj_body.specs.Points.{IsIn}
-use Rattle.tj_words.specs.declared.view.Push.{Push}
-use Rattle.tj_words.specs.declared.view.Rest.{Rest}
-use Rattle.tj_words.specs.Words.Lists.{All, AreApart, without}
-use Rattle.tj_words.specs.Calls.ChainSteps.{without_push, rest_of}
+use Rattle.tj_words.proofs.Prelude.{All, AreApart, Bool, IsIn, List, None, Option, Push, Rest, Some, [], ap, arith}
+use Rattle.tj_words.proofs.Prelude.{cond, dite, eq-eqb, inl, inr, length, ne_eqb, put, refl, rest_of, subst, suc, sym}
+use Rattle.tj_words.proofs.Prelude.{without, without_push, zero, ℕ, ℕ_discrete, ⊎_elim, ◌<◌, ◌∙◌, ◌∷◌, ◌≡◌, ◌≢◌, ◌≤◌}
+use Rattle.tj_words.proofs.Prelude.{◌⊎◌}
 use Rattle.tj_words.proofs.Stores.StoreSteps.{put_here, put_else}
 use Rattle.tj_words.proofs.Waiters.ChainHeads.{in_without_push}
 

@@ -1,34 +1,17 @@
 -- The chains are kept by the stores and exchanges of PHASE, by the load of the first of a rest, and by the store of
 -- TAG.
-use Rattle.std.proofs.Common.{◌≡◌, ◌≢◌, ℕ, List, ◌∷◌, set, Option, Some, None, refl, sym, ap, ◌∙◌, subst}
-use Rattle.std.proofs.Common.{⊎_elim, inl, inr}
-use mathlib.Core.Option.{some}
-use mathlib.Core.Logic.{dite}
-use native.Mathlib.Decide.{ℕ_discrete}
-use lib.ListN.{get_elem?}
-use Rattle.tj_core.specs.declared.walk.Way.{Way}
-use Rattle.tj_base.specs.Puts.{put}
-use Rattle.tj_body.specs.Points.{IsIn}
-use Rattle.tj_words.specs.declared.head.Head.{Head}
-use Rattle.tj_words.specs.declared.phase.Phase.{Phase}
-use Rattle.tj_words.specs.declared.view.Push.{Push}
-use Rattle.tj_words.specs.declared.view.Rest.{Rest}
-use Rattle.tj_words.specs.declared.view.Found.{Found}
-use Rattle.tj_words.specs.Words.Lists.{OfSeat, All, Any}
-use Rattle.tj_words.specs.LawParts.Chains.{head_of, AreLinked, parked_phase, IsParkedOn, HasGrown, IsFirstIn, IsPush}
-use Rattle.tj_words.specs.LawParts.Chains.{IsRest}
-use Rattle.tj_words.specs.LawParts.Chains.{Chains}
-use Rattle.tj_words.specs.Calls.ChainSteps.{without_push, rest_of}
-use Rattle.tj_words.specs.Calls.ParkSteps.{new_push, read_way}
+use Rattle.tj_words.proofs.Prelude.{All, Any, AreLinked, Chains, Found, HasGrown, Head, IsFirstIn, IsIn, IsParkedOn}
+use Rattle.tj_words.proofs.Prelude.{IsPush, IsRest, List, None, OfSeat, Option, Phase, Push, Rest, Some, Way, ap, dite}
+use Rattle.tj_words.proofs.Prelude.{get_elem?, head_of, inl, inr, new_push, parked_phase, put, refl, rest_of, set, some}
+use Rattle.tj_words.proofs.Prelude.{subst, sym, without_push, ℕ, ℕ_discrete, ⊎_elim, ◌∙◌, ◌∷◌, ◌≡◌, ◌≢◌}
+use Rattle.tj_words.specs.Calls.ParkSteps.{read_way}
 use Rattle.tj_words.proofs.Stores.StoreSteps.{put_here, put_else}
 use Rattle.tj_words.proofs.SeatLoads.KnowLoads.{all_cons}
 use Rattle.tj_words.proofs.Waiters.ChainHeads.{one_cell, any_without_push}
 use Rattle.tj_words.proofs.Waiters.ChainSeats.{chains_seats}
 use Rattle.tj_words.proofs.Stores.SeatLists.{each_set, each_else, of_seat_here, of_seat_set}
-use Rattle.tj_words.proofs.Waiters.ChainLists.{no_some, same_some, none_none, IsOfTask, all_without}
-use Rattle.tj_words.proofs.Waiters.ChainLists.{rest_is, rest_some}
-use Rattle.tj_words.proofs.Waiters.ChainFacts.{IsNotParked, linked_once, first_else, push_parked, not_in_line}
-use Rattle.tj_words.proofs.Waiters.ChainFacts.{not_mine}
+use Rattle.tj_words.proofs.Waiters.ChainLists.{no_some, same_some, none_none, IsOfTask, all_without, rest_is, rest_some}
+use Rattle.tj_words.proofs.Waiters.ChainFacts.{IsNotParked, linked_once, first_else, push_parked, not_in_line, not_mine}
 
 module _ {tag : ℕ → ℕ} {head next : ℕ → Head} {phase : ℕ → Phase} {pushes : List (List Push)} {shuts : List (List ℕ)}
     {rests : List (Option Rest)} {closed : List (List ℕ)} {found : List (List Found)}

@@ -1,14 +1,6 @@
 -- The chains stay where only what the seats have to do and know of them changes.
-use Rattle.std.proofs.Common.{◌≡◌, ◌≢◌, ℕ, List, [], Option, Some}
-use Rattle.tj_body.specs.Points.{IsIn}
-use Rattle.tj_words.specs.declared.head.Head.{Head}
-use Rattle.tj_words.specs.declared.head.Head.TheVariants.{Shut}
-use Rattle.tj_words.specs.declared.phase.Phase.{Phase}
-use Rattle.tj_words.specs.declared.view.Push.{Push}
-use Rattle.tj_words.specs.declared.view.Rest.{Rest}
-use Rattle.tj_words.specs.declared.view.Found.{Found}
-use Rattle.tj_words.specs.Words.Lists.{OfSeat, Each, All, Any}
-use Rattle.tj_words.specs.LawParts.Chains.{Chains, IsPush, IsRest, HasGrown}
+use Rattle.tj_words.proofs.Prelude.{All, Any, Chains, Each, Found, HasGrown, Head, IsIn, IsPush, IsRest, List, OfSeat}
+use Rattle.tj_words.proofs.Prelude.{Option, Phase, Push, Rest, Shut, Some, [], ℕ, ◌≡◌, ◌≢◌}
 
 module _ {tag : ℕ → ℕ} {head next : ℕ → Head} {phase : ℕ → Phase} {pushes : List (List Push)} {shuts : List (List ℕ)}
     {rests : List (Option Rest)} {closed : List (List ℕ)} {found : List (List Found)}

@@ -1,16 +1,8 @@
 -- What the law says of chains is what the sentences on chains say.
-use Rattle.std.proofs.Common.{◌≡◌, ◌≢◌, ◌⊎◌, ℕ, zero, suc, List, [], ◌∷◌, ◌++◌, Option, Some, None}
-use Rattle.std.proofs.Common.{refl, sym, ap, ◌∙◌, subst, ⊎_elim, inl, inr}
-use mathlib.Core.Option.{some, some-injective, some-ne-none}
-use lib.ListN.{get_elem?}
-use Rattle.tj_body.specs.Points.{IsIn}
-use Rattle.tj_words.specs.declared.head.Head.{Head}
-use Rattle.tj_words.specs.declared.head.Head.TheVariants.{Empty, Task, Shut}
-use Rattle.tj_words.specs.declared.phase.Phase.{Phase}
-use Rattle.tj_words.specs.declared.view.Push.{Push}
-use Rattle.tj_words.specs.declared.view.Rest.{Rest}
-use Rattle.tj_words.specs.declared.view.Found.{Found}
-use Rattle.tj_words.specs.LawParts.Chains.{head_of, AreLinked, IsParkedOn, Chains}
+use Rattle.tj_words.proofs.Prelude.{AreLinked, Chains, Empty, Found, Head, IsIn, IsParkedOn, List, None, Option, Phase}
+use Rattle.tj_words.proofs.Prelude.{Push, Rest, Shut, Some, Task, [], ap, get_elem?, head_of, inl, inr, refl, some}
+use Rattle.tj_words.proofs.Prelude.{some-injective, some-ne-none, subst, suc, sym, zero, ℕ, ⊎_elim, ◌++◌, ◌∙◌, ◌∷◌, ◌≡◌}
+use Rattle.tj_words.proofs.Prelude.{◌≢◌, ◌⊎◌}
 use Rattle.tj_words.specs.Inner.ChainSentences.{GoesOn, IsRestOf, IsToPush, ChainSentences}
 use Rattle.tj_words.proofs.Waiters.ChainLists.{no_some, same_some, none_or}
 use Rattle.tj_words.proofs.Waiters.ChainHeads.{one_cell}

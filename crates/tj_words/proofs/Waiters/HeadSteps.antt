@@ -1,46 +1,18 @@
 -- The steps on HEAD and NEXT keep the rule.
-use Rattle.std.proofs.Common.{◌≡◌, ◌≢◌, ℕ, suc, ◌-◌, ◌<◌, ◌≤◌, List, ◌∷◌, length, set, refl, sym}
-use Rattle.std.proofs.Common.{ap, ◌∙◌, subst, inl, inr, ⊎_elim, arith, eqb, Bool, Option, None}
-use prog.Atomic.{either}
-use mathlib.Core.Option.{some, none}
-use mathlib.Core.Logic.{dite}
-use native.Mathlib.Decide.{ℕ_discrete}
-use lib.ListN.{get_elem?}
-use Rattle.atomic_table.specs.Table.{State, step, keeps, Allows}
-use Rattle.atomic_table.proofs.Lists.{at_map, exchanged}
-use Rattle.tj_base.specs.Puts.{put}
-use Rattle.tj_base.specs.declared.cell.Sort.{Sort}
-use Rattle.tj_base.specs.declared.cell.Sort.TheVariants as sort
-use Rattle.tj_body.specs.Points.{IsIn}
-use Rattle.tj_body.specs.Programs.{Program}
-use Rattle.tj_body.specs.declared.point.Value.TheVariants as value
-use Rattle.tj_body.specs.declared.point.Entry.{Entry}
-use Rattle.tj_body.specs.declared.point.Entry.TheVariants as entry
-use Rattle.tj_words.specs.declared.head.Head.{Head}
-use Rattle.tj_words.specs.declared.head.Head.TheVariants.{Empty, Task, Shut}
-use Rattle.tj_words.specs.declared.record.Rec.{Rec}
-use Rattle.tj_words.specs.declared.table.Key.{Key}
-use Rattle.tj_words.specs.declared.view.Push.{Push}
-use Rattle.tj_words.specs.declared.view.Rest.{Rest}
-use Rattle.tj_words.specs.declared.view.View.{View}
-use Rattle.tj_words.specs.Words.Lists.{cell}
-use Rattle.tj_words.specs.Words.Offsets.{word, head_at, next_at}
-use Rattle.tj_words.specs.Words.Heads.{head_word, head_in, HasWord, shut_word}
-use Rattle.tj_words.specs.LawParts.Chains.{Chains}
-use Rattle.tj_words.specs.Calls.ChainSteps.{with_next, without_push, rest_of}
-use Rattle.tj_words.specs.Words.Lists.{without}
-use Rattle.tj_words.specs.Calls.ChainSteps.{stored_next, pushed, took_chain, found_taken}
-use Rattle.tj_words.specs.Calls.ChainSteps.{HasPush, HasPushBehind, KnowsEntry, next_store, shut_swap, push_exchange}
-use Rattle.tj_words.specs.LawParts.LiveCount.{IsBacked}
-use Rattle.tj_words.specs.LawParts.Telling.{tag_of, sort_tag}
-use Rattle.tj_words.specs.LawParts.Contents.{WordsSay, words_say, SeatsHave, seats_have, contents_of, tag_in, drawn_in}
-use Rattle.tj_words.specs.Law.{Law, Rule, IsSeat}
-use Rattle.tj_words.specs.SeatViews.SeatSteps.{SeatMe}
+use Rattle.tj_words.proofs.Prelude.{Allows, Bool, Chains, Empty, Entry, Head, IsBacked, IsIn, IsSeat, Key, Law, List}
+use Rattle.tj_words.proofs.Prelude.{None, Option, Program, Push, Rec, Rest, Rule, SeatMe, SeatsHave, Shut, Sort, State}
+use Rattle.tj_words.proofs.Prelude.{Task, View, WordsSay, ap, arith, at_map, cell, contents_of, dite, drawn_in, either}
+use Rattle.tj_words.proofs.Prelude.{eqb, exchanged, get_elem?, head_at, head_in, head_word, inl, inr, keeps, length}
+use Rattle.tj_words.proofs.Prelude.{next_at, none, put, refl, rest_of, seats_have, set, shut_swap, shut_word, some}
+use Rattle.tj_words.proofs.Prelude.{sort_tag, step, subst, suc, sym, tag_in, tag_of, with_next, without, without_push}
+use Rattle.tj_words.proofs.Prelude.{word, words_say, ℕ, ℕ_discrete, ⊎_elim, ◌-◌, ◌<◌, ◌∙◌, ◌∷◌, ◌≡◌, ◌≢◌, ◌≤◌}
+use Rattle.tj_words.specs.Words.Heads.{HasWord}
+use Rattle.tj_words.specs.Calls.ChainSteps.{stored_next, pushed, took_chain, found_taken, HasPush, HasPushBehind}
+use Rattle.tj_words.specs.Calls.ChainSteps.{KnowsEntry, next_store, push_exchange}
 use Rattle.tj_words.proofs.Stores.SeatContents.{set_seats, seats_same}
-use Rattle.tj_words.proofs.Stores.StoreSteps.{put_here, put_else}
-use Rattle.tj_words.proofs.Stores.StoreSteps.{MayStore, may_store, Stores, rule_stores, step_allowed}
+use Rattle.tj_words.proofs.Stores.StoreSteps.{put_here, put_else, MayStore, may_store, Stores, rule_stores}
+use Rattle.tj_words.proofs.Stores.StoreSteps.{step_allowed}
 use Rattle.tj_words.proofs.Stores.StoredWords.{say_head, say_next}
-use Rattle.tj_words.proofs.Stores.TableWords as table_word
 use Rattle.tj_words.proofs.Stores.SlotStores.{Acts}
 use Rattle.tj_words.proofs.Stores.LawChanges.{law_chains}
 use Rattle.tj_words.proofs.SeatLoads.LoadSteps.{knows_so}
@@ -48,6 +20,10 @@ use Rattle.tj_words.proofs.SeatLoads.KnowLoads.{task_in, shut_is}
 use Rattle.tj_words.proofs.SeatLoads.HeadLoads.{head_allowed}
 use Rattle.tj_words.proofs.Waiters.ChainHeads.{nexts, pushes, shuts, shuts_again}
 use Rattle.tj_words.proofs.Waiters.ChainCells.{line_small, head_small}
+use Rattle.tj_base.specs.declared.cell.Sort.TheVariants as sort
+use Rattle.tj_body.specs.declared.point.Value.TheVariants as value
+use Rattle.tj_body.specs.declared.point.Entry.TheVariants as entry
+use Rattle.tj_words.proofs.Stores.TableWords as table_word
 
 -- what has become of a cell has a tag
 pub tag_some : (e : Entry) → tag_of e ≢ 0

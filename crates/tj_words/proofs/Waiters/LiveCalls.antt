@@ -1,43 +1,19 @@
 -- The steps on LIVE and the store of STOP keep the rule.
-use Rattle.std.proofs.Common.{◌≡◌, ℕ, suc, ◌+◌, ◌-◌, ◌%◌, ◌<◌, ◌≤◌, ◌^◌, Bool, [], ◌∷◌, length, set}
-use Rattle.std.proofs.Common.{Option, Some, None, refl, sym, ap, ◌∙◌, subst, inl, inr, arith}
-use mathlib.Core.Option.{some, none}
-use lib.ListN.{get_elem?}
-use Rattle.atomic_table.specs.Table.{State, step, Allows}
-use Rattle.atomic_table.proofs.Lists.{at_map}
-use Rattle.tj_body.specs.Programs.{Program}
-use Rattle.tj_words.specs.declared.record.Rec.{Rec}
-use Rattle.tj_words.specs.declared.table.Key.{Key}
-use Rattle.tj_words.specs.declared.view.View.{View}
-use Rattle.tj_words.specs.Words.Offsets.{word, live_at, stop_at}
-use Rattle.tj_words.specs.LawParts.Contents.{SeatsHave, words_say, seats_have, contents_of}
-use Rattle.tj_words.specs.Law.{Law, Rule, IsSeat}
-use Rattle.tj_words.specs.Calls.LiveViews.{SlotsOf, came_home, without_task, raised_with, lowered_with, live_raised}
-use Rattle.tj_words.specs.Calls.LiveViews.{live_lowered, LaysChild, Shelves, MayRaiseLive, MayLowerLive, live_add}
-use Rattle.tj_words.specs.Calls.LiveViews.{live_sub}
-use Rattle.tj_words.specs.Calls.LiveViews.{now_home, stop_store}
-use Rattle.tj_words.specs.SeatViews.SeatSteps.{SeatMe}
+use Rattle.tj_words.proofs.Prelude.{Allows, Backing, Bool, Contents, Custody, IsBacked, IsHeldWith, IsSeat, Keeping}
+use Rattle.tj_words.proofs.Prelude.{Key, Law, LaysChild, LiveCount, MovesRecord, None, Option, Phase, Program, Rec}
+use Rattle.tj_words.proofs.Prelude.{Rule, SeatMe, SeatsHave, Shelves, ShelvesTask, Slots, SlotsOf, Some, State, Stops}
+use Rattle.tj_words.proofs.Prelude.{View, [], ap, arith, at_map, came_home, cell, contents_of, get_elem?, hold, inl}
+use Rattle.tj_words.proofs.Prelude.{inr, keeps, length, let_go, live_at, live_lowered, live_raised, lowered_with, none}
+use Rattle.tj_words.proofs.Prelude.{now_home, phase_of, raised_with, refl, seats_have, set, set_else, some, step}
+use Rattle.tj_words.proofs.Prelude.{stop_at, subst, suc, sym, with_tokens, without_task, word, words_say, ℕ, ◌%◌, ◌+◌}
+use Rattle.tj_words.proofs.Prelude.{◌-◌, ◌<◌, ◌^◌, ◌∙◌, ◌∷◌, ◌≡◌, ◌≤◌}
+use Rattle.tj_words.specs.Calls.LiveViews.{MayRaiseLive, MayLowerLive, live_add, live_sub, stop_store}
 use Rattle.tj_words.specs.SeatViews.Views.{stored_stop}
-use Rattle.tj_words.specs.LawParts.Stops.{Stops}
 use Rattle.tj_words.proofs.Stores.SeatLists.{of_seat_here, of_seat_set}
 use Rattle.tj_words.proofs.Stores.SeatContents.{seats_same}
 use Rattle.tj_words.proofs.Stores.StoreSteps.{Stores, step_allowed, rule_stores, store_word}
 use Rattle.tj_words.proofs.Waiters.StopSteps.{law_stops}
 use Rattle.tj_words.proofs.Meaning.MeaningSteps.{refused_above}
-use Rattle.atomic_table.specs.Table.{keeps}
-use Rattle.atomic_table.proofs.Lists.{set_else}
-use Rattle.tj_words.specs.declared.phase.Phase.{Phase}
-use Rattle.tj_words.specs.declared.phase.Phase.TheVariants as phase
-use Rattle.tj_words.specs.declared.phase.Walk.TheVariants as walk
-use Rattle.tj_words.specs.declared.view.Custody.{Custody}
-use Rattle.tj_words.specs.declared.view.Does.TheVariants as does
-use Rattle.tj_words.specs.Words.Lists.{cell}
-use Rattle.tj_words.specs.LawParts.Holding.{Slots, phase_of}
-use Rattle.tj_words.specs.LawParts.LiveCount.{IsBacked, Backing, LiveCount}
-use Rattle.tj_words.specs.Calls.ParkSteps.{with_tokens}
-use Rattle.tj_words.specs.SeatViews.TaskLists.{hold, let_go}
-use Rattle.tj_words.specs.LawParts.Contents.{Contents}
-use Rattle.tj_words.specs.Steps.StepEvents.{IsHeldWith}
 use Rattle.tj_words.proofs.Stores.TableWords.{Live, Stop}
 use Rattle.tj_words.proofs.Stores.SlotStores.{StoresWith, Acts, store_word_with}
 use Rattle.tj_words.proofs.Stores.GivenSlots.{acts_giving}
@@ -56,8 +32,9 @@ use Rattle.tj_words.proofs.Holders.LeftSeats.{left_seat}
 use Rattle.tj_words.proofs.Phases.HomeComings.{after_home, law_home, moves}
 use Rattle.tj_words.proofs.Calls.KeptCells.{kept_moved, kept_turns}
 use Rattle.tj_words.proofs.Stores.StepContents.{stored, stored_with}
-use Rattle.tj_words.specs.CallLaws.EventCalls.{Keeping}
-use Rattle.tj_words.specs.Steps.QuietSteps.{MovesRecord, ShelvesTask}
+use Rattle.tj_words.specs.declared.phase.Phase.TheVariants as phase
+use Rattle.tj_words.specs.declared.phase.Walk.TheVariants as walk
+use Rattle.tj_words.specs.declared.view.Does.TheVariants as does
 
 module _ {B : Type 0} (program : Bool → B → Program B) (key : Key B) where
   abbrev P : Program B

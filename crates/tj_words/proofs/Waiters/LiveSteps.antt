@@ -1,43 +1,20 @@
 -- The live count is kept by the changes of PHASE and by the steps on LIVE; and where a seat has loaded LIVE as 0,
 -- nobody waits for a cell of which something has become.
-use Rattle.std.proofs.Common.{◌≡◌, ◌≢◌, ◌⊎◌, ℕ, zero, suc, ◌+◌, ◌-◌, ◌<◌, ◌≤◌, Bool, true, List, [], ◌∷◌, map, set}
-use Rattle.std.proofs.Common.{Option, Some, None, refl, sym, ap, ◌∙◌, subst, ⊎_elim, inl, inr, arith}
-use mathlib.Core.Option.{some, some-injective, some-ne-none}
-use mathlib.Core.Logic.{dite}
-use native.Mathlib.Decide.{ℕ_discrete, dec_le}
-use lib.ListN.{get_elem?}
-use Rattle.atomic_table.specs.Table.{State}
-use Rattle.atomic_table.proofs.Lists.{at_map}
-use Rattle.tj_base.specs.Puts.{put}
-use Rattle.tj_body.specs.Programs.{Program}
-use Rattle.tj_words.specs.declared.head.Head.{Head}
-use Rattle.tj_words.specs.declared.head.Head.TheVariants.{Shut}
-use Rattle.tj_words.specs.declared.offsets.Once.TheVariants as once
-use Rattle.tj_words.specs.declared.phase.Phase.{Phase}
-use Rattle.tj_words.specs.declared.record.Rec.{Rec}
-use Rattle.tj_words.specs.declared.table.Key.{Key}
-use Rattle.tj_words.specs.declared.view.Hand.{Hand}
-use Rattle.tj_words.specs.declared.view.Does.{Does}
-use Rattle.tj_words.specs.declared.view.Does.TheVariants as does
-use Rattle.tj_words.specs.declared.view.Custody.{Custody}
-use Rattle.tj_words.specs.declared.view.Due.{Due}
-use Rattle.tj_words.specs.declared.view.Rest.{Rest}
-use Rattle.tj_words.specs.declared.view.View.{View}
-use Rattle.tj_words.specs.Words.Lists.{Each, Any, total}
-use Rattle.tj_words.specs.LawParts.Holding.{phase_of, Slots, held_in}
-use Rattle.tj_words.specs.LawParts.Custodies.{Custodies}
-use Rattle.tj_words.specs.LawParts.Chains.{IsParkedOn, Chains}
-use Rattle.tj_words.specs.LawParts.LiveCount.{live_part, live_tasks, LiveCount, DoesRun, DoesWalk, HasAlarmed, Holds}
-use Rattle.tj_words.specs.LawParts.LiveCount.{IsBacked}
-use Rattle.tj_words.specs.LawParts.LiveCount.{IsLively, HasWakeToCome, Backing}
-use Rattle.tj_words.specs.LawParts.Contents.{contents_of}
-use Rattle.tj_words.specs.Law.{Rule}
+use Rattle.tj_words.proofs.Prelude.{Any, Backing, Bool, Chains, Custodies, Custody, Does, DoesRun, DoesWalk, Due, Each}
+use Rattle.tj_words.proofs.Prelude.{Hand, HasAlarmed, HasWakeToCome, Head, Holds, IsBacked, IsLively, IsParkedOn, Key}
+use Rattle.tj_words.proofs.Prelude.{List, LiveCount, None, Option, Phase, Program, Rec, Rest, Rule, Shut, Slots, Some}
+use Rattle.tj_words.proofs.Prelude.{State, View, [], ap, arith, at_map, contents_of, dec_le, dite, get_elem?, held_in}
+use Rattle.tj_words.proofs.Prelude.{inl, inr, live_part, live_tasks, map, phase_of, put, refl, set, some}
+use Rattle.tj_words.proofs.Prelude.{some-injective, some-ne-none, subst, suc, sym, total, true, zero, ℕ, ℕ_discrete}
+use Rattle.tj_words.proofs.Prelude.{⊎_elim, ◌+◌, ◌-◌, ◌<◌, ◌∙◌, ◌∷◌, ◌≡◌, ◌≢◌, ◌≤◌, ◌⊎◌}
 use Rattle.tj_words.proofs.Stores.StoreSteps.{put_here, put_else}
 use Rattle.tj_words.proofs.Stores.SeatLists.{each_set}
 use Rattle.tj_words.proofs.Seating.Splitting.{total_set}
 use Rattle.tj_words.proofs.Waiters.ChainLists.{no_some, none_or}
 use Rattle.tj_words.proofs.Waiters.ChainFacts.{not_empty}
 use Rattle.tj_words.proofs.Waiters.ChainsSaid.{shut_or}
+use Rattle.tj_words.specs.declared.offsets.Once.TheVariants as once
+use Rattle.tj_words.specs.declared.view.Does.TheVariants as does
 
 -- how many live tasks there are, where the phases are the same, and where one changes
 live_same : (phase phase' : ℕ → Phase) (n : ℕ) → ((u : ℕ) → u < n → phase' u ≡ phase u)

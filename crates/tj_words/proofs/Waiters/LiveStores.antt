@@ -1,19 +1,8 @@
 -- The steps on LIVE keep the rule.
-use Rattle.std.proofs.Common.{◌≡◌, ℕ, suc, ◌-◌, ◌<◌, ◌≤◌, Bool, length, Option, set, ap, ◌∙◌}
-use Rattle.std.proofs.Common.{arith}
-use mathlib.Core.Option.{some}
-use lib.ListN.{get_elem?}
-use Rattle.atomic_table.specs.Table.{State}
-use Rattle.atomic_table.proofs.Lists.{at_map}
-use Rattle.tj_body.specs.Programs.{Program}
-use Rattle.tj_words.specs.declared.record.Rec.{Rec}
-use Rattle.tj_words.specs.declared.table.Key.{Key}
-use Rattle.tj_words.specs.declared.view.View.{View}
-use Rattle.tj_words.specs.Words.Offsets.{word, live_at}
-use Rattle.tj_words.specs.LawParts.LiveCount.{LiveCount, IsBacked, IsLively, Backing}
-use Rattle.tj_words.specs.LawParts.Contents.{SeatsHave, contents_of, words_say, seats_have}
-use Rattle.tj_words.specs.Law.{Rule}
-use Rattle.tj_words.specs.Calls.ParkSteps.{with_tokens}
+use Rattle.tj_words.proofs.Prelude.{Backing, Bool, IsBacked, IsLively, Key, LiveCount, Option, Program, Rec, Rule}
+use Rattle.tj_words.proofs.Prelude.{SeatsHave, State, View, ap, arith, at_map, contents_of, get_elem?, length, live_at}
+use Rattle.tj_words.proofs.Prelude.{seats_have, set, some, suc, with_tokens, word, words_say, ℕ, ◌-◌, ◌<◌, ◌∙◌, ◌≡◌}
+use Rattle.tj_words.proofs.Prelude.{◌≤◌}
 use Rattle.tj_words.proofs.Stores.SeatContents.{seats_same}
 use Rattle.tj_words.proofs.Stores.StoreSteps.{Stores, store_word}
 use Rattle.tj_words.proofs.Stores.StepContents.{stored}

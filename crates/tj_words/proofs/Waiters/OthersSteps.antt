@@ -1,30 +1,10 @@
 -- The add to OTHERS and the subtraction from it keep the rule.
-use Rattle.std.proofs.Common.{◌≡◌, ℕ, suc, ◌+◌, ◌-◌, ◌%◌, ◌<◌, ◌^◌, Bool, List, set, length, Option, refl, sym}
-use Rattle.std.proofs.Common.{ap, subst, arith}
-use mathlib.Core.Option.{some, none}
-use lib.ListN.{get_elem?}
-use Rattle.atomic_table.specs.Table.{State, step, Allows}
-use Rattle.atomic_table.proofs.Lists.{at_map}
-use Rattle.tj_body.specs.Programs.{Program}
-use Rattle.tj_core.specs.Laws.{EventKeepsFacts}
-use Rattle.tj_core.specs.WalkLaws.{OthersAreFew}
-use Rattle.tj_words.specs.declared.record.Rec.{Rec}
-use Rattle.tj_words.specs.declared.table.Key.{Key}
-use Rattle.tj_words.specs.declared.view.Does.{Does}
-use Rattle.tj_words.specs.declared.view.Does.TheVariants as does
-use Rattle.tj_words.specs.declared.view.Custody.{Custody}
-use Rattle.tj_words.specs.declared.view.View.{View}
-use Rattle.tj_body.specs.Points.{IsIn}
-use Rattle.tj_words.specs.Words.Lists.{total}
-use Rattle.tj_words.specs.LawParts.Holding.{phase_of}
-use Rattle.tj_words.specs.LawParts.LiveCount.{DoesWalk}
-use Rattle.tj_words.specs.LawParts.Contents.{SeatsHave, Contents, words_say, seats_have}
-use Rattle.tj_words.specs.Law.{Law, Rule, IsSeat}
-use Rattle.tj_words.specs.Words.Offsets.{word, others_at}
-use Rattle.tj_words.specs.SeatViews.SeatSteps.{SeatMe}
-use Rattle.tj_words.specs.Steps.ShownParts.{parts_of}
-use Rattle.tj_words.specs.Steps.StepEvents.{MayAct, IsHeldWith}
-use Rattle.tj_words.specs.Calls.WalkViews.{turned, lowered, MayRaise, others_add, others_subtraction}
+use Rattle.tj_words.proofs.Prelude.{Allows, Bool, Contents, Custody, Does, DoesWalk, EventKeepsFacts, IsHeldWith, IsIn}
+use Rattle.tj_words.proofs.Prelude.{IsSeat, Key, Law, List, MayAct, MayRaise, Option, OthersAreFew, Program, Rec, Rule}
+use Rattle.tj_words.proofs.Prelude.{SeatMe, SeatsHave, State, View, ap, arith, at_map, get_elem?, length, lowered, none}
+use Rattle.tj_words.proofs.Prelude.{others_at, parts_of, phase_of, refl, seats_have, set, some, step, subst, suc, sym}
+use Rattle.tj_words.proofs.Prelude.{total, turned, word, words_say, ℕ, ◌%◌, ◌+◌, ◌-◌, ◌<◌, ◌^◌, ◌≡◌}
+use Rattle.tj_words.specs.Calls.WalkViews.{others_add, others_subtraction}
 use Rattle.tj_words.proofs.Stores.LawChanges.{law_counts}
 use Rattle.tj_words.proofs.Stores.SeatContents.{set_seats, seats_same}
 use Rattle.tj_words.proofs.Seating.Splitting.{total_set}
@@ -35,6 +15,7 @@ use Rattle.tj_words.proofs.Events.WaitClears.{lower_shown}
 use Rattle.tj_words.proofs.Events.WalkEvents.{raise_shown}
 use Rattle.tj_words.proofs.SeatLoads.WalkLoads.{turned_seat, turned_seats, held_by_view, others_small}
 use Rattle.tj_words.proofs.SeatLoads.WalkReads.{doing, turned_to, task_turned, law_turned}
+use Rattle.tj_words.specs.declared.view.Does.TheVariants as does
 
 -- a task that may act runs
 pub acting_phase : (d : Does) → MayAct d → phase_of does.Raised ≡ phase_of d

@@ -1,21 +1,8 @@
 -- The law under a store of STOP, and under a draw that finds no cell left.
-use Rattle.std.proofs.Common.{◌≡◌, ℕ, suc, ◌<◌, ◌≤◌, min, List, subst, sym, arith}
-use Rattle.tj_body.specs.Programs.{Program}
-use Rattle.tj_body.specs.Rounds.{IsFull}
-use Rattle.tj_core.specs.CoreFacts.{CoreFacts}
-use Rattle.tj_words.specs.LawParts.Lots.{Lots}
-use Rattle.tj_words.specs.LawParts.Stops.{Stops}
-use Rattle.tj_words.specs.LawParts.Hands.{Hands}
-use Rattle.tj_words.specs.LawParts.NamedCells.{NamesCells}
-use Rattle.tj_words.specs.LawParts.TreeWords.{Births, IsForkTree, TreeWords}
-use Rattle.tj_words.specs.LawParts.Custodies.{Custodies, OwnedLists}
-use Rattle.tj_words.specs.LawParts.OnceWords.{OnceWords}
-use Rattle.tj_words.specs.LawParts.Meaning.{Meaning}
-use Rattle.tj_words.specs.LawParts.ShownState.{state_shown}
-use Rattle.tj_words.specs.Words.Lists.{total}
-use Rattle.tj_words.specs.LawParts.Contents.{Contents, drawn_in, tag_in, bits_in, hand_of, held_of, home_of, owned_of}
-use Rattle.tj_words.specs.LawParts.Contents.{made_of}
-use Rattle.tj_words.specs.Law.{Law}
+use Rattle.tj_words.proofs.Prelude.{Births, Contents, CoreFacts, Custodies, Hands, IsForkTree, IsFull, Law, List, Lots}
+use Rattle.tj_words.proofs.Prelude.{Meaning, NamesCells, OnceWords, OwnedLists, Program, Stops, TreeWords, arith}
+use Rattle.tj_words.proofs.Prelude.{bits_in, drawn_in, hand_of, held_of, home_of, made_of, min, owned_of, state_shown}
+use Rattle.tj_words.proofs.Prelude.{subst, suc, sym, tag_in, total, ℕ, ◌<◌, ◌≡◌, ◌≤◌}
 use Rattle.tj_words.proofs.Meaning.MeaningSteps.{stop_meant, refused_meant}
 use Rattle.tj_words.proofs.Stores.LawChanges.{law_kept}
 use Rattle.tj_words.proofs.Meaning.LawMeant.{ground_of, known_of, law_meant}

@@ -1,12 +1,5 @@
-use Rattle.std.proofs.Common.{ap, subst, ◌∙◌}
-use Rattle.tj_core.specs.Events.{is_owner, owner_found, owner_read}
-use Rattle.tj_words.specs.Words.Offsets.{word, own_at}
-use Rattle.tj_words.specs.Words.Owners.{owner_in}
-use Rattle.tj_words.specs.LawParts.Contents.{contents_of}
-use Rattle.tj_words.specs.Steps.WalkSteps.{ReadsOn}
-use Rattle.tj_words.specs.Calls.WalkViews.{owner_seen}
-use Rattle.tj_words.specs.Words.Phases.{phase_in}
-use Rattle.tj_words.specs.Calls.WaitViews.{PutsIfWait}
+use Rattle.tj_words.proofs.Prelude.{PutsIfWait, ReadsOn, ap, contents_of, is_owner, own_at, owner_found, owner_in}
+use Rattle.tj_words.proofs.Prelude.{owner_read, owner_seen, phase_in, subst, word, ◌∙◌}
 use Rattle.tj_words.proofs.Calls.EventCalls.{call_publishes, call_alarms, call_raises, call_lowers, call_reads}
 use Rattle.tj_words.proofs.Calls.EventCalls.{first_seen}
 use Rattle.tj_words.proofs.laws.event_calls.Goals as goal

@@ -1,5 +1,4 @@
-use Rattle.std.proofs.Common.{refl, ap}
-use Rattle.tj_words.specs.SeatViews.SeatSteps.{SeatMe}
+use Rattle.tj_words.proofs.Prelude.{SeatMe, ap, refl}
 use Rattle.tj_words.proofs.Calls.CallChanges.{loads, as_it_was, head_same, push_same, live_same, once_same}
 use Rattle.tj_words.proofs.laws.load_calls.Goals as goal
 

@@ -1,4 +1,4 @@
-use Rattle.std.proofs.Common.{arith}
+use Rattle.tj_words.proofs.Prelude.{arith}
 use Rattle.tj_words.proofs.Calls.OneHolders.{one_line_stands, one_seat_holds, one_seat_pushes}
 use Rattle.tj_words.proofs.Calls.OneStates.{chained, drawn_chained, one_shown}
 use Rattle.tj_words.proofs.laws.one_state.Goals as goal

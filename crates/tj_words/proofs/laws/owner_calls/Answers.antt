@@ -1,6 +1,4 @@
-use Rattle.std.proofs.Common.{◌<◌, ◌∙◌, ap, subst, sym}
-use Rattle.tj_words.specs.Words.Owners.{owner_in}
-use Rattle.tj_words.specs.Calls.OwnerViews.{PutsOwner}
+use Rattle.tj_words.proofs.Prelude.{PutsOwner, ap, owner_in, subst, sym, ◌<◌, ◌∙◌}
 use Rattle.tj_words.proofs.Calls.DrawCalls.{call_draws}
 use Rattle.tj_words.proofs.Calls.OwnerCalls.{call_closes, call_closes_own, call_gives, call_hands, call_marks}
 use Rattle.tj_words.proofs.laws.owner_calls.Goals as goal

@@ -1,6 +1,6 @@
-use Rattle.std.proofs.Common.{ap}
-use Rattle.tj_words.specs.declared.offsets.Once.TheVariants as once
+use Rattle.tj_words.proofs.Prelude.{ap}
 use Rattle.tj_words.proofs.Calls.CallChanges.{keeps_cells, split_splits, merge_merges}
+use Rattle.tj_words.specs.declared.offsets.Once.TheVariants as once
 use Rattle.tj_words.proofs.laws.seat_calls.Goals as goal
 
 pub returns-clause-split : goal.returns-clause-split

@@ -1,9 +1,8 @@
-use Rattle.std.proofs.Common.{refl, ap}
-use Rattle.tj_words.specs.SeatViews.SeatSteps.{SeatMe}
-use Rattle.tj_words.specs.declared.offsets.Once.TheVariants as once
+use Rattle.tj_words.proofs.Prelude.{SeatMe, ap, refl}
 use Rattle.tj_words.proofs.Calls.CallChanges.{as_it_was, is_same, raise_same, lower_same, shut_same, live_changes}
-use Rattle.tj_words.proofs.Calls.CallChanges.{stop_changes}
-use Rattle.tj_words.proofs.Calls.CallChanges.{head_changes, next_changes, writes_hand, writes_value, refused_counts}
+use Rattle.tj_words.proofs.Calls.CallChanges.{stop_changes, head_changes, next_changes, writes_hand, writes_value}
+use Rattle.tj_words.proofs.Calls.CallChanges.{refused_counts}
+use Rattle.tj_words.specs.declared.offsets.Once.TheVariants as once
 use Rattle.tj_words.proofs.laws.store_calls.Goals as goal
 
 pub returns-clause-live_up : goal.returns-clause-live_up

@@ -1,7 +1,4 @@
-use Rattle.std.proofs.Common.{ap, subst, sym, ◌∙◌}
-use Rattle.tj_words.specs.Words.Phases.{phase_in}
-use Rattle.tj_words.specs.SeatViews.SeatSteps.{SeatMe}
-use Rattle.tj_words.specs.Calls.WaitViews.{PutsIfWait}
+use Rattle.tj_words.proofs.Prelude.{PutsIfWait, SeatMe, ap, phase_in, subst, sym, ◌∙◌}
 use Rattle.tj_words.proofs.Calls.TaskCalls.{call_ends, call_moves, call_releases, call_settles, call_shelves}
 use Rattle.tj_words.proofs.Calls.TakenTasks.{call_claims, call_goes_back, call_wakes}
 use Rattle.tj_words.proofs.laws.task_calls.Goals as goal

@@ -1,10 +1,7 @@
-use Rattle.std.proofs.Common.{◌≡◌, ◌/◌, ◌≤◌, ◌<◌, ◌^◌, sym, ap, ◌∙◌, subst, arith}
-use Rattle.tj_words.specs.Words.Offsets.{own_at, phase_at, once_at}
-use Rattle.tj_words.specs.Words.Phases.{phase_word, phase_in}
-use Rattle.tj_words.specs.Inner.ShownCells.{task_in, maker_in}
-use Rattle.tj_words.specs.declared.offsets.Once.TheVariants as once
-use Rattle.std.specs.Slots.{slots_items}
+use Rattle.tj_words.proofs.Prelude.{ap, arith, maker_in, once_at, own_at, phase_at, phase_in, phase_word, slots_items}
+use Rattle.tj_words.proofs.Prelude.{subst, sym, task_in, ◌/◌, ◌<◌, ◌^◌, ◌∙◌, ◌≡◌, ◌≤◌}
 use Rattle.tj_words.proofs.Meaning.ClosedWords.{read_at, owner_is, maker_is, phase_cell}
+use Rattle.tj_words.specs.declared.offsets.Once.TheVariants as once
 use Rattle.tj_words.proofs.rest.show_cell.Goals as goal
 
 pub owner_of_word-requires : goal.owner_of_word-requires

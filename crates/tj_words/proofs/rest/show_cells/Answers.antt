@@ -1,8 +1,5 @@
-use Rattle.std.proofs.Common.{◌<◌, ◌≤◌, min, length, arith, refl, ap, ◌∙◌, subst}
-use Rattle.std.specs.Slots.{slots_items}
+use Rattle.tj_words.proofs.Prelude.{ap, arith, cell_of, count_at, length, min, refl, slots_items, subst, ◌<◌, ◌∙◌, ◌≤◌}
 use lib.ListN.{length-set, get_elem?}
-use Rattle.tj_words.specs.Words.Offsets.{count_at}
-use Rattle.tj_words.specs.Inner.ShownCells.{cell_of}
 use Rattle.tj_words.proofs.Meaning.ClosedWords.{read_at, filled_more, front_length, front_at}
 use Rattle.tj_words.proofs.rest.show_cells.Goals as goal
 

@@ -1,6 +1,6 @@
-use Rattle.std.proofs.Common.{◌≡◌, ◌≤◌, ◌+◌, ◌-◌, ◌++◌, ◌∷◌, [], ap, ◌∙◌, arith, replicate, Some, None}
+use Rattle.tj_words.proofs.Prelude.{None, Some, [], ap, arith, replicate, root_record, ◌++◌, ◌+◌, ◌-◌, ◌∙◌, ◌∷◌, ◌≡◌}
+use Rattle.tj_words.proofs.Prelude.{◌≤◌}
 use Rattle.std.proofs.lemmas.List.{replicate_more}
-use Rattle.tj_words.specs.LawParts.FirstState.{root_record}
 use Rattle.tj_words.proofs.table.slots_at_first.Goals as goal
 
 pub loop-i-preserved : goal.loop-i-preserved

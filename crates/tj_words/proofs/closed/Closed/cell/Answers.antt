@@ -1,6 +1,5 @@
-use Rattle.std.proofs.Common.{◌<◌, length, sym, subst}
+use Rattle.tj_words.proofs.Prelude.{IsShown, length, subst, sym, ◌<◌}
 use Rattle.atomic_table.proofs.Lists.{at_index}
-use Rattle.tj_words.specs.AtRest.ClosedCells.{IsShown}
 use Rattle.tj_words.proofs.closed.Closed.cell.Goals as goal
 
 pub returns : goal.returns

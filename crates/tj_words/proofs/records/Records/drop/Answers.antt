@@ -1,6 +1,4 @@
-use Rattle.std.proofs.Common.{false, get_or, get_or-set_other, get_or-set_same, arith, ap, ◌∙◌}
-use mathlib.Core.Logic.{dite}
-use native.Mathlib.Decide.{ℕ_discrete}
+use Rattle.tj_words.proofs.Prelude.{ap, arith, dite, false, get_or, get_or-set_other, get_or-set_same, ℕ_discrete, ◌∙◌}
 use Rattle.std.specs.Slots.{slots_filled, slots_counts}
 use Rattle.tj_words.proofs.records.Records.drop.Goals as goal
 

@@ -1,5 +1,4 @@
-use Rattle.std.proofs.Common.{◌≡◌, ◌↔◌, ◌<◌, length, None, ap, sym, subst}
-use Rattle.tj_words.specs.AtRest.ClosedCells.{IsPromise}
+use Rattle.tj_words.proofs.Prelude.{IsPromise, None, ap, length, subst, sym, ◌<◌, ◌↔◌, ◌≡◌}
 use Rattle.tj_words.specs.AtRest.RestShown.{RestShown}
 use Rattle.tj_words.proofs.Meaning.ClosedWords.{mapped_none}
 use Rattle.tj_words.proofs.Meaning.Rested.{promise_at}

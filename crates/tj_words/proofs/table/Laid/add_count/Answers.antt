@@ -1,4 +1,4 @@
-use Rattle.std.proofs.Common.{arith, sym, ◌∙◌}
+use Rattle.tj_words.proofs.Prelude.{arith, sym, ◌∙◌}
 use Rattle.tj_words.proofs.Cells.DrawSteps.{draw_allowed}
 use Rattle.tj_words.proofs.table.Laid.add_count.Goals as goal
 

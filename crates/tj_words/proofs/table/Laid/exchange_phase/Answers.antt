@@ -1,6 +1,4 @@
-use Rattle.std.proofs.Common.{arith, eqb, refl, sym, ◌∙◌}
-use prog.Atomic.{either}
-use Rattle.tj_words.specs.Calls.ExchangeViews.{phase_swap}
+use Rattle.tj_words.proofs.Prelude.{arith, either, eqb, phase_swap, refl, sym, ◌∙◌}
 use Rattle.tj_words.proofs.Phases.PhaseExchanges.{swap_allowed}
 use Rattle.tj_words.proofs.SeatLoads.MomentSteps.{moment_allowed, so_too}
 use Rattle.tj_words.proofs.table.Laid.exchange_phase.Goals as goal

@@ -1,6 +1,4 @@
-use Rattle.std.proofs.Common.{arith}
-use Rattle.tj_words.specs.SeatViews.SeatSteps.{live_load}
-use Rattle.tj_words.specs.Words.Offsets.{live_at}
+use Rattle.tj_words.proofs.Prelude.{arith, live_at, live_load}
 use Rattle.tj_words.proofs.SeatLoads.LoadSteps.{live_allowed}
 use Rattle.tj_words.proofs.SeatLoads.MomentSteps.{moment_allowed}
 use Rattle.tj_words.proofs.table.Laid.live.Goals as goal

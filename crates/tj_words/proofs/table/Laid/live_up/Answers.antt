@@ -1,4 +1,4 @@
-use Rattle.std.proofs.Common.{arith}
+use Rattle.tj_words.proofs.Prelude.{arith}
 use Rattle.tj_words.proofs.Waiters.LiveCalls.{up_allowed}
 use Rattle.tj_words.proofs.table.Laid.live_up.Goals as goal
 

@@ -1,9 +1,7 @@
-use Rattle.std.proofs.Common.{arith, sym, ◌∙◌}
-use Rattle.tj_words.specs.declared.view.Noted.TheVariants as note
-use Rattle.tj_words.specs.SeatViews.SeatSteps.{IsCount, plain_load}
-use Rattle.tj_words.specs.Words.Offsets.{count_at}
+use Rattle.tj_words.proofs.Prelude.{IsCount, arith, count_at, plain_load, sym, ◌∙◌}
 use Rattle.tj_words.proofs.SeatLoads.LoadSteps.{count_allowed}
 use Rattle.tj_words.proofs.SeatLoads.MomentSteps.{moment_allowed}
+use Rattle.tj_words.specs.declared.view.Noted.TheVariants as note
 use Rattle.tj_words.proofs.table.Laid.load_count.Goals as goal
 
 pub load-requires : goal.load-requires

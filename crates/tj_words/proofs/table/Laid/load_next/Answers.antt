@@ -1,9 +1,7 @@
-use Rattle.std.proofs.Common.{arith, refl, subst, sym, ◌∙◌}
+use Rattle.tj_words.proofs.Prelude.{NextTold, arith, head_in, next_load, refl, subst, sym, ◌∙◌}
 use Rattle.tj_words.proofs.SeatLoads.KnowLoads.{next_allowed}
-use Rattle.tj_words.proofs.table.Laid.load_next.Goals as goal
-use Rattle.tj_words.specs.SeatViews.SeenWords.{NextTold, next_load}
-use Rattle.tj_words.specs.Words.Heads.{head_in}
 use Rattle.tj_words.proofs.SeatLoads.MomentSteps.{moment_allowed, so_too}
+use Rattle.tj_words.proofs.table.Laid.load_next.Goals as goal
 
 pub load-requires : goal.load-requires
 load-requires g c = let a = c.args in let k = a.self.now.table.shared.key in let e = a.self.now.key_cells in (

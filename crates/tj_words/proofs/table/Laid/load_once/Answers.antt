@@ -1,4 +1,4 @@
-use Rattle.std.proofs.Common.{arith, sym, ◌∙◌}
+use Rattle.tj_words.proofs.Prelude.{arith, sym, ◌∙◌}
 use Rattle.tj_words.proofs.SeatLoads.KnowLoads.{once_allowed, once_within}
 use Rattle.tj_words.proofs.table.Laid.load_once.Goals as goal
 

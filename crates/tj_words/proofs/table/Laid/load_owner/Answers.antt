@@ -1,10 +1,8 @@
-use Rattle.std.proofs.Common.{arith, refl, sym, ◌∙◌}
+use Rattle.tj_words.proofs.Prelude.{arith, plain_load, refl, sym, ◌∙◌, ◌≤◌}
 use Rattle.tj_words.proofs.SeatLoads.LoadSteps.{owner_allowed}
-use Rattle.tj_words.proofs.table.Laid.load_owner.Goals as goal
-use Rattle.tj_words.specs.declared.view.Noted.TheVariants as note
-use Rattle.std.proofs.Common.{◌≤◌}
-use Rattle.tj_words.specs.SeatViews.SeatSteps.{plain_load}
 use Rattle.tj_words.proofs.SeatLoads.MomentSteps.{moment_allowed, so_too}
+use Rattle.tj_words.specs.declared.view.Noted.TheVariants as note
+use Rattle.tj_words.proofs.table.Laid.load_owner.Goals as goal
 
 pub load-requires : goal.load-requires
 load-requires g c = let a = c.args in let k = a.self.now.table.shared.key in let e = a.self.now.key_cells in

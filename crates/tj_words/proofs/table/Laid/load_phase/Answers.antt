@@ -1,10 +1,7 @@
-use Rattle.std.proofs.Common.{arith, refl, sym, subst, ◌∙◌}
-use Rattle.tj_words.specs.Calls.ParkSteps.{FirstTold}
-use Rattle.tj_words.specs.Words.Phases.{phase_in}
+use Rattle.tj_words.proofs.Prelude.{FirstTold, arith, phase_in, phase_load, refl, subst, sym, ◌∙◌}
 use Rattle.tj_words.proofs.SeatLoads.PhaseLoads.{phase_allowed}
-use Rattle.tj_words.proofs.table.Laid.load_phase.Goals as goal
-use Rattle.tj_words.specs.Calls.ParkSteps.{phase_load}
 use Rattle.tj_words.proofs.SeatLoads.MomentSteps.{moment_allowed, so_too}
+use Rattle.tj_words.proofs.table.Laid.load_phase.Goals as goal
 
 pub load-requires : goal.load-requires
 load-requires g c = let a = c.args in let k = a.self.now.table.shared.key in let e = a.self.now.key_cells in

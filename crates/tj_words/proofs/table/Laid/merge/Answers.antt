@@ -1,4 +1,4 @@
-use Rattle.std.proofs.Common.{arith}
+use Rattle.tj_words.proofs.Prelude.{arith}
 use Rattle.tj_words.proofs.Seating.Merging.{rule_joins}
 use Rattle.tj_words.proofs.table.Laid.merge.Goals as goal
 

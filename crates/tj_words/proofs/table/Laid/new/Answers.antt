@@ -1,8 +1,4 @@
-use Rattle.std.proofs.Common.{ap, ◌∙◌, sym, refl, length, subst}
-use Rattle.tj_body.specs.Programs.{program_of}
-use Rattle.tj_body.specs.RoundPoints.{TasksStart}
-use Rattle.tj_words.specs.LawParts.FirstState.{first_slots}
-use Rattle.tj_words.specs.Law.{IsRooted}
+use Rattle.tj_words.proofs.Prelude.{IsRooted, TasksStart, ap, first_slots, length, program_of, refl, subst, sym, ◌∙◌}
 use Rattle.tj_words.proofs.Seating.Opening.{opening_meets, first_deep}
 use Rattle.tj_words.proofs.Seating.FirstWords.{first_wide}
 use Rattle.tj_words.proofs.table.Laid.new.Goals as goal

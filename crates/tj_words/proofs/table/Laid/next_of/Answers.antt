@@ -1,5 +1,4 @@
-use Rattle.std.proofs.Common.{refl, subst, sym}
-use Rattle.tj_words.specs.SeatViews.SeenWords.{NextTold}
+use Rattle.tj_words.proofs.Prelude.{NextTold, refl, subst, sym}
 use Rattle.tj_words.proofs.SeatLoads.MomentSteps.{so_too}
 use Rattle.tj_words.proofs.table.Laid.next_of.Goals as goal
 

@@ -1,4 +1,4 @@
-use Rattle.std.proofs.Common.{arith}
+use Rattle.tj_words.proofs.Prelude.{arith}
 use Rattle.tj_words.proofs.Waiters.OthersSteps.{lower_allowed}
 use Rattle.tj_words.proofs.table.Laid.others_down.Goals as goal
 

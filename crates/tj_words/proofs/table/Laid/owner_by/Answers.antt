@@ -1,4 +1,4 @@
-use Rattle.std.proofs.Common.{refl, sym}
+use Rattle.tj_words.proofs.Prelude.{refl, sym}
 use Rattle.tj_words.proofs.SeatLoads.MomentSteps.{so_too}
 use Rattle.tj_words.proofs.table.Laid.owner_by.Goals as goal
 

@@ -1,5 +1,4 @@
-use Rattle.std.proofs.Common.{arith}
-use Rattle.tj_words.specs.declared.offsets.Once.TheVariants.{Tag}
+use Rattle.tj_words.proofs.Prelude.{Tag, arith}
 use Rattle.tj_words.proofs.SeatLoads.KnowLoads.{once_within}
 use Rattle.tj_words.proofs.table.Laid.park_on_tag.Goals as goal
 

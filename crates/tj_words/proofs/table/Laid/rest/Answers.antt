@@ -1,6 +1,4 @@
-use Rattle.std.proofs.Common.{arith, refl}
-use Rattle.std.specs.Slots.{slots_items}
-use Rattle.tj_body.specs.Programs.{program_of}
+use Rattle.tj_words.proofs.Prelude.{arith, program_of, refl, slots_items}
 use Rattle.tj_words.proofs.Meaning.MeantCycles.{meant_cycles_alarmed}
 use Rattle.tj_words.proofs.Meaning.Rested.{final_words, rested}
 use Rattle.tj_words.proofs.table.Laid.rest.Goals as goal

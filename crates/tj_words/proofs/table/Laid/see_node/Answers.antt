@@ -1,4 +1,4 @@
-use Rattle.std.proofs.Common.{refl}
+use Rattle.tj_words.proofs.Prelude.{refl}
 use Rattle.tj_words.proofs.SeatLoads.NodeLooks.{jump_some, jump_back, four_shown, four_parent, four_jump, four_go_on}
 use Rattle.tj_words.proofs.SeatLoads.NodeLooks.{four_later}
 use Rattle.tj_words.proofs.table.Laid.see_node.Goals as goal

@@ -1,4 +1,4 @@
-use Rattle.std.proofs.Common.{arith}
+use Rattle.tj_words.proofs.Prelude.{arith}
 use Rattle.tj_words.proofs.Seating.Splitting.{rule_splits}
 use Rattle.tj_words.proofs.table.Laid.split.Goals as goal
 

@@ -1,10 +1,7 @@
-use Rattle.std.proofs.Common.{arith}
+use Rattle.tj_words.proofs.Prelude.{arith, program_of, stop_at, stop_load}
 use Rattle.tj_words.proofs.SeatLoads.StopLoads.{stop_allowed}
-use Rattle.tj_words.proofs.table.Laid.stopped.Goals as goal
-use Rattle.tj_body.specs.Programs.{program_of}
-use Rattle.tj_words.specs.SeatViews.FullMeaning.{stop_load}
-use Rattle.tj_words.specs.Words.Offsets.{stop_at}
 use Rattle.tj_words.proofs.SeatLoads.MomentSteps.{moment_allowed}
+use Rattle.tj_words.proofs.table.Laid.stopped.Goals as goal
 
 pub load-requires : goal.load-requires
 load-requires g c = let a = c.args in let k = a.self.now.table.shared.key in (

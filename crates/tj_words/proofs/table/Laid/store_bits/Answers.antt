@@ -1,9 +1,8 @@
-use Rattle.std.proofs.Common.{arith, subst}
-use Rattle.tj_words.specs.declared.offsets.Once.TheVariants as once
+use Rattle.tj_words.proofs.Prelude.{arith, program_of, subst}
 use Rattle.tj_words.specs.Calls.EntryViews.{PutsBits}
-use Rattle.tj_body.specs.Programs.{program_of}
 use Rattle.tj_words.proofs.SeatLoads.KnowLoads.{once_within}
 use Rattle.tj_words.proofs.Stores.EntryStores.{bits_allowed}
+use Rattle.tj_words.specs.declared.offsets.Once.TheVariants as once
 use Rattle.tj_words.proofs.table.Laid.store_bits.Goals as goal
 
 pub store-requires : goal.store-requires

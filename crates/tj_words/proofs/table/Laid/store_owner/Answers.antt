@@ -1,6 +1,4 @@
-use Rattle.std.proofs.Common.{arith, subst}
-use Rattle.tj_words.specs.Calls.OwnerViews.{PutsOwner}
-use Rattle.tj_words.specs.Words.Owners.{owner_in}
+use Rattle.tj_words.proofs.Prelude.{PutsOwner, arith, owner_in, subst}
 use Rattle.tj_words.proofs.Cells.OwnerStores.{owner_allowed}
 use Rattle.tj_words.proofs.table.Laid.store_owner.Goals as goal
 

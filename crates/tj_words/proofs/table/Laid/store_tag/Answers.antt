@@ -1,8 +1,8 @@
-use Rattle.std.proofs.Common.{arith, subst}
-use Rattle.tj_words.specs.declared.offsets.Once.TheVariants as once
+use Rattle.tj_words.proofs.Prelude.{arith, subst}
 use Rattle.tj_words.specs.Calls.EntryViews.{PutsTag}
 use Rattle.tj_words.proofs.SeatLoads.KnowLoads.{once_within}
 use Rattle.tj_words.proofs.Stores.EntryStores.{tag_allowed}
+use Rattle.tj_words.specs.declared.offsets.Once.TheVariants as once
 use Rattle.tj_words.proofs.table.Laid.store_tag.Goals as goal
 
 pub store-requires : goal.store-requires

@@ -1,4 +1,4 @@
-use Rattle.std.proofs.Common.{arith}
+use Rattle.tj_words.proofs.Prelude.{arith}
 use Rattle.tj_words.proofs.Phases.WaitSteps.{wait_allowed}
 use Rattle.tj_words.proofs.table.Laid.store_wait.Goals as goal
 

@@ -1,4 +1,4 @@
-use Rattle.std.proofs.Common.{arith}
+use Rattle.tj_words.proofs.Prelude.{arith}
 use Rattle.tj_words.proofs.SeatLoads.KnowLoads.{once_within}
 use Rattle.tj_words.proofs.Stores.WordStores.{word_allowed}
 use Rattle.tj_words.proofs.table.Laid.store_word.Goals as goal

@@ -1,4 +1,4 @@
-use Rattle.std.proofs.Common.{arith, ◌∙◌, sym}
+use Rattle.tj_words.proofs.Prelude.{arith, sym, ◌∙◌}
 use Rattle.tj_words.proofs.Waiters.HeadSteps.{shut_allowed}
 use Rattle.tj_words.proofs.table.Laid.swap_head.Goals as goal
 

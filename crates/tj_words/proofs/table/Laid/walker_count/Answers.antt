@@ -1,12 +1,7 @@
-use Rattle.std.proofs.Common.{arith, sym, ◌∙◌}
+use Rattle.tj_words.proofs.Prelude.{IsCount, arith, count_at, count_read, min, sym, walk_load, ◌∙◌}
 use Rattle.tj_words.proofs.SeatLoads.WalkLoads.{count_read_allowed}
-use Rattle.tj_words.proofs.table.Laid.walker_count.Goals as goal
-use Rattle.std.proofs.Common.{min}
-use Rattle.tj_core.specs.Events.{count_read}
-use Rattle.tj_words.specs.Calls.WalkViews.{walk_load}
-use Rattle.tj_words.specs.SeatViews.SeatSteps.{IsCount}
-use Rattle.tj_words.specs.Words.Offsets.{count_at}
 use Rattle.tj_words.proofs.SeatLoads.MomentSteps.{moment_allowed}
+use Rattle.tj_words.proofs.table.Laid.walker_count.Goals as goal
 
 pub load-requires : goal.load-requires
 load-requires g c = let a = c.args in let k = a.self.now.table.shared.key in let e = a.self.now.key_cells in (

@@ -1,11 +1,7 @@
-use Rattle.std.proofs.Common.{arith}
+use Rattle.tj_words.proofs.Prelude.{arith, others_at, others_read, walk_load, ◌<◌, ◌^◌}
 use Rattle.tj_words.proofs.SeatLoads.WalkLoads.{others_read_allowed}
-use Rattle.tj_words.proofs.table.Laid.walker_others.Goals as goal
-use Rattle.std.proofs.Common.{◌<◌, ◌^◌}
-use Rattle.tj_core.specs.Events.{others_read}
-use Rattle.tj_words.specs.Calls.WalkViews.{walk_load}
-use Rattle.tj_words.specs.Words.Offsets.{others_at}
 use Rattle.tj_words.proofs.SeatLoads.MomentSteps.{moment_allowed}
+use Rattle.tj_words.proofs.table.Laid.walker_others.Goals as goal
 
 pub load-requires : goal.load-requires
 load-requires g c = let a = c.args in let k = a.self.now.table.shared.key in (

@@ -1,10 +1,7 @@
-use Rattle.std.proofs.Common.{arith, refl, sym, ◌∙◌}
+use Rattle.tj_words.proofs.Prelude.{arith, owner_in, owner_seen, refl, sym, walk_load, ◌∙◌, ◌≤◌}
 use Rattle.tj_words.proofs.SeatLoads.WalkLoads.{owner_read_allowed}
-use Rattle.tj_words.proofs.table.Laid.walker_owner.Goals as goal
-use Rattle.std.proofs.Common.{◌≤◌}
-use Rattle.tj_words.specs.Calls.WalkViews.{owner_seen, walk_load}
-use Rattle.tj_words.specs.Words.Owners.{owner_in}
 use Rattle.tj_words.proofs.SeatLoads.MomentSteps.{moment_allowed, so_too}
+use Rattle.tj_words.proofs.table.Laid.walker_owner.Goals as goal
 
 pub load-requires : goal.load-requires
 load-requires g c = let a = c.args in let k = a.self.now.table.shared.key in let e = a.self.now.key_cells in (

@@ -1,12 +1,7 @@
-use Rattle.std.proofs.Common.{arith, refl, sym, ◌∙◌}
+use Rattle.tj_words.proofs.Prelude.{IsPhaseWord, arith, phase_in, refl, sym, wait_found, wait_in, walk_load, ◌∙◌}
 use Rattle.tj_words.proofs.SeatLoads.WalkLoads.{wait_read_allowed}
-use Rattle.tj_words.proofs.table.Laid.walker_wait.Goals as goal
-use Rattle.tj_core.specs.Events.{wait_found}
-use Rattle.tj_words.specs.Calls.WalkViews.{walk_load}
-use Rattle.tj_words.specs.Steps.StepEvents.{wait_in}
-use Rattle.tj_words.specs.Words.Codes.{IsPhaseWord}
-use Rattle.tj_words.specs.Words.Phases.{phase_in}
 use Rattle.tj_words.proofs.SeatLoads.MomentSteps.{moment_allowed, so_too}
+use Rattle.tj_words.proofs.table.Laid.walker_wait.Goals as goal
 
 pub load-requires : goal.load-requires
 load-requires g c = let a = c.args in let k = a.self.now.table.shared.key in let e = a.self.now.key_cells in (
