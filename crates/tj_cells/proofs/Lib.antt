@@ -5,3 +5,4 @@ pub mod ChildJumps
 pub mod ClosingViews
 pub mod ValueWords
 pub mod CallsKnowMore
+pub mod SameViews

@@ -47,6 +47,7 @@ use Rattle.tj_park.proofs.LeftTasks.{holds_before}
 use Rattle.tj_park.proofs.ParkedViews.{lowered_alone, no_record}
 use Rattle.tj_park.proofs.EndPoints.{its_name, result_first, to_break, result_becomes, told_ended}
 use Rattle.tj_park.proofs.WakeLoops.{noted_tail}
+use Rattle.tj_cells.proofs.SameViews.{more_same}
 
 -- all of a list but its first, as a slice
 pub slice_rest : (l m : List CellId) → l ≡ m → take (length l - 1) (drop 1 l) ≡ drop 1 m
@@ -230,18 +231,8 @@ module _ {B : Type 0} (program : Bool → B → Program B) (t : ℕ) (r : Rec B)
       })
 
       pub lowered_more : (v5 : View B) (m6 : SeatMe B) → m6 ≡ lowered_with v5 slots → KnowsMore v5 m6.0
-      lowered_more v5 m6 e = subst (λ (m : SeatMe B). KnowsMore v5 m.0) (sym (e ∙ lowered_alone v5 slots none)) (record {
-        about = refl;
-        lot = refl;
-        born = begins_self v5.born;
-        known = λ x i. i;
-        wrote = λ x i. i;
-        filled = λ x i. i;
-        seen = λ x i. i;
-        closed = λ x i. i;
-        rested = λ q. q;
-        notes = ([], refl);
-      })
+      lowered_more v5 m6 e = subst (λ (m : SeatMe B). KnowsMore v5 m.0) (sym (e ∙ lowered_alone v5 slots none))
+          (more_same v5 (with_tokens (v5.tokens - 1) v5) ([], refl))
 
       pub may_wake_then : (m4 : SeatMe B) → m4 ≡ (ended t closed, slots) → MayWake t m4
       may_wake_then m4 e = subst (λ m. MayWake t m) (sym e) may_wake_last

@@ -14,9 +14,10 @@ use Rattle.tj_words.specs.Calls.ChainSteps.{HasPush, HasPushBehind, KnowsEntry, 
 use Rattle.tj_words.specs.Calls.ChainSteps.{without_push}
 use Rattle.tj_words.specs.Words.Heads.{head_word}
 use Rattle.tj_words.specs.SeatViews.SeenWords.{FindsChain, FindsShut}
-use Rattle.tj_words.proofs.SeatLoads.KnowsMoreOn.{more_itself, more_on, hand_on, counts_on}
+use Rattle.tj_words.proofs.SeatLoads.KnowsMoreOn.{more_on, hand_on, counts_on}
 use Rattle.tj_park.specs.Inner.JoinViews.{LooksOn, IsAdded, push_behind, last_found, pushes_left, join_steps}
 use Rattle.tj_park.specs.ParkViews.{HasFoundChains}
+use Rattle.tj_cells.proofs.SameViews.{more_same}
 
 -- the sums of steps and of pushes
 shut_cost : (s v c : ℕ) → s ≡ suc v → s + 2 * 0 ≤ v + (2 * c + 3)
@@ -152,18 +153,7 @@ module _ {B : Type 0} where
   same_looks : {cells : ℕ} (v : View B) (n : ℕ) (ps : List Push) (fs : List Found)
       → LooksOn cells v (record v { steps = n; pushes = ps; found = fs })
   same_looks v n ps fs = record {
-    knows = record {
-      about = refl;
-      lot = refl;
-      born = (more_itself v).born;
-      known = λ x i. i;
-      wrote = λ x i. i;
-      filled = λ x i. i;
-      seen = λ x i. i;
-      closed = λ x i. i;
-      rested = λ e. e;
-      notes = ([], refl);
-    };
+    knows = more_same v (record v { steps = n; pushes = ps; found = fs }) ([], refl);
     all = λ a. a;
     hand = record { hand = refl; dues = refl };
     counts = record { tokens = refl; cleared = refl; refused = refl };

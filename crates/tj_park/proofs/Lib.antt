@@ -11,3 +11,4 @@ pub mod EndSteps
 pub mod ResultCloses
 pub mod TestRoots
 pub mod OwedRecords
+pub mod NothingToCome

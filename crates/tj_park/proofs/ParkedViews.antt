@@ -23,12 +23,13 @@ use Rattle.tj_words.specs.SeatViews.TaskLists.{hold}
 use Rattle.tj_words.specs.LawParts.TreeWords.{AreCells}
 use Rattle.tj_words.specs.Calls.WaitViews.{MayPark, parked}
 use Rattle.tj_words.proofs.Holders.HeldTasks.{none_some}
-use Rattle.tj_words.proofs.SeatLoads.KnowsMoreOn.{more_itself, more_on}
+use Rattle.tj_words.proofs.SeatLoads.KnowsMoreOn.{more_on}
 use Rattle.tj_words.proofs.Waiters.LiveSteps.{backing_idle}
 use Rattle.tj_park.specs.Inner.JoinViews.{LooksOn, IsAdded, TakesBack, join_steps, push_behind}
 use Rattle.tj_park.specs.ParkViews.{HasFoundChains, MayParkTask, LeftTask, GaveBack}
 use Rattle.tj_park.specs.Records.{HasNoRecord}
 use Rattle.tj_park.proofs.LeftTasks.{holds_before, puts_home}
+use Rattle.tj_cells.proofs.SameViews.{more_same}
 
 -- the sums of steps
 left_steps : (s v c : ℕ) → s ≤ suc v + (2 * c + 3) → suc s ≤ v + (2 * c + 6)
@@ -70,18 +71,7 @@ module _ {B : Type 0} where
     one_push = ap (λ l. new_push t q way ∷ l) may.idle.pushes
 
     knows_parked : KnowsMore v (parked t q way v)
-    knows_parked = record {
-      about = refl;
-      lot = refl;
-      born = (more_itself v).born;
-      known = λ x i. i;
-      wrote = λ x i. i;
-      filled = λ x i. i;
-      seen = λ x i. i;
-      closed = λ x i. i;
-      rested = λ e. e;
-      notes = ([], refl);
-    }
+    knows_parked = more_same v (parked t q way v) ([], refl)
 
     -- w is the view after the task was added to the chain, or the head found shut
     module _ (w : View B) (looks : LooksOn cells (parked t q way v) w)
@@ -121,18 +111,7 @@ module _ {B : Type 0} where
             (sym (e ∙ lowered_alone w l n)) (
               record {
                 parked = record {
-                  knows = more_on v w left knows (record {
-                    about = refl;
-                    lot = refl;
-                    born = (more_itself w).born;
-                    known = λ x i. i;
-                    wrote = λ x i. i;
-                    filled = λ x i. i;
-                    seen = λ x i. i;
-                    closed = λ x i. i;
-                    rested = λ a. a;
-                    notes = ([], refl);
-                  });
+                  knows = more_on v w left knows (more_same w left ([], refl));
                   all = λ a e c. looks.all;
                   hand = record { hand = looks.hand.hand; dues = looks.hand.dues };
                   wakes = record { pushes = added ∙ sym may.idle.pushes; shuts = looks.shuts; rest = looks.rest };
