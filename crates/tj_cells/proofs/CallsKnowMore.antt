@@ -1,15 +1,8 @@
 -- What a seat knows and has to do after a call of this crate.
-use Rattle.std.proofs.Common.{◌∙◌, ℕ, List, [], refl, sym, ap, subst, inr}
-use Rattle.tj_base.specs.declared.cell.Sort.{Sort}
-use Rattle.tj_body.specs.Points.{IsIn, Begins}
-use Rattle.tj_body.specs.declared.point.Entry.{Entry}
-use Rattle.tj_body.specs.declared.point.Reference.{Reference}
-use Rattle.tj_body.proofs.Lists.{begins_self, in_right}
-use Rattle.tj_words.specs.declared.view.View.{View}
-use Rattle.tj_words.specs.SeatViews.KnowsMore.{KnowsMore, HasSameWakes, HasSameHand, HasSameCounts}
-use Rattle.tj_cells.specs.FilledCells.{became}
-use Rattle.tj_cells.specs.MadeCells.{IsMade}
-use Rattle.tj_cells.specs.SeenValues.{saw_value}
+use Rattle.tj_cells.proofs.Prelude.{Begins, Entry, IsIn, IsMade, KnowsMore, List, Reference, Sort, View, [], ap, became}
+use Rattle.tj_cells.proofs.Prelude.{begins_self, inr, refl, saw_value, subst, sym, ℕ, ◌∙◌}
+use Rattle.tj_body.proofs.Lists.{in_right}
+use Rattle.tj_words.specs.SeatViews.KnowsMore.{HasSameWakes, HasSameHand, HasSameCounts}
 
 module _ {B : Type 0} where
   -- a cell was made

@@ -1,14 +1,11 @@
 -- Where a child jumps, by the nodes of its maker, of the maker's jump, and of the jump of that.
-use Rattle.std.proofs.Common.{◌≡◌, ◌∙◌, ℕ, ◌-◌, ◌==◌, if◌then◌else◌, Bool, Option, sym, ap}
+use Rattle.tj_cells.proofs.Prelude.{Bool, Node, Option, Rec, View, ap, child_jump_of, node_of, sym, ℕ, ◌-◌, ◌∙◌, ◌≡◌}
+use Rattle.std.proofs.Common.{◌==◌, if◌then◌else◌}
 use Rattle.atomic_table.specs.declared.shared.Seat.{Seat}
-use Rattle.tj_tree.specs.declared.node.Node.{Node}
 use Rattle.tj_tree.specs.declared.node.NodeId.{NodeId}
-use Rattle.tj_tree.specs.Nodes.{InEachTree, jump_from, node_of}
+use Rattle.tj_tree.specs.Nodes.{InEachTree, jump_from}
 use Rattle.tj_tree.specs.Walk.{GoesOn}
-use Rattle.tj_words.specs.declared.record.Rec.{Rec}
-use Rattle.tj_words.specs.declared.view.View.{View}
 use Rattle.tj_words.specs.SeatViews.TreeReads.{TreeShown}
-use Rattle.tj_cells.specs.Inner.MakingSteps.{child_jump_of}
 
 module _ (nodes : ℕ → Node) (p : NodeId) (node near far : Node) (here : nodes p.0 ≡ node)
     (up : nodes node.jump.0 ≡ near) (top : nodes near.jump.0 ≡ far) where

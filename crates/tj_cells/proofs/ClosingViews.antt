@@ -1,35 +1,23 @@
 -- The view of a seat as it closes a cell, step by step.
-use Rattle.std.proofs.Common.{◌≡◌, ◌≢◌, ◌∙◌, ℕ, Bool, List, ◌∷◌, Some, None, refl, sym, ap, subst, inl, inr}
+use Rattle.tj_cells.proofs.Prelude.{All, BitsSay, Bool, Custody, Due, Entry, Fill, IsCell, IsDue, IsIn, List, None}
+use Rattle.tj_cells.proofs.Prelude.{Program, Reference, Some, View, ap, became, due_still, fill_in, held_in, inl, inr}
+use Rattle.tj_cells.proofs.Prelude.{noted_here, refl, same_word, subst, sym, tag_of, tag_word, ℕ, ◌∙◌, ◌∷◌, ◌≡◌, ◌≢◌}
 use mathlib.Core.Option.{some-injective}
 use Rattle.std.specs.Int.{cast_signed, w64}
 use Rattle.tj_body.specs.History.{to_task, to_promise}
-use Rattle.tj_body.specs.Points.{IsIn}
-use Rattle.tj_body.specs.Programs.{Program}
-use Rattle.tj_body.specs.declared.point.Reference.{Reference}
 use Rattle.tj_body.specs.declared.point.Value.{Value}
-use Rattle.tj_body.specs.declared.point.Value.TheVariants as value
-use Rattle.tj_body.specs.declared.point.Entry.{Entry}
-use Rattle.tj_body.specs.declared.point.Entry.TheVariants as entry
-use Rattle.tj_words.specs.declared.offsets.Once.TheVariants as once
-use Rattle.tj_words.specs.declared.record.Fill.{Fill}
-use Rattle.tj_words.specs.declared.record.Fill.TheVariants as fill
-use Rattle.tj_words.specs.declared.view.Custody.{Custody}
-use Rattle.tj_words.specs.declared.view.Due.{Due}
-use Rattle.tj_words.specs.declared.view.View.{View}
-use Rattle.tj_words.specs.Words.Lists.{All}
-use Rattle.tj_words.specs.LawParts.Holding.{held_in}
 use Rattle.tj_words.specs.LawParts.LiveCount.{IsBacked}
 use Rattle.tj_words.specs.SeatViews.KnownEntries.{HasSeen, MayStoreBits, NamesOneOf}
-use Rattle.tj_words.specs.LawParts.TreeWords.{IsCell, IsDue}
-use Rattle.tj_words.specs.LawParts.Telling.{BitsSay, FillSays, tag_of}
-use Rattle.tj_words.specs.Words.Values.{fill_in, tag_word}
+use Rattle.tj_words.specs.LawParts.Telling.{FillSays}
 use Rattle.tj_words.specs.Calls.EntryViews.{MayPutBits, MayPutTag, PutsBits, PutsTag, wrote_bits, wrote_tag}
 use Rattle.tj_words.specs.Calls.OwnerViews.{PutsOwner, closed_cell, gave_up}
-use Rattle.tj_words.proofs.Holders.NotedEntries.{noted_here}
-use Rattle.tj_words.proofs.Stores.OnceStores.{due_else, due_still}
-use Rattle.tj_words.proofs.Stores.TableWords.{same_word}
-use Rattle.tj_cells.specs.FilledCells.{MayGiveUp, WillBecome, became, cells_named}
+use Rattle.tj_words.proofs.Stores.OnceStores.{due_else}
+use Rattle.tj_cells.specs.FilledCells.{MayGiveUp, WillBecome, cells_named}
 use Rattle.tj_cells.proofs.DueWords.{due_of, both_written}
+use Rattle.tj_body.specs.declared.point.Value.TheVariants as value
+use Rattle.tj_body.specs.declared.point.Entry.TheVariants as entry
+use Rattle.tj_words.specs.declared.offsets.Once.TheVariants as once
+use Rattle.tj_words.specs.declared.record.Fill.TheVariants as fill
 
 -- the value of a fill is one
 pub says_one : (born : List Reference) (f : Fill) (x y : Value) → FillSays born f x → FillSays born f y → x ≡ y

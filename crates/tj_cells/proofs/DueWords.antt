@@ -1,15 +1,11 @@
 -- The words that are due of a cell, as they are written one after the other.
-use Rattle.std.proofs.Common.{◌≡◌, ◌≢◌, ◌∙◌, ℕ, cond, List, [], ◌∷◌, ◌++◌, refl, ap, inl, inr, eq-eqb, ne_eqb}
-use Rattle.tj_base.specs.declared.cell.Sort.{Sort}
-use Rattle.tj_base.specs.declared.cell.Sort.TheVariants as sort
+use Rattle.tj_cells.proofs.Prelude.{All, Due, List, Sort, [], ap, cond, dues_left, eq-eqb, inl, inr, ne_eqb, new_dues}
+use Rattle.tj_cells.proofs.Prelude.{refl, same_word, without_due, ℕ, ◌++◌, ◌∙◌, ◌∷◌, ◌≡◌, ◌≢◌}
 use Rattle.tj_words.specs.declared.offsets.Once.{Once}
-use Rattle.tj_words.specs.declared.offsets.Once.TheVariants as once
-use Rattle.tj_words.specs.declared.view.Due.{Due}
-use Rattle.tj_words.specs.Words.Lists.{All}
 use Rattle.tj_words.specs.Words.Offsets.{once_at}
-use Rattle.tj_words.specs.Calls.DrawViews.{new_dues, without_due}
-use Rattle.tj_words.proofs.Stores.TableWords.{same_cell, same_word}
-use Rattle.tj_cells.specs.Inner.MakingSteps.{dues_left}
+use Rattle.tj_words.proofs.Stores.TableWords.{same_cell}
+use Rattle.tj_base.specs.declared.cell.Sort.TheVariants as sort
+use Rattle.tj_words.specs.declared.offsets.Once.TheVariants as once
 
 -- the word of the cell
 abbrev pub due_of : ℕ → Once → Due

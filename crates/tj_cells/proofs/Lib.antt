@@ -6,3 +6,4 @@ pub mod ClosingViews
 pub mod ValueWords
 pub mod CallsKnowMore
 pub mod SameViews
+pub mod Prelude

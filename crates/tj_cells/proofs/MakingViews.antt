@@ -1,38 +1,23 @@
 -- The view of a seat as it makes a cell, step by step.
-use Rattle.std.proofs.Common.{◌≡◌, ◌≢◌, ◌⊎◌, ◌∙◌, ℕ, zero, suc, ◌+◌, ◌≤◌, cond, Bool, true, List, [], ◌∷◌, ◌++◌, length}
-use Rattle.std.proofs.Common.{Some, refl, sym, ap, subst, arith, inl, inr, ⊎_elim, eq-eqb}
+use Rattle.tj_cells.proofs.Prelude.{All, Begins, Bool, Due, InEachTree, IsIn, Node, Program, Reference, Sort, View, []}
+use Rattle.tj_cells.proofs.Prelude.{ap, begins_at, cond, due_still, held_in, inl, inr, inside, new_task, node_of, noted}
+use Rattle.tj_cells.proofs.Prelude.{noted_here, refl, runs_on, same_word, sym, true, ℕ, ◌+◌, ◌∙◌, ◌∷◌, ◌≡◌, ◌≢◌, ◌≤◌}
+use Rattle.std.proofs.Common.{◌⊎◌, zero, suc, List, ◌++◌, length, Some, subst, arith, ⊎_elim, eq-eqb}
 use mathlib.Core.Option.{some}
 use lib.ListN.{get_elem?}
-use Rattle.tj_base.specs.declared.cell.Sort.{Sort}
-use Rattle.tj_base.specs.declared.cell.Sort.TheVariants as sort
-use Rattle.tj_body.specs.Points.{IsIn, Begins}
-use Rattle.tj_body.specs.Programs.{Program}
-use Rattle.tj_body.specs.declared.point.Reference.{Reference}
 use Rattle.tj_body.proofs.Lists.{begins_trans, begins_more}
-use Rattle.tj_tree.specs.declared.node.Node.{Node}
-use Rattle.tj_tree.specs.Nodes.{InEachTree, node_of}
-use Rattle.tj_words.specs.declared.offsets.Once.TheVariants as once
-use Rattle.tj_words.specs.declared.view.Due.{Due}
 use Rattle.tj_words.specs.declared.view.SeenWord.{SeenWord}
-use Rattle.tj_words.specs.declared.view.View.{View}
-use Rattle.tj_words.specs.Words.Lists.{All}
-use Rattle.tj_words.specs.LawParts.Holding.{held_in}
 use Rattle.tj_words.specs.LawParts.TreeWords.{IsCell, IsDue, AreCells}
 use Rattle.tj_words.specs.SeatViews.SeenWords.{IsTaskIn, MayReadTree, ShowsNode, seen_word}
 use Rattle.tj_words.specs.Calls.DrawViews.{FindsCell, MayGive, MayMark, MayWrite, drawn_next, gave_owner}
-use Rattle.tj_words.specs.Calls.DrawViews.{marked_promise}
-use Rattle.tj_words.specs.Calls.DrawViews.{new_dues, new_hand, new_task, new_tasks, runs_on, without_due, wrote_word}
-use Rattle.tj_words.specs.SeatViews.TaskLists.{noted}
+use Rattle.tj_words.specs.Calls.DrawViews.{marked_promise, new_dues, new_hand, new_tasks, without_due, wrote_word}
 use Rattle.tj_words.specs.SeatViews.TreeReads.{HasReadTree}
-use Rattle.tj_words.proofs.Seating.Merging.{begins_at}
-use Rattle.tj_words.proofs.Stores.SeatLists.{inside}
-use Rattle.tj_words.proofs.Holders.NotedEntries.{noted_here}
-use Rattle.tj_words.proofs.Stores.OnceStores.{due_still}
-use Rattle.tj_words.proofs.Stores.TableWords.{same_word}
 use Rattle.tj_cells.specs.MadeCells.{IsMade, MayMake}
 use Rattle.tj_cells.specs.Inner.MakingSteps.{DrawsNamed, HasInHand, WritesNode, child_jump_of, drew_named, dues_left}
 use Rattle.tj_cells.proofs.DueWords.{due_of, both_alone, named_dues}
 use Rattle.tj_cells.proofs.TaskNotes.{maker_held, promise_notes, task_notes}
+use Rattle.tj_base.specs.declared.cell.Sort.TheVariants as sort
+use Rattle.tj_words.specs.declared.offsets.Once.TheVariants as once
 
 -- the last of a list stands at the index of its length
 pub last_at : {A : Type 0} (l : List A) (x : A) (c : ℕ) → length l ≡ c → get_elem? (l ++ x ∷ []) c ≡ some x

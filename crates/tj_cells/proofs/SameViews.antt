@@ -1,8 +1,6 @@
 -- A view that has what another view has knows what that one knows.
-use Rattle.std.proofs.Common.{refl}
-use Rattle.tj_body.proofs.Lists.{begins_self}
-use Rattle.tj_words.specs.declared.view.View.{View}
-use Rattle.tj_words.specs.SeatViews.KnowsMore.{IsTailOf, KnowsMore}
+use Rattle.tj_cells.proofs.Prelude.{KnowsMore, View, begins_self, refl}
+use Rattle.tj_words.specs.SeatViews.KnowsMore.{IsTailOf}
 
 module _ {B : Type 0} where
   -- what the seat knows is as it was, but for what it has noted

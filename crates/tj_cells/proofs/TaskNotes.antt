@@ -1,13 +1,11 @@
 -- What a seat has for its tasks, noted step by step as a task makes a cell.
-use Rattle.std.proofs.Common.{◌≡◌, ◌≢◌, ◌∙◌, ℕ, cond, List, [], ◌∷◌, Some, refl, sym, ap, eq-eqb, ne_eqb}
+use Rattle.tj_cells.proofs.Prelude.{Custody, List, Some, [], ap, cond, eq-eqb, held_in, ne_eqb, new_task, noted}
+use Rattle.tj_cells.proofs.Prelude.{noted_here, refl, runs_on, sym, ℕ, ◌∙◌, ◌∷◌, ◌≡◌, ◌≢◌}
 use mathlib.Core.Logic.{dite}
 use native.Mathlib.Decide.{ℕ_discrete}
-use Rattle.tj_words.specs.declared.view.Custody.{Custody}
-use Rattle.tj_words.specs.LawParts.Holding.{held_in}
-use Rattle.tj_words.specs.SeatViews.TaskLists.{let_go, hold, noted}
-use Rattle.tj_words.specs.Calls.DrawViews.{runs_on, made_one, owns_also, new_task}
+use Rattle.tj_words.specs.SeatViews.TaskLists.{let_go, hold}
+use Rattle.tj_words.specs.Calls.DrawViews.{made_one, owns_also}
 use Rattle.tj_words.proofs.Holders.HeldChanges.{held_task}
-use Rattle.tj_words.proofs.Holders.NotedEntries.{noted_here}
 use Rattle.tj_words.proofs.Holders.NotedTasks.{noted_is}
 use Rattle.tj_cells.specs.MadeCells.{makes_promise, makes_task, new_born}
 

@@ -1,27 +1,17 @@
 -- The value of a cell, by TAG and BITS as they were loaded.
-use Rattle.std.proofs.Common.{◌≡◌, ◌≢◌, ◌∙◌, ℕ, ◌<◌, ◌≤◌, ◌^◌, Bool, List, length, Option, Some, None}
-use Rattle.std.proofs.Common.{refl, sym, ap, subst, arith, inl, ⊎_elim}
-use Rattle.tj_base.specs.declared.cell.Sort.{Sort}
-use Rattle.tj_base.specs.declared.cell.Sort.TheVariants as sort
-use Rattle.tj_body.specs.Points.{Begins, IsIn}
-use Rattle.tj_body.specs.Programs.{Program}
-use Rattle.tj_body.specs.declared.point.Reference.{Reference}
-use Rattle.tj_body.specs.declared.point.Value.TheVariants as value
-use Rattle.tj_body.specs.declared.point.Entry.{Entry}
-use Rattle.tj_body.specs.declared.point.Entry.TheVariants as entry
-use Rattle.tj_body.proofs.Lists.{begins_trans}
-use Rattle.tj_words.specs.declared.record.Fill.{Fill}
-use Rattle.tj_words.specs.declared.record.Fill.TheVariants as fill
-use Rattle.tj_words.specs.declared.view.View.{View}
+use Rattle.tj_cells.proofs.Prelude.{Begins, Bool, Entry, Fill, IsCell, IsIn, List, None, Program, Reference, Some, Sort}
+use Rattle.tj_cells.proofs.Prelude.{View, ap, begins_at, begins_trans, inl, inside, refl, sym, ℕ, ◌∙◌, ◌≡◌, ◌≢◌, ◌≤◌}
+use Rattle.std.proofs.Common.{◌<◌, ◌^◌, length, Option, subst, arith, ⊎_elim}
 use Rattle.tj_words.specs.SeatViews.SeenWords.{FindsBits, FindsEntry, bits_cells}
 use Rattle.tj_words.specs.LawParts.Telling.{BitsSay, sort_tag, tag_of}
-use Rattle.tj_words.specs.LawParts.TreeWords.{IsCell}
 use Rattle.tj_words.specs.Words.Values.{NamesCell, fill_in}
 use Rattle.tj_words.specs.SeatViews.Views.{saw_bits}
-use Rattle.tj_words.proofs.Seating.Merging.{begins_at}
-use Rattle.tj_words.proofs.Stores.SeatLists.{inside}
 use Rattle.tj_cells.specs.SeenValues.{SeenSays, SeesValue, cells_seen, saw_value, seen_in}
 use Rattle.tj_cells.specs.declared.seen.Seen.{Seen}
+use Rattle.tj_base.specs.declared.cell.Sort.TheVariants as sort
+use Rattle.tj_body.specs.declared.point.Value.TheVariants as value
+use Rattle.tj_body.specs.declared.point.Entry.TheVariants as entry
+use Rattle.tj_words.specs.declared.record.Fill.TheVariants as fill
 use Rattle.tj_cells.specs.declared.seen.Seen.TheVariants as seen
 
 -- what the words stand for is a value, or that the cell is broken

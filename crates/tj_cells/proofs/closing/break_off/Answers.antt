@@ -1,5 +1,4 @@
-use Rattle.std.proofs.Common.{refl}
-use Rattle.tj_body.specs.Programs.{program_of}
+use Rattle.tj_cells.proofs.Prelude.{program_of, refl}
 use Rattle.tj_body.specs.declared.point.Entry.TheVariants.{Broken}
 use Rattle.tj_cells.proofs.ClosingViews.{cell_became, may_bits, may_tag}
 use Rattle.tj_cells.proofs.closing.break_off.Goals as goal

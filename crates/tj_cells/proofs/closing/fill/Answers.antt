@@ -1,8 +1,5 @@
-use Rattle.std.proofs.Common.{◌≡◌, ◌∙◌, Some, sym, ap}
-use Rattle.tj_body.specs.Programs.{program_of}
+use Rattle.tj_cells.proofs.Prelude.{Some, ap, became, fill_in, program_of, sym, tag_word, ◌∙◌, ◌≡◌}
 use Rattle.tj_body.specs.declared.point.Entry.TheVariants.{Value}
-use Rattle.tj_words.specs.Words.Values.{fill_in, tag_word}
-use Rattle.tj_cells.specs.FilledCells.{became}
 use Rattle.tj_cells.proofs.ClosingViews.{cell_became, fill_bits, fill_known, fill_tag, may_bits, may_tag, says_one}
 use Rattle.tj_cells.proofs.closing.fill.Goals as goal
 

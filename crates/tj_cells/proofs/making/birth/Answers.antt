@@ -1,5 +1,4 @@
-use Rattle.std.proofs.Common.{◌∙◌, inl}
-use Rattle.tj_body.specs.Programs.{program_of}
+use Rattle.tj_cells.proofs.Prelude.{inl, program_of, ◌∙◌}
 use Rattle.tj_cells.proofs.MakingViews.{in_hand, may_give_task, still_may, still_task, task_made}
 use Rattle.tj_cells.proofs.making.birth.Goals as goal
 

@@ -1,6 +1,6 @@
-use Rattle.std.proofs.Common.{◌≡◌, ◌≢◌, ◌∙◌, ◌-◌, true, false, refl, sym, eq-eqb, ne_eqb}
+use Rattle.tj_cells.proofs.Prelude.{eq-eqb, later_on, ne_eqb, refl, sym, true, ◌-◌, ◌∙◌, ◌≡◌, ◌≢◌}
+use Rattle.std.proofs.Common.{false}
 use Rattle.tj_words.specs.SeatViews.TreeReads.{MayLook}
-use Rattle.tj_words.proofs.SeatLoads.LaterSeats.{later_on}
 use Rattle.tj_cells.proofs.ChildJumps.{jumps_so}
 use Rattle.tj_cells.proofs.making.child_jump.Goals as goal
 

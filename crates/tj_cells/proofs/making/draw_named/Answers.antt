@@ -1,5 +1,4 @@
-use Rattle.std.proofs.Common.{◌+◌, arith}
-use Rattle.tj_body.specs.Programs.{program_of}
+use Rattle.tj_cells.proofs.Prelude.{arith, program_of, ◌+◌}
 use Rattle.tj_cells.proofs.MakingViews.{draws_named, may_kid, may_parent}
 use Rattle.tj_cells.proofs.making.draw_named.Goals as goal
 

@@ -1,5 +1,4 @@
-use Rattle.std.proofs.Common.{ap, inl}
-use Rattle.tj_body.specs.Programs.{program_of}
+use Rattle.tj_cells.proofs.Prelude.{ap, inl, program_of}
 use Rattle.tj_cells.proofs.MakingViews.{may_give, may_mark, promise_made}
 use Rattle.tj_cells.proofs.making.make.Goals as goal
 

@@ -1,10 +1,7 @@
-use Rattle.std.proofs.Common.{◌∙◌, ◌+◌, ap, arith}
-use Rattle.tj_tree.specs.declared.node.Node.{Node}
-use Rattle.tj_words.specs.declared.offsets.Once.TheVariants as once
-use Rattle.tj_words.specs.Calls.DrawViews.{wrote_word}
-use Rattle.tj_words.proofs.SeatLoads.LaterSeats.{later_on}
+use Rattle.tj_cells.proofs.Prelude.{Node, ap, arith, later_on, wrote_word, ◌+◌, ◌∙◌}
 use Rattle.tj_words.proofs.SeatLoads.NodeLooks.{shown_later}
 use Rattle.tj_cells.proofs.MakingViews.{may_depth, may_jump}
+use Rattle.tj_words.specs.declared.offsets.Once.TheVariants as once
 use Rattle.tj_cells.proofs.making.put_node.Goals as goal
 
 pub put_once-requires-clause-may : goal.put_once-requires-clause-may

@@ -1,5 +1,4 @@
-use Rattle.std.proofs.Common.{arith}
-use Rattle.tj_body.specs.Programs.{program_of}
+use Rattle.tj_cells.proofs.Prelude.{arith, program_of}
 use Rattle.tj_cells.proofs.ValueWords.{bits_fit, sees_value}
 use Rattle.tj_cells.proofs.seen.value.Goals as goal
 

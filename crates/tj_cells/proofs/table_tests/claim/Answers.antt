@@ -1,8 +1,6 @@
-use Rattle.std.proofs.Common.{◌≡◌, ℕ, ◌∷◌, refl, ap, sym, ◌∙◌}
+use Rattle.tj_cells.proofs.Prelude.{Rec, View, ap, refl, sym, ℕ, ◌∙◌, ◌∷◌, ◌≡◌}
 use Rattle.std.specs.Prelude.{Some}
 use Rattle.atomic_table.specs.Table.{rest}
-use Rattle.tj_words.specs.declared.record.Rec.{Rec}
-use Rattle.tj_words.specs.declared.view.View.{View}
 use Rattle.tj_words.specs.Calls.LiveViews.{HasSlot}
 use Rattle.tj_words.specs.SeatViews.SeatSteps.{SeatMe}
 use Rattle.tj_cells.proofs.table_tests.claim.Goals as goal
