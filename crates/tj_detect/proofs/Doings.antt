@@ -1,16 +1,8 @@
 -- A seat's view after steps of a call that changed what one of its tasks does.
-use Rattle.std.proofs.Common.{◌≡◌, ℕ, suc, ◌+◌, cond, Bool, List, [], ◌∷◌, Some, None, refl, sym, ap, ◌∙◌, arith}
-use Rattle.std.proofs.Common.{eq-eqb, ne_eqb}
+use Rattle.tj_detect.proofs.Prelude.{Custody, Does, View, Walker, Way, [], ap, doing, held_in, start_walk, suc, ℕ, ◌+◌}
+use Rattle.std.proofs.Common.{◌≡◌, cond, Bool, List, ◌∷◌, Some, None, refl, sym, ◌∙◌, arith, eq-eqb, ne_eqb}
 use mathlib.Core.Logic.{dite}
 use native.Mathlib.Decide.{ℕ_discrete}
-use Rattle.tj_core.specs.declared.walk.Way.{Way}
-use Rattle.tj_core.specs.declared.walk.Walker.{Walker}
-use Rattle.tj_core.specs.Events.{start_walk}
-use Rattle.tj_words.specs.declared.view.Custody.{Custody}
-use Rattle.tj_words.specs.declared.view.Does.{Does}
-use Rattle.tj_words.specs.declared.view.Does.TheVariants as does
-use Rattle.tj_words.specs.declared.view.View.{View}
-use Rattle.tj_words.specs.LawParts.Holding.{held_in}
 use Rattle.tj_words.specs.LawParts.ShownState.{does_walk}
 use Rattle.tj_words.specs.SeatViews.TaskLists.{let_go, hold, noted}
 use Rattle.tj_words.specs.Calls.WaitViews.{now_does, now_alarmed, published, alarmed}
@@ -19,7 +11,7 @@ use Rattle.tj_words.proofs.Holders.HeldChanges.{held_task}
 use Rattle.tj_words.proofs.Holders.HeldTasks.{none_some}
 use Rattle.tj_words.proofs.Holders.NotedTasks.{noted_is}
 use Rattle.tj_words.proofs.Holders.SeatTasks.{let_go_here, hold_here}
-use Rattle.tj_detect.specs.Blocks.{doing}
+use Rattle.tj_words.specs.declared.view.Does.TheVariants as does
 
 module _ {B : Type 0} where
   -- a list that doesn't have the task is as it is without it

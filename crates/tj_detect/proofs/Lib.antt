@@ -7,3 +7,4 @@ pub mod WalkLoops
 pub mod WalkBlocks
 pub mod Skips
 pub mod NeededWalks
+pub mod Prelude

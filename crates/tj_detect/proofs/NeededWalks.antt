@@ -1,16 +1,11 @@
 -- A walk that has ended by a load was needed: on a wait along the order no owner is read but after OTHERS was read above
 -- 0.
-use Rattle.std.proofs.Common.{◌≡◌, ◌⊎◌, ℕ, refl, sym, ap, ◌∙◌, subst, inl, inr, ⊎_elim}
-use Rattle.tj_core.specs.declared.walk.Way.{Way}
-use Rattle.tj_core.specs.declared.walk.Walker.{Walker}
+use Rattle.tj_detect.proofs.Prelude.{Alarm, Counted, EndsWith, IsLoad, IsWalkOf, MayCount, MayReadOwner, Passed}
+use Rattle.tj_detect.proofs.Prelude.{Skipped, Verdict, Walked, Walker, Way, ap, count_read, inl, inr, others_read, refl}
+use Rattle.tj_detect.proofs.Prelude.{start_walk, subst, sym, walk_again, walk_wait, ℕ, ⊎_elim, ◌∙◌, ◌≡◌, ◌⊎◌}
 use Rattle.tj_core.specs.declared.walk.LastRead.{LastRead}
-use Rattle.tj_core.specs.declared.walk.LastRead.TheVariants.{Published, SawOthers, Counted, SawOwner, SawWait, Passed}
-use Rattle.tj_core.specs.declared.walk.LastRead.TheVariants.{Changed}
-use Rattle.tj_core.specs.Events.{start_walk, others_read, count_read, MayCount, MayReadOwner}
-use Rattle.tj_detect.specs.Blocks.{IsLoad, IsWalkFrom, IsWalkOf, IsNeeded, EndsWith, WasNeeded}
-use Rattle.tj_detect.specs.Blocks.{walk_first, walk_others, walk_count, walk_owner, walk_wait, walk_again}
-use Rattle.tj_detect.specs.declared.blocking.Verdict.{Verdict}
-use Rattle.tj_detect.specs.declared.blocking.Verdict.TheVariants.{Alarm, Walked, Skipped}
+use Rattle.tj_core.specs.declared.walk.LastRead.TheVariants.{Published, SawOthers, SawOwner, SawWait, Changed}
+use Rattle.tj_detect.specs.Blocks.{IsWalkFrom, IsNeeded, WasNeeded, walk_first, walk_others, walk_count, walk_owner}
 
 -- no owner is read where the walk has only been published, or has only read OTHERS
 abbrev no_owner : LastRead → Type 0

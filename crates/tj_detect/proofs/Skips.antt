@@ -1,14 +1,8 @@
 -- What a wait along the order loads from OTHERS, and where it skips its walk.
-use Rattle.std.proofs.Common.{◌≡◌, ◌↔◌, ℕ, Bool, subst}
-use Rattle.tj_body.specs.Programs.{Program}
-use Rattle.tj_core.specs.declared.walk.Way.TheVariants.{Along}
-use Rattle.tj_words.specs.declared.view.View.{View}
-use Rattle.tj_words.specs.Calls.WaitViews.{published}
+use Rattle.tj_detect.proofs.Prelude.{Along, Bool, Program, Skipped, Verdict, View, published, subst, ℕ, ◌↔◌, ◌≡◌}
 use Rattle.tj_words.specs.SeatViews.Moments.{WasSo}
 use Rattle.tj_words.specs.Words.Offsets.{others_at}
 use Rattle.tj_detect.specs.Skips.{LoadsOthers}
-use Rattle.tj_detect.specs.declared.blocking.Verdict.{Verdict}
-use Rattle.tj_detect.specs.declared.blocking.Verdict.TheVariants.{Skipped}
 
 -- the load was the one after the publish
 pub loads_others : {B : Type 0} {program : Bool → B → Program B} (verdict : Verdict) (t q n : ℕ) (v w : View B)

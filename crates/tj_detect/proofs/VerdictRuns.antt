@@ -1,20 +1,13 @@
 -- What the verdicts Walked and Skipped say of a run: the walk of the task is at its end.
-use Rattle.std.proofs.Common.{◌≡◌, ◌≢◌, ℕ, refl, sym, ap, ◌∙◌, subst}
+use Rattle.tj_detect.proofs.Prelude.{Alarm, Blocks, EndsWith, MayBlock, Skipped, Verdict, View, Walked, Walker, Way, ap}
+use Rattle.tj_detect.proofs.Prelude.{does_after, held_in, now_does, refl, subst, sym, tokens_given, ℕ, ◌∙◌, ◌≡◌, ◌≢◌}
 use Rattle.std.specs.Prelude.{length}
-use Rattle.tj_core.specs.declared.walk.Way.{Way}
-use Rattle.tj_core.specs.declared.walk.Walker.{Walker}
 use Rattle.tj_core.specs.Events.{EndsWalk, MaySettle}
-use Rattle.tj_words.specs.declared.view.Does.TheVariants as does
-use Rattle.tj_words.specs.declared.view.View.{View}
-use Rattle.tj_words.specs.Calls.WaitViews.{now_does}
 use Rattle.tj_words.specs.CallLaws.Verdicts.{HasEndedWalk}
-use Rattle.tj_words.specs.LawParts.Holding.{held_in}
 use Rattle.tj_words.proofs.Calls.Verdicts.{ended_walks_off_cycles}
-use Rattle.tj_detect.specs.Blocks.{Blocks, EndsWith, MayBlock, does_after, tokens_given}
 use Rattle.tj_detect.specs.VerdictRuns.{VerdictsAreOffCycles}
-use Rattle.tj_detect.specs.declared.blocking.Verdict.{Verdict}
-use Rattle.tj_detect.specs.declared.blocking.Verdict.TheVariants.{Alarm, Walked, Skipped}
 use Rattle.tj_detect.proofs.Doings.{doing_held}
+use Rattle.tj_words.specs.declared.view.Does.TheVariants as does
 
 -- what t does after such a call, and that its walk may settle
 walks_on : (verdict : Verdict) (q : ℕ) (way : Way) (w : Walker) → verdict ≢ Alarm

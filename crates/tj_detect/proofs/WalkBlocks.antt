@@ -1,30 +1,18 @@
 -- A call from its publish on, and what its verdict says of each table under the law.
-use Rattle.std.proofs.Common.{◌≡◌, ◌≢◌, ◌↔◌, ℕ, ◌+◌, ◌*◌, ◌≤◌, Bool, [], Some, refl, sym, ap, ◌∙◌, subst, arith}
-use Rattle.tj_body.specs.Programs.{Program}
-use Rattle.tj_core.specs.declared.walk.Way.{Way}
-use Rattle.tj_core.specs.declared.walk.Way.TheVariants.{Along, Other}
-use Rattle.tj_core.specs.declared.walk.Walker.{Walker}
-use Rattle.tj_core.specs.declared.walk.LastRead.TheVariants.{SawOthers}
-use Rattle.tj_core.specs.Events.{start_walk, others_read, MayCount}
+use Rattle.tj_detect.proofs.Prelude.{Alarm, Along, Blocks, Bool, Comes, Custody, Does, EndsWith, IsAtCount, IsLoad}
+use Rattle.tj_detect.proofs.Prelude.{IsWalkOf, MayBlock, MayCount, Other, Program, SawOthers, Skipped, Some, Verdict}
+use Rattle.tj_detect.proofs.Prelude.{View, Walked, Walker, WalksWith, Way, [], ap, arith, does_after, doing, held_in}
+use Rattle.tj_detect.proofs.Prelude.{one_some, others_read, read_on, refl, start_walk, subst, sym, tokens_given, turned}
+use Rattle.tj_detect.proofs.Prelude.{walk_first, walk_others, walk_with, ℕ, ◌*◌, ◌+◌, ◌↔◌, ◌∙◌, ◌≡◌, ◌≢◌, ◌≤◌}
 use Rattle.tj_core.specs.WalkLaws.{SettlersAreNotAlone}
-use Rattle.tj_words.specs.declared.view.Custody.{Custody}
-use Rattle.tj_words.specs.declared.view.Does.{Does}
-use Rattle.tj_words.specs.declared.view.Does.TheVariants as does
-use Rattle.tj_words.specs.declared.view.View.{View}
-use Rattle.tj_words.specs.LawParts.Holding.{held_in}
 use Rattle.tj_words.specs.Calls.WaitViews.{now_does, published, MayPublishWait}
 use Rattle.tj_words.specs.Steps.WalkSteps.{MayWait}
-use Rattle.tj_words.specs.Calls.WalkViews.{IsWalking, MayRaise, read_on, turned, walk_with}
-use Rattle.tj_words.proofs.Holders.HeldTasks.{one_some}
+use Rattle.tj_words.specs.Calls.WalkViews.{IsWalking, MayRaise}
 use Rattle.tj_words.proofs.Events.WalkersShown.{walker_shown, alarm_shown}
-use Rattle.tj_detect.specs.Blocks.{IsLoad, IsWalkOf, walk_first, walk_others, MayBlock, Blocks, HasReadNoOthers}
-use Rattle.tj_detect.specs.Blocks.{IsStepCount, doing}
-use Rattle.tj_detect.specs.Blocks.{EndsWith, does_after, tokens_given, InEachTable, StandsOnCycle, OthersWatch, shown}
-use Rattle.tj_detect.specs.Inner.WalkHops.{WalksWith, IsAtCount, Comes}
-use Rattle.tj_detect.specs.declared.blocking.Verdict.{Verdict}
-use Rattle.tj_detect.specs.declared.blocking.Verdict.TheVariants.{Alarm, Walked, Skipped}
+use Rattle.tj_detect.specs.Blocks.{HasReadNoOthers, IsStepCount, InEachTable, StandsOnCycle, OthersWatch, shown}
 use Rattle.tj_detect.proofs.NeededWalks.{needed}
 use Rattle.tj_detect.proofs.Doings.{doing_held, doing_on, turned_doing, published_doing}
+use Rattle.tj_words.specs.declared.view.Does.TheVariants as does
 
 -- the steps of a walk and at most two before it
 few_from : (verdict : Verdict) (bound n k : ℕ) → verdict ≢ Skipped → n ≤ 3 * bound + 1 → k ≤ 2

@@ -1,23 +1,14 @@
 -- The loop of a walk: so many owners are passed, and how it ends.
-use Rattle.std.proofs.Common.{◌≡◌, ◌⊎◌, ℕ, ◌+◌, ◌*◌, ◌<◌, ◌≤◌, List, length, Some, inl, inr, refl, sym, ap, ◌∙◌}
-use Rattle.std.proofs.Common.{subst, arith, ⊎_elim}
-use Rattle.tj_base.specs.declared.cell.CellId.{CellId}
-use Rattle.tj_core.specs.declared.walk.Way.{Way}
-use Rattle.tj_core.specs.declared.walk.Walker.{Walker}
+use Rattle.tj_detect.proofs.Prelude.{Alarm, CellId, Comes, Counted, Ended, EndsWalk, Hops, IsAtCount, IsLoad, IsWalking}
+use Rattle.tj_detect.proofs.Prelude.{List, MayReadOwner, Next, Own, Passed, Some, View, Walked, Walker, WalksOn}
+use Rattle.tj_detect.proofs.Prelude.{WalksWith, Way, alarmed, ap, arith, count_read, doing, inl, inr, length, now_does}
+use Rattle.tj_detect.proofs.Prelude.{owner_read, passed_on, present, read_on, refl, subst, sym, walk_count, ℕ, ⊎_elim}
+use Rattle.tj_detect.proofs.Prelude.{◌*◌, ◌+◌, ◌<◌, ◌∙◌, ◌≡◌, ◌≤◌, ◌⊎◌}
 use Rattle.tj_core.specs.declared.walk.TrailLink.{TrailLink}
-use Rattle.tj_core.specs.declared.walk.LastRead.TheVariants.{Counted, Passed}
-use Rattle.tj_core.specs.CoreState.{present}
-use Rattle.tj_core.specs.Events.{count_read, owner_read, EndsWalk, MayReadOwner}
-use Rattle.tj_words.specs.declared.view.Does.TheVariants as does
-use Rattle.tj_words.specs.declared.view.View.{View}
-use Rattle.tj_words.specs.Calls.WaitViews.{now_does, alarmed, MayStoreAlarm}
-use Rattle.tj_words.specs.Calls.WalkViews.{IsWalking, read_on}
-use Rattle.tj_detect.specs.Blocks.{IsLoad, walk_count, doing}
-use Rattle.tj_detect.specs.Inner.WalkHops.{WalksWith, WalksOn, Hops, IsAtCount, Comes, passed_on}
-use Rattle.tj_detect.specs.declared.blocking.Hop.TheVariants.{Next, Ended, Own}
-use Rattle.tj_detect.specs.declared.blocking.Verdict.TheVariants.{Alarm, Walked}
+use Rattle.tj_words.specs.Calls.WaitViews.{MayStoreAlarm}
 use Rattle.tj_detect.proofs.Doings.{doing_held, doing_on, alarmed_doing}
 use Rattle.tj_detect.proofs.WalkReads.{still, one_read, then_on}
+use Rattle.tj_words.specs.declared.view.Does.TheVariants as does
 
 module _ {B : Type 0} (cells t q : ℕ) (way : Way) (s0 : ℕ) (v0 : View B) (h : IsAtCount t q way v0) (bound : ℕ) where
   -- the walk at its count of the cells

@@ -1,13 +1,8 @@
 -- Nodes of a walk up the tree of forks.
-use Rattle.std.proofs.Common.{◌≡◌, ℕ, ◌<◌, List, [], ◌∷◌, ◌++◌, refl, sym, ap, subst, arith, ⊎_elim, Bool, true}
-use Rattle.std.proofs.Common.{false, nat_le}
+use Rattle.tj_detect.proofs.Prelude.{GoesOn, InEachTree, Node, NodeId, [], ap, move_from, name_of, sym, ℕ, ◌<◌, ◌∷◌}
+use Rattle.std.proofs.Common.{◌≡◌, List, ◌++◌, refl, subst, arith, ⊎_elim, Bool, true, false, nat_le}
 use Rattle.std.proofs.lemmas.Bool.Decides.{leb_tells}
-use Rattle.tj_tree.specs.declared.node.Node.{Node}
-use Rattle.tj_tree.specs.declared.node.NodeId.{NodeId}
 use Rattle.tj_tree.specs.declared.node.TaskNode.{TaskNode}
-use Rattle.tj_tree.specs.Forks.{name_of}
-use Rattle.tj_tree.specs.Nodes.{InEachTree, move_from}
-use Rattle.tj_tree.specs.Walk.{GoesOn}
 use Rattle.tj_tree.specs.Inner.Moves.{IsKnown, IsAtOrAbove}
 
 -- where a move up leads may be looked at

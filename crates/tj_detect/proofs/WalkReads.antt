@@ -1,24 +1,14 @@
 -- What the reads of one owner make of a walk, step by step.
-use Rattle.std.proofs.Common.{◌≡◌, ℕ, ◌+◌, ◌<◌, Bool, true, false, Option, Some, None, length, refl, sym, ap}
-use Rattle.std.proofs.Common.{◌∙◌, subst, arith, ⊎_elim}
-use Rattle.tj_base.specs.declared.cell.CellId.{CellId}
-use Rattle.tj_core.specs.declared.walk.Way.{Way}
-use Rattle.tj_core.specs.declared.walk.Walker.{Walker}
-use Rattle.tj_core.specs.declared.walk.LastRead.TheVariants.{Counted, Passed}
+use Rattle.tj_detect.proofs.Prelude.{Bool, CellId, Counted, Custody, Does, Ended, Hops, IsWalkOf, Next, None, Own}
+use Rattle.tj_detect.proofs.Prelude.{Passed, Some, View, Walker, Way, ap, arith, doing, held_in, now_does, one_some}
+use Rattle.tj_detect.proofs.Prelude.{refl, subst, sym, true, walk_again, walk_owner, walk_wait, ℕ, ◌+◌, ◌<◌, ◌∙◌, ◌≡◌}
+use Rattle.std.proofs.Common.{false, Option, length, ⊎_elim}
 use Rattle.tj_core.specs.Events.{owner_read, wait_found, owner_found, is_owner, MayReadOwner}
-use Rattle.tj_words.specs.declared.view.Custody.{Custody}
-use Rattle.tj_words.specs.declared.view.Does.{Does}
-use Rattle.tj_words.specs.declared.view.Does.TheVariants as does
-use Rattle.tj_words.specs.declared.view.View.{View}
-use Rattle.tj_words.specs.LawParts.Holding.{held_in}
-use Rattle.tj_words.specs.Calls.WaitViews.{now_does}
 use Rattle.tj_words.specs.Calls.WalkViews.{IsWalking, MayLoadWait, owner_seen, read_on, walk_with}
-use Rattle.tj_words.proofs.Holders.HeldTasks.{one_some}
-use Rattle.tj_detect.specs.Blocks.{IsWalkOf, walk_owner, walk_wait, walk_again, doing}
-use Rattle.tj_detect.specs.Inner.WalkHops.{WalksWith, WalksOn, Passes, Hops, passed_on}
+use Rattle.tj_detect.specs.Inner.WalkHops.{WalksWith, WalksOn, Passes, passed_on}
 use Rattle.tj_detect.specs.declared.blocking.Hop.{Hop}
-use Rattle.tj_detect.specs.declared.blocking.Hop.TheVariants.{Next, Ended, Own}
 use Rattle.tj_detect.proofs.Doings.{doing_held, doing_on, turned_doing}
+use Rattle.tj_words.specs.declared.view.Does.TheVariants as does
 
 -- F holds of the wait and of the walker of a task that does this
 abbrev walks_fit : (ℕ → Way → Walker → Type 0) → Does → Type 0

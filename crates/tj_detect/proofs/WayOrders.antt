@@ -1,13 +1,11 @@
 -- The way of a wait, by the fork order of the tree that was seen.
-use Rattle.std.proofs.Common.{◌≡◌, ◌∙◌, ℕ, zero, suc, ◌+◌, ◌*◌, ◌<◌, ◌≤◌, ◌^◌, ◌&&◌, ◌↔◌, max, Bool, true, false}
-use Rattle.std.proofs.Common.{IsTrue}
-use Rattle.std.proofs.Common.{List, [], ◌∷◌, length, get_or, refl, sym, ap, arith}
+use Rattle.tj_detect.proofs.Prelude.{[], ap, suc, sym, true, way_if, ℕ, ◌*◌, ◌+◌, ◌<◌, ◌^◌, ◌↔◌, ◌∙◌, ◌∷◌, ◌≡◌, ◌≤◌}
+use Rattle.std.proofs.Common.{zero, ◌&&◌, max, Bool, false, IsTrue, List, length, get_or, refl, arith}
 use mathlib.Core.Option.{some, none, some-injective}
 use lib.ListN.{get_elem?}
 use Rattle.tj_base.specs.ForkOrder.{Name, before}
 use Rattle.tj_body.specs.History.{to_task}
 use Rattle.tj_body.specs.declared.point.Reference.{Reference}
-use Rattle.tj_core.specs.Events.{way_if}
 use Rattle.tj_tree.specs.Forks.{Forks, IsEarlier, IsHistory, name_of, order_of}
 use Rattle.tj_tree.specs.Laws.{OrderIsThatOfNames}
 use Rattle.tj_tree.specs.Nodes.{HasNodes, node_of}

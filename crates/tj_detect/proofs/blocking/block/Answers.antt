@@ -1,4 +1,4 @@
-use Rattle.tj_core.specs.declared.walk.Way.TheVariants.{Along, Other}
+use Rattle.tj_detect.proofs.Prelude.{Along, Other}
 use Rattle.tj_detect.proofs.WalkBlocks.{skips_exactly, alarm_stands, others_watch}
 use Rattle.tj_detect.proofs.blocking.block.Goals as goal
 

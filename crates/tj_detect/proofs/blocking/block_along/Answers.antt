@@ -1,7 +1,4 @@
-use Rattle.std.proofs.Common.{◌<◌, arith, inr, refl}
-use Rattle.tj_core.specs.declared.walk.Way.TheVariants.{Along}
-use Rattle.tj_core.specs.Events.{others_read, start_walk}
-use Rattle.tj_detect.specs.declared.blocking.Verdict.TheVariants.{Skipped}
+use Rattle.tj_detect.proofs.Prelude.{Along, Skipped, arith, inr, others_read, refl, start_walk, ◌<◌}
 use Rattle.tj_detect.proofs.Skips.{loads_others}
 use Rattle.tj_detect.proofs.WalkBlocks.{may_publish, at_others, at_count, others_on, others_walk, skips, blocks}
 use Rattle.tj_detect.proofs.blocking.block_along.Goals as goal

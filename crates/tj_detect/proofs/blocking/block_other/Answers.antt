@@ -1,7 +1,4 @@
-use Rattle.std.proofs.Common.{arith, inl, refl}
-use Rattle.tj_core.specs.declared.walk.Way.TheVariants.{Other}
-use Rattle.tj_core.specs.Events.{start_walk}
-use Rattle.tj_detect.specs.Blocks.{walk_first}
+use Rattle.tj_detect.proofs.Prelude.{Other, arith, inl, refl, start_walk, walk_first}
 use Rattle.tj_detect.proofs.WalkBlocks.{may_raise, may_publish_other, published_other, at_count, blocks}
 use Rattle.tj_detect.proofs.blocking.block_other.Goals as goal
 

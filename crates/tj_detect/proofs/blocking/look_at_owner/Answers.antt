@@ -1,7 +1,4 @@
-use Rattle.std.proofs.Common.{◌≡◌, Some, inl, refl, ap}
-use Rattle.tj_core.specs.CoreState.{present}
-use Rattle.tj_core.specs.Events.{owner_read, MayReadOwner}
-use Rattle.tj_words.specs.Words.Owners.{owner_number}
+use Rattle.tj_detect.proofs.Prelude.{MayReadOwner, Some, ap, inl, owner_number, owner_read, present, refl, ◌≡◌}
 use Rattle.tj_detect.proofs.WalkReads.{its_walker, no_owner, is_own, at_owner, hops}
 use Rattle.tj_detect.proofs.blocking.look_at_owner.Goals as goal
 

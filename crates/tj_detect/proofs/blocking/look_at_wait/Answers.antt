@@ -1,9 +1,6 @@
-use Rattle.std.proofs.Common.{◌≡◌, true, false, Some, inr, refl, sym, ap, ◌∙◌}
-use Rattle.tj_core.specs.CoreState.{present}
-use Rattle.tj_core.specs.Events.{is_owner}
-use Rattle.tj_words.specs.Words.Owners.{owner_number}
+use Rattle.tj_detect.proofs.Prelude.{MayLoadWait, Some, ap, false, inr, is_owner, owner_number, present, refl, sym}
+use Rattle.tj_detect.proofs.Prelude.{true, ◌∙◌, ◌≡◌}
 use Rattle.tj_words.specs.Steps.StepEvents.{wait_in}
-use Rattle.tj_words.specs.Calls.WalkViews.{MayLoadWait}
 use Rattle.tj_detect.proofs.WalkReads.{its_walker, no_wait, at_again, passes_next, has_changed}
 use Rattle.tj_detect.proofs.blocking.look_at_wait.Goals as goal
 

@@ -1,4 +1,4 @@
-use Rattle.std.proofs.Common.{◌≤◌, arith, ◌∙◌}
+use Rattle.tj_detect.proofs.Prelude.{arith, ◌∙◌, ◌≤◌}
 use Rattle.tj_detect.proofs.WalkLoops.{walked_first, walked_next, walked_ended, walked_alarm, walked_out, may_alarm}
 use Rattle.tj_detect.proofs.WalkLoops.{on_walk, walks_there}
 use Rattle.tj_detect.proofs.blocking.walk.Goals as goal

@@ -1,10 +1,5 @@
-use Rattle.std.proofs.Common.{◌≡◌, ◌∙◌, true, false, nat_le, sym, ap, subst, le-leb}
-use Rattle.tj_tree.specs.declared.node.Node.{Node}
-use Rattle.tj_tree.specs.declared.node.NodeId.{NodeId}
-use Rattle.tj_tree.specs.Nodes.{node_of, move_from}
-use Rattle.tj_tree.proofs.Readings.{GoesOn_trans}
-use Rattle.tj_words.specs.SeatViews.TreeReads.{MayLook, TreeShown}
-use Rattle.tj_words.proofs.SeatLoads.LaterSeats.{later_on}
+use Rattle.tj_detect.proofs.Prelude.{GoesOn_trans, MayLook, Node, NodeId, TreeShown, ap, later_on, move_from, node_of}
+use Rattle.std.proofs.Common.{◌≡◌, ◌∙◌, true, false, nat_le, sym, subst, le-leb}
 use Rattle.tj_detect.proofs.WalkNodes.{not_le}
 use Rattle.tj_detect.proofs.tree_walk.higher.Goals as goal
 

@@ -1,12 +1,7 @@
-use Rattle.std.proofs.Common.{◌≡◌, ◌<◌, ◌+◌, ◌^◌, ◌∙◌, sym, ap, arith}
-use Rattle.tj_tree.specs.declared.node.NodeId.{NodeId}
-use Rattle.tj_tree.specs.Nodes.{node_of}
-use Rattle.tj_tree.specs.Inner.Moves.{IsAtOrAbove}
+use Rattle.tj_detect.proofs.Prelude.{InEachTree_on, IsAtOrAbove, IsKnown_on, MayLook, NodeId, TreeShown, above_trans}
+use Rattle.tj_detect.proofs.Prelude.{ap, arith, later_on, node_of, sym, ◌+◌, ◌<◌, ◌^◌, ◌∙◌, ◌≡◌}
 use Rattle.tj_tree.proofs.Skew.{cost_of_parts}
-use Rattle.tj_tree.proofs.Walks.{above_trans}
-use Rattle.tj_tree.proofs.Readings.{IsKnown_on, InEachTree_on, order-same, order-apart}
-use Rattle.tj_words.specs.SeatViews.TreeReads.{MayLook, TreeShown}
-use Rattle.tj_words.proofs.SeatLoads.LaterSeats.{later_on}
+use Rattle.tj_tree.proofs.Readings.{order-same, order-apart}
 use Rattle.tj_words.proofs.SeatLoads.NodeLooks.{tree_of}
 use Rattle.tj_detect.proofs.tree_walk.is_before.Goals as goal
 

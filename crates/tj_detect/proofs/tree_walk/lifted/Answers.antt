@@ -1,10 +1,6 @@
-use Rattle.std.proofs.Common.{◌-◌, refl, arith}
-use Rattle.tj_tree.specs.Inner.Moves.{IsAtOrAbove}
-use Rattle.tj_tree.proofs.Skew.{moves-ranks}
-use Rattle.tj_tree.proofs.Walks.{above_trans}
-use Rattle.tj_tree.proofs.Readings.{GoesOn_trans, InEachTree_on, Raises-higher}
-use Rattle.tj_words.specs.SeatViews.TreeReads.{MayLook, TreeShown}
-use Rattle.tj_words.proofs.SeatLoads.LaterSeats.{later_itself, later_on}
+use Rattle.tj_detect.proofs.Prelude.{GoesOn_trans, InEachTree_on, IsAtOrAbove, MayLook, TreeShown, above_trans, arith}
+use Rattle.tj_detect.proofs.Prelude.{later_itself, later_on, moves-ranks, refl, ◌-◌}
+use Rattle.tj_tree.proofs.Readings.{Raises-higher}
 use Rattle.tj_detect.proofs.WalkNodes.{above_itself, goes_itself}
 use Rattle.tj_detect.proofs.tree_walk.lifted.Goals as goal
 

@@ -1,12 +1,7 @@
-use Rattle.std.proofs.Common.{◌-◌, ◌∙◌, refl, arith}
-use Rattle.tj_tree.specs.Nodes.{InEachTree}
-use Rattle.tj_tree.specs.Walk.{GoesOn}
-use Rattle.tj_tree.specs.Inner.Moves.{IsAtOrAbove}
-use Rattle.tj_tree.proofs.Skew.{moves-ranks}
-use Rattle.tj_tree.proofs.Walks.{above_trans, floor_of}
-use Rattle.tj_tree.proofs.Readings.{GoesOn_trans, IsKnown_on, InEachTree_on, RaisesBoth, RaisesBoth-up}
-use Rattle.tj_words.specs.SeatViews.TreeReads.{MayLook, TreeShown}
-use Rattle.tj_words.proofs.SeatLoads.LaterSeats.{later_itself, later_on}
+use Rattle.tj_detect.proofs.Prelude.{GoesOn, GoesOn_trans, InEachTree, InEachTree_on, IsAtOrAbove, IsKnown_on, MayLook}
+use Rattle.tj_detect.proofs.Prelude.{TreeShown, above_trans, arith, later_itself, later_on, moves-ranks, refl, ◌-◌, ◌∙◌}
+use Rattle.tj_tree.proofs.Walks.{floor_of}
+use Rattle.tj_tree.proofs.Readings.{RaisesBoth, RaisesBoth-up}
 use Rattle.tj_detect.proofs.WalkNodes.{above_itself, goes_itself, move_may}
 use Rattle.tj_detect.proofs.tree_walk.parted.Given.{Over}
 use Rattle.tj_detect.proofs.tree_walk.parted.Goals as goal

@@ -1,5 +1,4 @@
-use Rattle.std.proofs.Common.{◌∙◌, sym, ap}
-use Rattle.tj_core.specs.Events.{way_if}
+use Rattle.tj_detect.proofs.Prelude.{ap, sym, way_if, ◌∙◌}
 use Rattle.tj_words.proofs.SeatLoads.NodeLooks.{task_later}
 use Rattle.tj_detect.proofs.WayOrders.{few_steps, seen_way}
 use Rattle.tj_detect.proofs.way.way_of.Goals as goal
