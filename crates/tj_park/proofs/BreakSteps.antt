@@ -1,39 +1,22 @@
 -- A promise that a task owes is broken, and those who wait for it are woken.
-use Rattle.std.proofs.Common.{◌≡◌, ◌⊎◌, ℕ, ◌+◌, ◌<◌, ◌≤◌, Bool, cond, List, [], ◌∷◌, length, Some, None}
-use Rattle.std.proofs.Common.{refl, sym, ap, ◌∙◌, subst, inl, inr, ⊎_elim, arith, eq-eqb, ne_eqb, drop, get_or, take}
+use Rattle.tj_park.proofs.Prelude.{AreApart, Bool, CellId, Custody, Entry, HasAlarmed, HasBroken, HasSeen, HasWoken}
+use Rattle.tj_park.proofs.Prelude.{IsIn, IsTailOf, IsToBecome, KnowsMore, List, MayBreak, MayGiveUp, MayWake, None}
+use Rattle.tj_park.proofs.Prelude.{Program, SlotsOf, Some, View, WakesAll, WakesEach, WillBecome, [], ap, arith, became}
+use Rattle.tj_park.proofs.Prelude.{cell, cond, drop, eq-eqb, gave_up, get_or, held_in, held_task, inl, inr, inside}
+use Rattle.tj_park.proofs.Prelude.{length, let_go, more_itself, ne_eqb, noted_here, numbers, one_some, refl, subst, sym}
+use Rattle.tj_park.proofs.Prelude.{tail_on, take, without, without_due, ℕ, ⊎_elim, ◌+◌, ◌<◌, ◌∙◌, ◌∷◌, ◌≡◌, ◌≤◌, ◌⊎◌}
 use mathlib.Core.List.{map-append}
 use Rattle.std.proofs.lemmas.List.{drop_all, drop_more, take_all, take_more}
 use mathlib.Core.Logic.{dite}
 use native.Mathlib.Decide.{ℕ_discrete}
-use Rattle.tj_base.specs.declared.cell.CellId.{CellId}
-use Rattle.tj_body.specs.Points.{IsIn}
-use Rattle.tj_body.specs.Programs.{Program}
-use Rattle.tj_body.specs.declared.point.Entry.{Entry}
-use Rattle.tj_body.specs.declared.point.Entry.TheVariants as entry
-use Rattle.tj_words.specs.declared.offsets.Once.TheVariants as once
-use Rattle.tj_words.specs.declared.view.Custody.{Custody}
-use Rattle.tj_words.specs.declared.view.View.{View}
-use Rattle.tj_words.specs.Calls.DrawViews.{without_due}
-use Rattle.tj_words.specs.LawParts.Holding.{held_in}
-use Rattle.tj_words.specs.SeatViews.KnownEntries.{HasSeen, IsToBecome}
-use Rattle.tj_words.specs.SeatViews.KnowsMore.{IsTailOf, KnowsMore}
-use Rattle.tj_words.specs.Words.Lists.{AreApart, cell, numbers, without}
-use Rattle.tj_words.specs.LawParts.LiveCount.{HasAlarmed}
-use Rattle.tj_words.specs.Calls.LiveViews.{SlotsOf}
-use Rattle.tj_words.specs.Calls.OwnerViews.{gave_up}
-use Rattle.tj_words.specs.SeatViews.TaskLists.{let_go}
-use Rattle.tj_words.proofs.Holders.HeldChanges.{held_task}
-use Rattle.tj_words.proofs.Holders.HeldTasks.{one_some}
-use Rattle.tj_words.proofs.SeatLoads.KnowsMoreOn.{more_itself, tail_on}
-use Rattle.tj_words.proofs.Holders.NotedEntries.{noted_here, noted_else}
-use Rattle.tj_words.proofs.Stores.SeatLists.{inside}
-use Rattle.tj_cells.specs.FilledCells.{MayGiveUp, WillBecome, became}
+use Rattle.tj_words.proofs.Holders.NotedEntries.{noted_else}
 use Rattle.tj_cells.proofs.TaskNotes.{let_go_again, let_go_first, noted_front}
-use Rattle.tj_park.specs.Inner.Breaks.{HasBroken, MayBreak, OwnsStill}
+use Rattle.tj_park.specs.Inner.Breaks.{OwnsStill}
 use Rattle.tj_park.specs.Records.{AlarmsLeave, HasNoRecord}
-use Rattle.tj_park.specs.Wakes.{HasWoken, MayWake, WakesAll, WakesEach}
 use Rattle.tj_cells.proofs.CallsKnowMore.{became_more}
 use Rattle.tj_park.proofs.WakeLoops.{noted_tail, one_wake_more}
+use Rattle.tj_body.specs.declared.point.Entry.TheVariants as entry
+use Rattle.tj_words.specs.declared.offsets.Once.TheVariants as once
 
 -- what isn't there is left out of nothing
 without_none : (p : ℕ) (ns : List ℕ) → ¬ IsIn p ns → without p ns ≡ ns

@@ -1,33 +1,18 @@
 -- The point at which a task ends, and the record that tells it: the result stands first among the owned cells, each
 -- promise that is owed is to be broken, and the record tells the ended point once these cells are closed.
-use Rattle.std.proofs.Common.{◌≡◌, ℕ, List, [], ◌∷◌, map, drop, Some}
-use Rattle.std.proofs.Common.{refl, sym, ap, subst, inl, inr, ⊎_elim}
-use Rattle.tj_base.specs.ForkOrder.{Name}
-use Rattle.tj_base.specs.declared.cell.CellId.{CellId}
+use Rattle.tj_park.proofs.Prelude.{Becomes, CellId, Entry, Filled, Finish, HasSeen, IsCell, IsIn, IsToBecome, List}
+use Rattle.tj_park.proofs.Prelude.{Name, OrderedHasSame, Point, Program, Rec, Some, ToldBy, View, WritesBecome, [], ap}
+use Rattle.tj_park.proofs.Prelude.{drop, ended_record, in_order, inl, inr, map, refl, subst, sym, ℕ, ⊎_elim, ◌∷◌, ◌≡◌}
 use Rattle.tj_body.specs.History.{after_close, owned_in, to_task, with_entry}
-use Rattle.tj_body.specs.Names.{in_order}
-use Rattle.tj_body.specs.NameLaws.{OrderedHasSame}
-use Rattle.tj_body.specs.Points.{IsIn}
-use Rattle.tj_body.specs.Programs.{Program}
-use Rattle.tj_body.specs.RoundPoints.{Becomes, WritesBecome}
-use Rattle.tj_body.specs.declared.point.Entry.{Entry}
-use Rattle.tj_body.specs.declared.point.Entry.TheVariants as entry
-use Rattle.tj_body.specs.declared.point.Point.{Point}
 use Rattle.tj_body.specs.declared.point.PointStage.{PointStage}
-use Rattle.tj_body.specs.declared.point.PointStage.TheVariants as stage
 use Rattle.tj_body.proofs.Lists.{in_right, in_either, in_map, to_map}
-use Rattle.tj_words.specs.declared.record.Finish.{Finish}
-use Rattle.tj_words.specs.declared.record.Rec.{Rec}
-use Rattle.tj_words.specs.declared.view.Filled.{Filled}
-use Rattle.tj_words.specs.declared.view.View.{View}
-use Rattle.tj_words.specs.SeatViews.KnownEntries.{HasSeen, IsToBecome, ToldBy}
 use Rattle.tj_words.specs.SeatViews.KnowsMore.{AreAmong}
 use Rattle.tj_words.specs.Words.Lists.{All, cell}
 use Rattle.tj_words.specs.LawParts.Meaning.{HasCell}
 use Rattle.tj_words.specs.LawParts.Telling.{ArePairs, HasName, TellsStage}
-use Rattle.tj_words.specs.LawParts.TreeWords.{IsCell}
 use Rattle.tj_park.specs.Endings.{HaveApartNames, IsEnding, IsOpen, result_of}
-use Rattle.tj_park.specs.Inner.Closings.{ended_record}
+use Rattle.tj_body.specs.declared.point.Entry.TheVariants as entry
+use Rattle.tj_body.specs.declared.point.PointStage.TheVariants as stage
 
 -- a task that hasn't ended owns its result, and then what it holds
 open_owned : (s : PointStage) (x : Name) (holds : List Name) → IsOpen s → owned_in s x holds ≡ x ∷ holds

@@ -1,53 +1,25 @@
 -- The steps by which a task ends, once its promises are broken: its result is closed, its record goes home, those who
 -- wait for the result are woken, and the token is given up.
-use Rattle.std.proofs.Common.{◌≡◌, ◌≢◌, ◌⊎◌, ℕ, ◌+◌, ◌-◌, ◌<◌, ◌≤◌, Bool}
-use Rattle.std.proofs.Common.{List, [], ◌∷◌, length, map, take, drop, Some, None}
-use Rattle.std.proofs.Common.{refl, sym, ap, ◌∙◌, subst, inl, inr, ⊎_elim, arith}
+use Rattle.tj_park.proofs.Prelude.{AreApart, Backing, Bool, CellId, Close, Entry, Finish, FinishSays, HasAlarmed}
+use Rattle.tj_park.proofs.Prelude.{HasBroken, HasNoRecord, HasSeen, HasWoken, Holds, IsIn, IsTailOf, IsToBecome}
+use Rattle.tj_park.proofs.Prelude.{KnowsMore, List, MayBreak, MayCloseResult, MayFinish, MayWake, None, OrderedHasSame}
+use Rattle.tj_park.proofs.Prelude.{Program, Rec, SeatMe, SlotsOf, Some, ToldBy, View, WritesBecome, [], ap, arith}
+use Rattle.tj_park.proofs.Prelude.{backing_idle, became, begins_self, cell, drop, ended_record, finish_cells, gave_up}
+use Rattle.tj_park.proofs.Prelude.{in_either, in_left, in_right, inl, inr, inside, length, let_go, map, more_same}
+use Rattle.tj_park.proofs.Prelude.{numbers, record_cells, refl, rest, subst, sym, tail_on, take, to_task, with_tokens}
+use Rattle.tj_park.proofs.Prelude.{without, without_due, ℕ, ⊎_elim, ◌+◌, ◌-◌, ◌<◌, ◌∙◌, ◌∷◌, ◌≡◌, ◌≢◌, ◌≤◌, ◌⊎◌}
 use Rattle.std.proofs.lemmas.List.{take_rest}
-use Rattle.atomic_table.specs.Table.{rest}
-use Rattle.tj_base.specs.declared.cell.CellId.{CellId}
-use Rattle.tj_body.specs.History.{to_task}
-use Rattle.tj_body.specs.NameLaws.{OrderedHasSame}
-use Rattle.tj_body.specs.Points.{IsIn}
-use Rattle.tj_body.specs.Programs.{Program}
-use Rattle.tj_body.specs.RoundPoints.{WritesBecome}
-use Rattle.tj_body.specs.declared.point.Close.{Close}
-use Rattle.tj_body.specs.declared.point.Entry.{Entry}
-use Rattle.tj_body.specs.declared.point.Entry.TheVariants as entry
-use Rattle.tj_body.proofs.Lists.{begins_self, in_left, in_right, in_either}
-use Rattle.tj_words.specs.declared.offsets.Once.TheVariants as once
-use Rattle.tj_words.specs.declared.record.Finish.{Finish}
 use Rattle.tj_words.specs.declared.record.Held.{Held}
-use Rattle.tj_words.specs.declared.record.Rec.{Rec}
-use Rattle.tj_words.specs.declared.view.View.{View}
-use Rattle.tj_words.specs.Calls.DrawViews.{without_due}
-use Rattle.tj_words.specs.SeatViews.KnownEntries.{HasSeen, IsToBecome, ToldBy}
-use Rattle.tj_words.specs.SeatViews.KnowsMore.{IsTailOf, KnowsMore}
-use Rattle.tj_words.proofs.SeatLoads.KnowsMoreOn.{tail_on}
-use Rattle.tj_words.specs.Words.Lists.{AreApart, cell, numbers, without}
-use Rattle.tj_words.specs.LawParts.LiveCount.{Backing, HasAlarmed, Holds}
-use Rattle.tj_words.specs.Calls.LiveViews.{MayEnd, MayLowerLive, Shelves, SlotsOf, ended, lowered_with}
-use Rattle.tj_words.specs.LawParts.NamedCells.{finish_cells, record_cells}
-use Rattle.tj_words.specs.Calls.OwnerViews.{gave_up}
-use Rattle.tj_words.specs.Calls.ParkSteps.{with_tokens}
-use Rattle.tj_words.specs.SeatViews.SeatSteps.{SeatMe}
-use Rattle.tj_words.specs.SeatViews.TaskLists.{let_go}
-use Rattle.tj_words.specs.LawParts.Telling.{FinishSays}
+use Rattle.tj_words.specs.Calls.LiveViews.{MayEnd, MayLowerLive, Shelves, ended, lowered_with}
 use Rattle.tj_words.proofs.Waiters.ChainLists.{no_some}
-use Rattle.tj_words.proofs.Waiters.LiveSteps.{backing_idle}
-use Rattle.tj_words.proofs.Stores.SeatLists.{inside}
-use Rattle.tj_cells.specs.FilledCells.{became}
-use Rattle.tj_park.specs.Inner.Breaks.{HasBroken, MayBreak}
-use Rattle.tj_park.specs.Endings.{HasFinished, MayFinish, result_of}
-use Rattle.tj_park.specs.Inner.Closings.{MayCloseResult, ended_record}
-use Rattle.tj_park.specs.Records.{HasNoRecord}
-use Rattle.tj_park.specs.Wakes.{HasWoken, MayWake}
+use Rattle.tj_park.specs.Endings.{HasFinished, result_of}
 use Rattle.tj_park.proofs.BreakSteps.{without_first, held_closed, others_closed, alarms_closed}
 use Rattle.tj_park.proofs.LeftTasks.{holds_before}
 use Rattle.tj_park.proofs.ParkedViews.{lowered_alone, no_record}
 use Rattle.tj_park.proofs.EndPoints.{its_name, result_first, to_break, result_becomes, told_ended}
 use Rattle.tj_park.proofs.WakeLoops.{noted_tail}
-use Rattle.tj_cells.proofs.SameViews.{more_same}
+use Rattle.tj_body.specs.declared.point.Entry.TheVariants as entry
+use Rattle.tj_words.specs.declared.offsets.Once.TheVariants as once
 
 -- all of a list but its first, as a slice
 pub slice_rest : (l m : List CellId) → l ≡ m → take (length l - 1) (drop 1 l) ≡ drop 1 m

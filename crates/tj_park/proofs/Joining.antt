@@ -1,23 +1,15 @@
 -- A task is added to a chain: how the loads of the head and the pushes that fail go on.
-use Rattle.std.proofs.Common.{◌≡◌, ◌≢◌, ℕ, suc, ◌+◌, ◌-◌, ◌*◌, ◌<◌, ◌≤◌, Bool, false, List, [], ◌∷◌, ◌++◌, length}
-use Rattle.std.proofs.Common.{Option, Some, None, refl, sym, ap, ◌∙◌, subst, inl, inr, arith, cond, eq-eqb}
-use Rattle.tj_body.specs.Points.{IsIn}
-use Rattle.tj_body.specs.Programs.{Program}
-use Rattle.tj_core.specs.declared.walk.Way.{Way}
-use Rattle.tj_words.specs.declared.head.Head.{Head}
-use Rattle.tj_words.specs.declared.head.Head.TheVariants as head
+use Rattle.tj_park.proofs.Prelude.{Bool, HasFoundChains, Head, IsAdded, IsIn, List, LooksOn, None, Option, Program}
+use Rattle.tj_park.proofs.Prelude.{Some, View, Way, [], ap, arith, cond, eq-eqb, false, head_of, head_word, inl, inr}
+use Rattle.tj_park.proofs.Prelude.{join_steps, length, more_on, more_same, push_behind, refl, subst, suc, sym}
+use Rattle.tj_park.proofs.Prelude.{without_push, ℕ, ◌*◌, ◌++◌, ◌+◌, ◌-◌, ◌<◌, ◌∙◌, ◌∷◌, ◌≡◌, ◌≢◌, ◌≤◌}
 use Rattle.tj_words.specs.declared.view.Found.{Found}
 use Rattle.tj_words.specs.declared.view.Push.{Push}
-use Rattle.tj_words.specs.declared.view.View.{View}
-use Rattle.tj_words.specs.LawParts.Chains.{head_of}
 use Rattle.tj_words.specs.Calls.ChainSteps.{HasPush, HasPushBehind, KnowsEntry, pushed, stored_next, with_next}
-use Rattle.tj_words.specs.Calls.ChainSteps.{without_push}
-use Rattle.tj_words.specs.Words.Heads.{head_word}
 use Rattle.tj_words.specs.SeatViews.SeenWords.{FindsChain, FindsShut}
-use Rattle.tj_words.proofs.SeatLoads.KnowsMoreOn.{more_on, hand_on, counts_on}
-use Rattle.tj_park.specs.Inner.JoinViews.{LooksOn, IsAdded, push_behind, last_found, pushes_left, join_steps}
-use Rattle.tj_park.specs.ParkViews.{HasFoundChains}
-use Rattle.tj_cells.proofs.SameViews.{more_same}
+use Rattle.tj_words.proofs.SeatLoads.KnowsMoreOn.{hand_on, counts_on}
+use Rattle.tj_park.specs.Inner.JoinViews.{last_found, pushes_left}
+use Rattle.tj_words.specs.declared.head.Head.TheVariants as head
 
 -- the sums of steps and of pushes
 shut_cost : (s v c : ℕ) → s ≡ suc v → s + 2 * 0 ≤ v + (2 * c + 3)

@@ -1,24 +1,13 @@
 -- A task leaves its seat, which holds what it held besides.
-use Rattle.std.proofs.Common.{◌≡◌, ℕ, suc, ◌-◌, ◌<◌, Bool, true, false, cond, nat_eq, List}
-use Rattle.std.proofs.Common.{[], ◌∷◌, Some}
-use Rattle.std.proofs.Common.{refl, sym, ap, ◌∙◌, subst, ⊎_elim, eq-eqb, arith}
-use Rattle.tj_body.specs.Points.{IsIn}
-use Rattle.tj_body.specs.Programs.{Program}
-use Rattle.tj_words.specs.declared.record.Rec.{Rec}
-use Rattle.tj_words.specs.declared.view.Custody.{Custody}
+use Rattle.tj_park.proofs.Prelude.{Backing, Bool, Custody, DoesRun, HasAlarmed, Holds, IsIn, List, MayLowerLive}
+use Rattle.tj_park.proofs.Prelude.{MayRaiseLive, MayRelease, Program, Rec, SlotsOf, Some, View, [], ap, arith}
+use Rattle.tj_park.proofs.Prelude.{backing_idle, backing_running, backing_token, cond, eq-eqb, false, held_in}
+use Rattle.tj_park.proofs.Prelude.{held_task, hold, let_go, nat_eq, none_some, noted_here, one_some, refl, released}
+use Rattle.tj_park.proofs.Prelude.{subst, suc, sym, true, with_tokens, ℕ, ⊎_elim, ◌-◌, ◌<◌, ◌∙◌, ◌∷◌, ◌≡◌}
 use Rattle.tj_words.specs.declared.view.Does.{Does}
-use Rattle.tj_words.specs.declared.view.View.{View}
-use Rattle.tj_words.specs.LawParts.Holding.{held_in}
-use Rattle.tj_words.specs.LawParts.LiveCount.{DoesRun, HasAlarmed, Holds, Backing}
-use Rattle.tj_words.specs.Calls.LiveViews.{MayRaiseLive, MayLowerLive, MayRelease, SlotsOf}
-use Rattle.tj_words.specs.Calls.LiveViews.{came_home, now_home, released, without_task}
-use Rattle.tj_words.specs.Calls.ParkSteps.{with_tokens}
+use Rattle.tj_words.specs.Calls.LiveViews.{came_home, now_home, without_task}
 use Rattle.tj_words.specs.Calls.PutRecords.{PutsHome}
-use Rattle.tj_words.specs.SeatViews.TaskLists.{let_go, hold, noted}
-use Rattle.tj_words.proofs.Holders.HeldChanges.{held_task}
-use Rattle.tj_words.proofs.Holders.HeldTasks.{none_some, one_some}
-use Rattle.tj_words.proofs.Waiters.LiveSteps.{backing_token, backing_running, backing_idle}
-use Rattle.tj_words.proofs.Holders.NotedEntries.{noted_here}
+use Rattle.tj_words.specs.SeatViews.TaskLists.{noted}
 use Rattle.tj_words.proofs.Holders.NotedTasks.{noted_is}
 use Rattle.tj_words.proofs.Holders.SeatTasks.{let_go_here, let_go_else}
 use Rattle.tj_park.specs.ChildViews.{MayReleaseChild, MayShelve, released_child, shelved}

@@ -12,3 +12,4 @@ pub mod ResultCloses
 pub mod TestRoots
 pub mod OwedRecords
 pub mod NothingToCome
+pub mod Prelude

@@ -1,6 +1,5 @@
 -- A view that has what another view has to do has as little to come.
-use Rattle.std.proofs.Common.{◌≡◌, []}
-use Rattle.tj_words.specs.declared.view.View.{View}
+use Rattle.tj_park.proofs.Prelude.{View, [], ◌≡◌}
 use Rattle.tj_words.specs.SeatViews.Views.{IsIdle}
 use Rattle.tj_park.specs.Records.{HasNothingToCome}
 

@@ -1,50 +1,32 @@
 -- What the record of a task that has ended owes. A task's history closes at one point; so in each table under the law in
 -- which a seat knows what the task is, the record that lies at home of it tells the point at which it ended.
-use Rattle.std.proofs.Common.{◌≡◌, ◌↔◌, ℕ, ◌+◌, Bool, List, [], drop, Option, Some, None, refl, sym, ap, ◌∙◌, subst, inl, arith}
-use mathlib.Core.Option.{some, some-injective}
-use lib.ListN.{get_elem?}
+use Rattle.tj_park.proofs.Prelude.{Answer, Bool, CellId, Finish, HasName, IsCell, IsIn, Name, None, OrderedHasSame}
+use Rattle.tj_park.proofs.Prelude.{Point, Program, Rec, Reference, TellsStage, View, [], ap, begins_at, cell, get_elem?}
+use Rattle.tj_park.proofs.Prelude.{in_order, inl, none_some, refl, some, some-injective, sym, to_task, ℕ, ◌+◌, ◌∙◌, ◌≡◌}
+use Rattle.std.proofs.Common.{◌↔◌, List, drop, Option, Some, subst, arith}
 use Rattle.atomic_table.specs.Table.{State}
-use Rattle.tj_base.specs.ForkOrder.{Name}
-use Rattle.tj_base.specs.declared.cell.CellId.{CellId}
-use Rattle.tj_base.specs.declared.cell.Sort.TheVariants as sort
-use Rattle.tj_body.specs.History.{to_task}
 use Rattle.tj_body.specs.Laws.{IsAllGood, NamesApart, Stops}
-use Rattle.tj_body.specs.NameLaws.{OrderedHasSame}
-use Rattle.tj_body.specs.Names.{in_order}
-use Rattle.tj_body.specs.Points.{Begins, HasEnded, IsIn, IsPointOf, IsProper}
-use Rattle.tj_body.specs.Programs.{Program}
+use Rattle.tj_body.specs.Points.{Begins, HasEnded, IsPointOf, IsProper}
 use Rattle.tj_body.specs.RoundPoints.{IsOfRounds, PointsStay, WritesBecome}
 use Rattle.tj_body.specs.Rounds.{given}
-use Rattle.tj_body.specs.declared.ask.Answer.{Answer}
-use Rattle.tj_body.specs.declared.point.Point.{Point}
-use Rattle.tj_body.specs.declared.point.Reference.{Reference}
 use Rattle.tj_body.specs.declared.point.Task.{Task}
 use Rattle.tj_body.proofs.Histories.Grows.{from_start}
-use Rattle.tj_words.specs.declared.phase.Phase.TheVariants as phase
-use Rattle.tj_words.specs.declared.record.Finish.{Finish}
-use Rattle.tj_words.specs.declared.record.Rec.{Rec}
 use Rattle.tj_words.specs.declared.table.Key.{Key}
 use Rattle.tj_words.specs.declared.view.About.{About}
-use Rattle.tj_words.specs.declared.view.View.{View}
 use Rattle.tj_words.specs.Law.{Rule}
-use Rattle.tj_words.specs.LawParts.Contents.{Contents, bits_in, contents_of, drawn_in, hand_of, home_of}
-use Rattle.tj_words.specs.LawParts.Contents.{tag_in}
+use Rattle.tj_words.specs.LawParts.Contents.{Contents, bits_in, contents_of, drawn_in, hand_of, home_of, tag_in}
 use Rattle.tj_words.specs.LawParts.Custodies.{IsKept, LiesAtHome}
 use Rattle.tj_words.specs.LawParts.Meaning.{IsToldRecord, IsFilled}
 use Rattle.tj_words.specs.LawParts.RecordPhases.{IsOfEnded, IsRecordIn}
 use Rattle.tj_words.specs.LawParts.ShownState.{phase_sort, sort_shown}
-use Rattle.tj_words.specs.LawParts.Telling.{HasName, TellsStage}
-use Rattle.tj_words.specs.LawParts.TreeWords.{IsCell}
 use Rattle.tj_words.specs.Steps.StepEvents.{IsBegun}
-use Rattle.tj_words.specs.Words.Lists.{cell}
 use Rattle.tj_words.proofs.Cells.CellNames.{born_apart}
-use Rattle.tj_words.proofs.Holders.HeldTasks.{none_some}
 use Rattle.tj_words.proofs.Holders.TaskPlaces.{begun_there}
-use Rattle.tj_words.proofs.Seating.Merging.{begins_at}
 use Rattle.atomic_table.proofs.Lists.{at_map}
 use Rattle.tj_park.specs.Endings.{MayFinish, OwesAtHome}
-use Rattle.tj_park.proofs.EndPoints as ends
 use Rattle.tj_park.proofs.EndPoints.{beside, beside_back}
+use Rattle.tj_words.specs.declared.phase.Phase.TheVariants as phase
+use Rattle.tj_park.proofs.EndPoints as ends
 
 -- a task has one point at which it has ended
 abbrev pub ClosesOnce : {B : Type 0} → Program B → Type 0

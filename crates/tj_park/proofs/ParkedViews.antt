@@ -1,35 +1,15 @@
 -- A task is parked, and then left in a chain, or taken back.
-use Rattle.std.proofs.Common.{◌≡◌, ℕ, suc, ◌+◌, ◌-◌, ◌*◌, ◌<◌, ◌≤◌, Bool, true, false, [], ◌∷◌, ◌++◌, Option}
-use Rattle.std.proofs.Common.{Some, None}
-use Rattle.std.proofs.Common.{refl, sym, ap, ◌∙◌, subst, inl, arith, cond, eq-eqb}
-use Rattle.atomic_table.specs.Table.{rest}
-use Rattle.tj_body.specs.Points.{IsIn}
-use Rattle.tj_body.specs.Programs.{Program}
-use Rattle.tj_core.specs.declared.walk.Way.{Way}
-use Rattle.tj_core.specs.Events.{raised_by_way}
-use Rattle.tj_words.specs.declared.head.Head.{Head}
-use Rattle.tj_words.specs.declared.record.Rec.{Rec}
-use Rattle.tj_words.specs.declared.view.View.{View}
-use Rattle.tj_words.specs.Calls.ChainSteps.{without_push}
+use Rattle.tj_park.proofs.Prelude.{AreCells, Backing, Bool, HasAlarmed, HasNoRecord, Head, Holds, IsAdded, IsIn}
+use Rattle.tj_park.proofs.Prelude.{KnowsMore, LooksOn, None, Option, Program, Rec, SeatMe, Some, TakesBack, View, Way}
+use Rattle.tj_park.proofs.Prelude.{[], ap, arith, backing_idle, cond, custody_of, eq-eqb, false, held_in, hold, inl}
+use Rattle.tj_park.proofs.Prelude.{join_steps, more_on, more_same, none_some, push_behind, raised_by_way, refl, rest}
+use Rattle.tj_park.proofs.Prelude.{subst, suc, sym, true, without_push, ℕ, ◌*◌, ◌++◌, ◌+◌, ◌-◌, ◌<◌, ◌∙◌, ◌∷◌, ◌≡◌, ◌≤◌}
 use Rattle.tj_words.specs.Calls.ExchangeViews.{MayGoBack}
-use Rattle.tj_words.specs.LawParts.Holding.{held_in}
-use Rattle.tj_words.specs.SeatViews.KnowsMore.{KnowsMore}
-use Rattle.tj_words.specs.LawParts.LiveCount.{HasAlarmed, Holds, Backing}
 use Rattle.tj_words.specs.Calls.LiveViews.{IfRecord, MayLowerLive, SlotsOf, live_lowered, lowered_with}
 use Rattle.tj_words.specs.Calls.ParkSteps.{new_push, with_tokens}
-use Rattle.tj_words.specs.SeatViews.SeatSteps.{SeatMe}
-use Rattle.tj_words.specs.Calls.TakenRecords.{custody_of}
-use Rattle.tj_words.specs.SeatViews.TaskLists.{hold}
-use Rattle.tj_words.specs.LawParts.TreeWords.{AreCells}
 use Rattle.tj_words.specs.Calls.WaitViews.{MayPark, parked}
-use Rattle.tj_words.proofs.Holders.HeldTasks.{none_some}
-use Rattle.tj_words.proofs.SeatLoads.KnowsMoreOn.{more_on}
-use Rattle.tj_words.proofs.Waiters.LiveSteps.{backing_idle}
-use Rattle.tj_park.specs.Inner.JoinViews.{LooksOn, IsAdded, TakesBack, join_steps, push_behind}
 use Rattle.tj_park.specs.ParkViews.{HasFoundChains, MayParkTask, LeftTask, GaveBack}
-use Rattle.tj_park.specs.Records.{HasNoRecord}
 use Rattle.tj_park.proofs.LeftTasks.{holds_before, puts_home}
-use Rattle.tj_cells.proofs.SameViews.{more_same}
 
 -- the sums of steps
 left_steps : (s v c : ℕ) → s ≤ suc v + (2 * c + 3) → suc s ≤ v + (2 * c + 6)

@@ -1,22 +1,14 @@
 -- The result of a task is set where the task ended well, and broken where it failed.
-use Rattle.std.proofs.Common.{◌≡◌, ◌≢◌, ℕ, Bool, Option, Some, refl, sym, ap, ◌∙◌, subst, inl}
-use Rattle.tj_body.specs.Points.{IsIn}
-use Rattle.tj_body.specs.Programs.{Program}
-use Rattle.tj_body.specs.declared.point.Close.{Close}
-use Rattle.tj_body.specs.declared.point.Entry.TheVariants as entry
+use Rattle.tj_park.proofs.Prelude.{Bool, Close, Finish, FinishSays, IsIn, IsToBecome, MayFill, Option, Program, Some}
+use Rattle.tj_park.proofs.Prelude.{View, ap, became, inl, one_some, refl, result_of, subst, sym, ℕ, ◌∙◌, ◌≡◌, ◌≢◌}
 use Rattle.tj_words.specs.declared.record.Fill.{Fill}
-use Rattle.tj_words.specs.declared.record.Fill.TheVariants as fill
-use Rattle.tj_words.specs.declared.record.Finish.{Finish}
-use Rattle.tj_words.specs.declared.record.Finish.TheVariants as ends
 use Rattle.tj_words.specs.declared.record.Hurt.{Hurt}
-use Rattle.tj_words.specs.declared.view.View.{View}
-use Rattle.tj_words.specs.SeatViews.KnownEntries.{IsToBecome}
 use Rattle.tj_words.specs.LawParts.NamedCells.{fill_cells, finish_cells}
-use Rattle.tj_words.specs.LawParts.Telling.{FinishSays}
-use Rattle.tj_words.proofs.Holders.HeldTasks.{one_some}
-use Rattle.tj_cells.specs.FilledCells.{IsFilledWith, MayFill, MayGiveUp, WillBecome, became, cells_named}
-use Rattle.tj_park.specs.Endings.{result_of}
+use Rattle.tj_cells.specs.FilledCells.{IsFilledWith, MayGiveUp, WillBecome, cells_named}
 use Rattle.tj_park.specs.Inner.Closings.{ClosesResult, MayCloseResult}
+use Rattle.tj_body.specs.declared.point.Entry.TheVariants as entry
+use Rattle.tj_words.specs.declared.record.Fill.TheVariants as fill
+use Rattle.tj_words.specs.declared.record.Finish.TheVariants as ends
 
 named_cells : (x : Fill) (c : ℕ) → IsIn c (cells_named x) → IsIn c (fill_cells x)
 named_cells (fill.Num i) c h = h

@@ -1,27 +1,13 @@
 -- A task that its seat had parked is taken back.
-use Rattle.std.proofs.Common.{◌≡◌, ◌≢◌, ℕ, suc, ◌+◌, ◌-◌, ◌<◌, ◌≤◌, Bool, [], ◌∷◌, Option}
-use Rattle.std.proofs.Common.{Some, None, Result, Ok, Err}
-use Rattle.std.proofs.Common.{refl, sym, ap, ◌∙◌, subst, arith, true, is_some, IfErr, OnOk}
-use Rattle.atomic_table.specs.Table.{rest}
-use Rattle.tj_body.specs.Programs.{Program}
-use Rattle.tj_body.proofs.Lists.{in_right}
-use Rattle.tj_core.specs.declared.walk.Way.{Way}
+use Rattle.tj_park.proofs.Prelude.{Bool, Err, HasSlot, None, Ok, OnOk, Phase, Program, Rec, SeatMe, Some, TakesBack}
+use Rattle.tj_park.proofs.Prelude.{View, Way, [], ap, in_right, one_some, parked_phase, raised_by_way, record_cells}
+use Rattle.tj_park.proofs.Prelude.{refl, rest, suc, sym, took_record, true, ℕ, ◌+◌, ◌-◌, ◌<◌, ◌∙◌, ◌∷◌, ◌≡◌, ◌≢◌, ◌≤◌}
+use Rattle.std.proofs.Common.{Option, Result, subst, arith, is_some, IfErr}
 use Rattle.tj_core.specs.declared.walk.Way.TheVariants.{Along, Other}
-use Rattle.tj_core.specs.Events.{raised_by_way}
-use Rattle.tj_words.specs.declared.phase.Phase.{Phase}
-use Rattle.tj_words.specs.declared.phase.Phase.TheVariants as phase
-use Rattle.tj_words.specs.declared.record.Rec.{Rec}
-use Rattle.tj_words.specs.declared.view.View.{View}
-use Rattle.tj_words.specs.LawParts.Chains.{parked_phase}
 use Rattle.tj_words.specs.Calls.ExchangeViews.{Swaps, GoesBack, missed, went_back}
-use Rattle.tj_words.specs.Calls.LiveViews.{HasSlot}
-use Rattle.tj_words.specs.LawParts.NamedCells.{record_cells}
-use Rattle.tj_words.specs.SeatViews.SeatSteps.{SeatMe}
-use Rattle.tj_words.specs.Calls.TakenRecords.{took_record}
 use Rattle.tj_words.specs.Calls.WalkViews.{lowered}
-use Rattle.tj_words.proofs.Holders.HeldTasks.{one_some}
-use Rattle.tj_park.specs.Inner.JoinViews.{TakesBack}
 use Rattle.tj_park.proofs.TakenTasks.{has_taken, slot_in_front, taken_out}
+use Rattle.tj_words.specs.declared.phase.Phase.TheVariants as phase
 
 -- what can't fail has succeeded
 pub never_fails : {A E : Type 0} (o : Result A E) (P : Type 0) (Q : E → Type 0) → ((e : E) → ¬ Q e) → OnOk o P

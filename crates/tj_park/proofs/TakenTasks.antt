@@ -1,25 +1,11 @@
 -- A seat takes a task out of its slot.
-use Rattle.std.proofs.Common.{◌≡◌, ℕ, Bool, List, [], ◌∷◌, ◌++◌, Option, Some, None, IfSome}
-use Rattle.std.proofs.Common.{refl, sym, ap, ◌∙◌, subst}
-use Rattle.atomic_table.specs.Table.{rest}
-use Rattle.tj_body.specs.Points.{IsIn}
-use Rattle.tj_body.specs.Programs.{Program}
-use Rattle.tj_body.proofs.Lists.{in_left, in_right}
-use Rattle.tj_words.specs.declared.record.Rec.{Rec}
-use Rattle.tj_words.specs.declared.view.About.{About}
-use Rattle.tj_words.specs.declared.view.Filled.{Filled}
-use Rattle.tj_words.specs.declared.view.View.{View}
+use Rattle.tj_park.proofs.Prelude.{AreCells, Bool, Claimed, Filled, HasSlot, IfSome, IsIn, List, None, Option, Program}
+use Rattle.tj_park.proofs.Prelude.{Rec, SeatMe, SlotsOf, Some, View, [], ap, custody_of, held_in, hold, in_left}
+use Rattle.tj_park.proofs.Prelude.{in_right, record_cells, refl, rest, subst, sym, took_record, ℕ, ◌++◌, ◌∙◌, ◌∷◌, ◌≡◌}
 use Rattle.tj_words.specs.Calls.ExchangeViews.{Claims}
-use Rattle.tj_words.specs.LawParts.Holding.{held_in}
-use Rattle.tj_words.specs.Calls.LiveViews.{HasSlot, SlotsOf}
-use Rattle.tj_words.specs.LawParts.NamedCells.{record_cells}
-use Rattle.tj_words.specs.SeatViews.SeatSteps.{SeatMe}
-use Rattle.tj_words.specs.Calls.TakenRecords.{TakesRecord, IsKnownRecord, custody_of, took_record}
-use Rattle.tj_words.specs.SeatViews.TaskLists.{hold}
-use Rattle.tj_words.specs.LawParts.TreeWords.{AreCells}
+use Rattle.tj_words.specs.Calls.TakenRecords.{TakesRecord, IsKnownRecord}
 use Rattle.tj_words.specs.SeatViews.Views.{stepped_on}
 use Rattle.tj_words.proofs.Holders.SeatTasks.{hold_here}
-use Rattle.tj_park.specs.ChildViews.{Claimed}
 use Rattle.tj_park.specs.Records.{HasTaken}
 
 module _ {B : Type 0} where

@@ -1,52 +1,33 @@
 -- The root of a small table runs alone: what the tests know of it from call to call.
-use Rattle.std.proofs.Common.{◌≡◌, ◌≢◌, ℕ, zero, suc, ◌<◌, Bool, true, false, cond, nat_eq, List, [], ◌∷◌, get_or}
-use Rattle.std.proofs.Common.{ℤ, Option, Some, None, IfSome}
-use Rattle.std.proofs.Common.{refl, sym, ap, ◌∙◌, subst, inl, inr, ⊎_elim, arith, ne_eqb, pos}
-use mathlib.Core.Option.{some, some-injective, some-ne-none}
-use lib.ListN.{get_elem?}
-use Rattle.tj_base.specs.ForkOrder.{Name, child}
-use Rattle.tj_base.specs.declared.cell.Sort.TheVariants as sort
-use Rattle.tj_base.specs.declared.value.Pay.TheVariants as pay
-use Rattle.tj_body.specs.History.{to_promise, to_task}
-use Rattle.tj_body.specs.Points.{IsIn, Begins}
-use Rattle.tj_body.specs.Programs.{Program, program_of}
+use Rattle.tj_park.proofs.Prelude.{Answer, Begins, Bool, Claimed, Custody, Entry, IsCell, IsIn, IsMade, List, MayFill}
+use Rattle.tj_park.proofs.Prelude.{MayGiveUp, Name, None, Program, Rec, Reference, SeatMe, Some, View, WillBecome, []}
+use Rattle.tj_park.proofs.Prelude.{ap, became, begins_at, begins_self, child, cond, custody_of, gave_up, get_elem?}
+use Rattle.tj_park.proofs.Prelude.{in_left, in_right, inl, inr, inside, noted_here, pos, program_of, refl, some, subst}
+use Rattle.tj_park.proofs.Prelude.{suc, sym, to_promise, to_task, true, without, ℕ, ⊎_elim, ◌<◌, ◌∙◌, ◌∷◌, ◌≡◌, ◌≢◌}
+use Rattle.std.proofs.Common.{zero, false, nat_eq, get_or, ℤ, Option, IfSome, arith, ne_eqb}
+use mathlib.Core.Option.{some-injective, some-ne-none}
 use Rattle.tj_body.specs.RoundPoints.{Becomes, InRounds}
 use Rattle.tj_body.specs.Table.{body_at, lists_of, table_asks, table_awaits, table_left, table_places, table_then}
-use Rattle.tj_body.specs.declared.point.Entry.{Entry}
-use Rattle.tj_body.specs.declared.point.Entry.TheVariants as entry
-use Rattle.tj_body.specs.declared.point.Reference.{Reference}
-use Rattle.tj_body.specs.declared.point.Value.TheVariants as value
 use Rattle.tj_body.specs.declared.table.Row.{Row}
-use Rattle.tj_body.specs.declared.table.Row.TheVariants as row
 use Rattle.tj_body.specs.declared.table.TableBody.{TableBody}
-use Rattle.tj_body.specs.declared.ask.Answer.{Answer}
-use Rattle.tj_body.specs.declared.ask.Answer.TheVariants as answer
-use Rattle.tj_body.proofs.Lists.{begins_self, in_left, in_right}
-use Rattle.tj_words.specs.declared.offsets.Once.TheVariants as once
-use Rattle.tj_words.specs.declared.record.Fill.TheVariants as fill
-use Rattle.tj_words.specs.declared.record.Rec.{Rec}
-use Rattle.tj_words.specs.declared.view.Custody.{Custody}
-use Rattle.tj_words.specs.declared.view.View.{View}
 use Rattle.tj_words.specs.Calls.DrawViews.{drawn_next}
 use Rattle.tj_words.specs.LawParts.FirstState.{first_view}
 use Rattle.tj_words.specs.LawParts.Holding.{held_in, made_by}
-use Rattle.tj_words.specs.Words.Lists.{without}
-use Rattle.tj_words.specs.Calls.OwnerViews.{gave_up}
 use Rattle.tj_words.specs.Steps.QuietSteps.{does_first}
-use Rattle.tj_words.specs.SeatViews.SeatSteps.{SeatMe}
 use Rattle.tj_words.specs.SeatViews.SeenWords.{FindsBits, FindsNothing, SeesOnce}
 use Rattle.tj_words.specs.Steps.StepEvents.{MayAct}
-use Rattle.tj_words.specs.Calls.TakenRecords.{custody_of}
-use Rattle.tj_words.specs.LawParts.TreeWords.{IsCell}
-use Rattle.tj_words.proofs.Seating.Merging.{begins_at}
-use Rattle.tj_words.proofs.Holders.NotedEntries.{noted_here}
-use Rattle.tj_words.proofs.Stores.SeatLists.{inside}
 use Rattle.tj_cells.specs.declared.seen.Seen.{Seen}
-use Rattle.tj_cells.specs.declared.seen.Seen.TheVariants as seen
-use Rattle.tj_cells.specs.FilledCells.{MayFill, MayGiveUp, WillBecome, became}
-use Rattle.tj_cells.specs.MadeCells.{IsMade, MayMake, makes_promise}
+use Rattle.tj_cells.specs.MadeCells.{MayMake, makes_promise}
 use Rattle.tj_cells.specs.SeenValues.{SeesValue}
-use Rattle.tj_park.specs.ChildViews.{Claimed}
+use Rattle.tj_base.specs.declared.cell.Sort.TheVariants as sort
+use Rattle.tj_base.specs.declared.value.Pay.TheVariants as pay
+use Rattle.tj_body.specs.declared.point.Entry.TheVariants as entry
+use Rattle.tj_body.specs.declared.point.Value.TheVariants as value
+use Rattle.tj_body.specs.declared.table.Row.TheVariants as row
+use Rattle.tj_body.specs.declared.ask.Answer.TheVariants as answer
+use Rattle.tj_words.specs.declared.offsets.Once.TheVariants as once
+use Rattle.tj_words.specs.declared.record.Fill.TheVariants as fill
+use Rattle.tj_cells.specs.declared.seen.Seen.TheVariants as seen
 
 -- what the bodies of a table's tasks go by
 abbrev pub its : Bool → TableBody → Program TableBody

@@ -1,21 +1,11 @@
 -- The loop that wakes a chain: so many of its tasks are woken, and the others are the seat's rest.
-use Rattle.std.proofs.Common.{◌≡◌, ◌≢◌, ◌⊎◌, ℕ, suc, ◌+◌, ◌<◌, ◌≤◌, List, [], ◌∷◌, ◌++◌, length, Option, Some, None}
-use Rattle.std.proofs.Common.{Result, Ok, Err, OnErr, refl, sym, ap, ◌∙◌, subst, inl, inr, ⊎_elim, arith}
-use Rattle.std.proofs.Common.{append_assoc, length-append}
-use Rattle.tj_base.specs.declared.cell.CellId.{CellId}
-use Rattle.tj_core.specs.declared.walk.Way.{Way}
-use Rattle.tj_words.specs.declared.head.Head.{Head}
+use Rattle.tj_park.proofs.Prelude.{CellId, Err, Head, IsTailOf, KnowsMore, List, None, Ok, Option, Rest, SlotsOf, Some}
+use Rattle.tj_park.proofs.Prelude.{View, Way, [], ap, arith, cell, head_of, head_word, inl, inr, more_on, refl, subst}
+use Rattle.tj_park.proofs.Prelude.{suc, sym, tail_on, without, ℕ, ⊎_elim, ◌++◌, ◌+◌, ◌<◌, ◌∙◌, ◌∷◌, ◌≡◌, ◌≢◌, ◌≤◌, ◌⊎◌}
+use Rattle.std.proofs.Common.{length, Result, OnErr, append_assoc, length-append}
 use Rattle.tj_words.specs.declared.head.Head.TheVariants.{Empty, Task, Shut}
 use Rattle.tj_words.specs.declared.view.Note.{Note}
-use Rattle.tj_words.specs.declared.view.Rest.{Rest}
-use Rattle.tj_words.specs.declared.view.View.{View}
-use Rattle.tj_words.specs.Words.Lists.{cell, without}
-use Rattle.tj_words.specs.LawParts.Chains.{head_of}
 use Rattle.tj_words.specs.Calls.ChainSteps.{TakesChain, found_taken, rest_of}
-use Rattle.tj_words.specs.Words.Heads.{head_word}
-use Rattle.tj_words.specs.Calls.LiveViews.{SlotsOf}
-use Rattle.tj_words.specs.SeatViews.KnowsMore.{IsTailOf, KnowsMore}
-use Rattle.tj_words.proofs.SeatLoads.KnowsMoreOn.{more_on, tail_on}
 use Rattle.tj_words.proofs.Waiters.ChainsSaid.{shut_or}
 use Rattle.tj_park.specs.Wakes.{HaveNoted, HavePut, HasWoken, MayWakeTasks, WakesAll, WakesEach, WakesSome, wake_notes}
 use Rattle.tj_park.specs.Inner.FirstWaiters.{WakesFirst}

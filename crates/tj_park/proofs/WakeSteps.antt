@@ -1,34 +1,21 @@
 -- The steps by which a seat makes the first of its rest ready.
-use Rattle.std.proofs.Common.{◌≡◌, ◌≢◌, ℕ, suc, ◌+◌, ◌-◌, ◌<◌, ◌≤◌, List, [], ◌∷◌, ◌++◌, Bool, cond, Option}
-use Rattle.std.proofs.Common.{Some, None}
-use Rattle.std.proofs.Common.{Result, Ok, Err, OnOk, IfErr, refl, sym, ap, ◌∙◌, subst, inl, inr, ⊎_elim, arith, eq-eqb}
+use Rattle.tj_park.proofs.Prelude.{Backing, Bool, DoesRun, Err, HasNoRecord, Head, Holds, IfErr, List, MayWakeTasks}
+use Rattle.tj_park.proofs.Prelude.{None, Ok, OnOk, Option, Phase, Program, Rest, Result, SeatMe, SlotsOf, Some, Swaps}
+use Rattle.tj_park.proofs.Prelude.{View, Way, [], ap, arith, backing_running, backing_token, cond, eq-eqb, head_of}
+use Rattle.tj_park.proofs.Prelude.{head_word, inl, inr, live_raised, missed, parked_phase, raised_by_way, refl, rest_of}
+use Rattle.tj_park.proofs.Prelude.{subst, suc, sym, wake_notes, ℕ, ⊎_elim, ◌++◌, ◌+◌, ◌-◌, ◌<◌, ◌∙◌, ◌∷◌, ◌≡◌, ◌≢◌, ◌≤◌}
 use Rattle.std.specs.Bool.{⊤}
-use Rattle.tj_body.specs.Programs.{Program}
-use Rattle.tj_core.specs.declared.walk.Way.{Way}
-use Rattle.tj_core.specs.declared.walk.Way.TheVariants as ways
-use Rattle.tj_core.specs.Events.{raised_by_way}
-use Rattle.tj_words.specs.declared.head.Head.{Head}
-use Rattle.tj_words.specs.declared.phase.Phase.{Phase}
-use Rattle.tj_words.specs.declared.phase.Phase.TheVariants as phase
-use Rattle.tj_words.specs.declared.view.Noted.TheVariants as note
-use Rattle.tj_words.specs.declared.view.Rest.{Rest}
-use Rattle.tj_words.specs.declared.view.View.{View}
-use Rattle.tj_words.specs.LawParts.Chains.{head_of, parked_phase}
-use Rattle.tj_words.specs.Calls.ChainSteps.{rest_of}
-use Rattle.tj_words.specs.Calls.ExchangeViews.{MaySwap, Swaps, missed, woke_first}
-use Rattle.tj_words.specs.Words.Heads.{head_word}
-use Rattle.tj_words.specs.LawParts.LiveCount.{Backing, DoesRun, Holds}
-use Rattle.tj_words.specs.Calls.LiveViews.{LaysChild, MayRaiseLive, SlotsOf, live_raised, raised_with}
+use Rattle.tj_words.specs.Calls.ExchangeViews.{MaySwap, woke_first}
+use Rattle.tj_words.specs.Calls.LiveViews.{LaysChild, MayRaiseLive, raised_with}
 use Rattle.tj_words.specs.Calls.ParkSteps.{FirstTold, first_way, loaded_phase, parked_way, rest_loaded, with_tokens}
 use Rattle.tj_words.specs.Words.Phases.{phase_word}
-use Rattle.tj_words.specs.SeatViews.SeatSteps.{SeatMe}
 use Rattle.tj_words.specs.SeatViews.SeenWords.{NextTold}
 use Rattle.tj_words.specs.SeatViews.Views.{note_of, noted_step}
-use Rattle.tj_words.proofs.Waiters.LiveSteps.{backing_token, backing_running}
-use Rattle.tj_park.specs.Records.{HasNoRecord}
 use Rattle.tj_park.proofs.ParkedViews.{no_record}
-use Rattle.tj_park.specs.Wakes.{MayWakeTasks, wake_notes}
 use Rattle.tj_park.specs.Inner.FirstWaiters.{counted_in, lowered_for}
+use Rattle.tj_core.specs.declared.walk.Way.TheVariants as ways
+use Rattle.tj_words.specs.declared.phase.Phase.TheVariants as phase
+use Rattle.tj_words.specs.declared.view.Noted.TheVariants as note
 
 first_is : (t : ℕ) (q : Phase) (ts : List ℕ) (o : Option Way) → first_way t q (t ∷ ts) o ≡ parked_way q o
 first_is t q ts o = ap (λ (b : Bool). cond b (parked_way q o) o) (eq-eqb t t refl)

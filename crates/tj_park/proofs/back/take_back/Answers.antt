@@ -1,4 +1,4 @@
-use Rattle.std.proofs.Common.{◌∙◌, refl, inr}
+use Rattle.tj_park.proofs.Prelude.{inr, refl, ◌∙◌}
 use Rattle.tj_park.proofs.Returns.{goes_back, back_slot, back_some, back_slots, back_cleared, takes_along, takes_other}
 use Rattle.tj_park.proofs.back.take_back.Goals as goal
 

@@ -1,7 +1,4 @@
-use Rattle.std.proofs.Common.{◌∙◌, ap, sym, subst}
-use Rattle.atomic_table.specs.Table.{rest}
-use Rattle.tj_words.specs.Calls.LiveViews.{MayRaiseLive, MayRelease, live_raised, released}
-use Rattle.tj_words.specs.SeatViews.SeatSteps.{SeatMe}
+use Rattle.tj_park.proofs.Prelude.{MayRaiseLive, MayRelease, SeatMe, ap, live_raised, released, rest, subst, sym, ◌∙◌}
 use Rattle.tj_park.proofs.LeftTasks.{raise_child, ready_child, child_released}
 use Rattle.tj_park.proofs.children.make_ready.Goals as goal
 

@@ -1,4 +1,4 @@
-use Rattle.std.proofs.Common.{Some, refl}
+use Rattle.tj_park.proofs.Prelude.{Some, refl}
 use Rattle.tj_park.proofs.TakenTasks.{claimed, slot_in_front}
 use Rattle.tj_park.proofs.claims.claim.Goals as goal
 

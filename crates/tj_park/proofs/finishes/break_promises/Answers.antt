@@ -1,9 +1,6 @@
-use Rattle.std.proofs.Common.{◌∙◌, ◌+◌, drop, get_or, refl, sym, subst, arith}
-use Rattle.tj_body.specs.Programs.{program_of}
-use Rattle.tj_words.specs.Words.Lists.{cell}
-use Rattle.tj_park.specs.Wakes.{MayWake, WakesAll}
+use Rattle.tj_park.proofs.Prelude.{MayWake, WakesAll, arith, cell, drop, get_or, more_itself, program_of, refl, subst}
+use Rattle.tj_park.proofs.Prelude.{sym, ◌+◌, ◌∙◌}
 use Rattle.tj_park.proofs.BreakSteps.{none_broken, may_give_up, will_break, is_small, may_wake_broken, one_broken}
-use Rattle.tj_words.proofs.SeatLoads.KnowsMoreOn.{more_itself}
 use Rattle.tj_park.proofs.BreakSteps.{about_kept, all_woke, next_left, none_left, notes_kept, one_break_woke}
 use Rattle.tj_park.proofs.finishes.break_promises.Goals as goal
 

@@ -1,7 +1,5 @@
-use Rattle.std.proofs.Common.{Some, ap}
-use Rattle.tj_body.specs.Programs.{program_of}
-use Rattle.tj_park.proofs.ResultCloses.{may_close_last, may_fill_last, may_break_last}
-use Rattle.tj_park.proofs.ResultCloses.{failed_not_done}
+use Rattle.tj_park.proofs.Prelude.{Some, ap, program_of}
+use Rattle.tj_park.proofs.ResultCloses.{may_close_last, may_fill_last, may_break_last, failed_not_done}
 use Rattle.tj_park.proofs.finishes.close_by.Goals as goal
 
 pub fill-requires-clause-owner : goal.fill-requires-clause-owner

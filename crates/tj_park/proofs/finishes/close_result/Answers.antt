@@ -1,6 +1,4 @@
-use Rattle.std.proofs.Common.{subst}
-use Rattle.tj_body.specs.Programs.{program_of}
-use Rattle.tj_park.specs.Inner.Closings.{MayCloseResult}
+use Rattle.tj_park.proofs.Prelude.{MayCloseResult, program_of, subst}
 use Rattle.tj_park.proofs.finishes.close_result.Goals as goal
 
 pub close_by-requires-clause-may : goal.close_by-requires-clause-may

@@ -1,10 +1,5 @@
-use Rattle.std.proofs.Common.{◌≡◌, ◌∙◌, [], drop, ap, subst, sym}
-use Rattle.atomic_table.specs.Table.{rest}
-use Rattle.tj_body.specs.Programs.{program_of}
-use Rattle.tj_words.specs.Calls.LiveViews.{MayLowerLive, lowered_with}
-use Rattle.tj_words.specs.Words.Lists.{numbers}
-use Rattle.tj_park.specs.Inner.Breaks.{HasBroken, MayBreak}
-use Rattle.tj_park.specs.Wakes.{WakesEach}
+use Rattle.tj_park.proofs.Prelude.{HasBroken, MayBreak, MayLowerLive, WakesEach, [], ap, drop, lowered_with, numbers}
+use Rattle.tj_park.proofs.Prelude.{program_of, rest, subst, sym, ◌∙◌, ◌≡◌}
 use Rattle.tj_park.proofs.EndSteps.{slice_rest, is_cell, may_break, may_close, closed_is, laid_is, may_end_then}
 use Rattle.tj_park.proofs.EndSteps.{ended_is, about_woken, may_wake_then, woke_then, may_lower, has_finished}
 use Rattle.tj_park.proofs.EndSteps.{ended_more, lowered_more, notes_woken, same_slots}

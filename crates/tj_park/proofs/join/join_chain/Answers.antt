@@ -1,6 +1,6 @@
 use Rattle.std.proofs.Common.{rules, ◌≡◌, ◌≢◌, ◌∙◌}
-use Rattle.tj_words.specs.declared.head.Head.TheVariants as head
 use Rattle.tj_park.proofs.Joining.{found_chains, joining_first, joining_next, has_push, has_push_behind, joined, fewer}
+use Rattle.tj_words.specs.declared.head.Head.TheVariants as head
 use Rattle.tj_park.proofs.join.join_chain.Goals as goal
 
 pub loop-t-init : goal.loop-t-init

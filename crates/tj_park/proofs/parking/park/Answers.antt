@@ -1,7 +1,6 @@
-use Rattle.std.proofs.Common.{◌∙◌, ◌∷◌, None, ap}
-use Rattle.atomic_table.specs.Table.{rest}
-use Rattle.tj_park.proofs.ParkedViews.{parked_may, parked_push, parked_lower, parked_left, parked_back_may}
-use Rattle.tj_park.proofs.ParkedViews.{parked_back, parked_slots}
+use Rattle.tj_park.proofs.Prelude.{None, ap, rest, ◌∙◌, ◌∷◌}
+use Rattle.tj_park.proofs.ParkedViews.{parked_may, parked_push, parked_lower, parked_left, parked_back_may, parked_back}
+use Rattle.tj_park.proofs.ParkedViews.{parked_slots}
 use Rattle.tj_park.proofs.parking.park.Goals as goal
 
 pub put_phase-requires-clause-may : goal.put_phase-requires-clause-may

@@ -1,6 +1,4 @@
-use Rattle.std.proofs.Common.{sym, subst}
-use Rattle.atomic_table.specs.Table.{rest}
-use Rattle.tj_words.specs.Calls.LiveViews.{MayLowerLive}
+use Rattle.tj_park.proofs.Prelude.{MayLowerLive, rest, subst, sym}
 use Rattle.tj_park.proofs.LeftTasks.{lower_alarmed}
 use Rattle.tj_park.proofs.shelves.shelve.Goals as goal
 

@@ -1,17 +1,11 @@
-use Rattle.std.proofs.Common.{◌∙◌, ℕ, suc, [], IfOk, pos, refl, ap, subst}
-use Rattle.tj_base.specs.ForkOrder.{child}
-use Rattle.tj_base.specs.declared.cell.CellId.{CellId}
-use Rattle.tj_base.specs.declared.cell.Sort.TheVariants as sort
-use Rattle.tj_body.specs.History.{to_promise}
-use Rattle.tj_body.specs.declared.point.Entry.TheVariants as entry
-use Rattle.tj_body.specs.declared.point.Value.TheVariants as value
-use Rattle.tj_words.specs.Calls.OwnerViews.{gave_up}
-use Rattle.tj_words.specs.Calls.TakenRecords.{custody_of}
-use Rattle.tj_words.proofs.Seating.Merging.{begins_at}
-use Rattle.tj_cells.specs.MadeCells.{IsMade, makes_promise}
+use Rattle.tj_park.proofs.Prelude.{CellId, IfOk, IsMade, [], ap, begins_at, child, custody_of, gave_up, makes_promise}
+use Rattle.tj_park.proofs.Prelude.{pos, refl, subst, suc, to_promise, ℕ, ◌∙◌}
 use Rattle.tj_park.proofs.TestRoots.{bits_root, claimed_first, closed_root, first_named, first_set, made_is, made_owned}
 use Rattle.tj_park.proofs.TestRoots.{made_root, may_close_promise, may_fill_number, may_make, not_root, second_named}
 use Rattle.tj_park.proofs.TestRoots.{tag_root, three_promises, with_rows}
+use Rattle.tj_base.specs.declared.cell.Sort.TheVariants as sort
+use Rattle.tj_body.specs.declared.point.Entry.TheVariants as entry
+use Rattle.tj_body.specs.declared.point.Value.TheVariants as value
 use Rattle.tj_park.proofs.tests.two_cells_and_a_third_draw.Goals as goal
 
 pub make-requires-clause-may : goal.make-requires-clause-may

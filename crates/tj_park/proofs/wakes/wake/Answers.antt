@@ -1,7 +1,6 @@
-use Rattle.std.proofs.Common.{◌∙◌, ◌<◌, refl, sym, subst, arith}
-use Rattle.tj_park.specs.Wakes.{MayWakeTasks}
-use Rattle.tj_park.proofs.WakeLoops.{first_task, may_go_on, rest_now, on_err, waking_at_first, few_woken}
-use Rattle.tj_park.proofs.WakeLoops.{fewer_left, waking_next, woke_some, woke_all}
+use Rattle.tj_park.proofs.Prelude.{MayWakeTasks, arith, refl, subst, sym, ◌<◌, ◌∙◌}
+use Rattle.tj_park.proofs.WakeLoops.{first_task, may_go_on, rest_now, on_err, waking_at_first, few_woken, fewer_left}
+use Rattle.tj_park.proofs.WakeLoops.{waking_next, woke_some, woke_all}
 use Rattle.tj_park.proofs.wakes.wake.Goals as goal
 
 pub loop-first-init : goal.loop-first-init

@@ -1,5 +1,4 @@
-use Rattle.std.proofs.Common.{◌∙◌, refl}
-use Rattle.tj_body.specs.Programs.{program_of}
+use Rattle.tj_park.proofs.Prelude.{program_of, refl, ◌∙◌}
 use Rattle.tj_park.proofs.WakeSteps.{may_up, may_swap, counted, slots_woke, wakes_first}
 use Rattle.tj_park.proofs.wakes.wake_first.Goals as goal
 
