@@ -5,3 +5,4 @@ pub mod RunningTasks
 pub mod SplitLots
 pub mod ThreadSends
 pub mod WorkersSteps
+pub mod QuietTasks

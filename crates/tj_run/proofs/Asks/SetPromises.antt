@@ -31,7 +31,6 @@ use Rattle.tj_words.specs.declared.record.Hurt.TheVariants as hurt
 use Rattle.tj_words.specs.declared.record.Rec.{Rec}
 use Rattle.tj_words.specs.declared.table.Laid.{Laid}
 use Rattle.tj_words.specs.declared.view.Custody.{Custody}
-use Rattle.tj_words.specs.declared.view.Does.{Does}
 use Rattle.tj_words.specs.declared.view.Does.TheVariants as does
 use Rattle.tj_words.specs.declared.view.View.{View}
 use Rattle.tj_words.specs.Calls.DrawViews.{without_due}
@@ -39,7 +38,6 @@ use Rattle.tj_words.specs.LawParts.Holding.{held_in}
 use Rattle.tj_words.specs.SeatViews.KnownEntries.{HasSeen}
 use Rattle.tj_words.specs.SeatViews.KnowsMore.{IsTailOf, KnowsMore}
 use Rattle.tj_words.specs.Words.Lists.{AreApart, numbers, without}
-use Rattle.tj_words.specs.LawParts.LiveCount.{HasAlarmed}
 use Rattle.tj_words.specs.LawParts.Meaning.{HasCell}
 use Rattle.tj_words.specs.LawParts.NamedCells.{fill_cells}
 use Rattle.tj_words.specs.Calls.OwnerViews.{gave_up}
@@ -72,21 +70,13 @@ use Rattle.tj_run.proofs.Cells.OwnedCells.{holds_are, others as its_others, othe
 use Rattle.tj_run.proofs.Asks.PointSteps.{after_rounds, before, fill_at_says, pairs_at, stands_next}
 use Rattle.tj_run.proofs.Seats.RunningTasks.{gives_known, in_at}
 use Rattle.tj_park.proofs.WakeLoops.{noted_tail}
+use Rattle.tj_run.proofs.Seats.QuietTasks.{acts_quietly}
 
 -- the cell that a value names, as the words and as the records have it
 named_same : (f : Fill) → cells_named f ≡ fill_cells f
 named_same (fill.Num i) = refl
 named_same (fill.Promise c) = refl
 named_same (fill.Task c) = refl
-
--- what runs hasn't alarmed
-act_alarmed : (d : Does) → MayAct d → HasAlarmed d → ⊥
-act_alarmed does.Unborn m a = m
-act_alarmed does.Fresh m a = a
-act_alarmed does.Running m a = a
-act_alarmed does.Raised m a = m
-act_alarmed (does.Walking c way w) m a = m
-act_alarmed (does.Alarmed c way w) m a = m
 
 module _ {B : Type 0} (program : Bool → B → Program B) (laid : Laid B) (r : Rec B) (k : ℕ) (y : Pay) (me : SeatMe B)
     (runs : RunsTask laid r me) (asked : IsAsked (table_program program laid) me.0 r (ask.Set k y))
@@ -217,7 +207,7 @@ module _ {B : Type 0} (program : Bool → B → Program B) (laid : Laid B) (r : 
             (ap (λ ks. held_in ks a.0) (sym runs.tasks) ∙ a.2)
           where
             by : (b : Bool) → cond b (Some runs.custody) None ≡ Some a.1 → 0 < me.0.tokens
-            by true e = absurd (act_alarmed a.1.does
+            by true e = absurd (acts_quietly a.1.does
                 (subst (λ (z : Custody B). MayAct z.does) (one_some runs.custody a.1 e) runs.runs) a.3)
             by false e = none_some None a.1 refl e
 

@@ -69,6 +69,9 @@ use Rattle.tj_run.proofs.Asks.NewThings.{stands_then, tells_then}
 use Rattle.tj_run.proofs.Seats.OneTask.{noted_one}
 use Rattle.tj_run.proofs.Cells.OwnedCells.{holds_are, others as its_others, others_there, owned_is, promise_other}
 use Rattle.tj_run.proofs.Asks.PointSteps.{after_rounds, before, pairs_length, stands_next}
+use Rattle.tj_cells.proofs.SameViews.{more_same}
+use Rattle.tj_run.proofs.Seats.FreeSeats.{workers_same}
+use Rattle.tj_words.proofs.SeatLoads.KnowsMoreOn.{more_on}
 
 module _ {B : Type 0} (program : Bool → B → Program B) (laid : Laid B) (r : Rec B) (b : B) (pass handed : List ℕ)
     (me : SeatMe B) (runs : RunsTask laid r me)
@@ -404,21 +407,7 @@ module _ {B : Type 0} (program : Bool → B → Program B) (laid : Laid B) (r : 
         runs_after : RunsTask laid q (after, me.1)
         runs_after = let n = new_worker program laid r x me runs asked sort.Task c.0 w m in let k = runs.has.knows in
             record {
-              worker = record {
-                of_table = n.of_table;
-                lot = n.lot;
-                refused = n.refused;
-                tokens = n.tokens;
-                cleared = n.cleared;
-                nothing = record {
-                  hand = n.nothing.hand;
-                  dues = n.nothing.dues;
-                  pushes = n.nothing.pushes;
-                  shuts = n.nothing.shuts;
-                  rest = n.nothing.rest;
-                };
-                cells = n.cells;
-              };
+              worker = workers_same laid w after n n.lot n.tokens;
               custody = second;
               tasks = tasks_after;
               slots = runs.slots;
@@ -448,18 +437,7 @@ module _ {B : Type 0} (program : Bool → B → Program B) (laid : Laid B) (r : 
             (in_either k p.children (kid ∷ []) i)
 
         more_after : KnowsMore me.0 after
-        more_after = record {
-          about = more.about;
-          lot = more.lot;
-          born = more.born;
-          known = more.known;
-          wrote = more.wrote;
-          filled = more.filled;
-          seen = more.seen;
-          closed = more.closed;
-          rested = more.rested;
-          notes = more.notes;
-        }
+        more_after = more_on me.0 w after more (more_same w after ([], refl))
 
         running_after : IsRunning P after q
         running_after = let t = tells_then P me.0 w more r x asked in record {

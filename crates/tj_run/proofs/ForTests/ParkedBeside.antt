@@ -4,7 +4,6 @@ use Rattle.std.proofs.Common.{◌≡◌, ℕ, ◌<◌, Bool, true, false, cond, 
 use Rattle.std.proofs.Common.{refl, sym, ap, ◌∙◌, subst, arith, eq-eqb}
 use Rattle.atomic_table.specs.Table.{rest}
 use Rattle.tj_body.specs.Programs.{Program}
-use Rattle.tj_body.proofs.Lists.{begins_self}
 use Rattle.tj_core.specs.declared.walk.Way.TheVariants as way
 use Rattle.tj_words.specs.declared.record.Held.{Held}
 use Rattle.tj_words.specs.declared.record.Rec.{Rec}
@@ -41,6 +40,9 @@ use Rattle.tj_run.proofs.Waiting.JoinTests.{promise_way}
 use Rattle.tj_run.proofs.Waiting.WaitConditions.{held_as, may_block, may_park, task_cell, wait_cell}
 use Rattle.tj_run.proofs.Seats.WorkersSteps.{runs_on}
 use Rattle.tj_run.proofs.ForTests.TwoTasks.{back, first_stays, slots_now, tasks_now}
+use Rattle.tj_cells.proofs.SameViews.{more_same}
+use Rattle.tj_park.proofs.NothingToCome.{nothing_same}
+use Rattle.tj_run.proofs.Seats.QuietTasks.{acts_quietly}
 
 -- a seat with two tasks holds an alarmed one only where one of them has alarmed
 two_alarmed : {B : Type 0} (v : View B) (c d : Custody B) → v.tasks ≡ c ∷ (d ∷ []) → ¬ HasAlarmed c.does
@@ -52,15 +54,6 @@ two_alarmed {B = B} v c d e n m h =
     by true o k q a = n (subst (λ (x : Custody B). HasAlarmed x.does) (sym (same_some refl q)) a)
     by false true k q a = m (subst (λ (x : Custody B). HasAlarmed x.does) (sym (same_some refl q)) a)
     by false false k q a = no_some refl q
-
--- a task that may act hasn't alarmed
-acts_quietly : (d : Does) → MayAct d → ¬ HasAlarmed d
-acts_quietly does.Unborn m a = a
-acts_quietly does.Fresh m a = a
-acts_quietly does.Running m a = a
-acts_quietly does.Raised m a = a
-acts_quietly (does.Walking q way w) m a = a
-acts_quietly (does.Alarmed q way w) m a = m
 
 -- a record whose body has gone on is of the same task
 pub runs_body : {B : Type 0} (laid : Laid B) (r : Rec B) (b : B) (me : SeatMe B) → RunsTask laid r me
@@ -184,13 +177,7 @@ module _ {B : Type 0} (program : Bool → B → Program B) (laid : Laid B) (r0 r
         unfinished = a.leaves.unfinished;
       };
       waits = a.waits;
-      idle = record {
-        hand = a.idle.hand;
-        dues = a.idle.dues;
-        pushes = a.idle.pushes;
-        shuts = a.idle.shuts;
-        rest = a.idle.rest;
-      };
+      idle = nothing_same walks now a.idle;
       room = a.room;
       alarms = λ z. absurd (two_alarmed now k_walks k0 tasks_walked (λ y. y)
           (acts_quietly k0.does w.begun.runs.runs) z);
@@ -212,18 +199,7 @@ module _ {B : Type 0} (program : Bool → B → Program B) (laid : Laid B) (r0 r
     -- once it is parked the seat runs its first task
     module _ (z : SeatMe B) (left : LeftTask laid.cells t n.0 z.0) (slots : z.1 ≡ rest n.1) where
       knows_walked : KnowsMore m.0 now
-      knows_walked = record {
-        about = refl;
-        lot = refl;
-        born = begins_self m.0.born;
-        known = λ x i. i;
-        wrote = λ x i. i;
-        filled = λ x i. i;
-        seen = λ x i. i;
-        closed = λ x i. i;
-        rested = λ y. y;
-        notes = ([], refl);
-      }
+      knows_walked = more_same m.0 now ([], refl)
 
       parked : HasParked laid.cells now z.0
       parked = subst (λ y. HasParked laid.cells y z.0) blocked.view left.parked

@@ -28,6 +28,9 @@ use Rattle.tj_run.proofs.Waiting.JoinTests.{get_inside, get_waits}
 use Rattle.tj_run.proofs.Asks.NextAsks.{asked_next}
 use Rattle.tj_run.proofs.Seats.OneTask.{held_one}
 use Rattle.tj_run.proofs.ForTests.TestRuns.{claim_back, claim_begins}
+use Rattle.tj_run.proofs.Seats.FreeSeats.{workers_same}
+use Rattle.tj_cells.proofs.SameViews.{more_same}
+use Rattle.tj_words.proofs.SeatLoads.KnowsMoreOn.{more_on}
 
 -- a task that runs does so where its seat knows more
 pub running_on : {B : Type 0} (program : Program B) (v w : View B) → KnowsMore v w → (r : Rec B)
@@ -75,21 +78,7 @@ module _ {B : Type 0} (program : Bool → B → Program B) (laid : Laid B) (r0 r
 
   bare_free : IsFree laid (bare, [])
   bare_free = let w = h.runs.worker in record {
-    worker = record {
-      of_table = w.of_table;
-      lot = w.lot;
-      refused = w.refused;
-      tokens = w.tokens;
-      cleared = w.cleared;
-      nothing = record {
-        hand = w.nothing.hand;
-        dues = w.nothing.dues;
-        pushes = w.nothing.pushes;
-        shuts = w.nothing.shuts;
-        rest = w.nothing.rest;
-      };
-      cells = w.cells;
-    };
+    worker = workers_same laid old.0 bare w w.lot w.tokens;
     tasks = refl;
     slots = refl;
   }
@@ -111,18 +100,8 @@ module _ {B : Type 0} (program : Bool → B → Program B) (laid : Laid B) (r0 r
       known = c.taken.known;
     };
     tasks = refl;
-    knows = record {
-      about = c.knows.about;
-      lot = c.knows.lot;
-      born = c.knows.born;
-      known = c.knows.known;
-      wrote = c.knows.wrote;
-      filled = c.knows.filled;
-      seen = c.knows.seen;
-      closed = c.knows.closed;
-      rested = c.knows.rested;
-      notes = c.knows.notes;
-    };
+    knows = more_on bare old.0 (alone r m.0) (more_same bare old.0 ([], refl))
+        (more_on old.0 m.0 (alone r m.0) c.knows (more_same m.0 (alone r m.0) ([], refl)));
     hand = record { hand = c.hand.hand; dues = c.hand.dues };
     wakes = record { pushes = c.wakes.pushes; shuts = c.wakes.shuts; rest = c.wakes.rest };
     counts = record { tokens = c.counts.tokens; cleared = c.counts.cleared; refused = c.counts.refused };

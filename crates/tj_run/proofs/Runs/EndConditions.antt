@@ -9,14 +9,11 @@ use Rattle.tj_words.specs.declared.record.Finish.{Finish}
 use Rattle.tj_words.specs.declared.record.Held.{Held}
 use Rattle.tj_words.specs.declared.record.Rec.{Rec}
 use Rattle.tj_words.specs.declared.table.Laid.{Laid}
-use Rattle.tj_words.specs.declared.view.Does.{Does}
 use Rattle.tj_words.specs.declared.view.Does.TheVariants as does
 use Rattle.tj_words.specs.LawParts.Holding.{held_in}
 use Rattle.tj_words.specs.Words.Lists.{numbers}
-use Rattle.tj_words.specs.LawParts.LiveCount.{HasAlarmed}
 use Rattle.tj_words.specs.LawParts.NamedCells.{finish_cells, record_cells}
 use Rattle.tj_words.specs.SeatViews.SeatSteps.{SeatMe}
-use Rattle.tj_words.specs.Steps.StepEvents.{MayAct}
 use Rattle.tj_words.specs.SeatViews.TaskLists.{let_go}
 use Rattle.tj_words.specs.LawParts.TreeWords.{AreCells}
 use Rattle.tj_park.specs.Endings.{HasFinished, MayFinish}
@@ -25,8 +22,9 @@ use Rattle.tj_run.specs.Workers.{about_table, table_program}
 use Rattle.tj_run.specs.Inner.Carried.{IsClosing, RunsTask}
 use Rattle.tj_run.specs.Inner.Waits.{IsLeft}
 use Rattle.tj_run.proofs.Seats.OneTask.{held_one, let_go_one}
-use Rattle.tj_run.proofs.Waiting.WaitConditions.{one_alarmed}
+use Rattle.tj_run.proofs.Waiting.WaitConditions.{one_alarmed, tells_same}
 use Rattle.tj_run.proofs.Seats.WorkersSteps.{workers_on}
+use Rattle.tj_run.proofs.Seats.QuietTasks.{acts_quietly}
 
 -- the record of a task that is to end like this
 abbrev pub ends_by : {B : Type 0} → Finish → Rec B → Rec B
@@ -50,15 +48,6 @@ ending_cells f r c (inr i) = let held = map (λ (h : Held). h.cell.0) r.held in
     (in_either c (numbers r.owed) (finish_cells (Some f)) y))
     (in_either c (numbers r.owned) (numbers r.owed ++ finish_cells (Some f)) j))
     (in_either c held (numbers r.owned ++ (numbers r.owed ++ finish_cells (Some f))) i)
-
--- a task that may act hasn't alarmed
-acts_quietly : (d : Does) → MayAct d → ¬ HasAlarmed d
-acts_quietly does.Unborn m a = a
-acts_quietly does.Fresh m a = a
-acts_quietly does.Running m a = a
-acts_quietly does.Raised m a = a
-acts_quietly (does.Walking q way w) m a = a
-acts_quietly (does.Alarmed q way w) m a = m
 
 module _ {B : Type 0} (program : Bool → B → Program B) (laid : Laid B) (r : Rec B) (f : Finish) (me : SeatMe B)
     (runs : RunsTask laid r me) (h : IsClosing (table_program program laid) me.0 r f) where
@@ -91,15 +80,7 @@ module _ {B : Type 0} (program : Bool → B → Program B) (laid : Laid B) (r : 
       body = h.body;
       ending = h.ending;
       unended = h.is_open;
-      tells = record {
-        of = h.tells.of;
-        body = h.tells.body;
-        held = h.tells.held;
-        owned_cells = h.tells.owned_cells;
-        made = h.tells.made;
-        prints = h.tells.prints;
-        owed = h.tells.owed;
-      };
+      tells = tells_same me.0.born r (record h.point { body = h.body }) r.answer r.spare (Some f) h.tells;
       stands = h.stands;
       says = h.says;
       ends = h.ends;

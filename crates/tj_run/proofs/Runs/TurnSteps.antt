@@ -2,7 +2,6 @@
 -- view does so since an earlier one.
 use Rattle.std.proofs.Common.{◌≡◌, ◌≢◌, ℕ, Bool, [], ◌∷◌, Option, Some, None, IfSome, refl, sym, ap, ◌∙◌, subst}
 use Rattle.tj_body.specs.Programs.{Program}
-use Rattle.tj_body.proofs.Lists.{begins_self}
 use Rattle.tj_words.specs.declared.phase.Phase.{Phase}
 use Rattle.tj_words.specs.declared.phase.Phase.TheVariants as phase
 use Rattle.tj_words.specs.declared.record.Rec.{Rec}
@@ -32,40 +31,20 @@ use Rattle.tj_run.specs.Inner.Waits.{ComesBack, IsLeft}
 use Rattle.tj_run.proofs.Seats.FreeSeats.{free_noted, rested_since}
 use Rattle.tj_run.proofs.Waiting.WaitConditions.{taken_runs}
 use Rattle.tj_run.proofs.Seats.WorkersSteps.{left_on, workers_on}
+use Rattle.tj_cells.proofs.SameViews.{more_same}
 
 module _ {B : Type 0} where
   -- the load of STOP leaves what the seat knew
   pub stop_seen : (v w : View B) → w ≡ saw_stop 0 v → KnowsMore v w
-  stop_seen v w e = subst (λ u. KnowsMore v u) (sym e) (record {
-    about = refl;
-    lot = refl;
-    born = begins_self v.born;
-    known = λ x i. i;
-    wrote = λ x i. i;
-    filled = λ x i. i;
-    seen = λ x i. i;
-    closed = λ x i. i;
-    rested = λ r. r;
-    notes = (note_of note.Stop 0 v ∷ [], refl);
-  })
+  stop_seen v w e = subst (λ u. KnowsMore v u) (sym e)
+      (more_same v (saw_stop 0 v) (note_of note.Stop 0 v ∷ [], refl))
 
   -- a free seat whose exchange found that a task isn't ready is free still, and knows what it knew
   pub left_missed : (laid : Laid B) (t : ℕ) (old new : SeatMe B) → IsFree laid old
       → (p : Phase) × (p ≢ phase.Ready) × (new ≡ (missed t p old.0, old.1))
       → IsLeft laid old.0 new
   left_missed laid t old new free h = subst (IsLeft laid old.0) (sym h.2) (record {
-    knows = record {
-      about = refl;
-      lot = refl;
-      born = begins_self old.0.born;
-      known = λ x i. i;
-      wrote = λ x i. i;
-      filled = λ x i. i;
-      seen = λ x i. i;
-      closed = λ x i. i;
-      rested = λ r. r;
-      notes = (note_of (note.Missed t) (phase_word h.0) old.0 ∷ [], refl);
-    };
+    knows = more_same old.0 (missed t h.0 old.0) (note_of (note.Missed t) (phase_word h.0) old.0 ∷ [], refl);
     free = free_noted laid (note.Missed t) (phase_word h.0) old free;
   })
 
@@ -73,18 +52,7 @@ module _ {B : Type 0} where
   pub left_live : (laid : Laid B) (n : ℕ) (old new : SeatMe B) → IsFree laid old → new.0 ≡ saw_live n old.0
       → new.1 ≡ old.1 → IsLeft laid old.0 new
   left_live laid n old new free view slots = subst (IsLeft laid old.0) (λ i. (sym view i, sym slots i)) (record {
-    knows = record {
-      about = refl;
-      lot = refl;
-      born = begins_self old.0.born;
-      known = λ x i. i;
-      wrote = λ x i. i;
-      filled = λ x i. i;
-      seen = λ x i. i;
-      closed = λ x i. i;
-      rested = λ r. r;
-      notes = (note_of note.Live n old.0 ∷ [], refl);
-    };
+    knows = more_same old.0 (saw_live n old.0) (note_of note.Live n old.0 ∷ [], refl);
     free = free_noted laid note.Live n old free;
   })
 

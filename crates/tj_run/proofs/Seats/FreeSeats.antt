@@ -16,6 +16,7 @@ use Rattle.tj_words.specs.LawParts.TreeWords.{IsCell, AreCells}
 use Rattle.tj_words.specs.SeatViews.Views.{IsIdle, left_half, noted_step, right_half, saw_rest}
 use Rattle.tj_run.specs.Workers.{IsFree, IsWorkers}
 use Rattle.tj_run.specs.Leaving.{HasRested}
+use Rattle.tj_park.proofs.NothingToCome.{comes_as, idle_same, nothing_same}
 
 -- the root alone is a cell of each table
 pub root_alone : (cells : ℕ) → 0 < cells → AreCells cells (to_task [] ∷ [])
@@ -27,56 +28,40 @@ root_alone cells some_cells = record { few = omega arith; apart = λ c d y z a b
     by zero (suc d) y z a b = absurd (some-ne-none z (sym b))
 
 module _ {B : Type 0} (laid : Laid B) where
-  -- a worker's seat that has noted a step more is a worker's
-  workers_noted : (step : Noted) (n : ℕ) (v : View B) → IsWorkers laid v → IsWorkers laid (noted_step step n v)
-  workers_noted step n v w = record {
-    of_table = w.of_table;
-    lot = w.lot;
-    refused = w.refused;
-    tokens = w.tokens;
-    cleared = w.cleared;
-    nothing = record {
-      hand = w.nothing.hand;
-      dues = w.nothing.dues;
-      pushes = w.nothing.pushes;
-      shuts = w.nothing.shuts;
-      rest = w.nothing.rest;
-    };
-    cells = w.cells;
+  -- the second view, with what makes the first a worker's but for its lot and tokens
+  abbrev pub works_as : View B → View B → View B
+  works_as v w = record (comes_as v w) { about = v.about; born = v.born; refused = v.refused; cleared = v.cleared }
+
+  -- with a lot and no token it is a worker's too
+  pub workers_same : (v w : View B) → IsWorkers laid v → least_lot ≤ w.lot → w.tokens ≡ 0
+      → IsWorkers laid (works_as v w)
+  workers_same v w h lot no_token = record {
+    of_table = h.of_table;
+    lot = lot;
+    refused = h.refused;
+    tokens = no_token;
+    cleared = h.cleared;
+    nothing = nothing_same v (works_as v w) h.nothing;
+    cells = h.cells;
   }
 
-  -- and a free one is free
+  -- a free seat that has noted a step more is free
   pub free_noted : (step : Noted) (n : ℕ) (me : SeatMe B) → IsFree laid me → IsFree laid (noted_step step n me.0, me.1)
-  free_noted step n me f =
-      record { worker = workers_noted step n me.0 f.worker; tasks = f.tasks; slots = f.slots }
+  free_noted step n me f = let w = f.worker in record {
+    worker = workers_same me.0 (noted_step step n me.0) w w.lot w.tokens;
+    tasks = f.tasks;
+    slots = f.slots;
+  }
 
   -- it may be merged
   pub free_idle : (me : SeatMe B) → IsFree laid me → IsIdle me.0
-  free_idle me f = let w = f.worker in record {
-    tasks = f.tasks;
-    tokens = w.tokens;
-    hand = w.nothing.hand;
-    dues = w.nothing.dues;
-    cleared = w.cleared;
-    pushes = w.nothing.pushes;
-    shuts = w.nothing.shuts;
-    rest = w.nothing.rest;
-  }
+  free_idle me f = let w = f.worker in idle_same me.0 me.0 w.nothing f.tasks w.tokens w.cleared
 
   -- where it has loaded LIVE as 0 it has rested
   pub free_rested : (me : SeatMe B) → IsFree laid me → HasRested me.0 (saw_rest me.0, me.1)
   free_rested me f = let w = f.worker in record {
     rested = refl;
-    idle = record {
-      tasks = f.tasks;
-      tokens = w.tokens;
-      hand = w.nothing.hand;
-      dues = w.nothing.dues;
-      cleared = w.cleared;
-      pushes = w.nothing.pushes;
-      shuts = w.nothing.shuts;
-      rest = w.nothing.rest;
-    };
+    idle = idle_same me.0 (saw_rest me.0) w.nothing f.tasks w.tokens w.cleared;
     slots = f.slots;
     lot = refl;
     about = refl;
@@ -86,21 +71,7 @@ module _ {B : Type 0} (laid : Laid B) where
   pub free_left : (me : SeatMe B) → 2 * least_lot ≤ me.0.lot → IsFree laid me
       → IsFree laid (left_half me.0, me.1)
   free_left me room f = let w = f.worker in record {
-    worker = record {
-      of_table = w.of_table;
-      lot = omega arith;
-      refused = w.refused;
-      tokens = w.tokens;
-      cleared = w.cleared;
-      nothing = record {
-        hand = w.nothing.hand;
-        dues = w.nothing.dues;
-        pushes = w.nothing.pushes;
-        shuts = w.nothing.shuts;
-        rest = w.nothing.rest;
-      };
-      cells = w.cells;
-    };
+    worker = workers_same me.0 (left_half me.0) w (omega arith) w.tokens;
     tasks = f.tasks;
     slots = f.slots;
   }

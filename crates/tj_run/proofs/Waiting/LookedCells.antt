@@ -17,7 +17,7 @@ use Rattle.tj_body.specs.declared.point.Entry.{Entry}
 use Rattle.tj_body.specs.declared.point.Entry.TheVariants as entry
 use Rattle.tj_body.specs.declared.point.Reference.{Reference}
 use Rattle.tj_body.specs.declared.point.Value.TheVariants as value
-use Rattle.tj_body.proofs.Lists.{begins_self, in_right}
+use Rattle.tj_body.proofs.Lists.{in_right}
 use Rattle.tj_cells.specs.declared.seen.Seen.{Seen}
 use Rattle.tj_cells.specs.declared.seen.Seen.TheVariants as seen
 use Rattle.tj_cells.specs.SeenValues.{SeesValue, cells_seen, saw_value}
@@ -50,6 +50,7 @@ use Rattle.tj_run.proofs.Cells.KnownCells.{task_known}
 use Rattle.tj_run.proofs.Asks.PointSteps.{pairs_length}
 use Rattle.tj_run.proofs.Seats.RunningTasks.{held_here, runs_too}
 use Rattle.tj_run.proofs.Seats.WorkersSteps.{runs_on, waits_on}
+use Rattle.tj_cells.proofs.SameViews.{more_same}
 
 -- a seat by its view and its slots
 seat_is : {B : Type 0} (m : SeatMe B) (me : SeatMe B) (w : View B) → m.0 ≡ w → m.1 ≡ me.1 → m ≡ (w, me.1)
@@ -79,18 +80,7 @@ module _ {B : Type 0} (program : Bool → B → Program B) (laid : Laid B) (r : 
 
   -- nothing has become of it
   more_loaded : KnowsMore me.0 (loaded_once me.0)
-  more_loaded = record {
-    about = refl;
-    lot = refl;
-    born = begins_self me.0.born;
-    known = λ x i. i;
-    wrote = λ x i. i;
-    filled = λ x i. i;
-    seen = λ x i. i;
-    closed = λ x i. i;
-    rested = λ e. e;
-    notes = ([], refl);
-  }
+  more_loaded = more_same me.0 (loaded_once me.0) ([], refl)
 
   waits_still : Goes program laid (next.Waits k spare) r me.0 (loaded_once me.0, me.1)
   waits_still = record {

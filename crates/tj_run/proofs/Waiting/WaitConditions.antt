@@ -9,7 +9,6 @@ use Rattle.tj_body.specs.Points.{IsIn}
 use Rattle.tj_body.specs.Programs.{Program}
 use Rattle.tj_body.specs.declared.ask.Answer.{Answer}
 use Rattle.tj_body.specs.declared.ask.Answer.TheVariants as answer
-use Rattle.tj_body.proofs.Lists.{begins_self}
 use Rattle.tj_core.specs.declared.walk.LastRead.TheVariants.{SawOthers}
 use Rattle.tj_core.specs.declared.walk.Way.{Way}
 use Rattle.tj_core.specs.declared.walk.Way.TheVariants as way
@@ -53,6 +52,29 @@ use Rattle.tj_run.proofs.Seats.OneTask.{held_one, let_go_one, noted_one}
 use Rattle.tj_run.proofs.Asks.PointSteps.{pairs_length}
 use Rattle.tj_run.proofs.Cells.ToldCells.{cell_known, task_known, told_cell, told_held, told_knows, told_task}
 use Rattle.tj_run.proofs.Seats.WorkersSteps.{back_on, left_on, read_more, runs_read, waits_on, workers_on}
+use Rattle.tj_cells.proofs.SameViews.{more_same}
+use Rattle.tj_park.proofs.NothingToCome.{nothing_same}
+use Rattle.tj_run.proofs.Seats.FreeSeats.{workers_same}
+use Rattle.std.proofs.Common.{List, Option}
+use Rattle.tj_words.specs.declared.record.Finish.{Finish}
+use Rattle.tj_body.specs.declared.point.Point.{Point}
+use Rattle.tj_body.specs.declared.point.Reference.{Reference}
+use Rattle.tj_words.specs.LawParts.Telling.{Tells}
+
+-- what a record tells of a point, one tells that has the same but for its answer and how it ends
+pub tells_same : {B : Type 0} (born : List Reference) (r : Rec B) (p : Point B) (given : Answer) (spare : Bool)
+    (finish : Option Finish)
+    → Tells born r p
+    → Tells born (record r { answer = given; spare = spare; finish = finish }) p
+tells_same born r p given spare finish t = record {
+  of = t.of;
+  body = t.body;
+  held = t.held;
+  owned_cells = t.owned_cells;
+  made = t.made;
+  prints = t.prints;
+  owed = t.owed;
+}
 
 -- the walk has ended without an alarm
 abbrev pub IsQuiet : Verdict → Type 0
@@ -215,15 +237,7 @@ module _ {B : Type 0} (program : Bool → B → Program B) (laid : Laid B) (r : 
         runs.worker.of_table,
         record {
           point = h.point;
-          tells = record {
-            of = h.tells.of;
-            body = h.tells.body;
-            held = h.tells.held;
-            owned_cells = h.tells.owned_cells;
-            made = h.tells.made;
-            prints = h.tells.prints;
-            owed = h.tells.owed;
-          };
+          tells = tells_same me.0.born r h.point (answer.RefAt k) spare r.finish h.tells;
           tells_stage = subst
               (λ f. TellsStage me.0.born f (answer.RefAt k) spare h.point)
               (sym h.unfinished) (h.inside, h.at_stage);
@@ -237,39 +251,15 @@ module _ {B : Type 0} (program : Bool → B → Program B) (laid : Laid B) (r : 
     waits = (k, held_at r.held k, refl, slice_get-get_or r.held k default inside_record, ap (λ d. d.cell.0) (sym is))
 
     since_more : KnowsMore me.0 since
-    since_more = record {
-      about = refl;
-      lot = refl;
-      born = begins_self me.0.born;
-      known = λ x i. i;
-      wrote = λ x i. i;
-      filled = λ x i. i;
-      seen = λ x i. i;
-      closed = λ x i. i;
-      rested = λ e. e;
-      notes = ([], refl);
-    }
+    since_more = more_same me.0 since ([], refl)
 
     nothing_since : HasNothingToCome since
-    nothing_since = record {
-      hand = runs.worker.nothing.hand;
-      dues = runs.worker.nothing.dues;
-      pushes = runs.worker.nothing.pushes;
-      shuts = runs.worker.nothing.shuts;
-      rest = runs.worker.nothing.rest;
-    }
+    nothing_since = nothing_same me.0 since runs.worker.nothing
 
     -- where no token was given it is a worker's seat
     workers_since : m ≡ 0 → IsWorkers laid since
-    workers_since e = record {
-      of_table = runs.worker.of_table;
-      lot = runs.worker.lot;
-      refused = runs.worker.refused;
-      tokens = (let z = runs.worker.tokens in omega arith);
-      cleared = runs.worker.cleared;
-      nothing = nothing_since;
-      cells = runs.worker.cells;
-    }
+    workers_since e = workers_same laid me.0 since runs.worker runs.worker.lot
+        (let z = runs.worker.tokens in omega arith)
 
   -- its seat took its slot last, and no other
   pub slot_last : (m : SeatMe B) → m.1 ≡ me.1 → HasSlot t m
@@ -308,34 +298,10 @@ module _ {B : Type 0} (program : Bool → B → Program B) (laid : Laid B) (r : 
       -- it has left then
       pub shelved_left : (m3 : SeatMe B) → m3 ≡ (shelved t m2.0, rest m2.1) → IsLeft laid me.0 m3
       shelved_left m3 e = subst (IsLeft laid me.0) (sym gone) (record {
-        knows = record {
-          about = refl;
-          lot = refl;
-          born = begins_self me.0.born;
-          known = λ x i. i;
-          wrote = λ x i. i;
-          filled = λ x i. i;
-          seen = λ x i. i;
-          closed = λ x i. i;
-          rested = λ z. z;
-          notes = ([], refl);
-        };
+        knows = more_same me.0 (shelved t (since alarms b.steps 1)) ([], refl);
         free = record {
-          worker = record {
-            of_table = runs.worker.of_table;
-            lot = runs.worker.lot;
-            refused = runs.worker.refused;
-            tokens = (let z = runs.worker.tokens in omega arith);
-            cleared = runs.worker.cleared;
-            nothing = record {
-              hand = runs.worker.nothing.hand;
-              dues = runs.worker.nothing.dues;
-              pushes = runs.worker.nothing.pushes;
-              shuts = runs.worker.nothing.shuts;
-              rest = runs.worker.nothing.rest;
-            };
-            cells = runs.worker.cells;
-          };
+          worker = workers_same laid me.0 (shelved t (since alarms b.steps 1)) runs.worker runs.worker.lot
+              (let z = runs.worker.tokens in omega arith);
           tasks = left_since alarms b.steps 1;
           slots = refl;
         };
