@@ -27,6 +27,8 @@ mod reports;
 #[cfg(test)]
 mod script_faults;
 #[cfg(test)]
+mod stand_rows;
+#[cfg(test)]
 mod table_asks;
 #[cfg(test)]
 mod tables;

@@ -147,7 +147,7 @@ fn asked_of_twin<'s>(body: &ScriptBody<'s>, alloc: Global, a: Answer) -> Result<
 }
 
 /// Whether a task with so many places, which has asked this last, may be answered so.
-fn is_answer(last: &Option<Ask<()>>, places: u32, a: Answer) -> bool
+pub(crate) fn is_answer(last: &Option<Ask<()>>, places: u32, a: Answer) -> bool
     ensures { result ≡ true → MatchOption last.now (Fits begin places a)
         (λ ask. Fits (awaited ask) places a) }
 {
