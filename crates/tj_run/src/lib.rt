@@ -20,6 +20,8 @@ mod pure;
 #[cfg(test)]
 mod same_seat_tests;
 #[cfg(test)]
+mod started_tests;
+#[cfg(test)]
 mod step_tests;
 mod tasks;
 #[cfg(test)]
