@@ -10,4 +10,4 @@ pub into_closed-requires-send-B : goal.into_closed-requires-send-B
 into_closed-requires-send-B c κs = search (sendable, crosses, expr_sync, stmt_sync, script_sync) depth 40
 
 pub returns-clause-alarms : goal.returns-clause-alarms
-returns-clause-alarms c = subst AreAlarmsOnCycles (sym c.into_closed.ensures) c.self.invariant.alarms
+returns-clause-alarms c = subst AreAlarmsOnCycles (sym c.into_closed.ensures.same) c.self.invariant.alarms
