@@ -1,15 +1,9 @@
 -- Cells by their indexes in a list.
-use Rattle.std.proofs.Common.{◌≡◌, inl, inr, ℕ, zero, suc, ◌<◌, Option, Some, None, List, [], ◌∷◌, length, get_or}
-use Rattle.std.proofs.Common.{refl, sym, ap, ◌∙◌, subst, arith}
-use mathlib.Core.Option.{some, some-injective, some-ne-none}
-use lib.ListN.{get_elem?}
-use Rattle.tj_base.specs.ForkOrder.{Name}
-use Rattle.tj_body.specs.Laws.{AreDistinct}
-use Rattle.tj_body.specs.Points.{IsIn}
-use Rattle.tj_body.specs.declared.point.Reference.{Reference}
+use Rattle.tj_report.proofs.Prelude.{AreDistinct, IsCell, IsIn, List, Name, None, Option, Reference, Some, [], ap}
+use Rattle.tj_report.proofs.Prelude.{arith, get_elem?, get_or, inl, inr, length, names, refl, some, some-injective}
+use Rattle.tj_report.proofs.Prelude.{subst, suc, sym, zero, ℕ, ◌<◌, ◌∙◌, ◌∷◌, ◌≡◌}
+use mathlib.Core.Option.{some-ne-none}
 use Rattle.tj_body.proofs.Lists.{to_map}
-use Rattle.tj_words.specs.AtRest.RestMeaning.{names}
-use Rattle.tj_words.specs.LawParts.TreeWords.{IsCell}
 
 -- each index below the length has an element, and each element stands at such an index
 pub there : {A : Type 0} (l : List A) (c : ℕ) → c < length l → (x : A) × (get_elem? l c ≡ some x)

@@ -1,15 +1,7 @@
 -- The names of cells by PARENT and KID, cell by cell.
-use Rattle.std.proofs.Common.{◌≡◌, ℕ, zero, suc, ◌<◌, List, [], ◌∷◌, ◌++◌, length, length-append, get_or}
-use Rattle.std.proofs.Common.{refl, sym, ap, ◌∙◌, arith}
-use Rattle.tj_base.specs.ForkOrder.{Name, child}
-use Rattle.tj_body.specs.History.{to_task}
-use Rattle.tj_body.specs.Points.{Begins}
-use Rattle.tj_body.specs.declared.point.Reference.{Reference}
-use Rattle.tj_words.specs.AtRest.ClosedCells.{IsShown, AreNamed}
-use Rattle.tj_words.specs.AtRest.RestMeaning.{names}
-use Rattle.tj_words.specs.LawParts.TreeWords.{IsCell}
-use Rattle.tj_words.specs.declared.closed.RestCell.{RestCell}
-use Rattle.tj_report.specs.Inner.CellNames.{next_name}
+use Rattle.tj_report.proofs.Prelude.{AreNamed, Begins, IsCell, IsShown, List, Name, Reference, RestCell, [], ap, arith}
+use Rattle.tj_report.proofs.Prelude.{child, get_or, length, length-append, names, next_name, refl, suc, sym, to_task}
+use Rattle.tj_report.proofs.Prelude.{zero, ℕ, ◌++◌, ◌<◌, ◌∙◌, ◌∷◌, ◌≡◌}
 use Rattle.tj_report.proofs.CellIndexes.{there, within, name_there}
 
 at_end : (ns rest : List Name) → get_or (ns ++ rest) (length ns) [] ≡ get_or rest 0 []

@@ -1,26 +1,17 @@
 -- The outcome of what closed records tell is that of the meaning, and each of its cycles has a member that has alarmed.
-use Rattle.std.proofs.Common.{ℕ, List, Result, Ok, Err, IfOk, map, sym, ◌∙◌, subst}
-use Rattle.std.proofs.lemmas.List.Sorted.{IsPermutation-sym}
-use Rattle.tj_base.specs.ForkOrder.{Name}
+use Rattle.tj_report.proofs.Prelude.{AreToldInSomeOrder, AreWordsOf, Err, IfOk, IsIn, IsPermutation-sym, Link, List}
+use Rattle.tj_report.proofs.Prelude.{Name, Ok, Program, Reference, RestCell, Result, Stopped, Waits, any_order, in_map}
+use Rattle.tj_report.proofs.Prelude.{map, meaning, subst, sym, told_name, ℕ, ◌∙◌}
 use Rattle.tj_base.proofs.CyclesOn.{cycle_list_moves}
 use Rattle.tj_body.specs.Names.{same}
-use Rattle.tj_body.specs.Points.{IsIn}
-use Rattle.tj_body.specs.Programs.{Program}
-use Rattle.tj_body.specs.Rounds.{meaning}
-use Rattle.tj_body.specs.WaitGraph as meant
-use Rattle.tj_body.specs.declared.point.Reference.{Reference}
-use Rattle.tj_body.proofs.Lists.{in_map}
-use Rattle.tj_mean.specs.Outcomes.{AreApart, IsOutcome, IsOutcomeOf, Waits, Owns, Leads}
-use Rattle.tj_mean.specs.declared.outcome.Link.{Link}
+use Rattle.tj_mean.specs.Outcomes.{AreApart, IsOutcome, IsOutcomeOf, Owns, Leads}
 use Rattle.tj_mean.specs.declared.outcome.Outcome.{Outcome}
-use Rattle.tj_mean.specs.declared.stopped.Stopped.{Stopped}
 use Rattle.tj_mean.proofs.Lists.NameOrder.{in_permuted}
-use Rattle.tj_mean.proofs.Outcomes.ToldOutcomes.{apart_in_order, told_in_order, any_order, meaning_apart}
-use Rattle.tj_mean.proofs.Outcomes.ToldOutcomes.{told_of, told_name, told_owned, told_waits}
-use Rattle.tj_words.specs.AtRest.RestMeaning.{AreWordsOf, AreCyclesOfMeaningAlarmed}
-use Rattle.tj_words.specs.declared.closed.RestCell.{RestCell}
+use Rattle.tj_mean.proofs.Outcomes.ToldOutcomes.{apart_in_order, told_in_order, meaning_apart, told_of, told_owned}
+use Rattle.tj_mean.proofs.Outcomes.ToldOutcomes.{told_waits}
+use Rattle.tj_words.specs.AtRest.RestMeaning.{AreCyclesOfMeaningAlarmed}
 use Rattle.tj_report.specs.ClosedOutcomes.{AreCyclesOfOutcomeAlarmed}
-use Rattle.tj_mean.specs.Inner.ToldOrder.{AreToldInSomeOrder}
+use Rattle.tj_body.specs.WaitGraph as meant
 
 -- what follows from what holds of an answer holds of it
 pub if_ok : {A E : Type 0} {P Q : A → Type 0} (r : Result A E) → ((x : A) → P x → Q x) → IfOk r P → IfOk r Q

@@ -1,23 +1,17 @@
 -- A task that has ended holds nothing: what a history of a meaning holds is what it owns beside its result.
-use Rattle.std.proofs.Common.{◌≡◌, ℕ, zero, suc, ◌*◌, Bool, true, false, Option, Some, None, List, []}
-use Rattle.std.proofs.Common.{drop, refl, sym, subst}
-use Rattle.tj_base.specs.ForkOrder.{Name}
-use Rattle.tj_body.specs.History.{Assignment, owned, owned_in, history}
-use Rattle.tj_body.specs.History.{after_read, after_look, after_stage, point_after}
-use Rattle.tj_body.specs.Points.{IsIn}
+use Rattle.tj_report.proofs.Prelude.{Bool, IsIn, List, Name, Point, PointStage, [], in_map, owned, suc, sym, ℕ, ◌≡◌}
+use Rattle.std.proofs.Common.{zero, ◌*◌, true, false, Option, Some, None, drop, refl, subst}
+use Rattle.tj_body.specs.History.{Assignment, owned_in, history, after_read, after_look, after_stage, point_after}
 use Rattle.tj_body.specs.Programs.{Rules, Program}
 use Rattle.tj_body.specs.Rounds.{given, tasks, last_round, meaning}
 use Rattle.tj_body.specs.Inner.AskSteps.{IsAskStep, fails, ends, makes, forks, sets, gets, joins, prints}
 use Rattle.tj_body.specs.declared.ask.Ask.{Ask}
 use Rattle.tj_body.specs.declared.point.Entry.{Entry}
-use Rattle.tj_body.specs.declared.point.Entry.TheVariants as entry
-use Rattle.tj_body.specs.declared.point.Point.{Point}
-use Rattle.tj_body.specs.declared.point.PointStage.{PointStage}
-use Rattle.tj_body.specs.declared.point.PointStage.TheVariants as stage
 use Rattle.tj_body.specs.declared.point.Task.{Task}
-use Rattle.tj_body.specs.declared.point.Value.TheVariants as value
-use Rattle.tj_body.proofs.Lists.{in_map}
 use Rattle.tj_body.proofs.Histories.AskSteps.{is_ask_step}
+use Rattle.tj_body.specs.declared.point.Entry.TheVariants as entry
+use Rattle.tj_body.specs.declared.point.PointStage.TheVariants as stage
+use Rattle.tj_body.specs.declared.point.Value.TheVariants as value
 
 -- nothing is held in a stage that is the end
 abbrev HoldsIn : PointStage → List Name → Type 0

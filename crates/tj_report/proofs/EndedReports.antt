@@ -1,62 +1,34 @@
 -- The report of tasks that have all ended, task by task in name order.
-use Rattle.std.proofs.Common.{◌≡◌, ◌⊎◌, inl, inr, ℕ, zero, suc, ◌<◌, Bool, true, false, not, ◌||◌, Option, Some, None}
-use Rattle.std.proofs.Common.{List, [], ◌∷◌, ◌++◌, map, drop, length, get_or, replicate, refl, sym}
-use Rattle.std.proofs.Common.{ap, ◌∙◌, subst, arith}
+use Rattle.tj_report.proofs.Prelude.{Answer, AreDistinct, AreRecordsOf, AreWordsOf, Finish, Held, IsBefore, IsCell}
+use Rattle.tj_report.proofs.Prelude.{IsEndBelow, IsFinishBelow, IsIn, Link, List, Name, Point, Program, Rec, Reference}
+use Rattle.tj_report.proofs.Prelude.{RestCell, Stopped, TellsHistory, [], any_order, ap, drop, ending_by, finished_by}
+use Rattle.tj_report.proofs.Prelude.{in_either, in_left, in_order, in_right, inl, inr, map, meaning, meaning_distinct}
+use Rattle.tj_report.proofs.Prelude.{name_by, name_in, name_text, names, option_map, refl, same_permuted, subst, suc}
+use Rattle.tj_report.proofs.Prelude.{sym, to_task, told_by, told_name, true, zero, ℕ, ◌++◌, ◌<◌, ◌∙◌, ◌∷◌, ◌≡◌, ◌⊎◌}
+use Rattle.std.proofs.Common.{Bool, false, ◌||◌, Option, Some, None, length, get_or, replicate, arith}
 use Rattle.std.specs.Prelude.{slice_set}
 use Rattle.std.specs.List.{AllByRecursion, flat_map, list_any}
 use Rattle.std.specs.List.Sorted.{IsStrictlySortedBy}
-use Rattle.std.specs.Option.{option_map}
-use Rattle.std.specs.Cmp.Lexicographic.{nat_list_cmp_total, slice_cmp}
-use Rattle.std.specs.Ordering.{nat_cmp}
-use Rattle.std.proofs.lemmas.List.{append-nil, get_or-set_same, get_or-set_other}
+use Rattle.std.specs.Cmp.Lexicographic.{nat_list_cmp_total}
+use Rattle.std.proofs.lemmas.List.{append-nil, get_or-set_other}
 use Rattle.std.proofs.lemmas.List.Folds.{list_any-append}
 use Rattle.std.proofs.lemmas.Grind.{flat_map-append}
 use Rattle.std.proofs.lemmas.List.Sorted.{IsPermutation-refl, IsPermutation-sym}
 use native.Mathlib.Decide.{ℕ_discrete}
 use mathlib.Core.Logic.{dite}
-use mathlib.Core.Option.{some-injective}
-use Rattle.tj_base.specs.ForkOrder.{Name}
-use Rattle.tj_base.specs.Texts.{name_text}
-use Rattle.tj_body.specs.History.{to_task}
-use Rattle.tj_body.specs.Laws.{AreDistinct}
-use Rattle.tj_body.specs.Names.{in_order}
-use Rattle.tj_body.specs.Points.{IsIn}
-use Rattle.tj_body.specs.Programs.{Program}
-use Rattle.tj_body.specs.Rounds.{meaning}
-use Rattle.tj_body.specs.declared.point.Point.{Point}
-use Rattle.tj_body.specs.declared.point.Reference.{Reference}
-use Rattle.tj_body.proofs.Lists.{in_either, in_left, in_right}
 use Rattle.tj_mean.specs.Outcomes.{Ascend, AreTold, IsCycle, Waits, is_marked, is_troubled, is_undone, stopped_of}
-use Rattle.tj_mean.specs.declared.outcome.Ending.TheVariants as ending
-use Rattle.tj_mean.specs.declared.outcome.Link.{Link}
-use Rattle.tj_mean.specs.declared.outcome.Outcome.{Outcome}
 use Rattle.tj_mean.specs.declared.outcome.TaskLine.{TaskLine}
-use Rattle.tj_mean.specs.declared.stopped.Stopped.{Stopped}
 use Rattle.tj_mean.proofs.Lists.Elements.{in_of_all, some_is}
-use Rattle.tj_mean.proofs.Lists.KeyedLists.{same_permuted}
 use Rattle.tj_mean.proofs.Lists.Maps.{map_map}
-use Rattle.tj_mean.proofs.MeaningNames.{meaning_distinct}
-use Rattle.tj_mean.proofs.Outcomes.ToldOutcomes.{any_order, told_name}
-use Rattle.tj_words.specs.AtRest.RestMeaning.{AreRecordsOf, AreWordsOf, TellsHistory, AreCyclesOfMeaningAlarmed, names}
-use Rattle.tj_words.specs.LawParts.TreeWords.{IsCell}
-use Rattle.tj_words.specs.declared.closed.RestCell.{RestCell}
-use Rattle.tj_words.specs.declared.record.Finish.{Finish}
-use Rattle.tj_words.specs.declared.record.Finish.TheVariants as finish
-use Rattle.tj_words.specs.declared.record.Rec.{Rec}
-use Rattle.tj_words.specs.declared.record.Held.{Held}
-use Rattle.tj_body.specs.declared.ask.Answer.{Answer}
-use Rattle.tj_report.specs.ClosedOutcomes.{AreCyclesOfOutcomeAlarmed}
-use Rattle.tj_report.specs.Inner.CellNamesBy.{name_by, names_by}
-use Rattle.tj_report.specs.Inner.EndedReports.{AreToldBefore, AreToldBelow, AreToldTo, IsBefore, ended_lines}
-use Rattle.tj_report.specs.Inner.EndedReports.{has_failed}
-use Rattle.tj_report.specs.Inner.ToldRecords.{IsEndBelow, IsFinishBelow, ending_by, finished_by, told_by}
-use Rattle.tj_report.specs.Inner.CellNames.{name_in}
-use Rattle.tj_report.specs.ReportTexts.{alarm_line, ending_line, lines_of, print_line, report, task_lines, verdict_line}
+use Rattle.tj_report.specs.Inner.EndedReports.{AreToldBefore, AreToldBelow, AreToldTo, ended_lines, has_failed}
+use Rattle.tj_report.specs.ReportTexts.{alarm_line, ending_line, print_line, report, task_lines, verdict_line}
 use Rattle.tj_report.specs.RestReports.{IsReportOf}
 use Rattle.tj_report.proofs.CellIndexes.{get_of_elem, within}
 use Rattle.tj_report.proofs.NameSteps.{not_before}
 use Rattle.tj_report.proofs.NamesBy.{names_are}
 use Rattle.tj_report.proofs.ToldTasks.{map_append, same_point, told_at, told_more}
+use Rattle.tj_mean.specs.declared.outcome.Ending.TheVariants as ending
+use Rattle.tj_words.specs.declared.record.Finish.TheVariants as finish
 
 abbrev line : Stopped → TaskLine
 line s = s.line

@@ -1,22 +1,11 @@
 -- The names of cells as a function of the words are those of the references.
-use Rattle.std.proofs.Common.{◌≡◌, ◌≢◌, ℕ, zero, suc, ◌<◌, ◌≤◌, List, [], ◌∷◌, ◌++◌, length, length-append}
-use Rattle.std.proofs.Common.{get_or, reverse}
-use Rattle.std.proofs.Common.{refl, sym, ap, ◌∙◌, subst, arith, append-nil}
+use Rattle.tj_report.proofs.Prelude.{AreNamed, Begins, Err, IfOk, IsBefore, IsShown, List, Name, None, Ok, Option}
+use Rattle.tj_report.proofs.Prelude.{Reference, RestCell, Result, Some, [], ap, append-nil, arith, child, get_elem?}
+use Rattle.tj_report.proofs.Prelude.{get_or, length, length-append, name_by, names, next_name, refl, reverse, some}
+use Rattle.tj_report.proofs.Prelude.{subst, sym, to_task, ℕ, ◌++◌, ◌<◌, ◌∙◌, ◌∷◌, ◌≡◌, ◌≤◌}
 use Rattle.std.proofs.lemmas.List.{reverse-append}
-use Rattle.std.proofs.Common.{Option, Some, None, Result, Ok, Err, IfOk}
 use Rattle.std.specs.Prelude.{IfSome}
-use mathlib.Core.Option.{some}
-use lib.ListN.{get_elem?}
-use Rattle.tj_base.specs.ForkOrder.{Name, child}
-use Rattle.tj_body.specs.History.{to_task}
-use Rattle.tj_body.specs.Points.{Begins}
-use Rattle.tj_body.specs.declared.point.Reference.{Reference}
-use Rattle.tj_words.specs.AtRest.ClosedCells.{AreNamed, IsShown}
-use Rattle.tj_words.specs.AtRest.RestMeaning.{names}
-use Rattle.tj_words.specs.declared.closed.RestCell.{RestCell}
-use Rattle.tj_report.specs.Inner.CellNames.{next_name}
-use Rattle.tj_report.specs.Inner.CellNamesBy.{name_by, names_by, names_from}
-use Rattle.tj_report.specs.Inner.EndedReports.{IsBefore}
+use Rattle.tj_report.specs.Inner.CellNamesBy.{names_by, names_from}
 use Rattle.tj_report.proofs.NameSteps.{before_child, before_fork}
 use Rattle.tj_report.proofs.CellIndexes.{name_there, there, within}
 use Rattle.tj_report.proofs.CellNames.{name_next, named_all}

@@ -1,5 +1,5 @@
 -- Texts that grow part by part.
-use Rattle.std.proofs.Common.{◌≡◌, ℕ, List, ◌++◌, ap, ◌∙◌, append_assoc}
+use Rattle.tj_report.proofs.Prelude.{List, ap, append_assoc, ℕ, ◌++◌, ◌∙◌, ◌≡◌}
 
 -- a part added to a text, and a further one
 pub adds : (t a b x y : List ℕ) → x ≡ t ++ a → y ≡ x ++ b → y ≡ t ++ (a ++ b)

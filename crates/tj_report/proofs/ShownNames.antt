@@ -1,6 +1,6 @@
 -- A printed name from which the last number is cut, and to which numbers are added.
-use Rattle.std.proofs.Common.{◌≡◌, ◌<◌, ℕ, suc, List, [], ◌∷◌, ◌++◌, ◌-◌, ◌+◌, length, take, drop, get_or, decimal}
-use Rattle.std.proofs.Common.{arith, refl, sym, ap, ◌∙◌, append_assoc}
+use Rattle.tj_report.proofs.Prelude.{List, [], ap, arith, drop, refl, suc, sym, ℕ, ◌++◌, ◌+◌, ◌-◌, ◌<◌, ◌∙◌, ◌∷◌, ◌≡◌}
+use Rattle.std.proofs.Common.{length, take, get_or, decimal, append_assoc}
 use Rattle.std.proofs.Math.Seq.{take-append_seam}
 use Rattle.std.proofs.lemmas.List.{take_more, take-append-drop, append-nil, length-append}
 use Rattle.tj_base.specs.Texts.{name_text, part_text, parts_text}

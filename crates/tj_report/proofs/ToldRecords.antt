@@ -1,42 +1,31 @@
 -- What a record tells, over the names of the cells, is what is told of the history that the record tells.
-use Rattle.std.proofs.Common.{◌≡◌, ℕ, zero, suc, ◌<◌, ℤ, Bool, Option, Some, None, List, [], ◌∷◌, map, drop}
-use Rattle.std.proofs.Common.{get_or, length, refl, sym, ap, ◌∙◌, arith}
+use Rattle.tj_report.proofs.Prelude.{AllByRecursion, Answer, Bool, Finish, Held, IsEndBelow, IsRecordBelow, List, Name}
+use Rattle.tj_report.proofs.Prelude.{None, Point, Rec, Reference, Some, Stopped, [], ap, drop, ending_by, in_order, map}
+use Rattle.tj_report.proofs.Prelude.{names, option_map, owned, refl, suc, sym, told_by, zero, ℕ, ◌<◌, ◌∙◌, ◌∷◌, ◌≡◌}
+use Rattle.std.proofs.Common.{ℤ, Option, get_or, length, arith}
 use Rattle.std.specs.Prelude.{slice_get}
-use Rattle.std.specs.List.{AllByRecursion}
-use Rattle.std.specs.Option.{option_map}
-use Rattle.tj_base.specs.ForkOrder.{Name}
 use Rattle.tj_base.specs.declared.cell.CellId.{CellId}
 use Rattle.tj_base.specs.declared.cause.Cause.{Cause}
-use Rattle.tj_base.specs.declared.cause.Cause.TheVariants as cause
-use Rattle.tj_base.specs.declared.value.Shown.TheVariants as shown
-use Rattle.tj_body.specs.History.{to_task, to_promise, reference, owned}
-use Rattle.tj_body.specs.Names.{in_order}
-use Rattle.tj_body.specs.declared.ask.Answer.{Answer}
-use Rattle.tj_body.specs.declared.ask.Answer.TheVariants as answer
+use Rattle.tj_body.specs.History.{to_task, to_promise, reference}
 use Rattle.tj_body.specs.declared.point.Close.{Close}
-use Rattle.tj_body.specs.declared.point.Point.{Point}
-use Rattle.tj_body.specs.declared.point.PointStage.TheVariants as stage
-use Rattle.tj_body.specs.declared.point.Reference.{Reference}
 use Rattle.tj_body.specs.declared.point.Value.{Value}
 use Rattle.tj_mean.specs.Outcomes.{shown_of, ending_of, stopped_of}
 use Rattle.tj_mean.specs.declared.outcome.Ending.{Ending}
-use Rattle.tj_mean.specs.declared.outcome.Ending.TheVariants as ending
-use Rattle.tj_mean.specs.declared.stopped.Stopped.{Stopped}
-use Rattle.tj_words.specs.AtRest.RestMeaning.{names}
 use Rattle.tj_words.specs.LawParts.Telling.{ArePairs, HasName, HeldSays, FillSays, HurtSays, FinishSays, Tells}
 use Rattle.tj_words.specs.LawParts.Telling.{TellsStage}
 use Rattle.tj_words.specs.declared.record.Fill.{Fill}
-use Rattle.tj_words.specs.declared.record.Fill.TheVariants as fill
 use Rattle.tj_words.specs.declared.record.Hurt.{Hurt}
-use Rattle.tj_words.specs.declared.record.Hurt.TheVariants as hurt
-use Rattle.tj_words.specs.declared.record.Finish.{Finish}
-use Rattle.tj_words.specs.declared.record.Finish.TheVariants as finish
-use Rattle.tj_words.specs.declared.record.Held.{Held}
-use Rattle.tj_words.specs.declared.record.Rec.{Rec}
 use Rattle.tj_report.proofs.CellIndexes.{name_there}
 use Rattle.tj_report.specs.Inner.CellNames.{IsBelow, name_in}
-use Rattle.tj_report.specs.Inner.ToldRecords.{shown_by, cause_by, finished_by, ending_by, told_by}
-use Rattle.tj_report.specs.Inner.ToldRecords.{IsFillBelow, IsHurtBelow, IsFinishBelow, IsEndBelow, IsRecordBelow}
+use Rattle.tj_report.specs.Inner.ToldRecords.{shown_by, cause_by, finished_by, IsFillBelow, IsHurtBelow, IsFinishBelow}
+use Rattle.tj_base.specs.declared.cause.Cause.TheVariants as cause
+use Rattle.tj_base.specs.declared.value.Shown.TheVariants as shown
+use Rattle.tj_body.specs.declared.ask.Answer.TheVariants as answer
+use Rattle.tj_body.specs.declared.point.PointStage.TheVariants as stage
+use Rattle.tj_mean.specs.declared.outcome.Ending.TheVariants as ending
+use Rattle.tj_words.specs.declared.record.Fill.TheVariants as fill
+use Rattle.tj_words.specs.declared.record.Hurt.TheVariants as hurt
+use Rattle.tj_words.specs.declared.record.Finish.TheVariants as finish
 
 module _ (born : List Reference) where
   abbrev many : ℕ

@@ -1,34 +1,19 @@
 -- What is told of the tasks of closed records, slot by slot: it is told of the meaning's histories, in some order.
-use Rattle.std.proofs.Common.{◌≡◌, ◌⊎◌, inl, inr, ℕ, zero, suc, ◌*◌, ◌+◌, ◌<◌, ◌≤◌, Option, Some, None}
-use Rattle.std.proofs.Common.{List, [], ◌∷◌, ◌++◌, map, length, get_or, refl, sym, ap, ◌∙◌, subst, arith}
-use mathlib.Core.Option.{some-injective}
-use Rattle.tj_body.specs.History.{history, to_task}
-use Rattle.tj_body.specs.Laws.{AreDistinct}
-use Rattle.tj_body.specs.Points.{IsIn}
-use Rattle.tj_body.specs.Programs.{Program}
-use Rattle.tj_body.specs.Rounds.{tasks, meaning}
-use Rattle.tj_body.specs.declared.point.Point.{Point}
-use Rattle.tj_body.specs.declared.point.PointStage.{PointStage}
-use Rattle.tj_body.specs.declared.point.PointStage.TheVariants as stage
-use Rattle.tj_body.specs.declared.point.Close.TheVariants as close
-use Rattle.tj_body.specs.declared.point.Reference.{Reference}
+use Rattle.tj_report.proofs.Prelude.{AreDistinct, AreRecordsOf, AreTold, AreToldInSomeOrder, AreWordsOf, IsCell, IsIn}
+use Rattle.tj_report.proofs.Prelude.{IsRecordBelow, List, None, Option, Point, PointStage, Program, Rec, Reference}
+use Rattle.tj_report.proofs.Prelude.{RestCell, Some, Stopped, TellsHistory, [], ap, arith, ending_of, get_or, history}
+use Rattle.tj_report.proofs.Prelude.{in_either, in_left, in_map, in_right, inl, inr, length, map, meaning}
+use Rattle.tj_report.proofs.Prelude.{meaning_distinct, names, refl, some-injective, some_is, stopped_of, subst, suc}
+use Rattle.tj_report.proofs.Prelude.{sym, tasks, to_task, told_by, zero, ℕ, ◌++◌, ◌+◌, ◌<◌, ◌∙◌, ◌∷◌, ◌≡◌, ◌≤◌, ◌⊎◌}
 use Rattle.tj_body.proofs.Counts.{is}
-use Rattle.tj_body.proofs.Lists.{in_left, in_right, in_either, in_map}
-use Rattle.tj_mean.specs.Outcomes.{AreTold, ending_of, stopped_of}
-use Rattle.tj_mean.specs.declared.stopped.Stopped.{Stopped}
-use Rattle.tj_mean.proofs.Lists.Elements.{some_is}
-use Rattle.tj_mean.proofs.MeaningNames.{meaning_distinct}
-use Rattle.tj_words.specs.AtRest.RestMeaning.{names, IsPhaseAt, TellsHistory, AreWordsOf, AreRecordsOf}
-use Rattle.tj_words.specs.LawParts.TreeWords.{IsCell}
-use Rattle.tj_words.specs.declared.closed.RestCell.{RestCell}
+use Rattle.tj_words.specs.AtRest.RestMeaning.{IsPhaseAt}
 use Rattle.tj_words.specs.declared.phase.Phase.{Phase}
-use Rattle.tj_words.specs.declared.record.Rec.{Rec}
-use Rattle.tj_mean.specs.Inner.ToldOrder.{AreToldInSomeOrder}
-use Rattle.tj_report.specs.Inner.ToldRecords.{IsRecordBelow, told_by}
 use Rattle.tj_report.proofs.CellIndexes.{name_of, within, cells_apart, elem_of_get, get_of_elem}
 use Rattle.tj_report.proofs.EndedHolds.{meant_holds}
 use Rattle.tj_mean.proofs.Lists.KeyedLists.{one_of_key, same_permuted, distinct_more}
 use Rattle.tj_report.proofs.ToldRecords.{record_told}
+use Rattle.tj_body.specs.declared.point.PointStage.TheVariants as stage
+use Rattle.tj_body.specs.declared.point.Close.TheVariants as close
 
 pub map_append : {A C : Type 0} (f : A → C) (xs ys : List A) → map f (xs ++ ys) ≡ map f xs ++ map f ys
 map_append f [] ys = refl

@@ -1,4 +1,4 @@
-use Rattle.std.proofs.Common.{◌∙◌, rules}
+use Rattle.tj_report.proofs.Prelude.{rules, ◌∙◌}
 use Rattle.tj_mean.proofs.Lists.NameOrder.{self, sorted_by, sorted_is_ordered}
 use Rattle.tj_report.proofs.cell_names.in_name_order.Goals as goal
 

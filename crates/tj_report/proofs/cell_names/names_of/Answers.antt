@@ -1,9 +1,5 @@
-use Rattle.std.proofs.Common.{◌≡◌, List, [], ◌∷◌, ◌++◌, length, length-append, refl, sym, ap, ◌∙◌, subst, arith}
-use Rattle.tj_base.specs.ForkOrder.{Name}
-use Rattle.tj_body.specs.Points.{Begins}
-use Rattle.tj_words.specs.AtRest.ClosedCells.{IsShown}
-use Rattle.tj_words.specs.AtRest.RestMeaning.{names}
-use Rattle.tj_report.specs.Inner.CellNames.{next_name}
+use Rattle.tj_report.proofs.Prelude.{Begins, IsShown, List, Name, [], ap, arith, length, length-append, names}
+use Rattle.tj_report.proofs.Prelude.{next_name, refl, subst, sym, ◌++◌, ◌∙◌, ◌∷◌, ◌≡◌}
 use Rattle.tj_report.proofs.CellNames.{maker_below, name_next, named_all}
 use Rattle.tj_report.proofs.cell_names.names_of.Goals as goal
 

@@ -1,5 +1,4 @@
-use Rattle.std.proofs.Common.{◌++◌, length, reverse, sym, ap, ◌∙◌, arith, append-nil}
-use Rattle.tj_report.specs.Inner.CellNamesBy.{name_by}
+use Rattle.tj_report.proofs.Prelude.{ap, append-nil, arith, name_by, reverse, sym, ◌++◌, ◌∙◌}
 use Rattle.tj_report.proofs.NamesBy.{climbs, climbed, name_made}
 use Rattle.tj_report.proofs.climbed_names.parts_of.Goals as goal
 

@@ -1,4 +1,4 @@
-use Rattle.tj_body.specs.Programs.{program_of}
+use Rattle.tj_report.proofs.Prelude.{program_of}
 use Rattle.tj_report.proofs.ClosedOutcomes.{if_ok, told_apart, told_outcome, told_alarmed}
 use Rattle.tj_report.proofs.closed_outcome.outcome_of.Goals as goal
 

@@ -1,7 +1,5 @@
-use Rattle.std.proofs.Common.{◌≡◌, ◌+◌, length, Some, Vec, Global, sym, ap, ◌∙◌, subst, arith}
-use Rattle.tj_body.specs.Programs.{program_of}
-use Rattle.tj_mean.specs.declared.stopped.Stopped.{Stopped}
-use Rattle.tj_report.specs.Inner.ToldRecords.{IsRecordBelow, told_by}
+use Rattle.tj_report.proofs.Prelude.{IsRecordBelow, Some, Stopped, ap, arith, program_of, sym, told_by, ◌+◌, ◌∙◌, ◌≡◌}
+use Rattle.std.proofs.Common.{length, Vec, Global, subst}
 use Rattle.tj_report.proofs.ToldTasks.{ToldBelow, told_none, told_at, told_on, told_next, told_all}
 use Rattle.tj_report.proofs.closed_outcome.told_tasks.Goals.{in-Some+in_ok-told_by+in_ok-push, in_default}
 use Rattle.tj_report.proofs.closed_outcome.told_tasks.Goals as goal

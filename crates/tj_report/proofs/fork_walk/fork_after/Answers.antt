@@ -1,5 +1,4 @@
-use Rattle.std.proofs.Common.{arith}
-use Rattle.tj_report.specs.Inner.CellNamesBy.{name_by}
+use Rattle.tj_report.proofs.Prelude.{arith, name_by}
 use Rattle.tj_report.proofs.ShownNames.{child_text}
 use Rattle.tj_report.proofs.fork_walk.fork_after.Goals as goal
 

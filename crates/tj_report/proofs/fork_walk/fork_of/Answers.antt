@@ -1,4 +1,4 @@
-use Rattle.tj_report.specs.Inner.CellNamesBy.{name_by}
+use Rattle.tj_report.proofs.Prelude.{name_by}
 use Rattle.tj_report.proofs.ShownNames.{child_text}
 use Rattle.tj_report.proofs.fork_walk.fork_of.Goals as goal
 

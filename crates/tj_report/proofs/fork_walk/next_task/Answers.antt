@@ -1,6 +1,4 @@
-use Rattle.std.proofs.Common.{ap, ◌∙◌, arith}
-use Rattle.tj_base.specs.Texts.{name_text}
-use Rattle.tj_report.specs.Inner.CellNamesBy.{name_by}
+use Rattle.tj_report.proofs.Prelude.{ap, arith, name_by, name_text, ◌∙◌}
 use Rattle.tj_report.proofs.NamesBy.{begins_up, child_later, fork_later, if_some, name_made}
 use Rattle.tj_report.proofs.fork_walk.next_task.Goals as goal
 

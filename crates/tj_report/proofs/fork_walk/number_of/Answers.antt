@@ -1,5 +1,4 @@
-use Rattle.std.proofs.Common.{[], ◌∷◌, ◌++◌, ap, ◌∙◌, arith}
-use Rattle.tj_report.specs.Inner.CellNamesBy.{name_by}
+use Rattle.tj_report.proofs.Prelude.{[], ap, arith, name_by, ◌++◌, ◌∙◌, ◌∷◌}
 use Rattle.tj_report.proofs.NamesBy.{name_made}
 use Rattle.tj_report.proofs.fork_walk.number_of.Goals as goal
 

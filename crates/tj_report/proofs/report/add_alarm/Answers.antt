@@ -1,7 +1,5 @@
-use Rattle.std.proofs.Common.{◌++◌}
-use Rattle.std.specs.Prelude.{codes}
+use Rattle.tj_report.proofs.Prelude.{codes, line_feed, link_text, ◌++◌}
 use Rattle.std.specs.List.{join_by}
-use Rattle.tj_report.specs.ReportTexts.{line_feed, link_text}
 use Rattle.tj_report.proofs.Parts.{adds}
 use Rattle.tj_report.proofs.report.add_alarm.Goals as goal
 

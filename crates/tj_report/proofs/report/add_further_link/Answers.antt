@@ -1,5 +1,4 @@
-use Rattle.std.specs.Prelude.{codes}
-use Rattle.tj_report.specs.ReportTexts.{link_text}
+use Rattle.tj_report.proofs.Prelude.{codes, link_text}
 use Rattle.tj_report.proofs.Parts.{adds}
 use Rattle.tj_report.proofs.report.add_further_link.Goals as goal
 

@@ -1,6 +1,4 @@
-use Rattle.std.proofs.Common.{◌++◌}
-use Rattle.std.specs.Prelude.{codes}
-use Rattle.tj_base.specs.Texts.{name_text}
+use Rattle.tj_report.proofs.Prelude.{codes, name_text, ◌++◌}
 use Rattle.tj_report.proofs.Parts.{adds}
 use Rattle.tj_report.proofs.report.add_link.Goals as goal
 

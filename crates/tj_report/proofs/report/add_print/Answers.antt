@@ -1,8 +1,7 @@
-use Rattle.std.proofs.Common.{◌≡◌, ◌++◌, subst, w64}
+use Rattle.tj_report.proofs.Prelude.{codes, line_feed, subst, ◌++◌, ◌≡◌}
+use Rattle.std.proofs.Common.{w64}
 use Rattle.std.proofs.lemmas.Int.{to_z-of_z}
-use Rattle.std.specs.Prelude.{codes}
 use Rattle.std.specs.Fmt.{signed_decimal}
-use Rattle.tj_report.specs.ReportTexts.{line_feed}
 use Rattle.tj_report.proofs.Parts.{adds}
 use Rattle.tj_report.proofs.report.add_print.Goals as goal
 

@@ -1,7 +1,5 @@
-use Rattle.std.proofs.Common.{rules, ◌≡◌, [], ◌<◌, false, length, replicate, sym, ap, ◌∙◌, arith}
-use Rattle.tj_base.specs.Texts.{name_text}
-use Rattle.tj_body.specs.History.{to_task}
-use Rattle.tj_body.specs.Programs.{program_of}
+use Rattle.tj_report.proofs.Prelude.{[], ap, arith, false, length, name_text, program_of, replicate, rules, sym}
+use Rattle.tj_report.proofs.Prelude.{to_task, ◌∙◌, ◌≡◌}
 use Rattle.tj_report.specs.Inner.EndedReports.{IsPrintedAfter, IsWalkedTo}
 use Rattle.tj_report.proofs.CellIndexes.{within}
 use Rattle.tj_report.proofs.EndedReports.{told_further, told_none}

@@ -1,8 +1,5 @@
-use Rattle.std.proofs.Common.{◌++◌, length, refl, sym, ap, ◌∙◌, subst, arith}
-use Rattle.tj_body.specs.Programs.{program_of}
-use Rattle.tj_words.specs.AtRest.RestMeaning.{names}
-use Rattle.tj_report.specs.Inner.EndedReports.{ended_lines}
-use Rattle.tj_report.specs.Inner.ToldRecords.{IsFinishBelow}
+use Rattle.tj_report.proofs.Prelude.{IsFinishBelow, ap, arith, ended_lines, length, names, program_of, refl, subst, sym}
+use Rattle.tj_report.proofs.Prelude.{◌++◌, ◌∙◌}
 use Rattle.tj_report.proofs.CellNames.{length_names}
 use Rattle.tj_report.proofs.EndedReports.{finish_below, told_on}
 use Rattle.tj_report.proofs.ToldTasks.{told_at}

@@ -1,6 +1,4 @@
-use Rattle.std.proofs.Common.{length, refl, subst}
-use Rattle.tj_body.specs.Programs.{program_of}
-use Rattle.tj_report.specs.Inner.EndedReports.{AreToldBelow}
+use Rattle.tj_report.proofs.Prelude.{AreToldBelow, length, program_of, refl, subst}
 use Rattle.tj_report.proofs.EndedReports.{told_whole}
 use Rattle.tj_report.proofs.rest_report.whole.Goals as goal
 

@@ -1,4 +1,4 @@
-use Rattle.std.proofs.Common.{rules, ◌∙◌, ◌-◌}
+use Rattle.tj_report.proofs.Prelude.{rules, ◌-◌, ◌∙◌}
 use Rattle.tj_report.proofs.ShownNames.{cut_last}
 use Rattle.tj_report.proofs.shown_names.cut_back.Goals as goal
 

@@ -1,6 +1,5 @@
-use Rattle.std.proofs.Common.{◌∙◌, ◌++◌, ap, drop}
+use Rattle.tj_report.proofs.Prelude.{ap, drop, parts_text, ◌++◌, ◌∙◌}
 use Rattle.std.proofs.lemmas.List.{take_rest}
-use Rattle.tj_base.specs.Texts.{parts_text}
 use Rattle.tj_report.proofs.ShownNames.{goes_on}
 use Rattle.tj_report.proofs.shown_names.go_to.Goals as goal
 
