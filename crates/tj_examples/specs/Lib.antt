@@ -1,0 +1,2 @@
+pub mod EachAnswer
+pub mod Handovers
