@@ -1,6 +1,7 @@
 -- Which texts are scripts, and what is wrong first with a text that is none.
-use Rattle.std.specs.Prelude.{ℕ, ◌≡◌, ◌<◌, ◌≤◌, List, length, take}
+use Rattle.std.specs.Prelude.{ℕ, ◌≡◌, ◌<◌, ◌≤◌, List, Option, Some, None, length, take}
 use Rattle.tj_lex.specs.declared.bytes.TheConstants.{MAX_TEXT}
+use Rattle.tj_lex.specs.declared.place.Place.{Place}
 use Rattle.tj_lex.specs.declared.token.Tok.{Tok}
 use Rattle.tj_lex.specs.declared.token.Token.{Token}
 use Rattle.tj_lex.specs.declared.token.LexFault.{LexFault}
@@ -36,6 +37,23 @@ abbrev pub IsMemory : NoScript → Type 0
 IsMemory (Long at) = ⊥
 IsMemory (Tokens fault) = fault ≡ lex.Oom
 IsMemory (Grammar fault) = fault ≡ parse.Oom
+
+-- where the text has the fault: want of memory has no position
+abbrev pub position_of : NoScript → Option Place
+position_of (Long at) = Some at
+position_of (Tokens (lex.Byte at)) = Some at
+position_of (Tokens (lex.Number at)) = Some at
+position_of (Tokens (lex.Long at)) = Some at
+position_of (Tokens lex.Oom) = None
+position_of (Grammar (parse.Expected at)) = Some at
+position_of (Grammar (parse.Unknown at)) = Some at
+position_of (Grammar (parse.Twice at)) = Some at
+position_of (Grammar (parse.Count at)) = Some at
+position_of (Grammar (parse.NoMain at)) = Some at
+position_of (Grammar (parse.MainParams at)) = Some at
+position_of (Grammar (parse.Deep at)) = Some at
+position_of (Grammar (parse.Many at)) = Some at
+position_of (Grammar parse.Oom) = None
 
 -- what is wrong first with a text that is no script: its first byte too many, or else the first fault of the tokens, or
 -- else that of the grammar

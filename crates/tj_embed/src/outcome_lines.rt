@@ -5,7 +5,7 @@ ghost use Rattle.std.specs.Option.{option_map};
 ghost use Rattle.tj_body.specs.Names.{same};
 ghost use Rattle.tj_mean.specs.Outcomes.{is_nil};
 
-use std::alloc::Global;
+use std::alloc::{AllocError, Global};
 use tj_base::{Name, Oom};
 use tj_mean::{LinkList, Outcome, TaskLine};
 
@@ -41,14 +41,15 @@ pub fn owing<'o>(alloc: Global, outcome: &'o Outcome) -> Result<Vec<&'o TaskLine
     ensures { IfOk result (λ lines. map (λ line. line.now) lines.items
         ≡ filter (λ line. not (is_nil line.owes)) outcome.now.lines) }
 {
-    let lines = outcome.lines.items();
-    let mut found = Vec::new(alloc);
-    for line in lines {
-        if owes(line) {
-            found.push(line)?;
-        }
-    }
-    Ok(found)
+    Ok(those_that_owe(alloc, outcome.lines.items())?)
+}
+
+/// Those of the lines whose tasks owe.
+fn those_that_owe(alloc: Global, lines: &[TaskLine]) -> Result<Vec<&TaskLine>, AllocError>
+    ensures { IfOk result (λ found. map (λ line. line.now) found.items
+        ≡ filter (λ line. not (is_nil line.owes)) lines.now) }
+{
+    lines.iter().filter(|line| owes(line)).collect(alloc)
 }
 
 /// Whether the task owes.

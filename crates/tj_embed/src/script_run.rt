@@ -17,10 +17,10 @@ use std::sync::Wait;
 use std::thread::Threads;
 use tj_base::Oom;
 use tj_eval::{ScriptBody, main_body};
-use tj_mean::{Outcome, PlanFault, marked, plan};
+use tj_mean::{Outcome, PlanFault, plan};
 use tj_ports::OpenGate;
 use tj_ready::StealPool;
-use tj_report::{outcome_of, report_text};
+use tj_report::{outcome_of, report_at_rest};
 use tj_run::{RunFault, run_all};
 use tj_syntax::Script;
 use tj_words::{Closed, RestWords};
@@ -103,8 +103,7 @@ impl<'s> ScriptRun<'s> {
     pub fn report(&self, alloc: Global) -> Result<Vec<u8>, Oom>
         ensures { IfOk result (λ text. IsReportOfRun self.now text.items) }
     {
-        let outcome = outcome_of(alloc, &self.rest)?;
-        report_text(alloc, &outcome)
+        Ok(report_at_rest(alloc, &self.rest)?.text)
     }
 
     /// Whether a task failed, owes or waits.
@@ -112,8 +111,7 @@ impl<'s> ScriptRun<'s> {
         ensures { IfOk result (λ is. (outcome : Outcome) × IsOutcomeOfRun self.now outcome
             × (is ≡ is_marked outcome)) }
     {
-        let outcome = outcome_of(alloc, &self.rest)?;
-        Ok(marked(&outcome))
+        Ok(report_at_rest(alloc, &self.rest)?.marked)
     }
 
     /// What the words of the table show of its cells, at rest: each cycle of waits has a member that

@@ -1,6 +1,6 @@
 //! From the bytes of a text to the script that it is, or to what is wrong with it first.
-ghost use Rattle.std.specs.Prelude.{◌⊎◌, List, IfOk, IfErr};
-ghost use Rattle.tj_embed.specs.ScriptTexts.{IsFirstFault, IsMemory, IsScriptOf, IsSomeScript};
+ghost use Rattle.std.specs.Prelude.{◌≡◌, ◌⊎◌, List, IfOk, IfErr};
+ghost use Rattle.tj_embed.specs.ScriptTexts.{IsFirstFault, IsMemory, IsScriptOf, IsSomeScript, position_of};
 ghost use Rattle.tj_syntax.specs.Trees.{Task};
 ghost use Rattle.tj_syntax.specs.View as view;
 
@@ -18,6 +18,44 @@ pub enum NoScript {
     Tokens(LexFault),
     /// Their tokens are no script.
     Grammar(ParseFault),
+}
+
+impl NoScript {
+    /// Where the text has its fault. Want of memory has no position.
+    pub fn position(&self) -> Option<Place>
+        ensures { result ≡ position_of self.now }
+    {
+        match self {
+            NoScript::Long(at) => Some(*at),
+            NoScript::Tokens(fault) => position_in_tokens(fault),
+            NoScript::Grammar(fault) => position_in_grammar(fault),
+        }
+    }
+}
+
+fn position_in_tokens(fault: &LexFault) -> Option<Place>
+    ensures { result ≡ position_of (NoScript.Tokens fault.now) }
+{
+    match fault {
+        LexFault::Byte(at) | LexFault::Number(at) | LexFault::Long(at) => Some(*at),
+        LexFault::Oom => None,
+    }
+}
+
+fn position_in_grammar(fault: &ParseFault) -> Option<Place>
+    ensures { result ≡ position_of (NoScript.Grammar fault.now) }
+{
+    match fault {
+        ParseFault::Expected(at)
+        | ParseFault::Unknown(at)
+        | ParseFault::Twice(at)
+        | ParseFault::Count(at)
+        | ParseFault::NoMain(at)
+        | ParseFault::MainParams(at)
+        | ParseFault::Deep(at)
+        | ParseFault::Many(at) => Some(*at),
+        ParseFault::Oom => None,
+    }
 }
 
 /// The script that a text is, which may have 1,048,576 bytes.
