@@ -3,3 +3,4 @@ pub mod ForkCalls
 pub mod ForkedChildren
 pub mod GivenPromises
 pub mod HandedPlaces
+pub mod BareForks

@@ -8,3 +8,4 @@ pub mod Waits
 pub mod Turns
 pub mod Beside
 pub mod EndsAlone
+pub mod StartRecords

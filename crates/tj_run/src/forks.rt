@@ -1,6 +1,6 @@
 //! A task forks a child: the handed places are tested first, from the left; then the child is born,
 //! gets the promises handed to it, and is released to the worker's own end of the pool.
-ghost use Rattle.std.specs.Prelude.{◌≡◌, ◌+◌, ◌<◌, ◌^◌, IfErr, IfOk, OnOk, length};
+ghost use Rattle.std.specs.Prelude.{◌≡◌, ◌+◌, ◌<◌, ◌^◌, [], IfErr, IfOk, OnOk, length};
 ghost use Rattle.tj_body.specs.Programs.{program_of};
 ghost use Rattle.tj_body.specs.declared.ask.Ask.TheVariants as ask;
 ghost use Rattle.tj_words.specs.SeatViews.SeatSteps.{IsCellOf, IsSameSeat, IsSeatOf};
@@ -11,7 +11,7 @@ ghost use Rattle.tj_run.specs.Inner.Children.{MayGiveEach, gave_each, with_child
 ghost use Rattle.tj_run.specs.Inner.Going.{Goes, Lacks};
 
 use crate::next::Next;
-use crate::pieces::{cells_of, child_record, hand_all, held_at};
+use crate::pieces::{bare_child, cells_of, child_record, hand_all, held_at};
 use crate::why::Why;
 use std::alloc::Global;
 use std::sync::Wait;
@@ -24,6 +24,36 @@ use tj_words::{Finish, Held, Laid, Rec, WSeat};
 
 /// The task forks a child with this body, which is passed and handed these places.
 pub(crate) fn fork<B: Body, P: Pool, R: Wait>(
+    rt: &R,
+    alloc: Global,
+    laid: &Laid<B>,
+    seat: &mut WSeat<B>,
+    rec: &mut Rec<B>,
+    pool: &mut P,
+    body: B,
+    pass: PlaceList,
+    handed: PlaceList,
+) -> Result<Next, Why>
+    requires table { IsSeatOf laid.now seat.old }
+    requires runs { RunsTask laid.now rec.old seat.old.me }
+    requires asked { IsAsked (table_program (program_of B.places B.awaits B.left B.asks B.then)
+        laid.now) seat.old.me.0 rec.old (ask.Fork body pass handed) }
+    requires pool { P.limit pool.old ≡ laid.now.cells }
+    ensures table { seat.new.table_id ≡ seat.old.table_id }
+    ensures limit { P.limit pool.new ≡ P.limit pool.old }
+    ensures lacks { IfErr result (λ why. Lacks why seat.old.me.0 seat.new.me.0) }
+    ensures goes { IfOk result (λ next. Goes (program_of B.places B.awaits B.left B.asks B.then)
+        laid.now next rec.new seat.old.me.0 seat.new.me) }
+    ensures same { rec.new.body ≡ rec.old.body }
+{
+    if handed.items().is_empty() {
+        return fork_bare(rt, alloc, laid, seat, rec, pool, body, pass);
+    }
+    fork_handing(rt, alloc, laid, seat, rec, pool, body, pass, handed)
+}
+
+// A fork that hands promises, if the task owns them.
+fn fork_handing<B: Body, P: Pool, R: Wait>(
     rt: &R,
     alloc: Global,
     laid: &Laid<B>,
@@ -62,6 +92,37 @@ pub(crate) fn fork<B: Body, P: Pool, R: Wait>(
     note_child(rec, c, left)
 }
 
+// A fork that hands nothing: the task owns what it owned.
+fn fork_bare<B: Body, P: Pool, R: Wait>(
+    rt: &R,
+    alloc: Global,
+    laid: &Laid<B>,
+    seat: &mut WSeat<B>,
+    rec: &mut Rec<B>,
+    pool: &mut P,
+    body: B,
+    pass: PlaceList,
+) -> Result<Next, Why>
+    requires table { IsSeatOf laid.now seat.old }
+    requires runs { RunsTask laid.now rec.old seat.old.me }
+    requires asked { IsAsked (table_program (program_of B.places B.awaits B.left B.asks B.then)
+        laid.now) seat.old.me.0 rec.old (ask.Fork body pass []) }
+    requires pool { P.limit pool.old ≡ laid.now.cells }
+    ensures table { seat.new.table_id ≡ seat.old.table_id }
+    ensures limit { P.limit pool.new ≡ P.limit pool.old }
+    ensures lacks { IfErr result (λ why. Lacks why seat.old.me.0 seat.new.me.0) }
+    ensures goes { IfOk result (λ next. Goes (program_of B.places B.awaits B.left B.asks B.then)
+        laid.now next rec.new seat.old.me.0 seat.new.me) }
+    ensures same { rec.new.body ≡ rec.old.body }
+{
+    points_in_rounds::<B>();
+    names_and_cells();
+    let c = birth(laid, seat, rec.cell, rec.made + 1)?;
+    let child = bare_child(alloc, c, body, rec.held.items(), pass.items())?;
+    release(rt, alloc, laid, seat, c, child, pool)?;
+    note_made(rec, c)
+}
+
 // Task `t` hands these promises to its child.
 fn hand_each<B: Body>(
     laid: &Laid<B>,
@@ -90,12 +151,24 @@ fn note_child<B: Body>(rec: &mut Rec<B>, c: CellId, left: CellList) -> Result<Ne
     ensures rec { OnOk result (rec.new ≡ with_child c left rec.old) }
     ensures same { rec.new.body ≡ rec.old.body }
 {
+    rec.owned = left;
+    note_made(rec, c)
+}
+
+// The record holds the child.
+fn note_made<B: Body>(rec: &mut Rec<B>, c: CellId) -> Result<Next, Why>
+    requires room { length rec.old.held + 1 < 2 ^ 31 }
+    requires few { rec.old.made + 1 < 2 ^ 31 }
+    ensures memory { IfErr result (λ why. why ≡ Why.Memory) }
+    ensures runs { IfOk result (λ next. next ≡ Next.Runs) }
+    ensures rec { OnOk result (rec.new ≡ with_child c rec.old.owned rec.old) }
+    ensures same { rec.new.body ≡ rec.old.body }
+{
     let place = rec.held.items().len() as u32;
     rec.held.push(Held {
         cell: c,
         sort: Sort::Task,
     })?;
-    rec.owned = left;
     rec.made += 1;
     rec.answer = Answer::Local(place);
     Ok(Next::Runs)

@@ -1,11 +1,12 @@
 //! What a task's record says of what the task gives, hands on and makes.
-ghost use Rattle.std.specs.Prelude.{◌≡◌, ◌↔◌, ◌<◌, true, false, length, map, IfOk, IfSome, IsTrue, IsFalse, None};
+ghost use Rattle.std.specs.Prelude.{◌≡◌, ◌↔◌, ◌<◌, ◌∷◌, [], true, false, length, map, IfOk, IfSome, IsTrue, IsFalse, None};
 ghost use Rattle.std.specs.List.{AllByRecursion, remove};
 ghost use Rattle.tj_body.specs.Asks.{IsPaid};
 ghost use Rattle.tj_body.specs.NameLaws.{has_cell, without_cell, hand_cells};
 ghost use Rattle.tj_words.specs.declared.record.Held.{Held};
 ghost use Rattle.tj_words.specs.Words.Lists.{numbers};
 ghost use Rattle.tj_run.specs.Inner.Pieces as pieces;
+ghost use Rattle.tj_run.specs.Inner.StartRecords.{own, start_record};
 
 use std::alloc::Global;
 use std::mem::replace;
@@ -146,7 +147,50 @@ pub(crate) fn child_record<B: Drop>(
     let mut owned = Vec::new(alloc);
     owned.push(c)?;
     owned.append(&mut handed)?;
-    Ok(Rec {
+    Ok(start_record(alloc, c, body, held, owned))
+}
+
+/// The record of a child at its start that is passed the cells held at these places, and to which
+/// nothing is handed.
+pub(crate) fn bare_child<B: Drop>(
+    alloc: Global,
+    c: CellId,
+    body: B,
+    held: &[Held],
+    places: &[u32],
+) -> Result<Rec<B>, Oom>
+    requires { AllByRecursion (λ k. k < length held.now) places.now }
+    ensures { IfOk result (λ r. r
+        ≡ pieces.child_record c body (map (pieces.held_at held.now) places.now) []) }
+{
+    let known = known_at_start(alloc, c, held, places)?;
+    let mut owned = Vec::with_capacity(alloc, 4)?;
+    owned.push(c)?;
+    Ok(start_record(alloc, c, body, known, owned))
+}
+
+// What a child holds at its start: itself, and what it is passed.
+fn known_at_start(alloc: Global, c: CellId, held: &[Held], places: &[u32]) -> Result<Vec<Held>, Oom>
+    requires { AllByRecursion (λ k. k < length held.now) places.now }
+    ensures { IfOk result (λ known. known.items
+        ≡ own c ∷ map (pieces.held_at held.now) places.now) }
+{
+    let mut known = Vec::with_capacity(alloc, places.len() + 4)?;
+    known.push(Held {
+        cell: c,
+        sort: Sort::Task,
+    })?;
+    for place in places {
+        known.push(held[*place as usize])?;
+    }
+    Ok(known)
+}
+
+// The record of a task at its start that holds and owns these.
+fn start_record<B>(alloc: Global, c: CellId, body: B, held: Vec<Held>, owned: Vec<CellId>) -> Rec<B>
+    ensures { result ≡ start_record c body held.items owned.items }
+{
+    Rec {
         cell: c,
         body,
         answer: Answer::Start,
@@ -157,5 +201,5 @@ pub(crate) fn child_record<B: Drop>(
         owed: Items::of(Vec::new(alloc)),
         finish: None,
         spare: false,
-    })
+    }
 }
