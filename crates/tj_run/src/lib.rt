@@ -13,6 +13,7 @@ mod meeting;
 mod next;
 #[cfg(test)]
 mod pass_tests;
+mod pauses;
 mod pieces;
 #[cfg(test)]
 mod plays;

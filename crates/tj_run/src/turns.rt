@@ -10,11 +10,11 @@ ghost use Rattle.tj_run.specs.Workers.{IsFree, table_program};
 ghost use Rattle.tj_run.specs.Leaving.{Found, FoundStop, HasStopped, Leaves};
 ghost use Rattle.tj_run.specs.Inner.Turns.{TurnsTo};
 
+use crate::pauses::Pauses;
 use crate::tasks::run;
 use crate::why::{Left, Why};
 use std::alloc::Global;
 use std::sync::Wait;
-use std::thread;
 use tj_base::CellId;
 use tj_body::Body;
 use tj_park::claim;
@@ -48,10 +48,11 @@ pub fn worker<B: Body, P: Pool, G: Gate, R: Wait>(
     let mut seat = seat;
     let mut pool = pool;
     let mut turn: u64 = 0;
+    let mut pauses = Pauses::none();
     for _i in rt.forever() {
         turn = turn.saturating_add(1);
         gate.enter(number, turn);
-        if let Some(how) = take_turn(rt, alloc, laid, &mut seat, &mut pool) {
+        if let Some(how) = take_turn(rt, alloc, laid, &mut seat, &mut pool, &mut pauses) {
             return (seat, how);
         }
     }
@@ -65,6 +66,7 @@ fn take_turn<B: Body, P: Pool, R: Wait>(
     laid: &Laid<B>,
     seat: &mut WSeat<B>,
     pool: &mut P,
+    pauses: &mut Pauses,
 ) -> Option<Left>
     requires table { IsSeatOf laid.now seat.old }
     requires free { IsFree laid.now seat.old.me }
@@ -82,8 +84,11 @@ fn take_turn<B: Body, P: Pool, R: Wait>(
         return Some(Left::Stopped(why));
     }
     match pool.take(rt) {
-        None => idle(laid, seat),
-        Some(t) => work(rt, alloc, laid, seat, pool, t),
+        None => idle(rt, laid, seat, pauses),
+        Some(t) => {
+            *pauses = Pauses::none();
+            work(rt, alloc, laid, seat, pool, t)
+        }
     }
 }
 
@@ -105,8 +110,13 @@ fn stop_word<B: Body>(laid: &Laid<B>, seat: &mut WSeat<B>) -> Option<Why>
     }
 }
 
-// Loads LIVE: the worker has nothing to do. Where others have, it lets them.
-fn idle<B: Body>(laid: &Laid<B>, seat: &mut WSeat<B>) -> Option<Left>
+// Loads LIVE: the worker has nothing to do. Where others have, it pauses.
+fn idle<B: Body, R: Wait>(
+    rt: &R,
+    laid: &Laid<B>,
+    seat: &mut WSeat<B>,
+    pauses: &mut Pauses,
+) -> Option<Left>
     requires table { IsSeatOf laid.now seat.old }
     requires free { IsFree laid.now seat.old.me }
     ensures table { seat.new.table_id ≡ seat.old.table_id }
@@ -118,7 +128,7 @@ fn idle<B: Body>(laid: &Laid<B>, seat: &mut WSeat<B>) -> Option<Left>
     if laid.live(seat) == 0 {
         return Some(Left::Rested);
     }
-    thread::yield_now();
+    pauses.pause(rt);
     None
 }
 
