@@ -24,4 +24,4 @@ watch_line-requires c = watch_tells (script_program c.args.rest.strict c.args.re
 pub returns : goal.returns
 returns c = closed_at_rest script_program Root c.args.rest c.in_ok-outcome.outcome _ _ _ c.requires.rest
     c.in_ok-outcome.ensures.outcome (c.in_ok-outcome.ensures.alarmed c.requires.rest.meant_cycles)
-    (c.status_of-status.ensures ∙ ap status_of c.marked.ensures) c.in_ok-text.ensures c.into_closed.ensures
+    (c.status_of-status.ensures ∙ ap status_of c.marked.ensures) c.in_ok-text.ensures c.into_closed.ensures.same
