@@ -5,3 +5,4 @@ pub mod Waiting
 pub mod Seats
 pub mod Runs
 pub mod ForTests
+pub mod Prelude

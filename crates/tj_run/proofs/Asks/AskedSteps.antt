@@ -1,26 +1,13 @@
 -- A task that has asked is to fail for this reason, or waits for this cell; what a seat knows of the ask stays known.
-use Rattle.std.proofs.Common.{◌≡◌, ℕ, ◌<◌, Bool, length, inl, refl, subst, arith}
+use Rattle.tj_run.proofs.Prelude.{All, Ask, Bool, HasSeen, HeldSays, Hurt, HurtSays, IsAsked, IsClosing, IsIn}
+use Rattle.tj_run.proofs.Prelude.{IsOfRounds, IsWaiting, KnowsMore, Point, PointsAsk, Program, Rec, View, after_ask}
+use Rattle.tj_run.proofs.Prelude.{after_failure, arith, hurt_cells, inl, length, reference, refl, stands_on, subst}
+use Rattle.tj_run.proofs.Prelude.{tells_on, with_wait, ℕ, ◌<◌, ◌≡◌}
 use Rattle.tj_base.specs.declared.cause.Cause.{Cause}
-use Rattle.tj_body.specs.History.{after_ask, after_failure, reference, with_wait}
-use Rattle.tj_body.specs.Points.{IsIn}
-use Rattle.tj_body.specs.Programs.{Program}
-use Rattle.tj_body.specs.RoundPoints.{IsOfRounds, PointsAsk}
-use Rattle.tj_body.specs.declared.ask.Answer.TheVariants as answer
-use Rattle.tj_body.specs.declared.ask.Ask.{Ask}
-use Rattle.tj_body.specs.declared.point.Close.TheVariants as close
-use Rattle.tj_body.specs.declared.point.Point.{Point}
-use Rattle.tj_words.specs.declared.record.Finish.TheVariants as finish
-use Rattle.tj_words.specs.declared.record.Hurt.{Hurt}
-use Rattle.tj_words.specs.declared.record.Rec.{Rec}
-use Rattle.tj_words.specs.declared.view.View.{View}
-use Rattle.tj_words.specs.SeatViews.KnownEntries.{HasSeen}
-use Rattle.tj_words.specs.SeatViews.KnowsMore.{KnowsMore}
-use Rattle.tj_words.specs.Words.Lists.{All}
-use Rattle.tj_words.specs.LawParts.NamedCells.{hurt_cells}
-use Rattle.tj_words.specs.LawParts.Telling.{HeldSays, HurtSays}
-use Rattle.tj_words.proofs.Meaning.MeaningGrows.{stands_on, tells_on}
-use Rattle.tj_run.specs.Inner.Carried.{IsAsked, IsClosing, IsWaiting}
 use Rattle.tj_run.proofs.Asks.PointSteps.{after_rounds, before, owned_after, pairs_length, stands_next, still_open}
+use Rattle.tj_body.specs.declared.ask.Answer.TheVariants as answer
+use Rattle.tj_body.specs.declared.point.Close.TheVariants as close
+use Rattle.tj_words.specs.declared.record.Finish.TheVariants as finish
 
 -- a seat that knows more knows of the ask too
 pub asked_on : {B : Type 0} (program : Program B) (v w : View B) → KnowsMore v w → (r : Rec B) (x : Ask B)

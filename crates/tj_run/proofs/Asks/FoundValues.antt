@@ -1,28 +1,13 @@
 -- What a value found makes of the record of a task that waits for its cell, and of the point that the record tells.
-use Rattle.std.proofs.Common.{inl, ℕ, ◌<◌, Bool, List, [], ◌∷◌, ◌++◌, length, refl, sym, ap, subst}
-use Rattle.tj_base.specs.ForkOrder.{Name}
-use Rattle.tj_base.specs.declared.cell.Sort.TheVariants as sort
-use Rattle.tj_body.specs.History.{after_read, owned_in, reference, to_task, with_answer, with_reference}
-use Rattle.tj_body.specs.Points.{Begins}
-use Rattle.tj_body.specs.Programs.{Program}
-use Rattle.tj_body.specs.RoundPoints.{Becomes, IsOfRounds, PointsRead}
-use Rattle.tj_body.specs.declared.ask.Answer.{Answer}
-use Rattle.tj_body.specs.declared.ask.Answer.TheVariants as answer
-use Rattle.tj_body.specs.declared.point.Entry.{Entry}
-use Rattle.tj_body.specs.declared.point.Point.{Point}
-use Rattle.tj_body.specs.declared.point.PointStage.TheVariants as stage
-use Rattle.tj_body.specs.declared.point.Reference.{Reference}
-use Rattle.tj_words.specs.declared.record.Held.{Held}
-use Rattle.tj_words.specs.declared.record.Rec.{Rec}
-use Rattle.tj_words.specs.declared.view.View.{View}
-use Rattle.tj_words.specs.SeatViews.KnownEntries.{HasSeen}
-use Rattle.tj_words.specs.LawParts.Telling.{ArePairs, HasName, HeldSays, Tells}
-use Rattle.tj_words.specs.LawParts.TreeWords.{IsCell}
-use Rattle.tj_words.proofs.Meaning.MeaningGrows.{stands_on, tells_on}
-use Rattle.tj_run.specs.Inner.Answers.{with_reference as record_with}
-use Rattle.tj_run.specs.Inner.Carried.{IsRunning, IsWaiting, Stands}
-use Rattle.tj_run.specs.Inner.Pieces.{held_at}
+use Rattle.tj_run.proofs.Prelude.{Answer, ArePairs, Becomes, Begins, Bool, Entry, HasName, HasSeen, Held, HeldSays}
+use Rattle.tj_run.proofs.Prelude.{IsCell, IsOfRounds, IsRunning, IsWaiting, List, Name, Point, PointsRead, Program, Rec}
+use Rattle.tj_run.proofs.Prelude.{Reference, Stands, Tells, View, [], ap, held_at, inl, length, owned_in, record_with}
+use Rattle.tj_run.proofs.Prelude.{reference, refl, stands_on, subst, sym, tells_on, to_task, ℕ, ◌++◌, ◌<◌, ◌∷◌}
+use Rattle.tj_body.specs.History.{after_read, with_answer, with_reference}
 use Rattle.tj_run.proofs.Asks.PointSteps.{pairs_at, pairs_length, stands_next}
+use Rattle.tj_base.specs.declared.cell.Sort.TheVariants as sort
+use Rattle.tj_body.specs.declared.ask.Answer.TheVariants as answer
+use Rattle.tj_body.specs.declared.point.PointStage.TheVariants as stage
 
 -- pairs stay when one more pair is added
 pub pairs_snoc : {A C : Type 0} (F : A → C → Type 0) (xs : List A) (ys : List C) (a : A) (c : C) → ArePairs F xs ys

@@ -1,33 +1,10 @@
 -- A running task makes a promise, which it owns and holds from then on.
-use Rattle.std.proofs.Common.{◌≡◌, ◌⊎◌, ℕ, ◌+◌, Bool, List, [], ◌∷◌, ◌++◌, length, refl, sym, ap, ◌∙◌, subst, inl}
-use Rattle.std.proofs.Common.{inr}
-use Rattle.std.proofs.Common.{⊎_elim, arith}
-use Rattle.tj_base.specs.ForkOrder.{Name}
-use Rattle.tj_base.specs.declared.cell.CellId.{CellId}
-use Rattle.tj_base.specs.declared.cell.Sort.TheVariants as sort
+use Rattle.tj_run.proofs.Prelude.{Bool, CellId, Goes, HasCell, HasName, Held, HeldSays, IsAsked, IsIn, IsRunning}
+use Rattle.tj_run.proofs.Prelude.{KnowsMore, Laid, List, Name, Point, PointsAsk, Program, Rec, RunsTask, SeatMe}
+use Rattle.tj_run.proofs.Prelude.{ThingsInRounds, View, [], ap, arith, in_either, in_left, in_right, inl, inr, length}
+use Rattle.tj_run.proofs.Prelude.{noted, refl, subst, sym, table_program, ℕ, ⊎_elim, ◌++◌, ◌+◌, ◌∙◌, ◌∷◌, ◌≡◌, ◌⊎◌}
 use Rattle.tj_body.specs.History.{after_new, next_name, to_promise}
-use Rattle.tj_body.specs.Points.{IsIn}
-use Rattle.tj_body.specs.Programs.{Program}
-use Rattle.tj_body.specs.RoundPoints.{PointsAsk, ThingsInRounds}
-use Rattle.tj_body.specs.declared.ask.Answer.TheVariants as answer
-use Rattle.tj_body.specs.declared.ask.Ask.TheVariants as ask
-use Rattle.tj_body.specs.declared.point.Point.{Point}
-use Rattle.tj_body.specs.declared.point.PointStage.TheVariants as stage
-use Rattle.tj_body.proofs.Lists.{in_either, in_left, in_right}
-use Rattle.tj_words.specs.declared.record.Held.{Held}
-use Rattle.tj_words.specs.declared.record.Rec.{Rec}
-use Rattle.tj_words.specs.declared.table.Laid.{Laid}
-use Rattle.tj_words.specs.declared.view.View.{View}
-use Rattle.tj_words.specs.SeatViews.KnowsMore.{KnowsMore}
-use Rattle.tj_words.specs.LawParts.Meaning.{HasCell}
-use Rattle.tj_words.specs.SeatViews.SeatSteps.{SeatMe}
-use Rattle.tj_words.specs.SeatViews.TaskLists.{noted}
-use Rattle.tj_words.specs.LawParts.Telling.{HasName, HeldSays}
 use Rattle.tj_cells.specs.MadeCells.{IsMade, MayMake, makes_promise}
-use Rattle.tj_run.specs.Workers.{table_program}
-use Rattle.tj_run.specs.Inner.Carried.{IsAsked, IsRunning, RunsTask}
-use Rattle.tj_run.specs.Inner.Going.{Goes}
-use Rattle.tj_run.specs.declared.next.Next.TheVariants as next
 use Rattle.tj_run.proofs.Asks.FoundValues.{pairs_snoc}
 use Rattle.tj_run.proofs.Cells.KnownCells.{cells_known, ending_known, held_known, known_more, owed_known, owned_known}
 use Rattle.tj_run.proofs.Cells.KnownCells.{task_known}
@@ -36,6 +13,11 @@ use Rattle.tj_run.proofs.Asks.NewThings.{stands_then, tells_then}
 use Rattle.tj_run.proofs.Seats.OneTask.{noted_one}
 use Rattle.tj_run.proofs.Cells.PieceLists.{numbers_append}
 use Rattle.tj_run.proofs.Asks.PointSteps.{after_rounds, before, pairs_length, stands_next}
+use Rattle.tj_base.specs.declared.cell.Sort.TheVariants as sort
+use Rattle.tj_body.specs.declared.ask.Answer.TheVariants as answer
+use Rattle.tj_body.specs.declared.ask.Ask.TheVariants as ask
+use Rattle.tj_body.specs.declared.point.PointStage.TheVariants as stage
+use Rattle.tj_run.specs.declared.next.Next.TheVariants as next
 
 -- the record holds and owns one promise more, whose place is its answer, and has made one thing more
 abbrev pub with_promise : {B : Type 0} → CellId → Rec B → Rec B

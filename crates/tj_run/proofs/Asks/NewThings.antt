@@ -1,46 +1,24 @@
 -- What a running task makes next: the seat may draw a cell for it, which is a new one, of the name that the point
 -- makes.
-use Rattle.std.proofs.Common.{◌≡◌, ◌≢◌, ℕ, suc, ◌+◌, Bool, List, [], ◌∷◌, ◌++◌, Some, None, Result}
-use Rattle.std.proofs.Common.{Ok, Err, IfErr}
-use Rattle.std.proofs.Common.{refl, sym, ap, ◌∙◌, subst, inl, inr, arith}
+use Rattle.tj_run.proofs.Prelude.{Answer, AreApart, ArePairs, Ask, Bool, CellId, Err, HasName, HasSeen, Held, HeldSays}
+use Rattle.tj_run.proofs.Prelude.{IfErr, IsAsked, IsCell, IsIn, IsMade, IsTailOf, IsWorkers, KnowsMore, Lacks, Laid}
+use Rattle.tj_run.proofs.Prelude.{List, MayMake, Name, None, Ok, Point, Program, Rec, Reference, Result, RunsTask}
+use Rattle.tj_run.proofs.Prelude.{SeatMe, Some, Sort, Stands, Tells, View, Why, [], about_table, ap, arith, cell_on}
+use Rattle.tj_run.proofs.Prelude.{held_in, inl, inr, inside, next_name, owned_in, pairs_map, refl, stands_on, subst}
+use Rattle.tj_run.proofs.Prelude.{suc, sym, table_program, tells_on, to_task, ℕ, ◌++◌, ◌+◌, ◌∙◌, ◌∷◌, ◌≡◌, ◌≢◌}
 use Rattle.std.specs.Result.{IsErrAnd}
-use Rattle.tj_base.specs.ForkOrder.{Name, child}
-use Rattle.tj_base.specs.declared.cell.CellId.{CellId}
-use Rattle.tj_base.specs.declared.cell.Sort.{Sort}
-use Rattle.tj_body.specs.History.{next_name, owned, owned_in, to_task}
-use Rattle.tj_body.specs.Points.{IsIn}
-use Rattle.tj_body.specs.Programs.{Program}
+use Rattle.tj_base.specs.ForkOrder.{child}
+use Rattle.tj_body.specs.History.{owned}
 use Rattle.tj_body.specs.RoundPoints.{InRounds}
-use Rattle.tj_body.specs.declared.ask.Answer.{Answer}
-use Rattle.tj_body.specs.declared.ask.Ask.{Ask}
-use Rattle.tj_body.specs.declared.point.Point.{Point}
-use Rattle.tj_body.specs.declared.point.PointStage.TheVariants as stage
-use Rattle.tj_body.specs.declared.point.Reference.{Reference}
-use Rattle.tj_words.specs.declared.record.Held.{Held}
-use Rattle.tj_words.specs.declared.record.Rec.{Rec}
-use Rattle.tj_words.specs.declared.table.Laid.{Laid}
-use Rattle.tj_words.specs.declared.view.View.{View}
 use Rattle.tj_words.specs.Calls.DrawViews.{drawn_next}
-use Rattle.tj_words.specs.LawParts.Holding.{held_in, made_by}
-use Rattle.tj_words.specs.SeatViews.KnownEntries.{HasSeen}
-use Rattle.tj_words.specs.SeatViews.KnowsMore.{IsTailOf, KnowsMore}
-use Rattle.tj_words.specs.Words.Lists.{AreApart}
-use Rattle.tj_words.specs.SeatViews.SeatSteps.{SeatMe}
-use Rattle.tj_words.specs.LawParts.Telling.{ArePairs, HasName, HeldSays, Tells}
-use Rattle.tj_words.specs.LawParts.TreeWords.{IsCell}
-use Rattle.tj_words.proofs.Meaning.MeaningGrows.{cell_on, pairs_map, stands_on, tells_on}
-use Rattle.tj_words.proofs.Stores.SeatLists.{inside}
-use Rattle.tj_cells.specs.MadeCells.{IsMade, MayMake}
+use Rattle.tj_words.specs.LawParts.Holding.{made_by}
 use Rattle.tj_cells.proofs.CallsKnowMore.{made_counts, made_hand, made_more, made_wakes}
-use Rattle.tj_run.specs.Workers.{IsWorkers, about_table, table_program}
-use Rattle.tj_run.specs.Inner.Carried.{IsAsked, RunsTask, Stands}
-use Rattle.tj_run.specs.Inner.Going.{Lacks}
-use Rattle.tj_run.specs.declared.why.Why.{Why}
-use Rattle.tj_run.specs.declared.why.Why.TheVariants as why
 use Rattle.tj_run.proofs.Cells.NamedLists.{HaveCells, cell_reference, pairs_there}
 use Rattle.tj_run.proofs.Seats.OneTask.{held_one}
 use Rattle.tj_run.proofs.Asks.PointSteps.{before, owned_after}
 use Rattle.tj_run.proofs.Seats.WorkersSteps.{workers_on}
+use Rattle.tj_body.specs.declared.point.PointStage.TheVariants as stage
+use Rattle.tj_run.specs.declared.why.Why.TheVariants as why
 
 -- a number more, which is another one
 pub apart_more : (l : List ℕ) (c : ℕ) → AreApart l → ((x : ℕ) → IsIn x l → x ≢ c) → AreApart (l ++ c ∷ [])

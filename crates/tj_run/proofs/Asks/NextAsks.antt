@@ -1,16 +1,10 @@
 -- The next ask of a running task: its body may be given the record's answer, there is room for a place more, and each
 -- place of the ask is held.
-use Rattle.std.proofs.Common.{◌≡◌, ◌⊎◌, inl, inr, ⊎_elim, ℕ, ◌+◌, ◌^◌, ◌<◌, ◌≤◌, length, sym, ap, subst, ◌∙◌, arith}
+use Rattle.tj_run.proofs.Prelude.{Ask, AsksArePlaced, HeldSays, IsAsked, IsRunning, Point, PointsAreGood, Rec, View, ap}
+use Rattle.tj_run.proofs.Prelude.{arith, inl, inr, length, subst, sym, ℕ, ⊎_elim, ◌+◌, ◌<◌, ◌^◌, ◌∙◌, ◌≡◌, ◌≤◌, ◌⊎◌}
 use Rattle.tj_body.specs.Asks.{Ends, Fits, IsPlaced}
 use Rattle.tj_body.specs.Points.{IsGoodAt, MayAnswer, most_places}
 use Rattle.tj_body.specs.Programs.{AreLawful, Program}
-use Rattle.tj_body.specs.RoundPoints.{AsksArePlaced, PointsAreGood}
-use Rattle.tj_body.specs.declared.ask.Ask.{Ask}
-use Rattle.tj_body.specs.declared.point.Point.{Point}
-use Rattle.tj_words.specs.declared.record.Rec.{Rec}
-use Rattle.tj_words.specs.declared.view.View.{View}
-use Rattle.tj_words.specs.LawParts.Telling.{HeldSays}
-use Rattle.tj_run.specs.Inner.Carried.{IsAsked, IsRunning}
 use Rattle.tj_run.proofs.Asks.PointSteps.{pairs_length}
 
 -- so many places leave room for one more

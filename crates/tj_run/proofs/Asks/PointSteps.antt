@@ -1,42 +1,20 @@
 -- What an ask makes of the record of a running task, and of the point that the record tells.
-use Rattle.std.proofs.Common.{◌≡◌, ◌⊎◌, inl, ⊎_elim, ℕ, ℤ, zero, suc, ◌<◌, List, [], ◌∷◌, ◌++◌, length, get_or, Some}
-use Rattle.std.proofs.Common.{refl, sym, ap, subst, ◌∙◌, arith}
-use Rattle.tj_base.specs.ForkOrder.{Name}
-use Rattle.tj_base.specs.declared.cause.Trouble.{Trouble}
+use Rattle.tj_run.proofs.Prelude.{All, Answer, ArePairs, Ask, Entry, FillSays, HasCell, HasName, HasSeen, Held}
+use Rattle.tj_run.proofs.Prelude.{HeldSays, HurtSays, IsAsked, IsCell, IsClosing, IsIn, IsOfRounds, IsOpen, IsPaid}
+use Rattle.tj_run.proofs.Prelude.{IsRunning, List, Name, Pay, Point, PointsAsk, Program, Rec, Reference, Some, Sort}
+use Rattle.tj_run.proofs.Prelude.{Stands, Task, Trouble, View, [], after_ask, ap, arith, fill_at, fill_of, finish_cells}
+use Rattle.tj_run.proofs.Prelude.{get_or, held_at, hurt_cells, hurt_of, inl, length, owned_in, refl, subst, suc, sym}
+use Rattle.tj_run.proofs.Prelude.{to_promise, to_task, value_at, zero, ℕ, ℤ, ⊎_elim, ◌++◌, ◌<◌, ◌∙◌, ◌∷◌, ◌≡◌, ◌⊎◌}
+use Rattle.tj_body.specs.History.{after_emit, cause_of, reference_at}
 use Rattle.tj_base.specs.declared.cause.Trouble.TheVariants as trouble
-use Rattle.tj_base.specs.declared.cell.Sort.{Sort}
 use Rattle.tj_base.specs.declared.cell.Sort.TheVariants as sort
-use Rattle.tj_base.specs.declared.value.Pay.{Pay}
 use Rattle.tj_base.specs.declared.value.Pay.TheVariants as pay
-use Rattle.tj_body.specs.Asks.{IsPaid}
-use Rattle.tj_body.specs.History.{after_ask, after_emit, cause_of, owned_in, reference_at, to_promise, to_task}
-use Rattle.tj_body.specs.History.{value_at}
-use Rattle.tj_body.specs.Points.{IsIn}
-use Rattle.tj_body.specs.Programs.{Program}
-use Rattle.tj_body.specs.RoundPoints.{IsOfRounds, PointsAsk}
-use Rattle.tj_body.specs.declared.ask.Answer.{Answer}
 use Rattle.tj_body.specs.declared.ask.Answer.TheVariants as answer
-use Rattle.tj_body.specs.declared.ask.Ask.{Ask}
 use Rattle.tj_body.specs.declared.ask.Ask.TheVariants as ask
 use Rattle.tj_body.specs.declared.point.Close.TheVariants as close
-use Rattle.tj_body.specs.declared.point.Entry.{Entry}
-use Rattle.tj_body.specs.declared.point.Point.{Point}
 use Rattle.tj_body.specs.declared.point.PointStage.TheVariants as stage
-use Rattle.tj_body.specs.declared.point.Reference.{Reference}
-use Rattle.tj_body.specs.declared.point.Task.{Task}
 use Rattle.tj_body.specs.declared.point.Value.TheVariants as value
 use Rattle.tj_words.specs.declared.record.Finish.TheVariants as finish
-use Rattle.tj_words.specs.declared.record.Held.{Held}
-use Rattle.tj_words.specs.declared.record.Rec.{Rec}
-use Rattle.tj_words.specs.declared.view.View.{View}
-use Rattle.tj_words.specs.SeatViews.KnownEntries.{HasSeen}
-use Rattle.tj_words.specs.Words.Lists.{All}
-use Rattle.tj_words.specs.LawParts.Meaning.{HasCell}
-use Rattle.tj_words.specs.LawParts.NamedCells.{finish_cells, hurt_cells}
-use Rattle.tj_words.specs.LawParts.Telling.{ArePairs, FillSays, HasName, HeldSays, HurtSays}
-use Rattle.tj_words.specs.LawParts.TreeWords.{IsCell}
-use Rattle.tj_run.specs.Inner.Carried.{IsAsked, IsClosing, IsOpen, IsRunning, Stands}
-use Rattle.tj_run.specs.Inner.Pieces.{fill_at, fill_of, held_at, hurt_of}
 
 -- pairs have the same number, and each place has a pair
 pub pairs_at : {A C : Type 0} (F : A → C → Type 0) (xs : List A) (ys : List C) (a : A) (c : C) → ArePairs F xs ys

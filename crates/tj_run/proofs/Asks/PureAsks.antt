@@ -1,26 +1,13 @@
 -- How a task goes on after an ask that needs nothing of the table.
-use Rattle.std.proofs.Common.{◌≡◌, ℤ, Bool, List, [], ◌∷◌, ◌++◌, refl, sym, subst}
-use Rattle.tj_base.specs.declared.cause.Trouble.{Trouble}
-use Rattle.tj_base.specs.declared.value.Pay.{Pay}
-use Rattle.tj_body.specs.Programs.{Program}
-use Rattle.tj_body.specs.RoundPoints.{PointsAsk}
-use Rattle.tj_body.specs.declared.ask.Answer.TheVariants as answer
-use Rattle.tj_body.specs.declared.ask.Ask.TheVariants as ask
-use Rattle.tj_words.specs.declared.record.Fill.{Fill}
-use Rattle.tj_words.specs.declared.record.Finish.{Finish}
-use Rattle.tj_words.specs.declared.record.Finish.TheVariants as finish
-use Rattle.tj_words.specs.declared.record.Hurt.{Hurt}
-use Rattle.tj_words.specs.declared.record.Rec.{Rec}
-use Rattle.tj_words.specs.declared.table.Laid.{Laid}
-use Rattle.tj_words.specs.SeatViews.SeatSteps.{SeatMe}
-use Rattle.tj_words.proofs.SeatLoads.KnowsMoreOn.{more_itself}
-use Rattle.tj_run.specs.declared.next.Next.TheVariants as next
-use Rattle.tj_run.specs.Workers.{table_program}
-use Rattle.tj_run.specs.Inner.Carried.{IsAsked, IsClosing, RunsTask}
-use Rattle.tj_run.specs.Inner.Going.{Goes}
-use Rattle.tj_run.specs.Inner.Pieces.{fill_at, hurt_of}
+use Rattle.tj_run.proofs.Prelude.{Bool, Fill, Finish, Goes, Hurt, IsAsked, IsClosing, Laid, List, Pay, PointsAsk}
+use Rattle.tj_run.proofs.Prelude.{Program, Rec, RunsTask, SeatMe, Trouble, [], fill_at, hurt_of, more_itself, refl}
+use Rattle.tj_run.proofs.Prelude.{subst, sym, table_program, ℤ, ◌++◌, ◌∷◌, ◌≡◌}
 use Rattle.tj_run.proofs.Asks.PointSteps.{emitted, ended, failed}
 use Rattle.tj_run.proofs.Seats.RunningTasks.{gives_known, runs_too}
+use Rattle.tj_body.specs.declared.ask.Answer.TheVariants as answer
+use Rattle.tj_body.specs.declared.ask.Ask.TheVariants as ask
+use Rattle.tj_words.specs.declared.record.Finish.TheVariants as finish
+use Rattle.tj_run.specs.declared.next.Next.TheVariants as next
 
 module _ {B : Type 0} (program : Bool → B → Program B) (laid : Laid B) (r : Rec B) (me : SeatMe B)
     (runs : RunsTask laid r me) where

@@ -1,69 +1,23 @@
 -- A running task sets a promise that it owns, or fails since it may not.
-use Rattle.std.proofs.Common.{◌≡◌, ◌≢◌, ◌⊎◌, ◌↔◌, ℕ, ◌+◌, ◌<◌, Bool, true, false, cond, nat_eq, List, []}
-use Rattle.std.proofs.Common.{◌∷◌, ◌++◌, length}
-use Rattle.std.proofs.Common.{map, Some, None, refl, sym, ap, ◌∙◌, subst, inl, inr, ⊎_elim, arith}
-use Rattle.tj_base.specs.ForkOrder.{Name}
-use Rattle.tj_base.specs.declared.cause.Cause.TheVariants as cause
-use Rattle.tj_base.specs.declared.cell.CellId.{CellId}
-use Rattle.tj_base.specs.declared.cell.Sort.{Sort}
-use Rattle.tj_base.specs.declared.cell.Sort.TheVariants as sort
-use Rattle.tj_base.specs.declared.value.Pay.{Pay}
+use Rattle.tj_run.proofs.Prelude.{AreApart, ArePairs, Bool, CellId, Custody, Entry, Fill, FillSays, Goes, HasCell}
+use Rattle.tj_run.proofs.Prelude.{HasName, HasSeen, HasWoken, Held, HeldSays, IsAsked, IsCell, IsClosing, IsIn}
+use Rattle.tj_run.proofs.Prelude.{IsOfRounds, IsRunning, IsTailOf, KnowsMore, Laid, List, MayAct, MayFill, MayWake}
+use Rattle.tj_run.proofs.Prelude.{Name, NamesTellCells, None, Pay, Point, PointsAsk, Program, Rec, Reference, RunsTask}
+use Rattle.tj_run.proofs.Prelude.{SeatMe, Some, Sort, Value, View, WritesBecome, [], about_table, ap, arith, became}
+use Rattle.tj_run.proofs.Prelude.{begins_self, cond, false, fill_at, fill_cells, gave_up, has_cell, held_at, held_in}
+use Rattle.tj_run.proofs.Prelude.{in_either, in_right, inl, inr, inside, map, may_wake_closed, more_itself, none_some}
+use Rattle.tj_run.proofs.Prelude.{noted, numbers, one_some, refl, subst, sym, table_program, to_map, true, without}
+use Rattle.tj_run.proofs.Prelude.{without_cell, without_due, without_first, ℕ, ◌++◌, ◌+◌, ◌<◌, ◌∙◌, ◌∷◌, ◌≡◌, ◌≢◌, ◌⊎◌}
+use Rattle.std.proofs.Common.{◌↔◌, nat_eq, length, ⊎_elim}
 use Rattle.tj_body.specs.History.{after_ask, after_failure, after_set, after_write, reference, to_task, value_at}
-use Rattle.tj_body.specs.NameLaws.{NamesTellCells, has_cell, without_cell}
 use Rattle.tj_body.specs.Names.{has, without as without_name}
-use Rattle.tj_body.specs.Points.{IsIn}
-use Rattle.tj_body.specs.Programs.{Program}
-use Rattle.tj_body.specs.RoundPoints.{IsOfRounds, PointsAsk, WritesBecome}
-use Rattle.tj_body.specs.declared.ask.Answer.TheVariants as answer
-use Rattle.tj_body.specs.declared.ask.Ask.TheVariants as ask
-use Rattle.tj_body.specs.declared.point.Entry.{Entry}
-use Rattle.tj_body.specs.declared.point.Entry.TheVariants as entry
-use Rattle.tj_body.specs.declared.point.Point.{Point}
-use Rattle.tj_body.specs.declared.point.Reference.{Reference}
-use Rattle.tj_body.specs.declared.point.Value.{Value}
-use Rattle.tj_body.proofs.Lists.{begins_self, in_either, in_right, to_map}
-use Rattle.tj_words.specs.declared.offsets.Once.TheVariants as once
-use Rattle.tj_words.specs.declared.record.Fill.{Fill}
-use Rattle.tj_words.specs.declared.record.Fill.TheVariants as fill
-use Rattle.tj_words.specs.declared.record.Finish.TheVariants as finish
-use Rattle.tj_words.specs.declared.record.Held.{Held}
-use Rattle.tj_words.specs.declared.record.Hurt.TheVariants as hurt
-use Rattle.tj_words.specs.declared.record.Rec.{Rec}
-use Rattle.tj_words.specs.declared.table.Laid.{Laid}
-use Rattle.tj_words.specs.declared.view.Custody.{Custody}
-use Rattle.tj_words.specs.declared.view.Does.TheVariants as does
-use Rattle.tj_words.specs.declared.view.View.{View}
-use Rattle.tj_words.specs.Calls.DrawViews.{without_due}
-use Rattle.tj_words.specs.LawParts.Holding.{held_in}
-use Rattle.tj_words.specs.SeatViews.KnownEntries.{HasSeen}
-use Rattle.tj_words.specs.SeatViews.KnowsMore.{IsTailOf, KnowsMore}
-use Rattle.tj_words.specs.Words.Lists.{AreApart, numbers, without}
-use Rattle.tj_words.specs.LawParts.Meaning.{HasCell}
-use Rattle.tj_words.specs.LawParts.NamedCells.{fill_cells}
-use Rattle.tj_words.specs.Calls.OwnerViews.{gave_up}
-use Rattle.tj_words.specs.SeatViews.SeatSteps.{SeatMe}
-use Rattle.tj_words.specs.Steps.StepEvents.{MayAct}
-use Rattle.tj_words.specs.SeatViews.TaskLists.{noted}
-use Rattle.tj_words.specs.LawParts.Telling.{ArePairs, FillSays, HasName, HeldSays}
-use Rattle.tj_words.specs.LawParts.TreeWords.{IsCell}
-use Rattle.tj_words.proofs.Holders.HeldTasks.{one_some, none_some}
-use Rattle.tj_words.proofs.SeatLoads.KnowsMoreOn.{more_itself}
-use Rattle.tj_words.proofs.Stores.SeatLists.{inside}
-use Rattle.tj_cells.specs.FilledCells.{IsFilledWith, MayFill, MayGiveUp, became, cells_named}
+use Rattle.tj_cells.specs.FilledCells.{IsFilledWith, MayGiveUp, cells_named}
 use Rattle.tj_park.specs.Records.{AlarmsLeave}
-use Rattle.tj_park.specs.Wakes.{HasWoken, MayWake}
-use Rattle.tj_park.proofs.BreakSteps.{may_wake_closed, without_first}
-use Rattle.tj_run.specs.Workers.{about_table, table_program}
-use Rattle.tj_run.specs.Inner.Carried.{IsAsked, IsClosing, IsRunning, RunsTask}
-use Rattle.tj_run.specs.Inner.Going.{Goes}
-use Rattle.tj_run.specs.Inner.Pieces.{fill_at, held_at}
-use Rattle.tj_run.specs.declared.next.Next.TheVariants as next
 use Rattle.tj_run.proofs.Asks.AskedSteps.{asked_fails}
 use Rattle.tj_run.proofs.Cells.KnownCells.{AreKnown, cells_known, ending_known, held_known, owed_known, owned_known}
 use Rattle.tj_run.proofs.Cells.KnownCells.{task_known}
-use Rattle.tj_run.proofs.Cells.NamedLists.{apart_without, are_told, beside_first, has_behind, has_in}
-use Rattle.tj_run.proofs.Cells.NamedLists.{in_without_cell, name_in, name_is, still_in}
-use Rattle.tj_run.proofs.Cells.NamedLists.{without_behind, without_one}
+use Rattle.tj_run.proofs.Cells.NamedLists.{apart_without, are_told, beside_first, has_behind, has_in, in_without_cell}
+use Rattle.tj_run.proofs.Cells.NamedLists.{name_in, name_is, still_in, without_behind, without_one}
 use Rattle.tj_run.proofs.Asks.NewThings.{stands_then, task_held}
 use Rattle.tj_run.proofs.Seats.OneTask.{noted_one}
 use Rattle.tj_run.proofs.Cells.OwnedCells.{holds_are, others as its_others, others_there, owned_is, promise_other}
@@ -71,6 +25,16 @@ use Rattle.tj_run.proofs.Asks.PointSteps.{after_rounds, before, fill_at_says, pa
 use Rattle.tj_run.proofs.Seats.RunningTasks.{gives_known, in_at}
 use Rattle.tj_park.proofs.WakeLoops.{noted_tail}
 use Rattle.tj_run.proofs.Seats.QuietTasks.{acts_quietly}
+use Rattle.tj_base.specs.declared.cause.Cause.TheVariants as cause
+use Rattle.tj_base.specs.declared.cell.Sort.TheVariants as sort
+use Rattle.tj_body.specs.declared.ask.Answer.TheVariants as answer
+use Rattle.tj_body.specs.declared.ask.Ask.TheVariants as ask
+use Rattle.tj_body.specs.declared.point.Entry.TheVariants as entry
+use Rattle.tj_words.specs.declared.offsets.Once.TheVariants as once
+use Rattle.tj_words.specs.declared.record.Fill.TheVariants as fill
+use Rattle.tj_words.specs.declared.record.Finish.TheVariants as finish
+use Rattle.tj_words.specs.declared.record.Hurt.TheVariants as hurt
+use Rattle.tj_run.specs.declared.next.Next.TheVariants as next
 
 -- the cell that a value names, as the words and as the records have it
 named_same : (f : Fill) → cells_named f ≡ fill_cells f

@@ -1,11 +1,6 @@
 -- The cells that a record names are known: part by part.
-use Rattle.std.proofs.Common.{ℕ, List, [], ◌∷◌, ◌++◌, map, refl, sym, subst, inl, inr, ⊎_elim}
-use Rattle.tj_body.specs.Points.{IsIn}
-use Rattle.tj_body.proofs.Lists.{in_left, in_right, in_either}
-use Rattle.tj_words.specs.declared.record.Held.{Held}
-use Rattle.tj_words.specs.declared.record.Rec.{Rec}
-use Rattle.tj_words.specs.Words.Lists.{All, numbers}
-use Rattle.tj_words.specs.LawParts.NamedCells.{finish_cells, record_cells}
+use Rattle.tj_run.proofs.Prelude.{All, Held, IsIn, List, Rec, [], finish_cells, in_either, in_left, in_right, inl, inr}
+use Rattle.tj_run.proofs.Prelude.{map, numbers, record_cells, refl, subst, sym, ℕ, ⊎_elim, ◌++◌, ◌∷◌}
 
 -- the numbers are among these
 abbrev pub AreKnown : List ℕ → List ℕ → Type 0

@@ -1,23 +1,13 @@
 -- Lists of owned cells by number and by name: whether a cell is one of them, what is left without it, and what is left
 -- when promises are handed.
-use Rattle.std.proofs.Common.{◌≡◌, ◌≢◌, ℕ, zero, suc, Bool, true, false, cond, nat_eq, ◌||◌, List, [], ◌∷◌, map}
-use Rattle.std.proofs.Common.{drop}
-use Rattle.std.proofs.Common.{Result, Ok, Err, refl, sym, ap, ◌∙◌, subst, inl, inr, eq-eqb, ne_eqb, eqb-true}
+use Rattle.tj_run.proofs.Prelude.{All, AreApart, AreCells, ArePairs, Bool, CellId, Err, HasName, IsCell, IsIn, List}
+use Rattle.tj_run.proofs.Prelude.{Name, Ok, Reference, Sort, [], ap, cond, inl, inr, map, numbers, reference_of, refl}
+use Rattle.tj_run.proofs.Prelude.{some-injective, some-ne-none, suc, sym, true, without, zero, ℕ, ◌∙◌, ◌∷◌, ◌≡◌, ◌≢◌}
+use Rattle.std.proofs.Common.{false, nat_eq, ◌||◌, drop, Result, subst, eq-eqb, ne_eqb, eqb-true}
 use mathlib.Core.Logic.{dite}
-use mathlib.Core.Option.{some-injective, some-ne-none}
 use native.Mathlib.Decide.{ℕ_discrete}
-use Rattle.tj_base.specs.ForkOrder.{Name}
-use Rattle.tj_base.specs.declared.cell.CellId.{CellId}
-use Rattle.tj_base.specs.declared.cell.Sort.{Sort}
+use Rattle.tj_body.specs.NameLaws.{AreTold, Unhanded, hand_cell, hand_cells, has_cell, without_cell}
 use Rattle.tj_base.specs.declared.cell.Sort.TheVariants as sort
-use Rattle.tj_body.specs.NameLaws.{AreTold, Unhanded, hand_cell, hand_cells, has_cell}
-use Rattle.tj_body.specs.NameLaws.{without_cell}
-use Rattle.tj_body.specs.Points.{IsIn}
-use Rattle.tj_body.specs.declared.point.Reference.{Reference}
-use Rattle.tj_words.specs.Words.Lists.{All, AreApart, numbers, without}
-use Rattle.tj_words.specs.LawParts.ShownState.{reference_of}
-use Rattle.tj_words.specs.LawParts.Telling.{ArePairs, HasName}
-use Rattle.tj_words.specs.LawParts.TreeWords.{AreCells, IsCell}
 
 -- the name of a cell
 abbrev pub name_in : List Reference → ℕ → Name

@@ -1,22 +1,11 @@
 -- What a task that has asked owns, by its record: its result first, and then the promises that the point holds.
-use Rattle.std.proofs.Common.{◌≡◌, ◌≢◌, ℕ, List, ◌∷◌, drop, map, sym, ap, ◌∙◌, subst}
-use mathlib.Core.Option.{some-injective}
-use Rattle.tj_base.specs.declared.cell.Sort.TheVariants as sort
-use Rattle.tj_body.specs.History.{to_task}
-use Rattle.tj_body.specs.Programs.{Program}
-use Rattle.tj_body.specs.declared.ask.Answer.TheVariants as answer
-use Rattle.tj_body.specs.declared.ask.Ask.{Ask}
-use Rattle.tj_body.specs.declared.point.Point.{Point}
-use Rattle.tj_body.specs.declared.point.Reference.{Reference}
-use Rattle.tj_words.specs.declared.record.Held.{Held}
-use Rattle.tj_words.specs.declared.record.Rec.{Rec}
-use Rattle.tj_words.specs.declared.view.View.{View}
-use Rattle.tj_words.specs.Words.Lists.{numbers}
-use Rattle.tj_words.specs.LawParts.Telling.{ArePairs, HasName, HeldSays}
-use Rattle.tj_words.specs.LawParts.TreeWords.{AreCells, IsCell}
-use Rattle.tj_run.specs.Inner.Carried.{IsAsked}
+use Rattle.tj_run.proofs.Prelude.{AreCells, ArePairs, Ask, HasName, Held, HeldSays, IsAsked, IsCell, List, Point}
+use Rattle.tj_run.proofs.Prelude.{Program, Rec, Reference, View, ap, drop, map, numbers, some-injective, subst, sym}
+use Rattle.tj_run.proofs.Prelude.{to_task, ℕ, ◌∙◌, ◌∷◌, ◌≡◌, ◌≢◌}
 use Rattle.tj_run.proofs.Cells.NamedLists.{HaveCells, first_owned, name_in, names_are, others_owned, pairs_there}
 use Rattle.tj_run.proofs.Asks.PointSteps.{before, owned_after}
+use Rattle.tj_base.specs.declared.cell.Sort.TheVariants as sort
+use Rattle.tj_body.specs.declared.ask.Answer.TheVariants as answer
 
 module _ {B : Type 0} (program : Program B) (cells : ℕ) (v : View B) (all : AreCells cells v.born) (r : Rec B)
     (x : Ask B) (asked : IsAsked program v r x) where

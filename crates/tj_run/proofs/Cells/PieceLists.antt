@@ -1,10 +1,8 @@
 -- A cell among cells: how far a search has come.
-use Rattle.std.proofs.Common.{◌≡◌, ◌<◌, ℕ, suc, ◌+◌, true, false, nat_eq, List, [], ◌∷◌, ◌++◌, length, get_or, take}
-use Rattle.std.proofs.Common.{drop, refl, sym, ap, ◌∙◌, append_assoc, drop-cons, add-one}
+use Rattle.tj_run.proofs.Prelude.{CellId, List, [], ap, append_assoc, cell, drop, false, get_or, has_cell, length}
+use Rattle.tj_run.proofs.Prelude.{nat_eq, numbers, refl, suc, sym, true, without_cell, ℕ, ◌++◌, ◌+◌, ◌<◌, ◌∙◌, ◌∷◌, ◌≡◌}
+use Rattle.std.proofs.Common.{take, drop-cons, add-one}
 use Rattle.std.proofs.lemmas.List.{take_more}
-use Rattle.tj_base.specs.declared.cell.CellId.{CellId}
-use Rattle.tj_body.specs.NameLaws.{has_cell, without_cell}
-use Rattle.tj_words.specs.Words.Lists.{cell, numbers}
 
 -- the numbers of two lists, one after the other
 pub numbers_append : (xs ys : List CellId) → numbers (xs ++ ys) ≡ numbers xs ++ numbers ys

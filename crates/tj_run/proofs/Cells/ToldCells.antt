@@ -1,22 +1,10 @@
 -- The task of a record and the cells that it holds, as the seat that runs the task knows them.
-use Rattle.std.proofs.Common.{◌≡◌, ℕ, ◌<◌, length, refl, sym, subst, inl, inr, arith}
-use Rattle.tj_base.specs.declared.cell.Sort.TheVariants as sort
-use Rattle.tj_body.specs.History.{reference, to_task}
-use Rattle.tj_body.specs.Points.{IsIn}
-use Rattle.tj_body.specs.declared.point.Point.{Point}
-use Rattle.tj_body.proofs.Lists.{in_left, to_map}
-use Rattle.tj_words.specs.declared.record.Held.{Held}
-use Rattle.tj_words.specs.declared.record.Rec.{Rec}
-use Rattle.tj_words.specs.declared.table.Laid.{Laid}
-use Rattle.tj_words.specs.SeatViews.SeatSteps.{SeatMe}
-use Rattle.tj_words.specs.LawParts.Telling.{HeldSays, Tells}
-use Rattle.tj_words.specs.SeatViews.TreeReads.{KnowsTask}
-use Rattle.tj_words.proofs.Stores.SeatLists.{inside}
-use Rattle.tj_run.specs.Inner.Carried.{RunsTask}
-use Rattle.tj_run.specs.Inner.Pieces.{held_at}
-use Rattle.tj_run.specs.Inner.Waits.{IsHeldAs}
+use Rattle.tj_run.proofs.Prelude.{Held, HeldSays, IsHeldAs, IsIn, KnowsTask, Laid, Point, Rec, RunsTask, SeatMe, Tells}
+use Rattle.tj_run.proofs.Prelude.{arith, held_at, in_left, inl, inr, inside, length, reference, refl, subst, sym}
+use Rattle.tj_run.proofs.Prelude.{to_map, to_task, ℕ, ◌<◌, ◌≡◌}
 use Rattle.tj_run.proofs.Asks.PointSteps.{pairs_at}
 use Rattle.tj_run.proofs.Seats.RunningTasks.{in_at}
+use Rattle.tj_base.specs.declared.cell.Sort.TheVariants as sort
 
 module _ {B : Type 0} (laid : Laid B) (r : Rec B) (me : SeatMe B) (runs : RunsTask laid r me) (x : Point B)
     (tells : Tells me.0.born r x) where

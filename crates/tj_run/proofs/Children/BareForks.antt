@@ -1,6 +1,5 @@
 -- A fork that hands nothing.
-use Rattle.std.proofs.Common.{◌≡◌, ℕ, true, List, [], length, sym}
-use Rattle.std.specs.Bool.{◌==◌}
+use Rattle.tj_run.proofs.Prelude.{List, [], length, sym, true, ℕ, ◌==◌, ◌≡◌}
 use Rattle.std.proofs.lemmas.Bool.{eqb-true}
 use Rattle.std.proofs.lemmas.List.{nil_from_length}
 

@@ -1,42 +1,18 @@
 -- The calls of a fork, by the lists that it has made on the way: the held cells that are handed over and passed on, the
 -- promises, and what the task keeps.
-use Rattle.std.proofs.Common.{◌≡◌, ℕ, ◌+◌, ◌<◌, Bool, List, ◌∷◌, map, length, None, Result, Ok, Err}
-use Rattle.std.proofs.Common.{IfOk, OnOk, sym, ap, ◌∙◌, subst, arith}
-use Rattle.std.specs.List.{AllByRecursion}
-use Rattle.atomic_table.specs.Table.{rest}
-use Rattle.tj_base.specs.declared.cell.CellId.{CellId}
+use Rattle.tj_run.proofs.Prelude.{All, AllByRecursion, AreLeft, Bool, CellId, Err, Goes, Held, Hurt, IsAsked, IsMade}
+use Rattle.tj_run.proofs.Prelude.{IsTailOf, KnowsTask, Laid, MayGiveEach, MayMake, MayReleaseChild, NamesTellCells}
+use Rattle.tj_run.proofs.Prelude.{Next, Ok, PointsAsk, Program, Rec, RunsTask, SeatMe, TasksStart, ThingsInRounds, View}
+use Rattle.tj_run.proofs.Prelude.{Why, ap, child_record, gave_each, hand_cells, held_at, inside, more_itself, numbered}
+use Rattle.tj_run.proofs.Prelude.{numbers, released_child, rest, sym, table_program, to_task, with_child, ℕ, ◌∷◌, ◌≡◌}
+use Rattle.std.proofs.Common.{◌+◌, ◌<◌, List, map, length, None, Result, IfOk, OnOk, ◌∙◌, subst, arith}
+use Rattle.tj_words.specs.Calls.LiveViews.{SlotsOf}
+use Rattle.tj_run.proofs.Children.ForkedChildren.{fork_about, fork_notes, fork_fails, fork_goes, knows_parent}
+use Rattle.tj_run.proofs.Children.ForkedChildren.{may_birth, may_hand_each, may_release, promise_cells}
 use Rattle.tj_base.specs.declared.cell.Sort.TheVariants as sort
-use Rattle.tj_body.specs.History.{to_task}
-use Rattle.tj_body.specs.NameLaws.{NamesTellCells, hand_cells}
-use Rattle.tj_body.specs.Programs.{Program}
-use Rattle.tj_body.specs.RoundPoints.{PointsAsk, TasksStart, ThingsInRounds}
 use Rattle.tj_body.specs.declared.ask.Ask.TheVariants as ask
 use Rattle.tj_words.specs.declared.record.Finish.TheVariants as finish
-use Rattle.tj_words.specs.declared.record.Held.{Held}
-use Rattle.tj_words.specs.declared.record.Hurt.{Hurt}
-use Rattle.tj_words.specs.declared.record.Rec.{Rec}
-use Rattle.tj_words.specs.declared.table.Laid.{Laid}
-use Rattle.tj_words.specs.declared.view.View.{View}
-use Rattle.tj_words.specs.Words.Lists.{All, numbers}
-use Rattle.tj_words.specs.Calls.LiveViews.{SlotsOf}
-use Rattle.tj_words.specs.SeatViews.KnowsMore.{IsTailOf}
-use Rattle.tj_words.specs.SeatViews.SeatSteps.{SeatMe}
-use Rattle.tj_words.specs.SeatViews.TreeReads.{KnowsTask}
-use Rattle.tj_words.proofs.SeatLoads.KnowsMoreOn.{more_itself}
-use Rattle.tj_words.proofs.Stores.SeatLists.{inside}
-use Rattle.tj_cells.specs.MadeCells.{IsMade, MayMake}
-use Rattle.tj_park.specs.ChildViews.{MayReleaseChild, released_child}
-use Rattle.tj_run.specs.Workers.{table_program}
-use Rattle.tj_run.specs.Inner.Carried.{IsAsked, RunsTask}
-use Rattle.tj_run.specs.Inner.Children.{MayGiveEach, gave_each, with_child}
-use Rattle.tj_run.specs.Inner.Going.{Goes}
-use Rattle.tj_run.specs.Inner.Pieces.{AreLeft, child_record, held_at, numbered}
-use Rattle.tj_run.specs.declared.next.Next.{Next}
 use Rattle.tj_run.specs.declared.next.Next.TheVariants as next
-use Rattle.tj_run.specs.declared.why.Why.{Why}
-use Rattle.tj_run.proofs.Children.ForkedChildren.{fork_about, fork_notes, fork_fails, fork_goes, knows_parent, may_birth}
-use Rattle.tj_run.proofs.Children.ForkedChildren.{may_hand_each}
-use Rattle.tj_run.proofs.Children.ForkedChildren.{may_release, promise_cells}
 
 -- each place of a list is inside another
 pub places_inside : (held now : List Held) (places ks : List ℕ) → now ≡ held → ks ≡ places

@@ -1,77 +1,44 @@
 -- A running task forks a child, or fails since it may not hand what it hands.
-use Rattle.std.proofs.Common.{◌≡◌, ◌≢◌, ◌⊎◌, ℕ, suc, ◌+◌, ◌<◌, Bool, true, false, cond, nat_eq, List, [], ◌∷◌, ◌++◌}
-use Rattle.std.proofs.Common.{map, Some, None, Result, Ok, Err, refl, sym, ap, ◌∙◌, subst}
-use Rattle.std.proofs.Common.{inl, inr, ⊎_elim, arith}
-use Rattle.tj_base.specs.ForkOrder.{Name}
-use Rattle.tj_base.specs.declared.cause.Cause.TheVariants as cause
-use Rattle.tj_base.specs.declared.cell.CellId.{CellId}
-use Rattle.tj_base.specs.declared.cell.Sort.{Sort}
-use Rattle.tj_base.specs.declared.cell.Sort.TheVariants as sort
-use Rattle.tj_body.specs.History.{after_ask, after_fork, after_try_fork, hand_all, next_child, next_name}
-use Rattle.tj_body.specs.History.{reference, start, to_task}
-use Rattle.tj_body.specs.NameLaws.{NamesTellCells, Unhanded, no_promise, not_owned, hand_cells, named_rest}
-use Rattle.tj_body.specs.Points.{IsIn, IsSomeTask}
-use Rattle.tj_body.specs.Programs.{Program}
-use Rattle.tj_body.specs.RoundPoints.{IsOfRounds, PointsAsk, TasksStart, ThingsInRounds}
-use Rattle.tj_body.specs.declared.ask.Answer.TheVariants as answer
-use Rattle.tj_body.specs.declared.ask.Ask.{Ask}
-use Rattle.tj_body.specs.declared.ask.Ask.TheVariants as ask
-use Rattle.tj_body.specs.declared.point.Point.{Point}
-use Rattle.tj_body.specs.declared.point.PointStage.TheVariants as stage
-use Rattle.tj_body.specs.declared.point.Reference.{Reference}
-use Rattle.tj_body.specs.declared.point.Task.{Task}
-use Rattle.tj_body.proofs.Lists.{in_either, in_left, in_map, in_right, to_map}
-use Rattle.tj_words.specs.declared.offsets.Once.TheVariants as once
-use Rattle.tj_words.specs.declared.record.Finish.TheVariants as finish
-use Rattle.tj_words.specs.declared.record.Held.{Held}
-use Rattle.tj_words.specs.declared.record.Hurt.{Hurt}
-use Rattle.tj_words.specs.declared.record.Hurt.TheVariants as hurt
-use Rattle.tj_words.specs.declared.record.Rec.{Rec}
-use Rattle.tj_words.specs.declared.table.Laid.{Laid}
-use Rattle.tj_words.specs.declared.view.Custody.{Custody}
-use Rattle.tj_words.specs.declared.view.View.{View}
-use Rattle.tj_words.specs.SeatViews.KnowsMore.{IsTailOf, KnowsMore}
-use Rattle.tj_words.specs.Words.Lists.{All, cell, numbers}
-use Rattle.tj_words.specs.LawParts.LiveCount.{HasAlarmed, Holds}
-use Rattle.tj_words.specs.LawParts.Meaning.{HasCell}
-use Rattle.tj_words.specs.LawParts.NamedCells.{record_cells}
-use Rattle.tj_words.specs.SeatViews.SeatSteps.{SeatMe}
-use Rattle.tj_words.specs.SeatViews.SeenWords.{seen_word}
-use Rattle.tj_words.specs.SeatViews.TaskLists.{hold, noted}
-use Rattle.tj_words.specs.LawParts.Telling.{HasName, HeldSays}
-use Rattle.tj_words.specs.SeatViews.TreeReads.{KnowsTask}
-use Rattle.tj_words.specs.LawParts.TreeWords.{IsCell}
-use Rattle.tj_words.proofs.Holders.HeldTasks.{one_some, none_some}
-use Rattle.tj_words.proofs.Meaning.MeaningGrows.{pairs_map}
-use Rattle.tj_words.proofs.Stores.SeatLists.{inside}
-use Rattle.tj_cells.specs.MadeCells.{IsMade, MayMake, makes_task, new_born}
+use Rattle.tj_run.proofs.Prelude.{All, AreLeft, Ask, Bool, CellId, Custody, Err, Goes, HasAlarmed, HasCell, HasName}
+use Rattle.tj_run.proofs.Prelude.{Held, HeldSays, Holds, Hurt, IsAsked, IsCell, IsClosing, IsIn, IsMade, IsOfRounds}
+use Rattle.tj_run.proofs.Prelude.{IsRunning, IsTailOf, KnowsMore, KnowsTask, Laid, List, MayGiveEach, MayMake}
+use Rattle.tj_run.proofs.Prelude.{MayReleaseChild, Name, None, Ok, Point, PointsAsk, Program, Rec, Reference, Result}
+use Rattle.tj_run.proofs.Prelude.{RunsTask, SeatMe, Some, Sort, Task, TasksStart, ThingsInRounds, Unhanded, View, []}
+use Rattle.tj_run.proofs.Prelude.{about_table, ap, arith, cell, child_record, cond, false, gave_each, held_at, hold}
+use Rattle.tj_run.proofs.Prelude.{in_either, in_left, in_right, inl, inr, inside, map, more_on, more_same, nat_eq}
+use Rattle.tj_run.proofs.Prelude.{next_name, none_some, noted, numbered, numbers, one_some, pairs_map, record_cells}
+use Rattle.tj_run.proofs.Prelude.{reference, refl, released_child, seen_word, subst, suc, sym, table_program, to_map}
+use Rattle.tj_run.proofs.Prelude.{to_task, true, with_child, ℕ, ⊎_elim, ◌++◌, ◌+◌, ◌<◌, ◌∙◌, ◌∷◌, ◌≡◌, ◌≢◌, ◌⊎◌}
+use Rattle.tj_body.specs.History.{after_ask, after_fork, after_try_fork, hand_all, next_child, start}
+use Rattle.tj_body.specs.NameLaws.{NamesTellCells, no_promise, not_owned, hand_cells, named_rest}
+use Rattle.tj_body.specs.Points.{IsSomeTask}
+use Rattle.tj_body.proofs.Lists.{in_map}
+use Rattle.tj_cells.specs.MadeCells.{makes_task, new_born}
 use Rattle.tj_cells.proofs.TaskNotes.{let_go_first, let_go_other}
-use Rattle.tj_park.specs.ChildViews.{MayReleaseChild, released_child}
-use Rattle.tj_run.specs.Workers.{about_table, table_program}
-use Rattle.tj_run.specs.Inner.Carried.{IsAsked, IsClosing, IsRunning, RunsTask}
-use Rattle.tj_run.specs.Inner.Children.{MayGiveEach, gave_each, with_child}
-use Rattle.tj_run.specs.Inner.Going.{Goes}
-use Rattle.tj_run.specs.Inner.Pieces.{AreLeft, child_record, held_at, numbered}
-use Rattle.tj_run.specs.declared.next.Next.TheVariants as next
 use Rattle.tj_run.proofs.Asks.AskedSteps.{asked_fails}
 use Rattle.tj_run.proofs.Asks.FoundValues.{pairs_snoc}
 use Rattle.tj_run.proofs.Children.GivenPromises.{AreGiven, IsGiving, each_among, each_apart, each_leaves, gained_is}
 use Rattle.tj_run.proofs.Children.GivenPromises.{gave_is, handed_among, handed_given, held_first, lost_is}
-use Rattle.tj_run.proofs.Children.GivenPromises.{may_give_each}
-use Rattle.tj_run.proofs.Children.GivenPromises.{held_second, unowned_handed, without_each}
+use Rattle.tj_run.proofs.Children.GivenPromises.{may_give_each, held_second, unowned_handed, without_each}
 use Rattle.tj_run.proofs.Children.HandedPlaces.{places_held, places_named, places_names, places_pairs}
 use Rattle.tj_run.proofs.Cells.KnownCells.{AreKnown, cells_known, ending_known, held_known, known_more, owed_known}
 use Rattle.tj_run.proofs.Cells.KnownCells.{owned_known, task_known}
-use Rattle.tj_run.proofs.Cells.NamedLists.{are_told, behind, beside_first, hand_behind, name_in}
-use Rattle.tj_run.proofs.Cells.NamedLists.{name_is}
+use Rattle.tj_run.proofs.Cells.NamedLists.{are_told, behind, beside_first, hand_behind, name_in, name_is}
 use Rattle.tj_run.proofs.Asks.NewThings.{held_then, may_make, name_then, new_is, new_more, new_task_other, new_worker}
 use Rattle.tj_run.proofs.Asks.NewThings.{stands_then, tells_then}
 use Rattle.tj_run.proofs.Seats.OneTask.{noted_one}
 use Rattle.tj_run.proofs.Cells.OwnedCells.{holds_are, others as its_others, others_there, owned_is, promise_other}
 use Rattle.tj_run.proofs.Asks.PointSteps.{after_rounds, before, pairs_length, stands_next}
-use Rattle.tj_cells.proofs.SameViews.{more_same}
 use Rattle.tj_run.proofs.Seats.FreeSeats.{workers_same}
-use Rattle.tj_words.proofs.SeatLoads.KnowsMoreOn.{more_on}
+use Rattle.tj_base.specs.declared.cause.Cause.TheVariants as cause
+use Rattle.tj_base.specs.declared.cell.Sort.TheVariants as sort
+use Rattle.tj_body.specs.declared.ask.Answer.TheVariants as answer
+use Rattle.tj_body.specs.declared.ask.Ask.TheVariants as ask
+use Rattle.tj_body.specs.declared.point.PointStage.TheVariants as stage
+use Rattle.tj_words.specs.declared.offsets.Once.TheVariants as once
+use Rattle.tj_words.specs.declared.record.Finish.TheVariants as finish
+use Rattle.tj_words.specs.declared.record.Hurt.TheVariants as hurt
+use Rattle.tj_run.specs.declared.next.Next.TheVariants as next
 
 module _ {B : Type 0} (program : Bool → B → Program B) (laid : Laid B) (r : Rec B) (b : B) (pass handed : List ℕ)
     (me : SeatMe B) (runs : RunsTask laid r me)

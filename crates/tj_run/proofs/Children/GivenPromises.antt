@@ -1,32 +1,19 @@
 -- Promises go from a task to its child, one after the other: each may be handed, and what the seat has then.
-use Rattle.std.proofs.Common.{◌≡◌, ◌≢◌, ℕ, suc, ◌+◌, ◌<◌, cond, drop, get_or, length, nat_eq, Bool, true, false, List}
-use Rattle.std.proofs.Common.{[], ◌∷◌, ◌++◌, map, Some, None}
-use Rattle.std.proofs.Common.{Result, Ok, Err, refl, sym, ap, ◌∙◌, subst, inl, inr, append_assoc, append-nil}
-use Rattle.std.proofs.Common.{eq-eqb, ne_eqb}
+use Rattle.tj_run.proofs.Prelude.{AreApart, Bool, CellId, Custody, Err, Held, IsIn, List, MayAct, MayGiveEach, None, Ok}
+use Rattle.tj_run.proofs.Prelude.{Result, Some, Sort, Unhanded, View, [], ap, cell, cond, drop, eq-eqb, false}
+use Rattle.tj_run.proofs.Prelude.{gave_each, get_or, hand_cell, hand_cells, has_cell, held_in, inl, inr, let_go_other}
+use Rattle.tj_run.proofs.Prelude.{map, nat_eq, no_promise, not_owned, note, noted, numbered, numbers, refl, seen_word}
+use Rattle.tj_run.proofs.Prelude.{subst, suc, sym, true, without, without_cell, ℕ, ◌++◌, ◌+◌, ◌<◌, ◌∙◌, ◌∷◌, ◌≡◌, ◌≢◌}
+use Rattle.std.proofs.Common.{length, append_assoc, append-nil, ne_eqb}
 use Rattle.std.proofs.lemmas.List.{drop_more}
-use Rattle.tj_base.specs.declared.cell.CellId.{CellId}
-use Rattle.tj_base.specs.declared.cell.Sort.{Sort}
-use Rattle.tj_base.specs.declared.cell.Sort.TheVariants as sort
-use Rattle.tj_body.specs.NameLaws.{Unhanded, no_promise, not_owned, hand_cell, hand_cells, has_cell, without_cell}
-use Rattle.tj_body.specs.Points.{IsIn}
-use Rattle.tj_words.specs.declared.offsets.Once.TheVariants as once
-use Rattle.tj_words.specs.declared.record.Held.{Held}
-use Rattle.tj_words.specs.declared.view.Custody.{Custody}
-use Rattle.tj_words.specs.declared.view.Does.TheVariants as does
-use Rattle.tj_words.specs.declared.view.View.{View}
 use Rattle.tj_words.specs.Calls.DrawViews.{owns_also}
-use Rattle.tj_words.specs.LawParts.Holding.{held_in}
-use Rattle.tj_words.specs.Words.Lists.{AreApart, cell, numbers, without}
 use Rattle.tj_words.specs.Calls.OwnerViews.{gave_up, handed_promise}
-use Rattle.tj_words.specs.SeatViews.SeenWords.{seen_word}
-use Rattle.tj_words.specs.Steps.StepEvents.{MayAct}
-use Rattle.tj_words.specs.SeatViews.TaskLists.{note, noted}
 use Rattle.tj_cells.specs.MadeCells.{MayGiveAway}
-use Rattle.tj_cells.proofs.TaskNotes.{let_go_other}
-use Rattle.tj_run.specs.Inner.Children.{MayGiveEach, gave_each}
-use Rattle.tj_run.specs.Inner.Pieces.{numbered}
 use Rattle.tj_run.proofs.Cells.NamedLists.{apart_without, has_in, in_without_cell, without_one}
 use Rattle.tj_run.proofs.Seats.OneTask.{held_one, let_go_one}
+use Rattle.tj_base.specs.declared.cell.Sort.TheVariants as sort
+use Rattle.tj_words.specs.declared.offsets.Once.TheVariants as once
+use Rattle.tj_words.specs.declared.view.Does.TheVariants as does
 
 -- another one is left
 pub still_all : (p x : ℕ) (l : List ℕ) → x ≢ p → IsIn x l → IsIn x (without p l)

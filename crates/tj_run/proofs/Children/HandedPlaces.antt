@@ -1,21 +1,12 @@
 -- The held cells at places that a task passes on or hands over are the references there.
-use Rattle.std.proofs.Common.{◌≡◌, ℕ, ◌<◌, List, [], ◌∷◌, map, length, refl, sym}
-use Rattle.std.proofs.Common.{subst}
-use Rattle.std.proofs.Common.{inl, inr}
-use Rattle.std.specs.List.{AllByRecursion}
-use Rattle.tj_base.specs.ForkOrder.{Name}
-use Rattle.tj_base.specs.declared.cell.Sort.TheVariants as sort
-use Rattle.tj_body.specs.History.{reference_at, to_task}
+use Rattle.tj_run.proofs.Prelude.{All, AllByRecursion, ArePairs, HasName, Held, HeldSays, IsIn, List, Name, Reference}
+use Rattle.tj_run.proofs.Prelude.{[], held_at, inl, inr, length, map, numbered, reference_at, refl, subst, sym, to_task}
+use Rattle.tj_run.proofs.Prelude.{ℕ, ◌<◌, ◌∷◌, ◌≡◌}
 use Rattle.tj_body.specs.NameLaws.{named_reference}
-use Rattle.tj_body.specs.Points.{IsIn}
-use Rattle.tj_body.specs.declared.point.Reference.{Reference}
-use Rattle.tj_words.specs.declared.record.Held.{Held}
-use Rattle.tj_words.specs.Words.Lists.{All}
-use Rattle.tj_words.specs.LawParts.Telling.{ArePairs, HasName, HeldSays}
-use Rattle.tj_run.specs.Inner.Pieces.{held_at, numbered}
 use Rattle.tj_run.proofs.Cells.NamedLists.{name_in, name_is}
 use Rattle.tj_run.proofs.Asks.PointSteps.{pairs_at}
 use Rattle.tj_run.proofs.Seats.RunningTasks.{in_at}
+use Rattle.tj_base.specs.declared.cell.Sort.TheVariants as sort
 
 module _ (born : List Reference) (held : List Held) (references : List Reference) (name : Name)
     (h : ArePairs (HeldSays born) held references) where

@@ -1,48 +1,20 @@
 -- The other task of a seat that runs one may block on the promise for which it has asked, and may be parked; then the
 -- seat runs its first task as before.
-use Rattle.std.proofs.Common.{◌≡◌, ℕ, ◌<◌, Bool, true, false, cond, nat_eq, [], ◌∷◌, Some, None}
-use Rattle.std.proofs.Common.{refl, sym, ap, ◌∙◌, subst, arith, eq-eqb}
-use Rattle.atomic_table.specs.Table.{rest}
-use Rattle.tj_body.specs.Programs.{Program}
-use Rattle.tj_core.specs.declared.walk.Way.TheVariants as way
-use Rattle.tj_words.specs.declared.record.Held.{Held}
-use Rattle.tj_words.specs.declared.record.Rec.{Rec}
-use Rattle.tj_words.specs.declared.table.Laid.{Laid}
-use Rattle.tj_words.specs.declared.view.Custody.{Custody}
-use Rattle.tj_words.specs.declared.view.Does.{Does}
-use Rattle.tj_words.specs.declared.view.Does.TheVariants as does
-use Rattle.tj_words.specs.declared.view.View.{View}
-use Rattle.tj_words.specs.LawParts.Holding.{held_in}
-use Rattle.tj_words.specs.SeatViews.KnowsMore.{KnowsMore}
-use Rattle.tj_words.specs.LawParts.LiveCount.{HasAlarmed, Holds}
-use Rattle.tj_words.specs.Calls.LiveViews.{HasSlot}
-use Rattle.tj_words.specs.Steps.QuietSteps.{does_first}
-use Rattle.tj_words.specs.SeatViews.SeatSteps.{SeatMe}
-use Rattle.tj_words.specs.Steps.StepEvents.{MayAct}
-use Rattle.tj_words.specs.Calls.TakenRecords.{custody_of}
-use Rattle.tj_words.specs.SeatViews.TaskLists.{hold, let_go}
-use Rattle.tj_words.specs.Calls.WaitViews.{now_does}
-use Rattle.tj_words.specs.Steps.WalkSteps.{way_by}
-use Rattle.tj_words.proofs.Waiters.ChainLists.{no_some, same_some}
-use Rattle.tj_words.proofs.SeatLoads.KnowsMoreOn.{more_on}
+use Rattle.tj_run.proofs.Prelude.{Blocked, Bool, Custody, Does, HasAlarmed, HasNoRecord, HasParked, HasSlot, Held}
+use Rattle.tj_run.proofs.Prelude.{Holds, KnowsMore, Laid, LeftTask, MayAct, MayBlock, MayParkTask, None, Program, Rec}
+use Rattle.tj_run.proofs.Prelude.{RunsTask, SeatMe, Some, Verdict, View, WaitsBeside, [], about_table, alone, ap, arith}
+use Rattle.tj_run.proofs.Prelude.{cond, custody_of, does_after, does_first, doing, eq-eqb, false, held_in, hold, let_go}
+use Rattle.tj_run.proofs.Prelude.{more_on, more_same, nat_eq, no_some, nothing_same, now_does, refl, rest, same_some}
+use Rattle.tj_run.proofs.Prelude.{subst, sym, table_program, true, waits_at, way_by, ℕ, ◌<◌, ◌∙◌, ◌∷◌, ◌≡◌}
 use Rattle.tj_words.proofs.Holders.NotedEntries.{noted_here}
 use Rattle.tj_words.proofs.Holders.NotedTasks.{noted_is}
-use Rattle.tj_detect.specs.Blocks.{MayBlock, does_after, doing}
-use Rattle.tj_detect.specs.declared.blocking.Verdict.{Verdict}
-use Rattle.tj_detect.specs.declared.blocking.Verdict.TheVariants as verdict
-use Rattle.tj_park.specs.ParkViews.{HasParked, LeftTask, MayParkTask}
-use Rattle.tj_park.specs.Records.{HasNoRecord}
-use Rattle.tj_run.specs.Workers.{about_table, table_program}
-use Rattle.tj_run.specs.Inner.Beside.{WaitsBeside, alone}
-use Rattle.tj_run.specs.Inner.Carried.{RunsTask}
-use Rattle.tj_run.specs.Inner.Waits.{Blocked, waits_at}
 use Rattle.tj_run.proofs.Waiting.JoinTests.{promise_way}
 use Rattle.tj_run.proofs.Waiting.WaitConditions.{held_as, may_block, may_park, task_cell, wait_cell}
 use Rattle.tj_run.proofs.Seats.WorkersSteps.{runs_on}
 use Rattle.tj_run.proofs.ForTests.TwoTasks.{back, first_stays, slots_now, tasks_now}
-use Rattle.tj_cells.proofs.SameViews.{more_same}
-use Rattle.tj_park.proofs.NothingToCome.{nothing_same}
 use Rattle.tj_run.proofs.Seats.QuietTasks.{acts_quietly}
+use Rattle.tj_core.specs.declared.walk.Way.TheVariants as way
+use Rattle.tj_detect.specs.declared.blocking.Verdict.TheVariants as verdict
 
 -- a seat with two tasks holds an alarmed one only where one of them has alarmed
 two_alarmed : {B : Type 0} (v : View B) (c d : Custody B) → v.tasks ≡ c ∷ (d ∷ []) → ¬ HasAlarmed c.does

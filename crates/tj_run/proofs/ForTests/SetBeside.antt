@@ -1,49 +1,21 @@
 -- A seat that runs a task, while another one of its tasks has blocked on a promise, sets a promise by the first: what
 -- each call needs of the seat, and that the other one may be parked as before.
-use Rattle.std.proofs.Common.{◌≡◌, ℕ, ◌+◌, Bool, true, false, cond, nat_eq, List, [], ◌∷◌, length, Some, None}
-use Rattle.std.proofs.Common.{refl, sym, ap, ◌∙◌, subst, arith, inr, ne_eqb, eq-eqb}
-use Rattle.atomic_table.specs.Table.{rest}
-use Rattle.tj_body.specs.Points.{Begins, IsIn}
-use Rattle.tj_body.specs.Programs.{Program}
-use Rattle.tj_body.specs.declared.point.Entry.TheVariants as entry
-use Rattle.tj_body.specs.declared.point.Reference.{Reference}
-use Rattle.tj_body.specs.declared.point.Value.{Value}
-use Rattle.tj_body.proofs.Lists.{begins_self}
-use Rattle.tj_core.specs.declared.walk.Way.TheVariants as way
-use Rattle.tj_words.specs.declared.offsets.Once.TheVariants as once
-use Rattle.tj_words.specs.declared.record.Fill.{Fill}
-use Rattle.tj_words.specs.declared.record.Fill.TheVariants as fill
-use Rattle.tj_words.specs.declared.record.Held.{Held}
-use Rattle.tj_words.specs.declared.record.Rec.{Rec}
-use Rattle.tj_words.specs.declared.table.Laid.{Laid}
-use Rattle.tj_words.specs.declared.view.Custody.{Custody}
-use Rattle.tj_words.specs.declared.view.Does.{Does}
-use Rattle.tj_words.specs.declared.view.View.{View}
-use Rattle.tj_words.specs.Calls.DrawViews.{without_due}
-use Rattle.tj_words.specs.LawParts.Holding.{held_in}
-use Rattle.tj_words.specs.SeatViews.KnownEntries.{HasSeen}
-use Rattle.tj_words.specs.Words.Lists.{without}
-use Rattle.tj_words.specs.Calls.LiveViews.{HasSlot}
-use Rattle.tj_words.specs.Calls.OwnerViews.{gave_up}
-use Rattle.tj_words.specs.SeatViews.SeatSteps.{SeatMe}
-use Rattle.tj_words.specs.Calls.TakenRecords.{custody_of}
-use Rattle.tj_words.specs.LawParts.Telling.{FillSays}
-use Rattle.tj_words.specs.Calls.WaitViews.{now_does}
-use Rattle.tj_words.proofs.Holders.HeldTasks.{none_some, one_some}
+use Rattle.tj_run.proofs.Prelude.{Begins, Blocked, Bool, Custody, Does, Fill, FillSays, HasNoRecord, HasSeen, HasSlot}
+use Rattle.tj_run.proofs.Prelude.{HasWoken, Held, IsFilledWith, IsIn, Laid, List, MayFill, MayGiveUp, MayParkTask}
+use Rattle.tj_run.proofs.Prelude.{MayWake, None, Program, Rec, Reference, SeatMe, Some, Value, Verdict, View}
+use Rattle.tj_run.proofs.Prelude.{WaitsBeside, [], ap, arith, became, begins_self, cond, custody_of, does_after, eq-eqb}
+use Rattle.tj_run.proofs.Prelude.{false, gave_up, held_in, inr, length, nat_eq, ne_eqb, none_some, now_does, one_some}
+use Rattle.tj_run.proofs.Prelude.{refl, rest, subst, sym, true, waits_at, without, without_due, ℕ, ◌+◌, ◌∙◌, ◌∷◌, ◌≡◌}
 use Rattle.tj_words.proofs.Meaning.MeaningGrows.{cell_on, told_on}
 use Rattle.tj_words.proofs.Holders.NotedEntries.{noted_else}
-use Rattle.tj_detect.specs.Blocks.{does_after}
-use Rattle.tj_detect.specs.declared.blocking.Verdict.{Verdict}
-use Rattle.tj_detect.specs.declared.blocking.Verdict.TheVariants as verdict
-use Rattle.tj_cells.specs.FilledCells.{IsFilledWith, MayFill, MayGiveUp, became}
-use Rattle.tj_park.specs.ParkViews.{MayParkTask}
-use Rattle.tj_park.specs.Records.{HasNoRecord}
-use Rattle.tj_park.specs.Wakes.{HasWoken, MayWake}
 use Rattle.tj_park.proofs.BreakSteps.{alarms_closed, may_wake_closed, without_first}
-use Rattle.tj_run.specs.Inner.Beside.{WaitsBeside}
-use Rattle.tj_run.specs.Inner.Waits.{Blocked, waits_at}
 use Rattle.tj_run.proofs.ForTests.ParkedBeside.{no_other, parks_too, slot_first}
 use Rattle.tj_run.proofs.ForTests.TwoTasks.{slots_now, tasks_now}
+use Rattle.tj_body.specs.declared.point.Entry.TheVariants as entry
+use Rattle.tj_core.specs.declared.walk.Way.TheVariants as way
+use Rattle.tj_words.specs.declared.offsets.Once.TheVariants as once
+use Rattle.tj_words.specs.declared.record.Fill.TheVariants as fill
+use Rattle.tj_detect.specs.declared.blocking.Verdict.TheVariants as verdict
 
 -- a value is what it was where more cells are known
 value_on : (b b' : List Reference) → Begins b b' → (f : Fill) (x : Value) → FillSays b f x → FillSays b' f x

@@ -1,37 +1,26 @@
 -- A task that owns its result alone ends step by step, and nobody waits for it: what each step needs of the seat.
-use Rattle.std.proofs.Common.{◌≡◌, ◌≢◌, ℕ, ◌<◌, Bool, List, [], ◌∷◌, length, drop, Some, None}
-use Rattle.std.proofs.Common.{refl, sym, ap, ◌∙◌, subst}
-use Rattle.atomic_table.specs.Table.{rest}
-use Rattle.tj_body.specs.Programs.{Program}
-use Rattle.tj_body.specs.RoundPoints.{WritesBecome}
-use Rattle.tj_body.specs.declared.point.Entry.TheVariants as entry
+use Rattle.tj_run.proofs.Prelude.{Bool, Fill, HasNoRecord, HasWoken, IsFilledWith, IsLeft, Laid, List, MayEnd, MayFill}
+use Rattle.tj_run.proofs.Prelude.{MayGiveUp, MayWake, None, Program, Rec, SeatMe, Some, View, WakesAll, WritesBecome}
+use Rattle.tj_run.proofs.Prelude.{[], ap, became, drop, length, refl, rest, subst, sym, ℕ, ◌<◌, ◌∙◌, ◌∷◌, ◌≡◌, ◌≢◌}
 use Rattle.tj_words.specs.declared.head.Head.{Head}
-use Rattle.tj_words.specs.declared.head.Head.TheVariants as head
-use Rattle.tj_words.specs.declared.record.Fill.{Fill}
-use Rattle.tj_words.specs.declared.record.Finish.TheVariants as finish
-use Rattle.tj_words.specs.declared.record.Rec.{Rec}
-use Rattle.tj_words.specs.declared.table.Laid.{Laid}
-use Rattle.tj_words.specs.declared.view.View.{View}
 use Rattle.tj_words.specs.Calls.ChainSteps.{TakesChain, found_taken}
 use Rattle.tj_words.specs.Calls.EntryViews.{MayPutBits, MayPutTag, PutsBits, PutsTag}
-use Rattle.tj_words.specs.Calls.LiveViews.{HasSlot, MayEnd, MayLowerLive, ended, lowered_with}
+use Rattle.tj_words.specs.Calls.LiveViews.{HasSlot, MayLowerLive, ended, lowered_with}
 use Rattle.tj_words.specs.Calls.OwnerViews.{PutsOwner}
-use Rattle.tj_words.specs.SeatViews.SeatSteps.{SeatMe}
 use Rattle.tj_words.specs.Words.Values.{fill_in, tag_word}
-use Rattle.tj_cells.specs.FilledCells.{IsFilledWith, MayFill, MayGiveUp, became}
 use Rattle.tj_cells.proofs.ClosingViews.{cell_became, fill_bits, fill_known, fill_tag, may_bits, may_tag, says_one}
 use Rattle.tj_park.specs.Inner.Breaks.{HasBroken}
 use Rattle.tj_park.specs.Endings.{MayFinish, result_of}
 use Rattle.tj_park.specs.Inner.Closings.{MayCloseResult, ended_record}
-use Rattle.tj_park.specs.Records.{HasNoRecord}
-use Rattle.tj_park.specs.Wakes.{HasWoken, MayWake, WakesAll}
 use Rattle.tj_park.proofs.BreakSteps.{none_broken}
-use Rattle.tj_park.proofs.EndSteps as steps
 use Rattle.tj_park.proofs.ResultCloses.{filled_closes, may_close_last, may_fill_last}
 use Rattle.tj_park.proofs.WakeLoops.{waking_at_first, woke_all}
 use Rattle.tj_run.specs.Inner.EndsAlone.{EndsAlone}
-use Rattle.tj_run.specs.Inner.Waits.{IsLeft}
 use Rattle.tj_run.proofs.Runs.EndConditions.{ended_left, ends_by, may_finish, none_other, slot_is}
+use Rattle.tj_body.specs.declared.point.Entry.TheVariants as entry
+use Rattle.tj_words.specs.declared.head.Head.TheVariants as head
+use Rattle.tj_words.specs.declared.record.Finish.TheVariants as finish
+use Rattle.tj_park.proofs.EndSteps as steps
 
 -- behind one element there is none
 pub alone_rest : {A : Type 0} (l : List A) → length l ≡ 1 → drop 1 l ≡ []

@@ -1,26 +1,15 @@
 -- What the tests know of the first seat of a table, of a task that is claimed and begins, and of a seat that has come
 -- back from its last task.
-use Rattle.std.proofs.Common.{◌≡◌, ℕ, ◌*◌, ◌<◌, ◌≤◌, Bool, [], ◌∷◌, Option, Some, None, IfSome}
-use Rattle.std.proofs.Common.{refl, sym, ◌∙◌, subst, arith}
-use Rattle.tj_body.specs.Programs.{Program}
-use Rattle.tj_body.specs.declared.ask.Answer.TheVariants as answer
-use Rattle.tj_words.specs.declared.record.Rec.{Rec}
-use Rattle.tj_words.specs.declared.table.Laid.{Laid}
-use Rattle.tj_words.specs.declared.view.View.{View}
-use Rattle.tj_words.specs.LawParts.FirstState.{first_view}
-use Rattle.tj_words.specs.SeatViews.KnowsMore.{KnowsMore}
-use Rattle.tj_words.specs.Law.{IsRooted}
-use Rattle.tj_words.specs.LawParts.Lots.{all_lots, least_lot}
+use Rattle.tj_run.proofs.Prelude.{Bool, Claimed, ComesBack, IfSome, IsFree, IsRooted, IsRunning, KnowsMore, Laid, None}
+use Rattle.tj_run.proofs.Prelude.{Option, Program, Rec, SeatMe, Some, View, [], arith, first_view, least_lot, refl}
+use Rattle.tj_run.proofs.Prelude.{saw_rest, subst, sym, table_program, ℕ, ◌*◌, ◌<◌, ◌∙◌, ◌∷◌, ◌≡◌, ◌≤◌}
+use Rattle.tj_words.specs.LawParts.Lots.{all_lots}
 use Rattle.tj_words.specs.AtRest.RestingSeats.{MayRest}
-use Rattle.tj_words.specs.SeatViews.SeatSteps.{SeatMe}
-use Rattle.tj_words.specs.SeatViews.Views.{MaySplit, saw_rest}
-use Rattle.tj_park.specs.ChildViews.{Claimed}
-use Rattle.tj_run.specs.Workers.{IsFree, table_program}
-use Rattle.tj_run.specs.Inner.Carried.{IsRunning}
-use Rattle.tj_run.specs.Inner.Waits.{ComesBack}
+use Rattle.tj_words.specs.SeatViews.Views.{MaySplit}
 use Rattle.tj_run.proofs.Seats.FreeSeats.{free_first}
 use Rattle.tj_run.proofs.Waiting.ResumedTasks.{IsPlace, starts}
 use Rattle.tj_run.proofs.Runs.TurnSteps.{claimed_back}
+use Rattle.tj_body.specs.declared.ask.Answer.TheVariants as answer
 
 module _ {B : Type 0} (laid : Laid B) where
   -- the first seat of a table is free

@@ -1,36 +1,17 @@
 -- A seat that runs a task has claimed another one, which begins and asks for a promise.
-use Rattle.std.proofs.Common.{◌≡◌, ℕ, ◌<◌, Bool, false, cond, [], ◌∷◌, length, Some, None}
-use Rattle.std.proofs.Common.{refl, sym, ap, ◌∙◌, subst, ne_eqb}
-use Rattle.atomic_table.specs.Table.{rest}
-use Rattle.tj_base.specs.declared.cell.Sort.TheVariants as sort
-use Rattle.tj_body.specs.Programs.{Program}
-use Rattle.tj_body.specs.RoundPoints.{AsksArePlaced, PointsAreGood, PointsAsk}
-use Rattle.tj_body.specs.declared.ask.Ask.{Ask}
-use Rattle.tj_body.specs.declared.ask.Ask.TheVariants as ask
-use Rattle.tj_words.specs.declared.record.Held.{Held}
-use Rattle.tj_words.specs.declared.record.Rec.{Rec}
-use Rattle.tj_words.specs.declared.table.Laid.{Laid}
-use Rattle.tj_words.specs.declared.view.Custody.{Custody}
-use Rattle.tj_words.specs.declared.view.View.{View}
-use Rattle.tj_words.specs.SeatViews.KnownEntries.{HasSeen}
-use Rattle.tj_words.specs.SeatViews.KnowsMore.{KnowsMore}
-use Rattle.tj_words.specs.SeatViews.SeatSteps.{SeatMe}
-use Rattle.tj_words.specs.Calls.TakenRecords.{custody_of}
-use Rattle.tj_words.specs.SeatViews.TaskLists.{hold, let_go}
-use Rattle.tj_words.proofs.Meaning.MeaningGrows.{stands_on, tells_on}
-use Rattle.tj_park.specs.ChildViews.{Claimed}
-use Rattle.tj_run.specs.Workers.{IsFree, table_program}
-use Rattle.tj_run.specs.Inner.Beside.{HasBegun, WaitsBeside, alone}
-use Rattle.tj_run.specs.Inner.Carried.{IsAsked, IsRunning}
-use Rattle.tj_run.specs.Inner.Pieces.{held_at}
-use Rattle.tj_run.specs.Inner.Waits.{ComesBack}
+use Rattle.tj_run.proofs.Prelude.{Ask, AsksArePlaced, Bool, Claimed, ComesBack, Custody, HasSeen, Held, IsAsked, IsFree}
+use Rattle.tj_run.proofs.Prelude.{IsRunning, KnowsMore, Laid, None, PointsAreGood, PointsAsk, Program, Rec, SeatMe}
+use Rattle.tj_run.proofs.Prelude.{Some, View, WaitsBeside, [], alone, ap, cond, custody_of, false, held_at, hold}
+use Rattle.tj_run.proofs.Prelude.{length, let_go, more_on, more_same, ne_eqb, refl, rest, stands_on, subst, sym}
+use Rattle.tj_run.proofs.Prelude.{table_program, tells_on, ℕ, ◌<◌, ◌∙◌, ◌∷◌, ◌≡◌}
+use Rattle.tj_run.specs.Inner.Beside.{HasBegun}
 use Rattle.tj_run.proofs.Waiting.JoinTests.{get_inside, get_waits}
 use Rattle.tj_run.proofs.Asks.NextAsks.{asked_next}
 use Rattle.tj_run.proofs.Seats.OneTask.{held_one}
 use Rattle.tj_run.proofs.ForTests.TestRuns.{claim_back, claim_begins}
 use Rattle.tj_run.proofs.Seats.FreeSeats.{workers_same}
-use Rattle.tj_cells.proofs.SameViews.{more_same}
-use Rattle.tj_words.proofs.SeatLoads.KnowsMoreOn.{more_on}
+use Rattle.tj_base.specs.declared.cell.Sort.TheVariants as sort
+use Rattle.tj_body.specs.declared.ask.Ask.TheVariants as ask
 
 -- a task that runs does so where its seat knows more
 pub running_on : {B : Type 0} (program : Program B) (v w : View B) → KnowsMore v w → (r : Rec B)

@@ -1,26 +1,9 @@
 -- A task that is to end may be ended; then it has left its worker.
-use Rattle.std.proofs.Common.{◌≡◌, ◌⊎◌, ℕ, Bool, ◌∷◌, ◌++◌, map, Some, None}
-use Rattle.std.proofs.Common.{refl, sym, ap, ◌∙◌, subst, inl, inr, ⊎_elim, arith}
-use Rattle.atomic_table.specs.Table.{rest}
-use Rattle.tj_body.specs.Points.{IsIn}
-use Rattle.tj_body.specs.Programs.{Program}
-use Rattle.tj_body.proofs.Lists.{in_either, in_left, in_right}
-use Rattle.tj_words.specs.declared.record.Finish.{Finish}
-use Rattle.tj_words.specs.declared.record.Held.{Held}
-use Rattle.tj_words.specs.declared.record.Rec.{Rec}
-use Rattle.tj_words.specs.declared.table.Laid.{Laid}
-use Rattle.tj_words.specs.declared.view.Does.TheVariants as does
-use Rattle.tj_words.specs.LawParts.Holding.{held_in}
-use Rattle.tj_words.specs.Words.Lists.{numbers}
-use Rattle.tj_words.specs.LawParts.NamedCells.{finish_cells, record_cells}
-use Rattle.tj_words.specs.SeatViews.SeatSteps.{SeatMe}
-use Rattle.tj_words.specs.SeatViews.TaskLists.{let_go}
-use Rattle.tj_words.specs.LawParts.TreeWords.{AreCells}
-use Rattle.tj_park.specs.Endings.{HasFinished, MayFinish}
-use Rattle.tj_park.specs.Records.{HasNoRecord}
-use Rattle.tj_run.specs.Workers.{about_table, table_program}
-use Rattle.tj_run.specs.Inner.Carried.{IsClosing, RunsTask}
-use Rattle.tj_run.specs.Inner.Waits.{IsLeft}
+use Rattle.tj_run.proofs.Prelude.{AreCells, Bool, Finish, HasNoRecord, Held, IsClosing, IsIn, IsLeft, Laid, MayFinish}
+use Rattle.tj_run.proofs.Prelude.{None, Program, Rec, RunsTask, SeatMe, Some, about_table, ap, arith, finish_cells}
+use Rattle.tj_run.proofs.Prelude.{held_in, in_either, in_left, in_right, inl, inr, let_go, map, numbers, record_cells}
+use Rattle.tj_run.proofs.Prelude.{refl, rest, subst, sym, table_program, ℕ, ⊎_elim, ◌++◌, ◌∙◌, ◌∷◌, ◌≡◌, ◌⊎◌}
+use Rattle.tj_park.specs.Endings.{HasFinished}
 use Rattle.tj_run.proofs.Seats.OneTask.{held_one, let_go_one}
 use Rattle.tj_run.proofs.Waiting.WaitConditions.{one_alarmed, tells_same}
 use Rattle.tj_run.proofs.Seats.WorkersSteps.{workers_on}

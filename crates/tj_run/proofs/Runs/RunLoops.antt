@@ -1,13 +1,8 @@
 -- How a task runs on, ask by ask: what is left of its asks, and what is known of it at each of them.
-use Rattle.std.proofs.Common.{◌≡◌, ◌⊎◌, ⊎_elim, ℕ, suc, ◌<◌, Bool, subst, sym, arith}
-use Rattle.tj_body.specs.Programs.{Program}
-use Rattle.tj_words.specs.declared.record.Finish.{Finish}
-use Rattle.tj_words.specs.declared.record.Rec.{Rec}
-use Rattle.tj_words.specs.declared.view.View.{View}
-use Rattle.tj_run.specs.declared.next.Next.{Next}
+use Rattle.tj_run.proofs.Prelude.{Bool, Finish, GoesOn, IsClosing, IsRunning, IsWaiting, Next, Program, Rec, View}
+use Rattle.tj_run.proofs.Prelude.{arith, subst, suc, sym, ℕ, ⊎_elim, ◌<◌, ◌≡◌, ◌⊎◌}
+use Rattle.tj_run.specs.Inner.Going.{Stops}
 use Rattle.tj_run.specs.declared.next.Next.TheVariants as next
-use Rattle.tj_run.specs.Inner.Carried.{IsClosing, IsRunning, IsWaiting}
-use Rattle.tj_run.specs.Inner.Going.{GoesOn, Stops}
 
 -- how many asks a task may still give before it stops, and one more
 abbrev pub asks_left : {B : Type 0} → (B → ℕ) → Next → Rec B → ℕ

@@ -1,21 +1,13 @@
 -- What stands after a run, by what closes its table; and that a run which was stopped as full has a full meaning.
-use Rattle.std.proofs.Common.{◌≡◌, ℕ, ◌≤◌, Bool, List, [], length, Some, refl, sym, ap, ◌∙◌, subst}
-use Rattle.tj_body.specs.Programs.{Program}
+use Rattle.tj_run.proofs.Prelude.{Bool, HasStopped, Laid, Leaves, Left, Program, SeatMe, Why, [], ap, first_view}
+use Rattle.tj_run.proofs.Prelude.{length, subst, ℕ, ◌∙◌, ◌≡◌, ◌≤◌}
 use Rattle.tj_body.specs.Rounds.{IsFull}
-use Rattle.tj_words.specs.declared.record.Rec.{Rec}
-use Rattle.tj_words.specs.declared.table.Laid.{Laid}
-use Rattle.tj_words.specs.declared.view.View.{View}
 use Rattle.tj_words.specs.AtRest.ClosedCells.{AreAtRest, AreCyclesAlarmed, AreAlarmsOnCycles}
-use Rattle.tj_words.specs.LawParts.FirstState.{first_view}
 use Rattle.tj_words.specs.AtRest.RestMeaning.{HaveMeaning, AreCyclesOfMeaningAlarmed}
 use Rattle.tj_words.specs.AtRest.RestShown.{RestShown}
-use Rattle.tj_words.specs.SeatViews.SeatSteps.{SeatMe}
-use Rattle.tj_run.specs.declared.why.Left.{Left}
-use Rattle.tj_run.specs.declared.why.Left.TheVariants as left
-use Rattle.tj_run.specs.declared.why.Why.{Why}
-use Rattle.tj_run.specs.declared.why.Why.TheVariants as why
-use Rattle.tj_run.specs.Leaving.{HasStopped, Leaves}
 use Rattle.tj_run.specs.Runs.{RestsAt}
+use Rattle.tj_run.specs.declared.why.Left.TheVariants as left
+use Rattle.tj_run.specs.declared.why.Why.TheVariants as why
 
 module _ {B : Type 0} (program : Bool → B → Program B) (root : B) (cells : ℕ) (strict : Bool) (laid : Laid B)
     (of_cells : laid.cells ≡ cells) (of_strict : laid.strict ≡ strict) (of_root : laid.root.value ≡ root) where

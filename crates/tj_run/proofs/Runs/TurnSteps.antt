@@ -1,37 +1,23 @@
 -- What a turn comes to since an earlier view of the seat: a worker that goes on, rests or was stopped since a later
 -- view does so since an earlier one.
-use Rattle.std.proofs.Common.{◌≡◌, ◌≢◌, ℕ, Bool, [], ◌∷◌, Option, Some, None, IfSome, refl, sym, ap, ◌∙◌, subst}
-use Rattle.tj_body.specs.Programs.{Program}
+use Rattle.tj_run.proofs.Prelude.{Bool, Claimed, ComesBack, HasStopped, IfSome, IsFree, IsLeft, IsRooted, IsTailOf}
+use Rattle.tj_run.proofs.Prelude.{KnowsMore, Laid, Leaves, Left, None, Option, Program, Rec, SeatMe, Some, TurnsTo}
+use Rattle.tj_run.proofs.Prelude.{View, Why, [], about_table, ap, custody_of, hold, more_itself, more_same, note_of}
+use Rattle.tj_run.proofs.Prelude.{refl, saw_rest, subst, sym, table_program, tail_on, ℕ, ◌∙◌, ◌∷◌, ◌≡◌, ◌≢◌}
 use Rattle.tj_words.specs.declared.phase.Phase.{Phase}
-use Rattle.tj_words.specs.declared.phase.Phase.TheVariants as phase
-use Rattle.tj_words.specs.declared.record.Rec.{Rec}
-use Rattle.tj_words.specs.declared.table.Laid.{Laid}
-use Rattle.tj_words.specs.declared.view.Noted.TheVariants as note
-use Rattle.tj_words.specs.declared.view.View.{View}
 use Rattle.tj_words.specs.Calls.ExchangeViews.{missed}
-use Rattle.tj_words.specs.SeatViews.KnowsMore.{IsTailOf, KnowsMore}
 use Rattle.tj_words.specs.SeatViews.Moments.{WasSo}
 use Rattle.tj_words.specs.Words.Offsets.{live_at, stop_at}
-use Rattle.tj_words.specs.Law.{IsRooted}
 use Rattle.tj_words.specs.Words.Phases.{phase_word}
-use Rattle.tj_words.specs.SeatViews.SeatSteps.{SeatMe}
-use Rattle.tj_words.specs.Calls.TakenRecords.{custody_of}
-use Rattle.tj_words.specs.SeatViews.TaskLists.{hold}
-use Rattle.tj_words.specs.SeatViews.Views.{note_of, saw_live, saw_rest, saw_stop}
-use Rattle.tj_words.proofs.SeatLoads.KnowsMoreOn.{more_itself, tail_on}
-use Rattle.tj_park.specs.ChildViews.{Claimed}
-use Rattle.tj_run.specs.declared.why.Left.{Left}
-use Rattle.tj_run.specs.declared.why.Left.TheVariants as left
-use Rattle.tj_run.specs.declared.why.Why.{Why}
-use Rattle.tj_run.specs.declared.why.Why.TheVariants as why
-use Rattle.tj_run.specs.Workers.{IsFree, about_table, table_program}
-use Rattle.tj_run.specs.Leaving.{Found, FoundRest, FoundStop, HasStopped, Leaves, stop_word}
-use Rattle.tj_run.specs.Inner.Turns.{TurnsTo}
-use Rattle.tj_run.specs.Inner.Waits.{ComesBack, IsLeft}
+use Rattle.tj_words.specs.SeatViews.Views.{saw_live, saw_stop}
+use Rattle.tj_run.specs.Leaving.{Found, FoundRest, FoundStop, stop_word}
 use Rattle.tj_run.proofs.Seats.FreeSeats.{free_noted, rested_since}
 use Rattle.tj_run.proofs.Waiting.WaitConditions.{taken_runs}
 use Rattle.tj_run.proofs.Seats.WorkersSteps.{left_on, workers_on}
-use Rattle.tj_cells.proofs.SameViews.{more_same}
+use Rattle.tj_words.specs.declared.phase.Phase.TheVariants as phase
+use Rattle.tj_words.specs.declared.view.Noted.TheVariants as note
+use Rattle.tj_run.specs.declared.why.Left.TheVariants as left
+use Rattle.tj_run.specs.declared.why.Why.TheVariants as why
 
 module _ {B : Type 0} where
   -- the load of STOP leaves what the seat knew

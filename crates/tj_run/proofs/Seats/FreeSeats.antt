@@ -1,22 +1,13 @@
 -- Seats of workers between their turns: they may be merged, steps that change no word leave them free, and halves of
 -- them are free.
-use Rattle.std.proofs.Common.{◌≡◌, ℕ, zero, suc, ◌-◌, ◌*◌, ◌<◌, ◌≤◌, [], ◌∷◌}
-use Rattle.std.proofs.Common.{refl, sym, ◌∙◌, arith}
-use mathlib.Core.Option.{some, some-ne-none}
-use Rattle.tj_body.specs.History.{to_task}
-use Rattle.tj_body.specs.declared.point.Reference.{Reference}
-use Rattle.tj_words.specs.declared.table.Laid.{Laid}
+use Rattle.tj_run.proofs.Prelude.{AreCells, IsCell, IsFree, IsWorkers, KnowsMore, Laid, Reference, SeatMe, View, []}
+use Rattle.tj_run.proofs.Prelude.{arith, first_view, least_lot, left_half, nothing_same, refl, saw_rest, some-ne-none}
+use Rattle.tj_run.proofs.Prelude.{suc, sym, to_task, zero, ℕ, ◌*◌, ◌-◌, ◌<◌, ◌∙◌, ◌∷◌, ◌≡◌, ◌≤◌}
+use mathlib.Core.Option.{some}
 use Rattle.tj_words.specs.declared.view.Noted.{Noted}
-use Rattle.tj_words.specs.declared.view.View.{View}
-use Rattle.tj_words.specs.LawParts.FirstState.{first_view}
-use Rattle.tj_words.specs.SeatViews.KnowsMore.{KnowsMore}
-use Rattle.tj_words.specs.LawParts.Lots.{least_lot}
-use Rattle.tj_words.specs.SeatViews.SeatSteps.{SeatMe}
-use Rattle.tj_words.specs.LawParts.TreeWords.{IsCell, AreCells}
-use Rattle.tj_words.specs.SeatViews.Views.{IsIdle, left_half, noted_step, right_half, saw_rest}
-use Rattle.tj_run.specs.Workers.{IsFree, IsWorkers}
+use Rattle.tj_words.specs.SeatViews.Views.{IsIdle, noted_step, right_half}
 use Rattle.tj_run.specs.Leaving.{HasRested}
-use Rattle.tj_park.proofs.NothingToCome.{comes_as, idle_same, nothing_same}
+use Rattle.tj_park.proofs.NothingToCome.{comes_as, idle_same}
 
 -- the root alone is a cell of each table
 pub root_alone : (cells : ℕ) → 0 < cells → AreCells cells (to_task [] ∷ [])

@@ -1,8 +1,6 @@
 -- A seat that has one task: what it has after the task has changed, or has left it.
-use Rattle.std.proofs.Common.{◌≡◌, ℕ, cond, [], ◌∷◌, Some, None, sym, ap, ◌∙◌, eq-eqb}
-use Rattle.tj_words.specs.declared.view.Custody.{Custody}
-use Rattle.tj_words.specs.LawParts.Holding.{held_in}
-use Rattle.tj_words.specs.SeatViews.TaskLists.{let_go, note, noted}
+use Rattle.tj_run.proofs.Prelude.{Custody, None, Some, [], ap, cond, eq-eqb, held_in, let_go, note, noted, sym, ℕ, ◌∙◌}
+use Rattle.tj_run.proofs.Prelude.{◌∷◌, ◌≡◌}
 
 module _ {B : Type 0} (t : ℕ) (k : Custody B) (is : k.task ≡ t) where
   -- it is found

@@ -1,8 +1,6 @@
 -- A task that may act hasn't alarmed.
-use Rattle.tj_words.specs.declared.view.Does.{Does}
+use Rattle.tj_run.proofs.Prelude.{Does, HasAlarmed, MayAct}
 use Rattle.tj_words.specs.declared.view.Does.TheVariants as does
-use Rattle.tj_words.specs.LawParts.LiveCount.{HasAlarmed}
-use Rattle.tj_words.specs.Steps.StepEvents.{MayAct}
 
 pub acts_quietly : (d : Does) → MayAct d → ¬ HasAlarmed d
 acts_quietly does.Unborn m a = a

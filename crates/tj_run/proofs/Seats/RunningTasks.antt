@@ -1,22 +1,10 @@
 -- A running task whose record has changed, but not in what its seat has for it.
-use Rattle.std.proofs.Common.{◌≡◌, inl, inr, ⊎_elim, ℕ, zero, suc, ◌<◌, List, [], ◌∷◌, length, map, get_or, refl, sym}
-use Rattle.std.proofs.Common.{None, ap, subst, ◌∙◌, arith}
-use Rattle.tj_base.specs.declared.cell.CellId.{CellId}
-use Rattle.tj_base.specs.declared.cell.Sort.{Sort}
+use Rattle.tj_run.proofs.Prelude.{All, CellId, Held, IsIn, IsPaid, Laid, List, None, Pay, Rec, RunsTask, SeatMe, Sort}
+use Rattle.tj_run.proofs.Prelude.{[], ap, arith, fill_at, fill_cells, fill_of, get_or, held_at, in_left, inl, inr}
+use Rattle.tj_run.proofs.Prelude.{length, map, numbers, record_cells, refl, subst, suc, sym, to_map, zero, ℕ, ⊎_elim}
+use Rattle.tj_run.proofs.Prelude.{◌<◌, ◌∙◌, ◌∷◌, ◌≡◌}
 use Rattle.tj_base.specs.declared.cell.Sort.TheVariants as sort
-use Rattle.tj_base.specs.declared.value.Pay.{Pay}
 use Rattle.tj_base.specs.declared.value.Pay.TheVariants as pay
-use Rattle.tj_body.specs.Asks.{IsPaid}
-use Rattle.tj_body.specs.Points.{IsIn}
-use Rattle.tj_body.proofs.Lists.{in_left, to_map}
-use Rattle.tj_words.specs.declared.record.Held.{Held}
-use Rattle.tj_words.specs.declared.record.Rec.{Rec}
-use Rattle.tj_words.specs.declared.table.Laid.{Laid}
-use Rattle.tj_words.specs.Words.Lists.{All, numbers}
-use Rattle.tj_words.specs.LawParts.NamedCells.{fill_cells, record_cells}
-use Rattle.tj_words.specs.SeatViews.SeatSteps.{SeatMe}
-use Rattle.tj_run.specs.Inner.Carried.{RunsTask}
-use Rattle.tj_run.specs.Inner.Pieces.{fill_at, fill_of, held_at}
 
 -- what stands at an index stands in the list
 pub in_at : {A : Type 0} (l : List A) (d : A) (k : ℕ) → k < length l → IsIn (get_or l k d) l

@@ -1,12 +1,6 @@
 -- The lot of a seat that is split for the last of some workers is enough for the others.
-use Rattle.std.proofs.Common.{◌≡◌, ℕ, zero, suc, ◌+◌, ◌-◌, ◌*◌, ◌<◌, ◌≤◌, false, List, [], ◌∷◌, ◌++◌, length}
-use Rattle.std.proofs.Common.{length-append}
-use Rattle.std.proofs.Common.{refl, sym, ap, ◌∙◌, subst, arith}
-use Rattle.std.specs.Bool.{◌==◌}
-use Rattle.tj_words.specs.declared.view.View.{View}
-use Rattle.tj_words.specs.LawParts.Lots.{least_lot}
-use Rattle.tj_words.specs.SeatViews.Views.{left_half}
-use Rattle.tj_run.specs.Runs.{HasLots}
+use Rattle.tj_run.proofs.Prelude.{HasLots, View, [], ap, least_lot, left_half, suc, ℕ, ◌*◌, ◌+◌, ◌-◌, ◌==◌, ◌≡◌, ◌≤◌}
+use Rattle.std.proofs.Common.{zero, ◌<◌, false, List, ◌∷◌, ◌++◌, length, length-append, ◌∙◌, arith}
 
 -- a list with one more at its end is one longer
 pub length_last : {A : Type 0} (xs ys : List A) (x : A) → xs ≡ ys ++ x ∷ [] → length xs ≡ length ys + 1

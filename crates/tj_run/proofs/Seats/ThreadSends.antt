@@ -1,4 +1,5 @@
 -- A table may be lent to another thread, where its tasks' bodies may go there.
+use Rattle.tj_run.proofs.Prelude.{Bool, [], false, send, true, ◌∷◌}
 use base.Shift.{Keyless}
 use denote.Builtin.{u32}
 use denote.Exit.{Last, if_kept, left, unseen}
@@ -7,14 +8,13 @@ use denote.RattleType.{RattleType}
 use denote.Struct.Declared.{row, shape}
 use denote.Struct.Tuple.{type_at}
 use mir.Syntax.{Dict, Sym, given}
+use Rattle.std.proofs.Crossing.{crosses, frees, sync}
+use Rattle.tj_body.specs.declared.body.Body.{Ghosts}
 use Rattle.atomic_table.proofs.owned.Table.TheSendSync as table_sends
-use Rattle.std.proofs.Common.{Bool, true, false, [], ◌∷◌}
-use Rattle.std.proofs.Crossing.{crosses, frees, send, sync}
 use Rattle.std.proofs.option.Option.TheSendSync as option_sends
 use Rattle.std.specs.contracts.alloc.Global as heap
 use Rattle.std.specs.contracts.impls.GlobalAllocator.TheImpl as heap_allocates
 use Rattle.std.specs.contracts.option.Option as option
-use Rattle.tj_body.specs.declared.body.Body.{Ghosts}
 use Rattle.tj_words.proofs.record.Rec.TheSendSync as record_sends
 use Rattle.tj_words.specs.contracts.record.Rec as record_row
 use Rattle.tj_words.specs.contracts.table.Key as key

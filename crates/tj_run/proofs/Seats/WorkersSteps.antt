@@ -1,26 +1,10 @@
 -- The seat of a worker after calls that leave it nothing new to do: it is a worker's seat still, it runs the task that
 -- it ran, and the task's record tells what it told.
-use Rattle.std.proofs.Common.{◌≡◌, ℕ, ◌≤◌, Bool, [], Result, Ok, Err, IfErr, IsErrAnd, sym, ap, ◌∙◌, subst}
-use Rattle.tj_body.specs.Points.{IsIn}
-use Rattle.tj_body.specs.Programs.{Program}
-use Rattle.tj_body.proofs.Lists.{in_right}
-use Rattle.tj_words.specs.declared.record.Rec.{Rec}
-use Rattle.tj_words.specs.declared.table.Laid.{Laid}
-use Rattle.tj_words.specs.declared.view.View.{View}
-use Rattle.tj_words.specs.SeatViews.KnownEntries.{HasSeen}
+use Rattle.tj_run.proofs.Prelude.{AreCells, ComesBack, Err, Goes, GoesOn, HasReadTree, HasSeen, IsIn, IsLeft, IsWaiting}
+use Rattle.tj_run.proofs.Prelude.{IsWorkers, Lacks, Laid, Next, Ok, Program, Rec, RunsTask, SeatMe, View, Why, in_right}
+use Rattle.tj_run.proofs.Prelude.{least_lot, more_itself, more_on, stands_on, sym, table_program, tail_on, tells_on, ℕ}
+use Rattle.std.proofs.Common.{◌≡◌, ◌≤◌, Bool, [], Result, IfErr, IsErrAnd, ap, ◌∙◌, subst}
 use Rattle.tj_words.specs.SeatViews.KnowsMore.{KnowsMore, HasSameWakes, HasSameHand, HasSameCounts}
-use Rattle.tj_words.specs.LawParts.Lots.{least_lot}
-use Rattle.tj_words.specs.SeatViews.SeatSteps.{SeatMe}
-use Rattle.tj_words.specs.SeatViews.TreeReads.{HasReadTree}
-use Rattle.tj_words.specs.LawParts.TreeWords.{AreCells}
-use Rattle.tj_words.proofs.SeatLoads.KnowsMoreOn.{more_itself, more_on, tail_on}
-use Rattle.tj_words.proofs.Meaning.MeaningGrows.{stands_on, tells_on}
-use Rattle.tj_run.specs.declared.next.Next.{Next}
-use Rattle.tj_run.specs.declared.why.Why.{Why}
-use Rattle.tj_run.specs.Workers.{IsWorkers, table_program}
-use Rattle.tj_run.specs.Inner.Carried.{IsWaiting, RunsTask}
-use Rattle.tj_run.specs.Inner.Going.{Goes, GoesOn, Lacks}
-use Rattle.tj_run.specs.Inner.Waits.{ComesBack, IsLeft}
 
 module _ {B : Type 0} (laid : Laid B) (v w : View B) (k : KnowsMore v w) (hand : HasSameHand v w)
     (wakes : HasSameWakes v w) (counts : HasSameCounts v w) (all : AreCells laid.cells w.born) where

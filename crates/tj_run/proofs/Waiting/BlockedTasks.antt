@@ -1,22 +1,11 @@
 -- A task that has blocked may be parked or shelved; how it leaves its worker then, or comes back.
-use Rattle.std.proofs.Common.{◌≡◌, ℕ, Bool, ◌∷◌, None, refl, sym, subst}
-use Rattle.atomic_table.specs.Table.{rest}
-use Rattle.tj_body.specs.Programs.{Program}
-use Rattle.tj_core.specs.declared.walk.Way.{Way}
-use Rattle.tj_words.specs.declared.record.Held.{Held}
-use Rattle.tj_words.specs.declared.record.Rec.{Rec}
-use Rattle.tj_words.specs.declared.table.Laid.{Laid}
-use Rattle.tj_words.specs.Calls.LiveViews.{HasSlot}
-use Rattle.tj_words.specs.SeatViews.SeatSteps.{SeatMe}
-use Rattle.tj_detect.specs.declared.blocking.Verdict.{Verdict}
-use Rattle.tj_detect.specs.declared.blocking.Verdict.TheVariants as verdict
-use Rattle.tj_park.specs.ChildViews.{MayShelve, shelved}
-use Rattle.tj_park.specs.ParkViews.{GaveBack, LeftTask, MayParkTask}
-use Rattle.tj_park.specs.Records.{HasNoRecord}
-use Rattle.tj_run.specs.Inner.Pieces.{held_at}
-use Rattle.tj_run.specs.Inner.Waits.{Blocked, ComesBack, HasBlocked, IsLeft, waits_at}
+use Rattle.tj_run.proofs.Prelude.{Blocked, Bool, ComesBack, GaveBack, HasNoRecord, HasSlot, Held, IsLeft, Laid}
+use Rattle.tj_run.proofs.Prelude.{LeftTask, MayParkTask, MayShelve, None, Program, Rec, SeatMe, Verdict, Way, held_at}
+use Rattle.tj_run.proofs.Prelude.{refl, rest, shelved, subst, sym, waits_at, ℕ, ◌∷◌, ◌≡◌}
+use Rattle.tj_run.specs.Inner.Waits.{HasBlocked}
 use Rattle.tj_run.proofs.Waiting.WaitConditions.{IsQuiet, back_parked, left_parked, left_shelved, others_then}
 use Rattle.tj_run.proofs.Waiting.WaitConditions.{park_then, shelve_then, slot_then}
+use Rattle.tj_detect.specs.declared.blocking.Verdict.TheVariants as verdict
 
 module _ {B : Type 0} (program : Bool → B → Program B) (laid : Laid B) (r : Rec B) (q : ℕ) (wait : Way) (d : Verdict)
     (old m : SeatMe B) (h : HasBlocked program laid r q wait d old m) where

@@ -1,46 +1,25 @@
 -- The tests of a get and of a join: what they make of the point of the task, by the sort of the held cell and the fork
 -- order.
-use Rattle.std.proofs.Common.{◌≡◌, ℕ, zero, suc, ◌<◌, Bool, true, false, cond, not, ◌&&◌, List, [], ◌∷◌, length}
-use Rattle.std.proofs.Common.{refl, sym, ap, ◌∙◌, subst, inl, inr, IfOk, Result, Ok, Err}
-use mathlib.Core.Option.{some-injective, some-ne-none}
+use Rattle.tj_run.proofs.Prelude.{Ask, Bool, Err, Goes, HasReadTree, Held, HeldSays, IfOk, IsAsked, IsCell, IsClosing}
+use Rattle.tj_run.proofs.Prelude.{IsIn, IsWaiting, KnowsMore, Laid, List, Next, Ok, Point, PointsAsk, Program, Rec}
+use Rattle.tj_run.proofs.Prelude.{Reference, RunsTask, SeatMe, Sort, View, Why, [], ap, held_at, inl, inr, reference_of}
+use Rattle.tj_run.proofs.Prelude.{refl, some-injective, some-ne-none, suc, sym, table_program, ℕ, ◌<◌, ◌∙◌, ◌∷◌, ◌≡◌}
+use Rattle.std.proofs.Common.{zero, true, false, cond, not, ◌&&◌, length, subst, Result}
 use Rattle.tj_base.specs.ForkOrder.{Name, before as is_before}
-use Rattle.tj_base.specs.declared.cell.Sort.{Sort}
-use Rattle.tj_base.specs.declared.cell.Sort.TheVariants as sort
-use Rattle.tj_base.specs.declared.cause.Cause.TheVariants as cause
 use Rattle.tj_body.specs.History.{after_ask, after_failure, after_get, after_join, reference, to_task, with_wait}
-use Rattle.tj_body.specs.Points.{IsIn}
-use Rattle.tj_body.specs.Programs.{Program}
-use Rattle.tj_body.specs.RoundPoints.{PointsAsk}
 use Rattle.tj_body.specs.Inner.AskSteps.{get_of, join_of}
-use Rattle.tj_body.specs.declared.ask.Ask.{Ask}
-use Rattle.tj_body.specs.declared.point.Point.{Point}
-use Rattle.tj_body.specs.declared.point.Reference.{Reference}
-use Rattle.tj_core.specs.declared.walk.Way.TheVariants as way
 use Rattle.tj_core.specs.Events.{way_if}
-use Rattle.tj_words.specs.declared.record.Finish.TheVariants as finish
-use Rattle.tj_words.specs.declared.record.Held.{Held}
-use Rattle.tj_words.specs.declared.record.Hurt.TheVariants as hurt
-use Rattle.tj_words.specs.declared.record.Rec.{Rec}
-use Rattle.tj_words.specs.declared.table.Laid.{Laid}
-use Rattle.tj_words.specs.declared.view.View.{View}
-use Rattle.tj_words.specs.SeatViews.KnowsMore.{KnowsMore}
-use Rattle.tj_words.specs.SeatViews.SeatSteps.{SeatMe}
-use Rattle.tj_words.specs.LawParts.ShownState.{reference_of}
-use Rattle.tj_words.specs.LawParts.Telling.{HeldSays}
-use Rattle.tj_words.specs.SeatViews.TreeReads.{HasReadTree}
-use Rattle.tj_words.specs.LawParts.TreeWords.{IsCell}
 use Rattle.tj_words.specs.Steps.WalkSteps.{is_task_sort, way_by}
-use Rattle.tj_run.specs.declared.next.Next.{Next}
-use Rattle.tj_run.specs.declared.next.Next.TheVariants as next
-use Rattle.tj_run.specs.declared.why.Why.{Why}
-use Rattle.tj_run.specs.Workers.{table_program}
-use Rattle.tj_run.specs.Inner.Carried.{IsAsked, IsClosing, IsWaiting, RunsTask}
-use Rattle.tj_run.specs.Inner.Going.{Goes}
-use Rattle.tj_run.specs.Inner.Pieces.{held_at}
 use Rattle.tj_run.proofs.Asks.AskedSteps.{asked_fails, asked_on, asked_waits}
 use Rattle.tj_run.proofs.Asks.PointSteps.{before, pairs_at}
 use Rattle.tj_run.proofs.Cells.ToldCells.{cell_known}
 use Rattle.tj_run.proofs.Seats.WorkersSteps.{goes_since, read_more, runs_read}
+use Rattle.tj_base.specs.declared.cell.Sort.TheVariants as sort
+use Rattle.tj_base.specs.declared.cause.Cause.TheVariants as cause
+use Rattle.tj_core.specs.declared.walk.Way.TheVariants as way
+use Rattle.tj_words.specs.declared.record.Finish.TheVariants as finish
+use Rattle.tj_words.specs.declared.record.Hurt.TheVariants as hurt
+use Rattle.tj_run.specs.declared.next.Next.TheVariants as next
 
 -- what a cell is, where it is known
 reference_is : (born : List Reference) (c : ℕ) (x : Reference) → IsCell born c x → reference_of born c ≡ x

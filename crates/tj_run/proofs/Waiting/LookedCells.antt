@@ -1,56 +1,31 @@
 -- A task that looks at the cell for which it waits: nothing has become of it, or its value is the answer, or it is
 -- broken.
-use Rattle.std.proofs.Common.{◌≡◌, ◌≢◌, ℕ, ℤ, ◌<◌, Bool, true, false, [], length, Result, Ok, Err, IfOk, inl, inr, ⊎_elim}
-use Rattle.std.proofs.Common.{refl, sym, ap, subst, ◌∙◌, arith}
-use mathlib.Core.Option.{some-injective}
-use Rattle.tj_base.specs.declared.cell.CellId.{CellId}
-use Rattle.tj_base.specs.declared.cell.Sort.TheVariants as sort
-use Rattle.tj_base.specs.declared.cause.Cause.TheVariants as cause
-use Rattle.tj_body.specs.History.{after_read, reference, to_promise, to_task}
-use Rattle.tj_body.specs.Points.{IsIn}
-use Rattle.tj_body.specs.Programs.{Program}
-use Rattle.tj_body.specs.RoundPoints.{Becomes, IsOfRounds, PointsRead}
-use Rattle.tj_body.specs.declared.ask.Answer.{Answer}
-use Rattle.tj_body.specs.declared.ask.Answer.TheVariants as answer
-use Rattle.tj_body.specs.declared.point.Close.TheVariants as close
-use Rattle.tj_body.specs.declared.point.Entry.{Entry}
-use Rattle.tj_body.specs.declared.point.Entry.TheVariants as entry
-use Rattle.tj_body.specs.declared.point.Reference.{Reference}
-use Rattle.tj_body.specs.declared.point.Value.TheVariants as value
-use Rattle.tj_body.proofs.Lists.{in_right}
+use Rattle.tj_run.proofs.Prelude.{Answer, Becomes, Bool, CellId, Entry, Err, FindsNothing, Goes, HasSeen, Held}
+use Rattle.tj_run.proofs.Prelude.{HeldSays, IfOk, IsCell, IsClosing, IsIn, IsOfRounds, IsOpen, IsRunning, IsWaiting}
+use Rattle.tj_run.proofs.Prelude.{KnowsMore, Laid, Next, Ok, PointsRead, Program, Rec, Reference, Result, RunsTask}
+use Rattle.tj_run.proofs.Prelude.{SeatMe, View, Why, [], about_table, after_read, ap, arith, cell_on, false, held_at}
+use Rattle.tj_run.proofs.Prelude.{in_right, inl, inr, inside, length, more_same, reference, refl, some-injective, subst}
+use Rattle.tj_run.proofs.Prelude.{sym, table_program, to_promise, to_task, true, ℕ, ℤ, ⊎_elim, ◌<◌, ◌∙◌, ◌≡◌, ◌≢◌}
 use Rattle.tj_cells.specs.declared.seen.Seen.{Seen}
-use Rattle.tj_cells.specs.declared.seen.Seen.TheVariants as seen
 use Rattle.tj_cells.specs.SeenValues.{SeesValue, cells_seen, saw_value}
-use Rattle.tj_words.specs.declared.record.Finish.TheVariants as finish
-use Rattle.tj_words.specs.declared.record.Held.{Held}
-use Rattle.tj_words.specs.declared.record.Hurt.TheVariants as hurt
-use Rattle.tj_words.specs.declared.record.Rec.{Rec}
-use Rattle.tj_words.specs.declared.table.Laid.{Laid}
-use Rattle.tj_words.specs.declared.view.View.{View}
-use Rattle.tj_words.specs.SeatViews.KnownEntries.{HasSeen}
-use Rattle.tj_words.specs.SeatViews.KnowsMore.{KnowsMore}
-use Rattle.tj_words.specs.SeatViews.SeatSteps.{SeatMe}
-use Rattle.tj_words.specs.SeatViews.SeenWords.{FindsNothing}
-use Rattle.tj_words.specs.LawParts.TreeWords.{IsCell}
 use Rattle.tj_words.specs.SeatViews.Views.{loaded_once}
-use Rattle.tj_words.proofs.Meaning.MeaningGrows.{cell_on}
-use Rattle.tj_words.proofs.Stores.SeatLists.{inside}
-use Rattle.tj_words.specs.LawParts.Telling.{HeldSays}
-use Rattle.tj_run.specs.declared.next.Next.{Next}
-use Rattle.tj_run.specs.declared.next.Next.TheVariants as next
-use Rattle.tj_run.specs.declared.why.Why.{Why}
 use Rattle.tj_run.specs.Inner.Answers.{next_broken, with_lost, with_reference as record_with}
-use Rattle.tj_run.specs.Workers.{about_table, table_program}
-use Rattle.tj_run.specs.Inner.Carried.{IsClosing, IsOpen, IsRunning, IsWaiting, RunsTask}
-use Rattle.tj_run.specs.Inner.Going.{Goes}
-use Rattle.tj_run.specs.Inner.Pieces.{held_at}
 use Rattle.tj_run.proofs.Asks.FoundValues.{answered, answered_cell, read_rounds, stands_later, tells_later, waited_cell}
 use Rattle.tj_run.proofs.Cells.KnownCells.{cells_known, ending_known, held_known, known_more, owed_known, owned_known}
 use Rattle.tj_run.proofs.Cells.KnownCells.{task_known}
 use Rattle.tj_run.proofs.Asks.PointSteps.{pairs_length}
 use Rattle.tj_run.proofs.Seats.RunningTasks.{held_here, runs_too}
 use Rattle.tj_run.proofs.Seats.WorkersSteps.{runs_on, waits_on}
-use Rattle.tj_cells.proofs.SameViews.{more_same}
+use Rattle.tj_base.specs.declared.cell.Sort.TheVariants as sort
+use Rattle.tj_base.specs.declared.cause.Cause.TheVariants as cause
+use Rattle.tj_body.specs.declared.ask.Answer.TheVariants as answer
+use Rattle.tj_body.specs.declared.point.Close.TheVariants as close
+use Rattle.tj_body.specs.declared.point.Entry.TheVariants as entry
+use Rattle.tj_body.specs.declared.point.Value.TheVariants as value
+use Rattle.tj_cells.specs.declared.seen.Seen.TheVariants as seen
+use Rattle.tj_words.specs.declared.record.Finish.TheVariants as finish
+use Rattle.tj_words.specs.declared.record.Hurt.TheVariants as hurt
+use Rattle.tj_run.specs.declared.next.Next.TheVariants as next
 
 -- a seat by its view and its slots
 seat_is : {B : Type 0} (m : SeatMe B) (me : SeatMe B) (w : View B) → m.0 ≡ w → m.1 ≡ me.1 → m ≡ (w, me.1)

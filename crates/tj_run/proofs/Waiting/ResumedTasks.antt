@@ -1,35 +1,19 @@
 -- A task that was claimed, or has come back: it is at its start, or waits for a cell of which something has become.
-use Rattle.std.proofs.Common.{◌≡◌, ◌≢◌, ⊎_elim, ℕ, ◌+◌, ◌^◌, ◌<◌, ◌≤◌, Bool, length, None, Option, Result, Ok, Err}
-use Rattle.std.proofs.Common.{IfOk, refl, sym, ap, subst, ◌∙◌, arith}
-use Rattle.tj_body.specs.History.{reference}
-use Rattle.tj_body.specs.Points.{IsGoodAt, MayWait, most_places}
-use Rattle.tj_body.specs.Programs.{Program}
-use Rattle.tj_body.specs.RoundPoints.{PointsAreGood}
-use Rattle.tj_body.specs.declared.ask.Answer.{Answer}
-use Rattle.tj_body.specs.declared.ask.Answer.TheVariants as answer
-use Rattle.tj_body.specs.declared.point.Point.{Point}
+use Rattle.tj_run.proofs.Prelude.{Answer, Bool, Err, FindsNothing, Finish, Goes, HeldSays, IfOk, IsGoodAt, IsRooted}
+use Rattle.tj_run.proofs.Prelude.{IsRunning, IsWaiting, Laid, Next, None, Ok, Option, Point, PointsAreGood, Program}
+use Rattle.tj_run.proofs.Prelude.{Rec, Result, RunsTask, SeatMe, TellsStage, View, Why, ap, arith, held_at, length}
+use Rattle.tj_run.proofs.Prelude.{more_itself, most_places, reference, refl, subst, sym, table_program, ℕ, ⊎_elim, ◌+◌}
+use Rattle.tj_run.proofs.Prelude.{◌<◌, ◌^◌, ◌∙◌, ◌≡◌, ◌≢◌, ◌≤◌}
+use Rattle.tj_body.specs.Points.{MayWait}
 use Rattle.tj_body.specs.declared.point.PointStage.{PointStage}
-use Rattle.tj_body.specs.declared.point.PointStage.TheVariants as stage
-use Rattle.tj_words.specs.declared.record.Finish.{Finish}
-use Rattle.tj_words.specs.declared.record.Rec.{Rec}
-use Rattle.tj_words.specs.declared.table.Laid.{Laid}
-use Rattle.tj_words.specs.declared.view.View.{View}
-use Rattle.tj_words.specs.Law.{IsRooted}
-use Rattle.tj_words.specs.SeatViews.SeatSteps.{SeatMe}
-use Rattle.tj_words.specs.SeatViews.SeenWords.{FindsNothing}
 use Rattle.tj_words.specs.Calls.TakenRecords.{HasWaited, IsKnownRecord}
-use Rattle.tj_words.specs.LawParts.Telling.{HeldSays, TellsStage}
-use Rattle.tj_words.proofs.SeatLoads.KnowsMoreOn.{more_itself}
-use Rattle.tj_run.specs.declared.next.Next.{Next}
-use Rattle.tj_run.specs.declared.next.Next.TheVariants as next
-use Rattle.tj_run.specs.declared.why.Why.{Why}
-use Rattle.tj_run.specs.Workers.{table_program}
-use Rattle.tj_run.specs.Inner.Carried.{IsRunning, IsWaiting, RunsTask}
-use Rattle.tj_run.specs.Inner.Going.{Goes, HasAnswer, IsCauseOfWait}
-use Rattle.tj_run.specs.Inner.Pieces.{held_at}
+use Rattle.tj_run.specs.Inner.Going.{HasAnswer, IsCauseOfWait}
 use Rattle.tj_run.proofs.Waiting.LookedCells.{waited}
 use Rattle.tj_run.proofs.Asks.NextAsks.{few_held}
 use Rattle.tj_run.proofs.Asks.PointSteps.{pairs_length}
+use Rattle.tj_body.specs.declared.ask.Answer.TheVariants as answer
+use Rattle.tj_body.specs.declared.point.PointStage.TheVariants as stage
+use Rattle.tj_run.specs.declared.next.Next.TheVariants as next
 
 -- the answer is that of a task that waits
 abbrev pub IsPlace : Answer → Type 0

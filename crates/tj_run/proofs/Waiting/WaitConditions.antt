@@ -1,65 +1,30 @@
 -- A task that waits may block, and may then be parked or shelved; how it leaves its worker, or comes back.
-use Rattle.std.proofs.Common.{◌≡◌, ◌⊎◌, ℕ, ◌<◌, ◌≤◌, Bool, true, false, cond, nat_eq, [], ◌∷◌, length}
-use Rattle.std.proofs.Common.{Some, None}
-use Rattle.std.proofs.Common.{refl, sym, ap, ◌∙◌, subst, inl, inr, arith}
+use Rattle.tj_run.proofs.Prelude.{Answer, Blocked, Bool, ComesBack, Custody, Does, Finish, GaveBack, HasParked}
+use Rattle.tj_run.proofs.Prelude.{HasReadTree, HasSlot, Held, HeldSays, IsHeldAs, IsIn, IsLeft, IsWaiting, IsWorkers}
+use Rattle.tj_run.proofs.Prelude.{KnowsMore, KnowsTask, Laid, LeftTask, List, MayAct, MayParkTask, MayShelve, None}
+use Rattle.tj_run.proofs.Prelude.{Option, Point, Program, Rec, Reference, RunsTask, SeatMe, Some, Tells, TellsStage}
+use Rattle.tj_run.proofs.Prelude.{Verdict, View, Way, [], about_table, ap, arith, cond, custody_of, does_first, doing}
+use Rattle.tj_run.proofs.Prelude.{false, held_at, held_in, inl, inr, length, let_go, more_on, more_same, nat_eq}
+use Rattle.tj_run.proofs.Prelude.{no_some, noted, nothing_same, now_does, numbers, refl, rest, same_some, shelved}
+use Rattle.tj_run.proofs.Prelude.{subst, sym, table_program, true, waits_at, way_by, ℕ, ◌<◌, ◌∙◌, ◌∷◌, ◌≡◌, ◌≤◌, ◌⊎◌}
 use Rattle.std.proofs.lemmas.Option.{slice_get-get_or}
-use Rattle.atomic_table.specs.Table.{rest}
-use Rattle.tj_base.specs.declared.cell.Sort.TheVariants as sort
-use Rattle.tj_body.specs.Points.{IsIn}
-use Rattle.tj_body.specs.Programs.{Program}
-use Rattle.tj_body.specs.declared.ask.Answer.{Answer}
-use Rattle.tj_body.specs.declared.ask.Answer.TheVariants as answer
 use Rattle.tj_core.specs.declared.walk.LastRead.TheVariants.{SawOthers}
-use Rattle.tj_core.specs.declared.walk.Way.{Way}
-use Rattle.tj_core.specs.declared.walk.Way.TheVariants as way
 use Rattle.tj_core.specs.declared.walk.Walker.{Walker}
 use Rattle.tj_core.specs.Events.{EndsWalk, MaySettle, raised_by_way}
-use Rattle.tj_words.specs.declared.record.Held.{Held}
-use Rattle.tj_words.specs.declared.record.Rec.{Rec}
-use Rattle.tj_words.specs.declared.table.Laid.{Laid}
-use Rattle.tj_words.specs.declared.view.Custody.{Custody}
-use Rattle.tj_words.specs.declared.view.Does.{Does}
-use Rattle.tj_words.specs.declared.view.Does.TheVariants as does
-use Rattle.tj_words.specs.declared.view.View.{View}
-use Rattle.tj_words.specs.LawParts.Holding.{held_in}
-use Rattle.tj_words.specs.SeatViews.KnowsMore.{KnowsMore}
 use Rattle.tj_words.specs.LawParts.LiveCount.{HasAlarmed, HasWakeToCome, Holds}
-use Rattle.tj_words.specs.Calls.LiveViews.{HasSlot}
-use Rattle.tj_words.specs.Words.Lists.{numbers}
 use Rattle.tj_words.specs.LawParts.RecordPhases.{WaitsFor}
-use Rattle.tj_words.specs.Steps.QuietSteps.{does_first}
-use Rattle.tj_words.specs.SeatViews.SeatSteps.{SeatMe}
-use Rattle.tj_words.specs.Steps.StepEvents.{MayAct}
-use Rattle.tj_words.specs.Calls.TakenRecords.{custody_of}
-use Rattle.tj_words.specs.SeatViews.TaskLists.{let_go, noted}
-use Rattle.tj_words.specs.LawParts.Telling.{HeldSays, TellsStage}
-use Rattle.tj_words.specs.SeatViews.TreeReads.{HasReadTree, KnowsTask}
-use Rattle.tj_words.specs.Calls.WaitViews.{now_does}
-use Rattle.tj_words.specs.Steps.WalkSteps.{way_by}
-use Rattle.tj_words.proofs.Waiters.ChainLists.{no_some, same_some}
-use Rattle.tj_words.proofs.SeatLoads.KnowsMoreOn.{more_on}
-use Rattle.tj_detect.specs.Blocks.{EndsWith, MayBlock, does_after, doing, tokens_given}
-use Rattle.tj_detect.specs.declared.blocking.Verdict.{Verdict}
-use Rattle.tj_detect.specs.declared.blocking.Verdict.TheVariants as verdict
-use Rattle.tj_park.specs.ChildViews.{MayShelve, shelved}
-use Rattle.tj_park.specs.ParkViews.{GaveBack, HasParked, LeftTask, MayParkTask}
+use Rattle.tj_detect.specs.Blocks.{EndsWith, MayBlock, does_after, tokens_given}
 use Rattle.tj_park.specs.Records.{HasNoRecord, HasNothingToCome, HasTaken, MayLeaveHome}
-use Rattle.tj_run.specs.Workers.{IsWorkers, about_table, table_program}
-use Rattle.tj_run.specs.Inner.Carried.{IsWaiting, RunsTask}
-use Rattle.tj_run.specs.Inner.Pieces.{held_at}
-use Rattle.tj_run.specs.Inner.Waits.{Blocked, ComesBack, IsHeldAs, IsLeft, waits_at}
 use Rattle.tj_run.proofs.Seats.OneTask.{held_one, let_go_one, noted_one}
 use Rattle.tj_run.proofs.Asks.PointSteps.{pairs_length}
 use Rattle.tj_run.proofs.Cells.ToldCells.{cell_known, task_known, told_cell, told_held, told_knows, told_task}
 use Rattle.tj_run.proofs.Seats.WorkersSteps.{back_on, left_on, read_more, runs_read, waits_on, workers_on}
-use Rattle.tj_cells.proofs.SameViews.{more_same}
-use Rattle.tj_park.proofs.NothingToCome.{nothing_same}
 use Rattle.tj_run.proofs.Seats.FreeSeats.{workers_same}
-use Rattle.std.proofs.Common.{List, Option}
-use Rattle.tj_words.specs.declared.record.Finish.{Finish}
-use Rattle.tj_body.specs.declared.point.Point.{Point}
-use Rattle.tj_body.specs.declared.point.Reference.{Reference}
-use Rattle.tj_words.specs.LawParts.Telling.{Tells}
+use Rattle.tj_base.specs.declared.cell.Sort.TheVariants as sort
+use Rattle.tj_body.specs.declared.ask.Answer.TheVariants as answer
+use Rattle.tj_core.specs.declared.walk.Way.TheVariants as way
+use Rattle.tj_words.specs.declared.view.Does.TheVariants as does
+use Rattle.tj_detect.specs.declared.blocking.Verdict.TheVariants as verdict
 
 -- what a record tells of a point, one tells that has the same but for its answer and how it ends
 pub tells_same : {B : Type 0} (born : List Reference) (r : Rec B) (p : Point B) (given : Answer) (spare : Bool)

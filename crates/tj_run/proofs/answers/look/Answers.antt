@@ -1,10 +1,7 @@
-use Rattle.std.proofs.Common.{length, sym, ap, subst, ◌<◌, w64}
-use Rattle.std.proofs.lemmas.Int.{to_z-of_z}
-use Rattle.tj_body.specs.Programs.{program_of}
-use Rattle.tj_run.specs.Inner.Pieces.{held_at}
+use Rattle.tj_run.proofs.Prelude.{ap, held_at, length, program_of, subst, sym, to_z-of_z, w64, ◌<◌}
 use Rattle.tj_run.proofs.Waiting.LookedCells.{broken_seen, look_broken, look_in_vain, look_number, look_promise}
-use Rattle.tj_run.proofs.Waiting.LookedCells.{look_task}
-use Rattle.tj_run.proofs.Waiting.LookedCells.{look_there, number_seen, place_held, promise_seen, runs_then, task_seen}
+use Rattle.tj_run.proofs.Waiting.LookedCells.{look_task, look_there, number_seen, place_held, promise_seen, runs_then}
+use Rattle.tj_run.proofs.Waiting.LookedCells.{task_seen}
 use Rattle.tj_run.proofs.answers.look.Goals as goal
 
 pub bounds-items-place : goal.bounds-items-place

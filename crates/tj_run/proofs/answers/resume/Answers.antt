@@ -1,6 +1,4 @@
-use Rattle.std.proofs.Common.{refl}
-use Rattle.tj_body.specs.Programs.{program_of}
-use Rattle.tj_run.specs.Workers.{table_program}
+use Rattle.tj_run.proofs.Prelude.{program_of, refl, table_program}
 use Rattle.tj_run.proofs.Waiting.ResumedTasks.{goes_from_start, has_answers, is_place, waits_again}
 use Rattle.tj_run.proofs.answers.resume.Goals as goal
 

@@ -1,18 +1,14 @@
+use Rattle.tj_run.proofs.Prelude.{HasLots, IsFree, SeatMe, Some, [], ap, arith, length, send, subst, sym, ◌<◌, ◌∙◌, ◌≡◌}
 use mir.Syntax.{named, of_param, ty_ptr}
 use denote.Exit.{no}
 use denote.Param.{param}
-use Rattle.tj_words.specs.contracts.view.View as view
 use denote.Param.Send.{arg_send, param_send, shr_send}
-use Rattle.atomic_table.proofs.shared.Seat.TheSendSync as seat
-use Rattle.std.proofs.Common.{◌≡◌, ◌<◌, ◌∙◌, [], length, Some, ap, sym, subst, arith}
-use Rattle.std.proofs.Crossing.{send}
 use Rattle.std.proofs.lemmas.List.Elements.{All-pop}
-use Rattle.tj_words.specs.SeatViews.SeatSteps.{SeatMe}
-use Rattle.tj_run.specs.Workers.{IsFree}
-use Rattle.tj_run.specs.Runs.{HasLots}
 use Rattle.tj_run.proofs.Seats.FreeSeats.{free_left, free_right}
 use Rattle.tj_run.proofs.Seats.ThreadSends.{laid_sync, seven_send, slot_send, u32_send, unseen_quiet}
 use Rattle.tj_run.proofs.Seats.SplitLots.{falls_by, length_last, lots_left, lots_two, some_more}
+use Rattle.tj_words.specs.contracts.view.View as view
+use Rattle.atomic_table.proofs.shared.Seat.TheSendSync as seat
 use Rattle.tj_run.proofs.crew.+workers.Goals as goal
 
 pub overflow_cast-number : goal.overflow_cast-number

@@ -1,4 +1,4 @@
-use Rattle.tj_body.specs.Programs.{program_of}
+use Rattle.tj_run.proofs.Prelude.{program_of}
 use Rattle.tj_run.proofs.Runs.RunsAtRest.{full_told, rests_at}
 use Rattle.tj_run.proofs.crew.run_all.Goals as goal
 

@@ -1,9 +1,6 @@
-use Rattle.std.proofs.Common.{◌≡◌, [], ◌∙◌, sym, subst}
-use Rattle.tj_body.specs.Programs.{program_of}
-use Rattle.tj_body.specs.declared.ask.Ask.TheVariants as ask
-use Rattle.tj_run.specs.Workers.{table_program}
-use Rattle.tj_run.specs.Inner.Carried.{IsAsked}
+use Rattle.tj_run.proofs.Prelude.{IsAsked, [], program_of, subst, sym, table_program, ◌∙◌, ◌≡◌}
 use Rattle.tj_run.proofs.Children.BareForks.{no_places}
+use Rattle.tj_body.specs.declared.ask.Ask.TheVariants as ask
 use Rattle.tj_run.proofs.forks.fork.Goals as goal
 
 pub fork_bare-requires-clause-asked : goal.fork_bare-requires-clause-asked

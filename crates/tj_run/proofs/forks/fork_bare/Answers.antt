@@ -1,6 +1,4 @@
-use Rattle.std.proofs.Common.{[], map, refl}
-use Rattle.tj_body.specs.Programs.{program_of}
-use Rattle.tj_run.specs.Inner.Pieces.{held_at}
+use Rattle.tj_run.proofs.Prelude.{[], held_at, map, program_of, refl}
 use Rattle.tj_run.proofs.Asks.NewThings.{lacks_memory, lacks_noted}
 use Rattle.tj_run.proofs.Children.ForkCalls.{forks_about, forks_birth, forks_goes, forks_known, forks_notes}
 use Rattle.tj_run.proofs.Children.ForkCalls.{forks_release, found_held, parent_cell, places_inside, released_about}

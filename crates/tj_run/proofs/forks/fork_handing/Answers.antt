@@ -1,14 +1,8 @@
-use Rattle.std.proofs.Common.{◌≡◌, ◌∙◌, Err, Ok, ap, map, sym}
-use Rattle.tj_body.specs.NameLaws.{hand_cells}
-use Rattle.tj_body.specs.Programs.{program_of}
-use Rattle.tj_words.specs.declared.record.Held.{Held}
-use Rattle.tj_words.specs.Words.Lists.{numbers}
-use Rattle.tj_run.specs.Inner.Pieces.{AreLeft, child_record, held_at, numbered}
+use Rattle.tj_run.proofs.Prelude.{AreLeft, Err, Held, Ok, ap, child_record, hand_cells, held_at, map, numbered, numbers}
+use Rattle.tj_run.proofs.Prelude.{program_of, sym, ◌∙◌, ◌≡◌}
 use Rattle.tj_run.proofs.Children.ForkCalls.{forks_about, forks_birth, forks_cells, forks_fail, forks_goes, forks_hand}
-use Rattle.tj_run.proofs.Children.ForkCalls.{forks_notes, released_notes}
-use Rattle.tj_run.proofs.Children.ForkCalls.{forks_known}
-use Rattle.tj_run.proofs.Children.ForkCalls.{forks_release, found_cells, found_held, left_of, parent_cell}
-use Rattle.tj_run.proofs.Children.ForkCalls.{places_inside, released_about}
+use Rattle.tj_run.proofs.Children.ForkCalls.{forks_notes, released_notes, forks_known, forks_release, found_cells}
+use Rattle.tj_run.proofs.Children.ForkCalls.{found_held, left_of, parent_cell, places_inside, released_about}
 use Rattle.tj_run.proofs.Asks.NewThings.{lacks_memory, lacks_noted}
 use Rattle.tj_run.proofs.forks.fork_handing.Goals as goal
 

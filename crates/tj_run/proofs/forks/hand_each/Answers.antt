@@ -1,7 +1,5 @@
-use Rattle.std.proofs.Common.{◌∙◌, ◌+◌, ap, drop, get_or, refl, sym, subst, arith}
+use Rattle.tj_run.proofs.Prelude.{MayGiveEach, ap, arith, cell, drop, gave_each, get_or, refl, subst, sym, ◌+◌, ◌∙◌}
 use Rattle.std.proofs.lemmas.List.{drop_all}
-use Rattle.tj_words.specs.Words.Lists.{cell}
-use Rattle.tj_run.specs.Inner.Children.{MayGiveEach, gave_each}
 use Rattle.tj_run.proofs.Children.GivenPromises.{gave_on, next_given}
 use Rattle.tj_run.proofs.Seats.RunningTasks.{in_at}
 use Rattle.tj_run.proofs.forks.hand_each.Goals as goal

@@ -1,4 +1,4 @@
-use Rattle.tj_run.specs.Workers.{about_table}
+use Rattle.tj_run.proofs.Prelude.{about_table}
 use Rattle.tj_run.proofs.life_tests.a_root_that_runs_is_claimed_by_nobody.Goals as goal
 
 pub claim-again-requires-clause-knows : goal.claim-again-requires-clause-knows

@@ -1,7 +1,5 @@
-use Rattle.tj_body.specs.Programs.{program_of}
-use Rattle.tj_run.specs.Workers.{table_program}
+use Rattle.tj_run.proofs.Prelude.{program_of, subst, table_program}
 use Rattle.tj_run.proofs.Waiting.ResumedTasks.{IsPlace, starts}
-use Rattle.std.proofs.Common.{subst}
 use Rattle.tj_run.proofs.life_tests.asks_first.Goals as goal
 
 pub next_ask-requires-clause-running : goal.next_ask-requires-clause-running

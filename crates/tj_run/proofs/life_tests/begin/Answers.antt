@@ -1,4 +1,4 @@
-use Rattle.tj_body.specs.Programs.{program_of}
+use Rattle.tj_run.proofs.Prelude.{program_of}
 use Rattle.tj_run.proofs.ForTests.TestRuns.{claim_back}
 use Rattle.tj_run.proofs.life_tests.begin.Goals as goal
 

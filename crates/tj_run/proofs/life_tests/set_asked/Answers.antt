@@ -1,7 +1,4 @@
-use Rattle.std.proofs.Common.{subst}
-use Rattle.tj_body.specs.Programs.{program_of}
-use Rattle.tj_run.specs.Workers.{about_table, table_program}
-use Rattle.tj_run.specs.Inner.Carried.{IsAsked}
+use Rattle.tj_run.proofs.Prelude.{IsAsked, about_table, program_of, subst, table_program}
 use Rattle.tj_run.proofs.life_tests.set_asked.Goals as goal
 
 pub set_and_wake-requires-clause-asked : goal.set_and_wake-requires-clause-asked

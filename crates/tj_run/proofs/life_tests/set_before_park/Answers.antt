@@ -1,7 +1,4 @@
-use Rattle.std.proofs.Common.{inl, subst}
-use Rattle.tj_body.specs.Programs.{program_of}
-use Rattle.tj_run.specs.Workers.{table_program}
-use Rattle.tj_run.specs.Inner.Carried.{IsAsked}
+use Rattle.tj_run.proofs.Prelude.{IsAsked, inl, program_of, subst, table_program}
 use Rattle.tj_run.proofs.Runs.RunLoops.{waits_here}
 use Rattle.tj_run.proofs.Waiting.BlockedTasks.{blocked_others, blocked_slot, may_be_parked}
 use Rattle.tj_run.proofs.Waiting.WaitConditions.{quiet_either}

@@ -1,5 +1,4 @@
-use Rattle.std.proofs.Common.{rules, ◌≡◌, true, nat_eq, get_or, refl, sym, ◌∙◌}
-use Rattle.tj_words.specs.Words.Lists.{cell}
+use Rattle.tj_run.proofs.Prelude.{cell, get_or, nat_eq, refl, rules, sym, true, ◌∙◌, ◌≡◌}
 use Rattle.tj_run.proofs.Cells.PieceLists.{without_here}
 use Rattle.tj_run.proofs.pieces.index_of.Goals as goal
 

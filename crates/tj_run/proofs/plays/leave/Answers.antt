@@ -1,5 +1,4 @@
-use Rattle.std.proofs.Common.{◌∙◌}
-use Rattle.tj_body.specs.Programs.{program_of}
+use Rattle.tj_run.proofs.Prelude.{program_of, ◌∙◌}
 use Rattle.tj_run.proofs.Waiting.BlockedTasks.{blocked_others, blocked_slot, leaves_parked, leaves_shelved}
 use Rattle.tj_run.proofs.Waiting.BlockedTasks.{may_be_parked, may_be_shelved}
 use Rattle.tj_run.proofs.Waiting.WaitConditions.{quiet_either}

@@ -1,5 +1,4 @@
-use Rattle.std.proofs.Common.{◌∙◌}
-use Rattle.tj_body.specs.Programs.{program_of}
+use Rattle.tj_run.proofs.Prelude.{program_of, ◌∙◌}
 use Rattle.tj_run.proofs.Seats.WorkersSteps.{goes_since}
 use Rattle.tj_run.proofs.plays.run_to_stop.Goals as goal
 

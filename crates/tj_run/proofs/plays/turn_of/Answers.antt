@@ -1,4 +1,4 @@
-use Rattle.tj_body.specs.Programs.{program_of}
+use Rattle.tj_run.proofs.Prelude.{program_of}
 use Rattle.tj_run.proofs.Runs.TurnSteps.{claimed_back, left_missed}
 use Rattle.tj_run.proofs.plays.turn_of.Goals as goal
 

@@ -1,6 +1,4 @@
-use Rattle.std.proofs.Common.{[], ◌∷◌, ◌++◌, ap, ◌∙◌, w64}
-use Rattle.std.proofs.lemmas.Int.{to_z-of_z}
-use Rattle.tj_body.specs.Programs.{program_of}
+use Rattle.tj_run.proofs.Prelude.{[], ap, program_of, to_z-of_z, w64, ◌++◌, ◌∙◌, ◌∷◌}
 use Rattle.tj_run.proofs.Asks.PureAsks.{emit_goes}
 use Rattle.tj_run.proofs.pure.emit.Goals as goal
 

@@ -1,6 +1,4 @@
-use Rattle.std.proofs.Common.{ap, ◌∙◌}
-use Rattle.tj_body.specs.Programs.{program_of}
-use Rattle.tj_run.specs.Inner.Pieces.{fill_at}
+use Rattle.tj_run.proofs.Prelude.{ap, fill_at, program_of, ◌∙◌}
 use Rattle.tj_run.proofs.Asks.PureAsks.{end_goes}
 use Rattle.tj_run.proofs.pure.end_with.Goals as goal
 

@@ -1,4 +1,4 @@
-use Rattle.tj_body.specs.Programs.{program_of}
+use Rattle.tj_run.proofs.Prelude.{program_of}
 use Rattle.tj_run.proofs.Asks.PureAsks.{fail_goes}
 use Rattle.tj_run.proofs.pure.fail.Goals as goal
 

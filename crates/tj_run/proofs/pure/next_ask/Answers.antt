@@ -1,5 +1,4 @@
-use Rattle.tj_body.specs.Programs.{program_of}
-use Rattle.tj_run.specs.Workers.{table_program}
+use Rattle.tj_run.proofs.Prelude.{program_of, table_program}
 use Rattle.tj_run.proofs.Asks.NextAsks.{asked_next, falls_next, few_places, fits_record}
 use Rattle.tj_run.proofs.pure.next_ask.Goals as goal
 

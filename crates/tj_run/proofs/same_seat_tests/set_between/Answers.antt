@@ -1,4 +1,4 @@
-use Rattle.tj_body.specs.Programs.{program_of}
+use Rattle.tj_run.proofs.Prelude.{program_of}
 use Rattle.tj_run.proofs.ForTests.SetBeside.{fills_beside, gives_beside, other_beside, parks_beside, slot_beside}
 use Rattle.tj_run.proofs.ForTests.SetBeside.{wakes_beside}
 use Rattle.tj_run.proofs.ForTests.ParkedBeside.{blocks_too, cell_there, task_there}

@@ -1,12 +1,7 @@
-use Rattle.std.proofs.Common.{◌≡◌, ◌∙◌, true, ap, subst}
-use Rattle.tj_body.specs.NameLaws.{has_cell}
-use Rattle.tj_body.specs.Programs.{program_of}
-use Rattle.tj_body.specs.declared.ask.Ask.TheVariants as ask
-use Rattle.tj_words.specs.Words.Lists.{numbers}
-use Rattle.tj_run.specs.Workers.{table_program}
-use Rattle.tj_run.specs.Inner.Carried.{IsAsked}
-use Rattle.tj_run.specs.Inner.Pieces.{fill_at, held_at}
+use Rattle.tj_run.proofs.Prelude.{IsAsked, ap, fill_at, has_cell, held_at, numbers, program_of, subst, table_program}
+use Rattle.tj_run.proofs.Prelude.{true, ◌∙◌, ◌≡◌}
 use Rattle.tj_run.proofs.Asks.SetPromises.{sets_cell, sets_fills, sets_gives}
+use Rattle.tj_body.specs.declared.ask.Ask.TheVariants as ask
 use Rattle.tj_run.proofs.same_seat_tests.what_is_set.Goals as goal
 
 pub returns-clause-cell : goal.returns-clause-cell

@@ -1,5 +1,4 @@
-use Rattle.std.proofs.Common.{subst, sym}
-use Rattle.tj_run.specs.Workers.{IsFree}
+use Rattle.tj_run.proofs.Prelude.{IsFree, subst, sym}
 use Rattle.tj_run.proofs.Seats.FreeSeats.{free_left, free_right}
 use Rattle.tj_run.proofs.ForTests.TestRuns.{all_large, may_split}
 use Rattle.tj_run.proofs.started_tests.a_join_of_a_started_child_is_skipped.Goals as goal

@@ -1,6 +1,4 @@
-use Rattle.std.proofs.Common.{◌<◌, ◌∙◌, length, ap, inr, refl, subst, sym}
-use Rattle.tj_body.specs.Programs.{program_of}
-use Rattle.tj_run.specs.Inner.Pieces.{held_at}
+use Rattle.tj_run.proofs.Prelude.{ap, held_at, inr, length, program_of, refl, subst, sym, ◌<◌, ◌∙◌}
 use Rattle.tj_run.proofs.Waiting.WaitConditions.{block_then, held_as, knows_task, place_inside, task_cell, wait_cell}
 use Rattle.tj_run.proofs.started_tests.block_on_join.Goals as goal
 

@@ -1,7 +1,5 @@
-use Rattle.std.proofs.Common.{Some, inl, refl}
-use Rattle.tj_body.specs.Programs.{program_of}
+use Rattle.tj_run.proofs.Prelude.{Some, about_table, inl, program_of, refl}
 use Rattle.tj_park.proofs.TakenTasks.{claimed, slot_in_front}
-use Rattle.tj_run.specs.Workers.{about_table}
 use Rattle.tj_run.proofs.ForTests.TestRuns.{claim_back, claim_knows}
 use Rattle.tj_run.proofs.step_tests.claim_in_steps.Goals as goal
 

@@ -1,4 +1,4 @@
-use Rattle.tj_body.specs.Programs.{program_of}
+use Rattle.tj_run.proofs.Prelude.{program_of}
 use Rattle.tj_run.proofs.ForTests.StepEnds.{ends_next, fills, gives_up, left_so, lowers_next, nobody_woken, slot_next}
 use Rattle.tj_run.proofs.ForTests.StepEnds.{wakes_next}
 use Rattle.tj_run.proofs.step_tests.end_in_steps.Goals as goal

@@ -1,4 +1,4 @@
-use Rattle.tj_body.specs.Programs.{program_of}
+use Rattle.tj_run.proofs.Prelude.{program_of}
 use Rattle.tj_run.proofs.ForTests.StepEnds.{few_cell}
 use Rattle.tj_run.proofs.step_tests.ends_alone.Goals as goal
 

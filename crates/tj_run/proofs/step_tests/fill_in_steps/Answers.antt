@@ -1,4 +1,4 @@
-use Rattle.tj_body.specs.Programs.{program_of}
+use Rattle.tj_run.proofs.Prelude.{program_of}
 use Rattle.tj_run.proofs.ForTests.StepEnds.{bits_next, filled_next, tag_next}
 use Rattle.tj_run.proofs.step_tests.fill_in_steps.Goals as goal
 

@@ -1,8 +1,4 @@
-use Rattle.std.proofs.Common.{◌∙◌, ap, subst, sym}
-use Rattle.atomic_table.specs.Table.{rest}
-use Rattle.tj_body.specs.Programs.{program_of}
-use Rattle.tj_words.specs.Calls.LiveViews.{MayEnd, ended}
-use Rattle.tj_words.specs.SeatViews.SeatSteps.{SeatMe}
+use Rattle.tj_run.proofs.Prelude.{MayEnd, SeatMe, ap, ended, program_of, rest, subst, sym, ◌∙◌}
 use Rattle.tj_run.proofs.step_tests.lay_in_steps.Goals as goal
 
 pub put_phase-requires-clause-may : goal.put_phase-requires-clause-may

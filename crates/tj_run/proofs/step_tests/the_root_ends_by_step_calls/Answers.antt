@@ -1,13 +1,8 @@
-use Rattle.std.proofs.Common.{◌∙◌, ap, length, subst, sym}
-use Rattle.tj_body.specs.Asks.{IsPaid}
-use Rattle.tj_body.specs.Programs.{program_of}
-use Rattle.tj_body.specs.Table.{table_asks, table_awaits, table_left, table_places, table_then}
-use Rattle.tj_body.specs.declared.ask.Ask.TheVariants as ask
-use Rattle.tj_run.specs.Workers.{table_program}
-use Rattle.tj_run.specs.Inner.Carried.{IsAsked}
-use Rattle.tj_run.specs.Inner.Pieces.{fill_at}
+use Rattle.tj_run.proofs.Prelude.{IsAsked, IsPaid, ap, fill_at, length, program_of, subst, sym, table_asks}
+use Rattle.tj_run.proofs.Prelude.{table_awaits, table_left, table_places, table_program, table_then, ◌∙◌}
 use Rattle.tj_run.proofs.Asks.PureAsks.{end_goes}
 use Rattle.tj_run.proofs.ForTests.TestRuns.{may_rest}
+use Rattle.tj_body.specs.declared.ask.Ask.TheVariants as ask
 use Rattle.tj_run.proofs.step_tests.the_root_ends_by_step_calls.Goals as goal
 
 pub fill_at-given-requires : goal.fill_at-given-requires

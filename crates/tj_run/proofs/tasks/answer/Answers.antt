@@ -1,9 +1,5 @@
-use Rattle.std.proofs.Common.{sym, ap, subst, ◌∙◌, w64}
-use Rattle.std.proofs.lemmas.Int.{to_z-of_z}
-use Rattle.tj_body.specs.Programs.{program_of}
+use Rattle.tj_run.proofs.Prelude.{IsAsked, ap, program_of, subst, sym, table_program, to_z-of_z, w64, ◌∙◌}
 use Rattle.tj_body.specs.declared.ask.Ask.TheVariants as ask
-use Rattle.tj_run.specs.Workers.{table_program}
-use Rattle.tj_run.specs.Inner.Carried.{IsAsked}
 use Rattle.tj_run.proofs.tasks.answer.Goals as goal
 
 pub emit-requires-clause-asked : goal.emit-requires-clause-asked

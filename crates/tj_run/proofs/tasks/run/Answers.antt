@@ -1,6 +1,4 @@
-use Rattle.std.proofs.Common.{◌∙◌, IfSome, subst}
-use Rattle.tj_body.specs.Programs.{program_of}
-use Rattle.tj_run.specs.Inner.Waits.{ComesBack}
+use Rattle.tj_run.proofs.Prelude.{ComesBack, IfSome, program_of, subst, ◌∙◌}
 use Rattle.tj_run.proofs.Seats.WorkersSteps.{back_on, lacks_on, left_on}
 use Rattle.tj_run.proofs.tasks.run.Goals as goal
 

@@ -1,5 +1,4 @@
-use Rattle.std.proofs.Common.{◌∙◌}
-use Rattle.tj_body.specs.Programs.{program_of}
+use Rattle.tj_run.proofs.Prelude.{program_of, ◌∙◌}
 use Rattle.tj_run.proofs.Runs.TaskReturns.{backs_on}
 use Rattle.tj_run.proofs.Seats.WorkersSteps.{goes_since, lacks_on, left_on}
 use Rattle.tj_run.proofs.tasks.run_on.Goals as goal

@@ -1,4 +1,4 @@
-use Rattle.tj_body.specs.Programs.{program_of}
+use Rattle.tj_run.proofs.Prelude.{program_of}
 use Rattle.tj_run.proofs.Runs.TurnSteps.{left_live, rest_found}
 use Rattle.tj_run.proofs.turns.idle.Goals as goal
 

@@ -1,10 +1,6 @@
-use Rattle.std.proofs.Common.{[], ◌∷◌, ap, inl, refl, subst, sym}
-use Rattle.tj_body.specs.Points.{IsIn}
-use Rattle.tj_body.specs.Programs.{program_of}
-use Rattle.tj_words.specs.declared.view.Noted.TheVariants as note
-use Rattle.tj_words.specs.SeatViews.SeatSteps.{SeatMe}
-use Rattle.tj_words.specs.SeatViews.Views.{note_of}
+use Rattle.tj_run.proofs.Prelude.{IsIn, SeatMe, [], ap, inl, note_of, program_of, refl, subst, sym, ◌∷◌}
 use Rattle.tj_run.proofs.Runs.TurnSteps.{stop_since, stopped_since}
+use Rattle.tj_words.specs.declared.view.Noted.TheVariants as note
 use Rattle.tj_run.proofs.turns.stop_run.Goals as goal
 
 pub unreachable-requires : goal.unreachable-requires

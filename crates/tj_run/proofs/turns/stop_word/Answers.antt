@@ -1,7 +1,6 @@
-use Rattle.std.proofs.Common.{◌≡◌, rules}
-use Rattle.tj_body.specs.Programs.{program_of}
-use Rattle.tj_run.specs.declared.why.Why.TheVariants as why
+use Rattle.tj_run.proofs.Prelude.{program_of, rules, ◌≡◌}
 use Rattle.tj_run.proofs.Runs.TurnSteps.{stop_found}
+use Rattle.tj_run.specs.declared.why.Why.TheVariants as why
 use Rattle.tj_run.proofs.turns.stop_word.Goals as goal
 
 pub returns-in-0-clause-stands : goal.returns-in-0-clause-stands

@@ -1,4 +1,4 @@
-use Rattle.tj_body.specs.Programs.{program_of}
+use Rattle.tj_run.proofs.Prelude.{program_of}
 use Rattle.tj_run.proofs.Runs.TurnSteps.{if_found_since, stop_seen, turns_since}
 use Rattle.tj_run.proofs.turns.take_turn.Goals as goal
 

@@ -1,7 +1,4 @@
-use Rattle.std.proofs.Common.{◌∙◌, refl, subst, sym}
-use Rattle.tj_body.specs.Programs.{program_of}
-use Rattle.tj_words.proofs.SeatLoads.KnowsMoreOn.{tail_on}
-use Rattle.tj_run.specs.Inner.Turns.{TurnsTo}
+use Rattle.tj_run.proofs.Prelude.{TurnsTo, program_of, refl, subst, sym, tail_on, ◌∙◌}
 use Rattle.tj_run.proofs.Runs.TurnSteps.{claimed_back, left_missed, stop_since, stopped_since}
 use Rattle.tj_run.proofs.Seats.WorkersSteps.{left_on}
 use Rattle.tj_run.proofs.turns.work.Goals as goal

@@ -1,6 +1,4 @@
-use Rattle.std.proofs.Common.{◌∙◌, sym}
-use Rattle.tj_body.specs.Programs.{program_of}
-use Rattle.tj_words.proofs.SeatLoads.KnowsMoreOn.{more_itself}
+use Rattle.tj_run.proofs.Prelude.{more_itself, program_of, ◌∙◌}
 use Rattle.tj_run.proofs.Runs.TurnSteps.{found_since, leaves_since, turns_on}
 use Rattle.tj_run.proofs.Seats.WorkersSteps.{left_on}
 use Rattle.tj_run.proofs.turns.worker.Goals as goal

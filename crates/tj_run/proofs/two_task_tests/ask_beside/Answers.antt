@@ -1,8 +1,4 @@
-use Rattle.std.proofs.Common.{◌<◌, length, ap, subst, sym}
-use Rattle.tj_body.specs.Programs.{program_of}
-use Rattle.tj_run.specs.Workers.{table_program}
-use Rattle.tj_run.specs.Inner.Beside.{alone}
-use Rattle.tj_run.specs.Inner.Pieces.{held_at}
+use Rattle.tj_run.proofs.Prelude.{alone, ap, held_at, length, program_of, subst, sym, table_program, ◌<◌}
 use Rattle.tj_run.proofs.Asks.NextAsks.{few_places, fits_record}
 use Rattle.tj_run.proofs.ForTests.TwoTasks.{begins, inside, waits_beside}
 use Rattle.tj_run.proofs.two_task_tests.ask_beside.Goals as goal

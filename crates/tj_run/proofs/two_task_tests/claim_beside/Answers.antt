@@ -1,7 +1,4 @@
-use Rattle.std.proofs.Common.{◌≡◌, ◌≢◌, ◌∷◌, None, IfSome, ap, sym, subst, ◌∙◌}
-use Rattle.tj_body.specs.Programs.{program_of}
-use Rattle.tj_park.specs.ChildViews.{Claimed}
-use Rattle.tj_run.specs.Workers.{about_table}
+use Rattle.tj_run.proofs.Prelude.{Claimed, IfSome, None, about_table, ap, program_of, subst, sym, ◌∙◌, ◌∷◌, ◌≡◌, ◌≢◌}
 use Rattle.tj_run.proofs.two_task_tests.claim_beside.Goals as goal
 
 pub claim-requires-clause-knows : goal.claim-requires-clause-knows

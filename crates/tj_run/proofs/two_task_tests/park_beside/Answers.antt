@@ -1,4 +1,4 @@
-use Rattle.tj_body.specs.Programs.{program_of}
+use Rattle.tj_run.proofs.Prelude.{program_of}
 use Rattle.tj_run.proofs.ForTests.ParkedBeside.{blocks_too, cell_there, knows_on, no_other, parks_too, runs_on_still}
 use Rattle.tj_run.proofs.ForTests.ParkedBeside.{slot_first, task_there}
 use Rattle.tj_run.proofs.two_task_tests.park_beside.Goals as goal

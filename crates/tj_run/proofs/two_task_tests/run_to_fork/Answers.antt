@@ -1,4 +1,4 @@
-use Rattle.tj_body.specs.Programs.{program_of}
+use Rattle.tj_run.proofs.Prelude.{program_of}
 use Rattle.tj_run.proofs.ForTests.TestRuns.{claim_back}
 use Rattle.tj_run.proofs.two_task_tests.run_to_fork.Goals as goal
 

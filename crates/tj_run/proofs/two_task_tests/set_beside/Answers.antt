@@ -1,5 +1,4 @@
-use Rattle.tj_body.specs.Programs.{program_of}
-use Rattle.tj_run.specs.Workers.{table_program}
+use Rattle.tj_run.proofs.Prelude.{program_of, table_program}
 use Rattle.tj_run.proofs.ForTests.TwoTasks.{running_on}
 use Rattle.tj_run.proofs.two_task_tests.set_beside.Goals as goal
 

@@ -1,12 +1,9 @@
-use Rattle.std.proofs.Common.{◌∙◌, ap, sym}
-use Rattle.tj_body.specs.Programs.{program_of}
+use Rattle.tj_run.proofs.Prelude.{ap, held_at, program_of, sym, table_program, ◌∙◌}
+use Rattle.tj_run.proofs.Waiting.JoinTests.{get_fails, get_waits}
+use Rattle.tj_run.proofs.Seats.WorkersSteps.{goes_itself}
 use Rattle.tj_words.specs.declared.record.Finish.TheVariants as finish
 use Rattle.tj_words.specs.declared.record.Hurt.TheVariants as hurt
 use Rattle.tj_run.specs.declared.next.Next.TheVariants as next
-use Rattle.tj_run.specs.Workers.{table_program}
-use Rattle.tj_run.specs.Inner.Pieces.{held_at}
-use Rattle.tj_run.proofs.Waiting.JoinTests.{get_fails, get_waits}
-use Rattle.tj_run.proofs.Seats.WorkersSteps.{goes_itself}
 use Rattle.tj_run.proofs.waits.get.Goals as goal
 
 pub look-requires-clause-waiting : goal.look-requires-clause-waiting

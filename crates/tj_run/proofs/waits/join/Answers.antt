@@ -1,19 +1,12 @@
-use Rattle.std.proofs.Common.{◌∙◌, ap, subst, sym}
-use Rattle.tj_body.specs.Programs.{program_of}
-use Rattle.tj_body.specs.Inner.AskSteps.{join_of}
-use Rattle.tj_words.specs.declared.record.Finish.TheVariants as finish
-use Rattle.tj_words.specs.declared.record.Hurt.TheVariants as hurt
-use Rattle.tj_words.specs.Steps.WalkSteps.{way_by}
-use Rattle.tj_run.specs.declared.next.Next.TheVariants as next
-use Rattle.tj_run.specs.Workers.{table_program}
-use Rattle.tj_run.specs.Inner.Going.{Goes}
-use Rattle.tj_run.specs.Inner.Pieces.{held_at}
+use Rattle.tj_run.proofs.Prelude.{Goes, ap, held_at, join_of, program_of, subst, sym, table_program, way_by, ◌∙◌}
 use Rattle.tj_run.proofs.Waiting.JoinTests.{along_then, goes_if, join_fails, join_inside, join_waits, other_then}
-use Rattle.tj_run.proofs.Waiting.JoinTests.{runs_then}
-use Rattle.tj_run.proofs.Waiting.JoinTests.{task_else}
+use Rattle.tj_run.proofs.Waiting.JoinTests.{runs_then, task_else}
 use Rattle.tj_run.proofs.Asks.PointSteps.{before}
 use Rattle.tj_run.proofs.Cells.ToldCells.{told_cell, told_held, told_knows, told_task}
 use Rattle.tj_run.proofs.Seats.WorkersSteps.{goes_itself}
+use Rattle.tj_words.specs.declared.record.Finish.TheVariants as finish
+use Rattle.tj_words.specs.declared.record.Hurt.TheVariants as hurt
+use Rattle.tj_run.specs.declared.next.Next.TheVariants as next
 use Rattle.tj_run.proofs.waits.join.Goals as goal
 
 pub returns-in-Promise-clause-goes : goal.returns-in-Promise-clause-goes

@@ -1,4 +1,4 @@
-use Rattle.std.proofs.Common.{◌∙◌}
+use Rattle.tj_run.proofs.Prelude.{◌∙◌}
 use Rattle.tj_words.proofs.SeatLoads.LaterSeats.{read_itself}
 use Rattle.tj_run.proofs.Waiting.JoinTests.{promise_way}
 use Rattle.tj_run.proofs.waits.way_to.Goals as goal

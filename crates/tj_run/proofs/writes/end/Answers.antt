@@ -1,4 +1,4 @@
-use Rattle.tj_body.specs.Programs.{program_of}
+use Rattle.tj_run.proofs.Prelude.{program_of}
 use Rattle.tj_run.proofs.Runs.EndConditions.{may_finish}
 use Rattle.tj_run.proofs.writes.end.Goals as goal
 

@@ -1,5 +1,4 @@
-use Rattle.std.proofs.Common.{ap, length}
-use Rattle.tj_body.specs.Programs.{program_of}
+use Rattle.tj_run.proofs.Prelude.{ap, length, program_of}
 use Rattle.tj_run.proofs.Asks.MadePromises.{may_make_promise, promise_made}
 use Rattle.tj_run.proofs.writes.make_promise.Goals as goal
 

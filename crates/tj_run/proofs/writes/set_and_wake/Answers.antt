@@ -1,10 +1,8 @@
-use Rattle.std.proofs.Common.{◌∙◌, ap}
-use Rattle.tj_body.specs.Programs.{program_of}
-use Rattle.tj_park.specs.Wakes.{WakesAll, WakesSome}
-use Rattle.tj_run.specs.Inner.Pieces.{fill_at, held_at}
+use Rattle.tj_run.proofs.Prelude.{WakesAll, ap, fill_at, held_at, program_of, ◌∙◌}
+use Rattle.tj_park.specs.Wakes.{WakesSome}
 use Rattle.tj_run.proofs.Asks.NewThings.{lacks_memory}
-use Rattle.tj_run.proofs.Asks.SetPromises.{not_so, promise_if, sets_about, sets_cell, sets_notes, sets_fills, sets_gives, sets_goes}
-use Rattle.tj_run.proofs.Asks.SetPromises.{sets_task, sets_unowned, sets_wakes}
+use Rattle.tj_run.proofs.Asks.SetPromises.{not_so, promise_if, sets_about, sets_cell, sets_notes, sets_fills}
+use Rattle.tj_run.proofs.Asks.SetPromises.{sets_gives, sets_goes, sets_task, sets_unowned, sets_wakes}
 use Rattle.tj_run.proofs.writes.set_and_wake.Goals as goal
 
 pub returns-in-Task-clause-goes : goal.returns-in-Task-clause-goes
