@@ -4,3 +4,4 @@ pub mod RootRecords
 mod ThreadSends
 mod SecondSeats
 mod TakenSeats
+mod LookAnswers

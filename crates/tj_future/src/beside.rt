@@ -17,6 +17,7 @@ ghost use Rattle.tj_run.specs.Leaving.{Leaves};
 ghost use Rattle.tj_run.specs.Runs.{HasLots, RestsAt};
 ghost use Rattle.tj_future.specs.Looks.{IsWatched};
 ghost use Rattle.tj_future.specs.RootWatches.{IsRootWatched, watched_of};
+ghost use Rattle.tj_future.specs.WatchedRuns.{HasWatched};
 
 use crate::looks::watch;
 use crate::watched::Watched;
@@ -57,7 +58,8 @@ pub fn run_watched<B: Body, P: Pool, G: Gate, R: Wait + Threads + Sync>(
     if let Some(first) = ends.as_mut_slice().first_mut() {
         first.put(rt, alloc, CellId(0))?;
     }
-    let (seat, left) = work_watched::<B, P, G, R>(rt, alloc, &laid, seat, ends, gate);
+    // What the watch was answered is what the root's record says, by `looks_stand`. No call shows it.
+    let (seat, left, _answer) = work_watched::<B, P, G, R>(rt, alloc, &laid, seat, ends, gate);
     match left {
         Left::Rested => Ok(with_root(laid.rest(seat))),
         Left::Stopped(why) => Err(fault_of(why)),
@@ -74,16 +76,16 @@ fn fault_of(why: Why) -> RunFault
     }
 }
 
-// The workers, and a watch of the root beside them, whose seat is taken in again. Where no thread can
-// be made for the watch, it comes after the workers.
-fn work_watched<B: Body, P: Pool, G: Gate, R: Wait + Threads + Sync>(
+// The workers, and a watch of the root beside them, whose seat is taken in again, with what the watch
+// was answered. Where no thread can be made for the watch, it comes after the workers.
+pub(crate) fn work_watched<B: Body, P: Pool, G: Gate, R: Wait + Threads + Sync>(
     rt: &R,
     alloc: Global,
     laid: &Laid<B>,
     seat: WSeat<B>,
     ends: Vec<P>,
     gate: &G,
-) -> (WSeat<B>, Left)
+) -> (WSeat<B>, Left, Watched)
     requires table { IsSeatOf laid.now seat }
     requires free { IsFree laid.now seat.me }
     requires rooted { IsRooted (table_program (program_of B.places B.awaits B.left B.asks B.then)
@@ -95,6 +97,8 @@ fn work_watched<B: Body, P: Pool, G: Gate, R: Wait + Threads + Sync>(
     ensures table { result.0.table_id ≡ seat.table_id }
     ensures left { Leaves (program_of B.places B.awaits B.left B.asks B.then) result.1 seat.me.0
         result.0.me }
+    ensures watched { HasWatched (program_of B.places B.awaits B.left B.asks B.then) laid.now.cells
+        result.2 result.1 seat.me.0 result.0.me }
 {
     let (mine, theirs) = laid.split(seat);
     let watching = move || -> (Watched, WSeat<B>)
@@ -115,7 +119,9 @@ fn work_watched<B: Body, P: Pool, G: Gate, R: Wait + Threads + Sync>(
             (program_of B.places B.awaits B.left B.asks B.then) result.1 mine.me.0 result.0.me }
     { work_all::<B, P, G, R>(rt, alloc, laid, mine, ends, gate) };
     let (watched, worked) = join(rt, watching, working);
-    take_in(laid, worked.0, worked.1, watched.1, watched.0)
+    let (answer, watched) = watched;
+    let (seat, left) = take_in(laid, worked.0, worked.1, watched, answer);
+    (seat, left, answer)
 }
 
 // The seat of the workers takes in that of the watch. The run was stopped where either says so.

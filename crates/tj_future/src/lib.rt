@@ -15,3 +15,7 @@ pub use beside::run_watched;
 pub use looks::{look_at, watch};
 pub use polls::{CellWait, Polled};
 pub use watched::Watched;
+
+mod look_laws;
+
+pub use look_laws::looks_stand;

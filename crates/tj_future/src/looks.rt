@@ -8,7 +8,7 @@ ghost use Rattle.tj_future.specs.Looks.{Answers, GoesOn, IsWatched, told_as};
 
 use crate::watched::Watched;
 use std::sync::Wait;
-use std::thread;
+use std::time::Duration;
 use tj_base::CellId;
 use tj_body::Body;
 use tj_cells::{Seen, value};
@@ -71,7 +71,13 @@ fn why_of(word: u64) -> Why
     }
 }
 
-/// Looks at cell `p` until it is answered.
+/// How many milliseconds a watch sleeps at first between two looks, and at most.
+const SHORTEST: u64 = 1;
+
+const LONGEST: u64 = 16;
+
+/// Looks at cell `p` until it is answered. Between two looks it sleeps, for no longer than `LONGEST`,
+/// while TAG of the cell is 0.
 pub fn watch<B: Body, R: Wait>(
     rt: &R,
     laid: &Laid<B>,
@@ -90,11 +96,13 @@ pub fn watch<B: Body, R: Wait>(
         p.0 result.0 seat.me.0 result.1.me.0 }
 {
     let mut seat = seat;
+    let mut pause = SHORTEST;
     for _i in rt.forever() {
         if let Some(watched) = look_at(laid, &mut seat, p) {
             return (watched, seat);
         }
-        thread::yield_now();
+        laid.park_on_tag(rt, p, Duration::from_millis(pause));
+        pause = pause.saturating_mul(2).min(LONGEST);
     }
     unreachable!()
 }

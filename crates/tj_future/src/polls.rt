@@ -17,6 +17,8 @@ use futures::Future;
 use futures::task::{Context, Poll};
 use tj_base::CellId;
 use tj_body::{Body, TableBody};
+use tj_chan::{ChanBody, TableChat};
+use tj_eval::ScriptBody;
 use tj_words::{Laid, WSeat};
 
 /// A body whose tables may be polled. An `impl` calls `look_at`, whose clauses these are. (A poll is
@@ -40,6 +42,18 @@ pub trait Polled: Body {
 }
 
 impl<'s> Polled for TableBody<'s> {
+    fn look(laid: &Laid<Self>, seat: &mut WSeat<Self>, p: CellId) -> Option<Watched> {
+        look_at(laid, seat, p)
+    }
+}
+
+impl<'s> Polled for ScriptBody<'s> {
+    fn look(laid: &Laid<Self>, seat: &mut WSeat<Self>, p: CellId) -> Option<Watched> {
+        look_at(laid, seat, p)
+    }
+}
+
+impl<'s> Polled for ChanBody<TableChat<'s>> {
     fn look(laid: &Laid<Self>, seat: &mut WSeat<Self>, p: CellId) -> Option<Watched> {
         look_at(laid, seat, p)
     }
@@ -69,6 +83,20 @@ impl<'a, B: Body> CellWait<'a, B> {
             laid,
             seat: Some(seat),
             p,
+        }
+    }
+
+    /// Gives the seat back before a poll is ready. There is no wait any more then.
+    pub fn into_seat(self) -> WSeat<B>
+        requires may { MayPoll self.laid.now self.seat self.p.0 }
+        ensures seat { Some result ≡ self.entry.seat }
+        ensures table { IsSeatOf self.entry.laid.now result }
+        ensures idle { IsIdle result.me.0 }
+        ensures slots { result.me.1 ≡ [] }
+    {
+        match self.seat {
+            Some(seat) => seat,
+            None => unreachable!(),
         }
     }
 }

@@ -3,10 +3,11 @@ use denote.Exit.{no}
 use denote.Param.{param}
 use denote.Param.Send.{arg_send, param_send, shr_send}
 use Rattle.atomic_table.proofs.shared.Seat.TheSendSync as seat
-use Rattle.std.proofs.Common.{[], ap}
+use Rattle.std.proofs.Common.{[], ap, subst}
 use Rattle.tj_body.specs.Programs.{program_of}
 use Rattle.tj_words.specs.contracts.view.View as view
 use Rattle.tj_run.proofs.Seats.ThreadSends.{laid_sync, slot_send}
+use Rattle.tj_future.specs.Looks.{IsWatched}
 use Rattle.tj_future.proofs.TakenSeats.{leaves_taken}
 use Rattle.tj_future.proofs.ThreadSends.{three_send}
 use Rattle.tj_future.proofs.beside.work_watched.Goals as goal
@@ -22,7 +23,16 @@ join-watched-requires-send-F g c κs within =
 pub returns-clause-left : goal.returns-clause-left
 returns-clause-left g c = let b = g.B.Body in let joined = c.join-watched in
     leaves_taken (program_of b.places b.awaits b.left b.asks b.then) c.args.laid.now.cells c.args.seat.me.0
-    c.requires.room joined.result.1.0 joined.result.0.1 c.take_in.result.0 c.take_in.result.1 joined.result.1.1
+    c.requires.room joined.result.1.0 joined.result.0.1 c.take_in-seat.result.0 c.take_in-seat.result.1 joined.result.1.1
     joined.result.0.0 c.split-mine.result.0.me.0 c.split-mine.result.1.me.0 (ap (λ m. m.0) c.split-mine.ensures.view)
     (ap (λ m. m.0) c.split-mine.ensures.other_view) joined.ensures.second.1 joined.ensures.first.3
-    joined.ensures.first.4 c.take_in.ensures.rested c.take_in.ensures.stopped
+    joined.ensures.first.4 c.take_in-seat.ensures.rested c.take_in-seat.ensures.stopped
+
+pub returns-clause-watched : goal.returns-clause-watched
+returns-clause-watched g c = let b = g.B.Body in let joined = c.join-watched in
+    let p = program_of b.places b.awaits b.left b.asks b.then in record {
+      theirs = joined.result.0.1.me.0;
+      watched = subst (λ z. IsWatched p c.args.laid.now.cells 0 joined.result.0.0 z joined.result.0.1.me.0)
+          (ap (λ m. m.0) c.split-mine.ensures.other_view) joined.ensures.first.4;
+      taken = λ e. (joined.result.1.0.me.0, (c.take_in-seat.ensures.rested e).1);
+    }
