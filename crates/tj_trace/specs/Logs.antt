@@ -1,0 +1,82 @@
+-- A task that knows where it stands, and notes the statement at which it made each promise and each task.
+use Rattle.std.specs.Prelude.{ℕ, List, [], ◌∷◌, ◌++◌, Bool, Option, Some, None}
+use Rattle.tj_base.specs.declared.cell.Sort.{Sort}
+use Rattle.tj_base.specs.declared.cell.Sort.TheVariants as sort
+use Rattle.tj_body.specs.declared.ask.Answer.{Answer}
+use Rattle.tj_body.specs.declared.ask.Answer.TheVariants as answer
+use Rattle.tj_body.specs.declared.ask.Ask.{Ask}
+use Rattle.tj_body.specs.declared.ask.Ask.TheVariants as ask
+use Rattle.tj_body.specs.Asks.{Await}
+use Rattle.tj_body.specs.Programs.{Program, program_of}
+use Rattle.tj_body.specs.SeenAs.{ask_as}
+use Rattle.tj_eval.specs.Statements.{TaskState}
+use Rattle.tj_eval.specs.Stands.{PlacedState, Stand, placed_places, placed_awaits, placed_left, placed_asks, placed_then}
+use Rattle.tj_trace.specs.declared.line.Maker.{Maker}
+
+-- a task that knows where it stands, with its notes
+pub record Logged : Type 0 where
+  pub placed : PlacedState
+  -- what made its first thing, its second, and so on
+  pub makers : List Maker
+  -- what it has asked to be made, if its last ask was that
+  pub due : Option Sort
+
+-- one that has asked nothing yet
+abbrev pub logged : PlacedState → Logged
+logged x = record { placed = x; makers = []; due = None }
+
+-- the task without its stand and its notes
+abbrev pub erased : Logged → TaskState
+erased x = x.placed.task
+
+-- what an ask makes, if it makes something
+abbrev pub made_by : {B : Type 0} → Ask B → Option Sort
+made_by ask.New = Some sort.Promise
+made_by (ask.Fork b pass hand) = Some sort.Task
+made_by (ask.Set k v) = None
+made_by (ask.Get k) = None
+made_by (ask.Join k) = None
+made_by (ask.GetOr k) = None
+made_by (ask.JoinOr k) = None
+made_by (ask.Emit i) = None
+made_by (ask.End v) = None
+made_by (ask.Fail t) = None
+
+-- the statement at which a task stands that has asked for this
+abbrev pub maker_here : Option Sort → Stand → List Maker
+maker_here None z = []
+maker_here (Some s) z = record { sort = s; decl = z.decl; at = z.at } ∷ []
+
+-- the notes once the answer is there: one more where it tells that something was made
+abbrev pub noted : Answer → Logged → List Maker
+noted answer.Start x = x.makers
+noted (answer.Local k) x = x.makers ++ maker_here x.due x.placed.stand
+noted answer.Done x = x.makers
+noted (answer.Num i) x = x.makers
+noted (answer.RefAt k) x = x.makers
+noted answer.Lost x = x.makers
+
+-- the members of a body
+abbrev pub logged_places : Logged → ℕ
+logged_places x = placed_places x.placed
+
+abbrev pub logged_awaits : Logged → Await
+logged_awaits x = placed_awaits x.placed
+
+abbrev pub logged_left : Logged → ℕ
+logged_left x = placed_left x.placed
+
+abbrev pub logged_asks : Logged → Answer → Ask Logged
+logged_asks x a = ask_as logged (placed_asks x.placed a)
+
+abbrev pub logged_then : Logged → Answer → Logged
+logged_then x a = record {
+  placed = placed_then x.placed a;
+  makers = noted a x;
+  due = made_by (placed_asks x.placed a);
+}
+
+-- the program of a task that has asked nothing yet
+abbrev pub logged_program : Bool → PlacedState → Program Logged
+logged_program strict root =
+    program_of logged_places logged_awaits logged_left logged_asks logged_then strict (logged root)

@@ -1,0 +1,13 @@
+//! The trace of each task of a script's meaning: the declaration that it runs, where it stands, and
+//! at which statement it made each promise and each task.
+#![tactic(auto)]
+
+pub mod laws;
+mod line;
+mod logged;
+mod lookup;
+mod traced;
+
+pub use line::{Maker, MakerList, TraceLine, TraceLines};
+pub use lookup::{line_of, maker_of, owner_of, spot};
+pub use traced::trace;

@@ -1,0 +1,111 @@
+//! What a trace tells of one name, and where in the text a statement stands.
+ghost use Rattle.std.specs.Prelude.{◌≡◌, ℕ, [], None};
+ghost use Rattle.std.specs.List.{find};
+ghost use Rattle.std.specs.Option.{option_map};
+ghost use Rattle.tj_base.specs.ForkOrder.{child};
+ghost use Rattle.tj_body.specs.Names.{has, same};
+ghost use Rattle.tj_syntax.specs.PlacesOf.{view, view_task};
+ghost use Rattle.tj_trace.specs.Lookups as spec;
+ghost use Rattle.std.specs.Prelude.{slice_get, List};
+
+use crate::line::{Maker, TraceLine};
+use tj_base::Name;
+use tj_lex::Place;
+use tj_mean::Ending;
+use tj_syntax::{ScriptPlaces, TaskPlaces};
+
+/// The line of the task with this name.
+pub fn line_of<'t>(lines: &'t [TraceLine], name: &Name) -> Option<&'t TraceLine>
+    ensures { option_map (λ line. line.now) result
+        ≡ find (λ line. same line.line.name name.now) lines.now }
+{
+    line_named(lines, name.parts())
+}
+
+/// The line of the task that owned the cell with this name where it stopped.
+pub fn owner_of<'t>(lines: &'t [TraceLine], name: &Name) -> Option<&'t TraceLine>
+    ensures { option_map (λ line. line.now) result
+        ≡ find (λ line. has name.now (spec.kept_by line)) lines.now }
+{
+    lines.iter().find(|line| keeps(line, name))
+}
+
+/// Whether the task owned the cell where it stopped.
+fn keeps(line: &TraceLine, name: &Name) -> bool
+    ensures { result ≡ has name.now (spec.kept_by line.now) }
+{
+    match line.line.ending {
+        Ending::Waits(_) => *name == line.line.name || is_among(name, line.holds.items()),
+        Ending::Done(_) | Ending::Failed(_) => is_among(name, line.line.owes.items()),
+    }
+}
+
+/// Whether the name is one of these.
+fn is_among(name: &Name, names: &[Name]) -> bool
+    ensures { result ≡ has name.now names.now }
+{
+    names.iter().any(|other| *name == *other)
+}
+
+/// The statement that made the thing with this name.
+pub fn maker_of(lines: &[TraceLine], name: &Name) -> Option<Maker>
+    // Nobody made the root.
+    ensures root { name.now ≡ [] → result ≡ None }
+    ensures child { (maker : List ℕ) (k : ℕ) → name.now ≡ child maker k
+        → result ≡ spec.made_by (find (λ line. same line.line.name maker) lines.now) k }
+{
+    match name.parts().split_last() {
+        Some((k, maker)) => made_in(lines, maker, *k),
+        None => None,
+    }
+}
+
+/// The statement that made the k-th thing of the task with this name.
+fn made_in(lines: &[TraceLine], maker: &[u32], k: u32) -> Option<Maker>
+    ensures { result
+        ≡ spec.made_by (find (λ line. same line.line.name maker.now) lines.now) k }
+{
+    match line_named(lines, maker) {
+        Some(line) => made_by(line, k),
+        None => None,
+    }
+}
+
+/// The line of the task with a name of these numbers.
+fn line_named<'t>(lines: &'t [TraceLine], name: &[u32]) -> Option<&'t TraceLine>
+    ensures { option_map (λ line. line.now) result
+        ≡ find (λ line. same line.line.name name.now) lines.now }
+{
+    lines.iter().find(|line| line.line.name.parts() == name)
+}
+
+/// The statement that made the k-th thing of the task.
+fn made_by(line: &TraceLine, k: u32) -> Option<Maker>
+    ensures { result ≡ spec.maker_at line.now k }
+{
+    let before = k.checked_sub(1)?;
+    line.makers.items().get(before as usize).copied()
+}
+
+/// Where the statement with this number begins, in the declaration with that number; the number
+/// behind the last is that of the closing brace.
+pub fn spot(places: &ScriptPlaces, decl: usize, at: usize) -> Option<Place>
+    ensures { result ≡ spec.spot_of (slice_get (view places.now) decl) at }
+{
+    let task = places.tasks.get(decl)?;
+    spot_in(task, at)
+}
+
+/// The same of a declaration's parts.
+fn spot_in(task: &TaskPlaces, at: usize) -> Option<Place>
+    ensures { result ≡ slice_get (spec.spots (view_task task.now)) at }
+{
+    if let Some(statement) = task.statements.get(at) {
+        return Some(statement.at);
+    }
+    if at == task.statements.len() {
+        Some(task.brace)
+    } else {
+        None
+    }
+}
