@@ -1,0 +1,43 @@
+//! Ways to use the library, one in each file: a body of one's own, channels, rows and scripts.
+//! The program writes what each of them gives.
+#![tactic(auto)]
+
+mod bodies;
+mod channels;
+mod rows;
+mod scripts;
+
+use bodies::handed_over;
+use channels::two_receivers;
+use rows::handed_to_a_child;
+use scripts::{on_a_cycle, position_of_a_fault, which_owe};
+use std::io;
+use std::process::ExitCode;
+use std::sync::Wait;
+use std::thread::Threads;
+use tj_ports::{StdSink, put_all};
+
+/// What all of them give, where memory lasts.
+fn texts<R: Wait + Threads + Sync + AllocGlobal>(rt: &R) -> Option<[Vec<u8>; 6]> {
+    Some([
+        which_owe(rt)?,
+        on_a_cycle(rt)?,
+        position_of_a_fault(rt.alloc())?,
+        handed_to_a_child(rt)?,
+        handed_over(rt)?,
+        two_receivers(rt)?,
+    ])
+}
+
+fn main(rt: HostRuntime) -> ExitCode {
+    let Some(texts) = texts(&rt) else {
+        return ExitCode::FAILURE;
+    };
+    let mut sink = StdSink::new(io::writer(&rt));
+    for text in &texts {
+        if put_all(&mut sink, text.as_slice()).is_err() {
+            return ExitCode::FAILURE;
+        }
+    }
+    ExitCode::SUCCESS
+}

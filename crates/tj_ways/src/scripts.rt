@@ -1,0 +1,92 @@
+//! Scripts in a program: what became of a task, which tasks owe, the cycle that a task is on, and
+//! where a text has its fault.
+use std::alloc::Global;
+use std::sync::Wait;
+use std::thread::Threads;
+use tj_base::{Name, add_count};
+use tj_embed::{Options, cycle_with, line_of, owing, run_script, script_in};
+use tj_mean::{Ending, TaskLine};
+
+/// A task that forgets its promise.
+const FORGETS: &[u8] = b"task main() {
+  let p = new;
+  fork giver(own p);
+  let v = get p;
+  return v;
+}
+task giver(p) {
+  return 0;
+}
+";
+
+/// Two tasks that wait for each other.
+const CIRCLE: &[u8] = b"task main() {
+  let p = new;
+  let q = new;
+  fork partner(own p, q);
+  fork partner(own q, p);
+  return 0;
+}
+task partner(mine, other) {
+  let v = get other;
+  set mine = v;
+  return v;
+}
+";
+
+/// What a line says of its task.
+fn ending(line: &TaskLine) -> &'static [u8] {
+    match &line.ending {
+        Ending::Done(_) => b"done\n",
+        Ending::Failed(_) => b"failed\n",
+        Ending::Waits(_) => b"waits\n",
+    }
+}
+
+/// How the root ends, and how many tasks owe.
+pub(crate) fn which_owe<R: Wait + Threads + Sync + AllocGlobal>(rt: &R) -> Option<Vec<u8>> {
+    let alloc = rt.alloc();
+    let script = script_in(alloc, FORGETS).ok()?;
+    let options = Options {
+        workers: 2,
+        cells: 100,
+        ..Options::usual()
+    };
+    let run = run_script(rt, alloc, &script, options).ok()?;
+    let outcome = run.outcome(alloc).ok()?;
+    let root = line_of(&outcome, &Name::root())?;
+    let mut text = Vec::from_slice(alloc, ending(root)).ok()?;
+    let tasks = owing(alloc, &outcome).ok()?;
+    add_count(&mut text, b"owing ", tasks.len() as u128).ok()?;
+    text.extend_from_slice(b"\n").ok()?;
+    Some(text)
+}
+
+/// How many tasks are on the cycle of task 0.3.
+pub(crate) fn on_a_cycle<R: Wait + Threads + Sync + AllocGlobal>(rt: &R) -> Option<Vec<u8>> {
+    let alloc = rt.alloc();
+    let script = script_in(alloc, CIRCLE).ok()?;
+    let options = Options {
+        cells: 100,
+        ..Options::usual()
+    };
+    let run = run_script(rt, alloc, &script, options).ok()?;
+    let outcome = run.outcome(alloc).ok()?;
+    let name = Name::root().child(alloc, 3).ok()?;
+    let cycle = cycle_with(&outcome, &name)?;
+    let mut text = Vec::new(alloc);
+    add_count(&mut text, b"on a cycle of ", cycle.items().len() as u128).ok()?;
+    text.extend_from_slice(b"\n").ok()?;
+    Some(text)
+}
+
+/// The line and the column of the first fault of a text that is no script.
+pub(crate) fn position_of_a_fault(alloc: Global) -> Option<Vec<u8>> {
+    let fault = script_in(alloc, b"task main() {\n  return v;\n}\n").err()?;
+    let at = fault.position()?;
+    let mut text = Vec::new(alloc);
+    add_count(&mut text, b"fault at ", at.line as u128).ok()?;
+    add_count(&mut text, b":", at.column as u128).ok()?;
+    text.extend_from_slice(b"\n").ok()?;
+    Some(text)
+}
