@@ -1,34 +1,18 @@
 -- From a table at rest to what a command gives and puts, and to the clauses of the top call on closed words.
-use Rattle.std.proofs.Common.{◌≡◌, ◌<◌, ◌↔◌, ℕ, length, Bool, true, false, List, String, Option, Some, None, IsSome, IfSome, sym, ap, refl, subst, ◌⊎◌, inl, inr}
-use Rattle.std.proofs.lemmas.Bool.{false≢true}
-use Rattle.std.specs.declared.alloc.Global.{Global}
-use Rattle.std.specs.Io.KnownBytes.{Appends}
-use Rattle.tj_body.specs.Programs.{Program}
-use Rattle.tj_body.specs.Rounds.{meaning}
-use Rattle.tj_mean.specs.declared.outcome.Outcome.{Outcome}
-use Rattle.tj_mean.specs.Outcomes.{IsOutcome, is_marked}
+use Rattle.tj_program.proofs.Prelude.{Appends, Bool, Command, Full, Gen, Global, HasFault, IsCommand, IsCommandOutput}
+use Rattle.tj_program.proofs.Prelude.{IsOutcome, IsPutAs, IsRefused, IsRelayRun, IsStartOfText, List, Outcome, Program}
+use Rattle.tj_program.proofs.Prelude.{Report, RestCell, Root, Status, Summary, Told, WriteFault, ap, false≢true, inl}
+use Rattle.tj_program.proofs.Prelude.{inr, is_marked, meaning, relay_start, script_text, sym, ℕ, ◌<◌, ◌↔◌, ◌≡◌, ◌⊎◌}
+use Rattle.std.proofs.Common.{length, true, false, String, Option, Some, None, IsSome, IfSome, refl, subst}
 use Rattle.tj_report.specs.ClosedOutcomes.{AreCyclesOfOutcomeAlarmed}
-use Rattle.tj_ports.specs.Faults.{HasFault}
 use Rattle.tj_ports.specs.Putting.{GrowsByPart}
 use Rattle.tj_run.specs.Runs.{RestsAt}
 use Rattle.tj_words.specs.AtRest.RestShown.{RestShown}
-use Rattle.tj_words.specs.declared.closed.RestCell.{RestCell}
 use Rattle.tj_program.specs.ClosedRuns.{HasOutcome, HaveWorkers, IsClosedRun, IsClosedRunOf, IsCommandClosed}
 use Rattle.tj_program.specs.ClosedRuns.{IsRunClosed, has_workers}
-use Rattle.tj_program.specs.CommandLine.{IsCommand}
-use Rattle.tj_program.specs.Delivery.{IsPutAs}
 use Rattle.tj_program.specs.Inner.ClosedOutputs.{AreWith, IsGiven, IsPutWith, IsRunGiven}
-use Rattle.tj_gen.specs.Script.{script_text}
-use Rattle.tj_program.specs.Output.{IsCommandOutput, IsRefused, IsStartOfText}
-use Rattle.tj_program.specs.RelayRuns.{IsRelayRun, relay_start}
 use Rattle.tj_program.specs.Runs.{Start, StartOf, IsRunOf, full, ended, started, status_of, text_of}
-use Rattle.tj_program.specs.declared.command.Command.{Command}
-use Rattle.tj_program.specs.declared.command.Command.TheVariants.{Run, Plan, List as list, Judge, Gen, Known}
-use Rattle.tj_program.specs.declared.command.Command.TheVariants.{Relay, Watch}
-use Rattle.tj_program.specs.declared.script_run.Told.{Told}
-use Rattle.tj_program.specs.declared.script_run.Told.TheVariants.{Report, Root, Summary}
-use Rattle.tj_program.specs.declared.status.Status.{Status}
-use Rattle.tj_program.specs.declared.status.Status.TheVariants.{Full, WriteFault}
+use Rattle.tj_program.specs.declared.command.Command.TheVariants.{Run, Plan, List as list, Judge, Known, Relay, Watch}
 
 module _ {B : Type 0} (program : Bool → B → Program B) where
   -- what rests under names that are the table's own rests under these

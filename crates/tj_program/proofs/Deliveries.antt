@@ -1,23 +1,15 @@
 -- From what a command has read and put to the clauses of the top call.
-use Rattle.std.proofs.Common.{◌≡◌, ◌≢◌, ℕ, ◌<◌, ◌≤◌, List, length, ◌++◌, Option, Some, None, String, Bool, true, false, sym, ap, refl, subst, ◌∙◌, ◌⊎◌, inl, inr, arith}
-use Rattle.std.specs.declared.alloc.Global.{Global}
-use Rattle.std.specs.Io.KnownBytes.{Appends}
+use Rattle.tj_program.proofs.Prelude.{Appends, Bool, Clean, Command, Full, Global, HasText, IsCommand, IsCommandOutput}
+use Rattle.tj_program.proofs.Prelude.{IsJudging, IsKnown, IsKnownOf, IsListed, IsOutput, IsPutAs, IsRefused, IsRelayRun}
+use Rattle.tj_program.proofs.Prelude.{IsRun, IsRunOf, List, Marked, Memory, None, Option, ReadFault, Report, Root}
+use Rattle.tj_program.proofs.Prelude.{Script, Some, Start, Status, String, Summary, Told, Usage, WriteFault, ap, arith}
+use Rattle.tj_program.proofs.Prelude.{ended, false, full, inl, inr, length, needs_more, of_command, refl, status_of}
+use Rattle.tj_program.proofs.Prelude.{subst, sym, tells, true, ℕ, ◌++◌, ◌<◌, ◌∙◌, ◌≡◌, ◌≢◌, ◌≤◌, ◌⊎◌}
 use Rattle.tj_ports.specs.Faults.{HasFault, HasNoFault}
-use Rattle.tj_program.specs.CommandLine.{IsCommand}
-use Rattle.tj_program.specs.Delivery.{HasText, IsAnswered, IsOutputPart, IsPutAs}
+use Rattle.tj_program.specs.Delivery.{IsAnswered, IsOutputPart}
 use Rattle.tj_program.specs.Inner.ClosedOutputs.{IsAnswerPut}
-use Rattle.tj_program.specs.Judgings.{IsJudging}
-use Rattle.tj_program.specs.KnownRuns.{IsKnownOf, needs_more, tells}
-use Rattle.tj_program.specs.Output.{IsOutput, IsCommandOutput, IsKnown, IsListed, IsRefused, IsRun, of_command}
 use Rattle.tj_program.specs.RelayRuns as relays
-use Rattle.tj_program.specs.RelayRuns.{IsRelayRun}
-use Rattle.tj_program.specs.Runs.{Start, IsRunOf, status_of, full, ended}
-use Rattle.tj_program.specs.declared.command.Command.{Command}
 use Rattle.tj_program.specs.declared.command.Command.TheVariants as command
-use Rattle.tj_program.specs.declared.script_run.Told.{Told}
-use Rattle.tj_program.specs.declared.script_run.Told.TheVariants.{Report, Root, Summary}
-use Rattle.tj_program.specs.declared.status.Status.{Status}
-use Rattle.tj_program.specs.declared.status.Status.TheVariants.{Clean, Marked, Usage, Script, Full, ReadFault, WriteFault, Memory}
 
 -- The statuses that a command's output can have.
 abbrev IsOwn : Status → Type 0

@@ -1,17 +1,12 @@
 -- What reading an input up to the most bytes tells of it.
-use Rattle.std.proofs.Common.{◌≡◌, ℕ, ◌+◌, ◌<◌, ◌⊎◌, inl, inr, List, [], ◌∷◌, ◌++◌, length, take, nat_le, Bool, true, false}
-use Rattle.std.proofs.Common.{cond, sym, refl, ap, subst, ◌∙◌, arith}
+use Rattle.tj_program.proofs.Prelude.{Bool, Command, Gen, IsReadOf, List, ReadEnd, Relay, [], ap, arith, cond, inl, inr}
+use Rattle.tj_program.proofs.Prelude.{most_bytes, refl, sym, take, takes_input, true, ℕ, ◌++◌, ◌<◌, ◌∙◌, ◌∷◌, ◌≡◌, ◌⊎◌}
+use Rattle.std.proofs.Common.{◌+◌, length, nat_le, false, subst}
 use Rattle.std.proofs.lemmas.Bool.Decides.{nat_tests}
 use Rattle.std.proofs.Math.Seq.{take-append_seam}
 use Rattle.std.proofs.lemmas.List.{length-append}
-use Rattle.tj_ports.specs.declared.source.ReadEnd.{ReadEnd}
 use Rattle.tj_ports.specs.declared.source.ReadEnd.TheVariants.{Whole, Long}
 use Rattle.tj_ports.specs.Reading.{IsWithin}
-use Rattle.tj_program.specs.Inner.Inputs.{IsReadOf}
-use Rattle.tj_program.specs.Output.{takes_input}
-use Rattle.tj_embed.specs.ScriptTexts.{most_bytes}
-use Rattle.tj_program.specs.declared.command.Command.{Command}
-use Rattle.tj_program.specs.declared.command.Command.TheVariants.{Gen, Relay}
 
 whole_cases : (limit : ℕ) (bytes input : List ℕ) (b : Bool)
     → Whole bytes ≡ cond b (Whole input) (Long (take limit input)) → bytes ≡ input

@@ -1,25 +1,18 @@
 -- What `known` tells: it has one answer, and what each step of the mode gives for it.
-use Rattle.std.proofs.Common.{◌≡◌, ◌↔◌, ℕ, List, [], ◌∷◌, Result, Ok, Err, IfOk, refl, sym, ap, subst, ◌∙◌}
-use Rattle.tj_base.specs.declared.memory.Oom.{Oom}
-use Rattle.tj_body.specs.Programs.{Program}
+use Rattle.tj_program.proofs.Prelude.{Err, Full, IfOk, IsKnownOf, IsStartOf, Limits, List, NeedsMore, Ok, Oom, Output}
+use Rattle.tj_program.proofs.Prelude.{Program, Result, Start, Status, Task, [], ap, full_line, in_unpermuted}
+use Rattle.tj_program.proofs.Prelude.{needs_more, refl, status_of, subst, sym, tells, ℕ, ◌↔◌, ◌∙◌, ◌∷◌, ◌≡◌}
 use Rattle.tj_mean.specs.Acts.{AreActsOf, meant_lines}
 use Rattle.tj_mean.specs.declared.act.ActLine.{ActLine}
-use Rattle.tj_mean.proofs.Lists.NameOrder.{in_permuted, in_unpermuted}
+use Rattle.tj_mean.proofs.Lists.NameOrder.{in_permuted}
 use Rattle.tj_mean.proofs.Outcomes.OneOutcome.{same_in_order}
 use Rattle.tj_known.specs.KnownLines.{AreTold, IsTold, Join, joins_in}
 use Rattle.tj_known.specs.KnownTexts.{known_text}
 use Rattle.tj_known.specs.declared.known.How.{How}
-use Rattle.tj_known.specs.declared.known.How.TheVariants as how
 use Rattle.tj_known.specs.declared.known.KnownLine.{KnownLine}
-use Rattle.tj_syntax.specs.Trees.{Task}
-use Rattle.tj_program.specs.KnownRuns.{AreJoinsOf, IsKnownOf, has_against, needs_more, tells}
-use Rattle.tj_program.specs.Runs.{Start, IsStartOf, NeedsMore, status_of}
-use Rattle.tj_program.specs.Texts.{full_line}
-use Rattle.tj_program.specs.declared.output.Output.{Output}
-use Rattle.tj_program.specs.declared.script_run.Limits.{Limits}
-use Rattle.tj_program.specs.declared.status.Status.{Status}
-use Rattle.tj_program.specs.declared.status.Status.TheVariants.{Full}
+use Rattle.tj_program.specs.KnownRuns.{AreJoinsOf, has_against}
 use Rattle.tj_program.proofs.Outputs.{if_ok}
+use Rattle.tj_known.specs.declared.known.How.TheVariants as how
 
 -- ---- one answer
 

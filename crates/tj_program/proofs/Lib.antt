@@ -10,3 +10,4 @@ pub mod KnownRuns
 pub mod RootLines
 pub mod RelayRuns
 mod TopAnswers
+pub mod Prelude

@@ -1,52 +1,33 @@
 -- Words and an input have one output at most, from the laws of the crates below.
-use Rattle.std.proofs.Common.{◌≡◌, ℕ, ◌<◌, ◌≤◌, ◌⊎◌, inl, inr, List, [], Some, String, Result, Ok, Err, length, refl, sym, ap, subst, ◌∙◌, arith}
-use Rattle.std.specs.declared.alloc.Global.{Global}
-use Rattle.tj_body.specs.Rounds.{meaning}
-use Rattle.tj_body.specs.declared.point.Point.{Point}
-use Rattle.tj_chan.specs.ChannelOutcomes.{IsChatOutcome}
-use Rattle.tj_chan.specs.ChannelRounds.{chat_meaning}
+use Rattle.tj_program.proofs.Prelude.{Command, Err, Global, HasLimits, HasOneOutcome, IsChatOutcome, IsJournalFault}
+use Rattle.tj_program.proofs.Prelude.{IsJudging, IsKnown, IsKnownOf, IsListed, IsOutput, IsRelayRun, IsRun, IsRunOf}
+use Rattle.tj_program.proofs.Prelude.{IsScript, IsStartOf, Limits, List, NoScript, Ok, Outcome, Point, Report, Result}
+use Rattle.tj_program.proofs.Prelude.{Root, Some, Start, Status, String, Summary, Task, Tok, Token, Told, [], ap, arith}
+use Rattle.tj_program.proofs.Prelude.{bad_line, chat_meaning, ended, full, inl, inr, is_marked, journal_fault, kinds_of}
+use Rattle.tj_program.proofs.Prelude.{length, lines_of, meaning, most_bytes, of_command, refl, relay_chats, script_text}
+use Rattle.tj_program.proofs.Prelude.{start_of, status_of, subst, sym, text_of, usage, ℕ, ◌<◌, ◌∙◌, ◌≡◌, ◌≤◌, ◌⊎◌}
 use Rattle.tj_core.specs.declared.event.Event.{Event}
-use Rattle.tj_core.specs.Journals.Lines as journal
-use Rattle.tj_core.specs.Journals.Lines.{lines_of}
 use Rattle.tj_core.specs.Journals.Laws.{EventsAreOne, FirstFaultIsOne, EventsHaveNoFault, JudgingIsOne}
 use Rattle.tj_eval.specs.Statements.{TaskState, task_of}
-use Rattle.tj_gen.specs.Script.{script_text}
-use Rattle.tj_lex.specs.declared.token.Tok.{Tok}
-use Rattle.tj_lex.specs.declared.token.Token.{Token}
 use Rattle.tj_lex.specs.declared.token.LexFault.{LexFault}
-use Rattle.tj_lex.specs.Tokens as tokens
 use Rattle.tj_lex.specs.Tokens.{Answers, AreTokens}
 use Rattle.tj_core.specs.Journals.Judging.{IsJudged}
-use Rattle.tj_mean.specs.declared.outcome.Outcome.{Outcome}
-use Rattle.tj_mean.specs.Outcomes.{is_marked}
-use Rattle.tj_mean.specs.OutcomeLaws.{HasOneOutcome}
 use Rattle.tj_report.specs.ReportTexts.{report}
 use Rattle.tj_syntax.specs.declared.fault.ParseFault.{ParseFault}
-use Rattle.tj_syntax.specs.Faults as grammar
 use Rattle.tj_syntax.specs.Listing.{listing}
-use Rattle.tj_syntax.specs.Faults.{EndsInEnd, IsScript, kinds_of}
-use Rattle.tj_syntax.specs.Trees.{Task}
-use Rattle.tj_program.specs.CommandLine.{HasLimits}
-use Rattle.tj_program.specs.Judgings as judgings
-use Rattle.tj_program.specs.Judgings.{IsJournalFault, IsJudging, bad_line}
-use Rattle.tj_program.specs.Output.{IsOutput, IsCommandOutput, IsKnown, IsListed, IsRefused, IsRun, IsStart, IsStartOfText, usage, of_command}
-use Rattle.tj_program.specs.KnownRuns.{IsKnownOf}
-use Rattle.tj_program.specs.RelayRuns as relays
-use Rattle.tj_program.specs.RelayRuns.{IsRelayRun, relay_chats}
-use Rattle.tj_program.specs.Runs.{Start, IsRunOf, IsStartOf, start_of, status_of, text_of, full, ended}
-use Rattle.tj_embed.specs.ScriptTexts.{most_bytes, IsScriptOf, IsFirstFault, too_long, in_tokens, in_grammar}
+use Rattle.tj_syntax.specs.Faults.{EndsInEnd}
+use Rattle.tj_program.specs.Output.{IsCommandOutput, IsRefused, IsStart, IsStartOfText}
+use Rattle.tj_embed.specs.ScriptTexts.{IsScriptOf, IsFirstFault, too_long, in_tokens, in_grammar}
 use Rattle.tj_program.specs.ScriptTexts.{IsFaultLine, fault_line}
-use Rattle.tj_program.specs.Texts.{journal_fault}
-use Rattle.tj_program.specs.declared.command.Command.{Command}
-use Rattle.tj_program.specs.declared.command.Command.TheVariants as command
-use Rattle.tj_program.specs.declared.script_run.Limits.{Limits}
-use Rattle.tj_program.specs.declared.script_run.Told.{Told}
-use Rattle.tj_program.specs.declared.script_run.Told.TheVariants.{Report, Root, Summary}
-use Rattle.tj_embed.specs.declared.script_text.NoScript.{NoScript}
 use Rattle.tj_embed.specs.declared.script_text.NoScript.TheVariants.{Tokens, Grammar}
-use Rattle.tj_program.specs.declared.status.Status.{Status}
 use Rattle.tj_program.proofs.KnownRuns.{one_known}
 use Rattle.tj_program.proofs.Lines.CommandLines.{one_command, within_limits}
+use Rattle.tj_core.specs.Journals.Lines as journal
+use Rattle.tj_lex.specs.Tokens as tokens
+use Rattle.tj_syntax.specs.Faults as grammar
+use Rattle.tj_program.specs.Judgings as judgings
+use Rattle.tj_program.specs.RelayRuns as relays
+use Rattle.tj_program.specs.declared.command.Command.TheVariants as command
 
 -- What the crates below leave no choice in.
 pub record AreOne : Type 0 where

@@ -1,31 +1,14 @@
 -- From what each step of a command gives to its output.
-use Rattle.std.proofs.Common.{◌≡◌, ℕ, ◌<◌, ◌⊎◌, inl, inr, true, List, Result, Ok, Err, IfOk, length, take, sym, refl, ap, subst, ◌∙◌, arith}
+use Rattle.tj_program.proofs.Prelude.{Command, Err, Full, HasRead, IfOk, IsCommandOutput, IsGenerated, IsJudging}
+use Rattle.tj_program.proofs.Prelude.{IsOutcomeOf, IsReadOf, IsRefused, IsRunOf, IsScriptOf, IsStartOf, Limits, List}
+use Rattle.tj_program.proofs.Prelude.{NeedsMore, NoScript, Ok, Oom, Outcome, Output, ReadEnd, Report, Result, Script}
+use Rattle.tj_program.proofs.Prelude.{Start, Status, Task, Told, ap, arith, ended, fault_line, full, full_line}
+use Rattle.tj_program.proofs.Prelude.{generated_script, inl, inr, is_marked, journal_fault, length, refl, script_text}
+use Rattle.tj_program.proofs.Prelude.{status_of, subst, sym, take, takes_input, text_of, true, ℕ, ◌<◌, ◌∙◌, ◌≡◌, ◌⊎◌}
 use Rattle.tj_lex.specs.declared.place.Place.{Place}
 use Rattle.tj_lex.specs.Positions.{position_after}
-use Rattle.tj_lex.specs.Tokens as tokens
-use Rattle.tj_mean.specs.declared.outcome.Outcome.{Outcome}
-use Rattle.tj_mean.specs.Outcomes.{is_marked}
-use Rattle.tj_syntax.specs.Trees.{Task}
-use Rattle.tj_base.specs.declared.memory.Oom.{Oom}
-use Rattle.tj_gen.specs.Script.{script_text}
-use Rattle.tj_ports.specs.declared.source.ReadEnd.{ReadEnd}
-use Rattle.tj_program.specs.Generated.{IsGenerated, generated_script}
-use Rattle.tj_program.specs.Inner.Inputs.{IsReadOf, HasRead}
-use Rattle.tj_program.specs.Judgings.{IsJudging, IsJournalFault, too_long as journal_too_long}
-use Rattle.tj_program.specs.Output.{IsCommandOutput, IsRefused, takes_input}
-use Rattle.tj_program.specs.declared.command.Command.{Command}
-use Rattle.tj_program.specs.Runs.{Start, IsStartOf, status_of, text_of, NeedsMore, IsOutcomeOf, IsRunOf, full, ended}
-use Rattle.tj_embed.specs.ScriptTexts.{most_bytes, IsScriptOf, IsFirstFault}
-use Rattle.tj_program.specs.ScriptTexts.{fault_line}
-use Rattle.tj_embed.specs.ScriptTexts.{IsMemory}
-use Rattle.tj_program.specs.Texts.{journal_fault, full_line}
-use Rattle.tj_program.specs.declared.output.Output.{Output}
-use Rattle.tj_embed.specs.declared.script_text.NoScript.{NoScript}
-use Rattle.tj_program.specs.declared.script_run.Limits.{Limits}
-use Rattle.tj_program.specs.declared.script_run.Told.{Told}
-use Rattle.tj_program.specs.declared.script_run.Told.TheVariants.{Report}
-use Rattle.tj_program.specs.declared.status.Status.{Status}
-use Rattle.tj_program.specs.declared.status.Status.TheVariants.{Full, Script}
+use Rattle.tj_program.specs.Judgings.{IsJournalFault, too_long as journal_too_long}
+use Rattle.tj_embed.specs.ScriptTexts.{most_bytes, IsFirstFault, IsMemory}
 
 -- what is so of an answer that isn't an error
 pub if_ok : {A E : Type 0} {P Q : A → Type 0} (r : Result A E) → ((x : A) → P x → Q x) → IfOk r P → IfOk r Q

@@ -1,23 +1,13 @@
 -- The relay: its outcome over promises is that of channels as lists, and lists have one.
-use Rattle.std.proofs.Common.{◌≡◌, ℕ, ◌<◌, ◌≤◌, List, Option, false, arith, le-leb, lt-ltb, refl, subst}
-use Rattle.tj_body.specs.Rounds.{meaning}
-use Rattle.tj_body.specs.declared.point.Point.{Point}
-use Rattle.tj_chan.specs.ChanBodies.{root_body}
+use Rattle.tj_program.proofs.Prelude.{HasOneOutcome, IsChatOutcome, IsRunGiven, IsRunOf, List, Outcome, Point, Report}
+use Rattle.tj_program.proofs.Prelude.{RestCell, Status, chat_meaning, ended, full, meaning, root_body, started, ℕ, ◌<◌}
+use Rattle.std.proofs.Common.{◌≡◌, ◌≤◌, Option, false, arith, le-leb, lt-ltb, refl, subst}
 use Rattle.tj_chan.specs.ChannelLaws.{ChannelsAreLists, IsMeantByLists, bodies_of}
-use Rattle.tj_chan.specs.ChannelOutcomes.{IsChatOutcome}
-use Rattle.tj_chan.specs.ChannelRounds.{chat_meaning}
 use Rattle.tj_chan.specs.Chats.{IsFreshChat}
 use Rattle.tj_chan.specs.Relays.{relay_awaits, relay_channels, relay_left, root_relay}
 use Rattle.tj_chan.specs.declared.body.ChanBody.{ChanBody}
 use Rattle.tj_chan.specs.declared.relay.Relay.{Relay}
-use Rattle.tj_mean.specs.OutcomeLaws.{HasOneOutcome}
-use Rattle.tj_mean.specs.declared.outcome.Outcome.{Outcome}
-use Rattle.tj_words.specs.declared.closed.RestCell.{RestCell}
-use Rattle.tj_program.specs.Inner.ClosedOutputs.{IsRunGiven}
 use Rattle.tj_program.specs.RelayRuns.{IsRelayRun, ends, needs_more, relay_chats, relay_rules, relay_start}
-use Rattle.tj_program.specs.Runs.{IsRunOf, full, ended, started}
-use Rattle.tj_program.specs.declared.script_run.Told.TheVariants.{Report}
-use Rattle.tj_program.specs.declared.status.Status.{Status}
 
 -- what the run over promises gives is what channels as lists give
 pub by_lists : (size cells : ℕ) → IsMeantByLists relay_rules (root_relay size) (root_body (root_relay size))

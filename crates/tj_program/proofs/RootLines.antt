@@ -1,45 +1,38 @@
 -- What a watch of the root was told is what the root's line of the outcome tells.
-use Rattle.std.proofs.Common.{◌≡◌, ◌<◌, ℕ, inl, inr, Bool, true, false, cond, List, [], ◌∷◌, map, Option, Some, None}
-use Rattle.std.proofs.Common.{refl, sym, ap, subst, ◌∙◌, codes, length}
-use Rattle.std.specs.List.{AllByRecursion}
+use Rattle.tj_program.proofs.Prelude.{AllByRecursion, Answer, Bool, IsOutcome, List, None, Option, Outcome, Point}
+use Rattle.tj_program.proofs.Prelude.{Program, RestCell, Some, [], ap, cond, in_unpermuted, inl, inr, map, meaning}
+use Rattle.tj_program.proofs.Prelude.{subst, sym, ℕ, ◌∙◌, ◌∷◌, ◌≡◌}
 use Rattle.std.specs.List.Sorted.{IsStrictlySortedBy}
 use Rattle.std.specs.Option.{option_map}
-use Rattle.std.specs.declared.cmp.Ordering.TheVariants.{Less, Equal, Greater}
+use Rattle.std.specs.declared.cmp.Ordering.TheVariants.{Less}
 use mathlib.Core.Option.{some}
 use lib.ListN.{get_elem?}
 use Rattle.tj_base.specs.ForkOrder.{Name}
-use Rattle.tj_base.specs.declared.value.Shown.TheVariants as shown
 use Rattle.tj_body.specs.History.{to_task}
 use Rattle.tj_body.specs.Points.{IsIn}
-use Rattle.tj_body.specs.Programs.{Program}
-use Rattle.tj_body.specs.Rounds.{meaning}
-use Rattle.tj_body.specs.declared.ask.Answer.{Answer}
-use Rattle.tj_body.specs.declared.ask.Answer.TheVariants as answer
-use Rattle.tj_body.specs.declared.point.Close.{Close}
-use Rattle.tj_body.specs.declared.point.Close.TheVariants as close
-use Rattle.tj_body.specs.declared.point.Point.{Point}
-use Rattle.tj_body.specs.declared.point.PointStage.TheVariants as stage
 use Rattle.tj_body.specs.declared.point.Reference.{Reference}
-use Rattle.tj_mean.specs.Outcomes.{Ascend, IsOutcome, ending_of, is_nil, shown_of, stopped_of}
+use Rattle.tj_mean.specs.Outcomes.{Ascend, ending_of, is_nil, stopped_of}
 use Rattle.tj_mean.specs.declared.outcome.Ending.{Ending}
-use Rattle.tj_mean.specs.declared.outcome.Ending.TheVariants as ending
-use Rattle.tj_mean.specs.declared.outcome.Outcome.{Outcome}
 use Rattle.tj_mean.specs.declared.outcome.TaskLine.{TaskLine}
 use Rattle.tj_mean.specs.declared.stopped.Stopped.{Stopped}
 use Rattle.tj_mean.proofs.Lists.Elements.{some_is}
-use Rattle.tj_mean.proofs.Lists.NameOrder.{in_unpermuted, order}
+use Rattle.tj_mean.proofs.Lists.NameOrder.{order}
 use Rattle.tj_mean.proofs.Outcomes.ToldOutcomes.{of_told, told_name}
 use Rattle.tj_words.specs.AtRest.RestMeaning.{AreRecordsOf, AreWordsOf, HaveMeaning, TellsHistory}
 use Rattle.tj_words.specs.LawParts.Telling.{TellsStage}
-use Rattle.tj_words.specs.declared.closed.RestCell.{RestCell}
-use Rattle.tj_words.specs.declared.record.Fill.TheVariants as fill
 use Rattle.tj_words.specs.declared.record.Finish.{Finish}
-use Rattle.tj_words.specs.declared.record.Finish.TheVariants as finish
 use Rattle.tj_words.specs.declared.record.Rec.{Rec}
 use Rattle.tj_future.specs.RootWatches.{IsRootWatched, watched_of}
 use Rattle.tj_future.specs.declared.watched.Watched.{Watched}
 use Rattle.tj_program.specs.Inner.WatchTells.{WatchTells}
 use Rattle.tj_program.specs.RootLines.{ending_line, root_line}
+use Rattle.tj_base.specs.declared.value.Shown.TheVariants as shown
+use Rattle.tj_body.specs.declared.ask.Answer.TheVariants as answer
+use Rattle.tj_body.specs.declared.point.Close.TheVariants as close
+use Rattle.tj_body.specs.declared.point.PointStage.TheVariants as stage
+use Rattle.tj_mean.specs.declared.outcome.Ending.TheVariants as ending
+use Rattle.tj_words.specs.declared.record.Fill.TheVariants as fill
+use Rattle.tj_words.specs.declared.record.Finish.TheVariants as finish
 
 -- ---- the root's line
 

@@ -1,32 +1,20 @@
 -- Strict runs of scripts without `get`, from the laws of the crates below.
-use Rattle.std.proofs.Common.{ℕ, ◌≡◌, ◌≤◌, Bool, true, List, String, IsTrue, sym, ap, subst, ◌∙◌, arith}
-use Rattle.std.proofs.lemmas.Bool.{false≢true}
+use Rattle.tj_program.proofs.Prelude.{Answer, AreTokens, Bool, Command, Global, HasLimits, IsCommand, IsOutcomeOf}
+use Rattle.tj_program.proofs.Prelude.{IsScript, IsStartOf, IsStartOfText, Limits, List, NeedsMore, Outcome, Start, Task}
+use Rattle.tj_program.proofs.Prelude.{TaskState, Tok, Token, ap, false≢true, kinds_of, start_of, sym, ℕ, ◌∙◌, ◌≡◌, ◌≤◌}
+use Rattle.std.proofs.Common.{true, String, IsTrue, subst, arith}
 use Rattle.tj_body.specs.Asks.{IsFresh}
 use Rattle.tj_body.specs.Programs.{rules_of}
 use Rattle.tj_body.specs.NeverWaits.{IsNoGet, IsWithoutGet}
-use Rattle.tj_body.specs.declared.ask.Answer.{Answer}
 use Rattle.tj_eval.specs.declared.body.TheConstants.{MAX_STEPS}
 use Rattle.tj_eval.specs.Bodies.{IsMainBody, script_places, script_awaits, script_left, script_asks, script_then}
 use Rattle.tj_eval.specs.Gets.{asks_no_get, AreWithoutGet}
 use Rattle.tj_eval.specs.Inner.Laws.{fresh-main}
-use Rattle.tj_eval.specs.Statements.{TaskState}
 use Rattle.tj_eval.proofs.Programs.{few-script}
-use Rattle.tj_lex.specs.declared.token.Tok.{Tok}
-use Rattle.tj_lex.specs.declared.token.Token.{Token}
-use Rattle.tj_lex.specs.Tokens.{AreTokens}
-use Rattle.tj_mean.specs.declared.outcome.Outcome.{Outcome}
 use Rattle.tj_mean.specs.OutcomeLaws.{HasNoWait}
-use Rattle.tj_syntax.specs.Faults.{IsScript, kinds_of}
-use Rattle.tj_syntax.specs.Trees.{Task}
-use Rattle.std.specs.declared.alloc.Global.{Global}
-use Rattle.tj_program.specs.CommandLine.{HasLimits, IsCommand}
-use Rattle.tj_program.specs.Output.{IsStartOfText}
-use Rattle.tj_program.specs.Runs.{Start, IsStartOf, NeedsMore, IsOutcomeOf, start_of}
 use Rattle.tj_program.specs.StrictRuns.{StrictRunsNeverWait}
-use Rattle.tj_program.specs.declared.script_run.Limits.{Limits}
-use Rattle.tj_program.specs.declared.command.Command.{Command}
-use Rattle.tj_program.specs.declared.command.Command.TheVariants as command
 use Rattle.tj_program.proofs.Lines.CommandLines.{within_limits}
+use Rattle.tj_program.specs.declared.command.Command.TheVariants as command
 
 -- the body of a script's root has asked nothing yet
 pub fresh-root : (tokens : List Tok) (script : List Task) (steps : ℕ) (root : TaskState) → IsScript tokens script

@@ -1,10 +1,7 @@
 -- What the top call answers to words is answered to the same words by another name.
-use Rattle.std.proofs.Common.{◌≡◌, List, Option, ℕ, subst}
+use Rattle.tj_program.proofs.Prelude.{Global, List, Option, RestCell, Status, subst, ℕ, ◌≡◌}
 use Rattle.std.specs.Prelude.{String}
-use Rattle.std.specs.declared.alloc.Global.{Global}
-use Rattle.tj_words.specs.declared.closed.RestCell.{RestCell}
 use Rattle.tj_program.specs.TopAnswers.{IsTopAnswer}
-use Rattle.tj_program.specs.declared.status.Status.{Status}
 
 -- the answer to words is one to whatever list is the same
 pub to_same_words : {words other : List (String Global)} {left left_after : Option (List ℕ)} {reads reads_after : ℕ}

@@ -1,22 +1,17 @@
 -- Plain tokens, at which nothing can be wrong: keywords, marks, names, and numbers that aren't too great.
-use Rattle.std.proofs.Common.{◌≡◌, ◌≢◌, ℕ, pos, Bool, true, false, not, ◌&&◌, List, []}
-use Rattle.std.proofs.Common.{◌∷◌, length, codes, refl, sym, ap, ◌∙◌}
+use Rattle.tj_program.proofs.Prelude.{AreFine, CanStand, IsFine, Name, Noted, Task, [], ap, bytes_eq, declares, fine, ℕ}
+use Rattle.std.proofs.Common.{◌≡◌, ◌≢◌, pos, Bool, true, false, not, ◌&&◌, List, ◌∷◌, length, codes, refl, sym, ◌∙◌}
 use Rattle.std.specs.Prelude.{◌||◌, nat_le}
 use Rattle.std.specs.List.{take_while, list_all}
-use Rattle.std.specs.Str.{bytes_eq}
 use Rattle.std.proofs.lemmas.Bool.{leb-true}
 use Rattle.std.proofs.lemmas.List.Sums.{take_while-cons}
-use Rattle.tj_lex.specs.declared.token.Tok.TheVariants as toks
 use Rattle.tj_lex.specs.declared.token.Key.{Key}
-use Rattle.tj_lex.specs.declared.token.Key.TheVariants as keys
 use Rattle.tj_lex.specs.Bytes.{is_name_start, is_name_byte, begins_with}
 use Rattle.tj_lex.specs.Spelling.{key_text}
 use Rattle.tj_lex.specs.Tokens.{greatest_number, longest_name}
 use Rattle.tj_lex.proofs.Stretches.{both, not-true}
-use Rattle.tj_syntax.specs.Trees.{Task}
-use Rattle.tj_syntax.specs.Marks.{Noted, Name, fine, declares}
-use Rattle.tj_syntax.specs.Listing.{CanStand}
-use Rattle.tj_syntax.proofs.Listed.Again.{IsFine, AreFine}
+use Rattle.tj_lex.specs.declared.token.Tok.TheVariants as toks
+use Rattle.tj_lex.specs.declared.token.Key.TheVariants as keys
 
 -- whether the bytes are a keyword
 abbrev is_key : List ℕ → Bool

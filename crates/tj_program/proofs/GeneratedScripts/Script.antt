@@ -1,20 +1,14 @@
 -- The generated text is a script, and its own listing.
-use Rattle.std.proofs.Common.{ℕ, ◌≤◌, List, [], ◌∷◌, ◌++◌, refl, subst, arith}
-use Rattle.std.specs.List.{AllByRecursion}
-use Rattle.tj_lex.specs.declared.token.Tok.{Tok}
-use Rattle.tj_lex.specs.declared.token.Tok.TheVariants as toks
-use Rattle.tj_lex.specs.Tokens.{AreTokens, greatest_number}
-use Rattle.tj_syntax.specs.Trees.{Task}
-use Rattle.tj_syntax.specs.Marks.{Noted}
+use Rattle.tj_program.proofs.Prelude.{AllByRecursion, AreFine, AreTokens, CanStand, IsGenerated, IsScript, List, Noted}
+use Rattle.tj_program.proofs.Prelude.{Task, Tok, [], arith, fine-append, generated_script, greatest_number, main_task}
+use Rattle.tj_program.proofs.Prelude.{refl, subst, ℕ, ◌++◌, ◌∷◌, ◌≤◌}
 use Rattle.tj_syntax.specs.Grammar.{tasks_more, tasks_end}
-use Rattle.tj_syntax.specs.Faults.{tokens_of, AreUnbroken, AreForksRight, IsScript}
-use Rattle.tj_syntax.specs.Listing.{CanStand}
-use Rattle.tj_syntax.proofs.Listed.Again.{AreFine, fine-append}
+use Rattle.tj_syntax.specs.Faults.{tokens_of, AreUnbroken, AreForksRight}
 use Rattle.tj_syntax.proofs.Listed.Back.{says_again}
-use Rattle.tj_program.specs.Generated.{IsGenerated, generated_script, main_task}
 use Rattle.tj_program.proofs.GeneratedScripts.Text.{listed}
 use Rattle.tj_program.proofs.GeneratedScripts.Short.{short}
 use Rattle.tj_program.proofs.GeneratedScripts.Tasks.{main_sound, node_sound}
+use Rattle.tj_lex.specs.declared.token.Tok.TheVariants as toks
 
 unbroken : (script : List Task) (notes : List Noted) → AreFine script notes → AreUnbroken notes
 unbroken script [] h = tt

@@ -1,8 +1,6 @@
 -- The generated text is short.
-use Rattle.std.proofs.Common.{ℕ, zero, suc, ◌*◌, ◌<◌, ◌≤◌, [], ◌++◌, length}
-use Rattle.std.proofs.Common.{codes, decimal, ap, lit≤, arith, length-append}
-use Rattle.std.specs.List.{flat_map}
-use Rattle.std.proofs.lemmas.Grind.{flat_map-append}
+use Rattle.tj_program.proofs.Prelude.{[], ap, arith, codes, flat_map, flat_map-append, suc, zero, ℕ, ◌++◌, ◌<◌, ◌≤◌}
+use Rattle.std.proofs.Common.{◌*◌, length, decimal, lit≤, length-append}
 use Rattle.std.proofs.lemmas.Fmt.{length-decimal-le}
 use Rattle.tj_gen.specs.Script.{head_lines, step_lines, steps_lines, tail_lines, ended, script_text}
 use Rattle.tj_gen.proofs.Lines.{step_pieces, script_parts}

@@ -1,26 +1,21 @@
 -- The tasks of the generated script in the grammar, with nothing wrong at any of their tokens.
-use Rattle.std.proofs.Common.{◌≡◌, ℕ, zero, suc, pos, ◌≤◌, true, List, [], ◌∷◌, ◌++◌, codes}
-use Rattle.std.proofs.Common.{refl, sym, subst, arith, append_assoc}
-use Rattle.std.specs.List.{list_all}
+use Rattle.tj_program.proofs.Prelude.{List, Name, Noted, Task, [], append_assoc, arith, codes, fine, greatest_number}
+use Rattle.tj_program.proofs.Prelude.{list_all, main_vars, node_task, pos, refl, statements_of, step_statements, subst}
+use Rattle.tj_program.proofs.Prelude.{suc, sym, tail_statements, true, zero, ℕ, ◌++◌, ◌∷◌, ◌≡◌, ◌≤◌}
+use Rattle.tj_syntax.specs.Trees.{Expression, Statement}
+use Rattle.tj_syntax.specs.Marks.{forks, declares, key, mark}
+use Rattle.tj_syntax.specs.Grammar.{IsExpression, IsOperand, IsUnary, IsStatement, IsStatements, IsTask, level_of}
+use Rattle.tj_syntax.specs.Grammar.{alone, operands, pairs_end, pairs_more, product, unary, name, number, own, value}
+use Rattle.tj_syntax.specs.Grammar.{arguments, arguments_more, arguments_end, reference_name, no_or, new, fork, get}
+use Rattle.tj_syntax.specs.Grammar.{answer, result_of, let_new, assign, print, set_cell, return, no_params, params}
+use Rattle.tj_syntax.specs.Grammar.{params_more, params_end, braces, statements_end, statements_more, task}
+use Rattle.tj_syntax.proofs.Listed.Again.{IsFine, AreFine, fine-append, fine_mark}
+use Rattle.tj_program.specs.Generated.{head_statements, steps_statements, main_task, node_statements, generated_script}
+use Rattle.tj_program.proofs.GeneratedScripts.Notes.{is_plain, all_plain, word_stands}
 use Rattle.tj_lex.specs.declared.token.Tok.TheVariants as toks
 use Rattle.tj_lex.specs.declared.token.Key.TheVariants as k
 use Rattle.tj_lex.specs.declared.token.Mark.TheVariants as m
-use Rattle.tj_lex.specs.Tokens.{greatest_number}
 use Rattle.tj_syntax.specs.declared.expr.Op.TheVariants as op
-use Rattle.tj_syntax.specs.Trees.{Expression, Statement, Task}
-use Rattle.tj_syntax.specs.Marks.{Name, Noted, fine, forks, declares, key, mark}
-use Rattle.tj_syntax.specs.Grammar.{IsExpression, IsOperand, IsUnary, IsStatement, IsStatements, IsTask}
-use Rattle.tj_syntax.specs.Grammar.{level_of, alone, operands, pairs_end, pairs_more, product, unary, name, number}
-use Rattle.tj_syntax.specs.Grammar.{own, value, arguments, arguments_more, arguments_end, reference_name, no_or}
-use Rattle.tj_syntax.specs.Grammar.{new, fork, get, answer, result_of, let_new, assign, print, set_cell, return}
-use Rattle.tj_syntax.specs.Grammar.{no_params, params, params_more, params_end}
-use Rattle.tj_syntax.specs.Grammar.{braces, statements_end, statements_more, task}
-use Rattle.tj_syntax.proofs.Listed.Again.{IsFine, AreFine, fine-append, fine_mark}
-use Rattle.tj_syntax.specs.View.{statements_of}
-use Rattle.tj_program.specs.Generated.{main_vars, head_statements, step_statements}
-use Rattle.tj_program.specs.Generated.{steps_statements, tail_statements, main_task}
-use Rattle.tj_program.specs.Generated.{node_statements, node_task, generated_script}
-use Rattle.tj_program.proofs.GeneratedScripts.Notes.{is_plain, all_plain, word_stands}
 
 abbrev tasks : List Name
 tasks = codes "main" ∷ codes "node" ∷ []

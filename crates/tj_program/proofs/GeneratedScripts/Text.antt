@@ -1,20 +1,15 @@
 -- The listing of the generated script is the generated text.
-use Rattle.std.proofs.Common.{◌≡◌, ℕ, zero, suc, List, [], ◌∷◌, ◌++◌, map, codes, decimal}
-use Rattle.std.proofs.Common.{refl, sym, ap, ◌∙◌, append_assoc, lit<}
-use Rattle.std.specs.List.{flat_map}
-use Rattle.std.proofs.lemmas.Grind.{flat_map-append}
+use Rattle.tj_program.proofs.Prelude.{List, Name, Statement, [], ap, codes, flat_map, flat_map-append, generated_script}
+use Rattle.tj_program.proofs.Prelude.{head_statements, main_task, main_vars, map, node_task, refl, statements_of}
+use Rattle.tj_program.proofs.Prelude.{step_statements, steps_statements, suc, sym, tail_statements, ℕ, ◌∙◌, ◌∷◌, ◌≡◌}
+use Rattle.std.proofs.Common.{zero, ◌++◌, decimal, append_assoc, lit<}
 use Rattle.std.proofs.lemmas.List.{map-append}
 use Rattle.std.proofs.lemmas.Fmt.{decimal_digit}
-use Rattle.tj_lex.specs.declared.token.Mark.TheVariants as m
-use Rattle.tj_syntax.specs.Trees.{Statement}
-use Rattle.tj_syntax.specs.Listing as listing
 use Rattle.tj_syntax.specs.Listing.{Part, blanks, mark, text_of, line_end}
-use Rattle.tj_syntax.specs.Marks.{Name}
 use Rattle.tj_syntax.proofs.Listed.Views.{text_append}
 use Rattle.tj_gen.specs.Script.{step_lines, steps_lines, tail_lines, ended, script_text}
-use Rattle.tj_syntax.specs.View.{statements_of}
-use Rattle.tj_program.specs.Generated.{main_vars, head_statements, step_statements}
-use Rattle.tj_program.specs.Generated.{steps_statements, tail_statements, main_task, node_task, generated_script}
+use Rattle.tj_lex.specs.declared.token.Mark.TheVariants as m
+use Rattle.tj_syntax.specs.Listing as listing
 
 -- the indent of the statements of a task
 abbrev indent : List ℕ

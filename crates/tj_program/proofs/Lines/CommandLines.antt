@@ -1,20 +1,12 @@
 -- The form of the command line: words are one command at most, and its numbers are within their limits.
-use Rattle.std.proofs.Common.{◌≡◌, ◌∙◌, ℕ, Bool, true, false, true≢false, refl, sym, ap, subst, arith, List, [], ◌∷◌}
-use Rattle.std.proofs.Common.{map, Option, Some, None, codes, unwrap_or}
+use Rattle.tj_program.proofs.Prelude.{All, All-head, All-tail, Bool, Cells, Command, Global, IsWithin, Item, List, Mode}
+use Rattle.tj_program.proofs.Prelude.{None, Option, OptionName, Size, Some, Steps, Workers, [], ap, arith, asked}
+use Rattle.tj_program.proofs.Prelude.{bytes_eq, codes, digits_value, false, flat_map, is_same, map, mode_text, option}
+use Rattle.tj_program.proofs.Prelude.{refl, strict, subst, sym, true, true≢false, unwrap_or, words_of, ℕ, ◌∙◌, ◌∷◌, ◌≡◌}
 use Rattle.std.specs.Prelude.{if◌then◌else◌, String, string_bytes}
-use Rattle.std.specs.List.{All, flat_map}
 use Rattle.std.specs.Option.{option_map_or}
-use Rattle.std.specs.Str.{bytes_eq}
-use Rattle.std.specs.Str.Parse.{digits_value}
-use Rattle.std.specs.declared.alloc.Global.{Global}
-use Rattle.std.proofs.lemmas.List.Elements.{All-head, All-tail}
-use Rattle.tj_program.specs.CommandLine.{Item, option, strict, mode_text, option_text, words_of, default, digits_of}
-use Rattle.tj_program.specs.CommandLine.{number, asked, is_same, IsAllowed, IsWithin, IsCommand, HasLimits}
-use Rattle.tj_program.specs.declared.command.Command.{Command}
-use Rattle.tj_program.specs.declared.mode.Mode.{Mode}
+use Rattle.tj_program.specs.CommandLine.{option_text, default, digits_of, number, IsAllowed, IsCommand, HasLimits}
 use Rattle.tj_program.specs.declared.mode.Mode.TheVariants as modes
-use Rattle.tj_program.specs.declared.mode.OptionName.{OptionName}
-use Rattle.tj_program.specs.declared.mode.OptionName.TheVariants.{Workers, Cells, Steps, Size}
 
 abbrev pub Text : Type 0
 Text = List ℕ

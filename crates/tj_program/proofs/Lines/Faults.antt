@@ -1,19 +1,13 @@
 -- The words of a mode and of items, each at most once, have no fault, and words without a fault are such.
-use Rattle.std.proofs.Common.{◌≡◌, ◌∙◌, sym, ap, List, [], ◌∷◌, map, codes, false, ap₂, subst, ◌++◌, Option, Some, None}
-use Rattle.std.proofs.Common.{is_some}
-use Rattle.std.specs.Prelude.{if◌then◌else◌}
+use Rattle.tj_program.proofs.Prelude.{HasNumeral, Item, Kinds, Mode, Row, Text, Walk, [], ap, ap₂, bytes_eq, first_word}
+use Rattle.tj_program.proofs.Prelude.{if◌then◌else◌, is_flag, line_app, map, mode_text, or_else, sym, words_of, ◌≡◌}
+use Rattle.std.proofs.Common.{◌∙◌, List, ◌∷◌, codes, false, subst, ◌++◌, Option, Some, None, is_some}
 use Rattle.std.specs.List.{AllByRecursion, IsDistinct, flat_map, fold, list_any}
-use Rattle.clap.specs.Walk.{Text, Row, Walk, nothing_held, walk, walk_from, with_default}
+use Rattle.clap.specs.Walk.{nothing_held, walk, walk_from, with_default}
 use Rattle.clap.specs.Simple.{matches_of, built, entered}
 use Rattle.clap.specs.Faults.{fault_of, check_fault, defaults_fault, entered_fault, settle_fault, walk_fault}
-use Rattle.tj_program.specs.CommandLine.{Item, mode_text, first_word, is_flag, words_of}
-use Rattle.tj_program.specs.Inner.LineWords.{HasNumeral}
-use Rattle.tj_program.specs.Inner.LineParse.{line_app}
-use Rattle.tj_program.specs.declared.mode.Mode.{Mode}
 use Rattle.tj_program.proofs.Lines.Reads.{IsWord, Word, text_of, Ends, PassOn, Passes, are_items, both_empty, item_row}
 use Rattle.tj_program.proofs.Lines.Reads.{takes_items, walk_on}
-use Rattle.std.specs.Str.{bytes_eq}
-use Rattle.clap.specs.Kinds.{Kinds, or_else}
 use Rattle.tj_program.proofs.Lines.Walks.{the_mode, top, row, stand, first_step, first_fault}
 use Rattle.tj_program.proofs.Lines.Finds.{defaults_pass, final_rows, finals, mode_is_there, absent_flag}
 use Rattle.tj_program.proofs.Lines.Once.{once_from_fresh, fresh_from_once, new_behind_mode}

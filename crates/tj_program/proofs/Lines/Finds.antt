@@ -1,19 +1,13 @@
 -- What the parser finds in the words of a command line.
-use Rattle.std.proofs.Common.{◌≡◌, ◌∙◌, ◌||◌, Bool, true, false, refl, sym, ap, ap₂, List, [], ◌∷◌, ◌++◌, map}
-use Rattle.std.proofs.Common.{take, drop, Some, None, codes, append-nil}
+use Rattle.tj_program.proofs.Prelude.{AsWritten, Bool, Cells, Item, List, Mode, None, OptionName, Row, Size, Some}
+use Rattle.tj_program.proofs.Prelude.{Steps, Workers, [], ap, ap₂, bytes_eq, digits_of, id_of, is_flag, is_same, map}
+use Rattle.tj_program.proofs.Prelude.{mode_text, option, or_else, refl, strict, sym, take, true, ◌++◌, ◌∙◌, ◌∷◌, ◌≡◌}
+use Rattle.std.proofs.Common.{◌||◌, false, drop, codes, append-nil}
 use Rattle.std.specs.Prelude.{if◌then◌else◌, option_and_then, slice_get}
 use Rattle.std.specs.List.{AllByRecursion, fold, find, list_any}
-use Rattle.std.specs.Str.{bytes_eq}
-use Rattle.clap.specs.Walk.{Row, Rule, first_of, has_row, more_values, one_of, with_default, with_values}
+use Rattle.clap.specs.Walk.{Rule, first_of, has_row, more_values, one_of, with_default, with_values}
 use Rattle.clap.specs.Faults.{check_fault, default_fault, given_default_fault, defaults_fault}
-use Rattle.clap.specs.Kinds.{or_else}
 use Rattle.clap.specs.declared.parser.matches.ValueSource.TheVariants.{DefaultValue}
-use Rattle.clap.specs.declared.builder.value_parser.Reading.TheVariants.{AsWritten}
-use Rattle.tj_program.specs.CommandLine.{Item, option, strict, digits_of, is_flag, is_same, mode_text}
-use Rattle.tj_program.specs.Inner.LineParse.{id_of}
-use Rattle.tj_program.specs.declared.mode.Mode.{Mode}
-use Rattle.tj_program.specs.declared.mode.OptionName.{OptionName}
-use Rattle.tj_program.specs.declared.mode.OptionName.TheVariants.{Workers, Cells, Steps, Size}
 use Rattle.tj_program.proofs.Lines.Walks.{top, row}
 use Rattle.tj_program.proofs.Lines.Reads.{at_none, item_row}
 

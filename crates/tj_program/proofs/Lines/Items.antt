@@ -1,27 +1,19 @@
 -- Items that a mode has, each at most once.
-use Rattle.std.proofs.Common.{◌≡◌, ◌∙◌, inl, inr, ◌<◌, ◌≤◌, ◌^◌, ℕ, Bool, true, false, true≢false, refl, sym, ap, subst}
-use Rattle.std.proofs.Common.{arith, List, [], ◌∷◌, map, Option, Some, None, codes, unwrap_or, IfSome, MatchOption}
+use Rattle.tj_program.proofs.Prelude.{All, All-head, AllFit, AreLineWords, Bool, Cells, Command, Global, HasNumeral}
+use Rattle.tj_program.proofs.Prelude.{IfSome, IsCommand, IsLineWord, IsReading, IsWithin, Item, List, MatchOption, Mode}
+use Rattle.tj_program.proofs.Prelude.{None, Option, OptionName, Size, Some, Steps, Workers, [], all_ascii_digits, ap}
+use Rattle.tj_program.proofs.Prelude.{arith, bytes_eq, codes, digits_of, false, flat_map, greatest, has_flag, inl, inr}
+use Rattle.tj_program.proofs.Prelude.{is_flag, is_same, map, mode_text, option, refl, result_ok, strict, subst, sym}
+use Rattle.tj_program.proofs.Prelude.{true, true≢false, unwrap_or, words_of, ℕ, ◌<◌, ◌^◌, ◌∙◌, ◌∷◌, ◌≡◌, ◌≤◌}
 use Rattle.std.specs.Prelude.{if◌then◌else◌, is_some, String, string_bytes, Result, Ok, Err}
-use Rattle.std.specs.List.{All, AllByRecursion, IsDistinct, flat_map, list_any}
+use Rattle.std.specs.List.{AllByRecursion, IsDistinct, list_any}
 use Rattle.std.specs.Option.{IsSomeAnd}
-use Rattle.std.specs.Result.{result_ok}
 use Rattle.std.proofs.lemmas.Str.Parse.{numerals_by_value, parse_digits, tells_all_ascii_digits}
-use Rattle.std.specs.Str.{all_ascii_digits, bytes_eq}
 use Rattle.std.specs.Str.Parse.{ParsesUnsigned, digits_value}
-use Rattle.std.specs.declared.alloc.Global.{Global}
-use Rattle.std.proofs.lemmas.List.Elements.{All-cons, All-head, All-nil, All-tail}
-use Rattle.tj_program.specs.CommandLine.{Item, option, strict, IsAllowed, IsCommand, IsLine, IsShortNumeral, IsWithin}
-use Rattle.tj_program.specs.CommandLine.{HasNoForm, digits_of, first_word, greatest, has_flag, is_flag, is_same}
-use Rattle.tj_program.specs.CommandLine.{mode_text, option_text, words_of}
-use Rattle.tj_program.specs.Inner.LineWords.{AreLineWords, HasNumeral, IsLineWord}
-use Rattle.tj_program.specs.Inner.LineNumbers.{AllFit, AreNumbersOf, IsAnswerTo, IsFit}
-use Rattle.tj_program.specs.Inner.LineWords.{IsReading}
-use Rattle.tj_program.specs.Inner.LineNumbers.{IsNumberOf, number_for}
-use Rattle.tj_program.specs.declared.command.Command.{Command}
+use Rattle.std.proofs.lemmas.List.Elements.{All-cons, All-nil, All-tail}
+use Rattle.tj_program.specs.CommandLine.{IsAllowed, IsLine, IsShortNumeral, HasNoForm, first_word, option_text}
+use Rattle.tj_program.specs.Inner.LineNumbers.{AreNumbersOf, IsAnswerTo, IsFit, IsNumberOf, number_for}
 use Rattle.tj_program.specs.declared.command.Numbers.{Numbers}
-use Rattle.tj_program.specs.declared.mode.Mode.{Mode}
-use Rattle.tj_program.specs.declared.mode.OptionName.{OptionName}
-use Rattle.tj_program.specs.declared.mode.OptionName.TheVariants.{Workers, Cells, Steps, Size}
 use Rattle.tj_program.proofs.Lines.CommandLines.{behind, front, is_none, one_mode, one_reading, same_names}
 
 -- ---- the digits of an option

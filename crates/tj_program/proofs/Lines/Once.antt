@@ -1,12 +1,9 @@
 -- Items that stand at most once each, by their rows and by the words that they begin with.
-use Rattle.std.proofs.Common.{◌≡◌, ◌∙◌, ◌||◌, true, false, refl, sym, ap₂, List, [], ◌∷◌, ◌++◌, map, codes}
-use Rattle.std.specs.List.{AllByRecursion, IsDistinct}
-use Rattle.std.specs.Str.{bytes_eq}
+use Rattle.tj_program.proofs.Prelude.{AllByRecursion, Cells, Item, List, Mode, Row, Size, Steps, Workers, [], ap₂}
+use Rattle.tj_program.proofs.Prelude.{bytes_eq, codes, false, first_word, has_row, map, mode_text, option, refl, strict}
+use Rattle.tj_program.proofs.Prelude.{sym, true, ◌++◌, ◌||◌, ◌∙◌, ◌∷◌, ◌≡◌}
+use Rattle.std.specs.List.{IsDistinct}
 use Rattle.std.proofs.lemmas.List.Folds.{list_any-append}
-use Rattle.clap.specs.Walk.{Row, has_row}
-use Rattle.tj_program.specs.CommandLine.{Item, option, strict, first_word, mode_text}
-use Rattle.tj_program.specs.declared.mode.Mode.{Mode}
-use Rattle.tj_program.specs.declared.mode.OptionName.TheVariants.{Workers, Cells, Steps, Size}
 use Rattle.tj_program.proofs.Lines.Walks.{row}
 use Rattle.tj_program.proofs.Lines.Reads.{both_of, fresh, is_not, item_row, none_of}
 use Rattle.tj_program.proofs.Lines.Finds.{no_mode}

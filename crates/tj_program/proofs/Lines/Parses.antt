@@ -1,19 +1,12 @@
 -- A parse of words that passed the test before it.
-use Rattle.std.proofs.Common.{◌≡◌, ◌∙◌, inl, inr, refl, sym, ap, List, [], ◌∷◌, map, codes}
+use Rattle.tj_program.proofs.Prelude.{All, All-head, All-tail, AllByRecursion, AreLineWords, AreMatchesOf, Global}
+use Rattle.tj_program.proofs.Prelude.{IsLineWord, IsReading, Item, List, Mode, Text, [], ap, codes, fault_of, id_of}
+use Rattle.tj_program.proofs.Prelude.{inl, inr, line_app, map, matches_of, mode_text, one_of, refl, sym, ◌∙◌, ◌∷◌, ◌≡◌}
 use Rattle.std.specs.Prelude.{String, string_bytes}
-use Rattle.std.specs.List.{All, AllByRecursion}
-use Rattle.std.specs.declared.alloc.Global.{Global}
-use Rattle.std.proofs.lemmas.List.Elements.{All-head, All-tail}
 use Rattle.clap.specs.Matches.{found_of}
-use Rattle.clap.specs.Walk.{Text, first_of, one_of, rows_of}
-use Rattle.clap.specs.Simple.{matches_of}
-use Rattle.clap.specs.Faults.{fault_of}
+use Rattle.clap.specs.Walk.{first_of, rows_of}
 use Rattle.clap.proofs.WalkLemmas.{first_value-rows, one_text-rows}
 use Rattle.clap.specs.declared.parser.matches.ArgMatches.{ArgMatches}
-use Rattle.tj_program.specs.CommandLine.{Item, mode_text}
-use Rattle.tj_program.specs.Inner.LineWords.{AreLineWords, IsLineWord, IsReading}
-use Rattle.tj_program.specs.Inner.LineParse.{AreMatchesOf, id_of, line_app}
-use Rattle.tj_program.specs.declared.mode.Mode.{Mode}
 use Rattle.tj_program.proofs.Lines.Reads.{IsWord, Word, name, flag, digits, text_of}
 use Rattle.tj_program.proofs.Lines.Finds.{digits_found, final_rows, flag_found}
 use Rattle.tj_program.proofs.Lines.Faults.{line_found, line_read}

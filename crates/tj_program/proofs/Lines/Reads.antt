@@ -1,26 +1,19 @@
 -- The parser takes exactly the words of items that stand at most once each, and has a row for each of them.
-use Rattle.std.proofs.Common.{◌≡◌, ◌∙◌, ◌&&◌, ◌||◌, ◌==◌, ◌≤◌, ℕ, Bool, true, false, true≢false, refl, sym, ap, ap₂}
-use Rattle.std.proofs.Common.{subst, arith, List, [], ◌∷◌, ◌++◌, map, Some, None, codes, append-nil, append_assoc}
+use Rattle.tj_program.proofs.Prelude.{AllByRecursion, AsWritten, Bool, CommandLine, HasNumeral, IsShortNumeral, Item}
+use Rattle.tj_program.proofs.Prelude.{Kinds, List, None, OptionName, Row, Some, Text, Walk, [], ap, append-nil}
+use Rattle.tj_program.proofs.Prelude.{append_assoc, ap₂, arith, bytes_eq, codes, false, flat_map, fold, has_row, id_of}
+use Rattle.tj_program.proofs.Prelude.{is_ascii_digit, map, option, option_text, or_else, refl, strict, subst, sym, true}
+use Rattle.tj_program.proofs.Prelude.{true≢false, walked, words_of, ℕ, ◌&&◌, ◌++◌, ◌==◌, ◌||◌, ◌∙◌, ◌∷◌, ◌≡◌, ◌≤◌}
 use Rattle.std.specs.Prelude.{not}
-use Rattle.std.specs.List.{AllByRecursion, flat_map, fold}
-use Rattle.std.specs.Char.{is_ascii_digit}
-use Rattle.std.specs.Str.{bytes_eq}
 use Rattle.std.proofs.lemmas.Bool.{eqb-true}
-use Rattle.clap.specs.Walk.{Row, Text, Walk, at_row, has_row, more_values, settled, walked, with_values}
-use Rattle.clap.specs.declared.parser.matches.ValueSource.TheVariants.{CommandLine}
-use Rattle.clap.specs.declared.builder.value_parser.Reading.TheVariants.{AsWritten}
+use Rattle.clap.specs.Walk.{at_row, more_values, settled, with_values}
 use Rattle.clap.specs.Faults.{settle_fault, turn_fault, walk_fault}
-use Rattle.clap.specs.Kinds.{Kinds, or_else}
 use Rattle.clap.specs.declared.error.kind.ErrorKind.{ErrorKind}
-use Rattle.clap.specs.declared.error.kind.ErrorKind.TheVariants as kind
-use Rattle.tj_program.specs.CommandLine.{Item, IsShortNumeral, option, strict, option_text, words_of}
-use Rattle.tj_program.specs.Inner.LineWords.{HasNumeral}
-use Rattle.tj_program.specs.Inner.LineParse.{id_of}
-use Rattle.tj_program.specs.declared.mode.OptionName.{OptionName}
 use Rattle.tj_program.proofs.Lines.Walks.{Unsettled, the_option, id_at, top, row, rows_of, stand, waits, after, added}
 use Rattle.tj_program.proofs.Lines.Walks.{after_is, fault_at, settle_fault_is, repeat_kinds, name_step, name_fault}
 use Rattle.tj_program.proofs.Lines.Walks.{flag_step, flag_fault, number_step, number_fault, stray_fault, name_waits}
 use Rattle.tj_program.proofs.Lines.Walks.{flag_waits, end_waits}
+use Rattle.clap.specs.declared.error.kind.ErrorKind.TheVariants as kind
 
 -- ---- rows that are added
 

@@ -1,24 +1,15 @@
 -- The walk of the parser over the words of a command line.
-use Rattle.std.proofs.Common.{◌≡◌, ◌∙◌, ◌&&◌, ◌==◌, ℕ, Bool, true, false, refl, ap, List, [], ◌∷◌, Option, Some, None}
-use Rattle.std.proofs.Common.{codes}
-use Rattle.std.specs.Prelude.{if◌then◌else◌}
+use Rattle.tj_program.proofs.Prelude.{AsWritten, Bool, Cells, CommandLine, Kinds, List, Mode, None, Option, OptionName}
+use Rattle.tj_program.proofs.Prelude.{Row, Size, Some, Steps, Text, Walk, Workers, [], ap, built, codes, false, has_row}
+use Rattle.tj_program.proofs.Prelude.{id_of, if◌then◌else◌, line_app, mode_text, option_text, or_else, refl}
+use Rattle.tj_program.proofs.Prelude.{settle_fault, true, turn_fault, walk_from, walked, ℕ, ◌&&◌, ◌==◌, ◌∙◌, ◌∷◌, ◌≡◌}
 use Rattle.clap.proofs.OnLiterals.{clap_on_literals}
-use Rattle.clap.specs.Walk.{Held, Row, Rule, Text, Walk, Waiting, idle, nothing_held, walk_from, walked, settled_rows}
-use Rattle.clap.specs.Walk.{used, has_row}
-use Rattle.clap.specs.Walk as walk
+use Rattle.clap.specs.Walk.{Held, Waiting, idle, nothing_held, settled_rows}
 use Rattle.clap.specs.Lexer.{long_of, short_of}
-use Rattle.clap.specs.Simple.{Shape, built}
-use Rattle.clap.specs.Faults.{settle_fault, turn_fault}
-use Rattle.clap.specs.Kinds.{Kinds, or_else}
+use Rattle.clap.specs.Simple.{Shape}
+use Rattle.clap.specs.Walk as walk
 use Rattle.clap.specs.declared.error.kind.ErrorKind.TheVariants as kind
-use Rattle.clap.specs.declared.parser.matches.ValueSource.TheVariants.{CommandLine}
-use Rattle.clap.specs.declared.builder.value_parser.Reading.TheVariants.{AsWritten}
-use Rattle.tj_program.specs.CommandLine.{mode_text, option_text}
-use Rattle.tj_program.specs.Inner.LineParse.{id_of, line_app}
-use Rattle.tj_program.specs.declared.mode.Mode.{Mode}
 use Rattle.tj_program.specs.declared.mode.Mode.TheVariants as modes
-use Rattle.tj_program.specs.declared.mode.OptionName.{OptionName}
-use Rattle.tj_program.specs.declared.mode.OptionName.TheVariants.{Workers, Cells, Steps, Size}
 
 abbrev pub top : Shape
 top = (built line_app).top

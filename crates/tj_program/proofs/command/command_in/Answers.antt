@@ -1,11 +1,9 @@
-use Rattle.std.proofs.Common.{rules, ◌≡◌, ◌∙◌, true, Some, sym, subst, true≢false}
-use Rattle.std.specs.List.{list_any}
-use Rattle.tj_program.specs.CommandLine.{asked, has_flag, is_flag, mode_text}
-use Rattle.tj_program.specs.Inner.LineNumbers.{AreNumbersOf, AllFit}
+use Rattle.tj_program.proofs.Prelude.{AllFit, AreNumbersOf, Some, asked, has_flag, is_flag, list_any, mode_text, rules}
+use Rattle.tj_program.proofs.Prelude.{subst, sym, true, true≢false, ◌∙◌, ◌≡◌}
 use Rattle.tj_program.proofs.Lines.Items.{allowed, flag_allowed, flag_is, mode_is, no_command}
-use Rattle.tj_program.proofs.command.command_in.Goals as goal
 use Rattle.tj_program.proofs.command.command_in.Goals.{else-strict-via-then-strict+else-not-has_flag}
 use Rattle.tj_program.proofs.command.command_in.Goals.{else-strict-via-else-strict}
+use Rattle.tj_program.proofs.command.command_in.Goals as goal
 
 pub returns-in_err-numbers : goal.returns-in_err-numbers
 returns-in_err-numbers c mode items are finds =

@@ -1,6 +1,5 @@
-use Rattle.std.proofs.Common.{◌∙◌, sym, subst, true≢false, MatchOption}
+use Rattle.tj_program.proofs.Prelude.{AreMatchesOf, MatchOption, subst, sym, true≢false, ◌∙◌}
 use Rattle.tj_program.specs.Inner.LineWords.{HasNoReading}
-use Rattle.tj_program.specs.Inner.LineParse.{AreMatchesOf}
 use Rattle.tj_program.proofs.Lines.Items.{answer_of, no_form, pass_before}
 use Rattle.tj_program.proofs.command.command_of.Goals as goal
 

@@ -1,7 +1,5 @@
-use Rattle.std.proofs.Common.{rules, arith, ◌≡◌, ◌<◌, ◌^◌, Some, None, IfSome, subst}
-use Rattle.std.specs.Result.{result_ok}
-use Rattle.tj_program.specs.CommandLine.{IsShortNumeral, greatest}
-use Rattle.tj_program.specs.Inner.LineNumbers.{IsNumberOf}
+use Rattle.tj_program.proofs.Prelude.{IfSome, IsNumberOf, IsShortNumeral, None, Some, arith, greatest, result_ok, rules}
+use Rattle.tj_program.proofs.Prelude.{subst, ◌<◌, ◌^◌, ◌≡◌}
 use Rattle.tj_program.proofs.Lines.Items.{too_large}
 use Rattle.tj_program.proofs.command.number_in.Goals as goal
 

@@ -1,5 +1,4 @@
-use Rattle.std.proofs.Common.{rules}
-use Rattle.tj_program.specs.declared.mode.OptionName.TheVariants.{Workers, Cells, Steps, Size}
+use Rattle.tj_program.proofs.Prelude.{Cells, Size, Steps, Workers, rules}
 use Rattle.tj_program.proofs.Lines.Items.{all_numbers, no_numbers, numeral_of}
 use Rattle.tj_program.proofs.command.numbers_in.Goals as goal
 

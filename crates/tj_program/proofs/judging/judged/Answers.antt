@@ -1,8 +1,6 @@
-use Rattle.std.proofs.Common.{subst}
-use Rattle.tj_core.specs.Journals.Lines as journal
-use Rattle.tj_core.specs.Journals.Lines.{lines_of}
-use Rattle.tj_program.specs.Judgings.{bad_line}
+use Rattle.tj_program.proofs.Prelude.{bad_line, lines_of, subst}
 use Rattle.tj_program.proofs.Outputs.{IsJudging-fault}
+use Rattle.tj_core.specs.Journals.Lines as journal
 use Rattle.tj_program.proofs.judging.judged.Goals as goal
 
 pub returns-in-Err-Line : goal.returns-in-Err-Line

@@ -1,8 +1,4 @@
-use denote.Param.Send.{sendable}
-use Rattle.std.proofs.Common.{refl, false}
-use Rattle.std.proofs.Crossing.{crosses}
-use Rattle.tj_syntax.proofs.Sends.{expr_sync, stmt_sync, script_sync}
-use Rattle.tj_program.specs.Runs.{start_of}
+use Rattle.tj_program.proofs.Prelude.{crosses, expr_sync, false, refl, script_sync, sendable, start_of, stmt_sync}
 use Rattle.tj_program.proofs.KnownRuns.{Known-full, Known-told}
 use Rattle.tj_program.proofs.known_run.joins_in_script.Goals as goal
 

@@ -1,8 +1,6 @@
-use Rattle.std.proofs.Common.{inr}
-use Rattle.tj_syntax.specs.View as view
-use Rattle.tj_program.specs.Output.{IsKnown}
-use Rattle.tj_program.specs.declared.command.Command.TheVariants.{Known}
+use Rattle.tj_program.proofs.Prelude.{IsKnown, Known, inr}
 use Rattle.tj_program.proofs.Outputs.{if_ok, of_refused}
+use Rattle.tj_syntax.specs.View as view
 use Rattle.tj_program.proofs.known_run.joins_of.Goals as goal
 
 pub returns-in-Err : goal.returns-in-Err

@@ -1,10 +1,6 @@
-use denote.Param.Send.{sendable}
-use Rattle.std.proofs.Common.{refl, false, subst, sym}
-use Rattle.std.proofs.Crossing.{crosses}
-use Rattle.tj_syntax.proofs.Sends.{expr_sync, stmt_sync, script_sync}
-use Rattle.tj_syntax.specs.Faults.{kinds_of}
+use Rattle.tj_program.proofs.Prelude.{crosses, expr_sync, false, kinds_of, refl, script_sync, sendable, stmt_sync}
+use Rattle.tj_program.proofs.Prelude.{subst, sym}
 use Rattle.tj_program.specs.KnownRuns.{KnownJoinsOfMeaningAreAlong}
-use Rattle.tj_program.specs.Runs.{start_of}
 use Rattle.tj_program.proofs.StrictRuns.{fresh-root}
 use Rattle.tj_program.proofs.laws.known_joins_are_along.Goals as goal
 

@@ -1,6 +1,4 @@
-use denote.Param.Send.{sendable}
-use Rattle.std.proofs.Crossing.{crosses}
-use Rattle.tj_syntax.proofs.Sends.{expr_sync, stmt_sync, script_sync}
+use Rattle.tj_program.proofs.Prelude.{crosses, expr_sync, script_sync, sendable, stmt_sync}
 use Rattle.tj_program.proofs.OneOutput.{one_output}
 use Rattle.tj_program.proofs.laws.one_output.Goals as goal
 

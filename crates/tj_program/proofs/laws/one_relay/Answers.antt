@@ -1,5 +1,4 @@
-use denote.Param.Send.{sendable}
-use Rattle.std.proofs.Crossing.{crosses}
+use Rattle.tj_program.proofs.Prelude.{crosses, sendable}
 use Rattle.tj_program.proofs.RelayRuns.{one_by_lists}
 use Rattle.tj_program.proofs.laws.one_relay.Goals as goal
 

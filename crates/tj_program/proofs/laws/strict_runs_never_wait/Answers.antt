@@ -1,10 +1,5 @@
-use denote.Param.Send.{sendable}
-use Rattle.std.proofs.Crossing.{crosses}
-use Rattle.std.proofs.Common.{◌≡◌, Ok, true, subst}
-use Rattle.tj_syntax.proofs.Sends.{expr_sync, stmt_sync, script_sync}
-use Rattle.tj_eval.specs.Gets.{asks_no_get}
-use Rattle.tj_syntax.specs.Faults.{IsScript, kinds_of}
-use Rattle.tj_program.specs.Runs.{NeedsMore, IsOutcomeOf}
+use Rattle.tj_program.proofs.Prelude.{IsOutcomeOf, IsScript, NeedsMore, Ok, asks_no_get, crosses, expr_sync, kinds_of}
+use Rattle.tj_program.proofs.Prelude.{script_sync, sendable, stmt_sync, subst, true, ◌≡◌}
 use Rattle.tj_program.proofs.OneOutput.{ok_is}
 use Rattle.tj_program.proofs.StrictRuns.{OfScripts, fresh-root, IsWithoutGet-script, never_waits, strictly_started}
 use Rattle.tj_program.proofs.laws.strict_runs_never_wait.Goals as goal

@@ -1,10 +1,7 @@
-use Rattle.std.proofs.Common.{◌≡◌, ◌∙◌, rules, refl, sym, ap, subst, map, [], inl, inr}
-use Rattle.std.specs.Prelude.{string_bytes}
-use Rattle.clap.specs.Kinds.{Kinds, HasKind}
-use Rattle.clap.specs.Words.{app_of, is_simple, is_simple_and_free}
-use Rattle.clap.specs.Simple.{matches_of}
-use Rattle.clap.specs.Faults.{fault_of}
-use Rattle.tj_program.specs.Inner.LineParse.{line_app}
+use Rattle.tj_program.proofs.Prelude.{Kinds, [], ap, app_of, fault_of, inl, inr, line_app, map, matches_of, refl, rules}
+use Rattle.tj_program.proofs.Prelude.{string_bytes, subst, sym, ◌∙◌, ◌≡◌}
+use Rattle.clap.specs.Kinds.{HasKind}
+use Rattle.clap.specs.Words.{is_simple, is_simple_and_free}
 use Rattle.tj_program.proofs.Lines.Parses.{are_matches, no_fault}
 use Rattle.tj_program.proofs.line_parse.matches_of.Goals as goal
 

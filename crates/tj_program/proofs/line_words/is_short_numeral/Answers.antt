@@ -1,7 +1,5 @@
-use Rattle.std.proofs.Common.{◌≡◌, ◌∙◌, ◌≤◌, rules, tests, sym, arith, ◌&&◌, ℕ, List, [], ◌∷◌, ap, refl, length}
-use Rattle.std.specs.List.{list_all}
-use Rattle.std.specs.Str.{all_ascii_digits}
-use Rattle.std.specs.Char.{is_ascii_digit}
+use Rattle.tj_program.proofs.Prelude.{[], all_ascii_digits, ap, is_ascii_digit, list_all, sym, ℕ, ◌∙◌, ◌∷◌, ◌≡◌, ◌≤◌}
+use Rattle.std.proofs.Common.{rules, tests, arith, ◌&&◌, List, refl, length}
 use Rattle.std.proofs.lemmas.Iterator.{YieldsList-from_slice}
 use Rattle.std.proofs.lemmas.Iterator.Search.{all_from_yields_List}
 use Rattle.tj_program.proofs.line_words.is_short_numeral.Goals as goal

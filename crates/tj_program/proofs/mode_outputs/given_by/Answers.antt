@@ -1,6 +1,4 @@
-use Rattle.std.proofs.Common.{◌≡◌, ◌∙◌, true, None, refl, subst, sym}
-use Rattle.std.proofs.lemmas.Bool.{false≢true}
-use Rattle.tj_program.specs.Output.{takes_input}
+use Rattle.tj_program.proofs.Prelude.{None, false≢true, refl, subst, sym, takes_input, true, ◌∙◌, ◌≡◌}
 use Rattle.tj_program.proofs.ClosedRuns.{alone, IsGiven-alone, IsGiven-gen, IsGiven-relay, IsGiven-report}
 use Rattle.tj_program.proofs.ClosedRuns.{IsGiven-watch}
 use Rattle.tj_program.proofs.Outputs.{if_both, if_ok}

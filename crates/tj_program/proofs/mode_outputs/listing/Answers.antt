@@ -1,7 +1,6 @@
-use Rattle.std.proofs.Common.{inr, refl}
-use Rattle.tj_syntax.specs.View as view
-use Rattle.tj_program.specs.Output.{IsListed}
+use Rattle.tj_program.proofs.Prelude.{IsListed, inr, refl}
 use Rattle.tj_program.proofs.Outputs.{of_refused}
+use Rattle.tj_syntax.specs.View as view
 use Rattle.tj_program.proofs.mode_outputs.listing.Goals as goal
 
 pub returns-in-Err : goal.returns-in-Err

@@ -1,5 +1,4 @@
-use Rattle.std.proofs.Common.{refl}
-use Rattle.tj_program.specs.declared.command.Command.TheVariants.{Judge, Known, List as list, Plan}
+use Rattle.tj_program.proofs.Prelude.{Judge, Known, Plan, list, refl}
 use Rattle.tj_program.proofs.Outputs.{as_command}
 use Rattle.tj_program.proofs.mode_outputs.output_of.Goals as goal
 

@@ -1,9 +1,6 @@
-use Rattle.std.proofs.Common.{inr}
-use Rattle.tj_syntax.specs.View as view
-use Rattle.tj_program.specs.Output.{IsRun}
-use Rattle.tj_program.specs.declared.command.Command.TheVariants.{Plan}
-use Rattle.tj_program.specs.declared.script_run.Told.TheVariants.{Report}
+use Rattle.tj_program.proofs.Prelude.{IsRun, Plan, Report, inr}
 use Rattle.tj_program.proofs.Outputs.{if_ok, of_refused}
+use Rattle.tj_syntax.specs.View as view
 use Rattle.tj_program.proofs.mode_outputs.report.Goals as goal
 
 pub returns-in-Err : goal.returns-in-Err

@@ -1,10 +1,5 @@
-use denote.Param.Send.{sendable}
-use Rattle.std.proofs.Common.{◌∙◌, None, ap, false}
-use Rattle.std.proofs.Crossing.{crosses}
-use Rattle.tj_chan.specs.ChanBodies.{root_body}
-use Rattle.tj_chan.specs.ChannelLaws.{bodies_of}
-use Rattle.tj_program.specs.RelayRuns.{relay_rules, relay_start}
-use Rattle.tj_program.specs.declared.script_run.Told.TheVariants.{Report}
+use Rattle.tj_program.proofs.Prelude.{None, Report, ap, bodies_of, crosses, false, relay_rules, relay_start, root_body}
+use Rattle.tj_program.proofs.Prelude.{sendable, ◌∙◌}
 use Rattle.tj_program.proofs.ClosedRuns.{IsRunOf-given, given_named, rests_named}
 use Rattle.tj_program.proofs.Outputs.{if_ok}
 use Rattle.tj_program.proofs.RelayRuns.{by_lists, meant_named, named}

@@ -1,9 +1,8 @@
 -- A run of the early sender is a run as any other.
-use denote.Param.Send.{sendable}
-use Rattle.std.proofs.Common.{false}
-use Rattle.std.proofs.Crossing.{crosses}
-use Rattle.tj_chan.specs.ChannelLaws.{bodies_of, rules_of}
-use Rattle.tj_chan.specs.ChatTables.{table_channels, table_chat_asks, table_chat_awaits, table_chat_left, table_chat_then}
+use Rattle.tj_program.proofs.Prelude.{bodies_of, crosses, false, sendable}
+use Rattle.tj_chan.specs.ChannelLaws.{rules_of}
+use Rattle.tj_chan.specs.ChatTables.{table_channels, table_chat_asks, table_chat_awaits, table_chat_left}
+use Rattle.tj_chan.specs.ChatTables.{table_chat_then}
 use Rattle.tj_program.proofs.ClosedRuns.{rests_named}
 use Rattle.tj_program.proofs.relay_tests.worked.Goals as goal
 

@@ -1,8 +1,4 @@
-use denote.Param.Send.{sendable}
-use Rattle.std.proofs.Common.{refl}
-use Rattle.std.proofs.Crossing.{crosses}
-use Rattle.tj_syntax.proofs.Sends.{expr_sync, stmt_sync, script_sync}
-use Rattle.tj_program.specs.Runs.{start_of}
+use Rattle.tj_program.proofs.Prelude.{crosses, expr_sync, refl, script_sync, sendable, start_of, stmt_sync}
 use Rattle.tj_program.proofs.Outputs.{Ran-ended, Ran-full}
 use Rattle.tj_program.proofs.script_run.run_by_rounds.Goals as goal
 

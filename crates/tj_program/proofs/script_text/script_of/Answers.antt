@@ -1,5 +1,4 @@
-use Rattle.std.proofs.Common.{inr, subst, ◌∙◌}
-use Rattle.tj_program.specs.Inner.Inputs.{IsReadOf}
+use Rattle.tj_program.proofs.Prelude.{IsReadOf, inr, subst, ◌∙◌}
 use Rattle.tj_program.proofs.Inputs.{read_long}
 use Rattle.tj_embed.proofs.ScriptTexts.{long_first}
 use Rattle.tj_program.proofs.script_text.script_of.Goals as goal

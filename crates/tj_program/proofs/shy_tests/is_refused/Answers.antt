@@ -1,9 +1,5 @@
 -- A run over a shy pool is a run as any other.
-use denote.Param.Send.{sendable}
-use Rattle.std.proofs.Common.{false}
-use Rattle.std.proofs.Crossing.{crosses}
-use Rattle.tj_syntax.proofs.Sends.{expr_sync, stmt_sync, script_sync}
-use Rattle.tj_program.specs.Runs.{script_program}
+use Rattle.tj_program.proofs.Prelude.{crosses, expr_sync, false, script_program, script_sync, sendable, stmt_sync}
 use Rattle.tj_program.proofs.ClosedRuns.{rests_named}
 use Rattle.tj_program.proofs.shy_tests.is_refused.Goals as goal
 

@@ -1,8 +1,5 @@
 -- A run of a script whose tasks yield is a run as any other.
-use denote.Param.Send.{sendable}
-use Rattle.std.proofs.Common.{false}
-use Rattle.std.proofs.Crossing.{crosses}
-use Rattle.tj_syntax.proofs.Sends.{expr_sync, stmt_sync, script_sync}
+use Rattle.tj_program.proofs.Prelude.{crosses, expr_sync, false, script_sync, sendable, stmt_sync}
 use Rattle.tj_program.proofs.ClosedRuns.{rests_named}
 use Rattle.tj_program.proofs.storm_tests.yielding_report.Goals as goal
 

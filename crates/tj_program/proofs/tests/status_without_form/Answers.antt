@@ -1,11 +1,7 @@
-use Rattle.std.proofs.Common.{◌≡◌, ◌≢◌, ◌≤◌, ◌⊎◌, inl, inr, refl, List, [], String, length, arith}
-use Rattle.std.specs.declared.alloc.Global.{Global}
-use Rattle.tj_program.specs.CommandLine.{HasNoForm}
-use Rattle.tj_program.specs.Delivery.{HasText}
-use Rattle.tj_program.specs.Output.{TakesInput, usage}
+use Rattle.tj_program.proofs.Prelude.{Clean, Full, Global, HasNoForm, HasText, List, Marked, Memory, ReadFault, Script}
+use Rattle.tj_program.proofs.Prelude.{Status, String, TakesInput, Usage, WriteFault, [], arith, inl, inr, length, refl}
+use Rattle.tj_program.proofs.Prelude.{usage, ◌≡◌, ◌≢◌, ◌≤◌, ◌⊎◌}
 use Rattle.tj_program.specs.Texts.{usage_line}
-use Rattle.tj_program.specs.declared.status.Status.{Status}
-use Rattle.tj_program.specs.declared.status.Status.TheVariants.{Clean, Marked, Usage, Script, Full, ReadFault, WriteFault, Memory}
 use Rattle.tj_program.proofs.tests.status_without_form.Goals as goal
 
 settled : (words : List (String Global)) (answer : Status) → HasNoForm words → answer ≢ WriteFault

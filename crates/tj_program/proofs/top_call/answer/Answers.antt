@@ -1,6 +1,4 @@
-use Rattle.std.proofs.Common.{List, ℕ}
-use Rattle.tj_program.specs.Inner.ClosedOutputs.{IsGiven}
-use Rattle.tj_program.specs.Inner.Inputs.{HasRead}
+use Rattle.tj_program.proofs.Prelude.{HasRead, IsGiven, List, ℕ}
 use Rattle.tj_program.proofs.ClosedRuns.{nothing, AreWith-put, IsClosedRun-put, IsPutAs-with}
 use Rattle.tj_program.proofs.Deliveries.{IsOwnAnswer, own_answer}
 use Rattle.tj_program.proofs.Inputs.{some_input}

@@ -1,5 +1,4 @@
-use Rattle.std.proofs.Common.{◌∙◌, sym}
-use Rattle.std.proofs.lemmas.Bool.{false≢true}
+use Rattle.tj_program.proofs.Prelude.{false≢true, sym, ◌∙◌}
 use Rattle.tj_program.proofs.Inputs.{takes_none}
 use Rattle.tj_program.proofs.top_call.input_of.Goals as goal
 

@@ -1,6 +1,4 @@
-use Rattle.std.proofs.Common.{◌≤◌, inl, refl, subst, length, arith}
-use Rattle.std.proofs.lemmas.Bool.{false≢true}
-use Rattle.std.specs.Io.KnownBytes.{Appends}
+use Rattle.tj_program.proofs.Prelude.{Appends, arith, false≢true, inl, length, refl, subst, ◌≤◌}
 use Rattle.tj_program.proofs.ClosedRuns.{IsPutWith-failed}
 use Rattle.tj_program.proofs.top_call.put_given.Goals as goal
 

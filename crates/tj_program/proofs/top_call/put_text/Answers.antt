@@ -1,5 +1,4 @@
-use Rattle.std.proofs.Common.{inr, refl, ◌≤◌, length, arith}
-use Rattle.std.proofs.lemmas.Bool.{false≢true}
+use Rattle.tj_program.proofs.Prelude.{arith, false≢true, inr, length, refl, ◌≤◌}
 use Rattle.tj_program.proofs.top_call.put_text.Goals as goal
 
 pub returns-in-Err-clause-put : goal.returns-in-Err-clause-put

@@ -1,14 +1,11 @@
-use Rattle.std.proofs.Common.{◌≡◌, List, ℕ, MatchOption, Some, [], true, ap, subst}
-use Rattle.tj_program.specs.CommandLine.{HasNoForm, IsCommand}
-use Rattle.tj_program.specs.Inner.Inputs.{HasRead}
-use Rattle.tj_program.specs.Output.{TakesInput, takes_input, usage}
-use Rattle.tj_program.specs.declared.command.Command.TheVariants.{Known}
+use Rattle.tj_program.proofs.Prelude.{HasNoForm, HasRead, IsCommand, Known, List, MatchOption, Some, TakesInput, [], ap}
+use Rattle.tj_program.proofs.Prelude.{subst, takes_input, true, usage, ℕ, ◌≡◌}
 use Rattle.tj_program.proofs.Lines.CommandLines.{one_command, within_limits}
 use Rattle.tj_program.proofs.Deliveries.{IsAnswered-put, put_whole, IsOutputPart-put, no_write_fault}
 use Rattle.tj_program.proofs.Deliveries.{IsAnswered-command, put_whole-command, IsOutputPart-command}
-use Rattle.tj_program.proofs.Deliveries.{no_write_fault-command}
-use Rattle.tj_program.proofs.Deliveries.{exact}
-use Rattle.tj_program.proofs.ClosedRuns.{HaveWorkers-command, IsClosedRunOf-command, IsClosedRunOf-some, never_with, nothing}
+use Rattle.tj_program.proofs.Deliveries.{no_write_fault-command, exact}
+use Rattle.tj_program.proofs.ClosedRuns.{HaveWorkers-command, IsClosedRunOf-command, IsClosedRunOf-some, never_with}
+use Rattle.tj_program.proofs.ClosedRuns.{nothing}
 use Rattle.tj_program.proofs.Inputs.{some_input}
 use Rattle.tj_program.proofs.StrictRuns.{never_waits-words}
 use Rattle.tj_program.proofs.top_call.run_words.Given.{Over}

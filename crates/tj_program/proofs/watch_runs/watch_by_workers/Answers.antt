@@ -1,6 +1,6 @@
-use Rattle.std.proofs.Common.{inl, inr, refl}
-use Rattle.tj_syntax.specs.View as view
+use Rattle.tj_program.proofs.Prelude.{inl, inr, refl}
 use Rattle.tj_program.proofs.Outputs.{if_ok, IsRefused-fault}
+use Rattle.tj_syntax.specs.View as view
 use Rattle.tj_program.proofs.watch_runs.watch_by_workers.Goals as goal
 
 pub returns-in-Ok : goal.returns-in-Ok

@@ -1,9 +1,5 @@
-use denote.Param.Send.{sendable}
-use Rattle.std.proofs.Common.{◌∙◌, ap}
-use Rattle.std.proofs.Crossing.{crosses}
-use Rattle.tj_syntax.proofs.Sends.{expr_sync, stmt_sync, script_sync}
-use Rattle.tj_program.specs.Runs.{script_program, status_of}
-use Rattle.tj_program.specs.declared.script_run.Told.TheVariants.{Root}
+use Rattle.tj_program.proofs.Prelude.{Root, ap, crosses, expr_sync, script_program, script_sync, sendable, status_of}
+use Rattle.tj_program.proofs.Prelude.{stmt_sync, ◌∙◌}
 use Rattle.tj_program.proofs.ClosedRuns.{closed_at_rest}
 use Rattle.tj_program.proofs.RootLines.{watch_tells}
 use Rattle.tj_program.proofs.watch_runs.watched_at_rest.Goals as goal

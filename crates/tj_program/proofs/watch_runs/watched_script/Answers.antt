@@ -1,9 +1,5 @@
-use denote.Param.Send.{sendable}
-use Rattle.std.proofs.Common.{refl, false}
-use Rattle.std.proofs.Crossing.{crosses}
-use Rattle.tj_syntax.proofs.Sends.{expr_sync, stmt_sync, script_sync}
-use Rattle.tj_program.specs.Runs.{script_program, start_of}
-use Rattle.tj_program.specs.declared.script_run.Told.TheVariants.{Root}
+use Rattle.tj_program.proofs.Prelude.{Root, crosses, expr_sync, false, refl, script_program, script_sync, sendable}
+use Rattle.tj_program.proofs.Prelude.{start_of, stmt_sync}
 use Rattle.tj_program.proofs.ClosedRuns.{given_named, rests_named}
 use Rattle.tj_program.proofs.Outputs.{if_ok}
 use Rattle.tj_program.proofs.watch_runs.watched_script.Goals as goal

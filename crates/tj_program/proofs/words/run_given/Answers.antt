@@ -1,4 +1,4 @@
-use Rattle.std.proofs.Common.{◌≡◌, ◌∙◌, ap, sym}
+use Rattle.tj_program.proofs.Prelude.{ap, sym, ◌∙◌, ◌≡◌}
 use Rattle.tj_program.specs.declared.words.Given.TheVariants.{Words}
 use Rattle.tj_program.proofs.TopAnswers.{to_same_words}
 use Rattle.tj_program.proofs.words.run_given.Goals as goal

@@ -1,7 +1,4 @@
-use Rattle.std.proofs.Common.{ap, ◌∙◌}
-use Rattle.tj_body.specs.Programs.{program_of}
-use Rattle.tj_program.specs.Runs.{status_of}
-use Rattle.tj_program.specs.declared.script_run.Told.TheVariants.{Report}
+use Rattle.tj_program.proofs.Prelude.{Report, ap, program_of, status_of, ◌∙◌}
 use Rattle.tj_program.proofs.ClosedRuns.{closed_at_rest}
 use Rattle.tj_program.proofs.worker_runs.reported_at_rest.Goals as goal
 

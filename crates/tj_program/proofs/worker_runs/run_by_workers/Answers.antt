@@ -1,8 +1,5 @@
-use denote.Param.Send.{sendable}
-use Rattle.std.proofs.Common.{refl}
-use Rattle.std.proofs.Crossing.{crosses}
-use Rattle.tj_syntax.proofs.Sends.{expr_sync, stmt_sync, script_sync}
-use Rattle.tj_program.specs.Runs.{script_program, start_of}
+use Rattle.tj_program.proofs.Prelude.{crosses, expr_sync, refl, script_program, script_sync, sendable, start_of}
+use Rattle.tj_program.proofs.Prelude.{stmt_sync}
 use Rattle.tj_program.proofs.ClosedRuns.{given_named, rests_named}
 use Rattle.tj_program.proofs.Outputs.{if_ok}
 use Rattle.tj_program.proofs.worker_runs.run_by_workers.Goals as goal

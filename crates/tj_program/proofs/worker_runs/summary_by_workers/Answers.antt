@@ -1,7 +1,5 @@
-use Rattle.std.proofs.Common.{◌∙◌, subst, sym}
+use Rattle.tj_program.proofs.Prelude.{IsScriptOf, generated_script, subst, sym, ◌∙◌}
 use Rattle.tj_program.proofs.Outputs.{if_ok, generated_of, never_refused}
-use Rattle.tj_program.specs.Generated.{generated_script}
-use Rattle.tj_embed.specs.ScriptTexts.{IsScriptOf}
 use Rattle.tj_syntax.specs.View as view
 use Rattle.tj_program.proofs.worker_runs.summary_by_workers.Goals as goal
 

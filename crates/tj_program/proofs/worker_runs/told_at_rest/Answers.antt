@@ -1,4 +1,4 @@
-use Rattle.tj_body.specs.Programs.{program_of}
+use Rattle.tj_program.proofs.Prelude.{program_of}
 use Rattle.tj_program.proofs.ClosedRuns.{closed_at_rest}
 use Rattle.tj_program.proofs.worker_runs.told_at_rest.Goals as goal
 
