@@ -16,6 +16,10 @@ pub use looks::{look_at, watch};
 pub use polls::{CellWait, Polled};
 pub use watched::Watched;
 
+#[cfg(test)]
+mod answer_tests;
+#[cfg(test)]
+mod beside_tests;
 mod look_laws;
 
 pub use look_laws::looks_stand;

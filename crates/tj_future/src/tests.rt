@@ -29,7 +29,7 @@ use tj_run::{Left, worker};
 use tj_words::{Fill, Laid, WSeat};
 
 /// The table of one task, which makes a promise, sets it to 5, and ends with 7.
-fn one_promise(alloc: Global) -> Result<[RowList; 1], Oom>
+pub(crate) fn one_promise(alloc: Global) -> Result<[RowList; 1], Oom>
     ensures { IfOk result (λ lists. IsTrue (is_table lists) × (0 < length lists)) }
 {
     let mut rows = Vec::new(alloc);
@@ -43,7 +43,7 @@ fn one_promise(alloc: Global) -> Result<[RowList; 1], Oom>
 }
 
 /// The one end of a pool for a table of two cells, with the root in it.
-fn one_end<P: Pool, R: Wait>(rt: &R, alloc: Global) -> Result<P, Oom>
+pub(crate) fn one_end<P: Pool, R: Wait>(rt: &R, alloc: Global) -> Result<P, Oom>
     ensures { IfOk result (λ end. P.limit end ≡ 2) }
 {
     let mut ends = P::make(rt, alloc, 1, 2)?;
@@ -55,7 +55,7 @@ fn one_end<P: Pool, R: Wait>(rt: &R, alloc: Global) -> Result<P, Oom>
 }
 
 /// A seat for a worker, and one to wait with.
-fn two_seats<B: Body>(laid: &Laid<B>, seat: WSeat<B>) -> (WSeat<B>, WSeat<B>)
+pub(crate) fn two_seats<B: Body>(laid: &Laid<B>, seat: WSeat<B>) -> (WSeat<B>, WSeat<B>)
     requires table { IsSeatOf laid.now seat }
     requires free { IsFree laid.now seat.me }
     requires room { 2 * least_lot ≤ seat.me.0.lot }
