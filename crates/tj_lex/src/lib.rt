@@ -17,3 +17,5 @@ pub use place::Place;
 pub use scan::tokens;
 pub use token::{Key, LexFault, Mark, Tok, Token};
 pub use word::Word;
+
+mod room;

@@ -126,7 +126,7 @@ fn word(alloc: Global, text: &[u8], at: Place) -> Result<Lexeme, LexFault>
     let bytes = &text[..len];
     let what = match keyword(bytes) {
         Some(key) => Tok::Key(key),
-        None => Tok::Name(Word::of(Vec::from_slice(alloc, bytes)?)),
+        None => Tok::Name(Word::copied(alloc, bytes)?),
     };
     Ok(Lexeme { what, len })
 }

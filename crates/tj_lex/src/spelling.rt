@@ -11,6 +11,9 @@ pub(crate) fn keyword(bytes: &[u8]) -> Option<Key>
     ensures found { IfSome result (λ key. key_text key ≡ bytes.now) }
     ensures none { IfNone result ((key : Key) → key_text key ≢ bytes.now) }
 {
+    if bytes.len() < 2 || bytes.len() > 6 {
+        return None;
+    }
     match bytes {
         b"task" => Some(Key::Task),
         b"let" => Some(Key::Let),

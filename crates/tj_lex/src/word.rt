@@ -1,22 +1,27 @@
 //! The bytes of a name.
-ghost use Rattle.std.specs.Prelude.{◌≡◌, nat_eq};
+ghost use Rattle.std.specs.Prelude.{◌≡◌, nat_eq, IfOk};
 ghost use Rattle.std.specs.Cmp.Lexicographic.{pointwise, nat_list_eq_equiv};
 ghost use Rattle.std.specs.Cmp.{partial_equiv_from_equiv};
 
+use crate::room::Room;
+use std::alloc::{AllocError, Global};
 use std::marker::Model;
 
 /// A name, as it stands in the text.
 #[derive(Debug, Drop)]
 pub struct Word {
-    bytes: Vec<u8>,
+    room: Room,
 }
 
 impl Model for Word {
     ghost use Rattle.std.specs.Prelude.{ℕ, List};
+    ghost use Rattle.tj_lex.specs.Inner.Rooms.{IsRoom, bytes_in};
 
     ghost Value = { List ℕ };
 
-    ghost view = { λ word. word.bytes.items };
+    ghost view = { λ word. bytes_in word.room };
+
+    ghost invariant = { λ word. IsRoom word.room };
 }
 
 impl Word {
@@ -24,14 +29,24 @@ impl Word {
     pub fn of(bytes: Vec<u8>) -> Word
         ensures { result ≡ bytes.items }
     {
-        Word { bytes }
+        Word {
+            room: Room::Long(bytes),
+        }
+    }
+
+    /// The word of a copy of these bytes.
+    pub fn copied(alloc: Global, bytes: &[u8]) -> Result<Word, AllocError>
+        ensures { IfOk result (λ word. word ≡ bytes.now) }
+    {
+        let room = Room::copied(alloc, bytes)?;
+        Ok(Word { room })
     }
 
     /// The bytes.
     pub fn bytes(&self) -> &[u8]
         ensures { result.now ≡ self.now }
     {
-        self.bytes.as_slice()
+        self.room.bytes()
     }
 }
 
