@@ -8,3 +8,4 @@ pub mod ToldOutcomes
 pub mod LeastIndexes
 pub mod OwnerMaps
 pub mod ToldBodies
+pub mod IndexCycles

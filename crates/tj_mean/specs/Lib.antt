@@ -4,3 +4,4 @@ pub mod Inner
 pub mod ActLines
 pub mod Acts
 pub mod ActLaws
+pub mod WaitIndexes

@@ -3,7 +3,8 @@
 //! that no earlier walk has met, and it is walked once more for its least index.
 ghost use Rattle.std.specs.Prelude.{◌≡◌, ◌⊎◌, ℕ, ◌<◌, ◌≤◌, length, slice_index_or, List, Some, true, false, IfOk};
 ghost use Rattle.tj_body.specs.Points.{IsIn};
-ghost use Rattle.tj_mean.specs.Inner.Indexes.{IsLeastCycle, Next};
+ghost use Rattle.tj_mean.specs.Inner.Indexes.{IsLeastCycle};
+ghost use Rattle.tj_mean.specs.WaitIndexes.{Next};
 ghost use Rattle.tj_mean.specs.Inner.MetIndexes.{AreLeastTold, IsMet, IsMetOn};
 
 use std::alloc::Global;

@@ -31,3 +31,4 @@ pub use outcome::{
 pub use rounds::{bodies, plan};
 pub use stopped::{Stopped, StoppedBody};
 pub use told::outcome_of;
+pub use wait_graph::{IndexCycles, IndexList, cycles_by};

@@ -6,7 +6,8 @@ ghost use Rattle.std.specs.List.{All};
 ghost use Rattle.tj_mean.specs.Inner.MetIndexes.{AreLeastTold};
 ghost use Rattle.tj_mean.specs.Inner.Owners.{AreOwners};
 ghost use Rattle.tj_mean.specs.Outcomes.{AreApart, AreCycles, Ascend};
-ghost use Rattle.tj_mean.specs.Inner.Indexes.{AreNext, IsLeastCycle, LeadsTo, Next, Waiting, WaitsAt, link_at, link_of};
+ghost use Rattle.tj_mean.specs.Inner.Indexes.{IsLeastCycle, Waiting, WaitsAt};
+ghost use Rattle.tj_mean.specs.WaitIndexes.{AreNext, LeadsOn, LeadsTo, Next, link_at, link_of};
 
 use crate::least_indexes::least_indexes;
 use crate::outcome::{CycleList, Ending, Link, LinkList};
@@ -16,6 +17,12 @@ use std::alloc::Global;
 use std::collections::BTreeMap;
 use tj_base::{Items, Name, Oom};
 
+/// Indexes of tasks.
+pub type IndexList = Items<usize>;
+
+/// The indexes on each of some cycles.
+pub type IndexCycles = Items<IndexList>;
+
 /// All cycles, each from its least name on, in the order of these names.
 pub fn cycles(alloc: Global, tasks: &[Stopped]) -> Result<CycleList, Oom>
     requires apart { AreApart tasks.now }
@@ -23,11 +30,24 @@ pub fn cycles(alloc: Global, tasks: &[Stopped]) -> Result<CycleList, Oom>
     ensures { IfOk result (AreCycles tasks.now) }
 {
     let next = next_tasks(alloc, tasks)?;
-    let least = least_indexes(alloc, next.as_slice())?;
+    let cycles = cycles_by(alloc, next.as_slice())?;
+    all_links(alloc, tasks, cycles.items())
+}
+
+/// All cycles of indexes that lead to these, each from its least index on, in the order of these:
+/// whichever tasks in name order lead to each other so, their cycles are these.
+pub fn cycles_by(alloc: Global, next: &[Option<usize>]) -> Result<IndexCycles, Oom>
+    requires { (i j : ℕ) → Next next.now i j → j < length next.now }
+    ensures on { IfOk result (λ cycles. All (λ c. All (LeadsOn next.now) c) cycles) }
+    ensures cycles { IfOk result (λ cycles. (tasks : List Stopped) → AreApart tasks
+        → Ascend (map (λ s. s.line.name) tasks) → AreNext tasks tasks next.now
+        → AreCycles tasks (map (map (link_at tasks)) cycles)) }
+{
+    let least = least_indexes(alloc, next)?;
     let mut cycles = Vec::new(alloc);
-    for first in 0..tasks.len() {
-        if let Some(indexes) = cycle_of(alloc, next.as_slice(), least.as_slice(), first)? {
-            cycles.push(links(alloc, tasks, indexes.as_slice())?)?;
+    for first in 0..next.len() {
+        if let Some(indexes) = cycle_of(alloc, next, least.as_slice(), first)? {
+            cycles.push(Items::of(indexes))?;
         }
     }
     Ok(Items::of(cycles))
@@ -107,6 +127,18 @@ fn cycle_from(
         }
     }
     Ok(None)
+}
+
+/// The links of the tasks on all of these cycles.
+fn all_links(alloc: Global, tasks: &[Stopped], cycles: &[IndexList]) -> Result<CycleList, Oom>
+    requires { All (λ c. All (WaitsAt tasks.now) c) cycles.now }
+    ensures { IfOk result (λ all. all ≡ map (map (link_at tasks.now)) cycles.now) }
+{
+    let mut all = Vec::new(alloc);
+    for cycle in cycles {
+        all.push(links(alloc, tasks, cycle.items())?)?;
+    }
+    Ok(Items::of(all))
 }
 
 /// The links of the tasks with these indexes.

@@ -21,7 +21,7 @@ use Rattle.tj_body.specs.Points.{IsIn}
 use Rattle.tj_body.proofs.Lists.{to_map}
 use Rattle.tj_body.proofs.Counts.{same_self, same_is, has_of_times, times_of_in}
 use Rattle.tj_mean.specs.Outcomes.{Ascend, AreApart, Leads, Waits, owned_by}
-use Rattle.tj_mean.specs.Inner.Indexes.{Next, AreNext, LeadsTo, link_of, link_at, waited}
+use Rattle.tj_mean.specs.WaitIndexes.{Next, AreNext, LeadsTo, link_of, link_at, waited}
 use Rattle.tj_mean.specs.declared.outcome.Ending.TheVariants as ending
 use Rattle.tj_mean.specs.declared.outcome.Link.{Link}
 use Rattle.tj_mean.specs.declared.stopped.Stopped.{Stopped}

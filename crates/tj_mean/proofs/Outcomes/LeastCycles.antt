@@ -19,7 +19,8 @@ use Rattle.tj_body.specs.Names.{same, at_most}
 use Rattle.tj_body.specs.Points.{IsIn}
 use Rattle.tj_body.proofs.Lists.{in_map, to_map}
 use Rattle.tj_mean.specs.Outcomes.{Ascend, AreApart, AreCycles, IsCycle, Leads, Waits, first_task}
-use Rattle.tj_mean.specs.Inner.Indexes.{Next, IsLeastCycle, AreNext, WaitsAt, link_at, waited}
+use Rattle.tj_mean.specs.Inner.Indexes.{IsLeastCycle}
+use Rattle.tj_mean.specs.WaitIndexes.{Next, AreNext, link_at, waited}
 use Rattle.tj_mean.specs.declared.outcome.Ending.TheVariants as ending
 use Rattle.tj_mean.specs.declared.outcome.Link.{Link}
 use Rattle.tj_mean.specs.declared.stopped.Stopped.{Stopped}
@@ -103,21 +104,11 @@ module _ (tasks : List Stopped) (apart : AreApart tasks)
   leads_on first (q ∷ qs) c p i = cycle_leads (Next next) p (length (q ∷ qs))
       (cycles_return (Next next) (one next) nat_eq Decides-eqb (q ∷ qs) p c.cycle.1 (in_contains (q ∷ qs) p i))
 
-  -- so its task waits
-  pub all_wait : (first : ℕ) (ps : List ℕ) → IsLeastCycle next first ps
-      → All (WaitsAt tasks) ps
-  all_wait first ps c = all_of_in (WaitsAt tasks) ps (λ p i.
-      let j = leads_on first ps c p i in
-      let s = next_leads tasks apart in_order next are p j.0 j.1 in (s.0, s.1, (s.2.0, s.2.2)))
-
-  -- and is there
+  -- so it is there
   there : (first : ℕ) (ps : List ℕ) → IsLeastCycle next first ps → (p : ℕ) → IsIn p ps → There tasks p
   there first ps c p i =
       let j = leads_on first ps c p i in
       let s = next_leads tasks apart in_order next are p j.0 j.1 in get_less tasks p s.0 s.1
-
-  pub all_there : (first : ℕ) (ps : List ℕ) → IsLeastCycle next first ps → All (λ p. p < length tasks) ps
-  all_there first ps c = all_of_in (λ p. p < length tasks) ps (λ p i. there first ps c p i)
 
   to_cycle : (first : ℕ) (ps : List ℕ) → IsLeastCycle next first ps → IsCycle tasks (map (link_at tasks) ps)
   to_cycle first [] c = absurd c.cycle

@@ -11,7 +11,8 @@ use Rattle.tj_base.specs.Cycles.{Reaches, IsOnCycleOf}
 use Rattle.tj_base.proofs.Ways.{reach_plus, reach_split, reach_one, cycle_at, cycle_leads}
 use Rattle.tj_base.proofs.CycleLists.{at_index, through, cycles_return, reached_contained}
 use Rattle.tj_body.specs.Points.{IsIn}
-use Rattle.tj_mean.specs.Inner.Indexes.{Next, IsLeastCycle}
+use Rattle.tj_mean.specs.Inner.Indexes.{IsLeastCycle}
+use Rattle.tj_mean.specs.WaitIndexes.{Next}
 use Rattle.tj_mean.specs.Inner.MetIndexes.{IsMet, IsMetOn, AreLeastTold}
 use Rattle.tj_mean.proofs.Lists.Elements.{some_is, in_contains}
 use Rattle.tj_mean.proofs.Outcomes.LeastCycles.{one, index_less, cycle_fits, reaches_greater}

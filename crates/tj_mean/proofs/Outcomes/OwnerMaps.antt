@@ -9,7 +9,7 @@ use Rattle.tj_base.specs.ForkOrder.{Name}
 use Rattle.tj_body.specs.Names.{has}
 use Rattle.tj_mean.specs.Inner.Owners.{AreOwners, owner_in}
 use Rattle.tj_mean.specs.Outcomes.{AreApart, Ascend, owned_by}
-use Rattle.tj_mean.specs.Inner.Indexes.{LeadsTo}
+use Rattle.tj_mean.specs.WaitIndexes.{LeadsTo}
 use Rattle.tj_mean.specs.declared.outcome.Ending.TheVariants as ending
 use Rattle.tj_mean.specs.declared.stopped.Stopped.{Stopped}
 use Rattle.tj_mean.proofs.Lists.Elements.{some_is}

@@ -24,7 +24,7 @@ use Rattle.tj_body.proofs.Rounds.Families.{same_name}
 use Rattle.tj_body.proofs.Rounds.Rises.{once_name, owners_apart}
 use Rattle.tj_mean.specs.Outcomes.{ending_of, stopped_of, AreTold, owned_by, Waits, Leads, IsCycle}
 use Rattle.tj_mean.specs.Outcomes.{AreApart, IsOutcomeOf, IsOutcome, shown_of}
-use Rattle.tj_mean.specs.Inner.Indexes.{waited}
+use Rattle.tj_mean.specs.WaitIndexes.{waited}
 use Rattle.tj_mean.specs.declared.outcome.Ending.{Ending}
 use Rattle.tj_mean.specs.declared.outcome.Ending.TheVariants as ending
 use Rattle.tj_mean.specs.declared.outcome.Link.{Link}

@@ -2,7 +2,7 @@ use Rattle.std.proofs.Common.{◌≡◌, ◌≢◌, ◌+◌, ◌≤◌, suc, nat
 use Rattle.std.specs.List.{All}
 use Rattle.std.proofs.lemmas.Bool.Decides.{Decides-eqb}
 use Rattle.tj_base.proofs.CycleWays.{way_closes, way_goes_on, way_stops, way_ends}
-use Rattle.tj_mean.specs.Inner.Indexes.{Next}
+use Rattle.tj_mean.specs.WaitIndexes.{Next}
 use Rattle.tj_mean.proofs.Lists.Elements.{some_is}
 use Rattle.tj_mean.proofs.Outcomes.LeastCycles.{one, cycle_fits, first_on, reaches_greater, all_greater}
 use Rattle.tj_mean.proofs.wait_graph.cycle_from.Goals as goal

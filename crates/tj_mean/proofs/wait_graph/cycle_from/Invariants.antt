@@ -1,7 +1,7 @@
 use Rattle.std.proofs.Common.{◌<◌, ◌≤◌, length}
 use Rattle.std.specs.List.{All}
 use Rattle.tj_base.proofs.CycleWays.{IsOnWay}
-use Rattle.tj_mean.specs.Inner.Indexes.{Next}
+use Rattle.tj_mean.specs.WaitIndexes.{Next}
 use Rattle.tj_mean.proofs.wait_graph.cycle_from.Given as goal
 
 -- the way so far doesn't come back, and none of its indexes is less than the first

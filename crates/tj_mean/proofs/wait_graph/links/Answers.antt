@@ -1,7 +1,8 @@
 use Rattle.std.proofs.Common.{◌≡◌, [], ◌∷◌, ◌++◌, map, length, take, slice_index_or, ap, sym, subst, refl, ◌∙◌}
 use Rattle.std.proofs.lemmas.List.{map-append, take_more}
 use Rattle.std.proofs.lemmas.Option.{slice_get_read}
-use Rattle.tj_mean.specs.Inner.Indexes.{Waiting, link_at}
+use Rattle.tj_mean.specs.Inner.Indexes.{Waiting}
+use Rattle.tj_mean.specs.WaitIndexes.{link_at}
 use Rattle.tj_mean.specs.declared.outcome.Link.{Link}
 use Rattle.tj_mean.proofs.Lists.Elements.{some_is}
 use Rattle.tj_mean.proofs.Outcomes.Indexes.{link_is}

@@ -1,5 +1,5 @@
 use Rattle.std.proofs.Common.{◌≡◌, map, take}
-use Rattle.tj_mean.specs.Inner.Indexes.{link_at}
+use Rattle.tj_mean.specs.WaitIndexes.{link_at}
 use Rattle.tj_mean.proofs.wait_graph.links.Given as goal
 
 -- the links of the indexes so far

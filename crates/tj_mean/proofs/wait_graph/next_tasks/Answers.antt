@@ -1,6 +1,6 @@
 use Rattle.std.proofs.Common.{◌≡◌, ◌+◌, [], ◌∷◌, ◌++◌, take, ap, sym, subst, ◌∙◌}
 use Rattle.std.proofs.lemmas.List.{take_more}
-use Rattle.tj_mean.specs.Inner.Indexes.{AreNext}
+use Rattle.tj_mean.specs.WaitIndexes.{AreNext}
 use Rattle.tj_mean.proofs.Outcomes.Indexes.{next_more}
 use Rattle.tj_mean.proofs.Lists.Elements.{all_taken}
 use Rattle.tj_mean.proofs.wait_graph.next_tasks.Goals as goal

@@ -1,5 +1,5 @@
 use Rattle.std.proofs.Common.{take}
-use Rattle.tj_mean.specs.Inner.Indexes.{AreNext}
+use Rattle.tj_mean.specs.WaitIndexes.{AreNext}
 use Rattle.tj_mean.proofs.wait_graph.next_tasks.Given as goal
 
 -- the next indexes of the tasks so far
