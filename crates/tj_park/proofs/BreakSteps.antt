@@ -14,7 +14,8 @@ use Rattle.tj_cells.proofs.TaskNotes.{let_go_again, let_go_first, noted_front}
 use Rattle.tj_park.specs.Inner.Breaks.{OwnsStill}
 use Rattle.tj_park.specs.Records.{AlarmsLeave, HasNoRecord}
 use Rattle.tj_cells.proofs.CallsKnowMore.{became_more}
-use Rattle.tj_park.proofs.WakeLoops.{noted_tail, one_wake_more}
+use Rattle.tj_park.proofs.WakeLoops.{noted_tail, nothing_noted, one_wake_more}
+use Rattle.tj_park.specs.Wakes.{HasNotedNothing}
 use Rattle.tj_body.specs.declared.point.Entry.TheVariants as entry
 use Rattle.tj_words.specs.declared.offsets.Once.TheVariants as once
 
@@ -237,7 +238,8 @@ module _ {B P : Type 0} (puts : P → CellId → P → Type 0) where
       (sym (ap numbers (take_more ps i (cell 0) few)
       ∙ map-append (λ (d : CellId). d.0) (take i ps) (get_or ps i (cell 0) ∷ [])))
       (one_wake_more puts (numbers (take i ps)) p n v w before after after a b c h
-      (subst (KnowsMore w) (sym broke) (became_more t p entry.Broken w)) woke (more_itself after))
+      (subst (HasNotedNothing w) (sym broke) (record { knows = became_more t p entry.Broken w; notes = refl })) woke
+      (nothing_noted after))
 
   -- all are broken
   pub all_woke : (ps : List CellId) (i : ℕ) (v w : View B) (a b : P)

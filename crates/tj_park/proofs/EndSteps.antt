@@ -18,6 +18,7 @@ use Rattle.tj_park.proofs.LeftTasks.{holds_before}
 use Rattle.tj_park.proofs.ParkedViews.{lowered_alone, no_record}
 use Rattle.tj_park.proofs.EndPoints.{its_name, result_first, to_break, result_becomes, told_ended}
 use Rattle.tj_park.proofs.WakeLoops.{noted_tail}
+use Rattle.tj_park.specs.Wakes.{HasNotedNothing}
 use Rattle.tj_body.specs.declared.point.Entry.TheVariants as entry
 use Rattle.tj_words.specs.declared.offsets.Once.TheVariants as once
 
@@ -187,9 +188,8 @@ module _ {B : Type 0} (program : Bool → B → Program B) (t : ℕ) (r : Rec B)
           → m4 ≡ (ended t closed, slots)
       ended_is m3 m4 a b = b ∙ ap (λ (m : SeatMe B). (ended t m.0, rest m.1)) a
 
-      -- the seat knows what it knew
-      pub ended_more : (m4 : SeatMe B) → m4 ≡ (ended t closed, slots) → KnowsMore v1 m4.0
-      ended_more m4 e = subst (λ (m : SeatMe B). KnowsMore v1 m.0) (sym e) (record {
+      ended_more : KnowsMore v1 (ended t closed)
+      ended_more = record {
         about = refl;
         lot = refl;
         born = begins_self v1.born;
@@ -200,11 +200,16 @@ module _ {B : Type 0} (program : Bool → B → Program B) (t : ℕ) (r : Rec B)
         closed = λ x i. i;
         rested = λ q. q;
         notes = ([], refl);
-      })
+      }
 
-      pub lowered_more : (v5 : View B) (m6 : SeatMe B) → m6 ≡ lowered_with v5 slots → KnowsMore v5 m6.0
-      lowered_more v5 m6 e = subst (λ (m : SeatMe B). KnowsMore v5 m.0) (sym (e ∙ lowered_alone v5 slots none))
-          (more_same v5 (with_tokens (v5.tokens - 1) v5) ([], refl))
+      -- the seat knows what it knew, and has noted nothing
+      pub ended_unnoted : (m4 : SeatMe B) → m4 ≡ (ended t closed, slots) → HasNotedNothing v1 m4.0
+      ended_unnoted m4 e = subst (λ (m : SeatMe B). HasNotedNothing v1 m.0) (sym e)
+          (record { knows = ended_more; notes = refl })
+
+      pub lowered_unnoted : (v5 : View B) (m6 : SeatMe B) → m6 ≡ lowered_with v5 slots → HasNotedNothing v5 m6.0
+      lowered_unnoted v5 m6 e = subst (λ (m : SeatMe B). HasNotedNothing v5 m.0) (sym (e ∙ lowered_alone v5 slots none))
+          (record { knows = more_same v5 (with_tokens (v5.tokens - 1) v5) ([], refl); notes = refl })
 
       pub may_wake_then : (m4 : SeatMe B) → m4 ≡ (ended t closed, slots) → MayWake t m4
       may_wake_then m4 e = subst (λ m. MayWake t m) (sym e) may_wake_last

@@ -1,13 +1,15 @@
 -- The loop that wakes a chain: so many of its tasks are woken, and the others are the seat's rest.
-use Rattle.tj_park.proofs.Prelude.{CellId, Err, Head, IsTailOf, KnowsMore, List, None, Ok, Option, Rest, SlotsOf, Some}
-use Rattle.tj_park.proofs.Prelude.{View, Way, [], ap, arith, cell, head_of, head_word, inl, inr, more_on, refl, subst}
-use Rattle.tj_park.proofs.Prelude.{suc, sym, tail_on, without, ℕ, ⊎_elim, ◌++◌, ◌+◌, ◌<◌, ◌∙◌, ◌∷◌, ◌≡◌, ◌≢◌, ◌≤◌, ◌⊎◌}
+use Rattle.tj_park.proofs.Prelude.{CellId, Err, Head, IsTailOf, KnowsMore, List, None, Ok, Option, Rest, SlotsOf}
+use Rattle.tj_park.proofs.Prelude.{Some, View, Way, [], ap, arith, cell, head_of, head_word, inl, inr, more_itself}
+use Rattle.tj_park.proofs.Prelude.{more_on, refl, subst, suc, sym, tail_on, without, ℕ, ⊎_elim, ◌++◌, ◌+◌, ◌<◌, ◌∙◌}
+use Rattle.tj_park.proofs.Prelude.{◌∷◌, ◌≡◌, ◌≢◌, ◌≤◌, ◌⊎◌}
 use Rattle.std.proofs.Common.{length, Result, OnErr, append_assoc, length-append}
 use Rattle.tj_words.specs.declared.head.Head.TheVariants.{Empty, Task, Shut}
 use Rattle.tj_words.specs.declared.view.Note.{Note}
 use Rattle.tj_words.specs.Calls.ChainSteps.{TakesChain, found_taken, rest_of}
 use Rattle.tj_words.proofs.Waiters.ChainsSaid.{shut_or}
-use Rattle.tj_park.specs.Wakes.{HaveNoted, HavePut, HasWoken, MayWakeTasks, WakesAll, WakesEach, WakesSome, wake_notes}
+use Rattle.tj_park.specs.Wakes.{HasNotedNothing, HaveNoted, HavePut, HasWoken, MayWakeTasks, WakesAll, WakesEach}
+use Rattle.tj_park.specs.Wakes.{WakesSome, wake_notes}
 use Rattle.tj_park.specs.Inner.FirstWaiters.{WakesFirst}
 
 -- the head begins the list of those who are left, and names a cell; or it was shut, and nobody is
@@ -233,17 +235,22 @@ noted_tail p (t ∷ ts) left v old new h =
     tail_on old (wake_notes p t h.0 (ts ++ left) v ++ old) new (wake_notes p t h.0 (ts ++ left) v, refl)
     (noted_tail p ts left v (wake_notes p t h.0 (ts ++ left) v ++ old) new h.1)
 
+-- a seat that has done nothing has noted nothing
+pub nothing_noted : {B : Type 0} (v : View B) → HasNotedNothing v v
+nothing_noted v = record { knows = more_itself v; notes = refl }
+
 module _ {B P : Type 0} (puts : P → CellId → P → Type 0) where
   -- those who wait for one cell more were woken
   pub one_wake_more : (ps : List ℕ) (p n : ℕ) (v w before after end : View B) (a b c : P)
-      → WakesEach puts ps v w a b → KnowsMore w before → WakesAll puts p n before after b c → KnowsMore after end
+      → WakesEach puts ps v w a b → HasNotedNothing w before → WakesAll puts p n before after b c
+      → HasNotedNothing after end
       → WakesEach puts (ps ++ p ∷ []) v end a c
   one_wake_more [] p n v w before after end a b c h k x m = (
     before,
     after,
     c,
     n,
-    more_on v w before h.0 k,
+    record { knows = more_on v w before h.0.knows k.knows; notes = k.notes ∙ h.0.notes },
     subst (λ z. WakesAll puts p n before after z c) h.1 x,
     (m, refl),
   )

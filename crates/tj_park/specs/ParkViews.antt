@@ -46,8 +46,7 @@ module _ {B : Type 0} where
       pub room : v.cleared + raised_by_way way ≤ v.lot
       pub alarms : AlarmsLeave 0 v
 
-  -- since then the seat has found chains, at most so many. A push comes after the load of a head or after a push that
-  -- failed, which found a chain; so there were at most as many pushes
+  -- since then the seat has found chains, at most so many, by loads of a head and by pushes that failed
   pub record HasFoundChains (most : ℕ) (v w : View B) : Type 0 where
     pub chains : List Found
     pub found : w.found ≡ chains ++ v.found

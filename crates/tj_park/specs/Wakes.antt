@@ -62,6 +62,11 @@ module _ {B : Type 0} where
       notes = w.notes;
     }
 
+  -- the seat knows more, and has noted nothing since
+  pub record HasNotedNothing (v w : View B) : Type 0 where
+    pub knows : KnowsMore v w
+    pub notes : w.notes ≡ v.notes
+
   module _ {P : Type 0} (puts : P → CellId → P → Type 0) where
     -- each of these n tasks was made ready and put into the pool, and nobody is left
     pub record WakesAll (p n : ℕ) (v w : View B) (a b : P) : Type 0 where
@@ -70,12 +75,12 @@ module _ {B : Type 0} where
       pub woke : HasWoken p chain [] v w
       pub put : HavePut puts chain a b
 
-    -- for one of these cells after the other, all who waited for it were woken and put into the pool; what the seat did
-    -- besides left the pool alone
+    -- for one of these cells after the other, all who waited for it were woken and put into the pool. What the seat did
+    -- besides left the pool alone, and nothing was noted by it: so each task of which a wake is noted was put
     abbrev pub WakesEach : List ℕ → View B → View B → P → P → Type 0
-    WakesEach [] v w a b = KnowsMore v w × (b ≡ a)
+    WakesEach [] v w a b = HasNotedNothing v w × (b ≡ a)
     WakesEach (p ∷ ps) v w a b = (before after : View B) × (between : P) × (n : ℕ)
-        × KnowsMore v before × WakesAll p n before after a between × WakesEach ps after w between b
+        × HasNotedNothing v before × WakesAll p n before after a between × WakesEach ps after w between b
 
     -- each of these tasks was made ready and put into the pool; one more was made ready, of which the pool has
     -- nothing; the others are left

@@ -1,5 +1,6 @@
-use Rattle.tj_park.proofs.Prelude.{MayWake, WakesAll, arith, cell, drop, get_or, more_itself, program_of, refl, subst}
+use Rattle.tj_park.proofs.Prelude.{MayWake, WakesAll, arith, cell, drop, get_or, program_of, refl, subst}
 use Rattle.tj_park.proofs.Prelude.{sym, ◌+◌, ◌∙◌}
+use Rattle.tj_park.proofs.WakeLoops.{nothing_noted}
 use Rattle.tj_park.proofs.BreakSteps.{none_broken, may_give_up, will_break, is_small, may_wake_broken, one_broken}
 use Rattle.tj_park.proofs.BreakSteps.{about_kept, all_woke, next_left, none_left, notes_kept, one_break_woke}
 use Rattle.tj_park.proofs.finishes.break_promises.Goals as goal
@@ -10,7 +11,7 @@ loop-p-init g c = record {
   limit = refl;
   broken = none_broken (program_of g.B.Body.places g.B.Body.awaits g.B.Body.left g.B.Body.asks g.B.Body.then)
       c.args.t.0 c.args.promises.now c.args.seat.now.me.0 c.requires.may;
-  woke = (more_itself c.args.seat.now.me.0, refl);
+  woke = (nothing_noted c.args.seat.now.me.0, refl);
 }
 
 pub break_off-requires-clause-table : goal.break_off-requires-clause-table

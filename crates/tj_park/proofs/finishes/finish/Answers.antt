@@ -2,7 +2,7 @@ use Rattle.tj_park.proofs.Prelude.{HasBroken, MayBreak, MayLowerLive, WakesEach,
 use Rattle.tj_park.proofs.Prelude.{program_of, rest, subst, sym, ◌∙◌, ◌≡◌}
 use Rattle.tj_park.proofs.EndSteps.{slice_rest, is_cell, may_break, may_close, closed_is, laid_is, may_end_then}
 use Rattle.tj_park.proofs.EndSteps.{ended_is, about_woken, may_wake_then, woke_then, may_lower, has_finished}
-use Rattle.tj_park.proofs.EndSteps.{ended_more, lowered_more, notes_woken, same_slots}
+use Rattle.tj_park.proofs.EndSteps.{ended_unnoted, lowered_unnoted, notes_woken, same_slots}
 use Rattle.tj_park.proofs.OwedRecords.{closes_once, owes_at_home}
 use Rattle.tj_park.proofs.WakeLoops.{one_wake_more}
 use Rattle.tj_park.proofs.finishes.finish.Goals as goal
@@ -278,13 +278,13 @@ returns-clause-woke g c = let m = c.requires.may in
     (subst (λ l. WakesEach g.P.Pool.puts (numbers l) c.args.seat.now.me.0 c.break_promises.new.seat.me.0
     c.args.pool.now c.break_promises.new.pool)
     (slice_rest c.items.result.now c.args.rec.owned c.items.ensures) c.in_ok-break_promises.ensures.woke)
-    (ended_more (program_of g.B.Body.places g.B.Body.awaits g.B.Body.left g.B.Body.asks g.B.Body.then)
+    (ended_unnoted (program_of g.B.Body.places g.B.Body.awaits g.B.Body.left g.B.Body.asks g.B.Body.then)
     c.args.t.0 c.args.rec c.args.seat.now.me.0 m written ordered c.break_promises.new.seat.me.0
     (subst (λ l. HasBroken c.args.t.0 l [] c.args.seat.now.me.0 c.break_promises.new.seat.me.0)
     (slice_rest c.items.result.now c.args.rec.owned c.items.ensures) c.in_ok-break_promises.ensures.broken)
     (rest c.args.seat.now.me.1) c.requires.others c.put_phase.new.seat.me ended)
     c.in_ok-wake.ensures.woke
-    (lowered_more (program_of g.B.Body.places g.B.Body.awaits g.B.Body.left g.B.Body.asks g.B.Body.then)
+    (lowered_unnoted (program_of g.B.Body.places g.B.Body.awaits g.B.Body.left g.B.Body.asks g.B.Body.then)
     c.args.t.0 c.args.rec c.args.seat.now.me.0 m written ordered c.break_promises.new.seat.me.0
     (subst (λ l. HasBroken c.args.t.0 l [] c.args.seat.now.me.0 c.break_promises.new.seat.me.0)
     (slice_rest c.items.result.now c.args.rec.owned c.items.ensures) c.in_ok-break_promises.ensures.broken)
