@@ -61,7 +61,7 @@ pub(crate) fn table_of<'s>(
 }
 
 /// Claims a task that is to begin, and its body asks.
-pub(crate) fn begin<B: Body, R: Abort>(
+fn begin<B: Body, R: Abort>(
     rt: &R,
     alloc: Global,
     laid: &Laid<B>,

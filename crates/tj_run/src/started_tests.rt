@@ -7,11 +7,11 @@ ghost use Rattle.tj_words.specs.SeatViews.SeatSteps.{IsSeatOf};
 ghost use Rattle.tj_run.specs.Workers.{IsFree, table_program};
 ghost use Rattle.tj_run.specs.Inner.Carried.{IsWaiting, RunsTask};
 
-use crate::life_tests::{begin, one_end, table_of};
+use crate::life_tests::{one_end, table_of};
 use crate::next::Next;
 use crate::pass_tests::{fork, rows};
 use crate::tasks::one_ask;
-use crate::two_task_tests::run_to_fork;
+use crate::two_task_tests::{run_to_fork, run_to_promise};
 use crate::why::Why;
 use std::alloc::Global;
 use std::marker::Brand;
@@ -55,8 +55,8 @@ fn block_on_join<B: Body, L: Ledger, R: Abort>(
     (way, verdict)
 }
 
-/// The root makes a promise and forks a child, which the other seat claims and starts; then the root
-/// joins the child, and blocks. Tells the way of the wait and the verdict.
+/// The root makes a promise and forks a child. The other seat claims the child, which makes a promise
+/// of its own; then the root joins the child, and blocks. Tells the way of the wait and the verdict.
 fn join_started<B: Body, P: Pool, R: Wait + Abort>(
     rt: &R,
     alloc: Global,
@@ -75,13 +75,13 @@ fn join_started<B: Body, P: Pool, R: Wait + Abort>(
     requires pool { P.limit pool.old ≡ laid.now.cells }
 {
     let mut rec = run_to_fork(rt, alloc, laid, seat, pool)?;
-    let begun = begin(rt, alloc, laid, other, CellId(2))?;
+    let child = run_to_promise(rt, alloc, laid, other, CellId(2), pool)?;
     let joins = one_ask(rt, alloc, laid, seat, &mut rec, pool)?;
     let Next::Waits { place, spare } = joins else {
         panic!(rt; "the child hasn't ended");
     };
     let told = block_on_join::<B, Brand, R>(rt, laid, seat, &rec, place, spare, Blank::new(1));
-    drop(begun);
+    drop(child);
     Ok(told)
 }
 
@@ -90,9 +90,9 @@ fn a_join_of_a_started_child_is_skipped(rt: HostRuntime) -> Result<(), Fail> {
     let a = rt.alloc();
     let child = fork(a, 1, &[], &[])?;
     let root = [Row::New, child, Row::Join { t: 2 }];
-    let lists = [rows(a, root)?, rows(a, [Row::Emit(8)])?];
-    let mut pool = one_end::<LockedPool, HostRuntime>(&rt, a, 3)?;
-    let (laid, seat) = table_of(a, &lists, 3)?;
+    let lists = [rows(a, root)?, rows(a, [Row::New, Row::Emit(8)])?];
+    let mut pool = one_end::<LockedPool, HostRuntime>(&rt, a, 4)?;
+    let (laid, seat) = table_of(a, &lists, 4)?;
     let (mut first, mut second) = laid.split(seat);
     let (way, verdict) = join_started(&rt, a, &laid, &mut first, &mut second, &mut pool)?;
     assert!(rt; way == Way::Along, "along the order");

@@ -32,6 +32,39 @@ use tj_park::{Parked, claim, park};
 use tj_ready::{LockedPool, Pool};
 use tj_words::{Held, Laid, Rec, WSeat, Way};
 
+/// Claims a task that is to begin, and it makes a promise.
+pub(crate) fn run_to_promise<B: Body, P: Pool, R: Wait + Abort>(
+    rt: &R,
+    alloc: Global,
+    laid: &Laid<B>,
+    seat: &mut WSeat<B>,
+    t: CellId,
+    pool: &mut P,
+) -> Result<Rec<B>, Why>
+    requires table { IsSeatOf laid.now seat.old }
+    requires free { IsFree laid.now seat.old.me }
+    requires task { IsCellOf laid.now t.0 }
+    requires rooted { IsRooted (table_program (program_of B.places B.awaits B.left B.asks B.then)
+        laid.now) }
+    requires pool { P.limit pool.old ≡ laid.now.cells }
+    ensures table { seat.new.table_id ≡ seat.old.table_id }
+    ensures limit { P.limit pool.new ≡ P.limit pool.old }
+    ensures runs { IfOk result (λ rec. RunsTask laid.now rec seat.new.me) }
+    ensures running { IfOk result (λ rec. IsRunning (table_program
+        (program_of B.places B.awaits B.left B.asks B.then) laid.now) seat.new.me.0 rec) }
+{
+    let mut rec = claim(laid, seat, t).expect(rt, "it is ready");
+    let start = resume(laid, seat, &mut rec)?;
+    let Next::Runs = start else {
+        panic!(rt; "it begins");
+    };
+    let made = one_ask(rt, alloc, laid, seat, &mut rec, pool)?;
+    let Next::Runs = made else {
+        panic!(rt; "it makes a promise");
+    };
+    Ok(rec)
+}
+
 /// Claims the root, which makes a promise and forks a child.
 pub(crate) fn run_to_fork<B: Body, P: Pool, R: Wait + Abort>(
     rt: &R,
@@ -52,15 +85,7 @@ pub(crate) fn run_to_fork<B: Body, P: Pool, R: Wait + Abort>(
     ensures running { IfOk result (λ rec. IsRunning (table_program
         (program_of B.places B.awaits B.left B.asks B.then) laid.now) seat.new.me.0 rec) }
 {
-    let mut rec = claim(laid, seat, CellId(0)).expect(rt, "it is ready");
-    let start = resume(laid, seat, &mut rec)?;
-    let Next::Runs = start else {
-        panic!(rt; "it begins");
-    };
-    let made = one_ask(rt, alloc, laid, seat, &mut rec, pool)?;
-    let Next::Runs = made else {
-        panic!(rt; "it makes a promise");
-    };
+    let mut rec = run_to_promise(rt, alloc, laid, seat, CellId(0), pool)?;
     let forked = one_ask(rt, alloc, laid, seat, &mut rec, pool)?;
     let Next::Runs = forked else {
         panic!(rt; "it forks a child");
