@@ -15,7 +15,7 @@ use Rattle.tj_body.specs.declared.point.Entry.TheVariants as entry
 use Rattle.tj_body.specs.declared.point.PointStage.TheVariants as stage
 
 -- a task that hasn't ended owns its result, and then what it holds
-open_owned : (s : PointStage) (x : Name) (holds : List Name) → IsOpen s → owned_in s x holds ≡ x ∷ holds
+pub open_owned : (s : PointStage) (x : Name) (holds : List Name) → IsOpen s → owned_in s x holds ≡ x ∷ holds
 open_owned (stage.Answered a) x holds o = refl
 open_owned (stage.Waits q spare) x holds o = refl
 open_owned (stage.Closed e) x holds o = absurd o

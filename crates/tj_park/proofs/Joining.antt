@@ -8,7 +8,12 @@ use Rattle.tj_words.specs.declared.view.Push.{Push}
 use Rattle.tj_words.specs.Calls.ChainSteps.{HasPush, HasPushBehind, KnowsEntry, pushed, stored_next, with_next}
 use Rattle.tj_words.specs.SeatViews.SeenWords.{FindsChain, FindsShut}
 use Rattle.tj_words.proofs.SeatLoads.KnowsMoreOn.{hand_on, counts_on}
+use Rattle.tj_words.specs.declared.view.About.{About}
+use Rattle.tj_words.specs.SeatViews.Moments.{WasSo}
+use Rattle.tj_words.specs.Words.Heads.{shut_word}
+use Rattle.tj_words.specs.Words.Offsets.{head_at}
 use Rattle.tj_park.specs.Inner.JoinViews.{last_found, pushes_left}
+use Rattle.tj_park.proofs.PushRooms.{found_room}
 use Rattle.tj_words.specs.declared.head.Head.TheVariants as head
 
 -- the sums of steps and of pushes
@@ -44,12 +49,27 @@ more_found n last old new now a b c d = omega arith
 no_more_found : (n last old new cells : ℕ) → n ≤ suc last → last ≡ old → old < new → new ≤ cells → suc n ≤ suc cells
 no_more_found n last old new cells a b c d = omega arith
 
+-- and it lacks one task of the table
+fewer_found : (n last old b cells : ℕ) → n ≤ suc last → last ≡ old → suc (suc old) ≤ b → b ≡ cells → suc n ≤ cells
+fewer_found n last old b cells a e l q = omega arith
+
 -- how many pushes are left after the last chain that was found
 left_open : (cells : ℕ) (behind : Head) (fs : List Found) → behind ≢ head.Shut
     → pushes_left cells behind fs ≡ suc (cells - length (last_found fs))
 left_open cells head.Empty fs n = refl
 left_open cells (head.Task t) fs n = refl
 left_open cells head.Shut fs n = absurd (n refl)
+
+-- the cells that are closed, where the head of q was found like this
+abbrev pub closed_with : ℕ → Head → List ℕ → List ℕ
+closed_with q head.Empty closed = closed
+closed_with q (head.Task t) closed = closed
+closed_with q head.Shut closed = q ∷ closed
+
+closed_open : (q : ℕ) (h : Head) (closed : List ℕ) → h ≢ head.Shut → closed_with q h closed ≡ closed
+closed_open q head.Empty closed n = refl
+closed_open q (head.Task t) closed n = refl
+closed_open q head.Shut closed n = absurd (n refl)
 
 -- a chain that has another head is longer
 longer : (h h' : Head) (xs ys more : List ℕ) → h ≡ head_of xs → h' ≡ head_of ys → ys ≡ more ++ xs → h' ≢ h
@@ -106,12 +126,15 @@ module _ {B : Type 0} where
     pub found : w.found ≡ chains ++ v.found
     pub few : length chains ≤ suc (length (last_found w.found))
     pub most : length chains ≤ suc cells
+    pub fewer : (a : About B) → v.about ≡ Some a → a.cells ≡ cells → length chains ≤ cells
+    pub closed : w.closed ≡ closed_with q behind v.closed
 
   shut_looks : {program : Bool → B → Program B} (cells q : ℕ) (v w : View B) → FindsShut program cells q v w
       → LooksOn cells v w × IsShutAt q w × (w.pushes ≡ v.pushes) × (w.steps ≡ suc v.steps) × (w.found ≡ v.found)
+      × (w.closed ≡ q ∷ v.closed)
   shut_looks cells q v w f = subst
       (λ (z : View B). LooksOn cells v z × IsShutAt q z × (z.pushes ≡ v.pushes) × (z.steps ≡ suc v.steps)
-      × (z.found ≡ v.found))
+      × (z.found ≡ v.found) × (z.closed ≡ q ∷ v.closed))
       (sym f.view) (
         record {
           knows = record {
@@ -139,6 +162,7 @@ module _ {B : Type 0} where
         refl,
         refl,
         refl,
+        refl,
       )
 
   -- a view in which only steps, pushes and found chains differ
@@ -158,11 +182,11 @@ module _ {B : Type 0} where
 
   chain_looks : (cells q : ℕ) (h : Head) (v w : View B) → (f : FindsChain cells q h v w)
       → LooksOn cells v w × (w.found ≡ record { cell = q; chain = f.chain } ∷ v.found) × (w.pushes ≡ v.pushes)
-      × (w.steps ≡ suc v.steps)
+      × (w.steps ≡ suc v.steps) × (w.closed ≡ v.closed)
   chain_looks cells q h v w f = subst
       (λ (z : View B). LooksOn cells v z × (z.found ≡ record { cell = q; chain = f.chain } ∷ v.found)
-      × (z.pushes ≡ v.pushes) × (z.steps ≡ suc v.steps)) (sym f.view)
-      (same_looks v (suc v.steps) v.pushes (record { cell = q; chain = f.chain } ∷ v.found), refl, refl, refl)
+      × (z.pushes ≡ v.pushes) × (z.steps ≡ suc v.steps) × (z.closed ≡ v.closed)) (sym f.view)
+      (same_looks v (suc v.steps) v.pushes (record { cell = q; chain = f.chain } ∷ v.found), refl, refl, refl, refl)
 
   open_is : (cells q : ℕ) (h : Head) (v w : View B) → FindsChain cells q h v w → IsOpenAt cells q h w
   open_is cells q h v w f = record {
@@ -176,11 +200,11 @@ module _ {B : Type 0} where
 
   module _ (cells t q : ℕ) (way : Way) where
     -- the first load of the head
-    pub joining_first : {program : Bool → B → Program B} (h : Head) (v w : View B)
+    pub joining_first : {program : Bool → B → Program B} → 0 < cells → (h : Head) (v w : View B)
         → v.pushes ≡ push_behind t q way None ∷ []
         → (h ≡ head.Shut → FindsShut program cells q v w) → (h ≢ head.Shut → FindsChain cells q h v w)
         → Joining cells t q way h v w
-    joining_first head.Shut v w e s o = let f = shut_looks cells q v w (s refl) in record {
+    joining_first filled head.Shut v w e s o = let f = shut_looks cells q v w (s refl) in record {
       looks = f.0;
       next = None;
       pushes = f.2 ∙ e;
@@ -191,8 +215,10 @@ module _ {B : Type 0} where
       found = f.4;
       few = omega arith;
       most = omega arith;
+      fewer = λ a e c. omega arith;
+      closed = f.5;
     }
-    joining_first head.Empty v w e s o = let f = o (λ z. cc) in let l = chain_looks cells q head.Empty v w f in record {
+    joining_first filled head.Empty v w e s o = let f = o (λ z. cc) in let l = chain_looks cells q head.Empty v w f in record {
       looks = l.0;
       next = None;
       pushes = l.2 ∙ e;
@@ -203,8 +229,10 @@ module _ {B : Type 0} where
       found = l.1;
       few = omega arith;
       most = omega arith;
+      fewer = λ a e c. filled;
+      closed = l.4;
     }
-    joining_first (head.Task u) v w e s o = let f = o (λ z. cc) in
+    joining_first filled (head.Task u) v w e s o = let f = o (λ z. cc) in
         let l = chain_looks cells q (head.Task u) v w f in record {
           looks = l.0;
           next = None;
@@ -216,6 +244,8 @@ module _ {B : Type 0} where
           found = l.1;
           few = omega arith;
           most = omega arith;
+          fewer = λ a e c. filled;
+          closed = l.4;
         }
 
     -- NEXT of t may be stored
@@ -247,6 +277,9 @@ module _ {B : Type 0} where
       stored_found : u.found ≡ w.found
       stored_found = ap (λ (z : View B). z.found) store
 
+      stored_closed : u.closed ≡ closed_with q behind v.closed
+      stored_closed = ap (λ (z : View B). z.closed) store ∙ j.closed
+
       module _ (opened : behind ≢ head.Shut) where
         at : IsOpenAt cells q behind w
         at = j.open_at opened
@@ -258,7 +291,7 @@ module _ {B : Type 0} where
         -- the push succeeds
         pub joined : (x : View B) → x ≡ pushed t u
             → LooksOn cells v x × (x.pushes ≡ []) × (x.steps ≤ v.steps + join_steps cells)
-            × HasFoundChains (suc cells) v x
+            × HasFoundChains cells v x × (x.closed ≡ v.closed)
         joined x e = (
           looks_on v u x stored_looks (subst (λ (z : View B). LooksOn cells u z) (sym e)
               (same_looks u (suc u.steps) (without_push t u.pushes) u.found)),
@@ -269,16 +302,22 @@ module _ {B : Type 0} where
             chains = j.chains;
             found = ap (λ (z : View B). z.found) e ∙ (stored_found ∙ j.found);
             few = j.most;
+            fewer = j.fewer;
           },
+          ap (λ (z : View B). z.closed) e ∙ (stored_closed ∙ closed_open q behind v.closed opened),
         )
+
+        found_before : IsIn (record { cell = q; chain = at.chain }) u.found
+        found_before = subst (IsIn (record { cell = q; chain = at.chain })) (sym (stored_found ∙ at.found)) (inl refl)
 
         grown : (h : Head) (x : View B) (f : FindsChain cells q h u x) → h ≢ behind
             → length at.chain < length f.chain
         grown h x f n =
-            let i : IsIn (record { cell = q; chain = at.chain }) u.found
-            = subst (IsIn (record { cell = q; chain = at.chain })) (sym (stored_found ∙ at.found)) (inl refl) in
-            let g = f.grown (record { cell = q; chain = at.chain }) i refl in
+            let g = f.grown (record { cell = q; chain = at.chain }) found_before refl in
             longer behind h at.chain f.chain g.0 at.is f.is g.1 n
+
+        still_open : u.closed ≡ v.closed
+        still_open = stored_closed ∙ closed_open q behind v.closed opened
 
         -- the push finds the head shut, or a longer chain
         module _ {program : Bool → B → Program B} (h : Head) (x : View B) (fails : h ≢ behind)
@@ -299,12 +338,19 @@ module _ {B : Type 0} where
               by head.Empty e = more (λ y. let d : head.Empty ≡ head.Shut = sym e ∙ y in cc)
               by (head.Task z) e = more (λ y. let d : head.Task z ≡ head.Shut = sym e ∙ y in cc)
 
-          pub joining_next : Joining cells t q way h v x
-          joining_next = by h refl
+          pub joining_next : cells < shut_word → WasSo program (head_at q) (head_word h) u → Joining cells t q way h v x
+          joining_next little moment = by h refl
             where
               went : x.steps ≡ suc u.steps → x.steps + 2 * pushes_left cells h x.found ≤ v.steps + join_steps cells
               went s = next_cost x.steps u.steps w.steps v.steps (pushes_left cells h x.found)
                   (pushes_left cells behind w.found) (join_steps cells) s stored_steps fewer j.cost
+
+              lacks : h ≢ head.Shut → (f : FindsChain cells q h u x) → (a : About B) → v.about ≡ Some a
+                  → a.cells ≡ cells → suc (length j.chains) ≤ cells
+              lacks n f a e c = fewer_found (length j.chains) (length (last_found w.found)) (length at.chain) a.cells
+                  cells j.few (ap (λ fs. length (last_found fs)) at.found)
+                  (found_room program q u cells h little f.small n moment has_push_behind.0 has_push_behind.1
+                  at.chain found_before (λ z. fails (z ∙ sym at.is)) a (stored_looks.knows.about ∙ e)) c
 
               more : h ≢ head.Shut → Joining cells t q way h v x
               more n = let f = other fails n in let l = chain_looks cells q h u x f in record {
@@ -321,6 +367,8 @@ module _ {B : Type 0} where
                     (ap (λ fs. length (last_found fs)) l.1);
                 most = no_more_found (length j.chains) (length (last_found w.found)) (length at.chain)
                     (length f.chain) cells j.few (ap (λ fs. length (last_found fs)) at.found) (grown h x f fails) f.short;
+                fewer = lacks n f;
+                closed = l.4 ∙ (still_open ∙ sym (closed_open q h v.closed n));
               }
 
               by : (z : Head) → h ≡ z → Joining cells t q way h v x
@@ -335,6 +383,9 @@ module _ {B : Type 0} where
                 found = f.4 ∙ (stored_found ∙ j.found);
                 few = subst (λ fs. length j.chains ≤ suc (length (last_found fs))) (sym (f.4 ∙ stored_found)) j.few;
                 most = j.most;
+                fewer = j.fewer;
+                closed = f.5 ∙ (ap (λ (l : List ℕ). q ∷ l) still_open
+                    ∙ sym (ap (λ (y : Head). closed_with q y v.closed) e));
               }
               by head.Empty e = more (λ y. let d : head.Empty ≡ head.Shut = sym e ∙ y in cc)
               by (head.Task z) e = more (λ y. let d : head.Task z ≡ head.Shut = sym e ∙ y in cc)
@@ -343,10 +394,15 @@ module _ {B : Type 0} where
     pub not_added : (v w : View B) → Joining cells t q way head.Shut v w → IsAdded t q way false w
     not_added v w j = ((j.next, j.pushes), (j.shut_at refl).0, (j.shut_at refl).1)
 
+    -- and then it was found so once
+    pub found_shut_once : (behind : Head) (v w : View B) → Joining cells t q way behind v w → behind ≡ head.Shut
+        → w.closed ≡ q ∷ v.closed
+    found_shut_once behind v w j e = j.closed ∙ ap (λ h. closed_with q h v.closed) e
+
     -- so many chains were found
     pub found_chains : (behind : Head) (v w : View B) → Joining cells t q way behind v w
-        → HasFoundChains (suc cells) v w
-    found_chains behind v w j = record { chains = j.chains; found = j.found; few = j.most }
+        → HasFoundChains cells v w
+    found_chains behind v w j = record { chains = j.chains; found = j.found; few = j.most; fewer = j.fewer }
 
     -- the steps are as few as they are to be
     pub few_steps : (behind : Head) (v w : View B) → Joining cells t q way behind v w

@@ -1,5 +1,6 @@
 pub mod TakenTasks
 pub mod LeftTasks
+mod PushRooms
 mod Joining
 mod ParkedViews
 mod Returns
@@ -10,6 +11,7 @@ pub mod EndPoints
 pub mod EndSteps
 pub mod ResultCloses
 pub mod TestRoots
+mod ClosedTasks
 pub mod OwedRecords
 pub mod NothingToCome
 pub mod Prelude

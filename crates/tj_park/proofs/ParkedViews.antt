@@ -8,6 +8,7 @@ use Rattle.tj_words.specs.Calls.ExchangeViews.{MayGoBack}
 use Rattle.tj_words.specs.Calls.LiveViews.{IfRecord, MayLowerLive, SlotsOf, live_lowered, lowered_with}
 use Rattle.tj_words.specs.Calls.ParkSteps.{new_push, with_tokens}
 use Rattle.tj_words.specs.Calls.WaitViews.{MayPark, parked}
+use Rattle.tj_park.specs.Inner.JoinViews.{FindsShutOnce}
 use Rattle.tj_park.specs.ParkViews.{HasFoundChains, MayParkTask, LeftTask, GaveBack}
 use Rattle.tj_park.proofs.LeftTasks.{holds_before, puts_home}
 
@@ -55,7 +56,7 @@ module _ {B : Type 0} where
 
     -- w is the view after the task was added to the chain, or the head found shut
     module _ (w : View B) (looks : LooksOn cells (parked t q way v) w)
-        (few : w.steps ≤ suc v.steps + join_steps cells) (news : HasFoundChains (suc cells) v w) where
+        (few : w.steps ≤ suc v.steps + join_steps cells) (news : HasFoundChains cells v w) where
       knows : KnowsMore v w
       knows = more_on v (parked t q way v) w knows_parked looks.knows
 
@@ -85,9 +86,9 @@ module _ {B : Type 0} where
         }
 
         -- the task is left
-        pub left_task : (m : SeatMe B) (l : SlotsOf B) → HasNoRecord l → m ≡ live_lowered (w, l)
+        pub left_task : w.closed ≡ v.closed → (m : SeatMe B) (l : SlotsOf B) → HasNoRecord l → m ≡ live_lowered (w, l)
             → LeftTask cells t v m.0 × (m.1 ≡ l)
-        left_task m l n e = subst (λ (z : SeatMe B). LeftTask cells t v z.0 × (z.1 ≡ l))
+        left_task closed m l n e = subst (λ (z : SeatMe B). LeftTask cells t v z.0 × (z.1 ≡ l))
             (sym (e ∙ lowered_alone w l n)) (
               record {
                 parked = record {
@@ -103,9 +104,10 @@ module _ {B : Type 0} where
                   plain_loads = looks.plain_loads;
                   once_loads = looks.once_loads;
                   steps = left_steps w.steps v.steps cells few;
-                  pushes = record { chains = news.chains; found = news.found; few = news.few };
+                  pushes = record { chains = news.chains; found = news.found; few = news.few; fewer = news.fewer };
                 };
                 tasks = looks.tasks;
+                closed = closed;
               },
               refl,
             )
@@ -134,8 +136,9 @@ module _ {B : Type 0} where
         without_one next = ap (λ (b : Bool). cond b [] (push_behind t q way next ∷ [])) (eq-eqb t t refl)
 
         -- the task is given back
-        pub gave_back : (x : Rec B) (u : View B) → TakesBack program t q x w u → GaveBack program cells t q x v u
-        gave_back x u b = record {
+        pub gave_back : w.closed ≡ q ∷ v.closed → (x : Rec B) (u : View B) → TakesBack program t q x w u
+            → GaveBack program cells t q x v u
+        gave_back closed x u b = record {
           parked = record {
             knows = more_on v w u knows b.knows;
             all = λ a e c _. subst (λ n. AreCells n u.born) c (b.taken.all a (b.knows.about ∙ (knows.about ∙ e)));
@@ -154,12 +157,18 @@ module _ {B : Type 0} where
             plain_loads = b.plain_loads ∙ looks.plain_loads;
             once_loads = b.once_loads ∙ looks.once_loads;
             steps = back_steps u.steps w.steps v.steps cells few b.steps;
-            pushes = record { chains = news.chains; found = b.found ∙ news.found; few = news.few };
+            pushes = record {
+              chains = news.chains;
+              found = b.found ∙ news.found;
+              few = news.few;
+              fewer = news.fewer;
+            };
           };
           tasks = b.tasks ∙ ap (hold (custody_of x)) looks.tasks;
           taken = b.taken;
           waited = b.waited;
           shut = b.knows.closed q shut.1;
+          closed = b.closed ∙ closed;
           entry = (shut.2.0, b.knows.filled shut.2.0 shut.2.1, shut.2.2);
         }
 
@@ -177,7 +186,8 @@ module _ {B : Type 0} where
       parked_push = ap (λ (z : SeatMe B). z.0.pushes) is_parked ∙ one_push
 
       module _ (same : m3.1 ≡ m2.1) (looks : LooksOn cells m2.0 m3.0) (few : m3.0.steps ≤ m2.0.steps + join_steps cells)
-          (chains : HasFoundChains (suc cells) m2.0 m3.0) (b : Bool) (added : IsAdded t q way b m3.0) where
+          (chains : HasFoundChains cells m2.0 m3.0) (b : Bool) (added : IsAdded t q way b m3.0)
+          (closes : FindsShutOnce q b m2.0 m3.0) where
         pub parked_slots : m3.1 ≡ l
         parked_slots = same ∙ ap (λ (z : SeatMe B). z.1) is_parked
 
@@ -190,11 +200,12 @@ module _ {B : Type 0} where
         in_few : m3.0.steps ≤ suc v.steps + join_steps cells
         in_few = subst (λ (z : SeatMe B). m3.0.steps ≤ z.0.steps + join_steps cells) is_parked few
 
-        news : HasFoundChains (suc cells) v m3.0
+        news : HasFoundChains cells v m3.0
         news = record {
           chains = chains.chains;
           found = chains.found ∙ ap (λ (z : SeatMe B). chains.chains ++ z.0.found) is_parked;
           few = chains.few;
+          fewer = λ a e. chains.fewer a (ap (λ (z : SeatMe B). z.0.about) is_parked ∙ e);
         }
 
         module _ (was_added : b ≡ true) (none : HasNoRecord l) where
@@ -205,7 +216,9 @@ module _ {B : Type 0} where
           parked_lower = subst (MayLowerLive program) (sym joined) (lower_left m3.0 looked in_few news gone l none)
 
           pub parked_left : (m4 : SeatMe B) → m4 ≡ live_lowered m3 → LeftTask cells t v m4.0 × (m4.1 ≡ l)
-          parked_left m4 e = left_task m3.0 looked in_few news gone m4 l none (e ∙ ap live_lowered joined)
+          parked_left m4 e = left_task m3.0 looked in_few news gone
+              (subst (λ z. FindsShutOnce q z m2.0 m3.0) was_added closes
+              ∙ ap (λ (z : SeatMe B). z.0.closed) is_parked) m4 l none (e ∙ ap live_lowered joined)
 
         module _ (was_shut : b ≡ false) where
           stays : IsAdded t q way false m3.0
@@ -216,4 +229,6 @@ module _ {B : Type 0} where
 
           pub parked_back : (x : Rec B) (u : View B) → TakesBack program t q x m3.0 u
               → GaveBack program cells t q x v u
-          parked_back x u back = gave_back m3.0 looked in_few news stays x u back
+          parked_back x u back = gave_back m3.0 looked in_few news stays
+              (subst (λ z. FindsShutOnce q z m2.0 m3.0) was_shut closes
+              ∙ ap (λ (z : SeatMe B). q ∷ z.0.closed) is_parked) x u back

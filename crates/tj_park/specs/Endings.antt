@@ -29,7 +29,7 @@ use Rattle.tj_words.specs.Law.{IsRooted, Rule}
 use Rattle.tj_words.specs.LawParts.Contents.{contents_of, home_of}
 use Rattle.tj_words.specs.SeatViews.KnownEntries.{HasSeen}
 use Rattle.tj_words.specs.SeatViews.KnowsMore.{KnowsMore, HasSameWakes, HasSameHand, HasSameCounts}
-use Rattle.tj_words.specs.Words.Lists.{All, AreApart}
+use Rattle.tj_words.specs.Words.Lists.{All, AreApart, Each}
 use Rattle.tj_words.specs.LawParts.Meaning.{StandsIn}
 use Rattle.tj_words.specs.Steps.StepEvents.{MayAct}
 use Rattle.tj_words.specs.SeatViews.TaskLists.{let_go}
@@ -103,10 +103,14 @@ module _ {B : Type 0} where
     pub says : FinishSays v.born finish ending
     pub result : HasSeen w.filled t (result_of ending)
 
-  -- in each table under the law in which a seat has this view, and in which PHASE of t says that it has ended, a record
-  -- of t lies at home that owns nothing, and owes these cells and no others
+  -- no seat holds the task
+  abbrev pub IsWithNobody : ℕ → List (View B) → Type 0
+  IsWithNobody t views = Each (λ j (v : View B). held_in v.tasks t ≡ None) views
+
+  -- in each table under the law in which a seat has this view, and in which no seat holds t, PHASE says that t has
+  -- ended, and a record of t lies at home that owns nothing, and owes these cells and no others
   abbrev pub OwesAtHome : (Bool → B → Program B) → ℕ → List CellId → View B → Type 0
   OwesAtHome program t owed v = (key : Key B) (s : State (Option (Rec B)) (View B)) → Rule program key s → (id : ℕ)
-      → get_elem? s.views id ≡ some v → (contents_of s).words.phase t ≡ phase.Ended
-      → (r : Rec B) × (home_of (contents_of s) t ≡ Some r) × (r.owned ≡ [])
+      → get_elem? s.views id ≡ some v → IsWithNobody t s.views → ((contents_of s).words.phase t ≡ phase.Ended)
+      × (r : Rec B) × (home_of (contents_of s) t ≡ Some r) × (r.owned ≡ [])
       × ((c : CellId) → IsIn c r.owed ↔ IsIn c owed)

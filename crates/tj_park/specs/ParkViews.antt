@@ -1,5 +1,5 @@
 -- What `park` asks of the seat, and what it makes of it.
-use Rattle.std.specs.Prelude.{◌≡◌, ℕ, suc, ◌+◌, ◌*◌, ◌≤◌, Bool, List, ◌++◌, length, Some}
+use Rattle.std.specs.Prelude.{◌≡◌, ℕ, suc, ◌+◌, ◌*◌, ◌≤◌, Bool, List, ◌∷◌, ◌++◌, length, Some}
 use Rattle.tj_body.specs.Points.{IsIn}
 use Rattle.tj_body.specs.Programs.{Program}
 use Rattle.tj_core.specs.declared.walk.Way.{Way}
@@ -46,14 +46,17 @@ module _ {B : Type 0} where
       pub room : v.cleared + raised_by_way way ≤ v.lot
       pub alarms : AlarmsLeave 0 v
 
-  -- since then the seat has found chains, at most so many, by loads of a head and by pushes that failed
-  pub record HasFoundChains (most : ℕ) (v w : View B) : Type 0 where
+  -- since then the seat has found chains, by loads of a head and by pushes that failed: at most one more than there are
+  -- cells, and no more than cells where the seat is of a table of so many
+  pub record HasFoundChains (cells : ℕ) (v w : View B) : Type 0 where
     pub chains : List Found
     pub found : w.found ≡ chains ++ v.found
-    pub few : length chains ≤ most
+    pub few : length chains ≤ suc cells
+    pub fewer : (a : About B) → v.about ≡ Some a → a.cells ≡ cells → length chains ≤ cells
 
   -- the seat knows more, and has nothing to come; no load was made that is counted. What it knew as the cells of the
-  -- table it knows as these still
+  -- table it knows as these still. A push that fails adds a chain to those found, or its cell to those closed, and the
+  -- one that succeeds is the one that was to come: so with what was closed since these chains count the pushes
   pub record HasParked (cells : ℕ) (v w : View B) : Type 0 where
     pub knows : KnowsMore v w
     pub all : (a : About B) → v.about ≡ Some a → a.cells ≡ cells → AreCells cells v.born → AreCells cells w.born
@@ -63,19 +66,21 @@ module _ {B : Type 0} where
     pub plain_loads : w.plain_loads ≡ v.plain_loads
     pub once_loads : w.once_loads ≡ v.once_loads
     pub steps : w.steps ≤ v.steps + park_steps cells
-    pub pushes : HasFoundChains (suc cells) v w
+    pub pushes : HasFoundChains cells v w
 
-  -- t has left the seat, and stands in the chain of those who wait for q
+  -- t has left the seat, and stands in the chain of those who wait for its cell; no head was found shut since
   pub record LeftTask (cells t : ℕ) (v w : View B) : Type 0 where
     pub parked : HasParked cells v w
     pub tasks : w.tasks ≡ let_go t v.tasks
+    pub closed : w.closed ≡ v.closed
 
-  -- the head of the chain was found shut, so something has become of q; the wait is cleared, and t runs again with the
-  -- seat
+  -- the head of the chain was found shut, once, so something has become of q; the wait is cleared, and t runs again with
+  -- the seat
   pub record GaveBack (program : Bool → B → Program B) (cells t q : ℕ) (r : Rec B) (v w : View B) : Type 0 where
     pub parked : HasParked cells v w
     pub tasks : w.tasks ≡ hold (custody_of r) (let_go t v.tasks)
     pub taken : HasTaken program t r w
     pub waited : WaitsFor r q
     pub shut : IsIn q w.closed
+    pub closed : w.closed ≡ q ∷ v.closed
     pub entry : KnowsEntry q w

@@ -49,7 +49,8 @@ pub fn finish<B: Body, P: Pool, R: Wait>(
     ensures limit { P.limit pool.new ≡ P.limit pool.old }
     ensures ended { OnOk result (HasFinished t.0 rec seat.old.me.0 seat.new.me.0) }
     ensures slots { OnOk result (seat.new.me.1 ≡ rest seat.old.me.1) }
-    // Its record went home with the broken promises as owed, and with nothing owned.
+    // Once no seat holds it, it has ended: its record is home, with the broken promises as owed, and
+    // with nothing owned.
     ensures home { OnOk result (OwesAtHome (program_of B.places B.awaits B.left B.asks B.then) t.0
         (drop 1 rec.owned) seat.new.me.0) }
     // Those who waited for a promise that it owed, or for its result, were woken as `wake` says.

@@ -3,7 +3,7 @@ ghost use Rattle.std.specs.Prelude.{suc, ◌≡◌, ◌+◌, ◌≤◌, [], ◌�
 ghost use Rattle.tj_words.specs.Calls.ParkSteps.{new_push};
 ghost use Rattle.tj_words.specs.SeatViews.SeatSteps.{IsCellOf, IsSameSeat, IsSeatOf};
 ghost use Rattle.tj_park.specs.ParkViews.{HasFoundChains};
-ghost use Rattle.tj_park.specs.Inner.JoinViews.{IsAdded, LooksOn, join_steps};
+ghost use Rattle.tj_park.specs.Inner.JoinViews.{FindsShutOnce, IsAdded, LooksOn, join_steps};
 
 use tj_base::CellId;
 use tj_body::Body;
@@ -24,7 +24,8 @@ pub(crate) fn join_chain<B: Body>(
     requires push { seat.old.me.0.pushes ≡ new_push t.0 q.0 way ∷ [] }
     ensures seat { IsSameSeat seat.old seat.new }
     ensures looks { LooksOn laid.now.cells seat.old.me.0 seat.new.me.0 }
-    ensures pushes { HasFoundChains (suc laid.now.cells) seat.old.me.0 seat.new.me.0 }
+    ensures pushes { HasFoundChains laid.now.cells seat.old.me.0 seat.new.me.0 }
+    ensures closed { FindsShutOnce q.0 result seat.old.me.0 seat.new.me.0 }
     ensures steps { seat.new.me.0.steps ≤ seat.old.me.0.steps + join_steps laid.now.cells }
     ensures added { IsAdded t.0 q.0 way result seat.new.me.0 }
 {

@@ -55,6 +55,11 @@ module _ {B : Type 0} where
   IsAdded t q way false w =
       ((next : Option Head) × (w.pushes ≡ push_behind t q way next ∷ [])) × IsIn q w.closed × KnowsEntry q w
 
+  -- the head of q was found shut once, where t wasn't added to its chain, and else never
+  abbrev pub FindsShutOnce : ℕ → Bool → View B → View B → Type 0
+  FindsShutOnce q true v w = w.closed ≡ v.closed
+  FindsShutOnce q false v w = w.closed ≡ q ∷ v.closed
+
   -- the wait of t for q is cleared, and OTHERS lowered for it; t runs with the seat, which has spent a token
   pub record TakesBack (program : Bool → B → Program B) (t q : ℕ) (r : Rec B) (v w : View B) : Type 0 where
     pub knows : KnowsMore v w
@@ -69,6 +74,7 @@ module _ {B : Type 0} where
     pub plain_loads : w.plain_loads ≡ v.plain_loads
     pub once_loads : w.once_loads ≡ v.once_loads
     pub found : w.found ≡ v.found
+    pub closed : w.closed ≡ v.closed
     pub steps : w.steps ≤ v.steps + 2
     pub taken : HasTaken program t r w
     pub waited : WaitsFor r q

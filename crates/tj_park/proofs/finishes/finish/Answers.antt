@@ -1,5 +1,5 @@
 use Rattle.tj_park.proofs.Prelude.{HasBroken, MayBreak, MayLowerLive, WakesEach, [], ap, drop, lowered_with, numbers}
-use Rattle.tj_park.proofs.Prelude.{program_of, rest, subst, sym, ◌∙◌, ◌≡◌}
+use Rattle.tj_park.proofs.Prelude.{program_of, rest, result_of, subst, sym, ◌∙◌, ◌≡◌}
 use Rattle.tj_park.proofs.EndSteps.{slice_rest, is_cell, may_break, may_close, closed_is, laid_is, may_end_then}
 use Rattle.tj_park.proofs.EndSteps.{ended_is, about_woken, may_wake_then, woke_then, may_lower, has_finished}
 use Rattle.tj_park.proofs.EndSteps.{ended_unnoted, lowered_unnoted, notes_woken, same_slots}
@@ -298,12 +298,12 @@ returns-clause-home g c = let m = c.requires.may in
     let s = m.about.strict in
     let q = m.about.root in
     let written = c.points_in_rounds.ensures.written s q m.rooted in
-    let knows = (returns-clause-ended g c).knows in
+    let done = returns-clause-ended g c in
     owes_at_home program c.args.t.0 c.args.rec c.args.seat.now.me.0 c.live_down.new.seat.me.0 m written
     c.names_and_cells.ensures.elements
     (closes_once (program s q) (c.names_are_apart.ensures s q m.rooted) (c.points_are_good.ensures s q m.rooted)
     (c.history_stops.ensures s) (c.points_in_rounds.ensures.later s q m.rooted))
-    knows.about knows.born
+    done.knows.about done.knows.born (result_of done.ending) done.result
 
 pub returns-in_err-wake-clause-notes : goal.returns-in_err-wake-clause-notes
 returns-in_err-wake-clause-notes g c = let m = c.requires.may in

@@ -23,7 +23,7 @@ live_down-requires-clause-may g c κs within =
     c.slot_swap.new.seat.me c.put_phase.new.seat.me c.join_chain.new.seat.me c.slot_swap.ensures.me
     c.put_phase.ensures.puts c.join_chain.ensures.seat.2 c.join_chain.ensures.looks c.join_chain.ensures.steps
     c.join_chain.ensures.pushes
-    c.join_chain.result c.join_chain.ensures.added c.if-join_chain.true c.requires.others
+    c.join_chain.result c.join_chain.ensures.added c.join_chain.ensures.closed c.if-join_chain.true c.requires.others
 
 pub returns-then-join_chain-clause-left : goal.returns-then-join_chain-clause-left
 returns-then-join_chain-clause-left g c =
@@ -32,7 +32,7 @@ returns-then-join_chain-clause-left g c =
     c.slot_swap.new.seat.me c.put_phase.new.seat.me c.join_chain.new.seat.me c.slot_swap.ensures.me
     c.put_phase.ensures.puts c.join_chain.ensures.seat.2 c.join_chain.ensures.looks c.join_chain.ensures.steps
     c.join_chain.ensures.pushes
-    c.join_chain.result c.join_chain.ensures.added c.if-join_chain.true c.requires.others
+    c.join_chain.result c.join_chain.ensures.added c.join_chain.ensures.closed c.if-join_chain.true c.requires.others
     c.live_down.new.seat.me c.live_down.ensures.me).0
 
 pub returns-then-join_chain-clause-left_slot : goal.returns-then-join_chain-clause-left_slot
@@ -42,7 +42,7 @@ returns-then-join_chain-clause-left_slot g c =
     c.slot_swap.new.seat.me c.put_phase.new.seat.me c.join_chain.new.seat.me c.slot_swap.ensures.me
     c.put_phase.ensures.puts c.join_chain.ensures.seat.2 c.join_chain.ensures.looks c.join_chain.ensures.steps
     c.join_chain.ensures.pushes
-    c.join_chain.result c.join_chain.ensures.added c.if-join_chain.true c.requires.others
+    c.join_chain.result c.join_chain.ensures.added c.join_chain.ensures.closed c.if-join_chain.true c.requires.others
     c.live_down.new.seat.me c.live_down.ensures.me).1
 
 pub take_back-requires-clause-may : goal.take_back-requires-clause-may
@@ -52,7 +52,7 @@ take_back-requires-clause-may g c κs within =
     c.slot_swap.new.seat.me c.put_phase.new.seat.me c.join_chain.new.seat.me c.slot_swap.ensures.me
     c.put_phase.ensures.puts c.join_chain.ensures.seat.2 c.join_chain.ensures.looks c.join_chain.ensures.steps
     c.join_chain.ensures.pushes
-    c.join_chain.result c.join_chain.ensures.added c.if-join_chain.false
+    c.join_chain.result c.join_chain.ensures.added c.join_chain.ensures.closed c.if-join_chain.false
 
 pub returns-clause-back : goal.returns-clause-back
 returns-clause-back g c =
@@ -61,7 +61,7 @@ returns-clause-back g c =
     c.slot_swap.new.seat.me c.put_phase.new.seat.me c.join_chain.new.seat.me c.slot_swap.ensures.me
     c.put_phase.ensures.puts c.join_chain.ensures.seat.2 c.join_chain.ensures.looks c.join_chain.ensures.steps
     c.join_chain.ensures.pushes
-    c.join_chain.result c.join_chain.ensures.added c.if-join_chain.false c.take_back.result c.take_back.new.seat.me.0
+    c.join_chain.result c.join_chain.ensures.added c.join_chain.ensures.closed c.if-join_chain.false c.take_back.result c.take_back.new.seat.me.0
     c.take_back.ensures.takes
 
 pub returns-clause-back_slot : goal.returns-clause-back_slot
@@ -72,4 +72,4 @@ returns-clause-back_slot g c =
     c.slot_swap.new.seat.me c.put_phase.new.seat.me c.join_chain.new.seat.me c.slot_swap.ensures.me
     c.put_phase.ensures.puts c.join_chain.ensures.seat.2 c.join_chain.ensures.looks c.join_chain.ensures.steps
     c.join_chain.ensures.pushes
-    c.join_chain.result c.join_chain.ensures.added)
+    c.join_chain.result c.join_chain.ensures.added c.join_chain.ensures.closed)
