@@ -10,14 +10,14 @@ use std::alloc::{AllocError, Global};
 pub const MAX_CORE_CELLS: u32 = 1024;
 
 /// The birth of a cell other than the root.
-#[derive(Clone, Copy, Debug)]
+#[derive(Clone, Copy)]
 pub(crate) struct Birth {
     pub(crate) maker: u32,
     pub(crate) number: u32,
 }
 
 /// The births of a run in order, with room for a given number of cells. The root has none.
-#[derive(Debug, Drop)]
+#[derive(Drop)]
 pub(crate) struct Births {
     pub(crate) births: Vec<Birth>,
     /// How many things each cell has made.

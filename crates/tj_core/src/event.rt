@@ -2,7 +2,7 @@
 use tj_base::CellId;
 
 /// One atomic action.
-#[derive(Clone, Copy, Debug, PartialEq, Eq)]
+#[derive(Clone, Copy)]
 pub enum Event {
     /// The task makes a promise, which it owns.
     Make(CellId),

@@ -17,7 +17,7 @@ use std::alloc::Global;
 use tj_base::{ByteList, CellId, Oom, add_number};
 
 /// The text of judging, and whether an event was illegal or an alarm.
-#[derive(Debug, PartialEq, Eq, Drop)]
+#[derive(Drop)]
 pub struct Judged {
     pub text: ByteList,
     pub marked: bool,

@@ -11,7 +11,7 @@ use std::alloc::Global;
 use tj_base::{CellId, Oom};
 
 /// The machine.
-#[derive(Debug, Drop)]
+#[derive(Drop)]
 pub(crate) struct Machine {
     pub(crate) births: Births,
     pub(crate) owners: Owners,

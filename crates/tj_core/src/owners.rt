@@ -8,7 +8,7 @@ use crate::births::MAX_CORE_CELLS;
 use std::alloc::{AllocError, Global};
 
 /// The owners of a given number of cells.
-#[derive(Debug, Drop)]
+#[derive(Drop)]
 pub(crate) struct Owners {
     pub(crate) owners: Vec<Option<u32>>,
     counts: Vec<u32>,

@@ -10,7 +10,7 @@ use std::alloc::Global;
 use tj_base::{CellId, Oom};
 
 /// A run of the core, from the root alone on. It accepts exactly the allowed events.
-#[derive(Debug, Drop)]
+#[derive(Drop)]
 pub struct Core {
     machine: Machine,
     applied: u64,

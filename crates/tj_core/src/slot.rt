@@ -14,7 +14,7 @@ use crate::walk_step::WalkStep;
 use std::alloc::{AllocError, Global};
 
 /// A slot. Its trail has room for as many owners as its walk may pass.
-#[derive(Debug, Drop)]
+#[derive(Drop)]
 pub(crate) struct Slot {
     pub(crate) stage: SlotStage,
     pub(crate) bound: u32,

@@ -3,7 +3,7 @@
 use crate::walk::{LastRead, Way};
 
 /// What a task that waits does.
-#[derive(Clone, Copy, Debug)]
+#[derive(Clone, Copy)]
 pub(crate) enum Progress {
     Walking(LastRead),
     Parked,
@@ -11,7 +11,7 @@ pub(crate) enum Progress {
 }
 
 /// What a cell is, and what its task does. A cell that isn't there is a promise.
-#[derive(Clone, Copy, Debug)]
+#[derive(Clone, Copy)]
 pub(crate) enum SlotStage {
     Promise,
     Fresh,

@@ -18,5 +18,5 @@ pub enum Stage {
 }
 
 /// The event isn't allowed.
-#[derive(Clone, Copy, Debug, PartialEq, Eq)]
+#[derive(Clone, Copy)]
 pub struct Illegal;

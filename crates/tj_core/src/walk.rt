@@ -13,7 +13,7 @@ pub enum Way {
 }
 
 /// What the last event of a walker did.
-#[derive(Clone, Copy, Debug, PartialEq, Eq)]
+#[derive(Clone, Copy, PartialEq, Eq)]
 pub enum LastRead {
     /// It published the wait.
     Published,
@@ -32,7 +32,7 @@ pub enum LastRead {
 }
 
 /// An owner that a walk has passed, and the cell that this owner waited for.
-#[derive(Clone, Copy, Debug, PartialEq, Eq)]
+#[derive(Clone, Copy)]
 pub struct TrailLink {
     pub owner: u32,
     pub next: u32,

@@ -1,7 +1,7 @@
 //! One step of a walk, with what it reads: an event of a walker.
 
 /// A step of a walk.
-#[derive(Clone, Copy, Debug)]
+#[derive(Clone, Copy)]
 pub(crate) enum WalkStep {
     /// It reads OTHERS.
     Others(u64),
