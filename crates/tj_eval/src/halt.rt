@@ -2,7 +2,7 @@
 use std::alloc::{AllocError, AllocFailed};
 use tj_base::{Oom, Trouble};
 
-#[derive(Debug, Drop)]
+#[derive(Drop)]
 pub(crate) enum Halt {
     Fault(Trouble),
     Memory,

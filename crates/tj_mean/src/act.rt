@@ -2,7 +2,7 @@
 use tj_base::{Items, Name};
 
 /// What a task does with another.
-#[derive(Debug, PartialEq, Eq, Drop)]
+#[derive(Drop)]
 pub enum Act {
     /// It forks the task with this name.
     Fork(Name),
@@ -14,7 +14,7 @@ pub enum Act {
 pub type ActList = Items<Act>;
 
 /// A task with all its acts.
-#[derive(Debug, PartialEq, Eq, Drop)]
+#[derive(Drop)]
 pub struct ActLine {
     pub name: Name,
     pub acts: ActList,

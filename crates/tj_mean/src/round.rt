@@ -11,7 +11,7 @@ use tj_base::{Items, Name, Oom};
 use tj_body::{Body, Task};
 
 /// A task that is still to be taken.
-#[derive(Debug, Drop)]
+#[derive(Drop)]
 pub struct Pending<B> {
     pub task: Task<B>,
     /// How many forks after one another the round follows from it.

@@ -10,7 +10,7 @@ use tj_base::{NameList, Oom, Shown};
 use tj_body::{Body, Close, Point, PointStage, Value};
 
 /// A task whose history has stopped.
-#[derive(Debug, Drop)]
+#[derive(Drop)]
 pub struct Stopped {
     pub line: TaskLine,
     /// The promises that it holds where it waits.
@@ -18,7 +18,7 @@ pub struct Stopped {
 }
 
 /// A task whose history has stopped, with what its body is then.
-#[derive(Debug, Drop)]
+#[derive(Drop)]
 pub struct StoppedBody<B> {
     pub told: Stopped,
     pub body: B,
