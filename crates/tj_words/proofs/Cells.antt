@@ -3,7 +3,6 @@ pub mod SeatHands
 pub mod CellFacts
 pub mod CellNames
 pub mod MadeThings
-pub mod DrawnSeats
 pub mod DrawnTasks
 pub mod TreeDraws
 pub mod DrawnCells

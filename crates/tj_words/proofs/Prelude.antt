@@ -126,8 +126,8 @@ pub use Rattle.tj_words.specs.Steps.OwnerSteps.{HandsPromise, draw_event, next_r
 pub use Rattle.tj_words.specs.Steps.QuietSteps.{ChangesHead, ChangesLive, ChangesNext, ChangesStop, ClaimsTask}
 pub use Rattle.tj_words.specs.Steps.QuietSteps.{DrawIsRefused, EndsTask, KeepsHoldings, LoadsOnly, MarksPromise}
 pub use Rattle.tj_words.specs.Steps.QuietSteps.{MovesRecord, ReleasesTask, ShelvesTask, StoresOnce, does_first}
-pub use Rattle.tj_words.specs.Steps.ShownParts.{IsSameBut, IsSameButOwner, Parts, cell_by, parts_of, shown_by}
-pub use Rattle.tj_words.specs.Steps.StepEvents.{IsBegun, IsHeldWith, IsMoved, IsQuiet, IsTurned, MayAct, ShowsEvent}
+pub use Rattle.tj_words.specs.Steps.ShownParts.{Parts, cell_by, parts_of, shown_by}
+pub use Rattle.tj_words.specs.Steps.StepEvents.{IsBegun, IsHeldWith, IsMoved, IsQuiet, MayAct, ShowsEvent}
 pub use Rattle.tj_words.specs.Steps.StepEvents.{ShowsNothing, wait_in}
 pub use Rattle.tj_words.specs.Steps.TableRuns.{AreSteps, IsStep, Under, events_of, last_of, state_of}
 pub use Rattle.tj_words.specs.Steps.WalkSteps.{ClearsWait, KeepsOthers, Leaves, LowersOthers, MayWait, Proceeds}

@@ -1,17 +1,17 @@
 -- A draw that finds a cell is a change of the law of steps, and leaves makers and numbers of the cells that were drawn
 -- before.
-use Rattle.tj_words.proofs.Prelude.{Bool, Contents, DrawsCell, FindsCell, Hand, Keeping, KeepsCells, Key, Law}
-use Rattle.tj_words.proofs.Prelude.{MakesWith, MayDraw, Option, Program, Rec, Rule, SeatMe, Sort, State, View, ap}
-use Rattle.tj_words.proofs.Prelude.{arith, at_map, contents_of, count_at, drawn_in, drew, homes_after, inl, new_hand}
-use Rattle.tj_words.proofs.Prelude.{refl, seats_have, set_again, some, suc, sym, takes_new, total, word, ℕ, ◌<◌, ◌∙◌}
-use Rattle.tj_words.proofs.Prelude.{◌≡◌}
+use Rattle.tj_words.proofs.Prelude.{Bool, Contents, DrawsCell, FindsCell, Hand, Keeping, KeepsCells, Key, Law, List}
+use Rattle.tj_words.proofs.Prelude.{MakesWith, MayDraw, Option, Program, Rec, Reference, Rule, SeatMe, Sort, State}
+use Rattle.tj_words.proofs.Prelude.{View, [], ap, arith, contents_of, count_at, drawn_in, drew, homes_after, inl}
+use Rattle.tj_words.proofs.Prelude.{new_hand, refl, suc, sym, takes_new, word, ℕ, ◌++◌, ◌<◌, ◌∙◌, ◌∷◌, ◌≡◌}
 use Rattle.tj_words.proofs.Events.DrawEvents.{drawn_into, may_draw}
-use Rattle.tj_words.proofs.Cells.DrawnCells.{draws_in}
 use Rattle.tj_words.proofs.Cells.DrawnTasks.{slots_after}
 use Rattle.tj_words.proofs.Holders.HeldTasks.{hand_found}
 use Rattle.tj_words.proofs.Stores.SeatLists.{back}
 use Rattle.tj_words.proofs.Stores.StepContents.{call_stores_with, stored_with}
 use Rattle.tj_words.proofs.Stores.TableWords.{Count}
+use Rattle.tj_words.proofs.Cells.DrawSteps.{after_draw, draw_path, after_draws}
+use Rattle.tj_words.specs.Calls.DrawViews.{drawn_next}
 use Rattle.tj_base.specs.declared.cell.Sort.TheVariants as sort
 use Rattle.tj_words.specs.declared.offsets.Once.TheVariants as once
 
@@ -21,14 +21,14 @@ draw_keeps : {B : Type 0} {program : Program B} {cells : ℕ} {x : Contents B} (
     (id t : ℕ) (h : Hand) → DrawsCell cells x y id t h → y.words.once ≡ x.words.once → KeepsCells cells x y
 draw_keeps {cells = cells} {x = x} r y id t h s words = record {
   there = λ d i. record {
-    out = s.same.hands d (λ e. let l = i.0 in omega arith) ∙ i.1;
+    out = (drawn_into r y id t h s).else d (λ e. let l = i.0 in omega arith) ∙ i.1;
     parent_is = ap (λ z. z d once.Parent) words;
     kid_is = ap (λ z. z d once.Kid) words;
   };
   hands = λ d g e. let f = hand_found x.seats.hands d g e in let l = (r.hands.each f.0.0 g f.0.1).drawn_cell in
       let q = f.1 in let calm = (may_draw r y id t h s).calm d g e in inl (record {
         hand = g;
-        in_hand = s.same.hands d (λ z. omega arith) ∙ e;
+        in_hand = (drawn_into r y id t h s).else d (λ z. omega arith) ∙ e;
         maker_is = refl;
         made_is = (drawn_into r y id t h s).made_else g.maker calm.0 calm.1;
       });
@@ -52,31 +52,30 @@ module _ {B : Type 0} (program : Bool → B → Program B) (key : Key B) (s t : 
   call_draws h found next left finds may = back
       (λ j. Keeping key.cells x (leaves j) (DrawsCell key.cells x (leaves j) id u (new_hand (same j) u o))) (
         change,
-        draw_keeps r.law after id u (new_hand (drawn_in key.cells x) u o) change refl,
+        draw_keeps r.law after id u (new_hand d u o) change refl,
       )
     where
       v : View B
       v = m.0
 
-      same : c ≡ drawn_in key.cells x
+      d : ℕ
+      d = drawn_in key.cells x
+
+      same : c ≡ d
       same = omega (arith, found, left)
 
-      -- what the draw leaves
+      now : List Reference
+      now = finds.born ++ drawn_next u o v ∷ []
+
       after : Contents B
-      after = stored_with s id Count n (slots_after (drawn_in key.cells x) o s.homes)
-          (drew (drawn_in key.cells x) u o finds.born v)
+      after = after_draw program key s r id u o v h.at may left now
 
       leaves : y ≡ after
-      leaves = call_stores_with s t id Count n m m' (takes_new B c o) h (slots_after (drawn_in key.cells x) o s.homes)
-          (slots_now o ∙ ap (λ k. slots_after k o s.homes) same) (drew (drawn_in key.cells x) u o finds.born v)
+      leaves = call_stores_with s t id Count n m m' (takes_new B c o) h (slots_after d o s.homes)
+          (slots_now o ∙ ap (λ k. slots_after k o s.homes) same) (drew d u o finds.born v)
           (finds.view ∙ ap (λ k. drew k u o finds.born v) (found ∙ same))
+          ∙ (ap (λ k. stored_with s id Count k (slots_after d o s.homes) (drew d u o finds.born v))
+          (next ∙ ap suc (sym found)) ∙ draw_path program key s r id u o v h.at may left now)
 
-      change : DrawsCell key.cells x after id u (new_hand (drawn_in key.cells x) u o)
-      change = draws_in r.law id u o v.tasks v.dues may.has (at_map (λ (w : View B). w.tasks) s.views id v h.at)
-          (at_map (λ (w : View B). w.dues) s.views id v h.at) may.held may.may may.result may.out
-          (at_map (λ (w : View B). w.hand) s.views id v h.at ∙ ap (λ (z : Option Hand). some z) may.no_hand) left
-          after refl refl refl (record {
-            others = refl;
-            cleared = ap total (set_again (seats_have s.views).cleared id v.cleared
-                (at_map (λ (w : View B). w.cleared) s.views id v h.at));
-          }) (next ∙ ap suc (sym found)) refl refl
+      change : DrawsCell key.cells x after id u (new_hand d u o)
+      change = after_draws program key s r id u o v h.at may left now

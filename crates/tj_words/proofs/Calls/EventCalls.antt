@@ -19,7 +19,7 @@ use Rattle.tj_words.proofs.Holders.NotedTasks.{noted_is}
 use Rattle.tj_words.proofs.Stores.StoredWords.{say_others}
 use Rattle.tj_words.proofs.Phases.WaitStores.{after_store, alarms, noted_path, noted_view, publishes}
 use Rattle.tj_words.proofs.Stores.StepContents.{step_stores}
-use Rattle.tj_words.proofs.Calls.KeptCells.{kept_turns, kept_words}
+use Rattle.tj_words.proofs.Calls.KeptCells.{kept_moved, kept_words}
 use Rattle.tj_words.specs.declared.view.Does.TheVariants as does
 use Rattle.tj_words.specs.declared.phase.Phase.TheVariants as phase
 use Rattle.tj_words.specs.declared.phase.Walk.TheVariants as walk
@@ -96,7 +96,7 @@ module _ {B : Type 0} (program : Bool → B → Program B) (key : Key B) (s t : 
           others = refl;
           cleared = refl;
         },
-        kept_turns r.law (turned_to (contents_of s) id c k has does.Raised n) id c k.does does.Raised turns refl,
+        kept_moved key.cells (contents_of s) (turned_to (contents_of s) id c k has does.Raised n) turns.turned refl,
       ))
 
   -- the subtraction from OTHERS
@@ -155,7 +155,7 @@ module _ {B : Type 0} (program : Bool → B → Program B) (key : Key B) (s t : 
                 refl refl;
           };
         },
-        kept_turns r.law (contents_of t) id c d d' turns
+        kept_moved key.cells (contents_of s) (contents_of t) turns.turned
             (call_once program key s t r id i n m m' h o say c (walk_with g) view w.task w.held d d' w.does refl refl),
       )
 
@@ -186,7 +186,7 @@ module _ {B : Type 0} (program : Bool → B → Program B) (key : Key B) (s t : 
       (PublishesWait key.cells (contents_of s) z id c r.law.born k.does p way))
       (sym (call_notes k may.held d m.0.tokens is (ap (λ (z : SeatMe B). z.0) view
       ∙ ap (λ l. record m.0 { steps = suc m.0.steps; tasks = l }) (noted_is m.0.tasks c k (now_does d) may.held))))
-      (change, kept_turns r.law now id c k.does d change.turns.turns refl)
+      (change, kept_moved key.cells (contents_of s) now change.turns.turns.turned refl)
 
   pub call_alarms : phase_in n ≡ phase.Waiting (cell p) way walk.Alarmed → (may : MayStoreAlarm c p way m.0)
       → m' ≡ (alarmed c p way m.0, m.1)
@@ -201,4 +201,4 @@ module _ {B : Type 0} (program : Bool → B → Program B) (key : Key B) (s t : 
       ∙ ap (λ l. record m.0 { steps = suc m.0.steps; tokens = suc m.0.tokens; tasks = l })
       (noted_is m.0.tasks c k (now_alarmed p way) may.walks.held
       ∙ ap (λ z. hold (record k { does = does.Alarmed p way (does_walk z) }) m.0.tasks) may.walks.walks))))
-      (change, kept_turns r.law now id c (does.Walking p way may.walks.walker) d change.turns refl)
+      (change, kept_moved key.cells (contents_of s) now change.turns.turned refl)

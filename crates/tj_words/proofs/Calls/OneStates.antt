@@ -1,13 +1,13 @@
 -- The core state that is shown is one: makers, numbers and names are those that words and hands tell.
-use Rattle.tj_words.proofs.Prelude.{CellState, Contents, DrawsCell, Hand, Law, List, Name, None, Option, Program}
-use Rattle.tj_words.proofs.Prelude.{Reference, Some, [], ap, arith, child, core_shown, dec_le, dite, drawn_in, get_or}
-use Rattle.tj_words.proofs.Prelude.{hand_of, held_of, home_of, inl, made_of, next_reference, owner_shown, parts_of, put}
+use Rattle.tj_words.proofs.Prelude.{CellState, Contents, DrawsCell, Hand, Law, List, Name, None, Option, Parts, Program}
+use Rattle.tj_words.proofs.Prelude.{Reference, Some, [], ap, arith, child, core_shown, dite, drawn_in, get_or, hand_of}
+use Rattle.tj_words.proofs.Prelude.{held_of, home_of, inl, made_of, next_reference, owner_shown, parts_of, put}
 use Rattle.tj_words.proofs.Prelude.{put_else, put_here, reference_of, refl, some-injective, stage_shown, subst, suc}
 use Rattle.tj_words.proofs.Prelude.{sym, to_task, zero, ℕ, ℕ_discrete, ⊎_elim, ◌++◌, ◌<◌, ◌∙◌, ◌∷◌, ◌≡◌, ◌≢◌, ◌≤◌}
 use Rattle.tj_words.specs.Steps.OneStates.{IsToldBy, IsInHandOf, KeepsCells}
 use Rattle.tj_words.proofs.Cells.CellFacts.{cell_born}
-use Rattle.tj_words.proofs.Events.DrawEvents.{before_or, last_or, made_t, t_there}
-use Rattle.tj_words.proofs.Events.ShownCells.{cell_blank, cell_there, states_same}
+use Rattle.tj_words.proofs.Events.DrawEvents.{before_or, last_or, t_there, drawn_into}
+use Rattle.tj_words.proofs.Events.ShownCells.{cell_blank, cell_there, shown_is}
 use Rattle.tj_words.specs.declared.offsets.Once.TheVariants as once
 
 abbrev name_in : List Reference → ℕ → Name
@@ -105,22 +105,15 @@ module _ {B : Type 0} {program : Program B} {cells : ℕ} {x y : Contents B} (r 
       → ((c : ℕ) → c < drawn_in cells y → s.maker c ≡ made_by_whom c)
       → ((c : ℕ) → c < drawn_in cells y → name_in s.born c ≡ name_in born c)
       → core_shown cells s.born s.maker y ≡ core_shown cells born made_by_whom y
-  shown_with born whom m q = states_same (core_shown cells s.born s.maker y) (core_shown cells born whom y) refl same
-      refl refl
-    where
-      same : (c : ℕ)
-          → (core_shown cells s.born s.maker y).cells c ≡ (core_shown cells born whom y).cells c
-      same c = dite (dec_le (drawn_in cells y) c)
-          (λ l. cell_blank s.born s.maker (parts_of cells y) c l ∙ sym (cell_blank born whom (parts_of cells y) c l))
-          (λ f. let l : c < drawn_in cells y = omega (arith, f) in
-          cell_there s.born s.maker (parts_of cells y) c l
-          ∙ ((λ j. record {
-            maker = m c l j;
-            name = q c l j;
-            made = made_of y c;
-            owner = owner_shown c (hand_of y c) (y.words.own c);
-            stage = stage_shown c (hand_of y c) (y.words.own c) (y.words.phase c) (held_of y c) (home_of y c);
-          }) ∙ sym (cell_there born whom (parts_of cells y) c l)))
+  shown_with born whom m q = shown_is s.born s.maker (parts_of cells y) (core_shown cells born whom y) refl
+      (λ c l. (λ j. record {
+        maker = m c l j;
+        name = q c l j;
+        made = made_of y c;
+        owner = owner_shown c (hand_of y c) (y.words.own c);
+        stage = stage_shown c (hand_of y c) (y.words.own c) (y.words.phase c) (held_of y c) (home_of y c);
+      }) ∙ sym (cell_there born whom (parts_of cells y) c l))
+      (λ c l. cell_blank born whom (parts_of cells y) c l) refl refl
 
   pub chained : drawn_in cells y ≡ drawn_in cells x
       → core_shown cells s.born s.maker y ≡ core_shown cells r.born r.maker y
@@ -140,16 +133,17 @@ module _ {B : Type 0} {program : Program B} {cells : ℕ} {x y : Contents B} (r 
     born_then = r.born ++ next_reference r.born t (made_of x t) h.sort ∷ []
 
     one_more : drawn_in cells y ≡ suc next
-    one_more = d.same.drawn
+    one_more = ap (λ (z : Parts B). z.drawn) d.parts
 
     t_inside : t < next
     t_inside = (t_there r y id t h d).0
 
     next_maker : s.maker next ≡ t
-    next_maker = (s.births.in_hand next h d.same.hand).0 ∙ d.hand_maker
+    next_maker = (s.births.in_hand next h (drawn_into r y id t h d).here).0 ∙ d.hand_maker
 
     next_number : s.number next ≡ suc (made_of x t)
-    next_number = (s.births.in_hand next h d.same.hand).1 ∙ (ap (made_of y) d.hand_maker ∙ made_t r y id t h d)
+    next_number = let e = drawn_into r y id t h d in
+        (s.births.in_hand next h e.here).1 ∙ (e.made_one ∙ ap (λ m. suc (made_of x m)) d.hand_maker)
 
     next_name : name_in s.born next ≡ new.name
     next_name = name_by s next (λ z. let l = r.facts.makers.root_there in absurd (omega arith))

@@ -1,6 +1,6 @@
 -- The steps of a table, one after the other, are a run of the core: each is one event or none, and what it leaves is
 -- what the next moment shows.
-use Rattle.tj_words.proofs.Prelude.{AreSteps, Bool, CoreState, DrawsCell, Event, Hand, IsStep, List, Program}
+use Rattle.tj_words.proofs.Prelude.{AreSteps, Bool, CoreState, DrawsCell, Event, Hand, IsStep, List, Parts, Program}
 use Rattle.tj_words.proofs.Prelude.{ShowsEvent, ShowsNothing, Under, [], after, after_all, ap, arith, contents_of}
 use Rattle.tj_words.proofs.Prelude.{core_shown, draw_event, drawn_in, events_of, first_slots, first_view, first_words}
 use Rattle.tj_words.proofs.Prelude.{last_of, map, min, opening, reference_of, refl, root_alone, seats_have, some}
@@ -42,7 +42,7 @@ module _ {B : Type 0} (program : Program B) (cells : ℕ) where
       subst (Goes u w) (sym q.1) ((q.2.allowed, tt), next ∙ q.2.shown)) s.1)
       (λ (d : (id : ℕ) × (t : ℕ) × (h : Hand) × (es ≡ draw_event h.sort t ∷ [])
       × DrawsCell cells u.now w.now id t h).
-      let shows = draw_shown u.law w.now d.0 d.1 d.2 d.4 in let more = d.4.same.drawn in
+      let shows = draw_shown u.law w.now d.0 d.1 d.2 d.4 in let more = ap (λ (z : Parts B). z.drawn) d.4.parts in
       subst (Goes u w) (sym d.3) (
         (shows.allowed, tt),
         drawn_chained u.law w.law step.keeps (omega arith) d.0 d.1 d.2 d.4 ∙ shows.shown,

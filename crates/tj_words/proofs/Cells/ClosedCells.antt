@@ -1,12 +1,12 @@
 -- A cell is closed: nobody owns it from now on, and its TAG and BITS are due to the seat of its owner.
 use Rattle.tj_words.proofs.Prelude.{ActsOn, All, AreApart, Bool, ClosesPromise, ClosesResult, Contents, CoreFacts}
-use Rattle.tj_words.proofs.Prelude.{Custody, Due, EventKeepsFacts, Hand, IsDue, IsHeldWith, IsIn, IsOfTree}
-use Rattle.tj_words.proofs.Prelude.{IsSameButOwner, IsThere, KeepsCells, Law, List, MayAct, None, OfSeat, Once}
-use Rattle.tj_words.proofs.Prelude.{OnceWords, Option, Phase, Program, SeenWord, Some, WaitersOwn, [], ap, arith, cond}
-use Rattle.tj_words.proofs.Prelude.{core_shown, dite, drawn_in, eq-eqb, gave_up, get_elem?, hand_of, hold, home_of, inl}
-use Rattle.tj_words.proofs.Prelude.{inr, is_task_sort, made_of, nat_eq, ne_eqb, owned_by, owned_of, parts_of}
-use Rattle.tj_words.proofs.Prelude.{phase_sort, put, refl, set, some, subst, sym, without, ℕ, ℕ_discrete, ⊎_elim, ◌↔◌}
-use Rattle.tj_words.proofs.Prelude.{◌∙◌, ◌∷◌, ◌≡◌, ◌≢◌, ◌⊎◌}
+use Rattle.tj_words.proofs.Prelude.{Custody, Due, EventKeepsFacts, Hand, IsDue, IsHeldWith, IsIn, IsOfTree, IsThere}
+use Rattle.tj_words.proofs.Prelude.{KeepsCells, Law, List, MayAct, None, OfSeat, Once, OnceWords, Option, Phase}
+use Rattle.tj_words.proofs.Prelude.{Program, SeenWord, Some, WaitersOwn, [], ap, arith, cond, core_shown, dite}
+use Rattle.tj_words.proofs.Prelude.{drawn_in, eq-eqb, gave_up, get_elem?, hand_of, hold, home_of, inl, inr}
+use Rattle.tj_words.proofs.Prelude.{is_task_sort, made_of, nat_eq, ne_eqb, owned_by, owned_of, parts_of, phase_sort}
+use Rattle.tj_words.proofs.Prelude.{put, refl, set, some, subst, sym, without, ℕ, ℕ_discrete, ⊎_elim, ◌↔◌, ◌∙◌, ◌∷◌}
+use Rattle.tj_words.proofs.Prelude.{◌≡◌, ◌≢◌, ◌⊎◌}
 use Rattle.tj_words.proofs.Stores.LawChanges.{law_owners}
 use Rattle.tj_words.proofs.Stores.SeatLists.{each_else, of_seat_here, of_seat_set}
 use Rattle.tj_words.proofs.Holders.HeldTasks.{none_some, one_some}
@@ -17,10 +17,12 @@ use Rattle.tj_words.proofs.Waiters.ChainLists.{of_without, apart_without}
 use Rattle.tj_words.proofs.Waiters.ChainHeads.{in_without}
 use Rattle.tj_words.proofs.Holders.TaskPlaces.{custody, held_here, list_owned}
 use Rattle.tj_words.proofs.Holders.HeldChanges.{find_here, find_else, made_held, hands_held, walks_held, custody_held}
+use Rattle.tj_words.proofs.Holders.HeldChanges.{found_held}
 use Rattle.tj_words.proofs.Cells.OwnedChanges.{owned_changed}
 use Rattle.tj_words.proofs.Events.OwnerEvents.{acts_phase, close_shown, end_shown}
 use Rattle.tj_words.proofs.Events.StepFacts.{facts_after}
 use Rattle.tj_words.proofs.Calls.KeptCells.{kept_words}
+use Rattle.tj_words.specs.Steps.ShownParts.{owned_parts}
 use Rattle.tj_base.specs.declared.cell.Sort.TheVariants as sort
 use Rattle.tj_words.specs.declared.offsets.Once.TheVariants as once
 use Rattle.tj_words.specs.declared.phase.Phase.TheVariants as phase
@@ -206,20 +208,19 @@ module _ {B : Type 0} {program : Program B} {cells : ℕ} {x : Contents B} (r : 
     pub owned_here : IsThere n (hand_of x) c × (x.words.own c ≡ Some t)
     owned_here = list_owned r id t k h c owns
 
-    abbrev acts : ActsOn cells x closed id t
+    abbrev acts : ActsOn x id t
     acts = record {
       before_it = k;
       after_it = k';
       held = h;
       may = may;
       result = result;
-      held_now = find_here r id t k k' h its;
       runs = refl;
       made = refl;
     }
 
     runs : x.words.phase t ≡ phase.Running
-    runs = acts_phase r closed id t acts
+    runs = acts_phase r id t acts
 
     -- what the task owns from now on, and each other
     owned_t : owned_of closed t ≡ without c k.owned
@@ -263,15 +264,10 @@ module _ {B : Type 0} {program : Program B} {cells : ℕ} {x : Contents B} (r : 
         = sym (owned_promise c t owned_here.0 owned_here.1 s) ∙ e' in absurd (cc)))
         (λ m. r.waiters_own u p way w e (sym (put_else x.words.own c u None m) ∙ z))
 
-    same : IsSameButOwner c t t (parts_of cells x) (parts_of cells closed)
-    same = record {
-      drawn = refl;
-      hand = refl;
-      making = refl;
-      owns = λ d q. put_else x.words.own c d None q;
-      phase = refl;
-      helds = λ d q s. find_else r id t k k' h its d q;
-      home = refl;
+    same : parts_of cells closed ≡ owned_parts (parts_of cells x) c None t (Some k')
+    same = λ j. record (parts_of cells x) {
+      own = put x.words.own c None;
+      held = found_held r id t k k' h its j;
     }
 
     -- the task has closed a promise, or its result
@@ -280,9 +276,7 @@ module _ {B : Type 0} {program : Program B} {cells : ℕ} {x : Contents B} (r : 
       acts = acts;
       owned = owns;
       promise = owned_promise c t owned_here.0 owned_here.1 q;
-      free = put_here x.words.own c c None refl;
-      same = same;
-      keeps = record { others = refl; cleared = refl };
+      parts = same;
     }
 
     pub closes_own : c ≡ t → ClosesResult cells x closed id t
@@ -290,9 +284,7 @@ module _ {B : Type 0} {program : Program B} {cells : ℕ} {x : Contents B} (r : 
       acts = acts;
       alone = λ d i. ⊎_elim (λ q. q ∙ e) (λ i. absurd i) (subst (IsIn d) (last e).0 i);
       no_hand = (last e).1;
-      free = put_here x.words.own c t None (sym e);
-      same = subst (λ z. IsSameButOwner z t t (parts_of cells x) (parts_of cells closed)) e same;
-      keeps = record { others = refl; cleared = refl };
+      parts = same ∙ ap (λ z. owned_parts (parts_of cells x) z None t (Some k')) e;
     }
 
     facts : EventKeepsFacts → CoreFacts (core_shown cells r.born r.maker closed)

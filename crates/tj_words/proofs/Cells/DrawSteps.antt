@@ -1,13 +1,14 @@
 -- A draw keeps the rule, whether it finds a cell left or not.
-use Rattle.tj_words.proofs.Prelude.{About, Allows, AreCells, Bool, Contents, Custody, EventKeepsFacts, FindsCell, Hand}
-use Rattle.tj_words.proofs.Prelude.{HasAlarmed, Holds, InRounds, IsFull, IsFullWhere, IsRooted, Key, MayDraw, None}
-use Rattle.tj_words.proofs.Prelude.{Option, Program, Rec, Reference, Rule, SeatMe, Some, Sort, State, View, [], ap}
-use Rattle.tj_words.proofs.Prelude.{arith, at_longer, at_map, child, cond, contents_of, count_at, dec_le, dite}
-use Rattle.tj_words.proofs.Prelude.{draw_step, drawn_in, drew, eq-eqb, get_elem?, held_in, held_of, home_of, inl, inr}
-use Rattle.tj_words.proofs.Prelude.{length, length-set, made_by, made_of, making, min, ne_eqb, new_task, new_tasks}
-use Rattle.tj_words.proofs.Prelude.{next_reference, none, noted, reference_of, refl, runs_on, seats_have, set}
-use Rattle.tj_words.proofs.Prelude.{set_again, some, some-injective, step, subst, suc, sym, to_task, total, word}
-use Rattle.tj_words.proofs.Prelude.{words_say, ℕ, ℕ_discrete, ⊎_elim, ◌%◌, ◌++◌, ◌+◌, ◌<◌, ◌^◌, ◌∙◌, ◌∷◌, ◌≡◌, ◌≤◌, ◌⊎◌}
+use Rattle.tj_words.proofs.Prelude.{About, Allows, AreCells, Bool, Contents, Custody, DrawsCell, EventKeepsFacts}
+use Rattle.tj_words.proofs.Prelude.{FindsCell, Hand, HasAlarmed, Holds, InRounds, IsFull, IsFullWhere, IsRooted, Key}
+use Rattle.tj_words.proofs.Prelude.{List, MayDraw, None, Option, Program, Rec, Reference, Rule, SeatMe, Some, Sort}
+use Rattle.tj_words.proofs.Prelude.{State, View, [], ap, arith, at_longer, at_map, child, cond, contents_of, count_at}
+use Rattle.tj_words.proofs.Prelude.{dec_le, dite, draw_step, drawn_in, drew, eq-eqb, get_elem?, held_in, held_of}
+use Rattle.tj_words.proofs.Prelude.{home_of, inl, inr, length, length-set, made_by, made_of, making, min, ne_eqb}
+use Rattle.tj_words.proofs.Prelude.{new_dues, new_hand, new_task, new_tasks, next_reference, none, noted, reference_of}
+use Rattle.tj_words.proofs.Prelude.{refl, runs_on, seats_have, set, set_again, some, some-injective, step, subst, suc}
+use Rattle.tj_words.proofs.Prelude.{sym, to_task, total, word, words_say, ℕ, ℕ_discrete, ⊎_elim, ◌%◌, ◌++◌, ◌+◌, ◌<◌}
+use Rattle.tj_words.proofs.Prelude.{◌^◌, ◌∙◌, ◌∷◌, ◌≡◌, ◌≤◌, ◌⊎◌}
 use Rattle.tj_words.specs.Calls.DrawViews.{new_slots, drawn_next, was_refused, FindsNone}
 use Rattle.tj_words.proofs.Holders.HeldTasks.{none_some, one_some, makes_none, at_index}
 use Rattle.tj_words.proofs.Stores.SeatLists.{back, inside}
@@ -26,9 +27,50 @@ use Rattle.tj_words.proofs.Cells.CellNames.{born_apart, cells_more, next_new, re
 use Rattle.tj_words.proofs.Waiters.StopSteps.{law_refuses}
 use Rattle.tj_words.proofs.Cells.MadeThings.{made_few}
 use Rattle.tj_words.proofs.Cells.DrawnTasks.{slots_after}
-use Rattle.tj_words.proofs.Cells.DrawnCells.{law_drawn}
+use Rattle.tj_words.proofs.Cells.DrawnCells.{law_drawn, drawn_contents, draws}
+use Rattle.tj_words.proofs.Stores.StepContents.{stored_with}
 use Rattle.tj_base.specs.declared.cell.Sort.TheVariants as sort
 use Rattle.tj_words.specs.declared.view.Does.TheVariants as does
+
+module _ {B : Type 0} (program : Bool → B → Program B) (key : Key B) (s : State (Option (Rec B)) (View B))
+    (r : Rule program key s) (id t : ℕ) (o : Sort) (v : View B) (at : get_elem? s.views id ≡ some v)
+    (may : MayDraw program t v) (left : word s.words count_at < key.cells) (b : List Reference) where
+  abbrev old : Contents B
+  old = contents_of s
+
+  abbrev next : ℕ
+  next = drawn_in key.cells old
+
+  -- the contents after a draw that finds a cell left, of a seat that knows these cells then
+  abbrev pub after_draw : Contents B
+  after_draw = drawn_contents r.law id t o v.tasks v.dues may.has (at_map (λ (u : View B). u.tasks) s.views id v at)
+      (at_map (λ (u : View B). u.dues) s.views id v at) may.held may.may may.result may.out
+      (at_map (λ (u : View B). u.hand) s.views id v at ∙ ap (λ (i : Option Hand). some i) may.no_hand) left b
+      v.known v.wrote v.filled
+
+  -- what it leaves
+  pub draw_path : stored_with s id Count (suc (word s.words count_at)) (slots_after next o s.homes)
+      (record (drew next t o r.law.born v) { born = b }) ≡ after_draw
+  draw_path j = record {
+    words = record (words_say s.words) { count = suc (word s.words count_at) };
+    slots = slots_after next o s.homes;
+    seats = record (seats_same s.views id v at j) {
+      hands = set old.seats.hands id (Some (new_hand next t o));
+      tasks = set old.seats.tasks id (new_tasks next o (noted t runs_on v.tasks));
+      known = set old.seats.known id v.known;
+      born_seen = set old.seats.born_seen id b;
+      wrote = set old.seats.wrote id v.wrote;
+      filled = set old.seats.filled id v.filled;
+      dues = set old.seats.dues id (new_dues next o ++ v.dues);
+    };
+  }
+
+  -- and a call that makes it draws the cell
+  pub after_draws : DrawsCell key.cells old after_draw id t (new_hand next t o)
+  after_draws = draws r.law id t o v.tasks v.dues may.has (at_map (λ (u : View B). u.tasks) s.views id v at)
+      (at_map (λ (u : View B). u.dues) s.views id v at) may.held may.may may.result may.out
+      (at_map (λ (u : View B). u.hand) s.views id v at ∙ ap (λ (i : Option Hand). some i) may.no_hand) left b
+      v.known v.wrote v.filled
 
 module _ {B : Type 0} (program : Bool → B → Program B) (key : Key B) (keeps : EventKeepsFacts)
     (full : (strict : Bool) (root : B) → IsRooted (program strict root) → IsFullWhere (program strict root)) where
@@ -167,19 +209,8 @@ module _ {B : Type 0} (program : Bool → B → Program B) (key : Key B) (keeps 
             at_longer r.law.born (drawn_next t o v ∷ []) d b.0
                 (begins_at v.born r.law.born (knows_so program key s r id v at).begins d b.0 b.1),
           );
-        } _ (λ j. record {
-          words = record (words_say s.words) { count = suc (word s.words count_at) };
-          slots = slots_after n o s.homes;
-          seats = record (seats_same s.views id v at j) {
-            hands = set y.hands id w.hand;
-            tasks = set y.tasks id w.tasks;
-            known = set y.known id v.known;
-            born_seen = set y.born_seen id (r.law.born ++ next_same j ∷ []);
-            wrote = set y.wrote id v.wrote;
-            filled = set y.filled id v.filled;
-            dues = set y.dues id w.dues;
-          };
-        })
+        } _ (draw_path program key s r id t o v at may left w.born
+        ∙ ap (λ z. after_draw program key s r id t o v at may left (r.law.born ++ z ∷ [])) next_same)
         (law_drawn r.law id t o v.tasks v.dues k tasks dues may.held may.may may.result may.out free left keeps
         v.known
         v.born v.wrote v.filled (at_map (λ (u : View B). u.known) s.views id v at)

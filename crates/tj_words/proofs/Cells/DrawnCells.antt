@@ -1,20 +1,20 @@
 -- The law after a draw that finds a cell left.
 use Rattle.tj_words.proofs.Prelude.{AreApart, Bool, Contents, Custodies, Custody, Does, DrawsCell, Due, EventKeepsFacts}
 use Rattle.tj_words.proofs.Prelude.{Filled, Forks, Hand, Hands, InRounds, IsDue, IsIn, IsInHand, IsMarkedRight}
-use Rattle.tj_words.proofs.Prelude.{IsOfTree, IsThere, KeepsOthers, Law, List, MayAct, NamesCells, None, Once}
-use Rattle.tj_words.proofs.Prelude.{OnceWords, Option, OwnedLists, Program, Reference, Some, Sort, [], ap, arith, cond}
-use Rattle.tj_words.proofs.Prelude.{dite, does_cells, drawn_in, eq-eqb, false, find_in, forks_after, get_elem?, hand_in}
-use Rattle.tj_words.proofs.Prelude.{hand_of, held_in, held_of, home_in, home_of, in_left, in_right, inl, inr, made_of}
+use Rattle.tj_words.proofs.Prelude.{IsOfTree, IsThere, Law, List, MayAct, NamesCells, None, Once, OnceWords, Option}
+use Rattle.tj_words.proofs.Prelude.{OwnedLists, Program, Reference, Some, Sort, [], ap, arith, at_put, cond, does_cells}
+use Rattle.tj_words.proofs.Prelude.{drawn_in, eq-eqb, false, find_in, forks_after, get_elem?, hand_in, hand_of, held_in}
+use Rattle.tj_words.proofs.Prelude.{held_of, home_in, home_of, in_left, in_right, inl, inr, made_by, made_of, making}
 use Rattle.tj_words.proofs.Prelude.{min, new_dues, new_hand, new_task, new_tasks, next_reference, noted, owned_by}
-use Rattle.tj_words.proofs.Prelude.{owned_of, phase_of, put, refl, runs_on, set, set_here, some, sort_shown, subst, suc}
-use Rattle.tj_words.proofs.Prelude.{sym, tree_word, ℕ, ℕ_discrete, ⊎_elim, ◌++◌, ◌<◌, ◌↔◌, ◌∙◌, ◌∷◌, ◌≡◌, ◌≢◌, ◌⊎◌}
+use Rattle.tj_words.proofs.Prelude.{owned_of, parts_of, phase_of, put, refl, runs_on, set, set_here, some, sort_shown}
+use Rattle.tj_words.proofs.Prelude.{subst, suc, sym, tree_word, ℕ, ⊎_elim, ◌++◌, ◌<◌, ◌↔◌, ◌∙◌, ◌∷◌, ◌≡◌, ◌≢◌, ◌⊎◌}
 use Rattle.std.proofs.Common.{ne_eqb, set-set}
 use Rattle.tj_words.proofs.Holders.HeldTasks.{none_some, one_some}
 use Rattle.tj_words.proofs.Stores.SeatLists.{inside, of_seat_here, of_seat_set}
-use Rattle.tj_words.proofs.Cells.SeatHands.{hand_kept, hand_set, other_cell, own_cell}
-use Rattle.tj_words.proofs.Holders.SeatTasks.{find_changed, find_same, held_alone, free_alone}
-use Rattle.tj_words.proofs.Holders.TaskPlaces.{unheld, held_here, held_drawn}
-use Rattle.tj_words.proofs.Cells.DrawnSeats.{draws_cell}
+use Rattle.tj_words.proofs.Cells.SeatHands.{hand_kept, hand_set, other_cell, own_cell, makes_set, makes_kept, own_maker}
+use Rattle.tj_words.proofs.Cells.SeatHands.{other_maker}
+use Rattle.tj_words.proofs.Holders.SeatTasks.{find_changed, find_same, held_alone, free_alone, put_is}
+use Rattle.tj_words.proofs.Holders.TaskPlaces.{unheld, held_here, held_drawn, hand_seat}
 use Rattle.tj_words.proofs.Events.DrawEvents.{empty_none, draw_shown}
 use Rattle.tj_words.proofs.Events.StepFacts.{births_after, tree_after, tree_words_after, facts_after}
 use Rattle.tj_words.proofs.Meaning.MeaningSteps.{draw_meant}
@@ -54,16 +54,19 @@ module _ {B : Type 0} {program : Program B} {cells : ℕ} {x : Contents B} (r : 
   abbrev pub drawn_born : List Reference
   drawn_born = r.born ++ next_reference r.born t (made_of x t) o ∷ []
 
-  -- the contents after the draw, where the seat knows of entries what it did
-  abbrev pub drawn_contents : List ℕ → List Filled → List Filled → Contents B
-  drawn_contents l w f = record {
+  abbrev tasks' : List (List (Custody B))
+  tasks' = set x.seats.tasks id drawn_list
+
+  -- the contents after the draw, where the seat knows of entries what it did, and that these are the cells
+  abbrev pub drawn_contents : List Reference → List ℕ → List Filled → List Filled → Contents B
+  drawn_contents b l w f = record {
     words = record x.words { count = suc x.words.count };
     slots = slots_after n o x.slots;
     seats = record x.seats {
       hands = hands';
-      tasks = set x.seats.tasks id drawn_list;
+      tasks = tasks';
       known = set x.seats.known id l;
-      born_seen = set x.seats.born_seen id drawn_born;
+      born_seen = set x.seats.born_seen id b;
       wrote = set x.seats.wrote id w;
       filled = set x.seats.filled id f;
       dues = set x.seats.dues id (new_dues n o ++ ds);
@@ -105,6 +108,10 @@ module _ {B : Type 0} {program : Program B} {cells : ℕ} {x : Contents B} (r : 
   t_old : t ≢ n
   t_old e = let l = drawn_held in omega arith
 
+  -- what is had for a task owns what it owned
+  abbrev Owns : ℕ → Option (Custody B) → Type 0
+  Owns u q = owned_by q (home_of x u) ≡ owned_of x u
+
   -- what the seat has now for the maker, for the new cell, and for each other task
   list_here : held_in noted_list t ≡ Some (runs_on k)
   list_here = noted_here ks t k runs_on held refl
@@ -133,8 +140,14 @@ module _ {B : Type 0} {program : Program B} {cells : ℕ} {x : Contents B} (r : 
   maker_now : held_in drawn_list t ≡ Some (runs_on k)
   maker_now = new_else o t t_old ∙ list_here
 
-  other_now : (u : ℕ) → u ≢ t → u ≢ n → held_in drawn_list u ≡ held_in ks u
-  other_now u a b = new_else o u b ∙ list_else u a
+  -- what is found for each task now
+  found_all : find_in tasks' ≡ put (put (held_of x) t (Some (runs_on k))) n (held_in drawn_list n)
+  found_all = put_is (put (held_of x) t (Some (runs_on k))) (find_in tasks') n (held_in drawn_list n)
+      (find_changed x.seats.tasks id n ks drawn_list at
+      (free_alone r id n (r.custody.undrawn_free n (omega arith))))
+      (λ u b. at_put (held_of x) t (Some (runs_on k)) (λ m y. find_in tasks' m ≡ y) u
+      (find_changed x.seats.tasks id t ks drawn_list at (held_alone r id t holder_is) ∙ maker_now)
+      (λ a. find_same x.seats.tasks id u ks drawn_list at (new_else o u b ∙ list_else u a)))
 
   -- what stands in the list stood there, or does nothing that names a cell
   listed : (s : Sort) (q : Custody B) → IsIn q (new_tasks n s noted_list) → IsIn q ks ⊎ (does_cells q.does ≡ [])
@@ -150,9 +163,6 @@ module _ {B : Type 0} {program : Program B} {cells : ℕ} {x : Contents B} (r : 
       by sort.Task (inl e) = inr (ap (λ (z : Custody B). does_cells z.does) e)
       by sort.Task (inr j) = old j
 
-  abbrev tasks' : List (List (Custody B))
-  tasks' = set x.seats.tasks id drawn_list
-
   home_same : (u : ℕ) → home_in (slots_after n o x.slots) u ≡ home_of x u
   home_same u = homes_after r.custody room o u
 
@@ -162,41 +172,54 @@ module _ {B : Type 0} {program : Program B} {cells : ℕ} {x : Contents B} (r : 
   no_home : home_of x n ≡ None
   no_home = empty_none x.slots n (r.custody.undrawn_empty n (omega arith) room)
 
+  -- nothing is had for the new cell, or what has made nothing and owns nothing
+  new_bare : (q : Option (Custody B)) → held_in drawn_list n ≡ q → (owned_by q None ≡ []) × (made_by q None ≡ 0)
+  new_bare None e = (refl, refl)
+  new_bare (Some q) e = let i = new_here o q e in
+      (ap (λ (z : Custody B). z.owned) i, ap (λ (z : Custody B). z.made) i)
+
   -- the cells that each task owns are as before
   owned_same : (u : ℕ) → owned_by (find_in tasks' u) (home_in (slots_after n o x.slots) u) ≡ owned_of x u
-  owned_same u = ap (owned_by (find_in tasks' u)) (home_same u) ∙ dite (ℕ_discrete u t)
-      (λ e. subst (λ i. owned_by (find_in tasks' i) (home_of x i) ≡ owned_of x i) (sym e)
-      (ap (λ (q : Option (Custody B)). owned_by q (home_of x t))
-      (find_changed x.seats.tasks id t ks drawn_list at (held_alone r id t holder_is) ∙ maker_now)
-      ∙ sym (ap (λ (q : Option (Custody B)). owned_by q (home_of x t)) (held_here r id t k (ks, at, held)))))
-      (λ a. dite (ℕ_discrete u n)
-      (λ e. subst (λ i. owned_by (find_in tasks' i) (home_of x i) ≡ owned_of x i) (sym e)
-      (ap (owned_by (find_in tasks' n)) no_home
-      ∙ (nothing (find_in tasks' n) refl ∙ sym (ap (owned_by (held_of x n)) no_home
-      ∙ ap (λ (q : Option (Custody B)). owned_by q None) (unheld r n (r.custody.undrawn_free n (omega arith)))))))
-      (λ b. ap (λ (q : Option (Custody B)). owned_by q (home_of x u))
-      (find_same x.seats.tasks id u ks drawn_list at (other_now u a b))))
-    where
-      found_new : find_in tasks' n ≡ held_in drawn_list n
-      found_new = find_changed x.seats.tasks id n ks drawn_list at
-          (free_alone r id n (r.custody.undrawn_free n (omega arith)))
+  owned_same u = (λ j. owned_by (found_all j u) (home_same u j))
+      ∙ at_put (put (held_of x) t (Some (runs_on k))) n (held_in drawn_list n) Owns u
+      (ap (owned_by (held_in drawn_list n)) no_home ∙ ((new_bare (held_in drawn_list n) refl).0
+      ∙ (λ j. owned_by (sym (unheld r n (r.custody.undrawn_free n (omega arith))) j) (sym no_home j))))
+      (λ _. at_put (held_of x) t (Some (runs_on k)) Owns u
+      (ap (λ q. owned_by q (home_of x t)) (sym (held_here r id t k (ks, at, held)))) (λ _. refl))
 
-      nothing : (q : Option (Custody B)) → find_in tasks' n ≡ q → owned_by q None ≡ []
-      nothing None e = refl
-      nothing (Some q) e = ap (λ (z : Custody B). z.owned) (new_here o q (sym found_new ∙ e))
+  -- no seat makes another cell of t
+  only_maker : (j : ℕ) (g : Hand) → j ≢ id → get_elem? x.seats.hands j ≡ some (Some g) → g.maker ≢ t
+  only_maker j g d e q = d (one_some j id (sym (hand_seat r j g e) ∙ (ap r.custody.holder q ∙ holder_is)))
 
-  -- contents in which the seat has the new cell: it is drawn
-  pub draws_in : (y : Contents B) → y.seats.tasks ≡ tasks' → y.words.phase ≡ x.words.phase
-      → y.slots ≡ slots_after n o x.slots → KeepsOthers cells x y → y.words.count ≡ suc x.words.count
-      → y.seats.hands ≡ hands' → y.words.own ≡ x.words.own
-      → DrawsCell cells x y id t h
-  draws_in y tasks phase slots keeps count hands own = draws_cell r y id t h ks drawn_list k (runs_on k) at held
-      maker_now refl tasks phase (ap (λ l. home_in l) slots ∙ homes_same) keeps may result refl refl refl free other_now
-      (λ q e. ap (λ (z : Custody B). z.made) (new_here o q e)) left count hands own
-
-  -- the draw, as an event
-  draws : (l : List ℕ) (w f : List Filled) → DrawsCell cells x (drawn_contents l w f) id t h
-  draws l w f = draws_in (drawn_contents l w f) refl refl refl (record { others = refl; cleared = refl }) refl refl refl
+  -- the draw, as an event, where these are all cells
+  pub draws : (b : List Reference) (l : List ℕ) (w f : List Filled)
+      → DrawsCell cells x (drawn_contents b l w f) id t h
+  draws b l w f = record {
+    acts = record {
+      before_it = k;
+      after_it = runs_on k;
+      held = (ks, at, held);
+      may = may;
+      result = result;
+      runs = refl;
+      made = refl;
+    };
+    no_hand = free;
+    left = left;
+    hand_maker = refl;
+    hand_cell = refl;
+    new_held = held_in drawn_list n;
+    new_made = (new_bare (held_in drawn_list n) refl).1;
+    parts = λ j. record (parts_of cells x) {
+      drawn = drawn_now j;
+      hand = put_is (hand_of x) hand' n (Some h) here_now else_now j;
+      making = put_is (making x.seats.hands) (making hands') t 1
+          (makes_set x.seats.hands id t None (Some h) free only_maker ∙ own_maker h 0)
+          (λ m d. makes_kept x.seats.hands id m None (Some h) free (λ rest. other_maker h m rest d)) j;
+      held = found_all j;
+      home = homes_same j;
+    };
+  }
 
   word_due : (f : Once) → IsOfTree f
       → IsDue n f (new_dues n o) ⊎ ((o ≡ sort.Promise) × ((f ≡ once.Depth) ⊎ (f ≡ once.Jump)))
@@ -221,7 +244,7 @@ module _ {B : Type 0} {program : Program B} {cells : ℕ} {x : Contents B} (r : 
       → get_elem? x.seats.wrote id ≡ some w
       → get_elem? x.seats.filled id ≡ some f
       → InRounds program (next_reference r.born t (made_of x t) o).name
-      → Law program cells (drawn_contents l w f)
+      → Law program cells (drawn_contents drawn_born l w f)
   law_drawn keeps l b w f knows seen wrote filled named = record {
     born = drawn_born;
     maker = maker';
@@ -295,10 +318,10 @@ module _ {B : Type 0} {program : Program B} {cells : ℕ} {x : Contents B} (r : 
   }
     where
       y : Contents B
-      y = drawn_contents l w f
+      y = drawn_contents drawn_born l w f
 
       s : DrawsCell cells x y id t h
-      s = draws l w f
+      s = draws drawn_born l w f
 
       maker' : ℕ → ℕ
       maker' = put r.maker n t

@@ -2,8 +2,8 @@
 use Rattle.tj_words.proofs.Prelude.{All, AreApart, Bool, Contents, CoreFacts, Custody, DoesRun, DoesWalk, Due}
 use Rattle.tj_words.proofs.Prelude.{GivesOwner, Hand, HasAlarmed, HasInHand, Holds, IsCell, IsDue, IsIn, IsMarkedRight}
 use Rattle.tj_words.proofs.Prelude.{IsOfTree, IsSeat, IsThere, IsToldBy, Keeping, KeepsCells, Key, Law, List, MayGive}
-use Rattle.tj_words.proofs.Prelude.{None, OfSeat, Once, Option, OwnedLists, Program, Rec, Reference, Rule, Some, Sort}
-use Rattle.tj_words.proofs.Prelude.{State, View, [], ap, arith, at_map, at_put, begins_self, contents_of, dite}
+use Rattle.tj_words.proofs.Prelude.{None, OfSeat, Once, Option, OwnedLists, Parts, Program, Rec, Reference, Rule, Some}
+use Rattle.tj_words.proofs.Prelude.{Sort, State, View, [], ap, arith, at_map, at_put, begins_self, contents_of, dite}
 use Rattle.tj_words.proofs.Prelude.{drawn_in, false, find_in, first_owner, get_elem?, hand_in, hand_of, hand_phase}
 use Rattle.tj_words.proofs.Prelude.{held_in, held_of, home_of, in_either, in_left, in_right, inl, inr, made_by, made_of}
 use Rattle.tj_words.proofs.Prelude.{making, noted, own_at, owned_by, owned_of, owner_in, owns_also, parent_word}
@@ -13,7 +13,7 @@ use Rattle.tj_words.proofs.Prelude.{ℕ, ℕ_discrete, ⊎_elim, ◌++◌, ◌+�
 use Rattle.tj_words.specs.Calls.DrawViews.{made_one, maker_made, gave_owner}
 use Rattle.tj_words.proofs.Holders.HeldTasks.{none_some, one_some, held_listed}
 use Rattle.tj_words.proofs.Stores.SeatLists.{back, of_seat_else}
-use Rattle.tj_words.proofs.Holders.SeatTasks.{find_changed, find_same, held_alone}
+use Rattle.tj_words.proofs.Holders.SeatTasks.{find_changed, find_same, held_alone, put_is}
 use Rattle.tj_words.proofs.Holders.TaskPlaces.{custody, held_here}
 use Rattle.tj_words.proofs.Stores.SeatContents.{seats_same}
 use Rattle.tj_words.proofs.Stores.StepContents.{stored}
@@ -310,18 +310,20 @@ module _ {B : Type 0} {program : Program B} {cells : ℕ} {x : Contents B} (r : 
     before_it = maker_has.0;
     after_it = maker_now.0;
     held = (ks, at, maker_has.1);
-    held_now = find_at t maker_has.0 maker_now.0 maker_has.1 maker_now.1;
     does_same = maker_now.3;
     made = maker_now.2;
+    new_held = find_in tasks' c;
     new_made = made_here;
-    helds = λ d a b. find_same x.seats.tasks id d ks given_list at
-        (noted_else made_list o m (owns_also c) owner_has.1 refl d (other h.sort d a b)
-        ∙ noted_else ks t maker_has.0 made_one maker_has.1 refl d a);
     parts = λ j. record (parts_of cells x) {
       hand = off j;
       making = λ u. making_off r id h has u j;
       own = own';
-      held = find_in tasks';
+      held = put_is (put (held_of x) c (find_in tasks' c)) (find_in tasks') t (Some maker_now.0)
+          (find_at t maker_has.0 maker_now.0 maker_has.1 maker_now.1)
+          (λ d a. at_put (held_of x) c (find_in tasks' c) (λ m y. find_in tasks' m ≡ y) d refl
+          (λ b. find_same x.seats.tasks id d ks given_list at
+          (noted_else made_list o m (owns_also c) owner_has.1 refl d (other h.sort d a b)
+          ∙ noted_else ks t maker_has.0 made_one maker_has.1 refl d a))) j;
     };
   }
     where
@@ -339,7 +341,9 @@ module _ {B : Type 0} {program : Program B} {cells : ℕ} {x : Contents B} (r : 
   -- and each task has made as many things as with the one in hand
   pub made_now : (u : ℕ) → made_by (find_in tasks' u) (home_of x u) + making hands' u ≡ made_of x u
   made_now u = ap (λ k. made_by (find_in tasks' u) (home_of x u) + k) (making_off r id h has u)
-      ∙ given_made r id h has (given_contents []) (gives_owner []) u
+      ∙ (ap (λ (z : ℕ → Option (Custody B)). made_by (z u) (home_of x u) + put (making x.seats.hands) t 0 u)
+      (ap (λ (z : Parts B). z.held) (gives_owner []).parts)
+      ∙ given_made r id h has (given_contents []) (gives_owner []) u)
 
   pub law_given : (l : List ℕ) → get_elem? x.seats.known id ≡ some l → Law program cells (given_contents l)
   law_given l knows = record {

@@ -1,15 +1,16 @@
 -- The first store of OWN of a cell in hand shows nothing: its owner is the one that was shown.
-use Rattle.tj_words.proofs.Prelude.{Bool, Contents, GivesOwner, Hand, IsMarkedRight, IsQuiet, Law, None, Program, Some}
-use Rattle.tj_words.proofs.Prelude.{Sort, ap, arith, at_put, cond, dite, false, first_owner, fresh, get_elem?, hand_of}
-use Rattle.tj_words.proofs.Prelude.{hand_phase, held_of, home_of, made_by, made_of, making, ne_eqb, new_stage}
-use Rattle.tj_words.proofs.Prelude.{owner_shown, parts_of, put, refl, running, some, stage_shown, subst, sym, ℕ}
-use Rattle.tj_words.proofs.Prelude.{ℕ_discrete, ◌+◌, ◌∙◌, ◌≡◌, ◌≢◌}
+use Rattle.tj_words.proofs.Prelude.{Bool, CellStage, Contents, Custody, GivesOwner, Hand, IsMarkedRight, IsQuiet, Law}
+use Rattle.tj_words.proofs.Prelude.{None, Option, Program, Some, Sort, ap, arith, at_put, cond, false, first_owner}
+use Rattle.tj_words.proofs.Prelude.{fresh, get_elem?, hand_of, hand_phase, held_of, home_of, made_by, made_of, making}
+use Rattle.tj_words.proofs.Prelude.{ne_eqb, new_stage, owner_shown, parts_of, put, put_else, refl, running, some}
+use Rattle.tj_words.proofs.Prelude.{stage_shown, subst, sym, ℕ, ◌+◌, ◌∙◌, ◌≡◌, ◌≢◌}
 use Rattle.tj_words.proofs.Events.QuietCells.{quiet_parts, stage_does}
 use Rattle.tj_words.proofs.Holders.HeldTasks.{makes_one}
 use Rattle.tj_words.proofs.Holders.TaskPlaces.{held_here}
-use Rattle.tj_words.proofs.Stores.Columns.{at_two}
+use Rattle.tj_words.proofs.Stores.Columns.{at_two, put_kept}
 use Rattle.tj_words.proofs.Stores.SeatLists.{back}
 use Rattle.tj_words.proofs.Stores.WordStores.{hand_here, not_root}
+use Rattle.tj_words.proofs.Holders.SeatTasks.{made_held_by}
 use Rattle.tj_base.specs.declared.cell.Sort.TheVariants as sort
 
 module _ {B : Type 0} {program : Program B} {cells : ℕ} {x : Contents B} (r : Law program cells x) (id : ℕ) (h : Hand)
@@ -27,52 +28,52 @@ module _ {B : Type 0} {program : Program B} {cells : ℕ} {x : Contents B} (r : 
   here = hand_here r id h has
 
   module _ (y : Contents B) (s : GivesOwner cells x y id t c h) where
+    abbrev held : ℕ → Option (Custody B)
+    held = put (put (held_of x) c s.new_held) t (Some s.after_it)
+
     -- the maker has made as many things as with the one in hand, and each other task as many as before
-    pub given_made : (d : ℕ) → made_by (held_of y d) (home_of x d) + put (making x.seats.hands) t 0 d ≡ made_of x d
-    given_made d = at_put (making x.seats.hands) t 0 (λ d k. made_by (held_of y d) (home_of x d) + k ≡ made_of x d) d
-        (let a = ap (λ i. made_by i (home_of x t)) s.held_now ∙ s.made in
-        let b = ap (λ i. made_by i (home_of x t)) (held_here r id t s.before_it s.held) in
+    pub given_made : (d : ℕ) → made_by (held d) (home_of x d) + put (making x.seats.hands) t 0 d ≡ made_of x d
+    given_made d = at_two (put (held_of x) c s.new_held) (making x.seats.hands) t (Some s.after_it) 0
+        (λ d i k. made_by i (home_of x d) + k ≡ made_of x d) d
+        (let a = s.made in let b = made_held_by r id t s.before_it s.held in
         let e : making x.seats.hands t ≡ 1 = makes_one x.seats.hands id h has in omega arith)
-        (λ z. ap (λ k. k + making x.seats.hands d) (dite (ℕ_discrete d c)
-        (λ e. subst (λ u. made_by (held_of y u) (home_of x u) ≡ made_by (held_of x u) (home_of x u)) (sym e) s.new_made)
-        (λ q. ap (λ i. made_by i (home_of x d)) (s.helds d z q))))
+        (λ _. ap (λ k. k + making x.seats.hands d)
+        (put_kept (λ d i. made_by i (home_of x d)) (held_of x) c s.new_held s.new_made d))
 
     new : (d : ℕ) → d ≢ 0 → new_stage d ≡ fresh
     new d z = ap (λ (b : Bool). cond b running fresh) (ne_eqb d 0 z)
 
-    stage_in : (q : Sort) → h.sort ≡ q
-        → stage_shown c None (Some o) (x.words.phase c) (held_of y c) (home_of x c)
+    stage_in : (q : Sort) → h.sort ≡ q → (i : Option (Custody B))
+        → stage_shown c None (Some o) (x.words.phase c) i (home_of x c)
         ≡ stage_shown c (Some h) (x.words.own c) (x.words.phase c) (held_of x c) (home_of x c)
-    stage_in sort.Promise e = (λ j. stage_shown c None (Some o) (s.marked e j) (held_of y c) (home_of x c))
+    stage_in sort.Promise e i = (λ j. stage_shown c None (Some o) (s.marked e j) i (home_of x c))
         ∙ (λ j. stage_shown c (Some (record h { sort = sym e j })) (x.words.own c) (x.words.phase c) (held_of x c)
         (home_of x c))
-    stage_in sort.Task e =
+    stage_in sort.Task e i =
         let q : h.marked ≡ false = subst (λ s. IsMarkedRight s h.marked) e (r.hands.each id h has).marked_right in
-        (λ j. stage_shown c None (Some o) (((r.hands.each id h has).marked ∙ ap hand_phase q) j) (held_of y c)
-        (home_of x c))
+        (λ j. stage_shown c None (Some o) (((r.hands.each id h has).marked ∙ ap hand_phase q) j) i (home_of x c))
         ∙ (new c (not_root r id h has)
         ∙ (λ j. stage_shown c (Some (record h { sort = sym e j })) (x.words.own c) (x.words.phase c) (held_of x c)
         (home_of x c)))
 
+    -- what is shown of a cell, if this is had for it
+    abbrev shows : ℕ → Option (Custody B) → CellStage
+    shows d i = stage_shown d (hand_of x d) (x.words.own d) (x.words.phase d) i (home_of x d)
+
     -- the maker does what it did, and what is had for any other task but the cell is as it was
-    stage_else : (d : ℕ) → d ≢ c
-        → stage_shown d (hand_of x d) (x.words.own d) (x.words.phase d) (held_of y d) (home_of x d)
-        ≡ stage_shown d (hand_of x d) (x.words.own d) (x.words.phase d) (held_of x d) (home_of x d)
-    stage_else d z = dite (ℕ_discrete d t)
-        (λ e. subst (λ u. stage_shown u (hand_of x u) (x.words.own u) (x.words.phase u) (held_of y u) (home_of x u)
-        ≡ stage_shown u (hand_of x u) (x.words.own u) (x.words.phase u) (held_of x u) (home_of x u)) (sym e)
-        (ap (λ i. stage_shown t (hand_of x t) (x.words.own t) (x.words.phase t) i (home_of x t)) s.held_now
-        ∙ (stage_does t (hand_of x t) (x.words.own t) (x.words.phase t) s.before_it s.after_it (home_of x t) s.does_same
-        ∙ ap (λ i. stage_shown t (hand_of x t) (x.words.own t) (x.words.phase t) i (home_of x t))
-        (sym (held_here r id t s.before_it s.held)))))
-        (λ k. ap (λ i. stage_shown d (hand_of x d) (x.words.own d) (x.words.phase d) i (home_of x d)) (s.helds d k z))
+    stage_else : (d : ℕ) → d ≢ c → shows d (held d) ≡ shows d (held_of x d)
+    stage_else d z = at_put (put (held_of x) c s.new_held) t (Some s.after_it)
+        (λ d i. shows d i ≡ shows d (held_of x d)) d
+        (stage_does t (hand_of x t) (x.words.own t) (x.words.phase t) s.before_it s.after_it (home_of x t) s.does_same
+        ∙ sym (ap (shows t) (held_here r id t s.before_it s.held)))
+        (λ _. ap (shows d) (put_else (held_of x) c s.new_held d z))
 
     pub given_shown : IsQuiet cells x y
     given_shown = quiet_parts cells x y (record (parts_of cells x) {
       hand = put (hand_of x) c None;
       making = put (making x.seats.hands) t 0;
       own = put x.words.own c (Some o);
-      held = held_of y;
+      held = held;
     }) s.parts record {
       drawn = refl;
       made = given_made;
@@ -80,9 +81,8 @@ module _ {B : Type 0} {program : Program B} {cells : ℕ} {x : Contents B} (r : 
           (λ d z w. owner_shown d z w ≡ owner_shown d (hand_of x d) (x.words.own d)) d
           (sym (ap (λ z. owner_shown c z (x.words.own c)) here)) (λ _. refl);
       stage = λ d. at_two (hand_of x) x.words.own c None (Some o)
-          (λ d z w. stage_shown d z w (x.words.phase d) (held_of y d) (home_of x d)
-          ≡ stage_shown d (hand_of x d) (x.words.own d) (x.words.phase d) (held_of x d) (home_of x d)) d
-          (stage_in h.sort refl
+          (λ d z w. stage_shown d z w (x.words.phase d) (held d) (home_of x d) ≡ shows d (held_of x d)) d
+          (stage_in h.sort refl (held c)
           ∙ sym (ap (λ z. stage_shown c z (x.words.own c) (x.words.phase c) (held_of x c) (home_of x c)) here))
           (stage_else d);
       others = refl;

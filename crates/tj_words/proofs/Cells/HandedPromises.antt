@@ -2,14 +2,15 @@
 -- then given to the child.
 use Rattle.tj_words.proofs.Prelude.{AreApart, AreThere, Contents, Custody, Does, Due, EventKeepsFacts, Hand}
 use Rattle.tj_words.proofs.Prelude.{HandsPromise, HasAlarmed, IsHeldWith, IsIn, IsThere, KeepsCells, Law, List, MayAct}
-use Rattle.tj_words.proofs.Prelude.{None, Once, OnceWords, Option, Program, SeenWord, Some, WaitersOwn, [], ap, dite}
-use Rattle.tj_words.proofs.Prelude.{does_cells, drawn_in, find_in, gave_up, get_elem?, hand_of, held_in, held_of, hold}
-use Rattle.tj_words.proofs.Prelude.{home_of, in_either, in_left, in_right, inl, made_of, owned_by, owned_of, owns_also}
-use Rattle.tj_words.proofs.Prelude.{put, refl, set, set-set, set_here, some, subst, suc, sym, ℕ, ℕ_discrete, ⊎_elim}
-use Rattle.tj_words.proofs.Prelude.{◌++◌, ◌↔◌, ◌∙◌, ◌∷◌, ◌≡◌, ◌≢◌}
+use Rattle.tj_words.proofs.Prelude.{None, Once, OnceWords, Option, Program, SeenWord, Some, WaitersOwn, [], ap, at_put}
+use Rattle.tj_words.proofs.Prelude.{dite, does_cells, drawn_in, find_in, gave_up, get_elem?, hand_of, held_in, held_of}
+use Rattle.tj_words.proofs.Prelude.{hold, home_of, in_either, in_left, in_right, inl, made_by, made_of, making}
+use Rattle.tj_words.proofs.Prelude.{owned_by, owned_of, owns_also, parts_of, put, refl, set, set-set, set_here, some}
+use Rattle.tj_words.proofs.Prelude.{subst, suc, sym, ℕ, ℕ_discrete, ⊎_elim, ◌++◌, ◌+◌, ◌↔◌, ◌∙◌, ◌∷◌, ◌≡◌, ◌≢◌}
 use Rattle.tj_words.proofs.Stores.LawChanges.{law_owners}
 use Rattle.tj_words.proofs.Stores.SeatLists.{inside}
-use Rattle.tj_words.proofs.Holders.SeatTasks.{find_changed, find_same, held_alone, hold_else, hold_here}
+use Rattle.tj_words.proofs.Holders.SeatTasks.{find_changed, find_same, held_alone, hold_else, hold_here, made_held_by}
+use Rattle.tj_words.proofs.Holders.SeatTasks.{put_is}
 use Rattle.tj_words.proofs.Holders.HeldTasks.{none_some, one_some}
 use Rattle.tj_words.proofs.Stores.StoreSteps.{put_here, put_else}
 use Rattle.tj_words.proofs.Holders.TaskPlaces.{custody, held_here, list_owned}
@@ -17,8 +18,9 @@ use Rattle.tj_words.proofs.Holders.HeldChanges.{find_here, find_else, made_held,
 use Rattle.tj_words.proofs.Cells.OwnedChanges.{apart_snoc, owned_changed}
 use Rattle.tj_words.proofs.Events.OwnerEvents.{hand_shown}
 use Rattle.tj_words.proofs.Events.StepFacts.{facts_after}
-use Rattle.tj_words.proofs.Calls.KeptCells.{kept_owner, same_made}
+use Rattle.tj_words.proofs.Calls.KeptCells.{kept_parts}
 use Rattle.tj_words.proofs.Cells.ClosedCells.{owned_promise, closed, closed_made, law_closed, owned_here}
+use Rattle.tj_words.specs.Steps.ShownParts.{owned_parts}
 use Rattle.tj_words.specs.declared.offsets.Once.TheVariants as once
 use Rattle.tj_words.specs.declared.view.Does.TheVariants as does
 
@@ -79,6 +81,10 @@ module _ {B : Type 0} {program : Program B} {cells : ℕ} {x : Contents B} (r : 
   other e = unborn_acts k.does
       (ap (λ (z : Custody B). z.does) (one_some k child (sym h.2 ∙ (ap (held_in h.0) (sym e) ∙ held))) ∙ unborn) may
 
+  -- what is had for a task has made as many things as before
+  abbrev HasMade : ℕ → Option (Custody B) → Type 0
+  HasMade d o = made_by o (home_of x d) ≡ made_by (held_of x d) (home_of x d)
+
   -- the contents once it has the promise
   abbrev pub handed : Contents B
   handed = record {
@@ -93,15 +99,24 @@ module _ {B : Type 0} {program : Program B} {cells : ℕ} {x : Contents B} (r : 
   u_there : IsThere n (hand_of x) u × (x.words.own u ≡ Some u)
   u_there = list_owned r id u child child_here u child_result
 
-  -- what is found for a task that the seat holds, and for another one
-  pub found : (d : ℕ) → r.custody.holder d ≡ Some id → held_of handed d ≡ held_in (hold child' (hold k' h.0)) d
-  found d e = ap (λ l. find_in l d) (set-set x.seats.tasks id (hold k' h.0) (hold child' (hold k' h.0)))
-      ∙ find_changed x.seats.tasks id d h.0 (hold child' (hold k' h.0)) h.1 (held_alone r id d e)
+  abbrev given_list : List (Custody B)
+  given_list = hold child' (hold k' h.0)
 
-  pub found_else : (d : ℕ) → d ≢ t → d ≢ u → held_of handed d ≡ held_of x d
-  found_else d p q = ap (λ l. find_in l d) (set-set x.seats.tasks id (hold k' h.0) (hold child' (hold k' h.0)))
-      ∙ find_same x.seats.tasks id d h.0 (hold child' (hold k' h.0)) h.1
-      (hold_else child' d (hold k' h.0) (λ e. q (e ∙ child_its)) ∙ hold_else k' d h.0 (λ e. p (e ∙ its)))
+  -- what is found for a task that the seat holds, and for each
+  found : (d : ℕ) → r.custody.holder d ≡ Some id → held_of handed d ≡ held_in given_list d
+  found d e = ap (λ l. find_in l d) (set-set x.seats.tasks id (hold k' h.0) given_list)
+      ∙ find_changed x.seats.tasks id d h.0 given_list h.1 (held_alone r id d e)
+
+  pub found_all : held_of handed ≡ put (put (held_of x) t (Some k')) u (Some child')
+  found_all = put_is (put (held_of x) t (Some k')) (held_of handed) u (Some child')
+      (found u (custody r id u child child_here).mine
+      ∙ (ap (held_in given_list) (sym child_its) ∙ hold_here child' (hold k' h.0)))
+      (λ d q. at_put (held_of x) t (Some k') (λ m y. held_of handed m ≡ y) d
+      (found t (custody r id t k h).mine ∙ (hold_else child' t (hold k' h.0) (λ e. other (sym (e ∙ child_its)))
+      ∙ (ap (held_in (hold k' h.0)) (sym its) ∙ hold_here k' h.0)))
+      (λ p. ap (λ l. find_in l d) (set-set x.seats.tasks id (hold k' h.0) given_list)
+      ∙ find_same x.seats.tasks id d h.0 given_list h.1
+      (hold_else child' d (hold k' h.0) (λ e. q (e ∙ child_its)) ∙ hold_else k' d h.0 (λ e. p (e ∙ its)))))
 
   -- the task has handed the promise to its child
   abbrev pub hands : HandsPromise cells x handed id t c u
@@ -112,8 +127,6 @@ module _ {B : Type 0} {program : Program B} {cells : ℕ} {x : Contents B} (r : 
       held = h;
       may = may;
       result = result;
-      held_now = found t (custody r id t k h).mine ∙ (hold_else child' t (hold k' h.0)
-          (λ e. other (sym (e ∙ child_its))) ∙ (ap (held_in (hold k' h.0)) (sym its) ∙ hold_here k' h.0));
       runs = refl;
       made = refl;
     };
@@ -126,27 +139,18 @@ module _ {B : Type 0} {program : Program B} {cells : ℕ} {x : Contents B} (r : 
     its_result = child_result;
     its_parent = its_parent;
     other = other;
-    child_now = found u (custody r id u child child_here).mine
-        ∙ (ap (held_in (hold child' (hold k' h.0))) (sym child_its) ∙ hold_here child' (hold k' h.0));
     still_unborn = unborn;
     child_made = refl;
-    owns = put_here x.words.own c c (Some u) refl;
-    same = record {
-      drawn = refl;
-      hand = refl;
-      making = refl;
-      owns = λ d q. put_else x.words.own c d (Some u) q;
-      phase = refl;
-      helds = found_else;
-      home = refl;
-    };
-    keeps = record { others = refl; cleared = refl };
+    parts = λ j. record (parts_of cells x) { own = put x.words.own c (Some u); held = found_all j };
   }
 
   -- and both have made as many things as before
   pub handed_keeps : KeepsCells cells x handed
-  handed_keeps = kept_owner cells x handed c t u hands.same (same_made r handed id t k k' h hands.acts.held_now refl)
-      (same_made r handed id u child child' child_here hands.child_now refl) refl
+  handed_keeps = kept_parts cells x handed (record (owned_parts (parts_of cells x) c (Some u) t (Some k')) {
+    held = put (put (held_of x) t (Some k')) u (Some child');
+  }) hands.parts (λ d. refl) (λ d. ap (λ m. m + making x.seats.hands d)
+      (at_put (put (held_of x) t (Some k')) u (Some child') HasMade d (made_held_by r id u child child_here)
+      (λ _. at_put (held_of x) t (Some k') HasMade d (made_held_by r id t k h) (λ _. refl)))) refl
 
   module _ (events : EventKeepsFacts) where
     -- the promise closed

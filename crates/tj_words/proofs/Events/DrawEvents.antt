@@ -1,11 +1,12 @@
 -- A draw is a Make or a Fork; the first store of OWN shows nothing.
-use Rattle.tj_words.proofs.Prelude.{Allowed, CellState, Contents, CoreState, Custody, DrawsCell, Hand, IsCell}
-use Rattle.tj_words.proofs.Prelude.{IsDrawnInto, IsEmpty, IsThere, Law, List, None, Option, Program, Rec, Reference}
-use Rattle.tj_words.proofs.Prelude.{ShowsEvent, Slots, Some, Sort, [], after, ap, arith, child, core_shown, draw_event}
-use Rattle.tj_words.proofs.Prelude.{drawn_in, first_owner, get_elem?, get_or, hand_of, hand_stage, held_of, home_in}
-use Rattle.tj_words.proofs.Prelude.{home_of, length, made_by, made_of, maker, making, name, next_reference, parts_of}
-use Rattle.tj_words.proofs.Prelude.{phase_sort, put, record_in, reference_of, refl, some, some-injective, subst, suc}
-use Rattle.tj_words.proofs.Prelude.{sym, to_task, with_new, zero, ℕ, ◌++◌, ◌+◌, ◌<◌, ◌∙◌, ◌∷◌, ◌≡◌, ◌≢◌, ◌≤◌}
+use Rattle.tj_words.proofs.Prelude.{Allowed, CellState, Contents, CoreState, DrawsCell, Hand, IsCell, IsDrawnInto}
+use Rattle.tj_words.proofs.Prelude.{IsEmpty, IsThere, Law, List, None, Parts, Program, Reference, ShowsEvent, Slots}
+use Rattle.tj_words.proofs.Prelude.{Some, Sort, [], after, ap, arith, child, core_shown, draw_event, drawn_in}
+use Rattle.tj_words.proofs.Prelude.{first_owner, get_elem?, get_or, hand_of, hand_stage, held_of, home_in, home_of}
+use Rattle.tj_words.proofs.Prelude.{length, made_by, made_of, maker, making, name, next_reference, parts_of, phase_sort}
+use Rattle.tj_words.proofs.Prelude.{put, put_else, put_here, record_in, reference_of, refl, shown_by, some}
+use Rattle.tj_words.proofs.Prelude.{some-injective, subst, suc, sym, to_task, with_new, zero, ℕ, ◌++◌, ◌+◌, ◌<◌, ◌∙◌}
+use Rattle.tj_words.proofs.Prelude.{◌∷◌, ◌≡◌, ◌≢◌, ◌≤◌}
 use Rattle.tj_core.proofs.OneCell.Makers.{thing_made}
 use Rattle.tj_words.specs.Inner.TreeDraws.{MayDraw}
 use Rattle.tj_words.proofs.Holders.HeldTasks.{none_some, one_some, hand_found, makes_none}
@@ -13,8 +14,10 @@ use Rattle.tj_words.proofs.Events.ShownCells.{cell_there}
 use Rattle.tj_words.proofs.Events.ShownDraws.{one_drawn}
 use Rattle.tj_words.proofs.Cells.CellFacts.{cell_born, name_shown, sort_is}
 use Rattle.tj_words.proofs.Cells.TreeDraws.{place_inside}
-use Rattle.tj_words.proofs.Holders.TaskPlaces.{custody}
-use Rattle.tj_words.proofs.Events.OwnerEvents.{acts_there, acts_phase, acts_made, acts_stage, acts_run, hand_seat}
+use Rattle.tj_words.proofs.Holders.TaskPlaces.{custody, hand_seat}
+use Rattle.tj_words.proofs.Events.OwnerEvents.{acts_there, acts_phase, acts_made, acts_stage, acts_run}
+use Rattle.tj_words.specs.Steps.ShownParts.{drawn_parts}
+use Rattle.tj_words.proofs.Stores.SeatLists.{back}
 use Rattle.tj_base.specs.declared.cell.Sort.TheVariants as sort
 
 -- the last element of a list, and each before it
@@ -33,6 +36,10 @@ drawn_after : (s : CoreState) (t : ℕ) (o : Sort)
 drawn_after s t sort.Promise = refl
 drawn_after s t sort.Task = refl
 
+-- how many things a task has made, by these parts
+abbrev made_in : {B : Type 0} → Parts B → ℕ → ℕ
+made_in z c = made_by (z.held c) (z.home c) + z.making c
+
 -- nothing lies in an empty slot
 pub empty_none : {B : Type 0} (slots : Slots B) (c : ℕ) → IsEmpty slots c → home_in slots c ≡ None
 empty_none slots c e = ap record_in e
@@ -47,59 +54,56 @@ module _ {B : Type 0} {program : Program B} {cells : ℕ} {x : Contents B} (r : 
 
   -- a draw, as the seat with nothing in hand makes it
   module _ (h : Hand) (s : DrawsCell cells x y id t h) where
+    abbrev z : Parts B
+    z = drawn_parts (parts_of cells x) t h (Some s.acts.after_it) s.new_held
+
     room : n < cells
     room = let l = s.left in omega arith
 
     pub t_there : IsThere n (hand_of x) t
-    t_there = acts_there r y id t s.acts
+    t_there = acts_there r id t s.acts
 
     calm : (j : ℕ) (g : Hand) → get_elem? x.seats.hands j ≡ some (Some g) → g.maker ≢ t
     calm j g e q =
-        let k : j ≡ id = one_some j id (sym (hand_seat r y id t j g e)
+        let k : j ≡ id = one_some j id (sym (hand_seat r j g e)
         ∙ (ap r.custody.holder q ∙ (custody r id t s.acts.before_it s.acts.held).mine)) in
         let z : None ≡ Some g = some-injective None (Some g)
         (sym s.no_hand ∙ (ap (λ (i : ℕ). get_elem? x.seats.hands i) (sym k) ∙ e)) in absurd (cc)
 
     undrawn : (j : ℕ) (g : Hand) → get_elem? x.seats.hands j ≡ some (Some g) → g.maker ≢ n
     undrawn j g e q = none_some (r.custody.holder n) j (r.custody.undrawn_free n (omega arith))
-        (ap r.custody.holder (sym q) ∙ hand_seat r y id t j g e)
+        (ap r.custody.holder (sym q) ∙ hand_seat r j g e)
 
-    pub made_t : made_of y t ≡ suc (made_of x t)
-    made_t =
-        let a : made_by (held_of y t) (home_of y t) ≡ made_by (held_of x t) (home_of x t) =
-        (λ j. made_by (held_of y t) (s.same.home j t)) ∙ acts_made r y id t s.acts in
-        let b = s.making in
-        let c = makes_none x.seats.hands t calm in omega arith
-
-    not_t : n ≢ t
+    not_t : t ≢ n
     not_t e = let l = t_there.0 in omega arith
 
-    no_record : home_of y n ≡ None
-    no_record = ap (λ (g : ℕ → Option (Rec B)). g n) s.same.home
-        ∙ empty_none x.slots n (r.custody.undrawn_empty n (omega arith) room)
+    made_t : made_in z t ≡ suc (made_of x t)
+    made_t = (λ j. made_by ((put_else (put (held_of x) t (Some s.acts.after_it)) n s.new_held t not_t
+        ∙ put_here (held_of x) t (Some s.acts.after_it)) j) (home_of x t) + put_here (making x.seats.hands) t 1 j)
+        ∙ (let a = acts_made r id t s.acts in let c = makes_none x.seats.hands t calm in omega arith)
 
-    made_new : made_of y n ≡ 0
-    made_new =
-        let a : made_by (held_of y n) (home_of y n) ≡ 0 =
-        (λ j. made_by (held_of y n) (no_record j)) ∙ made_none (held_of y n) refl in
-        let b : making y.seats.hands n ≡ 0 =
-        s.same.makings n not_t ∙ makes_none x.seats.hands n undrawn in omega arith
-      where
-        made_none : (o : Option (Custody B)) → held_of y n ≡ o → made_by o None ≡ 0
-        made_none None e = refl
-        made_none (Some k) e = s.new_held k e
+    no_record : home_of x n ≡ None
+    no_record = empty_none x.slots n (r.custody.undrawn_empty n (omega arith) room)
+
+    made_new : made_in z n ≡ 0
+    made_new = (λ j. made_by (put_here (put (held_of x) t (Some s.acts.after_it)) n s.new_held j) (no_record j)
+        + put_else (making x.seats.hands) t 1 n (λ e. not_t (sym e)) j)
+        ∙ (let a = s.new_made in let c = makes_none x.seats.hands n undrawn in omega arith)
 
     -- what the draw makes of the things made and of the hands
     pub drawn_into : IsDrawnInto n r.born r.maker r.number (made_of x) (hand_of x) h (made_of y) (hand_of y)
-    drawn_into = record {
-      here = s.same.hand;
-      else = s.same.hands;
-      made_one = ap (made_of y) s.hand_maker ∙ (made_t ∙ ap (λ m. suc (made_of x m)) (sym s.hand_maker));
-      made_none = made_new;
-      made_else = λ c a b.
-          let d : c ≢ t = λ e. a (e ∙ sym s.hand_maker) in
-          λ j. made_by (s.same.helds c d b j) (s.same.home j c) + s.same.makings c d j;
-    }
+    drawn_into = back (λ j. IsDrawnInto n r.born r.maker r.number (made_of x) (hand_of x) h (made_in (s.parts j))
+        ((s.parts j).hand)) record {
+          here = put_here (hand_of x) n (Some h);
+          else = λ c a. put_else (hand_of x) n (Some h) c a;
+          made_one = ap (made_in z) s.hand_maker ∙ (made_t ∙ ap (λ m. suc (made_of x m)) (sym s.hand_maker));
+          made_none = made_new;
+          made_else = λ c a b.
+              let d : c ≢ t = λ e. a (e ∙ sym s.hand_maker) in
+              λ j. made_by ((put_else (put (held_of x) t (Some s.acts.after_it)) n s.new_held c b
+              ∙ put_else (held_of x) t (Some s.acts.after_it) c d) j) (home_of x c)
+              + put_else (making x.seats.hands) t 1 c d j;
+        }
 
     -- what a draw needs of the cells that there are
     pub may_draw : MayDraw n r.born r.maker r.number (made_of x) (hand_of x) h
@@ -108,7 +112,7 @@ module _ {B : Type 0} {program : Program B} {cells : ℕ} {x : Contents B} (r : 
       task = reference_of r.born t;
       is_task = (
         subst (λ m. IsCell r.born m (reference_of r.born t)) (sym s.hand_maker) (cell_born r t t_there.0),
-        sort_is r t t_there ∙ ap phase_sort (acts_phase r y id t s.acts),
+        sort_is r t t_there ∙ ap phase_sort (acts_phase r id t s.acts),
       );
       calm = λ c g e.
           let f = hand_found x.seats.hands c g e in
@@ -144,15 +148,15 @@ module _ {B : Type 0} {program : Program B} {cells : ℕ} {x : Contents B} (r : 
         (r.born ++ next_reference r.born t (made_of x t) h.sort ∷ []) (put r.maker n t)
     draw_shown = record {
       allowed = may h.sort;
-      shown = one_drawn r.born born' r.maker (put r.maker n t) (parts_of cells x) (parts_of cells y) t h s.same
-          t_there.0 t_there.1 s.hand_maker made_t (acts_stage r y id t s.acts (home_of x t)) made_new named names refl
-          s.keeps.others s.keeps.cleared
-          ∙ sym (drawn_after K t h.sort);
+      shown = ap (shown_by born' (put r.maker n t)) s.parts
+          ∙ (one_drawn r.born born' r.maker (parts_of cells x) t h (Some s.acts.after_it) s.new_held
+          t_there.0 t_there.1 s.hand_maker made_t (acts_stage r id t s.acts) made_new named names
+          ∙ sym (drawn_after K t h.sort));
     }
       where
         may : (o : Sort) → Allowed cells K (draw_event o t)
-        may sort.Promise = (acts_run r y id t s.acts, room)
-        may sort.Task = (acts_run r y id t s.acts, room)
+        may sort.Promise = (acts_run r id t s.acts, room)
+        may sort.Task = (acts_run r id t s.acts, room)
 
         new : Reference
         new = next_reference r.born t (made_of x t) h.sort

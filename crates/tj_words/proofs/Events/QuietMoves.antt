@@ -4,8 +4,8 @@ use Rattle.tj_words.proofs.Prelude.{CoreState, Custody, Does, DrawIsRefused, End
 use Rattle.tj_words.proofs.Prelude.{KeepsOthers, Law, Leaves, LoadsOnly, MovesRecord, None, Option, Phase, Program, Rec}
 use Rattle.tj_words.proofs.Prelude.{ReleasesTask, ShelvesTask, ShowsNothing, Some, StoresOnce, Walker, Way, WordsSay}
 use Rattle.tj_words.proofs.Prelude.{[], answer_stage, ap, arith, cell, core_shown, does_first, does_stage, drawn_in}
-use Rattle.tj_words.proofs.Prelude.{hand_of, held_of, home_of, made_by, min, parts_of, phase_of, phase_sort, refl}
-use Rattle.tj_words.proofs.Prelude.{shown_by, stage_there, subst, suc, sym, total, ℕ, ◌++◌, ◌∙◌, ◌∷◌, ◌≡◌}
+use Rattle.tj_words.proofs.Prelude.{hand_of, held_of, home_of, min, parts_of, phase_of, phase_sort, refl, shown_by}
+use Rattle.tj_words.proofs.Prelude.{stage_there, subst, suc, sym, total, ℕ, ◌++◌, ◌∙◌, ◌∷◌, ◌≡◌}
 use Rattle.tj_words.specs.Steps.QuietSteps.{KeepsHoldings, SplitsSeat}
 use Rattle.tj_words.proofs.Seating.Appending.{hand_snoc, making_snoc, find_snoc, total_snoc}
 use Rattle.tj_words.proofs.Events.ShownCells.{stage_out}
@@ -182,14 +182,9 @@ module _ {B : Type 0} where
           let u = s.turns in
           let same : x.words.phase t ≡ phase_of d =
           (custody r id t u.before_it u.held).does ∙ ap phase_of u.did in
-          quiet_move t (phase_of d) (Some u.after_it) (home_of y t) (record {
-            same = u.turned.same;
-            phase_is = u.turned.phase ∙ ap phase_of u.now;
-            held_is = u.turned.held;
-            home_is = refl;
-            made = u.turned.made
-                ∙ sym (ap (λ (o : Option (Custody B)). made_by o (home_of x t)) (held_here r id t u.before_it u.held));
-          }) s.there s.keeps
+          quiet_move t (phase_of d) (Some u.after_it) (home_of y t)
+          (subst (λ z. IsMoved cells x y t (phase_of z) (Some u.after_it) (home_of y t)) u.now u.turned)
+          s.there s.keeps
           (kept_stage t (x.words.own t) u.before_it u.after_it (home_of x t) (home_of y t) d u.did u.now
           ∙ (λ j. stage_there t (phase_sort (sym same j)) (x.words.own t) (sym same j)
           (sym (held_here r id t u.before_it u.held) j) (home_of x t)))

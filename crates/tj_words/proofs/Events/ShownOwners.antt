@@ -1,166 +1,142 @@
--- What the core state shows after a cell has another owner, or a cell in hand has its first one.
-use Rattle.tj_words.proofs.Prelude.{CellState, Cells, Hand, IsSameBut, IsSameButOwner, List, None, Option, Parts, Phase}
-use Rattle.tj_words.proofs.Prelude.{Reference, alter, ap, cell_by, dite, made_by, owner_shown, phase_sort, promise, put}
-use Rattle.tj_words.proofs.Prelude.{put_else, put_here, reference_of, refl, restage, shown_by, stage_shown, stage_there}
-use Rattle.tj_words.proofs.Prelude.{staged, subst, sym, ℕ, ℕ_discrete, ◌+◌, ◌<◌, ◌∙◌, ◌≡◌, ◌≢◌}
-use Rattle.tj_core.specs.CoreState.{CoreState, ended}
+-- What the core state shows after a cell has another owner.
+use Rattle.tj_words.proofs.Prelude.{Contents, CoreState, Custody, IsHeldWith, Law, List, None, Option, Parts, Program}
+use Rattle.tj_words.proofs.Prelude.{Reference, Some, alter, ap, arith, at_put, cell_by, hand_of, home_of, made_by}
+use Rattle.tj_words.proofs.Prelude.{owner_shown, parts_of, phase_sort, put, put_else, put_here, reference_of, refl}
+use Rattle.tj_words.proofs.Prelude.{restage, running, shown_by, stage_shown, stage_there, staged, sym, ℕ, ◌+◌, ◌<◌, ◌∙◌}
+use Rattle.tj_words.proofs.Prelude.{◌≡◌, ◌≢◌}
+use Rattle.tj_core.specs.CoreState.{ended}
 use Rattle.tj_core.specs.Events.{owned_by}
-use Rattle.tj_words.proofs.Events.ShownCells.{states_same, with_cell, put_again, cell_there, one_cell, restaged}
+use Rattle.tj_words.specs.Steps.ShownParts.{owned_parts}
+use Rattle.tj_words.proofs.Events.QuietCells.{stage_does}
+use Rattle.tj_words.proofs.Events.ShownCells.{cell_blank, cell_there, shown_is}
+use Rattle.tj_words.proofs.Holders.TaskPlaces.{held_here}
 use Rattle.tj_base.specs.declared.cell.Sort.TheVariants as sort
 
--- a stage put back is no change
-pub stage_again : (s : CoreState) (t : ℕ) (c : ℕ) → (restage s t (λ st. st)).cells c ≡ s.cells c
-stage_again s t c = dite (ℕ_discrete c t)
-    (λ e. subst (λ k. (restage s t (λ st. st)).cells k ≡ s.cells k) (sym e) (put_here s.cells t (s.cells t)))
-    (λ n. put_else s.cells t (s.cells t) c n)
+module _ {B : Type 0} (x : Parts B) where
+  -- the cell shows the same if a seat has this for it
+  pub record ShowsAs (c : ℕ) (k : Option (Custody B)) : Type 0 where
+    pub made : made_by k (x.home c) ≡ made_by (x.held c) (x.home c)
+    pub stage : stage_shown c (x.hand c) (x.own c) (x.phase c) k (x.home c)
+        ≡ stage_shown c (x.hand c) (x.own c) (x.phase c) (x.held c) (x.home c)
 
-module _ {B : Type 0} (born : List Reference) (maker : ℕ → ℕ) where
-  -- the same stage of t shows the same state
-  pub unchanged : (x y : Parts B) (t : ℕ)
-      → IsSameBut t x y
-      → t < x.drawn
-      → x.hand t ≡ None
-      → made_by (y.held t) (y.home t) ≡ made_by (x.held t) (x.home t)
-      → stage_there t (phase_sort (y.phase t)) (x.own t) (y.phase t) (y.held t) (y.home t)
-      ≡ stage_there t (phase_sort (x.phase t)) (x.own t) (x.phase t) (x.held t) (x.home t)
-      → shown_by born maker y ≡ record (shown_by born maker x) { others = y.others; cleared = y.cleared }
-  unchanged x y t s inside out made stages =
-      restaged born maker x y t s (λ st. st) inside out made stages
-      ∙ states_same (record (restage (shown_by born maker x) t (λ st. st)) { others = y.others; cleared = y.cleared })
-      (record (shown_by born maker x) { others = y.others; cleared = y.cleared }) refl
-      (stage_again (shown_by born maker x) t) refl refl
+  pub shows_itself : (c : ℕ) → ShowsAs c (x.held c)
+  shows_itself c = record { made = refl; stage = refl }
 
-  module _ (x y : Parts B) (p t u : ℕ) (s : IsSameButOwner p t u x y) where
-    abbrev K : CoreState
-    K = shown_by born maker x
+-- a task shows the same if its seat has for it what does the same, and has made as many things
+pub shows_as : {B : Type 0} {program : Program B} {cells : ℕ} {x : Contents B} (r : Law program cells x) (id t : ℕ)
+    (k k' : Custody B) → IsHeldWith x id t k → k'.does ≡ k.does → k'.made ≡ k.made
+    → ShowsAs (parts_of cells x) t (Some k')
+shows_as {x = x} r id t k k' h does made = record {
+  made = made ∙ sym (ap (λ o. made_by o (home_of x t)) (held_here r id t k h));
+  stage = stage_does t (hand_of x t) (x.words.own t) (x.words.phase t) k k' (home_of x t) does
+      ∙ sym (ap (λ o. stage_shown t (hand_of x t) (x.words.own t) (x.words.phase t) o (home_of x t))
+      (held_here r id t k h));
+}
 
-    -- first the seat has something else for t, then for u, and then p has another owner
-    abbrev pub first : Parts B
-    first = record x { held = put x.held t (y.held t); others = y.others; cleared = y.cleared }
+module _ {B : Type 0} (born : List Reference) (maker : ℕ → ℕ) (x : Parts B) where
+  abbrev K : CoreState
+  K = shown_by born maker x
 
-    abbrev pub second : Parts B
-    second = record y { own = x.own }
+  -- the promise p has another owner, the task t runs, and each other cell shows what it showed
+  module _ (p t : ℕ) (o : Option ℕ) (held : ℕ → Option (Custody B)) where
+    abbrev y : Parts B
+    y = record x { own = put x.own p o; held = held }
 
-    pub to_first : IsSameBut t x first
-    to_first = record {
-      drawn = refl;
-      hand = refl;
-      making = refl;
-      own = refl;
-      phases = λ c n. refl;
-      helds = λ c n. put_else x.held t (y.held t) c n;
-      homes = λ c n. refl;
-    }
-
-    pub to_second : IsSameBut u first second
-    to_second = record {
-      drawn = s.drawn;
-      hand = s.hand;
-      making = s.making;
-      own = refl;
-      phases = λ c n. λ j. s.phase j c;
-      helds = λ c n. dite (ℕ_discrete c t)
-          (λ e. subst (λ k. y.held k ≡ put x.held t (y.held t) k) (sym e) (sym (put_here x.held t (y.held t))))
-          (λ d. s.helds c d n ∙ sym (put_else x.held t (y.held t) c d));
-      homes = λ c n. λ j. s.home j c;
-    }
-
-    -- p, a promise, has another owner
-    pub promise_owned : p < x.drawn
+    pub owner_changed : t < x.drawn
+        → x.hand t ≡ None
+        → made_by (held t) (x.home t) ≡ made_by (x.held t) (x.home t)
+        → stage_there t (phase_sort (x.phase t)) (x.own t) (x.phase t) (held t) (x.home t) ≡ running
+        → p < x.drawn
         → x.hand p ≡ None
         → phase_sort (x.phase p) ≡ sort.Promise
-        → shown_by born maker y ≡ alter (shown_by born maker second) p (owned_by (y.own p))
-    promise_owned inside out is =
-        one_cell born maker second y p (owned_by (y.own p) ((shown_by born maker second).cells p)) refl there else
-        (here ∙ sym (ap (owned_by (y.own p)) (cell_there born maker second p there)))
+        → p ≢ t
+        → ((c : ℕ) → c ≢ t → ShowsAs x c (held c))
+        → shown_by born maker y ≡ alter (restage K t (λ _. running)) p (owned_by o)
+    owner_changed inside out made runs inside_p out_p is apart else = shown_is born maker y
+        (alter (restage K t (λ _. running)) p (owned_by o)) refl
+        (λ c l. at_put (put K.cells t (staged running (K.cells t))) p
+        (owned_by o (put K.cells t (staged running (K.cells t)) p)) (λ d a. cell_by born maker y d ≡ a) c
+        (here ∙ ap (owned_by o) (sym (cell_there born maker x p inside_p)
+        ∙ sym (put_else K.cells t (staged running (K.cells t)) p apart)))
+        (λ n. at_put K.cells t (staged running (K.cells t)) (λ d a. cell_by born maker y d ≡ a) c
+        (task ∙ ap (staged running) (sym (cell_there born maker x t inside)))
+        (λ m. other c n m ∙ sym (cell_there born maker x c l))))
+        (λ c l. put_else (put K.cells t (staged running (K.cells t))) p
+        (owned_by o (put K.cells t (staged running (K.cells t)) p)) c (λ e. omega arith)
+        ∙ (put_else K.cells t (staged running (K.cells t)) c (λ e. omega arith)
+        ∙ cell_blank born maker x c l)) refl refl
       where
-        there : p < second.drawn
-        there = subst (λ k. p < k) (sym s.drawn) inside
-
-        no_hand : y.hand p ≡ None
-        no_hand = ap (λ (g : ℕ → Option Hand). g p) s.hand ∙ out
-
-        sorted : phase_sort (y.phase p) ≡ sort.Promise
-        sorted = ap (λ (g : ℕ → Phase). phase_sort (g p)) s.phase ∙ is
-
-        else : (c : ℕ) → c ≢ p → cell_by born maker y c ≡ cell_by born maker second c
-        else c n = λ j. record {
-          maker = maker c;
-          name = (reference_of born c).name;
-          made = made_by (y.held c) (y.home c) + y.making c;
-          owner = owner_shown c (y.hand c) (s.owns c n j);
-          stage = stage_shown c (y.hand c) (s.owns c n j) (y.phase c) (y.held c) (y.home c);
-        }
-
-        staged_so : (o : Option ℕ) → stage_shown p (y.hand p) o (y.phase p) (y.held p) (y.home p) ≡ promise
-        staged_so o = (λ j. stage_shown p (no_hand j) o (y.phase p) (y.held p) (y.home p))
-            ∙ (λ j. stage_there p (sorted j) o (y.phase p) (y.held p) (y.home p))
-
-        here : cell_by born maker y p ≡ owned_by (y.own p) (cell_by born maker second p)
+        here : cell_by born maker y p ≡ owned_by o (cell_by born maker x p)
         here = λ j. record {
           maker = maker p;
           name = (reference_of born p).name;
-          made = made_by (y.held p) (y.home p) + y.making p;
-          owner = ap (λ (o : Option Hand). owner_shown p o (y.own p)) no_hand j;
-          stage = (staged_so (y.own p) ∙ sym (staged_so (x.own p))) j;
+          made = (else p apart).made j + x.making p;
+          owner = owner_shown p (out_p j) (put_here x.own p o j);
+          stage = ((λ i. stage_shown p (out_p i) (put x.own p o p) (x.phase p) (held p) (x.home p))
+              ∙ ((λ i. stage_there p (is i) (put x.own p o p) (x.phase p) (held p) (x.home p))
+              ∙ ((λ i. stage_there p (sym is i) (x.own p) (x.phase p) (x.held p) (x.home p))
+              ∙ (λ i. stage_shown p (sym out_p i) (x.own p) (x.phase p) (x.held p) (x.home p))))) j;
+        }
+
+        task : cell_by born maker y t ≡ staged running (cell_by born maker x t)
+        task = λ j. record {
+          maker = maker t;
+          name = (reference_of born t).name;
+          made = made j + x.making t;
+          owner = owner_shown t (x.hand t) (put_else x.own p o t (λ e. apart (sym e)) j);
+          stage = ((λ i. stage_shown t (out i) (put_else x.own p o t (λ e. apart (sym e)) i) (x.phase t) (held t)
+              (x.home t)) ∙ runs) j;
+        }
+
+        other : (c : ℕ) → c ≢ p → c ≢ t → cell_by born maker y c ≡ cell_by born maker x c
+        other c n m = λ j. record {
+          maker = maker c;
+          name = (reference_of born c).name;
+          made = (else c m).made j + x.making c;
+          owner = owner_shown c (x.hand c) (put_else x.own p o c n j);
+          stage = ((λ i. stage_shown c (x.hand c) (put_else x.own p o c n i) (x.phase c) (held c) (x.home c))
+              ∙ (else c m).stage) j;
         }
 
   -- t has closed its result
-  pub result_closed : (x y : Parts B) (t : ℕ)
-      → IsSameButOwner t t t x y
-      → t < x.drawn
-      → x.hand t ≡ None
-      → phase_sort (x.phase t) ≡ sort.Task
-      → made_by (y.held t) (y.home t) ≡ made_by (x.held t) (x.home t)
-      → y.own t ≡ None
-      → shown_by born maker y
-      ≡ record (alter (restage (shown_by born maker x) t (λ _. ended)) t (owned_by None)) {
-        others = y.others;
-        cleared = y.cleared;
-      }
-  result_closed x y t s inside out sorted made free =
-      one_cell born maker x y t (closed_cell (cells t)) s.drawn inside else
-      (here ∙ sym (ap closed_cell (cell_there born maker x t inside)))
-      ∙ states_same (with_cell (shown_by born maker x) t (closed_cell (cells t)) y.others y.cleared)
-      (record (alter (restage (shown_by born maker x) t (λ _. ended)) t (owned_by None)) {
-        others = y.others;
-        cleared = y.cleared;
-      }) refl twice refl refl
-    where
-      cells : Cells
-      cells = (shown_by born maker x).cells
+  module _ (t : ℕ) (k : Option (Custody B)) where
+    abbrev z : Parts B
+    z = owned_parts x t None t k
 
-      closed_cell : CellState → CellState
-      closed_cell a = owned_by None (staged ended a)
+    pub result_closed : t < x.drawn
+        → x.hand t ≡ None
+        → phase_sort (x.phase t) ≡ sort.Task
+        → made_by k (x.home t) ≡ made_by (x.held t) (x.home t)
+        → shown_by born maker z ≡ alter (restage K t (λ _. ended)) t (owned_by None)
+    result_closed inside out sorted made = shown_is born maker z
+        (alter (restage K t (λ _. ended)) t (owned_by None)) refl
+        (λ c l. at_put (put K.cells t (staged ended (K.cells t))) t
+        (owned_by None (put K.cells t (staged ended (K.cells t)) t)) (λ d a. cell_by born maker z d ≡ a) c
+        (here ∙ ap (owned_by None) (ap (staged ended) (sym (cell_there born maker x t inside))
+        ∙ sym (put_here K.cells t (staged ended (K.cells t)))))
+        (λ n. other c n ∙ (sym (cell_there born maker x c l)
+        ∙ sym (put_else K.cells t (staged ended (K.cells t)) c n))))
+        (λ c l. put_else (put K.cells t (staged ended (K.cells t))) t
+        (owned_by None (put K.cells t (staged ended (K.cells t)) t)) c (λ e. omega arith)
+        ∙ (put_else K.cells t (staged ended (K.cells t)) c (λ e. omega arith)
+        ∙ cell_blank born maker x c l)) refl refl
+      where
+        here : cell_by born maker z t ≡ owned_by None (staged ended (cell_by born maker x t))
+        here = λ j. record {
+          maker = maker t;
+          name = (reference_of born t).name;
+          made = ((λ i. made_by (put_here x.held t k i) (x.home t)) ∙ made) j + x.making t;
+          owner = owner_shown t (out j) (put_here x.own t None j);
+          stage = ((λ i. stage_shown t (out i) (put_here x.own t None i) (x.phase t) (put x.held t k t) (x.home t))
+              ∙ (λ i. stage_there t (sorted i) None (x.phase t) (put x.held t k t) (x.home t))) j;
+        }
 
-      twice : (c : ℕ) → put cells t (closed_cell (cells t)) c
-          ≡ (alter (restage (shown_by born maker x) t (λ _. ended)) t (owned_by None)).cells c
-      twice c = sym (put_again cells t (closed_cell (cells t)) (staged ended (cells t)) c)
-          ∙ (λ j. put (put cells t (staged ended (cells t))) t
-          (owned_by None (sym (put_here cells t (staged ended (cells t))) j)) c)
-
-      else : (c : ℕ) → c ≢ t → cell_by born maker y c ≡ cell_by born maker x c
-      else c n = λ j. record {
-        maker = maker c;
-        name = (reference_of born c).name;
-        made = made_by (s.helds c n n j) (s.home j c) + s.making j c;
-        owner = owner_shown c (s.hand j c) (s.owns c n j);
-        stage = stage_shown c (s.hand j c) (s.owns c n j) (s.phase j c) (s.helds c n n j) (s.home j c);
-      }
-
-      no_hand : y.hand t ≡ None
-      no_hand = ap (λ (g : ℕ → Option Hand). g t) s.hand ∙ out
-
-      is_ended : stage_shown t (y.hand t) (y.own t) (y.phase t) (y.held t) (y.home t) ≡ ended
-      is_ended = (λ j. stage_shown t (no_hand j) (free j) (y.phase t) (y.held t) (y.home t))
-          ∙ (λ j. stage_there t ((ap (λ (g : ℕ → Phase). phase_sort (g t)) s.phase ∙ sorted) j) None (y.phase t)
-          (y.held t) (y.home t))
-
-      here : cell_by born maker y t ≡ closed_cell (cell_by born maker x t)
-      here = λ j. record {
-        maker = maker t;
-        name = (reference_of born t).name;
-        made = made j + s.making j t;
-        owner = (ap (λ (o : Option Hand). owner_shown t o (y.own t)) no_hand ∙ free) j;
-        stage = is_ended j;
-      }
+        other : (c : ℕ) → c ≢ t → cell_by born maker z c ≡ cell_by born maker x c
+        other c n = λ j. record {
+          maker = maker c;
+          name = (reference_of born c).name;
+          made = made_by (put_else x.held t k c n j) (x.home c) + x.making c;
+          owner = owner_shown c (x.hand c) (put_else x.own t None c n j);
+          stage = stage_shown c (x.hand c) (put_else x.own t None c n j) (x.phase c) (put_else x.held t k c n j)
+              (x.home c);
+        }

@@ -42,13 +42,13 @@ module _ {B : Type 0} {program : Program B} {cells : ℕ} {x : Contents B} (r : 
 
   -- births after a draw
   pub births_after : Births (drawn_in cells y) born' maker' number' (made_of y) (hand_of y) y.words.phase
-  births_after = back (λ j. Births (s.same.drawn j) born' maker' number' (made_of y) (hand_of y) (s.same.phase j))
+  births_after = back (λ j. Births ((s.parts j).drawn) born' maker' number' (made_of y) (hand_of y) ((s.parts j).phase))
       (births_drawn (may_draw r y id t h s) (drawn_into r y id t h s) x.words.phase r.births)
 
   -- the tree of forks after a draw
   pub tree_after : IsForkTree (drawn_in cells y) born' maker' number' (forks_after h.sort h.maker n k r.forks)
       (hand_of y)
-  tree_after = back (λ j. IsForkTree (s.same.drawn j) born' maker' number'
+  tree_after = back (λ j. IsForkTree ((s.parts j).drawn) born' maker' number'
       (forks_after h.sort h.maker n k r.forks) (hand_of y))
       (tree_drawn (may_draw r y id t h s) (drawn_into r y id t h s) x.words.phase r.births r.tree)
 
@@ -59,7 +59,7 @@ module _ {B : Type 0} {program : Program B} {cells : ℕ} {x : Contents B} (r : 
       ⊎ (x.words.once n f ≡ tree_word maker' number' (forks_after h.sort h.maker n k r.forks) h.sort n f))
       → TreeWords (drawn_in cells y) born' maker' number' (forks_after h.sort h.maker n k r.forks) (hand_of y)
       y.words.once y.seats.dues
-  tree_words_after same keeps news = back (λ j. TreeWords (s.same.drawn j) born' maker' number'
+  tree_words_after same keeps news = back (λ j. TreeWords ((s.parts j).drawn) born' maker' number'
       (forks_after h.sort h.maker n k r.forks) (hand_of y) (same j) y.seats.dues)
       (tree_words_drawn (may_draw r y id t h s) (drawn_into r y id t h s) x.words.phase r.births r.tree_words keeps
       news)

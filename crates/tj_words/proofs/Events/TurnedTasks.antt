@@ -1,14 +1,12 @@
 -- A task turns from one thing to another: the shared lemmas of all events by which it does so.
 use Rattle.tj_words.proofs.Prelude.{Allowed, Bool, CellStage, Contents, CoreState, Custody, Does, Event, IsBegun}
-use Rattle.tj_words.proofs.Prelude.{IsHeldWith, IsMoved, IsTurned, Law, MayAct, None, Option, Phase, Program, Rec, Runs}
+use Rattle.tj_words.proofs.Prelude.{IsHeldWith, IsMoved, Law, MayAct, None, Option, Phase, Program, Rec, Runs}
 use Rattle.tj_words.proofs.Prelude.{ShowsEvent, ShowsNothing, Some, after, ap, cond, core_shown, drawn_in, false, fresh}
-use Rattle.tj_words.proofs.Prelude.{hand_in, held_of, home_of, made_by, nat_eq, new_stage, parts_of, phase_of}
-use Rattle.tj_words.proofs.Prelude.{phase_sort, refl, restage, running, stage, stage_there, subst, sym, total, true, ℕ}
-use Rattle.tj_words.proofs.Prelude.{◌<◌, ◌∙◌, ◌≡◌}
-use Rattle.tj_words.proofs.Events.ShownCells.{states_same, restaged, stage_out}
-use Rattle.tj_words.proofs.Events.ShownOwners.{stage_again}
-use Rattle.tj_words.proofs.Holders.TaskPlaces.{does_shown, does_stage_there, begun_out, held_here, held_drawn, custody}
-use Rattle.tj_words.proofs.Holders.TaskPlaces.{stage_held}
+use Rattle.tj_words.proofs.Prelude.{hand_in, home_of, nat_eq, new_stage, parts_of, phase_of, phase_sort, refl, restage}
+use Rattle.tj_words.proofs.Prelude.{running, shown_by, stage, stage_there, subst, sym, total, true, ℕ, ◌<◌, ◌∙◌, ◌≡◌}
+use Rattle.tj_words.proofs.Events.ShownCells.{restaged, stage_out}
+use Rattle.tj_words.proofs.Holders.TaskPlaces.{does_shown, does_stage_there, begun_out, held_drawn, custody, stage_held}
+use Rattle.tj_words.proofs.Holders.SeatTasks.{put_self}
 use Rattle.tj_words.specs.declared.view.Does.TheVariants as does
 
 -- a new task runs
@@ -46,18 +44,15 @@ module _ {B : Type 0} {program : Program B} {cells : ℕ} {x : Contents B} (r : 
 
   module _ (p : Phase) (held : Option (Custody B)) (home : Option (Rec B)) (m : IsMoved cells x y t p held home)
       (there : t < n) (out : hand_in x.seats.hands t ≡ None) where
-    same_made : made_by (held_of y t) (home_of y t) ≡ made_by (held_of x t) (home_of x t)
-    same_made = (λ j. made_by (m.held_is j) (m.home_is j)) ∙ m.made
-
     -- a task that moves is at another stage
     pub moved : (u : Option ℕ) (f : CellStage → CellStage)
         → x.words.own t ≡ u
         → stage_there t (phase_sort p) u p held home ≡ f (stage K.cells t)
         → core_shown cells r.born r.maker y
         ≡ record (restage K t f) { others = y.words.others; cleared = total y.seats.cleared }
-    moved u f owns fits =
-        restaged r.born r.maker (parts_of cells x) (parts_of cells y) t m.same f there out same_made
-        ((λ j. stage_there t (phase_sort (m.phase_is j)) (owns j) (m.phase_is j) (m.held_is j) (m.home_is j))
+    moved u f owns fits = ap (shown_by r.born r.maker) m.parts
+        ∙ restaged r.born r.maker (parts_of cells x) t p held home y.words.others (total y.seats.cleared) f there out
+        m.made ((λ j. stage_there t (phase_sort p) (owns j) p held home)
         ∙ (fits ∙ ap f (stage_out r.born r.maker (parts_of cells x) t there out)))
 
     -- so the step is the event that does this
@@ -84,23 +79,17 @@ module _ {B : Type 0} {program : Program B} {cells : ℕ} {x : Contents B} (r : 
         → ShowsNothing cells r.born r.maker x y
     moved_nothing u owns fits same_others same_cleared =
         moved u (λ st. st) owns fits
-        ∙ states_same
-        (record (restage K t (λ st. st)) { others = y.words.others; cleared = total y.seats.cleared }) K refl
-        (stage_again K t) same_others same_cleared
+        ∙ (λ j. record {
+          count = n;
+          cells = sym (put_self K.cells t (K.cells t) refl) j;
+          others = same_others j;
+          cleared = same_cleared j;
+        })
 
-  module _ (id : ℕ) (k k' : Custody B) (h : IsHeldWith x id t k) (s : IsTurned cells x y t k k')
-      (begun : IsBegun (phase_of k.does)) where
+  module _ (id : ℕ) (k k' : Custody B) (h : IsHeldWith x id t k)
+      (s : IsMoved cells x y t (phase_of k'.does) (Some k') (home_of y t)) (begun : IsBegun (phase_of k.does)) where
     pub turned_out : hand_in x.seats.hands t ≡ None
     turned_out = begun_out r t (subst IsBegun (sym (custody r id t k h).does) begun)
-
-    turned_moved : IsMoved cells x y t (phase_of k'.does) (Some k') (home_of y t)
-    turned_moved = record {
-      same = s.same;
-      phase_is = s.phase;
-      held_is = s.held;
-      home_is = refl;
-      made = s.made ∙ sym (ap (λ (o : Option (Custody B)). made_by o (home_of x t)) (held_here r id t k h));
-    }
 
     -- a held task that turns from one thing to another is the event that does this
     pub turned_event : (u : ℕ) (f : CellStage → CellStage) (e : Event) (others cleared : ℕ)
@@ -112,7 +101,7 @@ module _ {B : Type 0} {program : Program B} {cells : ℕ} {x : Contents B} (r : 
         → total y.seats.cleared ≡ cleared
         → ShowsEvent cells r.born r.maker x y e r.born r.maker
     turned_event u f e others cleared owns fits =
-        moved_event (phase_of k'.does) (Some k') (home_of y t) turned_moved (held_drawn r id t k h) turned_out
+        moved_event (phase_of k'.does) (Some k') (home_of y t) s (held_drawn r id t k h) turned_out
         (Some u) f e others cleared owns
         (does_stage_there t u k' (home_of y t) k'.does refl
         ∙ (fits ∙ ap f (sym (stage_held r id t k h u turned_out owns))))

@@ -2,14 +2,14 @@
 use Rattle.tj_words.proofs.Prelude.{All, AreThere, Bool, Contents, Custodies, Custody, Does, Each, Hand, Hands}
 use Rattle.tj_words.proofs.Prelude.{HasAlarmed, IsCustody, IsHeldWith, IsIn, IsKept, IsLaid, Law, List, None, Option}
 use Rattle.tj_words.proofs.Prelude.{Phase, Program, Rec, Some, Sort, [], ap, cond, dite, does_cells, drawn_in, eq-eqb}
-use Rattle.tj_words.proofs.Prelude.{find_in, get_elem?, hand_of, held_in, hold, home_of, inl, inr, let_go, made_by}
-use Rattle.tj_words.proofs.Prelude.{made_of, making, ne_eqb, owned_by, owned_of, phase_of, refl, set, some, sort_shown}
-use Rattle.tj_words.proofs.Prelude.{subst, sym, ℕ, ℕ_discrete, ⊎_elim, ◌+◌, ◌∙◌, ◌∷◌, ◌≡◌, ◌≢◌}
+use Rattle.tj_words.proofs.Prelude.{find_in, get_elem?, hand_of, held_in, held_of, hold, home_of, inl, inr, let_go}
+use Rattle.tj_words.proofs.Prelude.{made_by, made_of, making, ne_eqb, owned_by, owned_of, phase_of, put, refl, set}
+use Rattle.tj_words.proofs.Prelude.{some, sort_shown, subst, sym, ℕ, ℕ_discrete, ⊎_elim, ◌+◌, ◌∙◌, ◌∷◌, ◌≡◌, ◌≢◌}
 use Rattle.tj_words.proofs.Stores.SeatLists.{each_set, each_else, of_seat_set}
 use Rattle.tj_words.proofs.Holders.HeldTasks.{none_some, one_some}
 use Rattle.tj_words.proofs.Holders.TaskPlaces.{custody, held_here, held_drawn}
 use Rattle.tj_words.proofs.Phases.PhaseSorts.{does_sort}
-use Rattle.tj_words.proofs.Holders.SeatTasks.{hold_here, hold_else, held_alone, find_changed, find_same}
+use Rattle.tj_words.proofs.Holders.SeatTasks.{hold_here, hold_else, held_alone, find_changed, find_same, put_is}
 use Rattle.tj_base.specs.declared.cell.Sort.TheVariants as sort
 use Rattle.tj_words.specs.declared.view.Does.TheVariants as does
 
@@ -49,6 +49,9 @@ module _ {B : Type 0} {program : Program B} {cells : ℕ} {x : Contents B} (r : 
 
   pub find_else : (u : ℕ) → u ≢ t → find_in tasks' u ≡ find_in x.seats.tasks u
   find_else u n = find_same x.seats.tasks id u h.0 (hold k' h.0) h.1 (else u n)
+
+  pub found_held : find_in tasks' ≡ put (held_of x) t (Some k')
+  found_held = put_is (held_of x) (find_in tasks') t (Some k') find_here find_else
 
   -- the cells that each task owns are as before, where those of this one are
   pub owned_held : k'.owned ≡ k.owned → (u : ℕ) → owned_by (find_in tasks' u) (home_of x u) ≡ owned_of x u

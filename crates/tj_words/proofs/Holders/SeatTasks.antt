@@ -1,12 +1,19 @@
 -- What is found for a task after one seat's list of tasks has changed.
-use Rattle.tj_words.proofs.Prelude.{Bool, Contents, Custody, IsHeldWith, IsMoved, IsSameBut, IsTurned, Law, List, None}
-use Rattle.tj_words.proofs.Prelude.{Option, Phase, Program, Rec, Some, [], ap, cond, dite, drawn_in, eq-eqb, false}
-use Rattle.tj_words.proofs.Prelude.{find_in, get_elem?, hand_in, held_in, held_of, hold, home_of, let_go, made_by}
-use Rattle.tj_words.proofs.Prelude.{making, nat_eq, ne_eqb, or_else, parts_of, phase_of, refl, set, some}
+use Rattle.tj_words.proofs.Prelude.{Bool, Contents, Custody, IsHeldWith, Law, List, None, Option, Program, Some, [], ap}
+use Rattle.tj_words.proofs.Prelude.{at_put, cond, dite, eq-eqb, false, find_in, get_elem?, held_in, held_of, hold}
+use Rattle.tj_words.proofs.Prelude.{home_of, let_go, made_by, nat_eq, ne_eqb, or_else, put, refl, set, some}
 use Rattle.tj_words.proofs.Prelude.{some-injective, some-ne-none, suc, sym, true, zero, ℕ, ℕ_discrete, ◌∙◌, ◌∷◌, ◌≡◌}
 use Rattle.tj_words.proofs.Prelude.{◌≢◌}
 use Rattle.tj_words.proofs.Holders.HeldTasks.{none_some, one_some}
 use Rattle.tj_words.proofs.Holders.TaskPlaces.{custody, held_here}
+
+-- a column that is this at one index, and as it was elsewhere
+pub put_is : {A : Type 0} (f g : ℕ → A) (i : ℕ) (a : A) → g i ≡ a → ((j : ℕ) → j ≢ i → g j ≡ f j) → g ≡ put f i a
+put_is f g i a here else k j = at_put f i a (λ m y. g m ≡ y) j here (else j) k
+
+-- and one that is so already
+pub put_self : {A : Type 0} (f : ℕ → A) (i : ℕ) (a : A) → f i ≡ a → f ≡ put f i a
+put_self f i a e = put_is f f i a e (λ j n. refl)
 
 module _ {B : Type 0} where
   -- a task that is let go isn't held; each other one is as before
@@ -75,6 +82,15 @@ module _ {B : Type 0} where
       (q ∙ ap (λ l. held_in l t) (sym (some-injective m ks e)))
   find_same (m ∷ seats) (suc id) t ks new e q = ap (or_else (held_in m t)) (find_same seats id t ks new e q)
 
+  -- so one entry of what is found for each task changes
+  pub find_put : (seats : List (List (Custody B))) (id t : ℕ) (ks new : List (Custody B))
+      → get_elem? seats id ≡ some ks
+      → IsAlone seats id t
+      → ((u : ℕ) → u ≢ t → held_in new u ≡ held_in ks u)
+      → find_in (set seats id new) ≡ put (find_in seats) t (held_in new t)
+  find_put seats id t ks new e a else = put_is (find_in seats) (find_in (set seats id new)) t (held_in new t)
+      (find_changed seats id t ks new e a) (λ u n. find_same seats id u ks new e (else u n))
+
   module _ {program : Program B} {cells : ℕ} {x : Contents B} (r : Law program cells x) where
     -- no other seat has something for a task that this one holds, or that is held by nobody
     pub held_alone : (id t : ℕ) → (r.custody.holder t ≡ Some id) → IsAlone x.seats.tasks id t
@@ -91,100 +107,14 @@ module _ {B : Type 0} where
         by None q = refl
         by (Some k) q = none_some (r.custody.holder t) j h (r.custody.held j m e t k q).mine
 
-    -- nothing by which the core state is shown is changed, but what is said of t, where the words and slots are the
-    -- same elsewhere, and the seat's list is the same but for t
-    pub same_but : (y : Contents B) (id t : ℕ) (ks new : List (Custody B))
-        → get_elem? x.seats.tasks id ≡ some ks
-        → ((u : ℕ) → u ≢ t → held_in new u ≡ held_in ks u)
-        → y.seats.tasks ≡ set x.seats.tasks id new
-        → y.seats.hands ≡ x.seats.hands
-        → drawn_in cells y ≡ drawn_in cells x
-        → y.words.own ≡ x.words.own
-        → ((c : ℕ) → c ≢ t → y.words.phase c ≡ x.words.phase c)
-        → ((c : ℕ) → c ≢ t → home_of y c ≡ home_of x c)
-        → IsSameBut t (parts_of cells x) (parts_of cells y)
-    same_but y id t ks new at else tasks hands drawn own phases homes = record {
-      drawn = drawn;
-      hand = ap hand_in hands;
-      making = ap making hands;
-      own = own;
-      phases = phases;
-      helds = λ c n. ap (λ l. find_in l c) tasks ∙ find_same x.seats.tasks id c ks new at (else c n);
-      homes = homes;
-    }
+    -- what is found once a seat has let a task go
+    pub let_go_held : (id t : ℕ) (k : Custody B) (h : IsHeldWith x id t k)
+        → find_in (set x.seats.tasks id (let_go t h.0)) ≡ put (held_of x) t None
+    let_go_held id t k h =
+        find_put x.seats.tasks id t h.0 (let_go t h.0) h.1 (held_alone id t (custody r id t k h).mine)
+        (λ u n. let_go_else t u h.0 n) ∙ ap (put (held_of x) t) (let_go_here t h.0)
 
-    -- a seat notes something else for a task that it holds
-    module _ (y : Contents B) (id t : ℕ) (k k' : Custody B) (h : IsHeldWith x id t k) (its : k'.task ≡ t)
-        (tasks : y.seats.tasks ≡ set x.seats.tasks id (hold k' h.0)) where
-      pub noted_found : held_of y t ≡ Some k'
-      noted_found = ap (λ l. find_in l t) tasks
-          ∙ (find_changed x.seats.tasks id t h.0 (hold k' h.0) h.1 (held_alone id t (custody r id t k h).mine)
-          ∙ (ap (held_in (hold k' h.0)) (sym its) ∙ hold_here k' h.0))
-
-      pub noted_turned : y.seats.hands ≡ x.seats.hands
-          → drawn_in cells y ≡ drawn_in cells x
-          → y.words.own ≡ x.words.own
-          → y.words.phase t ≡ phase_of k'.does
-          → ((c : ℕ) → c ≢ t → y.words.phase c ≡ x.words.phase c)
-          → ((c : ℕ) → c ≢ t → home_of y c ≡ home_of x c)
-          → k'.made ≡ k.made
-          → IsTurned cells x y t k k'
-      noted_turned hands drawn own here phases homes made = record {
-        same = same_but y id t h.0 (hold k' h.0) h.1
-            (λ u n. hold_else k' u h.0 (λ e. n (e ∙ its))) tasks hands drawn own phases homes;
-        phase = here;
-        held = noted_found;
-        made = made;
-      }
-
-    -- a seat lets a task go, whose record lies at home
-    pub let_go_moved : (y : Contents B) (id t : ℕ) (k : Custody B) (p : Phase) (c : Rec B) (h : IsHeldWith x id t k)
-        → y.seats.tasks ≡ set x.seats.tasks id (let_go t h.0)
-        → y.seats.hands ≡ x.seats.hands
-        → drawn_in cells y ≡ drawn_in cells x
-        → y.words.own ≡ x.words.own
-        → y.words.phase t ≡ p
-        → ((u : ℕ) → u ≢ t → y.words.phase u ≡ x.words.phase u)
-        → home_of y t ≡ Some c
-        → ((u : ℕ) → u ≢ t → home_of y u ≡ home_of x u)
-        → c.made ≡ k.made
-        → IsMoved cells x y t p None (Some c)
-    let_go_moved y id t k p c h tasks hands drawn own here phases home homes made = record {
-      same = same_but y id t h.0 (let_go t h.0) h.1 (λ u n. let_go_else t u h.0 n) tasks hands drawn own phases homes;
-      phase_is = here;
-      held_is = ap (λ l. find_in l t) tasks
-          ∙ (find_changed x.seats.tasks id t h.0 (let_go t h.0) h.1 (held_alone id t (custody r id t k h).mine)
-          ∙ let_go_here t h.0);
-      home_is = home;
-      made = made ∙ sym (ap (λ (o : Option (Custody B)). made_by o (home_of x t)) (held_here r id t k h));
-    }
-
-    -- a seat takes a task that nobody held, whose record lies at home
-    pub taken_moved : (y : Contents B) (id t : ℕ) (ks : List (Custody B)) (k : Custody B) (p : Phase) (c : Rec B)
-        (home' : Option (Rec B))
-        → get_elem? x.seats.tasks id ≡ some ks
-        → r.custody.holder t ≡ None
-        → k.task ≡ t
-        → y.seats.tasks ≡ set x.seats.tasks id (hold k ks)
-        → y.seats.hands ≡ x.seats.hands
-        → drawn_in cells y ≡ drawn_in cells x
-        → y.words.own ≡ x.words.own
-        → y.words.phase t ≡ p
-        → ((u : ℕ) → u ≢ t → y.words.phase u ≡ x.words.phase u)
-        → home_of y t ≡ home'
-        → ((u : ℕ) → u ≢ t → home_of y u ≡ home_of x u)
-        → home_of x t ≡ Some c
-        → held_of x t ≡ None
-        → k.made ≡ c.made
-        → IsMoved cells x y t p (Some k) home'
-    taken_moved y id t ks k p c home' at free its tasks hands drawn own here phases home homes lies unheld made =
-        record {
-          same = same_but y id t ks (hold k ks) at (λ u n. hold_else k u ks (λ e. n (e ∙ its))) tasks hands drawn own
-              phases homes;
-          phase_is = here;
-          held_is = ap (λ l. find_in l t) tasks
-              ∙ (find_changed x.seats.tasks id t ks (hold k ks) at (free_alone id t free)
-              ∙ (ap (held_in (hold k ks)) (sym its) ∙ hold_here k ks));
-          home_is = home;
-          made = made ∙ (λ j. made_by (sym unheld j) (sym lies j));
-        }
+    -- a task of a seat has made as many things as what the seat has for it says
+    pub made_held_by : (id t : ℕ) (k : Custody B) (h : IsHeldWith x id t k)
+        → k.made ≡ made_by (held_of x t) (home_of x t)
+    made_held_by id t k h = sym (ap (λ (o : Option (Custody B)). made_by o (home_of x t)) (held_here r id t k h))

@@ -3,8 +3,8 @@ use Rattle.tj_words.proofs.Prelude.{Bool, CellStage, Contents, CoreState, Custod
 use Rattle.tj_words.proofs.Prelude.{IsHeldWith, IsIn, IsThere, Law, None, Option, Program, Rec, Some, alarmed, ap}
 use Rattle.tj_words.proofs.Prelude.{arith, cell, core_shown, dec_le, dite, drawn_in, false, get_elem?, hand_in, hand_of}
 use Rattle.tj_words.proofs.Prelude.{hand_phase, held_in, held_of, home_of, new_stage, owned_by, owned_of, parts_of}
-use Rattle.tj_words.proofs.Prelude.{phase_of, phase_sort, raised, refl, running, some-injective, stage, stage_there}
-use Rattle.tj_words.proofs.Prelude.{subst, sym, true, waits, walks, ℕ, ◌<◌, ◌∙◌, ◌≡◌, ◌≤◌}
+use Rattle.tj_words.proofs.Prelude.{phase_of, phase_sort, raised, refl, running, some, some-injective, stage}
+use Rattle.tj_words.proofs.Prelude.{stage_there, subst, sym, true, waits, walks, ℕ, ◌<◌, ◌∙◌, ◌≡◌, ◌≤◌}
 use Rattle.tj_words.proofs.Holders.HeldTasks.{none_some, one_some, found, finds, hand_found}
 use Rattle.tj_words.proofs.Events.ShownCells.{stage_out}
 use Rattle.tj_base.specs.declared.cell.Sort.TheVariants as sort
@@ -64,6 +64,11 @@ module _ {B : Type 0} where
 
     pub begun_there : (t : ℕ) → IsBegun (x.words.phase t) → IsThere n (hand_of x) t
     begun_there t b = (begun_drawn t b, begun_out t b)
+
+    -- the maker of a cell in hand is held by the seat that has it in hand
+    pub hand_seat : (j : ℕ) (h : Hand) → get_elem? x.seats.hands j ≡ some (Some h) → r.custody.holder h.maker ≡ Some j
+    hand_seat j h e = let m = (r.hands.each j h e).maker_held in
+        (r.custody.held j m.0 m.1 h.maker m.2.0 m.2.1).mine
 
     -- where nobody holds a task, nothing is found for it
     pub unheld : (t : ℕ) → r.custody.holder t ≡ None → held_of x t ≡ None

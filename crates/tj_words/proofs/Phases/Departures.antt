@@ -2,12 +2,12 @@
 use Rattle.tj_words.proofs.Prelude.{AreThere, CellId, Chains, Contents, CoreFacts, Custody, Does, Hand, IsHeldWith}
 use Rattle.tj_words.proofs.Prelude.{IsKept, Law, Leaves, LiesAtHome, List, LiveCount, None, Option, Phase, Program}
 use Rattle.tj_words.proofs.Prelude.{Push, Rec, RecordsFit, Slots, Some, Walk, Way, ap, core_shown, dite, drawn_in}
-use Rattle.tj_words.proofs.Prelude.{get_elem?, hand_of, held_in, home_in, home_of, let_go, numbers, phase_sort}
-use Rattle.tj_words.proofs.Prelude.{record_cells, record_in, refl, set, some, subst, sym, tag_in, ℕ, ℕ_discrete, ◌∙◌}
-use Rattle.tj_words.proofs.Prelude.{◌≡◌, ◌≢◌}
+use Rattle.tj_words.proofs.Prelude.{get_elem?, hand_of, held_in, home_in, home_of, let_go, numbers, parts_of}
+use Rattle.tj_words.proofs.Prelude.{phase_sort, record_cells, record_in, set, some, subst, sym, tag_in, ℕ, ℕ_discrete}
+use Rattle.tj_words.proofs.Prelude.{◌∙◌, ◌≡◌, ◌≢◌}
 use Rattle.tj_words.proofs.Meaning.MeaningGrows.{Meant}
 use Rattle.tj_words.proofs.Meaning.LawMeant.{ground_of, known_of}
-use Rattle.tj_words.proofs.Holders.SeatTasks.{let_go_moved}
+use Rattle.tj_words.proofs.Holders.SeatTasks.{put_is, let_go_held, made_held_by}
 use Rattle.tj_words.proofs.Holders.LeavingTasks.{leaving_hands, leaving_names, leaving_births, leaving_owned}
 use Rattle.tj_words.proofs.Holders.LeavingTasks.{leaving_custody, leaving_undrawn}
 use Rattle.tj_base.specs.declared.cell.Sort.TheVariants as sort
@@ -62,8 +62,14 @@ module _ {B : Type 0} {program : Program B} {cells : ℕ} {x : Contents B} (r : 
       record_of = d.record_of;
       held = has;
       did = did;
-      moved = let_go_moved r after_leaving id t d.custody_of q d.record_of has refl refl refl refl d.here d.else d.lies
-          homes d.made;
+      moved = record {
+        made = d.made ∙ made_held_by r id t d.custody_of has;
+        parts = λ j. record (parts_of cells x) {
+          phase = put_is x.words.phase phases t q d.here d.else j;
+          held = let_go_held r id t d.custody_of has j;
+          home = put_is (home_of x) (home_in slots) t (Some d.record_of) d.lies homes j;
+        };
+      };
     }
 
     -- the law holds of them, where the chains, the count, the record, the meaning and the facts are as they should be

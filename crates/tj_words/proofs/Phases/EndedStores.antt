@@ -121,7 +121,7 @@ module _ {B : Type 0} (program : Bool → B → Program B) (key : Key B) (s : St
         → Keeping key.cells x y (EndsTask key.cells x y id t)
     end_keeps y word is e = subst (λ z. Keeping key.cells x z (EndsTask key.cells x z id t))
         (sym (e ∙ ends_path word is))
-        (ends, kept_moved key.cells x after_end t phase.Ended None (Some h.record_of) ends.leaves.moved refl)
+        (ends, kept_moved key.cells x after_end ends.leaves.moved refl)
 
     end_law : Law P key.cells after_end
     end_law = law_leaves r.law id t over phase.Ended end_slots departs_over x.words.live

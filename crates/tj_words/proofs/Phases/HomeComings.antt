@@ -3,15 +3,16 @@ use Rattle.tj_words.proofs.Prelude.{AreThere, Births, Contents, Custodies, Custo
 use Rattle.tj_words.proofs.Prelude.{IsKept, IsThere, Law, List, LiveCount, MovesRecord, NamesCells, None, Option}
 use Rattle.tj_words.proofs.Prelude.{OwnedLists, Program, Rec, RecordsFit, Slots, Some, ap, arith, dite, drawn_in}
 use Rattle.tj_words.proofs.Prelude.{find_in, get_elem?, hand_of, held_in, held_of, hold, home_in, home_of, made_by}
-use Rattle.tj_words.proofs.Prelude.{made_of, making, now_home, numbers, owned_by, owned_of, phase_of, record_cells}
-use Rattle.tj_words.proofs.Prelude.{record_in, refl, set, some, subst, sym, tag_in, ℕ, ℕ_discrete, ◌+◌, ◌∙◌, ◌≡◌, ◌≢◌}
+use Rattle.tj_words.proofs.Prelude.{made_of, making, now_home, numbers, owned_by, owned_of, parts_of, phase_of}
+use Rattle.tj_words.proofs.Prelude.{record_cells, record_in, refl, set, some, subst, sym, tag_in, ℕ, ℕ_discrete, ◌+◌}
+use Rattle.tj_words.proofs.Prelude.{◌∙◌, ◌≡◌, ◌≢◌}
 use Rattle.tj_words.proofs.Meaning.MeaningGrows.{Meant}
 use Rattle.tj_words.proofs.Meaning.LawMeant.{ground_of, known_of}
 use Rattle.tj_words.proofs.Stores.SeatLists.{each_else, of_seat_set, of_seat_else}
 use Rattle.tj_words.proofs.Holders.HeldTasks.{none_some, one_some, held_listed}
 use Rattle.tj_words.proofs.Holders.TaskPlaces.{custody, held_here, held_drawn}
-use Rattle.tj_words.proofs.Holders.SeatTasks.{hold_here, hold_else, noted_turned}
-use Rattle.tj_words.proofs.Holders.HeldChanges.{find_here, find_else, walks_held}
+use Rattle.tj_words.proofs.Holders.SeatTasks.{hold_here, hold_else, put_is, put_self, made_held_by}
+use Rattle.tj_words.proofs.Holders.HeldChanges.{find_here, find_else, walks_held, found_held}
 use Rattle.tj_words.proofs.Events.StepFacts.{facts_same}
 use Rattle.tj_words.proofs.Events.QuietMoves.{record_shown}
 use Rattle.tj_words.specs.declared.phase.Phase.TheVariants as phase
@@ -166,8 +167,14 @@ module _ {B : Type 0} {program : Program B} {cells : ℕ} {x : Contents B} (r : 
         held = h;
         did = unborn;
         now = unborn;
-        turned = noted_turned r after_home id t k k' h its refl refl refl refl (custody r id t k h).does (λ u m. refl)
-            homes refl;
+        turned = record {
+          made = made_held_by r id t k h;
+          parts = λ j. record (parts_of cells x) {
+            phase = put_self x.words.phase t (phase_of k.does) (custody r id t k h).does j;
+            held = found_held r id t k k' h its j;
+            home = put_is (home_of x) (home_in slots) t (home_in slots t) refl homes j;
+          };
+        };
       };
       there = there;
       keeps = record { others = refl; cleared = refl };

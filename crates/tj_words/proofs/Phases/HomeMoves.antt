@@ -1,20 +1,20 @@
 -- The task of a record that lies at home goes to another phase: it stays at home, or a seat takes it, with its record.
 -- The law after that.
 use Rattle.tj_words.proofs.Prelude.{All, AreThere, Births, CellId, Chains, Contents, CoreFacts, Custodies, Custody}
-use Rattle.tj_words.proofs.Prelude.{Filled, Hand, Hands, IsCustody, IsKept, IsThere, Law, List, LiveCount, Meaning}
-use Rattle.tj_words.proofs.Prelude.{NamesCells, None, OfSeat, Option, OwnedLists, Phase, Program, Push, Rec, RecordsFit}
-use Rattle.tj_words.proofs.Prelude.{Reference, Rest, Slots, Some, WaitersOwn, Walk, Way, ap, arith, bits_in, core_shown}
-use Rattle.tj_words.proofs.Prelude.{dite, does_cells, drawn_in, find_in, get_elem?, hand_of, held_in, held_of, home_in}
-use Rattle.tj_words.proofs.Prelude.{home_of, made_by, making, numbers, owned_by, owned_of, phase_sort, put, record_in}
-use Rattle.tj_words.proofs.Prelude.{refl, set, some, sort_shown, subst, sym, tag_in, ℕ, ℕ_discrete, ◌+◌, ◌∙◌, ◌≡◌, ◌≢◌}
-use Rattle.tj_words.proofs.Prelude.{◌≤◌}
+use Rattle.tj_words.proofs.Prelude.{Filled, Hand, Hands, IsCustody, IsKept, IsMoved, IsThere, Law, List, LiveCount}
+use Rattle.tj_words.proofs.Prelude.{Meaning, NamesCells, None, OfSeat, Option, OwnedLists, Phase, Program, Push, Rec}
+use Rattle.tj_words.proofs.Prelude.{RecordsFit, Reference, Rest, Slots, Some, WaitersOwn, Walk, Way, ap, arith, bits_in}
+use Rattle.tj_words.proofs.Prelude.{core_shown, dite, does_cells, drawn_in, find_in, get_elem?, hand_of, held_in}
+use Rattle.tj_words.proofs.Prelude.{held_of, home_in, home_of, made_by, making, numbers, owned_by, owned_of, parts_of}
+use Rattle.tj_words.proofs.Prelude.{phase_sort, put, record_in, refl, set, some, sort_shown, subst, sym, tag_in, total}
+use Rattle.tj_words.proofs.Prelude.{ℕ, ℕ_discrete, ◌+◌, ◌∙◌, ◌≡◌, ◌≢◌, ◌≤◌}
 use Rattle.tj_words.proofs.Cells.HandChanges.{births_on}
 use Rattle.tj_words.proofs.Phases.PhaseSorts.{sorts_same}
 use Rattle.tj_words.proofs.Stores.StoreSteps.{put_here, put_else}
 use Rattle.tj_words.proofs.Stores.SeatLists.{back, each_set, each_else, of_seat_set}
 use Rattle.tj_words.proofs.Holders.HeldTasks.{none_some, hand_finds}
 use Rattle.tj_words.proofs.Holders.TaskPlaces.{unheld}
-use Rattle.tj_words.proofs.Holders.SeatTasks.{find_changed, find_same, free_alone}
+use Rattle.tj_words.proofs.Holders.SeatTasks.{find_changed, find_same, free_alone, put_is}
 use Rattle.tj_base.specs.declared.cell.Sort.TheVariants as sort
 use Rattle.tj_words.specs.declared.phase.Phase.TheVariants as phase
 
@@ -213,6 +213,19 @@ module _ {B : Type 0} {program : Program B} {cells : ℕ} {x : Contents B} (r : 
           filled = filled;
           pushes = pushes;
           rests = rests;
+        };
+      }
+
+      -- the task moves
+      pub moves : (held : Option (Custody B)) (home : Option (Rec B)) → held_in new t ≡ held → home_in slots t ≡ home
+          → IsMoved cells x moved t q held home
+      moves held home a b = record {
+        made = (λ j. made_by (sym a j) (sym b j)) ∙ (m.made ∙ (λ j. made_by (sym (unheld r t m.free) j) (sym m.lay j)));
+        parts = λ j. record (parts_of cells x) {
+          phase = put x.words.phase t q;
+          held = put_is (held_of x) (find_in after) t held (found_new ∙ a) others j;
+          home = put_is (home_of x) (home_in slots) t home b homes j;
+          cleared = total cleared;
         };
       }
 

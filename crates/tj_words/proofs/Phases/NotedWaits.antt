@@ -1,18 +1,18 @@
 -- The law after a store of PHASE by which a task that its seat holds does something else from then on: it walks, or has
 -- alarmed.
 use Rattle.tj_words.proofs.Prelude.{AreThere, Begins, BirthsBy, CellId, Contents, CoreFacts, Custody, Does, Hand}
-use Rattle.tj_words.proofs.Prelude.{IsBegun, IsCell, IsHeldWith, IsIn, IsParkedOn, IsTurned, Law, List, LiveCount, None}
+use Rattle.tj_words.proofs.Prelude.{IsBegun, IsCell, IsHeldWith, IsIn, IsMoved, IsParkedOn, Law, List, LiveCount, None}
 use Rattle.tj_words.proofs.Prelude.{OwnedLists, Phase, Program, Reference, Some, Walk, Way, ap, arith, at_longer}
 use Rattle.tj_words.proofs.Prelude.{before, core_shown, dite, does_cells, drawn_in, get_elem?, hand_in, hand_of, hold}
-use Rattle.tj_words.proofs.Prelude.{home_of, inl, is_task_sort, now_does, phase_of, phase_sort, put, reference_of, refl}
-use Rattle.tj_words.proofs.Prelude.{set, some, some-injective, sort_shown, subst, sym, tag_in, wait_in, way_by, way_if}
-use Rattle.tj_words.proofs.Prelude.{ℕ, ℕ_discrete, ◌&&◌, ◌∙◌, ◌≡◌, ◌≢◌}
+use Rattle.tj_words.proofs.Prelude.{home_of, inl, is_task_sort, now_does, parts_of, phase_of, phase_sort, put}
+use Rattle.tj_words.proofs.Prelude.{reference_of, refl, set, some, some-injective, sort_shown, subst, sym, tag_in}
+use Rattle.tj_words.proofs.Prelude.{wait_in, way_by, way_if, ℕ, ℕ_discrete, ◌&&◌, ◌∙◌, ◌≡◌, ◌≢◌}
 use Rattle.tj_words.proofs.Stores.StoreSteps.{put_here, put_else}
 use Rattle.tj_words.proofs.Stores.SeatLists.{inside, back}
 use Rattle.tj_words.proofs.Holders.HeldTasks.{none_some, one_some, hand_finds, at_index}
 use Rattle.tj_words.proofs.Holders.TaskPlaces.{begun_there, custody, held_drawn}
-use Rattle.tj_words.proofs.Holders.SeatTasks.{noted_turned}
-use Rattle.tj_words.proofs.Holders.HeldChanges.{owned_held, made_held, hands_held, walks_held, custody_held}
+use Rattle.tj_words.proofs.Holders.SeatTasks.{put_self, made_held_by}
+use Rattle.tj_words.proofs.Holders.HeldChanges.{owned_held, made_held, hands_held, walks_held, custody_held, found_held}
 use Rattle.tj_words.proofs.Waiters.ChainFacts.{held_free}
 use Rattle.tj_words.proofs.Waiters.ChainPhases.{chains_turn}
 use Rattle.tj_words.proofs.Holders.RecordSteps.{out_fit}
@@ -72,8 +72,15 @@ module _ {B : Type 0} {program : Program B} {cells : ℕ} {x : Contents B} (r : 
   else u m = put_else x.words.phase t u (phase_of d) m
 
   -- the task turns to what it does now
-  pub note_turns : IsTurned cells x after_note t k k'
-  note_turns = noted_turned r after_note id t k k' h its refl refl refl refl here else (λ c m. refl) refl
+  pub note_turns : IsMoved cells x after_note t (phase_of d) (Some k') (home_of x t)
+  note_turns = record {
+    made = made_held_by r id t k h;
+    parts = λ j. record (parts_of cells x) {
+      phase = phases;
+      held = found_held r id t k k' h its j;
+      home = put_self (home_of x) t (home_of x t) refl j;
+    };
+  }
 
   module _ (out : k.home ≡ None) (begun : IsBegun (phase_of k.does))
       (there : AreThere n (hand_of x) (does_cells d)) where

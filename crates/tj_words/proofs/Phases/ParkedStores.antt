@@ -1,10 +1,9 @@
 -- The store of Parked keeps the rule: the record comes home, the task leaves its seat, and its push is to come.
 use Rattle.tj_words.proofs.Prelude.{Bool, Contents, Custody, EventKeepsFacts, IsHeldWith, IsParkedOn, IsPhaseWord}
-use Rattle.tj_words.proofs.Prelude.{Keeping, Key, Law, List, MayPark, None, Option, Phase, Program, Push, Rec, Rule}
-use Rattle.tj_words.proofs.Prelude.{SeatMe, SeatsHave, Slots, Some, State, StoresParked, View, Way, ap, arith, at_map}
-use Rattle.tj_words.proofs.Prelude.{cell, contents_of, get_elem?, let_go, live_part, new_push, parked, phase_at}
-use Rattle.tj_words.proofs.Prelude.{phase_in, phase_of, put, refl, seats_have, set, some, subst, suc, sym, ℕ, ◌<◌, ◌∙◌}
-use Rattle.tj_words.proofs.Prelude.{◌∷◌, ◌≡◌}
+use Rattle.tj_words.proofs.Prelude.{Keeping, Key, Law, List, MayPark, Option, Phase, Program, Push, Rec, Rule, SeatMe}
+use Rattle.tj_words.proofs.Prelude.{SeatsHave, Slots, Some, State, StoresParked, View, Way, ap, arith, at_map, cell}
+use Rattle.tj_words.proofs.Prelude.{contents_of, get_elem?, let_go, live_part, new_push, parked, phase_at, phase_in}
+use Rattle.tj_words.proofs.Prelude.{phase_of, put, refl, seats_have, set, some, subst, suc, sym, ℕ, ◌<◌, ◌∙◌, ◌∷◌, ◌≡◌}
 use Rattle.tj_words.proofs.Stores.SeatContents.{seats_same}
 use Rattle.tj_words.proofs.Stores.StoreSteps.{put_here, put_else}
 use Rattle.tj_words.proofs.Stores.SlotStores.{StoresWith}
@@ -118,7 +117,7 @@ module _ {B : Type 0} (program : Bool → B → Program B) (key : Key B) (s : St
       → Keeping key.cells x y (StoresParked key.cells x y id t p way h.walks.walker)
   park_keeps y word is e = subst (λ z. Keeping key.cells x z (StoresParked key.cells x z id t p way h.walks.walker))
       (sym (e ∙ parks word is))
-      (settles, kept_moved key.cells x after t q None (Some h.record_of) settles.leaves.moved refl)
+      (settles, kept_moved key.cells x after settles.leaves.moved refl)
 
   pub parked_stores : t < key.cells → EventKeepsFacts → (word : ℕ) → IsPhaseWord key.cells word → phase_in word ≡ q
       → StoresWith program key s (set s.homes t (some (Some h.record_of))) id (phase_at t) word (parked t p way v)

@@ -22,7 +22,7 @@ use Rattle.tj_words.proofs.Waiters.ChainLists.{no_some}
 use Rattle.tj_words.proofs.Waiters.ChainPhases.{chains_turn, chains_run, chains_ready}
 use Rattle.tj_words.proofs.Holders.HeldChanges.{let_go_in}
 use Rattle.tj_words.proofs.Holders.HeldTasks.{none_some, one_some}
-use Rattle.tj_words.proofs.Phases.HomeMoves.{HomeMove, law_moved, found_new}
+use Rattle.tj_words.proofs.Phases.HomeMoves.{HomeMove, law_moved, moves}
 use Rattle.tj_words.proofs.Holders.HomeSlots.{home_out, home_else_out}
 use Rattle.tj_words.proofs.Cells.CellNames.{are_cells, born_apart}
 use Rattle.tj_words.proofs.SeatLoads.KnowLoads.{all_cons, born_at}
@@ -38,7 +38,7 @@ use Rattle.tj_words.proofs.Stores.SeatContents.{seats_same}
 use Rattle.tj_words.proofs.Stores.SeatLists.{back, of_seat_here}
 use Rattle.tj_words.proofs.Stores.StepContents.{stored, stored_with}
 use Rattle.tj_words.proofs.Calls.KeptCells.{kept_moved}
-use Rattle.tj_words.proofs.Holders.SeatTasks.{hold_here, hold_else, same_but, taken_moved}
+use Rattle.tj_words.proofs.Holders.SeatTasks.{hold_here, hold_else}
 use Rattle.tj_words.proofs.Stores.SlotStores.{StoresWith, Acts, acts_keeping, acts_taking, store_word_with}
 use Rattle.tj_words.proofs.Seating.Splitting.{total_set}
 use Rattle.tj_words.proofs.Events.StepFacts.{facts_after, facts_same}
@@ -215,12 +215,6 @@ module _ {B : Type 0} (program : Bool → B → Program B) (key : Key B) (s : St
         pushes = pushes;
       }
 
-      moved : (born : List Reference) (extra : List Filled) (tokens cleared : ℕ) (pushes : List Push)
-          → IsMoved key.cells x (after born extra tokens cleared pushes) t phase.Running (Some k) None
-      moved born extra tokens cleared pushes = taken_moved law (after born extra tokens cleared pushes) id t v.tasks k
-          phase.Running c None (mine (λ u. u.tasks)) kept.0 of_task refl refl refl refl (here phase.Running)
-          (else phase.Running) out (λ u m. home_else_out s.homes t u m) kept.1.1 (unheld law t kept.0) refl
-
       -- what the exchange leaves
       pub takes_path : (number : ℕ) → phase_in number ≡ phase.Running → (a : Rec B) → a ≡ c → (born : List Reference)
           (extra : List Filled) (tokens cleared : ℕ) (pushes : List Push)
@@ -272,6 +266,12 @@ module _ {B : Type 0} (program : Bool → B → Program B) (key : Key B) (s : St
             (of_seat_here (λ l. (a : Custody B) × (held_in l t ≡ Some a)) y.tasks id v.tasks new (mine (λ u. u.tasks))
             (k, held_now));
       }
+
+      moved : (born : List Reference) (extra : List Filled) (tokens cleared : ℕ) (pushes : List Push)
+          → IsMoved key.cells x (after born extra tokens cleared pushes) t phase.Running (Some k) None
+      moved born extra tokens cleared pushes = moves law id t phase.Running v.tasks new slots taken
+          (record_cells c ++ v.known) (set y.tokens id tokens) (set y.cleared id cleared) (set y.born_seen id born)
+          (set y.filled id (extra ++ v.filled)) (set y.pushes id pushes) y.rests (Some k) None held_now out
 
       law_took : (tokens cleared : ℕ) (pushes : List Push)
           → Chains (tag_in x) x.words.head x.words.next (put x.words.phase t phase.Running) (set y.pushes id pushes)
@@ -372,8 +372,7 @@ module _ {B : Type 0} (program : Bool → B → Program B) (key : Key B) (s : St
     claim_keeps z number is a lay born extra e = back (λ j. Keeping key.cells x ((e ∙ left) j)
         (ClaimsTask key.cells x ((e ∙ left) j) t (same j))) (
           claims born extra,
-          kept_moved key.cells x now t phase.Running (Some (custody_of claimed)) None
-              (claims born extra).moved refl,
+          kept_moved key.cells x now (claims born extra).moved refl,
         )
       where
         now : Contents B
@@ -488,8 +487,7 @@ module _ {B : Type 0} (program : Bool → B → Program B) (key : Key B) (s : St
     back_keeps z number is a lay born extra e = back (λ j. Keeping key.cells x ((e ∙ left) j)
         (ClearsWait key.cells x ((e ∙ left) j) t p way phase.Running (Some (custody_of (same j))))) (
           goes_back born extra,
-          kept_moved key.cells x now t phase.Running (Some (custody_of parked_one)) None
-              (goes_back born extra).moved refl,
+          kept_moved key.cells x now (goes_back born extra).moved refl,
         )
       where
         now : Contents B
@@ -564,14 +562,9 @@ module _ {B : Type 0} (program : Bool → B → Program B) (key : Key B) (s : St
       goes = inl (refl, refl, refl);
       parked = stands;
       closed = closed;
-      moved = record {
-        same = same_but law woke id t v.tasks v.tasks (mine (λ u. u.tasks)) (λ u m. refl) refl refl refl refl
-            (else phase.Ready) (λ u m. refl);
-        phase_is = here phase.Ready;
-        held_is = found_new law id t phase.Ready v.tasks v.tasks s.homes stays ∙ unheld_now;
-        home_is = refl;
-        made = sym (ap (λ (o : Option (Custody B)). made_by o (home_of x t)) (unheld law t clear_kept.0));
-      };
+      moved = moves law id t phase.Ready v.tasks v.tasks s.homes stays v.known (set y.tokens id (v.tokens - 1))
+          (set y.cleared id (v.cleared + raised_by_way way)) y.born_seen y.filled y.pushes
+          (set y.rests id (without_first v.rest)) None (home_of x t) unheld_now refl;
       others = refl;
       cleared = cleared_more way;
     }
@@ -581,7 +574,7 @@ module _ {B : Type 0} (program : Bool → B → Program B) (key : Key B) (s : St
         → Keeping key.cells x z (ClearsWait key.cells x z t p way phase.Ready None)
     wake_keeps z number is e = subst (λ z. Keeping key.cells x z (ClearsWait key.cells x z t p way phase.Ready None))
         (sym (e ∙ wakes_path number is))
-        (wakes, kept_moved key.cells x woke t phase.Ready None (home_of x t) wakes.moved refl)
+        (wakes, kept_moved key.cells x woke wakes.moved refl)
 
     module _ (keeps : EventKeepsFacts) (clears : MayClear way v) where
       spent : v.tokens - 1 ≤ v.lot

@@ -1,10 +1,10 @@
 -- The store of Ready keeps the rule: the task leaves its seat, with its record at home.
 use Rattle.tj_words.proofs.Prelude.{AreThere, Bool, Contents, Custody, IsHeldWith, IsLaid, IsRecordIn, IsThere, Keeping}
-use Rattle.tj_words.proofs.Prelude.{Key, Law, MayRelease, None, Option, Phase, Program, Rec, ReleasesTask, Rule}
-use Rattle.tj_words.proofs.Prelude.{SeatsHave, Some, State, View, ap, arith, contents_of, drawn_in, get_elem?, hand_of}
-use Rattle.tj_words.proofs.Prelude.{held_in, home_of, inl, let_go, live_part, phase_at, phase_in, phase_of, phase_word}
-use Rattle.tj_words.proofs.Prelude.{put, record_cells, refl, released, seats_have, set, some, some-injective, subst}
-use Rattle.tj_words.proofs.Prelude.{sym, tag_in, wait_in, word, ℕ, ◌-◌, ◌<◌, ◌∙◌, ◌≡◌}
+use Rattle.tj_words.proofs.Prelude.{Key, Law, MayRelease, Option, Phase, Program, Rec, ReleasesTask, Rule, SeatsHave}
+use Rattle.tj_words.proofs.Prelude.{State, View, ap, arith, contents_of, drawn_in, get_elem?, hand_of, held_in, home_of}
+use Rattle.tj_words.proofs.Prelude.{inl, let_go, live_part, phase_at, phase_in, phase_of, phase_word, put, record_cells}
+use Rattle.tj_words.proofs.Prelude.{refl, released, seats_have, set, some, some-injective, subst, sym, tag_in, wait_in}
+use Rattle.tj_words.proofs.Prelude.{word, ℕ, ◌-◌, ◌<◌, ◌∙◌, ◌≡◌}
 use Rattle.tj_words.proofs.Stores.StoreSteps.{put_here, put_else}
 use Rattle.tj_words.proofs.Stores.SlotStores.{StoresWith}
 use Rattle.tj_words.proofs.Holders.HeldTasks.{none_some, one_some}
@@ -132,7 +132,7 @@ module _ {B : Type 0} (program : Bool → B → Program B) (key : Key B) (s : St
         → Keeping key.cells x y (ReleasesTask key.cells x y id t)
     ready_keeps y word is e = subst (λ z. Keeping key.cells x z (ReleasesTask key.cells x z id t))
         (sym (e ∙ releases_path word is))
-        (releases, kept_moved key.cells x after_ready t phase.Ready None (Some c) releases.leaves.moved refl)
+        (releases, kept_moved key.cells x after_ready releases.leaves.moved refl)
 
     ready_law : Law P key.cells after_ready
     ready_law = law_leaves r.law id t readied phase.Ready s.homes departs x.words.live

@@ -1,20 +1,21 @@
 -- A task of a seat does something else, in the same phase: the law after it, and the loads of a walker as events.
 use Rattle.tj_words.proofs.Prelude.{All, AreThere, Births, Bool, Contents, CoreFacts, Custody, Does, Event}
-use Rattle.tj_words.proofs.Prelude.{EventKeepsFacts, HasAlarmed, IsHeldWith, IsIn, IsLaid, IsThere, IsTurned, Law}
+use Rattle.tj_words.proofs.Prelude.{EventKeepsFacts, HasAlarmed, IsHeldWith, IsIn, IsLaid, IsMoved, IsThere, Law}
 use Rattle.tj_words.proofs.Prelude.{MayCount, MayLoadOwner, MayReadAgain, MayReadOthers, MayReadOwner, None, Option}
 use Rattle.tj_words.proofs.Prelude.{OwnedLists, Phase, Program, ReadsOn, Rec, ShowsEvent, Some, Walker, Way, [], ap}
 use Rattle.tj_words.proofs.Prelude.{cell, core_shown, count_read, does_cells, drawn_in, false, hand_of, hold, home_of}
 use Rattle.tj_words.proofs.Prelude.{inl, inr, is_owner, length, others_read, owner_found, owner_read, owner_seen}
-use Rattle.tj_words.proofs.Prelude.{phase_of, present, read_cells, refl, set, subst, suc, sym, trail_cells, true}
-use Rattle.tj_words.proofs.Prelude.{wait_found, wait_in, walk_cells, ℕ, ⊎_elim, ◌++◌, ◌<◌, ◌∙◌, ◌∷◌, ◌≡◌, ◌≢◌}
+use Rattle.tj_words.proofs.Prelude.{parts_of, phase_of, present, read_cells, refl, set, subst, suc, sym, trail_cells}
+use Rattle.tj_words.proofs.Prelude.{true, wait_found, wait_in, walk_cells, ℕ, ⊎_elim, ◌++◌, ◌<◌, ◌∙◌, ◌∷◌, ◌≡◌, ◌≢◌}
 use Rattle.tj_core.specs.declared.walk.LastRead.{LastRead}
 use Rattle.tj_core.specs.declared.walk.LastRead.TheVariants.{Counted, Passed, SawOwner, SawWait}
 use Rattle.tj_words.proofs.Holders.HeldTasks.{none_some, one_some, held_listed, in_front, in_back}
 use Rattle.tj_words.proofs.Seating.Merging.{all_append}
 use Rattle.tj_words.proofs.SeatLoads.KnowLoads.{all_cons}
 use Rattle.tj_words.proofs.Holders.TaskPlaces.{custody}
-use Rattle.tj_words.proofs.Holders.SeatTasks.{noted_turned}
+use Rattle.tj_words.proofs.Holders.SeatTasks.{put_self, made_held_by}
 use Rattle.tj_words.proofs.Holders.HeldChanges.{held_task, hands_held, walks_held, custody_held, owned_held, made_held}
+use Rattle.tj_words.proofs.Holders.HeldChanges.{found_held}
 use Rattle.tj_words.proofs.Events.StepFacts.{facts_after}
 use Rattle.tj_words.proofs.Events.WalkEvents.{others_shown, count_shown, owner_shown_read, wait_shown_read}
 use Rattle.tj_words.proofs.Events.WalkEvents.{again_shown_read}
@@ -90,9 +91,16 @@ module _ {B : Type 0} {program : Program B} {cells : ℕ} {x : Contents B} (r : 
   pub its : k'.task ≡ t
   its = held_task h.0 t k h.2
 
-  pub task_turned : IsTurned cells x y t k k'
-  task_turned = noted_turned r y id t k k' h its refl refl refl refl ((custody r id t k h).does ∙ sym same)
-      (λ c n. refl) (λ c n. refl) refl
+  pub task_turned : IsMoved cells x y t (phase_of d) (Some k') (home_of x t)
+  task_turned = record {
+    made = made_held_by r id t k h;
+    parts = λ j. record (parts_of cells x) {
+      phase = put_self x.words.phase t (phase_of d) ((custody r id t k h).does ∙ sym same) j;
+      held = found_held r id t k k' h its j;
+      home = put_self (home_of x) t (home_of x t) refl j;
+      others = others;
+    };
+  }
 
   -- the law after a task of a seat does something else in the same phase, which names cells that are there, where the
   -- facts of what is shown then hold

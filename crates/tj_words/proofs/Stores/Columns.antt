@@ -9,7 +9,7 @@ use Rattle.tj_words.proofs.Cells.SeatHands.{hand_kept, hand_set, makes_kept, mak
 use Rattle.tj_words.proofs.Holders.HeldTasks.{one_some}
 use Rattle.tj_words.proofs.Holders.NotedEntries.{IsDoing, noted_else, noted_here}
 use Rattle.tj_words.proofs.Holders.SeatTasks.{find_changed, find_same, held_alone}
-use Rattle.tj_words.proofs.Holders.TaskPlaces.{custody, held_here}
+use Rattle.tj_words.proofs.Holders.TaskPlaces.{custody, held_here, hand_seat}
 
 module _ {A C : Type 0} where
   -- what is read at each index is kept, where it is at the one that changes
@@ -113,9 +113,8 @@ module _ {B : Type 0} {program : Program B} {cells : ℕ} {x : Contents B} (r : 
         (λ n. hand_kept x.seats.hands id d (Some h) None has (λ rest. sym (other_cell h d rest n))) j
 
     only_maker : (j : ℕ) (g : Hand) → j ≢ id → get_elem? x.seats.hands j ≡ some (Some g) → g.maker ≢ h.maker
-    only_maker j g d e q = let w = (r.hands.each j g e).maker_held in let i = (r.hands.each id h has).maker_held in
-        d (one_some j id (sym (r.custody.held j w.0 w.1 g.maker w.2.0 w.2.1).mine
-        ∙ (ap r.custody.holder q ∙ (r.custody.held id i.0 i.1 h.maker i.2.0 i.2.1).mine)))
+    only_maker j g d e q =
+        d (one_some j id (sym (hand_seat r j g e) ∙ (ap r.custody.holder q ∙ hand_seat r id h has)))
 
     pub making_off : (t : ℕ) → making (set x.seats.hands id None) t ≡ put (making x.seats.hands) h.maker 0 t
     making_off t = at_put (making x.seats.hands) h.maker 0 (λ t y. making (set x.seats.hands id None) t ≡ y) t

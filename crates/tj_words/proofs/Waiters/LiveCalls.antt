@@ -30,7 +30,7 @@ use Rattle.tj_words.proofs.Holders.LaidRecords.{task_there, meant, fits, departs
 use Rattle.tj_words.proofs.Phases.Departures.{Departs, after_leaving, does_leave, law_leaves}
 use Rattle.tj_words.proofs.Holders.LeftSeats.{left_seat}
 use Rattle.tj_words.proofs.Phases.HomeComings.{after_home, law_home, moves}
-use Rattle.tj_words.proofs.Calls.KeptCells.{kept_moved, kept_turns}
+use Rattle.tj_words.proofs.Calls.KeptCells.{kept_moved}
 use Rattle.tj_words.proofs.Stores.StepContents.{stored, stored_with}
 use Rattle.tj_words.specs.declared.phase.Phase.TheVariants as phase
 use Rattle.tj_words.specs.declared.phase.Walk.TheVariants as walk
@@ -133,7 +133,7 @@ module _ {B : Type 0} (program : Bool → B → Program B) (key : Key B) where
           → Keeping key.cells x y (MovesRecord key.cells x y id t does.Unborn)
       up_keeps y live e = subst (λ z. Keeping key.cells x z (MovesRecord key.cells x z id t does.Unborn))
           (sym (e ∙ up_path live))
-          (goes, kept_turns r.law (came live) id t does.Unborn does.Unborn goes.turns refl)
+          (goes, kept_moved key.cells x (came live) goes.turns.turned refl)
         where
           goes : MovesRecord key.cells x (came live) id t does.Unborn
           goes = moves r.law id t k has (held_task v.tasks t k h.held) h.unborn c home_slots
@@ -223,7 +223,7 @@ module _ {B : Type 0} (program : Bool → B → Program B) (key : Key B) where
           → Keeping key.cells x y (ShelvesTask key.cells x y id t h.cell h.way h.walker)
       shelf_keeps y live e = subst (λ z. Keeping key.cells x z (ShelvesTask key.cells x z id t h.cell h.way h.walker))
           (sym (e ∙ shelf_path live))
-          (shelves live, kept_moved key.cells x (shelved live) t alarm None (Some c) (shelves live).leaves.moved refl)
+          (shelves live, kept_moved key.cells x (shelved live) (shelves live).leaves.moved refl)
 
       module _ (token : 0 < v.tokens) where
         abbrev lower : ℕ

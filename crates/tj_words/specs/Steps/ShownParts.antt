@@ -1,5 +1,6 @@
 -- What the core state is shown by, cell by cell, and which of it a step changes.
-use Rattle.std.specs.Prelude.{◌≡◌, ◌≢◌, ℕ, suc, ◌+◌, cond, nat_lt, List, Option, Some}
+use Rattle.std.specs.Prelude.{ℕ, suc, ◌+◌, cond, nat_lt, List, Option, Some}
+use Rattle.tj_base.specs.Puts.{put}
 use Rattle.tj_body.specs.declared.point.Reference.{Reference}
 use Rattle.tj_core.specs.CoreState.{CellState, CoreState, blank}
 use Rattle.tj_words.specs.declared.phase.Phase.{Phase}
@@ -59,33 +60,23 @@ module _ {B : Type 0} where
       cleared = x.cleared;
     }
 
-  -- the same but for what task t does: its phase, what its seat has for it, and its record at home
-  pub record IsSameBut (t : ℕ) (x y : Parts B) : Type 0 where
-    pub drawn : y.drawn ≡ x.drawn
-    pub hand : y.hand ≡ x.hand
-    pub making : y.making ≡ x.making
-    pub own : y.own ≡ x.own
-    pub phases : (c : ℕ) → c ≢ t → y.phase c ≡ x.phase c
-    pub helds : (c : ℕ) → c ≢ t → y.held c ≡ x.held c
-    pub homes : (c : ℕ) → c ≢ t → y.home c ≡ x.home c
+  -- the same but for task t: its phase, what a seat has for it, and its record at home
+  abbrev pub moved_parts : Parts B → ℕ → Phase → Option (Custody B) → Option (Rec B) → Parts B
+  moved_parts x t p held home = record x {
+    phase = put x.phase t p;
+    held = put x.held t held;
+    home = put x.home t home;
+  }
 
-  -- the same but for the owner of p and what the seats have for two tasks, which may be one
-  pub record IsSameButOwner (p t u : ℕ) (x y : Parts B) : Type 0 where
-    pub drawn : y.drawn ≡ x.drawn
-    pub hand : y.hand ≡ x.hand
-    pub making : y.making ≡ x.making
-    pub owns : (c : ℕ) → c ≢ p → y.own c ≡ x.own c
-    pub phase : y.phase ≡ x.phase
-    pub helds : (c : ℕ) → c ≢ t → c ≢ u → y.held c ≡ x.held c
-    pub home : y.home ≡ x.home
+  -- the same but for the owner of p, and what a seat has for t
+  abbrev pub owned_parts : Parts B → ℕ → Option ℕ → ℕ → Option (Custody B) → Parts B
+  owned_parts x p o t k = record x { own = put x.own p o; held = put x.held t k }
 
-  -- cell c, the next, is drawn by t, into this hand; nothing else is changed but what a seat has for t and c
-  pub record IsDrawn (t : ℕ) (h : Hand) (x y : Parts B) : Type 0 where
-    pub drawn : y.drawn ≡ suc x.drawn
-    pub hand : y.hand x.drawn ≡ Some h
-    pub hands : (c : ℕ) → c ≢ x.drawn → y.hand c ≡ x.hand c
-    pub makings : (c : ℕ) → c ≢ t → y.making c ≡ x.making c
-    pub own : y.own ≡ x.own
-    pub phase : y.phase ≡ x.phase
-    pub helds : (c : ℕ) → c ≢ t → c ≢ x.drawn → y.held c ≡ x.held c
-    pub home : y.home ≡ x.home
+  -- the next cell is drawn by t into this hand, with what a seat has for t and for the cell
+  abbrev pub drawn_parts : Parts B → ℕ → Hand → Option (Custody B) → Option (Custody B) → Parts B
+  drawn_parts x t h k new = record x {
+    drawn = suc x.drawn;
+    hand = put x.hand x.drawn (Some h);
+    making = put x.making t 1;
+    held = put (put x.held t k) x.drawn new;
+  }

@@ -8,11 +8,11 @@ use Rattle.tj_words.specs.declared.phase.Phase.TheVariants as phase
 use Rattle.tj_words.specs.declared.view.Does.{Does}
 use Rattle.tj_words.specs.declared.view.Does.TheVariants as does
 use Rattle.tj_words.specs.declared.view.Custody.{Custody}
-use Rattle.tj_words.specs.Words.Lists.{OfSeat}
+use Rattle.tj_words.specs.Words.Lists.{OfSeat, total}
 use Rattle.tj_words.specs.declared.record.Rec.{Rec}
-use Rattle.tj_words.specs.LawParts.Holding.{held_in, phase_of, made_by}
+use Rattle.tj_words.specs.LawParts.Holding.{held_in, made_by}
 use Rattle.tj_words.specs.LawParts.Contents.{Contents, held_of, home_of, core_shown}
-use Rattle.tj_words.specs.Steps.ShownParts.{parts_of, IsSameBut}
+use Rattle.tj_words.specs.Steps.ShownParts.{parts_of, moved_parts}
 
 -- the task has begun, or is ready to
 abbrev pub IsBegun : Phase → Type 0
@@ -60,20 +60,12 @@ module _ {B : Type 0} where
   abbrev pub IsQuiet : ℕ → Contents B → Contents B → Type 0
   IsQuiet cells x y = (born : List Reference) (maker : ℕ → ℕ) → ShowsNothing cells born maker x y
 
-  -- the seat that holds t has this for it from now on, and its phase says so; nothing else that is shown is changed
-  -- but OTHERS and the number of waits cleared
-  pub record IsTurned (cells : ℕ) (x y : Contents B) (t : ℕ) (k k' : Custody B) : Type 0 where
-    pub same : IsSameBut t (parts_of cells x) (parts_of cells y)
-    pub phase : y.words.phase t ≡ phase_of k'.does
-    pub held : held_of y t ≡ Some k'
-    pub made : k'.made ≡ k.made
-
-  -- t is in this phase from now on, with a seat or at home; nothing else that is shown is changed but OTHERS and the
-  -- number of waits cleared
+  -- t is in this phase from now on, with a seat or at home, and has made as many things; nothing else that is shown is
+  -- changed but OTHERS and the number of waits cleared
   pub record IsMoved (cells : ℕ) (x y : Contents B) (t : ℕ) (p : Phase) (held : Option (Custody B))
       (home : Option (Rec B)) : Type 0 where
-    pub same : IsSameBut t (parts_of cells x) (parts_of cells y)
-    pub phase_is : y.words.phase t ≡ p
-    pub held_is : held_of y t ≡ held
-    pub home_is : home_of y t ≡ home
     pub made : made_by held home ≡ made_by (held_of x t) (home_of x t)
+    pub parts : parts_of cells y ≡ record (moved_parts (parts_of cells x) t p held home) {
+      others = y.words.others;
+      cleared = total y.seats.cleared;
+    }

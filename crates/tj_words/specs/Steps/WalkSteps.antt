@@ -22,10 +22,11 @@ use Rattle.tj_words.specs.declared.view.Does.TheVariants as does
 use Rattle.tj_words.specs.declared.view.Custody.{Custody}
 use Rattle.tj_words.specs.Words.Lists.{total, cell}
 use Rattle.tj_words.specs.LawParts.Hands.{IsThere}
+use Rattle.tj_words.specs.LawParts.Holding.{phase_of}
 use Rattle.tj_words.specs.LawParts.ShownState.{reference_of}
 use Rattle.tj_words.specs.LawParts.Contents.{Contents, hand_of, drawn_in, home_of}
 use Rattle.tj_words.specs.Steps.ShownParts.{parts_of}
-use Rattle.tj_words.specs.Steps.StepEvents.{wait_in, MayAct, IsHeldWith, IsTurned, IsMoved}
+use Rattle.tj_words.specs.Steps.StepEvents.{wait_in, MayAct, IsHeldWith, IsMoved}
 
 -- whether a cell of this sort is a task
 abbrev pub is_task_sort : Sort → Bool
@@ -63,7 +64,7 @@ module _ {B : Type 0} (cells : ℕ) (x y : Contents B) where
       pub held : IsHeldWith x id t before_it
       pub did : before_it.does ≡ d
       pub now : after_it.does ≡ d'
-      pub turned : IsTurned cells x y t before_it after_it
+      pub turned : IsMoved cells x y t (phase_of after_it.does) (Some after_it) (home_of y t)
 
     -- the same of a task that has its result still
     pub record ProceedsOpen (d d' : Does) : Type 0 where
