@@ -16,17 +16,6 @@ pub struct RestCell {
     pub kid: u32,
 }
 
-impl RestCell {
-    /// What the words show of a cell that isn't drawn.
-    pub(crate) const BLANK: RestCell = RestCell {
-        own: None,
-        phase: Phase::Unborn,
-        tag: 0,
-        parent: CellId(0),
-        kid: 0,
-    };
-}
-
 /// What closed words show of the cells that were drawn, in the order of their numbers.
 #[derive(Debug, Drop)]
 pub struct Closed {

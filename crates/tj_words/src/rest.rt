@@ -1,5 +1,5 @@
 //! Rest: a table whose last seat has come back is closed. Its words and records stay as they are.
-ghost use Rattle.std.specs.Prelude.{◌≡◌, ◌↔◌, ◌<◌, ◌≤◌, length, get_or, None};
+ghost use Rattle.std.specs.Prelude.{◌≡◌, ◌↔◌, ◌<◌, ◌≤◌, length, get_or, vec_len, vec_capacity, None};
 ghost use Rattle.std.specs.Option.{option_map};
 ghost use Rattle.tj_body.specs.Programs.{program_of};
 ghost use Rattle.tj_words.specs.AtRest.RestingSeats.{MayRest};
@@ -141,14 +141,14 @@ fn show_cells<B: Body>(
 ) -> Vec<RestCell>
     requires full { IsFull table.now.words }
     requires words { AreTableWords cells (slots_items table.now.words) }
-    requires room { length room.items ≡ cells }
+    requires unused { vec_len room ≡ 0 }
+    requires room { cells ≤ vec_capacity room }
     ensures { AreCellsOf (slots_items table.now.words) cells result.items }
 {
     let drawn = table.word(COUNT).min(cells as u64) as usize;
     for c in 0..drawn {
-        room[c] = show_cell(table, cells, CellId(c as u32));
+        room.push_reserved(show_cell(table, cells, CellId(c as u32)));
     }
-    room.truncate(drawn);
     room
 }
 

@@ -1,5 +1,5 @@
 //! The table: its words and slots under the law, and seats that know of it.
-ghost use Rattle.std.specs.Prelude.{◌≡◌, ℕ, ◌+◌, ◌*◌, ◌<◌, ◌≤◌, List, [], ◌∷◌, IfOk, length, replicate, Some, None};
+ghost use Rattle.std.specs.Prelude.{◌≡◌, ℕ, ◌+◌, ◌*◌, ◌<◌, ◌≤◌, List, [], ◌∷◌, IfOk, length, replicate, vec_len, vec_capacity, Some, None};
 ghost use Rattle.tj_base.specs.declared.cell.TheConstants.{MAX_CELLS};
 ghost use Rattle.tj_body.specs.Asks.{IsFresh};
 ghost use Rattle.tj_words.specs.Words.Offsets.{words_for};
@@ -51,14 +51,15 @@ pub struct Laid<B: Body> {
     pub(crate) cells: u32,
     pub(crate) strict: bool,
     pub(crate) root: Snapshot<B>,
-    /// Where `rest` keeps what the words show of each cell.
+    /// Where `rest` puts what the words show of each cell: empty till then, with room for all.
     pub(crate) room: Vec<RestCell>,
     ghost words: { table.shared.table_id.words ≡ words_for cells },
     ghost slots: { table.shared.table_id.slots ≡ cells },
     ghost key_cells: { table.shared.key.cells ≡ cells },
     ghost key_strict: { table.shared.key.strict ≡ strict },
     ghost key_root: { table.shared.key.root.value ≡ root.value },
-    ghost roomy: { length room.items ≡ cells },
+    ghost unused: { vec_len room ≡ 0 },
+    ghost roomy: { cells ≤ vec_capacity room },
     ghost some: { 0 < cells },
     ghost few: { cells ≤ MAX_CELLS },
 }
@@ -83,7 +84,7 @@ impl<B: Body> Laid<B> {
             strict,
         };
         let about = Snapshot::of(&root);
-        let room = Vec::from_elem(alloc, RestCell::BLANK, cells as usize)?;
+        let room = Vec::with_capacity(alloc, cells as usize)?;
         let words = words_at_first(alloc, cells)?;
         let slots = slots_at_first(alloc, cells, root)?;
         match Table::new(alloc, words.as_slice(), slots, &key) {

@@ -1,11 +1,12 @@
 -- What the words of a cell are read as once they are closed.
-use Rattle.tj_words.proofs.Prelude.{CellId, IsPhaseWord, List, None, Phase, Walk, Way, [], ap, cell, dite, get_elem?}
-use Rattle.tj_words.proofs.Prelude.{maker_in, set, set_else, set_here, some, some-injective, some-ne-none, suc, sym}
-use Rattle.tj_words.proofs.Prelude.{task_in, word, zero, ℕ, ℕ_discrete, ◌*◌, ◌+◌, ◌/◌, ◌<◌, ◌↔◌, ◌∙◌, ◌∷◌, ◌≡◌, ◌≤◌}
-use Rattle.std.proofs.Common.{length, Option, Some, take, get_or, refl, subst, arith}
+use Rattle.tj_words.proofs.Prelude.{CellId, IsPhaseWord, List, None, Phase, Walk, Way, [], ap, at_longer, cell, dite}
+use Rattle.tj_words.proofs.Prelude.{get_elem?, maker_in, some, some-injective, some-ne-none, suc, sym, task_in, word}
+use Rattle.tj_words.proofs.Prelude.{zero, ℕ, ℕ_discrete, ◌*◌, ◌++◌, ◌+◌, ◌/◌, ◌<◌, ◌↔◌, ◌∙◌, ◌∷◌, ◌≡◌, ◌≤◌}
+use Rattle.std.proofs.Common.{length, Option, Some, get_or, refl, subst, arith}
 use Rattle.std.specs.Option.{unwrap_or, option_map}
 use Rattle.tj_words.specs.Words.Owners.{owner_number, owner_in}
 use Rattle.tj_words.specs.Words.Phases.{wait_code, phase_word, phase_in}
+use Rattle.atomic_table.proofs.Lists.{at_last}
 use Rattle.tj_core.specs.declared.walk.Way.TheVariants as way
 use Rattle.tj_words.specs.declared.phase.Walk.TheVariants as walk
 use Rattle.tj_words.specs.declared.phase.Phase.TheVariants as phase
@@ -59,26 +60,12 @@ phase_cell cells n h = by (phase_in n) refl h.code where
 pub read_at : (words : List ℕ) (i index n : ℕ) → i ≡ index → get_elem? words i ≡ some n → n ≡ word words index
 read_at words i index n p e = sym (read_or words i n 0 e) ∙ ap (word words) p
 
--- Filling a list from the front.
-module _ {A : Type 0} (f : ℕ → A) where
-  -- one more element of it is right
-  pub filled_more : (l : List A) (n : ℕ) (x : A) → n < length l → x ≡ f n
-      → ((k : ℕ) → k < n → get_elem? l k ≡ some (f k)) → (k : ℕ) → k < suc n → get_elem? (set l n x) k ≡ some (f k)
-  filled_more l n x i e h k m = dite (ℕ_discrete k n)
-      (λ q. subst (λ z. get_elem? (set l n x) z ≡ some (f z)) (sym q) (set_here l n x i ∙ ap some e))
-      (λ q. set_else l n k x q ∙ h k (omega arith))
-
--- the front of a list
-pub front_length : {A : Type 0} (l : List A) (n : ℕ) → n ≤ length l → length (take n l) ≡ n
-front_length l zero h = refl
-front_length [] (suc n) h = absurd (omega arith)
-front_length (x ∷ xs) (suc n) h = ap suc (front_length xs n (omega arith))
-
-pub front_at : {A : Type 0} (l : List A) (n k : ℕ) → k < n → get_elem? (take n l) k ≡ get_elem? l k
-front_at l zero k h = absurd (omega arith)
-front_at [] (suc n) k h = refl
-front_at (x ∷ xs) (suc n) zero h = refl
-front_at (x ∷ xs) (suc n) (suc k) h = front_at xs n k (omega arith)
+-- a list whose elements are right, with the next one
+pub filled_more : {A : Type 0} (f : ℕ → A) (l : List A) (n : ℕ) (x : A) → length l ≡ n → x ≡ f n
+    → ((k : ℕ) → k < n → get_elem? l k ≡ some (f k)) → (k : ℕ) → k < suc n → get_elem? (l ++ x ∷ []) k ≡ some (f k)
+filled_more f l n x all e h k m = dite (ℕ_discrete k n)
+    (λ q. subst (λ z. get_elem? (l ++ x ∷ []) z ≡ some (f z)) (sym q) (at_last l x n all ∙ ap some e))
+    (λ q. at_longer l (x ∷ []) k (f k) (h k (omega arith)))
 
 -- nothing is nothing after a map, and the other way round
 pub mapped_none : {A C : Type 0} (f : A → C) (o : Option A) (z : Option C) → option_map f o ≡ z

@@ -26,7 +26,8 @@ invariant_of-result g c = let m = c.in-Ok.ensures.ok in record {
   key_cells = ap (λ k. k.cells) m.5;
   key_strict = ap (λ k. k.strict) m.5;
   key_root = ap (λ k. k.root.value) m.5 ∙ (c.of.ensures ∙ sym c.of-about.ensures);
-  roomy = sym c.in_ok-room.room.ok.0 ∙ c.in_ok-room.ensures.len;
+  unused = c.in_ok-room.ensures.len;
+  roomy = c.in_ok-room.ensures.capacity;
   some = c.requires.some;
   few = c.requires.few;
 }
