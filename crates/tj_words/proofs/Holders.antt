@@ -5,7 +5,7 @@ pub mod HeldChanges
 pub mod NotedTasks
 pub mod NotedEntries
 pub mod TaskPlaces
-pub mod LeavingTasks
+pub mod TaskMoves
 pub mod LeftSeats
 pub mod LaidRecords
 pub mod HomeSlots

@@ -1,15 +1,17 @@
 -- The law after a task leaves its seat with its record at home: it is ready, has ended, or was shelved.
 use Rattle.tj_words.proofs.Prelude.{AreThere, CellId, Chains, Contents, CoreFacts, Custody, Does, Hand, IsHeldWith}
 use Rattle.tj_words.proofs.Prelude.{IsKept, Law, Leaves, LiesAtHome, List, LiveCount, None, Option, Phase, Program}
-use Rattle.tj_words.proofs.Prelude.{Push, Rec, RecordsFit, Slots, Some, Walk, Way, ap, core_shown, dite, drawn_in}
-use Rattle.tj_words.proofs.Prelude.{get_elem?, hand_of, held_in, home_in, home_of, let_go, numbers, parts_of}
-use Rattle.tj_words.proofs.Prelude.{phase_sort, record_cells, record_in, set, some, subst, sym, tag_in, ℕ, ℕ_discrete}
-use Rattle.tj_words.proofs.Prelude.{◌∙◌, ◌≡◌, ◌≢◌}
+use Rattle.tj_words.proofs.Prelude.{Push, Rec, RecordsFit, Slots, Some, Walk, Way, ap, core_shown, drawn_in, get_elem?}
+use Rattle.tj_words.proofs.Prelude.{hand_of, held_in, home_in, home_of, let_go, made_by, numbers, owned_by, phase_sort}
+use Rattle.tj_words.proofs.Prelude.{record_cells, refl, set, some, subst, sym, tag_in, ℕ, ◌∙◌, ◌≡◌, ◌≢◌}
 use Rattle.tj_words.proofs.Meaning.MeaningGrows.{Meant}
 use Rattle.tj_words.proofs.Meaning.LawMeant.{ground_of, known_of}
-use Rattle.tj_words.proofs.Holders.SeatTasks.{put_is, let_go_held, made_held_by}
-use Rattle.tj_words.proofs.Holders.LeavingTasks.{leaving_hands, leaving_names, leaving_births, leaving_owned}
-use Rattle.tj_words.proofs.Holders.LeavingTasks.{leaving_custody, leaving_undrawn}
+use Rattle.tj_words.proofs.Holders.SeatTasks.{made_held_by, let_go_here, let_go_else}
+use Rattle.tj_words.proofs.Holders.TaskPlaces.{custody, held_drawn, held_here}
+use Rattle.tj_words.proofs.Holders.HeldTasks.{one_some, none_some}
+use Rattle.tj_words.proofs.Holders.HeldChanges.{let_go_in}
+use Rattle.tj_words.proofs.Phases.PhaseSorts.{does_sort}
+use Rattle.tj_words.proofs.Holders.TaskMoves.{TaskMove, task_moves, law_task}
 use Rattle.tj_base.specs.declared.cell.Sort.TheVariants as sort
 use Rattle.tj_words.specs.declared.phase.Phase.TheVariants as phase
 
@@ -52,8 +54,33 @@ module _ {B : Type 0} {program : Program B} {cells : ℕ} {x : Contents B} (r : 
     abbrev has : IsHeldWith x id t d.custody_of
     has = (d.tasks, d.tasks_at, d.held)
 
-    pub homes : (u : ℕ) → u ≢ t → home_in slots u ≡ home_of x u
-    homes u m = ap record_in (d.apart u m)
+    pub leave : TaskMove r id t phases d.tasks (let_go t d.tasks) slots
+    leave = record {
+      at = d.tasks_at;
+      same = λ u m. let_go_else t u d.tasks m;
+      mine = λ j e. one_some j id (sym e ∙ (custody r id t d.custody_of has).mine);
+      there = (held_drawn r id t d.custody_of has, d.out);
+      was_task = ap phase_sort (custody r id t d.custody_of has).does ∙ does_sort d.custody_of.does;
+      is_task = ap phase_sort d.here ∙ d.is_task;
+      else = d.else;
+      waits = λ p way w e. let y = d.waits p way w (sym d.here ∙ e) in
+          (r.names.waits t p way y.0 y.1, r.waiters_own t p way y.0 y.1);
+      makers = λ h e q. absurd (d.free h e q);
+      apart = d.apart;
+      lies = λ y e. let same : d.record_of ≡ y = one_some d.record_of y (sym d.lies ∙ e) in (
+        subst (λ (a : Rec B). AreThere n (hand_of x) (record_cells a)) same d.there,
+        ap (λ (a : Rec B). a.cell.0) (sym same) ∙ d.its,
+      );
+      walks = λ a i. r.names.walks id d.tasks d.tasks_at a (let_go_in t d.tasks a i);
+      made = (λ j. made_by (let_go_here t d.tasks j) (d.lies j)) ∙ (d.made ∙ made_held_by r id t d.custody_of has);
+      owned = (λ j. owned_by (let_go_here t d.tasks j) (d.lies j)) ∙ (d.owned
+          ∙ sym (ap (λ (o : Option (Custody B)). owned_by o (home_of x t)) (held_here r id t d.custody_of has)));
+      holder = None;
+      kept = subst (λ p. IsKept p None (home_in slots t)) (sym d.here)
+          (d.kept None (home_in slots t) (refl, (d.record_of, d.lies)));
+      custody = λ k e. none_some (held_in (let_go t d.tasks) t) k (let_go_here t d.tasks) e;
+      holds = λ j e. none_some None j refl e;
+    }
 
     -- the task leaves
     abbrev pub does_leave : (e : Does) → d.custody_of.does ≡ e → Leaves cells x after_leaving id t e q
@@ -62,14 +89,9 @@ module _ {B : Type 0} {program : Program B} {cells : ℕ} {x : Contents B} (r : 
       record_of = d.record_of;
       held = has;
       did = did;
-      moved = record {
-        made = d.made ∙ made_held_by r id t d.custody_of has;
-        parts = λ j. record (parts_of cells x) {
-          phase = put_is x.words.phase phases t q d.here d.else j;
-          held = let_go_held r id t d.custody_of has j;
-          home = put_is (home_of x) (home_in slots) t (Some d.record_of) d.lies homes j;
-        };
-      };
+      moved = task_moves r id t phases d.tasks (let_go t d.tasks) slots leave live x.seats.known tokens
+          x.seats.cleared x.seats.born_seen x.seats.filled pushes x.seats.rests q None (Some d.record_of) d.here
+          (let_go_here t d.tasks) d.lies;
     }
 
     -- the law holds of them, where the chains, the count, the record, the meaning and the facts are as they should be
@@ -80,36 +102,5 @@ module _ {B : Type 0} {program : Program B} {cells : ℕ} {x : Contents B} (r : 
         → Meant program cells x.words.count x.words.stop (ground_of cells r.born x) (home_in slots) (known_of x)
         → CoreFacts (core_shown cells r.born r.maker after_leaving)
         → Law program cells after_leaving
-    law_leaves chains count fit meant facts = record {
-      born = r.born;
-      maker = r.maker;
-      number = r.number;
-      forks = r.forks;
-      lots = r.lots;
-      hands = leaving_hands r id t d.tasks d.custody_of d.tasks_at d.held phases q d.here d.else d.is_task slots
-          d.record_of d.lies d.apart d.out d.free;
-      names = leaving_names r id t d.tasks d.custody_of d.tasks_at d.held phases q d.here d.else d.is_task slots
-          d.record_of d.lies d.apart d.out d.there
-          (λ c way w e. let y = d.waits c way w e in r.names.waits t c way y.0 y.1);
-      births = leaving_births r id t d.tasks d.custody_of d.tasks_at d.held phases q d.here d.else d.is_task slots
-          d.record_of d.lies d.apart d.out d.made;
-      tree = r.tree;
-      tree_words = r.tree_words;
-      custody = leaving_custody r id t d.tasks d.custody_of d.tasks_at d.held phases q d.here d.else d.is_task slots
-          d.record_of d.lies d.apart d.out d.its d.kept;
-      owned = leaving_owned r id t d.tasks d.custody_of d.tasks_at d.held phases q d.here d.else d.is_task slots
-          d.record_of d.lies d.apart d.out d.owned;
-      once_words = r.once_words;
-      chains = chains;
-      live_count = count;
-      stops = r.stops;
-      waiters_own = λ u c way w e. dite (ℕ_discrete u t)
-          (λ z. let y = d.waits c way w (sym d.here ∙ (ap phases (sym z) ∙ e)) in
-          subst (λ i. x.words.own i ≢ None) (sym z) (r.waiters_own t c way y.0 y.1))
-          (λ m. r.waiters_own u c way w (sym (d.else u m) ∙ e));
-      records_fit = fit;
-      meaning = meant;
-      undrawn = leaving_undrawn r id t d.tasks d.custody_of d.tasks_at d.held phases q d.here d.else d.is_task slots
-          d.record_of d.lies d.apart d.out;
-      facts = facts;
-    }
+    law_leaves = law_task r id t phases d.tasks (let_go t d.tasks) slots leave live x.seats.known tokens
+        x.seats.cleared x.seats.born_seen x.seats.filled pushes x.seats.rests r.names.knows
