@@ -127,7 +127,7 @@ pub use Rattle.tj_words.specs.Steps.QuietSteps.{ChangesHead, ChangesLive, Change
 pub use Rattle.tj_words.specs.Steps.QuietSteps.{DrawIsRefused, EndsTask, KeepsHoldings, LoadsOnly, MarksPromise}
 pub use Rattle.tj_words.specs.Steps.QuietSteps.{MovesRecord, ReleasesTask, ShelvesTask, StoresOnce, does_first}
 pub use Rattle.tj_words.specs.Steps.ShownParts.{Parts, cell_by, parts_of, shown_by}
-pub use Rattle.tj_words.specs.Steps.StepEvents.{IsBegun, IsHeldWith, IsMoved, IsQuiet, MayAct, ShowsEvent}
+pub use Rattle.tj_words.specs.Steps.StepEvents.{IsBegun, IsHeldWith, IsMoved, MayAct, ShowsEvent}
 pub use Rattle.tj_words.specs.Steps.StepEvents.{ShowsNothing, wait_in}
 pub use Rattle.tj_words.specs.Steps.TableRuns.{AreSteps, IsStep, Under, events_of, last_of, state_of}
 pub use Rattle.tj_words.specs.Steps.WalkSteps.{ClearsWait, KeepsOthers, Leaves, LowersOthers, MayWait, Proceeds}

@@ -1,10 +1,10 @@
 -- The first store of OWN of a cell in hand shows nothing: its owner is the one that was shown.
-use Rattle.tj_words.proofs.Prelude.{Bool, CellStage, Contents, Custody, GivesOwner, Hand, IsMarkedRight, IsQuiet, Law}
-use Rattle.tj_words.proofs.Prelude.{None, Option, Program, Some, Sort, ap, arith, at_put, cond, false, first_owner}
-use Rattle.tj_words.proofs.Prelude.{fresh, get_elem?, hand_of, hand_phase, held_of, home_of, made_by, made_of, making}
-use Rattle.tj_words.proofs.Prelude.{ne_eqb, new_stage, owner_shown, parts_of, put, put_else, refl, running, some}
-use Rattle.tj_words.proofs.Prelude.{stage_shown, subst, sym, ℕ, ◌+◌, ◌∙◌, ◌≡◌, ◌≢◌}
-use Rattle.tj_words.proofs.Events.QuietCells.{quiet_parts, stage_does}
+use Rattle.tj_words.proofs.Prelude.{Bool, CellStage, Contents, Custody, GivesOwner, Hand, IsMarkedRight, Law, None}
+use Rattle.tj_words.proofs.Prelude.{Option, Program, Some, Sort, ap, arith, at_put, cond, false, first_owner, fresh}
+use Rattle.tj_words.proofs.Prelude.{get_elem?, hand_of, hand_phase, held_of, home_of, made_by, made_of, making, ne_eqb}
+use Rattle.tj_words.proofs.Prelude.{new_stage, owner_shown, parts_of, put, put_else, refl, running, some, stage_shown}
+use Rattle.tj_words.proofs.Prelude.{subst, sym, ℕ, ◌+◌, ◌∙◌, ◌≡◌, ◌≢◌}
+use Rattle.tj_words.proofs.Events.QuietCells.{quiet_parts, stage_does, IsQuiet}
 use Rattle.tj_words.proofs.Holders.HeldTasks.{makes_one}
 use Rattle.tj_words.proofs.Holders.TaskPlaces.{held_here}
 use Rattle.tj_words.proofs.Stores.Columns.{at_two, put_kept}

@@ -1,11 +1,15 @@
 -- A step after which each cell shows what it showed shows nothing.
-use Rattle.tj_words.proofs.Prelude.{Contents, Custody, Does, Hand, IsQuiet, List, MarksPromise, None, Option, Parts}
-use Rattle.tj_words.proofs.Prelude.{Phase, Rec, Reference, Some, ap, blank, cond, does_stage, first_owner, hand_of}
+use Rattle.tj_words.proofs.Prelude.{Contents, Custody, Does, Hand, List, MarksPromise, None, Option, Parts, Phase, Rec}
+use Rattle.tj_words.proofs.Prelude.{Reference, ShowsNothing, Some, ap, blank, cond, does_stage, first_owner, hand_of}
 use Rattle.tj_words.proofs.Prelude.{hand_stage, held_of, home_of, made_by, nat_lt, owner_shown, parts_of, put}
 use Rattle.tj_words.proofs.Prelude.{reference_of, refl, shown_by, stage_shown, sym, ℕ, ◌+◌, ◌∙◌, ◌≡◌}
 use Rattle.tj_words.proofs.Stores.Columns.{at_two, put_kept}
 use Rattle.tj_words.specs.declared.phase.Phase.TheVariants as phase
 use Rattle.tj_words.specs.declared.phase.Walk.TheVariants as walk
+
+-- what the contents show is as it was, whatever the cells are
+abbrev pub IsQuiet : {B : Type 0} → ℕ → Contents B → Contents B → Type 0
+IsQuiet cells x y = (born : List Reference) (maker : ℕ → ℕ) → ShowsNothing cells born maker x y
 
 module _ {B : Type 0} (x y : Parts B) where
   -- each cell shows what it showed, and so do OTHERS and the waits cleared

@@ -2,7 +2,7 @@
 -- part of the law that speaks of hands and phases is kept.
 use Rattle.tj_words.proofs.Prelude.{Births, Bool, CellId, CellStage, Chains, Contents, CoreFacts, Custodies, Custody}
 use Rattle.tj_words.proofs.Prelude.{Due, Forks, Found, Hand, Hands, HasInHand, Head, IsFirstIn, IsForkTree, IsInHand}
-use Rattle.tj_words.proofs.Prelude.{IsKept, IsMarkedRight, IsQuiet, IsRecordIn, IsThere, Keeping, KeepsCells, Law, List}
+use Rattle.tj_words.proofs.Prelude.{IsKept, IsMarkedRight, IsRecordIn, IsThere, Keeping, KeepsCells, Law, List}
 use Rattle.tj_words.proofs.Prelude.{LiveCount, MarksPromise, NamesCells, None, OfSeat, Once, OnceWords, Option}
 use Rattle.tj_words.proofs.Prelude.{OwnedLists, Phase, Program, Push, Rec, RecordsFit, Reference, Rest, SeenWord, Slots}
 use Rattle.tj_words.proofs.Prelude.{Some, Sort, TreeWords, WaitersOwn, Walk, Way, [], ap, arith, at_put, begins_self}
@@ -18,7 +18,7 @@ use Rattle.tj_words.proofs.Stores.SeatLists.{of_seat_set}
 use Rattle.tj_words.proofs.Stores.WordStores.{hand_here}
 use Rattle.tj_words.proofs.Holders.HeldTasks.{hand_found, none_some, one_some}
 use Rattle.tj_words.proofs.Stores.Columns.{at_two}
-use Rattle.tj_words.proofs.Events.QuietCells.{same_shown}
+use Rattle.tj_words.proofs.Events.QuietCells.{same_shown, IsQuiet}
 use Rattle.tj_words.proofs.Meaning.LawMeant.{ground_of, law_meant}
 use Rattle.tj_words.proofs.Meaning.MeaningGrows.{wider, grew_wider, meaning_grows}
 use Rattle.tj_base.specs.declared.cell.Sort.TheVariants as sort

@@ -6,10 +6,11 @@ use Rattle.tj_words.proofs.Prelude.{live_at, live_load, live_part, live_tasks, m
 use Rattle.tj_words.proofs.Prelude.{phase_in, plain_load, refl, seats_have, set, some, step, subst, suc, sym, total}
 use Rattle.tj_words.proofs.Prelude.{true, word, zero, ℕ, ℕ_discrete, ◌<◌, ◌^◌, ◌∙◌, ◌∷◌, ◌≡◌, ◌≢◌, ◌≤◌}
 use Rattle.tj_words.specs.declared.view.Noted.{Noted}
-use Rattle.tj_words.specs.SeatViews.SeatSteps.{noted_at, noted_load}
+use Rattle.tj_words.specs.SeatViews.SeatSteps.{noted_at, IsOn, Tells}
 use Rattle.tj_words.proofs.Stores.SeatLists.{each_set, words_same}
 use Rattle.tj_words.proofs.Stores.SeatContents.{seats_set, seats_same, rule_views}
 use Rattle.tj_words.proofs.SeatLoads.Learning.{Knowing, knowing_of, IsSo, learns, law_learns}
+use Rattle.tj_words.specs.SeatViews.Views.{noted_step}
 use Rattle.tj_words.specs.declared.phase.Phase.TheVariants as phases
 use Rattle.tj_words.specs.declared.phase.Walk.TheVariants as walks
 use Rattle.tj_words.specs.declared.view.Noted.TheVariants as note
@@ -37,6 +38,10 @@ total_fits f g (x ∷ xs) h = let a : f x ≤ g x = h zero x refl in let b = tot
     omega arith
 
 module _ {B : Type 0} where
+  -- a step that changes no word, which the seat notes with the number found
+  abbrev pub noted_load : Noted → (ℕ → Type 0) → Tells B
+  noted_load kind May st m n m' = (m'.1 ≡ m.1) × (m'.0 ≡ noted_step kind n m.0) × May n × IsOn kind st
+
   -- the view of a seat that knows this, after so many steps and loads
   abbrev pub knows : Knowing → ℕ → ℕ → ℕ → View B → View B
   knows k plain once steps v = record v {

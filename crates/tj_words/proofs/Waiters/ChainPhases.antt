@@ -4,7 +4,6 @@ use Rattle.tj_words.proofs.Prelude.{All, Any, AreLinked, Chains, Found, HasGrown
 use Rattle.tj_words.proofs.Prelude.{IsPush, IsRest, List, None, OfSeat, Option, Phase, Push, Rest, Some, Way, ap, dite}
 use Rattle.tj_words.proofs.Prelude.{get_elem?, head_of, inl, inr, new_push, parked_phase, put, refl, rest_of, set, some}
 use Rattle.tj_words.proofs.Prelude.{subst, sym, without_push, ℕ, ℕ_discrete, ⊎_elim, ◌∙◌, ◌∷◌, ◌≡◌, ◌≢◌}
-use Rattle.tj_words.specs.Calls.ParkSteps.{read_way}
 use Rattle.tj_words.proofs.Stores.StoreSteps.{put_here, put_else}
 use Rattle.tj_words.proofs.SeatLoads.KnowLoads.{all_cons}
 use Rattle.tj_words.proofs.Waiters.ChainHeads.{one_cell, any_without_push}
@@ -12,6 +11,10 @@ use Rattle.tj_words.proofs.Waiters.ChainSeats.{chains_seats}
 use Rattle.tj_words.proofs.Stores.SeatLists.{each_set, each_else, of_seat_here, of_seat_set}
 use Rattle.tj_words.proofs.Waiters.ChainLists.{no_some, same_some, none_none, IsOfTask, all_without, rest_is, rest_some}
 use Rattle.tj_words.proofs.Waiters.ChainFacts.{IsNotParked, linked_once, first_else, push_parked, not_in_line, not_mine}
+
+-- the rest once the way of its first task is read
+abbrev pub read_way : Way → Rest → Rest
+read_way way r = record r { way = Some way }
 
 module _ {tag : ℕ → ℕ} {head next : ℕ → Head} {phase : ℕ → Phase} {pushes : List (List Push)} {shuts : List (List ℕ)}
     {rests : List (Option Rest)} {closed : List (List ℕ)} {found : List (List Found)}

@@ -18,10 +18,6 @@ use Rattle.tj_words.specs.SeatViews.Views.{note_of}
 abbrev pub new_push : ℕ → ℕ → Way → Push
 new_push t p way = record { task = t; cell = p; way = way; next = None }
 
--- the rest once the way of its first task is read
-abbrev pub read_way : Way → Rest → Rest
-read_way way r = record r { way = Some way }
-
 -- the way of a wait that has been parked, or else what was known
 abbrev pub parked_way : Phase → Option Way → Option Way
 parked_way phase.Unborn o = o

@@ -8,7 +8,7 @@ use Rattle.tj_words.specs.declared.view.View.{View}
 use Rattle.tj_words.specs.declared.view.Noted.{Noted}
 use Rattle.tj_words.specs.declared.view.Noted.TheVariants as note
 use Rattle.tj_words.specs.Words.Offsets.{count_at, live_at, next_at, own_at, phase_at, stop_at}
-use Rattle.tj_words.specs.SeatViews.Views.{loaded_plain, noted_step, saw_live, saw_rest}
+use Rattle.tj_words.specs.SeatViews.Views.{loaded_plain, saw_live, saw_rest}
 
 -- a seat with the slots that it has
 abbrev pub SeatMe : Type 0 → Type 0
@@ -54,10 +54,6 @@ module _ {B : Type 0} where
   abbrev pub live_load : Tells B
   live_load st m n m' = (m'.1 ≡ m.1) × (n ≡ 0 → m'.0 ≡ saw_rest m.0) × (n ≢ 0 → m'.0 ≡ saw_live n m.0)
       × (n < 2 ^ 32) × IsOn note.Live st
-
-  -- another step that changes no word, which the seat notes with the number found
-  abbrev pub noted_load : Noted → (ℕ → Type 0) → Tells B
-  noted_load kind May st m n m' = (m'.1 ≡ m.1) × (m'.0 ≡ noted_step kind n m.0) × May n × IsOn kind st
 
 -- some cells are drawn
 abbrev pub IsCount : ℕ → ℕ → Type 0

@@ -56,10 +56,6 @@ module _ {B : Type 0} where
     abbrev pub ShowsNothing : Type 0
     ShowsNothing = core_shown cells born maker y ≡ core_shown cells born maker x
 
-  -- and so whatever the cells are
-  abbrev pub IsQuiet : ℕ → Contents B → Contents B → Type 0
-  IsQuiet cells x y = (born : List Reference) (maker : ℕ → ℕ) → ShowsNothing cells born maker x y
-
   -- t is in this phase from now on, with a seat or at home, and has made as many things; nothing else that is shown is
   -- changed but OTHERS and the number of waits cleared
   pub record IsMoved (cells : ℕ) (x y : Contents B) (t : ℕ) (p : Phase) (held : Option (Custody B))
