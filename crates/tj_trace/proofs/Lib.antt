@@ -2,3 +2,11 @@ pub mod Told
 pub mod Seen
 pub mod Noted
 pub mod Sends
+pub mod Asked
+pub mod RightPoints
+pub mod LinesRight
+pub mod SpotsThere
+pub mod HasLines
+pub mod MadeThere
+pub mod LinesPlaced
+pub mod OwnersOne

@@ -79,7 +79,7 @@ abbrev pub AreFresh : List (Task Logged) → Type 0
 AreFresh ts = (t : Task Logged) → IsIn t ts → t.body.makers ≡ []
 
 -- what the task has noted once it has taken the answer that this stage holds
-abbrev notes_at : PointStage → Logged → List Maker
+abbrev pub notes_at : PointStage → Logged → List Maker
 notes_at (stage.Answered a) x = noted a x
 notes_at (stage.Waits q spare) x = x.makers
 notes_at (stage.Closed e) x = x.makers
@@ -241,7 +241,7 @@ module _ (strict : Bool) where
       (in_either c (family rules V d u) (flat_map (family rules V d) ts) i)
 
   -- the tasks that come from one have asked nothing
-  family_fresh : (V : Assignment) (d : ℕ) (t : Task Logged) → t.body.makers ≡ [] → AreFresh (family rules V d t)
+  pub family_fresh : (V : Assignment) (d : ℕ) (t : Task Logged) → t.body.makers ≡ [] → AreFresh (family rules V d t)
   family_fresh V zero t e c (inl f) = ap (λ (z : Task Logged). z.body.makers) f ∙ e
   family_fresh V zero t e c (inr i) = absurd i
   family_fresh V (suc d) t e c (inl f) = ap (λ (z : Task Logged). z.body.makers) f ∙ e

@@ -4,3 +4,7 @@ pub mod TraceLaws
 pub mod Inner
 pub mod Lookups
 pub mod NoteLaws
+pub mod RightLines
+pub mod SpotLaws
+pub mod MadeAt
+pub mod OneOwners

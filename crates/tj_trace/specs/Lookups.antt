@@ -3,6 +3,7 @@ use Rattle.std.specs.Prelude.{ℕ, zero, suc, List, [], ◌∷◌, ◌++◌, map
 use Rattle.tj_base.specs.ForkOrder.{Name}
 use Rattle.tj_lex.specs.declared.place.Place.{Place}
 use Rattle.tj_syntax.specs.PlacesOf.{PlacesOfTask}
+use Rattle.tj_syntax.specs.declared.positions.StatementPlace.{StatementPlace}
 use Rattle.tj_mean.specs.declared.outcome.Ending.{Ending}
 use Rattle.tj_mean.specs.declared.outcome.Ending.TheVariants as ending
 use Rattle.tj_trace.specs.declared.line.Maker.{Maker}
@@ -37,3 +38,13 @@ spots t = map (λ s. s.at) t.statements ++ t.brace ∷ []
 abbrev pub spot_of : Option PlacesOfTask → ℕ → Option Place
 spot_of None n = None
 spot_of (Some t) n = slice_get (spots t) n
+
+-- where the ask of a statement stands, if there is such a statement and it has one
+abbrev pub ask_in : Option StatementPlace → Option Place
+ask_in None = None
+ask_in (Some s) = s.ask
+
+-- where the ask of the statement with this number stands, if there is such a declaration
+abbrev pub ask_spot_of : Option PlacesOfTask → ℕ → Option Place
+ask_spot_of None n = None
+ask_spot_of (Some t) n = ask_in (slice_get t.statements n)

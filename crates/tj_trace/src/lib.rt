@@ -9,5 +9,5 @@ mod lookup;
 mod traced;
 
 pub use line::{Maker, MakerList, TraceLine, TraceLines};
-pub use lookup::{line_of, maker_of, owner_of, spot};
+pub use lookup::{ask_spot, line_of, maker_of, owner_of, spot};
 pub use traced::trace;

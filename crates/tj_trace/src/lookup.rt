@@ -109,3 +109,20 @@ fn spot_in(task: &TaskPlaces, at: usize) -> Option<Place>
         None
     }
 }
+
+/// Where the ask of the statement with this number begins, in the declaration with that number, if
+/// the statement has one.
+pub fn ask_spot(places: &ScriptPlaces, decl: usize, at: usize) -> Option<Place>
+    ensures { result ≡ spec.ask_spot_of (slice_get (view places.now) decl) at }
+{
+    let task = places.tasks.get(decl)?;
+    ask_in(task, at)
+}
+
+/// The same of a declaration's parts.
+fn ask_in(task: &TaskPlaces, at: usize) -> Option<Place>
+    ensures { result ≡ spec.ask_in (slice_get (view_task task.now).statements at) }
+{
+    let statement = task.statements.get(at)?;
+    statement.ask
+}
