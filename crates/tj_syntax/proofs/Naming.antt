@@ -4,3 +4,4 @@ pub mod HeadNames
 pub mod HeadSteps
 pub mod Indexes
 pub mod TaskNames
+pub mod Lookups

@@ -9,6 +9,9 @@ use std::collections::BTreeMap;
 use std::marker::Model;
 use tj_lex::Word;
 
+/// Up to so many names are looked through one by one.
+const FEW: usize = 8;
+
 /// Names, each with its number.
 #[derive(Drop)]
 pub(crate) struct Names<'t> {
@@ -50,7 +53,11 @@ impl<'t> Names<'t> {
     pub(crate) fn number_of(&self, name: &[u8]) -> Option<u32>
         ensures { result ≡ index_of self.now name.now }
     {
-        self.numbers.get(name).copied()
+        if self.list.len() <= FEW {
+            number_among(self.list.as_slice(), name)
+        } else {
+            self.numbers.get(name).copied()
+        }
     }
 
     /// Adds a name that isn't there yet.
@@ -62,8 +69,7 @@ impl<'t> Names<'t> {
         ensures kept { OnErr result (self.new ≡ self.old) }
     {
         let number = self.list.len() as u32;
-        self.list
-            .push(Word::of(Vec::from_slice(alloc, name.bytes())?))?;
+        self.list.push(Word::copied(alloc, name.bytes())?)?;
         match self.numbers.insert(name.bytes(), number) {
             Ok(_) => Ok(()),
             Err(_) => {
@@ -79,4 +85,17 @@ impl<'t> Names<'t> {
     {
         self.list
     }
+}
+
+/// The number of a name among these.
+fn number_among(names: &[Word], name: &[u8]) -> Option<u32>
+    requires { length names.now ≤ MAX_TASKS }
+    ensures { result ≡ index_of names.now name.now }
+{
+    for at in 0..names.len() {
+        if names[at].bytes() == name {
+            return Some(at as u32);
+        }
+    }
+    None
 }

@@ -64,7 +64,7 @@ impl<'t> Parser<'t> {
         let body = self.block(MAX_LEVELS)?;
         let vars = mem::replace(&mut self.vars, Names::new(self.alloc)).into_vec();
         Ok(Decl {
-            name: Word::of(Vec::from_slice(self.alloc, name.bytes())?),
+            name: Word::copied(self.alloc, name.bytes())?,
             params,
             vars,
             body,
