@@ -12,14 +12,14 @@ pub returns-then-eq : goal.returns-then-eq
 returns-then-eq c =
     let x = c.args.name.now in
     sym (found_here c.args.names.now x c.loop-at.at c.index-names-at.result c.loop-at-test.true
-        (sym c.if-eq.true ∙ (c.eq.ensures ∙ ap (λ (w : Name). bytes_eq w x) (c.bytes.ensures ∙ c.index-names-at.is))))
+    (sym c.if-eq.true ∙ (c.eq.ensures ∙ ap (λ (w : Name). bytes_eq w x) (c.bytes.ensures ∙ c.index-names-at.is))))
     ∙ c.loop-at.invariant
 
 pub loop-at-preserved : goal.loop-at-preserved
 loop-at-preserved c =
     let x = c.args.name.now in
     sym (not_here c.args.names.now x c.loop-at.at c.index-names-at.result c.loop-at-test.true
-        (sym c.if-eq.false ∙ (c.eq.ensures ∙ ap (λ (w : Name). bytes_eq w x) (c.bytes.ensures ∙ c.index-names-at.is))))
+    (sym c.if-eq.false ∙ (c.eq.ensures ∙ ap (λ (w : Name). bytes_eq w x) (c.bytes.ensures ∙ c.index-names-at.is))))
     ∙ c.loop-at.invariant
 
 pub returns : goal.returns
