@@ -16,13 +16,13 @@ use Rattle.tj_words.proofs.Cells.CellFacts.{task_shown, sort_is}
 use Rattle.tj_words.proofs.Waiters.ChainLists.{of_without, apart_without}
 use Rattle.tj_words.proofs.Waiters.ChainHeads.{in_without}
 use Rattle.tj_words.proofs.Holders.TaskPlaces.{custody, held_here, list_owned}
-use Rattle.tj_words.proofs.Holders.HeldChanges.{find_here, find_else, made_held, hands_held, walks_held, custody_held}
-use Rattle.tj_words.proofs.Holders.HeldChanges.{found_held}
+use Rattle.tj_words.proofs.Holders.HeldChanges.{find_here, find_else, made_held, found_held, hold_move}
 use Rattle.tj_words.proofs.Cells.OwnedChanges.{owned_changed}
-use Rattle.tj_words.proofs.Events.OwnerEvents.{acts_phase, close_shown, end_shown}
+use Rattle.tj_words.proofs.Events.OwnerEvents.{acts_phase, close_shown, end_shown, acts_there}
 use Rattle.tj_words.proofs.Events.StepFacts.{facts_after}
 use Rattle.tj_words.proofs.Calls.KeptCells.{kept_words}
 use Rattle.tj_words.specs.Steps.ShownParts.{owned_parts}
+use Rattle.tj_words.proofs.Holders.TaskMoves.{TaskMove, moved_hands, moved_walks, moved_custody}
 use Rattle.tj_base.specs.declared.cell.Sort.TheVariants as sort
 use Rattle.tj_words.specs.declared.offsets.Once.TheVariants as once
 use Rattle.tj_words.specs.declared.phase.Phase.TheVariants as phase
@@ -298,18 +298,23 @@ module _ {B : Type 0} {program : Program B} {cells : ℕ} {x : Contents B} (r : 
     pub closed_keeps : KeepsCells cells x closed
     closed_keeps = kept_words cells x closed (λ d. refl) (λ d. ap (λ f. f d) closed_made) refl
 
+    move : TaskMove r id t x.words.phase h.0 (hold k' h.0) x.slots
+    move = hold_move r id t k k' h its x.words.phase (λ u q. refl) runs (acts_there r id t acts)
+        (λ p way w e. (r.names.waits t p way w e, r.waiters_own t p way w e)) (λ d i. absurd i) refl (λ e. e)
+        (λ a. absurd a) (λ y e. none_some k.home y out e) (λ e. (custody r id t k h).out out)
+
     -- the law after the close
     pub law_closed : EventKeepsFacts → Law program cells closed
     law_closed events = law_owners r (put x.words.own c None) (set x.seats.tasks id (hold k' h.0))
         (set x.seats.dues id (with_values c ds)) closed_made
-        (hands_held r id t k k' h its x.words.phase (λ j g e. refl) (λ e. e))
+        (moved_hands r id t x.words.phase h.0 (hold k' h.0) x.slots move)
         record {
           owned = λ d u e. dite (ℕ_discrete d c)
               (λ q. none_some (put x.words.own c None d) u (put_here x.words.own c d None q) e)
               (λ q. r.names.owned d u (sym (put_else x.words.own c d None q) ∙ e));
           waits = r.names.waits;
           records = r.names.records;
-          walks = walks_held r id t k k' h its (λ d i. absurd i);
+          walks = moved_walks r id t x.words.phase h.0 (hold k' h.0) x.slots move;
           knows = r.names.knows;
         }
         record {
@@ -322,8 +327,7 @@ module _ {B : Type 0} {program : Program B} {cells : ℕ} {x : Contents B} (r : 
               ))
               (λ w. inr w) (r.tree_words.in_hand d g y f e i o);
         }
-        (custody_held r id t k k' h its x.words.phase (λ u q. refl) runs (λ a. absurd a)
-        (λ y e. none_some k.home y out e) (λ e. (custody r id t k h).out out))
+        (moved_custody r id t x.words.phase h.0 (hold k' h.0) x.slots move)
         (owned_changed r.owned c owned_here.0 (put x.words.own c None) (owned_of closed)
         (λ d q. put_else x.words.own c d None q) lists nobody apart)
         (once_closed r.once_words id c t owned_here.0 owned_here.1 ds at)

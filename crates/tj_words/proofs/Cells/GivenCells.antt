@@ -13,14 +13,14 @@ use Rattle.tj_words.proofs.Prelude.{ℕ, ℕ_discrete, ⊎_elim, ◌++◌, ◌+�
 use Rattle.tj_words.specs.Calls.DrawViews.{made_one, maker_made, gave_owner}
 use Rattle.tj_words.proofs.Holders.HeldTasks.{none_some, one_some, held_listed}
 use Rattle.tj_words.proofs.Stores.SeatLists.{back, of_seat_else}
-use Rattle.tj_words.proofs.Holders.SeatTasks.{find_changed, find_same, held_alone, put_is}
+use Rattle.tj_words.proofs.Holders.SeatTasks.{find_changed, find_same, held_alone, put_is, put_kept}
 use Rattle.tj_words.proofs.Holders.TaskPlaces.{custody, held_here}
 use Rattle.tj_words.proofs.Stores.SeatContents.{seats_same}
 use Rattle.tj_words.proofs.Stores.StepContents.{stored}
 use Rattle.tj_words.proofs.Stores.StoreSteps.{Stores, store_word}
 use Rattle.tj_words.proofs.Stores.TableWords.{Own}
 use Rattle.tj_words.proofs.Stores.Columns.{IsAsBefore, IsNoted, before_doing, before_like, before_on, before_same}
-use Rattle.tj_words.proofs.Stores.Columns.{find_kept, hand_off, making_off, noted_as, noted_on, put_kept}
+use Rattle.tj_words.proofs.Stores.Columns.{find_kept, hand_off, making_off, noted_as, noted_on}
 use Rattle.tj_words.proofs.Cells.CellFacts.{cell_born}
 use Rattle.tj_words.proofs.Cells.GivenOwners.{given_made, given_shown}
 use Rattle.tj_words.proofs.Meaning.LawMeant.{ground_of, law_meant}

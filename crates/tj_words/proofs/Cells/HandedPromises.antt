@@ -14,13 +14,14 @@ use Rattle.tj_words.proofs.Holders.SeatTasks.{put_is}
 use Rattle.tj_words.proofs.Holders.HeldTasks.{none_some, one_some}
 use Rattle.tj_words.proofs.Stores.StoreSteps.{put_here, put_else}
 use Rattle.tj_words.proofs.Holders.TaskPlaces.{custody, held_here, list_owned}
-use Rattle.tj_words.proofs.Holders.HeldChanges.{find_here, find_else, made_held, hands_held, walks_held, custody_held}
+use Rattle.tj_words.proofs.Holders.HeldChanges.{find_here, find_else, made_held, hold_move}
 use Rattle.tj_words.proofs.Cells.OwnedChanges.{apart_snoc, owned_changed}
 use Rattle.tj_words.proofs.Events.OwnerEvents.{hand_shown}
 use Rattle.tj_words.proofs.Events.StepFacts.{facts_after}
 use Rattle.tj_words.proofs.Calls.KeptCells.{kept_parts}
 use Rattle.tj_words.proofs.Cells.ClosedCells.{owned_promise, closed, closed_made, law_closed, owned_here}
 use Rattle.tj_words.specs.Steps.ShownParts.{owned_parts}
+use Rattle.tj_words.proofs.Holders.TaskMoves.{TaskMove, moved_hands, moved_walks, moved_custody}
 use Rattle.tj_words.specs.declared.offsets.Once.TheVariants as once
 use Rattle.tj_words.specs.declared.view.Does.TheVariants as does
 
@@ -219,14 +220,18 @@ module _ {B : Type 0} {program : Program B} {cells : ℕ} {x : Contents B} (r : 
     made = (λ j v. made_held r1 id u child child' h1 child_its refl v j)
         ∙ closed_made r id t c k h its may out result owns last ds at
 
-    not_alarmed : HasAlarmed child.does → home_of x u ≡ None
-    not_alarmed a = absurd (subst HasAlarmed unborn a)
+    move : TaskMove r1 id u x.words.phase h1.0 given_list x.slots
+    move = hold_move r1 id u child child' h1 child_its x.words.phase (λ v q. refl) (custody r id u child child_here).does
+        u_there.0 (λ p way w e. (r.names.waits u p way w e, r1.waiters_own u p way w e))
+        (subst (λ d. AreThere n (hand_of x) (does_cells d)) (sym unborn) (λ d i. absurd i)) refl (λ e. e)
+        (λ a. absurd (subst HasAlarmed unborn a)) (λ y e. none_some child.home y child_out e)
+        (λ e. (custody r id u child child_here).out child_out)
 
     -- the law after the hand
     pub law_handed : Law program cells handed
     law_handed = law_owners r (put x.words.own c (Some u))
         (set (set x.seats.tasks id (hold k' h.0)) id (hold child' (hold k' h.0))) x.seats.dues made
-        (hands_held r1 id u child child' h1 child_its x.words.phase (λ j g e. refl) (λ e. e))
+        (moved_hands r1 id u x.words.phase h1.0 given_list x.slots move)
         record {
           owned = λ d v e. dite (ℕ_discrete d c)
               (λ q. (
@@ -237,14 +242,11 @@ module _ {B : Type 0} {program : Program B} {cells : ℕ} {x : Contents B} (r : 
               (λ q. r.names.owned d v (sym (put_else x.words.own c d (Some u) q) ∙ e));
           waits = r.names.waits;
           records = r.names.records;
-          walks = walks_held r1 id u child child' h1 child_its
-              (subst (λ d. AreThere n (hand_of x) (does_cells d)) (sym unborn) (λ d i. absurd i));
+          walks = moved_walks r1 id u x.words.phase h1.0 given_list x.slots move;
           knows = r.names.knows;
         }
         r.tree_words
-        (custody_held r1 id u child child' h1 child_its x.words.phase (λ v q. refl)
-        (custody r id u child child_here).does not_alarmed
-        (λ y e. none_some child.home y child_out e) (λ e. (custody r id u child child_here).out child_out))
+        (moved_custody r1 id u x.words.phase h1.0 given_list x.slots move)
         (owned_changed r1.owned c c_there.0 (put x.words.own c (Some u)) (owned_of handed)
         (λ d q. put_else x.words.own c d (Some u) q ∙ sym (put_else x.words.own c d None q)) lists child_owns apart)
         (once_owned r.once_words c t u c_there.1)

@@ -1,9 +1,9 @@
 -- What is found for a task after one seat's list of tasks has changed.
 use Rattle.tj_words.proofs.Prelude.{Bool, Contents, Custody, IsHeldWith, Law, List, None, Option, Program, Some, [], ap}
 use Rattle.tj_words.proofs.Prelude.{at_put, cond, dite, eq-eqb, false, find_in, get_elem?, held_in, held_of, hold}
-use Rattle.tj_words.proofs.Prelude.{home_of, let_go, made_by, nat_eq, ne_eqb, or_else, put, refl, set, some}
-use Rattle.tj_words.proofs.Prelude.{some-injective, some-ne-none, suc, sym, true, zero, ℕ, ℕ_discrete, ◌∙◌, ◌∷◌, ◌≡◌}
-use Rattle.tj_words.proofs.Prelude.{◌≢◌}
+use Rattle.tj_words.proofs.Prelude.{home_of, let_go, made_by, nat_eq, ne_eqb, or_else, put, put_else, put_here, refl}
+use Rattle.tj_words.proofs.Prelude.{set, some, some-injective, some-ne-none, subst, suc, sym, true, zero, ℕ, ℕ_discrete}
+use Rattle.tj_words.proofs.Prelude.{◌∙◌, ◌∷◌, ◌≡◌, ◌≢◌}
 use Rattle.tj_words.proofs.Holders.HeldTasks.{none_some, one_some}
 use Rattle.tj_words.proofs.Holders.TaskPlaces.{custody, held_here}
 
@@ -14,6 +14,21 @@ put_is f g i a here else k j = at_put f i a (λ m y. g m ≡ y) j here (else j) 
 -- and one that is so already
 pub put_self : {A : Type 0} (f : ℕ → A) (i : ℕ) (a : A) → f i ≡ a → f ≡ put f i a
 put_self f i a e = put_is f f i a e (λ j n. refl)
+
+module _ {A C : Type 0} where
+  -- what is read at each index is kept, where it is at the one that changes
+  pub put_kept : (F : ℕ → A → C) (f : ℕ → A) (i : ℕ) (a : A) → F i a ≡ F i (f i) → (j : ℕ)
+      → F j (put f i a j) ≡ F j (f j)
+  put_kept F f i a e j = at_put f i a (λ m y. F m y ≡ F m (f m)) j e (λ n. refl)
+
+  -- two columns that change at one index
+  pub at_two : (f : ℕ → A) (g : ℕ → C) (i : ℕ) (a : A) (b : C) (F : ℕ → A → C → Type 0) (j : ℕ)
+      → F i a b → (j ≢ i → F j (f j) (g j)) → F j (put f i a j) (put g i b j)
+  at_two f g i a b F j here else = dite (ℕ_discrete j i)
+      (λ e. subst (λ m. F m (put f i a m) (put g i b m)) (sym e)
+      (subst (F i (put f i a i)) (sym (put_here g i b)) (subst (λ y. F i y b) (sym (put_here f i a)) here)))
+      (λ n. subst (F j (put f i a j)) (sym (put_else g i b j n)) (subst (λ y. F j y (g j)) (sym (put_else f i a j n))
+      (else n)))
 
 module _ {B : Type 0} where
   -- a task that is let go isn't held; each other one is as before
@@ -38,6 +53,9 @@ module _ {B : Type 0} where
   -- a task that is held from now on is found so; each other one is as before
   pub hold_here : (k : Custody B) (ks : List (Custody B)) → held_in (hold k ks) k.task ≡ Some k
   hold_here k ks = ap (λ (b : Bool). cond b (Some k) (held_in (let_go k.task ks) k.task)) (eq-eqb k.task k.task refl)
+
+  pub hold_held : (k : Custody B) (t : ℕ) (ks : List (Custody B)) → k.task ≡ t → held_in (hold k ks) t ≡ Some k
+  hold_held k t ks e = ap (held_in (hold k ks)) (sym e) ∙ hold_here k ks
 
   pub hold_else : (k : Custody B) (u : ℕ) (ks : List (Custody B)) → u ≢ k.task → held_in (hold k ks) u ≡ held_in ks u
   hold_else k u ks n =

@@ -10,10 +10,9 @@ use Rattle.tj_words.proofs.Prelude.{phase_sort, put, put_else, put_here, record_
 use Rattle.tj_words.proofs.Prelude.{sort_shown, subst, sym, tag_in, total, ℕ, ℕ_discrete, ◌+◌, ◌∙◌, ◌≡◌, ◌≢◌, ◌≤◌}
 use Rattle.tj_words.proofs.Cells.HandChanges.{births_on}
 use Rattle.tj_words.proofs.Holders.HeldTasks.{hand_finds, none_some}
-use Rattle.tj_words.proofs.Holders.SeatTasks.{find_changed, find_same, put_is}
+use Rattle.tj_words.proofs.Holders.SeatTasks.{find_changed, find_same, put_is, at_two}
 use Rattle.tj_words.proofs.Holders.TaskPlaces.{hand_seat}
 use Rattle.tj_words.proofs.Phases.PhaseSorts.{sorts_same}
-use Rattle.tj_words.proofs.Stores.Columns.{at_two}
 use Rattle.tj_words.proofs.Stores.SeatLists.{back, each_else, each_set, of_seat_set}
 use Rattle.tj_base.specs.declared.cell.Sort.TheVariants as sort
 use Rattle.tj_words.specs.declared.phase.Phase.TheVariants as phase
@@ -46,7 +45,6 @@ module _ {B : Type 0} {program : Program B} {cells : ℕ} {x : Contents B} (r : 
     pub lies : (y : Rec B) → home_in slots t ≡ Some y → AreThere n (hand_of x) (record_cells y) × (y.cell.0 ≡ t)
     pub walks : All (λ (k : Custody B). AreThere n (hand_of x) (does_cells k.does)) new
     pub made : made_by (held_in new t) (home_in slots t) ≡ made_by (held_of x t) (home_of x t)
-    pub owned : owned_by (held_in new t) (home_in slots t) ≡ owned_of x t
     pub holder : Option ℕ
     pub kept : IsKept (phases t) holder (home_in slots t)
     pub custody : (k : Custody B) → held_in new t ≡ Some k
@@ -90,7 +88,7 @@ module _ {B : Type 0} {program : Program B} {cells : ℕ} {x : Contents B} (r : 
     not_hand j h e z = let f = hand_finds x.seats.hands j h e in
         none_some (hand_of x t) f.0 m.there.1 (ap (hand_of x) (sym z) ∙ f.1)
 
-    moved_hands : Hands n phases x.seats.hands after
+    pub moved_hands : Hands n phases x.seats.hands after
     moved_hands = record {
       each = λ j h e. let i = r.hands.each j h e in record {
         drawn_cell = i.drawn_cell;
@@ -107,6 +105,10 @@ module _ {B : Type 0} {program : Program B} {cells : ℕ} {x : Contents B} (r : 
       apart = r.hands.apart;
     }
 
+    pub moved_walks : Each (λ j l. All (λ (k : Custody B). AreThere n (hand_of x) (does_cells k.does)) l) after
+    moved_walks = each_set (λ j l. All (λ (k : Custody B). AreThere n (hand_of x) (does_cells k.does)) l) x.seats.tasks
+        id new r.names.walks m.walks
+
     moved_names : (known : List (List ℕ)) → Each (λ j l. AreThere n (hand_of x) l) known
         → NamesCells n (hand_of x) x.words.own phases (home_in slots) after known
     moved_names known knows = record {
@@ -115,8 +117,7 @@ module _ {B : Type 0} {program : Program B} {cells : ℕ} {x : Contents B} (r : 
           (λ d. r.names.waits u p way w (sym (m.else u d) ∙ e));
       records = λ u y e. dite (ℕ_discrete u t) (λ z. (m.lies y (ap (home_in slots) (sym z) ∙ e)).0)
           (λ d. r.names.records u y (sym (homes u d) ∙ e));
-      walks = each_set (λ j l. All (λ (k : Custody B). AreThere n (hand_of x) (does_cells k.does)) l) x.seats.tasks id
-          new r.names.walks m.walks;
+      walks = moved_walks;
       knows = knows;
     }
 
@@ -126,13 +127,14 @@ module _ {B : Type 0} {program : Program B} {cells : ℕ} {x : Contents B} (r : 
         (sorts_same (hand_of x) x.words.phase phases t m.there.1 m.was_task m.is_task m.else)
         (λ c h e. (h, e, refl)) (λ u. ap (λ k. k + making x.seats.hands u) (reads_same made_by m.made u))
 
-    owned_same : (λ u. owned_by (find_in after u) (home_in slots u)) ≡ owned_of x
-    owned_same j u = reads_same owned_by m.owned u j
+    owned_same : owned_by (held_in new t) (home_in slots t) ≡ owned_of x t
+        → (λ u. owned_by (find_in after u) (home_in slots u)) ≡ owned_of x
+    owned_same e j u = reads_same owned_by e u j
 
     undrawn_else : (u : ℕ) → n ≤ u → u ≢ t
     undrawn_else u l z = let d = m.there.0 in omega arith
 
-    moved_custody : Custodies cells n (hand_of x) phases slots after
+    pub moved_custody : Custodies cells n (hand_of x) phases slots after
     moved_custody = record {
       holder = holder;
       tasks_kept = λ u l s. dite (ℕ_discrete u t)
@@ -187,11 +189,11 @@ module _ {B : Type 0} {program : Program B} {cells : ℕ} {x : Contents B} (r : 
         (λ d. r.waiters_own u p way w (sym (m.else u d) ∙ e))
 
     -- the contents after it, with what else is changed
-    module _ (live : ℕ) (known : List (List ℕ)) (tokens cleared : List ℕ) (born_seen : List (List Reference))
+    module _ (live others : ℕ) (known : List (List ℕ)) (tokens cleared : List ℕ) (born_seen : List (List Reference))
         (filled : List (List Filled)) (pushes : List (List Push)) (rests : List (Option Rest)) where
       abbrev pub task_moved : Contents B
       task_moved = record {
-        words = record x.words { live = live; phase = phases };
+        words = record x.words { live = live; others = others; phase = phases };
         slots = slots;
         seats = record x.seats {
           tokens = tokens;
@@ -214,12 +216,14 @@ module _ {B : Type 0} {program : Program B} {cells : ℕ} {x : Contents B} (r : 
           phase = put_is x.words.phase phases t q a m.else j;
           held = (held_column ∙ ap (put (held_of x) t) b) j;
           home = (home_column ∙ ap (put (home_of x) t) c) j;
+          others = others;
           cleared = total cleared;
         };
       }
 
       -- the law after it, of which the caller shows what the kind of step decides
-      pub law_task : Each (λ j l. AreThere n (hand_of x) l) known
+      pub law_task : owned_by (held_in new t) (home_in slots t) ≡ owned_of x t
+          → Each (λ j l. AreThere n (hand_of x) l) known
           → Chains (tag_in x) x.words.head x.words.next phases pushes x.seats.shuts rests x.seats.closed x.seats.found
           → LiveCount cells live phases tokens x.seats.rested
           → RecordsFit (tag_in x) phases (home_in slots)
@@ -227,7 +231,7 @@ module _ {B : Type 0} {program : Program B} {cells : ℕ} {x : Contents B} (r : 
           born_seen x.seats.wrote filled
           → CoreFacts (core_shown cells r.born r.maker task_moved)
           → Law program cells task_moved
-      law_task knows chains count fit meaning facts = record {
+      law_task owned knows chains count fit meaning facts = record {
         born = r.born;
         maker = r.maker;
         number = r.number;
@@ -239,7 +243,7 @@ module _ {B : Type 0} {program : Program B} {cells : ℕ} {x : Contents B} (r : 
         tree = r.tree;
         tree_words = r.tree_words;
         custody = moved_custody;
-        owned = subst (OwnedLists n (hand_of x) x.words.own) (sym owned_same) r.owned;
+        owned = subst (OwnedLists n (hand_of x) x.words.own) (sym (owned_same owned)) r.owned;
         once_words = r.once_words;
         chains = chains;
         live_count = count;

@@ -4,7 +4,7 @@ use Rattle.tj_words.proofs.Prelude.{HeldSays, IsCell, IsIn, IsLast, IsPhaseAt, I
 use Rattle.tj_words.proofs.Prelude.{None, Option, Owns, Phase, Point, Program, Rec, Reference, RestCell, RestsAtMeaning}
 use Rattle.tj_words.proofs.Prelude.{Rule, Some, Sort, State, Tells, TellsStage, View, Walk, Way, [], ap, arith, bits_in}
 use Rattle.tj_words.proofs.Prelude.{cell_of, dec_le, dite, get_elem?, get_or, given, held_of, history, home_of, in_map}
-use Rattle.tj_words.proofs.Prelude.{inl, inr, last_round, length, meaning, names, numbers, own_at, owned, owned_by}
+use Rattle.tj_words.proofs.Prelude.{inl, inr, last_round, length, names, numbers, own_at, owned, owned_by}
 use Rattle.tj_words.proofs.Prelude.{owned_of, parts_of, phase_sort, record_in, reference, reference_of, refl, some}
 use Rattle.tj_words.proofs.Prelude.{some-injective, sort_shown, stage_there, subst, sym, tag_in, tasks, to_map, to_task}
 use Rattle.tj_words.proofs.Prelude.{word, ℕ, ℕ_discrete, ◌<◌, ◌↔◌, ◌∙◌, ◌∷◌, ◌≡◌, ◌≢◌, ◌≤◌}

@@ -73,8 +73,6 @@ module _ {B : Type 0} {program : Program B} {cells : ℕ} {x : Contents B} (r : 
       );
       walks = λ a i. r.names.walks id d.tasks d.tasks_at a (let_go_in t d.tasks a i);
       made = (λ j. made_by (let_go_here t d.tasks j) (d.lies j)) ∙ (d.made ∙ made_held_by r id t d.custody_of has);
-      owned = (λ j. owned_by (let_go_here t d.tasks j) (d.lies j)) ∙ (d.owned
-          ∙ sym (ap (λ (o : Option (Custody B)). owned_by o (home_of x t)) (held_here r id t d.custody_of has)));
       holder = None;
       kept = subst (λ p. IsKept p None (home_in slots t)) (sym d.here)
           (d.kept None (home_in slots t) (refl, (d.record_of, d.lies)));
@@ -89,7 +87,7 @@ module _ {B : Type 0} {program : Program B} {cells : ℕ} {x : Contents B} (r : 
       record_of = d.record_of;
       held = has;
       did = did;
-      moved = task_moves r id t phases d.tasks (let_go t d.tasks) slots leave live x.seats.known tokens
+      moved = task_moves r id t phases d.tasks (let_go t d.tasks) slots leave live x.words.others x.seats.known tokens
           x.seats.cleared x.seats.born_seen x.seats.filled pushes x.seats.rests q None (Some d.record_of) d.here
           (let_go_here t d.tasks) d.lies;
     }
@@ -102,5 +100,8 @@ module _ {B : Type 0} {program : Program B} {cells : ℕ} {x : Contents B} (r : 
         → Meant program cells x.words.count x.words.stop (ground_of cells r.born x) (home_in slots) (known_of x)
         → CoreFacts (core_shown cells r.born r.maker after_leaving)
         → Law program cells after_leaving
-    law_leaves = law_task r id t phases d.tasks (let_go t d.tasks) slots leave live x.seats.known tokens
-        x.seats.cleared x.seats.born_seen x.seats.filled pushes x.seats.rests r.names.knows
+    law_leaves = law_task r id t phases d.tasks (let_go t d.tasks) slots leave live x.words.others x.seats.known tokens
+        x.seats.cleared x.seats.born_seen x.seats.filled pushes x.seats.rests
+        ((λ j. owned_by (let_go_here t d.tasks j) (d.lies j)) ∙ (d.owned
+        ∙ sym (ap (λ (o : Option (Custody B)). owned_by o (home_of x t)) (held_here r id t d.custody_of has))))
+        r.names.knows

@@ -66,8 +66,6 @@ module _ {B : Type 0} {program : Program B} {cells : ℕ} {x : Contents B} (r : 
         (r.names.walks id h.0 h.1 k (held_listed h.0 t k h.2)))
         (λ (e : IsIn a (let_go k'.task h.0)). r.names.walks id h.0 h.1 a (let_go_in k'.task h.0 a e)) i;
     made = ap (λ (o : Option (Custody B)). made_by o (home_in slots t)) here ∙ made_held_by r id t k h;
-    owned = ap (λ (o : Option (Custody B)). owned_by o (home_in slots t)) here
-        ∙ sym (ap (λ (o : Option (Custody B)). owned_by o (home_of x t)) (held_here r id t k h));
     holder = Some id;
     kept = subst (λ p. IsKept p (Some id) (home_in slots t)) (sym was) (id, refl);
     custody = λ a e. subst (IsCustody (put r.custody.holder t (Some id)) x.words.phase (home_in slots) id t)
@@ -128,6 +126,8 @@ module _ {B : Type 0} {program : Program B} {cells : ℕ} {x : Contents B} (r : 
         → Law program cells after_home
     law_home free cells_there there cell owned made count fit meant =
         law_task r id t x.words.phase h.0 (hold k' h.0) slots (come free cells_there there cell owned made) live
-        x.seats.known tokens x.seats.cleared x.seats.born_seen x.seats.filled x.seats.pushes x.seats.rests
+        x.words.others x.seats.known tokens x.seats.cleared x.seats.born_seen x.seats.filled x.seats.pushes x.seats.rests
+        (ap (λ (o : Option (Custody B)). owned_by o (home_in slots t)) here
+        ∙ sym (ap (λ (o : Option (Custody B)). owned_by o (home_of x t)) (held_here r id t k h)))
         r.names.knows r.chains count fit meant
         (facts_same cells r.born r.maker x after_home (record_shown r after_home id t does.Unborn (moves there)) r.facts)

@@ -68,7 +68,6 @@ module _ {B : Type 0} {program : Program B} {cells : ℕ} {x : Contents B} (r : 
       lies = λ y e. let l = m.lies y e in (r.names.records t y l, r.custody.own_slots t y l);
       walks = m.walks;
       made = m.made ∙ (λ j. made_by (sym (unheld r t m.free) j) (sym m.lay j));
-      owned = m.owned ∙ (λ j. owned_by (sym (unheld r t m.free) j) (sym m.lay j));
       holder = m.holder;
       kept = subst (λ p. IsKept p m.holder (home_in slots t)) (sym (put_here x.words.phase t q)) m.kept;
       custody = m.custody;
@@ -97,7 +96,7 @@ module _ {B : Type 0} {program : Program B} {cells : ℕ} {x : Contents B} (r : 
       -- the task moves
       pub moves : (held : Option (Custody B)) (home : Option (Rec B)) → held_in new t ≡ held → home_in slots t ≡ home
           → IsMoved cells x moved t q held home
-      moves held home = task_moves r id t phases ks new slots move x.words.live (set x.seats.known id known) tokens
+      moves held home = task_moves r id t phases ks new slots move x.words.live x.words.others (set x.seats.known id known) tokens
           cleared born_seen filled pushes rests q held home (put_here x.words.phase t q)
 
       -- the law after it, of which the caller shows what the kind of step decides
@@ -110,6 +109,7 @@ module _ {B : Type 0} {program : Program B} {cells : ℕ} {x : Contents B} (r : 
           born_seen x.seats.wrote filled
           → CoreFacts (core_shown cells r.born r.maker moved)
           → Law program cells moved
-      law_moved knows = law_task r id t phases ks new slots move x.words.live (set x.seats.known id known) tokens
+      law_moved knows = law_task r id t phases ks new slots move x.words.live x.words.others (set x.seats.known id known) tokens
           cleared born_seen filled pushes rests
+          (m.owned ∙ (λ j. owned_by (sym (unheld r t m.free) j) (sym m.lay j)))
           (each_set (λ j l. AreThere n (hand_of x) l) x.seats.known id known r.names.knows knows)

@@ -17,10 +17,10 @@ use Rattle.tj_words.proofs.Cells.SeatHands.{hand_kept, hand_set, makes_kept, oth
 use Rattle.tj_words.proofs.Stores.SeatLists.{of_seat_set}
 use Rattle.tj_words.proofs.Stores.WordStores.{hand_here}
 use Rattle.tj_words.proofs.Holders.HeldTasks.{hand_found, none_some, one_some}
-use Rattle.tj_words.proofs.Stores.Columns.{at_two}
 use Rattle.tj_words.proofs.Events.QuietCells.{same_shown, IsQuiet}
 use Rattle.tj_words.proofs.Meaning.LawMeant.{ground_of, law_meant}
 use Rattle.tj_words.proofs.Meaning.MeaningGrows.{wider, grew_wider, meaning_grows}
+use Rattle.tj_words.proofs.Holders.SeatTasks.{at_two}
 use Rattle.tj_base.specs.declared.cell.Sort.TheVariants as sort
 use Rattle.tj_words.specs.declared.phase.Phase.TheVariants as phases
 

@@ -1,22 +1,21 @@
 -- The law after a store of PHASE by which a task that its seat holds does something else from then on: it walks, or has
 -- alarmed.
-use Rattle.tj_words.proofs.Prelude.{AreThere, Begins, BirthsBy, CellId, Contents, CoreFacts, Custody, Does, Hand}
-use Rattle.tj_words.proofs.Prelude.{IsBegun, IsCell, IsHeldWith, IsIn, IsMoved, IsParkedOn, Law, List, LiveCount, None}
-use Rattle.tj_words.proofs.Prelude.{OwnedLists, Phase, Program, Reference, Some, Walk, Way, ap, arith, at_longer}
-use Rattle.tj_words.proofs.Prelude.{before, core_shown, dite, does_cells, drawn_in, get_elem?, hand_in, hand_of, hold}
-use Rattle.tj_words.proofs.Prelude.{home_of, inl, is_task_sort, now_does, parts_of, phase_of, phase_sort, put}
-use Rattle.tj_words.proofs.Prelude.{reference_of, refl, set, some, some-injective, sort_shown, subst, sym, tag_in}
-use Rattle.tj_words.proofs.Prelude.{wait_in, way_by, way_if, ℕ, ℕ_discrete, ◌&&◌, ◌∙◌, ◌≡◌, ◌≢◌}
+use Rattle.tj_words.proofs.Prelude.{AreThere, Begins, CellId, Contents, CoreFacts, Custody, Does, IsBegun, IsCell}
+use Rattle.tj_words.proofs.Prelude.{IsHeldWith, IsIn, IsMoved, IsParkedOn, Law, List, LiveCount, None, Option, Phase}
+use Rattle.tj_words.proofs.Prelude.{Program, Reference, Some, Walk, Way, ap, at_longer, before, core_shown, does_cells}
+use Rattle.tj_words.proofs.Prelude.{drawn_in, hand_of, hold, home_of, inl, is_task_sort, now_does, owned_by, parts_of}
+use Rattle.tj_words.proofs.Prelude.{phase_of, put, reference_of, refl, set, some-injective, subst, sym, tag_in}
+use Rattle.tj_words.proofs.Prelude.{wait_in, way_by, way_if, ℕ, ◌&&◌, ◌∙◌, ◌≡◌, ◌≢◌}
 use Rattle.tj_words.proofs.Stores.StoreSteps.{put_here, put_else}
-use Rattle.tj_words.proofs.Stores.SeatLists.{inside, back}
-use Rattle.tj_words.proofs.Holders.HeldTasks.{none_some, one_some, hand_finds, at_index}
-use Rattle.tj_words.proofs.Holders.TaskPlaces.{begun_there, custody, held_drawn}
-use Rattle.tj_words.proofs.Holders.SeatTasks.{put_self, made_held_by}
-use Rattle.tj_words.proofs.Holders.HeldChanges.{owned_held, made_held, hands_held, walks_held, custody_held, found_held}
+use Rattle.tj_words.proofs.Stores.SeatLists.{inside}
+use Rattle.tj_words.proofs.Holders.HeldTasks.{none_some, one_some, at_index}
+use Rattle.tj_words.proofs.Holders.TaskPlaces.{begun_there, custody, held_here}
+use Rattle.tj_words.proofs.Holders.SeatTasks.{put_self, made_held_by, hold_held}
+use Rattle.tj_words.proofs.Holders.HeldChanges.{found_held, hold_move}
 use Rattle.tj_words.proofs.Waiters.ChainFacts.{held_free}
 use Rattle.tj_words.proofs.Waiters.ChainPhases.{chains_turn}
 use Rattle.tj_words.proofs.Holders.RecordSteps.{out_fit}
-use Rattle.tj_words.proofs.Phases.PhaseSorts.{does_sort, sorts_same}
+use Rattle.tj_words.proofs.Holders.TaskMoves.{law_task, TaskMove}
 use Rattle.tj_words.specs.declared.phase.Phase.TheVariants as phase
 use Rattle.tj_words.specs.declared.view.Does.TheVariants as does
 
@@ -87,55 +86,23 @@ module _ {B : Type 0} {program : Program B} {cells : ℕ} {x : Contents B} (r : 
     empty : home_of x t ≡ None
     empty = (custody r id t k h).out out
 
-    t_out : hand_in x.seats.hands t ≡ None
-    t_out = (begun_there r t (subst IsBegun (sym (custody r id t k h).does) begun)).1
-
-    not_hand : (j : ℕ) (g : Hand) → get_elem? x.seats.hands j ≡ some (Some g) → g.cell ≢ t
-    not_hand j g e z = let f = hand_finds x.seats.hands j g e in
-        none_some (hand_in x.seats.hands t) f.0 t_out (ap (hand_in x.seats.hands) (sym z) ∙ f.1)
-
-    sorts : (u : ℕ) → sort_shown (hand_of x u) (phases u) ≡ sort_shown (hand_of x u) (x.words.phase u)
-    sorts = sorts_same (hand_of x) x.words.phase phases t t_out
-        (ap phase_sort (custody r id t k h).does ∙ does_sort k.does) (ap phase_sort here ∙ does_sort d) else
-
     -- the law holds of them, where it does of the live count and of what is shown
     pub note_law : x.words.own t ≢ None → LiveCount cells x.words.live phases tokens x.seats.rested
         → CoreFacts (core_shown cells r.born r.maker after_note)
         → Law program cells after_note
-    note_law owns live facts = record {
-      born = r.born;
-      maker = r.maker;
-      number = r.number;
-      forks = r.forks;
-      lots = r.lots;
-      hands = hands_held r id t k k' h its phases (λ j g e. else g.cell (not_hand j g e)) (λ e. e);
-      names = record {
-        owned = r.names.owned;
-        waits = λ u c way w e. dite (ℕ_discrete u t)
-            (λ z. there c.0 (wait_cells d c way w (sym here ∙ (ap phases (sym z) ∙ e))))
-            (λ m. r.names.waits u c way w (sym (else u m) ∙ e));
-        records = r.names.records;
-        walks = walks_held r id t k k' h its there;
-        knows = r.names.knows;
-      };
-      births = back (λ j. BirthsBy (drawn_in cells x) r.born r.maker r.number
-          (λ u. made_held r id t k k' h its refl u j) (hand_of x) (λ u. sorts u j)) r.births;
-      tree = r.tree;
-      tree_words = r.tree_words;
-      custody = custody_held r id t k k' h its phases else here (λ a. empty)
-          (λ c e. none_some k.home c out e) (λ e. empty);
-      owned = subst (OwnedLists n (hand_of x) x.words.own) (sym (λ j u. owned_held r id t k k' h its refl u j)) r.owned;
-      once_words = r.once_words;
-      chains = chains_turn r.chains t (phase_of d)
-          (λ c q. held_free k.does c (subst (λ z. IsParkedOn z c) (custody r id t k h).does q)) (held_free d);
-      live_count = live;
-      stops = r.stops;
-      waiters_own = λ u c way w e. dite (ℕ_discrete u t)
-          (λ z. subst (λ i. x.words.own i ≢ None) (sym z) owns)
-          (λ m. r.waiters_own u c way w (sym (else u m) ∙ e));
-      records_fit = out_fit (tag_in x) x.words.phase (home_of x) r.records_fit t phases (home_of x) (phase_of d) here
-          else (λ u m. refl) empty;
-      meaning = r.meaning;
-      undrawn = λ c l. else c (λ z. (let m = held_drawn r id t k h in omega arith)) ∙ r.undrawn c l;
-      facts = facts;
-    }
+    note_law owns live facts = law_task r id t phases h.0 (hold k' h.0) x.slots move x.words.live x.words.others
+        x.seats.known tokens x.seats.cleared x.seats.born_seen x.seats.filled x.seats.pushes x.seats.rests
+        (ap (λ (o : Option (Custody B)). owned_by o (home_of x t)) (hold_held k' t h.0 its)
+        ∙ sym (ap (λ (o : Option (Custody B)). owned_by o (home_of x t)) (held_here r id t k h)))
+        r.names.knows
+        (chains_turn r.chains t (phase_of d)
+        (λ c q. held_free k.does c (subst (λ z. IsParkedOn z c) (custody r id t k h).does q)) (held_free d))
+        live
+        (out_fit (tag_in x) x.words.phase (home_of x) r.records_fit t phases (home_of x) (phase_of d) here
+        else (λ u m. refl) empty) r.meaning facts
+      where
+        move : TaskMove r id t phases h.0 (hold k' h.0) x.slots
+        move = hold_move r id t k k' h its phases else here
+            (begun_there r t (subst IsBegun (sym (custody r id t k h).does) begun))
+            (λ c way w e. (there c.0 (wait_cells d c way w (sym here ∙ e)), owns)) there refl (λ e. e) (λ a. empty)
+            (λ c e. none_some k.home c out e) (λ e. empty)

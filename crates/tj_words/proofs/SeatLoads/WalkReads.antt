@@ -1,24 +1,24 @@
 -- A task of a seat does something else, in the same phase: the law after it, and the loads of a walker as events.
-use Rattle.tj_words.proofs.Prelude.{All, AreThere, Births, Bool, Contents, CoreFacts, Custody, Does, Event}
-use Rattle.tj_words.proofs.Prelude.{EventKeepsFacts, HasAlarmed, IsHeldWith, IsIn, IsLaid, IsMoved, IsThere, Law}
-use Rattle.tj_words.proofs.Prelude.{MayCount, MayLoadOwner, MayReadAgain, MayReadOthers, MayReadOwner, None, Option}
-use Rattle.tj_words.proofs.Prelude.{OwnedLists, Phase, Program, ReadsOn, Rec, ShowsEvent, Some, Walker, Way, [], ap}
-use Rattle.tj_words.proofs.Prelude.{cell, core_shown, count_read, does_cells, drawn_in, false, hand_of, hold, home_of}
-use Rattle.tj_words.proofs.Prelude.{inl, inr, is_owner, length, others_read, owner_found, owner_read, owner_seen}
-use Rattle.tj_words.proofs.Prelude.{parts_of, phase_of, present, read_cells, refl, set, subst, suc, sym, trail_cells}
-use Rattle.tj_words.proofs.Prelude.{true, wait_found, wait_in, walk_cells, ℕ, ⊎_elim, ◌++◌, ◌<◌, ◌∙◌, ◌∷◌, ◌≡◌, ◌≢◌}
+use Rattle.tj_words.proofs.Prelude.{All, AreThere, Bool, Contents, CoreFacts, Custody, Does, Event, EventKeepsFacts}
+use Rattle.tj_words.proofs.Prelude.{HasAlarmed, IsBegun, IsHeldWith, IsIn, IsLaid, IsMoved, IsThere, Law, MayCount}
+use Rattle.tj_words.proofs.Prelude.{MayLoadOwner, MayReadAgain, MayReadOthers, MayReadOwner, None, Option, Phase}
+use Rattle.tj_words.proofs.Prelude.{Program, ReadsOn, Rec, ShowsEvent, Some, Walker, Way, [], ap, cell, core_shown}
+use Rattle.tj_words.proofs.Prelude.{count_read, does_cells, drawn_in, false, hand_of, hold, home_of, inl, inr, is_owner}
+use Rattle.tj_words.proofs.Prelude.{length, others_read, owned_by, owner_found, owner_read, owner_seen, parts_of}
+use Rattle.tj_words.proofs.Prelude.{phase_of, present, read_cells, refl, set, subst, suc, sym, trail_cells, true}
+use Rattle.tj_words.proofs.Prelude.{wait_found, wait_in, walk_cells, ℕ, ⊎_elim, ◌++◌, ◌<◌, ◌∙◌, ◌∷◌, ◌≡◌, ◌≢◌}
 use Rattle.tj_core.specs.declared.walk.LastRead.{LastRead}
 use Rattle.tj_core.specs.declared.walk.LastRead.TheVariants.{Counted, Passed, SawOwner, SawWait}
 use Rattle.tj_words.proofs.Holders.HeldTasks.{none_some, one_some, held_listed, in_front, in_back}
 use Rattle.tj_words.proofs.Seating.Merging.{all_append}
 use Rattle.tj_words.proofs.SeatLoads.KnowLoads.{all_cons}
-use Rattle.tj_words.proofs.Holders.TaskPlaces.{custody}
-use Rattle.tj_words.proofs.Holders.SeatTasks.{put_self, made_held_by}
-use Rattle.tj_words.proofs.Holders.HeldChanges.{held_task, hands_held, walks_held, custody_held, owned_held, made_held}
-use Rattle.tj_words.proofs.Holders.HeldChanges.{found_held}
+use Rattle.tj_words.proofs.Holders.TaskPlaces.{custody, held_here, begun_there}
+use Rattle.tj_words.proofs.Holders.SeatTasks.{put_self, made_held_by, hold_held}
+use Rattle.tj_words.proofs.Holders.HeldChanges.{held_task, found_held, hold_move}
 use Rattle.tj_words.proofs.Events.StepFacts.{facts_after}
 use Rattle.tj_words.proofs.Events.WalkEvents.{others_shown, count_shown, owner_shown_read, wait_shown_read}
 use Rattle.tj_words.proofs.Events.WalkEvents.{again_shown_read}
+use Rattle.tj_words.proofs.Holders.TaskMoves.{law_task, TaskMove}
 use Rattle.tj_core.specs.declared.event.Event.TheVariants as event
 use Rattle.tj_words.specs.declared.phase.Phase.TheVariants as phase
 use Rattle.tj_words.specs.declared.view.Does.TheVariants as does
@@ -104,45 +104,25 @@ module _ {B : Type 0} {program : Program B} {cells : ℕ} {x : Contents B} (r : 
 
   -- the law after a task of a seat does something else in the same phase, which names cells that are there, where the
   -- facts of what is shown then hold
-  pub law_turned : (¬ HasAlarmed d)
+  pub law_turned : IsBegun (phase_of k.does)
+      → (¬ HasAlarmed d)
       → AreThere (drawn_in cells x) (hand_of x) (does_cells d)
       → CoreFacts (core_shown cells r.born r.maker y)
       → Law program cells y
-  law_turned calm there facts = record {
-    born = r.born;
-    maker = r.maker;
-    number = r.number;
-    forks = r.forks;
-    lots = r.lots;
-    hands = hands_held r id t k k' h its x.words.phase (λ j g at. refl) (λ e. e);
-    names = record {
-      owned = r.names.owned;
-      waits = r.names.waits;
-      records = r.names.records;
-      walks = walks_held r id t k k' h its there;
-      knows = r.names.knows;
-    };
-    births = subst (λ f. Births (drawn_in cells x) r.born r.maker r.number f (hand_of x) x.words.phase)
-        (λ j u. sym (made_held r id t k k' h its refl u) j) r.births;
-    tree = r.tree;
-    tree_words = r.tree_words;
-    custody = custody_held r id t k k' h its x.words.phase (λ u n. refl) ((custody r id t k h).does ∙ sym same)
-        (λ a. absurd (calm a)) laid (custody r id t k h).out;
-    owned = subst (λ f. OwnedLists (drawn_in cells x) (hand_of x) x.words.own f)
-        (λ j u. sym (owned_held r id t k k' h its refl u) j) r.owned;
-    once_words = r.once_words;
-    chains = r.chains;
-    live_count = r.live_count;
-    stops = r.stops;
-    waiters_own = r.waiters_own;
-    records_fit = r.records_fit;
-    meaning = r.meaning;
-    undrawn = r.undrawn;
-    facts = facts;
-  }
+  law_turned begun calm there facts = law_task r id t x.words.phase h.0 (hold k' h.0) x.slots move x.words.live others
+      x.seats.known x.seats.tokens x.seats.cleared x.seats.born_seen x.seats.filled x.seats.pushes x.seats.rests
+      (ap (λ (o : Option (Custody B)). owned_by o (home_of x t)) (hold_held k' t h.0 its)
+      ∙ sym (ap (λ (o : Option (Custody B)). owned_by o (home_of x t)) (held_here r id t k h)))
+      r.names.knows r.chains r.live_count r.records_fit r.meaning facts
     where
       laid : (c : Rec B) → k.home ≡ Some c → IsLaid k' (home_of x t) c
       laid c e = let l = (custody r id t k h).laid c e in record { here = l.here; owned = l.owned; made = l.made }
+
+      move : TaskMove r id t x.words.phase h.0 (hold k' h.0) x.slots
+      move = hold_move r id t k k' h its x.words.phase (λ u n. refl) ((custody r id t k h).does ∙ sym same)
+          (begun_there r t (subst IsBegun (sym (custody r id t k h).does) begun))
+          (λ p way w e. (r.names.waits t p way w e, r.waiters_own t p way w e)) there refl (λ e. e)
+          (λ a. absurd (calm a)) laid (custody r id t k h).out
 
 -- a walker of a seat reads on: each of its loads is the event of the core, and the law holds after it
 module _ {B : Type 0} {program : Program B} {cells : ℕ} {x : Contents B} (event_keeps : EventKeepsFacts)
@@ -179,7 +159,8 @@ module _ {B : Type 0} {program : Program B} {cells : ℕ} {x : Contents B} (even
     read_law : (e : Event) → ShowsEvent cells r.born r.maker x read_y e r.born r.maker
         → AreThere (drawn_in cells x) (hand_of x) (walk_cells p w')
         → Law program cells read_y
-    read_law e s there = law_turned r id t k h d' same x.words.others (λ a. a) there (facts_after event_keeps s r.facts)
+    read_law e s there = law_turned r id t k h d' same x.words.others
+        (subst (λ z. IsBegun (phase_of z)) (sym walks) tt) (λ a. a) there (facts_after event_keeps s r.facts)
 
   -- the load of OTHERS
   pub law_reads_others : MayReadOthers way w

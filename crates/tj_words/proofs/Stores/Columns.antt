@@ -2,29 +2,14 @@
 -- alone.
 use Rattle.tj_words.proofs.Prelude.{Contents, Custody, Hand, Law, List, None, Option, Program, Some, ap, at_put, dite}
 use Rattle.tj_words.proofs.Prelude.{find_in, get_elem?, hand_in, hand_of, held_in, held_of, inl, inr, making, noted}
-use Rattle.tj_words.proofs.Prelude.{phase_of, put, put_else, put_here, refl, set, some, subst, sym, ℕ, ℕ_discrete}
-use Rattle.tj_words.proofs.Prelude.{⊎_elim, ◌∙◌, ◌≡◌, ◌≢◌, ◌⊎◌}
+use Rattle.tj_words.proofs.Prelude.{phase_of, put, refl, set, some, subst, sym, ℕ, ℕ_discrete, ⊎_elim, ◌∙◌, ◌≡◌, ◌≢◌}
+use Rattle.tj_words.proofs.Prelude.{◌⊎◌}
 use Rattle.tj_words.proofs.Cells.HandChanges.{IsLike}
 use Rattle.tj_words.proofs.Cells.SeatHands.{hand_kept, hand_set, makes_kept, makes_set, other_cell, other_maker}
 use Rattle.tj_words.proofs.Holders.HeldTasks.{one_some}
 use Rattle.tj_words.proofs.Holders.NotedEntries.{IsDoing, noted_else, noted_here}
 use Rattle.tj_words.proofs.Holders.SeatTasks.{find_changed, find_same, held_alone}
 use Rattle.tj_words.proofs.Holders.TaskPlaces.{custody, held_here, hand_seat}
-
-module _ {A C : Type 0} where
-  -- what is read at each index is kept, where it is at the one that changes
-  pub put_kept : (F : ℕ → A → C) (f : ℕ → A) (i : ℕ) (a : A) → F i a ≡ F i (f i) → (j : ℕ)
-      → F j (put f i a j) ≡ F j (f j)
-  put_kept F f i a e j = at_put f i a (λ m y. F m y ≡ F m (f m)) j e (λ n. refl)
-
-  -- two columns that change at one index
-  pub at_two : (f : ℕ → A) (g : ℕ → C) (i : ℕ) (a : A) (b : C) (F : ℕ → A → C → Type 0) (j : ℕ)
-      → F i a b → (j ≢ i → F j (f j) (g j)) → F j (put f i a j) (put g i b j)
-  at_two f g i a b F j here else = dite (ℕ_discrete j i)
-      (λ e. subst (λ m. F m (put f i a m) (put g i b m)) (sym e)
-      (subst (F i (put f i a i)) (sym (put_here g i b)) (subst (λ y. F i y b) (sym (put_here f i a)) here)))
-      (λ n. subst (F j (put f i a j)) (sym (put_else g i b j n)) (subst (λ y. F j y (g j)) (sym (put_else f i a j n))
-      (else n)))
 
 module _ {B : Type 0} where
   -- a seat has this for a task where it had that

@@ -15,6 +15,7 @@ use Rattle.tj_words.proofs.Events.WaitClears.{lower_shown}
 use Rattle.tj_words.proofs.Events.WalkEvents.{raise_shown}
 use Rattle.tj_words.proofs.SeatLoads.WalkLoads.{turned_seat, turned_seats, held_by_view, others_small}
 use Rattle.tj_words.proofs.SeatLoads.WalkReads.{doing, turned_to, task_turned, law_turned}
+use Rattle.tj_words.proofs.Events.TurnedTasks.{acting_begun}
 use Rattle.tj_words.specs.declared.view.Does.TheVariants as does
 
 -- a task that may act runs
@@ -31,7 +32,8 @@ module _ {B : Type 0} {program : Program B} {cells : ℕ} {x : Contents B} (even
   -- the law after a task of a seat has raised OTHERS
   pub law_raises : (id t : ℕ) (k : Custody B) (h : IsHeldWith x id t k) → MayAct k.does → IsIn t k.owned
       → Law program cells (turned_to x id t k h does.Raised (suc x.words.others))
-  law_raises id t k h acts result = law_turned r id t k h does.Raised same (suc x.words.others) (λ a. a)
+  law_raises id t k h acts result = law_turned r id t k h does.Raised same (suc x.words.others)
+      (acting_begun k.does acts) (λ a. a)
       (λ c i. absurd i) (facts_after event_keeps (raise_shown r y id t k.does record {
         turns = record {
           turns = record {
