@@ -3,8 +3,8 @@ use Rattle.tj_words.proofs.Prelude.{AreThere, Bool, CellId, Contents, Custody, D
 use Rattle.tj_words.proofs.Prelude.{IsIn, IsKept, IsLaid, IsThere, Law, List, None, OfSeat, Option, Phase, Program, Rec}
 use Rattle.tj_words.proofs.Prelude.{Some, Walk, Way, [], ap, cond, dite, does_cells, drawn_in, eq-eqb, find_in, hand_of}
 use Rattle.tj_words.proofs.Prelude.{held_in, held_of, hold, home_of, inl, inr, let_go, made_by, made_of, making, ne_eqb}
-use Rattle.tj_words.proofs.Prelude.{owned_by, owned_of, phase_of, phase_sort, put, put_here, refl, set, subst, sym, ℕ}
-use Rattle.tj_words.proofs.Prelude.{ℕ_discrete, ⊎_elim, ◌+◌, ◌∙◌, ◌∷◌, ◌≡◌, ◌≢◌}
+use Rattle.tj_words.proofs.Prelude.{phase_of, phase_sort, put, put_here, refl, set, subst, sym, ℕ, ℕ_discrete, ⊎_elim}
+use Rattle.tj_words.proofs.Prelude.{◌+◌, ◌∙◌, ◌∷◌, ◌≡◌, ◌≢◌}
 use Rattle.tj_words.proofs.Stores.SeatLists.{of_seat_here}
 use Rattle.tj_words.proofs.Holders.HeldTasks.{none_some, one_some}
 use Rattle.tj_words.proofs.Holders.TaskPlaces.{custody, held_here}
@@ -54,14 +54,6 @@ module _ {B : Type 0} {program : Program B} {cells : ℕ} {x : Contents B} (r : 
 
   pub found_held : find_in tasks' ≡ put (held_of x) t (Some k')
   found_held = put_is (held_of x) (find_in tasks') t (Some k') find_here find_else
-
-  -- the cells that each task owns are as before, where those of this one are
-  pub owned_held : k'.owned ≡ k.owned → (u : ℕ) → owned_by (find_in tasks' u) (home_of x u) ≡ owned_of x u
-  owned_held e u = dite (ℕ_discrete u t)
-      (λ q. subst (λ z. owned_by (find_in tasks' z) (home_of x z) ≡ owned_of x z) (sym q)
-      (ap (λ (o : Option (Custody B)). owned_by o (home_of x t)) find_here
-      ∙ (e ∙ sym (ap (λ (o : Option (Custody B)). owned_by o (home_of x t)) (held_here r id t k h)))))
-      (λ n. ap (λ (o : Option (Custody B)). owned_by o (home_of x u)) (find_else u n))
 
   -- and so is how many things each has made
   pub made_held : k'.made ≡ k.made → (u : ℕ)

@@ -5,7 +5,7 @@ use Rattle.tj_words.proofs.Prelude.{◌≡◌, ◌≢◌, ◌⊎◌}
 use Rattle.tj_words.proofs.Holders.HeldChanges.{held_task, let_go_in}
 use Rattle.tj_words.proofs.Holders.SeatTasks.{hold_here, hold_else}
 use Rattle.tj_words.proofs.Holders.NotedTasks.{noted_is}
-use Rattle.tj_words.proofs.Cells.HandChanges.{IsStill, IsLike, like_same}
+use Rattle.tj_words.proofs.Cells.HandChanges.{IsLike, like_same}
 
 -- a task does what it did
 abbrev pub IsDoing : {B : Type 0} → Option (Custody B) → Option (Custody B) → Type 0
@@ -15,10 +15,6 @@ IsDoing (Some k) None = ⊥
 IsDoing (Some k) (Some k') = k'.does ≡ k.does
 
 module _ {B : Type 0} where
-  pub doing_same : (o : Option (Custody B)) → IsDoing o o
-  doing_same None = tt
-  doing_same (Some k) = refl
-
   -- one change after another
   pub doing_on : (a b c : Option (Custody B)) → IsDoing a b → IsDoing b c → IsDoing a c
   doing_on None None None i j = tt
@@ -27,18 +23,6 @@ module _ {B : Type 0} where
   doing_on (Some x) None c i j = absurd i
   doing_on (Some x) (Some y) None i j = absurd j
   doing_on (Some x) (Some y) (Some z) i j = j ∙ i
-
-  pub like_on : (a b c : Option (Custody B)) → IsLike a b → IsLike b c → IsLike a c
-  like_on None None None i j = tt
-  like_on None None (Some z) i j = absurd j
-  like_on None (Some y) c i j = absurd i
-  like_on (Some x) None c i j = absurd i
-  like_on (Some x) (Some y) None i j = absurd j
-  like_on (Some x) (Some y) (Some z) i j = ⊎_elim
-      (λ (e : z ≡ y). subst (λ q. (q ≡ x) ⊎ IsStill x q) (sym e) i)
-      (λ (s : IsStill y z). inr (⊎_elim
-      (λ (e : y ≡ x). subst (λ q. IsStill q z) e s)
-      (λ (q : IsStill x y). record { phase = s.phase ∙ q.phase; out = q.out; out_now = s.out_now }) i)) j
 
   -- a seat whose tasks do what they did holds one that does so, as it did
   pub holds_on : (F : Does → Type 0) (v w : View B)
@@ -87,11 +71,3 @@ module _ {B : Type 0} (ks : List (Custody B)) (t : ℕ) (k : Custody B) (f : Cus
       (subst (λ o. IsLike o (held_in (noted t f ks) t)) (sym held)
       (subst (IsLike (Some k)) (sym noted_here) (inr (record { phase = phase; out = out; out_now = now })))))
       (λ n. subst (IsLike (held_in ks u)) (sym (noted_else u n)) (like_same (held_in ks u)))
-
-  -- each task does what it did, where this one does
-  pub does_noted : (f k).does ≡ k.does → (u : ℕ) → IsDoing (held_in ks u) (held_in (noted t f ks) u)
-  does_noted same u = dite (ℕ_discrete u t)
-      (λ e. subst (λ z. IsDoing (held_in ks z) (held_in (noted t f ks) z)) (sym e)
-      (subst (λ o. IsDoing o (held_in (noted t f ks) t)) (sym held)
-      (subst (IsDoing (Some k)) (sym noted_here) same)))
-      (λ n. subst (IsDoing (held_in ks u)) (sym (noted_else u n)) (doing_same (held_in ks u)))

@@ -20,15 +20,6 @@ module _ {B : Type 0} where
     pub ready_fits : IsRecordIn tag phase.Unborn r → IsRecordIn tag phase.Ready r
     ready_fits h = (h.0, inl h.1)
 
-    -- a task that waits goes from one walk to another: it is parked, or has alarmed
-    pub waiting_fits : (c : CellId) (way way' : Way) (w w' : Walk) → IsRecordIn tag (phase.Waiting c way w) r
-        → IsRecordIn tag (phase.Waiting c way' w') r
-    waiting_fits c way way' w w' h = h
-
-    -- PHASE says of a task that has ended that it has
-    pub ended_fits : IsRecordIn tag phase.Running r → IsRecordIn tag phase.Ended r
-    ended_fits h = h
-
     -- the wait of a parked task is cleared, of whose cell something has become
     pub woken_fits : (c : CellId) (way : Way) (w : Walk) → tag c.0 ≢ 0 → IsRecordIn tag (phase.Waiting c way w) r
         → IsRecordIn tag phase.Ready r

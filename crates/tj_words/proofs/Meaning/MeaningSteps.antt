@@ -53,25 +53,6 @@ module _ {B : Type 0} (program : Program B) (cells : ℕ) where
       knows : AreFilledIn program g f
       knows = m.filled_stands id f filled
 
-      -- a step that touches none of it
-      pub same_meant : Meant program cells count stop g home (knows_now id b w f k)
-      same_meant = meaning_learns program cells m id b w f begins writes knows
-
-      -- a load at which the seat learns what all cells are
-      pub all_meant : Meant program cells count stop g home (knows_now id g.born w f k)
-      all_meant = meaning_learns program cells m id g.born w f (begins_self g.born) writes knows
-
-      -- and one that finds a TAG
-      pub tag_seen : (c : ℕ) → g.tag c ≢ 0 → (e : Entry) × FilledIn program g c e
-          × Meant program cells count stop g home
-          (knows_now id g.born w (record { cell = c; entry = e } ∷ f) k)
-      tag_seen c n = let h = m.entries c n in (
-        h.0,
-        h.1,
-        meaning_learns program cells m id g.born w (record { cell = c; entry = h.0 } ∷ f) (begins_self g.born) writes
-            (all_more _ (record { cell = c; entry = h.0 }) f h.1 knows),
-      )
-
       -- a draw that finds a cell left: it has a name of some round, and is in hand
       pub draw_meant : (drawn' : ℕ) (hand' : ℕ → Option Hand) (x : Reference)
           → count < cells
@@ -107,25 +88,6 @@ module _ {B : Type 0} (program : Program B) (cells : ℕ) where
           counted : Meant program cells (suc count) stop g' home k
           counted = meaning_counts program cells grown (suc count) stop (λ l. absurd (omega arith))
               (λ e. let l = m.stopped e in omega arith)
-
-      -- the first store of OWN of c: it comes out of hand
-      pub given_meant : (hand' : ℕ → Option Hand) (c : ℕ) → hand' c ≡ None → ((d : ℕ) → d ≢ c → hand' d ≡ g.hand d)
-          → Meant program cells count stop (wider program g g.drawn hand' g.born) home (knows_now id b w f k)
-      given_meant hand' c out else =
-          meaning_learns program cells grown id b w f begins (λ y i. on.written y.cell y.entry (writes y i))
-          (λ y i. on.filled y.cell y.entry (knows y i))
-        where
-          g' : Ground
-          g' = wider program g g.drawn hand' g.born
-
-          there : IsThereOn g g'
-          there d h = (h.0, dite (ℕ_discrete d c) (λ q. ap hand' q ∙ out) (λ n. else d n ∙ h.1))
-
-          on : Grew program g g'
-          on = grew_wider program g g.drawn hand' g.born (begins_self g.born) there
-
-          grown : Meant program cells count stop g' home k
-          grown = meaning_grows program cells m g' on (λ d x i. inl i) (λ d n. inl n)
 
       -- a record comes home that tells a point, by what the seat knows
       pub home_meant : (home' : ℕ → Option (Rec B)) (t : ℕ) (r : Rec B) → home' t ≡ Some r

@@ -4,7 +4,7 @@ use Rattle.tj_words.proofs.Prelude.{Bool, CellId, Contents, Custody, Each, Hand,
 use Rattle.tj_words.proofs.Prelude.{IsThere, IsWithinLot, Key, List, MayRest, None, Option, Phase, Program, Rec, Rule}
 use Rattle.tj_words.proofs.Prelude.{Some, State, Tag, View, Walk, Walker, Way, [], ap, arith, at_map, cell, contents_of}
 use Rattle.tj_words.proofs.Prelude.{core_shown, dec_le, dite, drawn_in, get_elem?, hand_of, held_in, held_of, home_of}
-use Rattle.tj_words.proofs.Prelude.{least_lot, live_part, map, owner, parts_of, phase_sort, refl, some, some-injective}
+use Rattle.tj_words.proofs.Prelude.{live_part, map, owner, parts_of, phase_sort, refl, some, some-injective}
 use Rattle.tj_words.proofs.Prelude.{some-ne-none, sort_shown, stage, stage_there, subst, suc, sym, tag_in, total}
 use Rattle.tj_words.proofs.Prelude.{wait_in, waits, zero, ℕ, ℕ_discrete, ⊎_elim, ◌+◌, ◌<◌, ◌∙◌, ◌∷◌, ◌≡◌, ◌≢◌, ◌≤◌}
 use Rattle.tj_base.proofs.Ways.{reach_front}
@@ -42,10 +42,6 @@ two_parts (x ∷ xs) (suc i) zero a b n e f = let q : x ≡ b = some-injective x
 two_parts (x ∷ xs) (suc i) (suc j) a b n e f = let p = two_parts xs i j a b (λ q. n (ap suc q)) e f in omega arith
 
 module _ {B : Type 0} where
-  -- a seat that holds a task, or has a lot, isn't spent
-  pub lot_of_holder : (v : View B) → IsWithinLot v → v.tasks ≢ [] → least_lot ≤ v.lot
-  lot_of_holder v l n = ⊎_elim (λ (q : IsSpent v). absurd (n q.1)) (λ q. q) l.least
-
   pub no_lot_no_task : (v : View B) → IsWithinLot v → v.lot ≡ 0 → v.tasks ≡ []
   no_lot_no_task v l z = ⊎_elim (λ (q : IsSpent v). q.1) (λ q. absurd (omega arith)) l.least
 

@@ -1,7 +1,7 @@
 -- What a seat knows over several steps.
 use Rattle.tj_words.proofs.Prelude.{List, View, [], ap, begins_self, begins_trans, refl, sym, ◌++◌, ◌∙◌}
 use Rattle.std.proofs.Common.{append_assoc}
-use Rattle.tj_words.specs.SeatViews.KnowsMore.{IsTailOf, KnowsMore, HasSameWakes, HasSameHand, HasSameCounts}
+use Rattle.tj_words.specs.SeatViews.KnowsMore.{IsTailOf, KnowsMore, HasSameHand, HasSameCounts}
 
 pub tail_on : {A : Type 0} (xs ys zs : List A) → IsTailOf xs ys → IsTailOf ys zs → IsTailOf xs zs
 tail_on xs ys zs p q = (q.0 ++ p.0, q.1 ∙ (ap (λ l. q.0 ++ l) p.1 ∙ sym (append_assoc q.0 p.0 xs)))
@@ -33,13 +33,6 @@ module _ {B : Type 0} where
     closed = λ x i. q.closed x (p.closed x i);
     rested = λ e. q.rested (p.rested e);
     notes = tail_on u.notes v.notes w.notes p.notes q.notes;
-  }
-
-  pub wakes_on : (u v w : View B) → HasSameWakes u v → HasSameWakes v w → HasSameWakes u w
-  wakes_on u v w p q = record {
-    pushes = q.pushes ∙ p.pushes;
-    shuts = q.shuts ∙ p.shuts;
-    rest = q.rest ∙ p.rest;
   }
 
   pub hand_on : (u v w : View B) → HasSameHand u v → HasSameHand v w → HasSameHand u w

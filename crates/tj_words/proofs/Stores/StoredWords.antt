@@ -1,8 +1,7 @@
 -- What the words say after a store of one of them.
 use Rattle.tj_words.proofs.Prelude.{Bool, List, Once, WordsSay, ap, cond, count_at, dite, eq-eqb, head_at, head_in}
-use Rattle.tj_words.proofs.Prelude.{length, live_at, nat_eq, ne_eqb, next_at, once_at, others_at, own_at, owner_in}
-use Rattle.tj_words.proofs.Prelude.{phase_at, phase_in, put, refl, set, stop_at, sym, word, words_say, ℕ, ℕ_discrete}
-use Rattle.tj_words.proofs.Prelude.{◌<◌, ◌∙◌, ◌≡◌, ◌≢◌}
+use Rattle.tj_words.proofs.Prelude.{length, live_at, nat_eq, ne_eqb, next_at, once_at, others_at, owner_in, phase_in}
+use Rattle.tj_words.proofs.Prelude.{put, refl, set, stop_at, sym, word, words_say, ℕ, ℕ_discrete, ◌<◌, ◌∙◌, ◌≡◌, ◌≢◌}
 use Rattle.tj_words.proofs.Stores.SeatLists.{word_else, word_here}
 use Rattle.tj_words.proofs.Stores.TableWords.{TableWord, Count, Live, Others, Stop, Own, Phase, Written, Head, Next}
 use Rattle.tj_words.proofs.Stores.TableWords.{index, is_word, is_word_here, is_word_else, same_cell, same_word}
@@ -74,15 +73,6 @@ module _ (ws : List ℕ) (n : ℕ) where
 
   pub say_stop : stop_at < length ws → words_say (set ws stop_at n) ≡ record (words_say ws) { stop = n }
   say_stop l = say Stop l
-
-  -- of OWN, of PHASE, of a word that is written once, of HEAD and of NEXT of c
-  pub say_own : (c : ℕ) → own_at c < length ws
-      → words_say (set ws (own_at c) n) ≡ record (words_say ws) { own = put (words_say ws).own c (owner_in n) }
-  say_own c l = say (Own c) l
-
-  pub say_phase : (c : ℕ) → phase_at c < length ws
-      → words_say (set ws (phase_at c) n) ≡ record (words_say ws) { phase = put (words_say ws).phase c (phase_in n) }
-  say_phase c l = say (Phase c) l
 
   pub say_once : (c : ℕ) (f : Once) → once_at c f < length ws
       → words_say (set ws (once_at c f) n) ≡ record (words_say ws) { once = put_word (words_say ws).once c f n }

@@ -1,19 +1,15 @@
 -- What a seat holds that has something to come, after each step.
 use Rattle.tj_words.proofs.Prelude.{Any, Backing, Custody, Does, DoesRun, DoesWalk, Due, HasAlarmed, HasWakeToCome}
-use Rattle.tj_words.proofs.Prelude.{Holds, Some, View, arith, dite, held_in, inl, inr, subst, suc, sym, ℕ, ℕ_discrete}
-use Rattle.tj_words.proofs.Prelude.{⊎_elim, ◌<◌, ◌∙◌, ◌≡◌, ◌≢◌, ◌⊎◌}
+use Rattle.tj_words.proofs.Prelude.{Holds, Some, View, dite, held_in, inl, inr, subst, sym, ℕ, ℕ_discrete, ⊎_elim, ◌<◌}
+use Rattle.tj_words.proofs.Prelude.{◌∙◌, ◌≡◌, ◌≢◌, ◌⊎◌}
 use Rattle.tj_words.proofs.Waiters.ChainLists.{same_some}
-use Rattle.tj_words.proofs.Waiters.LiveSteps.{backing_token, backing_running, backing_walking, alarms_else}
+use Rattle.tj_words.proofs.Waiters.LiveSteps.{backing_running, backing_walking, alarms_else}
 use Rattle.tj_words.specs.declared.offsets.Once.TheVariants as once
 
 module _ {B : Type 0} where
   -- a TAG is to come
   abbrev pub HasTagToCome : View B → Type 0
   HasTagToCome v = Any (λ (d : Due). d.word ≡ once.Tag) v.dues
-
-  -- a step on LIVE that takes a token, and a store of PHASE that takes one
-  pub backing_more : (v w : View B) → w.tokens ≡ suc v.tokens → Backing w
-  backing_more v w e = backing_token w (omega arith)
 
   -- a seat has as many tokens as before, and what it has for one task is changed
   module _ (v w : View B) (t : ℕ) (tokens : w.tokens ≡ v.tokens)
@@ -60,8 +56,3 @@ module _ {B : Type 0} where
           (λ (k : Holds DoesWalk v). inr (holds_else DoesWalk walks k)) r)) (b.tags (tags h));
       alarms = alarms_else v w t tokens else alarms b;
     }
-
-  -- a token less, by a seat that holds a running task and none that has alarmed, or has another token
-  pub backing_fewer : (w : View B) → (0 < w.tokens) ⊎ (Holds DoesRun w × (¬ Holds HasAlarmed w)) → Backing w
-  backing_fewer w h = ⊎_elim (λ (l : 0 < w.tokens). backing_token w l)
-      (λ (r : Holds DoesRun w × (¬ Holds HasAlarmed w)). backing_running w r.0 (λ a. absurd (r.1 a))) h

@@ -1,9 +1,8 @@
 -- Chains and cells: nobody waits for a cell that isn't there, and a chain has no more tasks than there are cells.
-use Rattle.tj_words.proofs.Prelude.{Chains, Custody, Due, Empty, Found, Hand, Head, IsIn, IsParkedOn, IsThere, List}
-use Rattle.tj_words.proofs.Prelude.{NamesCells, Once, OnceWords, Option, Phase, Push, Rec, Rest, SeenWord, Shut, Unborn}
-use Rattle.tj_words.proofs.Prelude.{[], arith, cell, dec_le, dite, head_of, head_word, inl, length, refl, subst, sym, ℕ}
-use Rattle.tj_words.proofs.Prelude.{ℕ_discrete, ◌<◌, ◌∷◌, ◌≡◌, ◌≢◌, ◌≤◌}
-use Rattle.tj_words.proofs.Waiters.ChainFacts.{unborn_free, no_line, no_head, line_fits}
+use Rattle.tj_words.proofs.Prelude.{Chains, Custody, Found, Hand, Head, IsIn, IsParkedOn, IsThere, List, NamesCells}
+use Rattle.tj_words.proofs.Prelude.{Option, Phase, Push, Rec, Rest, Shut, Unborn, [], arith, cell, dec_le, dite}
+use Rattle.tj_words.proofs.Prelude.{head_of, head_word, inl, length, refl, subst, sym, ℕ, ◌<◌, ◌∷◌, ◌≡◌, ◌≢◌, ◌≤◌}
+use Rattle.tj_words.proofs.Waiters.ChainFacts.{unborn_free, line_fits}
 use Rattle.tj_words.specs.declared.offsets.Once.TheVariants as once
 use Rattle.tj_words.specs.declared.phase.Walk.TheVariants as walk
 
@@ -38,17 +37,3 @@ module _ {tag : ℕ → ℕ} {head next : ℕ → Head} {phase : ℕ → Phase} 
       (names : NamesCells drawn hand own phase home tasks known) (p : ℕ) (away : ¬ IsThere drawn hand p) where
     nobody_waits : (t : ℕ) → ¬ IsParkedOn (phase t) p
     nobody_waits t w = away (names.waits t (cell p) w.0 walk.Parked w.1)
-
-    -- nobody is in the line of a cell that isn't there, and its head is empty
-    pub away_line : c.line p ≡ []
-    away_line = no_line c p nobody_waits
-
-    pub away_head : tag p ≡ 0 → head p ≡ Empty
-    away_head = no_head c p nobody_waits
-
--- TAG of a cell that isn't there is 0
-pub away_tag : {drawn : ℕ} {hand : ℕ → Option Hand} {hands : List (Option Hand)} {own : ℕ → Option ℕ}
-    {word : ℕ → Once → ℕ} {seen : List (List SeenWord)} {dues : List (List Due)}
-    → OnceWords drawn hand hands own word seen dues → (p : ℕ) → ¬ IsThere drawn hand p → word p once.Tag ≡ 0
-away_tag {word = word} o p away = dite (ℕ_discrete (word p once.Tag) 0) (λ e. e)
-    (λ n. absurd (away (o.valued p once.Tag (λ h. h) n).0))

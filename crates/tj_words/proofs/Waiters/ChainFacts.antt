@@ -1,11 +1,11 @@
 -- What holds where chains are as the law says: which phases are parked, that a chain has no task twice, and that a cell
 -- on which nobody is parked has none.
 use Rattle.tj_words.proofs.Prelude.{AreApart, AreLinked, Chains, Does, Empty, Found, Head, IsFirstIn, IsIn, IsParkedOn}
-use Rattle.tj_words.proofs.Prelude.{IsPush, List, None, Option, Phase, Push, Rest, Shut, Some, Task, [], ap, arith}
-use Rattle.tj_words.proofs.Prelude.{cell, get_elem?, head_of, inl, length, length-append, phase_of, refl, some, subst}
-use Rattle.tj_words.proofs.Prelude.{sym, ℕ, ⊎_elim, ◌++◌, ◌<◌, ◌∙◌, ◌∷◌, ◌≡◌, ◌≢◌, ◌≤◌}
+use Rattle.tj_words.proofs.Prelude.{IsPush, List, Option, Phase, Push, Rest, Shut, Some, Task, [], ap, arith, cell}
+use Rattle.tj_words.proofs.Prelude.{get_elem?, head_of, inl, length, length-append, phase_of, refl, some, subst, sym, ℕ}
+use Rattle.tj_words.proofs.Prelude.{⊎_elim, ◌++◌, ◌<◌, ◌∙◌, ◌∷◌, ◌≡◌, ◌≢◌, ◌≤◌}
 use Rattle.tj_words.proofs.Waiters.ChainHeads.{one_cell}
-use Rattle.tj_words.proofs.Waiters.ChainLists.{no_some, same_some, none_or, few_apart}
+use Rattle.tj_words.proofs.Waiters.ChainLists.{no_some, same_some, few_apart}
 use Rattle.tj_words.specs.declared.phase.Phase.TheVariants as phase
 use Rattle.tj_words.specs.declared.view.Does.TheVariants as does
 
@@ -21,12 +21,6 @@ ready_free c h = let e = h.1 in cc
 
 pub running_free : IsNotParked phase.Running
 running_free c h = let e = h.1 in cc
-
-pub ended_free : IsNotParked phase.Ended
-ended_free c h = let e = h.1 in cc
-
-pub promise_free : IsNotParked phase.Promise
-promise_free c h = let e = h.1 in cc
 
 -- a task that a seat holds is parked on no cell
 pub held_free : (d : Does) → IsNotParked (phase_of d)
@@ -92,11 +86,6 @@ pub first_else : (phase phase' : ℕ → Phase) (l : List ℕ) (w : Phase)
 first_else phase phase' [] w s h = tt
 first_else phase phase' (t ∷ ts) w s h = s t (inl refl) ∙ h
 
--- what has no element is empty
-pub nothing_in : (l : List ℕ) → ((x : ℕ) → ¬ IsIn x l) → l ≡ []
-nothing_in [] n = refl
-nothing_in (x ∷ xs) n = absurd (n x (inl refl))
-
 pub not_empty : {A : Type 0} (l : List A) (x : A) → IsIn x l → l ≢ []
 not_empty l x i e = subst (IsIn x) e i
 
@@ -110,19 +99,8 @@ grown_longer chain (t ∷ more) old e new = let a : length chain ≡ length ((t 
 module _ {tag : ℕ → ℕ} {head next : ℕ → Head} {phase : ℕ → Phase} {pushes : List (List Push)} {shuts : List (List ℕ)}
     {rests : List (Option Rest)} {closed : List (List ℕ)} {found : List (List Found)}
     (c : Chains tag head next phase pushes shuts rests closed found) where
-  -- the push that is to come for a task that has a pusher
-  pub push_of : (t j : ℕ) → c.pusher t ≡ Some j
-      → (e : Push) × IsPush next phase c.pusher j e × (e.task ≡ t)
-  push_of t j q = let h = c.pushing t j q in (h.2.0, c.to_push j h.0 h.1 h.2.0 h.2.1, h.2.2)
-
   pub push_parked : (t j : ℕ) (e : Push) → IsPush next phase c.pusher j e → e.task ≡ t → IsParkedOn (phase t) e.cell
   push_parked t j e f q = (e.way, ap phase (sym q) ∙ f.parked)
-
-  -- a task that isn't parked has no push to come
-  pub no_push : (t : ℕ) → IsNotParked (phase t) → c.pusher t ≡ None
-  no_push t n = ⊎_elim (λ (e : c.pusher t ≡ None). e)
-      (λ (s : (j : ℕ) × (c.pusher t ≡ Some j)). let h = push_of t s.0 s.1 in
-      absurd (n h.0.cell (push_parked t s.0 h.0 h.1 h.2))) (none_or (c.pusher t))
 
   -- a task that has one is in no line, and is no other seat's
   pub not_in_line : (p t j u : ℕ) → c.pusher t ≡ Some j → IsIn u (c.line p) → u ≢ t
@@ -134,13 +112,6 @@ module _ {tag : ℕ → ℕ} {head next : ℕ → Head} {phase : ℕ → Phase} 
   -- no task stands in two lines
   pub one_line : (p q t : ℕ) → IsIn t (c.line p) → IsIn t (c.line q) → p ≡ q
   one_line p q t i j = one_cell (phase t) p q ((c.parked p t i).0) ((c.parked q t j).0)
-
-  -- nobody is in the line of a cell on which nobody is parked; so its head is empty, where nothing has become of it
-  pub no_line : (p : ℕ) → ((t : ℕ) → ¬ IsParkedOn (phase t) p) → c.line p ≡ []
-  no_line p n = nothing_in (c.line p) (λ t i. n t ((c.parked p t i).0))
-
-  pub no_head : (p : ℕ) → ((t : ℕ) → ¬ IsParkedOn (phase t) p) → tag p ≡ 0 → head p ≡ Empty
-  no_head p n e = c.heads p (λ s. c.tagged p s e) ∙ ap head_of (no_line p n)
 
   -- a line has no more tasks than there are cells
   pub line_fits : (cells p : ℕ) → ((t : ℕ) → IsParkedOn (phase t) p → t < cells) → length (c.line p) ≤ cells

@@ -6,7 +6,6 @@ use Rattle.tj_words.proofs.Prelude.{eqb, exchanged, get_elem?, head_at, head_in,
 use Rattle.tj_words.proofs.Prelude.{next_at, none, put, refl, rest_of, seats_have, set, shut_swap, shut_word, some}
 use Rattle.tj_words.proofs.Prelude.{sort_tag, step, subst, suc, sym, tag_in, tag_of, with_next, without, without_push}
 use Rattle.tj_words.proofs.Prelude.{word, words_say, ℕ, ℕ_discrete, ⊎_elim, ◌-◌, ◌<◌, ◌∙◌, ◌∷◌, ◌≡◌, ◌≢◌, ◌≤◌}
-use Rattle.tj_words.specs.Words.Heads.{HasWord}
 use Rattle.tj_words.specs.Calls.ChainSteps.{stored_next, pushed, took_chain, found_taken, HasPush, HasPushBehind}
 use Rattle.tj_words.specs.Calls.ChainSteps.{KnowsEntry, next_store, push_exchange}
 use Rattle.tj_words.proofs.Stores.SeatContents.{set_seats, seats_same}
@@ -33,12 +32,6 @@ tag_some (entry.Value (value.Ref r)) z = by r.sort z where
   by : (k : Sort) → sort_tag k ≢ 0
   by sort.Task z = omega arith
   by sort.Promise z = omega arith
-
--- a head whose word is that small has it for itself
-pub has_word : (h : Head) (n : ℕ) → n < shut_word → head_word h ≤ n → HasWord h
-has_word Empty n l k = tt
-has_word (Task t) n l k = omega arith
-has_word Shut n l k = tt
 
 -- and isn't shut
 pub is_open : (h : Head) (n : ℕ) → n < shut_word → head_word h ≤ n → h ≢ Shut

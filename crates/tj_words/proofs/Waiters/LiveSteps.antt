@@ -8,7 +8,6 @@ use Rattle.tj_words.proofs.Prelude.{inl, inr, live_part, live_tasks, map, phase_
 use Rattle.tj_words.proofs.Prelude.{some-injective, some-ne-none, subst, suc, sym, total, true, zero, ℕ, ℕ_discrete}
 use Rattle.tj_words.proofs.Prelude.{⊎_elim, ◌+◌, ◌-◌, ◌<◌, ◌∙◌, ◌∷◌, ◌≡◌, ◌≢◌, ◌≤◌, ◌⊎◌}
 use Rattle.tj_words.proofs.Stores.StoreSteps.{put_here, put_else}
-use Rattle.tj_words.proofs.Stores.SeatLists.{each_set}
 use Rattle.tj_words.proofs.Seating.Splitting.{total_set}
 use Rattle.tj_words.proofs.Waiters.ChainLists.{no_some, none_or}
 use Rattle.tj_words.proofs.Waiters.ChainFacts.{not_empty}
@@ -56,14 +55,6 @@ module _ {cells live : ℕ} {phase : ℕ → Phase} {tokens : List ℕ} {rested 
       let h = ap live_part (put_here phase t t w refl) in
       record { counted = (omega arith); stays_at_rest = c.stays_at_rest }
 
-  -- one that counts no more and no less
-  pub count_same : (t : ℕ) (w : Phase) → t < cells → live_part w ≡ live_part (phase t)
-      → LiveCount cells live (put phase t w) tokens rested
-  count_same t w small even = let a = c.counted in
-      let p = live_set phase (put phase t w) t cells (λ u n. put_else phase t u w n) small in
-      let h = ap live_part (put_here phase t t w refl) in
-      record { counted = (omega arith); stays_at_rest = c.stays_at_rest }
-
   -- LIVE up: a token more, while something is live
   pub count_up : (id k : ℕ) → get_elem? tokens id ≡ some k → 0 < live
       → LiveCount cells (suc live) phase (set tokens id (suc k)) rested
@@ -83,13 +74,6 @@ module _ {cells live : ℕ} {phase : ℕ → Phase} {tokens : List ℕ} {rested 
           stays_at_rest = λ j b e q. let z = c.stays_at_rest j b e q in absurd (omega arith);
         },
       )
-
-  -- LIVE is loaded as 0
-  pub count_rest : (id : ℕ) → live ≡ 0 → LiveCount cells live phase tokens (set rested id true)
-  count_rest id z = record {
-    counted = c.counted;
-    stays_at_rest = each_set (λ j b. b ≡ true → live ≡ 0) rested id true c.stays_at_rest (λ _. z);
-  }
 
 -- what a running or walking task counts
 running_part : (d : Does) → DoesRun d → live_part (phase_of d) ≡ 1
@@ -171,34 +155,6 @@ module _ {B : Type 0} where
 
     token_same : 0 < v.tokens → 0 < w.tokens
     token_same h = subst (λ n. 0 < n) (sym same_tokens) h
-
-    pub backed_same : IsBacked v → IsBacked w
-    backed_same b = ⊎_elim (λ (t : 0 < v.tokens). inl (token_same t))
-        (λ (r : Holds DoesRun v). inr (holds_same DoesRun r)) b
-
-    pub lively_same : IsLively v → IsLively w
-    lively_same b = ⊎_elim (λ (t : 0 < v.tokens). inl (token_same t))
-        (λ (r : Holds DoesRun v ⊎ Holds DoesWalk v). inr (⊎_elim (λ (k : Holds DoesRun v). inl (holds_same DoesRun k))
-        (λ (k : Holds DoesWalk v). inr (holds_same DoesWalk k)) r)) b
-
-    -- and has no more to come
-    pub backing_less : (HasWakeToCome w → HasWakeToCome v)
-        → (Any (λ (d : Due). d.word ≡ once.Tag) w.dues → Any (λ (d : Due). d.word ≡ once.Tag) v.dues)
-        → Backing v
-        → Backing w
-    backing_less wakes tags b = record {
-      wakes = λ h. backed_same (b.wakes (wakes h));
-      tags = λ h. lively_same (b.tags (tags h));
-      alarms = λ h. token_same (b.alarms (holds_back HasAlarmed h));
-    }
-
-    -- or has whatever to come, where it was backed
-    pub backing_backed : IsBacked v → Backing v → Backing w
-    backing_backed h b = record {
-      wakes = λ _. backed_same h;
-      tags = λ _. lively_same (backed_lively v h);
-      alarms = λ a. token_same (b.alarms (holds_back HasAlarmed a));
-    }
 
   -- what is so of alarmed tasks, where one task's entry changes to one that hasn't alarmed
   pub alarms_else : (v w : View B) (t : ℕ) → w.tokens ≡ v.tokens
