@@ -1,13 +1,9 @@
 -- A task whose result is closed and that no seat holds has ended: where its record lies at home and tells a point at
 -- which the task goes on, the record owns the result, and then OWN of the task names it.
-use Rattle.tj_park.proofs.Prelude.{Answer, Bool, CellId, HasName, IsCell, IsIn, Name, None, Option, Phase, Point}
-use Rattle.tj_park.proofs.Prelude.{Program, Rec, Reference, Some, TellsStage, none_some, numbers}
-use Rattle.tj_park.proofs.Prelude.{refl, subst, sym, to_task, ℕ, ◌∙◌, ◌≡◌, ◌≢◌, inl, inr, ◌∷◌, List, Custody}
-use Rattle.tj_base.specs.declared.cell.Sort.TheVariants as sort
-use Rattle.tj_body.specs.History.{owned}
+use Rattle.tj_park.proofs.Prelude.{Answer, Bool, CellId, Custody, HasName, IsCell, IsIn, List, Name, None, Option, Phase}
+use Rattle.tj_park.proofs.Prelude.{Point, Program, Rec, Reference, Some, TellsStage, inl, inr, none_some, numbers, refl}
+use Rattle.tj_park.proofs.Prelude.{subst, sym, to_task, ℕ, ◌∙◌, ◌∷◌, ◌≡◌, ◌≢◌}
 use Rattle.tj_body.specs.declared.ask.Answer.TheVariants as answer
-use Rattle.tj_body.specs.declared.point.PointStage.{PointStage}
-use Rattle.tj_body.specs.declared.point.PointStage.TheVariants as stage
 use Rattle.tj_body.proofs.Lists.{to_map}
 use Rattle.tj_words.specs.declared.phase.Phase.TheVariants as phase
 use Rattle.tj_words.specs.declared.phase.Walk.TheVariants as walk
@@ -19,10 +15,10 @@ use Rattle.tj_words.specs.LawParts.Hands.{IsThere}
 use Rattle.tj_words.specs.LawParts.Holding.{owned_by}
 use Rattle.tj_words.specs.LawParts.Meaning.{IsToldRecord, IsFilled}
 use Rattle.tj_words.specs.LawParts.RecordPhases.{IsRecordIn}
+use Rattle.tj_words.specs.LawParts.Telling.{ArePairs}
 use Rattle.tj_words.proofs.Cells.CellNames.{born_apart}
 use Rattle.tj_words.proofs.Holders.TaskPlaces.{unheld}
 use Rattle.tj_park.specs.Endings.{IsOpen}
-use Rattle.tj_words.specs.LawParts.Telling.{ArePairs}
 use Rattle.tj_park.proofs.EndPoints.{beside_back, open_owned}
 
 -- what a record tells that has no ending isn't the end of its task

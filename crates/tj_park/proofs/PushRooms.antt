@@ -1,13 +1,12 @@
 -- A task that a seat has yet to add to a chain stands in no chain. So where the chain that stands isn't the one that was
 -- found last, the latter lacks two tasks of the table.
 use Rattle.tj_park.proofs.Prelude.{Bool, Head, IsIn, List, Option, Program, Rec, Some, View, ap, arith, get_elem?}
-use Rattle.tj_park.proofs.Prelude.{head_of, head_word, inl, length, refl, some, subst, suc, sym, ℕ, ⊎_elim, ◌++◌, ◌<◌}
+use Rattle.tj_park.proofs.Prelude.{head_of, head_word, length, refl, some, subst, suc, sym, ℕ, ⊎_elim, ◌++◌, ◌<◌}
 use Rattle.tj_park.proofs.Prelude.{◌∙◌, ◌∷◌, ◌≡◌, ◌≢◌, ◌≤◌, ◌⊎◌}
 use Rattle.atomic_table.specs.Table.{State}
 use Rattle.atomic_table.proofs.Lists.{at_map}
 use Rattle.tj_words.specs.declared.table.Key.{Key}
 use Rattle.tj_words.specs.declared.view.About.{About}
-use Rattle.tj_words.specs.declared.view.Found.{Found}
 use Rattle.tj_words.specs.declared.view.Push.{Push}
 use Rattle.tj_words.specs.Law.{Rule}
 use Rattle.tj_words.specs.LawParts.Contents.{Contents, contents_of, drawn_in}
