@@ -221,8 +221,9 @@ module _ {B : Type 0} {program : Program B} {cells : ℕ} {x : Contents B} (r : 
         ∙ closed_made r id t c k h its may out result owns last ds at
 
     move : TaskMove r1 id u x.words.phase h1.0 given_list x.slots
-    move = hold_move r1 id u child child' h1 child_its x.words.phase (λ v q. refl) (custody r id u child child_here).does
-        u_there.0 (λ p way w e. (r.names.waits u p way w e, r1.waiters_own u p way w e))
+    move = hold_move r1 id u child child' h1 child_its x.words.phase (λ v q. refl)
+        (custody r id u child child_here).does u_there.0
+        (λ p way w e. (r.names.waits u p way w e, r1.waiters_own u p way w e))
         (subst (λ d. AreThere n (hand_of x) (does_cells d)) (sym unborn) (λ d i. absurd i)) refl (λ e. e)
         (λ a. absurd (subst HasAlarmed unborn a)) (λ y e. none_some child.home y child_out e)
         (λ e. (custody r id u child child_here).out child_out)

@@ -126,8 +126,9 @@ module _ {B : Type 0} {program : Program B} {cells : ℕ} {x : Contents B} (r : 
         → Law program cells after_home
     law_home free cells_there there cell owned made count fit meant =
         law_task r id t x.words.phase h.0 (hold k' h.0) slots (come free cells_there there cell owned made) live
-        x.words.others x.seats.known tokens x.seats.cleared x.seats.born_seen x.seats.filled x.seats.pushes x.seats.rests
-        (ap (λ (o : Option (Custody B)). owned_by o (home_in slots t)) here
+        x.words.others x.seats.known tokens x.seats.cleared x.seats.born_seen x.seats.filled x.seats.pushes
+        x.seats.rests (ap (λ (o : Option (Custody B)). owned_by o (home_in slots t)) here
         ∙ sym (ap (λ (o : Option (Custody B)). owned_by o (home_of x t)) (held_here r id t k h)))
         r.names.knows r.chains count fit meant
-        (facts_same cells r.born r.maker x after_home (record_shown r after_home id t does.Unborn (moves there)) r.facts)
+        (facts_same cells r.born r.maker x after_home (record_shown r after_home id t does.Unborn (moves there))
+        r.facts)

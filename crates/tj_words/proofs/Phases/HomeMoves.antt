@@ -96,8 +96,9 @@ module _ {B : Type 0} {program : Program B} {cells : ℕ} {x : Contents B} (r : 
       -- the task moves
       pub moves : (held : Option (Custody B)) (home : Option (Rec B)) → held_in new t ≡ held → home_in slots t ≡ home
           → IsMoved cells x moved t q held home
-      moves held home = task_moves r id t phases ks new slots move x.words.live x.words.others (set x.seats.known id known) tokens
-          cleared born_seen filled pushes rests q held home (put_here x.words.phase t q)
+      moves held home = task_moves r id t phases ks new slots move x.words.live x.words.others
+          (set x.seats.known id known) tokens cleared born_seen filled pushes rests q held home
+          (put_here x.words.phase t q)
 
       -- the law after it, of which the caller shows what the kind of step decides
       pub law_moved : AreThere n (hand_of x) known
@@ -109,7 +110,7 @@ module _ {B : Type 0} {program : Program B} {cells : ℕ} {x : Contents B} (r : 
           born_seen x.seats.wrote filled
           → CoreFacts (core_shown cells r.born r.maker moved)
           → Law program cells moved
-      law_moved knows = law_task r id t phases ks new slots move x.words.live x.words.others (set x.seats.known id known) tokens
-          cleared born_seen filled pushes rests
+      law_moved knows = law_task r id t phases ks new slots move x.words.live x.words.others
+          (set x.seats.known id known) tokens cleared born_seen filled pushes rests
           (m.owned ∙ (λ j. owned_by (sym (unheld r t m.free) j) (sym m.lay j)))
           (each_set (λ j l. AreThere n (hand_of x) l) x.seats.known id known r.names.knows knows)
