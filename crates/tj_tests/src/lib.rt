@@ -37,6 +37,8 @@ mod task_ends;
 #[cfg(test)]
 mod token_lists;
 #[cfg(test)]
+mod trace_lines;
+#[cfg(test)]
 mod traces;
 #[cfg(test)]
 mod transcripts;

@@ -23,10 +23,10 @@ struct Row {
     makers: &'static [Maker],
 }
 
-/// A promise, and the task that owned it where it stopped.
-struct Owned {
-    promise: &'static [u32],
-    owner: &'static [u32],
+/// A promise or a result, and the task that owned it where it stopped.
+pub(crate) struct Owned {
+    pub(crate) promise: &'static [u32],
+    pub(crate) owner: &'static [u32],
 }
 
 /// A script with its trace.
@@ -248,7 +248,7 @@ const TRACES: &[Traced] = &[
 ];
 
 /// Where the parts of the script stand.
-fn places_of(rt: &impl Abort, alloc: Global, text: &str) -> Result<ScriptPlaces, Fail> {
+pub(crate) fn places_of(rt: &impl Abort, alloc: Global, text: &str) -> Result<ScriptPlaces, Fail> {
     if text.len() > MAX_TEXT {
         panic!(rt; "too long");
     }
@@ -259,7 +259,7 @@ fn places_of(rt: &impl Abort, alloc: Global, text: &str) -> Result<ScriptPlaces,
 }
 
 /// The name with these numbers.
-fn name_of(alloc: Global, numbers: &[u32]) -> Result<Name, Oom> {
+pub(crate) fn name_of(alloc: Global, numbers: &[u32]) -> Result<Name, Oom> {
     let mut name = Name::root();
     for number in numbers {
         name = name.child(alloc, *number)?;
@@ -304,7 +304,7 @@ fn things_are_found(
 }
 
 /// Asserts that a promise has its owner.
-fn has_owner(
+pub(crate) fn has_owner(
     rt: &impl Abort,
     alloc: Global,
     lines: &[TraceLine],
