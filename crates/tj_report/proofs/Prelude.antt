@@ -30,7 +30,7 @@ pub use Rattle.tj_mean.specs.declared.outcome.Link.{Link}
 pub use Rattle.tj_mean.specs.declared.stopped.Stopped.{Stopped}
 pub use Rattle.tj_report.specs.Inner.CellNames.{name_in, next_name}
 pub use Rattle.tj_report.specs.Inner.CellNamesBy.{name_by}
-pub use Rattle.tj_report.specs.Inner.EndedReports.{AreToldBelow, IsBefore, ended_lines}
+pub use Rattle.tj_report.specs.Inner.WalkedReports.{AreToldBelow, IsBefore}
 pub use Rattle.tj_report.specs.Inner.ToldRecords.{IsEndBelow, IsFinishBelow, IsRecordBelow, ending_by, finished_by}
 pub use Rattle.tj_report.specs.Inner.ToldRecords.{told_by}
 pub use Rattle.tj_report.specs.ReportTexts.{line_feed, link_text}

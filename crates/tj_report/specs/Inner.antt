@@ -2,4 +2,6 @@
 pub mod CellNames
 pub mod ToldRecords
 pub mod CellNamesBy
-pub mod EndedReports
+pub mod WalkedReports
+pub mod AwaitedCells
+pub mod RestAlarms

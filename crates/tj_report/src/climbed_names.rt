@@ -1,13 +1,15 @@
-//! The printed name of a cell, by its makers up to the root: no names of others are made for it.
-ghost use Rattle.std.specs.Prelude.{◌≡◌, ◌++◌, ◌<◌, List, length, IfOk};
+//! The name of a cell, by its makers up to the root: no names of others are made for it.
+ghost use Rattle.std.specs.Prelude.{◌≡◌, ◌++◌, ◌<◌, List, length, map, IfOk};
+ghost use Rattle.std.specs.List.{AllByRecursion};
 ghost use Rattle.tj_base.specs.Texts.{name_text};
 ghost use Rattle.tj_body.specs.declared.point.Reference.{Reference};
-ghost use Rattle.tj_report.specs.Inner.CellNamesBy.{name_by};
+ghost use Rattle.tj_report.specs.Inner.CellNames.{IsBelow, name_in};
+ghost use Rattle.tj_report.specs.Inner.CellNamesBy.{name_by, names_by};
 ghost use Rattle.tj_words.specs.AtRest.ClosedCells.{AreNamed};
 
 use crate::shown_names::add_parts;
 use std::alloc::Global;
-use tj_base::{CellId, Oom};
+use tj_base::{CellId, Name, Oom};
 use tj_body::Body;
 use tj_words::RestWords;
 
@@ -45,4 +47,33 @@ fn parts_of<B: Body>(alloc: Global, rest: &RestWords<B>, c: CellId) -> Result<Ve
     }
     parts.reverse();
     Ok(parts)
+}
+
+/// The names of cells.
+pub fn climbed_names<B: Body>(
+    alloc: Global,
+    rest: &RestWords<B>,
+    cells: &[CellId],
+) -> Result<Vec<Name>, Oom>
+    requires below { AllByRecursion (IsBelow (length rest.now.cells)) cells.now }
+    requires named { (born : List Reference) × AreNamed rest.now.cells born }
+    ensures { IfOk result (λ list. list.items ≡ map (name_in (names_by rest.now.cells)) cells.now) }
+{
+    let mut list = Vec::new(alloc);
+    for c in cells {
+        let parts = parts_of(alloc, rest, *c)?;
+        list.push(name_with(alloc, parts.as_slice())?)?;
+    }
+    Ok(list)
+}
+
+/// The name with these numbers.
+fn name_with(alloc: Global, parts: &[u32]) -> Result<Name, Oom>
+    ensures { IfOk result (λ name. name ≡ parts.now) }
+{
+    let mut name = Name::root();
+    for k in parts {
+        name = name.child(alloc, *k)?;
+    }
+    Ok(name)
 }

@@ -6,7 +6,7 @@ ghost use Rattle.std.specs.Prelude.{◌≡◌, ◌++◌, ◌<◌, ◌∷◌, [],
 ghost use Rattle.tj_base.specs.Texts.{name_text};
 ghost use Rattle.tj_body.specs.declared.point.Reference.{Reference};
 ghost use Rattle.tj_report.specs.Inner.CellNamesBy.{name_by};
-ghost use Rattle.tj_report.specs.Inner.EndedReports.{IsPrintedAfter};
+ghost use Rattle.tj_report.specs.Inner.WalkedReports.{IsPrintedAfter};
 ghost use Rattle.tj_words.specs.AtRest.ClosedCells.{AreNamed};
 
 use crate::shown_names::add_parts;

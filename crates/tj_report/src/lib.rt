@@ -1,11 +1,13 @@
 //! The outcome of a run from its closed words, and the texts of reports and summaries.
 #![tactic(auto)]
 
+mod alarm_lines;
+mod awaited_cells;
 mod cell_names;
 mod climbed_names;
 mod closed_outcome;
-mod ended_lines;
 mod fork_walk;
+mod record_lines;
 mod report;
 mod rest_report;
 mod shown_names;

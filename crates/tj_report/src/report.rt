@@ -135,7 +135,7 @@ fn add_named(alloc: Global, before: &[u8], cell: &Name, text: &mut Vec<u8>) -> R
 }
 
 /// Adds a line for what the task with this printed name owes, if it owes something.
-fn add_owed(alloc: Global, name: &[u8], owes: &[Name], text: &mut Vec<u8>) -> Result<(), Oom>
+pub fn add_owed(alloc: Global, name: &[u8], owes: &[Name], text: &mut Vec<u8>) -> Result<(), Oom>
     ensures { IfOk result (λ _. text.new.items ≡ text.old.items ++ owes_line name.now owes.now) }
 {
     if owes.is_empty() {

@@ -1,18 +1,18 @@
-//! The report of a run, from the words and records of its table at rest. Where each task has ended
-//! and owes nothing, it is written in one walk over the fork tree: no name is made for it, and
-//! nothing is sorted.
+//! The report of a run, from the words and records of its table at rest. It is written in one walk
+//! over the fork tree: no name is made for a task, and no task is sorted.
 ghost use Rattle.std.specs.Prelude.{◌≡◌, ◌<◌, true, false, IfOk, IfSome, IsTrue, Some, None, get_or, length};
 ghost use Rattle.tj_base.specs.Texts.{name_text};
 ghost use Rattle.tj_body.specs.Programs.{program_of};
 ghost use Rattle.tj_report.specs.Inner.CellNamesBy.{name_by};
-ghost use Rattle.tj_report.specs.Inner.EndedReports.{AreToldBelow, IsWalkedBefore, IsWalkedTo};
+ghost use Rattle.tj_report.specs.Inner.WalkedReports.{AreToldBelow, IsWalkedBefore, IsWalkedTo};
 ghost use Rattle.tj_report.specs.RestReports.{IsReportOf};
 ghost use Rattle.tj_words.specs.AtRest.RestMeaning.{HaveMeaning};
 ghost use Rattle.tj_words.specs.declared.record.Rec.{Rec};
 
+use crate::alarm_lines::add_alarms;
 use crate::closed_outcome::outcome_of;
-use crate::ended_lines::{add_lines, clean_end, marked_by};
 use crate::fork_walk::{kin_of, next_task};
+use crate::record_lines::{add_lines, marked_by};
 use crate::report::{add_last, report_text};
 use std::alloc::Global;
 use tj_base::{CellId, Oom};
@@ -36,7 +36,7 @@ pub fn report_at_rest<B: Body>(alloc: Global, rest: &RestWords<B>) -> Result<Res
         rest.now.root in IfOk result (λ given.
         IsReportOf p rest.now.limit rest.now.cells given.text.items given.marked) }
 {
-    if let Some(report) = ended_report(alloc, rest)? {
+    if let Some(report) = walked_report(alloc, rest)? {
         return Ok(report);
     }
     told_report(alloc, rest)
@@ -58,8 +58,8 @@ fn told_report<B: Body>(alloc: Global, rest: &RestWords<B>) -> Result<RestReport
     })
 }
 
-/// The report, where each task has ended and owes nothing.
-fn ended_report<B: Body>(alloc: Global, rest: &RestWords<B>) -> Result<Option<RestReport>, Oom>
+/// The report, if the walk meets each task.
+fn walked_report<B: Body>(alloc: Global, rest: &RestWords<B>) -> Result<Option<RestReport>, Oom>
     requires { HaveMeaning (program_of B.places B.awaits B.left B.asks B.then rest.now.strict
         rest.now.root) rest.now.limit rest.now.cells rest.now.records }
     ensures { let p = program_of B.places B.awaits B.left B.asks B.then rest.now.strict
@@ -68,6 +68,7 @@ fn ended_report<B: Body>(alloc: Global, rest: &RestWords<B>) -> Result<Option<Re
 {
     let kin = kin_of(alloc, rest)?;
     let mut told = Vec::from_elem(alloc, false, rest.drawn() as usize)?;
+    let mut order = Vec::with_capacity(alloc, rest.drawn() as usize)?;
     let mut text = Vec::new(alloc);
     let mut name = Vec::from_slice(alloc, b"0")?;
     let mut marked = false;
@@ -80,6 +81,7 @@ fn ended_report<B: Body>(alloc: Global, rest: &RestWords<B>) -> Result<Option<Re
             name.as_slice(),
             marked,
             &mut told,
+            &mut order,
             &mut text,
         )?;
         let Some(further) = found else {
@@ -88,13 +90,13 @@ fn ended_report<B: Body>(alloc: Global, rest: &RestWords<B>) -> Result<Option<Re
         marked = further;
         match next_task(rest, kin.as_slice(), at, &mut name)? {
             Some(next) => at = next,
-            None => return whole(rest, at, told, text, marked),
+            None => return whole(alloc, rest, at, told, order, text, marked),
         }
     }
     Ok(None)
 }
 
-/// Tells the task of a cell, if it has ended and owes nothing, and whether one is troubled now.
+/// Tells the task of a cell, and whether one is troubled now.
 fn tell<B: Body>(
     alloc: Global,
     rest: &RestWords<B>,
@@ -102,6 +104,7 @@ fn tell<B: Body>(
     name: &[u8],
     marked: bool,
     told: &mut Vec<bool>,
+    order: &mut Vec<u32>,
     text: &mut Vec<u8>,
 ) -> Result<Option<bool>, Oom>
     requires meaning { HaveMeaning (program_of B.places B.awaits B.left B.asks B.then
@@ -111,29 +114,29 @@ fn tell<B: Body>(
     requires name { name.now ≡ name_text (name_by rest.now.cells at) }
     requires walked { IsWalkedBefore (program_of B.places B.awaits B.left B.asks B.then
         rest.now.strict rest.now.root) rest.now.limit rest.now.cells rest.now.records
-        at told.old.items text.old.items marked }
+        at order.old.items told.old.items text.old.items marked }
     ensures sized { length told.new.items ≡ length rest.now.cells }
     ensures walked { let p = program_of B.places B.awaits B.left B.asks B.then rest.now.strict
         rest.now.root in IfOk result (λ found. IfSome found (λ further.
         IsWalkedTo p rest.now.limit rest.now.cells rest.now.records
-        at told.new.items text.new.items further)) }
+        at order.new.items told.new.items text.new.items further)) }
 {
     let Some(r) = rest.rec(CellId(at)) else {
         return Ok(None);
     };
-    let Some(finish) = clean_end(r) else {
-        return Ok(None);
-    };
-    add_lines(alloc, rest, name, r, finish, text)?;
+    add_lines(alloc, rest, name, r, text)?;
     told[at as usize] = true;
-    Ok(Some(marked_by(finish, marked)))
+    order.push(at)?;
+    Ok(Some(marked_by(r, marked)))
 }
 
-/// The report with its last line, if all tasks are told.
+/// The report with its alarms and its last line, if all tasks are told.
 fn whole<B: Body>(
+    alloc: Global,
     rest: &RestWords<B>,
     at: u32,
     told: Vec<bool>,
+    order: Vec<u32>,
     mut text: Vec<u8>,
     marked: bool,
 ) -> Result<Option<RestReport>, Oom>
@@ -142,7 +145,7 @@ fn whole<B: Body>(
     requires sized { length told.items ≡ length rest.now.cells }
     requires walked { IsWalkedTo (program_of B.places B.awaits B.left B.asks B.then
         rest.now.strict rest.now.root) rest.now.limit rest.now.cells rest.now.records
-        at told.items text.items marked }
+        at order.items told.items text.items marked }
     ensures { let p = program_of B.places B.awaits B.left B.asks B.then rest.now.strict
         rest.now.root in IfOk result (λ found. IfSome found (λ given.
         IsReportOf p rest.now.limit rest.now.cells given.text.items given.marked)) }
@@ -150,6 +153,11 @@ fn whole<B: Body>(
     if !are_told(rest, told.as_slice()) {
         return Ok(None);
     }
+    if !marked {
+        add_last(marked, &mut text)?;
+        return Ok(Some(RestReport { text, marked }));
+    }
+    add_alarms(alloc, rest, order.as_slice(), &mut text)?;
     add_last(marked, &mut text)?;
     Ok(Some(RestReport { text, marked }))
 }

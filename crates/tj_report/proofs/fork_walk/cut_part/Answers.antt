@@ -1,4 +1,4 @@
-use Rattle.tj_report.proofs.Prelude.{name_text, rules, ◌-◌, ◌∙◌}
+use Rattle.tj_report.proofs.Prelude.{name_text, rules, ◌∙◌}
 use Rattle.tj_report.proofs.ShownNames.{cut_part, name_more}
 use Rattle.tj_report.proofs.fork_walk.cut_part.Goals as goal
 

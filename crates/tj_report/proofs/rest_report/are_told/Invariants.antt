@@ -1,4 +1,4 @@
-use Rattle.tj_report.specs.Inner.EndedReports.{AreToldBelow}
+use Rattle.tj_report.specs.Inner.WalkedReports.{AreToldBelow}
 use Rattle.tj_report.proofs.rest_report.are_told.Given as goal
 
 -- the tasks of the cells before are told

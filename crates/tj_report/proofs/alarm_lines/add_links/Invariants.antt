@@ -1,0 +1,11 @@
+use Rattle.std.proofs.Common.{◌≡◌, ◌++◌, take}
+use Rattle.std.specs.Prelude.{codes}
+use Rattle.std.specs.List.{flat_map}
+use Rattle.tj_report.specs.Inner.RestAlarms.{link_in}
+use Rattle.tj_report.specs.ReportTexts.{link_text}
+use Rattle.tj_report.proofs.alarm_lines.add_links.Given as goal
+
+-- the parts so far, each after a comma
+abbrev pub invariant-loop-p : goal.invariant-loop-p
+invariant-loop-p g l = l.text.items ≡ l.initial.text.items
+    ++ flat_map (λ p. codes ", " ++ link_text (link_in l.rest.cells l.rest.records l.order p)) (take l.p-index l.others)

@@ -1,0 +1,7 @@
+use Rattle.std.proofs.Common.{◌≡◌, map, take}
+use Rattle.tj_report.specs.Inner.CellNames.{name_in}
+use Rattle.tj_report.specs.Inner.CellNamesBy.{names_by}
+use Rattle.tj_report.proofs.climbed_names.climbed_names.Given as goal
+
+abbrev pub invariant-loop-c : goal.invariant-loop-c
+invariant-loop-c g l = l.list.items ≡ map (name_in (names_by l.rest.cells)) (take l.c-index l.cells)
