@@ -1,8 +1,8 @@
 -- A task whose result is closed and that no seat holds has ended: where its record lies at home and tells a point at
 -- which the task goes on, the record owns the result, and then OWN of the task names it.
-use Rattle.tj_park.proofs.Prelude.{Answer, Bool, CellId, Custody, HasName, IsCell, IsIn, List, Name, None, Option, Phase}
-use Rattle.tj_park.proofs.Prelude.{Point, Program, Rec, Reference, Some, TellsStage, inl, inr, none_some, numbers, refl}
-use Rattle.tj_park.proofs.Prelude.{subst, sym, to_task, ℕ, ◌∙◌, ◌∷◌, ◌≡◌, ◌≢◌}
+use Rattle.tj_park.proofs.Prelude.{Answer, Bool, CellId, Custody, HasName, IsCell, IsIn, List, Name, None, Option}
+use Rattle.tj_park.proofs.Prelude.{Phase, Point, Program, Rec, Reference, Some, TellsStage, inl, inr, none_some, numbers}
+use Rattle.tj_park.proofs.Prelude.{refl, subst, sym, to_task, ℕ, ◌∙◌, ◌∷◌, ◌≡◌, ◌≢◌}
 use Rattle.tj_body.specs.declared.ask.Answer.TheVariants as answer
 use Rattle.tj_body.proofs.Lists.{to_map}
 use Rattle.tj_words.specs.declared.phase.Phase.TheVariants as phase

@@ -28,8 +28,8 @@ beside F (a ∷ xs) [] h x i = absurd h
 beside F (a ∷ xs) (c ∷ ys) h x (inl e) = (c, inl refl, subst (λ z. F z c) (sym e) h.0)
 beside F (a ∷ xs) (c ∷ ys) h x (inr i) = let w = beside F xs ys h.1 x i in (w.0, inr w.1, w.2)
 
-pub beside_back : {A C : Type 0} (F : A → C → Type 0) (xs : List A) (ys : List C) → ArePairs F xs ys → (y : C) → IsIn y ys
-    → (x : A) × IsIn x xs × F x y
+pub beside_back : {A C : Type 0} (F : A → C → Type 0) (xs : List A) (ys : List C) → ArePairs F xs ys → (y : C)
+    → IsIn y ys → (x : A) × IsIn x xs × F x y
 beside_back F xs [] h y i = absurd i
 beside_back F [] (c ∷ ys) h y i = absurd h
 beside_back F (a ∷ xs) (c ∷ ys) h y (inl e) = (a, inl refl, subst (F a) (sym e) h.0)

@@ -218,20 +218,21 @@ module _ {B : Type 0} where
       fewer = λ a e c. omega arith;
       closed = f.5;
     }
-    joining_first filled head.Empty v w e s o = let f = o (λ z. cc) in let l = chain_looks cells q head.Empty v w f in record {
-      looks = l.0;
-      next = None;
-      pushes = l.2 ∙ e;
-      open_at = λ _. open_is cells q head.Empty v w f;
-      shut_at = λ z. absurd (cc);
-      cost = first_cost w.steps v.steps cells (length (last_found w.found)) l.3;
-      chains = record { cell = q; chain = f.chain } ∷ [];
-      found = l.1;
-      few = omega arith;
-      most = omega arith;
-      fewer = λ a e c. filled;
-      closed = l.4;
-    }
+    joining_first filled head.Empty v w e s o = let f = o (λ z. cc) in
+        let l = chain_looks cells q head.Empty v w f in record {
+          looks = l.0;
+          next = None;
+          pushes = l.2 ∙ e;
+          open_at = λ _. open_is cells q head.Empty v w f;
+          shut_at = λ z. absurd (cc);
+          cost = first_cost w.steps v.steps cells (length (last_found w.found)) l.3;
+          chains = record { cell = q; chain = f.chain } ∷ [];
+          found = l.1;
+          few = omega arith;
+          most = omega arith;
+          fewer = λ a e c. filled;
+          closed = l.4;
+        }
     joining_first filled (head.Task u) v w e s o = let f = o (λ z. cc) in
         let l = chain_looks cells q (head.Task u) v w f in record {
           looks = l.0;
@@ -366,7 +367,8 @@ module _ {B : Type 0} where
                     (length (last_found x.found)) j.few (ap (λ fs. length (last_found fs)) at.found) (grown h x f fails)
                     (ap (λ fs. length (last_found fs)) l.1);
                 most = no_more_found (length j.chains) (length (last_found w.found)) (length at.chain)
-                    (length f.chain) cells j.few (ap (λ fs. length (last_found fs)) at.found) (grown h x f fails) f.short;
+                    (length f.chain) cells j.few (ap (λ fs. length (last_found fs)) at.found)
+                    (grown h x f fails) f.short;
                 fewer = lacks n f;
                 closed = l.4 ∙ (still_open ∙ sym (closed_open q h v.closed n));
               }

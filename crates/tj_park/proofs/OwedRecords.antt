@@ -1,8 +1,9 @@
--- What the record of a task that has ended owes. A task's history closes at one point; so in each table under the law in
--- which a seat knows what the task is, the record that lies at home of it tells the point at which it ended.
+-- What the record of a task that has ended owes. A task's history closes at one point; so in each table under the law
+-- in which a seat knows what the task is, the record that lies at home of it tells the point at which it ended.
 use Rattle.tj_park.proofs.Prelude.{Answer, Bool, CellId, Finish, HasName, IsCell, IsIn, Name, None, OrderedHasSame}
 use Rattle.tj_park.proofs.Prelude.{Point, Program, Rec, Reference, TellsStage, View, [], ap, begins_at, cell, get_elem?}
-use Rattle.tj_park.proofs.Prelude.{in_order, inl, none_some, refl, some, some-injective, sym, to_task, ℕ, ◌+◌, ◌∙◌, ◌≡◌, ◌≢◌}
+use Rattle.tj_park.proofs.Prelude.{in_order, inl}
+use Rattle.tj_park.proofs.Prelude.{none_some, refl, some, some-injective, sym, to_task, ℕ, ◌+◌, ◌∙◌, ◌≡◌, ◌≢◌}
 use Rattle.std.proofs.Common.{◌↔◌, List, drop, Option, Some, subst, arith}
 use Rattle.atomic_table.specs.Table.{State}
 use Rattle.tj_body.specs.Laws.{IsAllGood, NamesApart, Stops}
@@ -136,9 +137,10 @@ module _ {B : Type 0} (program : Bool → B → Program B) (t : ℕ) (r : Rec B)
           (sym ((rule.seats id w at).about may.about (about ∙ may.is_about))) told.stands.of_rounds
 
       same_name : told.point.name ≡ may.ending.point.name
-      same_name = ap (λ (z : Reference). z.name) (some-injective (to_task told.point.name) (to_task may.ending.point.name)
-          (sym (subst (λ k. IsCell all k (to_task told.point.name)) (rule.law.custody.own_slots t c kept.1.1) told.tells.of)
-          ∙ is_task))
+      same_name = ap (λ (z : Reference). z.name)
+          (some-injective (to_task told.point.name) (to_task may.ending.point.name)
+          (sym (subst (λ k. IsCell all k (to_task told.point.name)) (rule.law.custody.own_slots t c kept.1.1)
+          told.tells.of) ∙ is_task))
 
       one_point : told.point ≡ closed
       one_point = once told.point closed of_rounds may.ending.ends same_name

@@ -1,5 +1,5 @@
--- A task that a seat has yet to add to a chain stands in no chain. So where the chain that stands isn't the one that was
--- found last, the latter lacks two tasks of the table.
+-- A task that a seat has yet to add to a chain stands in no chain. So where the chain that stands isn't the one that
+-- was found last, the latter lacks two tasks of the table.
 use Rattle.tj_park.proofs.Prelude.{Bool, Head, IsIn, List, Option, Program, Rec, Some, View, ap, arith, get_elem?}
 use Rattle.tj_park.proofs.Prelude.{head_of, head_word, length, refl, some, subst, suc, sym, ℕ, ⊎_elim, ◌++◌, ◌<◌}
 use Rattle.tj_park.proofs.Prelude.{◌∙◌, ◌∷◌, ◌≡◌, ◌≢◌, ◌≤◌, ◌⊎◌}

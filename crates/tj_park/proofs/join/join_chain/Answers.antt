@@ -1,5 +1,6 @@
 use Rattle.std.proofs.Common.{arith, rules, ◌≡◌, ◌≢◌, ◌∙◌}
-use Rattle.tj_park.proofs.Joining.{found_chains, found_shut_once, joining_first, joining_next, has_push, has_push_behind, joined, fewer}
+use Rattle.tj_park.proofs.Joining.{fewer, found_chains, found_shut_once, has_push, has_push_behind, joined}
+use Rattle.tj_park.proofs.Joining.{joining_first, joining_next}
 use Rattle.tj_words.specs.declared.head.Head.TheVariants as head
 use Rattle.tj_park.proofs.join.join_chain.Goals as goal
 
@@ -7,7 +8,8 @@ pub loop-t-init : goal.loop-t-init
 loop-t-init g c = record {
   seat = c.head-behind.ensures.seat;
   joins = joining_first c.args.laid.now.cells c.args.t.0 c.args.q.0 c.args.way c.args.laid.now.some
-      c.head-behind.result c.args.seat.now.me.0 c.head-behind.new.seat.me.0 c.requires.push c.head-behind.ensures.shut c.head-behind.ensures.open;
+      c.head-behind.result c.args.seat.now.me.0
+      c.head-behind.new.seat.me.0 c.requires.push c.head-behind.ensures.shut c.head-behind.ensures.open;
 }
 
 pub put_next-requires-clause-push : goal.put_next-requires-clause-push

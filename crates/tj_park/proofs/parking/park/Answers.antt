@@ -61,7 +61,8 @@ returns-clause-back g c =
     c.slot_swap.new.seat.me c.put_phase.new.seat.me c.join_chain.new.seat.me c.slot_swap.ensures.me
     c.put_phase.ensures.puts c.join_chain.ensures.seat.2 c.join_chain.ensures.looks c.join_chain.ensures.steps
     c.join_chain.ensures.pushes
-    c.join_chain.result c.join_chain.ensures.added c.join_chain.ensures.closed c.if-join_chain.false c.take_back.result c.take_back.new.seat.me.0
+    c.join_chain.result c.join_chain.ensures.added c.join_chain.ensures.closed c.if-join_chain.false
+    c.take_back.result c.take_back.new.seat.me.0
     c.take_back.ensures.takes
 
 pub returns-clause-back_slot : goal.returns-clause-back_slot
