@@ -1,6 +1,7 @@
--- What the records tell of tasks that wait: for which cell, and that a record of a task that has stopped tells something.
-use Rattle.tj_report.proofs.Prelude.{Answer, Finish, Held, IsEndBelow, IsRecordBelow, List, Name, Rec, Stopped, [], ap, ending_by}
-use Rattle.tj_report.proofs.Prelude.{IsFinishBelow, finished_by, in_order, map, name_in, option_map, refl, some_is, sym, told_by, true, ℕ}
+-- What the records tell of tasks that wait: for which cell. A record of a task that has stopped tells something.
+use Rattle.tj_report.proofs.Prelude.{Answer, Finish, Held, IsEndBelow, IsFinishBelow, IsRecordBelow, List, Name, Rec}
+use Rattle.tj_report.proofs.Prelude.{Stopped, [], ap, ending_by, finished_by, in_order, map, name_in, option_map, refl}
+use Rattle.tj_report.proofs.Prelude.{some_is, sym, told_by, true, ℕ}
 use Rattle.tj_report.proofs.Prelude.{◌<◌, ◌∙◌, ◌∷◌, ◌≡◌}
 use Rattle.std.proofs.Common.{Bool, false, cond, ◌||◌, not, Option, Some, None, drop, subst}
 use Rattle.std.specs.Prelude.{slice_get, unwrap_or}

@@ -39,7 +39,8 @@ has_in : (q : Name) (l : List Name) → IsIn q l → has q l ≡ true
 has_in q l i = has_of_times q l (times_of_in q l i)
 
 -- lists that agree with one element more
-pub pairs_more : {A C : Type 0} (F : A → C → Type 0) (xs : List A) (ys : List C) (x : A) (y : C) → ArePairs F xs ys → F x y
+pub pairs_more : {A C : Type 0} (F : A → C → Type 0) (xs : List A) (ys : List C) (x : A) (y : C) → ArePairs F xs ys
+    → F x y
     → ArePairs F (xs ++ x ∷ []) (ys ++ y ∷ [])
 pairs_more F [] [] x y h k = (k, tt)
 pairs_more F [] (z ∷ ys) x y h k = absurd h

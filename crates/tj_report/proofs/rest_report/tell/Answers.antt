@@ -19,7 +19,8 @@ returns-clause-walked g c born w rs = let b = g.B.Body in
     let sized = c.requires.sized in
     let there = c.requires.there in
     told_on program rest.limit rest.cells rest.records born w rs c.args.at c.args.order.now.items
-    c.push.new.self.items c.args.told.now.items _ c.args.text.now.items c.add_lines.new.text.items c.args.marked c.marked_by.result r
+    c.push.new.self.items c.args.told.now.items _ c.args.text.now.items c.add_lines.new.text.items c.args.marked
+    c.marked_by.result r
     (c.requires.walked born w rs) (sym c.in-Some.ensures.record) (omega arith) c.in_ok-push.ensures.items refl
     (λ s h. c.in_ok-add_lines.ensures s h ∙ ap (λ n. c.args.text.now.items ++ lines_of n s.line) c.requires.name)
     c.marked_by.ensures

@@ -17,8 +17,8 @@ loop-step-init g c = let b = g.B.Body in
       omega arith,
       search rules,
       c.in_ok-name.ensures.items ∙ ap name_text (sym (name_root rest.cells m.0 m.1.named)),
-      λ born w rs. told_none program rest.limit rest.cells rest.records born 0 c.in_ok-order.order.items c.in_ok-told.told.items
-          c.new-text.result.items c.in_ok-order.ensures.items told_is c.new-text.ensures.items,
+      λ born w rs. told_none program rest.limit rest.cells rest.records born 0 c.in_ok-order.order.items
+          c.in_ok-told.told.items c.new-text.result.items c.in_ok-order.ensures.items told_is c.new-text.ensures.items,
     )
 
 pub loop-step-preserved : goal.loop-step-preserved
@@ -28,8 +28,8 @@ loop-step-preserved g c = let b = g.B.Body in
     let n = some_at (IsPrintedAfter rest.cells c.loop-step.at c.next_task.new.name.items) c.in_ok-next.field-0
     c.in-Some-2.next c.in-Some-2.is c.in_ok-next.ensures in
     let t = some_at (λ any. IsWalkedTo program rest.limit rest.cells rest.records c.loop-step.at
-    c.tell.new.order.items c.tell.new.told.items c.tell.new.text.items any) c.in_ok-found.found c.in-Some.further c.in-Some.is
-    c.in_ok-found.ensures.walked in (
+    c.tell.new.order.items c.tell.new.told.items c.tell.new.text.items any) c.in_ok-found.found c.in-Some.further
+    c.in-Some.is c.in_ok-found.ensures.walked in (
       n.there,
       c.tell.ensures.sized,
       n.printed,

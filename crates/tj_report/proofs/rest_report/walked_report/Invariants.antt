@@ -11,4 +11,5 @@ invariant-loop-step g l = let b = g.B.Body in
     let program = program_of b.places b.awaits b.left b.asks b.then l.rest.strict l.rest.root in
     (l.at < length l.rest.cells) × (length l.told.items ≡ length l.rest.cells)
     × (l.name.items ≡ name_text (name_by l.rest.cells l.at))
-    × IsWalkedBefore program l.rest.limit l.rest.cells l.rest.records l.at l.order.items l.told.items l.text.items l.marked
+    × IsWalkedBefore program l.rest.limit l.rest.cells l.rest.records l.at l.order.items l.told.items l.text.items
+    l.marked
