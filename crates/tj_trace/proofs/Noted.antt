@@ -128,8 +128,7 @@ promise_noted : (p : Point Logged) → p.body.due ≡ Some sort.Promise → IsTa
 promise_noted p e h = record {
   made = subst (λ o. AreNoted p.name (p.body.makers ++ maker_here o p.body.placed.stand) (suc p.made)
       (p.promises ++ child p.name (suc p.made) ∷ []) p.children) (sym e)
-      (promise_more p.name p.body.makers p.body.placed.stand.decl p.body.placed.stand.at p.made p.promises p.children
-      h.made);
+      (promise_more p.name p.body.makers _ _ p.made p.promises p.children h.made);
   children = h.children;
 }
 
@@ -141,8 +140,7 @@ fork_noted b passed handed (Ok left) p e h =
     let t : Task Logged = next_child (logged b) passed handed p in record {
       made = subst (λ o. AreNoted p.name (p.body.makers ++ maker_here o p.body.placed.stand) (suc p.made) p.promises
           (p.children ++ t ∷ [])) (sym e)
-          (task_more p.name p.body.makers p.body.placed.stand.decl p.body.placed.stand.at p.made p.promises p.children
-          t refl h.made);
+          (task_more p.name p.body.makers _ _ p.made p.promises p.children t refl h.made);
       children = λ c i. ⊎_elim (h.children c) (λ j. one c t refl j) (in_either c p.children (t ∷ []) i);
     } where
       one : (c t : Task Logged) → t.body.makers ≡ [] → IsIn c (t ∷ []) → c.body.makers ≡ []
