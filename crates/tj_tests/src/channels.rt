@@ -1,16 +1,17 @@
 //! Outcomes of small programs over channels, by hand.
-ghost use Rattle.std.specs.Prelude.{◌≡◌, ◌<◌, ◌≤◌, IfOk};
+ghost use Rattle.std.specs.Prelude.{◌<◌, length, IsTrue};
+ghost use Rattle.tj_chan.specs.ChatTables.{is_chat_table};
 
 use crate::outcomes::outcome_text;
+use crate::shown::{holds, reads};
 use crate::tables::Chats::{Emit, Fail, Open, Recv, Send, Spawn};
 use crate::tables::{Chats, chat_lists};
 use std::alloc::Global;
 use std::process::Abort;
 use std::test;
-use tj_base::{Items, Oom, Trouble};
+use tj_base::{Oom, Trouble};
 use tj_chan::{
-    ChanBody, ChatAnswer, ChatAsk, ChatRow, ChatRowList, Chatter, TableChat, is_chat_table,
-    relay_root,
+    ChanBody, ChatAnswer, ChatAsk, ChatRowList, Chatter, TableChat, is_chat_table, relay_root,
 };
 use tj_mean::{PlanFault, plan};
 
@@ -163,7 +164,7 @@ fn planned(rt: &impl Abort, alloc: Global, written: &[&[Chats]]) -> Result<Vec<u
 fn programs_end_as_told(rt: HostRuntime) -> Result<(), test::Fail> {
     for case in CASES {
         let text = planned(&rt, rt.alloc(), case.lists)?;
-        assert_eq!(rt; text.as_slice(), case.text.as_bytes(), "{}", case.shows);
+        reads(&rt, case.shows, text.as_slice(), case.text.as_bytes());
     }
     Ok(())
 }
@@ -172,16 +173,24 @@ fn programs_end_as_told(rt: HostRuntime) -> Result<(), test::Fail> {
 fn faults_of_kind(rt: HostRuntime) -> Result<(), test::Fail> {
     for (shows, lists) in FAULTS {
         let text = planned(&rt, rt.alloc(), lists)?;
-        assert!(rt; text.as_slice().starts_with(b"0:kind"), "{shows}");
+        holds(&rt, shows, text.as_slice().starts_with(b"0:kind"));
     }
     Ok(())
 }
 
+/// Sizes and numbers of cells, and what is told of the relay.
+const RELAYS: &[(u32, u32, &str)] = &[
+    (3, 6, "0:1,2,3,d6 0.4:d0 0.4.1:d0 clean"),
+    (3, 5, "full"),
+    // It has no first half.
+    (1, 4, "0:1,d1 0.2:d0 0.2.1:d0 clean"),
+];
+
 /// What is told of the relay of this size, or "full".
-fn relayed(alloc: Global, size: u32, cells: u32) -> Result<Vec<u8>, Oom>
-    requires size { (0 < size) × (size ≤ 4000) }
-    requires cells { (0 < cells) × (cells ≤ 16384) }
-{
+fn relayed(rt: &impl Abort, alloc: Global, size: u32, cells: u32) -> Result<Vec<u8>, Oom> {
+    if size == 0 || size > 4000 || cells == 0 || cells > 16_384 {
+        panic!(rt; "no relay");
+    }
     let body = ChanBody::new(alloc, relay_root(size))?;
     match plan(alloc, &body, cells, false) {
         Ok(o) => outcome_text(alloc, &o),
@@ -191,41 +200,36 @@ fn relayed(alloc: Global, size: u32, cells: u32) -> Result<Vec<u8>, Oom>
 }
 
 #[test]
-fn a_relay_of_three(rt: HostRuntime) -> Result<(), test::Fail> {
-    let text = relayed(rt.alloc(), 3, 6)?;
-    assert_eq!(rt;
-        text.as_slice(),
-        b"0:1,2,3,d6 0.4:d0 0.4.1:d0 clean".as_slice()
-    );
-    let text = relayed(rt.alloc(), 3, 5)?;
-    assert_eq!(rt; text.as_slice(), b"full".as_slice());
+fn relays(rt: HostRuntime) -> Result<(), test::Fail> {
+    for (size, cells, text) in RELAYS {
+        let told = relayed(&rt, rt.alloc(), *size, *cells)?;
+        reads(&rt, "a relay", told.as_slice(), text.as_bytes());
+    }
     Ok(())
 }
 
-#[test]
-fn a_relay_of_one_has_no_first_half(rt: HostRuntime) -> Result<(), test::Fail> {
-    let text = relayed(rt.alloc(), 1, 4)?;
-    assert_eq!(rt; text.as_slice(), b"0:1,d1 0.2:d0 0.2.1:d0 clean".as_slice());
-    Ok(())
-}
-
-fn rows<const N: usize>(alloc: Global, rows: [ChatRow; N]) -> Result<ChatRowList, Oom>
-    ensures { IfOk result (λ list. list ≡ rows.entry) }
+/// Whether a table's chatter opens a channel for two items and fails then, and its twin stays behind.
+fn fails_behind(alloc: Global, lists: &[ChatRowList]) -> Result<bool, Oom>
+    requires table { IsTrue (is_chat_table lists.now) }
+    requires some { 0 < length lists.now }
 {
-    Ok(Items::of(Vec::from_array(alloc, rows)?))
+    let mut chat = TableChat::new(lists, 0);
+    let first = chat.next(alloc, ChatAnswer::Start)?;
+    if first != ChatAsk::Open(2) {
+        return Ok(false);
+    }
+    let twin = chat.twin(alloc)?;
+    let same = twin == chat;
+    let second = chat.next(alloc, ChatAnswer::Chan(0))?;
+    Ok(same && second == ChatAsk::Fail(Trouble::Arith) && twin != chat)
 }
 
 #[test]
 fn rows_come_in_order_and_then_the_end(rt: HostRuntime) -> Result<(), test::Fail> {
-    let a = rt.alloc();
-    let lists = [rows(a, [ChatRow::Open(2), ChatRow::Fail(Trouble::Arith)])?];
-    let mut chat = TableChat::new(&lists, 0);
-    let first = chat.next(a, ChatAnswer::Start)?;
-    assert!(rt; first == ChatAsk::Open(2));
-    let twin = chat.twin(a)?;
-    assert!(rt; twin == chat);
-    let second = chat.next(a, ChatAnswer::Chan(0))?;
-    assert!(rt; second == ChatAsk::Fail(Trouble::Arith));
-    assert!(rt; twin != chat);
+    let lists = chat_lists(rt.alloc(), &[&[Open(2), Fail(Trouble::Arith)]])?;
+    if lists.is_empty() || !is_chat_table(&lists) {
+        panic!(rt; "no table");
+    }
+    assert!(rt; fails_behind(rt.alloc(), &lists)?);
     Ok(())
 }

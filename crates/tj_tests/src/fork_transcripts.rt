@@ -1,7 +1,7 @@
 //! Scripts of one task and of forks, by hand from the rules: what each task of the meaning is
 //! answered and asks. The transcript of a task that fails by what it asked ends there.
 use crate::transcripts::Expected::{Emit, End, Fail, Fork, Get, Join, New, Set};
-use crate::transcripts::{Row, script_follows};
+use crate::transcripts::{Row, scripts_follow};
 use std::test;
 use tj_base::{Pay, Trouble};
 use tj_body::Answer::{Done, Local, Num, Start};
@@ -126,24 +126,15 @@ const ARGUMENTS: &[Row] = &[
 
 #[test]
 fn one_task(rt: HostRuntime) -> Result<(), test::Fail> {
-    for row in ONE_TASK {
-        script_follows(&rt, rt.alloc(), row)?;
-    }
-    Ok(())
+    scripts_follow(&rt, rt.alloc(), ONE_TASK)
 }
 
 #[test]
 fn a_tree_of_forks(rt: HostRuntime) -> Result<(), test::Fail> {
-    for row in A_TREE_OF_FORKS {
-        script_follows(&rt, rt.alloc(), row)?;
-    }
-    Ok(())
+    scripts_follow(&rt, rt.alloc(), A_TREE_OF_FORKS)
 }
 
 #[test]
 fn arguments(rt: HostRuntime) -> Result<(), test::Fail> {
-    for row in ARGUMENTS {
-        script_follows(&rt, rt.alloc(), row)?;
-    }
-    Ok(())
+    scripts_follow(&rt, rt.alloc(), ARGUMENTS)
 }

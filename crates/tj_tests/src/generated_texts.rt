@@ -1,4 +1,5 @@
 //! The generated text, by hand.
+use crate::shown::reads;
 use std::test::Fail;
 use tj_gen::gen_script;
 
@@ -27,7 +28,7 @@ task node(i, p, q) {
   return i;
 }
 ";
-    assert_eq!(rt; text.as_slice(), wanted.as_slice());
+    reads(&rt, "two steps", text.as_slice(), wanted.as_slice());
     Ok(())
 }
 

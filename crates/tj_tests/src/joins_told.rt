@@ -1,4 +1,5 @@
 //! Texts of small programs' joins, by hand.
+use crate::shown::reads;
 use crate::tables::Says::{Fork, Get, Join, JoinOr, New, Set};
 use crate::tables::{Says, lists};
 use std::alloc::Global;
@@ -105,7 +106,7 @@ fn told(rt: &impl Abort, alloc: Global, written: &[&[Says]]) -> Result<Vec<u8>, 
 fn joins_are_told(rt: HostRuntime) -> Result<(), test::Fail> {
     for case in CASES {
         let text = told(&rt, rt.alloc(), case.lists)?;
-        assert_eq!(rt; text.as_slice(), case.text.as_bytes(), "{}", case.shows);
+        reads(&rt, case.shows, text.as_slice(), case.text.as_bytes());
     }
     Ok(())
 }

@@ -27,6 +27,8 @@ mod reports;
 #[cfg(test)]
 mod script_faults;
 #[cfg(test)]
+mod shown;
+#[cfg(test)]
 mod stand_rows;
 #[cfg(test)]
 mod table_asks;

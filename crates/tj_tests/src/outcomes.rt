@@ -1,4 +1,5 @@
 //! Outcomes of small programs, by hand.
+use crate::shown::reads;
 use crate::tables::Says::{Emit, End, Fail, Fork, Get, GetOr, Join, New, Set};
 use crate::tables::{Says, lists};
 use std::alloc::Global;
@@ -6,12 +7,13 @@ use std::process::Abort;
 use std::test;
 use tj_base::{Cause, Name, Oom, Pay, Shown, Trouble, add_signed};
 use tj_body::{TableBody, is_table};
-use tj_mean::{Act, ActLines, Ending, Outcome, PlanFault, acts, marked, plan};
+use tj_mean::{Act, ActLines, Ending, LinkList, Outcome, PlanFault, TaskLine, acts, marked, plan};
 
 /// What is told of the root with the first of these lists.
 struct Case {
     shows: &'static str,
     lists: &'static [&'static [Says]],
+    cells: u32,
     strict: bool,
     text: &'static str,
 }
@@ -32,18 +34,21 @@ const CASES: &[Case] = &[
     Case {
         shows: "a value through a promise",
         lists: OF_A_PROMISE,
+        cells: 4096,
         strict: false,
         text: "0:8,@0.1 clean",
     },
     Case {
         shows: "an owed promise",
         lists: &[&[New, Fork(1, &[1], &[])], &[Get(1)]],
+        cells: 4096,
         strict: false,
         text: "0:d0-0.1 0.2:broken 0.1 marked",
     },
     Case {
         shows: "a broken one with or",
         lists: &[&[New, Fork(1, &[1], &[1]), GetOr(1), Emit(1)], &[]],
+        cells: 4096,
         strict: false,
         text: "0:1,d0 0.2:d0-0.1 marked",
     },
@@ -53,44 +58,72 @@ const CASES: &[Case] = &[
             &[New, New, Fork(1, &[1, 2], &[1]), Fork(1, &[2, 1], &[2])],
             &[Get(2), Set(1, Pay::Num(1))],
         ],
+        cells: 4096,
         strict: false,
         text: "0:d0 0.3:w0.2 0.4:w0.1 !0.3>0.2,0.4>0.1, marked",
     },
     Case {
         shows: "its own promise",
         lists: &[&[New, Get(1)]],
+        cells: 4096,
         strict: false,
         text: "0:w0.1 !0>0.1, marked",
     },
     Case {
         shows: "joins",
         lists: JOINS,
+        cells: 4096,
         strict: false,
         text: "0:w0.1 0.1:w0 !0>0.1,0.1>0, marked",
     },
     Case {
         shows: "strict joins",
         lists: JOINS,
+        cells: 4096,
         strict: true,
         text: "0:broken 0.1 0.1:order 0 marked",
     },
     Case {
         shows: "a join of oneself",
         lists: OF_ONESELF,
+        cells: 4096,
         strict: false,
         text: "0:w0 !0>0, marked",
     },
     Case {
         shows: "a strict join of oneself",
         lists: OF_ONESELF,
+        cells: 4096,
         strict: true,
         text: "0:order 0 marked",
     },
     Case {
         shows: "two cycles",
         lists: &[&[Fork(1, &[], &[]), Fork(1, &[], &[])], &[New, Get(1)]],
+        cells: 4096,
         strict: false,
         text: "0:d0 0.1:w0.1.1 0.2:w0.2.1 !0.1>0.1.1, !0.2>0.2.1, marked",
+    },
+    Case {
+        shows: "a value through a promise, with a cell too few",
+        lists: OF_A_PROMISE,
+        cells: 1,
+        strict: false,
+        text: "full",
+    },
+    Case {
+        shows: "a value through a promise, with just enough cells",
+        lists: OF_A_PROMISE,
+        cells: 2,
+        strict: false,
+        text: "0:8,@0.1 clean",
+    },
+    Case {
+        shows: "tasks that fork for ever",
+        lists: &[&[Fork(0, &[], &[]), Fork(0, &[], &[])]],
+        cells: 16_384,
+        strict: false,
+        text: "full",
     },
     Case {
         shows: "numbers in order",
@@ -111,6 +144,7 @@ const CASES: &[Case] = &[
             ],
             &[],
         ],
+        cells: 4096,
         strict: false,
         text: "0:arith-0.1-0.3-0.4-0.5-0.6-0.7-0.8-0.9-0.11 0.2:d0 0.10:d0 marked",
     },
@@ -119,32 +153,42 @@ const CASES: &[Case] = &[
 /// What is told of a program, in short.
 pub(crate) fn outcome_text(alloc: Global, o: &Outcome) -> Result<Vec<u8>, Oom> {
     let mut text = Vec::new(alloc);
-    for line in o.lines.items() {
-        line.name.text_into(alloc, &mut text)?;
-        text.push(b':')?;
-        for number in line.prints.items() {
-            add_signed(&mut text, *number)?;
-            text.push(b',')?;
-        }
-        add_ending(alloc, &line.ending, &mut text)?;
-        for q in line.owes.items() {
-            text.push(b'-')?;
-            q.text_into(alloc, &mut text)?;
-        }
-        text.push(b' ')?;
-    }
-    for cycle in o.cycles.items() {
-        text.push(b'!')?;
-        for link in cycle.items() {
-            link.task.text_into(alloc, &mut text)?;
-            text.push(b'>')?;
-            link.cell.text_into(alloc, &mut text)?;
-            text.push(b',')?;
-        }
-        text.push(b' ')?;
-    }
+    add_lines(alloc, o.lines.items(), &mut text)?;
+    add_cycles(alloc, o.cycles.items(), &mut text)?;
     text.extend_from_slice(if marked(o) { b"marked" } else { b"clean" })?;
     Ok(text)
+}
+
+fn add_lines(alloc: Global, lines: &[TaskLine], text: &mut Vec<u8>) -> Result<(), Oom> {
+    for line in lines {
+        line.name.text_into(alloc, text)?;
+        text.push(b':')?;
+        for number in line.prints.items() {
+            add_signed(text, *number)?;
+            text.push(b',')?;
+        }
+        add_ending(alloc, &line.ending, text)?;
+        for q in line.owes.items() {
+            text.push(b'-')?;
+            q.text_into(alloc, text)?;
+        }
+        text.push(b' ')?;
+    }
+    Ok(())
+}
+
+fn add_cycles(alloc: Global, cycles: &[LinkList], text: &mut Vec<u8>) -> Result<(), Oom> {
+    for cycle in cycles {
+        text.push(b'!')?;
+        for link in cycle.items() {
+            link.task.text_into(alloc, text)?;
+            text.push(b'>')?;
+            link.cell.text_into(alloc, text)?;
+            text.push(b',')?;
+        }
+        text.push(b' ')?;
+    }
+    Ok(())
 }
 
 fn add_ending(alloc: Global, ending: &Ending, text: &mut Vec<u8>) -> Result<(), Oom> {
@@ -193,26 +237,9 @@ fn planned(
 #[test]
 fn programs_end_as_told(rt: HostRuntime) -> Result<(), test::Fail> {
     for case in CASES {
-        let text = planned(&rt, rt.alloc(), case.lists, 4096, case.strict)?;
-        assert_eq!(rt; text.as_slice(), case.text.as_bytes(), "{}", case.shows);
+        let text = planned(&rt, rt.alloc(), case.lists, case.cells, case.strict)?;
+        reads(&rt, case.shows, text.as_slice(), case.text.as_bytes());
     }
-    Ok(())
-}
-
-#[test]
-fn a_value_through_a_promise(rt: HostRuntime) -> Result<(), test::Fail> {
-    for (cells, expected) in [(1, "full"), (2, "0:8,@0.1 clean")] {
-        let text = planned(&rt, rt.alloc(), OF_A_PROMISE, cells, false)?;
-        assert_eq!(rt; text.as_slice(), expected.as_bytes());
-    }
-    Ok(())
-}
-
-#[test]
-fn tasks_that_fork_for_ever_are_full(rt: HostRuntime) -> Result<(), test::Fail> {
-    let twice: &[&[Says]] = &[&[Fork(0, &[], &[]), Fork(0, &[], &[])]];
-    let text = planned(&rt, rt.alloc(), twice, 16384, false)?;
-    assert_eq!(rt; text.as_slice(), b"full".as_slice());
     Ok(())
 }
 
@@ -266,12 +293,19 @@ const WITH_ONE_ANOTHER: &[&[Says]] = &[
     &[Join(0)],
 ];
 
+const ACTED: &[(u32, &str)] = &[
+    (4, "full"),
+    (
+        5,
+        "0:+0.2 +0.3 ?0.2!?0.3!;0.2:;0.3:+0.3.1 ?0.2!;0.3.1:?0.3.1 ;",
+    ),
+];
+
 #[test]
 fn what_tasks_do_with_one_another(rt: HostRuntime) -> Result<(), test::Fail> {
-    let whole = "0:+0.2 +0.3 ?0.2!?0.3!;0.2:;0.3:+0.3.1 ?0.2!;0.3.1:?0.3.1 ;";
-    for (cells, expected) in [(4, "full"), (5, whole)] {
-        let text = acted(&rt, rt.alloc(), WITH_ONE_ANOTHER, cells)?;
-        assert_eq!(rt; text.as_slice(), expected.as_bytes());
+    for (cells, expected) in ACTED {
+        let text = acted(&rt, rt.alloc(), WITH_ONE_ANOTHER, *cells)?;
+        reads(&rt, "acts", text.as_slice(), expected.as_bytes());
     }
     Ok(())
 }

@@ -1,10 +1,88 @@
 //! Printed names and the two orders, by hand.
+use crate::shown::{holds, reads};
 use std::alloc::Global;
 use std::cmp::Ordering;
 use std::test::Fail;
-use tj_base::{Name, add_number, add_signed, name_cmp, path_before};
+use tj_base::{Name, Oom, add_number, add_signed, name_cmp, path_before};
 
-fn name(alloc: Global, numbers: &[u32]) -> Result<Name, Fail> {
+/// Numbers, and the name that is printed for them.
+const NAMES: &[(&[u32], &[u8])] = &[
+    (&[], b"> 0"),
+    (&[3], b"> 0.3"),
+    (&[3, 1], b"> 0.3.1"),
+    (&[4294967295], b"> 0.4294967295"),
+];
+
+/// Two names, whether the first stands before the second in the fork order and the second before the
+/// first, and how they compare.
+struct Pair {
+    shows: &'static str,
+    first: &'static [u32],
+    second: &'static [u32],
+    before: (bool, bool),
+    compare: Ordering,
+}
+
+const PAIRS: &[Pair] = &[
+    Pair {
+        shows: "the later fork is before the earlier one",
+        first: &[2],
+        second: &[1],
+        before: (true, false),
+        compare: Ordering::Greater,
+    },
+    Pair {
+        shows: "a task is before its child, and has the lesser name",
+        first: &[2],
+        second: &[2, 1],
+        before: (true, false),
+        compare: Ordering::Less,
+    },
+    Pair {
+        shows: "a later branch is before an earlier one",
+        first: &[2, 1],
+        second: &[1],
+        before: (true, false),
+        compare: Ordering::Greater,
+    },
+    Pair {
+        shows: "a task isn't before itself",
+        first: &[2],
+        second: &[2],
+        before: (false, false),
+        compare: Ordering::Equal,
+    },
+    Pair {
+        shows: "the root is before all",
+        first: &[],
+        second: &[7, 7],
+        before: (true, false),
+        compare: Ordering::Less,
+    },
+    Pair {
+        shows: "numbers are compared, and not their digits",
+        first: &[10],
+        second: &[2],
+        before: (true, false),
+        compare: Ordering::Greater,
+    },
+    Pair {
+        shows: "the first number that differs decides",
+        first: &[1, 9],
+        second: &[2],
+        before: (false, true),
+        compare: Ordering::Less,
+    },
+    Pair {
+        shows: "the same name twice",
+        first: &[5, 1],
+        second: &[5, 1],
+        before: (false, false),
+        compare: Ordering::Equal,
+    },
+];
+
+fn name(alloc: Global, numbers: &[u32]) -> Result<Name, Oom> {
     let mut name = Name::root();
     for number in numbers {
         name = name.child(alloc, *number)?;
@@ -12,75 +90,52 @@ fn name(alloc: Global, numbers: &[u32]) -> Result<Name, Fail> {
     Ok(name)
 }
 
+/// The text of a name behind one that stands there.
+fn printed(alloc: Global, numbers: &[u32]) -> Result<Vec<u8>, Oom> {
+    let mut text = Vec::from_slice(alloc, b"> ")?;
+    name(alloc, numbers)?.text_into(alloc, &mut text)?;
+    Ok(text)
+}
+
 #[test]
 fn names_are_printed(rt: HostRuntime) -> Result<(), Fail> {
-    let rows: [(&[u32], &[u8]); 4] = [
-        (&[], b"0"),
-        (&[3], b"0.3"),
-        (&[3, 1], b"0.3.1"),
-        (&[4294967295], b"0.4294967295"),
-    ];
-    for (numbers, text) in rows {
-        let mut out = Vec::from_slice(rt.alloc(), b"> ")?;
-        name(rt.alloc(), numbers)?.text_into(rt.alloc(), &mut out)?;
-        assert!(rt; out.as_slice().starts_with(b"> "));
-        assert_eq!(rt; &out.as_slice()[2..], text);
+    for (numbers, text) in NAMES {
+        let found = printed(rt.alloc(), numbers)?;
+        reads(&rt, "a name", found.as_slice(), text);
     }
     Ok(())
 }
 
+/// What the two orders say of a pair. The second name is compared as a copy.
+fn orders(alloc: Global, pair: &Pair) -> Result<((bool, bool), Ordering), Oom> {
+    let first = name(alloc, pair.first)?;
+    let second = name(alloc, pair.second)?;
+    let copy = second.copy(alloc)?;
+    let before = (path_before(&first, &second), path_before(&second, &first));
+    Ok((before, name_cmp(&first, &copy)))
+}
+
 #[test]
-fn the_fork_order_on_names(rt: HostRuntime) -> Result<(), Fail> {
-    let rows: [(&str, &[u32], &[u32], bool, bool); 5] = [
-        (
-            "the later fork is before the earlier one",
-            &[2],
-            &[1],
-            true,
-            false,
-        ),
-        ("a task is before its child", &[2], &[2, 1], true, false),
-        (
-            "a later branch is before an earlier one",
-            &[2, 1],
-            &[1],
-            true,
-            false,
-        ),
-        ("a task isn't before itself", &[2], &[2], false, false),
-        ("the root is before all", &[], &[7, 7], true, false),
-    ];
-    for (shows, a, b, there, back) in rows {
-        let a = name(rt.alloc(), a)?;
-        let b = name(rt.alloc(), b)?;
-        assert_eq!(rt; path_before(&a, &b), there, "{shows}");
-        assert_eq!(rt; path_before(&b, &a), back, "{shows}");
+fn the_two_orders_on_names(rt: HostRuntime) -> Result<(), Fail> {
+    for pair in PAIRS {
+        let found = orders(rt.alloc(), pair)?;
+        holds(&rt, pair.shows, found == (pair.before, pair.compare));
     }
     Ok(())
 }
 
-#[test]
-fn the_order_of_names(rt: HostRuntime) -> Result<(), Fail> {
-    let rows: [(&[u32], &[u32], Ordering); 4] = [
-        (&[2], &[2, 1], Ordering::Less),
-        (&[10], &[2], Ordering::Greater),
-        (&[1, 9], &[2], Ordering::Less),
-        (&[5, 1], &[5, 1], Ordering::Equal),
-    ];
-    for (a, b, order) in rows {
-        let a = name(rt.alloc(), a)?;
-        let b = name(rt.alloc(), b)?.copy(rt.alloc())?;
-        assert_eq!(rt; name_cmp(&a, &b), order);
-    }
-    Ok(())
+/// The texts of three numbers, one behind the other.
+fn numbers(alloc: Global) -> Result<Vec<u8>, Oom> {
+    let mut text = Vec::new(alloc);
+    add_number(&mut text, 4294967295)?;
+    add_signed(&mut text, -12)?;
+    add_number(&mut text, 0)?;
+    Ok(text)
 }
 
 #[test]
 fn numbers_are_printed(rt: HostRuntime) -> Result<(), Fail> {
-    let mut text = Vec::new(rt.alloc());
-    add_number(&mut text, 4294967295)?;
-    add_signed(&mut text, -12)?;
-    add_number(&mut text, 0)?;
-    assert_eq!(rt; text.as_slice(), b"4294967295-120".as_slice());
+    let text = numbers(rt.alloc())?;
+    reads(&rt, "numbers", text.as_slice(), b"4294967295-120");
     Ok(())
 }

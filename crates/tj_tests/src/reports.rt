@@ -1,11 +1,12 @@
 //! Reports and summaries of outcomes, by hand.
 use crate::outcomes::OF_A_PROMISE;
+use crate::shown::reads;
 use crate::tables::Says::{Fork, Get, New};
 use crate::tables::{Says, lists};
 use std::alloc::Global;
 use std::process::Abort;
 use std::test;
-use tj_base::{Cause, Items, Name, Oom, Shown};
+use tj_base::{Cause, Items, Name, NameList, Oom, Shown};
 use tj_body::{TableBody, is_table};
 use tj_mean::{Ending, Link, LinkList, Outcome, PlanFault, TaskLine, plan};
 use tj_report::{report_text, summary_text};
@@ -134,16 +135,20 @@ fn ending(alloc: Global, ends: Ends) -> Result<Ending, Oom> {
     Ok(ending)
 }
 
-fn told(alloc: Global, line: &Line) -> Result<TaskLine, Oom> {
-    let mut owes = Vec::new(alloc);
-    for q in line.owes {
-        owes.push(name(alloc, q)?)?;
+fn names(alloc: Global, list: &[&[u32]]) -> Result<NameList, Oom> {
+    let mut names = Vec::new(alloc);
+    for numbers in list {
+        names.push(name(alloc, numbers)?)?;
     }
+    Ok(Items::of(names))
+}
+
+fn told(alloc: Global, line: &Line) -> Result<TaskLine, Oom> {
     Ok(TaskLine {
         name: name(alloc, line.task)?,
         prints: Items::of(Vec::from_slice(alloc, line.prints)?),
         ending: ending(alloc, line.ends)?,
-        owes: Items::of(owes),
+        owes: names(alloc, line.owes)?,
     })
 }
 
@@ -160,13 +165,13 @@ fn cycle(alloc: Global, links: &[(&[u32], &[u32])]) -> Result<LinkList, Oom> {
 
 /// The outcome with these lines, and one cycle, if it has links.
 fn outcome(alloc: Global, lines: &[Line], links: &[(&[u32], &[u32])]) -> Result<Outcome, Oom> {
-    let mut list = Vec::new(alloc);
-    for line in lines {
-        list.push(told(alloc, line)?)?;
-    }
     let mut cycles = Vec::new(alloc);
     if !links.is_empty() {
         cycles.push(cycle(alloc, links)?)?;
+    }
+    let mut list = Vec::new(alloc);
+    for line in lines {
+        list.push(told(alloc, line)?)?;
     }
     Ok(Outcome {
         lines: Items::of(list),
@@ -179,34 +184,61 @@ const REPORT: &str = "0 prints 8\n0 prints -9\n0 done -3\n0.2 done @0.7\n0.2 owe
     0.7 failed broken 0.1\n0.8 failed order 0.3\n0.9 waits for 0.10\n0.10 waits for 0\n\
     alarm 0.9 waits for 0.10, 0.10 waits for 0\nmarked\n";
 
-#[test]
-fn an_outcome_of_each_kind_of_line(rt: HostRuntime) -> Result<(), test::Fail> {
-    let links: &[(&[u32], &[u32])] = &[(&[9], &[10]), (&[10], &[])];
-    let all_kinds = outcome(rt.alloc(), ALL_KINDS, links)?;
-    let text = report_text(rt.alloc(), &all_kinds)?;
-    assert_eq!(rt; text.as_slice(), REPORT.as_bytes());
-    let summary = summary_text(rt.alloc(), 7, &all_kinds)?;
-    let expected = "size 7 tasks 10 done 2 failed 6 waiting 2 owed 2 cycles 1 result -3\nmarked\n";
-    assert_eq!(rt; summary.as_slice(), expected.as_bytes());
-    Ok(())
+/// The lines and the links of an outcome, its report, a size, and the summary.
+struct Case {
+    shows: &'static str,
+    lines: &'static [Line],
+    links: &'static [(&'static [u32], &'static [u32])],
+    report: &'static str,
+    size: u32,
+    summary: &'static str,
+}
+
+const OUTCOMES: &[Case] = &[
+    Case {
+        shows: "each kind of line",
+        lines: ALL_KINDS,
+        links: &[(&[9], &[10]), (&[10], &[])],
+        report: REPORT,
+        size: 7,
+        summary: "size 7 tasks 10 done 2 failed 6 waiting 2 owed 2 cycles 1 result -3\nmarked\n",
+    },
+    Case {
+        shows: "no trouble",
+        lines: DONE,
+        links: &[],
+        report: "0 done 0\nclean\n",
+        size: 4000,
+        summary: "size 4000 tasks 1 done 1 failed 0 waiting 0 owed 0 cycles 0 result 0\nclean\n",
+    },
+    Case {
+        shows: "a root that isn't done has no result",
+        lines: FAILED,
+        links: &[],
+        report: "0 failed kind\nmarked\n",
+        size: 1,
+        summary: "size 1 tasks 1 done 0 failed 1 waiting 0 owed 0 cycles 0 result -\nmarked\n",
+    },
+];
+
+fn report_of(alloc: Global, case: &Case) -> Result<Vec<u8>, Oom> {
+    let outcome = outcome(alloc, case.lines, case.links)?;
+    report_text(alloc, &outcome)
+}
+
+fn summary_of(alloc: Global, case: &Case) -> Result<Vec<u8>, Oom> {
+    let outcome = outcome(alloc, case.lines, case.links)?;
+    summary_text(alloc, case.size, &outcome)
 }
 
 #[test]
-fn an_outcome_with_no_trouble(rt: HostRuntime) -> Result<(), test::Fail> {
-    let done = outcome(rt.alloc(), DONE, &[])?;
-    let text = report_text(rt.alloc(), &done)?;
-    assert_eq!(rt; text.as_slice(), b"0 done 0\nclean\n".as_slice());
-    let summary = summary_text(rt.alloc(), 4000, &done)?;
-    let expected = "size 4000 tasks 1 done 1 failed 0 waiting 0 owed 0 cycles 0 result 0\nclean\n";
-    assert_eq!(rt; summary.as_slice(), expected.as_bytes());
-    Ok(())
-}
-
-#[test]
-fn a_root_that_isnt_done_has_no_result(rt: HostRuntime) -> Result<(), test::Fail> {
-    let summary = summary_text(rt.alloc(), 1, &outcome(rt.alloc(), FAILED, &[])?)?;
-    let expected = "size 1 tasks 1 done 0 failed 1 waiting 0 owed 0 cycles 0 result -\nmarked\n";
-    assert_eq!(rt; summary.as_slice(), expected.as_bytes());
+fn outcomes_are_reported(rt: HostRuntime) -> Result<(), test::Fail> {
+    for case in OUTCOMES {
+        let report = report_of(rt.alloc(), case)?;
+        reads(&rt, case.shows, report.as_slice(), case.report.as_bytes());
+        let summary = summary_of(rt.alloc(), case)?;
+        reads(&rt, case.shows, summary.as_slice(), case.summary.as_bytes());
+    }
     Ok(())
 }
 
@@ -239,7 +271,7 @@ const PROGRAMS: &[(&[&[Says]], &str)] = &[
 fn reports_of_programs(rt: HostRuntime) -> Result<(), test::Fail> {
     for (written, report) in PROGRAMS {
         let text = reported(&rt, rt.alloc(), written)?;
-        assert_eq!(rt; text.as_slice(), report.as_bytes());
+        reads(&rt, report, text.as_slice(), report.as_bytes());
     }
     Ok(())
 }

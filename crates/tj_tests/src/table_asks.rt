@@ -1,160 +1,87 @@
 //! The asks of a table's body, by hand.
-ghost use Rattle.std.specs.Prelude.{◌<◌, length, IfOk, IsTrue};
-ghost use Rattle.tj_body.specs.Table.{is_row, is_table};
+ghost use Rattle.std.specs.Prelude.{◌<◌, length, IsTrue};
+ghost use Rattle.tj_body.specs.Table.{is_table};
 
-use crate::tables::places;
+use crate::shown::holds;
+use crate::tables::{Says, lists};
+use crate::transcripts::{Expected, is_expected};
 use std::alloc::Global;
 use std::process::Abort;
 use std::test::Fail;
-use tj_base::{Items, Oom, Pay, Trouble};
-use tj_body::{Answer, Ask, Body, Row, RowList, TableBody};
+use tj_base::{Oom, Pay, Trouble};
+use tj_body::{Answer, Ask, Body, RowList, TableBody, is_table};
 
-/// The table of one list with one row.
-fn table(alloc: Global, row: Row) -> Result<[RowList; 1], Oom>
-    requires { IsTrue (is_row 1 row) }
-    ensures { IfOk result (λ lists. IsTrue (is_table lists) × (0 < length lists)) }
-{
-    let mut rows = Vec::new(alloc);
-    rows.push(row)?;
-    Ok([Items::of(rows)])
-}
+const NUM: Pay = Pay::Num(5);
 
-/// Asserts what a table's one row asks, of a task that has the place 0 alone.
-fn asks(
-    rt: &impl Abort,
-    alloc: Global,
-    shows: &str,
-    row: Row,
-    expected: Ask<TableBody>,
-) -> Result<(), Oom>
-    requires { IsTrue (is_row 1 row) }
-{
-    let lists = table(alloc, row)?;
+const KIND: Expected = Expected::Fail(Trouble::Kind);
+
+/// What a row of a table shows, the row, and what it asks of a task that has the place 0 alone.
+const ASKS: &[(&str, Says, Expected)] = &[
+    ("new", Says::New, Expected::New),
+    ("set", Says::Set(0, NUM), Expected::Set(0, NUM)),
+    ("get", Says::Get(0), Expected::Get(0)),
+    ("join", Says::Join(0), Expected::Join(0)),
+    ("get or", Says::GetOr(0), Expected::GetOr(0)),
+    ("join or", Says::JoinOr(0), Expected::JoinOr(0)),
+    ("emit", Says::Emit(8), Expected::Emit(8)),
+    ("end", Says::End(Pay::Ref(0)), Expected::End(Pay::Ref(0))),
+    (
+        "fail",
+        Says::Fail(Trouble::Arith),
+        Expected::Fail(Trouble::Arith),
+    ),
+    (
+        "a fork starts another list",
+        Says::Fork(0, &[0, 0], &[]),
+        Expected::Fork(&[0, 0], &[]),
+    ),
+    ("set of a place too many", Says::Set(1, NUM), KIND),
+    ("set to a place too many", Says::Set(0, Pay::Ref(1)), KIND),
+    ("join of a place too many", Says::Join(1), KIND),
+    ("end with a place too many", Says::End(Pay::Ref(1)), KIND),
+];
+
+/// Whether a table's one row asks so.
+fn asks(rt: &impl Abort, alloc: Global, says: Says, expected: Expected) -> Result<bool, Oom> {
+    let lists = lists(alloc, &[&[says]])?;
+    if lists.is_empty() || !is_table(&lists) {
+        panic!(rt; "no table");
+    }
     let mut body = TableBody::new(&lists, 0);
     let ask = body.next(alloc, Answer::Start)?;
-    assert!(rt; ask == expected, "{shows}");
-    Ok(())
+    Ok(is_expected(&ask, expected))
 }
 
 #[test]
 fn each_row_is_asked(rt: HostRuntime) -> Result<(), Fail> {
-    let alloc = rt.alloc();
-    let num = Pay::Num(5);
-    asks(&rt, alloc, "new", Row::New, Ask::New)?;
-    asks(
-        &rt,
-        alloc,
-        "set",
-        Row::Set { p: 0, v: num },
-        Ask::Set { p: 0, v: num },
-    )?;
-    asks(&rt, alloc, "get", Row::Get { p: 0 }, Ask::Get { p: 0 })?;
-    asks(&rt, alloc, "join", Row::Join { t: 0 }, Ask::Join { t: 0 })?;
-    asks(
-        &rt,
-        alloc,
-        "get or",
-        Row::GetOr { p: 0 },
-        Ask::GetOr { p: 0 },
-    )?;
-    asks(
-        &rt,
-        alloc,
-        "join or",
-        Row::JoinOr { t: 0 },
-        Ask::JoinOr { t: 0 },
-    )?;
-    asks(&rt, alloc, "emit", Row::Emit(8), Ask::Emit(8))?;
-    asks(
-        &rt,
-        alloc,
-        "end",
-        Row::End(Pay::Ref(0)),
-        Ask::End(Pay::Ref(0)),
-    )?;
-    asks(
-        &rt,
-        alloc,
-        "fail",
-        Row::Fail(Trouble::Arith),
-        Ask::Fail(Trouble::Arith),
-    )?;
-    Ok(())
-}
-
-#[test]
-fn a_place_too_many_is_a_fault_of_kind(rt: HostRuntime) -> Result<(), Fail> {
-    let alloc = rt.alloc();
-    let num = Pay::Num(5);
-    asks(
-        &rt,
-        alloc,
-        "set",
-        Row::Set { p: 1, v: num },
-        Ask::Fail(Trouble::Kind),
-    )?;
-    asks(
-        &rt,
-        alloc,
-        "set to",
-        Row::Set {
-            p: 0,
-            v: Pay::Ref(1),
-        },
-        Ask::Fail(Trouble::Kind),
-    )?;
-    asks(
-        &rt,
-        alloc,
-        "join",
-        Row::Join { t: 1 },
-        Ask::Fail(Trouble::Kind),
-    )?;
-    asks(
-        &rt,
-        alloc,
-        "end",
-        Row::End(Pay::Ref(1)),
-        Ask::Fail(Trouble::Kind),
-    )?;
-    Ok(())
-}
-
-#[test]
-fn a_fork_row_starts_another_list(rt: HostRuntime) -> Result<(), Fail> {
-    let alloc = rt.alloc();
-    let fork = Row::Fork {
-        list: 0,
-        pass: places(alloc, &[0, 0])?,
-        hand: places(alloc, &[])?,
-    };
-    let lists = table(alloc, fork)?;
-    let mut body = TableBody::new(&lists, 0);
-    match body.next(alloc, Answer::Start)? {
-        Ask::Fork {
-            body: _child,
-            pass,
-            hand,
-        } => {
-            assert_eq!(rt; pass.items(), [0, 0].as_slice());
-            assert!(rt; hand.items().is_empty());
-        }
-        _ => panic!(rt; "no fork"),
+    for (shows, says, expected) in ASKS {
+        holds(&rt, shows, asks(&rt, rt.alloc(), *says, *expected)?);
     }
     Ok(())
 }
 
+/// Whether a table of one row asks it and ends then, and its twin stays behind.
+fn ends_behind(alloc: Global, lists: &[RowList]) -> Result<bool, Oom>
+    requires table { IsTrue (is_table lists.now) }
+    requires some { 0 < length lists.now }
+{
+    let mut body = TableBody::new(lists, 0);
+    let first = body.next(alloc, Answer::Start)?;
+    if first != Ask::New {
+        return Ok(false);
+    }
+    let twin = body.twin(alloc)?;
+    let same = twin == body;
+    let last = body.next(alloc, Answer::Local(1))?;
+    Ok(same && last == Ask::End(Pay::Num(0)) && twin != body)
+}
+
 #[test]
 fn rows_come_in_order_and_then_the_end(rt: HostRuntime) -> Result<(), Fail> {
-    let alloc = rt.alloc();
-    let lists = table(alloc, Row::New)?;
-    let mut body = TableBody::new(&lists, 0);
-    let first = body.next(alloc, Answer::Start)?;
-    assert!(rt; first == Ask::New);
-    let twin = body.twin(alloc)?;
-    assert!(rt; twin == body);
-    let last = body.next(alloc, Answer::Local(1))?;
-    assert!(rt; last == Ask::End(Pay::Num(0)));
-    assert!(rt; twin != body);
+    let lists = lists(rt.alloc(), &[&[Says::New]])?;
+    if lists.is_empty() || !is_table(&lists) {
+        panic!(rt; "no table");
+    }
+    assert!(rt; ends_behind(rt.alloc(), &lists)?);
     Ok(())
 }

@@ -1,7 +1,7 @@
 //! Scripts whose tasks wait, by hand from the rules: what each task of the meaning is answered and
 //! asks. The transcript of a task that waits for good, or that fails by what it asked, ends there.
 use crate::transcripts::Expected::{Emit, End, Fail, Fork, Get, GetOr, Join, JoinOr, New, Set};
-use crate::transcripts::{Row, script_follows};
+use crate::transcripts::{Row, scripts_follow};
 use std::test;
 use tj_base::{Pay, Trouble};
 use tj_body::Answer::{Done, Local, Lost, Num, RefAt, Start};
@@ -218,24 +218,15 @@ const BROKEN_CELLS: &[Row] = &[
 
 #[test]
 fn promises(rt: HostRuntime) -> Result<(), test::Fail> {
-    for row in PROMISES {
-        script_follows(&rt, rt.alloc(), row)?;
-    }
-    Ok(())
+    scripts_follow(&rt, rt.alloc(), PROMISES)
 }
 
 #[test]
 fn joins(rt: HostRuntime) -> Result<(), test::Fail> {
-    for row in JOINS {
-        script_follows(&rt, rt.alloc(), row)?;
-    }
-    Ok(())
+    scripts_follow(&rt, rt.alloc(), JOINS)
 }
 
 #[test]
 fn broken_cells(rt: HostRuntime) -> Result<(), test::Fail> {
-    for row in BROKEN_CELLS {
-        script_follows(&rt, rt.alloc(), row)?;
-    }
-    Ok(())
+    scripts_follow(&rt, rt.alloc(), BROKEN_CELLS)
 }
