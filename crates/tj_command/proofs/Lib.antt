@@ -1,0 +1,4 @@
+pub mod Inputs
+pub mod Puts
+pub mod Scripts
+pub mod ShortNumerals

@@ -1,0 +1,26 @@
+//! From an input to the script that it is, or to what is wrong with it first.
+ghost use Rattle.std.specs.Prelude.{◌⊎◌, List, ℕ, IfOk, IfErr};
+ghost use Rattle.tj_embed.specs.ScriptTexts.{most_bytes, IsFirstFault, IsMemory, IsScriptOf, IsSomeScript};
+ghost use Rattle.tj_ports.specs.Reading.{IsWithin};
+ghost use Rattle.tj_command.specs.Inputs.{IsReadOf};
+ghost use Rattle.tj_syntax.specs.View as view;
+
+use std::alloc::Global;
+use tj_embed::{NoScript, position_behind, script_in};
+use tj_ports::ReadEnd;
+use tj_syntax::Script;
+
+/// The script that an input is.
+pub fn script_of(alloc: Global, input: &ReadEnd) -> Result<Script, NoScript>
+    requires { IsWithin most_bytes input.now }
+    ensures ok { IfOk result (λ script. (all : List ℕ) → IsReadOf all input.now
+        → IsScriptOf all (view.script script)) }
+    ensures script { IfOk result (λ script. IsSomeScript (view.script script)) }
+    ensures fault { IfErr result (λ fault. IsMemory fault
+        ⊎ ((all : List ℕ) → IsReadOf all input.now → IsFirstFault all fault)) }
+{
+    match input {
+        ReadEnd::Whole(text) => script_in(alloc, text.items()),
+        ReadEnd::Long(text) => Err(NoScript::Long(position_behind(text.items()))),
+    }
+}
