@@ -1,42 +1,31 @@
 -- Words and an input have one output at most, from the laws of the crates below.
-use Rattle.tj_program.proofs.Prelude.{Command, Err, Global, HasLimits, HasOneOutcome, IsChatOutcome, IsJournalFault}
+use Rattle.tj_program.proofs.Prelude.{Command, Global, HasLimits, HasOneOutcome, IsChatOutcome, IsJournalFault}
 use Rattle.tj_program.proofs.Prelude.{IsJudging, IsKnown, IsKnownOf, IsListed, IsOutput, IsRelayRun, IsRun, IsRunOf}
-use Rattle.tj_program.proofs.Prelude.{IsScript, IsStartOf, Limits, List, NoScript, Ok, Outcome, Point, Report, Result}
-use Rattle.tj_program.proofs.Prelude.{Root, Some, Start, Status, String, Summary, Task, Tok, Token, Told, [], ap, arith}
-use Rattle.tj_program.proofs.Prelude.{bad_line, chat_meaning, ended, full, inl, inr, is_marked, journal_fault, kinds_of}
+use Rattle.tj_program.proofs.Prelude.{IsStartOf, Limits, List, Outcome, Point, Report}
+use Rattle.tj_program.proofs.Prelude.{Root, Some, Start, Status, String, Summary, Task, Told, [], ap, arith}
+use Rattle.tj_program.proofs.Prelude.{bad_line, chat_meaning, ended, full, inl, inr, is_marked, journal_fault}
 use Rattle.tj_program.proofs.Prelude.{length, lines_of, meaning, most_bytes, of_command, refl, relay_chats, script_text}
 use Rattle.tj_program.proofs.Prelude.{start_of, status_of, subst, sym, text_of, usage, ℕ, ◌<◌, ◌∙◌, ◌≡◌, ◌≤◌, ◌⊎◌}
 use Rattle.tj_core.specs.declared.event.Event.{Event}
 use Rattle.tj_core.specs.Journals.Laws.{EventsAreOne, FirstFaultIsOne, EventsHaveNoFault, JudgingIsOne}
 use Rattle.tj_eval.specs.Statements.{TaskState, task_of}
-use Rattle.tj_lex.specs.declared.token.LexFault.{LexFault}
-use Rattle.tj_lex.specs.Tokens.{Answers, AreTokens}
 use Rattle.tj_core.specs.Journals.Judging.{IsJudged}
 use Rattle.tj_report.specs.ReportTexts.{report}
-use Rattle.tj_syntax.specs.declared.fault.ParseFault.{ParseFault}
 use Rattle.tj_syntax.specs.Listing.{listing}
-use Rattle.tj_syntax.specs.Faults.{EndsInEnd}
 use Rattle.tj_program.specs.Output.{IsCommandOutput, IsRefused, IsStart, IsStartOfText}
-use Rattle.tj_embed.specs.ScriptTexts.{IsScriptOf, IsFirstFault, too_long, in_tokens, in_grammar}
-use Rattle.tj_program.specs.ScriptTexts.{IsFaultLine, fault_line}
-use Rattle.tj_embed.specs.declared.script_text.NoScript.TheVariants.{Tokens, Grammar}
+use Rattle.tj_embed.specs.ScriptTexts.{IsScriptOf, too_long}
+use Rattle.tj_command.specs.ScriptTexts.{IsFaultLine, fault_line}
+use Rattle.tj_command.proofs.Scripts.{AreOneScript, no_fault, one_fault, one_script_of}
 use Rattle.tj_program.proofs.KnownRuns.{one_known}
 use Rattle.tj_program.proofs.Lines.CommandLines.{one_command, within_limits}
 use Rattle.tj_core.specs.Journals.Lines as journal
-use Rattle.tj_lex.specs.Tokens as tokens
-use Rattle.tj_syntax.specs.Faults as grammar
 use Rattle.tj_program.specs.Judgings as judgings
 use Rattle.tj_program.specs.RelayRuns as relays
 use Rattle.tj_program.specs.declared.command.Command.TheVariants as command
 
 -- What the crates below leave no choice in.
 pub record AreOne : Type 0 where
-  pub answer : (text : List ℕ) (a b : Result (List Token) LexFault) → Answers text a → Answers text b → a ≡ b
-  pub script : (tokens : List Tok) (a b : List Task) → IsScript tokens a → IsScript tokens b → a ≡ b
-  pub fault : (tokens : List Token) (a b : ParseFault) → EndsInEnd tokens → grammar.IsFirstFault tokens a
-      → grammar.IsFirstFault tokens b → a ≡ b
-  pub no_fault : (tokens : List Token) (script : List Task) (fault : ParseFault) → EndsInEnd tokens
-      → IsScript (kinds_of tokens) script → grammar.IsFirstFault tokens fault → ⊥
+  pub scripts : AreOneScript
   pub outcome : (ps : List (Point TaskState)) → HasOneOutcome ps
   pub lists : (size cells : ℕ) → 0 < size → size ≤ 4000 → (a b : Outcome)
       → IsChatOutcome (chat_meaning (relay_chats size) cells) a
@@ -50,55 +39,13 @@ pub record AreOne : Type 0 where
 abbrev Same : Status → List ℕ → Status → List ℕ → Type 0
 Same a s b t = (a ≡ b) × (s ≡ t)
 
--- what is computed well is one
-pub ok_is : {A E : Type 0} (a b : A) → ◌≡◌ {A = Result A E} (Ok a) (Ok b) → a ≡ b
-ok_is a b e = cc
-
-err_is : {A E : Type 0} (a b : E) → ◌≡◌ {A = Result A E} (Err a) (Err b) → a ≡ b
-err_is a b e = cc
-
+-- what is there is one
 some_is : {A : Type 0} (a b : A) → Some a ≡ Some b → a ≡ b
 some_is a b e = cc
 
-ends : (text : List ℕ) (found : List Token) → AreTokens text found → EndsInEnd found
-ends text found are = record { front = are.front; last = are.last; whole = are.whole; is_end = are.ends.what }
-
 module _ (one : AreOne) where
-  one_tokens : (text : List ℕ) (a b : List Token) → AreTokens text a → AreTokens text b → a ≡ b
-  one_tokens text a b h k = ok_is a b (one.answer text (Ok a) (Ok b) h k)
-
-  not_both : (text : List ℕ) (found : List Token) (fault : LexFault) → AreTokens text found
-      → tokens.IsFirstFault text fault → ⊥
-  not_both text found fault h k = let e : Ok found ≡ Err fault = one.answer text (Ok found) (Err fault) h k in cc
-
-  one_script_of : (text : List ℕ) (a b : List Task) → IsScriptOf text a → IsScriptOf text b → a ≡ b
-  one_script_of text a b h k = one.script (kinds_of h.tokens) a b h.is_script
-      (subst (λ l. IsScript (kinds_of l) b) (one_tokens text k.tokens h.tokens k.has_tokens h.has_tokens) k.is_script)
-
-  one_fault : (text : List ℕ) (a b : NoScript) → IsFirstFault text a → IsFirstFault text b → a ≡ b
-  one_fault text a b (too_long l) (too_long m) = refl
-  one_fault text a b (too_long l) (in_tokens g short q) = absurd (omega arith)
-  one_fault text a b (too_long l) (in_grammar u g short has q) = absurd (omega arith)
-  one_fault text a b (in_tokens f short p) (too_long m) = absurd (omega arith)
-  one_fault text a b (in_tokens f short p) (in_tokens g few q) =
-      ap (λ x. Tokens x) (err_is f g (one.answer text (Err f) (Err g) p q))
-  one_fault text a b (in_tokens f short p) (in_grammar u g few has q) = absurd (not_both text u f has p)
-  one_fault text a b (in_grammar t f short has p) (too_long m) = absurd (omega arith)
-  one_fault text a b (in_grammar t f short has p) (in_tokens g few q) = absurd (not_both text t g has q)
-  one_fault text a b (in_grammar t f short has p) (in_grammar u g few also q) =
-      ap (λ x. Grammar x) (one.fault t f g (ends text t has) p
-      (subst (λ l. grammar.IsFirstFault l g) (one_tokens text u t also has) q))
-
-  no_fault : (text : List ℕ) (script : List Task) (fault : NoScript) → IsScriptOf text script
-      → IsFirstFault text fault → ⊥
-  no_fault text script fault is (too_long l) = let short : length text ≤ most_bytes = is.short in omega arith
-  no_fault text script fault is (in_tokens f short p) = not_both text is.tokens f is.has_tokens p
-  no_fault text script fault is (in_grammar t f short has p) =
-      one.no_fault t script f (ends text t has)
-      (subst (λ l. IsScript (kinds_of l) script) (one_tokens text is.tokens t is.has_tokens has) is.is_script) p
-
   one_line : (text a b : List ℕ) → IsFaultLine text a → IsFaultLine text b → a ≡ b
-  one_line text a b f g = f.2 ∙ ap fault_line (one_fault text f.0 g.0 f.1 g.1) ∙ sym g.2
+  one_line text a b f g = f.2 ∙ ap fault_line (one_fault one.scripts text f.0 g.0 f.1 g.1) ∙ sym g.2
 
   -- the line of a fault or what is so of a script is one where it is one of a script
   one_or_refused : (IsSo : Status → List ℕ → Type 0) (input : List ℕ)
@@ -107,9 +54,9 @@ module _ (one : AreOne) where
       → IsRefused input a s ⊎ IsSo a s → IsRefused input b t ⊎ IsSo b t → Same a s b t
   one_or_refused IsSo input script is_one a b s t (inl f) (inl g) = (f.0 ∙ sym g.0, one_line input s t f.1 g.1)
   one_or_refused IsSo input script is_one a b s t (inl f) (inr k) =
-      let is = script b t k in absurd (no_fault input is.0 f.1.0 is.1 f.1.1)
+      let is = script b t k in absurd (no_fault one.scripts input is.0 f.1.0 is.1 f.1.1)
   one_or_refused IsSo input script is_one a b s t (inr h) (inl g) =
-      let is = script a s h in absurd (no_fault input is.0 g.1.0 is.1 g.1.1)
+      let is = script a s h in absurd (no_fault one.scripts input is.0 g.1.0 is.1 g.1.1)
   one_or_refused IsSo input script is_one a b s t (inr h) (inr k) = is_one a b s t h k
 
   one_start_of : (limits : Limits) (script : List Task) (s t : Start) → IsStartOf limits script s
@@ -122,7 +69,7 @@ module _ (one : AreOne) where
   one_start_of_text : (limits : Limits) (text : List ℕ) (s t : Start) → IsStartOfText limits text s
       → IsStartOfText limits text t → t ≡ s
   one_start_of_text limits text s t h k =
-      let same = one_script_of text k.0 h.0 k.1 h.1 in
+      let same = one_script_of one.scripts text k.0 h.0 k.1 h.1 in
       one_start_of limits h.0 s t h.2 (subst (λ script. IsStartOf limits script t) same k.2)
 
   one_start : (c : Command) (input : List ℕ) (s t : Start) → IsStart c input s → IsStart c input t → t ≡ s
@@ -159,7 +106,7 @@ module _ (one : AreOne) where
   one_listing : (input : List ℕ) (a b : Status) (s t : List ℕ) → IsListed input a s → IsListed input b t
       → Same a s b t
   one_listing input a b s t h k =
-      (h.2 ∙ sym k.2, h.3 ∙ ap listing (one_script_of input h.0 k.0 h.1 k.1) ∙ sym k.3)
+      (h.2 ∙ sym k.2, h.3 ∙ ap listing (one_script_of one.scripts input h.0 k.0 h.1 k.1) ∙ sym k.3)
 
   one_journal_fault : (bytes : List ℕ) (m n : ℕ) → IsJournalFault bytes m → IsJournalFault bytes n → m ≡ n
   one_journal_fault bytes m n (judgings.too_long l) (judgings.too_long k) = refl

@@ -65,20 +65,20 @@ pub use Rattle.tj_program.specs.Output.{TakesInput, of_command, takes_input, usa
 pub use Rattle.tj_program.specs.RelayRuns.{IsRelayRun, relay_chats, relay_rules, relay_start}
 pub use Rattle.tj_program.specs.Runs.{IsOutcomeOf, IsRunOf, IsStartOf, NeedsMore, Start, ended, full, script_program}
 pub use Rattle.tj_program.specs.Runs.{start_of, started, status_of, text_of}
-pub use Rattle.tj_program.specs.ScriptTexts.{fault_line}
+pub use Rattle.tj_command.specs.ScriptTexts.{fault_line}
 pub use Rattle.tj_program.specs.Texts.{full_line, journal_fault}
 pub use Rattle.tj_program.specs.declared.command.Command.{Command}
 pub use Rattle.tj_program.specs.declared.command.Command.TheVariants.{Gen, Judge, Known, List as list, Plan, Relay}
 pub use Rattle.tj_program.specs.declared.mode.Mode.{Mode}
 pub use Rattle.tj_program.specs.declared.mode.OptionName.{OptionName}
 pub use Rattle.tj_program.specs.declared.mode.OptionName.TheVariants.{Cells, Size, Steps, Workers}
-pub use Rattle.tj_program.specs.declared.output.Output.{Output}
-pub use Rattle.tj_program.specs.declared.script_run.Limits.{Limits}
+pub use Rattle.tj_command.specs.declared.output.Output.{Output}
+pub use Rattle.tj_command.specs.declared.limits.Limits.{Limits}
 pub use Rattle.tj_program.specs.declared.script_run.Told.{Told}
 pub use Rattle.tj_program.specs.declared.script_run.Told.TheVariants.{Report, Root, Summary}
-pub use Rattle.tj_program.specs.declared.status.Status.{Status}
-pub use Rattle.tj_program.specs.declared.status.Status.TheVariants.{Clean, Full, Marked, Memory, ReadFault, Script}
-pub use Rattle.tj_program.specs.declared.status.Status.TheVariants.{Usage, WriteFault}
+pub use Rattle.tj_command.specs.declared.status.Status.{Status}
+pub use Rattle.tj_command.specs.declared.status.Status.TheVariants.{Clean, Full, Marked, Memory, ReadFault, Script}
+pub use Rattle.tj_command.specs.declared.status.Status.TheVariants.{Usage, WriteFault}
 pub use Rattle.tj_syntax.proofs.Listed.Again.{AreFine, IsFine, fine-append}
 pub use Rattle.tj_syntax.proofs.Sends.{expr_sync, script_sync, stmt_sync}
 pub use Rattle.tj_syntax.specs.Faults.{IsScript, kinds_of}

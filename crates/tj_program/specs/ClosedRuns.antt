@@ -16,8 +16,8 @@ use Rattle.tj_program.specs.declared.command.Command.{Command}
 use Rattle.tj_program.specs.declared.command.Command.TheVariants.{Run, Gen, Relay, Watch}
 use Rattle.tj_program.specs.declared.script_run.Told.{Told}
 use Rattle.tj_program.specs.declared.script_run.Told.TheVariants.{Report, Root, Summary}
-use Rattle.tj_program.specs.declared.status.Status.{Status}
-use Rattle.tj_program.specs.declared.status.Status.TheVariants.{Clean, Marked}
+use Rattle.tj_command.specs.declared.status.Status.{Status}
+use Rattle.tj_command.specs.declared.status.Status.TheVariants.{Clean, Marked}
 
 -- the status is that of an outcome
 abbrev pub HasOutcome : Status → Type 0

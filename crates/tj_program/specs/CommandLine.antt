@@ -1,12 +1,13 @@
 -- The form of the command line: a mode, then items in any order, each at most once.
 use Rattle.std.specs.Prelude.{ℕ, ◌≡◌, ◌≤◌, Bool, true, false, List, [], ◌∷◌, Option, Some, None, String, string_bytes}
-use Rattle.std.specs.Prelude.{codes, if◌then◌else◌, length, map}
+use Rattle.std.specs.Prelude.{codes, if◌then◌else◌, map}
 use Rattle.std.specs.List.{All, IsDistinct, flat_map, list_any}
 use Rattle.std.specs.Option.{IsSomeAnd, option_map_or}
-use Rattle.std.specs.Str.{all_ascii_digits, bytes_eq}
+use Rattle.std.specs.Str.{bytes_eq}
 use Rattle.std.specs.Str.Parse.{digits_value}
 use Rattle.std.specs.declared.alloc.Global.{Global}
 use Rattle.tj_base.specs.declared.cell.TheConstants.{MAX_CELLS}
+pub use Rattle.tj_command.specs.Numerals.{IsShortNumeral}
 use Rattle.tj_core.specs.declared.births.TheConstants.{MAX_CORE_CELLS}
 use Rattle.tj_eval.specs.declared.body.TheConstants.{MAX_STEPS}
 use Rattle.tj_gen.specs.declared.script.TheConstants.{MAX_SIZE}
@@ -85,12 +86,6 @@ abbrev pub has_flag : Mode → Bool
 has_flag modes.Run = true
 has_flag modes.Plan = true
 has_flag _ = false
-
--- 1 to 10 decimal digits
-pub record IsShortNumeral (digits : List ℕ) : Type 0 where
-  pub some : 1 ≤ length digits
-  pub few : length digits ≤ 10
-  pub decimal : all_ascii_digits digits ≡ true
 
 -- the number is from 1 to the option's greatest in the mode, which has the option
 abbrev pub IsWithin : Mode → OptionName → ℕ → Type 0

@@ -1,35 +1,15 @@
 -- A text on its way to the sink.
-use Rattle.std.specs.Prelude.{ℕ, ◌≡◌, ◌<◌, ◌⊎◌, List, Option, Some, String, ◌++◌, length}
-use Rattle.std.specs.Io.KnownBytes.{Appends}
+use Rattle.std.specs.Prelude.{ℕ, List, Option, String}
 use Rattle.std.specs.declared.alloc.Global.{Global}
-use Rattle.tj_ports.specs.Faults.{HasFault}
-use Rattle.tj_ports.specs.Putting.{GrowsByPart}
+pub use Rattle.tj_command.specs.Delivery.{HasText, IsPutAs}
+use Rattle.tj_command.specs.Delivery.{IsAnsweredBy, IsPartOf}
+use Rattle.tj_command.specs.declared.status.Status.{Status}
 use Rattle.tj_program.specs.Output.{IsOutput}
-use Rattle.tj_program.specs.declared.status.Status.{Status}
-use Rattle.tj_program.specs.declared.status.Status.TheVariants.{ReadFault, WriteFault, Memory}
-
--- the status belongs to a text, and not to a port that failed or to memory
-abbrev pub HasText : Status → Type 0
-HasText ReadFault = ⊥
-HasText WriteFault = ⊥
-HasText Memory = ⊥
-HasText _ = Unit {0}
 
 -- the sink holds the output besides what it held, and the status is the output's; or memory was wanting
 abbrev pub IsAnswered : List (String Global) → List ℕ → List ℕ → Status → Option (List ℕ) → Type 0
-IsAnswered words input held status now =
-    ((text : List ℕ) × IsOutput words input status text × (now ≡ Some (held ++ text)))
-    ⊎ ((status ≡ Memory) × (now ≡ Some held))
+IsAnswered words input = IsAnsweredBy (IsOutput words input)
 
 -- a part of the output was put, and not all of it
 abbrev pub IsOutputPart : List (String Global) → List ℕ → Option (List ℕ) → Option (List ℕ) → Type 0
-IsOutputPart words input before after = (status : Status) × (text : List ℕ) × IsOutput words input status text
-    × GrowsByPart before after text
-
--- a text of this status was put whole, or the sink failed before the text's end, and had no room for it without a fault
-abbrev pub IsPutAs : (HasRoom : ℕ → Type 0) → Status → List ℕ → Option (List ℕ) → Option (List ℕ) → ℕ → ℕ → Status
-    → Type 0
-IsPutAs HasRoom status text before after count_before count_after answer =
-    ((answer ≡ status) × Appends before after text)
-    ⊎ ((answer ≡ WriteFault) × GrowsByPart before after text × HasFault count_before count_after
-    × ((room : ℕ) → HasRoom room → room < length text))
+IsOutputPart words input = IsPartOf (IsOutput words input)

@@ -5,4 +5,3 @@ pub mod LineWords
 pub mod Inputs
 pub mod ClosedOutputs
 pub mod WatchTells
-pub mod ScriptRuns

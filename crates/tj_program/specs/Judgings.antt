@@ -7,8 +7,8 @@ use Rattle.tj_lex.specs.Positions.{position_after}
 use Rattle.tj_program.specs.Runs.{status_of}
 use Rattle.tj_embed.specs.ScriptTexts.{most_bytes}
 use Rattle.tj_program.specs.Texts.{journal_fault}
-use Rattle.tj_program.specs.declared.status.Status.{Status}
-use Rattle.tj_program.specs.declared.status.Status.TheVariants.{Script}
+use Rattle.tj_command.specs.declared.status.Status.{Status}
+use Rattle.tj_command.specs.declared.status.Status.TheVariants.{Script}
 
 -- the line of a journal's fault: where its first byte too many stands, or else the first that isn't one of an event
 pub data IsJournalFault (journal : List ℕ) : ℕ → Type 0 where

@@ -8,8 +8,8 @@ use Rattle.tj_known.specs.KnownTexts.{is_against, known_text}
 use Rattle.tj_known.specs.declared.known.KnownLine.{KnownLine}
 use Rattle.tj_program.specs.Runs.{Start, NeedsMore, status_of}
 use Rattle.tj_program.specs.Texts.{full_line}
-use Rattle.tj_program.specs.declared.status.Status.{Status}
-use Rattle.tj_program.specs.declared.status.Status.TheVariants.{Full}
+use Rattle.tj_command.specs.declared.status.Status.{Status}
+use Rattle.tj_command.specs.declared.status.Status.TheVariants.{Full}
 
 -- some join is against the fork order
 abbrev pub has_against : List KnownLine → Bool

@@ -4,8 +4,6 @@ pub mod Generated
 pub mod Judgings
 pub mod Output
 pub mod Runs
-pub mod ScriptTexts
-pub mod Statuses
 pub mod StrictRuns
 pub mod Texts
 pub mod Inner

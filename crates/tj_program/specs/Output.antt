@@ -10,16 +10,16 @@ use Rattle.tj_program.specs.KnownRuns.{IsKnownOf}
 use Rattle.tj_program.specs.RelayRuns.{IsRelayRun}
 use Rattle.tj_program.specs.Runs.{Start, IsStartOf, IsRunOf}
 use Rattle.tj_embed.specs.ScriptTexts.{IsScriptOf}
-use Rattle.tj_program.specs.ScriptTexts.{IsFaultLine}
+use Rattle.tj_command.specs.ScriptTexts.{IsFaultLine}
 use Rattle.tj_program.specs.Texts.{usage_line}
 use Rattle.tj_program.specs.declared.command.Command.{Command}
 use Rattle.tj_program.specs.declared.command.Command.TheVariants.{Run, Plan, List as list, Judge, Gen, Known}
 use Rattle.tj_program.specs.declared.command.Command.TheVariants.{Relay, Watch}
-use Rattle.tj_program.specs.declared.script_run.Limits.{Limits}
+use Rattle.tj_command.specs.declared.limits.Limits.{Limits}
 use Rattle.tj_program.specs.declared.script_run.Told.{Told}
 use Rattle.tj_program.specs.declared.script_run.Told.TheVariants.{Report, Root, Summary}
-use Rattle.tj_program.specs.declared.status.Status.{Status}
-use Rattle.tj_program.specs.declared.status.Status.TheVariants.{Clean, Usage, Script}
+use Rattle.tj_command.specs.declared.status.Status.{Status}
+use Rattle.tj_command.specs.declared.status.Status.TheVariants.{Clean, Usage, Script}
 
 -- the run of the script that a text is, under these limits, begins with this
 abbrev pub IsStartOfText : Limits → List ℕ → Start → Type 0

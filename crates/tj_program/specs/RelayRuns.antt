@@ -14,8 +14,8 @@ use Rattle.tj_mean.specs.Outcomes.{is_marked}
 use Rattle.tj_report.specs.ReportTexts.{report}
 use Rattle.tj_program.specs.Runs.{StartOf, started, status_of}
 use Rattle.tj_program.specs.Texts.{full_line}
-use Rattle.tj_program.specs.declared.status.Status.{Status}
-use Rattle.tj_program.specs.declared.status.Status.TheVariants.{Full}
+use Rattle.tj_command.specs.declared.status.Status.{Status}
+use Rattle.tj_command.specs.declared.status.Status.TheVariants.{Full}
 
 -- what the tasks of a relay go by
 abbrev pub relay_rules : ChatRules Relay

@@ -1,5 +1,5 @@
 -- Runs of scripts: what a run begins with, and what it gives, which is that it is full, or its outcome as it is told.
-use Rattle.std.specs.Prelude.{ℕ, ◌≡◌, Bool, true, false, List}
+use Rattle.std.specs.Prelude.{ℕ, ◌≡◌, Bool, List}
 use Rattle.tj_body.specs.Programs.{Program, program_of}
 use Rattle.tj_body.specs.Rounds.{IsFull, meaning}
 use Rattle.tj_eval.specs.Bodies.{IsMainBody, script_places, script_awaits, script_left, script_asks, script_then}
@@ -11,16 +11,12 @@ use Rattle.tj_report.specs.SummaryTexts.{summary}
 use Rattle.tj_syntax.specs.Trees.{Task}
 use Rattle.tj_program.specs.RootLines.{root_line}
 use Rattle.tj_program.specs.Texts.{full_line}
-use Rattle.tj_program.specs.declared.script_run.Limits.{Limits}
+use Rattle.tj_command.specs.declared.limits.Limits.{Limits}
 use Rattle.tj_program.specs.declared.script_run.Told.{Told}
 use Rattle.tj_program.specs.declared.script_run.Told.TheVariants.{Report, Root, Summary}
-use Rattle.tj_program.specs.declared.status.Status.{Status}
-use Rattle.tj_program.specs.declared.status.Status.TheVariants.{Clean, Marked, Full}
-
--- the status of what is marked, and of what isn't
-abbrev pub status_of : Bool → Status
-status_of true = Marked
-status_of false = Clean
+pub use Rattle.tj_command.specs.Statuses.{status_of}
+use Rattle.tj_command.specs.declared.status.Status.{Status}
+use Rattle.tj_command.specs.declared.status.Status.TheVariants.{Full}
 
 -- the text of an outcome, as it is told
 abbrev pub text_of : Told → Outcome → List ℕ

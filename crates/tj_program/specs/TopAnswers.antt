@@ -15,8 +15,8 @@ use Rattle.tj_program.specs.StrictRuns.{StrictRunsNeverWait}
 use Rattle.tj_program.specs.Texts.{usage_line}
 use Rattle.tj_program.specs.declared.command.Command.{Command}
 use Rattle.tj_program.specs.declared.command.Command.TheVariants.{Known}
-use Rattle.tj_program.specs.declared.status.Status.{Status}
-use Rattle.tj_program.specs.declared.status.Status.TheVariants.{Usage, ReadFault, WriteFault, Memory}
+use Rattle.tj_command.specs.declared.status.Status.{Status}
+use Rattle.tj_command.specs.declared.status.Status.TheVariants.{Usage, ReadFault, WriteFault, Memory}
 
 -- What the top call answers to words: a field for each of its clauses. Of the source this takes the bytes left and the
 -- count of faults, before and after, that it is as it was, and that it never fails, before and after; of the sink the

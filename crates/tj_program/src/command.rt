@@ -19,6 +19,7 @@ use crate::mode::{Mode, OptionName};
 use clap::ArgMatches;
 use std::alloc::Global;
 use tj_base::Oom;
+use tj_command::number_up_to;
 
 /// What the words ask for.
 #[derive(Clone, Copy, Debug, PartialEq, Eq)]
@@ -118,12 +119,7 @@ fn number_in(matches: &ArgMatches<'_>, mode: Mode, name: OptionName) -> Option<u
         return Some(mode.default(name));
     };
     let most = mode.greatest(name)?;
-    let number = digits.parse::<u32>().ok()?;
-    if 1 <= number && number <= most {
-        Some(number)
-    } else {
-        None
-    }
+    number_up_to(most, digits)
 }
 
 // What the mode asks for with these numbers.

@@ -4,11 +4,11 @@
 //! A script of size k has k + 1 tasks and k + 1 promises. Its `main` begins 3k + 8 statements, the
 //! last of which returns the sum of 1 to k.
 use crate::row_tests::shows;
-use crate::status::Status;
 use std::process::Abort;
 use std::sync::Wait;
 use std::test::Fail;
 use std::thread::Threads;
+use tj_command::Status;
 
 /// Asserts what `gen` gives with exactly the cells and the statements that a size needs, and with
 /// one less of each.

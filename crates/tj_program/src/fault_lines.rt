@@ -1,76 +1,14 @@
-//! The lines that are written in place of a report: why an input is refused, or that it needs more
-//! cells.
-ghost use Rattle.std.specs.Prelude.{◌≡◌, ◌≢◌, IfOk};
-ghost use Rattle.tj_embed.specs.ScriptTexts.{IsMemory};
-ghost use Rattle.tj_program.specs.ScriptTexts as script_texts;
+//! The lines that `tj` alone writes in place of an output: where the words have no form, and where a
+//! journal is refused.
+ghost use Rattle.std.specs.Prelude.{◌≡◌, IfOk};
 ghost use Rattle.tj_program.specs.Texts as texts;
 
 use std::alloc::Global;
 use tj_base::{Oom, add_number};
-use tj_embed::NoScript;
-use tj_lex::{LexFault, Place};
-use tj_syntax::ParseFault;
 
 /// What is written where the words have no form.
 pub const USAGE_LINE: &[u8] =
     b"usage: tj run|plan|list|judge|gen|known|relay|watch [--workers N] [--cells N] [--steps N] [--size N] [--strict]\n";
-
-/// The line of a script's fault. Want of memory has none.
-pub fn fault_line(alloc: Global, fault: NoScript) -> Result<Vec<u8>, Oom>
-    ensures line { IfOk result (λ line. line.items ≡ script_texts.fault_line fault) }
-    ensures none { IfOk result (λ _. ¬ IsMemory fault) }
-{
-    match fault {
-        NoScript::Long(at) => script_fault(alloc, b"T1", at),
-        NoScript::Tokens(fault) => token_fault(alloc, fault),
-        NoScript::Grammar(fault) => grammar_fault(alloc, fault),
-    }
-}
-
-/// The line of a fault of the tokens. Want of memory has none.
-fn token_fault(alloc: Global, fault: LexFault) -> Result<Vec<u8>, Oom>
-    ensures line { IfOk result (λ line. line.items ≡ script_texts.token_fault fault) }
-    ensures none { IfOk result (λ _. fault ≢ LexFault.Oom) }
-{
-    match fault {
-        LexFault::Byte(at) => script_fault(alloc, b"L1", at),
-        LexFault::Number(at) => script_fault(alloc, b"L2", at),
-        LexFault::Long(at) => script_fault(alloc, b"L3", at),
-        LexFault::Oom => Err(Oom),
-    }
-}
-
-/// The line of a fault of the grammar. Want of memory has none.
-fn grammar_fault(alloc: Global, fault: ParseFault) -> Result<Vec<u8>, Oom>
-    ensures line { IfOk result (λ line. line.items ≡ script_texts.grammar_fault fault) }
-    ensures none { IfOk result (λ _. fault ≢ ParseFault.Oom) }
-{
-    match fault {
-        ParseFault::Expected(at) => script_fault(alloc, b"P1", at),
-        ParseFault::Unknown(at) => script_fault(alloc, b"P2", at),
-        ParseFault::Twice(at) => script_fault(alloc, b"P3", at),
-        ParseFault::Count(at) => script_fault(alloc, b"P4", at),
-        ParseFault::NoMain(at) => script_fault(alloc, b"P5", at),
-        ParseFault::MainParams(at) => script_fault(alloc, b"P6", at),
-        ParseFault::Deep(at) => script_fault(alloc, b"P7", at),
-        ParseFault::Many(at) => script_fault(alloc, b"P8", at),
-        ParseFault::Oom => Err(Oom),
-    }
-}
-
-/// The line of a fault of a script, which has a letter and a number.
-fn script_fault(alloc: Global, mark: &[u8], at: Place) -> Result<Vec<u8>, Oom>
-    ensures { IfOk result (λ line. line.items ≡ texts.script_fault mark.now at) }
-{
-    let mut line = Vec::from_slice(alloc, b"script fault ")?;
-    line.extend_from_slice(mark)?;
-    line.extend_from_slice(b" at ")?;
-    add_number(&mut line, at.line as u128)?;
-    line.extend_from_slice(b":")?;
-    add_number(&mut line, at.column as u128)?;
-    line.extend_from_slice(b"\n")?;
-    Ok(line)
-}
 
 /// The line of a fault of a journal.
 pub fn journal_fault(alloc: Global, number: u32) -> Result<Vec<u8>, Oom>
@@ -79,15 +17,5 @@ pub fn journal_fault(alloc: Global, number: u32) -> Result<Vec<u8>, Oom>
     let mut line = Vec::from_slice(alloc, b"journal fault at line ")?;
     add_number(&mut line, number as u128)?;
     line.extend_from_slice(b"\n")?;
-    Ok(line)
-}
-
-/// The line of a script that needs more than these cells.
-pub fn full_line(alloc: Global, cells: u32) -> Result<Vec<u8>, Oom>
-    ensures { IfOk result (λ line. line.items ≡ texts.full_line cells) }
-{
-    let mut line = Vec::from_slice(alloc, b"full: more than ")?;
-    add_number(&mut line, cells as u128)?;
-    line.extend_from_slice(b" cells\n")?;
     Ok(line)
 }

@@ -2,13 +2,13 @@
 //! written is worked out by hand from the rules.
 use crate::mode_tests::TWO_WALKS;
 use crate::row_tests::{HANDED_DOWN, Row, answered, answered_within, shows, shows_each};
-use crate::status::Status;
 use std::alloc::Global;
 use std::process::Abort;
 use std::sync::Wait;
 use std::test::Fail;
 use std::thread::Threads;
 use tj_base::Oom;
+use tj_command::Status;
 use tj_ports::OpenGate;
 
 const LOOP: &str = "task main() { let i = 0; while 1 { i = i + 1; } }";

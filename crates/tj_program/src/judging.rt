@@ -7,10 +7,9 @@ ghost use Rattle.tj_program.specs.Inner.Inputs.{IsReadOf};
 ghost use Rattle.tj_program.specs.Judgings.{IsJudging};
 
 use crate::fault_lines::journal_fault;
-use crate::output::{Output, status_of};
-use crate::status::Status;
 use std::alloc::Global;
 use tj_base::Oom;
+use tj_command::{Output, Status, status_of};
 use tj_core::{JournalFault, judge_text, read_journal};
 use tj_embed::position_behind;
 use tj_ports::ReadEnd;

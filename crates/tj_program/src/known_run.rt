@@ -11,16 +11,15 @@ ghost use Rattle.tj_program.specs.Output.{IsRefused, IsStartOfText};
 ghost use Rattle.tj_program.specs.Runs as runs;
 ghost use Rattle.tj_program.specs.Runs.{Start, IsStartOf};
 ghost use Rattle.tj_embed.specs.ScriptTexts.{IsSomeScript};
-ghost use Rattle.tj_program.specs.Inner.ScriptRuns.{AreLimits};
+ghost use Rattle.tj_command.specs.Limits.{AreLimits};
 ghost use Rattle.tj_embed.specs.ScriptTexts.{most_bytes};
 ghost use Rattle.tj_syntax.specs.View as view;
 
 use crate::mode_outputs::refused;
-use crate::output::{Output, status_of};
 use crate::script_run::full;
-use crate::script_text::script_of;
 use std::alloc::Global;
 use tj_base::Oom;
+use tj_command::{Output, script_of, status_of};
 use tj_eval::main_body;
 use tj_known::{How, KnownLine, known_joins, known_text};
 use tj_mean::{ActLines, PlanFault, acts};

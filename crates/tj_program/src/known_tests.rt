@@ -1,8 +1,8 @@
 //! Worked rows of the mode `known`: which joins were of tasks that the joiner knew of.
 use crate::row_tests::{AGAINST_THE_ORDER, FIB_OF_3, shows};
-use crate::status::Status;
 use crate::tests::THREE;
 use std::test::Fail;
+use tj_command::Status;
 
 const JOINS_A_GRANDCHILD: &str = "task main() { let p = new; fork kid(own p); let g = get p; let v \
     = join g; return v; } task kid(p) { let g = fork one(); set p = g; return 0; } task one() { \

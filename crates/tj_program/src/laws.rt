@@ -12,7 +12,7 @@ ghost use Rattle.tj_program.specs.KnownRuns.{KnownJoinsOfMeaningAreAlong};
 ghost use Rattle.tj_program.specs.Output.{IsOutput, IsStart};
 ghost use Rattle.tj_program.specs.Runs.{Start};
 ghost use Rattle.tj_program.specs.declared.command.Command.{Command};
-ghost use Rattle.tj_program.specs.declared.status.Status.{Status};
+ghost use Rattle.tj_command.specs.declared.status.Status.{Status};
 
 use tj_chan::{ChanBody, Relay, channels_are_lists};
 use tj_core::{one_judging, one_reading};

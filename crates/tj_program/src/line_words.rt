@@ -2,13 +2,10 @@
 //!
 //! It knows other forms too, as `--cells=5` and `--`.
 ghost use Rattle.std.specs.Prelude.{IsTrue, ◌↔◌};
-ghost use Rattle.tj_program.specs.CommandLine.{IsShortNumeral};
 ghost use Rattle.tj_program.specs.Inner.LineWords.{AreLineWords, IsLineWord};
 
 use crate::mode::Mode;
-
-// The most digits of a number.
-const MOST_DIGITS: usize = 10;
+use tj_command::is_short_numeral;
 
 /// Whether the first word is a mode and each later one may stand behind it.
 pub fn are_line_words(words: &[String]) -> bool
@@ -31,13 +28,4 @@ fn is_line_word(word: &str) -> bool
         "--workers" | "--cells" | "--steps" | "--size" | "--strict" => true,
         _ => is_short_numeral(word.as_bytes()),
     }
-}
-
-// Whether the bytes are 1 to 10 digits.
-fn is_short_numeral(bytes: &[u8]) -> bool
-    ensures { IsTrue result ↔ IsShortNumeral bytes.now }
-{
-    !bytes.is_empty()
-        && bytes.len() <= MOST_DIGITS
-        && bytes.iter().all(|byte| byte.is_ascii_digit())
 }

@@ -32,10 +32,8 @@ mod row_tests;
 #[cfg(test)]
 mod rule_tests;
 mod script_run;
-mod script_text;
 #[cfg(test)]
 mod shy_tests;
-mod status;
 #[cfg(test)]
 mod storm_tests;
 #[cfg(test)]
@@ -53,8 +51,9 @@ mod worker_tests;
 
 use std::io;
 use std::process::ExitCode;
+use tj_command::words_given;
 use tj_ports::{OpenGate, StdSink, StdSource};
-use words::{run_given, words_given};
+use words::run_given;
 
 fn main(rt: HostRuntime) -> ExitCode {
     let mut source = StdSource::new(rt.reader());

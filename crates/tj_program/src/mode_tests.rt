@@ -1,8 +1,8 @@
 //! Worked rows of the other modes, and of words without a form.
 use crate::row_tests::{Row, shows, shows_each};
-use crate::status::Status;
 use crate::tests::{THREE, USAGE};
 use std::test::Fail;
+use tj_command::Status;
 
 const CYCLE_OF_TWO: &str = "make 0\nfork 0\nraise 2\npublish 2 1\ncount 2\nowner 2\nwait 2\n\
     settle 2\npublish 0 2\nothers 0\ncount 0\nowner 0\nwait 0\nagain 0\nowner 0\nalarm 0\n";

@@ -1,12 +1,12 @@
 //! Worked rows: what the program writes and answers for words and an input, by hand from the
 //! rules.
-use crate::status::Status;
 use crate::tests::{THREE, words_of};
 use crate::top_call::run_words;
 use std::process::Abort;
 use std::sync::Wait;
 use std::test::Fail;
 use std::thread::Threads;
+use tj_command::Status;
 use tj_ports::{Gate, MemSink, MemSource, OpenGate};
 use tj_words::Closed;
 

@@ -3,11 +3,11 @@
 use crate::row_tests::{
     AGAINST_THE_ORDER, JOIN_EACH_OTHER, Row, TWO_WAIT, answered, shows, shows_any, shows_each,
 };
-use crate::status::Status;
 use std::process::Abort;
 use std::sync::Wait;
 use std::test::Fail;
 use std::thread::Threads;
+use tj_command::Status;
 use tj_ports::OpenGate;
 
 const ONE_PROMISE: &str = "task main() { let p = new; return 0; }";

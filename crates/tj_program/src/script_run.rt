@@ -1,32 +1,21 @@
-//! Running a script: its limits, how its outcome is told, and the run on one thread.
+//! Running a script: how its outcome is told, and the run on one thread.
 ghost use Rattle.std.specs.Prelude.{◌≡◌, IfOk};
 ghost use Rattle.tj_mean.specs.Outcomes.{is_marked};
 ghost use Rattle.tj_program.specs.Runs.{Start, IsRunOf, IsStartOf};
 ghost use Rattle.tj_embed.specs.ScriptTexts.{IsSomeScript};
-ghost use Rattle.tj_program.specs.Inner.ScriptRuns.{AreLimits};
+ghost use Rattle.tj_command.specs.Limits.{AreLimits};
 ghost use Rattle.tj_program.specs.Runs as runs;
 ghost use Rattle.tj_program.specs.Texts as texts;
 ghost use Rattle.tj_syntax.specs.View as view;
 
-use crate::fault_lines::full_line;
-use crate::output::{Output, status_of};
 use crate::root_lines::root_line;
-use crate::status::Status;
 use std::alloc::Global;
 use tj_base::Oom;
+use tj_command::{Limits, Output, Status, full_line, status_of};
 use tj_eval::main_body;
 use tj_mean::{Outcome, PlanFault, marked, plan};
 use tj_report::{report_text, summary_text};
 use tj_syntax::Script;
-
-/// The most cells that the tasks of a run may make, the most statements that each may begin, and
-/// whether a join against the order fails.
-#[derive(Clone, Copy)]
-pub struct Limits {
-    pub cells: u32,
-    pub steps: u32,
-    pub strict: bool,
-}
 
 /// How an outcome is told: by its report, by the summary of a generated script of a size, or by a
 /// line of the root.

@@ -4,13 +4,13 @@ ghost use Rattle.tj_ports.specs.Memory.{SurelyTakes};
 ghost use Rattle.tj_program.specs.CommandLine.{HasNoForm};
 ghost use Rattle.tj_program.specs.Texts.{usage_line};
 
-use crate::status::Status;
 use crate::top_call::run_words;
 use std::alloc::{AllocError, Global};
 use std::process::Abort;
 use std::sync::Wait;
 use std::test::Fail;
 use std::thread::Threads;
+use tj_command::Status;
 use tj_ports::{MemSink, MemSource, OpenGate};
 
 pub const USAGE: &str =

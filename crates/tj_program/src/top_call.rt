@@ -11,7 +11,7 @@ ghost use Rattle.tj_program.specs.ClosedRuns.{HasOutcome, HaveWorkers, IsClosedR
 ghost use Rattle.tj_program.specs.CommandLine.{HasLimits, HasNoForm, IsCommand};
 ghost use Rattle.tj_program.specs.StrictRuns.{StrictRunsNeverWait};
 ghost use Rattle.tj_program.specs.declared.command.Command.{Command};
-ghost use Rattle.tj_program.specs.declared.status.Status.{Status};
+ghost use Rattle.tj_command.specs.declared.status.Status.{Status};
 ghost use Rattle.tj_embed.specs.ScriptTexts.{most_bytes};
 ghost use Rattle.tj_program.specs.Texts.{usage_line};
 ghost use Rattle.tj_program.specs.Inner.ClosedOutputs.{AreWith, IsPutWith, IsAnswerPut};
@@ -19,18 +19,18 @@ ghost use Rattle.tj_program.specs.Inner.Inputs.{HasRead};
 ghost use Rattle.tj_program.specs.KnownRuns.{KnownJoinsOfMeaningAreAlong};
 ghost use Rattle.tj_program.specs.Output.{IsOutput, IsStart, TakesInput, takes_input};
 ghost use Rattle.tj_program.specs.Runs.{Start};
-ghost use Rattle.tj_program.specs.Delivery.{HasText, IsAnswered, IsOutputPart, IsPutAs};
+ghost use Rattle.tj_program.specs.Delivery.{HasText, IsAnswered, IsOutputPart};
 
 use crate::command::{Command, command_of};
 use crate::fault_lines::USAGE_LINE;
 use crate::laws::{known_joins_are_along, one_output, strict_runs_never_wait};
 use crate::mode_outputs::given_by;
 use crate::output::ClosedOutput;
-use crate::status::Status;
 use std::alloc::Global;
 use std::sync::Wait;
 use std::thread::Threads;
 use tj_base::ByteList;
+use tj_command::{Status, put_text};
 use tj_lex::MAX_TEXT;
 use tj_ports::{Gate, ReadEnd, ReadFault, Sink, Source, put_all, read_all};
 use tj_words::Closed;
@@ -211,18 +211,5 @@ fn put_given<K: Sink>(sink: &mut K, given: ClosedOutput) -> (Status, Option<Clos
     match put_all(sink, output.text.as_slice()) {
         Ok(()) => (output.status, closed),
         Err(_failed) => (Status::WriteFault, None),
-    }
-}
-
-/// Puts a text. The status is that of the text, or says that it could not be put.
-pub fn put_text<K: Sink>(sink: &mut K, status: Status, text: &[u8]) -> Status
-    ensures put { IsPutAs (K.has_room sink.old) status text.now (K.held sink.old) (K.held sink.new)
-        (K.faults sink.old) (K.faults sink.new) result }
-    ensures quiet { result ≢ Status.WriteFault → K.faults sink.new ≡ K.faults sink.old }
-    ensures counted { K.faults sink.old ≤ K.faults sink.new }
-{
-    match put_all(sink, text) {
-        Ok(()) => status,
-        Err(_failed) => Status::WriteFault,
     }
 }

@@ -1,11 +1,11 @@
 //! Worked rows of the mode `watch`: what became of the root.
 use crate::row_tests::{JOIN_EACH_OTHER, shows};
-use crate::status::Status;
 use crate::tests::THREE;
 use std::process::Abort;
 use std::sync::Wait;
 use std::test::Fail;
 use std::thread::Threads;
+use tj_command::Status;
 
 const OWED: &str = "task main() { let p = new; fork kid(p); return 0; } task kid(p) { let v = get \
     p; return v; }";

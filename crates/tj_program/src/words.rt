@@ -7,39 +7,13 @@ ghost use Rattle.std.specs.declared.vec.Vec.{Vec};
 ghost use Rattle.std.specs.declared.alloc.Global.{Global};
 
 use crate::fault_lines::USAGE_LINE;
-use crate::status::Status;
-use crate::top_call::{put_text, run_words};
+use crate::top_call::run_words;
 use std::alloc::Global;
-use std::env;
-use std::io::ErrorKind;
-use std::rt::Env;
 use std::sync::Wait;
 use std::thread::Threads;
+use tj_command::{Given, Status, put_text};
 use tj_ports::{Gate, Sink, Source};
 use tj_words::Closed;
-
-/// What the command line gives.
-#[derive(Debug, Drop)]
-pub enum Given {
-    /// The words after the program's name.
-    Words(Vec<String>),
-    /// One of them isn't text.
-    NotText,
-    /// Memory could not be had.
-    Oom,
-}
-
-/// The words after the program's name.
-pub fn words_given(rt: &(impl Env + AllocGlobal)) -> Given {
-    match env::args(rt) {
-        Ok(args) => match args.skip(1).collect(rt.alloc()) {
-            Ok(words) => Given::Words(words),
-            Err(_out_of_memory) => Given::Oom,
-        },
-        Err(error) if error.kind() == ErrorKind::OutOfMemory => Given::Oom,
-        Err(_not_text) => Given::NotText,
-    }
-}
 
 /// Does what the command line says, and answers what the top call answers. Words that aren't text
 /// have no form.

@@ -1,13 +1,13 @@
 //! Words that the system gives, also one that isn't UTF-8, and none for want of room.
-use crate::status::Status;
 use crate::tests::{THREE, USAGE};
-use crate::words::{Given, run_given, words_given};
+use crate::words::run_given;
 use std::env::FillError;
 use std::process::Abort;
 use std::rt::Env;
 use std::sync::Wait;
 use std::test::Fail;
 use std::thread::Threads;
+use tj_command::{Given, Status, words_given};
 use tj_ports::{MemSink, MemSource, OpenGate};
 
 /// A command line of these words, the program's name first.

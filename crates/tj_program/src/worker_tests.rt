@@ -1,10 +1,10 @@
 //! What tests alone show of the workers: that two of them enter the gate beside each other, and
 //! which closed words a run has.
 use crate::row_tests::{FIB_OF_3, FIB_OF_3_REPORT, JOIN_EACH_OTHER, answered};
-use crate::status::Status;
 use std::sync::atomic::{AtomicBool, Ordering};
 use std::test::Fail;
 use tj_base::CellId;
+use tj_command::Status;
 use tj_ports::{Gate, OpenGate};
 use tj_words::{Closed, Phase, Walk};
 

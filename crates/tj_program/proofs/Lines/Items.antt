@@ -1,17 +1,17 @@
 -- Items that a mode has, each at most once.
 use Rattle.tj_program.proofs.Prelude.{All, All-head, AllFit, AreLineWords, Bool, Cells, Command, Global, HasNumeral}
 use Rattle.tj_program.proofs.Prelude.{IfSome, IsCommand, IsLineWord, IsReading, IsWithin, Item, List, MatchOption, Mode}
-use Rattle.tj_program.proofs.Prelude.{None, Option, OptionName, Size, Some, Steps, Workers, [], all_ascii_digits, ap}
-use Rattle.tj_program.proofs.Prelude.{arith, bytes_eq, codes, digits_of, false, flat_map, greatest, has_flag, inl, inr}
-use Rattle.tj_program.proofs.Prelude.{is_flag, is_same, map, mode_text, option, refl, result_ok, strict, subst, sym}
-use Rattle.tj_program.proofs.Prelude.{true, true≢false, unwrap_or, words_of, ℕ, ◌<◌, ◌^◌, ◌∙◌, ◌∷◌, ◌≡◌, ◌≤◌}
-use Rattle.std.specs.Prelude.{if◌then◌else◌, is_some, String, string_bytes, Result, Ok, Err}
+use Rattle.tj_program.proofs.Prelude.{None, Option, OptionName, Size, Some, Steps, Workers, [], ap}
+use Rattle.tj_program.proofs.Prelude.{bytes_eq, codes, digits_of, false, flat_map, greatest, has_flag, inl, inr}
+use Rattle.tj_program.proofs.Prelude.{is_flag, is_same, map, mode_text, option, refl, strict, subst, sym}
+use Rattle.tj_program.proofs.Prelude.{true, true≢false, unwrap_or, words_of, ℕ, ◌∙◌, ◌∷◌, ◌≡◌, ◌≤◌}
+use Rattle.std.specs.Prelude.{if◌then◌else◌, is_some, String, string_bytes}
 use Rattle.std.specs.List.{AllByRecursion, IsDistinct, list_any}
 use Rattle.std.specs.Option.{IsSomeAnd}
-use Rattle.std.proofs.lemmas.Str.Parse.{numerals_by_value, parse_digits, tells_all_ascii_digits}
-use Rattle.std.specs.Str.Parse.{ParsesUnsigned, digits_value}
+use Rattle.std.specs.Str.Parse.{digits_value}
 use Rattle.std.proofs.lemmas.List.Elements.{All-cons, All-nil, All-tail}
 use Rattle.tj_program.specs.CommandLine.{IsAllowed, IsLine, IsShortNumeral, HasNoForm, first_word, option_text}
+use Rattle.tj_command.specs.Numerals.{IsNumberUpTo}
 use Rattle.tj_program.specs.Inner.LineNumbers.{AreNumbersOf, IsAnswerTo, IsFit, IsNumberOf, number_for}
 use Rattle.tj_program.specs.declared.command.Numbers.{Numbers}
 use Rattle.tj_program.proofs.Lines.CommandLines.{behind, front, is_none, one_mode, one_reading, same_names}
@@ -121,21 +121,16 @@ module _ (mode : Mode) where
 
 -- ---- one number
 
--- digits that are no number of 32 bits are past each limit
-pub too_large : {E : Type 0} (mode : Mode) (name : OptionName) (most : ℕ) (digits : List ℕ) (r : Result ℕ E)
-    (answer : Option ℕ)
-    → ParsesUnsigned 32 10 digits r → result_ok r ≡ None → greatest mode name ≡ Some most → most < 2 ^ 32
-    → IsShortNumeral digits
-    → answer ≡ None → IsNumberOf mode name (Some digits) answer
-too_large mode name most digits r (Some n) parses none limit small numeral is = absurd (true≢false (ap is_some is))
-too_large mode name most digits (Ok n) None parses none limit small numeral is = absurd (true≢false (ap is_some none))
-too_large mode name most digits (Err e) None parses none limit small numeral is =
-    let own = numerals_by_value (λ ds. all_ascii_digits ds ≡ true) tells_all_ascii_digits in
-    let refused = parse_digits own 32 digits (Err e) parses numeral.decimal in
-    let some = numeral.some in
-    λ fit. let within = subst (λ o. IsSomeAnd o
-    (λ m. (1 ≤ digits_value 10 digits) × (digits_value 10 digits ≤ m))) limit fit in
-    refused (omega arith, omega (arith, within))
+-- the number of an option is that of its digits, up to the option's greatest
+pub number_of : (mode : Mode) (name : OptionName) (most : ℕ) (digits : List ℕ) (answer : Option ℕ)
+    → greatest mode name ≡ Some most → IsNumberUpTo most digits answer → IsNumberOf mode name (Some digits) answer
+number_of mode name most digits None limit is = λ fit. is (subst (λ o. IsSomeAnd o
+    (λ m. (1 ≤ digits_value 10 digits) × (digits_value 10 digits ≤ m))) limit fit)
+number_of mode name most digits (Some n) limit is = (
+  subst (λ o. IsSomeAnd o (λ m. (1 ≤ digits_value 10 digits) × (digits_value 10 digits ≤ m))) (sym limit)
+      (subst (λ k. (1 ≤ k) × (k ≤ most)) is.1 is.0),
+  is.1,
+)
 
 -- ---- the numbers of all options
 

@@ -5,14 +5,14 @@ use Rattle.tj_ports.specs.Faults.{HasFault}
 use Rattle.tj_ports.specs.Putting.{GrowsByPart}
 use Rattle.tj_words.specs.declared.closed.RestCell.{RestCell}
 use Rattle.tj_program.specs.ClosedRuns.{HasOutcome, IsCommandClosed, IsRunClosed, has_workers}
-use Rattle.tj_program.specs.Delivery.{IsPutAs}
+use Rattle.tj_command.specs.Delivery.{IsPutOf}
 use Rattle.tj_program.specs.Output.{IsCommandOutput}
 use Rattle.tj_program.specs.Runs.{StartOf, NeedsMore}
 use Rattle.tj_program.specs.Texts.{full_line}
 use Rattle.tj_program.specs.declared.command.Command.{Command}
 use Rattle.tj_program.specs.declared.script_run.Told.{Told}
-use Rattle.tj_program.specs.declared.status.Status.{Status}
-use Rattle.tj_program.specs.declared.status.Status.TheVariants.{Full, WriteFault}
+use Rattle.tj_command.specs.declared.status.Status.{Status}
+use Rattle.tj_command.specs.declared.status.Status.TheVariants.{Full, WriteFault}
 
 -- what a run over workers gives: the line that it is full, or an outcome as it is told and closed words of the same run
 abbrev pub IsRunGiven : {B : Type 0} → Told → StartOf B → Status → List ℕ → Option (List RestCell) → Type 0
@@ -43,6 +43,4 @@ IsPutWith HasRoom status text closed before after count_before count_after answe
 -- the output of a command was put, or the sink failed before its end
 abbrev pub IsAnswerPut : (HasRoom : ℕ → Type 0) → Command → List ℕ → Option (List ℕ) → Option (List ℕ) → ℕ → ℕ → Status
     → Type 0
-IsAnswerPut HasRoom command input before after count_before count_after answer =
-    (status : Status) × (text : List ℕ) × IsCommandOutput command input status text
-    × IsPutAs HasRoom status text before after count_before count_after answer
+IsAnswerPut HasRoom command input = IsPutOf (IsCommandOutput command input) HasRoom

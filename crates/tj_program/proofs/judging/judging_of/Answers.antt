@@ -1,5 +1,5 @@
 use Rattle.tj_program.proofs.Prelude.{IsJudging, IsReadOf, subst, ◌∙◌}
-use Rattle.tj_program.proofs.Inputs.{read_whole, read_long}
+use Rattle.tj_command.proofs.Inputs.{read_whole, read_long}
 use Rattle.tj_program.proofs.Outputs.{if_ok, long_fault, IsJudging-fault}
 use Rattle.tj_program.proofs.judging.judging_of.Goals as goal
 

@@ -1,6 +1,6 @@
 use Rattle.tj_program.proofs.Prelude.{IsOutcomeOf, IsScript, NeedsMore, Ok, asks_no_get, crosses, expr_sync, kinds_of}
 use Rattle.tj_program.proofs.Prelude.{script_sync, sendable, stmt_sync, subst, true, ◌≡◌}
-use Rattle.tj_program.proofs.OneOutput.{ok_is}
+use Rattle.tj_command.proofs.Scripts.{ok_is}
 use Rattle.tj_program.proofs.StrictRuns.{OfScripts, fresh-root, IsWithoutGet-script, never_waits, strictly_started}
 use Rattle.tj_program.proofs.laws.strict_runs_never_wait.Goals as goal
 

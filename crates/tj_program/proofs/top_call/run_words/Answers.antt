@@ -1,12 +1,12 @@
-use Rattle.tj_program.proofs.Prelude.{HasNoForm, HasRead, IsCommand, Known, List, MatchOption, Some, TakesInput, [], ap}
-use Rattle.tj_program.proofs.Prelude.{subst, takes_input, true, usage, ℕ, ◌≡◌}
+use Rattle.tj_program.proofs.Prelude.{HasNoForm, HasRead, IsCommand, IsOutput, Known, List, MatchOption, Some, [], ap}
+use Rattle.tj_program.proofs.Prelude.{TakesInput, subst, takes_input, true, usage, ℕ, ◌≡◌}
 use Rattle.tj_program.proofs.Lines.CommandLines.{one_command, within_limits}
-use Rattle.tj_program.proofs.Deliveries.{IsAnswered-put, put_whole, IsOutputPart-put, no_write_fault}
+use Rattle.tj_command.proofs.Puts.{IsAnsweredBy-put, IsPartOf-put, exact, no_write_fault, put_whole}
 use Rattle.tj_program.proofs.Deliveries.{IsAnswered-command, put_whole-command, IsOutputPart-command}
-use Rattle.tj_program.proofs.Deliveries.{no_write_fault-command, exact}
+use Rattle.tj_program.proofs.Deliveries.{no_write_fault-command}
 use Rattle.tj_program.proofs.ClosedRuns.{HaveWorkers-command, IsClosedRunOf-command, IsClosedRunOf-some, never_with}
 use Rattle.tj_program.proofs.ClosedRuns.{nothing}
-use Rattle.tj_program.proofs.Inputs.{some_input}
+use Rattle.tj_command.proofs.Inputs.{some_input}
 use Rattle.tj_program.proofs.StrictRuns.{never_waits-words}
 use Rattle.tj_program.proofs.top_call.run_words.Given.{Over}
 use Rattle.tj_program.proofs.top_call.run_words.Goals as goal
@@ -18,13 +18,13 @@ formless g c = subst (λ found. MatchOption found (HasNoForm c.args.words.now) (
 
 pub returns-in-Ok-None-clause-output : goal.returns-in-Ok-None-clause-output
 returns-in-Ok-None-clause-output g c = λ input held told holds none_read none_put.
-    IsAnswered-put (g.K.Sink.has_room c.args.sink.now) c.args.words.now input held _ _ _ _ _ _ _
+    IsAnsweredBy-put (IsOutput c.args.words.now input) (g.K.Sink.has_room c.args.sink.now) held _ _ _ _ _ _ _
     (usage (formless g c)) c.put_text.ensures.put holds
     none_put
 
 pub returns-in-Ok-None-clause-whole : goal.returns-in-Ok-None-clause-whole
 returns-in-Ok-None-clause-whole g c = λ input told has.
-    put_whole (g.K.Sink.has_room c.args.sink.now) c.args.words.now input _ _ _ _ _ _ _ (usage (formless g c))
+    put_whole (IsOutput c.args.words.now input) (g.K.Sink.has_room c.args.sink.now) _ _ _ _ _ _ _ (usage (formless g c))
     c.put_text.ensures.put has
 
 pub returns-in-Ok-None-clause-taken : goal.returns-in-Ok-None-clause-taken
@@ -32,13 +32,14 @@ returns-in-Ok-None-clause-taken g c = λ input told read has. absurd (formless g
 
 pub returns-in-Ok-None-clause-cause : goal.returns-in-Ok-None-clause-cause
 returns-in-Ok-None-clause-cause g c = λ has.
-    let put = put_whole (g.K.Sink.has_room c.args.sink.now) c.args.words.now [] _ _ _ _ _ _ _ (usage (formless g c))
+    let put = put_whole (IsOutput c.args.words.now []) (g.K.Sink.has_room c.args.sink.now) _ _ _ _ _ _ _
+    (usage (formless g c))
     c.put_text.ensures.put has in
     ([], put.0, put.1, put.2)
 
 pub returns-in-Ok-None-clause-part : goal.returns-in-Ok-None-clause-part
-returns-in-Ok-None-clause-part g c = λ is input told. IsOutputPart-put (g.K.Sink.has_room c.args.sink.now)
-    c.args.words.now input _ _ _ _ _ _ _
+returns-in-Ok-None-clause-part g c = λ is input told. IsPartOf-put (IsOutput c.args.words.now input)
+    (g.K.Sink.has_room c.args.sink.now) _ _ _ _ _ _ _
     (usage (formless g c)) (λ e. cc) c.put_text.ensures.put is
 
 pub answer-requires-clause-limits : goal.answer-requires-clause-limits
@@ -113,18 +114,20 @@ returns-in-Err-Oom-clause-never_waits g c = λ command input is.
 
 pub returns-in-Ok-None-clause-exact : goal.returns-in-Ok-None-clause-exact
 returns-in-Ok-None-clause-exact g c = λ input text status told out has.
-    exact c.one_output.ensures c.args.words.now input text status _ _ _ out
+    exact (IsOutput c.args.words.now input) (g.K.Sink.has_room c.args.sink.now)
+    (c.one_output.ensures c.args.words.now input) text status _ _ _ out
     (returns-in-Ok-None-clause-whole g c input told has)
 
 pub returns-in-Ok-clause-exact : goal.returns-in-Ok-clause-exact
 returns-in-Ok-clause-exact g c = λ input text status told out has.
-    exact c.one_output.ensures c.args.words.now input text status _ _ _ out
+    exact (IsOutput c.args.words.now input) (g.K.Sink.has_room c.args.sink.now)
+    (c.one_output.ensures c.args.words.now input) text status _ _ _ out
     (returns-in-Ok-clause-whole g c input told has)
 
 pub returns-in-Ok-None-clause-part_cause : goal.returns-in-Ok-None-clause-part_cause
 returns-in-Ok-None-clause-part_cause g c = λ is. (
   [],
-  IsOutputPart-put (g.K.Sink.has_room c.args.sink.now) c.args.words.now [] _ _ _ _ _ _ _
+  IsPartOf-put (IsOutput c.args.words.now []) (g.K.Sink.has_room c.args.sink.now) _ _ _ _ _ _ _
       (usage (formless g c)) (λ e. cc) c.put_text.ensures.put is,
 )
 
@@ -138,7 +141,8 @@ returns-in-Ok-clause-part_cause g c = λ is.
 
 pub returns-in-Ok-None-clause-fits : goal.returns-in-Ok-None-clause-fits
 returns-in-Ok-None-clause-fits g c = λ room input text status has told out fits.
-    no_write_fault c.one_output.ensures (g.K.Sink.has_room c.args.sink.now) c.args.words.now input text _ status _ _ _
+    no_write_fault (IsOutput c.args.words.now input) (g.K.Sink.has_room c.args.sink.now)
+    (c.one_output.ensures c.args.words.now input) text _ status _ _ _
     _ _ _
     (usage (formless g c)) (λ e. cc) c.put_text.ensures.put out room has fits
 

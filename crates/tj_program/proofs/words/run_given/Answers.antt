@@ -1,5 +1,5 @@
 use Rattle.tj_program.proofs.Prelude.{ap, sym, ◌∙◌, ◌≡◌}
-use Rattle.tj_program.specs.declared.words.Given.TheVariants.{Words}
+use Rattle.tj_command.specs.declared.given.Given.TheVariants.{Words}
 use Rattle.tj_program.proofs.TopAnswers.{to_same_words}
 use Rattle.tj_program.proofs.words.run_given.Goals as goal
 
