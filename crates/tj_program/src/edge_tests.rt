@@ -3,84 +3,74 @@
 //!
 //! A script of size k has k + 1 tasks and k + 1 promises. Its `main` begins 3k + 8 statements, the
 //! last of which returns the sum of 1 to k.
-use crate::row_tests::shows;
+use crate::row_tests::{Row, shows, shows_each};
 use std::process::Abort;
 use std::sync::Wait;
 use std::test::Fail;
 use std::thread::Threads;
 use tj_command::Status;
 
-/// Asserts what `gen` gives with exactly the cells and the statements that a size needs, and with
-/// one less of each.
-fn shows_edges(
-    rt: &(impl Abort + AllocGlobal + Wait + Threads + Sync),
-    (size, cells, steps): (&str, &str, &str),
-    (fewer_cells, fewer_steps): (&str, &str),
-    (whole, cut): (&str, &str),
-) -> Result<(), Fail> {
-    let alloc = rt.alloc();
-    let enough = format!(in alloc; "gen --size {size} --cells {cells} --steps {steps}")?;
-    shows(rt, enough.as_str(), "", Status::Clean, whole)?;
-    let short = format!(in alloc; "gen --size {size} --cells {cells} --steps {fewer_steps}")?;
-    shows(rt, short.as_str(), "", Status::Marked, cut)?;
-    let narrow = format!(in alloc; "gen --size {size} --cells {fewer_cells}")?;
-    let full = format!(in alloc; "full: more than {fewer_cells} cells\n")?;
-    shows(rt, narrow.as_str(), "", Status::Full, full.as_str())
-}
-
-#[test]
-fn generated_edges(rt: HostRuntime) -> Result<(), Fail> {
-    shows_edges(
-        &rt,
-        ("1", "4", "11"),
-        ("3", "10"),
-        (
-            "size 1 tasks 2 done 2 failed 0 waiting 0 owed 0 cycles 0 result 1\nclean\n",
-            "size 1 tasks 2 done 1 failed 1 waiting 0 owed 0 cycles 0 result -\nmarked\n",
-        ),
-    )?;
-    shows_edges(
-        &rt,
-        ("2", "6", "14"),
-        ("5", "13"),
-        (
-            "size 2 tasks 3 done 3 failed 0 waiting 0 owed 0 cycles 0 result 3\nclean\n",
-            "size 2 tasks 3 done 2 failed 1 waiting 0 owed 0 cycles 0 result -\nmarked\n",
-        ),
-    )
-}
-
-#[test]
-fn the_greatest_size_with_just_enough(rt: HostRuntime) -> Result<(), Fail> {
-    shows(
-        &rt,
+/// Sizes with exactly the cells and the statements that they need, and with one less of each.
+const EDGES: &[Row] = &[
+    (
+        "gen --size 1 --cells 4 --steps 11",
+        "",
+        Status::Clean,
+        "size 1 tasks 2 done 2 failed 0 waiting 0 owed 0 cycles 0 result 1\nclean\n",
+    ),
+    (
+        "gen --size 1 --cells 4 --steps 10",
+        "",
+        Status::Marked,
+        "size 1 tasks 2 done 1 failed 1 waiting 0 owed 0 cycles 0 result -\nmarked\n",
+    ),
+    (
+        "gen --size 1 --cells 3",
+        "",
+        Status::Full,
+        "full: more than 3 cells\n",
+    ),
+    (
+        "gen --size 2 --cells 6 --steps 14",
+        "",
+        Status::Clean,
+        "size 2 tasks 3 done 3 failed 0 waiting 0 owed 0 cycles 0 result 3\nclean\n",
+    ),
+    (
+        "gen --size 2 --cells 6 --steps 13",
+        "",
+        Status::Marked,
+        "size 2 tasks 3 done 2 failed 1 waiting 0 owed 0 cycles 0 result -\nmarked\n",
+    ),
+    (
+        "gen --size 2 --cells 5",
+        "",
+        Status::Full,
+        "full: more than 5 cells\n",
+    ),
+    (
         "gen --size 4000 --cells 8002 --steps 12008",
         "",
         Status::Clean,
         "size 4000 tasks 4001 done 4001 failed 0 waiting 0 owed 0 cycles 0 result 8002000\nclean\n",
-    )
-}
-
-#[test]
-fn the_greatest_size_with_a_statement_too_few(rt: HostRuntime) -> Result<(), Fail> {
-    shows(
-        &rt,
+    ),
+    (
         "gen --size 4000 --cells 8002 --steps 12007",
         "",
         Status::Marked,
         "size 4000 tasks 4001 done 4000 failed 1 waiting 0 owed 0 cycles 0 result -\nmarked\n",
-    )
-}
-
-#[test]
-fn the_greatest_size_with_a_cell_too_few(rt: HostRuntime) -> Result<(), Fail> {
-    shows(
-        &rt,
+    ),
+    (
         "gen --size 4000 --cells 8001",
         "",
         Status::Full,
         "full: more than 8001 cells\n",
-    )
+    ),
+];
+
+#[test]
+fn generated_edges(rt: HostRuntime) -> Result<(), Fail> {
+    shows_each(&rt, EDGES)
 }
 
 /// Asserts what is written for a script of so many tasks, one a line, `main` the first.

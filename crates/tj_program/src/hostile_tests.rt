@@ -1,7 +1,9 @@
 //! Scripts and journals that go to the limits, and each prefix of a script and of a journal. What is
 //! written is worked out by hand from the rules.
 use crate::mode_tests::TWO_WALKS;
-use crate::row_tests::{HANDED_DOWN, Row, answered, answered_within, shows, shows_each};
+use crate::row_tests::{
+    HANDED_DOWN, Row, answered, answered_within, lines_in, shows, shows_each, shows_lines,
+};
 use std::alloc::Global;
 use std::process::Abort;
 use std::sync::Wait;
@@ -103,25 +105,17 @@ fn a_chain_of_4094_forks(rt: HostRuntime) -> Result<(), Fail> {
 // The root's line, 2,000 lines of tasks, the alarm with a part for each, and the verdict.
 #[test]
 fn a_ring_of_2001_tasks(rt: HostRuntime) -> Result<(), Fail> {
+    let ends = (
+        "0 waits for 0.4000\n0.3 waits for 0.1\n",
+        ", 0.3 waits for 0.1\nmarked\n",
+    );
     for line in [
         "plan",
         "run --workers 1",
         "run --workers 2",
         "run --workers 8",
     ] {
-        let (found, _closed, sink) = answered(&rt, line, RING, &OpenGate)?;
-        assert_eq!(rt; found, Status::Marked, "{line}");
-        let count = sink.bytes().iter().filter(|byte| **byte == b'\n').count();
-        assert_eq!(rt; count, 2003, "{line}");
-        assert!(rt;
-            sink.bytes()
-                .starts_with(b"0 waits for 0.4000\n0.3 waits for 0.1\n"),
-            "{line}"
-        );
-        assert!(rt;
-            sink.bytes().ends_with(b", 0.3 waits for 0.1\nmarked\n"),
-            "{line}"
-        );
+        shows_lines(&rt, (line, RING), Status::Marked, 2003, ends)?;
     }
     Ok(())
 }
@@ -148,19 +142,12 @@ fn cycle_of_1024(alloc: Global) -> Result<String, Oom> {
 #[test]
 fn a_cycle_of_1024_tasks(rt: HostRuntime) -> Result<(), Fail> {
     let journal = cycle_of_1024(rt.alloc())?;
-    let (found, _closed, sink) = answered(&rt, "judge --cells 1024", journal.as_str(), &OpenGate)?;
-    assert_eq!(rt; found, Status::Marked);
-    let lines = sink.bytes().iter().filter(|byte| **byte == b'\n').count();
-    assert_eq!(rt; lines, 1025);
-    assert!(rt;
-        sink.bytes()
-            .starts_with(b"task 0 skipped\ntask 1023 skipped\ntask 1022 skipped\n")
+    let words = ("judge --cells 1024", journal.as_str());
+    let ends = (
+        "task 0 skipped\ntask 1023 skipped\ntask 1022 skipped\n",
+        ", 2 waits for 1\nlegal 7166 events\n",
     );
-    assert!(rt;
-        sink.bytes()
-            .ends_with(b", 2 waits for 1\nlegal 7166 events\n")
-    );
-    Ok(())
+    shows_lines(&rt, words, Status::Marked, 1025, ends)
 }
 
 #[test]
@@ -185,11 +172,7 @@ fn each_prefix_of_a_journal(rt: HostRuntime) -> Result<(), Fail> {
         let Some(front) = TWO_WALKS.get(..n) else {
             continue;
         };
-        let lines = front
-            .as_bytes()
-            .iter()
-            .filter(|byte| **byte == b'\n')
-            .count();
+        let lines = lines_in(front.as_bytes());
         let is_cut = !front.is_empty() && !front.ends_with('\n');
         let is_whole = TWO_WALKS.as_bytes().get(n) == Some(&b'\n');
         let number = lines + is_cut as usize;

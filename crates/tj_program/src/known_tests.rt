@@ -1,5 +1,5 @@
 //! Worked rows of the mode `known`: which joins were of tasks that the joiner knew of.
-use crate::row_tests::{AGAINST_THE_ORDER, FIB_OF_3, shows};
+use crate::row_tests::{AGAINST_THE_ORDER, FIB_OF_3, Row, shows_each};
 use crate::tests::THREE;
 use std::test::Fail;
 use tj_command::Status;
@@ -8,48 +8,51 @@ const JOINS_A_GRANDCHILD: &str = "task main() { let p = new; fork kid(own p); le
     = join g; return v; } task kid(p) { let g = fork one(); set p = g; return 0; } task one() { \
     return 1; }";
 
-#[test]
-fn known_joins_of_scripts(rt: HostRuntime) -> Result<(), Fail> {
-    shows(
-        &rt,
+const KNOWN: &[Row] = &[
+    (
         "known",
         FIB_OF_3,
         Status::Clean,
         "0 joins 0.1 known\n0.1 joins 0.1.1 known\n0.1 joins 0.1.2 known\n\
             0.1.1 joins 0.1.1.1 known\n0.1.1 joins 0.1.1.2 known\n\
             joins 5 known 5 along 0 against 0\n",
-    )?;
-    shows(
-        &rt,
+    ),
+    (
         "known",
         JOINS_A_GRANDCHILD,
         Status::Clean,
         "0 joins 0.2.1 along\njoins 1 known 0 along 1 against 0\n",
-    )?;
-    shows(
-        &rt,
+    ),
+    (
         "known",
         AGAINST_THE_ORDER,
         Status::Marked,
         "0.2 joins 0.3 against\njoins 1 known 0 along 0 against 1\n",
-    )
-}
+    ),
+];
 
 #[test]
-fn known_joins_of_little(rt: HostRuntime) -> Result<(), Fail> {
-    shows(
-        &rt,
+fn known_joins_of_scripts(rt: HostRuntime) -> Result<(), Fail> {
+    shows_each(&rt, KNOWN)
+}
+
+const LITTLE: &[Row] = &[
+    (
         "known --cells 1",
         THREE,
         Status::Clean,
         "joins 0 known 0 along 0 against 0\n",
-    )?;
-    shows(
-        &rt,
+    ),
+    (
         "known --cells 1",
         "task main() { let p = new; set p = 1; return p; }",
         Status::Full,
         "full: more than 1 cells\n",
-    )?;
-    shows(&rt, "known", "", Status::Script, "script fault P5 at 1:1\n")
+    ),
+    ("known", "", Status::Script, "script fault P5 at 1:1\n"),
+];
+
+#[test]
+fn known_joins_of_little(rt: HostRuntime) -> Result<(), Fail> {
+    shows_each(&rt, LITTLE)
 }

@@ -1,5 +1,5 @@
 //! Worked rows of the other modes, and of words without a form.
-use crate::row_tests::{Row, shows, shows_each};
+use crate::row_tests::{Row, shows_each};
 use crate::tests::{THREE, USAGE};
 use std::test::Fail;
 use tj_command::Status;
@@ -89,43 +89,47 @@ const JOURNALS: &[Row] = &[
 const THOUSAND: &str = "size 1000 tasks 1001 done 1001 failed 0 waiting 0 owed 0 cycles 0 \
     result 500500\nclean\n";
 
-#[test]
-fn words_without_form(rt: HostRuntime) -> Result<(), Fail> {
-    shows(&rt, "run --workers 65", THREE, Status::Usage, USAGE)?;
-    shows(&rt, "plan --workers 2", THREE, Status::Usage, USAGE)?;
-    shows(&rt, "run --cells=5", THREE, Status::Usage, USAGE)?;
-    shows(&rt, "run --cells 5 --cells 5", THREE, Status::Usage, USAGE)?;
-    shows(&rt, "", THREE, Status::Usage, USAGE)?;
-    shows(&rt, "judge --cells 1025", THREE, Status::Usage, USAGE)?;
-    shows(&rt, "run --strict --strict", THREE, Status::Usage, USAGE)?;
-    shows(&rt, "list --strict", THREE, Status::Usage, USAGE)?;
-    shows(&rt, "run --cells --strict", THREE, Status::Usage, USAGE)?;
-    shows(&rt, "run --workers 0", THREE, Status::Usage, USAGE)?;
-    shows(&rt, "run --cells 12345678901", THREE, Status::Usage, USAGE)?;
-    shows(&rt, "run run", THREE, Status::Usage, USAGE)?;
-    shows(&rt, "go", THREE, Status::Usage, USAGE)?;
-    Ok(())
-}
+const WITHOUT_FORM: &[Row] = &[
+    ("run --workers 65", THREE, Status::Usage, USAGE),
+    ("plan --workers 2", THREE, Status::Usage, USAGE),
+    ("run --cells=5", THREE, Status::Usage, USAGE),
+    ("run --cells 5 --cells 5", THREE, Status::Usage, USAGE),
+    ("", THREE, Status::Usage, USAGE),
+    ("judge --cells 1025", THREE, Status::Usage, USAGE),
+    ("run --strict --strict", THREE, Status::Usage, USAGE),
+    ("list --strict", THREE, Status::Usage, USAGE),
+    ("run --cells --strict", THREE, Status::Usage, USAGE),
+    ("run --workers 0", THREE, Status::Usage, USAGE),
+    ("run --cells 12345678901", THREE, Status::Usage, USAGE),
+    ("run run", THREE, Status::Usage, USAGE),
+    ("go", THREE, Status::Usage, USAGE),
+];
 
 #[test]
-fn listings(rt: HostRuntime) -> Result<(), Fail> {
-    shows(
-        &rt,
+fn words_without_form(rt: HostRuntime) -> Result<(), Fail> {
+    shows_each(&rt, WITHOUT_FORM)
+}
+
+const LISTINGS: &[Row] = &[
+    (
         "list",
         "task main(){if 1<2{print (1+2)*3;}else{}return -(4);}",
         Status::Clean,
         "task main() {\n  if 1 < 2 {\n    print (1 + 2) * 3;\n  } else {\n  }\n  return -4;\n}\
             \n",
-    )?;
-    shows(
-        &rt,
+    ),
+    (
         "list",
         "task main(){let p=new;let v=get p or 1+2;return v;}",
         Status::Clean,
         "task main() {\n  let p = new;\n  let v = get p or 1 + 2;\n  return v;\n}\n",
-    )?;
-    shows(&rt, "list", "", Status::Script, "script fault P5 at 1:1\n")?;
-    Ok(())
+    ),
+    ("list", "", Status::Script, "script fault P5 at 1:1\n"),
+];
+
+#[test]
+fn listings(rt: HostRuntime) -> Result<(), Fail> {
+    shows_each(&rt, LISTINGS)
 }
 
 #[test]
@@ -133,43 +137,31 @@ fn journals(rt: HostRuntime) -> Result<(), Fail> {
     shows_each(&rt, JOURNALS)
 }
 
-#[test]
-fn generated(rt: HostRuntime) -> Result<(), Fail> {
-    shows(
-        &rt,
+const GENERATED: &[Row] = &[
+    (
         "gen --size 2",
         "left",
         Status::Clean,
         "size 2 tasks 3 done 3 failed 0 waiting 0 owed 0 cycles 0 result 3\nclean\n",
-    )?;
-    shows(
-        &rt,
+    ),
+    (
         "gen --size 4000",
         "",
         Status::Full,
         "full: more than 4096 cells\n",
-    )?;
-    shows(&rt, "gen --size 1000", "", Status::Clean, THOUSAND)?;
-    shows(
-        &rt,
-        "gen --size 1000 --workers 1",
-        "",
-        Status::Clean,
-        THOUSAND,
-    )?;
-    shows(
-        &rt,
-        "gen --workers 16 --size 1000",
-        "",
-        Status::Clean,
-        THOUSAND,
-    )?;
-    shows(
-        &rt,
+    ),
+    ("gen --size 1000", "", Status::Clean, THOUSAND),
+    ("gen --size 1000 --workers 1", "", Status::Clean, THOUSAND),
+    ("gen --workers 16 --size 1000", "", Status::Clean, THOUSAND),
+    (
         "gen --size 4000 --cells 8002 --workers 8",
         "",
         Status::Clean,
         "size 4000 tasks 4001 done 4001 failed 0 waiting 0 owed 0 cycles 0 result 8002000\nclean\n",
-    )?;
-    Ok(())
+    ),
+];
+
+#[test]
+fn generated(rt: HostRuntime) -> Result<(), Fail> {
+    shows_each(&rt, GENERATED)
 }

@@ -7,7 +7,6 @@ use crate::script_run::Told;
 use crate::tests::{THREE, USAGE};
 use crate::worker_runs::ended_at_rest;
 use std::alloc::Global;
-use std::process::Abort;
 use std::sync::Wait;
 use std::test::Fail;
 use std::thread::Threads;
@@ -25,33 +24,34 @@ const RELAY_OF_3: &str =
 
 const SENT_EARLY: &str = "0 prints 5\n0 failed broken 0.2\n0.3 done 0\n0.3 owes 0.2\nmarked\n";
 
-/// Asserts what `relay` writes with so many workers.
-fn shows_relays(
-    rt: &(impl Abort + AllocGlobal + Wait + Threads + Sync),
-    line: &str,
-    status: Status,
-    output: &str,
-) -> Result<(), Fail> {
-    shows(rt, line, "", status, output)?;
-    shows(rt, line, THREE, status, output)
-}
+/// Words of `relay`, the status, and what is written, whatever the input is.
+const RELAYS: &[(&str, Status, &str)] = &[
+    ("relay --size 3 --workers 1", Status::Clean, RELAY_OF_3),
+    ("relay --size 3 --workers 2", Status::Clean, RELAY_OF_3),
+    ("relay --size 3 --workers 8", Status::Clean, RELAY_OF_3),
+    ("relay --size 3 --cells 6", Status::Clean, RELAY_OF_3),
+    (
+        "relay --size 3 --cells 5",
+        Status::Full,
+        "full: more than 5 cells\n",
+    ),
+    ("relay --size 3 --steps 5", Status::Usage, USAGE),
+    (
+        "relay --size 1",
+        Status::Clean,
+        "0 prints 1\n0 done 1\n0.2 done 0\n0.2.1 done 0\nclean\n",
+    ),
+];
 
 #[test]
-fn relays_of_three(rt: HostRuntime) -> Result<(), Fail> {
-    let full = "full: more than 5 cells\n";
-    let steps = "relay --size 3 --steps 5";
-    shows_relays(&rt, "relay --size 3 --workers 1", Status::Clean, RELAY_OF_3)?;
-    shows_relays(&rt, "relay --size 3 --workers 2", Status::Clean, RELAY_OF_3)?;
-    shows_relays(&rt, "relay --size 3 --workers 8", Status::Clean, RELAY_OF_3)?;
-    shows_relays(&rt, "relay --size 3 --cells 6", Status::Clean, RELAY_OF_3)?;
-    shows_relays(&rt, "relay --size 3 --cells 5", Status::Full, full)?;
-    shows_relays(&rt, steps, Status::Usage, USAGE)
-}
-
-#[test]
-fn relays_of_one(rt: HostRuntime) -> Result<(), Fail> {
-    let report = "0 prints 1\n0 done 1\n0.2 done 0\n0.2.1 done 0\nclean\n";
-    shows_relays(&rt, "relay --size 1", Status::Clean, report)
+fn relays(rt: HostRuntime) -> Result<(), Fail> {
+    for input in ["", THREE] {
+        for row in RELAYS {
+            let (line, status, output) = *row;
+            shows(&rt, line, input, status, output)?;
+        }
+    }
+    Ok(())
 }
 
 /// The lists of a root that receives two items of a child that sends one.

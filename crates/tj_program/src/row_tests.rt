@@ -88,162 +88,179 @@ pub fn shows_each(
     Ok(())
 }
 
-/// The same with any number of workers, and by `plan`.
-pub fn shows_any(
+/// A row of any number of workers, and of `plan`: the input, the status, and what is written.
+pub type AnyRow = (&'static str, Status, &'static str);
+
+/// Asserts each row with any number of workers, and by `plan`.
+pub fn shows_any_each(
     rt: &(impl Abort + AllocGlobal + Wait + Threads + Sync),
-    input: &str,
-    status: Status,
-    output: &str,
+    rows: &[AnyRow],
 ) -> Result<(), Fail> {
-    shows(rt, "run --workers 1", input, status, output)?;
-    shows(rt, "run --workers 2", input, status, output)?;
-    shows(rt, "run --workers 8", input, status, output)?;
-    shows(rt, "plan", input, status, output)
+    for line in [
+        "run --workers 1",
+        "run --workers 2",
+        "run --workers 8",
+        "plan",
+    ] {
+        for row in rows {
+            let (input, status, output) = *row;
+            shows(rt, line, input, status, output)?;
+        }
+    }
+    Ok(())
 }
 
-#[test]
-fn tasks_alone(rt: HostRuntime) -> Result<(), Fail> {
-    shows(
-        &rt,
-        "run --workers 1",
-        THREE,
-        Status::Clean,
-        "0 done 3\nclean\n",
-    )?;
-    shows(&rt, "run", "", Status::Script, "script fault P5 at 1:1\n")?;
-    shows(
-        &rt,
+/// How many line feeds a text has.
+pub fn lines_in(text: &[u8]) -> usize {
+    text.iter().filter(|byte| **byte == b'\n').count()
+}
+
+/// Asserts the status, how many lines are written, and how the text begins and ends.
+pub fn shows_lines(
+    rt: &(impl Abort + AllocGlobal + Wait + Threads + Sync),
+    (line, input): (&str, &str),
+    status: Status,
+    lines: usize,
+    (front, back): (&str, &str),
+) -> Result<(), Fail> {
+    let (found, _closed, sink) = answered(rt, line, input, &OpenGate)?;
+    assert_eq!(rt; found, status, "{line}");
+    let text = sink.bytes();
+    assert_eq!(rt; lines_in(text), lines, "{line}");
+    let ends = text.starts_with(front.as_bytes()) && text.ends_with(back.as_bytes());
+    assert!(rt; ends, "{line}");
+    Ok(())
+}
+
+const TASKS_ALONE: &[Row] = &[
+    ("run --workers 1", THREE, Status::Clean, "0 done 3\nclean\n"),
+    ("run", "", Status::Script, "script fault P5 at 1:1\n"),
+    (
         "run",
         "task main() { return 1;",
         Status::Script,
         "script fault P1 at 1:24\n",
-    )?;
-    shows(
-        &rt,
+    ),
+    (
         "run",
         "task main() { print x; }",
         Status::Script,
         "script fault P2 at 1:21\n",
-    )?;
-    shows(
-        &rt,
+    ),
+    (
         "run",
         "task main() { return 1 @ 2; }",
         Status::Script,
         "script fault L1 at 1:24\n",
-    )?;
-    shows(
-        &rt,
+    ),
+    (
         "run",
         "task main() { return 9223372036854775807 + 1; }",
         Status::Marked,
         "0 failed arith\nmarked\n",
-    )?;
-    shows(
-        &rt,
+    ),
+    (
         "run",
         "task main() { return 9223372036854775808; }",
         Status::Script,
         "script fault L2 at 1:22\n",
-    )?;
-    shows(
-        &rt,
+    ),
+    (
         "run --steps 3",
         "task main() { while 1 { } }",
         Status::Marked,
         "0 failed steps\nmarked\n",
-    )?;
-    shows(
-        &rt,
+    ),
+    (
         "run",
         "task main() { set me = 1; }",
         Status::Script,
         "script fault P1 at 1:19\n",
-    )?;
-    shows(
-        &rt,
+    ),
+    (
         "run",
         "task main() { let m = me; set m = 1; }",
         Status::Marked,
         "0 failed kind\nmarked\n",
-    )?;
-    Ok(())
-}
+    ),
+];
 
 #[test]
-fn several_tasks(rt: HostRuntime) -> Result<(), Fail> {
-    shows_any(
-        &rt,
+fn tasks_alone(rt: HostRuntime) -> Result<(), Fail> {
+    shows_each(&rt, TASKS_ALONE)
+}
+
+const SEVERAL_TASKS: &[AnyRow] = &[
+    (
         HANDED_DOWN,
         Status::Clean,
         "0 prints 7\n0 done 7\n0.2 done 0\n0.2.1 done 1\nclean\n",
-    )?;
-    shows_any(
-        &rt,
+    ),
+    (
         "task main() { let p = new; fork kid(p); return 0; } task kid(p) { let v = get p; \
             return v; }",
         Status::Marked,
         "0 done 0\n0 owes 0.1\n0.2 failed broken 0.1\nmarked\n",
-    )?;
-    shows_any(
-        &rt,
+    ),
+    (
         "task main() { let p = new; let a = fork taker(p); fork giver(own p); let b = fork \
             taker(p); let x = join a; let y = join b; return x + y; } task taker(p) { let v = \
             get p; return v + 1; } task giver(p) { set p = 4; return 0; }",
         Status::Clean,
         "0 done 10\n0.2 done 5\n0.3 done 0\n0.4 done 5\nclean\n",
-    )?;
-    shows_any(
-        &rt,
+    ),
+    (
         "task main() { let p = new; fork kid(own p); set p = 1; return 0; } task kid(p) { set \
             p = 2; set p = 3; return 0; }",
         Status::Marked,
         "0 failed owner 0.1\n0.2 failed owner 0.1\nmarked\n",
-    )?;
-    shows_any(
-        &rt,
+    ),
+    (
         "task main() { let a = fork one(); fork two(a); return 0; } task one() { return 1; } \
             task two(a) { let v = join a; return v; }",
         Status::Clean,
         "0 done 0\n0.1 done 1\n0.2 done 1\nclean\n",
-    )?;
-    shows_any(
-        &rt,
+    ),
+    (
         AGAINST_THE_ORDER,
         Status::Clean,
         "0 done 0\n0.2 done 1\n0.3 done 1\nclean\n",
-    )?;
-    shows_any(&rt, FIB_OF_3, Status::Clean, FIB_OF_3_REPORT)
-}
+    ),
+    (FIB_OF_3, Status::Clean, FIB_OF_3_REPORT),
+];
 
 #[test]
-fn cycles(rt: HostRuntime) -> Result<(), Fail> {
-    shows_any(
-        &rt,
+fn several_tasks(rt: HostRuntime) -> Result<(), Fail> {
+    shows_any_each(&rt, SEVERAL_TASKS)
+}
+
+const CYCLES: &[AnyRow] = &[
+    (
         TWO_WAIT,
         Status::Marked,
         "0 done 0\n0.3 waits for 0.2\n0.4 waits for 0.1\nalarm 0.3 waits for 0.2, 0.4 waits \
             for 0.1\nmarked\n",
-    )?;
-    shows_any(
-        &rt,
+    ),
+    (
         JOIN_EACH_OTHER,
         Status::Marked,
         "0 waits for 0.1\n0.1 waits for 0\nalarm 0 waits for 0.1, 0.1 waits for 0\nmarked\n",
-    )?;
-    shows_any(
-        &rt,
+    ),
+    (
         "task main() { let p = new; let k = fork kid(p); let v = join k; set p = v; return v; \
             } task kid(p) { let v = get p; return v; }",
         Status::Marked,
         "0 waits for 0.2\n0.2 waits for 0.1\nalarm 0 waits for 0.2, 0.2 waits for 0.1\nmarked\
             \n",
-    )?;
-    shows_any(
-        &rt,
+    ),
+    (
         "task main() { let p = new; let v = get p; return v; }",
         Status::Marked,
         "0 waits for 0.1\nalarm 0 waits for 0.1\nmarked\n",
-    )?;
-    Ok(())
+    ),
+];
+
+#[test]
+fn cycles(rt: HostRuntime) -> Result<(), Fail> {
+    shows_any_each(&rt, CYCLES)
 }

@@ -27,136 +27,151 @@ pub fn words_of(alloc: Global, line: &str) -> Result<Vec<String>, AllocError> {
     Ok(words)
 }
 
-/// Asserts what the words write for so many of a byte, then the tail, and the status.
-fn shows_long(
-    rt: &(impl Abort + AllocGlobal + Wait + Threads + Sync),
-    line: &str,
-    (byte, count): (u8, usize),
-    tail: &str,
-    status: Status,
-    output: &str,
-) -> Result<(), Fail> {
-    let alloc = rt.alloc();
-    let words = words_of(alloc, line)?;
+/// Words, so many of a byte and then a tail, the status, and what is written.
+type LongRow = (
+    &'static str,
+    (u8, usize),
+    &'static str,
+    Status,
+    &'static str,
+);
+
+/// The same byte so many times, and then the tail.
+fn long(alloc: Global, (byte, count): (u8, usize), tail: &str) -> Result<Vec<u8>, AllocError> {
     let mut input = vec![in alloc; byte; count]?;
     input.extend_from_slice(tail.as_bytes())?;
-    let mut source = MemSource::new(input, 65536, Vec::new(alloc));
-    let mut sink = MemSink::new(alloc, 100, 100, Vec::new(alloc))?;
-    let (found, _closed) = run_words(
-        rt,
-        alloc,
-        words.as_slice(),
-        &mut source,
-        &mut sink,
-        &OpenGate,
-    );
-    assert_eq!(rt; found, status);
-    assert_eq!(rt; sink.bytes(), output.as_bytes());
+    Ok(input)
+}
+
+/// Asserts what the words write over the ports, and the status.
+fn shows_over(
+    rt: &(impl Abort + AllocGlobal + Wait + Threads + Sync),
+    line: &str,
+    source: &mut MemSource,
+    sink: &mut MemSink,
+    (status, output): (Status, &str),
+) -> Result<(), Fail> {
+    let words = words_of(rt.alloc(), line)?;
+    let (found, _closed) = run_words(rt, rt.alloc(), words.as_slice(), source, sink, &OpenGate);
+    assert_eq!(rt; found, status, "{line}");
+    assert_eq!(rt; sink.bytes(), output.as_bytes(), "{line}");
     Ok(())
 }
 
-#[test]
-fn long_inputs(rt: HostRuntime) -> Result<(), Fail> {
-    let too_long = "script fault T1 at 1:1048577\n";
-    shows_long(&rt, "run", (b' ', 1_048_577), "", Status::Script, too_long)?;
-    shows_long(
-        &rt,
+fn shows_long(
+    rt: &(impl Abort + AllocGlobal + Wait + Threads + Sync),
+    (line, bytes, tail, status, output): LongRow,
+) -> Result<(), Fail> {
+    let alloc = rt.alloc();
+    let mut source = MemSource::new(long(alloc, bytes, tail)?, 65536, Vec::new(alloc));
+    let mut sink = MemSink::new(alloc, 100, 100, Vec::new(alloc))?;
+    shows_over(rt, line, &mut source, &mut sink, (status, output))
+}
+
+const TOO_LONG: &str = "script fault T1 at 1:1048577\n";
+
+/// What the script of one task writes.
+const CLEAN: &str = "0 done 3\nclean\n";
+
+const LONG: &[LongRow] = &[
+    ("run", (b' ', 1_048_577), "", Status::Script, TOO_LONG),
+    (
         "list",
         (b' ', 1_048_576),
         "",
         Status::Script,
         "script fault P5 at 1:1\n",
-    )?;
-    shows_long(
-        &rt,
+    ),
+    (
         "plan",
         (b' ', 1_048_547),
         THREE,
         Status::Clean,
         "0 done 3\nclean\n",
-    )?;
-    shows_long(
-        &rt,
-        "plan",
-        (b' ', 1_048_548),
-        THREE,
-        Status::Script,
-        too_long,
-    )?;
-    shows_long(
-        &rt,
+    ),
+    ("plan", (b' ', 1_048_548), THREE, Status::Script, TOO_LONG),
+    (
         "run",
         (b'\n', 1_048_570),
         "task @ ",
         Status::Script,
         "script fault T1 at 1048571:7\n",
-    )?;
-    shows_long(
-        &rt,
+    ),
+    (
         "judge",
         (b'\n', 1_048_577),
         "",
         Status::Script,
         "journal fault at line 1048577\n",
-    )
+    ),
+];
+
+#[test]
+fn long_inputs(rt: HostRuntime) -> Result<(), Fail> {
+    for row in LONG {
+        shows_long(&rt, *row)?;
+    }
+    Ok(())
 }
+
+/// Words, the sink's room, the take and the put that fail, the status, and what is written.
+type FailingRow = (&'static str, (u32, u32, u32), Status, &'static str);
 
 /// Asserts what is written over ports whose calls of these numbers fail.
 fn shows_failing(
     rt: &(impl Abort + AllocGlobal + Wait + Threads + Sync),
-    line: &str,
-    (room, take, put): (u32, u32, u32),
-    status: Status,
-    output: &str,
+    (line, (room, take, put), status, output): FailingRow,
 ) -> Result<(), Fail> {
     let alloc = rt.alloc();
-    let words = words_of(alloc, line)?;
     let input = THREE.as_bytes().to_vec(alloc)?;
     let mut source = MemSource::new(input, 1, [take].to_vec(alloc)?);
     let mut sink = MemSink::new(alloc, room, 4, [put].to_vec(alloc)?)?;
-    let (found, _closed) = run_words(
-        rt,
-        alloc,
-        words.as_slice(),
-        &mut source,
-        &mut sink,
-        &OpenGate,
-    );
-    assert_eq!(rt; found, status, "{line}");
-    assert_eq!(rt; sink.bytes(), output.as_bytes(), "{line}");
-    Ok(())
+    shows_over(rt, line, &mut source, &mut sink, (status, output))
 }
 
 // The script has 29 bytes, so call 30 of a source that gives one a call sees its end.
 #[test]
 fn each_read_fails_in_turn(rt: HostRuntime) -> Result<(), Fail> {
     for take in 1..=30 {
-        shows_failing(&rt, "run", (100, take, 0), Status::ReadFault, "")?;
+        shows_failing(&rt, ("run", (100, take, 0), Status::ReadFault, ""))?;
     }
-    shows_failing(&rt, "run", (100, 31, 0), Status::Clean, "0 done 3\nclean\n")
+    shows_failing(&rt, ("run", (100, 31, 0), Status::Clean, CLEAN))
 }
+
+const PUTS: &[FailingRow] = &[
+    ("run", (100, 0, 1), Status::WriteFault, ""),
+    ("run", (100, 0, 2), Status::WriteFault, "0 do"),
+    ("run", (100, 0, 3), Status::WriteFault, "0 done 3"),
+    ("run", (100, 0, 4), Status::WriteFault, "0 done 3\ncle"),
+    ("run", (100, 0, 5), Status::Clean, "0 done 3\nclean\n"),
+];
 
 // The report has 15 bytes, which four puts of four bytes take.
 #[test]
 fn each_put_fails_in_turn(rt: HostRuntime) -> Result<(), Fail> {
-    shows_failing(&rt, "run", (100, 0, 1), Status::WriteFault, "")?;
-    shows_failing(&rt, "run", (100, 0, 2), Status::WriteFault, "0 do")?;
-    shows_failing(&rt, "run", (100, 0, 3), Status::WriteFault, "0 done 3")?;
-    shows_failing(&rt, "run", (100, 0, 4), Status::WriteFault, "0 done 3\ncle")?;
-    shows_failing(&rt, "run", (100, 0, 5), Status::Clean, "0 done 3\nclean\n")
+    for row in PUTS {
+        shows_failing(&rt, *row)?;
+    }
+    Ok(())
 }
 
-#[test]
-fn failing_ports(rt: HostRuntime) -> Result<(), Fail> {
-    shows_failing(&rt, "run", (10, 0, 0), Status::WriteFault, "0 done 3\nc")?;
-    shows_failing(&rt, "run --workers 0", (200, 1, 0), Status::Usage, USAGE)?;
-    shows_failing(
-        &rt,
+const PORTS: &[FailingRow] = &[
+    ("run", (10, 0, 0), Status::WriteFault, "0 done 3\nc"),
+    ("run --workers 0", (200, 1, 0), Status::Usage, USAGE),
+    (
         "gen --size 1",
         (200, 1, 0),
         Status::Clean,
         "size 1 tasks 2 done 2 failed 0 waiting 0 owed 0 cycles 0 result 1\nclean\n",
-    )
+    ),
+];
+
+#[test]
+fn failing_ports(rt: HostRuntime) -> Result<(), Fail> {
+    for row in PORTS {
+        shows_failing(&rt, *row)?;
+    }
+    Ok(())
 }
 
 /// The status of words without a form over a sink in memory that never fails and has room for the
