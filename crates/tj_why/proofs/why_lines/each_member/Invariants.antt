@@ -1,0 +1,9 @@
+use Rattle.std.proofs.Common.{◌≡◌, take}
+use Rattle.std.specs.List.{flat_map}
+use Rattle.tj_why.specs.Scenes.{view}
+use Rattle.tj_why.specs.WhyTexts.{member}
+use Rattle.tj_why.proofs.why_lines.each_member.Given as goal
+
+-- the members so far
+abbrev pub invariant-loop-link : goal.invariant-loop-link
+invariant-loop-link l = l.text.items ≡ flat_map (member (view l.scene)) (take l.link-index l.links)

@@ -1,0 +1,98 @@
+-- A picture of a run in the language of Graphviz.
+use Rattle.std.specs.Prelude.{ℕ, Bool, true, false, not, ◌||◌, nat_eq, nat_le, cond, List, [], ◌∷◌, ◌++◌}
+use Rattle.std.specs.Prelude.{codes, decimal, length, slice_get, Option, Some, None}
+use Rattle.std.specs.List.{count_by, flat_map}
+use Rattle.tj_base.specs.ForkOrder.{Name}
+use Rattle.tj_base.specs.Texts.{name_text}
+use Rattle.tj_mean.specs.Outcomes.{is_nil, is_troubled}
+use Rattle.tj_mean.specs.declared.outcome.Ending.{Ending}
+use Rattle.tj_mean.specs.declared.outcome.Ending.TheVariants as ending
+use Rattle.tj_mean.specs.declared.outcome.Link.{Link}
+use Rattle.tj_trace.specs.declared.line.TraceLine.{TraceLine}
+use Rattle.tj_why.specs.Scenes.{Told, line_of, maker_name, name_of, stop_text}
+use Rattle.tj_why.specs.WhyTexts.{is_member}
+
+-- the most tasks of which each is in the picture
+abbrev pub most_drawn : ℕ
+most_drawn = 200
+
+-- the task is in the picture: each is where there are few, and else those that failed, owe or wait
+abbrev pub is_drawn : Told → TraceLine → Bool
+is_drawn s l = nat_le (length s.lines) most_drawn || is_troubled l.line
+
+-- the line, if its task is in the picture
+abbrev pub drawn_only : Told → Option TraceLine → Option TraceLine
+drawn_only s None = None
+drawn_only s (Some l) = cond (is_drawn s l) (Some l) None
+
+-- the node of a cell
+abbrev pub node : Name → List ℕ
+node q = codes "\"" ++ name_text q ++ codes "\""
+
+-- an edge between two cells, of this style
+abbrev pub edge : Name → Name → List ℕ → List ℕ
+edge x y style = codes "  " ++ node x ++ codes " -> " ++ node y ++ style
+
+-- how the node of a task is drawn that stopped so: one that failed is filled
+abbrev pub fill : Ending → List ℕ
+fill (ending.Done v) = codes "\"];\n"
+fill (ending.Failed c) = codes "\", style=filled, fillcolor=salmon];\n"
+fill (ending.Waits q) = codes "\"];\n"
+
+-- the node of a task: its name, its declaration, and where it stopped
+abbrev pub task_node : Told → TraceLine → List ℕ
+task_node s l = codes "  " ++ node l.line.name ++ codes " [label=\"" ++ name_text l.line.name ++ codes "\\n"
+    ++ name_of (slice_get s.script l.decl) ++ codes "\\n" ++ stop_text s l ++ fill l.line.ending
+
+-- the line of the task that forked the one with this name, if it is in the picture
+abbrev pub forker : Told → Name → Option TraceLine
+forker s x = cond (is_nil x) None (drawn_only s (line_of s.lines (maker_name x)))
+
+-- the edge from the task that forked another
+abbrev pub fork_edge : Name → Option TraceLine → List ℕ
+fork_edge x None = []
+fork_edge x (Some l) = edge l.line.name x (codes ";\n")
+
+-- how a wait is drawn: thick and red in a cycle, and else dashed
+abbrev pub wait_style : Bool → List ℕ
+wait_style true = codes " [color=red, penwidth=3];\n"
+wait_style false = codes " [style=dashed];\n"
+
+-- the edge of a task's wait, where it waits
+abbrev pub wait_edge : List (List Link) → Name → Ending → List ℕ
+wait_edge cycles x (ending.Done v) = []
+wait_edge cycles x (ending.Failed c) = []
+wait_edge cycles x (ending.Waits q) = edge x q (wait_style (is_member cycles x))
+
+-- a promise that was never set, and the edge to the task that owned it
+abbrev pub promise_node : Name → Name → List ℕ
+promise_node x q = codes "  " ++ node q ++ codes " [shape=ellipse];\n" ++ edge q x (codes " [style=dotted];\n")
+
+-- the promises that a task owned where it stopped
+abbrev pub promises_with : Ending → TraceLine → List Name
+promises_with (ending.Done v) l = l.line.owes
+promises_with (ending.Failed c) l = l.line.owes
+promises_with (ending.Waits q) l = l.holds
+
+-- what is drawn of a task: its node, the fork that made it, its wait, and the promises that it owned
+abbrev pub drawn : Told → List (List Link) → TraceLine → List ℕ
+drawn s cycles l = task_node s l ++ fork_edge l.line.name (forker s l.line.name)
+    ++ wait_edge cycles l.line.name l.line.ending ++ flat_map (promise_node l.line.name) (promises_with l.line.ending l)
+
+-- the same where the task is in the picture
+abbrev pub drawing : Told → List (List Link) → TraceLine → List ℕ
+drawing s cycles l = cond (is_drawn s l) (drawn s cycles l) []
+
+-- how many tasks are left out
+abbrev pub undrawn : Told → ℕ
+undrawn s = count_by (λ l. not (is_drawn s l)) s.lines
+
+-- a node that tells how many, where some are
+abbrev pub undrawn_node : ℕ → List ℕ
+undrawn_node n = cond (nat_eq n 0) []
+    (codes "  more [shape=note, label=\"" ++ decimal n ++ codes " more ended and owe nothing\"];\n")
+
+-- the picture
+abbrev pub dot_text : Told → List (List Link) → List ℕ
+dot_text s cycles = codes "digraph tasks {\n  node [shape=box];\n" ++ flat_map (drawing s cycles) s.lines
+    ++ undrawn_node (undrawn s) ++ codes "}\n"

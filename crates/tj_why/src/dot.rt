@@ -1,0 +1,276 @@
+//! A picture of a run in the language of Graphviz.
+ghost use Rattle.std.specs.Prelude.{◌≡◌, ◌≤◌, IfOk, length, not, take};
+ghost use Rattle.std.specs.List.{count_by, flat_map};
+ghost use Rattle.std.specs.Option.{option_map};
+ghost use Rattle.tj_mean.specs.Outcomes as outcomes;
+ghost use Rattle.tj_why.specs.DotTexts as spec;
+ghost use Rattle.tj_why.specs.Scenes.{view};
+
+use crate::labels::{line_named, name_of, stop_text};
+use crate::scene::Scene;
+use crate::why_lines::is_member;
+use std::alloc::Global;
+use tj_base::{Name, Oom, add_number};
+use tj_mean::{Ending, LinkList, TaskLine};
+use tj_trace::TraceLine;
+
+/// The most tasks of which each is in the picture.
+const MOST_DRAWN: usize = 200;
+
+/// Whether the task is in the picture.
+fn is_drawn(scene: &Scene, line: &TraceLine) -> bool
+    ensures { result ≡ spec.is_drawn (view scene.now) line.now }
+{
+    scene.lines.len() <= MOST_DRAWN || is_troubled(&line.line)
+}
+
+/// Whether the task failed, owes or waits.
+fn is_troubled(line: &TaskLine) -> bool
+    ensures { result ≡ outcomes.is_troubled line.now }
+{
+    match line.ending {
+        Ending::Done(_) => !line.owes.items().is_empty(),
+        Ending::Failed(_) | Ending::Waits(_) => true,
+    }
+}
+
+/// The node of a cell.
+fn node(alloc: Global, name: &Name) -> Result<Vec<u8>, Oom>
+    ensures { IfOk result (λ text. text.items ≡ spec.node name.now) }
+{
+    let mut text = Vec::from_slice(alloc, b"\"")?;
+    name.text_into(alloc, &mut text)?;
+    text.push(b'"')?;
+    Ok(text)
+}
+
+/// An edge between two cells.
+fn edge(alloc: Global, from: &Name, to: &Name, style: &[u8]) -> Result<Vec<u8>, Oom>
+    ensures { IfOk result (λ text. text.items ≡ spec.edge from.now to.now style.now) }
+{
+    let from = node(alloc, from)?;
+    let to = node(alloc, to)?;
+    let mut text = Vec::from_slice(alloc, b"  ")?;
+    text.extend_from_slice(from.as_slice())?;
+    text.extend_from_slice(b" -> ")?;
+    text.extend_from_slice(to.as_slice())?;
+    text.extend_from_slice(style)?;
+    Ok(text)
+}
+
+/// How the node of a task is drawn that stopped so.
+fn fill(ending: &Ending) -> &'static [u8]
+    ensures { result.now ≡ spec.fill ending.now }
+{
+    match ending {
+        Ending::Done(_) => b"\"];\n",
+        Ending::Failed(_) => b"\", style=filled, fillcolor=salmon];\n",
+        Ending::Waits(_) => b"\"];\n",
+    }
+}
+
+/// The node of a task.
+fn task_node(alloc: Global, scene: &Scene, line: &TraceLine) -> Result<Vec<u8>, Oom>
+    ensures { IfOk result (λ text. text.items ≡ spec.task_node (view scene.now) line.now) }
+{
+    let node = node(alloc, &line.line.name)?;
+    let stop = stop_text(alloc, scene, line)?;
+    let mut text = Vec::from_slice(alloc, b"  ")?;
+    text.extend_from_slice(node.as_slice())?;
+    text.extend_from_slice(b" [label=\"")?;
+    line.line.name.text_into(alloc, &mut text)?;
+    text.extend_from_slice(b"\\n")?;
+    text.extend_from_slice(name_of(scene.script, line.decl))?;
+    text.extend_from_slice(b"\\n")?;
+    text.extend_from_slice(stop.as_slice())?;
+    text.extend_from_slice(fill(&line.line.ending))?;
+    Ok(text)
+}
+
+/// The line, if its task is in the picture.
+fn drawn_only<'t>(scene: &Scene<'t>, line: Option<&'t TraceLine>) -> Option<&'t TraceLine>
+    ensures { option_map (λ line. line.now) result
+        ≡ spec.drawn_only (view scene.now) (option_map (λ line. line.now) line.entry) }
+{
+    let line = line?;
+    if is_drawn(scene, line) {
+        Some(line)
+    } else {
+        None
+    }
+}
+
+/// The line of the task that forked the one with this name, if it is in the picture.
+fn forker<'t>(scene: &Scene<'t>, name: &Name) -> Option<&'t TraceLine>
+    ensures { option_map (λ line. line.now) result ≡ spec.forker (view scene.now) name.now }
+{
+    let parts = name.parts();
+    if parts.is_empty() {
+        return None;
+    }
+    let (maker, _) = parts.split_at(parts.len() - 1);
+    drawn_only(scene, line_named(scene.lines, maker))
+}
+
+/// The edge from the task that forked another.
+fn fork_edge(alloc: Global, name: &Name, forker: Option<&TraceLine>) -> Result<Vec<u8>, Oom>
+    ensures { IfOk result (λ text. text.items
+        ≡ spec.fork_edge name.now (option_map (λ line. line.now) forker.entry)) }
+{
+    match forker {
+        Some(line) => edge(alloc, &line.line.name, name, b";\n"),
+        None => Ok(Vec::new(alloc)),
+    }
+}
+
+/// How a wait is drawn, in a cycle or not.
+fn wait_style(in_cycle: bool) -> &'static [u8]
+    ensures { result.now ≡ spec.wait_style in_cycle }
+{
+    if in_cycle {
+        b" [color=red, penwidth=3];\n"
+    } else {
+        b" [style=dashed];\n"
+    }
+}
+
+/// The edge of a task's wait, where it waits.
+fn wait_edge(
+    alloc: Global,
+    cycles: &[LinkList],
+    name: &Name,
+    ending: &Ending,
+) -> Result<Vec<u8>, Oom>
+    ensures { IfOk result (λ text. text.items
+        ≡ spec.wait_edge cycles.now name.now ending.now) }
+{
+    match ending {
+        Ending::Waits(cell) => edge(alloc, name, cell, wait_style(is_member(cycles, name))),
+        Ending::Done(_) | Ending::Failed(_) => Ok(Vec::new(alloc)),
+    }
+}
+
+/// A promise that was never set, and the edge to the task that owned it.
+fn promise_node(alloc: Global, owner: &Name, promise: &Name) -> Result<Vec<u8>, Oom>
+    ensures { IfOk result (λ text. text.items ≡ spec.promise_node owner.now promise.now) }
+{
+    let node = node(alloc, promise)?;
+    let edge = edge(alloc, promise, owner, b" [style=dotted];\n")?;
+    let mut text = Vec::from_slice(alloc, b"  ")?;
+    text.extend_from_slice(node.as_slice())?;
+    text.extend_from_slice(b" [shape=ellipse];\n")?;
+    text.extend_from_slice(edge.as_slice())?;
+    Ok(text)
+}
+
+/// The promises that a task owned where it stopped.
+fn promises(line: &TraceLine) -> &[Name]
+    ensures { result.now ≡ spec.promises_with line.now.line.ending line.now }
+{
+    match line.line.ending {
+        Ending::Waits(_) => line.holds.items(),
+        Ending::Done(_) | Ending::Failed(_) => line.line.owes.items(),
+    }
+}
+
+/// Each of these promises.
+fn promise_nodes(alloc: Global, owner: &Name, names: &[Name]) -> Result<Vec<u8>, Oom>
+    ensures { IfOk result (λ text. text.items ≡ flat_map (spec.promise_node owner.now) names.now) }
+{
+    let mut text = Vec::new(alloc);
+    for name in names {
+        let added = promise_node(alloc, owner, name)?;
+        text.extend_from_slice(added.as_slice())?;
+    }
+    Ok(text)
+}
+
+/// What is drawn of a task.
+fn drawn(
+    alloc: Global,
+    scene: &Scene,
+    cycles: &[LinkList],
+    line: &TraceLine,
+) -> Result<Vec<u8>, Oom>
+    ensures { IfOk result (λ text. text.items
+        ≡ spec.drawn (view scene.now) cycles.now line.now) }
+{
+    let name = &line.line.name;
+    let fork = fork_edge(alloc, name, forker(scene, name))?;
+    let wait = wait_edge(alloc, cycles, name, &line.line.ending)?;
+    let promises = promise_nodes(alloc, name, promises(line))?;
+    let mut text = task_node(alloc, scene, line)?;
+    text.extend_from_slice(fork.as_slice())?;
+    text.extend_from_slice(wait.as_slice())?;
+    text.extend_from_slice(promises.as_slice())?;
+    Ok(text)
+}
+
+/// The same where the task is in the picture.
+fn drawing(
+    alloc: Global,
+    scene: &Scene,
+    cycles: &[LinkList],
+    line: &TraceLine,
+) -> Result<Vec<u8>, Oom>
+    ensures { IfOk result (λ text. text.items
+        ≡ spec.drawing (view scene.now) cycles.now line.now) }
+{
+    if is_drawn(scene, line) {
+        drawn(alloc, scene, cycles, line)
+    } else {
+        Ok(Vec::new(alloc))
+    }
+}
+
+/// What is drawn of each task.
+fn drawings(alloc: Global, scene: &Scene, cycles: &[LinkList]) -> Result<Vec<u8>, Oom>
+    ensures { IfOk result (λ text. text.items
+        ≡ flat_map (spec.drawing (view scene.now) cycles.now) (view scene.now).lines) }
+{
+    let mut text = Vec::new(alloc);
+    for line in scene.lines {
+        let added = drawing(alloc, scene, cycles, line)?;
+        text.extend_from_slice(added.as_slice())?;
+    }
+    Ok(text)
+}
+
+/// How many tasks are left out.
+fn undrawn(scene: &Scene) -> usize
+    ensures { result ≡ spec.undrawn (view scene.now) }
+{
+    let mut count = 0;
+    for line in scene.lines {
+        if !is_drawn(scene, line) {
+            count += 1;
+        }
+    }
+    count
+}
+
+/// A node that tells how many, where some are.
+fn undrawn_node(alloc: Global, count: usize) -> Result<Vec<u8>, Oom>
+    ensures { IfOk result (λ text. text.items ≡ spec.undrawn_node count) }
+{
+    if count == 0 {
+        return Ok(Vec::new(alloc));
+    }
+    let mut text = Vec::from_slice(alloc, b"  more [shape=note, label=\"")?;
+    add_number(&mut text, count as u128)?;
+    text.extend_from_slice(b" more ended and owe nothing\"];\n")?;
+    Ok(text)
+}
+
+/// The picture.
+pub fn dot_text(alloc: Global, scene: &Scene, cycles: &[LinkList]) -> Result<Vec<u8>, Oom>
+    ensures { IfOk result (λ text. text.items ≡ spec.dot_text (view scene.now) cycles.now) }
+{
+    let tasks = drawings(alloc, scene, cycles)?;
+    let more = undrawn_node(alloc, undrawn(scene))?;
+    let mut text = Vec::from_slice(alloc, b"digraph tasks {\n  node [shape=box];\n")?;
+    text.extend_from_slice(tasks.as_slice())?;
+    text.extend_from_slice(more.as_slice())?;
+    text.extend_from_slice(b"}\n")?;
+    Ok(text)
+}

@@ -1,0 +1,219 @@
+//! The lines of failures: those that are no echo first.
+ghost use Rattle.std.specs.Prelude.{◌≡◌, ◌++◌, IfOk};
+ghost use Rattle.std.specs.List.{flat_map};
+ghost use Rattle.std.specs.Option.{option_map};
+ghost use Rattle.tj_base.specs.Texts.{name_text};
+ghost use Rattle.tj_report.specs.ReportTexts as reports;
+ghost use Rattle.tj_why.specs.Echoes as echoes;
+ghost use Rattle.tj_why.specs.Scenes.{view};
+ghost use Rattle.tj_why.specs.WhyTexts as spec;
+
+use crate::echoes::{backs, echoed, origin};
+use crate::labels::{label, maker_of, stop_text};
+use crate::scene::Scene;
+use crate::why_lines::made_text;
+use std::alloc::Global;
+use tj_base::{Cause, Name, Oom};
+use tj_mean::Ending;
+use tj_trace::TraceLine;
+
+/// What the task did from whose end a failure came.
+fn end_word(ending: &Ending) -> &'static [u8]
+    ensures { result.now ≡ spec.end_word ending.now }
+{
+    match ending {
+        Ending::Done(_) => b", which ended owing at ",
+        Ending::Failed(_) => b", which failed at ",
+        Ending::Waits(_) => b", which waits at ",
+    }
+}
+
+/// The task from whose end a failure came.
+fn origin_text(alloc: Global, scene: &Scene, line: Option<&TraceLine>) -> Result<Vec<u8>, Oom>
+    ensures { IfOk result (λ text. text.items
+        ≡ spec.origin_text (view scene.now) (option_map (λ line. line.now) line.entry)) }
+{
+    let Some(line) = line else {
+        return Ok(Vec::new(alloc));
+    };
+    let stop = stop_text(alloc, scene, line)?;
+    let mut text = Vec::from_slice(alloc, b", from ")?;
+    line.line.name.text_into(alloc, &mut text)?;
+    text.extend_from_slice(end_word(&line.line.ending))?;
+    text.extend_from_slice(stop.as_slice())?;
+    Ok(text)
+}
+
+/// The same of a failure, if it is an echo.
+fn echo_text(
+    alloc: Global,
+    scene: &Scene,
+    backs: &[Option<usize>],
+    cause: &Cause,
+) -> Result<Vec<u8>, Oom>
+    ensures { IfOk result (λ text. text.items
+        ≡ spec.echo_text (view scene.now) backs.now (echoes.echoed cause.now)) }
+{
+    match echoed(cause) {
+        Some(name) => origin_text(alloc, scene, origin(scene.lines, backs, name)),
+        None => Ok(Vec::new(alloc)),
+    }
+}
+
+/// These bytes and the name of a cell.
+fn named(alloc: Global, before: &[u8], name: &Name) -> Result<Vec<u8>, Oom>
+    ensures { IfOk result (λ text. text.items ≡ before.now ++ name_text name.now) }
+{
+    let mut text = Vec::from_slice(alloc, before)?;
+    name.text_into(alloc, &mut text)?;
+    Ok(text)
+}
+
+/// Why a task failed, in the words of a report.
+fn cause_text(alloc: Global, cause: &Cause) -> Result<Vec<u8>, Oom>
+    ensures { IfOk result (λ text. text.items ≡ reports.cause_text cause.now) }
+{
+    match cause {
+        Cause::Arith => Ok(Vec::from_slice(alloc, b"arith")?),
+        Cause::Kind => Ok(Vec::from_slice(alloc, b"kind")?),
+        Cause::Steps => Ok(Vec::from_slice(alloc, b"steps")?),
+        Cause::Owner(name) => named(alloc, b"owner ", name),
+        Cause::Broken(name) => named(alloc, b"broken ", name),
+        Cause::Order(name) => named(alloc, b"order ", name),
+    }
+}
+
+/// The cell that a cause names.
+fn named_by(cause: &Cause) -> Option<&Name>
+    ensures { option_map (λ name. name.now) result ≡ spec.named_by cause.now }
+{
+    match cause {
+        Cause::Owner(name) | Cause::Broken(name) | Cause::Order(name) => Some(name),
+        Cause::Arith | Cause::Kind | Cause::Steps => None,
+    }
+}
+
+/// Where this cell was made, if it is one.
+fn about_text(alloc: Global, scene: &Scene, name: Option<&Name>) -> Result<Vec<u8>, Oom>
+    ensures { IfOk result (λ text. text.items
+        ≡ spec.about_text (view scene.now) (option_map (λ name. name.now) name.entry)) }
+{
+    match name {
+        Some(name) => made_text(alloc, scene, maker_of(scene.lines, name)),
+        None => Ok(Vec::new(alloc)),
+    }
+}
+
+/// Whether a failure is an echo.
+fn is_echo(cause: &Cause) -> bool
+    ensures { result ≡ spec.is_echo cause.now }
+{
+    match cause {
+        Cause::Broken(_) => true,
+        Cause::Arith | Cause::Kind | Cause::Steps | Cause::Owner(_) | Cause::Order(_) => false,
+    }
+}
+
+/// Whether such a failure is asked for: an echo, or one that is none.
+fn is_asked(echo: bool, cause: &Cause) -> bool
+    ensures { result ≡ spec.is_asked echo cause.now }
+{
+    if echo {
+        is_echo(cause)
+    } else {
+        !is_echo(cause)
+    }
+}
+
+/// A line for a failure.
+fn failed_line(
+    alloc: Global,
+    scene: &Scene,
+    backs: &[Option<usize>],
+    line: &TraceLine,
+    cause: &Cause,
+) -> Result<Vec<u8>, Oom>
+    ensures { IfOk result (λ text. text.items
+        ≡ spec.failed_line (view scene.now) backs.now line.now cause.now) }
+{
+    let task = label(alloc, scene, line)?;
+    let stop = stop_text(alloc, scene, line)?;
+    let why = cause_text(alloc, cause)?;
+    let about = about_text(alloc, scene, named_by(cause))?;
+    let echo = echo_text(alloc, scene, backs, cause)?;
+    let mut text = Vec::from_slice(alloc, b"failed: ")?;
+    text.extend_from_slice(task.as_slice())?;
+    text.extend_from_slice(b" at ")?;
+    text.extend_from_slice(stop.as_slice())?;
+    text.extend_from_slice(b": ")?;
+    text.extend_from_slice(why.as_slice())?;
+    text.extend_from_slice(about.as_slice())?;
+    text.extend_from_slice(echo.as_slice())?;
+    text.push(b'\n')?;
+    Ok(text)
+}
+
+/// A line for a task that failed, if its failure is no echo, or is one.
+fn failed(
+    alloc: Global,
+    scene: &Scene,
+    backs: &[Option<usize>],
+    echo: bool,
+    line: &TraceLine,
+) -> Result<Vec<u8>, Oom>
+    ensures { IfOk result (λ text. text.items
+        ≡ spec.failed (view scene.now) backs.now echo line.now) }
+{
+    match &line.line.ending {
+        Ending::Failed(cause) => failed_by(alloc, scene, backs, echo, line, cause),
+        Ending::Done(_) | Ending::Waits(_) => Ok(Vec::new(alloc)),
+    }
+}
+
+/// The same of one that failed for this cause.
+fn failed_by(
+    alloc: Global,
+    scene: &Scene,
+    backs: &[Option<usize>],
+    echo: bool,
+    line: &TraceLine,
+    cause: &Cause,
+) -> Result<Vec<u8>, Oom>
+    ensures { IfOk result (λ text. text.items
+        ≡ spec.failed_by (view scene.now) backs.now echo line.now cause.now) }
+{
+    if is_asked(echo, cause) {
+        failed_line(alloc, scene, backs, line, cause)
+    } else {
+        Ok(Vec::new(alloc))
+    }
+}
+
+/// A line for each failure that is no echo, or for each that is one.
+fn all_failed(
+    alloc: Global,
+    scene: &Scene,
+    backs: &[Option<usize>],
+    echo: bool,
+) -> Result<Vec<u8>, Oom>
+    ensures { IfOk result (λ text. text.items
+        ≡ flat_map (spec.failed (view scene.now) backs.now echo) (view scene.now).lines) }
+{
+    let mut text = Vec::new(alloc);
+    for line in scene.lines {
+        let added = failed(alloc, scene, backs, echo, line)?;
+        text.extend_from_slice(added.as_slice())?;
+    }
+    Ok(text)
+}
+
+/// The failures: those that are no echo first.
+pub fn failures(alloc: Global, scene: &Scene) -> Result<Vec<u8>, Oom>
+    ensures { IfOk result (λ text. text.items ≡ spec.failures (view scene.now)) }
+{
+    let backs = backs(alloc, scene.lines)?;
+    let echoes = all_failed(alloc, scene, backs.as_slice(), true)?;
+    let mut text = all_failed(alloc, scene, backs.as_slice(), false)?;
+    text.extend_from_slice(echoes.as_slice())?;
+    Ok(text)
+}

@@ -1,0 +1,131 @@
+//! How a text names a task and a position.
+ghost use Rattle.std.specs.Prelude.{◌≡◌, IfOk, slice_get};
+ghost use Rattle.std.specs.Option.{option_map};
+ghost use Rattle.tj_syntax.specs.PlacesOf.{view_task};
+ghost use Rattle.tj_syntax.specs.View as trees;
+ghost use Rattle.tj_why.specs.Scenes as spec;
+
+use crate::scene::Scene;
+use std::alloc::Global;
+use tj_base::{Name, Oom, add_number};
+use tj_lex::Place;
+use tj_syntax::{Script, StatementPlace, TaskPlaces};
+use tj_trace::{Maker, TraceLine};
+
+/// A position.
+pub fn place_text(alloc: Global, place: Place) -> Result<Vec<u8>, Oom>
+    ensures { IfOk result (λ text. text.items ≡ spec.place_text place) }
+{
+    let mut text = Vec::new(alloc);
+    add_number(&mut text, place.line as u128)?;
+    text.push(b':')?;
+    add_number(&mut text, place.column as u128)?;
+    Ok(text)
+}
+
+/// Where a statement is told to stand: at its ask, if it has one.
+fn told_place(statement: &StatementPlace) -> Place
+    ensures { result ≡ spec.told_place statement.now }
+{
+    match statement.ask {
+        Some(place) => place,
+        None => statement.at,
+    }
+}
+
+/// Where a statement of these is told to stand.
+fn told_spot(task: &TaskPlaces, at: usize) -> Option<Place>
+    ensures { result ≡ slice_get (spec.told_places (view_task task.now)) at }
+{
+    if let Some(statement) = task.statements.get(at) {
+        return Some(told_place(statement));
+    }
+    if at == task.statements.len() {
+        Some(task.brace)
+    } else {
+        None
+    }
+}
+
+/// Where the statement with this number in the declaration with that one is told to stand.
+fn spot(scene: &Scene, decl: usize, at: usize) -> Option<Place>
+    ensures { result ≡ spec.told_spot (slice_get (spec.view scene.now).places decl) at }
+{
+    let task = scene.places.tasks.get(decl)?;
+    told_spot(task, at)
+}
+
+/// Its position.
+pub fn spot_text(alloc: Global, scene: &Scene, decl: usize, at: usize) -> Result<Vec<u8>, Oom>
+    ensures { IfOk result (λ text. text.items ≡ spec.spot_text (spec.view scene.now) decl at) }
+{
+    match spot(scene, decl, at) {
+        Some(place) => place_text(alloc, place),
+        None => Ok(Vec::from_slice(alloc, b"?")?),
+    }
+}
+
+/// The name of a declaration.
+pub fn name_of(script: &Script, decl: usize) -> &[u8]
+    ensures { result.now ≡ spec.name_of (slice_get (trees.script script.now) decl) }
+{
+    match script.tasks.get(decl) {
+        Some(task) => task.name.bytes(),
+        None => b"?",
+    }
+}
+
+/// The line of the task with this name.
+pub fn line_of<'t>(lines: &'t [TraceLine], name: &Name) -> Option<&'t TraceLine>
+    ensures { option_map (λ line. line.now) result ≡ spec.line_of lines.now name.now }
+{
+    tj_trace::line_of(lines, name)
+}
+
+/// The line of the task with a name of these numbers.
+pub fn line_named<'t>(lines: &'t [TraceLine], name: &[u32]) -> Option<&'t TraceLine>
+    ensures { option_map (λ line. line.now) result ≡ spec.line_of lines.now name.now }
+{
+    lines.iter().find(|line| line.line.name.parts() == name)
+}
+
+/// The statement that made the cell with this name.
+pub fn maker_of(lines: &[TraceLine], name: &Name) -> Option<Maker>
+    ensures { result ≡ spec.maker_of lines.now name.now }
+{
+    tj_trace::maker_of(lines, name)
+}
+
+/// Where a task was forked.
+fn forked_text(alloc: Global, scene: &Scene, maker: Option<Maker>) -> Result<Vec<u8>, Oom>
+    ensures { IfOk result (λ text. text.items ≡ spec.forked_text (spec.view scene.now) maker) }
+{
+    let Some(maker) = maker else {
+        return Ok(Vec::new(alloc));
+    };
+    let mut text = Vec::from_slice(alloc, b", forked at ")?;
+    let spot = spot_text(alloc, scene, maker.decl, maker.at)?;
+    text.extend_from_slice(spot.as_slice())?;
+    Ok(text)
+}
+
+/// A task with its declaration and the fork that made it.
+pub fn label(alloc: Global, scene: &Scene, line: &TraceLine) -> Result<Vec<u8>, Oom>
+    ensures { IfOk result (λ text. text.items ≡ spec.label (spec.view scene.now) line.now) }
+{
+    let forked = forked_text(alloc, scene, maker_of(scene.lines, &line.line.name))?;
+    let mut text = Vec::new(alloc);
+    line.line.name.text_into(alloc, &mut text)?;
+    text.extend_from_slice(b" (task ")?;
+    text.extend_from_slice(name_of(scene.script, line.decl))?;
+    text.extend_from_slice(forked.as_slice())?;
+    text.push(b')')?;
+    Ok(text)
+}
+
+/// Where a task stopped.
+pub fn stop_text(alloc: Global, scene: &Scene, line: &TraceLine) -> Result<Vec<u8>, Oom>
+    ensures { IfOk result (λ text. text.items ≡ spec.stop_text (spec.view scene.now) line.now) }
+{
+    spot_text(alloc, scene, line.decl, line.at)
+}

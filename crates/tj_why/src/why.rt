@@ -1,0 +1,80 @@
+//! What is told of an outcome.
+ghost use Rattle.std.specs.Prelude.{◌≡◌, IfOk};
+ghost use Rattle.tj_syntax.specs.PlacesOf as places_of;
+ghost use Rattle.tj_syntax.specs.View as trees;
+ghost use Rattle.tj_why.specs.Scenes.{view};
+ghost use Rattle.tj_why.specs.Tellings as tellings;
+ghost use Rattle.tj_why.specs.WhyTexts as spec;
+
+use crate::dot::dot_text;
+use crate::failures::failures;
+use crate::scene::Scene;
+use crate::telling::Telling;
+use crate::why_lines::{all_behind, all_owed, deadlocks, tasks_text};
+use std::alloc::Global;
+use tj_base::Oom;
+use tj_mean::{LinkList, Outcome, marked};
+use tj_syntax::{Script, ScriptPlaces};
+use tj_trace::TraceLine;
+
+/// What is told of the outcome of a script's run, with these lines of a trace.
+pub fn why_text(
+    alloc: Global,
+    script: &Script,
+    places: &ScriptPlaces,
+    lines: &[TraceLine],
+    outcome: &Outcome,
+    telling: Telling,
+) -> Result<Vec<u8>, Oom>
+    ensures { IfOk result (λ text. text.items ≡ tellings.why_text (trees.script script.now)
+        (places_of.view places.now) lines.now outcome.now telling) }
+{
+    let scene = Scene {
+        script,
+        places,
+        lines,
+    };
+    match telling {
+        Telling::Wrong => told_text(alloc, &scene, outcome, false),
+        Telling::All => told_text(alloc, &scene, outcome, true),
+        Telling::Dot => dot_text(alloc, &scene, outcome.cycles.items()),
+    }
+}
+
+/// What is told of an outcome, perhaps with all of each cycle.
+fn told_text(alloc: Global, scene: &Scene, outcome: &Outcome, all: bool) -> Result<Vec<u8>, Oom>
+    ensures { IfOk result (λ text.
+        text.items ≡ spec.told_text (view scene.now) outcome.now all) }
+{
+    if marked(outcome) {
+        wrong_text(alloc, scene, all, outcome.cycles.items())
+    } else {
+        fine_text(alloc, scene.lines.len())
+    }
+}
+
+/// What went wrong.
+fn wrong_text(alloc: Global, scene: &Scene, all: bool, cycles: &[LinkList]) -> Result<Vec<u8>, Oom>
+    ensures { IfOk result (λ text.
+        text.items ≡ spec.wrong_text (view scene.now) all cycles.now) }
+{
+    let waits = all_behind(alloc, scene, cycles)?;
+    let owed = all_owed(alloc, scene)?;
+    let failed = failures(alloc, scene)?;
+    let mut text = deadlocks(alloc, scene, all, cycles)?;
+    text.extend_from_slice(waits.as_slice())?;
+    text.extend_from_slice(owed.as_slice())?;
+    text.extend_from_slice(failed.as_slice())?;
+    Ok(text)
+}
+
+/// Nothing went wrong with so many tasks.
+fn fine_text(alloc: Global, count: usize) -> Result<Vec<u8>, Oom>
+    ensures { IfOk result (λ text. text.items ≡ spec.fine_text count) }
+{
+    let tasks = tasks_text(alloc, count)?;
+    let mut text = Vec::from_slice(alloc, b"nothing is wrong: ")?;
+    text.extend_from_slice(tasks.as_slice())?;
+    text.extend_from_slice(b" ended, each promise was set\n")?;
+    Ok(text)
+}

@@ -1,0 +1,369 @@
+//! The lines that tell what went wrong. Each function gives the text of its lines.
+ghost use Rattle.std.specs.Prelude.{◌≡◌, ◌<◌, IfOk, Some, length};
+ghost use Rattle.std.specs.List.{flat_map, list_any};
+ghost use Rattle.std.specs.Option.{option_map};
+ghost use Rattle.tj_body.specs.Names.{same};
+ghost use Rattle.tj_why.specs.Scenes.{view};
+ghost use Rattle.tj_why.specs.WhyTexts as spec;
+
+use crate::labels::{label, line_of, maker_of, spot_text, stop_text};
+use crate::scene::Scene;
+use std::alloc::Global;
+use tj_base::{Name, Oom, Sort, add_number};
+use tj_mean::{Ending, Link, LinkList};
+use tj_trace::{Maker, TraceLine, owner_of};
+
+/// The most members that a cycle has which is told whole.
+const MOST_MEMBERS: usize = 20;
+
+/// How many members stand at each end of one that isn't.
+const END_MEMBERS: usize = 10;
+
+/// So many tasks.
+pub fn tasks_text(alloc: Global, count: usize) -> Result<Vec<u8>, Oom>
+    ensures { IfOk result (λ text. text.items ≡ spec.tasks_text count) }
+{
+    if count == 1 {
+        return Ok(Vec::from_slice(alloc, b"1 task")?);
+    }
+    let mut text = Vec::new(alloc);
+    add_number(&mut text, count as u128)?;
+    text.extend_from_slice(b" tasks")?;
+    Ok(text)
+}
+
+/// Who owns a promise, if somebody does.
+fn owner_text(alloc: Global, owner: Option<&TraceLine>) -> Result<Vec<u8>, Oom>
+    ensures { IfOk result (λ text.
+        text.items ≡ spec.owner_text (option_map (λ line. line.now) owner.entry)) }
+{
+    let Some(line) = owner else {
+        return Ok(Vec::new(alloc));
+    };
+    let mut text = Vec::from_slice(alloc, b", which ")?;
+    line.line.name.text_into(alloc, &mut text)?;
+    text.extend_from_slice(b" owns")?;
+    Ok(text)
+}
+
+/// Where a promise was made.
+pub fn made_text(alloc: Global, scene: &Scene, maker: Option<Maker>) -> Result<Vec<u8>, Oom>
+    ensures { IfOk result (λ text. text.items ≡ spec.made_text (view scene.now) maker) }
+{
+    let Some(maker) = maker else {
+        return Ok(Vec::new(alloc));
+    };
+    let spot = spot_text(alloc, scene, maker.decl, maker.at)?;
+    let mut text = Vec::from_slice(alloc, b" (made at ")?;
+    text.extend_from_slice(spot.as_slice())?;
+    text.push(b')')?;
+    Ok(text)
+}
+
+/// A promise with the statement that made it.
+fn promise_text(alloc: Global, scene: &Scene, name: &Name) -> Result<Vec<u8>, Oom>
+    ensures { IfOk result (λ text. text.items ≡ spec.promise_text (view scene.now) name.now) }
+{
+    let made = made_text(alloc, scene, maker_of(scene.lines, name))?;
+    let mut text = Vec::from_slice(alloc, b"the promise ")?;
+    name.text_into(alloc, &mut text)?;
+    text.extend_from_slice(made.as_slice())?;
+    Ok(text)
+}
+
+/// Whether a cell is a promise, by what made it.
+pub fn is_promise(maker: Option<Maker>) -> bool
+    ensures { result ≡ spec.is_promise maker }
+{
+    match maker {
+        Some(maker) => is_promise_sort(maker.sort),
+        None => false,
+    }
+}
+
+/// Whether this is the sort of promises.
+fn is_promise_sort(sort: Sort) -> bool
+    ensures { result ≡ spec.is_promise_sort sort }
+{
+    match sort {
+        Sort::Promise => true,
+        Sort::Task => false,
+    }
+}
+
+/// A cell for which a task waits.
+fn cell_text(alloc: Global, scene: &Scene, name: &Name) -> Result<Vec<u8>, Oom>
+    ensures { IfOk result (λ text. text.items ≡ spec.cell_text (view scene.now) name.now) }
+{
+    if is_promise(maker_of(scene.lines, name)) {
+        let owner = owner_text(alloc, owner_of(scene.lines, name))?;
+        let mut text = promise_text(alloc, scene, name)?;
+        text.extend_from_slice(owner.as_slice())?;
+        return Ok(text);
+    }
+    let mut text = Vec::from_slice(alloc, b"the task ")?;
+    name.text_into(alloc, &mut text)?;
+    Ok(text)
+}
+
+/// A line for a wait.
+fn wait_line(alloc: Global, scene: &Scene, line: &TraceLine, cell: &Name) -> Result<Vec<u8>, Oom>
+    ensures { IfOk result (λ text.
+        text.items ≡ spec.wait_line (view scene.now) line.now cell.now) }
+{
+    let stop = stop_text(alloc, scene, line)?;
+    let cell = cell_text(alloc, scene, cell)?;
+    let mut text = label(alloc, scene, line)?;
+    text.extend_from_slice(b" waits at ")?;
+    text.extend_from_slice(stop.as_slice())?;
+    text.extend_from_slice(b" for ")?;
+    text.extend_from_slice(cell.as_slice())?;
+    text.push(b'\n')?;
+    Ok(text)
+}
+
+/// A line for a member of a cycle.
+fn member(alloc: Global, scene: &Scene, link: &Link) -> Result<Vec<u8>, Oom>
+    ensures { IfOk result (λ text. text.items ≡ spec.member (view scene.now) link.now) }
+{
+    match line_of(scene.lines, &link.task) {
+        Some(line) => member_with(alloc, scene, &link.cell, line),
+        None => Ok(Vec::new(alloc)),
+    }
+}
+
+/// The wait of a task with this line.
+fn member_with(alloc: Global, scene: &Scene, cell: &Name, line: &TraceLine) -> Result<Vec<u8>, Oom>
+    ensures { IfOk result (λ text.
+        text.items ≡ spec.member_with (view scene.now) cell.now (Some line.now)) }
+{
+    let wait = wait_line(alloc, scene, line, cell)?;
+    let mut text = Vec::from_slice(alloc, b"  ")?;
+    text.extend_from_slice(wait.as_slice())?;
+    Ok(text)
+}
+
+/// A line for each of these members.
+fn each_member(alloc: Global, scene: &Scene, links: &[Link]) -> Result<Vec<u8>, Oom>
+    ensures { IfOk result (λ text.
+        text.items ≡ flat_map (spec.member (view scene.now)) links.now) }
+{
+    let mut text = Vec::new(alloc);
+    for link in links {
+        let added = member(alloc, scene, link)?;
+        text.extend_from_slice(added.as_slice())?;
+    }
+    Ok(text)
+}
+
+/// A line for the members that are left out.
+fn left_out(alloc: Global, count: usize) -> Result<Vec<u8>, Oom>
+    ensures { IfOk result (λ text. text.items ≡ spec.left_out count) }
+{
+    let mut text = Vec::from_slice(alloc, b"  .. ")?;
+    add_number(&mut text, count as u128)?;
+    text.extend_from_slice(b" more ..\n")?;
+    Ok(text)
+}
+
+/// The members of a cycle.
+fn members(alloc: Global, scene: &Scene, all: bool, links: &[Link]) -> Result<Vec<u8>, Oom>
+    ensures { IfOk result (λ text.
+        text.items ≡ spec.members (view scene.now) all links.now) }
+{
+    if all || links.len() <= MOST_MEMBERS {
+        return each_member(alloc, scene, links);
+    }
+    ends(alloc, scene, links)
+}
+
+/// The members at the two ends of a long cycle.
+fn ends(alloc: Global, scene: &Scene, links: &[Link]) -> Result<Vec<u8>, Oom>
+    requires { 20 < length links.now }
+    ensures { IfOk result (λ text. text.items ≡ spec.ends (view scene.now) links.now) }
+{
+    let (front, _) = links.split_at(END_MEMBERS);
+    let (_, back) = links.split_at(links.len() - END_MEMBERS);
+    let between = left_out(alloc, links.len() - MOST_MEMBERS)?;
+    let back = each_member(alloc, scene, back)?;
+    let mut text = each_member(alloc, scene, front)?;
+    text.extend_from_slice(between.as_slice())?;
+    text.extend_from_slice(back.as_slice())?;
+    Ok(text)
+}
+
+/// What each of so many tasks waits for.
+fn each_other(count: usize) -> &'static [u8]
+    ensures { result.now ≡ spec.each_other count }
+{
+    if count == 1 {
+        b" waits for itself\n"
+    } else {
+        b" wait for each other\n"
+    }
+}
+
+/// A cycle.
+fn deadlock(alloc: Global, scene: &Scene, all: bool, links: &LinkList) -> Result<Vec<u8>, Oom>
+    ensures { IfOk result (λ text.
+        text.items ≡ spec.deadlock (view scene.now) all links.now) }
+{
+    let links = links.items();
+    let tasks = tasks_text(alloc, links.len())?;
+    let members = members(alloc, scene, all, links)?;
+    let mut text = Vec::from_slice(alloc, b"deadlock: ")?;
+    text.extend_from_slice(tasks.as_slice())?;
+    text.extend_from_slice(each_other(links.len()))?;
+    text.extend_from_slice(members.as_slice())?;
+    Ok(text)
+}
+
+/// Each cycle.
+pub fn deadlocks(
+    alloc: Global,
+    scene: &Scene,
+    all: bool,
+    cycles: &[LinkList],
+) -> Result<Vec<u8>, Oom>
+    ensures { IfOk result (λ text.
+        text.items ≡ flat_map (spec.deadlock (view scene.now) all) cycles.now) }
+{
+    let mut text = Vec::new(alloc);
+    for links in cycles {
+        let added = deadlock(alloc, scene, all, links)?;
+        text.extend_from_slice(added.as_slice())?;
+    }
+    Ok(text)
+}
+
+/// Whether the task is on this cycle.
+fn is_on(links: &LinkList, name: &Name) -> bool
+    ensures { result ≡ list_any (λ k. same k.task name.now) links.now }
+{
+    links.items().iter().any(|link| link.task == *name)
+}
+
+/// Whether the task is a member of one of the cycles.
+pub fn is_member(cycles: &[LinkList], name: &Name) -> bool
+    ensures { result ≡ spec.is_member cycles.now name.now }
+{
+    cycles.iter().any(|links| is_on(links, name))
+}
+
+/// A line for a task that waits and is no member of a cycle.
+fn behind(
+    alloc: Global,
+    scene: &Scene,
+    cycles: &[LinkList],
+    line: &TraceLine,
+) -> Result<Vec<u8>, Oom>
+    ensures { IfOk result (λ text.
+        text.items ≡ spec.behind (view scene.now) cycles.now line.now) }
+{
+    match &line.line.ending {
+        Ending::Waits(cell) => behind_at(alloc, scene, cycles, line, cell),
+        Ending::Done(_) | Ending::Failed(_) => Ok(Vec::new(alloc)),
+    }
+}
+
+/// The same of one that waits for this cell.
+fn behind_at(
+    alloc: Global,
+    scene: &Scene,
+    cycles: &[LinkList],
+    line: &TraceLine,
+    cell: &Name,
+) -> Result<Vec<u8>, Oom>
+    ensures { IfOk result (λ text.
+        text.items ≡ spec.behind_at (view scene.now) cycles.now line.now cell.now) }
+{
+    if is_member(cycles, &line.line.name) {
+        return Ok(Vec::new(alloc));
+    }
+    let wait = wait_line(alloc, scene, line, cell)?;
+    let mut text = Vec::from_slice(alloc, b"behind it: ")?;
+    text.extend_from_slice(wait.as_slice())?;
+    Ok(text)
+}
+
+/// A line for each task that waits and is no member of a cycle.
+pub fn all_behind(alloc: Global, scene: &Scene, cycles: &[LinkList]) -> Result<Vec<u8>, Oom>
+    ensures { IfOk result (λ text.
+        text.items ≡ flat_map (spec.behind (view scene.now) cycles.now) (view scene.now).lines) }
+{
+    let mut text = Vec::new(alloc);
+    for line in scene.lines {
+        let added = behind(alloc, scene, cycles, line)?;
+        text.extend_from_slice(added.as_slice())?;
+    }
+    Ok(text)
+}
+
+/// How a task stopped.
+fn stopped_word(ending: &Ending) -> &'static [u8]
+    ensures { result.now ≡ spec.stopped_word ending.now }
+{
+    match ending {
+        Ending::Done(_) => b"ended",
+        Ending::Failed(_) => b"failed",
+        Ending::Waits(_) => b"waits",
+    }
+}
+
+/// A line for a promise that a task owed.
+fn owed_line(alloc: Global, scene: &Scene, line: &TraceLine, name: &Name) -> Result<Vec<u8>, Oom>
+    ensures { IfOk result (λ text.
+        text.items ≡ spec.owed_line (view scene.now) line.now name.now) }
+{
+    let promise = promise_text(alloc, scene, name)?;
+    let owner = label(alloc, scene, line)?;
+    let stop = stop_text(alloc, scene, line)?;
+    let mut text = Vec::from_slice(alloc, b"owed: ")?;
+    text.extend_from_slice(promise.as_slice())?;
+    text.extend_from_slice(b" was never set: ")?;
+    text.extend_from_slice(owner.as_slice())?;
+    text.extend_from_slice(b" owned it and ")?;
+    text.extend_from_slice(stopped_word(&line.line.ending))?;
+    text.extend_from_slice(b" at ")?;
+    text.extend_from_slice(stop.as_slice())?;
+    text.push(b'\n')?;
+    Ok(text)
+}
+
+/// A line for each of these promises, which a task owed.
+fn owed_lines(
+    alloc: Global,
+    scene: &Scene,
+    line: &TraceLine,
+    names: &[Name],
+) -> Result<Vec<u8>, Oom>
+    ensures { IfOk result (λ text.
+        text.items ≡ flat_map (spec.owed_line (view scene.now) line.now) names.now) }
+{
+    let mut text = Vec::new(alloc);
+    for name in names {
+        let added = owed_line(alloc, scene, line, name)?;
+        text.extend_from_slice(added.as_slice())?;
+    }
+    Ok(text)
+}
+
+/// A line for each promise that a task owed.
+fn owed(alloc: Global, scene: &Scene, line: &TraceLine) -> Result<Vec<u8>, Oom>
+    ensures { IfOk result (λ text. text.items ≡ spec.owed (view scene.now) line.now) }
+{
+    owed_lines(alloc, scene, line, line.line.owes.items())
+}
+
+/// A line for each promise that a task owed, of all tasks.
+pub fn all_owed(alloc: Global, scene: &Scene) -> Result<Vec<u8>, Oom>
+    ensures { IfOk result (λ text.
+        text.items ≡ flat_map (spec.owed (view scene.now)) (view scene.now).lines) }
+{
+    let mut text = Vec::new(alloc);
+    for line in scene.lines {
+        let added = owed(alloc, scene, line)?;
+        text.extend_from_slice(added.as_slice())?;
+    }
+    Ok(text)
+}
