@@ -1,5 +1,5 @@
 -- A picture of a run in the language of Graphviz.
-use Rattle.std.specs.Prelude.{ℕ, Bool, true, false, not, ◌||◌, nat_eq, nat_le, cond, List, [], ◌∷◌, ◌++◌}
+use Rattle.std.specs.Prelude.{ℕ, Bool, true, false, not, ◌||◌, nat_eq, nat_le, cond, List, [], ◌++◌}
 use Rattle.std.specs.Prelude.{codes, decimal, length, slice_get, Option, Some, None}
 use Rattle.std.specs.List.{count_by, flat_map}
 use Rattle.tj_base.specs.ForkOrder.{Name}

@@ -1,5 +1,5 @@
 -- Failures that only echo another: from which task's end they came.
-use Rattle.std.specs.Prelude.{ℕ, zero, suc, Bool, true, false, ◌||◌, List, map, length, get_or, slice_get}
+use Rattle.std.specs.Prelude.{ℕ, zero, suc, Bool, ◌||◌, List, map, length, get_or, slice_get}
 use Rattle.std.specs.Prelude.{Option, Some, None, option_and_then}
 use Rattle.std.specs.List.{position}
 use Rattle.tj_base.specs.ForkOrder.{Name}

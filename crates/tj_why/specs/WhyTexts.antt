@@ -1,5 +1,5 @@
 -- What went wrong with a run, as it is told.
-use Rattle.std.specs.Prelude.{ℕ, Bool, true, false, not, ◌||◌, ◌-◌, nat_eq, nat_le, cond, List, [], ◌∷◌, ◌++◌}
+use Rattle.std.specs.Prelude.{ℕ, Bool, true, false, not, ◌||◌, ◌-◌, nat_eq, nat_le, cond, List, [], ◌++◌}
 use Rattle.std.specs.Prelude.{codes, decimal, length, take, drop, Option, Some, None}
 use Rattle.std.specs.List.{find, flat_map, list_any}
 use Rattle.tj_base.specs.ForkOrder.{Name}
@@ -107,7 +107,7 @@ is_member cycles x = list_any (λ links. list_any (λ k. same k.task x) links) c
 
 -- a line for a task that waits for this cell and is no member of a cycle
 abbrev pub behind_at : Told → List (List Link) → TraceLine → Name → List ℕ
-behind_at s cycles l q = cond (is_member cycles l.line.name) [] (codes "behind it: " ++ wait_line s l q)
+behind_at s cycles l q = cond (is_member cycles l.line.name) [] (codes "behind a deadlock: " ++ wait_line s l q)
 
 -- the same of a task that stopped so
 abbrev pub behind_with : Told → List (List Link) → TraceLine → Ending → List ℕ
@@ -143,7 +143,7 @@ end_word (ending.Waits q) = codes ", which waits at "
 -- the task from whose end a failure came
 abbrev pub origin_text : Told → Option TraceLine → List ℕ
 origin_text s None = []
-origin_text s (Some l) = codes ", from " ++ name_text l.line.name ++ end_word l.line.ending ++ stop_text s l
+origin_text s (Some l) = codes ", at first from " ++ name_text l.line.name ++ end_word l.line.ending ++ stop_text s l
 
 -- the same of a failure, if it is an echo
 abbrev pub echo_text : Told → List (Option ℕ) → Option Name → List ℕ
@@ -196,14 +196,14 @@ failed_with s bs echo l (ending.Waits q) = []
 abbrev pub failed : Told → List (Option ℕ) → Bool → TraceLine → List ℕ
 failed s bs echo l = failed_with s bs echo l l.line.ending
 
--- the failures: those that are no echo first
-abbrev pub failures : Told → List ℕ
-failures s = flat_map (failed s (backs s.lines) false) s.lines ++ flat_map (failed s (backs s.lines) true) s.lines
+-- how tasks ended badly: failures that are no echo, then promises that were never set, then echoes
+abbrev pub bad_ends : Told → List ℕ
+bad_ends s = flat_map (failed s (backs s.lines) false) s.lines ++ flat_map (owed s) s.lines
+    ++ flat_map (failed s (backs s.lines) true) s.lines
 
--- what went wrong: cycles, other waits, promises that were never set, failures
+-- what went wrong: cycles, other waits, and bad ends
 abbrev pub wrong_text : Told → Bool → List (List Link) → List ℕ
-wrong_text s all cycles = flat_map (deadlock s all) cycles ++ flat_map (behind s cycles) s.lines
-    ++ flat_map (owed s) s.lines ++ failures s
+wrong_text s all cycles = flat_map (deadlock s all) cycles ++ flat_map (behind s cycles) s.lines ++ bad_ends s
 
 -- nothing went wrong with so many tasks
 abbrev pub fine_text : ℕ → List ℕ

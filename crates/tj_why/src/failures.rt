@@ -1,4 +1,4 @@
-//! The lines of failures: those that are no echo first.
+//! The lines of tasks that ended badly.
 ghost use Rattle.std.specs.Prelude.{◌≡◌, ◌++◌, IfOk};
 ghost use Rattle.std.specs.List.{flat_map};
 ghost use Rattle.std.specs.Option.{option_map};
@@ -11,7 +11,7 @@ ghost use Rattle.tj_why.specs.WhyTexts as spec;
 use crate::echoes::{backs, echoed, origin};
 use crate::labels::{label, maker_of, stop_text};
 use crate::scene::Scene;
-use crate::why_lines::made_text;
+use crate::why_lines::{all_owed, made_text};
 use std::alloc::Global;
 use tj_base::{Cause, Name, Oom};
 use tj_mean::Ending;
@@ -37,7 +37,7 @@ fn origin_text(alloc: Global, scene: &Scene, line: Option<&TraceLine>) -> Result
         return Ok(Vec::new(alloc));
     };
     let stop = stop_text(alloc, scene, line)?;
-    let mut text = Vec::from_slice(alloc, b", from ")?;
+    let mut text = Vec::from_slice(alloc, b", at first from ")?;
     line.line.name.text_into(alloc, &mut text)?;
     text.extend_from_slice(end_word(&line.line.ending))?;
     text.extend_from_slice(stop.as_slice())?;
@@ -207,13 +207,15 @@ fn all_failed(
     Ok(text)
 }
 
-/// The failures: those that are no echo first.
-pub fn failures(alloc: Global, scene: &Scene) -> Result<Vec<u8>, Oom>
-    ensures { IfOk result (λ text. text.items ≡ spec.failures (view scene.now)) }
+/// How tasks ended badly: failures that are no echo, then promises that were never set, then echoes.
+pub fn bad_ends(alloc: Global, scene: &Scene) -> Result<Vec<u8>, Oom>
+    ensures { IfOk result (λ text. text.items ≡ spec.bad_ends (view scene.now)) }
 {
     let backs = backs(alloc, scene.lines)?;
+    let owed = all_owed(alloc, scene)?;
     let echoes = all_failed(alloc, scene, backs.as_slice(), true)?;
     let mut text = all_failed(alloc, scene, backs.as_slice(), false)?;
+    text.extend_from_slice(owed.as_slice())?;
     text.extend_from_slice(echoes.as_slice())?;
     Ok(text)
 }

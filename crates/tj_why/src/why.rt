@@ -7,10 +7,10 @@ ghost use Rattle.tj_why.specs.Tellings as tellings;
 ghost use Rattle.tj_why.specs.WhyTexts as spec;
 
 use crate::dot::dot_text;
-use crate::failures::failures;
+use crate::failures::bad_ends;
 use crate::scene::Scene;
 use crate::telling::Telling;
-use crate::why_lines::{all_behind, all_owed, deadlocks, tasks_text};
+use crate::why_lines::{all_behind, deadlocks, tasks_text};
 use std::alloc::Global;
 use tj_base::Oom;
 use tj_mean::{LinkList, Outcome, marked};
@@ -59,12 +59,10 @@ fn wrong_text(alloc: Global, scene: &Scene, all: bool, cycles: &[LinkList]) -> R
         text.items ≡ spec.wrong_text (view scene.now) all cycles.now) }
 {
     let waits = all_behind(alloc, scene, cycles)?;
-    let owed = all_owed(alloc, scene)?;
-    let failed = failures(alloc, scene)?;
+    let ends = bad_ends(alloc, scene)?;
     let mut text = deadlocks(alloc, scene, all, cycles)?;
     text.extend_from_slice(waits.as_slice())?;
-    text.extend_from_slice(owed.as_slice())?;
-    text.extend_from_slice(failed.as_slice())?;
+    text.extend_from_slice(ends.as_slice())?;
     Ok(text)
 }
 

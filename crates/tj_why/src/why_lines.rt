@@ -281,7 +281,7 @@ fn behind_at(
         return Ok(Vec::new(alloc));
     }
     let wait = wait_line(alloc, scene, line, cell)?;
-    let mut text = Vec::from_slice(alloc, b"behind it: ")?;
+    let mut text = Vec::from_slice(alloc, b"behind a deadlock: ")?;
     text.extend_from_slice(wait.as_slice())?;
     Ok(text)
 }

@@ -1,4 +1,4 @@
-use Rattle.std.proofs.Common.{◌≡◌, ℕ, length}
+use Rattle.std.proofs.Common.{◌≡◌, length}
 use Rattle.tj_why.specs.Carets.{next_line}
 use Rattle.tj_why.proofs.caret.next_line.Given as goal
 
