@@ -1,4 +1,4 @@
-# Completions of tj for bash: put `source CLONE/completions/tj.bash` into ~/.bashrc.
+# Completions of tj and tj-why for bash: put `source CLONE/completions/tj.bash` into ~/.bashrc.
 _tj() {
     local word=${COMP_WORDS[COMP_CWORD]} before=${COMP_WORDS[COMP_CWORD - 1]} words
     case $before in
@@ -23,3 +23,14 @@ _tj() {
 }
 # Behind < there is a file.
 complete -o default -F _tj tj ./tj
+
+_tj_why() {
+    local word=${COMP_WORDS[COMP_CWORD]} before=${COMP_WORDS[COMP_CWORD - 1]} words
+    case $before in
+        --cells | --steps) words= ;;
+        *) words='--cells --steps --strict --all --dot' ;;
+    esac
+    # shellcheck disable=SC2207
+    COMPREPLY=($(compgen -W "$words" -- "$word"))
+}
+complete -o default -F _tj_why tj-why ./tj-why

@@ -4,3 +4,7 @@ pub mod WhyTexts
 pub mod Carets
 pub mod DotTexts
 pub mod Tellings
+pub mod WhyLine
+pub mod WhyOutput
+pub mod WhyAnswers
+pub mod Inner

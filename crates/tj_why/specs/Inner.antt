@@ -1,0 +1,2 @@
+-- What only the functions inside the crate speak of. No public clause does.
+pub mod Readings

@@ -1,0 +1,143 @@
+//! What is told of an input: of a script what went wrong with its run, of any other text its fault.
+ghost use Rattle.std.specs.Prelude.{ℕ, ◌≡◌, ◌≤◌, List, IfOk, length};
+ghost use Rattle.tj_body.specs.Asks.{IsFresh};
+ghost use Rattle.tj_body.specs.Rounds.{IsFull, meaning};
+ghost use Rattle.tj_command.specs.Inputs.{IsReadOf};
+ghost use Rattle.tj_command.specs.Limits.{AreLimits};
+ghost use Rattle.tj_embed.specs.ScriptTexts.{IsMemory, most_bytes};
+ghost use Rattle.tj_eval.specs.Stands.{IsPlacedMain, PlacedState};
+ghost use Rattle.tj_eval.specs.Stands.{placed_awaits, placed_left, placed_places};
+ghost use Rattle.tj_mean.specs.Outcomes.{IsOutcome};
+ghost use Rattle.tj_ports.specs.Reading.{IsWithin};
+ghost use Rattle.tj_syntax.specs.Faults.{IsScript, kinds_of};
+ghost use Rattle.tj_syntax.specs.View as view;
+ghost use Rattle.tj_trace.specs.TraceLaws.{script_program};
+ghost use Rattle.tj_why.specs.Carets as carets;
+ghost use Rattle.tj_why.specs.WhyOutput.{IsCommandOutput, IsToldRun};
+
+use crate::caret::fault_text;
+use crate::line::WhyCommand;
+use crate::why::why_text;
+use std::alloc::Global;
+use tj_base::Oom;
+use tj_command::{Limits, Output, Status, full_line, status_of};
+use tj_embed::{NoScript, position_behind};
+use tj_eval::{PlacedBody, Sizes, main_body, placed_main};
+use tj_lex::{Token, tokens};
+use tj_mean::{Outcome, PlanFault, marked, plan};
+use tj_ports::ReadEnd;
+use tj_syntax::{Script, parse, places};
+use tj_trace::trace;
+
+/// What is told of an input, where this was read of it.
+pub fn told_of(alloc: Global, command: WhyCommand, input: &ReadEnd) -> Result<Output, Oom>
+    requires limits { AreLimits command.limits }
+    requires within { IsWithin most_bytes input.now }
+    ensures { IfOk result (λ output. (all : List ℕ) → IsReadOf all input.now
+        → IsCommandOutput command all output.status output.text.items) }
+{
+    match input {
+        ReadEnd::Whole(text) => told_of_text(alloc, command, text.items()),
+        ReadEnd::Long(text) => {
+            let at = position_behind(text.items());
+            told_fault(alloc, text.items(), NoScript::Long(at))
+        }
+    }
+}
+
+// The same of a text that is short enough.
+fn told_of_text(alloc: Global, command: WhyCommand, text: &[u8]) -> Result<Output, Oom>
+    requires limits { AreLimits command.limits }
+    requires short { length text.now ≤ most_bytes }
+    ensures { IfOk result (λ output.
+        IsCommandOutput command text.now output.status output.text.items) }
+{
+    let found = match tokens(alloc, text) {
+        Ok(found) => found,
+        Err(fault) => return told_fault(alloc, text, NoScript::Tokens(fault)),
+    };
+    match parse(alloc, found.as_slice()) {
+        Ok(script) => told_script(alloc, command, found.as_slice(), &script),
+        Err(fault) => told_fault(alloc, text, NoScript::Grammar(fault)),
+    }
+}
+
+// The fault of a text.
+fn told_fault(alloc: Global, text: &[u8], fault: NoScript) -> Result<Output, Oom>
+    ensures status { IfOk result (λ output. output.status ≡ Status.Script) }
+    ensures text { IfOk result (λ output. output.text.items ≡ carets.fault_text text.now fault) }
+    ensures none { IfOk result (λ _. ¬ IsMemory fault) }
+{
+    Ok(Output {
+        status: Status::Script,
+        text: fault_text(alloc, text, fault)?,
+    })
+}
+
+// What is told of the run of a script with these tokens.
+fn told_script(
+    alloc: Global,
+    command: WhyCommand,
+    tokens: &[Token],
+    script: &Script,
+) -> Result<Output, Oom>
+    requires limits { AreLimits command.limits }
+    requires script { IsScript (kinds_of tokens.now) (view.script script.now) }
+    ensures { IfOk result (λ output. (root : PlacedState)
+        × IsPlacedMain (view.script script.now) command.limits.steps root
+        × IsToldRun command (view.script script.now) tokens.now root output.status
+        output.text.items) }
+{
+    let Limits {
+        cells,
+        steps,
+        strict,
+    } = command.limits;
+    let sizes = Sizes::of(alloc, script)?;
+    let root = placed_main(alloc, script, &sizes, steps)?;
+    match plan(alloc, &main_body(alloc, script, steps)?, cells, strict) {
+        Ok(outcome) => told_outcome(alloc, command, tokens, script, &root, &outcome),
+        Err(PlanFault::Full) => Ok(Output {
+            status: Status::Full,
+            text: full_line(alloc, cells)?,
+        }),
+        Err(PlanFault::Oom) => Err(Oom),
+    }
+}
+
+// What is told of an outcome of the run with this root.
+fn told_outcome(
+    alloc: Global,
+    command: WhyCommand,
+    tokens: &[Token],
+    script: &Script,
+    root: &PlacedBody,
+    outcome: &Outcome,
+) -> Result<Output, Oom>
+    requires limits { AreLimits command.limits }
+    requires root { IsFresh placed_places placed_awaits placed_left 1 root.now }
+    requires fits { ¬ IsFull (script_program command.limits.strict root.now)
+        command.limits.cells }
+    requires outcome { IsOutcome (meaning (script_program command.limits.strict root.now)
+        command.limits.cells) outcome.now }
+    ensures { IfOk result (λ output. IsToldRun command (view.script script.now) tokens.now
+        root.now output.status output.text.items) }
+{
+    let Limits { cells, strict, .. } = command.limits;
+    // The run with stands isn't full where the one without them wasn't.
+    let Ok(lines) = trace(alloc, root, cells, strict) else {
+        return Err(Oom);
+    };
+    let places = places(alloc, tokens)?;
+    Ok(Output {
+        status: status_of(marked(outcome)),
+        text: why_text(
+            alloc,
+            script,
+            &places,
+            lines.items(),
+            outcome,
+            command.telling,
+        )?,
+    })
+}
