@@ -7,3 +7,4 @@ pub mod OneTrace
 pub mod OneOutput
 pub mod ToldInputs
 pub mod Owns
+pub mod SameWords

@@ -6,13 +6,13 @@ use Rattle.tj_why.proofs.top_call.answer.Given.{Over}
 use Rattle.tj_why.proofs.top_call.answer.Goals as goal
 
 -- what was put, as the text of the output
-put : (g : Over) (c : goal.After-put_text g) → IsPutAs (g.K.Sink.has_room c.args.sink.now) c.in-Ok.output.status
+put : (g : Over) (c : goal.After-drop-output g) → IsPutAs (g.K.Sink.has_room c.args.sink.now) c.in-Ok.output.status
     c.in-Ok.output.text.items (g.K.Sink.held c.args.sink.now) (g.K.Sink.held c.put_text.new.sink)
     (g.K.Sink.faults c.args.sink.now) (g.K.Sink.faults c.put_text.new.sink) c.put_text.result
 put g c = put_items (g.K.Sink.has_room c.args.sink.now) _ _ _ _ _ _ _ _ c.as_slice.ensures.value
     c.put_text.ensures.put
 
-own_answer : (g : Over) (c : goal.After-put_text g) → IsOwnAnswer (g.K.Sink.faults c.args.sink.now)
+own_answer : (g : Over) (c : goal.After-drop-output g) → IsOwnAnswer (g.K.Sink.faults c.args.sink.now)
     (g.K.Sink.faults c.put_text.new.sink) c.put_text.result
 own_answer g c = let some = some_input c.args.input.now c.requires.within in
     own_put (g.K.Sink.has_room c.args.sink.now) c.in-Ok.output.status c.in-Ok.output.text.items

@@ -1,6 +1,6 @@
-use Rattle.std.proofs.Common.{ap, subst, sym, ◌∙◌, ◌≡◌}
+use Rattle.std.proofs.Common.{ap, sym, ◌∙◌, ◌≡◌}
 use Rattle.tj_command.specs.declared.given.Given.TheVariants.{Words}
-use Rattle.tj_why.specs.WhyAnswers.{IsWhyAnswer}
+use Rattle.tj_why.proofs.SameWords.{to_same_words}
 use Rattle.tj_why.proofs.words.why_given.Goals as goal
 
 pub returns-in-Words-clause-words : goal.returns-in-Words-clause-words
@@ -9,7 +9,7 @@ returns-in-Words-clause-words g c = λ words given.
     let same : c.in-Words.words ≡ words = cc in
     let seen : c.as_slice.result.now ≡ words.items = c.as_slice.ensures.value ∙ ap (λ w. w.items) same in
     let top = c.why_words.ensures in
-    subst (λ ws. IsWhyAnswer ws _ _ _ _ _ _ _ _ _ _ _ _ _ _) seen
+    to_same_words seen
     (record {
       output = top.output;
       whole = top.whole;
