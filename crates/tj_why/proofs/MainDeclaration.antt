@@ -69,8 +69,8 @@ new_name tasks earlier _ _ (task f heads block) unbroken = is_new (toks.Name f) 
 absent : (tasks earlier : List Name) (a : List Noted) (ts : List Task) → IsTasks tasks earlier a ts → AreUnbroken a
     → (x : Name) → is_among earlier x ≡ true → (g : ℕ) (t : Task) → slice_get ts g ≡ Some t → t.name ≡ x → ⊥
 absent tasks earlier _ _ tasks_end unbroken x among g t get is = let e : None ≡ Some t = get in cc
-absent tasks earlier _ _ (tasks_more {a = a} {b = b} {t = first} {rest = rest} one more) unbroken x among zero t get is =
-    let same : first ≡ t = some_is first t get in
+absent tasks earlier _ _ (tasks_more {a = a} {b = b} {t = first} {rest = rest} one more) unbroken x among zero t get
+    is = let same : first ≡ t = some_is first t get in
     let name : first.name ≡ x = ap (λ (d : Task). d.name) same ∙ is in
     true≢false (sym among ∙ subst (λ n. is_among earlier n ≡ false) name
     (new_name tasks earlier a first one (unbroken_front a b unbroken)))

@@ -162,7 +162,9 @@ behind_first words = take (length words - 1) (drop 1 words)
 pub first_and_behind : (words : List (String Global)) (word : String Global) → 1 ≤ length words
     → word ≡ get_or words 0 word → words ≡ word ∷ behind_first words
 first_and_behind [] word some is = absurd (omega (arith, some))
-first_and_behind (w ∷ words) word some is = ap (λ x. x ∷ words) (sym is) ∙ ap (λ l. word ∷ l) (sym (take_all (length (w ∷ words) - 1) words (omega arith)))
+first_and_behind (w ∷ words) word some is =
+    ap (λ x. x ∷ words) (sym is)
+    ∙ ap (λ l. word ∷ l) (sym (take_all (length (w ∷ words) - 1) words (omega arith)))
 
 -- the bytes of words
 abbrev pub texts_of : List (String Global) → List (List ℕ)

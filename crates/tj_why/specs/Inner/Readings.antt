@@ -25,5 +25,5 @@ IsNumberTaken said name digits answer = MatchOption answer (MayStand (numbered n
 
 -- what is said with a flag besides, or none where it may not stand
 abbrev pub IsFlagTaken : Said → Flag → Option Said → Type 0
-IsFlagTaken said flag answer =
-    MatchOption answer (MayStand (alone flag) said → ⊥) (λ new. MayStand (alone flag) said × (new ≡ with_flag flag said))
+IsFlagTaken said flag answer = MatchOption answer (MayStand (alone flag) said → ⊥)
+    (λ new. MayStand (alone flag) said × (new ≡ with_flag flag said))

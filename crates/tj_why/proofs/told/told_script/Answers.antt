@@ -20,8 +20,8 @@ told_outcome-requires-clause-outcome c =
     let root = c.in_ok-root.root in
     let same = one_body (view.script c.args.script.now) limits.steps c.in_ok-main_body.field-0 root.task
     c.in_ok-main_body.ensures.main c.in_ok-root.ensures.main.0 in
-    subst (λ b. IsOutcome (meaning (script_program limits.strict (record { task = b; stand = root.stand })) limits.cells)
-    c.in-Ok.outcome) same c.in-Ok.ensures.outcome
+    subst (λ b. IsOutcome (meaning (script_program limits.strict (record { task = b; stand = root.stand }))
+    limits.cells) c.in-Ok.outcome) same c.in-Ok.ensures.outcome
 
 pub returns-in-Err-Full : goal.returns-in-Err-Full
 returns-in-Err-Full c =
