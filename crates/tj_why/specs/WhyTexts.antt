@@ -130,9 +130,19 @@ abbrev pub owed_line : Told → TraceLine → Name → List ℕ
 owed_line s l q = codes "owed: " ++ promise_text s q ++ codes " was never set: " ++ label s l
     ++ codes " owned it and " ++ stopped_word l.line.ending ++ codes " at " ++ stop_text s l ++ line_feed
 
--- a line for each that it owed
-abbrev pub owed : Told → TraceLine → List ℕ
-owed s l = flat_map (owed_line s l) l.line.owes
+-- the task ended, and didn't fail
+abbrev pub has_ended : Ending → Bool
+has_ended (ending.Done v) = true
+has_ended (ending.Failed c) = false
+has_ended (ending.Waits q) = false
+
+-- the promises of such a task are asked for: of one that ended, or of one that didn't
+abbrev pub is_owing : Bool → Ending → Bool
+is_owing ended e = cond ended (has_ended e) (not (has_ended e))
+
+-- a line for each promise that a task owed, if those of such a task are asked for
+abbrev pub owed : Told → Bool → TraceLine → List ℕ
+owed s ended l = cond (is_owing ended l.line.ending) (flat_map (owed_line s l) l.line.owes) []
 
 -- what the task did from whose end a failure came: it failed, or it ended and owed promises
 abbrev pub end_word : Ending → List ℕ
@@ -196,10 +206,10 @@ failed_with s bs echo l (ending.Waits q) = []
 abbrev pub failed : Told → List (Option ℕ) → Bool → TraceLine → List ℕ
 failed s bs echo l = failed_with s bs echo l l.line.ending
 
--- how tasks ended badly: failures that are no echo, then promises that were never set, then echoes
+-- how tasks ended badly: failures that are no echo, what was owed by tasks that ended, and by tasks that failed, echoes
 abbrev pub bad_ends : Told → List ℕ
-bad_ends s = flat_map (failed s (backs s.lines) false) s.lines ++ flat_map (owed s) s.lines
-    ++ flat_map (failed s (backs s.lines) true) s.lines
+bad_ends s = flat_map (failed s (backs s.lines) false) s.lines ++ flat_map (owed s true) s.lines
+    ++ flat_map (owed s false) s.lines ++ flat_map (failed s (backs s.lines) true) s.lines
 
 -- what went wrong: cycles, other waits, and bad ends
 abbrev pub wrong_text : Told → Bool → List (List Link) → List ℕ

@@ -207,15 +207,18 @@ fn all_failed(
     Ok(text)
 }
 
-/// How tasks ended badly: failures that are no echo, then promises that were never set, then echoes.
+/// How tasks ended badly: failures that are no echo, what was owed by tasks that ended, and by
+/// tasks that failed, echoes.
 pub fn bad_ends(alloc: Global, scene: &Scene) -> Result<Vec<u8>, Oom>
     ensures { IfOk result (λ text. text.items ≡ spec.bad_ends (view scene.now)) }
 {
     let backs = backs(alloc, scene.lines)?;
-    let owed = all_owed(alloc, scene)?;
+    let ended = all_owed(alloc, scene, true)?;
+    let others = all_owed(alloc, scene, false)?;
     let echoes = all_failed(alloc, scene, backs.as_slice(), true)?;
     let mut text = all_failed(alloc, scene, backs.as_slice(), false)?;
-    text.extend_from_slice(owed.as_slice())?;
+    text.extend_from_slice(ended.as_slice())?;
+    text.extend_from_slice(others.as_slice())?;
     text.extend_from_slice(echoes.as_slice())?;
     Ok(text)
 }

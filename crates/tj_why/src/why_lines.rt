@@ -348,21 +348,46 @@ fn owed_lines(
     Ok(text)
 }
 
-/// A line for each promise that a task owed.
-fn owed(alloc: Global, scene: &Scene, line: &TraceLine) -> Result<Vec<u8>, Oom>
-    ensures { IfOk result (λ text. text.items ≡ spec.owed (view scene.now) line.now) }
+/// Whether the task ended, and didn't fail.
+fn has_ended(ending: &Ending) -> bool
+    ensures { result ≡ spec.has_ended ending.now }
 {
-    owed_lines(alloc, scene, line, line.line.owes.items())
+    match ending {
+        Ending::Done(_) => true,
+        Ending::Failed(_) | Ending::Waits(_) => false,
+    }
 }
 
-/// A line for each promise that a task owed, of all tasks.
-pub fn all_owed(alloc: Global, scene: &Scene) -> Result<Vec<u8>, Oom>
+/// Whether the promises of such a task are asked for: of one that ended, or of one that didn't.
+fn is_owing(ended: bool, ending: &Ending) -> bool
+    ensures { result ≡ spec.is_owing ended ending.now }
+{
+    if ended {
+        has_ended(ending)
+    } else {
+        !has_ended(ending)
+    }
+}
+
+/// A line for each promise that a task owed, if those of such a task are asked for.
+fn owed(alloc: Global, scene: &Scene, ended: bool, line: &TraceLine) -> Result<Vec<u8>, Oom>
+    ensures { IfOk result (λ text. text.items ≡ spec.owed (view scene.now) ended line.now) }
+{
+    if is_owing(ended, &line.line.ending) {
+        owed_lines(alloc, scene, line, line.line.owes.items())
+    } else {
+        Ok(Vec::new(alloc))
+    }
+}
+
+/// A line for each promise that a task owed which ended, or which didn't.
+pub fn all_owed(alloc: Global, scene: &Scene, ended: bool) -> Result<Vec<u8>, Oom>
     ensures { IfOk result (λ text.
-        text.items ≡ flat_map (spec.owed (view scene.now)) (view scene.now).lines) }
+        text.items ≡ flat_map (spec.owed (view scene.now) ended) (view scene.now).lines) }
 {
     let mut text = Vec::new(alloc);
     for line in scene.lines {
-        let added = owed(alloc, scene, line)?;
+        let added = owed(alloc, scene, ended, line)?;
         text.extend_from_slice(added.as_slice())?;
     }
     Ok(text)

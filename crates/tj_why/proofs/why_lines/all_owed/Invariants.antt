@@ -6,4 +6,5 @@ use Rattle.tj_why.proofs.why_lines.all_owed.Given as goal
 
 -- the promises so far
 abbrev pub invariant-loop-line : goal.invariant-loop-line
-invariant-loop-line l = l.text.items ≡ flat_map (owed (view l.scene)) (take l.line-index l.scene.lines.now)
+invariant-loop-line l =
+    l.text.items ≡ flat_map (owed (view l.scene) l.ended) (take l.line-index l.scene.lines.now)
