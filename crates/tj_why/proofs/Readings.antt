@@ -229,8 +229,11 @@ read_flag said new words rest word text flag found taken answer split is here so
         none f.rest f.are
     by (Some s) (items, are, last) first stands = (
       alone flag ∷ items,
-      (ap texts_of split ∙ ap (λ t. t ∷ texts_of rest) first
-          ∙ ap (λ l. word_text (Alone flag) ∷ l) are.0, (stands, are.1)),
+      (
+        ap texts_of split ∙ ap (λ t. t ∷ texts_of rest) first
+            ∙ ap (λ l. word_text (Alone flag) ∷ l) are.0,
+        (stands, are.1),
+      ),
       last,
     )
 
@@ -281,8 +284,11 @@ read_number said new words rest more word number text digits name found taken an
         (subst (λ ts. AreItems (with_number name (digits_value 10 f.digits) said) ts f.rest) rest f.are))
     by (Some s) (items, are, last) first stands = (
       numbered name (string_bytes number) ∷ items,
-      (ap texts_of (split ∙ ap (λ l. word ∷ l) two)
-          ∙ ap (λ t. t ∷ string_bytes number ∷ texts_of more) first
-          ∙ ap (λ l. word_text (Numbered name) ∷ string_bytes number ∷ l) are.0, (stands, are.1)),
+      (
+        ap texts_of (split ∙ ap (λ l. word ∷ l) two)
+            ∙ ap (λ t. t ∷ string_bytes number ∷ texts_of more) first
+            ∙ ap (λ l. word_text (Numbered name) ∷ string_bytes number ∷ l) are.0,
+        (stands, are.1),
+      ),
       last,
     )

@@ -26,6 +26,8 @@ returns c =
     let has = subst (AreTokens c.args.text.now) (sym c.as_slice.ensures.value) c.in-Ok.ensures.ok in
     fault_told c.args.command c.args.text.now (Grammar c.in-Err-parse.fault) c.told_fault-in-Err-parse.result
     c.requires.short (grammar_first c.args.text.now c.as_slice.result.now c.in-Err-parse.fault c.requires.short has
-    c.in-Err-parse.ensures.fault)
-    (c.told_fault-in-Err-parse.ensures.status, c.told_fault-in-Err-parse.ensures.text,
-    c.told_fault-in-Err-parse.ensures.none)
+    c.in-Err-parse.ensures.fault) (
+      c.told_fault-in-Err-parse.ensures.status,
+      c.told_fault-in-Err-parse.ensures.text,
+      c.told_fault-in-Err-parse.ensures.none,
+    )

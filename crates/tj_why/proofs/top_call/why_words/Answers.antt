@@ -59,9 +59,11 @@ returns-in_default-clause-fits g c = λ room input text status has told out fits
 
 pub returns-in_default-clause-part_cause : goal.returns-in_default-clause-part_cause
 returns-in_default-clause-part_cause g c = λ is.
-    let none : HasNoForm c.args.words.now = search rules in
-    ([], IsPartOf-put (IsOutput c.args.words.now []) (g.K.Sink.has_room c.args.sink.now) _ _ _ _ _ _ _ (usage none)
-    (λ e. cc) c.put_text.ensures.put is)
+    let none : HasNoForm c.args.words.now = search rules in (
+      [],
+      IsPartOf-put (IsOutput c.args.words.now []) (g.K.Sink.has_room c.args.sink.now) _ _ _ _ _ _ _ (usage none)
+          (λ e. cc) c.put_text.ensures.put is,
+    )
 
 pub answer-requires-clause-limits : goal.answer-requires-clause-limits
 answer-requires-clause-limits g c =
@@ -163,11 +165,13 @@ returns-in-Ok-clause-part_cause g c = λ failed.
     let is : IsCommand c.args.words.now c.in-Some.command = subst
     (λ found. MatchOption found (HasNoForm c.args.words.now) (IsCommand c.args.words.now)) c.in-Some.is
     c.command_of.ensures in
-    let some = some_input c.in-Ok.input c.in-Ok.ensures.within in
-    (some.0, IsPartOf-given (IsOutput c.args.words.now some.0) (IsCommandOutput c.in-Some.command some.0)
-    (λ s t out. of_command c.in-Some.command is out)
-    (own c.in-Some.command some.0) (g.K.Sink.has_room c.args.sink.now) _ _ _
-    _ _ (λ other. c.answer.ensures.output other some.0 some.1) failed)
+    let some = some_input c.in-Ok.input c.in-Ok.ensures.within in (
+      some.0,
+      IsPartOf-given (IsOutput c.args.words.now some.0) (IsCommandOutput c.in-Some.command some.0)
+          (λ s t out. of_command c.in-Some.command is out)
+          (own c.in-Some.command some.0) (g.K.Sink.has_room c.args.sink.now) _ _ _
+          _ _ (λ other. c.answer.ensures.output other some.0 some.1) failed,
+    )
 
 pub returns-in-Err-Failed-clause-untouched : goal.returns-in-Err-Failed-clause-untouched
 returns-in-Err-Failed-clause-untouched g c = λ none.
