@@ -111,7 +111,7 @@ pub fn shows_any_each(
 }
 
 /// How many line feeds a text has.
-pub fn lines_in(text: &[u8]) -> usize {
+fn lines_in(text: &[u8]) -> usize {
     text.iter().filter(|byte| **byte == b'\n').count()
 }
 
