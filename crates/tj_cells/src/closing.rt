@@ -11,6 +11,7 @@ use tj_body::Body;
 use tj_words::{Fill, Laid, Once, WSeat, value_words};
 
 /// Task `t` fills a cell that it owns with a value.
+#[inline(always)]
 pub fn fill<B: Body>(laid: &Laid<B>, seat: &mut WSeat<B>, t: CellId, p: CellId, v: Fill)
     requires table { IsSeatOf laid.now seat.old }
     requires cell { IsCellOf laid.now p.0 }

@@ -47,6 +47,7 @@ pub fn make<B: Body>(
 }
 
 /// A child of task `t`, as the `kid`-th thing that it makes. It isn't ready yet, and owns its result.
+#[inline(always)]
 pub fn birth<B: Body>(
     laid: &Laid<B>,
     seat: &mut WSeat<B>,

@@ -20,6 +20,7 @@ pub enum Seen {
 }
 
 /// What has become of cell `p`: its value for good, or nothing yet.
+#[inline(always)]
 pub fn value<B: Body>(laid: &Laid<B>, seat: &mut WSeat<B>, p: CellId) -> Seen
     requires table { IsSeatOf laid.now seat.old }
     requires cell { IsCellOf laid.now p.0 }

@@ -37,6 +37,7 @@ impl<'s> State<'s> {
     }
 
     /// Asks, for the variable or to have the answer dropped.
+    #[inline(always)]
     pub(crate) fn ask(
         &mut self,
         alloc: Global,

@@ -86,6 +86,7 @@ pub(crate) fn new_places(a: Answer) -> u32
 
 impl<'s> State<'s> {
     /// Takes the answer.
+    #[inline(always)]
     pub(crate) fn settle(&mut self, a: Answer) -> Result<(), Trouble>
         ensures { IsAnswered self.old (state.answered self.old self.old.due a) result self.new }
     {
@@ -124,6 +125,7 @@ impl<'s> State<'s> {
     }
 
     /// Goes on to the next ask.
+    #[inline(always)]
     fn run(&mut self, alloc: Global) -> Result<Ask<ScriptBody<'s>>, Oom>
         requires { IsTrue (all_have_few_params self.old.script) }
         ensures { IfOk result (λ ask.
@@ -137,6 +139,7 @@ impl<'s> State<'s> {
     }
 
     /// The next ask, if no statement on the way to it fails.
+    #[inline(always)]
     fn next_ask(&mut self, alloc: Global) -> Result<Ask<ScriptBody<'s>>, Halt>
         requires { IsTrue (all_have_few_params self.old.script) }
         ensures { IsNext (state.next_ask self.old.steps self.old) result self.new }
@@ -151,6 +154,7 @@ impl<'s> State<'s> {
     }
 
     /// Takes the answer, and goes on to the next ask.
+    #[inline(always)]
     fn answer(&mut self, alloc: Global, a: Answer) -> Result<Ask<ScriptBody<'s>>, Oom>
         requires few { IsTrue (all_have_few_params self.old.script) }
         requires room { self.old.places < 2 ^ 31 }

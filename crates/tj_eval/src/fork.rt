@@ -51,6 +51,7 @@ fn add(vars: &mut Vec<Pay>, places: &mut Vec<u32>, v: Pay) -> Result<(), Oom>
 }
 
 /// The arguments, in a list with room for n variables.
+#[inline(always)]
 fn arguments(alloc: Global, vars: &[Pay], args: &[Arg], n: usize) -> Result<Passed, Halt>
     requires few { length args.now ≤ most_params }
     ensures { IsPassed (state.arguments vars.now (map view.argument args.now)) result }
@@ -68,6 +69,7 @@ fn arguments(alloc: Global, vars: &[Pay], args: &[Arg], n: usize) -> Result<Pass
 }
 
 /// The places of the references that are handed.
+#[inline(always)]
 fn handed(alloc: Global, vars: &[Pay], args: &[Arg]) -> Result<PlaceList, Oom>
     ensures { IfOk result (λ places. places
         ≡ state.references (state.handed vars.now (map view.argument args.now))) }
@@ -84,6 +86,7 @@ fn handed(alloc: Global, vars: &[Pay], args: &[Arg]) -> Result<PlaceList, Oom>
 }
 
 /// The variables of a child: these, and 0 for the others of its n.
+#[inline(always)]
 fn variables(mut vars: Vec<Pay>, n: usize) -> Result<Vec<Pay>, Oom>
     ensures { IfOk result (λ all. all.items ≡ vars.items
         ++ replicate (n - length vars.items) (Pay.Num (pos 0))) }
@@ -95,6 +98,7 @@ fn variables(mut vars: Vec<Pay>, n: usize) -> Result<Vec<Pay>, Oom>
 }
 
 /// A task of the script that begins with these arguments.
+#[inline(always)]
 pub(crate) fn task_of<'s>(
     alloc: Global,
     script: &'s Script,
@@ -125,6 +129,7 @@ pub(crate) fn task_of<'s>(
 
 impl<'s> State<'s> {
     /// The ask for a child: a task of the script with as many parameters as there are arguments.
+    #[inline(always)]
     pub(crate) fn fork(
         &self,
         alloc: Global,
@@ -145,6 +150,7 @@ impl<'s> State<'s> {
     }
 
     /// The ask for a child with these arguments.
+    #[inline(always)]
     fn child(
         &self,
         alloc: Global,

@@ -18,7 +18,7 @@ use tj_syntax::{Expr, Rhs, Stmt};
 impl<'s> State<'s> {
     /// Goes on to the next statement that asks, if one is left, which has then begun. The statements
     /// on the way hand nothing on that is as large as an ask.
-    #[inline(never)]
+    #[inline(always)]
     pub(crate) fn go_on(&mut self) -> Result<Option<&'s Stmt>, Halt>
         ensures { IsOnWay (λ stmt. view.statement stmt.now) self.old result self.new }
     {
@@ -86,6 +86,7 @@ impl<'s> State<'s> {
     }
 
     /// The ask of a statement that asks.
+    #[inline(always)]
     pub(crate) fn begin(
         &mut self,
         alloc: Global,

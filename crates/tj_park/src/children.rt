@@ -15,6 +15,7 @@ use tj_words::{Laid, Phase, Rec, WSeat};
 
 /// Puts the record of an unborn child home, says that the child is ready, and puts it into the
 /// pool. After `Oom` the child is ready and not in the pool.
+#[inline(always)]
 pub fn release<B: Body, P: Pool, R: Wait>(
     rt: &R,
     alloc: Global,
@@ -42,6 +43,7 @@ pub fn release<B: Body, P: Pool, R: Wait>(
 }
 
 // Puts the record home, and says that the child is ready.
+#[inline(always)]
 fn make_ready<B: Body>(laid: &Laid<B>, seat: &mut WSeat<B>, t: CellId, rec: Rec<B>)
     requires table { IsSeatOf laid.now seat.old }
     requires cell { IsCellOf laid.now t.0 }

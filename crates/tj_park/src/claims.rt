@@ -15,6 +15,7 @@ use tj_words::{Laid, Phase, Rec, WSeat};
 /// Claims a task, and takes its record. `None` comes only where this call's one exchange found a
 /// phase other than Ready; then the seat has this phase among its notes, and nothing else of it has
 /// changed.
+#[inline(always)]
 pub fn claim<B: Body>(laid: &Laid<B>, seat: &mut WSeat<B>, t: CellId) -> Option<Rec<B>>
     requires table { IsSeatOf laid.now seat.old }
     requires cell { IsCellOf laid.now t.0 }

@@ -26,6 +26,7 @@ use tj_words::{Finish, Laid, Phase, Rec, WSeat};
 
 /// Ends task `t`, as its record says: breaks the promises that it owes, sets or breaks its result, puts
 /// the record home, and wakes those who wait for any of these. After `Oom` the run is to stop.
+#[inline(always)]
 pub fn finish<B: Body, P: Pool, R: Wait>(
     rt: &R,
     alloc: Global,
@@ -103,6 +104,7 @@ fn break_promises<B: Body, P: Pool, R: Wait>(
 }
 
 // Sets the result of a task that ends well, and breaks that of one that fails.
+#[inline(always)]
 fn close_result<B: Body>(laid: &Laid<B>, seat: &mut WSeat<B>, t: CellId, finish: Option<Finish>)
     requires table { IsSeatOf laid.now seat.old }
     requires cell { IsCellOf laid.now t.0 }
@@ -116,6 +118,7 @@ fn close_result<B: Body>(laid: &Laid<B>, seat: &mut WSeat<B>, t: CellId, finish:
     }
 }
 
+#[inline(always)]
 fn close_by<B: Body>(laid: &Laid<B>, seat: &mut WSeat<B>, t: CellId, f: Finish)
     requires table { IsSeatOf laid.now seat.old }
     requires cell { IsCellOf laid.now t.0 }
@@ -131,6 +134,7 @@ fn close_by<B: Body>(laid: &Laid<B>, seat: &mut WSeat<B>, t: CellId, f: Finish)
 }
 
 // The record of a task that has ended: what it owned beside its result, it owes.
+#[inline(always)]
 fn without_owned<B>(alloc: Global, rec: Rec<B>) -> Rec<B>
     requires some { rec.owned ≢ [] }
     ensures { result ≡ ended_record rec }

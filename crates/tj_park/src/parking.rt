@@ -24,6 +24,7 @@ pub enum Parked<B> {
 
 /// Parks a task whose walk for its wait for `q` has ended without an alarm. `Back` comes only where
 /// this call found the head of the cell's chain shut, and cleared the wait.
+#[inline(always)]
 pub fn park<B: Body>(
     laid: &Laid<B>,
     seat: &mut WSeat<B>,

@@ -18,6 +18,7 @@ use tj_words::{Finish, Held, Hurt, Laid, Rec, WSeat};
 
 /// Looks at the cell at the place, for which the task waits: its value is the task's answer. `Waits`
 /// comes only where this call loaded TAG as 0.
+#[inline(always)]
 pub(crate) fn look<B: Body>(
     laid: &Laid<B>,
     seat: &mut WSeat<B>,
@@ -90,6 +91,7 @@ fn find_broken<B: Body>(rec: &mut Rec<B>, hurt: Hurt, spare: bool) -> Next
 }
 
 /// How a task goes on that was claimed, or has come back: it is at its start, or has an answer.
+#[inline(always)]
 pub(crate) fn resume<B: Body>(
     laid: &Laid<B>,
     seat: &mut WSeat<B>,

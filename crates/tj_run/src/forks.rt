@@ -23,6 +23,7 @@ use tj_ready::Pool;
 use tj_words::{Finish, Held, Laid, Rec, WSeat};
 
 /// The task forks a child with this body, which is passed and handed these places.
+#[inline(always)]
 pub(crate) fn fork<B: Body, P: Pool, R: Wait>(
     rt: &R,
     alloc: Global,
@@ -93,6 +94,7 @@ fn fork_handing<B: Body, P: Pool, R: Wait>(
 }
 
 // A fork that hands nothing: the task owns what it owned.
+#[inline(always)]
 fn fork_bare<B: Body, P: Pool, R: Wait>(
     rt: &R,
     alloc: Global,
@@ -156,6 +158,7 @@ fn note_child<B: Body>(rec: &mut Rec<B>, c: CellId, left: CellList) -> Result<Ne
 }
 
 // The record holds the child.
+#[inline(always)]
 fn note_made<B: Body>(rec: &mut Rec<B>, c: CellId) -> Result<Next, Why>
     requires room { length rec.old.held + 1 < 2 ^ 31 }
     requires few { rec.old.made + 1 < 2 ^ 31 }

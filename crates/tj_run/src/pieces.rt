@@ -152,6 +152,7 @@ pub(crate) fn child_record<B: Drop>(
 
 /// The record of a child at its start that is passed the cells held at these places, and to which
 /// nothing is handed.
+#[inline(always)]
 pub(crate) fn bare_child<B: Drop>(
     alloc: Global,
     c: CellId,
@@ -170,6 +171,7 @@ pub(crate) fn bare_child<B: Drop>(
 }
 
 // What a child holds at its start: itself, and what it is passed.
+#[inline(always)]
 fn known_at_start(alloc: Global, c: CellId, held: &[Held], places: &[u32]) -> Result<Vec<Held>, Oom>
     requires { AllByRecursion (λ k. k < length held.now) places.now }
     ensures { IfOk result (λ known. known.items
@@ -187,6 +189,7 @@ fn known_at_start(alloc: Global, c: CellId, held: &[Held], places: &[u32]) -> Re
 }
 
 // The record of a task at its start that holds and owns these.
+#[inline(always)]
 fn start_record<B>(alloc: Global, c: CellId, body: B, held: Vec<Held>, owned: Vec<CellId>) -> Rec<B>
     ensures { result ≡ start_record c body held.items owned.items }
 {

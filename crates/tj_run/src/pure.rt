@@ -16,6 +16,7 @@ use tj_body::{Answer, Ask, Body, points_in_rounds};
 use tj_words::{Finish, Laid, Rec, WSeat};
 
 /// The body is given the record's answer, and asks.
+#[inline(always)]
 pub(crate) fn next_ask<B: Body>(
     alloc: Global,
     laid: &Laid<B>,
@@ -62,6 +63,7 @@ pub(crate) fn emit<B: Body>(
 }
 
 /// The task ends well.
+#[inline(always)]
 pub(crate) fn end_with<B: Body>(laid: &Laid<B>, seat: &WSeat<B>, rec: &Rec<B>, v: Pay) -> Next
     requires runs { RunsTask laid.now rec.now seat.now.me }
     requires asked { IsAsked (table_program (program_of B.places B.awaits B.left B.asks B.then)

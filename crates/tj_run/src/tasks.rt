@@ -21,6 +21,7 @@ use tj_ready::Pool;
 use tj_words::{Laid, Rec, WSeat};
 
 /// One ask of the task.
+#[inline(always)]
 pub(crate) fn one_ask<B: Body, P: Pool, R: Wait>(
     rt: &R,
     alloc: Global,
@@ -46,6 +47,7 @@ pub(crate) fn one_ask<B: Body, P: Pool, R: Wait>(
 }
 
 /// What the task asks is done.
+#[inline(always)]
 fn answer<B: Body, P: Pool, R: Wait>(
     rt: &R,
     alloc: Global,
@@ -84,6 +86,7 @@ fn answer<B: Body, P: Pool, R: Wait>(
 
 /// Runs the task until it ends or waits. It comes back where it has waited in vain: something had
 /// become of its cell as it was to be parked.
+#[inline(always)]
 fn run_on<B: Body, P: Pool, R: Wait>(
     rt: &R,
     alloc: Global,
@@ -119,6 +122,7 @@ fn run_on<B: Body, P: Pool, R: Wait>(
 }
 
 /// Runs a claimed task until it leaves the worker.
+#[inline(always)]
 pub(crate) fn run<B: Body, P: Pool, R: Wait>(
     rt: &R,
     alloc: Global,

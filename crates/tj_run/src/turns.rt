@@ -60,6 +60,7 @@ pub fn worker<B: Body, P: Pool, G: Gate, R: Wait>(
 }
 
 /// One turn: the worker leaves where it is at rest, or the run is stopped.
+#[inline(always)]
 fn take_turn<B: Body, P: Pool, R: Wait>(
     rt: &R,
     alloc: Global,
@@ -133,6 +134,7 @@ fn idle<B: Body, R: Wait>(
 }
 
 // Claims the task, if it is ready, and runs it. A task that isn't ready is left as it is.
+#[inline(always)]
 fn work<B: Body, P: Pool, R: Wait>(
     rt: &R,
     alloc: Global,

@@ -23,6 +23,7 @@ use tj_park::{Parked, park, shelve};
 use tj_words::{Finish, Held, Hurt, Laid, Rec, WSeat, Way};
 
 /// The task waits for a promise.
+#[inline(always)]
 pub(crate) fn get<B: Body>(
     laid: &Laid<B>,
     seat: &mut WSeat<B>,
@@ -49,6 +50,7 @@ pub(crate) fn get<B: Body>(
 
 /// The task waits for a task's result. Under the strict rule it fails where it isn't before that task
 /// in the fork order.
+#[inline(always)]
 pub(crate) fn join<B: Body>(
     laid: &Laid<B>,
     seat: &mut WSeat<B>,
@@ -81,6 +83,7 @@ pub(crate) fn join<B: Body>(
 }
 
 /// The way of a wait of task `t` for the cell.
+#[inline(always)]
 pub(crate) fn way_to<B: Body, L: Ledger>(
     laid: &Laid<B>,
     seat: &mut WSeat<B>,
@@ -110,6 +113,7 @@ pub(crate) fn way_to<B: Body, L: Ledger>(
 }
 
 /// Task `t` blocks on its wait for `q`.
+#[inline(never)]
 pub(crate) fn block_on<B: Body, L: Ledger>(
     laid: &Laid<B>,
     seat: &mut WSeat<B>,
@@ -134,6 +138,7 @@ pub(crate) fn block_on<B: Body, L: Ledger>(
 
 /// The task blocks on its wait for the cell at the place. Tells the cell, the way of the wait and the
 /// verdict.
+#[inline(always)]
 pub(crate) fn block_at<B: Body>(
     laid: &Laid<B>,
     seat: &mut WSeat<B>,
@@ -162,6 +167,7 @@ pub(crate) fn block_at<B: Body>(
 
 /// The task waits for the cell at the place: it blocks, and leaves the worker, parked or on a standing
 /// cycle. It comes back where something has become of the cell by then.
+#[inline(always)]
 pub(crate) fn wait<B: Body>(
     laid: &Laid<B>,
     seat: &mut WSeat<B>,

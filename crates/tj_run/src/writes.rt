@@ -116,6 +116,7 @@ pub(crate) fn set_and_wake<B: Body, P: Pool, R: Wait>(
 }
 
 /// The task ends, and leaves the worker.
+#[inline(always)]
 pub(crate) fn end<B: Body, P: Pool, R: Wait>(
     rt: &R,
     alloc: Global,

@@ -23,6 +23,7 @@ use tj_core::event_keeps_facts;
 impl<B: Body> Laid<B> {
     /// Changes the phase of a task, if it is as it is thought to be; else tells the phase found, and the view says that
     /// this step found it.
+    #[inline(always)]
     pub fn swap_phase(
         &self,
         seat: &mut WSeat<B>,

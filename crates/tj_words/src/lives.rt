@@ -61,6 +61,7 @@ impl<B: Body> Laid<B> {
     }
 
     /// Puts a record into the slot of t, or takes it out. The seat has taken that slot last.
+    #[inline(always)]
     pub fn slot_swap(&self, seat: &mut WSeat<B>, t: CellId, rec: Option<Rec<B>>) -> Option<Rec<B>>
         requires table { seat.old.table_id ≡ self.now.table.shared.table_id }
         requires slot { HasSlot t.0 seat.old.me }

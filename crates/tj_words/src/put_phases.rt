@@ -11,6 +11,7 @@ use tj_body::Body;
 impl<B: Body> Laid<B> {
     /// Stores the phase of a cell: of a new promise in hand, of a task that becomes ready, waits,
     /// is parked, has alarmed, or has ended.
+    #[inline(always)]
     pub fn put_phase(&self, seat: &mut WSeat<B>, t: CellId, p: Phase)
         requires table { seat.old.table_id ≡ self.now.table.shared.table_id }
         requires cell { t.0 < self.now.cells }
