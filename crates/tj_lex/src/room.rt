@@ -8,7 +8,7 @@ use std::alloc::{AllocError, Global};
 pub(crate) const SHORT: usize = 30;
 
 /// The bytes of a name. A short one is the first so many of these.
-#[derive(Debug, Drop)]
+#[derive(Drop)]
 pub(crate) enum Room {
     Short(u8, [u8; SHORT]),
     Long(Vec<u8>),

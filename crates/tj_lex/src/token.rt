@@ -4,7 +4,7 @@ use crate::word::Word;
 use std::alloc::{AllocError, AllocFailed};
 
 /// A token, its position, and the bytes of the text that it takes: those from `from` up to `to`.
-#[derive(Debug, PartialEq, Eq, Drop)]
+#[derive(Drop)]
 pub struct Token {
     pub what: Tok,
     pub at: Place,
@@ -13,7 +13,7 @@ pub struct Token {
 }
 
 /// What a token is.
-#[derive(Debug, PartialEq, Eq, Drop)]
+#[derive(Drop)]
 pub enum Tok {
     Name(Word),
     Num(i64),
@@ -23,7 +23,7 @@ pub enum Tok {
 }
 
 /// The keywords.
-#[derive(Clone, Copy, Debug, PartialEq, Eq)]
+#[derive(Clone, Copy, PartialEq, Eq)]
 pub enum Key {
     Task,
     Let,
@@ -43,7 +43,7 @@ pub enum Key {
 }
 
 /// The marks, in the order `( ) { } , ; = == != < <= > >= + - * / %`.
-#[derive(Clone, Copy, Debug, PartialEq, Eq)]
+#[derive(Clone, Copy, PartialEq, Eq)]
 pub enum Mark {
     ParenOpen,
     ParenClose,

@@ -1,14 +1,12 @@
 //! The bytes of a name.
-ghost use Rattle.std.specs.Prelude.{◌≡◌, nat_eq, IfOk};
-ghost use Rattle.std.specs.Cmp.Lexicographic.{pointwise, nat_list_eq_equiv};
-ghost use Rattle.std.specs.Cmp.{partial_equiv_from_equiv};
+ghost use Rattle.std.specs.Prelude.{◌≡◌, IfOk};
 
 use crate::room::Room;
 use std::alloc::{AllocError, Global};
 use std::marker::Model;
 
 /// A name, as it stands in the text.
-#[derive(Debug, Drop)]
+#[derive(Drop)]
 pub struct Word {
     room: Room,
 }
@@ -48,18 +46,4 @@ impl Word {
     {
         self.room.bytes()
     }
-}
-
-impl PartialEq for Word {
-    ghost eq = { pointwise nat_eq };
-
-    ghost laws = { partial_equiv_from_equiv nat_list_eq_equiv };
-
-    fn eq(&self, other: &Word) -> bool {
-        self.bytes() == other.bytes()
-    }
-}
-
-impl Eq for Word {
-    ghost laws = { nat_list_eq_equiv };
 }
