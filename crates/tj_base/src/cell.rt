@@ -4,7 +4,7 @@
 pub const MAX_CELLS: u32 = 16_384;
 
 /// The number of a cell, in the order in which a run draws them. The root task is cell 0.
-#[derive(Clone, Copy, Debug, PartialEq, Eq, PartialOrd, Ord, Hash)]
+#[derive(Clone, Copy, Debug, PartialEq, Eq)]
 pub struct CellId(pub u32);
 
 /// What a cell is. A task's cell is also its result.

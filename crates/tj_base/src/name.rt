@@ -7,7 +7,7 @@ ghost use Rattle.std.specs.Ordering.{nat_cmp};
 ghost use Rattle.tj_base.specs.Texts.{name_text};
 
 use crate::memory::Oom;
-use itoa::Buffer;
+use crate::text::add_count;
 use std::alloc::Global;
 use std::cmp::Ordering;
 use std::marker::Model;
@@ -88,10 +88,8 @@ fn printed(alloc: Global, numbers: &[u32]) -> Result<Vec<u8>, Oom>
     ensures { IfOk result (λ text. text.items ≡ name_text numbers.now) }
 {
     let mut text = Vec::from_slice(alloc, b"0")?;
-    let mut buffer = Buffer::new();
     for number in numbers {
-        text.push(b'.')?;
-        text.extend_from_slice(buffer.format(*number).as_bytes())?;
+        add_count(&mut text, b".", u128::from(*number))?;
     }
     Ok(text)
 }
