@@ -14,7 +14,7 @@ pub enum Expr {
 }
 
 /// The operators of two operands, in the order `+ - * / %`.
-#[derive(Clone, Copy, Debug, PartialEq, Eq)]
+#[derive(Clone, Copy)]
 pub enum Op {
     Plus,
     Minus,
@@ -24,7 +24,7 @@ pub enum Op {
 }
 
 /// The comparisons, in the order `== != < <= > >=`.
-#[derive(Clone, Copy, Debug, PartialEq, Eq)]
+#[derive(Clone, Copy)]
 pub enum Rel {
     Eq,
     Ne,
@@ -35,7 +35,7 @@ pub enum Rel {
 }
 
 /// What holds a reference: a variable by its number, or the task itself.
-#[derive(Clone, Copy, Debug, PartialEq, Eq)]
+#[derive(Clone, Copy)]
 pub enum RefOf {
     Var(u32),
     Me,

@@ -3,7 +3,7 @@ use std::alloc::{AllocError, AllocFailed};
 use tj_lex::Place;
 
 /// The first fault of a list of tokens, with its position.
-#[derive(Clone, Copy, Debug, PartialEq, Eq)]
+#[derive(Clone, Copy, Debug)]
 pub enum ParseFault {
     /// A token that can't follow.
     Expected(Place),
@@ -48,7 +48,7 @@ impl<T: Drop> From<AllocFailed<T>> for ParseFault {
 }
 
 /// How a token can break a rule of names or of numbers.
-#[derive(Clone, Copy, Debug, PartialEq, Eq)]
+#[derive(Clone, Copy)]
 pub(crate) enum Breach {
     Unknown,
     Twice,
@@ -59,7 +59,7 @@ pub(crate) enum Breach {
 
 /// Why the reading of tokens stopped: a fault at a token, told by how many tokens are left from it
 /// on, or want of memory.
-#[derive(Clone, Copy, Debug, PartialEq, Eq)]
+#[derive(Clone, Copy)]
 pub(crate) enum Stop {
     Expected(usize),
     Broken(Breach, usize),

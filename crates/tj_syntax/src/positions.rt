@@ -14,7 +14,7 @@ use std::alloc::{AllocError, Global};
 use tj_lex::{Key, Mark, Place, Tok, Token};
 
 /// Where a statement begins, and where its ask does, if it has one.
-#[derive(Clone, Copy, Debug, PartialEq, Eq)]
+#[derive(Clone, Copy)]
 pub struct StatementPlace {
     pub at: Place,
     pub ask: Option<Place>,

@@ -16,7 +16,7 @@ use std::alloc::{AllocError, Global};
 use tj_lex::{Key, Mark, Tok};
 
 /// The levels of chains: sums have products as operands, and products unaries.
-#[derive(Clone, Copy, Debug, PartialEq, Eq)]
+#[derive(Clone, Copy)]
 pub(crate) enum Level {
     Sums,
     Products,
