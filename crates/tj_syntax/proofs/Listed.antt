@@ -8,6 +8,7 @@ pub mod Expr
 pub mod Fits
 pub mod Names
 pub mod Script
+pub mod StatementTexts
 pub mod Stmt
 pub mod Texts
 pub mod Views

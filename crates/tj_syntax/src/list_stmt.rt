@@ -34,12 +34,18 @@ fn list_assignment(
     put(text, b";")
 }
 
-/// Adds an expression and what stands behind it.
-#[tactic(auto, using(crate::proofs::Listed::Views::listing_steps))]
-fn list_ended(text: &mut Vec<u8>, vars: &[Word], x: &Expr, end: &[u8]) -> Result<(), Oom>
-    ensures { OnOk result (text.new.items ≡ text.old.items
-        ++ (text_of (listing.expression vars.now (view.expression x.now)) ++ end.now)) }
+/// Adds an expression with what stands in front of it and behind it.
+fn list_between(
+    text: &mut Vec<u8>,
+    vars: &[Word],
+    front: &[u8],
+    x: &Expr,
+    end: &[u8],
+) -> Result<(), Oom>
+    ensures { OnOk result (text.new.items ≡ text.old.items ++ (front.now
+        ++ (text_of (listing.expression vars.now (view.expression x.now)) ++ end.now))) }
 {
+    put(text, front)?;
     list_expression(text, vars, x)?;
     put(text, end)
 }
@@ -78,29 +84,20 @@ fn list_statement(
             list_ask(text, tasks, vars, ask)?;
             put(text, b";")
         }
-        Stmt::Print(x) => {
-            put(text, b"print ")?;
-            list_ended(text, vars, x, b";")
-        }
+        Stmt::Print(x) => list_between(text, vars, b"print ", x, b";"),
         Stmt::Set(x, e) => {
             put(text, b"set ")?;
             put_name(text, vars, *x)?;
-            put(text, b" = ")?;
-            list_ended(text, vars, e, b";")
+            list_between(text, vars, b" = ", e, b";")
         }
-        Stmt::Return(x) => {
-            put(text, b"return ")?;
-            list_ended(text, vars, x, b";")
-        }
+        Stmt::Return(x) => list_between(text, vars, b"return ", x, b";"),
         Stmt::If(x, body, other) => {
-            put(text, b"if ")?;
-            list_ended(text, vars, x, b" ")?;
+            list_between(text, vars, b"if ", x, b" ")?;
             list_block(alloc, text, tasks, vars, indent, body)?;
             list_else(alloc, text, tasks, vars, indent, other)
         }
         Stmt::While(x, body) => {
-            put(text, b"while ")?;
-            list_ended(text, vars, x, b" ")?;
+            list_between(text, vars, b"while ", x, b" ")?;
             list_block(alloc, text, tasks, vars, indent, body)
         }
     }
