@@ -3,7 +3,7 @@ use crate::ask::Answer;
 use tj_base::{Cause, Items, Name, NameList, NumList, Sort};
 
 /// A reference to a cell: its name, with its sort.
-#[derive(Debug, PartialEq, Eq, Drop)]
+#[derive(Drop)]
 pub struct Reference {
     pub sort: Sort,
     pub name: Name,
@@ -13,14 +13,14 @@ pub struct Reference {
 pub type ReferenceList = Items<Reference>;
 
 /// A value that a cell can have.
-#[derive(Debug, PartialEq, Eq, Drop)]
+#[derive(Drop)]
 pub enum Value {
     Num(i64),
     Ref(Reference),
 }
 
 /// What became of a cell.
-#[derive(Debug, PartialEq, Eq, Drop)]
+#[derive(Drop)]
 pub enum Entry {
     Broken,
     Value(Value),
@@ -30,14 +30,14 @@ pub enum Entry {
 pub type EntryList = Items<(Name, Entry)>;
 
 /// How a task ended.
-#[derive(Debug, PartialEq, Eq, Drop)]
+#[derive(Drop)]
 pub enum Close {
     Done(Value),
     Failed(Cause),
 }
 
 /// Where a task stands between two of its asks.
-#[derive(Debug, PartialEq, Eq, Drop)]
+#[derive(Drop)]
 pub enum PointStage {
     /// The body is to be given this answer.
     Answered(Answer),
@@ -48,7 +48,7 @@ pub enum PointStage {
 }
 
 /// A task as its fork made it.
-#[derive(Debug, Drop)]
+#[derive(Drop)]
 pub struct Task<B> {
     pub name: Name,
     pub body: B,
@@ -62,7 +62,7 @@ pub struct Task<B> {
 pub type TaskList<B> = Items<Task<B>>;
 
 /// What stands after some of a task's asks.
-#[derive(Debug, Drop)]
+#[derive(Drop)]
 pub struct Point<B> {
     pub name: Name,
     pub body: B,
