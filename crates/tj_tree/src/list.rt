@@ -9,7 +9,7 @@ use std::marker::Model;
 use tj_base::Oom;
 
 /// The tasks, each before those that stand behind it.
-#[derive(Debug, Drop)]
+#[derive(Drop)]
 pub struct OrderList {
     tasks: Vec<u32>,
 }

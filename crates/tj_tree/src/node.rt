@@ -3,11 +3,11 @@ ghost use Rattle.std.specs.Prelude.{◌≡◌};
 ghost use Rattle.tj_tree.specs.Nodes.{move_from};
 
 /// The number of a task. The root is 0, and a task's number is greater than its parent's.
-#[derive(Clone, Copy, Debug, PartialEq, Eq)]
+#[derive(Clone, Copy, PartialEq, Eq)]
 pub struct NodeId(pub u32);
 
 /// A task in the tree of forks. The root is its own parent and jump.
-#[derive(Clone, Copy, Debug, PartialEq, Eq)]
+#[derive(Clone, Copy)]
 pub struct Node {
     /// The task that forked it.
     pub parent: NodeId,

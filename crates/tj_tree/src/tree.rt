@@ -14,13 +14,13 @@ use std::sync::ledger::{Blank, Ledger};
 use tj_base::{Oom, Steps};
 
 /// A tree of forks. Contracts see its forks, the newest first.
-#[derive(Debug, Drop)]
+#[derive(Drop)]
 pub struct ForkTree {
     entries: Vec<Entry>,
 }
 
 // A task's node, and how many children it has.
-#[derive(Clone, Copy, Debug)]
+#[derive(Clone, Copy)]
 pub(crate) struct Entry {
     node: Node,
     kids: u32,
