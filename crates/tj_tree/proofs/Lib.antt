@@ -7,3 +7,6 @@ pub mod Skew
 pub mod Trees
 pub mod Gapless
 pub mod Walks
+pub mod Lifts
+pub mod Pairs
+pub mod LiftedPairs

@@ -1,53 +1,44 @@
-use Rattle.std.proofs.Common.{◌-◌, arith}
-use Rattle.tj_tree.specs.Inner.Moves.{IsAtOrAbove}
-use Rattle.tj_tree.proofs.Skew.{moves-ranks}
-use Rattle.tj_tree.proofs.Walks.{above_trans}
-use Rattle.tj_tree.proofs.Readings.{GoesOn_trans, InEachTree_on, Raises-higher}
+use Rattle.std.proofs.Common.{◌<◌, arith}
+use Rattle.tj_tree.proofs.Lifts.{IsLifted, lifted_on, lifted_cost}
+use Rattle.tj_tree.proofs.Readings.{GoesOn_trans}
+use Rattle.tj_tree.proofs.before.lifted.Given.{Over}
 use Rattle.tj_tree.proofs.before.lifted.Goals as goal
 
+turned : (g : Over) (c : goal.After-higher-at g)
+    → IsLifted (g.R.NodeReader.shows c.higher-at.new.reader) (g.R.NodeReader.may_look c.higher-at.new.reader)
+    c.args.from c.higher-at.result c.args.depth c.args.steps.now c.higher-at.new.steps
+    × (c.higher-at.result.node.depth < c.loop-at.at.node.depth)
+turned g c =
+    let shows = g.R.NodeReader.shows in
+    let may = g.R.NodeReader.may_look in
+    let before = c.loop-at.reader in
+    let after = c.higher-at.new.reader in
+    lifted_on (shows before) (may before) (shows after) (may after) c.args.from c.loop-at.at c.higher-at.result
+    c.args.depth c.args.steps.now c.loop-at.steps c.higher-at.new.steps c.loop-at.invariant.lifted
+    c.higher-at.ensures.goes_on c.higher-at.ensures.known c.loop-at-test.true c.higher-at.ensures.moved
+    c.higher-at.ensures.cost
+
 pub loop-at-smaller : goal.loop-at-smaller
-loop-at-smaller g c =
-    let shows = g.R.NodeReader.shows c.higher-at.new.reader in
-    let old = c.higher-at.ensures.goes_on.kept c.loop-at.at.task.0 c.loop-at.at.node c.loop-at.invariant.known.here in
-    let raises = Raises-higher shows (g.R.NodeReader.may_look c.higher-at.new.reader) c.loop-at.at c.higher-at.result
-    c.args.depth old c.higher-at.ensures.known.here c.loop-at-test.true c.higher-at.ensures.moved in
-    let tree = c.higher-at.ensures.goes_on.tree c.loop-at.invariant.tree in
-    (raises tree.0 tree.1.0 tree.1.1).shallower
+loop-at-smaller g c = (turned g c).1
 
 pub loop-at-preserved : goal.loop-at-preserved
 loop-at-preserved g c =
     let shows = g.R.NodeReader.shows in
     let may = g.R.NodeReader.may_look in
+    let start = c.args.reader.now in
     let before = c.loop-at.reader in
     let after = c.higher-at.new.reader in
     let invariant = c.loop-at.invariant in
-    let goes_on = c.higher-at.ensures.goes_on in
-    let old = goes_on.kept c.loop-at.at.task.0 c.loop-at.at.node invariant.known.here in
-    let raises = Raises-higher (shows after) (may after) c.loop-at.at c.higher-at.result c.args.depth old
-    c.higher-at.ensures.known.here c.loop-at-test.true c.higher-at.ensures.moved in
-    let tree = goes_on.tree invariant.tree in
-    let moved = raises tree.0 tree.1.0 tree.1.1 in
-    let above = InEachTree_on (shows before) (may before) (shows after) (may after)
-    (λ forks. IsAtOrAbove forks c.loop-at.at.task.0 c.args.from.task.0) goes_on invariant.above in
     record {
-      tree = tree;
-      known = c.higher-at.ensures.known;
-      deep = moved.within;
-      above = λ forks h has. above_trans forks c.higher-at.result.task.0 c.loop-at.at.task.0 c.args.from.task.0
-          (raises forks h has).above (above forks h has);
-      up = omega (arith, moved.shallower, invariant.up);
-      free = λ level. absurd (omega (arith, level, invariant.up, c.loop-at-test.true));
-      cost = omega (arith, moved.saves, invariant.cost, c.higher-at.ensures.cost);
+      lifted = (turned g c).0;
       counted = omega (arith, invariant.counted, c.higher-at.ensures.counted);
-      goes_on = GoesOn_trans (shows c.args.reader.now) (may c.args.reader.now) (shows before) (may before)
-          (shows after) (may after) invariant.goes_on goes_on;
-      stays = g.met.R.NodeReader.stays_on c.args.reader.now before after invariant.stays c.higher-at.ensures.stays;
+      goes_on = GoesOn_trans (shows start) (may start) (shows before) (may before) (shows after) (may after)
+          invariant.goes_on c.higher-at.ensures.goes_on;
+      stays = g.met.R.NodeReader.stays_on start before after invariant.stays c.higher-at.ensures.stays;
     }
 
 pub returns-clause-cost : goal.returns-clause-cost
 returns-clause-cost g c =
-    λ digits h. omega (
-      arith,
-      moves-ranks digits c.args.from.node.depth (c.args.from.node.depth - c.args.depth) h,
-      c.loop-at.invariant.cost,
-    )
+    let last = c.loop-at.reader in
+    lifted_cost (g.R.NodeReader.shows last) (g.R.NodeReader.may_look last) c.args.from c.loop-at.at c.args.depth
+    c.args.steps.now c.loop-at.steps c.loop-at.invariant.lifted
