@@ -5,7 +5,7 @@ ghost use Rattle.tj_ports.specs.Faults.{HasFault};
 use crate::failed::Failed;
 
 /// How many calls there were, which calls fail, and how many faults there were.
-#[derive(Debug, Drop)]
+#[derive(Drop)]
 pub struct Calls {
     pub made: u32,
     pub failing: Vec<u32>,

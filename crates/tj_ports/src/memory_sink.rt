@@ -9,7 +9,7 @@ use std::alloc::Global;
 use tj_base::Oom;
 
 /// Room in memory, filled a few bytes a call.
-#[derive(Debug, Drop)]
+#[derive(Drop)]
 pub struct MemSink {
     held: Vec<u8>,
     room: u32,

@@ -7,7 +7,7 @@ use crate::failed::Failed;
 use crate::source::Source;
 
 /// Bytes in memory, given a few a call.
-#[derive(Debug, Drop)]
+#[derive(Drop)]
 pub struct MemSource {
     bytes: Vec<u8>,
     given: usize,
