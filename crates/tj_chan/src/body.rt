@@ -19,7 +19,7 @@ use tj_base::{Items, Oom, Pay, PlaceList, Trouble};
 use tj_body::{Answer, Ask, Body};
 
 /// What a body is to be answered next.
-#[derive(Clone, Copy, Debug, PartialEq, Eq)]
+#[derive(Clone, Copy)]
 pub enum Due {
     /// The first answer.
     Start,
@@ -37,7 +37,7 @@ pub enum Due {
 }
 
 /// The body of a task whose code is a chatter.
-#[derive(Debug, Drop)]
+#[derive(Drop)]
 pub struct ChanBody<C> {
     chatter: C,
     /// Its channels, in the order of their places.

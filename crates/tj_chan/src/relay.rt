@@ -11,7 +11,7 @@ use std::alloc::Global;
 use tj_base::{Items, Oom, PlaceList, Trouble};
 
 /// What a task of a relay does next.
-#[derive(Clone, Copy, Debug, PartialEq, Eq)]
+#[derive(Clone, Copy)]
 pub enum Part {
     /// The root opens the channel.
     Opens,
@@ -32,7 +32,7 @@ pub enum Part {
 }
 
 /// A task of a relay.
-#[derive(Clone, Copy, Debug, PartialEq, Eq)]
+#[derive(Clone, Copy)]
 pub struct Relay {
     part: Part,
     /// The number of items.

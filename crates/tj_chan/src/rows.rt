@@ -6,7 +6,7 @@ ghost use Rattle.tj_chan.specs.ChanBodies as bodies;
 use tj_base::{Items, Oom};
 
 /// A channel as the body of a task knows it.
-#[derive(Clone, Copy, Debug, PartialEq, Eq)]
+#[derive(Clone, Copy)]
 pub struct PromiseRow {
     /// The first place at which the task has this channel.
     pub first: u32,
