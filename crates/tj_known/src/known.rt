@@ -2,7 +2,7 @@
 use tj_base::{Items, Name};
 
 /// How a join stands to what its task knew, and to the fork order.
-#[derive(Clone, Copy, Debug, PartialEq, Eq)]
+#[derive(Clone, Copy)]
 pub enum How {
     /// The task knew the joined one.
     Known,
@@ -13,7 +13,7 @@ pub enum How {
 }
 
 /// A join: the task that asked for it, the joined task, and how it stands.
-#[derive(Debug, PartialEq, Eq, Drop)]
+#[derive(Drop)]
 pub struct KnownLine {
     pub by: Name,
     pub of: Name,
