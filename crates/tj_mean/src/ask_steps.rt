@@ -1,5 +1,5 @@
 //! What each ask makes of a point of a task's history.
-ghost use Rattle.std.specs.Prelude.{ℕ, ◌≡◌, ◌<◌, ◌≤◌, ◌^◌, ◌∷◌, [], ◌++◌, length, map, false, IfOk};
+ghost use Rattle.std.specs.Prelude.{ℕ, suc, ◌≡◌, ◌<◌, ◌≤◌, ◌^◌, ◌∷◌, [], ◌++◌, length, map, false, IfOk};
 ghost use Rattle.tj_body.specs.Asks.{IsPaid, IsPlaced};
 ghost use Rattle.std.specs.List.{AllByRecursion};
 ghost use Rattle.tj_body.specs.History as history;
@@ -37,6 +37,39 @@ fn value_at<B: Body>(alloc: Global, p: &Point<B>, v: Pay) -> Result<Value, Oom>
     }
 }
 
+/// The body is to be given this answer.
+pub fn give<B: Body>(p: &mut Point<B>, answer: Answer)
+    ensures { p.new ≡ history.with_answer answer p.old }
+{
+    drop(replace(&mut p.stage, PointStage::Answered(answer)));
+}
+
+/// The task waits for the cell.
+fn wait_for<B: Body>(p: &mut Point<B>, cell: Name, spare: bool)
+    ensures { p.new ≡ history.with_wait spare cell p.old }
+{
+    drop(replace(&mut p.stage, PointStage::Waits { cell, spare }));
+}
+
+/// The name of the next thing that the task makes, to which it has a reference from here on.
+fn refer_to_next<B: Body>(alloc: Global, p: &mut Point<B>, sort: Sort) -> Result<Name, Oom>
+    requires few { p.old.made < 2 ^ 31 }
+    ensures name { IfOk result (λ name. name ≡ history.next_name p.old) }
+    ensures made { IfOk result (λ _. p.new ≡ record (p.old) {
+      references = p.old.references ++ record { sort = sort; name = history.next_name p.old } ∷ [];
+      made = suc p.old.made;
+    }) }
+{
+    p.made += 1;
+    let name = p.name.child(alloc, p.made)?;
+    let reference = Reference {
+        sort,
+        name: name.copy(alloc)?,
+    };
+    p.references.push(reference)?;
+    Ok(name)
+}
+
 /// The task makes a promise, and owns it.
 fn make<B: Body>(alloc: Global, p: &mut Point<B>) -> Result<(), Oom>
     requires room { length p.old.references < 2 ^ 31 }
@@ -44,16 +77,10 @@ fn make<B: Body>(alloc: Global, p: &mut Point<B>) -> Result<(), Oom>
     ensures { IfOk result (λ _. p.new ≡ history.after_new p.old) }
 {
     let place = p.references.items().len() as u32;
-    p.made += 1;
-    let name = p.name.child(alloc, p.made)?;
-    let reference = Reference {
-        sort: Sort::Promise,
-        name: name.copy(alloc)?,
-    };
-    p.references.push(reference)?;
+    let name = refer_to_next(alloc, p, Sort::Promise)?;
     p.holds.push(name.copy(alloc)?)?;
     p.promises.push(name)?;
-    p.stage = PointStage::Answered(Answer::Local(place));
+    give(p, Answer::Local(place));
     Ok(())
 }
 
@@ -101,13 +128,7 @@ fn fork<B: Body>(
     ensures { IfOk result (λ _. p.new ≡ history.after_fork body passed handed left p.old) }
 {
     let place = p.references.items().len() as u32;
-    p.made += 1;
-    let name = p.name.child(alloc, p.made)?;
-    let reference = Reference {
-        sort: Sort::Task,
-        name: name.copy(alloc)?,
-    };
-    p.references.push(reference)?;
+    let name = refer_to_next(alloc, p, Sort::Task)?;
     p.holds = left;
     let child = Task {
         name,
@@ -116,7 +137,7 @@ fn fork<B: Body>(
         handed,
     };
     p.children.push(child)?;
-    p.stage = PointStage::Answered(Answer::Local(place));
+    give(p, Answer::Local(place));
     Ok(())
 }
 
@@ -227,7 +248,7 @@ fn set<B: Body>(alloc: Global, p: &mut Point<B>, k: u32, v: Pay) -> Result<(), O
     drop(holds.remove(at));
     p.holds = Items::of(holds);
     p.writes.push((reference.name, Entry::Value(value)))?;
-    p.stage = PointStage::Answered(Answer::Done);
+    give(p, Answer::Done);
     Ok(())
 }
 
@@ -241,7 +262,7 @@ fn get<B: Body>(alloc: Global, p: &mut Point<B>, spare: bool, k: u32) -> Result<
     match sort {
         Sort::Task => fail(alloc, p, Cause::Kind),
         Sort::Promise => {
-            p.stage = PointStage::Waits { cell: name, spare };
+            wait_for(p, name, spare);
             Ok(())
         }
     }
@@ -266,7 +287,7 @@ fn join<B: Body>(
             if strict && !path_before(&p.name, &name) {
                 return fail(alloc, p, Cause::Order(name));
             }
-            p.stage = PointStage::Waits { cell: name, spare };
+            wait_for(p, name, spare);
             Ok(())
         }
     }
@@ -289,7 +310,7 @@ pub fn take<B: Body>(alloc: Global, p: &mut Point<B>, ask: Ask<B>, strict: bool)
         Ask::JoinOr { t: k } => join(alloc, p, strict, true, k),
         Ask::Emit(i) => {
             p.prints.push(i)?;
-            p.stage = PointStage::Answered(Answer::Done);
+            give(p, Answer::Done);
             Ok(())
         }
         Ask::End(v) => {

@@ -9,7 +9,7 @@ ghost use Rattle.tj_mean.specs.Inner.Assignments.{assignment_in};
 ghost use Rattle.tj_mean.specs.Inner.Reached.{Reaches};
 ghost use Rattle.tj_mean.specs.Outcomes.{ending_of};
 
-use crate::ask_steps::{copy_reference, fail, take};
+use crate::ask_steps::{copy_reference, fail, give, take};
 use crate::outcome::PlanFault;
 use std::alloc::Global;
 use std::collections::BTreeMap;
@@ -30,19 +30,19 @@ fn read<B: Body>(
     match became {
         Entry::Broken => {
             if spare {
-                p.stage = PointStage::Answered(Answer::Lost);
+                give(p, Answer::Lost);
                 return Ok(());
             }
             fail(alloc, p, Cause::Broken(cell))
         }
         Entry::Value(Value::Num(i)) => {
-            p.stage = PointStage::Answered(Answer::Num(*i));
+            give(p, Answer::Num(*i));
             Ok(())
         }
         Entry::Value(Value::Ref(reference)) => {
             let place = p.references.items().len() as u32;
             p.references.push(copy_reference(alloc, reference)?)?;
-            p.stage = PointStage::Answered(Answer::RefAt(place));
+            give(p, Answer::RefAt(place));
             Ok(())
         }
     }
