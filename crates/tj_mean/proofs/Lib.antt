@@ -4,3 +4,4 @@ pub mod Lists
 pub mod AtWork
 pub mod Outcomes
 pub mod NotedActs
+pub mod TakenPoints
