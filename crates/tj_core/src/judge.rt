@@ -14,7 +14,7 @@ use crate::plain_core::Core;
 use crate::stage::Illegal;
 use crate::walk::LastRead;
 use std::alloc::Global;
-use tj_base::{ByteList, CellId, Oom, add_number};
+use tj_base::{ByteList, CellId, Oom, add_count, add_number};
 
 /// The text of judging, and whether an event was illegal or an alarm.
 #[derive(Drop)]
@@ -169,8 +169,7 @@ fn add_wait(text: &mut Vec<u8>, core: &Core, t: CellId) -> Result<(), Oom>
 fn add_legal(text: &mut Vec<u8>, events: u64) -> Result<(), Oom>
     ensures { IfOk result (λ _. text.new.items ≡ text.old.items ++ legal_line events) }
 {
-    text.extend_from_slice(b"legal ")?;
-    add_number(text, events as u128)?;
+    add_count(text, b"legal ", events as u128)?;
     text.extend_from_slice(b" events\n")?;
     Ok(())
 }
@@ -178,8 +177,7 @@ fn add_legal(text: &mut Vec<u8>, events: u64) -> Result<(), Oom>
 fn add_illegal(text: &mut Vec<u8>, line: u64) -> Result<(), Oom>
     ensures { IfOk result (λ _. text.new.items ≡ text.old.items ++ illegal_line line) }
 {
-    text.extend_from_slice(b"illegal at line ")?;
-    add_number(text, line as u128)?;
+    add_count(text, b"illegal at line ", line as u128)?;
     text.extend_from_slice(b"\n")?;
     Ok(())
 }

@@ -57,9 +57,10 @@ fn without_cells(verb: &[u8]) -> Option<Event>
     ensures found { IfSome result (λ e. (verb_of e ≡ verb.now) × (cells_of e ≡ [])) }
     ensures none { IfNone result ((e : Event) → cells_of e ≡ [] → verb_of e ≢ verb.now) }
 {
-    match verb {
-        b"lower" => Some(Event::Lower),
-        _ => None,
+    if verb == b"lower".as_slice() {
+        Some(Event::Lower)
+    } else {
+        None
     }
 }
 
@@ -101,10 +102,12 @@ fn with_two_cells(verb: &[u8], t: CellId, p: CellId) -> Option<Event>
     ensures none { IfNone result ((e : Event) → cells_of e ≡ t.0 ∷ p.0 ∷ []
         → verb_of e ≢ verb.now) }
 {
-    match verb {
-        b"close" => Some(Event::Close(t, p)),
-        b"publish" => Some(Event::Publish(t, p)),
-        _ => None,
+    if verb == b"close".as_slice() {
+        Some(Event::Close(t, p))
+    } else if verb == b"publish".as_slice() {
+        Some(Event::Publish(t, p))
+    } else {
+        None
     }
 }
 
@@ -115,9 +118,10 @@ fn with_three_cells(verb: &[u8], t: CellId, p: CellId, c: CellId) -> Option<Even
     ensures none { IfNone result ((e : Event) → cells_of e ≡ t.0 ∷ p.0 ∷ c.0 ∷ []
         → verb_of e ≢ verb.now) }
 {
-    match verb {
-        b"hand" => Some(Event::Hand(t, p, c)),
-        _ => None,
+    if verb == b"hand".as_slice() {
+        Some(Event::Hand(t, p, c))
+    } else {
+        None
     }
 }
 
