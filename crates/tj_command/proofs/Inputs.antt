@@ -7,7 +7,7 @@ use Rattle.std.proofs.lemmas.List.{length-append}
 use Rattle.tj_ports.specs.declared.source.ReadEnd.{ReadEnd}
 use Rattle.tj_ports.specs.declared.source.ReadEnd.TheVariants.{Whole, Long}
 use Rattle.tj_ports.specs.Reading.{IsWithin}
-use Rattle.tj_embed.specs.ScriptTexts.{most_bytes}
+use Rattle.tj_syntax.specs.ScriptTexts.{most_bytes}
 use Rattle.tj_command.specs.Inputs.{IsReadOf}
 
 whole_cases : (limit : ℕ) (bytes input : List ℕ) (b : Bool)

@@ -9,9 +9,9 @@ use Rattle.tj_syntax.specs.declared.fault.ParseFault.{ParseFault}
 use Rattle.tj_syntax.specs.Faults.{EndsInEnd, IsScript, kinds_of}
 use Rattle.tj_syntax.specs.Faults as grammar
 use Rattle.tj_syntax.specs.Trees.{Task}
-use Rattle.tj_embed.specs.ScriptTexts.{IsFirstFault, IsScriptOf, in_grammar, in_tokens, most_bytes, too_long}
-use Rattle.tj_embed.specs.declared.script_text.NoScript.{NoScript}
-use Rattle.tj_embed.specs.declared.script_text.NoScript.TheVariants.{Tokens, Grammar}
+use Rattle.tj_syntax.specs.ScriptTexts.{IsFirstFault, IsScriptOf, in_grammar, in_tokens, most_bytes, too_long}
+use Rattle.tj_syntax.specs.declared.script_text.NoScript.{NoScript}
+use Rattle.tj_syntax.specs.declared.script_text.NoScript.TheVariants.{Tokens, Grammar}
 
 -- What tj_lex and tj_syntax leave no choice in.
 pub record AreOneScript : Type 0 where

@@ -1,8 +1,8 @@
 -- The line of the first fault of a text that is no script.
 use Rattle.std.specs.Prelude.{ℕ, ◌≡◌, List, [], codes}
-use Rattle.tj_embed.specs.ScriptTexts.{IsFirstFault}
-use Rattle.tj_embed.specs.declared.script_text.NoScript.{NoScript}
-use Rattle.tj_embed.specs.declared.script_text.NoScript.TheVariants.{Long, Tokens, Grammar}
+use Rattle.tj_syntax.specs.ScriptTexts.{IsFirstFault}
+use Rattle.tj_syntax.specs.declared.script_text.NoScript.{NoScript}
+use Rattle.tj_syntax.specs.declared.script_text.NoScript.TheVariants.{Long, Tokens, Grammar}
 use Rattle.tj_lex.specs.declared.token.LexFault.{LexFault}
 use Rattle.tj_lex.specs.declared.token.LexFault.TheVariants as lex
 use Rattle.tj_syntax.specs.declared.fault.ParseFault.{ParseFault}

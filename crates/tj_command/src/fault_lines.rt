@@ -1,15 +1,14 @@
 //! The lines that are written in place of a report: why an input is refused, or that it needs more
 //! cells.
 ghost use Rattle.std.specs.Prelude.{◌≡◌, ◌≢◌, IfOk};
-ghost use Rattle.tj_embed.specs.ScriptTexts.{IsMemory};
+ghost use Rattle.tj_syntax.specs.ScriptTexts.{IsMemory};
 ghost use Rattle.tj_command.specs.ScriptTexts as script_texts;
 ghost use Rattle.tj_command.specs.Texts as texts;
 
 use std::alloc::Global;
 use tj_base::{Oom, add_number};
-use tj_embed::NoScript;
 use tj_lex::{LexFault, Place};
-use tj_syntax::ParseFault;
+use tj_syntax::{NoScript, ParseFault};
 
 /// The line of a script's fault. Want of memory has none.
 pub fn fault_line(alloc: Global, fault: NoScript) -> Result<Vec<u8>, Oom>

@@ -1,14 +1,13 @@
 //! From an input to the script that it is, or to what is wrong with it first.
 ghost use Rattle.std.specs.Prelude.{◌⊎◌, List, ℕ, IfOk, IfErr};
-ghost use Rattle.tj_embed.specs.ScriptTexts.{most_bytes, IsFirstFault, IsMemory, IsScriptOf, IsSomeScript};
+ghost use Rattle.tj_syntax.specs.ScriptTexts.{most_bytes, IsFirstFault, IsMemory, IsScriptOf, IsSomeScript};
 ghost use Rattle.tj_ports.specs.Reading.{IsWithin};
 ghost use Rattle.tj_command.specs.Inputs.{IsReadOf};
 ghost use Rattle.tj_syntax.specs.View as view;
 
 use std::alloc::Global;
-use tj_embed::{NoScript, position_behind, script_in};
 use tj_ports::ReadEnd;
-use tj_syntax::Script;
+use tj_syntax::{NoScript, Script, position_behind, script_in};
 
 /// The script that an input is.
 pub fn script_of(alloc: Global, input: &ReadEnd) -> Result<Script, NoScript>

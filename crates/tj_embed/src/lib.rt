@@ -5,13 +5,10 @@
 mod body_run;
 mod options;
 mod outcome_lines;
-mod positions;
 mod script_run;
-mod script_text;
 
 pub use body_run::run_outcome;
 pub use options::Options;
 pub use outcome_lines::{cycle_with, line_of, owing};
-pub use positions::position_behind;
 pub use script_run::{ScriptRun, plan_script, run_script};
-pub use script_text::{NoScript, script_in};
+pub use tj_syntax::{NoScript, position_behind, script_in};

@@ -4,7 +4,7 @@ ghost use Rattle.tj_body.specs.Rounds.{IsFull};
 ghost use Rattle.tj_embed.specs.Limits.{AreLimits};
 ghost use Rattle.tj_embed.specs.ScriptRuns.{IsOutcomeOfRun, IsOutcomeOfScript, IsReportOfRun, IsRunOf, NeedsMore};
 ghost use Rattle.tj_embed.specs.ScriptRuns.{script_program};
-ghost use Rattle.tj_embed.specs.ScriptTexts.{IsSomeScript};
+ghost use Rattle.tj_syntax.specs.ScriptTexts.{IsSomeScript};
 ghost use Rattle.tj_mean.specs.declared.outcome.Outcome.{Outcome};
 ghost use Rattle.tj_mean.specs.Outcomes.{is_marked};
 ghost use Rattle.tj_syntax.specs.View as shown;

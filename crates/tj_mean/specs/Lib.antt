@@ -5,3 +5,4 @@ pub mod ActLines
 pub mod Acts
 pub mod ActLaws
 pub mod WaitIndexes
+pub mod ReportTexts

@@ -10,10 +10,10 @@ use Rattle.tj_core.specs.declared.event.Event.{Event}
 use Rattle.tj_core.specs.Journals.Laws.{EventsAreOne, FirstFaultIsOne, EventsHaveNoFault, JudgingIsOne}
 use Rattle.tj_eval.specs.Statements.{TaskState, task_of}
 use Rattle.tj_core.specs.Journals.Judging.{IsJudged}
-use Rattle.tj_report.specs.ReportTexts.{report}
+use Rattle.tj_mean.specs.ReportTexts.{report}
 use Rattle.tj_syntax.specs.Listing.{listing}
 use Rattle.tj_program.specs.Output.{IsCommandOutput, IsRefused, IsStart, IsStartOfText}
-use Rattle.tj_embed.specs.ScriptTexts.{IsScriptOf, too_long}
+use Rattle.tj_syntax.specs.ScriptTexts.{IsScriptOf, too_long}
 use Rattle.tj_command.specs.ScriptTexts.{IsFaultLine, fault_line}
 use Rattle.tj_command.proofs.Scripts.{AreOneScript, no_fault, one_fault, one_script_of}
 use Rattle.tj_program.proofs.KnownRuns.{one_known}

@@ -8,7 +8,7 @@ use Rattle.tj_program.proofs.Prelude.{status_of, subst, sym, take, takes_input, 
 use Rattle.tj_lex.specs.declared.place.Place.{Place}
 use Rattle.tj_lex.specs.Positions.{position_after}
 use Rattle.tj_program.specs.Judgings.{IsJournalFault, too_long as journal_too_long}
-use Rattle.tj_embed.specs.ScriptTexts.{most_bytes, IsFirstFault, IsMemory}
+use Rattle.tj_syntax.specs.ScriptTexts.{most_bytes, IsFirstFault, IsMemory}
 
 -- what is so of an answer that isn't an error
 pub if_ok : {A E : Type 0} {P Q : A → Type 0} (r : Result A E) → ((x : A) → P x → Q x) → IfOk r P → IfOk r Q

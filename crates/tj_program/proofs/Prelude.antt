@@ -33,8 +33,8 @@ pub use Rattle.tj_chan.specs.ChannelLaws.{bodies_of}
 pub use Rattle.tj_chan.specs.ChannelOutcomes.{IsChatOutcome}
 pub use Rattle.tj_chan.specs.ChannelRounds.{chat_meaning}
 pub use Rattle.tj_core.specs.Journals.Lines.{lines_of}
-pub use Rattle.tj_embed.specs.ScriptTexts.{IsFirstFault, IsScriptOf, most_bytes}
-pub use Rattle.tj_embed.specs.declared.script_text.NoScript.{NoScript}
+pub use Rattle.tj_syntax.specs.ScriptTexts.{IsFirstFault, IsScriptOf, most_bytes}
+pub use Rattle.tj_syntax.specs.declared.script_text.NoScript.{NoScript}
 pub use Rattle.tj_eval.specs.Gets.{asks_no_get}
 pub use Rattle.tj_eval.specs.Statements.{TaskState}
 pub use Rattle.tj_gen.specs.Script.{script_text, step_lines, steps_lines, tail_lines}

@@ -5,7 +5,7 @@ use Rattle.tj_core.specs.Journals.Lines.{lines_of, AreEventLines, IsFirstFault}
 use Rattle.tj_core.specs.Journals.Judging.{IsJudged}
 use Rattle.tj_lex.specs.Positions.{position_after}
 use Rattle.tj_program.specs.Runs.{status_of}
-use Rattle.tj_embed.specs.ScriptTexts.{most_bytes}
+use Rattle.tj_syntax.specs.ScriptTexts.{most_bytes}
 use Rattle.tj_program.specs.Texts.{journal_fault}
 use Rattle.tj_command.specs.declared.status.Status.{Status}
 use Rattle.tj_command.specs.declared.status.Status.TheVariants.{Script}

@@ -9,7 +9,7 @@ use Rattle.tj_program.specs.Judgings.{IsJudging}
 use Rattle.tj_program.specs.KnownRuns.{IsKnownOf}
 use Rattle.tj_program.specs.RelayRuns.{IsRelayRun}
 use Rattle.tj_program.specs.Runs.{Start, IsStartOf, IsRunOf}
-use Rattle.tj_embed.specs.ScriptTexts.{IsScriptOf}
+use Rattle.tj_syntax.specs.ScriptTexts.{IsScriptOf}
 use Rattle.tj_command.specs.ScriptTexts.{IsFaultLine}
 use Rattle.tj_program.specs.Texts.{usage_line}
 use Rattle.tj_program.specs.declared.command.Command.{Command}

@@ -11,7 +11,7 @@ use Rattle.tj_chan.specs.declared.body.ChanBody.{ChanBody}
 use Rattle.tj_chan.specs.declared.relay.Relay.{Relay}
 use Rattle.tj_mean.specs.declared.outcome.Outcome.{Outcome}
 use Rattle.tj_mean.specs.Outcomes.{is_marked}
-use Rattle.tj_report.specs.ReportTexts.{report}
+use Rattle.tj_mean.specs.ReportTexts.{report}
 use Rattle.tj_program.specs.Runs.{StartOf, started, status_of}
 use Rattle.tj_program.specs.Texts.{full_line}
 use Rattle.tj_command.specs.declared.status.Status.{Status}

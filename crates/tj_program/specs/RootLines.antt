@@ -4,7 +4,7 @@ use Rattle.tj_mean.specs.Outcomes.{is_nil}
 use Rattle.tj_mean.specs.declared.outcome.Ending.{Ending}
 use Rattle.tj_mean.specs.declared.outcome.Ending.TheVariants as ending
 use Rattle.tj_mean.specs.declared.outcome.TaskLine.{TaskLine}
-use Rattle.tj_report.specs.ReportTexts.{line_feed, shown_text}
+use Rattle.tj_mean.specs.ReportTexts.{line_feed, shown_text}
 
 -- the line of a root with this ending: its value, that it failed, or that it waits
 abbrev pub ending_line : Ending → List ℕ

@@ -6,7 +6,7 @@ use Rattle.tj_eval.specs.Bodies.{IsMainBody, script_places, script_awaits, scrip
 use Rattle.tj_eval.specs.Statements.{TaskState}
 use Rattle.tj_mean.specs.declared.outcome.Outcome.{Outcome}
 use Rattle.tj_mean.specs.Outcomes.{IsOutcome, is_marked}
-use Rattle.tj_report.specs.ReportTexts.{report}
+use Rattle.tj_mean.specs.ReportTexts.{report}
 use Rattle.tj_report.specs.SummaryTexts.{summary}
 use Rattle.tj_syntax.specs.Trees.{Task}
 use Rattle.tj_program.specs.RootLines.{root_line}

@@ -10,7 +10,7 @@ use Rattle.tj_program.specs.Delivery.{HasText, IsAnswered, IsOutputPart}
 use Rattle.tj_program.specs.KnownRuns.{KnownJoinsOfMeaningAreAlong}
 use Rattle.tj_program.specs.Output.{IsOutput, IsStart, TakesInput}
 use Rattle.tj_program.specs.Runs.{Start}
-use Rattle.tj_embed.specs.ScriptTexts.{most_bytes}
+use Rattle.tj_syntax.specs.ScriptTexts.{most_bytes}
 use Rattle.tj_program.specs.StrictRuns.{StrictRunsNeverWait}
 use Rattle.tj_program.specs.Texts.{usage_line}
 use Rattle.tj_program.specs.declared.command.Command.{Command}

@@ -2,7 +2,7 @@
 ghost use Rattle.std.specs.Prelude.{◌<◌, ◌≤◌, ℕ, List, length, IfOk};
 ghost use Rattle.tj_core.specs.declared.births.TheConstants.{MAX_CORE_CELLS};
 ghost use Rattle.tj_ports.specs.Reading.{IsWithin};
-ghost use Rattle.tj_embed.specs.ScriptTexts.{most_bytes};
+ghost use Rattle.tj_syntax.specs.ScriptTexts.{most_bytes};
 ghost use Rattle.tj_program.specs.Inner.Inputs.{IsReadOf};
 ghost use Rattle.tj_program.specs.Judgings.{IsJudging};
 
@@ -11,8 +11,8 @@ use std::alloc::Global;
 use tj_base::Oom;
 use tj_command::{Output, Status, status_of};
 use tj_core::{JournalFault, judge_text, read_journal};
-use tj_embed::position_behind;
 use tj_ports::ReadEnd;
+use tj_syntax::position_behind;
 
 /// What judging the journal gives, with room for so many cells, or the line of its fault.
 pub fn judging_of(alloc: Global, journal: &ReadEnd, cells: u32) -> Result<Output, Oom>

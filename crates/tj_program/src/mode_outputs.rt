@@ -5,11 +5,11 @@ ghost use Rattle.tj_ports.specs.Reading.{IsWithin};
 ghost use Rattle.tj_program.specs.ClosedRuns.{has_workers};
 ghost use Rattle.tj_program.specs.CommandLine.{HasLimits};
 ghost use Rattle.tj_command.specs.ScriptTexts as script_texts;
-ghost use Rattle.tj_embed.specs.ScriptTexts.{most_bytes};
+ghost use Rattle.tj_syntax.specs.ScriptTexts.{most_bytes};
 ghost use Rattle.tj_program.specs.Inner.ClosedOutputs.{IsGiven};
 ghost use Rattle.tj_program.specs.Inner.Inputs.{HasRead, IsReadOf};
 ghost use Rattle.tj_program.specs.Runs.{Start, IsRunOf};
-ghost use Rattle.tj_embed.specs.ScriptTexts.{IsMemory};
+ghost use Rattle.tj_syntax.specs.ScriptTexts.{IsMemory};
 ghost use Rattle.tj_command.specs.Limits.{AreLimits};
 ghost use Rattle.tj_program.specs.Output.{IsCommandOutput, IsListed, IsRefused, IsStartOfText};
 
@@ -26,9 +26,8 @@ use std::sync::Wait;
 use std::thread::Threads;
 use tj_base::Oom;
 use tj_command::{Limits, Output, Status, fault_line, script_of};
-use tj_embed::NoScript;
 use tj_ports::{Gate, ReadEnd};
-use tj_syntax::list_text;
+use tj_syntax::{NoScript, list_text};
 
 /// What a command gives, where it has read this of its input.
 pub fn given_by<G: Gate, R: Wait + Threads + Sync>(

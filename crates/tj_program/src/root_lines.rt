@@ -1,6 +1,6 @@
 //! The line that `watch` writes: what became of the root.
 ghost use Rattle.std.specs.Prelude.{◌≡◌, ◌++◌, IfOk};
-ghost use Rattle.tj_report.specs.ReportTexts.{shown_text};
+ghost use Rattle.tj_mean.specs.ReportTexts.{shown_text};
 ghost use Rattle.tj_mean.specs.declared.outcome.Ending.TheVariants as ending;
 ghost use Rattle.tj_program.specs.Inner.WatchTells.{ValueTells, WatchTells};
 ghost use Rattle.tj_program.specs.RootLines as spec;

@@ -2,7 +2,7 @@
 ghost use Rattle.std.specs.Prelude.{◌≡◌, IfOk};
 ghost use Rattle.tj_mean.specs.Outcomes.{is_marked};
 ghost use Rattle.tj_program.specs.Runs.{Start, IsRunOf, IsStartOf};
-ghost use Rattle.tj_embed.specs.ScriptTexts.{IsSomeScript};
+ghost use Rattle.tj_syntax.specs.ScriptTexts.{IsSomeScript};
 ghost use Rattle.tj_command.specs.Limits.{AreLimits};
 ghost use Rattle.tj_program.specs.Runs as runs;
 ghost use Rattle.tj_program.specs.Texts as texts;

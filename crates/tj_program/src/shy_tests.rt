@@ -12,12 +12,12 @@ use std::test::Fail;
 use std::thread::Threads;
 use tj_base::{CellId, Items, Oom, Pay};
 use tj_body::{Answer, Ask, Body, Row, RowList, TableBody};
-use tj_embed::script_in;
 use tj_eval::{ScriptBody, main_body};
 use tj_mean::{PlanFault, plan};
 use tj_ports::OpenGate;
 use tj_ready::{LockedPool, Pool};
 use tj_run::{RunFault, run_all};
+use tj_syntax::script_in;
 
 const TAKERS: &str = "task main() { let p = new; let a = fork taker(p); fork giver(own p); \
     let b = fork taker(p); let x = join a; let y = join b; return x + y; } task taker(p) { let \

@@ -14,11 +14,11 @@ use std::test::Fail;
 use std::thread::{self, Threads};
 use tj_base::Oom;
 use tj_body::{Answer, Ask, Body};
-use tj_embed::script_in;
 use tj_eval::{ScriptBody, main_body};
 use tj_ports::{Gate, OpenGate};
 use tj_ready::StealPool;
 use tj_run::run_all;
+use tj_syntax::script_in;
 
 // So many schedules are drawn for each script.
 const SEEDS: u64 = 200;

@@ -12,7 +12,7 @@ ghost use Rattle.tj_program.specs.CommandLine.{HasLimits, HasNoForm, IsCommand};
 ghost use Rattle.tj_program.specs.StrictRuns.{StrictRunsNeverWait};
 ghost use Rattle.tj_program.specs.declared.command.Command.{Command};
 ghost use Rattle.tj_command.specs.declared.status.Status.{Status};
-ghost use Rattle.tj_embed.specs.ScriptTexts.{most_bytes};
+ghost use Rattle.tj_syntax.specs.ScriptTexts.{most_bytes};
 ghost use Rattle.tj_program.specs.Texts.{usage_line};
 ghost use Rattle.tj_program.specs.Inner.ClosedOutputs.{AreWith, IsPutWith, IsAnswerPut};
 ghost use Rattle.tj_program.specs.Inner.Inputs.{HasRead};

@@ -8,9 +8,9 @@ ghost use Rattle.tj_program.specs.Inner.ClosedOutputs.{IsRunGiven};
 ghost use Rattle.tj_program.specs.Inner.Inputs.{IsReadOf};
 ghost use Rattle.tj_program.specs.Output.{IsRefused, IsStartOfText};
 ghost use Rattle.tj_program.specs.Runs.{Start, IsStartOf, script_program, start_of};
-ghost use Rattle.tj_embed.specs.ScriptTexts.{IsSomeScript};
+ghost use Rattle.tj_syntax.specs.ScriptTexts.{IsSomeScript};
 ghost use Rattle.tj_command.specs.Limits.{AreLimits};
-ghost use Rattle.tj_embed.specs.ScriptTexts.{most_bytes};
+ghost use Rattle.tj_syntax.specs.ScriptTexts.{most_bytes};
 ghost use Rattle.tj_syntax.specs.View as view;
 
 use crate::mode_outputs::refused;

@@ -10,9 +10,9 @@ ghost use Rattle.tj_program.specs.Inner.ClosedOutputs.{IsRunGiven};
 ghost use Rattle.tj_program.specs.Inner.Inputs.{IsReadOf};
 ghost use Rattle.tj_program.specs.Output.{IsRefused, IsStartOfText};
 ghost use Rattle.tj_program.specs.Runs.{Start, IsStartOf, started};
-ghost use Rattle.tj_embed.specs.ScriptTexts.{IsSomeScript};
+ghost use Rattle.tj_syntax.specs.ScriptTexts.{IsSomeScript};
 ghost use Rattle.tj_command.specs.Limits.{AreLimits};
-ghost use Rattle.tj_embed.specs.ScriptTexts.{most_bytes};
+ghost use Rattle.tj_syntax.specs.ScriptTexts.{most_bytes};
 ghost use Rattle.tj_syntax.specs.View as view;
 
 use crate::generated::generated_text_is_a_script;
@@ -25,14 +25,13 @@ use std::thread::Threads;
 use tj_base::Oom;
 use tj_body::Body;
 use tj_command::{Limits, Output, script_of, status_of};
-use tj_embed::script_in;
 use tj_eval::{ScriptBody, main_body};
 use tj_gen::gen_script;
 use tj_ports::{Gate, ReadEnd};
 use tj_ready::StealPool;
 use tj_report::{outcome_of, report_at_rest};
 use tj_run::{RunFault, run_all};
-use tj_syntax::Script;
+use tj_syntax::{Script, script_in};
 use tj_words::RestWords;
 
 /// The report of a run of the script that the input is, or the line of its fault.

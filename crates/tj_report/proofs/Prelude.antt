@@ -33,7 +33,7 @@ pub use Rattle.tj_report.specs.Inner.CellNamesBy.{name_by}
 pub use Rattle.tj_report.specs.Inner.WalkedReports.{AreToldBelow, IsBefore}
 pub use Rattle.tj_report.specs.Inner.ToldRecords.{IsEndBelow, IsFinishBelow, IsRecordBelow, ending_by, finished_by}
 pub use Rattle.tj_report.specs.Inner.ToldRecords.{told_by}
-pub use Rattle.tj_report.specs.ReportTexts.{line_feed, link_text}
+pub use Rattle.tj_mean.specs.ReportTexts.{line_feed, link_text}
 pub use Rattle.tj_words.specs.AtRest.ClosedCells.{AreNamed, IsShown}
 pub use Rattle.tj_words.specs.AtRest.RestMeaning.{AreRecordsOf, AreWordsOf, TellsHistory, names}
 pub use Rattle.tj_words.specs.LawParts.TreeWords.{IsCell}

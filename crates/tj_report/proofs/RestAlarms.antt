@@ -4,7 +4,7 @@ use Rattle.tj_report.proofs.Prelude.{◌∙◌, ◌∷◌, ◌≡◌, IsIn, inl,
 use Rattle.std.specs.List.{All, flat_map, join_by}
 use Rattle.tj_mean.proofs.Lists.Elements.{in_of_all}
 use Rattle.tj_report.specs.Inner.RestAlarms.{alarm_by}
-use Rattle.tj_report.specs.ReportTexts.{alarm_line}
+use Rattle.tj_mean.specs.ReportTexts.{alarm_line}
 
 parts_by : (f : ℕ → Link) (c : List ℕ) → flat_map (λ p. codes ", " ++ link_text (f p)) c
     ≡ flat_map (λ l. codes ", " ++ link_text l) (map f c)

@@ -27,7 +27,7 @@ use Rattle.tj_report.specs.Inner.AwaitedCells.{AreRecordsBelow}
 use Rattle.tj_report.specs.Inner.CellNamesBy.{names_by}
 use Rattle.tj_report.specs.Inner.RestAlarms.{AreAlarmsBy, link_in}
 use Rattle.tj_report.specs.Inner.WalkedReports.{AreToldBefore, AreToldBelow, AreToldTo, has_trouble}
-use Rattle.tj_report.specs.ReportTexts.{alarm_line, lines_of, report, task_lines, verdict_line}
+use Rattle.tj_mean.specs.ReportTexts.{alarm_line, lines_of, report, task_lines, verdict_line}
 use Rattle.tj_report.specs.RestReports.{IsReportOf}
 use Rattle.tj_report.proofs.AwaitedCells.{told_line, told_there, told_trouble}
 use Rattle.tj_report.proofs.CellIndexes.{get_of_elem, within}

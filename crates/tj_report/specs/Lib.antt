@@ -1,4 +1,3 @@
-pub mod ReportTexts
 pub mod SummaryTexts
 pub mod ClosedOutcomes
 pub mod Inner

@@ -7,7 +7,7 @@ use Rattle.tj_mean.specs.declared.outcome.Outcome.{Outcome}
 use Rattle.tj_words.specs.AtRest.RestMeaning.{AreCyclesOfMeaningAlarmed}
 use Rattle.tj_words.specs.declared.closed.RestCell.{RestCell}
 use Rattle.tj_report.specs.ClosedOutcomes.{AreCyclesOfOutcomeAlarmed}
-use Rattle.tj_report.specs.ReportTexts.{report}
+use Rattle.tj_mean.specs.ReportTexts.{report}
 
 -- The text is the report of an outcome of the meaning, and is marked as that is. Each cycle of this outcome has a
 -- member that has alarmed where each cycle of the meaning has one.

@@ -7,7 +7,7 @@ use Rattle.tj_mean.specs.declared.outcome.Ending.{Ending}
 use Rattle.tj_mean.specs.declared.outcome.Ending.TheVariants as ending
 use Rattle.tj_mean.specs.declared.outcome.TaskLine.{TaskLine}
 use Rattle.tj_mean.specs.declared.outcome.Outcome.{Outcome}
-use Rattle.tj_report.specs.ReportTexts.{shown_text, line_feed, verdict_line}
+use Rattle.tj_mean.specs.ReportTexts.{shown_text, line_feed, verdict_line}
 
 -- the task is done
 abbrev pub is_done : Ending → Bool

@@ -4,7 +4,7 @@ ghost use Rattle.std.specs.List.{All, flat_map, join_by};
 ghost use Rattle.tj_body.specs.declared.point.Reference.{Reference};
 ghost use Rattle.tj_report.specs.Inner.AwaitedCells.{AreRecordsBelow, link_by};
 ghost use Rattle.tj_report.specs.Inner.RestAlarms.{AreAlarmsBy, alarm_by, link_in};
-ghost use Rattle.tj_report.specs.ReportTexts.{link_text};
+ghost use Rattle.tj_mean.specs.ReportTexts.{link_text};
 ghost use Rattle.tj_words.specs.AtRest.ClosedCells.{AreNamed};
 
 use crate::awaited_cells::{awaited_at, next_by, ranks_of};

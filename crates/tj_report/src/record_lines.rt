@@ -9,7 +9,7 @@ ghost use Rattle.tj_report.specs.Inner.CellNames.{IsBelow, name_in};
 ghost use Rattle.tj_report.specs.Inner.CellNamesBy.{names_by};
 ghost use Rattle.tj_report.specs.Inner.ToldRecords as told;
 ghost use Rattle.tj_report.specs.Inner.WalkedReports.{has_failed, has_trouble};
-ghost use Rattle.tj_report.specs.ReportTexts.{cause_text, ending_text, lines_of, owes_line, shown_text};
+ghost use Rattle.tj_mean.specs.ReportTexts.{cause_text, ending_text, lines_of, owes_line, shown_text};
 ghost use Rattle.tj_words.specs.AtRest.ClosedCells.{AreNamed};
 
 use crate::awaited_cells::awaited;

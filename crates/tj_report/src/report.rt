@@ -3,9 +3,9 @@
 ghost use Rattle.std.specs.Prelude.{◌≡◌, ◌++◌, codes, IfOk};
 ghost use Rattle.std.specs.List.{flat_map, join_by};
 ghost use Rattle.tj_base.specs.Texts.{name_text};
-ghost use Rattle.tj_report.specs.ReportTexts.{shown_text, cause_text, ending_text, print_line};
-ghost use Rattle.tj_report.specs.ReportTexts.{owes_line, lines_of, link_text, alarm_line, report};
-ghost use Rattle.tj_report.specs.ReportTexts.{verdict_line};
+ghost use Rattle.tj_mean.specs.ReportTexts.{shown_text, cause_text, ending_text, print_line};
+ghost use Rattle.tj_mean.specs.ReportTexts.{owes_line, lines_of, link_text, alarm_line, report};
+ghost use Rattle.tj_mean.specs.ReportTexts.{verdict_line};
 ghost use Rattle.tj_mean.specs.Outcomes.{is_marked};
 
 use crate::shown_names::go_to;

@@ -10,3 +10,4 @@ pub mod Stops
 pub mod Same
 pub mod Listed
 pub mod Starting
+pub mod ScriptTexts

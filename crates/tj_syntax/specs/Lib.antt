@@ -10,3 +10,4 @@ pub mod Within
 pub mod Starts
 pub mod PlacesOf
 pub mod Parts
+pub mod ScriptTexts

@@ -20,7 +20,9 @@ mod read_script;
 mod read_stmt;
 mod read_task;
 mod script;
+mod script_text;
 mod stmt;
+mod text_ends;
 
 pub use expr::{Expr, Op, RefOf, Rel};
 pub use fault::ParseFault;
@@ -28,4 +30,6 @@ pub use listing::list_text;
 pub use positions::{ScriptPlaces, StatementPlace, TaskPlaces, places};
 pub use read_script::parse;
 pub use script::{Decl, Script};
+pub use script_text::{NoScript, script_in};
 pub use stmt::{Arg, Block, Call, Rhs, Stmt};
+pub use text_ends::position_behind;

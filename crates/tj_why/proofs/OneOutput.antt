@@ -5,7 +5,7 @@ use Rattle.tj_body.specs.Rounds.{meaning}
 use Rattle.tj_command.proofs.Scripts.{AreOneScript, no_fault, one_fault, one_script_of, one_tokens}
 use Rattle.tj_command.specs.Statuses.{status_of}
 use Rattle.tj_command.specs.declared.status.Status.{Status}
-use Rattle.tj_embed.specs.ScriptTexts.{most_bytes}
+use Rattle.tj_syntax.specs.ScriptTexts.{most_bytes}
 use Rattle.tj_eval.specs.Stands.{IsPlacedMain, PlacedState, placed}
 use Rattle.tj_eval.specs.Statements.{task_of}
 use Rattle.tj_lex.specs.declared.token.Tok.{Tok}

@@ -10,10 +10,10 @@ use Rattle.tj_command.specs.Texts.{full_line}
 use Rattle.tj_command.specs.declared.output.Output.{Output}
 use Rattle.tj_command.specs.declared.status.Status.{Status}
 use Rattle.tj_command.specs.declared.status.Status.TheVariants.{Full, Script}
-use Rattle.tj_embed.proofs.ScriptTexts.{long_first}
-use Rattle.tj_embed.specs.ScriptTexts.{IsFirstFault, IsMemory, most_bytes}
-use Rattle.tj_embed.specs.declared.script_text.NoScript.{NoScript}
-use Rattle.tj_embed.specs.declared.script_text.NoScript.TheVariants.{Long}
+use Rattle.tj_syntax.proofs.ScriptTexts.{long_first}
+use Rattle.tj_syntax.specs.ScriptTexts.{IsFirstFault, IsMemory, most_bytes}
+use Rattle.tj_syntax.specs.declared.script_text.NoScript.{NoScript}
+use Rattle.tj_syntax.specs.declared.script_text.NoScript.TheVariants.{Long}
 use Rattle.tj_eval.specs.Bodies.{IsMainBody}
 use Rattle.tj_eval.specs.Stands.{IsPlacedMain, PlacedState}
 use Rattle.tj_eval.specs.Statements.{TaskState, task_of}

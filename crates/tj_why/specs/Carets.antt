@@ -2,8 +2,8 @@
 use Rattle.std.specs.Prelude.{ℕ, zero, suc, ◌-◌, ◌==◌, cond, List, [], ◌∷◌, ◌++◌, codes, map, take, Option, Some, None}
 use Rattle.std.specs.List.{take_while}
 use Rattle.tj_command.specs.ScriptTexts.{fault_line}
-use Rattle.tj_embed.specs.ScriptTexts.{position_of}
-use Rattle.tj_embed.specs.declared.script_text.NoScript.{NoScript}
+use Rattle.tj_syntax.specs.ScriptTexts.{position_of}
+use Rattle.tj_syntax.specs.declared.script_text.NoScript.{NoScript}
 use Rattle.tj_lex.specs.Bytes.{line_feed, stays_on_line}
 use Rattle.tj_lex.specs.declared.place.Place.{Place}
 

@@ -5,7 +5,7 @@ use Rattle.std.specs.declared.alloc.Global.{Global}
 use Rattle.tj_command.specs.Delivery.{HasText, IsAnsweredBy, IsPartOf}
 use Rattle.tj_command.specs.declared.status.Status.{Status}
 use Rattle.tj_command.specs.declared.status.Status.TheVariants.{Usage, ReadFault, WriteFault, Memory}
-use Rattle.tj_embed.specs.ScriptTexts.{most_bytes}
+use Rattle.tj_syntax.specs.ScriptTexts.{most_bytes}
 use Rattle.tj_ports.specs.Faults.{HasFault, HasNoFault, IsSound}
 use Rattle.tj_why.specs.WhyLine.{HasNoForm}
 use Rattle.tj_why.specs.WhyOutput.{HaveForm, IsOutput, usage_line}

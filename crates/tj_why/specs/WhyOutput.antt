@@ -6,8 +6,8 @@ use Rattle.tj_command.specs.Statuses.{status_of}
 use Rattle.tj_command.specs.Texts.{full_line}
 use Rattle.tj_command.specs.declared.status.Status.{Status}
 use Rattle.tj_command.specs.declared.status.Status.TheVariants.{Full, Script, Usage}
-use Rattle.tj_embed.specs.ScriptTexts.{IsFirstFault, IsScriptOf, most_bytes}
-use Rattle.tj_embed.specs.declared.script_text.NoScript.{NoScript}
+use Rattle.tj_syntax.specs.ScriptTexts.{IsFirstFault, IsScriptOf, most_bytes}
+use Rattle.tj_syntax.specs.declared.script_text.NoScript.{NoScript}
 use Rattle.tj_eval.specs.Stands.{IsPlacedMain, PlacedState}
 use Rattle.tj_lex.specs.declared.token.Tok.TheVariants as toks
 use Rattle.tj_lex.specs.declared.token.Token.{Token}

@@ -14,7 +14,7 @@ use Rattle.tj_mean.specs.declared.outcome.Ending.{Ending}
 use Rattle.tj_mean.specs.declared.outcome.Ending.TheVariants as ending
 use Rattle.tj_mean.specs.declared.outcome.Link.{Link}
 use Rattle.tj_mean.specs.declared.outcome.Outcome.{Outcome}
-use Rattle.tj_report.specs.ReportTexts.{cause_text, line_feed}
+use Rattle.tj_mean.specs.ReportTexts.{cause_text, line_feed}
 use Rattle.tj_trace.specs.Lookups.{kept_by}
 use Rattle.tj_trace.specs.declared.line.Maker.{Maker}
 use Rattle.tj_trace.specs.declared.line.TraceLine.{TraceLine}

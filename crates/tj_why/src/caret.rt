@@ -2,15 +2,15 @@
 //! caret below.
 ghost use Rattle.std.specs.Prelude.{◌≡◌, ◌≤◌, IfOk, length, map, take};
 ghost use Rattle.std.specs.List.{prefix_len};
-ghost use Rattle.tj_embed.specs.ScriptTexts.{IsMemory};
+ghost use Rattle.tj_syntax.specs.ScriptTexts.{IsMemory};
 ghost use Rattle.tj_lex.specs.Bytes.{stays_on_line};
 ghost use Rattle.tj_why.specs.Carets as spec;
 
 use std::alloc::Global;
 use tj_base::Oom;
 use tj_command::fault_line;
-use tj_embed::NoScript;
 use tj_lex::Place;
+use tj_syntax::NoScript;
 
 /// A text from its next line on.
 fn next_line(text: &[u8]) -> &[u8]

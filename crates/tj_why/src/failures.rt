@@ -3,7 +3,7 @@ ghost use Rattle.std.specs.Prelude.{◌≡◌, ◌++◌, IfOk};
 ghost use Rattle.std.specs.List.{flat_map};
 ghost use Rattle.std.specs.Option.{option_map};
 ghost use Rattle.tj_base.specs.Texts.{name_text};
-ghost use Rattle.tj_report.specs.ReportTexts as reports;
+ghost use Rattle.tj_mean.specs.ReportTexts as reports;
 ghost use Rattle.tj_why.specs.Echoes as echoes;
 ghost use Rattle.tj_why.specs.Scenes.{view};
 ghost use Rattle.tj_why.specs.WhyTexts as spec;

@@ -4,7 +4,7 @@ ghost use Rattle.tj_body.specs.Asks.{IsFresh};
 ghost use Rattle.tj_body.specs.Rounds.{IsFull, meaning};
 ghost use Rattle.tj_command.specs.Inputs.{IsReadOf};
 ghost use Rattle.tj_command.specs.Limits.{AreLimits};
-ghost use Rattle.tj_embed.specs.ScriptTexts.{IsMemory, most_bytes};
+ghost use Rattle.tj_syntax.specs.ScriptTexts.{IsMemory, most_bytes};
 ghost use Rattle.tj_eval.specs.Stands.{IsPlacedMain, PlacedState};
 ghost use Rattle.tj_eval.specs.Stands.{placed_awaits, placed_left, placed_places};
 ghost use Rattle.tj_mean.specs.Outcomes.{IsOutcome};
@@ -21,12 +21,11 @@ use crate::why::why_text;
 use std::alloc::Global;
 use tj_base::Oom;
 use tj_command::{Limits, Output, Status, full_line, status_of};
-use tj_embed::{NoScript, position_behind};
 use tj_eval::{PlacedBody, Sizes, main_body, placed_main};
 use tj_lex::{Token, tokens};
 use tj_mean::{Outcome, PlanFault, marked, plan};
 use tj_ports::ReadEnd;
-use tj_syntax::{Script, parse, places};
+use tj_syntax::{NoScript, Script, parse, places, position_behind};
 use tj_trace::trace;
 
 /// What is told of an input, where this was read of it.

@@ -8,7 +8,7 @@ ghost use Rattle.tj_command.specs.Delivery.{HasText, IsAnsweredBy, IsPartOf, IsP
 ghost use Rattle.tj_command.specs.Inputs.{IsReadOf};
 ghost use Rattle.tj_command.specs.Limits.{AreLimits};
 ghost use Rattle.tj_command.specs.declared.status.Status.{Status};
-ghost use Rattle.tj_embed.specs.ScriptTexts.{most_bytes};
+ghost use Rattle.tj_syntax.specs.ScriptTexts.{most_bytes};
 ghost use Rattle.tj_ports.specs.Faults.{HasFault, HasNoFault, IsSound};
 ghost use Rattle.tj_ports.specs.Reading.{IsWithin};
 ghost use Rattle.tj_why.specs.WhyLine.{HasNoForm};

@@ -8,7 +8,7 @@ use Rattle.tj_mean.specs.declared.stopped.Stopped.{Stopped}
 use Rattle.tj_words.specs.declared.closed.RestCell.{RestCell}
 use Rattle.tj_words.specs.declared.record.Rec.{Rec}
 use Rattle.tj_report.specs.Inner.AwaitedCells.{AreNextBy, AreRanks, link_by}
-use Rattle.tj_report.specs.ReportTexts.{line_feed, link_text}
+use Rattle.tj_mean.specs.ReportTexts.{line_feed, link_text}
 
 -- a line for the cycle of the tasks with these indexes
 abbrev pub alarm_by : (ℕ → Link) → List ℕ → List ℕ

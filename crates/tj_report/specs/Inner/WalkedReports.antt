@@ -21,7 +21,7 @@ use Rattle.tj_words.specs.declared.record.Finish.{Finish}
 use Rattle.tj_words.specs.declared.record.Finish.TheVariants as finish
 use Rattle.tj_words.specs.declared.record.Rec.{Rec}
 use Rattle.tj_report.specs.Inner.CellNamesBy.{name_by}
-use Rattle.tj_report.specs.ReportTexts.{task_lines}
+use Rattle.tj_mean.specs.ReportTexts.{task_lines}
 
 -- the first name comes before the second
 abbrev pub IsBefore : Name → Name → Type 0

@@ -1,7 +1,7 @@
 use Rattle.std.proofs.Common.{inr, subst, ◌∙◌}
 use Rattle.tj_command.specs.Inputs.{IsReadOf}
 use Rattle.tj_command.proofs.Inputs.{read_long}
-use Rattle.tj_embed.proofs.ScriptTexts.{long_first}
+use Rattle.tj_syntax.proofs.ScriptTexts.{long_first}
 use Rattle.tj_command.proofs.script_text.script_of.Goals as goal
 
 pub returns-in-Long-clause-fault : goal.returns-in-Long-clause-fault

@@ -2,7 +2,7 @@ use Rattle.std.proofs.Common.{◌≡◌, ◌++◌, take}
 use Rattle.std.specs.Prelude.{codes}
 use Rattle.std.specs.List.{flat_map}
 use Rattle.tj_report.specs.Inner.RestAlarms.{link_in}
-use Rattle.tj_report.specs.ReportTexts.{link_text}
+use Rattle.tj_mean.specs.ReportTexts.{link_text}
 use Rattle.tj_report.proofs.alarm_lines.add_links.Given as goal
 
 -- the parts so far, each after a comma

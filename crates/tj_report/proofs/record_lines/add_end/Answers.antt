@@ -1,7 +1,7 @@
 use Rattle.tj_report.proofs.Prelude.{ap, ending_by, finished_by, length, name_in, some_is, sym, ◌++◌, ◌∙◌}
 use Rattle.tj_mean.specs.declared.outcome.Ending.TheVariants as ending
 use Rattle.tj_report.specs.Inner.CellNamesBy.{names_by}
-use Rattle.tj_report.specs.ReportTexts.{ending_text}
+use Rattle.tj_mean.specs.ReportTexts.{ending_text}
 use Rattle.tj_report.proofs.AwaitedCells.{awaited_below, finish_below, stopped_not, wait_ending}
 use Rattle.tj_report.proofs.record_lines.add_end.Goals as goal
 

@@ -3,7 +3,7 @@ use Rattle.tj_report.proofs.Prelude.{◌∙◌, ◌≡◌, ℕ}
 use Rattle.std.specs.List.{flat_map}
 use Rattle.tj_base.specs.declared.cell.CellId.{CellId}
 use Rattle.tj_report.specs.Inner.CellNamesBy.{names_by}
-use Rattle.tj_report.specs.ReportTexts.{ending_text, lines_of, owes_line, print_line}
+use Rattle.tj_mean.specs.ReportTexts.{ending_text, lines_of, owes_line, print_line}
 use Rattle.tj_report.proofs.AwaitedCells.{told_line}
 use Rattle.tj_report.proofs.Parts.{adds}
 use Rattle.tj_report.proofs.record_lines.add_lines.Goals as goal

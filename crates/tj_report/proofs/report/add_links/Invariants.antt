@@ -1,7 +1,7 @@
 use Rattle.std.proofs.Common.{◌≡◌, ◌++◌, take}
 use Rattle.std.specs.Prelude.{codes}
 use Rattle.std.specs.List.{flat_map}
-use Rattle.tj_report.specs.ReportTexts.{link_text}
+use Rattle.tj_mean.specs.ReportTexts.{link_text}
 use Rattle.tj_report.proofs.report.add_links.Given as goal
 
 -- the parts so far, each after a comma

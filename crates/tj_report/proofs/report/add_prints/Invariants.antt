@@ -1,6 +1,6 @@
 use Rattle.std.proofs.Common.{◌≡◌, ◌++◌, take}
 use Rattle.std.specs.List.{flat_map}
-use Rattle.tj_report.specs.ReportTexts.{print_line}
+use Rattle.tj_mean.specs.ReportTexts.{print_line}
 use Rattle.tj_report.proofs.report.add_prints.Given as goal
 
 abbrev pub invariant-loop-number : goal.invariant-loop-number

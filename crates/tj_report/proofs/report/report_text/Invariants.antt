@@ -1,7 +1,7 @@
 use Rattle.std.proofs.Common.{◌≡◌, ◌++◌, take}
 use Rattle.std.specs.List.{flat_map}
 use Rattle.tj_base.specs.Texts.{name_text}
-use Rattle.tj_report.specs.ReportTexts.{task_lines, alarm_line}
+use Rattle.tj_mean.specs.ReportTexts.{task_lines, alarm_line}
 use Rattle.tj_report.proofs.report.report_text.Given as goal
 
 -- the lines so far, and the printed name of the last task

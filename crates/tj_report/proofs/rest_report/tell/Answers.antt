@@ -1,5 +1,5 @@
 use Rattle.tj_report.proofs.Prelude.{ap, arith, program_of, refl, sym, ◌++◌, ◌∙◌}
-use Rattle.tj_report.specs.ReportTexts.{lines_of}
+use Rattle.tj_mean.specs.ReportTexts.{lines_of}
 use Rattle.tj_report.proofs.WalkedReports.{records_below, told_on}
 use Rattle.tj_report.proofs.rest_report.tell.Goals as goal
 

@@ -1,7 +1,7 @@
 use Rattle.tj_report.proofs.Prelude.{AreToldBelow, [], append-nil, ap, length, program_of, refl, subst, sym, ◌++◌, ◌<◌, ◌∙◌}
 use Rattle.std.specs.List.{All}
 use Rattle.tj_report.specs.Inner.RestAlarms.{AreAlarmsBy}
-use Rattle.tj_report.specs.ReportTexts.{verdict_line}
+use Rattle.tj_mean.specs.ReportTexts.{verdict_line}
 use Rattle.tj_report.proofs.WalkedReports.{found_cycles, no_cycles, order_there, records_below, told_whole}
 use Rattle.tj_report.proofs.rest_report.whole.Goals as goal
 

@@ -1,6 +1,6 @@
 use Rattle.std.proofs.Common.{subst, sym, ◌∙◌}
-use Rattle.tj_embed.proofs.ScriptTexts.{grammar_first, token_first}
-use Rattle.tj_embed.specs.declared.script_text.NoScript.TheVariants.{Grammar, Tokens}
+use Rattle.tj_syntax.proofs.ScriptTexts.{grammar_first, token_first}
+use Rattle.tj_syntax.specs.declared.script_text.NoScript.TheVariants.{Grammar, Tokens}
 use Rattle.tj_lex.specs.Tokens.{AreTokens}
 use Rattle.tj_syntax.specs.Faults.{IsScript, kinds_of}
 use Rattle.tj_syntax.specs.View as view

@@ -3,7 +3,7 @@ use Rattle.tj_command.proofs.Inputs.{some_input}
 use Rattle.tj_command.proofs.Puts.{IsAnsweredBy-given, IsAnsweredBy-put, IsPartOf-given, IsPartOf-put, exact}
 use Rattle.tj_command.proofs.Puts.{no_write_fault, no_write_fault-given, put_whole, put_whole-given}
 use Rattle.tj_command.specs.Inputs.{IsReadOf}
-use Rattle.tj_embed.specs.ScriptTexts.{most_bytes}
+use Rattle.tj_syntax.specs.ScriptTexts.{most_bytes}
 use Rattle.tj_ports.specs.Reading.{read_of}
 use Rattle.tj_why.proofs.CommandLimits.{within_limits}
 use Rattle.tj_why.proofs.Owns.{own}

@@ -14,8 +14,8 @@ use Rattle.tj_syntax.specs.declared.fault.ParseFault.TheVariants as parse
 use Rattle.tj_syntax.specs.Faults as grammar
 use Rattle.tj_syntax.specs.Faults.{IsScript, kinds_of}
 use Rattle.tj_syntax.specs.Trees.{Task}
-use Rattle.tj_embed.specs.declared.script_text.NoScript.{NoScript}
-use Rattle.tj_embed.specs.declared.script_text.NoScript.TheVariants.{Long, Tokens, Grammar}
+use Rattle.tj_syntax.specs.declared.script_text.NoScript.{NoScript}
+use Rattle.tj_syntax.specs.declared.script_text.NoScript.TheVariants.{Long, Tokens, Grammar}
 
 -- the most bytes of a script, 1048576
 abbrev pub most_bytes : ℕ

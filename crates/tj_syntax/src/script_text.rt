@@ -1,13 +1,15 @@
 //! From the bytes of a text to the script that it is, or to what is wrong with it first.
 ghost use Rattle.std.specs.Prelude.{◌≡◌, ◌⊎◌, List, IfOk, IfErr};
-ghost use Rattle.tj_embed.specs.ScriptTexts.{IsFirstFault, IsMemory, IsScriptOf, IsSomeScript, position_of};
+ghost use Rattle.tj_syntax.specs.ScriptTexts.{IsFirstFault, IsMemory, IsScriptOf, IsSomeScript, position_of};
 ghost use Rattle.tj_syntax.specs.Trees.{Task};
 ghost use Rattle.tj_syntax.specs.View as view;
 
-use crate::positions::position_behind;
+use crate::fault::ParseFault;
+use crate::read_script::parse;
+use crate::script::Script;
+use crate::text_ends::position_behind;
 use std::alloc::Global;
 use tj_lex::{LexFault, MAX_TEXT, Place, tokens};
-use tj_syntax::{ParseFault, Script, parse};
 
 /// Why bytes give no script. Want of memory is one of the tokens' faults and of the grammar's.
 #[derive(Clone, Copy, Debug)]

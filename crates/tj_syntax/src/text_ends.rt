@@ -3,7 +3,7 @@ ghost use Rattle.std.specs.Prelude.{◌≡◌, ◌≤◌, ◌==◌, length, coun
 ghost use Rattle.std.specs.List.{suffix_len};
 ghost use Rattle.tj_lex.specs.Bytes.{line_feed, stays_on_line};
 ghost use Rattle.tj_lex.specs.Positions.{position_after};
-ghost use Rattle.tj_embed.specs.ScriptTexts.{most_bytes};
+ghost use Rattle.tj_syntax.specs.ScriptTexts.{most_bytes};
 
 use tj_lex::Place;
 

@@ -1,9 +1,9 @@
 use Rattle.std.proofs.Common.{inr, length, subst, sym, ◌∙◌}
 use Rattle.tj_lex.specs.Tokens.{AreTokens}
-use Rattle.tj_embed.specs.ScriptTexts.{most_bytes}
-use Rattle.tj_embed.proofs.ScriptTexts.{as_long}
-use Rattle.tj_embed.proofs.ScriptTexts.{grammar_first, grammar_refused, long_first, token_first, token_refused}
-use Rattle.tj_embed.proofs.script_text.script_in.Goals as goal
+use Rattle.tj_syntax.specs.ScriptTexts.{most_bytes}
+use Rattle.tj_syntax.proofs.ScriptTexts.{as_long}
+use Rattle.tj_syntax.proofs.ScriptTexts.{grammar_first, grammar_refused, long_first, token_first, token_refused}
+use Rattle.tj_syntax.proofs.script_text.script_in.Goals as goal
 
 pub position_behind-requires : goal.position_behind-requires
 position_behind-requires c = as_long (length c.split_at.result.0.now) most_bytes c.split_at.ensures.front_len

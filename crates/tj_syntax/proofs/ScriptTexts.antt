@@ -12,8 +12,8 @@ use Rattle.tj_syntax.specs.declared.fault.ParseFault.TheVariants as parse
 use Rattle.tj_syntax.specs.Faults as grammar
 use Rattle.tj_syntax.specs.Faults.{IsScript, kinds_of}
 use Rattle.tj_syntax.specs.Trees.{Task}
-use Rattle.tj_embed.specs.ScriptTexts.{most_bytes, IsMemory, IsScriptOf, IsFirstFault, too_long, in_tokens, in_grammar}
-use Rattle.tj_embed.specs.declared.script_text.NoScript.TheVariants.{Long, Tokens, Grammar}
+use Rattle.tj_syntax.specs.ScriptTexts.{most_bytes, IsMemory, IsScriptOf, IsFirstFault, too_long, in_tokens, in_grammar}
+use Rattle.tj_syntax.specs.declared.script_text.NoScript.TheVariants.{Long, Tokens, Grammar}
 
 -- The first fault of a text, where its tokens have one.
 pub token_first : (text : List ℕ) (fault : LexFault) → length text ≤ most_bytes
