@@ -14,7 +14,7 @@ use tj_body::Body;
 use tj_words::{Laid, Phase, Rec, WSeat, Walk, Way};
 
 /// What became of a task that was to be parked.
-#[derive(Debug, Drop)]
+#[derive(Drop)]
 pub enum Parked<B> {
     /// Its record lies at home, and another takes it when its cell has a value.
     Left,

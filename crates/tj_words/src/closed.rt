@@ -6,7 +6,7 @@ use std::marker::Model;
 use tj_base::CellId;
 
 /// What closed words show of a cell: its owner, its phase, TAG, its maker and its number.
-#[derive(Clone, Copy, Debug, PartialEq, Eq)]
+#[derive(Clone, Copy)]
 pub struct RestCell {
     pub own: Option<CellId>,
     pub phase: Phase,
@@ -17,7 +17,7 @@ pub struct RestCell {
 }
 
 /// What closed words show of the cells that were drawn, in the order of their numbers.
-#[derive(Debug, Drop)]
+#[derive(Drop)]
 pub struct Closed {
     pub(crate) cells: Vec<RestCell>,
 }

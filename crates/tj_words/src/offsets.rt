@@ -5,7 +5,7 @@ ghost use Rattle.tj_words.specs.Words.Offsets as offsets;
 use tj_base::CellId;
 
 /// The words of a cell that are written once.
-#[derive(Clone, Copy, Debug, PartialEq, Eq)]
+#[derive(Clone, Copy)]
 pub enum Once {
     Tag,
     Bits,

@@ -32,7 +32,7 @@ pub enum Finish {
 }
 
 /// A cell with its sort, as a task holds it.
-#[derive(Clone, Copy, Debug, PartialEq, Eq)]
+#[derive(Clone, Copy)]
 pub struct Held {
     pub cell: CellId,
     pub sort: Sort,
@@ -42,7 +42,7 @@ pub struct Held {
 pub type HeldList = Items<Held>;
 
 /// A task between two of its asks.
-#[derive(Debug, Drop)]
+#[derive(Drop)]
 pub struct Rec<B> {
     pub cell: CellId,
     pub body: B,
