@@ -2,6 +2,7 @@
 use Rattle.tj_words.proofs.Prelude.{All, AreThere, Begins, Bool, Contents, Filled, Found, HasGrown, IsCell, IsFilled}
 use Rattle.tj_words.proofs.Prelude.{IsIn, IsStored, IsWritten, Law, List, Note, Program, Reference, SeenWord, Shut}
 use Rattle.tj_words.proofs.Prelude.{Stands, View, bits_in, drawn_in, hand_of, set, tag_in, true, ℕ, ◌≡◌, ◌≢◌}
+use Rattle.tj_words.proofs.Stores.LawChanges.{law_kept}
 use Rattle.tj_words.proofs.Stores.SeatLists.{each_set}
 use Rattle.tj_words.proofs.Waiters.ChainSeats.{chains_seats}
 
@@ -68,60 +69,47 @@ module _ {B : Type 0} (program : Program B) (cells : ℕ) (x : Contents B) (law 
 
   -- the law stays
   pub law_learns : (id : ℕ) (k : Knowing) → IsSo k → Law program cells (learns id k)
-  law_learns id k so = record {
-    born = law.born;
-    maker = law.maker;
-    number = law.number;
-    forks = law.forks;
-    lots = law.lots;
-    hands = law.hands;
-    names = (let n = law.names in record {
-      owned = n.owned;
-      waits = n.waits;
-      records = n.records;
-      walks = n.walks;
-      knows = each_set _ x.seats.known id k.known n.knows so.known;
-    });
-    births = law.births;
-    tree = law.tree;
-    tree_words = law.tree_words;
-    custody = law.custody;
-    owned = law.owned;
-    once_words = (let o = law.once_words in record {
-      due_to = o.due_to;
-      stands = each_set _ x.seats.seen id k.seen o.stands so.seen;
-      dues_mine = o.dues_mine;
-      due = o.due;
-      may_be_due = o.may_be_due;
-      unwritten = o.unwritten;
-      valued = o.valued;
-      closed = o.closed;
-      undrawn = o.undrawn;
-    });
-    chains = (let c = law.chains in chains_seats c c.due c.pushing c.to_push c.resting c.rest
-        (each_set _ x.seats.closed id k.closed c.stays_shut so.closed)
-        (each_set _ x.seats.found id k.found c.grows so.found));
-    live_count = (let c = law.live_count in record {
-      counted = c.counted;
-      stays_at_rest = each_set _ x.seats.rested id k.rested c.stays_at_rest so.rested;
-    });
-    stops = (let q = law.stops in record {
-      given = q.given;
-      stands = q.stands;
-      found = each_set _ x.seats.told id k.told q.found so.told;
-    });
-    waiters_own = law.waiters_own;
-    records_fit = law.records_fit;
-    meaning = (let m = law.meaning in record {
-      names = m.names;
-      entries = m.entries;
-      records = m.records;
-      full = m.full;
-      stopped = m.stopped;
-      begins = each_set _ x.seats.born_seen id k.born m.begins so.begins;
-      wrote_stands = each_set _ x.seats.wrote id k.wrote m.wrote_stands so.wrote;
-      filled_stands = each_set _ x.seats.filled id k.filled m.filled_stands so.filled;
-    });
-    undrawn = law.undrawn;
-    facts = law.facts;
-  }
+  law_learns id k so = law_kept law x.words (learns id k).seats law.lots
+      (let n = law.names in record {
+        owned = n.owned;
+        waits = n.waits;
+        records = n.records;
+        walks = n.walks;
+        knows = each_set _ x.seats.known id k.known n.knows so.known;
+      })
+      law.tree_words
+      (let o = law.once_words in record {
+        due_to = o.due_to;
+        stands = each_set _ x.seats.seen id k.seen o.stands so.seen;
+        dues_mine = o.dues_mine;
+        due = o.due;
+        may_be_due = o.may_be_due;
+        unwritten = o.unwritten;
+        valued = o.valued;
+        closed = o.closed;
+        undrawn = o.undrawn;
+      })
+      (let c = law.chains in chains_seats c c.due c.pushing c.to_push c.resting c.rest
+      (each_set _ x.seats.closed id k.closed c.stays_shut so.closed)
+      (each_set _ x.seats.found id k.found c.grows so.found))
+      (let c = law.live_count in record {
+        counted = c.counted;
+        stays_at_rest = each_set _ x.seats.rested id k.rested c.stays_at_rest so.rested;
+      })
+      (let q = law.stops in record {
+        given = q.given;
+        stands = q.stands;
+        found = each_set _ x.seats.told id k.told q.found so.told;
+      })
+      law.records_fit
+      (let m = law.meaning in record {
+        names = m.names;
+        entries = m.entries;
+        records = m.records;
+        full = m.full;
+        stopped = m.stopped;
+        begins = each_set _ x.seats.born_seen id k.born m.begins so.begins;
+        wrote_stands = each_set _ x.seats.wrote id k.wrote m.wrote_stands so.wrote;
+        filled_stands = each_set _ x.seats.filled id k.filled m.filled_stands so.filled;
+      })
+      law.facts

@@ -9,6 +9,7 @@ use Rattle.atomic_table.specs.Table.{State, Joins}
 use Rattle.tj_words.specs.SeatViews.Views.{longer, spent, IsIdle}
 use Rattle.tj_words.proofs.Stores.SeatLists.{each_set, inside, of_seat_here, of_seat_else}
 use Rattle.tj_words.proofs.Holders.HeldTasks.{in_front, in_back}
+use Rattle.tj_words.proofs.Stores.LawChanges.{law_kept}
 use Rattle.tj_words.proofs.Stores.SeatContents.{set_seats, seats_set, seats_same, rule_views}
 use Rattle.tj_words.proofs.SeatLoads.Learning.{Knowing, knowing_of, IsSo, learns, law_learns}
 use Rattle.tj_words.proofs.SeatLoads.LoadSteps.{knows_so}
@@ -132,29 +133,9 @@ module _ {B : Type 0} (program : Program B) (cells : ℕ) (x : Contents B) (law 
 
   pub law_lots : (lots refused : List ℕ) (stored : List (List ℕ)) → Lots cells x.words.count lots refused
       → Stops x.words.stop stored x.seats.told → Law program cells (with_lots lots refused stored)
-  law_lots lots refused stored h stops = record {
-    born = law.born;
-    maker = law.maker;
-    number = law.number;
-    forks = law.forks;
-    lots = h;
-    hands = law.hands;
-    names = law.names;
-    births = law.births;
-    tree = law.tree;
-    tree_words = law.tree_words;
-    custody = law.custody;
-    owned = law.owned;
-    once_words = law.once_words;
-    chains = law.chains;
-    live_count = law.live_count;
-    stops = stops;
-    waiters_own = law.waiters_own;
-    records_fit = law.records_fit;
-    meaning = law.meaning;
-    undrawn = law.undrawn;
-    facts = law.facts;
-  }
+  law_lots lots refused stored h stops =
+      law_kept law x.words (record x.seats { lots = lots; refused = refused; stored = stored }) h law.names
+      law.tree_words law.once_words law.chains law.live_count stops law.records_fit law.meaning law.facts
 
 module _ {B : Type 0} where
   both_seat : (key : Key B) (v w : View B) → IsSeat key v → IsSeat key w

@@ -1,6 +1,6 @@
 -- Steps on HEAD, on NEXT and on LIVE change one part of the law, and steps on OTHERS and on STOP two at most.
 use Rattle.tj_words.proofs.Prelude.{Births, Chains, Contents, CoreFacts, Custodies, Custody, Due, Filled, Found, Hands}
-use Rattle.tj_words.proofs.Prelude.{Head, Law, List, LiveCount, Meaning, NamesCells, Once, OnceWords, Option}
+use Rattle.tj_words.proofs.Prelude.{Head, Law, List, LiveCount, Lots, Meaning, NamesCells, Once, OnceWords, Option}
 use Rattle.tj_words.proofs.Prelude.{OwnedLists, Program, Push, RecordsFit, Reference, Rest, SeatsHave, SeenWord, Stops}
 use Rattle.tj_words.proofs.Prelude.{TreeWords, WaitersOwn, WordsSay, bits_in, core_shown, drawn_in, hand_of, home_of}
 use Rattle.tj_words.proofs.Prelude.{made_of, owned_of, tag_in, ℕ, ◌≡◌}
@@ -8,23 +8,17 @@ use Rattle.tj_words.proofs.Stores.SeatLists.{back}
 use Rattle.tj_words.specs.declared.offsets.Once.TheVariants as once
 
 module _ {B : Type 0} {program : Program B} {cells : ℕ} {x : Contents B} (law : Law program cells x) where
-  -- the contents with these words and seats, but for draws, owners, phases, hands, tasks, lots and known cells, which
-  -- stay
+  -- the contents with these words and seats, but for draws, owners, phases, hands and tasks, which stay
   abbrev pub kept : WordsSay → SeatsHave B → Contents B
   kept words seats = record {
     words = record words { count = x.words.count; own = x.words.own; phase = x.words.phase };
     slots = x.slots;
-    seats = record seats {
-      lots = x.seats.lots;
-      refused = x.seats.refused;
-      hands = x.seats.hands;
-      tasks = x.seats.tasks;
-      known = x.seats.known;
-    };
+    seats = record seats { hands = x.seats.hands; tasks = x.seats.tasks };
   }
 
   -- the law where these stay, by the parts that speak of others too
-  pub law_kept : (words : WordsSay) (seats : SeatsHave B)
+  pub law_kept : (words : WordsSay) (seats : SeatsHave B) → Lots cells x.words.count seats.lots seats.refused
+      → NamesCells (drawn_in cells x) (hand_of x) x.words.own x.words.phase (home_of x) x.seats.tasks seats.known
       → TreeWords (drawn_in cells x) law.born law.maker law.number law.forks (hand_of x) words.once seats.dues
       → OnceWords (drawn_in cells x) (hand_of x) x.seats.hands x.words.own words.once seats.seen seats.dues
       → Chains (λ c. words.once c once.Tag) words.head words.next x.words.phase seats.pushes seats.shuts seats.rests
@@ -36,14 +30,14 @@ module _ {B : Type 0} {program : Program B} {cells : ℕ} {x : Contents B} (law 
       (λ c. words.once c once.Tag) (λ c. words.once c once.Bits) (home_of x) seats.born_seen seats.wrote seats.filled
       → CoreFacts (core_shown cells law.born law.maker (kept words seats))
       → Law program cells (kept words seats)
-  law_kept words seats tree_words once_words chains live_count stops fit meaning facts = record {
+  law_kept words seats lots names tree_words once_words chains live_count stops fit meaning facts = record {
     born = law.born;
     maker = law.maker;
     number = law.number;
     forks = law.forks;
-    lots = law.lots;
+    lots = lots;
     hands = law.hands;
-    names = law.names;
+    names = names;
     births = law.births;
     tree = law.tree;
     tree_words = tree_words;
@@ -91,7 +85,7 @@ module _ {B : Type 0} {program : Program B} {cells : ℕ} {x : Contents B} (law 
         rests = rests;
         closed = closed;
         found = found;
-      }) law.tree_words law.once_words c l law.stops law.records_fit law.meaning law.facts
+      }) law.lots law.names law.tree_words law.once_words c l law.stops law.records_fit law.meaning law.facts
 
   -- the chains alone change
   pub law_chains : (head next : ℕ → Head) (pushes : List (List Push)) (shuts : List (List ℕ))
@@ -123,8 +117,8 @@ module _ {B : Type 0} {program : Program B} {cells : ℕ} {x : Contents B} (law 
       → CoreFacts (core_shown cells law.born law.maker (with_counts others stop cleared))
       → Law program cells (with_counts others stop cleared)
   law_counts others stop cleared stops meaning facts =
-      law_kept (record x.words { others = others; stop = stop }) (record x.seats { cleared = cleared }) law.tree_words
-      law.once_words law.chains law.live_count stops law.records_fit meaning facts
+      law_kept (record x.words { others = others; stop = stop }) (record x.seats { cleared = cleared }) law.lots
+      law.names law.tree_words law.once_words law.chains law.live_count stops law.records_fit meaning facts
 
   -- the contents with other words that are written once, and with what the seats know of these and have to do for them
   abbrev pub with_once : (ℕ → Once → ℕ) → List (List SeenWord) → List (List Due) → List (List Reference)
@@ -163,7 +157,7 @@ module _ {B : Type 0} {program : Program B} {cells : ℕ} {x : Contents B} (law 
         wrote = wrote;
         filled = filled;
         shuts = shuts;
-      }) tree_words once_words chains law.live_count law.stops fit meaning law.facts
+      }) law.lots law.names tree_words once_words chains law.live_count law.stops fit meaning law.facts
 
   -- the contents with other owners, and with what the seats have for their tasks and are to write
   abbrev pub with_owners : (ℕ → Option ℕ) → List (List (Custody B)) → List (List Due) → Contents B

@@ -16,7 +16,7 @@ module _ {B : Type 0} (program : Program B) (N : ℕ) (x : Contents B) (r : Law 
         seats = record x.seats { stored = stored };
       })
   law_stops stop stored stops above = law_kept r (record x.words { stop = stop }) (record x.seats { stored = stored })
-      r.tree_words r.once_words r.chains r.live_count stops r.records_fit
+      r.lots r.names r.tree_words r.once_words r.chains r.live_count stops r.records_fit
       (stop_meant program N {g = ground_of N r.born x} {home = home_of x} {k = known_of x} (law_meant program N x r)
       stop above)
       r.facts
