@@ -1,13 +1,14 @@
 -- Loads of HEAD.
 use Rattle.tj_words.proofs.Prelude.{Allows, Bool, Key, Option, Program, Rec, Rule, SeatMe, Shut, State, View, [], ap}
-use Rattle.tj_words.proofs.Prelude.{arith, begins_self, contents_of, dite, drawn_in, get_elem?, head_at, head_in}
-use Rattle.tj_words.proofs.Prelude.{head_load, inr, none, refl, shut_word, some, step, subst, suc, sym, word, ℕ}
-use Rattle.tj_words.proofs.Prelude.{ℕ_discrete, ⊎_elim, ◌++◌, ◌<◌, ◌∷◌, ◌≡◌, ◌≢◌, ◌≤◌}
-use Rattle.tj_words.proofs.SeatLoads.Learning.{Knowing, knowing_of, IsSo}
-use Rattle.tj_words.proofs.SeatLoads.LoadSteps.{knows, knows_so, load_allowed}
-use Rattle.tj_words.proofs.Seating.Merging.{begins_at}
+use Rattle.tj_words.proofs.Prelude.{arith, contents_of, dite, drawn_in, get_elem?, head_at, head_in, head_load, inr}
+use Rattle.tj_words.proofs.Prelude.{none, refl, shut_word, some, step, subst, suc, word, ℕ, ℕ_discrete, ⊎_elim, ◌++◌}
+use Rattle.tj_words.proofs.Prelude.{◌<◌, ◌∷◌, ◌≡◌, ◌≢◌, ◌≤◌}
+use Rattle.tj_words.proofs.SeatLoads.Learning.{knowing_of}
+use Rattle.tj_words.proofs.SeatLoads.LoadSteps.{Learns, knows_so, load_allowed}
+use Rattle.tj_words.proofs.Stores.SeatLists.{back}
 use Rattle.tj_words.proofs.Cells.CellNames.{are_cells}
-use Rattle.tj_words.proofs.SeatLoads.KnowLoads.{all_cons, HasBecome, one_become, shut_is, will_have}
+use Rattle.tj_words.proofs.SeatLoads.KnowLoads.{all_cons, HasBecome, learned, learned_so, none_of, one_become, one_of}
+use Rattle.tj_words.proofs.SeatLoads.KnowLoads.{shut_is, will_have}
 use Rattle.tj_words.proofs.Waiters.ChainCells.{line_small, head_small}
 
 module _ {B : Type 0} (program : Bool → B → Program B) (key : Key B) where
@@ -20,46 +21,25 @@ module _ {B : Type 0} (program : Bool → B → Program B) (key : Key B) where
       → Allows (Rule program key) slots id m i (λ n. n) (head_load program cells cell (step slots i 0 0 none) m)
   head_allowed slots id m c i cells cell l at f e =
       load_allowed program key slots id m i (head_load program cells cell (step slots i 0 0 none) m)
-      (λ s r k. subst (λ d. (y : Knowing) × (plain loads steps : ℕ) × IsSo P key.cells (contents_of s) r.law y
-      × head_load program cells d (step slots i 0 0 none) m (word s.words i)
-      (knows y plain loads steps m.0, m.1)) (sym e)
-      (subst (λ d. (y : Knowing) × (plain loads steps : ℕ) × IsSo P key.cells (contents_of s) r.law y
-      × head_load program d c (step slots i 0 0 none) m (word s.words i) (knows y plain loads steps m.0, m.1)) (sym f)
-      (subst (λ j. (y : Knowing) × (plain loads steps : ℕ) × IsSo P key.cells (contents_of s) r.law y
-      × head_load program key.cells c (step slots i 0 0 none) m (word s.words j)
-      (knows y plain loads steps m.0, m.1)) (sym at)
-      (head_found s r k))))
+      (λ s r k. back (λ j. Learns program key s r m (head_load program (f j) (e j) (step slots i 0 0 none) m)
+      (word s.words (at j))) (head_found s r k))
     where
       head_found : (s : State (Option (Rec B)) (View B)) (r : Rule program key s) → get_elem? s.views id ≡ some m.0
-          → (y : Knowing) × (plain loads steps : ℕ) × IsSo P key.cells (contents_of s) r.law y
-          × head_load program key.cells c (step slots i 0 0 none) m (word s.words (head_at c))
-          (knows y plain loads steps m.0, m.1)
+          → Learns program key s r m (head_load program key.cells c (step slots i 0 0 none) m)
+          (word s.words (head_at c))
       head_found s r k = let v = m.0 in let so = knows_so program key s r id v k in let law = r.law in
           let small : word s.words (head_at c) ≤ shut_word = ⊎_elim (λ q. (omega arith))
           (λ q. let f = r.few_cells in (omega arith)) (r.codes.each c l).head in
           dite (ℕ_discrete (word s.words (head_at c)) shut_word)
           (λ q. let shut : head_in (word s.words (head_at c)) ≡ Shut = ap head_in q in
           let has = law.meaning.entries c (law.chains.tagged c shut) in let w = has.1.written in (
-            record (knowing_of v) {
-              born = law.born;
-              closed = c ∷ v.closed;
-              filled = record { cell = c; entry = has.0 } ∷ v.filled;
-            },
+            learned P key.cells (contents_of s) law (knowing_of v) [] (record { cell = c; entry = has.0 } ∷ []) []
+                (c ∷ []),
             v.plain_loads,
             v.once_loads,
             suc v.steps,
-            record {
-              known = so.known;
-              begins = begins_self law.born;
-              known_born = λ d n. let b = so.known_born d n in (b.0, begins_at v.born law.born so.begins d b.0 b.1);
-              wrote = so.wrote;
-              filled = all_cons _ (record { cell = c; entry = has.0 }) v.filled has.1 so.filled;
-              seen = so.seen;
-              closed = all_cons _ c v.closed shut so.closed;
-              found = so.found;
-              rested = so.rested;
-              told = so.told;
-            },
+            learned_so P key.cells (contents_of s) law (knowing_of v) so none_of
+                (one_of (record { cell = c; entry = has.0 }) has.1) none_of (one_of c shut),
             (
               refl,
               small,

@@ -1,20 +1,21 @@
 -- Loads of HEAD, of NEXT and of words that are written once.
 use Rattle.tj_words.proofs.Prelude.{About, All, Allows, AreLinked, Becomes, Begins, BitsSay, Bool, Contents, Empty}
-use Rattle.tj_words.proofs.Prelude.{Entry, FindsWord, Hand, HasInHand, HasTask, IsCell, IsFilled, IsIn, IsNamedThere}
-use Rattle.tj_words.proofs.Prelude.{IsOfTree, IsTaskIn, IsThere, Key, Law, List, MayReadTree, Node, None, OfSeat, Once}
-use Rattle.tj_words.proofs.Prelude.{Option, Program, Rec, Reference, Rule, SeatMe, SeenWord, ShowsNode, Shut, Some}
-use Rattle.tj_words.proofs.Prelude.{Sort, Stands, State, Task, View, [], ap, arith, at_map, begins_self, bits_in, cond}
-use Rattle.tj_words.proofs.Prelude.{contents_of, dite, drawn_in, entries_are_one, eq-eqb, get_elem?, hand_in, hand_of}
-use Rattle.tj_words.proofs.Prelude.{head_in, head_of, inl, inr, length, nat_eq, ne_eqb, next_at, next_load, node_of}
-use Rattle.tj_words.proofs.Prelude.{none, once_at, refl, seen_word, shut_word, some, some-injective, some-ne-none}
-use Rattle.tj_words.proofs.Prelude.{sort_tag, step, subst, suc, sym, tag_in, tag_of, tree_word, word, zero, ℕ}
-use Rattle.tj_words.proofs.Prelude.{ℕ_discrete, ⊎_elim, ◌*◌, ◌++◌, ◌+◌, ◌-◌, ◌<◌, ◌^◌, ◌∙◌, ◌∷◌, ◌≡◌, ◌≢◌, ◌≤◌}
+use Rattle.tj_words.proofs.Prelude.{Entry, Filled, FindsWord, Hand, HasInHand, HasTask, IsCell, IsFilled, IsIn}
+use Rattle.tj_words.proofs.Prelude.{IsNamedThere, IsOfTree, IsTaskIn, IsThere, Key, Law, List, MayReadTree, Node, None}
+use Rattle.tj_words.proofs.Prelude.{OfSeat, Once, Option, Program, Rec, Reference, Rule, SeatMe, SeenWord, ShowsNode}
+use Rattle.tj_words.proofs.Prelude.{Shut, Some, Sort, Stands, State, Task, View, [], ap, arith, at_map, begins_self}
+use Rattle.tj_words.proofs.Prelude.{bits_in, cond, contents_of, dite, drawn_in, entries_are_one, eq-eqb, get_elem?}
+use Rattle.tj_words.proofs.Prelude.{hand_in, hand_of, head_in, head_of, inl, inr, length, nat_eq, ne_eqb, next_at}
+use Rattle.tj_words.proofs.Prelude.{next_load, node_of, none, once_at, refl, seen_word, shut_word, some, some-injective}
+use Rattle.tj_words.proofs.Prelude.{some-ne-none, sort_tag, step, subst, suc, sym, tag_in, tag_of, tree_word, word}
+use Rattle.tj_words.proofs.Prelude.{zero, ℕ, ℕ_discrete, ⊎_elim, ◌*◌, ◌++◌, ◌+◌, ◌-◌, ◌<◌, ◌^◌, ◌∙◌, ◌∷◌, ◌≡◌, ◌≢◌, ◌≤◌}
 use Rattle.tj_tree.specs.Laws.{LinksLeadToTasks}
 use Rattle.tj_words.specs.Law.{IsAbout}
 use Rattle.tj_words.specs.SeatViews.SeenWords.{LeadsTo, SeesTree, MayRead, WillHave, bits_cells, once_load}
 use Rattle.tj_words.proofs.Cells.CellNames.{are_cells}
 use Rattle.tj_words.proofs.SeatLoads.Learning.{Knowing, knowing_of, IsSo}
-use Rattle.tj_words.proofs.SeatLoads.LoadSteps.{knows, knows_so, load_allowed, notes_so, with_note}
+use Rattle.tj_words.proofs.SeatLoads.LoadSteps.{Learns, knows_so, load_allowed, notes_so, with_note}
+use Rattle.tj_words.proofs.Stores.SeatLists.{back}
 use Rattle.tj_words.proofs.Seating.Merging.{all_append, begins_at}
 use Rattle.tj_base.specs.declared.cell.Sort.TheVariants as sort
 use Rattle.tj_body.specs.declared.point.Value.TheVariants as value
@@ -35,6 +36,16 @@ once_within c cells once.Jump l = omega arith
 pub all_cons : {A : Type 0} (F : A → Type 0) (x : A) (xs : List A) → F x → All F xs → All F (x ∷ xs)
 all_cons F x xs h k y (inl e) = subst F (sym e) h
 all_cons F x xs h k y (inr i) = k y i
+
+-- a list of which each is so: of none, and of one
+abbrev pub AllOf : {A : Type 0} → (A → Type 0) → Type 0
+AllOf {A} F = (l : List A) × All F l
+
+abbrev pub none_of : {A : Type 0} {F : A → Type 0} → AllOf F
+none_of = ([], λ y i. absurd i)
+
+abbrev pub one_of : {A : Type 0} {F : A → Type 0} (x : A) → F x → AllOf F
+one_of {A} {F} x h = (x ∷ [], all_cons F x [] h (λ y i. absurd i))
 
 -- a list has an element at each index below its length
 pub at_index : {A : Type 0} (l : List A) (i : ℕ) → i < length l → (x : A) × (get_elem? l i ≡ some x)
@@ -88,6 +99,37 @@ module _ {B : Type 0} (program : Program B) (cells : ℕ) (x : Contents B) (law 
   -- what each drawn cell is
   pub born_at : (c : ℕ) → c < drawn_in cells x → (r : Reference) × IsCell law.born c r
   born_at c l = at_index law.born c (let e = law.births.all in omega arith)
+
+  -- what a seat knows once it has seen all cells, and has learned this
+  abbrev pub learned : Knowing → List ℕ → List Filled → List SeenWord → List ℕ → Knowing
+  learned k known filled seen closed = record k {
+    born = law.born;
+    known = known ++ k.known;
+    filled = filled ++ k.filled;
+    seen = seen ++ k.seen;
+    closed = closed ++ k.closed;
+  }
+
+  pub learned_so : (k : Knowing) → IsSo program cells x law k → (known : AllOf (IsThere (drawn_in cells x) (hand_of x)))
+      (filled : AllOf (λ (f : Filled). IsFilled program (drawn_in cells x) (hand_of x) law.born (tag_in x) (bits_in x)
+      f.cell f.entry))
+      (seen : AllOf (Stands (drawn_in cells x) x.words.once law.once_words.due_to))
+      (closed : AllOf (λ p. x.words.head p ≡ Shut))
+      → IsSo program cells x law (learned k known.0 filled.0 seen.0 closed.0)
+  learned_so k so known filled seen closed = record {
+    known = all_append _ known.0 k.known known.1 so.known;
+    begins = begins_self law.born;
+    known_born = all_append (λ c. (r : Reference) × IsCell law.born c r) known.0 k.known
+        (λ c i. born_at c (known.1 c i).0)
+        (λ c i. let b = so.known_born c i in (b.0, begins_at k.born law.born so.begins c b.0 b.1));
+    wrote = so.wrote;
+    filled = all_append _ filled.0 k.filled filled.1 so.filled;
+    seen = all_append _ seen.0 k.seen seen.1 so.seen;
+    closed = all_append _ closed.0 k.closed closed.1 so.closed;
+    found = so.found;
+    rested = so.rested;
+    told = so.told;
+  }
 
   -- a cell named by a PARENT or a JUMP that was seen is there
   parent_there : (c d n : ℕ) (r : Reference) → d < drawn_in cells x
@@ -297,52 +339,33 @@ module _ {B : Type 0} (program : Bool → B → Program B) (key : Key B) where
       → i ≡ once_at c f → size ≡ key.cells → cell ≡ c → named ≡ f → MayRead f c m.0
       → Allows (Rule program key) slots id m i (λ n. n) (once_load program size named cell (step slots i 0 0 none) m)
   once_allowed links slots id m c i f size cell named l at z e g may = load_allowed program key slots id m i
-      (once_load program size named cell (step slots i 0 0 none) m) (λ s r k.
-      subst (λ d. (y : Knowing) × (plain loads steps : ℕ) × IsSo P key.cells (contents_of s) r.law y
-      × once_load program d named cell (step slots i 0 0 none) m (word s.words i)
-      (knows y plain loads steps m.0, m.1)) (sym z)
-      (subst (λ d. (y : Knowing) × (plain loads steps : ℕ) × IsSo P key.cells (contents_of s) r.law y
-      × once_load program key.cells named d (step slots i 0 0 none) m (word s.words i)
-      (knows y plain loads steps m.0, m.1)) (sym e)
-      (subst (λ d. (y : Knowing) × (plain loads steps : ℕ) × IsSo P key.cells (contents_of s) r.law y
-      × once_load program key.cells d c (step slots i 0 0 none) m (word s.words i)
-      (knows y plain loads steps m.0, m.1)) (sym g)
-      (subst (λ j. (y : Knowing) × (plain loads steps : ℕ) × IsSo P key.cells (contents_of s) r.law y
-      × once_load program key.cells f c (step slots i 0 0 none) m (word s.words j)
-      (knows y plain loads steps m.0, m.1)) (sym at)
-      (found s r k f may)))))
+      (once_load program size named cell (step slots i 0 0 none) m)
+      (λ s r k. back (λ j. Learns program key s r m (once_load program (z j) (g j) (e j) (step slots i 0 0 none) m)
+      (word s.words (at j))) (found s r k f may))
     where
+      -- the seat learns by the load of this word of c
+      Finds : (s : State (Option (Rec B)) (View B)) → Rule program key s → Once → Type 0
+      Finds s r f = Learns program key s r m (once_load program key.cells f c (step slots i 0 0 none) m)
+          (word s.words (once_at c f))
+
       tree : (s : State (Option (Rec B)) (View B)) (r : Rule program key s) → get_elem? s.views id ≡ some m.0
           → (f : Once) → IsOfTree f → MayReadTree c m.0 → word s.words (once_at c f) < 2 ^ 32
-          → (y : Knowing) × (plain loads steps : ℕ) × IsSo P key.cells (contents_of s) r.law y
-          × ((m.1 ≡ m.1) × FindsWord key.cells f c (word s.words (once_at c f)) m.0 (knows y plain loads steps m.0))
+          → Learns program key s r m (λ n m'. (m'.1 ≡ m.1) × FindsWord key.cells f c n m.0 m'.0)
+          (word s.words (once_at c f))
       tree s r k f o may small = let v = m.0 in let so = knows_so program key s r id v k in let law = r.law in
           let there = readable P key.cells (contents_of s) law v so c may in
           let w : SeenWord = seen_word c f (word s.words (once_at c f)) in
-          let seen = all_cons (Stands (drawn_in key.cells (contents_of s)) (contents_of s).words.once
-          law.once_words.due_to) w v.seen
-          (record {
+          let now = learned_so P key.cells (contents_of s) law (knowing_of v) so none_of none_of (one_of w (record {
             of_tree = o;
             drawn_cell = there.0;
             value = refl;
             written = tree_written P key.cells (contents_of s) law c f there o;
-          }) so.seen in (
-            record (knowing_of v) { born = law.born; seen = w ∷ v.seen },
+          })) none_of in (
+            learned P key.cells (contents_of s) law (knowing_of v) [] [] (w ∷ []) [],
             v.plain_loads,
             suc v.once_loads,
             suc v.steps,
-            record {
-              known = so.known;
-              begins = begins_self law.born;
-              known_born = λ d n. let b = so.known_born d n in (b.0, begins_at v.born law.born so.begins d b.0 b.1);
-              wrote = so.wrote;
-              filled = so.filled;
-              seen = seen;
-              closed = so.closed;
-              found = so.found;
-              rested = so.rested;
-              told = so.told;
-            },
+            now,
             (
               refl,
               record {
@@ -350,7 +373,7 @@ module _ {B : Type 0} (program : Bool → B → Program B) (key : Key B) where
                 begins = so.begins;
                 small = small;
                 view = refl;
-                tree = sees_tree P key.cells (contents_of s) law (w ∷ v.seen) law.born seen (begins_self law.born);
+                tree = sees_tree P key.cells (contents_of s) law (w ∷ v.seen) law.born now.seen now.begins;
                 all = are_cells law;
                 leads = λ is. let b = begins_at v.born law.born so.begins c is.0 is.1 in
                     leads_to P key.cells (contents_of s) law links c f (word s.words (once_at c f)) (is.0, b, is.2)
@@ -361,9 +384,7 @@ module _ {B : Type 0} (program : Bool → B → Program B) (key : Key B) where
           )
 
       tag : (s : State (Option (Rec B)) (View B)) (r : Rule program key s) → get_elem? s.views id ≡ some m.0
-          → (y : Knowing) × (plain loads steps : ℕ) × IsSo P key.cells (contents_of s) r.law y
-          × once_load program key.cells once.Tag c (step slots i 0 0 none) m (word s.words (once_at c once.Tag))
-          (knows y plain loads steps m.0, m.1)
+          → Finds s r once.Tag
       tag s r k = let v = m.0 in let so = knows_so program key s r id v k in let law = r.law in
           dite (ℕ_discrete (word s.words (once_at c once.Tag)) 0)
           (λ z. (
@@ -385,22 +406,12 @@ module _ {B : Type 0} (program : Bool → B → Program B) (key : Key B) where
             ),
           ))
           (λ z. let has = law.meaning.entries c z in let w = has.1.written in (
-            record (knowing_of v) { born = law.born; filled = record { cell = c; entry = has.0 } ∷ v.filled },
+            learned P key.cells (contents_of s) law (knowing_of v) [] (record { cell = c; entry = has.0 } ∷ []) [] [],
             v.plain_loads,
             suc v.once_loads,
             suc v.steps,
-            record {
-              known = so.known;
-              begins = begins_self law.born;
-              known_born = λ d n. let b = so.known_born d n in (b.0, begins_at v.born law.born so.begins d b.0 b.1);
-              wrote = so.wrote;
-              filled = all_cons _ (record { cell = c; entry = has.0 }) v.filled has.1 so.filled;
-              seen = so.seen;
-              closed = so.closed;
-              found = so.found;
-              rested = so.rested;
-              told = so.told;
-            },
+            learned_so P key.cells (contents_of s) law (knowing_of v) so none_of
+                (one_of (record { cell = c; entry = has.0 }) has.1) none_of none_of,
             (
               refl,
               (
@@ -424,51 +435,37 @@ module _ {B : Type 0} (program : Bool → B → Program B) (key : Key B) where
 
       -- the cells that BITS names, by TAG
       named_by : (s : State (Option (Rec B)) (View B)) (r : Rule program key s)
-          → (cells : List ℕ) × All (IsThere (drawn_in key.cells (contents_of s)) (hand_of (contents_of s))) cells
+          → (cells : AllOf (IsThere (drawn_in key.cells (contents_of s)) (hand_of (contents_of s))))
           × ((y : Entry) → word s.words (once_at c once.Tag) ≡ tag_of y
-          → cells ≡ bits_cells y (word s.words (once_at c once.Bits)))
+          → cells.0 ≡ bits_cells y (word s.words (once_at c once.Bits)))
       named_by s r = (
-        cells_of_tag (word s.words (once_at c once.Tag)) (word s.words (once_at c once.Bits)),
-        bits_there P key.cells (contents_of s) r.law c,
+        (
+          cells_of_tag (word s.words (once_at c once.Tag)) (word s.words (once_at c once.Bits)),
+          bits_there P key.cells (contents_of s) r.law c,
+        ),
         (λ y q. ap (λ z. cells_of_tag z (word s.words (once_at c once.Bits))) q
             ∙ sym (cells_by y (word s.words (once_at c once.Bits)))),
       )
 
       bits : (s : State (Option (Rec B)) (View B)) (r : Rule program key s) → get_elem? s.views id ≡ some m.0
-          → (y : Knowing) × (plain loads steps : ℕ) × IsSo P key.cells (contents_of s) r.law y
-          × once_load program key.cells once.Bits c (step slots i 0 0 none) m (word s.words (once_at c once.Bits))
-          (knows y plain loads steps m.0, m.1)
+          → Finds s r once.Bits
       bits s r k = let v = m.0 in let so = knows_so program key s r id v k in let law = r.law in
-          let n : ℕ = word s.words (once_at c once.Bits) in
           let more = named_by s r in (
-            record (knowing_of v) { born = law.born; known = more.0 ++ v.known },
+            learned P key.cells (contents_of s) law (knowing_of v) more.0.0 [] [] [],
             v.plain_loads,
             suc v.once_loads,
             suc v.steps,
-            record {
-              known = all_append _ more.0 v.known more.1 so.known;
-              begins = begins_self law.born;
-              known_born = all_append (λ d. (y : Reference) × IsCell law.born d y) more.0 v.known
-                  (λ d j. born_at P key.cells (contents_of s) law d (more.1 d j).0)
-                  (λ d j. let b = so.known_born d j in (b.0, begins_at v.born law.born so.begins d b.0 b.1));
-              wrote = so.wrote;
-              filled = so.filled;
-              seen = so.seen;
-              closed = so.closed;
-              found = so.found;
-              rested = so.rested;
-              told = so.told;
-            },
+            learned_so P key.cells (contents_of s) law (knowing_of v) so more.0 none_of none_of none_of,
             (
               refl,
               record {
                 born = law.born;
-                named = more.0;
+                named = more.0.0;
                 begins = so.begins;
                 all = are_cells law;
                 says = λ y j q. let h = so.filled y j in (
                   subst (λ d. BitsSay law.born y.entry (word s.words (once_at d once.Bits))) q h.written.bits_say,
-                  more.2 y.entry (subst (λ d. word s.words (once_at d once.Tag) ≡ tag_of y.entry) q h.tag_is),
+                  more.1 y.entry (subst (λ d. word s.words (once_at d once.Tag) ≡ tag_of y.entry) q h.tag_is),
                 );
                 view = refl;
               },
@@ -477,9 +474,7 @@ module _ {B : Type 0} (program : Bool → B → Program B) (key : Key B) where
 
       found : (s : State (Option (Rec B)) (View B)) (r : Rule program key s) → get_elem? s.views id ≡ some m.0
           → (f : Once) → MayRead f c m.0
-          → (y : Knowing) × (plain loads steps : ℕ) × IsSo P key.cells (contents_of s) r.law y
-          × once_load program key.cells f c (step slots i 0 0 none) m (word s.words (once_at c f))
-          (knows y plain loads steps m.0, m.1)
+          → Finds s r f
       found s r k once.Tag may = tag s r k
       found s r k once.Bits may = bits s r k
       found s r k once.Parent may = tree s r k once.Parent tt may

@@ -148,12 +148,17 @@ module _ {B : Type 0} where
               told = set (seats_have s.views).told id k.told;
             }) (seats_same s.views id v at)
 
+    -- what the seat learns is so, and with it its view is as a load of n promises
+    abbrev pub Learns : (s : State (Option (Rec B)) (View B)) → Rule program key s → SeatMe B
+        → (ℕ → SeatMe B → Type 0) → ℕ → Type 0
+    Learns s r m then n = (k : Knowing) × (plain once steps : ℕ)
+        × IsSo (program key.strict key.root.value) key.cells (contents_of s) r.law k
+        × then n (knows k plain once steps m.0, m.1)
+
     -- a load at which the seat learns what is so
     pub load_allowed : (slots id : ℕ) (m : SeatMe B) (i : ℕ) (then : ℕ → SeatMe B → Type 0)
         → ((s : State (Option (Rec B)) (View B)) (r : Rule program key s) → get_elem? s.views id ≡ some m.0
-        → (k : Knowing) × (plain once steps : ℕ)
-        × IsSo (program key.strict key.root.value) key.cells (contents_of s) r.law k
-        × then (word s.words i) (knows k plain once steps m.0, m.1))
+        → Learns s r m then (word s.words i))
         → Allows (Rule program key) slots id m i (λ n. n) then
     load_allowed slots id m i then h s r deep at small = let t = h s r at in
         let w = knows t.0 t.1 t.2 t.3 m.0 in (
