@@ -6,7 +6,7 @@ ghost use Rattle.tj_words.specs.Words.Heads.{HasWord, head_word, head_in};
 use tj_base::CellId;
 
 /// How a chain of waiters begins.
-#[derive(Clone, Copy, Debug, PartialEq, Eq)]
+#[derive(Clone, Copy, PartialEq, Eq)]
 pub enum Head {
     /// Nobody waits.
     Empty,

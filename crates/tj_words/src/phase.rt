@@ -7,7 +7,7 @@ use tj_base::CellId;
 use tj_core::Way;
 
 /// Where a task stands that waits.
-#[derive(Clone, Copy, Debug, PartialEq, Eq)]
+#[derive(Clone, Copy)]
 pub enum Walk {
     /// Its walk is under way.
     Walking,
@@ -18,7 +18,7 @@ pub enum Walk {
 }
 
 /// Where a cell stands.
-#[derive(Clone, Copy, Debug, PartialEq, Eq)]
+#[derive(Clone, Copy)]
 pub enum Phase {
     /// A task that isn't ready yet.
     Unborn,

@@ -11,7 +11,7 @@ pub enum Fill {
 }
 
 /// Why a task failed.
-#[derive(Clone, Copy, Debug, PartialEq, Eq)]
+#[derive(Clone, Copy)]
 pub enum Hurt {
     Arith,
     Kind,
@@ -25,7 +25,7 @@ pub enum Hurt {
 }
 
 /// How a task ended.
-#[derive(Clone, Copy, Debug, PartialEq, Eq)]
+#[derive(Clone, Copy)]
 pub enum Finish {
     Done(Fill),
     Failed(Hurt),
