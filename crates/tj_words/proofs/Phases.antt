@@ -12,5 +12,4 @@ pub mod ReadyStores
 pub mod EndedStores
 pub mod ParkedStores
 pub mod HomeComings
-pub mod HomeMoves
 pub mod PhaseExchanges

@@ -48,5 +48,5 @@ module _ {B : Type 0} (program : Bool → B → Program B) (key : Key B) (s t : 
   -- the store of a child
   pub call_hands : MakesWith keeps id (own_at c) n m m' s t → (w : ℕ) → owner_in n ≡ Some w → (may : MayHand c w m.0)
       → m'.0 ≡ handed_promise may.task c w m.0 → Keeping key.cells x y (HandsPromise key.cells x y id may.task c w)
-  call_hands h w is may view = hand_keeps program key s r id c w m.0 h.at may y n is
+  call_hands h w is may view = hand_keeps program key s r id c m.0 h.at w may y n is
       (call_stores s t id (Own c) n m m' h (handed_promise may.task c w m.0) view)

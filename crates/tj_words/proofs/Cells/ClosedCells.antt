@@ -1,28 +1,25 @@
 -- A cell is closed: nobody owns it from now on, and its TAG and BITS are due to the seat of its owner.
-use Rattle.tj_words.proofs.Prelude.{ActsOn, All, AreApart, Bool, ClosesPromise, ClosesResult, Contents, CoreFacts}
-use Rattle.tj_words.proofs.Prelude.{Custody, Due, EventKeepsFacts, Hand, IsDue, IsHeldWith, IsIn, IsOfTree, IsThere}
-use Rattle.tj_words.proofs.Prelude.{KeepsCells, Law, List, MayAct, None, OfSeat, Once, OnceWords, Option, Phase}
-use Rattle.tj_words.proofs.Prelude.{Program, SeenWord, Some, WaitersOwn, [], ap, arith, cond, core_shown, dite}
-use Rattle.tj_words.proofs.Prelude.{drawn_in, eq-eqb, gave_up, get_elem?, hand_of, hold, home_of, inl, inr}
-use Rattle.tj_words.proofs.Prelude.{is_task_sort, made_of, nat_eq, ne_eqb, owned_by, owned_of, parts_of, phase_sort}
-use Rattle.tj_words.proofs.Prelude.{put, refl, set, some, subst, sym, without, ℕ, ℕ_discrete, ⊎_elim, ◌↔◌, ◌∙◌, ◌∷◌}
-use Rattle.tj_words.proofs.Prelude.{◌≡◌, ◌≢◌, ◌⊎◌}
-use Rattle.tj_words.proofs.Stores.LawChanges.{law_owners}
+use Rattle.tj_words.proofs.Prelude.{ActsOn, All, Bool, ClosesPromise, ClosesResult, Contents, CoreFacts, Custody, Due}
+use Rattle.tj_words.proofs.Prelude.{EventKeepsFacts, Hand, IsDue, IsHeldWith, IsIn, IsOfTree, IsThere, KeepsCells, Law}
+use Rattle.tj_words.proofs.Prelude.{List, MayAct, None, OfSeat, Once, OnceWords, Option, OwnedLists, Phase, Program}
+use Rattle.tj_words.proofs.Prelude.{SeenWord, Some, WaitersOwn, [], ap, arith, cond, core_shown, dite, drawn_in, eq-eqb}
+use Rattle.tj_words.proofs.Prelude.{gave_up, get_elem?, hand_of, hold, inl, inr, is_task_sort, nat_eq, ne_eqb, parts_of}
+use Rattle.tj_words.proofs.Prelude.{phase_sort, put, refl, set, some, subst, sym, ℕ, ℕ_discrete, ⊎_elim, ◌∙◌, ◌∷◌, ◌≡◌}
+use Rattle.tj_words.proofs.Prelude.{◌≢◌, ◌⊎◌}
 use Rattle.tj_words.proofs.Stores.SeatLists.{each_else, of_seat_here, of_seat_set}
 use Rattle.tj_words.proofs.Holders.HeldTasks.{none_some, one_some}
 use Rattle.tj_words.proofs.Stores.StoreSteps.{put_here, put_else}
 use Rattle.tj_words.proofs.Events.ShownCells.{owner_out}
 use Rattle.tj_words.proofs.Cells.CellFacts.{task_shown, sort_is}
-use Rattle.tj_words.proofs.Waiters.ChainLists.{of_without, apart_without}
-use Rattle.tj_words.proofs.Waiters.ChainHeads.{in_without}
-use Rattle.tj_words.proofs.Holders.TaskPlaces.{custody, held_here, list_owned}
-use Rattle.tj_words.proofs.Holders.HeldChanges.{find_here, find_else, made_held, found_held, hold_move}
-use Rattle.tj_words.proofs.Cells.OwnedChanges.{owned_changed}
+use Rattle.tj_words.proofs.Holders.TaskPlaces.{custody, home_there, list_owned}
+use Rattle.tj_words.proofs.Holders.HeldChanges.{found_held, held_task, hold_move, made_held, owned_held}
+use Rattle.tj_words.proofs.Holders.SeatTasks.{owned_held_by}
+use Rattle.tj_words.proofs.Cells.OwnedChanges.{owned_loses}
 use Rattle.tj_words.proofs.Events.OwnerEvents.{acts_phase, close_shown, end_shown, acts_there}
 use Rattle.tj_words.proofs.Events.StepFacts.{facts_after}
 use Rattle.tj_words.proofs.Calls.KeptCells.{kept_words}
 use Rattle.tj_words.specs.Steps.ShownParts.{owned_parts}
-use Rattle.tj_words.proofs.Holders.TaskMoves.{TaskMove, moved_hands, moved_walks, moved_custody}
+use Rattle.tj_words.proofs.Holders.TaskMoves.{TaskMove, law_owners}
 use Rattle.tj_base.specs.declared.cell.Sort.TheVariants as sort
 use Rattle.tj_words.specs.declared.offsets.Once.TheVariants as once
 use Rattle.tj_words.specs.declared.phase.Phase.TheVariants as phase
@@ -72,6 +69,15 @@ values_listed c once.Parent ds k = absurd (k tt)
 values_listed c once.Kid ds k = absurd (k tt)
 values_listed c once.Depth ds k = absurd (k tt)
 values_listed c once.Jump ds k = absurd (k tt)
+
+-- seat id's task t acts, and owns its result and c
+pub record GivesUp {B : Type 0} (x : Contents B) (id t c : ℕ) : Type 0 where
+  pub has : Custody B
+  pub held : IsHeldWith x id t has
+  pub may : MayAct has.does
+  pub out : has.home ≡ None
+  pub result : IsIn t has.owned
+  pub owns : IsIn c has.owned
 
 module _ {drawn : ℕ} {hand : ℕ → Option Hand} {hands : List (Option Hand)} {own : ℕ → Option ℕ}
     {word : ℕ → Once → ℕ} {seen : List (List SeenWord)} {dues : List (List Due)}
@@ -183,80 +189,39 @@ module _ {B : Type 0} {program : Program B} {cells : ℕ} {x : Contents B} (r : 
       by phase.Promise e = refl
       by (phase.Waiting d way w) e = absurd (no_task (ap phase_sort e))
 
-  -- seat id's task t owns c, which it closes
-  module _ (id t c : ℕ) (k : Custody B) (h : IsHeldWith x id t k) (its : k.task ≡ t)
-      (may : MayAct k.does) (out : k.home ≡ None) (result : IsIn t k.owned) (owns : IsIn c k.owned)
-      (last : c ≡ t → (k.owned ≡ c ∷ []) × (get_elem? x.seats.hands id ≡ some None))
-      (ds : List Due) (at : get_elem? x.seats.dues id ≡ some ds) where
+  module _ {id t c : ℕ} (g : GivesUp x id t c) where
     abbrev n : ℕ
     n = drawn_in cells x
 
     abbrev k' : Custody B
-    k' = gave_up c k
+    k' = gave_up c g.has
 
-    -- the contents then
-    abbrev pub closed : Contents B
-    closed = record {
-      words = record x.words { own = put x.words.own c None };
-      slots = x.slots;
-      seats = record x.seats {
-        tasks = set x.seats.tasks id (hold k' h.0);
-        dues = set x.seats.dues id (with_values c ds);
-      };
-    }
+    abbrev pub gave_list : List (Custody B)
+    gave_list = hold k' g.held.0
+
+    pub its_task : g.has.task ≡ t
+    its_task = held_task g.held.0 t g.has g.held.2
 
     pub owned_here : IsThere n (hand_of x) c × (x.words.own c ≡ Some t)
-    owned_here = list_owned r id t k h c owns
+    owned_here = list_owned r id t g.has g.held c g.owns
 
-    abbrev acts : ActsOn x id t
-    acts = record {
-      before_it = k;
+    -- the task acts, and gives c up
+    abbrev pub gives_up : ActsOn x id t
+    gives_up = record {
+      before_it = g.has;
       after_it = k';
-      held = h;
-      may = may;
-      result = result;
+      held = g.held;
+      may = g.may;
+      result = g.result;
       runs = refl;
       made = refl;
     }
 
     runs : x.words.phase t ≡ phase.Running
-    runs = acts_phase r id t acts
-
-    -- what the task owns from now on, and each other
-    owned_t : owned_of closed t ≡ without c k.owned
-    owned_t = ap (λ (o : Option (Custody B)). owned_by o (home_of x t)) (find_here r id t k k' h its)
-
-    owned_was : owned_of x t ≡ k.owned
-    owned_was = ap (λ (o : Option (Custody B)). owned_by o (home_of x t)) (held_here r id t k h)
-
-    owned_other : (u : ℕ) → u ≢ t → owned_of closed u ≡ owned_of x u
-    owned_other u q = ap (λ (o : Option (Custody B)). owned_by o (home_of x u)) (find_else r id t k k' h its u q)
-
-    lists : (d u : ℕ) → d ≢ c → IsIn d (owned_of closed u) ↔ IsIn d (owned_of x u)
-    lists d u q = dite (ℕ_discrete u t)
-        (λ e. subst (λ z. IsIn d (owned_of closed z) ↔ IsIn d (owned_of x z)) (sym e) (
-          (λ i. subst (IsIn d) (sym owned_was) (of_without c d k.owned (subst (IsIn d) owned_t i)).0),
-          (λ i. subst (IsIn d) (sym owned_t) (in_without c d k.owned q (subst (IsIn d) owned_was i))),
-        ))
-        (λ m. ((λ i. subst (IsIn d) (owned_other u m) i), (λ i. subst (IsIn d) (sym (owned_other u m)) i)))
-
-    nobody : (u : ℕ) → (put x.words.own c None c ≡ Some u) ↔ IsIn c (owned_of closed u)
-    nobody u = (
-      (λ e. none_some (put x.words.own c None c) u (put_here x.words.own c c None refl) e),
-      (λ i. dite (ℕ_discrete u t)
-          (λ e. absurd ((of_without c c k.owned (subst (IsIn c) (ap (owned_of closed) e ∙ owned_t) i)).1 refl))
-          (λ m. absurd (m (one_some u t (sym ((r.owned.owners c u owned_here.0).1 (subst (IsIn c) (owned_other u m) i))
-          ∙ owned_here.1))))),
-    )
-
-    apart : (u : ℕ) → AreApart (owned_of closed u)
-    apart u = dite (ℕ_discrete u t)
-        (λ e. subst AreApart (sym (ap (owned_of closed) e ∙ owned_t))
-        (apart_without c k.owned (subst AreApart owned_was (r.owned.owned_apart t))))
-        (λ m. subst AreApart (sym (owned_other u m)) (r.owned.owned_apart u))
+    runs = acts_phase r id t gives_up
 
     -- a task that waits isn't closed
-    waiters : WaitersOwn (put x.words.own c None) x.words.phase
+    pub waiters : WaitersOwn (put x.words.own c None) x.words.phase
     waiters u p way w e z = dite (ℕ_discrete u c)
         (λ q. let e' : x.words.phase c ≡ phase.Waiting p way w = ap x.words.phase (sym q) ∙ e in dite (ℕ_discrete c t)
         (λ s. let y : phase.Running ≡ phase.Waiting p way w = sym runs ∙ (ap x.words.phase (sym s) ∙ e') in absurd (cc))
@@ -264,72 +229,77 @@ module _ {B : Type 0} {program : Program B} {cells : ℕ} {x : Contents B} (r : 
         = sym (owned_promise c t owned_here.0 owned_here.1 s) ∙ e' in absurd (cc)))
         (λ m. r.waiters_own u p way w e (sym (put_else x.words.own c u None m) ∙ z))
 
-    same : parts_of cells closed ≡ owned_parts (parts_of cells x) c None t (Some k')
-    same = λ j. record (parts_of cells x) {
-      own = put x.words.own c None;
-      held = found_held r id t k k' h its j;
-    }
+    pub move : TaskMove r id t x.words.phase g.held.0 gave_list x.slots
+    move = hold_move r id t g.has k' g.held its_task x.slots (λ u d. refl) (home_there r t)
+        x.words.phase (λ u q. refl) runs (acts_there r id t gives_up)
+        (λ p way w e. (r.names.waits t p way w e, r.waiters_own t p way w e)) (λ d i. absurd i) refl (λ z e q i. i)
+        (λ a. absurd a) (λ y e. none_some g.has.home y g.out e) (λ e. (custody r id t g.has g.held).out g.out)
 
-    -- the task has closed a promise, or its result
-    pub closes_promise : c ≢ t → ClosesPromise cells x closed id t c
-    closes_promise q = record {
-      acts = acts;
-      owned = owns;
-      promise = owned_promise c t owned_here.0 owned_here.1 q;
-      parts = same;
-    }
+    -- which it closes: where it closes its result, it owns nothing else, and its seat has nothing in hand
+    module _ (last : c ≡ t → (g.has.owned ≡ c ∷ []) × (get_elem? x.seats.hands id ≡ some None)) (ds : List Due)
+        (at : get_elem? x.seats.dues id ≡ some ds) where
+      -- the contents then
+      abbrev pub closed : Contents B
+      closed = record {
+        words = record x.words { own = put x.words.own c None };
+        slots = x.slots;
+        seats = record x.seats {
+          tasks = set x.seats.tasks id gave_list;
+          dues = set x.seats.dues id (with_values c ds);
+        };
+      }
 
-    pub closes_own : c ≡ t → ClosesResult cells x closed id t
-    closes_own e = record {
-      acts = acts;
-      alone = λ d i. ⊎_elim (λ q. q ∙ e) (λ i. absurd i) (subst (IsIn d) (last e).0 i);
-      no_hand = (last e).1;
-      parts = same ∙ ap (λ z. owned_parts (parts_of cells x) z None t (Some k')) e;
-    }
+      same : parts_of cells closed ≡ owned_parts (parts_of cells x) c None t (Some k')
+      same = λ j. record (parts_of cells x) {
+        own = put x.words.own c None;
+        held = found_held r id t g.has k' g.held its_task j;
+      }
 
-    facts : EventKeepsFacts → CoreFacts (core_shown cells r.born r.maker closed)
-    facts events = dite (ℕ_discrete c t)
-        (λ e. facts_after events (end_shown r closed id t (closes_own e)) r.facts)
-        (λ q. facts_after events (close_shown r closed id t c (closes_promise q)) r.facts)
+      -- the task has closed a promise, or its result
+      pub closes_promise : c ≢ t → ClosesPromise cells x closed id t c
+      closes_promise q = record {
+        acts = gives_up;
+        owned = g.owns;
+        promise = owned_promise c t owned_here.0 owned_here.1 q;
+        parts = same;
+      }
 
-    pub closed_made : made_of closed ≡ made_of x
-    closed_made j u = made_held r id t k k' h its refl u j
+      pub closes_own : c ≡ t → ClosesResult cells x closed id t
+      closes_own e = record {
+        acts = gives_up;
+        alone = λ d i. ⊎_elim (λ q. q ∙ e) (λ i. absurd i) (subst (IsIn d) (last e).0 i);
+        no_hand = (last e).1;
+        parts = same ∙ ap (λ z. owned_parts (parts_of cells x) z None t (Some k')) e;
+      }
 
-    pub closed_keeps : KeepsCells cells x closed
-    closed_keeps = kept_words cells x closed (λ d. refl) (λ d. ap (λ f. f d) closed_made) refl
+      pub facts : EventKeepsFacts → CoreFacts (core_shown cells r.born r.maker closed)
+      facts events = dite (ℕ_discrete c t)
+          (λ e. facts_after events (end_shown r closed id t (closes_own e)) r.facts)
+          (λ q. facts_after events (close_shown r closed id t c (closes_promise q)) r.facts)
 
-    move : TaskMove r id t x.words.phase h.0 (hold k' h.0) x.slots
-    move = hold_move r id t k k' h its x.words.phase (λ u q. refl) runs (acts_there r id t acts)
-        (λ p way w e. (r.names.waits t p way w e, r.waiters_own t p way w e)) (λ d i. absurd i) refl (λ e. e)
-        (λ a. absurd a) (λ y e. none_some k.home y out e) (λ e. (custody r id t k h).out out)
+      pub closed_keeps : KeepsCells cells x closed
+      closed_keeps = kept_words cells x closed (λ d. refl) (made_held r id t g.has k' g.held its_task refl) refl
 
-    -- the law after the close
-    pub law_closed : EventKeepsFacts → Law program cells closed
-    law_closed events = law_owners r (put x.words.own c None) (set x.seats.tasks id (hold k' h.0))
-        (set x.seats.dues id (with_values c ds)) closed_made
-        (moved_hands r id t x.words.phase h.0 (hold k' h.0) x.slots move)
-        record {
-          owned = λ d u e. dite (ℕ_discrete d c)
-              (λ q. none_some (put x.words.own c None d) u (put_here x.words.own c d None q) e)
-              (λ q. r.names.owned d u (sym (put_else x.words.own c d None q) ∙ e));
-          waits = r.names.waits;
-          records = r.names.records;
-          walks = moved_walks r id t x.words.phase h.0 (hold k' h.0) x.slots move;
-          knows = r.names.knows;
-        }
-        record {
-          written = r.tree_words.written;
-          in_hand = λ d g y f e i o. ⊎_elim
-              (λ w. inl (
-                w.0,
-                of_seat_set (IsDue d f) x.seats.dues id w.0 ds (with_values c ds) at
-                    (λ j. inr (inr j)) w.1,
-              ))
-              (λ w. inr w) (r.tree_words.in_hand d g y f e i o);
-        }
-        (moved_custody r id t x.words.phase h.0 (hold k' h.0) x.slots move)
-        (owned_changed r.owned c owned_here.0 (put x.words.own c None) (owned_of closed)
-        (λ d q. put_else x.words.own c d None q) lists nobody apart)
-        (once_closed r.once_words id c t owned_here.0 owned_here.1 ds at)
-        waiters
-        (facts events)
+      -- the law after the close
+      abbrev pub law_closed : EventKeepsFacts → Law program cells closed
+      law_closed events = law_owners r move (put x.words.own c None) x.words
+          (record x.seats { dues = set x.seats.dues id (with_values c ds) })
+          (λ d u e. dite (ℕ_discrete d c)
+          (λ q. none_some (put x.words.own c None d) u (put_here x.words.own c d None q) e)
+          (λ q. r.names.owned d u (sym (put_else x.words.own c d None q) ∙ e)))
+          r.names.knows
+          record {
+            written = r.tree_words.written;
+            in_hand = λ d g y f e i o. ⊎_elim
+                (λ w. inl (
+                  w.0,
+                  of_seat_set (IsDue d f) x.seats.dues id w.0 ds (with_values c ds) at
+                      (λ j. inr (inr j)) w.1,
+                ))
+                (λ w. inr w) (r.tree_words.in_hand d g y f e i o);
+          }
+          (subst (OwnedLists n (hand_of x) (put x.words.own c None))
+          (sym (owned_held r id t g.has k' g.held its_task))
+          (owned_loses r.owned c owned_here.0 t owned_here.1 g.has.owned (sym (owned_held_by r id t g.has g.held))))
+          (once_closed r.once_words id c t owned_here.0 owned_here.1 ds at)
+          r.chains r.live_count waiters r.records_fit r.meaning (facts events)

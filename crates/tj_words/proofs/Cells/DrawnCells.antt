@@ -14,7 +14,7 @@ use Rattle.tj_words.proofs.Stores.SeatLists.{inside, of_seat_here, of_seat_set}
 use Rattle.tj_words.proofs.Cells.SeatHands.{hand_kept, hand_set, other_cell, own_cell, makes_set, makes_kept, own_maker}
 use Rattle.tj_words.proofs.Cells.SeatHands.{other_maker}
 use Rattle.tj_words.proofs.Holders.SeatTasks.{find_changed, find_same, held_alone, free_alone, put_is}
-use Rattle.tj_words.proofs.Holders.TaskPlaces.{unheld, held_here, held_drawn, hand_seat}
+use Rattle.tj_words.proofs.Holders.TaskPlaces.{has_none, unheld, held_here, held_drawn, hand_seat}
 use Rattle.tj_words.proofs.Events.DrawEvents.{empty_none, draw_shown}
 use Rattle.tj_words.proofs.Events.StepFacts.{births_after, tree_after, tree_words_after, facts_after}
 use Rattle.tj_words.proofs.Meaning.MeaningSteps.{draw_meant}
@@ -125,12 +125,7 @@ module _ {B : Type 0} {program : Program B} {cells : ℕ} {x : Contents B} (r : 
       ap (λ (b : Bool). cond b (Some (new_task n)) (held_in noted_list u)) (ne_eqb n u (λ e. z (sym e)))
 
   unheld_new : held_in ks n ≡ None
-  unheld_new = by (held_in ks n) refl
-    where
-      by : (i : Option (Custody B)) → held_in ks n ≡ i → i ≡ None
-      by None e = refl
-      by (Some q) e = none_some (r.custody.holder n) id (r.custody.undrawn_free n (omega arith))
-          (r.custody.held id ks at n q e).mine
+  unheld_new = has_none r id n ks at (λ e. none_some (r.custody.holder n) id (r.custody.undrawn_free n (omega arith)) e)
 
   new_here : (s : Sort) (q : Custody B) → held_in (new_tasks n s noted_list) n ≡ Some q → q ≡ new_task n
   new_here sort.Promise q e = none_some (held_in ks n) q unheld_new (sym (list_else n (λ i. t_old (sym i))) ∙ e)

@@ -1,17 +1,17 @@
 -- The first store of OWN of a cell in hand keeps the law: the cell leaves the hand and is there.
-use Rattle.tj_words.proofs.Prelude.{All, AreApart, Bool, Contents, CoreFacts, Custody, DoesRun, DoesWalk, Due}
-use Rattle.tj_words.proofs.Prelude.{GivesOwner, Hand, HasAlarmed, HasInHand, Holds, IsCell, IsDue, IsIn, IsMarkedRight}
-use Rattle.tj_words.proofs.Prelude.{IsOfTree, IsSeat, IsThere, IsToldBy, Keeping, KeepsCells, Key, Law, List, MayGive}
-use Rattle.tj_words.proofs.Prelude.{None, OfSeat, Once, Option, OwnedLists, Parts, Program, Rec, Reference, Rule, Some}
-use Rattle.tj_words.proofs.Prelude.{Sort, State, View, [], ap, arith, at_map, at_put, begins_self, contents_of, dite}
-use Rattle.tj_words.proofs.Prelude.{drawn_in, false, find_in, first_owner, get_elem?, hand_in, hand_of, hand_phase}
-use Rattle.tj_words.proofs.Prelude.{held_in, held_of, home_of, in_either, in_left, in_right, inl, inr, made_by, made_of}
-use Rattle.tj_words.proofs.Prelude.{making, noted, own_at, owned_by, owned_of, owner_in, owns_also, parent_word}
-use Rattle.tj_words.proofs.Prelude.{parts_of, phase_sort, put, put_else, put_here, reference_of, refl, seats_have, set}
-use Rattle.tj_words.proofs.Prelude.{some, some-injective, sort_shown, subst, suc, sym, tree_word, true, words_say, zero}
-use Rattle.tj_words.proofs.Prelude.{ℕ, ℕ_discrete, ⊎_elim, ◌++◌, ◌+◌, ◌<◌, ◌↔◌, ◌∙◌, ◌∷◌, ◌≡◌, ◌≢◌, ◌⊎◌}
+use Rattle.tj_words.proofs.Prelude.{All, Bool, Contents, CoreFacts, Custody, DoesRun, DoesWalk, Due, GivesOwner, Hand}
+use Rattle.tj_words.proofs.Prelude.{HasAlarmed, HasInHand, Holds, IsCell, IsDue, IsIn, IsMarkedRight, IsOfTree, IsSeat}
+use Rattle.tj_words.proofs.Prelude.{IsThere, IsToldBy, Keeping, KeepsCells, Key, Law, List, MayGive, None, OfSeat, Once}
+use Rattle.tj_words.proofs.Prelude.{Option, OwnedLists, Parts, Program, Rec, Reference, Rule, Some, Sort, State, View}
+use Rattle.tj_words.proofs.Prelude.{[], ap, arith, at_map, at_put, begins_self, contents_of, dite, drawn_in, false}
+use Rattle.tj_words.proofs.Prelude.{find_in, first_owner, get_elem?, hand_in, hand_of, hand_phase, held_in, held_of}
+use Rattle.tj_words.proofs.Prelude.{home_of, inl, inr, made_by, made_of, making, noted, own_at, owned_by, owned_of}
+use Rattle.tj_words.proofs.Prelude.{owner_in, owns_also, parent_word, parts_of, phase_sort, put, put_else, put_here}
+use Rattle.tj_words.proofs.Prelude.{reference_of, refl, seats_have, set, some, some-injective, sort_shown, subst, suc}
+use Rattle.tj_words.proofs.Prelude.{sym, tree_word, true, words_say, zero, ℕ, ℕ_discrete, ⊎_elim, ◌++◌, ◌+◌, ◌<◌, ◌∙◌}
+use Rattle.tj_words.proofs.Prelude.{◌∷◌, ◌≡◌, ◌≢◌, ◌⊎◌}
 use Rattle.tj_words.specs.Calls.DrawViews.{made_one, maker_made, gave_owner}
-use Rattle.tj_words.proofs.Holders.HeldTasks.{none_some, one_some, held_listed}
+use Rattle.tj_words.proofs.Holders.HeldTasks.{none_some, none_unless, one_some, held_listed}
 use Rattle.tj_words.proofs.Stores.SeatLists.{back, of_seat_else}
 use Rattle.tj_words.proofs.Holders.SeatTasks.{find_changed, find_same, held_alone, put_is, put_kept}
 use Rattle.tj_words.proofs.Holders.TaskPlaces.{custody, held_here}
@@ -28,58 +28,10 @@ use Rattle.tj_words.proofs.Meaning.MeaningGrows.{wider, grew_wider, meaning_grow
 use Rattle.tj_words.proofs.Cells.HandChanges.{names_on, tree_on, once_on, births_on, hands_on, custody_on}
 use Rattle.tj_words.proofs.Holders.NotedEntries.{IsDoing, noted_here, noted_else, noted_in, holds_on, holds_back}
 use Rattle.tj_words.proofs.Stores.WordStores.{hand_here, maker_there, not_root}
-use Rattle.tj_words.proofs.Cells.OwnedChanges.{apart_snoc}
+use Rattle.tj_words.proofs.Cells.OwnedChanges.{owned_gives}
 use Rattle.tj_words.proofs.Holders.NotedTasks.{holder_lot, holder_named}
 use Rattle.tj_base.specs.declared.cell.Sort.TheVariants as sort
 use Rattle.tj_words.specs.declared.offsets.Once.TheVariants as once
-
--- the list of one task has one cell more, which it owns: so the lists are right
-pub owned_gives : {n : ℕ} {hand : ℕ → Option Hand} {own : ℕ → Option ℕ} {owned : ℕ → List ℕ}
-    (r : OwnedLists n hand own owned) (hand' : ℕ → Option Hand) (owned' : ℕ → List ℕ) (c o : ℕ) → hand c ≢ None
-    → IsThere n hand' c
-    → ((d : ℕ) → IsThere n hand d → IsThere n hand' d)
-    → ((d : ℕ) → d ≢ c → IsThere n hand' d → IsThere n hand d)
-    → owned' o ≡ owned o ++ c ∷ [] → ((u : ℕ) → u ≢ o → owned' u ≡ owned u)
-    → OwnedLists n hand' (put own c (Some o)) owned'
-owned_gives {n} {hand} {own} {owned} r hand' owned' c o out there on off here else = record {
-  owners = λ d u i. at_put own c (Some o) (λ d z. IsThere n hand' d → (z ≡ Some u) ↔ IsIn d (owned' u)) d
-      (λ i. (
-        (λ e. subst (λ z. IsIn c (owned' z)) (one_some o u e) (right c (inr refl))),
-        (λ i. at u (λ u y. IsIn c y → Some o ≡ Some u) (λ _. refl) (λ k i. absurd (new u i)) i),
-      ))
-      (λ k i. let w = r.owners d u (off d k i) in (
-        (λ e. at u (λ u y. (own d ≡ Some u) → IsIn d y)
-            (λ e. in_left d (owned o) (c ∷ []) ((r.owners d o (off d k i)).0 e)) (λ _ e. w.0 e) e),
-        (λ i. w.1 (at u (λ u y. IsIn d y → IsIn d (owned u)) (λ i. ⊎_elim (λ z. z) (λ z. absurd (k z)) (is d i))
-            (λ _ i. i) i)),
-      )) i;
-  owned_there = λ d u i. at u (λ u y. IsIn d y → IsThere n hand' d)
-      (λ i. ⊎_elim (λ z. on d (r.owned_there d o z)) (λ z. subst (IsThere n hand') (sym z) there) (is d i))
-      (λ _ i. on d (r.owned_there d u i)) i;
-  owned_apart = λ u. at u (λ u y. AreApart y) (apart_snoc c (owned o) (r.owned_apart o) (new o)) (λ _. r.owned_apart u);
-}
-  where
-    new : (u : ℕ) → ¬ IsIn c (owned u)
-    new u i = out (r.owned_there c u i).1
-
-    is : (d : ℕ) → IsIn d (owned o ++ c ∷ []) → IsIn d (owned o) ⊎ (d ≡ c)
-    is d i = ⊎_elim (λ (j : IsIn d (owned o)). inl j) (λ (j : IsIn d (c ∷ [])). inr (only j))
-        (in_either d (owned o) (c ∷ []) i)
-      where
-        only : IsIn d (c ∷ []) → d ≡ c
-        only (inl e) = e
-        only (inr i) = absurd i
-
-    right : (d : ℕ) → IsIn d (owned o) ⊎ (d ≡ c) → IsIn d (owned' o)
-    right d i = subst (IsIn d) (sym here)
-        (⊎_elim (λ (j : IsIn d (owned o)). in_left d (owned o) (c ∷ []) j)
-        (λ (e : d ≡ c). in_right d (owned o) (c ∷ []) (inl e)) i)
-
-    -- what holds of the list of o with the cell, and of each other one
-    at : (u : ℕ) (F : ℕ → List ℕ → Type 0) → F o (owned o ++ c ∷ []) → (u ≢ o → F u (owned u)) → F u (owned' u)
-    at u F a b = dite (ℕ_discrete u o)
-        (λ e. subst (λ z. F z (owned' z)) (sym e) (subst (F o) (sym here) a))
-        (λ k. subst (F u) (sym (else u k)) (b k))
 
 module _ {B : Type 0} {program : Program B} {cells : ℕ} {x : Contents B} (r : Law program cells x) (id : ℕ) (h : Hand)
     (has : get_elem? x.seats.hands id ≡ some (Some h)) (ks : List (Custody B)) (ds : List Due)
@@ -165,13 +117,9 @@ module _ {B : Type 0} {program : Program B} {cells : ℕ} {x : Contents B} (r : 
       (some-injective its.0 ks (sym its.1 ∙ at)) its.2
 
   out_at : (k : Custody B) → held_in ks c ≡ Some k → k.home ≡ None
-  out_at k e = by k.home refl
-    where
-      by : (y : Option (Rec B)) → k.home ≡ y → y ≡ None
-      by None q = refl
-      by (Some y) q = let l = ((r.custody.held id ks at c k e).laid y q).here in
-          absurd (in_hand (subst (λ d. hand_of x d ≡ None) (r.custody.own_slots c y l)
-          (r.names.records c y l y.cell.0 (inl refl)).1))
+  out_at k e = none_unless k.home (λ y q. let l = ((r.custody.held id ks at c k e).laid y q).here in
+      in_hand (subst (λ d. hand_of x d ≡ None) (r.custody.own_slots c y l)
+      (r.names.records c y l y.cell.0 (inl refl)).1))
 
   owner_has : (k : Custody B) × (held_in made_list o ≡ Some k) × (k.home ≡ None)
       × ((m : Custody B) × (held_in ks o ≡ Some m) × (k.owned ≡ m.owned))
@@ -372,7 +320,10 @@ module _ {B : Type 0} {program : Program B} {cells : ℕ} {x : Contents B} (r : 
     };
     custody = custody_on r.custody (hand_in hands') x.words.phase id ks given_list at (λ u l. sorts u) (λ u e. refl)
         (λ u. before_like (held_in ks u) (held_in given_list u) (as_before u));
-    owned = owned_gives r.owned (hand_in hands') owned' c o in_hand c_there on back_there owned_owner owned_else;
+    owned = subst (OwnedLists n (hand_in hands') own')
+        (sym (put_is (owned_of x) owned' o (owned_of x o ++ c ∷ []) owned_owner owned_else))
+        (owned_gives r.owned c (λ u i. in_hand (r.owned.owned_there c u i).1) (hand_in hands') c_there on back_there o
+        (owned_of x o) refl);
     once_words = once_on r.once_words
         (λ d i e. (on d i, put_else x.words.own c (Some o) d (there_other d i.1) ∙ e))
         (λ d i e. at_put x.words.own c (Some o) (λ d z. z ≡ None → IsThere n (hand_in hands') d

@@ -1,16 +1,15 @@
 -- The stores of OWN keep the rule.
-use Rattle.tj_words.proofs.Prelude.{Allows, Backing, Bool, ClosesPromise, ClosesResult, Contents, Custody, Does, Due}
+use Rattle.tj_words.proofs.Prelude.{Allows, Backing, Bool, ClosesPromise, ClosesResult, Contents, Custody, Due}
 use Rattle.tj_words.proofs.Prelude.{EventKeepsFacts, HandsPromise, HasAlarmed, IsHeldWith, IsSeat, Keeping, Key, List}
-use Rattle.tj_words.proofs.Prelude.{MayAct, MayClose, MayGive, MayHand, None, Option, Program, PutsOwner, Rec, Rule}
-use Rattle.tj_words.proofs.Prelude.{SeatMe, SeatsHave, Some, Sort, State, View, [], ap, arith, at_map, contents_of}
-use Rattle.tj_words.proofs.Prelude.{drawn_in, first_owner, gave_owner, gave_up, get_elem?, hand_of, held_in, hold, inl}
-use Rattle.tj_words.proofs.Prelude.{inr, none, noted, own_at, owner_in, owns_also, put, refl, seats_have, set, set-set}
-use Rattle.tj_words.proofs.Prelude.{some, step, subst, suc, sym, words_say, zero, ℕ, ◌<◌, ◌∙◌, ◌∷◌, ◌≡◌, ◌≢◌}
+use Rattle.tj_words.proofs.Prelude.{MayClose, MayGive, MayHand, None, Option, Program, PutsOwner, Rec, Rule, SeatMe}
+use Rattle.tj_words.proofs.Prelude.{SeatsHave, Some, Sort, State, View, [], ap, arith, at_map, contents_of, drawn_in}
+use Rattle.tj_words.proofs.Prelude.{first_owner, gave_owner, gave_up, get_elem?, hand_of, held_in, hold, inl, inr, none}
+use Rattle.tj_words.proofs.Prelude.{noted, own_at, owner_in, owns_also, put, refl, seats_have, set, set-set, some, step}
+use Rattle.tj_words.proofs.Prelude.{subst, suc, sym, words_say, zero, ℕ, ◌<◌, ◌∙◌, ◌∷◌, ◌≡◌, ◌≢◌}
 use Rattle.tj_words.specs.Calls.OwnerViews.{IsOwnersSeat, MayPutOwner, closed_cell, handed_promise, owner_put}
 use Rattle.tj_words.proofs.Holders.HeldTasks.{none_some, one_some, hand_finds}
 use Rattle.tj_words.proofs.Stores.SeatContents.{seats_same}
 use Rattle.tj_words.proofs.Holders.TaskPlaces.{list_owned}
-use Rattle.tj_words.proofs.Holders.HeldChanges.{held_task}
 use Rattle.tj_words.proofs.Holders.NotedTasks.{noted_is, holder_seat}
 use Rattle.tj_words.proofs.Holders.NotedEntries.{noted_here, noted_else}
 use Rattle.tj_words.proofs.Waiters.LiveSteps.{backing_running, alarms_else}
@@ -21,65 +20,67 @@ use Rattle.tj_words.proofs.Stores.SeatLists.{back}
 use Rattle.tj_words.proofs.Stores.TableWords.{Own}
 use Rattle.tj_words.proofs.Stores.WordStores.{hand_here}
 use Rattle.tj_words.proofs.Cells.GivenCells.{give_stores}
-use Rattle.tj_words.proofs.Cells.ClosedCells.{closed, closed_keeps, closes_own, closes_promise, law_closed}
-use Rattle.tj_words.proofs.Cells.HandedPromises.{handed, handed_keeps, hands, law_handed}
+use Rattle.tj_words.proofs.Cells.ClosedCells.{GivesUp, closed, closed_keeps, closes_own, closes_promise, law_closed}
+use Rattle.tj_words.proofs.Cells.ClosedCells.{owned_here}
+use Rattle.tj_words.proofs.Cells.HandedPromises.{GivesChild, acting_other, handed, handed_keeps, hands, law_handed}
 use Rattle.tj_base.specs.declared.cell.Sort.TheVariants as sort
-use Rattle.tj_words.specs.declared.view.Does.TheVariants as does
-use Rattle.tj_words.specs.declared.offsets.Once.TheVariants as once
 
 module _ {B : Type 0} where
-  -- a task that acts isn't unborn
-  pub unborn_other : (v : View B) (c u : ℕ) (m : MayHand c u v) → u ≢ m.task
-  unborn_other v c u m e = by m.owner.custody.does (ap (λ (z : Custody B). z.does)
-      (one_some m.owner.custody m.child (sym m.owner.held ∙ (ap (held_in v.tasks) (sym e) ∙ m.child_held))) ∙ m.unborn)
-      m.owner.may
-    where
-      by : (d : Does) → d ≡ does.Unborn → MayAct d → ⊥
-      by d q a = subst MayAct q a
-
   -- the view between: the owner has given the cell up
   abbrev pub gave_view : ℕ → ℕ → View B → View B
   gave_view t c v = record v { tasks = noted t (gave_up c) v.tasks }
 
+  -- a task that acts isn't unborn
+  other_child : (v : View B) (c u : ℕ) (m : MayHand c u v) → u ≢ m.task
+  other_child v c u m = acting_other v.tasks m.task u m.owner.held m.owner.may m.child_held m.unborn
+
   pub gave_child : (v : View B) (c u : ℕ) (m : MayHand c u v) → held_in (gave_view m.task c v).tasks u ≡ Some m.child
   gave_child v c u m =
-      noted_else v.tasks m.task m.owner.custody (gave_up c) m.owner.held refl u (unborn_other v c u m) ∙ m.child_held
+      noted_else v.tasks m.task m.owner.custody (gave_up c) m.owner.held refl u (other_child v c u m) ∙ m.child_held
 
 module _ {B : Type 0} (program : Bool → B → Program B) (key : Key B) (s : State (Option (Rec B)) (View B))
-    (r : Rule program key s) (id c : ℕ) where
+    (r : Rule program key s) (id c : ℕ) (v : View B) (at : get_elem? s.views id ≡ some v) where
   abbrev x : Contents B
   x = contents_of s
 
   abbrev old : SeatsHave B
   old = seats_have s.views
 
+  pub dues : get_elem? old.dues id ≡ some v.dues
+  dues = at_map (λ (u : View B). u.dues) s.views id v at
+
+  pub tasks : get_elem? old.tasks id ≡ some v.tasks
+  tasks = at_map (λ (u : View B). u.tasks) s.views id v at
+
+  -- the owner gives the cell up
+  abbrev pub owner_gives : {t : ℕ} → IsOwnersSeat t c v → GivesUp x id t c
+  owner_gives o = record {
+    has = o.custody;
+    held = (v.tasks, tasks, o.held);
+    may = o.may;
+    out = o.out;
+    result = o.result;
+    owns = o.owns;
+  }
+
   -- the store of nobody
-  module _ (v : View B) (at : get_elem? s.views id ≡ some v) (m : MayClose c v) where
-    abbrev k : Custody B
-    k = m.owner.custody
+  module _ (m : MayClose c v) where
+    abbrev pub closes : GivesUp x id m.task c
+    closes = owner_gives m.owner
 
-    abbrev has : IsHeldWith x id m.task k
-    has = (v.tasks, at_map (λ (u : View B). u.tasks) s.views id v at, m.owner.held)
-
-    pub last_here : c ≡ m.task → (k.owned ≡ c ∷ []) × (get_elem? old.hands id ≡ some None)
+    pub last_here : c ≡ m.task → (m.owner.custody.owned ≡ c ∷ []) × (get_elem? old.hands id ≡ some None)
     last_here e = ((m.last e).0, at_map (λ (u : View B). u.hand) s.views id v at ∙ ap some (m.last e).1)
 
-    abbrev dues : get_elem? old.dues id ≡ some v.dues
-    dues = at_map (λ (u : View B). u.dues) s.views id v at
-
-    abbrev its : k.task ≡ m.task
-    its = held_task v.tasks m.task k m.owner.held
-
     abbrev after : Contents B
-    after = closed r.law id m.task c k has its m.owner.may m.owner.out m.owner.result m.owner.owns last_here v.dues dues
+    after = closed r.law closes last_here v.dues dues
 
     -- what the store leaves
-    pub closes : (n : ℕ) → owner_in n ≡ None → stored s id (Own c) n (closed_cell m.task c v) ≡ after
-    closes n is j = record {
+    pub closes_path : (n : ℕ) → owner_in n ≡ None → stored s id (Own c) n (closed_cell m.task c v) ≡ after
+    closes_path n is j = record {
       words = record (words_say s.words) { own = put (words_say s.words).own c (is j) };
       slots = s.homes;
       seats = record (seats_same s.views id v at j) {
-        tasks = set old.tasks id (noted_is v.tasks m.task k (gave_up c) m.owner.held j);
+        tasks = set old.tasks id (noted_is v.tasks m.task m.owner.custody (gave_up c) m.owner.held j);
         dues = set old.dues id (closed_cell m.task c v).dues;
       };
     }
@@ -88,47 +89,40 @@ module _ {B : Type 0} (program : Bool → B → Program B) (key : Key B) (s : St
     pub close_keeps : (y : Contents B) (n : ℕ) → owner_in n ≡ None → y ≡ stored s id (Own c) n (closed_cell m.task c v)
         → c ≢ m.task → Keeping key.cells x y (ClosesPromise key.cells x y id m.task c)
     close_keeps y n is e other = subst (λ z. Keeping key.cells x z (ClosesPromise key.cells x z id m.task c))
-        (sym (e ∙ closes n is)) (
-          closes_promise r.law id m.task c k has its m.owner.may m.owner.out m.owner.result m.owner.owns last_here
-              v.dues dues other,
-          closed_keeps r.law id m.task c k has its m.owner.may m.owner.out m.owner.result m.owner.owns last_here
-              v.dues dues,
+        (sym (e ∙ closes_path n is)) (
+          closes_promise r.law closes last_here v.dues dues other,
+          closed_keeps r.law closes last_here v.dues dues,
         )
 
     pub close_own_keeps : (y : Contents B) (n : ℕ) → owner_in n ≡ None
         → y ≡ stored s id (Own c) n (closed_cell m.task c v)
         → c ≡ m.task → Keeping key.cells x y (ClosesResult key.cells x y id c)
-    close_own_keeps y n is e own = back (λ j. Keeping key.cells x ((e ∙ closes n is) j)
-        (ClosesResult key.cells x ((e ∙ closes n is) j) id (own j))) (
-          closes_own r.law id m.task c k has its m.owner.may m.owner.out m.owner.result m.owner.owns last_here
-              v.dues dues own,
-          closed_keeps r.law id m.task c k has its m.owner.may m.owner.out m.owner.result m.owner.owns last_here
-              v.dues dues,
+    close_own_keeps y n is e own = back (λ j. Keeping key.cells x ((e ∙ closes_path n is) j)
+        (ClosesResult key.cells x ((e ∙ closes_path n is) j) id (own j))) (
+          closes_own r.law closes last_here v.dues dues own,
+          closed_keeps r.law closes last_here v.dues dues,
         )
 
   -- the store of a child
-  module _ (u : ℕ) (v : View B) (at : get_elem? s.views id ≡ some v) (m : MayHand c u v) where
+  module _ (u : ℕ) (m : MayHand c u v) where
     abbrev o : IsOwnersSeat m.task c v
     o = m.owner
 
-    abbrev held : IsHeldWith x id m.task o.custody
-    held = (v.tasks, at_map (λ (z : View B). z.tasks) s.views id v at, o.held)
-
-    pub is_parent : x.words.once u once.Parent ≡ suc m.task
-    is_parent = (r.law.once_words.stands id v.seen (at_map (λ (z : View B). z.seen) s.views id v at) _ m.is_child).value
-
-    abbrev dues_at : get_elem? old.dues id ≡ some v.dues
-    dues_at = at_map (λ (z : View B). z.dues) s.views id v at
-
-    abbrev owner_its : o.custody.task ≡ m.task
-    owner_its = held_task v.tasks m.task o.custody o.held
-
-    abbrev child_its : m.child.task ≡ u
-    child_its = held_task v.tasks u m.child m.child_held
+    abbrev pub gives_child : GivesChild x id m.task c u
+    gives_child = record {
+      gives = owner_gives o;
+      not_own = m.promise;
+      child = m.child;
+      child_held = m.child_held;
+      unborn = m.unborn;
+      child_out = m.child_out;
+      child_result = m.child_result;
+      its_parent = (r.law.once_words.stands id v.seen (at_map (λ (z : View B). z.seen) s.views id v at) _
+          m.is_child).value;
+    }
 
     abbrev after_hand : Contents B
-    after_hand = handed r.law id m.task c u o.custody held owner_its o.may o.out o.result o.owns m.promise v.dues
-        dues_at m.child m.child_held child_its m.unborn m.child_out m.child_result is_parent
+    after_hand = handed r.law gives_child
 
     list : (handed_promise m.task c u v).tasks ≡ hold (owns_also c m.child) (hold (gave_up c o.custody) v.tasks)
     list = noted_is (gave_view m.task c v).tasks u m.child (owns_also c) (gave_child v c u m)
@@ -149,17 +143,9 @@ module _ {B : Type 0} (program : Bool → B → Program B) (key : Key B) (s : St
         → y ≡ stored s id (Own c) n (handed_promise m.task c u v)
         → Keeping key.cells x y (HandsPromise key.cells x y id m.task c u)
     hand_keeps y n is e = subst (λ z. Keeping key.cells x z (HandsPromise key.cells x z id m.task c u))
-        (sym (e ∙ hands_path n is)) (
-          hands r.law id m.task c u o.custody held owner_its o.may o.out o.result o.owns m.promise v.dues dues_at
-              m.child m.child_held child_its m.unborn m.child_out m.child_result is_parent,
-          handed_keeps r.law id m.task c u o.custody held owner_its o.may o.out o.result o.owns m.promise v.dues dues_at
-              m.child m.child_held child_its m.unborn m.child_out m.child_result is_parent,
-        )
+        (sym (e ∙ hands_path n is)) (hands r.law gives_child, handed_keeps r.law gives_child)
 
 module _ {B : Type 0} (program : Bool → B → Program B) (key : Key B) (events : EventKeepsFacts) where
-  abbrev P : Program B
-  P = program key.strict key.root.value
-
   -- the seat of a cell's owner, with other tasks and dues
   owner_seat : (v : View B) (t c steps : ℕ) (ks : List (Custody B)) (ds : List Due) → IsOwnersSeat t c v → IsSeat key v
       → Backing (record v { steps = steps; tasks = ks; dues = ds })
@@ -185,11 +171,9 @@ module _ {B : Type 0} (program : Bool → B → Program B) (key : Key B) (events
       store_word program key s id (Own c) 0 w (let e = r.all_words in omega arith) (omega arith)
       (owner_seat v m.task c w.steps w.tasks w.dues m.owner (r.seats id v at)
       (gave_backing v m.task c w.steps w.dues m.owner (r.seats id v at).backing))
-      _ (closes program key s r id c v at m 0 refl)
-      (law_closed r.law id m.task c m.owner.custody
-      (v.tasks, at_map (λ (u : View B). u.tasks) s.views id v at, m.owner.held)
-      (held_task v.tasks m.task m.owner.custody m.owner.held) m.owner.may m.owner.out m.owner.result m.owner.owns
-      (last_here program key s r id c v at m) v.dues (at_map (λ (u : View B). u.dues) s.views id v at) events)
+      _ (closes_path program key s r id c v at m 0 refl)
+      (law_closed r.law (closes program key s r id c v at m) (last_here program key s r id c v at m) v.dues
+      (dues program key s r id c v at) events)
 
   -- the seat that hands a promise is backed
   handed_backing : (v : View B) (c u : ℕ) (m : MayHand c u v) → Backing v → Backing (handed_promise m.task c u v)
@@ -200,7 +184,7 @@ module _ {B : Type 0} (program : Bool → B → Program B) (key : Key B) (events
       backing_running w (
         m.task,
         gave_up c k,
-        else m.task (λ e. unborn_other v c u m (sym e))
+        else m.task (λ e. other_child v c u m (sym e))
             ∙ noted_here v.tasks m.task k (gave_up c) m.owner.held refl,
         tt,
       )
@@ -215,36 +199,31 @@ module _ {B : Type 0} (program : Bool → B → Program B) (key : Key B) (events
       → c < key.cells
       → (m : MayHand c u v)
       → Stores program key s id (own_at c) (suc u) (handed_promise m.task c u v)
-  hand_stores s r id c u v at l m = let w = handed_promise m.task c u v in let o = m.owner in
-      let tasks = at_map (λ (z : View B). z.tasks) s.views id v at in
-      let u_there = (list_owned r.law id u m.child (v.tasks, tasks, m.child_held) u m.child_result).0.0 in
+  hand_stores s r id c u v at l m = let w = handed_promise m.task c u v in
+      let held : IsHeldWith (contents_of s) id u m.child = (v.tasks, tasks program key s r id c v at, m.child_held) in
+      let u_there = (list_owned r.law id u m.child held u m.child_result).0.0 in
       store_word program key s id (Own c) (suc u) w (let e = r.all_words in omega arith) (omega arith)
-      (owner_seat v m.task c w.steps w.tasks w.dues o (r.seats id v at)
+      (owner_seat v m.task c w.steps w.tasks w.dues m.owner (r.seats id v at)
       (handed_backing v c u m (r.seats id v at).backing))
-      _ (hands_path program key s r id c u v at m (suc u) refl)
-      (law_handed r.law id m.task c u o.custody (v.tasks, tasks, o.held) (held_task v.tasks m.task o.custody o.held)
-      o.may o.out o.result o.owns m.promise v.dues (at_map (λ (z : View B). z.dues) s.views id v at) m.child
-      m.child_held (held_task v.tasks u m.child m.child_held) m.unborn m.child_out m.child_result
-      (is_parent program key s r id c u v at m) events)
+      _ (hands_path program key s r id c v at u m (suc u) refl)
+      (law_handed r.law (gives_child program key s r id c v at u m) v.dues (dues program key s r id c v at) events)
 
   -- a cell has one owner among the tasks of a seat
   one_owner : (s : State (Option (Rec B)) (View B)) (r : Rule program key s) (id c t u : ℕ) (v : View B)
       → get_elem? s.views id ≡ some v
       → IsOwnersSeat t c v → IsOwnersSeat u c v → t ≡ u
-  one_owner s r id c t u v at a b =
-      let tasks = at_map (λ (z : View B). z.tasks) s.views id v at in
-      one_some t u (sym (list_owned r.law id t a.custody (v.tasks, tasks, a.held) c a.owns).1
-      ∙ (list_owned r.law id u b.custody (v.tasks, tasks, b.held) c b.owns).1)
+  one_owner s r id c t u v at a b = one_some t u
+      (sym (owned_here r.law (owner_gives program key s r id c v at a)).1
+      ∙ (owned_here r.law (owner_gives program key s r id c v at b)).1)
 
   -- a cell in hand isn't in a list of those that a task owns
   not_given : (s : State (Option (Rec B)) (View B)) (r : Rule program key s) (id c t u : ℕ) (v : View B)
       → get_elem? s.views id ≡ some v
       → IsOwnersSeat t c v → MayGive c u v → ⊥
   not_given s r id c t u v at a g =
-      let tasks = at_map (λ (z : View B). z.tasks) s.views id v at in
       let hands = at_map (λ (z : View B). z.hand) s.views id v at ∙ ap some g.has in
       let f = hand_finds (seats_have s.views).hands id g.hand hands in
-      none_some (hand_of (contents_of s) c) f.0 (list_owned r.law id t a.custody (v.tasks, tasks, a.held) c a.owns).0.1
+      none_some (hand_of (contents_of s) c) f.0 (owned_here r.law (owner_gives program key s r id c v at a)).0.1
       (ap (hand_of (contents_of s)) (sym g.its_cell) ∙ f.1)
 
   -- the first owner of a cell is one of those that there are

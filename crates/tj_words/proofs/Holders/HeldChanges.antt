@@ -1,10 +1,11 @@
 -- A seat notes something else for a task that it holds: what of the law speaks of the lists of tasks is kept.
-use Rattle.tj_words.proofs.Prelude.{AreThere, Bool, CellId, Contents, Custody, Does, HasAlarmed, IsCustody, IsHeldWith}
-use Rattle.tj_words.proofs.Prelude.{IsIn, IsKept, IsLaid, IsThere, Law, List, None, OfSeat, Option, Phase, Program, Rec}
-use Rattle.tj_words.proofs.Prelude.{Some, Walk, Way, [], ap, cond, dite, does_cells, drawn_in, eq-eqb, find_in, hand_of}
-use Rattle.tj_words.proofs.Prelude.{held_in, held_of, hold, home_of, inl, inr, let_go, made_by, made_of, making, ne_eqb}
-use Rattle.tj_words.proofs.Prelude.{phase_of, phase_sort, put, put_here, refl, set, subst, sym, ℕ, ℕ_discrete, ⊎_elim}
-use Rattle.tj_words.proofs.Prelude.{◌+◌, ◌∙◌, ◌∷◌, ◌≡◌, ◌≢◌}
+use Rattle.tj_words.proofs.Prelude.{AreThere, Bool, CellId, Contents, Custody, Does, Hand, HasAlarmed, IsCustody}
+use Rattle.tj_words.proofs.Prelude.{IsHeldWith, IsIn, IsKept, IsLaid, IsThere, Law, List, None, OfSeat, Option, Phase}
+use Rattle.tj_words.proofs.Prelude.{Program, Rec, Slots, Some, Walk, Way, [], ap, cond, dite, does_cells, drawn_in}
+use Rattle.tj_words.proofs.Prelude.{eq-eqb, find_in, get_elem?, hand_of, held_in, held_of, hold, home_in, home_of, inl}
+use Rattle.tj_words.proofs.Prelude.{inr, let_go, made_by, made_of, making, ne_eqb, owned_by, owned_of, phase_of}
+use Rattle.tj_words.proofs.Prelude.{phase_sort, put, put_here, record_cells, refl, set, some, subst, sym, ℕ, ℕ_discrete}
+use Rattle.tj_words.proofs.Prelude.{⊎_elim, ◌+◌, ◌∙◌, ◌∷◌, ◌≡◌, ◌≢◌}
 use Rattle.tj_words.proofs.Stores.SeatLists.{of_seat_here}
 use Rattle.tj_words.proofs.Holders.HeldTasks.{none_some, one_some}
 use Rattle.tj_words.proofs.Holders.TaskPlaces.{custody, held_here}
@@ -55,7 +56,13 @@ module _ {B : Type 0} {program : Program B} {cells : ℕ} {x : Contents B} (r : 
   pub found_held : find_in tasks' ≡ put (held_of x) t (Some k')
   found_held = put_is (held_of x) (find_in tasks') t (Some k') find_here find_else
 
-  -- and so is how many things each has made
+  -- and so is what each owns
+  pub owned_held : (λ u. owned_by (find_in tasks' u) (home_of x u)) ≡ put (owned_of x) t k'.owned
+  owned_held = put_is (owned_of x) (λ u. owned_by (find_in tasks' u) (home_of x u)) t k'.owned
+      (ap (λ (o : Option (Custody B)). owned_by o (home_of x t)) find_here)
+      (λ u n. ap (λ (o : Option (Custody B)). owned_by o (home_of x u)) (find_else u n))
+
+  -- and how many things each has made
   pub made_held : k'.made ≡ k.made → (u : ℕ)
       → made_by (find_in tasks' u) (home_of x u) + making x.seats.hands u ≡ made_of x u
   made_held e u = dite (ℕ_discrete u t)
@@ -64,19 +71,22 @@ module _ {B : Type 0} {program : Program B} {cells : ℕ} {x : Contents B} (r : 
       ∙ (e ∙ sym (ap (λ (o : Option (Custody B)). made_by o (home_of x t)) (held_here r id t k h))))))
       (λ n. ap (λ (o : Option (Custody B)). made_by o (home_of x u) + making x.seats.hands u) (find_else u n))
 
-  -- so the task moves, where PHASE of it is as the seat has it, and that of each other cell as before
-  pub hold_move : (phases : ℕ → Phase) → ((u : ℕ) → u ≢ t → phases u ≡ x.words.phase u) → phases t ≡ phase_of k'.does
+  -- so the task moves, where PHASE of it is as the seat has it, that of each other cell as before, and each other slot
+  pub hold_move : (slots : Slots B) → ((u : ℕ) → u ≢ t → get_elem? slots u ≡ get_elem? x.slots u)
+      → ((y : Rec B) → home_in slots t ≡ Some y → AreThere (drawn_in cells x) (hand_of x) (record_cells y)
+      × (y.cell.0 ≡ t))
+      → (phases : ℕ → Phase) → ((u : ℕ) → u ≢ t → phases u ≡ x.words.phase u) → phases t ≡ phase_of k'.does
       → IsThere (drawn_in cells x) (hand_of x) t
       → ((p : CellId) (way : Way) (w : Walk) → phases t ≡ phase.Waiting p way w
       → IsThere (drawn_in cells x) (hand_of x) p.0 × (x.words.own t ≢ None))
       → AreThere (drawn_in cells x) (hand_of x) (does_cells k'.does)
       → k'.made ≡ k.made
-      → (k.home ≡ None → k'.home ≡ None)
-      → (HasAlarmed k'.does → home_of x t ≡ None)
-      → ((c : Rec B) → k'.home ≡ Some c → IsLaid k' (home_of x t) c)
-      → (k'.home ≡ None → home_of x t ≡ None)
-      → TaskMove r id t phases h.0 (hold k' h.0) x.slots
-  hold_move phases same now there waits named made out alarmed laid bare = record {
+      → ((g : Hand) → get_elem? x.seats.hands id ≡ some (Some g) → g.maker ≡ t → k.home ≡ None → k'.home ≡ None)
+      → (HasAlarmed k'.does → home_in slots t ≡ None)
+      → ((c : Rec B) → k'.home ≡ Some c → IsLaid k' (home_in slots t) c)
+      → (k'.home ≡ None → home_in slots t ≡ None)
+      → TaskMove r id t phases h.0 (hold k' h.0) slots
+  hold_move slots apart lies phases same now there waits named made out alarmed laid bare = record {
     at = h.1;
     same = else;
     mine = λ j e. one_some j id (sym e ∙ (custody r id t k h).mine);
@@ -88,17 +98,17 @@ module _ {B : Type 0} {program : Program B} {cells : ℕ} {x : Contents B} (r : 
     makers = λ g e q. let w = (r.hands.each id g e).maker_held in
         let its : k ≡ w.2.0 = one_some k w.2.0 (sym (held_here r id t k h)
         ∙ (ap (held_of x) (sym q) ∙ held_here r id g.maker w.2.0 (w.0, w.1, w.2.1))) in
-        (k', here, out (ap (λ (z : Custody B). z.home) its ∙ w.2.2));
-    apart = λ u d. refl;
-    lies = λ y e. (r.names.records t y e, r.custody.own_slots t y e);
+        (k', here, out g e q (ap (λ (z : Custody B). z.home) its ∙ w.2.2));
+    apart = apart;
+    lies = lies;
     walks = λ z i. ⊎_elim
         (λ (e : z ≡ k'). subst (λ (q : Custody B). AreThere (drawn_in cells x) (hand_of x) (does_cells q.does)) (sym e)
         named)
         (λ (j : IsIn z (let_go k'.task h.0)). r.names.walks id h.0 h.1 z (let_go_in k'.task h.0 z j)) i;
-    made = ap (λ (o : Option (Custody B)). made_by o (home_of x t)) here ∙ (made ∙ made_held_by r id t k h);
+    made = ap (λ (o : Option (Custody B)). made_by o (home_in slots t)) here ∙ (made ∙ made_held_by r id t k h);
     holder = Some id;
-    kept = subst (λ p. IsKept p (Some id) (home_of x t)) (sym now) (kept k'.does alarmed);
-    custody = λ a e. subst (IsCustody (put r.custody.holder t (Some id)) phases (home_of x) id t)
+    kept = subst (λ p. IsKept p (Some id) (home_in slots t)) (sym now) (kept k'.does alarmed);
+    custody = λ a e. subst (IsCustody (put r.custody.holder t (Some id)) phases (home_in slots) id t)
         (one_some k' a (sym here ∙ e)) record {
           mine = put_here r.custody.holder t (Some id);
           does = now;
@@ -110,7 +120,7 @@ module _ {B : Type 0} {program : Program B} {cells : ℕ} {x : Contents B} (r : 
         (k', here));
   }
     where
-      kept : (d : Does) → (HasAlarmed d → home_of x t ≡ None) → IsKept (phase_of d) (Some id) (home_of x t)
+      kept : (d : Does) → (HasAlarmed d → home_in slots t ≡ None) → IsKept (phase_of d) (Some id) (home_in slots t)
       kept does.Unborn a = (id, refl)
       kept does.Fresh a = (id, refl)
       kept does.Running a = (id, refl)

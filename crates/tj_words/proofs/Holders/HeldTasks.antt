@@ -8,6 +8,11 @@ use Rattle.tj_words.proofs.Prelude.{true, zero, ℕ, ℕ_discrete, ⊎_elim, ◌
 pub none_some : {A : Type 0} {Z : Type 0} (o : Option A) (a : A) → o ≡ None → o ≡ Some a → Z
 none_some o a e q = let d : None ≡ Some a = sym e ∙ q in absurd (cc)
 
+-- what can't be something is nothing
+pub none_unless : {A : Type 0} (o : Option A) → ((a : A) → o ≢ Some a) → o ≡ None
+none_unless None n = refl
+none_unless (Some a) n = absurd (n a refl)
+
 -- one thing at most
 pub one_some : {A : Type 0} (a b : A) → Some a ≡ Some b → a ≡ b
 one_some a b e = cc

@@ -1,10 +1,10 @@
 -- A record that a seat put into the slot that it took last comes home: what the seat's view and the law say of it.
-use Rattle.tj_words.proofs.Prelude.{AreThere, Bool, CellId, Contents, Custody, Hand, IsHeldWith, IsIn, IsKept}
-use Rattle.tj_words.proofs.Prelude.{IsRecordIn, IsThere, IsToldRecord, Key, LiesAtHome, Option, Phase, Program, Rec}
-use Rattle.tj_words.proofs.Prelude.{RecordsFit, Rule, SeatsHave, Slots, SlotsOf, Some, State, View, Walk, Way, arith}
-use Rattle.tj_words.proofs.Prelude.{at_map, contents_of, drawn_in, get_elem?, hand_of, held_in, home_in, home_of, inl}
-use Rattle.tj_words.proofs.Prelude.{length, length-set, phase_sort, record_cells, refl, seats_have, set, set_else, some}
-use Rattle.tj_words.proofs.Prelude.{some-injective, subst, sym, tag_in, ℕ, ◌<◌, ◌∙◌, ◌≡◌, ◌≢◌}
+use Rattle.tj_words.proofs.Prelude.{AreThere, Bool, CellId, Contents, Custody, Hand, IsIn, IsKept, IsRecordIn, IsThere}
+use Rattle.tj_words.proofs.Prelude.{IsToldRecord, Key, LiesAtHome, Option, Phase, Program, Rec, RecordsFit, Rule}
+use Rattle.tj_words.proofs.Prelude.{SeatsHave, Slots, SlotsOf, Some, State, View, Walk, Way, arith, at_map, contents_of}
+use Rattle.tj_words.proofs.Prelude.{drawn_in, get_elem?, hand_of, held_in, home_in, home_of, inl, length, length-set}
+use Rattle.tj_words.proofs.Prelude.{phase_sort, record_cells, refl, seats_have, set, set_else, some, some-injective}
+use Rattle.tj_words.proofs.Prelude.{subst, sym, tag_in, ℕ, ◌<◌, ◌∙◌, ◌≡◌, ◌≢◌}
 use Rattle.tj_words.specs.Calls.PutRecords.{PutsHome}
 use Rattle.tj_words.proofs.Holders.HomeSlots.{home_laid, home_else_laid}
 use Rattle.tj_words.proofs.Holders.RecordSteps.{laid_fit}
@@ -47,9 +47,6 @@ module _ {B : Type 0} (program : Bool → B → Program B) (key : Key B) (s : St
 
     pub else_home : (u : ℕ) → u ≢ t → home_in laid_slots u ≡ home_of x u
     else_home u m = home_else_laid s.homes t c u m
-
-    abbrev has_it : IsHeldWith x id t k
-    has_it = (v.tasks, tasks_at, held)
 
     pub cells_there : AreThere (drawn_in key.cells x) (hand_of x) (record_cells c)
     cells_there d i = r.law.names.knows id v.known (at_map (λ (u : View B). u.known) s.views id v at) d (puts.knows d i)

@@ -1,11 +1,11 @@
 -- What is found for a task after one seat's list of tasks has changed.
 use Rattle.tj_words.proofs.Prelude.{Bool, Contents, Custody, IsHeldWith, Law, List, None, Option, Program, Some, [], ap}
 use Rattle.tj_words.proofs.Prelude.{at_put, cond, dite, eq-eqb, false, find_in, get_elem?, held_in, held_of, hold}
-use Rattle.tj_words.proofs.Prelude.{home_of, let_go, made_by, nat_eq, ne_eqb, or_else, put, put_else, put_here, refl}
-use Rattle.tj_words.proofs.Prelude.{set, some, some-injective, some-ne-none, subst, suc, sym, true, zero, ℕ, ℕ_discrete}
-use Rattle.tj_words.proofs.Prelude.{◌∙◌, ◌∷◌, ◌≡◌, ◌≢◌}
+use Rattle.tj_words.proofs.Prelude.{home_of, let_go, made_by, nat_eq, ne_eqb, or_else, owned_by, owned_of, put}
+use Rattle.tj_words.proofs.Prelude.{put_else, put_here, refl, set, some, some-injective, some-ne-none, subst, suc, sym}
+use Rattle.tj_words.proofs.Prelude.{true, zero, ℕ, ℕ_discrete, ◌∙◌, ◌∷◌, ◌≡◌, ◌≢◌}
 use Rattle.tj_words.proofs.Holders.HeldTasks.{none_some, one_some}
-use Rattle.tj_words.proofs.Holders.TaskPlaces.{custody, held_here}
+use Rattle.tj_words.proofs.Holders.TaskPlaces.{custody, has_none, held_here}
 
 -- a column that is this at one index, and as it was elsewhere
 pub put_is : {A : Type 0} (f g : ℕ → A) (i : ℕ) (a : A) → g i ≡ a → ((j : ℕ) → j ≢ i → g j ≡ f j) → g ≡ put f i a
@@ -112,18 +112,10 @@ module _ {B : Type 0} where
   module _ {program : Program B} {cells : ℕ} {x : Contents B} (r : Law program cells x) where
     -- no other seat has something for a task that this one holds, or that is held by nobody
     pub held_alone : (id t : ℕ) → (r.custody.holder t ≡ Some id) → IsAlone x.seats.tasks id t
-    held_alone id t h j m n e = by (held_in m t) refl
-      where
-        by : (o : Option (Custody B)) → held_in m t ≡ o → o ≡ None
-        by None q = refl
-        by (Some k) q = absurd (n (one_some j id (sym (r.custody.held j m e t k q).mine ∙ h)))
+    held_alone id t h j m n e = has_none r j t m e (λ q. n (one_some j id (sym q ∙ h)))
 
     pub free_alone : (id t : ℕ) → (r.custody.holder t ≡ None) → IsAlone x.seats.tasks id t
-    free_alone id t h j m n e = by (held_in m t) refl
-      where
-        by : (o : Option (Custody B)) → held_in m t ≡ o → o ≡ None
-        by None q = refl
-        by (Some k) q = none_some (r.custody.holder t) j h (r.custody.held j m e t k q).mine
+    free_alone id t h j m n e = has_none r j t m e (λ q. none_some (r.custody.holder t) j h q)
 
     -- what is found once a seat has let a task go
     pub let_go_held : (id t : ℕ) (k : Custody B) (h : IsHeldWith x id t k)
@@ -132,7 +124,10 @@ module _ {B : Type 0} where
         find_put x.seats.tasks id t h.0 (let_go t h.0) h.1 (held_alone id t (custody r id t k h).mine)
         (λ u n. let_go_else t u h.0 n) ∙ ap (put (held_of x) t) (let_go_here t h.0)
 
-    -- a task of a seat has made as many things as what the seat has for it says
-    pub made_held_by : (id t : ℕ) (k : Custody B) (h : IsHeldWith x id t k)
-        → k.made ≡ made_by (held_of x t) (home_of x t)
-    made_held_by id t k h = sym (ap (λ (o : Option (Custody B)). made_by o (home_of x t)) (held_here r id t k h))
+    -- a task of a seat has made as many things as what the seat has for it says, and owns what that says
+    module _ (id t : ℕ) (k : Custody B) (h : IsHeldWith x id t k) where
+      pub made_held_by : k.made ≡ made_by (held_of x t) (home_of x t)
+      made_held_by = sym (ap (λ (o : Option (Custody B)). made_by o (home_of x t)) (held_here r id t k h))
+
+      pub owned_held_by : k.owned ≡ owned_of x t
+      owned_held_by = sym (ap (λ (o : Option (Custody B)). owned_by o (home_of x t)) (held_here r id t k h))

@@ -1,17 +1,17 @@
 -- One task moves: what its seat has for it, its record at home and its phase are changed, and nothing of other tasks.
 -- The law after that.
 use Rattle.tj_words.proofs.Prelude.{All, AreThere, Births, CellId, Chains, Contents, CoreFacts, Custodies, Custody}
-use Rattle.tj_words.proofs.Prelude.{Each, Filled, Hand, Hands, IsCustody, IsKept, IsMoved, IsThere, Law, List}
-use Rattle.tj_words.proofs.Prelude.{LiveCount, Meaning, NamesCells, None, OfSeat, Option, OwnedLists, Phase, Program}
-use Rattle.tj_words.proofs.Prelude.{Push, Rec, RecordsFit, Reference, Rest, Slots, Some, WaitersOwn, Walk, Way, ap}
+use Rattle.tj_words.proofs.Prelude.{Each, Hand, Hands, IsCustody, IsKept, IsMoved, IsThere, Law, List, LiveCount}
+use Rattle.tj_words.proofs.Prelude.{Meaning, None, OfSeat, OnceWords, Option, OwnedLists, Phase, Program, Rec}
+use Rattle.tj_words.proofs.Prelude.{RecordsFit, SeatsHave, Slots, Some, TreeWords, WaitersOwn, Walk, Way, WordsSay, ap}
 use Rattle.tj_words.proofs.Prelude.{arith, bits_in, core_shown, dite, does_cells, drawn_in, find_in, get_elem?, hand_of}
 use Rattle.tj_words.proofs.Prelude.{held_in, held_of, home_in, home_of, made_by, making, owned_by, owned_of, parts_of}
 use Rattle.tj_words.proofs.Prelude.{phase_sort, put, put_else, put_here, record_cells, record_in, refl, set, some}
 use Rattle.tj_words.proofs.Prelude.{sort_shown, subst, sym, tag_in, total, ℕ, ℕ_discrete, ◌+◌, ◌∙◌, ◌≡◌, ◌≢◌, ◌≤◌}
 use Rattle.tj_words.proofs.Cells.HandChanges.{births_on}
 use Rattle.tj_words.proofs.Holders.HeldTasks.{hand_finds, none_some}
-use Rattle.tj_words.proofs.Holders.SeatTasks.{find_changed, find_same, put_is, at_two}
-use Rattle.tj_words.proofs.Holders.TaskPlaces.{hand_seat}
+use Rattle.tj_words.proofs.Holders.SeatTasks.{find_put, put_is, at_two}
+use Rattle.tj_words.proofs.Holders.TaskPlaces.{hand_seat, has_none}
 use Rattle.tj_words.proofs.Phases.PhaseSorts.{sorts_same}
 use Rattle.tj_words.proofs.Stores.SeatLists.{back, each_else, each_set, of_seat_set}
 use Rattle.tj_base.specs.declared.cell.Sort.TheVariants as sort
@@ -51,12 +51,12 @@ module _ {B : Type 0} {program : Program B} {cells : ℕ} {x : Contents B} (r : 
         → IsCustody (put r.custody.holder t holder) phases (home_in slots) id t k
     pub holds : (j : ℕ) → holder ≡ Some j → OfSeat (Has t) (set x.seats.tasks id new) j
 
-  module _ (id t : ℕ) (phases : ℕ → Phase) (ks new : List (Custody B)) (slots : Slots B)
+  module _ {id t : ℕ} {phases : ℕ → Phase} {ks new : List (Custody B)} {slots : Slots B}
       (m : TaskMove id t phases ks new slots) where
     abbrev after : List (List (Custody B))
     after = set x.seats.tasks id new
 
-    homes : (u : ℕ) → u ≢ t → home_in slots u ≡ home_of x u
+    pub homes : (u : ℕ) → u ≢ t → home_in slots u ≡ home_of x u
     homes u d = ap record_in (m.apart u d)
 
     home_column : home_in slots ≡ put (home_of x) t (home_in slots t)
@@ -64,16 +64,7 @@ module _ {B : Type 0} {program : Program B} {cells : ℕ} {x : Contents B} (r : 
 
     -- what is found for each task
     held_column : find_in after ≡ put (held_of x) t (held_in new t)
-    held_column = put_is (held_of x) (find_in after) t (held_in new t)
-        (find_changed x.seats.tasks id t ks new m.at alone)
-        (λ u d. find_same x.seats.tasks id u ks new m.at (m.same u d))
-      where
-        alone : (j : ℕ) (l : List (Custody B)) → j ≢ id → get_elem? x.seats.tasks j ≡ some l → held_in l t ≡ None
-        alone j l d e = by (held_in l t) refl
-          where
-            by : (o : Option (Custody B)) → held_in l t ≡ o → o ≡ None
-            by None q = refl
-            by (Some k) q = absurd (d (m.mine j (r.custody.held j l e t k q).mine))
+    held_column = find_put x.seats.tasks id t ks new m.at (λ j l d e. has_none r j t l e (λ q. d (m.mine j q))) m.same
 
     -- what is read of what a seat has for a task, or else of its record, is as before where it is for t
     reads_same : {A : Type 0} (f : Option (Custody B) → Option (Rec B) → A)
@@ -109,19 +100,7 @@ module _ {B : Type 0} {program : Program B} {cells : ℕ} {x : Contents B} (r : 
     moved_walks = each_set (λ j l. All (λ (k : Custody B). AreThere n (hand_of x) (does_cells k.does)) l) x.seats.tasks
         id new r.names.walks m.walks
 
-    moved_names : (known : List (List ℕ)) → Each (λ j l. AreThere n (hand_of x) l) known
-        → NamesCells n (hand_of x) x.words.own phases (home_in slots) after known
-    moved_names known knows = record {
-      owned = r.names.owned;
-      waits = λ u p way w e. dite (ℕ_discrete u t) (λ z. (m.waits p way w (ap phases (sym z) ∙ e)).0)
-          (λ d. r.names.waits u p way w (sym (m.else u d) ∙ e));
-      records = λ u y e. dite (ℕ_discrete u t) (λ z. (m.lies y (ap (home_in slots) (sym z) ∙ e)).0)
-          (λ d. r.names.records u y (sym (homes u d) ∙ e));
-      walks = moved_walks;
-      knows = knows;
-    }
-
-    moved_births : Births n r.born r.maker r.number
+    pub moved_births : Births n r.born r.maker r.number
         (λ u. made_by (find_in after u) (home_in slots u) + making x.seats.hands u) (hand_of x) phases
     moved_births = births_on r.births (λ c h. h)
         (sorts_same (hand_of x) x.words.phase phases t m.there.1 m.was_task m.is_task m.else)
@@ -131,7 +110,7 @@ module _ {B : Type 0} {program : Program B} {cells : ℕ} {x : Contents B} (r : 
         → (λ u. owned_by (find_in after u) (home_in slots u)) ≡ owned_of x
     owned_same e j u = reads_same owned_by e u j
 
-    undrawn_else : (u : ℕ) → n ≤ u → u ≢ t
+    pub undrawn_else : (u : ℕ) → n ≤ u → u ≢ t
     undrawn_else u l z = let d = m.there.0 in omega arith
 
     pub moved_custody : Custodies cells n (hand_of x) phases slots after
@@ -188,24 +167,76 @@ module _ {B : Type 0} {program : Program B} {cells : ℕ} {x : Contents B} (r : 
         (λ z. subst (λ i. x.words.own i ≢ None) (sym z) (m.waits p way w (ap phases (sym z) ∙ e)).1)
         (λ d. r.waiters_own u p way w (sym (m.else u d) ∙ e))
 
-    -- the contents after it, with what else is changed
-    module _ (live others : ℕ) (known : List (List ℕ)) (tokens cleared : List ℕ) (born_seen : List (List Reference))
-        (filled : List (List Filled)) (pushes : List (List Push)) (rests : List (Option Rest)) where
+    -- the contents after it, with this OWN, and with what else these words and seats have changed
+    abbrev pub owners_moved : (ℕ → Option ℕ) → WordsSay → SeatsHave B → Contents B
+    owners_moved own words seats = record {
+      words = record x.words { live = words.live; others = words.others; own = own; phase = phases };
+      slots = slots;
+      seats = record x.seats {
+        tokens = seats.tokens;
+        cleared = seats.cleared;
+        tasks = after;
+        known = seats.known;
+        born_seen = seats.born_seen;
+        filled = seats.filled;
+        dues = seats.dues;
+        pushes = seats.pushes;
+        rests = seats.rests;
+      };
+    }
+
+    -- the law after it, of which the caller shows what the kind of step decides
+    abbrev pub law_owners : (own : ℕ → Option ℕ) (words : WordsSay) (seats : SeatsHave B)
+        → ((c u : ℕ) → own c ≡ Some u → IsThere n (hand_of x) c × IsThere n (hand_of x) u)
+        → Each (λ j l. AreThere n (hand_of x) l) seats.known
+        → TreeWords n r.born r.maker r.number r.forks (hand_of x) x.words.once seats.dues
+        → OwnedLists n (hand_of x) own (λ u. owned_by (find_in after u) (home_in slots u))
+        → OnceWords n (hand_of x) x.seats.hands own x.words.once x.seats.seen seats.dues
+        → Chains (tag_in x) x.words.head x.words.next phases seats.pushes x.seats.shuts seats.rests x.seats.closed
+        x.seats.found
+        → LiveCount cells words.live phases seats.tokens x.seats.rested
+        → WaitersOwn own phases
+        → RecordsFit (tag_in x) phases (home_in slots)
+        → Meaning program cells x.words.count x.words.stop n (hand_of x) r.born (tag_in x) (bits_in x) (home_in slots)
+        seats.born_seen x.seats.wrote seats.filled
+        → CoreFacts (core_shown cells r.born r.maker (owners_moved own words seats))
+        → Law program cells (owners_moved own words seats)
+    law_owners own words seats owners knows tree owned once chains count waiters fit meaning facts = record {
+      born = r.born;
+      maker = r.maker;
+      number = r.number;
+      forks = r.forks;
+      lots = r.lots;
+      hands = moved_hands;
+      names = record {
+        owned = owners;
+        waits = λ u p way w e. dite (ℕ_discrete u t) (λ z. (m.waits p way w (ap phases (sym z) ∙ e)).0)
+            (λ d. r.names.waits u p way w (sym (m.else u d) ∙ e));
+        records = λ u y e. dite (ℕ_discrete u t) (λ z. (m.lies y (ap (home_in slots) (sym z) ∙ e)).0)
+            (λ d. r.names.records u y (sym (homes u d) ∙ e));
+        walks = moved_walks;
+        knows = knows;
+      };
+      births = moved_births;
+      tree = r.tree;
+      tree_words = tree;
+      custody = moved_custody;
+      owned = owned;
+      once_words = once;
+      chains = chains;
+      live_count = count;
+      stops = r.stops;
+      waiters_own = waiters;
+      records_fit = fit;
+      meaning = meaning;
+      undrawn = λ c l. m.else c (undrawn_else c l) ∙ r.undrawn c l;
+      facts = facts;
+    }
+
+    -- where no owner is changed
+    module _ (words : WordsSay) (seats : SeatsHave B) where
       abbrev pub task_moved : Contents B
-      task_moved = record {
-        words = record x.words { live = live; others = others; phase = phases };
-        slots = slots;
-        seats = record x.seats {
-          tokens = tokens;
-          cleared = cleared;
-          tasks = set x.seats.tasks id new;
-          known = known;
-          born_seen = born_seen;
-          filled = filled;
-          pushes = pushes;
-          rests = rests;
-        };
-      }
+      task_moved = owners_moved x.words.own words (record seats { dues = x.seats.dues })
 
       -- the task moves
       pub task_moves : (q : Phase) (held : Option (Custody B)) (home : Option (Rec B))
@@ -216,41 +247,22 @@ module _ {B : Type 0} {program : Program B} {cells : ℕ} {x : Contents B} (r : 
           phase = put_is x.words.phase phases t q a m.else j;
           held = (held_column ∙ ap (put (held_of x) t) b) j;
           home = (home_column ∙ ap (put (home_of x) t) c) j;
-          others = others;
-          cleared = total cleared;
+          others = words.others;
+          cleared = total seats.cleared;
         };
       }
 
-      -- the law after it, of which the caller shows what the kind of step decides
       pub law_task : owned_by (held_in new t) (home_in slots t) ≡ owned_of x t
-          → Each (λ j l. AreThere n (hand_of x) l) known
-          → Chains (tag_in x) x.words.head x.words.next phases pushes x.seats.shuts rests x.seats.closed x.seats.found
-          → LiveCount cells live phases tokens x.seats.rested
+          → Each (λ j l. AreThere n (hand_of x) l) seats.known
+          → Chains (tag_in x) x.words.head x.words.next phases seats.pushes x.seats.shuts seats.rests x.seats.closed
+          x.seats.found
+          → LiveCount cells words.live phases seats.tokens x.seats.rested
           → RecordsFit (tag_in x) phases (home_in slots)
-          → Meaning program cells x.words.count x.words.stop n (hand_of x) r.born (tag_in x) (bits_in x) (home_in slots)
-          born_seen x.seats.wrote filled
+          → Meaning program cells x.words.count x.words.stop n (hand_of x) r.born (tag_in x) (bits_in x)
+          (home_in slots) seats.born_seen x.seats.wrote seats.filled
           → CoreFacts (core_shown cells r.born r.maker task_moved)
           → Law program cells task_moved
-      law_task owned knows chains count fit meaning facts = record {
-        born = r.born;
-        maker = r.maker;
-        number = r.number;
-        forks = r.forks;
-        lots = r.lots;
-        hands = moved_hands;
-        names = moved_names known knows;
-        births = moved_births;
-        tree = r.tree;
-        tree_words = r.tree_words;
-        custody = moved_custody;
-        owned = subst (OwnedLists n (hand_of x) x.words.own) (sym (owned_same owned)) r.owned;
-        once_words = r.once_words;
-        chains = chains;
-        live_count = count;
-        stops = r.stops;
-        waiters_own = moved_waiters;
-        records_fit = fit;
-        meaning = meaning;
-        undrawn = λ c l. m.else c (undrawn_else c l) ∙ r.undrawn c l;
-        facts = facts;
-      }
+      law_task owned knows chains count = law_owners x.words.own words (record seats { dues = x.seats.dues })
+          r.names.owned knows r.tree_words
+          (subst (OwnedLists n (hand_of x) x.words.own) (sym (owned_same owned)) r.owned) r.once_words chains count
+          moved_waiters

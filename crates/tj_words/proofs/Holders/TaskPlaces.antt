@@ -1,11 +1,12 @@
 -- Where a task is and what the core state shows of it, under the law.
-use Rattle.tj_words.proofs.Prelude.{Bool, CellStage, Contents, CoreState, Custody, Does, Hand, IsBegun, IsCustody}
-use Rattle.tj_words.proofs.Prelude.{IsHeldWith, IsIn, IsThere, Law, None, Option, Program, Rec, Some, alarmed, ap}
-use Rattle.tj_words.proofs.Prelude.{arith, cell, core_shown, dec_le, dite, drawn_in, false, get_elem?, hand_in, hand_of}
-use Rattle.tj_words.proofs.Prelude.{hand_phase, held_in, held_of, home_of, new_stage, owned_by, owned_of, parts_of}
-use Rattle.tj_words.proofs.Prelude.{phase_of, phase_sort, raised, refl, running, some, some-injective, stage}
-use Rattle.tj_words.proofs.Prelude.{stage_there, subst, sym, true, waits, walks, ℕ, ◌<◌, ◌∙◌, ◌≡◌, ◌≤◌}
-use Rattle.tj_words.proofs.Holders.HeldTasks.{none_some, one_some, found, finds, hand_found}
+use Rattle.tj_words.proofs.Prelude.{AreThere, Bool, CellStage, Contents, CoreState, Custody, Does, Hand, IsBegun}
+use Rattle.tj_words.proofs.Prelude.{IsCustody, IsHeldWith, IsIn, IsThere, Law, List, None, Option, Program, Rec, Some}
+use Rattle.tj_words.proofs.Prelude.{alarmed, ap, arith, cell, core_shown, dec_le, dite, drawn_in, false, get_elem?}
+use Rattle.tj_words.proofs.Prelude.{hand_in, hand_of, hand_phase, held_in, held_of, home_of, new_stage, owned_by}
+use Rattle.tj_words.proofs.Prelude.{owned_of, parts_of, phase_of, phase_sort, raised, record_cells, refl, running, some}
+use Rattle.tj_words.proofs.Prelude.{some-injective, stage, stage_there, subst, sym, true, waits, walks, ℕ, ◌<◌, ◌∙◌}
+use Rattle.tj_words.proofs.Prelude.{◌≡◌, ◌≢◌, ◌≤◌}
+use Rattle.tj_words.proofs.Holders.HeldTasks.{none_some, none_unless, one_some, found, finds, hand_found}
 use Rattle.tj_words.proofs.Events.ShownCells.{stage_out}
 use Rattle.tj_base.specs.declared.cell.Sort.TheVariants as sort
 use Rattle.tj_words.specs.declared.phase.Walk.TheVariants as walk
@@ -49,18 +50,14 @@ module _ {B : Type 0} where
     begun_drawn t b = dite (dec_le n t) (λ (l : n ≤ t). absurd (subst IsBegun (r.undrawn t l) b)) (λ l. omega arith)
 
     pub begun_out : (t : ℕ) → IsBegun (x.words.phase t) → hand_in x.seats.hands t ≡ None
-    begun_out t b = by (hand_in x.seats.hands t) refl
+    begun_out t b = none_unless (hand_in x.seats.hands t) (λ h e.
+        let f = hand_found x.seats.hands t h e in
+        let i = r.hands.each f.0.0 h f.0.1 in
+        unbegun h.marked (subst IsBegun (ap x.words.phase (sym f.1) ∙ i.marked) b))
       where
         unbegun : (m : Bool) → IsBegun (hand_phase m) → ⊥
         unbegun true h = h
         unbegun false h = h
-
-        by : (o : Option Hand) → hand_in x.seats.hands t ≡ o → o ≡ None
-        by None e = refl
-        by (Some h) e =
-            let f = hand_found x.seats.hands t h e in
-            let i = r.hands.each f.0.0 h f.0.1 in
-            absurd (unbegun h.marked (subst IsBegun (ap x.words.phase (sym f.1) ∙ i.marked) b))
 
     pub begun_there : (t : ℕ) → IsBegun (x.words.phase t) → IsThere n (hand_of x) t
     begun_there t b = (begun_drawn t b, begun_out t b)
@@ -70,15 +67,20 @@ module _ {B : Type 0} where
     hand_seat j h e = let m = (r.hands.each j h e).maker_held in
         (r.custody.held j m.0 m.1 h.maker m.2.0 m.2.1).mine
 
+    -- a seat that doesn't hold a task has nothing for it
+    pub has_none : (j t : ℕ) (ks : List (Custody B)) → get_elem? x.seats.tasks j ≡ some ks
+        → r.custody.holder t ≢ Some j → held_in ks t ≡ None
+    has_none j t ks at n = none_unless (held_in ks t) (λ k e. n (r.custody.held j ks at t k e).mine)
+
     -- where nobody holds a task, nothing is found for it
     pub unheld : (t : ℕ) → r.custody.holder t ≡ None → held_of x t ≡ None
-    unheld t e = by (held_of x t) refl
-      where
-        by : (o : Option (Custody B)) → held_of x t ≡ o → o ≡ None
-        by None q = refl
-        by (Some k) q =
-            let f = found x.seats.tasks t k q in
-            none_some (r.custody.holder t) f.0 e (r.custody.held f.0 f.1.0 f.1.1 t k f.1.2).mine
+    unheld t e = none_unless (held_of x t) (λ k q. let f = found x.seats.tasks t k q in
+        none_some (r.custody.holder t) f.0 e (r.custody.held f.0 f.1.0 f.1.1 t k f.1.2).mine)
+
+    -- a record at home names cells that are there, and is that of the slot's task
+    pub home_there : (t : ℕ) (y : Rec B) → home_of x t ≡ Some y → AreThere n (hand_of x) (record_cells y)
+        × (y.cell.0 ≡ t)
+    home_there t y e = (r.names.records t y e, r.custody.own_slots t y e)
 
     module _ (id t : ℕ) (k : Custody B) (h : IsHeldWith x id t k) where
       pub custody : IsCustody r.custody.holder x.words.phase (home_of x) id t k

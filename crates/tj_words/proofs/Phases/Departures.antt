@@ -1,17 +1,16 @@
 -- The law after a task leaves its seat with its record at home: it is ready, has ended, or was shelved.
-use Rattle.tj_words.proofs.Prelude.{AreThere, CellId, Chains, Contents, CoreFacts, Custody, Does, Hand, IsHeldWith}
-use Rattle.tj_words.proofs.Prelude.{IsKept, Law, Leaves, LiesAtHome, List, LiveCount, None, Option, Phase, Program}
-use Rattle.tj_words.proofs.Prelude.{Push, Rec, RecordsFit, Slots, Some, Walk, Way, ap, core_shown, drawn_in, get_elem?}
-use Rattle.tj_words.proofs.Prelude.{hand_of, held_in, home_in, home_of, let_go, made_by, numbers, owned_by, phase_sort}
-use Rattle.tj_words.proofs.Prelude.{record_cells, refl, set, some, subst, sym, tag_in, ℕ, ◌∙◌, ◌≡◌, ◌≢◌}
-use Rattle.tj_words.proofs.Meaning.MeaningGrows.{Meant}
-use Rattle.tj_words.proofs.Meaning.LawMeant.{ground_of, known_of}
-use Rattle.tj_words.proofs.Holders.SeatTasks.{made_held_by, let_go_here, let_go_else}
-use Rattle.tj_words.proofs.Holders.TaskPlaces.{custody, held_drawn, held_here}
+use Rattle.tj_words.proofs.Prelude.{AreThere, CellId, Chains, Contents, CoreFacts, Custody, Does, Each, Hand}
+use Rattle.tj_words.proofs.Prelude.{IsHeldWith, IsKept, Law, Leaves, LiesAtHome, List, LiveCount, Meaning, None, Option}
+use Rattle.tj_words.proofs.Prelude.{Phase, Program, Rec, RecordsFit, SeatsHave, Slots, Some, Walk, Way, WordsSay, ap}
+use Rattle.tj_words.proofs.Prelude.{bits_in, core_shown, drawn_in, get_elem?, hand_of, held_in, home_in, let_go}
+use Rattle.tj_words.proofs.Prelude.{made_by, numbers, owned_by, phase_sort, record_cells, refl, some, subst, sym}
+use Rattle.tj_words.proofs.Prelude.{tag_in, ℕ, ◌∙◌, ◌≡◌, ◌≢◌}
+use Rattle.tj_words.proofs.Holders.SeatTasks.{made_held_by, owned_held_by, let_go_here, let_go_else}
+use Rattle.tj_words.proofs.Holders.TaskPlaces.{custody, held_drawn}
 use Rattle.tj_words.proofs.Holders.HeldTasks.{one_some, none_some}
 use Rattle.tj_words.proofs.Holders.HeldChanges.{let_go_in}
 use Rattle.tj_words.proofs.Phases.PhaseSorts.{does_sort}
-use Rattle.tj_words.proofs.Holders.TaskMoves.{TaskMove, task_moves, law_task}
+use Rattle.tj_words.proofs.Holders.TaskMoves.{TaskMove, law_task, task_moved, task_moves}
 use Rattle.tj_base.specs.declared.cell.Sort.TheVariants as sort
 use Rattle.tj_words.specs.declared.phase.Phase.TheVariants as phase
 
@@ -41,20 +40,11 @@ module _ {B : Type 0} {program : Program B} {cells : ℕ} {x : Contents B} (r : 
     pub made : record_of.made ≡ custody_of.made
     pub there : AreThere n (hand_of x) (record_cells record_of)
 
-  module _ (phases : ℕ → Phase) (q : Phase) (slots : Slots B) (d : Departs phases q slots) (live : ℕ) (tokens : List ℕ)
-      (pushes : List (List Push)) where
-    -- the contents after it
-    abbrev pub after_leaving : Contents B
-    after_leaving = record {
-      words = record x.words { live = live; phase = phases };
-      slots = slots;
-      seats = record x.seats { tokens = tokens; tasks = set x.seats.tasks id (let_go t d.tasks); pushes = pushes };
-    }
-
+  module _ {phases : ℕ → Phase} {q : Phase} {slots : Slots B} (d : Departs phases q slots) where
     abbrev has : IsHeldWith x id t d.custody_of
     has = (d.tasks, d.tasks_at, d.held)
 
-    pub leave : TaskMove r id t phases d.tasks (let_go t d.tasks) slots
+    abbrev pub leave : TaskMove r id t phases d.tasks (let_go t d.tasks) slots
     leave = record {
       at = d.tasks_at;
       same = λ u m. let_go_else t u d.tasks m;
@@ -80,28 +70,30 @@ module _ {B : Type 0} {program : Program B} {cells : ℕ} {x : Contents B} (r : 
       holds = λ j e. none_some None j refl e;
     }
 
-    -- the task leaves
-    abbrev pub does_leave : (e : Does) → d.custody_of.does ≡ e → Leaves cells x after_leaving id t e q
-    does_leave e did = record {
-      before_it = d.custody_of;
-      record_of = d.record_of;
-      held = has;
-      did = did;
-      moved = task_moves r id t phases d.tasks (let_go t d.tasks) slots leave live x.words.others x.seats.known tokens
-          x.seats.cleared x.seats.born_seen x.seats.filled pushes x.seats.rests q None (Some d.record_of) d.here
-          (let_go_here t d.tasks) d.lies;
-    }
+    module _ (words : WordsSay) (seats : SeatsHave B) where
+      -- the contents after it, with what else these words and seats have changed
+      abbrev pub after_leaving : Contents B
+      after_leaving = task_moved r leave words seats
 
-    -- the law holds of them, where the chains, the count, the record, the meaning and the facts are as they should be
-    pub law_leaves : Chains (tag_in x) x.words.head x.words.next phases pushes x.seats.shuts x.seats.rests
-        x.seats.closed x.seats.found
-        → LiveCount cells live phases tokens x.seats.rested
-        → RecordsFit (tag_in x) phases (home_in slots)
-        → Meant program cells x.words.count x.words.stop (ground_of cells r.born x) (home_in slots) (known_of x)
-        → CoreFacts (core_shown cells r.born r.maker after_leaving)
-        → Law program cells after_leaving
-    law_leaves = law_task r id t phases d.tasks (let_go t d.tasks) slots leave live x.words.others x.seats.known tokens
-        x.seats.cleared x.seats.born_seen x.seats.filled pushes x.seats.rests
-        ((λ j. owned_by (let_go_here t d.tasks j) (d.lies j)) ∙ (d.owned
-        ∙ sym (ap (λ (o : Option (Custody B)). owned_by o (home_of x t)) (held_here r id t d.custody_of has))))
-        r.names.knows
+      -- the task leaves
+      abbrev pub does_leave : (e : Does) → d.custody_of.does ≡ e → Leaves cells x after_leaving id t e q
+      does_leave e did = record {
+        before_it = d.custody_of;
+        record_of = d.record_of;
+        held = has;
+        did = did;
+        moved = task_moves r leave words seats q None (Some d.record_of) d.here (let_go_here t d.tasks) d.lies;
+      }
+
+      -- the law holds of them, where the chains, the count, the record, the meaning and the facts are as they should be
+      pub law_leaves : Each (λ j l. AreThere n (hand_of x) l) seats.known
+          → Chains (tag_in x) x.words.head x.words.next phases seats.pushes x.seats.shuts seats.rests x.seats.closed
+          x.seats.found
+          → LiveCount cells words.live phases seats.tokens x.seats.rested
+          → RecordsFit (tag_in x) phases (home_in slots)
+          → Meaning program cells x.words.count x.words.stop n (hand_of x) r.born (tag_in x) (bits_in x)
+          (home_in slots) seats.born_seen x.seats.wrote seats.filled
+          → CoreFacts (core_shown cells r.born r.maker after_leaving)
+          → Law program cells after_leaving
+      law_leaves = law_task r leave words seats ((λ j. owned_by (let_go_here t d.tasks j) (d.lies j))
+          ∙ (d.owned ∙ owned_held_by r id t d.custody_of has))

@@ -8,7 +8,7 @@ use Rattle.tj_words.proofs.Prelude.{suc, sym, true, wait_in, word, ℕ, ◌<◌,
 use Rattle.tj_core.specs.CoreState.{IsTask}
 use Rattle.tj_words.proofs.Stores.StoreSteps.{put_here, put_else}
 use Rattle.tj_words.proofs.Stores.SlotStores.{StoresWith}
-use Rattle.tj_words.proofs.Holders.HeldTasks.{none_some}
+use Rattle.tj_words.proofs.Holders.HeldTasks.{none_some, none_unless}
 use Rattle.tj_words.proofs.Holders.TaskPlaces.{does_shown, custody, held_here, held_drawn, stage_held}
 use Rattle.tj_words.proofs.Events.ShownCells.{owner_out}
 use Rattle.tj_words.proofs.Waiters.ChainFacts.{IsNotParked, held_free}
@@ -31,7 +31,7 @@ module _ {B : Type 0} {program : Program B} {cells : ℕ} {x : Contents B} (r : 
     (k : Custody B) (h : IsHeldWith x id t k) where
   -- nobody owns the result of a running task that owns nothing
   pub unowned : k.does ≡ does.Running → k.owned ≡ [] → hand_of x t ≡ None → x.words.own t ≡ None
-  unowned runs none out = by (x.words.own t) refl
+  unowned runs none out = none_unless (x.words.own t) (λ u q. let i : IsIn t [] = subst (IsIn t) none (owns u q) in i)
     where
       K : CoreState
       K = core_shown cells r.born r.maker x
@@ -50,10 +50,6 @@ module _ {B : Type 0} {program : Program B} {cells : ℕ} {x : Contents B} (r : 
           is_one : is_task (does_shown t k.does) ≡ true
           is_one = ap (λ d. is_task (does_shown t d)) runs
 
-      by : (o : Option ℕ) → x.words.own t ≡ o → o ≡ None
-      by None q = refl
-      by (Some u) q = let i : IsIn t [] = subst (IsIn t) none (owns u q) in absurd i
-
 module _ {B : Type 0} (program : Bool → B → Program B) (key : Key B) (s : State (Option (Rec B)) (View B))
     (r : Rule program key s) (id t : ℕ) (inside : t < key.cells) (v : View B) (at : get_elem? s.views id ≡ some v) where
   abbrev P : Program B
@@ -65,14 +61,11 @@ module _ {B : Type 0} (program : Bool → B → Program B) (key : Key B) (s : St
   abbrev x : Contents B
   x = contents_of s
 
-  abbrev tokens_here : get_elem? old.tokens id ≡ some v.tokens
-  tokens_here = tokens_at program key s r id t v at
-
-  abbrev tasks_here : get_elem? old.tasks id ≡ some v.tasks
-  tasks_here = tasks_at program key s r id t v at
-
   -- the store of Ended
   module _ (mine : SlotsOf B) (h : MayEnd program t (v, mine)) where
+    abbrev has : IsHeldWith x id t h.custody
+    has = (v.tasks, tasks_at program key s r id t v at, h.held)
+
     abbrev over : ℕ → Phase
     over = put x.words.phase t phase.Ended
 
@@ -80,7 +73,7 @@ module _ {B : Type 0} (program : Bool → B → Program B) (key : Key B) (s : St
     end_slots = laid_slots program key s r id t v at mine h.custody h.held h.record_of h.puts h.no_hand
 
     runs : x.words.phase t ≡ phase.Running
-    runs = (custody r.law id t h.custody (v.tasks, tasks_here, h.held)).does ∙ ap phase_of h.runs
+    runs = (custody r.law id t h.custody has).does ∙ ap phase_of h.runs
 
     none : h.custody.owned ≡ []
     none = sym h.puts.owned ∙ ap numbers h.owns_none
@@ -90,15 +83,16 @@ module _ {B : Type 0} (program : Bool → B → Program B) (key : Key B) (s : St
         phase.Ended (put_here x.words.phase t t phase.Ended refl) (λ u m. put_else x.words.phase t u phase.Ended m) refl
         (λ d way w e. none_some (wait_in phase.Ended) d.0 refl (ap wait_in e)) (λ o y l. l)
 
+    abbrev beside : SeatsHave B
+    beside = record old { tokens = set old.tokens id (suc v.tokens) }
+
     abbrev after_end : Contents B
-    after_end = after_leaving r.law id t over phase.Ended end_slots departs_over x.words.live
-        (set old.tokens id (suc v.tokens)) old.pushes
+    after_end = after_leaving r.law id t departs_over x.words beside
 
     abbrev ends : EndsTask key.cells x after_end id t
     ends = record {
-      leaves = does_leave r.law id t over phase.Ended end_slots departs_over x.words.live
-          (set old.tokens id (suc v.tokens)) old.pushes does.Running h.runs;
-      closed = unowned r.law id t h.custody (v.tasks, tasks_here, h.held) h.runs none
+      leaves = does_leave r.law id t departs_over x.words beside does.Running h.runs;
+      closed = unowned r.law id t h.custody has h.runs none
           (task_there program key s r id t v at mine h.custody h.held h.record_of h.puts h.no_hand).1;
       keeps = record { others = refl; cleared = refl };
     }
@@ -124,14 +118,13 @@ module _ {B : Type 0} (program : Bool → B → Program B) (key : Key B) (s : St
         (ends, kept_moved key.cells x after_end ends.leaves.moved refl)
 
     end_law : Law P key.cells after_end
-    end_law = law_leaves r.law id t over phase.Ended end_slots departs_over x.words.live
-        (set old.tokens id (suc v.tokens)) old.pushes
+    end_law = law_leaves r.law id t departs_over x.words beside r.law.names.knows
         (chains_turn r.law.chains t phase.Ended
-        (subst IsNotParked (sym (custody r.law id t h.custody (v.tasks, tasks_here, h.held)).does)
+        (subst IsNotParked (sym (custody r.law id t h.custody has).does)
         (held_free h.custody.does))
         (λ p y. let e = ap wait_in y.1 in cc))
-        (count_turned r.law.live_count t phase.Ended id v.tokens (suc v.tokens) inside tokens_here
-        (let e = ap live_part runs in omega arith))
+        (count_turned r.law.live_count t phase.Ended id v.tokens (suc v.tokens) inside
+        (tokens_at program key s r id t v at) (let e = ap live_part runs in omega arith))
         (fits program key s r id t v at mine h.custody h.held h.record_of h.puts h.no_hand over phase.Ended
         departs_over.here departs_over.else ((h.finish, h.finished), h.owns_none))
         (meant program key s r id t v at mine h.custody h.held h.record_of h.puts h.no_hand)

@@ -1,21 +1,18 @@
 -- The law after the record of an unborn task has come home, while a seat holds the task.
-use Rattle.tj_words.proofs.Prelude.{AreThere, Contents, Custody, Hand, IsCustody, IsHeldWith, IsIn, IsKept, IsThere}
-use Rattle.tj_words.proofs.Prelude.{Law, List, LiveCount, MovesRecord, OfSeat, Option, Program, Rec, RecordsFit, Slots}
-use Rattle.tj_words.proofs.Prelude.{Some, ap, does_cells, drawn_in, get_elem?, hand_of, held_in, hold, home_in, home_of}
-use Rattle.tj_words.proofs.Prelude.{let_go, made_by, now_home, numbers, owned_by, parts_of, phase_of, phase_sort, put}
-use Rattle.tj_words.proofs.Prelude.{put_here, record_cells, record_in, refl, set, some, subst, sym, tag_in, ℕ, ⊎_elim}
+use Rattle.tj_words.proofs.Prelude.{AreThere, Contents, Custody, Hand, HasAlarmed, IsHeldWith, IsThere, Law, List}
+use Rattle.tj_words.proofs.Prelude.{LiveCount, MovesRecord, Option, Program, Rec, RecordsFit, Slots, Some, ap, drawn_in}
+use Rattle.tj_words.proofs.Prelude.{get_elem?, hand_of, held_in, hold, home_in, home_of, now_home, numbers, owned_by}
+use Rattle.tj_words.proofs.Prelude.{parts_of, phase_of, record_cells, record_in, refl, set, some, subst, sym, tag_in, ℕ}
 use Rattle.tj_words.proofs.Prelude.{◌∙◌, ◌≡◌, ◌≢◌}
 use Rattle.tj_words.proofs.Meaning.MeaningGrows.{Meant}
 use Rattle.tj_words.proofs.Meaning.LawMeant.{ground_of, known_of}
-use Rattle.tj_words.proofs.Stores.SeatLists.{of_seat_here}
 use Rattle.tj_words.proofs.Holders.HeldTasks.{none_some, one_some, held_listed}
-use Rattle.tj_words.proofs.Holders.TaskPlaces.{custody, held_here}
-use Rattle.tj_words.proofs.Holders.SeatTasks.{hold_here, hold_else, put_is, put_self, made_held_by}
-use Rattle.tj_words.proofs.Holders.HeldChanges.{found_held, let_go_in}
+use Rattle.tj_words.proofs.Holders.TaskPlaces.{custody}
+use Rattle.tj_words.proofs.Holders.SeatTasks.{hold_here, put_is, put_self, made_held_by, owned_held_by}
+use Rattle.tj_words.proofs.Holders.HeldChanges.{found_held, hold_move}
 use Rattle.tj_words.proofs.Events.StepFacts.{facts_same}
 use Rattle.tj_words.proofs.Events.QuietMoves.{record_shown}
 use Rattle.tj_words.proofs.Holders.TaskMoves.{TaskMove, law_task}
-use Rattle.tj_words.specs.declared.phase.Phase.TheVariants as phase
 use Rattle.tj_words.specs.declared.view.Does.TheVariants as does
 
 module _ {B : Type 0} {program : Program B} {cells : ℕ} {x : Contents B} (r : Law program cells x) (id t : ℕ)
@@ -29,60 +26,29 @@ module _ {B : Type 0} {program : Program B} {cells : ℕ} {x : Contents B} (r : 
   abbrev k' : Custody B
   k' = now_home c k
 
-  abbrev tasks' : List (List (Custody B))
-  tasks' = set x.seats.tasks id (hold k' h.0)
-
   here : held_in (hold k' h.0) t ≡ Some k'
   here = ap (held_in (hold k' h.0)) (sym its) ∙ hold_here k' h.0
-
-  else : (u : ℕ) → u ≢ t → held_in (hold k' h.0) u ≡ held_in h.0 u
-  else u m = hold_else k' u h.0 (λ e. m (e ∙ its))
-
-  was : x.words.phase t ≡ phase.Unborn
-  was = (custody r id t k h).does ∙ ap phase_of unborn
 
   -- the seat notes that the record is at home, where that is the task's
   come : ((g : Hand) → get_elem? x.seats.hands id ≡ some (Some g) → g.maker ≢ t)
       → AreThere n (hand_of x) (record_cells c) → IsThere n (hand_of x) t
       → c.cell.0 ≡ t → numbers c.owned ≡ k.owned → c.made ≡ k.made
       → TaskMove r id t x.words.phase h.0 (hold k' h.0) slots
-  come free cells_there there cell owned made = record {
-    at = h.1;
-    same = else;
-    mine = λ j e. one_some j id (sym e ∙ (custody r id t k h).mine);
-    there = there;
-    was_task = ap phase_sort was;
-    is_task = ap phase_sort was;
-    else = λ u m. refl;
-    waits = λ p way w e. (r.names.waits t p way w e, r.waiters_own t p way w e);
-    makers = λ g e q. absurd (free g e q);
-    apart = apart;
-    lies = λ y e. let same : c ≡ y = one_some c y (sym lies ∙ e) in (
-      subst (λ (a : Rec B). AreThere n (hand_of x) (record_cells a)) same cells_there,
-      ap (λ (a : Rec B). a.cell.0) (sym same) ∙ cell,
-    );
-    walks = λ a i. ⊎_elim
-        (λ (e : a ≡ k'). subst (λ (q : Custody B). AreThere n (hand_of x) (does_cells q.does)) (sym e)
-        (r.names.walks id h.0 h.1 k (held_listed h.0 t k h.2)))
-        (λ (e : IsIn a (let_go k'.task h.0)). r.names.walks id h.0 h.1 a (let_go_in k'.task h.0 a e)) i;
-    made = ap (λ (o : Option (Custody B)). made_by o (home_in slots t)) here ∙ made_held_by r id t k h;
-    holder = Some id;
-    kept = subst (λ p. IsKept p (Some id) (home_in slots t)) (sym was) (id, refl);
-    custody = λ a e. subst (IsCustody (put r.custody.holder t (Some id)) x.words.phase (home_in slots) id t)
-        (one_some k' a (sym here ∙ e)) record {
-          mine = put_here r.custody.holder t (Some id);
-          does = (custody r id t k h).does;
-          laid = λ b q. let same : c ≡ b = one_some c b q in record {
-            here = lies ∙ ap (λ (z : Rec B). Some z) same;
-            owned = ap (λ (z : Rec B). numbers z.owned) (sym same) ∙ owned;
-            made = ap (λ (z : Rec B). z.made) (sym same) ∙ made;
-          };
-          out = λ q. none_some (Some c) c q refl;
-        };
-    holds = λ j e. subst (OfSeat (λ l. (a : Custody B) × (held_in l t ≡ Some a)) tasks') (one_some id j e)
-        (of_seat_here (λ l. (a : Custody B) × (held_in l t ≡ Some a)) x.seats.tasks id h.0 (hold k' h.0) h.1
-        (k', here));
-  }
+  come free cells_there there cell owned made = hold_move r id t k k' h its slots apart
+      (λ y e. let same : c ≡ y = one_some c y (sym lies ∙ e) in (
+        subst (λ (a : Rec B). AreThere n (hand_of x) (record_cells a)) same cells_there,
+        ap (λ (a : Rec B). a.cell.0) (sym same) ∙ cell,
+      ))
+      x.words.phase (λ u m. refl) (custody r id t k h).does there
+      (λ p way w e. (r.names.waits t p way w e, r.waiters_own t p way w e))
+      (r.names.walks id h.0 h.1 k (held_listed h.0 t k h.2)) refl (λ g e q z. absurd (free g e q))
+      (λ a. absurd (subst HasAlarmed unborn a))
+      (λ b q. let same : c ≡ b = one_some c b q in record {
+        here = lies ∙ ap (λ (z : Rec B). Some z) same;
+        owned = ap (λ (z : Rec B). numbers z.owned) (sym same) ∙ owned;
+        made = ap (λ (z : Rec B). z.made) (sym same) ∙ made;
+      })
+      (λ q. none_some (Some c) c q refl)
 
   module _ (live : ℕ) (tokens : List ℕ) where
     -- the contents after it
@@ -90,7 +56,7 @@ module _ {B : Type 0} {program : Program B} {cells : ℕ} {x : Contents B} (r : 
     after_home = record {
       words = record x.words { live = live };
       slots = slots;
-      seats = record x.seats { tokens = tokens; tasks = tasks' };
+      seats = record x.seats { tokens = tokens; tasks = set x.seats.tasks id (hold k' h.0) };
     }
 
     -- the record moves
@@ -125,10 +91,9 @@ module _ {B : Type 0} {program : Program B} {cells : ℕ} {x : Contents B} (r : 
         → Meant program cells x.words.count x.words.stop (ground_of cells r.born x) (home_in slots) (known_of x)
         → Law program cells after_home
     law_home free cells_there there cell owned made count fit meant =
-        law_task r id t x.words.phase h.0 (hold k' h.0) slots (come free cells_there there cell owned made) live
-        x.words.others x.seats.known tokens x.seats.cleared x.seats.born_seen x.seats.filled x.seats.pushes
-        x.seats.rests (ap (λ (o : Option (Custody B)). owned_by o (home_in slots t)) here
-        ∙ sym (ap (λ (o : Option (Custody B)). owned_by o (home_of x t)) (held_here r id t k h)))
+        law_task r (come free cells_there there cell owned made) (record x.words { live = live })
+        (record x.seats { tokens = tokens }) (ap (λ (o : Option (Custody B)). owned_by o (home_in slots t)) here
+        ∙ owned_held_by r id t k h)
         r.names.knows r.chains count fit meant
         (facts_same cells r.born r.maker x after_home (record_shown r after_home id t does.Unborn (moves there))
         r.facts)

@@ -4,13 +4,13 @@ use Rattle.tj_words.proofs.Prelude.{AreThere, Begins, CellId, Contents, CoreFact
 use Rattle.tj_words.proofs.Prelude.{IsHeldWith, IsIn, IsMoved, IsParkedOn, Law, List, LiveCount, None, Option, Phase}
 use Rattle.tj_words.proofs.Prelude.{Program, Reference, Some, Walk, Way, ap, at_longer, before, core_shown, does_cells}
 use Rattle.tj_words.proofs.Prelude.{drawn_in, hand_of, hold, home_of, inl, is_task_sort, now_does, owned_by, parts_of}
-use Rattle.tj_words.proofs.Prelude.{phase_of, put, reference_of, refl, set, some-injective, subst, sym, tag_in}
-use Rattle.tj_words.proofs.Prelude.{wait_in, way_by, way_if, ℕ, ◌&&◌, ◌∙◌, ◌≡◌, ◌≢◌}
+use Rattle.tj_words.proofs.Prelude.{phase_of, put, reference_of, refl, set, some-injective, subst, sym, tag_in, wait_in}
+use Rattle.tj_words.proofs.Prelude.{way_by, way_if, ℕ, ◌&&◌, ◌∙◌, ◌≡◌, ◌≢◌}
 use Rattle.tj_words.proofs.Stores.StoreSteps.{put_here, put_else}
 use Rattle.tj_words.proofs.Stores.SeatLists.{inside}
 use Rattle.tj_words.proofs.Holders.HeldTasks.{none_some, one_some, at_index}
-use Rattle.tj_words.proofs.Holders.TaskPlaces.{begun_there, custody, held_here}
-use Rattle.tj_words.proofs.Holders.SeatTasks.{put_self, made_held_by, hold_held}
+use Rattle.tj_words.proofs.Holders.TaskPlaces.{begun_there, custody, home_there}
+use Rattle.tj_words.proofs.Holders.SeatTasks.{put_self, made_held_by, owned_held_by, hold_held}
 use Rattle.tj_words.proofs.Holders.HeldChanges.{found_held, hold_move}
 use Rattle.tj_words.proofs.Waiters.ChainFacts.{held_free}
 use Rattle.tj_words.proofs.Waiters.ChainPhases.{chains_turn}
@@ -90,10 +90,8 @@ module _ {B : Type 0} {program : Program B} {cells : ℕ} {x : Contents B} (r : 
     pub note_law : x.words.own t ≢ None → LiveCount cells x.words.live phases tokens x.seats.rested
         → CoreFacts (core_shown cells r.born r.maker after_note)
         → Law program cells after_note
-    note_law owns live facts = law_task r id t phases h.0 (hold k' h.0) x.slots move x.words.live x.words.others
-        x.seats.known tokens x.seats.cleared x.seats.born_seen x.seats.filled x.seats.pushes x.seats.rests
-        (ap (λ (o : Option (Custody B)). owned_by o (home_of x t)) (hold_held k' t h.0 its)
-        ∙ sym (ap (λ (o : Option (Custody B)). owned_by o (home_of x t)) (held_here r id t k h)))
+    note_law owns live facts = law_task r move x.words (record x.seats { tokens = tokens })
+        (ap (λ (o : Option (Custody B)). owned_by o (home_of x t)) (hold_held k' t h.0 its) ∙ owned_held_by r id t k h)
         r.names.knows
         (chains_turn r.chains t (phase_of d)
         (λ c q. held_free k.does c (subst (λ z. IsParkedOn z c) (custody r id t k h).does q)) (held_free d))
@@ -102,7 +100,8 @@ module _ {B : Type 0} {program : Program B} {cells : ℕ} {x : Contents B} (r : 
         else (λ u m. refl) empty) r.meaning facts
       where
         move : TaskMove r id t phases h.0 (hold k' h.0) x.slots
-        move = hold_move r id t k k' h its phases else here
+        move = hold_move r id t k k' h its x.slots (λ u m. refl) (home_there r t) phases else here
             (begun_there r t (subst IsBegun (sym (custody r id t k h).does) begun))
-            (λ c way w e. (there c.0 (wait_cells d c way w (sym here ∙ e)), owns)) there refl (λ e. e) (λ a. empty)
+            (λ c way w e. (there c.0 (wait_cells d c way w (sym here ∙ e)), owns)) there refl (λ z e q i. i)
+            (λ a. empty)
             (λ c e. none_some k.home c out e) (λ e. empty)

@@ -1,9 +1,9 @@
 -- The store of Parked keeps the rule: the record comes home, the task leaves its seat, and its push is to come.
 use Rattle.tj_words.proofs.Prelude.{Bool, Contents, Custody, EventKeepsFacts, IsHeldWith, IsParkedOn, IsPhaseWord}
-use Rattle.tj_words.proofs.Prelude.{Keeping, Key, Law, List, MayPark, Option, Phase, Program, Push, Rec, Rule, SeatMe}
-use Rattle.tj_words.proofs.Prelude.{SeatsHave, Slots, Some, State, StoresParked, View, Way, ap, arith, at_map, cell}
-use Rattle.tj_words.proofs.Prelude.{contents_of, get_elem?, let_go, live_part, new_push, parked, phase_at, phase_in}
-use Rattle.tj_words.proofs.Prelude.{phase_of, put, refl, seats_have, set, some, subst, suc, sym, ℕ, ◌<◌, ◌∙◌, ◌∷◌, ◌≡◌}
+use Rattle.tj_words.proofs.Prelude.{Keeping, Key, Law, MayPark, Option, Phase, Program, Rec, Rule, SeatMe, SeatsHave}
+use Rattle.tj_words.proofs.Prelude.{Slots, Some, State, StoresParked, View, Way, ap, arith, at_map, cell, contents_of}
+use Rattle.tj_words.proofs.Prelude.{get_elem?, let_go, live_part, new_push, parked, phase_at, phase_in, phase_of, put}
+use Rattle.tj_words.proofs.Prelude.{refl, seats_have, set, some, subst, suc, sym, ℕ, ◌<◌, ◌∙◌, ◌∷◌, ◌≡◌}
 use Rattle.tj_words.proofs.Stores.SeatContents.{seats_same}
 use Rattle.tj_words.proofs.Stores.StoreSteps.{put_here, put_else}
 use Rattle.tj_words.proofs.Stores.SlotStores.{StoresWith}
@@ -71,25 +71,24 @@ module _ {B : Type 0} (program : Bool → B → Program B) (key : Key B) (s : St
       (put_here x.words.phase t t q refl) (λ u m. put_else x.words.phase t u q m) refl
       (λ d y w e. (walk.Walking, was ∙ ap walking_of e)) (λ o y l. l)
 
-  abbrev tokens : List ℕ
-  tokens = set old.tokens id (suc v.tokens)
-
-  abbrev pushes : List (List Push)
-  pushes = set old.pushes id (new_push t p way ∷ v.pushes)
+  abbrev beside : SeatsHave B
+  beside = record old {
+    tokens = set old.tokens id (suc v.tokens);
+    pushes = set old.pushes id (new_push t p way ∷ v.pushes);
+  }
 
   abbrev after : Contents B
-  after = after_leaving r.law id t phases q slots departs x.words.live tokens pushes
+  after = after_leaving r.law id t departs x.words beside
 
   abbrev settles : StoresParked key.cells x after id t p way h.walks.walker
   settles = record {
-    leaves = does_leave r.law id t phases q slots departs x.words.live tokens pushes
-        (does.Walking p way h.walks.walker) h.walks.walks;
+    leaves = does_leave r.law id t departs x.words beside (does.Walking p way h.walks.walker) h.walks.walks;
     may = h.settles;
     keeps = record { others = refl; cleared = refl };
   }
 
   law : t < key.cells → EventKeepsFacts → Law P key.cells after
-  law inside kept = law_leaves r.law id t phases q slots departs x.words.live tokens pushes
+  law inside kept = law_leaves r.law id t departs x.words beside r.law.names.knows
       (chains_park r.law.chains t q id p way v.pushes (at_map (λ (u : View B). u.pushes) s.views id v at)
       (λ c y. held_free k.does c (subst (λ z. IsParkedOn z c) (custody r.law id t k has).does y)) refl)
       (count_turned r.law.live_count t q id v.tokens (suc v.tokens) inside (tokens_at program key s r id t v at)
@@ -105,9 +104,9 @@ module _ {B : Type 0} (program : Bool → B → Program B) (key : Key B) (s : St
     words = record x.words { phase = put x.words.phase t (is j) };
     slots = slots;
     seats = record (seats_same s.views id v at j) {
-      tokens = tokens;
+      tokens = beside.tokens;
       tasks = set old.tasks id (let_go t v.tasks);
-      pushes = pushes;
+      pushes = beside.pushes;
     };
   }
 

@@ -37,9 +37,6 @@ module _ {B : Type 0} (program : Bool → B → Program B) (key : Key B) (s : St
   abbrev x : Contents B
   x = contents_of s
 
-  abbrev tokens_here : get_elem? old.tokens id ≡ some v.tokens
-  tokens_here = tokens_at program key s r id t v at
-
   abbrev tasks_here : get_elem? old.tasks id ≡ some v.tasks
   tasks_here = tasks_at program key s r id t v at
 
@@ -101,14 +98,15 @@ module _ {B : Type 0} (program : Bool → B → Program B) (key : Key B) (s : St
       there = there;
     }
 
+    abbrev beside : SeatsHave B
+    beside = record old { tokens = set old.tokens id (v.tokens - 1) }
+
     abbrev after_ready : Contents B
-    after_ready = after_leaving r.law id t readied phase.Ready s.homes departs x.words.live
-        (set old.tokens id (v.tokens - 1)) old.pushes
+    after_ready = after_leaving r.law id t departs x.words beside
 
     abbrev releases : ReleasesTask key.cells x after_ready id t
     releases = record {
-      leaves = does_leave r.law id t readied phase.Ready s.homes departs x.words.live
-          (set old.tokens id (v.tokens - 1)) old.pushes does.Unborn h.unborn;
+      leaves = does_leave r.law id t departs x.words beside does.Unborn h.unborn;
       there = here;
       starts = at_start.1;
       keeps = record { others = refl; cleared = refl };
@@ -135,13 +133,12 @@ module _ {B : Type 0} (program : Bool → B → Program B) (key : Key B) (s : St
         (releases, kept_moved key.cells x after_ready releases.leaves.moved refl)
 
     ready_law : Law P key.cells after_ready
-    ready_law = law_leaves r.law id t readied phase.Ready s.homes departs x.words.live
-        (set old.tokens id (v.tokens - 1)) old.pushes
+    ready_law = law_leaves r.law id t departs x.words beside r.law.names.knows
         (chains_turn r.law.chains t phase.Ready
         (subst IsNotParked (sym (custody r.law id t k has).does) (held_free k.does))
         (λ p y. let e = ap wait_in y.1 in cc))
-        (count_turned r.law.live_count t phase.Ready id v.tokens (v.tokens - 1) inside tokens_here
-        (let e = ap live_part was in let g = h.token in omega arith))
+        (count_turned r.law.live_count t phase.Ready id v.tokens (v.tokens - 1) inside
+        (tokens_at program key s r id t v at) (let e = ap live_part was in let g = h.token in omega arith))
         (kept_fit (tag_in x) x.words.phase (home_of x) r.law.records_fit t readied (home_of x) phase.Ready departs.here
         departs.else (λ u m. refl) phase.Unborn was refl (λ y i. ready_fits (tag_in x) y i))
         (law_meant P key.cells x r.law)

@@ -12,8 +12,8 @@ use Rattle.tj_core.specs.declared.walk.LastRead.TheVariants.{Counted, Passed, Sa
 use Rattle.tj_words.proofs.Holders.HeldTasks.{none_some, one_some, held_listed, in_front, in_back}
 use Rattle.tj_words.proofs.Seating.Merging.{all_append}
 use Rattle.tj_words.proofs.SeatLoads.KnowLoads.{all_cons}
-use Rattle.tj_words.proofs.Holders.TaskPlaces.{custody, held_here, begun_there}
-use Rattle.tj_words.proofs.Holders.SeatTasks.{put_self, made_held_by, hold_held}
+use Rattle.tj_words.proofs.Holders.TaskPlaces.{custody, begun_there, home_there}
+use Rattle.tj_words.proofs.Holders.SeatTasks.{put_self, made_held_by, owned_held_by, hold_held}
 use Rattle.tj_words.proofs.Holders.HeldChanges.{held_task, found_held, hold_move}
 use Rattle.tj_words.proofs.Events.StepFacts.{facts_after}
 use Rattle.tj_words.proofs.Events.WalkEvents.{others_shown, count_shown, owner_shown_read, wait_shown_read}
@@ -109,19 +109,18 @@ module _ {B : Type 0} {program : Program B} {cells : ℕ} {x : Contents B} (r : 
       → AreThere (drawn_in cells x) (hand_of x) (does_cells d)
       → CoreFacts (core_shown cells r.born r.maker y)
       → Law program cells y
-  law_turned begun calm there facts = law_task r id t x.words.phase h.0 (hold k' h.0) x.slots move x.words.live others
-      x.seats.known x.seats.tokens x.seats.cleared x.seats.born_seen x.seats.filled x.seats.pushes x.seats.rests
-      (ap (λ (o : Option (Custody B)). owned_by o (home_of x t)) (hold_held k' t h.0 its)
-      ∙ sym (ap (λ (o : Option (Custody B)). owned_by o (home_of x t)) (held_here r id t k h)))
+  law_turned begun calm there facts = law_task r move (record x.words { others = others }) x.seats
+      (ap (λ (o : Option (Custody B)). owned_by o (home_of x t)) (hold_held k' t h.0 its) ∙ owned_held_by r id t k h)
       r.names.knows r.chains r.live_count r.records_fit r.meaning facts
     where
       laid : (c : Rec B) → k.home ≡ Some c → IsLaid k' (home_of x t) c
       laid c e = let l = (custody r id t k h).laid c e in record { here = l.here; owned = l.owned; made = l.made }
 
       move : TaskMove r id t x.words.phase h.0 (hold k' h.0) x.slots
-      move = hold_move r id t k k' h its x.words.phase (λ u n. refl) ((custody r id t k h).does ∙ sym same)
+      move = hold_move r id t k k' h its x.slots (λ u n. refl) (home_there r t) x.words.phase
+          (λ u n. refl) ((custody r id t k h).does ∙ sym same)
           (begun_there r t (subst IsBegun (sym (custody r id t k h).does) begun))
-          (λ p way w e. (r.names.waits t p way w e, r.waiters_own t p way w e)) there refl (λ e. e)
+          (λ p way w e. (r.names.waits t p way w e, r.waiters_own t p way w e)) there refl (λ z e q i. i)
           (λ a. absurd (calm a)) laid (custody r id t k h).out
 
 -- a walker of a seat reads on: each of its loads is the event of the core, and the law holds after it

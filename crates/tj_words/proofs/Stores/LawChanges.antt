@@ -1,10 +1,8 @@
 -- Steps on HEAD, on NEXT and on LIVE change one part of the law, and steps on OTHERS and on STOP two at most.
-use Rattle.tj_words.proofs.Prelude.{Births, Chains, Contents, CoreFacts, Custodies, Custody, Due, Filled, Found, Hands}
-use Rattle.tj_words.proofs.Prelude.{Head, Law, List, LiveCount, Lots, Meaning, NamesCells, Once, OnceWords, Option}
-use Rattle.tj_words.proofs.Prelude.{OwnedLists, Program, Push, RecordsFit, Reference, Rest, SeatsHave, SeenWord, Stops}
-use Rattle.tj_words.proofs.Prelude.{TreeWords, WaitersOwn, WordsSay, bits_in, core_shown, drawn_in, hand_of, home_of}
-use Rattle.tj_words.proofs.Prelude.{made_of, owned_of, tag_in, ℕ, ◌≡◌}
-use Rattle.tj_words.proofs.Stores.SeatLists.{back}
+use Rattle.tj_words.proofs.Prelude.{Chains, Contents, CoreFacts, Due, Filled, Found, Head, Law, List, LiveCount, Lots}
+use Rattle.tj_words.proofs.Prelude.{Meaning, NamesCells, Once, OnceWords, Option, Program, Push, RecordsFit, Reference}
+use Rattle.tj_words.proofs.Prelude.{Rest, SeatsHave, SeenWord, Stops, TreeWords, WordsSay, bits_in, core_shown}
+use Rattle.tj_words.proofs.Prelude.{drawn_in, hand_of, home_of, tag_in, ℕ}
 use Rattle.tj_words.specs.declared.offsets.Once.TheVariants as once
 
 module _ {B : Type 0} {program : Program B} {cells : ℕ} {x : Contents B} (law : Law program cells x) where
@@ -158,47 +156,3 @@ module _ {B : Type 0} {program : Program B} {cells : ℕ} {x : Contents B} (law 
         filled = filled;
         shuts = shuts;
       }) law.lots law.names tree_words once_words chains law.live_count law.stops fit meaning law.facts
-
-  -- the contents with other owners, and with what the seats have for their tasks and are to write
-  abbrev pub with_owners : (ℕ → Option ℕ) → List (List (Custody B)) → List (List Due) → Contents B
-  with_owners own tasks dues = record x {
-    words = record x.words { own = own };
-    seats = record x.seats { tasks = tasks; dues = dues };
-  }
-
-  -- cells have other owners, and no task makes anything
-  pub law_owners : (own : ℕ → Option ℕ) (tasks : List (List (Custody B))) (dues : List (List Due))
-      → made_of (with_owners own tasks dues) ≡ made_of x
-      → Hands (drawn_in cells x) x.words.phase x.seats.hands tasks
-      → NamesCells (drawn_in cells x) (hand_of x) own x.words.phase (home_of x) tasks x.seats.known
-      → TreeWords (drawn_in cells x) law.born law.maker law.number law.forks (hand_of x) x.words.once dues
-      → Custodies cells (drawn_in cells x) (hand_of x) x.words.phase x.slots tasks
-      → OwnedLists (drawn_in cells x) (hand_of x) own (owned_of (with_owners own tasks dues))
-      → OnceWords (drawn_in cells x) (hand_of x) x.seats.hands own x.words.once x.seats.seen dues
-      → WaitersOwn own x.words.phase
-      → CoreFacts (core_shown cells law.born law.maker (with_owners own tasks dues))
-      → Law program cells (with_owners own tasks dues)
-  law_owners own tasks dues made hands names tree_words custody owned once_words waiters facts = record {
-    born = law.born;
-    maker = law.maker;
-    number = law.number;
-    forks = law.forks;
-    lots = law.lots;
-    hands = hands;
-    names = names;
-    births = back (λ j. Births (drawn_in cells x) law.born law.maker law.number (made j) (hand_of x) x.words.phase)
-        law.births;
-    tree = law.tree;
-    tree_words = tree_words;
-    custody = custody;
-    owned = owned;
-    once_words = once_words;
-    chains = law.chains;
-    live_count = law.live_count;
-    stops = law.stops;
-    waiters_own = waiters;
-    records_fit = law.records_fit;
-    meaning = law.meaning;
-    undrawn = law.undrawn;
-    facts = facts;
-  }

@@ -195,13 +195,13 @@ module _ {B : Type 0} (program : Bool → B → Program B) (key : Key B) where
           (λ u m. refl) refl (λ d way w e. (w, waits ∙ e)) (λ o y l. inr l)
 
       abbrev shelved : ℕ → Contents B
-      shelved live = after_leaving r.law id t x.words.phase alarm shelf departs live (set old.tokens id (v.tokens - 1))
-          old.pushes
+      shelved live = after_leaving r.law id t departs (record x.words { live = live })
+          (record old { tokens = set old.tokens id (v.tokens - 1) })
 
       abbrev shelves : (live : ℕ) → ShelvesTask key.cells x (shelved live) id t h.cell h.way h.walker
       shelves live = record {
-        leaves = does_leave r.law id t x.words.phase alarm shelf departs live (set old.tokens id (v.tokens - 1))
-            old.pushes (does.Alarmed h.cell h.way h.walker) h.alarmed;
+        leaves = does_leave r.law id t departs (record x.words { live = live })
+            (record old { tokens = set old.tokens id (v.tokens - 1) }) (does.Alarmed h.cell h.way h.walker) h.alarmed;
         keeps = record { others = refl; cleared = refl };
       }
 
@@ -240,8 +240,8 @@ module _ {B : Type 0} (program : Bool → B → Program B) (key : Key B) where
             (tokens_at program key s r id t v at ∙ ap some (let g = token in omega arith))).1
 
         shelf_law : Law P key.cells after_shelf
-        shelf_law = law_leaves r.law id t x.words.phase alarm shelf departs lower (set old.tokens id fewer) old.pushes
-            r.law.chains counted
+        shelf_law = law_leaves r.law id t departs (record x.words { live = lower })
+            (record old { tokens = set old.tokens id fewer }) r.law.names.knows r.law.chains counted
             (fits program key s r id t v at mine a h.held c h.puts h.no_hand x.words.phase alarm waits (λ u m. refl)
             (h.unfinished, h.waits))
             (meant program key s r id t v at mine a h.held c h.puts h.no_hand)
