@@ -4,7 +4,6 @@ pub mod PhaseStores
 pub mod NotedWaits
 pub mod WaitSteps
 pub mod WaitStores
-pub mod Looks
 pub mod MarkedPromises
 pub mod LiveStoreSteps
 pub mod Departures

@@ -81,7 +81,6 @@ pub use Rattle.tj_words.specs.Calls.WaitViews.{MayPark, MayPublishWait, MayStore
 pub use Rattle.tj_words.specs.Calls.WaitViews.{now_does, parked, published}
 pub use Rattle.tj_words.specs.Calls.WalkViews.{IsWalking, MayLoadOwner, MayRaise, does_next, lowered, owner_seen}
 pub use Rattle.tj_words.specs.Calls.WalkViews.{turned, walk_load, walk_with}
-pub use Rattle.tj_words.specs.Inner.Looks.{look}
 pub use Rattle.tj_words.specs.Inner.ShownCells.{AreCellsOf, cell_of, maker_in, task_in}
 pub use Rattle.tj_words.specs.Inner.TreeDraws.{IsDrawnInto, forks_after}
 pub use Rattle.tj_words.specs.Law.{IsRooted, IsSeat, Law, Rule}

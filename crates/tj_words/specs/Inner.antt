@@ -2,4 +2,3 @@
 pub mod ChainSentences
 pub mod TreeDraws
 pub mod ShownCells
-pub mod Looks

@@ -1,52 +1,234 @@
--- The store of Promise into PHASE of a promise in hand keeps the law: the cell looks as before.
-use Rattle.tj_words.proofs.Prelude.{Allows, Bool, Contents, Hand, IsMarkedRight, Keeping, Key, Law, MarksPromise}
-use Rattle.tj_words.proofs.Prelude.{MayMark, Option, Program, Rec, Rule, SeatMe, Some, State, View, ap, arith, at_map}
-use Rattle.tj_words.proofs.Prelude.{contents_of, false, get_elem?, hand_phase, look, mark, marked_promise, none}
-use Rattle.tj_words.proofs.Prelude.{phase_at, phase_in, phase_word, put, refl, seats_have, set, some, step, subst, sym}
-use Rattle.tj_words.proofs.Prelude.{true, words_say, ℕ, ◌<◌, ◌∙◌, ◌≡◌}
+-- The store of Promise into PHASE of a promise in hand keeps the law: its hand has the same maker and sort, and no part
+-- of the law reads more of it and of the phase of such a cell.
+use Rattle.tj_words.proofs.Prelude.{Allows, Bool, CellId, Contents, CoreFacts, Custodies, Custody, Hand, Hands}
+use Rattle.tj_words.proofs.Prelude.{HasInHand, IsInHand, IsMarkedRight, IsRecordIn, IsThere, Keeping, Key, Law, List}
+use Rattle.tj_words.proofs.Prelude.{LiveCount, MarksPromise, MayMark, None, Option, Phase, Program, Rec, Rule, SeatMe}
+use Rattle.tj_words.proofs.Prelude.{Some, State, View, Walk, Way, ap, arith, at_map, at_put, begins_self, contents_of}
+use Rattle.tj_words.proofs.Prelude.{drawn_in, false, get_elem?, hand_in, hand_of, hand_phase, held_in, held_of, home_of}
+use Rattle.tj_words.proofs.Prelude.{inl, live_part, made_by, making, mark, marked_promise, none, parts_of, phase_at}
+use Rattle.tj_words.proofs.Prelude.{phase_in, phase_word, put, put_else, put_here, refl, seats_have, set}
+use Rattle.tj_words.proofs.Prelude.{set_again, some, sort_shown, step, subst, sym, tag_in, true, words_say, ℕ, ◌+◌, ◌<◌}
+use Rattle.tj_words.proofs.Prelude.{◌∙◌, ◌≡◌, ◌≢◌}
 use Rattle.tj_words.specs.Calls.DrawViews.{mark_store}
-use Rattle.tj_words.proofs.Phases.Looks.{hands_now, law_put, looked, looks_put, making_put, put_keeps}
+use Rattle.tj_words.proofs.Cells.HandChanges.{births_on, custody_on, hands_on, like_same, once_on, tree_on}
+use Rattle.tj_words.proofs.Cells.SeatHands.{hand_kept, hand_set, makes_kept, other_cell, own_cell}
+use Rattle.tj_words.proofs.Events.QuietCells.{mark_shown}
+use Rattle.tj_words.proofs.Holders.HeldTasks.{none_some, none_unless, one_some}
+use Rattle.tj_words.proofs.Holders.SeatTasks.{at_two, put_is}
+use Rattle.tj_words.proofs.Meaning.LawMeant.{ground_of, law_meant}
+use Rattle.tj_words.proofs.Meaning.MeaningGrows.{wider, grew_wider, meaning_grows}
+use Rattle.tj_words.proofs.Stores.WordStores.{hand_here}
+use Rattle.tj_words.proofs.Waiters.ChainPhases.{chains_turn}
+use Rattle.tj_words.proofs.Waiters.LiveSteps.{count_turned}
 use Rattle.tj_words.proofs.Stores.StepContents.{stored}
 use Rattle.tj_words.proofs.Stores.SeatContents.{seats_same}
-use Rattle.tj_words.proofs.Stores.SeatLists.{back}
+use Rattle.tj_words.proofs.Stores.SeatLists.{back, of_seat_set}
 use Rattle.tj_words.proofs.Stores.StoreSteps.{Stores, step_allowed, store_word}
-use Rattle.tj_words.proofs.Stores.TableWords.{Phase}
 use Rattle.tj_base.specs.declared.cell.Sort.TheVariants as sort
 use Rattle.tj_words.specs.declared.phase.Phase.TheVariants as phase
+use Rattle.tj_words.proofs.Stores.TableWords as table_word
 
-pub marked_look : {B : Type 0} {program : Program B} {cells : ℕ} {x : Contents B} (r : Law program cells x) (id : ℕ)
-    (h : Hand) → get_elem? x.seats.hands id ≡ some (Some h) → h.sort ≡ sort.Promise
-    → look (Some (record h { marked = true })) phase.Promise ≡ look (Some h) (x.words.phase h.cell)
-marked_look r id h has promise = (λ j. look (Some (record h { marked = true; sort = promise j })) phase.Promise)
-    ∙ (by h.marked
-    ∙ (λ j. look (Some (record h { sort = sym promise j })) (sym (r.hands.each id h has).marked j)))
-  where
-    by : (m : Bool) → look (Some (record h { marked = true; sort = sort.Promise })) phase.Promise
-        ≡ look (Some (record h { sort = sort.Promise })) (hand_phase m)
-    by true = refl
-    by false = refl
+-- a cell in hand waits for nothing by its phase, and adds nothing to LIVE
+hand_waits : (m : Bool) (p : CellId) (way : Way) (w : Walk) → hand_phase m ≢ phase.Waiting p way w
+hand_waits true p way w e = cc
+hand_waits false p way w e = cc
+
+hand_live : (m : Bool) → live_part (hand_phase m) ≡ 0
+hand_live true = refl
+hand_live false = refl
+
+module _ {B : Type 0} {program : Program B} {cells : ℕ} {x : Contents B} (r : Law program cells x) (id : ℕ) (h : Hand)
+    (has : get_elem? x.seats.hands id ≡ some (Some h)) (promise : h.sort ≡ sort.Promise) where
+  abbrev n : ℕ
+  n = drawn_in cells x
+
+  abbrev c : ℕ
+  c = h.cell
+
+  abbrev h' : Hand
+  h' = record h { marked = true }
+
+  abbrev hands' : List (Option Hand)
+  hands' = set x.seats.hands id (Some h')
+
+  abbrev phases : ℕ → Phase
+  phases = put x.words.phase c phase.Promise
+
+  -- the contents where it is marked, in the hand and in PHASE
+  abbrev pub marked : Contents B
+  marked = record x { words = record x.words { phase = phases }; seats = record x.seats { hands = hands' } }
+
+  here : hand_of x c ≡ Some h
+  here = hand_here r id h has
+
+  in_hand : IsInHand n x.words.phase x.seats.tasks id h
+  in_hand = r.hands.each id h has
+
+  only : (j : ℕ) (g : Hand) → j ≢ id → get_elem? x.seats.hands j ≡ some (Some g) → g.cell ≢ c
+  only j g d e q = d (r.hands.apart j id g h e has q)
+
+  column : hand_in hands' ≡ put (hand_of x) c (Some h')
+  column = put_is (hand_of x) (hand_in hands') c (Some h')
+      (hand_set x.seats.hands id c (Some h) (Some h') has only ∙ own_cell h' None)
+      (λ d q. hand_kept x.seats.hands id d (Some h) (Some h') has
+      (λ rest. other_cell h' d rest q ∙ sym (other_cell h d rest q)))
+
+  makes : (t : ℕ) → making hands' t ≡ making x.seats.hands t
+  makes t = makes_kept x.seats.hands id t (Some h) (Some h') has (λ rest. refl)
+
+  -- the marking, as a step
+  abbrev marking : MarksPromise cells x marked c h h' phase.Promise
+  marking = record {
+    in_hand = here;
+    same_hand = (refl, refl, refl);
+    parts = λ j. record (parts_of cells x) { hand = column j; making = λ t. makes t j; phase = phases };
+  }
+
+  -- what is in hand now was in hand, of the same maker, and what was is
+  before : (d : ℕ) (g : Hand) → hand_in hands' d ≡ Some g
+      → (f : Hand) × (hand_of x d ≡ Some f) × (g.maker ≡ f.maker)
+  before d g e = at_put (hand_of x) c (Some h')
+      (λ d z. z ≡ Some g → (f : Hand) × (hand_of x d ≡ Some f) × (g.maker ≡ f.maker)) d
+      (λ e. (h, here, ap (λ (z : Hand). z.maker) (sym (one_some h' g e)))) (λ _ e. (g, e, refl))
+      (sym (ap (λ f. f d) column) ∙ e)
+
+  still : (d : ℕ) (g : Hand) → hand_of x d ≡ Some g
+      → (f : Hand) × (hand_in hands' d ≡ Some f) × (f.maker ≡ g.maker)
+  still d g e = subst (λ o. (f : Hand) × (o d ≡ Some f) × (f.maker ≡ g.maker)) (sym column)
+      (at_put (hand_of x) c (Some h')
+      (λ d z. hand_of x d ≡ Some g → (f : Hand) × (z ≡ Some f) × (f.maker ≡ g.maker)) d
+      (λ e. (h', refl, ap (λ (z : Hand). z.maker) (one_some h g (sym here ∙ e)))) (λ _ e. (g, e, refl)) e)
+
+  on : (d : ℕ) → IsThere n (hand_of x) d → IsThere n (hand_in hands') d
+  on d i = (
+    i.0,
+    none_unless (hand_in hands' d)
+        (λ g e. let b = before d g e in none_some (hand_of x d) b.0 i.1 b.1),
+  )
+
+  back_on : (d : ℕ) → IsThere n (hand_in hands') d → IsThere n (hand_of x) d
+  back_on d i = (
+    i.0,
+    none_unless (hand_of x d)
+        (λ g e. let a = still d g e in none_some (hand_in hands' d) a.0 i.1 a.1),
+  )
+
+  -- each cell is what it was, each task stands where it stood, and each that waits waited
+  sorts : (d : ℕ) → sort_shown (hand_in hands' d) (phases d) ≡ sort_shown (hand_of x d) (x.words.phase d)
+  sorts d = (λ j. sort_shown (column j d) (phases d)) ∙ at_two (hand_of x) x.words.phase c (Some h') phase.Promise
+      (λ d o q. sort_shown o q ≡ sort_shown (hand_of x d) (x.words.phase d)) d
+      (λ j. sort_shown (sym here j) (x.words.phase c)) (λ _. refl)
+
+  tasks_same : (t : ℕ) → sort_shown (hand_of x t) (x.words.phase t) ≡ sort.Task → phases t ≡ x.words.phase t
+  tasks_same t e = put_else x.words.phase c phase.Promise t (λ q. let z : sort.Promise ≡ sort.Task = sym promise
+      ∙ ((λ j. sort_shown (sym here j) (x.words.phase c))
+      ∙ (ap (λ u. sort_shown (hand_of x u) (x.words.phase u)) (sym q) ∙ e)) in cc)
+
+  waits : (u : ℕ) (p : CellId) (way : Way) (w : Walk) → phases u ≡ phase.Waiting p way w
+      → x.words.phase u ≡ phase.Waiting p way w
+  waits u p way w e = at_put x.words.phase c phase.Promise
+      (λ u z. z ≡ phase.Waiting p way w → x.words.phase u ≡ phase.Waiting p way w) u
+      (λ e. absurd (hand_waits true p way w e)) (λ _ e. e) e
+
+  not_home : (t : ℕ) (y : Rec B) → home_of x t ≡ Some y → t ≢ c
+  not_home t y e q = none_some (hand_of x c) h (ap (hand_of x) (sym (r.custody.own_slots t y e ∙ q))
+      ∙ (r.names.records t y e y.cell.0 (inl refl)).1) here
+
+  hands_now : Hands n phases hands' x.seats.tasks
+  hands_now = let m = in_hand.maker_held in
+      subst (Hands n phases hands') (set_again x.seats.tasks id m.0 m.1)
+      (hands_on r.hands id (Some h') m.0 (omega arith)
+      (λ j g q e. put_else x.words.phase c phase.Promise g.cell (only j g q e))
+      (λ g e. subst (IsInHand n phases (set x.seats.tasks id m.0) id) (one_some h' g e) record {
+        drawn_cell = in_hand.drawn_cell;
+        marked = put_here x.words.phase c phase.Promise;
+        marked_right = subst (λ o. IsMarkedRight o true) (sym promise) tt;
+        maker_held = of_seat_set (λ ks. (k : Custody B) × (held_in ks h.maker ≡ Some k) × (k.home ≡ None))
+            x.seats.tasks id id m.0 m.0 m.1 (λ z. z) m;
+      })
+      (λ g e j f q z. subst (λ (y : Hand). f.cell ≢ y.cell) (one_some h' g e) (only j f q z)))
+
+  -- the law holds then
+  pub law_marked : (tokens : ℕ) → get_elem? x.seats.tokens id ≡ some tokens → Law program cells marked
+  law_marked tokens at = let m = in_hand.maker_held in record {
+    born = r.born;
+    maker = r.maker;
+    number = r.number;
+    forks = r.forks;
+    lots = r.lots;
+    hands = hands_now;
+    names = record {
+      owned = λ d t e. let o = r.names.owned d t e in (on d o.0, on t o.1);
+      waits = λ u p way w e. on p.0 (r.names.waits u p way w (waits u p way w e));
+      records = λ t y e d i. on d (r.names.records t y e d i);
+      walks = λ j ks e a i d l. on d (r.names.walks j ks e a i d l);
+      knows = λ j l e d i. on d (r.names.knows j l e d i);
+    };
+    births = births_on r.births on sorts before (λ t. ap (λ k. made_by (held_of x t) (home_of x t) + k) (makes t));
+    tree = tree_on on refl r.tree;
+    tree_words = record {
+      written = λ d y f i e o. r.tree_words.written d y f (back_on d i) e o;
+      in_hand = λ d g y f e i o. let b = before d g e in r.tree_words.in_hand d b.0 y f b.1 i o;
+    };
+    custody = subst (Custodies cells n (hand_in hands') phases x.slots) (set_again x.seats.tasks id m.0 m.1)
+        (custody_on r.custody (hand_in hands') phases id m.0 m.0 m.1 (λ t l. sorts t) tasks_same
+        (λ u. like_same (held_in m.0 u)));
+    owned = record {
+      owners = λ d t i. r.owned.owners d t (back_on d i);
+      owned_there = λ d t i. on d (r.owned.owned_there d t i);
+      owned_apart = r.owned.owned_apart;
+    };
+    once_words = once_on r.once_words (λ d i e. (on d i, e)) (λ d i e. (back_on d i, e))
+        (λ d j f e z. of_seat_set (HasInHand d) x.seats.hands id j (Some h) (Some h') has
+        (λ w. (h', refl, ap (λ (z : Hand). z.cell) (one_some h w.0 w.1) ∙ w.2))
+        ((r.once_words.may_be_due d j f e).tree z));
+    chains = chains_turn r.chains c phase.Promise
+        (λ p y. hand_waits h.marked _ _ _ (sym in_hand.marked ∙ y.1)) (λ p y. hand_waits true _ _ _ y.1);
+    live_count = subst (λ l. LiveCount cells x.words.live phases l x.seats.rested)
+        (set_again x.seats.tokens id tokens at)
+        (count_turned r.live_count c phase.Promise id tokens tokens (let l = in_hand.drawn_cell in omega arith) at
+        (ap (λ k. k + tokens) (sym (ap live_part in_hand.marked ∙ hand_live h.marked))));
+    stops = r.stops;
+    waiters_own = λ u p way w e. r.waiters_own u p way w (waits u p way w e);
+    records_fit = λ t y e. subst (λ q. IsRecordIn (tag_in x) q y)
+        (sym (put_else x.words.phase c phase.Promise t (not_home t y e))) (r.records_fit t y e);
+    meaning = meaning_grows program cells (law_meant program cells x r)
+        (wider program (ground_of cells r.born x) n (hand_in hands') r.born)
+        (grew_wider program (ground_of cells r.born x) n (hand_in hands') r.born (begins_self r.born) on)
+        (λ d y i. inl i) (λ d z. inl z);
+    undrawn = λ d l. put_else x.words.phase c phase.Promise d (λ e. let i = in_hand.drawn_cell in omega arith)
+        ∙ r.undrawn d l;
+    facts = subst CoreFacts (sym (mark_shown cells x marked c h h' phase.Promise marking r.born r.maker)) r.facts;
+  }
+
+  -- the cell is marked, and makers and numbers of cells stay
+  pub marked_keeps : Keeping cells x marked (MarksPromise cells x marked c h h' phase.Promise)
+  marked_keeps = (
+    marking,
+    record {
+      there = λ d i. record { out = (on d i).1; parent_is = refl; kid_is = refl };
+      hands = λ d g e. let a = still d g e in inl (record {
+        hand = a.0;
+        in_hand = a.1;
+        maker_is = a.2;
+        made_is = λ j. made_by (held_of x g.maker) (home_of x g.maker) + makes g.maker j;
+      });
+    },
+  )
 
 module _ {B : Type 0} (program : Bool → B → Program B) (key : Key B) (s : State (Option (Rec B)) (View B))
     (r : Rule program key s) (id c : ℕ) (v : View B) (at : get_elem? s.views id ≡ some v) (m : MayMark c v) where
   abbrev h : Hand
   h = m.hand
 
-  abbrev h' : Hand
-  h' = record h { marked = true }
-
   has : get_elem? (seats_have s.views).hands id ≡ some (Some h)
   has = at_map (λ (u : View B). u.hand) s.views id v at ∙ ap (λ (o : Option Hand). some o) m.has
 
-  same : look (Some h') phase.Promise ≡ look (Some h) ((words_say s.words).phase h.cell)
-  same = marked_look r.law id h has m.promise
-
   abbrev after : Contents B
-  after = looked r.law (hands_now r.law id h h' has phase.Promise same)
-      (put (words_say s.words).phase h.cell phase.Promise)
-      (looks_put r.law id h h' has phase.Promise same) (making_put r.law id h h' has phase.Promise same)
+  after = marked r.law id h has m.promise
 
   -- what the store leaves: the promise is marked, in the hand and in PHASE
-  marks : (n : ℕ) → phase_in n ≡ phase.Promise → stored s id (Phase c) n (marked_promise v) ≡ after
+  marks : (n : ℕ) → phase_in n ≡ phase.Promise → stored s id (table_word.Phase c) n (marked_promise v) ≡ after
   marks n is j = record {
     words = record (words_say s.words) { phase = put (words_say s.words).phase (sym m.its_cell j) (is j) };
     slots = s.homes;
@@ -54,19 +236,21 @@ module _ {B : Type 0} (program : Bool → B → Program B) (key : Key B) (s : St
   }
 
   pub mark_stores : c < key.cells → Stores program key s id (phase_at c) (phase_word phase.Promise) (marked_promise v)
-  mark_stores l = store_word program key s id (Phase c) (phase_word phase.Promise) (marked_promise v)
+  mark_stores l = store_word program key s id (table_word.Phase c) (phase_word phase.Promise) (marked_promise v)
       (let e = r.all_words in omega arith)
       (record { code = refl; waits = λ d way w e. let z : phase.Promise ≡ phase.Waiting d way w = e in absurd (cc) })
       (r.seats id v at) after (marks (phase_word phase.Promise) refl)
-      (law_put r.law id h h' has phase.Promise same refl (subst (λ o. IsMarkedRight o true) (sym m.promise) tt))
+      (law_marked r.law id h has m.promise v.tokens (at_map (λ (u : View B). u.tokens) s.views id v at))
 
   -- and a call that makes it marks the promise
   pub mark_keeps : (y : Contents B) (n : ℕ) → phase_in n ≡ phase.Promise
-      → y ≡ stored s id (Phase c) n (marked_promise v)
-      → Keeping key.cells (contents_of s) y (MarksPromise key.cells (contents_of s) y c h h' phase.Promise)
+      → y ≡ stored s id (table_word.Phase c) n (marked_promise v)
+      → Keeping key.cells (contents_of s) y
+      (MarksPromise key.cells (contents_of s) y c h (record h { marked = true }) phase.Promise)
   mark_keeps y n is e = back (λ j. Keeping key.cells (contents_of s) ((e ∙ marks n is) j)
-      (MarksPromise key.cells (contents_of s) ((e ∙ marks n is) j) (sym m.its_cell j) h h' phase.Promise))
-      (put_keeps r.law id h h' has phase.Promise same)
+      (MarksPromise key.cells (contents_of s) ((e ∙ marks n is) j) (sym m.its_cell j) h (record h { marked = true })
+      phase.Promise))
+      (marked_keeps r.law id h has m.promise)
 
 pub mark_allowed : {B : Type 0} (program : Bool → B → Program B) (key : Key B)
     (slots id : ℕ) (m : SeatMe B) (c i n : ℕ) → c < key.cells → i ≡ phase_at c
