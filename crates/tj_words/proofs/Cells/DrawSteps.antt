@@ -308,9 +308,6 @@ module _ {B : Type 0} (program : Bool → B → Program B) (key : Key B) (keeps 
       let same : word s.words count_at ≡ min (word s.words count_at) key.cells = omega arith in
       taken left same o refl)
     where
-      c : ℕ
-      c = word s.words count_at
-
       taken : word s.words count_at < key.cells
           → word s.words count_at ≡ min (word s.words count_at) key.cells
           → (p : Sort) → o ≡ p

@@ -20,11 +20,6 @@ abbrev pub slots_after : {B : Type 0} → ℕ → Sort → Slots B → Slots B
 slots_after n sort.Promise slots = slots
 slots_after n sort.Task slots = set slots n none
 
--- who holds each task
-abbrev holders_after : ℕ → ℕ → Sort → (ℕ → Option ℕ) → ℕ → Option ℕ
-holders_after id n sort.Promise holder = holder
-holders_after id n sort.Task holder = put holder n (Some id)
-
 -- to whom the words of the new cell are due
 abbrev due_after : ℕ → Sort → Once → Option ℕ
 due_after id o once.Tag = None

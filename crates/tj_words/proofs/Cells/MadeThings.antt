@@ -16,11 +16,11 @@ module _ {B : Type 0} {program : Program B} {cells : ℕ} {x : Contents B} (r : 
   abbrev K : CoreState
   K = core_shown cells r.born r.maker x
 
-  maker_shown : (c : ℕ) → c < n → maker K.cells c ≡ r.maker c
+  pub maker_shown : (c : ℕ) → c < n → maker K.cells c ≡ r.maker c
   maker_shown c l = ap (λ (z : CellState). z.maker) (cell_there r.born r.maker (parts_of cells x) c l)
 
   -- the core sees a cell as the thing that its number says
-  thing_shown : (c : ℕ) → c < n → c ≢ 0 → IsThing K.cells c (r.number c)
+  pub thing_shown : (c : ℕ) → c < n → c ≢ 0 → IsThing K.cells c (r.number c)
   thing_shown c l d =
       let w = r.births.named c (reference_of r.born c) (cell_born r c l) d in
       let m = (r.births.makers_there c l).0 in

@@ -2,13 +2,15 @@
 use Rattle.tj_words.proofs.Prelude.{Births, Bool, Due, Fork, Forks, Hand, HasTask, IsCell, IsDue, IsForkTree, IsHistory}
 use Rattle.tj_words.proofs.Prelude.{IsOfTree, IsThere, List, Node, NodeId, None, OfSeat, Once, Option, Phase, Reference}
 use Rattle.tj_words.proofs.Prelude.{Some, Sort, TreeWords, [], ap, arith, at_longer, child, depth_word, dite, false}
-use Rattle.tj_words.proofs.Prelude.{get_elem?, if◌then◌else◌, inl, inr, jump_word, length, ne_eqb, next_reference}
-use Rattle.tj_words.proofs.Prelude.{node_of, parent_word, put, put_else, put_here, reference_of, refl, some}
-use Rattle.tj_words.proofs.Prelude.{some-injective, some-ne-none, sort_shown, subst, suc, sym, to_task, tree_word, true}
-use Rattle.tj_words.proofs.Prelude.{zero, ℕ, ℕ_discrete, ⊎_elim, ◌++◌, ◌-◌, ◌<◌, ◌==◌, ◌∙◌, ◌∷◌, ◌≡◌, ◌≢◌, ◌≤◌, ◌⊎◌}
+use Rattle.tj_words.proofs.Prelude.{get_elem?, if◌then◌else◌, inl, inr, jump_word, length, length-append, ne_eqb}
+use Rattle.tj_words.proofs.Prelude.{next_reference, node_of, parent_word, put, put_else, put_here, reference_of, refl}
+use Rattle.tj_words.proofs.Prelude.{some, some-injective, some-ne-none, sort_shown, subst, suc, sym, to_task, tree_word}
+use Rattle.tj_words.proofs.Prelude.{true, zero, ℕ, ℕ_discrete, ⊎_elim, ◌++◌, ◌-◌, ◌<◌, ◌==◌, ◌∙◌, ◌∷◌, ◌≡◌, ◌≢◌, ◌≤◌}
+use Rattle.tj_words.proofs.Prelude.{◌⊎◌}
 use Rattle.tj_tree.specs.Forks.{HasKid, IsNext, name_of}
 use Rattle.tj_tree.specs.Nodes.{jump_from, child_node}
 use Rattle.tj_tree.proofs.Trees.{node_of-older, node_of-child, name_of-older, name_of-child, root_there, IsJump-of}
+use Rattle.tj_words.proofs.Stores.SeatLists.{inside}
 use Rattle.tj_words.specs.Inner.TreeDraws.{forks_after, IsDrawnInto, MayDraw}
 use Rattle.tj_words.proofs.Holders.HeldTasks.{one_some, at_index}
 use Rattle.tj_base.specs.declared.cell.Sort.TheVariants as sort
@@ -19,11 +21,6 @@ last_at : {A : Type 0} (l : List A) (a : A) → get_elem? (l ++ a ∷ []) (lengt
 last_at [] a = refl
 last_at (x ∷ l) a = last_at l a
 
-pub place_inside : {A : Type 0} (l : List A) (c : ℕ) (x : A) → get_elem? l c ≡ some x → c < length l
-place_inside [] c x e = absurd (some-ne-none x (sym e))
-place_inside (y ∷ l) zero x e = omega arith
-place_inside (y ∷ l) (suc c) x e = let h = place_inside l c x e in omega arith
-
 split_at : {A : Type 0} (l : List A) (a : A) (c : ℕ) (x : A) → get_elem? (l ++ a ∷ []) c ≡ some x
     → (get_elem? l c ≡ some x) ⊎ ((c ≡ length l) × (x ≡ a))
 split_at [] a zero x e = inr (refl, sym (some-injective a x e))
@@ -32,10 +29,6 @@ split_at (y ∷ l) a zero x e = inl e
 split_at (y ∷ l) a (suc c) x e =
     ⊎_elim (λ (q : get_elem? l c ≡ some x). inl q) (λ (q : (c ≡ length l) × (x ≡ a)). inr (ap suc q.0, q.1))
     (split_at l a c x e)
-
-length-snoc : {A : Type 0} (l : List A) (a : A) → length (l ++ a ∷ []) ≡ suc (length l)
-length-snoc [] a = refl
-length-snoc (x ∷ l) a = ap suc (length-snoc l a)
 
 -- the task that a kid number is of
 record IsKidOf (forks : Forks) (p k : ℕ) : Type 0 where
@@ -94,7 +87,7 @@ module _ {n : ℕ} {born : List Reference} {maker number made : ℕ → ℕ} {ha
 
   module _ (phase : ℕ → Phase) (b : Births n born maker number made hand phase) where
     cell_inside : (c : ℕ) (x : Reference) → IsCell born c x → c < n
-    cell_inside c x e = subst (λ m. c < m) b.all (place_inside born c x e)
+    cell_inside c x e = subst (λ m. c < m) b.all (inside born c x e)
 
     -- a cell after the draw is an old one, or the new one
     pub old_or_new : (c : ℕ) (x : Reference) → IsCell born' c x → IsCell born c x ⊎ ((c ≡ n) × (x ≡ new))
@@ -114,17 +107,8 @@ module _ {n : ℕ} {born : List Reference} {maker number made : ℕ → ℕ} {ha
     not_new : (c : ℕ) (x : Reference) → IsCell born c x → c ≢ n
     not_new c x e q = let l = cell_inside c x e in omega arith
 
-    t_old : t ≢ n
-    t_old e = let l = may.maker_there.0 in omega arith
-
     root_old : 0 ≢ n
     root_old e = let l = may.maker_there.0 in omega arith
-
-    old_made : (c : ℕ) → c < n → made c ≤ made' c
-    old_made c l = dite (ℕ_discrete c t)
-        (λ e. let q : made' c ≡ suc (made c) = ap made' e ∙ (d.made_one ∙ ap (λ i. suc (made i)) (sym e)) in omega
-        arith)
-        (λ m. let q : made' c ≡ made c = d.made_else c m (λ e. omega arith) in omega arith)
 
     -- births are kept
     pub births_drawn : Births (suc n) born' maker' number' made' hand' phase
@@ -170,7 +154,7 @@ module _ {n : ℕ} {born : List Reference} {maker number made : ℕ → ℕ} {ha
     }
       where
         long : length born' ≡ suc n
-        long = length-snoc born new ∙ ap suc b.all
+        long = (let a = length-append born (new ∷ []) in let l = b.all in omega arith)
 
         old_maker : (c : ℕ) (x : Reference) → IsCell born c x → maker' c ≡ maker c
         old_maker c x e = put_else maker n t c (not_new c x e)

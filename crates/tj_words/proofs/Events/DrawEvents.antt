@@ -1,23 +1,22 @@
 -- A draw is a Make or a Fork; the first store of OWN shows nothing.
 use Rattle.tj_words.proofs.Prelude.{Allowed, CellState, Contents, CoreState, DrawsCell, Hand, IsCell, IsDrawnInto}
 use Rattle.tj_words.proofs.Prelude.{IsEmpty, IsThere, Law, List, None, Parts, Program, Reference, ShowsEvent, Slots}
-use Rattle.tj_words.proofs.Prelude.{Some, Sort, [], after, ap, arith, child, core_shown, draw_event, drawn_in}
-use Rattle.tj_words.proofs.Prelude.{first_owner, get_elem?, get_or, hand_of, hand_stage, held_of, home_in, home_of}
-use Rattle.tj_words.proofs.Prelude.{length, made_by, made_of, maker, making, name, next_reference, parts_of, phase_sort}
-use Rattle.tj_words.proofs.Prelude.{put, put_else, put_here, record_in, reference_of, refl, shown_by, some}
-use Rattle.tj_words.proofs.Prelude.{some-injective, subst, suc, sym, to_task, with_new, zero, ℕ, ◌++◌, ◌+◌, ◌<◌, ◌∙◌}
-use Rattle.tj_words.proofs.Prelude.{◌∷◌, ◌≡◌, ◌≢◌, ◌≤◌}
+use Rattle.tj_words.proofs.Prelude.{Some, Sort, [], after, ap, arith, core_shown, draw_event, drawn_in, first_owner}
+use Rattle.tj_words.proofs.Prelude.{get_elem?, get_or, hand_of, hand_stage, held_of, home_in, home_of, length, made_by}
+use Rattle.tj_words.proofs.Prelude.{made_of, maker, making, next_reference, parts_of, phase_sort, put, put_else}
+use Rattle.tj_words.proofs.Prelude.{put_here, record_in, reference_of, refl, shown_by, some, some-injective, subst, suc}
+use Rattle.tj_words.proofs.Prelude.{sym, to_task, with_new, zero, ℕ, ◌++◌, ◌+◌, ◌<◌, ◌∙◌, ◌∷◌, ◌≡◌, ◌≢◌, ◌≤◌}
 use Rattle.tj_core.proofs.OneCell.Makers.{thing_made}
 use Rattle.tj_words.specs.Inner.TreeDraws.{MayDraw}
 use Rattle.tj_words.proofs.Holders.HeldTasks.{none_some, one_some, hand_found, makes_none}
 use Rattle.tj_words.proofs.Events.ShownCells.{cell_there}
 use Rattle.tj_words.proofs.Events.ShownDraws.{one_drawn}
-use Rattle.tj_words.proofs.Cells.CellFacts.{cell_born, name_shown, sort_is}
-use Rattle.tj_words.proofs.Cells.TreeDraws.{place_inside}
+use Rattle.tj_words.proofs.Cells.CellFacts.{cell_born, sort_is}
+use Rattle.tj_words.proofs.Cells.MadeThings.{maker_shown, thing_shown}
 use Rattle.tj_words.proofs.Holders.TaskPlaces.{custody, hand_seat}
 use Rattle.tj_words.proofs.Events.OwnerEvents.{acts_there, acts_phase, acts_made, acts_stage, acts_run}
 use Rattle.tj_words.specs.Steps.ShownParts.{drawn_parts}
-use Rattle.tj_words.proofs.Stores.SeatLists.{back}
+use Rattle.tj_words.proofs.Stores.SeatLists.{back, inside}
 use Rattle.tj_base.specs.declared.cell.Sort.TheVariants as sort
 
 -- the last element of a list, and each before it
@@ -122,26 +121,12 @@ module _ {B : Type 0} {program : Program B} {cells : ℕ} {x : Contents B} (r : 
       where
         number_made : (c : ℕ) (z : Reference) → IsCell r.born c z → c ≢ 0 → r.number c ≤ made_of x (r.maker c)
         number_made c z e d =
-            let inside : c < n = subst (λ m. c < m) r.births.all (place_inside r.born c z e) in
-            let w = r.births.named c z e d in
-            let l = (r.births.makers_there c inside).0 in
-            let same : z ≡ reference_of r.born c = some-injective z (reference_of r.born c)
-            (sym e ∙ cell_born r c inside) in
-            let up : w.0 ≡ reference_of r.born (r.maker c) =
-            some-injective w.0 (reference_of r.born (r.maker c)) (sym w.1 ∙ cell_born r (r.maker c) l) in
-            let m : maker K.cells c ≡ r.maker c =
-            ap (λ (q : CellState). q.maker) (cell_there r.born r.maker (parts_of cells x) c inside) in
-            let thing : name K.cells c ≡ child (name K.cells (maker K.cells c)) (r.number c) =
-            name_shown r c inside
-            ∙ (ap (λ (q : Reference). q.name) (sym same)
-            ∙ (w.2
-            ∙ ap (λ a. child a (r.number c))
-            (ap (λ (q : Reference). q.name) up
-            ∙ (sym (name_shown r (r.maker c) l) ∙ ap (name K.cells) (sym m))))) in
+            let drawn : c < n = subst (λ m. c < m) r.births.all (inside r.born c z e) in
             let made : (K.cells (maker K.cells c)).made ≡ made_of x (r.maker c) =
-            ap (λ i. (K.cells i).made) m
-            ∙ ap (λ (q : CellState). q.made) (cell_there r.born r.maker (parts_of cells x) (r.maker c) l) in
-            let few = thing_made n K.cells r.facts.makers c (r.number c) inside thing in omega arith
+            ap (λ i. (K.cells i).made) (maker_shown r c drawn)
+            ∙ ap (λ (q : CellState). q.made)
+            (cell_there r.born r.maker (parts_of cells x) (r.maker c) (r.births.makers_there c drawn).0) in
+            let few = thing_made n K.cells r.facts.makers c (r.number c) drawn (thing_shown r c drawn d) in omega arith
 
     -- a draw is a Make or a Fork, and the cell is one more of those that are born
     pub draw_shown : ShowsEvent cells r.born r.maker x y (draw_event h.sort t)
