@@ -15,3 +15,5 @@ pub mod OneHolders
 pub mod PushRuns
 pub mod Verdicts
 pub mod AlikeSeats
+pub mod CallStores
+pub mod CallViews

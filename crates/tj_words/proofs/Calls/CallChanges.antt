@@ -1,14 +1,15 @@
 -- What a call does which is no event is such a change as the law of steps speaks of: the words say what was stored, and
 -- the hand, the tasks and the waits cleared of the view are as they were.
-use Rattle.tj_words.proofs.Prelude.{Bool, ChangesHead, ChangesLive, ChangesNext, ChangesStop, Contents, DrawIsRefused}
-use Rattle.tj_words.proofs.Prelude.{Hand, IfRecord, IsIdle, IsThere, KeepsCells, KeepsHoldings, LoadsOnly, Makes, None}
-use Rattle.tj_words.proofs.Prelude.{Once, Option, Program, Rec, SeatMe, SeesOnce, SlotsOf, Some, Sort, State, Step}
-use Rattle.tj_words.proofs.Prelude.{StoresOnce, View, WordsSay, WritesOnce, [], ap, at_map, both, contents_of, count_at}
-use Rattle.tj_words.proofs.Prelude.{dite, draw_step, drawn_in, find_in, get_elem?, hand_in, hand_of, head_at, head_in}
-use Rattle.tj_words.proofs.Prelude.{head_load, home_in, inl, inr, left_half, live_at, live_load, lowered_with, made_by}
-use Rattle.tj_words.proofs.Prelude.{making, map, map-append, next_at, once_at, push_exchange, put, raised_with, refl}
-use Rattle.tj_words.proofs.Prelude.{right_half, seats_have, set, shut_swap, some, spent, stop_at, subst, suc, sym, word}
-use Rattle.tj_words.proofs.Prelude.{words_say, ℕ, ℕ_discrete, ⊎_elim, ◌++◌, ◌+◌, ◌∙◌, ◌∷◌, ◌≡◌, ◌≢◌, ◌≤◌, ◌⊎◌}
+use Rattle.tj_words.proofs.Prelude.{Bool, ChangesHead, ChangesLive, ChangesNext, ChangesStop, Contents, Custody}
+use Rattle.tj_words.proofs.Prelude.{DrawIsRefused, Hand, IfRecord, IsIdle, IsThere, KeepsCells, KeepsHoldings, List}
+use Rattle.tj_words.proofs.Prelude.{LoadsOnly, Makes, MayPutOnce, None, Once, Option, Program, PutsOnce, Rec, SeatMe}
+use Rattle.tj_words.proofs.Prelude.{SeesOnce, SlotsOf, Some, Sort, State, Step, StoresOnce, View, WordsSay, WritesOnce}
+use Rattle.tj_words.proofs.Prelude.{[], ap, at_map, both, contents_of, count_at, dite, draw_step, drawn_in, find_in}
+use Rattle.tj_words.proofs.Prelude.{get_elem?, hand_in, hand_of, head_at, head_in, head_load, home_in, inl, inr}
+use Rattle.tj_words.proofs.Prelude.{left_half, live_at, live_load, lowered_with, made_by, making, map, map-append}
+use Rattle.tj_words.proofs.Prelude.{next_at, once_at, push_exchange, put, raised_with, refl, right_half, seats_have}
+use Rattle.tj_words.proofs.Prelude.{set, shut_swap, some, spent, stop_at, subst, suc, sym, true, word, words_say, ℕ}
+use Rattle.tj_words.proofs.Prelude.{ℕ_discrete, ⊎_elim, ◌++◌, ◌+◌, ◌∙◌, ◌∷◌, ◌≡◌, ◌≢◌, ◌≤◌, ◌⊎◌}
 use Rattle.tj_words.specs.CallLaws.CallSteps.{Splits}
 use Rattle.tj_words.proofs.Seating.Appending.{find_snoc, hand_snoc, making_snoc}
 use Rattle.tj_words.proofs.Calls.KeptCells.{kept}
@@ -20,11 +21,13 @@ use Rattle.tj_words.proofs.Stores.StoredWords.{say_stop, say_head, say_next}
 use Rattle.tj_words.specs.declared.offsets.Once.TheVariants as once
 
 module _ {B : Type 0} where
-  -- of the views the core state shows the same
-  pub record ShowsSame (v w : View B) : Type 0 where
-    pub hand : w.hand ≡ v.hand
-    pub tasks : w.tasks ≡ v.tasks
-    pub cleared : w.cleared ≡ v.cleared
+  -- what the core state shows of a view
+  abbrev shown : View B → Option Hand × List (Custody B) × ℕ
+  shown v = (v.hand, v.tasks, v.cleared)
+
+  -- of the views the core state shows the same, and one that has loaded LIVE as 0 has still
+  abbrev pub ShowsSame : View B → View B → Type 0
+  ShowsSame v w = (shown w ≡ shown v) × (v.rested ≡ true → w.rested ≡ true)
 
   -- hands, tasks, waits cleared and slots stay
   module _ (s t : State (Option (Rec B)) (View B)) (id i n : ℕ) (m m' : SeatMe B) (h : Makes id i n m m' s t) where
@@ -32,11 +35,11 @@ module _ {B : Type 0} where
     holdings q = record {
       slots = ap (λ (z : State (Option (Rec B)) (View B)). z.homes) h.after;
       hands = ap (λ (z : State (Option (Rec B)) (View B)). map (λ (v : View B). v.hand) z.views) h.after
-          ∙ same_field (λ (v : View B). v.hand) s.views id m.0 m'.0 h.at q.hand;
+          ∙ same_field (λ (v : View B). v.hand) s.views id m.0 m'.0 h.at (ap (λ z. z.0) q.0);
       tasks = ap (λ (z : State (Option (Rec B)) (View B)). map (λ (v : View B). v.tasks) z.views) h.after
-          ∙ same_field (λ (v : View B). v.tasks) s.views id m.0 m'.0 h.at q.tasks;
+          ∙ same_field (λ (v : View B). v.tasks) s.views id m.0 m'.0 h.at (ap (λ z. z.1) q.0);
       cleared = ap (λ (z : State (Option (Rec B)) (View B)). map (λ (v : View B). v.cleared) z.views) h.after
-          ∙ same_field (λ (v : View B). v.cleared) s.views id m.0 m'.0 h.at q.cleared;
+          ∙ same_field (λ (v : View B). v.cleared) s.views id m.0 m'.0 h.at (ap (λ z. z.2) q.0);
     }
 
     -- the words are those after the store
@@ -52,17 +55,14 @@ module _ {B : Type 0} where
   }
 
   -- a view that is one that shows the same
-  pub is_same : (v w u : View B) → w ≡ u → ShowsSame v u → ShowsSame v w
-  is_same v w u e q = subst (ShowsSame v) (sym e) q
-
-  pub as_it_was : (v w u : View B) → w ≡ u → u.hand ≡ v.hand → u.tasks ≡ v.tasks → u.cleared ≡ v.cleared → ShowsSame v w
-  as_it_was v w u e a b c = is_same v w u e (record { hand = a; tasks = b; cleared = c })
+  pub as_it_was : (v w u : View B) → w ≡ u → shown u ≡ shown v → u.rested ≡ v.rested → ShowsSame v w
+  as_it_was v w u e same rests = (ap shown e ∙ same, λ r. ap (λ (z : View B). z.rested) e ∙ (rests ∙ r))
 
   -- what each play of a load tells
   pub head_same : (program : Bool → B → Program B) (cells c n : ℕ) (st : Step (Option (Rec B))) (m m' : SeatMe B)
       → head_load program cells c st m n m' → ShowsSame m.0 m'.0
-  head_same program cells c n st m m' h = ⊎_elim (λ e. as_it_was m.0 m'.0 _ (h.2 e).view refl refl refl)
-      (λ e. as_it_was m.0 m'.0 _ (h.3 e).view refl refl refl) (shut_or (head_in n))
+  head_same program cells c n st m m' h = ⊎_elim (λ e. as_it_was m.0 m'.0 _ (h.2 e).view refl refl)
+      (λ e. as_it_was m.0 m'.0 _ (h.3 e).view refl refl) (shut_or (head_in n))
 
   pub push_same : (program : Bool → B → Program B) (cells p n : ℕ) (st : Step (Option (Rec B))) (m m' : SeatMe B)
       → n ≢ st.first → push_exchange program cells p st m n m' → ShowsSame m.0 m'.0
@@ -70,35 +70,46 @@ module _ {B : Type 0} where
 
   pub live_same : (n : ℕ) (st : Step (Option (Rec B))) (m m' : SeatMe B) → live_load st m n m' → ShowsSame m.0 m'.0
   live_same n st m m' h = dite (ℕ_discrete n 0)
-      (λ e. as_it_was m.0 m'.0 _ (h.1 e) refl refl refl)
-      (λ e. as_it_was m.0 m'.0 _ (h.2 e) refl refl refl)
+      (λ e. (ap shown (h.1 e), λ r. ap (λ (v : View B). v.rested) (h.1 e)))
+      (λ e. as_it_was m.0 m'.0 _ (h.2 e) refl refl)
 
   pub once_same : (program : Bool → B → Program B) (cells c n : ℕ) (f : Once) (v w : View B)
       → SeesOnce program cells f c n v w → ShowsSame v w
   once_same program cells c n once.Tag v w h = dite (ℕ_discrete n 0)
-      (λ e. as_it_was v w _ (h.0 e).view refl refl refl)
-      (λ e. as_it_was v w _ (h.1 e).view refl refl refl)
-  once_same program cells c n once.Bits v w h =
-      as_it_was v w _ h.view refl refl refl
-  once_same program cells c n once.Parent v w h =
-      as_it_was v w _ h.view refl refl refl
-  once_same program cells c n once.Kid v w h =
-      as_it_was v w _ h.view refl refl refl
-  once_same program cells c n once.Depth v w h =
-      as_it_was v w _ h.view refl refl refl
-  once_same program cells c n once.Jump v w h =
-      as_it_was v w _ h.view refl refl refl
+      (λ e. as_it_was v w _ (h.0 e).view refl refl)
+      (λ e. as_it_was v w _ (h.1 e).view refl refl)
+  once_same program cells c n once.Bits v w h = as_it_was v w _ h.view refl refl
+  once_same program cells c n once.Parent v w h = as_it_was v w _ h.view refl refl
+  once_same program cells c n once.Kid v w h = as_it_was v w _ h.view refl refl
+  once_same program cells c n once.Depth v w h = as_it_was v w _ h.view refl refl
+  once_same program cells c n once.Jump v w h = as_it_was v w _ h.view refl refl
+
+  -- the store of a word that is written once
+  pub put_same : (program : Bool → B → Program B) (c n : ℕ) (f : Once) (v w : View B) → MayPutOnce program f c n v
+      → PutsOnce program f c n v w → ShowsSame v w
+  put_same program c n once.Tag v w m p = as_it_was v w _ (p m) refl refl
+  put_same program c n once.Bits v w m p = as_it_was v w _ (p m) refl refl
+  put_same program c n once.Parent v w m p = as_it_was v w _ p refl refl
+  put_same program c n once.Kid v w m p = as_it_was v w _ p refl refl
+  put_same program c n once.Depth v w m p = as_it_was v w _ p refl refl
+  put_same program c n once.Jump v w m p = as_it_was v w _ p refl refl
 
   -- LIVE up and down, where no record comes home
-  pub raise_same : (v : View B) (slots : SlotsOf B) → IfRecord (λ t r. ⊥) slots → ShowsSame v (raised_with v slots).0
-  raise_same v [] h = record { hand = refl; tasks = refl; cleared = refl }
-  raise_same v ((t, None) ∷ slots) h = record { hand = refl; tasks = refl; cleared = refl }
-  raise_same v ((t, Some r) ∷ slots) h = absurd h
+  raised_same : (v : View B) (slots : SlotsOf B) → IfRecord (λ t r. ⊥) slots → ShowsSame v (raised_with v slots).0
+  raised_same v [] h = (refl, λ r. r)
+  raised_same v ((t, None) ∷ slots) h = (refl, λ r. r)
+  raised_same v ((t, Some r) ∷ slots) h = absurd h
 
-  pub lower_same : (v : View B) (slots : SlotsOf B) → IfRecord (λ t r. ⊥) slots → ShowsSame v (lowered_with v slots).0
-  lower_same v [] h = record { hand = refl; tasks = refl; cleared = refl }
-  lower_same v ((t, None) ∷ slots) h = record { hand = refl; tasks = refl; cleared = refl }
-  lower_same v ((t, Some r) ∷ slots) h = absurd h
+  lowered_same : (v : View B) (slots : SlotsOf B) → IfRecord (λ t r. ⊥) slots → ShowsSame v (lowered_with v slots).0
+  lowered_same v [] h = (refl, λ r. r)
+  lowered_same v ((t, None) ∷ slots) h = (refl, λ r. r)
+  lowered_same v ((t, Some r) ∷ slots) h = absurd h
+
+  pub raise_same : (m m' : SeatMe B) → m' ≡ raised_with m.0 m.1 → IfRecord (λ t r. ⊥) m.1 → ShowsSame m.0 m'.0
+  raise_same m m' e h = subst (λ (z : SeatMe B). ShowsSame m.0 z.0) (sym e) (raised_same m.0 m.1 h)
+
+  pub lower_same : (m m' : SeatMe B) → m' ≡ lowered_with m.0 m.1 → IfRecord (λ t r. ⊥) m.1 → ShowsSame m.0 m'.0
+  lower_same m m' e h = subst (λ (z : SeatMe B). ShowsSame m.0 z.0) (sym e) (lowered_same m.0 m.1 h)
 
   -- stores of LIVE, STOP, HEAD and NEXT, and a refused draw, by a view that shows the same
   pub live_changes : (s t : State (Option (Rec B)) (View B)) (id n : ℕ) (m m' : SeatMe B)
@@ -135,8 +146,8 @@ module _ {B : Type 0} where
 
   pub shut_same : (cells p n : ℕ) (st : Step (Option (Rec B))) (m m' : SeatMe B) → shut_swap cells p st m n m'
       → ShowsSame m.0 m'.0
-  shut_same cells p n st m m' h = ⊎_elim (λ e. as_it_was m.0 m'.0 _ (h.2 e) refl refl refl)
-      (λ e. as_it_was m.0 m'.0 _ (h.3 e).view refl refl refl) (shut_or (head_in n))
+  shut_same cells p n st m m' h = ⊎_elim (λ e. as_it_was m.0 m'.0 _ (h.2 e) refl refl)
+      (λ e. as_it_was m.0 m'.0 _ (h.3 e).view refl refl) (shut_or (head_in n))
 
   pub refused_counts : (program : Bool → B → Program B) (cells t : ℕ) (o : Sort) (a b : State (Option (Rec B)) (View B))
       (id : ℕ) (m m' : SeatMe B) (st : Step (Option (Rec B)))
@@ -148,7 +159,7 @@ module _ {B : Type 0} where
     words = stored a b id count_at (suc (word a.words count_at)) m m' h
         ∙ say_count a.words (suc (word a.words count_at)) h.inside;
     keeps = holdings a b id count_at (suc (word a.words count_at)) m m' h
-        (as_it_was m.0 m'.0 _ (d.1 full).0.view refl refl refl);
+        (as_it_was m.0 m'.0 _ (d.1 full).0.view refl refl);
   }
 
   -- makers and numbers of cells stay where hands, tasks and slots do, and PARENT and KID of the cells that are there

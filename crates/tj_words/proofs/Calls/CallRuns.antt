@@ -20,9 +20,9 @@ use Rattle.tj_words.specs.CallLaws.CallRuns.{OwnerReads, SeatsAreQuiet, acts_by,
 use Rattle.tj_words.specs.CallLaws.CallRuns.{live_act, phase_act, swap_events}
 use Rattle.tj_words.specs.Calls.PhaseViews.{MayPutPhase}
 use Rattle.tj_core.specs.Runs.{IsLegalRun}
-use Rattle.tj_words.proofs.Calls.CallChanges.{ShowsSame, as_it_was, head_changes, head_same, is_same, keeps_cells}
-use Rattle.tj_words.proofs.Calls.CallChanges.{live_changes, live_same, loads, lower_same, merge_merges, next_changes}
-use Rattle.tj_words.proofs.Calls.CallChanges.{once_same, push_same, raise_same, refused_counts, shut_same, split_splits}
+use Rattle.tj_words.proofs.Calls.CallChanges.{ShowsSame, as_it_was, head_changes, head_same, keeps_cells, live_changes}
+use Rattle.tj_words.proofs.Calls.CallChanges.{live_same, loads, lower_same, merge_merges, next_changes, once_same}
+use Rattle.tj_words.proofs.Calls.CallChanges.{push_same, raise_same, refused_counts, shut_same, split_splits}
 use Rattle.tj_words.proofs.Calls.CallChanges.{stop_changes, writes_hand, writes_value}
 use Rattle.tj_words.proofs.Calls.DrawCalls.{call_draws}
 use Rattle.tj_words.proofs.Calls.EventCalls.{call_alarms, call_lowers, call_publishes, call_raises, call_reads}
@@ -176,17 +176,17 @@ module _ {B : Type 0} (program : Bool → B → Program B) (key : Key B) (u w : 
     puts_once : (f : Once) (c : ℕ) → Made (once_at c f) → act ≡ keeps → MayPutOnce program f c st.first m.0
         → PutsOnce program f c st.first m.0 m'.0 → Quiet
     puts_once once.Tag c h a may p = writes (writes_value c once.Tag s t id n m m' (plain (once_at c once.Tag) h a)
-        (as_it_was m.0 m'.0 _ (p may) refl refl refl) (λ e. absurd (cc)) (λ e. absurd (cc)))
+        (as_it_was m.0 m'.0 _ (p may) refl refl) (λ e. absurd (cc)) (λ e. absurd (cc)))
     puts_once once.Bits c h a may p = writes (writes_value c once.Bits s t id n m m' (plain (once_at c once.Bits) h a)
-        (as_it_was m.0 m'.0 _ (p may) refl refl refl) (λ e. absurd (cc)) (λ e. absurd (cc)))
+        (as_it_was m.0 m'.0 _ (p may) refl refl) (λ e. absurd (cc)) (λ e. absurd (cc)))
     puts_once once.Parent c h a may p = writes (writes_hand c once.Parent s t id n m m'
-        (plain (once_at c once.Parent) h a) (as_it_was m.0 m'.0 _ p refl refl refl) may.hand may.has may.its_cell)
+        (plain (once_at c once.Parent) h a) (as_it_was m.0 m'.0 _ p refl refl) may.hand may.has may.its_cell)
     puts_once once.Kid c h a may p = writes (writes_hand c once.Kid s t id n m m'
-        (plain (once_at c once.Kid) h a) (as_it_was m.0 m'.0 _ p refl refl refl) may.hand may.has may.its_cell)
+        (plain (once_at c once.Kid) h a) (as_it_was m.0 m'.0 _ p refl refl) may.hand may.has may.its_cell)
     puts_once once.Depth c h a may p = writes (writes_hand c once.Depth s t id n m m'
-        (plain (once_at c once.Depth) h a) (as_it_was m.0 m'.0 _ p refl refl refl) may.hand may.has may.its_cell)
+        (plain (once_at c once.Depth) h a) (as_it_was m.0 m'.0 _ p refl refl) may.hand may.has may.its_cell)
     puts_once once.Jump c h a may p = writes (writes_hand c once.Jump s t id n m m'
-        (plain (once_at c once.Jump) h a) (as_it_was m.0 m'.0 _ p refl refl refl) may.hand may.has may.its_cell)
+        (plain (once_at c once.Jump) h a) (as_it_was m.0 m'.0 _ p refl refl) may.hand may.has may.its_cell)
 
     puts_owner : (o : Option ℕ) (c : ℕ) → Made (own_at c) → act ≡ keeps → owner_in n ≡ o → MayPutOwner c o m.0
         → PutsOwner c o m.0 m'.0 → Shows (OwnerEvents c o m.0)
@@ -286,7 +286,7 @@ module _ {B : Type 0} (program : Bool → B → Program B) (key : Key B) (u w : 
           [],
           ((λ z. absurd (e z)), (λ z. refl)),
           look (phase_at c) h (a.1 e) (p.1 e)
-              (as_it_was m.0 m'.0 _ (ap (λ (z : SeatMe B). z.0) (p.2.1.1 e).1) refl refl refl),
+              (as_it_was m.0 m'.0 _ (ap (λ (z : SeatMe B). z.0) (p.2.1.1 e).1) refl refl),
         ))
       where
         cells : SameCells
@@ -294,20 +294,20 @@ module _ {B : Type 0} (program : Bool → B → Program B) (key : Key B) (u w : 
 
     raises : (slots : SlotsOf B) → m.1 ≡ slots → Made live_at → act ≡ live_act slots → m' ≡ raised_with m.0 m.1
         → IfRecord (λ c a. LaysChild program c a m) slots → Quiet
-    raises [] e h a p may = lives (live_changes s t id n m m' (plain live_at h a) (is_same m.0 m'.0 _
-        (ap (λ (z : SeatMe B). z.0) p) (raise_same m.0 m.1 (subst (IfRecord (λ c a. ⊥)) (sym e) tt))))
-    raises ((c, None) ∷ slots) e h a p may = lives (live_changes s t id n m m' (plain live_at h a) (is_same m.0 m'.0 _
-        (ap (λ (z : SeatMe B). z.0) p) (raise_same m.0 m.1 (subst (IfRecord (λ c a. ⊥)) (sym e) tt))))
+    raises [] e h a p may = lives (live_changes s t id n m m' (plain live_at h a)
+        (raise_same m m' p (subst (IfRecord (λ c a. ⊥)) (sym e) tt)))
+    raises ((c, None) ∷ slots) e h a p may = lives (live_changes s t id n m m' (plain live_at h a)
+        (raise_same m m' p (subst (IfRecord (λ c a. ⊥)) (sym e) tt)))
     raises ((c, Some f) ∷ slots) e h a p may =
         let q = call_moves program key s t r id m m' c n f (with_act gives live_at h a) p may in
         quiet q.1 (else_cells live_at h (λ z. omega arith)) (record_shown r.law y id c does.Unborn q.0)
 
     lowers : (slots : SlotsOf B) → m.1 ≡ slots → Made live_at → act ≡ live_act slots → m' ≡ lowered_with m.0 m.1
         → IfRecord (λ c a. Shelves program c a m) slots → Quiet
-    lowers [] e h a p may = lives (live_changes s t id n m m' (plain live_at h a) (is_same m.0 m'.0 _
-        (ap (λ (z : SeatMe B). z.0) p) (lower_same m.0 m.1 (subst (IfRecord (λ c a. ⊥)) (sym e) tt))))
-    lowers ((c, None) ∷ slots) e h a p may = lives (live_changes s t id n m m' (plain live_at h a) (is_same m.0 m'.0 _
-        (ap (λ (z : SeatMe B). z.0) p) (lower_same m.0 m.1 (subst (IfRecord (λ c a. ⊥)) (sym e) tt))))
+    lowers [] e h a p may = lives (live_changes s t id n m m' (plain live_at h a)
+        (lower_same m m' p (subst (IfRecord (λ c a. ⊥)) (sym e) tt)))
+    lowers ((c, None) ∷ slots) e h a p may = lives (live_changes s t id n m m' (plain live_at h a)
+        (lower_same m m' p (subst (IfRecord (λ c a. ⊥)) (sym e) tt)))
     lowers ((c, Some f) ∷ slots) e h a p may =
         let q = call_shelves program key s t r id m m' c n f (with_act gives live_at h a) p may in
         quiet q.1 (else_cells live_at h (λ z. omega arith))
@@ -373,7 +373,7 @@ module _ {B : Type 0} (program : Bool → B → Program B) (key : Key B) (u w : 
         → asked_by program key a st m → acts_by program key a st (word s.words (place_of a)) m act
         → Shows (events_by key.cells a st (word s.words (place_of a)) m.0)
     goes (call.draws d o) h p ask a = draws d o h p ask a
-    goes call.counts h p ask a = ([], refl, look count_at h a p.0 (as_it_was m.0 m'.0 _ p.1.1 refl refl refl))
+    goes call.counts h p ask a = ([], refl, look count_at h a p.0 (as_it_was m.0 m'.0 _ p.1.1 refl refl))
     goes (call.counts_by d) h p ask a = (
       event.LoadCount (cell d) ∷ [],
       refl,
@@ -390,7 +390,7 @@ module _ {B : Type 0} (program : Bool → B → Program B) (key : Key B) (u w : 
           (once_same program key.cells c (word s.words (once_at c f)) f m.0 m'.0 p.1.1),
     )
     goes (call.puts_owner c) h p ask a = puts_owner (owner_in st.first) c h a (ap owner_in p.0) p.1.0 p.1.1.1
-    goes (call.sees_owner c) h p ask a = ([], refl, look (own_at c) h a p.0 (as_it_was m.0 m'.0 _ p.1.1 refl refl refl))
+    goes (call.sees_owner c) h p ask a = ([], refl, look (own_at c) h a p.0 (as_it_was m.0 m'.0 _ p.1.1 refl refl))
     goes (call.sees_owner_by d c) h p ask a = reads_owner d c h p ask a
     goes (call.puts_phase c) h p ask a = (
       phase_events c (phase_in st.first),
@@ -398,7 +398,7 @@ module _ {B : Type 0} (program : Bool → B → Program B) (key : Key B) (u w : 
       puts_phase (phase_in st.first) c h ask.0 (ap phase_in p.0) p.1 ask.1 a,
     )
     goes (call.sees_phase c) h p ask a =
-        ([], refl, look (phase_at c) h a p.0 (as_it_was m.0 m'.0 _ p.1.1 refl refl refl))
+        ([], refl, look (phase_at c) h a p.0 (as_it_was m.0 m'.0 _ p.1.1 refl refl))
     goes (call.sees_phase_by d c) h p ask a = (
       event.ReadWait (cell d) ∷ [],
       refl,
@@ -437,9 +437,9 @@ module _ {B : Type 0} (program : Bool → B → Program B) (key : Key B) (u w : 
       [],
       refl,
       stops (stop_changes s t id n m m' (plain stop_at h a)
-          (as_it_was m.0 m'.0 _ (ap (λ (z : SeatMe B). z.0) p.1.0) refl refl refl)),
+          (as_it_was m.0 m'.0 _ (ap (λ (z : SeatMe B). z.0) p.1.0) refl refl)),
     )
-    goes call.sees_stop h p ask a = ([], refl, look stop_at h a p.0 (as_it_was m.0 m'.0 _ p.1.1 refl refl refl))
+    goes call.sees_stop h p ask a = ([], refl, look stop_at h a p.0 (as_it_was m.0 m'.0 _ p.1.1 refl refl))
     goes (call.sees_head c) h p ask a = (
       [],
       refl,
@@ -451,7 +451,7 @@ module _ {B : Type 0} (program : Bool → B → Program B) (key : Key B) (u w : 
       refl,
       dite (ℕ_discrete (word s.words (head_at c)) st.first)
           (λ e. heads (head_changes c s t id n m m' (plain (head_at c) h a)
-          (as_it_was m.0 m'.0 _ (p.2.2 e) refl refl refl)))
+          (as_it_was m.0 m'.0 _ (p.2.2 e) refl refl)))
           (λ e. look (head_at c) h a (p.1 e) (push_same program key.cells c (word s.words (head_at c)) st m m' e p.2)),
     )
     goes (call.shuts c) h p ask a = (
@@ -464,9 +464,9 @@ module _ {B : Type 0} (program : Bool → B → Program B) (key : Key B) (u w : 
       [],
       refl,
       nexts (next_changes c s t id n m m' (plain (next_at c) h a)
-          (as_it_was m.0 m'.0 _ p.1.1 refl refl refl)),
+          (as_it_was m.0 m'.0 _ p.1.1 refl refl)),
     )
-    goes (call.sees_next c) h p ask a = ([], refl, look (next_at c) h a p.0 (as_it_was m.0 m'.0 _ p.1.1 refl refl refl))
+    goes (call.sees_next c) h p ask a = ([], refl, look (next_at c) h a p.0 (as_it_was m.0 m'.0 _ p.1.1 refl refl))
 
   call_goes : (c : IsAskedCall program key s t)
       → Shows (events_by key.cells c.made.call c.made.operands (word s.words (place_of c.made.call)) c.made.seat.0)

@@ -1,188 +1,17 @@
 -- Once a seat has loaded LIVE as 0, each call, split and merge leaves some seat that has, so LIVE stays 0. A seat to
 -- which TAG is due would be lively, so none is written.
 use Rattle.tj_words.proofs.Prelude.{AreMoments, Bool, IsCallStep, IsDue, IsMerge, IsSplit, IsTableStep, Key, List}
-use Rattle.tj_words.proofs.Prelude.{MayPutOnce, MayPutOwner, MaySwap, None, Once, Option, Phase, Program, PutsOnce}
-use Rattle.tj_words.proofs.Prelude.{PutsOwner, PutsPhase, Rec, Ruled, SeatMe, SeesOnce, SlotsOf, Some, Sort, State}
-use Rattle.tj_words.proofs.Prelude.{Step, StepCall, Swaps, View, [], ap, arith, at_longer, at_map, both, dec_le, dite}
-use Rattle.tj_words.proofs.Prelude.{draw_step, false, get_elem?, head_load, inl, inr, last_moment, left_half}
-use Rattle.tj_words.proofs.Prelude.{lowered_with, once_at, phase_in, place_of, raised_with, refl, right_half, set}
-use Rattle.tj_words.proofs.Prelude.{set_else, set_here, some, some-injective, spent, subst, sym, told_by, true, word, ℕ}
-use Rattle.tj_words.proofs.Prelude.{ℕ_discrete, ⊎_elim, ◌++◌, ◌||◌, ◌∙◌, ◌∷◌, ◌≡◌, ◌≢◌, ◌⊎◌}
+use Rattle.tj_words.proofs.Prelude.{Option, Program, Rec, Ruled, State, View, [], ap, arith, at_longer, at_map, both}
+use Rattle.tj_words.proofs.Prelude.{dite, false, get_elem?, last_moment, left_half, place_of, refl, right_half, set}
+use Rattle.tj_words.proofs.Prelude.{set_else, set_here, some, some-injective, spent, suc, sym, true, word, ℕ}
+use Rattle.tj_words.proofs.Prelude.{ℕ_discrete, ⊎_elim, ◌++◌, ◌||◌, ◌∙◌, ◌∷◌, ◌≡◌, ◌⊎◌}
 use Rattle.tj_words.specs.CallLaws.RestedRuns.{HasRested, NoValueComes, RestStays, live_in, tag_at}
-use Rattle.tj_words.proofs.Waiters.ChainsSaid.{shut_or}
 use Rattle.tj_words.proofs.Waiters.LiveSteps.{held_in_phase, lively_live}
-use Rattle.tj_words.proofs.Stores.SeatLists.{inside, word_else, words_same}
+use Rattle.tj_words.proofs.Stores.SeatLists.{inside}
+use Rattle.tj_words.proofs.Calls.CallStores.{stays_or}
+use Rattle.tj_words.proofs.Calls.CallViews.{leaves}
 use Rattle.tj_words.specs.declared.offsets.Once.TheVariants as once
-use Rattle.tj_words.specs.declared.phase.Phase.TheVariants as phase
-use Rattle.tj_words.specs.declared.phase.Walk.TheVariants as walk
-use Rattle.tj_words.specs.CallLaws.StepCalls as call
-
-module _ {B : Type 0} where
-  -- from the view v on a seat keeps that it has loaded LIVE as 0
-  abbrev KeepsRest : View B → View B → Type 0
-  KeepsRest v w = v.rested ≡ true → w.rested ≡ true
-
-  -- a view that is one which is rested where v is
-  by_view : (v w u : View B) → w ≡ u → u.rested ≡ v.rested → KeepsRest v w
-  by_view v w u e same r = ap (λ (x : View B). x.rested) e ∙ (same ∙ r)
-
-  by_me : (m m' n : SeatMe B) → m' ≡ n → n.0.rested ≡ m.0.rested → KeepsRest m.0 m'.0
-  by_me m m' n e same r = ap (λ (x : SeatMe B). x.0.rested) e ∙ (same ∙ r)
-
-  module _ (program : Bool → B → Program B) (cells : ℕ) where
-    drawn : (t : ℕ) (o : Sort) (st : Step (Option (Rec B))) (m m' : SeatMe B) (k : ℕ)
-        → draw_step program cells t o st m k m' → KeepsRest m.0 m'.0
-    drawn t o st m m' k h = dite (dec_le cells k)
-        (λ l. by_view m.0 m'.0 _ (h.1 l).0.view refl)
-        (λ l. by_view m.0 m'.0 _ (h.0 (omega arith)).0.view refl)
-
-    put_once : (f : Once) (c n : ℕ) (v w : View B) → MayPutOnce program f c n v → PutsOnce program f c n v w
-        → KeepsRest v w
-    put_once once.Tag c n v w m p = by_view v w _ (p m) refl
-    put_once once.Bits c n v w m p = by_view v w _ (p m) refl
-    put_once once.Parent c n v w m p = by_view v w _ p refl
-    put_once once.Kid c n v w m p = by_view v w _ p refl
-    put_once once.Depth c n v w m p = by_view v w _ p refl
-    put_once once.Jump c n v w m p = by_view v w _ p refl
-
-    see_once : (f : Once) (c n : ℕ) (v w : View B) → SeesOnce program cells f c n v w → KeepsRest v w
-    see_once once.Tag c n v w h = dite (ℕ_discrete n 0)
-        (λ e. by_view v w _ (h.0 e).view refl)
-        (λ e. by_view v w _ (h.1 e).view refl)
-    see_once once.Bits c n v w h = by_view v w _ h.view refl
-    see_once once.Parent c n v w h = by_view v w _ h.view refl
-    see_once once.Kid c n v w h = by_view v w _ h.view refl
-    see_once once.Depth c n v w h = by_view v w _ h.view refl
-    see_once once.Jump c n v w h = by_view v w _ h.view refl
-
-    put_owner : (o : Option ℕ) (c : ℕ) (v w : View B) → MayPutOwner c o v → PutsOwner c o v w → KeepsRest v w
-    put_owner None c v w m p = by_view v w _ (p m) refl
-    put_owner (Some u) c v w m p = ⊎_elim (λ g. by_view v w _ (p.0 g) refl) (λ g. by_view v w _ (p.1 g) refl) m
-
-    put_phase : (q : Phase) (t : ℕ) (m m' : SeatMe B) → PutsPhase t q m m' → KeepsRest m.0 m'.0
-    put_phase phase.Unborn t m m' p = absurd p
-    put_phase phase.Ready t m m' p = by_me m m' _ p refl
-    put_phase phase.Running t m m' p = absurd p
-    put_phase phase.Ended t m m' p = by_me m m' _ p refl
-    put_phase phase.Promise t m m' p = by_me m m' _ p refl
-    put_phase (phase.Waiting c way walk.Walking) t m m' p = by_me m m' _ p refl
-    put_phase (phase.Waiting c way walk.Parked) t m m' p = by_me m m' _ p refl
-    put_phase (phase.Waiting c way walk.Alarmed) t m m' p = by_me m m' _ p refl
-
-    swapped : (t : ℕ) (was to : Phase) (m m' : SeatMe B) → MaySwap t was to m.0 → Swaps program t was to m m'
-        → KeepsRest m.0 m'.0
-    swapped t was to m m' may s = ⊎_elim
-        (λ q. let r = s.claims q.0 in by_me m m' _ r.2 refl)
-        (λ q. ⊎_elim
-        (λ w. by_me m m' _ (s.wakes q.0 q.1 q.2 w.0) refl)
-        (λ w. let r = s.goes_back q.0 q.1 q.2 w.0 in by_me m m' _ r.3 refl) q.3) may
-
-    see_head : (p n : ℕ) (st : Step (Option (Rec B))) (m m' : SeatMe B) → head_load program cells p st m n m'
-        → KeepsRest m.0 m'.0
-    see_head p n st m m' h = ⊎_elim (λ e. by_view m.0 m'.0 _ (h.2 e).view refl)
-        (λ e. by_view m.0 m'.0 _ (h.3 e).view refl) (shut_or _)
-
-    raised : (v : View B) (slots : SlotsOf B) → (raised_with v slots).0.rested ≡ v.rested
-    raised v [] = refl
-    raised v ((t, None) ∷ slots) = refl
-    raised v ((t, Some r) ∷ slots) = refl
-
-    lowered : (v : View B) (slots : SlotsOf B) → (lowered_with v slots).0.rested ≡ v.rested
-    lowered v [] = refl
-    lowered v ((t, None) ∷ slots) = refl
-    lowered v ((t, Some r) ∷ slots) = refl
-
-    -- each call keeps it
-    keeps_rest : (a : StepCall) (n k : ℕ) (st : Step (Option (Rec B))) (m m' : SeatMe B)
-        → told_by program cells a n st m k m' → KeepsRest m.0 m'.0
-    keeps_rest (call.draws t o) n k st m m' h = drawn t o st m m' k h.1
-    keeps_rest call.counts n k st m m' h = by_view m.0 m'.0 _ h.1.1 refl
-    keeps_rest (call.counts_by t) n k st m m' h = by_view m.0 m'.0 _ h.1.1 refl
-    keeps_rest (call.puts_once c f) n k st m m' h = put_once f c st.first m.0 m'.0 h.1.0 h.1.2
-    keeps_rest (call.sees_once c f) n k st m m' h = see_once f c k m.0 m'.0 h.1.1
-    keeps_rest (call.puts_owner c) n k st m m' h = put_owner _ c m.0 m'.0 h.1.0 h.1.1.1
-    keeps_rest (call.sees_owner c) n k st m m' h = by_view m.0 m'.0 _ h.1.1 refl
-    keeps_rest (call.sees_owner_by t c) n k st m m' h = by_view m.0 m'.0 _ h.1.1 refl
-    keeps_rest (call.puts_phase t) n k st m m' h = put_phase (phase_in st.first) t m m' h.1
-    keeps_rest (call.sees_phase t) n k st m m' h = by_view m.0 m'.0 _ h.1.1 refl
-    keeps_rest (call.sees_phase_by t u) n k st m m' h = by_view m.0 m'.0 _ h.1.1 refl
-    keeps_rest (call.swaps_phase t) n k st m m' h = dite (ℕ_discrete k st.first)
-        (λ e. swapped t (phase_in st.first) (phase_in st.second) m m' h.2.0 (h.2.1.0 e))
-        (λ e. by_me m m' _ (h.2.1.1 e).1 refl)
-    keeps_rest (call.raises_others t) n k st m m' h = by_view m.0 m'.0 _ h.1.1 refl
-    keeps_rest call.lowers_others n k st m m' h = by_view m.0 m'.0 _ h.1.1 refl
-    keeps_rest (call.sees_others_by t) n k st m m' h = by_view m.0 m'.0 _ h.1.1 refl
-    keeps_rest call.raises_live n k st m m' h = by_me m m' _ h.1 (raised m.0 m.1)
-    keeps_rest call.lowers_live n k st m m' h = by_me m m' _ h.1 (lowered m.0 m.1)
-    keeps_rest call.sees_live n k st m m' h = dite (ℕ_discrete k 0)
-        (λ e r. ap (λ (x : View B). x.rested) (h.1.1 e))
-        (λ e. by_view m.0 m'.0 _ (h.1.2 e) refl)
-    keeps_rest call.stops n k st m m' h = by_me m m' _ h.1.0 refl
-    keeps_rest call.sees_stop n k st m m' h = by_view m.0 m'.0 _ h.1.1 refl
-    keeps_rest (call.sees_head p) n k st m m' h = see_head p k st m m' h.1
-    keeps_rest (call.pushes p) n k st m m' h = dite (ℕ_discrete k st.first)
-        (λ e. by_view m.0 m'.0 _ (h.2.2 e) refl)
-        (λ e. see_head p k st m m' (h.2.0, h.2.1, h.2.3 e, h.2.4 e))
-    keeps_rest (call.shuts p) n k st m m' h = ⊎_elim
-        (λ e. by_view m.0 m'.0 _ (h.1.2 e) refl)
-        (λ e. by_view m.0 m'.0 _ (h.1.3 e).view refl) (shut_or _)
-    keeps_rest (call.puts_next t) n k st m m' h = by_view m.0 m'.0 _ h.1.1 refl
-    keeps_rest (call.sees_next t) n k st m m' h = by_view m.0 m'.0 _ h.1.1 refl
-
-    -- a word after a step, where that is a load, and where it is on another word
-    module _ (ws : List ℕ) (c : ℕ) where
-      -- TAG of the cell after this is stored at an index
-      abbrev after_it : ℕ → ℕ → ℕ
-      after_it i n = word (set ws i n) (once_at c once.Tag)
-
-      -- a step stores so at the index, and TAG stays, or it is due to the seat
-      abbrev Leaves : ℕ → ℕ → View B → Type 0
-      Leaves i n v = (after_it i n ≡ word ws (once_at c once.Tag)) ⊎ IsDue c once.Tag v.dues
-
-      loaded : (i n : ℕ) (v : View B) → n ≡ word ws i → Leaves i n v
-      loaded i n v e = inl (ap (after_it i) e ∙ ap (λ l. word l (once_at c once.Tag)) (words_same ws i))
-
-      else : (i n : ℕ) (v : View B) → once_at c once.Tag ≢ i → Leaves i n v
-      else i n v e = inl (word_else ws i (once_at c once.Tag) n e)
-
-      tag_put : (f : Once) (d n k : ℕ) (v : View B) → MayPutOnce program f d k v → Leaves (once_at d f) n v
-      tag_put once.Tag d n k v m = dite (ℕ_discrete d c)
-          (λ e. inr (subst (λ z. IsDue z once.Tag v.dues) e m.due))
-          (λ e. else (once_at d once.Tag) n v (λ z. e (omega arith)))
-      tag_put once.Bits d n k v m = else (once_at d once.Bits) n v (λ z. omega arith)
-      tag_put once.Parent d n k v m = else (once_at d once.Parent) n v (λ z. omega arith)
-      tag_put once.Kid d n k v m = else (once_at d once.Kid) n v (λ z. omega arith)
-      tag_put once.Depth d n k v m = else (once_at d once.Depth) n v (λ z. omega arith)
-      tag_put once.Jump d n k v m = else (once_at d once.Jump) n v (λ z. omega arith)
-
-      -- so each call does
-      leaves_tag : (a : StepCall) (n : ℕ) (st : Step (Option (Rec B))) (m m' : SeatMe B)
-          → told_by program cells a n st m (word ws (place_of a)) m' → Leaves (place_of a) n m.0
-      leaves_tag (call.draws t o) n st m m' h = else (place_of (call.draws t o)) n m.0 (λ z. omega arith)
-      leaves_tag call.counts n st m m' h = loaded (place_of call.counts) n m.0 h.0
-      leaves_tag (call.counts_by t) n st m m' h = loaded (place_of (call.counts_by t)) n m.0 h.0
-      leaves_tag (call.puts_once d f) n st m m' h = tag_put f d n st.first m.0 h.1.0
-      leaves_tag (call.sees_once d f) n st m m' h = loaded (once_at d f) n m.0 h.0
-      leaves_tag (call.puts_owner d) n st m m' h = else (place_of (call.puts_owner d)) n m.0 (λ z. omega arith)
-      leaves_tag (call.sees_owner d) n st m m' h = loaded (place_of (call.sees_owner d)) n m.0 h.0
-      leaves_tag (call.sees_owner_by t d) n st m m' h = loaded (place_of (call.sees_owner d)) n m.0 h.0
-      leaves_tag (call.puts_phase t) n st m m' h = else (place_of (call.puts_phase t)) n m.0 (λ z. omega arith)
-      leaves_tag (call.sees_phase t) n st m m' h = loaded (place_of (call.sees_phase t)) n m.0 h.0
-      leaves_tag (call.sees_phase_by t u) n st m m' h = loaded (place_of (call.sees_phase u)) n m.0 h.0
-      leaves_tag (call.swaps_phase t) n st m m' h = else (place_of (call.swaps_phase t)) n m.0 (λ z. omega arith)
-      leaves_tag (call.raises_others t) n st m m' h = else (place_of (call.raises_others t)) n m.0 (λ z. omega arith)
-      leaves_tag call.lowers_others n st m m' h = else (place_of call.lowers_others) n m.0 (λ z. omega arith)
-      leaves_tag (call.sees_others_by t) n st m m' h = loaded (place_of (call.sees_others_by t)) n m.0 h.0
-      leaves_tag call.raises_live n st m m' h = else (place_of call.raises_live) n m.0 (λ z. omega arith)
-      leaves_tag call.lowers_live n st m m' h = else (place_of call.lowers_live) n m.0 (λ z. omega arith)
-      leaves_tag call.sees_live n st m m' h = loaded (place_of call.sees_live) n m.0 h.0
-      leaves_tag call.stops n st m m' h = else (place_of call.stops) n m.0 (λ z. omega arith)
-      leaves_tag call.sees_stop n st m m' h = loaded (place_of call.sees_stop) n m.0 h.0
-      leaves_tag (call.sees_head p) n st m m' h = loaded (place_of (call.sees_head p)) n m.0 h.0
-      leaves_tag (call.pushes p) n st m m' h = else (place_of (call.pushes p)) n m.0 (λ z. omega arith)
-      leaves_tag (call.shuts p) n st m m' h = else (place_of (call.shuts p)) n m.0 (λ z. omega arith)
-      leaves_tag (call.puts_next t) n st m m' h = else (place_of (call.puts_next t)) n m.0 (λ z. omega arith)
-      leaves_tag (call.sees_next t) n st m m' h = loaded (place_of (call.sees_next t)) n m.0 h.0
+use Rattle.tj_words.proofs.Stores.TableWords as table_word
 
 or_true : (b : Bool) → b || true ≡ true
 or_true true = refl
@@ -190,7 +19,8 @@ or_true false = refl
 
 module _ {B : Type 0} (s t : State (Option (Rec B)) (View B)) where
   -- one view has become another, which is rested where that was, and the others are as they were
-  view_now : (id : ℕ) (v w : View B) → get_elem? s.views id ≡ some v → KeepsRest v w → HasRested s
+  view_now : (id : ℕ) (v w : View B) → get_elem? s.views id ≡ some v → (v.rested ≡ true → w.rested ≡ true)
+      → HasRested s
       → (j : ℕ) × (u : View B) × (get_elem? (set s.views id w) j ≡ some u) × (u.rested ≡ true)
   view_now id v w at keeps r = dite (ℕ_discrete r.0 id)
       (λ e. let same : r.1 ≡ v = some-injective r.1 v (sym r.2 ∙ (ap (get_elem? s.views) e ∙ at)) in
@@ -233,8 +63,12 @@ module _ {B : Type 0} (program : Bool → B → Program B) (key : Key B) where
   call_rests s t c r = views_are s t (set s.views c.id c.seat_after.0)
       (ap (λ (z : State (Option (Rec B)) (View B)). z.views) c.makes.after)
       (view_now s t c.id c.seat.0 c.seat_after.0 c.makes.at
-      (keeps_rest program key.cells c.call c.number (word s.words (place_of c.call)) c.operands c.seat c.seat_after
-      c.told) r)
+      (leaves (suc k) program key.cells c.call c.number k c.operands c.seat c.seat_after (λ d o e z. omega arith)
+      c.told).0 r)
+    where
+      -- what the call found
+      k : ℕ
+      k = word s.words (place_of c.call)
 
   step_rests : (s t : State (Option (Rec B)) (View B)) → IsTableStep program key s t → HasRested s → HasRested t
   step_rests s t a r = ⊎_elim (λ c. call_rests s t c r)
@@ -259,8 +93,9 @@ module _ {B : Type 0} (program : Bool → B → Program B) (key : Key B) where
   step_tags u t a r c = ⊎_elim
       (λ (k : IsCallStep program key u.now t).
       ap (λ (z : State (Option (Rec B)) (View B)). tag_at z c) k.makes.after
-      ∙ ⊎_elim (λ e. e) (λ due. absurd (none_due u r k.id c k.seat.0 k.makes.at due))
-      (leaves_tag program key.cells u.now.words c k.call k.number k.operands k.seat k.seat_after k.told))
+      ∙ ⊎_elim (λ e. e) (λ p. absurd (none_due u r k.id c k.seat.0 k.makes.at p.1.due))
+      (stays_or program key.cells u.now.words k.call k.number k.operands k.seat k.seat_after k.makes.inside k.told
+      (table_word.Written c once.Tag)))
       (λ b. ⊎_elim (λ (p : IsSplit u.now t). ap (λ (z : State (Option (Rec B)) (View B)). tag_at z c) p.after)
       (λ (p : IsMerge u.now t). ap (λ (z : State (Option (Rec B)) (View B)). tag_at z c) p.after) b) a
 
