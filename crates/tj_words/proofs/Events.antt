@@ -11,3 +11,8 @@ pub mod DrawEvents
 pub mod QuietMoves
 pub mod StepFacts
 pub mod QuietCells
+pub mod ShownParts
+pub mod WalkSteps
+pub mod OwnerSteps
+pub mod QuietSteps
+pub mod StepEvents

@@ -50,15 +50,19 @@ pub use Rattle.tj_tree.specs.Forks.{Fork, Forks, HasTask, IsHistory}
 pub use Rattle.tj_tree.specs.Nodes.{jump_from, node_of}
 pub use Rattle.tj_tree.specs.declared.node.Node.{Node}
 pub use Rattle.tj_tree.specs.declared.node.NodeId.{NodeId}
+pub use Rattle.tj_words.proofs.Events.OwnerSteps.{ActsOn, ClosesPromise, ClosesResult, DrawsCell, GivesOwner, HandsPromise}
+pub use Rattle.tj_words.proofs.Events.QuietSteps.{ClaimsTask, EndsTask, MarksPromise, MovesRecord, ReleasesTask, ShelvesTask}
+pub use Rattle.tj_words.proofs.Events.ShownParts.{Parts, cell_by, parts_of, shown_by}
+pub use Rattle.tj_words.proofs.Events.StepEvents.{IsHeldWith, IsToldBy, Keeping, KeepsCells, ShowsEvent, ShowsNothing}
+pub use Rattle.tj_words.proofs.Events.WalkSteps.{ClearsWait, IsMoved, KeepsOthers, Leaves, LowersOthers, Proceeds}
+pub use Rattle.tj_words.proofs.Events.WalkSteps.{PublishesWait, RaisesOthers, ReadsOn, StoresAlarm, StoresParked}
 pub use Rattle.tj_words.specs.AtRest.ClosedCells.{AreAlarmsOnCycles, AreAtRest, AreCyclesAlarmed, IsPromise, IsShown}
 pub use Rattle.tj_words.specs.AtRest.ClosedCells.{IsStill, Leads, Owns, Waits}
 pub use Rattle.tj_words.specs.AtRest.RestMeaning.{AreWordsOf, IsPhaseAt, names}
 pub use Rattle.tj_words.specs.AtRest.RestShown.{AreSlots}
 pub use Rattle.tj_words.specs.AtRest.RestingSeats.{MayRest}
-pub use Rattle.tj_words.specs.CallLaws.CallRuns.{AreAskedMoments, IsAskedStep, events_by, phase_events, under}
-pub use Rattle.tj_words.specs.CallLaws.CallSteps.{Makes, MakesWith, WritesOnce}
-pub use Rattle.tj_words.specs.CallLaws.EventCalls.{Keeping}
-pub use Rattle.tj_words.specs.CallLaws.OwnerCalls.{takes_new}
+pub use Rattle.tj_words.specs.CallLaws.CallRuns.{AreAskedMoments, IsAskedStep, events_by, phase_events, takes_new, under}
+pub use Rattle.tj_words.specs.CallLaws.CallSteps.{MakesWith}
 pub use Rattle.tj_words.specs.CallLaws.RestedRuns.{AreMoments, IsCallStep, IsMerge, IsSplit, IsTableStep, Ruled}
 pub use Rattle.tj_words.specs.CallLaws.RestedRuns.{last_moment}
 pub use Rattle.tj_words.specs.CallLaws.StepCalls.{StepCall, place_of, told_by}
@@ -119,19 +123,11 @@ pub use Rattle.tj_words.specs.SeatViews.SeenWords.{head_load, next_load, seen_wo
 pub use Rattle.tj_words.specs.SeatViews.TaskLists.{hold, let_go, note, noted}
 pub use Rattle.tj_words.specs.SeatViews.TreeReads.{HasReadTree, IsLater}
 pub use Rattle.tj_words.specs.SeatViews.Views.{IsIdle, both, left_half, note_of, right_half, spent, stepped_on}
-pub use Rattle.tj_words.specs.Steps.OneStates.{IsToldBy, KeepsCells}
-pub use Rattle.tj_words.specs.Steps.OwnerSteps.{ActsOn, ClosesPromise, ClosesResult, DrawsCell, GivesOwner}
-pub use Rattle.tj_words.specs.Steps.OwnerSteps.{HandsPromise, draw_event, next_reference}
-pub use Rattle.tj_words.specs.Steps.QuietSteps.{ChangesHead, ChangesLive, ChangesNext, ChangesStop, ClaimsTask}
-pub use Rattle.tj_words.specs.Steps.QuietSteps.{DrawIsRefused, EndsTask, KeepsHoldings, LoadsOnly, MarksPromise}
-pub use Rattle.tj_words.specs.Steps.QuietSteps.{MovesRecord, ReleasesTask, ShelvesTask, StoresOnce, does_first}
-pub use Rattle.tj_words.specs.Steps.ShownParts.{Parts, cell_by, parts_of, shown_by}
-pub use Rattle.tj_words.specs.Steps.StepEvents.{IsBegun, IsHeldWith, IsMoved, MayAct, ShowsEvent}
-pub use Rattle.tj_words.specs.Steps.StepEvents.{ShowsNothing, wait_in}
-pub use Rattle.tj_words.specs.Steps.TableRuns.{AreSteps, IsStep, Under, events_of, last_of, state_of}
-pub use Rattle.tj_words.specs.Steps.WalkSteps.{ClearsWait, KeepsOthers, Leaves, LowersOthers, MayWait, Proceeds}
-pub use Rattle.tj_words.specs.Steps.WalkSteps.{PublishesWait, RaisesOthers, ReadsOn, StoresAlarm, StoresParked}
-pub use Rattle.tj_words.specs.Steps.WalkSteps.{is_task_sort, way_by}
+pub use Rattle.tj_words.specs.Steps.OwnerSteps.{draw_event, next_reference}
+pub use Rattle.tj_words.specs.Steps.QuietSteps.{KeepsHoldings, LoadsOnly, does_first}
+pub use Rattle.tj_words.specs.Steps.StepEvents.{IsBegun, MayAct, wait_in}
+pub use Rattle.tj_words.specs.Steps.TableRuns.{Under, state_of}
+pub use Rattle.tj_words.specs.Steps.WalkSteps.{MayWait, is_task_sort, way_by}
 pub use Rattle.tj_words.specs.Words.Codes.{Codes, IsPhaseWord}
 pub use Rattle.tj_words.specs.Words.Heads.{head_in, head_word, shut_word}
 pub use Rattle.tj_words.specs.Words.Lists.{All, Any, AreApart, Each, OfSeat, cell, numbers, total, without}

@@ -1,8 +1,5 @@
--- That the step calls are such steps, and runs of them.
+-- What each step call is, and what is so of runs of them.
 pub mod CallSteps
-pub mod EventCalls
-pub mod TaskCalls
-pub mod OwnerCalls
 pub mod StepCalls
 pub mod CallRuns
 pub mod RestedRuns

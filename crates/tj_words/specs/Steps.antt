@@ -1,10 +1,8 @@
--- The kinds of step, and the law of steps.
-pub mod ShownParts
+-- What is shown at a moment, and what calls make of tasks and cells in the terms of the core.
 pub mod StepEvents
 pub mod WalkSteps
 pub mod OwnerSteps
 pub mod QuietSteps
-pub mod StepLaws
 pub mod OneStates
 pub mod TableRuns
 pub mod OneHolders

@@ -36,11 +36,8 @@ mod walks;
 pub use closed::{Closed, RestCell};
 pub use head::Head;
 pub use laws::{
-    call_runs, count_steps, ended_walks, event_calls, found_chains, head_steps, lasting_words,
-    live_steps, load_calls, merges, moments, next_steps, once_loads, once_stores, one_state,
-    others_steps, owner_calls, owner_loads, owner_stores, phase_exchanges, phase_loads,
-    phase_stores, rested_runs, seat_calls, slot_steps, splits, stop_steps, store_calls, table_runs,
-    task_calls, wakes,
+    call_runs, ended_walks, found_chains, lasting_words, moments, one_state, rested_runs,
+    slot_steps, wakes,
 };
 pub use offsets::Once;
 pub use phase::{Phase, Walk};

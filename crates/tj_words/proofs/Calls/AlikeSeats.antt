@@ -6,7 +6,7 @@ use Rattle.tj_words.proofs.Prelude.{Reference, Ruled, Sort, State, View, [], ap,
 use Rattle.tj_words.proofs.Prelude.{get_elem?, inl, inr, last_moment, reference_of, refl, some, some-injective}
 use Rattle.tj_words.proofs.Prelude.{sort_tag, subst, sym, tag_in, tag_of, ℕ, ◌<◌, ◌↔◌, ◌∙◌, ◌∷◌, ◌≡◌, ◌≢◌, ◌≤◌}
 use Rattle.tj_words.specs.CallLaws.AlikeSeats.{IsTheTables, MergedSeatsAgree, SeatsKnowForGood, SeatsNumberAlike}
-use Rattle.tj_words.proofs.Calls.CallRuns.{calls_are_steps, seats_are_quiet}
+use Rattle.tj_words.proofs.Calls.CallRuns.{call_goes, seats_go}
 use Rattle.tj_words.proofs.Calls.LastingWords.{count_never_falls, values_for_good}
 use Rattle.tj_words.proofs.Calls.OneStates.{kept_name}
 use Rattle.tj_words.proofs.Cells.CellFacts.{cell_born}
@@ -72,8 +72,8 @@ module _ {B : Type 0} (program : Bool → B → Program B) (key : Key B) where
 
   keeps : (u w : Ruled program key) → IsAskedStep program key u.now w.now
       → KeepsCells key.cells (The u.now) (The w.now)
-  keeps u w (inl c) = (calls_are_steps B program key u w c).2.keeps
-  keeps u w (inr b) = (seats_are_quiet B program key u w b).keeps
+  keeps u w (inl c) = (call_goes program key u w c).2.keeps
+  keeps u w (inr b) = (seats_go program key u w b).keeps
 
   abbrev named : Ruled program key → ℕ → Name
   named u c = (reference_of u.rule.law.born c).name

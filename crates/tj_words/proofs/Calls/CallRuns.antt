@@ -1,29 +1,26 @@
 -- Each call of a seat is one event of the core or none, by what it asks and what it tells; so are a split and a merge
 -- of idle seats. So what the calls show from a new table on is a legal run.
-use Rattle.tj_words.proofs.Prelude.{Act, AreAskedMoments, AreSteps, Bool, ChangesHead, ChangesLive, ChangesNext}
-use Rattle.tj_words.proofs.Prelude.{ChangesStop, Contents, DrawIsRefused, Event, IfRecord, IsAskedStep, IsSplit, IsStep}
-use Rattle.tj_words.proofs.Prelude.{KeepsCells, KeepsHoldings, Key, KnowsTable, LaysChild, List, LoadsOnly, Makes}
+use Rattle.tj_words.proofs.Prelude.{Act, AreAskedMoments, Bool, Contents, Event, IfRecord, IsAskedStep, IsSplit}
+use Rattle.tj_words.proofs.Prelude.{IsThere, KeepsCells, KeepsHoldings, Key, KnowsTable, LaysChild, List, LoadsOnly}
 use Rattle.tj_words.proofs.Prelude.{MakesWith, MayClearFrom, MayGoBack, MayPutOnce, MayPutOwner, MayReadAgain}
-use Rattle.tj_words.proofs.Prelude.{MayReadOwner, MayWake, None, Once, Option, Phase, Program, PutsOnce, PutsOwner}
-use Rattle.tj_words.proofs.Prelude.{PutsPhase, ReadsOn, Rec, Rule, Ruled, SeatMe, Shelves, ShowsEvent, ShowsNothing}
-use Rattle.tj_words.proofs.Prelude.{SlotsOf, Some, Sort, State, Step, StepCall, Under, View, WordsSay, WritesOnce, []}
-use Rattle.tj_words.proofs.Prelude.{after_all, ap, arith, both, cell, contents_of, count_at, dite, draw_event, drawn_in}
-use Rattle.tj_words.proofs.Prelude.{events_by, events_of, false, gives, head_at, inl, inr, is_owner, keeps, last_moment}
-use Rattle.tj_words.proofs.Prelude.{last_of, left_half, live_at, lowered_with, ltb-false, ltb-true, min, nat_lt}
-use Rattle.tj_words.proofs.Prelude.{new_hand, next_at, once_at, others_at, own_at, owner_found, owner_in, owner_read}
-use Rattle.tj_words.proofs.Prelude.{owner_seen, phase_at, phase_events, phase_in, place_of, raised_with, refl}
-use Rattle.tj_words.proofs.Prelude.{right_half, root_alone, set, set_else, state_of, stop_at, subst, suc, sym, takes}
-use Rattle.tj_words.proofs.Prelude.{takes_new, told_by, true, under, word, ℕ, ℕ_discrete, ⊎_elim, ◌++◌, ◌-◌, ◌<◌, ◌∙◌}
-use Rattle.tj_words.proofs.Prelude.{◌∷◌, ◌≡◌, ◌≢◌, ◌≤◌}
+use Rattle.tj_words.proofs.Prelude.{MayReadOwner, MayWake, None, Once, Option, Parts, Phase, Program, PutsOnce}
+use Rattle.tj_words.proofs.Prelude.{PutsOwner, PutsPhase, ReadsOn, Rec, Rule, Ruled, SeatMe, Shelves, ShowsEvent}
+use Rattle.tj_words.proofs.Prelude.{ShowsNothing, SlotsOf, Some, Sort, State, Step, StepCall, View, Walker, Way}
+use Rattle.tj_words.proofs.Prelude.{WordsSay, [], ap, arith, both, cell, contents_of, count_at, dite, draw_event}
+use Rattle.tj_words.proofs.Prelude.{drawn_in, events_by, false, gives, hand_of, head_at, inl, inr, is_owner, keeps}
+use Rattle.tj_words.proofs.Prelude.{last_moment, live_at, lowered_with, ltb-false, ltb-true, min, nat_lt, new_hand}
+use Rattle.tj_words.proofs.Prelude.{next_at, once_at, others_at, own_at, owner_found, owner_in, owner_read, owner_seen}
+use Rattle.tj_words.proofs.Prelude.{parts_of, phase_at, phase_events, phase_in, place_of, raised_with, refl, set}
+use Rattle.tj_words.proofs.Prelude.{set_else, shown_by, stop_at, subst, suc, sym, takes, takes_new, told_by, true}
+use Rattle.tj_words.proofs.Prelude.{under, word, words_say, ℕ, ℕ_discrete, ⊎_elim, ◌-◌, ◌<◌, ◌∙◌, ◌∷◌, ◌≡◌, ◌≢◌, ◌≤◌}
+use Rattle.tj_words.proofs.Prelude.{◌⊎◌}
 use Rattle.tj_words.specs.CallLaws.CallRuns.{CallRunsAreLegal, CallsAreSteps, IsAskedCall, IsIdleMerge, OwnerEvents}
 use Rattle.tj_words.specs.CallLaws.CallRuns.{OwnerReads, SeatsAreQuiet, acts_by, asked_by, AreShown, StepShows, joined}
 use Rattle.tj_words.specs.CallLaws.CallRuns.{live_act, phase_act, swap_events}
 use Rattle.tj_words.specs.Calls.PhaseViews.{MayPutPhase}
-use Rattle.tj_core.specs.Runs.{IsLegalRun}
-use Rattle.tj_words.proofs.Calls.CallChanges.{ShowsSame, as_it_was, head_changes, head_same, keeps_cells, live_changes}
-use Rattle.tj_words.proofs.Calls.CallChanges.{live_same, loads, lower_same, merge_merges, next_changes, once_same}
-use Rattle.tj_words.proofs.Calls.CallChanges.{push_same, raise_same, refused_counts, shut_same, split_splits}
-use Rattle.tj_words.proofs.Calls.CallChanges.{stop_changes, writes_hand, writes_value}
+use Rattle.tj_words.proofs.Calls.CallChanges.{ShowsSame, as_it_was, head_same, keeps_cells, live_same, lower_same}
+use Rattle.tj_words.proofs.Calls.CallChanges.{merge_merges, once_same, push_same, raise_same, shut_same, holdings}
+use Rattle.tj_words.proofs.Calls.CallChanges.{put_same, split_parts, writes_apart}
 use Rattle.tj_words.proofs.Calls.DrawCalls.{call_draws}
 use Rattle.tj_words.proofs.Calls.EventCalls.{call_alarms, call_lowers, call_publishes, call_raises, call_reads}
 use Rattle.tj_words.proofs.Calls.EventCalls.{first_seen}
@@ -31,23 +28,26 @@ use Rattle.tj_words.proofs.Calls.OwnerCalls.{call_closes, call_closes_own, call_
 use Rattle.tj_words.proofs.Cells.GivenOwners.{give_shown}
 use Rattle.tj_words.proofs.Events.OwnerEvents.{close_shown, hand_shown}
 use Rattle.tj_words.proofs.Events.QuietCells.{mark_shown}
-use Rattle.tj_words.proofs.Events.QuietMoves.{claim_shown, end_shown, head_shown, live_shown, load_shown, next_shown}
-use Rattle.tj_words.proofs.Events.QuietMoves.{once_shown, record_shown, refused_shown, release_shown, shelve_shown}
-use Rattle.tj_words.proofs.Events.QuietMoves.{split_shown, stop_shown}
+use Rattle.tj_words.proofs.Events.QuietMoves.{claim_shown, end_shown, record_shown, release_shown, shelve_shown, still}
 use Rattle.tj_words.proofs.Stores.SeatLists.{word_else, words_same}
-use Rattle.tj_words.proofs.Calls.TableRuns.{runs_are_legal}
+use Rattle.tj_words.proofs.Calls.TableRuns.{runs_are_legal, IsStep, GoesTo, goes_on, one_step}
 use Rattle.tj_words.proofs.Calls.TakenTasks.{call_claims, call_goes_back, call_wakes}
 use Rattle.tj_words.proofs.Calls.TaskCalls.{call_ends, call_moves, call_releases, call_settles, call_shelves}
 use Rattle.tj_words.proofs.Events.WaitClears.{clear_shown, lower_shown}
 use Rattle.tj_words.proofs.Events.WalkEvents.{again_shown_read, alarm_shown, count_shown, others_shown}
 use Rattle.tj_words.proofs.Events.WalkEvents.{owner_shown_read, publish_shown, raise_shown, settle_shown}
 use Rattle.tj_words.proofs.Events.WalkEvents.{wait_shown_read}
+use Rattle.tj_words.proofs.Calls.KeptCells.{kept_parts}
+use Rattle.tj_words.proofs.Stores.StoredWords.{put_word_cell, put_word_word, said, say}
+use Rattle.tj_words.proofs.Stores.TableWords.{TableWord, index}
+use Rattle.tj_words.specs.Calls.WalkViews.{IsWalking}
 use Rattle.tj_core.specs.declared.event.Event.TheVariants as event
 use Rattle.tj_words.specs.declared.offsets.Once.TheVariants as once
 use Rattle.tj_words.specs.declared.phase.Phase.TheVariants as phase
 use Rattle.tj_words.specs.declared.phase.Walk.TheVariants as walk
 use Rattle.tj_words.specs.declared.view.Does.TheVariants as does
 use Rattle.tj_words.specs.CallLaws.StepCalls as call
+use Rattle.tj_words.proofs.Stores.TableWords as table_word
 use Rattle.tj_words.proofs.Events.OwnerEvents as owners
 
 module _ {B : Type 0} (program : Bool → B → Program B) (key : Key B) (u w : Ruled program key) where
@@ -88,37 +88,25 @@ module _ {B : Type 0} (program : Bool → B → Program B) (key : Key B) (u w : 
       → Goes (e ∷ [])
   shows e k d v = record { keeps = k; shows = inl (d, inr (e, refl, v)) }
 
-  held : KeepsHoldings x y → y.words.once ≡ x.words.once → KeepsCells key.cells x y
-  held k e = keeps_cells key.cells x y k (λ d i. (ap (λ z. z d once.Parent) e, ap (λ z. z d once.Kid) e))
+  -- what the core state is read from in the words, but for PARENT and KID
+  abbrev read_from : WordsSay → ℕ × (ℕ → Option ℕ) × (ℕ → Phase) × ℕ
+  read_from words = (min words.count key.cells, words.own, words.phase, words.others)
 
-  -- a step that leaves what seats hold, and of the words COUNT and those that are written once
-  still : (words : WordsSay) → y.words ≡ words → words.once ≡ x.words.once → words.count ≡ x.words.count
-      → KeepsHoldings x y → ShowsNothing key.cells r.law.born r.law.maker x y → Quiet
-  still words e same count k n = quiet (held k (ap (λ (z : WordsSay). z.once) e ∙ same))
-      (ap (λ (z : WordsSay). min z.count key.cells) e ∙ ap (λ c. min c key.cells) count) n
+  -- a step that leaves these, what seats hold, and PARENT and KID of the cells that are there
+  hidden : (words : WordsSay) → y.words ≡ words → read_from words ≡ read_from x.words → KeepsHoldings x y
+      → ((d : ℕ) → IsThere (drawn_in key.cells x) (hand_of x) d
+      → (words.once d once.Parent ≡ x.words.once d once.Parent) × (words.once d once.Kid ≡ x.words.once d once.Kid))
+      → Quiet
+  hidden words e same k tree = quiet
+      (keeps_cells key.cells x y k (λ d i. (
+        ap (λ (z : WordsSay). z.once d once.Parent) e ∙ (tree d i).0,
+        ap (λ (z : WordsSay). z.once d once.Kid) e ∙ (tree d i).1,
+      )))
+      (ap (λ (z : WordsSay). min z.count key.cells) e ∙ ap (λ z. z.0) same)
+      (still r.law y words e k (ap (λ z. z.0) same) (ap (λ z. z.1) same) (ap (λ z. z.2) same) (ap (λ z. z.3) same))
 
   looks : LoadsOnly x y → Quiet
-  looks l = still x.words l.words refl refl l.keeps (load_shown r.law y l)
-
-  lives : ChangesLive x y → Quiet
-  lives l = still (record x.words { live = l.live }) l.words refl refl l.keeps (live_shown r.law y l)
-
-  stops : ChangesStop x y → Quiet
-  stops l = still (record x.words { stop = l.stop }) l.words refl refl l.keeps (stop_shown r.law y l)
-
-  heads : ChangesHead x y → Quiet
-  heads l = still (record x.words { head = l.head }) l.words refl refl l.keeps (head_shown r.law y l)
-
-  nexts : ChangesNext x y → Quiet
-  nexts l = still (record x.words { next = l.next }) l.words refl refl l.keeps (next_shown r.law y l)
-
-  writes : WritesOnce B x y → Quiet
-  writes q = quiet (q.1 key.cells) (ap (λ (z : WordsSay). min z.count key.cells) q.0.words) (once_shown r.law y q.0)
-
-  refuses : DrawIsRefused x y key.cells → Quiet
-  refuses q = quiet (held q.keeps (ap (λ (z : WordsSay). z.once) q.words))
-      (ap (λ (z : WordsSay). min z.count key.cells) q.words ∙ (let l = q.full in omega arith))
-      (refused_shown r.law y q)
+  looks l = hidden x.words l.words refl l.keeps (λ d i. (refl, refl))
 
   module _ (act : Act (Option (Rec B))) (id n : ℕ) (m m' : SeatMe B) (st : Step (Option (Rec B))) where
     abbrev Made : ℕ → Type 0
@@ -127,14 +115,25 @@ module _ {B : Type 0} (program : Bool → B → Program B) (key : Key B) (u w : 
     with_act : (a : Act (Option (Rec B))) (i : ℕ) → Made i → act ≡ a → MakesWith a id i n m m' s t
     with_act a i h e = subst (λ z. MakesWith z id i n m m' s t) e h
 
-    plain : (i : ℕ) → Made i → act ≡ keeps → Makes id i n m m' s t
-    plain i h e = let g = with_act keeps i h e in record { at = g.at; inside = g.inside; after = g.after }
-
-    found : (k i : ℕ) → Made i → act ≡ keeps → n ≡ k → Makes id i k m m' s t
-    found k i h e q = subst (λ z. Makes id i z m m' s t) q (plain i h e)
+    found : (k i : ℕ) → Made i → act ≡ keeps → n ≡ k → MakesWith keeps id i k m m' s t
+    found k i h e q = subst (λ z. MakesWith keeps id i z m m' s t) q (with_act keeps i h e)
 
     look : (i : ℕ) → Made i → act ≡ keeps → n ≡ word s.words i → ShowsSame m.0 m'.0 → Quiet
-    look i h e q same = looks (loads s t id i m m' (found (word s.words i) i h e q) same)
+    look i h e q same = looks (record {
+      words = ap (λ (z : State (Option (Rec B)) (View B)). words_say z.words) h.after
+          ∙ (ap (λ k. words_say (set s.words i k)) q ∙ ap words_say (words_same s.words i));
+      keeps = holdings s t id i n m m' (with_act keeps i h e) same;
+    })
+
+    -- the words after a store into one of them
+    says : (w : TableWord) → Made (index w) → words_say t.words ≡ said x.words w n
+    says w h = ap (λ (z : State (Option (Rec B)) (View B)). words_say z.words) h.after ∙ say s.words n w h.inside
+
+    -- a store into a word of which the core state shows nothing
+    hides : (w : TableWord) → Made (index w) → act ≡ keeps → ShowsSame m.0 m'.0
+        → read_from (said x.words w n) ≡ read_from x.words → (said x.words w n).once ≡ x.words.once → Quiet
+    hides w h e same q o = hidden (said x.words w n) (says w h) q (holdings s t id (index w) n m m'
+        (with_act keeps (index w) h e) same) (λ d i. (ap (λ z. z d once.Parent) o, ap (λ z. z d once.Kid) o))
 
     -- a step on another word than COUNT leaves the cells that there are
     else_cells : (i : ℕ) → Made i → count_at ≢ i → SameCells
@@ -157,6 +156,9 @@ module _ {B : Type 0} (program : Bool → B → Program B) (key : Key B) (u w : 
         → Shows (events_by key.cells (call.draws d o) st (word s.words count_at) m.0)
     draws d o h p ask a = by (nat_lt drawn_now key.cells) refl
       where
+        full : key.cells ≤ drawn_now → min n key.cells ≡ min drawn_now key.cells
+        full l = let e : n ≡ suc drawn_now = p.0 in omega (arith, l, e)
+
         by : (b : Bool) → nat_lt drawn_now key.cells ≡ b
             → Shows (events_by key.cells (call.draws d o) st (word s.words count_at) m.0)
         by true e = let l : drawn_now < key.cells = ltb-true drawn_now key.cells e in
@@ -169,24 +171,23 @@ module _ {B : Type 0} (program : Bool → B → Program B) (key : Key B) (u w : 
         by false e = let l : key.cells ≤ drawn_now = ltb-false drawn_now key.cells e in (
           [],
           ((λ z. absurd (omega (arith, l, z))), (λ z. refl)),
-          refuses (refused_counts program key.cells d o s t id m m' st
-              (found (suc drawn_now) count_at h (a.1 l) p.0) l p.1),
+          hides table_word.Count h (a.1 l) (as_it_was m.0 m'.0 _ (p.1.1 l).0.view refl refl)
+              (λ j. (full l j, x.words.own, x.words.phase, x.words.others)) refl,
         )
 
     puts_once : (f : Once) (c : ℕ) → Made (once_at c f) → act ≡ keeps → MayPutOnce program f c st.first m.0
         → PutsOnce program f c st.first m.0 m'.0 → Quiet
-    puts_once once.Tag c h a may p = writes (writes_value c once.Tag s t id n m m' (plain (once_at c once.Tag) h a)
-        (as_it_was m.0 m'.0 _ (p may) refl refl) (λ e. absurd (cc)) (λ e. absurd (cc)))
-    puts_once once.Bits c h a may p = writes (writes_value c once.Bits s t id n m m' (plain (once_at c once.Bits) h a)
-        (as_it_was m.0 m'.0 _ (p may) refl refl) (λ e. absurd (cc)) (λ e. absurd (cc)))
-    puts_once once.Parent c h a may p = writes (writes_hand c once.Parent s t id n m m'
-        (plain (once_at c once.Parent) h a) (as_it_was m.0 m'.0 _ p refl refl) may.hand may.has may.its_cell)
-    puts_once once.Kid c h a may p = writes (writes_hand c once.Kid s t id n m m'
-        (plain (once_at c once.Kid) h a) (as_it_was m.0 m'.0 _ p refl refl) may.hand may.has may.its_cell)
-    puts_once once.Depth c h a may p = writes (writes_hand c once.Depth s t id n m m'
-        (plain (once_at c once.Depth) h a) (as_it_was m.0 m'.0 _ p refl refl) may.hand may.has may.its_cell)
-    puts_once once.Jump c h a may p = writes (writes_hand c once.Jump s t id n m m'
-        (plain (once_at c once.Jump) h a) (as_it_was m.0 m'.0 _ p refl refl) may.hand may.has may.its_cell)
+    puts_once f c h a may p = hidden (said x.words (table_word.Written c f) n) (says (table_word.Written c f) h) refl
+        (holdings s t id (once_at c f) n m m' (with_act keeps (once_at c f) h a) (put_same program c st.first f m.0 m'.0 may p))
+        (λ d i. ⊎_elim
+        (λ e. (
+          put_word_cell x.words.once c f n d once.Parent e,
+          put_word_cell x.words.once c f n d once.Kid e,
+        ))
+        (λ e. (
+          put_word_word x.words.once c f n d once.Parent e.0,
+          put_word_word x.words.once c f n d once.Kid e.1,
+        )) (writes_apart program c st.first s id m.0 h.at d i.1 f may))
 
     puts_owner : (o : Option ℕ) (c : ℕ) → Made (own_at c) → act ≡ keeps → owner_in n ≡ o → MayPutOwner c o m.0
         → PutsOwner c o m.0 m'.0 → Shows (OwnerEvents c o m.0)
@@ -236,7 +237,7 @@ module _ {B : Type 0} (program : Bool → B → Program B) (key : Key B) (u w : 
         (mark_shown key.cells x y c may.hand (record may.hand { marked = true }) phase.Promise q.0 r.law.born
         r.law.maker)
     puts_phase (phase.Waiting d way walk.Walking) c h l is p may a =
-        let q = call_publishes program key s t r id c d.0 n way l m m' (plain (phase_at c) h a) is may p in
+        let q = call_publishes program key s t r id c d.0 n way l m m' (with_act keeps (phase_at c) h a) is may p in
         shows (event.Publish (cell c) (cell d.0)) q.1 (else_cells (phase_at c) h (λ z. omega arith))
         (publish_shown r.law y id c may.custody.does d.0 way q.0)
     puts_phase (phase.Waiting d way walk.Parked) c h l is p may a =
@@ -245,7 +246,7 @@ module _ {B : Type 0} (program : Bool → B → Program B) (key : Key B) (u w : 
         shows (event.Settle (cell c)) q.1 (else_cells (phase_at c) h (λ z. omega arith))
         (settle_shown r.law y id c d.0 way may.walks.walker q.0)
     puts_phase (phase.Waiting d way walk.Alarmed) c h l is p may a =
-        let q = call_alarms program key s t r id c d.0 n way l m m' (plain (phase_at c) h a) is may p in
+        let q = call_alarms program key s t r id c d.0 n way l m m' (with_act keeps (phase_at c) h a) is may p in
         shows (event.Alarm (cell c)) q.1 (else_cells (phase_at c) h (λ z. omega arith))
         (alarm_shown r.law y id c d.0 way may.walks.walker q.0)
 
@@ -294,20 +295,20 @@ module _ {B : Type 0} (program : Bool → B → Program B) (key : Key B) (u w : 
 
     raises : (slots : SlotsOf B) → m.1 ≡ slots → Made live_at → act ≡ live_act slots → m' ≡ raised_with m.0 m.1
         → IfRecord (λ c a. LaysChild program c a m) slots → Quiet
-    raises [] e h a p may = lives (live_changes s t id n m m' (plain live_at h a)
-        (raise_same m m' p (subst (IfRecord (λ c a. ⊥)) (sym e) tt)))
-    raises ((c, None) ∷ slots) e h a p may = lives (live_changes s t id n m m' (plain live_at h a)
-        (raise_same m m' p (subst (IfRecord (λ c a. ⊥)) (sym e) tt)))
+    raises [] e h a p may = hides table_word.Live h a
+        (raise_same m m' p (subst (IfRecord (λ c a. ⊥)) (sym e) tt)) refl refl
+    raises ((c, None) ∷ slots) e h a p may = hides table_word.Live h a
+        (raise_same m m' p (subst (IfRecord (λ c a. ⊥)) (sym e) tt)) refl refl
     raises ((c, Some f) ∷ slots) e h a p may =
         let q = call_moves program key s t r id m m' c n f (with_act gives live_at h a) p may in
         quiet q.1 (else_cells live_at h (λ z. omega arith)) (record_shown r.law y id c does.Unborn q.0)
 
     lowers : (slots : SlotsOf B) → m.1 ≡ slots → Made live_at → act ≡ live_act slots → m' ≡ lowered_with m.0 m.1
         → IfRecord (λ c a. Shelves program c a m) slots → Quiet
-    lowers [] e h a p may = lives (live_changes s t id n m m' (plain live_at h a)
-        (lower_same m m' p (subst (IfRecord (λ c a. ⊥)) (sym e) tt)))
-    lowers ((c, None) ∷ slots) e h a p may = lives (live_changes s t id n m m' (plain live_at h a)
-        (lower_same m m' p (subst (IfRecord (λ c a. ⊥)) (sym e) tt)))
+    lowers [] e h a p may = hides table_word.Live h a
+        (lower_same m m' p (subst (IfRecord (λ c a. ⊥)) (sym e) tt)) refl refl
+    lowers ((c, None) ∷ slots) e h a p may = hides table_word.Live h a
+        (lower_same m m' p (subst (IfRecord (λ c a. ⊥)) (sym e) tt)) refl refl
     lowers ((c, Some f) ∷ slots) e h a p may =
         let q = call_shelves program key s t r id m m' c n f (with_act gives live_at h a) p may in
         quiet q.1 (else_cells live_at h (λ z. omega arith))
@@ -321,53 +322,37 @@ module _ {B : Type 0} (program : Bool → B → Program B) (key : Key B) (u w : 
         (found (word s.words (own_at c)) (own_at c) h a p.0) p.1.1 ask in ⊎_elim
         (λ (f : MayReadOwner ask.walker). (
           event.ReadOwner (cell d) ∷ [],
-          inl (
-            record {
-              task = ask.task;
-              wait = ask.wait;
-              way = ask.way;
-              walker = ask.walker;
-              held = ask.held;
-              does = ask.does;
-              may = f;
-            },
-            refl,
-          ),
+          inl (walks (λ e way z. MayReadOwner z) f, refl),
           shows (event.ReadOwner (cell d)) q.1 cells
-              (owner_shown_read r.law y id d ask.wait ask.way ask.walker (record {
-                reads = subst (λ z. ReadsOn key.cells x y id d ask.wait ask.way ask.walker z)
-                    (first_seen (owner_in (word s.words (own_at c))) ask.walker f
-                    ∙ ap (λ z. owner_read (owner_in (word s.words (own_at z))) ask.walker) ask.may.0) q.0;
-                may = f;
-              })),
+              (owner_shown_read r.law y id d ask.wait ask.way ask.walker
+              (subst (λ z. ReadsOn key.cells x y id d ask.wait ask.way ask.walker z)
+              (first_seen (owner_in (word s.words (own_at c))) ask.walker f
+              ∙ ap (λ z. owner_read (owner_in (word s.words (own_at z))) ask.walker) ask.may.0) q.0) f),
         ))
         (λ (f : MayReadAgain ask.walker). (
           event.ReadOwnerAgain (cell d) ∷ [],
-          inr (
-            record {
-              task = ask.task;
-              wait = ask.wait;
-              way = ask.way;
-              walker = ask.walker;
-              held = ask.held;
-              does = ask.does;
-              may = f;
-            },
-            refl,
-          ),
+          inr (walks (λ e way z. MayReadAgain z) f, refl),
           shows (event.ReadOwnerAgain (cell d)) q.1 cells
-              (again_shown_read r.law y id d ask.wait ask.way ask.walker f.0 f.1 (record {
-                reads = subst (λ z. ReadsOn key.cells x y id d ask.wait ask.way ask.walker z)
-                    (ap (owner_seen (owner_in (word s.words (own_at c))) ask.walker) f.2
-                    ∙ ap (λ z. owner_found (is_owner (owner_in (word s.words (own_at z))) f.0) f.0 f.1 ask.walker)
-                    ask.may.0)
-                    q.0;
-                last = f.2;
-              })),
+              (again_shown_read r.law y id d ask.wait ask.way ask.walker f.0 f.1
+              (subst (λ z. ReadsOn key.cells x y id d ask.wait ask.way ask.walker z)
+              (ap (owner_seen (owner_in (word s.words (own_at c))) ask.walker) f.2
+              ∙ ap (λ z. owner_found (is_owner (owner_in (word s.words (own_at z))) f.0) f.0 f.1 ask.walker)
+              ask.may.0) q.0) f.2),
         )) ask.may.1
       where
         cells : SameCells
         cells = else_cells (own_at c) h (λ z. omega arith)
+
+        walks : (F : ℕ → Way → Walker → Type 0) → F ask.wait ask.way ask.walker → IsWalking d F m.0
+        walks F f = record {
+          task = ask.task;
+          wait = ask.wait;
+          way = ask.way;
+          walker = ask.walker;
+          held = ask.held;
+          does = ask.does;
+          may = f;
+        }
 
     goes : (a : StepCall) → Made (place_of a) → told_by program key.cells a n st m (word s.words (place_of a)) m'
         → asked_by program key a st m → acts_by program key a st (word s.words (place_of a)) m act
@@ -380,7 +365,7 @@ module _ {B : Type 0} (program : Bool → B → Program B) (key : Key B) (u w : 
       let q = call_reads program key s t r id m m' count_at d _ _ (found (word s.words count_at) count_at h a p.0)
           p.1.1 ask in
           shows (event.LoadCount (cell d)) q.1 (same_cells h p.0)
-          (count_shown r.law y id d ask.wait ask.way ask.walker (record { reads = q.0; may = ask.may })),
+          (count_shown r.law y id d ask.wait ask.way ask.walker q.0 ask.may),
     )
     goes (call.puts_once c f) h p ask a = ([], refl, puts_once f c h a p.1.0 p.1.2)
     goes (call.sees_once c f) h p ask a = (
@@ -405,8 +390,7 @@ module _ {B : Type 0} (program : Bool → B → Program B) (key : Key B) (u w : 
       let q = call_reads program key s t r id m m' (phase_at c) d _ _
           (found (word s.words (phase_at c)) (phase_at c) h a p.0) p.1.1 ask in
           shows (event.ReadWait (cell d)) q.1 (else_cells (phase_at c) h (λ z. omega arith))
-          (wait_shown_read r.law y id d ask.wait ask.way ask.walker c
-          (record { reads = q.0; last = ask.may.0; other = ask.may.1 })),
+          (wait_shown_read r.law y id d ask.wait ask.way ask.walker c q.0 ask.may.0 ask.may.1),
     )
     goes (call.swaps_phase c) h p ask a = swaps c h p a
     goes (call.raises_others d) h p ask a = (
@@ -428,7 +412,7 @@ module _ {B : Type 0} (program : Bool → B → Program B) (key : Key B) (u w : 
       let q = call_reads program key s t r id m m' others_at d _ _ (found (word s.words others_at) others_at h a p.0)
           p.1.1 ask in
           shows (event.LoadOthers (cell d)) q.1 (else_cells others_at h (λ z. omega arith))
-          (others_shown r.law y id d ask.wait ask.way ask.walker (record { reads = q.0; may = ask.may })),
+          (others_shown r.law y id d ask.wait ask.way ask.walker q.0 ask.may),
     )
     goes call.raises_live h p ask a = ([], refl, raises m.1 refl h a p.1 ask.lays)
     goes call.lowers_live h p ask a = ([], refl, lowers m.1 refl h a p.1 ask.shelves)
@@ -436,8 +420,7 @@ module _ {B : Type 0} (program : Bool → B → Program B) (key : Key B) (u w : 
     goes call.stops h p ask a = (
       [],
       refl,
-      stops (stop_changes s t id n m m' (plain stop_at h a)
-          (as_it_was m.0 m'.0 _ (ap (λ (z : SeatMe B). z.0) p.1.0) refl refl)),
+      hides table_word.Stop h a (as_it_was m.0 m'.0 _ (ap (λ (z : SeatMe B). z.0) p.1.0) refl refl) refl refl,
     )
     goes call.sees_stop h p ask a = ([], refl, look stop_at h a p.0 (as_it_was m.0 m'.0 _ p.1.1 refl refl))
     goes (call.sees_head c) h p ask a = (
@@ -450,82 +433,72 @@ module _ {B : Type 0} (program : Bool → B → Program B) (key : Key B) (u w : 
       [],
       refl,
       dite (ℕ_discrete (word s.words (head_at c)) st.first)
-          (λ e. heads (head_changes c s t id n m m' (plain (head_at c) h a)
-          (as_it_was m.0 m'.0 _ (p.2.2 e) refl refl)))
+          (λ e. hides (table_word.Head c) h a (as_it_was m.0 m'.0 _ (p.2.2 e) refl refl) refl refl)
           (λ e. look (head_at c) h a (p.1 e) (push_same program key.cells c (word s.words (head_at c)) st m m' e p.2)),
     )
     goes (call.shuts c) h p ask a = (
       [],
       refl,
-      heads (head_changes c s t id n m m' (plain (head_at c) h a)
-          (shut_same key.cells c (word s.words (head_at c)) st m m' p.1)),
+      hides (table_word.Head c) h a (shut_same key.cells c (word s.words (head_at c)) st m m' p.1) refl refl,
     )
     goes (call.puts_next c) h p ask a = (
       [],
       refl,
-      nexts (next_changes c s t id n m m' (plain (next_at c) h a)
-          (as_it_was m.0 m'.0 _ p.1.1 refl refl)),
+      hides (table_word.Next c) h a (as_it_was m.0 m'.0 _ p.1.1 refl refl) refl refl,
     )
     goes (call.sees_next c) h p ask a = ([], refl, look (next_at c) h a p.0 (as_it_was m.0 m'.0 _ p.1.1 refl refl))
 
-  call_goes : (c : IsAskedCall program key s t)
+  pub call_goes : (c : IsAskedCall program key s t)
       → Shows (events_by key.cells c.made.call c.made.operands (word s.words (place_of c.made.call)) c.made.seat.0)
   call_goes c = goes c.made.act c.made.id c.made.number c.made.seat c.made.seat_after c.made.operands c.made.call
       c.made.makes c.made.told c.asks c.acts
 
   split_goes : IsSplit s t → Quiet
-  split_goes p = let now : State (Option (Rec B)) (View B) = record {
-    words = s.words;
-    homes = s.homes;
-    views = set s.views p.id (left_half p.view) ++ right_half p.view ∷ [];
-  } in let q = split_splits s p.id p.view p.at in
-      quiet (subst (λ z. KeepsCells key.cells x (contents_of z)) (sym p.after) (q.1 key.cells))
-      (ap (λ z. drawn_in key.cells (contents_of z)) p.after)
-      (subst (λ z. ShowsNothing key.cells r.law.born r.law.maker x (contents_of z)) (sym p.after)
-      (split_shown r.law (contents_of now) q.0))
+  split_goes p = let e = ap (λ z. parts_of key.cells (contents_of z)) p.after
+      ∙ split_parts key.cells s p.id p.view p.at in
+      quiet (kept_parts key.cells x y (parts_of key.cells x) e (λ c. refl) (λ c. refl)
+      (ap (λ (z : State (Option (Rec B)) (View B)). (words_say z.words).once) p.after))
+      (ap (λ (z : Parts B). z.drawn) e) (ap (shown_by r.law.born r.law.maker) e)
 
   merge_goes : IsIdleMerge s t → Quiet
   merge_goes p = let g = p.merge in looks (subst (λ z. LoadsOnly x (contents_of z)) (sym g.after)
       (merge_merges s g.id g.other g.view g.taken g.at
       (set_else s.views g.id g.other (both g.view g.taken) g.apart ∙ g.other_at) p.idle))
 
+  pub seats_go : IsSplit s t ⊎ IsIdleMerge s t → Quiet
+  seats_go b = ⊎_elim split_goes merge_goes b
+
   step_goes : (a : IsAskedStep program key s t) → Shows (StepShows program key u w a)
   step_goes (inl c) = call_goes c
-  step_goes (inr b) = ([], refl, ⊎_elim split_goes merge_goes b)
+  step_goes (inr b) = ([], refl, seats_go b)
 
 pub calls_are_steps : (B : Type 0) → CallsAreSteps B
-calls_are_steps B program key u w c = call_goes program key u w c
+calls_are_steps B program key u w c = let g = call_goes program key u w c in
+    (g.0, g.1, one_step (program key.strict key.root.value) key.cells (under program key u) (under program key w) g.0 g.2)
 
 pub seats_are_quiet : (B : Type 0) → SeatsAreQuiet B
-seats_are_quiet B program key u w a = ⊎_elim (split_goes program key u w) (merge_goes program key u w) a
+seats_are_quiet B program key u w a = one_step (program key.strict key.root.value) key.cells (under program key u)
+    (under program key w) [] (seats_go program key u w a)
 
 module _ {B : Type 0} (program : Bool → B → Program B) (key : Key B) where
   abbrev P : Program B
   P = program key.strict key.root.value
 
-  -- the steps of moments one after the other
+  -- what steps show, one after the other
   pub all_go : (u : Ruled program key) (later : List (Ruled program key)) (a : AreAskedMoments program key u later)
-      → (steps : List (List Event × Under P key.cells)) × AreSteps P key.cells (under program key u) steps
-      × (last_of P key.cells (under program key u) steps ≡ under program key (last_moment program key u later))
-      × (shown : List (List Event)) × AreShown program key u later a shown
-      × (joined shown ≡ events_of P key.cells steps)
-  all_go u [] a = ([], tt, refl, [], tt, refl)
+      → (shown : List (List Event)) × AreShown program key u later a shown
+      × GoesTo P key.cells (under program key u) (under program key (last_moment program key u later)) (joined shown)
+  all_go u [] a = ([], tt, (tt, refl))
   all_go u (w ∷ ws) a = let g = step_goes program key u w a.0 in let o = all_go w ws a.1 in (
-    (g.0, under program key w) ∷ o.0,
-    (g.2, o.1),
-    o.2,
-    g.0 ∷ o.3,
-    (g.1, o.4),
-    ap (λ es. g.0 ++ es) o.5,
+    g.0 ∷ o.0,
+    (g.1, o.1),
+    goes_on P key.cells (under program key u) (under program key w)
+        (under program key (last_moment program key w ws)) g.0 (joined o.0)
+        (one_step P key.cells (under program key u) (under program key w) g.0 g.2) o.2,
   )
 
 pub call_runs_are_legal : (B : Type 0) → CallRunsAreLegal B
-call_runs_are_legal B program key u later e a = let P = program key.strict key.root.value in
-    let g = all_go program key u later a in
-    let q = runs_are_legal B P key.cells u.rule.some_cells key.root.value key.strict (under program key u) g.0
-    (ap contents_of e) g.1 in (
-      g.3,
-      g.4,
-      subst (IsLegalRun key.cells) (sym g.5) q.0,
-      ap (state_of P key.cells) (sym g.2) ∙ (q.1 ∙ ap (after_all root_alone) (sym g.5)),
-    )
+call_runs_are_legal B program key u later e a = let g = all_go program key u later a in
+    let q = runs_are_legal (program key.strict key.root.value) key.cells u.rule.some_cells key.root.value key.strict
+    (under program key u) (under program key (last_moment program key u later)) (joined g.0) (ap contents_of e) g.2 in
+    (g.0, g.1, q.0, q.1)

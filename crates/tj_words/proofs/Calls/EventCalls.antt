@@ -1,12 +1,13 @@
 -- The calls on OTHERS, a walker's loads, and the stores of Walking and Alarmed are the changes of the law of steps: a
 -- task of the seat does something else, and no word but OTHERS or its PHASE is changed; so makers and numbers of cells
 -- stay.
-use Rattle.tj_words.proofs.Prelude.{Bool, Contents, Custody, Does, Keeping, Key, LowersOthers, Makes, MayReadOwner}
-use Rattle.tj_words.proofs.Prelude.{Option, Proceeds, Program, PublishesWait, RaisesOthers, ReadsOn, Rec, Rule, SeatMe}
-use Rattle.tj_words.proofs.Prelude.{SeatsHave, Some, State, StoresAlarm, View, Walker, Way, ap, arith, at_map, cell}
-use Rattle.tj_words.proofs.Prelude.{contents_of, does_walk, hand_of, held_in, hold, made_of, others_at, owner_read}
-use Rattle.tj_words.proofs.Prelude.{parts_of, phase_at, phase_in, phase_of, refl, seats_have, set, start_walk, subst}
-use Rattle.tj_words.proofs.Prelude.{suc, sym, total, turned, walk_with, word, words_say, ℕ, ⊎_elim, ◌-◌, ◌<◌, ◌∙◌, ◌≡◌}
+use Rattle.tj_words.proofs.Prelude.{Bool, Contents, Custody, Does, IsHeldWith, IsIn, Keeping, Key, LowersOthers}
+use Rattle.tj_words.proofs.Prelude.{MakesWith, MayReadOwner, Option, Proceeds, Program, PublishesWait, RaisesOthers}
+use Rattle.tj_words.proofs.Prelude.{ReadsOn, Rec, Rule, SeatMe, SeatsHave, Some, State, StoresAlarm, View, Walker, Way}
+use Rattle.tj_words.proofs.Prelude.{ap, arith, at_map, cell, contents_of, does_walk, hand_of, held_in, hold, keeps}
+use Rattle.tj_words.proofs.Prelude.{made_of, others_at, owner_read, parts_of, phase_at, phase_in, phase_of, refl}
+use Rattle.tj_words.proofs.Prelude.{seats_have, set, start_walk, subst, suc, sym, total, turned, walk_with, word}
+use Rattle.tj_words.proofs.Prelude.{words_say, ℕ, ⊎_elim, ◌-◌, ◌<◌, ◌∙◌, ◌≡◌}
 use Rattle.tj_words.specs.Calls.WalkViews.{IsWalking, MayRaise, lowered, owner_seen, read_on}
 use Rattle.tj_words.specs.Calls.WaitViews.{MayPublishWait, MayStoreAlarm, alarmed, now_alarmed, now_does, published}
 use Rattle.tj_words.proofs.Seating.Splitting.{total_set}
@@ -18,7 +19,7 @@ use Rattle.tj_words.proofs.SeatLoads.WalkReads.{doing, task_turned, turned_to}
 use Rattle.tj_words.proofs.Holders.NotedTasks.{noted_is}
 use Rattle.tj_words.proofs.Stores.StoredWords.{say_others}
 use Rattle.tj_words.proofs.Phases.WaitStores.{after_store, alarms, noted_path, noted_view, publishes}
-use Rattle.tj_words.proofs.Stores.StepContents.{step_stores}
+use Rattle.tj_words.proofs.Stores.StepContents.{call_stores}
 use Rattle.tj_words.proofs.Calls.KeptCells.{kept_moved, kept_words}
 use Rattle.tj_words.specs.declared.view.Does.TheVariants as does
 use Rattle.tj_words.specs.declared.phase.Phase.TheVariants as phase
@@ -26,7 +27,7 @@ use Rattle.tj_words.specs.declared.phase.Walk.TheVariants as walk
 use Rattle.tj_words.proofs.Stores.TableWords as table_word
 
 module _ {B : Type 0} (program : Bool → B → Program B) (key : Key B) (s t : State (Option (Rec B)) (View B))
-    (r : Rule program key s) (id i n : ℕ) (m m' : SeatMe B) (h : Makes id i n m m' s t) where
+    (r : Rule program key s) (id i n : ℕ) (m m' : SeatMe B) (h : MakesWith keeps id i n m m' s t) where
   abbrev x : Contents B
   x = contents_of s
 
@@ -37,70 +38,56 @@ module _ {B : Type 0} (program : Bool → B → Program B) (key : Key B) (s t : 
   module _ (others : ℕ) (say : words_say (set s.words i n) ≡ record (words_say s.words) { others = others }) (c : ℕ)
       (f : Does → Does) (view : m'.0 ≡ turned c f m.0) (k : Custody B) (held : held_in m.0.tasks c ≡ Some k)
       (d d' : Does) (did : k.does ≡ d) (now : f d ≡ d') (same : phase_of d' ≡ phase_of d) where
-    does_now : f k.does ≡ d'
-    does_now = ap f did ∙ now
+    abbrev has : IsHeldWith x id c k
+    has = held_by_view program key s id c m.0 h.at k held
 
-    pub changed : y ≡ turned_to x id c k (held_by_view program key s id c m.0 h.at k held) d' others
+    abbrev after : Contents B
+    after = turned_to x id c k has d' others
+
+    changed : y ≡ after
     changed = ap contents_of h.after ∙ (λ j. record { words = say j; slots = s.homes; seats = seats j })
       where
         seats : seats_have (set s.views id m'.0)
             ≡ record (seats_have s.views) { tasks = set (seats_have s.views).tasks id (hold (doing d' k) m.0.tasks) }
         seats = ap (λ v. seats_have (set s.views id v)) view ∙ (seats_set s.views id (turned c f m.0)
-            ∙ turned_seats program key s id c f m.0 h.at k held d' does_now)
+            ∙ turned_seats program key s id c f m.0 h.at k held d' (ap f did ∙ now))
 
-    pub call_turns : Proceeds key.cells x y id c d d'
-    call_turns = subst (λ z. Proceeds key.cells x z id c d d') (sym changed) (record {
+    abbrev turns : Proceeds key.cells x after id c d d'
+    turns = record {
       before_it = k;
       after_it = doing d' k;
-      held = held_by_view program key s id c m.0 h.at k held;
+      held = has;
       did = did;
       now = refl;
-      turned = task_turned r.law id c k (held_by_view program key s id c m.0 h.at k held) d'
-          (same ∙ ap phase_of (sym did)) others;
-    })
+      turned = task_turned r.law id c k has d' (same ∙ ap phase_of (sym did)) others;
+    }
 
-    pub call_others : y.words.others ≡ others
-    call_others = ap (λ (z : Contents B). z.words.others) changed
-
-    pub call_once : y.words.once ≡ x.words.once
-    call_once = ap (λ (z : Contents B). z.words.once) changed
-
-    pub call_cleared : total y.seats.cleared ≡ total x.seats.cleared
-    call_cleared = ap (λ (z : Contents B). total z.seats.cleared) changed
+    -- so what is so of the contents where it does, is so after the call
+    pub call_turns : (Change : Contents B → Type 0)
+        → ((o : Proceeds key.cells x after id c d d') → o.before_it ≡ k → Change after)
+        → Keeping key.cells x y (Change y)
+    call_turns Change change = subst (λ z. Keeping key.cells x z (Change z)) (sym changed)
+        (change turns refl, kept_moved key.cells x after turns.turned refl)
 
 module _ {B : Type 0} (program : Bool → B → Program B) (key : Key B) (s t : State (Option (Rec B)) (View B))
     (r : Rule program key s) (id : ℕ) (m m' : SeatMe B) where
   -- the add to OTHERS
-  pub call_raises : (c : ℕ) → Makes id others_at (suc (word s.words others_at)) m m' s t
+  pub call_raises : (c : ℕ) → MakesWith keeps id others_at (suc (word s.words others_at)) m m' s t
       → m'.0 ≡ turned c (λ _. does.Raised) m.0 → (may : MayRaise c m.0)
       → Keeping key.cells (contents_of s) (contents_of t)
       (RaisesOthers key.cells (contents_of s) (contents_of t) id c may.task.does)
   call_raises c h view may = let n = suc (word s.words others_at) in let k = may.task in
-      let has = held_by_view program key s id c m.0 h.at k may.held in
-      let same = acting_phase k.does may.acts in
-      subst (λ z. Keeping key.cells (contents_of s) z (RaisesOthers key.cells (contents_of s) z id c k.does))
-      (sym (changed program key s t r id others_at n m m' h n (say_others s.words n h.inside) c (λ _. does.Raised) view
-      k may.held k.does does.Raised refl refl same))
-      (let turns : Proceeds key.cells (contents_of s) (turned_to (contents_of s) id c k has does.Raised n) id c k.does
-      does.Raised = record {
-        before_it = k;
-        after_it = doing does.Raised k;
-        held = has;
-        did = refl;
-        now = refl;
-        turned = task_turned r.law id c k has does.Raised same n;
-      } in (
-        record {
-          turns = record { turns = turns; result = may.result };
-          may = may.acts;
-          others = refl;
-          cleared = refl;
-        },
-        kept_moved key.cells (contents_of s) (turned_to (contents_of s) id c k has does.Raised n) turns.turned refl,
-      ))
+      call_turns program key s t r id others_at n m m' h n (say_others s.words n h.inside) c (λ _. does.Raised) view k
+      may.held k.does does.Raised refl refl (acting_phase k.does may.acts)
+      (λ z. RaisesOthers key.cells (contents_of s) z id c k.does) (λ turns same. record {
+        turns = record { turns = turns; result = subst (λ (a : Custody B). IsIn c a.owned) (sym same) may.result };
+        may = may.acts;
+        others = refl;
+        cleared = refl;
+      })
 
   -- the subtraction from OTHERS
-  pub call_lowers : Makes id others_at (word s.words others_at - 1) m m' s t → m'.0 ≡ lowered m.0 → 0 < m.0.cleared
+  pub call_lowers : MakesWith keeps id others_at (word s.words others_at - 1) m m' s t → m'.0 ≡ lowered m.0 → 0 < m.0.cleared
       → Keeping key.cells (contents_of s) (contents_of t) (LowersOthers key.cells (contents_of s) (contents_of t))
   call_lowers h view some_left = let old = seats_have s.views in let v = m.0 in
       let u = total_set old.cleared id v.cleared (v.cleared - 1)
@@ -138,26 +125,14 @@ module _ {B : Type 0} (program : Bool → B → Program B) (key : Key B) (s t : 
 
   -- a walker's load of word i, by which it reads g of what is found there
   pub call_reads : (i c : ℕ) (g : Walker → Walker) (F : ℕ → Way → Walker → Type 0)
-      → Makes id i (word s.words i) m m' s t → m'.0 ≡ read_on c g m.0 → (w : IsWalking c F m.0)
+      → MakesWith keeps id i (word s.words i) m m' s t → m'.0 ≡ read_on c g m.0 → (w : IsWalking c F m.0)
       → Keeping key.cells (contents_of s) (contents_of t)
       (ReadsOn key.cells (contents_of s) (contents_of t) id c w.wait w.way w.walker (g w.walker))
-  call_reads i c g F h view w = let n = word s.words i in let o = word s.words others_at in
-      let say = ap words_say (words_same s.words i) in let d = does.Walking w.wait w.way w.walker in
-      let d' = does.Walking w.wait w.way (g w.walker) in
-      let turns = call_turns program key s t r id i n m m' h o say c (walk_with g) view w.task w.held d d' w.does refl
-      refl in (
-        record {
-          turns = turns;
-          keeps = record {
-            others = call_others program key s t r id i n m m' h o say c (walk_with g) view w.task w.held d d' w.does
-                refl refl;
-            cleared = call_cleared program key s t r id i n m m' h o say c (walk_with g) view w.task w.held d d' w.does
-                refl refl;
-          };
-        },
-        kept_moved key.cells (contents_of s) (contents_of t) turns.turned
-            (call_once program key s t r id i n m m' h o say c (walk_with g) view w.task w.held d d' w.does refl refl),
-      )
+  call_reads i c g F h view w = let n = word s.words i in
+      call_turns program key s t r id i n m m' h (word s.words others_at) (ap words_say (words_same s.words i)) c
+      (walk_with g) view w.task w.held (does.Walking w.wait w.way w.walker) (does.Walking w.wait w.way (g w.walker))
+      w.does refl refl (λ z. ReadsOn key.cells (contents_of s) z id c w.wait w.way w.walker (g w.walker))
+      (λ turns same. record { turns = turns; keeps = record { others = refl; cleared = refl } })
 
 -- what a walker reads of OWN
 pub first_seen : (o : Option ℕ) (w : Walker) → MayReadOwner w → owner_seen o w w.last ≡ owner_read o w
@@ -166,12 +141,12 @@ first_seen o w may = ⊎_elim (λ e. ap (owner_seen o w) e) (λ e. ap (owner_see
 -- a store of PHASE by which a task of the seat does something else
 module _ {B : Type 0} (program : Bool → B → Program B) (key : Key B) (s t : State (Option (Rec B)) (View B))
     (r : Rule program key s) (id c p n : ℕ) (way : Way) (inside : c < key.cells) (m m' : SeatMe B)
-    (h : Makes id (phase_at c) n m m' s t) where
+    (h : MakesWith keeps id (phase_at c) n m m' s t) where
   -- the contents are then those of its law
   call_notes : (k : Custody B) (held : held_in m.0.tasks c ≡ Some k) (d : Does) (tokens : ℕ) → phase_in n ≡ phase_of d
       → m'.0 ≡ record m.0 { steps = suc m.0.steps; tokens = tokens; tasks = hold (now_does d k) m.0.tasks }
       → contents_of t ≡ after_store program key s r id c p n way inside m.0 h.at k held d tokens
-  call_notes k held d tokens is view = step_stores s t id (table_word.Phase c) n m m' h.inside h.after
+  call_notes k held d tokens is view = call_stores s t id (table_word.Phase c) n m m' h
       (noted_view program key s r id c p n way inside m.0 k d tokens) view
       ∙ noted_path program key s r id c p n way inside m.0 h.at k held d tokens is
 

@@ -4,7 +4,7 @@ use Rattle.tj_words.proofs.Prelude.{Reference, Some, [], ap, arith, child, core_
 use Rattle.tj_words.proofs.Prelude.{held_of, home_of, inl, made_of, next_reference, owner_shown, parts_of, put}
 use Rattle.tj_words.proofs.Prelude.{put_else, put_here, reference_of, refl, some-injective, stage_shown, subst, suc}
 use Rattle.tj_words.proofs.Prelude.{sym, to_task, zero, ℕ, ℕ_discrete, ⊎_elim, ◌++◌, ◌<◌, ◌∙◌, ◌∷◌, ◌≡◌, ◌≢◌, ◌≤◌}
-use Rattle.tj_words.specs.Steps.OneStates.{IsToldBy, IsInHandOf, KeepsCells}
+use Rattle.tj_words.proofs.Events.StepEvents.{IsInHandOf, IsToldBy, KeepsCells}
 use Rattle.tj_words.proofs.Cells.CellFacts.{cell_born}
 use Rattle.tj_words.proofs.Events.DrawEvents.{before_or, last_or, t_there, drawn_into}
 use Rattle.tj_words.proofs.Events.ShownCells.{cell_blank, cell_there, shown_is}

@@ -1,12 +1,11 @@
 -- The steps of a table, one after the other, are a run of the core: each is one event or none, and what it leaves is
 -- what the next moment shows.
-use Rattle.tj_words.proofs.Prelude.{AreSteps, Bool, CoreState, DrawsCell, Event, Hand, IsStep, List, Parts, Program}
+use Rattle.tj_words.proofs.Prelude.{Bool, CoreState, DrawsCell, Event, Hand, KeepsCells, List, Parts, Program}
 use Rattle.tj_words.proofs.Prelude.{ShowsEvent, ShowsNothing, Under, [], after, after_all, ap, arith, contents_of}
-use Rattle.tj_words.proofs.Prelude.{core_shown, draw_event, drawn_in, events_of, first_slots, first_view, first_words}
-use Rattle.tj_words.proofs.Prelude.{last_of, map, min, opening, reference_of, refl, root_alone, seats_have, some}
-use Rattle.tj_words.proofs.Prelude.{state_of, subst, sym, to_task, ℕ, ⊎_elim, ◌++◌, ◌<◌, ◌∙◌, ◌∷◌, ◌≡◌, ◌⊎◌}
-use Rattle.tj_core.specs.Runs.{AreAllowed}
-use Rattle.tj_words.specs.Steps.TableRuns.{StepsAreRuns, TableRunsAreLegal}
+use Rattle.tj_words.proofs.Prelude.{core_shown, draw_event, drawn_in, first_slots, first_view, first_words, map, min}
+use Rattle.tj_words.proofs.Prelude.{opening, reference_of, refl, root_alone, seats_have, some, state_of, subst, sym}
+use Rattle.tj_words.proofs.Prelude.{to_task, ℕ, ⊎_elim, ◌++◌, ◌<◌, ◌∙◌, ◌∷◌, ◌≡◌, ◌⊎◌}
+use Rattle.tj_core.specs.Runs.{AreAllowed, IsLegalRun}
 use Rattle.tj_words.proofs.Events.DrawEvents.{draw_shown}
 use Rattle.tj_words.proofs.Seating.FirstWords.{first_words_say}
 use Rattle.tj_words.proofs.Calls.OneStates.{chained, drawn_chained, keeps_itself, root_name, shown_with}
@@ -23,12 +22,22 @@ after_more s [] fs = refl
 after_more s (e ∷ es) fs = after_more (after s e) es fs
 
 module _ {B : Type 0} (program : Program B) (cells : ℕ) where
+  -- a step that draws no cell is one event or none, and one that does is its Make or Fork; makers and numbers of the
+  -- cells that were there stay
+  pub record IsStep (u : Under program cells) (es : List Event) (w : Under program cells) : Type 0 where
+    pub keeps : KeepsCells cells u.now w.now
+    pub shows : ((drawn_in cells w.now ≡ drawn_in cells u.now)
+        × (((es ≡ []) × ShowsNothing cells u.law.born u.law.maker u.now w.now)
+        ⊎ ((e : Event) × (es ≡ e ∷ [])
+        × ShowsEvent cells u.law.born u.law.maker u.now w.now e u.law.born u.law.maker)))
+        ⊎ ((id : ℕ) × (t : ℕ) × (h : Hand) × (es ≡ draw_event h.sort t ∷ []) × DrawsCell cells u.now w.now id t h)
+
   -- events that are allowed from what is shown of u on, after which that of w is shown
-  abbrev Goes : Under program cells → Under program cells → List Event → Type 0
-  Goes u w es = AreAllowed cells (state_of program cells u) es
+  abbrev pub GoesTo : Under program cells → Under program cells → List Event → Type 0
+  GoesTo u w es = AreAllowed cells (state_of program cells u) es
       × (state_of program cells w ≡ after_all (state_of program cells u) es)
 
-  one_step : (u w : Under program cells) (es : List Event) → IsStep program cells u es w → Goes u w es
+  pub one_step : (u w : Under program cells) (es : List Event) → IsStep u es w → GoesTo u w es
   one_step u w es step = ⊎_elim
       (λ (s : (drawn_in cells w.now ≡ drawn_in cells u.now)
       × (((es ≡ []) × ShowsNothing cells u.law.born u.law.maker u.now w.now)
@@ -36,30 +45,25 @@ module _ {B : Type 0} (program : Program B) (cells : ℕ) where
       × ShowsEvent cells u.law.born u.law.maker u.now w.now e u.law.born u.law.maker))).
       let same = s.0 in let next = chained u.law w.law step.keeps (omega arith) same in ⊎_elim
       (λ (q : (es ≡ []) × ShowsNothing cells u.law.born u.law.maker u.now w.now).
-      subst (Goes u w) (sym q.0) (tt, next ∙ q.1))
+      subst (GoesTo u w) (sym q.0) (tt, next ∙ q.1))
       (λ (q : (e : Event) × (es ≡ e ∷ [])
       × ShowsEvent cells u.law.born u.law.maker u.now w.now e u.law.born u.law.maker).
-      subst (Goes u w) (sym q.1) ((q.2.allowed, tt), next ∙ q.2.shown)) s.1)
+      subst (GoesTo u w) (sym q.1) ((q.2.allowed, tt), next ∙ q.2.shown)) s.1)
       (λ (d : (id : ℕ) × (t : ℕ) × (h : Hand) × (es ≡ draw_event h.sort t ∷ [])
       × DrawsCell cells u.now w.now id t h).
       let shows = draw_shown u.law w.now d.0 d.1 d.2 d.4 in let more = ap (λ (z : Parts B). z.drawn) d.4.parts in
-      subst (Goes u w) (sym d.3) (
+      subst (GoesTo u w) (sym d.3) (
         (shows.allowed, tt),
         drawn_chained u.law w.law step.keeps (omega arith) d.0 d.1 d.2 d.4 ∙ shows.shown,
       )) step.shows
 
-  all_steps : (u : Under program cells) (steps : List (List Event × Under program cells))
-      → AreSteps program cells u steps → Goes u (last_of program cells u steps) (events_of program cells steps)
-  all_steps u [] a = (tt, refl)
-  all_steps u (step ∷ steps) a = let es = step.0 in let fs = events_of program cells steps in
-      let first = one_step u step.1 es a.0 in let others = all_steps step.1 steps a.1 in (
-        allowed_more cells (state_of program cells u) es fs first.0
-            (subst (λ z. AreAllowed cells z fs) first.1 others.0),
-        others.1 ∙ (ap (λ z. after_all z fs) first.1 ∙ sym (after_more (state_of program cells u) es fs)),
-      )
-
-pub steps_are_runs : (B : Type 0) → StepsAreRuns B
-steps_are_runs B program cells u steps a = all_steps program cells u steps a
+  -- events and more events
+  pub goes_on : (u w v : Under program cells) (es fs : List Event) → GoesTo u w es → GoesTo w v fs → GoesTo u v (es ++ fs)
+  goes_on u w v es fs first others = (
+    allowed_more cells (state_of program cells u) es fs first.0
+        (subst (λ z. AreAllowed cells z fs) first.1 others.0),
+    others.1 ∙ (ap (λ z. after_all z fs) first.1 ∙ sym (after_more (state_of program cells u) es fs)),
+  )
 
 -- a new table shows the root alone, whatever law it is under
 first_root : {B : Type 0} (program : Program B) (cells : ℕ) (some_cells : 0 < cells) (root : B) (strict : Bool)
@@ -86,8 +90,12 @@ first_root program cells some_cells root strict u e =
     at_root : (c : ℕ) → c < drawn_in cells u.now → c ≡ 0
     at_root c l = let d = drawn in omega arith
 
-pub runs_are_legal : (B : Type 0) → TableRunsAreLegal B
-runs_are_legal B program cells some_cells root strict u steps e a =
+-- so from a new table on, such events are a legal run of the core
+pub runs_are_legal : {B : Type 0} (program : Program B) (cells : ℕ) → 0 < cells → (root : B) (strict : Bool)
+    (u w : Under program cells) (es : List Event)
+    → u.now ≡ contents_of (opening (first_words cells) (first_slots cells root) (first_view cells root strict))
+    → GoesTo program cells u w es
+    → IsLegalRun cells es × (state_of program cells w ≡ after_all root_alone es)
+runs_are_legal program cells some_cells root strict u w es e goes =
     let r = first_root program cells some_cells root strict u e in
-    let h = all_steps program cells u steps a in let es = events_of program cells steps in
-    (subst (λ s. AreAllowed cells s es) r h.0, h.1 ∙ ap (λ s. after_all s es) r)
+    (subst (λ s. AreAllowed cells s es) r goes.0, goes.1 ∙ ap (λ s. after_all s es) r)

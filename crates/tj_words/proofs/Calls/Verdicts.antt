@@ -1,15 +1,15 @@
 -- Where a walk has ended, no cycle through its task stood just after the task had published: the calls between are a
 -- run of the core, at whose end the task may settle.
-use Rattle.tj_words.proofs.Prelude.{Allowed, AreAskedMoments, Bool, CoreState, Event, IsStep, Key, List, Program, Ruled}
-use Rattle.tj_words.proofs.Prelude.{StepCall, View, [], after, after_all, ap, cell, events_by, events_of, get_elem?}
-use Rattle.tj_words.proofs.Prelude.{last_moment, phase_events, phase_in, place_of, some, state_of, subst, sym, under}
-use Rattle.tj_words.proofs.Prelude.{word, ℕ, ◌∙◌, ◌∷◌, ◌≡◌}
+use Rattle.tj_words.proofs.Prelude.{Allowed, AreAskedMoments, Bool, CoreState, Event, Key, List, Program, Ruled}
+use Rattle.tj_words.proofs.Prelude.{StepCall, View, [], ap, cell, events_by, get_elem?, last_moment, phase_events}
+use Rattle.tj_words.proofs.Prelude.{phase_in, place_of, some, state_of, subst, under, word, ℕ, ◌∙◌, ◌∷◌, ◌≡◌}
 use Rattle.tj_core.specs.WaitGraph.{IsOnCycle}
 use Rattle.tj_core.proofs.Events.LegalRuns.{settles_off_cycles}
 use Rattle.tj_words.specs.CallLaws.Verdicts.{EndedWalksAreOffCycles, HasEndedWalk, PublishesAt, IsOnCycleAt}
 use Rattle.tj_words.proofs.Calls.CallRuns.{all_go, calls_are_steps}
-use Rattle.tj_words.proofs.Calls.TableRuns.{steps_are_runs}
+use Rattle.tj_words.proofs.Calls.TableRuns.{GoesTo, goes_on}
 use Rattle.tj_words.proofs.Events.WalkersShown.{walker_shown}
+use Rattle.tj_words.specs.CallLaws.CallRuns.{joined}
 use Rattle.tj_core.specs.declared.event.Event.TheVariants as event
 use Rattle.tj_words.specs.CallLaws.StepCalls as call
 
@@ -25,9 +25,9 @@ module _ {B : Type 0} (program : Bool → B → Program B) (key : Key B) (u w : 
   published = event.Publish (cell t) (cell p)
 
   -- the call is that event
-  publish_step : IsStep P key.cells (under program key u) (published ∷ []) (under program key w)
+  publish_step : GoesTo P key.cells (under program key u) (under program key w) (published ∷ [])
   publish_step = let h = calls_are_steps B program key u w e.publish in
-      subst (λ es. IsStep P key.cells (under program key u) es (under program key w)) (its_events h.0 h.1) h.2
+      subst (GoesTo P key.cells (under program key u) (under program key w)) (its_events h.0 h.1) h.2
     where
       by : (a : StepCall) → a ≡ call.puts_phase t → (es : List Event)
           → events_by key.cells a e.publish.made.operands (word u.now.words (place_of a)) e.publish.made.seat.0 es
@@ -40,11 +40,6 @@ module _ {B : Type 0} (program : Bool → B → Program B) (key : Key B) (u w : 
           (word u.now.words (place_of e.publish.made.call)) e.publish.made.seat.0 es
           → es ≡ published ∷ []
       its_events es h = by e.publish.made.call e.is es h ∙ ap (phase_events t) e.waits
-
-  -- the state after it is the one that is shown then
-  published_shown : state_of P key.cells (under program key w) ≡ after from published
-  published_shown = (steps_are_runs B P key.cells (under program key u)
-      ((published ∷ [], under program key w) ∷ []) (publish_step, tt)).1
 
   module _ (later : List (Ruled program key)) (a : AreAskedMoments program key w later) (id : ℕ) (v : View B)
       (at : get_elem? (last_moment program key w later).now.views id ≡ some v) (h : HasEndedWalk t v) where
@@ -62,15 +57,12 @@ module _ {B : Type 0} (program : Bool → B → Program B) (key : Key B) (u w : 
     )
 
     off_cycle : ¬ IsOnCycleAt program key t w
-    off_cycle on = let g = all_go program key w later a in
-        let steps = (published ∷ [], under program key w) ∷ g.0 in
-        let run = steps_are_runs B P key.cells (under program key u) steps (publish_step, g.1) in
-        let es = events_of P key.cells g.0 in
-        let ends : state_of P key.cells (under program key last) ≡ after_all from (published ∷ es)
-        = ap (state_of P key.cells) (sym g.2) ∙ run.1 in
+    off_cycle on = let g = all_go program key w later a in let es = joined g.0 in
+        let run = goes_on P key.cells (under program key u) (under program key w) (under program key last)
+        (published ∷ []) es publish_step g.2 in
         settles_off_cycles key.cells from (cell t) (cell p) es u.rule.law.facts run.0
-        (subst (λ s. Allowed key.cells s (event.Settle (cell t))) ends may_settle)
-        (subst (λ s. IsOnCycle s.cells t) published_shown on)
+        (subst (λ s. Allowed key.cells s (event.Settle (cell t))) run.1 may_settle)
+        (subst (λ s. IsOnCycle s.cells t) publish_step.1 on)
 
 pub ended_walks_off_cycles : (B : Type 0) → EndedWalksAreOffCycles B
 ended_walks_off_cycles B program key u w later t p id v e a at h =

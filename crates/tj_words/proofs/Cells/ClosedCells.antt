@@ -18,7 +18,7 @@ use Rattle.tj_words.proofs.Cells.OwnedChanges.{owned_loses}
 use Rattle.tj_words.proofs.Events.OwnerEvents.{acts_phase, close_shown, end_shown, acts_there}
 use Rattle.tj_words.proofs.Events.StepFacts.{facts_after}
 use Rattle.tj_words.proofs.Calls.KeptCells.{kept_words}
-use Rattle.tj_words.specs.Steps.ShownParts.{owned_parts}
+use Rattle.tj_words.proofs.Events.ShownParts.{owned_parts}
 use Rattle.tj_words.proofs.Holders.TaskMoves.{TaskMove, law_owners}
 use Rattle.tj_base.specs.declared.cell.Sort.TheVariants as sort
 use Rattle.tj_words.specs.declared.offsets.Once.TheVariants as once

@@ -20,7 +20,7 @@ use Rattle.tj_words.proofs.Events.StepFacts.{facts_after}
 use Rattle.tj_words.proofs.Calls.KeptCells.{kept_parts}
 use Rattle.tj_words.proofs.Cells.ClosedCells.{GivesUp, closed, gave_list, gives_up, its_task, law_closed, owned_here}
 use Rattle.tj_words.proofs.Cells.ClosedCells.{owned_promise}
-use Rattle.tj_words.specs.Steps.ShownParts.{owned_parts}
+use Rattle.tj_words.proofs.Events.ShownParts.{owned_parts}
 use Rattle.tj_words.proofs.Holders.TaskMoves.{TaskMove, law_owners}
 use Rattle.tj_words.specs.declared.offsets.Once.TheVariants as once
 use Rattle.tj_words.specs.declared.view.Does.TheVariants as does

@@ -15,7 +15,7 @@ use Rattle.tj_words.proofs.Cells.CellFacts.{cell_born, sort_is}
 use Rattle.tj_words.proofs.Cells.MadeThings.{maker_shown, thing_shown}
 use Rattle.tj_words.proofs.Holders.TaskPlaces.{custody, hand_seat}
 use Rattle.tj_words.proofs.Events.OwnerEvents.{acts_there, acts_phase, acts_made, acts_stage, acts_run}
-use Rattle.tj_words.specs.Steps.ShownParts.{drawn_parts}
+use Rattle.tj_words.proofs.Events.ShownParts.{drawn_parts}
 use Rattle.tj_words.proofs.Stores.SeatLists.{back, inside}
 use Rattle.tj_base.specs.declared.cell.Sort.TheVariants as sort
 

@@ -1,13 +1,10 @@
 -- Steps that show nothing.
-use Rattle.tj_words.proofs.Prelude.{Answer, ChangesHead, ChangesLive, ChangesNext, ChangesStop, ClaimsTask, Contents}
-use Rattle.tj_words.proofs.Prelude.{CoreState, Custody, Does, DrawIsRefused, EndsTask, IsBegun, IsMoved, IsThere}
-use Rattle.tj_words.proofs.Prelude.{KeepsOthers, Law, Leaves, LoadsOnly, MovesRecord, None, Option, Phase, Program, Rec}
-use Rattle.tj_words.proofs.Prelude.{ReleasesTask, ShelvesTask, ShowsNothing, Some, StoresOnce, Walker, Way, WordsSay}
-use Rattle.tj_words.proofs.Prelude.{[], answer_stage, ap, arith, cell, core_shown, does_first, does_stage, drawn_in}
-use Rattle.tj_words.proofs.Prelude.{hand_of, held_of, home_of, min, parts_of, phase_of, phase_sort, refl, shown_by}
-use Rattle.tj_words.proofs.Prelude.{stage_there, subst, suc, sym, total, ℕ, ◌++◌, ◌∙◌, ◌∷◌, ◌≡◌}
-use Rattle.tj_words.specs.Steps.QuietSteps.{KeepsHoldings, SplitsSeat}
-use Rattle.tj_words.proofs.Seating.Appending.{hand_snoc, making_snoc, find_snoc, total_snoc}
+use Rattle.tj_words.proofs.Prelude.{Answer, ClaimsTask, Contents, CoreState, Custody, Does, EndsTask, IsBegun, IsMoved}
+use Rattle.tj_words.proofs.Prelude.{IsThere, KeepsHoldings, KeepsOthers, Law, Leaves, MovesRecord, None, Option, Phase}
+use Rattle.tj_words.proofs.Prelude.{Program, Rec, ReleasesTask, ShelvesTask, ShowsNothing, Some, Walker, Way, WordsSay}
+use Rattle.tj_words.proofs.Prelude.{answer_stage, ap, cell, core_shown, does_first, does_stage, drawn_in, hand_of}
+use Rattle.tj_words.proofs.Prelude.{held_of, home_of, min, parts_of, phase_of, phase_sort, refl, shown_by, stage_there}
+use Rattle.tj_words.proofs.Prelude.{subst, sym, ℕ, ◌∙◌, ◌≡◌}
 use Rattle.tj_words.proofs.Events.ShownCells.{stage_out}
 use Rattle.tj_words.proofs.Holders.TaskPlaces.{does_stage_there, begun_there, custody, held_here}
 use Rattle.tj_words.proofs.Events.TurnedTasks.{moved_nothing}
@@ -73,7 +70,7 @@ module _ {B : Type 0} where
     nothing_changed e = ap (shown_by r.born r.maker) e
 
     -- a step on a word by which nothing is shown
-    still : (words : WordsSay) → y.words ≡ words → KeepsHoldings x y
+    pub still : (words : WordsSay) → y.words ≡ words → KeepsHoldings x y
         → min words.count cells ≡ n
         → words.own ≡ x.words.own
         → words.phase ≡ x.words.phase
@@ -86,45 +83,6 @@ module _ {B : Type 0} where
           seats = record y.seats { hands = k.hands j; tasks = k.tasks j; cleared = k.cleared j };
         }))
         ∙ (λ j. record (parts_of cells x) { drawn = drawn j; own = own j; phase = phases j; others = others j }))
-
-    pub load_shown : LoadsOnly x y → Quiet
-    load_shown s = still x.words s.words s.keeps refl refl refl refl
-
-    pub once_shown : StoresOnce x y → Quiet
-    once_shown s = still (record x.words { once = s.once }) s.words s.keeps refl refl refl refl
-
-    pub live_shown : ChangesLive x y → Quiet
-    live_shown s = still (record x.words { live = s.live }) s.words s.keeps refl refl refl refl
-
-    pub stop_shown : ChangesStop x y → Quiet
-    stop_shown s = still (record x.words { stop = s.stop }) s.words s.keeps refl refl refl refl
-
-    pub head_shown : ChangesHead x y → Quiet
-    head_shown s = still (record x.words { head = s.head }) s.words s.keeps refl refl refl refl
-
-    pub next_shown : ChangesNext x y → Quiet
-    next_shown s = still (record x.words { next = s.next }) s.words s.keeps refl refl refl refl
-
-    pub refused_shown : DrawIsRefused x y cells → Quiet
-    refused_shown s = still (record x.words { count = suc x.words.count }) s.words s.keeps
-        (let l = s.full in omega arith) refl refl refl
-
-    pub split_shown : SplitsSeat x y → Quiet
-    split_shown s = nothing_changed
-        ((λ j. parts_of cells (record {
-          words = s.words j;
-          slots = s.slots j;
-          seats = record y.seats { hands = s.hands j; tasks = s.tasks j; cleared = s.cleared j };
-        }))
-        ∙ (λ j. record (parts_of cells x) {
-          hand = λ c. hand_snoc x.seats.hands c j;
-          making = λ t. making_snoc x.seats.hands t j;
-          held = λ t. find_snoc x.seats.tasks t j;
-          cleared = cleared_same j;
-        }))
-      where
-        cleared_same : total (x.seats.cleared ++ 0 ∷ []) ≡ total x.seats.cleared
-        cleared_same = let e = total_snoc x.seats.cleared 0 in omega arith
 
     -- a move of a task that is there shows nothing, where what it shows is the same
     quiet_move : (t : ℕ) (p : Phase) (held : Option (Custody B)) (home : Option (Rec B))

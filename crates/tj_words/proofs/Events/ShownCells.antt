@@ -5,7 +5,7 @@ use Rattle.tj_words.proofs.Prelude.{made_by, owner, owner_shown, phase_sort, put
 use Rattle.tj_words.proofs.Prelude.{restage, shown_by, stage, stage_shown, stage_there, staged, sym, ℕ, ◌+◌, ◌<◌, ◌∙◌}
 use Rattle.tj_words.proofs.Prelude.{◌≡◌, ◌≢◌, ◌≤◌}
 use Rattle.std.proofs.Common.{lt-ltb, le-ltb}
-use Rattle.tj_words.specs.Steps.ShownParts.{moved_parts}
+use Rattle.tj_words.proofs.Events.ShownParts.{moved_parts}
 
 module _ {B : Type 0} (born : List Reference) (maker : ℕ → ℕ) (x : Parts B) where
   abbrev K : CoreState

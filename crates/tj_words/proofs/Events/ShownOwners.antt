@@ -6,7 +6,7 @@ use Rattle.tj_words.proofs.Prelude.{restage, running, shown_by, stage_shown, sta
 use Rattle.tj_words.proofs.Prelude.{◌≡◌, ◌≢◌}
 use Rattle.tj_core.specs.CoreState.{ended}
 use Rattle.tj_core.specs.Events.{owned_by}
-use Rattle.tj_words.specs.Steps.ShownParts.{owned_parts}
+use Rattle.tj_words.proofs.Events.ShownParts.{owned_parts}
 use Rattle.tj_words.proofs.Events.QuietCells.{stage_does}
 use Rattle.tj_words.proofs.Events.ShownCells.{cell_blank, cell_there, shown_is}
 use Rattle.tj_words.proofs.Holders.TaskPlaces.{held_here}

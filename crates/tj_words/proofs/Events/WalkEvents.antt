@@ -1,21 +1,23 @@
 -- The steps of a task from its wait on are events of the core.
 use Rattle.tj_words.proofs.Prelude.{Allowed, CellId, Contents, Does, Event, IsBegun, IsIn, IsThere, KeepsOthers, Law}
 use Rattle.tj_words.proofs.Prelude.{List, MayCount, MayReadAgain, MayReadOthers, MayReadOwner, MayWait, None, Option}
-use Rattle.tj_words.proofs.Prelude.{Proceeds, Program, PublishesWait, RaisesOthers, Runs, ShowsEvent, Some, StoresAlarm}
-use Rattle.tj_words.proofs.Prelude.{StoresParked, Walker, Way, [], after, ap, cell, core_shown, count_read, does_cells}
-use Rattle.tj_words.proofs.Prelude.{drawn_in, hand_of, inl, inr, is_owner, others_read, owner, owner_found, owner_read}
-use Rattle.tj_words.proofs.Prelude.{parts_of, phase_of, read_cells, refl, restage, start_walk, subst, suc, sym, total}
-use Rattle.tj_words.proofs.Prelude.{trail_cells, wait_found, wait_in, walk_cells, way_of_wait, ℕ, ◌++◌, ◌∙◌, ◌∷◌, ◌≡◌}
+use Rattle.tj_words.proofs.Prelude.{Proceeds, Program, PublishesWait, RaisesOthers, ReadsOn, Runs, ShowsEvent, Some}
+use Rattle.tj_words.proofs.Prelude.{StoresAlarm, StoresParked, Walker, Way, [], after, ap, cell, core_shown, count_read}
+use Rattle.tj_words.proofs.Prelude.{does_cells, drawn_in, hand_of, inl, inr, is_owner, others_read, owner, owner_found}
+use Rattle.tj_words.proofs.Prelude.{owner_read, parts_of, phase_of, read_cells, refl, restage, start_walk, subst, suc}
+use Rattle.tj_words.proofs.Prelude.{sym, total, trail_cells, wait_found, wait_in, walk_cells, way_of_wait, ℕ, ◌++◌, ◌∙◌}
+use Rattle.tj_words.proofs.Prelude.{◌∷◌, ◌≡◌, ◌≢◌}
 use Rattle.tj_core.specs.declared.walk.Way.TheVariants.{Along, Other}
 use Rattle.tj_core.specs.declared.walk.TrailLink.{TrailLink}
 use Rattle.tj_core.specs.CoreState.{CellStage, CoreState, stage, present, raised, waits, walks, parked, alarmed}
 use Rattle.tj_core.specs.Events.{walked, walk_ended, wait_read, owner_again, Walks, MayPublish, MayReadWait, MayAlarm}
-use Rattle.tj_words.specs.Steps.WalkSteps.{ProceedsOpen, ReadsOthers, ReadsCount, ReadsOwner, ReadsWait, ReadsAgain}
+use Rattle.tj_words.proofs.Events.WalkSteps.{ProceedsOpen}
 use Rattle.tj_words.proofs.Holders.HeldTasks.{held_listed, in_back}
 use Rattle.tj_words.proofs.Cells.CellFacts.{way_shown, wait_shown}
 use Rattle.tj_words.proofs.Events.ShownCells.{owner_out}
 use Rattle.tj_words.proofs.Holders.TaskPlaces.{does_shown, begun_there, custody, held_drawn, list_owned, stage_held}
 use Rattle.tj_words.proofs.Events.TurnedTasks.{acting_runs, acting_begun, turned_out, turned_event, moved_event}
+use Rattle.tj_core.specs.declared.walk.LastRead.TheVariants.{SawOwner, SawWait}
 use Rattle.tj_core.specs.declared.event.Event.TheVariants as event
 use Rattle.tj_words.specs.declared.phase.Walk.TheVariants as walk
 use Rattle.tj_words.specs.declared.phase.Phase.TheVariants as phase
@@ -139,20 +141,21 @@ module _ {B : Type 0} {program : Program B} {cells : ℕ} {x : Contents B} (r : 
           (subst (λ z. IsIn c (does_cells z)) (sym s.did) i)
 
     -- the load of OTHERS
-    pub others_shown : (p : ℕ) (way : Way) (w : Walker) → ReadsOthers cells x y id t p way w
+    pub others_shown : (p : ℕ) (way : Way) (w : Walker)
+        → ReadsOn cells x y id t p way w (others_read x.words.others w) → MayReadOthers way w
         → Shows (event.LoadOthers (cell t))
-    others_shown p way w s =
+    others_shown p way w s may =
         let to = does.Walking p way (others_read x.words.others w) in
-        walker_event p way w to s.reads.turns (walked (λ c z. others_read x.words.others z)) (event.LoadOthers (cell t))
-        refl (walker_walks p way w to s.reads.turns (λ c way z. MayReadOthers way z) s.may) refl s.reads.keeps
+        walker_event p way w to s.turns (walked (λ c z. others_read x.words.others z)) (event.LoadOthers (cell t))
+        refl (walker_walks p way w to s.turns (λ c way z. MayReadOthers way z) may) refl s.keeps
 
     -- the load of COUNT
-    pub count_shown : (p : ℕ) (way : Way) (w : Walker) → ReadsCount cells x y id t p way w
-        → Shows (event.LoadCount (cell t))
-    count_shown p way w s =
+    pub count_shown : (p : ℕ) (way : Way) (w : Walker) → ReadsOn cells x y id t p way w (count_read n w)
+        → MayCount way w → Shows (event.LoadCount (cell t))
+    count_shown p way w s may =
         let to = does.Walking p way (count_read n w) in
-        walker_event p way w to s.reads.turns (walked (λ c z. count_read n z)) (event.LoadCount (cell t)) refl
-        (walker_walks p way w to s.reads.turns (λ c way z. MayCount way z) s.may) refl s.reads.keeps
+        walker_event p way w to s.turns (walked (λ c z. count_read n z)) (event.LoadCount (cell t)) refl
+        (walker_walks p way w to s.turns (λ c way z. MayCount way z) may) refl s.keeps
 
     -- the present cell of a walk is one that it names
     present_listed : (p : ℕ) (trail : List TrailLink) (rest : List ℕ)
@@ -168,51 +171,54 @@ module _ {B : Type 0} {program : Program B} {cells : ℕ} {x : Contents B} (r : 
         owner_out r.born r.maker (parts_of cells x) (present p w.trail) there.0 there.1
 
     -- the load of OWN of the present cell
-    pub owner_shown_read : (p : ℕ) (way : Way) (w : Walker) → ReadsOwner cells x y id t p way w
+    pub owner_shown_read : (p : ℕ) (way : Way) (w : Walker)
+        → ReadsOn cells x y id t p way w (owner_read (x.words.own (present p w.trail)) w) → MayReadOwner w
         → Shows (event.ReadOwner (cell t))
-    owner_shown_read p way w s =
+    owner_shown_read p way w s may =
         let to = does.Walking p way (owner_read (x.words.own (present p w.trail)) w) in
-        walker_event p way w to s.reads.turns
+        walker_event p way w to s.turns
         (walked (λ c z. owner_read (owner K.cells (present c z.trail)) z)) (event.ReadOwner (cell t))
-        (λ j. waits p way (walks (owner_read (sym (present_owner p way w to s.reads.turns) j) w)))
-        (walker_walks p way w to s.reads.turns (λ c way z. MayReadOwner z) s.may) refl s.reads.keeps
+        (λ j. waits p way (walks (owner_read (sym (present_owner p way w to s.turns) j) w)))
+        (walker_walks p way w to s.turns (λ c way z. MayReadOwner z) may) refl s.keeps
 
     -- the load of PHASE of the owner that was read
-    pub wait_shown_read : (p : ℕ) (way : Way) (w : Walker) (u : ℕ) → ReadsWait cells x y id t p way w u
-        → Shows (event.ReadWait (cell t))
-    wait_shown_read p way w u s =
-        walker_event p way w to s.reads.turns (walked (λ c z. wait_read K.cells z z.last)) (event.ReadWait (cell t))
+    pub wait_shown_read : (p : ℕ) (way : Way) (w : Walker) (u : ℕ)
+        → ReadsOn cells x y id t p way w (wait_found u (wait_in (x.words.phase u)) w) → w.last ≡ SawOwner (Some u)
+        → u ≢ t → Shows (event.ReadWait (cell t))
+    wait_shown_read p way w u s last other =
+        walker_event p way w to s.turns (walked (λ c z. wait_read K.cells z z.last)) (event.ReadWait (cell t))
         (λ j. waits p way (walks (fits j)))
-        (walker_walks p way w to s.reads.turns (λ c way z. MayReadWait t z) (u, s.last, s.other)) refl s.reads.keeps
+        (walker_walks p way w to s.turns (λ c way z. MayReadWait t z) (u, last, other)) refl s.keeps
       where
         to : Does
         to = does.Walking p way (wait_found u (wait_in (x.words.phase u)) w)
 
         there : IsThere n (hand_of x) u
-        there = walk_there p way w to s.reads.turns u
+        there = walk_there p way w to s.turns u
             (inr (in_back u (trail_cells w.trail) (read_cells w.last)
-            (subst (λ z. IsIn u (read_cells z)) (sym s.last) (inl refl))))
+            (subst (λ z. IsIn u (read_cells z)) (sym last) (inl refl))))
 
         fits : wait_found u (wait_in (x.words.phase u)) w ≡ wait_read K.cells w w.last
         fits = (λ j. wait_found u (sym (wait_shown r u there) j) w)
-            ∙ ap (wait_read K.cells w) (sym s.last)
+            ∙ ap (wait_read K.cells w) (sym last)
 
     -- the second load of OWN of the present cell
-    pub again_shown_read : (p : ℕ) (way : Way) (w : Walker) (u v : ℕ) → ReadsAgain cells x y id t p way w u v
-        → Shows (event.ReadOwnerAgain (cell t))
-    again_shown_read p way w u v s =
-        walker_event p way w to s.reads.turns
+    pub again_shown_read : (p : ℕ) (way : Way) (w : Walker) (u v : ℕ)
+        → ReadsOn cells x y id t p way w (owner_found (is_owner (x.words.own (present p w.trail)) u) u v w)
+        → w.last ≡ SawWait u (Some v) → Shows (event.ReadOwnerAgain (cell t))
+    again_shown_read p way w u v s last =
+        walker_event p way w to s.turns
         (walked (λ c z. owner_again (owner K.cells (present c z.trail)) z z.last)) (event.ReadOwnerAgain (cell t))
         (λ j. waits p way (walks (fits j)))
-        (walker_walks p way w to s.reads.turns (λ c way z. MayReadAgain z) (u, v, s.last)) refl s.reads.keeps
+        (walker_walks p way w to s.turns (λ c way z. MayReadAgain z) (u, v, last)) refl s.keeps
       where
         to : Does
         to = does.Walking p way (owner_found (is_owner (x.words.own (present p w.trail)) u) u v w)
 
         fits : owner_found (is_owner (x.words.own (present p w.trail)) u) u v w
             ≡ owner_again (owner K.cells (present p w.trail)) w w.last
-        fits = (λ j. owner_found (is_owner (sym (present_owner p way w to s.reads.turns) j) u) u v w)
-            ∙ ap (owner_again (owner K.cells (present p w.trail)) w) (sym s.last)
+        fits = (λ j. owner_found (is_owner (sym (present_owner p way w to s.turns) j) u) u v w)
+            ∙ ap (owner_again (owner K.cells (present p w.trail)) w) (sym last)
 
     -- the store of Alarmed
     pub alarm_shown : (p : ℕ) (way : Way) (w : Walker) → StoresAlarm cells x y id t p way w

@@ -166,14 +166,14 @@ module _ {B : Type 0} {program : Program B} {cells : ℕ} {x : Contents B} (even
       → Law program cells (read_to x id t k h p way (others_read x.words.others w))
   law_reads_others may = let w' = others_read x.words.others w in
       read_law w' (event.LoadOthers (cell t))
-      (others_shown r (read_y w') id t p way w record { reads = reads w'; may = may })
+      (others_shown r (read_y w') id t p way w (reads w') may)
       (others_there (IsThere (drawn_in cells x) (hand_of x)) p w named x.words.others)
 
   -- the load of COUNT
   pub law_reads_count : MayCount way w → Law program cells (read_to x id t k h p way (count_read (drawn_in cells x) w))
   law_reads_count may = let w' = count_read (drawn_in cells x) w in
       read_law w' (event.LoadCount (cell t))
-      (count_shown r (read_y w') id t p way w record { reads = reads w'; may = may })
+      (count_shown r (read_y w') id t p way w (reads w') may)
       (count_there (IsThere (drawn_in cells x) (hand_of x)) p w named (drawn_in cells x))
 
   -- the first load of OWN of the present cell
@@ -181,7 +181,7 @@ module _ {B : Type 0} {program : Program B} {cells : ℕ} {x : Contents B} (even
       → Law program cells (read_to x id t k h p way (owner_read (x.words.own (present p w.trail)) w))
   law_reads_owner may = let o = x.words.own (present p w.trail) in let w' = owner_read o w in
       read_law w' (event.ReadOwner (cell t))
-      (owner_shown_read r (read_y w') id t p way w record { reads = reads w'; may = may })
+      (owner_shown_read r (read_y w') id t p way w (reads w') may)
       (owner_there (IsThere (drawn_in cells x) (hand_of x)) p w named o
       (λ u e. (r.names.owned (present p w.trail) u e).1))
 
@@ -190,7 +190,7 @@ module _ {B : Type 0} {program : Program B} {cells : ℕ} {x : Contents B} (even
       → Law program cells (read_to x id t k h p way (wait_found u (wait_in (x.words.phase u)) w))
   law_reads_wait u last other = let o = wait_in (x.words.phase u) in let w' = wait_found u o w in
       read_law w' (event.ReadWait (cell t))
-      (wait_shown_read r (read_y w') id t p way w u record { reads = reads w'; last = last; other = other })
+      (wait_shown_read r (read_y w') id t p way w u (reads w') last other)
       (wait_there (IsThere (drawn_in cells x) (hand_of x)) p w named u o
       (last_there (IsThere (drawn_in cells x) (hand_of x)) p w named (SawOwner (Some u)) last u (inl refl))
       (λ c e. waits_there (x.words.phase u) refl c e))
@@ -211,7 +211,7 @@ module _ {B : Type 0} {program : Program B} {cells : ℕ} {x : Contents B} (even
   law_reads_again u v last = let b = is_owner (x.words.own (present p w.trail)) u in let w' = owner_found b u v w in
       let seen = last_there (IsThere (drawn_in cells x) (hand_of x)) p w named (SawWait u (Some v)) last in
       read_law w' (event.ReadOwnerAgain (cell t))
-      (again_shown_read r (read_y w') id t p way w u v record { reads = reads w'; last = last })
+      (again_shown_read r (read_y w') id t p way w u v (reads w') last)
       (again_there (IsThere (drawn_in cells x) (hand_of x)) p w named b u v (seen u (inl refl))
       (seen v (inr (inl refl))))
 

@@ -1,7 +1,7 @@
 -- What the words say after a store of one of them.
-use Rattle.tj_words.proofs.Prelude.{Bool, List, Once, WordsSay, ap, cond, count_at, dite, eq-eqb, head_at, head_in}
-use Rattle.tj_words.proofs.Prelude.{length, live_at, nat_eq, ne_eqb, next_at, once_at, others_at, owner_in, phase_in}
-use Rattle.tj_words.proofs.Prelude.{put, refl, set, stop_at, sym, word, words_say, ℕ, ℕ_discrete, ◌<◌, ◌∙◌, ◌≡◌, ◌≢◌}
+use Rattle.tj_words.proofs.Prelude.{Bool, List, Once, WordsSay, ap, cond, dite, eq-eqb, head_at, head_in, length}
+use Rattle.tj_words.proofs.Prelude.{nat_eq, ne_eqb, next_at, once_at, others_at, owner_in, phase_in, put, refl, set}
+use Rattle.tj_words.proofs.Prelude.{sym, word, words_say, ℕ, ℕ_discrete, ◌<◌, ◌∙◌, ◌≡◌, ◌≢◌}
 use Rattle.tj_words.proofs.Stores.SeatLists.{word_else, word_here}
 use Rattle.tj_words.proofs.Stores.TableWords.{TableWord, Count, Live, Others, Stop, Own, Phase, Written, Head, Next}
 use Rattle.tj_words.proofs.Stores.TableWords.{index, is_word, is_word_here, is_word_else, same_cell, same_word}
@@ -61,22 +61,9 @@ module _ (ws : List ℕ) (n : ℕ) where
     next = λ c. read_store head_in w (Next c) l j;
   }
 
-  -- a store of COUNT, of LIVE, of OTHERS and of STOP
-  pub say_count : count_at < length ws → words_say (set ws count_at n) ≡ record (words_say ws) { count = n }
-  say_count l = say Count l
-
-  pub say_live : live_at < length ws → words_say (set ws live_at n) ≡ record (words_say ws) { live = n }
-  say_live l = say Live l
-
+  -- a store of OTHERS, of a HEAD and of a NEXT
   pub say_others : others_at < length ws → words_say (set ws others_at n) ≡ record (words_say ws) { others = n }
   say_others l = say Others l
-
-  pub say_stop : stop_at < length ws → words_say (set ws stop_at n) ≡ record (words_say ws) { stop = n }
-  say_stop l = say Stop l
-
-  pub say_once : (c : ℕ) (f : Once) → once_at c f < length ws
-      → words_say (set ws (once_at c f) n) ≡ record (words_say ws) { once = put_word (words_say ws).once c f n }
-  say_once c f l = say (Written c f) l
 
   pub say_head : (c : ℕ) → head_at c < length ws
       → words_say (set ws (head_at c) n) ≡ record (words_say ws) { head = put (words_say ws).head c (head_in n) }

@@ -2,7 +2,7 @@
 -- the seats that hold tasks, the chains and the pushes to come are those that words and views tell.
 use Rattle.std.specs.Prelude.{◌≡◌, ℕ}
 use Rattle.tj_words.specs.Law.{Law}
-use Rattle.tj_words.specs.Steps.StepLaws.{Moment}
+use Rattle.tj_words.specs.Steps.OneStates.{Moment}
 
 module _ (B : Type 0) where
   -- two laws of the same contents have the same seat as the holder of a task, or both have none

@@ -1,4 +1,4 @@
-use Rattle.tj_words.proofs.Calls.CallRuns.{call_runs_are_legal, calls_are_steps, seats_are_quiet}
+use Rattle.tj_words.proofs.Calls.CallRuns.{all_go, call_runs_are_legal, calls_are_steps, seats_are_quiet}
 use Rattle.tj_words.proofs.laws.call_runs.Goals as goal
 
 pub returns-clause-calls : goal.returns-clause-calls
@@ -6,6 +6,9 @@ returns-clause-calls g c = λ program key u w a. calls_are_steps _ program key u
 
 pub returns-clause-seats : goal.returns-clause-seats
 returns-clause-seats g c = λ program key u w a. seats_are_quiet _ program key u w a
+
+pub returns-clause-runs : goal.returns-clause-runs
+returns-clause-runs g c = λ program key u later a. all_go program key u later a
 
 pub returns-clause-legal : goal.returns-clause-legal
 returns-clause-legal g c = λ program key u later e a. call_runs_are_legal _ program key u later e a

@@ -1,17 +1,9 @@
-use Rattle.tj_words.proofs.Prelude.{Parts, ap, arith}
 use Rattle.tj_words.proofs.Calls.OneHolders.{one_line_stands, one_seat_holds, one_seat_pushes}
-use Rattle.tj_words.proofs.Calls.OneStates.{chained, drawn_chained, one_shown}
+use Rattle.tj_words.proofs.Calls.OneStates.{one_shown}
 use Rattle.tj_words.proofs.laws.one_state.Goals as goal
 
 pub returns-clause-one : goal.returns-clause-one
 returns-clause-one g c = λ m r. one_shown m.law r
-
-pub returns-clause-steps : goal.returns-clause-steps
-returns-clause-steps g c = λ m y r k e. chained m.law r k (omega arith) e
-
-pub returns-clause-draws : goal.returns-clause-draws
-returns-clause-draws g c = λ m y r id t h d k. let e = ap (λ (z : Parts _). z.drawn) d.parts in
-    drawn_chained m.law r k (omega arith) id t h d
 
 pub returns-clause-holders : goal.returns-clause-holders
 returns-clause-holders g c = λ m r t. one_seat_holds _ m r t
