@@ -50,8 +50,10 @@ pub use Rattle.tj_tree.specs.Forks.{Fork, Forks, HasTask, IsHistory}
 pub use Rattle.tj_tree.specs.Nodes.{jump_from, node_of}
 pub use Rattle.tj_tree.specs.declared.node.Node.{Node}
 pub use Rattle.tj_tree.specs.declared.node.NodeId.{NodeId}
-pub use Rattle.tj_words.proofs.Events.OwnerSteps.{ActsOn, ClosesPromise, ClosesResult, DrawsCell, GivesOwner, HandsPromise}
-pub use Rattle.tj_words.proofs.Events.QuietSteps.{ClaimsTask, EndsTask, MarksPromise, MovesRecord, ReleasesTask, ShelvesTask}
+pub use Rattle.tj_words.proofs.Events.OwnerSteps.{ActsOn, ClosesPromise, ClosesResult, DrawsCell, GivesOwner}
+pub use Rattle.tj_words.proofs.Events.OwnerSteps.{HandsPromise}
+pub use Rattle.tj_words.proofs.Events.QuietSteps.{ClaimsTask, EndsTask, MarksPromise, MovesRecord, ReleasesTask}
+pub use Rattle.tj_words.proofs.Events.QuietSteps.{ShelvesTask}
 pub use Rattle.tj_words.proofs.Events.ShownParts.{Parts, cell_by, parts_of, shown_by}
 pub use Rattle.tj_words.proofs.Events.StepEvents.{IsHeldWith, IsToldBy, Keeping, KeepsCells, ShowsEvent, ShowsNothing}
 pub use Rattle.tj_words.proofs.Events.WalkSteps.{ClearsWait, IsMoved, KeepsOthers, Leaves, LowersOthers, Proceeds}
@@ -61,7 +63,8 @@ pub use Rattle.tj_words.specs.AtRest.ClosedCells.{IsStill, Leads, Owns, Waits}
 pub use Rattle.tj_words.specs.AtRest.RestMeaning.{AreWordsOf, IsPhaseAt, names}
 pub use Rattle.tj_words.specs.AtRest.RestShown.{AreSlots}
 pub use Rattle.tj_words.specs.AtRest.RestingSeats.{MayRest}
-pub use Rattle.tj_words.specs.CallLaws.CallRuns.{AreAskedMoments, IsAskedStep, events_by, phase_events, takes_new, under}
+pub use Rattle.tj_words.specs.CallLaws.CallRuns.{AreAskedMoments, IsAskedStep, events_by, phase_events, takes_new}
+pub use Rattle.tj_words.specs.CallLaws.CallRuns.{under}
 pub use Rattle.tj_words.specs.CallLaws.CallSteps.{MakesWith}
 pub use Rattle.tj_words.specs.CallLaws.RestedRuns.{AreMoments, IsCallStep, IsMerge, IsSplit, IsTableStep, Ruled}
 pub use Rattle.tj_words.specs.CallLaws.RestedRuns.{last_moment}

@@ -151,7 +151,8 @@ module _ {B : Type 0} (program : Bool → B → Program B) (key : Key B) where
         alike : (c ≡ d) ↔ (r.name ≡ s.name)
         alike = (
           (λ q. sym (names_are c r e).2
-              ∙ ap name_of (some-injective then s (sym (subst (λ k. IsCell end.rule.law.born k then) q then_is) ∙ other_is))),
+              ∙ ap name_of (some-injective then s
+              (sym (subst (λ k. IsCell end.rule.law.born k then) q then_is) ∙ other_is))),
           (λ q. born_apart end.rule.law c d then s then_is other_is ((names_are c r e).2 ∙ q)),
         )
 

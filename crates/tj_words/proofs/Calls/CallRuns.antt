@@ -178,7 +178,8 @@ module _ {B : Type 0} (program : Bool → B → Program B) (key : Key B) (u w : 
     puts_once : (f : Once) (c : ℕ) → Made (once_at c f) → act ≡ keeps → MayPutOnce program f c st.first m.0
         → PutsOnce program f c st.first m.0 m'.0 → Quiet
     puts_once f c h a may p = hidden (said x.words (table_word.Written c f) n) (says (table_word.Written c f) h) refl
-        (holdings s t id (once_at c f) n m m' (with_act keeps (once_at c f) h a) (put_same program c st.first f m.0 m'.0 may p))
+        (holdings s t id (once_at c f) n m m' (with_act keeps (once_at c f) h a)
+        (put_same program c st.first f m.0 m'.0 may p))
         (λ d i. ⊎_elim
         (λ e. (
           put_word_cell x.words.once c f n d once.Parent e,
@@ -474,7 +475,8 @@ module _ {B : Type 0} (program : Bool → B → Program B) (key : Key B) (u w : 
 
 pub calls_are_steps : (B : Type 0) → CallsAreSteps B
 calls_are_steps B program key u w c = let g = call_goes program key u w c in
-    (g.0, g.1, one_step (program key.strict key.root.value) key.cells (under program key u) (under program key w) g.0 g.2)
+    let P = program key.strict key.root.value in
+    (g.0, g.1, one_step P key.cells (under program key u) (under program key w) g.0 g.2)
 
 pub seats_are_quiet : (B : Type 0) → SeatsAreQuiet B
 seats_are_quiet B program key u w a = one_step (program key.strict key.root.value) key.cells (under program key u)

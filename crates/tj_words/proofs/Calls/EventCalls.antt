@@ -87,7 +87,8 @@ module _ {B : Type 0} (program : Bool → B → Program B) (key : Key B) (s t : 
       })
 
   -- the subtraction from OTHERS
-  pub call_lowers : MakesWith keeps id others_at (word s.words others_at - 1) m m' s t → m'.0 ≡ lowered m.0 → 0 < m.0.cleared
+  pub call_lowers : MakesWith keeps id others_at (word s.words others_at - 1) m m' s t → m'.0 ≡ lowered m.0
+      → 0 < m.0.cleared
       → Keeping key.cells (contents_of s) (contents_of t) (LowersOthers key.cells (contents_of s) (contents_of t))
   call_lowers h view some_left = let old = seats_have s.views in let v = m.0 in
       let u = total_set old.cleared id v.cleared (v.cleared - 1)

@@ -58,7 +58,8 @@ module _ {B : Type 0} (program : Program B) (cells : ℕ) where
       )) step.shows
 
   -- events and more events
-  pub goes_on : (u w v : Under program cells) (es fs : List Event) → GoesTo u w es → GoesTo w v fs → GoesTo u v (es ++ fs)
+  pub goes_on : (u w v : Under program cells) (es fs : List Event) → GoesTo u w es → GoesTo w v fs
+      → GoesTo u v (es ++ fs)
   goes_on u w v es fs first others = (
     allowed_more cells (state_of program cells u) es fs first.0
         (subst (λ z. AreAllowed cells z fs) first.1 others.0),
