@@ -1,90 +1,40 @@
-use Rattle.tj_detect.proofs.Prelude.{InEachTree_on, IsAtOrAbove, IsKnown_on, MayLook, NodeId, TreeShown, above_trans}
-use Rattle.tj_detect.proofs.Prelude.{ap, arith, later_on, node_of, sym, ◌+◌, ◌<◌, ◌^◌, ◌∙◌, ◌≡◌}
-use Rattle.tj_tree.proofs.Skew.{cost_of_parts}
-use Rattle.tj_tree.proofs.Readings.{order-same, order-apart}
+use Rattle.tj_detect.proofs.Prelude.{IsKnown_on, MayLook, TreeShown, arith, later_on, ◌∙◌}
+use Rattle.tj_tree.proofs.LiftedPairs.{seen_lifted, seen_parted, order_at_one, order_at_two, cost_of_walk}
 use Rattle.tj_words.proofs.SeatLoads.NodeLooks.{tree_of}
 use Rattle.tj_detect.proofs.tree_walk.is_before.Goals as goal
 
 pub returns-then-x-y-clause-order : goal.returns-then-x-y-clause-order
 returns-then-x-y-clause-order g c =
-    let shows = TreeShown in
-    let may = MayLook c.args.laid.now in
-    let a = c.visit-a.result in
-    let b = c.visit-b.result in
-    let x = c.lifted-x.result in
-    let y = c.lifted-y.result in
-    let on_x = c.lifted-x.ensures.goes_on in
-    let on_y = c.lifted-y.ensures.goes_on in
-    order-same (shows c.lifted-y.new.seat) a b x y c.args.a.0 c.args.b.0
-    (ap (λ (task : NodeId). task.0) c.visit-a.ensures.task) (ap (λ (task : NodeId). task.0) c.visit-b.ensures.task)
-    (on_y.kept a.task.0 a.node (on_x.kept a.task.0 a.node
-    (c.visit-b.ensures.goes_on.kept a.task.0 a.node c.visit-a.ensures.known.here)))
-    (on_y.kept b.task.0 b.node (on_x.kept b.task.0 b.node c.visit-b.ensures.known.here))
-    (on_y.kept x.task.0 x.node c.lifted-x.ensures.known.here)
-    c.lifted-y.ensures.known.here
-    (InEachTree_on (shows c.lifted-x.new.seat) (may c.lifted-x.new.seat) (shows c.lifted-y.new.seat)
-    (may c.lifted-y.new.seat) (λ forks. IsAtOrAbove forks x.task.0 a.task.0) on_y c.lifted-x.ensures.above)
-    c.lifted-y.ensures.above
-    c.if-x-y.true (c.lifted-x.ensures.level ∙ c.min-depth.ensures)
+    let a = c.visit-a.ensures in
+    let b = c.visit-b.ensures in
+    let x = c.lifted-x.ensures in
+    let y = c.lifted-y.ensures in
+    let seen = seen_lifted a.task b.task a.known b.goes_on b.known x.goes_on x.known x.above y.goes_on y.known y.above in
+    order_at_one seen c.if-x-y.true (x.level ∙ c.min-depth.ensures)
 
 pub returns-clause-order : goal.returns-clause-order
 returns-clause-order g c =
-    let shows = TreeShown in
-    let may = MayLook c.args.laid.now in
-    let a = c.visit-a.result in
-    let b = c.visit-b.result in
-    let x = c.lifted-x.result in
-    let y = c.lifted-y.result in
-    let on_x = c.lifted-x.ensures.goes_on in
-    let on_y = c.lifted-y.ensures.goes_on in
-    let on = c.parted.ensures.goes_on in
-    let above_a = InEachTree_on (shows c.lifted-y.new.seat) (may c.lifted-y.new.seat) (shows c.parted.new.seat)
-    (may c.parted.new.seat) (λ forks. IsAtOrAbove forks x.task.0 a.task.0) on
-    (InEachTree_on (shows c.lifted-x.new.seat) (may c.lifted-x.new.seat) (shows c.lifted-y.new.seat)
-    (may c.lifted-y.new.seat) (λ forks. IsAtOrAbove forks x.task.0 a.task.0) on_y c.lifted-x.ensures.above) in
-    let above_b = InEachTree_on (shows c.lifted-y.new.seat) (may c.lifted-y.new.seat) (shows c.parted.new.seat)
-    (may c.parted.new.seat) (λ forks. IsAtOrAbove forks y.task.0 b.task.0) on c.lifted-y.ensures.above in
-    order-apart (shows c.parted.new.seat) a b c.parted.result.0 c.parted.result.1 c.args.a.0 c.args.b.0
-    (ap (λ (task : NodeId). task.0) c.visit-a.ensures.task) (ap (λ (task : NodeId). task.0) c.visit-b.ensures.task)
-    (on.kept a.task.0 a.node (on_y.kept a.task.0 a.node
-    (on_x.kept a.task.0 a.node (c.visit-b.ensures.goes_on.kept a.task.0 a.node c.visit-a.ensures.known.here))))
-    (on.kept b.task.0 b.node (on_y.kept b.task.0 b.node (on_x.kept b.task.0 b.node c.visit-b.ensures.known.here)))
-    c.parted.ensures.a_known.here
-    c.parted.ensures.b_known.here
-    (λ forks h has. above_trans forks c.parted.result.0.task.0 x.task.0 a.task.0
-    (c.parted.ensures.a_above forks h has) (above_a forks h has))
-    (λ forks h has. above_trans forks c.parted.result.1.task.0 y.task.0 b.task.0
-    (c.parted.ensures.b_above forks h has) (above_b forks h has))
-    c.parted.ensures.apart c.parted.ensures.level c.parted.ensures.siblings
+    let a = c.visit-a.ensures in
+    let b = c.visit-b.ensures in
+    let x = c.lifted-x.ensures in
+    let y = c.lifted-y.ensures in
+    let seen = seen_lifted a.task b.task a.known b.goes_on b.known x.goes_on x.known x.above y.goes_on y.known y.above in
+    let both = c.parted.ensures in
+    order_at_two (seen_parted seen both.goes_on both.a_known both.b_known both.a_above both.b_above) both.apart
+    both.level both.siblings
 
 pub returns-clause-cost : goal.returns-clause-cost
 returns-clause-cost g c =
-    let a = c.visit-a.result in
-    let b = c.visit-b.result in
-    let on_x = c.lifted-x.ensures.goes_on in
-    let on_y = c.lifted-y.ensures.goes_on in
-    let on = c.parted.ensures.goes_on in
-    λ forks h has digits few.
-    let is_a = has a.task.0 a.node (on.kept a.task.0 a.node
-    (on_y.kept a.task.0 a.node (on_x.kept a.task.0 a.node
-    (c.visit-b.ensures.goes_on.kept a.task.0 a.node c.visit-a.ensures.known.here)))) in
-    let is_b = has b.task.0 b.node (on.kept b.task.0 b.node
-    (on_y.kept b.task.0 b.node (on_x.kept b.task.0 b.node c.visit-b.ensures.known.here))) in
-    let depth_a : (node_of forks c.args.a.0).depth ≡ a.node.depth = ap
-    (λ (task : NodeId). (node_of forks task.0).depth) (sym c.visit-a.ensures.task)
-    ∙ ap (λ node. node.depth) is_a.1 in
-    let depth_b : (node_of forks c.args.b.0).depth ≡ b.node.depth = ap
-    (λ (task : NodeId). (node_of forks task.0).depth) (sym c.visit-b.ensures.task)
-    ∙ ap (λ node. node.depth) is_b.1 in
-    let few_a : a.node.depth + 1 < 2 ^ digits = omega (arith, depth_a, depth_b, few) in
-    let few_b : b.node.depth + 1 < 2 ^ digits = omega (arith, depth_a, depth_b, few) in
-    let few_x : c.lifted-x.result.node.depth + 1 < 2 ^ digits = omega
-    (arith, few_a, few_b, c.lifted-x.ensures.level, c.min-depth.ensures) in
-    let parts = cost_of_parts a.node.depth b.node.depth c.min-depth.result c.visit-b.new.steps c.lifted-x.new.steps
-    c.lifted-y.new.steps c.parted.new.steps digits
-    c.min-depth.ensures c.lifted-x.ensures.free c.lifted-y.ensures.free (c.lifted-x.ensures.cost digits few_a)
-    (c.lifted-y.ensures.cost digits few_b) (c.parted.ensures.cost digits few_x) in
-    omega (arith, parts, c.visit-a.ensures.step, c.visit-b.ensures.step)
+    let both = c.parted.ensures in
+    let a = c.visit-a.ensures in
+    let b = c.visit-b.ensures in
+    let x = c.lifted-x.ensures in
+    let y = c.lifted-y.ensures in
+    let seen = seen_lifted a.task b.task a.known b.goes_on b.known x.goes_on x.known x.above y.goes_on y.known y.above in
+    cost_of_walk (seen_parted seen both.goes_on both.a_known both.b_known both.a_above both.b_above)
+    c.min-depth.result c.lifted-x.result.node.depth c.args.steps.now c.visit-a.new.steps c.visit-b.new.steps
+    c.lifted-x.new.steps c.lifted-y.new.steps c.parted.new.steps c.min-depth.ensures x.level a.step b.step x.free y.free
+    x.cost y.cost both.cost
 
 pub visit-b-requires-after_bounds : goal.visit-b-requires-after_bounds
 visit-b-requires-after_bounds g c κs within = c.visit-a.ensures.goes_on.still_may c.args.b.0 c.requires.b_open
@@ -142,25 +92,11 @@ returns-clause-later g c = later_on c.args.seat.now c.lifted-y.new.seat c.parted
 
 pub returns-then-x-y-clause-cost : goal.returns-then-x-y-clause-cost
 returns-then-x-y-clause-cost g c =
-    let a = c.visit-a.result in
-    let b = c.visit-b.result in
-    let on_x = c.lifted-x.ensures.goes_on in
-    let on_y = c.lifted-y.ensures.goes_on in
-    λ forks h has digits few.
-    let is_a = has a.task.0 a.node (on_y.kept a.task.0 a.node (on_x.kept a.task.0 a.node
-    (c.visit-b.ensures.goes_on.kept a.task.0 a.node c.visit-a.ensures.known.here))) in
-    let is_b = has b.task.0 b.node (on_y.kept b.task.0 b.node (on_x.kept b.task.0 b.node c.visit-b.ensures.known.here))
-    in
-    let depth_a : (node_of forks c.args.a.0).depth ≡ a.node.depth = ap
-    (λ (task : NodeId). (node_of forks task.0).depth) (sym c.visit-a.ensures.task)
-    ∙ ap (λ node. node.depth) is_a.1 in
-    let depth_b : (node_of forks c.args.b.0).depth ≡ b.node.depth = ap
-    (λ (task : NodeId). (node_of forks task.0).depth) (sym c.visit-b.ensures.task)
-    ∙ ap (λ node. node.depth) is_b.1 in
-    let few_a : a.node.depth + 1 < 2 ^ digits = omega (arith, depth_a, depth_b, few) in
-    let few_b : b.node.depth + 1 < 2 ^ digits = omega (arith, depth_a, depth_b, few) in
-    let parts = cost_of_parts a.node.depth b.node.depth c.min-depth.result c.visit-b.new.steps c.lifted-x.new.steps
-    c.lifted-y.new.steps c.lifted-y.new.steps digits
-    c.min-depth.ensures c.lifted-x.ensures.free c.lifted-y.ensures.free (c.lifted-x.ensures.cost digits few_a)
-    (c.lifted-y.ensures.cost digits few_b) (omega arith) in
-    omega (arith, parts, c.visit-a.ensures.step, c.visit-b.ensures.step)
+    let a = c.visit-a.ensures in
+    let b = c.visit-b.ensures in
+    let x = c.lifted-x.ensures in
+    let y = c.lifted-y.ensures in
+    let seen = seen_lifted a.task b.task a.known b.goes_on b.known x.goes_on x.known x.above y.goes_on y.known y.above in
+    cost_of_walk seen c.min-depth.result c.lifted-x.result.node.depth c.args.steps.now c.visit-a.new.steps
+    c.visit-b.new.steps c.lifted-x.new.steps c.lifted-y.new.steps c.lifted-y.new.steps c.min-depth.ensures x.level a.step
+    b.step x.free y.free x.cost y.cost (λ digits few. omega arith)
