@@ -15,3 +15,4 @@ mod ClosedTasks
 pub mod OwedRecords
 pub mod NothingToCome
 pub mod Prelude
+pub mod EndRuns

@@ -1,8 +1,7 @@
-use Rattle.tj_park.proofs.Prelude.{HasBroken, MayBreak, MayLowerLive, WakesEach, [], ap, drop, lowered_with, numbers}
-use Rattle.tj_park.proofs.Prelude.{program_of, rest, result_of, subst, sym, ◌∙◌, ◌≡◌}
-use Rattle.tj_park.proofs.EndSteps.{slice_rest, is_cell, may_break, may_close, closed_is, laid_is, may_end_then}
-use Rattle.tj_park.proofs.EndSteps.{ended_is, about_woken, may_wake_then, woke_then, may_lower, has_finished}
-use Rattle.tj_park.proofs.EndSteps.{ended_unnoted, lowered_unnoted, notes_woken, same_slots}
+use Rattle.tj_park.proofs.Prelude.{MayBreak, WakesEach, drop, numbers, program_of, result_of, subst, sym, ◌∙◌}
+use Rattle.tj_park.proofs.EndSteps.{slice_rest, is_cell, may_break}
+use Rattle.tj_park.proofs.EndRuns.{begun, may_close, laid, may_end, at_end, may_wake, unnoted, about_woken, notes_woken}
+use Rattle.tj_park.proofs.EndRuns.{may_lower, finished, slots_then, unnoted_last}
 use Rattle.tj_park.proofs.OwedRecords.{closes_once, owes_at_home}
 use Rattle.tj_park.proofs.WakeLoops.{one_wake_more}
 use Rattle.tj_park.proofs.finishes.finish.Goals as goal
@@ -38,258 +37,85 @@ wake-requires-clause-cell g c κs within = let m = c.requires.may in
     c.args.t.0 c.args.rec c.args.seat.now.me.0 m written ordered c.args.laid.now.cells c.requires.few
 
 pub close_result-requires-clause-may : goal.close_result-requires-clause-may
-close_result-requires-clause-may g c κs within = let m = c.requires.may in
-    let written = c.points_in_rounds.ensures.written m.about.strict m.about.root m.rooted in
-    let ordered = c.names_and_cells.ensures.elements in
-    may_close (program_of g.B.Body.places g.B.Body.awaits g.B.Body.left g.B.Body.asks g.B.Body.then)
-    c.args.t.0 c.args.rec c.args.seat.now.me.0 m written ordered c.break_promises.new.seat.me.0
-    (subst (λ l. HasBroken c.args.t.0 l [] c.args.seat.now.me.0 c.break_promises.new.seat.me.0)
-    (slice_rest c.items.result.now c.args.rec.owned c.items.ensures) c.in_ok-break_promises.ensures.broken)
+close_result-requires-clause-may g c κs within =
+    let m = c.requires.may in
+    let e = begun c.args.seat.now.me.1 m (c.points_in_rounds.ensures.written m.about.strict m.about.root m.rooted)
+    c.names_and_cells.ensures.elements c.items.ensures c.in_ok-break_promises.ensures.broken c.requires.others in
+    may_close e
 
 pub put_phase-requires-clause-may : goal.put_phase-requires-clause-may
-put_phase-requires-clause-may g c κs within = let m = c.requires.may in
-    let written = c.points_in_rounds.ensures.written m.about.strict m.about.root m.rooted in
-    let ordered = c.names_and_cells.ensures.elements in
-    let laid = laid_is (program_of g.B.Body.places g.B.Body.awaits g.B.Body.left g.B.Body.asks g.B.Body.then)
-    c.args.t.0 c.args.rec c.args.seat.now.me.0 m written ordered c.break_promises.new.seat.me.0
-    (subst (λ l. HasBroken c.args.t.0 l [] c.args.seat.now.me.0 c.break_promises.new.seat.me.0)
-    (slice_rest c.items.result.now c.args.rec.owned c.items.ensures) c.in_ok-break_promises.ensures.broken)
-    c.slot_swap.new.seat.me c.close_result.new.seat.me.0 c.without_owned.result c.close_result.new.seat.me.1
-    c.args.seat.now.me.1 c.slot_swap.ensures.me
-    (closed_is (program_of g.B.Body.places g.B.Body.awaits g.B.Body.left g.B.Body.asks g.B.Body.then)
-    c.args.t.0 c.args.rec c.args.seat.now.me.0 m written ordered c.break_promises.new.seat.me.0
-    (subst (λ l. HasBroken c.args.t.0 l [] c.args.seat.now.me.0 c.break_promises.new.seat.me.0)
-    (slice_rest c.items.result.now c.args.rec.owned c.items.ensures) c.in_ok-break_promises.ensures.broken)
-    c.close_result.new.seat.me.0 c.close_result.ensures.view) c.without_owned.ensures
-    (c.close_result.ensures.seat.2 ∙ c.break_promises.ensures.seat.2) in
-    may_end_then (program_of g.B.Body.places g.B.Body.awaits g.B.Body.left g.B.Body.asks g.B.Body.then)
-    c.args.t.0 c.args.rec c.args.seat.now.me.0 m written ordered c.break_promises.new.seat.me.0
-    (subst (λ l. HasBroken c.args.t.0 l [] c.args.seat.now.me.0 c.break_promises.new.seat.me.0)
-    (slice_rest c.items.result.now c.args.rec.owned c.items.ensures) c.in_ok-break_promises.ensures.broken)
-    (rest c.args.seat.now.me.1) c.requires.others
-    c.slot_swap.new.seat.me laid
+put_phase-requires-clause-may g c κs within =
+    let m = c.requires.may in
+    let e = begun c.args.seat.now.me.1 m (c.points_in_rounds.ensures.written m.about.strict m.about.root m.rooted)
+    c.names_and_cells.ensures.elements c.items.ensures c.in_ok-break_promises.ensures.broken c.requires.others in
+    may_end e (laid e c.slot_swap.ensures.me c.close_result.ensures.view c.without_owned.ensures
+    (c.close_result.ensures.seat.2 ∙ c.break_promises.ensures.seat.2))
 
 pub wake-requires-clause-may : goal.wake-requires-clause-may
-wake-requires-clause-may g c κs within = let m = c.requires.may in
-    let written = c.points_in_rounds.ensures.written m.about.strict m.about.root m.rooted in
-    let ordered = c.names_and_cells.ensures.elements in
-    let laid = laid_is (program_of g.B.Body.places g.B.Body.awaits g.B.Body.left g.B.Body.asks g.B.Body.then)
-    c.args.t.0 c.args.rec c.args.seat.now.me.0 m written ordered c.break_promises.new.seat.me.0
-    (subst (λ l. HasBroken c.args.t.0 l [] c.args.seat.now.me.0 c.break_promises.new.seat.me.0)
-    (slice_rest c.items.result.now c.args.rec.owned c.items.ensures) c.in_ok-break_promises.ensures.broken)
-    c.slot_swap.new.seat.me c.close_result.new.seat.me.0 c.without_owned.result c.close_result.new.seat.me.1
-    c.args.seat.now.me.1 c.slot_swap.ensures.me
-    (closed_is (program_of g.B.Body.places g.B.Body.awaits g.B.Body.left g.B.Body.asks g.B.Body.then)
-    c.args.t.0 c.args.rec c.args.seat.now.me.0 m written ordered c.break_promises.new.seat.me.0
-    (subst (λ l. HasBroken c.args.t.0 l [] c.args.seat.now.me.0 c.break_promises.new.seat.me.0)
-    (slice_rest c.items.result.now c.args.rec.owned c.items.ensures) c.in_ok-break_promises.ensures.broken)
-    c.close_result.new.seat.me.0 c.close_result.ensures.view) c.without_owned.ensures
-    (c.close_result.ensures.seat.2 ∙ c.break_promises.ensures.seat.2) in
-    let ended = ended_is (program_of g.B.Body.places g.B.Body.awaits g.B.Body.left g.B.Body.asks g.B.Body.then)
-    c.args.t.0 c.args.rec c.args.seat.now.me.0 m written ordered c.break_promises.new.seat.me.0
-    (subst (λ l. HasBroken c.args.t.0 l [] c.args.seat.now.me.0 c.break_promises.new.seat.me.0)
-    (slice_rest c.items.result.now c.args.rec.owned c.items.ensures) c.in_ok-break_promises.ensures.broken)
-    (rest c.args.seat.now.me.1) c.requires.others
-    c.slot_swap.new.seat.me c.put_phase.new.seat.me laid c.put_phase.ensures.puts in
-    may_wake_then (program_of g.B.Body.places g.B.Body.awaits g.B.Body.left g.B.Body.asks g.B.Body.then)
-    c.args.t.0 c.args.rec c.args.seat.now.me.0 m written ordered c.break_promises.new.seat.me.0
-    (subst (λ l. HasBroken c.args.t.0 l [] c.args.seat.now.me.0 c.break_promises.new.seat.me.0)
-    (slice_rest c.items.result.now c.args.rec.owned c.items.ensures) c.in_ok-break_promises.ensures.broken)
-    (rest c.args.seat.now.me.1) c.requires.others
-    c.put_phase.new.seat.me ended
+wake-requires-clause-may g c κs within =
+    let m = c.requires.may in
+    let e = begun c.args.seat.now.me.1 m (c.points_in_rounds.ensures.written m.about.strict m.about.root m.rooted)
+    c.names_and_cells.ensures.elements c.items.ensures c.in_ok-break_promises.ensures.broken c.requires.others in
+    let end = at_end e c.slot_swap.ensures.me c.close_result.ensures.view c.without_owned.ensures
+    (c.close_result.ensures.seat.2 ∙ c.break_promises.ensures.seat.2) c.put_phase.ensures.puts in
+    may_wake e end
 
 pub live_down-requires-clause-may : goal.live_down-requires-clause-may
-live_down-requires-clause-may g c κs within = let m = c.requires.may in
-    let written = c.points_in_rounds.ensures.written m.about.strict m.about.root m.rooted in
-    let ordered = c.names_and_cells.ensures.elements in
-    let laid = laid_is (program_of g.B.Body.places g.B.Body.awaits g.B.Body.left g.B.Body.asks g.B.Body.then)
-    c.args.t.0 c.args.rec c.args.seat.now.me.0 m written ordered c.break_promises.new.seat.me.0
-    (subst (λ l. HasBroken c.args.t.0 l [] c.args.seat.now.me.0 c.break_promises.new.seat.me.0)
-    (slice_rest c.items.result.now c.args.rec.owned c.items.ensures) c.in_ok-break_promises.ensures.broken)
-    c.slot_swap.new.seat.me c.close_result.new.seat.me.0 c.without_owned.result c.close_result.new.seat.me.1
-    c.args.seat.now.me.1 c.slot_swap.ensures.me
-    (closed_is (program_of g.B.Body.places g.B.Body.awaits g.B.Body.left g.B.Body.asks g.B.Body.then)
-    c.args.t.0 c.args.rec c.args.seat.now.me.0 m written ordered c.break_promises.new.seat.me.0
-    (subst (λ l. HasBroken c.args.t.0 l [] c.args.seat.now.me.0 c.break_promises.new.seat.me.0)
-    (slice_rest c.items.result.now c.args.rec.owned c.items.ensures) c.in_ok-break_promises.ensures.broken)
-    c.close_result.new.seat.me.0 c.close_result.ensures.view) c.without_owned.ensures
-    (c.close_result.ensures.seat.2 ∙ c.break_promises.ensures.seat.2) in
-    let ended = ended_is (program_of g.B.Body.places g.B.Body.awaits g.B.Body.left g.B.Body.asks g.B.Body.then)
-    c.args.t.0 c.args.rec c.args.seat.now.me.0 m written ordered c.break_promises.new.seat.me.0
-    (subst (λ l. HasBroken c.args.t.0 l [] c.args.seat.now.me.0 c.break_promises.new.seat.me.0)
-    (slice_rest c.items.result.now c.args.rec.owned c.items.ensures) c.in_ok-break_promises.ensures.broken)
-    (rest c.args.seat.now.me.1) c.requires.others
-    c.slot_swap.new.seat.me c.put_phase.new.seat.me laid c.put_phase.ensures.puts in
-    let woke = woke_then (program_of g.B.Body.places g.B.Body.awaits g.B.Body.left g.B.Body.asks g.B.Body.then)
-    c.args.t.0 c.args.rec c.args.seat.now.me.0 m written ordered c.break_promises.new.seat.me.0
-    (subst (λ l. HasBroken c.args.t.0 l [] c.args.seat.now.me.0 c.break_promises.new.seat.me.0)
-    (slice_rest c.items.result.now c.args.rec.owned c.items.ensures) c.in_ok-break_promises.ensures.broken)
-    (rest c.args.seat.now.me.1) c.requires.others
-    c.in_ok-wake.ensures.woke.chain c.put_phase.new.seat.me c.wake.new.seat.me.0 ended c.in_ok-wake.ensures.woke.woke in
-    let mine : c.wake.new.seat.me.1 ≡ rest c.args.seat.now.me.1
-    = c.wake.ensures.seat.2 ∙ ap (λ m. m.1) ended in
-    subst (λ s. MayLowerLive (program_of g.B.Body.places g.B.Body.awaits g.B.Body.left g.B.Body.asks g.B.Body.then)
-    (c.wake.new.seat.me.0, s)) (sym mine)
-    (may_lower (program_of g.B.Body.places g.B.Body.awaits g.B.Body.left g.B.Body.asks g.B.Body.then)
-    c.args.t.0 c.args.rec c.args.seat.now.me.0 m written ordered c.break_promises.new.seat.me.0
-    (subst (λ l. HasBroken c.args.t.0 l [] c.args.seat.now.me.0 c.break_promises.new.seat.me.0)
-    (slice_rest c.items.result.now c.args.rec.owned c.items.ensures) c.in_ok-break_promises.ensures.broken)
-    (rest c.args.seat.now.me.1) c.requires.others
-    c.in_ok-wake.ensures.woke.chain c.wake.new.seat.me.0 woke)
+live_down-requires-clause-may g c κs within =
+    let m = c.requires.may in
+    let e = begun c.args.seat.now.me.1 m (c.points_in_rounds.ensures.written m.about.strict m.about.root m.rooted)
+    c.names_and_cells.ensures.elements c.items.ensures c.in_ok-break_promises.ensures.broken c.requires.others in
+    let end = at_end e c.slot_swap.ensures.me c.close_result.ensures.view c.without_owned.ensures
+    (c.close_result.ensures.seat.2 ∙ c.break_promises.ensures.seat.2) c.put_phase.ensures.puts in
+    may_lower e end c.in_ok-wake.ensures.woke.woke c.wake.ensures.seat.2
 
 pub returns-clause-ended : goal.returns-clause-ended
-returns-clause-ended g c = let m = c.requires.may in
-    let written = c.points_in_rounds.ensures.written m.about.strict m.about.root m.rooted in
-    let ordered = c.names_and_cells.ensures.elements in
-    let laid = laid_is (program_of g.B.Body.places g.B.Body.awaits g.B.Body.left g.B.Body.asks g.B.Body.then)
-    c.args.t.0 c.args.rec c.args.seat.now.me.0 m written ordered c.break_promises.new.seat.me.0
-    (subst (λ l. HasBroken c.args.t.0 l [] c.args.seat.now.me.0 c.break_promises.new.seat.me.0)
-    (slice_rest c.items.result.now c.args.rec.owned c.items.ensures) c.in_ok-break_promises.ensures.broken)
-    c.slot_swap.new.seat.me c.close_result.new.seat.me.0 c.without_owned.result c.close_result.new.seat.me.1
-    c.args.seat.now.me.1 c.slot_swap.ensures.me
-    (closed_is (program_of g.B.Body.places g.B.Body.awaits g.B.Body.left g.B.Body.asks g.B.Body.then)
-    c.args.t.0 c.args.rec c.args.seat.now.me.0 m written ordered c.break_promises.new.seat.me.0
-    (subst (λ l. HasBroken c.args.t.0 l [] c.args.seat.now.me.0 c.break_promises.new.seat.me.0)
-    (slice_rest c.items.result.now c.args.rec.owned c.items.ensures) c.in_ok-break_promises.ensures.broken)
-    c.close_result.new.seat.me.0 c.close_result.ensures.view) c.without_owned.ensures
-    (c.close_result.ensures.seat.2 ∙ c.break_promises.ensures.seat.2) in
-    let ended = ended_is (program_of g.B.Body.places g.B.Body.awaits g.B.Body.left g.B.Body.asks g.B.Body.then)
-    c.args.t.0 c.args.rec c.args.seat.now.me.0 m written ordered c.break_promises.new.seat.me.0
-    (subst (λ l. HasBroken c.args.t.0 l [] c.args.seat.now.me.0 c.break_promises.new.seat.me.0)
-    (slice_rest c.items.result.now c.args.rec.owned c.items.ensures) c.in_ok-break_promises.ensures.broken)
-    (rest c.args.seat.now.me.1) c.requires.others
-    c.slot_swap.new.seat.me c.put_phase.new.seat.me laid c.put_phase.ensures.puts in
-    let woke = woke_then (program_of g.B.Body.places g.B.Body.awaits g.B.Body.left g.B.Body.asks g.B.Body.then)
-    c.args.t.0 c.args.rec c.args.seat.now.me.0 m written ordered c.break_promises.new.seat.me.0
-    (subst (λ l. HasBroken c.args.t.0 l [] c.args.seat.now.me.0 c.break_promises.new.seat.me.0)
-    (slice_rest c.items.result.now c.args.rec.owned c.items.ensures) c.in_ok-break_promises.ensures.broken)
-    (rest c.args.seat.now.me.1) c.requires.others
-    c.in_ok-wake.ensures.woke.chain c.put_phase.new.seat.me c.wake.new.seat.me.0 ended c.in_ok-wake.ensures.woke.woke in
-    let mine : c.wake.new.seat.me.1 ≡ rest c.args.seat.now.me.1
-    = c.wake.ensures.seat.2 ∙ ap (λ m. m.1) ended in
-    has_finished (program_of g.B.Body.places g.B.Body.awaits g.B.Body.left g.B.Body.asks g.B.Body.then)
-    c.args.t.0 c.args.rec c.args.seat.now.me.0 m written ordered c.break_promises.new.seat.me.0
-    (subst (λ l. HasBroken c.args.t.0 l [] c.args.seat.now.me.0 c.break_promises.new.seat.me.0)
-    (slice_rest c.items.result.now c.args.rec.owned c.items.ensures) c.in_ok-break_promises.ensures.broken)
-    (rest c.args.seat.now.me.1) c.requires.others
-    c.in_ok-wake.ensures.woke.chain c.wake.new.seat.me.0 woke c.live_down.new.seat.me
-    (c.live_down.ensures.me ∙ ap (λ s. lowered_with c.wake.new.seat.me.0 s) mine)
+returns-clause-ended g c =
+    let m = c.requires.may in
+    let e = begun c.args.seat.now.me.1 m (c.points_in_rounds.ensures.written m.about.strict m.about.root m.rooted)
+    c.names_and_cells.ensures.elements c.items.ensures c.in_ok-break_promises.ensures.broken c.requires.others in
+    let end = at_end e c.slot_swap.ensures.me c.close_result.ensures.view c.without_owned.ensures
+    (c.close_result.ensures.seat.2 ∙ c.break_promises.ensures.seat.2) c.put_phase.ensures.puts in
+    finished e end c.in_ok-wake.ensures.woke.woke c.wake.ensures.seat.2 c.live_down.ensures.me
 
 pub returns-in_err-break_promises-clause-about : goal.returns-in_err-break_promises-clause-about
 returns-in_err-break_promises-clause-about g c = c.break_promises.ensures.about
 
 pub returns-in_err-wake-clause-about : goal.returns-in_err-wake-clause-about
-returns-in_err-wake-clause-about g c = let m = c.requires.may in
-    let written = c.points_in_rounds.ensures.written m.about.strict m.about.root m.rooted in
-    let ordered = c.names_and_cells.ensures.elements in
-    let laid = laid_is (program_of g.B.Body.places g.B.Body.awaits g.B.Body.left g.B.Body.asks g.B.Body.then)
-    c.args.t.0 c.args.rec c.args.seat.now.me.0 m written ordered c.break_promises.new.seat.me.0
-    (subst (λ l. HasBroken c.args.t.0 l [] c.args.seat.now.me.0 c.break_promises.new.seat.me.0)
-    (slice_rest c.items.result.now c.args.rec.owned c.items.ensures) c.in_ok-break_promises.ensures.broken)
-    c.slot_swap.new.seat.me c.close_result.new.seat.me.0 c.without_owned.result c.close_result.new.seat.me.1
-    c.args.seat.now.me.1 c.slot_swap.ensures.me
-    (closed_is (program_of g.B.Body.places g.B.Body.awaits g.B.Body.left g.B.Body.asks g.B.Body.then)
-    c.args.t.0 c.args.rec c.args.seat.now.me.0 m written ordered c.break_promises.new.seat.me.0
-    (subst (λ l. HasBroken c.args.t.0 l [] c.args.seat.now.me.0 c.break_promises.new.seat.me.0)
-    (slice_rest c.items.result.now c.args.rec.owned c.items.ensures) c.in_ok-break_promises.ensures.broken)
-    c.close_result.new.seat.me.0 c.close_result.ensures.view) c.without_owned.ensures
-    (c.close_result.ensures.seat.2 ∙ c.break_promises.ensures.seat.2) in
-    let ended = ended_is (program_of g.B.Body.places g.B.Body.awaits g.B.Body.left g.B.Body.asks g.B.Body.then)
-    c.args.t.0 c.args.rec c.args.seat.now.me.0 m written ordered c.break_promises.new.seat.me.0
-    (subst (λ l. HasBroken c.args.t.0 l [] c.args.seat.now.me.0 c.break_promises.new.seat.me.0)
-    (slice_rest c.items.result.now c.args.rec.owned c.items.ensures) c.in_ok-break_promises.ensures.broken)
-    (rest c.args.seat.now.me.1) c.requires.others
-    c.slot_swap.new.seat.me c.put_phase.new.seat.me laid c.put_phase.ensures.puts in
-    about_woken (program_of g.B.Body.places g.B.Body.awaits g.B.Body.left g.B.Body.asks g.B.Body.then)
-    c.args.t.0 c.args.rec c.args.seat.now.me.0 m written ordered c.break_promises.new.seat.me.0
-    (subst (λ l. HasBroken c.args.t.0 l [] c.args.seat.now.me.0 c.break_promises.new.seat.me.0)
-    (slice_rest c.items.result.now c.args.rec.owned c.items.ensures) c.in_ok-break_promises.ensures.broken)
-    (rest c.args.seat.now.me.1) c.requires.others
-    _ _ c.put_phase.new.seat.me c.wake.new.seat.me.0 ended c.in_err-wake.ensures.memory.woke
+returns-in_err-wake-clause-about g c =
+    let m = c.requires.may in
+    let e = begun c.args.seat.now.me.1 m (c.points_in_rounds.ensures.written m.about.strict m.about.root m.rooted)
+    c.names_and_cells.ensures.elements c.items.ensures c.in_ok-break_promises.ensures.broken c.requires.others in
+    let end = at_end e c.slot_swap.ensures.me c.close_result.ensures.view c.without_owned.ensures
+    (c.close_result.ensures.seat.2 ∙ c.break_promises.ensures.seat.2) c.put_phase.ensures.puts in
+    about_woken e end c.in_err-wake.ensures.memory.woke
 
 pub returns-clause-about : goal.returns-clause-about
 returns-clause-about g c = (returns-clause-ended g c).knows.about
 
 pub returns-clause-slots : goal.returns-clause-slots
-returns-clause-slots g c = let m = c.requires.may in
-    let written = c.points_in_rounds.ensures.written m.about.strict m.about.root m.rooted in
-    let ordered = c.names_and_cells.ensures.elements in
-    let laid = laid_is (program_of g.B.Body.places g.B.Body.awaits g.B.Body.left g.B.Body.asks g.B.Body.then)
-    c.args.t.0 c.args.rec c.args.seat.now.me.0 m written ordered c.break_promises.new.seat.me.0
-    (subst (λ l. HasBroken c.args.t.0 l [] c.args.seat.now.me.0 c.break_promises.new.seat.me.0)
-    (slice_rest c.items.result.now c.args.rec.owned c.items.ensures) c.in_ok-break_promises.ensures.broken)
-    c.slot_swap.new.seat.me c.close_result.new.seat.me.0 c.without_owned.result c.close_result.new.seat.me.1
-    c.args.seat.now.me.1 c.slot_swap.ensures.me
-    (closed_is (program_of g.B.Body.places g.B.Body.awaits g.B.Body.left g.B.Body.asks g.B.Body.then)
-    c.args.t.0 c.args.rec c.args.seat.now.me.0 m written ordered c.break_promises.new.seat.me.0
-    (subst (λ l. HasBroken c.args.t.0 l [] c.args.seat.now.me.0 c.break_promises.new.seat.me.0)
-    (slice_rest c.items.result.now c.args.rec.owned c.items.ensures) c.in_ok-break_promises.ensures.broken)
-    c.close_result.new.seat.me.0 c.close_result.ensures.view) c.without_owned.ensures
-    (c.close_result.ensures.seat.2 ∙ c.break_promises.ensures.seat.2) in
-    let ended = ended_is (program_of g.B.Body.places g.B.Body.awaits g.B.Body.left g.B.Body.asks g.B.Body.then)
-    c.args.t.0 c.args.rec c.args.seat.now.me.0 m written ordered c.break_promises.new.seat.me.0
-    (subst (λ l. HasBroken c.args.t.0 l [] c.args.seat.now.me.0 c.break_promises.new.seat.me.0)
-    (slice_rest c.items.result.now c.args.rec.owned c.items.ensures) c.in_ok-break_promises.ensures.broken)
-    (rest c.args.seat.now.me.1) c.requires.others
-    c.slot_swap.new.seat.me c.put_phase.new.seat.me laid c.put_phase.ensures.puts in
-    let woke = woke_then (program_of g.B.Body.places g.B.Body.awaits g.B.Body.left g.B.Body.asks g.B.Body.then)
-    c.args.t.0 c.args.rec c.args.seat.now.me.0 m written ordered c.break_promises.new.seat.me.0
-    (subst (λ l. HasBroken c.args.t.0 l [] c.args.seat.now.me.0 c.break_promises.new.seat.me.0)
-    (slice_rest c.items.result.now c.args.rec.owned c.items.ensures) c.in_ok-break_promises.ensures.broken)
-    (rest c.args.seat.now.me.1) c.requires.others
-    c.in_ok-wake.ensures.woke.chain c.put_phase.new.seat.me c.wake.new.seat.me.0 ended c.in_ok-wake.ensures.woke.woke in
-    let mine : c.wake.new.seat.me.1 ≡ rest c.args.seat.now.me.1
-    = c.wake.ensures.seat.2 ∙ ap (λ m. m.1) ended in
-    same_slots (program_of g.B.Body.places g.B.Body.awaits g.B.Body.left g.B.Body.asks g.B.Body.then)
-    c.args.t.0 c.args.rec c.args.seat.now.me.0 m written ordered c.break_promises.new.seat.me.0
-    (subst (λ l. HasBroken c.args.t.0 l [] c.args.seat.now.me.0 c.break_promises.new.seat.me.0)
-    (slice_rest c.items.result.now c.args.rec.owned c.items.ensures) c.in_ok-break_promises.ensures.broken)
-    (rest c.args.seat.now.me.1) c.requires.others
-    c.in_ok-wake.ensures.woke.chain c.wake.new.seat.me.0 woke c.live_down.new.seat.me
-    (c.live_down.ensures.me ∙ ap (λ s. lowered_with c.wake.new.seat.me.0 s) mine)
+returns-clause-slots g c =
+    let m = c.requires.may in
+    let e = begun c.args.seat.now.me.1 m (c.points_in_rounds.ensures.written m.about.strict m.about.root m.rooted)
+    c.names_and_cells.ensures.elements c.items.ensures c.in_ok-break_promises.ensures.broken c.requires.others in
+    let end = at_end e c.slot_swap.ensures.me c.close_result.ensures.view c.without_owned.ensures
+    (c.close_result.ensures.seat.2 ∙ c.break_promises.ensures.seat.2) c.put_phase.ensures.puts in
+    slots_then e end c.in_ok-wake.ensures.woke.woke c.wake.ensures.seat.2 c.live_down.ensures.me
 
 pub returns-clause-woke : goal.returns-clause-woke
-returns-clause-woke g c = let m = c.requires.may in
-    let written = c.points_in_rounds.ensures.written m.about.strict m.about.root m.rooted in
-    let ordered = c.names_and_cells.ensures.elements in
-    let laid = laid_is (program_of g.B.Body.places g.B.Body.awaits g.B.Body.left g.B.Body.asks g.B.Body.then)
-    c.args.t.0 c.args.rec c.args.seat.now.me.0 m written ordered c.break_promises.new.seat.me.0
-    (subst (λ l. HasBroken c.args.t.0 l [] c.args.seat.now.me.0 c.break_promises.new.seat.me.0)
-    (slice_rest c.items.result.now c.args.rec.owned c.items.ensures) c.in_ok-break_promises.ensures.broken)
-    c.slot_swap.new.seat.me c.close_result.new.seat.me.0 c.without_owned.result c.close_result.new.seat.me.1
-    c.args.seat.now.me.1 c.slot_swap.ensures.me
-    (closed_is (program_of g.B.Body.places g.B.Body.awaits g.B.Body.left g.B.Body.asks g.B.Body.then)
-    c.args.t.0 c.args.rec c.args.seat.now.me.0 m written ordered c.break_promises.new.seat.me.0
-    (subst (λ l. HasBroken c.args.t.0 l [] c.args.seat.now.me.0 c.break_promises.new.seat.me.0)
-    (slice_rest c.items.result.now c.args.rec.owned c.items.ensures) c.in_ok-break_promises.ensures.broken)
-    c.close_result.new.seat.me.0 c.close_result.ensures.view) c.without_owned.ensures
-    (c.close_result.ensures.seat.2 ∙ c.break_promises.ensures.seat.2) in
-    let ended = ended_is (program_of g.B.Body.places g.B.Body.awaits g.B.Body.left g.B.Body.asks g.B.Body.then)
-    c.args.t.0 c.args.rec c.args.seat.now.me.0 m written ordered c.break_promises.new.seat.me.0
-    (subst (λ l. HasBroken c.args.t.0 l [] c.args.seat.now.me.0 c.break_promises.new.seat.me.0)
-    (slice_rest c.items.result.now c.args.rec.owned c.items.ensures) c.in_ok-break_promises.ensures.broken)
-    (rest c.args.seat.now.me.1) c.requires.others
-    c.slot_swap.new.seat.me c.put_phase.new.seat.me laid c.put_phase.ensures.puts in
-    let mine : c.wake.new.seat.me.1 ≡ rest c.args.seat.now.me.1
-    = c.wake.ensures.seat.2 ∙ ap (λ m. m.1) ended in
+returns-clause-woke g c =
+    let m = c.requires.may in
+    let e = begun c.args.seat.now.me.1 m (c.points_in_rounds.ensures.written m.about.strict m.about.root m.rooted)
+    c.names_and_cells.ensures.elements c.items.ensures c.in_ok-break_promises.ensures.broken c.requires.others in
+    let end = at_end e c.slot_swap.ensures.me c.close_result.ensures.view c.without_owned.ensures
+    (c.close_result.ensures.seat.2 ∙ c.break_promises.ensures.seat.2) c.put_phase.ensures.puts in
     one_wake_more g.P.Pool.puts (numbers (drop 1 c.args.rec.owned)) c.args.t.0 c.in_ok-wake.field-0
     c.args.seat.now.me.0 c.break_promises.new.seat.me.0 c.put_phase.new.seat.me.0 c.wake.new.seat.me.0
     c.live_down.new.seat.me.0 c.args.pool.now c.break_promises.new.pool c.wake.new.pool
     (subst (λ l. WakesEach g.P.Pool.puts (numbers l) c.args.seat.now.me.0 c.break_promises.new.seat.me.0
     c.args.pool.now c.break_promises.new.pool)
     (slice_rest c.items.result.now c.args.rec.owned c.items.ensures) c.in_ok-break_promises.ensures.woke)
-    (ended_unnoted (program_of g.B.Body.places g.B.Body.awaits g.B.Body.left g.B.Body.asks g.B.Body.then)
-    c.args.t.0 c.args.rec c.args.seat.now.me.0 m written ordered c.break_promises.new.seat.me.0
-    (subst (λ l. HasBroken c.args.t.0 l [] c.args.seat.now.me.0 c.break_promises.new.seat.me.0)
-    (slice_rest c.items.result.now c.args.rec.owned c.items.ensures) c.in_ok-break_promises.ensures.broken)
-    (rest c.args.seat.now.me.1) c.requires.others c.put_phase.new.seat.me ended)
-    c.in_ok-wake.ensures.woke
-    (lowered_unnoted (program_of g.B.Body.places g.B.Body.awaits g.B.Body.left g.B.Body.asks g.B.Body.then)
-    c.args.t.0 c.args.rec c.args.seat.now.me.0 m written ordered c.break_promises.new.seat.me.0
-    (subst (λ l. HasBroken c.args.t.0 l [] c.args.seat.now.me.0 c.break_promises.new.seat.me.0)
-    (slice_rest c.items.result.now c.args.rec.owned c.items.ensures) c.in_ok-break_promises.ensures.broken)
-    (rest c.args.seat.now.me.1) c.requires.others c.wake.new.seat.me.0 c.live_down.new.seat.me
-    (c.live_down.ensures.me ∙ ap (λ s. lowered_with c.wake.new.seat.me.0 s) mine))
+    (unnoted e end) c.in_ok-wake.ensures.woke (unnoted_last e end c.in_ok-wake.ensures.woke.woke c.wake.ensures.seat.2 c.live_down.ensures.me)
 
 pub returns-clause-home : goal.returns-clause-home
 returns-clause-home g c = let m = c.requires.may in
@@ -306,33 +132,13 @@ returns-clause-home g c = let m = c.requires.may in
     done.knows.about done.knows.born (result_of done.ending) done.result
 
 pub returns-in_err-wake-clause-notes : goal.returns-in_err-wake-clause-notes
-returns-in_err-wake-clause-notes g c = let m = c.requires.may in
-    let written = c.points_in_rounds.ensures.written m.about.strict m.about.root m.rooted in
-    let ordered = c.names_and_cells.ensures.elements in
-    let laid = laid_is (program_of g.B.Body.places g.B.Body.awaits g.B.Body.left g.B.Body.asks g.B.Body.then)
-    c.args.t.0 c.args.rec c.args.seat.now.me.0 m written ordered c.break_promises.new.seat.me.0
-    (subst (λ l. HasBroken c.args.t.0 l [] c.args.seat.now.me.0 c.break_promises.new.seat.me.0)
-    (slice_rest c.items.result.now c.args.rec.owned c.items.ensures) c.in_ok-break_promises.ensures.broken)
-    c.slot_swap.new.seat.me c.close_result.new.seat.me.0 c.without_owned.result c.close_result.new.seat.me.1
-    c.args.seat.now.me.1 c.slot_swap.ensures.me
-    (closed_is (program_of g.B.Body.places g.B.Body.awaits g.B.Body.left g.B.Body.asks g.B.Body.then)
-    c.args.t.0 c.args.rec c.args.seat.now.me.0 m written ordered c.break_promises.new.seat.me.0
-    (subst (λ l. HasBroken c.args.t.0 l [] c.args.seat.now.me.0 c.break_promises.new.seat.me.0)
-    (slice_rest c.items.result.now c.args.rec.owned c.items.ensures) c.in_ok-break_promises.ensures.broken)
-    c.close_result.new.seat.me.0 c.close_result.ensures.view) c.without_owned.ensures
-    (c.close_result.ensures.seat.2 ∙ c.break_promises.ensures.seat.2) in
-    let ended = ended_is (program_of g.B.Body.places g.B.Body.awaits g.B.Body.left g.B.Body.asks g.B.Body.then)
-    c.args.t.0 c.args.rec c.args.seat.now.me.0 m written ordered c.break_promises.new.seat.me.0
-    (subst (λ l. HasBroken c.args.t.0 l [] c.args.seat.now.me.0 c.break_promises.new.seat.me.0)
-    (slice_rest c.items.result.now c.args.rec.owned c.items.ensures) c.in_ok-break_promises.ensures.broken)
-    (rest c.args.seat.now.me.1) c.requires.others
-    c.slot_swap.new.seat.me c.put_phase.new.seat.me laid c.put_phase.ensures.puts in
-    notes_woken (program_of g.B.Body.places g.B.Body.awaits g.B.Body.left g.B.Body.asks g.B.Body.then)
-    c.args.t.0 c.args.rec c.args.seat.now.me.0 m written ordered c.break_promises.new.seat.me.0
-    (subst (λ l. HasBroken c.args.t.0 l [] c.args.seat.now.me.0 c.break_promises.new.seat.me.0)
-    (slice_rest c.items.result.now c.args.rec.owned c.items.ensures) c.in_ok-break_promises.ensures.broken)
-    (rest c.args.seat.now.me.1) c.requires.others
-    _ _ c.put_phase.new.seat.me c.wake.new.seat.me.0 ended c.in_err-wake.ensures.memory.woke
+returns-in_err-wake-clause-notes g c =
+    let m = c.requires.may in
+    let e = begun c.args.seat.now.me.1 m (c.points_in_rounds.ensures.written m.about.strict m.about.root m.rooted)
+    c.names_and_cells.ensures.elements c.items.ensures c.in_ok-break_promises.ensures.broken c.requires.others in
+    let end = at_end e c.slot_swap.ensures.me c.close_result.ensures.view c.without_owned.ensures
+    (c.close_result.ensures.seat.2 ∙ c.break_promises.ensures.seat.2) c.put_phase.ensures.puts in
+    notes_woken e end c.in_err-wake.ensures.memory.woke
 
 pub returns-in_err-break_promises-clause-notes : goal.returns-in_err-break_promises-clause-notes
 returns-in_err-break_promises-clause-notes g c = c.break_promises.ensures.notes
