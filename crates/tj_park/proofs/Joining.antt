@@ -198,7 +198,7 @@ module _ {B : Type 0} where
     found = (chain_looks cells q h v w f).1;
   }
 
-  module _ (cells t q : ℕ) (way : Way) where
+  module _ {cells t q : ℕ} {way : Way} where
     -- the first load of the head
     pub joining_first : {program : Bool → B → Program B} → 0 < cells → (h : Head) (v w : View B)
         → v.pushes ≡ push_behind t q way None ∷ []
@@ -250,11 +250,11 @@ module _ {B : Type 0} where
         }
 
     -- NEXT of t may be stored
-    pub has_push : (behind : Head) (v w : View B) → Joining cells t q way behind v w → HasPush t w
-    has_push behind v w j =
+    pub has_push : {behind : Head} {v w : View B} → Joining cells t q way behind v w → HasPush t w
+    has_push j =
         (push_behind t q way j.next, subst (IsIn (push_behind t q way j.next)) (sym j.pushes) (inl refl), refl)
 
-    module _ (behind : Head) (v w u : View B) (j : Joining cells t q way behind v w)
+    module _ {behind : Head} {v w u : View B} (j : Joining cells t q way behind v w)
         (store : u ≡ stored_next t behind w) where
       stored_pushes : u.pushes ≡ push_behind t q way (Some behind) ∷ []
       stored_pushes = ap (λ (z : View B). z.pushes) store
@@ -290,10 +290,10 @@ module _ {B : Type 0} where
             ∙ ap (λ l. suc (cells - length (last_found l))) at.found
 
         -- the push succeeds
-        pub joined : (x : View B) → x ≡ pushed t u
+        pub joined : {x : View B} → x ≡ pushed t u
             → LooksOn cells v x × (x.pushes ≡ []) × (x.steps ≤ v.steps + join_steps cells)
             × HasFoundChains cells v x × (x.closed ≡ v.closed)
-        joined x e = (
+        joined {x} e = (
           looks_on v u x stored_looks (subst (λ (z : View B). LooksOn cells u z) (sym e)
               (same_looks u (suc u.steps) (without_push t u.pushes) u.found)),
           ap (λ (z : View B). z.pushes) e ∙ (ap (without_push t) stored_pushes ∙ without_one t q way (Some behind)),
@@ -397,14 +397,14 @@ module _ {B : Type 0} where
     not_added v w j = ((j.next, j.pushes), (j.shut_at refl).0, (j.shut_at refl).1)
 
     -- and then it was found so once
-    pub found_shut_once : (behind : Head) (v w : View B) → Joining cells t q way behind v w → behind ≡ head.Shut
+    pub found_shut_once : {behind : Head} {v w : View B} → Joining cells t q way behind v w → behind ≡ head.Shut
         → w.closed ≡ q ∷ v.closed
-    found_shut_once behind v w j e = j.closed ∙ ap (λ h. closed_with q h v.closed) e
+    found_shut_once {v = v} j e = j.closed ∙ ap (λ h. closed_with q h v.closed) e
 
     -- so many chains were found
-    pub found_chains : (behind : Head) (v w : View B) → Joining cells t q way behind v w
+    pub found_chains : {behind : Head} {v w : View B} → Joining cells t q way behind v w
         → HasFoundChains cells v w
-    found_chains behind v w j = record { chains = j.chains; found = j.found; few = j.most; fewer = j.fewer }
+    found_chains j = record { chains = j.chains; found = j.found; few = j.most; fewer = j.fewer }
 
     -- the steps are as few as they are to be
     pub few_steps : (behind : Head) (v w : View B) → Joining cells t q way behind v w

@@ -7,43 +7,34 @@ use Rattle.tj_park.proofs.join.join_chain.Goals as goal
 pub loop-t-init : goal.loop-t-init
 loop-t-init g c = record {
   seat = c.head-behind.ensures.seat;
-  joins = joining_first c.args.laid.now.cells c.args.t.0 c.args.q.0 c.args.way c.args.laid.now.some
-      c.head-behind.result c.args.seat.now.me.0
-      c.head-behind.new.seat.me.0 c.requires.push c.head-behind.ensures.shut c.head-behind.ensures.open;
+  joins = joining_first c.args.laid.now.some c.head-behind.result c.args.seat.now.me.0 c.head-behind.new.seat.me.0
+      c.requires.push c.head-behind.ensures.shut c.head-behind.ensures.open;
 }
 
 pub put_next-requires-clause-push : goal.put_next-requires-clause-push
-put_next-requires-clause-push g c κs within = has_push c.args.laid.now.cells c.args.t.0 c.args.q.0 c.args.way
-    c.loop-t.behind c.args.seat.now.me.0 c.loop-t.seat.me.0 c.loop-t.invariant.joins
+put_next-requires-clause-push g c κs within = has_push c.loop-t.invariant.joins
 
 pub push-found-requires-clause-push : goal.push-found-requires-clause-push
-push-found-requires-clause-push g c κs within = has_push_behind c.args.laid.now.cells c.args.t.0 c.args.q.0 c.args.way
-    c.loop-t.behind c.args.seat.now.me.0 c.loop-t.seat.me.0 c.put_next.new.seat.me.0 c.loop-t.invariant.joins
-    c.put_next.ensures.view
+push-found-requires-clause-push g c κs within = has_push_behind c.loop-t.invariant.joins c.put_next.ensures.view
 
 pub returns-then-eq-clause-looks : goal.returns-then-eq-clause-looks
 returns-then-eq-clause-looks g c =
     let opened : c.loop-t.behind ≢ head.Shut = search rules in
     let same : c.push-found.result ≡ c.loop-t.behind = search rules in
-    (joined c.args.laid.now.cells c.args.t.0 c.args.q.0 c.args.way c.loop-t.behind c.args.seat.now.me.0
-    c.loop-t.seat.me.0 c.put_next.new.seat.me.0 c.loop-t.invariant.joins c.put_next.ensures.view opened
-    c.push-found.new.seat.me.0 (c.push-found.ensures.pushed same)).0
+    (joined c.loop-t.invariant.joins c.put_next.ensures.view opened (c.push-found.ensures.pushed same)).0
 
 pub returns-then-eq-clause-added : goal.returns-then-eq-clause-added
 returns-then-eq-clause-added g c =
     let opened : c.loop-t.behind ≢ head.Shut = search rules in
     let same : c.push-found.result ≡ c.loop-t.behind = search rules in
-    (joined c.args.laid.now.cells c.args.t.0 c.args.q.0 c.args.way c.loop-t.behind c.args.seat.now.me.0
-    c.loop-t.seat.me.0 c.put_next.new.seat.me.0 c.loop-t.invariant.joins c.put_next.ensures.view opened
-    c.push-found.new.seat.me.0 (c.push-found.ensures.pushed same)).1
+    (joined c.loop-t.invariant.joins c.put_next.ensures.view opened (c.push-found.ensures.pushed same)).1
 
 pub loop-t-smaller : goal.loop-t-smaller
 loop-t-smaller g c =
     let opened : c.loop-t.behind ≢ head.Shut = search rules in
     let other : c.push-found.result ≢ c.loop-t.behind = search rules in
-    fewer c.args.laid.now.cells c.args.t.0 c.args.q.0 c.args.way c.loop-t.behind c.args.seat.now.me.0
-    c.loop-t.seat.me.0 c.put_next.new.seat.me.0 c.loop-t.invariant.joins c.put_next.ensures.view opened
-    c.push-found.result c.push-found.new.seat.me.0 other c.push-found.ensures.shut c.push-found.ensures.other
+    fewer c.loop-t.invariant.joins c.put_next.ensures.view opened c.push-found.result c.push-found.new.seat.me.0 other
+    c.push-found.ensures.shut c.push-found.ensures.other
 
 pub loop-t-preserved : goal.loop-t-preserved
 loop-t-preserved g c =
@@ -55,34 +46,27 @@ loop-t-preserved g c =
     let d = c.push-found.ensures.seat in
     record {
       seat = (d.0 ∙ (b.0 ∙ a.0), d.1 ∙ (b.1 ∙ a.1), d.2 ∙ (b.2 ∙ a.2));
-      joins = joining_next c.args.laid.now.cells c.args.t.0 c.args.q.0 c.args.way c.loop-t.behind c.args.seat.now.me.0
-          c.loop-t.seat.me.0 c.put_next.new.seat.me.0 c.loop-t.invariant.joins c.put_next.ensures.view opened
-          c.push-found.result c.push-found.new.seat.me.0 other c.push-found.ensures.shut c.push-found.ensures.other
-          (omega arith) c.push-found.ensures.moment;
+      joins = joining_next c.loop-t.invariant.joins c.put_next.ensures.view opened c.push-found.result
+          c.push-found.new.seat.me.0 other c.push-found.ensures.shut c.push-found.ensures.other (omega arith)
+          c.push-found.ensures.moment;
     }
 
 pub returns-then-eq-clause-pushes : goal.returns-then-eq-clause-pushes
 returns-then-eq-clause-pushes g c =
     let opened : c.loop-t.behind ≢ head.Shut = search rules in
     let same : c.push-found.result ≡ c.loop-t.behind = search rules in
-    (joined c.args.laid.now.cells c.args.t.0 c.args.q.0 c.args.way c.loop-t.behind c.args.seat.now.me.0
-    c.loop-t.seat.me.0 c.put_next.new.seat.me.0 c.loop-t.invariant.joins c.put_next.ensures.view opened
-    c.push-found.new.seat.me.0 (c.push-found.ensures.pushed same)).3
+    (joined c.loop-t.invariant.joins c.put_next.ensures.view opened (c.push-found.ensures.pushed same)).3
 
 pub returns-clause-pushes : goal.returns-clause-pushes
-returns-clause-pushes g c = found_chains c.args.laid.now.cells c.args.t.0 c.args.q.0 c.args.way c.loop-t.behind
-    c.args.seat.now.me.0 c.loop-t.seat.me.0 c.loop-t.invariant.joins
+returns-clause-pushes g c = found_chains c.loop-t.invariant.joins
 
 pub returns-then-eq-clause-closed : goal.returns-then-eq-clause-closed
 returns-then-eq-clause-closed g c =
     let opened : c.loop-t.behind ≢ head.Shut = search rules in
     let same : c.push-found.result ≡ c.loop-t.behind = search rules in
-    (joined c.args.laid.now.cells c.args.t.0 c.args.q.0 c.args.way c.loop-t.behind c.args.seat.now.me.0
-    c.loop-t.seat.me.0 c.put_next.new.seat.me.0 c.loop-t.invariant.joins c.put_next.ensures.view opened
-    c.push-found.new.seat.me.0 (c.push-found.ensures.pushed same)).4
+    (joined c.loop-t.invariant.joins c.put_next.ensures.view opened (c.push-found.ensures.pushed same)).4
 
 pub returns-clause-closed : goal.returns-clause-closed
 returns-clause-closed g c =
     let shut : c.loop-t.behind ≡ head.Shut = search rules in
-    found_shut_once c.args.laid.now.cells c.args.t.0 c.args.q.0 c.args.way c.loop-t.behind c.args.seat.now.me.0
-    c.loop-t.seat.me.0 c.loop-t.invariant.joins shut
+    found_shut_once c.loop-t.invariant.joins shut
