@@ -68,8 +68,8 @@ module _ {B : Type 0} (t p : ℕ) (e : Entry) (v : View B) (k : Custody B) (held
     no_rest = no_rest;
   }
 
-module _ {B : Type 0} (program : Bool → B → Program B) (t : ℕ) (promises left : List CellId) (c : CellId)
-    (v w : View B) (may : MayBreak program t promises v) (h : HasBroken t promises (c ∷ left) v w) where
+module _ {B : Type 0} {program : Bool → B → Program B} {t : ℕ} {promises left : List CellId} {c : CellId}
+    {v w : View B} (may : MayBreak program t promises v) (h : HasBroken t promises (c ∷ left) v w) where
   -- it may be broken
   pub may_give_up : MayGiveUp t c.0 w
   may_give_up = (
@@ -99,14 +99,14 @@ module _ {B : Type 0} (program : Bool → B → Program B) (t : ℕ) (promises l
   is_small cells few = let b = becomes in let i = inside w.born c.0 b.0 b.1 in
       let l : length w.born ≡ length v.born = ap length h.born in omega arith
 
-  module _ (w1 : View B) (broke : w1 ≡ became t c.0 entry.Broken w) where
+  module _ {w1 : View B} (broke : w1 ≡ became t c.0 entry.Broken w) where
     pub may_wake_broken : (slots : SlotsOf B) → HasNoRecord slots → MayWake c.0 (w1, slots)
     may_wake_broken slots none = subst (λ (x : View B). MayWake c.0 (x, slots)) (sym broke)
         (may_wake_closed t c.0 entry.Broken w h.owns.custody h.owns.held slots none h.idle.rest
         (let a = h.counts.tokens in let l = h.knows.lot in let r = may.token_room in omega arith)
         (let a = h.counts.cleared in let l = h.knows.lot in let r = may.cleared_room in omega arith) h.alarms)
 
-    module _ (chain : List ℕ) (w2 : View B) (woke : HasWoken c.0 chain [] w1 w2) where
+    module _ {chain : List ℕ} {w2 : View B} (woke : HasWoken c.0 chain [] w1 w2) where
       abbrev woken : View B → View B
       woken x = record x {
         steps = w2.steps;
@@ -202,7 +202,7 @@ none_broken {B} program t promises v m = record {
   entries = λ c i. inl i;
 }
 
-module _ {B : Type 0} (t : ℕ) (promises : List CellId) (i : ℕ) (v w : View B)
+module _ {B : Type 0} {t : ℕ} {promises : List CellId} (i : ℕ) {v w : View B}
     (h : HasBroken t promises (drop i promises) v w) where
   -- the first of those left
   pub next_left : i < length promises → HasBroken t promises (get_or promises i (cell 0) ∷ drop (i + 1) promises) v w

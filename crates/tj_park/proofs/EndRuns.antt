@@ -1,9 +1,9 @@
 -- The steps by which a task ends, over what its end begins with: its promises are broken, and no record lies in the
 -- other slots of its seat.
 use Rattle.tj_park.proofs.Prelude.{Bool, CellId, HasBroken, HasNoRecord, HasWoken, IsTailOf, List, MayCloseResult}
-use Rattle.tj_park.proofs.Prelude.{MayFinish, MayLowerLive, MayWake, OrderedHasSame, Program, Rec, SeatMe, SlotsOf, Some}
-use Rattle.tj_park.proofs.Prelude.{View, WritesBecome, [], ap, became, drop, ended_record, length, lowered_with, rest}
-use Rattle.tj_park.proofs.Prelude.{result_of, subst, sym, take, ℕ, ◌-◌, ◌<◌, ◌∙◌, ◌∷◌, ◌≡◌, ◌≤◌}
+use Rattle.tj_park.proofs.Prelude.{MayFinish, MayLowerLive, MayWake, OrderedHasSame, Program, Rec, SeatMe, SlotsOf}
+use Rattle.tj_park.proofs.Prelude.{Some, View, WritesBecome, [], ap, became, drop, ended_record, length, lowered_with}
+use Rattle.tj_park.proofs.Prelude.{rest, result_of, subst, sym, take, ℕ, ◌-◌, ◌∙◌, ◌∷◌, ◌≡◌}
 use Rattle.tj_words.specs.Calls.LiveViews.{MayEnd, ended}
 use Rattle.tj_park.specs.Endings.{HasFinished}
 use Rattle.tj_park.specs.Inner.Closings.{ClosesResult}
@@ -80,31 +80,32 @@ module _ {B : Type 0} {program : Bool → B → Program B} {t : ℕ} {r : Rec B}
 
     -- all of them were
     module _ {chain : List ℕ} {v5 : View B} {s5 : SlotsOf B} (woken : HasWoken t chain [] m4.0 v5) (same : s5 ≡ m4.1)
-        where
-      all_woken : HasWoken t chain [] (ended t closed) v5
-      all_woken = steps.woke_then program t r v e.may e.written e.ordered v1 e.broken (rest mine) e.others chain m4 v5
-          end woken
+      where
+        all_woken : HasWoken t chain [] (ended t closed) v5
+        all_woken = steps.woke_then program t r v e.may e.written e.ordered v1 e.broken (rest mine) e.others chain m4 v5
+            end woken
 
-      slots_are : s5 ≡ rest mine
-      slots_are = same ∙ ap (λ (m : SeatMe B). m.1) end
+        slots_are : s5 ≡ rest mine
+        slots_are = same ∙ ap (λ (m : SeatMe B). m.1) end
 
-      pub may_lower : MayLowerLive program (v5, s5)
-      may_lower = subst (λ s. MayLowerLive program (v5, s)) (sym slots_are)
-          (steps.may_lower program t r v e.may e.written e.ordered v1 e.broken (rest mine) e.others chain v5 all_woken)
+        pub may_lower : MayLowerLive program (v5, s5)
+        may_lower = subst (λ s. MayLowerLive program (v5, s)) (sym slots_are)
+            (steps.may_lower program t r v e.may e.written e.ordered v1 e.broken (rest mine) e.others chain v5
+            all_woken)
 
-      -- the token is given up
-      module _ {m6 : SeatMe B} (lowers : m6 ≡ lowered_with v5 s5) where
-        lowered : m6 ≡ lowered_with v5 (rest mine)
-        lowered = lowers ∙ ap (λ s. lowered_with v5 s) slots_are
+        -- the token is given up
+        module _ {m6 : SeatMe B} (lowers : m6 ≡ lowered_with v5 s5) where
+          lowered : m6 ≡ lowered_with v5 (rest mine)
+          lowered = lowers ∙ ap (λ s. lowered_with v5 s) slots_are
 
-        pub finished : HasFinished t r v m6.0
-        finished = steps.has_finished program t r v e.may e.written e.ordered v1 e.broken (rest mine) e.others chain v5
-            all_woken m6 lowered
+          pub finished : HasFinished t r v m6.0
+          finished = steps.has_finished program t r v e.may e.written e.ordered v1 e.broken (rest mine) e.others chain
+              v5 all_woken m6 lowered
 
-        pub slots_then : m6.1 ≡ rest mine
-        slots_then = steps.same_slots program t r v e.may e.written e.ordered v1 e.broken (rest mine) e.others chain v5
-            all_woken m6 lowered
+          pub slots_then : m6.1 ≡ rest mine
+          slots_then = steps.same_slots program t r v e.may e.written e.ordered v1 e.broken (rest mine) e.others chain
+              v5 all_woken m6 lowered
 
-        pub unnoted_last : HasNotedNothing v5 m6.0
-        unnoted_last = steps.lowered_unnoted program t r v e.may e.written e.ordered v1 e.broken (rest mine) e.others
-            v5 m6 lowered
+          pub unnoted_last : HasNotedNothing v5 m6.0
+          unnoted_last = steps.lowered_unnoted program t r v e.may e.written e.ordered v1 e.broken (rest mine) e.others
+              v5 m6 lowered

@@ -33,7 +33,7 @@ module _ {B : Type 0} where
   lowered_alone v ((t, None) ∷ slots) n = refl
   lowered_alone v ((t, Some r) ∷ slots) n = absurd n
 
-  module _ (program : Bool → B → Program B) (cells t q : ℕ) (way : Way) (r : Rec B) (v : View B)
+  module _ {program : Bool → B → Program B} (cells : ℕ) {t q : ℕ} {way : Way} {r : Rec B} {v : View B}
       (may : MayParkTask program t q way r v) where
     -- Parked may be stored
     pub may_park : (l : SlotsOf B) → MayPark program t q way (v, (t, Some r) ∷ l)
@@ -173,11 +173,11 @@ module _ {B : Type 0} where
         }
 
     -- the record was put into its slot, so Parked may be stored
-    pub parked_may : (l : SlotsOf B) (m1 : SeatMe B) → m1 ≡ (v, (t, Some r) ∷ l) → MayPark program t q way m1
-    parked_may l m1 laid = subst (MayPark program t q way) (sym laid) (may_park l)
+    pub parked_may : {l : SlotsOf B} {m1 : SeatMe B} → m1 ≡ (v, (t, Some r) ∷ l) → MayPark program t q way m1
+    parked_may {l} laid = subst (MayPark program t q way) (sym laid) (may_park l)
 
     -- the seats as the call goes on: with the record in its slot, with Parked stored, and after the way to the chain
-    module _ (l : SlotsOf B) (m1 m2 m3 : SeatMe B) (laid : m1 ≡ (v, (t, Some r) ∷ l))
+    module _ {l : SlotsOf B} {m1 m2 : SeatMe B} (m3 : SeatMe B) (laid : m1 ≡ (v, (t, Some r) ∷ l))
         (stored : m2 ≡ (parked t q way m1.0, rest m1.1)) where
       is_parked : m2 ≡ (parked t q way v, l)
       is_parked = stored ∙ ap (λ (z : SeatMe B). (parked t q way z.0, rest z.1)) laid
@@ -215,8 +215,8 @@ module _ {B : Type 0} where
           pub parked_lower : MayLowerLive program m3
           parked_lower = subst (MayLowerLive program) (sym joined) (lower_left m3.0 looked in_few news gone l none)
 
-          pub parked_left : (m4 : SeatMe B) → m4 ≡ live_lowered m3 → LeftTask cells t v m4.0 × (m4.1 ≡ l)
-          parked_left m4 e = left_task m3.0 looked in_few news gone
+          pub parked_left : {m4 : SeatMe B} → m4 ≡ live_lowered m3 → LeftTask cells t v m4.0 × (m4.1 ≡ l)
+          parked_left {m4} e = left_task m3.0 looked in_few news gone
               (subst (λ z. FindsShutOnce q z m2.0 m3.0) was_added closes
               ∙ ap (λ (z : SeatMe B). z.0.closed) is_parked) m4 l none (e ∙ ap live_lowered joined)
 
@@ -227,8 +227,8 @@ module _ {B : Type 0} where
           pub parked_back_may : MayGoBack t q way m3.0
           parked_back_may = may_go_back m3.0 looked in_few news stays
 
-          pub parked_back : (x : Rec B) (u : View B) → TakesBack program t q x m3.0 u
+          pub parked_back : {x : Rec B} {u : View B} → TakesBack program t q x m3.0 u
               → GaveBack program cells t q x v u
-          parked_back x u back = gave_back m3.0 looked in_few news stays
+          parked_back {x} {u} back = gave_back m3.0 looked in_few news stays
               (subst (λ z. FindsShutOnce q z m2.0 m3.0) was_shut closes
               ∙ ap (λ (z : SeatMe B). q ∷ z.0.closed) is_parked) x u back

@@ -19,7 +19,7 @@ never_fails (Err e) P Q n p q = absurd (n e q)
 pub not_ready : (q : ℕ) (way : Way) → parked_phase q way ≢ phase.Ready
 not_ready q way e = cc
 
-module _ {B : Type 0} (program : Bool → B → Program B) (t q : ℕ) (way : Way) (m m' : SeatMe B) where
+module _ {B : Type 0} {program : Bool → B → Program B} {t q : ℕ} (way : Way) {m m' : SeatMe B} where
   -- the exchange from Parked to Running has succeeded
   pub goes_back : {A : Type 0} (o : Result A Phase) → OnOk o (Swaps program t (parked_phase q way) phase.Running m m')
       → IfErr o (λ p. (parked_phase q way ≡ phase.Ready) × (p ≢ parked_phase q way) × (m' ≡ (missed t p m.0, m.1)))
@@ -88,7 +88,7 @@ module _ {B : Type 0} (program : Bool → B → Program B) (t q : ℕ) (way : Wa
         (let z : raised_by_way way ≡ 1 = ap raised_by_way e in omega arith) (omega arith))
 
     -- the record is taken out of its slot
-    module _ (m'' : SeatMe B) (o : Option (Rec B)) (found : m'.1 ≡ (t, o) ∷ rest m'.1)
+    module _ {m'' : SeatMe B} {o : Option (Rec B)} (found : m'.1 ≡ (t, o) ∷ rest m'.1)
         (now : m'' ≡ (m'.0, (t, None) ∷ rest m'.1)) where
       out : (o ≡ Some b.0) × (m'' ≡ (went, (t, None) ∷ m.1))
       out = back_out m'' o found now
@@ -105,13 +105,13 @@ module _ {B : Type 0} (program : Bool → B → Program B) (t q : ℕ) (way : Wa
       pub back_cleared : way ≡ Other → 0 < m''.0.cleared
       back_cleared e = some_cleared e m''.0 its_view
 
-      module _ (r : Rec B) (is : o ≡ Some r) where
+      module _ {r : Rec B} (is : o ≡ Some r) where
         same_record : b.0 ≡ r
         same_record = one_some b.0 r (sym out.0 ∙ is)
 
         pub takes_along : way ≡ Along → TakesBack program t q r m.0 m''.0
         takes_along e = subst (λ x. TakesBack program t q x m.0 m''.0) same_record (back_along e m''.0 its_view)
 
-        pub takes_other : way ≡ Other → (u : View B) → u ≡ lowered m''.0 → TakesBack program t q r m.0 u
-        takes_other e u low = subst (λ x. TakesBack program t q x m.0 u) same_record
+        pub takes_other : way ≡ Other → {u : View B} → u ≡ lowered m''.0 → TakesBack program t q r m.0 u
+        takes_other e {u} low = subst (λ x. TakesBack program t q x m.0 u) same_record
             (back_other e m''.0 u its_view low)

@@ -8,52 +8,37 @@ swap_phase-requires-clause-may g c κs within =
 
 pub slot_swap-requires-clause-slot : goal.slot_swap-requires-clause-slot
 slot_swap-requires-clause-slot g c κs within =
-    let b = goes_back _ c.args.t.0 c.args.q.0 c.args.way c.args.seat.now.me c.swap_phase.new.seat.me
-    c.swap_phase.result c.swap_phase.ensures.swapped c.swap_phase.ensures.found in
-    back_slot _ c.args.t.0 c.args.q.0 c.args.way c.args.seat.now.me c.swap_phase.new.seat.me b
+    let b = goes_back c.args.way c.swap_phase.result c.swap_phase.ensures.swapped c.swap_phase.ensures.found in
+    back_slot c.args.way b
 
 pub unwrap-rec-requires : goal.unwrap-rec-requires
 unwrap-rec-requires g c =
-    let b = goes_back _ c.args.t.0 c.args.q.0 c.args.way c.args.seat.now.me c.swap_phase.new.seat.me
-    c.swap_phase.result c.swap_phase.ensures.swapped c.swap_phase.ensures.found in
-    back_some _ c.args.t.0 c.args.q.0 c.args.way c.args.seat.now.me c.swap_phase.new.seat.me b
-    c.slot_swap.new.seat.me c.slot_swap.result c.slot_swap.ensures.found c.slot_swap.ensures.me
+    let b = goes_back c.args.way c.swap_phase.result c.swap_phase.ensures.swapped c.swap_phase.ensures.found in
+    back_some c.args.way b c.slot_swap.ensures.found c.slot_swap.ensures.me
 
 pub others_down-requires-clause-cleared : goal.others_down-requires-clause-cleared
 others_down-requires-clause-cleared g c κs within =
-    let b = goes_back _ c.args.t.0 c.args.q.0 c.args.way c.args.seat.now.me c.swap_phase.new.seat.me
-    c.swap_phase.result c.swap_phase.ensures.swapped c.swap_phase.ensures.found in
-    back_cleared _ c.args.t.0 c.args.q.0 c.args.way c.args.seat.now.me c.swap_phase.new.seat.me b
-    c.slot_swap.new.seat.me c.slot_swap.result c.slot_swap.ensures.found c.slot_swap.ensures.me c.in-Other.is
+    let b = goes_back c.args.way c.swap_phase.result c.swap_phase.ensures.swapped c.swap_phase.ensures.found in
+    back_cleared c.args.way b c.slot_swap.ensures.found c.slot_swap.ensures.me c.in-Other.is
 
 pub returns-in-Along-clause-takes : goal.returns-in-Along-clause-takes
 returns-in-Along-clause-takes g c =
-    let b = goes_back _ c.args.t.0 c.args.q.0 c.args.way c.args.seat.now.me c.swap_phase.new.seat.me
-    c.swap_phase.result c.swap_phase.ensures.swapped c.swap_phase.ensures.found in
-    takes_along _ c.args.t.0 c.args.q.0 c.args.way c.args.seat.now.me c.swap_phase.new.seat.me b
-    c.slot_swap.new.seat.me c.slot_swap.result c.slot_swap.ensures.found c.slot_swap.ensures.me
-    c.unwrap-rec.result c.unwrap-rec.ensures c.in-Along.is
+    let b = goes_back c.args.way c.swap_phase.result c.swap_phase.ensures.swapped c.swap_phase.ensures.found in
+    takes_along c.args.way b c.slot_swap.ensures.found c.slot_swap.ensures.me c.unwrap-rec.ensures c.in-Along.is
 
 pub returns-in-Along-clause-slot : goal.returns-in-Along-clause-slot
 returns-in-Along-clause-slot g c =
-    let b = goes_back _ c.args.t.0 c.args.q.0 c.args.way c.args.seat.now.me c.swap_phase.new.seat.me
-    c.swap_phase.result c.swap_phase.ensures.swapped c.swap_phase.ensures.found in
-    back_slots _ c.args.t.0 c.args.q.0 c.args.way c.args.seat.now.me c.swap_phase.new.seat.me b
-    c.slot_swap.new.seat.me c.slot_swap.result c.slot_swap.ensures.found c.slot_swap.ensures.me
+    let b = goes_back c.args.way c.swap_phase.result c.swap_phase.ensures.swapped c.swap_phase.ensures.found in
+    back_slots c.args.way b c.slot_swap.ensures.found c.slot_swap.ensures.me
 
 pub returns-in-Other-clause-takes : goal.returns-in-Other-clause-takes
 returns-in-Other-clause-takes g c =
-    let b = goes_back _ c.args.t.0 c.args.q.0 c.args.way c.args.seat.now.me c.swap_phase.new.seat.me
-    c.swap_phase.result c.swap_phase.ensures.swapped c.swap_phase.ensures.found in
-    takes_other _ c.args.t.0 c.args.q.0 c.args.way c.args.seat.now.me c.swap_phase.new.seat.me b
-    c.slot_swap.new.seat.me c.slot_swap.result c.slot_swap.ensures.found c.slot_swap.ensures.me
-    c.unwrap-rec.result c.unwrap-rec.ensures c.in-Other.is c.others_down.new.seat.me.0
+    let b = goes_back c.args.way c.swap_phase.result c.swap_phase.ensures.swapped c.swap_phase.ensures.found in
+    takes_other c.args.way b c.slot_swap.ensures.found c.slot_swap.ensures.me c.unwrap-rec.ensures c.in-Other.is
     c.others_down.ensures.view
 
 pub returns-in-Other-clause-slot : goal.returns-in-Other-clause-slot
 returns-in-Other-clause-slot g c =
-    let b = goes_back _ c.args.t.0 c.args.q.0 c.args.way c.args.seat.now.me c.swap_phase.new.seat.me
-    c.swap_phase.result c.swap_phase.ensures.swapped c.swap_phase.ensures.found in
+    let b = goes_back c.args.way c.swap_phase.result c.swap_phase.ensures.swapped c.swap_phase.ensures.found in
     c.others_down.ensures.seat.2
-    ∙ back_slots _ c.args.t.0 c.args.q.0 c.args.way c.args.seat.now.me c.swap_phase.new.seat.me b
-    c.slot_swap.new.seat.me c.slot_swap.result c.slot_swap.ensures.found c.slot_swap.ensures.me
+    ∙ back_slots c.args.way b c.slot_swap.ensures.found c.slot_swap.ensures.me

@@ -1,5 +1,4 @@
-use Rattle.tj_park.proofs.Prelude.{MayWake, WakesAll, arith, cell, drop, get_or, program_of, refl, subst}
-use Rattle.tj_park.proofs.Prelude.{sym, ◌+◌, ◌∙◌}
+use Rattle.tj_park.proofs.Prelude.{MayWake, WakesAll, arith, cell, get_or, program_of, refl, subst, sym, ◌∙◌}
 use Rattle.tj_park.proofs.WakeLoops.{nothing_noted}
 use Rattle.tj_park.proofs.BreakSteps.{none_broken, may_give_up, will_break, is_small, may_wake_broken, one_broken}
 use Rattle.tj_park.proofs.BreakSteps.{about_kept, all_woke, next_left, none_left, notes_kept, one_break_woke}
@@ -18,48 +17,33 @@ pub break_off-requires-clause-table : goal.break_off-requires-clause-table
 break_off-requires-clause-table g c κs within = c.loop-p.invariant.seat.0 ∙ c.requires.table
 
 pub break_off-requires-clause-cell : goal.break_off-requires-clause-cell
-break_off-requires-clause-cell g c κs within = let ps = c.args.promises.now in let i = c.loop-p.p-index in
-    let h = next_left c.args.t.0 ps i c.args.seat.now.me.0 c.loop-p.seat.me.0 c.loop-p.invariant.broken
-    c.loop-p-test.true in
-    is_small (program_of g.B.Body.places g.B.Body.awaits g.B.Body.left g.B.Body.asks g.B.Body.then) c.args.t.0 ps
-    (drop (i + 1) ps) (get_or ps i (cell 0)) c.args.seat.now.me.0 c.loop-p.seat.me.0 c.requires.may h
+break_off-requires-clause-cell g c κs within =
+    is_small c.requires.may (next_left c.loop-p.p-index c.loop-p.invariant.broken c.loop-p-test.true)
     c.args.laid.now.cells c.requires.few
 
 pub break_off-requires-clause-owner : goal.break_off-requires-clause-owner
-break_off-requires-clause-owner g c κs within = let ps = c.args.promises.now in let i = c.loop-p.p-index in
-    let h = next_left c.args.t.0 ps i c.args.seat.now.me.0 c.loop-p.seat.me.0 c.loop-p.invariant.broken
-    c.loop-p-test.true in
-    may_give_up (program_of g.B.Body.places g.B.Body.awaits g.B.Body.left g.B.Body.asks g.B.Body.then) c.args.t.0 ps
-    (drop (i + 1) ps) (get_or ps i (cell 0)) c.args.seat.now.me.0 c.loop-p.seat.me.0 c.requires.may h
+break_off-requires-clause-owner g c κs within =
+    may_give_up c.requires.may (next_left c.loop-p.p-index c.loop-p.invariant.broken c.loop-p-test.true)
 
 pub break_off-requires-clause-broken : goal.break_off-requires-clause-broken
-break_off-requires-clause-broken g c κs within = let ps = c.args.promises.now in let i = c.loop-p.p-index in
-    let h = next_left c.args.t.0 ps i c.args.seat.now.me.0 c.loop-p.seat.me.0 c.loop-p.invariant.broken
-    c.loop-p-test.true in
-    will_break (program_of g.B.Body.places g.B.Body.awaits g.B.Body.left g.B.Body.asks g.B.Body.then) c.args.t.0 ps
-    (drop (i + 1) ps) (get_or ps i (cell 0)) c.args.seat.now.me.0 c.loop-p.seat.me.0 c.requires.may h
+break_off-requires-clause-broken g c κs within =
+    will_break c.requires.may (next_left c.loop-p.p-index c.loop-p.invariant.broken c.loop-p-test.true)
 
 pub wake-requires-clause-table : goal.wake-requires-clause-table
 wake-requires-clause-table g c κs within =
     c.break_off.ensures.seat.0 ∙ (c.loop-p.invariant.seat.0 ∙ c.requires.table)
 
 pub wake-requires-clause-cell : goal.wake-requires-clause-cell
-wake-requires-clause-cell g c κs within = let ps = c.args.promises.now in let i = c.loop-p.p-index in
-    let h = next_left c.args.t.0 ps i c.args.seat.now.me.0 c.loop-p.seat.me.0 c.loop-p.invariant.broken
-    c.loop-p-test.true in
-    is_small (program_of g.B.Body.places g.B.Body.awaits g.B.Body.left g.B.Body.asks g.B.Body.then) c.args.t.0 ps
-    (drop (i + 1) ps) (get_or ps i (cell 0)) c.args.seat.now.me.0 c.loop-p.seat.me.0 c.requires.may h
+wake-requires-clause-cell g c κs within =
+    is_small c.requires.may (next_left c.loop-p.p-index c.loop-p.invariant.broken c.loop-p-test.true)
     c.args.laid.now.cells c.requires.few
 
 pub wake-requires-clause-may : goal.wake-requires-clause-may
-wake-requires-clause-may g c κs within = let ps = c.args.promises.now in let i = c.loop-p.p-index in
-    let h = next_left c.args.t.0 ps i c.args.seat.now.me.0 c.loop-p.seat.me.0 c.loop-p.invariant.broken
-    c.loop-p-test.true in
-    subst (λ s. MayWake (get_or ps i (cell 0)).0 (c.break_off.new.seat.me.0, s))
+wake-requires-clause-may g c κs within =
+    subst (λ s. MayWake (get_or c.args.promises.now c.loop-p.p-index (cell 0)).0 (c.break_off.new.seat.me.0, s))
     (sym (c.break_off.ensures.seat.2 ∙ c.loop-p.invariant.seat.2))
-    (may_wake_broken (program_of g.B.Body.places g.B.Body.awaits g.B.Body.left g.B.Body.asks g.B.Body.then)
-    c.args.t.0 ps (drop (i + 1) ps) (get_or ps i (cell 0)) c.args.seat.now.me.0 c.loop-p.seat.me.0 c.requires.may h
-    c.break_off.new.seat.me.0 c.break_off.ensures.view c.args.seat.now.me.1 c.requires.slots)
+    (may_wake_broken c.requires.may (next_left c.loop-p.p-index c.loop-p.invariant.broken c.loop-p-test.true)
+    c.break_off.ensures.view c.args.seat.now.me.1 c.requires.slots)
 
 pub wake-requires-clause-pool : goal.wake-requires-clause-pool
 wake-requires-clause-pool g c κs within = c.loop-p.invariant.limit ∙ c.requires.pool
@@ -77,18 +61,19 @@ pub returns-in_err-wake-clause-limit : goal.returns-in_err-wake-clause-limit
 returns-in_err-wake-clause-limit g c = c.wake.ensures.limit ∙ c.loop-p.invariant.limit
 
 pub loop-p-preserved : goal.loop-p-preserved
-loop-p-preserved g c = let ps = c.args.promises.now in let i = c.loop-p.p-index in
-    let h = next_left c.args.t.0 ps i c.args.seat.now.me.0 c.loop-p.seat.me.0 c.loop-p.invariant.broken
-    c.loop-p-test.true in
-    let s = c.loop-p.invariant.seat in let b = c.break_off.ensures.seat in
+loop-p-preserved g c =
+    let ps = c.args.promises.now in
+    let i = c.loop-p.p-index in
+    let h = next_left i c.loop-p.invariant.broken c.loop-p-test.true in
+    let s = c.loop-p.invariant.seat in
+    let b = c.break_off.ensures.seat in
     let w = c.wake.ensures.seat in
     let woke : WakesAll g.P.Pool.puts (get_or ps i (cell 0)).0 c.in_ok-wake.field-0 c.break_off.new.seat.me.0
-    c.wake.new.seat.me.0 c.loop-p.pool c.wake.new.pool = c.in_ok-wake.ensures.woke in record {
+    c.wake.new.seat.me.0 c.loop-p.pool c.wake.new.pool = c.in_ok-wake.ensures.woke in
+    record {
       seat = (w.0 ∙ (b.0 ∙ s.0), w.1 ∙ (b.1 ∙ s.1), w.2 ∙ (b.2 ∙ s.2));
       limit = c.wake.ensures.limit ∙ c.loop-p.invariant.limit;
-      broken = one_broken (program_of g.B.Body.places g.B.Body.awaits g.B.Body.left g.B.Body.asks g.B.Body.then)
-          c.args.t.0 ps (drop (i + 1) ps) (get_or ps i (cell 0)) c.args.seat.now.me.0 c.loop-p.seat.me.0
-          c.requires.may h c.break_off.new.seat.me.0 c.break_off.ensures.view woke.chain c.wake.new.seat.me.0 woke.woke;
+      broken = one_broken c.requires.may h c.break_off.ensures.view woke.woke;
       woke = one_break_woke g.P.Pool.puts c.args.t.0 ps i c.in_ok-wake.field-0 c.args.seat.now.me.0 c.loop-p.seat.me.0
           c.break_off.new.seat.me.0 c.wake.new.seat.me.0 c.args.pool.now c.loop-p.pool c.wake.new.pool
           c.loop-p.invariant.woke c.loop-p-test.true c.break_off.ensures.view woke;
@@ -104,9 +89,9 @@ pub returns-clause-limit : goal.returns-clause-limit
 returns-clause-limit g c = c.loop-p.invariant.limit
 
 pub returns-clause-broken : goal.returns-clause-broken
-returns-clause-broken g c = let most = c.loop-p-test.false in
-    none_left c.args.t.0 c.args.promises.now c.loop-p.p-index c.args.seat.now.me.0 c.loop-p.seat.me.0
-    c.loop-p.invariant.broken (omega arith)
+returns-clause-broken g c =
+    let most = c.loop-p-test.false in
+    none_left c.loop-p.p-index c.loop-p.invariant.broken (omega arith)
 
 pub returns-clause-woke : goal.returns-clause-woke
 returns-clause-woke g c = let most = c.loop-p-test.false in

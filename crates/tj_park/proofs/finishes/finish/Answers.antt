@@ -115,7 +115,8 @@ returns-clause-woke g c =
     (subst (λ l. WakesEach g.P.Pool.puts (numbers l) c.args.seat.now.me.0 c.break_promises.new.seat.me.0
     c.args.pool.now c.break_promises.new.pool)
     (slice_rest c.items.result.now c.args.rec.owned c.items.ensures) c.in_ok-break_promises.ensures.woke)
-    (unnoted e end) c.in_ok-wake.ensures.woke (unnoted_last e end c.in_ok-wake.ensures.woke.woke c.wake.ensures.seat.2 c.live_down.ensures.me)
+    (unnoted e end) c.in_ok-wake.ensures.woke
+    (unnoted_last e end c.in_ok-wake.ensures.woke.woke c.wake.ensures.seat.2 c.live_down.ensures.me)
 
 pub returns-clause-home : goal.returns-clause-home
 returns-clause-home g c = let m = c.requires.may in
