@@ -7,3 +7,4 @@ pub mod ValueWords
 pub mod CallsKnowMore
 pub mod SameViews
 pub mod Prelude
+pub mod FillSteps

@@ -33,7 +33,7 @@ begins_short xs ys b = subst (λ l. length xs ≤ length l) (sym b.1) (longer xs
   longer [] m = omega arith
   longer (x ∷ l) m = let h = longer l m in omega arith
 
-module _ {B : Type 0} (program : Bool → B → Program B) (cells t kid : ℕ) (v : View B)
+module _ {B : Type 0} {program : Bool → B → Program B} {t kid : ℕ} {v : View B}
     (may : MayMake program t kid v) where
   -- a cell that is drawn is none that was there
   pub maker_apart : (born : List Reference) (c : ℕ) → Begins v.born born → length born ≡ c → t ≢ c
@@ -41,7 +41,7 @@ module _ {B : Type 0} (program : Bool → B → Program B) (cells t kid : ℕ) (
       (begins_at v.born born b t may.draw.task may.draw.is_task) in omega arith
 
   -- PARENT and KID of the cell that was drawn
-  module _ (o : Sort) (c : ℕ) (v0 : View B) (d : FindsCell cells t o c v v0) where
+  module _ {cells : ℕ} {o : Sort} {c : ℕ} {v0 : View B} (d : FindsCell cells t o c v v0) where
     apart : t ≢ c
     apart = maker_apart d.born c d.begins d.next
 
@@ -91,7 +91,7 @@ module _ {B : Type 0} (program : Bool → B → Program B) (cells t kid : ℕ) (
     }
 
   -- a promise that was drawn is marked, and goes to its maker
-  module _ (c : ℕ) (v2 : View B) (d : DrawsNamed cells t kid sort.Promise c v v2) where
+  module _ {cells c : ℕ} {v2 : View B} (d : DrawsNamed cells t kid sort.Promise c v v2) where
     abbrev drawn : View B
     drawn = drew_named t kid sort.Promise c d.born v
 
@@ -99,7 +99,7 @@ module _ {B : Type 0} (program : Bool → B → Program B) (cells t kid : ℕ) (
     may_mark = subst (MayMark c) (sym d.view)
         (record { hand = new_hand c t sort.Promise; has = refl; its_cell = refl; promise = refl })
 
-    module _ (v3 : View B) (marks : v3 ≡ marked_promise v2) where
+    module _ {v3 : View B} (marks : v3 ≡ marked_promise v2) where
       pub may_give : MayGive c t v3
       may_give = subst (MayGive c t) (sym (marks ∙ ap marked_promise d.view)) (record {
         hand = record (new_hand c t sort.Promise) { marked = true };
@@ -113,8 +113,8 @@ module _ {B : Type 0} (program : Bool → B → Program B) (cells t kid : ℕ) (
         is_reference = last_at d.born (drawn_next t sort.Promise v) c d.next;
       })
 
-      pub promise_made : (v4 : View B) → v4 ≡ gave_owner c t v3 → IsMade sort.Promise cells t c v v4
-      promise_made v4 gives = subst (IsMade sort.Promise cells t c v)
+      pub promise_made : {v4 : View B} → v4 ≡ gave_owner c t v3 → IsMade sort.Promise cells t c v v4
+      promise_made gives = subst (IsMade sort.Promise cells t c v)
           (sym (gives ∙ ap (gave_owner c t) (marks ∙ ap marked_promise d.view))) (record {
             small = d.small;
             new = let n = begins_short v.born d.born d.begins in let e = d.next in omega arith;
@@ -133,7 +133,7 @@ module _ {B : Type 0} (program : Bool → B → Program B) (cells t kid : ℕ) (
           })
 
   -- a task that was drawn owns its result, once its node is written
-  module _ (c : ℕ) (v2 : View B) (d : DrawsNamed cells t kid sort.Task c v v2) where
+  module _ {cells c : ℕ} {v2 : View B} (d : DrawsNamed cells t kid sort.Task c v v2) where
     abbrev drawn_task : View B
     drawn_task = drew_named t kid sort.Task c d.born v
 
@@ -155,7 +155,7 @@ module _ {B : Type 0} (program : Bool → B → Program B) (cells t kid : ℕ) (
       i.2,
     )
 
-    module _ (v3 : View B) (p : WritesNode cells c v2 v3) where
+    module _ {v3 : View B} (p : WritesNode cells c v2 v3) where
       -- all but what was read of the tree is as it was drawn
       abbrev read_as : View B → View B
       read_as u = record u {
@@ -203,8 +203,8 @@ module _ {B : Type 0} (program : Bool → B → Program B) (cells t kid : ℕ) (
         is_reference = child_is;
       })
 
-      pub task_made : (v4 : View B) → v4 ≡ gave_owner c c v3 → IsMade sort.Task cells t c v v4
-      task_made v4 gives = subst (IsMade sort.Task cells t c v)
+      pub task_made : {v4 : View B} → v4 ≡ gave_owner c c v3 → IsMade sort.Task cells t c v v4
+      task_made gives = subst (IsMade sort.Task cells t c v)
           (sym (gives ∙ ap (gave_owner c c) placed_is)) (record {
             small = d.small;
             new = let n = begins_short v.born d.born d.begins in let e = d.next in omega arith;
