@@ -197,7 +197,7 @@ is_skip Alarm t q way w h none = absurd none
 is_skip Walked t q way w h none = absurd (subst IsLoad none.2 h.1)
 is_skip Skipped t q way w h none = refl
 
-module _ {B : Type 0} (verdict : Verdict) (t q : ℕ) (way : Way) (old new : ℕ) (v v' : View B) {way0 : Way}
+module _ {B : Type 0} {verdict : Verdict} {t q : ℕ} {way : Way} {old new : ℕ} {v v' : View B} {way0 : Way}
     (may : MayBlock t q way0 v) (b : Blocks verdict t q way old new v v') where
   -- what the seat has for the task after the call
   has_now : held_in v'.tasks t ≡ Some (now_does (does_after verdict q way b.walker) may.custody)

@@ -178,3 +178,37 @@ module _ {B : Type 0} (cells t q : ℕ) (way : Way) (s0 : ℕ) (v0 : View B) (h 
 pub record IsUnderWay {B : Type 0} (cells t q : ℕ) (way : Way) (bound passed p s0 s : ℕ) (v0 v : View B) : Type 0 where
   pub start : IsAtCount t q way v0
   pub walked : IsWalked cells t q way s0 v0 start bound passed p s v
+
+module _ {B : Type 0} {cells t q : ℕ} {way : Way} {bound passed p s0 s : ℕ} {v0 v : View B}
+    (u : IsUnderWay cells t q way bound passed p s0 s v0 v) where
+  pub on_way : WalksWith t q way u.walked.walker v
+  on_way = on_walk cells t q way s0 v0 u.start bound passed p s v u.walked
+
+  -- past the last owner the walk is at its end
+  pub at_bound : bound ≤ passed → 0 < bound → Comes Walked t q way s0 s v0 v
+  at_bound = walked_out cells t q way s0 v0 u.start bound passed p s v u.walked
+
+  module _ (less : passed < bound) where
+    pub reads_owner : IsWalking t (λ c way w. (p ≡ present c w.trail) × MayReadOwner w) v
+    reads_owner = walks_there cells t q way s0 v0 u.start bound passed p s v u.walked less
+
+    -- what the reads of one owner more come to
+    module _ (s' : ℕ) (v' : View B) where
+      pub on_next : (x : CellId) (next : ℕ) → next ≡ passed + 1
+          → Hops cells (Next x) t q way u.walked.walker s s' v v'
+          → IsUnderWay cells t q way bound next x.0 s0 s' v0 v'
+      on_next x next e hop = record {
+        start = u.start;
+        walked = walked_next cells t q way s0 v0 u.start bound passed p s v u.walked less s' v' x next e hop;
+      }
+
+      pub at_ended : Hops cells Ended t q way u.walked.walker s s' v v' → Comes Walked t q way s0 s' v0 v'
+      at_ended = walked_ended cells t q way s0 v0 u.start bound passed p s v u.walked less s' v'
+
+      module _ (own : Hops cells Own t q way u.walked.walker s s' v v') where
+        pub alarms_next : MayStoreAlarm t q way v'
+        alarms_next = may_alarm cells t q way s0 v0 u.start bound passed p s v u.walked less s' v' own
+
+        pub at_alarm : (s'' : ℕ) (v'' : View B) → v'' ≡ alarmed t q way v' → s'' ≡ s' + 1
+            → Comes Alarm t q way s0 s'' v0 v''
+        at_alarm = walked_alarm cells t q way s0 v0 u.start bound passed p s v u.walked less s' v' own

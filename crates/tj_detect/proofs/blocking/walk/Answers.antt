@@ -1,6 +1,6 @@
 use Rattle.tj_detect.proofs.Prelude.{arith, ◌∙◌, ◌≤◌}
-use Rattle.tj_detect.proofs.WalkLoops.{walked_first, walked_next, walked_ended, walked_alarm, walked_out, may_alarm}
-use Rattle.tj_detect.proofs.WalkLoops.{on_walk, walks_there}
+use Rattle.tj_detect.proofs.WalkLoops.{alarms_next, at_alarm, at_bound, at_ended, on_next, on_way, reads_owner}
+use Rattle.tj_detect.proofs.WalkLoops.{walked_first}
 use Rattle.tj_detect.proofs.blocking.walk.Goals as goal
 
 pub loop-passed-init : goal.loop-passed-init
@@ -29,27 +29,16 @@ count-bound-requires-clause-walks g c κs within =
     }
 
 pub look_at_owner-requires-clause-walks : goal.look_at_owner-requires-clause-walks
-look_at_owner-requires-clause-walks g c κs within =
-    let a = c.args in
-    let l = c.loop-passed in
-    let i = l.invariant.1 in
-    walks_there a.laid.now.cells a.t.0 a.q.0 a.way a.steps.now a.seat.now.me.0 i.start c.count-bound.result l.passed
-    l.present.0 l.steps l.seat.me.0 i.walked c.loop-passed-test.true
+look_at_owner-requires-clause-walks g c κs within = reads_owner c.loop-passed.invariant.1 c.loop-passed-test.true
 
 pub look_at_owner-requires-clause-cell : goal.look_at_owner-requires-clause-cell
 look_at_owner-requires-clause-cell g c κs within = c.loop-passed.invariant.1.walked.inside
 
 pub returns-in-Ended-clause-comes : goal.returns-in-Ended-clause-comes
 returns-in-Ended-clause-comes g c =
-    let a = c.args in
-    let l = c.loop-passed in
-    let i = l.invariant.1 in
-    let b = c.count-bound.result in
-    let n = c.look_at_owner.new in
-    walked_ended a.laid.now.cells a.t.0 a.q.0 a.way a.steps.now a.seat.now.me.0 i.start b l.passed l.present.0 l.steps
-    l.seat.me.0 i.walked c.loop-passed-test.true n.steps n.seat.me.0
-    (c.in-Ended.ensures.hops a.q.0 a.way i.walked.walker (on_walk a.laid.now.cells a.t.0 a.q.0 a.way a.steps.now
-    a.seat.now.me.0 i.start b l.passed l.present.0 l.steps l.seat.me.0 i.walked))
+    let i = c.loop-passed.invariant.1 in
+    at_ended i c.loop-passed-test.true c.look_at_owner.new.steps c.look_at_owner.new.seat.me.0
+    (c.in-Ended.ensures.hops c.args.q.0 c.args.way i.walked.walker (on_way i))
 
 pub returns-in-Ended-clause-seat : goal.returns-in-Ended-clause-seat
 returns-in-Ended-clause-seat g c =
@@ -59,29 +48,16 @@ returns-in-Ended-clause-seat g c =
 
 pub alarm-requires-clause-may : goal.alarm-requires-clause-may
 alarm-requires-clause-may g c κs within =
-    let a = c.args in
-    let l = c.loop-passed in
-    let i = l.invariant.1 in
-    let b = c.count-bound.result in
-    let n = c.look_at_owner.new in
-    may_alarm a.laid.now.cells a.t.0 a.q.0 a.way a.steps.now a.seat.now.me.0 i.start b l.passed l.present.0 l.steps
-    l.seat.me.0 i.walked c.loop-passed-test.true n.steps n.seat.me.0
-    (c.in-Own.ensures.hops a.q.0 a.way i.walked.walker (on_walk a.laid.now.cells a.t.0 a.q.0 a.way a.steps.now
-    a.seat.now.me.0 i.start b l.passed l.present.0 l.steps l.seat.me.0 i.walked))
+    let i = c.loop-passed.invariant.1 in
+    alarms_next i c.loop-passed-test.true c.look_at_owner.new.steps c.look_at_owner.new.seat.me.0
+    (c.in-Own.ensures.hops c.args.q.0 c.args.way i.walked.walker (on_way i))
 
 pub returns-in-Own-clause-comes : goal.returns-in-Own-clause-comes
 returns-in-Own-clause-comes g c =
-    let a = c.args in
-    let l = c.loop-passed in
-    let i = l.invariant.1 in
-    let b = c.count-bound.result in
-    let n = c.look_at_owner.new in
-    let m = c.alarm.new in
-    walked_alarm a.laid.now.cells a.t.0 a.q.0 a.way a.steps.now a.seat.now.me.0 i.start b l.passed l.present.0 l.steps
-    l.seat.me.0 i.walked c.loop-passed-test.true n.steps n.seat.me.0
-    (c.in-Own.ensures.hops a.q.0 a.way i.walked.walker (on_walk a.laid.now.cells a.t.0 a.q.0 a.way a.steps.now
-    a.seat.now.me.0 i.start b l.passed l.present.0 l.steps l.seat.me.0 i.walked))
-    m.steps m.seat.me.0 c.alarm.ensures.view c.alarm.ensures.step
+    let i = c.loop-passed.invariant.1 in
+    at_alarm i c.loop-passed-test.true c.look_at_owner.new.steps c.look_at_owner.new.seat.me.0
+    (c.in-Own.ensures.hops c.args.q.0 c.args.way i.walked.walker (on_way i))
+    c.alarm.new.steps c.alarm.new.seat.me.0 c.alarm.ensures.view c.alarm.ensures.step
 
 pub returns-in-Own-clause-seat : goal.returns-in-Own-clause-seat
 returns-in-Own-clause-seat g c =
@@ -92,30 +68,17 @@ returns-in-Own-clause-seat g c =
 
 pub loop-passed-preserved : goal.loop-passed-preserved
 loop-passed-preserved g c =
-    let a = c.args in
-    let l = c.loop-passed in
-    let i = l.invariant.1 in
-    let b = c.count-bound.result in
-    let n = c.look_at_owner.new in
+    let i = c.loop-passed.invariant.1 in
     let s = c.look_at_owner.ensures.seat in
-    let j = l.invariant.0 in (
+    let j = c.loop-passed.invariant.0 in (
       (s.0 ∙ j.0, s.1 ∙ j.1, s.2 ∙ j.2),
-      record {
-        start = i.start;
-        walked = walked_next a.laid.now.cells a.t.0 a.q.0 a.way a.steps.now a.seat.now.me.0 i.start b l.passed
-            l.present.0
-            l.steps l.seat.me.0 i.walked c.loop-passed-test.true n.steps n.seat.me.0 c.in-Next.next _ (omega arith)
-            (c.in-Next.ensures.hops a.q.0 a.way i.walked.walker (on_walk a.laid.now.cells a.t.0 a.q.0 a.way a.steps.now
-            a.seat.now.me.0 i.start b l.passed l.present.0 l.steps l.seat.me.0 i.walked));
-      },
+      on_next i c.loop-passed-test.true c.look_at_owner.new.steps c.look_at_owner.new.seat.me.0
+          c.in-Next.next _ (omega arith)
+          (c.in-Next.ensures.hops c.args.q.0 c.args.way i.walked.walker (on_way i)),
     )
 
 pub returns-clause-comes : goal.returns-clause-comes
 returns-clause-comes g c =
-    let a = c.args in
-    let l = c.loop-passed in
-    let i = l.invariant.1 in
     let test = c.loop-passed-test.false in
-    let done : c.count-bound.result ≤ l.passed = omega (arith, test) in
-    walked_out a.laid.now.cells a.t.0 a.q.0 a.way a.steps.now a.seat.now.me.0 i.start c.count-bound.result l.passed
-    l.present.0 l.steps l.seat.me.0 i.walked done c.count-bound.ensures.some
+    let done : c.count-bound.result ≤ c.loop-passed.passed = omega (arith, test) in
+    at_bound c.loop-passed.invariant.1 done c.count-bound.ensures.some

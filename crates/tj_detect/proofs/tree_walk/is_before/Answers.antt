@@ -9,7 +9,8 @@ returns-then-x-y-clause-order g c =
     let b = c.visit-b.ensures in
     let x = c.lifted-x.ensures in
     let y = c.lifted-y.ensures in
-    let seen = seen_lifted a.task b.task a.known b.goes_on b.known x.goes_on x.known x.above y.goes_on y.known y.above in
+    let seen = seen_lifted a.task b.task a.known b.goes_on b.known x.goes_on x.known x.above y.goes_on y.known
+    y.above in
     order_at_one seen c.if-x-y.true (x.level ∙ c.min-depth.ensures)
 
 pub returns-clause-order : goal.returns-clause-order
@@ -18,7 +19,8 @@ returns-clause-order g c =
     let b = c.visit-b.ensures in
     let x = c.lifted-x.ensures in
     let y = c.lifted-y.ensures in
-    let seen = seen_lifted a.task b.task a.known b.goes_on b.known x.goes_on x.known x.above y.goes_on y.known y.above in
+    let seen = seen_lifted a.task b.task a.known b.goes_on b.known x.goes_on x.known x.above y.goes_on y.known
+    y.above in
     let both = c.parted.ensures in
     order_at_two (seen_parted seen both.goes_on both.a_known both.b_known both.a_above both.b_above) both.apart
     both.level both.siblings
@@ -30,7 +32,8 @@ returns-clause-cost g c =
     let b = c.visit-b.ensures in
     let x = c.lifted-x.ensures in
     let y = c.lifted-y.ensures in
-    let seen = seen_lifted a.task b.task a.known b.goes_on b.known x.goes_on x.known x.above y.goes_on y.known y.above in
+    let seen = seen_lifted a.task b.task a.known b.goes_on b.known x.goes_on x.known x.above y.goes_on y.known
+    y.above in
     cost_of_walk (seen_parted seen both.goes_on both.a_known both.b_known both.a_above both.b_above)
     c.min-depth.result c.lifted-x.result.node.depth c.args.steps.now c.visit-a.new.steps c.visit-b.new.steps
     c.lifted-x.new.steps c.lifted-y.new.steps c.parted.new.steps c.min-depth.ensures x.level a.step b.step x.free y.free
@@ -96,7 +99,8 @@ returns-then-x-y-clause-cost g c =
     let b = c.visit-b.ensures in
     let x = c.lifted-x.ensures in
     let y = c.lifted-y.ensures in
-    let seen = seen_lifted a.task b.task a.known b.goes_on b.known x.goes_on x.known x.above y.goes_on y.known y.above in
+    let seen = seen_lifted a.task b.task a.known b.goes_on b.known x.goes_on x.known x.above y.goes_on y.known
+    y.above in
     cost_of_walk seen c.min-depth.result c.lifted-x.result.node.depth c.args.steps.now c.visit-a.new.steps
-    c.visit-b.new.steps c.lifted-x.new.steps c.lifted-y.new.steps c.lifted-y.new.steps c.min-depth.ensures x.level a.step
-    b.step x.free y.free x.cost y.cost (λ digits few. omega arith)
+    c.visit-b.new.steps c.lifted-x.new.steps c.lifted-y.new.steps c.lifted-y.new.steps c.min-depth.ensures x.level
+    a.step b.step x.free y.free x.cost y.cost (λ digits few. omega arith)
