@@ -17,3 +17,4 @@ pub mod Verdicts
 pub mod AlikeSeats
 pub mod CallStores
 pub mod CallViews
+pub mod SlotSteps

@@ -1,4 +1,4 @@
--- What only proofs and private functions speak of. No public clause does.
+-- What only proofs and private functions speak of. Of the public clauses only `wakes` does, by ChainSentences.
 pub mod ChainSentences
 pub mod TreeDraws
 pub mod ShownCells

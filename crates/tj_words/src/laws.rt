@@ -1,6 +1,6 @@
 //! The law of steps. At every moment the words and the views show one state of the core. A step of
-//! one of the fourteen kinds changes that state by one event, which is allowed where it stands and is
-//! named call by call (`call_runs`), or leaves it as it is; so do a split and a merge. What the core
+//! the table changes that state by one event, which is allowed where it stands and is named call by
+//! call (`call_runs`), or leaves it as it is; a split and a merge leave it, too. What the core
 //! proves of one allowed event is thereby so of running threads.
 //!
 //! The laws stand over the definitions alone, so the functions do nothing: who calls one may rest on
@@ -61,10 +61,11 @@ pub fn rested_runs<B>()
 /// Runs of a table by its calls: each call of a seat of which what the call asks is so, each split,
 /// and each merge of idle seats is the one event of the core that is named there, or none: it is
 /// allowed in the state that is shown before, and the state after it is shown then. So from a new
-/// table on they show a legal run.
+/// table on they show a legal run. Who stores Ended for a task finds its result closed.
 pub fn call_runs<B>()
     ensures calls { called.CallsAreSteps B }
     ensures seats { called.SeatsAreQuiet B }
+    ensures ended { called.EndedAreClosed B }
     ensures runs { called.CallRunsAreRuns B }
     ensures legal { called.CallRunsAreLegal B }
 {}

@@ -72,8 +72,8 @@ module _ {B : Type 0} (program : Bool → B → Program B) (key : Key B) where
 
   keeps : (u w : Ruled program key) → IsAskedStep program key u.now w.now
       → KeepsCells key.cells (The u.now) (The w.now)
-  keeps u w (inl c) = (call_goes program key u w c).2.keeps
-  keeps u w (inr b) = (seats_go program key u w b).keeps
+  keeps u w (inl c) = (call_goes program key u w.now c).2.keeps
+  keeps u w (inr b) = (seats_go program key u w.now b).keeps
 
   abbrev named : Ruled program key → ℕ → Name
   named u c = (reference_of u.rule.law.born c).name

@@ -14,7 +14,8 @@ use Rattle.tj_words.proofs.Prelude.{parts_of, phase_at, phase_events, phase_in, 
 use Rattle.tj_words.proofs.Prelude.{set_else, shown_by, stop_at, subst, suc, sym, takes, takes_new, told_by, true}
 use Rattle.tj_words.proofs.Prelude.{under, word, words_say, ℕ, ℕ_discrete, ⊎_elim, ◌-◌, ◌<◌, ◌∙◌, ◌∷◌, ◌≡◌, ◌≢◌, ◌≤◌}
 use Rattle.tj_words.proofs.Prelude.{◌⊎◌}
-use Rattle.tj_words.specs.CallLaws.CallRuns.{CallRunsAreLegal, CallsAreSteps, IsAskedCall, IsIdleMerge, OwnerEvents}
+use Rattle.tj_words.specs.CallLaws.CallRuns.{CallRunsAreLegal, CallsAreSteps, EndedAreClosed, IsAskedCall, IsIdleMerge}
+use Rattle.tj_words.specs.CallLaws.CallRuns.{OwnerEvents}
 use Rattle.tj_words.specs.CallLaws.CallRuns.{OwnerReads, SeatsAreQuiet, acts_by, asked_by, AreShown, StepShows, joined}
 use Rattle.tj_words.specs.CallLaws.CallRuns.{live_act, phase_act, swap_events}
 use Rattle.tj_words.specs.Calls.PhaseViews.{MayPutPhase}
@@ -30,7 +31,7 @@ use Rattle.tj_words.proofs.Events.OwnerEvents.{close_shown, hand_shown}
 use Rattle.tj_words.proofs.Events.QuietCells.{mark_shown}
 use Rattle.tj_words.proofs.Events.QuietMoves.{claim_shown, end_shown, record_shown, release_shown, shelve_shown, still}
 use Rattle.tj_words.proofs.Stores.SeatLists.{word_else, words_same}
-use Rattle.tj_words.proofs.Calls.TableRuns.{runs_are_legal, IsStep, GoesTo, goes_on, one_step}
+use Rattle.tj_words.proofs.Calls.TableRuns.{runs_are_legal, IsStep, GoesTo, goes_on, one_step, steps_by}
 use Rattle.tj_words.proofs.Calls.TakenTasks.{call_claims, call_goes_back, call_wakes}
 use Rattle.tj_words.proofs.Calls.TaskCalls.{call_ends, call_moves, call_releases, call_settles, call_shelves}
 use Rattle.tj_words.proofs.Events.WaitClears.{clear_shown, lower_shown}
@@ -50,12 +51,10 @@ use Rattle.tj_words.specs.CallLaws.StepCalls as call
 use Rattle.tj_words.proofs.Stores.TableWords as table_word
 use Rattle.tj_words.proofs.Events.OwnerEvents as owners
 
-module _ {B : Type 0} (program : Bool → B → Program B) (key : Key B) (u w : Ruled program key) where
+module _ {B : Type 0} (program : Bool → B → Program B) (key : Key B) (u : Ruled program key)
+    (t : State (Option (Rec B)) (View B)) where
   abbrev s : State (Option (Rec B)) (View B)
   s = u.now
-
-  abbrev t : State (Option (Rec B)) (View B)
-  t = w.now
 
   abbrev r : Rule program key s
   r = u.rule
@@ -68,7 +67,7 @@ module _ {B : Type 0} (program : Bool → B → Program B) (key : Key B) (u w : 
 
   -- the step is these events, one at most
   abbrev Goes : List Event → Type 0
-  Goes es = IsStep (program key.strict key.root.value) key.cells (under program key u) es (under program key w)
+  Goes es = IsStep (program key.strict key.root.value) key.cells (under program key u) es y
 
   abbrev Quiet : Type 0
   Quiet = Goes []
@@ -449,6 +448,22 @@ module _ {B : Type 0} (program : Bool → B → Program B) (key : Key B) (u w : 
     )
     goes (call.sees_next c) h p ask a = ([], refl, look (next_at c) h a p.0 (as_it_was m.0 m'.0 _ p.1.1 refl refl))
 
+    -- a store of Ended, as a call of its own
+    ends_closed : (c : ℕ) (q : Phase) → q ≡ phase.Ended → Made (phase_at c) → phase_in n ≡ q → PutsPhase c q m m'
+        → MayPutPhase program c q m → act ≡ phase_act q → x.words.own c ≡ None
+    ends_closed c q e = subst (λ z. Made (phase_at c) → phase_in n ≡ z → PutsPhase c z m m' → MayPutPhase program c z m
+        → act ≡ phase_act z → x.words.own c ≡ None) (sym e) (λ h is p may a.
+        (call_ends program key s t r id m m' c n (with_act gives (phase_at c) h a) is
+        (ap (λ (z : SeatMe B). z.0) p) may).0.closed)
+
+    closed : (a : StepCall) (c : ℕ) → a ≡ call.puts_phase c → phase_in st.first ≡ phase.Ended → Made (place_of a)
+        → told_by program key.cells a n st m (word s.words (place_of a)) m' → asked_by program key a st m
+        → acts_by program key a st (word s.words (place_of a)) m act → x.words.own c ≡ None
+    closed a c e q = subst (λ z. Made (place_of z)
+        → told_by program key.cells z n st m (word s.words (place_of z)) m' → asked_by program key z st m
+        → acts_by program key z st (word s.words (place_of z)) m act → x.words.own c ≡ None) (sym e)
+        (λ h p ask a. ends_closed c (phase_in st.first) q h (ap phase_in p.0) p.1 ask.1 a)
+
   pub call_goes : (c : IsAskedCall program key s t)
       → Shows (events_by key.cells c.made.call c.made.operands (word s.words (place_of c.made.call)) c.made.seat.0)
   call_goes c = goes c.made.act c.made.id c.made.number c.made.seat c.made.seat_after c.made.operands c.made.call
@@ -469,29 +484,39 @@ module _ {B : Type 0} (program : Bool → B → Program B) (key : Key B) (u w : 
   pub seats_go : IsSplit s t ⊎ IsIdleMerge s t → Quiet
   seats_go b = ⊎_elim split_goes merge_goes b
 
-  step_goes : (a : IsAskedStep program key s t) → Shows (StepShows program key u w a)
-  step_goes (inl c) = call_goes c
-  step_goes (inr b) = ([], refl, seats_go b)
+  -- a call that stores Ended for task i
+  call_closed : (c : IsAskedCall program key s t) (i : ℕ) → c.made.call ≡ call.puts_phase i
+      → phase_in c.made.operands.first ≡ phase.Ended → x.words.own i ≡ None
+  call_closed c i e q = closed c.made.act c.made.id c.made.number c.made.seat c.made.seat_after c.made.operands
+      c.made.call i e q c.made.makes c.made.told c.asks c.acts
 
 pub calls_are_steps : (B : Type 0) → CallsAreSteps B
-calls_are_steps B program key u w c = let g = call_goes program key u w c in
-    let P = program key.strict key.root.value in
-    (g.0, g.1, one_step P key.cells (under program key u) (under program key w) g.0 g.2)
+calls_are_steps B program key u t c = let g = call_goes program key u t c in
+    (g.0, g.1, steps_by (program key.strict key.root.value) key.cells (under program key u) (contents_of t) g.0 g.2)
 
 pub seats_are_quiet : (B : Type 0) → SeatsAreQuiet B
-seats_are_quiet B program key u w a = one_step (program key.strict key.root.value) key.cells (under program key u)
-    (under program key w) [] (seats_go program key u w a)
+seats_are_quiet B program key u t a = steps_by (program key.strict key.root.value) key.cells (under program key u)
+    (contents_of t) [] (seats_go program key u t a)
+
+pub ended_are_closed : (B : Type 0) → EndedAreClosed B
+ended_are_closed B program key u t c i e q = call_closed program key u t c i e q
 
 module _ {B : Type 0} (program : Bool → B → Program B) (key : Key B) where
   abbrev P : Program B
   P = program key.strict key.root.value
+
+  step_goes : (u w : Ruled program key) (a : IsAskedStep program key u.now w.now)
+      → (es : List Event) × StepShows program key u w a es × IsStep P key.cells (under program key u) es
+      (contents_of w.now)
+  step_goes u w (inl c) = call_goes program key u w.now c
+  step_goes u w (inr b) = ([], refl, seats_go program key u w.now b)
 
   -- what steps show, one after the other
   pub all_go : (u : Ruled program key) (later : List (Ruled program key)) (a : AreAskedMoments program key u later)
       → (shown : List (List Event)) × AreShown program key u later a shown
       × GoesTo P key.cells (under program key u) (under program key (last_moment program key u later)) (joined shown)
   all_go u [] a = ([], tt, (tt, refl))
-  all_go u (w ∷ ws) a = let g = step_goes program key u w a.0 in let o = all_go w ws a.1 in (
+  all_go u (w ∷ ws) a = let g = step_goes u w a.0 in let o = all_go w ws a.1 in (
     g.0 ∷ o.0,
     (g.1, o.1),
     goes_on P key.cells (under program key u) (under program key w)

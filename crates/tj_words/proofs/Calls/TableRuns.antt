@@ -1,6 +1,7 @@
 -- The steps of a table, one after the other, are a run of the core: each is one event or none, and what it leaves is
 -- what the next moment shows.
-use Rattle.tj_words.proofs.Prelude.{Bool, CoreState, DrawsCell, Event, Hand, KeepsCells, List, Parts, Program}
+use Rattle.tj_words.proofs.Prelude.{Bool, Contents, CoreState, DrawsCell, Event, Hand, KeepsCells, Law, List, Parts}
+use Rattle.tj_words.proofs.Prelude.{Program}
 use Rattle.tj_words.proofs.Prelude.{ShowsEvent, ShowsNothing, Under, [], after, after_all, ap, arith, contents_of}
 use Rattle.tj_words.proofs.Prelude.{core_shown, draw_event, drawn_in, first_slots, first_view, first_words, map, min}
 use Rattle.tj_words.proofs.Prelude.{opening, reference_of, refl, root_alone, seats_have, some, state_of, subst, sym}
@@ -24,38 +25,46 @@ after_more s (e ∷ es) fs = after_more (after s e) es fs
 module _ {B : Type 0} (program : Program B) (cells : ℕ) where
   -- a step that draws no cell is one event or none, and one that does is its Make or Fork; makers and numbers of the
   -- cells that were there stay
-  pub record IsStep (u : Under program cells) (es : List Event) (w : Under program cells) : Type 0 where
-    pub keeps : KeepsCells cells u.now w.now
-    pub shows : ((drawn_in cells w.now ≡ drawn_in cells u.now)
-        × (((es ≡ []) × ShowsNothing cells u.law.born u.law.maker u.now w.now)
+  pub record IsStep (u : Under program cells) (es : List Event) (y : Contents B) : Type 0 where
+    pub keeps : KeepsCells cells u.now y
+    pub shows : ((drawn_in cells y ≡ drawn_in cells u.now)
+        × (((es ≡ []) × ShowsNothing cells u.law.born u.law.maker u.now y)
         ⊎ ((e : Event) × (es ≡ e ∷ [])
-        × ShowsEvent cells u.law.born u.law.maker u.now w.now e u.law.born u.law.maker)))
-        ⊎ ((id : ℕ) × (t : ℕ) × (h : Hand) × (es ≡ draw_event h.sort t ∷ []) × DrawsCell cells u.now w.now id t h)
+        × ShowsEvent cells u.law.born u.law.maker u.now y e u.law.born u.law.maker)))
+        ⊎ ((id : ℕ) × (t : ℕ) × (h : Hand) × (es ≡ draw_event h.sort t ∷ []) × DrawsCell cells u.now y id t h)
 
   -- events that are allowed from what is shown of u on, after which that of w is shown
   abbrev pub GoesTo : Under program cells → Under program cells → List Event → Type 0
   GoesTo u w es = AreAllowed cells (state_of program cells u) es
       × (state_of program cells w ≡ after_all (state_of program cells u) es)
 
-  pub one_step : (u w : Under program cells) (es : List Event) → IsStep u es w → GoesTo u w es
-  one_step u w es step = ⊎_elim
-      (λ (s : (drawn_in cells w.now ≡ drawn_in cells u.now)
-      × (((es ≡ []) × ShowsNothing cells u.law.born u.law.maker u.now w.now)
+  -- events that are allowed from what is shown of u on, after which that of y is shown, if it is under the law
+  abbrev pub GoesOver : Under program cells → Contents B → List Event → Type 0
+  GoesOver u y es = AreAllowed cells (state_of program cells u) es
+      × ((r : Law program cells y) → core_shown cells r.born r.maker y ≡ after_all (state_of program cells u) es)
+
+  pub steps_by : (u : Under program cells) (y : Contents B) (es : List Event) → IsStep u es y → GoesOver u y es
+  steps_by u y es step = ⊎_elim
+      (λ (s : (drawn_in cells y ≡ drawn_in cells u.now)
+      × (((es ≡ []) × ShowsNothing cells u.law.born u.law.maker u.now y)
       ⊎ ((e : Event) × (es ≡ e ∷ [])
-      × ShowsEvent cells u.law.born u.law.maker u.now w.now e u.law.born u.law.maker))).
-      let same = s.0 in let next = chained u.law w.law step.keeps (omega arith) same in ⊎_elim
-      (λ (q : (es ≡ []) × ShowsNothing cells u.law.born u.law.maker u.now w.now).
-      subst (GoesTo u w) (sym q.0) (tt, next ∙ q.1))
+      × ShowsEvent cells u.law.born u.law.maker u.now y e u.law.born u.law.maker))).
+      let same = s.0 in
+      let next = λ (r : Law program cells y). chained u.law r step.keeps (omega (arith, same)) same in ⊎_elim
+      (λ (q : (es ≡ []) × ShowsNothing cells u.law.born u.law.maker u.now y).
+      subst (GoesOver u y) (sym q.0) (tt, λ r. next r ∙ q.1))
       (λ (q : (e : Event) × (es ≡ e ∷ [])
-      × ShowsEvent cells u.law.born u.law.maker u.now w.now e u.law.born u.law.maker).
-      subst (GoesTo u w) (sym q.1) ((q.2.allowed, tt), next ∙ q.2.shown)) s.1)
-      (λ (d : (id : ℕ) × (t : ℕ) × (h : Hand) × (es ≡ draw_event h.sort t ∷ [])
-      × DrawsCell cells u.now w.now id t h).
-      let shows = draw_shown u.law w.now d.0 d.1 d.2 d.4 in let more = ap (λ (z : Parts B). z.drawn) d.4.parts in
-      subst (GoesTo u w) (sym d.3) (
+      × ShowsEvent cells u.law.born u.law.maker u.now y e u.law.born u.law.maker).
+      subst (GoesOver u y) (sym q.1) ((q.2.allowed, tt), λ r. next r ∙ q.2.shown)) s.1)
+      (λ (d : (id : ℕ) × (t : ℕ) × (h : Hand) × (es ≡ draw_event h.sort t ∷ []) × DrawsCell cells u.now y id t h).
+      let shows = draw_shown u.law y d.0 d.1 d.2 d.4 in let more = ap (λ (z : Parts B). z.drawn) d.4.parts in
+      subst (GoesOver u y) (sym d.3) (
         (shows.allowed, tt),
-        drawn_chained u.law w.law step.keeps (omega arith) d.0 d.1 d.2 d.4 ∙ shows.shown,
+        λ r. drawn_chained u.law r step.keeps (omega (arith, more)) d.0 d.1 d.2 d.4 ∙ shows.shown,
       )) step.shows
+
+  pub one_step : (u w : Under program cells) (es : List Event) → IsStep u es w.now → GoesTo u w es
+  one_step u w es step = let g = steps_by u w.now es step in (g.0, g.1 w.law)
 
   -- events and more events
   pub goes_on : (u w v : Under program cells) (es fs : List Event) → GoesTo u w es → GoesTo w v fs

@@ -26,8 +26,9 @@ module _ {B : Type 0} (program : Bool → B → Program B) (key : Key B) (u w : 
 
   -- the call is that event
   publish_step : GoesTo P key.cells (under program key u) (under program key w) (published ∷ [])
-  publish_step = let h = calls_are_steps B program key u w e.publish in
-      subst (GoesTo P key.cells (under program key u) (under program key w)) (its_events h.0 h.1) h.2
+  publish_step = let h = calls_are_steps B program key u w.now e.publish in
+      subst (GoesTo P key.cells (under program key u) (under program key w)) (its_events h.0 h.1)
+      (h.2.0, h.2.1 w.rule.law)
     where
       by : (a : StepCall) → a ≡ call.puts_phase t → (es : List Event)
           → events_by key.cells a e.publish.made.operands (word u.now.words (place_of a)) e.publish.made.seat.0 es

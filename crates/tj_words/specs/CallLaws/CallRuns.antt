@@ -14,7 +14,8 @@ use Rattle.tj_words.specs.declared.phase.Phase.{Phase}
 use Rattle.tj_words.specs.declared.record.Rec.{Rec}
 use Rattle.tj_words.specs.declared.table.Key.{Key}
 use Rattle.tj_words.specs.declared.view.View.{View}
-use Rattle.tj_words.specs.LawParts.Contents.{contents_of}
+use Rattle.tj_words.specs.Law.{Law}
+use Rattle.tj_words.specs.LawParts.Contents.{Contents, contents_of, core_shown}
 use Rattle.tj_words.specs.Calls.DrawViews.{MayDraw, MayGive}
 use Rattle.tj_words.specs.LawParts.FirstState.{first_slots, first_view, first_words}
 use Rattle.tj_words.specs.Words.Lists.{cell}
@@ -172,18 +173,35 @@ GoesBy program key u es w = let P = program key.strict key.root.value in
     AreAllowed key.cells (state_of P key.cells (under program key u)) es
     × (state_of P key.cells (under program key w) ≡ after_all (state_of P key.cells (under program key u)) es)
 
+-- a step that leaves these contents is these events: they are allowed in the state that is shown before, and where what
+-- it leaves is under the law, whatever that has beside the words, the state after them is shown then
+abbrev pub StepsBy : {B : Type 0} (program : Bool → B → Program B) (key : Key B) → Ruled program key → List Event
+    → Contents B → Type 0
+StepsBy program key u es y = let P = program key.strict key.root.value in
+    AreAllowed key.cells (state_of P key.cells (under program key u)) es
+    × ((r : Law P key.cells y)
+    → core_shown key.cells r.born r.maker y ≡ after_all (state_of P key.cells (under program key u)) es)
+
 -- each call is the event that is named here, or none
 abbrev pub CallsAreSteps : Type 0 → Type 0
-CallsAreSteps B = (program : Bool → B → Program B) (key : Key B) (u w : Ruled program key)
-    (c : IsAskedCall program key u.now w.now)
+CallsAreSteps B = (program : Bool → B → Program B) (key : Key B) (u : Ruled program key)
+    (t : State (Option (Rec B)) (View B)) (c : IsAskedCall program key u.now t)
     → (es : List Event)
     × events_by key.cells c.made.call c.made.operands (word u.now.words (place_of c.made.call)) c.made.seat.0 es
-    × GoesBy program key u es w
+    × StepsBy program key u es (contents_of t)
 
 -- a split and a merge are none
 abbrev pub SeatsAreQuiet : Type 0 → Type 0
-SeatsAreQuiet B = (program : Bool → B → Program B) (key : Key B) (u w : Ruled program key)
-    → IsSplit u.now w.now ⊎ IsIdleMerge u.now w.now → GoesBy program key u [] w
+SeatsAreQuiet B = (program : Bool → B → Program B) (key : Key B) (u : Ruled program key)
+    (t : State (Option (Rec B)) (View B)) → IsSplit u.now t ⊎ IsIdleMerge u.now t
+    → StepsBy program key u [] (contents_of t)
+
+-- who stores Ended for a task finds that nobody owns its result
+abbrev pub EndedAreClosed : Type 0 → Type 0
+EndedAreClosed B = (program : Bool → B → Program B) (key : Key B) (u : Ruled program key)
+    (t : State (Option (Rec B)) (View B)) (c : IsAskedCall program key u.now t) (i : ℕ)
+    → c.made.call ≡ call.puts_phase i → phase_in c.made.operands.first ≡ phase.Ended
+    → (contents_of u.now).words.own i ≡ None
 
 -- the lists as one
 abbrev pub joined : List (List Event) → List Event

@@ -18,7 +18,10 @@ abbrev pub OneStateIsShown : Type 0 → Type 0
 OneStateIsShown B = (m : Moment B) (r : Law m.program m.cells m.now)
     → core_shown m.cells r.born r.maker m.now ≡ core_shown m.cells m.law.born m.law.maker m.now
 
--- an exchange of what lies in a slot that a seat has shows nothing
+-- an exchange of what lies in a slot that a seat has shows nothing: the state is as it was, also by whatever else the
+-- law has beside the words then
 abbrev pub SlotStepsShow : Type 0 → Type 0
 SlotStepsShow B = (m : Moment B) (y : Contents B) → LoadsOnly m.now y
-    → core_shown m.cells m.law.born m.law.maker y ≡ core_shown m.cells m.law.born m.law.maker m.now
+    → (core_shown m.cells m.law.born m.law.maker y ≡ core_shown m.cells m.law.born m.law.maker m.now)
+    × ((r : Law m.program m.cells y)
+    → core_shown m.cells r.born r.maker y ≡ core_shown m.cells m.law.born m.law.maker m.now)

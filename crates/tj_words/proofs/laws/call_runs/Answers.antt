@@ -1,11 +1,15 @@
-use Rattle.tj_words.proofs.Calls.CallRuns.{all_go, call_runs_are_legal, calls_are_steps, seats_are_quiet}
+use Rattle.tj_words.proofs.Calls.CallRuns.{all_go, call_runs_are_legal, calls_are_steps, ended_are_closed}
+use Rattle.tj_words.proofs.Calls.CallRuns.{seats_are_quiet}
 use Rattle.tj_words.proofs.laws.call_runs.Goals as goal
 
 pub returns-clause-calls : goal.returns-clause-calls
-returns-clause-calls g c = λ program key u w a. calls_are_steps _ program key u w a
+returns-clause-calls g c = λ program key u t a. calls_are_steps _ program key u t a
 
 pub returns-clause-seats : goal.returns-clause-seats
-returns-clause-seats g c = λ program key u w a. seats_are_quiet _ program key u w a
+returns-clause-seats g c = λ program key u t a. seats_are_quiet _ program key u t a
+
+pub returns-clause-ended : goal.returns-clause-ended
+returns-clause-ended g c = λ program key u t a i e q. ended_are_closed _ program key u t a i e q
 
 pub returns-clause-runs : goal.returns-clause-runs
 returns-clause-runs g c = λ program key u later a. all_go program key u later a
