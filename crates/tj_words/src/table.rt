@@ -78,14 +78,14 @@ impl<B: Body> Laid<B> {
     {
         start_meets_facts();
         points_in_rounds::<B>();
+        let room = Vec::with_capacity(alloc, cells as usize)?;
+        let words = words_at_first(alloc, cells)?;
         let key = Key {
             cells,
             root: Snapshot::of(&root),
             strict,
         };
         let about = Snapshot::of(&root);
-        let room = Vec::with_capacity(alloc, cells as usize)?;
-        let words = words_at_first(alloc, cells)?;
         let slots = slots_at_first(alloc, cells, root)?;
         match Table::new(alloc, words.as_slice(), slots, &key) {
             Ok((table, seat)) => Ok((
