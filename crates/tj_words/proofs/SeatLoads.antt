@@ -14,4 +14,3 @@ pub mod WalkLoads
 pub mod KnowsMoreOn
 pub mod LaterSeats
 pub mod NodeLooks
-pub mod TurnedViews

@@ -1,7 +1,7 @@
 -- Chains and cells: nobody waits for a cell that isn't there, and a chain has no more tasks than there are cells.
-use Rattle.tj_words.proofs.Prelude.{Chains, Custody, Found, Hand, Head, IsIn, IsParkedOn, IsThere, List, NamesCells}
-use Rattle.tj_words.proofs.Prelude.{Option, Phase, Push, Rec, Rest, Shut, Unborn, [], arith, cell, dec_le, dite}
-use Rattle.tj_words.proofs.Prelude.{head_of, head_word, inl, length, refl, subst, sym, ℕ, ◌<◌, ◌∷◌, ◌≡◌, ◌≢◌, ◌≤◌}
+use Rattle.tj_words.proofs.Prelude.{Chains, Found, Head, IsIn, IsParkedOn, List, Option, Phase, Push, Rest, Shut}
+use Rattle.tj_words.proofs.Prelude.{Unborn, [], arith, dec_le, dite, head_of, head_word, inl, length, refl, subst, sym}
+use Rattle.tj_words.proofs.Prelude.{ℕ, ◌<◌, ◌∷◌, ◌≡◌, ◌≢◌, ◌≤◌}
 use Rattle.tj_words.proofs.Waiters.ChainFacts.{unborn_free, line_fits}
 use Rattle.tj_words.specs.declared.offsets.Once.TheVariants as once
 use Rattle.tj_words.specs.declared.phase.Walk.TheVariants as walk
@@ -31,9 +31,3 @@ module _ {tag : ℕ → ℕ} {head next : ℕ → Head} {phase : ℕ → Phase} 
         by : (l : List ℕ) → ((t : ℕ) → IsIn t l → t < cells) → head_word (head_of l) ≤ cells
         by [] small = omega arith
         by (t ∷ ts) small = let h = small t (inl refl) in omega arith
-
-  module _ {B : Type 0} {drawn : ℕ} {hand : ℕ → Option Hand} {own : ℕ → Option ℕ} {home : ℕ → Option (Rec B)}
-      {tasks : List (List (Custody B))} {known : List (List ℕ)}
-      (names : NamesCells drawn hand own phase home tasks known) (p : ℕ) (away : ¬ IsThere drawn hand p) where
-    nobody_waits : (t : ℕ) → ¬ IsParkedOn (phase t) p
-    nobody_waits t w = away (names.waits t (cell p) w.0 walk.Parked w.1)

@@ -76,21 +76,13 @@ module _ {cells live : ℕ} {phase : ℕ → Phase} {tokens : List ℕ} {rested 
       )
 
 -- what a running or walking task counts
-running_part : (d : Does) → DoesRun d → live_part (phase_of d) ≡ 1
-running_part does.Unborn h = absurd h
-running_part does.Fresh h = refl
-running_part does.Running h = refl
-running_part does.Raised h = refl
-running_part (does.Walking c way w) h = absurd h
-running_part (does.Alarmed c way w) h = absurd h
-
-walking_part : (d : Does) → DoesWalk d → live_part (phase_of d) ≡ 1
-walking_part does.Unborn h = absurd h
-walking_part does.Fresh h = absurd h
-walking_part does.Running h = absurd h
-walking_part does.Raised h = absurd h
-walking_part (does.Walking c way w) h = refl
-walking_part (does.Alarmed c way w) h = absurd h
+live_does : (d : Does) → DoesRun d ⊎ DoesWalk d → live_part (phase_of d) ≡ 1
+live_does does.Unborn h = ⊎_elim (λ e. absurd e) (λ e. absurd e) h
+live_does does.Fresh h = refl
+live_does does.Running h = refl
+live_does does.Raised h = refl
+live_does (does.Walking c way w) h = refl
+live_does (does.Alarmed c way w) h = ⊎_elim (λ e. absurd e) (λ e. absurd e) h
 
 module _ {B : Type 0} where
   -- what a seat holds stands in these phases
@@ -114,9 +106,9 @@ module _ {B : Type 0} where
       (λ (t : 0 < v.tokens). let s = total_some tokens id v.tokens at in (omega arith))
       (λ (w : Holds DoesRun v ⊎ Holds DoesWalk v). ⊎_elim
       (λ (r : Holds DoesRun v). let f = h r.0 r.1 r.2 in let s = live_some phase r.0 cells f.0 in
-      let e : live_part (phase r.0) ≡ 1 = ap live_part f.1 ∙ running_part r.1.does r.3 in (omega arith))
+      let e : live_part (phase r.0) ≡ 1 = ap live_part f.1 ∙ live_does r.1.does (inl r.3) in (omega arith))
       (λ (r : Holds DoesWalk v). let f = h r.0 r.1 r.2 in let s = live_some phase r.0 cells f.0 in
-      let e : live_part (phase r.0) ≡ 1 = ap live_part f.1 ∙ walking_part r.1.does r.3 in (omega arith)) w) l
+      let e : live_part (phase r.0) ≡ 1 = ap live_part f.1 ∙ live_does r.1.does (inr r.3) in (omega arith)) w) l
 
   pub backed_lively : (v : View B) → IsBacked v → IsLively v
   backed_lively v b = ⊎_elim (λ (t : 0 < v.tokens). inl t) (λ (r : Holds DoesRun v). inr (inl r)) b
@@ -144,17 +136,6 @@ module _ {B : Type 0} where
     tags = λ t. absurd (d t);
     alarms = a;
   }
-
-  -- a step after which the seat holds what it held
-  module _ (v w : View B) (same_tokens : w.tokens ≡ v.tokens) (same_tasks : w.tasks ≡ v.tasks) where
-    holds_same : (F : Does → Type 0) → Holds F v → Holds F w
-    holds_same F h = (h.0, h.1, ap (λ l. held_in l h.0) same_tasks ∙ h.2, h.3)
-
-    holds_back : (F : Does → Type 0) → Holds F w → Holds F v
-    holds_back F h = (h.0, h.1, ap (λ l. held_in l h.0) (sym same_tasks) ∙ h.2, h.3)
-
-    token_same : 0 < v.tokens → 0 < w.tokens
-    token_same h = subst (λ n. 0 < n) (sym same_tokens) h
 
   -- what is so of alarmed tasks, where one task's entry changes to one that hasn't alarmed
   pub alarms_else : (v w : View B) (t : ℕ) → w.tokens ≡ v.tokens
