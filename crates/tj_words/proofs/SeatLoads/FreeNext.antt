@@ -1,12 +1,11 @@
 -- What the moment clause leaves open: NEXT of a task that isn't parked may be any number, whatever the seat's view is.
-use Rattle.tj_words.proofs.Prelude.{Chains, IsParkedOn, Law, Rule, arith, contents_of, head_in, length, next_at, put}
-use Rattle.tj_words.proofs.Prelude.{seats_have, set, set_again, subst, sym, tag_in, was_so, words_say, ℕ, ◌<◌, ◌∙◌, ◌≡◌}
+use Rattle.tj_words.proofs.Prelude.{Chains, IsParkedOn, Rule, arith, contents_of, head_in, length, next_at, put}
+use Rattle.tj_words.proofs.Prelude.{seats_have, set, set_again, subst, tag_in, was_so, words_say, ℕ, ◌<◌, ◌∙◌, ◌≡◌}
 use Rattle.tj_words.specs.SeatViews.MomentLaws.{NextIsFree}
 use Rattle.tj_words.proofs.Stores.LawChanges.{law_chains}
-use Rattle.tj_words.proofs.Stores.SeatContents.{seats_same, set_seats}
+use Rattle.tj_words.proofs.Stores.SeatContents.{seats_same}
 use Rattle.tj_words.proofs.Stores.SeatLists.{word_here}
-use Rattle.tj_words.proofs.Stores.StoredWords.{say_next}
-use Rattle.tj_words.proofs.Stores.StoreSteps.{Stores, may_store, put_else, rule_stores}
+use Rattle.tj_words.proofs.Stores.StoreSteps.{Stores, put_else, rule_stores, store_word}
 use Rattle.tj_words.proofs.Stores.TableWords.{Next}
 use Rattle.tj_words.proofs.Waiters.ChainHeads.{linked_else}
 
@@ -54,20 +53,12 @@ module _ {B : Type 0} where
       }
 
       stores : Stores program key s id (next_at t) n v
-      stores = record {
-        inside = inside;
-        may = may_store key.cells (Next t) n small;
-        seat = r.seats id v at;
-        law = subst (λ z. Law (program key.strict key.root.value) key.cells
-            (record { words = z; slots = s.homes; seats = set_seats (seats_have s.views) id v }))
-            (sym (say_next s.words n t inside))
-            (subst (λ z. Law (program key.strict key.root.value) key.cells (record {
-              words = record (words_say s.words) { next = put (words_say s.words).next t (head_in n) };
-              slots = s.homes;
-              seats = z;
-            })) (sym (seats_same s.views id v at))
-            (law_chains r.law (words_say s.words).head (put (words_say s.words).next t (head_in n))
-            (seats_have s.views).pushes
-            (seats_have s.views).shuts (seats_have s.views).rests (seats_have s.views).closed (seats_have s.views).found
-            chains));
-      }
+      stores = store_word program key s id (Next t) n v inside small (r.seats id v at) _
+          (λ j. record {
+            words = record (words_say s.words) { next = put (words_say s.words).next t (head_in n) };
+            slots = s.homes;
+            seats = seats_same s.views id v at j;
+          })
+          (law_chains r.law (words_say s.words).head (put (words_say s.words).next t (head_in n))
+          (seats_have s.views).pushes (seats_have s.views).shuts (seats_have s.views).rests (seats_have s.views).closed
+          (seats_have s.views).found chains)

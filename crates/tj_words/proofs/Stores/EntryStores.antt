@@ -9,7 +9,7 @@ use Rattle.tj_words.proofs.Prelude.{◌∷◌, ◌≡◌, ◌≢◌, ◌≤◌}
 use Rattle.tj_words.specs.Calls.EntryViews.{MayPutBits, MayPutTag, wrote_bits, wrote_tag, bits_store, tag_store}
 use Rattle.tj_words.proofs.Stores.SeatContents.{seats_same}
 use Rattle.tj_words.proofs.Waiters.ChainPhases.{chains_tag}
-use Rattle.tj_words.proofs.Waiters.HeadSteps.{tag_some}
+use Rattle.tj_words.proofs.SeatLoads.KnowLoads.{tag_some}
 use Rattle.tj_words.proofs.Stores.LawChanges.{law_once}
 use Rattle.tj_words.proofs.Meaning.LawMeant.{ground_of, known_of, law_meant}
 use Rattle.tj_words.proofs.Meaning.MeaningSteps.{tag_meant}

@@ -1,11 +1,11 @@
 -- Stores: what may be stored into a word, and a step that stores a word and changes the view of its seat.
 use Rattle.tj_words.proofs.Prelude.{Allows, Bool, Codes, Contents, IsPhaseWord, IsSeat, Key, Law, List, Once, Option}
-use Rattle.tj_words.proofs.Prelude.{Program, Rec, Rule, SeatMe, State, View, ap, cond, dite, eq-eqb, get_elem?, keeps}
-use Rattle.tj_words.proofs.Prelude.{length, length-set, ne_eqb, put, seats_have, set, shut_word, some, subst, sym, word}
-use Rattle.tj_words.proofs.Prelude.{words_say, ℕ, ℕ_discrete, ◌<◌, ◌^◌, ◌∙◌, ◌≡◌, ◌≢◌, ◌≤◌, ◌⊎◌}
+use Rattle.tj_words.proofs.Prelude.{Program, Rec, Rule, SeatMe, Slots, State, View, ap, cond, dite, eq-eqb, get_elem?}
+use Rattle.tj_words.proofs.Prelude.{keeps, length, length-set, ne_eqb, put, refl, seats_have, set, shut_word, some}
+use Rattle.tj_words.proofs.Prelude.{subst, sym, word, words_say, ℕ, ℕ_discrete, ◌<◌, ◌^◌, ◌∙◌, ◌≡◌, ◌≢◌, ◌≤◌, ◌⊎◌}
 use Rattle.tj_words.proofs.Stores.SeatLists.{each_set, word_else, word_here}
 use Rattle.tj_words.proofs.Stores.SeatContents.{set_seats, seats_set}
-use Rattle.tj_words.proofs.Stores.StepContents.{stored}
+use Rattle.tj_words.proofs.Stores.StepContents.{stored, stored_with}
 use Rattle.tj_words.proofs.Stores.StoredWords.{say}
 use Rattle.tj_words.proofs.Stores.TableWords.{TableWord, Stop, Own, Phase, Written, Head, Next, index, same_word_at}
 use Rattle.tj_words.specs.declared.offsets.Once.TheVariants as once
@@ -72,30 +72,41 @@ codes_store cells ws i n l m k = record {
     holds w h = word_keeps (MayHold cells w) ws i n (index w) l (m w) h
 
 module _ {B : Type 0} (program : Bool → B → Program B) (key : Key B) where
-  -- what a step owes that stores n at i and leaves its seat with the view w
-  pub record Stores (s : State (Option (Rec B)) (View B)) (id i n : ℕ) (w : View B) : Type 0 where
-    pub inside : i < length s.words
-    pub may : MayStore key.cells i n
-    pub seat : IsSeat key w
-    pub law : Law (program key.strict key.root.value) key.cells
-        record { words = words_say (set s.words i n); slots = s.homes; seats = set_seats (seats_have s.views) id w }
+  -- what a step owes that stores n at i, leaves the slots like this, and its seat with the view w
+  pub record StoresWith (s : State (Option (Rec B)) (View B)) (slots : Slots B) (id i n : ℕ) (w : View B) : Type 0
+    where
+      pub inside : i < length s.words
+      pub as_many : length slots ≡ length s.homes
+      pub may : MayStore key.cells i n
+      pub seat : IsSeat key w
+      pub law : Law (program key.strict key.root.value) key.cells
+          record { words = words_say (set s.words i n); slots = slots; seats = set_seats (seats_have s.views) id w }
 
   -- such a step keeps the rule
-  pub rule_stores : (s : State (Option (Rec B)) (View B)) (r : Rule program key s) (id i n : ℕ) (w : View B)
-      → Stores s id i n w
-      → Rule program key record { words = set s.words i n; homes = s.homes; views = set s.views id w }
-  rule_stores s r id i n w h = record {
+  pub rule_stores_with : (s : State (Option (Rec B)) (View B)) (r : Rule program key s) (slots : Slots B) (id i n : ℕ)
+      (w : View B)
+      → StoresWith s slots id i n w
+      → Rule program key record { words = set s.words i n; homes = slots; views = set s.views id w }
+  rule_stores_with s r slots id i n w h = record {
     some_cells = r.some_cells;
-    few_cells = r.few_cells;
     rooted = r.rooted;
+    few_cells = r.few_cells;
     all_words = length-set s.words i n ∙ r.all_words;
-    all_slots = r.all_slots;
+    all_slots = h.as_many ∙ r.all_slots;
     codes = codes_store key.cells s.words i n h.inside h.may r.codes;
     seats = each_set _ s.views id w r.seats h.seat;
     law = subst (λ z. Law (program key.strict key.root.value) key.cells
-        record { words = words_say (set s.words i n); slots = s.homes; seats = z }) (sym (seats_set s.views id w))
-        h.law;
+        record { words = words_say (set s.words i n); slots = slots; seats = z }) (sym (seats_set s.views id w)) h.law;
   }
+
+  -- what a step owes that leaves the slots as they are
+  abbrev pub Stores : State (Option (Rec B)) (View B) → ℕ → ℕ → ℕ → View B → Type 0
+  Stores s id i n w = StoresWith s s.homes id i n w
+
+  pub rule_stores : (s : State (Option (Rec B)) (View B)) (r : Rule program key s) (id i n : ℕ) (w : View B)
+      → Stores s id i n w
+      → Rule program key record { words = set s.words i n; homes = s.homes; views = set s.views id w }
+  rule_stores s r id i n w h = rule_stores_with s r s.homes id i n w h
 
   -- a step that changes the word i by f
   pub step_allowed : (slots id : ℕ) (m : SeatMe B) (i : ℕ) (f : ℕ → ℕ) (then : ℕ → SeatMe B → Type 0)
@@ -106,15 +117,22 @@ module _ {B : Type 0} (program : Bool → B → Program B) (key : Key B) where
       (t.0, keeps, tt, rule_stores s r id i (f (word s.words i)) t.0 t.1, t.2)
 
   -- a store of n into the word w, by the law over contents to which there is a path from those that it leaves
+  pub store_word_with : (s : State (Option (Rec B)) (View B)) (id : ℕ) (w : TableWord) (n : ℕ) (slots : Slots B)
+      (v : View B) → index w < length s.words → length slots ≡ length s.homes → MayHold key.cells w n → IsSeat key v
+      → (y : Contents B) → stored_with s id w n slots v ≡ y → Law (program key.strict key.root.value) key.cells y
+      → StoresWith s slots id (index w) n v
+  store_word_with s id w n slots v l many m seat y path law = record {
+    inside = l;
+    as_many = many;
+    may = may_store key.cells w n m;
+    seat = seat;
+    law = subst (λ z. Law (program key.strict key.root.value) key.cells
+        record { words = z; slots = slots; seats = set_seats (seats_have s.views) id v })
+        (sym (say s.words n w l)) (subst (Law (program key.strict key.root.value) key.cells) (sym path) law);
+  }
+
   pub store_word : (s : State (Option (Rec B)) (View B)) (id : ℕ) (w : TableWord) (n : ℕ) (v : View B)
       → index w < length s.words → MayHold key.cells w n → IsSeat key v
       → (y : Contents B) → stored s id w n v ≡ y → Law (program key.strict key.root.value) key.cells y
       → Stores s id (index w) n v
-  store_word s id w n v l m seat y path law = record {
-    inside = l;
-    may = may_store key.cells w n m;
-    seat = seat;
-    law = subst (λ z. Law (program key.strict key.root.value) key.cells
-        record { words = z; slots = s.homes; seats = set_seats (seats_have s.views) id v })
-        (sym (say s.words n w l)) (subst (Law (program key.strict key.root.value) key.cells) (sym path) law);
-  }
+  store_word s id w n v l m seat y path law = store_word_with s id w n s.homes v l refl m seat y path law

@@ -1,16 +1,16 @@
 -- No lost wake is kept by the steps on HEAD and NEXT.
-use Rattle.tj_words.proofs.Prelude.{All, Any, AreLinked, Bool, Chains, Found, Head, IsIn, IsParkedOn, IsPush, IsRest}
-use Rattle.tj_words.proofs.Prelude.{List, None, OfSeat, Option, Phase, Push, Rest, Shut, Some, Task, [], ap, cell, cond}
-use Rattle.tj_words.proofs.Prelude.{dite, eq-eqb, false, get_elem?, head_of, inl, inr, nat_eq, ne_eqb, parked_phase}
-use Rattle.tj_words.proofs.Prelude.{put, refl, rest_of, set, some, subst, sym, true, with_next, without, without_push}
-use Rattle.tj_words.proofs.Prelude.{ℕ, ℕ_discrete, ⊎_elim, ◌++◌, ◌∙◌, ◌∷◌, ◌≡◌, ◌≢◌, ◌⊎◌}
+use Rattle.tj_words.proofs.Prelude.{All, Any, AreLinked, Bool, Chains, Found, HasGrown, Head, IsIn, IsParkedOn, IsPush}
+use Rattle.tj_words.proofs.Prelude.{IsRest, List, None, OfSeat, Option, Phase, Push, Rest, Shut, Some, Task, [], ap}
+use Rattle.tj_words.proofs.Prelude.{at_put, cell, cond, dite, eq-eqb, false, get_elem?, head_of, inl, inr, nat_eq}
+use Rattle.tj_words.proofs.Prelude.{ne_eqb, parked_phase, put, refl, rest_of, set, some, subst, sym, true, with_next}
+use Rattle.tj_words.proofs.Prelude.{without, without_push, ℕ, ℕ_discrete, ⊎_elim, ◌∙◌, ◌∷◌, ◌≡◌, ◌≢◌, ◌⊎◌}
 use Rattle.tj_words.proofs.Stores.SeatLists.{each_set, each_else, of_seat_here, of_seat_set}
 use Rattle.tj_words.proofs.Stores.StoreSteps.{put_here, put_else}
 use Rattle.tj_words.proofs.SeatLoads.KnowLoads.{all_cons}
 use Rattle.tj_words.proofs.Waiters.ChainSeats.{chains_seats}
-
-none_some : {P : Type 0} {A : Type 0} {a : A} {o : Option A} → o ≡ None → o ≡ Some a → P
-none_some a b = let e = sym a ∙ b in absurd (cc)
+use Rattle.tj_words.proofs.Waiters.ChainLists.{any_without_push, in_without_push, no_some, none_none, rest_is}
+use Rattle.tj_words.proofs.Waiters.ChainLists.{rest_some}
+use Rattle.tj_words.proofs.Holders.SeatTasks.{at_two}
 
 -- a push of the list after NEXT of t was stored is one of before
 pub in_with_next : (t : ℕ) (h : Head) (l : List Push) (x : Push) → IsIn x (with_next t h l)
@@ -41,30 +41,6 @@ any_with_next t h u (e ∷ es) a = ⊎_elim
     task true = refl
     task false = refl
 
--- a push of the list without that of t is one of before, and not of t
-pub in_without_push : (t : ℕ) (l : List Push) (x : Push) → IsIn x (without_push t l) → IsIn x l × (x.task ≢ t)
-in_without_push t [] x i = absurd i
-in_without_push t (e ∷ es) x i = dite (ℕ_discrete e.task t)
-    (λ z. let r = in_without_push t es x
-    (subst (λ b. IsIn x (cond b (without_push t es) (e ∷ without_push t es))) (eq-eqb e.task t z) i) in (inr r.0, r.1))
-    (λ n. ⊎_elim (λ (q : x ≡ e). (inl q, (λ z. n (ap (λ y. y.task) (sym q) ∙ z))))
-    (λ q. let r = in_without_push t es x q in (inr r.0, r.1))
-    (subst (λ b. IsIn x (cond b (without_push t es) (e ∷ without_push t es))) (ne_eqb e.task t n) i))
-
--- a task other than t keeps its push
-pub any_without_push : (t u : ℕ) (l : List Push) → u ≢ t → Any (λ (e : Push). e.task ≡ u) l
-    → Any (λ (e : Push). e.task ≡ u) (without_push t l)
-any_without_push t u [] n a = a
-any_without_push t u (e ∷ es) n a = dite (ℕ_discrete e.task t)
-    (λ z. subst (λ b. Any (λ (e : Push). e.task ≡ u) (cond b (without_push t es) (e ∷ without_push t es)))
-    (sym (eq-eqb e.task t z)) (any_without_push t u es n (later z)))
-    (λ z. subst (λ b. Any (λ (e : Push). e.task ≡ u) (cond b (without_push t es) (e ∷ without_push t es)))
-    (sym (ne_eqb e.task t z)) (⊎_elim (λ (q : a.0 ≡ e). (a.0, inl q, a.2))
-    (λ q. let r = any_without_push t u es n (a.0, q, a.2) in (r.0, inr r.1, r.2)) a.1))
-  where
-    later : e.task ≡ t → Any (λ (e : Push). e.task ≡ u) es
-    later z = ⊎_elim (λ (q : a.0 ≡ e). absurd (n (sym a.2 ∙ (ap (λ y. y.task) q ∙ z)))) (λ q. (a.0, q, a.2)) a.1
-
 -- a cell other than p stays among those that a seat is to shut
 pub in_without : (p q : ℕ) (l : List ℕ) → q ≢ p → IsIn q l → IsIn q (without p l)
 in_without p q [] n i = i
@@ -85,8 +61,8 @@ pub one_cell : (phase : Phase) (p q : ℕ) → IsParkedOn phase p → IsParkedOn
 one_cell phase p q a b = let e : parked_phase p a.0 ≡ parked_phase q b.0 = sym a.1 ∙ b.1 in
     let f : cell p ≡ cell q = cc in ap (λ z. z.0) f
 
-module _ (tag : ℕ → ℕ) (head next : ℕ → Head) (phase : ℕ → Phase) (pl : List (List Push)) (sl : List (List ℕ))
-    (rl : List (Option Rest)) (cl : List (List ℕ)) (fl : List (List Found))
+module _ {tag : ℕ → ℕ} {head next : ℕ → Head} {phase : ℕ → Phase} {pl : List (List Push)} {sl : List (List ℕ)}
+    {rl : List (Option Rest)} {cl : List (List ℕ)} {fl : List (List Found)}
     (r : Chains tag head next phase pl sl rl cl fl) where
   -- what a seat has to push is none of another seat's
   not_mine : (t id j : ℕ) (x : Push) → r.pusher t ≡ Some id → r.pusher x.task ≡ Some j → j ≢ id → x.task ≢ t
@@ -103,7 +79,7 @@ module _ (tag : ℕ → ℕ) (head next : ℕ → Head) (phase : ℕ → Phase) 
         shutter = r.shutter;
         heads = r.heads;
         linked = λ p. linked_else next (put next t h) (r.line p)
-            (λ u i. put_else next t u h (λ z. none_some (r.parked p u i).1 (ap r.pusher z ∙ mine))) (r.linked p);
+            (λ u i. put_else next t u h (λ z. no_some (r.parked p u i).1 (ap r.pusher z ∙ mine))) (r.linked p);
         parked = r.parked;
         placed = r.placed;
         tagged = r.tagged;
@@ -150,42 +126,32 @@ module _ (tag : ℕ → ℕ) (head next : ℕ → Head) (phase : ℕ → Phase) 
       let apart' : (q : ℕ) → head' q ≡ Shut → q ≢ p
       = λ q e z. (let y : Task (cell t) ≡ Shut = sym (put_here head p q (Task (cell t)) z) ∙ e in cc) in
       let linked : next t ≡ head_of (r.line p) = ap next (sym is_t) ∙ (f0.stored (head p) behind ∙ r.heads p unshut) in
-      let freed : (u : ℕ) → r.pusher u ≡ None → who u ≡ None
-      = λ u q. dite (ℕ_discrete u t) (λ z. put_here r.pusher t u None z) (λ n. put_else r.pusher t u None n ∙ q) in
+      let was : (q u : ℕ) → IsIn u (r.line q) → IsParkedOn (phase u) q × (who u ≡ None)
+      = λ q u i. let m = r.parked q u i in (m.0, none_none r.pusher t u m.1) in
       record {
         line = line;
         pusher = who;
         taker = r.taker;
         shutter = r.shutter;
-        heads = λ q n. dite (ℕ_discrete q p)
-            (λ z. put_here head p q (Task (cell t)) z ∙ ap head_of (sym (put_here r.line p q (t ∷ r.line p) z)))
-            (λ d. put_else head p q (Task (cell t)) d ∙ (r.heads q (λ y. n (put_else head p q (Task (cell t)) d ∙ y))
-            ∙ ap head_of (sym (put_else r.line p q (t ∷ r.line p) d))));
-        linked = λ q. dite (ℕ_discrete q p)
-            (λ z. subst (AreLinked next) (sym (put_here r.line p q (t ∷ r.line p) z)) (linked, r.linked p))
-            (λ d. subst (AreLinked next) (sym (put_else r.line p q (t ∷ r.line p) d)) (r.linked q));
-        parked = λ q u g. dite (ℕ_discrete q p)
-            (λ z. ⊎_elim
-            (λ (y : u ≡ t). (
-              subst (λ v. IsParkedOn (phase v) q) (sym y) (subst (IsParkedOn (phase t)) (sym z) parked_on),
-              put_here r.pusher t u None y,
-            ))
-            (λ (k : IsIn u (r.line p)). let m = r.parked p u k in
-            (subst (IsParkedOn (phase u)) (sym z) m.0, freed u m.1))
-            (subst (IsIn u) (put_here r.line p q (t ∷ r.line p) z) g))
-            (λ d. let m = r.parked q u (subst (IsIn u) (put_else r.line p q (t ∷ r.line p) d) g) in (m.0, freed u m.1));
+        heads = λ q. at_two head r.line p (Task (cell t)) (t ∷ r.line p) (λ k h l. h ≢ Shut → h ≡ head_of l) q
+            (λ n. refl) (λ d. r.heads q);
+        linked = λ q. at_put r.line p (t ∷ r.line p) (λ k l. AreLinked next l) q (linked, r.linked p) (λ d. r.linked q);
+        parked = λ q u. at_put r.line p (t ∷ r.line p) (λ k l. IsIn u l → IsParkedOn (phase u) k × (who u ≡ None)) q
+            (λ i. ⊎_elim
+            (λ y. (subst (λ v. IsParkedOn (phase v) p) (sym y) parked_on, put_here r.pusher t u None y)) (was p u) i)
+            (λ d. was q u);
         placed = λ q u g y. dite (ℕ_discrete u t)
             (λ z. let c : q ≡ p = one_cell (phase t) q p (subst (λ v. IsParkedOn (phase v) q) z g) parked_on in
             subst (IsIn u) (sym (put_here r.line p q (t ∷ r.line p) c)) (inl z))
-            (λ n. let k = r.placed q u g (sym (put_else r.pusher t u None n) ∙ y) in dite (ℕ_discrete q p)
-            (λ z. subst (IsIn u) (sym (put_here r.line p q (t ∷ r.line p) z)) (inr (subst (IsIn u) (ap r.line z) k)))
-            (λ d. subst (IsIn u) (sym (put_else r.line p q (t ∷ r.line p) d)) k));
+            (λ n. at_put r.line p (t ∷ r.line p) (λ k l. IsIn u (r.line k) → IsIn u l) q (λ i. inr i) (λ d i. i)
+            (r.placed q u g (sym (put_else r.pusher t u None n) ∙ y)));
         tagged = λ q y. r.tagged q (sym (put_else head p q (Task (cell t)) (apart' q y)) ∙ y);
         due = λ q g n. dite (ℕ_discrete q p) (λ z. r.due q g (λ y. unshut (ap head (sym z) ∙ y)))
             (λ d. r.due q g (λ y. n (put_else head p q (Task (cell t)) d ∙ y)));
-        pushing = λ u j y. dite (ℕ_discrete u t) (λ z. none_some (put_here r.pusher t u None z) y)
-            (λ n. of_seat_set (Any (λ (e : Push). e.task ≡ u)) pl id j old (without_push t old) at
-            (any_without_push t u old n) (r.pushing u j (sym (put_else r.pusher t u None n) ∙ y)));
+        pushing = λ u j. at_put r.pusher t None
+            (λ u w. w ≡ Some j → OfSeat (Any (λ (e : Push). e.task ≡ u)) (set pl id (without_push t old)) j) u
+            (λ y. no_some refl y) (λ n y. of_seat_set (Any (λ (e : Push). e.task ≡ u)) pl id j old (without_push t old)
+            at (any_without_push t u old n) (r.pushing u j y));
         to_push = each_else (λ j l. All (IsPush next phase who j) l) pl id (without_push t old)
             (λ j l n y x k. let f = r.to_push j l y x k in record {
               mine = put_else r.pusher t x.task None (not_mine t id j x mine f.mine n) ∙ f.mine;
@@ -208,11 +174,9 @@ module _ (tag : ℕ → ℕ) (head next : ℕ → Head) (phase : ℕ → Phase) 
           read = f.read;
         };
         stays_shut = λ j l y q k. let g = r.stays_shut j l y q k in put_else head p q (Task (cell t)) (apart q g) ∙ g;
-        grows = λ j l y x k. ⊎_elim
-            (λ g. inl (put_else head p x.cell (Task (cell t)) (apart x.cell g) ∙ g))
-            (λ (g : (more : List ℕ) × (r.line x.cell ≡ more ++ x.chain)). dite (ℕ_discrete x.cell p)
-            (λ z. inr (t ∷ g.0, put_here r.line p x.cell (t ∷ r.line p) z ∙ ap (λ l. t ∷ l) (ap r.line (sym z) ∙ g.1)))
-            (λ n. inr (g.0, put_else r.line p x.cell (t ∷ r.line p) n ∙ g.1)))
+        grows = λ j l y x k. at_two head r.line p (Task (cell t)) (t ∷ r.line p)
+            (λ c h m. HasGrown (head c) (r.line c) x.chain → HasGrown h m x.chain) x.cell
+            (λ g. ⊎_elim (λ s. absurd (unshut s)) (λ m. inr (t ∷ m.0, ap (λ l. t ∷ l) m.1)) g) (λ d g. g)
             (r.grows j l y x k);
       }
 
@@ -235,24 +199,17 @@ module _ (tag : ℕ → ℕ) (head next : ℕ → Head) (phase : ℕ → Phase) 
         linked = r.linked;
         parked = r.parked;
         placed = r.placed;
-        tagged = λ q e. dite (ℕ_discrete q p) (λ z. subst (λ c. tag c ≢ 0) (sym z) has_tag)
-            (λ d. r.tagged q (sym (put_else head p q Shut d) ∙ e));
+        tagged = λ q. at_put head p Shut (λ k h. h ≡ Shut → tag k ≢ 0) q (λ e. has_tag) (λ d. r.tagged q);
         due = λ q g n. let d = apart' q n in of_seat_set (IsIn q) sl id (r.shutter q) olds (without p olds) ats
             (in_without p q olds d) (r.due q g (λ e. n (put_else head p q Shut d ∙ e)));
         pushing = r.pushing;
         to_push = r.to_push;
-        resting = λ q e n. dite (ℕ_discrete q p)
-            (λ z. subst (OfSeat (λ rest. (x : Rest) × (rest ≡ Some x) × (x.cell ≡ q))
-            (set rl id (rest_of p (r.line p))))
-            (sym (put_here r.taker p q id z))
-            (of_seat_here (λ rest. (x : Rest) × (rest ≡ Some x) × (x.cell ≡ q)) rl id None (rest_of p (r.line p)) atr
-            (some_rest q z (r.line p) (λ k. n (ap r.line z ∙ k)))))
-            (λ d. let h = r.resting q (sym (put_else head p q Shut d) ∙ e) n in
-            subst (OfSeat (λ rest. (x : Rest) × (rest ≡ Some x) × (x.cell ≡ q)) (set rl id (rest_of p (r.line p))))
-            (sym (put_else r.taker p q id d))
-            (of_seat_set (λ rest. (x : Rest) × (rest ≡ Some x) × (x.cell ≡ q)) rl id (r.taker q) None
-            (rest_of p (r.line p)) atr
-            (λ k. none_some refl k.1) h));
+        resting = λ q. at_two head r.taker p Shut id (λ k h j. h ≡ Shut → r.line k ≢ []
+            → OfSeat (λ rest. (x : Rest) × (rest ≡ Some x) × (x.cell ≡ k)) (set rl id (rest_of p (r.line p))) j) q
+            (λ e n. of_seat_here (λ rest. (x : Rest) × (rest ≡ Some x) × (x.cell ≡ p)) rl id None
+            (rest_of p (r.line p)) atr (rest_some p (r.line p) n))
+            (λ d e n. of_seat_set (λ rest. (x : Rest) × (rest ≡ Some x) × (x.cell ≡ q)) rl id (r.taker q) None
+            (rest_of p (r.line p)) atr (λ k. no_some refl k.1) (r.resting q e n));
         rest = each_set (λ j rest. (x : Rest) → rest ≡ Some x → IsRest head' phase r.line taker j x) rl id
             (rest_of p (r.line p))
             (λ j o y x q. let f = r.rest j o y x q in let d = apart x.cell f.is_shut in record {
@@ -262,29 +219,19 @@ module _ (tag : ℕ → ℕ) (head next : ℕ → Head) (phase : ℕ → Phase) 
               some = f.some;
               read = f.read;
             })
-            (λ x q. new_rest x (r.line p) refl q);
+            (λ x q. let w = rest_is p (r.line p) x q in record {
+              mine = put_here r.taker p x.cell id w.0;
+              is_shut = put_here head p x.cell Shut w.0;
+              left = ap r.line w.0 ∙ sym w.1;
+              some = λ k. w.3 (sym w.1 ∙ k);
+              read = λ way k. no_some w.2 k;
+            });
         stays_shut = each_set (λ j l. All (λ q. head' q ≡ Shut) l) cl id (p ∷ oldc)
             (λ j l y q k. closes q (r.stays_shut j l y q k))
             (all_cons (λ q. head' q ≡ Shut) p oldc (put_here head p p Shut refl)
             (λ q k. closes q (r.stays_shut id oldc atc q k)));
         grows = λ j l y x k. ⊎_elim (λ g. inl (closes x.cell g)) (λ g. inr g) (r.grows j l y x k);
       }
-    where
-      some_rest : (q : ℕ) → q ≡ p → (l : List ℕ) → l ≢ [] → (x : Rest) × (rest_of p l ≡ Some x) × (x.cell ≡ q)
-      some_rest q z [] n = absurd (n refl)
-      some_rest q z (t ∷ ts) n = (record { cell = p; tasks = t ∷ ts; way = None }, refl, sym z)
-
-      new_rest : (x : Rest) (l : List ℕ) → r.line p ≡ l → rest_of p l ≡ Some x
-          → IsRest (put head p Shut) phase r.line (put r.taker p id) id x
-      new_rest x [] e q = none_some refl q
-      new_rest x (t ∷ ts) e q = let y : record { cell = p; tasks = t ∷ ts; way = None } ≡ x = cc in
-          subst (IsRest (put head p Shut) phase r.line (put r.taker p id) id) y record {
-            mine = put_here r.taker p p id refl;
-            is_shut = put_here head p p Shut refl;
-            left = e;
-            some = λ k. cc;
-            read = λ way k. none_some refl k;
-          }
 
   -- the shut of a head that was shut already
   pub shuts_again : (p id : ℕ) (olds oldc : List ℕ) → get_elem? sl id ≡ some olds → get_elem? cl id ≡ some oldc

@@ -1,10 +1,9 @@
 -- Lists of pushes, rests and tasks, of which one changes.
-use Rattle.tj_words.proofs.Prelude.{All, AreApart, Bool, IsIn, List, None, Option, Push, Rest, Some, [], ap, arith}
+use Rattle.tj_words.proofs.Prelude.{All, Any, AreApart, Bool, IsIn, List, None, Option, Push, Rest, Some, [], ap, arith}
 use Rattle.tj_words.proofs.Prelude.{cond, dite, eq-eqb, inl, inr, length, ne_eqb, put, refl, rest_of, subst, suc, sym}
 use Rattle.tj_words.proofs.Prelude.{without, without_push, zero, ℕ, ℕ_discrete, ⊎_elim, ◌<◌, ◌∙◌, ◌∷◌, ◌≡◌, ◌≢◌, ◌≤◌}
 use Rattle.tj_words.proofs.Prelude.{◌⊎◌}
 use Rattle.tj_words.proofs.Stores.StoreSteps.{put_here, put_else}
-use Rattle.tj_words.proofs.Waiters.ChainHeads.{in_without_push}
 
 -- nothing isn't something
 pub no_some : {P A : Type 0} {a : A} {o : Option A} → o ≡ None → o ≡ Some a → P
@@ -24,6 +23,30 @@ none_none f t u e = dite (ℕ_discrete u t) (λ q. put_here f t u None q) (λ n.
 -- the push is of this task
 abbrev pub IsOfTask : ℕ → Push → Type 0
 IsOfTask u e = e.task ≡ u
+
+-- a push of the list without that of t is one of before, and not of t
+pub in_without_push : (t : ℕ) (l : List Push) (x : Push) → IsIn x (without_push t l) → IsIn x l × (x.task ≢ t)
+in_without_push t [] x i = absurd i
+in_without_push t (e ∷ es) x i = dite (ℕ_discrete e.task t)
+    (λ z. let r = in_without_push t es x
+    (subst (λ b. IsIn x (cond b (without_push t es) (e ∷ without_push t es))) (eq-eqb e.task t z) i) in (inr r.0, r.1))
+    (λ n. ⊎_elim (λ (q : x ≡ e). (inl q, (λ z. n (ap (λ y. y.task) (sym q) ∙ z))))
+    (λ q. let r = in_without_push t es x q in (inr r.0, r.1))
+    (subst (λ b. IsIn x (cond b (without_push t es) (e ∷ without_push t es))) (ne_eqb e.task t n) i))
+
+-- a task other than t keeps its push
+pub any_without_push : (t u : ℕ) (l : List Push) → u ≢ t → Any (λ (e : Push). e.task ≡ u) l
+    → Any (λ (e : Push). e.task ≡ u) (without_push t l)
+any_without_push t u [] n a = a
+any_without_push t u (e ∷ es) n a = dite (ℕ_discrete e.task t)
+    (λ z. subst (λ b. Any (λ (e : Push). e.task ≡ u) (cond b (without_push t es) (e ∷ without_push t es)))
+    (sym (eq-eqb e.task t z)) (any_without_push t u es n (later z)))
+    (λ z. subst (λ b. Any (λ (e : Push). e.task ≡ u) (cond b (without_push t es) (e ∷ without_push t es)))
+    (sym (ne_eqb e.task t z)) (⊎_elim (λ (q : a.0 ≡ e). (a.0, inl q, a.2))
+    (λ q. let r = any_without_push t u es n (a.0, q, a.2) in (r.0, inr r.1, r.2)) a.1))
+  where
+    later : e.task ≡ t → Any (λ (e : Push). e.task ≡ u) es
+    later z = ⊎_elim (λ (q : a.0 ≡ e). absurd (n (sym a.2 ∙ (ap (λ y. y.task) q ∙ z)))) (λ q. (a.0, q, a.2)) a.1
 
 -- what holds of the pushes of other tasks
 pub all_without : (t : ℕ) (F : Push → Type 0) (l : List Push) → ((e : Push) → IsIn e l → e.task ≢ t → F e)

@@ -1,16 +1,19 @@
 -- The chains are kept by the stores and exchanges of PHASE, by the load of the first of a rest, and by the store of
 -- TAG.
 use Rattle.tj_words.proofs.Prelude.{All, Any, AreLinked, Chains, Found, HasGrown, Head, IsFirstIn, IsIn, IsParkedOn}
-use Rattle.tj_words.proofs.Prelude.{IsPush, IsRest, List, None, OfSeat, Option, Phase, Push, Rest, Some, Way, ap, dite}
-use Rattle.tj_words.proofs.Prelude.{get_elem?, head_of, inl, inr, new_push, parked_phase, put, refl, rest_of, set, some}
-use Rattle.tj_words.proofs.Prelude.{subst, sym, without_push, ℕ, ℕ_discrete, ⊎_elim, ◌∙◌, ◌∷◌, ◌≡◌, ◌≢◌}
+use Rattle.tj_words.proofs.Prelude.{IsPush, IsRest, List, None, OfSeat, Option, Phase, Push, Rest, Shut, Some, Way, ap}
+use Rattle.tj_words.proofs.Prelude.{at_put, dite, get_elem?, head_of, inl, inr, new_push, parked_phase, put, refl}
+use Rattle.tj_words.proofs.Prelude.{rest_of, set, some, subst, sym, without_push, ℕ, ℕ_discrete, ⊎_elim, ◌∙◌, ◌∷◌, ◌≡◌}
+use Rattle.tj_words.proofs.Prelude.{◌≢◌}
 use Rattle.tj_words.proofs.Stores.StoreSteps.{put_here, put_else}
 use Rattle.tj_words.proofs.SeatLoads.KnowLoads.{all_cons}
-use Rattle.tj_words.proofs.Waiters.ChainHeads.{one_cell, any_without_push}
+use Rattle.tj_words.proofs.Waiters.ChainHeads.{one_cell}
 use Rattle.tj_words.proofs.Waiters.ChainSeats.{chains_seats}
 use Rattle.tj_words.proofs.Stores.SeatLists.{each_set, each_else, of_seat_here, of_seat_set}
-use Rattle.tj_words.proofs.Waiters.ChainLists.{no_some, same_some, none_none, IsOfTask, all_without, rest_is, rest_some}
+use Rattle.tj_words.proofs.Waiters.ChainLists.{no_some, same_some, none_none, IsOfTask, all_without, any_without_push}
+use Rattle.tj_words.proofs.Waiters.ChainLists.{rest_is, rest_some}
 use Rattle.tj_words.proofs.Waiters.ChainFacts.{IsNotParked, linked_once, first_else, push_parked, not_in_line, not_mine}
+use Rattle.tj_words.proofs.Holders.SeatTasks.{at_two}
 
 -- the rest once the way of its first task is read
 abbrev pub read_way : Way → Rest → Rest
@@ -193,14 +196,12 @@ module _ {tag : ℕ → ℕ} {head next : ℕ → Head} {phase : ℕ → Phase} 
           taker = c.taker;
           shutter = c.shutter;
           heads = λ q n. let d : q ≢ p = λ z. n (ap head z ∙ f0.is_shut) in c.heads q n ∙ ap head_of (sym (off q d));
-          linked = λ q. dite (ℕ_discrete q p) (λ z. subst (AreLinked next) (sym (on q z)) chained.1)
-              (λ n. subst (AreLinked next) (sym (off q n)) (c.linked q));
+          linked = λ q. at_put c.line p ts (λ k l. AreLinked next l) q chained.1 (λ n. c.linked q);
           parked = λ q u i. let g = within q u i in let k = c.parked q u g.0 in (parked_else u q g.1 k.0, k.1);
-          placed = λ q u h e. let n = is_parked free u q h in let g = c.placed q u (parked_back u q n h) e in
-              dite (ℕ_discrete q p)
-              (λ z. subst (IsIn u) (sym (on q z))
-              (⊎_elim (λ (w : u ≡ t). absurd (n w)) (λ (w : IsIn u ts). w) (subst (IsIn u) (ap c.line z ∙ is) g)))
-              (λ d. subst (IsIn u) (sym (off q d)) g);
+          placed = λ q u h e. let n = is_parked free u q h in
+              at_put c.line p ts (λ k l. IsIn u (c.line k) → IsIn u l) q
+              (λ g. ⊎_elim (λ (w : u ≡ t). absurd (n w)) (λ (w : IsIn u ts). w) (subst (IsIn u) is g)) (λ d g. g)
+              (c.placed q u (parked_back u q n h) e);
           tagged = c.tagged;
           due = c.due;
           pushing = c.pushing;
@@ -227,8 +228,8 @@ module _ {tag : ℕ → ℕ} {head next : ℕ → Head} {phase : ℕ → Phase} 
                 read = λ way k. no_some w.2 k;
               });
           stays_shut = c.stays_shut;
-          grows = λ j l a f i. dite (ℕ_discrete f.cell p) (λ z. inl (ap head z ∙ f0.is_shut))
-              (λ n. subst (λ m. HasGrown (head f.cell) m f.chain) (sym (off f.cell n)) (c.grows j l a f i));
+          grows = λ j l a f i. at_put c.line p ts (λ k m. HasGrown (head k) m f.chain) f.cell (inl f0.is_shut)
+              (λ n. c.grows j l a f i);
         }
 
   -- PHASE of the first of a rest was loaded, and is parked this way
@@ -263,14 +264,11 @@ module _ {tag : ℕ → ℕ} {head next : ℕ → Head} {phase : ℕ → Phase} 
     linked = c.linked;
     parked = c.parked;
     placed = c.placed;
-    tagged = λ q e z. dite (ℕ_discrete q p) (λ k. some_tag (sym (put_here tag p q n k) ∙ z))
-        (λ d. c.tagged q e (sym (put_else tag p q n d) ∙ z));
-    due = λ q g unshut. dite (ℕ_discrete q p)
-        (λ z. subst (OfSeat (IsIn q) (set shuts id (p ∷ old))) (sym (put_here c.shutter p q id z))
-        (of_seat_here (IsIn q) shuts id old (p ∷ old) at (inl z)))
-        (λ d. subst (OfSeat (IsIn q) (set shuts id (p ∷ old))) (sym (put_else c.shutter p q id d))
-        (of_seat_set (IsIn q) shuts id (c.shutter q) old (p ∷ old) at (λ i. inr i)
-        (c.due q (λ e. g (put_else tag p q n d ∙ e)) unshut)));
+    tagged = λ q e. at_put tag p n (λ k m. m ≢ 0) q some_tag (λ d. c.tagged q e);
+    due = λ q g unshut. at_two tag c.shutter p n id
+        (λ k m j. m ≢ 0 → head k ≢ Shut → OfSeat (IsIn k) (set shuts id (p ∷ old)) j) q
+        (λ g u. of_seat_here (IsIn p) shuts id old (p ∷ old) at (inl refl))
+        (λ d g u. of_seat_set (IsIn q) shuts id (c.shutter q) old (p ∷ old) at (λ i. inr i) (c.due q g u)) g unshut;
     pushing = c.pushing;
     to_push = c.to_push;
     resting = c.resting;

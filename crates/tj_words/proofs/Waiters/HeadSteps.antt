@@ -1,21 +1,22 @@
 -- The steps on HEAD and NEXT keep the rule.
-use Rattle.tj_words.proofs.Prelude.{Allows, Bool, Chains, Empty, Entry, Head, IsBacked, IsIn, IsSeat, Key, Law, List}
-use Rattle.tj_words.proofs.Prelude.{None, Option, Program, Push, Rec, Rest, Rule, SeatMe, SeatsHave, Shut, Sort, State}
-use Rattle.tj_words.proofs.Prelude.{Task, View, WordsSay, ap, arith, at_map, cell, contents_of, dite, drawn_in, either}
-use Rattle.tj_words.proofs.Prelude.{eqb, exchanged, get_elem?, head_at, head_in, head_word, inl, inr, keeps, length}
-use Rattle.tj_words.proofs.Prelude.{next_at, none, put, refl, rest_of, seats_have, set, shut_swap, shut_word, some}
-use Rattle.tj_words.proofs.Prelude.{sort_tag, step, subst, suc, sym, tag_in, tag_of, with_next, without, without_push}
-use Rattle.tj_words.proofs.Prelude.{word, words_say, ℕ, ℕ_discrete, ⊎_elim, ◌-◌, ◌<◌, ◌∙◌, ◌∷◌, ◌≡◌, ◌≢◌, ◌≤◌}
+use Rattle.tj_words.proofs.Prelude.{Allows, Bool, Chains, Empty, Head, IsBacked, IsIn, IsSeat, Key, List, None, Option}
+use Rattle.tj_words.proofs.Prelude.{Program, Push, Rec, Rest, Rule, SeatMe, SeatsHave, Shut, State, Task, View}
+use Rattle.tj_words.proofs.Prelude.{WordsSay, ap, arith, at_map, cell, contents_of, dite, drawn_in, either, eqb}
+use Rattle.tj_words.proofs.Prelude.{exchanged, get_elem?, head_at, head_in, head_word, inl, inr, keeps, length, next_at}
+use Rattle.tj_words.proofs.Prelude.{none, put, refl, rest_of, seats_have, set, shut_swap, shut_word, some, step, subst}
+use Rattle.tj_words.proofs.Prelude.{suc, sym, tag_in, with_next, without, without_push, word, words_say, ℕ, ℕ_discrete}
+use Rattle.tj_words.proofs.Prelude.{⊎_elim, ◌-◌, ◌<◌, ◌∙◌, ◌∷◌, ◌≡◌, ◌≢◌, ◌≤◌}
 use Rattle.tj_words.specs.Calls.ChainSteps.{stored_next, pushed, took_chain, found_taken, HasPush, HasPushBehind}
 use Rattle.tj_words.specs.Calls.ChainSteps.{KnowsEntry, next_store, push_exchange}
 use Rattle.tj_words.proofs.Stores.SeatContents.{set_seats, seats_same}
-use Rattle.tj_words.proofs.Stores.StoreSteps.{put_here, put_else, MayStore, may_store, Stores, rule_stores}
+use Rattle.tj_words.proofs.Stores.StoreSteps.{put_here, put_else, MayHold, Stores, rule_stores, store_word}
 use Rattle.tj_words.proofs.Stores.StoreSteps.{step_allowed}
-use Rattle.tj_words.proofs.Stores.StoredWords.{say_head, say_next}
+use Rattle.tj_words.proofs.Stores.StoredWords.{said}
+use Rattle.tj_words.proofs.Stores.TableWords.{TableWord, index}
 use Rattle.tj_words.proofs.Stores.SlotStores.{Acts}
 use Rattle.tj_words.proofs.Stores.LawChanges.{law_chains}
 use Rattle.tj_words.proofs.SeatLoads.LoadSteps.{knows_so}
-use Rattle.tj_words.proofs.SeatLoads.KnowLoads.{task_in, shut_is}
+use Rattle.tj_words.proofs.SeatLoads.KnowLoads.{task_in, shut_is, tag_some}
 use Rattle.tj_words.proofs.SeatLoads.HeadLoads.{head_allowed}
 use Rattle.tj_words.proofs.Waiters.ChainHeads.{nexts, pushes, shuts, shuts_again}
 use Rattle.tj_words.proofs.Waiters.ChainCells.{line_small, head_small}
@@ -24,16 +25,7 @@ use Rattle.tj_body.specs.declared.point.Value.TheVariants as value
 use Rattle.tj_body.specs.declared.point.Entry.TheVariants as entry
 use Rattle.tj_words.proofs.Stores.TableWords as table_word
 
--- what has become of a cell has a tag
-pub tag_some : (e : Entry) → tag_of e ≢ 0
-tag_some entry.Broken z = omega arith
-tag_some (entry.Value (value.Num j)) z = omega arith
-tag_some (entry.Value (value.Ref r)) z = by r.sort z where
-  by : (k : Sort) → sort_tag k ≢ 0
-  by sort.Task z = omega arith
-  by sort.Promise z = omega arith
-
--- and isn't shut
+-- a head whose word is small isn't shut
 pub is_open : (h : Head) (n : ℕ) → n < shut_word → head_word h ≤ n → h ≢ Shut
 is_open Empty n l k e = let z : 0 ≡ shut_word = ap head_word e in omega arith
 is_open (Task t) n l k e = let z : suc t.0 ≡ shut_word = ap head_word e in omega arith
@@ -68,41 +60,32 @@ module _ {B : Type 0} (program : Bool → B → Program B) (key : Key B) where
       rest = w.rest;
       closed = w.closed;
       steps = w.steps;
-    } → IsBacked v → (i n : ℕ) → i < length s.words → MayStore key.cells i n → (head next : ℕ → Head)
-        → words_say (set s.words i n) ≡ record words { head = head; next = next }
+    } → IsBacked v → (x : TableWord) (n : ℕ) → index x < length s.words → MayHold key.cells x n
+        → (head next : ℕ → Head) → said words x n ≡ record words { head = head; next = next }
         → (pl : List (List Push)) (sl : List (List ℕ)) (rl : List (Option Rest)) (cl : List (List ℕ))
         → set_seats seats id w ≡ record seats { pushes = pl; shuts = sl; rests = rl; closed = cl }
         → Chains (tag_in (contents_of s)) head next words.phase pl sl rl cl seats.found
-        → Stores program key s id i n w
-    chain_stores w same back i n inside may head next say pl sl rl cl path chains = record {
-      inside = inside;
-      may = may;
-      seat = subst (IsSeat key) (sym same) (let q = r.seats id v at in record {
-        about = q.about;
-        named = q.named;
-        within_lot = q.within_lot;
-        backing = record { wakes = λ k. back; tags = q.backing.tags; alarms = q.backing.alarms };
-        known_born = q.known_born;
-      });
-      law = subst (λ z. Law P key.cells (record { words = z; slots = s.homes; seats = set_seats seats id w })) (sym say)
-          (subst (λ z. Law P key.cells (record {
-            words = record words { head = head; next = next };
-            slots = s.homes;
-            seats = z;
-          })) (sym path) (law_chains r.law head next pl sl rl cl seats.found chains));
-    }
+        → Stores program key s id (index x) n w
+    chain_stores w same back x n inside may head next say pl sl rl cl path chains =
+        store_word program key s id x n w inside may (subst (IsSeat key) (sym same) (let q = r.seats id v at in record {
+          about = q.about;
+          named = q.named;
+          within_lot = q.within_lot;
+          backing = record { wakes = λ k. back; tags = q.backing.tags; alarms = q.backing.alarms };
+          known_born = q.known_born;
+        })) _ (λ j. record { words = say j; slots = s.homes; seats = path j })
+            (law_chains r.law head next pl sl rl cl seats.found chains)
 
     -- a store of NEXT
     next_stores : (t n : ℕ) → t < key.cells → n ≤ key.cells → HasPush t v
         → Stores program key s id (next_at t) n (stored_next t (head_in n) v)
     next_stores t n l small has = chain_stores (stored_next t (head_in n) v) refl
-        (push_backed v has.0 (r.seats id v at) has.1) (next_at t) n (next_inside t l)
-        (may_store key.cells (table_word.Next t) n small)
-        words.head (put words.next t (head_in n)) (say_next s.words n t (next_inside t l))
+        (push_backed v has.0 (r.seats id v at) has.1) (table_word.Next t) n (next_inside t l) small
+        words.head (put words.next t (head_in n)) refl
         (set seats.pushes id (with_next t (head_in n) v.pushes)) seats.shuts seats.rests seats.closed
         (ap (λ (z : SeatsHave B). record z { pushes = set seats.pushes id (with_next t (head_in n) v.pushes) })
         (seats_same s.views id v at))
-        (nexts _ _ _ _ _ _ _ _ _ r.law.chains t id (head_in n) v.pushes
+        (nexts r.law.chains t id (head_in n) v.pushes
         (at_map (λ (u : View B). u.pushes) s.views id v at) has)
 
     -- a push that succeeds
@@ -110,15 +93,13 @@ module _ {B : Type 0} (program : Bool → B → Program B) (key : Key B) where
         → HasPushBehind t p (head_in (word s.words (head_at p))) v → head_in (word s.words (head_at p)) ≢ Shut
         → Stores program key s id (head_at p) (suc t) (pushed t v)
     push_stores t p lt lp has unshut = chain_stores (pushed t v) refl
-        (push_backed v has.0 (r.seats id v at) has.1) (head_at p) (suc t) (head_inside p lp)
-        (may_store key.cells (table_word.Head p) (suc t) (inr (omega arith)))
-        (put words.head p (Task (cell t))) words.next
-        (say_head s.words (suc t) p (head_inside p lp)
-        ∙ ap (λ h. record words { head = put words.head p h }) (sym is_task))
+        (push_backed v has.0 (r.seats id v at) has.1) (table_word.Head p) (suc t) (head_inside p lp)
+        (inr (omega arith)) (put words.head p (Task (cell t))) words.next
+        (ap (λ h. record words { head = put words.head p h }) (sym is_task))
         (set seats.pushes id (without_push t v.pushes)) seats.shuts seats.rests seats.closed
         (ap (λ (z : SeatsHave B). record z { pushes = set seats.pushes id (without_push t v.pushes) })
         (seats_same s.views id v at))
-        (pushes _ _ _ _ _ _ _ _ _ r.law.chains t p id v.pushes has.0
+        (pushes r.law.chains t p id v.pushes has.0
         (at_map (λ (u : View B). u.pushes) s.views id v at) has.1 has.2.0 has.2.1 has.2.2 unshut)
       where
         is_task : Task (cell t) ≡ head_in (suc t)
@@ -129,17 +110,16 @@ module _ {B : Type 0} (program : Bool → B → Program B) (key : Key B) where
     shut_stores : (p : ℕ) → p < key.cells → KnowsEntry p v → v.rest ≡ None → IsBacked v
         → head_in (word s.words (head_at p)) ≢ Shut
         → Stores program key s id (head_at p) shut_word (took_chain p (r.law.chains.line p) v)
-    shut_stores p lp knows free back unshut = chain_stores (took_chain p chain v) refl back (head_at p) shut_word
-        (head_inside p lp) (may_store key.cells (table_word.Head p) shut_word (inl refl))
-        (put words.head p Shut) words.next
-        (say_head s.words shut_word p (head_inside p lp)) seats.pushes (set seats.shuts id (without p v.shuts))
+    shut_stores p lp knows free back unshut = chain_stores (took_chain p chain v) refl back (table_word.Head p)
+        shut_word (head_inside p lp) (inl refl) (put words.head p Shut) words.next refl seats.pushes
+        (set seats.shuts id (without p v.shuts))
         (set seats.rests id (rest_of p chain)) (set seats.closed id (p ∷ v.closed))
         (ap (λ (z : SeatsHave B). record z {
           shuts = set seats.shuts id (without p v.shuts);
           rests = set seats.rests id (rest_of p chain);
           closed = set seats.closed id (p ∷ v.closed);
         }) (seats_same s.views id v at))
-        (shuts _ _ _ _ _ _ _ _ _ r.law.chains p id v.shuts v.closed (at_map (λ (u : View B). u.shuts) s.views id v at)
+        (shuts r.law.chains p id v.shuts v.closed (at_map (λ (u : View B). u.shuts) s.views id v at)
         (at_map (λ (u : View B). u.rest) s.views id v at ∙ ap some free)
         (at_map (λ (u : View B). u.closed) s.views id v at) unshut has_tag)
       where
@@ -153,15 +133,14 @@ module _ {B : Type 0} (program : Bool → B → Program B) (key : Key B) where
     -- a shut of a head that was shut
     shut_again : (p : ℕ) → p < key.cells → IsBacked v → head_in (word s.words (head_at p)) ≡ Shut
         → Stores program key s id (head_at p) shut_word (found_taken p v)
-    shut_again p lp back is_shut = chain_stores (found_taken p v) refl back (head_at p) shut_word (head_inside p lp)
-        (may_store key.cells (table_word.Head p) shut_word (inl refl)) words.head words.next
-        (say_head s.words shut_word p (head_inside p lp) ∙ (λ j. record words { head = λ c. same c j }))
+    shut_again p lp back is_shut = chain_stores (found_taken p v) refl back (table_word.Head p) shut_word
+        (head_inside p lp) (inl refl) words.head words.next (λ j. record words { head = λ c. same c j })
         seats.pushes (set seats.shuts id (without p v.shuts)) seats.rests (set seats.closed id (p ∷ v.closed))
         (ap (λ (z : SeatsHave B). record z {
           shuts = set seats.shuts id (without p v.shuts);
           closed = set seats.closed id (p ∷ v.closed);
         }) (seats_same s.views id v at))
-        (shuts_again _ _ _ _ _ _ _ _ _ r.law.chains p id v.shuts v.closed
+        (shuts_again r.law.chains p id v.shuts v.closed
         (at_map (λ (u : View B). u.shuts) s.views id v at) (at_map (λ (u : View B). u.closed) s.views id v at) is_shut)
       where
         same : (c : ℕ) → put words.head p Shut c ≡ words.head c
