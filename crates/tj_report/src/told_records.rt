@@ -16,9 +16,9 @@ pub fn told_by<B>(alloc: Global, names: &[Name], r: &Rec<B>) -> Result<Stopped, 
 {
     let name = name_in(alloc, names, r.cell)?;
     let prints = Items::of(Vec::from_slice(alloc, r.prints.items())?);
-    let ending = ending_by(alloc, names, r)?;
     let owes = in_name_order(names_in(alloc, names, r.owed.items())?)?;
     let holds = Items::of(names_in(alloc, names, promises(r.owned.items()))?);
+    let ending = ending_by(alloc, names, r)?;
     let line = TaskLine {
         name,
         prints,
