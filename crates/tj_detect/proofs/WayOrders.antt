@@ -15,6 +15,13 @@ use Rattle.tj_words.specs.LawParts.ShownState.{reference_of}
 use Rattle.tj_words.specs.Steps.WalkSteps.{is_task_sort, way_by}
 use Rattle.tj_tree.proofs.Trees.{depth-of}
 use Rattle.tj_detect.specs.TreeReads.{IsWithinCost, depth_in}
+use Rattle.tj_detect.proofs.Prelude.{InEachTree, TreeShown}
+use Rattle.tj_words.specs.SeatViews.TreeReads.{IsLater, KnowsTask}
+use Rattle.tj_words.specs.declared.record.Rec.{Rec}
+use Rattle.tj_words.specs.declared.view.View.{View}
+use Rattle.tj_words.proofs.SeatLoads.NodeLooks.{task_later}
+use Rattle.atomic_table.specs.declared.shared.Seat.{Seat}
+use Rattle.std.specs.Prelude.{Option}
 
 at_index : (l : List Reference) (c : ℕ) (d x : Reference) → get_elem? l c ≡ some x → get_or l c d ≡ x
 at_index [] c d x e = let z : none ≡ some x = e in cc
@@ -71,3 +78,28 @@ few_steps seen born tree t u old new a b cost digits h =
     let x = depth_is seen born tree t a in
     let y = depth_is seen born tree u b in
     cost tree.forks tree.history tree.nodes digits (omega (arith, x, y, h))
+
+-- what was told of each tree that shows what a seat has seen since it knew both tasks
+module _ {B : Type 0} {cells : ℕ} (old new : Seat (Option (Rec B)) (View B)) (later : IsLater cells old new) (t u : ℕ)
+    (t_known : KnowsTask t old.me.0) (u_known : KnowsTask u old.me.0)
+    (tree : SeesTree new.me.0.seen new.me.0.born) where
+  t_task : IsTaskIn new.me.0.born t
+  t_task = task_later old.me.0 new.me.0 later.1 t t_known.1
+
+  u_task : IsTaskIn new.me.0.born u
+  u_task = task_later old.me.0 new.me.0 later.1 u u_known.1
+
+  pub way_told : OrderIsThatOfNames → (answer is : Bool)
+      → InEachTree (TreeShown new) (λ forks. IsTrue answer ↔ IsEarlier (order_of forks) t u) → answer ≡ is
+      → way_by new.me.0.born t u ≡ way_if is
+  way_told names answer is tells e =
+      seen_way names new.me.0.seen new.me.0.born tree t u t_task u_task answer
+      (λ forks h has. tells forks h (λ n node k. has n node k.1)) ∙ ap way_if e
+
+  pub cost_told : (from to : ℕ)
+      → InEachTree (TreeShown new) (λ forks. (digits : ℕ)
+      → max (node_of forks t).depth (node_of forks u).depth + 1 < 2 ^ digits → to ≤ from + (16 * digits + 16))
+      → IsWithinCost new.me.0.born t u from to
+  cost_told from to tells =
+      few_steps new.me.0.seen new.me.0.born tree t u from to t_task u_task
+      (λ forks h has. tells forks h (λ n node k. has n node k.1))
