@@ -4,7 +4,7 @@ use std::io::ErrorKind;
 use std::rt::Env;
 
 /// What the command line gives.
-#[derive(Debug, Drop)]
+#[derive(Drop)]
 pub enum Given {
     /// The words after the program's name.
     Words(Vec<String>),

@@ -10,3 +10,4 @@ pub mod HasLines
 pub mod MadeThere
 pub mod LinesPlaced
 pub mod OwnersOne
+pub mod OneTrace

@@ -26,11 +26,13 @@ with_line : (b : Logged) (o : Option Stopped)
 with_line b None = refl
 with_line b (Some s) = refl
 
-lines_by : (qs : List (Point Logged)) → map line_of qs ≡ map (option_map line) (map body_of qs)
-lines_by [] = refl
-lines_by (q ∷ qs) =
-    ap (λ o. o ∷ map line_of qs) (with_line q.body (stopped_of q))
-    ∙ ap (λ os. option_map line (body_of q) ∷ os) (lines_by qs)
+-- what is told of each history by its body is told of all of them
+by_bodies : {A : Type 0} (f : StoppedBody Logged → A) (of : Point Logged → Option A)
+    → ((q : Point Logged) → of q ≡ option_map f (body_of q)) → (qs : List (Point Logged))
+    → map of qs ≡ map (option_map f) (map body_of qs)
+by_bodies f of each [] = refl
+by_bodies f of each (q ∷ qs) = ap (λ o. o ∷ map of qs) (each q)
+    ∙ ap (λ os. option_map f (body_of q) ∷ os) (by_bodies f of each qs)
 
 mapped : {A B : Type 0} (f : A → B) (xs : List A)
     → map (option_map f) (map (λ (x : A). Some x) xs) ≡ map (λ (y : B). Some y) (map f xs)
@@ -40,7 +42,8 @@ mapped f (x ∷ xs) = ap (λ os. Some (f x) ∷ os) (mapped f xs)
 -- the lines of histories of which this is told
 pub lines_told : (qs : List (Point Logged)) (bs : List (StoppedBody Logged)) → map body_of qs ≡ map (λ b. Some b) bs
     → map line_of qs ≡ map (λ l. Some l) (map line bs)
-lines_told qs bs e = lines_by qs ∙ ap (map (option_map line)) e ∙ mapped line bs
+lines_told qs bs e = by_bodies line line_of (λ q. with_line q.body (stopped_of q)) qs
+    ∙ ap (map (option_map line)) e ∙ mapped line bs
 
 -- what is told of a task without its body
 abbrev pub told : StoppedBody Logged → Stopped
@@ -51,15 +54,10 @@ with_told : (b : Logged) (o : Option Stopped)
 with_told b None = refl
 with_told b (Some s) = refl
 
-told_by : (qs : List (Point Logged)) → map stopped_of qs ≡ map (option_map told) (map body_of qs)
-told_by [] = refl
-told_by (q ∷ qs) =
-    ap (λ o. o ∷ map stopped_of qs) (with_told q.body (stopped_of q))
-    ∙ ap (λ os. option_map told (body_of q) ∷ os) (told_by qs)
-
 pub stopped_told : (qs : List (Point Logged)) (bs : List (StoppedBody Logged))
     → map body_of qs ≡ map (λ b. Some b) bs → map stopped_of qs ≡ map (λ s. Some s) (map told bs)
-stopped_told qs bs e = told_by qs ∙ ap (map (option_map told)) e ∙ mapped told bs
+stopped_told qs bs e = by_bodies told stopped_of (λ q. with_told q.body (stopped_of q)) qs
+    ∙ ap (map (option_map told)) e ∙ mapped told bs
 
 -- the names of the lines are those of what is told
 pub same_names : (bs : List (StoppedBody Logged)) → map (λ (s : Stopped). s.line.name) (map told bs)

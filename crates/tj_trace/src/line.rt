@@ -3,7 +3,7 @@ use tj_base::{Items, NameList, Sort};
 use tj_mean::TaskLine;
 
 /// The statement that made a thing.
-#[derive(Clone, Copy, Debug, PartialEq, Eq)]
+#[derive(Clone, Copy, PartialEq, Eq)]
 pub struct Maker {
     /// What it made: a `new` makes a promise, a `fork` a task.
     pub sort: Sort,
@@ -17,7 +17,7 @@ pub struct Maker {
 pub type MakerList = Items<Maker>;
 
 /// What is told of a task.
-#[derive(Debug, Drop)]
+#[derive(Drop)]
 pub struct TraceLine {
     /// What its outcome tells of it: its name, what it printed, what became of it, what it owed.
     pub line: TaskLine,

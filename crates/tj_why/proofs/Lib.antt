@@ -2,9 +2,8 @@ pub mod Names
 pub mod Steps
 pub mod Readings
 pub mod CommandLimits
-pub mod MainDeclaration
-pub mod OneTrace
 pub mod OneOutput
 pub mod ToldInputs
 pub mod Owns
 pub mod SameWords
+pub mod FoundCommands

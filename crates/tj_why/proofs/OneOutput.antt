@@ -18,8 +18,8 @@ use Rattle.tj_syntax.specs.PlacesOf.{PlacesOfTask}
 use Rattle.tj_syntax.specs.Trees.{Task}
 use Rattle.tj_trace.specs.Logs.{logged_program}
 use Rattle.tj_trace.specs.TraceLaws.{script_program}
-use Rattle.tj_why.proofs.MainDeclaration.{one_main}
-use Rattle.tj_why.proofs.OneTrace.{one_trace}
+use Rattle.tj_command.proofs.MainDeclaration.{one_main}
+use Rattle.tj_trace.proofs.OneTrace.{one_trace}
 use Rattle.tj_why.proofs.Readings.{one_command}
 use Rattle.tj_why.specs.Carets.{fault_text}
 use Rattle.tj_why.specs.WhyOutput.{ArePlaces, IsCommandOutput, IsOutput, IsToldFault, IsToldRun, IsToldScript, ended}

@@ -1,6 +1,7 @@
 -- What a text of a run looks things up in, and how it names a task, a promise and a position.
-use Rattle.std.specs.Prelude.{ℕ, ◌-◌, cond, List, [], ◌∷◌, ◌++◌, codes, decimal, map, length, take, get_or, slice_get}
-use Rattle.std.specs.Prelude.{Option, Some, None, unwrap_or}
+use Rattle.std.specs.Prelude.{ℕ, ◌-◌, cond, List, [], ◌++◌, codes, decimal, length, take, get_or, slice_get}
+use Rattle.std.specs.Prelude.{Option, Some, None}
+use Rattle.std.specs.Option.{option_or}
 use Rattle.std.specs.List.{find}
 use Rattle.tj_base.specs.ForkOrder.{Name}
 use Rattle.tj_base.specs.Texts.{name_text}
@@ -11,8 +12,7 @@ use Rattle.tj_syntax.specs.PlacesOf as places
 use Rattle.tj_syntax.specs.PlacesOf.{PlacesOfTask}
 use Rattle.tj_syntax.specs.Trees.{Task}
 use Rattle.tj_syntax.specs.View as trees
-use Rattle.tj_syntax.specs.declared.positions.StatementPlace.{StatementPlace}
-use Rattle.tj_trace.specs.Lookups.{made_by}
+use Rattle.tj_trace.specs.Lookups.{ask_spot_of, made_by, spot_of}
 use Rattle.tj_trace.specs.declared.line.Maker.{Maker}
 use Rattle.tj_trace.specs.declared.line.TraceLine.{TraceLine}
 use Rattle.tj_why.specs.declared.scene.Scene.{Scene}
@@ -31,18 +31,10 @@ view s = record { script = trees.script s.script.now; places = places.view s.pla
 abbrev pub place_text : Place → List ℕ
 place_text p = decimal p.line ++ codes ":" ++ decimal p.column
 
--- where a statement is told to stand: at its ask, if it has one, and else at its first token
-abbrev pub told_place : StatementPlace → Place
-told_place s = unwrap_or s.ask s.at
-
--- where the statements of a declaration are told to stand, and behind them its closing brace
-abbrev pub told_places : PlacesOfTask → List Place
-told_places t = map told_place t.statements ++ t.brace ∷ []
-
--- where a statement of a declaration is told to stand, if there are such ones
+-- where a statement of a declaration is told to stand, if there are such ones: at its ask, if it has one, and else at
+-- its first token; behind the last one, at the closing brace
 abbrev pub told_spot : Option PlacesOfTask → ℕ → Option Place
-told_spot None n = None
-told_spot (Some t) n = slice_get (told_places t) n
+told_spot t n = option_or (ask_spot_of t n) (spot_of t n)
 
 -- its position, and a question mark where there is none
 abbrev pub found_text : Option Place → List ℕ

@@ -1,7 +1,6 @@
 //! How a text names a task and a position.
 ghost use Rattle.std.specs.Prelude.{◌≡◌, IfOk, slice_get};
 ghost use Rattle.std.specs.Option.{option_map};
-ghost use Rattle.tj_syntax.specs.PlacesOf.{view_task};
 ghost use Rattle.tj_syntax.specs.View as trees;
 ghost use Rattle.tj_why.specs.Scenes as spec;
 
@@ -9,8 +8,8 @@ use crate::scene::Scene;
 use std::alloc::Global;
 use tj_base::{Name, Oom, add_number};
 use tj_lex::Place;
-use tj_syntax::{Script, StatementPlace, TaskPlaces};
-use tj_trace::{Maker, TraceLine};
+use tj_syntax::Script;
+use tj_trace::{Maker, TraceLine, ask_spot, spot};
 
 /// A position.
 pub fn place_text(alloc: Global, place: Place) -> Result<Vec<u8>, Oom>
@@ -23,43 +22,19 @@ pub fn place_text(alloc: Global, place: Place) -> Result<Vec<u8>, Oom>
     Ok(text)
 }
 
-/// Where a statement is told to stand: at its ask, if it has one.
-fn told_place(statement: &StatementPlace) -> Place
-    ensures { result ≡ spec.told_place statement.now }
-{
-    match statement.ask {
-        Some(place) => place,
-        None => statement.at,
-    }
-}
-
-/// Where a statement of these is told to stand.
-fn told_spot(task: &TaskPlaces, at: usize) -> Option<Place>
-    ensures { result ≡ slice_get (spec.told_places (view_task task.now)) at }
-{
-    if let Some(statement) = task.statements.get(at) {
-        return Some(told_place(statement));
-    }
-    if at == task.statements.len() {
-        Some(task.brace)
-    } else {
-        None
-    }
-}
-
-/// Where the statement with this number in the declaration with that one is told to stand.
-fn spot(scene: &Scene, decl: usize, at: usize) -> Option<Place>
+/// Where the statement with this number in the declaration with that one is told to stand: at its
+/// ask, if it has one.
+fn told_spot(scene: &Scene, decl: usize, at: usize) -> Option<Place>
     ensures { result ≡ spec.told_spot (slice_get (spec.view scene.now).places decl) at }
 {
-    let task = scene.places.tasks.get(decl)?;
-    told_spot(task, at)
+    ask_spot(scene.places, decl, at).or(spot(scene.places, decl, at))
 }
 
 /// Its position.
 pub fn spot_text(alloc: Global, scene: &Scene, decl: usize, at: usize) -> Result<Vec<u8>, Oom>
     ensures { IfOk result (λ text. text.items ≡ spec.spot_text (spec.view scene.now) decl at) }
 {
-    match spot(scene, decl, at) {
+    match told_spot(scene, decl, at) {
         Some(place) => place_text(alloc, place),
         None => Ok(Vec::from_slice(alloc, b"?")?),
     }

@@ -7,14 +7,14 @@ use tj_base::MAX_CELLS;
 use tj_eval::MAX_STEPS;
 
 /// An option that takes a number.
-#[derive(Clone, Copy, Debug, PartialEq, Eq)]
+#[derive(Clone, Copy)]
 pub enum OptionName {
     Cells,
     Steps,
 }
 
 /// An option without a number.
-#[derive(Clone, Copy, Debug, PartialEq, Eq)]
+#[derive(Clone, Copy)]
 pub enum Flag {
     Strict,
     All,
@@ -22,7 +22,7 @@ pub enum Flag {
 }
 
 /// The word of an option.
-#[derive(Clone, Copy, Debug, PartialEq, Eq)]
+#[derive(Clone, Copy)]
 pub enum LineWord {
     Numbered(OptionName),
     Alone(Flag),

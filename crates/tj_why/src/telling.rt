@@ -1,7 +1,7 @@
 //! How a program tells what went wrong.
 
 /// How what went wrong is told.
-#[derive(Clone, Copy, Debug, PartialEq, Eq)]
+#[derive(Clone, Copy)]
 pub enum Telling {
     /// In words, with the first and the last members of a long cycle.
     Wrong,

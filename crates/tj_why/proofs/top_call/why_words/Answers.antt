@@ -1,13 +1,11 @@
-use Rattle.std.proofs.Common.{IfSome, MatchOption, [], ap, rules, subst, ◌≡◌}
+use Rattle.std.proofs.Common.{[], ap, rules}
 use Rattle.tj_command.proofs.Inputs.{some_input}
 use Rattle.tj_command.proofs.Puts.{IsAnsweredBy-given, IsAnsweredBy-put, IsPartOf-given, IsPartOf-put, exact}
 use Rattle.tj_command.proofs.Puts.{no_write_fault, no_write_fault-given, put_whole, put_whole-given}
-use Rattle.tj_command.specs.Inputs.{IsReadOf}
-use Rattle.tj_syntax.specs.ScriptTexts.{most_bytes}
-use Rattle.tj_ports.specs.Reading.{read_of}
 use Rattle.tj_why.proofs.CommandLimits.{within_limits}
+use Rattle.tj_why.proofs.FoundCommands.{is_command, is_read}
 use Rattle.tj_why.proofs.Owns.{own}
-use Rattle.tj_why.specs.WhyLine.{HasNoForm, IsCommand}
+use Rattle.tj_why.specs.WhyLine.{HasNoForm}
 use Rattle.tj_why.specs.WhyOutput.{IsCommandOutput, IsOutput, of_command, usage}
 use Rattle.tj_why.proofs.top_call.why_words.Goals as goal
 
@@ -67,58 +65,39 @@ returns-in_default-clause-part_cause g c = λ is.
 
 pub answer-requires-clause-limits : goal.answer-requires-clause-limits
 answer-requires-clause-limits g c =
-    let is : IsCommand c.args.words.now c.in-Some.command = subst
-    (λ found. MatchOption found (HasNoForm c.args.words.now) (IsCommand c.args.words.now)) c.in-Some.is
-    c.command_of.ensures in
+    let is = is_command c.args.words.now _ c.in-Some.command c.command_of.ensures c.in-Some.is in
     within_limits c.args.words.now c.in-Some.command is
 
 pub returns-in-Ok-clause-output : goal.returns-in-Ok-clause-output
 returns-in-Ok-clause-output g c = λ input held told holds none_read none_put.
-    let is : IsCommand c.args.words.now c.in-Some.command = subst
-    (λ found. MatchOption found (HasNoForm c.args.words.now) (IsCommand c.args.words.now)) c.in-Some.is
-    c.command_of.ensures in
-    let read : IsReadOf input c.in-Ok.input = subst
-    (λ o. IfSome o (λ bytes. c.in-Ok.input ≡ read_of most_bytes bytes)) (told (c.in-Some.command, is))
-    c.in-Ok.ensures.read in
+    let is = is_command c.args.words.now _ c.in-Some.command c.command_of.ensures c.in-Some.is in
+    let read = is_read _ input c.in-Ok.input c.in-Ok.ensures.read (told (c.in-Some.command, is)) in
     IsAnsweredBy-given (IsOutput c.args.words.now input) (IsCommandOutput c.in-Some.command input)
     (λ s t out. of_command c.in-Some.command is out) (own c.in-Some.command input) (g.K.Sink.has_room c.args.sink.now)
-    _ _ _
-    _ _ (λ other. c.answer.ensures.output other input read) held
+    _ _ _ _ _ (λ other. c.answer.ensures.output other input read) held
     (λ e. ap g.K.Sink.held (c.answer.ensures.memory e)) holds none_put
 
 pub returns-in-Ok-clause-whole : goal.returns-in-Ok-clause-whole
 returns-in-Ok-clause-whole g c = λ input told has.
-    let is : IsCommand c.args.words.now c.in-Some.command = subst
-    (λ found. MatchOption found (HasNoForm c.args.words.now) (IsCommand c.args.words.now)) c.in-Some.is
-    c.command_of.ensures in
-    let read : IsReadOf input c.in-Ok.input = subst
-    (λ o. IfSome o (λ bytes. c.in-Ok.input ≡ read_of most_bytes bytes)) (told (c.in-Some.command, is))
-    c.in-Ok.ensures.read in
+    let is = is_command c.args.words.now _ c.in-Some.command c.command_of.ensures c.in-Some.is in
+    let read = is_read _ input c.in-Ok.input c.in-Ok.ensures.read (told (c.in-Some.command, is)) in
     put_whole-given (IsOutput c.args.words.now input) (IsCommandOutput c.in-Some.command input)
     (λ s t out. of_command c.in-Some.command is out) (own c.in-Some.command input) (g.K.Sink.has_room c.args.sink.now)
-    _ _ _
-    _ _ (λ other. c.answer.ensures.output other input read) has
+    _ _ _ _ _ (λ other. c.answer.ensures.output other input read) has
 
 pub returns-in-Ok-clause-exact : goal.returns-in-Ok-clause-exact
 returns-in-Ok-clause-exact g c = λ input text status told out has.
-    let is : IsCommand c.args.words.now c.in-Some.command = subst
-    (λ found. MatchOption found (HasNoForm c.args.words.now) (IsCommand c.args.words.now)) c.in-Some.is
-    c.command_of.ensures in
-    let read : IsReadOf input c.in-Ok.input = subst
-    (λ o. IfSome o (λ bytes. c.in-Ok.input ≡ read_of most_bytes bytes)) (told (c.in-Some.command, is))
-    c.in-Ok.ensures.read in
+    let is = is_command c.args.words.now _ c.in-Some.command c.command_of.ensures c.in-Some.is in
+    let read = is_read _ input c.in-Ok.input c.in-Ok.ensures.read (told (c.in-Some.command, is)) in
     exact (IsOutput c.args.words.now input) (g.K.Sink.has_room c.args.sink.now)
     (c.one_output.ensures c.args.words.now input) text
     status _ _ _ out (put_whole-given (IsOutput c.args.words.now input) (IsCommandOutput c.in-Some.command input)
     (λ s t out. of_command c.in-Some.command is out) (own c.in-Some.command input) (g.K.Sink.has_room c.args.sink.now)
-    _ _ _
-    _ _ (λ other. c.answer.ensures.output other input read) has)
+    _ _ _ _ _ (λ other. c.answer.ensures.output other input read) has)
 
 pub returns-in-Ok-clause-cause : goal.returns-in-Ok-clause-cause
 returns-in-Ok-clause-cause g c = λ has.
-    let is : IsCommand c.args.words.now c.in-Some.command = subst
-    (λ found. MatchOption found (HasNoForm c.args.words.now) (IsCommand c.args.words.now)) c.in-Some.is
-    c.command_of.ensures in
+    let is = is_command c.args.words.now _ c.in-Some.command c.command_of.ensures c.in-Some.is in
     let some = some_input c.in-Ok.input c.in-Ok.ensures.within in
     let put = put_whole-given (IsOutput c.args.words.now some.0) (IsCommandOutput c.in-Some.command some.0)
     (λ s t out. of_command c.in-Some.command is out)
@@ -128,43 +107,29 @@ returns-in-Ok-clause-cause g c = λ has.
 
 pub returns-in-Ok-clause-untouched : goal.returns-in-Ok-clause-untouched
 returns-in-Ok-clause-untouched g c = λ none.
-    let is : IsCommand c.args.words.now c.in-Some.command = subst
-    (λ found. MatchOption found (HasNoForm c.args.words.now) (IsCommand c.args.words.now)) c.in-Some.is
-    c.command_of.ensures in
+    let is = is_command c.args.words.now _ c.in-Some.command c.command_of.ensures c.in-Some.is in
     absurd (none c.in-Some.command is)
 
 pub returns-in-Ok-clause-part : goal.returns-in-Ok-clause-part
 returns-in-Ok-clause-part g c = λ failed input told.
-    let is : IsCommand c.args.words.now c.in-Some.command = subst
-    (λ found. MatchOption found (HasNoForm c.args.words.now) (IsCommand c.args.words.now)) c.in-Some.is
-    c.command_of.ensures in
-    let read : IsReadOf input c.in-Ok.input = subst
-    (λ o. IfSome o (λ bytes. c.in-Ok.input ≡ read_of most_bytes bytes)) (told (c.in-Some.command, is))
-    c.in-Ok.ensures.read in
+    let is = is_command c.args.words.now _ c.in-Some.command c.command_of.ensures c.in-Some.is in
+    let read = is_read _ input c.in-Ok.input c.in-Ok.ensures.read (told (c.in-Some.command, is)) in
     IsPartOf-given (IsOutput c.args.words.now input) (IsCommandOutput c.in-Some.command input)
     (λ s t out. of_command c.in-Some.command is out) (own c.in-Some.command input) (g.K.Sink.has_room c.args.sink.now)
-    _ _ _
-    _ _ (λ other. c.answer.ensures.output other input read) failed
+    _ _ _ _ _ (λ other. c.answer.ensures.output other input read) failed
 
 pub returns-in-Ok-clause-fits : goal.returns-in-Ok-clause-fits
 returns-in-Ok-clause-fits g c = λ room input text status has told out fits.
-    let is : IsCommand c.args.words.now c.in-Some.command = subst
-    (λ found. MatchOption found (HasNoForm c.args.words.now) (IsCommand c.args.words.now)) c.in-Some.is
-    c.command_of.ensures in
-    let read : IsReadOf input c.in-Ok.input = subst
-    (λ o. IfSome o (λ bytes. c.in-Ok.input ≡ read_of most_bytes bytes)) (told (c.in-Some.command, is))
-    c.in-Ok.ensures.read in
+    let is = is_command c.args.words.now _ c.in-Some.command c.command_of.ensures c.in-Some.is in
+    let read = is_read _ input c.in-Ok.input c.in-Ok.ensures.read (told (c.in-Some.command, is)) in
     no_write_fault-given (IsOutput c.args.words.now input) (IsCommandOutput c.in-Some.command input)
     (λ s t out. of_command c.in-Some.command is out) (own c.in-Some.command input) (g.K.Sink.has_room c.args.sink.now)
-    _ _ _
-    _ _ (λ other. c.answer.ensures.output other input read)
+    _ _ _ _ _ (λ other. c.answer.ensures.output other input read)
     (c.one_output.ensures c.args.words.now input) text status out room has fits
 
 pub returns-in-Ok-clause-part_cause : goal.returns-in-Ok-clause-part_cause
 returns-in-Ok-clause-part_cause g c = λ failed.
-    let is : IsCommand c.args.words.now c.in-Some.command = subst
-    (λ found. MatchOption found (HasNoForm c.args.words.now) (IsCommand c.args.words.now)) c.in-Some.is
-    c.command_of.ensures in
+    let is = is_command c.args.words.now _ c.in-Some.command c.command_of.ensures c.in-Some.is in
     let some = some_input c.in-Ok.input c.in-Ok.ensures.within in (
       some.0,
       IsPartOf-given (IsOutput c.args.words.now some.0) (IsCommandOutput c.in-Some.command some.0)
@@ -175,14 +140,10 @@ returns-in-Ok-clause-part_cause g c = λ failed.
 
 pub returns-in-Err-Failed-clause-untouched : goal.returns-in-Err-Failed-clause-untouched
 returns-in-Err-Failed-clause-untouched g c = λ none.
-    let is : IsCommand c.args.words.now c.in-Some.command = subst
-    (λ found. MatchOption found (HasNoForm c.args.words.now) (IsCommand c.args.words.now)) c.in-Some.is
-    c.command_of.ensures in
+    let is = is_command c.args.words.now _ c.in-Some.command c.command_of.ensures c.in-Some.is in
     absurd (none c.in-Some.command is)
 
 pub returns-in-Err-Oom-clause-untouched : goal.returns-in-Err-Oom-clause-untouched
 returns-in-Err-Oom-clause-untouched g c = λ none.
-    let is : IsCommand c.args.words.now c.in-Some.command = subst
-    (λ found. MatchOption found (HasNoForm c.args.words.now) (IsCommand c.args.words.now)) c.in-Some.is
-    c.command_of.ensures in
+    let is = is_command c.args.words.now _ c.in-Some.command c.command_of.ensures c.in-Some.is in
     absurd (none c.in-Some.command is)
