@@ -317,10 +317,32 @@ not_so a true h e = absurd (apart (sym e ∙ h.1 refl))
     apart z = cc
 not_so a false h e = refl
 
--- the same of a cell that is the held one at the place
-module _ {B : Type 0} (program : Bool → B → Program B) (laid : Laid B) (r : Rec B) (k : ℕ) (y : Pay) (me : SeatMe B)
-    (runs : RunsTask laid r me) (asked : IsAsked (table_program program laid) me.0 r (ask.Set k y))
-    (law : PointsAsk (table_program program laid)) (h : Held) (is : h ≡ held_at r.held k) where
+-- what a set stands on, of the held cell at the place: the task runs and has asked it, and the laws of rounds and names
+pub record IsToSet {B : Type 0} (program : Bool → B → Program B) (laid : Laid B) (r : Rec B) (k : ℕ) (y : Pay)
+    (me : SeatMe B) (h : Held) : Type 0 where
+  pub runs : RunsTask laid r me
+  pub asked : IsAsked (table_program program laid) me.0 r (ask.Set k y)
+  pub law : PointsAsk (table_program program laid)
+  pub tell : NamesTellCells
+  pub is : h ≡ held_at r.held k
+
+module _ {B : Type 0} {program : Bool → B → Program B} {laid : Laid B} {r : Rec B} {k : ℕ} {y : Pay} {me : SeatMe B}
+    {h : Held} (to : IsToSet program laid r k y me h) where
+  abbrev runs : RunsTask laid r me
+  runs = to.runs
+
+  abbrev asked : IsAsked (table_program program laid) me.0 r (ask.Set k y)
+  asked = to.asked
+
+  abbrev law : PointsAsk (table_program program laid)
+  law = to.law
+
+  abbrev tell : NamesTellCells
+  tell = to.tell
+
+  abbrev is : h ≡ held_at r.held k
+  is = to.is
+
   pub sets_cell : h.cell.0 < laid.cells
   sets_cell = subst (λ (z : Held). z.cell.0 < laid.cells) (sym is) (set_cell program laid r k y me runs asked law)
 
@@ -331,7 +353,7 @@ module _ {B : Type 0} (program : Bool → B → Program B) (laid : Laid B) (r : 
     goes_on = set_task program laid r k y me runs asked law (ap (λ (z : Held). z.sort) (sym is) ∙ e);
   }
 
-  module _ (promise : h.sort ≡ sort.Promise) (tell : NamesTellCells) where
+  module _ (promise : h.sort ≡ sort.Promise) where
     its_sort : (held_at r.held k).sort ≡ sort.Promise
     its_sort = ap (λ (z : Held). z.sort) (sym is) ∙ promise
 
