@@ -1,18 +1,22 @@
 -- The calls of a fork, by the lists that it has made on the way: the held cells that are handed over and passed on, the
 -- promises, and what the task keeps.
 use Rattle.tj_run.proofs.Prelude.{All, AllByRecursion, AreLeft, Bool, CellId, Err, Goes, Held, Hurt, IsAsked, IsMade}
-use Rattle.tj_run.proofs.Prelude.{IsTailOf, KnowsTask, Laid, MayGiveEach, MayMake, MayReleaseChild, NamesTellCells}
+use Rattle.tj_run.proofs.Prelude.{IsTailOf, KnowsTask, Lacks, Laid, MayGiveEach, MayMake, MayReleaseChild}
+use Rattle.tj_run.proofs.Prelude.{NamesTellCells}
 use Rattle.tj_run.proofs.Prelude.{Next, Ok, PointsAsk, Program, Rec, RunsTask, SeatMe, TasksStart, ThingsInRounds, View}
 use Rattle.tj_run.proofs.Prelude.{Why, ap, child_record, gave_each, hand_cells, held_at, inside, more_itself, numbered}
 use Rattle.tj_run.proofs.Prelude.{numbers, released_child, rest, sym, table_program, to_task, with_child, ℕ, ◌∷◌, ◌≡◌}
-use Rattle.std.proofs.Common.{◌+◌, ◌<◌, List, map, length, None, Result, IfOk, OnOk, ◌∙◌, subst, arith}
+use Rattle.std.proofs.Common.{◌+◌, ◌<◌, List, map, length, None, Result, IfErr, IfOk, OnOk, ◌∙◌, subst, arith}
+use Rattle.std.specs.Result.{IsErrAnd}
 use Rattle.tj_words.specs.Calls.LiveViews.{SlotsOf}
+use Rattle.tj_run.proofs.Asks.NewThings.{lacks_memory, lacks_noted}
 use Rattle.tj_run.proofs.Children.ForkedChildren.{fork_about, fork_notes, fork_fails, fork_goes, knows_parent}
 use Rattle.tj_run.proofs.Children.ForkedChildren.{may_birth, may_hand_each, may_release, promise_cells}
 use Rattle.tj_base.specs.declared.cell.Sort.TheVariants as sort
 use Rattle.tj_body.specs.declared.ask.Ask.TheVariants as ask
 use Rattle.tj_words.specs.declared.record.Finish.TheVariants as finish
 use Rattle.tj_run.specs.declared.next.Next.TheVariants as next
+use Rattle.tj_run.specs.declared.why.Why.TheVariants as why
 
 -- each place of a list is inside another
 pub places_inside : (held now : List Held) (places ks : List ℕ) → now ≡ held → ks ≡ places
@@ -43,83 +47,129 @@ left_of x y owned now given found e o g h = subst (λ z. AreLeft z (hand_cells (
     (subst (λ l. AreLeft x (hand_cells (numbers owned) (map numbered l))) g
     (subst (λ l. AreLeft x (hand_cells (numbers l) (map numbered found))) o h))
 
-module _ {B : Type 0} (program : Bool → B → Program B) (laid : Laid B) (r : Rec B) (b : B) (pass handed : List ℕ)
-    (me : SeatMe B) (runs : RunsTask laid r me)
-    (asked : IsAsked (table_program program laid) me.0 r (ask.Fork b pass handed))
-    (law : PointsAsk (table_program program laid)) (tell : NamesTellCells) where
+-- the error is so where there is one
+pub if_err : {A E : Type 0} (P : E → Type 0) (res : Result A E) → IsErrAnd res P → IfErr res P
+if_err P (Ok a) is = tt
+if_err P (Err e) is = is
+
+-- what a fork of this body stands on, which is passed and handed these places: the task runs and has asked it, and the
+-- laws of rounds and of names
+pub record Forking {B : Type 0} (program : Bool → B → Program B) (laid : Laid B) (r : Rec B) (b : B)
+    (pass handed : List ℕ) (me : SeatMe B) : Type 0 where
+  pub runs : RunsTask laid r me
+  pub asked : IsAsked (table_program program laid) me.0 r (ask.Fork b pass handed)
+  pub law : PointsAsk (table_program program laid)
+  pub things : ThingsInRounds (table_program program laid)
+  pub starts : TasksStart (table_program program laid)
+  pub tell : NamesTellCells
+
+module _ {B : Type 0} {program : Bool → B → Program B} {laid : Laid B} {r : Rec B} {b : B} {pass handed : List ℕ}
+    {me : SeatMe B} (f : Forking program laid r b pass handed me) where
+  -- the held cells that are handed over
+  abbrev given : List Held
+  given = map (held_at r.held) handed
+
   -- the task is a cell of the table
   pub parent_cell : r.cell.0 < laid.cells
-  parent_cell = let l = inside me.0.born r.cell.0 (to_task asked.point.name) asked.tells.of in
-      let f = runs.worker.cells.few in omega arith
+  parent_cell = let l = inside me.0.born r.cell.0 (to_task f.asked.point.name) f.asked.tells.of in
+      let few = f.runs.worker.cells.few in omega arith
 
   -- a fork that isn't allowed
-  pub forks_fail : (h : Hurt) → AreLeft (Err h)
-      (hand_cells (numbers r.owned) (map numbered (map (held_at r.held) handed)))
+  pub forks_fail : (h : Hurt) → AreLeft (Err h) (hand_cells (numbers r.owned) (map numbered given))
       → Goes program laid (next.Ends (finish.Failed h)) r me.0 me
   forks_fail h left = record {
     knows = more_itself me.0;
-    runs = runs;
-    goes_on = fork_fails program laid r b pass handed me runs asked law tell h left;
+    runs = f.runs;
+    goes_on = fork_fails program laid r b pass handed me f.runs f.asked f.law f.tell h left;
   }
 
-  module _ (left : List CellId)
-      (are_left : AreLeft (Ok left) (hand_cells (numbers r.owned) (map numbered (map (held_at r.held) handed))))
-      (things : ThingsInRounds (table_program program laid)) (starts : TasksStart (table_program program laid)) where
+  module _ (left : List CellId) (are_left : AreLeft (Ok left) (hand_cells (numbers r.owned) (map numbered given))) where
     pub forks_birth : MayMake program r.cell.0 (r.made + 1) me.0
-    forks_birth = may_birth program laid r b pass handed me runs asked law tell left are_left things starts
+    forks_birth = may_birth program laid r b pass handed me f.runs f.asked f.law f.tell left are_left f.things f.starts
 
     pub forks_known : KnowsTask r.cell.0 me.0
-    forks_known = knows_parent program laid r b pass handed me runs asked law tell left are_left things starts
+    forks_known = knows_parent program laid r b pass handed me f.runs f.asked f.law f.tell left are_left f.things
+        f.starts
 
-    module _ (c : CellId) (w : View B) (m : IsMade sort.Task laid.cells r.cell.0 c.0 me.0 w) (promises : List CellId)
-        (are : promises ≡ map (λ (h : Held). h.cell) (map (held_at r.held) handed)) where
-      pub forks_cells : All (λ (d : CellId). d.0 < laid.cells) promises
-      forks_cells = subst (λ l. All (λ (d : CellId). d.0 < laid.cells) l) (sym are)
-          (promise_cells program laid r b pass handed me runs asked law tell left are_left things starts c w m)
+    module _ (c : CellId) (w : View B) (m : IsMade sort.Task laid.cells r.cell.0 c.0 me.0 w) where
+      pub forks_cells : (promises : List CellId) → promises ≡ map (λ (h : Held). h.cell) given
+          → All (λ (d : CellId). d.0 < laid.cells) promises
+      forks_cells promises are = subst (λ l. All (λ (d : CellId). d.0 < laid.cells) l) (sym are)
+          (promise_cells program laid r b pass handed me f.runs f.asked f.law f.tell left are_left f.things f.starts c w
+          m)
 
-      pub forks_hand : MayGiveEach r.cell.0 promises c.0 w
-      forks_hand = subst (λ l. MayGiveEach r.cell.0 l c.0 w) (sym are)
-          (may_hand_each program laid r b pass handed me runs asked law tell left are_left things starts c w m)
+      pub forks_hand : (promises : List CellId) → promises ≡ map (λ (h : Held). h.cell) given
+          → MayGiveEach r.cell.0 promises c.0 w
+      forks_hand promises are = subst (λ l. MayGiveEach r.cell.0 l c.0 w) (sym are)
+          (may_hand_each program laid r b pass handed me f.runs f.asked f.law f.tell left are_left f.things f.starts c w
+          m)
 
-      module _ (u : View B) (gave : u ≡ gave_each r.cell.0 promises c.0 w) where
-        gave_so : u ≡ gave_each r.cell.0 (map (λ (h : Held). h.cell) (map (held_at r.held) handed)) c.0 w
-        gave_so = gave ∙ ap (λ l. gave_each r.cell.0 l c.0 w) are
+-- a fork whose child is born, and has been given the promises: which cell it is, what the task keeps, and what the seat
+-- knows then
+pub record HasGiven {B : Type 0} (program : Bool → B → Program B) (laid : Laid B) (r : Rec B) (b : B)
+    (pass handed : List ℕ) (me : SeatMe B) (c : CellId) (left : List CellId) (u : View B) : Type 0 where
+  pub forking : Forking program laid r b pass handed me
+  pub keeps : AreLeft (Ok left) (hand_cells (numbers r.owned) (map numbered (map (held_at r.held) handed)))
+  pub born : View B
+  pub made : IsMade sort.Task laid.cells r.cell.0 c.0 me.0 born
+  pub promises : List CellId
+  pub are : promises ≡ map (λ (h : Held). h.cell) (map (held_at r.held) handed)
+  pub gave : u ≡ gave_each r.cell.0 promises c.0 born
 
-        pub forks_about : u.about ≡ me.0.about
-        forks_about = fork_about program laid r b pass handed me runs asked law tell left are_left things starts c w m u
-            gave_so
+module _ {B : Type 0} {program : Bool → B → Program B} {laid : Laid B} {r : Rec B} {b : B} {pass handed : List ℕ}
+    {me : SeatMe B} {c : CellId} {left : List CellId} {u : View B}
+    (h : HasGiven program laid r b pass handed me c left u) where
+  gave_so : u ≡ gave_each r.cell.0 (map (λ (h : Held). h.cell) (map (held_at r.held) handed)) c.0 h.born
+  gave_so = h.gave ∙ ap (λ l. gave_each r.cell.0 l c.0 h.born) h.are
 
-        pub forks_notes : IsTailOf me.0.notes u.notes
-        forks_notes = fork_notes program laid r b pass handed me runs asked law tell left are_left things starts c w m u
-            gave_so
+  pub forks_about : u.about ≡ me.0.about
+  forks_about = let f = h.forking in fork_about program laid r b pass handed me f.runs f.asked f.law f.tell left h.keeps
+      f.things f.starts c h.born h.made u gave_so
 
-        pub forks_release : (passed : List Held) → passed ≡ map (held_at r.held) pass → (kid : Rec B)
-            → kid ≡ child_record c b passed promises
-            → MayReleaseChild program c.0 kid u
-        forks_release passed is kid made = subst (λ (z : View B). MayReleaseChild program c.0 kid z) (sym gave_so)
-            (subst (λ (z : Rec B). MayReleaseChild program c.0 z
-            (gave_each r.cell.0 (map (λ (h : Held). h.cell) (map (held_at r.held) handed)) c.0 w))
-            (sym (made ∙ (λ i. child_record c b (is i) (are i))))
-            (may_release program laid r b pass handed me runs asked law tell left are_left things starts c w m))
+  pub forks_notes : IsTailOf me.0.notes u.notes
+  forks_notes = let f = h.forking in fork_notes program laid r b pass handed me f.runs f.asked f.law f.tell left h.keeps
+      f.things f.starts c h.born h.made u gave_so
 
-        module _ (s : SeatMe B) (slots : SlotsOf B) (released : s ≡ (released_child c.0 u, rest slots))
-            (its_slot : slots ≡ (c.0, None) ∷ me.1) where
-          pub released_about : s.0.about ≡ me.0.about
-          released_about = ap (λ (z : SeatMe B). z.0.about) released ∙ forks_about
+  -- memory is lacking for the child
+  pub given_lacks : {A : Type 0} (res : Result A Why) → IsErrAnd res (λ (z : Why). z ≡ why.Memory)
+      → IfErr res (λ (z : Why). Lacks z me.0 u)
+  given_lacks {A = A} res is = lacks_memory {A = A} me.0 u forks_about forks_notes res is
 
-          pub released_notes : IsTailOf me.0.notes s.0.notes
-          released_notes = subst (λ (z : SeatMe B). IsTailOf me.0.notes z.0.notes) (sym released) forks_notes
+  pub forks_release : (passed : List Held) → passed ≡ map (held_at r.held) pass → (kid : Rec B)
+      → kid ≡ child_record c b passed h.promises
+      → MayReleaseChild program c.0 kid u
+  forks_release passed is kid made = let f = h.forking in
+      subst (λ (z : View B). MayReleaseChild program c.0 kid z) (sym gave_so)
+      (subst (λ (z : Rec B). MayReleaseChild program c.0 z
+      (gave_each r.cell.0 (map (λ (h : Held). h.cell) (map (held_at r.held) handed)) c.0 h.born))
+      (sym (made ∙ (λ i. child_record c b (is i) (h.are i))))
+      (may_release program laid r b pass handed me f.runs f.asked f.law f.tell left h.keeps f.things f.starts c h.born
+      h.made))
 
-          pub forks_go : Goes program laid next.Runs (with_child c left r) me.0 s
-          forks_go = subst (λ (z : SeatMe B). Goes program laid next.Runs (with_child c left r) me.0 z)
-              (sym (released ∙ (λ i. (released_child c.0 u, rest (its_slot i)))))
-              (fork_goes program laid r b pass handed me runs asked law tell left are_left things starts c w m
-              (released_child c.0 u) (ap (released_child c.0) gave_so))
+  module _ (s : SeatMe B) (slots : SlotsOf B) (released : s ≡ (released_child c.0 u, rest slots))
+      (its_slot : slots ≡ (c.0, None) ∷ me.1) where
+    released_about : s.0.about ≡ me.0.about
+    released_about = ap (λ (z : SeatMe B). z.0.about) released ∙ forks_about
 
-          -- the record is noted
-          pub forks_goes : (res : Result Next Why) (q : Rec B) → IfOk res (λ n. n ≡ next.Runs)
-              → OnOk res (q ≡ with_child c left r)
-              → IfOk res (λ n. Goes program laid n q me.0 s)
-          forks_goes (Ok n) q runs_on noted = subst (λ z. Goes program laid z q me.0 s) (sym runs_on)
-              (subst (λ (z : Rec B). Goes program laid next.Runs z me.0 s) (sym noted) forks_go)
-          forks_goes (Err e) q runs_on noted = tt
+    released_notes : IsTailOf me.0.notes s.0.notes
+    released_notes = subst (λ (z : SeatMe B). IsTailOf me.0.notes z.0.notes) (sym released) forks_notes
+
+    -- memory is lacking for the pool, or for the note of the child
+    pub released_lacks : {A : Type 0} (res : Result A Why) → IfErr res (λ (z : Why). z ≡ why.Memory)
+        → IfErr res (λ (z : Why). Lacks z me.0 s.0)
+    released_lacks {A = A} res is = lacks_noted {A = A} me.0 s.0 released_about released_notes res is
+
+    forks_go : Goes program laid next.Runs (with_child c left r) me.0 s
+    forks_go = let f = h.forking in
+        subst (λ (z : SeatMe B). Goes program laid next.Runs (with_child c left r) me.0 z)
+        (sym (released ∙ (λ i. (released_child c.0 u, rest (its_slot i)))))
+        (fork_goes program laid r b pass handed me f.runs f.asked f.law f.tell left h.keeps f.things f.starts c h.born
+        h.made (released_child c.0 u) (ap (released_child c.0) gave_so))
+
+    -- the record is noted
+    pub forks_goes : (res : Result Next Why) (q : Rec B) → IfOk res (λ n. n ≡ next.Runs)
+        → OnOk res (q ≡ with_child c left r)
+        → IfOk res (λ n. Goes program laid n q me.0 s)
+    forks_goes (Ok n) q runs_on noted = subst (λ z. Goes program laid z q me.0 s) (sym runs_on)
+        (subst (λ (z : Rec B). Goes program laid next.Runs z me.0 s) (sym noted) forks_go)
+    forks_goes (Err e) q runs_on noted = tt

@@ -1,39 +1,57 @@
-use Rattle.tj_run.proofs.Prelude.{[], held_at, map, program_of, refl}
-use Rattle.tj_run.proofs.Asks.NewThings.{lacks_memory, lacks_noted}
-use Rattle.tj_run.proofs.Children.ForkCalls.{forks_about, forks_birth, forks_goes, forks_known, forks_notes}
-use Rattle.tj_run.proofs.Children.ForkCalls.{forks_release, found_held, parent_cell, places_inside, released_about}
-use Rattle.tj_run.proofs.Children.ForkCalls.{released_notes}
+use Rattle.tj_run.proofs.Prelude.{Bool, Program, Why, [], held_at, map, program_of, refl, ◌≡◌}
+use Rattle.tj_run.specs.declared.why.Why.TheVariants as why
+use Rattle.tj_run.proofs.Children.ForkCalls.{Forking, HasGiven, forks_birth, forks_goes, forks_known, forks_release}
+use Rattle.tj_run.proofs.Children.ForkCalls.{found_held, given_lacks, if_err, parent_cell, places_inside}
+use Rattle.tj_run.proofs.Children.ForkCalls.{released_lacks}
+use Rattle.tj_run.proofs.forks.fork_bare.Given.{Over}
 use Rattle.tj_run.proofs.forks.fork_bare.Goals as goal
+use Rattle.tj_run.proofs.forks.fork_bare.Goals.{After-names_and_cells, In_ok-c}
+
+-- the program that runs
+abbrev program : (g : Over) → Bool → g.row.B.Denot → Program g.row.B.Denot
+program g = let b = g.B.Body in program_of b.places b.awaits b.left b.asks b.then
+
+module _ (g : Over) (c : After-names_and_cells g) where
+  -- what the fork stands on
+  forking : Forking (program g) c.args.laid.now c.args.rec.now c.args.body c.args.pass [] c.args.seat.now.me
+  forking = let l = c.args.laid.now in let a = c.requires.asked in let laws = c.points_in_rounds.ensures in record {
+    runs = c.requires.runs;
+    asked = a;
+    law = laws.ask l.strict l.root.value a.rooted;
+    things = laws.things l.strict l.root.value a.rooted;
+    starts = laws.start l.strict l.root.value a.rooted;
+    tell = c.names_and_cells.ensures.cells;
+  }
+
+module _ (g : Over) (c : In_ok-c g)
+    (f : Forking (program g) c.args.laid.now c.args.rec.now c.args.body c.args.pass [] c.args.seat.now.me) where
+  -- the child is born, and is given nothing
+  given : HasGiven (program g) c.args.laid.now c.args.rec.now c.args.body c.args.pass [] c.args.seat.now.me c.in_ok-c.c
+      c.args.rec.now.owned c.birth.new.seat.me.0
+  given = record {
+    forking = f;
+    keeps = refl;
+    born = c.birth.new.seat.me.0;
+    made = c.in_ok-c.ensures.made;
+    promises = [];
+    are = refl;
+    gave = refl;
+  }
 
 pub birth-requires-clause-cell : goal.birth-requires-clause-cell
-birth-requires-clause-cell g c κs within = let l = c.args.laid.now in let a = c.requires.asked in let r = c.args.rec.now
-    in
-    let prog = program_of g.B.Body.places g.B.Body.awaits g.B.Body.left g.B.Body.asks g.B.Body.then in
-    let law = c.points_in_rounds.ensures.ask l.strict l.root.value a.rooted in
-    let tell = c.names_and_cells.ensures.cells in
-    parent_cell prog l r c.args.body c.args.pass [] c.args.seat.now.me c.requires.runs a law tell
+birth-requires-clause-cell g c κs within =
+    let f = forking g (goal.at.birth-requires-clause-cell g c).After-names_and_cells in
+    parent_cell f
 
 pub birth-requires-clause-known : goal.birth-requires-clause-known
-birth-requires-clause-known g c κs within = let l = c.args.laid.now in let a = c.requires.asked in let
-    r = c.args.rec.now in
-    let prog = program_of g.B.Body.places g.B.Body.awaits g.B.Body.left g.B.Body.asks g.B.Body.then in
-    let law = c.points_in_rounds.ensures.ask l.strict l.root.value a.rooted in
-    let tell = c.names_and_cells.ensures.cells in
-    let things = c.points_in_rounds.ensures.things l.strict l.root.value a.rooted in
-    let starts = c.points_in_rounds.ensures.start l.strict l.root.value a.rooted in
-    forks_known prog l r c.args.body c.args.pass [] c.args.seat.now.me c.requires.runs a law tell
-    r.owned refl things starts
+birth-requires-clause-known g c κs within =
+    let f = forking g (goal.at.birth-requires-clause-known g c).After-names_and_cells in
+    forks_known f c.args.rec.now.owned refl
 
 pub birth-requires-clause-may : goal.birth-requires-clause-may
-birth-requires-clause-may g c κs within = let l = c.args.laid.now in let a = c.requires.asked in let r = c.args.rec.now
-    in
-    let prog = program_of g.B.Body.places g.B.Body.awaits g.B.Body.left g.B.Body.asks g.B.Body.then in
-    let law = c.points_in_rounds.ensures.ask l.strict l.root.value a.rooted in
-    let tell = c.names_and_cells.ensures.cells in
-    let things = c.points_in_rounds.ensures.things l.strict l.root.value a.rooted in
-    let starts = c.points_in_rounds.ensures.start l.strict l.root.value a.rooted in
-    forks_birth prog l r c.args.body c.args.pass [] c.args.seat.now.me c.requires.runs a law tell
-    r.owned refl things starts
+birth-requires-clause-may g c κs within =
+    let f = forking g (goal.at.birth-requires-clause-may g c).After-names_and_cells in
+    forks_birth f c.args.rec.now.owned refl
 
 pub bare_child-requires : goal.bare_child-requires
 bare_child-requires g c =
@@ -41,80 +59,32 @@ bare_child-requires g c =
     c.items-2.ensures c.requires.asked.placed.passed
 
 pub returns-in_err-child-clause-lacks : goal.returns-in_err-child-clause-lacks
-returns-in_err-child-clause-lacks g c = let l = c.args.laid.now in let a = c.requires.asked in let r = c.args.rec.now in
-    let prog = program_of g.B.Body.places g.B.Body.awaits g.B.Body.left g.B.Body.asks g.B.Body.then in
-    let law = c.points_in_rounds.ensures.ask l.strict l.root.value a.rooted in
-    let tell = c.names_and_cells.ensures.cells in
-    let things = c.points_in_rounds.ensures.things l.strict l.root.value a.rooted in
-    let starts = c.points_in_rounds.ensures.start l.strict l.root.value a.rooted in
-    let born = c.birth.new.seat.me.0 in
-    lacks_memory c.args.seat.now.me.0 born
-    (forks_about prog l r c.args.body c.args.pass [] c.args.seat.now.me c.requires.runs a law tell
-    r.owned refl things starts c.in_ok-c.c born c.in_ok-c.ensures.made [] refl born refl)
-    (forks_notes prog l r c.args.body c.args.pass [] c.args.seat.now.me c.requires.runs a law tell
-    r.owned refl things starts c.in_ok-c.c born c.in_ok-c.ensures.made [] refl born refl)
-    c.from_residual-in_err-child.result c.from_residual-in_err-child.ensures.1
+returns-in_err-child-clause-lacks g c = let at = goal.at.returns-in_err-child-clause-lacks g c in
+    let res = c.from_residual-in_err-child in
+    given_lacks (given g at.In_ok-c (forking g at.After-names_and_cells)) res.result res.ensures.1
 
 pub release-requires-clause-may : goal.release-requires-clause-may
-release-requires-clause-may g c κs within = let l = c.args.laid.now in let a = c.requires.asked in let
-    r = c.args.rec.now in
-    let prog = program_of g.B.Body.places g.B.Body.awaits g.B.Body.left g.B.Body.asks g.B.Body.then in
-    let law = c.points_in_rounds.ensures.ask l.strict l.root.value a.rooted in
-    let tell = c.names_and_cells.ensures.cells in
-    let things = c.points_in_rounds.ensures.things l.strict l.root.value a.rooted in
-    let starts = c.points_in_rounds.ensures.start l.strict l.root.value a.rooted in
-    let born = c.birth.new.seat.me.0 in
-    forks_release prog l r c.args.body c.args.pass [] c.args.seat.now.me c.requires.runs a law tell
-    r.owned refl things starts c.in_ok-c.c born c.in_ok-c.ensures.made [] refl born refl
-    (map (held_at c.items.result.now) c.items-2.result.now)
-    (found_held r.held c.items.result.now c.args.pass c.items-2.result.now
-    (map (held_at c.items.result.now) c.items-2.result.now) refl c.items.ensures c.items-2.ensures)
-    c.in_ok-child.child c.in_ok-child.ensures
+unfolding given
+release-requires-clause-may g c κs within = let at = goal.at.release-requires-clause-may g c in
+    let passed = map (held_at c.items.result.now) c.items-2.result.now in
+    forks_release (given g at.In_ok-c (forking g at.After-names_and_cells)) passed
+    (found_held c.args.rec.now.held c.items.result.now c.args.pass c.items-2.result.now passed refl c.items.ensures
+    c.items-2.ensures) c.in_ok-child.child c.in_ok-child.ensures
 
 pub returns-in_err-release-clause-lacks : goal.returns-in_err-release-clause-lacks
-returns-in_err-release-clause-lacks g c = let l = c.args.laid.now in let a = c.requires.asked in let r = c.args.rec.now
-    in
-    let prog = program_of g.B.Body.places g.B.Body.awaits g.B.Body.left g.B.Body.asks g.B.Body.then in
-    let law = c.points_in_rounds.ensures.ask l.strict l.root.value a.rooted in
-    let tell = c.names_and_cells.ensures.cells in
-    let things = c.points_in_rounds.ensures.things l.strict l.root.value a.rooted in
-    let starts = c.points_in_rounds.ensures.start l.strict l.root.value a.rooted in
-    let born = c.birth.new.seat.me.0 in
-    lacks_memory c.args.seat.now.me.0 c.release.new.seat.me.0
-    (released_about prog l r c.args.body c.args.pass [] c.args.seat.now.me c.requires.runs a law tell
-    r.owned refl things starts c.in_ok-c.c born c.in_ok-c.ensures.made [] refl born refl
-    c.release.new.seat.me c.birth.new.seat.me.1 c.release.ensures.me c.in_ok-c.ensures.slot)
-    (released_notes prog l r c.args.body c.args.pass [] c.args.seat.now.me c.requires.runs a law tell
-    r.owned refl things starts c.in_ok-c.c born c.in_ok-c.ensures.made [] refl born refl
-    c.release.new.seat.me c.birth.new.seat.me.1 c.release.ensures.me c.in_ok-c.ensures.slot)
-    c.from_residual-in_err-release.result c.from_residual-in_err-release.ensures.1
+returns-in_err-release-clause-lacks g c = let at = goal.at.returns-in_err-release-clause-lacks g c in
+    let res = c.from_residual-in_err-release in
+    released_lacks (given g at.In_ok-c (forking g at.After-names_and_cells)) c.release.new.seat.me
+    c.birth.new.seat.me.1 c.release.ensures.me c.in_ok-c.ensures.slot res.result
+    (if_err (λ (z : Why). z ≡ why.Memory) res.result res.ensures.1)
 
 pub returns-clause-lacks : goal.returns-clause-lacks
-returns-clause-lacks g c = let l = c.args.laid.now in let a = c.requires.asked in let r = c.args.rec.now in
-    let prog = program_of g.B.Body.places g.B.Body.awaits g.B.Body.left g.B.Body.asks g.B.Body.then in
-    let law = c.points_in_rounds.ensures.ask l.strict l.root.value a.rooted in
-    let tell = c.names_and_cells.ensures.cells in
-    let things = c.points_in_rounds.ensures.things l.strict l.root.value a.rooted in
-    let starts = c.points_in_rounds.ensures.start l.strict l.root.value a.rooted in
-    let born = c.birth.new.seat.me.0 in
-    lacks_noted c.args.seat.now.me.0 c.release.new.seat.me.0
-    (released_about prog l r c.args.body c.args.pass [] c.args.seat.now.me c.requires.runs a law tell
-    r.owned refl things starts c.in_ok-c.c born c.in_ok-c.ensures.made [] refl born refl
-    c.release.new.seat.me c.birth.new.seat.me.1 c.release.ensures.me c.in_ok-c.ensures.slot)
-    (released_notes prog l r c.args.body c.args.pass [] c.args.seat.now.me c.requires.runs a law tell
-    r.owned refl things starts c.in_ok-c.c born c.in_ok-c.ensures.made [] refl born refl
-    c.release.new.seat.me c.birth.new.seat.me.1 c.release.ensures.me c.in_ok-c.ensures.slot)
-    c.note_made.result c.note_made.ensures.memory
+returns-clause-lacks g c = let at = goal.at.returns-clause-lacks g c in
+    released_lacks (given g at.In_ok-c (forking g at.After-names_and_cells)) c.release.new.seat.me
+    c.birth.new.seat.me.1 c.release.ensures.me c.in_ok-c.ensures.slot c.note_made.result c.note_made.ensures.memory
 
 pub returns-clause-goes : goal.returns-clause-goes
-returns-clause-goes g c = let l = c.args.laid.now in let a = c.requires.asked in let r = c.args.rec.now in
-    let prog = program_of g.B.Body.places g.B.Body.awaits g.B.Body.left g.B.Body.asks g.B.Body.then in
-    let law = c.points_in_rounds.ensures.ask l.strict l.root.value a.rooted in
-    let tell = c.names_and_cells.ensures.cells in
-    let things = c.points_in_rounds.ensures.things l.strict l.root.value a.rooted in
-    let starts = c.points_in_rounds.ensures.start l.strict l.root.value a.rooted in
-    let born = c.birth.new.seat.me.0 in
-    forks_goes prog l r c.args.body c.args.pass [] c.args.seat.now.me c.requires.runs a law tell
-    r.owned refl things starts c.in_ok-c.c born c.in_ok-c.ensures.made [] refl born refl
-    c.release.new.seat.me c.birth.new.seat.me.1 c.release.ensures.me c.in_ok-c.ensures.slot
-    c.note_made.result c.note_made.new.rec c.note_made.ensures.runs c.note_made.ensures.rec
+returns-clause-goes g c = let at = goal.at.returns-clause-goes g c in
+    forks_goes (given g at.In_ok-c (forking g at.After-names_and_cells)) c.release.new.seat.me
+    c.birth.new.seat.me.1 c.release.ensures.me c.in_ok-c.ensures.slot c.note_made.result c.note_made.new.rec
+    c.note_made.ensures.runs c.note_made.ensures.rec
