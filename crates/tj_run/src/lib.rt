@@ -33,6 +33,8 @@ mod two_task_tests;
 mod waits;
 mod why;
 mod writes;
+#[cfg(test)]
+mod written;
 
 pub use crew::{run_all, work_all};
 pub use turns::worker;

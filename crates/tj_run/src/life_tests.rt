@@ -1,34 +1,32 @@
 //! The life of the root, call by call, from a table's first seat to its closed words; and a promise that
 //! is filled while a task blocks on it.
-ghost use Rattle.std.specs.Prelude.{◌≡◌, ◌<◌, ◌≤◌, [], ◌∷◌, length, IfOk, IsTrue, OnOk};
+ghost use Rattle.std.specs.Prelude.{◌≡◌, ◌<◌, ◌≤◌, length, IfOk, OnOk};
 ghost use Rattle.tj_base.specs.declared.cell.TheConstants.{MAX_CELLS};
 ghost use Rattle.tj_body.specs.Programs.{program_of};
-ghost use Rattle.tj_body.specs.Table.{is_table, table_asks, table_awaits, table_left, table_places, table_then};
 ghost use Rattle.tj_words.specs.Calls.ExchangeViews.{KnowsTable};
 ghost use Rattle.tj_words.specs.SeatViews.KnowsMore.{KnowsMore};
 ghost use Rattle.tj_words.specs.Law.{IsRooted};
-ghost use Rattle.tj_words.specs.LawParts.Lots.{all_lots};
 ghost use Rattle.tj_words.specs.SeatViews.SeatSteps.{IsCellOf, IsSeatOf};
 ghost use Rattle.tj_run.specs.Workers.{IsFree, table_program};
 ghost use Rattle.tj_run.specs.Inner.Carried.{IsAsked, RunsTask};
 ghost use Rattle.tj_run.specs.Inner.Waits.{ComesBack, IsLeft};
 
 use crate::next::Next;
-use crate::pieces::fill_at;
 use crate::pure::next_ask;
 use crate::tasks::run;
 use crate::waits::{block_at, get};
 use crate::why::Why;
 use crate::writes::set_and_wake;
+use crate::written::{Says, lists_of, table_of};
 use std::alloc::Global;
 use std::process::Abort;
 use std::sync::Wait;
 use std::test::Fail;
-use tj_base::{CellId, Items, Oom, Pay, PlaceList};
-use tj_body::{Answer, Ask, Body, Row, RowList, TableBody, points_in_rounds};
+use tj_base::{CellId, Items, Oom, Pay};
+use tj_body::{Answer, Ask, Body, RowList};
 use tj_cells::{Seen, value};
 use tj_detect::Verdict;
-use tj_park::{Parked, claim, finish, park};
+use tj_park::{Parked, claim, park};
 use tj_ready::{LockedPool, Pool};
 use tj_words::{Fill, Finish, Laid, Phase, Rec, RestWords, WSeat};
 
@@ -39,25 +37,6 @@ pub(crate) fn one_end<P: Pool, R: Wait>(rt: &R, alloc: Global, cells: u32) -> Re
 {
     let mut ends = P::make(rt, alloc, 1, cells)?;
     ends.pop().ok_or(Oom)
-}
-
-/// A table of so many cells whose root gives the rows of the first list, and its first seat.
-pub(crate) fn table_of<'s>(
-    alloc: Global,
-    lists: &'s [RowList],
-    cells: u32,
-) -> Result<(Laid<TableBody<'s>>, WSeat<TableBody<'s>>), Oom>
-    requires some { 0 < length lists.now }
-    requires table { IsTrue (is_table lists.now) }
-    requires cells { (0 < cells) × (cells ≤ MAX_CELLS) }
-    ensures cells { IfOk result (λ made. made.0.cells ≡ cells) }
-    ensures table { IfOk result (λ made. IsSeatOf made.0 made.1) }
-    ensures lot { IfOk result (λ made. made.1.me.0.lot ≡ all_lots) }
-    ensures free { IfOk result (λ made. IsFree made.0 made.1.me) }
-    ensures rooted { IfOk result (λ made. IsRooted (table_program
-        (program_of table_places table_awaits table_left table_asks table_then) made.0)) }
-{
-    Laid::new(alloc, cells, TableBody::new(lists, 0), true)
 }
 
 /// Claims a task that is to begin, and its body asks.
@@ -112,74 +91,38 @@ pub(crate) fn has_the_root_alone<B: Body, R: Abort>(rt: &R, rest: RestWords<B>) 
         panic!(rt; "one cell was drawn");
     }
     let cell = rest.cell(CellId(0));
-    assert_eq!(rt; cell.phase, Phase::Ended, "the root has ended");
-    assert_eq!(rt; cell.own, None, "nobody owns its result");
-    let rec = rest.rec(CellId(0)).expect(rt, "a task has a record");
-    assert_eq!(rt;
-        rec.finish,
-        Some(Finish::Done(Fill::Num(0))),
-        "which says how it ended"
+    assert!(rt; matches!(cell.phase, Phase::Ended), "the root has ended");
+    assert!(rt; cell.own.is_none(), "nobody owns its result");
+    assert!(rt;
+        has_ended_with_0(rest.rec(CellId(0))),
+        "its record says how it ended"
     );
     let closed = rest.into_closed();
-    assert_eq!(rt; closed.drawn(), 1, "and closed words have it still");
-    assert_eq!(rt; closed.cell(CellId(0)).tag, 1, "with a number");
+    assert!(rt; closed.drawn() == 1, "and closed words have it still");
+    assert!(rt; closed.cell(CellId(0)).tag == 1, "with a number");
+}
+
+fn has_ended_with_0<B: Body>(rec: Option<&Rec<B>>) -> bool {
+    match rec {
+        Some(rec) => matches!(rec.finish, Some(Finish::Done(Fill::Num(0)))),
+        None => false,
+    }
 }
 
 #[test]
 fn the_root_ends_and_its_table_is_closed(rt: HostRuntime) -> Result<(), Fail> {
-    points_in_rounds::<TableBody<'_>>();
     let a = rt.alloc();
     let lists: [RowList; 1] = [Items::of(Vec::new(a))];
     let mut pool = one_end::<LockedPool, HostRuntime>(&rt, a, 2)?;
-    let (laid, mut seat) = table_of(a, &lists, 2)?;
-    let (mut rec, ask) = begin(&rt, a, &laid, &mut seat, CellId(0))?;
-    let Ask::End(v) = ask else {
-        panic!(rt; "it ends at once");
+    let (laid, mut seat) = table_of(&rt, a, &lists, 2)?;
+    let Ok(()) = run_whole(&rt, a, &laid, &mut seat, &mut pool, CellId(0)) else {
+        panic!(rt; "no memory");
     };
-    assert_eq!(rt; v, Pay::Num(0), "with 0");
-    let given = fill_at(rec.held.items(), v);
-    rec.finish = Some(Finish::Done(given));
-    let root = rec.cell;
-    finish(&rt, a, &laid, &mut seat, root, rec, &mut pool)?;
     if laid.live(&mut seat) != 0 {
         panic!(rt; "nothing goes on");
     }
     has_the_root_alone(&rt, laid.rest(seat));
     Ok(())
-}
-
-/// The root makes a promise, passes it to a reader, and hands it to a writer, which sets it to 5.
-fn reader_and_writer(alloc: Global) -> Result<[RowList; 3], Oom>
-    ensures { IfOk result (λ lists. IsTrue (is_table lists) × (0 < length lists)) }
-{
-    let mut root = Vec::new(alloc);
-    root.push(Row::New)?;
-    root.push(Row::Fork {
-        list: 1,
-        pass: one_place(alloc)?,
-        hand: Items::of(Vec::new(alloc)),
-    })?;
-    root.push(Row::Fork {
-        list: 2,
-        pass: one_place(alloc)?,
-        hand: one_place(alloc)?,
-    })?;
-    let mut reader = Vec::new(alloc);
-    reader.push(Row::Get { p: 1 })?;
-    let mut writer = Vec::new(alloc);
-    writer.push(Row::Set {
-        p: 1,
-        v: Pay::Num(5),
-    })?;
-    Ok([Items::of(root), Items::of(reader), Items::of(writer)])
-}
-
-fn one_place(alloc: Global) -> Result<PlaceList, Oom>
-    ensures { IfOk result (λ places. places ≡ 1 ∷ []) }
-{
-    let mut places = Vec::new(alloc);
-    places.push(1)?;
-    Ok(Items::of(places))
 }
 
 /// Claims a task, and runs it until it leaves the seat.
@@ -289,7 +232,7 @@ fn set_before_park<B: Body, P: Pool, R: Wait + Abort>(
         panic!(rt; "its owner doesn't wait");
     };
     let woken = set_first(rt, alloc, laid, other, pool, CellId(3))?;
-    assert_eq!(rt; woken, 0, "it isn't in the chain yet");
+    assert!(rt; woken == 0, "it isn't in the chain yet");
     let t = rec.cell;
     match park(laid, seat, t, q, way, rec) {
         Parked::Left => panic!(rt; "it would never be woken"),
@@ -297,16 +240,32 @@ fn set_before_park<B: Body, P: Pool, R: Wait + Abort>(
     }
 }
 
+/// The root makes a promise, passes it to a reader, and hands it to a writer, which sets it to 5.
+const READER_AND_WRITER: &[&[Says]] = &[
+    &[
+        Says::New,
+        Says::Fork(1, &[1], &[]),
+        Says::Fork(2, &[1], &[1]),
+    ],
+    &[Says::Get(1)],
+    &[Says::Set(1, 5)],
+];
+
 #[test]
 fn a_promise_is_set_between_block_and_park(rt: HostRuntime) -> Result<(), Fail> {
     let a = rt.alloc();
-    let lists = reader_and_writer(a)?;
+    let lists = lists_of(a, READER_AND_WRITER)?;
     let mut pool = one_end::<LockedPool, HostRuntime>(&rt, a, 4)?;
-    let (laid, mut seat) = table_of(a, &lists, 4)?;
-    run_whole(&rt, a, &laid, &mut seat, &mut pool, CellId(0))?;
+    let (laid, mut seat) = table_of(&rt, a, &lists, 4)?;
+    let Ok(()) = run_whole(&rt, a, &laid, &mut seat, &mut pool, CellId(0)) else {
+        panic!(rt; "no memory");
+    };
     let (mut first, mut second) = laid.split(seat);
-    let seen = set_before_park(&rt, a, &laid, &mut first, &mut second, &mut pool)?;
-    assert_eq!(rt; seen, Seen::Num(5), "it goes on with the value");
+    let seen = set_before_park(&rt, a, &laid, &mut first, &mut second, &mut pool);
+    assert!(rt;
+        matches!(seen, Ok(Seen::Num(5))),
+        "it goes on with the value"
+    );
     Ok(())
 }
 
@@ -314,10 +273,12 @@ fn a_promise_is_set_between_block_and_park(rt: HostRuntime) -> Result<(), Fail> 
 fn a_root_that_runs_is_claimed_by_nobody(rt: HostRuntime) -> Result<(), Fail> {
     let a = rt.alloc();
     let lists: [RowList; 1] = [Items::of(Vec::new(a))];
-    let (laid, mut seat) = table_of(a, &lists, 1)?;
-    let begun = begin(&rt, a, &laid, &mut seat, CellId(0))?;
+    let (laid, mut seat) = table_of(&rt, a, &lists, 1)?;
+    let Ok((_rec, ask)) = begin(&rt, a, &laid, &mut seat, CellId(0)) else {
+        panic!(rt; "no memory");
+    };
     let again = claim(&laid, &mut seat, CellId(0));
     assert!(rt; again.is_none(), "it runs already");
-    assert_eq!(rt; begun.1, Ask::End(Pay::Num(0)), "to end with 0");
+    assert!(rt; matches!(ask, Ask::End(Pay::Num(0))), "to end with 0");
     Ok(())
 }

@@ -29,7 +29,7 @@ use tj_words::{Laid, Rec, WSeat, Way};
 const MOST_TURNS: u32 = 16;
 
 /// What came of a turn with a task.
-#[derive(Clone, Copy, Debug, PartialEq, Eq)]
+#[derive(Clone, Copy, PartialEq, Eq)]
 pub(crate) enum Turn {
     /// It wasn't ready.
     NotReady,

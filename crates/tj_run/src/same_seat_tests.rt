@@ -8,21 +8,21 @@ ghost use Rattle.tj_cells.specs.FilledCells.{MayFill, MayGiveUp};
 ghost use Rattle.tj_run.specs.Workers.{IsFree, table_program};
 ghost use Rattle.tj_run.specs.Inner.Carried.{IsAsked, RunsTask};
 
-use crate::life_tests::{one_end, table_of};
-use crate::pass_tests::{fork, rows};
+use crate::life_tests::one_end;
 use crate::pieces::{fill_at, take_out};
 use crate::pure::next_ask;
-use crate::two_task_tests::{ask_beside, run_to_fork};
+use crate::two_task_tests::{READER, ask_beside, run_to_fork};
 use crate::waits::block_on;
 use crate::why::Why;
+use crate::written::{lists_of, table_of};
 use std::alloc::Global;
 use std::marker::Brand;
 use std::process::Abort;
 use std::sync::Wait;
 use std::sync::ledger::Blank;
 use std::test::Fail;
-use tj_base::{CellId, Items, Pay, Sort};
-use tj_body::{Answer, Ask, Body, Row, names_and_cells, points_in_rounds};
+use tj_base::{CellId, Items, Sort};
+use tj_body::{Answer, Ask, Body, names_and_cells, points_in_rounds};
 use tj_cells::{Seen, fill, value};
 use tj_detect::Verdict;
 use tj_park::{Parked, park, wake};
@@ -109,18 +109,13 @@ fn set_between<B: Body, P: Pool, R: Wait + Abort>(
 #[test]
 fn a_promise_is_set_by_the_seat_that_is_to_park(rt: HostRuntime) -> Result<(), Fail> {
     let a = rt.alloc();
-    let reader = fork(a, 1, &[1], &[])?;
-    let set = Row::Set {
-        p: 1,
-        v: Pay::Num(5),
-    };
-    let lists = [
-        rows(a, [Row::New, reader, set])?,
-        rows(a, [Row::Get { p: 1 }])?,
-    ];
+    let lists = lists_of(a, READER)?;
     let mut pool = one_end::<LockedPool, HostRuntime>(&rt, a, 3)?;
-    let (laid, mut seat) = table_of(a, &lists, 3)?;
-    let seen = set_between(&rt, a, &laid, &mut seat, &mut pool)?;
-    assert_eq!(rt; seen, Seen::Num(5), "it goes on with the value");
+    let (laid, mut seat) = table_of(&rt, a, &lists, 3)?;
+    let seen = set_between(&rt, a, &laid, &mut seat, &mut pool);
+    assert!(rt;
+        matches!(seen, Ok(Seen::Num(5))),
+        "it goes on with the value"
+    );
     Ok(())
 }

@@ -11,22 +11,22 @@ ghost use Rattle.tj_run.specs.Inner.Beside.{HasBegun, WaitsBeside};
 ghost use Rattle.tj_run.specs.Inner.Carried.{IsRunning, RunsTask};
 
 use crate::answers::resume;
-use crate::life_tests::{one_end, set_asked, table_of};
+use crate::life_tests::{one_end, set_asked};
 use crate::next::Next;
-use crate::pass_tests::{fork, rows};
 use crate::plays::{Turn, leave};
 use crate::pure::next_ask;
 use crate::tasks::one_ask;
 use crate::waits::block_on;
 use crate::why::Why;
+use crate::written::{Says, lists_of, table_of};
 use std::alloc::Global;
 use std::marker::Brand;
 use std::process::Abort;
 use std::sync::Wait;
 use std::sync::ledger::Blank;
 use std::test::Fail;
-use tj_base::{CellId, Pay, Sort};
-use tj_body::{Answer, Ask, Body, Row, points_in_rounds};
+use tj_base::{CellId, Sort};
+use tj_body::{Answer, Ask, Body, points_in_rounds};
 use tj_detect::Verdict;
 use tj_park::{Parked, claim, park};
 use tj_ready::{LockedPool, Pool};
@@ -232,17 +232,27 @@ fn set_beside<B: Body, P: Pool, R: Wait + Abort>(
     set_asked(rt, alloc, laid, seat, &mut rec, ask, pool)
 }
 
+/// The root makes a promise and forks a child that gets it, and joins the child.
+const JOINED: &[&[Says]] = &[
+    &[Says::New, Says::Fork(1, &[1], &[]), Says::Join(2)],
+    &[Says::Get(1)],
+];
+
+/// The root makes a promise and forks a child that gets it, and sets the promise.
+pub(crate) const READER: &[&[Says]] = &[
+    &[Says::New, Says::Fork(1, &[1], &[]), Says::Set(1, 5)],
+    &[Says::Get(1)],
+];
+
 #[test]
 fn a_cycle_of_two_tasks_of_one_seat_alarms(rt: HostRuntime) -> Result<(), Fail> {
     let a = rt.alloc();
-    let child = fork(a, 1, &[1], &[])?;
-    let root = [Row::New, child, Row::Join { t: 2 }];
-    let lists = [rows(a, root)?, rows(a, [Row::Get { p: 1 }])?];
+    let lists = lists_of(a, JOINED)?;
     let mut pool = one_end::<LockedPool, HostRuntime>(&rt, a, 3)?;
-    let (laid, mut seat) = table_of(a, &lists, 3)?;
-    let turn = join_beside(&rt, a, &laid, &mut seat, &mut pool)?;
+    let (laid, mut seat) = table_of(&rt, a, &lists, 3)?;
+    let turn = join_beside(&rt, a, &laid, &mut seat, &mut pool);
     assert!(rt;
-        turn == Some(Turn::Waits(Way::Along, Verdict::Alarm)),
+        matches!(turn, Ok(Some(Turn::Waits(Way::Along, Verdict::Alarm)))),
         "along the order"
     );
     Ok(())
@@ -251,22 +261,19 @@ fn a_cycle_of_two_tasks_of_one_seat_alarms(rt: HostRuntime) -> Result<(), Fail> 
 #[test]
 fn a_task_wakes_another_one_of_its_seat(rt: HostRuntime) -> Result<(), Fail> {
     let a = rt.alloc();
-    let reader = fork(a, 1, &[1], &[])?;
-    let set = Row::Set {
-        p: 1,
-        v: Pay::Num(5),
-    };
-    let lists = [
-        rows(a, [Row::New, reader, set])?,
-        rows(a, [Row::Get { p: 1 }])?,
-    ];
+    let lists = lists_of(a, READER)?;
     let mut pool = one_end::<LockedPool, HostRuntime>(&rt, a, 3)?;
-    let (laid, mut seat) = table_of(a, &lists, 3)?;
-    let woken = set_beside(&rt, a, &laid, &mut seat, &mut pool)?;
-    assert_eq!(rt; woken, 1, "the reader");
-    assert_eq!(rt; pool.take(&rt), Some(CellId(2)), "the reader at its start");
-    assert_eq!(rt; pool.take(&rt), Some(CellId(2)), "the reader again");
-    assert_eq!(rt; pool.take(&rt), None, "and nobody else");
+    let (laid, mut seat) = table_of(&rt, a, &lists, 3)?;
+    let Ok(woken) = set_beside(&rt, a, &laid, &mut seat, &mut pool) else {
+        panic!(rt; "no memory");
+    };
+    assert!(rt; woken == 1, "the reader");
+    assert!(rt;
+        pool.take(&rt) == Some(CellId(2)),
+        "the reader at its start"
+    );
+    assert!(rt; pool.take(&rt) == Some(CellId(2)), "the reader again");
+    assert!(rt; pool.take(&rt).is_none(), "and nobody else");
     let rec = claim(&laid, &mut seat, CellId(2)).expect(&rt, "it is ready again");
     assert!(rt;
         matches!(rec.answer, Answer::RefAt(1)),

@@ -1,72 +1,8 @@
-use Rattle.tj_run.proofs.Prelude.{IsAsked, IsPaid, ap, fill_at, length, program_of, subst, sym, table_asks}
-use Rattle.tj_run.proofs.Prelude.{table_awaits, table_left, table_places, table_program, table_then, ◌∙◌}
-use Rattle.tj_run.proofs.Runs.EndConditions.{ended_left, may_finish, none_other, slot_is}
-use Rattle.tj_run.proofs.Asks.PureAsks.{end_goes}
+use Rattle.tj_run.proofs.Prelude.{◌∙◌}
 use Rattle.tj_run.proofs.ForTests.TestRuns.{may_rest}
-use Rattle.tj_body.specs.declared.ask.Ask.TheVariants as ask
-use Rattle.tj_words.specs.declared.record.Finish.TheVariants as finish
 use Rattle.tj_run.proofs.life_tests.the_root_ends_and_its_table_is_closed.Goals as goal
 
-pub fill_at-given-requires : goal.fill_at-given-requires
-fill_at-given-requires g c =
-    let p = program_of table_places table_awaits table_left table_asks table_then in let l = c.in_ok-laid.laid in
-    let r = c.in_ok-rec.rec in let m = c.begin.new.seat.me in let u = c.in_ok-rec.ensures.runs in let y = c.in-End.v in
-    let a : IsAsked (table_program p l) m.0 r (ask.End y)
-    = subst (λ x. IsAsked (table_program p l) m.0 r x) c.in-End.is c.in_ok-rec.ensures.asked in
-    subst (λ z. IsPaid (length z) y) (sym c.items.ensures) a.placed
-
-pub finish-requires-clause-few : goal.finish-requires-clause-few
-finish-requires-clause-few g c κs =
-    let p = program_of table_places table_awaits table_left table_asks table_then in let l = c.in_ok-laid.laid in
-    let r = c.in_ok-rec.rec in let m = c.begin.new.seat.me in let u = c.in_ok-rec.ensures.runs in let y = c.in-End.v in
-    let a : IsAsked (table_program p l) m.0 r (ask.End y)
-    = subst (λ x. IsAsked (table_program p l) m.0 r x) c.in-End.is c.in_ok-rec.ensures.asked in
-    u.worker.cells.few
-
-pub finish-requires-clause-slot : goal.finish-requires-clause-slot
-finish-requires-clause-slot g c κs =
-    let p = program_of table_places table_awaits table_left table_asks table_then in let l = c.in_ok-laid.laid in
-    let r = c.in_ok-rec.rec in let m = c.begin.new.seat.me in let u = c.in_ok-rec.ensures.runs in let y = c.in-End.v in
-    let a : IsAsked (table_program p l) m.0 r (ask.End y)
-    = subst (λ x. IsAsked (table_program p l) m.0 r x) c.in-End.is c.in_ok-rec.ensures.asked in
-    let f = c.fill_at-given.result in
-    let h = (end_goes p l r m u (c.points_in_rounds.ensures.ask l.strict l.root.value a.rooted) y f
-    (c.fill_at-given.ensures ∙ ap (λ z. fill_at z y) c.items.ensures) a).goes_on in
-    slot_is p l r (finish.Done f) m u h
-
-pub finish-requires-clause-others : goal.finish-requires-clause-others
-finish-requires-clause-others g c κs =
-    let p = program_of table_places table_awaits table_left table_asks table_then in let l = c.in_ok-laid.laid in
-    let r = c.in_ok-rec.rec in let m = c.begin.new.seat.me in let u = c.in_ok-rec.ensures.runs in let y = c.in-End.v in
-    let a : IsAsked (table_program p l) m.0 r (ask.End y)
-    = subst (λ x. IsAsked (table_program p l) m.0 r x) c.in-End.is c.in_ok-rec.ensures.asked in
-    let f = c.fill_at-given.result in
-    let h = (end_goes p l r m u (c.points_in_rounds.ensures.ask l.strict l.root.value a.rooted) y f
-    (c.fill_at-given.ensures ∙ ap (λ z. fill_at z y) c.items.ensures) a).goes_on in
-    none_other p l r (finish.Done f) m u h
-
-pub finish-requires-clause-may : goal.finish-requires-clause-may
-finish-requires-clause-may g c κs =
-    let p = program_of table_places table_awaits table_left table_asks table_then in let l = c.in_ok-laid.laid in
-    let r = c.in_ok-rec.rec in let m = c.begin.new.seat.me in let u = c.in_ok-rec.ensures.runs in let y = c.in-End.v in
-    let a : IsAsked (table_program p l) m.0 r (ask.End y)
-    = subst (λ x. IsAsked (table_program p l) m.0 r x) c.in-End.is c.in_ok-rec.ensures.asked in
-    let f = c.fill_at-given.result in
-    let h = (end_goes p l r m u (c.points_in_rounds.ensures.ask l.strict l.root.value a.rooted) y f
-    (c.fill_at-given.ensures ∙ ap (λ z. fill_at z y) c.items.ensures) a).goes_on in
-    may_finish p l r (finish.Done f) m u h
-
 pub rest-requires-clause-may : goal.rest-requires-clause-may
-rest-requires-clause-may g c κs =
-    let p = program_of table_places table_awaits table_left table_asks table_then in let l = c.in_ok-laid.laid in
-    let r = c.in_ok-rec.rec in let m = c.begin.new.seat.me in let u = c.in_ok-rec.ensures.runs in let y = c.in-End.v in
-    let a : IsAsked (table_program p l) m.0 r (ask.End y)
-    = subst (λ x. IsAsked (table_program p l) m.0 r x) c.in-End.is c.in_ok-rec.ensures.asked in
-    let f = c.fill_at-given.result in
-    let h = (end_goes p l r m u (c.points_in_rounds.ensures.ask l.strict l.root.value a.rooted) y f
-    (c.fill_at-given.ensures ∙ ap (λ z. fill_at z y) c.items.ensures) a).goes_on in
-    let e = c.in_ok-finish.ensures in let n = c.finish.new.seat.me in
-    let left = ended_left p l r (finish.Done f) m u h n e.ended e.slots in
-    may_rest l n c.live.new.seat.me.0 left.free
-    (left.knows.lot ∙ (c.in_ok-rec.ensures.knows.lot ∙ c.in_ok-laid.ensures.lot))
-    (c.live.ensures.rested c.if-live-ne0.false)
+rest-requires-clause-may g c κs = let left = c.in-Ok.ensures.left in
+    may_rest c.in_ok-laid.laid c.run_whole.new.seat.me c.live.new.seat.me.0 left.free
+    (left.knows.lot ∙ c.in_ok-laid.ensures.lot) (c.live.ensures.rested c.if-live-ne0.false)
