@@ -9,7 +9,7 @@ use Rattle.tj_run.proofs.Prelude.{subst, sym, table_program, true, waits_at, way
 use Rattle.tj_words.proofs.Holders.NotedEntries.{noted_here}
 use Rattle.tj_words.proofs.Holders.NotedTasks.{noted_is}
 use Rattle.tj_run.proofs.Waiting.JoinTests.{promise_way}
-use Rattle.tj_run.proofs.Waiting.WaitConditions.{held_as, may_block, may_park, task_cell, wait_cell}
+use Rattle.tj_run.proofs.Waiting.WaitConditions.{IsToWait, held_as, may_block, may_park, task_cell, wait_cell}
 use Rattle.tj_run.proofs.Seats.WorkersSteps.{runs_on}
 use Rattle.tj_run.proofs.ForTests.TwoTasks.{back, first_stays, slots_now, tasks_now}
 use Rattle.tj_run.proofs.Seats.QuietTasks.{acts_quietly}
@@ -43,8 +43,8 @@ runs_body laid r b me h = record {
   owned_apart = h.owned_apart;
 }
 
-module _ {B : Type 0} (program : Bool → B → Program B) (laid : Laid B) (r0 r : Rec B) (p : ℕ) (h : Held)
-    (old m : SeatMe B) (w : WaitsBeside program laid r0 r p h old m) where
+module _ {B : Type 0} {program : Bool → B → Program B} {laid : Laid B} {r0 r : Rec B} {p : ℕ} {h : Held}
+    {old m : SeatMe B} (w : WaitsBeside program laid r0 r p h old m) where
   abbrev its : Program B
   its = table_program program laid
 
@@ -69,18 +69,21 @@ module _ {B : Type 0} (program : Bool → B → Program B) (laid : Laid B) (r0 r
   runs : RunsTask laid r me
   runs = runs_body laid first r.body me (back program laid r0 first old m w.begun).runs
 
+  waits : IsToWait program laid r p false me h
+  waits = record { runs = runs; waits = w.waits; is = w.held }
+
   pub cell_there : q < laid.cells
-  cell_there = wait_cell program laid r p false me runs w.waits h w.held
+  cell_there = wait_cell waits
 
   pub task_there : t < laid.cells
-  task_there = task_cell program laid r p false me runs w.waits h w.held
+  task_there = task_cell waits
 
   other_way : way.Other ≡ way_by m.0.born t q
-  other_way = let i = held_as program laid r p false me runs w.waits h w.held in
+  other_way = let i = held_as waits in
       promise_way m.0.born t q i.reference i.is (i.sort ∙ w.promise)
 
   blocks_alone : MayBlock t q way.Other (alone r m.0)
-  blocks_alone = may_block program laid r p false me runs w.waits h w.held way.Other other_way
+  blocks_alone = may_block waits way.Other other_way
 
   -- it may block
   pub blocks_too : MayBlock t q way.Other m.0
@@ -110,7 +113,7 @@ module _ {B : Type 0} (program : Bool → B → Program B) (laid : Laid B) (r0 r
     walks = doing t does_now blocked.steps 0 (alone r m.0)
 
     parks_alone : MayParkTask program t q way.Other (waits_at p false r) walks
-    parks_alone = may_park program laid r p false me runs w.waits h w.held way.Other (walks, (t, None) ∷ []) refl
+    parks_alone = may_park waits way.Other (walks, (t, None) ∷ []) refl
         verdict.Walked tt (record {
           walker = blocked.walker;
           steps = blocked.steps;

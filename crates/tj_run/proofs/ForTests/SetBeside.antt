@@ -31,8 +31,8 @@ only_one {B} k a u = by (nat_eq k.task u)
     by true e = one_some k a e
     by false e = none_some None a refl e
 
-module _ {B : Type 0} (program : Bool → B → Program B) (laid : Laid B) (r0 r : Rec B) (p : ℕ) (h : Held)
-    (old m : SeatMe B) (w : WaitsBeside program laid r0 r p h old m) (n : SeatMe B) (v : Verdict)
+module _ {B : Type 0} {program : Bool → B → Program B} {laid : Laid B} {r0 r : Rec B} {p : ℕ} {h : Held}
+    {old m : SeatMe B} (w : WaitsBeside program laid r0 r p h old m) (n : SeatMe B) (v : Verdict)
     (walked : v ≡ verdict.Walked) (d : Blocked v r.cell.0 h.cell.0 way.Other m.0 n.0) (same : n.1 ≡ m.1) where
   abbrev t : ℕ
   t = r.cell.0
@@ -44,7 +44,7 @@ module _ {B : Type 0} (program : Bool → B → Program B) (laid : Laid B) (r0 r
   k0 = w.begun.runs.custody
 
   parks : MayParkTask program t h.cell.0 way.Other (waits_at p false r) n.0
-  parks = parks_too program laid r0 r p h old m w n v walked d same
+  parks = parks_too w n v walked d same
 
   abbrev does_now : Does
   does_now = does_after v h.cell.0 way.Other d.walker
@@ -189,9 +189,9 @@ module _ {B : Type 0} (program : Bool → B → Program B) (laid : Laid B) (r0 r
         slots_so = its ∙ mine
 
         pub slot_beside : HasSlot t z
-        slot_beside = let s = slot_first program laid r0 r p h old m w n v walked d same in
+        slot_beside = let s = slot_first w n v walked d same in
             (s.0, slots_so ∙ (s.1 ∙ ap (λ l. (t, s.0) ∷ rest l) (sym slots_so)))
 
         pub other_beside : HasNoRecord (rest z.1)
         other_beside = subst (λ l. HasNoRecord (rest l)) (sym slots_so)
-            (no_other program laid r0 r p h old m w n v walked d same)
+            (no_other w n v walked d same)

@@ -69,7 +69,7 @@ module _ {B : Type 0} (program : Bool → B → Program B) (t : ℕ) (f : Fill) 
         v2 wrote tag (tag_is ∙ fill_tag v.born f fills.value fills.says) v3 last
         ∙ ap (λ y. became t t (entry.Value y) v) (says_one v.born f fills.value x fills.says says)
 
-module _ {B : Type 0} (program : Bool → B → Program B) (laid : Laid B) (r : Rec B) (f : Fill) (me : SeatMe B)
+module _ {B : Type 0} {program : Bool → B → Program B} {laid : Laid B} {r : Rec B} {f : Fill} {me : SeatMe B}
     (h : EndsAlone program laid r f me) where
   abbrev t : ℕ
   t = r.cell.0

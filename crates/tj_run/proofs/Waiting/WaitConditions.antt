@@ -121,10 +121,24 @@ module _ {B : Type 0} (program : Bool → B → Program B) (laid : Laid B) (r : 
   place_inside = let e = pairs_length (HeldSays me.0.born) r.held h.point.references h.tells.held in
       let i = h.inside in omega arith
 
--- the cell that it waits for is this one
-module _ {B : Type 0} (program : Bool → B → Program B) (laid : Laid B) (r : Rec B) (k : ℕ) (spare : Bool)
-    (me : SeatMe B) (runs : RunsTask laid r me) (h : IsWaiting (table_program program laid) me.0 r k spare)
-    (cell : Held) (is : cell ≡ held_at r.held k) where
+-- the seat runs the task of the record, which is to wait for this cell, the one at the place
+pub record IsToWait {B : Type 0} (program : Bool → B → Program B) (laid : Laid B) (r : Rec B) (k : ℕ) (spare : Bool)
+    (me : SeatMe B) (cell : Held) : Type 0 where
+  pub runs : RunsTask laid r me
+  pub waits : IsWaiting (table_program program laid) me.0 r k spare
+  pub is : cell ≡ held_at r.held k
+
+module _ {B : Type 0} {program : Bool → B → Program B} {laid : Laid B} {r : Rec B} {k : ℕ} {spare : Bool}
+    {me : SeatMe B} {cell : Held} (w : IsToWait program laid r k spare me cell) where
+  abbrev runs : RunsTask laid r me
+  runs = w.runs
+
+  abbrev h : IsWaiting (table_program program laid) me.0 r k spare
+  h = w.waits
+
+  abbrev is : cell ≡ held_at r.held k
+  is = w.is
+
   abbrev t : ℕ
   t = r.cell.0
 
@@ -154,7 +168,7 @@ module _ {B : Type 0} (program : Bool → B → Program B) (laid : Laid B) (r : 
   no_wakes : ¬ HasWakeToCome me.0
   no_wakes (inl n) = n runs.worker.nothing.pushes
   no_wakes (inr (inl n)) = n runs.worker.nothing.shuts
-  no_wakes (inr (inr w)) = no_some runs.worker.nothing.rest w.1
+  no_wakes (inr (inr x)) = no_some runs.worker.nothing.rest x.1
 
   -- it may block
   pub may_block : (wait : Way) → wait ≡ way_by me.0.born t cell.cell.0 → MayBlock t cell.cell.0 wait me.0
@@ -167,7 +181,7 @@ module _ {B : Type 0} (program : Bool → B → Program B) (laid : Laid B) (r : 
     task_known = task_known laid r me runs h.point h.tells;
     cell_known = cell_known laid r me runs h.point h.tells k inside_record cell is;
     its_way = e;
-    wakes = λ w. absurd (no_wakes w);
+    wakes = λ x. absurd (no_wakes x);
     room = let z = runs.worker.tokens in let l = runs.worker.lot in omega arith;
   }
 
@@ -309,15 +323,15 @@ module _ {B : Type 0} (program : Bool → B → Program B) (laid : Laid B) (r : 
       workers_now = workers_since does_now b.steps (tokens_given d) (quiet_tokens d quiet)
 
       -- what the seat is after the call
-      module _ (w : View B) (p : HasParked laid.cells m2.0 w) where
-        parked : HasParked laid.cells view_now w
-        parked = subst (λ z. HasParked laid.cells z w) b.view p
+      module _ (v : View B) (p : HasParked laid.cells m2.0 v) where
+        parked : HasParked laid.cells view_now v
+        parked = subst (λ z. HasParked laid.cells z v) b.view p
 
-        knows_then : KnowsMore me.0 w
-        knows_then = more_on me.0 view_now w (since_more does_now b.steps (tokens_given d)) parked.knows
+        knows_then : KnowsMore me.0 v
+        knows_then = more_on me.0 view_now v (since_more does_now b.steps (tokens_given d)) parked.knows
 
-        workers_then : IsWorkers laid w
-        workers_then = workers_on laid view_now w parked.knows parked.hand parked.wakes parked.counts
+        workers_then : IsWorkers laid v
+        workers_then = workers_on laid view_now v parked.knows parked.hand parked.wakes parked.counts
             (parked.all (about_table laid) runs.worker.of_table refl runs.worker.cells) workers_now
 
       -- it has left
@@ -348,53 +362,53 @@ module _ {B : Type 0} (program : Bool → B → Program B) (laid : Laid B) (r : 
       }
 
 -- the same after loads of the tree, by which the way of the wait was found
-module _ {B : Type 0} (program : Bool → B → Program B) (laid : Laid B) (r : Rec B) (k : ℕ) (spare : Bool)
-    (me : SeatMe B) (runs : RunsTask laid r me) (h : IsWaiting (table_program program laid) me.0 r k spare)
-    (cell : Held) (is : cell ≡ held_at r.held k) (m1 : SeatMe B) (read : HasReadTree laid.cells me.0 m1.0)
-    (same : m1.1 ≡ me.1) where
+module _ {B : Type 0} {program : Bool → B → Program B} {laid : Laid B} {r : Rec B} {k : ℕ} {spare : Bool}
+    {me : SeatMe B} {cell : Held} (w : IsToWait program laid r k spare me cell) (m1 : SeatMe B)
+    (read : HasReadTree laid.cells me.0 m1.0) (same : m1.1 ≡ me.1) where
   more : KnowsMore me.0 m1.0
   more = read_more laid.cells me.0 m1.0 read
 
-  runs_then : RunsTask laid r m1
-  runs_then = runs_read laid r me m1 read same runs
-
-  waits_then : IsWaiting (table_program program laid) m1.0 r k spare
-  waits_then = waits_on (table_program program laid) me.0 m1.0 more r k spare h
+  then : IsToWait program laid r k spare m1 cell
+  then = record {
+    runs = runs_read laid r me m1 read same w.runs;
+    waits = waits_on (table_program program laid) me.0 m1.0 more r k spare w.waits;
+    is = w.is;
+  }
 
   abbrev q : ℕ
   q = cell.cell.0
 
   pub block_then : (wait : Way) → wait ≡ way_by m1.0.born r.cell.0 q → MayBlock r.cell.0 q wait m1.0
-  block_then = may_block program laid r k spare m1 runs_then waits_then cell is
+  block_then = may_block then
 
   pub slot_then : (m2 : SeatMe B) → m2.1 ≡ m1.1 → HasSlot r.cell.0 m2
-  slot_then = slot_last program laid r k spare m1 runs_then waits_then cell is
+  slot_then = slot_last then
 
   pub others_then : (m2 : SeatMe B) → m2.1 ≡ m1.1 → HasNoRecord (rest m2.1)
-  others_then = no_others program laid r k spare m1 runs_then waits_then cell is
+  others_then = no_others then
 
   module _ (wait : Way) (m2 : SeatMe B) (slots : m2.1 ≡ m1.1) where
     pub shelve_then : Blocked verdict.Alarm r.cell.0 q wait m1.0 m2.0
         → MayShelve program r.cell.0 (waits_at k spare r) m2.0
-    shelve_then = may_shelve program laid r k spare m1 runs_then waits_then cell is wait m2 slots
+    shelve_then = may_shelve then wait m2 slots
 
     pub left_shelved : Blocked verdict.Alarm r.cell.0 q wait m1.0 m2.0 → (m3 : SeatMe B)
         → m3 ≡ (shelved r.cell.0 m2.0, rest m2.1)
         → IsLeft laid me.0 m3
     left_shelved b m3 e = left_on laid me.0 m1.0 more m3
-        (shelved_left program laid r k spare m1 runs_then waits_then cell is wait m2 slots b m3 e)
+        (shelved_left then wait m2 slots b m3 e)
 
     module _ (d : Verdict) (quiet : IsQuiet d) (b : Blocked d r.cell.0 q wait m1.0 m2.0) where
       pub park_then : MayParkTask program r.cell.0 q wait (waits_at k spare r) m2.0
-      park_then = may_park program laid r k spare m1 runs_then waits_then cell is wait m2 slots d quiet b
+      park_then = may_park then wait m2 slots d quiet b
 
       pub left_parked : (m3 : SeatMe B) → LeftTask laid.cells r.cell.0 m2.0 m3.0 → m3.1 ≡ rest m2.1
           → IsLeft laid me.0 m3
       left_parked m3 p e = left_on laid me.0 m1.0 more m3
-          (parked_left program laid r k spare m1 runs_then waits_then cell is wait m2 slots d quiet b m3 p e)
+          (parked_left then wait m2 slots d quiet b m3 p e)
 
       pub back_parked : (m3 : SeatMe B) (x : Rec B) → GaveBack program laid.cells r.cell.0 q x m2.0 m3.0
           → m3.1 ≡ (r.cell.0, None) ∷ rest m2.1
           → ComesBack program laid x me.0 m3
       back_parked m3 x g e = back_on program laid x me.0 m1.0 more m3
-          (parked_back program laid r k spare m1 runs_then waits_then cell is wait m2 slots d quiet b m3 x g e)
+          (parked_back then wait m2 slots d quiet b m3 x g e)

@@ -17,16 +17,13 @@ block_at-blocked-requires-clause-waiting g c κs within =
     c.in_ok-next.ensures.goes.goes_on c.in-Waits.place c.in-Waits.spare c.in-Waits.is
 
 pub park-requires-clause-slot : goal.park-requires-clause-slot
-park-requires-clause-slot g c κs within = let b = g.B.Body in let x = c.block_at-blocked in
-    blocked_slot (program_of b.places b.awaits b.left b.asks b.then) c.args.laid.now x.new.rec x.result.0.0 x.result.1
-    x.result.2 c.get.new.seat.me x.new.seat.me x.ensures.blocked
+park-requires-clause-slot g c κs within = let x = c.block_at-blocked in
+    blocked_slot x.ensures.blocked
 
 pub park-requires-clause-others : goal.park-requires-clause-others
-park-requires-clause-others g c κs within = let b = g.B.Body in let x = c.block_at-blocked in
-    blocked_others (program_of b.places b.awaits b.left b.asks b.then) c.args.laid.now x.new.rec x.result.0.0 x.result.1
-    x.result.2 c.get.new.seat.me x.new.seat.me x.ensures.blocked
+park-requires-clause-others g c κs within = let x = c.block_at-blocked in
+    blocked_others x.ensures.blocked
 
 pub park-requires-clause-may : goal.park-requires-clause-may
-park-requires-clause-may g c κs within = let b = g.B.Body in let x = c.block_at-blocked in
-    may_be_parked (program_of b.places b.awaits b.left b.asks b.then) c.args.laid.now x.new.rec x.result.0.0 x.result.1
-    x.result.2 c.get.new.seat.me x.new.seat.me x.ensures.blocked (quiet_either x.result.2 (inl c.in-Walked.is))
+park-requires-clause-may g c κs within = let x = c.block_at-blocked in
+    may_be_parked x.ensures.blocked (quiet_either x.result.2 (inl c.in-Walked.is))

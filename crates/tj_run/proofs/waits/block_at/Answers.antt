@@ -1,73 +1,63 @@
 use Rattle.tj_run.proofs.Prelude.{Blocked, ap, held_at, length, program_of, refl, subst, sym, ◌<◌}
-use Rattle.tj_run.proofs.Waiting.WaitConditions.{block_then, held_as, knows_task, place_inside, task_cell, wait_cell}
+use Rattle.tj_run.proofs.Waiting.WaitConditions.{IsToWait, block_then, held_as, knows_task, place_inside, task_cell}
+use Rattle.tj_run.proofs.Waiting.WaitConditions.{wait_cell}
+use Rattle.tj_run.proofs.waits.block_at.Given.{Over}
 use Rattle.tj_run.proofs.waits.block_at.Goals as goal
+use Rattle.tj_run.proofs.waits.block_at.Goals.{After-items}
+
+-- the task is to wait for the cell at the place
+to_wait : (g : Over) (c : After-items g)
+    → let b = g.B.Body in let a = c.args in
+    IsToWait (program_of b.places b.awaits b.left b.asks b.then) a.laid.now a.rec.now a.place a.spare a.seat.now.me
+    (held_at c.items.result.now a.place)
+to_wait g c = record {
+  runs = c.requires.runs;
+  waits = c.requires.waiting;
+  is = ap (λ z. held_at z c.args.place) c.items.ensures;
+}
 
 pub bounds-items-place : goal.bounds-items-place
-bounds-items-place g c =
-    let b = g.B.Body in let p = program_of b.places b.awaits b.left b.asks b.then in let a = c.args in
-    let l = a.laid.now in let u = c.requires.runs in let w = c.requires.waiting in let s = a.seat.now.me in
-    subst (λ z. a.place < length z) (sym c.items.ensures) (place_inside p l a.rec.now a.place a.spare s u w)
+bounds-items-place g c = let w = to_wait g c in let b = g.B.Body in let a = c.args in
+    subst (λ z. a.place < length z) (sym c.items.ensures)
+    (place_inside (program_of b.places b.awaits b.left b.asks b.then) a.laid.now a.rec.now a.place a.spare
+    a.seat.now.me w.runs w.waits)
 
 pub way_to-way-requires-clause-task : goal.way_to-way-requires-clause-task
 way_to-way-requires-clause-task g c κs within =
-    let b = g.B.Body in let p = program_of b.places b.awaits b.left b.asks b.then in let a = c.args in
-    let l = a.laid.now in let u = c.requires.runs in let w = c.requires.waiting in let s = a.seat.now.me in
-    task_cell p l a.rec.now a.place a.spare s u w (held_at a.rec.now.held a.place) refl
+    task_cell (to_wait g (goal.at.way_to-way-requires-clause-task g c).After-items)
 
 pub way_to-way-requires-clause-cell : goal.way_to-way-requires-clause-cell
 way_to-way-requires-clause-cell g c κs within =
-    let b = g.B.Body in let p = program_of b.places b.awaits b.left b.asks b.then in let a = c.args in
-    let l = a.laid.now in let u = c.requires.runs in let w = c.requires.waiting in let s = a.seat.now.me in
-    let h = held_at c.items.result.now a.place in let is = ap (λ z. held_at z a.place) c.items.ensures in
-    wait_cell p l a.rec.now a.place a.spare s u w h is
+    wait_cell (to_wait g (goal.at.way_to-way-requires-clause-cell g c).After-items)
 
 pub way_to-way-requires-clause-task_known : goal.way_to-way-requires-clause-task_known
 way_to-way-requires-clause-task_known g c κs within =
-    let b = g.B.Body in let p = program_of b.places b.awaits b.left b.asks b.then in let a = c.args in
-    let l = a.laid.now in let u = c.requires.runs in let w = c.requires.waiting in let s = a.seat.now.me in
-    knows_task p l a.rec.now a.place a.spare s u w (held_at a.rec.now.held a.place) refl
+    knows_task (to_wait g (goal.at.way_to-way-requires-clause-task_known g c).After-items)
 
 pub way_to-way-requires-clause-held : goal.way_to-way-requires-clause-held
 way_to-way-requires-clause-held g c κs within =
-    let b = g.B.Body in let p = program_of b.places b.awaits b.left b.asks b.then in let a = c.args in
-    let l = a.laid.now in let u = c.requires.runs in let w = c.requires.waiting in let s = a.seat.now.me in
-    let h = held_at c.items.result.now a.place in let is = ap (λ z. held_at z a.place) c.items.ensures in
-    held_as p l a.rec.now a.place a.spare s u w h is
+    held_as (to_wait g (goal.at.way_to-way-requires-clause-held g c).After-items)
 
 pub block_on-verdict-requires-clause-task : goal.block_on-verdict-requires-clause-task
 block_on-verdict-requires-clause-task g c κs within =
-    let b = g.B.Body in let p = program_of b.places b.awaits b.left b.asks b.then in let a = c.args in
-    let l = a.laid.now in let u = c.requires.runs in let w = c.requires.waiting in let s = a.seat.now.me in
-    task_cell p l a.rec.now a.place a.spare s u w (held_at a.rec.now.held a.place) refl
+    task_cell (to_wait g (goal.at.block_on-verdict-requires-clause-task g c).After-items)
 
 pub block_on-verdict-requires-clause-cell : goal.block_on-verdict-requires-clause-cell
 block_on-verdict-requires-clause-cell g c κs within =
-    let b = g.B.Body in let p = program_of b.places b.awaits b.left b.asks b.then in let a = c.args in
-    let l = a.laid.now in let u = c.requires.runs in let w = c.requires.waiting in let s = a.seat.now.me in
-    let h = held_at c.items.result.now a.place in let is = ap (λ z. held_at z a.place) c.items.ensures in
-    wait_cell p l a.rec.now a.place a.spare s u w h is
+    wait_cell (to_wait g (goal.at.block_on-verdict-requires-clause-cell g c).After-items)
 
 pub block_on-verdict-requires-clause-may : goal.block_on-verdict-requires-clause-may
 block_on-verdict-requires-clause-may g c κs within =
-    let b = g.B.Body in let p = program_of b.places b.awaits b.left b.asks b.then in let a = c.args in
-    let l = a.laid.now in let u = c.requires.runs in let w = c.requires.waiting in let s = a.seat.now.me in
-    let h = held_at c.items.result.now a.place in let is = ap (λ z. held_at z a.place) c.items.ensures in
+    let at = goal.at.block_on-verdict-requires-clause-may g c in
     let y = c.way_to-way in
-    block_then p l a.rec.now a.place a.spare s u w h is y.new.seat.me y.ensures.view y.ensures.seat.2 y.result
+    block_then (to_wait g at.After-items) y.new.seat.me y.ensures.view y.ensures.seat.2 y.result
     y.ensures.way
 
 pub returns-clause-task : goal.returns-clause-task
-returns-clause-task g c =
-    let b = g.B.Body in let p = program_of b.places b.awaits b.left b.asks b.then in let a = c.args in
-    let l = a.laid.now in let u = c.requires.runs in let w = c.requires.waiting in let s = a.seat.now.me in
-    task_cell p l a.rec.now a.place a.spare s u w (held_at a.rec.now.held a.place) refl
+returns-clause-task g c = task_cell (to_wait g (goal.at.returns-clause-task g c).After-items)
 
 pub returns-clause-cell : goal.returns-clause-cell
-returns-clause-cell g c =
-    let b = g.B.Body in let p = program_of b.places b.awaits b.left b.asks b.then in let a = c.args in
-    let l = a.laid.now in let u = c.requires.runs in let w = c.requires.waiting in let s = a.seat.now.me in
-    let h = held_at c.items.result.now a.place in let is = ap (λ z. held_at z a.place) c.items.ensures in
-    wait_cell p l a.rec.now a.place a.spare s u w h is
+returns-clause-cell g c = wait_cell (to_wait g (goal.at.returns-clause-cell g c).After-items)
 
 pub returns-clause-blocked : goal.returns-clause-blocked
 returns-clause-blocked g c = let y = c.way_to-way in let z = c.block_on-verdict in record {

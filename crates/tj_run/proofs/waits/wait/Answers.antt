@@ -5,50 +5,42 @@ use Rattle.tj_run.proofs.Waiting.WaitConditions.{quiet_either}
 use Rattle.tj_run.proofs.waits.wait.Goals as goal
 
 pub shelve-requires-clause-slot : goal.shelve-requires-clause-slot
-shelve-requires-clause-slot g c κs within = let b = g.B.Body in let x = c.block_at-way in
-    blocked_slot (program_of b.places b.awaits b.left b.asks b.then) c.args.laid.now x.new.rec x.result.0.0 x.result.1
-    x.result.2 c.args.seat.now.me x.new.seat.me x.ensures.blocked
+shelve-requires-clause-slot g c κs within = let x = c.block_at-way in
+    blocked_slot x.ensures.blocked
 
 pub shelve-requires-clause-may : goal.shelve-requires-clause-may
-shelve-requires-clause-may g c κs within = let b = g.B.Body in let x = c.block_at-way in
-    may_be_shelved (program_of b.places b.awaits b.left b.asks b.then) c.args.laid.now x.new.rec x.result.0.0 x.result.1
-    x.result.2 c.args.seat.now.me x.new.seat.me x.ensures.blocked c.in-Alarm.is
+shelve-requires-clause-may g c κs within = let x = c.block_at-way in
+    may_be_shelved x.ensures.blocked c.in-Alarm.is
 
 pub park-requires-clause-slot : goal.park-requires-clause-slot
-park-requires-clause-slot g c κs within = let b = g.B.Body in let x = c.block_at-way in
-    blocked_slot (program_of b.places b.awaits b.left b.asks b.then) c.args.laid.now x.new.rec x.result.0.0 x.result.1
-    x.result.2 c.args.seat.now.me x.new.seat.me x.ensures.blocked
+park-requires-clause-slot g c κs within = let x = c.block_at-way in
+    blocked_slot x.ensures.blocked
 
 pub park-requires-clause-others : goal.park-requires-clause-others
-park-requires-clause-others g c κs within = let b = g.B.Body in let x = c.block_at-way in
-    blocked_others (program_of b.places b.awaits b.left b.asks b.then) c.args.laid.now x.new.rec x.result.0.0 x.result.1
-    x.result.2 c.args.seat.now.me x.new.seat.me x.ensures.blocked
+park-requires-clause-others g c κs within = let x = c.block_at-way in
+    blocked_others x.ensures.blocked
 
 pub park-requires-clause-may : goal.park-requires-clause-may
-park-requires-clause-may g c κs within = let b = g.B.Body in let x = c.block_at-way in
-    may_be_parked (program_of b.places b.awaits b.left b.asks b.then) c.args.laid.now x.new.rec x.result.0.0 x.result.1
-    x.result.2 c.args.seat.now.me x.new.seat.me x.ensures.blocked (quiet_either x.result.2 c.in-Walked.is)
+park-requires-clause-may g c κs within = let x = c.block_at-way in
+    may_be_parked x.ensures.blocked (quiet_either x.result.2 c.in-Walked.is)
 
 pub returns-in-Alarm-clause-left : goal.returns-in-Alarm-clause-left
-returns-in-Alarm-clause-left g c = let b = g.B.Body in let x = c.block_at-way in
-    λ e. leaves_shelved (program_of b.places b.awaits b.left b.asks b.then) c.args.laid.now x.new.rec x.result.0.0
-    x.result.1 x.result.2 c.args.seat.now.me x.new.seat.me x.ensures.blocked c.in-Alarm.is c.shelve.new.seat.me
+returns-in-Alarm-clause-left g c = let x = c.block_at-way in
+    λ e. leaves_shelved x.ensures.blocked c.in-Alarm.is c.shelve.new.seat.me
     c.shelve.ensures.me
 
 pub returns-in-Left : goal.returns-in-Left
-returns-in-Left g c = let b = g.B.Body in let x = c.block_at-way in record {
+returns-in-Left g c = let x = c.block_at-way in record {
   table = c.park.ensures.table ∙ x.ensures.table;
-  left = λ e. leaves_parked (program_of b.places b.awaits b.left b.asks b.then) c.args.laid.now x.new.rec x.result.0.0
-      x.result.1 x.result.2 c.args.seat.now.me x.new.seat.me x.ensures.blocked (quiet_either x.result.2 c.in-Walked.is)
+  left = λ e. leaves_parked x.ensures.blocked (quiet_either x.result.2 c.in-Walked.is)
       c.park.new.seat.me c.in-Left.ensures.left c.in-Left.ensures.left_slot;
   back = tt;
 }
 
 pub returns-in-Back : goal.returns-in-Back
-returns-in-Back g c = let b = g.B.Body in let x = c.block_at-way in record {
+returns-in-Back g c = let x = c.block_at-way in record {
   table = c.park.ensures.table ∙ x.ensures.table;
   left = λ e. no_some e refl;
-  back = comes_back (program_of b.places b.awaits b.left b.asks b.then) c.args.laid.now x.new.rec x.result.0.0
-      x.result.1 x.result.2 c.args.seat.now.me x.new.seat.me x.ensures.blocked (quiet_either x.result.2 c.in-Walked.is)
+  back = comes_back x.ensures.blocked (quiet_either x.result.2 c.in-Walked.is)
       c.park.new.seat.me c.in-Back.rec c.in-Back.ensures.back c.in-Back.ensures.back_slot;
 }
