@@ -11,8 +11,9 @@ use Rattle.tj_words.specs.AtRest.RestShown.{RestShown}
 use Rattle.tj_program.specs.ClosedRuns.{HasOutcome, HaveWorkers, IsClosedRun, IsClosedRunOf, IsCommandClosed}
 use Rattle.tj_program.specs.ClosedRuns.{IsRunClosed, has_workers}
 use Rattle.tj_program.specs.Inner.ClosedOutputs.{AreWith, IsGiven, IsPutWith, IsRunGiven}
-use Rattle.tj_program.specs.Runs.{Start, StartOf, IsRunOf, full, ended, started, status_of, text_of}
-use Rattle.tj_program.specs.declared.command.Command.TheVariants.{Run, Plan, List as list, Judge, Known, Relay, Watch}
+use Rattle.tj_modes.specs.Runs.{Start, StartOf, IsRunOf, NeedsMore, full, ended, started, status_of, text_of}
+use Rattle.tj_modes.specs.Texts.{full_line}
+use Rattle.tj_modes.specs.declared.command.Command.TheVariants.{Run, Plan, List as list, Judge, Known, Relay, Watch}
 
 module _ {B : Type 0} (program : Bool → B → Program B) where
   -- what rests under names that are the table's own rests under these
@@ -54,6 +55,14 @@ module _ {B : Type 0} (program : Bool → B → Program B) where
         cycles = h.cycles;
         alarms = h.alarms;
       })
+
+module _ {B : Type 0} where
+  -- what a run that is full gives
+  pub IsRunGiven-unrested : (told : Told) (start : StartOf B) (status : Status) (text : List ℕ)
+      (closed : Option (List RestCell)) → NeedsMore start → status ≡ Full → text ≡ full_line start.cells
+      → closed ≡ None → IsRunGiven told start status text closed
+  IsRunGiven-unrested told start status text closed more s t none =
+      subst (IsRunGiven told start status text) (sym none) (more, s, t)
 
 -- there is nothing in `None`
 pub nothing : IsSome {T = List RestCell} None → ⊥

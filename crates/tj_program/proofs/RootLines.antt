@@ -25,7 +25,7 @@ use Rattle.tj_words.specs.declared.record.Rec.{Rec}
 use Rattle.tj_future.specs.RootWatches.{IsRootWatched, watched_of}
 use Rattle.tj_future.specs.declared.watched.Watched.{Watched}
 use Rattle.tj_program.specs.Inner.WatchTells.{WatchTells}
-use Rattle.tj_program.specs.RootLines.{ending_line, root_line}
+use Rattle.tj_modes.specs.RootLines.{ending_line, root_line}
 use Rattle.tj_base.specs.declared.value.Shown.TheVariants as shown
 use Rattle.tj_body.specs.declared.ask.Answer.TheVariants as answer
 use Rattle.tj_body.specs.declared.point.Close.TheVariants as close

@@ -1,5 +1,5 @@
 -- Runs over workers: the closed words of the table that come with a text and a status, and that they are of one run.
-use Rattle.std.specs.Prelude.{ℕ, ◌≡◌, Bool, true, false, List, Option, String}
+use Rattle.std.specs.Prelude.{ℕ, ◌≡◌, Bool, true, List, Option, String}
 use Rattle.std.specs.Io.KnownBytes.{Appends}
 use Rattle.std.specs.declared.alloc.Global.{Global}
 use Rattle.tj_mean.specs.declared.outcome.Outcome.{Outcome}
@@ -8,14 +8,14 @@ use Rattle.tj_report.specs.ClosedOutcomes.{AreCyclesOfOutcomeAlarmed}
 use Rattle.tj_words.specs.AtRest.ClosedCells.{AreAtRest, AreCyclesAlarmed, AreAlarmsOnCycles}
 use Rattle.tj_words.specs.AtRest.RestMeaning.{HaveWords}
 use Rattle.tj_words.specs.declared.closed.RestCell.{RestCell}
-use Rattle.tj_program.specs.CommandLine.{IsCommand}
-use Rattle.tj_program.specs.Output.{IsStart}
-use Rattle.tj_program.specs.RelayRuns.{relay_start}
-use Rattle.tj_program.specs.Runs.{Start, StartOf, NeedsMore, IsOutcomeOf, status_of, text_of}
-use Rattle.tj_program.specs.declared.command.Command.{Command}
-use Rattle.tj_program.specs.declared.command.Command.TheVariants.{Run, Gen, Relay, Watch}
-use Rattle.tj_program.specs.declared.script_run.Told.{Told}
-use Rattle.tj_program.specs.declared.script_run.Told.TheVariants.{Report, Root, Summary}
+use Rattle.tj_modes.specs.CommandLine.{IsCommand}
+use Rattle.tj_modes.specs.Output.{IsStart, has_workers}
+use Rattle.tj_modes.specs.RelayRuns.{relay_start}
+use Rattle.tj_modes.specs.Runs.{Start, StartOf, NeedsMore, IsOutcomeOf, status_of, text_of}
+use Rattle.tj_modes.specs.declared.command.Command.{Command}
+use Rattle.tj_modes.specs.declared.command.Command.TheVariants.{Gen, Relay, Watch}
+use Rattle.tj_modes.specs.declared.script_run.Told.{Told}
+use Rattle.tj_modes.specs.declared.script_run.Told.TheVariants.{Report, Root, Summary}
 use Rattle.tj_command.specs.declared.status.Status.{Status}
 use Rattle.tj_command.specs.declared.status.Status.TheVariants.{Clean, Marked}
 
@@ -24,14 +24,6 @@ abbrev pub HasOutcome : Status → Type 0
 HasOutcome Clean = Unit {0}
 HasOutcome Marked = Unit {0}
 HasOutcome _ = ⊥
-
--- whether the command runs tasks over workers
-abbrev pub has_workers : Command → Bool
-has_workers (Run workers cells steps strict) = true
-has_workers (Gen size workers cells steps) = true
-has_workers (Relay size workers cells) = true
-has_workers (Watch workers cells steps) = true
-has_workers _ = false
 
 -- the words are a command that runs tasks over workers
 abbrev pub HaveWorkers : List (String Global) → Type 0

@@ -1,7 +1,3 @@
 -- What only the functions inside the crate speak of, and proofs that the kit wants in specs. No public clause does.
-pub mod LineNumbers
-pub mod LineParse
-pub mod LineWords
-pub mod Inputs
 pub mod ClosedOutputs
 pub mod WatchTells

@@ -1,15 +1,4 @@
-pub mod CommandLine
-pub mod Delivery
-pub mod Generated
-pub mod Judgings
-pub mod Output
-pub mod Runs
-pub mod StrictRuns
-pub mod Texts
 pub mod Inner
 pub mod ClosedRuns
-pub mod KnownRuns
-pub mod RootLines
 pub mod TestBodies
-pub mod RelayRuns
 pub mod TopAnswers

@@ -5,16 +5,16 @@ use Rattle.std.specs.declared.alloc.Global.{Global}
 use Rattle.tj_ports.specs.Faults.{HasFault, HasNoFault, IsSound}
 use Rattle.tj_words.specs.declared.closed.RestCell.{RestCell}
 use Rattle.tj_program.specs.ClosedRuns.{HasOutcome, HaveWorkers, IsClosedRunOf}
-use Rattle.tj_program.specs.CommandLine.{HasNoForm, IsCommand}
-use Rattle.tj_program.specs.Delivery.{HasText, IsAnswered, IsOutputPart}
-use Rattle.tj_program.specs.KnownRuns.{KnownJoinsOfMeaningAreAlong}
-use Rattle.tj_program.specs.Output.{IsOutput, IsStart, TakesInput}
-use Rattle.tj_program.specs.Runs.{Start}
+use Rattle.tj_modes.specs.CommandLine.{HasNoForm, IsCommand}
+use Rattle.tj_modes.specs.Delivery.{HasText, IsAnswered, IsOutputPart}
+use Rattle.tj_modes.specs.KnownRuns.{KnownJoinsOfMeaningAreAlong}
+use Rattle.tj_modes.specs.Output.{IsOutput, IsStart, TakesInput}
+use Rattle.tj_modes.specs.Runs.{Start}
 use Rattle.tj_syntax.specs.ScriptTexts.{most_bytes}
-use Rattle.tj_program.specs.StrictRuns.{StrictRunsNeverWait}
-use Rattle.tj_program.specs.Texts.{usage_line}
-use Rattle.tj_program.specs.declared.command.Command.{Command}
-use Rattle.tj_program.specs.declared.command.Command.TheVariants.{Known}
+use Rattle.tj_modes.specs.StrictRuns.{StrictRunsNeverWait}
+use Rattle.tj_modes.specs.Texts.{usage_line}
+use Rattle.tj_modes.specs.declared.command.Command.{Command}
+use Rattle.tj_modes.specs.declared.command.Command.TheVariants.{Known}
 use Rattle.tj_command.specs.declared.status.Status.{Status}
 use Rattle.tj_command.specs.declared.status.Status.TheVariants.{Usage, ReadFault, WriteFault, Memory}
 

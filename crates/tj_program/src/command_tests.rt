@@ -1,8 +1,9 @@
 // What command lines ask for.
-use crate::command::{Command, command_of};
 use crate::tests::words_of;
 use std::alloc::Global;
+use std::process::Abort;
 use std::test::Fail;
+use tj_modes::{Command, command_of};
 
 // Whether the line asks for this.
 fn asks(alloc: Global, line: &str, wanted: Option<Command>) -> Result<bool, Fail> {
@@ -56,82 +57,60 @@ fn watch_with(workers: u32, cells: u32, steps: u32) -> Option<Command> {
     })
 }
 
-#[test]
-fn absent_options(rt: HostRuntime) -> Result<(), Fail> {
-    let alloc = rt.alloc();
-    assert!(rt; asks(alloc, "run", run_with(4, 4096, 100_000, false))?);
-    assert!(rt; asks(alloc, "plan", plan_with(4096, 100_000, false))?);
-    assert!(rt; asks(alloc, "list", Some(Command::List))?);
-    assert!(rt; asks(alloc, "judge", Some(Command::Judge { cells: 256 }))?);
-    assert!(rt; asks(alloc, "gen", gen_with(100, 4, 4096, 100_000))?);
-    assert!(rt; asks(alloc, "known", known_with(4096, 100_000))?);
-    assert!(rt; asks(alloc, "relay", relay_with(100, 4, 4096))?);
-    assert!(rt; asks(alloc, "watch", watch_with(4, 4096, 100_000))?);
+/// Asserts each row: the line, and what it asks for.
+fn ask_each(rt: &(impl Abort + AllocGlobal), rows: &[(&str, Option<Command>)]) -> Result<(), Fail> {
+    for row in rows {
+        let (line, wanted) = *row;
+        assert!(rt; asks(rt.alloc(), line, wanted)?, "{line}");
+    }
     Ok(())
 }
 
 #[test]
+fn absent_options(rt: HostRuntime) -> Result<(), Fail> {
+    let rows = [
+        ("run", run_with(4, 4096, 100_000, false)),
+        ("plan", plan_with(4096, 100_000, false)),
+        ("list", Some(Command::List)),
+        ("judge", Some(Command::Judge { cells: 256 })),
+        ("gen", gen_with(100, 4, 4096, 100_000)),
+        ("known", known_with(4096, 100_000)),
+        ("relay", relay_with(100, 4, 4096)),
+        ("watch", watch_with(4, 4096, 100_000)),
+    ];
+    ask_each(&rt, &rows)
+}
+
+#[test]
 fn options_in_any_order(rt: HostRuntime) -> Result<(), Fail> {
-    let alloc = rt.alloc();
     let greatest = run_with(64, 16_384, 1_000_000, true);
-    assert!(rt;
-        asks(
-            alloc,
+    let rows = [
+        (
             "run --workers 64 --cells 16384 --steps 1000000 --strict",
-            greatest
-        )?
-    );
-    assert!(rt;
-        asks(
-            alloc,
+            greatest,
+        ),
+        (
             "run --strict --steps 1000000 --workers 64 --cells 16384",
-            greatest
-        )?
-    );
-    assert!(rt;
-        asks(
-            alloc,
-            "plan --steps 1 --strict --cells 1",
-            plan_with(1, 1, true)
-        )?
-    );
-    assert!(rt;
-        asks(
-            alloc,
-            "judge --cells 1024",
-            Some(Command::Judge { cells: 1024 })
-        )?
-    );
-    assert!(rt;
-        asks(
-            alloc,
+            greatest,
+        ),
+        ("plan --steps 1 --strict --cells 1", plan_with(1, 1, true)),
+        ("judge --cells 1024", Some(Command::Judge { cells: 1024 })),
+        (
             "gen --workers 16 --size 4000",
-            gen_with(4000, 16, 4096, 100_000)
-        )?
-    );
-    assert!(rt;
-        asks(
-            alloc,
-            "run --cells 0000000005",
-            run_with(4, 5, 100_000, false)
-        )?
-    );
-    assert!(rt; asks(alloc, "known --steps 7 --cells 4096", known_with(4096, 7))?);
-    assert!(rt;
-        asks(
-            alloc,
+            gen_with(4000, 16, 4096, 100_000),
+        ),
+        ("run --cells 0000000005", run_with(4, 5, 100_000, false)),
+        ("known --steps 7 --cells 4096", known_with(4096, 7)),
+        (
             "relay --cells 16384 --size 4000 --workers 64",
-            relay_with(4000, 64, 16_384)
-        )?
-    );
-    assert!(rt;
-        asks(
-            alloc,
+            relay_with(4000, 64, 16_384),
+        ),
+        (
             "watch --steps 7 --cells 16384 --workers 64",
-            watch_with(64, 16_384, 7)
-        )?
-    );
-    Ok(())
+            watch_with(64, 16_384, 7),
+        ),
+    ];
+    ask_each(&rt, &rows)
 }
 
 #[test]

@@ -1,9 +1,7 @@
 //! Scripts and journals that go to the limits, and each prefix of a script and of a journal. What is
 //! written is worked out by hand from the rules.
 use crate::mode_tests::TWO_WALKS;
-use crate::row_tests::{
-    HANDED_DOWN, Row, answered, answered_within, shows, shows_each, shows_lines,
-};
+use crate::row_tests::{HANDED_DOWN, ROOM, Row, shows, shows_each, shows_lines, written};
 use std::alloc::Global;
 use std::process::Abort;
 use std::sync::Wait;
@@ -80,11 +78,12 @@ fn shows_ends(
     length: usize,
     (front, back): (&str, &str),
 ) -> Result<(), Fail> {
-    let (found, _closed, sink) = answered_within(rt, line, input, room, &OpenGate)?;
-    assert_eq!(rt; found, status, "{line}");
-    assert_eq!(rt; sink.bytes().len(), length, "{line}");
-    assert!(rt; sink.bytes().starts_with(front.as_bytes()), "{line}");
-    assert!(rt; sink.bytes().ends_with(back.as_bytes()), "{line}");
+    let found = written(rt, line, input, room, &OpenGate)?;
+    assert!(rt; found.status == status, "{line}");
+    let text = found.text.as_slice();
+    assert_eq!(rt; text.len(), length, "{line}");
+    let ends = text.starts_with(front.as_bytes()) && text.ends_with(back.as_bytes());
+    assert!(rt; ends, "{line}");
     Ok(())
 }
 
@@ -157,8 +156,8 @@ fn each_proper_prefix_of_a_script(rt: HostRuntime) -> Result<(), Fail> {
             let Some(front) = HANDED_DOWN.get(..n) else {
                 continue;
             };
-            let (found, _closed, _sink) = answered(&rt, line, front, &OpenGate)?;
-            assert_eq!(rt; found, Status::Script, "{line}, {n} bytes");
+            let found = written(&rt, line, front, ROOM, &OpenGate)?;
+            assert!(rt; found.status == Status::Script, "{line}, {n} bytes");
         }
     }
     Ok(())
@@ -185,8 +184,11 @@ fn each_prefix_of_a_journal(rt: HostRuntime) -> Result<(), Fail> {
         } else {
             format!(in alloc; "legal {number} events\n")?
         };
-        let (_found, _closed, sink) = answered(&rt, "judge", front, &OpenGate)?;
-        assert!(rt; sink.bytes().ends_with(last.as_bytes()), "{n} bytes");
+        let found = written(&rt, "judge", front, ROOM, &OpenGate)?;
+        assert!(rt;
+            found.text.as_slice().ends_with(last.as_bytes()),
+            "{n} bytes"
+        );
     }
     Ok(())
 }

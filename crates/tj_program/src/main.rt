@@ -2,23 +2,14 @@
 //! want one, and writes what that gives.
 #![tactic(auto)]
 
-mod command;
 #[cfg(test)]
 mod command_tests;
 #[cfg(test)]
 mod edge_tests;
-mod fault_lines;
-mod generated;
 #[cfg(test)]
 mod hostile_tests;
-mod judging;
-mod known_run;
 #[cfg(test)]
 mod known_tests;
-mod laws;
-mod line_parse;
-mod line_words;
-mod mode;
 mod mode_outputs;
 #[cfg(test)]
 mod mode_tests;
@@ -26,12 +17,10 @@ mod output;
 mod relay_run;
 #[cfg(test)]
 mod relay_tests;
-mod root_lines;
 #[cfg(test)]
 mod row_tests;
 #[cfg(test)]
 mod rule_tests;
-mod script_run;
 #[cfg(test)]
 mod shy_tests;
 #[cfg(test)]
@@ -39,6 +28,7 @@ mod storm_tests;
 #[cfg(test)]
 mod tests;
 mod top_call;
+mod watch_lines;
 mod watch_runs;
 #[cfg(test)]
 mod watch_tests;

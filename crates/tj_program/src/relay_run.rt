@@ -4,19 +4,19 @@ ghost use Rattle.std.specs.Prelude.{◌<◌, ◌≤◌, IfOk};
 ghost use Rattle.tj_gen.specs.declared.script.TheConstants.{MAX_SIZE};
 ghost use Rattle.tj_base.specs.declared.cell.TheConstants.{MAX_CELLS};
 ghost use Rattle.tj_program.specs.Inner.ClosedOutputs.{IsRunGiven};
-ghost use Rattle.tj_program.specs.RelayRuns.{IsRelayRun, relay_start};
+ghost use Rattle.tj_modes.specs.RelayRuns.{IsRelayRun, relay_start};
 
-use crate::output::ClosedOutput;
-use crate::script_run::{Told, full};
+use crate::output::{ClosedOutput, unrested};
 use crate::worker_runs::ended_at_rest;
 use std::alloc::Global;
 use std::sync::Wait;
 use std::thread::Threads;
 use tj_base::Oom;
 use tj_chan::{ChanBody, Relay, relay_root};
+use tj_modes::Told;
 use tj_ports::Gate;
 use tj_ready::StealPool;
-use tj_run::{RunFault, run_all};
+use tj_run::run_all;
 
 /// The report of a run of the relay of so many items, or that it is full.
 pub fn relay_by_workers<G: Gate, R: Wait + Threads + Sync>(
@@ -42,10 +42,6 @@ pub fn relay_by_workers<G: Gate, R: Wait + Threads + Sync>(
         rt, alloc, root, cells, workers, gate, false,
     ) {
         Ok(rest) => ended_at_rest(alloc, rest, Told::Report),
-        Err(RunFault::Full) => Ok(ClosedOutput {
-            output: full(alloc, cells)?,
-            closed: None,
-        }),
-        Err(RunFault::Oom) => Err(Oom),
+        Err(fault) => unrested(alloc, fault, cells),
     }
 }

@@ -3,7 +3,6 @@ ghost use Rattle.std.specs.Prelude.{◌≡◌, ◌<◌, ◌≤◌, length, IfOk,
 ghost use Rattle.tj_chan.specs.ChatTables.{is_chat_table};
 
 use crate::row_tests::shows;
-use crate::script_run::Told;
 use crate::tests::{THREE, USAGE};
 use crate::worker_runs::ended_at_rest;
 use std::alloc::Global;
@@ -14,6 +13,7 @@ use tj_base::{Items, Oom};
 use tj_chan::{ChanBody, ChatRow, ChatRowList, TableChat};
 use tj_command::Status;
 use tj_mean::{PlanFault, plan};
+use tj_modes::Told;
 use tj_ports::OpenGate;
 use tj_ready::LockedPool;
 use tj_report::report_text;

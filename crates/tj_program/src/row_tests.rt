@@ -6,7 +6,7 @@ use std::process::Abort;
 use std::sync::Wait;
 use std::test::Fail;
 use std::thread::Threads;
-use tj_command::Status;
+use tj_command::{Output, Status};
 use tj_ports::{Gate, MemSink, MemSource, OpenGate};
 use tj_words::Closed;
 
@@ -32,19 +32,12 @@ pub const FIB_OF_3: &str =
 pub const FIB_OF_3_REPORT: &str = "0 prints 2\n0 done 0\n0.1 done 2\n0.1.1 done 1\n0.1.1.1 done 1\n\
     0.1.1.2 done 0\n0.1.2 done 1\nclean\n";
 
-/// What the words over the input answer where the workers pass the gate, and the sink that they
-/// wrote to.
-pub fn answered<G: Gate>(
-    rt: &(impl Abort + AllocGlobal + Wait + Threads + Sync),
-    line: &str,
-    input: &str,
-    gate: &G,
-) -> Result<(Status, Option<Closed>, MemSink), Fail> {
-    answered_within(rt, line, input, 131_072, gate)
-}
+/// The room of a sink for what most rows write.
+pub const ROOM: u32 = 131_072;
 
-/// The same where the sink has room for so many bytes.
-pub fn answered_within<G: Gate>(
+/// What the words over the input answer where the workers pass the gate, and the sink that they
+/// wrote to, which has room for so many bytes.
+pub fn answered<G: Gate>(
     rt: &(impl Abort + AllocGlobal + Wait + Threads + Sync),
     line: &str,
     input: &str,
@@ -59,6 +52,20 @@ pub fn answered_within<G: Gate>(
     Ok((status, closed, sink))
 }
 
+/// The status and the text that the words over the input write, where the workers pass the gate and
+/// the sink has room for so many bytes.
+pub fn written<G: Gate>(
+    rt: &(impl Abort + AllocGlobal + Wait + Threads + Sync),
+    line: &str,
+    input: &str,
+    room: u32,
+    gate: &G,
+) -> Result<Output, Fail> {
+    let (status, _closed, sink) = answered(rt, line, input, room, gate)?;
+    let text = sink.bytes().to_vec(rt.alloc())?;
+    Ok(Output { status, text })
+}
+
 /// Asserts what the words over the input write, and the status.
 pub fn shows(
     rt: &(impl Abort + AllocGlobal + Wait + Threads + Sync),
@@ -67,9 +74,9 @@ pub fn shows(
     status: Status,
     output: &str,
 ) -> Result<(), Fail> {
-    let (found, _closed, sink) = answered(rt, line, input, &OpenGate)?;
-    assert_eq!(rt; found, status, "{line}");
-    assert_eq!(rt; sink.bytes(), output.as_bytes(), "{line}");
+    let found = written(rt, line, input, ROOM, &OpenGate)?;
+    assert!(rt; found.status == status, "{line}");
+    assert_eq!(rt; found.text.as_slice(), output.as_bytes(), "{line}");
     Ok(())
 }
 
@@ -123,9 +130,9 @@ pub fn shows_lines(
     lines: usize,
     (front, back): (&str, &str),
 ) -> Result<(), Fail> {
-    let (found, _closed, sink) = answered(rt, line, input, &OpenGate)?;
-    assert_eq!(rt; found, status, "{line}");
-    let text = sink.bytes();
+    let found = written(rt, line, input, ROOM, &OpenGate)?;
+    assert!(rt; found.status == status, "{line}");
+    let text = found.text.as_slice();
     assert_eq!(rt; lines_in(text), lines, "{line}");
     let ends = text.starts_with(front.as_bytes()) && text.ends_with(back.as_bytes());
     assert!(rt; ends, "{line}");

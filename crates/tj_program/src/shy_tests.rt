@@ -4,7 +4,6 @@ ghost use Rattle.std.specs.Prelude.{◌≡◌, ◌<◌, length, IfOk, IsTrue};
 ghost use Rattle.tj_body.specs.Table.{is_table};
 ghost use Rattle.tj_program.specs.TestBodies.ShyAsks as shy;
 
-use crate::script_run::Told;
 use crate::worker_runs::ended_at_rest;
 use std::alloc::Global;
 use std::sync::Wait;
@@ -14,6 +13,7 @@ use tj_base::{CellId, Items, Oom, Pay};
 use tj_body::{Answer, Ask, Body, Row, RowList, TableBody};
 use tj_eval::{ScriptBody, main_body};
 use tj_mean::{PlanFault, plan};
+use tj_modes::Told;
 use tj_ports::OpenGate;
 use tj_ready::{LockedPool, Pool};
 use tj_run::{RunFault, run_all};

@@ -4,8 +4,7 @@
 ghost use Rattle.std.specs.Prelude.{◌≡◌, ◌<◌, ◌≤◌};
 ghost use Rattle.tj_program.specs.TestBodies.ShyAsks as wrapped;
 
-use crate::row_tests::{AGAINST_THE_ORDER, FIB_OF_3, JOIN_EACH_OTHER, TWO_WAIT, answered};
-use crate::script_run::Told;
+use crate::row_tests::{AGAINST_THE_ORDER, FIB_OF_3, JOIN_EACH_OTHER, ROOM, TWO_WAIT, written};
 use crate::worker_runs::ended_at_rest;
 use std::alloc::Global;
 use std::hint;
@@ -15,6 +14,7 @@ use std::thread::{self, Threads};
 use tj_base::Oom;
 use tj_body::{Answer, Ask, Body};
 use tj_eval::{ScriptBody, main_body};
+use tj_modes::Told;
 use tj_ports::{Gate, OpenGate};
 use tj_ready::StealPool;
 use tj_run::run_all;
@@ -186,12 +186,11 @@ fn run_line(seed: u64) -> &'static str {
 #[test]
 fn workers_at_a_drawn_gate(rt: HostRuntime) -> Result<(), Fail> {
     for input in WORKED {
-        let (status, _closed, meant) = answered(&rt, "plan", input, &OpenGate)?;
+        let meant = written(&rt, "plan", input, ROOM, &OpenGate)?;
         for seed in 0..SEEDS {
-            let gate = DrawnGate { seed };
-            let (found, _closed, sink) = answered(&rt, run_line(seed), input, &gate)?;
-            assert_eq!(rt; found, status, "{seed}");
-            assert_eq!(rt; sink.bytes(), meant.bytes(), "{seed}");
+            let found = written(&rt, run_line(seed), input, ROOM, &DrawnGate { seed })?;
+            assert!(rt; found.status == meant.status, "{seed}");
+            assert!(rt; found.text.as_slice() == meant.text.as_slice(), "{seed}");
         }
     }
     Ok(())
@@ -201,14 +200,14 @@ fn workers_at_a_drawn_gate(rt: HostRuntime) -> Result<(), Fail> {
 fn tasks_that_yield_at_each_ask(rt: HostRuntime) -> Result<(), Fail> {
     let alloc = rt.alloc();
     for input in SHORT {
-        let (_status, _closed, meant) = answered(&rt, "plan", input, &OpenGate)?;
+        let meant = written(&rt, "plan", input, ROOM, &OpenGate)?;
         for seed in 0..SEEDS {
             let found = if seed % 2 == 0 {
                 yielding_report(&rt, alloc, input, 2, seed)?
             } else {
                 yielding_report(&rt, alloc, input, 8, seed)?
             };
-            assert_eq!(rt; found.as_slice(), meant.bytes(), "{seed}");
+            assert!(rt; found.as_slice() == meant.text.as_slice(), "{seed}");
         }
     }
     Ok(())

@@ -1,8 +1,8 @@
 //! What the program writes and answers where an input is too long or a port fails.
 ghost use Rattle.std.specs.Prelude.{◌≡◌, ◌⊎◌, length};
 ghost use Rattle.tj_ports.specs.Memory.{SurelyTakes};
-ghost use Rattle.tj_program.specs.CommandLine.{HasNoForm};
-ghost use Rattle.tj_program.specs.Texts.{usage_line};
+ghost use Rattle.tj_modes.specs.CommandLine.{HasNoForm};
+ghost use Rattle.tj_modes.specs.Texts.{usage_line};
 
 use crate::top_call::run_words;
 use std::alloc::{AllocError, Global};
@@ -53,7 +53,7 @@ fn shows_over(
 ) -> Result<(), Fail> {
     let words = words_of(rt.alloc(), line)?;
     let (found, _closed) = run_words(rt, rt.alloc(), words.as_slice(), source, sink, &OpenGate);
-    assert_eq!(rt; found, status, "{line}");
+    assert!(rt; found == status, "{line}");
     assert_eq!(rt; sink.bytes(), output.as_bytes(), "{line}");
     Ok(())
 }
@@ -198,7 +198,7 @@ fn no_write_fails_where_there_is_room(rt: HostRuntime) -> Result<(), Fail> {
     let mut source = MemSource::new(Vec::new(alloc), 1, Vec::new(alloc));
     let mut sink = MemSink::new(alloc, 200, 7, Vec::new(alloc))?;
     let found = status_without_form(&rt, alloc, words.as_slice(), &mut source, &mut sink);
-    assert_eq!(rt; found, Status::Usage);
+    assert!(rt; found == Status::Usage);
     assert_eq!(rt; sink.bytes(), USAGE.as_bytes());
     Ok(())
 }

@@ -8,22 +8,19 @@ ghost use Rattle.std.specs.Io.KnownBytes.{Appends};
 ghost use Rattle.tj_ports.specs.Faults.{HasFault, HasNoFault, IsSound};
 ghost use Rattle.tj_ports.specs.Reading.{IsWithin};
 ghost use Rattle.tj_program.specs.ClosedRuns.{HasOutcome, HaveWorkers, IsClosedRun, IsClosedRunOf};
-ghost use Rattle.tj_program.specs.CommandLine.{HasLimits, HasNoForm, IsCommand};
-ghost use Rattle.tj_program.specs.StrictRuns.{StrictRunsNeverWait};
-ghost use Rattle.tj_program.specs.declared.command.Command.{Command};
+ghost use Rattle.tj_modes.specs.CommandLine.{HasLimits, HasNoForm, IsCommand};
+ghost use Rattle.tj_modes.specs.StrictRuns.{StrictRunsNeverWait};
+ghost use Rattle.tj_modes.specs.declared.command.Command.{Command};
 ghost use Rattle.tj_command.specs.declared.status.Status.{Status};
 ghost use Rattle.tj_syntax.specs.ScriptTexts.{most_bytes};
-ghost use Rattle.tj_program.specs.Texts.{usage_line};
-ghost use Rattle.tj_program.specs.Inner.ClosedOutputs.{AreWith, IsPutWith, IsAnswerPut};
-ghost use Rattle.tj_program.specs.Inner.Inputs.{HasRead};
-ghost use Rattle.tj_program.specs.KnownRuns.{KnownJoinsOfMeaningAreAlong};
-ghost use Rattle.tj_program.specs.Output.{IsOutput, IsStart, TakesInput, takes_input};
-ghost use Rattle.tj_program.specs.Runs.{Start};
-ghost use Rattle.tj_program.specs.Delivery.{HasText, IsAnswered, IsOutputPart};
+ghost use Rattle.tj_modes.specs.Texts.{usage_line};
+ghost use Rattle.tj_program.specs.Inner.ClosedOutputs.{AreWith, IsPutWith};
+ghost use Rattle.tj_modes.specs.Inputs.{HasRead};
+ghost use Rattle.tj_modes.specs.KnownRuns.{KnownJoinsOfMeaningAreAlong};
+ghost use Rattle.tj_modes.specs.Output.{IsOutput, IsStart, TakesInput, takes_input};
+ghost use Rattle.tj_modes.specs.Runs.{Start};
+ghost use Rattle.tj_modes.specs.Delivery.{HasText, IsAnswerPut, IsAnswered, IsOutputPart};
 
-use crate::command::{Command, command_of};
-use crate::fault_lines::USAGE_LINE;
-use crate::laws::{known_joins_are_along, one_output, strict_runs_never_wait};
 use crate::mode_outputs::given_by;
 use crate::output::ClosedOutput;
 use std::alloc::Global;
@@ -32,6 +29,9 @@ use std::thread::Threads;
 use tj_base::ByteList;
 use tj_command::{Status, put_text};
 use tj_lex::MAX_TEXT;
+use tj_modes::{
+    Command, USAGE_LINE, command_of, known_joins_are_along, one_output, strict_runs_never_wait,
+};
 use tj_ports::{Gate, ReadEnd, ReadFault, Sink, Source, put_all, read_all};
 use tj_words::Closed;
 

@@ -5,18 +5,16 @@ ghost use Rattle.tj_future.specs.RootWatches.{IsRootWatched};
 ghost use Rattle.tj_ports.specs.Reading.{IsWithin};
 ghost use Rattle.tj_run.specs.Runs.{RestsAt};
 ghost use Rattle.tj_program.specs.Inner.ClosedOutputs.{IsRunGiven};
-ghost use Rattle.tj_program.specs.Inner.Inputs.{IsReadOf};
-ghost use Rattle.tj_program.specs.Output.{IsRefused, IsStartOfText};
-ghost use Rattle.tj_program.specs.Runs.{Start, IsStartOf, script_program, start_of};
+ghost use Rattle.tj_modes.specs.Inputs.{IsReadOf};
+ghost use Rattle.tj_modes.specs.Output.{IsRefused, IsStartOfText};
+ghost use Rattle.tj_modes.specs.Runs.{Start, IsStartOf, script_program, start_of};
 ghost use Rattle.tj_syntax.specs.ScriptTexts.{IsSomeScript};
 ghost use Rattle.tj_command.specs.Limits.{AreLimits};
 ghost use Rattle.tj_syntax.specs.ScriptTexts.{most_bytes};
 ghost use Rattle.tj_syntax.specs.View as view;
 
-use crate::mode_outputs::refused;
-use crate::output::ClosedOutput;
-use crate::root_lines::watch_line;
-use crate::script_run::{Told, full};
+use crate::output::{ClosedOutput, refused_alone, unrested};
+use crate::watch_lines::watch_line;
 use std::alloc::Global;
 use std::sync::Wait;
 use std::thread::Threads;
@@ -25,10 +23,10 @@ use tj_command::{Output, script_of, status_of};
 use tj_eval::{ScriptBody, main_body};
 use tj_future::{Watched, run_watched};
 use tj_mean::marked;
+use tj_modes::Told;
 use tj_ports::{Gate, ReadEnd};
 use tj_ready::StealPool;
 use tj_report::outcome_of;
-use tj_run::RunFault;
 use tj_syntax::Script;
 use tj_words::RestWords;
 
@@ -54,10 +52,7 @@ pub fn watch_by_workers<G: Gate, R: Wait + Threads + Sync>(
 {
     match script_of(alloc, input) {
         Ok(script) => watched_script(rt, alloc, &script, cells, steps, workers, gate),
-        Err(fault) => Ok(ClosedOutput {
-            output: refused(alloc, fault)?,
-            closed: None,
-        }),
+        Err(fault) => refused_alone(alloc, fault),
     }
 }
 
@@ -82,11 +77,7 @@ fn watched_script<G: Gate, R: Wait + Threads + Sync>(
     let root = main_body(alloc, script, steps)?;
     match run_watched::<ScriptBody<'_>, StealPool, G, R>(rt, alloc, root, cells, workers, gate) {
         Ok((watched, rest)) => watched_at_rest(alloc, watched, rest),
-        Err(RunFault::Full) => Ok(ClosedOutput {
-            output: full(alloc, cells)?,
-            closed: None,
-        }),
-        Err(RunFault::Oom) => Err(Oom),
+        Err(fault) => unrested(alloc, fault, cells),
     }
 }
 

@@ -1,17 +1,17 @@
 //! The words of the command line, and the status that belongs to them.
 ghost use Rattle.std.specs.Prelude.{◌≡◌, None, String};
-ghost use Rattle.tj_program.specs.Delivery.{IsPutAs};
-ghost use Rattle.tj_program.specs.Texts.{usage_line};
+ghost use Rattle.tj_modes.specs.Delivery.{IsPutAs};
+ghost use Rattle.tj_modes.specs.Texts.{usage_line};
 ghost use Rattle.tj_program.specs.TopAnswers.{IsTopAnswer};
 ghost use Rattle.std.specs.declared.vec.Vec.{Vec};
 ghost use Rattle.std.specs.declared.alloc.Global.{Global};
 
-use crate::fault_lines::USAGE_LINE;
 use crate::top_call::run_words;
 use std::alloc::Global;
 use std::sync::Wait;
 use std::thread::Threads;
 use tj_command::{Given, Status, put_text};
+use tj_modes::USAGE_LINE;
 use tj_ports::{Gate, Sink, Source};
 use tj_words::Closed;
 

@@ -62,7 +62,7 @@ fn shows(
 ) -> Result<(), Fail> {
     let given = words_given(&(line, rt.alloc()));
     let (found, sink) = answered(rt, given, faults)?;
-    assert_eq!(rt; found, status);
+    assert!(rt; found == status);
     assert_eq!(rt; sink.bytes(), output.as_bytes());
     Ok(())
 }
@@ -87,7 +87,7 @@ fn words_of_a_command_line(rt: HostRuntime) -> Result<(), Fail> {
 #[test]
 fn no_memory_for_the_words(rt: HostRuntime) -> Result<(), Fail> {
     let (found, sink) = answered(&rt, Given::Oom, (0, 0))?;
-    assert_eq!(rt; found, Status::Memory);
+    assert!(rt; found == Status::Memory);
     assert!(rt; sink.bytes().is_empty());
     Ok(())
 }

@@ -7,18 +7,15 @@ ghost use Rattle.tj_gen.specs.Script.{script_text};
 ghost use Rattle.tj_ports.specs.Reading.{IsWithin};
 ghost use Rattle.tj_run.specs.Runs.{RestsAt};
 ghost use Rattle.tj_program.specs.Inner.ClosedOutputs.{IsRunGiven};
-ghost use Rattle.tj_program.specs.Inner.Inputs.{IsReadOf};
-ghost use Rattle.tj_program.specs.Output.{IsRefused, IsStartOfText};
-ghost use Rattle.tj_program.specs.Runs.{Start, IsStartOf, started};
+ghost use Rattle.tj_modes.specs.Inputs.{IsReadOf};
+ghost use Rattle.tj_modes.specs.Output.{IsRefused, IsStartOfText};
+ghost use Rattle.tj_modes.specs.Runs.{Start, IsStartOf, started};
 ghost use Rattle.tj_syntax.specs.ScriptTexts.{IsSomeScript};
 ghost use Rattle.tj_command.specs.Limits.{AreLimits};
 ghost use Rattle.tj_syntax.specs.ScriptTexts.{most_bytes};
 ghost use Rattle.tj_syntax.specs.View as view;
 
-use crate::generated::generated_text_is_a_script;
-use crate::mode_outputs::refused;
-use crate::output::ClosedOutput;
-use crate::script_run::{Told, ended, full};
+use crate::output::{ClosedOutput, refused_alone, unrested};
 use std::alloc::Global;
 use std::sync::Wait;
 use std::thread::Threads;
@@ -27,10 +24,11 @@ use tj_body::Body;
 use tj_command::{Limits, Output, script_of, status_of};
 use tj_eval::{ScriptBody, main_body};
 use tj_gen::gen_script;
+use tj_modes::{Told, ended, generated_text_is_a_script};
 use tj_ports::{Gate, ReadEnd};
 use tj_ready::StealPool;
 use tj_report::{outcome_of, report_at_rest};
-use tj_run::{RunFault, run_all};
+use tj_run::run_all;
 use tj_syntax::{Script, script_in};
 use tj_words::RestWords;
 
@@ -53,10 +51,7 @@ pub fn report_by_workers<G: Gate, R: Wait + Threads + Sync>(
 {
     match script_of(alloc, input) {
         Ok(script) => run_by_workers(rt, alloc, &script, limits, Told::Report, workers, gate),
-        Err(fault) => Ok(ClosedOutput {
-            output: refused(alloc, fault)?,
-            closed: None,
-        }),
+        Err(fault) => refused_alone(alloc, fault),
     }
 }
 
@@ -92,10 +87,7 @@ pub fn summary_by_workers<G: Gate, R: Wait + Threads + Sync>(
             )
         }
         // The generated text has no fault, so this is want of memory.
-        Err(fault) => Ok(ClosedOutput {
-            output: refused(alloc, fault)?,
-            closed: None,
-        }),
+        Err(fault) => refused_alone(alloc, fault),
     }
 }
 
@@ -126,11 +118,7 @@ fn run_by_workers<G: Gate, R: Wait + Threads + Sync>(
         rt, alloc, root, cells, workers, gate, strict,
     ) {
         Ok(rest) => ended_at_rest(alloc, rest, told),
-        Err(RunFault::Full) => Ok(ClosedOutput {
-            output: full(alloc, cells)?,
-            closed: None,
-        }),
-        Err(RunFault::Oom) => Err(Oom),
+        Err(fault) => unrested(alloc, fault, cells),
     }
 }
 

@@ -1,8 +1,11 @@
 //! What tests alone show of the workers: that two of them enter the gate beside each other, and
 //! which closed words a run has.
-use crate::row_tests::{FIB_OF_3, FIB_OF_3_REPORT, JOIN_EACH_OTHER, answered};
+use crate::row_tests::{FIB_OF_3, FIB_OF_3_REPORT, JOIN_EACH_OTHER, ROOM, answered, written};
+use std::process::Abort;
+use std::sync::Wait;
 use std::sync::atomic::{AtomicBool, Ordering};
 use std::test::Fail;
+use std::thread::Threads;
 use tj_base::CellId;
 use tj_command::Status;
 use tj_ports::{Gate, OpenGate};
@@ -51,9 +54,12 @@ impl Gate for MeetingGate {
 fn two_workers_enter_beside_each_other(rt: HostRuntime) -> Result<(), Fail> {
     for worker in 1..=2 {
         let gate = MeetingGate::holding(worker);
-        let (status, _closed, sink) = answered(&rt, "run --workers 2", FIB_OF_3, &gate)?;
-        assert_eq!(rt; status, Status::Clean, "{worker}");
-        assert_eq!(rt; sink.bytes(), FIB_OF_3_REPORT.as_bytes(), "{worker}");
+        let found = written(&rt, "run --workers 2", FIB_OF_3, ROOM, &gate)?;
+        assert!(rt; found.status == Status::Clean, "{worker}");
+        assert!(rt;
+            found.text.as_slice() == FIB_OF_3_REPORT.as_bytes(),
+            "{worker}"
+        );
         assert!(rt; gate.held_entered.load(Ordering::SeqCst), "{worker}");
         assert!(rt; gate.other_entered.load(Ordering::SeqCst), "{worker}");
         assert!(rt; !gate.gave_up.load(Ordering::SeqCst), "{worker}");
@@ -71,19 +77,29 @@ fn has_alarm(closed: &Closed) -> bool {
     false
 }
 
+/// How many cells the closed words have that a command line answers for a cycle of two, and whether
+/// a task of theirs has alarmed.
+fn closed_words(
+    rt: &(impl Abort + AllocGlobal + Wait + Threads + Sync),
+    line: &str,
+) -> Result<Option<(u32, bool)>, Fail> {
+    let (_status, closed, _sink) = answered(rt, line, JOIN_EACH_OTHER, ROOM, &OpenGate)?;
+    let Some(closed) = closed else {
+        return Ok(None);
+    };
+    let found = (closed.drawn(), has_alarm(&closed));
+    Ok(Some(found))
+}
+
 #[test]
 fn a_cycle_of_two_has_alarmed(rt: HostRuntime) -> Result<(), Fail> {
     for line in ["run --workers 1", "run --workers 2", "run --workers 8"] {
-        let (_status, closed, _sink) = answered(&rt, line, JOIN_EACH_OTHER, &OpenGate)?;
-        let Some(closed) = closed else {
-            return Err(Fail::new("closed words are wanting"));
-        };
-        assert_eq!(rt; closed.drawn(), 2, "{line}");
-        assert!(rt; has_alarm(&closed), "{line}");
+        let words = closed_words(&rt, line)?;
+        assert!(rt; words == Some((2, true)), "{line}");
     }
     for line in ["plan", "list", "judge", "run --cells 1", "go"] {
-        let (_status, closed, _sink) = answered(&rt, line, JOIN_EACH_OTHER, &OpenGate)?;
-        assert!(rt; closed.is_none(), "{line}");
+        let words = closed_words(&rt, line)?;
+        assert!(rt; words.is_none(), "{line}");
     }
     Ok(())
 }

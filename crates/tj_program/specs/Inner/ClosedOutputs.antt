@@ -4,13 +4,12 @@ use Rattle.std.specs.Io.KnownBytes.{Appends}
 use Rattle.tj_ports.specs.Faults.{HasFault}
 use Rattle.tj_ports.specs.Putting.{GrowsByPart}
 use Rattle.tj_words.specs.declared.closed.RestCell.{RestCell}
-use Rattle.tj_program.specs.ClosedRuns.{HasOutcome, IsCommandClosed, IsRunClosed, has_workers}
-use Rattle.tj_command.specs.Delivery.{IsPutOf}
-use Rattle.tj_program.specs.Output.{IsCommandOutput}
-use Rattle.tj_program.specs.Runs.{StartOf, NeedsMore}
-use Rattle.tj_program.specs.Texts.{full_line}
-use Rattle.tj_program.specs.declared.command.Command.{Command}
-use Rattle.tj_program.specs.declared.script_run.Told.{Told}
+use Rattle.tj_program.specs.ClosedRuns.{HasOutcome, IsCommandClosed, IsRunClosed}
+use Rattle.tj_modes.specs.Output.{IsCommandOutput, has_workers}
+use Rattle.tj_modes.specs.Runs.{StartOf, NeedsMore}
+use Rattle.tj_modes.specs.Texts.{full_line}
+use Rattle.tj_modes.specs.declared.command.Command.{Command}
+use Rattle.tj_modes.specs.declared.script_run.Told.{Told}
 use Rattle.tj_command.specs.declared.status.Status.{Status}
 use Rattle.tj_command.specs.declared.status.Status.TheVariants.{Full, WriteFault}
 
@@ -39,8 +38,3 @@ IsPutWith HasRoom status text closed before after count_before count_after answe
     ((answer ≡ status) × (words ≡ closed) × Appends before after text)
     ⊎ ((answer ≡ WriteFault) × (words ≡ None) × GrowsByPart before after text × HasFault count_before count_after
     × ((room : ℕ) → HasRoom room → room < length text))
-
--- the output of a command was put, or the sink failed before its end
-abbrev pub IsAnswerPut : (HasRoom : ℕ → Type 0) → Command → List ℕ → Option (List ℕ) → Option (List ℕ) → ℕ → ℕ → Status
-    → Type 0
-IsAnswerPut HasRoom command input = IsPutOf (IsCommandOutput command input) HasRoom

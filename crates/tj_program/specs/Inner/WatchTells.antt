@@ -7,7 +7,7 @@ use Rattle.tj_mean.specs.declared.outcome.Ending.TheVariants as ending
 use Rattle.tj_mean.specs.declared.outcome.TaskLine.{TaskLine}
 use Rattle.tj_words.specs.declared.record.Fill.{Fill}
 use Rattle.tj_words.specs.declared.record.Fill.TheVariants as fill
-use Rattle.tj_program.specs.RootLines.{ending_line, root_line}
+use Rattle.tj_modes.specs.RootLines.{ending_line, root_line}
 
 -- the root's line has the number with which it ended; the name of a reference stands in that line alone
 abbrev pub ValueTells : Fill → List TaskLine → Type 0

@@ -1,7 +1,7 @@
 use Rattle.tj_program.proofs.Prelude.{None, false≢true, refl, subst, sym, takes_input, true, ◌∙◌, ◌≡◌}
 use Rattle.tj_program.proofs.ClosedRuns.{alone, IsGiven-alone, IsGiven-gen, IsGiven-relay, IsGiven-report}
 use Rattle.tj_program.proofs.ClosedRuns.{IsGiven-watch}
-use Rattle.tj_program.proofs.Outputs.{if_both, if_ok}
+use Rattle.tj_modes.proofs.Outputs.{if_both, if_ok}
 use Rattle.tj_program.proofs.mode_outputs.given_by.Goals as goal
 
 pub returns-in-Run : goal.returns-in-Run

@@ -1,8 +1,10 @@
-use Rattle.tj_program.proofs.Prelude.{None, Report, ap, bodies_of, crosses, false, relay_rules, relay_start, root_body}
+use Rattle.tj_program.proofs.Prelude.{Report, ap, bodies_of, crosses, false, relay_rules, relay_start, root_body}
 use Rattle.tj_program.proofs.Prelude.{sendable, ◌∙◌}
-use Rattle.tj_program.proofs.ClosedRuns.{IsRunOf-given, given_named, rests_named}
-use Rattle.tj_program.proofs.Outputs.{if_ok}
-use Rattle.tj_program.proofs.RelayRuns.{by_lists, meant_named, named}
+use Rattle.tj_program.proofs.ClosedRuns.{IsRunGiven-unrested, IsRunOf-given, given_named, rests_named}
+use Rattle.tj_modes.specs.Runs.{started}
+use Rattle.tj_modes.proofs.Outputs.{if_ok}
+use Rattle.tj_modes.proofs.RelayRuns.{by_lists, meant_named}
+use Rattle.tj_program.proofs.RelayRuns.{named}
 use Rattle.tj_program.proofs.relay_run.relay_by_workers.Goals as goal
 
 -- the body of a relay may cross threads
@@ -29,17 +31,16 @@ returns-in-Ok-clause-lists g c = if_ok c.ended_at_rest.result (λ given run.
     c.relay_root.ensures.root c.in_ok-root.ensures.root c.in_ok-root.ensures.lists) _ _
     (IsRunOf-given Report (relay_start c.args.size c.args.cells) _ _ _ run)) (returns-in-Ok-clause-run g c)
 
-pub returns-in_ok-full-in-Err-Full-clause-run : goal.returns-in_ok-full-in-Err-Full-clause-run
-returns-in_ok-full-in-Err-Full-clause-run g c = named c.args.size c.args.cells c.in_ok-root.root _ _ None
-    (c.in_ok-root.ensures.root ∙ ap root_body c.relay_root.ensures.root) (
-      c.in-Err-Full.ensures.full c.in-Err-Full.field-0-is,
-      c.in_ok-full-in-Err-Full.ensures.status,
-      c.in_ok-full-in-Err-Full.ensures.text,
-    )
+pub returns-in-Err-clause-run : goal.returns-in-Err-clause-run
+returns-in-Err-clause-run g c =
+    let root = c.in_ok-root.root in
+    if_ok c.unrested.result (λ given is. named c.args.size c.args.cells root _ _ _
+    (c.in_ok-root.ensures.root ∙ ap root_body c.relay_root.ensures.root)
+    (IsRunGiven-unrested Report (started (bodies_of relay_rules) false c.args.cells root) _ _ _
+    (c.in-Err.ensures.full is.0) is.1 is.2 is.3)) c.unrested.ensures
 
-pub returns-in_ok-full-in-Err-Full-clause-lists : goal.returns-in_ok-full-in-Err-Full-clause-lists
-returns-in_ok-full-in-Err-Full-clause-lists g c =
+pub returns-in-Err-clause-lists : goal.returns-in-Err-clause-lists
+returns-in-Err-clause-lists g c = if_ok c.unrested.result (λ given run.
     by_lists c.args.size c.args.cells (meant_named c.args.size c.relay_root.result c.in_ok-root.root
     c.relay_root.ensures.root c.in_ok-root.ensures.root c.in_ok-root.ensures.lists) _ _
-    (IsRunOf-given Report (relay_start c.args.size c.args.cells) _ _ None
-    (returns-in_ok-full-in-Err-Full-clause-run g c))
+    (IsRunOf-given Report (relay_start c.args.size c.args.cells) _ _ _ run)) (returns-in-Err-clause-run g c)

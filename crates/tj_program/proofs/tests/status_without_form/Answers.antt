@@ -1,7 +1,7 @@
 use Rattle.tj_program.proofs.Prelude.{Clean, Full, Global, HasNoForm, HasText, List, Marked, Memory, ReadFault, Script}
 use Rattle.tj_program.proofs.Prelude.{Status, String, TakesInput, Usage, WriteFault, [], arith, inl, inr, length, refl}
 use Rattle.tj_program.proofs.Prelude.{usage, ◌≡◌, ◌≢◌, ◌≤◌, ◌⊎◌}
-use Rattle.tj_program.specs.Texts.{usage_line}
+use Rattle.tj_modes.specs.Texts.{usage_line}
 use Rattle.tj_program.proofs.tests.status_without_form.Goals as goal
 
 settled : (words : List (String Global)) (answer : Status) → HasNoForm words → answer ≢ WriteFault

@@ -1,7 +1,7 @@
 use Rattle.tj_program.proofs.Prelude.{HasRead, IsGiven, List, ℕ}
 use Rattle.tj_program.proofs.ClosedRuns.{nothing, AreWith-put, IsClosedRun-put, IsPutAs-with}
 use Rattle.tj_command.proofs.Puts.{IsOwnAnswer}
-use Rattle.tj_program.proofs.Deliveries.{own_answer}
+use Rattle.tj_modes.proofs.Deliveries.{own_answer}
 use Rattle.tj_command.proofs.Inputs.{some_input}
 use Rattle.tj_program.proofs.top_call.answer.Given.{Over}
 use Rattle.tj_program.proofs.top_call.answer.Goals as goal

@@ -1,5 +1,5 @@
 use Rattle.tj_program.proofs.Prelude.{false≢true, sym, ◌∙◌}
-use Rattle.tj_program.proofs.Inputs.{takes_none}
+use Rattle.tj_modes.proofs.Inputs.{takes_none}
 use Rattle.tj_program.proofs.top_call.input_of.Goals as goal
 
 pub returns-in-Gen-clause-rest : goal.returns-in-Gen-clause-rest

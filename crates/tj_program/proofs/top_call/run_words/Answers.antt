@@ -1,13 +1,13 @@
 use Rattle.tj_program.proofs.Prelude.{HasNoForm, HasRead, IsCommand, IsOutput, Known, List, MatchOption, Some, [], ap}
 use Rattle.tj_program.proofs.Prelude.{TakesInput, subst, takes_input, true, usage, ℕ, ◌≡◌}
-use Rattle.tj_program.proofs.Lines.CommandLines.{one_command, within_limits}
+use Rattle.tj_modes.proofs.Lines.CommandLines.{one_command, within_limits}
 use Rattle.tj_command.proofs.Puts.{IsAnsweredBy-put, IsPartOf-put, exact, no_write_fault, put_whole}
-use Rattle.tj_program.proofs.Deliveries.{IsAnswered-command, put_whole-command, IsOutputPart-command}
-use Rattle.tj_program.proofs.Deliveries.{no_write_fault-command}
+use Rattle.tj_modes.proofs.Deliveries.{IsAnswered-command, put_whole-command, IsOutputPart-command}
+use Rattle.tj_modes.proofs.Deliveries.{no_write_fault-command}
 use Rattle.tj_program.proofs.ClosedRuns.{HaveWorkers-command, IsClosedRunOf-command, IsClosedRunOf-some, never_with}
 use Rattle.tj_program.proofs.ClosedRuns.{nothing}
 use Rattle.tj_command.proofs.Inputs.{some_input}
-use Rattle.tj_program.proofs.StrictRuns.{never_waits-words}
+use Rattle.tj_modes.proofs.StrictRuns.{never_waits-words}
 use Rattle.tj_program.proofs.top_call.run_words.Given.{Over}
 use Rattle.tj_program.proofs.top_call.run_words.Goals as goal
 

@@ -1,5 +1,5 @@
-use Rattle.tj_program.proofs.Prelude.{inl, inr, refl}
-use Rattle.tj_program.proofs.Outputs.{if_ok, IsRefused-fault}
+use Rattle.tj_program.proofs.Prelude.{inl, inr}
+use Rattle.tj_modes.proofs.Outputs.{if_ok, IsRefused-fault}
 use Rattle.tj_syntax.specs.View as view
 use Rattle.tj_program.proofs.watch_runs.watch_by_workers.Goals as goal
 
@@ -7,10 +7,7 @@ pub returns-in-Ok : goal.returns-in-Ok
 returns-in-Ok g c = if_ok c.watched_script.result (λ given ran all read.
     inr (ran.0, (view.script c.in-Ok.script, c.in-Ok.ensures.ok all read, ran.1), ran.2)) c.watched_script.ensures
 
-pub returns-in_ok-refused-in-Err : goal.returns-in_ok-refused-in-Err
-returns-in_ok-refused-in-Err g c = λ all read. inl (
-  IsRefused-fault c.in-Err.fault c.args.input.now _ _ all c.in-Err.ensures.fault
-      c.in_ok-refused-in-Err.ensures.status c.in_ok-refused-in-Err.ensures.text
-      c.in_ok-refused-in-Err.ensures.none read,
-  refl,
-)
+pub returns-in-Err : goal.returns-in-Err
+returns-in-Err g c = if_ok c.refused_alone.result (λ given is all read.
+    inl (IsRefused-fault c.in-Err.fault c.args.input.now _ _ all c.in-Err.ensures.fault is.0 is.1 is.2 read, is.3))
+    c.refused_alone.ensures

@@ -1,7 +1,7 @@
 use Rattle.tj_program.proofs.Prelude.{crosses, expr_sync, refl, script_program, script_sync, sendable, start_of}
 use Rattle.tj_program.proofs.Prelude.{stmt_sync}
-use Rattle.tj_program.proofs.ClosedRuns.{given_named, rests_named}
-use Rattle.tj_program.proofs.Outputs.{if_ok}
+use Rattle.tj_program.proofs.ClosedRuns.{IsRunGiven-unrested, given_named, rests_named}
+use Rattle.tj_modes.proofs.Outputs.{if_ok}
 use Rattle.tj_program.proofs.worker_runs.run_by_workers.Goals as goal
 
 -- a body of a script may cross threads
@@ -25,15 +25,13 @@ returns-in-Ok g c =
       given_named script_program c.args.told root limits.cells limits.strict c.in-Ok.rest _ _ _ c.in-Ok.ensures.rest is,
     )) c.ended_at_rest.ensures
 
-pub returns-in_ok-full-in-Err-Full : goal.returns-in_ok-full-in-Err-Full
-returns-in_ok-full-in-Err-Full g c =
+pub returns-in-Err : goal.returns-in-Err
+returns-in-Err g c =
     let root = c.in_ok-root.root in
-    let limits = c.args.limits in (
-      start_of limits.strict limits.cells root,
+    let limits = c.args.limits in
+    let start = start_of limits.strict limits.cells root in
+    if_ok c.unrested.result (λ given is. (
+      start,
       (root, c.in_ok-root.ensures.main, refl),
-      (
-        c.in-Err-Full.ensures.full c.in-Err-Full.field-0-is,
-        c.in_ok-full-in-Err-Full.ensures.status,
-        c.in_ok-full-in-Err-Full.ensures.text,
-      ),
-    )
+      IsRunGiven-unrested c.args.told start _ _ _ (c.in-Err.ensures.full is.0) is.1 is.2 is.3,
+    )) c.unrested.ensures

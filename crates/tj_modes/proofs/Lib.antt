@@ -1,0 +1,10 @@
+pub mod Deliveries
+pub mod Inputs
+pub mod OneOutput
+pub mod Outputs
+pub mod StrictRuns
+pub mod Lines
+pub mod GeneratedScripts
+pub mod KnownRuns
+pub mod RelayRuns
+pub mod Prelude

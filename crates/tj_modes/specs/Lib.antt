@@ -1,0 +1,13 @@
+pub mod CommandLine
+pub mod Delivery
+pub mod Generated
+pub mod Inputs
+pub mod Judgings
+pub mod Output
+pub mod Runs
+pub mod StrictRuns
+pub mod Texts
+pub mod Inner
+pub mod KnownRuns
+pub mod RootLines
+pub mod RelayRuns

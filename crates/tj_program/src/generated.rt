@@ -1,9 +1,0 @@
-//! The generated script, read as any other. The fact speaks of the definitions alone.
-ghost use Rattle.std.specs.Prelude.{ℕ, ◌≤◌};
-ghost use Rattle.tj_gen.specs.declared.script.TheConstants.{MAX_SIZE};
-ghost use Rattle.tj_program.specs.Generated.{IsGenerated};
-
-/// The generated text of each size is a script, and its own listing: no fault is found in it.
-pub fn generated_text_is_a_script()
-    ensures { (size : ℕ) → size ≤ MAX_SIZE → IsGenerated size }
-{}
