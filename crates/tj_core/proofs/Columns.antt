@@ -3,7 +3,6 @@ pub mod Additions
 pub mod ColumnLists
 pub mod BirthNames
 pub mod OwnedCounts
-pub mod Puts
 pub mod Slots
 pub mod Starts
 pub mod StepEvents

@@ -1,14 +1,3 @@
-pub mod CoreState
-pub mod Events
-pub mod Runs
-pub mod WaitGraph
-pub mod Facts
-pub mod CoreFacts
-pub mod Laws
-pub mod StateLaws
-pub mod EventLaws
-pub mod WalkLaws
-pub mod RunLaws
 pub mod Inner
 pub mod Journals
 pub mod Checker

@@ -3,15 +3,15 @@
 use crate::machine::Machine;
 use crate::slot_stage::SlotStage;
 use crate::stage::Illegal;
-use crate::walk::Way;
 use crate::walk_step::WalkStep;
 use tj_base::CellId;
+use tj_events::Way;
 
 impl Machine {
     ghost use Rattle.std.specs.Prelude.{◌≡◌, ℕ, ◌<◌, ◌≤◌, ◌↔◌, IsTrue, [], length, Some, IfSome, OnOk, OnErr};
     ghost use Rattle.tj_base.specs.Puts.{put};
-    ghost use Rattle.tj_core.specs.CoreState.{waits, walks, parked, stage};
-    ghost use Rattle.tj_core.specs.Events.{IsRunning, MayPublish, start_walk, restage, alter, owned_by};
+    ghost use Rattle.tj_events.specs.CoreState.{waits, walks, parked, stage};
+    ghost use Rattle.tj_events.specs.Events.{IsRunning, MayPublish, start_walk, restage, alter, owned_by};
     ghost use Rattle.tj_core.specs.Inner.Machine.{Accepts, Refuses, Changes, state_of, limit_of, loads_of};
     ghost use Rattle.tj_core.specs.Inner.Owners.{IsInside};
     ghost use Rattle.tj_core.specs.Inner.SlotStages.{IsIdle, cell_stage};

@@ -7,7 +7,7 @@ use tj_base::{CellId, Oom};
 
 impl Machine {
     ghost use Rattle.std.specs.Prelude.{ℕ, map, IfOk, MatchOption};
-    ghost use Rattle.tj_core.specs.WaitGraph.{Leads, IsOnCycle, IsCycleFrom};
+    ghost use Rattle.tj_events.specs.WaitGraph.{Leads, IsOnCycle, IsCycleFrom};
     ghost use Rattle.tj_core.specs.Inner.Machine.{state_of};
 
     /// The owner of the cell that a task waits for.

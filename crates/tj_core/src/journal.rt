@@ -4,9 +4,9 @@ ghost use Rattle.std.specs.Prelude.{◌≡◌, ℕ, ◌∷◌, ◌<◌, ◌≤�
 ghost use Rattle.std.specs.List.{prefix_len};
 ghost use Rattle.tj_core.specs.Journals.Lines.{lines_of, words_of, AreEventLines, IsEventLine, IsFirstFault, OrMemory, HasSmallCells, Names};
 
-use crate::event::Event;
 use crate::line::event_of;
 use std::alloc::{AllocError, AllocFailed, Global};
+use tj_events::Event;
 
 /// The most bytes of a journal that is read.
 pub const MAX_JOURNAL: usize = 1_048_576;

@@ -2,19 +2,18 @@
 //! walk ends, and the first event that isn't allowed ends the text.
 ghost use Rattle.std.specs.Prelude.{◌≡◌, ◌≤◌, ◌<◌, ◌∷◌, ◌++◌, drop, map, codes, decimal, IfOk, IsSome, Some};
 ghost use Rattle.std.specs.List.{flat_map};
-ghost use Rattle.tj_core.specs.CoreFacts.{CoreFacts};
-ghost use Rattle.tj_core.specs.Events.{Allowed};
+ghost use Rattle.tj_events.specs.CoreFacts.{CoreFacts};
+ghost use Rattle.tj_events.specs.Events.{Allowed};
 ghost use Rattle.tj_core.specs.Checker.Core.{core_state, core_limit};
 ghost use Rattle.tj_core.specs.Journals.Judging.{IsJudged, IsSaid, settled_line, alarm_line, wait_text, legal_line, illegal_line};
 ghost use Rattle.tj_core.specs.Journals.Judging as spec;
 
 use crate::births::MAX_CORE_CELLS;
-use crate::event::Event;
 use crate::plain_core::Core;
 use crate::stage::Illegal;
-use crate::walk::LastRead;
 use std::alloc::Global;
 use tj_base::{ByteList, CellId, Oom, add_count, add_number};
+use tj_events::{Event, LastRead};
 
 /// The text of judging, and whether an event was illegal or an alarm.
 #[derive(Drop)]

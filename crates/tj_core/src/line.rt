@@ -1,12 +1,12 @@
 //! The event of the words of a line.
 ghost use Rattle.std.specs.Prelude.{◌≡◌, ◌≢◌, ℕ, ◌<◌, ◌^◌, [], ◌∷◌, map, decimal, IfSome, IfNone};
-ghost use Rattle.tj_core.specs.declared.event.Event.{Event};
+ghost use Rattle.tj_events.specs.declared.event.Event.{Event};
 ghost use Rattle.tj_core.specs.Journals.Lines.{verb_of, cells_of, HasSmallCells, Names};
 
-use crate::event::Event;
 use itoa::Buffer;
 use std::str;
 use tj_base::CellId;
+use tj_events::Event;
 
 /// The event of these words, the first of which is its own.
 pub(crate) fn event_of(words: &[&[u8]]) -> Option<Event>

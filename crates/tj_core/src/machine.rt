@@ -31,9 +31,9 @@ pub(crate) struct Machine {
 
 impl Machine {
     ghost use Rattle.std.specs.Prelude.{◌≡◌, ℕ, ◌<◌, ◌≤◌, ◌↔◌, IsTrue, length, IfOk, OnErr};
-    ghost use Rattle.tj_core.specs.CoreState.{promise, fresh, wait_of, is_task};
+    ghost use Rattle.tj_events.specs.CoreState.{promise, fresh, wait_of, is_task};
     ghost use Rattle.tj_core.specs.Inner.Columns.{stage_in};
-    ghost use Rattle.tj_core.specs.CoreState.{root_alone};
+    ghost use Rattle.tj_events.specs.CoreState.{root_alone};
     ghost use Rattle.tj_core.specs.Inner.Machine.{state_of, limit_of, loads_of};
 
     /// The root alone, with room for so many cells.

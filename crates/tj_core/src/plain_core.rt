@@ -2,12 +2,11 @@
 ghost use Rattle.std.specs.Prelude.{◌≤◌};
 
 use crate::births::MAX_CORE_CELLS;
-use crate::event::Event;
 use crate::machine::Machine;
 use crate::stage::{Illegal, Stage};
-use crate::walk::LastRead;
 use std::alloc::Global;
 use tj_base::{CellId, Oom};
+use tj_events::{Event, LastRead};
 
 /// A run of the core, from the root alone on. It accepts exactly the allowed events.
 #[derive(Drop)]
@@ -20,11 +19,11 @@ pub struct Core {
 
 impl Core {
     ghost use Rattle.std.specs.Prelude.{◌≡◌, ℕ, ◌<◌, ◌≤◌, ◌^◌, map, IfOk, OnOk, OnErr, MatchOption};
-    ghost use Rattle.tj_core.specs.CoreState.{root_alone, stage, wait};
-    ghost use Rattle.tj_core.specs.Events.{Allowed, Walks};
-    ghost use Rattle.tj_core.specs.WaitGraph.{IsOnCycle, IsCycleFrom};
+    ghost use Rattle.tj_events.specs.CoreState.{root_alone, stage, wait};
+    ghost use Rattle.tj_events.specs.Events.{Allowed, Walks};
+    ghost use Rattle.tj_events.specs.WaitGraph.{IsOnCycle, IsCycleFrom};
     ghost use Rattle.tj_core.specs.Checker.Core.{core_state, core_limit, core_loads, core_applied, Applies, IsSame};
-    ghost use Rattle.tj_core.specs.CoreFacts.{CoreFacts};
+    ghost use Rattle.tj_events.specs.CoreFacts.{CoreFacts};
     ghost use Rattle.tj_core.specs.Checker.StagesShown.{stage_shown};
 
     /// The root alone, running, with room for so many cells.

@@ -9,9 +9,9 @@ ghost use Rattle.tj_core.specs.Inner.SlotStages.{stage_passes, stage_loads, stag
 use crate::births::MAX_CORE_CELLS;
 use crate::slot_stage::{Progress, SlotStage};
 use crate::stage::{Illegal, Stage};
-use crate::walk::{LastRead, TrailLink, Way};
 use crate::walk_step::WalkStep;
 use std::alloc::{AllocError, Global};
+use tj_events::{LastRead, TrailLink, Way};
 
 /// A slot. Its trail has room for as many owners as its walk may pass.
 #[derive(Drop)]
@@ -30,8 +30,8 @@ pub(crate) struct Slot {
 
 impl Slot {
     ghost use Rattle.std.specs.Prelude.{◌≡◌, ◌≢◌, ℕ, suc, ◌+◌, ◌*◌, ◌<◌, ◌≤◌, ◌↔◌, IsTrue, IfOk, OnOk, OnErr, Some, None, [], MatchOption, length, vec_capacity};
-    ghost use Rattle.tj_core.specs.CoreState.{promise, fresh, waits, walks, parked, alarmed, wait_of, is_task, Runs, present, IfWalksAt};
-    ghost use Rattle.tj_core.specs.Events.{WalksAt, MayPublish, start_walk};
+    ghost use Rattle.tj_events.specs.CoreState.{promise, fresh, waits, walks, parked, alarmed, wait_of, is_task, Runs, present, IfWalksAt};
+    ghost use Rattle.tj_events.specs.Events.{WalksAt, MayPublish, start_walk};
     ghost use Rattle.tj_core.specs.Inner.Slots.{stage_of, walker};
     ghost use Rattle.tj_core.specs.declared.slot_stage.Progress.TheVariants.{Walking};
     ghost use Rattle.tj_core.specs.declared.slot_stage.SlotStage.TheVariants.{Waiting};

@@ -1,6 +1,6 @@
 //! What the checker keeps of what a cell is. The trail, the bound and the loads of a walk stand
 //! beside it in the slot.
-use crate::walk::{LastRead, Way};
+use tj_events::{LastRead, Way};
 
 /// What a task that waits does.
 #[derive(Clone, Copy)]

@@ -1,16 +1,15 @@
 //! One event of the machine.
-use crate::event::Event;
 use crate::machine::Machine;
 use crate::stage::{Illegal, Stage};
-use crate::walk::LastRead;
 use crate::walk_step::WalkStep;
+use tj_events::{Event, LastRead};
 
 impl Machine {
     ghost use Rattle.std.specs.Prelude.{◌≡◌, ◌<◌, ◌^◌, OnOk, OnErr, MatchOption};
     ghost use Rattle.tj_core.specs.Inner.Columns.{stage_in, loads_in};
     ghost use Rattle.tj_core.specs.Checker.StagesShown.{stage_shown};
     ghost use Rattle.tj_core.specs.Inner.Machine.{Accepts, Refuses, state_of};
-    ghost use Rattle.tj_core.specs.Events.{Walks};
+    ghost use Rattle.tj_events.specs.Events.{Walks};
 
     /// Applies an event where it is allowed.
     pub(crate) fn step(&mut self, e: Event) -> Result<(), Illegal>

@@ -1,18 +1,17 @@
 //! The events of a task that runs, and those at the two ends of a wait.
 ghost use Rattle.std.specs.Prelude.{◌≡◌, []};
-ghost use Rattle.tj_core.specs.Events.{raised_by_way, stage_after_close};
+ghost use Rattle.tj_events.specs.Events.{raised_by_way, stage_after_close};
 ghost use Rattle.tj_core.specs.Inner.SlotStages.{IsIdle, cell_stage};
 
-use crate::event::Event;
 use crate::machine::Machine;
 use crate::slot_stage::SlotStage;
 use crate::stage::Illegal;
-use crate::walk::Way;
 use tj_base::CellId;
+use tj_events::{Event, Way};
 
 impl Machine {
     ghost use Rattle.std.specs.Prelude.{◌≡◌, ℕ, ◌<◌, ◌≤◌, ◌^◌, ◌↔◌, IsTrue, length, OnOk, OnErr};
-    ghost use Rattle.tj_core.specs.Events.{way_of_wait, MayClose, MayHand, Owns, IsFreshChild, IsRunning};
+    ghost use Rattle.tj_events.specs.Events.{way_of_wait, MayClose, MayHand, Owns, IsFreshChild, IsRunning};
     ghost use Rattle.tj_core.specs.Inner.SlotStages.{IsIdle};
     ghost use Rattle.tj_core.specs.Inner.Machine.{Accepts, Refuses, Adds, IsUnchanged, state_of, limit_of};
 

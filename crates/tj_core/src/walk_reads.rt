@@ -1,10 +1,10 @@
 //! What a walker reads of the machine.
 use crate::machine::Machine;
-use crate::walk::LastRead;
+use tj_events::LastRead;
 
 impl Machine {
     ghost use Rattle.std.specs.Prelude.{◌≡◌, ℕ, Some};
-    ghost use Rattle.tj_core.specs.CoreState.{owner, wait, present, IfWalks};
+    ghost use Rattle.tj_events.specs.CoreState.{owner, wait, present, IfWalks};
     ghost use Rattle.tj_core.specs.Inner.Machine.{state_of};
 
     /// The owner of the present cell of a task's walk.

@@ -3,8 +3,8 @@
 use Rattle.tj_detect.proofs.Prelude.{Alarm, Counted, EndsWith, IsLoad, IsWalkOf, MayCount, MayReadOwner, Passed}
 use Rattle.tj_detect.proofs.Prelude.{Skipped, Verdict, Walked, Walker, Way, ap, count_read, inl, inr, others_read, refl}
 use Rattle.tj_detect.proofs.Prelude.{start_walk, subst, sym, walk_again, walk_wait, ℕ, ⊎_elim, ◌∙◌, ◌≡◌, ◌⊎◌}
-use Rattle.tj_core.specs.declared.walk.LastRead.{LastRead}
-use Rattle.tj_core.specs.declared.walk.LastRead.TheVariants.{Published, SawOthers, SawOwner, SawWait, Changed}
+use Rattle.tj_events.specs.declared.walk.LastRead.{LastRead}
+use Rattle.tj_events.specs.declared.walk.LastRead.TheVariants.{Published, SawOthers, SawOwner, SawWait, Changed}
 use Rattle.tj_detect.specs.Blocks.{IsWalkFrom, IsNeeded, WasNeeded, walk_first, walk_others, walk_count, walk_owner}
 
 -- no owner is read where the walk has only been published, or has only read OTHERS

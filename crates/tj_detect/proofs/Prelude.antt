@@ -3,13 +3,13 @@ pub use Rattle.std.proofs.Common.{Bool, List, None, Some, [], ap, arith, false, 
 pub use Rattle.std.proofs.Common.{suc, sym, true, ℕ, ⊎_elim, ◌*◌, ◌+◌, ◌-◌, ◌<◌, ◌^◌, ◌↔◌, ◌∙◌, ◌∷◌, ◌≡◌, ◌≢◌, ◌≤◌, ◌⊎◌}
 pub use Rattle.tj_base.specs.declared.cell.CellId.{CellId}
 pub use Rattle.tj_body.specs.Programs.{Program}
-pub use Rattle.tj_core.specs.CoreState.{present}
-pub use Rattle.tj_core.specs.Events.{EndsWalk, MayCount, MayReadOwner, count_read, is_owner, others_read, owner_read}
-pub use Rattle.tj_core.specs.Events.{start_walk, way_if}
-pub use Rattle.tj_core.specs.declared.walk.LastRead.TheVariants.{Counted, Passed, SawOthers}
-pub use Rattle.tj_core.specs.declared.walk.Walker.{Walker}
-pub use Rattle.tj_core.specs.declared.walk.Way.{Way}
-pub use Rattle.tj_core.specs.declared.walk.Way.TheVariants.{Along, Other}
+pub use Rattle.tj_events.specs.CoreState.{present}
+pub use Rattle.tj_events.specs.Events.{EndsWalk, MayCount, MayReadOwner, count_read, is_owner, others_read, owner_read}
+pub use Rattle.tj_events.specs.Events.{start_walk, way_if}
+pub use Rattle.tj_events.specs.declared.walk.LastRead.TheVariants.{Counted, Passed, SawOthers}
+pub use Rattle.tj_events.specs.declared.walk.Walker.{Walker}
+pub use Rattle.tj_events.specs.declared.walk.Way.{Way}
+pub use Rattle.tj_events.specs.declared.walk.Way.TheVariants.{Along, Other}
 pub use Rattle.tj_detect.specs.Blocks.{Blocks, EndsWith, IsLoad, IsWalkOf, MayBlock, does_after, doing, tokens_given}
 pub use Rattle.tj_detect.specs.Blocks.{walk_again, walk_count, walk_first, walk_others, walk_owner, walk_wait}
 pub use Rattle.tj_detect.specs.Inner.WalkHops.{Comes, Hops, IsAtCount, WalksOn, WalksWith, passed_on}

@@ -4,7 +4,7 @@ use Rattle.tj_detect.proofs.Prelude.{IsWalkOf, MayBlock, MayCount, Other, Progra
 use Rattle.tj_detect.proofs.Prelude.{View, Walked, Walker, WalksWith, Way, [], ap, arith, does_after, doing, held_in}
 use Rattle.tj_detect.proofs.Prelude.{one_some, others_read, read_on, refl, start_walk, subst, sym, tokens_given, turned}
 use Rattle.tj_detect.proofs.Prelude.{walk_first, walk_others, walk_with, ℕ, ◌*◌, ◌+◌, ◌↔◌, ◌∙◌, ◌≡◌, ◌≢◌, ◌≤◌}
-use Rattle.tj_core.specs.WalkLaws.{SettlersAreNotAlone}
+use Rattle.tj_events.specs.WalkLaws.{SettlersAreNotAlone}
 use Rattle.tj_words.specs.Calls.WaitViews.{now_does, published, MayPublishWait}
 use Rattle.tj_words.specs.Steps.WalkSteps.{MayWait}
 use Rattle.tj_words.specs.Calls.WalkViews.{IsWalking, MayRaise}

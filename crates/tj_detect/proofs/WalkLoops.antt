@@ -4,7 +4,7 @@ use Rattle.tj_detect.proofs.Prelude.{List, MayReadOwner, Next, Own, Passed, Some
 use Rattle.tj_detect.proofs.Prelude.{WalksWith, Way, alarmed, ap, arith, count_read, doing, inl, inr, length, now_does}
 use Rattle.tj_detect.proofs.Prelude.{owner_read, passed_on, present, read_on, refl, subst, sym, walk_count, ℕ, ⊎_elim}
 use Rattle.tj_detect.proofs.Prelude.{◌*◌, ◌+◌, ◌<◌, ◌∙◌, ◌≡◌, ◌≤◌, ◌⊎◌}
-use Rattle.tj_core.specs.declared.walk.TrailLink.{TrailLink}
+use Rattle.tj_events.specs.declared.walk.TrailLink.{TrailLink}
 use Rattle.tj_words.specs.Calls.WaitViews.{MayStoreAlarm}
 use Rattle.tj_detect.proofs.Doings.{doing_held, doing_on, alarmed_doing}
 use Rattle.tj_detect.proofs.WalkReads.{still, one_read, then_on}

@@ -3,7 +3,7 @@ use Rattle.tj_detect.proofs.Prelude.{Bool, CellId, Counted, Custody, Does, Ended
 use Rattle.tj_detect.proofs.Prelude.{Passed, Some, View, Walker, Way, ap, arith, doing, held_in, now_does, one_some}
 use Rattle.tj_detect.proofs.Prelude.{refl, subst, sym, true, walk_again, walk_owner, walk_wait, ℕ, ◌+◌, ◌<◌, ◌∙◌, ◌≡◌}
 use Rattle.std.proofs.Common.{false, Option, length, ⊎_elim}
-use Rattle.tj_core.specs.Events.{owner_read, wait_found, owner_found, is_owner, MayReadOwner}
+use Rattle.tj_events.specs.Events.{owner_read, wait_found, owner_found, is_owner, MayReadOwner}
 use Rattle.tj_words.specs.Calls.WalkViews.{IsWalking, MayLoadWait, owner_seen, read_on, walk_with}
 use Rattle.tj_detect.specs.Inner.WalkHops.{WalksWith, WalksOn, Passes, passed_on}
 use Rattle.tj_detect.specs.declared.blocking.Hop.{Hop}

@@ -5,17 +5,17 @@ use lib.ListN.{get_elem?}
 use Rattle.atomic_table.specs.Table.{State}
 use Rattle.tj_body.specs.Points.{IsIn}
 use Rattle.tj_body.specs.Programs.{Program}
-use Rattle.tj_core.specs.declared.walk.Way.{Way}
-use Rattle.tj_core.specs.declared.walk.Way.TheVariants.{Along, Other}
-use Rattle.tj_core.specs.declared.walk.Walker.{Walker}
-use Rattle.tj_core.specs.declared.walk.LastRead.{LastRead}
-use Rattle.tj_core.specs.declared.walk.LastRead.TheVariants.{Published, SawOthers, Counted, SawOwner, SawWait, Passed}
-use Rattle.tj_core.specs.declared.walk.LastRead.TheVariants.{Changed}
-use Rattle.tj_core.specs.CoreState.{CoreState, stage}
-use Rattle.tj_core.specs.Events.{start_walk, others_read, count_read, owner_read, wait_found, owner_found, is_owner}
-use Rattle.tj_core.specs.Events.{MayReadOthers, MayCount, MayReadOwner, MaySettle}
-use Rattle.tj_core.specs.Facts.{Watches}
-use Rattle.tj_core.specs.WaitGraph.{Reaches, IsOnCycle, IsOnCycleOf}
+use Rattle.tj_events.specs.declared.walk.Way.{Way}
+use Rattle.tj_events.specs.declared.walk.Way.TheVariants.{Along, Other}
+use Rattle.tj_events.specs.declared.walk.Walker.{Walker}
+use Rattle.tj_events.specs.declared.walk.LastRead.{LastRead}
+use Rattle.tj_events.specs.declared.walk.LastRead.TheVariants.{Published, SawOthers, Counted, SawOwner, SawWait, Passed}
+use Rattle.tj_events.specs.declared.walk.LastRead.TheVariants.{Changed}
+use Rattle.tj_events.specs.CoreState.{CoreState, stage}
+use Rattle.tj_events.specs.Events.{start_walk, others_read, count_read, owner_read, wait_found, owner_found, is_owner}
+use Rattle.tj_events.specs.Events.{MayReadOthers, MayCount, MayReadOwner, MaySettle}
+use Rattle.tj_events.specs.Facts.{Watches}
+use Rattle.tj_events.specs.WaitGraph.{Reaches, IsOnCycle, IsOnCycleOf}
 use Rattle.tj_words.specs.declared.record.Rec.{Rec}
 use Rattle.tj_words.specs.declared.table.Key.{Key}
 use Rattle.tj_words.specs.declared.view.Custody.{Custody}

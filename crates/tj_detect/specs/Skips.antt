@@ -1,7 +1,7 @@
 -- Where a wait along the order is walked, and where its walk is skipped.
 use Rattle.std.specs.Prelude.{◌≡◌, ◌↔◌, ℕ, Bool}
 use Rattle.tj_body.specs.Programs.{Program}
-use Rattle.tj_core.specs.declared.walk.Way.TheVariants.{Along}
+use Rattle.tj_events.specs.declared.walk.Way.TheVariants.{Along}
 use Rattle.tj_words.specs.declared.view.View.{View}
 use Rattle.tj_words.specs.Calls.WaitViews.{published}
 use Rattle.tj_words.specs.SeatViews.Moments.{WasSo}

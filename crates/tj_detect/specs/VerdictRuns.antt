@@ -3,7 +3,7 @@ use Rattle.std.specs.Prelude.{◌≡◌, ◌≢◌, ℕ, Bool, List}
 use mathlib.Core.Option.{some}
 use lib.ListN.{get_elem?}
 use Rattle.tj_body.specs.Programs.{Program}
-use Rattle.tj_core.specs.declared.walk.Way.{Way}
+use Rattle.tj_events.specs.declared.walk.Way.{Way}
 use Rattle.tj_words.specs.declared.table.Key.{Key}
 use Rattle.tj_words.specs.declared.view.View.{View}
 use Rattle.tj_words.specs.CallLaws.CallRuns.{AreAskedMoments}

@@ -2,10 +2,10 @@
 //! whether it closes a cycle.
 ghost use Rattle.std.specs.Prelude.{◌≡◌, ◌↔◌, ℕ, ◌+◌, ◌<◌};
 ghost use Rattle.tj_body.specs.Programs.{program_of};
-ghost use Rattle.tj_core.specs.declared.walk.Walker.{Walker};
-ghost use Rattle.tj_core.specs.CoreState.{present};
-ghost use Rattle.tj_core.specs.Events as core;
-ghost use Rattle.tj_core.specs.Events.{MayReadOwner};
+ghost use Rattle.tj_events.specs.declared.walk.Walker.{Walker};
+ghost use Rattle.tj_events.specs.CoreState.{present};
+ghost use Rattle.tj_events.specs.Events as core;
+ghost use Rattle.tj_events.specs.Events.{MayReadOwner};
 ghost use Rattle.tj_words.specs.Words.Owners.{owner_number};
 ghost use Rattle.tj_words.specs.SeatViews.SeatSteps.{IsCellOf, IsSameSeat, IsSeatOf};
 ghost use Rattle.tj_words.specs.Steps.StepEvents.{wait_in};
@@ -19,7 +19,7 @@ ghost use Rattle.tj_detect.specs.Inner.WalkHops.{Comes, Hops, IsAtCount, Passes,
 use std::sync::ledger::Ledger;
 use tj_base::{CellId, Steps};
 use tj_body::Body;
-use tj_core::settlers_are_not_alone;
+use tj_events::settlers_are_not_alone;
 use tj_words::{Laid, Phase, WSeat, Walk, Way};
 
 /// What a call that blocks on a wait came to.

@@ -6,7 +6,7 @@ use Rattle.tj_modes.proofs.Prelude.{Root, Some, Start, Status, String, Summary, 
 use Rattle.tj_modes.proofs.Prelude.{bad_line, chat_meaning, ended, full, inl, inr, is_marked, journal_fault}
 use Rattle.tj_modes.proofs.Prelude.{length, lines_of, meaning, most_bytes, of_command, refl, relay_chats, script_text}
 use Rattle.tj_modes.proofs.Prelude.{start_of, status_of, subst, sym, text_of, usage, ℕ, ◌<◌, ◌∙◌, ◌≡◌, ◌≤◌, ◌⊎◌}
-use Rattle.tj_core.specs.declared.event.Event.{Event}
+use Rattle.tj_events.specs.declared.event.Event.{Event}
 use Rattle.tj_core.specs.Journals.Laws.{EventsAreOne, FirstFaultIsOne, EventsHaveNoFault, JudgingIsOne}
 use Rattle.tj_eval.specs.Statements.{TaskState, task_of}
 use Rattle.tj_core.specs.Journals.Judging.{IsJudged}

@@ -1,6 +1,6 @@
 -- What judging a journal gives: the line of its fault, or what the rules make of its events.
 use Rattle.std.specs.Prelude.{ℕ, ◌≡◌, ◌<◌, ◌≤◌, ◌⊎◌, Bool, List, length, take}
-use Rattle.tj_core.specs.declared.event.Event.{Event}
+use Rattle.tj_events.specs.declared.event.Event.{Event}
 use Rattle.tj_core.specs.Journals.Lines.{lines_of, AreEventLines, IsFirstFault}
 use Rattle.tj_core.specs.Journals.Judging.{IsJudged}
 use Rattle.tj_lex.specs.Positions.{position_after}

@@ -21,8 +21,8 @@ pub use Rattle.tj_body.specs.declared.point.Reference.{Reference}
 pub use Rattle.tj_cells.proofs.SameViews.{more_same}
 pub use Rattle.tj_cells.specs.FilledCells.{MayFill, MayGiveUp, WillBecome, became}
 pub use Rattle.tj_cells.specs.MadeCells.{IsMade, makes_promise}
-pub use Rattle.tj_core.specs.Events.{raised_by_way}
-pub use Rattle.tj_core.specs.declared.walk.Way.{Way}
+pub use Rattle.tj_events.specs.Events.{raised_by_way}
+pub use Rattle.tj_events.specs.declared.walk.Way.{Way}
 pub use Rattle.tj_park.specs.ChildViews.{Claimed}
 pub use Rattle.tj_park.specs.Endings.{MayFinish, result_of}
 pub use Rattle.tj_park.specs.Inner.Breaks.{HasBroken, MayBreak}

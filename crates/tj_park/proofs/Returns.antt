@@ -3,7 +3,7 @@ use Rattle.tj_park.proofs.Prelude.{Bool, Err, HasSlot, None, Ok, OnOk, Phase, Pr
 use Rattle.tj_park.proofs.Prelude.{View, Way, [], ap, in_right, one_some, parked_phase, raised_by_way, record_cells}
 use Rattle.tj_park.proofs.Prelude.{refl, rest, suc, sym, took_record, true, ℕ, ◌+◌, ◌-◌, ◌<◌, ◌∙◌, ◌∷◌, ◌≡◌, ◌≢◌, ◌≤◌}
 use Rattle.std.proofs.Common.{Option, Result, subst, arith, is_some, IfErr}
-use Rattle.tj_core.specs.declared.walk.Way.TheVariants.{Along, Other}
+use Rattle.tj_events.specs.declared.walk.Way.TheVariants.{Along, Other}
 use Rattle.tj_words.specs.Calls.ExchangeViews.{Swaps, GoesBack, missed, went_back}
 use Rattle.tj_words.specs.Calls.WalkViews.{lowered}
 use Rattle.tj_park.proofs.TakenTasks.{has_taken, slot_in_front, taken_out}

@@ -13,7 +13,7 @@ use Rattle.tj_words.specs.SeatViews.SeenWords.{NextTold}
 use Rattle.tj_words.specs.SeatViews.Views.{note_of, noted_step}
 use Rattle.tj_park.proofs.ParkedViews.{no_record}
 use Rattle.tj_park.specs.Inner.FirstWaiters.{counted_in, lowered_for}
-use Rattle.tj_core.specs.declared.walk.Way.TheVariants as ways
+use Rattle.tj_events.specs.declared.walk.Way.TheVariants as ways
 use Rattle.tj_words.specs.declared.phase.Phase.TheVariants as phase
 use Rattle.tj_words.specs.declared.view.Noted.TheVariants as note
 

@@ -36,7 +36,7 @@ pub use Rattle.tj_cells.proofs.SameViews.{more_same}
 pub use Rattle.tj_cells.proofs.TaskNotes.{let_go_other}
 pub use Rattle.tj_cells.specs.FilledCells.{IsFilledWith, MayFill, MayGiveUp, became}
 pub use Rattle.tj_cells.specs.MadeCells.{IsMade, MayMake}
-pub use Rattle.tj_core.specs.declared.walk.Way.{Way}
+pub use Rattle.tj_events.specs.declared.walk.Way.{Way}
 pub use Rattle.tj_detect.specs.Blocks.{MayBlock, does_after, doing}
 pub use Rattle.tj_detect.specs.declared.blocking.Verdict.{Verdict}
 pub use Rattle.tj_park.proofs.BreakSteps.{may_wake_closed, without_first}

@@ -31,20 +31,21 @@ pub use Rattle.tj_body.specs.declared.point.Point.{Point}
 pub use Rattle.tj_body.specs.declared.point.PointStage.{PointStage}
 pub use Rattle.tj_body.specs.declared.point.Reference.{Reference}
 pub use Rattle.tj_body.specs.declared.point.Value.{Value}
-pub use Rattle.tj_core.specs.CoreFacts.{CoreFacts}
-pub use Rattle.tj_core.specs.CoreState.{CellStage, CellState, Cells, CoreState, Runs, alarmed, blank, fresh, is_task}
-pub use Rattle.tj_core.specs.CoreState.{maker, name, owner, present, promise, raised, root_alone, running, stage}
-pub use Rattle.tj_core.specs.CoreState.{wait_of, waits, walks}
-pub use Rattle.tj_core.specs.Events.{Allowed, MayCount, MayReadAgain, MayReadOthers, MayReadOwner, after, alter}
-pub use Rattle.tj_core.specs.Events.{count_read, is_owner, others_read, owner_found, owner_read, raised_by_way, restage}
-pub use Rattle.tj_core.specs.Events.{staged, start_walk, wait_found, way_if, way_of_wait, with_new}
-pub use Rattle.tj_core.specs.Laws.{EventKeepsFacts}
-pub use Rattle.tj_core.specs.Runs.{after_all}
-pub use Rattle.tj_core.specs.StateLaws.{AlarmsAreOnCycles, CyclesAreWatched}
-pub use Rattle.tj_core.specs.WalkLaws.{OthersAreFew}
-pub use Rattle.tj_core.specs.declared.event.Event.{Event}
-pub use Rattle.tj_core.specs.declared.walk.Walker.{Walker}
-pub use Rattle.tj_core.specs.declared.walk.Way.{Way}
+pub use Rattle.tj_events.specs.CoreFacts.{CoreFacts}
+pub use Rattle.tj_events.specs.CoreState.{CellStage, CellState, Cells, CoreState, Runs, alarmed, blank, fresh, is_task}
+pub use Rattle.tj_events.specs.CoreState.{maker, name, owner, present, promise, raised, root_alone, running, stage}
+pub use Rattle.tj_events.specs.CoreState.{wait_of, waits, walks}
+pub use Rattle.tj_events.specs.Events.{Allowed, MayCount, MayReadAgain, MayReadOthers, MayReadOwner, after, alter}
+pub use Rattle.tj_events.specs.Events.{count_read, is_owner, others_read}
+pub use Rattle.tj_events.specs.Events.{owner_found, owner_read, raised_by_way, restage}
+pub use Rattle.tj_events.specs.Events.{staged, start_walk, wait_found, way_if, way_of_wait, with_new}
+pub use Rattle.tj_events.specs.Laws.{EventKeepsFacts}
+pub use Rattle.tj_events.specs.Runs.{after_all}
+pub use Rattle.tj_events.specs.StateLaws.{AlarmsAreOnCycles, CyclesAreWatched}
+pub use Rattle.tj_events.specs.WalkLaws.{OthersAreFew}
+pub use Rattle.tj_events.specs.declared.event.Event.{Event}
+pub use Rattle.tj_events.specs.declared.walk.Walker.{Walker}
+pub use Rattle.tj_events.specs.declared.walk.Way.{Way}
 pub use Rattle.tj_tree.proofs.Trees.{IsJump-of, node_of-child, node_of-older}
 pub use Rattle.tj_tree.specs.Forks.{Fork, Forks, HasTask, IsHistory}
 pub use Rattle.tj_tree.specs.Nodes.{jump_from, node_of}

@@ -5,7 +5,7 @@ use Rattle.std.specs.Prelude.{◌≡◌, ◌⊎◌, ℕ, ◌<◌, ◌≤◌, Boo
 use Rattle.atomic_table.specs.Table.{State}
 use Rattle.tj_base.specs.declared.cell.TheConstants.{MAX_CELLS}
 use Rattle.tj_body.specs.declared.point.Reference.{Reference}
-use Rattle.tj_core.specs.CoreFacts.{CoreFacts}
+use Rattle.tj_events.specs.CoreFacts.{CoreFacts}
 use Rattle.tj_tree.specs.Forks.{Forks}
 use Rattle.tj_words.specs.declared.phase.Phase.TheVariants.{Unborn}
 use Rattle.tj_words.specs.declared.record.Rec.{Rec}

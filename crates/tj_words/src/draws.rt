@@ -14,7 +14,7 @@ use crate::table::{Laid, WSeat};
 use std::marker::Brand;
 use tj_base::{CellId, Sort};
 use tj_body::{Body, full_where_names};
-use tj_core::event_keeps_facts;
+use tj_events::event_keeps_facts;
 
 impl<B: Body> Laid<B> {
     /// Draws a cell for a task that runs, which the seat has in hand then. There is none where all

@@ -18,7 +18,7 @@ use crate::view::Noted;
 use std::marker::Brand;
 use tj_base::CellId;
 use tj_body::Body;
-use tj_core::event_keeps_facts;
+use tj_events::event_keeps_facts;
 
 impl<B: Body> Laid<B> {
     /// Changes the phase of a task, if it is as it is thought to be; else tells the phase found, and the view says that

@@ -44,7 +44,7 @@ pub use phase::{Phase, Walk};
 pub use record::{Fill, Finish, Held, HeldList, Hurt, Rec};
 pub use rest::RestWords;
 pub use table::{Key, Laid, Law, WSeat};
-pub use tj_core::Way;
+pub use tj_events::Way;
 pub use value::{value_of_words, value_words};
 pub use view::{
     About, Custody, Does, Due, Filled, Found, Hand, Note, Noted, Push, Rest, SeenWord, View,

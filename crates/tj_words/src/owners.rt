@@ -15,7 +15,7 @@ use crate::table::{Laid, WSeat};
 use std::marker::Brand;
 use tj_base::CellId;
 use tj_body::Body;
-use tj_core::event_keeps_facts;
+use tj_events::event_keeps_facts;
 
 impl<B: Body> Laid<B> {
     /// Says who owns a cell: first the one that its drawer gives it; then, of a promise, a child to

@@ -4,7 +4,7 @@ ghost use Rattle.tj_words.specs.Words.Phases.{phase_word, phase_in};
 ghost use Rattle.tj_words.specs.Words.Phases as phases;
 
 use tj_base::CellId;
-use tj_core::Way;
+use tj_events::Way;
 
 /// Where a task stands that waits.
 #[derive(Clone, Copy)]

@@ -21,7 +21,7 @@ use std::marker::Model;
 use std::snapshot::Snapshot;
 use tj_base::CellId;
 use tj_body::{Body, meaning_is_last, rest_is_meaning};
-use tj_core::{alarms_are_on_cycles, cycles_are_watched};
+use tj_events::{alarms_are_on_cycles, cycles_are_watched};
 
 /// Closed words and records, with the program and the number of cells that the table was made for.
 #[derive(Drop)]

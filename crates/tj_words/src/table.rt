@@ -17,7 +17,7 @@ use std::alloc::Global;
 use std::snapshot::Snapshot;
 use tj_base::{CellId, Items, Oom, Sort};
 use tj_body::{Answer, Body, points_in_rounds};
-use tj_core::start_meets_facts;
+use tj_events::start_meets_facts;
 
 /// What a table is told when it is made: the number of cells, the root's body, and whether the rule
 /// is strict.

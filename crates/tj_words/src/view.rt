@@ -5,7 +5,7 @@ use crate::offsets::Once;
 use crate::record::Rec;
 use tj_base::{Items, Sort};
 use tj_body::{Entry, Reference};
-use tj_core::{Walker, Way};
+use tj_events::{Walker, Way};
 
 /// What never changes: the root's body, the number of cells, and whether the rule is strict.
 #[derive(Drop)]

@@ -12,7 +12,7 @@ use crate::wait_plays::WaitStore;
 use std::marker::Brand;
 use tj_base::CellId;
 use tj_body::Body;
-use tj_core::{Way, event_keeps_facts};
+use tj_events::{Way, event_keeps_facts};
 
 impl<B: Body> Laid<B> {
     /// Says that a task waits for the cell, and where it stands.

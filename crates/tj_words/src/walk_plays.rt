@@ -1,6 +1,6 @@
 //! What the loads of a walker and the steps on OTHERS tell their caller.
 ghost use Rattle.std.specs.Prelude.{ℕ, ◌<◌, ◌≤◌, ◌^◌, min};
-ghost use Rattle.tj_core.specs.Events.{count_read, others_read, wait_found};
+ghost use Rattle.tj_events.specs.Events.{count_read, others_read, wait_found};
 ghost use Rattle.tj_words.specs.Words.Codes.{IsPhaseWord};
 ghost use Rattle.tj_words.specs.Words.Owners.{owner_in};
 ghost use Rattle.tj_words.specs.Words.Phases.{phase_in};

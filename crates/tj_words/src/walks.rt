@@ -1,9 +1,9 @@
 //! Loads that are events of a walker, where they name one, and steps on OTHERS.
 ghost use Rattle.std.specs.Prelude.{◌≡◌, ℕ, ◌<◌, ◌≤◌, ◌^◌, min, None, Some};
 ghost use Rattle.tj_body.specs.Programs.{program_of};
-ghost use Rattle.tj_core.specs.CoreState.{present};
-ghost use Rattle.tj_core.specs.Events.{MayCount, MayReadOthers};
-ghost use Rattle.tj_core.specs.Events.{count_read, others_read, wait_found};
+ghost use Rattle.tj_events.specs.CoreState.{present};
+ghost use Rattle.tj_events.specs.Events.{MayCount, MayReadOthers};
+ghost use Rattle.tj_events.specs.Events.{count_read, others_read, wait_found};
 ghost use Rattle.tj_words.specs.SeatViews.Moments.{WasSo};
 ghost use Rattle.tj_words.specs.Words.Offsets.{count_at, others_at, own_at, phase_at};
 ghost use Rattle.tj_words.specs.Words.Codes as codes;
@@ -30,7 +30,7 @@ use crate::walk_plays::{
 use std::marker::Brand;
 use tj_base::CellId;
 use tj_body::Body;
-use tj_core::{event_keeps_facts, others_are_few};
+use tj_events::{event_keeps_facts, others_are_few};
 
 impl<B: Body> Laid<B> {
     /// How many cells are there. A walker that counts has its bound then; where nobody walks, the view says what was

@@ -6,8 +6,8 @@ use Rattle.tj_base.specs.ForkOrder.{Name, child}
 use Rattle.tj_core.specs.declared.births.Birth.{Birth}
 use Rattle.tj_core.specs.declared.slot.Slot.{Slot}
 use Rattle.tj_base.specs.Puts.{put}
-use Rattle.tj_core.specs.CoreState.{CellStage, promise, running, CellState, CoreState}
-use Rattle.tj_core.specs.Events.{one_made, new_cell, with_new}
+use Rattle.tj_events.specs.CoreState.{CellStage, promise, running, CellState, CoreState}
+use Rattle.tj_events.specs.Events.{one_made, new_cell, with_new}
 use Rattle.tj_core.specs.Inner.Births.{names_of, name_of, maker_of}
 use Rattle.tj_core.specs.Inner.Slots.{stage_of}
 use Rattle.tj_core.specs.Inner.Columns.{stage_in, loads_in, room_in, HaveRoom, cell_in, state_in}

@@ -1,15 +1,15 @@
 -- The core state after one slot changes.
 use Rattle.std.proofs.Common.{◌≡◌, ℕ, zero, suc, ◌<◌, ◌≤◌, List, [], ◌∷◌, ◌++◌, length, set, map, get_or, Option, None, refl, sym, ap, ◌∙◌, subst, arith, vec_capacity, length-set}
 use Rattle.std.proofs.lemmas.List.{get_or-set_same, get_or-set_other, set-get_or}
-use Rattle.tj_core.specs.declared.event.Event.{Event}
+use Rattle.tj_events.specs.declared.event.Event.{Event}
 use Rattle.tj_core.specs.declared.machine.Machine.{Machine}
 use Rattle.tj_core.specs.declared.slot.Slot.{Slot}
-use Rattle.tj_core.specs.declared.walk.Way.{Way}
-use Rattle.tj_core.specs.declared.walk.Walker.{Walker}
+use Rattle.tj_events.specs.declared.walk.Way.{Way}
+use Rattle.tj_events.specs.declared.walk.Walker.{Walker}
 use Rattle.tj_base.specs.Puts.{put}
 use Rattle.tj_base.proofs.Puts.{at_put, put_here, put_else, put_same}
-use Rattle.tj_core.specs.CoreState.{CellStage, promise, walks, waits, CellState, CoreState, owner, stage}
-use Rattle.tj_core.specs.Events.{Allowed, WalksAt, restage, staged, walked, alter, owned_by}
+use Rattle.tj_events.specs.CoreState.{CellStage, promise, walks, waits, CellState, CoreState, owner, stage}
+use Rattle.tj_events.specs.Events.{Allowed, WalksAt, restage, staged, walked, alter, owned_by}
 use Rattle.tj_core.specs.Checker.Loads.{one_load}
 use Rattle.tj_core.specs.Inner.Slots.{stage_of}
 use Rattle.tj_core.specs.Inner.Columns.{stage_in, loads_in, room_in, HaveRoom, state_in}

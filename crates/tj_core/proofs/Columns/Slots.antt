@@ -1,13 +1,13 @@
 -- What a slot shows of a walk.
 use Rattle.std.proofs.Common.{◌≡◌, ℕ, List, ap}
-use Rattle.tj_core.specs.declared.walk.Way.{Way}
-use Rattle.tj_core.specs.declared.walk.TrailLink.{TrailLink}
-use Rattle.tj_core.specs.declared.walk.Walker.{Walker}
-use Rattle.tj_core.specs.declared.walk.LastRead.{LastRead}
+use Rattle.tj_events.specs.declared.walk.Way.{Way}
+use Rattle.tj_events.specs.declared.walk.TrailLink.{TrailLink}
+use Rattle.tj_events.specs.declared.walk.Walker.{Walker}
+use Rattle.tj_events.specs.declared.walk.LastRead.{LastRead}
 use Rattle.tj_core.specs.declared.slot_stage.Progress.TheVariants.{Walking}
 use Rattle.tj_core.specs.declared.slot_stage.SlotStage.{SlotStage}
 use Rattle.tj_core.specs.declared.slot_stage.SlotStage.TheVariants.{Waiting}
-use Rattle.tj_core.specs.Events.{WalksAt}
+use Rattle.tj_events.specs.Events.{WalksAt}
 use Rattle.tj_core.specs.Inner.Slots.{walker}
 use Rattle.tj_core.specs.Inner.SlotStages.{cell_stage}
 

@@ -5,7 +5,7 @@ use Rattle.std.proofs.lemmas.List.{get_or-replicate, length-replicate}
 use native.Mathlib.Decide.{ℕ_discrete}
 use mathlib.Core.Logic.{dite}
 use Rattle.tj_core.specs.declared.slot.Slot.{Slot}
-use Rattle.tj_core.specs.CoreState.{running, root, blank, root_alone}
+use Rattle.tj_events.specs.CoreState.{running, root, blank, root_alone}
 use Rattle.tj_core.specs.Inner.Slots.{stage_of}
 use Rattle.tj_core.specs.Inner.Columns.{cell_in, state_in}
 use Rattle.tj_base.proofs.Puts.{put_here, put_else}

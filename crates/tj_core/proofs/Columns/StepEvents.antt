@@ -6,9 +6,9 @@ use Rattle.tj_core.specs.declared.slot.Slot.{Slot}
 use Rattle.tj_core.specs.declared.walk_step.WalkStep.{WalkStep}
 use Rattle.tj_core.specs.declared.walk_step.WalkStep.TheVariants.{Others, Count, Owner, Wait, Again, Alarm, Settle}
 use Rattle.tj_base.specs.Puts.{put}
-use Rattle.tj_core.specs.CoreState.{CellStage, CoreState, owner, stage, present}
-use Rattle.tj_core.specs.Events.{Allowed, after, Walks, staged, restage, walked, MayReadOwner, MayReadWait, MayReadAgain}
-use Rattle.tj_core.specs.Events.{others_read, count_read, owner_read, wait_read, wait_found, owner_again}
+use Rattle.tj_events.specs.CoreState.{CellStage, CoreState, owner, stage, present}
+use Rattle.tj_events.specs.Events.{Allowed, after, Walks, staged, restage, walked, MayReadOwner, MayReadWait, MayReadAgain}
+use Rattle.tj_events.specs.Events.{others_read, count_read, owner_read, wait_read, wait_found, owner_again}
 use Rattle.tj_core.specs.Checker.Loads.{loads_after}
 use Rattle.tj_core.specs.Inner.Columns.{loads_in}
 use Rattle.tj_core.specs.Inner.WalkSteps.{event_of, IsSoNow, MayStep, wait_heard, stage_by, loads_by, HasRoom}

@@ -4,7 +4,7 @@ use Rattle.std.specs.List.{flat_map}
 use Rattle.std.proofs.lemmas.Grind.{flat_map-append}
 use Rattle.std.proofs.lemmas.List.{map-append, take_more, take_all, append-nil}
 use Rattle.tj_base.specs.declared.cell.CellId.{CellId}
-use Rattle.tj_core.specs.CoreState.{Cells}
+use Rattle.tj_events.specs.CoreState.{Cells}
 use Rattle.tj_core.specs.Journals.Judging.{wait_text, alarm_line}
 
 -- what stands in front of the waits of the others

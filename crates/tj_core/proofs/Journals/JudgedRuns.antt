@@ -1,12 +1,12 @@
 -- How far a run has been judged, and what is said of its events.
 use Rattle.std.proofs.Common.{◌≡◌, inl, inr, ℕ, suc, ◌<◌, Bool, true, false, ◌||◌, List, [], ◌∷◌, ◌++◌, length, drop, get_or, refl, sym, subst, append_assoc, drop-cons}
-use Rattle.tj_core.specs.declared.event.Event.{Event}
-use Rattle.tj_core.specs.CoreState.{CoreState, root_alone}
-use Rattle.tj_core.specs.CoreFacts.{CoreFacts}
-use Rattle.tj_core.specs.Events.{Allowed, after}
+use Rattle.tj_events.specs.declared.event.Event.{Event}
+use Rattle.tj_events.specs.CoreState.{CoreState, root_alone}
+use Rattle.tj_events.specs.CoreFacts.{CoreFacts}
+use Rattle.tj_events.specs.Events.{Allowed, after}
 use Rattle.tj_core.specs.Journals.Judging.{IsSaid, is_alarm, IsJudged, IsJudgedFrom, legal_line, illegal_line}
-use Rattle.tj_core.proofs.Events.EachEvent.{facts_after_event}
-use Rattle.tj_core.proofs.Events.LegalRuns.{start_facts}
+use Rattle.tj_events.proofs.Events.EachEvent.{facts_after_event}
+use Rattle.tj_events.proofs.Events.LegalRuns.{start_facts}
 
 -- so many events were allowed and led to s, with this text and mark so far
 pub record IsJudgedTo (N : ℕ) (events : List Event) (s : CoreState) (at : ℕ) (text : List ℕ) (marked : Bool) : Type 0

@@ -1,13 +1,13 @@
 -- What is said of an event is one text, so a list of events is judged in one way.
 use Rattle.std.proofs.Common.{◌≡◌, ℕ, ◌∙◌, suc, Bool, ◌||◌, inl, inr, List, [], ◌∷◌, ◌++◌, sym, ap}
-use Rattle.tj_core.specs.declared.event.Event.{Event}
-use Rattle.tj_core.specs.declared.event.Event.TheVariants.{Alarm, Settle}
-use Rattle.tj_core.specs.declared.walk.Walker.{Walker}
-use Rattle.tj_core.specs.CoreState.{CoreState, root_alone}
-use Rattle.tj_core.specs.Events.{after}
+use Rattle.tj_events.specs.declared.event.Event.{Event}
+use Rattle.tj_events.specs.declared.event.Event.TheVariants.{Alarm, Settle}
+use Rattle.tj_events.specs.declared.walk.Walker.{Walker}
+use Rattle.tj_events.specs.CoreState.{CoreState, root_alone}
+use Rattle.tj_events.specs.Events.{after}
 use Rattle.tj_core.specs.Journals.Judging.{IsSaid, is_alarm, IsJudgedFrom, settled_line, alarm_line}
 use Rattle.tj_core.specs.Journals.Laws.{JudgingIsOne}
-use Rattle.tj_core.proofs.Graph.CycleLists.{cycle_one}
+use Rattle.tj_events.proofs.Graph.CycleLists.{cycle_one}
 
 -- what is said of an event is one text
 said_one : (s : CoreState) (e : Event) (x y : List ℕ) → IsSaid s e x → IsSaid s e y → x ≡ y

@@ -2,10 +2,10 @@
 use Rattle.std.proofs.Common.{◌≡◌, ℕ, ◌∙◌, cond, List, [], ◌∷◌, get_or, map, codes, decimal, refl, sym, ap}
 use Rattle.std.specs.Str.{bytes_eq}
 use Rattle.tj_base.specs.declared.cell.CellId.{CellId}
-use Rattle.tj_core.specs.declared.event.Event.{Event}
-use Rattle.tj_core.specs.declared.event.Event.TheVariants.{Make, Fork, Hand, Close, Raise, Publish, LoadOthers}
-use Rattle.tj_core.specs.declared.event.Event.TheVariants.{LoadCount, ReadOwner, ReadWait, ReadOwnerAgain, Alarm}
-use Rattle.tj_core.specs.declared.event.Event.TheVariants.{Settle, Unwait, Lower}
+use Rattle.tj_events.specs.declared.event.Event.{Event}
+use Rattle.tj_events.specs.declared.event.Event.TheVariants.{Make, Fork, Hand, Close, Raise, Publish, LoadOthers}
+use Rattle.tj_events.specs.declared.event.Event.TheVariants.{LoadCount, ReadOwner, ReadWait, ReadOwnerAgain, Alarm}
+use Rattle.tj_events.specs.declared.event.Event.TheVariants.{Settle, Unwait, Lower}
 use Rattle.tj_core.specs.Journals.Lines.{verb_of, cells_of, words_of, HasSmallCells, Names}
 use Rattle.tj_core.specs.Journals.Laws.{EventsAreOne, EventsHaveNoFault}
 use Rattle.tj_core.proofs.Journals.Lines.{fault_or_events}

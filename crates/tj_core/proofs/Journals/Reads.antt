@@ -2,7 +2,7 @@
 use Rattle.std.proofs.Common.{◌≡◌, ℕ, ◌+◌, ◌-◌, ◌<◌, ◌≤◌, List, [], ◌∷◌, ◌++◌, length, take, drop, Result, Ok, Err, sym, ap, ◌∙◌, subst, arith, append_assoc, length-append}
 use Rattle.std.proofs.lemmas.List.{length-drop, take_all}
 use Rattle.std.specs.Result.{IfOk, IfErr, IsErrAnd}
-use Rattle.tj_core.specs.declared.event.Event.{Event}
+use Rattle.tj_events.specs.declared.event.Event.{Event}
 use Rattle.tj_core.specs.declared.journal.JournalFault.{JournalFault}
 use Rattle.tj_core.specs.declared.journal.JournalFault.TheVariants.{Line, Oom}
 use Rattle.tj_core.specs.Journals.Lines.{lines_of, words_of, HasSmallCells, Names, IsEventLine, AreEventLines, IsFirstFault, OrMemory}

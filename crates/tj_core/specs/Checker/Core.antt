@@ -1,9 +1,9 @@
 -- What a core shows.
 use Rattle.std.specs.Prelude.{◌≡◌, ℕ, suc}
-use Rattle.tj_core.specs.declared.event.Event.{Event}
+use Rattle.tj_events.specs.declared.event.Event.{Event}
 use Rattle.tj_core.specs.declared.plain_core.Core.{Core}
-use Rattle.tj_core.specs.CoreState.{CoreState}
-use Rattle.tj_core.specs.Events.{Allowed, after}
+use Rattle.tj_events.specs.CoreState.{CoreState}
+use Rattle.tj_events.specs.Events.{Allowed, after}
 use Rattle.tj_core.specs.Checker.Loads.{loads_after}
 use Rattle.tj_core.specs.Inner.Machine.{state_of, limit_of, loads_of}
 

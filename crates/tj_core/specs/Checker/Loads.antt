@@ -1,9 +1,9 @@
 -- The loads of each task's last walk, which stay when the walk has ended.
 use Rattle.std.specs.Prelude.{ℕ, suc}
-use Rattle.tj_core.specs.declared.event.Event.{Event}
-use Rattle.tj_core.specs.declared.event.Event.TheVariants.{Make, Fork, Hand, Close, Raise, Publish, LoadOthers}
-use Rattle.tj_core.specs.declared.event.Event.TheVariants.{LoadCount, ReadOwner, ReadWait, ReadOwnerAgain, Alarm}
-use Rattle.tj_core.specs.declared.event.Event.TheVariants.{Settle, Unwait, Lower}
+use Rattle.tj_events.specs.declared.event.Event.{Event}
+use Rattle.tj_events.specs.declared.event.Event.TheVariants.{Make, Fork, Hand, Close, Raise, Publish, LoadOthers}
+use Rattle.tj_events.specs.declared.event.Event.TheVariants.{LoadCount, ReadOwner, ReadWait, ReadOwnerAgain, Alarm}
+use Rattle.tj_events.specs.declared.event.Event.TheVariants.{Settle, Unwait, Lower}
 use Rattle.tj_base.specs.Puts.{put}
 
 -- the loads with one more of t

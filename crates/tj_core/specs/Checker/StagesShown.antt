@@ -2,7 +2,7 @@
 use Rattle.std.specs.Prelude.{Option, Some, None}
 use Rattle.tj_core.specs.declared.stage.Stage as shown
 use Rattle.tj_core.specs.declared.stage.Stage.TheVariants as stages
-use Rattle.tj_core.specs.CoreState.{CellStage, promise, fresh, running, raised, waits, walks, parked, alarmed, ended}
+use Rattle.tj_events.specs.CoreState.{CellStage, promise, fresh, running, raised, waits, walks, parked, alarmed, ended}
 
 -- the answer on a cell at this stage: none for a promise, as a cell is that isn't there
 abbrev pub stage_shown : CellStage → Option shown.Stage

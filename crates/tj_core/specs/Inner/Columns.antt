@@ -2,7 +2,7 @@
 use Rattle.std.specs.Prelude.{ℕ, suc, ◌<◌, ◌≤◌, List, length, map, Option, slice_index_or, vec_capacity}
 use Rattle.tj_core.specs.declared.births.Birth.{Birth}
 use Rattle.tj_core.specs.declared.slot.Slot.{Slot}
-use Rattle.tj_core.specs.CoreState.{CellStage, promise, CellState, CoreState}
+use Rattle.tj_events.specs.CoreState.{CellStage, promise, CellState, CoreState}
 use Rattle.tj_core.specs.Inner.Births.{name_of, maker_of}
 use Rattle.tj_core.specs.Inner.Owners.{owner_in}
 use Rattle.tj_core.specs.Inner.Slots.{stage_of}

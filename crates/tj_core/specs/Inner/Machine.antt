@@ -1,11 +1,11 @@
 -- What the checker's machine shows, and what an event does to it.
 use Rattle.std.specs.Prelude.{◌≡◌, ℕ, ◌<◌, [], length}
-use Rattle.tj_core.specs.declared.event.Event.{Event}
+use Rattle.tj_events.specs.declared.event.Event.{Event}
 use Rattle.tj_core.specs.declared.machine.Machine.{Machine}
 use Rattle.tj_core.specs.declared.slot_stage.SlotStage.{SlotStage}
-use Rattle.tj_core.specs.CoreState.{CoreState}
+use Rattle.tj_events.specs.CoreState.{CoreState}
 use Rattle.tj_core.specs.Inner.SlotStages.{cell_stage}
-use Rattle.tj_core.specs.Events.{Allowed, after, IsRunning, with_new}
+use Rattle.tj_events.specs.Events.{Allowed, after, IsRunning, with_new}
 use Rattle.tj_core.specs.Checker.Loads.{loads_after}
 use Rattle.tj_core.specs.Inner.Columns.{state_in, loads_in}
 

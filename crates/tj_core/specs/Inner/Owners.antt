@@ -1,6 +1,6 @@
 -- Who owns each cell, as a list.
 use Rattle.std.specs.Prelude.{◌≡◌, ℕ, ◌<◌, cond, List, length, Option, Some, None, slice_index_or, count_by}
-use Rattle.tj_core.specs.Events.{is_owner}
+use Rattle.tj_events.specs.Events.{is_owner}
 
 -- who owns a cell: nobody owns one past the end
 abbrev pub owner_in : List (Option ℕ) → ℕ → Option ℕ

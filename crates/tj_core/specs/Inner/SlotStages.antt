@@ -1,15 +1,15 @@
 -- What the checker keeps of a cell's stage: a stage of a slot, as the stage of the core state.
 use Rattle.std.specs.Prelude.{ℕ, List, reverse}
-use Rattle.tj_core.specs.declared.walk.LastRead.{LastRead}
-use Rattle.tj_core.specs.declared.walk.LastRead.TheVariants.{Published, SawOthers, Counted, SawOwner, SawWait, Passed}
-use Rattle.tj_core.specs.declared.walk.LastRead.TheVariants.{Changed}
-use Rattle.tj_core.specs.declared.walk.TrailLink.{TrailLink}
+use Rattle.tj_events.specs.declared.walk.LastRead.{LastRead}
+use Rattle.tj_events.specs.declared.walk.LastRead.TheVariants.{Published, SawOthers, Counted, SawOwner, SawWait, Passed}
+use Rattle.tj_events.specs.declared.walk.LastRead.TheVariants.{Changed}
+use Rattle.tj_events.specs.declared.walk.TrailLink.{TrailLink}
 use Rattle.tj_core.specs.declared.slot_stage.Progress.{Progress}
 use Rattle.tj_core.specs.declared.slot_stage.Progress.TheVariants.{Walking, Parked, Alarmed}
 use Rattle.tj_core.specs.declared.slot_stage.SlotStage.{SlotStage}
 use Rattle.tj_core.specs.declared.slot_stage.SlotStage.TheVariants.{Promise, Fresh, Running, Raised, Waiting, Ended}
-use Rattle.tj_core.specs.CoreState.{WaitStage, walks, parked, alarmed, CellStage, promise, fresh, running, raised}
-use Rattle.tj_core.specs.CoreState.{waits, ended}
+use Rattle.tj_events.specs.CoreState.{WaitStage, walks, parked, alarmed, CellStage, promise, fresh, running, raised}
+use Rattle.tj_events.specs.CoreState.{waits, ended}
 
 -- what a task that waits does, with the links of its trail from the oldest on, its bound and its loads
 abbrev pub wait_stage_of : List TrailLink → ℕ → ℕ → Progress → WaitStage

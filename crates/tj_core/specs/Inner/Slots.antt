@@ -1,10 +1,10 @@
 -- A slot of the checker, as what it shows of a cell.
 use Rattle.std.specs.Prelude.{ℕ, List, reverse}
 use Rattle.tj_core.specs.declared.slot.Slot.{Slot}
-use Rattle.tj_core.specs.declared.walk.LastRead.{LastRead}
-use Rattle.tj_core.specs.declared.walk.TrailLink.{TrailLink}
-use Rattle.tj_core.specs.declared.walk.Walker.{Walker}
-use Rattle.tj_core.specs.CoreState.{CellStage}
+use Rattle.tj_events.specs.declared.walk.LastRead.{LastRead}
+use Rattle.tj_events.specs.declared.walk.TrailLink.{TrailLink}
+use Rattle.tj_events.specs.declared.walk.Walker.{Walker}
+use Rattle.tj_events.specs.CoreState.{CellStage}
 use Rattle.tj_core.specs.Inner.SlotStages.{cell_stage}
 
 -- the stage that a slot shows

@@ -2,18 +2,19 @@
 use Rattle.std.specs.Prelude.{◌≡◌, ℕ, suc, ◌<◌, ◌≤◌, Option, Some, None}
 use Rattle.tj_base.specs.declared.cell.CellId.{CellId}
 use Rattle.tj_core.specs.declared.births.TheConstants.{MAX_CORE_CELLS}
-use Rattle.tj_core.specs.declared.event.Event.{Event}
-use Rattle.tj_core.specs.declared.event.Event.TheVariants as events
-use Rattle.tj_core.specs.declared.walk.Way.{Way}
-use Rattle.tj_core.specs.declared.walk.Walker.{Walker}
-use Rattle.tj_core.specs.declared.walk.LastRead.{LastRead}
-use Rattle.tj_core.specs.declared.walk.LastRead.TheVariants.{Published, SawOthers, Counted, SawOwner, SawWait, Passed}
-use Rattle.tj_core.specs.declared.walk.LastRead.TheVariants.{Changed}
+use Rattle.tj_events.specs.declared.event.Event.{Event}
+use Rattle.tj_events.specs.declared.event.Event.TheVariants as events
+use Rattle.tj_events.specs.declared.walk.Way.{Way}
+use Rattle.tj_events.specs.declared.walk.Walker.{Walker}
+use Rattle.tj_events.specs.declared.walk.LastRead.{LastRead}
+use Rattle.tj_events.specs.declared.walk.LastRead.TheVariants.{Published, SawOthers, Counted, SawOwner, SawWait, Passed}
+use Rattle.tj_events.specs.declared.walk.LastRead.TheVariants.{Changed}
 use Rattle.tj_core.specs.declared.walk_step.WalkStep.{WalkStep}
 use Rattle.tj_core.specs.declared.walk_step.WalkStep.TheVariants.{Others, Count, Owner, Wait, Again, Alarm, Settle}
-use Rattle.tj_core.specs.CoreState.{parked, alarmed, CellStage, CoreState, owner, wait, present, IfWalks}
-use Rattle.tj_core.specs.Events.{MayReadOthers, MayCount, MayReadOwner, MayReadWait, MayReadAgain, MayAlarm, MaySettle}
-use Rattle.tj_core.specs.Events.{walked, walk_ended, others_read, count_read, owner_read, wait_found, owner_again}
+use Rattle.tj_events.specs.CoreState.{parked, alarmed, CellStage, CoreState, owner, wait, present, IfWalks}
+use Rattle.tj_events.specs.Events.{MayReadOthers, MayCount, MayReadOwner}
+use Rattle.tj_events.specs.Events.{MayReadWait, MayReadAgain, MayAlarm, MaySettle}
+use Rattle.tj_events.specs.Events.{walked, walk_ended, others_read, count_read, owner_read, wait_found, owner_again}
 
 -- the event of the walker of t
 abbrev pub event_of : CellId → WalkStep → Event

@@ -2,16 +2,16 @@
 use Rattle.std.specs.Prelude.{◌≡◌, ℕ, suc, Bool, true, false, ◌||◌, List, [], ◌∷◌, ◌++◌, Option, Some, None, codes, decimal}
 use Rattle.std.specs.Prelude.{◌⊎◌}
 use Rattle.std.specs.List.{flat_map}
-use Rattle.tj_core.specs.declared.event.Event.{Event}
-use Rattle.tj_core.specs.declared.event.Event.TheVariants.{Make, Fork, Hand, Close, Raise, Publish, LoadOthers}
-use Rattle.tj_core.specs.declared.event.Event.TheVariants.{LoadCount, ReadOwner, ReadWait, ReadOwnerAgain, Alarm}
-use Rattle.tj_core.specs.declared.event.Event.TheVariants.{Settle, Unwait, Lower}
-use Rattle.tj_core.specs.declared.walk.LastRead.{LastRead}
-use Rattle.tj_core.specs.declared.walk.LastRead.TheVariants.{Published, SawOthers, Counted, SawOwner, SawWait, Passed}
-use Rattle.tj_core.specs.declared.walk.LastRead.TheVariants.{Changed}
-use Rattle.tj_core.specs.CoreState.{Cells, CoreState, root_alone, wait}
-use Rattle.tj_core.specs.Events.{Allowed, after, Walks}
-use Rattle.tj_core.specs.WaitGraph.{IsCycle}
+use Rattle.tj_events.specs.declared.event.Event.{Event}
+use Rattle.tj_events.specs.declared.event.Event.TheVariants.{Make, Fork, Hand, Close, Raise, Publish, LoadOthers}
+use Rattle.tj_events.specs.declared.event.Event.TheVariants.{LoadCount, ReadOwner, ReadWait, ReadOwnerAgain, Alarm}
+use Rattle.tj_events.specs.declared.event.Event.TheVariants.{Settle, Unwait, Lower}
+use Rattle.tj_events.specs.declared.walk.LastRead.{LastRead}
+use Rattle.tj_events.specs.declared.walk.LastRead.TheVariants.{Published, SawOthers, Counted, SawOwner, SawWait, Passed}
+use Rattle.tj_events.specs.declared.walk.LastRead.TheVariants.{Changed}
+use Rattle.tj_events.specs.CoreState.{Cells, CoreState, root_alone, wait}
+use Rattle.tj_events.specs.Events.{Allowed, after, Walks}
+use Rattle.tj_events.specs.WaitGraph.{IsCycle}
 
 -- a task whose walk has ended when it had read OTHERS as 0
 abbrev pub skipped_line : ℕ → List ℕ

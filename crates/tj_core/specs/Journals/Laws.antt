@@ -1,6 +1,6 @@
 -- The laws of journals: what is defined of reading and of judging leaves one answer.
 use Rattle.std.specs.Prelude.{◌≡◌, ℕ, Bool, List}
-use Rattle.tj_core.specs.declared.event.Event.{Event}
+use Rattle.tj_events.specs.declared.event.Event.{Event}
 use Rattle.tj_core.specs.Journals.Lines.{AreEventLines, IsFirstFault}
 use Rattle.tj_core.specs.Journals.Judging.{IsJudged}
 

@@ -3,10 +3,10 @@ use Rattle.std.specs.Prelude.{◌≡◌, ℕ, suc, ◌<◌, ◌^◌, ◌==◌, c
 use Rattle.std.specs.List.{AllByRecursion, slice_split, onto_first}
 use Rattle.tj_core.specs.declared.journal.JournalFault.{JournalFault}
 use Rattle.tj_core.specs.declared.journal.JournalFault.TheVariants.{Line, Oom}
-use Rattle.tj_core.specs.declared.event.Event.{Event}
-use Rattle.tj_core.specs.declared.event.Event.TheVariants.{Make, Fork, Hand, Close, Raise, Publish, LoadOthers}
-use Rattle.tj_core.specs.declared.event.Event.TheVariants.{LoadCount, ReadOwner, ReadWait, ReadOwnerAgain, Alarm}
-use Rattle.tj_core.specs.declared.event.Event.TheVariants.{Settle, Unwait, Lower}
+use Rattle.tj_events.specs.declared.event.Event.{Event}
+use Rattle.tj_events.specs.declared.event.Event.TheVariants.{Make, Fork, Hand, Close, Raise, Publish, LoadOthers}
+use Rattle.tj_events.specs.declared.event.Event.TheVariants.{LoadCount, ReadOwner, ReadWait, ReadOwnerAgain, Alarm}
+use Rattle.tj_events.specs.declared.event.Event.TheVariants.{Settle, Unwait, Lower}
 
 -- the lines of a text without their line feeds, which the last line may lack. An empty text has none
 abbrev pub lines_of : List ℕ → List (List ℕ)

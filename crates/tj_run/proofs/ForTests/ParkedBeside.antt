@@ -13,7 +13,7 @@ use Rattle.tj_run.proofs.Waiting.WaitConditions.{IsToWait, held_as, may_block, m
 use Rattle.tj_run.proofs.Seats.WorkersSteps.{runs_on}
 use Rattle.tj_run.proofs.ForTests.TwoTasks.{back, first_stays, slots_now, tasks_now}
 use Rattle.tj_run.proofs.Seats.QuietTasks.{acts_quietly}
-use Rattle.tj_core.specs.declared.walk.Way.TheVariants as way
+use Rattle.tj_events.specs.declared.walk.Way.TheVariants as way
 use Rattle.tj_detect.specs.declared.blocking.Verdict.TheVariants as verdict
 
 -- a seat with two tasks holds an alarmed one only where one of them has alarmed

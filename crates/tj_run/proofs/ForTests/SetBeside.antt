@@ -12,7 +12,7 @@ use Rattle.tj_park.proofs.BreakSteps.{alarms_closed, may_wake_closed, without_fi
 use Rattle.tj_run.proofs.ForTests.ParkedBeside.{no_other, parks_too, slot_first}
 use Rattle.tj_run.proofs.ForTests.TwoTasks.{slots_now, tasks_now}
 use Rattle.tj_body.specs.declared.point.Entry.TheVariants as entry
-use Rattle.tj_core.specs.declared.walk.Way.TheVariants as way
+use Rattle.tj_events.specs.declared.walk.Way.TheVariants as way
 use Rattle.tj_words.specs.declared.offsets.Once.TheVariants as once
 use Rattle.tj_words.specs.declared.record.Fill.TheVariants as fill
 use Rattle.tj_detect.specs.declared.blocking.Verdict.TheVariants as verdict

@@ -8,7 +8,7 @@ use Rattle.std.proofs.Common.{zero, true, false, cond, not, ◌&&◌, length, su
 use Rattle.tj_base.specs.ForkOrder.{Name, before as is_before}
 use Rattle.tj_body.specs.History.{after_ask, after_failure, after_get, after_join, reference, to_task, with_wait}
 use Rattle.tj_body.specs.Inner.AskSteps.{get_of, join_of}
-use Rattle.tj_core.specs.Events.{way_if}
+use Rattle.tj_events.specs.Events.{way_if}
 use Rattle.tj_words.specs.Steps.WalkSteps.{is_task_sort, way_by}
 use Rattle.tj_run.proofs.Asks.AskedSteps.{asked_fails, asked_on, asked_waits}
 use Rattle.tj_run.proofs.Asks.PointSteps.{before, pairs_at}
@@ -16,7 +16,7 @@ use Rattle.tj_run.proofs.Cells.ToldCells.{cell_known}
 use Rattle.tj_run.proofs.Seats.WorkersSteps.{goes_since, read_more, runs_read}
 use Rattle.tj_base.specs.declared.cell.Sort.TheVariants as sort
 use Rattle.tj_base.specs.declared.cause.Cause.TheVariants as cause
-use Rattle.tj_core.specs.declared.walk.Way.TheVariants as way
+use Rattle.tj_events.specs.declared.walk.Way.TheVariants as way
 use Rattle.tj_words.specs.declared.record.Finish.TheVariants as finish
 use Rattle.tj_words.specs.declared.record.Hurt.TheVariants as hurt
 use Rattle.tj_run.specs.declared.next.Next.TheVariants as next

@@ -8,9 +8,9 @@ use Rattle.tj_run.proofs.Prelude.{false, held_at, held_in, inl, inr, length, let
 use Rattle.tj_run.proofs.Prelude.{no_some, noted, nothing_same, now_does, numbers, refl, rest, same_some, shelved}
 use Rattle.tj_run.proofs.Prelude.{subst, sym, table_program, true, waits_at, way_by, ℕ, ◌<◌, ◌∙◌, ◌∷◌, ◌≡◌, ◌≤◌, ◌⊎◌}
 use Rattle.std.proofs.lemmas.Option.{slice_get-get_or}
-use Rattle.tj_core.specs.declared.walk.LastRead.TheVariants.{SawOthers}
-use Rattle.tj_core.specs.declared.walk.Walker.{Walker}
-use Rattle.tj_core.specs.Events.{EndsWalk, MaySettle, raised_by_way}
+use Rattle.tj_events.specs.declared.walk.LastRead.TheVariants.{SawOthers}
+use Rattle.tj_events.specs.declared.walk.Walker.{Walker}
+use Rattle.tj_events.specs.Events.{EndsWalk, MaySettle, raised_by_way}
 use Rattle.tj_words.specs.LawParts.LiveCount.{HasAlarmed, HasWakeToCome, Holds}
 use Rattle.tj_words.specs.LawParts.RecordPhases.{WaitsFor}
 use Rattle.tj_detect.specs.Blocks.{EndsWith, MayBlock, does_after, tokens_given}
@@ -22,7 +22,7 @@ use Rattle.tj_run.proofs.Seats.WorkersSteps.{back_on, left_on, read_more, runs_r
 use Rattle.tj_run.proofs.Seats.FreeSeats.{workers_same}
 use Rattle.tj_base.specs.declared.cell.Sort.TheVariants as sort
 use Rattle.tj_body.specs.declared.ask.Answer.TheVariants as answer
-use Rattle.tj_core.specs.declared.walk.Way.TheVariants as way
+use Rattle.tj_events.specs.declared.walk.Way.TheVariants as way
 use Rattle.tj_words.specs.declared.view.Does.TheVariants as does
 use Rattle.tj_detect.specs.declared.blocking.Verdict.TheVariants as verdict
 

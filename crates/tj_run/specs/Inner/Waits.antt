@@ -4,8 +4,8 @@ use Rattle.tj_body.specs.declared.ask.Answer.TheVariants as answer
 use Rattle.tj_body.specs.Points.{IsIn}
 use Rattle.tj_body.specs.Programs.{Program}
 use Rattle.tj_body.specs.declared.point.Reference.{Reference}
-use Rattle.tj_core.specs.declared.walk.Way.{Way}
-use Rattle.tj_core.specs.declared.walk.Walker.{Walker}
+use Rattle.tj_events.specs.declared.walk.Way.{Way}
+use Rattle.tj_events.specs.declared.walk.Walker.{Walker}
 use Rattle.tj_words.specs.declared.record.Held.{Held}
 use Rattle.tj_words.specs.declared.record.Rec.{Rec}
 use Rattle.tj_words.specs.declared.table.Laid.{Laid}

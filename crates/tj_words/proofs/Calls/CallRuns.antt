@@ -42,7 +42,7 @@ use Rattle.tj_words.proofs.Calls.KeptCells.{kept_parts}
 use Rattle.tj_words.proofs.Stores.StoredWords.{put_word_cell, put_word_word, said, say}
 use Rattle.tj_words.proofs.Stores.TableWords.{TableWord, index}
 use Rattle.tj_words.specs.Calls.WalkViews.{IsWalking}
-use Rattle.tj_core.specs.declared.event.Event.TheVariants as event
+use Rattle.tj_events.specs.declared.event.Event.TheVariants as event
 use Rattle.tj_words.specs.declared.offsets.Once.TheVariants as once
 use Rattle.tj_words.specs.declared.phase.Phase.TheVariants as phase
 use Rattle.tj_words.specs.declared.phase.Walk.TheVariants as walk

@@ -6,7 +6,7 @@ use Rattle.tj_words.proofs.Prelude.{ShowsEvent, ShowsNothing, Under, [], after, 
 use Rattle.tj_words.proofs.Prelude.{core_shown, draw_event, drawn_in, first_slots, first_view, first_words, map, min}
 use Rattle.tj_words.proofs.Prelude.{opening, reference_of, refl, root_alone, seats_have, some, state_of, subst, sym}
 use Rattle.tj_words.proofs.Prelude.{to_task, ℕ, ⊎_elim, ◌++◌, ◌<◌, ◌∙◌, ◌∷◌, ◌≡◌, ◌⊎◌}
-use Rattle.tj_core.specs.Runs.{AreAllowed, IsLegalRun}
+use Rattle.tj_events.specs.Runs.{AreAllowed, IsLegalRun}
 use Rattle.tj_words.proofs.Events.DrawEvents.{draw_shown}
 use Rattle.tj_words.proofs.Seating.FirstWords.{first_words_say}
 use Rattle.tj_words.proofs.Calls.OneStates.{chained, drawn_chained, keeps_itself, root_name, shown_with}

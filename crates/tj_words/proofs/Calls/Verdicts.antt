@@ -3,14 +3,14 @@
 use Rattle.tj_words.proofs.Prelude.{Allowed, AreAskedMoments, Bool, CoreState, Event, Key, List, Program, Ruled}
 use Rattle.tj_words.proofs.Prelude.{StepCall, View, [], ap, cell, events_by, get_elem?, last_moment, phase_events}
 use Rattle.tj_words.proofs.Prelude.{phase_in, place_of, some, state_of, subst, under, word, ℕ, ◌∙◌, ◌∷◌, ◌≡◌}
-use Rattle.tj_core.specs.WaitGraph.{IsOnCycle}
-use Rattle.tj_core.proofs.Events.LegalRuns.{settles_off_cycles}
+use Rattle.tj_events.specs.WaitGraph.{IsOnCycle}
+use Rattle.tj_events.proofs.Events.LegalRuns.{settles_off_cycles}
 use Rattle.tj_words.specs.CallLaws.Verdicts.{EndedWalksAreOffCycles, HasEndedWalk, PublishesAt, IsOnCycleAt}
 use Rattle.tj_words.proofs.Calls.CallRuns.{all_go, calls_are_steps}
 use Rattle.tj_words.proofs.Calls.TableRuns.{GoesTo, goes_on}
 use Rattle.tj_words.proofs.Events.WalkersShown.{walker_shown}
 use Rattle.tj_words.specs.CallLaws.CallRuns.{joined}
-use Rattle.tj_core.specs.declared.event.Event.TheVariants as event
+use Rattle.tj_events.specs.declared.event.Event.TheVariants as event
 use Rattle.tj_words.specs.CallLaws.StepCalls as call
 
 module _ {B : Type 0} (program : Bool → B → Program B) (key : Key B) (u w : Ruled program key) (t p : ℕ)

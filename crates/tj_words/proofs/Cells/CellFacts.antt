@@ -5,7 +5,7 @@ use Rattle.tj_words.proofs.Prelude.{answer_stage, ap, before, cond, core_shown, 
 use Rattle.tj_words.proofs.Prelude.{hand_of, held_of, home_of, is_task, is_task_sort, name, nat_eq, new_stage, parts_of}
 use Rattle.tj_words.proofs.Prelude.{phase_sort, reference_of, refl, running, sort_shown, stage, stage_there, subst, sym}
 use Rattle.tj_words.proofs.Prelude.{true, wait_in, wait_of, way_by, way_if, way_of_wait, ℕ, ◌&&◌, ◌<◌, ◌∙◌, ◌≡◌, ◌≢◌}
-use Rattle.tj_core.specs.CoreState.{wait}
+use Rattle.tj_events.specs.CoreState.{wait}
 use Rattle.tj_words.proofs.Holders.HeldTasks.{at_index}
 use Rattle.tj_words.proofs.Events.ShownCells.{stage_out, cell_there}
 use Rattle.tj_body.specs.declared.ask.Answer.TheVariants as answer

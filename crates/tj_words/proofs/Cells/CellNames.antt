@@ -6,8 +6,8 @@ use Rattle.tj_words.proofs.Prelude.{child, core_shown, drawn_in, get_elem?, in_m
 use Rattle.tj_words.proofs.Prelude.{made_of, map, name, next_reference, parts_of, reference_of, refl, some}
 use Rattle.tj_words.proofs.Prelude.{some-injective, some-ne-none, subst, suc, sym, zero, ℕ, ⊎_elim, ◌++◌, ◌<◌, ◌∙◌, ◌∷◌}
 use Rattle.tj_words.proofs.Prelude.{◌≡◌, ◌≢◌, ◌≤◌, ◌⊎◌}
-use Rattle.tj_core.specs.Facts.{MakersFact}
-use Rattle.tj_core.proofs.OneCell.Makers.{next_name_new}
+use Rattle.tj_events.specs.Facts.{MakersFact}
+use Rattle.tj_events.proofs.OneCell.Makers.{next_name_new}
 use Rattle.tj_words.proofs.Stores.SeatLists.{inside}
 use Rattle.tj_words.proofs.Events.ShownCells.{cell_there}
 use Rattle.tj_words.proofs.Cells.CellFacts.{cell_born, name_shown}

@@ -4,7 +4,7 @@ use Rattle.tj_words.proofs.Prelude.{Node, NodeId, Program, Reference, [], ap, ar
 use Rattle.tj_words.proofs.Prelude.{drawn_in, if◌then◌else◌, inl, inr, jump_from, made_of, maker, name, node_of}
 use Rattle.tj_words.proofs.Prelude.{node_of-child, node_of-older, parts_of, reference_of, refl, some-injective, subst}
 use Rattle.tj_words.proofs.Prelude.{suc, sym, zero, ℕ, ℕ_discrete, ◌-◌, ◌<◌, ◌==◌, ◌∙◌, ◌∷◌, ◌≡◌, ◌≢◌, ◌≤◌}
-use Rattle.tj_core.specs.Facts.{IsThing}
+use Rattle.tj_events.specs.Facts.{IsThing}
 use Rattle.tj_tree.proofs.Trees.{parent_there}
 use Rattle.tj_words.proofs.Events.ShownCells.{cell_there}
 use Rattle.tj_words.proofs.Cells.CellFacts.{cell_born, name_shown}

@@ -6,7 +6,7 @@ use Rattle.tj_words.proofs.Prelude.{get_elem?, get_or, hand_of, hand_stage, held
 use Rattle.tj_words.proofs.Prelude.{made_of, maker, making, next_reference, parts_of, phase_sort, put, put_else}
 use Rattle.tj_words.proofs.Prelude.{put_here, record_in, reference_of, refl, shown_by, some, some-injective, subst, suc}
 use Rattle.tj_words.proofs.Prelude.{sym, to_task, with_new, zero, ℕ, ◌++◌, ◌+◌, ◌<◌, ◌∙◌, ◌∷◌, ◌≡◌, ◌≢◌, ◌≤◌}
-use Rattle.tj_core.proofs.OneCell.Makers.{thing_made}
+use Rattle.tj_events.proofs.OneCell.Makers.{thing_made}
 use Rattle.tj_words.specs.Inner.TreeDraws.{MayDraw}
 use Rattle.tj_words.proofs.Holders.HeldTasks.{none_some, one_some, hand_found, makes_none}
 use Rattle.tj_words.proofs.Events.ShownCells.{cell_there}

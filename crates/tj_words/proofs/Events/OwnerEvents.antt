@@ -7,8 +7,8 @@ use Rattle.tj_words.proofs.Prelude.{home_of, made_by, maker, ne_eqb, new_stage, 
 use Rattle.tj_words.proofs.Prelude.{parts_of, phase_of, phase_sort, put, put_else, put_here, reference_of, refl}
 use Rattle.tj_words.proofs.Prelude.{restage, running, shown_by, some, some-injective, stage, stage_there, subst, suc}
 use Rattle.tj_words.proofs.Prelude.{sym, zero, ℕ, ◌<◌, ◌∙◌, ◌≡◌, ◌≢◌, ◌≤◌}
-use Rattle.tj_core.specs.CoreState.{CoreState, promise}
-use Rattle.tj_core.specs.Events.{owned_by, stage_after_close}
+use Rattle.tj_events.specs.CoreState.{CoreState, promise}
+use Rattle.tj_events.specs.Events.{owned_by, stage_after_close}
 use Rattle.tj_words.proofs.Holders.HeldTasks.{none_some, one_some, hand_found}
 use Rattle.tj_words.proofs.Events.ShownCells.{stage_out, owner_out, cell_there, cell_blank}
 use Rattle.tj_words.proofs.Events.ShownOwners.{result_closed, owner_changed, ShowsAs, shows_as, shows_itself}
@@ -18,7 +18,7 @@ use Rattle.tj_words.proofs.Cells.CellFacts.{cell_born}
 use Rattle.tj_words.proofs.Events.TurnedTasks.{acting_runs}
 use Rattle.tj_words.proofs.Holders.SeatTasks.{made_held_by}
 use Rattle.tj_base.specs.declared.cell.Sort.TheVariants as sort
-use Rattle.tj_core.specs.declared.event.Event.TheVariants as event
+use Rattle.tj_events.specs.declared.event.Event.TheVariants as event
 use Rattle.tj_words.specs.declared.offsets.Once.TheVariants as once
 use Rattle.tj_words.specs.declared.phase.Phase.TheVariants as phase
 use Rattle.tj_words.specs.declared.view.Does.TheVariants as does

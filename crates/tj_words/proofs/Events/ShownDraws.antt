@@ -3,7 +3,7 @@ use Rattle.tj_words.proofs.Prelude.{CellState, Cells, CoreState, Custody, Hand, 
 use Rattle.tj_words.proofs.Prelude.{Some, ap, arith, at_put, cell_by, child, first_owner, hand_stage, made_by}
 use Rattle.tj_words.proofs.Prelude.{owner_shown, phase_sort, put, put_else, put_here, reference_of, refl, running}
 use Rattle.tj_words.proofs.Prelude.{shown_by, stage_shown, stage_there, suc, sym, with_new, ℕ, ◌+◌, ◌<◌, ◌∙◌, ◌≡◌, ◌≢◌}
-use Rattle.tj_core.specs.Events.{one_made, new_cell}
+use Rattle.tj_events.specs.Events.{one_made, new_cell}
 use Rattle.tj_words.proofs.Events.ShownParts.{drawn_parts}
 use Rattle.tj_words.proofs.Events.ShownCells.{cell_blank, cell_there, shown_is}
 

@@ -4,8 +4,8 @@ use Rattle.tj_words.proofs.Prelude.{Reference, Some, alter, ap, arith, at_put, c
 use Rattle.tj_words.proofs.Prelude.{owner_shown, parts_of, phase_sort, put, put_else, put_here, reference_of, refl}
 use Rattle.tj_words.proofs.Prelude.{restage, running, shown_by, stage_shown, stage_there, staged, sym, ℕ, ◌+◌, ◌<◌, ◌∙◌}
 use Rattle.tj_words.proofs.Prelude.{◌≡◌, ◌≢◌}
-use Rattle.tj_core.specs.CoreState.{ended}
-use Rattle.tj_core.specs.Events.{owned_by}
+use Rattle.tj_events.specs.CoreState.{ended}
+use Rattle.tj_events.specs.Events.{owned_by}
 use Rattle.tj_words.proofs.Events.ShownParts.{owned_parts}
 use Rattle.tj_words.proofs.Events.QuietCells.{stage_does}
 use Rattle.tj_words.proofs.Events.ShownCells.{cell_blank, cell_there, shown_is}

@@ -9,7 +9,7 @@ use Rattle.tj_words.specs.Words.Lists.{total}
 use Rattle.tj_words.specs.LawParts.Hands.{hand_in, making}
 use Rattle.tj_words.specs.LawParts.Contents.{Contents, drawn_in, held_of, home_of}
 use Rattle.tj_body.specs.declared.point.Reference.{Reference}
-use Rattle.tj_core.specs.CoreState.{CellState, CoreState, blank}
+use Rattle.tj_events.specs.CoreState.{CellState, CoreState, blank}
 use Rattle.tj_words.specs.LawParts.Holding.{made_by}
 use Rattle.tj_words.specs.LawParts.ShownState.{reference_of, owner_shown, stage_shown}
 

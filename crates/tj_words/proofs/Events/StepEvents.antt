@@ -1,8 +1,8 @@
 -- What a step shows: one event that is allowed, or nothing; and which cells it leaves.
 use Rattle.std.specs.Prelude.{◌≡◌, ℕ, List, Some, None, ◌⊎◌, suc}
 use Rattle.tj_body.specs.declared.point.Reference.{Reference}
-use Rattle.tj_core.specs.declared.event.Event.{Event}
-use Rattle.tj_core.specs.Events.{Allowed, after}
+use Rattle.tj_events.specs.declared.event.Event.{Event}
+use Rattle.tj_events.specs.Events.{Allowed, after}
 use Rattle.tj_words.specs.declared.view.Custody.{Custody}
 use Rattle.tj_words.specs.Words.Lists.{OfSeat}
 use Rattle.tj_words.specs.LawParts.Holding.{held_in}

@@ -4,13 +4,13 @@ use Rattle.tj_words.proofs.Prelude.{IsThere, Law, LiesAtHome, LowersOthers, None
 use Rattle.tj_words.proofs.Prelude.{Some, Way, answer_stage, ap, cell, core_shown, does_stage, drawn_in, hand_of}
 use Rattle.tj_words.proofs.Prelude.{held_of, home_of, parts_of, phase_sort, refl, restage, running, shown_by}
 use Rattle.tj_words.proofs.Prelude.{sort_shown, stage, stage_there, subst, sym, tag_in, waits, ℕ, ⊎_elim, ◌+◌, ◌∙◌, ◌≡◌}
-use Rattle.tj_core.specs.CoreState.{parked}
-use Rattle.tj_core.specs.Events.{raised_by, raised_by_way}
+use Rattle.tj_events.specs.CoreState.{parked}
+use Rattle.tj_events.specs.Events.{raised_by, raised_by_way}
 use Rattle.tj_words.proofs.Events.ShownCells.{stage_out, owner_out}
 use Rattle.tj_words.proofs.Holders.TaskPlaces.{begun_there}
 use Rattle.tj_words.proofs.Events.TurnedTasks.{moved_event}
 use Rattle.tj_base.specs.declared.cell.Sort.TheVariants as sort
-use Rattle.tj_core.specs.declared.event.Event.TheVariants as event
+use Rattle.tj_events.specs.declared.event.Event.TheVariants as event
 use Rattle.tj_words.specs.declared.phase.Walk.TheVariants as walk
 use Rattle.tj_words.specs.declared.phase.Phase.TheVariants as phase
 use Rattle.tj_words.specs.declared.view.Does.TheVariants as does

@@ -7,18 +7,18 @@ use Rattle.tj_words.proofs.Prelude.{does_cells, drawn_in, hand_of, inl, inr, is_
 use Rattle.tj_words.proofs.Prelude.{owner_read, parts_of, phase_of, read_cells, refl, restage, start_walk, subst, suc}
 use Rattle.tj_words.proofs.Prelude.{sym, total, trail_cells, wait_found, wait_in, walk_cells, way_of_wait, ℕ, ◌++◌, ◌∙◌}
 use Rattle.tj_words.proofs.Prelude.{◌∷◌, ◌≡◌, ◌≢◌}
-use Rattle.tj_core.specs.declared.walk.Way.TheVariants.{Along, Other}
-use Rattle.tj_core.specs.declared.walk.TrailLink.{TrailLink}
-use Rattle.tj_core.specs.CoreState.{CellStage, CoreState, stage, present, raised, waits, walks, parked, alarmed}
-use Rattle.tj_core.specs.Events.{walked, walk_ended, wait_read, owner_again, Walks, MayPublish, MayReadWait, MayAlarm}
+use Rattle.tj_events.specs.declared.walk.Way.TheVariants.{Along, Other}
+use Rattle.tj_events.specs.declared.walk.TrailLink.{TrailLink}
+use Rattle.tj_events.specs.CoreState.{CellStage, CoreState, stage, present, raised, waits, walks, parked, alarmed}
+use Rattle.tj_events.specs.Events.{walked, walk_ended, wait_read, owner_again, Walks, MayPublish, MayReadWait, MayAlarm}
 use Rattle.tj_words.proofs.Events.WalkSteps.{ProceedsOpen}
 use Rattle.tj_words.proofs.Holders.HeldTasks.{held_listed, in_back}
 use Rattle.tj_words.proofs.Cells.CellFacts.{way_shown, wait_shown}
 use Rattle.tj_words.proofs.Events.ShownCells.{owner_out}
 use Rattle.tj_words.proofs.Holders.TaskPlaces.{does_shown, begun_there, custody, held_drawn, list_owned, stage_held}
 use Rattle.tj_words.proofs.Events.TurnedTasks.{acting_runs, acting_begun, turned_out, turned_event, moved_event}
-use Rattle.tj_core.specs.declared.walk.LastRead.TheVariants.{SawOwner, SawWait}
-use Rattle.tj_core.specs.declared.event.Event.TheVariants as event
+use Rattle.tj_events.specs.declared.walk.LastRead.TheVariants.{SawOwner, SawWait}
+use Rattle.tj_events.specs.declared.event.Event.TheVariants as event
 use Rattle.tj_words.specs.declared.phase.Walk.TheVariants as walk
 use Rattle.tj_words.specs.declared.phase.Phase.TheVariants as phase
 use Rattle.tj_words.specs.declared.view.Does.TheVariants as does

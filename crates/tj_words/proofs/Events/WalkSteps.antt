@@ -3,10 +3,10 @@
 use Rattle.std.specs.Prelude.{◌≡◌, ◌⊎◌, ℕ, suc, ◌+◌, ◌-◌, ◌<◌, List, Option, Some, None}
 use Rattle.tj_body.specs.Points.{IsIn}
 use Rattle.tj_body.specs.declared.point.Reference.{Reference}
-use Rattle.tj_core.specs.declared.walk.Way.{Way}
-use Rattle.tj_core.specs.declared.walk.Walker.{Walker}
-use Rattle.tj_core.specs.declared.walk.LastRead.TheVariants.{SawOwner}
-use Rattle.tj_core.specs.Events.{start_walk, raised_by_way, MaySettle}
+use Rattle.tj_events.specs.declared.walk.Way.{Way}
+use Rattle.tj_events.specs.declared.walk.Walker.{Walker}
+use Rattle.tj_events.specs.declared.walk.LastRead.TheVariants.{SawOwner}
+use Rattle.tj_events.specs.Events.{start_walk, raised_by_way, MaySettle}
 use Rattle.tj_words.specs.declared.phase.Phase.{Phase}
 use Rattle.tj_words.specs.declared.record.Rec.{Rec}
 use Rattle.tj_words.specs.declared.view.Does.{Does}

@@ -7,7 +7,7 @@ use Rattle.std.specs.Option.{unwrap_or, option_map}
 use Rattle.tj_words.specs.Words.Owners.{owner_number, owner_in}
 use Rattle.tj_words.specs.Words.Phases.{wait_code, phase_word, phase_in}
 use Rattle.atomic_table.proofs.Lists.{at_last}
-use Rattle.tj_core.specs.declared.walk.Way.TheVariants as way
+use Rattle.tj_events.specs.declared.walk.Way.TheVariants as way
 use Rattle.tj_words.specs.declared.phase.Walk.TheVariants as walk
 use Rattle.tj_words.specs.declared.phase.Phase.TheVariants as phase
 

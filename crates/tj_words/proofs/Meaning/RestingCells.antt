@@ -12,7 +12,7 @@ use Rattle.tj_words.specs.AtRest.ClosedCells.{HasAlarmed, AreNamed}
 use Rattle.tj_words.proofs.Stores.SeatLists.{inside}
 use Rattle.tj_words.proofs.Holders.HeldTasks.{one_some}
 use Rattle.tj_words.proofs.Events.ShownCells.{cell_there}
-use Rattle.tj_core.specs.WaitGraph as core
+use Rattle.tj_events.specs.WaitGraph as core
 use Rattle.tj_words.specs.declared.offsets.Once.TheVariants as once
 use Rattle.tj_words.specs.declared.phase.Phase.TheVariants as phase
 use Rattle.tj_words.specs.declared.phase.Walk.TheVariants as walk
@@ -96,7 +96,7 @@ module _ {B : Type 0} (program : Bool → B → Program B) (key : Key B) (s : St
       )
     where
       alarmed : (u c : ℕ) (way : Way) → stage K.cells u
-          ≡ waits c way Rattle.tj_core.specs.CoreState.alarmed → HasAlarmed shown u
+          ≡ waits c way Rattle.tj_events.specs.CoreState.alarmed → HasAlarmed shown u
       alarmed u c way e = let p = rests.alarm_phase program key s r id v at may u c way e in
           let l = rests.waiter_there program key s r id v at may u (cell c) way walk.Alarmed p in
           (cell_of s.words u, cell c, way, is_shown u l, p)

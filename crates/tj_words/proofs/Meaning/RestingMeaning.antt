@@ -13,7 +13,7 @@ use Rattle.tj_words.proofs.Cells.CellNames.{name_of, born_apart, distinct_names,
 use Rattle.tj_words.proofs.Cells.CellFacts.{cell_born}
 use Rattle.tj_words.proofs.Meaning.ClosedWords.{read_or}
 use Rattle.tj_words.proofs.Events.ShownCells.{owner_out}
-use Rattle.tj_core.specs.CoreState.{Lives}
+use Rattle.tj_events.specs.CoreState.{Lives}
 use Rattle.tj_words.proofs.Holders.HeldTasks.{none_some, one_some}
 use Rattle.tj_words.proofs.Meaning.Resting.{IsMeant, pairs_at, in_of_index}
 use Rattle.tj_words.proofs.Meaning.RestingTables.{lies, rest_shows, none_ready_at_zero}

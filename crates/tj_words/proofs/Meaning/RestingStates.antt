@@ -8,8 +8,8 @@ use Rattle.tj_words.proofs.Prelude.{live_part, map, owner, parts_of, phase_sort,
 use Rattle.tj_words.proofs.Prelude.{some-ne-none, sort_shown, stage, stage_there, subst, suc, sym, tag_in, total}
 use Rattle.tj_words.proofs.Prelude.{wait_in, waits, zero, ℕ, ℕ_discrete, ⊎_elim, ◌+◌, ◌<◌, ◌∙◌, ◌∷◌, ◌≡◌, ◌≢◌, ◌≤◌}
 use Rattle.tj_base.proofs.Ways.{reach_front}
-use Rattle.tj_core.specs.CoreState.{CoreState, walks, alarmed, promise, WaitStage, CellState, wait_of}
-use Rattle.tj_core.specs.WaitGraph.{Leads, Reaches}
+use Rattle.tj_events.specs.CoreState.{CoreState, walks, alarmed, promise, WaitStage, CellState, wait_of}
+use Rattle.tj_events.specs.WaitGraph.{Leads, Reaches}
 use Rattle.tj_words.proofs.Cells.CellFacts.{wait_shown}
 use Rattle.tj_words.proofs.Holders.HeldTasks.{hand_found, none_some}
 use Rattle.tj_words.proofs.Waiters.LiveSteps.{none_left_waiting}

@@ -5,7 +5,7 @@ use Rattle.tj_words.proofs.Prelude.{State, View, [], ap, arith, contents_of, cor
 use Rattle.tj_words.proofs.Prelude.{hand_of, home_of, is_task, let_go, live_part, numbers, owned_by, owner, parts_of}
 use Rattle.tj_words.proofs.Prelude.{phase_at, phase_in, phase_of, phase_word, put, refl, seats_have, set, some, subst}
 use Rattle.tj_words.proofs.Prelude.{suc, sym, true, wait_in, word, ℕ, ◌<◌, ◌∙◌, ◌≡◌}
-use Rattle.tj_core.specs.CoreState.{IsTask}
+use Rattle.tj_events.specs.CoreState.{IsTask}
 use Rattle.tj_words.proofs.Stores.StoreSteps.{put_here, put_else}
 use Rattle.tj_words.proofs.Stores.SlotStores.{StoresWith}
 use Rattle.tj_words.proofs.Holders.HeldTasks.{none_some, none_unless}

@@ -24,7 +24,7 @@ use Rattle.tj_words.proofs.Events.WalkEvents.{publish_shown, alarm_shown}
 use Rattle.tj_words.proofs.Phases.NotedWaits.{after_note, note_turns, note_law, begun_way}
 use Rattle.tj_words.specs.declared.phase.Walk.TheVariants as walk
 use Rattle.tj_words.specs.declared.phase.Phase.TheVariants as phase
-use Rattle.tj_core.specs.declared.walk.Way.TheVariants as ways
+use Rattle.tj_events.specs.declared.walk.Way.TheVariants as ways
 use Rattle.tj_words.specs.declared.view.Does.TheVariants as does
 use Rattle.tj_words.proofs.Stores.TableWords as table_word
 

@@ -7,8 +7,8 @@ use Rattle.tj_words.proofs.Prelude.{count_read, does_cells, drawn_in, false, han
 use Rattle.tj_words.proofs.Prelude.{length, others_read, owned_by, owner_found, owner_read, owner_seen, parts_of}
 use Rattle.tj_words.proofs.Prelude.{phase_of, present, read_cells, refl, set, subst, suc, sym, trail_cells, true}
 use Rattle.tj_words.proofs.Prelude.{wait_found, wait_in, walk_cells, ℕ, ⊎_elim, ◌++◌, ◌<◌, ◌∙◌, ◌∷◌, ◌≡◌, ◌≢◌}
-use Rattle.tj_core.specs.declared.walk.LastRead.{LastRead}
-use Rattle.tj_core.specs.declared.walk.LastRead.TheVariants.{Counted, Passed, SawOwner, SawWait}
+use Rattle.tj_events.specs.declared.walk.LastRead.{LastRead}
+use Rattle.tj_events.specs.declared.walk.LastRead.TheVariants.{Counted, Passed, SawOwner, SawWait}
 use Rattle.tj_words.proofs.Holders.HeldTasks.{none_some, one_some, held_listed, in_front, in_back}
 use Rattle.tj_words.proofs.Seating.Merging.{all_append}
 use Rattle.tj_words.proofs.SeatLoads.KnowLoads.{all_cons}
@@ -19,7 +19,7 @@ use Rattle.tj_words.proofs.Events.StepFacts.{facts_after}
 use Rattle.tj_words.proofs.Events.WalkEvents.{others_shown, count_shown, owner_shown_read, wait_shown_read}
 use Rattle.tj_words.proofs.Events.WalkEvents.{again_shown_read}
 use Rattle.tj_words.proofs.Holders.TaskMoves.{law_task, TaskMove}
-use Rattle.tj_core.specs.declared.event.Event.TheVariants as event
+use Rattle.tj_events.specs.declared.event.Event.TheVariants as event
 use Rattle.tj_words.specs.declared.phase.Phase.TheVariants as phase
 use Rattle.tj_words.specs.declared.view.Does.TheVariants as does
 

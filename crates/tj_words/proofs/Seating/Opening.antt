@@ -13,7 +13,7 @@ use Rattle.tj_words.proofs.Prelude.{some-injective, some-ne-none, sort_shown, su
 use Rattle.tj_words.proofs.Prelude.{ℕ, ⊎_elim, ◌+◌, ◌-◌, ◌<◌, ◌↔◌, ◌∙◌, ◌∷◌, ◌≡◌, ◌≤◌, ◌⊎◌}
 use Rattle.tj_base.specs.declared.cell.TheConstants.{MAX_CELLS}
 use Rattle.tj_body.specs.History.{start}
-use Rattle.tj_core.specs.Laws.{StartMeetsFacts}
+use Rattle.tj_events.specs.Laws.{StartMeetsFacts}
 use Rattle.tj_body.specs.Programs.{root_task}
 use Rattle.tj_words.proofs.Stores.SeatLists.{each_only}
 use Rattle.tj_words.proofs.Seating.FirstWords.{first_own, first_phase, first_once, root_once, first_say, first_wide}

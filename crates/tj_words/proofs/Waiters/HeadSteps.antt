@@ -74,7 +74,7 @@ module _ {B : Type 0} (program : Bool → B → Program B) (key : Key B) where
           backing = record { wakes = λ k. back; tags = q.backing.tags; alarms = q.backing.alarms };
           known_born = q.known_born;
         })) _ (λ j. record { words = say j; slots = s.homes; seats = path j })
-            (law_chains r.law head next pl sl rl cl seats.found chains)
+        (law_chains r.law head next pl sl rl cl seats.found chains)
 
     -- a store of NEXT
     next_stores : (t n : ℕ) → t < key.cells → n ≤ key.cells → HasPush t v

@@ -19,7 +19,7 @@ use Rattle.tj_body.specs.declared.point.Entry.{Entry}
 use Rattle.tj_body.specs.declared.point.PointStage.{PointStage}
 use Rattle.tj_body.specs.declared.point.PointStage.TheVariants as stage
 use Rattle.tj_body.specs.declared.point.Point.{Point}
-use Rattle.tj_core.specs.declared.walk.Way.{Way}
+use Rattle.tj_events.specs.declared.walk.Way.{Way}
 use Rattle.tj_words.specs.declared.closed.RestCell.{RestCell}
 use Rattle.tj_words.specs.declared.phase.Walk.{Walk}
 use Rattle.tj_words.specs.declared.phase.Walk.TheVariants as walk

@@ -6,10 +6,10 @@ use mathlib.Core.Logic.{inl, inr}
 use Rattle.atomic_table.specs.Table.{State, Step, Act, keeps, takes, gives, opening}
 use Rattle.tj_base.specs.declared.cell.Sort.{Sort}
 use Rattle.tj_body.specs.Programs.{Program}
-use Rattle.tj_core.specs.CoreState.{present, root_alone}
-use Rattle.tj_core.specs.Events.{MayCount, MayReadAgain, MayReadOthers, MayReadOwner}
-use Rattle.tj_core.specs.Runs.{AreAllowed, IsLegalRun, after_all}
-use Rattle.tj_core.specs.declared.event.Event.{Event}
+use Rattle.tj_events.specs.CoreState.{present, root_alone}
+use Rattle.tj_events.specs.Events.{MayCount, MayReadAgain, MayReadOthers, MayReadOwner}
+use Rattle.tj_events.specs.Runs.{AreAllowed, IsLegalRun, after_all}
+use Rattle.tj_events.specs.declared.event.Event.{Event}
 use Rattle.tj_words.specs.declared.phase.Phase.{Phase}
 use Rattle.tj_words.specs.declared.record.Rec.{Rec}
 use Rattle.tj_words.specs.declared.table.Key.{Key}
@@ -33,7 +33,7 @@ use Rattle.tj_words.specs.Steps.TableRuns.{Under, state_of}
 use Rattle.tj_words.specs.SeatViews.Views.{IsIdle}
 use Rattle.tj_words.specs.Calls.WalkViews.{IsWalking, MayLoadOwner, MayLoadWait, MayRaise}
 use Rattle.tj_base.specs.declared.cell.Sort.TheVariants as sort
-use Rattle.tj_core.specs.declared.event.Event.TheVariants as event
+use Rattle.tj_events.specs.declared.event.Event.TheVariants as event
 use Rattle.tj_words.specs.declared.phase.Phase.TheVariants as phase
 use Rattle.tj_words.specs.declared.phase.Walk.TheVariants as walk
 use Rattle.tj_words.specs.CallLaws.StepCalls as call

@@ -3,7 +3,7 @@ use Rattle.std.specs.Prelude.{◌≡◌, ◌≢◌, ℕ, suc, ◌-◌, ◌≤◌
 use Rattle.atomic_table.specs.Table.{Step}
 use Rattle.tj_base.specs.declared.cell.Sort.{Sort}
 use Rattle.tj_body.specs.Programs.{Program}
-use Rattle.tj_core.specs.Events.{count_read, others_read, wait_found}
+use Rattle.tj_events.specs.Events.{count_read, others_read, wait_found}
 use Rattle.tj_words.specs.declared.offsets.Once.{Once}
 use Rattle.tj_words.specs.declared.record.Rec.{Rec}
 use Rattle.tj_words.specs.declared.view.Noted.TheVariants as note

@@ -2,8 +2,8 @@
 -- The slot that the seat took last may have a record that was put in: it comes home at the step.
 use Rattle.std.specs.Prelude.{◌≡◌, ◌≢◌, ℕ, suc, ◌-◌, ◌<◌, Bool, List, [], ◌∷◌, Option, Some, None}
 use Rattle.atomic_table.specs.Table.{rest}
-use Rattle.tj_core.specs.declared.walk.Way.{Way}
-use Rattle.tj_core.specs.declared.walk.Walker.{Walker}
+use Rattle.tj_events.specs.declared.walk.Way.{Way}
+use Rattle.tj_events.specs.declared.walk.Walker.{Walker}
 use Rattle.tj_body.specs.Programs.{Program}
 use Rattle.tj_body.specs.declared.ask.Answer.TheVariants as answer
 use Rattle.tj_words.specs.declared.record.Finish.{Finish}

@@ -1,6 +1,6 @@
 -- What the store of Parked, the load of the first of a rest, and the steps on LIVE make of a view.
 use Rattle.std.specs.Prelude.{◌≡◌, ℕ, suc, cond, nat_eq, List, [], ◌∷◌, Option, Some, None}
-use Rattle.tj_core.specs.declared.walk.Way.{Way}
+use Rattle.tj_events.specs.declared.walk.Way.{Way}
 use Rattle.tj_words.specs.declared.phase.Walk.TheVariants as walk
 use Rattle.tj_words.specs.declared.phase.Phase.{Phase}
 use Rattle.tj_words.specs.declared.phase.Phase.TheVariants as phase

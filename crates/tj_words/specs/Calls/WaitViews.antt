@@ -4,10 +4,10 @@ use Rattle.std.specs.Prelude.{◌≡◌, ◌≢◌, ℕ, suc, ◌<◌, Bool, ◌
 use Rattle.atomic_table.specs.Table.{rest}
 use Rattle.tj_body.specs.Points.{IsIn}
 use Rattle.tj_body.specs.Programs.{Program}
-use Rattle.tj_core.specs.declared.walk.Way.{Way}
-use Rattle.tj_core.specs.declared.walk.Walker.{Walker}
-use Rattle.tj_core.specs.declared.walk.LastRead.TheVariants.{SawOwner}
-use Rattle.tj_core.specs.Events.{start_walk, MaySettle}
+use Rattle.tj_events.specs.declared.walk.Way.{Way}
+use Rattle.tj_events.specs.declared.walk.Walker.{Walker}
+use Rattle.tj_events.specs.declared.walk.LastRead.TheVariants.{SawOwner}
+use Rattle.tj_events.specs.Events.{start_walk, MaySettle}
 use Rattle.tj_words.specs.declared.phase.Phase.{Phase}
 use Rattle.tj_words.specs.declared.phase.Phase.TheVariants as phase
 use Rattle.tj_words.specs.declared.phase.Walk.{Walk}

@@ -1,7 +1,7 @@
 -- No lost wake: the chains of waiters. The line of a cell is its chain, or, once its head is shut, the rest that the
 -- seat has which shut it. Each task that is parked on the cell stands in the line, or its seat has yet to add it.
 use Rattle.std.specs.Prelude.{◌≡◌, ◌≢◌, ◌⊎◌, ℕ, List, [], ◌∷◌, ◌++◌, Option, Some, None}
-use Rattle.tj_core.specs.declared.walk.Way.{Way}
+use Rattle.tj_events.specs.declared.walk.Way.{Way}
 use Rattle.tj_body.specs.Points.{IsIn}
 use Rattle.tj_words.specs.declared.head.Head.{Head}
 use Rattle.tj_words.specs.declared.head.Head.TheVariants.{Empty, Task, Shut}

@@ -6,11 +6,11 @@ use Rattle.tj_body.specs.History.{to_task}
 use Rattle.tj_body.specs.declared.ask.Answer.{Answer}
 use Rattle.tj_body.specs.declared.ask.Answer.TheVariants as answer
 use Rattle.tj_body.specs.declared.point.Reference.{Reference}
-use Rattle.tj_core.specs.declared.walk.Walker.{Walker}
-use Rattle.tj_core.specs.CoreState.{CellStage, CellState, Cells, CoreState, blank, walks, parked, alarmed, promise}
-use Rattle.tj_core.specs.CoreState.{fresh}
-use Rattle.tj_core.specs.CoreState.{running, raised, waits, ended}
-use Rattle.tj_core.specs.Events.{start_walk}
+use Rattle.tj_events.specs.declared.walk.Walker.{Walker}
+use Rattle.tj_events.specs.CoreState.{CellStage, CellState, Cells, CoreState, blank, walks, parked, alarmed, promise}
+use Rattle.tj_events.specs.CoreState.{fresh}
+use Rattle.tj_events.specs.CoreState.{running, raised, waits, ended}
+use Rattle.tj_events.specs.Events.{start_walk}
 use Rattle.tj_words.specs.declared.phase.Walk.TheVariants as walk
 use Rattle.tj_words.specs.declared.phase.Phase.{Phase}
 use Rattle.tj_words.specs.declared.phase.Phase.TheVariants as phase

@@ -3,8 +3,8 @@ use Rattle.std.specs.Prelude.{ℕ, suc, List}
 use Rattle.tj_base.specs.ForkOrder.{child}
 use Rattle.tj_base.specs.declared.cell.Sort.{Sort}
 use Rattle.tj_body.specs.declared.point.Reference.{Reference}
-use Rattle.tj_core.specs.declared.event.Event.{Event}
-use Rattle.tj_core.specs.declared.event.Event.TheVariants.{Make, Fork}
+use Rattle.tj_events.specs.declared.event.Event.{Event}
+use Rattle.tj_events.specs.declared.event.Event.TheVariants.{Make, Fork}
 use Rattle.tj_words.specs.Words.Lists.{cell}
 use Rattle.tj_words.specs.LawParts.ShownState.{reference_of}
 use Rattle.tj_base.specs.declared.cell.Sort.TheVariants as sort

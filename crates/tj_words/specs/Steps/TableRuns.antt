@@ -1,7 +1,7 @@
 -- The core state that contents under the law show.
 use Rattle.std.specs.Prelude.{ℕ}
 use Rattle.tj_body.specs.Programs.{Program}
-use Rattle.tj_core.specs.CoreState.{CoreState}
+use Rattle.tj_events.specs.CoreState.{CoreState}
 use Rattle.tj_words.specs.LawParts.Contents.{Contents, core_shown}
 use Rattle.tj_words.specs.Law.{Law}
 

@@ -3,13 +3,13 @@ use Rattle.std.specs.Prelude.{◌≡◌, ℕ, Bool, true, false, ◌&&◌, List}
 use Rattle.tj_base.specs.ForkOrder.{before}
 use Rattle.tj_base.specs.declared.cell.Sort.{Sort}
 use Rattle.tj_body.specs.declared.point.Reference.{Reference}
-use Rattle.tj_core.specs.declared.walk.Way.{Way}
-use Rattle.tj_core.specs.Events.{way_if}
+use Rattle.tj_events.specs.declared.walk.Way.{Way}
+use Rattle.tj_events.specs.Events.{way_if}
 use Rattle.tj_words.specs.declared.view.Does.{Does}
 use Rattle.tj_words.specs.LawParts.ShownState.{reference_of}
 use Rattle.tj_words.specs.Steps.StepEvents.{MayAct}
 use Rattle.tj_base.specs.declared.cell.Sort.TheVariants as sort
-use Rattle.tj_core.specs.declared.walk.Way.TheVariants as way
+use Rattle.tj_events.specs.declared.walk.Way.TheVariants as way
 use Rattle.tj_words.specs.declared.view.Does.TheVariants as does
 
 -- whether a cell of this sort is a task

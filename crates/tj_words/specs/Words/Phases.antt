@@ -1,8 +1,8 @@
 -- The word of a phase, and the phase of a word.
 use Rattle.std.specs.Prelude.{ℕ, ◌+◌, ◌*◌, ◌/◌, ◌%◌, cond, nat_eq}
 use Rattle.tj_base.specs.declared.cell.CellId.{CellId}
-use Rattle.tj_core.specs.declared.walk.Way.{Way}
-use Rattle.tj_core.specs.declared.walk.Way.TheVariants.{Along, Other}
+use Rattle.tj_events.specs.declared.walk.Way.{Way}
+use Rattle.tj_events.specs.declared.walk.Way.TheVariants.{Along, Other}
 use Rattle.tj_words.specs.declared.phase.Walk.{Walk}
 use Rattle.tj_words.specs.declared.phase.Walk.TheVariants.{Walking, Parked, Alarmed}
 use Rattle.tj_words.specs.declared.phase.Phase.{Phase}

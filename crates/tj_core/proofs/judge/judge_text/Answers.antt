@@ -1,9 +1,9 @@
 use Rattle.std.proofs.Common.{◌≡◌, ℕ, suc, ◌+◌, Bool, true, ◌||◌, List, [], ◌++◌, drop, get_or, sym, ap, ◌∙◌, subst, arith, add-one}
 use Rattle.std.proofs.lemmas.List.{drop_all}
-use Rattle.tj_core.specs.declared.event.Event.{Event}
-use Rattle.tj_core.specs.declared.event.Event.TheVariants.{Make}
+use Rattle.tj_events.specs.declared.event.Event.{Event}
+use Rattle.tj_events.specs.declared.event.Event.TheVariants.{Make}
 use Rattle.tj_core.specs.Checker.Core.{core_state}
-use Rattle.tj_core.specs.Events.{Allowed}
+use Rattle.tj_events.specs.Events.{Allowed}
 use Rattle.tj_core.specs.Journals.Judging.{illegal_line, legal_line, is_alarm}
 use Rattle.tj_core.proofs.Journals.JudgedRuns.{judge_starts, judge_on, judge_illegal, judge_legal, judged_same, outcome_same}
 use Rattle.tj_core.proofs.judge.judge_text.Goals as goal

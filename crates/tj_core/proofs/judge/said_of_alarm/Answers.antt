@@ -2,11 +2,11 @@ use Rattle.std.proofs.Common.{◌≡◌, ℕ, List, [], ◌∷◌, map, drop, �
 use Rattle.std.proofs.lemmas.Option.{MatchOption-at_none, MatchOption-at_some}
 use Rattle.std.proofs.lemmas.Result.{IfOk-weaker}
 use Rattle.tj_base.specs.declared.cell.CellId.{CellId}
-use Rattle.tj_core.specs.CoreState.{Cells}
-use Rattle.tj_core.specs.WaitGraph.{IsCycle, IsOnCycle, IsCycleFrom}
+use Rattle.tj_events.specs.CoreState.{Cells}
+use Rattle.tj_events.specs.WaitGraph.{IsCycle, IsOnCycle, IsCycleFrom}
 use Rattle.tj_core.specs.Journals.Judging.{alarm_line}
 use Rattle.tj_core.specs.Checker.Core.{core_state, core_limit}
-use Rattle.tj_core.proofs.Events.WalkEnds.{alarm_on_cycle}
+use Rattle.tj_events.proofs.Events.WalkEnds.{alarm_on_cycle}
 use Rattle.tj_core.proofs.judge.said_of_alarm.Goals as goal
 
 -- the other tasks of a cycle from t on

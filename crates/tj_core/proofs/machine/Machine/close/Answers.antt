@@ -1,6 +1,6 @@
 use Rattle.std.proofs.Common.{rules, None, ap, ◌∙◌}
-use Rattle.tj_core.specs.CoreState.{CoreState, CellStage}
-use Rattle.tj_core.specs.Events.{alter, owned_by, restage}
+use Rattle.tj_events.specs.CoreState.{CoreState, CellStage}
+use Rattle.tj_events.specs.Events.{alter, owned_by, restage}
 use Rattle.tj_core.specs.Inner.Machine.{state_of}
 use Rattle.tj_core.proofs.machine.Machine.close.Goals as goal
 

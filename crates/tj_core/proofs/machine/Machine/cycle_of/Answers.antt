@@ -3,16 +3,16 @@ use Rattle.std.proofs.Common.{⊎_elim}
 use Rattle.std.proofs.lemmas.Bool.{cases_lt}
 use Rattle.std.proofs.lemmas.List.{map-append}
 use Rattle.tj_core.specs.declared.slot.Slot.{Slot}
-use Rattle.tj_core.specs.CoreState.{wait_of, promise}
+use Rattle.tj_events.specs.CoreState.{wait_of, promise}
 use Rattle.tj_core.specs.Inner.Columns.{stage_in}
 use Rattle.tj_core.specs.Inner.Slots.{stage_of}
 use Rattle.tj_core.specs.Inner.Machine.{state_of}
 use Rattle.tj_base.specs.declared.cell.CellId.{CellId}
-use Rattle.tj_core.specs.WaitGraph.{Leads}
-use Rattle.tj_core.proofs.Graph.WaitSteps.{leads_one, same_numbers}
+use Rattle.tj_events.specs.WaitGraph.{Leads}
+use Rattle.tj_events.proofs.Graph.WaitSteps.{leads_one, same_numbers}
 use Rattle.tj_core.proofs.Columns.ColumnLists.{column_beyond}
 use Rattle.tj_base.proofs.CycleWays.{IsOnWay, way_starts, way_goes_on, way_closes, way_stops, way_ends}
-use Rattle.tj_core.proofs.Graph.CycleLists.{cycle_fits_there}
+use Rattle.tj_events.proofs.Graph.CycleLists.{cycle_fits_there}
 use Rattle.tj_core.proofs.machine.Machine.cycle_of.Goals as goal
 
 -- one task more

@@ -1,6 +1,6 @@
 use Rattle.std.proofs.Common.{map}
 use Rattle.tj_base.proofs.CycleWays.{IsOnWay}
-use Rattle.tj_core.specs.WaitGraph.{Leads}
+use Rattle.tj_events.specs.WaitGraph.{Leads}
 use Rattle.tj_core.specs.Inner.Machine.{state_of}
 use Rattle.tj_core.proofs.machine.Machine.cycle_of.Given as goal
 

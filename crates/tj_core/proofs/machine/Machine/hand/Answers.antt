@@ -1,6 +1,6 @@
 use Rattle.std.proofs.Common.{rules, Some, ap, ◌∙◌}
-use Rattle.tj_core.specs.CoreState.{CoreState}
-use Rattle.tj_core.specs.Events.{alter, owned_by}
+use Rattle.tj_events.specs.CoreState.{CoreState}
+use Rattle.tj_events.specs.Events.{alter, owned_by}
 use Rattle.tj_core.proofs.machine.Machine.hand.Goals as goal
 
 pub returns-clause-ok : goal.returns-clause-ok

@@ -1,5 +1,5 @@
 use Rattle.std.proofs.Common.{rules, ◌≡◌, ◌↔◌, Some}
-use Rattle.tj_core.specs.CoreState.{waits, parked}
+use Rattle.tj_events.specs.CoreState.{waits, parked}
 use Rattle.tj_core.proofs.Columns.ColumnLists.{shows}
 use Rattle.tj_core.proofs.machine.Machine.parked_on.Goals as goal
 

@@ -1,5 +1,5 @@
-use Rattle.tj_core.specs.CoreState.{waits, walks}
-use Rattle.tj_core.specs.Events.{start_walk}
+use Rattle.tj_events.specs.CoreState.{waits, walks}
+use Rattle.tj_events.specs.Events.{start_walk}
 use Rattle.tj_core.proofs.Columns.ColumnLists.{rooms_stay, state_changed}
 use Rattle.tj_core.proofs.machine.Machine.start_walk.Goals as goal
 

@@ -1,7 +1,7 @@
 use Rattle.std.proofs.Common.{◌≡◌, ℕ, ◌+◌, Option, Some, None, refl, sym, ap, ◌∙◌, true, false, is_some}
-use Rattle.tj_core.specs.declared.event.Event.TheVariants.{Unwait}
-use Rattle.tj_core.specs.CoreState.{waits, parked, stage}
-use Rattle.tj_core.specs.Events.{raised_by}
+use Rattle.tj_events.specs.declared.event.Event.TheVariants.{Unwait}
+use Rattle.tj_events.specs.CoreState.{waits, parked, stage}
+use Rattle.tj_events.specs.Events.{raised_by}
 use Rattle.tj_core.specs.Inner.Owners.{owner_in}
 use Rattle.tj_core.specs.Inner.Machine.{state_of}
 use Rattle.tj_core.proofs.Columns.ColumnLists.{refused}

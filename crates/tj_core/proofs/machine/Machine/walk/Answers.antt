@@ -1,6 +1,6 @@
 use Rattle.std.proofs.Common.{rules, ◌≡◌}
 use Rattle.std.specs.Option.{MatchOption}
-use Rattle.tj_core.specs.Events.{WalksAt}
+use Rattle.tj_events.specs.Events.{WalksAt}
 use Rattle.tj_core.proofs.Columns.ColumnLists.{shows}
 use Rattle.tj_core.proofs.machine.Machine.walk.Goals as goal
 

@@ -1,6 +1,6 @@
 use Rattle.std.proofs.Common.{rules, ◌≡◌, set, List, Result, Ok, Err, OnErr, refl, ap, ◌∙◌, arith}
 use Rattle.tj_core.specs.declared.slot.Slot.{Slot}
-use Rattle.tj_core.specs.Events.{WalksAt}
+use Rattle.tj_events.specs.Events.{WalksAt}
 use Rattle.tj_core.specs.Inner.Columns.{state_in, loads_in}
 use Rattle.tj_core.specs.Inner.Machine.{state_of, limit_of}
 use Rattle.tj_core.specs.Inner.WalkSteps.{event_of, MayStep, stage_by}

@@ -1,6 +1,6 @@
 use Rattle.std.proofs.Common.{rules, ℕ, length, subst, sym, ap, ◌∙◌, arith, length-set, Option}
 use Rattle.std.proofs.lemmas.List.Sums.{count_by-le-length}
-use Rattle.tj_core.specs.Events.{is_owner}
+use Rattle.tj_events.specs.Events.{is_owner}
 use Rattle.tj_core.specs.Inner.Owners.{one_if, AreOwnersInside}
 use Rattle.tj_core.proofs.Columns.OwnedCounts.{owner_there, inside-set, owned_count-set}
 use Rattle.tj_core.proofs.owners.Owners.set.Goals as goal

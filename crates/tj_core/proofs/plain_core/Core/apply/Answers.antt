@@ -1,7 +1,7 @@
 use Rattle.std.proofs.Common.{sym, subst}
 use Rattle.tj_core.specs.Inner.Machine.{state_of, limit_of}
-use Rattle.tj_core.specs.CoreFacts.{CoreFacts}
-use Rattle.tj_core.proofs.Events.EachEvent.{facts_after_event}
+use Rattle.tj_events.specs.CoreFacts.{CoreFacts}
+use Rattle.tj_events.proofs.Events.EachEvent.{facts_after_event}
 use Rattle.tj_core.proofs.plain_core.Core.apply.Goals as goal
 
 pub returns-clause-facts : goal.returns-clause-facts

@@ -1,6 +1,6 @@
 use Rattle.std.proofs.Common.{sym, subst}
-use Rattle.tj_core.specs.CoreFacts.{CoreFacts}
-use Rattle.tj_core.proofs.Events.LegalRuns.{start_facts}
+use Rattle.tj_events.specs.CoreFacts.{CoreFacts}
+use Rattle.tj_events.proofs.Events.LegalRuns.{start_facts}
 use Rattle.tj_core.proofs.plain_core.Core.new.Goals as goal
 
 pub returns-clause-facts : goal.returns-clause-facts

@@ -1,5 +1,0 @@
-use Rattle.tj_core.proofs.Events.EventEffects.{event_keeps_watches}
-use Rattle.tj_core.proofs.event_laws.event_keeps_watches.Goals as goal
-
-pub returns : goal.returns
-returns c = event_keeps_watches

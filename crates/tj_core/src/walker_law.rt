@@ -1,8 +1,0 @@
-//! The law of a walker: in a state that meets the facts its next event is determined.
-ghost use Rattle.tj_core.specs.Laws.{WalkersHaveOneEvent};
-
-/// In a state that meets the facts a walking task has exactly one allowed event.
-#[tactic(auto, using(crate::proofs::Events::NextEvents::walkers_have_one_event))]
-pub fn walkers_have_one_event()
-    ensures { WalkersHaveOneEvent }
-{}
