@@ -9,7 +9,8 @@ use Rattle.tj_ports.specs.Putting.{GrowsByPart}
 use Rattle.tj_run.specs.Runs.{RestsAt}
 use Rattle.tj_words.specs.AtRest.RestShown.{RestShown}
 use Rattle.tj_program.specs.ClosedRuns.{HasOutcome, HaveWorkers, IsClosedRun, IsClosedRunOf, IsCommandClosed}
-use Rattle.tj_program.specs.ClosedRuns.{IsRunClosed, has_workers}
+use Rattle.tj_modes.specs.Output.{has_workers}
+use Rattle.tj_program.specs.ClosedRuns.{IsRunClosed}
 use Rattle.tj_program.specs.Inner.ClosedOutputs.{AreWith, IsGiven, IsPutWith, IsRunGiven}
 use Rattle.tj_modes.specs.Runs.{Start, StartOf, IsRunOf, NeedsMore, full, ended, started, status_of, text_of}
 use Rattle.tj_modes.specs.Texts.{full_line}
