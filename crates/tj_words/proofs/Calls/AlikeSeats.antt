@@ -36,9 +36,8 @@ below_broken sort.Task = omega arith
 
 -- TAG of a cell of which something has become isn't 0
 tag_some : (e : Entry) → tag_of e ≢ 0
-tag_some entry.Broken h = omega arith
-tag_some (entry.Value (value.Num i)) h = omega arith
 tag_some (entry.Value (value.Ref r)) h = let l = above_number r.sort in omega arith
+tag_some e h = omega arith
 
 -- BITS says over one list of names what it says over another, where both have one name for the cell and TAG is the same
 same_bits : (born then : List Reference) (n : ℕ) (e d : Entry)

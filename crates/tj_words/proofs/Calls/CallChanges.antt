@@ -62,21 +62,14 @@ module _ {B : Type 0} where
   once_same program cells c n once.Tag v w h = dite (ℕ_discrete n 0)
       (λ e. as_it_was v w _ (h.0 e).view refl refl)
       (λ e. as_it_was v w _ (h.1 e).view refl refl)
-  once_same program cells c n once.Bits v w h = as_it_was v w _ h.view refl refl
-  once_same program cells c n once.Parent v w h = as_it_was v w _ h.view refl refl
-  once_same program cells c n once.Kid v w h = as_it_was v w _ h.view refl refl
-  once_same program cells c n once.Depth v w h = as_it_was v w _ h.view refl refl
-  once_same program cells c n once.Jump v w h = as_it_was v w _ h.view refl refl
+  once_same program cells c n f v w h = as_it_was v w _ h.view refl refl
 
   -- the store of a word that is written once
   pub put_same : (program : Bool → B → Program B) (c n : ℕ) (f : Once) (v w : View B) → MayPutOnce program f c n v
       → PutsOnce program f c n v w → ShowsSame v w
   put_same program c n once.Tag v w m p = as_it_was v w _ (p m) refl refl
   put_same program c n once.Bits v w m p = as_it_was v w _ (p m) refl refl
-  put_same program c n once.Parent v w m p = as_it_was v w _ p refl refl
-  put_same program c n once.Kid v w m p = as_it_was v w _ p refl refl
-  put_same program c n once.Depth v w m p = as_it_was v w _ p refl refl
-  put_same program c n once.Jump v w m p = as_it_was v w _ p refl refl
+  put_same program c n f v w m p = as_it_was v w _ p refl refl
 
   -- LIVE up and down, where no record comes home
   raised_same : (v : View B) (slots : SlotsOf B) → IfRecord (λ t r. ⊥) slots → ShowsSame v (raised_with v slots).0
@@ -123,10 +116,7 @@ module _ {B : Type 0} where
         → (d ≢ c) ⊎ ((once.Parent ≢ f) × (once.Kid ≢ f))
     writes_apart once.Tag may = inr (λ e. absurd (cc), λ e. absurd (cc))
     writes_apart once.Bits may = inr (λ e. absurd (cc), λ e. absurd (cc))
-    writes_apart once.Parent may = inl (not_in_hand may.hand may.has may.its_cell)
-    writes_apart once.Kid may = inl (not_in_hand may.hand may.has may.its_cell)
-    writes_apart once.Depth may = inl (not_in_hand may.hand may.has may.its_cell)
-    writes_apart once.Jump may = inl (not_in_hand may.hand may.has may.its_cell)
+    writes_apart f may = inl (not_in_hand may.hand may.has may.its_cell)
 
   -- a split leaves all that the core state is shown by
   pub split_parts : (cells : ℕ) (s : State (Option (Rec B)) (View B)) (id : ℕ) (v : View B)

@@ -220,12 +220,10 @@ module _ {B : Type 0} (program : Bool → B → Program B) (key : Key B) (u : Ru
 
     puts_phase : (q : Phase) (c : ℕ) → Made (phase_at c) → c < key.cells → phase_in n ≡ q → PutsPhase c q m m'
         → MayPutPhase program c q m → act ≡ phase_act q → Goes (phase_events c q)
-    puts_phase phase.Unborn c h l is p may a = absurd p
     puts_phase phase.Ready c h l is p may a =
         let q = call_releases program key s t r id m m' c n (with_act keeps (phase_at c) h a) is
         (ap (λ (z : SeatMe B). z.0) p) may in
         quiet q.1 (else_cells (phase_at c) h (λ z. omega arith)) (release_shown r.law y id c q.0)
-    puts_phase phase.Running c h l is p may a = absurd p
     puts_phase phase.Ended c h l is p may a =
         let q = call_ends program key s t r id m m' c n (with_act gives (phase_at c) h a) is
         (ap (λ (z : SeatMe B). z.0) p) may in
@@ -249,6 +247,7 @@ module _ {B : Type 0} (program : Bool → B → Program B) (key : Key B) (u : Ru
         let q = call_alarms program key s t r id c d.0 n way l m m' (with_act keeps (phase_at c) h a) is may p in
         shows (event.Alarm (cell c)) q.1 (else_cells (phase_at c) h (λ z. omega arith))
         (alarm_shown r.law y id c d.0 way may.walks.walker q.0)
+    puts_phase q c h l is p may a = absurd p
 
     swaps : (c : ℕ) → Made (phase_at c)
         → told_by program key.cells (call.swaps_phase c) n st m (word s.words (phase_at c)) m'

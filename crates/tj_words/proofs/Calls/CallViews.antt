@@ -61,9 +61,7 @@ module _ {B : Type 0} (c : ℕ) where
         (λ g. by_view v w _ (p.1 g) refl refl) m
 
     put_phase : (q : Phase) (t : ℕ) (m m' : SeatMe B) → PutsPhase t q m m' → Leaves m.0 m'.0
-    put_phase phase.Unborn t m m' p = absurd p
     put_phase phase.Ready t m m' p = by_me m m' _ p refl refl
-    put_phase phase.Running t m m' p = absurd p
     put_phase phase.Ended t m m' p = by_me m m' _ p refl refl
     put_phase phase.Promise t m m' p = (
       (λ r. ap (λ (x : SeatMe B). x.0.rested) p ∙ r),
@@ -72,6 +70,7 @@ module _ {B : Type 0} (c : ℕ) where
     put_phase (phase.Waiting d way walk.Walking) t m m' p = by_me m m' _ p refl refl
     put_phase (phase.Waiting d way walk.Parked) t m m' p = by_me m m' _ p refl refl
     put_phase (phase.Waiting d way walk.Alarmed) t m m' p = by_me m m' _ p refl refl
+    put_phase q t m m' p = absurd p
 
     swapped : (t : ℕ) (was to : Phase) (m m' : SeatMe B) → MaySwap t was to m.0 → Swaps program t was to m m'
         → Leaves m.0 m'.0

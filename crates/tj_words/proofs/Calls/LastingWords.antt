@@ -95,10 +95,7 @@ module _ {B : Type 0} (program : Bool → B → Program B) (key : Key B) where
         → ¬ MayPutOnce program f c k.operands.first k.seat.0
     no_write c once.Tag tree out may = tree
     no_write c once.Bits tree out may = tree
-    no_write c once.Parent tree out may = out may.hand may.has may.its_cell
-    no_write c once.Kid tree out may = out may.hand may.has may.its_cell
-    no_write c once.Depth tree out may = out may.hand may.has may.its_cell
-    no_write c once.Jump tree out may = out may.hand may.has may.its_cell
+    no_write c f tree out may = out may.hand may.has may.its_cell
 
     call_trees : TreeWordsStay key.cells (The u.now) (The t)
     call_trees c f tree there = after (once_at c f) ∙ ⊎_elim (λ e. e)

@@ -47,9 +47,8 @@ head_suc t n = let e : suc t - 1 ≡ t = omega arith in
 
 -- the head of the word of a head that a table may have
 pub word_back : (h : Head) (n : ℕ) → n < shut_word → head_word h ≤ n → head_in (head_word h) ≡ h
-word_back Empty n l k = refl
 word_back (Task t) n l k = head_suc t.0 (λ z. omega arith)
-word_back Shut n l k = refl
+word_back h n l k = refl
 
 -- what a push finds where its word isn't that for which it asks
 pub found_other : {B : Type 0} {cells p : ℕ} {v w : View B} (behind h : Head) (k : ℕ) → h ≡ head_in k

@@ -30,61 +30,44 @@ new_calm t = by (nat_eq t 0)
 
 answer_calm : (t : ℕ) (a : Answer) → IsCalm (answer_stage t a)
 answer_calm t answer.Start = new_calm t
-answer_calm t (answer.Local k) = is_running
-answer_calm t answer.Done = is_running
-answer_calm t (answer.Num i) = is_running
-answer_calm t (answer.RefAt k) = is_running
-answer_calm t answer.Lost = is_running
+answer_calm t a = is_running
 
 does_calm : (t : ℕ) (d : Does) → IsCalm (does_stage t d)
-does_calm t does.Unborn = is_running
 does_calm t does.Fresh = new_calm t
-does_calm t does.Running = is_running
 does_calm t does.Raised = record { task = refl; free = refl }
-does_calm t (does.Walking c way w) = is_running
-does_calm t (does.Alarmed c way w) = is_running
+does_calm t d = is_running
 
 module _ {B : Type 0} where
   -- a cell shows that it is a task, or a promise, as its phase says
   task_there : (t : ℕ) (o : Option ℕ) (p : Phase) (held : Option (Custody B)) (home : Option (Rec B))
       → is_task (stage_there t (phase_sort p) o p held home) ≡ is_task_sort (phase_sort p)
   task_there t None phase.Unborn held home = refl
-  task_there t None phase.Ready held home = refl
-  task_there t None phase.Running held home = refl
-  task_there t None phase.Ended held home = refl
-  task_there t None phase.Promise held home = refl
-  task_there t None (phase.Waiting c way w) held home = refl
   task_there t (Some u) phase.Unborn held home = (new_calm t).task
   task_there t (Some u) phase.Ready held None = refl
   task_there t (Some u) phase.Ready held (Some r) = (answer_calm t r.answer).task
   task_there t (Some u) phase.Running None home = refl
   task_there t (Some u) phase.Running (Some k) home = (does_calm t k.does).task
-  task_there t (Some u) phase.Ended held home = refl
-  task_there t (Some u) phase.Promise held home = refl
   task_there t (Some u) (phase.Waiting c way walk.Walking) held home = refl
   task_there t (Some u) (phase.Waiting c way walk.Parked) held home = refl
   task_there t (Some u) (phase.Waiting c way walk.Alarmed) held home = refl
+  task_there t None p held home = refl
+  task_there t (Some u) p held home = refl
 
   -- and what it waits for
   wait_there : (t : ℕ) (o : Option ℕ) (p : Phase) (held : Option (Custody B)) (home : Option (Rec B))
       → ((c : CellId) (way : Way) (w : Walk) → p ≡ phase.Waiting c way w → o ≢ None)
       → wait_of (stage_there t (phase_sort p) o p held home) ≡ wait_in p
-  wait_there t None phase.Unborn held home h = refl
-  wait_there t None phase.Ready held home h = refl
-  wait_there t None phase.Running held home h = refl
-  wait_there t None phase.Ended held home h = refl
-  wait_there t None phase.Promise held home h = refl
   wait_there t None (phase.Waiting c way w) held home h = absurd (h c way w refl refl)
   wait_there t (Some u) phase.Unborn held home h = (new_calm t).free
   wait_there t (Some u) phase.Ready held None h = refl
   wait_there t (Some u) phase.Ready held (Some r) h = (answer_calm t r.answer).free
   wait_there t (Some u) phase.Running None home h = refl
   wait_there t (Some u) phase.Running (Some k) home h = (does_calm t k.does).free
-  wait_there t (Some u) phase.Ended held home h = refl
-  wait_there t (Some u) phase.Promise held home h = refl
   wait_there t (Some u) (phase.Waiting c way walk.Walking) held home h = refl
   wait_there t (Some u) (phase.Waiting c way walk.Parked) held home h = refl
   wait_there t (Some u) (phase.Waiting c way walk.Alarmed) held home h = refl
+  wait_there t None p held home h = refl
+  wait_there t (Some u) p held home h = refl
 
   module _ {program : Program B} {cells : ℕ} {x : Contents B} (r : Law program cells x) where
     abbrev n : ℕ

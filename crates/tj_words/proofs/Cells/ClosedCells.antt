@@ -28,10 +28,7 @@ use Rattle.tj_words.specs.declared.phase.Phase.TheVariants as phase
 tree_or_value : (g : Once) → IsOfTree g ⊎ (¬ IsOfTree g)
 tree_or_value once.Tag = inr (λ z. z)
 tree_or_value once.Bits = inr (λ z. z)
-tree_or_value once.Parent = inl tt
-tree_or_value once.Kid = inl tt
-tree_or_value once.Depth = inl tt
-tree_or_value once.Jump = inl tt
+tree_or_value g = inl tt
 
 -- TAG and BITS of a closed cell are due to a seat, and each other word to whom it was
 abbrev closed_due : ℕ → Once → Option ℕ → Option ℕ
@@ -45,18 +42,12 @@ closed_due id once.Jump o = o
 tree_due : (id : ℕ) (g : Once) (o : Option ℕ) → IsOfTree g → closed_due id g o ≡ o
 tree_due id once.Tag o k = absurd k
 tree_due id once.Bits o k = absurd k
-tree_due id once.Parent o k = refl
-tree_due id once.Kid o k = refl
-tree_due id once.Depth o k = refl
-tree_due id once.Jump o k = refl
+tree_due id g o k = refl
 
 value_due : (id : ℕ) (g : Once) (o : Option ℕ) → ¬ IsOfTree g → closed_due id g o ≡ Some id
 value_due id once.Tag o k = refl
 value_due id once.Bits o k = refl
-value_due id once.Parent o k = absurd (k tt)
-value_due id once.Kid o k = absurd (k tt)
-value_due id once.Depth o k = absurd (k tt)
-value_due id once.Jump o k = absurd (k tt)
+value_due id g o k = absurd (k tt)
 
 -- what is due to a seat that has closed the cell
 abbrev pub with_values : ℕ → List Due → List Due
@@ -65,10 +56,7 @@ with_values c ds = record { cell = c; word = once.Bits } ∷ record { cell = c; 
 values_listed : (c : ℕ) (g : Once) (ds : List Due) → ¬ IsOfTree g → IsDue c g (with_values c ds)
 values_listed c once.Tag ds k = inr (inl refl)
 values_listed c once.Bits ds k = inl refl
-values_listed c once.Parent ds k = absurd (k tt)
-values_listed c once.Kid ds k = absurd (k tt)
-values_listed c once.Depth ds k = absurd (k tt)
-values_listed c once.Jump ds k = absurd (k tt)
+values_listed c g ds k = absurd (k tt)
 
 -- seat id's task t acts, and owns its result and c
 pub record GivesUp {B : Type 0} (x : Contents B) (id t c : ℕ) : Type 0 where
@@ -182,12 +170,8 @@ module _ {B : Type 0} {program : Program B} {cells : ℕ} {x : Contents B} (r : 
           (owner_out r.born r.maker (parts_of cells x) c there.0 there.1 ∙ owns)))
 
       by : (p : Phase) → x.words.phase c ≡ p → p ≡ phase.Promise
-      by phase.Unborn e = absurd (no_task (ap phase_sort e))
-      by phase.Ready e = absurd (no_task (ap phase_sort e))
-      by phase.Running e = absurd (no_task (ap phase_sort e))
-      by phase.Ended e = absurd (no_task (ap phase_sort e))
       by phase.Promise e = refl
-      by (phase.Waiting d way w) e = absurd (no_task (ap phase_sort e))
+      by p e = absurd (no_task (ap phase_sort e))
 
   module _ {id t c : ℕ} (g : GivesUp x id t c) where
     abbrev n : ℕ

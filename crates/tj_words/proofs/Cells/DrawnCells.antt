@@ -338,12 +338,9 @@ module _ {B : Type 0} {program : Program B} {cells : ℕ} {x : Contents B} (r : 
       phase_same = by k.does may
         where
           by : (d : Does) → MayAct d → phase.Running ≡ phase_of d
-          by does.Unborn i = absurd i
           by does.Fresh i = refl
           by does.Running i = refl
-          by does.Raised i = absurd i
-          by (does.Walking c way q) i = absurd i
-          by (does.Alarmed c way q) i = absurd i
+          by d i = absurd i
 
       stays_zero : (f : Once) → ((o ≡ sort.Promise) × ((f ≡ once.Depth) ⊎ (f ≡ once.Jump)))
           → tree_word maker' number' forks' o n f ≡ 0

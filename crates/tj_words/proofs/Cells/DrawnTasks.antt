@@ -160,10 +160,9 @@ new_due_in id c j sort.Promise once.Parent e = (sym (one_some id j e), inl refl,
 new_due_in id c j sort.Task once.Parent e = (sym (one_some id j e), inl refl, tt)
 new_due_in id c j sort.Promise once.Kid e = (sym (one_some id j e), inr (inl refl), tt)
 new_due_in id c j sort.Task once.Kid e = (sym (one_some id j e), inr (inl refl), tt)
-new_due_in id c j sort.Promise once.Depth e = none_some None j refl e
-new_due_in id c j sort.Promise once.Jump e = none_some None j refl e
 new_due_in id c j sort.Task once.Depth e = (sym (one_some id j e), inr (inr (inl refl)), tt)
 new_due_in id c j sort.Task once.Jump e = (sym (one_some id j e), inr (inr (inr (inl refl))), tt)
+new_due_in id c j sort.Promise f e = none_some None j refl e
 
 new_due_is : (id c : ℕ) (o : Sort) (d : Due) → IsIn d (new_dues c o) → (d.cell ≡ c) × (due_after id o d.word ≡ Some id)
 new_due_is id c sort.Promise d (inl e) =

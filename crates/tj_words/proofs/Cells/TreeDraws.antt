@@ -324,12 +324,11 @@ module _ {n : ℕ} {born : List Reference} {maker number made : ℕ → ℕ} {ha
 
         by : (f : Once)
             → tree_word maker' number' (forks_after p t n k forks) o c f ≡ tree_word maker number forks o c f
-        by once.Tag = refl
-        by once.Bits = refl
         by once.Parent = ap (parent_word c) (put_else maker n t c z)
         by once.Kid = put_else number n k c z
         by once.Depth = ap (depth_word o) (node_same p)
         by once.Jump = ap (jump_word o) (node_same p)
+        by f = refl
 
     -- a draw keeps the words of the tree, where nothing that is due to a seat is taken from it, and each word of the
     -- new cell is due to a seat, or right

@@ -26,12 +26,9 @@ use Rattle.tj_words.specs.LawParts.Holding as holding
 
 -- a task that acts runs, by its phase
 acting_phase : (d : Does) → MayAct d → phase_of d ≡ phase.Running
-acting_phase does.Unborn m = absurd m
 acting_phase does.Fresh m = refl
 acting_phase does.Running m = refl
-acting_phase does.Raised m = absurd m
-acting_phase (does.Walking c way w) m = absurd m
-acting_phase (does.Alarmed c way w) m = absurd m
+acting_phase d m = absurd m
 
 -- a task other than the root is fresh at first
 pub new_fresh : (t : ℕ) → t ≢ 0 → new_stage t ≡ fresh

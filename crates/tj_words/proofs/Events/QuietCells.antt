@@ -68,18 +68,9 @@ pub stage_does : {B : Type 0} (c : ℕ) (z : Option Hand) (w : Option ℕ) (p : 
     → stage_shown c z w p (Some k') home ≡ stage_shown c z w p (Some k) home
 stage_does c (Some h) w p k k' home e = refl
 stage_does c None None phase.Unborn k k' home e = refl
-stage_does c None None phase.Ready k k' home e = refl
-stage_does c None None phase.Running k k' home e = refl
-stage_does c None None phase.Ended k k' home e = refl
-stage_does c None None phase.Promise k k' home e = refl
-stage_does c None None (phase.Waiting d way q) k k' home e = refl
-stage_does c None (Some u) phase.Unborn k k' home e = refl
-stage_does c None (Some u) phase.Ready k k' home e = refl
 stage_does c None (Some u) phase.Running k k' home e = ap (does_stage c) e
-stage_does c None (Some u) phase.Ended k k' home e = refl
-stage_does c None (Some u) phase.Promise k k' home e = refl
 stage_does c None (Some u) (phase.Waiting d way walk.Walking) k k' home e =
     ap (λ (a : Does). stage_shown c None (Some u) (phase.Waiting d way walk.Walking) (Some (record k { does = a }))
     home) e
-stage_does c None (Some u) (phase.Waiting d way walk.Parked) k k' home e = refl
-stage_does c None (Some u) (phase.Waiting d way walk.Alarmed) k k' home e = refl
+stage_does c None (Some u) p k k' home e = refl
+stage_does c None None p k k' home e = refl

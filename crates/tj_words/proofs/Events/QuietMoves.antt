@@ -17,11 +17,7 @@ use Rattle.tj_words.specs.declared.view.Does.TheVariants as does
 -- what a claimed task shows is what it showed while it was ready
 first_shown : (t : ℕ) (a : Answer) → does_stage t (does_first a) ≡ answer_stage t a
 first_shown t answer.Start = refl
-first_shown t (answer.Local k) = refl
-first_shown t answer.Done = refl
-first_shown t (answer.Num i) = refl
-first_shown t (answer.RefAt k) = refl
-first_shown t answer.Lost = refl
+first_shown t a = refl
 
 module _ {B : Type 0} where
   claim_stage : (t : ℕ) (o : Option ℕ) (k k' : Option (Custody B)) (r : Rec B) (c : Custody B) (home : Option (Rec B))
@@ -49,11 +45,7 @@ module _ {B : Type 0} where
       ≡ stage_there t (phase_sort (phase_of d)) o (phase_of d) (Some k) h
   kept_stage t (Some u) k k' h h' d e e' = does_stage_there t u k' h' d e' ∙ sym (does_stage_there t u k h d e)
   kept_stage t None k k' h h' does.Unborn e e' = refl
-  kept_stage t None k k' h h' does.Fresh e e' = refl
-  kept_stage t None k k' h h' does.Running e e' = refl
-  kept_stage t None k k' h h' does.Raised e e' = refl
-  kept_stage t None k k' h h' (does.Walking c way w) e e' = refl
-  kept_stage t None k k' h h' (does.Alarmed c way w) e e' = refl
+  kept_stage t None k k' h h' d e e' = refl
 
   module _ {program : Program B} {cells : ℕ} {x : Contents B} (r : Law program cells x) (y : Contents B) where
     abbrev n : ℕ

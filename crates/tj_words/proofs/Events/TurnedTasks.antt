@@ -19,20 +19,14 @@ new_runs t = by (nat_eq t 0)
 
 -- a task that may act runs, and has begun
 pub acting_runs : (t : ℕ) (d : Does) → MayAct d → Runs (does_shown t d)
-acting_runs t does.Unborn m = absurd m
 acting_runs t does.Fresh m = new_runs t
 acting_runs t does.Running m = tt
-acting_runs t does.Raised m = absurd m
-acting_runs t (does.Walking c way w) m = absurd m
-acting_runs t (does.Alarmed c way w) m = absurd m
+acting_runs t d m = absurd m
 
 pub acting_begun : (d : Does) → MayAct d → IsBegun (phase_of d)
-acting_begun does.Unborn m = absurd m
 acting_begun does.Fresh m = tt
 acting_begun does.Running m = tt
-acting_begun does.Raised m = absurd m
-acting_begun (does.Walking c way w) m = absurd m
-acting_begun (does.Alarmed c way w) m = absurd m
+acting_begun d m = absurd m
 
 module _ {B : Type 0} {program : Program B} {cells : ℕ} {x : Contents B} (r : Law program cells x) (y : Contents B)
     (t : ℕ) where

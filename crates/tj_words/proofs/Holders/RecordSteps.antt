@@ -7,12 +7,8 @@ module _ {B : Type 0} where
   -- a record fits still where TAGs are written
   tag_fits : (tag tag' : ℕ → ℕ) → ((c : ℕ) → tag c ≢ 0 → tag' c ≢ 0) → (p : Phase) (r : Rec B)
       → IsRecordIn tag p r → IsRecordIn tag' p r
-  tag_fits tag tag' on phase.Unborn r h = h
   tag_fits tag tag' on phase.Ready r h = (h.0, ⊎_elim (λ q. inl q) (λ q. inr (q.0, q.1, on q.0 q.2)) h.1)
-  tag_fits tag tag' on phase.Running r h = h
-  tag_fits tag tag' on phase.Ended r h = h
-  tag_fits tag tag' on phase.Promise r h = h
-  tag_fits tag tag' on (phase.Waiting c way w) r h = h
+  tag_fits tag tag' on other r h = h
 
   -- what the kinds of step change of a task's phase with its record at home
   module _ (tag : ℕ → ℕ) (r : Rec B) where

@@ -21,11 +21,7 @@ use Rattle.tj_words.specs.declared.view.Does.TheVariants as does
 -- what holds of a new task and of one that runs along holds of what a task does first
 first_is : (F : Does → Type 0) → F does.Fresh → F does.Running → (a : Answer) → F (does_first a)
 first_is F f r answer.Start = f
-first_is F f r (answer.Local k) = r
-first_is F f r answer.Done = r
-first_is F f r (answer.Num i) = r
-first_is F f r (answer.RefAt k) = r
-first_is F f r answer.Lost = r
+first_is F f r other = r
 
 -- a task that a seat takes runs from then on
 pub first_phase : (a : Answer) → phase_of (does_first a) ≡ phase.Running
@@ -77,10 +73,7 @@ module _ {B : Type 0} where
           → IsIn r.cell.0 (numbers r.owned)
       by answer.Start h = first p.holds (ap (λ s. owned_in s p.name p.holds) h)
       by (answer.RefAt k) h = first p.holds (ap (λ s. owned_in s p.name p.holds) h.1)
-      by (answer.Local k) h = absurd h
-      by answer.Done h = absurd h
-      by (answer.Num i) h = absurd h
-      by answer.Lost h = absurd h
+      by a h = absurd h
 
 -- a record at home that may be taken: what a seat with these entries learns with it
 module _ {B : Type 0} {program : Program B} {cells : ℕ} {x : Contents B} (law : Law program cells x) (id : ℕ)

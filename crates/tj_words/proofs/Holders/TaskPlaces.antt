@@ -26,7 +26,6 @@ module _ {B : Type 0} where
   -- its phase, and what its seat has for it, show that
   pub does_stage_there : (t u : ℕ) (k : Custody B) (home : Option (Rec B)) (d : Does) → k.does ≡ d
       → stage_there t (phase_sort (phase_of d)) (Some u) (phase_of d) (Some k) home ≡ does_shown t d
-  does_stage_there t u k home does.Unborn e = refl
   does_stage_there t u k home does.Fresh e = ap (λ (d : Does). stage_there t sort.Task (Some u) phase.Running
       (Some (record k { does = d })) home) e
   does_stage_there t u k home does.Running e = ap (λ (d : Does). stage_there t sort.Task (Some u) phase.Running
@@ -36,7 +35,7 @@ module _ {B : Type 0} where
   does_stage_there t u k home (does.Walking c way w) e =
       ap (λ (d : Does). stage_there t sort.Task (Some u) (phase.Waiting (cell c) way walk.Walking)
       (Some (record k { does = d })) home) e
-  does_stage_there t u k home (does.Alarmed c way w) e = refl
+  does_stage_there t u k home d e = refl
 
   module _ {program : Program B} {cells : ℕ} {x : Contents B} (r : Law program cells x) where
     abbrev n : ℕ

@@ -38,11 +38,9 @@ maker_is (Some x) (suc t) c e m = m ∙ cell_is x t (let q : x.0 ≡ t = cc in q
 
 wait_code_small : (y : Way) (w : Walk) → wait_code y w ≤ 14
 wait_code_small way.Along walk.Walking = omega arith
-wait_code_small way.Along walk.Parked = omega arith
-wait_code_small way.Along walk.Alarmed = omega arith
 wait_code_small way.Other walk.Walking = omega arith
-wait_code_small way.Other walk.Parked = omega arith
-wait_code_small way.Other walk.Alarmed = omega arith
+wait_code_small way.Along w = omega arith
+wait_code_small way.Other w = omega arith
 
 -- the cell in a word PHASE is one of these, or 0
 pub phase_cell : (cells n : ℕ) → IsPhaseWord cells n → n / 16 ≤ cells

@@ -23,6 +23,5 @@ module _ {B : Type 0} where
 -- a cell that a seat knows is there: its number may be stored into BITS
 pub known_named : (g : Ground) (known : List ℕ) → AreThere g.drawn g.hand known → (e : Entry) (n : ℕ)
     → NamesOneOf known e n → IsNamedThere g.drawn g.hand e n
-known_named g known there entry.Broken n h = tt
-known_named g known there (entry.Value (value.Num i)) n h = tt
 known_named g known there (entry.Value (value.Ref r)) n h = there n h
+known_named g known there other n h = tt

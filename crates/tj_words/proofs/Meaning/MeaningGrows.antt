@@ -29,9 +29,8 @@ module _ (b b' : List Reference) (more : Begins b b') where
   cell_on c x h = subst (λ l. IsCell l c x) (sym more.1) (at_longer b more.0 c x h)
 
   pub bits_on : (e : Entry) (n : ℕ) → BitsSay b e n → BitsSay b' e n
-  bits_on entry.Broken n h = h
-  bits_on (entry.Value (value.Num i)) n h = h
   bits_on (entry.Value (value.Ref r)) n h = cell_on n r h
+  bits_on e n h = h
 
   fill_on : (f : Fill) (v : Value) → FillSays b f v → FillSays b' f v
   fill_on (fill.Num i) v h = h
@@ -39,12 +38,10 @@ module _ (b b' : List Reference) (more : Begins b b') where
   fill_on (fill.Task c) v h = (h.0, cell_on c.0 _ h.1, h.2)
 
   hurt_on : (f : Hurt) (why : Cause) → HurtSays b f why → HurtSays b' f why
-  hurt_on hurt.Arith why h = h
-  hurt_on hurt.Kind why h = h
-  hurt_on hurt.Steps why h = h
   hurt_on (hurt.Owner c) why h = (h.0, (h.1.0, cell_on c.0 h.1.0 h.1.1, h.1.2), h.2)
   hurt_on (hurt.Broken c) why h = (h.0, (h.1.0, cell_on c.0 h.1.0 h.1.1, h.1.2), h.2)
   hurt_on (hurt.Order c) why h = (h.0, (h.1.0, cell_on c.0 h.1.0 h.1.1, h.1.2), h.2)
+  hurt_on f why h = h
 
   finish_on : (f : Finish) (e : Close) → FinishSays b f e → FinishSays b' f e
   finish_on (finish.Done f) e h = (h.0, fill_on f h.0 h.1, h.2)
@@ -71,11 +68,7 @@ module _ (b b' : List Reference) (more : Begins b b') where
         → TellsStage b' o a spare p
     stage_on (Some f) a spare p h = (h.0, finish_on f h.0 h.1, h.2)
     stage_on None answer.Start spare p h = h
-    stage_on None (answer.RefAt k) spare p h = h
-    stage_on None (answer.Local k) spare p h = h
-    stage_on None answer.Done spare p h = h
-    stage_on None (answer.Num i) spare p h = h
-    stage_on None answer.Lost spare p h = h
+    stage_on None a spare p h = h
 
 module _ {B : Type 0} (program : Program B) (b b' : List Reference) (more : Begins b b')
     (F F' : ℕ → Entry → Type 0) (on : (c : ℕ) (e : Entry) → F c e → F' c e) where
@@ -124,9 +117,8 @@ IsThereOn g g' = (c : ℕ) → IsThere g.drawn g.hand c → IsThere g'.drawn g'.
 
 pub named_on : (g g' : Ground) → IsThereOn g g' → (e : Entry) (n : ℕ) → IsNamedThere g.drawn g.hand e n
     → IsNamedThere g'.drawn g'.hand e n
-named_on g g' there entry.Broken n h = tt
-named_on g g' there (entry.Value (value.Num i)) n h = tt
 named_on g g' there (entry.Value (value.Ref r)) n h = there n h
+named_on g g' there other n h = tt
 
 module _ {B : Type 0} (program : Program B) where
   abbrev pub WrittenIn : Ground → ℕ → Entry → Type 0

@@ -52,12 +52,8 @@ slot_of {B} (maybe.some (maybe.some (Some z))) y e = ap (λ (o : Rec B). some (s
 
 -- a cell is a promise by its sort exactly where PHASE says so
 promise_is : (p : Phase) → phase_sort p ≡ sort.Promise → p ≡ phase.Promise
-promise_is phase.Unborn e = cc
-promise_is phase.Ready e = cc
-promise_is phase.Running e = cc
-promise_is phase.Ended e = cc
 promise_is phase.Promise e = refl
-promise_is (phase.Waiting c way w) e = cc
+promise_is p e = cc
 
 module _ {B : Type 0} (program : Bool → B → Program B) (key : Key B) (s : State (Option (Rec B)) (View B))
     (r : Rule program key s) (id : ℕ) (v : View B) (at : get_elem? s.views id ≡ some v) (may : MayRest v)
@@ -140,13 +136,9 @@ module _ {B : Type 0} (program : Bool → B → Program B) (key : Key B) (s : St
         not_walking : (c : CellId) (way : Way) (w : Walk)
             → IsStill (phase.Waiting c way w) → w ≢ walk.Walking
         not_walking c way walk.Walking h q = h
-        not_walking c way walk.Parked h q = cc
-        not_walking c way walk.Alarmed h q = cc
+        not_walking c way w h q = cc
 
         by : (q : Phase) → x.words.phase t ≡ q → IsStill q → IsRecordIn (tag_in x) q y → IsPhaseAt born p.stage q
-        by phase.Unborn i h f = absurd h
-        by phase.Ready i h f = absurd h
-        by phase.Running i h f = absurd h
         by phase.Ended i h f = let w = subst (λ o. TellsStage born o y.answer y.spare p) f.0.1 tells_stage in
             subst (λ z. IsPhaseAt born z phase.Ended) (sym w.2) refl
         by phase.Promise i h f = absurd f
@@ -165,6 +157,7 @@ module _ {B : Type 0} (program : Bool → B → Program B) (key : Key B) (s : St
               subst (λ k. IsCell born k (reference p waits.0)) waits.4 held.0,
               refl,
             )
+        by q i h f = absurd h
 
     its_list : owned_of x t ≡ numbers y.owned
     its_list = ap (λ o. owned_by o (home_of x t)) (unheld r.law t (rests.free program key s r id v at may t))

@@ -58,14 +58,6 @@ module _ {B : Type 0} (t : ℕ) where
   alarm_back : (o : Option ℕ) (p : Phase) (c : ℕ) (way : Way) (held : Option (Custody B)) (home : Option (Rec B))
       → IsStill p → stage_there t (phase_sort p) o p held home ≡ waits c way alarmed
       → p ≡ phase.Waiting (cell c) way walk.Alarmed
-  alarm_back None phase.Unborn c way held home s e = absurd s
-  alarm_back None phase.Ready c way held home s e = absurd s
-  alarm_back None phase.Running c way held home s e = absurd s
-  alarm_back None (phase.Waiting d y walk.Walking) c way held home s e = absurd s
-  alarm_back (Some u) phase.Unborn c way held home s e = absurd s
-  alarm_back (Some u) phase.Ready c way held home s e = absurd s
-  alarm_back (Some u) phase.Running c way held home s e = absurd s
-  alarm_back (Some u) (phase.Waiting d y walk.Walking) c way held home s e = absurd s
   alarm_back None phase.Ended c way held home s e = cc
   alarm_back (Some u) phase.Ended c way held home s e = cc
   alarm_back None phase.Promise c way held home s e = cc
@@ -76,18 +68,12 @@ module _ {B : Type 0} (t : ℕ) where
   alarm_back (Some u) (phase.Waiting d y walk.Alarmed) c way held home s e =
       let p : d.0 ≡ c = cc in let q : y ≡ way = cc in
       λ j. phase.Waiting (record { 0 = p j }) (q j) walk.Alarmed
+  alarm_back None p c way held home s e = absurd s
+  alarm_back (Some u) p c way held home s e = absurd s
 
   -- no still task shows a walk
   walk_back : (o : Option ℕ) (p : Phase) (c : ℕ) (way : Way) (w : Walker) (held : Option (Custody B))
       (home : Option (Rec B)) → IsStill p → stage_there t (phase_sort p) o p held home ≡ waits c way (walks w) → ⊥
-  walk_back None phase.Unborn c way w held home s e = s
-  walk_back None phase.Ready c way w held home s e = s
-  walk_back None phase.Running c way w held home s e = s
-  walk_back None (phase.Waiting d y walk.Walking) c way w held home s e = s
-  walk_back (Some u) phase.Unborn c way w held home s e = s
-  walk_back (Some u) phase.Ready c way w held home s e = s
-  walk_back (Some u) phase.Running c way w held home s e = s
-  walk_back (Some u) (phase.Waiting d y walk.Walking) c way w held home s e = s
   walk_back None phase.Ended c way w held home s e = cc
   walk_back (Some u) phase.Ended c way w held home s e = cc
   walk_back None phase.Promise c way w held home s e = cc
@@ -96,16 +82,14 @@ module _ {B : Type 0} (t : ℕ) where
   walk_back (Some u) (phase.Waiting d y walk.Parked) c way w held home s e = cc
   walk_back None (phase.Waiting d y walk.Alarmed) c way w held home s e = cc
   walk_back (Some u) (phase.Waiting d y walk.Alarmed) c way w held home s e = cc
+  walk_back None p c way w held home s e = s
+  walk_back (Some u) p c way w held home s e = s
 
 -- a phase that names a cell waits for it
 waits_back : (p : Phase) (c : ℕ) → wait_in p ≡ Some c
     → (d : CellId) × (way : Way) × (w : Walk) × (p ≡ phase.Waiting d way w) × (d.0 ≡ c)
-waits_back phase.Unborn c e = cc
-waits_back phase.Ready c e = cc
-waits_back phase.Running c e = cc
-waits_back phase.Ended c e = cc
-waits_back phase.Promise c e = cc
 waits_back (phase.Waiting d way w) c e = (d, way, w, refl, (let q : d.0 ≡ c = cc in q))
+waits_back p c e = cc
 
 module _ {B : Type 0} (program : Bool → B → Program B) (key : Key B) (s : State (Option (Rec B)) (View B))
     (r : Rule program key s) (id : ℕ) (v : View B) (at : get_elem? s.views id ≡ some v) (may : MayRest v) where

@@ -23,26 +23,23 @@ none_live phases (suc n) t l e = dite (ℕ_discrete t n)
 module _ {B : Type 0} where
   -- a task that no seat holds lies at home
   pub lies : (p : Phase) (o : Option ℕ) (h : Option (Rec B)) → ¬ IsHeld o → IsKept p o h → (y : Rec B) × (h ≡ Some y)
-  lies phase.Unborn o h out k = absurd (out k)
   lies phase.Ready o h out k = k.1
-  lies phase.Running o h out k = absurd (out k)
   lies phase.Ended o h out k = k.1
   lies phase.Promise o h out k = absurd k
-  lies (phase.Waiting c way walk.Walking) o h out k = absurd (out k)
   lies (phase.Waiting c way walk.Parked) o h out k = k.1
   lies (phase.Waiting c way walk.Alarmed) o h out k = ⊎_elim (λ q. absurd (out q.0)) (λ q. q.1) k
+  lies p o h out k = absurd (out k)
 
   -- and has ended or waits, where it isn't ready
   stops : (tag : ℕ → ℕ) (p : Phase) (o : Option ℕ) (h : Option (Rec B)) → ¬ IsHeld o → IsKept p o h → p ≢ phase.Ready
       → ((c : CellId) (way : Way) (w : Walk) → p ≡ phase.Waiting c way w → tag c.0 ≡ 0) → (y : Rec B)
       → IsRecordIn tag p y
       → ((f : Finish) × (y.finish ≡ Some f)) ⊎ ((y.finish ≡ None) × ((c : ℕ) × WaitsFor y c × (tag c ≡ 0)))
-  stops tag phase.Unborn o h out k n z y i = absurd (out k)
   stops tag phase.Ready o h out k n z y i = absurd (n refl)
-  stops tag phase.Running o h out k n z y i = absurd (out k)
   stops tag phase.Ended o h out k n z y i = inl i.0
   stops tag phase.Promise o h out k n z y i = absurd k
   stops tag (phase.Waiting c way w) o h out k n z y i = inr (i.0, (c.0, i.1, z c way w refl))
+  stops tag p o h out k n z y i = absurd (out k)
 
 module _ {B : Type 0} (program : Program B) (N : ℕ) (x : Contents B) (r : Law program N x)
     (idle : Each (λ j ks. ks ≡ []) x.seats.tasks) (none_ready : (t : ℕ) → x.words.phase t ≢ phase.Ready)

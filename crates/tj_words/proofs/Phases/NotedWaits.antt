@@ -38,12 +38,9 @@ begun_way b l t p h i j = let e = begun_reference b l t h i in let f = begun_ref
 -- the cell of a wait is one that what the task does names
 wait_cells : (d : Does) (c : CellId) (way : Way) (w : Walk) → phase_of d ≡ phase.Waiting c way w
     → IsIn c.0 (does_cells d)
-wait_cells does.Unborn c way w e = let z = ap wait_in e in cc
-wait_cells does.Fresh c way w e = let z = ap wait_in e in cc
-wait_cells does.Running c way w e = let z = ap wait_in e in cc
-wait_cells does.Raised c way w e = let z = ap wait_in e in cc
 wait_cells (does.Walking p v u) c way w e = inl (one_some c.0 p (sym (ap wait_in e)))
 wait_cells (does.Alarmed p v u) c way w e = inl (one_some c.0 p (sym (ap wait_in e)))
+wait_cells d c way w e = let z = ap wait_in e in cc
 
 module _ {B : Type 0} {program : Program B} {cells : ℕ} {x : Contents B} (r : Law program cells x) (id t : ℕ)
     (k : Custody B) (h : IsHeldWith x id t k) (its : k.task ≡ t) (d : Does) (tokens : List ℕ) where

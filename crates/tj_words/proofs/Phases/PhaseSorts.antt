@@ -7,11 +7,7 @@ use Rattle.tj_words.specs.declared.view.Does.TheVariants as does
 -- a task that a seat holds stands in the phase of a task
 pub does_sort : (d : Does) → phase_sort (phase_of d) ≡ sort.Task
 does_sort does.Unborn = refl
-does_sort does.Fresh = refl
-does_sort does.Running = refl
-does_sort does.Raised = refl
-does_sort (does.Walking c way w) = refl
-does_sort (does.Alarmed c way w) = refl
+does_sort d = refl
 
 -- a task that is in no hand goes from one phase of tasks to another; the phases of other cells are as before
 pub sorts_same : (hand : ℕ → Option Hand) (phase phases : ℕ → Phase) (t : ℕ) → hand t ≡ None

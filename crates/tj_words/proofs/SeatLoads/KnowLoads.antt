@@ -26,11 +26,7 @@ use Rattle.tj_words.specs.declared.view.Noted.TheVariants as note
 -- a word that is written once lies within the words of its cell
 pub once_within : (c cells : ℕ) (f : Once) → c < cells → once_at c f < 4 + 10 * cells
 once_within c cells once.Tag l = omega arith
-once_within c cells once.Bits l = omega arith
-once_within c cells once.Parent l = omega arith
-once_within c cells once.Kid l = omega arith
-once_within c cells once.Depth l = omega arith
-once_within c cells once.Jump l = omega arith
+once_within c cells f l = omega arith
 
 -- one element more
 pub all_cons : {A : Type 0} (F : A → Type 0) (x : A) (xs : List A) → F x → All F xs → All F (x ∷ xs)

@@ -187,10 +187,7 @@ module _ {B : Type 0} (program : Program B) (cells : ℕ) (some_cells : 0 < cell
           → root_once f ≡ tree_word (λ _. 0) (λ _. 0) [] sort.Task 0 f
       right Tag o = absurd o
       right Bits o = absurd o
-      right Parent o = refl
-      right Kid o = refl
-      right Depth o = refl
-      right Jump o = refl
+      right f o = refl
 
   custody : Custodies cells 1 hand0 first_phase (some (Some r0) ∷ others) ([] ∷ [])
   custody = record {

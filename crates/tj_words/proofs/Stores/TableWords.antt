@@ -95,10 +95,6 @@ record IsToldBy (w : TableWord) : Type 0 where
   by : index w ≡ place_by (kind w) (key w)
 
 told_by : (w : TableWord) → IsToldBy w
-told_by Count = record { at = refl; small = omega arith; back = refl; by = refl }
-told_by Live = record { at = refl; small = omega arith; back = refl; by = refl }
-told_by Others = record { at = refl; small = omega arith; back = refl; by = refl }
-told_by Stop = record { at = refl; small = omega arith; back = refl; by = refl }
 told_by (Own c) = record { at = omega arith; small = omega arith; back = refl; by = refl }
 told_by (Phase c) = record { at = omega arith; small = omega arith; back = refl; by = refl }
 told_by (Written c once.Tag) = record { at = omega arith; small = omega arith; back = refl; by = refl }
@@ -109,6 +105,7 @@ told_by (Written c once.Depth) = record { at = omega arith; small = omega arith;
 told_by (Written c once.Jump) = record { at = omega arith; small = omega arith; back = refl; by = refl }
 told_by (Head c) = record { at = omega arith; small = omega arith; back = refl; by = refl }
 told_by (Next c) = record { at = omega arith; small = omega arith; back = refl; by = refl }
+told_by w = record { at = refl; small = omega arith; back = refl; by = refl }
 
 -- so two words that stand at one index are one
 pub same_word_at : (w x : TableWord) → index x ≡ index w → x ≡ w

@@ -116,8 +116,6 @@ module _ {B : Type 0} {program : Program B} {cells : ℕ} {x : Contents B} (r : 
       -- and it may stand there
       may_stand : cells < 2 ^ 32 → (f : Once) (n : ℕ) (v : View B) → v.seen ≡ ws → v.tasks ≡ ks → IsRightWord f n h v
           → (y : Reference) → IsCell r.born h.cell y → MayStand cells f n
-      may_stand few once.Tag n v s t w y e = absurd w
-      may_stand few once.Bits n v s t w y e = absurd w
       may_stand few once.Parent n v s t w y e = let l = maker_there.0 in let q : n ≡ suc h.maker = w in omega arith
       may_stand few once.Kid n v s t w y e =
           let a : n ≡ suc w.0.made = w.2 in
@@ -132,6 +130,7 @@ module _ {B : Type 0} {program : Program B} {cells : ℕ} {x : Contents B} (r : 
           let q : n ≡ suc (node_of r.forks h.cell).jump.0 = right_word once.Jump n v s t w y e
           ∙ ap (λ o. jump_word o (node_of r.forks h.cell)) (sort_here y e ∙ w.0) in
           let d = (r.tree.jumps_there h.cell (task_there y e w.0)).0 in omega arith
+      may_stand few other n v s t w y e = absurd w
 
       -- the law after the store
       law_written : (c : ℕ) (f : Once) (n : ℕ) (v : View B) → h.cell ≡ c → v.seen ≡ ws → v.tasks ≡ ks

@@ -25,11 +25,9 @@ running_free c h = let e = h.1 in cc
 -- a task that a seat holds is parked on no cell
 pub held_free : (d : Does) → IsNotParked (phase_of d)
 held_free does.Unborn = unborn_free
-held_free does.Fresh = running_free
-held_free does.Running = running_free
-held_free does.Raised = running_free
 held_free (does.Walking p way w) = λ c h. let e = h.1 in cc
 held_free (does.Alarmed p way w) = λ c h. let e = h.1 in cc
+held_free d = running_free
 
 abbrev head_cell : Head → ℕ
 head_cell Empty = 0

@@ -31,9 +31,8 @@ one_index next (x ∷ xs) (suc i) (suc k) t h a b = ap suc (one_index next xs i 
 
 -- the head is shut, or it isn't
 pub shut_or : (h : Head) → (h ≡ Shut) ⊎ (h ≢ Shut)
-shut_or Empty = inr (λ e. cc)
-shut_or (Task t) = inr (λ e. cc)
 shut_or Shut = inl refl
+shut_or h = inr (λ e. cc)
 
 -- the line, where the head isn't shut
 abbrev chain_of : Head → List ℕ → List ℕ
@@ -42,20 +41,17 @@ chain_of (Task t) l = l
 chain_of Shut l = []
 
 chain_is : (h : Head) (l : List ℕ) → h ≢ Shut → chain_of h l ≡ l
-chain_is Empty l n = refl
-chain_is (Task t) l n = refl
 chain_is Shut l n = absurd (n refl)
+chain_is h l n = refl
 
 in_chain : (h : Head) (l : List ℕ) (i t : ℕ) → get_elem? (chain_of h l) i ≡ some t
     → (h ≢ Shut) × (get_elem? l i ≡ some t)
-in_chain Empty l i t e = ((λ q. cc), e)
-in_chain (Task u) l i t e = ((λ q. cc), e)
 in_chain Shut l i t e = absurd (some-ne-none t (sym e))
+in_chain h l i t e = ((λ q. cc), e)
 
 of_chain : (h : Head) (l : List ℕ) (t : ℕ) → IsIn t (chain_of h l) → (h ≢ Shut) × IsIn t l
-of_chain Empty l t i = ((λ q. cc), i)
-of_chain (Task u) l t i = ((λ q. cc), i)
 of_chain Shut l t i = absurd i
+of_chain h l t i = ((λ q. cc), i)
 
 module _ {tag : ℕ → ℕ} {head next : ℕ → Head} {phase : ℕ → Phase} {pushes : List (List Push)} {shuts : List (List ℕ)}
     {rests : List (Option Rest)} {closed : List (List ℕ)} {found : List (List Found)}

@@ -78,11 +78,8 @@ module _ {cells live : ℕ} {phase : ℕ → Phase} {tokens : List ℕ} {rested 
 -- what a running or walking task counts
 live_does : (d : Does) → DoesRun d ⊎ DoesWalk d → live_part (phase_of d) ≡ 1
 live_does does.Unborn h = ⊎_elim (λ e. absurd e) (λ e. absurd e) h
-live_does does.Fresh h = refl
-live_does does.Running h = refl
-live_does does.Raised h = refl
-live_does (does.Walking c way w) h = refl
 live_does (does.Alarmed c way w) h = ⊎_elim (λ e. absurd e) (λ e. absurd e) h
+live_does d h = refl
 
 module _ {B : Type 0} where
   -- what a seat holds stands in these phases

@@ -20,12 +20,9 @@ use Rattle.tj_words.specs.declared.view.Does.TheVariants as does
 
 -- a task that may act runs
 pub acting_phase : (d : Does) → MayAct d → phase_of does.Raised ≡ phase_of d
-acting_phase does.Unborn m = absurd m
 acting_phase does.Fresh m = refl
 acting_phase does.Running m = refl
-acting_phase does.Raised m = absurd m
-acting_phase (does.Walking p way w) m = absurd m
-acting_phase (does.Alarmed p way w) m = absurd m
+acting_phase d m = absurd m
 
 module _ {B : Type 0} {program : Program B} {cells : ℕ} {x : Contents B} (event_keeps : EventKeepsFacts)
     (r : Law program cells x) where
