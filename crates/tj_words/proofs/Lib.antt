@@ -9,3 +9,4 @@ pub mod Events
 pub mod Calls
 pub mod Meaning
 pub mod Seating
+pub mod Lemmas

@@ -9,12 +9,8 @@ use Rattle.tj_words.specs.CallLaws.AlikeSeats.{IsTheTables, MergedSeatsAgree, Se
 use Rattle.tj_words.proofs.Calls.CallRuns.{call_goes, seats_go}
 use Rattle.tj_words.proofs.Calls.LastingWords.{count_never_falls, values_for_good}
 use Rattle.tj_words.proofs.Calls.OneStates.{kept_name}
-use Rattle.tj_words.proofs.Cells.CellFacts.{cell_born}
-use Rattle.tj_words.proofs.Cells.CellNames.{born_apart, name_of}
-use Rattle.tj_words.proofs.SeatLoads.Learning.{IsSo, knowing_of}
-use Rattle.tj_words.proofs.SeatLoads.LoadSteps.{knows_so}
+use Rattle.tj_words.proofs.Lemmas.{IsSo, born_apart, cell_born, inside, knowing_of, knows_so, name_of}
 use Rattle.tj_words.proofs.Seating.Merging.{begins_at}
-use Rattle.tj_words.proofs.Stores.SeatLists.{inside}
 use Rattle.tj_base.specs.declared.cell.Sort.TheVariants as sort
 use Rattle.tj_body.specs.declared.point.Entry.TheVariants as entry
 use Rattle.tj_body.specs.declared.point.Value.TheVariants as value

@@ -11,7 +11,7 @@ use Rattle.tj_words.proofs.Prelude.{words_say, ℕ, ℕ_discrete, ⊎_elim, ◌+
 use Rattle.tj_words.proofs.Seating.Appending.{find_snoc, hand_snoc, making_snoc, total_snoc}
 use Rattle.tj_words.proofs.Calls.KeptCells.{kept}
 use Rattle.tj_words.proofs.Waiters.ChainsSaid.{shut_or}
-use Rattle.tj_words.proofs.Holders.HeldTasks.{hand_finds, none_some}
+use Rattle.tj_words.proofs.Lemmas.{hand_finds, none_some}
 use Rattle.tj_words.proofs.Stores.SeatLists.{same_field}
 use Rattle.tj_words.specs.declared.offsets.Once.TheVariants as once
 

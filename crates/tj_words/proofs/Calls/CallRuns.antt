@@ -30,7 +30,7 @@ use Rattle.tj_words.proofs.Cells.GivenOwners.{give_shown}
 use Rattle.tj_words.proofs.Events.OwnerEvents.{close_shown, hand_shown}
 use Rattle.tj_words.proofs.Events.QuietCells.{mark_shown}
 use Rattle.tj_words.proofs.Events.QuietMoves.{claim_shown, end_shown, record_shown, release_shown, shelve_shown, still}
-use Rattle.tj_words.proofs.Stores.SeatLists.{word_else, words_same}
+use Rattle.tj_words.proofs.Lemmas.{TableWord, index, put_word_word, said, say, word_else, words_same}
 use Rattle.tj_words.proofs.Calls.TableRuns.{runs_are_legal, IsStep, GoesTo, goes_on, one_step, steps_by}
 use Rattle.tj_words.proofs.Calls.TakenTasks.{call_claims, call_goes_back, call_wakes}
 use Rattle.tj_words.proofs.Calls.TaskCalls.{call_ends, call_moves, call_releases, call_settles, call_shelves}
@@ -39,8 +39,7 @@ use Rattle.tj_words.proofs.Events.WalkEvents.{again_shown_read, alarm_shown, cou
 use Rattle.tj_words.proofs.Events.WalkEvents.{owner_shown_read, publish_shown, raise_shown, settle_shown}
 use Rattle.tj_words.proofs.Events.WalkEvents.{wait_shown_read}
 use Rattle.tj_words.proofs.Calls.KeptCells.{kept_parts}
-use Rattle.tj_words.proofs.Stores.StoredWords.{put_word_cell, put_word_word, said, say}
-use Rattle.tj_words.proofs.Stores.TableWords.{TableWord, index}
+use Rattle.tj_words.proofs.Stores.StoredWords.{put_word_cell}
 use Rattle.tj_words.specs.Calls.WalkViews.{IsWalking}
 use Rattle.tj_events.specs.declared.event.Event.TheVariants as event
 use Rattle.tj_words.specs.declared.offsets.Once.TheVariants as once

@@ -3,8 +3,8 @@
 use Rattle.tj_words.proofs.Prelude.{Bool, List, MayPutOnce, MayPutOwner, Option, Program, Rec, SeatMe, Step, StepCall}
 use Rattle.tj_words.proofs.Prelude.{View, ap, count_at, dite, head_at, inl, inr, length, owner_in, place_of, refl, set}
 use Rattle.tj_words.proofs.Prelude.{shut_word, subst, suc, sym, told_by, word, ℕ, ℕ_discrete, ◌<◌, ◌∙◌, ◌≡◌, ◌⊎◌}
-use Rattle.tj_words.proofs.Stores.SeatLists.{word_else, word_here, words_same}
-use Rattle.tj_words.proofs.Stores.TableWords.{TableWord, index, same_word_at}
+use Rattle.tj_words.proofs.Lemmas.{TableWord, index, word_else, word_here, words_same}
+use Rattle.tj_words.proofs.Stores.TableWords.{same_word_at}
 use Rattle.tj_words.specs.CallLaws.StepCalls as call
 use Rattle.tj_words.proofs.Stores.TableWords as table_word
 

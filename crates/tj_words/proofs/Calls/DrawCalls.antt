@@ -6,10 +6,7 @@ use Rattle.tj_words.proofs.Prelude.{View, [], ap, arith, contents_of, count_at, 
 use Rattle.tj_words.proofs.Prelude.{new_hand, refl, suc, sym, takes_new, word, ℕ, ◌++◌, ◌<◌, ◌∙◌, ◌∷◌, ◌≡◌}
 use Rattle.tj_words.proofs.Events.DrawEvents.{drawn_into, may_draw}
 use Rattle.tj_words.proofs.Cells.DrawnTasks.{slots_after}
-use Rattle.tj_words.proofs.Holders.HeldTasks.{hand_found}
-use Rattle.tj_words.proofs.Stores.SeatLists.{back}
-use Rattle.tj_words.proofs.Stores.StepContents.{call_stores_with, stored_with}
-use Rattle.tj_words.proofs.Stores.TableWords.{Count}
+use Rattle.tj_words.proofs.Lemmas.{Count, back, call_stores_with, hand_found, stored_with}
 use Rattle.tj_words.proofs.Cells.DrawSteps.{after_draw, draw_path, after_draws}
 use Rattle.tj_words.specs.Calls.DrawViews.{drawn_next}
 use Rattle.tj_base.specs.declared.cell.Sort.TheVariants as sort

@@ -10,16 +10,12 @@ use Rattle.tj_words.proofs.Prelude.{seats_have, set, start_walk, subst, suc, sym
 use Rattle.tj_words.proofs.Prelude.{words_say, ℕ, ⊎_elim, ◌-◌, ◌<◌, ◌∙◌, ◌≡◌}
 use Rattle.tj_words.specs.Calls.WalkViews.{IsWalking, MayRaise, lowered, owner_seen, read_on}
 use Rattle.tj_words.specs.Calls.WaitViews.{MayPublishWait, MayStoreAlarm, alarmed, now_alarmed, now_does, published}
-use Rattle.tj_words.proofs.Seating.Splitting.{total_set}
+use Rattle.tj_words.proofs.Lemmas.{call_stores, noted_is, seats_same, seats_set, total_set, words_same}
 use Rattle.tj_words.proofs.Waiters.OthersSteps.{acting_phase}
-use Rattle.tj_words.proofs.Stores.SeatContents.{seats_set, seats_same}
-use Rattle.tj_words.proofs.Stores.SeatLists.{words_same}
 use Rattle.tj_words.proofs.SeatLoads.WalkLoads.{held_by_view, turned_seats}
 use Rattle.tj_words.proofs.SeatLoads.WalkReads.{doing, task_turned, turned_to}
-use Rattle.tj_words.proofs.Holders.NotedTasks.{noted_is}
 use Rattle.tj_words.proofs.Stores.StoredWords.{say_others}
 use Rattle.tj_words.proofs.Phases.WaitStores.{after_store, alarms, noted_path, noted_view, publishes}
-use Rattle.tj_words.proofs.Stores.StepContents.{call_stores}
 use Rattle.tj_words.proofs.Calls.KeptCells.{kept_moved, kept_words}
 use Rattle.tj_words.specs.declared.view.Does.TheVariants as does
 use Rattle.tj_words.specs.declared.phase.Phase.TheVariants as phase

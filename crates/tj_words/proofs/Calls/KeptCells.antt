@@ -3,8 +3,7 @@
 use Rattle.tj_words.proofs.Prelude.{Contents, Custody, IsMoved, IsThere, KeepsCells, Option, Parts, Phase, Rec, ap}
 use Rattle.tj_words.proofs.Prelude.{drawn_in, hand_of, held_of, home_of, inl, made_by, made_of, making, parts_of, refl}
 use Rattle.tj_words.proofs.Prelude.{total, ℕ, ◌+◌, ◌∙◌, ◌≡◌}
-use Rattle.tj_words.proofs.Events.ShownParts.{moved_parts}
-use Rattle.tj_words.proofs.Holders.SeatTasks.{at_two}
+use Rattle.tj_words.proofs.Lemmas.{at_two, moved_parts}
 use Rattle.tj_words.specs.declared.offsets.Once.TheVariants as once
 
 module _ {B : Type 0} (cells : ℕ) (x y : Contents B) where

@@ -13,8 +13,7 @@ use Rattle.tj_words.specs.CallLaws.LastingWords.{ShutsAreForGood, TreeWordsAreFo
 use Rattle.tj_words.specs.CallLaws.LastingWords.{ValuesStay}
 use Rattle.tj_words.proofs.SeatLoads.KnowLoads.{hand_not}
 use Rattle.tj_words.proofs.SeatLoads.MomentLaws.{owner_is}
-use Rattle.tj_words.proofs.Stores.SeatLists.{each_set, each_snoc}
-use Rattle.tj_words.proofs.Stores.TableWords.{TableWord, index}
+use Rattle.tj_words.proofs.Lemmas.{TableWord, each_set, each_snoc, index}
 use Rattle.tj_words.proofs.Calls.CallStores.{stays_or, now, MayStore}
 use Rattle.tj_words.proofs.Calls.CallViews.{leaves, IsOut}
 use Rattle.tj_words.specs.declared.offsets.Once.TheVariants as once

@@ -5,9 +5,8 @@ use Rattle.tj_words.proofs.Prelude.{held_of, home_of, inl, made_of, next_referen
 use Rattle.tj_words.proofs.Prelude.{put_else, put_here, reference_of, refl, some-injective, stage_shown, subst, suc}
 use Rattle.tj_words.proofs.Prelude.{sym, to_task, zero, ℕ, ℕ_discrete, ⊎_elim, ◌++◌, ◌<◌, ◌∙◌, ◌∷◌, ◌≡◌, ◌≢◌, ◌≤◌}
 use Rattle.tj_words.proofs.Events.StepEvents.{IsInHandOf, IsToldBy, KeepsCells}
-use Rattle.tj_words.proofs.Cells.CellFacts.{cell_born}
+use Rattle.tj_words.proofs.Lemmas.{cell_blank, cell_born, cell_there, shown_is}
 use Rattle.tj_words.proofs.Events.DrawEvents.{before_or, last_or, t_there, drawn_into}
-use Rattle.tj_words.proofs.Events.ShownCells.{cell_blank, cell_there, shown_is}
 use Rattle.tj_words.specs.declared.offsets.Once.TheVariants as once
 
 abbrev name_in : List Reference → ℕ → Name

@@ -7,8 +7,7 @@ use Rattle.tj_words.proofs.Prelude.{ℕ, ◌≡◌, ◌≢◌}
 use Rattle.tj_words.proofs.Cells.GivenCells.{give_keeps}
 use Rattle.tj_words.proofs.Cells.OwnerStores.{close_keeps, close_own_keeps, hand_keeps}
 use Rattle.tj_words.proofs.Phases.MarkedPromises.{mark_keeps}
-use Rattle.tj_words.proofs.Stores.StepContents.{call_stores}
-use Rattle.tj_words.proofs.Stores.TableWords.{Own, Phase}
+use Rattle.tj_words.proofs.Lemmas.{Own, Phase, call_stores}
 use Rattle.tj_words.specs.declared.phase.Phase.TheVariants as phase
 
 module _ {B : Type 0} (program : Bool → B → Program B) (key : Key B) (s t : State (Option (Rec B)) (View B))

@@ -8,7 +8,7 @@ use Rattle.tj_words.specs.Calls.PushSteps.{ChainIsFound, FindsLonger, chain_is_f
 use Rattle.tj_words.specs.CallLaws.PushRuns.{AreFoundStill, FoundChainsStand, Pushes, PushesLengthen}
 use Rattle.tj_words.specs.SeatViews.SeenWords.{FindsChain}
 use Rattle.tj_words.proofs.SeatLoads.KnowLoads.{task_in}
-use Rattle.tj_words.proofs.Stores.SeatLists.{word_else, word_here}
+use Rattle.tj_words.proofs.Lemmas.{word_else, word_here}
 use Rattle.tj_words.proofs.Waiters.ChainFacts.{first_of, grown_longer, linked_one, no_shut}
 use Rattle.tj_words.specs.CallLaws.StepCalls as call
 

@@ -7,7 +7,7 @@ use Rattle.tj_words.proofs.Prelude.{set_else, set_here, some, some-injective, sp
 use Rattle.tj_words.proofs.Prelude.{ℕ_discrete, ⊎_elim, ◌++◌, ◌||◌, ◌∙◌, ◌∷◌, ◌≡◌, ◌⊎◌}
 use Rattle.tj_words.specs.CallLaws.RestedRuns.{HasRested, NoValueComes, RestStays, live_in, tag_at}
 use Rattle.tj_words.proofs.Waiters.LiveSteps.{held_in_phase, lively_live}
-use Rattle.tj_words.proofs.Stores.SeatLists.{inside}
+use Rattle.tj_words.proofs.Lemmas.{inside}
 use Rattle.tj_words.proofs.Calls.CallStores.{stays_or}
 use Rattle.tj_words.proofs.Calls.CallViews.{leaves}
 use Rattle.tj_words.specs.declared.offsets.Once.TheVariants as once

@@ -5,10 +5,8 @@ use Rattle.tj_words.proofs.Prelude.{MakesWith, MayGoBack, MayWake, None, Option,
 use Rattle.tj_words.proofs.Prelude.{Some, State, View, Wakes, Way, [], ap, arith, contents_of, custody_of, keeps, none}
 use Rattle.tj_words.proofs.Prelude.{parked_phase, phase_at, phase_in, record_in, refl, set, stepped_on, subst, sym}
 use Rattle.tj_words.proofs.Prelude.{takes, took_record, went_back, woke_first, ℕ, ◌<◌, ◌∙◌, ◌∷◌, ◌≡◌}
-use Rattle.tj_words.proofs.Holders.HeldTasks.{one_some}
+use Rattle.tj_words.proofs.Lemmas.{begun_there, call_stores, call_stores_with, one_some}
 use Rattle.tj_words.proofs.Phases.PhaseExchanges.{back_tagged, wake_tagged, back_keeps, claim_keeps, wake_keeps}
-use Rattle.tj_words.proofs.Holders.TaskPlaces.{begun_there}
-use Rattle.tj_words.proofs.Stores.StepContents.{call_stores, call_stores_with}
 use Rattle.tj_words.specs.declared.phase.Phase.TheVariants as phase
 use Rattle.tj_words.proofs.Stores.TableWords as table_word
 

@@ -6,9 +6,8 @@ use Rattle.tj_words.proofs.Prelude.{ShelvesTask, SlotsOf, Some, State, StoresPar
 use Rattle.tj_words.proofs.Prelude.{came_home, cell, contents_of, ended, gives, keeps, live_at, live_lowered}
 use Rattle.tj_words.proofs.Prelude.{live_raised, lowered_with, parked, phase_at, phase_in, put_back, raised_with}
 use Rattle.tj_words.proofs.Prelude.{released, set, some, suc, with_tokens, without_task, ℕ, ◌-◌, ◌<◌, ◌∙◌, ◌≡◌}
-use Rattle.tj_words.proofs.Holders.TaskPlaces.{held_drawn}
+use Rattle.tj_words.proofs.Lemmas.{call_stores, call_stores_with, held_drawn}
 use Rattle.tj_words.proofs.Phases.ParkedStores.{park_keeps}
-use Rattle.tj_words.proofs.Stores.StepContents.{call_stores, call_stores_with}
 use Rattle.tj_words.proofs.Phases.ReadyStores.{ready_keeps}
 use Rattle.tj_words.proofs.Phases.EndedStores.{end_keeps}
 use Rattle.tj_words.proofs.Waiters.LiveCalls.{shelf_keeps, up_keeps}

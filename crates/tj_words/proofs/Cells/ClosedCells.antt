@@ -6,19 +6,14 @@ use Rattle.tj_words.proofs.Prelude.{SeenWord, Some, WaitersOwn, [], ap, arith, c
 use Rattle.tj_words.proofs.Prelude.{gave_up, get_elem?, hand_of, hold, inl, inr, is_task_sort, nat_eq, ne_eqb, parts_of}
 use Rattle.tj_words.proofs.Prelude.{phase_sort, put, refl, set, some, subst, sym, ℕ, ℕ_discrete, ⊎_elim, ◌∙◌, ◌∷◌, ◌≡◌}
 use Rattle.tj_words.proofs.Prelude.{◌≢◌, ◌⊎◌}
-use Rattle.tj_words.proofs.Stores.SeatLists.{each_else, of_seat_here, of_seat_set}
-use Rattle.tj_words.proofs.Holders.HeldTasks.{none_some, one_some}
-use Rattle.tj_words.proofs.Stores.StoreSteps.{put_here, put_else}
-use Rattle.tj_words.proofs.Events.ShownCells.{owner_out}
+use Rattle.tj_words.proofs.Lemmas.{custody, each_else, home_there, list_owned, none_some, of_seat_here, of_seat_set}
+use Rattle.tj_words.proofs.Lemmas.{one_some, owned_held_by, owned_parts, owner_out, put_else, put_here}
 use Rattle.tj_words.proofs.Cells.CellFacts.{task_shown, sort_is}
-use Rattle.tj_words.proofs.Holders.TaskPlaces.{custody, home_there, list_owned}
 use Rattle.tj_words.proofs.Holders.HeldChanges.{found_held, held_task, hold_move, made_held, owned_held}
-use Rattle.tj_words.proofs.Holders.SeatTasks.{owned_held_by}
 use Rattle.tj_words.proofs.Cells.OwnedChanges.{owned_loses}
 use Rattle.tj_words.proofs.Events.OwnerEvents.{acts_phase, close_shown, end_shown, acts_there}
 use Rattle.tj_words.proofs.Events.StepFacts.{facts_after}
 use Rattle.tj_words.proofs.Calls.KeptCells.{kept_words}
-use Rattle.tj_words.proofs.Events.ShownParts.{owned_parts}
 use Rattle.tj_words.proofs.Holders.TaskMoves.{TaskMove, law_owners}
 use Rattle.tj_base.specs.declared.cell.Sort.TheVariants as sort
 use Rattle.tj_words.specs.declared.offsets.Once.TheVariants as once

@@ -10,25 +10,20 @@ use Rattle.tj_words.proofs.Prelude.{refl, runs_on, seats_have, set, set_again, s
 use Rattle.tj_words.proofs.Prelude.{sym, to_task, total, word, words_say, ℕ, ℕ_discrete, ⊎_elim, ◌%◌, ◌++◌, ◌+◌, ◌<◌}
 use Rattle.tj_words.proofs.Prelude.{◌^◌, ◌∙◌, ◌∷◌, ◌≡◌, ◌≤◌, ◌⊎◌}
 use Rattle.tj_words.specs.Calls.DrawViews.{new_slots, drawn_next, was_refused, FindsNone}
-use Rattle.tj_words.proofs.Holders.HeldTasks.{none_some, one_some, makes_none, at_index}
-use Rattle.tj_words.proofs.Stores.SeatLists.{back, inside}
-use Rattle.tj_words.proofs.Stores.SeatContents.{seats_same}
-use Rattle.tj_words.proofs.Holders.TaskPlaces.{held_here, held_drawn}
-use Rattle.tj_words.proofs.Stores.TableWords.{Count}
-use Rattle.tj_words.proofs.Seating.Splitting.{total_set}
+use Rattle.tj_words.proofs.Lemmas.{Count, at_index, back, born_apart, cell_born, held_drawn, held_here, inside}
+use Rattle.tj_words.proofs.Lemmas.{knows_so, none_some, one_some, seats_same, stored_with, total_set}
+use Rattle.tj_words.proofs.Holders.HeldTasks.{makes_none}
 use Rattle.tj_words.proofs.Stores.SlotStores.{StoresWith, Acts, acts_keeping, acts_taking, store_word_with}
-use Rattle.tj_words.proofs.SeatLoads.LoadSteps.{total_fits, knows_so}
+use Rattle.tj_words.proofs.SeatLoads.LoadSteps.{total_fits}
 use Rattle.tj_words.proofs.Seating.Merging.{begins_at}
 use Rattle.tj_words.proofs.Waiters.LiveSteps.{backing_running}
 use Rattle.tj_words.proofs.Holders.NotedTasks.{holder_lot, holder_named}
 use Rattle.tj_words.proofs.Holders.NotedEntries.{noted_here, noted_else}
-use Rattle.tj_words.proofs.Cells.CellFacts.{cell_born}
-use Rattle.tj_words.proofs.Cells.CellNames.{born_apart, cells_more, next_new, refused_full}
+use Rattle.tj_words.proofs.Cells.CellNames.{cells_more, next_new, refused_full}
 use Rattle.tj_words.proofs.Waiters.StopSteps.{law_refuses}
 use Rattle.tj_words.proofs.Cells.MadeThings.{made_few}
 use Rattle.tj_words.proofs.Cells.DrawnTasks.{slots_after}
 use Rattle.tj_words.proofs.Cells.DrawnCells.{law_drawn, drawn_contents, draws}
-use Rattle.tj_words.proofs.Stores.StepContents.{stored_with}
 use Rattle.tj_base.specs.declared.cell.Sort.TheVariants as sort
 use Rattle.tj_words.specs.declared.view.Does.TheVariants as does
 

@@ -9,18 +9,16 @@ use Rattle.tj_words.proofs.Prelude.{min, new_dues, new_hand, new_task, new_tasks
 use Rattle.tj_words.proofs.Prelude.{owned_of, parts_of, phase_of, put, refl, runs_on, set, set_here, some, sort_shown}
 use Rattle.tj_words.proofs.Prelude.{subst, suc, sym, tree_word, ℕ, ⊎_elim, ◌++◌, ◌<◌, ◌↔◌, ◌∙◌, ◌∷◌, ◌≡◌, ◌≢◌, ◌⊎◌}
 use Rattle.std.proofs.Common.{ne_eqb, set-set}
-use Rattle.tj_words.proofs.Holders.HeldTasks.{none_some, one_some}
-use Rattle.tj_words.proofs.Stores.SeatLists.{inside, of_seat_here, of_seat_set}
-use Rattle.tj_words.proofs.Cells.SeatHands.{hand_kept, hand_set, other_cell, own_cell, makes_set, makes_kept, own_maker}
-use Rattle.tj_words.proofs.Cells.SeatHands.{other_maker}
-use Rattle.tj_words.proofs.Holders.SeatTasks.{find_changed, find_same, held_alone, free_alone, put_is}
-use Rattle.tj_words.proofs.Holders.TaskPlaces.{has_none, unheld, held_here, held_drawn, hand_seat}
+use Rattle.tj_words.proofs.Lemmas.{Meant, custody_on, find_changed, find_same, ground_of, hand_kept, hand_seat}
+use Rattle.tj_words.proofs.Lemmas.{hand_set, hands_on, has_none, held_alone, held_drawn, held_here, inside, known_of}
+use Rattle.tj_words.proofs.Lemmas.{knows_now, law_meant, makes_kept, none_some, of_seat_here, of_seat_set, one_some}
+use Rattle.tj_words.proofs.Lemmas.{other_cell, put_is, unheld, wider}
+use Rattle.tj_words.proofs.Cells.SeatHands.{makes_set, other_maker, own_cell, own_maker}
+use Rattle.tj_words.proofs.Holders.SeatTasks.{free_alone}
 use Rattle.tj_words.proofs.Events.DrawEvents.{empty_none, draw_shown}
 use Rattle.tj_words.proofs.Events.StepFacts.{births_after, tree_after, tree_words_after, facts_after}
 use Rattle.tj_words.proofs.Meaning.MeaningSteps.{draw_meant}
-use Rattle.tj_words.proofs.Meaning.LawMeant.{ground_of, known_of, law_meant}
-use Rattle.tj_words.proofs.Meaning.MeaningGrows.{Meant, wider, knows_now}
-use Rattle.tj_words.proofs.Cells.HandChanges.{names_on, hands_on, custody_on}
+use Rattle.tj_words.proofs.Cells.HandChanges.{names_on}
 use Rattle.tj_words.proofs.Holders.NotedEntries.{noted_here, noted_else, noted_in, like_noted}
 use Rattle.tj_words.proofs.Cells.DrawnTasks.{slots_after, homes_after, custody_drawn, once_drawn}
 use Rattle.tj_base.specs.declared.cell.Sort.TheVariants as sort

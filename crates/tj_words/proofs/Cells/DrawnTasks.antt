@@ -6,10 +6,8 @@ use Rattle.tj_words.proofs.Prelude.{SeenWord, Slots, Some, Sort, ap, arith, cond
 use Rattle.tj_words.proofs.Prelude.{home_in, in_either, in_left, in_right, inl, inr, ne_eqb, new_dues, new_task}
 use Rattle.tj_words.proofs.Prelude.{new_tasks, none, put, refl, set, set_again, set_else, some, sort_shown, subst, suc}
 use Rattle.tj_words.proofs.Prelude.{sym, ℕ, ℕ_discrete, ⊎_elim, ◌++◌, ◌<◌, ◌∙◌, ◌∷◌, ◌≡◌, ◌≢◌}
-use Rattle.tj_words.proofs.Stores.SeatLists.{each_set, inside, of_seat_here, of_seat_set}
-use Rattle.tj_words.proofs.Holders.HeldTasks.{none_some, one_some}
+use Rattle.tj_words.proofs.Lemmas.{each_set, inside, none_some, of_seat_here, of_seat_set, one_some, put_else, put_here}
 use Rattle.tj_words.proofs.Holders.HomeSlots.{home_out, home_else_out}
-use Rattle.tj_words.proofs.Stores.StoreSteps.{put_here, put_else}
 use Rattle.tj_words.proofs.Events.DrawEvents.{empty_none}
 use Rattle.tj_base.specs.declared.cell.Sort.TheVariants as sort
 use Rattle.tj_words.specs.declared.offsets.Once.TheVariants as once

@@ -11,21 +11,14 @@ use Rattle.tj_words.proofs.Prelude.{reference_of, refl, seats_have, set, some, s
 use Rattle.tj_words.proofs.Prelude.{sym, tree_word, true, words_say, zero, ℕ, ℕ_discrete, ⊎_elim, ◌++◌, ◌+◌, ◌<◌, ◌∙◌}
 use Rattle.tj_words.proofs.Prelude.{◌∷◌, ◌≡◌, ◌≢◌, ◌⊎◌}
 use Rattle.tj_words.specs.Calls.DrawViews.{made_one, maker_made, gave_owner}
-use Rattle.tj_words.proofs.Holders.HeldTasks.{none_some, none_unless, one_some, held_listed}
-use Rattle.tj_words.proofs.Stores.SeatLists.{back, of_seat_else}
-use Rattle.tj_words.proofs.Holders.SeatTasks.{find_changed, find_same, held_alone, put_is, put_kept}
-use Rattle.tj_words.proofs.Holders.TaskPlaces.{custody, held_here}
-use Rattle.tj_words.proofs.Stores.SeatContents.{seats_same}
-use Rattle.tj_words.proofs.Stores.StepContents.{stored}
-use Rattle.tj_words.proofs.Stores.StoreSteps.{Stores, store_word}
-use Rattle.tj_words.proofs.Stores.TableWords.{Own}
+use Rattle.tj_words.proofs.Lemmas.{Own, Stores, back, births_on, cell_born, custody, custody_on, find_changed}
+use Rattle.tj_words.proofs.Lemmas.{find_same, grew_wider, ground_of, hands_on, held_alone, held_here, held_listed}
+use Rattle.tj_words.proofs.Lemmas.{law_meant, meaning_grows, none_some, none_unless, of_seat_else, one_some, put_is}
+use Rattle.tj_words.proofs.Lemmas.{put_kept, seats_same, store_word, stored, wider}
 use Rattle.tj_words.proofs.Stores.Columns.{IsAsBefore, IsNoted, before_doing, before_like, before_on, before_same}
 use Rattle.tj_words.proofs.Stores.Columns.{find_kept, hand_off, making_off, noted_as, noted_on}
-use Rattle.tj_words.proofs.Cells.CellFacts.{cell_born}
 use Rattle.tj_words.proofs.Cells.GivenOwners.{given_made, given_shown}
-use Rattle.tj_words.proofs.Meaning.LawMeant.{ground_of, law_meant}
-use Rattle.tj_words.proofs.Meaning.MeaningGrows.{wider, grew_wider, meaning_grows}
-use Rattle.tj_words.proofs.Cells.HandChanges.{names_on, tree_on, once_on, births_on, hands_on, custody_on}
+use Rattle.tj_words.proofs.Cells.HandChanges.{names_on, once_on, tree_on}
 use Rattle.tj_words.proofs.Holders.NotedEntries.{IsDoing, noted_here, noted_else, noted_in, holds_on, holds_back}
 use Rattle.tj_words.proofs.Stores.WordStores.{hand_here, maker_there, not_root}
 use Rattle.tj_words.proofs.Cells.OwnedChanges.{owned_gives}

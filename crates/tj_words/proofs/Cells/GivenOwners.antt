@@ -6,10 +6,8 @@ use Rattle.tj_words.proofs.Prelude.{new_stage, owner_shown, parts_of, put, put_e
 use Rattle.tj_words.proofs.Prelude.{subst, sym, ℕ, ◌+◌, ◌∙◌, ◌≡◌, ◌≢◌}
 use Rattle.tj_words.proofs.Events.QuietCells.{quiet_parts, stage_does, IsQuiet}
 use Rattle.tj_words.proofs.Holders.HeldTasks.{makes_one}
-use Rattle.tj_words.proofs.Holders.TaskPlaces.{held_here}
-use Rattle.tj_words.proofs.Stores.SeatLists.{back}
+use Rattle.tj_words.proofs.Lemmas.{at_two, back, held_here, made_held_by, put_kept}
 use Rattle.tj_words.proofs.Stores.WordStores.{hand_here, not_root}
-use Rattle.tj_words.proofs.Holders.SeatTasks.{made_held_by, at_two, put_kept}
 use Rattle.tj_base.specs.declared.cell.Sort.TheVariants as sort
 
 module _ {B : Type 0} {program : Program B} {cells : ℕ} {x : Contents B} (r : Law program cells x) (id : ℕ) (h : Hand)

@@ -7,12 +7,9 @@ use Rattle.tj_words.proofs.Prelude.{dite, does_cells, drawn_in, find_in, gave_up
 use Rattle.tj_words.proofs.Prelude.{hold, home_of, made_by, making, owned_of, owns_also, parts_of, put, refl}
 use Rattle.tj_words.proofs.Prelude.{set, set-set, set_here, some, subst, suc, sym, ℕ, ℕ_discrete, ◌+◌, ◌∙◌, ◌∷◌, ◌≡◌}
 use Rattle.tj_words.proofs.Prelude.{◌≢◌}
-use Rattle.tj_words.proofs.Stores.SeatLists.{inside}
-use Rattle.tj_words.proofs.Holders.SeatTasks.{find_changed, find_same, held_alone, hold_else, hold_here, made_held_by}
-use Rattle.tj_words.proofs.Holders.SeatTasks.{owned_held_by, put_is}
-use Rattle.tj_words.proofs.Holders.HeldTasks.{none_some, one_some}
-use Rattle.tj_words.proofs.Stores.StoreSteps.{put_here, put_else}
-use Rattle.tj_words.proofs.Holders.TaskPlaces.{custody, home_there, list_owned}
+use Rattle.tj_words.proofs.Lemmas.{custody, find_changed, find_same, held_alone, hold_else, hold_here, home_there}
+use Rattle.tj_words.proofs.Lemmas.{inside, list_owned, made_held_by, none_some, one_some, owned_held_by, owned_parts}
+use Rattle.tj_words.proofs.Lemmas.{put_else, put_here, put_is}
 use Rattle.tj_words.proofs.Holders.HeldChanges.{held_task, hold_move, owned_held}
 use Rattle.tj_words.proofs.Cells.OwnedChanges.{owned_gives}
 use Rattle.tj_words.proofs.Events.OwnerEvents.{hand_shown}
@@ -20,7 +17,6 @@ use Rattle.tj_words.proofs.Events.StepFacts.{facts_after}
 use Rattle.tj_words.proofs.Calls.KeptCells.{kept_parts}
 use Rattle.tj_words.proofs.Cells.ClosedCells.{GivesUp, closed, gave_list, gives_up, its_task, law_closed, owned_here}
 use Rattle.tj_words.proofs.Cells.ClosedCells.{owned_promise}
-use Rattle.tj_words.proofs.Events.ShownParts.{owned_parts}
 use Rattle.tj_words.proofs.Holders.TaskMoves.{TaskMove, law_owners}
 use Rattle.tj_words.specs.declared.offsets.Once.TheVariants as once
 use Rattle.tj_words.specs.declared.view.Does.TheVariants as does

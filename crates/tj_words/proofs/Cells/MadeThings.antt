@@ -6,8 +6,8 @@ use Rattle.tj_words.proofs.Prelude.{node_of-child, node_of-older, parts_of, refe
 use Rattle.tj_words.proofs.Prelude.{suc, sym, zero, ℕ, ℕ_discrete, ◌-◌, ◌<◌, ◌==◌, ◌∙◌, ◌∷◌, ◌≡◌, ◌≢◌, ◌≤◌}
 use Rattle.tj_events.specs.Facts.{IsThing}
 use Rattle.tj_tree.proofs.Trees.{parent_there}
-use Rattle.tj_words.proofs.Events.ShownCells.{cell_there}
-use Rattle.tj_words.proofs.Cells.CellFacts.{cell_born, name_shown}
+use Rattle.tj_words.proofs.Lemmas.{cell_born, cell_there}
+use Rattle.tj_words.proofs.Cells.CellFacts.{name_shown}
 
 module _ {B : Type 0} {program : Program B} {cells : ℕ} {x : Contents B} (r : Law program cells x) where
   abbrev n : ℕ

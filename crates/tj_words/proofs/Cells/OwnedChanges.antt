@@ -2,7 +2,7 @@
 use Rattle.tj_words.proofs.Prelude.{AreApart, Hand, IsIn, IsThere, List, None, Option, OwnedLists, Some, [], at_put}
 use Rattle.tj_words.proofs.Prelude.{in_either, in_left, in_right, inl, inr, put, put_here, refl, subst, sym, without, ℕ}
 use Rattle.tj_words.proofs.Prelude.{⊎_elim, ◌++◌, ◌↔◌, ◌∙◌, ◌∷◌, ◌≡◌, ◌≢◌, ◌⊎◌}
-use Rattle.tj_words.proofs.Holders.HeldTasks.{none_some, one_some}
+use Rattle.tj_words.proofs.Lemmas.{none_some, one_some}
 use Rattle.tj_words.proofs.Waiters.ChainLists.{of_without, apart_without}
 use Rattle.tj_words.proofs.Waiters.ChainHeads.{in_without}
 

@@ -7,17 +7,11 @@ use Rattle.tj_words.proofs.Prelude.{first_owner, gave_owner, gave_up, get_elem?,
 use Rattle.tj_words.proofs.Prelude.{noted, own_at, owner_in, owns_also, put, refl, seats_have, set, set-set, some, step}
 use Rattle.tj_words.proofs.Prelude.{subst, suc, sym, words_say, zero, ℕ, ◌<◌, ◌∙◌, ◌∷◌, ◌≡◌, ◌≢◌}
 use Rattle.tj_words.specs.Calls.OwnerViews.{IsOwnersSeat, MayPutOwner, closed_cell, handed_promise, owner_put}
-use Rattle.tj_words.proofs.Holders.HeldTasks.{none_some, one_some, hand_finds}
-use Rattle.tj_words.proofs.Stores.SeatContents.{seats_same}
-use Rattle.tj_words.proofs.Holders.TaskPlaces.{list_owned}
-use Rattle.tj_words.proofs.Holders.NotedTasks.{noted_is, holder_seat}
+use Rattle.tj_words.proofs.Lemmas.{Own, Stores, back, hand_finds, holder_seat, list_owned, none_some, noted_is}
+use Rattle.tj_words.proofs.Lemmas.{one_some, seats_same, step_allowed, store_word, stored}
 use Rattle.tj_words.proofs.Holders.NotedEntries.{noted_here, noted_else}
 use Rattle.tj_words.proofs.Waiters.LiveSteps.{backing_running, alarms_else}
 use Rattle.tj_words.proofs.Waiters.Backings.{backing_runs}
-use Rattle.tj_words.proofs.Stores.StoreSteps.{Stores, step_allowed, store_word}
-use Rattle.tj_words.proofs.Stores.StepContents.{stored}
-use Rattle.tj_words.proofs.Stores.SeatLists.{back}
-use Rattle.tj_words.proofs.Stores.TableWords.{Own}
 use Rattle.tj_words.proofs.Stores.WordStores.{hand_here}
 use Rattle.tj_words.proofs.Cells.GivenCells.{give_stores}
 use Rattle.tj_words.proofs.Cells.ClosedCells.{GivesUp, closed, closed_keeps, closes_own, closes_promise, law_closed}

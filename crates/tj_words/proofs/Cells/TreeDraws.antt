@@ -10,9 +10,8 @@ use Rattle.tj_words.proofs.Prelude.{◌⊎◌}
 use Rattle.tj_tree.specs.Forks.{HasKid, IsNext, name_of}
 use Rattle.tj_tree.specs.Nodes.{jump_from, child_node}
 use Rattle.tj_tree.proofs.Trees.{node_of-older, node_of-child, name_of-older, name_of-child, root_there, IsJump-of}
-use Rattle.tj_words.proofs.Stores.SeatLists.{inside}
+use Rattle.tj_words.proofs.Lemmas.{at_index, inside, one_some}
 use Rattle.tj_words.specs.Inner.TreeDraws.{forks_after, IsDrawnInto, MayDraw}
-use Rattle.tj_words.proofs.Holders.HeldTasks.{one_some, at_index}
 use Rattle.tj_base.specs.declared.cell.Sort.TheVariants as sort
 use Rattle.tj_words.specs.declared.offsets.Once.TheVariants as once
 

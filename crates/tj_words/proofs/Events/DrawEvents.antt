@@ -8,15 +8,13 @@ use Rattle.tj_words.proofs.Prelude.{put_here, record_in, reference_of, refl, sho
 use Rattle.tj_words.proofs.Prelude.{sym, to_task, with_new, zero, ℕ, ◌++◌, ◌+◌, ◌<◌, ◌∙◌, ◌∷◌, ◌≡◌, ◌≢◌, ◌≤◌}
 use Rattle.tj_events.proofs.OneCell.Makers.{thing_made}
 use Rattle.tj_words.specs.Inner.TreeDraws.{MayDraw}
-use Rattle.tj_words.proofs.Holders.HeldTasks.{none_some, one_some, hand_found, makes_none}
-use Rattle.tj_words.proofs.Events.ShownCells.{cell_there}
+use Rattle.tj_words.proofs.Lemmas.{back, cell_born, cell_there, custody, drawn_parts, hand_found, hand_seat, inside}
+use Rattle.tj_words.proofs.Lemmas.{none_some, one_some}
+use Rattle.tj_words.proofs.Holders.HeldTasks.{makes_none}
 use Rattle.tj_words.proofs.Events.ShownDraws.{one_drawn}
-use Rattle.tj_words.proofs.Cells.CellFacts.{cell_born, sort_is}
+use Rattle.tj_words.proofs.Cells.CellFacts.{sort_is}
 use Rattle.tj_words.proofs.Cells.MadeThings.{maker_shown, thing_shown}
-use Rattle.tj_words.proofs.Holders.TaskPlaces.{custody, hand_seat}
 use Rattle.tj_words.proofs.Events.OwnerEvents.{acts_there, acts_phase, acts_made, acts_stage, acts_run}
-use Rattle.tj_words.proofs.Events.ShownParts.{drawn_parts}
-use Rattle.tj_words.proofs.Stores.SeatLists.{back, inside}
 use Rattle.tj_base.specs.declared.cell.Sort.TheVariants as sort
 
 -- the last element of a list, and each before it

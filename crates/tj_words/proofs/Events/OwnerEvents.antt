@@ -9,14 +9,11 @@ use Rattle.tj_words.proofs.Prelude.{restage, running, shown_by, some, some-injec
 use Rattle.tj_words.proofs.Prelude.{sym, zero, ℕ, ◌<◌, ◌∙◌, ◌≡◌, ◌≢◌, ◌≤◌}
 use Rattle.tj_events.specs.CoreState.{CoreState, promise}
 use Rattle.tj_events.specs.Events.{owned_by, stage_after_close}
-use Rattle.tj_words.proofs.Holders.HeldTasks.{none_some, one_some, hand_found}
-use Rattle.tj_words.proofs.Events.ShownCells.{stage_out, owner_out, cell_there, cell_blank}
+use Rattle.tj_words.proofs.Lemmas.{begun_there, cell_blank, cell_born, cell_there, custody, does_shown}
+use Rattle.tj_words.proofs.Lemmas.{does_stage_there, hand_found, hand_seat, held_here, list_owned, made_held_by}
+use Rattle.tj_words.proofs.Lemmas.{none_some, one_some, owner_out, stage_held, stage_out}
 use Rattle.tj_words.proofs.Events.ShownOwners.{result_closed, owner_changed, ShowsAs, shows_as, shows_itself}
-use Rattle.tj_words.proofs.Holders.TaskPlaces.{does_shown, does_stage_there, begun_there, custody, held_here}
-use Rattle.tj_words.proofs.Holders.TaskPlaces.{list_owned, stage_held, hand_seat}
-use Rattle.tj_words.proofs.Cells.CellFacts.{cell_born}
 use Rattle.tj_words.proofs.Events.TurnedTasks.{acting_runs}
-use Rattle.tj_words.proofs.Holders.SeatTasks.{made_held_by}
 use Rattle.tj_base.specs.declared.cell.Sort.TheVariants as sort
 use Rattle.tj_events.specs.declared.event.Event.TheVariants as event
 use Rattle.tj_words.specs.declared.offsets.Once.TheVariants as once

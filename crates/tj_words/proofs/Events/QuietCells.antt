@@ -3,7 +3,7 @@ use Rattle.tj_words.proofs.Prelude.{Contents, Custody, Does, Hand, List, MarksPr
 use Rattle.tj_words.proofs.Prelude.{Reference, ShowsNothing, Some, ap, blank, cond, does_stage, first_owner, hand_of}
 use Rattle.tj_words.proofs.Prelude.{hand_stage, held_of, home_of, made_by, nat_lt, owner_shown, parts_of, put}
 use Rattle.tj_words.proofs.Prelude.{reference_of, refl, shown_by, stage_shown, sym, ℕ, ◌+◌, ◌∙◌, ◌≡◌}
-use Rattle.tj_words.proofs.Holders.SeatTasks.{at_two, put_kept}
+use Rattle.tj_words.proofs.Lemmas.{at_two, put_kept}
 use Rattle.tj_words.specs.declared.phase.Phase.TheVariants as phase
 use Rattle.tj_words.specs.declared.phase.Walk.TheVariants as walk
 

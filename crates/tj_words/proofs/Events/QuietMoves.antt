@@ -5,8 +5,7 @@ use Rattle.tj_words.proofs.Prelude.{Program, Rec, ReleasesTask, ShelvesTask, Sho
 use Rattle.tj_words.proofs.Prelude.{answer_stage, ap, cell, core_shown, does_first, does_stage, drawn_in, hand_of}
 use Rattle.tj_words.proofs.Prelude.{held_of, home_of, min, parts_of, phase_of, phase_sort, refl, shown_by, stage_there}
 use Rattle.tj_words.proofs.Prelude.{subst, sym, ℕ, ◌∙◌, ◌≡◌}
-use Rattle.tj_words.proofs.Events.ShownCells.{stage_out}
-use Rattle.tj_words.proofs.Holders.TaskPlaces.{does_stage_there, begun_there, custody, held_here}
+use Rattle.tj_words.proofs.Lemmas.{begun_there, custody, does_stage_there, held_here, stage_out}
 use Rattle.tj_words.proofs.Events.TurnedTasks.{moved_nothing}
 use Rattle.tj_base.specs.declared.cell.Sort.TheVariants as sort
 use Rattle.tj_body.specs.declared.ask.Answer.TheVariants as answer

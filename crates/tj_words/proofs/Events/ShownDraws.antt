@@ -4,8 +4,7 @@ use Rattle.tj_words.proofs.Prelude.{Some, ap, arith, at_put, cell_by, child, fir
 use Rattle.tj_words.proofs.Prelude.{owner_shown, phase_sort, put, put_else, put_here, reference_of, refl, running}
 use Rattle.tj_words.proofs.Prelude.{shown_by, stage_shown, stage_there, suc, sym, with_new, ℕ, ◌+◌, ◌<◌, ◌∙◌, ◌≡◌, ◌≢◌}
 use Rattle.tj_events.specs.Events.{one_made, new_cell}
-use Rattle.tj_words.proofs.Events.ShownParts.{drawn_parts}
-use Rattle.tj_words.proofs.Events.ShownCells.{cell_blank, cell_there, shown_is}
+use Rattle.tj_words.proofs.Lemmas.{cell_blank, cell_there, drawn_parts, shown_is}
 
 module _ {B : Type 0} (born born' : List Reference) (maker : ℕ → ℕ) (x : Parts B) (t : ℕ) (h : Hand)
     (k new : Option (Custody B)) where

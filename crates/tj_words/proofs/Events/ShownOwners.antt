@@ -6,10 +6,8 @@ use Rattle.tj_words.proofs.Prelude.{restage, running, shown_by, stage_shown, sta
 use Rattle.tj_words.proofs.Prelude.{◌≡◌, ◌≢◌}
 use Rattle.tj_events.specs.CoreState.{ended}
 use Rattle.tj_events.specs.Events.{owned_by}
-use Rattle.tj_words.proofs.Events.ShownParts.{owned_parts}
+use Rattle.tj_words.proofs.Lemmas.{cell_blank, cell_there, held_here, owned_parts, shown_is}
 use Rattle.tj_words.proofs.Events.QuietCells.{stage_does}
-use Rattle.tj_words.proofs.Events.ShownCells.{cell_blank, cell_there, shown_is}
-use Rattle.tj_words.proofs.Holders.TaskPlaces.{held_here}
 use Rattle.tj_base.specs.declared.cell.Sort.TheVariants as sort
 
 module _ {B : Type 0} (x : Parts B) where

@@ -3,7 +3,7 @@ use Rattle.tj_words.proofs.Prelude.{Births, Contents, CoreFacts, DrawsCell, Even
 use Rattle.tj_words.proofs.Prelude.{IsForkTree, IsOfTree, Law, List, OfSeat, Once, Program, Reference, ShowsEvent}
 use Rattle.tj_words.proofs.Prelude.{ShowsNothing, TreeWords, [], core_shown, drawn_in, forks_after, hand_of, made_of}
 use Rattle.tj_words.proofs.Prelude.{next_reference, put, subst, suc, sym, tree_word, ℕ, ◌++◌, ◌∷◌, ◌≡◌, ◌⊎◌}
-use Rattle.tj_words.proofs.Stores.SeatLists.{back}
+use Rattle.tj_words.proofs.Lemmas.{back}
 use Rattle.tj_words.proofs.Cells.TreeDraws.{births_drawn, tree_drawn, tree_words_drawn}
 use Rattle.tj_words.proofs.Events.DrawEvents.{drawn_into, may_draw}
 

@@ -4,9 +4,9 @@ use Rattle.tj_words.proofs.Prelude.{IsHeldWith, IsMoved, Law, MayAct, None, Opti
 use Rattle.tj_words.proofs.Prelude.{ShowsEvent, ShowsNothing, Some, after, ap, cond, core_shown, drawn_in, false, fresh}
 use Rattle.tj_words.proofs.Prelude.{hand_in, home_of, nat_eq, new_stage, parts_of, phase_of, phase_sort, refl, restage}
 use Rattle.tj_words.proofs.Prelude.{running, shown_by, stage, stage_there, subst, sym, total, true, ℕ, ◌<◌, ◌∙◌, ◌≡◌}
-use Rattle.tj_words.proofs.Events.ShownCells.{restaged, stage_out}
-use Rattle.tj_words.proofs.Holders.TaskPlaces.{does_shown, does_stage_there, begun_out, held_drawn, custody, stage_held}
-use Rattle.tj_words.proofs.Holders.SeatTasks.{put_self}
+use Rattle.tj_words.proofs.Lemmas.{custody, does_shown, does_stage_there, held_drawn, put_self, stage_held, stage_out}
+use Rattle.tj_words.proofs.Events.ShownCells.{restaged}
+use Rattle.tj_words.proofs.Holders.TaskPlaces.{begun_out}
 use Rattle.tj_words.specs.declared.view.Does.TheVariants as does
 
 -- a new task runs

@@ -6,8 +6,7 @@ use Rattle.tj_words.proofs.Prelude.{held_of, home_of, parts_of, phase_sort, refl
 use Rattle.tj_words.proofs.Prelude.{sort_shown, stage, stage_there, subst, sym, tag_in, waits, ℕ, ⊎_elim, ◌+◌, ◌∙◌, ◌≡◌}
 use Rattle.tj_events.specs.CoreState.{parked}
 use Rattle.tj_events.specs.Events.{raised_by, raised_by_way}
-use Rattle.tj_words.proofs.Events.ShownCells.{stage_out, owner_out}
-use Rattle.tj_words.proofs.Holders.TaskPlaces.{begun_there}
+use Rattle.tj_words.proofs.Lemmas.{begun_there, owner_out, stage_out}
 use Rattle.tj_words.proofs.Events.TurnedTasks.{moved_event}
 use Rattle.tj_base.specs.declared.cell.Sort.TheVariants as sort
 use Rattle.tj_events.specs.declared.event.Event.TheVariants as event

@@ -12,10 +12,9 @@ use Rattle.tj_events.specs.declared.walk.TrailLink.{TrailLink}
 use Rattle.tj_events.specs.CoreState.{CellStage, CoreState, stage, present, raised, waits, walks, parked, alarmed}
 use Rattle.tj_events.specs.Events.{walked, walk_ended, wait_read, owner_again, Walks, MayPublish, MayReadWait, MayAlarm}
 use Rattle.tj_words.proofs.Events.WalkSteps.{ProceedsOpen}
-use Rattle.tj_words.proofs.Holders.HeldTasks.{held_listed, in_back}
+use Rattle.tj_words.proofs.Lemmas.{begun_there, custody, does_shown, held_drawn, held_listed, in_back, list_owned}
+use Rattle.tj_words.proofs.Lemmas.{owner_out, stage_held}
 use Rattle.tj_words.proofs.Cells.CellFacts.{way_shown, wait_shown}
-use Rattle.tj_words.proofs.Events.ShownCells.{owner_out}
-use Rattle.tj_words.proofs.Holders.TaskPlaces.{does_shown, begun_there, custody, held_drawn, list_owned, stage_held}
 use Rattle.tj_words.proofs.Events.TurnedTasks.{acting_runs, acting_begun, turned_out, turned_event, moved_event}
 use Rattle.tj_events.specs.declared.walk.LastRead.TheVariants.{SawOwner, SawWait}
 use Rattle.tj_events.specs.declared.event.Event.TheVariants as event

@@ -3,7 +3,8 @@ use Rattle.tj_words.proofs.Prelude.{Bool, CoreState, Custody, IsBegun, IsHeldWit
 use Rattle.tj_words.proofs.Prelude.{Rule, Some, State, View, Waiting, Walk, Walker, Way, alarmed, ap, cell, contents_of}
 use Rattle.tj_words.proofs.Prelude.{core_shown, get_elem?, held_in, phase_of, refl, some, stage, subst, sym, waits}
 use Rattle.tj_words.proofs.Prelude.{walks, ℕ, ◌∙◌, ◌≡◌}
-use Rattle.tj_words.proofs.Holders.TaskPlaces.{does_shown, begun_out, custody, stage_held}
+use Rattle.tj_words.proofs.Lemmas.{custody, does_shown, stage_held}
+use Rattle.tj_words.proofs.Holders.TaskPlaces.{begun_out}
 use Rattle.tj_words.proofs.SeatLoads.WalkLoads.{held_by_view}
 use Rattle.tj_words.specs.declared.phase.Walk.TheVariants as walk
 use Rattle.tj_words.specs.declared.view.Does.TheVariants as does

@@ -6,12 +6,9 @@ use Rattle.tj_words.proofs.Prelude.{eq-eqb, find_in, get_elem?, hand_of, held_in
 use Rattle.tj_words.proofs.Prelude.{inr, let_go, made_by, made_of, making, ne_eqb, owned_by, owned_of, phase_of}
 use Rattle.tj_words.proofs.Prelude.{phase_sort, put, put_here, record_cells, refl, set, some, subst, sym, ℕ, ℕ_discrete}
 use Rattle.tj_words.proofs.Prelude.{⊎_elim, ◌+◌, ◌∙◌, ◌∷◌, ◌≡◌, ◌≢◌}
-use Rattle.tj_words.proofs.Stores.SeatLists.{of_seat_here}
-use Rattle.tj_words.proofs.Holders.HeldTasks.{none_some, one_some}
-use Rattle.tj_words.proofs.Holders.TaskPlaces.{custody, held_here}
+use Rattle.tj_words.proofs.Lemmas.{custody, find_changed, find_same, held_alone, held_here, hold_else, hold_here}
+use Rattle.tj_words.proofs.Lemmas.{made_held_by, none_some, of_seat_here, one_some, put_is}
 use Rattle.tj_words.proofs.Phases.PhaseSorts.{does_sort}
-use Rattle.tj_words.proofs.Holders.SeatTasks.{hold_here, hold_else, held_alone, find_changed, find_same, put_is}
-use Rattle.tj_words.proofs.Holders.SeatTasks.{made_held_by}
 use Rattle.tj_words.proofs.Holders.TaskMoves.{TaskMove}
 use Rattle.tj_words.specs.declared.view.Does.TheVariants as does
 use Rattle.tj_words.specs.declared.phase.Phase.TheVariants as phase

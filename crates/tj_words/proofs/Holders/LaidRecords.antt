@@ -8,9 +8,8 @@ use Rattle.tj_words.proofs.Prelude.{subst, sym, tag_in, ℕ, ◌<◌, ◌∙◌,
 use Rattle.tj_words.specs.Calls.PutRecords.{PutsHome}
 use Rattle.tj_words.proofs.Holders.HomeSlots.{home_laid, home_else_laid}
 use Rattle.tj_words.proofs.Holders.RecordSteps.{laid_fit}
-use Rattle.tj_words.proofs.Meaning.MeaningGrows.{Meant}
+use Rattle.tj_words.proofs.Lemmas.{Meant, ground_of, known_of, law_meant}
 use Rattle.tj_words.proofs.Meaning.MeaningSteps.{home_meant}
-use Rattle.tj_words.proofs.Meaning.LawMeant.{ground_of, known_of, law_meant}
 use Rattle.tj_words.proofs.Phases.WaitStores.{about_program}
 use Rattle.tj_words.proofs.Phases.Departures.{Departs}
 use Rattle.tj_base.specs.declared.cell.Sort.TheVariants as sort

@@ -4,10 +4,8 @@ use Rattle.tj_words.proofs.Prelude.{Rec, Rule, Slots, Some, State, View, ap, get
 use Rattle.tj_words.proofs.Prelude.{phase_at, phase_in, phase_word, some, suc, sym, wait_in, word, ℕ, ◌<◌, ◌∙◌, ◌≡◌}
 use Rattle.tj_words.proofs.Prelude.{◌≤◌}
 use Rattle.tj_words.proofs.Stores.SlotStores.{StoresWith}
-use Rattle.tj_words.proofs.Holders.HeldTasks.{none_some}
-use Rattle.tj_words.proofs.Holders.NotedTasks.{holder_seat}
+use Rattle.tj_words.proofs.Lemmas.{holder_seat, none_some, stored_with}
 use Rattle.tj_words.proofs.Phases.PhaseStores.{phase_stores}
-use Rattle.tj_words.proofs.Stores.StepContents.{stored_with}
 use Rattle.tj_words.proofs.Stores.TableWords as table_word
 
 module _ {B : Type 0} (program : Bool → B → Program B) (key : Key B) (s : State (Option (Rec B)) (View B))

@@ -3,8 +3,7 @@ use Rattle.tj_words.proofs.Prelude.{Custody, Does, Holds, IsIn, List, None, Opti
 use Rattle.tj_words.proofs.Prelude.{inl, inr, let_go, noted, phase_of, refl, subst, sym, ℕ, ℕ_discrete, ⊎_elim, ◌∙◌}
 use Rattle.tj_words.proofs.Prelude.{◌≡◌, ◌≢◌, ◌⊎◌}
 use Rattle.tj_words.proofs.Holders.HeldChanges.{held_task, let_go_in}
-use Rattle.tj_words.proofs.Holders.SeatTasks.{hold_here, hold_else}
-use Rattle.tj_words.proofs.Holders.NotedTasks.{noted_is}
+use Rattle.tj_words.proofs.Lemmas.{hold_else, hold_here, noted_is}
 use Rattle.tj_words.proofs.Cells.HandChanges.{IsLike, like_same}
 
 -- a task does what it did

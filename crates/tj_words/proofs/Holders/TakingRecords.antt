@@ -6,12 +6,11 @@ use Rattle.tj_words.proofs.Prelude.{[], ap, begins_self, does_cells, does_first,
 use Rattle.tj_words.proofs.Prelude.{none, numbers, owned, phase_of, record_in, refl, some, subst, sym, tag_in, to_task}
 use Rattle.tj_words.proofs.Prelude.{ℕ, ⊎_elim, ◌++◌, ◌∷◌, ◌≡◌, ◌≢◌}
 use Rattle.tj_body.specs.History.{owned_in}
-use Rattle.tj_words.proofs.Cells.CellNames.{AreApartByName}
+use Rattle.tj_words.proofs.Lemmas.{AreApartByName, AreFilledIn, FilledIn, ground_of, known_of}
 use Rattle.tj_words.proofs.Waiters.ChainLists.{no_some}
 use Rattle.tj_words.proofs.Holders.ClaimedRecords.{starts, waited}
 use Rattle.tj_words.proofs.SeatLoads.KnowLoads.{all_cons}
-use Rattle.tj_words.proofs.Meaning.LawMeant.{ground_of, known_of}
-use Rattle.tj_words.proofs.Meaning.MeaningGrows.{AreFilledIn, FilledIn, told_on}
+use Rattle.tj_words.proofs.Meaning.MeaningGrows.{told_on}
 use Rattle.tj_words.proofs.Meaning.MeaningSteps.{claim_seen}
 use mathlib.Core.Option as maybe
 use Rattle.tj_body.specs.declared.ask.Answer.TheVariants as answer

@@ -8,12 +8,10 @@ use Rattle.tj_words.proofs.Prelude.{arith, bits_in, core_shown, dite, does_cells
 use Rattle.tj_words.proofs.Prelude.{held_in, held_of, home_in, home_of, made_by, making, owned_by, owned_of, parts_of}
 use Rattle.tj_words.proofs.Prelude.{phase_sort, put, put_else, put_here, record_cells, record_in, refl, set, some}
 use Rattle.tj_words.proofs.Prelude.{sort_shown, subst, sym, tag_in, total, ℕ, ℕ_discrete, ◌+◌, ◌∙◌, ◌≡◌, ◌≢◌, ◌≤◌}
-use Rattle.tj_words.proofs.Cells.HandChanges.{births_on}
-use Rattle.tj_words.proofs.Holders.HeldTasks.{hand_finds, none_some}
-use Rattle.tj_words.proofs.Holders.SeatTasks.{find_put, put_is, at_two}
-use Rattle.tj_words.proofs.Holders.TaskPlaces.{hand_seat, has_none}
+use Rattle.tj_words.proofs.Lemmas.{at_two, back, births_on, each_else, each_set, hand_finds, hand_seat, has_none}
+use Rattle.tj_words.proofs.Lemmas.{none_some, of_seat_set, put_is}
+use Rattle.tj_words.proofs.Holders.SeatTasks.{find_put}
 use Rattle.tj_words.proofs.Phases.PhaseSorts.{sorts_same}
-use Rattle.tj_words.proofs.Stores.SeatLists.{back, each_else, each_set, of_seat_set}
 use Rattle.tj_base.specs.declared.cell.Sort.TheVariants as sort
 use Rattle.tj_words.specs.declared.phase.Phase.TheVariants as phase
 

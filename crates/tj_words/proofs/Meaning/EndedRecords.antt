@@ -15,8 +15,7 @@ use Rattle.tj_body.specs.declared.point.Task.{Task}
 use Rattle.tj_body.proofs.Histories.AskSteps.{is_ask_step}
 use Rattle.tj_words.specs.CallLaws.AlikeSeats.{RecordsSayResults, ResultSays, fill_of}
 use Rattle.tj_words.specs.Words.Values.{fill_in, tag_word}
-use Rattle.tj_words.proofs.Cells.CellNames.{AreApartByName, born_apart}
-use Rattle.tj_words.proofs.Stores.SeatLists.{inside}
+use Rattle.tj_words.proofs.Lemmas.{AreApartByName, born_apart, inside}
 use Rattle.tj_body.specs.declared.point.Close.TheVariants as close
 use Rattle.tj_body.specs.declared.point.Entry.TheVariants as entry
 use Rattle.tj_body.specs.declared.point.PointStage.TheVariants as stage

@@ -6,9 +6,10 @@ use Rattle.tj_words.proofs.Prelude.{in_left, inl, inr, refl, some, some-injectiv
 use Rattle.tj_words.proofs.Prelude.{tag_of, total, zero, ℕ, ℕ_discrete, ⊎_elim, ◌++◌, ◌<◌, ◌∙◌, ◌∷◌, ◌≡◌, ◌≢◌, ◌≤◌, ◌⊎◌}
 use Rattle.tj_body.proofs.Lists.{begins_more}
 use Rattle.tj_words.specs.LawParts.Meaning.{HasCell}
-use Rattle.tj_words.proofs.Meaning.MeaningGrows.{Ground, Known, knows_now, IsThereOn, WrittenIn, FilledIn, AreWrittenIn}
-use Rattle.tj_words.proofs.Meaning.MeaningGrows.{AreFilledIn, ToldIn, Grew, wider, grew_wider, Meant, meaning_grows}
-use Rattle.tj_words.proofs.Meaning.MeaningGrows.{meaning_learns, meaning_moves, meaning_counts, told_on}
+use Rattle.tj_words.proofs.Lemmas.{AreFilledIn, FilledIn, Ground, Known, Meant, grew_wider, knows_now, meaning_grows}
+use Rattle.tj_words.proofs.Lemmas.{wider}
+use Rattle.tj_words.proofs.Meaning.MeaningGrows.{AreWrittenIn, Grew, IsThereOn, ToldIn, WrittenIn, meaning_counts}
+use Rattle.tj_words.proofs.Meaning.MeaningGrows.{meaning_learns, meaning_moves, told_on}
 
 -- one element more
 all_more : {A : Type 0} (F : A → Type 0) (x : A) (l : List A) → F x → All F l → All F (x ∷ l)

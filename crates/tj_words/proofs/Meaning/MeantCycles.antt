@@ -9,10 +9,8 @@ use Rattle.std.specs.Bool.{Decides}
 use Rattle.tj_base.proofs.CycleImages.{AreImages, cycle_list_from}
 use Rattle.tj_words.specs.AtRest.ClosedCells.{IsShown, Waits, Leads, HasAlarmed, AreCyclesAlarmed}
 use Rattle.tj_words.specs.AtRest.RestMeaning.{names, IsPhaseAt, AreWordsOf, AreCyclesOfMeaningAlarmed}
-use Rattle.tj_words.proofs.Cells.CellNames.{name_of}
-use Rattle.tj_words.proofs.Holders.HeldTasks.{at_index, one_some}
+use Rattle.tj_words.proofs.Lemmas.{at_index, inside, name_of, one_some}
 use Rattle.tj_words.proofs.Meaning.Resting.{in_of_index}
-use Rattle.tj_words.proofs.Stores.SeatLists.{inside}
 use Rattle.tj_base.specs.Cycles as graph
 use Rattle.tj_base.specs.declared.cell.Sort.TheVariants as sort
 use Rattle.tj_body.specs.WaitGraph as meant

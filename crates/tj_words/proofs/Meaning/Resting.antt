@@ -9,8 +9,8 @@ use Rattle.tj_words.proofs.Prelude.{ℕ_discrete, ⊎_elim, ◌+◌, ◌∙◌, 
 use Rattle.std.specs.Prelude.{slice_get}
 use Rattle.tj_body.specs.Points.{IsAtRest, HasStopped}
 use Rattle.tj_body.specs.declared.point.Task.{Task}
-use Rattle.tj_words.proofs.Meaning.MeaningGrows.{Ground, Known, FilledIn, Meant}
-use Rattle.tj_words.proofs.Cells.CellNames.{name_of, AreApartByName, length_names, cell_of_name}
+use Rattle.tj_words.proofs.Lemmas.{AreApartByName, FilledIn, Ground, Known, Meant, name_of}
+use Rattle.tj_words.proofs.Cells.CellNames.{cell_of_name, length_names}
 use Rattle.tj_base.specs.declared.cell.Sort.TheVariants as sort
 use Rattle.tj_body.specs.declared.point.Entry.TheVariants as entry
 use Rattle.tj_body.specs.declared.point.Value.TheVariants as value

@@ -9,9 +9,7 @@ use Rattle.tj_words.proofs.Prelude.{some-injective, sort_shown, stage, subst, su
 use Rattle.tj_words.proofs.Prelude.{zero, ℕ, ⊎_elim, ◌<◌, ◌∙◌, ◌∷◌, ◌≡◌, ◌≢◌}
 use Rattle.tj_base.proofs.CyclesOn.{cycle_list_moves}
 use Rattle.tj_words.specs.AtRest.ClosedCells.{HasAlarmed, AreNamed}
-use Rattle.tj_words.proofs.Stores.SeatLists.{inside}
-use Rattle.tj_words.proofs.Holders.HeldTasks.{one_some}
-use Rattle.tj_words.proofs.Events.ShownCells.{cell_there}
+use Rattle.tj_words.proofs.Lemmas.{cell_there, inside, one_some}
 use Rattle.tj_events.specs.WaitGraph as core
 use Rattle.tj_words.specs.declared.offsets.Once.TheVariants as once
 use Rattle.tj_words.specs.declared.phase.Phase.TheVariants as phase

@@ -9,16 +9,12 @@ use Rattle.tj_words.proofs.Prelude.{owned_of, parts_of, phase_sort, record_in, r
 use Rattle.tj_words.proofs.Prelude.{some-injective, sort_shown, stage_there, subst, sym, tag_in, tasks, to_map, to_task}
 use Rattle.tj_words.proofs.Prelude.{word, ℕ, ℕ_discrete, ◌<◌, ◌↔◌, ◌∙◌, ◌∷◌, ◌≡◌, ◌≢◌, ◌≤◌}
 use Rattle.tj_words.specs.AtRest.RestMeaning.{ShowsHistory, TellsHistory, AreRecordsOf, tag_for}
-use Rattle.tj_words.proofs.Cells.CellNames.{name_of, born_apart, distinct_names, cell_of_name}
-use Rattle.tj_words.proofs.Cells.CellFacts.{cell_born}
+use Rattle.tj_words.proofs.Lemmas.{born_apart, cell_born, inside, name_of, none_some, one_some, owner_out, unheld}
+use Rattle.tj_words.proofs.Cells.CellNames.{cell_of_name, distinct_names}
 use Rattle.tj_words.proofs.Meaning.ClosedWords.{read_or}
-use Rattle.tj_words.proofs.Events.ShownCells.{owner_out}
 use Rattle.tj_events.specs.CoreState.{Lives}
-use Rattle.tj_words.proofs.Holders.HeldTasks.{none_some, one_some}
 use Rattle.tj_words.proofs.Meaning.Resting.{IsMeant, pairs_at, in_of_index}
 use Rattle.tj_words.proofs.Meaning.RestingTables.{lies, rest_shows, none_ready_at_zero}
-use Rattle.tj_words.proofs.Stores.SeatLists.{inside}
-use Rattle.tj_words.proofs.Holders.TaskPlaces.{unheld}
 use mathlib.Core.Option as maybe
 use Rattle.tj_base.specs.declared.cell.Sort.TheVariants as sort
 use Rattle.tj_words.specs.declared.phase.Phase.TheVariants as phase

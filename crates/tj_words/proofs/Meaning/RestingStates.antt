@@ -11,10 +11,9 @@ use Rattle.tj_base.proofs.Ways.{reach_front}
 use Rattle.tj_events.specs.CoreState.{CoreState, walks, alarmed, promise, WaitStage, CellState, wait_of}
 use Rattle.tj_events.specs.WaitGraph.{Leads, Reaches}
 use Rattle.tj_words.proofs.Cells.CellFacts.{wait_shown}
-use Rattle.tj_words.proofs.Holders.HeldTasks.{hand_found, none_some}
+use Rattle.tj_words.proofs.Lemmas.{cell_blank, hand_found, none_some, owner_out, stage_out}
 use Rattle.tj_words.proofs.Waiters.LiveSteps.{none_left_waiting}
 use Rattle.tj_words.proofs.Meaning.RestingTables.{none_live}
-use Rattle.tj_words.proofs.Events.ShownCells.{cell_blank, stage_out, owner_out}
 use Rattle.tj_base.specs.declared.cell.Sort.TheVariants as sort
 use Rattle.tj_words.specs.declared.phase.Phase.TheVariants as phase
 use Rattle.tj_words.specs.declared.phase.Walk.TheVariants as walk

@@ -5,9 +5,7 @@ use Rattle.tj_words.proofs.Prelude.{Option, Phase, Program, Rec, Reference, Rest
 use Rattle.tj_words.proofs.Prelude.{[], ap, arith, bits_in, dec_le, dite, held_in, home_of, inl, inr, live_part}
 use Rattle.tj_words.proofs.Prelude.{live_tasks, refl, subst, suc, sym, tag_in, to_task, zero, ℕ, ℕ_discrete, ⊎_elim}
 use Rattle.tj_words.proofs.Prelude.{◌<◌, ◌∙◌, ◌≡◌, ◌≢◌, ◌⊎◌}
-use Rattle.tj_words.proofs.Stores.SeatLists.{inside}
-use Rattle.tj_words.proofs.Cells.CellNames.{born_apart}
-use Rattle.tj_words.proofs.Meaning.LawMeant.{ground_of, known_of, law_meant}
+use Rattle.tj_words.proofs.Lemmas.{born_apart, ground_of, inside, known_of, law_meant}
 use Rattle.tj_words.proofs.Meaning.Resting.{IsResting, IsMeant, rest_meant}
 use Rattle.tj_base.specs.declared.cell.Sort.TheVariants as sort
 use Rattle.tj_words.specs.declared.phase.Phase.TheVariants as phase

@@ -5,9 +5,8 @@ use Rattle.tj_words.proofs.Prelude.{Phase, Program, Rec, RecordsFit, SeatsHave, 
 use Rattle.tj_words.proofs.Prelude.{bits_in, core_shown, drawn_in, get_elem?, hand_of, held_in, home_in, let_go}
 use Rattle.tj_words.proofs.Prelude.{made_by, numbers, owned_by, phase_sort, record_cells, refl, some, subst, sym}
 use Rattle.tj_words.proofs.Prelude.{tag_in, ℕ, ◌∙◌, ◌≡◌, ◌≢◌}
-use Rattle.tj_words.proofs.Holders.SeatTasks.{made_held_by, owned_held_by, let_go_here, let_go_else}
-use Rattle.tj_words.proofs.Holders.TaskPlaces.{custody, held_drawn}
-use Rattle.tj_words.proofs.Holders.HeldTasks.{one_some, none_some}
+use Rattle.tj_words.proofs.Lemmas.{custody, held_drawn, made_held_by, none_some, one_some, owned_held_by}
+use Rattle.tj_words.proofs.Holders.SeatTasks.{let_go_else, let_go_here}
 use Rattle.tj_words.proofs.Holders.HeldChanges.{let_go_in}
 use Rattle.tj_words.proofs.Phases.PhaseSorts.{does_sort}
 use Rattle.tj_words.proofs.Holders.TaskMoves.{TaskMove, law_task, task_moved, task_moves}

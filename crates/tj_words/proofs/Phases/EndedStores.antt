@@ -6,11 +6,9 @@ use Rattle.tj_words.proofs.Prelude.{hand_of, home_of, is_task, let_go, live_part
 use Rattle.tj_words.proofs.Prelude.{phase_at, phase_in, phase_of, phase_word, put, refl, seats_have, set, some, subst}
 use Rattle.tj_words.proofs.Prelude.{suc, sym, true, wait_in, word, ℕ, ◌<◌, ◌∙◌, ◌≡◌}
 use Rattle.tj_events.specs.CoreState.{IsTask}
-use Rattle.tj_words.proofs.Stores.StoreSteps.{put_here, put_else}
+use Rattle.tj_words.proofs.Lemmas.{custody, does_shown, held_drawn, held_here, none_some, none_unless, owner_out}
+use Rattle.tj_words.proofs.Lemmas.{put_else, put_here, seats_same, stage_held, stored_with}
 use Rattle.tj_words.proofs.Stores.SlotStores.{StoresWith}
-use Rattle.tj_words.proofs.Holders.HeldTasks.{none_some, none_unless}
-use Rattle.tj_words.proofs.Holders.TaskPlaces.{does_shown, custody, held_here, held_drawn, stage_held}
-use Rattle.tj_words.proofs.Events.ShownCells.{owner_out}
 use Rattle.tj_words.proofs.Waiters.ChainFacts.{IsNotParked, held_free}
 use Rattle.tj_words.proofs.Waiters.ChainPhases.{chains_turn}
 use Rattle.tj_words.proofs.Waiters.LiveSteps.{count_turned, backing_token}
@@ -20,9 +18,7 @@ use Rattle.tj_words.proofs.Holders.LaidRecords.{tokens_at, tasks_at, laid_slots,
 use Rattle.tj_words.proofs.Holders.LaidRecords.{departs_laid, fits}
 use Rattle.tj_words.proofs.Phases.Departures.{Departs, after_leaving, does_leave, law_leaves}
 use Rattle.tj_words.proofs.Holders.LeftSeats.{left_seat, left_stores}
-use Rattle.tj_words.proofs.Stores.StepContents.{stored_with}
 use Rattle.tj_words.proofs.Calls.KeptCells.{kept_moved}
-use Rattle.tj_words.proofs.Stores.SeatContents.{seats_same}
 use Rattle.tj_words.specs.declared.phase.Phase.TheVariants as phase
 use Rattle.tj_words.specs.declared.view.Does.TheVariants as does
 use Rattle.tj_words.proofs.Stores.TableWords as table_word

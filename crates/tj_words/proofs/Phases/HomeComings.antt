@@ -4,11 +4,8 @@ use Rattle.tj_words.proofs.Prelude.{LiveCount, MovesRecord, Option, Program, Rec
 use Rattle.tj_words.proofs.Prelude.{get_elem?, hand_of, held_in, hold, home_in, home_of, now_home, numbers, owned_by}
 use Rattle.tj_words.proofs.Prelude.{parts_of, phase_of, record_cells, record_in, refl, set, some, subst, sym, tag_in, ℕ}
 use Rattle.tj_words.proofs.Prelude.{◌∙◌, ◌≡◌, ◌≢◌}
-use Rattle.tj_words.proofs.Meaning.MeaningGrows.{Meant}
-use Rattle.tj_words.proofs.Meaning.LawMeant.{ground_of, known_of}
-use Rattle.tj_words.proofs.Holders.HeldTasks.{none_some, one_some, held_listed}
-use Rattle.tj_words.proofs.Holders.TaskPlaces.{custody}
-use Rattle.tj_words.proofs.Holders.SeatTasks.{hold_here, put_is, put_self, made_held_by, owned_held_by}
+use Rattle.tj_words.proofs.Lemmas.{Meant, custody, ground_of, held_listed, hold_here, known_of, made_held_by, none_some}
+use Rattle.tj_words.proofs.Lemmas.{one_some, owned_held_by, put_is, put_self}
 use Rattle.tj_words.proofs.Holders.HeldChanges.{found_held, hold_move}
 use Rattle.tj_words.proofs.Events.StepFacts.{facts_same}
 use Rattle.tj_words.proofs.Events.QuietMoves.{record_shown}

@@ -10,20 +10,16 @@ use Rattle.tj_words.proofs.Prelude.{phase_in, phase_word, put, put_else, put_her
 use Rattle.tj_words.proofs.Prelude.{set_again, some, sort_shown, step, subst, sym, tag_in, true, words_say, ℕ, ◌+◌, ◌<◌}
 use Rattle.tj_words.proofs.Prelude.{◌∙◌, ◌≡◌, ◌≢◌}
 use Rattle.tj_words.specs.Calls.DrawViews.{mark_store}
-use Rattle.tj_words.proofs.Cells.HandChanges.{births_on, custody_on, hands_on, like_same, once_on, tree_on}
-use Rattle.tj_words.proofs.Cells.SeatHands.{hand_kept, hand_set, makes_kept, other_cell, own_cell}
+use Rattle.tj_words.proofs.Lemmas.{Stores, at_two, back, births_on, custody_on, grew_wider, ground_of, hand_kept}
+use Rattle.tj_words.proofs.Lemmas.{hand_set, hands_on, law_meant, makes_kept, meaning_grows, none_some, none_unless}
+use Rattle.tj_words.proofs.Lemmas.{of_seat_set, one_some, other_cell, put_is, seats_same, step_allowed, store_word}
+use Rattle.tj_words.proofs.Lemmas.{stored, wider}
+use Rattle.tj_words.proofs.Cells.HandChanges.{like_same, once_on, tree_on}
+use Rattle.tj_words.proofs.Cells.SeatHands.{own_cell}
 use Rattle.tj_words.proofs.Events.QuietCells.{mark_shown}
-use Rattle.tj_words.proofs.Holders.HeldTasks.{none_some, none_unless, one_some}
-use Rattle.tj_words.proofs.Holders.SeatTasks.{at_two, put_is}
-use Rattle.tj_words.proofs.Meaning.LawMeant.{ground_of, law_meant}
-use Rattle.tj_words.proofs.Meaning.MeaningGrows.{wider, grew_wider, meaning_grows}
 use Rattle.tj_words.proofs.Stores.WordStores.{hand_here}
 use Rattle.tj_words.proofs.Waiters.ChainPhases.{chains_turn}
 use Rattle.tj_words.proofs.Waiters.LiveSteps.{count_turned}
-use Rattle.tj_words.proofs.Stores.StepContents.{stored}
-use Rattle.tj_words.proofs.Stores.SeatContents.{seats_same}
-use Rattle.tj_words.proofs.Stores.SeatLists.{back, of_seat_set}
-use Rattle.tj_words.proofs.Stores.StoreSteps.{Stores, step_allowed, store_word}
 use Rattle.tj_base.specs.declared.cell.Sort.TheVariants as sort
 use Rattle.tj_words.specs.declared.phase.Phase.TheVariants as phase
 use Rattle.tj_words.proofs.Stores.TableWords as table_word

@@ -6,11 +6,9 @@ use Rattle.tj_words.proofs.Prelude.{Program, Reference, Some, Walk, Way, ap, at_
 use Rattle.tj_words.proofs.Prelude.{drawn_in, hand_of, hold, home_of, inl, is_task_sort, now_does, owned_by, parts_of}
 use Rattle.tj_words.proofs.Prelude.{phase_of, put, reference_of, refl, set, some-injective, subst, sym, tag_in, wait_in}
 use Rattle.tj_words.proofs.Prelude.{way_by, way_if, ℕ, ◌&&◌, ◌∙◌, ◌≡◌, ◌≢◌}
-use Rattle.tj_words.proofs.Stores.StoreSteps.{put_here, put_else}
-use Rattle.tj_words.proofs.Stores.SeatLists.{inside}
-use Rattle.tj_words.proofs.Holders.HeldTasks.{none_some, one_some, at_index}
-use Rattle.tj_words.proofs.Holders.TaskPlaces.{begun_there, custody, home_there}
-use Rattle.tj_words.proofs.Holders.SeatTasks.{put_self, made_held_by, owned_held_by, hold_held}
+use Rattle.tj_words.proofs.Lemmas.{at_index, begun_there, custody, home_there, inside, made_held_by, none_some}
+use Rattle.tj_words.proofs.Lemmas.{one_some, owned_held_by, put_else, put_here, put_self}
+use Rattle.tj_words.proofs.Holders.SeatTasks.{hold_held}
 use Rattle.tj_words.proofs.Holders.HeldChanges.{found_held, hold_move}
 use Rattle.tj_words.proofs.Waiters.ChainFacts.{held_free}
 use Rattle.tj_words.proofs.Waiters.ChainPhases.{chains_turn}

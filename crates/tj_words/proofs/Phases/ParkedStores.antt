@@ -4,11 +4,9 @@ use Rattle.tj_words.proofs.Prelude.{Keeping, Key, Law, MayPark, Option, Phase, P
 use Rattle.tj_words.proofs.Prelude.{Slots, Some, State, StoresParked, View, Way, ap, arith, at_map, cell, contents_of}
 use Rattle.tj_words.proofs.Prelude.{get_elem?, let_go, live_part, new_push, parked, phase_at, phase_in, phase_of, put}
 use Rattle.tj_words.proofs.Prelude.{refl, seats_have, set, some, subst, suc, sym, ℕ, ◌<◌, ◌∙◌, ◌∷◌, ◌≡◌}
-use Rattle.tj_words.proofs.Stores.SeatContents.{seats_same}
-use Rattle.tj_words.proofs.Stores.StoreSteps.{put_here, put_else}
+use Rattle.tj_words.proofs.Lemmas.{custody, put_else, put_here, seats_same, stored_with}
 use Rattle.tj_words.proofs.Stores.SlotStores.{StoresWith}
 use Rattle.tj_words.proofs.Phases.PhaseStores.{phase_stores}
-use Rattle.tj_words.proofs.Holders.TaskPlaces.{custody}
 use Rattle.tj_words.proofs.Waiters.ChainFacts.{held_free}
 use Rattle.tj_words.proofs.Waiters.ChainPhases.{chains_park}
 use Rattle.tj_words.proofs.Waiters.LiveSteps.{count_turned}
@@ -18,7 +16,6 @@ use Rattle.tj_words.proofs.Phases.WaitStores.{more_seat}
 use Rattle.tj_words.proofs.Holders.LaidRecords.{tokens_at, tasks_at, laid_slots, as_many, meant, departs_laid, fits}
 use Rattle.tj_words.proofs.Phases.Departures.{Departs, after_leaving, does_leave, law_leaves}
 use Rattle.tj_words.proofs.Calls.KeptCells.{kept_moved}
-use Rattle.tj_words.proofs.Stores.StepContents.{stored_with}
 use Rattle.tj_words.specs.declared.phase.Walk.TheVariants as walk
 use Rattle.tj_words.specs.declared.phase.Phase.TheVariants as phase
 use Rattle.tj_words.specs.declared.view.Does.TheVariants as does

@@ -22,31 +22,25 @@ use Rattle.tj_words.proofs.Waiters.ChainFacts.{IsNotParked, ready_free, running_
 use Rattle.tj_words.proofs.Waiters.ChainLists.{no_some}
 use Rattle.tj_words.proofs.Waiters.ChainPhases.{chains_turn, chains_run, chains_ready}
 use Rattle.tj_words.proofs.Holders.HeldChanges.{let_go_in}
-use Rattle.tj_words.proofs.Holders.HeldTasks.{none_some, one_some}
+use Rattle.tj_words.proofs.Lemmas.{AreFilledIn, are_cells, back, begun_there, born_apart, each_set, ground_of}
+use Rattle.tj_words.proofs.Lemmas.{hand_seat, has_none, hold_else, hold_here, home_there, known_of, none_some}
+use Rattle.tj_words.proofs.Lemmas.{of_seat_here, one_some, put_else, put_here, seats_same, stored, stored_with}
+use Rattle.tj_words.proofs.Lemmas.{total_set, unheld}
 use Rattle.tj_words.proofs.Holders.TaskMoves.{TaskMove, law_task, task_moved, task_moves}
 use Rattle.tj_words.proofs.Holders.HomeSlots.{home_out, home_else_out}
-use Rattle.tj_words.proofs.Cells.CellNames.{are_cells, born_apart}
 use Rattle.tj_words.proofs.SeatLoads.KnowLoads.{all_cons, born_at}
-use Rattle.tj_words.proofs.Meaning.LawMeant.{ground_of, known_of}
 use Rattle.tj_words.proofs.Waiters.LiveSteps.{count_turned, backing_running}
 use Rattle.tj_words.proofs.SeatLoads.LoadSteps.{noted_allowed}
-use Rattle.tj_words.proofs.Meaning.MeaningGrows.{AreFilledIn, meaning_learns}
+use Rattle.tj_words.proofs.Meaning.MeaningGrows.{meaning_learns}
 use Rattle.tj_words.proofs.Meaning.MeaningSteps.{out_meant}
 use Rattle.tj_words.proofs.Seating.Merging.{all_append}
 use Rattle.tj_words.proofs.Events.QuietMoves.{claim_shown}
 use Rattle.tj_words.proofs.Holders.RecordSteps.{out_fit, kept_fit, woken_fits}
-use Rattle.tj_words.proofs.Stores.SeatContents.{seats_same}
-use Rattle.tj_words.proofs.Stores.SeatLists.{back, each_set, of_seat_here}
-use Rattle.tj_words.proofs.Stores.StepContents.{stored, stored_with}
 use Rattle.tj_words.proofs.Calls.KeptCells.{kept_moved}
-use Rattle.tj_words.proofs.Holders.SeatTasks.{hold_here, hold_else}
 use Rattle.tj_words.proofs.Stores.SlotStores.{Acts, acts_keeping, acts_taking, store_word_with}
-use Rattle.tj_words.proofs.Seating.Splitting.{total_set}
 use Rattle.tj_words.proofs.Events.StepFacts.{facts_after, facts_same}
-use Rattle.tj_words.proofs.Stores.StoreSteps.{put_here, put_else}
 use Rattle.tj_words.proofs.Holders.TakingRecords.{first_phase, first_runs, first_calm, first_cells, slot_has}
 use Rattle.tj_words.proofs.Holders.TakingRecords.{owns_itself, learnt}
-use Rattle.tj_words.proofs.Holders.TaskPlaces.{begun_there, hand_seat, has_none, home_there, unheld}
 use Rattle.tj_words.proofs.Events.WaitClears.{begun_kept, clear_shown}
 use Rattle.tj_base.specs.declared.cell.Sort.TheVariants as sort
 use Rattle.tj_words.specs.declared.offsets.Once.TheVariants as once

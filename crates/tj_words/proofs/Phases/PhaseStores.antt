@@ -2,7 +2,7 @@
 use Rattle.tj_words.proofs.Prelude.{Bool, Contents, IsPhaseWord, IsSeat, Key, Law, Option, Program, Rec, Rule, Slots}
 use Rattle.tj_words.proofs.Prelude.{State, View, arith, length, phase_at, ℕ, ◌<◌, ◌≡◌}
 use Rattle.tj_words.proofs.Stores.SlotStores.{StoresWith, store_word_with}
-use Rattle.tj_words.proofs.Stores.StepContents.{stored_with}
+use Rattle.tj_words.proofs.Lemmas.{stored_with}
 use Rattle.tj_words.proofs.Stores.TableWords as table_word
 
 module _ {B : Type 0} (program : Bool → B → Program B) (key : Key B) (s : State (Option (Rec B)) (View B))

@@ -5,23 +5,18 @@ use Rattle.tj_words.proofs.Prelude.{State, View, ap, arith, contents_of, drawn_i
 use Rattle.tj_words.proofs.Prelude.{inl, let_go, live_part, phase_at, phase_in, phase_of, phase_word, put, record_cells}
 use Rattle.tj_words.proofs.Prelude.{refl, released, seats_have, set, some, some-injective, subst, sym, tag_in, wait_in}
 use Rattle.tj_words.proofs.Prelude.{word, ℕ, ◌-◌, ◌<◌, ◌∙◌, ◌≡◌}
-use Rattle.tj_words.proofs.Stores.StoreSteps.{put_here, put_else}
+use Rattle.tj_words.proofs.Lemmas.{custody, law_meant, none_some, one_some, put_else, put_here, seats_same, stored}
 use Rattle.tj_words.proofs.Stores.SlotStores.{StoresWith}
-use Rattle.tj_words.proofs.Holders.HeldTasks.{none_some, one_some}
-use Rattle.tj_words.proofs.Holders.TaskPlaces.{custody}
 use Rattle.tj_words.proofs.Waiters.ChainFacts.{IsNotParked, held_free}
 use Rattle.tj_words.proofs.Waiters.ChainPhases.{chains_turn}
 use Rattle.tj_words.proofs.Waiters.LiveSteps.{count_turned}
 use Rattle.tj_words.proofs.Holders.RecordSteps.{kept_fit, ready_fits}
-use Rattle.tj_words.proofs.Meaning.LawMeant.{law_meant}
 use Rattle.tj_words.proofs.Events.StepFacts.{facts_same}
 use Rattle.tj_words.proofs.Events.QuietMoves.{release_shown}
 use Rattle.tj_words.proofs.Holders.LaidRecords.{tokens_at, tasks_at}
 use Rattle.tj_words.proofs.Phases.Departures.{Departs, after_leaving, does_leave, law_leaves}
 use Rattle.tj_words.proofs.Holders.LeftSeats.{left_seat, left_stores}
-use Rattle.tj_words.proofs.Stores.StepContents.{stored}
 use Rattle.tj_words.proofs.Calls.KeptCells.{kept_moved}
-use Rattle.tj_words.proofs.Stores.SeatContents.{seats_same}
 use Rattle.tj_words.specs.declared.phase.Phase.TheVariants as phase
 use Rattle.tj_words.specs.declared.view.Does.TheVariants as does
 use Rattle.tj_words.proofs.Stores.TableWords as table_word

@@ -3,7 +3,7 @@ use Rattle.tj_words.proofs.Prelude.{Allows, Bool, EventKeepsFacts, IsPhaseWord, 
 use Rattle.tj_words.proofs.Prelude.{Some, Walk, Way, ap, cell, none, parked, phase_at, phase_in, phase_word, published}
 use Rattle.tj_words.proofs.Prelude.{refl, rest, step, subst, sym, wait_in, ℕ, ◌<◌, ◌∙◌, ◌≡◌}
 use Rattle.tj_words.specs.Calls.WaitViews.{MayPutWait, PutsWait, wait_store, alarmed}
-use Rattle.tj_words.proofs.Holders.HeldTasks.{one_some}
+use Rattle.tj_words.proofs.Lemmas.{one_some}
 use Rattle.tj_words.proofs.Stores.SlotStores.{Acts, acts_keeping}
 use Rattle.tj_words.proofs.Stores.GivenSlots.{acts_giving}
 use Rattle.tj_words.proofs.Phases.WaitStores.{published_stores, alarmed_stores}

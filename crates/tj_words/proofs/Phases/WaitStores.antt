@@ -8,17 +8,13 @@ use Rattle.tj_words.proofs.Prelude.{now_does, phase_at, phase_in, phase_of, publ
 use Rattle.tj_words.proofs.Prelude.{start_walk, subst, suc, sym, words_say, ℕ, ⊎_elim, ◌<◌, ◌∙◌, ◌≡◌}
 use Rattle.tj_words.proofs.Holders.HeldChanges.{held_task}
 use Rattle.tj_words.specs.Calls.WaitViews.{alarmed, HasWalker}
-use Rattle.tj_words.proofs.Stores.SeatContents.{seats_same}
+use Rattle.tj_words.proofs.Lemmas.{custody, held_listed, hold_else, hold_here, holder_seat, list_owned, none_some}
+use Rattle.tj_words.proofs.Lemmas.{noted_is, seats_same, stored}
 use Rattle.tj_words.proofs.Phases.PhaseStores.{phase_stores}
-use Rattle.tj_words.proofs.Stores.StepContents.{stored}
 use Rattle.tj_words.proofs.Stores.SlotStores.{StoresWith}
 use Rattle.tj_words.proofs.Waiters.LiveSteps.{backing_token, count_turned}
 use Rattle.tj_words.proofs.Waiters.Backings.{backing_publish}
-use Rattle.tj_words.proofs.Holders.HeldTasks.{none_some, held_listed}
-use Rattle.tj_words.proofs.Holders.NotedTasks.{noted_is, holder_seat}
-use Rattle.tj_words.proofs.Holders.SeatTasks.{hold_here, hold_else}
 use Rattle.tj_words.proofs.Events.StepFacts.{facts_after}
-use Rattle.tj_words.proofs.Holders.TaskPlaces.{custody, list_owned}
 use Rattle.tj_words.proofs.Events.TurnedTasks.{acting_begun}
 use Rattle.tj_words.proofs.Events.WalkEvents.{publish_shown, alarm_shown}
 use Rattle.tj_words.proofs.Phases.NotedWaits.{after_note, note_turns, note_law, begun_way}

@@ -2,11 +2,7 @@
 use Rattle.tj_words.proofs.Prelude.{Chains, IsParkedOn, Rule, arith, contents_of, head_in, length, next_at, put}
 use Rattle.tj_words.proofs.Prelude.{seats_have, set, set_again, subst, tag_in, was_so, words_say, ℕ, ◌<◌, ◌∙◌, ◌≡◌}
 use Rattle.tj_words.specs.SeatViews.MomentLaws.{NextIsFree}
-use Rattle.tj_words.proofs.Stores.LawChanges.{law_chains}
-use Rattle.tj_words.proofs.Stores.SeatContents.{seats_same}
-use Rattle.tj_words.proofs.Stores.SeatLists.{word_here}
-use Rattle.tj_words.proofs.Stores.StoreSteps.{Stores, put_else, rule_stores, store_word}
-use Rattle.tj_words.proofs.Stores.TableWords.{Next}
+use Rattle.tj_words.proofs.Lemmas.{Next, Stores, law_chains, put_else, rule_stores, seats_same, store_word, word_here}
 use Rattle.tj_words.proofs.Waiters.ChainHeads.{linked_else}
 
 module _ {B : Type 0} where

@@ -3,10 +3,8 @@ use Rattle.tj_words.proofs.Prelude.{Allows, Bool, Key, Option, Program, Rec, Rul
 use Rattle.tj_words.proofs.Prelude.{arith, contents_of, dite, drawn_in, get_elem?, head_at, head_in, head_load, inr}
 use Rattle.tj_words.proofs.Prelude.{none, refl, shut_word, some, step, subst, suc, word, ℕ, ℕ_discrete, ⊎_elim, ◌++◌}
 use Rattle.tj_words.proofs.Prelude.{◌<◌, ◌∷◌, ◌≡◌, ◌≢◌, ◌≤◌}
-use Rattle.tj_words.proofs.SeatLoads.Learning.{knowing_of}
-use Rattle.tj_words.proofs.SeatLoads.LoadSteps.{Learns, knows_so, load_allowed}
-use Rattle.tj_words.proofs.Stores.SeatLists.{back}
-use Rattle.tj_words.proofs.Cells.CellNames.{are_cells}
+use Rattle.tj_words.proofs.Lemmas.{are_cells, back, knowing_of, knows_so, load_allowed}
+use Rattle.tj_words.proofs.SeatLoads.LoadSteps.{Learns}
 use Rattle.tj_words.proofs.SeatLoads.KnowLoads.{all_cons, HasBecome, learned, learned_so, none_of, one_become, one_of}
 use Rattle.tj_words.proofs.SeatLoads.KnowLoads.{shut_is, will_have}
 use Rattle.tj_words.proofs.Waiters.ChainCells.{line_small, head_small}

@@ -12,10 +12,8 @@ use Rattle.tj_words.proofs.Prelude.{zero, ℕ, ℕ_discrete, ⊎_elim, ◌*◌, 
 use Rattle.tj_tree.specs.Laws.{LinksLeadToTasks}
 use Rattle.tj_words.specs.Law.{IsAbout}
 use Rattle.tj_words.specs.SeatViews.SeenWords.{LeadsTo, SeesTree, MayRead, WillHave, bits_cells, once_load}
-use Rattle.tj_words.proofs.Cells.CellNames.{are_cells}
-use Rattle.tj_words.proofs.SeatLoads.Learning.{Knowing, knowing_of, IsSo}
-use Rattle.tj_words.proofs.SeatLoads.LoadSteps.{Learns, knows_so, load_allowed, notes_so, with_note}
-use Rattle.tj_words.proofs.Stores.SeatLists.{back}
+use Rattle.tj_words.proofs.Lemmas.{IsSo, Knowing, are_cells, back, knowing_of, knows_so, load_allowed}
+use Rattle.tj_words.proofs.SeatLoads.LoadSteps.{Learns, notes_so, with_note}
 use Rattle.tj_words.proofs.Seating.Merging.{all_append, begins_at}
 use Rattle.tj_base.specs.declared.cell.Sort.TheVariants as sort
 use Rattle.tj_body.specs.declared.point.Value.TheVariants as value

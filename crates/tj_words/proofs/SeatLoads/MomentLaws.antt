@@ -12,9 +12,7 @@ use Rattle.tj_words.proofs.Seating.Merging.{begins_at}
 use Rattle.tj_words.specs.SeatViews.MomentLaws.{IsStopped, LiveCountsTokens, CountIsAbove, OwnerIsTheTask}
 use Rattle.tj_words.specs.SeatViews.MomentLaws.{LoneSeatClaims, NoHiddenStop, OthersCountsCleared, PhaseIsDone}
 use Rattle.tj_words.specs.SeatViews.MomentLaws.{StopStands}
-use Rattle.tj_words.proofs.Stores.SeatLists.{word_here}
-use Rattle.tj_words.proofs.Holders.HeldTasks.{none_some}
-use Rattle.tj_words.proofs.Holders.TaskPlaces.{custody, list_owned, begun_there}
+use Rattle.tj_words.proofs.Lemmas.{begun_there, custody, list_owned, none_some, word_here}
 use Rattle.tj_words.proofs.Meaning.RestingStates.{map_back, no_lot_no_task, one_part, two_parts}
 use Rattle.tj_base.specs.declared.cell.Sort.TheVariants as sort
 use Rattle.tj_body.specs.declared.ask.Answer.TheVariants as answer

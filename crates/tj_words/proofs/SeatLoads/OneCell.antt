@@ -5,8 +5,7 @@ use Rattle.tj_words.proofs.Prelude.{count_at, dec_le, dite, drawn_in, get_elem?,
 use Rattle.tj_words.proofs.Prelude.{refl, some, some-injective, some-ne-none, subst, suc, sym, total, was_so, word}
 use Rattle.tj_words.proofs.Prelude.{zero, ℕ, ◌+◌, ◌-◌, ◌<◌, ◌∙◌, ◌∷◌, ◌≡◌, ◌≢◌, ◌≤◌}
 use Rattle.tj_words.specs.SeatViews.MomentLaws.{OneCellCounts, OneCellLives}
-use Rattle.tj_words.proofs.Cells.CellNames.{born_apart}
-use Rattle.tj_words.proofs.Holders.TaskPlaces.{custody}
+use Rattle.tj_words.proofs.Lemmas.{born_apart, custody}
 use Rattle.tj_words.proofs.Meaning.RestingStates.{map_back, two_parts}
 use Rattle.tj_words.specs.declared.phase.Phase.TheVariants as phase
 

@@ -7,9 +7,7 @@ use Rattle.tj_words.proofs.Prelude.{subst, sym, tag_in, word, words_say, â„•, â„
 use Rattle.tj_words.specs.Calls.ParkSteps.{parked_way, first_way, rest_loaded, loaded_phase, phase_load}
 use Rattle.tj_words.proofs.Waiters.ChainLists.{no_some}
 use Rattle.tj_words.proofs.Waiters.ChainPhases.{chains_read, rest_first}
-use Rattle.tj_words.proofs.Stores.LawChanges.{law_chains}
-use Rattle.tj_words.proofs.Stores.SeatContents.{set_seats, seats_same}
-use Rattle.tj_words.proofs.Stores.SeatLists.{words_same}
+use Rattle.tj_words.proofs.Lemmas.{law_chains, seats_same, set_seats, words_same}
 use Rattle.tj_words.proofs.Stores.SlotStores.{StoresWith, Acts, acts_keeping}
 use Rattle.tj_words.proofs.Stores.StoreSteps.{may_store}
 use Rattle.tj_words.proofs.Stores.TableWords as table_word

@@ -2,8 +2,8 @@
 use Rattle.tj_words.proofs.Prelude.{About, Allows, Bool, IsFull, IsStored, Key, Program, Rule, SeatMe, View, at_map}
 use Rattle.tj_words.proofs.Prelude.{none, note_of, refl, seats_have, step, stop_at, stop_load, subst, suc, sym, word, ℕ}
 use Rattle.tj_words.proofs.Prelude.{⊎_elim, ◌∙◌, ◌∷◌, ◌≡◌}
-use Rattle.tj_words.proofs.SeatLoads.Learning.{knowing_of}
-use Rattle.tj_words.proofs.SeatLoads.LoadSteps.{knows_so, load_allowed, noted_so}
+use Rattle.tj_words.proofs.Lemmas.{knowing_of, knows_so, load_allowed}
+use Rattle.tj_words.proofs.SeatLoads.LoadSteps.{noted_so}
 use Rattle.tj_words.specs.declared.view.Noted.TheVariants as note
 
 module _ {B : Type 0} (program : Bool → B → Program B) (key : Key B) where

@@ -10,11 +10,9 @@ use Rattle.tj_words.specs.Calls.WalkViews.{owner_seen, MayLoadOwner, MayLoadWait
 use Rattle.tj_words.proofs.Waiters.Backings.{backing_turns}
 use Rattle.tj_words.proofs.Waiters.ChainLists.{same_some}
 use Rattle.tj_words.proofs.Holders.HeldChanges.{held_task}
-use Rattle.tj_words.proofs.Holders.NotedTasks.{holder_seat, noted_is}
+use Rattle.tj_words.proofs.Lemmas.{back, each_set, hold_else, hold_here, holder_seat, noted_is, rule_views, seats_same}
+use Rattle.tj_words.proofs.Lemmas.{seats_set, set_seats, words_same}
 use Rattle.tj_words.proofs.SeatLoads.LoadSteps.{total_fits}
-use Rattle.tj_words.proofs.Stores.SeatContents.{set_seats, seats_set, seats_same, rule_views}
-use Rattle.tj_words.proofs.Stores.SeatLists.{back, each_set, words_same}
-use Rattle.tj_words.proofs.Holders.SeatTasks.{hold_here, hold_else}
 use Rattle.tj_words.proofs.SeatLoads.WalkReads.{doing, read_to, law_reads_others, law_reads_count, law_reads_wait}
 use Rattle.tj_words.proofs.SeatLoads.WalkReads.{law_reads_seen}
 use Rattle.tj_words.specs.declared.view.Does.TheVariants as does

@@ -9,11 +9,12 @@ use Rattle.tj_words.proofs.Prelude.{phase_of, present, read_cells, refl, set, su
 use Rattle.tj_words.proofs.Prelude.{wait_found, wait_in, walk_cells, ℕ, ⊎_elim, ◌++◌, ◌<◌, ◌∙◌, ◌∷◌, ◌≡◌, ◌≢◌}
 use Rattle.tj_events.specs.declared.walk.LastRead.{LastRead}
 use Rattle.tj_events.specs.declared.walk.LastRead.TheVariants.{Counted, Passed, SawOwner, SawWait}
-use Rattle.tj_words.proofs.Holders.HeldTasks.{none_some, one_some, held_listed, in_front, in_back}
+use Rattle.tj_words.proofs.Lemmas.{begun_there, custody, held_listed, home_there, in_back, made_held_by, none_some}
+use Rattle.tj_words.proofs.Lemmas.{one_some, owned_held_by, put_self}
+use Rattle.tj_words.proofs.Holders.HeldTasks.{in_front}
 use Rattle.tj_words.proofs.Seating.Merging.{all_append}
 use Rattle.tj_words.proofs.SeatLoads.KnowLoads.{all_cons}
-use Rattle.tj_words.proofs.Holders.TaskPlaces.{custody, begun_there, home_there}
-use Rattle.tj_words.proofs.Holders.SeatTasks.{put_self, made_held_by, owned_held_by, hold_held}
+use Rattle.tj_words.proofs.Holders.SeatTasks.{hold_held}
 use Rattle.tj_words.proofs.Holders.HeldChanges.{held_task, found_held, hold_move}
 use Rattle.tj_words.proofs.Events.StepFacts.{facts_after}
 use Rattle.tj_words.proofs.Events.WalkEvents.{others_shown, count_shown, owner_shown_read, wait_shown_read}

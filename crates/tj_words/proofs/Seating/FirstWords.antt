@@ -5,7 +5,7 @@ use Rattle.tj_words.proofs.Prelude.{length-replicate, length-set, once_at, own_a
 use Rattle.tj_words.proofs.Prelude.{set, subst, suc, sym, word, words_say, zero, ℕ, ◌*◌, ◌+◌, ◌<◌, ◌∙◌, ◌≡◌, ◌≢◌}
 use Rattle.tj_words.specs.Words.Offsets.{words_for, phase_at, head_at, next_at}
 use Rattle.tj_words.specs.Words.Codes.{IsPhaseWord, AreCellWords}
-use Rattle.tj_words.proofs.Stores.SeatLists.{word_else, word_here}
+use Rattle.tj_words.proofs.Lemmas.{word_else, word_here}
 
 abbrev pub first_own : ℕ → Option ℕ
 first_own zero = Some 0

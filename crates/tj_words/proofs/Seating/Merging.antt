@@ -7,13 +7,10 @@ use Rattle.tj_words.proofs.Prelude.{set, set_again, set_else, some, some-injecti
 use Rattle.tj_words.proofs.Prelude.{zero, ℕ, ℕ_discrete, ⊎_elim, ◌++◌, ◌+◌, ◌<◌, ◌||◌, ◌∙◌, ◌∷◌, ◌≡◌, ◌≢◌, ◌≤◌, ◌⊎◌}
 use Rattle.atomic_table.specs.Table.{State, Joins}
 use Rattle.tj_words.specs.SeatViews.Views.{longer, spent, IsIdle}
-use Rattle.tj_words.proofs.Stores.SeatLists.{each_set, inside, of_seat_here, of_seat_else}
-use Rattle.tj_words.proofs.Holders.HeldTasks.{in_front, in_back}
-use Rattle.tj_words.proofs.Stores.LawChanges.{law_kept}
-use Rattle.tj_words.proofs.Stores.SeatContents.{set_seats, seats_set, seats_same, rule_views}
-use Rattle.tj_words.proofs.SeatLoads.Learning.{Knowing, knowing_of, IsSo, learns, law_learns}
-use Rattle.tj_words.proofs.SeatLoads.LoadSteps.{knows_so}
-use Rattle.tj_words.proofs.Seating.Splitting.{total_set}
+use Rattle.tj_words.proofs.Lemmas.{IsSo, Knowing, each_set, in_back, inside, knowing_of, knows_so, law_kept}
+use Rattle.tj_words.proofs.Lemmas.{of_seat_else, of_seat_here, rule_views, seats_same, seats_set, set_seats, total_set}
+use Rattle.tj_words.proofs.Holders.HeldTasks.{in_front}
+use Rattle.tj_words.proofs.SeatLoads.Learning.{law_learns, learns}
 
 -- what holds of all elements of two lists holds of all of both together
 pub all_append : {A : Type 0} (F : A → Type 0) (xs ys : List A) → All F xs → All F ys → All F (xs ++ ys)

@@ -5,11 +5,10 @@ use Rattle.tj_words.proofs.Prelude.{find_in, get_elem?, hand_in, hand_of, held_i
 use Rattle.tj_words.proofs.Prelude.{phase_of, put, refl, set, some, subst, sym, ℕ, ℕ_discrete, ⊎_elim, ◌∙◌, ◌≡◌, ◌≢◌}
 use Rattle.tj_words.proofs.Prelude.{◌⊎◌}
 use Rattle.tj_words.proofs.Cells.HandChanges.{IsLike}
-use Rattle.tj_words.proofs.Cells.SeatHands.{hand_kept, hand_set, makes_kept, makes_set, other_cell, other_maker}
-use Rattle.tj_words.proofs.Holders.HeldTasks.{one_some}
+use Rattle.tj_words.proofs.Lemmas.{custody, find_changed, find_same, hand_kept, hand_seat, hand_set, held_alone}
+use Rattle.tj_words.proofs.Lemmas.{held_here, makes_kept, one_some, other_cell}
+use Rattle.tj_words.proofs.Cells.SeatHands.{makes_set, other_maker}
 use Rattle.tj_words.proofs.Holders.NotedEntries.{IsDoing, noted_else, noted_here}
-use Rattle.tj_words.proofs.Holders.SeatTasks.{find_changed, find_same, held_alone}
-use Rattle.tj_words.proofs.Holders.TaskPlaces.{custody, held_here, hand_seat}
 
 module _ {B : Type 0} where
   -- a seat has this for a task where it had that

@@ -7,15 +7,14 @@ use Rattle.tj_words.proofs.Prelude.{hand_of, home_of, none, once_at, put, refl, 
 use Rattle.tj_words.proofs.Prelude.{sort_tag, step, subst, sym, tag_in, tag_of, without_due, ℕ, ℕ_discrete, ◌<◌, ◌∙◌}
 use Rattle.tj_words.proofs.Prelude.{◌∷◌, ◌≡◌, ◌≢◌, ◌≤◌}
 use Rattle.tj_words.specs.Calls.EntryViews.{MayPutBits, MayPutTag, wrote_bits, wrote_tag, bits_store, tag_store}
-use Rattle.tj_words.proofs.Stores.SeatContents.{seats_same}
+use Rattle.tj_words.proofs.Lemmas.{Stores, ground_of, known_of, law_meant, put_else, put_here, put_word, put_word_word}
+use Rattle.tj_words.proofs.Lemmas.{seats_same, step_allowed}
 use Rattle.tj_words.proofs.Waiters.ChainPhases.{chains_tag}
 use Rattle.tj_words.proofs.SeatLoads.KnowLoads.{tag_some}
 use Rattle.tj_words.proofs.Stores.LawChanges.{law_once}
-use Rattle.tj_words.proofs.Meaning.LawMeant.{ground_of, known_of, law_meant}
 use Rattle.tj_words.proofs.Meaning.MeaningSteps.{tag_meant}
 use Rattle.tj_words.proofs.Holders.RecordSteps.{tags_fit}
-use Rattle.tj_words.proofs.Stores.StoreSteps.{put_here, put_else, Stores, step_allowed}
-use Rattle.tj_words.proofs.Stores.StoredWords.{put_word, put_word_here, put_word_cell, put_word_word}
+use Rattle.tj_words.proofs.Stores.StoredWords.{put_word_cell, put_word_here}
 use Rattle.tj_words.proofs.Stores.OnceStores.{due_else, once_stored, tree_words_stored}
 use Rattle.tj_words.proofs.Stores.ValueStores.{bits_stored}
 use Rattle.tj_words.proofs.Stores.WrittenOnce.{once_stores}

@@ -5,9 +5,8 @@ use Rattle.tj_words.proofs.Prelude.{Once, OnceWords, Option, Reference, SeenWord
 use Rattle.tj_words.proofs.Prelude.{arith, cond, dec_le, dite, eq-eqb, get_elem?, in_either, inl, inr, nat_eq, ne_eqb}
 use Rattle.tj_words.proofs.Prelude.{once_at, refl, set, some, some-injective, subst, sym, tree_word, without_due, ℕ}
 use Rattle.tj_words.proofs.Prelude.{ℕ_discrete, ⊎_elim, ◌++◌, ◌<◌, ◌∙◌, ◌∷◌, ◌≡◌, ◌≢◌}
-use Rattle.tj_words.proofs.Stores.SeatLists.{each_set, each_else, of_seat_set}
-use Rattle.tj_words.proofs.Holders.HeldTasks.{none_some, one_some}
-use Rattle.tj_words.proofs.Stores.StoredWords.{put_word, put_word_here, put_word_else}
+use Rattle.tj_words.proofs.Lemmas.{each_else, each_set, none_some, of_seat_set, one_some, put_word}
+use Rattle.tj_words.proofs.Stores.StoredWords.{put_word_else, put_word_here}
 use Rattle.tj_words.proofs.Stores.TableWords.{same_cell, same_word}
 use Rattle.tj_words.specs.declared.offsets.Once.TheVariants as once
 

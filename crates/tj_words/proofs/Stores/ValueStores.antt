@@ -1,7 +1,8 @@
 -- The stores of BITS and TAG, by what their seat knows.
 use Rattle.tj_words.proofs.Prelude.{AreThere, Entry, Filled, List, MayStoreBits, Option, Program, Rec, Reference}
 use Rattle.tj_words.proofs.Prelude.{get_elem?, some, ℕ, ◌∷◌, ◌≡◌, ◌≢◌}
-use Rattle.tj_words.proofs.Meaning.MeaningGrows.{Ground, Known, knows_now, Meant, cell_on, bits_on}
+use Rattle.tj_words.proofs.Lemmas.{Ground, Known, Meant, knows_now}
+use Rattle.tj_words.proofs.Meaning.MeaningGrows.{bits_on, cell_on}
 use Rattle.tj_words.proofs.Meaning.MeaningSteps.{bits_meant}
 use Rattle.tj_words.proofs.Meaning.LawMeant.{known_named}
 

@@ -10,14 +10,11 @@ use Rattle.tj_tree.specs.Nodes.{node_of, jump_from, InEachTree}
 use Rattle.tj_tree.proofs.Trees.{IsChild-of}
 use Rattle.tj_words.specs.Calls.DrawViews.{without_due, IsRightWord, MayWrite, wrote_word, word_store}
 use Rattle.tj_words.proofs.Stores.LawChanges.{law_once}
-use Rattle.tj_words.proofs.Holders.HeldTasks.{none_some, one_some, hand_found, hand_finds, makes_one}
-use Rattle.tj_words.proofs.Holders.TaskPlaces.{held_here}
-use Rattle.tj_words.proofs.Stores.SeatLists.{back}
-use Rattle.tj_words.proofs.Stores.SeatContents.{seats_same}
-use Rattle.tj_words.proofs.SeatLoads.LoadSteps.{knows_so}
+use Rattle.tj_words.proofs.Lemmas.{Stores, back, hand_finds, hand_found, held_here, knows_so, none_some, one_some}
+use Rattle.tj_words.proofs.Lemmas.{put_word, put_word_word, seats_same, step_allowed}
+use Rattle.tj_words.proofs.Holders.HeldTasks.{makes_one}
 use Rattle.tj_words.proofs.SeatLoads.KnowLoads.{root_there, born_at, sees_tree}
-use Rattle.tj_words.proofs.Stores.StoreSteps.{MayStand, Stores, step_allowed}
-use Rattle.tj_words.proofs.Stores.StoredWords.{put_word, put_word_word}
+use Rattle.tj_words.proofs.Stores.StoreSteps.{MayStand}
 use Rattle.tj_words.proofs.Stores.OnceStores.{due_else, once_stored, tree_words_stored}
 use Rattle.tj_words.proofs.Cells.MadeThings.{made_few, child_jump}
 use Rattle.tj_words.proofs.Stores.WrittenOnce.{once_stores}

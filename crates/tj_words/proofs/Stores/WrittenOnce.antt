@@ -3,10 +3,8 @@
 use Rattle.tj_words.proofs.Prelude.{Bool, IsSeat, Key, Law, Once, Option, Program, Rec, Rule, SeatsHave, State, View}
 use Rattle.tj_words.proofs.Prelude.{arith, once_at, seats_have, words_say, ℕ, ◌<◌, ◌≡◌}
 use Rattle.tj_words.proofs.SeatLoads.KnowLoads.{once_within}
-use Rattle.tj_words.proofs.Stores.SeatContents.{set_seats}
-use Rattle.tj_words.proofs.Stores.StoreSteps.{MayStand, Stores, store_word}
-use Rattle.tj_words.proofs.Stores.StoredWords.{put_word}
-use Rattle.tj_words.proofs.Stores.TableWords.{Written}
+use Rattle.tj_words.proofs.Lemmas.{Stores, Written, put_word, set_seats, store_word}
+use Rattle.tj_words.proofs.Stores.StoreSteps.{MayStand}
 
 module _ {B : Type 0} (program : Bool → B → Program B) (key : Key B) (s : State (Option (Rec B)) (View B))
     (r : Rule program key s) (id c n : ℕ) (f : Once) (l : c < key.cells) where

@@ -4,13 +4,11 @@ use Rattle.tj_words.proofs.Prelude.{IsRest, List, None, OfSeat, Option, Phase, P
 use Rattle.tj_words.proofs.Prelude.{at_put, cell, cond, dite, eq-eqb, false, get_elem?, head_of, inl, inr, nat_eq}
 use Rattle.tj_words.proofs.Prelude.{ne_eqb, parked_phase, put, refl, rest_of, set, some, subst, sym, true, with_next}
 use Rattle.tj_words.proofs.Prelude.{without, without_push, ℕ, ℕ_discrete, ⊎_elim, ◌∙◌, ◌∷◌, ◌≡◌, ◌≢◌, ◌⊎◌}
-use Rattle.tj_words.proofs.Stores.SeatLists.{each_set, each_else, of_seat_here, of_seat_set}
-use Rattle.tj_words.proofs.Stores.StoreSteps.{put_here, put_else}
+use Rattle.tj_words.proofs.Lemmas.{at_two, chains_seats, each_else, each_set, of_seat_here, of_seat_set, put_else}
+use Rattle.tj_words.proofs.Lemmas.{put_here}
 use Rattle.tj_words.proofs.SeatLoads.KnowLoads.{all_cons}
-use Rattle.tj_words.proofs.Waiters.ChainSeats.{chains_seats}
 use Rattle.tj_words.proofs.Waiters.ChainLists.{any_without_push, in_without_push, no_some, none_none, rest_is}
 use Rattle.tj_words.proofs.Waiters.ChainLists.{rest_some}
-use Rattle.tj_words.proofs.Holders.SeatTasks.{at_two}
 
 -- a push of the list after NEXT of t was stored is one of before
 pub in_with_next : (t : ℕ) (h : Head) (l : List Push) (x : Push) → IsIn x (with_next t h l)

@@ -3,7 +3,7 @@ use Rattle.tj_words.proofs.Prelude.{All, Any, AreApart, Bool, IsIn, List, None, 
 use Rattle.tj_words.proofs.Prelude.{cond, dite, eq-eqb, inl, inr, length, ne_eqb, put, refl, rest_of, subst, suc, sym}
 use Rattle.tj_words.proofs.Prelude.{without, without_push, zero, ℕ, ℕ_discrete, ⊎_elim, ◌<◌, ◌∙◌, ◌∷◌, ◌≡◌, ◌≢◌, ◌≤◌}
 use Rattle.tj_words.proofs.Prelude.{◌⊎◌}
-use Rattle.tj_words.proofs.Stores.StoreSteps.{put_here, put_else}
+use Rattle.tj_words.proofs.Lemmas.{put_else, put_here}
 
 -- nothing isn't something
 pub no_some : {P A : Type 0} {a : A} {o : Option A} → o ≡ None → o ≡ Some a → P

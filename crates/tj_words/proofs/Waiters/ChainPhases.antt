@@ -5,15 +5,13 @@ use Rattle.tj_words.proofs.Prelude.{IsPush, IsRest, List, None, OfSeat, Option, 
 use Rattle.tj_words.proofs.Prelude.{at_put, dite, get_elem?, head_of, inl, inr, new_push, parked_phase, put, refl}
 use Rattle.tj_words.proofs.Prelude.{rest_of, set, some, subst, sym, without_push, ℕ, ℕ_discrete, ⊎_elim, ◌∙◌, ◌∷◌, ◌≡◌}
 use Rattle.tj_words.proofs.Prelude.{◌≢◌}
-use Rattle.tj_words.proofs.Stores.StoreSteps.{put_here, put_else}
+use Rattle.tj_words.proofs.Lemmas.{at_two, chains_seats, each_else, each_set, of_seat_here, of_seat_set, put_else}
+use Rattle.tj_words.proofs.Lemmas.{put_here}
 use Rattle.tj_words.proofs.SeatLoads.KnowLoads.{all_cons}
 use Rattle.tj_words.proofs.Waiters.ChainHeads.{one_cell}
-use Rattle.tj_words.proofs.Waiters.ChainSeats.{chains_seats}
-use Rattle.tj_words.proofs.Stores.SeatLists.{each_set, each_else, of_seat_here, of_seat_set}
 use Rattle.tj_words.proofs.Waiters.ChainLists.{no_some, same_some, none_none, IsOfTask, all_without, any_without_push}
 use Rattle.tj_words.proofs.Waiters.ChainLists.{rest_is, rest_some}
 use Rattle.tj_words.proofs.Waiters.ChainFacts.{IsNotParked, linked_once, first_else, push_parked, not_in_line, not_mine}
-use Rattle.tj_words.proofs.Holders.SeatTasks.{at_two}
 
 -- the rest once the way of its first task is read
 abbrev pub read_way : Way → Rest → Rest

@@ -8,14 +8,10 @@ use Rattle.tj_words.proofs.Prelude.{suc, sym, tag_in, with_next, without, withou
 use Rattle.tj_words.proofs.Prelude.{⊎_elim, ◌-◌, ◌<◌, ◌∙◌, ◌∷◌, ◌≡◌, ◌≢◌, ◌≤◌}
 use Rattle.tj_words.specs.Calls.ChainSteps.{stored_next, pushed, took_chain, found_taken, HasPush, HasPushBehind}
 use Rattle.tj_words.specs.Calls.ChainSteps.{KnowsEntry, next_store, push_exchange}
-use Rattle.tj_words.proofs.Stores.SeatContents.{set_seats, seats_same}
-use Rattle.tj_words.proofs.Stores.StoreSteps.{put_here, put_else, MayHold, Stores, rule_stores, store_word}
-use Rattle.tj_words.proofs.Stores.StoreSteps.{step_allowed}
-use Rattle.tj_words.proofs.Stores.StoredWords.{said}
-use Rattle.tj_words.proofs.Stores.TableWords.{TableWord, index}
+use Rattle.tj_words.proofs.Lemmas.{Stores, TableWord, index, knows_so, law_chains, put_else, put_here, rule_stores}
+use Rattle.tj_words.proofs.Lemmas.{said, seats_same, set_seats, step_allowed, store_word}
+use Rattle.tj_words.proofs.Stores.StoreSteps.{MayHold}
 use Rattle.tj_words.proofs.Stores.SlotStores.{Acts}
-use Rattle.tj_words.proofs.Stores.LawChanges.{law_chains}
-use Rattle.tj_words.proofs.SeatLoads.LoadSteps.{knows_so}
 use Rattle.tj_words.proofs.SeatLoads.KnowLoads.{task_in, shut_is, tag_some}
 use Rattle.tj_words.proofs.SeatLoads.HeadLoads.{head_allowed}
 use Rattle.tj_words.proofs.Waiters.ChainHeads.{nexts, pushes, shuts, shuts_again}

@@ -9,20 +9,16 @@ use Rattle.tj_words.proofs.Prelude.{stop_at, subst, suc, sym, with_tokens, witho
 use Rattle.tj_words.proofs.Prelude.{◌-◌, ◌<◌, ◌^◌, ◌∙◌, ◌∷◌, ◌≡◌, ◌≤◌}
 use Rattle.tj_words.specs.Calls.LiveViews.{MayRaiseLive, MayLowerLive, live_add, live_sub, stop_store}
 use Rattle.tj_words.specs.SeatViews.Views.{stored_stop}
-use Rattle.tj_words.proofs.Stores.SeatLists.{of_seat_here, of_seat_set}
-use Rattle.tj_words.proofs.Stores.SeatContents.{seats_same}
-use Rattle.tj_words.proofs.Stores.StoreSteps.{Stores, step_allowed, rule_stores, store_word}
+use Rattle.tj_words.proofs.Lemmas.{Live, Stop, Stores, custody, holder_seat, noted_is, of_seat_here, of_seat_set}
+use Rattle.tj_words.proofs.Lemmas.{rule_stores, seats_same, step_allowed, store_word, stored, stored_with}
 use Rattle.tj_words.proofs.Waiters.StopSteps.{law_stops}
 use Rattle.tj_words.proofs.Meaning.MeaningSteps.{refused_above}
-use Rattle.tj_words.proofs.Stores.TableWords.{Live, Stop}
 use Rattle.tj_words.proofs.Stores.SlotStores.{StoresWith, Acts, store_word_with}
 use Rattle.tj_words.proofs.Stores.GivenSlots.{acts_giving}
 use Rattle.tj_words.proofs.SeatLoads.LoadSteps.{live_small}
 use Rattle.tj_words.proofs.Waiters.LiveStores.{live_some, live_up_stores, live_down_stores}
 use Rattle.tj_words.proofs.Waiters.LiveSteps.{count_up, count_down, backed_lively, backing_token}
-use Rattle.tj_words.proofs.Holders.TaskPlaces.{custody}
 use Rattle.tj_words.proofs.Holders.HeldChanges.{held_task}
-use Rattle.tj_words.proofs.Holders.NotedTasks.{noted_is, holder_seat}
 use Rattle.tj_words.proofs.Events.StepFacts.{facts_same}
 use Rattle.tj_words.proofs.Events.QuietMoves.{shelve_shown}
 use Rattle.tj_words.proofs.Holders.LaidRecords.{tokens_at, tasks_at, hand_at, laid_slots, as_many, lies, cells_there}
@@ -31,7 +27,6 @@ use Rattle.tj_words.proofs.Phases.Departures.{Departs, after_leaving, does_leave
 use Rattle.tj_words.proofs.Holders.LeftSeats.{left_seat}
 use Rattle.tj_words.proofs.Phases.HomeComings.{after_home, law_home, moves}
 use Rattle.tj_words.proofs.Calls.KeptCells.{kept_moved}
-use Rattle.tj_words.proofs.Stores.StepContents.{stored, stored_with}
 use Rattle.tj_words.specs.declared.phase.Phase.TheVariants as phase
 use Rattle.tj_words.specs.declared.phase.Walk.TheVariants as walk
 use Rattle.tj_words.specs.declared.view.Does.TheVariants as does

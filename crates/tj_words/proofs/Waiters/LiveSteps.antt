@@ -7,8 +7,7 @@ use Rattle.tj_words.proofs.Prelude.{State, View, [], ap, arith, at_map, contents
 use Rattle.tj_words.proofs.Prelude.{inl, inr, live_part, live_tasks, map, phase_of, put, refl, set, some}
 use Rattle.tj_words.proofs.Prelude.{some-injective, some-ne-none, subst, suc, sym, total, true, zero, ℕ, ℕ_discrete}
 use Rattle.tj_words.proofs.Prelude.{⊎_elim, ◌+◌, ◌-◌, ◌<◌, ◌∙◌, ◌∷◌, ◌≡◌, ◌≢◌, ◌≤◌, ◌⊎◌}
-use Rattle.tj_words.proofs.Stores.StoreSteps.{put_here, put_else}
-use Rattle.tj_words.proofs.Seating.Splitting.{total_set}
+use Rattle.tj_words.proofs.Lemmas.{put_else, put_here, total_set}
 use Rattle.tj_words.proofs.Waiters.ChainLists.{no_some, none_or}
 use Rattle.tj_words.proofs.Waiters.ChainFacts.{not_empty}
 use Rattle.tj_words.proofs.Waiters.ChainsSaid.{shut_or}

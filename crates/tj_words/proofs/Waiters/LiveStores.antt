@@ -3,10 +3,7 @@ use Rattle.tj_words.proofs.Prelude.{Backing, Bool, IsBacked, IsLively, Key, Live
 use Rattle.tj_words.proofs.Prelude.{SeatsHave, State, View, ap, arith, at_map, contents_of, get_elem?, length, live_at}
 use Rattle.tj_words.proofs.Prelude.{seats_have, set, some, suc, with_tokens, word, words_say, ℕ, ◌-◌, ◌<◌, ◌∙◌, ◌≡◌}
 use Rattle.tj_words.proofs.Prelude.{◌≤◌}
-use Rattle.tj_words.proofs.Stores.SeatContents.{seats_same}
-use Rattle.tj_words.proofs.Stores.StoreSteps.{Stores, store_word}
-use Rattle.tj_words.proofs.Stores.StepContents.{stored}
-use Rattle.tj_words.proofs.Stores.TableWords.{Live}
+use Rattle.tj_words.proofs.Lemmas.{Live, Stores, seats_same, store_word, stored}
 use Rattle.tj_words.proofs.Waiters.LiveSteps.{count_up, count_down, held_in_phase, lively_live, backed_lively}
 use Rattle.tj_words.proofs.Waiters.LiveSteps.{backing_token}
 use Rattle.tj_words.proofs.Stores.LawChanges.{law_live}

@@ -6,10 +6,8 @@ use Rattle.tj_words.proofs.Prelude.{others_at, parts_of, phase_of, refl, seats_h
 use Rattle.tj_words.proofs.Prelude.{total, turned, word, words_say, ℕ, ◌%◌, ◌+◌, ◌-◌, ◌<◌, ◌^◌, ◌≡◌}
 use Rattle.tj_words.specs.Calls.WalkViews.{others_add, others_subtraction}
 use Rattle.tj_words.proofs.Stores.LawChanges.{law_counts}
-use Rattle.tj_words.proofs.Stores.SeatContents.{set_seats, seats_same}
-use Rattle.tj_words.proofs.Seating.Splitting.{total_set}
+use Rattle.tj_words.proofs.Lemmas.{Stores, seats_same, set_seats, step_allowed, store_word, total_set}
 use Rattle.tj_words.proofs.Events.StepFacts.{facts_after}
-use Rattle.tj_words.proofs.Stores.StoreSteps.{Stores, step_allowed, store_word}
 use Rattle.tj_words.proofs.Stores.TableWords.{Others}
 use Rattle.tj_words.proofs.Events.WaitClears.{lower_shown}
 use Rattle.tj_words.proofs.Events.WalkEvents.{raise_shown}

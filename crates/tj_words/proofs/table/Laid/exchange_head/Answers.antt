@@ -1,5 +1,5 @@
 use Rattle.tj_words.proofs.Prelude.{arith, either, eqb, push_exchange, refl, sym, ◌+◌, ◌∙◌}
-use Rattle.tj_words.proofs.SeatLoads.MomentSteps.{moment_allowed, so_too}
+use Rattle.tj_words.proofs.Lemmas.{moment_allowed, so_too}
 use Rattle.tj_words.proofs.Waiters.HeadSteps.{push_allowed, is_open}
 use Rattle.tj_words.proofs.table.Laid.exchange_head.Goals as goal
 

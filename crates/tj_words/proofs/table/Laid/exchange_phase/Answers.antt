@@ -1,6 +1,6 @@
 use Rattle.tj_words.proofs.Prelude.{arith, either, eqb, phase_swap, refl, sym, ◌∙◌}
 use Rattle.tj_words.proofs.Phases.PhaseExchanges.{swap_allowed}
-use Rattle.tj_words.proofs.SeatLoads.MomentSteps.{moment_allowed, so_too}
+use Rattle.tj_words.proofs.Lemmas.{moment_allowed, so_too}
 use Rattle.tj_words.proofs.table.Laid.exchange_phase.Goals as goal
 
 pub compare_exchange-requires : goal.compare_exchange-requires

@@ -1,6 +1,6 @@
 use Rattle.tj_words.proofs.Prelude.{arith, live_at, live_load}
 use Rattle.tj_words.proofs.SeatLoads.LoadSteps.{live_allowed}
-use Rattle.tj_words.proofs.SeatLoads.MomentSteps.{moment_allowed}
+use Rattle.tj_words.proofs.Lemmas.{moment_allowed}
 use Rattle.tj_words.proofs.table.Laid.live.Goals as goal
 
 pub load-requires : goal.load-requires

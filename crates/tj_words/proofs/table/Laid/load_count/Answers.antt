@@ -1,6 +1,6 @@
 use Rattle.tj_words.proofs.Prelude.{IsCount, arith, count_at, plain_load, sym, ◌∙◌}
 use Rattle.tj_words.proofs.SeatLoads.LoadSteps.{count_allowed}
-use Rattle.tj_words.proofs.SeatLoads.MomentSteps.{moment_allowed}
+use Rattle.tj_words.proofs.Lemmas.{moment_allowed}
 use Rattle.tj_words.specs.declared.view.Noted.TheVariants as note
 use Rattle.tj_words.proofs.table.Laid.load_count.Goals as goal
 

@@ -1,6 +1,6 @@
 use Rattle.tj_words.proofs.Prelude.{NextTold, arith, head_in, next_load, refl, subst, sym, ◌∙◌}
 use Rattle.tj_words.proofs.SeatLoads.KnowLoads.{next_allowed}
-use Rattle.tj_words.proofs.SeatLoads.MomentSteps.{moment_allowed, so_too}
+use Rattle.tj_words.proofs.Lemmas.{moment_allowed, so_too}
 use Rattle.tj_words.proofs.table.Laid.load_next.Goals as goal
 
 pub load-requires : goal.load-requires

@@ -1,6 +1,6 @@
 use Rattle.tj_words.proofs.Prelude.{arith, plain_load, refl, sym, ◌∙◌, ◌≤◌}
 use Rattle.tj_words.proofs.SeatLoads.LoadSteps.{owner_allowed}
-use Rattle.tj_words.proofs.SeatLoads.MomentSteps.{moment_allowed, so_too}
+use Rattle.tj_words.proofs.Lemmas.{moment_allowed, so_too}
 use Rattle.tj_words.specs.declared.view.Noted.TheVariants as note
 use Rattle.tj_words.proofs.table.Laid.load_owner.Goals as goal
 

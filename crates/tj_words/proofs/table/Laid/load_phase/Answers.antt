@@ -1,6 +1,6 @@
 use Rattle.tj_words.proofs.Prelude.{FirstTold, arith, phase_in, phase_load, refl, subst, sym, ◌∙◌}
 use Rattle.tj_words.proofs.SeatLoads.PhaseLoads.{phase_allowed}
-use Rattle.tj_words.proofs.SeatLoads.MomentSteps.{moment_allowed, so_too}
+use Rattle.tj_words.proofs.Lemmas.{moment_allowed, so_too}
 use Rattle.tj_words.proofs.table.Laid.load_phase.Goals as goal
 
 pub load-requires : goal.load-requires

@@ -1,6 +1,6 @@
 use Rattle.tj_words.proofs.Prelude.{arith, program_of, stop_at, stop_load}
 use Rattle.tj_words.proofs.SeatLoads.StopLoads.{stop_allowed}
-use Rattle.tj_words.proofs.SeatLoads.MomentSteps.{moment_allowed}
+use Rattle.tj_words.proofs.Lemmas.{moment_allowed}
 use Rattle.tj_words.proofs.table.Laid.stopped.Goals as goal
 
 pub load-requires : goal.load-requires

@@ -1,6 +1,6 @@
 use Rattle.tj_words.proofs.Prelude.{IsCount, arith, count_at, count_read, min, sym, walk_load, ◌∙◌}
 use Rattle.tj_words.proofs.SeatLoads.WalkLoads.{count_read_allowed}
-use Rattle.tj_words.proofs.SeatLoads.MomentSteps.{moment_allowed}
+use Rattle.tj_words.proofs.Lemmas.{moment_allowed}
 use Rattle.tj_words.proofs.table.Laid.walker_count.Goals as goal
 
 pub load-requires : goal.load-requires

@@ -1,6 +1,6 @@
 use Rattle.tj_words.proofs.Prelude.{arith, others_at, others_read, walk_load, ◌<◌, ◌^◌}
 use Rattle.tj_words.proofs.SeatLoads.WalkLoads.{others_read_allowed}
-use Rattle.tj_words.proofs.SeatLoads.MomentSteps.{moment_allowed}
+use Rattle.tj_words.proofs.Lemmas.{moment_allowed}
 use Rattle.tj_words.proofs.table.Laid.walker_others.Goals as goal
 
 pub load-requires : goal.load-requires

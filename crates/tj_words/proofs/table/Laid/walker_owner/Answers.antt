@@ -1,6 +1,6 @@
 use Rattle.tj_words.proofs.Prelude.{arith, owner_in, owner_seen, refl, sym, walk_load, ◌∙◌, ◌≤◌}
 use Rattle.tj_words.proofs.SeatLoads.WalkLoads.{owner_read_allowed}
-use Rattle.tj_words.proofs.SeatLoads.MomentSteps.{moment_allowed, so_too}
+use Rattle.tj_words.proofs.Lemmas.{moment_allowed, so_too}
 use Rattle.tj_words.proofs.table.Laid.walker_owner.Goals as goal
 
 pub load-requires : goal.load-requires
