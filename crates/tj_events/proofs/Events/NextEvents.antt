@@ -49,15 +49,14 @@ next_actor t way len bound Changed = refl
 -- a walk that is at its end settles
 next_settles : (t : ℕ) (way : Way) (len bound : ℕ) (a : LastRead) → EndsWalk len bound a → Settle (cell t) ≡ next t way
     len bound a
-next_settles t way len bound Published h = absurd h
 next_settles t way len bound (SawOthers n) h = rw (eq-eqb n 0 h) refl
-next_settles t way len bound Counted h = absurd h
 next_settles t way len bound (SawOwner None) h = refl
 next_settles t way len bound (SawOwner (Some u)) h = absurd (cc)
 next_settles t way len bound (SawWait u None) h = refl
 next_settles t way len bound (SawWait u (Some v)) h = absurd (cc)
 next_settles t way len bound Passed h = rw (eq-eqb len bound h) refl
 next_settles t way len bound Changed h = refl
+next_settles t way len bound a h = absurd h
 
 module _ (N : ℕ) (s : CoreState) (t c : ℕ) (way : Way) (w : Walker) (is : stage s.cells t ≡ waits c way (walks w)) where
   abbrev turn : Event

@@ -20,13 +20,12 @@ use Rattle.tj_events.proofs.OneCell.WaitChanges.{walker_of, last_read_is, restag
 -- a walk that ends is off course
 pub off_course : (cells : Cells) (n c : ℕ) (w : Walker) (a : LastRead)
     → EndsWalk (length w.trail) w.bound a → IsOnCourse cells n c w a → ⊥
-off_course cells n c w Published o k = o
 off_course cells n c w (SawOthers j) o k = omega arith
-off_course cells n c w Counted o k = o
 off_course cells n c w (SawOwner q) o k = some_none k.1.1 o
 off_course cells n c w (SawWait u q) o k = some_none k.2.1 o
 off_course cells n c w Passed o k = let a = k.0 in let b = k.1 in omega arith
 off_course cells n c w Changed o k = k
+off_course cells n c w a o k = o
 
 module _ (s : CoreState) (x : CoreFacts s) (task : CellId) where
   abbrev t : ℕ

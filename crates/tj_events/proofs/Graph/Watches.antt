@@ -36,12 +36,11 @@ module _ (s s' : CoreState) (f : Frame s s') where
       → IsOnCourse s.cells n p w a
       → IsOnCourse s'.cells n p w a
   course_keeps n p u w Published is c h = tt
-  course_keeps n p u w (SawOthers k) is c h = h
   course_keeps n p u w Counted is c h = course_by n p u w Counted is c h.2 h
   course_keeps n p u w (SawOwner o) is c h = course_by n p u w (SawOwner o) is c h.0.2 h
   course_keeps n p u w (SawWait x o) is c h = course_by n p u w (SawWait x o) is c h.0.2 h
   course_keeps n p u w Passed is c h = course_by n p u w Passed is c h.2 h
-  course_keeps n p u w Changed is c h = h
+  course_keeps n p u w a is c h = h
 
   -- a task on a cycle that takes no part in the event goes on to watch it
   pub watch_keeps : (n u : ℕ) (st : CellStage)

@@ -38,14 +38,8 @@ module _ (s s' : CoreState) (f : Frame s s') where
 
   -- a cell that was read stays there
   pub read_stays : (a : LastRead) → IsReadThere s.count a → IsReadThere s'.count a
-  read_stays Published h = h
-  read_stays (SawOthers n) h = h
-  read_stays Counted h = h
-  read_stays (SawOwner o) h = h
-  read_stays (SawWait u None) h = h
   read_stays (SawWait u (Some v)) h = lt_of_lt_of_le h f.grows
-  read_stays Passed h = h
-  read_stays Changed h = h
+  read_stays a h = h
 
   -- what goes on while the wait of u for w does goes on, or the cell is closed
   or_closed : (u w : ℕ) (P Q : Type 0) → (P → wait s.cells u ≡ Some w) → (P → wait s'.cells u ≡ Some w → Q)
@@ -92,16 +86,13 @@ module _ (s s' : CoreState) (f : Frame s s') where
       → wait s.cells t ≡ Some p
       → IsLastRead s.count s.cells t c tr a
       → IsLastRead s'.count s'.cells t c tr a
-  last_read_stays t p c tr Published h w r = r
-  last_read_stays t p c tr (SawOthers n) h w r = r
-  last_read_stays t p c tr Counted h w r = r
   last_read_stays t p c tr (SawOwner None) h w r = tt
   last_read_stays t p c tr (SawOwner (Some u)) h w r = owner_stays t p c u w r
-  last_read_stays t p c tr (SawWait u None) h w r = r
   last_read_stays t p c tr (SawWait u (Some v)) h w r =
       (r.0, f.begins u r.1, λ e. waits_on u v (r.2 (f.back c u h r.1 e)))
   last_read_stays t p c tr Passed h w r = tt
   last_read_stays t p c tr Changed h w r = tt
+  last_read_stays t p c tr a h w r = r
 
   -- a wait for an owned cell goes on
   pub wait_stays : (u w v : ℕ) → wait s.cells u ≡ Some w → owner s.cells w ≡ Some v → wait s'.cells u ≡ Some w
@@ -132,7 +123,6 @@ module _ (s s' : CoreState) (f : Frame s s') where
   pub course_stays : (n p v : ℕ) (w : Walker) (a : LastRead)
       → IsOwnedOn p v w.trail → IsOnCourse s.cells n p w a → IsOnCourse s'.cells n p w a
   course_stays n p v w Published o h = tt
-  course_stays n p v w (SawOthers k) o h = h
   course_stays n p v w Counted o h = (h.0, h.1, chain_stays p v w.trail o.0 h.2)
   course_stays n p v w (SawOwner k) o h = (
     (h.0.0, h.0.1, chain_stays p v w.trail o.0 h.0.2),
@@ -152,4 +142,4 @@ module _ (s s' : CoreState) (f : Frame s s') where
         ),
       )
   course_stays n p v w Passed o h = (h.0, h.1, chain_stays p v w.trail o.0 h.2)
-  course_stays n p v w Changed o h = h
+  course_stays n p v w a o h = h
