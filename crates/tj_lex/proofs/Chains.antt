@@ -60,23 +60,7 @@ list_all-stays p fails (b ∷ bytes) all =
 
 mark_text-stays : (mark : Mark) → list_all stays_on_line (mark_text mark) ≡ true
 mark_text-stays marks.ParenOpen = refl
-mark_text-stays marks.ParenClose = refl
-mark_text-stays marks.BraceOpen = refl
-mark_text-stays marks.BraceClose = refl
-mark_text-stays marks.Comma = refl
-mark_text-stays marks.Semi = refl
-mark_text-stays marks.Assign = refl
-mark_text-stays marks.Eq = refl
-mark_text-stays marks.Ne = refl
-mark_text-stays marks.Lt = refl
-mark_text-stays marks.Le = refl
-mark_text-stays marks.Gt = refl
-mark_text-stays marks.Ge = refl
-mark_text-stays marks.Plus = refl
-mark_text-stays marks.Minus = refl
-mark_text-stays marks.Times = refl
-mark_text-stays marks.Over = refl
-mark_text-stays marks.Rest = refl
+mark_text-stays mark = refl
 
 -- a token stands on one line
 pub Spells-line : (text bytes : List ℕ) (what : Tok) → Spells text bytes what → list_all stays_on_line bytes ≡ true

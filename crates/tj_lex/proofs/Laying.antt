@@ -53,45 +53,16 @@ no-second c b (a ∷ after) ends starts =
 -- a mark is at most two bytes long
 mark_text-short : (mark : Mark) → length (mark_text mark) ≤ 2
 mark_text-short marks.ParenOpen = lit≤ tt
-mark_text-short marks.ParenClose = lit≤ tt
-mark_text-short marks.BraceOpen = lit≤ tt
-mark_text-short marks.BraceClose = lit≤ tt
-mark_text-short marks.Comma = lit≤ tt
-mark_text-short marks.Semi = lit≤ tt
-mark_text-short marks.Assign = lit≤ tt
-mark_text-short marks.Eq = lit≤ tt
-mark_text-short marks.Ne = lit≤ tt
-mark_text-short marks.Lt = lit≤ tt
-mark_text-short marks.Le = lit≤ tt
-mark_text-short marks.Gt = lit≤ tt
-mark_text-short marks.Ge = lit≤ tt
-mark_text-short marks.Plus = lit≤ tt
-mark_text-short marks.Minus = lit≤ tt
-mark_text-short marks.Times = lit≤ tt
-mark_text-short marks.Over = lit≤ tt
-mark_text-short marks.Rest = lit≤ tt
+mark_text-short mark = lit≤ tt
 
 -- the second is an equals sign
 mark_text-second : (mark : Mark) (b : ℕ) (after : List ℕ) → begins_with (λ a. a == 61) after ≡ false
     → StartsWith (mark_text mark) (b ∷ after) → length (mark_text mark) ≤ 1
-mark_text-second marks.ParenOpen b after ends starts = lit≤ tt
-mark_text-second marks.ParenClose b after ends starts = lit≤ tt
-mark_text-second marks.BraceOpen b after ends starts = lit≤ tt
-mark_text-second marks.BraceClose b after ends starts = lit≤ tt
-mark_text-second marks.Comma b after ends starts = lit≤ tt
-mark_text-second marks.Semi b after ends starts = lit≤ tt
-mark_text-second marks.Assign b after ends starts = lit≤ tt
 mark_text-second marks.Eq b after ends starts = absurd (no-second _ b after ends starts)
 mark_text-second marks.Ne b after ends starts = absurd (no-second _ b after ends starts)
-mark_text-second marks.Lt b after ends starts = lit≤ tt
 mark_text-second marks.Le b after ends starts = absurd (no-second _ b after ends starts)
-mark_text-second marks.Gt b after ends starts = lit≤ tt
 mark_text-second marks.Ge b after ends starts = absurd (no-second _ b after ends starts)
-mark_text-second marks.Plus b after ends starts = lit≤ tt
-mark_text-second marks.Minus b after ends starts = lit≤ tt
-mark_text-second marks.Times b after ends starts = lit≤ tt
-mark_text-second marks.Over b after ends starts = lit≤ tt
-mark_text-second marks.Rest b after ends starts = lit≤ tt
+mark_text-second mark b after ends starts = lit≤ tt
 
 -- a mark that no equals sign follows is the longest
 longest-mark : (bytes after : List ℕ) (other : Mark) → 0 < length bytes → begins_with (λ a. a == 61) after ≡ false

@@ -34,20 +34,7 @@ key_of bytes =
 
 key_of-text : (key : Key) → key_of (key_text key) ≡ key
 key_of-text keys.Task = refl
-key_of-text keys.Let = refl
-key_of-text keys.If = refl
-key_of-text keys.Else = refl
-key_of-text keys.While = refl
-key_of-text keys.Print = refl
-key_of-text keys.Set = refl
-key_of-text keys.Return = refl
-key_of-text keys.New = refl
-key_of-text keys.Fork = refl
-key_of-text keys.Own = refl
-key_of-text keys.Get = refl
-key_of-text keys.Join = refl
-key_of-text keys.Me = refl
-key_of-text keys.Or = refl
+key_of-text key = refl
 
 -- no two are spelled alike
 pub key_text-one : (a b : Key) → key_text a ≡ key_text b → a ≡ b
@@ -77,23 +64,7 @@ mark_of bytes =
 
 mark_of-text : (mark : Mark) → mark_of (mark_text mark) ≡ mark
 mark_of-text marks.ParenOpen = refl
-mark_of-text marks.ParenClose = refl
-mark_of-text marks.BraceOpen = refl
-mark_of-text marks.BraceClose = refl
-mark_of-text marks.Comma = refl
-mark_of-text marks.Semi = refl
-mark_of-text marks.Assign = refl
-mark_of-text marks.Eq = refl
-mark_of-text marks.Ne = refl
-mark_of-text marks.Lt = refl
-mark_of-text marks.Le = refl
-mark_of-text marks.Gt = refl
-mark_of-text marks.Ge = refl
-mark_of-text marks.Plus = refl
-mark_of-text marks.Minus = refl
-mark_of-text marks.Times = refl
-mark_of-text marks.Over = refl
-mark_of-text marks.Rest = refl
+mark_of-text mark = refl
 
 -- no two are spelled alike
 pub mark_text-one : (a b : Mark) → mark_text a ≡ mark_text b → a ≡ b
@@ -102,20 +73,7 @@ mark_text-one a b e = sym (mark_of-text a) ∙ ap mark_of e ∙ mark_of-text b
 -- a keyword is no longer than a name
 pub key_text-short : (key : Key) → length (key_text key) ≤ longest_name
 key_text-short keys.Task = lit≤ tt
-key_text-short keys.Let = lit≤ tt
-key_text-short keys.If = lit≤ tt
-key_text-short keys.Else = lit≤ tt
-key_text-short keys.While = lit≤ tt
-key_text-short keys.Print = lit≤ tt
-key_text-short keys.Set = lit≤ tt
-key_text-short keys.Return = lit≤ tt
-key_text-short keys.New = lit≤ tt
-key_text-short keys.Fork = lit≤ tt
-key_text-short keys.Own = lit≤ tt
-key_text-short keys.Get = lit≤ tt
-key_text-short keys.Join = lit≤ tt
-key_text-short keys.Me = lit≤ tt
-key_text-short keys.Or = lit≤ tt
+key_text-short key = lit≤ tt
 
 -- a mark begins with no byte of a gap, a name or a number
 abbrev is_other_start : ℕ → Bool
@@ -123,43 +81,11 @@ is_other_start b = is_gap_start b || (is_name_start b || is_ascii_digit b)
 
 mark_text-start : (mark : Mark) → begins_with is_other_start (mark_text mark) ≡ false
 mark_text-start marks.ParenOpen = refl
-mark_text-start marks.ParenClose = refl
-mark_text-start marks.BraceOpen = refl
-mark_text-start marks.BraceClose = refl
-mark_text-start marks.Comma = refl
-mark_text-start marks.Semi = refl
-mark_text-start marks.Assign = refl
-mark_text-start marks.Eq = refl
-mark_text-start marks.Ne = refl
-mark_text-start marks.Lt = refl
-mark_text-start marks.Le = refl
-mark_text-start marks.Gt = refl
-mark_text-start marks.Ge = refl
-mark_text-start marks.Plus = refl
-mark_text-start marks.Minus = refl
-mark_text-start marks.Times = refl
-mark_text-start marks.Over = refl
-mark_text-start marks.Rest = refl
+mark_text-start mark = refl
 
 pub mark_text-some : (mark : Mark) → 0 < length (mark_text mark)
 mark_text-some marks.ParenOpen = lit< tt
-mark_text-some marks.ParenClose = lit< tt
-mark_text-some marks.BraceOpen = lit< tt
-mark_text-some marks.BraceClose = lit< tt
-mark_text-some marks.Comma = lit< tt
-mark_text-some marks.Semi = lit< tt
-mark_text-some marks.Assign = lit< tt
-mark_text-some marks.Eq = lit< tt
-mark_text-some marks.Ne = lit< tt
-mark_text-some marks.Lt = lit< tt
-mark_text-some marks.Le = lit< tt
-mark_text-some marks.Gt = lit< tt
-mark_text-some marks.Ge = lit< tt
-mark_text-some marks.Plus = lit< tt
-mark_text-some marks.Minus = lit< tt
-mark_text-some marks.Times = lit< tt
-mark_text-some marks.Over = lit< tt
-mark_text-some marks.Rest = lit< tt
+mark_text-some mark = lit< tt
 
 begins_with-front : (test : ℕ → Bool) (bytes text : List ℕ) → StartsWith bytes text → 0 < length bytes
     → begins_with test text ≡ begins_with test bytes
