@@ -1,40 +1,28 @@
 -- Tasks that wait in the fork order for tasks of a meaning: none waits.
-use Rattle.std.proofs.Common.{◌≡◌, ℕ, zero, suc, ◌+◌, ◌*◌, ◌<◌, ◌≤◌, Bool, true, false, inl, inr, ⊎_elim}
-use Rattle.std.proofs.Common.{List, [], ◌∷◌, ◌++◌, map, Option, Some, None, refl, sym, ap}
-use Rattle.std.proofs.Common.{◌∙◌, subst, arith}
+use Rattle.std.proofs.Common.{◌≡◌, ℕ, zero, suc, ◌+◌, ◌*◌, ◌<◌, ◌≤◌, Bool, true, false, inl, inr, ⊎_elim, List, []}
+use Rattle.std.proofs.Common.{Some, None, refl, sym, ap, ◌∙◌, subst, arith}
 use Rattle.tj_base.specs.ForkOrder.{Name, before}
 use Rattle.tj_base.proofs.Orders.{before_tells, before-self, before-trans}
-use Rattle.tj_body.specs.Names.{same, in_order}
-use Rattle.tj_body.specs.Programs.{Rules, Program, AreLawful, root_task}
-use Rattle.tj_body.specs.History.{Assignment, with_entry}
-use Rattle.tj_body.specs.History.{after_read, after_look, after_stage, point_after, history}
+use Rattle.tj_body.specs.Names.{same}
+use Rattle.tj_body.specs.Programs.{Program, AreLawful, root_task}
+use Rattle.tj_body.specs.History.{Assignment, history}
 use Rattle.tj_body.specs.Rounds.{given, tasks, last_round, meaning, IsFull}
 use Rattle.tj_body.specs.Points.{IsIn, IsProper, HasStopped}
 use Rattle.tj_body.specs.NeverWaits.{NoneWaits, WaitInOrder}
-use Rattle.tj_body.specs.Inner.AskSteps.{IsAskStep, fails, ends, makes, forks, sets, gets, joins, prints}
-use Rattle.tj_body.specs.declared.ask.Ask.{Ask}
-use Rattle.tj_body.specs.declared.point.Value.TheVariants as value
 use Rattle.tj_body.specs.declared.point.Entry.{Entry}
-use Rattle.tj_body.specs.declared.point.Entry.TheVariants as entry
 use Rattle.tj_body.specs.declared.point.Close.{Close}
 use Rattle.tj_body.specs.declared.point.PointStage.{PointStage}
 use Rattle.tj_body.specs.declared.point.PointStage.TheVariants as stage
 use Rattle.tj_body.specs.declared.point.Task.{Task}
 use Rattle.tj_body.specs.declared.point.Point.{Point}
-use Rattle.tj_body.proofs.Histories.AskSteps.{is_ask_step}
-use Rattle.tj_body.proofs.Lists.{in_right, in_map}
+use Rattle.tj_body.proofs.Lists.{in_map}
 use Rattle.tj_body.proofs.Counts.{one_if, is, is_one, same_is, total, total_le, total_add, total_in}
+use Rattle.tj_body.proofs.Histories.EndedPoints.{HasClosedIn, closes_whole, result_of}
 use Rattle.tj_body.proofs.Histories.Good.{task_proper}
 use Rattle.tj_body.proofs.Histories.Points.{stopped}
 use Rattle.tj_body.proofs.Rounds.Rises.{tasks_within}
 use Rattle.tj_body.proofs.Rounds.Settles.{is_last}
 use Rattle.tj_body.proofs.Rounds.Keeps.{written}
-
--- what a task with this name has written where it has ended: what became of its result
-abbrev TellsAt : PointStage → Name → List (Name × Entry) → Type 0
-TellsAt (stage.Answered a) x writes = Unit {0}
-TellsAt (stage.Waits q spare) x writes = Unit {0}
-TellsAt (stage.Closed e) x writes = (r : Entry) × IsIn (x, r) writes
 
 -- the name in a wait
 abbrev pub cell_in : PointStage → Name
@@ -43,48 +31,6 @@ cell_in (stage.Waits q spare) = q
 cell_in (stage.Closed e) = []
 
 module _ {B : Type 0} where
-  -- the task has written it, if it has ended
-  abbrev TellsOwn : Point B → Type 0
-  TellsOwn p = TellsAt p.stage p.name p.writes
-
-  -- a close writes it
-  closes : (r : Entry) (p : Point B)
-      → (x : Entry) × IsIn (p.name, x) (p.writes ++ (p.name, r) ∷ map (with_entry entry.Broken) (in_order p.holds))
-  closes r p = (r, in_right (p.name, r) p.writes _ (inl refl))
-
-  ask_steps : (strict : Bool) (p : Point B) (a : Ask B) (p' : Point B) → IsAskStep strict p a p' → TellsOwn p'
-  ask_steps strict p _ _ (fails a c) = closes _ p
-  ask_steps strict p _ _ (ends v) = closes _ p
-  ask_steps strict p _ _ makes = tt
-  ask_steps strict p _ _ (forks b pass hand l e) = tt
-  ask_steps strict p _ _ (sets k v s o) = tt
-  ask_steps strict p _ _ (gets spare k s) = tt
-  ask_steps strict p _ _ (joins spare k s o) = tt
-  ask_steps strict p _ _ (prints i) = tt
-
-  reads : (spare : Bool) (c : Name) (x : Entry) (p : Point B) → TellsOwn (after_read spare c x p)
-  reads true c entry.Broken p = tt
-  reads false c entry.Broken p = closes _ p
-  reads spare c (entry.Value (value.Num i)) p = tt
-  reads spare c (entry.Value (value.Ref r)) p = tt
-
-  looks : (spare : Bool) (c : Name) (o : Option Entry) (p : Point B) → TellsOwn p → TellsOwn (after_look spare c o p)
-  looks spare c None p g = g
-  looks spare c (Some x) p g = reads spare c x p
-
-  module _ (rules : Rules B) (V : Assignment) where
-    goes : (st : PointStage) (p : Point B) → TellsOwn p → TellsOwn (after_stage rules V st p)
-    goes (stage.Answered a) p g =
-        let ask = rules.asks p.body a in let next : Point B = record p { body = rules.then p.body a } in
-        ask_steps rules.strict next ask _ (is_ask_step rules.strict next ask)
-    goes (stage.Waits c spare) p g = looks spare c (V c) p g
-    goes (stage.Closed x) p g = g
-
-    -- each point of a task tells of its result
-    pub tells_own : (t : Task B) (k : ℕ) → TellsOwn (point_after rules V k t)
-    tells_own t zero = tt
-    tells_own t (suc k) = let p = point_after rules V k t in goes p.stage p (tells_own t k)
-
   -- how many of the tasks come after this one in the fork order
   abbrev after : List (Point B) → Name → ℕ
   after ps x = total (λ (u : Point B). one_if (before x u.name)) ps
@@ -147,12 +93,12 @@ module _ {B : Type 0} (program : Program B) (obeys : AreLawful program.rules)
     has_entry t i e c =
         let n = last_round N in
         let k = 2 * suc (program.rules.left t.body) in
-        let own = subst (λ z. TellsAt z (history_of t).name (history_of t).writes) c
-        (tells_own program.rules V t k) in
+        let own = subst (λ z. HasClosedIn z (history_of t).name (history_of t).writes (history_of t).holds) c
+        (closes_whole program.rules V t k) in
         let there = tasks_within program n (suc n) (omega arith) t i in
         let w = written program obeys proper n t (history_of t) there (k, refl)
-        (history_of t).name own.0 own.1 in
-        (own.0, ((is_last program N fits).0 (suc n)).1 (history_of t).name own.0 w)
+        (history_of t).name (result_of e) own.wrote in
+        (result_of e, ((is_last program N fits).0 (suc n)).1 (history_of t).name (result_of e) w)
 
     -- a task whose result has no entry waits
     waits_too : (u : Point B) → IsIn u points → V u.name ≡ None
