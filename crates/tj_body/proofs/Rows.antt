@@ -1,9 +1,7 @@
 -- The asks of a table's body are those of its rows, in order.
-use Rattle.std.proofs.Common.{◌≡◌, ◌≤◌, ◌<◌, ℕ, suc, ◌+◌, inl, inr, true, pos, List, [], ◌∷◌, length, get_or}
-use Rattle.std.proofs.Common.{drop, refl, sym, subst, ap, ◌∙◌, arith, drop-cons}
+use Rattle.std.proofs.Common.{◌≡◌, ◌≤◌, ◌<◌, ℕ, suc, ◌+◌, inl, inr, pos, List, [], ◌∷◌, length, get_or, drop, refl, sym}
+use Rattle.std.proofs.Common.{ap, ◌∙◌, arith, drop-cons}
 use Rattle.std.proofs.lemmas.Option.{slice_get_cases, slice_get_read, slice_get_past}
-use Rattle.std.proofs.lemmas.List.Sums.{AllPass-from_list_all}
-use Rattle.std.specs.Cmp.{second_so}
 use Rattle.tj_base.specs.declared.value.Pay.TheVariants as pay
 use Rattle.std.proofs.lemmas.List.{drop_all}
 use Rattle.tj_body.specs.Asks.{new_places}
@@ -13,9 +11,9 @@ use Rattle.tj_body.specs.declared.ask.Ask.TheVariants as ask
 use Rattle.tj_body.specs.declared.table.Row.{Row}
 use Rattle.tj_body.specs.declared.table.Row.TheVariants as row
 use Rattle.tj_body.specs.declared.table.TableBody.{TableBody}
-use Rattle.tj_body.specs.Table.{is_row, row_ask, rows_of, row_or_end, ask_at, table_asks, table_then, asks_given}
-use Rattle.tj_body.specs.Table.{asks_of_rows}
-use Rattle.tj_body.specs.Inner.TableLaws.{IsUnderWay, RowAt}
+use Rattle.tj_body.specs.Table.{row_ask, rows_of, row_or_end, ask_at, table_asks, table_then, asks_of_rows}
+use Rattle.tj_body.specs.RowLists.{asks_given}
+use Rattle.tj_body.specs.Inner.RowListLaws.{RowAt}
 
 -- the body some rows further, whose task has n places
 abbrev further : TableBody → ℕ → ℕ → TableBody
@@ -24,15 +22,7 @@ further b k n = record b { row = k; places = n }
 -- a row's ask is the same wherever the body stands
 row_ask-further : (b : TableBody) (k n m : ℕ) (r : Row) → row_ask (further b k n) m r ≡ row_ask b m r
 row_ask-further b k n m row.New = refl
-row_ask-further b k n m (row.Fork list pass hand) = refl
-row_ask-further b k n m (row.Set p v) = refl
-row_ask-further b k n m (row.Get p) = refl
-row_ask-further b k n m (row.Join t) = refl
-row_ask-further b k n m (row.GetOr p) = refl
-row_ask-further b k n m (row.JoinOr t) = refl
-row_ask-further b k n m (row.Emit i) = refl
-row_ask-further b k n m (row.End v) = refl
-row_ask-further b k n m (row.Fail t) = refl
+row_ask-further b k n m r = refl
 
 -- the row that stands at k is the one that the body asks there
 pub row_ask-at : (b : TableBody) (k j m n : ℕ) (r : Row) → k < length (rows_of b) → r ≡ get_or (rows_of b) k r
@@ -44,15 +34,9 @@ row_ask-at b k j m n r l e = row_ask-further b j m n r
 pub ask_at-past : (b : TableBody) (k n : ℕ) → length (rows_of b) ≤ k → ask.End (pay.Num (pos 0)) ≡ ask_at b n k
 ask_at-past b k n l = ap (row_or_end b n) (sym (slice_get_past (rows_of b) k l))
 
--- the rows of a body under way are those of a table
-pub is_row-at : (b : TableBody) (k : ℕ) (r : Row) → IsUnderWay b → k < length (rows_of b) → r ≡ get_or (rows_of b) k r
-    → is_row (length b.lists.now) r ≡ true
-is_row-at b k r u l e = let t = is_row (length b.lists.now) in
-    subst (λ z. t z ≡ true) (sym e) (AllPass-from_list_all t (rows_of b) (second_so _ _ u.rows) k r l)
-
 module _ (b : TableBody) (k n : ℕ) (a : Answer) (rest : List Answer) (asked : List (Ask TableBody))
     (h : asked ≡ asks_of_rows b (n + new_places a) (drop (suc k) (rows_of b)) rest) where
-  one_more : RowAt b k → table_asks (further b k n) a ∷ asked ≡ asks_of_rows b n (drop k (rows_of b)) (a ∷ rest)
+  one_more : RowAt (rows_of b) k → table_asks (further b k n) a ∷ asked ≡ asks_of_rows b n (drop k (rows_of b)) (a ∷ rest)
   one_more (inl f) = let more = drop (suc k) (rows_of b) in
       let e : drop k (rows_of b) ≡ f.0 ∷ more = drop-cons (rows_of b) k f.0 f.1 ∙ ap (λ z. z ∷ more) f.3 in
       rw (e, f.2, row_ask-further b k n (n + new_places a) f.0, h) refl

@@ -1,3 +1,4 @@
 -- What only the functions inside the crate speak of, and proofs that the kit wants in specs. No public clause does.
+pub mod RowListLaws
 pub mod TableLaws
 pub mod AskSteps

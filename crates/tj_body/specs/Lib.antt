@@ -13,3 +13,4 @@ pub mod Table
 pub mod NeverWaits
 pub mod WaitGraph
 pub mod Inner
+pub mod RowLists

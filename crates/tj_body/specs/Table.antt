@@ -6,6 +6,7 @@ use Rattle.tj_base.specs.declared.value.Pay.{Pay}
 use Rattle.tj_base.specs.declared.value.Pay.TheVariants as pay
 use Rattle.tj_base.specs.declared.cause.Trouble.TheVariants as trouble
 use Rattle.tj_body.specs.Asks.{Await, begin, nothing, new_places, awaited, most_passed}
+use Rattle.tj_body.specs.RowLists.{is_list_of, are_table, is_reading, asks_given}
 use Rattle.tj_body.specs.declared.ask.Answer.{Answer}
 use Rattle.tj_body.specs.declared.ask.Ask.{Ask}
 use Rattle.tj_body.specs.declared.ask.Ask.TheVariants as ask
@@ -24,11 +25,11 @@ most_rows = 2 ^ 20
 
 -- the list is one of a table with so many lists
 abbrev pub is_row_list : ℕ → List Row → Bool
-is_row_list lists rows = nat_le (length rows) most_rows && list_all (is_row lists) rows
+is_row_list = is_list_of most_rows is_row
 
 -- the lists are those of a table
 abbrev pub is_table : List (List Row) → Bool
-is_table lists = list_all (is_row_list (length lists)) lists
+is_table = are_table most_rows is_row
 
 -- Places: whether each is one of n.
 abbrev pub are_below : ℕ → List ℕ → Bool
@@ -102,18 +103,13 @@ await_after b (suc k) = awaited (ask_at b b.places k)
 
 -- whether the body is one of a table, and has not given its End yet
 abbrev pub is_under_way : TableBody → Bool
-is_under_way b = is_table b.lists.now && nat_lt b.list (length b.lists.now) && nat_le b.row (length (rows_of b))
+is_under_way b = is_reading most_rows is_row b.lists.now b.list b.row
 
 -- a body that isn't under way awaits nothing
 abbrev pub table_awaits : TableBody → Await
 table_awaits b = cond (is_under_way b) (await_after b b.row) nothing
 
--- Whole lists of asks: what a body asks, one ask for each answer.
-abbrev pub asks_given : {B : Type 0} → (B → Answer → Ask B) → (B → Answer → B) → B → List Answer → List (Ask B)
-asks_given asks then b [] = []
-asks_given asks then b (a ∷ rest) = asks b a ∷ asks_given asks then (then b a) rest
-
--- the rows' asks in order, where the task begins with n places, and then End of 0
+-- Whole lists of asks: the rows' asks in order, where the task begins with n places, and then End of 0
 abbrev pub asks_of_rows : TableBody → ℕ → List Row → List Answer → List (Ask TableBody)
 asks_of_rows b n rows [] = []
 asks_of_rows b n [] (a ∷ rest) = ask.End (pay.Num (pos 0)) ∷ asks_of_rows b (n + new_places a) [] rest

@@ -1,9 +1,10 @@
-use Rattle.std.proofs.Common.{arith, ◌≡◌, ◌+◌, ◌<◌, ◌≤◌, length, get_or, subst, ap, ◌∙◌}
+use Rattle.std.proofs.Common.{arith, ◌≡◌, ◌+◌, ◌<◌, ◌≤◌, length, get_or, subst, sym, ap, ◌∙◌}
 use Rattle.std.specs.Prelude.{IfOk}
 use Rattle.tj_body.specs.Asks.{new_places}
 use Rattle.tj_body.specs.Table.{rows_of, row_ask}
-use Rattle.tj_body.specs.Inner.TableLaws.{under_way, parts_of}
-use Rattle.tj_body.proofs.Rows.{row_ask-at, ask_at-past, is_row-at}
+use Rattle.tj_body.specs.Inner.TableLaws.{under_way}
+use Rattle.tj_body.specs.Inner.RowListLaws.{row_passes}
+use Rattle.tj_body.proofs.Rows.{row_ask-at, ask_at-past}
 use Rattle.tj_body.proofs.table.TableBodyBody.next.Goals as goal
 use Rattle.tj_body.proofs.table.TableBodyBody.next.Goals.{After-index-rows-at}
 
@@ -18,8 +19,8 @@ module _ (c : After-index-rows-at) where
       subst (λ z. r ≡ get_or z c.args.self.now.row r) c.rows-rows.ensures c.index-rows-at.is
 
 pub ask-requires : goal.ask-requires
-ask-requires c = let b = c.args.self.now in let u = parts_of b (under_way b c.args.a c.requires.fits) in
-    record { row = is_row-at b b.row c.index-rows-at.result u (in_rows c) (is_that_row c) }
+ask-requires c = let b = c.args.self.now in let u = under_way b c.args.a c.requires.fits in
+    record { row = row_passes u b.row c.index-rows-at.result (in_rows c) (sym (is_that_row c)) }
 
 pub returns-then-at-rows-clause-ask : goal.returns-then-at-rows-clause-ask
 returns-then-at-rows-clause-ask c = let b = c.args.self.now in let r = c.index-rows-at.result in
