@@ -35,9 +35,8 @@ equal x y e = same_is x y (texts_ties x y ∙ ap is_eq e)
 other_way : (x y : Name) → at_most x y ≡ false → at_most y x ≡ true
 other_way x y f = by (order x y) refl where
   by : (o : Ordering) → order x y ≡ o → at_most y x ≡ true
-  by Less e = let z : true ≡ false = sym (ap is_le e) ∙ f in absurd (cc)
-  by Equal e = let z : true ≡ false = sym (ap is_le e) ∙ f in absurd (cc)
   by Greater e = ap is_le (nat_list_cmp_total.antisymm y x ∙ ap ordering_reverse e)
+  by o e = let z : true ≡ false = sym (ap is_le e) ∙ f in absurd (cc)
 
 both_ways : (x y : Name) → at_most x y ≡ true → at_most y x ≡ true → x ≡ y
 both_ways x y p q = by (order x y) refl where

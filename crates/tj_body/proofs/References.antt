@@ -137,9 +137,7 @@ module _ (Named : Sort → Name → Type 0) where
       further p.writes [] _ (entry.Value (value_at p.name p.references v)) h.3
           (value_named p.name p.references v h.0 h.1) (λ q x i. absurd i),
     )
-    ask_steps strict p _ _ (gets spare k s) h t = h
-    ask_steps strict p _ _ (joins spare k s o) h t = h
-    ask_steps strict p _ _ (prints i) h t = h
+    ask_steps strict p _ _ step h t = h
 
     reads : (spare : Bool) (c : Name) (x : Entry) (p : Point B) → HasNamed p → IsNamedEntry x
         → HasNamed (after_read spare c x p)

@@ -78,16 +78,13 @@ module _ {B C : Type 0} (e : B → C) where
     by false = refl
 
   ask_seen : (strict : Bool) (a : Ask B) (p : Point B) → after_ask strict (ask_as e a) (seen p) ≡ seen (after_ask strict a p)
-  ask_seen strict ask.New p = refl
   ask_seen strict (ask.Fork b pass hand) p = fork_seen b _ _ (hand_all p.holds (map (reference p) hand)) p
   ask_seen strict (ask.Set k v) p = set_seen (reference p k).sort (reference p k).name _ p
   ask_seen strict (ask.Get k) p = get_seen false (reference p k).sort (reference p k).name p
   ask_seen strict (ask.Join k) p = join_seen strict false (reference p k).sort (reference p k).name p
   ask_seen strict (ask.GetOr k) p = get_seen true (reference p k).sort (reference p k).name p
   ask_seen strict (ask.JoinOr k) p = join_seen strict true (reference p k).sort (reference p k).name p
-  ask_seen strict (ask.Emit i) p = refl
-  ask_seen strict (ask.End v) p = refl
-  ask_seen strict (ask.Fail t) p = refl
+  ask_seen strict a p = refl
 
   read_seen : (spare : Bool) (q : Name) (x : Entry) (p : Point B)
       → after_read spare q x (seen p) ≡ seen (after_read spare q x p)
@@ -152,19 +149,16 @@ module _ {B C : Type 0} (e : B → C) where
         → family S V d (root_task other.root) ≡ map (task_as e) (family R V d (root_task program.root))
     tasks_under V d = ap (λ z. family S V d (root_task z)) s.root ∙ family_seen R S s.rules V d (root_task program.root)
 
+    flat_under : {A : Type 0} (f : Task C → List A) (g : Task B → List A) → ((t : Task B) → f (task_as e t) ≡ g t)
+        → (V : Assignment) (d : ℕ)
+        → flat_map f (family S V d (root_task other.root)) ≡ flat_map g (family R V d (root_task program.root))
+    flat_under f g same V d = ap (flat_map f) (tasks_under V d)
+        ∙ flat_map_as (task_as e) f g same (family R V d (root_task program.root))
+
     written_under : (V : Assignment) (d : ℕ)
         → flat_map (writes_by S V) (family S V d (root_task other.root))
         ≡ flat_map (writes_by R V) (family R V d (root_task program.root))
-    written_under V d = ap (flat_map (writes_by S V)) (tasks_under V d)
-        ∙ flat_map_as (task_as e) (writes_by S V) (writes_by R V) (writes_seen R S s.rules V)
-        (family R V d (root_task program.root))
-
-    cells_under : (V : Assignment) (d : ℕ)
-        → flat_map (cells_by S V) (family S V d (root_task other.root))
-        ≡ flat_map (cells_by R V) (family R V d (root_task program.root))
-    cells_under V d = ap (flat_map (cells_by S V)) (tasks_under V d)
-        ∙ flat_map_as (task_as e) (cells_by S V) (cells_by R V) (cells_seen R S s.rules V)
-        (family R V d (root_task program.root))
+    written_under V = flat_under (writes_by S V) (writes_by R V) (writes_seen R S s.rules V) V
 
     given_seen : (n : ℕ) → given other n ≡ given program n
     given_seen zero = refl
@@ -187,7 +181,8 @@ module _ {B C : Type 0} (e : B → C) where
     all_cells_seen zero = refl
     all_cells_seen (suc n) =
         ap (λ V. flat_map (cells_by S V) (family S V (suc n) (root_task other.root))) (given_seen n)
-        ∙ cells_under (given program n) (suc n)
+        ∙ flat_under (cells_by S (given program n)) (cells_by R (given program n))
+        (cells_seen R S s.rules (given program n)) (given program n) (suc n)
 
     -- rounds are seen so
     pub rounds_seen : (n : ℕ) → RoundsAreSeen e program other n
@@ -214,27 +209,11 @@ module _ {B C : Type 0} (e : B → C) where
 module _ {B C : Type 0} (e : B → C) (rules : Rules B) (other : Rules C) (s : AreSeenAs e rules other) where
   ends_seen : (q : Ask B) → Ends (ask_as e q) → Ends q
   ends_seen ask.New h = h
-  ends_seen (ask.Fork b pass hand) h = h
-  ends_seen (ask.Set k v) h = h
-  ends_seen (ask.Get k) h = h
-  ends_seen (ask.Join k) h = h
-  ends_seen (ask.GetOr k) h = h
-  ends_seen (ask.JoinOr k) h = h
-  ends_seen (ask.Emit i) h = h
-  ends_seen (ask.End v) h = h
-  ends_seen (ask.Fail t) h = h
+  ends_seen q h = h
 
   awaited_seen : (q : Ask B) → awaited (ask_as e q) ≡ awaited q
   awaited_seen ask.New = refl
-  awaited_seen (ask.Fork b pass hand) = refl
-  awaited_seen (ask.Set k v) = refl
-  awaited_seen (ask.Get k) = refl
-  awaited_seen (ask.Join k) = refl
-  awaited_seen (ask.GetOr k) = refl
-  awaited_seen (ask.JoinOr k) = refl
-  awaited_seen (ask.Emit i) = refl
-  awaited_seen (ask.End v) = refl
-  awaited_seen (ask.Fail t) = refl
+  awaited_seen q = refl
 
   -- a body that is seen as a fresh one is fresh
   pub fresh_seen : (n : ℕ) (b : B) → IsFresh other.places other.awaits other.left n (e b)
@@ -247,17 +226,9 @@ module _ {B C : Type 0} (e : B → C) (rules : Rules B) (other : Rules C) (s : A
 
   placed_seen : (n : ℕ) (q : Ask B) → IsPlaced other.places other.awaits other.left n (ask_as e q)
       → IsPlaced rules.places rules.awaits rules.left n q
-  placed_seen n ask.New h = h
   placed_seen n (ask.Fork b pass hand) h =
       record { passed = h.passed; handed = h.handed; few = h.few; fresh = fresh_seen _ b h.fresh }
-  placed_seen n (ask.Set k v) h = h
-  placed_seen n (ask.Get k) h = h
-  placed_seen n (ask.Join k) h = h
-  placed_seen n (ask.GetOr k) h = h
-  placed_seen n (ask.JoinOr k) h = h
-  placed_seen n (ask.Emit i) h = h
-  placed_seen n (ask.End v) h = h
-  placed_seen n (ask.Fail t) h = h
+  placed_seen n q h = h
 
   -- bodies that are seen as others obey where those do
   pub obeys_seen : (b : B) (a : Answer)

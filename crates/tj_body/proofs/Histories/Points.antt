@@ -147,8 +147,7 @@ module _ {B : Type 0} (rules : Rules B) where
 
       light : (p : Point B) (st : PointStage) → p.stage ≡ st → weight_at rules.left p.body st ≤ 0 → HasStopped V p
       light p (stage.Closed x) e h = inl (x, e)
-      light p (stage.Answered a) e h = absurd (omega arith)
-      light p (stage.Waits q spare) e h = absurd (omega arith)
+      light p st e h = absurd (omega arith)
 
       -- a history has come to its stop
       pub stopped : HasStopped V history_of_t
