@@ -78,7 +78,6 @@ module _ {B : Type 0} (ks : List (Task B)) (ws : List (Name × Entry)) where
   -- an ask
   pub front-ask : (strict : Bool) (a : Ask B) (p : Point B)
       → after_ask strict a (front p) ≡ front (after_ask strict a p)
-  front-ask strict ask.New p = refl
   front-ask strict (ask.Fork b pass hand) p = front-fork b (map (reference p) pass)
       (map (λ k. (reference p k).name) hand) (hand_all p.holds (map (reference p) hand)) p
   front-ask strict (ask.Set k v) p =
@@ -88,10 +87,10 @@ module _ {B : Type 0} (ks : List (Task B)) (ws : List (Name × Entry)) where
   front-ask strict (ask.Join k) p = front-join strict false (reference p k).sort (reference p k).name p
   front-ask strict (ask.GetOr k) p = front-get true (reference p k).sort (reference p k).name p
   front-ask strict (ask.JoinOr k) p = front-join strict true (reference p k).sort (reference p k).name p
-  front-ask strict (ask.Emit i) p = refl
   front-ask strict (ask.End v) p = front-close (close.Done (value_at p.name p.references v))
       (entry.Value (value_at p.name p.references v)) p
   front-ask strict (ask.Fail t) p = front-failure (cause_of t) p
+  front-ask strict a p = refl
 
   -- an answer
   pub front-read : (spare : Bool) (q : Name) (e : Entry) (p : Point B)

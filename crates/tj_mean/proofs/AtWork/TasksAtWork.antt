@@ -77,13 +77,11 @@ module _ {B : Type 0} where
   -- what is left of a point weighs as much
   emptied_weight : (left : B → ℕ) (s : PointStage) (q : Point B) → weight left (emptied s q) ≡ weight left q
   emptied_weight left (stage.Answered a) q = refl
-  emptied_weight left (stage.Waits x spare) q = refl
-  emptied_weight left (stage.Closed c) q = refl
+  emptied_weight left s q = refl
 
   emptied_made : (s : PointStage) (q : Point B) → (emptied s q).made ≡ q.made
   emptied_made (stage.Answered a) q = refl
-  emptied_made (stage.Waits x spare) q = refl
-  emptied_made (stage.Closed c) q = refl
+  emptied_made s q = refl
 
   starts_weight : (rules : Rules B) (cs : List (Task B)) → ((c : Task B) → IsIn c cs → IsProper rules c)
       → total (weight rules.left) (starts cs) ≤ most_weight * length cs

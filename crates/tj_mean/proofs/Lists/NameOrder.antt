@@ -102,8 +102,7 @@ at_most_from : (x y : Name) → is_lt (order y x) ≡ false → at_most x y ≡ 
 at_most_from x y f = by (order y x) refl where
   by : (o : Ordering) → order y x ≡ o → at_most x y ≡ true
   by Less e = let z : true ≡ false = sym (ap is_lt e) ∙ f in absurd (cc)
-  by Equal e = ap is_le (nat_list_cmp_total.antisymm x y ∙ ap ordering_reverse e)
-  by Greater e = ap is_le (nat_list_cmp_total.antisymm x y ∙ ap ordering_reverse e)
+  by o e = ap is_le (nat_list_cmp_total.antisymm x y ∙ ap ordering_reverse e)
 
 all_after : (x : Name) (xs : List Name) → ((j : ℕ) → j < length xs → at_most x (get_or xs j x) ≡ true)
     → AllByRecursion (λ y. at_most x y ≡ true) xs

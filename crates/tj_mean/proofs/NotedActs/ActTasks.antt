@@ -71,22 +71,16 @@ module _ {B : Type 0} (program : Program B) (obeys : AreLawful program.rules)
   ask_tells : (k : ℕ) (next : Point B)
       → ((i : ℕ) → IsNamed program (reference next i).sort (reference next i).name) → (a : Act) (q : Ask B)
       → IsIn a (ask_acts V q next) → Tells (after_ask rules.strict q next) a
-  ask_tells k next each a ask.New i = absurd i
   ask_tells k next each a (ask.Fork b pass hand) i =
       fork_tells next b (map (reference next) pass) (map (λ j. (reference next j).name) hand) a
       (hand_all next.holds (map (reference next) hand)) i
-  ask_tells k next each a (ask.Set j v) i = absurd i
-  ask_tells k next each a (ask.Get j) i = absurd i
   ask_tells k next each a (ask.Join j) i =
       join_tells (after_ask rules.strict (ask.Join j) next) V a (reference next j).sort (reference next j).name
       (each j) i
-  ask_tells k next each a (ask.GetOr j) i = absurd i
   ask_tells k next each a (ask.JoinOr j) i =
       join_tells (after_ask rules.strict (ask.JoinOr j) next) V a (reference next j).sort (reference next j).name
       (each j) i
-  ask_tells k next each a (ask.Emit j) i = absurd i
-  ask_tells k next each a (ask.End v) i = absurd i
-  ask_tells k next each a (ask.Fail c) i = absurd i
+  ask_tells k next each a q i = absurd i
 
   stage_tells : (k : ℕ) (a : Act) (st : PointStage) → IsIn a (stage_acts rules V st (point k))
       → Tells (after_stage rules V st (point k)) a

@@ -145,20 +145,14 @@ module _ {B : Type 0} where
     ask_numbered : (p : Point B) (acts : List Act) → p.name ≡ x → AreNumbered x p.made acts → (a : Ask B)
         → p.made ≤ (after_ask rules.strict a p).made
         → AreNumbered x (after_ask rules.strict a p).made (acts ++ ask_acts W a p)
-    ask_numbered p acts e n ask.New l = still_numbered p.made _ acts l n
     ask_numbered p acts e n (ask.Fork b pass hand) l =
         forks_numbered p b (map (reference p) pass) (map (λ k. (reference p k).name) hand) acts e n
         (hand_all p.holds (map (reference p) hand))
-    ask_numbered p acts e n (ask.Set k v) l = still_numbered p.made _ acts l n
-    ask_numbered p acts e n (ask.Get k) l = still_numbered p.made _ acts l n
     ask_numbered p acts e n (ask.Join k) l =
         joins_numbered p.made _ acts l n (reference p k).sort (reference p k).name
-    ask_numbered p acts e n (ask.GetOr k) l = still_numbered p.made _ acts l n
     ask_numbered p acts e n (ask.JoinOr k) l =
         joins_numbered p.made _ acts l n (reference p k).sort (reference p k).name
-    ask_numbered p acts e n (ask.Emit i) l = still_numbered p.made _ acts l n
-    ask_numbered p acts e n (ask.End v) l = still_numbered p.made _ acts l n
-    ask_numbered p acts e n (ask.Fail c) l = still_numbered p.made _ acts l n
+    ask_numbered p acts e n q l = still_numbered p.made _ acts l n
 
     look_makes : (spare : Bool) (q : Name) (o : Option Entry) (p : Point B)
         → p.made ≤ (after_look spare q o p).made

@@ -95,15 +95,7 @@ module _ {B : Type 0} where
   pub other_body : (V : Assignment) (a : Ask B) (p : Point B) (b : B)
       → ask_acts V a (record p { body = b }) ≡ ask_acts V a p
   other_body V ask.New p b = refl
-  other_body V (ask.Fork c pass hand) p b = refl
-  other_body V (ask.Set k v) p b = refl
-  other_body V (ask.Get k) p b = refl
-  other_body V (ask.Join k) p b = refl
-  other_body V (ask.GetOr k) p b = refl
-  other_body V (ask.JoinOr k) p b = refl
-  other_body V (ask.Emit i) p b = refl
-  other_body V (ask.End v) p b = refl
-  other_body V (ask.Fail t) p b = refl
+  other_body V a p b = refl
 
   -- what is noted at an ask is added to the acts so far
   pub acts_noted : (strict : Bool) (V : Assignment) (p : Point B) (b : B) (a q : Ask B) (joined : Option Name)

@@ -237,21 +237,15 @@ module _ {B : Type 0} (program : Program B) (obeys : AreLawful program.rules)
         → ((spare : Bool) (i : ℕ) → a ≡ join_of spare i
         → p ≡ after_join rules.strict spare (reference (point k) i).sort (reference (point k) i).name next)
         → Reaches t p (done m t k ++ ask_acts W a (point k))
-    after_asking k next rs n r ask.New s p j = idle p (done m t k) r
     after_asking k next rs n r (ask.Fork b pass hand) s p j =
         after_fork_ask k b pass hand r (hand_all (point k).holds (map (reference (point k)) hand)) refl s p
-    after_asking k next rs n r (ask.Set i v) s p j = idle p (done m t k) r
-    after_asking k next rs n r (ask.Get i) s p j = idle p (done m t k) r
     after_asking k next rs n r (ask.Join i) s p j =
         subst (λ z. Reaches t z (done m t k ++ ask_acts W (ask.Join i) (point k))) (sym (j false i refl))
         (after_join_ask k false i next r (reference (point k) i).sort refl)
-    after_asking k next rs n r (ask.GetOr i) s p j = idle p (done m t k) r
     after_asking k next rs n r (ask.JoinOr i) s p j =
         subst (λ z. Reaches t z (done m t k ++ ask_acts W (ask.JoinOr i) (point k))) (sym (j true i refl))
         (after_join_ask k true i next r (reference (point k) i).sort refl)
-    after_asking k next rs n r (ask.Emit i) s p j = idle p (done m t k) r
-    after_asking k next rs n r (ask.End v) s p j = idle p (done m t k) r
-    after_asking k next rs n r (ask.Fail c) s p j = idle p (done m t k) r
+    after_asking k next rs n r q s p j = idle p (done m t k) r
 
     -- a wait
     after_waiting : (k : ℕ) (q : Name) (spare : Bool) → (point k).stage ≡ stage.Waits q spare

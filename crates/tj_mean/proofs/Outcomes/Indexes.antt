@@ -41,9 +41,8 @@ not_less x e =
 pub at_most_self : (x : Name) → at_most x x ≡ true
 at_most_self x = by (order x x) refl where
   by : (o : Ordering) → order x x ≡ o → is_le o ≡ true
-  by Less e = refl
-  by Equal e = refl
   by Greater e = let z : false ≡ true = sym (ap is_eq e) ∙ (sym (texts_ties x x) ∙ same_self x) in absurd (cc)
+  by o e = refl
 
 all_less : (y : Name) (ss : List Stopped)
     → AllByRecursion (λ z. order y z ≡ Less) (map (λ (s : Stopped). s.line.name) ss)
