@@ -28,12 +28,7 @@ module _ (N : ℕ) (s : CoreState) (task : CellId) where
   -- the event is allowed exactly where the step is the next one of the walk
   is_event : (step : WalkStep) → Allowed N s (event_of task step) ≡ Walks s task.0 (λ c. MayStep task.0 step)
   is_event (Others n) = refl
-  is_event (Count n) = refl
-  is_event (Owner o) = refl
-  is_event (Wait o) = refl
-  is_event (Again o) = refl
-  is_event Alarm = refl
-  is_event Settle = refl
+  is_event step = refl
 
   pub may_step : (step : WalkStep) → Allowed N s (event_of task step) → Walks s task.0 (λ c. MayStep task.0 step)
   may_step step = subst (λ A. A) (is_event step)
@@ -63,28 +58,19 @@ module _ (N : ℕ) (s : CoreState) (task : CellId) where
       (walked_same (stage s.cells task.0) (λ c w. owner_again o w w.last)
       (λ c w. owner_again (owner s.cells (present c w.trail)) w w.last)
       (λ c way w. MayReadAgain w) may (λ c way w e h. ap (λ (q : Option ℕ). owner_again q w w.last) (now c way w e)))
-  after_step Alarm now may = refl
-  after_step Settle now may = refl
+  after_step step now may = refl
 
   -- a count that is so now is within the trail's room
   pub step_has_room : (step : WalkStep) (limit room : ℕ)
       → 0 < s.count → s.count ≤ limit → limit ≤ MAX_CORE_CELLS → limit ≤ room → IsSoNow s task.0 step → HasRoom room step
-  step_has_room (Others n) limit room a b c d now = tt
   step_has_room (Count n) limit room a b c d now = let e : n ≡ s.count = now in (omega arith, omega arith, omega arith)
-  step_has_room (Owner o) limit room a b c d now = tt
-  step_has_room (Wait o) limit room a b c d now = tt
-  step_has_room (Again o) limit room a b c d now = tt
-  step_has_room Alarm limit room a b c d now = tt
-  step_has_room Settle limit room a b c d now = tt
+  step_has_room step limit room a b c d now = tt
 
 -- and so are the loads
 pub step_loads : (slots : List Slot) (task : CellId) (x y : Slot) (step : WalkStep)
     → task.0 < length slots → x ≡ get_or slots task.0 x → y.loads ≡ loads_by step x.loads
     → (c : ℕ) → loads_in (set slots task.0 y) c ≡ loads_after (loads_in slots) (event_of task step) c
-step_loads slots task x y (Others n) h is e = loads_stay slots task.0 x y h is e
-step_loads slots task x y (Count n) h is e = loads_stay slots task.0 x y h is e
 step_loads slots task x y (Owner o) h is e = loads_more slots task.0 x y h is e
 step_loads slots task x y (Wait o) h is e = loads_more slots task.0 x y h is e
 step_loads slots task x y (Again o) h is e = loads_more slots task.0 x y h is e
-step_loads slots task x y Alarm h is e = loads_stay slots task.0 x y h is e
-step_loads slots task x y Settle h is e = loads_stay slots task.0 x y h is e
+step_loads slots task x y step h is e = loads_stay slots task.0 x y h is e

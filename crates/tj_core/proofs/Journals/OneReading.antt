@@ -37,20 +37,7 @@ event_of verb cells =
 -- an event is told by its word and its cells
 event_of-words : (e : Event) → event_of (verb_of e) (cells_of e) ≡ e
 event_of-words (Make t) = refl
-event_of-words (Fork t) = refl
-event_of-words (Hand t p c) = refl
-event_of-words (Close t p) = refl
-event_of-words (Raise t) = refl
-event_of-words (Publish t p) = refl
-event_of-words (LoadOthers t) = refl
-event_of-words (LoadCount t) = refl
-event_of-words (ReadOwner t) = refl
-event_of-words (ReadWait t) = refl
-event_of-words (ReadOwnerAgain t) = refl
-event_of-words (Alarm t) = refl
-event_of-words (Settle t) = refl
-event_of-words (Unwait t) = refl
-event_of-words Lower = refl
+event_of-words e = refl
 
 -- words name one event at most
 event_one : (words : List (List ℕ)) (e f : Event) → HasSmallCells e → HasSmallCells f

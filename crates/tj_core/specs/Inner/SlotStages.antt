@@ -1,7 +1,7 @@
 -- What the checker keeps of a cell's stage: a stage of a slot, as the stage of the core state.
 use Rattle.std.specs.Prelude.{ℕ, List, reverse}
 use Rattle.tj_events.specs.declared.walk.LastRead.{LastRead}
-use Rattle.tj_events.specs.declared.walk.LastRead.TheVariants.{Published, SawOthers, Counted, SawOwner, SawWait, Passed}
+use Rattle.tj_events.specs.declared.walk.LastRead.TheVariants.{Published, SawOthers, Counted, SawOwner, SawWait}
 use Rattle.tj_events.specs.declared.walk.LastRead.TheVariants.{Changed}
 use Rattle.tj_events.specs.declared.walk.TrailLink.{TrailLink}
 use Rattle.tj_core.specs.declared.slot_stage.Progress.{Progress}
@@ -29,72 +29,40 @@ cell_stage links bound loads Ended = ended
 
 -- how many owners more may be passed after this read before the bound is looked at again
 abbrev pub passes_after : LastRead → ℕ
-passes_after Published = 0
-passes_after (SawOthers n) = 0
 passes_after Counted = 1
 passes_after (SawOwner o) = 1
 passes_after (SawWait u o) = 1
-passes_after Passed = 0
-passes_after Changed = 0
+passes_after last = 0
 
 -- the loads of a walk up to this read since the last owner was passed
 abbrev pub loads_after_pass : LastRead → ℕ
-loads_after_pass Published = 0
-loads_after_pass (SawOthers n) = 0
-loads_after_pass Counted = 0
 loads_after_pass (SawOwner o) = 1
 loads_after_pass (SawWait u o) = 2
-loads_after_pass Passed = 0
 loads_after_pass Changed = 3
+loads_after_pass last = 0
 
 -- whether the walk has read its bound, as 0 or 1
 abbrev pub bound_read : LastRead → ℕ
 bound_read Published = 0
 bound_read (SawOthers n) = 0
-bound_read Counted = 1
-bound_read (SawOwner o) = 1
-bound_read (SawWait u o) = 1
-bound_read Passed = 1
-bound_read Changed = 1
+bound_read last = 1
 
 -- the same of a slot's stage: only a walk may pass owners
 abbrev pub stage_passes : SlotStage → ℕ
-stage_passes Promise = 0
-stage_passes Fresh = 0
-stage_passes Running = 0
-stage_passes Raised = 0
 stage_passes (Waiting c way (Walking last)) = passes_after last
-stage_passes (Waiting c way Parked) = 0
-stage_passes (Waiting c way Alarmed) = 0
-stage_passes Ended = 0
+stage_passes stage = 0
 
 -- the most loads since the last owner was passed
 abbrev pub stage_loads : SlotStage → ℕ
-stage_loads Promise = 3
-stage_loads Fresh = 3
-stage_loads Running = 3
-stage_loads Raised = 3
 stage_loads (Waiting c way (Walking last)) = loads_after_pass last
-stage_loads (Waiting c way Parked) = 3
-stage_loads (Waiting c way Alarmed) = 3
-stage_loads Ended = 3
+stage_loads stage = 3
 
 -- a slot's stage of a cell whose task doesn't wait
 abbrev pub IsIdle : SlotStage → Type 0
-IsIdle Promise = Unit {0}
-IsIdle Fresh = Unit {0}
-IsIdle Running = Unit {0}
-IsIdle Raised = Unit {0}
 IsIdle (Waiting c way p) = ⊥
-IsIdle Ended = Unit {0}
+IsIdle stage = Unit {0}
 
 -- 0 before a walk has read its bound, else 1
 abbrev pub stage_bound : SlotStage → ℕ
-stage_bound Promise = 1
-stage_bound Fresh = 1
-stage_bound Running = 1
-stage_bound Raised = 1
 stage_bound (Waiting c way (Walking last)) = bound_read last
-stage_bound (Waiting c way Parked) = 1
-stage_bound (Waiting c way Alarmed) = 1
-stage_bound Ended = 1
+stage_bound stage = 1

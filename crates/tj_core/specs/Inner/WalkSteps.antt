@@ -1,5 +1,5 @@
 -- One step of a walk, with what it reads: its event, where it is the next one, and what it makes of the walk.
-use Rattle.std.specs.Prelude.{◌≡◌, ℕ, suc, ◌<◌, ◌≤◌, Option, Some, None}
+use Rattle.std.specs.Prelude.{◌≡◌, ℕ, suc, ◌<◌, ◌≤◌, Option, Some}
 use Rattle.tj_base.specs.declared.cell.CellId.{CellId}
 use Rattle.tj_core.specs.declared.births.TheConstants.{MAX_CORE_CELLS}
 use Rattle.tj_events.specs.declared.event.Event.{Event}
@@ -7,14 +7,13 @@ use Rattle.tj_events.specs.declared.event.Event.TheVariants as events
 use Rattle.tj_events.specs.declared.walk.Way.{Way}
 use Rattle.tj_events.specs.declared.walk.Walker.{Walker}
 use Rattle.tj_events.specs.declared.walk.LastRead.{LastRead}
-use Rattle.tj_events.specs.declared.walk.LastRead.TheVariants.{Published, SawOthers, Counted, SawOwner, SawWait, Passed}
-use Rattle.tj_events.specs.declared.walk.LastRead.TheVariants.{Changed}
+use Rattle.tj_events.specs.declared.walk.LastRead.TheVariants.{SawOwner}
 use Rattle.tj_core.specs.declared.walk_step.WalkStep.{WalkStep}
 use Rattle.tj_core.specs.declared.walk_step.WalkStep.TheVariants.{Others, Count, Owner, Wait, Again, Alarm, Settle}
 use Rattle.tj_events.specs.CoreState.{parked, alarmed, CellStage, CoreState, owner, wait, present, IfWalks}
-use Rattle.tj_events.specs.Events.{MayReadOthers, MayCount, MayReadOwner}
-use Rattle.tj_events.specs.Events.{MayReadWait, MayReadAgain, MayAlarm, MaySettle}
-use Rattle.tj_events.specs.Events.{walked, walk_ended, others_read, count_read, owner_read, wait_found, owner_again}
+use Rattle.tj_events.specs.Events.{MayReadOthers, MayCount, MayReadOwner, MayReadWait, MayReadAgain, MayAlarm}
+use Rattle.tj_events.specs.Events.{MaySettle, walked, walk_ended, others_read, count_read, owner_read, wait_found}
+use Rattle.tj_events.specs.Events.{owner_again}
 
 -- the event of the walker of t
 abbrev pub event_of : CellId → WalkStep → Event
@@ -49,13 +48,7 @@ MayStep t Settle way w = MaySettle w
 -- the walker after it read that the owner that it has read waits for o
 abbrev pub wait_heard : Option ℕ → Walker → LastRead → Walker
 wait_heard o w (SawOwner (Some u)) = wait_found u o w
-wait_heard o w (SawOwner None) = w
-wait_heard o w Published = w
-wait_heard o w (SawOthers n) = w
-wait_heard o w Counted = w
-wait_heard o w (SawWait u q) = w
-wait_heard o w Passed = w
-wait_heard o w Changed = w
+wait_heard o w last = w
 
 -- the stage of a walker after the step
 abbrev pub stage_by : WalkStep → CellStage → CellStage
@@ -69,20 +62,12 @@ stage_by Settle = walk_ended parked
 
 -- the loads of the walk after the step: each read of an owner or of its wait is one
 abbrev pub loads_by : WalkStep → ℕ → ℕ
-loads_by (Others n) loads = loads
-loads_by (Count n) loads = loads
 loads_by (Owner o) loads = suc loads
 loads_by (Wait o) loads = suc loads
 loads_by (Again o) loads = suc loads
-loads_by Alarm loads = loads
-loads_by Settle loads = loads
+loads_by step loads = loads
 
 -- a count that the step reads is one that the trail has room for
 abbrev pub HasRoom : ℕ → WalkStep → Type 0
-HasRoom room (Others n) = Unit {0}
 HasRoom room (Count n) = (0 < n) × (n ≤ MAX_CORE_CELLS) × (n ≤ room)
-HasRoom room (Owner o) = Unit {0}
-HasRoom room (Wait o) = Unit {0}
-HasRoom room (Again o) = Unit {0}
-HasRoom room Alarm = Unit {0}
-HasRoom room Settle = Unit {0}
+HasRoom room step = Unit {0}
