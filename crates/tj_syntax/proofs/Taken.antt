@@ -86,19 +86,30 @@ unbroken-append (n ∷ a) b h k = (h.0, unbroken-append a b h.1 k)
 pub took_nothing : (i : Input) → Took i i []
 took_nothing i = record { ahead = refl; unbroken = tt; tasks = refl; flaw = refl; calm = tt }
 
+-- the tokens of two stretches are those of both
+pub ahead_both : (a b : List Noted) (k : Input) {ts us : List Tok} → ts ≡ tokens_of a ++ us
+    → us ≡ tokens_of b ++ k.ahead → ts ≡ tokens_of (a ++ b) ++ k.ahead
+ahead_both a b k p q = p ∙ ap (λ ts. tokens_of a ++ ts) q ∙ sym (append_assoc (tokens_of a) (tokens_of b) k.ahead)
+    ∙ ap (λ ts. ts ++ k.ahead) (sym (tokens_of-append a b))
+
+-- and so are their faults
+pub flaw_both : (a b : List Noted) (i j k : Input) → j.ahead ≡ tokens_of b ++ k.ahead → j.tasks ≡ i.tasks
+    → j.flaw ≡ flaw_after i.tasks a (length j.ahead) i.flaw → k.flaw ≡ flaw_after j.tasks b (length k.ahead) j.flaw
+    → k.flaw ≡ flaw_after i.tasks (a ++ b) (length k.ahead) i.flaw
+flaw_both a b i j k ahead tasks p q =
+    let count : length j.ahead ≡ length b + length k.ahead = ap length ahead ∙ length-append (tokens_of b) k.ahead
+    ∙ ap (λ n. n + length k.ahead) (length-tokens_of b) in
+    q ∙ ap (λ ts. flaw_after ts b (length k.ahead) j.flaw) tasks
+    ∙ ap (λ f. flaw_after i.tasks b (length k.ahead) f) (p ∙ ap (λ n. flaw_after i.tasks a n i.flaw) count)
+    ∙ sym (flaw_after-append i.tasks a b (length k.ahead) i.flaw)
+
 pub took_both : {i j k : Input} {a b : List Noted} → Took i j a → Took j k b → Took i k (a ++ b)
 took_both {i} {j} {k} {a} {b} p q = record {
-  ahead = p.ahead ∙ ap (λ ts. tokens_of a ++ ts) q.ahead ∙ sym (append_assoc (tokens_of a) (tokens_of b) k.ahead) ∙ ap
-      (λ ts. ts ++ k.ahead) (sym (tokens_of-append a b));
+  ahead = ahead_both a b k p.ahead q.ahead;
   unbroken = unbroken-append a b p.unbroken q.unbroken;
   calm = calm-append a b p.calm q.calm;
   tasks = q.tasks ∙ p.tasks;
-  flaw =
-      let count : length j.ahead ≡ length b + length k.ahead = ap length q.ahead ∙ length-append (tokens_of b) k.ahead
-      ∙ ap (λ n. n + length k.ahead) (length-tokens_of b) in
-      q.flaw ∙ ap (λ ts. flaw_after ts b (length k.ahead) j.flaw) p.tasks
-      ∙ ap (λ f. flaw_after i.tasks b (length k.ahead) f) (p.flaw ∙ ap (λ n. flaw_after i.tasks a n i.flaw) count)
-      ∙ sym (flaw_after-append i.tasks a b (length k.ahead) i.flaw);
+  flaw = flaw_both a b i j k q.ahead p.tasks p.flaw q.flaw;
 }
 
 -- the next token was taken, and is noted so

@@ -1,12 +1,10 @@
 -- Each script is read as the one that it is, so that a list of tokens is one script at most.
-use Rattle.std.proofs.Common.{◌≡◌, ℕ, suc, ◌+◌, cond, nat_eq, List, [], ◌∷◌, ◌++◌, length, map, Option, Some, None}
-use Rattle.std.proofs.Common.{option_map, Ok, refl, ap, sym, ◌∙◌, subst, arith, ⊎_elim, codes}
+use Rattle.std.proofs.Common.{◌≡◌, ℕ, suc, ◌+◌, List, [], ◌∷◌, ◌++◌, length, map, Option, Some, None, option_map, Ok}
+use Rattle.std.proofs.Common.{refl, ap, sym, ◌∙◌, subst, arith, codes}
 use Rattle.std.proofs.lemmas.List.{append-nil}
-use Rattle.std.proofs.lemmas.Bool.{cases_Bool}
 use Rattle.tj_lex.specs.declared.token.Tok.{Tok}
 use Rattle.tj_lex.specs.declared.token.Tok.TheVariants as toks
 use Rattle.tj_syntax.specs.declared.fault.Breach.{Breach}
-use Rattle.tj_syntax.specs.declared.fault.Breach.TheVariants.{Count}
 use Rattle.tj_syntax.specs.declared.fault.Stop.TheVariants as stop
 use Rattle.tj_syntax.specs.Trees.{Task}
 use Rattle.tj_syntax.specs.Marks.{Note, Noted, fine, broken, forks, declares}
@@ -16,6 +14,7 @@ use Rattle.tj_syntax.specs.Inner.Input.{Head, Input, Outcome, names_of, heads_fr
 use Rattle.tj_syntax.specs.Inner.Reading.{tasks_from, tasks}
 use Rattle.tj_syntax.proofs.Taken.{note_flaw, flaw_after, ok_inj, length-tokens_of}
 use Rattle.tj_syntax.proofs.Sound.Script.{AreHeads, names_from_pairs, head_params, tasks_from_sound, start_of}
+use Rattle.tj_syntax.proofs.Sound.Script.{flaw_breach}
 use Rattle.tj_syntax.proofs.Complete.Steps.{at, fault_in, note_fault}
 use Rattle.tj_syntax.proofs.Complete.Task.{tasks_reads}
 
@@ -69,21 +68,11 @@ script_heads notes script derived whole =
     let same : tokens_of notes ≡ tokens_of got.notes = got.took.ahead ∙ append-nil (tokens_of got.notes) in
     subst (λ ts. AreHeads (heads_from [] ts) script) (sym same) (got.heads [] refl)
 
-flaw_none : (h : Option Head) (t : Option Task) (left count : ℕ) → option_map (λ (x : Head). x.params) h ≡ option_map
-    (λ (x : Task). x.params) t
+flaw_none : (h : Option Head) (t : Option Task) (left count : ℕ)
+    → option_map (λ (x : Head). x.params) h ≡ option_map (λ (x : Task). x.params) t
     → fork_of t count ≡ None → flaw_at h left count ≡ None
-flaw_none None None left count e right = absurd (cc)
-flaw_none None (Some t) left count e right = absurd (cc)
-flaw_none (Some h) None left count e right = absurd (cc)
-flaw_none (Some h) (Some t) left count e right =
-    let same : h.params ≡ t.params = cc in
-    ⊎_elim
-    (λ y. subst (λ p. cond (nat_eq p count) None (Some (stop.Broken Count left)) ≡ None) (sym same)
-    (subst (λ b. cond b None (Some (stop.Broken Count left)) ≡
-    None) (sym y) refl))
-    (λ n. let h' : ◌≡◌ {A = Option Breach} (Some Count) None = subst
-    (λ b. cond b None (Some Count) ≡ None) n right in absurd (cc))
-    (cases_Bool (nat_eq t.params count))
+flaw_none h t left count e right =
+    flaw_breach h t left count e ∙ ap (option_map (λ b. stop.Broken b left)) right
 
 note_none : (heads : List Head) (script : List Task) → AreHeads heads script → (n : Noted) (left : ℕ)
     → fork_breach script n ≡ None → note_flaw heads n left ≡ None

@@ -8,16 +8,16 @@ use Rattle.tj_lex.specs.declared.token.Mark.{Mark}
 use Rattle.tj_lex.specs.declared.token.Mark.TheVariants as m
 use Rattle.tj_syntax.specs.declared.fault.Stop.{Stop}
 use Rattle.tj_syntax.specs.Trees as tree
-use Rattle.tj_syntax.specs.Trees.{Expression, Ask, Given, Statement, Statements, Otherwise}
+use Rattle.tj_syntax.specs.Trees.{Expression, Ask, Given, Statement, Statements}
 use Rattle.tj_syntax.specs.Marks.{Name, Noted, fine, key, mark, use_of, number_of, declaration, most_vars}
 use Rattle.tj_syntax.specs.Faults.{tokens_of}
 use Rattle.tj_syntax.specs.Grammar as g
-use Rattle.tj_syntax.specs.Grammar.{IsExpression, IsAsk, IsGiven, IsStatement, IsBlock, IsStatements, IsElse}
+use Rattle.tj_syntax.specs.Grammar.{IsExpression, IsAsk, IsGiven, IsStatement, IsBlock, IsStatements}
 use Rattle.tj_syntax.specs.View.{statements_of}
 use Rattle.tj_syntax.specs.Inner.Input.{Head, Input, Outcome, Parser, and_then, first, expect, is_mark, variable}
 use Rattle.tj_syntax.specs.Inner.Input.{fresh_variable, names_of}
-use Rattle.tj_syntax.specs.Inner.Reading.{expression, ask, given, let_new, assign, set_cell, ended, ask_statement, otherwise_by}
-use Rattle.tj_syntax.specs.Inner.Reading.{statement_by}
+use Rattle.tj_syntax.specs.Inner.Reading.{expression, ask, given, let_new, assign, set_cell, ended, ask_statement}
+use Rattle.tj_syntax.specs.Inner.Reading.{otherwise_by, statement_by}
 use Rattle.tj_syntax.proofs.Complete.Steps.{at, Does, nothing_read, fine_read, expect_does, known_does, fresh_does}
 use Rattle.tj_syntax.proofs.Complete.Steps.{ahead-append}
 use Rattle.tj_syntax.proofs.Complete.Expr.{IsBehind, expression_does}
@@ -135,6 +135,25 @@ let_reads heads {vars = vars} {room = room} {a = a} {side = side} x p rest flaw 
     (tree.let_new (length vars) side)
     (λ h. given_does heads p rest h) (λ h. refl))
 
+-- behind a variable: the mark, the side that it is given and a semicolon
+side_reads : {A : Type 0} (heads : List Head) (side : Parser A) (wrap : ℕ → A → Statement) {vars : List Name}
+    {a : List Noted} {y : A} (x : Name) (rest : List Tok) (flaw : Option Stop)
+    → ((h : Option Stop) → Reads heads (side (at heads (tokens_of a ++ (toks.Mark m.Semi ∷ rest)) vars h)) a
+    (toks.Mark m.Semi ∷ rest) vars h y)
+    → Reads heads (and_then (variable (at heads (toks.Name x ∷ toks.Mark m.Assign ∷
+    (tokens_of (a ++ mark m.Semi ∷ []) ++ rest)) vars flaw)) (λ n h. and_then (expect m.Assign h)
+    (λ _ i. and_then (side i) (λ s j. and_then (expect m.Semi j) (λ _ l. Ok (wrap n s, l))))))
+    ((toks.Name x, use_of vars x) ∷ mark m.Assign ∷ (a ++ mark m.Semi ∷ [])) rest vars flaw (wrap (number_of vars x) y)
+side_reads heads side wrap {vars = vars} {a = a} {y = y} x rest flaw one =
+    then_reads heads variable
+    (λ n h. and_then (expect m.Assign h) (λ _ i. and_then (side i)
+    (λ s j. and_then (expect m.Semi j) (λ _ l. Ok (wrap n s, l)))))
+    ((toks.Name x, use_of vars x) ∷ []) (mark m.Assign ∷ (a ++ mark m.Semi ∷ [])) rest vars vars vars flaw
+    (number_of vars x) (wrap (number_of vars x) y)
+    (variable_reads heads x (toks.Mark m.Assign ∷ (tokens_of (a ++ mark m.Semi ∷ []) ++ rest)) vars flaw)
+    (λ g. assign_reads heads side (λ s l. Ok (wrap (number_of vars x) s, l)) a rest vars vars g y
+    (wrap (number_of vars x) y) one (λ h. refl))
+
 pub assigned_reads : (heads : List Head) {vars : List Name} {room : ℕ} {a : List Noted} {side : Given} (x : Name)
     → IsGiven (names_of heads) vars room a side
     → (rest : List Tok) (flaw : Option Stop)
@@ -143,16 +162,8 @@ pub assigned_reads : (heads : List Head) {vars : List Name} {room : ℕ} {a : Li
     ((toks.Name x, use_of vars x) ∷ mark m.Assign ∷ (a ++ mark m.Semi ∷ [])) rest vars flaw
     (tree.assign (number_of vars x) side)
 unfolding assign
-assigned_reads heads {vars = vars} {room = room} {a = a} {side = side} x p rest flaw =
-    then_reads heads variable
-    (λ n h. and_then (expect m.Assign h) (λ _ i. and_then (given room i)
-    (λ s j. and_then (expect m.Semi j) (λ _ l. Ok (tree.assign n s, l)))))
-    ((toks.Name x, use_of vars x) ∷ []) (mark m.Assign ∷ (a ++ mark m.Semi ∷ [])) rest vars vars vars flaw
-    (number_of vars x) (tree.assign (number_of vars x) side)
-    (variable_reads heads x (toks.Mark m.Assign ∷ (tokens_of (a ++ mark m.Semi ∷ []) ++ rest)) vars flaw)
-    (λ g. assign_reads heads (given room) (λ s l. Ok (tree.assign (number_of vars x) s, l)) a rest vars vars g side
-    (tree.assign (number_of vars x) side)
-    (λ h. given_does heads p rest h) (λ h. refl))
+assigned_reads heads {room = room} x p rest flaw =
+    side_reads heads (given room) tree.assign x rest flaw (λ h. given_does heads p rest h)
 
 pub set_reads : (heads : List Head) {vars : List Name} {room : ℕ} {a : List Noted} {e : Expression} (x : Name)
     → IsExpression vars room a e
@@ -162,16 +173,8 @@ pub set_reads : (heads : List Head) {vars : List Name} {room : ℕ} {a : List No
     ((toks.Name x, use_of vars x) ∷ mark m.Assign ∷ (a ++ mark m.Semi ∷ [])) rest vars flaw
     (tree.set_cell (number_of vars x) e)
 unfolding set_cell
-set_reads heads {vars = vars} {room = room} {a = a} {e = e} x p rest flaw =
-    then_reads heads variable
-    (λ n h. and_then (expect m.Assign h) (λ _ i. and_then (expression room i)
-    (λ s j. and_then (expect m.Semi j) (λ _ l. Ok (tree.set_cell n s, l)))))
-    ((toks.Name x, use_of vars x) ∷ []) (mark m.Assign ∷ (a ++ mark m.Semi ∷ [])) rest vars vars vars flaw
-    (number_of vars x) (tree.set_cell (number_of vars x) e)
-    (variable_reads heads x (toks.Mark m.Assign ∷ (tokens_of (a ++ mark m.Semi ∷ []) ++ rest)) vars flaw)
-    (λ g. assign_reads heads (expression room)
-    (λ s l. Ok (tree.set_cell (number_of vars x) s, l)) a rest vars vars g e (tree.set_cell (number_of vars x) e)
-    (λ h. expression_reads heads p rest h) (λ h. refl))
+set_reads heads {room = room} x p rest flaw =
+    side_reads heads (expression room) tree.set_cell x rest flaw (λ h. expression_reads heads p rest h)
 
 pub ended_reads : (heads : List Head) {vars : List Name} {room : ℕ} {a : List Noted} {x : Expression}
     → IsExpression vars room a x
@@ -198,9 +201,7 @@ pub as_ask_statement : (heads : List Head) {vars : List Name} {room : ℕ} {a : 
     → (block_ : Parser Statements) (rest : List Tok) (i : Input)
     → statement_by room block_ (first (tokens_of (a ++ mark m.Semi ∷ []) ++ rest)) i ≡ ask_statement room i
 as_ask_statement heads g.new b rest i = refl
-as_ask_statement heads (g.fork f p) b rest i = refl
-as_ask_statement heads (g.get p q) b rest i = refl
-as_ask_statement heads (g.join p q) b rest i = refl
+as_ask_statement heads p b rest i = refl
 
 -- ---- what stands behind a statement
 
@@ -222,32 +223,18 @@ pub ask_opens : {tasks vars : List Name} {room : ℕ} {a : List Noted} {x : Ask}
     → IsAsk tasks vars room a x → (b : List Noted) (rest : List Tok)
     → Opens (first (tokens_of (a ++ b) ++ rest))
 ask_opens g.new b rest = record { no_else = refl; no_close = refl }
-ask_opens (g.fork f p) b rest = record { no_else = refl; no_close = refl }
-ask_opens (g.get p q) b rest = record { no_else = refl; no_close = refl }
-ask_opens (g.join p q) b rest = record { no_else = refl; no_close = refl }
+ask_opens p b rest = record { no_else = refl; no_close = refl }
 
 pub statement_opens : {tasks vars last : List Name} {room : ℕ} {a : List Noted} {s : Statement}
     → IsStatement tasks room vars a s last → (rest : List Tok)
     → Opens (first (tokens_of a ++ rest))
-statement_opens (g.let_new x p) rest = record { no_else = refl; no_close = refl }
-statement_opens (g.assign x p) rest = record { no_else = refl; no_close = refl }
 statement_opens (g.ask p) rest = ask_opens p (mark m.Semi ∷ []) rest
-statement_opens (g.print p) rest = record { no_else = refl; no_close = refl }
-statement_opens (g.set_cell x p) rest = record { no_else = refl; no_close = refl }
-statement_opens (g.return p) rest = record { no_else = refl; no_close = refl }
-statement_opens (g.choose p q r) rest = record { no_else = refl; no_close = refl }
-statement_opens (g.repeat p q) rest = record { no_else = refl; no_close = refl }
+statement_opens p rest = record { no_else = refl; no_close = refl }
 
 pub statement_longer : {tasks vars last : List Name} {room : ℕ} {a : List Noted} {s : Statement}
     → IsStatement tasks room vars a s last → 0 < length a
-statement_longer (g.let_new x p) = omega arith
-statement_longer (g.assign x p) = omega arith
 statement_longer (g.ask {a = a} p) = omega (arith, length-append a (mark m.Semi ∷ []))
-statement_longer (g.print p) = omega arith
-statement_longer (g.set_cell x p) = omega arith
-statement_longer (g.return p) = omega arith
-statement_longer (g.choose p q r) = omega arith
-statement_longer (g.repeat p q) = omega arith
+statement_longer p = omega arith
 
 pub statements_open : {tasks vars last : List Name} {room : ℕ} {a : List Noted} {body : Statements}
     → IsStatements tasks room vars a body last → (rest : List Tok)

@@ -10,9 +10,10 @@ use Rattle.tj_syntax.specs.Trees.{Statement, Statements}
 use Rattle.tj_syntax.specs.Marks.{Name, most_vars}
 use Rattle.tj_syntax.specs.View.{statements_of}
 use Rattle.tj_syntax.specs.Inner.Input.{Parser, and_then, skip, refuse, pure, unless, breach_of, fresh_by, fresh}
-use Rattle.tj_syntax.specs.Inner.Input.{fresh_variable, add_variable, count_variables, is_mark, ◌>>◌}
-use Rattle.tj_syntax.specs.Inner.Reading.{ask, let_new, assign, set_cell, ended, ask_statement, otherwise_by, otherwise, choose}
-use Rattle.tj_syntax.specs.Inner.Reading.{repeat, statement_by, statement_over, statements_from, statements, block_by, block}
+use Rattle.tj_syntax.specs.Inner.Input.{variable, expect, fresh_variable, add_variable, count_variables, is_mark, ◌>>◌}
+use Rattle.tj_syntax.specs.Inner.Reading.{expression, given, ask, let_new, assign, set_cell, ended, ask_statement}
+use Rattle.tj_syntax.specs.Inner.Reading.{otherwise_by, otherwise, choose, repeat, statement_by, statement_over}
+use Rattle.tj_syntax.specs.Inner.Reading.{statements_from, statements, block_by, block}
 use Rattle.tj_syntax.proofs.Same.AlikeSteps.{Local, Loose, Strict, Narrow, Needs, read, any, it, bind_local, bind_same}
 use Rattle.tj_syntax.proofs.Same.AlikeSteps.{then_local, mapped_local, bind_narrow, pure_narrow, pure_local, skip_local}
 use Rattle.tj_syntax.proofs.Same.AlikeSteps.{refuse_local, breaks_local, by_first, by_vars, by_count, first_narrow}
@@ -54,19 +55,23 @@ let_local room n d =
     (bind_local (count_local n d) (λ c e _. then_local (add_local x n d)
     (pure_local {a = tree.let_new c a} {b = tree.let_new e b} refl n d))))))
 
+-- behind a variable: the mark, the side that it is given and a semicolon
+side_local : {A : Type 0} (side : Parser A) (wrap : ℕ → A → Statement) → Strict any side side
+    → Strict any (λ i. and_then (variable i) (λ n h. (expect m.Assign >> (λ k. and_then (side k)
+    (λ x. expect m.Semi >> pure (wrap n x)))) h)) (λ i. and_then (variable i) (λ n h. (expect m.Assign >>
+    (λ k. and_then (side k) (λ x. expect m.Semi >> pure (wrap n x)))) h))
+side_local side wrap same n d =
+    bind_local (variable_local n d) (λ x y _. then_local (loose (expect_local m.Assign) n d)
+    (bind_local (loose same n d)
+    (λ a b _. then_local (loose (expect_local m.Semi) n d) (pure_local refl n d))))
+
 assign_local : (room : ℕ) → Strict any (assign room) (assign room)
 unfolding assign
-assign_local room n d =
-    bind_local (variable_local n d) (λ x y _. then_local (loose (expect_local m.Assign) n d)
-    (bind_local (loose (given_local room) n d)
-    (λ a b _. then_local (loose (expect_local m.Semi) n d) (pure_local refl n d))))
+assign_local room = side_local (given room) tree.assign (given_local room)
 
 set_local : (room : ℕ) → Strict any (set_cell room) (set_cell room)
 unfolding set_cell
-set_local room n d =
-    bind_local (variable_local n d) (λ x y _. then_local (loose (expect_local m.Assign) n d)
-    (bind_local (loose (expression_local room) n d)
-    (λ a b _. then_local (loose (expect_local m.Semi) n d) (pure_local refl n d))))
+set_local room = side_local (expression room) tree.set_cell (expression_local room)
 
 ended_local : (room : ℕ) → Strict any (ended room) (ended room)
 unfolding ended

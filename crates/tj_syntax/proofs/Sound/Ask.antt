@@ -1,21 +1,23 @@
 -- What is read as an ask or as what a variable is given is one.
-use Rattle.std.proofs.Common.{◌≡◌, ℕ, suc, ◌+◌, List, [], ◌∷◌, ◌++◌, length, Option, Some, None, Ok, refl, ap, sym}
-use Rattle.std.proofs.Common.{◌∙◌, subst, drop, zero-add}
+use Rattle.std.proofs.Common.{◌≡◌, ℕ, suc, false, ◌+◌, List, [], ◌∷◌, ◌++◌, length, Option, Some, None, Ok, refl, ap}
+use Rattle.std.proofs.Common.{sym, ◌∙◌, subst, drop, zero-add}
 use Rattle.tj_lex.specs.declared.token.Tok.{Tok}
 use Rattle.tj_lex.specs.declared.token.Tok.TheVariants as toks
+use Rattle.tj_lex.specs.declared.token.Key.{Key}
 use Rattle.tj_lex.specs.declared.token.Key.TheVariants as k
 use Rattle.tj_lex.specs.declared.token.Mark.TheVariants as m
 use Rattle.tj_syntax.specs.declared.fault.Stop.{Stop}
+use Rattle.tj_syntax.specs.declared.expr.RefOf.{RefOf}
 use Rattle.tj_syntax.specs.Trees as tree
-use Rattle.tj_syntax.specs.Trees.{Expression, Argument, Ask, Given}
+use Rattle.tj_syntax.specs.Trees.{Expression, Ask, Given}
 use Rattle.tj_syntax.specs.Marks.{Name, Noted, forks, key, mark, number_of}
 use Rattle.tj_syntax.specs.Grammar as g
-use Rattle.tj_syntax.specs.Grammar.{IsExpression, IsArguments, IsReference, IsOr, IsAsk, IsGiven}
-use Rattle.tj_syntax.specs.Inner.Input.{Head, Input, and_then, first, next, expect, names_of, note_fork, flaw_at, head_named}
-use Rattle.tj_syntax.specs.Inner.Input.{first_flaw}
-use Rattle.tj_syntax.specs.Inner.Reading.{expression, separated, argument, forked_by, forked, fork, asked, ask_by}
-use Rattle.tj_syntax.specs.Inner.Reading.{ask, given_by, given}
-use Rattle.tj_syntax.proofs.Taken.{Took, took_both, bind_ok, landed, flaw_after}
+use Rattle.tj_syntax.specs.Grammar.{IsArguments, IsReference, IsOr, IsAsk, IsGiven}
+use Rattle.tj_syntax.specs.Inner.Input.{Head, Input, and_then, first, next, expect, names_of, note_fork, flaw_at}
+use Rattle.tj_syntax.specs.Inner.Input.{head_named, first_flaw}
+use Rattle.tj_syntax.specs.Inner.Reading.{expression, separated, argument, forked_by, forked, fork, asked, ask_by, ask}
+use Rattle.tj_syntax.specs.Inner.Reading.{given_by, given}
+use Rattle.tj_syntax.proofs.Taken.{Took, took_both, bind_ok, landed, flaw_after, is_task}
 use Rattle.tj_syntax.proofs.Sound.Steps.{took_fine, expected}
 use Rattle.tj_syntax.proofs.Sound.AskParts.{expressions_sound, arguments_sound, asked_sound}
 
@@ -49,7 +51,6 @@ pub record GotFork (i j : Input) (f : Name) (left : ℕ) : Type 0 where
 
 pub forked_by_sound : (ts : List Tok) (i j : Input) (f : Name × ℕ) → i.ahead ≡ ts → forked_by (first ts) i ≡ Ok (f, j) →
     GotFork i j f.0 f.1
-forked_by_sound [] i j f e h = absurd (cc)
 forked_by_sound (toks.Name x ∷ rest) i j f e h =
     landed (λ b l. GotFork i l b.0 b.1) (x, length i.ahead) f (next i) j h (record {
       rest = rest;
@@ -58,7 +59,7 @@ forked_by_sound (toks.Name x ∷ rest) i j f e h =
           refl;
       there = refl;
     })
-forked_by_sound (t ∷ rest) i j f e h = absurd (cc)
+forked_by_sound ts i j f e h = absurd (cc)
 
 -- a name that is noted as a fork is taken
 took_fork : (i : Input) (f : Name) (rest : List Tok) (count : ℕ) → i.ahead ≡ toks.Name f ∷ rest
@@ -133,10 +134,28 @@ fork_sound room i j a h =
           (g.fork f (subst (λ v. IsArguments v room args.notes list.0) (ap (λ p. p.0) at_open) args.right));
     }))
 
+-- a get or a join by its keyword
+asked_by : (room : ℕ) (word : Key) (wrap : RefOf → Option Expression → Ask) (i j : Input) (a : Ask) (rest : List Tok)
+    → i.ahead ≡ toks.Key word ∷ rest → is_task (toks.Key word) ≡ false
+    → ((p q : List Noted) (r : RefOf) (o : Option Expression) → IsReference i.vars p r → IsOr i.vars room q o
+    → IsAsk (names_of i.tasks) i.vars room (key word ∷ (p ++ q)) (wrap r o))
+    → and_then (asked room (next i)) (λ r l. Ok (wrap r.0 r.1, l)) ≡ Ok (a, j)
+    → Kept i j (λ notes. IsAsk (names_of i.tasks) i.vars room notes a)
+asked_by room word wrap i j a rest e calm make h =
+    let read = bind_ok (asked room (next i)) _ a j h in
+    let got = asked_sound room (next i) read.1 read.0 read.2 in
+    landed (λ b l. Kept i l (λ notes. IsAsk (names_of i.tasks) i.vars room notes b)) (wrap read.0.0 read.0.1)
+    a read.1 j read.3
+    (record {
+      notes = key word ∷ (got.one ++ got.two);
+      took = took_both (took_fine i (toks.Key word) rest e calm) got.took;
+      vars = ap (λ p. p.0) got.kept;
+      right = make got.one got.two read.0.0 read.0.1 got.is_reference got.is_other;
+    })
+
 ask_by_sound : (room : ℕ) (ts : List Tok) (i j : Input) (a : Ask) → i.ahead ≡ ts → ask_by room (first ts)
     i ≡ Ok (a, j)
     → Kept i j (λ notes. IsAsk (names_of i.tasks) i.vars room notes a)
-ask_by_sound room [] i j a e h = absurd (cc)
 ask_by_sound room (toks.Key k.New ∷ rest) i j a e h =
     landed (λ b l. Kept i l (λ notes. IsAsk (names_of i.tasks) i.vars room notes b)) tree.new a (next i) j h
     (record { notes = key k.New ∷ []; took = took_fine i (toks.Key k.New) rest e refl; vars = refl; right = g.new })
@@ -149,28 +168,10 @@ ask_by_sound room (toks.Key k.Fork ∷ rest) i j a e h =
       right = got.right;
     }
 ask_by_sound room (toks.Key k.Get ∷ rest) i j a e h =
-    let read = bind_ok (asked room (next i)) _ a j h in
-    let got = asked_sound room (next i) read.1 read.0 read.2 in
-    landed (λ b l. Kept i l (λ notes. IsAsk (names_of i.tasks) i.vars room notes b)) (tree.get read.0.0 read.0.1)
-    a read.1 j read.3
-    (record {
-      notes = key k.Get ∷ (got.one ++ got.two);
-      took = took_both (took_fine i (toks.Key k.Get) rest e refl) got.took;
-      vars = ap (λ p. p.0) got.kept;
-      right = g.get got.is_reference got.is_other;
-    })
+    asked_by room k.Get tree.get i j a rest e refl (λ p q r o is more. g.get is more) h
 ask_by_sound room (toks.Key k.Join ∷ rest) i j a e h =
-    let read = bind_ok (asked room (next i)) _ a j h in
-    let got = asked_sound room (next i) read.1 read.0 read.2 in
-    landed (λ b l. Kept i l (λ notes. IsAsk (names_of i.tasks) i.vars room notes b)) (tree.join read.0.0 read.0.1)
-    a read.1 j read.3
-    (record {
-      notes = key k.Join ∷ (got.one ++ got.two);
-      took = took_both (took_fine i (toks.Key k.Join) rest e refl) got.took;
-      vars = ap (λ p. p.0) got.kept;
-      right = g.join got.is_reference got.is_other;
-    })
-ask_by_sound room (t ∷ rest) i j a e h = absurd (cc)
+    asked_by room k.Join tree.join i j a rest e refl (λ p q r o is more. g.join is more) h
+ask_by_sound room ts i j a e h = absurd (cc)
 
 pub ask_sound : (room : ℕ) (i j : Input) (a : Ask) → ask room i ≡ Ok (a, j)
     → Kept i j (λ notes. IsAsk (names_of i.tasks) i.vars room notes a)
@@ -200,12 +201,11 @@ result_sound room i j a h =
 given_by_sound : (room : ℕ) (ts : List Tok) (i j : Input) (a : Given) → i.ahead ≡ ts → given_by room (first ts) i ≡ Ok
     (a, j)
     → Kept i j (λ notes. IsGiven (names_of i.tasks) i.vars room notes a)
-given_by_sound room [] i j a e h = result_sound room i j a h
 given_by_sound room (toks.Key k.New ∷ rest) i j a e h = answer_sound room i j a h
 given_by_sound room (toks.Key k.Fork ∷ rest) i j a e h = answer_sound room i j a h
 given_by_sound room (toks.Key k.Get ∷ rest) i j a e h = answer_sound room i j a h
 given_by_sound room (toks.Key k.Join ∷ rest) i j a e h = answer_sound room i j a h
-given_by_sound room (t ∷ rest) i j a e h = result_sound room i j a h
+given_by_sound room ts i j a e h = result_sound room i j a h
 
 pub given_sound : (room : ℕ) (i j : Input) (a : Given) → given room i ≡ Ok (a, j)
     → Kept i j (λ notes. IsGiven (names_of i.tasks) i.vars room notes a)

@@ -9,11 +9,10 @@ use Rattle.tj_syntax.specs.declared.fault.Stop.{Stop}
 use Rattle.tj_syntax.specs.declared.expr.RefOf.{RefOf}
 use Rattle.tj_syntax.specs.declared.expr.RefOf.TheVariants as ref
 use Rattle.tj_syntax.specs.Trees as tree
-use Rattle.tj_syntax.specs.Trees.{Expression, Argument, Ask, Given}
+use Rattle.tj_syntax.specs.Trees.{Expression, Argument}
 use Rattle.tj_syntax.specs.Marks.{Name, Noted, key, mark, number_of, use_of}
 use Rattle.tj_syntax.specs.Grammar as g
 use Rattle.tj_syntax.specs.Grammar.{IsExpression, IsArgument, IsMoreArguments, IsArguments, IsReference, IsOr}
-use Rattle.tj_syntax.specs.Grammar.{IsAsk, IsGiven}
 use Rattle.tj_syntax.specs.Inner.Input.{Input, Outcome, and_then, first, next, sees, eat, known, variable, variable_by}
 use Rattle.tj_syntax.specs.Inner.Reading.{expression, separated_from, separated, argument_by, argument, reference_by}
 use Rattle.tj_syntax.specs.Inner.Reading.{reference, or_else_by, or_else, asked}
@@ -33,14 +32,13 @@ pub record GotName (i j : Input) (n : ℕ) : Type 0 where
 
 variable_by_sound : (ts : List Tok) (i j : Input) (n : ℕ) → i.ahead ≡ ts → variable_by (first ts) i ≡ Ok (n, j) →
     GotName i j n
-variable_by_sound [] i j n e h = absurd (cc)
 variable_by_sound (toks.Name x ∷ rest) i j n e h = let s = knew x i j n rest e h in record {
   name = x;
   step = s.0;
   is
       = s.1;
 }
-variable_by_sound (t ∷ rest) i j n e h = absurd (cc)
+variable_by_sound ts i j n e h = absurd (cc)
 
 pub variable_sound : (i j : Input) (n : ℕ) → variable i ≡ Ok (n, j) → GotName i j n
 unfolding variable
@@ -60,7 +58,6 @@ plain_argument room i j a h =
 argument_by_sound : (room : ℕ) (ts : List Tok) (i j : Input) (a : Argument) → i.ahead ≡ ts → argument_by room (first
     ts) i ≡ Ok (a, j)
     → Got i j (λ notes. IsArgument i.vars room notes a)
-argument_by_sound room [] i j a e h = plain_argument room i j a h
 argument_by_sound room (toks.Key k.Own ∷ rest) i j a e h =
     let read = bind_ok (variable (next i)) _ a j h in
     let one = variable_sound (next i) read.1 read.0 read.2 in
@@ -72,7 +69,7 @@ argument_by_sound room (toks.Key k.Own ∷ rest) i j a e h =
       right = subst (λ n. IsArgument i.vars room (key k.Own ∷ ((toks.Name one.name, use_of i.vars one.name) ∷ []))
           (tree.own n)) (sym one.is) (g.own one.name);
     })
-argument_by_sound room (t ∷ rest) i j a e h = plain_argument room i j a h
+argument_by_sound room ts i j a e h = plain_argument room i j a h
 
 pub argument_sound : (room : ℕ) → Sound (λ vars notes x. IsArgument vars room notes x) (argument room)
 unfolding argument
@@ -160,7 +157,6 @@ arguments_sound room i j xs h =
 pub reference_by_sound : (ts : List Tok) (i j : Input) (r : RefOf) → i.ahead ≡ ts
     → reference_by (first ts) i ≡ Ok (r, j)
     → Got i j (λ notes. IsReference i.vars notes r)
-reference_by_sound [] i j r e h = absurd (cc)
 reference_by_sound (toks.Name x ∷ rest) i j r e h =
     let read = bind_ok (known x i) _ r j h in
     let s = knew x i read.1 read.0 rest e read.2 in
@@ -181,7 +177,7 @@ reference_by_sound (toks.Key k.Me ∷ rest) i j r e h =
       right =
           g.reference_me;
     })
-reference_by_sound (t ∷ rest) i j r e h = absurd (cc)
+reference_by_sound ts i j r e h = absurd (cc)
 
 or_else_by_sound : (room : ℕ) (ts : List Tok) (i j : Input) (o : Option Expression) → i.ahead ≡ ts →
     or_else_by room (first ts) i ≡ Ok (o, j)

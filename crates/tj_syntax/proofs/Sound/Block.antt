@@ -4,13 +4,14 @@ use Rattle.std.proofs.Common.{append_assoc, ⊎_elim}
 use Rattle.std.proofs.lemmas.List.{append-nil}
 use Rattle.tj_lex.specs.declared.token.Tok.{Tok}
 use Rattle.tj_lex.specs.declared.token.Tok.TheVariants as toks
+use Rattle.tj_lex.specs.declared.token.Key.{Key}
 use Rattle.tj_lex.specs.declared.token.Key.TheVariants as k
 use Rattle.tj_lex.specs.declared.token.Mark.TheVariants as m
 use Rattle.tj_syntax.specs.Trees as tree
-use Rattle.tj_syntax.specs.Trees.{Expression, Ask, Given, Statement, Statements, Otherwise}
+use Rattle.tj_syntax.specs.Trees.{Expression, Statement, Statements, Otherwise}
 use Rattle.tj_syntax.specs.Marks.{Name, Noted, key, mark, opening, within}
 use Rattle.tj_syntax.specs.Grammar as g
-use Rattle.tj_syntax.specs.Grammar.{IsExpression, IsAsk, IsGiven, IsStatement, IsBlock, IsStatements, IsElse}
+use Rattle.tj_syntax.specs.Grammar.{IsExpression, IsStatement, IsBlock, IsStatements, IsElse}
 use Rattle.tj_syntax.specs.View.{statements_of}
 use Rattle.tj_syntax.specs.Inner.Input.{Input, Parser, and_then, first, next, refuse, sees, open_level, names_of}
 use Rattle.tj_syntax.specs.Inner.Reading.{expression, ended, otherwise_by, otherwise, choose, repeat, statement_by}
@@ -111,10 +112,27 @@ behind room word i j s rest e calm got =
           = got.right;
     }
 
+-- a print or a return by its keyword
+ended_by : (room : ℕ) (word : Key) (wrap : Expression → Statement) (i j : Input) (s : Statement) (rest : List Tok)
+    → i.ahead ≡ toks.Key word ∷ rest → is_task (toks.Key word) ≡ false
+    → ((a : List Noted) (x : Expression) → IsExpression i.vars room a x
+    → IsStatement (names_of i.tasks) room i.vars (key word ∷ (a ++ mark m.Semi ∷ [])) (wrap x) i.vars)
+    → and_then (ended room (next i)) (λ x l. Ok (wrap x, l)) ≡ Ok (s, j) → Whole room i j s
+ended_by room word wrap i j s rest e calm make h =
+    let read = bind_ok (ended room (next i)) _ s j h in
+    let got = ended_sound room (next i) read.1 read.0 read.2 in
+    landed (λ b l. Whole room i l b) (wrap read.0) s read.1 j read.3
+    (record {
+      notes = key word ∷ (got.notes ++ mark m.Semi ∷ []);
+      took = took_both (took_fine i (toks.Key word) rest e calm) got.took;
+      right = subst
+          (λ v. IsStatement (names_of i.tasks) room i.vars (key word ∷ (got.notes ++ mark m.Semi ∷ [])) (wrap read.0) v)
+          (sym got.vars) (make got.notes read.0 got.right);
+    })
+
 statement_by_sound : (room : ℕ) (block : Parser Statements) → SoundBlock room block → (ts : List Tok) (i j : Input) (s
     : Statement) → i.ahead ≡ ts
     → statement_by room block (first ts) i ≡ Ok (s, j) → Whole room i j s
-statement_by_sound room block sb [] i j s e h = ask_statement_sound room i j s h
 statement_by_sound room block sb (toks.Name x ∷ rest) i j s e h = assign_sound room i j s h
 statement_by_sound room block sb (toks.Key k.Let ∷ rest) i j s e h = behind room k.Let i j s rest e refl
     (let_new_sound room (next i) j s h)
@@ -125,26 +143,10 @@ statement_by_sound room block sb (toks.Key k.If ∷ rest) i j s e h = behind roo
 statement_by_sound room block sb (toks.Key k.While ∷ rest) i j s e h = behind room k.While i j s rest e refl
     (repeat_sound room block sb (next i) j s h)
 statement_by_sound room block sb (toks.Key k.Print ∷ rest) i j s e h =
-    let read = bind_ok (ended room (next i)) _ s j h in
-    let got = ended_sound room (next i) read.1 read.0 read.2 in
-    landed (λ b l. Whole room i l b) (tree.print read.0) s read.1 j read.3
-    (record {
-      notes = key k.Print ∷ (got.notes ++ mark m.Semi ∷ []);
-      took = took_both (took_fine i (toks.Key k.Print) rest e refl) got.took;
-      right = subst (λ v. IsStatement (names_of i.tasks) room i.vars (key k.Print ∷ (got.notes ++ mark m.Semi ∷ []))
-          (tree.print read.0) v) (sym got.vars) (g.print got.right);
-    })
+    ended_by room k.Print tree.print i j s rest e refl (λ a x p. g.print p) h
 statement_by_sound room block sb (toks.Key k.Return ∷ rest) i j s e h =
-    let read = bind_ok (ended room (next i)) _ s j h in
-    let got = ended_sound room (next i) read.1 read.0 read.2 in
-    landed (λ b l. Whole room i l b) (tree.return read.0) s read.1 j read.3
-    (record {
-      notes = key k.Return ∷ (got.notes ++ mark m.Semi ∷ []);
-      took = took_both (took_fine i (toks.Key k.Return) rest e refl) got.took;
-      right = subst (λ v. IsStatement (names_of i.tasks) room i.vars (key k.Return ∷ (got.notes ++ mark m.Semi ∷ []))
-          (tree.return read.0) v) (sym got.vars) (g.return got.right);
-    })
-statement_by_sound room block sb (t ∷ rest) i j s e h = ask_statement_sound room i j s h
+    ended_by room k.Return tree.return i j s rest e refl (λ a x p. g.return p) h
+statement_by_sound room block sb ts i j s e h = ask_statement_sound room i j s h
 
 pub statement_sound : (room : ℕ) (block : Parser Statements) → SoundBlock room block
     → SoundStatement room (statement_over
@@ -200,7 +202,6 @@ block_by_sound : (room : ℕ) (item : Parser Statement) → SoundStatement (with
     → block_by room item (first ts) i ≡ Ok (b, j) → Made i j (λ notes last. IsBlock (names_of i.tasks) room i.vars
     notes b last)
 unfolding statements
-block_by_sound room item si [] i j b e h = absurd (cc)
 block_by_sound room item si (toks.Mark m.BraceOpen ∷ rest) i j b e h =
     let read = bind_ok (open_level room i) _ b j h in
     let entry = opened room i read.1 read.0 (toks.Mark m.BraceOpen) rest refl e read.2 in
@@ -215,7 +216,7 @@ block_by_sound room item si (toks.Mark m.BraceOpen ∷ rest) i j b e h =
           (subst (λ ts. IsStatements (names_of ts) (within room) read.1.vars got.notes (statements_of got.more)
           j.vars) entry.1.took.tasks got.right)));
     }
-block_by_sound room item si (t ∷ rest) i j b e h = absurd (cc)
+block_by_sound room item si ts i j b e h = absurd (cc)
 
 pub refused_statement : (room : ℕ) → SoundStatement room refuse
 refused_statement room i j s h = absurd (cc)

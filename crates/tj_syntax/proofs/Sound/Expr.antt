@@ -13,15 +13,15 @@ use Rattle.tj_syntax.specs.declared.expr.Op.TheVariants as op
 use Rattle.tj_syntax.specs.declared.expr.Rel.{Rel}
 use Rattle.tj_syntax.specs.declared.expr.Rel.TheVariants as rel
 use Rattle.tj_syntax.specs.Trees as tree
-use Rattle.tj_syntax.specs.Trees.{Expression, Pairs}
+use Rattle.tj_syntax.specs.Trees.{Expression}
 use Rattle.tj_syntax.specs.Marks.{Name, Noted, fine, key, mark, opening, within, use_of}
 use Rattle.tj_syntax.specs.Grammar.{level_of, op_mark, rel_mark, chain_of, IsExpression, alone, compared, IsChain}
 use Rattle.tj_syntax.specs.Grammar.{operands, IsPairs, pairs_end, pairs_more, IsOperand, product, unary as one_unary}
 use Rattle.tj_syntax.specs.Grammar.{IsUnary, signed, number, name, me, grouped}
 use Rattle.tj_syntax.specs.View.{pairs_of}
 use Rattle.tj_syntax.specs.Inner.Input.{Input, Outcome, Parser, first, next, refuse, expect, open_level, known}
-use Rattle.tj_syntax.specs.Inner.Reading.{operator, relation, PairList, pair_by, pairs_from, pairs, chain, comparison_by}
-use Rattle.tj_syntax.specs.Inner.Reading.{operand_over, sum_over, expression_over, unary_by, unary}
+use Rattle.tj_syntax.specs.Inner.Reading.{operator, relation, PairList, pair_by, pairs_from, pairs, chain}
+use Rattle.tj_syntax.specs.Inner.Reading.{comparison_by, operand_over, sum_over, expression_over, unary_by, unary}
 use Rattle.tj_syntax.proofs.Taken.{Got, Sound, took_nothing, took_both, bind_ok, landed}
 use Rattle.tj_syntax.proofs.Sound.Steps.{took_fine, expected, opened, knew}
 
@@ -44,7 +44,6 @@ operator_next products (t ∷ rest) o h = absurd (cc)
 
 pub relation_next : (ts : List Tok) (rel : Rel) → relation (first ts) ≡ Some rel → (rest : List Tok) × (ts ≡ toks.Mark
     (rel_mark rel) ∷ rest)
-relation_next [] r h = absurd (cc)
 relation_next (toks.Mark m.Eq ∷ rest) r h = let e : rel.Eq ≡ r = cc in subst (λ o. (more : List Tok) × (toks.Mark m.Eq
     ∷ rest ≡ toks.Mark (rel_mark o) ∷ more)) e (rest, refl)
 relation_next (toks.Mark m.Ne ∷ rest) r h = let e : rel.Ne ≡ r = cc in subst (λ o. (more : List Tok) × (toks.Mark m.Ne
@@ -57,7 +56,7 @@ relation_next (toks.Mark m.Gt ∷ rest) r h = let e : rel.Gt ≡ r = cc in subst
     ∷ rest ≡ toks.Mark (rel_mark o) ∷ more)) e (rest, refl)
 relation_next (toks.Mark m.Ge ∷ rest) r h = let e : rel.Ge ≡ r = cc in subst (λ o. (more : List Tok) × (toks.Mark m.Ge
     ∷ rest ≡ toks.Mark (rel_mark o) ∷ more)) e (rest, refl)
-relation_next (t ∷ rest) r h = absurd (cc)
+relation_next ts r h = absurd (cc)
 
 -- pairs that were read behind those found before
 record More (level : Level) (room : ℕ) (found result : PairList) (i j : Input) : Type 0 where
@@ -196,7 +195,6 @@ unary_by_sound : (inner grouped_ : Parser Expression) (room : ℕ) → SoundUnar
     Expression)
     → i.ahead ≡ ts → unary_by inner grouped_ room (first ts) i ≡ Ok (a, j) → Got i j (λ notes. IsUnary i.vars room
     notes a)
-unary_by_sound inner group room si sg [] i j a e h = absurd (cc)
 unary_by_sound inner group room si sg (toks.Num n ∷ rest) i j a e h =
     landed (λ b k. Got i k (λ notes. IsUnary i.vars room notes b)) (tree.number n) a (next i) j h
     (record {
@@ -247,7 +245,7 @@ unary_by_sound inner group room si sg (toks.Mark m.ParenOpen ∷ rest) i j a e h
       right = grouped (subst (λ v. IsExpression v (within room) one.notes more.0) (ap (λ p. p.0) step.1.kept)
           one.right);
     })
-unary_by_sound inner group room si sg (t ∷ rest) i j a e h = absurd (cc)
+unary_by_sound inner group room si sg ts i j a e h = absurd (cc)
 
 pub unary_sound : (room : ℕ) → SoundUnary room (unary room)
 unfolding unary

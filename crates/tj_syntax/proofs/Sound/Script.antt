@@ -1,10 +1,9 @@
 -- What is read as a whole script is one, whose tasks are those of the heads.
-use Rattle.std.proofs.Common.{◌≡◌, ℕ, zero, suc, ◌+◌, true, false, cond, nat_eq, is_some, List, [], ◌∷◌, ◌++◌, length}
-use Rattle.std.proofs.Common.{map, slice_get, Option, Some, None, option_map, Ok, refl, ap, sym, ◌∙◌, subst, arith}
-use Rattle.std.proofs.Common.{eqb-true, append_assoc, length-append, ⊎_elim, codes}
+use Rattle.std.proofs.Common.{◌≡◌, ℕ, zero, suc, ◌+◌, Bool, true, false, cond, nat_eq, is_some, List, [], ◌∷◌, ◌++◌}
+use Rattle.std.proofs.Common.{length, map, slice_get, Option, Some, None, option_map, Ok, refl, ap, sym, ◌∙◌, subst}
+use Rattle.std.proofs.Common.{arith, eqb-true, append_assoc, length-append, ⊎_elim, codes}
 use Rattle.std.specs.List.{AllByRecursion}
 use Rattle.std.proofs.lemmas.List.{append-nil}
-use Rattle.std.proofs.lemmas.Bool.{cases_Bool}
 use Rattle.tj_lex.specs.declared.token.Tok.{Tok}
 use Rattle.tj_lex.specs.declared.token.Tok.TheVariants as toks
 use Rattle.tj_lex.specs.declared.token.Key.TheVariants as k
@@ -16,7 +15,7 @@ use Rattle.tj_syntax.specs.declared.fault.Stop.TheVariants as stop
 use Rattle.tj_syntax.specs.Trees.{Task}
 use Rattle.tj_syntax.specs.Marks.{Name, Noted, forks, declares, key, mark, index_of, most_tasks}
 use Rattle.tj_syntax.specs.Grammar as g
-use Rattle.tj_syntax.specs.Grammar.{IsMoreParams, IsParams, IsTask, IsTasks, IsProgram}
+use Rattle.tj_syntax.specs.Grammar.{IsMoreParams, IsParams, IsTasks, IsProgram}
 use Rattle.tj_syntax.specs.Faults.{tokens_of, AreUnbroken, IsScript, task_named, task_at, fork_of, fork_breach}
 use Rattle.tj_syntax.specs.Faults.{AreForksRight, main_of}
 use Rattle.tj_syntax.specs.Inner.Input.{Head, Input, Outcome, and_then, refuse, names_of, count_params, with_head}
@@ -274,20 +273,28 @@ head_params heads script e f =
     at None = refl
     at (Some n) = params_from_pairs heads script e n
 
-flaw_right : (h : Option Head) (t : Option Task) (left count : ℕ) → option_map (λ (x : Head). x.params) h ≡ option_map
-    (λ (x : Task). x.params) t
-    → flaw_at h left count ≡ None → fork_of t count ≡ None
-flaw_right None None left count e flaw = absurd (cc)
-flaw_right None (Some t) left count e flaw = absurd (cc)
-flaw_right (Some h) None left count e flaw = absurd (cc)
-flaw_right (Some h) (Some t) left count e flaw =
+-- a fork of a task with as many parameters is as faulty for its head as for the task
+pub flaw_breach : (h : Option Head) (t : Option Task) (left count : ℕ)
+    → option_map (λ (x : Head). x.params) h ≡ option_map (λ (x : Task). x.params) t
+    → flaw_at h left count ≡ option_map (λ b. stop.Broken b left) (fork_of t count)
+flaw_breach None None left count e = refl
+flaw_breach None (Some t) left count e = absurd (cc)
+flaw_breach (Some h) None left count e = absurd (cc)
+flaw_breach (Some h) (Some t) left count e =
     let same : h.params ≡ t.params = cc in
-    ⊎_elim
-    (λ y. subst (λ p. cond (nat_eq p count) None (Some Count) ≡ None) same (subst (λ b. cond b None (Some Count) ≡
-    None) (sym y) refl))
-    (λ n. let h' : ◌≡◌ {A = Option Stop} (Some (stop.Broken Count left)) None = subst (λ b. cond b None (Some
-    (stop.Broken Count left)) ≡ None) n flaw in absurd (cc))
-    (cases_Bool (nat_eq h.params count))
+    ap (λ p. cond (nat_eq p count) None (Some (stop.Broken Count left))) same ∙ by (nat_eq t.params count) where
+      by : (x : Bool) → cond x None (Some (stop.Broken Count left))
+          ≡ option_map (λ b. stop.Broken b left) (cond x None (Some Count))
+      by true = refl
+      by false = refl
+
+flaw_right : (h : Option Head) (t : Option Task) (left count : ℕ)
+    → option_map (λ (x : Head). x.params) h ≡ option_map (λ (x : Task). x.params) t
+    → flaw_at h left count ≡ None → fork_of t count ≡ None
+flaw_right h t left count e flaw = none (fork_of t count) (sym (flaw_breach h t left count e) ∙ flaw) where
+  none : (o : Option Breach) → option_map (λ b. stop.Broken b left) o ≡ None → o ≡ None
+  none None k = refl
+  none (Some b) k = absurd (cc)
 
 pub note_right : (heads : List Head) (script : List Task) → AreHeads heads script → (n : Noted) (left : ℕ) → note_flaw
     heads n left ≡ None → fork_breach script n ≡ None

@@ -9,8 +9,8 @@ use Rattle.tj_lex.specs.declared.token.Mark.{Mark}
 use Rattle.tj_syntax.specs.declared.fault.Breach.{Breach}
 use Rattle.tj_syntax.specs.declared.fault.Stop.{Stop}
 use Rattle.tj_syntax.specs.Marks.{Name, fine, broken, Noted, mark, opening, index_of, number_of, use_of}
-use Rattle.tj_syntax.specs.Inner.Input.{Head, Input, Outcome, first, next, skip, refuse, breaks, is_mark, sees, expect, eat}
-use Rattle.tj_syntax.specs.Inner.Input.{open_level, known, known_at}
+use Rattle.tj_syntax.specs.Inner.Input.{Head, Input, Outcome, first, next, skip, refuse, breaks, is_mark, sees, expect}
+use Rattle.tj_syntax.specs.Inner.Input.{eat, open_level, known, known_at}
 use Rattle.tj_syntax.proofs.Taken.{Took, took_one, if_ok, note_flaw, ok_inj, landed, is_task}
 
 -- a token that is fine breaks nothing
@@ -20,10 +20,7 @@ fine_unbroken t b = λ h. cc
 -- a token that is fine is no fork
 pub fine_flaw : (heads : List Head) (t : Tok) (left : ℕ) → note_flaw heads (t, fine) left ≡ None
 fine_flaw heads (toks.Name f) left = refl
-fine_flaw heads (toks.Num n) left = refl
-fine_flaw heads (toks.Key k) left = refl
-fine_flaw heads (toks.Mark k) left = refl
-fine_flaw heads toks.End left = refl
+fine_flaw heads t left = refl
 
 -- the next token is taken as it is
 pub took_fine : (i : Input) (t : Tok) (rest : List Tok) → i.ahead ≡ t ∷ rest → is_task t ≡ false → Took i (next i)
@@ -47,11 +44,10 @@ skipped i j t rest a b calm e h =
 
 pub mark_next : (mark : Mark) (ts : List Tok) → is_mark mark (first ts) ≡ true → (rest : List Tok) × (ts ≡ toks.Mark
     mark ∷ rest)
-mark_next mark_ [] h = absurd (cc)
 mark_next mark_ (toks.Mark found ∷ rest) h =
     let same : mark_ ≡ found = same_true the_type (search rules) mark_ found h in
     (rest, ap (λ m. toks.Mark m ∷ rest) (sym same))
-mark_next mark_ (t ∷ rest) h = absurd (cc)
+mark_next mark_ ts h = absurd (cc)
 
 pub expected : (mark_ : Mark) (i j : Input) (u : Unit {0}) → expect mark_ i ≡ Ok (u, j) → Stepped i j (mark mark_ ∷ [])
 unfolding expect

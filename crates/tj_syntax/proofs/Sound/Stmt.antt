@@ -1,6 +1,6 @@
 -- What is read as a statement without a block is one.
-use Rattle.std.proofs.Common.{◌≡◌, ℕ, Bool, true, false, cond, is_some, List, [], ◌∷◌, ◌++◌, length, Option, Some}
-use Rattle.std.proofs.Common.{None, Ok, refl, ap, sym, ◌∙◌, subst}
+use Rattle.std.proofs.Common.{◌≡◌, ℕ, Bool, true, false, cond, is_some, List, [], ◌∷◌, ◌++◌, length, Option, Some, None}
+use Rattle.std.proofs.Common.{Ok, refl, ap, sym, ◌∙◌, subst}
 use Rattle.std.specs.Prelude.{nat_le}
 use Rattle.tj_lex.specs.declared.token.Tok.{Tok}
 use Rattle.tj_lex.specs.declared.token.Tok.TheVariants as toks
@@ -9,17 +9,18 @@ use Rattle.tj_lex.specs.declared.token.Mark.TheVariants as m
 use Rattle.tj_syntax.specs.declared.fault.Breach.{Breach}
 use Rattle.tj_syntax.specs.declared.fault.Breach.TheVariants.{Twice, Many}
 use Rattle.tj_syntax.specs.Trees as tree
-use Rattle.tj_syntax.specs.Trees.{Expression, Ask, Given, Statement, Statements, Otherwise}
+use Rattle.tj_syntax.specs.Trees.{Expression, Statement}
 use Rattle.tj_syntax.specs.Marks.{Name, Note, Noted, fine, broken, key, mark, use_of, index_of, declaration, most_vars}
+use Rattle.tj_syntax.specs.Marks.{number_of}
 use Rattle.tj_syntax.specs.Grammar as g
-use Rattle.tj_syntax.specs.Grammar.{IsExpression, IsAsk, IsGiven, IsStatement, IsBlock, IsStatements, IsElse}
-use Rattle.tj_syntax.specs.Inner.Input.{Input, first, next, expect, names_of, fresh, fresh_by, fresh_variable, breach_of}
-use Rattle.tj_syntax.specs.Inner.Input.{unless, variable}
+use Rattle.tj_syntax.specs.Grammar.{IsExpression, IsGiven, IsStatement}
+use Rattle.tj_syntax.specs.Inner.Input.{Input, Parser, and_then, first, next, expect, names_of, fresh, fresh_by}
+use Rattle.tj_syntax.specs.Inner.Input.{fresh_variable, breach_of, unless, variable}
 use Rattle.tj_syntax.specs.Inner.Reading.{expression, ask, given, let_new, assign, set_cell, ended, ask_statement}
 use Rattle.tj_syntax.proofs.Taken.{Took, took_both, bind_ok, landed}
 use Rattle.tj_syntax.proofs.Sound.Steps.{took_fine, expected}
 use Rattle.tj_syntax.proofs.Sound.AskParts.{expressions_sound, variable_sound}
-use Rattle.tj_syntax.proofs.Sound.Ask.{ask_sound, given_sound}
+use Rattle.tj_syntax.proofs.Sound.Ask.{Kept, ask_sound, given_sound}
 
 -- what is read where variables become known
 pub record Made (i j : Input) (P : List Noted → List Name → Type 0) : Type 0 where
@@ -63,10 +64,9 @@ unless_ok most earlier i j x y rest e (Some b) is h = absurd (cc)
 fresh_by_sound : (most : ℕ) (earlier : List Name) (ts : List Tok) (i j : Input) (x : Name) → i.ahead ≡ ts → fresh_by
     most earlier (first ts) i ≡ Ok (x, j)
     → GotFresh most earlier i j x
-fresh_by_sound most earlier [] i j x e h = absurd (cc)
 fresh_by_sound most earlier (toks.Name y ∷ rest) i j x e h = unless_ok most earlier i j y x rest e (breach_of most
     earlier y) refl h
-fresh_by_sound most earlier (t ∷ rest) i j x e h = absurd (cc)
+fresh_by_sound most earlier ts i j x e h = absurd (cc)
 
 pub fresh_sound : (most : ℕ) (earlier : List Name) (i j : Input) (x : Name) → fresh most earlier i ≡ Ok (x, j) →
     GotFresh most earlier i j x
@@ -123,56 +123,53 @@ let_new_sound room i j s h =
           (tree.let_new (length v) side.0) (v ++ x ∷ [])) (sym vars) right;
     })
 
-pub assign_sound : (room : ℕ) (i j : Input) (s : Statement) → assign room i ≡ Ok (s, j) → Whole room i j s
-unfolding assign
-assign_sound room i j s h =
+-- behind a variable: the mark, the side that it is given and a semicolon
+assigned_sound : {A : Type 0} (side : Parser A) (P : List Name → List Name → List Noted → A → Type 0)
+    → ((i j : Input) (x : A) → side i ≡ Ok (x, j) → Kept i j (λ notes. P (names_of i.tasks) i.vars notes x))
+    → (wrap : ℕ → A → Statement) (R : List Noted → Statement → List Name → Type 0) (i j : Input) (s : Statement)
+    → ((x : Name) (notes : List Noted) (y : A) → P (names_of i.tasks) i.vars notes y
+    → R ((toks.Name x, use_of i.vars x) ∷ mark m.Assign ∷ (notes ++ mark m.Semi ∷ [])) (wrap (number_of i.vars x) y)
+    i.vars)
+    → and_then (variable i) (λ n h. and_then (expect m.Assign h) (λ _ k. and_then (side k)
+    (λ x l. and_then (expect m.Semi l) (λ _ z. Ok (wrap n x, z))))) ≡ Ok (s, j)
+    → Made i j (λ notes last. R notes s last)
+assigned_sound side P sound wrap R i j s make h =
     let read = bind_ok (variable i) _ s j h in
     let x = variable_sound i read.1 read.0 read.2 in
     let gives = bind_ok (expect m.Assign read.1) _ s j read.3 in
     let assigning = expected m.Assign read.1 gives.1 gives.0 gives.2 in
-    let side = bind_ok (given room gives.1) _ s j gives.3 in
-    let got = given_sound room gives.1 side.1 side.0 side.2 in
-    let close = bind_ok (expect m.Semi side.1) _ s j side.3 in
-    let closing = expected m.Semi side.1 close.1 close.0 close.2 in
+    let given = bind_ok (side gives.1) _ s j gives.3 in
+    let got = sound gives.1 given.1 given.0 given.2 in
+    let close = bind_ok (expect m.Semi given.1) _ s j given.3 in
+    let closing = expected m.Semi given.1 close.1 close.0 close.2 in
     let before : gives.1.vars ≡ i.vars = ap (λ p. p.0) (assigning.kept ∙ x.step.kept) in
     let tasks : gives.1.tasks ≡ i.tasks = assigning.took.tasks ∙ x.step.took.tasks in
     let vars : close.1.vars ≡ i.vars = ap (λ p. p.0) closing.kept ∙ got.vars ∙ before in
     let notes = (toks.Name x.name, use_of i.vars x.name) ∷ (mark m.Assign ∷ (got.notes ++ mark m.Semi ∷ [])) in
-    landed (λ b l. Whole room i l b) (tree.assign read.0 side.0) s close.1 j close.3
+    landed (λ b l. Made i l (λ ns last. R ns b last)) (wrap read.0 given.0) s close.1 j close.3
     (record {
       notes = (toks.Name x.name, use_of i.vars x.name) ∷ (mark m.Assign ∷ (got.notes ++ mark m.Semi ∷ []));
       took = took_both x.step.took (took_both assigning.took (took_both got.took closing.took));
-      right = subst (λ v. IsStatement (names_of i.tasks) room i.vars notes (tree.assign read.0 side.0) v) (sym vars)
-          (subst (λ n. IsStatement (names_of i.tasks) room i.vars notes (tree.assign n side.0) i.vars) (sym x.is)
-          (g.assign x.name (subst (λ ts. IsGiven (names_of ts) i.vars room got.notes side.0) tasks
-          (subst (λ v. IsGiven (names_of gives.1.tasks) v room got.notes side.0) before got.right))));
+      right = subst (λ v. R notes (wrap read.0 given.0) v) (sym vars)
+          (subst (λ n. R notes (wrap n given.0) i.vars) (sym x.is)
+          (make x.name got.notes given.0 (subst (λ ts. P (names_of ts) i.vars got.notes given.0) tasks
+          (subst (λ v. P (names_of gives.1.tasks) v got.notes given.0) before got.right))));
     })
 
-pub set_cell_sound : (room : ℕ) (i j : Input) (s : Statement) → set_cell room i ≡ Ok (s, j) → Behind (key k.Set) room
-    i j s
+pub assign_sound : (room : ℕ) (i j : Input) (s : Statement) → assign room i ≡ Ok (s, j) → Whole room i j s
+unfolding assign
+assign_sound room i j s h = assigned_sound (given room) (λ tasks vars notes x. IsGiven tasks vars room notes x)
+    (given_sound room) tree.assign (λ notes t last. IsStatement (names_of i.tasks) room i.vars notes t last) i j s
+    (λ x notes y p. g.assign x p) h
+
+pub set_cell_sound : (room : ℕ) (i j : Input) (s : Statement) → set_cell room i ≡ Ok (s, j)
+    → Behind (key k.Set) room i j s
 unfolding set_cell
-set_cell_sound room i j s h =
-    let read = bind_ok (variable i) _ s j h in
-    let x = variable_sound i read.1 read.0 read.2 in
-    let gives = bind_ok (expect m.Assign read.1) _ s j read.3 in
-    let assigning = expected m.Assign read.1 gives.1 gives.0 gives.2 in
-    let side = bind_ok (expression room gives.1) _ s j gives.3 in
-    let got = expressions_sound room gives.1 side.1 side.0 side.2 in
-    let close = bind_ok (expect m.Semi side.1) _ s j side.3 in
-    let closing = expected m.Semi side.1 close.1 close.0 close.2 in
-    let before : gives.1.vars ≡ i.vars = ap (λ p. p.0) (assigning.kept ∙ x.step.kept) in
-    let vars : close.1.vars ≡ i.vars = ap (λ p. p.0) (closing.kept ∙ got.kept) ∙ before in
-    let notes = (toks.Name x.name, use_of i.vars x.name) ∷ (mark m.Assign ∷ (got.notes ++ mark m.Semi ∷ [])) in
-    landed (λ b l. Behind (key k.Set) room i l b) (tree.set_cell read.0 side.0) s close.1 j close.3
-    (record {
-      notes = (toks.Name x.name, use_of i.vars x.name) ∷ (mark m.Assign ∷ (got.notes ++ mark m.Semi ∷ []));
-      took = took_both x.step.took (took_both assigning.took (took_both got.took closing.took));
-      right = subst (λ v. IsStatement (names_of i.tasks) room i.vars (key k.Set ∷ notes) (tree.set_cell read.0 side.0)
-          v) (sym vars)
-          (subst (λ n. IsStatement (names_of i.tasks) room i.vars (key k.Set ∷ notes) (tree.set_cell n side.0) i.vars)
-          (sym x.is)
-          (g.set_cell x.name (subst (λ v. IsExpression v room got.notes side.0) before got.right)));
-    })
+set_cell_sound room i j s h = assigned_sound (expression room) (λ tasks vars notes x. IsExpression vars room notes x)
+    (λ l m x is. let got = expressions_sound room l m x is in
+    record { notes = got.notes; took = got.took; vars = ap (λ p. p.0) got.kept; right = got.right }) tree.set_cell
+    (λ notes t last. IsStatement (names_of i.tasks) room i.vars (key k.Set ∷ notes) t last) i j s
+    (λ x notes y p. g.set_cell x p) h
 
 -- an expression with its semicolon
 pub record GotEnded (room : ℕ) (i j : Input) (x : Expression) : Type 0 where

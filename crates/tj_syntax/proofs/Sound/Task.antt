@@ -1,6 +1,6 @@
 -- What is read as a task is one, and so are the tasks of a script.
 use Rattle.std.proofs.Common.{◌≡◌, ℕ, zero, suc, ◌+◌, cond, List, [], ◌∷◌, ◌++◌, length, None, Ok, refl, ap, sym, ◌∙◌}
-use Rattle.std.proofs.Common.{subst, append_assoc, ⊎_elim, drop, length-append}
+use Rattle.std.proofs.Common.{subst, ⊎_elim, drop}
 use Rattle.tj_lex.specs.declared.token.Tok.{Tok}
 use Rattle.tj_lex.specs.declared.token.Tok.TheVariants as toks
 use Rattle.tj_lex.specs.declared.token.Key.TheVariants as k
@@ -9,14 +9,13 @@ use Rattle.tj_syntax.specs.Trees.{Statements, Task}
 use Rattle.tj_syntax.specs.Marks.{Name, Note, Noted, fine, declares, key, mark, declaration, most_vars, most_tasks}
 use Rattle.tj_syntax.specs.Marks.{most_levels}
 use Rattle.tj_syntax.specs.Grammar as g
-use Rattle.tj_syntax.specs.Grammar.{IsBlock, IsMoreParams, IsParams, IsTask, IsTasks}
+use Rattle.tj_syntax.specs.Grammar.{IsBlock, IsMoreParams, IsParams, IsTask}
 use Rattle.tj_syntax.specs.Faults.{tokens_of, AreUnbroken}
 use Rattle.tj_syntax.specs.Inner.Input.{Head, Input, Outcome, first, next, sees, expect, eat, names_of, fresh}
 use Rattle.tj_syntax.specs.Inner.Input.{fresh_variable, breach_of}
 use Rattle.tj_syntax.specs.Inner.Reading.{params_from, params, task_keyword_by, task_keyword, task_behind, task, block}
-use Rattle.tj_syntax.proofs.Taken.{Took, took_nothing, took_both, bind_ok, if_ok, landed, ok_inj, flaw_after}
-use Rattle.tj_syntax.proofs.Taken.{flaw_after-append, note_flaw, first_flaw-none, unbroken-append, tokens_of-append}
-use Rattle.tj_syntax.proofs.Taken.{length-tokens_of, AreCalm}
+use Rattle.tj_syntax.proofs.Taken.{Took, took_nothing, took_both, bind_ok, if_ok, landed, ok_inj, flaw_after, note_flaw}
+use Rattle.tj_syntax.proofs.Taken.{first_flaw-none, unbroken-append, AreCalm, ahead_both, flaw_both}
 use Rattle.tj_syntax.proofs.Sound.Steps.{took_fine, expected, ate}
 use Rattle.tj_syntax.proofs.Sound.Stmt.{Made, took_to, declared_right, fresh_sound}
 use Rattle.tj_syntax.proofs.Sound.Block.{block_sound}
@@ -153,16 +152,10 @@ pub record TookTasks (i j : Input) (notes : List Noted) : Type 0 where
 
 pub tasks_both : {i j k : Input} {a b : List Noted} → TookTasks i j a → TookTasks j k b → TookTasks i k (a ++ b)
 tasks_both {i} {j} {k} {a} {b} p q = record {
-  ahead = p.ahead ∙ ap (λ ts. tokens_of a ++ ts) q.ahead ∙ sym (append_assoc (tokens_of a) (tokens_of b) k.ahead) ∙ ap
-      (λ ts. ts ++ k.ahead) (sym (tokens_of-append a b));
+  ahead = ahead_both a b k p.ahead q.ahead;
   unbroken = unbroken-append a b p.unbroken q.unbroken;
   tasks = q.tasks ∙ p.tasks;
-  flaw =
-      let count : length j.ahead ≡ length b + length k.ahead = ap length q.ahead ∙ length-append (tokens_of b) k.ahead
-      ∙ ap (λ n. n + length k.ahead) (length-tokens_of b) in
-      q.flaw ∙ ap (λ ts. flaw_after ts b (length k.ahead) j.flaw) p.tasks
-      ∙ ap (λ f. flaw_after i.tasks b (length k.ahead) f) (p.flaw ∙ ap (λ n. flaw_after i.tasks a n i.flaw) count)
-      ∙ sym (flaw_after-append i.tasks a b (length k.ahead) i.flaw);
+  flaw = flaw_both a b i j k q.ahead p.tasks p.flaw q.flaw;
 }
 
 took_tasks : {i j : Input} {notes : List Noted} → Took i j notes → TookTasks i j notes
@@ -172,7 +165,6 @@ pub keyword_by_sound : (ts : List Tok) (i j : Input) (u : Unit {0}) → i.ahead 
   u,
   j,
 ) → (j ≡ next i) × TookTasks i (next i) (key k.Task ∷ [])
-keyword_by_sound [] i j u e h = absurd (cc)
 keyword_by_sound (toks.Key k.Task ∷ rest) i j u e h = (
   sym (ap (λ r. r.1) (ok_inj (tt, next i) (u, j) h)),
   record {
@@ -183,7 +175,7 @@ keyword_by_sound (toks.Key k.Task ∷ rest) i j u e h = (
     flaw = sym (first_flaw-none i.flaw);
   },
 )
-keyword_by_sound (t ∷ rest) i j u e h = absurd (cc)
+keyword_by_sound ts i j u e h = absurd (cc)
 
 -- a whole task, and the parts of it that a reader of heads looks at
 pub record GotTask (earlier : List Name) (i j : Input) (t : Task) : Type 0 where

@@ -1,9 +1,10 @@
 -- Where the reading of an ask stops, it is the beginning of one.
-use Rattle.std.proofs.Common.{◌≡◌, ℕ, zero, suc, cond, List, [], ◌∷◌, ◌++◌, length, Option, Some, None, Ok, Err, refl}
-use Rattle.std.proofs.Common.{ap, sym, ◌∙◌, subst, drop, append_assoc, ⊎_elim}
+use Rattle.std.proofs.Common.{◌≡◌, ℕ, zero, suc, false, cond, List, [], ◌∷◌, ◌++◌, length, Option, Some, None, Ok, Err}
+use Rattle.std.proofs.Common.{refl, ap, sym, ◌∙◌, subst, drop, append_assoc, ⊎_elim}
 use Rattle.std.proofs.lemmas.List.{append-nil}
 use Rattle.tj_lex.specs.declared.token.Tok.{Tok}
 use Rattle.tj_lex.specs.declared.token.Tok.TheVariants as toks
+use Rattle.tj_lex.specs.declared.token.Key.{Key}
 use Rattle.tj_lex.specs.declared.token.Key.TheVariants as k
 use Rattle.tj_lex.specs.declared.token.Mark.TheVariants as m
 use Rattle.tj_syntax.specs.declared.fault.Stop.{Stop}
@@ -14,13 +15,13 @@ use Rattle.tj_syntax.specs.Trees as tree
 use Rattle.tj_syntax.specs.Trees.{Expression, Argument, Ask, Given}
 use Rattle.tj_syntax.specs.Marks.{Name, Noted, forks, key, mark, number_of, use_of}
 use Rattle.tj_syntax.specs.Grammar as g
-use Rattle.tj_syntax.specs.Grammar.{IsExpression, IsArgument, IsMoreArguments, IsArguments, IsReference, IsOr}
-use Rattle.tj_syntax.specs.Grammar.{IsAsk, IsGiven}
-use Rattle.tj_syntax.specs.Inner.Input.{Input, Outcome, and_then, first, next, refuse, sees, expect, eat, known, variable}
-use Rattle.tj_syntax.specs.Inner.Input.{names_of, note_fork}
+use Rattle.tj_syntax.specs.Grammar.{IsArgument, IsMoreArguments, IsArguments, IsReference, IsOr, IsAsk, IsGiven}
+use Rattle.tj_syntax.specs.Inner.Input.{Input, Outcome, and_then, first, next, refuse, sees, expect, eat, known}
+use Rattle.tj_syntax.specs.Inner.Input.{variable, names_of, note_fork}
 use Rattle.tj_syntax.specs.Inner.Reading.{expression, separated_from, separated, argument_by, argument, reference_by}
-use Rattle.tj_syntax.specs.Inner.Reading.{reference, or_else_by, or_else, forked_by, forked, fork, asked, ask_by}
-use Rattle.tj_syntax.specs.Inner.Reading.{ask, given_by, given}
+use Rattle.tj_syntax.specs.Inner.Reading.{reference, or_else_by, or_else, forked_by, forked, fork, asked, ask_by, ask}
+use Rattle.tj_syntax.specs.Inner.Reading.{given_by, given}
+use Rattle.tj_syntax.proofs.Taken.{is_task}
 use Rattle.tj_syntax.proofs.Sound.Steps.{took_fine, expected, ate}
 use Rattle.tj_syntax.proofs.Sound.AskParts.{argument_sound, arguments_sound, reference_by_sound}
 use Rattle.tj_syntax.proofs.Sound.Ask.{GotFork, forked_by_sound}
@@ -73,7 +74,6 @@ plain_argument room i s h =
 argument_by_halts : (room : ℕ) (ts : List Tok) (i : Input) (s : Stop) → i.ahead ≡ ts
     → argument_by room (first ts) i ≡ Err s
     → Halts i s (AnArgument room (names_of i.tasks) i.vars)
-argument_by_halts room [] i s e h = plain_argument room i s h
 argument_by_halts room (toks.Key k.Own ∷ rest) i s e h =
     split (variable (next i)) _ s h
     (λ e'. at_last (λ tasks vars notes. (x : Name) × (notes ≡ (toks.Name x, use_of vars x) ∷ []))
@@ -85,7 +85,7 @@ argument_by_halts room (toks.Key k.Own ∷ rest) i s e h =
           (λ ns. IsArgument i.vars room (key k.Own ∷ ns) (tree.own (number_of i.vars p.0))) (sym p.1) (g.own p.0),
     )))
     (λ x j r e'. absurd (cc))
-argument_by_halts room (t ∷ rest) i s e h = plain_argument room i s h
+argument_by_halts room ts i s e h = plain_argument room i s h
 
 argument_halts : (room : ℕ) → Halting (AnArgument room) (argument room)
 unfolding argument
@@ -283,6 +283,23 @@ fork_halts room i s h =
     (_, g.fork f.0 (subst (λ v. IsArguments v room got.notes args) same got.right)))
     (λ v o r₃ e₃. absurd (cc)))))
 
+-- a get or a join by its keyword
+asked_by : (room : ℕ) (word : Key) (wrap : RefOf → Option Expression → Ask) (i : Input) (s : Stop) (rest : List Tok)
+    → i.ahead ≡ toks.Key word ∷ rest → is_task (toks.Key word) ≡ false
+    → ((p q : List Noted) (r : RefOf) (o : Option Expression) → IsReference i.vars p r → IsOr i.vars room q o
+    → IsAsk (names_of i.tasks) i.vars room (key word ∷ (p ++ q)) (wrap r o))
+    → and_then (asked room (next i)) (λ r l. Ok (wrap r.0 r.1, l)) ≡ Err s
+    → Halts i s (AnAsk room (names_of i.tasks) i.vars)
+asked_by room word wrap i s rest e calm make h =
+    split (asked room (next i)) _ s h
+    (λ e'. at_last (Asked room) (past (took_fine i (toks.Key word) rest e calm)) refl (asked_halts room (next i) s e')
+    (λ notes p. (
+      wrap p.r p.other,
+      subst (λ ns. IsAsk (names_of i.tasks) i.vars room (key word ∷ ns) (wrap p.r p.other)) (sym p.is)
+          (make p.one p.two p.r p.other p.is_reference p.is_other),
+    )))
+    (λ a j r e'. absurd (cc))
+
 ask_by_halts : (room : ℕ) (ts : List Tok) (i : Input) (s : Stop) → i.ahead ≡ ts
     → ask_by room (first ts) i ≡ Err s
     → Halts i s (AnAsk room (names_of i.tasks) i.vars)
@@ -291,25 +308,9 @@ ask_by_halts room (toks.Key k.Fork ∷ rest) i s e h =
     at_last (BehindFork room) (past (took_fine i (toks.Key k.Fork) rest e refl)) refl (fork_halts room (next i) s h)
     (λ notes p. p)
 ask_by_halts room (toks.Key k.Get ∷ rest) i s e h =
-    split (asked room (next i)) _ s h
-    (λ e'. at_last (Asked room) (past (took_fine i (toks.Key k.Get) rest e refl)) refl (asked_halts room (next i) s e')
-    (λ notes p. (
-      tree.get p.r p.other,
-      subst
-          (λ ns. IsAsk (names_of i.tasks) i.vars room (key k.Get ∷ ns) (tree.get p.r p.other)) (sym p.is)
-          (g.get p.is_reference p.is_other),
-    )))
-    (λ a j r e'. absurd (cc))
+    asked_by room k.Get tree.get i s rest e refl (λ p q r o is more. g.get is more) h
 ask_by_halts room (toks.Key k.Join ∷ rest) i s e h =
-    split (asked room (next i)) _ s h
-    (λ e'. at_last (Asked room) (past (took_fine i (toks.Key k.Join) rest e refl)) refl (asked_halts room (next i) s e')
-    (λ notes p. (
-      tree.join p.r p.other,
-      subst
-          (λ ns. IsAsk (names_of i.tasks) i.vars room (key k.Join ∷ ns) (tree.join p.r p.other)) (sym p.is)
-          (g.join p.is_reference p.is_other),
-    )))
-    (λ a j r e'. absurd (cc))
+    asked_by room k.Join tree.join i s rest e refl (λ p q r o is more. g.join is more) h
 ask_by_halts room ts i s e h = other i s h
   where
     other : Halting {A = Ask} (AnAsk room) refuse

@@ -176,8 +176,7 @@ stops_first body last end s h = by s (begun (kinds_of body) s h) h
               }) b.unbroken);
         }
     by stop.NoMain b h = absurd b.stops
-    by (stop.MainParams left) b h = absurd b.stops
-    by stop.Oom b h = absurd b.stops
+    by s b h = absurd b.stops
 
 -- ---- at a fork
 

@@ -13,10 +13,10 @@ use Rattle.tj_syntax.specs.declared.fault.Stop.{Stop}
 use Rattle.tj_syntax.specs.declared.fault.Stop.TheVariants as stop
 use Rattle.tj_syntax.specs.Marks.{Name, Note, broken, Noted, opening, index_of, use_of, declaration}
 use Rattle.tj_syntax.specs.Faults.{tokens_of, AreUnbroken}
-use Rattle.tj_syntax.specs.Inner.Input.{Input, Outcome, Parser, and_then, first, next, skip, refuse, breaks, sees, expect}
-use Rattle.tj_syntax.specs.Inner.Input.{eat, open_level, known, known_at, variable, variable_by, fresh, fresh_by, breach_of}
-use Rattle.tj_syntax.specs.Inner.Input.{unless, names_of}
-use Rattle.tj_syntax.proofs.Taken.{Took, tokens_of-append, unbroken-append}
+use Rattle.tj_syntax.specs.Inner.Input.{Input, Outcome, Parser, and_then, first, next, skip, refuse, breaks, sees}
+use Rattle.tj_syntax.specs.Inner.Input.{expect, eat, open_level, known, known_at, variable, variable_by, fresh}
+use Rattle.tj_syntax.specs.Inner.Input.{fresh_by, breach_of, unless, names_of}
+use Rattle.tj_syntax.proofs.Taken.{Took, ahead_both, tokens_of-append, unbroken-append}
 
 -- the reading stops at the first of the tokens that are left; where that breaks a rule, it is noted so in front of more
 abbrev pub IsStopAt : Stop → List Tok → List Noted → Type 0
@@ -50,8 +50,7 @@ past t = record { ahead = t.ahead; unbroken = t.unbroken; tasks = t.tasks }
 
 pub past_both : {i j k : Input} {a b : List Noted} → Past i j a → Past j k b → Past i k (a ++ b)
 past_both {i} {j} {k} {a} {b} p q = record {
-  ahead = p.ahead ∙ ap (λ ts. tokens_of a ++ ts) q.ahead ∙ sym (append_assoc (tokens_of a) (tokens_of b) k.ahead) ∙ ap
-      (λ ts. ts ++ k.ahead) (sym (tokens_of-append a b));
+  ahead = ahead_both a b k p.ahead q.ahead;
   unbroken = unbroken-append a b p.unbroken q.unbroken;
   tasks = q.tasks ∙ p.tasks;
 }
@@ -79,12 +78,9 @@ if_err false x y s h = inr (refl, h)
 
 more_behind : (s : Stop) (rest : List Tok) (back more : List Noted) → IsStopAt s rest back
     → IsStopAt s rest (back ++ more)
-more_behind (stop.Expected left) rest back more h = h
 more_behind (stop.Broken b left) rest back more (t, m, after, e, is, n) =
     (t, m ++ more, after, e, ap (λ ns. ns ++ more) is, n)
-more_behind stop.NoMain rest back more h = h
-more_behind (stop.MainParams left) rest back more h = h
-more_behind stop.Oom rest back more h = h
+more_behind s rest back more h = h
 
 -- a reading that stops within a larger part, of which these notes are in front
 pub beyond : {h i : Input} {s : Stop} {P Q : List Noted → Type 0} → Halts i s P
@@ -231,9 +227,8 @@ variable_halts i s h {P} back p = by i.ahead refl h
         ((toks.Name [], use_of i.vars []) ∷ back) (p [])
 
     by : (ts : List Tok) → i.ahead ≡ ts → variable_by (first ts) i ≡ Err s → Halts i s P
-    by [] e h' = other h'
     by (toks.Name x ∷ rest) e h' = known_halts x i s rest e h' back (p x)
-    by (t ∷ rest) e h' = other h'
+    by ts e h' = other h'
 
 declared_breach : (a c : Bool) (note : Note) (b : Breach)
     → ◌≡◌ {A = Option Breach} (cond a (Some Twice) (cond c (Some Many) None)) (Some b)

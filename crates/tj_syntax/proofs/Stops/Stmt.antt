@@ -1,6 +1,6 @@
 -- Where the reading of a statement or of a block stops, it is the beginning of one.
-use Rattle.std.proofs.Common.{◌≡◌, ℕ, zero, suc, false, List, [], ◌∷◌, ◌++◌, length, Ok, Err, refl, ap, sym, ◌∙◌}
-use Rattle.std.proofs.Common.{subst, drop, append_assoc, ⊎_elim}
+use Rattle.std.proofs.Common.{◌≡◌, ℕ, zero, suc, false, List, [], ◌∷◌, ◌++◌, length, Ok, Err, refl, ap, sym, ◌∙◌, subst}
+use Rattle.std.proofs.Common.{drop, append_assoc, ⊎_elim}
 use Rattle.std.proofs.lemmas.List.{append-nil}
 use Rattle.tj_lex.specs.declared.token.Tok.{Tok}
 use Rattle.tj_lex.specs.declared.token.Tok.TheVariants as toks
@@ -11,16 +11,16 @@ use Rattle.tj_syntax.specs.declared.fault.Breach.{Breach}
 use Rattle.tj_syntax.specs.declared.fault.Stop.{Stop}
 use Rattle.tj_syntax.specs.declared.fault.Stop.TheVariants as stop
 use Rattle.tj_syntax.specs.Trees as tree
-use Rattle.tj_syntax.specs.Trees.{Expression, Given, Statement, Statements, Otherwise}
+use Rattle.tj_syntax.specs.Trees.{Expression, Statement, Statements, Otherwise}
 use Rattle.tj_syntax.specs.Marks.{Name, Note, Noted, fine, broken, key, mark, declaration, opening, within, most_vars}
 use Rattle.tj_syntax.specs.Grammar as g
-use Rattle.tj_syntax.specs.Grammar.{IsExpression, IsAsk, IsGiven, IsStatement, IsBlock, IsStatements, IsElse}
+use Rattle.tj_syntax.specs.Grammar.{IsExpression, IsGiven, IsStatement, IsBlock, IsStatements, IsElse}
 use Rattle.tj_syntax.specs.View.{statements_of}
-use Rattle.tj_syntax.specs.Inner.Input.{Input, Parser, and_then, first, next, refuse, sees, expect, open_level, variable}
-use Rattle.tj_syntax.specs.Inner.Input.{fresh_variable, names_of}
-use Rattle.tj_syntax.specs.Inner.Reading.{expression, ask, given, let_new, assign, set_cell, ended, ask_statement, otherwise_by}
-use Rattle.tj_syntax.specs.Inner.Reading.{otherwise, choose, repeat, statement_by, statement_over, statements_from}
-use Rattle.tj_syntax.specs.Inner.Reading.{statements, block_by, block}
+use Rattle.tj_syntax.specs.Inner.Input.{Input, Parser, and_then, first, next, refuse, sees, expect, open_level}
+use Rattle.tj_syntax.specs.Inner.Input.{variable, fresh_variable, names_of}
+use Rattle.tj_syntax.specs.Inner.Reading.{expression, ask, given, let_new, assign, set_cell, ended, ask_statement}
+use Rattle.tj_syntax.specs.Inner.Reading.{otherwise_by, otherwise, choose, repeat, statement_by, statement_over}
+use Rattle.tj_syntax.specs.Inner.Reading.{statements_from, statements, block_by, block}
 use Rattle.tj_syntax.proofs.Taken.{is_task}
 use Rattle.tj_syntax.proofs.Sound.Steps.{took_fine, expected, opened, fine_unbroken}
 use Rattle.tj_syntax.proofs.Sound.AskParts.{expressions_sound, variable_sound}
@@ -253,6 +253,24 @@ behind : (room : ℕ) (word : Key) (i : Input) (s : Stop) (rest : List Tok) → 
 behind room word i s rest e calm got = at_last (Behind word room) (past (took_fine i (toks.Key word) rest e calm))
     refl got (λ notes p. p)
 
+-- a print or a return by its keyword
+ended_by : (room : ℕ) (word : Key) (wrap : Expression → Statement) (i : Input) (s : Stop) (rest : List Tok)
+    → i.ahead ≡ toks.Key word ∷ rest → is_task (toks.Key word) ≡ false
+    → ((a : List Noted) (x : Expression) → IsExpression i.vars room a x
+    → IsStatement (names_of i.tasks) room i.vars (key word ∷ (a ++ mark m.Semi ∷ [])) (wrap x) i.vars)
+    → and_then (ended room (next i)) (λ x j. Ok (wrap x, j)) ≡ Err s
+    → Halts i s (AStatement room (names_of i.tasks) i.vars)
+ended_by room word wrap i s rest e calm make h =
+    split (ended room (next i)) _ s h
+    (λ e'. at_last (AnEnded room) (past (took_fine i (toks.Key word) rest e calm)) refl (ended_halts room (next i) s e')
+    (λ notes p. (
+      wrap p.x,
+      i.vars,
+      subst (λ ns. IsStatement (names_of i.tasks) room i.vars (key word ∷ ns) (wrap p.x) i.vars) (sym p.is)
+          (make p.a p.x p.right),
+    )))
+    (λ x j r e'. absurd (cc))
+
 statement_by_halts : (room : ℕ) (block : Parser Statements) → SoundBlock room block → Halting (ABlock room) block
     → (ts : List Tok) (i : Input) (s : Stop) → i.ahead ≡ ts
     → statement_by room block (first ts) i ≡ Err s → Halts i s (AStatement room (names_of i.tasks) i.vars)
@@ -266,29 +284,9 @@ statement_by_halts room block sb hb (toks.Key k.If ∷ rest) i s e h = behind ro
 statement_by_halts room block sb hb (toks.Key k.While ∷ rest) i s e h = behind room k.While i s rest e refl
     (repeat_halts room block hb (next i) s h)
 statement_by_halts room block sb hb (toks.Key k.Print ∷ rest) i s e h =
-    split (ended room (next i)) _ s h
-    (λ e'. at_last (AnEnded room) (past (took_fine i (toks.Key k.Print) rest e refl)) refl
-    (ended_halts room (next i) s e')
-    (λ notes p. (
-      tree.print p.x,
-      i.vars,
-      subst
-          (λ ns. IsStatement (names_of i.tasks) room i.vars (key k.Print ∷ ns) (tree.print p.x) i.vars) (sym p.is)
-          (g.print p.right),
-    )))
-    (λ x j r e'. absurd (cc))
+    ended_by room k.Print tree.print i s rest e refl (λ a x p. g.print p) h
 statement_by_halts room block sb hb (toks.Key k.Return ∷ rest) i s e h =
-    split (ended room (next i)) _ s h
-    (λ e'. at_last (AnEnded room) (past (took_fine i (toks.Key k.Return) rest e refl)) refl
-    (ended_halts room (next i) s e')
-    (λ notes p. (
-      tree.return p.x,
-      i.vars,
-      subst
-          (λ ns. IsStatement (names_of i.tasks) room i.vars (key k.Return ∷ ns) (tree.return p.x) i.vars) (sym p.is)
-          (g.return p.right),
-    )))
-    (λ x j r e'. absurd (cc))
+    ended_by room k.Return tree.return i s rest e refl (λ a x p. g.return p) h
 statement_by_halts room block sb hb ts i s e h = ask_statement_halts room i s h
 
 statement_halts : (room : ℕ) (block : Parser Statements) → SoundBlock room block → Halting (ABlock room) block

@@ -19,23 +19,20 @@ use Rattle.tj_syntax.specs.Inner.Reading.{tasks}
 use Rattle.tj_syntax.proofs.Sound.Script.{script_sound, start_of}
 use Rattle.tj_syntax.proofs.read_script.tasks_of.Goals as goal
 
+-- reading begins at the first token, without a variable
+reads_from : (kinds : List Tok) (vars : List Name) (heads : List Head) → vars ≡ [] → heads ≡ heads_from [] kinds
+    → (r : Outcome (List Task)) → tasks (record { ahead = kinds; vars = vars; tasks = heads; flaw = None }) ≡ r
+    → tasks (start_of kinds) ≡ r
+reads_from kinds vars heads v h r e =
+    sym (ap (λ w. tasks (record { ahead = kinds; vars = w; tasks = heads; flaw = None })) v
+    ∙ ap (λ hs. tasks (record { ahead = kinds; vars = []; tasks = hs; flaw = None })) h) ∙ e
+
 pub returns-clause-ok : goal.returns-clause-ok
 returns-clause-ok c =
     let kinds = map (λ (t : Token). t.what) c.args.body.now in
     let found = map view.task c.in_ok-tasks.tasks.items in
-    let begun : Input = record {
-      ahead = kinds;
-      vars = c.new.result;
-      tasks = heads_of c.in-Ok.heads;
-      flaw = None;
-    } in
-    let start : begun ≡ start_of kinds =
-    ap (λ v. let i : Input = record { ahead = kinds; vars = v; tasks = heads_of c.in-Ok.heads; flaw = None } in
-    i) c.new.ensures
-    ∙ ap (λ hs. let i : Input = record { ahead = kinds; vars = []; tasks = hs; flaw = None } in i)
-    c.in-Ok.ensures in
-    let read : tasks (start_of kinds) ≡ Ok (found, input_of c.tasks.new.self) =
-    subst (λ i. tasks i ≡ Ok (found, input_of c.tasks.new.self)) start c.in_ok-tasks.ensures in
+    let read = reads_from kinds c.new.result (heads_of c.in-Ok.heads) c.new.ensures c.in-Ok.ensures
+    (Ok (found, input_of c.tasks.new.self)) c.in_ok-tasks.ensures in
     let same : c.in-Some-main.head ≡ c.in-Some-2.field-0 = cc in
     let bare : c.in-Some-2.field-0.params ≡ 0 = subst (λ h. h.params ≡ 0) same (omega arith) in
     script_sound kinds found (input_of c.tasks.new.self) (head_of c.in-Some-2.field-0) read c.in_default-flaw.is
@@ -49,22 +46,14 @@ stopped : {A B : Type 0} (see : A → B) (outcome : Outcome B) (e : Stop) (new :
 stopped see outcome stop.Oom new h = inl refl
 stopped see outcome e new h = inr h
 
--- where reading begins
-begins : (kinds : List Tok) (vars : List Name) (heads : List Head) → vars ≡ [] → heads ≡ heads_from [] kinds
-    → ◌≡◌ {A = Input} (record { ahead = kinds; vars = vars; tasks = heads; flaw = None }) (start_of kinds)
-begins kinds vars heads v h =
-    ap (λ w. let i : Input = record { ahead = kinds; vars = w; tasks = heads; flaw = None } in i) v
-    ∙ ap (λ hs. let i : Input = record { ahead = kinds; vars = []; tasks = hs; flaw = None } in i) h
-
 pub returns-in_err-tasks-clause-fault : goal.returns-in_err-tasks-clause-fault
 returns-in_err-tasks-clause-fault c =
     let kinds = map (λ (t : Token). t.what) c.args.body.now in
-    let start = begins kinds c.new.result (heads_of c.in-Ok.heads) c.new.ensures c.in-Ok.ensures in
     let e = c.in_err-tasks.field-0.0 in
     let fact : (e ≡ stop.Oom) ⊎ ((last : Token) → last.what ≡ toks.End → IsFirstStop (c.args.body.now ++ last ∷ []) e) =
     ⊎_elim (λ h. inl h)
-    (λ h. let read : tasks (start_of kinds) ≡ Err e = ap tasks (sym start) ∙ h in inr
-    (λ last end. stops_first c.args.body.now last end e read))
+    (λ h. let read = reads_from kinds c.new.result (heads_of c.in-Ok.heads) c.new.ensures c.in-Ok.ensures (Err e) h in
+    inr (λ last end. stops_first c.args.body.now last end e read))
     (stopped {A = List Task} (λ l. l) _ e _ c.in_err-tasks.ensures) in
     first_of (search (rules, fact), grind (arith, common_steps))
 
@@ -72,9 +61,8 @@ pub returns-in-Some-clause-fault : goal.returns-in-Some-clause-fault
 returns-in-Some-clause-fault c =
     let kinds = map (λ (t : Token). t.what) c.args.body.now in
     let found = map view.task c.in_ok-tasks.tasks.items in
-    let start = begins kinds c.new.result (heads_of c.in-Ok.heads) c.new.ensures c.in-Ok.ensures in
-    let read : tasks (start_of kinds) ≡ Ok (found, input_of c.tasks.new.self) =
-    subst (λ i. tasks i ≡ Ok (found, input_of c.tasks.new.self)) start c.in_ok-tasks.ensures in
+    let read = reads_from kinds c.new.result (heads_of c.in-Ok.heads) c.new.ensures c.in-Ok.ensures
+    (Ok (found, input_of c.tasks.new.self)) c.in_ok-tasks.ensures in
     inr (λ last end. flaw_first c.args.body.now last end found (input_of c.tasks.new.self) c.in-Some.stop read
     c.in-Some.is)
 
@@ -82,9 +70,8 @@ pub returns-in-None-clause-fault : goal.returns-in-None-clause-fault
 returns-in-None-clause-fault c =
     let kinds = map (λ (t : Token). t.what) c.args.body.now in
     let found = map view.task c.in_ok-tasks.tasks.items in
-    let start = begins kinds c.new.result (heads_of c.in-Ok.heads) c.new.ensures c.in-Ok.ensures in
-    let read : tasks (start_of kinds) ≡ Ok (found, input_of c.tasks.new.self) =
-    subst (λ i. tasks i ≡ Ok (found, input_of c.tasks.new.self)) start c.in_ok-tasks.ensures in
+    let read = reads_from kinds c.new.result (heads_of c.in-Ok.heads) c.new.ensures c.in-Ok.ensures
+    (Ok (found, input_of c.tasks.new.self)) c.in_ok-tasks.ensures in
     inr (λ last end. no_main_first c.args.body.now last end found (input_of c.tasks.new.self) read c.in_default-flaw.is
     (sym (ap (λ hs. head_named hs (codes "main")) c.in-Ok.ensures) ∙ sym c.get-main.ensures
     ∙ ap (option_map head_of) c.in-None.is))
@@ -93,9 +80,8 @@ pub returns-in-Some-main-clause-fault : goal.returns-in-Some-main-clause-fault
 returns-in-Some-main-clause-fault c =
     let kinds = map (λ (t : Token). t.what) c.args.body.now in
     let found = map view.task c.in_ok-tasks.tasks.items in
-    let start = begins kinds c.new.result (heads_of c.in-Ok.heads) c.new.ensures c.in-Ok.ensures in
-    let read : tasks (start_of kinds) ≡ Ok (found, input_of c.tasks.new.self) =
-    subst (λ i. tasks i ≡ Ok (found, input_of c.tasks.new.self)) start c.in_ok-tasks.ensures in
+    let read = reads_from kinds c.new.result (heads_of c.in-Ok.heads) c.new.ensures c.in-Ok.ensures
+    (Ok (found, input_of c.tasks.new.self)) c.in_ok-tasks.ensures in
     inr (λ last end. params_first c.args.body.now last end found (input_of c.tasks.new.self)
     (head_of c.in-Some-main.head) read c.in_default-flaw.is
     (sym (ap (λ hs. head_named hs (codes "main")) c.in-Ok.ensures) ∙ sym c.get-main.ensures
