@@ -66,9 +66,7 @@ name names n = token (toks.Name (get_or names n []))
 abbrev pub op_level : Op → ℕ
 op_level op.Plus = 1
 op_level op.Minus = 1
-op_level op.Times = 2
-op_level op.Over = 2
-op_level op.Rest = 2
+op_level o = 2
 
 -- how tightly the operators of pairs bind
 abbrev pub pairs_level : Pairs → ℕ

@@ -25,11 +25,7 @@ abbrev pub own_ask : Statement → Option Ask
 own_ask (tree.let_new x side) = given_ask side
 own_ask (tree.assign x side) = given_ask side
 own_ask (tree.ask q) = Some q
-own_ask (tree.print e) = None
-own_ask (tree.set_cell x e) = None
-own_ask (tree.return e) = None
-own_ask (tree.choose e body other) = None
-own_ask (tree.repeat e body) = None
+own_ask s = None
 
 -- the ask stands there
 pub record AskStandsAt (tasks : List Name) (notes : List Noted) (q : Ask) (k : ℕ) : Type 0 where

@@ -1,6 +1,6 @@
 -- Each ask is read as the one that it is, and what a variable is given.
-use Rattle.std.proofs.Common.{◌≡◌, ℕ, zero, suc, ◌+◌, ◌≤◌, Bool, true, false, cond, List, [], ◌∷◌, ◌++◌, length}
-use Rattle.std.proofs.Common.{Option, Some, None, Ok, refl, ap, sym, ◌∙◌, subst, arith, append_assoc, length-append}
+use Rattle.std.proofs.Common.{◌≡◌, ℕ, zero, suc, ◌+◌, ◌≤◌, Bool, true, false, cond, List, [], ◌∷◌, ◌++◌, length, Option}
+use Rattle.std.proofs.Common.{Some, None, Ok, refl, ap, sym, ◌∙◌, subst, arith, append_assoc, length-append}
 use Rattle.tj_lex.specs.declared.token.Tok.{Tok}
 use Rattle.tj_lex.specs.declared.token.Tok.TheVariants as toks
 use Rattle.tj_lex.specs.declared.token.Key.TheVariants as k
@@ -10,12 +10,12 @@ use Rattle.tj_syntax.specs.declared.expr.RefOf.{RefOf}
 use Rattle.tj_syntax.specs.declared.expr.RefOf.TheVariants as ref
 use Rattle.tj_syntax.specs.declared.fault.Stop.{Stop}
 use Rattle.tj_syntax.specs.Trees as tree
-use Rattle.tj_syntax.specs.Trees.{Expression, Pairs, Argument, Ask, Given}
+use Rattle.tj_syntax.specs.Trees.{Expression, Argument, Ask, Given}
 use Rattle.tj_syntax.specs.Marks.{Name, Noted, fine, forks, key, mark, use_of, number_of}
 use Rattle.tj_syntax.specs.Faults.{tokens_of}
 use Rattle.tj_syntax.specs.Grammar as g
-use Rattle.tj_syntax.specs.Grammar.{IsExpression, IsChain, IsOperand, IsUnary, IsArgument, IsMoreArguments}
-use Rattle.tj_syntax.specs.Grammar.{IsArguments, IsReference, IsOr, IsAsk, IsGiven}
+use Rattle.tj_syntax.specs.Grammar.{IsExpression, IsChain, IsOperand, IsUnary, IsArgument, IsMoreArguments, IsArguments}
+use Rattle.tj_syntax.specs.Grammar.{IsReference, IsOr, IsAsk, IsGiven}
 use Rattle.tj_syntax.specs.Inner.Input.{Head, Input, Outcome, and_then, first, skip, expect, eat, is_mark, variable}
 use Rattle.tj_syntax.specs.Inner.Input.{head_named, flaw_at, first_flaw, note_fork, names_of}
 use Rattle.tj_syntax.specs.Inner.Reading.{expression, separated_from, separated, argument_by, argument, reference}
@@ -52,10 +52,7 @@ mutual
   unary_begins : {vars : List Name} {room : ℕ} {a : List Noted} {x : Expression} → IsUnary vars room a x
       → (rest : List Tok) → begins (first (tokens_of a ++ rest)) ≡ true
   unary_begins (g.signed u) rest = refl
-  unary_begins (g.number n) rest = refl
-  unary_begins (g.name x) rest = refl
-  unary_begins g.me rest = refl
-  unary_begins (g.grouped e) rest = refl
+  unary_begins e rest = refl
 
 pub expression_begins : {vars : List Name} {room : ℕ} {a : List Noted} {x : Expression} → IsExpression vars room a x
     → (rest : List Tok) → begins (first (tokens_of a ++ rest)) ≡ true
@@ -327,9 +324,7 @@ as_answer : (heads : List Head) {vars : List Name} {room : ℕ} {a : List Noted}
     → (rest : List Tok) (i : Input) → given_by room (first (tokens_of a ++ rest)) i ≡ and_then (ask room i)
     (λ x j. Ok (tree.answer x, j))
 as_answer heads g.new rest i = refl
-as_answer heads (g.fork f p) rest i = refl
-as_answer heads (g.get p q) rest i = refl
-as_answer heads (g.join p q) rest i = refl
+as_answer heads p rest i = refl
 
 pub given_does : (heads : List Head) {vars : List Name} {room : ℕ} {a : List Noted} {side : Given}
     → IsGiven (names_of heads) vars room a side

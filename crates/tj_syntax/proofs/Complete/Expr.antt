@@ -70,19 +70,11 @@ operator-is products op.Rest e = refl
 
 relation-is : (r : Rel) → relation (Some (toks.Mark (rel_mark r))) ≡ Some r
 relation-is rel.Eq = refl
-relation-is rel.Ne = refl
-relation-is rel.Lt = refl
-relation-is rel.Le = refl
-relation-is rel.Gt = refl
-relation-is rel.Ge = refl
+relation-is r = refl
 
 ends_before_relation : (r : Rel) → Ends sums (Some (toks.Mark (rel_mark r)))
 ends_before_relation rel.Eq = (refl, refl)
-ends_before_relation rel.Ne = (refl, refl)
-ends_before_relation rel.Lt = (refl, refl)
-ends_before_relation rel.Le = (refl, refl)
-ends_before_relation rel.Gt = (refl, refl)
-ends_before_relation rel.Ge = (refl, refl)
+ends_before_relation r = (refl, refl)
 
 pairs_front : {vars : List Name} {level : Level} {room : ℕ} {b : List Noted} {ps : Pairs} → IsPairs vars level room b ps
     → (rest : List Tok) → Ends level (first rest) → OperandEnds level (first (tokens_of b ++ rest))

@@ -1,6 +1,6 @@
 -- The tokens of a listing stand apart.
-use Rattle.std.proofs.Common.{◌≡◌, ℕ, ◌+◌, Bool, true, false, cond, List, [], ◌∷◌, ◌++◌, Option, Some, None, take}
-use Rattle.std.proofs.Common.{refl, ap, ◌∙◌, append_assoc}
+use Rattle.std.proofs.Common.{◌≡◌, ℕ, ◌+◌, Bool, true, false, cond, List, [], ◌∷◌, ◌++◌, Option, Some, None, take, refl}
+use Rattle.std.proofs.Common.{ap, ◌∙◌, append_assoc}
 use Rattle.std.specs.Prelude.{nat_lt, flat_map}
 use Rattle.tj_lex.specs.declared.token.Tok.TheVariants as toks
 use Rattle.tj_lex.specs.declared.token.Key.TheVariants as k
@@ -13,8 +13,8 @@ use Rattle.tj_syntax.specs.Trees.{Expression, Pairs, Argument, Ask, Given, State
 use Rattle.tj_syntax.specs.Marks.{Name}
 use Rattle.tj_syntax.specs.Grammar.{rel_mark}
 use Rattle.tj_syntax.specs.Listing as listing
-use Rattle.tj_syntax.specs.Listing.{Part, token, blanks, level, op_level, pairs_level, operand, expression}
-use Rattle.tj_syntax.specs.Listing.{pairs_parts, space, key, mark, name, line_end}
+use Rattle.tj_syntax.specs.Listing.{Part, blanks, level, op_level, pairs_level, operand, expression, pairs_parts, space}
+use Rattle.tj_syntax.specs.Listing.{mark, name, line_end}
 use Rattle.tj_syntax.proofs.Listed.Clear.{clear, AreClear, IsCalm, clear-append}
 
 -- a mark may stand before these parts, whatever is behind them
@@ -38,16 +38,13 @@ append_opens a b h t after = ap (clear (toks.Mark t)) (append_assoc a b after) �
 
 -- the first part of an expression is no blank and no equals sign
 pub opens : (vars : List Name) (x : Expression) → Opens (expression vars x)
-opens vars (tree.number n) t after = refl
-opens vars (tree.variable x) t after = refl
-opens vars tree.me t after = refl
-opens vars (tree.negation x) t after = refl
 opens vars (tree.chain x pairs) t after =
     append_opens (operand vars (pairs_level pairs + 1) x) (pairs_parts vars pairs)
     (grouped_opens (nat_lt (level x) (pairs_level pairs + 1)) (expression vars x) (opens vars x)) t after
 opens vars (tree.comparison rel x y) t after =
     append_opens (operand vars 1 x) (space ∷ mark (rel_mark rel) ∷ space ∷ operand vars 1 y)
     (grouped_opens (nat_lt (level x) 1) (expression vars x) (opens vars x)) t after
+opens vars x t after = refl
 
 closed_clears : (parts : List Part) → Clears parts → Clears (parts ++ mark m.ParenClose ∷ [])
 closed_clears parts h after calm =

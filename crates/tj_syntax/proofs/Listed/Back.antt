@@ -1,12 +1,11 @@
 -- The text of a listing has the listing's tokens, and they are the script.
-use Rattle.std.specs.Prelude.{flat_map}
-use Rattle.std.proofs.Common.{◌≡◌, ℕ, Bool, true, false, List, [], ◌∷◌, ◌++◌, refl, ap, sym, ◌∙◌, subst, arith}
-use Rattle.std.specs.Prelude.{◌==◌, ◌||◌, not}
+use Rattle.std.specs.Prelude.{flat_map, ◌==◌, ◌||◌, not}
+use Rattle.std.proofs.Common.{◌≡◌, ℕ, Bool, true, false, List, [], ◌∷◌, ◌++◌, refl, ap, sym, ◌∙◌, subst, arith, Vec}
+use Rattle.std.proofs.Common.{Global, Result, Ok, Err}
 use Rattle.std.specs.List.{AllByRecursion}
 use Rattle.std.specs.Char.{is_ascii_digit}
 use Rattle.std.proofs.lemmas.List.{append-nil}
 use Rattle.std.proofs.lemmas.Bool.Decides.{nat_tests}
-use Rattle.std.proofs.Common.{Vec, Global, Result, Ok, Err}
 use Rattle.std.specs.Result.{IfOk}
 use Rattle.tj_base.specs.declared.memory.Oom.{Oom}
 use Rattle.tj_lex.proofs.Determined.{Answers-one}
@@ -21,7 +20,7 @@ use Rattle.tj_lex.specs.Bytes.{is_blank, is_name_start, is_name_byte, begins_wit
 use Rattle.tj_lex.specs.Spelling.{key_text, mark_text}
 use Rattle.tj_lex.specs.Tokens.{IsGap, AreTokens}
 use Rattle.tj_lex.specs.Pieces as pieces
-use Rattle.tj_lex.specs.Pieces.{Piece, extends, AreLaidOut}
+use Rattle.tj_lex.specs.Pieces.{extends, AreLaidOut}
 use Rattle.tj_syntax.specs.Trees.{Task}
 use Rattle.tj_syntax.specs.Faults.{kinds_of, IsScript}
 use Rattle.tj_syntax.specs.Listing.{Part, token, blanks, spelling, text_of, CanStand, script as script_parts}
@@ -47,11 +46,10 @@ abbrev plain : ℕ → Bool
 plain b = not (is_name_byte b || b == 61)
 
 plain_extends : (t : Tok) (b : ℕ) → plain b ≡ true → extends t b ≡ false
-plain_extends (toks.Name word) b h = (or_none _ _ (not_true _ h)).0
-plain_extends (toks.Key key) b h = (or_none _ _ (not_true _ h)).0
 plain_extends (toks.Num n) b h = (or_none _ _ (or_none _ _ (not_true _ h)).0).1
 plain_extends (toks.Mark mark) b h = (or_none _ _ (not_true _ h)).1
 plain_extends toks.End b h = refl
+plain_extends t b h = (or_none _ _ (not_true _ h)).0
 
 begins_plain : (t : Tok) (bytes : List ℕ) → begins_with plain bytes ≡ true → begins_with (extends t) bytes ≡ false
 begins_plain t [] h = absurd (cc)
@@ -61,24 +59,9 @@ blank_plain : (b : ℕ) → is_blank b ≡ true → plain b ≡ true
 blank_plain b h = grind (arith, nat_tests)
 
 mark_plain : (mark : Mark) (rest : List ℕ) → not_equals mark ≡ true → begins_with plain (mark_text mark ++ rest) ≡ true
-mark_plain m.ParenOpen rest h = refl
-mark_plain m.ParenClose rest h = refl
-mark_plain m.BraceOpen rest h = refl
-mark_plain m.BraceClose rest h = refl
-mark_plain m.Comma rest h = refl
-mark_plain m.Semi rest h = refl
 mark_plain m.Assign rest h = absurd (cc)
 mark_plain m.Eq rest h = absurd (cc)
-mark_plain m.Ne rest h = refl
-mark_plain m.Lt rest h = refl
-mark_plain m.Le rest h = refl
-mark_plain m.Gt rest h = refl
-mark_plain m.Ge rest h = refl
-mark_plain m.Plus rest h = refl
-mark_plain m.Minus rest h = refl
-mark_plain m.Times rest h = refl
-mark_plain m.Over rest h = refl
-mark_plain m.Rest rest h = refl
+mark_plain mark rest h = refl
 
 name_start_else : (b : ℕ) → is_name_start b ≡ true → (b == 61) ≡ false
 name_start_else b h = grind (arith, nat_tests)

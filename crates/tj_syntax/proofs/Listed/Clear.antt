@@ -21,7 +21,7 @@ use Rattle.tj_lex.specs.Bytes.{begins_with}
 use Rattle.tj_lex.specs.Spelling.{key_text, mark_text, decimal}
 use Rattle.tj_lex.specs.Tokens.{IsGap, Spells, greatest_number, StartsWith}
 use Rattle.tj_lex.specs.Pieces as pieces
-use Rattle.tj_lex.specs.Pieces.{Piece, extends, AreLaidOut}
+use Rattle.tj_lex.specs.Pieces.{Piece}
 use Rattle.tj_syntax.specs.Listing.{Part, token, blanks, spelling, text_of, CanStand}
 use Rattle.tj_syntax.proofs.Listed.Again.{AreBlank}
 
@@ -144,20 +144,7 @@ is_number n h = decimal_by_steps IsNumber one_digit more_digits n h
 
 pub key_spells : (key : Key) → Spells (key_text key) (key_text key) (toks.Key key)
 key_spells k.Task = (refl, refl, refl)
-key_spells k.Let = (refl, refl, refl)
-key_spells k.If = (refl, refl, refl)
-key_spells k.Else = (refl, refl, refl)
-key_spells k.While = (refl, refl, refl)
-key_spells k.Print = (refl, refl, refl)
-key_spells k.Set = (refl, refl, refl)
-key_spells k.Return = (refl, refl, refl)
-key_spells k.New = (refl, refl, refl)
-key_spells k.Fork = (refl, refl, refl)
-key_spells k.Own = (refl, refl, refl)
-key_spells k.Get = (refl, refl, refl)
-key_spells k.Join = (refl, refl, refl)
-key_spells k.Me = (refl, refl, refl)
-key_spells k.Or = (refl, refl, refl)
+key_spells key = (refl, refl, refl)
 
 starts-short : (bytes text : List ℕ) → StartsWith bytes text → length bytes ≤ length text
 starts-short bytes text h =

@@ -15,7 +15,7 @@ use Rattle.tj_syntax.specs.Marks.{Name, Noted, fine, mark, opening}
 use Rattle.tj_syntax.specs.Grammar.{IsExpression, alone, IsChain, operands, pairs_end, product, unary, IsUnary, grouped}
 use Rattle.tj_syntax.specs.Faults.{IsUnbroken}
 use Rattle.tj_syntax.specs.Listing as listing
-use Rattle.tj_syntax.specs.Listing.{Part, token, blanks, level, op_level, pairs_level, at_level, operand, pairs_parts}
+use Rattle.tj_syntax.specs.Listing.{Part, token, level, operand}
 use Rattle.tj_syntax.proofs.Listed.Again.{Again, fine_mark, front, back, also}
 
 -- the tokens are an expression of this level
@@ -41,18 +41,16 @@ lift vars room a x zero zero h small is = is
 lift vars room a x zero (suc zero) h small is = alone is
 lift vars room a x zero (suc (suc zero)) h small is = alone (as_sum vars room a x is)
 lift vars room a x zero (suc (suc (suc n))) h small is = alone (as_sum vars room a x (as_product vars room a x is))
-lift vars room a x (suc zero) zero h small is = absurd (omega arith)
 lift vars room a x (suc zero) (suc zero) h small is = is
 lift vars room a x (suc zero) (suc (suc zero)) h small is = as_sum vars room a x is
 lift vars room a x (suc zero) (suc (suc (suc n))) h small is = as_sum vars room a x (as_product vars room a x is)
-lift vars room a x (suc (suc zero)) zero h small is = absurd (omega arith)
 lift vars room a x (suc (suc zero)) (suc zero) h small is = absurd (omega arith)
 lift vars room a x (suc (suc zero)) (suc (suc zero)) h small is = is
 lift vars room a x (suc (suc zero)) (suc (suc (suc n))) h small is = as_product vars room a x is
-lift vars room a x (suc (suc (suc p))) zero h small is = absurd (omega arith)
 lift vars room a x (suc (suc (suc p))) (suc zero) h small is = absurd (omega arith)
 lift vars room a x (suc (suc (suc p))) (suc (suc zero)) h small is = absurd (omega arith)
 lift vars room a x (suc (suc (suc p))) (suc (suc (suc n))) h small is = is
+lift vars room a x need zero h small is = absurd (omega arith)
 
 -- the levels that the parentheses of an operand open
 abbrev pub parens : (need level : ℕ) → ℕ

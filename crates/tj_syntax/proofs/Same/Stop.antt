@@ -82,10 +82,9 @@ same_fault (stop.Expected left) front front' back back' t t' e n n' =
     ap (λ (x : Token). faults.Expected x.at) (same_token front front' back back' t t' e (sym n ∙ n'))
 same_fault (stop.Broken b left) front front' back back' t t' e n n' =
     ap (λ (x : Token). fault_of b x.at) (same_token front front' back back' t t' e (sym n ∙ n'))
-same_fault stop.NoMain front front' back back' t t' e n n' = refl
 same_fault (stop.MainParams left) front front' back back' t t' e n n' =
     ap (λ (x : Token). faults.MainParams x.at) (same_token front front' back back' t t' e (sym n ∙ n'))
-same_fault stop.Oom front front' back back' t t' e n n' = refl
+same_fault s front front' back back' t t' e n n' = refl
 
 pub one_stop : (tokens : List Token) (ts : List Tok) (a b : ParseFault) → IsOfStop tokens ts a → IsOfStop tokens ts b
     → a ≡ b

@@ -1,7 +1,6 @@
 -- A fault that stands at a token is the stop of the reading of a script.
-use Rattle.std.proofs.Common.{◌≡◌, ⊎_elim, ℕ, suc, ◌+◌, ◌-◌, ◌≤◌, ◌<◌, List, [], ◌∷◌, ◌++◌}
-use Rattle.std.proofs.Common.{length, map, Option, Some, None, Ok, Err, refl, ap, sym, ◌∙◌, subst, arith, append_assoc}
-use Rattle.std.proofs.Common.{length-append}
+use Rattle.std.proofs.Common.{◌≡◌, ⊎_elim, ℕ, suc, ◌+◌, ◌-◌, ◌≤◌, ◌<◌, List, [], ◌∷◌, ◌++◌, length, map, Option, Some}
+use Rattle.std.proofs.Common.{None, Ok, Err, refl, ap, sym, ◌∙◌, subst, arith, append_assoc, length-append}
 use Rattle.std.proofs.lemmas.Bool.{cases_lt}
 use Rattle.std.proofs.lemmas.List.{append-nil}
 use Rattle.tj_lex.specs.declared.token.Token.{Token}
@@ -358,8 +357,7 @@ refusal_stops tokens ts front back token notes whole parts begins unbroken refus
         ∙ sym (append_assoc (tokens_of b.front) (t ∷ []) (tokens_of more)) ∙ ap (λ l. l ++ tokens_of more) p.1
         ∙ append_assoc (kinds_of front) (token.what ∷ p.0) (tokens_of more))))
     stopped stop.NoMain h b = absurd b.stops
-    stopped (stop.MainParams left) h b = absurd b.stops
-    stopped stop.Oom h b = absurd b.stops
+    stopped s h b = absurd b.stops
 
     by : (r : Outcome (List Task)) → tasks (start_of ts) ≡ r → IsOfStop tokens ts (faults.Expected token.at)
     by (Ok (found, j)) h =

@@ -1,6 +1,5 @@
 -- In an expression no statement, ask or task begins, and none does behind the first token of an ask.
-use Rattle.std.proofs.Common.{◌≡◌, ℕ, suc, ◌+◌, false, List, [], ◌∷◌, ◌++◌, length, Option, refl, ap}
-use Rattle.std.proofs.Common.{◌∙◌, arith}
+use Rattle.std.proofs.Common.{◌≡◌, ℕ, suc, ◌+◌, false, List, [], ◌∷◌, ◌++◌, length, Option, refl, ap, ◌∙◌, arith}
 use Rattle.std.specs.List.{AllByRecursion}
 use Rattle.tj_lex.specs.declared.token.Tok.{Tok}
 use Rattle.tj_syntax.specs.declared.read_expr.Level.{Level}
@@ -32,18 +31,11 @@ quiet-append (n ∷ a) b h k = (h.0, quiet-append a b h.1 k)
 
 quiet_op : (o : Op) → IsQuiet (mark (op_mark o))
 quiet_op op.Plus = (refl, refl, refl)
-quiet_op op.Minus = (refl, refl, refl)
-quiet_op op.Times = (refl, refl, refl)
-quiet_op op.Over = (refl, refl, refl)
-quiet_op op.Rest = (refl, refl, refl)
+quiet_op o = (refl, refl, refl)
 
 quiet_rel : (r : Rel) → IsQuiet (mark (rel_mark r))
 quiet_rel rel.Eq = (refl, refl, refl)
-quiet_rel rel.Ne = (refl, refl, refl)
-quiet_rel rel.Lt = (refl, refl, refl)
-quiet_rel rel.Le = (refl, refl, refl)
-quiet_rel rel.Gt = (refl, refl, refl)
-quiet_rel rel.Ge = (refl, refl, refl)
+quiet_rel r = (refl, refl, refl)
 
 mutual
   pub expression_quiet : {vars : List Name} {room : ℕ} {a : List Noted} {x : Expression}
@@ -69,11 +61,9 @@ mutual
 
   unary_quiet : {vars : List Name} {room : ℕ} {a : List Noted} {x : Expression} → IsUnary vars room a x → AreQuiet a
   unary_quiet (g.signed u) = ((refl, refl, refl), unary_quiet u)
-  unary_quiet (g.number n) = ((refl, refl, refl), tt)
-  unary_quiet (g.name x) = ((refl, refl, refl), tt)
-  unary_quiet g.me = ((refl, refl, refl), tt)
   unary_quiet (g.grouped {a = a} e) =
       ((refl, refl, refl), quiet-append a (_ ∷ []) (expression_quiet e) ((refl, refl, refl), tt))
+  unary_quiet p = ((refl, refl, refl), tt)
 
 argument_quiet : {vars : List Name} {room : ℕ} {a : List Noted} {x : Argument} → IsArgument vars room a x → AreQuiet a
 argument_quiet (g.own x) = ((refl, refl, refl), ((refl, refl, refl), tt))

@@ -1,6 +1,6 @@
 -- Statements are read off the tokens where their derivation has them.
-use Rattle.std.proofs.Common.{◌≡◌, ℕ, suc, ◌+◌, true, false, List, [], ◌∷◌, ◌++◌, length, Option, Some, None, refl}
-use Rattle.std.proofs.Common.{◌∙◌, arith, append_assoc, length-append, ap, sym, slice_get}
+use Rattle.std.proofs.Common.{◌≡◌, ℕ, suc, ◌+◌, true, false, List, [], ◌∷◌, ◌++◌, length, Option, Some, None, refl, ◌∙◌}
+use Rattle.std.proofs.Common.{arith, append_assoc, length-append, ap, sym, slice_get}
 use Rattle.tj_lex.specs.declared.token.Tok.{Tok}
 use Rattle.tj_lex.specs.declared.token.Tok.TheVariants as toks
 use Rattle.tj_lex.specs.declared.token.Mark.TheVariants as m
@@ -8,12 +8,12 @@ use Rattle.tj_syntax.specs.Trees.{Ask, Given, Statement, Statements, Otherwise}
 use Rattle.tj_syntax.specs.Marks.{Name, Noted, forks, mark}
 use Rattle.tj_syntax.specs.Faults.{tokens_of}
 use Rattle.tj_syntax.specs.Grammar as g
-use Rattle.tj_syntax.specs.Grammar.{IsExpression, IsAsk, IsGiven, IsStatement, IsBlock, IsStatements, IsElse}
+use Rattle.tj_syntax.specs.Grammar.{IsAsk, IsGiven, IsStatement, IsBlock, IsStatements, IsElse}
 use Rattle.tj_syntax.specs.Starts.{Start, start, ask_in, starts_of, in_block, starts_in, in_else}
 use Rattle.tj_syntax.specs.Inner.Scan.{ask_at, statements_from}
 use Rattle.tj_syntax.proofs.Complete.Steps.{ahead-append}
-use Rattle.tj_syntax.proofs.Starting.Quiet.{AreQuiet, AreSteady, steady, expression_quiet}
-use Rattle.tj_syntax.proofs.Starting.Quiet.{ask_steady, given_steady, over_steady}
+use Rattle.tj_syntax.proofs.Starting.Quiet.{AreQuiet, AreSteady, steady, expression_quiet, ask_steady, given_steady}
+use Rattle.tj_syntax.proofs.Starting.Quiet.{over_steady}
 
 -- a part that ends in a semicolon: behind it a statement may begin
 ended : (a : List Noted) → AreSteady a → (k n : ℕ) → k + length (a ++ mark m.Semi ∷ []) ≡ n → (more : List Tok)
@@ -33,9 +33,7 @@ first_quiet (t ∷ a) h more n = rw h.0.2
 first_ask : {tasks vars : List Name} {room : ℕ} {a : List Noted} {q : Ask} → IsAsk tasks vars room a q
     → (more : List Tok) (n : ℕ) → ask_at (slice_get (tokens_of (a ++ mark m.Semi ∷ []) ++ more) 0) n ≡ Some n
 first_ask g.new more n = refl
-first_ask (g.fork f p) more n = refl
-first_ask (g.get p q) more n = refl
-first_ask (g.join p q) more n = refl
+first_ask p more n = refl
 
 first_given : {tasks vars : List Name} {room : ℕ} {a : List Noted} {x : Given} → IsGiven tasks vars room a x
     → (more : List Tok) (n : ℕ) → ask_at (slice_get (tokens_of (a ++ mark m.Semi ∷ []) ++ more) 0) n ≡ ask_in x n
