@@ -1,8 +1,7 @@
 -- The tasks after one act more of one of them: those have begun that are the root or whose fork is worked off, and each
 -- is as it has to be.
-use Rattle.std.proofs.Common.{◌≡◌, ℕ, suc, ◌<◌, ◌↔◌, ◌⊎◌, inl, inr, Bool, true, List, []}
-use Rattle.std.proofs.Common.{◌∷◌, Some, length, set, refl, sym, ap, ◌∙◌, subst, arith}
-use Rattle.std.proofs.Common.{length-set}
+use Rattle.std.proofs.Common.{◌≡◌, ℕ, suc, ◌<◌, ◌↔◌, ◌⊎◌, inl, inr, Bool, true, List, [], ◌∷◌, Some, length, set, refl}
+use Rattle.std.proofs.Common.{sym, ap, ◌∙◌, subst, arith, length-set}
 use Rattle.std.proofs.lemmas.List.{length-append}
 use Rattle.std.specs.Prelude.{slice_get}
 use native.Mathlib.Decide.{ℕ_discrete}
@@ -27,6 +26,21 @@ pub child_differs : (t : Name) (k : ℕ) → child t k ≡ t → ⊥
 child_differs t k e =
     let longer = ap (λ (x : Name). length x) e in let many = length-append t (k ∷ []) in absurd (omega arith)
 
+module _ (lines : List ActLine) where
+  -- a fork is worked off where its parent's learner is another one that has come so far
+  forked_by : (ls ms : List Learner) (t : Name) (f : IsForked ls lines t) (z : Learner)
+      → slice_get ms f.index ≡ Some z → f.earlier < worked z → IsForked ms lines t
+  forked_by ls ms t f z there less = record {
+    parent = z;
+    index = f.index;
+    name = f.name;
+    earlier = f.earlier;
+    parent_there = there;
+    named = f.named;
+    forks = f.forks;
+    is_worked = less;
+  }
+
 module _ (lines : List ActLine) (ls ms : List Learner) (fit : AreActLines lines) (under : IsUnderWay lines ls) where
   -- the other tasks are as far as they were
   pub record OthersStay (i : ℕ) : Type 0 where
@@ -40,36 +54,17 @@ module _ (lines : List ActLine) (ls ms : List Learner) (fit : AreActLines lines)
       (more : worked y ≡ suc (worked x)) (stay : OthersStay i) where
     -- a fork that was worked off is so still
     forked_stays : (t : Name) → IsForked ls lines t → IsForked ms lines t
-    forked_stays t f = dite (ℕ_discrete f.index i) (λ e. here e) (λ differs. other (stay.later f.index f.parent differs
-        f.parent_there)) where
+    forked_stays t f = dite (ℕ_discrete f.index i) (λ e. here e)
+        (λ differs. other (stay.later f.index f.parent differs f.parent_there)) where
           here : f.index ≡ i → IsForked ms lines t
           here e =
               let is : f.parent ≡ x = some_is f.parent x (sym f.parent_there ∙ (ap (slice_get ls) e ∙ there)) in
               let same = ap (λ z. worked z) is in
-              let was = f.is_worked in record {
-                parent = y;
-                index = f.index;
-                name = f.name;
-                earlier = f.earlier;
-                parent_there = ap (slice_get ms) e ∙ after;
-                named = f.named;
-                forks = f.forks;
-                is_worked = omega arith;
-              }
+              let was = f.is_worked in
+              forked_by lines ls ms t f y (ap (slice_get ms) e ∙ after) (omega arith)
 
           other : (z : Learner) × (slice_get ms f.index ≡ Some z) × (worked z ≡ worked f.parent) → IsForked ms lines t
-          other z =
-              let same = z.2 in
-              let was = f.is_worked in record {
-                parent = z.0;
-                index = f.index;
-                name = f.name;
-                earlier = f.earlier;
-                parent_there = z.1;
-                named = f.named;
-                forks = f.forks;
-                is_worked = omega arith;
-              }
+          other z = let same = z.2 in let was = f.is_worked in forked_by lines ls ms t f z.0 z.1 (omega arith)
 
     -- a fork that is worked off was so before, or is the act
     forked_before : (t : Name) → IsForked ms lines t
@@ -78,30 +73,7 @@ module _ (lines : List ActLine) (ls ms : List Learner) (fit : AreActLines lines)
         (λ differs. inl (other (stay.earlier f.index f.parent differs f.parent_there)))
       where
         other : (z : Learner) × (slice_get ls f.index ≡ Some z) × (worked f.parent ≡ worked z) → IsForked ls lines t
-        other z =
-            let same = z.2 in
-            let was = f.is_worked in record {
-              parent = z.0;
-              index = f.index;
-              name = f.name;
-              earlier = f.earlier;
-              parent_there = z.1;
-              named = f.named;
-              forks = f.forks;
-              is_worked = omega arith;
-            }
-
-        before : f.index ≡ i → f.earlier < worked x → IsForked ls lines t
-        before e less = record {
-          parent = x;
-          index = f.index;
-          name = f.name;
-          earlier = f.earlier;
-          parent_there = ap (slice_get ls) e ∙ there;
-          named = f.named;
-          forks = f.forks;
-          is_worked = less;
-        }
+        other z = let same = z.2 in let was = f.is_worked in forked_by lines ms ls t f z.0 z.1 (omega arith)
 
         here : f.index ≡ i
             → IsForked ls lines t ⊎ ((s : Name) × HasName lines i s × HasAct lines s (worked x) (act.Fork t))
@@ -115,7 +87,7 @@ module _ (lines : List ActLine) (ls ms : List Learner) (fit : AreActLines lines)
               subst (λ k. HasName lines k f.name) e f.named,
               subst (λ n. HasAct lines f.name n (act.Fork t)) n f.forks,
             ))
-            (λ differs. inl (before e (omega (arith, differs))))
+            (λ differs. inl (forked_by lines ms ls t f x (ap (slice_get ls) e ∙ there) (omega (arith, differs))))
 
     -- a task whose fork isn't the act has begun where it had
     pub begun_still : (t : Name) (a b : Bool) → b ≡ a

@@ -1,7 +1,7 @@
 -- Knowledge, act by act: what a task knows when it begins, and what an act adds to it. These equations determine it, so
 -- a row that follows them has what the least relation has.
-use Rattle.std.proofs.Common.{◌≡◌, ◌<◌, ◌↔◌, ◌⊎◌, ℕ, suc, pred, Bool, true, false, List, [], Some, inl, inr}
-use Rattle.std.proofs.Common.{refl, sym, ap, ◌∙◌, subst, arith}
+use Rattle.std.proofs.Common.{◌≡◌, ◌<◌, ◌↔◌, ◌⊎◌, ℕ, suc, pred, Bool, true, false, List, [], Some, inl, inr, refl, sym}
+use Rattle.std.proofs.Common.{ap, ◌∙◌, subst, arith}
 use Rattle.tj_base.specs.ForkOrder.{Name, child}
 use Rattle.tj_mean.specs.ActLines.{HasAct, AreActLines, act_count}
 use Rattle.tj_mean.specs.declared.act.Act.{Act}
@@ -133,12 +133,10 @@ module _ (lines : List ActLine) where
 
     begins : (t c : Name) (n : ℕ) → HasAct lines t n (act.Fork c) → (s u : Name) (m : ℕ) → Knows lines s m u
         → s ≡ c → m ≡ 0 → Knows lines t n u
-    begins t c n h _ _ _ (stays s u m a g knew) ec en = absurd (omega arith)
-    begins t c n h _ _ _ (forks s d m g) ec en = absurd (omega arith)
     begins t c n h _ _ _ (inherits s d u m g knew) ec en =
         let one = one_fork t s c n m h (subst (λ x. HasAct lines s m (act.Fork x)) ec g) in
         moved t s u n m one.0 one.1 knew
-    begins t c n h _ _ _ (learns s w u m g knew told) ec en = absurd (omega arith)
+    begins t c n h _ _ _ step ec en = absurd (omega arith)
 
     -- a child begins with what its parent knew before the fork
     pub at_begin : (t c u : Name) (n : ℕ) → HasAct lines t n (act.Fork c)
@@ -146,11 +144,9 @@ module _ (lines : List ActLine) where
     at_begin t c u n h = (λ knows. begins t c n h c u 0 knows refl refl, λ knew. inherits t c u n h knew)
 
     root_begins : (s u : Name) (m : ℕ) → Knows lines s m u → s ≡ [] → m ≡ 0 → ⊥
-    root_begins _ _ _ (stays s u m a g knew) es en = absurd (omega arith)
-    root_begins _ _ _ (forks s d m g) es en = absurd (omega arith)
     root_begins _ _ _ (inherits s d u m g knew) es en =
         let own = fit.own_children s d m g in child_some s own.0 (sym own.1 ∙ es)
-    root_begins _ _ _ (learns s w u m g knew told) es en = absurd (omega arith)
+    root_begins _ _ _ step es en = absurd (omega arith)
 
     -- the root begins with nothing
     pub at_root : (u : Name) → ¬ Knows lines [] 0 u

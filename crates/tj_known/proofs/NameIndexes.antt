@@ -1,6 +1,6 @@
 -- The index of a name among lines whose names ascend, as a search finds it.
-use Rattle.std.proofs.Common.{◌≡◌, ℕ, zero, suc, ◌<◌, ◌≤◌, List, [], ◌∷◌, Some, length, get_or}
-use Rattle.std.proofs.Common.{Less, Equal, Greater, Ordering, refl, sym, ap, ◌∙◌, arith}
+use Rattle.std.proofs.Common.{◌≡◌, ℕ, zero, suc, ◌<◌, ◌≤◌, List, [], ◌∷◌, Some, length, get_or, Less, Equal, Greater}
+use Rattle.std.proofs.Common.{Ordering, refl, sym, ap, ◌∙◌, arith}
 use Rattle.std.specs.List.{AllByRecursion}
 use Rattle.std.specs.List.Sorted.{IsNonDecreasingBy, IsPartitionPoint, IsStrictlySortedBy}
 use Rattle.std.specs.Cmp.Lexicographic.{slice_cmp, texts_ties, nat_list_cmp_total}
@@ -28,8 +28,7 @@ order x y = slice_cmp nat_cmp x y
 -- no answer stands above the third
 top : (o : Ordering) → ordering_index o ≤ 2
 top Less = omega arith
-top Equal = omega arith
-top Greater = omega arith
+top o = omega arith
 
 -- a name that comes first compares no higher
 no_higher : (x y t : Name) → order x y ≡ Less → ordering_index (order x t) ≤ ordering_index (order y t)
@@ -68,9 +67,8 @@ rises t (l ∷ ls) asc (suc i) (suc j) d up less = rises t ls asc.1 i j d (omega
 self_equal : (t : Name) → order t t ≡ Equal
 self_equal t = by (order t t) (nat_list_cmp_total.antisymm t t) where
   by : (o : Ordering) → o ≡ ordering_reverse o → o ≡ Equal
-  by Less e = absurd (cc)
   by Equal e = refl
-  by Greater e = absurd (cc)
+  by o e = absurd (cc)
 
 module _ {F : Type 0} {g : Mut F (Bor ActLine × Unit {0}) Ordering} {f : F} (ls : List ActLine) (t : Name)
     (calls : (a : Bor ActLine × Unit {0}) (r : Ordering) (f' : F) → Called g f a r f'
