@@ -63,20 +63,15 @@ keeps_steps t (tree.return e) = keeps_then t.steps (value_in t e) _ (λ v. tt)
 keeps_steps t (tree.choose e body other) = keeps_then t.steps (number (value_in t e)) _ (λ n. refl)
 keeps_steps t (tree.repeat e body) = keeps_then t.steps (number (value_in t e)) _ (λ n. refl)
 
-same_at : (c : Result ℤ Trouble) (go : ℤ → List ℕ) (z : Stand) → (decided c go z).at ≡ z.at
+pub same_at : (c : Result ℤ Trouble) (go : ℤ → List ℕ) (z : Stand) → (decided c go z).at ≡ z.at
 same_at (Ok n) go z = refl
 same_at (Err fault) go z = refl
 
 -- a statement that begins leaves the number at which the task stands
-at_begun : (t : TaskState) (s : Statement) (z : Stand) → (stand_begun t s z).at ≡ z.at
-at_begun t (tree.let_new x side) z = refl
-at_begun t (tree.assign x side) z = refl
-at_begun t (tree.ask q) z = refl
-at_begun t (tree.print e) z = refl
-at_begun t (tree.set_cell x e) z = refl
-at_begun t (tree.return e) z = refl
+pub at_begun : (t : TaskState) (s : Statement) (z : Stand) → (stand_begun t s z).at ≡ z.at
 at_begun t (tree.choose e body other) z = same_at (number (value_in t e)) _ z
 at_begun t (tree.repeat e body) z = same_at (number (value_in t e)) _ z
+at_begun t s z = refl
 
 module _ (all : List Statement) where
   -- the task asks where it is

@@ -29,10 +29,8 @@ clear-back (x ∷ a) b h = clear-back a b h.1
 ask-without : {tasks vars : List Name} {room : ℕ} {a : List Noted} {q : tree.Ask} → IsAsk tasks vars room a q
     → IsClear a
     → is_no_get q ≡ true
-ask-without g.new h = refl
-ask-without (g.fork f is) h = refl
 ask-without (g.get r other) h = absurd (h.0 refl)
-ask-without (g.join r other) h = refl
+ask-without p h = refl
 
 given-without : {tasks vars : List Name} {room : ℕ} {a : List Noted} {side : Given} → IsGiven tasks vars room a side
     → IsClear a
@@ -46,13 +44,11 @@ mutual
   statement-without (g.let_new {a} x is) h = given-without is (clear-front a _ h.1.1.1)
   statement-without (g.assign {a} x is) h = given-without is (clear-front a _ h.1.1)
   statement-without (g.ask {a} is) h = ask-without is (clear-front a _ h)
-  statement-without (g.print is) h = refl
-  statement-without (g.set_cell x is) h = refl
-  statement-without (g.return is) h = refl
   statement-without (g.choose {a} {b} {c} {then_} {else_} x body other) h = let k = clear-back a (b ++ c) h.1 in
       and_from (have_no_get then_) (other_has_no_get else_) (block-without body (clear-front b c k))
       (else-without other (clear-back b c k))
   statement-without (g.repeat {a} {b} x body) h = block-without body (clear-back a b h.1)
+  statement-without p h = refl
 
   block-without : {tasks : List Name} {room : ℕ} {vars last : List Name} {a : List Noted} {body : Statements}
       → IsBlock tasks room vars a body last → IsClear a → have_no_get body ≡ true

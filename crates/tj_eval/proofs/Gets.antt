@@ -169,11 +169,9 @@ without-or_else_of t into (Err fault) h = tt
 without-answered_or_else : (t : TaskState) (into : Option ℕ) (e : tree.Expression) (a : Answer) → IsWithout t
     → IfWithout (answered_or_else t into e a)
 without-answered_or_else t into e answer.Start h = h
-without-answered_or_else t into e (answer.Local k) h = without-kept t into _ h
 without-answered_or_else t into e answer.Done h = h
-without-answered_or_else t into e (answer.Num n) h = without-kept t into _ h
-without-answered_or_else t into e (answer.RefAt k) h = without-kept t into _ h
 without-answered_or_else t into e answer.Lost h = without-or_else_of t into (value_in t e) h
+without-answered_or_else t into e a h = without-kept t into _ h
 
 without-answered : (t : TaskState) (d : Due) (a : Answer) → IsWithout t → IfWithout (answered t d a)
 without-answered t start a h = h

@@ -123,21 +123,13 @@ module _ (b : Standing) (h : IsReady b) where
         (by (next b.body a).0 now_right.1)) where
           by : (q : Ask TaskState) → ChildOf b.body.script q (stand_next b.body a (shown b).stand).called
               → ForksIn b.home (stand_next b.body a (shown b).stand).called q
-          by ask.New k = tt
           by (ask.Fork c pass hand) k = (
             k.0,
             ap (λ s. slice_get s (stand_next b.body a (shown b).stand).called) (sym h.script) ∙ k.1,
             k.2 ∙ h.script,
             k.3,
           )
-          by (ask.Set i v) k = tt
-          by (ask.Get i) k = tt
-          by (ask.Join i) k = tt
-          by (ask.GetOr i) k = tt
-          by (ask.JoinOr i) k = tt
-          by (ask.Emit i) k = tt
-          by (ask.End v) k = tt
-          by (ask.Fail c) k = tt
+          by q k = tt
 
 -- An equal task stands where it stands.
 module _ (b new : Standing) (h : IsReady b) (e : new.home ≡ b.home) (t : new.body ≡ b.body)

@@ -57,8 +57,7 @@ stops t (tree.repeat v body) e = absurd (not_both e)
 from_stopped : (w : Stand) (effect : Effect) (go : TaskState → Stand → Stand) → Stops effect
     → stand_from w effect go ≡ w
 from_stopped w (goes_on new) go h = absurd h
-from_stopped w (asks q new) go h = refl
-from_stopped w (fails fault) go h = refl
+from_stopped w effect go h = refl
 
 -- where no statement is left the task stands at the closing brace
 pub stand_done : (n : ℕ) (t : TaskState) (z : Stand) → t.rest ≡ [] → stand_ask n t z ≡ stand_over z.ahead z

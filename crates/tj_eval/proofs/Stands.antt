@@ -1,6 +1,6 @@
 -- What is ahead of a task are the numbers of the statements that remain.
-use Rattle.std.proofs.Common.{◌≡◌, ℕ, zero, suc, ◌+◌, ℤ, Bool, true, false, List, [], ◌∷◌, ◌++◌, length, refl, sym}
-use Rattle.std.proofs.Common.{ap, subst, ◌∙◌, append_assoc, arith}
+use Rattle.std.proofs.Common.{◌≡◌, ℕ, zero, suc, ◌+◌, ℤ, Bool, true, false, List, [], ◌∷◌, ◌++◌, length, refl, sym, ap}
+use Rattle.std.proofs.Common.{subst, ◌∙◌, append_assoc, arith}
 use Rattle.std.proofs.lemmas.List.{append-nil, length-append}
 use Rattle.std.specs.Prelude.{slice_get, Option, Some, None, Result, Ok, Err, if◌then◌else◌, nat_eq}
 use Rattle.tj_base.specs.declared.cause.Trouble.{Trouble}
@@ -14,21 +14,21 @@ use Rattle.tj_body.specs.declared.ask.Ask.TheVariants as ask
 use Rattle.tj_body.specs.Asks.{new_places}
 use Rattle.tj_body.specs.SeenAs.{ask_as}
 use Rattle.tj_body.specs.Programs.{program_of}
-use Rattle.tj_body.specs.KeptFacts.{HoldsInRounds, HoldsOfFork}
+use Rattle.tj_body.specs.KeptFacts.{HoldsInRounds}
 use Rattle.tj_body.proofs.KeptFacts.{holds_in_rounds}
 use Rattle.tj_syntax.specs.Trees as tree
 use Rattle.tj_syntax.specs.Trees.{Argument, Expression, Given, Statement, Statements, Otherwise, Task}
 use Rattle.tj_eval.specs.Expressions.{Computed, is_zero, held}
-use Rattle.tj_eval.specs.Statements.{TaskState, Effect, goes_on, asks, fails, begun, value_in, number, listed, otherwise}
-use Rattle.tj_eval.specs.Statements.{first, then_effect, reference, forked, fork_of, arguments, asked, given, Next}
-use Rattle.tj_eval.specs.Statements.{reference_of, Due, start, place, cell, cell_or, done, over, next_from, next_of}
-use Rattle.tj_eval.specs.Statements.{next_ask, ended, next_after, answered, answered_or_else, kept, kept_if, value_of}
-use Rattle.tj_eval.specs.Statements.{or_else_of}
+use Rattle.tj_eval.specs.Statements.{TaskState, Effect, goes_on, asks, fails, begun, value_in, number, listed}
+use Rattle.tj_eval.specs.Statements.{otherwise, first, then_effect, reference, forked, fork_of, arguments, asked, given}
+use Rattle.tj_eval.specs.Statements.{Next, reference_of, Due, start, place, cell, cell_or, done, over, next_from}
+use Rattle.tj_eval.specs.Statements.{next_of, next_ask, ended, next_after, answered, answered_or_else, kept, kept_if}
+use Rattle.tj_eval.specs.Statements.{value_of, or_else_of}
 use Rattle.tj_eval.specs.Bodies.{script_asks}
-use Rattle.tj_eval.specs.Stands.{inside, within, within_other, numbers, other_numbers, Stand, IsAt, AreNamed}
-use Rattle.tj_eval.specs.Stands.{decided, stand_begun, PlacedState, placed, placed_places, placed_awaits}
-use Rattle.tj_eval.specs.Stands.{placed_left, placed_asks, placed_then, callee, given_callee, stand_from, stand_of}
-use Rattle.tj_eval.specs.Stands.{stand_ask, stand_after, stand_next, all_ahead, StandsRight, ForkStandsRight}
+use Rattle.tj_eval.specs.Stands.{inside, within, within_other, numbers, other_numbers, Stand, IsAt, AreNamed, decided}
+use Rattle.tj_eval.specs.Stands.{stand_begun, PlacedState, placed, placed_places, placed_awaits, placed_left}
+use Rattle.tj_eval.specs.Stands.{placed_asks, placed_then, callee, given_callee, stand_from, stand_of, stand_ask}
+use Rattle.tj_eval.specs.Stands.{stand_after, stand_next, all_ahead, StandsRight, ForkStandsRight}
 
 -- Numbers.
 named_block : (all front behind : List Statement) (b : Statements) (ahead : List ℕ) (rest : List Statement)
@@ -266,12 +266,11 @@ rest_or_else t into (Err fault) = tt
 
 rest_answered_or : (t : TaskState) (into : Option ℕ) (e : Expression) (a : Answer)
     → IsSameRest t (answered_or_else t into e a)
-rest_answered_or t into e answer.Start = (refl, refl)
 rest_answered_or t into e (answer.Local k) = rest_kept t into (pay.Ref k)
-rest_answered_or t into e answer.Done = (refl, refl)
 rest_answered_or t into e (answer.Num n) = rest_kept t into (pay.Num n)
 rest_answered_or t into e (answer.RefAt k) = rest_kept t into (pay.Ref k)
 rest_answered_or t into e answer.Lost = rest_or_else t into (value_in t e)
+rest_answered_or t into e a = (refl, refl)
 
 -- an answer leaves the statements that remain
 pub rest_answered : (t : TaskState) (d : Due) (a : Answer) → IsSameRest t (answered t d a)
@@ -294,7 +293,6 @@ right_after all t z (Err fault) h k = (record { named = h; script = refl; decl =
 -- A child stands right where it begins.
 child_right : (f : ℕ) (script : List Task) (q : Ask TaskState) → ChildOf script q f
     → ForkStandsRight (ask_as (placed f) q)
-child_right f script ask.New h = tt
 child_right f script (ask.Fork b pass hand) h =
     let found = ap (λ s. slice_get s f) h.2 ∙ h.1 in record {
       task = h.0;
@@ -303,14 +301,7 @@ child_right f script (ask.Fork b pass hand) h =
           (subst (AreNamed (within h.0.body) (numbers 0 h.0.body ++ length (within h.0.body) ∷ [])) (sym h.3)
           (all_named h.0.body));
     }
-child_right f script (ask.Set k v) h = tt
-child_right f script (ask.Get k) h = tt
-child_right f script (ask.Join k) h = tt
-child_right f script (ask.GetOr k) h = tt
-child_right f script (ask.JoinOr k) h = tt
-child_right f script (ask.Emit i) h = tt
-child_right f script (ask.End v) h = tt
-child_right f script (ask.Fail c) h = tt
+child_right f script q h = tt
 
 -- a task that stands right does so after each ask, and so does what it forks
 pub stays_right : (x : PlacedState) (a : Answer) → StandsRight x
@@ -332,15 +323,4 @@ pub right_in_rounds : (strict : Bool) (root : PlacedState) → StandsRight root 
     (program_of placed_places placed_awaits placed_left placed_asks placed_then strict root)
 right_in_rounds strict root h = holds_in_rounds StandsRight
     (program_of placed_places placed_awaits placed_left placed_asks placed_then strict root)
-    (λ x a k. let r = stays_right x a k in (r.0, of_fork (placed_asks x a) r.1)) h where
-      of_fork : (q : Ask PlacedState) → ForkStandsRight q → HoldsOfFork StandsRight q
-      of_fork ask.New k = k
-      of_fork (ask.Fork b pass hand) k = k
-      of_fork (ask.Set i v) k = k
-      of_fork (ask.Get i) k = k
-      of_fork (ask.Join i) k = k
-      of_fork (ask.GetOr i) k = k
-      of_fork (ask.JoinOr i) k = k
-      of_fork (ask.Emit i) k = k
-      of_fork (ask.End v) k = k
-      of_fork (ask.Fail c) k = k
+    stays_right h

@@ -18,14 +18,9 @@ use Rattle.tj_eval.specs.declared.sizes.Size.{Size}
 
 -- a statement is the first of those inside it
 pub inside_more : (s : Statement) → (more : List Statement) × (inside s ≡ s ∷ more)
-inside_more (tree.let_new x side) = ([], refl)
-inside_more (tree.assign x side) = ([], refl)
-inside_more (tree.ask q) = ([], refl)
-inside_more (tree.print e) = ([], refl)
-inside_more (tree.set_cell x e) = ([], refl)
-inside_more (tree.return e) = ([], refl)
 inside_more (tree.choose e body other) = (_, refl)
 inside_more (tree.repeat e body) = (_, refl)
+inside_more s = ([], refl)
 
 behind_front : {A B : Type 0} (f : A → B) (front : List A) (x : A) (rest : List A)
     → slice_get (map f (front ++ x ∷ rest)) (length front) ≡ Some (f x)
@@ -133,14 +128,8 @@ some_is x y e = ap (λ o. elim o [ Some z ↦ z | None ↦ x ]) e
 
 -- the first block is less than the statement
 pub first_less : (s : Statement) → length (within_first s) < length (inside s)
-first_less (tree.let_new x side) = omega arith
-first_less (tree.assign x side) = omega arith
-first_less (tree.ask q) = omega arith
-first_less (tree.print e) = omega arith
-first_less (tree.set_cell x e) = omega arith
-first_less (tree.return e) = omega arith
 first_less (tree.choose e b other) = let l = length-append (within b) (within_other other) in omega (arith, l)
-first_less (tree.repeat e b) = omega arith
+first_less s = omega arith
 
 -- A statement is numbered by a table.
 module _ (own : List Size) (n : ℕ) (s : Statement) (is : IsNumbered own n s) where

@@ -32,11 +32,9 @@ abbrev mutual
   has_no_get (tree.let_new x given) = gives_no_get given
   has_no_get (tree.assign x given) = gives_no_get given
   has_no_get (tree.ask q) = is_no_get q
-  has_no_get (tree.print e) = true
-  has_no_get (tree.set_cell x e) = true
-  has_no_get (tree.return e) = true
   has_no_get (tree.choose e body other) = have_no_get body && other_has_no_get other
   has_no_get (tree.repeat e body) = have_no_get body
+  has_no_get s = true
 
   -- no get stands in any of the statements
   pub have_no_get : Statements → Bool

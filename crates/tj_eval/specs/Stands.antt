@@ -1,11 +1,11 @@
 -- Where a task stands in its declaration. The statements of a declaration have numbers, in the order of the text.
-use Rattle.std.specs.Prelude.{◌≡◌, ℕ, zero, suc, ℤ, ◌+◌, if◌then◌else◌}
-use Rattle.std.specs.Prelude.{List, [], ◌∷◌, ◌++◌, length, slice_get, Option, Some, None, Result, Ok, Err}
+use Rattle.std.specs.Prelude.{◌≡◌, ℕ, zero, suc, ℤ, ◌+◌, if◌then◌else◌, List, [], ◌∷◌, ◌++◌, length, slice_get, Option}
+use Rattle.std.specs.Prelude.{Some, None, Result, Ok, Err}
 use Rattle.tj_base.specs.declared.cause.Trouble.{Trouble}
 use Rattle.tj_body.specs.declared.ask.Answer.{Answer}
 use Rattle.tj_body.specs.declared.ask.Ask.{Ask}
-use Rattle.tj_body.specs.declared.ask.Ask.TheVariants as ask
 use Rattle.tj_body.specs.Asks.{Await, new_places}
+use Rattle.tj_body.specs.KeptFacts.{HoldsOfFork}
 use Rattle.tj_body.specs.SeenAs.{ask_as}
 use Rattle.tj_syntax.specs.Trees as tree
 use Rattle.tj_syntax.specs.Trees.{Given, Statement, Statements, Otherwise, Task}
@@ -179,13 +179,4 @@ pub record StandsRight (x : PlacedState) : Type 0 where
 
 -- what an ask forks stands right
 abbrev pub ForkStandsRight : Ask PlacedState → Type 0
-ForkStandsRight ask.New = Unit {0}
-ForkStandsRight (ask.Fork x pass hand) = StandsRight x
-ForkStandsRight (ask.Set k v) = Unit {0}
-ForkStandsRight (ask.Get k) = Unit {0}
-ForkStandsRight (ask.Join k) = Unit {0}
-ForkStandsRight (ask.GetOr k) = Unit {0}
-ForkStandsRight (ask.JoinOr k) = Unit {0}
-ForkStandsRight (ask.Emit i) = Unit {0}
-ForkStandsRight (ask.End v) = Unit {0}
-ForkStandsRight (ask.Fail c) = Unit {0}
+ForkStandsRight = HoldsOfFork StandsRight

@@ -32,10 +32,7 @@ op_back (suc (suc (suc (suc k)))) = op.Rest
 -- an operator is that of its number
 pub op_same : (o : Op) → op_back (op_code o) ≡ o
 op_same op.Plus = refl
-op_same op.Minus = refl
-op_same op.Times = refl
-op_same op.Over = refl
-op_same op.Rest = refl
+op_same o = refl
 
 -- a comparison as a number
 abbrev rel_code : Rel → ℕ
@@ -58,11 +55,7 @@ rel_back (suc (suc (suc (suc (suc k))))) = rel.Ge
 -- a comparison is that of its number
 pub rel_same : (r : Rel) → rel_back (rel_code r) ≡ r
 rel_same rel.Eq = refl
-rel_same rel.Ne = refl
-rel_same rel.Lt = refl
-rel_same rel.Le = refl
-rel_same rel.Gt = refl
-rel_same rel.Ge = refl
+rel_same r = refl
 
 -- what holds a reference, as its code
 abbrev ref_code : RefOf → Gv
@@ -137,11 +130,10 @@ mutual
   -- an expression is that of its code
   pub x_same : (e : Expression) → (x_back (x_code e)).0 ≡ e
   x_same (tree.number n) = int_same n
-  x_same (tree.variable x) = refl
-  x_same tree.me = refl
   x_same (tree.negation e) = λ i. tree.negation (x_same e i)
   x_same (tree.chain e pairs) = λ i. tree.chain (x_same e i) (pairs_same pairs i)
   x_same (tree.comparison r a b) = λ i. tree.comparison (rel_same r i) (x_same a i) (x_same b i)
+  x_same e = refl
 
   -- pairs are those of their code
   pub pairs_same : (pairs : Pairs) → (x_back (pairs_code pairs)).1 ≡ pairs

@@ -1,9 +1,7 @@
 -- The laws of one ask, for a task of a script.
 use Rattle.std.proofs.Common.{◌≡◌, ◌≤◌, ◌<◌, ℕ, zero, suc, ◌+◌, ◌-◌, ◌⊎◌, inl, inr, Bool, true, false, cond, nat_lt}
-use Rattle.std.proofs.Common.{nat_le, nat_eq}
-use Rattle.std.proofs.Common.{ℤ, pos, neg_ℤ, ◌&&◌, List, [], ◌∷◌, ◌++◌, length, get_or, replicate, refl, sym, subst, ap}
-use Rattle.std.proofs.Common.{◌∙◌, arith, leb-true, ltb-true}
-use Rattle.std.proofs.Common.{lt-ltb, le-leb, eqb-true}
+use Rattle.std.proofs.Common.{nat_le, nat_eq, ℤ, pos, neg_ℤ, ◌&&◌, List, [], ◌∷◌, ◌++◌, length, get_or, replicate, refl}
+use Rattle.std.proofs.Common.{sym, subst, ap, ◌∙◌, arith, leb-true, ltb-true, lt-ltb, le-leb, eqb-true}
 use Rattle.std.proofs.lemmas.Bool.{and_from}
 use Rattle.std.specs.Prelude.{slice_get, slice_set, Option, Some, None, Result, Ok, Err, if◌then◌else◌}
 use Rattle.std.specs.List.{AllByRecursion, list_all}
@@ -30,16 +28,12 @@ use Rattle.tj_syntax.specs.Trees as tree
 use Rattle.tj_eval.specs.Expressions.{Computed, with_number, with_reference, exact, is_i64, applied, compares, truth}
 use Rattle.tj_eval.specs.Expressions.{held, value, chained}
 use Rattle.tj_eval.specs.Statements.{TaskState, Effect, goes_on, asks, fails, Next, ended, kept, value_in, then_effect}
-use Rattle.tj_eval.specs.Statements.{number, reference}
-use Rattle.tj_eval.specs.Statements.{Due, start, place, cell, cell_or, done, over, next_from, next_of, next_ask}
-use Rattle.tj_eval.specs.Statements.{next_after, next}
-use Rattle.tj_eval.specs.Statements.{begun, given, asked, forked, answered, answered_or_else, value_of, kept_if}
-use Rattle.tj_eval.specs.Statements.{or_else_of, reference_of}
-use Rattle.tj_eval.specs.Statements.{argument, arguments, and_more, references, handed, as_passed, task_of, fork_of}
-use Rattle.tj_eval.specs.Statements.{first}
-use Rattle.tj_eval.specs.Bodies.{all_have_few_params, has_few_params, most_params}
-use Rattle.tj_eval.specs.Bodies.{script_places, script_awaits, script_left, script_asks, script_then, is_sound}
-use Rattle.tj_eval.specs.Bodies.{await_of}
+use Rattle.tj_eval.specs.Statements.{number, reference, Due, start, place, cell, cell_or, done, over, next_from}
+use Rattle.tj_eval.specs.Statements.{next_of, next_ask, next_after, next, begun, given, asked, forked, answered}
+use Rattle.tj_eval.specs.Statements.{answered_or_else, value_of, kept_if, or_else_of, reference_of, argument, arguments}
+use Rattle.tj_eval.specs.Statements.{and_more, references, handed, as_passed, task_of, fork_of, first}
+use Rattle.tj_eval.specs.Bodies.{all_have_few_params, has_few_params, most_params, script_places, script_awaits}
+use Rattle.tj_eval.specs.Bodies.{script_left, script_asks, script_then, is_sound, await_of}
 
 -- Values: each reference is one of n places.
 abbrev ArePaid : ℕ → List Pay → Type 0
@@ -56,8 +50,7 @@ IsFine n = IfGood (IsPaid n)
 
 fine-number : (n : ℕ) (c : Computed) (go : ℤ → Computed) → ((k : ℤ) → IsFine n (go k)) → IsFine n (with_number c go)
 fine-number n (Ok (pay.Num k)) go h = h k
-fine-number n (Ok (pay.Ref k)) go h = tt
-fine-number n (Err fault) go h = tt
+fine-number n c go h = tt
 
 fine-if : (n : ℕ) (b : Bool) (c d : Computed) → IsFine n c → IsFine n d → IsFine n (if b then c else d)
 fine-if n true c d h k = h
@@ -99,9 +92,8 @@ any (Ok x) = tt
 any (Err fault) = tt
 
 fine-reference : (n : ℕ) (c : Computed) → IsFine n c → IfGood (λ k. k < n) (reference c)
-fine-reference n (Ok (pay.Num k)) h = tt
 fine-reference n (Ok (pay.Ref k)) h = h
-fine-reference n (Err fault) h = tt
+fine-reference n c h = tt
 
 -- Tests and what they say.
 paid : (n : ℕ) (v : Pay) → is_paid n v ≡ true → IsPaid n v
@@ -431,28 +423,18 @@ PaidIf n None = Unit {0}
 PaidIf n (Some v) = IsPaid n v
 
 local-is : (w : Await) (n k : ℕ) → Fits w n (answer.Local k) → k ≡ n
-local-is await.begin n k h = absurd h
 local-is await.place n k h = h
-local-is await.done n k h = absurd h
-local-is await.cell n k h = absurd h
-local-is await.cell_or n k h = absurd h
-local-is await.nothing n k h = absurd h
+local-is w n k h = absurd h
 
 ref-is : (w : Await) (n k : ℕ) → Fits w n (answer.RefAt k) → k ≡ n
-ref-is await.begin n k h = absurd h
-ref-is await.place n k h = absurd h
-ref-is await.done n k h = absurd h
 ref-is await.cell n k h = h
 ref-is await.cell_or n k h = h
-ref-is await.nothing n k h = absurd h
+ref-is w n k h = absurd h
 
 paid-answer : (w : Await) (n : ℕ) (a : Answer) → Fits w n a → PaidIf (n + new_places a) (value_of a)
-paid-answer w n answer.Start h = tt
 paid-answer w n (answer.Local k) h = omega (arith, local-is w n k h)
-paid-answer w n answer.Done h = tt
-paid-answer w n (answer.Num i) h = tt
 paid-answer w n (answer.RefAt k) h = omega (arith, ref-is w n k h)
-paid-answer w n answer.Lost h = tt
+paid-answer w n a h = tt
 
 -- the task after its answer is sound, and is otherwise as it was
 abbrev IsOn : TaskState → TaskState → Type 0
@@ -474,12 +456,11 @@ on-or_else_of t into (Err fault) s h = tt
 on-answered_or_else : (t : TaskState) (into : Option ℕ) (e : Expression) (a : Answer) → IsSound t
     → PaidIf t.places (value_of a)
     → IfGood (IsOn t) (answered_or_else t into e a)
-on-answered_or_else t into e answer.Start s p = (s, refl, refl)
 on-answered_or_else t into e (answer.Local k) s p = on-kept t into (pay.Ref k) s p
-on-answered_or_else t into e answer.Done s p = (s, refl, refl)
 on-answered_or_else t into e (answer.Num n) s p = on-kept t into (pay.Num n) s p
 on-answered_or_else t into e (answer.RefAt k) s p = on-kept t into (pay.Ref k) s p
 on-answered_or_else t into e answer.Lost s p = on-or_else_of t into (value_in t e) s (fine-value_in t e s)
+on-answered_or_else t into e a s p = (s, refl, refl)
 
 on-answered : (t : TaskState) (d : Due) (a : Answer) → IsSound t → PaidIf t.places (value_of a)
     → IfGood (IsOn t) (answered t d a)

@@ -16,15 +16,7 @@ use Rattle.tj_eval.specs.Inner.Laws.{script_obeys}
 -- A task without its stand is the task.
 erased_ask : (f : ℕ) (q : Ask TaskState) → ask_as erased (ask_as (placed f) q) ≡ q
 erased_ask f ask.New = refl
-erased_ask f (ask.Fork b pass hand) = refl
-erased_ask f (ask.Set k v) = refl
-erased_ask f (ask.Get k) = refl
-erased_ask f (ask.Join k) = refl
-erased_ask f (ask.GetOr k) = refl
-erased_ask f (ask.JoinOr k) = refl
-erased_ask f (ask.Emit i) = refl
-erased_ask f (ask.End v) = refl
-erased_ask f (ask.Fail t) = refl
+erased_ask f q = refl
 
 -- placed tasks are seen as the tasks that are there
 pub are_seen : (strict : Bool) → AreSeenAs erased
