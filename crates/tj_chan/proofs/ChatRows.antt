@@ -1,9 +1,7 @@
 -- The asks of a table's chatter are those of its rows, in order.
-use Rattle.std.proofs.Common.{◌≡◌, ◌≤◌, ◌<◌, ℕ, suc, ◌+◌, inl, inr, true, pos, List, [], ◌∷◌, length, get_or}
-use Rattle.std.proofs.Common.{drop, refl, sym, subst, ap, ◌∙◌, arith, drop-cons}
+use Rattle.std.proofs.Common.{◌≡◌, ◌≤◌, ◌<◌, ℕ, suc, ◌+◌, inl, inr, pos, List, [], ◌∷◌, length, get_or, drop, refl, sym}
+use Rattle.std.proofs.Common.{ap, ◌∙◌, arith, drop-cons}
 use Rattle.std.proofs.lemmas.Option.{slice_get_cases, slice_get_read, slice_get_past}
-use Rattle.std.proofs.lemmas.List.Sums.{AllPass-from_list_all}
-use Rattle.std.specs.Cmp.{second_so}
 use Rattle.std.proofs.lemmas.List.{drop_all}
 use Rattle.tj_chan.specs.Chats.{channels_added}
 use Rattle.tj_chan.specs.declared.chat.ChatAnswer.{ChatAnswer}
@@ -12,9 +10,10 @@ use Rattle.tj_chan.specs.declared.chat.ChatAsk.TheVariants as ask
 use Rattle.tj_chan.specs.declared.table.ChatRow.{ChatRow}
 use Rattle.tj_chan.specs.declared.table.ChatRow.TheVariants as row
 use Rattle.tj_chan.specs.declared.table.TableChat.{TableChat}
-use Rattle.tj_chan.specs.ChatTables.{is_chat_row, chat_row_ask, chat_rows_of, chat_row_or_end, chat_ask_at}
-use Rattle.tj_chan.specs.ChatTables.{table_chat_asks, table_chat_then, chats_given, asks_of_chat_rows}
-use Rattle.tj_chan.specs.Inner.ChatTableLaws.{IsUnderWay, ChatRowAt}
+use Rattle.tj_chan.specs.ChatTables.{chat_row_ask, chat_rows_of, chat_row_or_end, chat_ask_at, table_chat_asks}
+use Rattle.tj_chan.specs.ChatTables.{table_chat_then, asks_of_chat_rows}
+use Rattle.tj_body.specs.RowLists.{asks_given}
+use Rattle.tj_body.specs.Inner.RowListLaws.{RowAt}
 
 -- the chatter some rows further, whose task has n channels
 abbrev further : TableChat → ℕ → ℕ → TableChat
@@ -23,12 +22,7 @@ further c k n = record c { row = k; channels = n }
 -- a row's ask is the same wherever the chatter stands
 row_ask-further : (c : TableChat) (k n : ℕ) (r : ChatRow) → chat_row_ask (further c k n) r ≡ chat_row_ask c r
 row_ask-further c k n (row.Open i) = refl
-row_ask-further c k n (row.Send i v) = refl
-row_ask-further c k n (row.Recv i) = refl
-row_ask-further c k n (row.Spawn list pass give) = refl
-row_ask-further c k n (row.Emit i) = refl
-row_ask-further c k n (row.End v) = refl
-row_ask-further c k n (row.Fail t) = refl
+row_ask-further c k n r = refl
 
 -- the row that stands at k is the one that the chatter asks there
 pub chat_row-at : (c : TableChat) (k j m : ℕ) (r : ChatRow) → k < length (chat_rows_of c)
@@ -40,15 +34,9 @@ chat_row-at c k j m r l e = row_ask-further c j m r
 pub chat_ask-past : (c : TableChat) (k : ℕ) → length (chat_rows_of c) ≤ k → ask.End (pos 0) ≡ chat_ask_at c k
 chat_ask-past c k l = ap (chat_row_or_end c) (sym (slice_get_past (chat_rows_of c) k l))
 
--- the rows of a chatter under way are those of a table
-pub is_chat_row-at : (c : TableChat) (k : ℕ) (r : ChatRow) → IsUnderWay c → k < length (chat_rows_of c)
-    → r ≡ get_or (chat_rows_of c) k r → is_chat_row (length c.lists.now) r ≡ true
-is_chat_row-at c k r u l e = let t = is_chat_row (length c.lists.now) in
-    subst (λ z. t z ≡ true) (sym e) (AllPass-from_list_all t (chat_rows_of c) (second_so _ _ u.rows) k r l)
-
 module _ (c : TableChat) (k n : ℕ) (a : ChatAnswer) (rest : List ChatAnswer) (asked : List (ChatAsk TableChat))
     (h : asked ≡ asks_of_chat_rows c (drop (suc k) (chat_rows_of c)) rest) where
-  one_more : ChatRowAt c k
+  one_more : RowAt (chat_rows_of c) k
       → table_chat_asks (further c k n) a ∷ asked ≡ asks_of_chat_rows c (drop k (chat_rows_of c)) (a ∷ rest)
   one_more (inl f) = let more = drop (suc k) (chat_rows_of c) in
       let e : drop k (chat_rows_of c) ≡ f.0 ∷ more = drop-cons (chat_rows_of c) k f.0 f.1 ∙ ap (λ z. z ∷ more) f.3 in
@@ -58,9 +46,9 @@ module _ (c : TableChat) (k n : ℕ) (a : ChatAnswer) (rest : List ChatAnswer) (
 
 -- from row k on the chatter gives the rows that are left
 pub gives_chat_rows : (c : TableChat) (answers : List ChatAnswer) (k n : ℕ)
-    → chats_given table_chat_asks table_chat_then (further c k n) answers
+    → asks_given table_chat_asks table_chat_then (further c k n) answers
     ≡ asks_of_chat_rows c (drop k (chat_rows_of c)) answers
 gives_chat_rows c [] k n = refl
 gives_chat_rows c (a ∷ rest) k n = let m = n + channels_added a in
-    one_more c k n a rest (chats_given table_chat_asks table_chat_then (further c (suc k) m) rest)
+    one_more c k n a rest (asks_given table_chat_asks table_chat_then (further c (suc k) m) rest)
     (gives_chat_rows c rest (suc k) m) (slice_get_cases (chat_rows_of c) k).1

@@ -5,7 +5,7 @@ use Rattle.std.specs.List.{flat_map}
 use Rattle.tj_chan.specs.Relays.{relay_asks, relay_then, root_relay, first_child, second_child}
 use Rattle.tj_chan.specs.Relays.{RelayTurn, turn_of, relay_turn, more_turn, sum_turn, hand_on}
 use Rattle.tj_chan.specs.Relays.{total, SumsFit, sends_from, GivesRelay, the_channel}
-use Rattle.tj_chan.specs.ChatTables.{chats_given}
+use Rattle.tj_body.specs.RowLists.{asks_given}
 use Rattle.tj_chan.specs.declared.chat.ChatAnswer.{ChatAnswer}
 use Rattle.tj_chan.specs.declared.chat.ChatAnswer.TheVariants as answer
 use Rattle.tj_chan.specs.declared.chat.ChatAsk.{ChatAsk}
@@ -20,7 +20,7 @@ at p size count s = record { part = p; size = size; count = count; sum = s }
 
 -- what a relay asks, given these answers
 abbrev asked : Relay → List ChatAnswer → List (ChatAsk Relay)
-asked = chats_given relay_asks relay_then
+asked = asks_given relay_asks relay_then
 
 -- an ask of a relay whose turn is known, and what it asks after it
 asked_by : (r : Relay) (a : ChatAnswer) (rest : List ChatAnswer) (t : RelayTurn) → turn_of r.part a r ≡ t

@@ -1,7 +1,7 @@
 -- The asks of a chatter that gives the rows of a list.
-use Rattle.std.specs.Prelude.{◌≡◌, ℕ, zero, suc, ◌+◌, ◌-◌, ◌^◌, Bool, true, cond, ◌&&◌, nat_lt, nat_le, pos}
-use Rattle.std.specs.Prelude.{List, [], ◌∷◌, length, get_or, slice_get, Option, Some, None}
-use Rattle.std.specs.List.{list_all}
+use Rattle.std.specs.Prelude.{◌≡◌, ℕ, zero, suc, ◌+◌, ◌-◌, ◌^◌, Bool, true, cond, ◌&&◌, nat_lt, nat_le, pos, List, []}
+use Rattle.std.specs.Prelude.{◌∷◌, length, get_or, slice_get, Option, Some, None}
+use Rattle.tj_body.specs.RowLists.{is_list_of, are_table, is_reading, asks_given}
 use Rattle.tj_chan.specs.Chats.{ChatAwait, begin, nothing, channels_added, chat_awaited, most_items, most_channels}
 use Rattle.tj_chan.specs.declared.chat.ChatAnswer.{ChatAnswer}
 use Rattle.tj_chan.specs.declared.chat.ChatAsk.{ChatAsk}
@@ -14,12 +14,8 @@ use Rattle.tj_chan.specs.declared.table.TableChat.{TableChat}
 -- not too many.
 abbrev pub is_chat_row : ℕ → ChatRow → Bool
 is_chat_row lists (row.Open k) = nat_lt 0 k && nat_le k most_items
-is_chat_row lists (row.Send c v) = true
-is_chat_row lists (row.Recv c) = true
 is_chat_row lists (row.Spawn list pass give) = nat_lt list lists && nat_le (length pass) most_channels
-is_chat_row lists (row.Emit i) = true
-is_chat_row lists (row.End v) = true
-is_chat_row lists (row.Fail t) = true
+is_chat_row lists r = true
 
 -- a list of a table has at most so many rows
 abbrev pub most_chat_rows : ℕ
@@ -27,11 +23,11 @@ most_chat_rows = 2 ^ 15
 
 -- the list is one of a table with so many lists
 abbrev pub is_chat_list : ℕ → List ChatRow → Bool
-is_chat_list lists rows = nat_le (length rows) most_chat_rows && list_all (is_chat_row lists) rows
+is_chat_list = is_list_of most_chat_rows is_chat_row
 
 -- the lists are those of a table
 abbrev pub is_chat_table : List (List ChatRow) → Bool
-is_chat_table lists = list_all (is_chat_list (length lists)) lists
+is_chat_table = are_table most_chat_rows is_chat_row
 
 -- the chatter that gives the rows of another list of the same table, for a task with n channels
 abbrev pub chat_at : TableChat → ℕ → ℕ → TableChat
@@ -87,20 +83,13 @@ chat_await_after c (suc k) = chat_awaited (chat_ask_at c k)
 
 -- whether the chatter is one of a table, and has not given its End yet
 abbrev pub is_chat_under_way : TableChat → Bool
-is_chat_under_way c = is_chat_table c.lists.now && nat_lt c.list (length c.lists.now)
-    && nat_le c.row (length (chat_rows_of c))
+is_chat_under_way c = is_reading most_chat_rows is_chat_row c.lists.now c.list c.row
 
 -- a chatter that isn't under way awaits nothing
 abbrev pub table_chat_awaits : TableChat → ChatAwait
 table_chat_awaits c = cond (is_chat_under_way c) (chat_await_after c c.row) nothing
 
--- Whole lists of asks: what a chatter asks, one ask for each answer.
-abbrev pub chats_given : {C : Type 0} → (C → ChatAnswer → ChatAsk C) → (C → ChatAnswer → C) → C → List ChatAnswer
-    → List (ChatAsk C)
-chats_given asks then c [] = []
-chats_given asks then c (a ∷ rest) = asks c a ∷ chats_given asks then (then c a) rest
-
--- the rows' asks in order, and then End of 0
+-- Whole lists of asks: the rows' asks in order, and then End of 0
 abbrev pub asks_of_chat_rows : TableChat → List ChatRow → List ChatAnswer → List (ChatAsk TableChat)
 asks_of_chat_rows c rows [] = []
 asks_of_chat_rows c [] (a ∷ rest) = ask.End (pos 0) ∷ asks_of_chat_rows c [] rest
@@ -109,5 +98,5 @@ asks_of_chat_rows c (r ∷ rs) (a ∷ rest) = chat_row_ask c r ∷ asks_of_chat_
 -- each chatter of the table gives the rows of its list, whatever it is answered: in order, and then End of 0
 abbrev pub GivesChatTable : TableChat → Type 0
 GivesChatTable c = (list n : ℕ) (answers : List ChatAnswer)
-    → chats_given table_chat_asks table_chat_then (chat_at c list n) answers
+    → asks_given table_chat_asks table_chat_then (chat_at c list n) answers
     ≡ asks_of_chat_rows c (get_or (chat_lists_of c) list []) answers

@@ -6,7 +6,7 @@ use Rattle.std.specs.Prelude.{nat_le, List, [], ◌∷◌, ◌++◌, length, ℤ
 use Rattle.std.specs.List.{flat_map}
 use Rattle.tj_base.specs.declared.cause.Trouble.TheVariants as trouble
 use Rattle.tj_chan.specs.Chats.{ChatAwait, begin, new_channel, done, number, nothing, most_items}
-use Rattle.tj_chan.specs.ChatTables.{chats_given}
+use Rattle.tj_body.specs.RowLists.{asks_given}
 use Rattle.tj_chan.specs.declared.chat.ChatAnswer.{ChatAnswer}
 use Rattle.tj_chan.specs.declared.chat.ChatAnswer.TheVariants as answer
 use Rattle.tj_chan.specs.declared.chat.ChatAsk.{ChatAsk}
@@ -100,12 +100,7 @@ relay_then r a = (turn_of r.part a r).relay
 abbrev pub channels_in : Part → ℕ
 channels_in part.Opens = 0
 channels_in part.Spawns = 0
-channels_in part.Receives = 1
-channels_in part.Prints = 1
-channels_in part.Sends = 1
-channels_in part.Ends = 1
-channels_in part.SendsRest = 1
-channels_in part.Over = 1
+channels_in p = 1
 
 -- how many channels its task has
 abbrev pub relay_channels : Relay → ℕ
@@ -204,8 +199,8 @@ second_asks k = sends_from (k / 2 + 1) (k - k / 2) ++ ask.End (pos 0) ∷ []
 -- difference.
 pub record GivesRelay (k : ℕ) (r : Relay) : Type 0 where
   pub root : (vs : List ℤ) → length vs ≡ k → SumsFit (pos 0) vs
-      → chats_given relay_asks relay_then r (root_answers vs) ≡ root_asks k vs
+      → asks_given relay_asks relay_then r (root_answers vs) ≡ root_asks k vs
   pub first : (answers : List ChatAnswer) → length answers ≡ k / 2 + 2
-      → chats_given relay_asks relay_then (first_child k) answers ≡ first_asks k
+      → asks_given relay_asks relay_then (first_child k) answers ≡ first_asks k
   pub second : (answers : List ChatAnswer) → length answers ≡ k - k / 2 + 1
-      → chats_given relay_asks relay_then (second_child k) answers ≡ second_asks k
+      → asks_given relay_asks relay_then (second_child k) answers ≡ second_asks k

@@ -1,8 +1,9 @@
-use Rattle.std.proofs.Common.{arith, ◌≡◌, ◌+◌, ◌<◌, ◌≤◌, length, get_or, subst}
+use Rattle.std.proofs.Common.{arith, ◌≡◌, ◌+◌, ◌<◌, ◌≤◌, length, get_or, subst, sym}
 use Rattle.std.specs.Prelude.{IfOk}
 use Rattle.tj_chan.specs.ChatTables.{chat_rows_of}
-use Rattle.tj_chan.specs.Inner.ChatTableLaws.{chat_under_way, chat_parts}
-use Rattle.tj_chan.proofs.ChatRows.{chat_row-at, chat_ask-past, is_chat_row-at}
+use Rattle.tj_body.specs.Inner.RowListLaws.{row_passes}
+use Rattle.tj_chan.specs.Inner.ChatTableLaws.{chat_under_way}
+use Rattle.tj_chan.proofs.ChatRows.{chat_row-at, chat_ask-past}
 use Rattle.tj_chan.proofs.table.TableChatChatter.next.Goals as goal
 use Rattle.tj_chan.proofs.table.TableChatChatter.next.Goals.{After-index-rows-at}
 
@@ -18,8 +19,8 @@ module _ (c : After-index-rows-at) where
       subst (λ z. r ≡ get_or z c.args.self.now.row r) c.rows-rows.ensures c.index-rows-at.is
 
 pub ask-requires : goal.ask-requires
-ask-requires c = let b = c.args.self.now in let u = chat_parts b (chat_under_way b c.args.a c.requires.fits) in
-    record { row = is_chat_row-at b b.row c.index-rows-at.result u (in_rows c) (is_that_row c) }
+ask-requires c = let b = c.args.self.now in let u = chat_under_way b c.args.a c.requires.fits in
+    record { row = row_passes u b.row c.index-rows-at.result (in_rows c) (sym (is_that_row c)) }
 
 pub returns-then-at-rows-clause-ask : goal.returns-then-at-rows-clause-ask
 returns-then-at-rows-clause-ask c = let b = c.args.self.now in let r = c.index-rows-at.result in
