@@ -17,12 +17,8 @@ use Rattle.tj_chan.specs.declared.chat.ChatAsk.TheVariants as chat
 pub few_of : {C : Type 0} (channels : C → ℕ) (awaits : C → ChatAwait) (left : C → ℕ) (x : ChatAsk C)
     → IsChatAsk channels awaits left x → IsFew x
 few_of channels awaits left (chat.Open k) h = h.0
-few_of channels awaits left (chat.Send c v) h = tt
-few_of channels awaits left (chat.Recv c) h = tt
 few_of channels awaits left (chat.Spawn b pass give) h = h.few
-few_of channels awaits left (chat.Emit i) h = tt
-few_of channels awaits left (chat.End v) h = tt
-few_of channels awaits left (chat.Fail t) h = tt
+few_of channels awaits left x h = tt
 
 -- the body with so many places more
 abbrev pub with_places : {C : Type 0} → ℕ → ChanBody C → ChanBody C

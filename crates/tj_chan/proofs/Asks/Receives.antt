@@ -1,10 +1,10 @@
 -- A receive is a Get of the item's promise, and what becomes of the promise is the chatter's answer.
-use Rattle.std.proofs.Common.{◌≡◌, ℕ, suc, ◌+◌, Bool, true, false, cond, nat_lt, ⊎_elim, List, []}
-use Rattle.std.proofs.Common.{◌∷◌, ◌++◌, map, Option, Some, None, refl, sym, ap, ◌∙◌, subst, arith, ltb-true}
+use Rattle.std.proofs.Common.{◌≡◌, ℕ, suc, ◌+◌, Bool, true, false, cond, nat_lt, ⊎_elim, List, [], ◌∷◌, ◌++◌, Option}
+use Rattle.std.proofs.Common.{Some, None, refl, sym, ap, ◌∙◌, subst, arith, ltb-true}
 use Rattle.std.specs.Prelude.{slice_get}
 use Rattle.tj_base.specs.declared.cause.Cause.TheVariants as cause
 use Rattle.tj_body.specs.Programs.{Program}
-use Rattle.tj_body.specs.History.{Assignment, after_ask, after_get, with_wait, reference_at, to_promise}
+use Rattle.tj_body.specs.History.{after_ask, after_get, with_wait, reference_at, to_promise}
 use Rattle.tj_body.specs.History as history
 use Rattle.tj_body.specs.Points.{IsIn, IsPointOf}
 use Rattle.tj_body.specs.declared.ask.Answer.TheVariants as told
@@ -14,9 +14,8 @@ use Rattle.tj_body.specs.declared.point.Reference.{Reference}
 use Rattle.tj_body.specs.declared.point.Value.TheVariants as value
 use Rattle.tj_body.specs.declared.point.Point.{Point}
 use Rattle.tj_body.proofs.Histories.Points.{reads_on}
-use Rattle.tj_chan.specs.Channels.{ChatRules, Channel, ChatTask, ChatPoint, is_same, item, times, receives}
-use Rattle.tj_chan.specs.Channels.{after_receive, after_fault}
-use Rattle.tj_chan.specs.ChannelRounds.{left_of, has_ended}
+use Rattle.tj_chan.specs.Channels.{ChatRules, Channel, is_same, item, times, receives, after_receive, after_fault}
+use Rattle.tj_chan.specs.ChannelRounds.{has_ended}
 use Rattle.tj_chan.specs.ChannelOutcomes.{held_in, owed_in}
 use Rattle.tj_chan.specs.ChanBodies.{Turn, row_at, turn_at, receive_turn, changed, counted, turn, fault}
 use Rattle.tj_chan.specs.declared.chat.ChatAsk.TheVariants as ask
@@ -25,14 +24,13 @@ use Rattle.tj_chan.specs.declared.body.Due.TheVariants as due
 use Rattle.tj_chan.specs.declared.body.ChanBody.{ChanBody}
 use Rattle.tj_body.specs.declared.ask.Ask.TheVariants as asked
 use Rattle.tj_chan.proofs.Lists.Runs.{found_entry, after_found}
-use Rattle.tj_chan.proofs.Linked.Links.{AreRowsOf, IsStageOf, task_of, IsReadyFor, AreWritesFor, IsWritten}
-use Rattle.tj_chan.proofs.Linked.Links.{IsPointFor}
+use Rattle.tj_chan.proofs.Linked.Links.{AreRowsOf, IsStageOf, task_of, IsReadyFor, IsPointFor}
 use Rattle.tj_chan.proofs.Linked.Steps.{program, IsLinked, AskIsLinked, AnswersAreLinked}
 use Rattle.tj_chan.proofs.Lists.Apart.{is_same_self, same_turned}
 use Rattle.tj_chan.proofs.Lists.Kept.{got_there, in_last}
 use Rattle.tj_chan.proofs.Linked.Rows.{IsFirstRow, row_found, row_missing}
 use Rattle.tj_chan.proofs.Linked.RowsWith.{item_reference, rows_with}
-use Rattle.tj_chan.proofs.Asks.Faults.{fault_linked}
+use Rattle.tj_chan.proofs.Asks.Faults.{fault_linked, left_open}
 
 -- a channel stands once more in a list that it is put behind
 pub times_more : (c : Channel) (ds : List Channel) → times c (ds ++ c ∷ []) ≡ suc (times c ds)
@@ -51,13 +49,6 @@ times_other c d (e ∷ es) h = ap (λ z. cond (is_same d e) (suc z) z) (times_ot
 module _ {C : Type 0} (rules : ChatRules C) (root : C) (strict : Bool) where
   abbrev P : Program (ChanBody C)
   P = program rules root strict
-
-  -- what is left of channels by a task that goes on is what was
-  pub still_written : (t : ChatTask C) (p : ChatPoint C) (b : Point (ChanBody C)) → has_ended p.stage ≡ false
-      → IsWritten t p b
-      → AreWritesFor t.given p.name (map (left_of false) p.handed_on ++ map (left_of false) p.ends) b.writes
-  still_written t p b e w =
-      subst (λ z. AreWritesFor t.given p.name (map (left_of false) p.handed_on ++ map (left_of z) p.ends) b.writes) e w
 
   -- a receive
   pub receives_linked : (n : ℕ) → AskIsLinked rules root strict (ask.Recv n)
@@ -141,7 +132,7 @@ module _ {C : Type 0} (rules : ChatRules C) (root : C) (strict : Bool) where
           children = ready.children;
           prints = ready.prints;
         },
-        still_written t p b ready.is_open w,
+        left_open rules root strict t p b ready.is_open w,
       )
 
   -- what becomes of an item that is waited for
@@ -207,5 +198,5 @@ module _ {C : Type 0} (rules : ChatRules C) (root : C) (strict : Bool) where
         children = f.children;
         prints = f.prints;
       },
-      still_written t p b ready.is_open l.3,
+      left_open rules root strict t p b ready.is_open l.3,
     )

@@ -20,8 +20,8 @@ use Rattle.tj_body.specs.declared.point.Value.TheVariants as value
 use Rattle.tj_body.specs.declared.point.Point.{Point}
 use Rattle.tj_body.proofs.Counts.{same_self, same_is, times_of_in, has_of_times}
 use Rattle.tj_body.proofs.Lists.{in_left, in_right, in_either, in_map, to_map}
-use Rattle.tj_chan.specs.Channels.{ChatRules, Channel, SendingEnd, ChannelState, is_same, item, items_of}
-use Rattle.tj_chan.specs.Channels.{unsent, all_unsent, one_more, with_sent, end_of, answered, after_send, after_send_by}
+use Rattle.tj_chan.specs.Channels.{ChatRules, Channel, SendingEnd, ChannelState, is_same, item, items_of, unsent}
+use Rattle.tj_chan.specs.Channels.{all_unsent, one_more, with_sent, end_of, answered, after_send, after_send_by}
 use Rattle.tj_chan.specs.Channels.{after_fault}
 use Rattle.tj_chan.specs.ChannelRounds.{left_of}
 use Rattle.tj_chan.specs.ChanBodies.{Turn, row_at, send_turn, changed, counted, turn, fault}
@@ -40,9 +40,8 @@ use Rattle.tj_chan.proofs.Lists.Kept.{got_there, in_last, at_last}
 use Rattle.tj_chan.proofs.Linked.Begins.{get_front}
 use Rattle.tj_chan.proofs.Linked.Rows.{IsFirstRow, row_found, row_missing, to_same}
 use Rattle.tj_chan.proofs.Linked.RowsWith.{item_reference, rows_with}
-use Rattle.tj_chan.proofs.Asks.Faults.{fault_linked, of_unsent, to_unsent}
+use Rattle.tj_chan.proofs.Asks.Faults.{fault_linked, left_open, of_unsent, to_unsent}
 use Rattle.tj_chan.proofs.Asks.Opens.{last_cases}
-use Rattle.tj_chan.proofs.Asks.Receives.{still_written}
 
 -- The next item to be sent comes first among the unsent ones, and the others are unsent when it is sent.
 pub next_unsent : (v : ℤ) (e : SendingEnd) → length e.sent < e.channel.items
@@ -407,7 +406,7 @@ module _ {C : Type 0} (rules : ChatRules C) (root : C) (strict : Bool) where
             prints = ready.prints;
           },
           sent_writes t.given p.name p.handed_on p.ends b.writes c v e g (sym is) (few f)
-              (still_written rules root strict t p b ready.is_open w),
+              (left_open rules root strict t p b ready.is_open w),
         )
 
         test : (z : Bool) → nat_lt (length e.sent) e.channel.items ≡ z → IsLinked rules root strict U t (cond z

@@ -17,7 +17,8 @@ use Rattle.tj_chan.specs.ChanBodies.{row_at, first_place, places_from, all_place
 use Rattle.tj_chan.specs.ChanBodies.{can_give, position, passed_row, is_given, first_at, passed_rows}
 use Rattle.tj_chan.specs.declared.rows.PromiseRow.{PromiseRow}
 use Rattle.tj_chan.proofs.Lists.Runs.{AreOneOrApart, AreEndsOnce}
-use Rattle.tj_chan.proofs.Linked.Links.{references_of, channel_place, sent_by, is_held, begin_rows, IsRowOf, AreRowsOf}
+use Rattle.tj_chan.proofs.Linked.Links.{references_of, channel_place, sent_by, is_held, begin_row, begin_rows, IsRowOf}
+use Rattle.tj_chan.proofs.Linked.Links.{AreRowsOf}
 use Rattle.tj_chan.proofs.Lists.Apart.{not_true, true_false, one_of_same, end_there}
 use Rattle.tj_chan.proofs.Lists.Apart.{left_there, once_left}
 use Rattle.tj_chan.proofs.Lists.Kept.{got_there, in_last}
@@ -278,31 +279,15 @@ module _ (channels : List Channel) (received : List Channel) (references : List 
         (λ m. position (first m) (q m)) ∙ position_seen c i seen b in
         let n = ap (λ z. length (all_places z)) r.1 ∙ (length-places r.0.base r.0.items ∙ r.2.is_row.items) in
         let row : passed_row (position (first_at rows give k) firsts) base
-        (is_given rows give (first_at rows give k)) (row_at rows k) ≡ record {
-          first = channel_place c seen;
-          base = base;
-          items = c.items;
-          sent = sent_by (end_of c p.given);
-          asked = 0;
-          holds = is_held (end_of c p.given);
-        } = (λ m. passed_row (at m) base (held m) (r.1 m)) ∙ one_row c i r.0 r.2 (end_of c p.given) refl in
+        (is_given rows give (first_at rows give k)) (row_at rows k) ≡ begin_row p.given seen base c =
+        (λ m. passed_row (at m) base (held m) (r.1 m)) ∙ one_row c i r.0 r.2 (end_of c p.given) refl in
         let rest = child_rows give gs g p o a (firsts ++ first_at rows give k ∷ []) (seen ++ c ∷ [])
         ((λ m. q m ++ first m ∷ []) ∙ sym (map-append (λ d. channel_place d channels) seen (c ∷ [])))
         (λ d j. ⊎_elim (λ z. b d z) (λ z. subst (λ y. IsIn y channels) (sym z) i) (in_last d c seen j))
         (base + length (all_places (row_at rows k))) ks f.1 f.3 in
         (λ m. row m ∷ rest m)
-        ∙ (ap (λ z. row_of c ∷ begin_rows p.given (seen ++ c ∷ []) (base + z) f.1) n
+        ∙ (ap (λ z. begin_row p.given seen base c ∷ begin_rows p.given (seen ++ c ∷ []) (base + z) f.1) n
         ∙ ap (begin_rows p.given seen base) f.4) where
-          row_of : Channel → PromiseRow
-          row_of c = record {
-            first = channel_place c seen;
-            base = base;
-            items = c.items;
-            sent = sent_by (end_of c p.given);
-            asked = 0;
-            holds = is_held (end_of c p.given);
-          }
-
           one_row : (c : Channel) → IsIn c channels → (r : PromiseRow)
               → IsFirstRow channels ends received references rows c r → (y : Option SendingEnd) → end_of c p.given ≡ y
               → passed_row (channel_place c seen) base (is_held y) (Some r) ≡ record {

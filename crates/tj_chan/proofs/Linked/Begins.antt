@@ -10,7 +10,8 @@ use Rattle.tj_body.specs.declared.point.Reference.{Reference}
 use Rattle.tj_chan.specs.Channels.{Channel, SendingEnd, item, items_of, things_after, is_same, end_of}
 use Rattle.tj_chan.specs.declared.rows.PromiseRow.{PromiseRow}
 use Rattle.tj_chan.proofs.Linked.Items.{length-things}
-use Rattle.tj_chan.proofs.Linked.Links.{references_of, channel_place, sent_by, is_held, begin_rows, IsRowOf, AreRowsOf}
+use Rattle.tj_chan.proofs.Linked.Links.{references_of, channel_place, sent_by, is_held, begin_row, begin_rows, IsRowOf}
+use Rattle.tj_chan.proofs.Linked.Links.{AreRowsOf}
 use Rattle.tj_chan.proofs.Lists.Apart.{is_same_self}
 
 -- a channel that stands behind others has the first place that it has among them, or the one behind them
@@ -68,14 +69,7 @@ begin_each channels given references n (d ∷ ds) seen base front e f g zero c h
       x = cc
 
       row : PromiseRow
-      row = record {
-        first = channel_place d seen;
-        base = base;
-        items = d.items;
-        sent = sent_by (end_of d given);
-        asked = 0;
-        holds = is_held (end_of d given);
-      }
+      row = begin_row given seen base d
 
       is_row : IsRowOf channels given [] references n d row
       is_row = record {

@@ -126,8 +126,7 @@ module _ {C : Type 0} (rules : ChatRules C) (root : C) (strict : Bool) where
               (λ (u : Turn C). IsPointOf P.rules U (task_of t) (after_ask strict u.ask (record b { body = u.body })))
               turns (asks_on P.rules U (task_of t) b stage.0 l.1 stage.2)
     step_linked U h t f k (receives c i) e l = answers U t (run_after rules (finds_in U) k t) c i h e l
-    step_linked U h t f k (ended v) e l = l
-    step_linked U h t f k (failed c) e l = l
+    step_linked U h t f k st e l = l
 
     pub runs_linked : RunsAreLinked rules root strict
     runs_linked U zero t h f = starts_linked U t
@@ -148,8 +147,7 @@ module _ {C : Type 0} (rules : ChatRules C) (root : C) (strict : Bool) where
         → (st : ChatStage) → HasHalted (finds_in U) st → IsStageOf rules p st b → HasStopped U b
     halted U h p b (answered a) g s = absurd g
     halted U h p b (receives c i) g s = inr (item c i, false, s.0, no_entry U h (item c i) g)
-    halted U h p b (ended v) g s = inl (_, s)
-    halted U h p b (failed c) g s = inl (_, s)
+    halted U h p b st g s = inl (_, s)
 
     module _ (obeys : AreLawful P.rules) where
       pub histories_linked : HistoriesAreLinked rules root strict

@@ -45,17 +45,22 @@ abbrev pub is_held : Option SendingEnd → Bool
 is_held None = false
 is_held (Some e) = true
 
--- the rows with which a task begins that is passed these channels, behind those that were seen
-abbrev pub begin_rows : (given : List SendingEnd) → (seen : List Channel) → (base : ℕ) → List Channel → List PromiseRow
-begin_rows given seen base [] = []
-begin_rows given seen base (c ∷ cs) = record {
+-- the row of a channel with which a task begins that is passed it behind those that were seen
+abbrev pub begin_row : (given : List SendingEnd) → (seen : List Channel) → (base : ℕ) → Channel → PromiseRow
+begin_row given seen base c = record {
   first = channel_place c seen;
   base = base;
   items = c.items;
   sent = sent_by (end_of c given);
   asked = 0;
   holds = is_held (end_of c given);
-} ∷ begin_rows given (seen ++ c ∷ []) (base + c.items) cs
+}
+
+-- the rows with which a task begins that is passed these channels, behind those that were seen
+abbrev pub begin_rows : (given : List SendingEnd) → (seen : List Channel) → (base : ℕ) → List Channel → List PromiseRow
+begin_rows given seen base [] = []
+begin_rows given seen base (c ∷ cs) = begin_row given seen base c
+    ∷ begin_rows given (seen ++ c ∷ []) (base + c.items) cs
 
 module _ {C : Type 0} where
   -- the body with which a task begins

@@ -61,8 +61,7 @@ module _ {C : Type 0} (rules : ChatRules C) where
         → b.owed ≡ owed_in st p.ends → stopped_of b ≡ told (chat_ending st) (owed_in st p.ends) (held_in st p.ends)
     by (answered a) h s f g = absurd h
     by (receives c i) h s f g = to _ _ _ (ap ending_of s.0) f g
-    by (ended v) h s f g = to _ _ _ (ap ending_of s) f g
-    by (failed x) h s f g = to _ _ _ (ap ending_of s) f g
+    by st h s f g = to _ _ _ (ap ending_of s) f g
 
   module _ (lawful : AreLawfulChats rules) (root : C) (strict : Bool) (fresh : IsRootChat rules root)
       (obeys : AreLawful (program rules root strict).rules) (linked : HistoriesAreLinked rules root strict) where

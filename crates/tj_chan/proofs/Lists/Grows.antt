@@ -80,8 +80,7 @@ module _ {C : Type 0} where
     by true = made (channels_at p.channels pass) (parting_of (channels_at p.channels give) p)
     by false = grows_self p
   ask_grows (ask.Emit i) p = grows_self p
-  ask_grows (ask.End v) p = grows_self p
-  ask_grows (ask.Fail f) p = grows_self p
+  ask_grows x p = grows_self p
 
   -- how many steps a task with such a chatter makes at most from this stage
   abbrev pub chat_weight_at : (C → ℕ) → C → ChatStage → ℕ
@@ -137,8 +136,7 @@ module _ {C : Type 0} where
     by true = made (channels_at p.channels pass) (parting_of (channels_at p.channels give) p)
     by false = z
   ask_falls left (ask.Emit i) p n z h = let l = not_ended h in omega arith
-  ask_falls left (ask.End v) p n z h = z
-  ask_falls left (ask.Fail f) p n z h = z
+  ask_falls left x p n z h = z
 
 module _ {C : Type 0} (rules : ChatRules C) where
   step_grows : (F : Finds) (st : ChatStage) (p : ChatPoint C) → GrowsTo p (run_stage rules F st p)
@@ -186,14 +184,12 @@ module _ {C : Type 0} (rules : ChatRules C) where
 
       at : (st : ChatStage) → p.stage ≡ st
           → (m : ℕ) × (m ≤ suc k) × (run_stage rules F p.stage p ≡ run_after rules G m t)
-      at (answered a) s = goes (ap (λ z. run_stage rules F z p) s ∙ ap (λ z. run_stage rules G z p) (sym s))
       at (receives c i) s = ⊎_elim
           (λ f. stays (ap (λ z. run_stage rules F z p) s ∙ ap (λ z. after_found c i z p) f))
           (λ f. goes (ap (λ z. run_stage rules F z p) s ∙ (ap (λ z. after_found c i z p) (sym f)
           ∙ ap (λ z. run_stage rules G z p) (sym s))))
           (h c i)
-      at (ended v) s = goes (ap (λ z. run_stage rules F z p) s ∙ ap (λ z. run_stage rules G z p) (sym s))
-      at (failed f) s = goes (ap (λ z. run_stage rules F z p) s ∙ ap (λ z. run_stage rules G z p) (sym s))
+      at st s = goes (ap (λ z. run_stage rules F z p) s ∙ ap (λ z. run_stage rules G z p) (sym s))
 
   -- so a run goes on where more is found
   pub run_grows : (F G : Finds) → IsFoundIn F G → (t : ChatTask C) → GrowsTo (run_of rules F t) (run_of rules G t)
@@ -232,15 +228,13 @@ module _ {C : Type 0} (rules : ChatRules C) where
             → run_stage rules F p.stage p ≡ run_after rules G (suc k) t
         at e st s = same st s ∙ ap (λ (r : ChatPoint C). run_stage rules G r.stage r) e where
           same : (st : ChatStage) → p.stage ≡ st → run_stage rules F p.stage p ≡ run_stage rules G p.stage p
-          same (answered a) s = ap (λ z. run_stage rules F z p) s ∙ ap (λ z. run_stage rules G z p) (sym s)
           same (receives c i) s =
               let a : IsAliveAt rules (receives c i) p =
               subst (λ z. IsAliveAt rules z p) s (run_sound rules lawful F k t fit).1 in
               let f = h c (in_begins c p.channels (run_of rules F t).channels grown.2 a.2) i a.3 in
               ap (λ z. run_stage rules F z p) s ∙ (ap (λ z. after_found c i z p) f
               ∙ ap (λ z. run_stage rules G z p) (sym s))
-          same (ended v) s = ap (λ z. run_stage rules F z p) s ∙ ap (λ z. run_stage rules G z p) (sym s)
-          same (failed f) s = ap (λ z. run_stage rules F z p) s ∙ ap (λ z. run_stage rules G z p) (sym s)
+          same st s = ap (λ z. run_stage rules F z p) s ∙ ap (λ z. run_stage rules G z p) (sym s)
 
       pub run_determined : ((c : Channel) → IsIn c (run_of rules F t).channels → AreOneOn F G c)
           → run_of rules F t ≡ run_of rules G t
@@ -268,8 +262,7 @@ module _ {C : Type 0} (rules : ChatRules C) where
       still_halted : (st : ChatStage) (p : ChatPoint C) → p.stage ≡ st → HasHalted F st → run_stage rules F st p ≡ p
       still_halted (answered a) p e h = absurd h
       still_halted (receives c i) p e h = ap (λ z. after_found c i z p) h
-      still_halted (ended v) p e h = refl
-      still_halted (failed f) p e h = refl
+      still_halted st p e h = refl
 
       runs_down : (k : ℕ) → HasHalted F (run_after rules F k t).stage
           ⊎ (chat_weight rules.left (run_after rules F k t) + k ≤ 2 * suc (rules.left t.chatter))
@@ -284,10 +277,9 @@ module _ {C : Type 0} (rules : ChatRules C) where
           (runs_down k)
 
       light : (p : ChatPoint C) (st : ChatStage) → chat_weight_at rules.left p.chatter st ≤ 0 → HasHalted F st
-      light p (answered a) h = absurd (omega arith)
-      light p (receives c i) h = absurd (omega arith)
       light p (ended v) h = tt
       light p (failed f) h = tt
+      light p st h = absurd (omega arith)
 
       pub run_halts : HasHalted F (run_of rules F t).stage
       run_halts =

@@ -17,10 +17,8 @@ module _ {C : Type 0} where
   module _ (rules : ChatRules C) (L : Lists) where
     stage_same : (s : ChatStage) (p : ChatPoint C)
         → after_chat_stage rules L s p ≡ run_stage rules (finds_of L) s p
-    stage_same (answered a) p = refl
     stage_same (receives c i) p = item_found c i (L c).is_cut (slice_get (L c).sent i) p
-    stage_same (ended v) p = refl
-    stage_same (failed f) p = refl
+    stage_same s p = refl
 
     pub point_same : (k : ℕ) (t : ChatTask C) → chat_point_after rules L k t ≡ run_after rules (finds_of L) k t
     point_same zero t = refl

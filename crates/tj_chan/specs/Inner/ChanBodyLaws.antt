@@ -1,7 +1,7 @@
 -- The laws of one ask, for a chatter as a body.
 use Rattle.std.proofs.Common.{◌≡◌, ◌≤◌, ◌<◌, ℕ, zero, suc, ◌+◌, ◌-◌, ◌*◌, ◌⊎◌, inl, inr, Bool, true, false, cond}
-use Rattle.std.proofs.Common.{nat_lt, nat_le, nat_eq, ◌&&◌, List, [], ◌∷◌, length, refl, sym, subst, ap, ◌∙◌}
-use Rattle.std.proofs.Common.{arith, eqb-true, leb-true, ltb-true, lt-ltb, le-leb, eq-eqb, length-append}
+use Rattle.std.proofs.Common.{nat_lt, nat_le, nat_eq, ◌&&◌, List, [], ◌∷◌, length, refl, sym, subst, ap, ◌∙◌, arith}
+use Rattle.std.proofs.Common.{eqb-true, leb-true, ltb-true, lt-ltb, le-leb, eq-eqb, length-append}
 use Rattle.std.specs.Prelude.{ℤ, Option, Some, None}
 use Rattle.std.specs.List.{list_all, flat_map}
 use Rattle.std.specs.Cmp.{first_so, second_so}
@@ -16,12 +16,10 @@ use Rattle.tj_chan.specs.Chats as chats
 use Rattle.tj_chan.specs.Channels.{ChatRules}
 use Rattle.tj_chan.specs.ChanBodies.{chan_places, chan_awaits, chan_left, chan_asks, chan_then, due_await, is_due}
 use Rattle.tj_chan.specs.ChanBodies.{is_under_way, are_rows, is_row, most_rows, opening, promises_left, row_at}
-use Rattle.tj_chan.specs.ChanBodies.{all_places, unset_places, new_row, without_ends, is_spawn}
-use Rattle.tj_chan.specs.ChanBodies.{changed, with_channel}
+use Rattle.tj_chan.specs.ChanBodies.{all_places, unset_places, new_row, without_ends, is_spawn, changed, with_channel}
 use Rattle.tj_chan.specs.ChanBodies.{Turn, turn, fault, counted, turn_at, chat_turn, ask_turn, send_turn, receive_turn}
 use Rattle.tj_chan.specs.ChanBodies.{spawn_turn, child_body}
-use Rattle.tj_chan.specs.Inner.RowLaws.{row_found, found_bounds, rows_stay, rows_change, rows_part}
-use Rattle.tj_chan.specs.Inner.RowLaws.{rows_open}
+use Rattle.tj_chan.specs.Inner.RowLaws.{row_found, found_bounds, rows_stay, rows_change, rows_part, rows_open}
 use Rattle.tj_chan.specs.Inner.RowLaws.{SpawnFits, spawn_fits}
 use Rattle.tj_chan.specs.Inner.Replies.{told_of_item, told_at, opened, next_promise, CanOpen}
 use Rattle.tj_chan.specs.declared.rows.PromiseRow.{PromiseRow}
@@ -300,34 +298,22 @@ module _ {C : Type 0} (rules : ChatRules C) where
         allowed = o.allowed;
       })
 
-  -- what the chatter awaits where this is due
-  begins_due : (places : ℕ) (w : chats.ChatAwait) → is_due places due.Start w ≡ true → w ≡ chats.begin
-  begins_due places chats.begin e = refl
-  begins_due places chats.new_channel e = absurd (false≢true e)
-  begins_due places chats.done e = absurd (false≢true e)
-  begins_due places chats.number e = absurd (false≢true e)
-  begins_due places chats.nothing e = absurd (false≢true e)
+  -- what a chatter awaits where this is due
+  abbrev chat_due : Due → chats.ChatAwait
+  chat_due due.Start = chats.begin
+  chat_due (due.Promise more items) = chats.new_channel
+  chat_due due.Done = chats.done
+  chat_due due.Item = chats.number
+  chat_due due.Child = chats.done
+  chat_due due.Nothing = chats.nothing
 
-  done_due : (places : ℕ) (w : chats.ChatAwait) → is_due places due.Done w ≡ true → w ≡ chats.done
-  done_due places chats.done e = refl
-  done_due places chats.begin e = absurd (false≢true e)
-  done_due places chats.new_channel e = absurd (false≢true e)
-  done_due places chats.number e = absurd (false≢true e)
-  done_due places chats.nothing e = absurd (false≢true e)
-
-  child_due : (places : ℕ) (w : chats.ChatAwait) → is_due places due.Child w ≡ true → w ≡ chats.done
-  child_due places chats.done e = refl
-  child_due places chats.begin e = absurd (false≢true e)
-  child_due places chats.new_channel e = absurd (false≢true e)
-  child_due places chats.number e = absurd (false≢true e)
-  child_due places chats.nothing e = absurd (false≢true e)
-
-  item_due : (places : ℕ) (w : chats.ChatAwait) → is_due places due.Item w ≡ true → w ≡ chats.number
-  item_due places chats.number e = refl
-  item_due places chats.begin e = absurd (false≢true e)
-  item_due places chats.new_channel e = absurd (false≢true e)
-  item_due places chats.done e = absurd (false≢true e)
-  item_due places chats.nothing e = absurd (false≢true e)
+  awaits_due : (places : ℕ) (d : Due) (w : chats.ChatAwait) → is_due places d w ≡ true → w ≡ chat_due d
+  awaits_due places due.Start chats.begin e = refl
+  awaits_due places (due.Promise more items) chats.new_channel e = refl
+  awaits_due places due.Done chats.done e = refl
+  awaits_due places due.Item chats.number e = refl
+  awaits_due places due.Child chats.done e = refl
+  awaits_due places d w e = absurd (false≢true e)
 
   -- What is so where a promise is due.
   record PromiseDue (places more items : ℕ) (w : chats.ChatAwait) : Type 0 where
@@ -346,19 +332,12 @@ module _ {C : Type 0} (rules : ChatRules C) where
         few = leb-true items chats.most_items (second_so l f lf);
         placed = ltb-true items (places + more + 2) (second_so (l && f) p e);
       }
-  promise_due places more items chats.begin e = absurd (false≢true e)
-  promise_due places more items chats.done e = absurd (false≢true e)
-  promise_due places more items chats.number e = absurd (false≢true e)
-  promise_due places more items chats.nothing e = absurd (false≢true e)
+  promise_due places more items w e = absurd (false≢true e)
 
   -- what a place that is awaited adds
   place_adds : (n : ℕ) (a : Answer) → asks.Fits asks.place n a → asks.new_places a ≡ 1
   place_adds n (answer.Local k) h = refl
-  place_adds n answer.Start h = absurd h
-  place_adds n answer.Done h = absurd h
-  place_adds n (answer.Num i) h = absurd h
-  place_adds n (answer.RefAt k) h = absurd h
-  place_adds n answer.Lost h = absurd h
+  place_adds n a h = absurd h
 
   -- What a body under way has, with what is due apart from it.
   pub record Waiting (b : ChanBody C) (d : Due) : Type 0 where
@@ -411,31 +390,27 @@ module _ {C : Type 0} (rules : ChatRules C) where
     tells_item u t e = by (told_cases a t e) where
       by : ((v : ℤ) × (told.Num v ≡ t)) → IsTold (left_at b due.Item) t (counted a b)
       by q = subst (λ z. IsTold (left_at b due.Item) z (counted a b)) q.1
-          (tells due.Item u chats.number (item_due b.places (rules.awaits b.chatter) u.is_due) (told.Num q.0) tt refl)
+          (tells due.Item u chats.number (awaits_due b.places due.Item (rules.awaits b.chatter) u.is_due) (told.Num q.0) tt refl)
 
       told_cases : (a : Answer) (t : ChatAnswer) → told_of_item a ≡ Some t → (v : ℤ) × (told.Num v ≡ t)
       told_cases (answer.Num v) t e = (v, same_Some (told.Num v) t e)
-      told_cases answer.Start t e = absurd (none-some t e)
-      told_cases (answer.Local k) t e = absurd (none-some t e)
-      told_cases answer.Done t e = absurd (none-some t e)
-      told_cases (answer.RefAt k) t e = absurd (none-some t e)
-      told_cases answer.Lost t e = absurd (none-some t e)
+      told_cases a t e = absurd (none-some t e)
 
     -- what a chatter is told fits it
     pub told_fits : (d : Due) → Waiting b d → asks.Fits (due_await d) b.places a → (t : ChatAnswer)
         → told_at d a (length b.rows) ≡ Some t → IsTold (left_at b d) t (opened d (counted a b))
     told_fits due.Start u h t e = subst (λ z. IsTold (left_at b due.Start) z (counted a b)) (same_Some told.Start t e)
-        (tells due.Start u chats.begin (begins_due b.places (rules.awaits b.chatter) u.is_due) told.Start tt refl)
+        (tells due.Start u chats.begin (awaits_due b.places due.Start (rules.awaits b.chatter) u.is_due) told.Start tt refl)
     told_fits (due.Promise zero items) u h t e =
         subst (λ z. IsTold (left_at b (due.Promise 0 items)) z (with_channel items (counted a b)))
         (same_Some (told.Chan (length b.rows)) t e)
         (tells_open items u (promise_due b.places 0 items (rules.awaits b.chatter) u.is_due) (place_adds b.places a h))
     told_fits (due.Promise (suc more) items) u h t e = absurd (none-some t e)
     told_fits due.Done u h t e = subst (λ z. IsTold (left_at b due.Done) z (counted a b)) (same_Some told.Done t e)
-        (tells due.Done u chats.done (done_due b.places (rules.awaits b.chatter) u.is_due) told.Done tt refl)
+        (tells due.Done u chats.done (awaits_due b.places due.Done (rules.awaits b.chatter) u.is_due) told.Done tt refl)
     told_fits due.Item u h t e = tells_item u t e
     told_fits due.Child u h t e = subst (λ z. IsTold (left_at b due.Child) z (counted a b)) (same_Some told.Done t e)
-        (tells due.Child u chats.done (child_due b.places (rules.awaits b.chatter) u.is_due) told.Done tt refl)
+        (tells due.Child u chats.done (awaits_due b.places due.Child (rules.awaits b.chatter) u.is_due) told.Done tt refl)
     told_fits due.Nothing u h t e = absurd (none-some t e)
 
     -- the next promise of a channel is made
@@ -480,10 +455,7 @@ module _ {C : Type 0} (rules : ChatRules C) where
         let p = promise_due b.places more items (rules.awaits b.chatter) u.is_due in let l = p.placed in
         let one = place_adds b.places a h in let f = u.few in (omega arith, omega arith)
     can_open due.Start u h = tt
-    can_open due.Done u h = tt
-    can_open due.Item u h = tt
-    can_open due.Child u h = tt
-    can_open due.Nothing u h = tt
+    can_open d u h = tt
 
   -- the turn where the chatter is told something
   pub turn_told : (d : Due) (a : Answer) (b : ChanBody C) (t : ChatAnswer) → told_at d a (length b.rows) ≡ Some t
@@ -492,15 +464,10 @@ module _ {C : Type 0} (rules : ChatRules C) where
   turn_told (due.Promise zero items) a b t e =
       ap (λ z. chat_turn rules z (with_channel items b)) (same_Some (told.Chan (length b.rows)) t e)
   turn_told (due.Promise (suc more) items) a b t e = absurd (none-some t e)
-  turn_told due.Done a b t e = ap (λ z. chat_turn rules z b) (same_Some told.Done t e)
   turn_told due.Item (answer.Num v) b t e = ap (λ z. chat_turn rules z b) (same_Some (told.Num v) t e)
-  turn_told due.Item answer.Start b t e = absurd (none-some t e)
-  turn_told due.Item (answer.Local k) b t e = absurd (none-some t e)
-  turn_told due.Item answer.Done b t e = absurd (none-some t e)
-  turn_told due.Item (answer.RefAt k) b t e = absurd (none-some t e)
-  turn_told due.Item answer.Lost b t e = absurd (none-some t e)
-  turn_told due.Child a b t e = ap (λ z. chat_turn rules z b) (same_Some told.Done t e)
   turn_told due.Nothing a b t e = absurd (none-some t e)
+  turn_told due.Item a b t e = absurd (none-some t e)
+  turn_told d a b t e = ap (λ z. chat_turn rules z b) (same_Some told.Done t e)
 
   -- and where it is told nothing
   pub turn_alone : (d : Due) (a : Answer) (b : ChanBody C) → told_at d a (length b.rows) ≡ None
@@ -508,25 +475,15 @@ module _ {C : Type 0} (rules : ChatRules C) where
   turn_alone due.Start a b e = absurd (none-some told.Start (sym e))
   turn_alone (due.Promise zero items) a b e = absurd (none-some (told.Chan (length b.rows)) (sym e))
   turn_alone (due.Promise (suc more) items) a b e = refl
-  turn_alone due.Done a b e = absurd (none-some told.Done (sym e))
   turn_alone due.Item (answer.Num v) b e = absurd (none-some (told.Num v) (sym e))
-  turn_alone due.Item answer.Start b e = refl
-  turn_alone due.Item (answer.Local k) b e = refl
-  turn_alone due.Item answer.Done b e = refl
-  turn_alone due.Item (answer.RefAt k) b e = refl
-  turn_alone due.Item answer.Lost b e = refl
-  turn_alone due.Child a b e = absurd (none-some told.Done (sym e))
   turn_alone due.Nothing a b e = refl
+  turn_alone due.Item a b e = refl
+  turn_alone d a b e = absurd (none-some told.Done (sym e))
 
   -- an opened channel adds no place
   opened_places : (d : Due) (b : ChanBody C) → (opened d b).places ≡ b.places
-  opened_places due.Start b = refl
   opened_places (due.Promise zero items) b = refl
-  opened_places (due.Promise (suc more) items) b = refl
-  opened_places due.Done b = refl
-  opened_places due.Item b = refl
-  opened_places due.Child b = refl
-  opened_places due.Nothing b = refl
+  opened_places d b = refl
 
   -- each turn owes this
   turns : AreLawful rules → (b : ChanBody C) (d : Due) (a : Answer) → Waiting b d

@@ -1,12 +1,12 @@
 -- The laws of one ask, for the tasks of a relay.
-use Rattle.std.proofs.Common.{◌≡◌, ◌≤◌, ◌<◌, ℕ, ◌+◌, ◌/◌, ◌⊎◌, inl, inr, Bool, true, false, cond, nat_lt}
-use Rattle.std.proofs.Common.{nat_le, nat_eq, ◌&&◌, refl, sym, subst, ap, ◌∙◌, arith, leb-true, ltb-true, ltb-false}
-use Rattle.std.proofs.Common.{lt-ltb, le-leb, eq-eqb, ne_eqb, eqb-true, ◌^◌}
+use Rattle.std.proofs.Common.{◌≡◌, ◌≤◌, ◌<◌, ℕ, ◌+◌, ◌/◌, ◌⊎◌, inl, inr, Bool, true, false, cond, nat_lt, nat_le}
+use Rattle.std.proofs.Common.{nat_eq, ◌&&◌, refl, sym, subst, ap, ◌∙◌, arith, leb-true, ltb-true, ltb-false, lt-ltb}
+use Rattle.std.proofs.Common.{le-leb, eq-eqb, ne_eqb, eqb-true, ◌^◌}
 use Rattle.std.specs.Prelude.{ℤ, pos, ◌+ℤ◌}
 use Rattle.tj_base.specs.declared.cause.Trouble.TheVariants as trouble
 use Rattle.std.specs.Cmp.{first_so, second_so}
-use Rattle.tj_chan.specs.Chats.{begin, new_channel, done, number, nothing, FitsChat, channels_added}
-use Rattle.tj_chan.specs.Chats.{chat_awaited, most_items, ChatEnds, IsChatAsk, IsFreshChat, ObeysChat}
+use Rattle.tj_chan.specs.Chats.{begin, new_channel, done, number, nothing, FitsChat, channels_added, chat_awaited}
+use Rattle.tj_chan.specs.Chats.{most_items, ChatEnds, IsChatAsk, IsFreshChat, ObeysChat}
 use Rattle.tj_chan.specs.declared.chat.ChatAnswer.{ChatAnswer}
 use Rattle.tj_chan.specs.declared.chat.ChatAnswer.TheVariants as answer
 use Rattle.tj_chan.specs.declared.chat.ChatAsk.{ChatAsk}
@@ -14,10 +14,9 @@ use Rattle.tj_chan.specs.declared.chat.ChatAsk.TheVariants as ask
 use Rattle.tj_chan.specs.declared.relay.Part.{Part}
 use Rattle.tj_chan.specs.declared.relay.Part.TheVariants as part
 use Rattle.tj_chan.specs.declared.relay.Relay.{Relay}
-use Rattle.tj_chan.specs.Relays.{relay_channels, relay_awaits, relay_left, relay_asks, relay_then}
-use Rattle.tj_chan.specs.Relays.{channels_in, await_in, is_count, is_relay, is_i64, left_in, hand_on, more_turn}
-use Rattle.tj_chan.specs.Relays.{RelayTurn, relay_turn, root_turn, sum_turn, print_turn, first_turn, second_turn}
-use Rattle.tj_chan.specs.Relays.{turn_of}
+use Rattle.tj_chan.specs.Relays.{relay_channels, relay_awaits, relay_left, relay_asks, relay_then, channels_in}
+use Rattle.tj_chan.specs.Relays.{await_in, is_count, is_relay, is_i64, left_in, hand_on, more_turn, RelayTurn}
+use Rattle.tj_chan.specs.Relays.{relay_turn, root_turn, sum_turn, print_turn, first_turn, second_turn, turn_of}
 
 -- a relay by its parts
 abbrev relay_at : Part → ℕ → ℕ → ℤ → Relay
@@ -34,21 +33,15 @@ is_one r a h = by (is_relay r) refl h where
 -- an answer that is awaited adds a channel where that is a new one, and else none
 begin_adds : (n : ℕ) (a : ChatAnswer) → FitsChat begin n a → channels_added a ≡ 0
 begin_adds n answer.Start h = refl
-begin_adds n (answer.Chan k) h = absurd h
-begin_adds n answer.Done h = absurd h
-begin_adds n (answer.Num i) h = absurd h
+begin_adds n a h = absurd h
 
 new_adds : (n : ℕ) (a : ChatAnswer) → FitsChat new_channel n a → channels_added a ≡ 1
-new_adds n answer.Start h = absurd h
 new_adds n (answer.Chan k) h = refl
-new_adds n answer.Done h = absurd h
-new_adds n (answer.Num i) h = absurd h
+new_adds n a h = absurd h
 
 done_adds : (n : ℕ) (a : ChatAnswer) → FitsChat done n a → channels_added a ≡ 0
-done_adds n answer.Start h = absurd h
-done_adds n (answer.Chan k) h = absurd h
 done_adds n answer.Done h = refl
-done_adds n (answer.Num i) h = absurd h
+done_adds n a h = absurd h
 
 first_adds : (b : Bool) (n : ℕ) (a : ChatAnswer) → FitsChat (cond b begin done) n a → channels_added a ≡ 0
 first_adds true n a h = begin_adds n a h
@@ -201,11 +194,9 @@ module _ (size count : ℕ) (sum : ℤ) (a : ChatAnswer) (l : 0 < size) (m : siz
 prints : (size count : ℕ) (sum : ℤ) (a : ChatAnswer) → 0 < size → size ≤ most_items → nat_lt count size ≡ true
     → FitsChat number 1 a
     → Owes (relay_at part.Prints size count sum) a (print_turn a (relay_at part.Prints size count sum))
-prints size count sum answer.Start l m e h = absurd h
-prints size count sum (answer.Chan k) l m e h = absurd h
-prints size count sum answer.Done l m e h = absurd h
 prints size count sum (answer.Num v) l m e h =
     prints_num size count sum (answer.Num v) l m v (is_i64 (sum +ℤ v)) (ltb-true count size e) refl
+prints size count sum a l m e h = absurd h
 
 -- each turn of a relay owes no more than this
 owes : (p : Part) (size count : ℕ) (sum : ℤ) (a : ChatAnswer) → 0 < size → size ≤ most_items
