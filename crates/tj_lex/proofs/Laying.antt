@@ -1,5 +1,6 @@
 -- A text that is laid out token by token has these tokens.
-use Rattle.std.proofs.Common.{◌≡◌, ℕ, ◌+◌, ◌-◌, ◌<◌, ◌≤◌, ◌∙◌, ap, sym, subst, refl, arith, inl, lit≤, Bool, true, false, List, [], ◌∷◌, ◌++◌, length, take, drop, append_assoc, length-append}
+use Rattle.std.proofs.Common.{◌≡◌, ℕ, ◌+◌, ◌-◌, ◌<◌, ◌≤◌, ◌∙◌, ap, sym, subst, refl, arith, inl, lit≤, Bool, true}
+use Rattle.std.proofs.Common.{false, List, [], ◌∷◌, ◌++◌, length, take, drop, append_assoc, length-append}
 use Rattle.std.specs.Prelude.{◌==◌}
 use Rattle.std.specs.List.{slice_range, take_while, list_all}
 use Rattle.std.specs.Char.{is_ascii_digit}
@@ -13,7 +14,7 @@ use Rattle.tj_lex.specs.declared.token.Mark.TheVariants as marks
 use Rattle.tj_lex.specs.Bytes.{is_name_start, is_name_byte, begins_with, line_feed}
 use Rattle.tj_lex.specs.Positions.{position_after}
 use Rattle.tj_lex.specs.Spelling.{mark_text}
-use Rattle.tj_lex.specs.Tokens.{IsGap, StartsWith, Spells, IsToken, IsEnd, HasTokens, AreTokens}
+use Rattle.tj_lex.specs.Tokens.{IsGap, StartsWith, Spells, IsToken, AreTokens, AreTokensFrom}
 use Rattle.tj_lex.specs.Pieces.{Piece, text_of, extends, AreLaidOut, tokens_of}
 use Rattle.tj_lex.proofs.Stretches.{both, list_all-prefix}
 use Rattle.tj_lex.proofs.Gaps.{IsGap-append}
@@ -107,15 +108,6 @@ Spells-some bytes (toks.Num number) h = begins_with-some is_ascii_digit bytes h.
 Spells-some bytes (toks.Mark mark) h = rw (← h.0) (mark_text-some mark)
 Spells-some bytes toks.End h = absurd h
 
--- the tokens of a text from an index on, and the end
-pub record AreTokensFrom (text : List ℕ) (start : ℕ) (tokens : List Token) : Type 0 where
-  pub front : List Token
-  pub stop : ℕ
-  pub last : Token
-  pub whole : tokens ≡ front ++ last ∷ []
-  pub has_front : HasTokens text start front stop
-  pub ends : IsEnd text stop last
-
 abbrev first_token : List ℕ → Piece → Token
 first_token before piece = record {
   what = piece.what;
@@ -200,13 +192,4 @@ lay before start (piece ∷ pieces) h gap laid =
 
 -- the text of pieces has the tokens of the pieces
 pub AreTokens-pieces : (pieces : List Piece) → AreLaidOut pieces → AreTokens (text_of pieces) (tokens_of [] pieces)
-AreTokens-pieces pieces laid =
-    let from = lay [] 0 pieces (omega arith) tt laid in
-    record {
-      front = from.front;
-      stop = from.stop;
-      last = from.last;
-      whole = from.whole;
-      has_front = from.has_front;
-      ends = from.ends;
-    }
+AreTokens-pieces pieces laid = lay [] 0 pieces (omega arith) tt laid

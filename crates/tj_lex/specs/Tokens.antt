@@ -1,5 +1,6 @@
 -- The tokens of a text, and its first fault.
-use Rattle.std.specs.Prelude.{ℕ, ◌-◌, ◌^◌, ◌≡◌, ◌≢◌, ◌<◌, ◌≤◌, ◌⊎◌, true, false, pos, List, [], ◌∷◌, ◌++◌, length, take, drop, take_while, Result, Ok, Err}
+use Rattle.std.specs.Prelude.{ℕ, ◌-◌, ◌^◌, ◌≡◌, ◌≢◌, ◌<◌, ◌≤◌, ◌⊎◌, true, false, pos, List, [], ◌∷◌, ◌++◌, length, take}
+use Rattle.std.specs.Prelude.{drop, take_while, Result, Ok, Err}
 use Rattle.std.specs.List.{prefix_len, slice_range}
 use Rattle.std.specs.Char.{is_ascii_digit}
 use Rattle.tj_lex.specs.declared.bytes.TheConstants.{MAX_NAME}
@@ -99,14 +100,18 @@ abbrev pub HasTokens : (text : List ℕ) (start : ℕ) → List Token → (stop 
 HasTokens text start [] stop = start ≡ stop
 HasTokens text start (token ∷ rest) stop = IsToken text start token × HasTokens text token.to rest stop
 
--- the whole text has these tokens, and the end last
-pub record AreTokens (text : List ℕ) (tokens : List Token) : Type 0 where
+-- from index start on the text has these tokens, and the end last
+pub record AreTokensFrom (text : List ℕ) (start : ℕ) (tokens : List Token) : Type 0 where
   pub front : List Token
   pub stop : ℕ
   pub last : Token
   pub whole : tokens ≡ front ++ last ∷ []
-  pub has_front : HasTokens text 0 front stop
+  pub has_front : HasTokens text start front stop
   pub ends : IsEnd text stop last
+
+-- the whole text has these tokens
+abbrev pub AreTokens : List ℕ → List Token → Type 0
+AreTokens text tokens = AreTokensFrom text 0 tokens
 
 -- behind some tokens the text has this fault, its first
 pub record IsFirstFault (text : List ℕ) (fault : LexFault) : Type 0 where
