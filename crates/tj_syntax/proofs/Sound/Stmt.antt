@@ -123,6 +123,12 @@ let_new_sound room i j s h =
           (tree.let_new (length v) side.0) (v ++ x ∷ [])) (sym vars) right;
     })
 
+-- an expression that is read leaves the variables
+pub expression_kept : (room : ℕ) (i j : Input) (x : Expression) → expression room i ≡ Ok (x, j)
+    → Kept i j (λ notes. IsExpression i.vars room notes x)
+expression_kept room i j x h = let got = expressions_sound room i j x h in
+    record { notes = got.notes; took = got.took; vars = ap (λ p. p.0) got.kept; right = got.right }
+
 -- behind a variable: the mark, the side that it is given and a semicolon
 assigned_sound : {A : Type 0} (side : Parser A) (P : List Name → List Name → List Noted → A → Type 0)
     → ((i j : Input) (x : A) → side i ≡ Ok (x, j) → Kept i j (λ notes. P (names_of i.tasks) i.vars notes x))
@@ -166,9 +172,7 @@ pub set_cell_sound : (room : ℕ) (i j : Input) (s : Statement) → set_cell roo
     → Behind (key k.Set) room i j s
 unfolding set_cell
 set_cell_sound room i j s h = assigned_sound (expression room) (λ tasks vars notes x. IsExpression vars room notes x)
-    (λ l m x is. let got = expressions_sound room l m x is in
-    record { notes = got.notes; took = got.took; vars = ap (λ p. p.0) got.kept; right = got.right }) tree.set_cell
-    (λ notes t last. IsStatement (names_of i.tasks) room i.vars (key k.Set ∷ notes) t last) i j s
+    (expression_kept room) tree.set_cell (λ notes t last. IsStatement (names_of i.tasks) room i.vars (key k.Set ∷ notes) t last) i j s
     (λ x notes y p. g.set_cell x p) h
 
 -- an expression with its semicolon

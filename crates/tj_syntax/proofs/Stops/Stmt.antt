@@ -12,7 +12,8 @@ use Rattle.tj_syntax.specs.declared.fault.Stop.{Stop}
 use Rattle.tj_syntax.specs.declared.fault.Stop.TheVariants as stop
 use Rattle.tj_syntax.specs.Trees as tree
 use Rattle.tj_syntax.specs.Trees.{Expression, Statement, Statements, Otherwise}
-use Rattle.tj_syntax.specs.Marks.{Name, Note, Noted, fine, broken, key, mark, declaration, opening, within, most_vars}
+use Rattle.tj_syntax.specs.Marks.{use_of, Name, Note, Noted, fine, broken, key, mark, declaration, opening, within}
+use Rattle.tj_syntax.specs.Marks.{most_vars}
 use Rattle.tj_syntax.specs.Grammar as g
 use Rattle.tj_syntax.specs.Grammar.{IsExpression, IsGiven, IsStatement, IsBlock, IsStatements, IsElse}
 use Rattle.tj_syntax.specs.View.{statements_of}
@@ -24,8 +25,8 @@ use Rattle.tj_syntax.specs.Inner.Reading.{statements_from, statements, block_by,
 use Rattle.tj_syntax.proofs.Taken.{is_task}
 use Rattle.tj_syntax.proofs.Sound.Steps.{took_fine, expected, opened, fine_unbroken}
 use Rattle.tj_syntax.proofs.Sound.AskParts.{expressions_sound, variable_sound}
-use Rattle.tj_syntax.proofs.Sound.Ask.{ask_sound, given_sound}
-use Rattle.tj_syntax.proofs.Sound.Stmt.{GotFresh, declared_right, fresh_sound}
+use Rattle.tj_syntax.proofs.Sound.Ask.{Kept, ask_sound, given_sound}
+use Rattle.tj_syntax.proofs.Sound.Stmt.{GotFresh, declared_right, fresh_sound, expression_kept}
 use Rattle.tj_syntax.proofs.Sound.Block.{SoundBlock, SoundStatement, statement_sound, block_sound, refused_statement}
 use Rattle.tj_syntax.proofs.Stops.Steps.{Halts, Part, Halting, Past, past, past_nothing, past_both, split, if_err}
 use Rattle.tj_syntax.proofs.Stops.Steps.{moved, later, at_last, refused, refused_behind, err_inj, expect_stops}
@@ -119,53 +120,49 @@ let_new_halts room i s h =
     (_, _, g.let_new x (moved (λ ts v ns. IsGiven ts v room ns a) front vars got.right)))
     (λ v o r₃ e₃. absurd (cc)))))
 
-assign_halts : (room : ℕ) → Halting (AStatement room) (assign room)
-unfolding assign
-assign_halts room i s h =
+-- behind a variable: the mark, the side that it is given and a semicolon
+assigned_halts : {A : Type 0} (given_side : Parser A) (P : List Name → List Name → List Noted → A → Type 0) (R : Part)
+    → ((i j : Input) (x : A) → given_side i ≡ Ok (x, j) → Kept i j (λ notes. P (names_of i.tasks) i.vars notes x))
+    → Halting (λ tasks vars notes. (x : A) × P tasks vars notes x) given_side
+    → (wrap : ℕ → A → Statement) (i : Input) (s : Stop) (least : A) → P (names_of i.tasks) i.vars just_me least
+    → ((x : Name) (notes : List Noted) (y : A) → P (names_of i.tasks) i.vars notes y
+    → R (names_of i.tasks) i.vars ((toks.Name x, use_of i.vars x) ∷ mark m.Assign ∷ (notes ++ mark m.Semi ∷ [])))
+    → and_then (variable i) (λ n h. and_then (expect m.Assign h) (λ _ k. and_then (given_side k)
+    (λ x l. and_then (expect m.Semi l) (λ _ z. Ok (wrap n x, z))))) ≡ Err s
+    → Halts i s (R (names_of i.tasks) i.vars)
+assigned_halts {A = A} given_side P R sound halts wrap i s least me make h =
     split (variable i) _ s h
-    (λ e. variable_halts i s e side (λ x. (_, _, g.assign x (g.result_of (is_me i.vars room)))))
+    (λ e. variable_halts i s e side (λ x. make x just_me least me))
     (λ x j r e.
     let name = variable_sound i j x r in
     split (expect m.Assign j) _ s e
     (λ e'. refused_behind (past name.step.took) (expect_stops m.Assign j s e') side
-    (_, _, g.assign name.name (g.result_of (is_me i.vars room))))
+    (make name.name just_me least me))
     (λ u l r' e'.
     let assigning = expected m.Assign j l u r' in
     let front = past_both (past name.step.took) (past assigning.took) in
     let vars : l.vars ≡ i.vars = ap (λ p. p.0) (assigning.kept ∙ name.step.kept) in
-    split (given room l) _ s e'
-    (λ e''. later (AGiven room) front vars (given_halts room l s e'')
-    (λ notes p. (mark m.Semi ∷ [], (_, _, g.assign name.name p.1))))
+    split (given_side l) _ s e'
+    (λ e''. later (λ tasks vars notes. (x : A) × P tasks vars notes x) front vars (halts l s e'')
+    (λ notes p. (mark m.Semi ∷ [], make name.name notes p.0 p.1)))
     (λ a n r'' e''.
-    let got = given_sound room l n a r'' in
+    let got = sound l n a r'' in
     split (expect m.Semi n) _ s e''
     (λ e₃. refused_behind (past_both front (past got.took)) (expect_stops m.Semi n s e₃) (mark m.Semi ∷ [])
-    (_, _, g.assign name.name (moved (λ ts v ns. IsGiven ts v room ns a) front vars got.right)))
+    (make name.name got.notes a (moved (λ ts v ns. P ts v ns a) front vars got.right)))
     (λ v o r₃ e₃. absurd (cc)))))
+
+assign_halts : (room : ℕ) → Halting (AStatement room) (assign room)
+unfolding assign
+assign_halts room i s h = assigned_halts (given room) (λ tasks vars notes x. IsGiven tasks vars room notes x)
+    (AStatement room) (given_sound room) (given_halts room) tree.assign i s (tree.result_of tree.me)
+    (g.result_of (is_me i.vars room)) (λ x notes y p. (_, _, g.assign x p)) h
 
 set_cell_halts : (room : ℕ) → Halting (Behind k.Set room) (set_cell room)
 unfolding set_cell
-set_cell_halts room i s h =
-    split (variable i) _ s h
-    (λ e. variable_halts i s e side (λ x. (_, _, g.set_cell x (is_me i.vars room))))
-    (λ x j r e.
-    let name = variable_sound i j x r in
-    split (expect m.Assign j) _ s e
-    (λ e'. refused_behind (past name.step.took) (expect_stops m.Assign j s e') side
-    (_, _, g.set_cell name.name (is_me i.vars room)))
-    (λ u l r' e'.
-    let assigning = expected m.Assign j l u r' in
-    let front = past_both (past name.step.took) (past assigning.took) in
-    let vars : l.vars ≡ i.vars = ap (λ p. p.0) (assigning.kept ∙ name.step.kept) in
-    split (expression room l) _ s e'
-    (λ e''. later (AnExpression room) front vars (expressions_halt room l s e'')
-    (λ notes p. (mark m.Semi ∷ [], (_, _, g.set_cell name.name p.1))))
-    (λ a n r'' e''.
-    let got = expressions_sound room l n a r'' in
-    split (expect m.Semi n) _ s e''
-    (λ e₃. refused_behind (past_both front (past got.took)) (expect_stops m.Semi n s e₃) (mark m.Semi ∷ [])
-    (_, _, g.set_cell name.name (moved (λ ts v ns. IsExpression v room ns a) front vars got.right)))
-    (λ v o r₃ e₃. absurd (cc)))))
+set_cell_halts room i s h = assigned_halts (expression room) (λ tasks vars notes x. IsExpression vars room notes x)
+    (Behind k.Set room) (expression_kept room) (expressions_halt room) tree.set_cell i s tree.me (is_me i.vars room)
+    (λ x notes y p. (_, _, g.set_cell x p)) h
 
 ended_halts : (room : ℕ) → Halting (AnEnded room) (ended room)
 unfolding ended
