@@ -89,6 +89,14 @@ module _ {A : Type 0} (key : A → Name) where
       let e = times_of_distinct q (map key xs) d in
       omega arith)
 
+  -- a sort of elements with distinct names, by a closure that compares these, leaves them in name order
+  pub sorted_ascends : {F : Type 0} {g : Mut F (Bor A × (Bor A × Unit {0})) Ordering} {f : F} (xs ys : List A)
+      → ((lt : A → A → Bool) → IsStrictWeakOrder lt → ComparesAs g lt f → IsSortedBy lt ys)
+      → ((a : Bor A × (Bor A × Unit {0})) (r : Ordering) (f' : F) → Called g f a r f'
+      → (r ≡ order (key a.0.now) (key a.1.0.now)) × (f' ≡ f))
+      → IsPermutation xs ys → AreDistinct (map key xs) → Ascend (map key ys)
+  sorted_ascends xs ys up h p d = ascends ys (sorted_by ys up h) (distinct_permuted xs ys p d)
+
 module _ {A : Type 0} where
   -- another order has the same elements
   pub in_permuted : (xs ys : List A) → IsPermutation xs ys → (x : A) → IsIn x ys → IsIn x xs
