@@ -18,13 +18,21 @@ use Rattle.tj_eval.specs.Gets.{script_has_no_get}
 abbrev IsClear : List Noted → Type 0
 IsClear = AllByRecursion (λ noted. noted.0 ≢ toks.Key keys.Get)
 
+-- what holds of all of two lists holds of all of the first
+pub all-front : {A : Type 0} (P : A → Type 0) (a b : List A) → AllByRecursion P (a ++ b) → AllByRecursion P a
+all-front P [] b h = tt
+all-front P (x ∷ a) b h = (h.0, all-front P a b h.1)
+
+-- and of all of the second
+pub all-back : {A : Type 0} (P : A → Type 0) (a b : List A) → AllByRecursion P (a ++ b) → AllByRecursion P b
+all-back P [] b h = h
+all-back P (x ∷ a) b h = all-back P a b h.1
+
 clear-front : (a b : List Noted) → IsClear (a ++ b) → IsClear a
-clear-front [] b h = tt
-clear-front (x ∷ a) b h = (h.0, clear-front a b h.1)
+clear-front = all-front (λ noted. noted.0 ≢ toks.Key keys.Get)
 
 clear-back : (a b : List Noted) → IsClear (a ++ b) → IsClear b
-clear-back [] b h = h
-clear-back (x ∷ a) b h = clear-back a b h.1
+clear-back = all-back (λ noted. noted.0 ≢ toks.Key keys.Get)
 
 ask-without : {tasks vars : List Name} {room : ℕ} {a : List Noted} {q : tree.Ask} → IsAsk tasks vars room a q
     → IsClear a

@@ -20,6 +20,7 @@ use Rattle.tj_syntax.specs.Faults.{IsUnbroken, AreUnbroken, IsScript, task_at, m
 use Rattle.tj_syntax.specs.Grammar.{IsParams, no_params, params, IsMoreParams, params_end, params_more, IsTask, task}
 use Rattle.tj_syntax.specs.Grammar.{IsTasks, tasks_end, tasks_more}
 use Rattle.tj_eval.proofs.Views.{get_map}
+use Rattle.tj_eval.proofs.GetTokens.{all-front, all-back}
 use Rattle.tj_eval.specs.Bodies.{has_few_params, all_have_few_params, most_params}
 
 -- the element behind a front
@@ -116,12 +117,10 @@ none_left (t ∷ decls) (suc i) l = none_left decls i (omega arith)
 
 -- what is unbroken has unbroken parts
 unbroken-front : (a b : List Noted) → AreUnbroken (a ++ b) → AreUnbroken a
-unbroken-front [] b h = tt
-unbroken-front (x ∷ a) b h = (h.0, unbroken-front a b h.1)
+unbroken-front = all-front IsUnbroken
 
 unbroken-back : (a b : List Noted) → AreUnbroken (a ++ b) → AreUnbroken b
-unbroken-back [] b h = h
-unbroken-back (x ∷ a) b h = unbroken-back a b h.1
+unbroken-back = all-back IsUnbroken
 
 abbrev is_broken : Note → Bool
 is_broken fine = false
