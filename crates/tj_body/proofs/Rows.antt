@@ -36,7 +36,8 @@ ask_at-past b k n l = ap (row_or_end b n) (sym (slice_get_past (rows_of b) k l))
 
 module _ (b : TableBody) (k n : ℕ) (a : Answer) (rest : List Answer) (asked : List (Ask TableBody))
     (h : asked ≡ asks_of_rows b (n + new_places a) (drop (suc k) (rows_of b)) rest) where
-  one_more : RowAt (rows_of b) k → table_asks (further b k n) a ∷ asked ≡ asks_of_rows b n (drop k (rows_of b)) (a ∷ rest)
+  one_more : RowAt (rows_of b) k
+      → table_asks (further b k n) a ∷ asked ≡ asks_of_rows b n (drop k (rows_of b)) (a ∷ rest)
   one_more (inl f) = let more = drop (suc k) (rows_of b) in
       let e : drop k (rows_of b) ≡ f.0 ∷ more = drop-cons (rows_of b) k f.0 f.1 ∙ ap (λ z. z ∷ more) f.3 in
       rw (e, f.2, row_ask-further b k n (n + new_places a) f.0, h) refl

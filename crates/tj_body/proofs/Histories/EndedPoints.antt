@@ -61,7 +61,8 @@ module _ {B : Type 0} where
   reads spare c (entry.Value (value.Num i)) p = tt
   reads spare c (entry.Value (value.Ref r)) p = tt
 
-  looks : (spare : Bool) (c : Name) (o : Option Entry) (p : Point B) → ClosesWhole p → ClosesWhole (after_look spare c o p)
+  looks : (spare : Bool) (c : Name) (o : Option Entry) (p : Point B) → ClosesWhole p
+      → ClosesWhole (after_look spare c o p)
   looks spare c None p g = g
   looks spare c (Some x) p g = reads spare c x p
 

@@ -85,4 +85,5 @@ module _ {R : Type 0} {most : ℕ} {is_row : ℕ → R → Bool} {lists : List (
     by true e = let l : suc row ≤ length (get_or lists k []) = ltb-true row (length (get_or lists k [])) e in
         rw (u.table, lt-ltb k (length lists) u.list, le-leb (suc row) (length (get_or lists k [])) l) refl
     by false e = let l : length (get_or lists k []) ≤ row = ltb-false row (length (get_or lists k [])) e in
-        rw (past (slice_get_past (get_or lists k []) row l)) (same_nothing (is_reading most is_row lists k (suc row)) nothing)
+        rw (past (slice_get_past (get_or lists k []) row l))
+        (same_nothing (is_reading most is_row lists k (suc row)) nothing)

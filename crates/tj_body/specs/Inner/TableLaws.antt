@@ -46,8 +46,12 @@ placed_if n false x h = tt
 -- the body of another list of the table has asked nothing yet
 pub fresh_at : (b : TableBody) (list n : ℕ) → is_table b.lists.now ≡ true → list < length b.lists.now
     → IsFresh table_places table_awaits table_left n (body_at b list n)
-fresh_at b list n e l = let few : length (get_or b.lists.now list []) ≤ 2 ^ 20 = few_rows most_rows is_row b.lists.now list e l in
-    record { has_places = refl; begins = rw (begins_reading most_rows is_row b.lists.now list e l) refl; ends = omega arith }
+fresh_at b list n e l =
+    let few : length (get_or b.lists.now list []) ≤ 2 ^ 20 = few_rows most_rows is_row b.lists.now list e l in record {
+      has_places = refl;
+      begins = rw (begins_reading most_rows is_row b.lists.now list e l) refl;
+      ends = omega arith;
+    }
 
 -- what a row of a table asks has its places, and a fork's body is fit for its task
 placed : (b : TableBody) (n : ℕ) (r : Row) → is_table b.lists.now ≡ true → is_row (length b.lists.now) r ≡ true
