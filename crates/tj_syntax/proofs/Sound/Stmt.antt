@@ -172,7 +172,8 @@ pub set_cell_sound : (room : ℕ) (i j : Input) (s : Statement) → set_cell roo
     → Behind (key k.Set) room i j s
 unfolding set_cell
 set_cell_sound room i j s h = assigned_sound (expression room) (λ tasks vars notes x. IsExpression vars room notes x)
-    (expression_kept room) tree.set_cell (λ notes t last. IsStatement (names_of i.tasks) room i.vars (key k.Set ∷ notes) t last) i j s
+    (expression_kept room) tree.set_cell
+    (λ notes t last. IsStatement (names_of i.tasks) room i.vars (key k.Set ∷ notes) t last) i j s
     (λ x notes y p. g.set_cell x p) h
 
 -- an expression with its semicolon
