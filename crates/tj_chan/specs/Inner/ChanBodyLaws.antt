@@ -78,14 +78,8 @@ module _ {C : Type 0} (rules : ChatRules C) where
   -- the test passes where the parts are so
   under_way_from : (b : ChanBody C) → IsUnderWay rules b → is_under_way rules b ≡ true
   under_way_from b u =
-      let d = is_due b.places b.due (rules.awaits b.chatter) in
-      let n = nat_eq (rules.channels b.chatter) (length b.rows) in
-      let r = are_rows b.rows in
-      let p = list_all (is_row b.places) b.rows in
-      let f = nat_le (length b.rows + opening b.due + rules.left b.chatter) most_rows in
-      and_from (d && n && r && p) f (and_from (d && n && r) p (and_from (d && n) r (and_from d n u.is_due
-      (eq-eqb (rules.channels b.chatter) (length b.rows) u.channels)) u.leads) u.rows)
-      (le-leb (length b.rows + opening b.due + rules.left b.chatter) most_rows u.few)
+      and_from _ _ (and_from _ _ (and_from _ _ (and_from _ _ u.is_due (eq-eqb _ _ u.channels)) u.leads) u.rows)
+      (le-leb _ _ u.few)
 
   -- What a turn owes, where so much was left before it and its task has so many places: what is left falls, what is due
   -- is awaited by the ask, the body is under way or the ask is the last one, and the ask's places are there.
@@ -302,10 +296,9 @@ module _ {C : Type 0} (rules : ChatRules C) where
   abbrev chat_due : Due → chats.ChatAwait
   chat_due due.Start = chats.begin
   chat_due (due.Promise more items) = chats.new_channel
-  chat_due due.Done = chats.done
   chat_due due.Item = chats.number
-  chat_due due.Child = chats.done
   chat_due due.Nothing = chats.nothing
+  chat_due d = chats.done
 
   awaits_due : (places : ℕ) (d : Due) (w : chats.ChatAwait) → is_due places d w ≡ true → w ≡ chat_due d
   awaits_due places due.Start chats.begin e = refl
@@ -357,11 +350,11 @@ module _ {C : Type 0} (rules : ChatRules C) where
     more_rows h = rows_stay b.places (b.places + asks.new_places a) b.rows (omega arith) h
 
     -- the chatter is told what adds no channel
-    tells : (d : Due) → Waiting b d → (w : chats.ChatAwait) → rules.awaits b.chatter ≡ w → (t : ChatAnswer)
-        → chats.FitsChat w (rules.channels b.chatter) t → chats.channels_added t ≡ 0
-        → IsTold (left_at b d) t (counted a b)
-    tells d u w e t fits none = let f = u.few in record {
-      fits = subst (λ x. chats.FitsChat x (rules.channels b.chatter) t) (sym e) fits;
+    tells : (d : Due) → Waiting b d → (t : ChatAnswer) → chats.FitsChat (chat_due d) (rules.channels b.chatter) t
+        → chats.channels_added t ≡ 0 → IsTold (left_at b d) t (counted a b)
+    tells d u t fits none = let f = u.few in record {
+      fits = subst (λ x. chats.FitsChat x (rules.channels b.chatter) t)
+          (sym (awaits_due b.places d (rules.awaits b.chatter) u.is_due)) fits;
       channels = let e = u.channels in let z = none in omega arith;
       leads = u.leads;
       rows = more_rows u.rows;
@@ -390,7 +383,7 @@ module _ {C : Type 0} (rules : ChatRules C) where
     tells_item u t e = by (told_cases a t e) where
       by : ((v : ℤ) × (told.Num v ≡ t)) → IsTold (left_at b due.Item) t (counted a b)
       by q = subst (λ z. IsTold (left_at b due.Item) z (counted a b)) q.1
-          (tells due.Item u chats.number (awaits_due b.places due.Item (rules.awaits b.chatter) u.is_due) (told.Num q.0) tt refl)
+          (tells due.Item u (told.Num q.0) tt refl)
 
       told_cases : (a : Answer) (t : ChatAnswer) → told_of_item a ≡ Some t → (v : ℤ) × (told.Num v ≡ t)
       told_cases (answer.Num v) t e = (v, same_Some (told.Num v) t e)
@@ -400,17 +393,17 @@ module _ {C : Type 0} (rules : ChatRules C) where
     pub told_fits : (d : Due) → Waiting b d → asks.Fits (due_await d) b.places a → (t : ChatAnswer)
         → told_at d a (length b.rows) ≡ Some t → IsTold (left_at b d) t (opened d (counted a b))
     told_fits due.Start u h t e = subst (λ z. IsTold (left_at b due.Start) z (counted a b)) (same_Some told.Start t e)
-        (tells due.Start u chats.begin (awaits_due b.places due.Start (rules.awaits b.chatter) u.is_due) told.Start tt refl)
+        (tells due.Start u told.Start tt refl)
     told_fits (due.Promise zero items) u h t e =
         subst (λ z. IsTold (left_at b (due.Promise 0 items)) z (with_channel items (counted a b)))
         (same_Some (told.Chan (length b.rows)) t e)
         (tells_open items u (promise_due b.places 0 items (rules.awaits b.chatter) u.is_due) (place_adds b.places a h))
     told_fits (due.Promise (suc more) items) u h t e = absurd (none-some t e)
     told_fits due.Done u h t e = subst (λ z. IsTold (left_at b due.Done) z (counted a b)) (same_Some told.Done t e)
-        (tells due.Done u chats.done (awaits_due b.places due.Done (rules.awaits b.chatter) u.is_due) told.Done tt refl)
+        (tells due.Done u told.Done tt refl)
     told_fits due.Item u h t e = tells_item u t e
     told_fits due.Child u h t e = subst (λ z. IsTold (left_at b due.Child) z (counted a b)) (same_Some told.Done t e)
-        (tells due.Child u chats.done (awaits_due b.places due.Child (rules.awaits b.chatter) u.is_due) told.Done tt refl)
+        (tells due.Child u told.Done tt refl)
     told_fits due.Nothing u h t e = absurd (none-some t e)
 
     -- the next promise of a channel is made

@@ -20,7 +20,8 @@ abbrev pub IsUnderWay : TableChat → Type 0
 IsUnderWay c = IsReading most_chat_rows is_chat_row c.lists.now c.list c.row
 
 -- a chatter that awaits the answer is under way
-pub chat_under_way : (c : TableChat) (a : ChatAnswer) → FitsChat (table_chat_awaits c) (table_channels c) a → IsUnderWay c
+pub chat_under_way : (c : TableChat) (a : ChatAnswer) → FitsChat (table_chat_awaits c) (table_channels c) a
+    → IsUnderWay c
 chat_under_way c a h = reading_parts most_chat_rows is_chat_row c.lists.now c.list c.row
     (awaits_more (λ w x. FitsChat w (table_channels c) x) (is_chat_under_way c) (chat_await_after c c.row) nothing a
     (λ f. f) h)
@@ -32,8 +33,13 @@ Allowed x = IsChatAsk table_channels table_chat_awaits table_chat_left x
 -- the chatter of another list of the table has asked nothing yet
 pub fresh_chat_at : (c : TableChat) (list n : ℕ) → is_chat_table c.lists.now ≡ true → list < length c.lists.now
     → IsFreshChat table_channels table_chat_awaits table_chat_left n (chat_at c list n)
-fresh_chat_at c list n e l = let few : length (get_or c.lists.now list []) ≤ 2 ^ 15 = few_rows most_chat_rows is_chat_row c.lists.now list e l in
-    record { has_channels = refl; begins = rw (begins_reading most_chat_rows is_chat_row c.lists.now list e l) refl; ends = omega arith }
+fresh_chat_at c list n e l =
+    let few : length (get_or c.lists.now list []) ≤ 2 ^ 15 = few_rows most_chat_rows is_chat_row c.lists.now list e l in
+    record {
+      has_channels = refl;
+      begins = rw (begins_reading most_chat_rows is_chat_row c.lists.now list e l) refl;
+      ends = omega arith;
+    }
 
 -- what a row of a table asks is allowed, and a spawn's chatter is fit for its task
 allowed : (c : TableChat) (r : ChatRow) → is_chat_table c.lists.now ≡ true
