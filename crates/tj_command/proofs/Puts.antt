@@ -52,14 +52,8 @@ own_put Room status text before now b a answer is (inr failed) = record {
 }
 
 memory_or_not : (status : Status) → (status ≡ Memory) ⊎ (status ≢ Memory)
-memory_or_not Clean = inr (λ e. cc)
-memory_or_not Marked = inr (λ e. cc)
-memory_or_not Usage = inr (λ e. cc)
-memory_or_not Script = inr (λ e. cc)
-memory_or_not Full = inr (λ e. cc)
-memory_or_not ReadFault = inr (λ e. cc)
-memory_or_not WriteFault = inr (λ e. cc)
 memory_or_not Memory = inl refl
+memory_or_not status = inr (λ e. cc)
 
 -- there is one output at most
 abbrev pub IsOneOutput : (IsOutput : Status → List ℕ → Type 0) → Type 0
