@@ -31,8 +31,7 @@ says_one born (fill.Task c) x y a b = a.2 ∙ (ap (λ r. value.Ref r)
 pub fill_tag : (born : List Reference) (f : Fill) (x : Value) → FillSays born f x
     → tag_word (Some f) ≡ tag_of (entry.Value x)
 fill_tag born (fill.Num i) x s = ap (λ y. tag_of (entry.Value y)) (sym s)
-fill_tag born (fill.Promise c) x s = ap (λ y. tag_of (entry.Value y)) (sym s.2)
-fill_tag born (fill.Task c) x s = ap (λ y. tag_of (entry.Value y)) (sym s.2)
+fill_tag born f x s = ap (λ y. tag_of (entry.Value y)) (sym s.2)
 
 module _ (born : List Reference) (bits : ℕ) where
   pub fill_bits : (f : Fill) (x : Value) → FillSays born f x → fill_in (tag_word (Some f)) bits ≡ Some f
