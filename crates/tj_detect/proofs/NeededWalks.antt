@@ -1,31 +1,22 @@
 -- A walk that has ended by a load was needed: on a wait along the order no owner is read but after OTHERS was read above
 -- 0.
-use Rattle.tj_detect.proofs.Prelude.{Alarm, Counted, EndsWith, IsLoad, IsWalkOf, MayCount, MayReadOwner, Passed}
-use Rattle.tj_detect.proofs.Prelude.{Skipped, Verdict, Walked, Walker, Way, ap, count_read, inl, inr, others_read, refl}
-use Rattle.tj_detect.proofs.Prelude.{start_walk, subst, sym, walk_again, walk_wait, ℕ, ⊎_elim, ◌∙◌, ◌≡◌, ◌⊎◌}
+use Rattle.tj_detect.proofs.Prelude.{Alarm, EndsWith, IsLoad, IsWalkOf, MayCount, MayReadOwner, Skipped, Verdict}
+use Rattle.tj_detect.proofs.Prelude.{Walked, Walker, Way, ap, count_read, inl, inr, others_read, refl, start_walk}
+use Rattle.tj_detect.proofs.Prelude.{subst, sym, walk_again, walk_wait, ℕ, ⊎_elim, ◌∙◌, ◌≡◌, ◌⊎◌}
 use Rattle.tj_events.specs.declared.walk.LastRead.{LastRead}
-use Rattle.tj_events.specs.declared.walk.LastRead.TheVariants.{Published, SawOthers, SawOwner, SawWait, Changed}
+use Rattle.tj_events.specs.declared.walk.LastRead.TheVariants.{Published, SawOthers}
 use Rattle.tj_detect.specs.Blocks.{IsWalkFrom, IsNeeded, WasNeeded, walk_first, walk_others, walk_count, walk_owner}
 
 -- no owner is read where the walk has only been published, or has only read OTHERS
 abbrev no_owner : LastRead → Type 0
 no_owner Published = Unit {0}
 no_owner (SawOthers n) = Unit {0}
-no_owner Counted = ⊥
-no_owner (SawOwner o) = ⊥
-no_owner (SawWait u o) = ⊥
-no_owner Passed = ⊥
-no_owner Changed = ⊥
+no_owner _ = ⊥
 
 -- what was read of OTHERS
 abbrev others_of : LastRead → ℕ
-others_of Published = 0
 others_of (SawOthers n) = n
-others_of Counted = 0
-others_of (SawOwner o) = 0
-others_of (SawWait u o) = 0
-others_of Passed = 0
-others_of Changed = 0
+others_of _ = 0
 
 module _ (t : ℕ) (way : Way) where
   -- the walk is at its start, has only read OTHERS, or was needed

@@ -13,8 +13,7 @@ use Rattle.tj_words.specs.declared.view.Does.TheVariants as does
 walks_on : (verdict : Verdict) (q : ℕ) (way : Way) (w : Walker) → verdict ≢ Alarm
     → does_after verdict q way w ≡ does.Walking q way w
 walks_on Alarm q way w n = absurd (n refl)
-walks_on Walked q way w n = refl
-walks_on Skipped q way w n = refl
+walks_on verdict q way w n = refl
 
 settles : (verdict : Verdict) (t : ℕ) (way : Way) (w : Walker) → verdict ≢ Alarm → EndsWith verdict t way w
     → MaySettle w

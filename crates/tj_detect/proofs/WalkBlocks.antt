@@ -17,18 +17,13 @@ use Rattle.tj_words.specs.declared.view.Does.TheVariants as does
 -- the steps of a walk and at most two before it
 few_from : (verdict : Verdict) (bound n k : ℕ) → verdict ≢ Skipped → n ≤ 3 * bound + 1 → k ≤ 2
     → IsStepCount verdict bound (n + k)
-few_from Alarm bound n k not a b = omega arith
-few_from Walked bound n k not a b = omega arith
 few_from Skipped bound n k not a b = absurd (not refl)
+few_from verdict bound n k not a b = omega arith
 
 -- whether t waits for q along the order, by what it does, and its walker has read OTHERS as 0
 abbrev no_others : ℕ → Does → Type 0
-no_others q does.Unborn = ⊥
-no_others q does.Fresh = ⊥
-no_others q does.Running = ⊥
-no_others q does.Raised = ⊥
 no_others q (does.Walking p way w) = (p ≡ q) × (way ≡ Along) × (w.last ≡ SawOthers 0)
-no_others q (does.Alarmed p way w) = ⊥
+no_others q _ = ⊥
 
 module _ {B : Type 0} (v : View B) (t q : ℕ) (way : Way) (m : MayBlock t q way v) where
   abbrev k : Custody B
@@ -180,15 +175,13 @@ module _ {B : Type 0} (v : View B) (t q : ℕ) (way : Way) (m : MayBlock t q way
 -- what t does after the call, and how its walk has ended, by the verdict
 skip_does : (verdict : Verdict) (t q : ℕ) (way : Way) (w : Walker) → EndsWith verdict t way w → verdict ≡ Skipped
     → does_after verdict q way w ≡ does.Walking q Along w
-skip_does Alarm t q way w h e = absurd (cc)
-skip_does Walked t q way w h e = absurd (cc)
 skip_does Skipped t q way w h e = ap (λ (y : Way). does.Walking q y w) h.0
+skip_does verdict t q way w h e = absurd (cc)
 
 skip_last : (verdict : Verdict) (t : ℕ) (way : Way) (w : Walker) → EndsWith verdict t way w → verdict ≡ Skipped
     → w.last ≡ SawOthers 0
-skip_last Alarm t way w h e = absurd (cc)
-skip_last Walked t way w h e = absurd (cc)
 skip_last Skipped t way w h e = h.1
+skip_last verdict t way w h e = absurd (cc)
 
 is_skip : (verdict : Verdict) (t q : ℕ) (way : Way) (w : Walker) → EndsWith verdict t way w
     → no_others q (does_after verdict q way w)

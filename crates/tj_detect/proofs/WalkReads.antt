@@ -1,7 +1,8 @@
 -- What the reads of one owner make of a walk, step by step.
 use Rattle.tj_detect.proofs.Prelude.{Bool, CellId, Counted, Custody, Does, Ended, Hops, IsWalkOf, Next, None, Own}
 use Rattle.tj_detect.proofs.Prelude.{Passed, Some, View, Walker, Way, ap, arith, doing, held_in, now_does, one_some}
-use Rattle.tj_detect.proofs.Prelude.{refl, subst, sym, true, walk_again, walk_owner, walk_wait, ℕ, ◌+◌, ◌<◌, ◌∙◌, ◌≡◌}
+use Rattle.tj_detect.proofs.Prelude.{present, refl, subst, sym, true, walk_again, walk_owner, walk_wait, ℕ, ◌+◌, ◌<◌}
+use Rattle.tj_detect.proofs.Prelude.{◌∙◌, ◌≡◌}
 use Rattle.std.proofs.Common.{false, Option, length, ⊎_elim}
 use Rattle.tj_events.specs.Events.{owner_read, wait_found, owner_found, is_owner, MayReadOwner}
 use Rattle.tj_words.specs.Calls.WalkViews.{IsWalking, MayLoadWait, owner_seen, read_on, walk_with}
@@ -12,17 +13,26 @@ use Rattle.tj_words.specs.declared.view.Does.TheVariants as does
 
 -- F holds of the wait and of the walker of a task that does this
 abbrev walks_fit : (ℕ → Way → Walker → Type 0) → Does → Type 0
-walks_fit F does.Unborn = ⊥
-walks_fit F does.Fresh = ⊥
-walks_fit F does.Running = ⊥
-walks_fit F does.Raised = ⊥
 walks_fit F (does.Walking q way w) = F q way w
-walks_fit F (does.Alarmed q way w) = ⊥
+walks_fit F _ = ⊥
 
 -- an owner that is read first is read so
 first_read : (o : Option ℕ) (w : Walker) → MayReadOwner w → owner_seen o w w.last ≡ owner_read o w
 first_read o w may = ⊎_elim (λ (e : w.last ≡ Counted). ap (owner_seen o w) e)
     (λ (e : (w.last ≡ Passed) × (length w.trail < w.bound)). ap (owner_seen o w) e.0) may
+
+-- a task that walks with this walker is one of a walk, of which this holds
+pub walks_at : {B : Type 0} {t q : ℕ} {way : Way} {w : Walker} {F : ℕ → Way → Walker → Type 0} {v : View B}
+    → WalksWith t q way w v → F q way w → IsWalking t F v
+walks_at {q = q} {way = way} {w = w} has may = record {
+  task = has.0;
+  wait = q;
+  way = way;
+  walker = w;
+  held = has.1;
+  does = has.2;
+  may = may;
+}
 
 module _ {B : Type 0} (v : View B) (t q : ℕ) (way : Way) (w : Walker) (has : WalksWith t q way w v) where
   -- the walker that a seat has for a task is one
@@ -30,6 +40,10 @@ module _ {B : Type 0} (v : View B) (t q : ℕ) (way : Way) (w : Walker) (has : W
   its_walker F i =
       let same : has.0 ≡ i.task = one_some has.0 i.task (sym has.1 ∙ i.held) in
       subst (walks_fit F) (sym i.does ∙ (sym (ap (λ (x : Custody B). x.does) same) ∙ has.2)) i.may
+
+  -- and it may do what the walker of this task may do, which has come to this cell
+  pub its_next : (p : ℕ) (F : Walker → Type 0) → IsWalking t (λ q way w. (p ≡ present q w.trail) × F w) v → F w
+  its_next p F i = (its_walker (λ q way w. (p ≡ present q w.trail) × F w) i).1
 
   -- the walk goes on
   pub still : (w1 : Walker) (n m : ℕ) (v1 : View B) → v1 ≡ doing t (does.Walking q way w1) n m v

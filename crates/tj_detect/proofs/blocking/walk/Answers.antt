@@ -2,6 +2,7 @@ use Rattle.tj_detect.proofs.Prelude.{arith, ◌∙◌, ◌≤◌}
 use Rattle.tj_detect.proofs.WalkLoops.{alarms_next, at_alarm, at_bound, at_ended, on_next, on_way, reads_owner}
 use Rattle.tj_detect.proofs.WalkLoops.{walked_first}
 use Rattle.tj_detect.proofs.blocking.walk.Goals as goal
+use Rattle.tj_detect.proofs.WalkReads.{walks_at}
 
 pub loop-passed-init : goal.loop-passed-init
 loop-passed-init g c =
@@ -17,16 +18,7 @@ loop-passed-init g c =
 
 pub count-bound-requires-clause-walks : goal.count-bound-requires-clause-walks
 count-bound-requires-clause-walks g c κs within =
-    let h = c.requires.walks in
-    record {
-      task = h.custody;
-      wait = c.args.q.0;
-      way = c.args.way;
-      walker = h.walker;
-      held = h.held;
-      does = h.walks;
-      may = h.may;
-    }
+    let h = c.requires.walks in walks_at (h.custody, h.held, h.walks) h.may
 
 pub look_at_owner-requires-clause-walks : goal.look_at_owner-requires-clause-walks
 look_at_owner-requires-clause-walks g c κs within = reads_owner c.loop-passed.invariant.1 c.loop-passed-test.true
