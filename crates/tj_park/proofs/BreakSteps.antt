@@ -2,9 +2,10 @@
 use Rattle.tj_park.proofs.Prelude.{AreApart, Bool, CellId, Custody, Entry, HasAlarmed, HasBroken, HasSeen, HasWoken}
 use Rattle.tj_park.proofs.Prelude.{IsIn, IsTailOf, IsToBecome, KnowsMore, List, MayBreak, MayGiveUp, MayWake, None}
 use Rattle.tj_park.proofs.Prelude.{Program, SlotsOf, Some, View, WakesAll, WakesEach, WillBecome, [], ap, arith, became}
-use Rattle.tj_park.proofs.Prelude.{cell, cond, drop, eq-eqb, gave_up, get_or, held_in, held_task, inl, inr, inside}
-use Rattle.tj_park.proofs.Prelude.{length, let_go, more_itself, ne_eqb, noted_here, numbers, one_some, refl, subst, sym}
-use Rattle.tj_park.proofs.Prelude.{tail_on, take, without, without_due, ℕ, ⊎_elim, ◌+◌, ◌<◌, ◌∙◌, ◌∷◌, ◌≡◌, ◌≤◌, ◌⊎◌}
+use Rattle.tj_park.proofs.Prelude.{begins_self, cell, cond, drop, eq-eqb, gave_up, get_or, held_in, held_task, inl, inr}
+use Rattle.tj_park.proofs.Prelude.{inside, length, let_go, more_in_front, more_itself, more_on, ne_eqb, noted_here}
+use Rattle.tj_park.proofs.Prelude.{numbers, one_some, refl, subst, sym, tail_on, take, without, without_due, ℕ, ⊎_elim}
+use Rattle.tj_park.proofs.Prelude.{◌+◌, ◌<◌, ◌∙◌, ◌∷◌, ◌≡◌, ◌≤◌, ◌⊎◌}
 use mathlib.Core.List.{map-append}
 use Rattle.std.proofs.lemmas.List.{drop_all, drop_more, take_all, take_more}
 use mathlib.Core.Logic.{dite}
@@ -18,6 +19,7 @@ use Rattle.tj_park.proofs.WakeLoops.{noted_tail, nothing_noted, one_wake_more}
 use Rattle.tj_park.specs.Wakes.{HasNotedNothing}
 use Rattle.tj_body.specs.declared.point.Entry.TheVariants as entry
 use Rattle.tj_words.specs.declared.offsets.Once.TheVariants as once
+use Rattle.tj_park.proofs.OwnedCells.{owner_still}
 
 -- what isn't there is left out of nothing
 without_none : (p : ℕ) (ns : List ℕ) → ¬ IsIn p ns → without p ns ≡ ns
@@ -75,14 +77,7 @@ module _ {B : Type 0} {program : Bool → B → Program B} {t : ℕ} {promises l
   may_give_up = (
     record {
       task = t;
-      owner = record {
-        custody = h.owns.custody;
-        held = h.owns.held;
-        may = h.owns.runs;
-        out = h.owns.out;
-        result = subst (IsIn t) (sym h.owns.owned) (inl refl);
-        owns = subst (IsIn c.0) (sym h.owns.owned) (inr (inl refl));
-      };
+      owner = owner_still h.owns (inr (inl refl));
       last = λ e. absurd (h.owns.apart.0 (inl (sym e)));
     },
     refl,
@@ -127,20 +122,10 @@ module _ {B : Type 0} {program : Bool → B → Program B} {t : ℕ} {promises l
       no_dues = ap (λ d. without_due c.0 once.Tag (without_due c.0 once.Bits d)) h.idle.dues
 
       knows_now : KnowsMore v now
-      knows_now = record {
-        about = h.knows.about;
-        lot = h.knows.lot;
-        born = h.knows.born;
-        known = h.knows.known;
-        wrote = λ x i. inr (h.knows.wrote x i);
-        filled = λ x i. inr (h.knows.filled x i);
-        seen = h.knows.seen;
-        closed = λ x i. inr (h.knows.closed x i);
-        rested = h.knows.rested;
-        notes = tail_on v.notes w.notes w2.notes h.knows.notes
-            (subst (λ l. IsTailOf l w2.notes) (ap (λ (u : View B). u.notes) broke)
-            (noted_tail c.0 chain [] w1 w1.notes w2.notes woke.noted));
-      }
+      knows_now = more_on v w now h.knows
+          (more_in_front w now [] (_ ∷ []) (_ ∷ []) [] (c.0 ∷ []) (begins_self w.born)
+          (subst (λ l. IsTailOf l w2.notes) (ap (λ (u : View B). u.notes) broke)
+          (noted_tail c.0 chain [] w1 w1.notes w2.notes woke.noted)))
 
       abbrev owns_now : OwnsStill t left now
       owns_now = record {

@@ -1,8 +1,8 @@
 -- A task whose result is closed and that no seat holds has ended: where its record lies at home and tells a point at
 -- which the task goes on, the record owns the result, and then OWN of the task names it.
 use Rattle.tj_park.proofs.Prelude.{Answer, Bool, CellId, Custody, HasName, IsCell, IsIn, List, Name, None, Option}
-use Rattle.tj_park.proofs.Prelude.{Phase, Point, Program, Rec, Reference, Some, TellsStage, inl, inr, none_some, numbers}
-use Rattle.tj_park.proofs.Prelude.{refl, subst, sym, to_task, ℕ, ◌∙◌, ◌∷◌, ◌≡◌, ◌≢◌}
+use Rattle.tj_park.proofs.Prelude.{Phase, Point, Program, Rec, Reference, Some, TellsStage, inl, inr, none_some}
+use Rattle.tj_park.proofs.Prelude.{numbers, refl, subst, sym, to_task, ℕ, ◌∙◌, ◌∷◌, ◌≡◌, ◌≢◌}
 use Rattle.tj_body.specs.declared.ask.Answer.TheVariants as answer
 use Rattle.tj_body.proofs.Lists.{to_map}
 use Rattle.tj_words.specs.declared.phase.Phase.TheVariants as phase
@@ -26,34 +26,27 @@ open_by : {B : Type 0} (born : List Reference) (a : Answer) (spare : Bool) (p : 
     → TellsStage born None a spare p → IsOpen p.stage
 open_by born answer.Start spare p h = subst IsOpen (sym h) tt
 open_by born (answer.RefAt k) spare p h = subst IsOpen (sym h.1) tt
-open_by born (answer.Local k) spare p h = absurd h
-open_by born answer.Done spare p h = absurd h
-open_by born (answer.Num i) spare p h = absurd h
-open_by born answer.Lost spare p h = absurd h
+open_by born a spare p h = absurd h
 
 module _ {B : Type 0} where
   -- the record of a task that no seat holds lies at home
   lies_home : (p : Phase) (holder : Option ℕ) (home : Option (Rec B)) → IsKept p holder home → holder ≡ None
       → (r : Rec B) × (home ≡ Some r)
-  lies_home phase.Unborn holder home h e = absurd (none_some holder h.0 e h.1)
   lies_home phase.Ready holder home h e = h.1
-  lies_home phase.Running holder home h e = absurd (none_some holder h.0 e h.1)
   lies_home phase.Ended holder home h e = h.1
   lies_home phase.Promise holder home h e = absurd h
-  lies_home (phase.Waiting c way walk.Walking) holder home h e = absurd (none_some holder h.0 e h.1)
   lies_home (phase.Waiting c way walk.Parked) holder home h e = h.1
   lies_home (phase.Waiting c way walk.Alarmed) holder home (inl h) e = absurd (none_some holder h.0.0 e h.0.1)
   lies_home (phase.Waiting c way walk.Alarmed) holder home (inr h) e = h.1
+  lies_home p holder home h e = absurd (none_some holder h.0 e h.1)
 
   -- and a record with an ending is that of a task that has ended
   has_ended : (tag : ℕ → ℕ) (p : Phase) (holder : Option ℕ) (home : Option (Rec B)) (r : Rec B) → IsKept p holder home
       → holder ≡ None → IsRecordIn tag p r → (r.finish ≢ None) → p ≡ phase.Ended
-  has_ended tag phase.Unborn holder home r h e f n = absurd (n f.0)
-  has_ended tag phase.Ready holder home r h e f n = absurd (n f.0)
   has_ended tag phase.Running holder home r h e f n = absurd (none_some holder h.0 e h.1)
   has_ended tag phase.Ended holder home r h e f n = refl
   has_ended tag phase.Promise holder home r h e f n = absurd f
-  has_ended tag (phase.Waiting c way w) holder home r h e f n = absurd (n f.0)
+  has_ended tag p holder home r h e f n = absurd (n f.0)
 
   module _ {program : Program B} {cells : ℕ} {x : Contents B} (r : Law program cells x) (t : ℕ) (name : Name)
       (is : IsCell r.born t (to_task name)) (tagged : tag_in x t ≢ 0) (free : r.custody.holder t ≡ None) where

@@ -16,9 +16,8 @@ use Rattle.tj_body.specs.declared.point.PointStage.TheVariants as stage
 
 -- a task that hasn't ended owns its result, and then what it holds
 pub open_owned : (s : PointStage) (x : Name) (holds : List Name) → IsOpen s → owned_in s x holds ≡ x ∷ holds
-open_owned (stage.Answered a) x holds o = refl
-open_owned (stage.Waits q spare) x holds o = refl
 open_owned (stage.Closed e) x holds o = absurd o
+open_owned s x holds o = refl
 
 -- of lists that agree element by element, what stands beside an element of either
 pub beside : {A C : Type 0} (F : A → C → Type 0) (xs : List A) (ys : List C) → ArePairs F xs ys → (x : A) → IsIn x xs

@@ -5,9 +5,10 @@ use Rattle.tj_park.proofs.Prelude.{HasBroken, HasNoRecord, HasSeen, HasWoken, Ho
 use Rattle.tj_park.proofs.Prelude.{KnowsMore, List, MayBreak, MayCloseResult, MayFinish, MayWake, None, OrderedHasSame}
 use Rattle.tj_park.proofs.Prelude.{Program, Rec, SeatMe, SlotsOf, Some, ToldBy, View, WritesBecome, [], ap, arith}
 use Rattle.tj_park.proofs.Prelude.{backing_idle, became, begins_self, cell, drop, ended_record, finish_cells, gave_up}
-use Rattle.tj_park.proofs.Prelude.{in_either, in_left, in_right, inl, inr, inside, length, let_go, map, more_same}
-use Rattle.tj_park.proofs.Prelude.{numbers, record_cells, refl, rest, subst, sym, tail_on, take, to_task, with_tokens}
-use Rattle.tj_park.proofs.Prelude.{without, without_due, ℕ, ⊎_elim, ◌+◌, ◌-◌, ◌<◌, ◌∙◌, ◌∷◌, ◌≡◌, ◌≢◌, ◌≤◌, ◌⊎◌}
+use Rattle.tj_park.proofs.Prelude.{in_either, in_left, in_right, inl, inr, inside, length, let_go, map, more_in_front}
+use Rattle.tj_park.proofs.Prelude.{more_on, more_same, numbers, record_cells, refl, rest, subst, sym, tail_on, take}
+use Rattle.tj_park.proofs.Prelude.{to_task, with_tokens, without, without_due, ℕ, ⊎_elim, ◌+◌, ◌-◌, ◌<◌, ◌∙◌, ◌∷◌, ◌≡◌}
+use Rattle.tj_park.proofs.Prelude.{◌≢◌, ◌≤◌, ◌⊎◌}
 use Rattle.std.proofs.lemmas.List.{take_rest}
 use Rattle.tj_words.specs.declared.record.Held.{Held}
 use Rattle.tj_words.specs.Calls.LiveViews.{MayEnd, MayLowerLive, Shelves, ended, lowered_with}
@@ -189,18 +190,7 @@ module _ {B : Type 0} (program : Bool → B → Program B) (t : ℕ) (r : Rec B)
       ended_is m3 m4 a b = b ∙ ap (λ (m : SeatMe B). (ended t m.0, rest m.1)) a
 
       ended_more : KnowsMore v1 (ended t closed)
-      ended_more = record {
-        about = refl;
-        lot = refl;
-        born = begins_self v1.born;
-        known = λ x i. i;
-        wrote = λ x i. inr i;
-        filled = λ x i. inr i;
-        seen = λ x i. i;
-        closed = λ x i. i;
-        rested = λ q. q;
-        notes = ([], refl);
-      }
+      ended_more = more_in_front v1 (ended t closed) [] (_ ∷ []) (_ ∷ []) [] [] (begins_self v1.born) ([], refl)
 
       -- the seat knows what it knew, and has noted nothing
       pub ended_unnoted : (m4 : SeatMe B) → m4 ≡ (ended t closed, slots) → HasNotedNothing v1 m4.0
@@ -271,19 +261,9 @@ module _ {B : Type 0} (program : Bool → B → Program B) (t : ℕ) (r : Rec B)
         })
 
         knows_last : KnowsMore v last
-        knows_last = record {
-          about = h.knows.about;
-          lot = h.knows.lot;
-          born = h.knows.born;
-          known = h.knows.known;
-          wrote = λ x i. inr (h.knows.wrote x i);
-          filled = λ x i. inr (h.knows.filled x i);
-          seen = h.knows.seen;
-          closed = λ x i. inr (h.knows.closed x i);
-          rested = h.knows.rested;
-          notes = tail_on v.notes v1.notes v5.notes h.knows.notes
-              (noted_tail t chain [] (ended t closed) v1.notes v5.notes woke.noted);
-        }
+        knows_last = more_on v v1 last h.knows
+            (more_in_front v1 last [] (_ ∷ []) (_ ∷ []) [] (t ∷ []) (begins_self v1.born)
+            (noted_tail t chain [] (ended t closed) v1.notes v5.notes woke.noted))
 
         finished_last : HasFinished t r v last
         finished_last = record {

@@ -1,8 +1,8 @@
 -- A task is added to a chain: how the loads of the head and the pushes that fail go on.
 use Rattle.tj_park.proofs.Prelude.{Bool, HasFoundChains, Head, IsAdded, IsIn, List, LooksOn, None, Option, Program}
-use Rattle.tj_park.proofs.Prelude.{Some, View, Way, [], ap, arith, cond, eq-eqb, false, head_of, head_word, inl, inr}
-use Rattle.tj_park.proofs.Prelude.{join_steps, length, more_on, more_same, push_behind, refl, subst, suc, sym}
-use Rattle.tj_park.proofs.Prelude.{without_push, ℕ, ◌*◌, ◌++◌, ◌+◌, ◌-◌, ◌<◌, ◌∙◌, ◌∷◌, ◌≡◌, ◌≢◌, ◌≤◌}
+use Rattle.tj_park.proofs.Prelude.{Some, View, Way, [], ap, arith, cond, eq-eqb, false, head_of, head_word, inl}
+use Rattle.tj_park.proofs.Prelude.{join_steps, length, more_in_front, more_on, more_same, push_behind, refl, subst, suc}
+use Rattle.tj_park.proofs.Prelude.{sym, without_push, ℕ, ◌*◌, ◌++◌, ◌+◌, ◌-◌, ◌<◌, ◌∙◌, ◌∷◌, ◌≡◌, ◌≢◌, ◌≤◌}
 use Rattle.tj_words.specs.declared.view.Found.{Found}
 use Rattle.tj_words.specs.declared.view.Push.{Push}
 use Rattle.tj_words.specs.Calls.ChainSteps.{HasPush, HasPushBehind, KnowsEntry, pushed, stored_next, with_next}
@@ -15,6 +15,7 @@ use Rattle.tj_words.specs.Words.Offsets.{head_at}
 use Rattle.tj_park.specs.Inner.JoinViews.{last_found, pushes_left}
 use Rattle.tj_park.proofs.PushRooms.{found_room}
 use Rattle.tj_words.specs.declared.head.Head.TheVariants as head
+use Rattle.tj_words.specs.SeatViews.Views.{found_shut}
 
 -- the sums of steps and of pushes
 shut_cost : (s v c : ℕ) → s ≡ suc v → s + 2 * 0 ≤ v + (2 * c + 3)
@@ -56,9 +57,8 @@ fewer_found n last old b cells a e l q = omega arith
 -- how many pushes are left after the last chain that was found
 left_open : (cells : ℕ) (behind : Head) (fs : List Found) → behind ≢ head.Shut
     → pushes_left cells behind fs ≡ suc (cells - length (last_found fs))
-left_open cells head.Empty fs n = refl
-left_open cells (head.Task t) fs n = refl
 left_open cells head.Shut fs n = absurd (n refl)
+left_open cells behind fs n = refl
 
 -- the cells that are closed, where the head of q was found like this
 abbrev pub closed_with : ℕ → Head → List ℕ → List ℕ
@@ -67,9 +67,8 @@ closed_with q (head.Task t) closed = closed
 closed_with q head.Shut closed = q ∷ closed
 
 closed_open : (q : ℕ) (h : Head) (closed : List ℕ) → h ≢ head.Shut → closed_with q h closed ≡ closed
-closed_open q head.Empty closed n = refl
-closed_open q (head.Task t) closed n = refl
 closed_open q head.Shut closed n = absurd (n refl)
+closed_open q h closed n = refl
 
 -- a chain that has another head is longer
 longer : (h h' : Head) (xs ys more : List ℕ) → h ≡ head_of xs → h' ≡ head_of ys → ys ≡ more ++ xs → h' ≢ h
@@ -137,18 +136,7 @@ module _ {B : Type 0} where
       × (z.found ≡ v.found) × (z.closed ≡ q ∷ v.closed))
       (sym f.view) (
         record {
-          knows = record {
-            about = refl;
-            lot = refl;
-            born = f.begins;
-            known = λ x i. i;
-            wrote = λ x i. i;
-            filled = λ x i. inr i;
-            seen = λ x i. i;
-            closed = λ x i. inr i;
-            rested = λ e. e;
-            notes = ([], refl);
-          };
+          knows = more_in_front v (found_shut q f.born f.entry v) [] [] (_ ∷ []) [] (q ∷ []) f.begins ([], refl);
           all = λ _. f.all;
           hand = record { hand = refl; dues = refl };
           counts = record { tokens = refl; cleared = refl; refused = refl };
@@ -218,27 +206,12 @@ module _ {B : Type 0} where
       fewer = λ a e c. omega arith;
       closed = f.5;
     }
-    joining_first filled head.Empty v w e s o = let f = o (λ z. cc) in
-        let l = chain_looks cells q head.Empty v w f in record {
+    joining_first filled h v w e s o = let f = o (λ z. cc) in
+        let l = chain_looks cells q h v w f in record {
           looks = l.0;
           next = None;
           pushes = l.2 ∙ e;
-          open_at = λ _. open_is cells q head.Empty v w f;
-          shut_at = λ z. absurd (cc);
-          cost = first_cost w.steps v.steps cells (length (last_found w.found)) l.3;
-          chains = record { cell = q; chain = f.chain } ∷ [];
-          found = l.1;
-          few = omega arith;
-          most = omega arith;
-          fewer = λ a e c. filled;
-          closed = l.4;
-        }
-    joining_first filled (head.Task u) v w e s o = let f = o (λ z. cc) in
-        let l = chain_looks cells q (head.Task u) v w f in record {
-          looks = l.0;
-          next = None;
-          pushes = l.2 ∙ e;
-          open_at = λ _. open_is cells q (head.Task u) v w f;
+          open_at = λ _. open_is cells q h v w f;
           shut_at = λ z. absurd (cc);
           cost = first_cost w.steps v.steps cells (length (last_found w.found)) l.3;
           chains = record { cell = q; chain = f.chain } ∷ [];

@@ -16,3 +16,4 @@ pub mod OwedRecords
 pub mod NothingToCome
 pub mod Prelude
 pub mod EndRuns
+mod OwnedCells

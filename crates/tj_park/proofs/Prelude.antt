@@ -18,7 +18,7 @@ pub use Rattle.tj_body.specs.declared.point.Close.{Close}
 pub use Rattle.tj_body.specs.declared.point.Entry.{Entry}
 pub use Rattle.tj_body.specs.declared.point.Point.{Point}
 pub use Rattle.tj_body.specs.declared.point.Reference.{Reference}
-pub use Rattle.tj_cells.proofs.SameViews.{more_same}
+pub use Rattle.tj_cells.proofs.SameViews.{more_in_front, more_same}
 pub use Rattle.tj_cells.specs.FilledCells.{MayFill, MayGiveUp, WillBecome, became}
 pub use Rattle.tj_cells.specs.MadeCells.{IsMade, makes_promise}
 pub use Rattle.tj_events.specs.Events.{raised_by_way}

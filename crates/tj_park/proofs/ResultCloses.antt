@@ -9,11 +9,11 @@ use Rattle.tj_park.specs.Inner.Closings.{ClosesResult, MayCloseResult}
 use Rattle.tj_body.specs.declared.point.Entry.TheVariants as entry
 use Rattle.tj_words.specs.declared.record.Fill.TheVariants as fill
 use Rattle.tj_words.specs.declared.record.Finish.TheVariants as ends
+use Rattle.tj_park.proofs.OwnedCells.{owner_still}
 
 named_cells : (x : Fill) (c : ℕ) → IsIn c (cells_named x) → IsIn c (fill_cells x)
 named_cells (fill.Num i) c h = h
-named_cells (fill.Promise p) c h = h
-named_cells (fill.Task p) c h = h
+named_cells x c h = h
 
 -- who failed hasn't ended well
 pub failed_not_done : (o : Option Finish) (h : Hurt) → o ≡ Some (ends.Failed h) → (x : Fill)
@@ -27,14 +27,7 @@ module _ {B : Type 0} (program : Bool → B → Program B) (t : ℕ) (o : Option
   may_close_last = (
     record {
       task = t;
-      owner = record {
-        custody = m.owns.custody;
-        held = m.owns.held;
-        may = m.owns.runs;
-        out = m.owns.out;
-        result = subst (IsIn t) (sym m.owns.owned) (inl refl);
-        owns = subst (IsIn t) (sym m.owns.owned) (inl refl);
-      };
+      owner = owner_still m.owns (inl refl);
       last = λ e. (m.owns.owned, m.no_hand);
     },
     refl,

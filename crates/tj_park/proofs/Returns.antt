@@ -1,7 +1,8 @@
 -- A task that its seat had parked is taken back.
 use Rattle.tj_park.proofs.Prelude.{Bool, Err, HasSlot, None, Ok, OnOk, Phase, Program, Rec, SeatMe, Some, TakesBack}
-use Rattle.tj_park.proofs.Prelude.{View, Way, [], ap, in_right, one_some, parked_phase, raised_by_way, record_cells}
-use Rattle.tj_park.proofs.Prelude.{refl, rest, suc, sym, took_record, true, ℕ, ◌+◌, ◌-◌, ◌<◌, ◌∙◌, ◌∷◌, ◌≡◌, ◌≢◌, ◌≤◌}
+use Rattle.tj_park.proofs.Prelude.{View, Way, [], ap, more_in_front, one_some, parked_phase, raised_by_way}
+use Rattle.tj_park.proofs.Prelude.{record_cells, refl, rest, suc, sym, took_record, true, ℕ, ◌+◌, ◌-◌, ◌<◌, ◌∙◌, ◌∷◌}
+use Rattle.tj_park.proofs.Prelude.{◌≡◌, ◌≢◌, ◌≤◌}
 use Rattle.std.proofs.Common.{Option, Result, subst, arith, is_some, IfErr}
 use Rattle.tj_events.specs.declared.walk.Way.TheVariants.{Along, Other}
 use Rattle.tj_words.specs.Calls.ExchangeViews.{Swaps, GoesBack, missed, went_back}
@@ -42,18 +43,8 @@ module _ {B : Type 0} {program : Bool → B → Program B} {t q : ℕ} (way : Wa
     took : (n s : ℕ) → n ≡ m.0.cleared → s ≤ m.0.steps + 2
         → TakesBack program t q b.0 m.0 (record went { cleared = n; steps = s })
     took n s same few = record {
-      knows = record {
-        about = refl;
-        lot = refl;
-        born = b.1.begins;
-        known = λ x i. in_right x (record_cells b.0) m.0.known i;
-        wrote = λ x i. i;
-        filled = λ x i. in_right x b.1.more m.0.filled i;
-        seen = λ x i. i;
-        closed = λ x i. i;
-        rested = λ e. e;
-        notes = ([], refl);
-      };
+      knows = more_in_front m.0 (record went { cleared = n; steps = s }) (record_cells b.0) [] b.1.more [] [] b.1.begins
+          ([], refl);
       hand = record { hand = refl; dues = refl };
       tokens = refl;
       cleared = same;

@@ -1,7 +1,8 @@
 -- A seat takes a task out of its slot.
 use Rattle.tj_park.proofs.Prelude.{AreCells, Bool, Claimed, Filled, HasSlot, IfSome, IsIn, List, None, Option, Program}
 use Rattle.tj_park.proofs.Prelude.{Rec, SeatMe, SlotsOf, Some, View, [], ap, custody_of, held_in, hold, in_left}
-use Rattle.tj_park.proofs.Prelude.{in_right, record_cells, refl, rest, subst, sym, took_record, ℕ, ◌++◌, ◌∙◌, ◌∷◌, ◌≡◌}
+use Rattle.tj_park.proofs.Prelude.{more_in_front, record_cells, refl, rest, subst, sym, took_record, ℕ, ◌++◌, ◌∙◌, ◌∷◌}
+use Rattle.tj_park.proofs.Prelude.{◌≡◌}
 use Rattle.tj_words.specs.Calls.ExchangeViews.{Claims}
 use Rattle.tj_words.specs.Calls.TakenRecords.{TakesRecord, IsKnownRecord}
 use Rattle.tj_words.specs.SeatViews.Views.{stepped_on}
@@ -75,18 +76,7 @@ module _ {B : Type 0} where
       is = record {
         taken = has_taken program t m.0 c.0 k w m.0 refl refl refl refl refl;
         tasks = refl;
-        knows = record {
-          about = refl;
-          lot = refl;
-          born = k.begins;
-          known = λ x i. in_right x (record_cells c.0) m.0.known i;
-          wrote = λ x i. i;
-          filled = λ x i. in_right x k.more m.0.filled i;
-          seen = λ x i. i;
-          closed = λ x i. i;
-          rested = λ e. e;
-          notes = ([], refl);
-        };
+        knows = more_in_front m.0 w (record_cells c.0) [] k.more [] [] k.begins ([], refl);
         hand = record { hand = refl; dues = refl };
         wakes = record { pushes = refl; shuts = refl; rest = refl };
         counts = record { tokens = refl; cleared = refl; refused = refl };

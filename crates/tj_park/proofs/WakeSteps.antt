@@ -160,8 +160,8 @@ module _ {B : Type 0} where
   exchanged t p way m m' (Err q) ok err = parked_unready p way err.0
 
   -- the five steps, one after the other
-  module _ (program : Bool → B → Program B) (p t : ℕ) (me m1 m2 : SeatMe B) (next : Head) (was : Phase)
-      (may : MayWakeTasks me) (left : List ℕ) (rests : me.0.rest ≡ rest_of p (t ∷ left))
+  module _ {p t : ℕ} {me m1 m2 : SeatMe B} {next : Head} {was : Phase} (may : MayWakeTasks me) {left : List ℕ}
+      (rests : me.0.rest ≡ rest_of p (t ∷ left))
       (view1 : m1.0 ≡ noted_step (note.Next t) (head_word next) me.0) (slots1 : m1.1 ≡ me.1)
       (next_told : NextTold t next me.0) (view2 : m2.0 ≡ loaded_phase t was m1.0) (slots2 : m2.1 ≡ m1.1)
       (first_told : FirstTold t was m1.0) where
@@ -178,10 +178,10 @@ module _ {B : Type 0} where
     reads = pair_is m2 read me.1
         (reads_first p t left me.0 m1.0 m2.0 next was rests view1 parked.0 parked.1 behind view2) (slots2 ∙ slots1)
 
-    pub may_up : MayRaiseLive program m2
-    may_up = subst (λ m. MayRaiseLive program m) (sym reads) (may_raise p t left parked.0 me.0 me.1 may program)
+    pub may_up : {program : Bool → B → Program B} → MayRaiseLive program m2
+    may_up {program} = subst (λ m. MayRaiseLive program m) (sym reads) (may_raise p t left parked.0 me.0 me.1 may program)
 
-    module _ (m3 : SeatMe B) (raised : m3 ≡ live_raised m2) where
+    module _ {m3 : SeatMe B} (raised : m3 ≡ live_raised m2) where
       up : m3 ≡ (token_more read, me.1)
       up = raised ∙ (ap live_raised reads ∙ raised_plain read me.1 may.no_record)
 
@@ -190,7 +190,8 @@ module _ {B : Type 0} where
           (subst (λ q. MaySwap t q phase.Ready (token_more read)) (sym parked.1)
           (may_wake p t left parked.0 me.0 me.1 may))
 
-      module _ (m4 : SeatMe B) (r : Result ⊤ Phase) (ok : OnOk r (Swaps program t was phase.Ready m3 m4))
+      module _ (program : Bool → B → Program B) (m4 : SeatMe B) (r : Result ⊤ Phase)
+          (ok : OnOk r (Swaps program t was phase.Ready m3 m4))
           (err : IfErr r (λ q. (was ≡ phase.Ready) × (q ≢ was) × (m4 ≡ (missed t q m3.0, m3.1)))) where
         woke : m4 ≡ (woke_first parked.0 (token_more read), me.1)
         woke = let s = exchanged t p parked.0 m3 m4 r ok (subst (λ k. IfErr r (λ q. (k ≡ phase.Ready) × (q ≢ k)
@@ -205,14 +206,14 @@ module _ {B : Type 0} where
             (subst (λ q. counted_in q ≤ me.0.cleared + raised_by_way parked.0) (sym parked.1)
             (counted_then p t left parked.0 me.0 me.1 may))
 
-        pub wakes_first : (w : View B) → w ≡ lowered_for was w.steps m4.0 → (next ≡ head_of left)
+        pub wakes_first : {w : View B} → w ≡ lowered_for was w.steps m4.0 → (next ≡ head_of left)
             × ((way : Way) × (w ≡ record me.0 {
               steps = w.steps;
               plain_loads = suc me.0.plain_loads;
               rest = rest_of p left;
               notes = wake_notes p t way left me.0 ++ me.0.notes;
             }))
-        wakes_first w e = (
+        wakes_first {w} e = (
           behind,
           (
             parked.0,

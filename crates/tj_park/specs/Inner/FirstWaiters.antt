@@ -13,12 +13,8 @@ use Rattle.tj_park.specs.Wakes.{MayWakeTasks, wake_notes}
 
 -- how often OTHERS counts a task in this phase
 abbrev pub counted_in : Phase → ℕ
-counted_in phase.Unborn = 0
-counted_in phase.Ready = 0
-counted_in phase.Running = 0
-counted_in phase.Ended = 0
-counted_in phase.Promise = 0
 counted_in (phase.Waiting c way walk) = raised_by_way way
+counted_in _ = 0
 
 module _ {B : Type 0} where
   -- OTHERS was lowered for a wait that was cleared, as often as it was counted there; so many steps were made then

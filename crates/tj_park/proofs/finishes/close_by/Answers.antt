@@ -1,24 +1,18 @@
-use Rattle.tj_park.proofs.Prelude.{Some, ap, program_of}
+use Rattle.tj_park.proofs.Prelude.{Some, ap}
 use Rattle.tj_park.proofs.ResultCloses.{may_close_last, may_fill_last, may_break_last, failed_not_done}
 use Rattle.tj_park.proofs.finishes.close_by.Goals as goal
 
 pub fill-requires-clause-owner : goal.fill-requires-clause-owner
-fill-requires-clause-owner g c κs within =
-    may_close_last (program_of g.B.Body.places g.B.Body.awaits g.B.Body.left g.B.Body.asks g.B.Body.then) c.args.t.0
-    (Some c.args.f) c.args.seat.now.me.0 c.requires.may
+fill-requires-clause-owner g c κs within = may_close_last _ _ _ _ c.requires.may
 
 pub fill-requires-clause-value : goal.fill-requires-clause-value
 fill-requires-clause-value g c κs within =
-    may_fill_last (program_of g.B.Body.places g.B.Body.awaits g.B.Body.left g.B.Body.asks g.B.Body.then) c.args.t.0
-    (Some c.args.f) c.args.seat.now.me.0 c.requires.may c.in-Done.v (ap Some c.in-Done.is)
+    may_fill_last _ _ _ _ c.requires.may c.in-Done.v (ap Some c.in-Done.is)
 
 pub break_off-requires-clause-owner : goal.break_off-requires-clause-owner
-break_off-requires-clause-owner g c κs within =
-    may_close_last (program_of g.B.Body.places g.B.Body.awaits g.B.Body.left g.B.Body.asks g.B.Body.then) c.args.t.0
-    (Some c.args.f) c.args.seat.now.me.0 c.requires.may
+break_off-requires-clause-owner g c κs within = may_close_last _ _ _ _ c.requires.may
 
 pub break_off-requires-clause-broken : goal.break_off-requires-clause-broken
 break_off-requires-clause-broken g c κs within =
-    may_break_last (program_of g.B.Body.places g.B.Body.awaits g.B.Body.left g.B.Body.asks g.B.Body.then) c.args.t.0
-    (Some c.args.f) c.args.seat.now.me.0 c.requires.may
+    may_break_last _ _ _ _ c.requires.may
     (failed_not_done (Some c.args.f) c.in-Failed.field-0 (ap Some c.in-Failed.is))
