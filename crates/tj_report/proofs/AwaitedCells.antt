@@ -1,8 +1,7 @@
 -- What the records tell of tasks that wait: for which cell. A record of a task that has stopped tells something.
 use Rattle.tj_report.proofs.Prelude.{Answer, Finish, Held, IsEndBelow, IsFinishBelow, IsRecordBelow, List, Name, Rec}
 use Rattle.tj_report.proofs.Prelude.{Stopped, [], ap, ending_by, finished_by, in_order, map, name_in, option_map, refl}
-use Rattle.tj_report.proofs.Prelude.{some_is, sym, told_by, true, ℕ}
-use Rattle.tj_report.proofs.Prelude.{◌<◌, ◌∙◌, ◌∷◌, ◌≡◌}
+use Rattle.tj_report.proofs.Prelude.{some_is, sym, told_by, true, ℕ, ◌<◌, ◌∙◌, ◌∷◌, ◌≡◌}
 use Rattle.std.proofs.Common.{Bool, false, cond, ◌||◌, not, Option, Some, None, drop, subst}
 use Rattle.std.specs.Prelude.{slice_get, unwrap_or}
 use Rattle.tj_base.specs.declared.cell.CellId.{CellId}
@@ -33,71 +32,51 @@ module _ (ns : List Name) where
   pub wait_ending : (f : Option Finish) (a : Answer) (held : List Held) (d : CellId) → wait_by f a held ≡ Some d
       → ending_by ns f a held ≡ Some (ending.Waits (name_in ns d))
   wait_ending (Some f) a held d e = absurd (cc)
-  wait_ending None answer.Start held d e = absurd (cc)
   wait_ending None (answer.RefAt k) held d e = by (slice_get held k) e where
     by : (o : Option Held) → option_map (λ (h : Held). h.cell) o ≡ Some d
         → option_map (λ (h : Held). ending.Waits (name_in ns h.cell)) o ≡ Some (ending.Waits (name_in ns d))
     by None e = absurd (cc)
     by (Some h) e = ap (λ c. Some (ending.Waits (name_in ns c))) (some_is h.cell d e)
-  wait_ending None (answer.Local k) held d e = absurd (cc)
-  wait_ending None answer.Done held d e = absurd (cc)
-  wait_ending None (answer.Num i) held d e = absurd (cc)
-  wait_ending None answer.Lost held d e = absurd (cc)
+  wait_ending None a held d e = absurd (cc)
 
   -- and no other one
   pub no_wait : (f : Option Finish) (a : Answer) (held : List Held) (q : Name) → wait_by f a held ≡ None
       → ending_by ns f a held ≡ Some (ending.Waits q) → ⊥
   no_wait (Some f) a held q e w = never_waits ns f q (some_is (finished_by ns f) (ending.Waits q) w)
-  no_wait None answer.Start held q e w = absurd (cc)
   no_wait None (answer.RefAt k) held q e w = by (slice_get held k) e w where
     by : (o : Option Held) → option_map (λ (h : Held). h.cell) o ≡ None
         → option_map (λ (h : Held). ending.Waits (name_in ns h.cell)) o ≡ Some (ending.Waits q) → ⊥
     by None e w = absurd (cc)
     by (Some h) e w = absurd (cc)
-  no_wait None (answer.Local k) held q e w = absurd (cc)
-  no_wait None answer.Done held q e w = absurd (cc)
-  no_wait None (answer.Num i) held q e w = absurd (cc)
-  no_wait None answer.Lost held q e w = absurd (cc)
+  no_wait None a held q e w = absurd (cc)
 
   -- a task that has stopped has ended or waits
   pub stopped_ends : (n : ℕ) (f : Option Finish) (a : Answer) (held : List Held) → IsEndBelow n f a held
       → (e : Ending) × (ending_by ns f a held ≡ Some e)
   stopped_ends n (Some f) a held h = (finished_by ns f, refl)
-  stopped_ends n None answer.Start held h = absurd h
   stopped_ends n None (answer.RefAt k) held h =
       (ending.Waits (name_in ns h.0.cell), ap (option_map (λ (x : Held). ending.Waits (name_in ns x.cell))) h.1)
-  stopped_ends n None (answer.Local k) held h = absurd h
-  stopped_ends n None answer.Done held h = absurd h
-  stopped_ends n None (answer.Num i) held h = absurd h
-  stopped_ends n None answer.Lost held h = absurd h
+  stopped_ends n None a held h = absurd h
 
   -- what is troubled by its end
   trouble_by : (f : Option Finish) (a : Answer) (held : List Held) (owed : List CellId) (e : Ending)
       → ending_by ns f a held ≡ Some e → has_trouble f owed ≡ (is_undone e || not (is_nil owed))
   trouble_by (Some f) a held owed e h =
       ap (λ b. b || not (is_nil owed)) (undone ns f ∙ ap is_undone (some_is (finished_by ns f) e h))
-  trouble_by None answer.Start held owed e h = absurd (cc)
   trouble_by None (answer.RefAt k) held owed e h = by (slice_get held k) h where
     by : (o : Option Held) → option_map (λ (x : Held). ending.Waits (name_in ns x.cell)) o ≡ Some e
         → true ≡ (is_undone e || not (is_nil owed))
     by None w = absurd (cc)
     by (Some x) w = ap (λ z. is_undone z || not (is_nil owed)) (some_is (ending.Waits (name_in ns x.cell)) e w)
-  trouble_by None (answer.Local k) held owed e h = absurd (cc)
-  trouble_by None answer.Done held owed e h = absurd (cc)
-  trouble_by None (answer.Num i) held owed e h = absurd (cc)
-  trouble_by None answer.Lost held owed e h = absurd (cc)
+  trouble_by None a held owed e h = absurd (cc)
 
 -- the cell for which a task waits is among the first n
 pub awaited_below : (n : ℕ) (f : Option Finish) (a : Answer) (held : List Held) (d : CellId) → IsEndBelow n f a held
     → wait_by f a held ≡ Some d → IsBelow n d
 awaited_below n (Some f) a held d h e = absurd (cc)
-awaited_below n None answer.Start held d h e = absurd (cc)
 awaited_below n None (answer.RefAt k) held d h e =
     subst (IsBelow n) (some_is h.0.cell d (sym (ap (option_map (λ (x : Held). x.cell)) h.1) ∙ e)) h.2
-awaited_below n None (answer.Local k) held d h e = absurd (cc)
-awaited_below n None answer.Done held d h e = absurd (cc)
-awaited_below n None (answer.Num i) held d h e = absurd (cc)
-awaited_below n None answer.Lost held d h e = absurd (cc)
+awaited_below n None a held d h e = absurd (cc)
 
 -- so are the cells that an end names
 pub finish_below : (n : ℕ) (o : Option Finish) (a : Answer) (held : List Held) (f : Finish) → o ≡ Some f
@@ -108,13 +87,9 @@ finish_below n o a held f e h = subst (λ x. IsEndBelow n x a held) e h
 pub stopped_not : (n : ℕ) (f : Option Finish) (a : Answer) (held : List Held) → IsEndBelow n f a held → f ≡ None
     → wait_by f a held ≡ None → ⊥
 stopped_not n (Some f) a held h e w = absurd (cc)
-stopped_not n None answer.Start held h e w = h
 stopped_not n None (answer.RefAt k) held h e w =
     let z : Some h.0.cell ≡ None = sym (ap (option_map (λ (x : Held). x.cell)) h.1) ∙ w in absurd (cc)
-stopped_not n None (answer.Local k) held h e w = h
-stopped_not n None answer.Done held h e w = h
-stopped_not n None (answer.Num i) held h e w = h
-stopped_not n None answer.Lost held h e w = h
+stopped_not n None a held h e w = h
 
 -- the root is, too
 pub awaited_there : {B : Type 0} (n : ℕ) (o : Option (Rec B)) → 0 < n → ((r : Rec B) → o ≡ Some r → IsRecordBelow n r)

@@ -20,9 +20,8 @@ HoldsIn (stage.Waits q spare) hs = Unit {0}
 HoldsIn (stage.Closed e) hs = hs ≡ []
 
 held_owned : (s : PointStage) (x : Name) (hs : List Name) → HoldsIn s hs → hs ≡ drop 1 (owned_in s x hs)
-held_owned (stage.Answered a) x hs h = refl
-held_owned (stage.Waits q spare) x hs h = refl
 held_owned (stage.Closed e) x hs h = h
+held_owned s x hs h = refl
 
 module _ {B : Type 0} where
   abbrev Holds : Point B → Type 0

@@ -12,9 +12,8 @@ less x y Equal h l = let e : x ≡ y = h in absurd (omega arith)
 less x y Greater h l = let k : y < x = h in absurd (omega arith)
 
 equal : (x : ℕ) (r : Ordering) → MatchOrdering r (x < x) (x ≡ x) (x < x) → r ≡ Equal
-equal x Less h = let k : x < x = h in absurd (omega arith)
 equal x Equal h = refl
-equal x Greater h = let k : x < x = h in absurd (omega arith)
+equal x r h = let k : x < x = h in absurd (omega arith)
 
 -- a name comes before that of what it made
 pub before_child : (x : Name) (k : ℕ) → IsBefore x (x ++ k ∷ [])

@@ -56,9 +56,6 @@ module _ (born : List Reference) where
 
   hurt_says : (x : Hurt) (why : Cause) → HurtSays born x why
       → IsHurtBelow many x × (cause_by (names born) x ≡ why)
-  hurt_says hurt.Arith why h = (tt, sym h)
-  hurt_says hurt.Kind why h = (tt, sym h)
-  hurt_says hurt.Steps why h = (tt, sym h)
   hurt_says (hurt.Owner c) why h =
       let there = name_there born c.0 h.1.0 h.1.1 in
       (there.0, ap (λ q. cause.Owner q) (there.1 ∙ h.1.2) ∙ sym h.2)
@@ -68,6 +65,7 @@ module _ (born : List Reference) where
   hurt_says (hurt.Order c) why h =
       let there = name_there born c.0 h.1.0 h.1.1 in
       (there.0, ap (λ q. cause.Order q) (there.1 ∙ h.1.2) ∙ sym h.2)
+  hurt_says x why h = (tt, sym h)
 
   finish_says : (f : Finish) (e : Close) → FinishSays born f e
       → IsFinishBelow many f × (ending_of (stage.Closed e) ≡ Some (finished_by (names born) f))
@@ -100,10 +98,7 @@ module _ (born : List Reference) where
           ap (option_map (λ (x : Held). ending.Waits (name_in (names born) x.cell))) w.1
               ∙ ap (λ q. Some (ending.Waits q)) there.1 ∙ ap ending_of (sym h.1),
         )
-    stage_told None (answer.Local k) spare held hs h = absurd h
-    stage_told None answer.Done spare held hs h = absurd h
-    stage_told None (answer.Num i) spare held hs h = absurd h
-    stage_told None answer.Lost spare held hs h = absurd h
+    stage_told None a spare held hs h = absurd h
 
     abbrev told_as : Option Ending → Name → List ℤ → List Name → List Name → Option Stopped
     told_as o name prints owes holds = option_map

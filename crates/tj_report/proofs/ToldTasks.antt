@@ -1,11 +1,10 @@
 -- What is told of the tasks of closed records, slot by slot: it is told of the meaning's histories, in some order.
 use Rattle.tj_report.proofs.Prelude.{AreDistinct, AreRecordsOf, AreTold, AreToldInSomeOrder, AreWordsOf, IsCell, IsIn}
 use Rattle.tj_report.proofs.Prelude.{IsRecordBelow, List, None, Option, Point, PointStage, Program, Rec, Reference}
-use Rattle.tj_report.proofs.Prelude.{RestCell, Some, Stopped, TellsHistory, [], ap, arith, ending_of, get_or, history}
-use Rattle.tj_report.proofs.Prelude.{in_either, in_left, in_map, in_right, inl, inr, length, map, meaning}
-use Rattle.tj_report.proofs.Prelude.{meaning_distinct, names, refl, some-injective, some_is, stopped_of, subst, suc}
-use Rattle.tj_report.proofs.Prelude.{sym, tasks, to_task, told_by, zero, ℕ, ◌++◌, ◌+◌, ◌<◌, ◌∙◌, ◌∷◌, ◌≡◌, ◌≤◌, ◌⊎◌}
-use Rattle.tj_body.proofs.Counts.{is}
+use Rattle.tj_report.proofs.Prelude.{RestCell, Some, Stopped, TellsHistory, [], ap, arith, ending_of, get_or, in_either}
+use Rattle.tj_report.proofs.Prelude.{in_left, in_map, in_right, inl, inr, length, map, meaning, meaning_distinct, names}
+use Rattle.tj_report.proofs.Prelude.{refl, some-injective, some_is, stopped_of, subst, suc, sym, tasks, to_task}
+use Rattle.tj_report.proofs.Prelude.{told_by, zero, ℕ, ◌++◌, ◌+◌, ◌<◌, ◌∙◌, ◌∷◌, ◌≡◌, ◌≤◌, ◌⊎◌}
 use Rattle.tj_words.specs.AtRest.RestMeaning.{IsPhaseAt}
 use Rattle.tj_words.specs.declared.phase.Phase.{Phase}
 use Rattle.tj_report.proofs.CellIndexes.{name_of, within, cells_apart, elem_of_get, get_of_elem}
@@ -37,9 +36,8 @@ split (suc d) (suc c) l = by (split d c (omega arith)) where
 
 stops : (born : List Reference) (st : PointStage) (ph : Phase) → IsPhaseAt born st ph → ending_of st ≡ None → ⊥
 stops born (stage.Answered a) ph h e = h
-stops born (stage.Waits q spare) ph h e = absurd (cc)
 stops born (stage.Closed (close.Done v)) ph h e = absurd (cc)
-stops born (stage.Closed (close.Failed c)) ph h e = absurd (cc)
+stops born st ph h e = absurd (cc)
 
 module _ {B : Type 0} (program : Program B) (N : ℕ) where
   module _ (records : List (Option (Rec B))) (born : List Reference) where

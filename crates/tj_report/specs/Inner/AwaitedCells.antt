@@ -21,12 +21,8 @@ held_at held k = option_map (λ (h : Held). h.cell) (slice_get held k)
 
 -- the cell at the place that is the answer, in a task that hasn't ended
 abbrev pub wait_in : Answer → List Held → Option CellId
-wait_in answer.Start held = None
 wait_in (answer.RefAt k) held = held_at held k
-wait_in (answer.Local k) held = None
-wait_in answer.Done held = None
-wait_in (answer.Num i) held = None
-wait_in answer.Lost held = None
+wait_in _ held = None
 
 -- the cell for which a task waits, if it does
 abbrev pub wait_by : Option Finish → Answer → List Held → Option CellId

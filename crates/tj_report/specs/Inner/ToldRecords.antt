@@ -10,7 +10,6 @@ use Rattle.tj_base.specs.declared.value.Shown.TheVariants as shown
 use Rattle.tj_body.specs.Names.{in_order}
 use Rattle.tj_body.specs.declared.ask.Answer.{Answer}
 use Rattle.tj_body.specs.declared.ask.Answer.TheVariants as answer
-use Rattle.tj_body.specs.declared.point.Point.{Point}
 use Rattle.tj_mean.specs.declared.outcome.Ending.{Ending}
 use Rattle.tj_mean.specs.declared.outcome.Ending.TheVariants as ending
 use Rattle.tj_mean.specs.declared.stopped.Stopped.{Stopped}
@@ -48,12 +47,8 @@ module _ (ns : List Name) where
   -- what became of a task: it ended, or waits for the cell at the place that its answer is; nothing where it goes on
   abbrev pub ending_by : Option Finish → Answer → List Held → Option Ending
   ending_by (Some f) a held = Some (finished_by f)
-  ending_by None answer.Start held = None
   ending_by None (answer.RefAt k) held = option_map (λ (h : Held). ending.Waits (name_in ns h.cell)) (slice_get held k)
-  ending_by None (answer.Local k) held = None
-  ending_by None answer.Done held = None
-  ending_by None (answer.Num i) held = None
-  ending_by None answer.Lost held = None
+  ending_by None _ held = None
 
   module _ {B : Type 0} where
     -- what is told of the task with this record; the first cell that it owns is its result
