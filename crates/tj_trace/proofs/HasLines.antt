@@ -1,5 +1,5 @@
 -- Each line of a trace is that of a task's history, and each task has one.
-use Rattle.std.proofs.Common.{◌≡◌, ℕ, Bool, List, [], ◌∷◌, map, Option, Some, None, refl, sym, ap, ◌∙◌, subst}
+use Rattle.std.proofs.Common.{◌≡◌, ℕ, Bool, List, Option, Some, None, refl, sym, ap, ◌∙◌, subst}
 use Rattle.std.specs.Option.{option_map}
 use Rattle.tj_body.specs.Points.{IsIn}
 use Rattle.tj_body.specs.Programs.{Rules, rules_of}
@@ -47,8 +47,7 @@ line_is p l = by (ending_of p.stage) where
 -- the notes of a task that has stopped
 pub notes_of_ended : (z : PointStage) (e : Ending) (x : Logged) → ending_of z ≡ Some e → notes_at z x ≡ x.makers
 notes_of_ended (stage.Answered a) e x h = absurd (not_none e h)
-notes_of_ended (stage.Waits q spare) e x h = refl
-notes_of_ended (stage.Closed c) e x h = refl
+notes_of_ended z e x h = refl
 
 module _ (strict : Bool) (root : PlacedState) (N : ℕ) where
   abbrev rules : Rules Logged

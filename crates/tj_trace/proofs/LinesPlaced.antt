@@ -1,6 +1,5 @@
 -- The numbers that lines tell have positions in their script.
-use Rattle.std.proofs.Common.{◌≡◌, ℕ, Bool, List, Some, inl, inr}
-use Rattle.std.specs.Prelude.{slice_get}
+use Rattle.std.proofs.Common.{ℕ, Bool, List, inl, inr}
 use Rattle.tj_lex.specs.declared.token.Token.{Token}
 use Rattle.tj_syntax.specs.Grammar.{IsProgram}
 use Rattle.tj_syntax.specs.Marks.{Noted}
@@ -10,7 +9,7 @@ use Rattle.tj_syntax.specs.Trees.{Statement, Task}
 use Rattle.tj_eval.specs.Stands.{PlacedState}
 use Rattle.tj_mean.specs.declared.outcome.Ending.{Ending}
 use Rattle.tj_mean.specs.declared.outcome.Ending.TheVariants as ending
-use Rattle.tj_trace.specs.RightLines.{IsStatementAt, IsBraceAt, StandsWhere}
+use Rattle.tj_trace.specs.RightLines.{IsStatementAt, StandsWhere}
 use Rattle.tj_trace.specs.SpotLaws.{HasPlace, LinesHavePlaces}
 use Rattle.tj_trace.proofs.LinesRight.{lines_are_right}
 use Rattle.tj_trace.proofs.SpotsThere.{spots_are_there}
@@ -25,8 +24,7 @@ module _ (tokens : List Token) (notes : List Noted) (script : List Task) (derive
   end_placed decl at (ending.Done v) (inl s) = statement_placed decl at s.0 s.1
   end_placed decl at (ending.Done v) (inr b) =
       let h = (spots_are_there tokens notes script derived decl at).1 b.0 in (_, h.spot)
-  end_placed decl at (ending.Failed c) s = statement_placed decl at s.0 s.1
-  end_placed decl at (ending.Waits q) s = statement_placed decl at s.0 s.1
+  end_placed decl at e s = statement_placed decl at s.0 s.1
 
 -- the law
 pub lines_have_places : (strict : Bool) (root : PlacedState) → LinesHavePlaces strict root

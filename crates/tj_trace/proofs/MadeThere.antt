@@ -11,12 +11,12 @@ use Rattle.tj_base.specs.declared.cause.Cause.{Cause}
 use Rattle.tj_base.specs.declared.cause.Cause.TheVariants as cause
 use Rattle.tj_body.specs.Names.{has}
 use Rattle.tj_body.specs.Points.{IsIn}
-use Rattle.tj_body.specs.Programs.{Rules, Program, rules_of, root_task}
+use Rattle.tj_body.specs.Programs.{Rules, rules_of, root_task}
 use Rattle.tj_body.specs.History.{Assignment, after_new, after_try_fork, after_failure, after_write, after_set}
 use Rattle.tj_body.specs.History.{after_get, after_join, after_read, after_look, after_ask, after_stage, with_wait}
-use Rattle.tj_body.specs.History.{hand_all, reference, point_after, history}
+use Rattle.tj_body.specs.History.{hand_all, reference, point_after}
 use Rattle.tj_body.specs.Rounds.{given, tasks, last_round}
-use Rattle.tj_body.specs.SeenAs.{ask_as, task_as, point_as, AreSeenAs, IsSeenAs}
+use Rattle.tj_body.specs.SeenAs.{ask_as, task_as, point_as, AreSeenAs}
 use Rattle.tj_body.specs.declared.ask.Ask.{Ask}
 use Rattle.tj_body.specs.declared.ask.Ask.TheVariants as ask
 use Rattle.tj_body.specs.declared.point.Reference.{Reference}
@@ -32,13 +32,10 @@ use Rattle.tj_body.proofs.Lists.{in_map}
 use Rattle.tj_body.proofs.SeenAs.{histories_seen, rounds_seen}
 use Rattle.tj_body.proofs.Rounds.Rises.{one_of_all}
 use Rattle.tj_eval.specs.Stands.{PlacedState, placed_places, placed_awaits, placed_left, placed_asks, placed_then}
-use Rattle.tj_mean.specs.Outcomes.{ending_of}
 use Rattle.tj_trace.specs.Logs.{Logged, logged, made_by, maker_here, logged_places, logged_awaits, logged_left}
 use Rattle.tj_trace.specs.Logs.{logged_asks, logged_then, logged_program}
 use Rattle.tj_trace.specs.MadeAt.{placed_program, made_here, made_between, made_until, IsLineOf, LinesAreOfStands}
-use Rattle.tj_trace.specs.Traces.{AreTraced, line_of}
 use Rattle.tj_trace.specs.declared.line.Maker.{Maker}
-use Rattle.tj_trace.specs.declared.line.TraceLine.{TraceLine}
 use Rattle.tj_trace.proofs.Noted.{family_fresh, notes_at}
 use Rattle.tj_trace.proofs.HasLines.{HasLine, of_line, line_name, line_makers, line_stand}
 
@@ -48,15 +45,7 @@ place x = x.placed
 
 place_ask : (q : Ask PlacedState) → q ≡ ask_as place (ask_as logged q)
 place_ask ask.New = refl
-place_ask (ask.Fork b pass hand) = refl
-place_ask (ask.Set k v) = refl
-place_ask (ask.Get k) = refl
-place_ask (ask.Join k) = refl
-place_ask (ask.GetOr k) = refl
-place_ask (ask.JoinOr k) = refl
-place_ask (ask.Emit i) = refl
-place_ask (ask.End v) = refl
-place_ask (ask.Fail t) = refl
+place_ask q = refl
 
 placed_seen : (strict : Bool) → AreSeenAs place
     (rules_of logged_places logged_awaits logged_left logged_asks logged_then strict)

@@ -1,7 +1,7 @@
 -- What a task made is what its notes tell, step by step.
 use Rattle.std.proofs.Common.{◌≡◌, ℕ, zero, suc, ◌+◌, ◌*◌, Bool, true, false, cond, List, [], ◌∷◌, ◌++◌, map, length}
-use Rattle.std.proofs.Common.{Option, Some, None, Result, Ok, Err, refl, sym, ap, ◌∙◌, subst, arith, not, ◌&&◌}
-use Rattle.std.proofs.Common.{inl, inr, ⊎_elim, append-nil}
+use Rattle.std.proofs.Common.{Option, Some, None, Result, Ok, Err, refl, sym, ap, ◌∙◌, subst, arith, not, ◌&&◌, inl}
+use Rattle.std.proofs.Common.{inr, ⊎_elim, append-nil}
 use Rattle.std.proofs.lemmas.List.{length-append, map-append}
 use Rattle.std.specs.List.{flat_map}
 use Rattle.std.specs.Option.{option_map}
@@ -175,9 +175,7 @@ ask_noted strict (ask.Get k) p e h = get_noted false (reference p k).sort (refer
 ask_noted strict (ask.Join k) p e h = join_noted strict false (reference p k).sort (reference p k).name p h
 ask_noted strict (ask.GetOr k) p e h = get_noted true (reference p k).sort (reference p k).name p h
 ask_noted strict (ask.JoinOr k) p e h = join_noted strict true (reference p k).sort (reference p k).name p h
-ask_noted strict (ask.Emit i) p e h = record { made = h.made; children = h.children }
-ask_noted strict (ask.End v) p e h = record { made = h.made; children = h.children }
-ask_noted strict (ask.Fail t) p e h = record { made = h.made; children = h.children }
+ask_noted strict a p e h = record { made = h.made; children = h.children }
 
 look_noted : (spare : Bool) (q : Name) (o : Option Entry) (p : Point Logged) → p.stage ≡ stage.Waits q spare
     → IsWhole p → IsWhole (after_look spare q o p)
@@ -269,9 +267,8 @@ line_noted : (p : Point Logged) (l : TraceLine) (z : PointStage) → line_at p z
     → AreNoted p.name (notes_at z p.body) p.made p.promises p.children
     → AreNoted l.line.name l.makers p.made p.promises p.children
 line_noted p l (stage.Answered a) e h = absurd (not_none l e)
-line_noted p l (stage.Waits q spare) e h = same_line p _ l e h
 line_noted p l (stage.Closed (close.Done v)) e h = same_line p _ l e h
-line_noted p l (stage.Closed (close.Failed c)) e h = same_line p _ l e h
+line_noted p l z e h = same_line p _ l e h
 
 -- the law
 pub notes_are_whole : (strict : Bool) (root : PlacedState) → NotesAreWhole strict root

@@ -1,7 +1,7 @@
 -- A cell has one owner at most where the tasks have stopped: what is owed is written, and nothing is owned or written
 -- twice.
-use Rattle.std.proofs.Common.{◌≡◌, ℕ, zero, suc, ◌+◌, ◌*◌, ◌≤◌, Bool, true, false, List, [], ◌∷◌, ◌++◌, map}
-use Rattle.std.proofs.Common.{Option, Some, None, refl, sym, ap, ◌∙◌, subst, inl, inr, arith}
+use Rattle.std.proofs.Common.{◌≡◌, ℕ, zero, suc, ◌*◌, ◌≤◌, Bool, true, false, ◌∷◌, map, Option, Some, None, refl, sym}
+use Rattle.std.proofs.Common.{ap, ◌∙◌, subst, inr, arith}
 use Rattle.tj_base.specs.ForkOrder.{Name}
 use Rattle.tj_base.specs.declared.cause.Cause.TheVariants as cause
 use Rattle.tj_body.specs.Names.{in_order}
@@ -21,7 +21,7 @@ use Rattle.tj_body.specs.declared.point.PointStage.{PointStage}
 use Rattle.tj_body.specs.declared.point.PointStage.TheVariants as stage
 use Rattle.tj_body.specs.declared.point.Task.{Task}
 use Rattle.tj_body.specs.declared.point.Point.{Point}
-use Rattle.tj_body.proofs.Counts.{times, times_of_in, total_one}
+use Rattle.tj_body.proofs.Counts.{times_of_in, total_one}
 use Rattle.tj_body.proofs.Histories.AskSteps.{is_ask_step}
 use Rattle.tj_body.proofs.Lists.{in_left, in_right, to_map}
 use Rattle.tj_body.proofs.Rounds.Families.{uses}
@@ -34,7 +34,7 @@ use Rattle.tj_trace.specs.Logs.{Logged, logged_places, logged_awaits, logged_lef
 use Rattle.tj_trace.specs.Logs.{logged_program}
 use Rattle.tj_trace.specs.Lookups.{kept_by, kept_with}
 use Rattle.tj_trace.specs.OneOwners.{OwnersAreOne}
-use Rattle.tj_trace.specs.Traces.{AreTraced, line_of}
+use Rattle.tj_trace.specs.Traces.{line_of}
 use Rattle.tj_trace.specs.declared.line.TraceLine.{TraceLine}
 use Rattle.tj_trace.proofs.HasLines.{not_none, some_is, ended_line, line_is, HasLine, of_line}
 
@@ -109,9 +109,8 @@ kept_used strict V t e q (stage.Closed c) s f i =
       ended : (c : Close) (e : Ending) → ending_of (stage.Closed c) ≡ Some e
           → let p = history (rules_of logged_places logged_awaits logged_left logged_asks logged_then strict) V t in
           IsIn q (kept_by (ended_line p e)) → IsIn q p.owed
-      ended c (ending.Done v) f i = i
-      ended c (ending.Failed d) f i = i
       ended c (ending.Waits x) f i = absurd (no_wait c x f)
+      ended c e f i = i
 
 -- the law
 pub owners_are_one : (strict : Bool) (root : PlacedState) → OwnersAreOne strict root

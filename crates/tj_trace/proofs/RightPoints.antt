@@ -1,7 +1,7 @@
 -- At each point of a task's history its notes, its children and the statement at which it stands are right.
-use Rattle.std.proofs.Common.{◌≡◌, ℕ, zero, suc, ◌+◌, ◌*◌, pos, Bool, true, false, cond, not, ◌&&◌, List, [], ◌∷◌, ◌++◌}
-use Rattle.std.proofs.Common.{map, length, Option, Some, None, Result, Ok, Err, refl, sym, ap, ◌∙◌, subst, arith}
-use Rattle.std.proofs.Common.{inl, inr, ⊎_elim, ◌⊎◌}
+use Rattle.std.proofs.Common.{◌≡◌, ℕ, zero, suc, ◌*◌, pos, Bool, true, false, cond, not, ◌&&◌, List, [], ◌∷◌, ◌++◌, map}
+use Rattle.std.proofs.Common.{length, Option, Some, None, Result, Ok, Err, refl, sym, ap, ◌∙◌, subst, arith, inl, inr}
+use Rattle.std.proofs.Common.{⊎_elim, ◌⊎◌}
 use Rattle.std.specs.Prelude.{slice_get}
 use Rattle.std.proofs.lemmas.List.{length-append}
 use Rattle.tj_base.specs.ForkOrder.{Name, child, before}
@@ -17,11 +17,10 @@ use Rattle.tj_body.specs.Names.{has, without}
 use Rattle.tj_body.specs.Points.{IsIn}
 use Rattle.tj_body.specs.Programs.{Rules, rules_of}
 use Rattle.tj_body.specs.History.{Assignment, after_new, after_try_fork, after_failure, after_end, after_write}
-use Rattle.tj_body.specs.History.{after_set}
-use Rattle.tj_body.specs.History.{after_get, after_join, after_read, after_look, after_ask, after_stage, with_wait}
-use Rattle.tj_body.specs.History.{cause_of, hand_all, hand_one, next_child, reference, point_after, history, value_at}
+use Rattle.tj_body.specs.History.{after_set, after_get, after_join, after_read, after_look, after_ask, after_stage}
+use Rattle.tj_body.specs.History.{with_wait, cause_of, hand_all, hand_one, next_child, reference, point_after, history}
+use Rattle.tj_body.specs.History.{value_at}
 use Rattle.tj_body.specs.SeenAs.{ask_as}
-use Rattle.tj_body.specs.declared.ask.Answer.{Answer}
 use Rattle.tj_body.specs.declared.ask.Answer.TheVariants as answer
 use Rattle.tj_body.specs.declared.ask.Ask.{Ask}
 use Rattle.tj_body.specs.declared.ask.Ask.TheVariants as ask
@@ -40,15 +39,15 @@ use Rattle.tj_syntax.specs.Trees as tree
 use Rattle.tj_syntax.specs.Trees.{Argument, Statement}
 use Rattle.tj_syntax.specs.Within.{within}
 use Rattle.tj_eval.specs.Bodies.{script_asks}
-use Rattle.tj_eval.specs.Stands.{PlacedState, Stand, StandsRight, AreNamed, placed, placed_asks, placed_then, all_ahead}
+use Rattle.tj_eval.specs.Stands.{PlacedState, StandsRight, AreNamed, placed, placed_then, all_ahead}
 use Rattle.tj_eval.specs.Statements.{TaskState, Due, start, place, cell, cell_or, done, over, answered}
 use Rattle.tj_eval.proofs.Stands.{ChildOf, all_named}
 use Rattle.tj_mean.proofs.Lists.Elements.{in_snoc}
-use Rattle.tj_trace.specs.Logs.{Logged, logged, made_by, maker_here, noted, logged_places, logged_awaits, logged_left}
+use Rattle.tj_trace.specs.Logs.{Logged, logged, made_by, maker_here, logged_places, logged_awaits, logged_left}
 use Rattle.tj_trace.specs.Logs.{logged_asks, logged_then}
 use Rattle.tj_trace.specs.RightLines.{IsGet, IsJoin, IsWait, IsFork, IsSet, IsReturn, MayFail, Makes}
 use Rattle.tj_trace.specs.declared.line.Maker.{Maker}
-use Rattle.tj_trace.proofs.Asked.{IsAskOf, IsThere, MayTake, Asked, is_asked, taken}
+use Rattle.tj_trace.proofs.Asked.{IsAskOf, IsThere, MayTake, is_asked}
 use Rattle.tj_trace.proofs.Noted.{notes_at}
 
 -- a task of the script that has noted nothing, and stands right
@@ -262,12 +261,9 @@ module _ (script : List tree.Task) (d : ℕ) (all : List Statement) where
       let s = at_statement (ask.Fork b pass hand) p tt h in
       failed c (ask.Fork b pass hand) p h (s.0, s.1, by s.0 c r (p.body.placed.stand.called, s.2.0, s.2.1)) where
         by : (s : Statement) (c : Cause) → IsRefusal (Err c) → IsFork (own_ask s) → MayFail c s
-        by s cause.Arith r f = absurd r
         by s cause.Kind r f = tt
-        by s cause.Steps r f = absurd r
         by s (cause.Owner q) r f = inr f
-        by s (cause.Broken q) r f = absurd r
-        by s (cause.Order q) r f = absurd r
+        by s c r f = absurd r
   made_task b pass hand passed handed (Ok left) p e r h =
       let z = p.body.placed.stand in
       let s = at_statement (ask.Fork b pass hand) p tt h in
@@ -325,8 +321,7 @@ module _ (script : List tree.Task) (d : ℕ) (all : List Statement) where
       let s = at_statement (ask.Fail t) p tt h in failed (cause_of t) (ask.Fail t) p h (s.0, s.1, by s.0 t) where
         by : (s : Statement) (t : Trouble) → MayFail (cause_of t) s
         by s trouble.Arith = tt
-        by s trouble.Kind = tt
-        by s trouble.Steps = tt
+        by s t = tt
 
   -- each ask
   right_ask : (strict : Bool) (q : Ask TaskState) (p : Point Logged)

@@ -33,14 +33,7 @@ erased x = x.placed.task
 abbrev pub made_by : {B : Type 0} → Ask B → Option Sort
 made_by ask.New = Some sort.Promise
 made_by (ask.Fork b pass hand) = Some sort.Task
-made_by (ask.Set k v) = None
-made_by (ask.Get k) = None
-made_by (ask.Join k) = None
-made_by (ask.GetOr k) = None
-made_by (ask.JoinOr k) = None
-made_by (ask.Emit i) = None
-made_by (ask.End v) = None
-made_by (ask.Fail t) = None
+made_by _ = None
 
 -- the statement at which a task stands that has asked for this
 abbrev pub maker_here : Option Sort → Stand → List Maker
@@ -49,12 +42,8 @@ maker_here (Some s) z = record { sort = s; decl = z.decl; at = z.at } ∷ []
 
 -- the notes once the answer is there: one more where it tells that something was made
 abbrev pub noted : Answer → Logged → List Maker
-noted answer.Start x = x.makers
 noted (answer.Local k) x = x.makers ++ maker_here x.due x.placed.stand
-noted answer.Done x = x.makers
-noted (answer.Num i) x = x.makers
-noted (answer.RefAt k) x = x.makers
-noted answer.Lost x = x.makers
+noted _ x = x.makers
 
 -- the members of a body
 abbrev pub logged_places : Logged → ℕ

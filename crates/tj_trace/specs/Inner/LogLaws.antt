@@ -11,19 +11,12 @@ use Rattle.tj_eval.specs.Statements.{TaskState}
 use Rattle.tj_eval.specs.Bodies.{script_places, script_awaits, script_left, script_asks, script_then}
 use Rattle.tj_eval.specs.Stands.{placed}
 use Rattle.tj_eval.specs.Inner.Laws.{script_obeys}
-use Rattle.tj_trace.specs.Logs.{Logged, logged, erased, logged_places, logged_awaits, logged_left, logged_asks, logged_then}
+use Rattle.tj_trace.specs.Logs.{Logged, logged, erased, logged_places, logged_awaits, logged_left, logged_asks}
+use Rattle.tj_trace.specs.Logs.{logged_then}
 
 erased_ask : (f : _) (q : Ask TaskState) → ask_as erased (ask_as logged (ask_as (placed f) q)) ≡ q
 erased_ask f ask.New = refl
-erased_ask f (ask.Fork b pass hand) = refl
-erased_ask f (ask.Set k v) = refl
-erased_ask f (ask.Get k) = refl
-erased_ask f (ask.Join k) = refl
-erased_ask f (ask.GetOr k) = refl
-erased_ask f (ask.JoinOr k) = refl
-erased_ask f (ask.Emit i) = refl
-erased_ask f (ask.End v) = refl
-erased_ask f (ask.Fail t) = refl
+erased_ask f q = refl
 
 -- tasks with notes are seen as the tasks that are there
 pub are_seen : (strict : Bool) → AreSeenAs erased
