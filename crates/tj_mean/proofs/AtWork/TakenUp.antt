@@ -28,6 +28,12 @@ has_ending V p (inl e) = subst (λ s. IsSome (ending_of s)) (sym e.1) (by e.0) w
   by (close.Failed c) = refl
 has_ending V p (inr w) = subst (λ s. IsSome (ending_of s)) (sym w.2) refl
 
+-- the tasks are at work afterwards, and fewer steps are left where the point has come nearer to its end
+abbrev pub GoesOn : {B : Type 0} → Program B → ℕ → Assignment → List (Point B) → ℕ → Assignment → List (Point B) → ℕ
+    → Type 0 → Type 0
+GoesOn program N E qs room F rest left nearer = IsAtWork program N F rest left
+    × (nearer → steps_left program.rules.left rest left < steps_left program.rules.left qs room)
+
 module _ {B : Type 0} (program : Program B) (obeys : AreLawful program.rules)
     (proper : IsProper program.rules (root_task program.root)) (N : ℕ) (E : Assignment) (qs : List (Point B)) (room : ℕ)
     (w : IsAtWork program N E qs room) (at : ℕ) (can : CanGoOn E qs at) where
@@ -93,12 +99,16 @@ module _ {B : Type 0} (program : Program B) (obeys : AreLawful program.rules)
             omega arith
 
         -- the tasks are at work
-        pub at_work : IsAtWork program N F rest ((a.made + room) - r1.made)
+        at_work : IsAtWork program N F rest ((a.made + room) - r1.made)
         at_work = goes_on program obeys proper N E qs room w at can.0 q here going r reached rest F
             ((a.made + room) - r1.made) rest_same enters_same few
 
         -- fewer steps are left
-        pub fewer_left : (¬ HasStopped E q → weight program.rules.left r < weight program.rules.left q)
+        fewer_left : (¬ HasStopped E q → weight program.rules.left r < weight program.rules.left q)
             → steps_left program.rules.left rest ((a.made + room) - r1.made) < steps_left program.rules.left qs room
         fewer_left l = falls program obeys proper N E qs room w at can.0 q here going r reached rest F
             ((a.made + room) - r1.made) rest_same enters_same few (l going)
+
+        pub goes_on_so : GoesOn program N E qs room F rest ((a.made + room) - r1.made)
+            (¬ HasStopped E q → weight program.rules.left r < weight program.rules.left q)
+        goes_on_so = (at_work, fewer_left)

@@ -20,7 +20,7 @@ use Rattle.tj_body.proofs.RoundPoints.{points_are_good, tasks_start, things_in_r
 use Rattle.tj_body.proofs.Rounds.Rests.{rests}
 use Rattle.tj_body.proofs.Rounds.Settles.{is_last}
 use Rattle.tj_mean.specs.Inner.Reached.{Reaches, Enters, emptied}
-use Rattle.tj_mean.specs.Inner.ToldOrder.{AreRestOf}
+use Rattle.tj_mean.specs.Inner.ToldOrder.{AreRestOf, AreEntriesOf}
 use Rattle.tj_mean.proofs.AtWork.CellCounts.{names_of, names_at, forked, made_by, cells_at, AreNamed, cells_length, full_at}
 use Rattle.tj_mean.proofs.AtWork.CellCounts.{names_distinct, name_there, promise_there, root_there, child_there}
 use Rattle.tj_mean.proofs.Lists.Elements.{in_get, get_in}
@@ -110,6 +110,12 @@ module _ {B : Type 0} (program : Program B) where
     pub stand : Stand E whole []
     pub written : AreWritten E whole
     pub counted : suc (made_by qs + room) ≡ N
+
+  -- where no task can go on the meaning isn't full, and the points and the entries are its own
+  pub record HasRested (N : ℕ) (E : Assignment) (qs : List (Point B)) : Type 0 where
+    pub fits : ¬ IsFull program N
+    pub rest : AreRestOf (meaning program N) qs
+    pub entries : AreEntriesOf program N E
 
   -- the root begins
   pub begins : (N : ℕ) (E : Assignment) (qs : List (Point B)) (room : ℕ) → ((q : Name) → E q ≡ None)
@@ -365,11 +371,11 @@ module _ {B : Type 0} (program : Program B) where
           N few_cells
 
       -- the meaning isn't full
-      pub fits : ¬ IsFull program N
+      fits : ¬ IsFull program N
       fits = result.0
 
       -- and the same is told of it
-      pub rest : AreRestOf (meaning program N) qs
+      rest : AreRestOf (meaning program N) qs
       rest = (
         w.whole,
         same_permuted (λ (x : Point B). x.name) (meaning program N) w.whole (meaning_distinct program N)
@@ -394,8 +400,11 @@ module _ {B : Type 0} (program : Program B) where
               (tasks program (last_round N)) r.1)
 
       -- the entries are those of its round and of the one before
-      pub last_entries : E ≡ given program (last_round N)
-      last_entries i q = result.1 q i
-
-      pub before_last : given program (2 * N) ≡ given program (last_round N)
+      before_last : given program (2 * N) ≡ given program (last_round N)
       before_last = sym (is_last program N fits).1
+
+      entries : AreEntriesOf program N E
+      entries = record { kept = (λ i q. result.1 q i) ∙ sym before_last; assigned = before_last }
+
+      pub at_the_end : HasRested N E qs
+      at_the_end = record { fits = fits; rest = rest; entries = entries }
