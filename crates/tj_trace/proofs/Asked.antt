@@ -1,5 +1,5 @@
 -- A task stands, at each of its asks, at a statement that can ask this.
-use Rattle.std.proofs.Common.{◌≡◌, ℕ, zero, suc, ◌+◌, ℤ, pos, Bool, true, false, List, [], ◌∷◌, ◌++◌, length, inl, inr}
+use Rattle.std.proofs.Common.{◌≡◌, ℕ, zero, suc, ◌+◌, pos, Bool, true, false, List, [], ◌∷◌, ◌++◌, length, inl, inr}
 use Rattle.std.proofs.Common.{refl, sym, ap, ◌∙◌, subst, ◌⊎◌}
 use Rattle.std.specs.Prelude.{Option, Some, None, Result, Ok, Err, slice_get, nat_eq, if◌then◌else◌}
 use Rattle.tj_base.specs.declared.cause.Trouble.{Trouble}
@@ -12,17 +12,17 @@ use Rattle.tj_body.specs.Asks.{new_places}
 use Rattle.tj_syntax.specs.Parts.{own_ask}
 use Rattle.tj_syntax.specs.Trees as tree
 use Rattle.tj_syntax.specs.Trees.{Statement, Task, Argument}
-use Rattle.tj_syntax.specs.Within.{inside, within}
+use Rattle.tj_syntax.specs.Within.{inside}
 use Rattle.tj_eval.specs.Bodies.{script_asks}
 use Rattle.tj_eval.specs.Expressions.{held}
-use Rattle.tj_eval.specs.Stands.{Stand, PlacedState, AreNamed, IsAt, callee, decided, placed_then}
-use Rattle.tj_eval.specs.Stands.{stand_after, stand_begun, stand_from, stand_of, stand_ask}
+use Rattle.tj_eval.specs.Stands.{Stand, PlacedState, AreNamed, IsAt, callee, placed_then, stand_after, stand_begun}
+use Rattle.tj_eval.specs.Stands.{stand_from, stand_of, stand_ask}
 use Rattle.tj_eval.specs.Statements.{TaskState, Effect, goes_on, asks, fails, begun, then_effect, Next, next_from}
-use Rattle.tj_eval.specs.Statements.{next_of, next_ask, ended, asked, forked, value_in, number, reference}
-use Rattle.tj_eval.specs.Statements.{arguments, reference_of, answered, next_after}
-use Rattle.tj_eval.proofs.Stands.{ChildOf, IsOn, IsRightEffect, IsRightNext, IsSameRest, right_begun, right_after}
-use Rattle.tj_eval.proofs.Stands.{rest_answered}
+use Rattle.tj_eval.specs.Statements.{next_of, next_ask, ended, asked, forked, value_in, number, reference, arguments}
+use Rattle.tj_eval.specs.Statements.{reference_of, answered, next_after}
+use Rattle.tj_eval.proofs.Stands.{ChildOf, IsRightEffect, IsSameRest, right_begun, right_after, rest_answered}
 use Rattle.tj_trace.specs.RightLines.{IsGet, IsJoin, IsSet, IsReturn}
+use Rattle.tj_eval.proofs.AskedAt.{at_begun}
 
 -- the statement can ask this, where it forks that declaration if it forks one
 abbrev pub IsAskOf : Statement → ℕ → Ask TaskState → Type 0
@@ -85,21 +85,6 @@ gives_begun t (tree.choose e body other) z =
     let s = tree.choose e body other in gives_then s (stand_begun t s z).called (number (value_in t e)) _ (λ n. tt)
 gives_begun t (tree.repeat e body) z =
     let s = tree.repeat e body in gives_then s (stand_begun t s z).called (number (value_in t e)) _ (λ n. tt)
-
-same_at : (c : Result ℤ Trouble) (go : ℤ → List ℕ) (z : Stand) → (decided c go z).at ≡ z.at
-same_at (Ok n) go z = refl
-same_at (Err fault) go z = refl
-
--- a statement that begins leaves the number at which the task stands
-at_begun : (t : TaskState) (s : Statement) (z : Stand) → (stand_begun t s z).at ≡ z.at
-at_begun t (tree.let_new x side) z = refl
-at_begun t (tree.assign x side) z = refl
-at_begun t (tree.ask q) z = refl
-at_begun t (tree.print e) z = refl
-at_begun t (tree.set_cell x e) z = refl
-at_begun t (tree.return e) z = refl
-at_begun t (tree.choose e body other) z = same_at (number (value_in t e)) _ z
-at_begun t (tree.repeat e body) z = same_at (number (value_in t e)) _ z
 
 -- a statement comes first of those within it
 inside_first : (s : Statement) → (more : List Statement) × (inside s ≡ s ∷ more)

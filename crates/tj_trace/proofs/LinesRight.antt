@@ -1,11 +1,9 @@
 -- The lines of a trace tell statements of the declarations that their tasks run.
-use Rattle.std.proofs.Common.{◌≡◌, ℕ, zero, suc, Bool, true, false, cond, List, [], ◌∷◌, map, length, Some}
-use Rattle.std.proofs.Common.{Option, None}
+use Rattle.std.proofs.Common.{◌≡◌, ℕ, zero, suc, Bool, true, false, cond, List, [], ◌∷◌, Some}
 use Rattle.std.proofs.Common.{refl, sym, ap, ◌∙◌, subst, inl, inr, ⊎_elim, ◌⊎◌, ◌≤◌, arith}
 use Rattle.std.specs.Prelude.{slice_get}
-use Rattle.std.specs.List.{AllByRecursion, find, flat_map}
+use Rattle.std.specs.List.{AllByRecursion, find}
 use Rattle.std.specs.List.Sorted.{IsStrictlySortedBy}
-use Rattle.std.specs.Option.{option_map}
 use Rattle.std.specs.Cmp.Lexicographic.{slice_cmp, texts_ties}
 use Rattle.std.specs.Ordering.{nat_cmp, is_eq}
 use Rattle.std.specs.declared.cmp.Ordering.TheVariants.{Less}
@@ -16,14 +14,14 @@ use Rattle.tj_body.specs.Names.{same}
 use Rattle.tj_body.specs.Points.{IsIn}
 use Rattle.tj_body.specs.Programs.{Rules, rules_of, root_task}
 use Rattle.tj_body.specs.History.{Assignment, history}
-use Rattle.tj_body.specs.Rounds.{family, given, tasks, last_round, meaning}
+use Rattle.tj_body.specs.Rounds.{family, given, tasks, last_round}
 use Rattle.tj_body.specs.declared.point.Close.TheVariants as close
 use Rattle.tj_body.specs.declared.point.PointStage.{PointStage}
 use Rattle.tj_body.specs.declared.point.PointStage.TheVariants as stage
 use Rattle.tj_body.specs.declared.point.Task.{Task}
 use Rattle.tj_body.specs.declared.point.Point.{Point}
 use Rattle.tj_body.proofs.Counts.{same_self}
-use Rattle.tj_body.proofs.Lists.{in_begins, in_map, to_map, in_flat_map, from_flat_map}
+use Rattle.tj_body.proofs.Lists.{in_begins, to_map, in_flat_map, from_flat_map}
 use Rattle.tj_body.proofs.Rounds.Families.{same_name}
 use Rattle.tj_body.proofs.Rounds.Rises.{grown, within as rounds_within}
 use Rattle.tj_syntax.specs.Trees as tree
@@ -32,16 +30,15 @@ use Rattle.tj_eval.specs.Stands.{PlacedState, StandsRight}
 use Rattle.tj_mean.specs.Outcomes.{Ascend, ending_of, shown_of}
 use Rattle.tj_mean.specs.declared.outcome.Ending.{Ending}
 use Rattle.tj_mean.specs.declared.outcome.Ending.TheVariants as ending
-use Rattle.tj_mean.proofs.Lists.NameOrder.{in_permuted, in_unpermuted}
 use Rattle.tj_trace.specs.Logs.{Logged, logged, logged_places, logged_awaits, logged_left, logged_asks, logged_then}
 use Rattle.tj_trace.specs.Logs.{logged_program}
 use Rattle.tj_trace.specs.Lookups.{made_by}
 use Rattle.tj_trace.specs.RightLines.{StandsWhere, IsMadeIn, IsRightLine, IsForkOf, LinesAreRight, LinesAreForked}
-use Rattle.tj_trace.specs.Traces.{AreTraced, line_with, line_of, names_of}
+use Rattle.tj_trace.specs.Traces.{AreTraced, line_of, names_of}
 use Rattle.tj_trace.specs.declared.line.Maker.{Maker}
 use Rattle.tj_trace.specs.declared.line.TraceLine.{TraceLine}
 use Rattle.tj_trace.proofs.Noted.{notes_at}
-use Rattle.tj_trace.proofs.HasLines.{not_none, some_is, ended_line, line_is, notes_of_ended, HasLine, of_line, to_line}
+use Rattle.tj_trace.proofs.HasLines.{not_none, some_is, line_is, notes_of_ended, HasLine, of_line, to_line}
 use Rattle.tj_trace.proofs.HasLines.{line_name, line_makers, line_stand}
 use Rattle.tj_trace.proofs.RightPoints.{IsNew, IsRightStage, IsRightPoint, right_history}
 

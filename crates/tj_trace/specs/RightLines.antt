@@ -7,7 +7,6 @@ use Rattle.tj_base.specs.declared.cause.Cause.{Cause}
 use Rattle.tj_base.specs.declared.cause.Cause.TheVariants as cause
 use Rattle.tj_base.specs.declared.cell.Sort.{Sort}
 use Rattle.tj_base.specs.declared.cell.Sort.TheVariants as sort
-use Rattle.tj_base.specs.declared.value.Shown.{Shown}
 use Rattle.tj_base.specs.declared.value.Shown.TheVariants as shown
 use Rattle.tj_body.specs.Names.{same}
 use Rattle.tj_body.specs.Points.{IsIn}

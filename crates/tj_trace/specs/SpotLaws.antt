@@ -1,5 +1,5 @@
 -- The law of positions: each number of a statement of a script has the position at which that statement begins.
-use Rattle.std.specs.Prelude.{◌≡◌, ℕ, Bool, List, [], ◌∷◌, map, slice_get, Option, Some, None}
+use Rattle.std.specs.Prelude.{◌≡◌, ℕ, Bool, List, [], ◌∷◌, map, slice_get, Some, None}
 use Rattle.std.specs.Option.{option_map}
 use Rattle.tj_body.specs.Points.{IsIn}
 use Rattle.tj_lex.specs.declared.place.Place.{Place}
