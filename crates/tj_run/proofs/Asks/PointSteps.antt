@@ -62,14 +62,12 @@ fill_at_says born x held references (pay.Ref k) h l = fill_says born (held_at he
 -- a fault of the body is the cause
 pub hurt_says : (born : List Reference) (t : Trouble) → HurtSays born (hurt_of t) (cause_of t)
 hurt_says born trouble.Arith = refl
-hurt_says born trouble.Kind = refl
-hurt_says born trouble.Steps = refl
+hurt_says born t = refl
 
 -- a fault of the body names no cell
 pub hurt_names : (t : Trouble) → hurt_cells (hurt_of t) ≡ []
 hurt_names trouble.Arith = refl
-hurt_names trouble.Kind = refl
-hurt_names trouble.Steps = refl
+hurt_names t = refl
 
 module _ {B : Type 0} (program : Program B) (v : View B) where
   -- a further point of the task, whose new children, promises and writes stand, stands

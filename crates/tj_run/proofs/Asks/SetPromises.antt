@@ -39,8 +39,7 @@ use Rattle.tj_run.specs.declared.next.Next.TheVariants as next
 -- the cell that a value names, as the words and as the records have it
 named_same : (f : Fill) → cells_named f ≡ fill_cells f
 named_same (fill.Num i) = refl
-named_same (fill.Promise c) = refl
-named_same (fill.Task c) = refl
+named_same f = refl
 
 module _ {B : Type 0} (program : Bool → B → Program B) (laid : Laid B) (r : Rec B) (k : ℕ) (y : Pay) (me : SeatMe B)
     (runs : RunsTask laid r me) (asked : IsAsked (table_program program laid) me.0 r (ask.Set k y))

@@ -46,10 +46,7 @@ module _ {B : Type 0} (program : Program B) (v : View B) (r : Rec B) (known : Is
   at_start : (a : Answer) → ¬ IsPlace a → TellsStage v.born None a r.spare p → p.stage ≡ stage.Answered a
   at_start answer.Start n h = h
   at_start (answer.RefAt k) n h = absurd (n tt)
-  at_start (answer.Local k) n h = absurd h
-  at_start answer.Done n h = absurd h
-  at_start (answer.Num i) n h = absurd h
-  at_start answer.Lost n h = absurd h
+  at_start a n h = absurd h
 
   pub starts : ¬ IsPlace r.answer → IsRunning program v r
   starts n = record {
@@ -117,9 +114,8 @@ module _ {B : Type 0} (program : Bool → B → Program B) (laid : Laid B) (r : 
         (ap (λ i. (reference again.point i).name) (sym same)))
 
     pub has_answer : (w : View B) (n : Next) → IsCauseOfWait n r k r.spare me.0 w → HasAnswer n
-    has_answer w next.Runs h = tt
-    has_answer w (next.Ends f) h = tt
     has_answer w (next.Waits q s) h = absurd (never_in_vain w h.2)
+    has_answer w n h = tt
 
     -- whatever the look gives
     pub has_answers : (w : View B) (res : Result Next Why) → IfOk res (λ n. IsCauseOfWait n r k r.spare me.0 w)
@@ -130,8 +126,4 @@ module _ {B : Type 0} (program : Bool → B → Program B) (laid : Laid B) (r : 
 -- an answer that is no place
 pub is_place : (a : Answer) → ((k : ℕ) → a ≢ answer.RefAt k) → ¬ IsPlace a
 is_place (answer.RefAt k) n i = n k refl
-is_place answer.Start n i = i
-is_place (answer.Local k) n i = i
-is_place answer.Done n i = i
-is_place (answer.Num j) n i = i
-is_place answer.Lost n i = i
+is_place a n i = i

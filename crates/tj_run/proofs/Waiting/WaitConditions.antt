@@ -63,13 +63,11 @@ quiet_settles verdict.Skipped t wait w n h = skips w h.1
 quiet_walks : (d : Verdict) (q : ℕ) (wait : Way) (w : Walker) → IsQuiet d
     → does_after d q wait w ≡ does.Walking q wait w
 quiet_walks verdict.Alarm q wait w n = absurd n
-quiet_walks verdict.Walked q wait w n = refl
-quiet_walks verdict.Skipped q wait w n = refl
+quiet_walks d q wait w n = refl
 
 quiet_tokens : (d : Verdict) → IsQuiet d → tokens_given d ≡ 0
 quiet_tokens verdict.Alarm n = absurd n
-quiet_tokens verdict.Walked n = refl
-quiet_tokens verdict.Skipped n = refl
+quiet_tokens d n = refl
 
 -- an other wait is counted once in OTHERS
 raised_few : (wait : Way) → raised_by_way wait ≤ 1
@@ -88,11 +86,7 @@ one_alarmed {B = B} v c e n h = n (by (nat_eq c.task h.0) h.1 (subst (λ l. held
 -- a task that was claimed may act
 acts_first : (a : Answer) → MayAct (does_first a)
 acts_first answer.Start = tt
-acts_first (answer.Local k) = tt
-acts_first answer.Done = tt
-acts_first (answer.Num i) = tt
-acts_first (answer.RefAt k) = tt
-acts_first answer.Lost = tt
+acts_first a = tt
 
 -- a seat that has taken the record of a task, and has nothing else, runs it
 pub taken_runs : {B : Type 0} (laid : Laid B) (program : Bool → B → Program B) (x : Rec B) (m : SeatMe B)
