@@ -7,8 +7,6 @@ mod answers;
 mod crew;
 mod forks;
 #[cfg(test)]
-mod life_tests;
-#[cfg(test)]
 mod meeting;
 mod next;
 #[cfg(test)]

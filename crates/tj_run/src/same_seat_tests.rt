@@ -8,13 +8,12 @@ ghost use Rattle.tj_cells.specs.FilledCells.{MayFill, MayGiveUp};
 ghost use Rattle.tj_run.specs.Workers.{IsFree, table_program};
 ghost use Rattle.tj_run.specs.Inner.Carried.{IsAsked, RunsTask};
 
-use crate::life_tests::one_end;
 use crate::pieces::{fill_at, take_out};
 use crate::pure::next_ask;
 use crate::two_task_tests::{READER, ask_beside, run_to_fork};
 use crate::waits::block_on;
 use crate::why::Why;
-use crate::written::{lists_of, table_of};
+use crate::written::{lists_of, one_end, table_of};
 use std::alloc::Global;
 use std::marker::Brand;
 use std::process::Abort;

@@ -6,13 +6,12 @@ ghost use Rattle.tj_words.specs.Law.{IsRooted};
 ghost use Rattle.tj_words.specs.SeatViews.SeatSteps.{IsSeatOf};
 ghost use Rattle.tj_run.specs.Workers.{IsFree, table_program};
 
-use crate::life_tests::one_end;
 use crate::next::Next;
 use crate::tasks::one_ask;
 use crate::two_task_tests::{run_to_fork, run_to_promise};
 use crate::waits::block_at;
 use crate::why::Why;
-use crate::written::{Says, lists_of, table_of};
+use crate::written::{Says, lists_of, one_end, table_of};
 use std::alloc::Global;
 use std::process::Abort;
 use std::sync::Wait;

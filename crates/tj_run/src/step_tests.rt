@@ -1,5 +1,5 @@
 //! The root goes from Ready to Ended by step calls of the table alone, and its table is closed.
-ghost use Rattle.std.specs.Prelude.{◌≡◌, [], ◌∷◌, length, Some};
+ghost use Rattle.std.specs.Prelude.{◌≡◌, [], ◌∷◌, length, IfOk, Some};
 ghost use Rattle.atomic_table.specs.Table.{rest};
 ghost use Rattle.tj_body.specs.Programs.{program_of};
 ghost use Rattle.tj_words.specs.declared.record.Finish.TheVariants.{Done};
@@ -9,19 +9,20 @@ ghost use Rattle.tj_words.specs.Calls.LiveViews.{HasSlot, MayEnd, ended};
 ghost use Rattle.tj_words.specs.SeatViews.SeatSteps.{IsCellOf, IsSameSeat, IsSeatOf};
 ghost use Rattle.tj_cells.specs.FilledCells.{IsFilledWith, MayFill, MayGiveUp};
 ghost use Rattle.tj_run.specs.Workers.{IsFree, table_program};
-ghost use Rattle.tj_run.specs.Inner.Carried.{IsClosing, RunsTask};
+ghost use Rattle.tj_run.specs.Inner.Carried.{IsAsked, IsClosing, RunsTask};
 ghost use Rattle.tj_run.specs.Inner.EndsAlone.{EndsAlone};
 ghost use Rattle.tj_run.specs.Inner.Waits.{ComesBack, IsLeft};
 
-use crate::life_tests::{asks_first, has_the_root_alone};
 use crate::pieces::fill_at;
+use crate::pure::next_ask;
+use crate::why::Why;
 use crate::written::table_of;
 use std::alloc::Global;
 use std::process::Abort;
 use std::test::Fail;
 use tj_base::{CellId, Items, Pay};
-use tj_body::{Ask, Body, RowList, TableBody, names_and_cells, points_in_rounds};
-use tj_words::{Fill, Finish, Head, Laid, Once, Phase, Rec, WSeat, value_words};
+use tj_body::{Answer, Ask, Body, RowList, TableBody, names_and_cells, points_in_rounds};
+use tj_words::{Fill, Finish, Head, Laid, Once, Phase, Rec, RestWords, WSeat, value_words};
 
 /// Claims a ready task in two steps: PHASE is exchanged, and the record is taken out of its slot.
 fn claim_in_steps<B: Body, R: Abort>(
@@ -135,6 +136,52 @@ fn ended_alone<B>(alloc: Global, rec: Rec<B>, v: Fill) -> Rec<B>
         owed: Items::of(Vec::new(alloc)),
         finish: Some(Finish::Done(v)),
         ..rec
+    }
+}
+
+/// The body of a claimed task that is to begin asks.
+fn asks_first<B: Body, R: Abort>(
+    rt: &R,
+    alloc: Global,
+    laid: &Laid<B>,
+    seat: &WSeat<B>,
+    mut rec: Rec<B>,
+) -> Result<(Rec<B>, Ask<B>), Why>
+    requires back { ComesBack (program_of B.places B.awaits B.left B.asks B.then) laid.now rec
+        seat.now.me.0 seat.now.me }
+    ensures runs { IfOk result (λ begun. RunsTask laid.now begun.0 seat.now.me) }
+    ensures asked { IfOk result (λ begun. IsAsked (table_program
+        (program_of B.places B.awaits B.left B.asks B.then) laid.now) seat.now.me.0
+        begun.0 begun.1) }
+{
+    let Answer::Start = rec.answer else {
+        panic!(rt; "it begins");
+    };
+    let ask = next_ask(alloc, laid, seat, &mut rec)?;
+    Ok((rec, ask))
+}
+
+/// Asserts that closed words have the root alone, which has ended with 0.
+fn has_the_root_alone<B: Body, R: Abort>(rt: &R, rest: RestWords<B>) {
+    if rest.drawn() != 1 {
+        panic!(rt; "one cell was drawn");
+    }
+    let cell = rest.cell(CellId(0));
+    assert!(rt; matches!(cell.phase, Phase::Ended), "the root has ended");
+    assert!(rt; cell.own.is_none(), "nobody owns its result");
+    assert!(rt;
+        has_ended_with_0(rest.rec(CellId(0))),
+        "its record says how it ended"
+    );
+    let closed = rest.into_closed();
+    assert!(rt; closed.drawn() == 1, "and closed words have it still");
+    assert!(rt; closed.cell(CellId(0)).tag == 1, "with a number");
+}
+
+fn has_ended_with_0<B: Body>(rec: Option<&Rec<B>>) -> bool {
+    match rec {
+        Some(rec) => matches!(rec.finish, Some(Finish::Done(Fill::Num(0)))),
+        None => false,
     }
 }
 

@@ -8,17 +8,17 @@ ghost use Rattle.tj_words.specs.Law.{IsRooted};
 ghost use Rattle.tj_words.specs.SeatViews.SeatSteps.{IsCellOf, IsSeatOf};
 ghost use Rattle.tj_run.specs.Workers.{IsFree, table_program};
 ghost use Rattle.tj_run.specs.Inner.Beside.{HasBegun, WaitsBeside};
-ghost use Rattle.tj_run.specs.Inner.Carried.{IsRunning, RunsTask};
+ghost use Rattle.tj_run.specs.Inner.Carried.{IsAsked, IsRunning, RunsTask};
 
 use crate::answers::resume;
-use crate::life_tests::{one_end, set_asked};
 use crate::next::Next;
 use crate::plays::{Turn, leave};
 use crate::pure::next_ask;
 use crate::tasks::one_ask;
 use crate::waits::block_on;
 use crate::why::Why;
-use crate::written::{Says, lists_of, table_of};
+use crate::writes::set_and_wake;
+use crate::written::{Says, lists_of, one_end, table_of};
 use std::alloc::Global;
 use std::marker::Brand;
 use std::process::Abort;
@@ -207,6 +207,34 @@ fn join_beside<B: Body, P: Pool, R: Wait + Abort>(
         panic!(rt; "the child waits");
     };
     Ok(leave(laid, seat, rec, place, spare))
+}
+
+/// The task asks to set a promise, which is done. Tells how many were woken.
+fn set_asked<B: Body, P: Pool, R: Wait + Abort>(
+    rt: &R,
+    alloc: Global,
+    laid: &Laid<B>,
+    seat: &mut WSeat<B>,
+    rec: &mut Rec<B>,
+    ask: Ask<B>,
+    pool: &mut P,
+) -> Result<u32, Why>
+    requires table { IsSeatOf laid.now seat.old }
+    requires runs { RunsTask laid.now rec.old seat.old.me }
+    requires asked { IsAsked (table_program (program_of B.places B.awaits B.left B.asks B.then)
+        laid.now) seat.old.me.0 rec.old ask }
+    requires pool { P.limit pool.old ≡ laid.now.cells }
+    ensures table { seat.new.table_id ≡ seat.old.table_id }
+    ensures knows { IfOk result (λ _. KnowsTable seat.new.me.0) }
+{
+    let Ask::Set { p, v } = ask else {
+        panic!(rt; "it sets a promise");
+    };
+    let (next, woken) = set_and_wake(rt, alloc, laid, seat, rec, pool, p, v)?;
+    let Next::Runs = next else {
+        panic!(rt; "it owns the promise");
+    };
+    Ok(woken)
 }
 
 /// The child is parked beside the root, which sets the promise then. Tells how many were woken.

@@ -1,4 +1,4 @@
-//! Lists of rows for tests, written as constants, and the table of a program that has them.
+//! For tests: lists of rows, written as constants, the table of a program that has them, and its pool.
 ghost use Rattle.std.specs.Prelude.{◌≡◌, ◌<◌, ◌≤◌, IfOk};
 ghost use Rattle.tj_base.specs.declared.cell.TheConstants.{MAX_CELLS};
 ghost use Rattle.tj_body.specs.Asks.{IsFresh};
@@ -11,8 +11,10 @@ ghost use Rattle.tj_run.specs.Workers.{IsFree, table_program};
 
 use std::alloc::Global;
 use std::process::Abort;
+use std::sync::Wait;
 use tj_base::{Items, Oom, Pay, PlaceList};
 use tj_body::{Row, RowList, TableBody, is_table};
+use tj_ready::Pool;
 use tj_words::{Laid, WSeat};
 
 /// A row of a task.
@@ -98,4 +100,13 @@ pub(crate) fn table_of<'s, R: Abort>(
 {
     let root = root_of(rt, lists);
     Laid::new(alloc, cells, root, true)
+}
+
+/// The one end of a pool for so many cells.
+pub(crate) fn one_end<P: Pool, R: Wait>(rt: &R, alloc: Global, cells: u32) -> Result<P, Oom>
+    requires cells { (0 < cells) × (cells ≤ MAX_CELLS) }
+    ensures limit { IfOk result (λ end. P.limit end ≡ cells) }
+{
+    let mut ends = P::make(rt, alloc, 1, cells)?;
+    ends.pop().ok_or(Oom)
 }

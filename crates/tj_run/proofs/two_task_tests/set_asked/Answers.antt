@@ -1,5 +1,5 @@
 use Rattle.tj_run.proofs.Prelude.{IsAsked, about_table, program_of, subst, table_program}
-use Rattle.tj_run.proofs.life_tests.set_asked.Goals as goal
+use Rattle.tj_run.proofs.two_task_tests.set_asked.Goals as goal
 
 pub set_and_wake-requires-clause-asked : goal.set_and_wake-requires-clause-asked
 set_and_wake-requires-clause-asked g c κs within =

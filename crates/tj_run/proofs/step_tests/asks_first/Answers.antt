@@ -1,6 +1,6 @@
 use Rattle.tj_run.proofs.Prelude.{program_of, subst, table_program}
 use Rattle.tj_run.proofs.Waiting.ResumedTasks.{IsPlace, starts}
-use Rattle.tj_run.proofs.life_tests.asks_first.Goals as goal
+use Rattle.tj_run.proofs.step_tests.asks_first.Goals as goal
 
 pub next_ask-requires-clause-running : goal.next_ask-requires-clause-running
 next_ask-requires-clause-running g c κs within =
