@@ -16,8 +16,6 @@ mod top_call;
 mod usage;
 mod why;
 mod why_lines;
-#[cfg(test)]
-mod why_tests;
 mod words;
 
 use std::io;
