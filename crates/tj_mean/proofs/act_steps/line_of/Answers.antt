@@ -1,34 +1,41 @@
-use Rattle.std.proofs.Common.{rules, ◌++◌, suc, false, sym, ap, subst, ◌∙◌}
-use Rattle.tj_body.specs.History.{after_step}
-use Rattle.tj_body.specs.Programs.{rules_of}
+use Rattle.std.proofs.Common.{rules as all_rules, ◌≡◌, ◌++◌, suc, false, sym, ap, subst, ◌∙◌}
+use Rattle.tj_body.specs.History.{after_step, history}
+use Rattle.tj_body.specs.Programs.{Rules, AreLawful, rules_of}
 use Rattle.tj_body.proofs.Histories.Good.{good}
 use Rattle.tj_body.specs.Points.{IsGood}
-use Rattle.tj_mean.specs.Acts.{acts_within, step_acts}
+use Rattle.tj_mean.specs.Acts.{acts_within, step_acts, line_of}
+use Rattle.tj_mean.specs.declared.act.ActLine.{ActLine}
 use Rattle.tj_mean.specs.Inner.Assignments.{assignment_in}
 use Rattle.tj_mean.proofs.NotedActs.SeenActs.{line_at_halt}
+use Rattle.tj_mean.proofs.act_steps.line_of.Given.{Over}
 use Rattle.tj_mean.proofs.act_steps.line_of.Goals as goal
+use Rattle.tj_mean.proofs.act_steps.line_of.Goals.{After-acts-1, After-parts_of}
+
+-- the rules of the bodies, without the strict one
+abbrev rules : (g : Over) → Rules g.row.B.Denot
+rules g = let b = g.B.Body in rules_of b.places b.awaits b.left b.asks b.then false
+
+-- the bodies keep the laws
+lawful : (g : Over) → AreLawful (rules g)
+lawful g = (g.met.B.Body g.world.𝓛 g.world.𝓜 g.world.𝓡 ((λ s x. x), (λ x. x), (λ x. x), λ x. x)).obeys
 
 pub loop-p-init : goal.loop-p-init
 loop-p-init g c = (0, c.in_ok-p.ensures, c.of-acts.ensures ∙ c.new.ensures.items)
 
+-- the point is a good one of its task
+good_here : (g : Over) (c : After-acts-1 g) → IsGood (rules g) c.loop-p.p
+good_here g c = let i = c.loop-p.invariant in subst (IsGood (rules g)) (sym i.1)
+    (good (rules g) (lawful g) (assignment_in c.args.given.now) c.args.task c.requires.proper i.0)
+
 pub advance_noting-requires-clause-good : goal.advance_noting-requires-clause-good
-advance_noting-requires-clause-good g c κs within =
-    let b = g.B.Body in let i = c.loop-p.invariant in let V = assignment_in c.args.given.now in
-    let o = (g.met.B.Body g.world.𝓛 g.world.𝓜 g.world.𝓡 ((λ s x. x), (λ x. x), (λ x. x), λ x. x)).obeys in
-    let rs = rules_of b.places b.awaits b.left b.asks b.then false in
-    (subst (IsGood rs) (sym i.1) (good rs o V c.args.task c.requires.proper i.0)).at_stage
+advance_noting-requires-clause-good g c κs within = (good_here g c).at_stage
 
 pub advance_noting-requires-clause-made : goal.advance_noting-requires-clause-made
-advance_noting-requires-clause-made g c κs within =
-    let b = g.B.Body in let i = c.loop-p.invariant in let V = assignment_in c.args.given.now in
-    let o = (g.met.B.Body g.world.𝓛 g.world.𝓜 g.world.𝓡 ((λ s x. x), (λ x. x), (λ x. x), λ x. x)).obeys in
-    let rs = rules_of b.places b.awaits b.left b.asks b.then false in
-    (subst (IsGood rs) (sym i.1) (good rs o V c.args.task c.requires.proper i.0)).made
+advance_noting-requires-clause-made g c κs within = (good_here g c).made
 
 pub loop-p-preserved : goal.loop-p-preserved
 loop-p-preserved g c =
-    let b = g.B.Body in let i = c.loop-p.invariant in let V = assignment_in c.args.given.now in
-    let rs = rules_of b.places b.awaits b.left b.asks b.then false in
+    let i = c.loop-p.invariant in let V = assignment_in c.args.given.now in let rs = rules g in
     let e = c.in-Ok-true.ensures in (
       suc i.0,
       e.step ∙ ap (after_step rs V) i.1,
@@ -36,22 +43,17 @@ loop-p-preserved g c =
           ∙ ap (λ p. acts_within rs V i.0 c.args.task ++ step_acts rs V p) i.1,
     )
 
+-- at the halt stands the task's line, with its children
+halted : (g : Over) (c : After-parts_of g) → let V = assignment_in c.args.given.now in
+    let l : ActLine = record { name = c.advance_noting.new.p.name; acts = c.advance_noting.new.acts } in
+    (l ≡ line_of (rules g) V c.args.task)
+    × (c.advance_noting.new.p.children ≡ (history (rules g) V c.args.task).children)
+halted g c = let i = c.loop-p.invariant in let e = c.in-Ok-false.ensures in
+    line_at_halt (rules g) (assignment_in c.args.given.now) c.args.task (lawful g) c.requires.proper i.0 c.loop-p.p
+    c.advance_noting.new.p c.loop-p.acts c.advance_noting.new.acts i.1 i.2 e.step e.acts (e.stays (search all_rules))
+
 pub returns-in-Ok-false-clause-line : goal.returns-in-Ok-false-clause-line
-returns-in-Ok-false-clause-line g c =
-    let b = g.B.Body in let i = c.loop-p.invariant in let V = assignment_in c.args.given.now in
-    let o = (g.met.B.Body g.world.𝓛 g.world.𝓜 g.world.𝓡 ((λ s x. x), (λ x. x), (λ x. x), λ x. x)).obeys in
-    let rs = rules_of b.places b.awaits b.left b.asks b.then false in
-    let e = c.in-Ok-false.ensures in
-    c.parts_of.ensures.line
-    ∙ (line_at_halt rs V c.args.task o c.requires.proper i.0 c.loop-p.p c.advance_noting.new.p c.loop-p.acts
-    c.advance_noting.new.acts i.1 i.2 e.step e.acts (e.stays (search rules))).0
+returns-in-Ok-false-clause-line g c = c.parts_of.ensures.line ∙ (halted g c).0
 
 pub returns-in-Ok-false-clause-children : goal.returns-in-Ok-false-clause-children
-returns-in-Ok-false-clause-children g c =
-    let b = g.B.Body in let i = c.loop-p.invariant in let V = assignment_in c.args.given.now in
-    let o = (g.met.B.Body g.world.𝓛 g.world.𝓜 g.world.𝓡 ((λ s x. x), (λ x. x), (λ x. x), λ x. x)).obeys in
-    let rs = rules_of b.places b.awaits b.left b.asks b.then false in
-    let e = c.in-Ok-false.ensures in
-    c.parts_of.ensures.children
-    ∙ (line_at_halt rs V c.args.task o c.requires.proper i.0 c.loop-p.p c.advance_noting.new.p c.loop-p.acts
-    c.advance_noting.new.acts i.1 i.2 e.step e.acts (e.stays (search rules))).1
+returns-in-Ok-false-clause-children g c = c.parts_of.ensures.children ∙ (halted g c).1

@@ -1,31 +1,32 @@
 use Rattle.std.proofs.Common.{◌≡◌, ◌<◌, ◌≤◌, suc, inl, inr, ⊎_elim, refl, sym, ap, subst, ◌∙◌, arith}
 use Rattle.tj_body.specs.History.{after_step}
-use Rattle.tj_body.specs.Points.{HasStopped, weight}
+use Rattle.tj_body.specs.Points.{HasStopped, IsGood, weight}
 use Rattle.tj_body.specs.Programs.{rules_of}
 use Rattle.tj_body.specs.declared.point.Point.{Point}
 use Rattle.tj_mean.specs.Inner.Assignments.{assignment_in}
 use Rattle.tj_mean.specs.Inner.Reached.{Reaches}
 use Rattle.tj_mean.proofs.AtWork.PointSteps.{good_reaches}
+use Rattle.tj_mean.proofs.history_steps.go_on.Given.{Over}
 use Rattle.tj_mean.proofs.history_steps.go_on.Goals as goal
+use Rattle.tj_mean.proofs.history_steps.go_on.Goals.{After-advance-arg-1}
 
 pub loop-init : goal.loop-init
 loop-init g c = record { reached = (0, refl); fits = c.requires.made; less = inl refl }
 
-pub advance-requires-clause-good : goal.advance-requires-clause-good
-advance-requires-clause-good g c κs within =
+-- the point is a good one
+good_here : (g : Over) (c : After-advance-arg-1 g) → let b = g.B.Body in
+    IsGood (rules_of b.places b.awaits b.left b.asks b.then c.args.strict) c.loop.p
+good_here g c =
     let b = g.B.Body in
     let o = (g.met.B.Body g.world.𝓛 g.world.𝓜 g.world.𝓡 ((λ s x. x), (λ x. x), (λ x. x), λ x. x)).obeys in
-    let rules = rules_of b.places b.awaits b.left b.asks b.then c.args.strict in
-    (good_reaches rules (assignment_in c.args.given.now) o c.args.p.now c.loop.p c.requires.good
-    c.loop.invariant.reached).at_stage
+    good_reaches (rules_of b.places b.awaits b.left b.asks b.then c.args.strict) (assignment_in c.args.given.now) o
+    c.args.p.now c.loop.p c.requires.good c.loop.invariant.reached
+
+pub advance-requires-clause-good : goal.advance-requires-clause-good
+advance-requires-clause-good g c κs within = (good_here g c).at_stage
 
 pub advance-requires-clause-made : goal.advance-requires-clause-made
-advance-requires-clause-made g c κs within =
-    let b = g.B.Body in
-    let o = (g.met.B.Body g.world.𝓛 g.world.𝓜 g.world.𝓡 ((λ s x. x), (λ x. x), (λ x. x), λ x. x)).obeys in
-    let rules = rules_of b.places b.awaits b.left b.asks b.then c.args.strict in
-    (good_reaches rules (assignment_in c.args.given.now) o c.args.p.now c.loop.p c.requires.good
-    c.loop.invariant.reached).made
+advance-requires-clause-made g c κs within = (good_here g c).made
 
 pub returns-then-not-branch-clause-reached : goal.returns-then-not-branch-clause-reached
 returns-then-not-branch-clause-reached g c =
