@@ -1,5 +1,6 @@
 -- A task that knows where it stands, on its way to its next ask: what it keeps stays right.
-use Rattle.std.proofs.Common.{◌≡◌, ℕ, zero, suc, ◌+◌, ◌<◌, arith, List, [], ◌∷◌, ◌++◌, length, refl, ap, sym, subst, ◌∙◌}
+use Rattle.std.proofs.Common.{◌≡◌, ℕ, zero, suc, ◌+◌, ◌<◌, arith, List, [], ◌∷◌, ◌++◌, length, refl, ap, sym, subst}
+use Rattle.std.proofs.Common.{◌∙◌}
 use Rattle.std.proofs.lemmas.List.{length-map}
 use Rattle.std.specs.Prelude.{Option, Some, None, Ok, slice_get}
 use Rattle.tj_body.specs.declared.ask.Answer.{Answer}
@@ -11,12 +12,15 @@ use Rattle.tj_syntax.specs.View as view
 use Rattle.tj_syntax.specs.declared.script.Decl.{Decl}
 use Rattle.std.specs.Option.{option_map}
 use Rattle.tj_eval.specs.Sizes.{size_of, sizes_of, task_sizes}
-use Rattle.tj_eval.specs.Stands.{AreNamed, IsAt, PlacedState, Stand, numbers, placed, stand_in, stand_on, stand_begun, stand_next, within}
+use Rattle.tj_eval.specs.Stands.{AreNamed, IsAt, PlacedState, Stand, numbers, placed, stand_in, stand_on, stand_begun}
+use Rattle.tj_eval.specs.Stands.{stand_next, within}
 use Rattle.tj_eval.specs.declared.sizes.Size.{Size}
 use Rattle.tj_eval.specs.Statements.{listed, TaskState, goes_on, begun, next, answered}
 use Rattle.tj_eval.specs.declared.placed.Standing.{Standing}
-use Rattle.tj_eval.specs.Inner.Standing.{ahead_of, first_numbers, shown, stands, ForksIn, HasNext, IsHome, IsNumbered, IsReady}
-use Rattle.tj_eval.proofs.Stands.{all_named, ChildOf, IsRightEffect, IsRightNext, IsSameRest, rest_answered, right_after, right_begun}
+use Rattle.tj_eval.specs.Inner.Standing.{ahead_of, first_numbers, shown, stands, ForksIn, HasNext, IsHome, IsNumbered}
+use Rattle.tj_eval.specs.Inner.Standing.{IsReady}
+use Rattle.tj_eval.proofs.Stands.{all_named, ChildOf, IsRightEffect, IsRightNext, IsSameRest, rest_answered}
+use Rattle.tj_eval.proofs.Stands.{right_after, right_begun}
 use Rattle.tj_eval.proofs.Tables.{body_read, has_next}
 use Rattle.tj_eval.proofs.Views.{get_map, listed_block}
 
@@ -171,7 +175,7 @@ module _ (b : Standing) (d : Task) (home : IsHome b.home d) (script : b.body.scr
           ∙ ap (λ k. numbers 0 d.body ++ k ∷ []) (length-map (within d.body) size_of)
 
       -- it begins
-      pub start_ready : IsReady b
+      start_ready : IsReady b
       start_ready = record {
         task = d;
         is_home = home;
@@ -181,7 +185,7 @@ module _ (b : Standing) (d : Task) (home : IsHome b.home d) (script : b.body.scr
       }
 
       -- it stands at the beginning of its declaration
-      pub start_shown : shown b ≡ placed b.home.decl b.body
+      start_shown : shown b ≡ placed b.home.decl b.body
       start_shown = let w = made b.home.own.now b.home.decl in
           let found = ap (λ z. slice_get z b.home.decl) script ∙ home.is_declared in
           let seen : Stand → PlacedState = λ z. record { task = b.body; stand = z } in
@@ -189,6 +193,9 @@ module _ (b : Standing) (d : Task) (home : IsHome b.home d) (script : b.body.scr
           ap seen (w
           ∙ ap from (sym (ap (λ z. z.ahead) w) ∙ all_ahead_of)
           ∙ sym (ap (stand_in b.home.decl) found))
+
+      pub starts : IsReady b × (shown b ≡ placed b.home.decl b.body)
+      starts = (start_ready, start_shown)
 
 some_is : {A : Type 0} (x y : A) → Some x ≡ Some y → x ≡ y
 some_is x y e = ap (λ o. elim o [ Some z ↦ z | None ↦ x ]) e
