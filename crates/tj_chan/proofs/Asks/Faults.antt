@@ -9,9 +9,11 @@ use Rattle.tj_base.specs.declared.cause.Cause.{Cause}
 use Rattle.tj_base.specs.declared.cause.Trouble.{Trouble}
 use Rattle.tj_body.specs.Programs.{Program}
 use Rattle.tj_body.specs.Names.{in_order}
-use Rattle.tj_body.specs.History.{Assignment, with_entry, after_failure, after_end, after_emit, cause_of}
+use Rattle.tj_body.specs.History.{Assignment, with_entry, after_close, after_failure, after_end, after_emit, cause_of}
 use Rattle.tj_body.specs.Points.{IsIn, IsPointOf}
 use Rattle.tj_body.specs.declared.ask.Answer.TheVariants as told
+use Rattle.tj_body.specs.declared.point.Close.{Close}
+use Rattle.tj_body.specs.declared.point.Close.TheVariants as close
 use Rattle.tj_body.specs.declared.point.Entry.{Entry}
 use Rattle.tj_body.specs.declared.point.Entry.TheVariants as entry
 use Rattle.tj_body.specs.declared.point.Reference.{Reference}
@@ -20,15 +22,16 @@ use Rattle.tj_body.specs.declared.point.Point.{Point}
 use Rattle.tj_body.proofs.Lists.{in_left, in_right, in_either, in_map, to_map}
 use Rattle.tj_body.proofs.NameLaws.{ordered_has_same}
 use Rattle.tj_chan.specs.Channels.{ChatRules, Channel, SendingEnd, ChannelState, ended, ChatTask, ChatPoint}
-use Rattle.tj_chan.specs.Channels.{answered, item, things_after, unsent, all_unsent, after_fault}
+use Rattle.tj_chan.specs.Channels.{ChatStage, failed, answered, item, things_after, unsent, all_unsent, after_fault}
 use Rattle.tj_chan.specs.ChannelRounds.{left_of, has_ended}
+use Rattle.tj_chan.specs.ChannelOutcomes.{owed_in, held_in}
 use Rattle.tj_chan.specs.ChanBodies.{counted}
 use Rattle.tj_chan.specs.declared.body.ChanBody.{ChanBody}
 use Rattle.tj_chan.specs.declared.body.Due.TheVariants as due
 use Rattle.tj_chan.specs.declared.chat.ChatAsk.TheVariants as ask
 use Rattle.tj_chan.specs.declared.chat.ChatAnswer.TheVariants as answer
 use Rattle.tj_chan.proofs.Lists.Runs.{found_in, found_by}
-use Rattle.tj_chan.proofs.Linked.Links.{task_of, IsReadyFor, IsEntryFor, AreWritesFor, IsWritten}
+use Rattle.tj_chan.proofs.Linked.Links.{task_of, IsPointFor, IsStageOf, IsReadyFor, IsEntryFor, AreWritesFor, IsWritten}
 use Rattle.tj_chan.proofs.Linked.Steps.{program, IsLinked, AskIsLinked}
 use Rattle.tj_chan.proofs.Linked.Entries.{none_past}
 
@@ -216,22 +219,29 @@ module _ {C : Type 0} (rules : ChatRules C) (root : C) (strict : Bool) where
         (closed_writes t.given p.name p.handed_on p.ends b.writes b.holds x ready.holds h
         (left_open t p b ready.is_open w))
 
+    -- the body's point that has closed is that of a chatter that has ended
+    closed_point : (e : Close) (x : Entry) (st : ChatStage)
+        → IsStageOf rules (record p { stage = st }) st (after_close e x (record b { body = c }))
+        → [] ≡ held_in st p.ends → in_order b.holds ≡ owed_in st p.ends
+        → IsPointFor rules (record p { stage = st }) (after_close e x (record b { body = c }))
+    closed_point e x st at holds owed = record {
+      name = ready.name;
+      at_stage = at;
+      holds = holds;
+      owed = owed;
+      made = ready.made;
+      promises = ready.promises;
+      children = ready.children;
+      prints = ready.prints;
+    }
+
     -- a fault, or the chatter's failure
     pub fault_linked : (f : Cause) → IsPointOf P.rules U (task_of t) (after_failure f (record b { body = c }))
         → IsLinked rules root strict U t (after_fault f p)
     fault_linked f at = (
       after_failure f (record b { body = c }),
       at,
-      record {
-        name = ready.name;
-        at_stage = refl;
-        holds = refl;
-        owed = ap in_order ready.holds;
-        made = ready.made;
-        promises = ready.promises;
-        children = ready.children;
-        prints = ready.prints;
-      },
+      closed_point (close.Failed f) entry.Broken (failed f) refl refl (ap in_order ready.holds),
       writes_at entry.Broken (λ r e. let z = e in cc),
     )
 
@@ -241,16 +251,7 @@ module _ {C : Type 0} (rules : ChatRules C) (root : C) (strict : Bool) where
     end_linked v at = (
       after_end (value.Num v) (record b { body = c }),
       at,
-      record {
-        name = ready.name;
-        at_stage = refl;
-        holds = refl;
-        owed = ap in_order ready.holds;
-        made = ready.made;
-        promises = ready.promises;
-        children = ready.children;
-        prints = ready.prints;
-      },
+      closed_point (close.Done (value.Num v)) (entry.Value (value.Num v)) (ended v) refl refl (ap in_order ready.holds),
       writes_at (entry.Value (value.Num v)) (λ r e. let z = e in cc),
     )
 
