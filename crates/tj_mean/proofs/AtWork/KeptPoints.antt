@@ -148,36 +148,28 @@ module _ {B : Type 0} where
         λ i. record q { children = children i; writes = writes i; references = r i } in
         k.stands_for ∙ whole
 
+  kept_by : (cs : List (Task B)) (ws : List (Name × Entry)) (q r : Point B)
+      → with_front cs ws q ≡ record r {
+        children = cs ++ q.children;
+        writes = ws ++ q.writes;
+        references = q.references;
+      }
+      → r.children ≡ [] → r.writes ≡ [] → HasEnded r ⊎ (q.references ≡ r.references) → IsKept r (with_front cs ws q)
+  kept_by cs ws q r is none wrote goes = record {
+    handed_children = cs ++ q.children;
+    handed_writes = ws ++ q.writes;
+    all_references = q.references;
+    stands_for = is;
+    no_children = none;
+    no_writes = wrote;
+    goes_on = goes;
+  }
+
   -- what is left when it was handed on is kept
   pub kept_emptied : (cs : List (Task B)) (ws : List (Name × Entry)) (q : Point B) (s : PointStage) → q.stage ≡ s
       → IsKept (emptied s q) (with_front cs ws q)
-  kept_emptied cs ws q (stage.Answered a) e = record {
-    handed_children = cs ++ q.children;
-    handed_writes = ws ++ q.writes;
-    all_references = q.references;
-    stands_for = refl;
-    no_children = refl;
-    no_writes = refl;
-    goes_on = inr refl;
-  }
-  kept_emptied cs ws q (stage.Waits x spare) e = record {
-    handed_children = cs ++ q.children;
-    handed_writes = ws ++ q.writes;
-    all_references = q.references;
-    stands_for = refl;
-    no_children = refl;
-    no_writes = refl;
-    goes_on = inr refl;
-  }
-  kept_emptied cs ws q (stage.Closed c) e = record {
-    handed_children = cs ++ q.children;
-    handed_writes = ws ++ q.writes;
-    all_references = q.references;
-    stands_for = refl;
-    no_children = refl;
-    no_writes = refl;
-    goes_on = inl (c, e);
-  }
+  kept_emptied cs ws q (stage.Closed c) e = kept_by cs ws q (emptied (stage.Closed c) q) refl refl refl (inl (c, e))
+  kept_emptied cs ws q s e = kept_by cs ws q (emptied s q) refl refl refl (inr refl)
 
 -- an element at an index doesn't hang on what stands for none
 pub any_default : {A : Type 0} (l : List A) (i : ℕ) → i < length l → (d e : A) → get_or l i d ≡ get_or l i e
