@@ -1,15 +1,17 @@
-use Rattle.std.proofs.Common.{rules as all_rules, ◌≡◌, ◌++◌, suc, false, sym, ap, subst, ◌∙◌}
-use Rattle.tj_body.specs.History.{after_step, history}
+use Rattle.std.proofs.Common.{rules as all_rules, ℕ, ◌≡◌, ◌++◌, suc, false, sym, ap, subst, ◌∙◌}
+use Rattle.tj_body.specs.History.{Assignment, after_step, point_after, history}
+use Rattle.tj_body.specs.declared.point.Task.{Task}
+use Rattle.tj_body.specs.declared.point.Point.{Point}
 use Rattle.tj_body.specs.Programs.{Rules, AreLawful, rules_of}
 use Rattle.tj_body.proofs.Histories.Good.{good}
-use Rattle.tj_body.specs.Points.{IsGood}
+use Rattle.tj_body.specs.Points.{IsProper, IsGood}
 use Rattle.tj_mean.specs.Acts.{acts_within, step_acts, line_of}
 use Rattle.tj_mean.specs.declared.act.ActLine.{ActLine}
 use Rattle.tj_mean.specs.Inner.Assignments.{assignment_in}
 use Rattle.tj_mean.proofs.NotedActs.SeenActs.{line_at_halt}
 use Rattle.tj_mean.proofs.act_steps.line_of.Given.{Over}
 use Rattle.tj_mean.proofs.act_steps.line_of.Goals as goal
-use Rattle.tj_mean.proofs.act_steps.line_of.Goals.{After-acts-1, After-parts_of}
+use Rattle.tj_mean.proofs.act_steps.line_of.Goals.{After-parts_of}
 
 -- the rules of the bodies, without the strict one
 abbrev rules : (g : Over) → Rules g.row.B.Denot
@@ -22,16 +24,18 @@ lawful g = (g.met.B.Body g.world.𝓛 g.world.𝓜 g.world.𝓡 ((λ s x. x), (�
 pub loop-p-init : goal.loop-p-init
 loop-p-init g c = (0, c.in_ok-p.ensures, c.of-acts.ensures ∙ c.new.ensures.items)
 
--- the point is a good one of its task
-good_here : (g : Over) (c : After-acts-1 g) → IsGood (rules g) c.loop-p.p
-good_here g c = let i = c.loop-p.invariant in subst (IsGood (rules g)) (sym i.1)
-    (good (rules g) (lawful g) (assignment_in c.args.given.now) c.args.task c.requires.proper i.0)
+-- each point of the task is a good one
+good_at : (g : Over) (V : Assignment) (t : Task g.row.B.Denot) → IsProper (rules g) t → (p : Point g.row.B.Denot)
+    → (k : ℕ) × (p ≡ point_after (rules g) V k t) → IsGood (rules g) p
+good_at g V t proper p at = subst (IsGood (rules g)) (sym at.1) (good (rules g) (lawful g) V t proper at.0)
 
 pub advance_noting-requires-clause-good : goal.advance_noting-requires-clause-good
-advance_noting-requires-clause-good g c κs within = (good_here g c).at_stage
+advance_noting-requires-clause-good g c κs within = let i = c.loop-p.invariant in
+    (good_at g (assignment_in c.args.given.now) c.args.task c.requires.proper c.loop-p.p (i.0, i.1)).at_stage
 
 pub advance_noting-requires-clause-made : goal.advance_noting-requires-clause-made
-advance_noting-requires-clause-made g c κs within = (good_here g c).made
+advance_noting-requires-clause-made g c κs within = let i = c.loop-p.invariant in
+    (good_at g (assignment_in c.args.given.now) c.args.task c.requires.proper c.loop-p.p (i.0, i.1)).made
 
 pub loop-p-preserved : goal.loop-p-preserved
 loop-p-preserved g c =

@@ -1,32 +1,29 @@
-use Rattle.std.proofs.Common.{◌≡◌, ◌<◌, ◌≤◌, suc, inl, inr, ⊎_elim, refl, sym, ap, subst, ◌∙◌, arith}
+use Rattle.std.proofs.Common.{Bool, ◌≡◌, ◌<◌, ◌≤◌, suc, inl, inr, ⊎_elim, refl, sym, ap, subst, ◌∙◌, arith}
 use Rattle.tj_body.specs.History.{after_step}
-use Rattle.tj_body.specs.Points.{HasStopped, IsGood, weight}
-use Rattle.tj_body.specs.Programs.{rules_of}
+use Rattle.tj_body.specs.Points.{HasStopped, weight}
+use Rattle.tj_body.specs.Programs.{AreLawful, rules_of}
 use Rattle.tj_body.specs.declared.point.Point.{Point}
 use Rattle.tj_mean.specs.Inner.Assignments.{assignment_in}
 use Rattle.tj_mean.specs.Inner.Reached.{Reaches}
 use Rattle.tj_mean.proofs.AtWork.PointSteps.{good_reaches}
 use Rattle.tj_mean.proofs.history_steps.go_on.Given.{Over}
 use Rattle.tj_mean.proofs.history_steps.go_on.Goals as goal
-use Rattle.tj_mean.proofs.history_steps.go_on.Goals.{After-advance-arg-1}
 
 pub loop-init : goal.loop-init
 loop-init g c = record { reached = (0, refl); fits = c.requires.made; less = inl refl }
 
--- the point is a good one
-good_here : (g : Over) (c : After-advance-arg-1 g) → let b = g.B.Body in
-    IsGood (rules_of b.places b.awaits b.left b.asks b.then c.args.strict) c.loop.p
-good_here g c =
-    let b = g.B.Body in
-    let o = (g.met.B.Body g.world.𝓛 g.world.𝓜 g.world.𝓡 ((λ s x. x), (λ x. x), (λ x. x), λ x. x)).obeys in
-    good_reaches (rules_of b.places b.awaits b.left b.asks b.then c.args.strict) (assignment_in c.args.given.now) o
-    c.args.p.now c.loop.p c.requires.good c.loop.invariant.reached
+-- the bodies keep the laws
+lawful : (g : Over) (strict : Bool) → let b = g.B.Body in
+    AreLawful (rules_of b.places b.awaits b.left b.asks b.then strict)
+lawful g strict = (g.met.B.Body g.world.𝓛 g.world.𝓜 g.world.𝓡 ((λ s x. x), (λ x. x), (λ x. x), λ x. x)).obeys
 
 pub advance-requires-clause-good : goal.advance-requires-clause-good
-advance-requires-clause-good g c κs within = (good_here g c).at_stage
+advance-requires-clause-good g c κs within = (good_reaches _ (assignment_in c.args.given.now) (lawful g c.args.strict)
+    c.args.p.now c.loop.p c.requires.good c.loop.invariant.reached).at_stage
 
 pub advance-requires-clause-made : goal.advance-requires-clause-made
-advance-requires-clause-made g c κs within = (good_here g c).made
+advance-requires-clause-made g c κs within = (good_reaches _ (assignment_in c.args.given.now) (lawful g c.args.strict)
+    c.args.p.now c.loop.p c.requires.good c.loop.invariant.reached).made
 
 pub returns-then-not-branch-clause-reached : goal.returns-then-not-branch-clause-reached
 returns-then-not-branch-clause-reached g c =
