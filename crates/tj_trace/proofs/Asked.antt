@@ -1,16 +1,11 @@
 -- A task stands, at each of its asks, at a statement that can ask this.
-use Rattle.std.proofs.Common.{◌≡◌, ℕ, zero, suc, ◌+◌, pos, Bool, true, false, List, [], ◌∷◌, ◌++◌, length, inl, inr}
-use Rattle.std.proofs.Common.{refl, sym, ap, ◌∙◌, subst, ◌⊎◌}
+use Rattle.tj_trace.proofs.Prelude.{Ask, Bool, List, [], ap, inl, inr, refl, suc, sym, true, ℕ, ◌+◌, ◌∙◌, ◌∷◌, ◌≡◌, ◌⊎◌}
+use Rattle.std.proofs.Common.{zero, pos, false, ◌++◌, length, subst}
 use Rattle.std.specs.Prelude.{Option, Some, None, Result, Ok, Err, slice_get, nat_eq, if◌then◌else◌}
 use Rattle.tj_base.specs.declared.cause.Trouble.{Trouble}
-use Rattle.tj_base.specs.declared.cause.Trouble.TheVariants as trouble
-use Rattle.tj_base.specs.declared.value.Pay.TheVariants as pay
 use Rattle.tj_body.specs.declared.ask.Answer.{Answer}
-use Rattle.tj_body.specs.declared.ask.Ask.{Ask}
-use Rattle.tj_body.specs.declared.ask.Ask.TheVariants as ask
 use Rattle.tj_body.specs.Asks.{new_places}
 use Rattle.tj_syntax.specs.Parts.{own_ask}
-use Rattle.tj_syntax.specs.Trees as tree
 use Rattle.tj_syntax.specs.Trees.{Statement, Task, Argument}
 use Rattle.tj_syntax.specs.Within.{inside}
 use Rattle.tj_eval.specs.Bodies.{script_asks}
@@ -23,6 +18,10 @@ use Rattle.tj_eval.specs.Statements.{reference_of, answered, next_after}
 use Rattle.tj_eval.proofs.Stands.{ChildOf, IsRightEffect, IsSameRest, right_begun, right_after, rest_answered}
 use Rattle.tj_trace.specs.RightLines.{IsGet, IsJoin, IsSet, IsReturn}
 use Rattle.tj_eval.proofs.AskedAt.{at_begun}
+use Rattle.tj_base.specs.declared.cause.Trouble.TheVariants as trouble
+use Rattle.tj_base.specs.declared.value.Pay.TheVariants as pay
+use Rattle.tj_body.specs.declared.ask.Ask.TheVariants as ask
+use Rattle.tj_syntax.specs.Trees as tree
 
 -- the statement can ask this, where it forks that declaration if it forks one
 abbrev pub IsAskOf : Statement → ℕ → Ask TaskState → Type 0

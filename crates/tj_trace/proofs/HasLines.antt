@@ -1,25 +1,13 @@
 -- Each line of a trace is that of a task's history, and each task has one.
-use Rattle.std.proofs.Common.{◌≡◌, ℕ, Bool, List, Option, Some, None, refl, sym, ap, ◌∙◌, subst}
-use Rattle.std.specs.Option.{option_map}
-use Rattle.tj_body.specs.Points.{IsIn}
-use Rattle.tj_body.specs.Programs.{Rules, rules_of}
-use Rattle.tj_body.specs.History.{Assignment, history}
-use Rattle.tj_body.specs.Rounds.{given, tasks, last_round, meaning}
-use Rattle.tj_body.specs.declared.point.PointStage.{PointStage}
-use Rattle.tj_body.specs.declared.point.PointStage.TheVariants as stage
-use Rattle.tj_body.specs.declared.point.Task.{Task}
-use Rattle.tj_body.specs.declared.point.Point.{Point}
-use Rattle.tj_body.proofs.Lists.{in_map, to_map}
+use Rattle.tj_trace.proofs.Prelude.{AreTraced, Assignment, Bool, Ending, IsIn, List, Logged, None, Option, PlacedState}
+use Rattle.tj_trace.proofs.Prelude.{Point, PointStage, Rules, Some, Task, TraceLine, ap, ending_of, given, history}
+use Rattle.tj_trace.proofs.Prelude.{in_permuted, in_unpermuted, last_round, line_of, line_with, logged_asks}
+use Rattle.tj_trace.proofs.Prelude.{logged_awaits, logged_left, logged_places, logged_program, logged_then, meaning}
+use Rattle.tj_trace.proofs.Prelude.{option_map, refl, rules_of, subst, sym, tasks, to_map, ℕ, ◌∙◌, ◌≡◌}
+use Rattle.tj_body.proofs.Lists.{in_map}
 use Rattle.tj_body.proofs.Rounds.Families.{same_name}
-use Rattle.tj_eval.specs.Stands.{PlacedState}
-use Rattle.tj_mean.specs.Outcomes.{ending_of}
-use Rattle.tj_mean.specs.declared.outcome.Ending.{Ending}
-use Rattle.tj_mean.proofs.Lists.NameOrder.{in_permuted, in_unpermuted}
-use Rattle.tj_trace.specs.Logs.{Logged, logged_places, logged_awaits, logged_left, logged_asks, logged_then}
-use Rattle.tj_trace.specs.Logs.{logged_program}
-use Rattle.tj_trace.specs.Traces.{AreTraced, line_with, line_of}
-use Rattle.tj_trace.specs.declared.line.TraceLine.{TraceLine}
 use Rattle.tj_trace.proofs.Noted.{notes_at}
+use Rattle.tj_body.specs.declared.point.PointStage.TheVariants as stage
 
 -- no line is none
 pub not_none : {A : Type 0} (x : A) → ◌≡◌ {A = Option A} None (Some x) → ⊥

@@ -11,3 +11,4 @@ pub mod MadeThere
 pub mod LinesPlaced
 pub mod OwnersOne
 pub mod OneTrace
+pub mod Prelude

@@ -1,18 +1,16 @@
 -- The numbers that lines tell have positions in their script.
-use Rattle.std.proofs.Common.{ℕ, Bool, List, inl, inr}
+use Rattle.tj_trace.proofs.Prelude.{Bool, Ending, List, PlacedState, Statement, inl, inr, ℕ}
 use Rattle.tj_lex.specs.declared.token.Token.{Token}
 use Rattle.tj_syntax.specs.Grammar.{IsProgram}
 use Rattle.tj_syntax.specs.Marks.{Noted}
 use Rattle.tj_syntax.specs.PlacesOf.{places_of}
 use Rattle.tj_syntax.specs.Starts.{in_tasks}
-use Rattle.tj_syntax.specs.Trees.{Statement, Task}
-use Rattle.tj_eval.specs.Stands.{PlacedState}
-use Rattle.tj_mean.specs.declared.outcome.Ending.{Ending}
-use Rattle.tj_mean.specs.declared.outcome.Ending.TheVariants as ending
+use Rattle.tj_syntax.specs.Trees.{Task}
 use Rattle.tj_trace.specs.RightLines.{IsStatementAt, StandsWhere}
 use Rattle.tj_trace.specs.SpotLaws.{HasPlace, LinesHavePlaces}
 use Rattle.tj_trace.proofs.LinesRight.{lines_are_right}
 use Rattle.tj_trace.proofs.SpotsThere.{spots_are_there}
+use Rattle.tj_mean.specs.declared.outcome.Ending.TheVariants as ending
 
 module _ (tokens : List Token) (notes : List Noted) (script : List Task) (derived : IsProgram notes script) where
   statement_placed : (decl at : ℕ) (s : Statement) → IsStatementAt script decl at s

@@ -1,46 +1,34 @@
 -- The lines of a trace tell statements of the declarations that their tasks run.
-use Rattle.std.proofs.Common.{◌≡◌, ℕ, zero, suc, Bool, true, false, cond, List, [], ◌∷◌, Some}
-use Rattle.std.proofs.Common.{refl, sym, ap, ◌∙◌, subst, inl, inr, ⊎_elim, ◌⊎◌, ◌≤◌, arith}
-use Rattle.std.specs.Prelude.{slice_get}
+use Rattle.tj_trace.proofs.Prelude.{AreTraced, Assignment, Bool, Ending, IsIn, Logged, Maker, Name, Point, PointStage}
+use Rattle.tj_trace.proofs.Prelude.{Rules, Some, Task, TraceLine, [], ap, child, history, inl, inr, line_of, logged}
+use Rattle.tj_trace.proofs.Prelude.{logged_asks, logged_awaits, logged_left, logged_places, logged_program, logged_then}
+use Rattle.tj_trace.proofs.Prelude.{names_of, root_task, rules_of, slice_get, suc, sym, within, ℕ, ◌∙◌, ◌∷◌, ◌≡◌, ◌⊎◌}
+use Rattle.std.proofs.Common.{zero, true, false, cond, List, refl, subst, ⊎_elim, ◌≤◌, arith}
 use Rattle.std.specs.List.{AllByRecursion, find}
 use Rattle.std.specs.List.Sorted.{IsStrictlySortedBy}
 use Rattle.std.specs.Cmp.Lexicographic.{slice_cmp, texts_ties}
 use Rattle.std.specs.Ordering.{nat_cmp, is_eq}
 use Rattle.std.specs.declared.cmp.Ordering.TheVariants.{Less}
-use Rattle.tj_base.specs.ForkOrder.{Name, child}
-use Rattle.tj_base.specs.declared.cell.Sort.TheVariants as sort
 use Rattle.tj_base.proofs.ChildNames.{child_some, child_same}
 use Rattle.tj_body.specs.Names.{same}
-use Rattle.tj_body.specs.Points.{IsIn}
-use Rattle.tj_body.specs.Programs.{Rules, rules_of, root_task}
-use Rattle.tj_body.specs.History.{Assignment, history}
 use Rattle.tj_body.specs.Rounds.{family, given, tasks, last_round}
-use Rattle.tj_body.specs.declared.point.Close.TheVariants as close
-use Rattle.tj_body.specs.declared.point.PointStage.{PointStage}
-use Rattle.tj_body.specs.declared.point.PointStage.TheVariants as stage
-use Rattle.tj_body.specs.declared.point.Task.{Task}
-use Rattle.tj_body.specs.declared.point.Point.{Point}
 use Rattle.tj_body.proofs.Counts.{same_self}
 use Rattle.tj_body.proofs.Lists.{in_begins, to_map, in_flat_map, from_flat_map}
 use Rattle.tj_body.proofs.Rounds.Families.{same_name}
 use Rattle.tj_body.proofs.Rounds.Rises.{grown, within as rounds_within}
-use Rattle.tj_syntax.specs.Trees as tree
-use Rattle.tj_syntax.specs.Within.{within}
 use Rattle.tj_eval.specs.Stands.{PlacedState, StandsRight}
 use Rattle.tj_mean.specs.Outcomes.{Ascend, ending_of, shown_of}
-use Rattle.tj_mean.specs.declared.outcome.Ending.{Ending}
-use Rattle.tj_mean.specs.declared.outcome.Ending.TheVariants as ending
-use Rattle.tj_trace.specs.Logs.{Logged, logged, logged_places, logged_awaits, logged_left, logged_asks, logged_then}
-use Rattle.tj_trace.specs.Logs.{logged_program}
 use Rattle.tj_trace.specs.Lookups.{made_by}
 use Rattle.tj_trace.specs.RightLines.{StandsWhere, IsMadeIn, IsRightLine, IsForkOf, LinesAreRight, LinesAreForked}
-use Rattle.tj_trace.specs.Traces.{AreTraced, line_of, names_of}
-use Rattle.tj_trace.specs.declared.line.Maker.{Maker}
-use Rattle.tj_trace.specs.declared.line.TraceLine.{TraceLine}
 use Rattle.tj_trace.proofs.Noted.{notes_at}
-use Rattle.tj_trace.proofs.HasLines.{not_none, some_is, line_is, notes_of_ended, HasLine, of_line, to_line}
-use Rattle.tj_trace.proofs.HasLines.{line_name, line_makers, line_stand}
+use Rattle.tj_trace.proofs.HasLines.{not_none, some_is, line_is, notes_of_ended, HasLine, of_line, to_line, line_name}
+use Rattle.tj_trace.proofs.HasLines.{line_makers, line_stand}
 use Rattle.tj_trace.proofs.RightPoints.{IsNew, IsRightStage, IsRightPoint, right_history}
+use Rattle.tj_base.specs.declared.cell.Sort.TheVariants as sort
+use Rattle.tj_body.specs.declared.point.Close.TheVariants as close
+use Rattle.tj_body.specs.declared.point.PointStage.TheVariants as stage
+use Rattle.tj_syntax.specs.Trees as tree
+use Rattle.tj_mean.specs.declared.outcome.Ending.TheVariants as ending
 
 module _ (script : List tree.Task) (d : ℕ) (task : tree.Task) (declared : slice_get script d ≡ Some task) where
   -- where a task that has stopped stands

@@ -1,43 +1,28 @@
 -- What a line tells is read off the history of the task that knows where it stands.
-use Rattle.std.proofs.Common.{◌≡◌, ℕ, zero, suc, ◌*◌, nat_eq, Bool, true, false, cond, not, ◌&&◌, List, [], ◌∷◌, ◌++◌}
-use Rattle.std.proofs.Common.{map, length, Option, Some, None, Result, Ok, Err, refl, sym, ap, ◌∙◌, subst, append-nil}
-use Rattle.std.proofs.Common.{eq-eqb, ◌+◌, arith}
+use Rattle.tj_trace.proofs.Prelude.{Ask, Assignment, Bool, Cause, Entry, Err, IsIn, List, Logged, Maker, Name, None, Ok}
+use Rattle.tj_trace.proofs.Prelude.{Option, Point, PointStage, Reference, Result, Rules, Some, Sort, Task, Value, []}
+use Rattle.tj_trace.proofs.Prelude.{after_ask, after_failure, after_get, after_join, after_look, after_new, after_read}
+use Rattle.tj_trace.proofs.Prelude.{after_set, after_stage, after_try_fork, after_write, ap, arith, before, cond, false}
+use Rattle.tj_trace.proofs.Prelude.{given, hand_all, has, last_round, length, length-append, logged, logged_asks}
+use Rattle.tj_trace.proofs.Prelude.{logged_awaits, logged_left, logged_places, logged_program, logged_then, made_by}
+use Rattle.tj_trace.proofs.Prelude.{maker_here, map, not, point_after, reference, refl, root_task, rules_of, subst, suc}
+use Rattle.tj_trace.proofs.Prelude.{sym, tasks, true, with_wait, zero, ℕ, ◌&&◌, ◌*◌, ◌++◌, ◌+◌, ◌∙◌, ◌∷◌, ◌≡◌}
+use Rattle.std.proofs.Common.{nat_eq, append-nil, eq-eqb}
 use Rattle.std.proofs.lemmas.Bool.{ne_eqb}
-use Rattle.std.proofs.lemmas.List.{length-append}
-use Rattle.tj_base.specs.ForkOrder.{Name, before}
-use Rattle.tj_base.specs.declared.cell.Sort.{Sort}
-use Rattle.tj_base.specs.declared.cell.Sort.TheVariants as sort
-use Rattle.tj_base.specs.declared.cause.Cause.{Cause}
-use Rattle.tj_base.specs.declared.cause.Cause.TheVariants as cause
-use Rattle.tj_body.specs.Names.{has}
-use Rattle.tj_body.specs.Points.{IsIn}
-use Rattle.tj_body.specs.Programs.{Rules, rules_of, root_task}
-use Rattle.tj_body.specs.History.{Assignment, after_new, after_try_fork, after_failure, after_write, after_set}
-use Rattle.tj_body.specs.History.{after_get, after_join, after_read, after_look, after_ask, after_stage, with_wait}
-use Rattle.tj_body.specs.History.{hand_all, reference, point_after}
-use Rattle.tj_body.specs.Rounds.{given, tasks, last_round}
 use Rattle.tj_body.specs.SeenAs.{ask_as, task_as, point_as, AreSeenAs}
-use Rattle.tj_body.specs.declared.ask.Ask.{Ask}
-use Rattle.tj_body.specs.declared.ask.Ask.TheVariants as ask
-use Rattle.tj_body.specs.declared.point.Reference.{Reference}
-use Rattle.tj_body.specs.declared.point.Value.{Value}
-use Rattle.tj_body.specs.declared.point.Value.TheVariants as value
-use Rattle.tj_body.specs.declared.point.Entry.{Entry}
-use Rattle.tj_body.specs.declared.point.Entry.TheVariants as entry
-use Rattle.tj_body.specs.declared.point.PointStage.{PointStage}
-use Rattle.tj_body.specs.declared.point.PointStage.TheVariants as stage
-use Rattle.tj_body.specs.declared.point.Task.{Task}
-use Rattle.tj_body.specs.declared.point.Point.{Point}
 use Rattle.tj_body.proofs.Lists.{in_map}
 use Rattle.tj_body.proofs.SeenAs.{histories_seen, rounds_seen}
 use Rattle.tj_body.proofs.Rounds.Rises.{one_of_all}
 use Rattle.tj_eval.specs.Stands.{PlacedState, placed_places, placed_awaits, placed_left, placed_asks, placed_then}
-use Rattle.tj_trace.specs.Logs.{Logged, logged, made_by, maker_here, logged_places, logged_awaits, logged_left}
-use Rattle.tj_trace.specs.Logs.{logged_asks, logged_then, logged_program}
 use Rattle.tj_trace.specs.MadeAt.{placed_program, made_here, made_between, made_until, IsLineOf, LinesAreOfStands}
-use Rattle.tj_trace.specs.declared.line.Maker.{Maker}
 use Rattle.tj_trace.proofs.Noted.{family_fresh, notes_at}
 use Rattle.tj_trace.proofs.HasLines.{HasLine, of_line, line_name, line_makers, line_stand}
+use Rattle.tj_base.specs.declared.cell.Sort.TheVariants as sort
+use Rattle.tj_base.specs.declared.cause.Cause.TheVariants as cause
+use Rattle.tj_body.specs.declared.ask.Ask.TheVariants as ask
+use Rattle.tj_body.specs.declared.point.Value.TheVariants as value
+use Rattle.tj_body.specs.declared.point.Entry.TheVariants as entry
+use Rattle.tj_body.specs.declared.point.PointStage.TheVariants as stage
 
 -- a task without its notes
 abbrev place : Logged → PlacedState

@@ -1,44 +1,26 @@
 -- What a task made is what its notes tell, step by step.
-use Rattle.std.proofs.Common.{◌≡◌, ℕ, zero, suc, ◌+◌, ◌*◌, Bool, true, false, cond, List, [], ◌∷◌, ◌++◌, map, length}
-use Rattle.std.proofs.Common.{Option, Some, None, Result, Ok, Err, refl, sym, ap, ◌∙◌, subst, arith, not, ◌&&◌, inl}
-use Rattle.std.proofs.Common.{inr, ⊎_elim, append-nil}
+use Rattle.tj_trace.proofs.Prelude.{Ask, Assignment, Bool, Cause, Entry, Err, IsIn, List, Logged, Maker, Name, None, Ok}
+use Rattle.tj_trace.proofs.Prelude.{Option, Point, PointStage, Reference, Rules, Some, Sort, Task, TraceLine, Value, []}
+use Rattle.tj_trace.proofs.Prelude.{after_ask, after_get, after_join, after_look, after_new, after_read, after_set, ap}
+use Rattle.tj_trace.proofs.Prelude.{ask_as, before, child, cond, ending_of, hand_all, has, history, inl, inr, line_with}
+use Rattle.tj_trace.proofs.Prelude.{logged, logged_then, maker_here, map, not, option_map, reference, refl, root_task}
+use Rattle.tj_trace.proofs.Prelude.{rules_of, suc, sym, true, with_wait, zero, ℕ, ◌&&◌, ◌*◌, ◌++◌, ◌+◌, ◌∙◌, ◌∷◌, ◌≡◌}
+use Rattle.std.proofs.Common.{false, length, Result, subst, arith, ⊎_elim, append-nil}
 use Rattle.std.proofs.lemmas.List.{length-append, map-append}
 use Rattle.std.specs.List.{flat_map}
-use Rattle.std.specs.Option.{option_map}
-use Rattle.tj_base.specs.ForkOrder.{Name, child, before}
-use Rattle.tj_base.specs.declared.cell.Sort.{Sort}
-use Rattle.tj_base.specs.declared.cell.Sort.TheVariants as sort
-use Rattle.tj_base.specs.declared.cause.Cause.{Cause}
-use Rattle.tj_base.specs.declared.cause.Cause.TheVariants as cause
-use Rattle.tj_body.specs.Names.{has}
-use Rattle.tj_body.specs.Points.{IsIn}
-use Rattle.tj_body.specs.Programs.{Rules, rules_of, root_task}
-use Rattle.tj_body.specs.History.{Assignment, after_new, after_try_fork, after_failure, after_write, after_set}
-use Rattle.tj_body.specs.History.{after_get, after_join, after_read, after_look, after_ask, after_stage, with_wait}
-use Rattle.tj_body.specs.History.{hand_all, next_child, reference, point_after, history}
+use Rattle.tj_body.specs.History.{after_try_fork, after_failure, after_write, after_stage, next_child, point_after}
 use Rattle.tj_body.specs.Rounds.{family, given, tasks, last_round}
-use Rattle.tj_body.specs.SeenAs.{ask_as}
-use Rattle.tj_body.specs.declared.ask.Ask.{Ask}
-use Rattle.tj_body.specs.declared.ask.Ask.TheVariants as ask
-use Rattle.tj_body.specs.declared.point.Reference.{Reference}
-use Rattle.tj_body.specs.declared.point.Value.{Value}
-use Rattle.tj_body.specs.declared.point.Value.TheVariants as value
-use Rattle.tj_body.specs.declared.point.Entry.{Entry}
-use Rattle.tj_body.specs.declared.point.Entry.TheVariants as entry
-use Rattle.tj_body.specs.declared.point.Close.TheVariants as close
-use Rattle.tj_body.specs.declared.point.PointStage.{PointStage}
-use Rattle.tj_body.specs.declared.point.PointStage.TheVariants as stage
-use Rattle.tj_body.specs.declared.point.Task.{Task}
-use Rattle.tj_body.specs.declared.point.Point.{Point}
 use Rattle.tj_body.proofs.Lists.{in_either}
 use Rattle.tj_eval.specs.Stands.{PlacedState, placed_asks}
-use Rattle.tj_mean.specs.Outcomes.{ending_of}
-use Rattle.tj_trace.specs.Logs.{Logged, logged, made_by, maker_here, noted, logged_places, logged_awaits, logged_left}
-use Rattle.tj_trace.specs.Logs.{logged_asks, logged_then, logged_program}
-use Rattle.tj_trace.specs.Traces.{line_with}
+use Rattle.tj_trace.specs.Logs.{made_by, noted, logged_places, logged_awaits, logged_left, logged_asks, logged_program}
 use Rattle.tj_trace.specs.NoteLaws.{is_sort, things, AreNoted, NotesAreWhole}
-use Rattle.tj_trace.specs.declared.line.Maker.{Maker}
-use Rattle.tj_trace.specs.declared.line.TraceLine.{TraceLine}
+use Rattle.tj_base.specs.declared.cell.Sort.TheVariants as sort
+use Rattle.tj_base.specs.declared.cause.Cause.TheVariants as cause
+use Rattle.tj_body.specs.declared.ask.Ask.TheVariants as ask
+use Rattle.tj_body.specs.declared.point.Value.TheVariants as value
+use Rattle.tj_body.specs.declared.point.Entry.TheVariants as entry
+use Rattle.tj_body.specs.declared.point.Close.TheVariants as close
+use Rattle.tj_body.specs.declared.point.PointStage.TheVariants as stage
 
 -- the name of the thing that a task makes next, if it is of this sort
 abbrev next_thing : Sort → Maker → Name → ℕ → List Name

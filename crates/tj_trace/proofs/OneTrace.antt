@@ -1,14 +1,8 @@
 -- A meaning has one trace.
-use Rattle.std.proofs.Common.{List, Some, [], ap, inl, inr, map, refl, sym, ℕ, ◌∙◌, ◌∷◌, ◌≡◌}
-use Rattle.tj_body.specs.Points.{IsIn}
+use Rattle.tj_trace.proofs.Prelude.{AreTraced, IsIn, List, Logged, Point, Some, TraceLine, [], ap, in_permuted}
+use Rattle.tj_trace.proofs.Prelude.{in_unpermuted, inl, inr, line_of, map, meaning, refl, sym, ℕ, ◌∙◌, ◌∷◌, ◌≡◌}
 use Rattle.tj_body.specs.Programs.{Program}
-use Rattle.tj_body.specs.Rounds.{meaning}
-use Rattle.tj_body.specs.declared.point.Point.{Point}
-use Rattle.tj_mean.proofs.Lists.NameOrder.{in_permuted, in_unpermuted}
 use Rattle.tj_mean.proofs.Outcomes.OneOutcome.{same_in_order}
-use Rattle.tj_trace.specs.Logs.{Logged}
-use Rattle.tj_trace.specs.Traces.{AreTraced, line_of}
-use Rattle.tj_trace.specs.declared.line.TraceLine.{TraceLine}
 
 -- a history of which this is told
 record IsTold (ps : List (Point Logged)) (l : TraceLine) : Type 0 where

@@ -1,42 +1,28 @@
 -- A cell has one owner at most where the tasks have stopped: what is owed is written, and nothing is owned or written
 -- twice.
-use Rattle.std.proofs.Common.{◌≡◌, ℕ, zero, suc, ◌*◌, ◌≤◌, Bool, true, false, ◌∷◌, map, Option, Some, None, refl, sym}
-use Rattle.std.proofs.Common.{ap, ◌∙◌, subst, inr, arith}
-use Rattle.tj_base.specs.ForkOrder.{Name}
-use Rattle.tj_base.specs.declared.cause.Cause.TheVariants as cause
+use Rattle.tj_trace.proofs.Prelude.{Ask, Bool, Ending, Entry, IsIn, Logged, Name, PlacedState, Point, PointStage, Rules}
+use Rattle.tj_trace.proofs.Prelude.{Task, TraceLine, after_ask, after_look, after_read, ap, ending_of, given, history}
+use Rattle.tj_trace.proofs.Prelude.{inr, last_round, line_of, logged_asks, logged_awaits, logged_left, logged_places}
+use Rattle.tj_trace.proofs.Prelude.{logged_program, logged_then, map, rules_of, suc, sym, tasks, ℕ, ◌*◌, ◌∙◌, ◌∷◌, ◌≡◌}
+use Rattle.std.proofs.Common.{zero, ◌≤◌, true, false, Option, Some, None, refl, subst, arith}
 use Rattle.tj_body.specs.Names.{in_order}
-use Rattle.tj_body.specs.Points.{IsIn}
-use Rattle.tj_body.specs.Programs.{Rules, rules_of}
-use Rattle.tj_body.specs.History.{Assignment, after_close, after_read, after_look, after_ask, after_stage, history}
-use Rattle.tj_body.specs.History.{owned_in, point_after, value_at, with_entry}
-use Rattle.tj_body.specs.Rounds.{given, tasks, last_round}
+use Rattle.tj_body.specs.History.{Assignment, after_close, after_stage, owned_in, point_after, value_at, with_entry}
 use Rattle.tj_body.specs.Inner.AskSteps.{IsAskStep, fails, ends, makes, forks, sets, gets, joins, prints}
-use Rattle.tj_body.specs.declared.ask.Ask.{Ask}
 use Rattle.tj_body.specs.declared.point.Close.{Close}
-use Rattle.tj_body.specs.declared.point.Close.TheVariants as close
-use Rattle.tj_body.specs.declared.point.Value.TheVariants as value
-use Rattle.tj_body.specs.declared.point.Entry.{Entry}
-use Rattle.tj_body.specs.declared.point.Entry.TheVariants as entry
-use Rattle.tj_body.specs.declared.point.PointStage.{PointStage}
-use Rattle.tj_body.specs.declared.point.PointStage.TheVariants as stage
-use Rattle.tj_body.specs.declared.point.Task.{Task}
-use Rattle.tj_body.specs.declared.point.Point.{Point}
 use Rattle.tj_body.proofs.Counts.{times_of_in, total_one}
 use Rattle.tj_body.proofs.Histories.AskSteps.{is_ask_step}
 use Rattle.tj_body.proofs.Lists.{in_left, in_right, to_map}
 use Rattle.tj_body.proofs.Rounds.Families.{uses}
 use Rattle.tj_body.proofs.Rounds.Rises.{once_in_round, tasks_within, wrote_of_in}
-use Rattle.tj_eval.specs.Stands.{PlacedState}
-use Rattle.tj_mean.specs.Outcomes.{ending_of}
-use Rattle.tj_mean.specs.declared.outcome.Ending.{Ending}
-use Rattle.tj_mean.specs.declared.outcome.Ending.TheVariants as ending
-use Rattle.tj_trace.specs.Logs.{Logged, logged_places, logged_awaits, logged_left, logged_asks, logged_then}
-use Rattle.tj_trace.specs.Logs.{logged_program}
 use Rattle.tj_trace.specs.Lookups.{kept_by, kept_with}
 use Rattle.tj_trace.specs.OneOwners.{OwnersAreOne}
-use Rattle.tj_trace.specs.Traces.{line_of}
-use Rattle.tj_trace.specs.declared.line.TraceLine.{TraceLine}
 use Rattle.tj_trace.proofs.HasLines.{not_none, some_is, ended_line, line_is, HasLine, of_line}
+use Rattle.tj_base.specs.declared.cause.Cause.TheVariants as cause
+use Rattle.tj_body.specs.declared.point.Close.TheVariants as close
+use Rattle.tj_body.specs.declared.point.Value.TheVariants as value
+use Rattle.tj_body.specs.declared.point.Entry.TheVariants as entry
+use Rattle.tj_body.specs.declared.point.PointStage.TheVariants as stage
+use Rattle.tj_mean.specs.declared.outcome.Ending.TheVariants as ending
 
 module _ {B : Type 0} where
   -- what the task owes is broken among its writes

@@ -1,54 +1,37 @@
 -- At each point of a task's history its notes, its children and the statement at which it stands are right.
-use Rattle.std.proofs.Common.{◌≡◌, ℕ, zero, suc, ◌*◌, pos, Bool, true, false, cond, not, ◌&&◌, List, [], ◌∷◌, ◌++◌, map}
-use Rattle.std.proofs.Common.{length, Option, Some, None, Result, Ok, Err, refl, sym, ap, ◌∙◌, subst, arith, inl, inr}
-use Rattle.std.proofs.Common.{⊎_elim, ◌⊎◌}
-use Rattle.std.specs.Prelude.{slice_get}
-use Rattle.std.proofs.lemmas.List.{length-append}
-use Rattle.tj_base.specs.ForkOrder.{Name, child, before}
-use Rattle.tj_base.specs.declared.cell.Sort.{Sort}
-use Rattle.tj_base.specs.declared.cell.Sort.TheVariants as sort
-use Rattle.tj_base.specs.declared.cause.Cause.{Cause}
-use Rattle.tj_base.specs.declared.cause.Cause.TheVariants as cause
+use Rattle.tj_trace.proofs.Prelude.{Ask, Assignment, Bool, Cause, Entry, Err, IsIn, List, Logged, Maker, Name, None, Ok}
+use Rattle.tj_trace.proofs.Prelude.{Point, PointStage, Reference, Rules, Sort, Task, Value, [], after_ask, after_get}
+use Rattle.tj_trace.proofs.Prelude.{after_join, after_look, after_new, after_read, after_set, after_stage, after_write}
+use Rattle.tj_trace.proofs.Prelude.{ap, ask_as, before, child, cond, hand_all, has, history, inl, inr, length-append}
+use Rattle.tj_trace.proofs.Prelude.{logged, logged_asks, logged_awaits, logged_left, logged_places, logged_then}
+use Rattle.tj_trace.proofs.Prelude.{made_by, maker_here, map, not, point_after, reference, refl, rules_of, slice_get}
+use Rattle.tj_trace.proofs.Prelude.{suc, sym, true, with_wait, within, zero, ℕ, ◌&&◌, ◌*◌, ◌++◌, ◌∙◌, ◌∷◌, ◌≡◌, ◌⊎◌}
+use Rattle.std.proofs.Common.{pos, false, length, Option, Some, Result, subst, arith, ⊎_elim}
 use Rattle.tj_base.specs.declared.cause.Trouble.{Trouble}
-use Rattle.tj_base.specs.declared.cause.Trouble.TheVariants as trouble
 use Rattle.tj_base.specs.declared.value.Pay.{Pay}
-use Rattle.tj_base.specs.declared.value.Pay.TheVariants as pay
-use Rattle.tj_body.specs.Names.{has, without}
-use Rattle.tj_body.specs.Points.{IsIn}
-use Rattle.tj_body.specs.Programs.{Rules, rules_of}
-use Rattle.tj_body.specs.History.{Assignment, after_new, after_try_fork, after_failure, after_end, after_write}
-use Rattle.tj_body.specs.History.{after_set, after_get, after_join, after_read, after_look, after_ask, after_stage}
-use Rattle.tj_body.specs.History.{with_wait, cause_of, hand_all, hand_one, next_child, reference, point_after, history}
-use Rattle.tj_body.specs.History.{value_at}
-use Rattle.tj_body.specs.SeenAs.{ask_as}
-use Rattle.tj_body.specs.declared.ask.Answer.TheVariants as answer
-use Rattle.tj_body.specs.declared.ask.Ask.{Ask}
-use Rattle.tj_body.specs.declared.ask.Ask.TheVariants as ask
-use Rattle.tj_body.specs.declared.point.Reference.{Reference}
-use Rattle.tj_body.specs.declared.point.Value.{Value}
-use Rattle.tj_body.specs.declared.point.Value.TheVariants as value
-use Rattle.tj_body.specs.declared.point.Entry.{Entry}
-use Rattle.tj_body.specs.declared.point.Entry.TheVariants as entry
-use Rattle.tj_body.specs.declared.point.Close.TheVariants as close
-use Rattle.tj_body.specs.declared.point.PointStage.{PointStage}
-use Rattle.tj_body.specs.declared.point.PointStage.TheVariants as stage
-use Rattle.tj_body.specs.declared.point.Task.{Task}
-use Rattle.tj_body.specs.declared.point.Point.{Point}
+use Rattle.tj_body.specs.Names.{without}
+use Rattle.tj_body.specs.History.{after_try_fork, after_failure, after_end, cause_of, hand_one, next_child, value_at}
 use Rattle.tj_syntax.specs.Parts.{own_ask}
-use Rattle.tj_syntax.specs.Trees as tree
 use Rattle.tj_syntax.specs.Trees.{Argument, Statement}
-use Rattle.tj_syntax.specs.Within.{within}
 use Rattle.tj_eval.specs.Bodies.{script_asks}
 use Rattle.tj_eval.specs.Stands.{PlacedState, StandsRight, AreNamed, placed, placed_then, all_ahead}
 use Rattle.tj_eval.specs.Statements.{TaskState, Due, start, place, cell, cell_or, done, over, answered}
 use Rattle.tj_eval.proofs.Stands.{ChildOf, all_named}
 use Rattle.tj_mean.proofs.Lists.Elements.{in_snoc}
-use Rattle.tj_trace.specs.Logs.{Logged, logged, made_by, maker_here, logged_places, logged_awaits, logged_left}
-use Rattle.tj_trace.specs.Logs.{logged_asks, logged_then}
 use Rattle.tj_trace.specs.RightLines.{IsGet, IsJoin, IsWait, IsFork, IsSet, IsReturn, MayFail, Makes}
-use Rattle.tj_trace.specs.declared.line.Maker.{Maker}
 use Rattle.tj_trace.proofs.Asked.{IsAskOf, IsThere, MayTake, is_asked}
 use Rattle.tj_trace.proofs.Noted.{notes_at}
+use Rattle.tj_base.specs.declared.cell.Sort.TheVariants as sort
+use Rattle.tj_base.specs.declared.cause.Cause.TheVariants as cause
+use Rattle.tj_base.specs.declared.cause.Trouble.TheVariants as trouble
+use Rattle.tj_base.specs.declared.value.Pay.TheVariants as pay
+use Rattle.tj_body.specs.declared.ask.Answer.TheVariants as answer
+use Rattle.tj_body.specs.declared.ask.Ask.TheVariants as ask
+use Rattle.tj_body.specs.declared.point.Value.TheVariants as value
+use Rattle.tj_body.specs.declared.point.Entry.TheVariants as entry
+use Rattle.tj_body.specs.declared.point.Close.TheVariants as close
+use Rattle.tj_body.specs.declared.point.PointStage.TheVariants as stage
+use Rattle.tj_syntax.specs.Trees as tree
 
 -- a task of the script that has noted nothing, and stands right
 pub record IsNew (script : List tree.Task) (t : Task Logged) : Type 0 where

@@ -1,23 +1,19 @@
 -- A trace is of the outcome of the program without stands.
-use Rattle.std.proofs.Common.{◌≡◌, ◌<◌, Bool, List, [], ◌∷◌, Some, map, length, refl, sym, ap, ◌∙◌, subst}
+use Rattle.tj_trace.proofs.Prelude.{PlacedState, Point, TraceLine, [], in_permuted, in_unpermuted, line_of, names_of}
+use Rattle.std.proofs.Common.{◌≡◌, ◌<◌, Bool, List, ◌∷◌, Some, map, length, refl, sym, ap, ◌∙◌, subst}
 use Rattle.std.specs.List.Sorted.{IsPermutation}
 use Rattle.std.proofs.lemmas.List.Sorted.{IsPermutation-map}
 use Rattle.tj_body.specs.Rounds.{meaning, cells, last_round}
 use Rattle.tj_body.specs.SeenAs.{point_as, IsSeenAs}
-use Rattle.tj_body.specs.declared.point.Point.{Point}
 use Rattle.tj_body.proofs.SeenAs.{rounds_seen, meaning_seen}
-use Rattle.tj_eval.specs.Stands.{PlacedState}
 use Rattle.tj_mean.specs.Outcomes.{Ascend, IsOutcome, stopped_of}
 use Rattle.tj_mean.specs.declared.outcome.Outcome.{Outcome}
 use Rattle.tj_mean.specs.declared.outcome.TaskLine.{TaskLine}
 use Rattle.tj_mean.specs.declared.stopped.Stopped.{Stopped}
-use Rattle.tj_mean.proofs.Lists.NameOrder.{in_permuted, in_unpermuted}
 use Rattle.tj_mean.proofs.Outcomes.OneOutcome.{same_in_order}
 use Rattle.tj_mean.proofs.Outcomes.ToldOutcomes.{any_order}
 use Rattle.tj_trace.specs.Logs.{Logged, erased, logged_program}
-use Rattle.tj_trace.specs.Traces.{line_of, names_of}
 use Rattle.tj_trace.specs.TraceLaws.{script_program, IsOfOutcome, IsFullAlike}
-use Rattle.tj_trace.specs.declared.line.TraceLine.{TraceLine}
 use Rattle.tj_trace.specs.Inner.LogLaws.{are_seen}
 use Rattle.tj_trace.proofs.Told.{same_told}
 

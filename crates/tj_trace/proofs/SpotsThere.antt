@@ -1,16 +1,13 @@
 -- The position of a statement's number is that of its first token.
-use Rattle.std.proofs.Common.{◌≡◌, ℕ, zero, suc, List, [], ◌∷◌, ◌++◌, map, length, Some, None, refl, sym, ap}
-use Rattle.std.proofs.Common.{◌∙◌, subst}
-use Rattle.std.specs.Prelude.{slice_get}
-use Rattle.std.specs.Option.{option_map}
+use Rattle.tj_trace.proofs.Prelude.{List, None, Some, Statement, [], ap, length, map, option_map, refl, slice_get}
+use Rattle.tj_trace.proofs.Prelude.{subst, suc, sym, within, zero, ℕ, ◌++◌, ◌∙◌, ◌∷◌, ◌≡◌}
 use Rattle.std.proofs.lemmas.Option.{slice_get-map}
 use Rattle.tj_lex.specs.declared.token.Token.{Token}
 use Rattle.tj_syntax.specs.Marks.{Name, Noted}
 use Rattle.tj_syntax.specs.Parts.{StatementStandsAt, StandAt, TaskStandsAt, TasksStandAt}
 use Rattle.tj_syntax.specs.PlacesOf.{place_at, statement_place, task_place, places_of}
 use Rattle.tj_syntax.specs.Starts.{Start, TaskStart, in_tasks}
-use Rattle.tj_syntax.specs.Trees.{Statement, Task}
-use Rattle.tj_syntax.specs.Within.{within}
+use Rattle.tj_syntax.specs.Trees.{Task}
 use Rattle.tj_syntax.specs.declared.positions.StatementPlace.{StatementPlace}
 use Rattle.tj_syntax.proofs.Starting.Parts.{script_stands}
 use Rattle.tj_trace.specs.Lookups.{spots, spot_of, ask_in, ask_spot_of}

@@ -1,21 +1,16 @@
 -- The lines of a trace, from what is told of tasks with their bodies.
-use Rattle.std.proofs.Common.{◌≡◌, ℕ, Bool, List, [], ◌∷◌, map, Option, Some, None, refl, sym, ap, ◌∙◌, subst}
-use Rattle.std.specs.Option.{option_map}
+use Rattle.tj_trace.proofs.Prelude.{AreTraced, Ascend, Bool, List, Logged, None, Option, PlacedState, Point, Some}
+use Rattle.tj_trace.proofs.Prelude.{TraceLine, [], ap, line_of, line_with, logged, logged_asks, logged_awaits}
+use Rattle.tj_trace.proofs.Prelude.{logged_left, logged_places, logged_program, logged_then, map, meaning, names_of}
+use Rattle.tj_trace.proofs.Prelude.{option_map, refl, subst, sym, ℕ, ◌∙◌, ◌∷◌, ◌≡◌}
 use Rattle.std.specs.List.Sorted.{IsPermutation}
 use Rattle.std.proofs.lemmas.List.Sorted.{IsPermutation-sym}
 use Rattle.tj_body.specs.Laws.{AreDistinct}
 use Rattle.tj_body.specs.Programs.{Program, program_of}
-use Rattle.tj_body.specs.Rounds.{meaning}
-use Rattle.tj_body.specs.declared.point.Point.{Point}
-use Rattle.tj_eval.specs.Stands.{PlacedState}
-use Rattle.tj_mean.specs.Outcomes.{Ascend, AreBodiesOf, stopped_of, body_of}
+use Rattle.tj_mean.specs.Outcomes.{AreBodiesOf, stopped_of, body_of}
 use Rattle.tj_mean.specs.declared.stopped.Stopped.{Stopped}
 use Rattle.tj_mean.specs.declared.stopped.StoppedBody.{StoppedBody}
 use Rattle.tj_mean.proofs.Outcomes.ToldOutcomes.{apart_in_order, meaning_apart, told_in_order}
-use Rattle.tj_trace.specs.Logs.{Logged, logged, logged_places, logged_awaits, logged_left, logged_asks, logged_then}
-use Rattle.tj_trace.specs.Logs.{logged_program}
-use Rattle.tj_trace.specs.Traces.{AreTraced, line_with, line_of, names_of}
-use Rattle.tj_trace.specs.declared.line.TraceLine.{TraceLine}
 
 -- the line of a task with its body
 abbrev pub line : StoppedBody Logged → TraceLine

@@ -1,5 +1,5 @@
+use Rattle.tj_trace.proofs.Prelude.{TraceLine}
 use Rattle.std.proofs.Common.{rules}
-use Rattle.tj_trace.specs.declared.line.TraceLine.{TraceLine}
 use Rattle.tj_mean.proofs.Lists.NameOrder.{sorted_ascends}
 use Rattle.tj_trace.proofs.traced.in_name_order.Goals as goal
 

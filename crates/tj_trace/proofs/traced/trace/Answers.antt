@@ -1,11 +1,9 @@
-use Rattle.std.proofs.Common.{◌∙◌, ap, subst, sym}
+use Rattle.tj_trace.proofs.Prelude.{AreTraced, ap, logged, logged_asks, logged_awaits, logged_left, logged_places}
+use Rattle.tj_trace.proofs.Prelude.{logged_program, logged_then, subst, sym, ◌∙◌}
 use denote.Param.Send.{sendable}
 use Rattle.std.proofs.Crossing.{crosses}
 use Rattle.tj_body.specs.Programs.{program_of}
 use Rattle.tj_syntax.proofs.Sends.{expr_sync, stmt_sync, script_sync}
-use Rattle.tj_trace.specs.Logs.{logged, logged_places, logged_awaits, logged_left, logged_asks, logged_then}
-use Rattle.tj_trace.specs.Logs.{logged_program}
-use Rattle.tj_trace.specs.Traces.{AreTraced}
 use Rattle.tj_trace.proofs.Sends.{size_sync, sizes_sync}
 use Rattle.tj_trace.proofs.Told.{names_apart, are_traced}
 use Rattle.tj_trace.proofs.traced.trace.Goals as goal
