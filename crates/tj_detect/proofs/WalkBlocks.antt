@@ -1,9 +1,10 @@
 -- A call from its publish on, and what its verdict says of each table under the law.
 use Rattle.tj_detect.proofs.Prelude.{Alarm, Along, Blocks, Bool, Comes, Custody, Does, EndsWith, IsAtCount, IsLoad}
-use Rattle.tj_detect.proofs.Prelude.{IsWalkOf, MayBlock, MayCount, Other, Program, SawOthers, Skipped, Some, Verdict}
-use Rattle.tj_detect.proofs.Prelude.{View, Walked, Walker, WalksWith, Way, [], ap, arith, does_after, doing, held_in}
-use Rattle.tj_detect.proofs.Prelude.{one_some, others_read, read_on, refl, start_walk, subst, sym, tokens_given, turned}
-use Rattle.tj_detect.proofs.Prelude.{walk_first, walk_others, walk_with, ℕ, ◌*◌, ◌+◌, ◌↔◌, ◌∙◌, ◌≡◌, ◌≢◌, ◌≤◌}
+use Rattle.tj_detect.proofs.Prelude.{IsWalkOf, List, MayBlock, MayCount, Other, Program, SawOthers, Skipped, Some}
+use Rattle.tj_detect.proofs.Prelude.{Verdict, View, Walked, Walker, WalksWith, Way, [], ap, arith, does_after, doing}
+use Rattle.tj_detect.proofs.Prelude.{held_in, one_some, others_read, read_on, refl, start_walk, subst, sym}
+use Rattle.tj_detect.proofs.Prelude.{tokens_given, turned, walk_first, walk_others, walk_with, ℕ, ◌*◌, ◌+◌, ◌↔◌, ◌∙◌}
+use Rattle.tj_detect.proofs.Prelude.{◌≡◌, ◌≢◌, ◌≤◌}
 use Rattle.tj_events.specs.WalkLaws.{SettlersAreNotAlone}
 use Rattle.tj_words.specs.Calls.WaitViews.{now_does, published, MayPublishWait}
 use Rattle.tj_words.specs.Steps.WalkSteps.{MayWait}
@@ -13,6 +14,7 @@ use Rattle.tj_detect.specs.Blocks.{HasReadNoOthers, IsStepCount, InEachTable, St
 use Rattle.tj_detect.proofs.NeededWalks.{needed}
 use Rattle.tj_detect.proofs.Doings.{doing_held, doing_on, turned_doing, published_doing}
 use Rattle.tj_words.specs.declared.view.Does.TheVariants as does
+use Rattle.tj_detect.proofs.WalkReads.{walks_at}
 
 -- the steps of a walk and at most two before it
 few_from : (verdict : Verdict) (bound n k : ℕ) → verdict ≢ Skipped → n ≤ 3 * bound + 1 → k ≤ 2
@@ -29,32 +31,28 @@ module _ {B : Type 0} (v : View B) (t q : ℕ) (way : Way) (m : MayBlock t q way
   abbrev k : Custody B
   k = m.custody
 
-  -- a wait may be published after steps that left the task running or raised
-  publish_after : (d : Does) (n : ℕ) → MayWait way d → MayPublishWait t q way (doing t d n 0 v)
-  publish_after d n may = record {
+  -- a wait may be published where t may wait, if but steps were made
+  publish_now : (d : Does) (tasks : List (Custody B)) (steps tokens : ℕ) → held_in tasks t ≡ Some (now_does d k)
+      → tokens ≡ v.tokens → MayWait way d
+      → MayPublishWait t q way (record v { tasks = tasks; steps = steps; tokens = tokens })
+  publish_now d tasks steps tokens held same may = record {
     custody = now_does d k;
-    held = doing_held v t k m.held d n 0;
+    held = held;
     out = m.out;
     may = may;
     result = m.result;
     task_known = m.task_known;
     cell_known = m.cell_known;
     its_way = m.its_way;
-    wakes = λ x. let y = m.wakes x in omega (arith, y);
+    wakes = λ x. let y = m.wakes x in omega (arith, same, y);
   }
 
+  -- so after steps that left the task running or raised
+  publish_after : (d : Does) (n : ℕ) → MayWait way d → MayPublishWait t q way (doing t d n 0 v)
+  publish_after d n may = publish_now d _ _ _ (doing_held v t k m.held d n 0) (omega arith) may
+
   pub may_publish : MayWait way k.does → MayPublishWait t q way v
-  may_publish may = record {
-    custody = k;
-    held = m.held;
-    out = m.out;
-    may = may;
-    result = m.result;
-    task_known = m.task_known;
-    cell_known = m.cell_known;
-    its_way = m.its_way;
-    wakes = m.wakes;
-  }
+  may_publish may = publish_now k.does v.tasks v.steps v.tokens m.held refl may
 
   pub may_raise : MayRaise t v
   may_raise = record { task = k; held = m.held; acts = m.runs; result = m.result }
@@ -84,15 +82,7 @@ module _ {B : Type 0} (v : View B) (t q : ℕ) (way : Way) (m : MayBlock t q way
     )
 
     pub walks_now : (F : ℕ → Way → Walker → Type 0) → F q way w → IsWalking t F v1
-    walks_now F may = record {
-      task = walking.0;
-      wait = q;
-      way = way;
-      walker = w;
-      held = walking.1;
-      does = walking.2;
-      may = may;
-    }
+    walks_now F may = walks_at walking may
 
     counts : IsWalkOf t way w → MayCount way w → w.trail ≡ [] → w.loads ≡ 0
         → IsAtCount t q way (doing t (does.Walking q way w) n 0 v)

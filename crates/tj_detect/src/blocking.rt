@@ -23,7 +23,7 @@ use tj_events::settlers_are_not_alone;
 use tj_words::{Laid, Phase, WSeat, Walk, Way};
 
 /// What a call that blocks on a wait came to.
-#[derive(Clone, Copy, Debug, PartialEq, Eq)]
+#[derive(Clone, Copy, PartialEq, Eq)]
 pub enum Verdict {
     /// The task is on a standing cycle, and has alarmed.
     Alarm,
