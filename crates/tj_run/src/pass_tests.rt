@@ -118,11 +118,8 @@ fn plays<R: Wait + Abort>(
     }
     let lists = lists_of(alloc, written)?;
     let root = root_of(rt, &lists);
-    match play::<TableBody<'_>, LockedPool, R>(rt, alloc, root, cells) {
-        Ok(Some(told)) => Ok(is_played(&told, turns, seen)),
-        Ok(None) => panic!(rt; "a task came back from its wait"),
-        Err(_) => Err(Oom),
-    }
+    let told = play::<TableBody<'_>, LockedPool, R>(rt, alloc, root, cells);
+    Ok(is_played(&told, turns, seen))
 }
 
 #[test]

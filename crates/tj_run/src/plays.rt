@@ -1,5 +1,5 @@
 //! Plays, for tests: one seat takes its turns, each with the task that a pool gives it.
-ghost use Rattle.std.specs.Prelude.{◌≡◌, ◌<◌, ◌≤◌, IfOk, IfSome};
+ghost use Rattle.std.specs.Prelude.{◌≡◌, ◌<◌, ◌≤◌};
 ghost use Rattle.tj_base.specs.declared.cell.TheConstants.{MAX_CELLS};
 ghost use Rattle.tj_body.specs.Asks.{IsFresh};
 ghost use Rattle.tj_body.specs.Programs.{program_of};
@@ -13,9 +13,10 @@ use crate::answers::resume;
 use crate::next::Next;
 use crate::tasks::one_ask;
 use crate::waits::block_at;
-use crate::why::Why;
 use crate::writes::end;
+use crate::written::one_end;
 use std::alloc::Global;
+use std::process::Abort;
 use std::sync::Wait;
 use tj_base::CellId;
 use tj_body::Body;
@@ -52,39 +53,37 @@ pub(crate) struct Played {
 }
 
 /// A table of so many cells for a program with this root, and the turns of its first seat, with the tasks
-/// that the pool gives. `None` comes where a task came back from its wait.
-pub(crate) fn play<B: Body, P: Pool, R: Wait>(
+/// that the pool gives.
+pub(crate) fn play<B: Body, P: Pool, R: Wait + Abort>(
     rt: &R,
     alloc: Global,
     root: B,
     cells: u32,
-) -> Result<Option<Played>, Why>
+) -> Played
     requires cells { (0 < cells) × (cells ≤ MAX_CELLS) }
     requires root { IsFresh B.places B.awaits B.left 1 root }
 {
-    let mut ends = P::make(rt, alloc, 1, cells)?;
-    let (laid, seat) = Laid::new(alloc, cells, root, false)?;
-    let mut seat = seat;
-    let Some(mut pool) = ends.pop() else {
-        return Ok(None);
+    let mut pool = one_end::<P, R>(rt, alloc, cells);
+    let Ok(()) = pool.put(rt, alloc, CellId(0)) else {
+        panic!(rt; "no memory");
     };
-    pool.put(rt, alloc, CellId(0))?;
-    let Some(turns) = turns_of(rt, alloc, &laid, &mut seat, &mut pool)? else {
-        return Ok(None);
+    let Ok((laid, mut seat)) = Laid::new(alloc, cells, root, false) else {
+        panic!(rt; "no memory");
     };
-    let seen = look_at_cells(alloc, &laid, &mut seat, cells)?;
+    let turns = turns_of(rt, alloc, &laid, &mut seat, &mut pool);
+    let seen = look_at_cells(rt, alloc, &laid, &mut seat, cells);
     let live = laid.live(&mut seat);
-    Ok(Some(Played { turns, seen, live }))
+    Played { turns, seen, live }
 }
 
 // Turns are taken until the pool is empty.
-fn turns_of<B: Body, P: Pool, R: Wait>(
+fn turns_of<B: Body, P: Pool, R: Wait + Abort>(
     rt: &R,
     alloc: Global,
     laid: &Laid<B>,
     seat: &mut WSeat<B>,
     pool: &mut P,
-) -> Result<Option<Vec<(u32, Turn)>>, Why>
+) -> Vec<(u32, Turn)>
     requires table { IsSeatOf laid.now seat.old }
     requires free { IsFree laid.now seat.old.me }
     requires rooted { IsRooted (table_program (program_of B.places B.awaits B.left B.asks B.then)
@@ -95,47 +94,46 @@ fn turns_of<B: Body, P: Pool, R: Wait>(
     let mut told = Vec::new(alloc);
     for _i in 0..MOST_TURNS {
         let Some(t) = pool.take(rt) else {
-            return Ok(Some(told));
+            return told;
         };
-        let Some(turn) = turn_of(rt, alloc, laid, seat, pool, t)? else {
-            return Ok(None);
+        let turn = turn_of(rt, alloc, laid, seat, pool, t);
+        let Ok(()) = told.push((t.0, turn)) else {
+            panic!(rt; "no memory");
         };
-        if told.push((t.0, turn)).is_err() {
-            return Err(Why::Memory);
-        }
     }
-    Ok(Some(told))
+    told
 }
 
 // What has become of each cell.
-fn look_at_cells<B: Body>(
+fn look_at_cells<B: Body, R: Abort>(
+    rt: &R,
     alloc: Global,
     laid: &Laid<B>,
     seat: &mut WSeat<B>,
     cells: u32,
-) -> Result<Vec<Seen>, Why>
+) -> Vec<Seen>
     requires table { IsSeatOf laid.now seat.old }
     requires cells { cells ≡ laid.now.cells }
     ensures table { seat.new.table_id ≡ seat.old.table_id }
 {
     let mut seen = Vec::new(alloc);
     for c in 0..cells {
-        if seen.push(value(laid, seat, CellId(c))).is_err() {
-            return Err(Why::Memory);
-        }
+        let Ok(()) = seen.push(value(laid, seat, CellId(c))) else {
+            panic!(rt; "no memory");
+        };
     }
-    Ok(seen)
+    seen
 }
 
-/// The turn with this task: it is claimed, and runs until it ends or waits.
-pub(crate) fn turn_of<B: Body, P: Pool, R: Wait>(
+// The turn with this task: it is claimed, and runs until it ends or waits.
+fn turn_of<B: Body, P: Pool, R: Wait + Abort>(
     rt: &R,
     alloc: Global,
     laid: &Laid<B>,
     seat: &mut WSeat<B>,
     pool: &mut P,
     t: CellId,
-) -> Result<Option<Turn>, Why>
+) -> Turn
     requires table { IsSeatOf laid.now seat.old }
     requires free { IsFree laid.now seat.old.me }
     requires task { IsCellOf laid.now t.0 }
@@ -144,75 +142,81 @@ pub(crate) fn turn_of<B: Body, P: Pool, R: Wait>(
     requires pool { P.limit pool.old ≡ laid.now.cells }
     ensures table { seat.new.table_id ≡ seat.old.table_id }
     ensures limit { P.limit pool.new ≡ P.limit pool.old }
-    ensures free { IfOk result (λ turn. IfSome turn (λ _. IsFree laid.now seat.new.me)) }
+    ensures free { IsFree laid.now seat.new.me }
 {
     match claim(laid, seat, t) {
-        None => Ok(Some(Turn::NotReady)),
+        None => Turn::NotReady,
         Some(rec) => run_to_stop(rt, alloc, laid, seat, rec, pool),
     }
 }
 
 // Runs a claimed task until it ends or waits.
-fn run_to_stop<B: Body, P: Pool, R: Wait>(
+fn run_to_stop<B: Body, P: Pool, R: Wait + Abort>(
     rt: &R,
     alloc: Global,
     laid: &Laid<B>,
     seat: &mut WSeat<B>,
     rec: Rec<B>,
     pool: &mut P,
-) -> Result<Option<Turn>, Why>
+) -> Turn
     requires table { IsSeatOf laid.now seat.old }
     requires back { ComesBack (program_of B.places B.awaits B.left B.asks B.then) laid.now rec
         seat.old.me.0 seat.old.me }
     requires pool { P.limit pool.old ≡ laid.now.cells }
     ensures table { seat.new.table_id ≡ seat.old.table_id }
     ensures limit { P.limit pool.new ≡ P.limit pool.old }
-    ensures free { IfOk result (λ turn. IfSome turn (λ _. IsFree laid.now seat.new.me)) }
+    ensures free { IsFree laid.now seat.new.me }
 {
     let mut rec = rec;
-    let mut next = resume(laid, seat, &mut rec)?;
+    let Ok(mut next) = resume(laid, seat, &mut rec) else {
+        panic!(rt; "no memory");
+    };
     loop {
         match next {
-            Next::Runs => next = one_ask(rt, alloc, laid, seat, &mut rec, pool)?,
-            Next::Waits { place, spare } => return Ok(leave(laid, seat, rec, place, spare)),
+            Next::Runs => {
+                let Ok(then) = one_ask(rt, alloc, laid, seat, &mut rec, pool) else {
+                    panic!(rt; "no memory");
+                };
+                next = then;
+            }
+            Next::Waits { place, spare } => return leave(rt, laid, seat, rec, place, spare),
             Next::Ends(ending) => {
-                end(rt, alloc, laid, seat, rec, ending, pool)?;
-                return Ok(Some(Turn::Ended));
+                let Ok(()) = end(rt, alloc, laid, seat, rec, ending, pool) else {
+                    panic!(rt; "no memory");
+                };
+                return Turn::Ended;
             }
         }
     }
 }
 
 /// The task waits for the cell at the place: it blocks, and leaves the seat.
-pub(crate) fn leave<B: Body>(
+pub(crate) fn leave<B: Body, R: Abort>(
+    rt: &R,
     laid: &Laid<B>,
     seat: &mut WSeat<B>,
     rec: Rec<B>,
     place: u32,
     spare: bool,
-) -> Option<Turn>
+) -> Turn
     requires table { IsSeatOf laid.now seat.old }
     requires runs { RunsTask laid.now rec seat.old.me }
     requires waiting { IsWaiting (table_program (program_of B.places B.awaits B.left B.asks B.then)
         laid.now) seat.old.me.0 rec place spare }
     ensures table { seat.new.table_id ≡ seat.old.table_id }
-    ensures left { IfSome result (λ _. IsLeft laid.now seat.old.me.0 seat.new.me) }
+    ensures left { IsLeft laid.now seat.old.me.0 seat.new.me }
 {
     let mut rec = rec;
     let blocked = block_at(laid, seat, &mut rec, place, spare);
     let (q, way, verdict) = blocked;
     let t = rec.cell;
     match verdict {
-        Verdict::Alarm => {
-            shelve(laid, seat, t, rec);
-            Some(Turn::Waits(way, verdict))
+        Verdict::Alarm => shelve(laid, seat, t, rec),
+        Verdict::Walked | Verdict::Skipped => {
+            let Parked::Left = park(laid, seat, t, q, way, rec) else {
+                panic!(rt; "it came back from its wait");
+            };
         }
-        Verdict::Walked | Verdict::Skipped => match park(laid, seat, t, q, way, rec) {
-            Parked::Left => Some(Turn::Waits(way, verdict)),
-            Parked::Back(back) => {
-                drop(back);
-                None
-            }
-        },
     }
+    Turn::Waits(way, verdict)
 }

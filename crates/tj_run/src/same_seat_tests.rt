@@ -1,6 +1,6 @@
 //! One seat that holds two tasks: the one blocks on a promise, and before it is parked the other
 //! one, which the same seat runs, sets the promise.
-ghost use Rattle.std.specs.Prelude.{◌≡◌, IfOk};
+ghost use Rattle.std.specs.Prelude.{◌≡◌};
 ghost use Rattle.tj_body.specs.Programs.{program_of};
 ghost use Rattle.tj_words.specs.Law.{IsRooted};
 ghost use Rattle.tj_words.specs.SeatViews.SeatSteps.{IsCellOf, IsSeatOf};
@@ -12,7 +12,6 @@ use crate::pieces::{fill_at, take_out};
 use crate::pure::next_ask;
 use crate::two_task_tests::{READER, ask_beside, run_to_fork};
 use crate::waits::block_on;
-use crate::why::Why;
 use crate::written::{lists_of, one_end, table_of};
 use std::alloc::Global;
 use std::marker::Brand;
@@ -36,14 +35,14 @@ fn what_is_set<B: Body, R: Abort>(
     seat: &WSeat<B>,
     rec: &Rec<B>,
     ask: Ask<B>,
-) -> Result<(CellId, Fill), Why>
+) -> (CellId, Fill)
     requires runs { RunsTask laid.now rec.now seat.now.me }
     requires asked { IsAsked (table_program (program_of B.places B.awaits B.left B.asks B.then)
         laid.now) seat.now.me.0 rec.now ask }
-    ensures cell { IfOk result (λ set. IsCellOf laid.now set.0.0) }
-    ensures gives { IfOk result (λ set. MayGiveUp rec.now.cell.0 set.0.0 seat.now.me.0) }
-    ensures fills { IfOk result (λ set. MayFill
-        (program_of B.places B.awaits B.left B.asks B.then) set.0.0 set.1 seat.now.me.0) }
+    ensures cell { IsCellOf laid.now result.0.0 }
+    ensures gives { MayGiveUp rec.now.cell.0 result.0.0 seat.now.me.0 }
+    ensures fills { MayFill (program_of B.places B.awaits B.left B.asks B.then) result.0.0 result.1
+        seat.now.me.0 }
 {
     let _ = laid;
     let _ = seat;
@@ -64,7 +63,7 @@ fn what_is_set<B: Body, R: Abort>(
     if !take_out(alloc, &mut owned, h.cell) {
         panic!(rt; "it owns the promise");
     }
-    Ok((h.cell, given))
+    (h.cell, given)
 }
 
 /// The root makes a promise, and forks a child, which gets the promise and blocks; the root sets
@@ -75,7 +74,7 @@ fn set_between<B: Body, P: Pool, R: Wait + Abort>(
     laid: &Laid<B>,
     seat: &mut WSeat<B>,
     pool: &mut P,
-) -> Result<Seen, Why>
+) -> Seen
     requires table { IsSeatOf laid.now seat.old }
     requires free { IsFree laid.now seat.old.me }
     requires task { IsCellOf laid.now 2 }
@@ -83,9 +82,11 @@ fn set_between<B: Body, P: Pool, R: Wait + Abort>(
         laid.now) }
     requires pool { P.limit pool.old ≡ laid.now.cells }
 {
-    let mut mine = run_to_fork(rt, alloc, laid, seat, pool)?;
-    let ask = next_ask(alloc, laid, seat, &mut mine)?;
-    let (promise, given) = what_is_set(rt, alloc, laid, seat, &mine, ask)?;
+    let mut mine = run_to_fork(rt, alloc, laid, seat, pool);
+    let Ok(ask) = next_ask(alloc, laid, seat, &mut mine) else {
+        panic!(rt; "no memory");
+    };
+    let (promise, given) = what_is_set(rt, alloc, laid, seat, &mine, ask);
     let (mut rec, place, h) = ask_beside(rt, alloc, laid, seat, &mine, CellId(2));
     let t = rec.cell;
     let verdict = block_on::<B, Brand>(laid, seat, t, h.cell, Way::Other, Blank::new(1));
@@ -95,26 +96,22 @@ fn set_between<B: Body, P: Pool, R: Wait + Abort>(
     rec.answer = Answer::RefAt(place);
     rec.spare = false;
     fill(laid, seat, mine.cell, promise, given);
-    let woken = wake(rt, alloc, laid, seat, promise, pool)?;
-    if woken != 0 {
+    let Ok(0) = wake(rt, alloc, laid, seat, promise, pool) else {
         panic!(rt; "it isn't in the chain yet");
-    }
-    match park(laid, seat, t, h.cell, Way::Other, rec) {
-        Parked::Left => panic!(rt; "it would never be woken"),
-        Parked::Back(_) => Ok(value(laid, seat, h.cell)),
-    }
+    };
+    let Parked::Back(_) = park(laid, seat, t, h.cell, Way::Other, rec) else {
+        panic!(rt; "it would never be woken");
+    };
+    value(laid, seat, h.cell)
 }
 
 #[test]
 fn a_promise_is_set_by_the_seat_that_is_to_park(rt: HostRuntime) -> Result<(), Fail> {
     let a = rt.alloc();
     let lists = lists_of(a, READER)?;
-    let mut pool = one_end::<LockedPool, HostRuntime>(&rt, a, 3)?;
-    let (laid, mut seat) = table_of(&rt, a, &lists, 3)?;
+    let mut pool = one_end::<LockedPool, HostRuntime>(&rt, a, 3);
+    let (laid, mut seat) = table_of(&rt, a, &lists, 3);
     let seen = set_between(&rt, a, &laid, &mut seat, &mut pool);
-    assert!(rt;
-        matches!(seen, Ok(Seen::Num(5))),
-        "it goes on with the value"
-    );
+    assert!(rt; matches!(seen, Seen::Num(5)), "it goes on with the value");
     Ok(())
 }

@@ -10,7 +10,6 @@ use crate::next::Next;
 use crate::tasks::one_ask;
 use crate::two_task_tests::{run_to_fork, run_to_promise};
 use crate::waits::block_at;
-use crate::why::Why;
 use crate::written::{Says, lists_of, one_end, table_of};
 use std::alloc::Global;
 use std::process::Abort;
@@ -31,7 +30,7 @@ fn join_started<B: Body, P: Pool, R: Wait + Abort>(
     seat: &mut WSeat<B>,
     other: &mut WSeat<B>,
     pool: &mut P,
-) -> Result<(Way, Verdict), Why>
+) -> (Way, Verdict)
     requires table { IsSeatOf laid.now seat.old }
     requires other_table { IsSeatOf laid.now other.old }
     requires free { IsFree laid.now seat.old.me }
@@ -41,15 +40,14 @@ fn join_started<B: Body, P: Pool, R: Wait + Abort>(
         laid.now) }
     requires pool { P.limit pool.old ≡ laid.now.cells }
 {
-    let mut rec = run_to_fork(rt, alloc, laid, seat, pool)?;
-    let child = run_to_promise(rt, alloc, laid, other, CellId(2), pool)?;
-    let joins = one_ask(rt, alloc, laid, seat, &mut rec, pool)?;
-    let Next::Waits { place, spare } = joins else {
+    let mut rec = run_to_fork(rt, alloc, laid, seat, pool);
+    let child = run_to_promise(rt, alloc, laid, other, CellId(2), pool);
+    let Ok(Next::Waits { place, spare }) = one_ask(rt, alloc, laid, seat, &mut rec, pool) else {
         panic!(rt; "the child hasn't ended");
     };
     let (_q, way, verdict) = block_at(laid, seat, &mut rec, place, spare);
     drop(child);
-    Ok((way, verdict))
+    (way, verdict)
 }
 
 const STARTED: &[&[Says]] = &[
@@ -61,12 +59,10 @@ const STARTED: &[&[Says]] = &[
 fn a_join_of_a_started_child_is_skipped(rt: HostRuntime) -> Result<(), Fail> {
     let a = rt.alloc();
     let lists = lists_of(a, STARTED)?;
-    let mut pool = one_end::<LockedPool, HostRuntime>(&rt, a, 4)?;
-    let (laid, seat) = table_of(&rt, a, &lists, 4)?;
+    let mut pool = one_end::<LockedPool, HostRuntime>(&rt, a, 4);
+    let (laid, seat) = table_of(&rt, a, &lists, 4);
     let (mut first, mut second) = laid.split(seat);
-    let Ok((way, verdict)) = join_started(&rt, a, &laid, &mut first, &mut second, &mut pool) else {
-        panic!(rt; "no memory");
-    };
+    let (way, verdict) = join_started(&rt, a, &laid, &mut first, &mut second, &mut pool);
     assert!(rt; way == Way::Along, "along the order");
     assert!(rt; verdict == Verdict::Skipped, "no other wait stands");
     Ok(())

@@ -1,5 +1,5 @@
 //! The root goes from Ready to Ended by step calls of the table alone, and its table is closed.
-ghost use Rattle.std.specs.Prelude.{◌≡◌, [], ◌∷◌, length, IfOk, Some};
+ghost use Rattle.std.specs.Prelude.{◌≡◌, [], ◌∷◌, length, Some};
 ghost use Rattle.atomic_table.specs.Table.{rest};
 ghost use Rattle.tj_body.specs.Programs.{program_of};
 ghost use Rattle.tj_words.specs.declared.record.Finish.TheVariants.{Done};
@@ -15,7 +15,6 @@ ghost use Rattle.tj_run.specs.Inner.Waits.{ComesBack, IsLeft};
 
 use crate::pieces::fill_at;
 use crate::pure::next_ask;
-use crate::why::Why;
 use crate::written::table_of;
 use std::alloc::Global;
 use std::process::Abort;
@@ -146,19 +145,20 @@ fn asks_first<B: Body, R: Abort>(
     laid: &Laid<B>,
     seat: &WSeat<B>,
     mut rec: Rec<B>,
-) -> Result<(Rec<B>, Ask<B>), Why>
+) -> (Rec<B>, Ask<B>)
     requires back { ComesBack (program_of B.places B.awaits B.left B.asks B.then) laid.now rec
         seat.now.me.0 seat.now.me }
-    ensures runs { IfOk result (λ begun. RunsTask laid.now begun.0 seat.now.me) }
-    ensures asked { IfOk result (λ begun. IsAsked (table_program
-        (program_of B.places B.awaits B.left B.asks B.then) laid.now) seat.now.me.0
-        begun.0 begun.1) }
+    ensures runs { RunsTask laid.now result.0 seat.now.me }
+    ensures asked { IsAsked (table_program (program_of B.places B.awaits B.left B.asks B.then)
+        laid.now) seat.now.me.0 result.0 result.1 }
 {
     let Answer::Start = rec.answer else {
         panic!(rt; "it begins");
     };
-    let ask = next_ask(alloc, laid, seat, &mut rec)?;
-    Ok((rec, ask))
+    let Ok(ask) = next_ask(alloc, laid, seat, &mut rec) else {
+        panic!(rt; "no memory");
+    };
+    (rec, ask)
 }
 
 /// Asserts that closed words have the root alone, which has ended with 0.
@@ -190,9 +190,9 @@ fn the_root_ends_by_step_calls(rt: HostRuntime) -> Result<(), Fail> {
     points_in_rounds::<TableBody<'_>>();
     let a = rt.alloc();
     let lists: [RowList; 1] = [Items::of(Vec::new(a))];
-    let (laid, mut seat) = table_of(&rt, a, &lists, 2)?;
+    let (laid, mut seat) = table_of(&rt, a, &lists, 2);
     let claimed = claim_in_steps(&rt, &laid, &mut seat, CellId(0));
-    let (rec, ask) = asks_first(&rt, a, &laid, &seat, claimed)?;
+    let (rec, ask) = asks_first(&rt, a, &laid, &seat, claimed);
     let Ask::End(v) = ask else {
         panic!(rt; "it ends at once");
     };

@@ -1,6 +1,6 @@
 //! One seat that holds two tasks at once: it runs the root, and claims a child of it that gets a promise,
 //! blocks and is parked; then the root closes a cycle, or sets the promise and wakes the child.
-ghost use Rattle.std.specs.Prelude.{◌≡◌, IfOk};
+ghost use Rattle.std.specs.Prelude.{◌≡◌};
 ghost use Rattle.tj_body.specs.Programs.{program_of};
 ghost use Rattle.tj_words.specs.Calls.ExchangeViews.{KnowsTable};
 ghost use Rattle.tj_words.specs.SeatViews.KnowsMore.{KnowsMore};
@@ -16,7 +16,6 @@ use crate::plays::{Turn, leave};
 use crate::pure::next_ask;
 use crate::tasks::one_ask;
 use crate::waits::block_on;
-use crate::why::Why;
 use crate::writes::set_and_wake;
 use crate::written::{Says, lists_of, one_end, table_of};
 use std::alloc::Global;
@@ -40,7 +39,7 @@ pub(crate) fn run_to_promise<B: Body, P: Pool, R: Wait + Abort>(
     seat: &mut WSeat<B>,
     t: CellId,
     pool: &mut P,
-) -> Result<Rec<B>, Why>
+) -> Rec<B>
     requires table { IsSeatOf laid.now seat.old }
     requires free { IsFree laid.now seat.old.me }
     requires task { IsCellOf laid.now t.0 }
@@ -49,20 +48,18 @@ pub(crate) fn run_to_promise<B: Body, P: Pool, R: Wait + Abort>(
     requires pool { P.limit pool.old ≡ laid.now.cells }
     ensures table { seat.new.table_id ≡ seat.old.table_id }
     ensures limit { P.limit pool.new ≡ P.limit pool.old }
-    ensures runs { IfOk result (λ rec. RunsTask laid.now rec seat.new.me) }
-    ensures running { IfOk result (λ rec. IsRunning (table_program
-        (program_of B.places B.awaits B.left B.asks B.then) laid.now) seat.new.me.0 rec) }
+    ensures runs { RunsTask laid.now result seat.new.me }
+    ensures running { IsRunning (table_program (program_of B.places B.awaits B.left B.asks B.then)
+        laid.now) seat.new.me.0 result }
 {
     let mut rec = claim(laid, seat, t).expect(rt, "it is ready");
-    let start = resume(laid, seat, &mut rec)?;
-    let Next::Runs = start else {
+    let Ok(Next::Runs) = resume(laid, seat, &mut rec) else {
         panic!(rt; "it begins");
     };
-    let made = one_ask(rt, alloc, laid, seat, &mut rec, pool)?;
-    let Next::Runs = made else {
+    let Ok(Next::Runs) = one_ask(rt, alloc, laid, seat, &mut rec, pool) else {
         panic!(rt; "it makes a promise");
     };
-    Ok(rec)
+    rec
 }
 
 /// Claims the root, which makes a promise and forks a child.
@@ -72,7 +69,7 @@ pub(crate) fn run_to_fork<B: Body, P: Pool, R: Wait + Abort>(
     laid: &Laid<B>,
     seat: &mut WSeat<B>,
     pool: &mut P,
-) -> Result<Rec<B>, Why>
+) -> Rec<B>
     requires table { IsSeatOf laid.now seat.old }
     requires free { IsFree laid.now seat.old.me }
     requires task { IsCellOf laid.now 0 }
@@ -81,16 +78,15 @@ pub(crate) fn run_to_fork<B: Body, P: Pool, R: Wait + Abort>(
     requires pool { P.limit pool.old ≡ laid.now.cells }
     ensures table { seat.new.table_id ≡ seat.old.table_id }
     ensures limit { P.limit pool.new ≡ P.limit pool.old }
-    ensures runs { IfOk result (λ rec. RunsTask laid.now rec seat.new.me) }
-    ensures running { IfOk result (λ rec. IsRunning (table_program
-        (program_of B.places B.awaits B.left B.asks B.then) laid.now) seat.new.me.0 rec) }
+    ensures runs { RunsTask laid.now result seat.new.me }
+    ensures running { IsRunning (table_program (program_of B.places B.awaits B.left B.asks B.then)
+        laid.now) seat.new.me.0 result }
 {
-    let mut rec = run_to_promise(rt, alloc, laid, seat, CellId(0), pool)?;
-    let forked = one_ask(rt, alloc, laid, seat, &mut rec, pool)?;
-    let Next::Runs = forked else {
+    let mut rec = run_to_promise(rt, alloc, laid, seat, CellId(0), pool);
+    let Ok(Next::Runs) = one_ask(rt, alloc, laid, seat, &mut rec, pool) else {
         panic!(rt; "it forks a child");
     };
-    Ok(rec)
+    rec
 }
 
 /// The seat runs a task, and claims another one besides, which begins.
@@ -192,7 +188,7 @@ fn join_beside<B: Body, P: Pool, R: Wait + Abort>(
     laid: &Laid<B>,
     seat: &mut WSeat<B>,
     pool: &mut P,
-) -> Result<Option<Turn>, Why>
+) -> Turn
     requires table { IsSeatOf laid.now seat.old }
     requires free { IsFree laid.now seat.old.me }
     requires task { IsCellOf laid.now 2 }
@@ -200,13 +196,12 @@ fn join_beside<B: Body, P: Pool, R: Wait + Abort>(
         laid.now) }
     requires pool { P.limit pool.old ≡ laid.now.cells }
 {
-    let mut rec = run_to_fork(rt, alloc, laid, seat, pool)?;
+    let mut rec = run_to_fork(rt, alloc, laid, seat, pool);
     park_beside(rt, alloc, laid, seat, &rec, CellId(2));
-    let joins = one_ask(rt, alloc, laid, seat, &mut rec, pool)?;
-    let Next::Waits { place, spare } = joins else {
+    let Ok(Next::Waits { place, spare }) = one_ask(rt, alloc, laid, seat, &mut rec, pool) else {
         panic!(rt; "the child waits");
     };
-    Ok(leave(laid, seat, rec, place, spare))
+    leave(rt, laid, seat, rec, place, spare)
 }
 
 /// The task asks to set a promise, which is done. Tells how many were woken.
@@ -218,23 +213,22 @@ fn set_asked<B: Body, P: Pool, R: Wait + Abort>(
     rec: &mut Rec<B>,
     ask: Ask<B>,
     pool: &mut P,
-) -> Result<u32, Why>
+) -> u32
     requires table { IsSeatOf laid.now seat.old }
     requires runs { RunsTask laid.now rec.old seat.old.me }
     requires asked { IsAsked (table_program (program_of B.places B.awaits B.left B.asks B.then)
         laid.now) seat.old.me.0 rec.old ask }
     requires pool { P.limit pool.old ≡ laid.now.cells }
     ensures table { seat.new.table_id ≡ seat.old.table_id }
-    ensures knows { IfOk result (λ _. KnowsTable seat.new.me.0) }
+    ensures knows { KnowsTable seat.new.me.0 }
 {
     let Ask::Set { p, v } = ask else {
         panic!(rt; "it sets a promise");
     };
-    let (next, woken) = set_and_wake(rt, alloc, laid, seat, rec, pool, p, v)?;
-    let Next::Runs = next else {
+    let Ok((Next::Runs, woken)) = set_and_wake(rt, alloc, laid, seat, rec, pool, p, v) else {
         panic!(rt; "it owns the promise");
     };
-    Ok(woken)
+    woken
 }
 
 /// The child is parked beside the root, which sets the promise then. Tells how many were woken.
@@ -244,7 +238,7 @@ fn set_beside<B: Body, P: Pool, R: Wait + Abort>(
     laid: &Laid<B>,
     seat: &mut WSeat<B>,
     pool: &mut P,
-) -> Result<u32, Why>
+) -> u32
     requires table { IsSeatOf laid.now seat.old }
     requires free { IsFree laid.now seat.old.me }
     requires task { IsCellOf laid.now 2 }
@@ -252,11 +246,13 @@ fn set_beside<B: Body, P: Pool, R: Wait + Abort>(
         laid.now) }
     requires pool { P.limit pool.old ≡ laid.now.cells }
     ensures table { seat.new.table_id ≡ seat.old.table_id }
-    ensures knows { IfOk result (λ _. KnowsTable seat.new.me.0) }
+    ensures knows { KnowsTable seat.new.me.0 }
 {
-    let mut rec = run_to_fork(rt, alloc, laid, seat, pool)?;
+    let mut rec = run_to_fork(rt, alloc, laid, seat, pool);
     park_beside(rt, alloc, laid, seat, &rec, CellId(2));
-    let ask = next_ask(alloc, laid, seat, &mut rec)?;
+    let Ok(ask) = next_ask(alloc, laid, seat, &mut rec) else {
+        panic!(rt; "no memory");
+    };
     set_asked(rt, alloc, laid, seat, &mut rec, ask, pool)
 }
 
@@ -276,11 +272,11 @@ pub(crate) const READER: &[&[Says]] = &[
 fn a_cycle_of_two_tasks_of_one_seat_alarms(rt: HostRuntime) -> Result<(), Fail> {
     let a = rt.alloc();
     let lists = lists_of(a, JOINED)?;
-    let mut pool = one_end::<LockedPool, HostRuntime>(&rt, a, 3)?;
-    let (laid, mut seat) = table_of(&rt, a, &lists, 3)?;
+    let mut pool = one_end::<LockedPool, HostRuntime>(&rt, a, 3);
+    let (laid, mut seat) = table_of(&rt, a, &lists, 3);
     let turn = join_beside(&rt, a, &laid, &mut seat, &mut pool);
     assert!(rt;
-        matches!(turn, Ok(Some(Turn::Waits(Way::Along, Verdict::Alarm)))),
+        matches!(turn, Turn::Waits(Way::Along, Verdict::Alarm)),
         "along the order"
     );
     Ok(())
@@ -290,11 +286,9 @@ fn a_cycle_of_two_tasks_of_one_seat_alarms(rt: HostRuntime) -> Result<(), Fail> 
 fn a_task_wakes_another_one_of_its_seat(rt: HostRuntime) -> Result<(), Fail> {
     let a = rt.alloc();
     let lists = lists_of(a, READER)?;
-    let mut pool = one_end::<LockedPool, HostRuntime>(&rt, a, 3)?;
-    let (laid, mut seat) = table_of(&rt, a, &lists, 3)?;
-    let Ok(woken) = set_beside(&rt, a, &laid, &mut seat, &mut pool) else {
-        panic!(rt; "no memory");
-    };
+    let mut pool = one_end::<LockedPool, HostRuntime>(&rt, a, 3);
+    let (laid, mut seat) = table_of(&rt, a, &lists, 3);
+    let woken = set_beside(&rt, a, &laid, &mut seat, &mut pool);
     assert!(rt; woken == 1, "the reader");
     assert!(rt;
         pool.take(&rt) == Some(CellId(2)),

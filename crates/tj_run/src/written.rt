@@ -1,5 +1,5 @@
 //! For tests: lists of rows, written as constants, the table of a program that has them, and its pool.
-ghost use Rattle.std.specs.Prelude.{◌≡◌, ◌<◌, ◌≤◌, IfOk};
+ghost use Rattle.std.specs.Prelude.{◌≡◌, ◌<◌, ◌≤◌};
 ghost use Rattle.tj_base.specs.declared.cell.TheConstants.{MAX_CELLS};
 ghost use Rattle.tj_body.specs.Asks.{IsFresh};
 ghost use Rattle.tj_body.specs.Programs.{program_of};
@@ -89,24 +89,29 @@ pub(crate) fn table_of<'s, R: Abort>(
     alloc: Global,
     lists: &'s [RowList],
     cells: u32,
-) -> Result<(Laid<TableBody<'s>>, WSeat<TableBody<'s>>), Oom>
+) -> (Laid<TableBody<'s>>, WSeat<TableBody<'s>>)
     requires cells { (0 < cells) × (cells ≤ MAX_CELLS) }
-    ensures cells { IfOk result (λ made. made.0.cells ≡ cells) }
-    ensures table { IfOk result (λ made. IsSeatOf made.0 made.1) }
-    ensures lot { IfOk result (λ made. made.1.me.0.lot ≡ all_lots) }
-    ensures free { IfOk result (λ made. IsFree made.0 made.1.me) }
-    ensures rooted { IfOk result (λ made. IsRooted (table_program
-        (program_of table_places table_awaits table_left table_asks table_then) made.0)) }
+    ensures cells { result.0.cells ≡ cells }
+    ensures table { IsSeatOf result.0 result.1 }
+    ensures lot { result.1.me.0.lot ≡ all_lots }
+    ensures free { IsFree result.0 result.1.me }
+    ensures rooted { IsRooted (table_program
+        (program_of table_places table_awaits table_left table_asks table_then) result.0) }
 {
     let root = root_of(rt, lists);
-    Laid::new(alloc, cells, root, true)
+    let Ok(made) = Laid::new(alloc, cells, root, true) else {
+        panic!(rt; "no memory");
+    };
+    made
 }
 
 /// The one end of a pool for so many cells.
-pub(crate) fn one_end<P: Pool, R: Wait>(rt: &R, alloc: Global, cells: u32) -> Result<P, Oom>
+pub(crate) fn one_end<P: Pool, R: Wait + Abort>(rt: &R, alloc: Global, cells: u32) -> P
     requires cells { (0 < cells) × (cells ≤ MAX_CELLS) }
-    ensures limit { IfOk result (λ end. P.limit end ≡ cells) }
+    ensures limit { P.limit result ≡ cells }
 {
-    let mut ends = P::make(rt, alloc, 1, cells)?;
-    ends.pop().ok_or(Oom)
+    let Ok(mut ends) = P::make(rt, alloc, 1, cells) else {
+        panic!(rt; "no memory");
+    };
+    ends.pop().expect(rt, "one end")
 }

@@ -31,9 +31,25 @@ only_one {B} k a u = by (nat_eq k.task u)
     by true e = one_some k a e
     by false e = none_some None a refl e
 
+-- the other task has blocked, its walk has ended, and the first task is to set a promise
+pub record SetsBeside {B : Type 0} (program : Bool → B → Program B) (laid : Laid B) (r0 r : Rec B) (p : ℕ) (h : Held)
+    (old m n : SeatMe B) (c : ℕ) (f : Fill) : Type 0 where
+  pub waits : WaitsBeside program laid r0 r p h old m
+  pub ended : Verdict
+  pub walked : ended ≡ verdict.Walked
+  pub blocked : Blocked ended r.cell.0 h.cell.0 way.Other m.0 n.0
+  pub same : n.1 ≡ m.1
+  pub gives : MayGiveUp r0.cell.0 c old.0
+  pub fills : MayFill program c f old.0
+
 module _ {B : Type 0} {program : Bool → B → Program B} {laid : Laid B} {r0 r : Rec B} {p : ℕ} {h : Held}
-    {old m : SeatMe B} (w : WaitsBeside program laid r0 r p h old m) (n : SeatMe B) (v : Verdict)
-    (walked : v ≡ verdict.Walked) (d : Blocked v r.cell.0 h.cell.0 way.Other m.0 n.0) (same : n.1 ≡ m.1) where
+    {old m n : SeatMe B} {c : ℕ} {f : Fill} (s : SetsBeside program laid r0 r p h old m n c f) where
+  abbrev w : WaitsBeside program laid r0 r p h old m
+  w = s.waits
+
+  abbrev d : Blocked s.ended r.cell.0 h.cell.0 way.Other m.0 n.0
+  d = s.blocked
+
   abbrev t : ℕ
   t = r.cell.0
 
@@ -44,10 +60,10 @@ module _ {B : Type 0} {program : Bool → B → Program B} {laid : Laid B} {r0 r
   k0 = w.begun.runs.custody
 
   parks : MayParkTask program t h.cell.0 way.Other (waits_at p false r) n.0
-  parks = parks_too w n v walked d same
+  parks = parks_too w n s.ended s.walked d s.same
 
   abbrev does_now : Does
-  does_now = does_after v h.cell.0 way.Other d.walker
+  does_now = does_after s.ended h.cell.0 way.Other d.walker
 
   both_there : m.0.tasks ≡ custody_of r ∷ (k0 ∷ [])
   both_there = tasks_now program laid r0 (record r { body = w.body }) old m w.begun
@@ -61,137 +77,136 @@ module _ {B : Type 0} {program : Bool → B → Program B} {laid : Laid B} {r0 r
       ∙ (ap (λ b. cond b (Some (custody_of r)) (held_in (k0 ∷ []) u)) (ne_eqb t u w.begun.apart)
       ∙ ap (λ b. cond b (Some k0) None) (eq-eqb k0.task u w.begun.runs.task))))
 
-  module _ (c : ℕ) (f : Fill) (gives : MayGiveUp u c old.0) (fills : MayFill program c f old.0) where
-    its_own : k0 ≡ gives.0.owner.custody
-    its_own = only_one k0 gives.0.owner.custody gives.0.task
-        (ap (λ l. held_in l gives.0.task) (sym w.begun.runs.tasks) ∙ gives.0.owner.held)
+  its_own : k0 ≡ s.gives.0.owner.custody
+  its_own = only_one k0 s.gives.0.owner.custody s.gives.0.task
+      (ap (λ l. held_in l s.gives.0.task) (sym w.begun.runs.tasks) ∙ s.gives.0.owner.held)
 
-    no_hand : n.0.hand ≡ None
-    no_hand = parks.idle.hand
+  no_hand : n.0.hand ≡ None
+  no_hand = parks.idle.hand
 
-    -- the first task may give the promise up
-    pub gives_beside : MayGiveUp u c n.0
-    gives_beside = (
-      record {
-        task = u;
-        owner = record {
-          custody = k0;
-          held = held_first;
-          may = w.begun.runs.runs;
-          out = w.begun.runs.out;
-          result = w.begun.runs.result;
-          owns = subst (λ (k : Custody B). IsIn c k.owned) (sym its_own) gives.0.owner.owns;
-        };
-        last = λ e. (
-          ap (λ (k : Custody B). k.owned) its_own ∙ (gives.0.last (e ∙ sym gives.1)).0,
-          no_hand,
-        );
-      },
-      refl,
-    )
-
-    born_on : n.0.born ≡ m.0.born
-    born_on = ap (λ (x : View B). x.born) d.view
-
-    more_born : Begins old.0.born n.0.born
-    more_born = subst (Begins old.0.born) (sym born_on) w.begun.claimed.knows.born
-
-    says_beside : FillSays n.0.born f fills.value
-    says_beside = value_on old.0.born n.0.born more_born f fills.value fills.says
-
-    -- and fill it
-    pub fills_beside : MayFill program c f n.0
-    fills_beside = record {
-      value = fills.value;
-      says = says_beside;
-      will = record {
-        about = fills.will.about;
-        is_about = ap (λ (x : View B). x.about) d.view ∙ (w.begun.claimed.knows.about ∙ fills.will.is_about);
-        becomes = let b = fills.will.becomes in (b.0, cell_on old.0.born n.0.born more_born c b.0 b.1, b.2);
+  -- the first task may give the promise up
+  pub gives_beside : MayGiveUp u c n.0
+  gives_beside = (
+    record {
+      task = u;
+      owner = record {
+        custody = k0;
+        held = held_first;
+        may = w.begun.runs.runs;
+        out = w.begun.runs.out;
+        result = w.begun.runs.result;
+        owns = subst (λ (k : Custody B). IsIn c k.owned) (sym its_own) s.gives.0.owner.owns;
       };
-      knows = λ x i. subst (IsIn x) (sym (ap (λ (z : View B). z.known) d.view))
-          (w.begun.claimed.knows.known x (fills.knows x i));
-    }
+      last = λ e. (
+        ap (λ (k : Custody B). k.owned) its_own ∙ (s.gives.0.last (e ∙ sym s.gives.1)).0,
+        no_hand,
+      );
+    },
+    refl,
+  )
 
-    -- then those who wait for it may be woken
-    module _ (o : SeatMe B) (filled : IsFilledWith u c f n.0 o.0) (mine : o.1 ≡ n.1) where
-      became_so : o.0 ≡ became u c (entry.Value fills.value) n.0
-      became_so = filled fills.value says_beside
+  born_on : n.0.born ≡ m.0.born
+  born_on = ap (λ (x : View B). x.born) d.view
 
-      slots_are : o.1 ≡ (t, None) ∷ ((u, None) ∷ [])
-      slots_are = mine ∙ (same ∙ slots_now program laid r0 (record r { body = w.body }) old m w.begun)
+  more_born : Begins old.0.born n.0.born
+  more_born = subst (Begins old.0.born) (sym born_on) w.begun.claimed.knows.born
 
-      pub wakes_beside : MayWake c o
-      wakes_beside = subst (λ (x : View B). MayWake c (x, o.1)) (sym became_so)
-          (subst (λ s. MayWake c (became u c (entry.Value fills.value) n.0, s)) (sym slots_are)
-          (may_wake_closed u c (entry.Value fills.value) n.0 k0 held_first ((t, None) ∷ ((u, None) ∷ [])) tt
-          parks.idle.rest parks.walks.room (let a = parks.room in omega arith) parks.alarms))
+  says_beside : FillSays n.0.born f s.fills.value
+  says_beside = value_on old.0.born n.0.born more_born f s.fills.value s.fills.says
 
-      -- and the other task may be parked
-      module _ (chain : List ℕ) (z : SeatMe B) (woke : HasWoken c chain [] o.0 z.0) (its : z.1 ≡ o.1) where
-        abbrev woken : View B → View B
-        woken x = record x {
-          steps = z.0.steps;
-          plain_loads = x.plain_loads + length chain;
-          shuts = without c x.shuts;
-          rest = None;
-          closed = c ∷ x.closed;
-          notes = z.0.notes;
-        }
+  -- and fill it
+  pub fills_beside : MayFill program c f n.0
+  fills_beside = record {
+    value = s.fills.value;
+    says = says_beside;
+    will = record {
+      about = s.fills.will.about;
+      is_about = ap (λ (x : View B). x.about) d.view ∙ (w.begun.claimed.knows.about ∙ s.fills.will.is_about);
+      becomes = let b = s.fills.will.becomes in (b.0, cell_on old.0.born n.0.born more_born c b.0 b.1, b.2);
+    };
+    knows = λ x i. subst (IsIn x) (sym (ap (λ (z : View B). z.known) d.view))
+        (w.begun.claimed.knows.known x (s.fills.knows x i));
+  }
 
-        abbrev now : View B
-        now = woken (became u c (entry.Value fills.value) n.0)
+  -- then those who wait for it may be woken
+  module _ (o : SeatMe B) (filled : IsFilledWith u c f n.0 o.0) (mine : o.1 ≡ n.1) where
+    became_so : o.0 ≡ became u c (entry.Value s.fills.value) n.0
+    became_so = filled s.fills.value says_beside
 
-        now_is : z.0 ≡ now
-        now_is = woke.view ∙ ap woken became_so
+    slots_are : o.1 ≡ (t, None) ∷ ((u, None) ∷ [])
+    slots_are = mine ∙ (s.same ∙ slots_now program laid r0 (record r { body = w.body }) old m w.begun)
 
-        parks_now : MayParkTask program t h.cell.0 way.Other (waits_at p false r) now
-        parks_now = let a = parks in record {
-          walks = record {
-            custody = a.walks.custody;
-            walker = a.walks.walker;
-            held = noted_else n.0.tasks u k0 (gave_up c) held_first refl t w.begun.apart ∙ a.walks.held;
-            walks = a.walks.walks;
-            room = a.walks.room;
+    pub wakes_beside : MayWake c o
+    wakes_beside = subst (λ (x : View B). MayWake c (x, o.1)) (sym became_so)
+        (subst (λ y. MayWake c (became u c (entry.Value s.fills.value) n.0, y)) (sym slots_are)
+        (may_wake_closed u c (entry.Value s.fills.value) n.0 k0 held_first ((t, None) ∷ ((u, None) ∷ [])) tt
+        parks.idle.rest parks.walks.room (let a = parks.room in omega arith) parks.alarms))
+
+    -- and the other task may be parked
+    module _ (chain : List ℕ) (z : SeatMe B) (woke : HasWoken c chain [] o.0 z.0) (its : z.1 ≡ o.1) where
+      abbrev woken : View B → View B
+      woken x = record x {
+        steps = z.0.steps;
+        plain_loads = x.plain_loads + length chain;
+        shuts = without c x.shuts;
+        rest = None;
+        closed = c ∷ x.closed;
+        notes = z.0.notes;
+      }
+
+      abbrev now : View B
+      now = woken (became u c (entry.Value s.fills.value) n.0)
+
+      now_is : z.0 ≡ now
+      now_is = woke.view ∙ ap woken became_so
+
+      parks_now : MayParkTask program t h.cell.0 way.Other (waits_at p false r) now
+      parks_now = let a = parks in record {
+        walks = record {
+          custody = a.walks.custody;
+          walker = a.walks.walker;
+          held = noted_else n.0.tasks u k0 (gave_up c) held_first refl t w.begun.apart ∙ a.walks.held;
+          walks = a.walks.walks;
+          room = a.walks.room;
+        };
+        settles = a.settles;
+        leaves = record {
+          has = record {
+            cell = a.leaves.has.cell;
+            owned = a.leaves.has.owned;
+            made = a.leaves.has.made;
+            knows = a.leaves.has.knows;
           };
-          settles = a.settles;
-          leaves = record {
-            has = record {
-              cell = a.leaves.has.cell;
-              owned = a.leaves.has.owned;
-              made = a.leaves.has.made;
-              knows = a.leaves.has.knows;
-            };
-            told = let o = a.leaves.told in (
-              o.0,
-              o.1,
-              told_on (program o.0.strict o.0.root) n.0.born n.0.born (begins_self n.0.born) (HasSeen n.0.filled)
-                  (HasSeen now.filled) (λ x e i. inr i) (waits_at p false r) o.2,
-            );
-            unfinished = a.leaves.unfinished;
-          };
-          waits = a.waits;
-          idle = record {
-            hand = a.idle.hand;
-            dues = ap (λ l. without_due c once.Tag (without_due c once.Bits l)) a.idle.dues;
-            pushes = a.idle.pushes;
-            shuts = ap (λ l. without c (c ∷ l)) a.idle.shuts ∙ without_first c [];
-            rest = refl;
-          };
-          room = a.room;
-          alarms = alarms_closed u c (entry.Value fills.value) n.0 k0 held_first a.alarms;
-        }
+          told = let o = a.leaves.told in (
+            o.0,
+            o.1,
+            told_on (program o.0.strict o.0.root) n.0.born n.0.born (begins_self n.0.born) (HasSeen n.0.filled)
+                (HasSeen now.filled) (λ x e i. inr i) (waits_at p false r) o.2,
+          );
+          unfinished = a.leaves.unfinished;
+        };
+        waits = a.waits;
+        idle = record {
+          hand = a.idle.hand;
+          dues = ap (λ l. without_due c once.Tag (without_due c once.Bits l)) a.idle.dues;
+          pushes = a.idle.pushes;
+          shuts = ap (λ l. without c (c ∷ l)) a.idle.shuts ∙ without_first c [];
+          rest = refl;
+        };
+        room = a.room;
+        alarms = alarms_closed u c (entry.Value s.fills.value) n.0 k0 held_first a.alarms;
+      }
 
-        pub parks_beside : MayParkTask program t h.cell.0 way.Other (waits_at p false r) z.0
-        parks_beside = subst (MayParkTask program t h.cell.0 way.Other (waits_at p false r)) (sym now_is) parks_now
+      pub parks_beside : MayParkTask program t h.cell.0 way.Other (waits_at p false r) z.0
+      parks_beside = subst (MayParkTask program t h.cell.0 way.Other (waits_at p false r)) (sym now_is) parks_now
 
-        slots_so : z.1 ≡ n.1
-        slots_so = its ∙ mine
+      slots_so : z.1 ≡ n.1
+      slots_so = its ∙ mine
 
-        pub slot_beside : HasSlot t z
-        slot_beside = let s = slot_first w n v walked d same in
-            (s.0, slots_so ∙ (s.1 ∙ ap (λ l. (t, s.0) ∷ rest l) (sym slots_so)))
+      pub slot_beside : HasSlot t z
+      slot_beside = let k = slot_first w n s.ended s.walked d s.same in
+          (k.0, slots_so ∙ (k.1 ∙ ap (λ l. (t, k.0) ∷ rest l) (sym slots_so)))
 
-        pub other_beside : HasNoRecord (rest z.1)
-        other_beside = subst (λ l. HasNoRecord (rest l)) (sym slots_so)
-            (no_other w n v walked d same)
+      pub other_beside : HasNoRecord (rest z.1)
+      other_beside = subst (λ l. HasNoRecord (rest l)) (sym slots_so)
+          (no_other w n s.ended s.walked d s.same)

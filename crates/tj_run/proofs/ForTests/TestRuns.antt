@@ -1,25 +1,16 @@
 -- What the tests know of the first seat of a table, of a task that is claimed and begins, and of a seat that has come
 -- back from its last task.
 use Rattle.tj_run.proofs.Prelude.{Bool, Claimed, ComesBack, IfSome, IsFree, IsRooted, IsRunning, KnowsMore, Laid, None}
-use Rattle.tj_run.proofs.Prelude.{Option, Program, Rec, SeatMe, Some, View, [], arith, first_view, least_lot, refl}
-use Rattle.tj_run.proofs.Prelude.{saw_rest, subst, sym, table_program, ℕ, ◌*◌, ◌<◌, ◌∙◌, ◌∷◌, ◌≡◌, ◌≤◌}
+use Rattle.tj_run.proofs.Prelude.{Option, Program, Rec, SeatMe, Some, View, arith, least_lot, refl}
+use Rattle.tj_run.proofs.Prelude.{saw_rest, subst, sym, table_program, ℕ, ◌*◌, ◌∷◌, ◌≡◌, ◌≤◌}
 use Rattle.tj_words.specs.LawParts.Lots.{all_lots}
 use Rattle.tj_words.specs.AtRest.RestingSeats.{MayRest}
 use Rattle.tj_words.specs.SeatViews.Views.{MaySplit}
-use Rattle.tj_run.proofs.Seats.FreeSeats.{free_first}
 use Rattle.tj_run.proofs.Waiting.ResumedTasks.{IsPlace, starts}
 use Rattle.tj_run.proofs.Runs.TurnSteps.{claimed_back}
 use Rattle.tj_body.specs.declared.ask.Answer.TheVariants as answer
 
 module _ {B : Type 0} (laid : Laid B) where
-  -- the first seat of a table is free
-  pub first_free : (cells : ℕ) (root : B) (strict : Bool) → laid.cells ≡ cells → laid.root.value ≡ root
-      → laid.strict ≡ strict → 0 < cells → (me : SeatMe B) → me ≡ (first_view cells root strict, [])
-      → IsFree laid me
-  first_free cells root strict c r s some me is = subst (IsFree laid)
-      (sym (is ∙ (λ i. (first_view (sym c i) (sym r i) (sym s i), []))))
-      (free_first laid (subst (λ n. 0 < n) (sym c) some))
-
   -- a free seat with all lots that has loaded LIVE as 0 may close the table
   pub may_rest : (me : SeatMe B) (w : View B) → IsFree laid me → me.0.lot ≡ all_lots → w ≡ saw_rest me.0
       → MayRest w

@@ -2,7 +2,7 @@
 use Rattle.tj_run.proofs.Prelude.{Ask, AsksArePlaced, Bool, Claimed, ComesBack, Custody, HasSeen, Held, IsAsked, IsFree}
 use Rattle.tj_run.proofs.Prelude.{IsRunning, KnowsMore, Laid, None, PointsAreGood, PointsAsk, Program, Rec, SeatMe}
 use Rattle.tj_run.proofs.Prelude.{Some, View, WaitsBeside, [], alone, ap, cond, custody_of, false, held_at, hold}
-use Rattle.tj_run.proofs.Prelude.{length, let_go, more_on, more_same, ne_eqb, refl, rest, stands_on, subst, sym}
+use Rattle.tj_run.proofs.Prelude.{length, let_go, more_on, more_same, ne_eqb, refl, stands_on, subst, sym}
 use Rattle.tj_run.proofs.Prelude.{table_program, tells_on, ℕ, ◌<◌, ◌∙◌, ◌∷◌, ◌≡◌}
 use Rattle.tj_run.specs.Inner.Beside.{HasBegun}
 use Rattle.tj_run.proofs.Waiting.JoinTests.{get_inside, get_waits}

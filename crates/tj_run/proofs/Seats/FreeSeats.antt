@@ -2,8 +2,7 @@
 -- them are free.
 use Rattle.tj_run.proofs.Prelude.{AreCells, IsCell, IsFree, IsWorkers, KnowsMore, Laid, Reference, SeatMe, View, []}
 use Rattle.tj_run.proofs.Prelude.{arith, first_view, least_lot, left_half, nothing_same, refl, saw_rest, some-ne-none}
-use Rattle.tj_run.proofs.Prelude.{suc, sym, to_task, zero, ℕ, ◌*◌, ◌-◌, ◌<◌, ◌∙◌, ◌∷◌, ◌≡◌, ◌≤◌}
-use mathlib.Core.Option.{some}
+use Rattle.tj_run.proofs.Prelude.{suc, sym, to_task, zero, ℕ, ◌*◌, ◌<◌, ◌∙◌, ◌∷◌, ◌≡◌, ◌≤◌}
 use Rattle.tj_words.specs.declared.view.Noted.{Noted}
 use Rattle.tj_words.specs.SeatViews.Views.{IsIdle, noted_step, right_half}
 use Rattle.tj_run.specs.Leaving.{HasRested}

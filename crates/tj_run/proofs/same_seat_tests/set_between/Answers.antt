@@ -1,71 +1,71 @@
-use Rattle.tj_run.proofs.ForTests.SetBeside.{fills_beside, gives_beside, other_beside, parks_beside, slot_beside}
-use Rattle.tj_run.proofs.ForTests.SetBeside.{wakes_beside}
+use Rattle.tj_run.proofs.Prelude.{program_of}
+use Rattle.tj_run.proofs.ForTests.SetBeside.{SetsBeside, fills_beside, gives_beside, other_beside, parks_beside}
+use Rattle.tj_run.proofs.ForTests.SetBeside.{slot_beside, wakes_beside}
 use Rattle.tj_run.proofs.ForTests.ParkedBeside.{blocks_too, cell_there, task_there}
+use Rattle.tj_run.proofs.same_seat_tests.set_between.Given.{Over}
 use Rattle.tj_run.proofs.same_seat_tests.set_between.Goals as goal
+use Rattle.tj_run.proofs.same_seat_tests.set_between.Goals.{In-Walked}
+
+-- the child has blocked, and the root is to set the promise
+sets : (g : Over) (c : In-Walked g)
+    → let b = g.B.Body in let rec = c.ask_beside-rec in let set = c.what_is_set-given.result in
+    SetsBeside (program_of b.places b.awaits b.left b.asks b.then) c.args.laid.now c.next_ask.new.rec rec.result.0
+    rec.result.1 rec.result.2 c.run_to_fork-mine.new.seat.me rec.new.seat.me c.block_on-verdict.new.seat.me set.0.0
+    set.1
+sets g c = let k = c.block_on-verdict in let set = c.what_is_set-given in record {
+  waits = c.ask_beside-rec.ensures.waits;
+  ended = k.result;
+  walked = c.in-Walked.is;
+  blocked = k.ensures.view;
+  same = k.ensures.seat.2;
+  gives = set.ensures.gives;
+  fills = set.ensures.fills;
+}
 
 pub block_on-verdict-requires-clause-task : goal.block_on-verdict-requires-clause-task
-block_on-verdict-requires-clause-task g c κs within =
-    task_there c.ask_beside-rec.ensures.waits
+block_on-verdict-requires-clause-task g c κs within = task_there c.ask_beside-rec.ensures.waits
 
 pub block_on-verdict-requires-clause-cell : goal.block_on-verdict-requires-clause-cell
-block_on-verdict-requires-clause-cell g c κs within =
-    cell_there c.ask_beside-rec.ensures.waits
+block_on-verdict-requires-clause-cell g c κs within = cell_there c.ask_beside-rec.ensures.waits
 
 pub block_on-verdict-requires-clause-may : goal.block_on-verdict-requires-clause-may
-block_on-verdict-requires-clause-may g c κs within =
-    blocks_too c.ask_beside-rec.ensures.waits
+block_on-verdict-requires-clause-may g c κs within = blocks_too c.ask_beside-rec.ensures.waits
 
 pub fill-requires-clause-owner : goal.fill-requires-clause-owner
 fill-requires-clause-owner g c κs within =
-    let w = c.ask_beside-rec.ensures.waits in let k = c.block_on-verdict in let s = c.in_ok-promise in
-    gives_beside w k.new.seat.me k.result c.in-Walked.is k.ensures.view
-    k.ensures.seat.2 s.promise.0 s.given s.ensures.gives s.ensures.fills
+    gives_beside (sets g (goal.at.fill-requires-clause-owner g c).In-Walked)
 
 pub fill-requires-clause-value : goal.fill-requires-clause-value
 fill-requires-clause-value g c κs within =
-    let w = c.ask_beside-rec.ensures.waits in let k = c.block_on-verdict in let s = c.in_ok-promise in
-    fills_beside w k.new.seat.me k.result c.in-Walked.is k.ensures.view
-    k.ensures.seat.2 s.promise.0 s.given s.ensures.gives s.ensures.fills
+    fills_beside (sets g (goal.at.fill-requires-clause-value g c).In-Walked)
 
 pub wake-requires-clause-may : goal.wake-requires-clause-may
-wake-requires-clause-may g c κs within =
-    let w = c.ask_beside-rec.ensures.waits in let k = c.block_on-verdict in let s = c.in_ok-promise in
-    wakes_beside w k.new.seat.me k.result c.in-Walked.is k.ensures.view
-    k.ensures.seat.2 s.promise.0 s.given s.ensures.gives s.ensures.fills
-    c.fill.new.seat.me c.fill.ensures.view c.fill.ensures.seat.2
+wake-requires-clause-may g c κs within = let set = sets g (goal.at.wake-requires-clause-may g c).In-Walked in
+    wakes_beside set c.fill.new.seat.me c.fill.ensures.view c.fill.ensures.seat.2
 
 pub park-requires-clause-task : goal.park-requires-clause-task
-park-requires-clause-task g c κs within =
-    task_there c.ask_beside-rec.ensures.waits
+park-requires-clause-task g c κs within = task_there c.ask_beside-rec.ensures.waits
 
 pub park-requires-clause-cell : goal.park-requires-clause-cell
-park-requires-clause-cell g c κs within =
-    cell_there c.ask_beside-rec.ensures.waits
+park-requires-clause-cell g c κs within = cell_there c.ask_beside-rec.ensures.waits
 
 pub park-requires-clause-slot : goal.park-requires-clause-slot
-park-requires-clause-slot g c κs within =
-    let w = c.ask_beside-rec.ensures.waits in let k = c.block_on-verdict in let s = c.in_ok-promise in
-    slot_beside w k.new.seat.me k.result c.in-Walked.is k.ensures.view
-    k.ensures.seat.2 s.promise.0 s.given s.ensures.gives s.ensures.fills
-    c.fill.new.seat.me c.fill.ensures.view c.fill.ensures.seat.2
-    c.in_ok-woken.ensures.woke.chain c.wake.new.seat.me c.in_ok-woken.ensures.woke.woke c.wake.ensures.seat.2
+park-requires-clause-slot g c κs within = let set = sets g (goal.at.park-requires-clause-slot g c).In-Walked in
+    let woke = c.in-Ok-eq0.ensures.woke in
+    slot_beside set c.fill.new.seat.me c.fill.ensures.view c.fill.ensures.seat.2 woke.chain c.wake.new.seat.me woke.woke
+    c.wake.ensures.seat.2
 
 pub park-requires-clause-others : goal.park-requires-clause-others
-park-requires-clause-others g c κs within =
-    let w = c.ask_beside-rec.ensures.waits in let k = c.block_on-verdict in let s = c.in_ok-promise in
-    other_beside w k.new.seat.me k.result c.in-Walked.is k.ensures.view
-    k.ensures.seat.2 s.promise.0 s.given s.ensures.gives s.ensures.fills
-    c.fill.new.seat.me c.fill.ensures.view c.fill.ensures.seat.2
-    c.in_ok-woken.ensures.woke.chain c.wake.new.seat.me c.in_ok-woken.ensures.woke.woke c.wake.ensures.seat.2
+park-requires-clause-others g c κs within = let set = sets g (goal.at.park-requires-clause-others g c).In-Walked in
+    let woke = c.in-Ok-eq0.ensures.woke in
+    other_beside set c.fill.new.seat.me c.fill.ensures.view c.fill.ensures.seat.2 woke.chain c.wake.new.seat.me
+    woke.woke c.wake.ensures.seat.2
 
 pub park-requires-clause-may : goal.park-requires-clause-may
-park-requires-clause-may g c κs within =
-    let w = c.ask_beside-rec.ensures.waits in let k = c.block_on-verdict in let s = c.in_ok-promise in
-    parks_beside w k.new.seat.me k.result c.in-Walked.is k.ensures.view
-    k.ensures.seat.2 s.promise.0 s.given s.ensures.gives s.ensures.fills
-    c.fill.new.seat.me c.fill.ensures.view c.fill.ensures.seat.2
-    c.in_ok-woken.ensures.woke.chain c.wake.new.seat.me c.in_ok-woken.ensures.woke.woke c.wake.ensures.seat.2
+park-requires-clause-may g c κs within = let set = sets g (goal.at.park-requires-clause-may g c).In-Walked in
+    let woke = c.in-Ok-eq0.ensures.woke in
+    parks_beside set c.fill.new.seat.me c.fill.ensures.view c.fill.ensures.seat.2 woke.chain c.wake.new.seat.me
+    woke.woke c.wake.ensures.seat.2
 
 pub value-requires-clause-cell : goal.value-requires-clause-cell
-value-requires-clause-cell g c κs within =
-    cell_there c.ask_beside-rec.ensures.waits
+value-requires-clause-cell g c κs within = cell_there c.ask_beside-rec.ensures.waits

@@ -5,16 +5,16 @@ use Rattle.tj_run.proofs.started_tests.a_join_of_a_started_child_is_skipped.Goal
 
 pub split-first-requires-clause-room : goal.split-first-requires-clause-room
 split-first-requires-clause-room g c κs =
-    let l = c.in_ok-laid.laid in let m = c.in_ok-laid.seat.me in
-    may_split l m c.in_ok-laid.ensures.free c.in_ok-laid.ensures.lot
+    let l = c.table_of-laid.result.0 in let m = c.table_of-laid.result.1.me in
+    may_split l m c.table_of-laid.ensures.free c.table_of-laid.ensures.lot
 
-pub join_started-requires-clause-free : goal.join_started-requires-clause-free
-join_started-requires-clause-free g c κs =
-    let l = c.in_ok-laid.laid in let m = c.in_ok-laid.seat.me in
+pub join_started-way-requires-clause-free : goal.join_started-way-requires-clause-free
+join_started-way-requires-clause-free g c κs =
+    let l = c.table_of-laid.result.0 in let m = c.table_of-laid.result.1.me in
     subst (IsFree l) (sym c.split-first.ensures.view)
-    (free_left l m (all_large l m c.in_ok-laid.ensures.lot) c.in_ok-laid.ensures.free)
+    (free_left l m (all_large l m c.table_of-laid.ensures.lot) c.table_of-laid.ensures.free)
 
-pub join_started-requires-clause-other_free : goal.join_started-requires-clause-other_free
-join_started-requires-clause-other_free g c κs =
-    let l = c.in_ok-laid.laid in let m = c.in_ok-laid.seat.me in
-    subst (IsFree l) (sym c.split-first.ensures.other_view) (free_right l m c.in_ok-laid.ensures.free)
+pub join_started-way-requires-clause-other_free : goal.join_started-way-requires-clause-other_free
+join_started-way-requires-clause-other_free g c κs =
+    let l = c.table_of-laid.result.0 in let m = c.table_of-laid.result.1.me in
+    subst (IsFree l) (sym c.split-first.ensures.other_view) (free_right l m c.table_of-laid.ensures.free)

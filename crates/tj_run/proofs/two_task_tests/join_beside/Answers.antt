@@ -5,5 +5,5 @@ use Rattle.tj_run.proofs.two_task_tests.join_beside.Goals as goal
 pub one_ask-requires-clause-running : goal.one_ask-requires-clause-running
 one_ask-requires-clause-running g c κs within =
     let b = g.B.Body in let p = program_of b.places b.awaits b.left b.asks b.then in
-    running_on (table_program p c.args.laid.now) c.run_to_fork.new.seat.me.0 c.park_beside.new.seat.me.0
-    c.park_beside.ensures.knows c.in_ok-rec.rec c.in_ok-rec.ensures.running
+    running_on (table_program p c.args.laid.now) c.run_to_fork-rec.new.seat.me.0 c.park_beside.new.seat.me.0
+    c.park_beside.ensures.knows c.run_to_fork-rec.result c.run_to_fork-rec.ensures.running

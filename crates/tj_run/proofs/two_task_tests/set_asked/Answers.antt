@@ -7,4 +7,4 @@ set_and_wake-requires-clause-asked g c κs within =
     subst (λ x. IsAsked (table_program p l) c.args.seat.now.me.0 c.args.rec.now x) c.in-Set.is c.requires.asked
 
 pub returns-clause-knows : goal.returns-clause-knows
-returns-clause-knows g c = (about_table c.args.laid.now, c.in_ok-next.ensures.goes.runs.worker.of_table)
+returns-clause-knows g c = (about_table c.args.laid.now, c.in-Ok-Runs-default.ensures.goes.runs.worker.of_table)
