@@ -4,10 +4,6 @@
 mod closing;
 mod making;
 mod seen;
-#[cfg(test)]
-mod table_tests;
-#[cfg(test)]
-mod tests;
 
 pub use closing::{break_off, fill};
 pub use making::{Full, birth, hand, make};

@@ -9,8 +9,6 @@ mod finishes;
 mod join;
 mod parking;
 mod shelves;
-#[cfg(test)]
-mod tests;
 mod wakes;
 
 pub use children::release;

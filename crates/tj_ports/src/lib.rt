@@ -18,6 +18,3 @@ pub use memory_source::MemSource;
 pub use sink::{Sink, put_all};
 pub use source::{ReadEnd, ReadFault, Source, read_all};
 pub use standard::{StdSink, StdSource};
-
-#[cfg(test)]
-mod tests;

@@ -8,8 +8,6 @@ mod pool;
 mod rule;
 mod start;
 mod stealing;
-#[cfg(test)]
-mod tests;
 mod victim;
 
 pub use laws::LockedQueue;

@@ -1,5 +1,5 @@
-//! Tests by hand of the crates below, up to channels, and of reports. A crate with tests is proved
-//! twice, so these stand apart: here nothing but the tests is proved.
+//! Tests by hand of the crates below, up to channels and parking, and of reports. A crate with tests
+//! is proved twice, so these stand apart: here nothing but the tests is proved.
 #![tactic(auto)]
 
 #[cfg(test)]
@@ -46,3 +46,11 @@ mod traces;
 mod transcripts;
 #[cfg(test)]
 mod wait_transcripts;
+#[cfg(test)]
+mod fork_trees;
+#[cfg(test)]
+mod made_cells;
+#[cfg(test)]
+mod new_tables;
+#[cfg(test)]
+mod ready_pools;

@@ -7,8 +7,6 @@ mod laws;
 mod list;
 mod node;
 mod reader;
-#[cfg(test)]
-mod tests;
 mod tree;
 
 pub use before::before_in;

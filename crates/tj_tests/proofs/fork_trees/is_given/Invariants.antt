@@ -1,4 +1,4 @@
-use Rattle.tj_tree.proofs.tests.check_each.Given as goal
+use Rattle.tj_tests.proofs.fork_trees.is_given.Given as goal
 
 abbrev pub ghosts-answered : goal.ghosts-answered
 ghosts-answered g a = record { name = a.steps.name; parts = a.steps.parts }

@@ -1,13 +1,14 @@
-// Both pools by their one trait: what two ends take in turn, and four threads at once.
+//! Both pools by their one trait: what two ends take in turn, and four threads at once.
 ghost use Rattle.std.specs.Prelude.{ℕ, ◌≡◌, ◌<◌, length};
 
-use super::*;
+use crate::shown::holds;
 use std::alloc::Global;
 use std::sync::Wait;
 use std::test::Fail;
 use std::thread;
 use std::thread::Threads;
 use tj_base::{CellId, Oom};
+use tj_ready::{LockedPool, Pool, StealPool};
 
 type Five = [Option<CellId>; 5];
 
@@ -35,17 +36,21 @@ fn two_ends<P: Pool, R: Wait>(rt: &R, alloc: Global) -> Result<Five, Fail> {
     Ok(in_turn(rt, alloc, &mut first[0], &mut second[0])?)
 }
 
+// What two ends of either pool take.
+const FIVE: Five = [
+    Some(CellId(5)),
+    Some(CellId(6)),
+    Some(CellId(7)),
+    None,
+    None,
+];
+
 #[test]
 fn the_oldest_first_whoever_takes(rt: HostRuntime) -> Result<(), Fail> {
-    let five = [
-        Some(CellId(5)),
-        Some(CellId(6)),
-        Some(CellId(7)),
-        None,
-        None,
-    ];
-    assert_eq!(rt; two_ends::<LockedPool, HostRuntime>(&rt, rt.alloc())?, five);
-    assert_eq!(rt; two_ends::<StealPool, HostRuntime>(&rt, rt.alloc())?, five);
+    let locked = two_ends::<LockedPool, HostRuntime>(&rt, rt.alloc())?;
+    let stealing = two_ends::<StealPool, HostRuntime>(&rt, rt.alloc())?;
+    holds(&rt, "the locked pool", locked == FIVE);
+    holds(&rt, "the stealing pool", stealing == FIVE);
     Ok(())
 }
 
@@ -100,10 +105,17 @@ fn counts<P: Pool, R: Wait + Threads + Sync>(rt: &R, alloc: Global) -> Result<Ve
     Ok(counts)
 }
 
+// Whether each number is taken as often as it was put.
+fn are_taken<P: Pool, R: Wait + Threads + Sync>(rt: &R, alloc: Global) -> Result<bool, Fail> {
+    let counts = counts::<P, R>(rt, alloc)?;
+    Ok(counts.iter().all(|count| *count == 4 * OFTEN) && counts.len() == NUMBERS as usize)
+}
+
 #[test]
 fn each_cell_is_taken_once_by_four_threads(rt: HostRuntime) -> Result<(), Fail> {
-    let each = Vec::from_elem(rt.alloc(), 4 * OFTEN, NUMBERS as usize)?;
-    assert!(rt; counts::<LockedPool, HostRuntime>(&rt, rt.alloc())? == each);
-    assert!(rt; counts::<StealPool, HostRuntime>(&rt, rt.alloc())? == each);
+    let locked = are_taken::<LockedPool, HostRuntime>(&rt, rt.alloc())?;
+    let stealing = are_taken::<StealPool, HostRuntime>(&rt, rt.alloc())?;
+    holds(&rt, "the locked pool", locked);
+    holds(&rt, "the stealing pool", stealing);
     Ok(())
 }

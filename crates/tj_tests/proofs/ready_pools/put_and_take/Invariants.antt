@@ -1,5 +1,5 @@
 use Rattle.std.proofs.Common.{◌≡◌}
-use Rattle.tj_ready.proofs.tests.put_and_take.Given as goal
+use Rattle.tj_tests.proofs.ready_pools.put_and_take.Given as goal
 
 abbrev pub invariant-loop-number : goal.invariant-loop-number
 invariant-loop-number g l = g.P.Pool.limit l.end ≡ 12500
