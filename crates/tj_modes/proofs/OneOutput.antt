@@ -1,11 +1,11 @@
 -- Words and an input have one output at most, from the laws of the crates below.
-use Rattle.tj_modes.proofs.Prelude.{Command, Global, HasLimits, HasOneOutcome, IsChatOutcome, IsJournalFault}
-use Rattle.tj_modes.proofs.Prelude.{IsJudging, IsKnown, IsKnownOf, IsListed, IsOutput, IsRelayRun, IsRun, IsRunOf}
-use Rattle.tj_modes.proofs.Prelude.{IsStartOf, Limits, List, Outcome, Point, Report}
-use Rattle.tj_modes.proofs.Prelude.{Root, Some, Start, Status, String, Summary, Task, Told, [], ap, arith}
-use Rattle.tj_modes.proofs.Prelude.{bad_line, chat_meaning, ended, full, inl, inr, is_marked, journal_fault}
-use Rattle.tj_modes.proofs.Prelude.{length, lines_of, meaning, most_bytes, of_command, refl, relay_chats, script_text}
-use Rattle.tj_modes.proofs.Prelude.{start_of, status_of, subst, sym, text_of, usage, ℕ, ◌<◌, ◌∙◌, ◌≡◌, ◌≤◌, ◌⊎◌}
+use Rattle.tj_modes.proofs.Prelude.{Command, Global, HasLimits, HasOneOutcome, IsChatOutcome, IsJournalFault, IsJudging}
+use Rattle.tj_modes.proofs.Prelude.{IsKnown, IsKnownOf, IsListed, IsOutput, IsRelayRun, IsRun, IsRunOf, IsStartOf}
+use Rattle.tj_modes.proofs.Prelude.{Limits, List, Outcome, Point, Report, Root, Some, Start, Status, String, Summary}
+use Rattle.tj_modes.proofs.Prelude.{Task, Told, [], ap, arith, bad_line, chat_meaning, ended, full, inl, inr, is_marked}
+use Rattle.tj_modes.proofs.Prelude.{journal_fault, length, lines_of, meaning, most_bytes, of_command, refl, relay_chats}
+use Rattle.tj_modes.proofs.Prelude.{script_text, start_of, status_of, subst, sym, text_of, usage, ℕ, ◌<◌, ◌∙◌, ◌≡◌, ◌≤◌}
+use Rattle.tj_modes.proofs.Prelude.{◌⊎◌}
 use Rattle.tj_events.specs.declared.event.Event.{Event}
 use Rattle.tj_core.specs.Journals.Laws.{EventsAreOne, FirstFaultIsOne, EventsHaveNoFault, JudgingIsOne}
 use Rattle.tj_eval.specs.Statements.{TaskState, task_of}
@@ -73,14 +73,11 @@ module _ (one : AreOne) where
       one_start_of limits h.0 s t h.2 (subst (λ script. IsStartOf limits script t) same k.2)
 
   one_start : (c : Command) (input : List ℕ) (s t : Start) → IsStart c input s → IsStart c input t → t ≡ s
-  one_start (command.Run workers cells steps strict) input s t h k = one_start_of_text _ input s t h k
-  one_start (command.Plan cells steps strict) input s t h k = one_start_of_text _ input s t h k
   one_start command.List input s t h k = absurd h
   one_start (command.Judge cells) input s t h k = absurd h
   one_start (command.Gen size workers cells steps) input s t h k = one_start_of_text _ (script_text size) s t h k
-  one_start (command.Known cells steps) input s t h k = one_start_of_text _ input s t h k
   one_start (command.Relay size workers cells) input s t h k = absurd h
-  one_start (command.Watch workers cells steps) input s t h k = one_start_of_text _ input s t h k
+  one_start c input s t h k = one_start_of_text _ input s t h k
 
   one_run_of : (told : Told) (start : Start) (a b : Status) (s t : List ℕ) → IsRunOf told start a s
       → IsRunOf told start b t → Same a s b t

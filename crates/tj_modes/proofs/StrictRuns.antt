@@ -51,12 +51,8 @@ never_waits law (command.Plan cells steps strict) input fits =
     law (record { cells = cells; steps = steps; strict = strict }) fits.1.1 input
 never_waits law command.List input fits = λ start is. absurd is
 never_waits law (command.Judge cells) input fits = λ start is. absurd is
-never_waits law (command.Gen size workers cells steps) input fits = λ start is strict.
-    absurd (false≢true (sym (ap (λ s. s.program.rules.strict) is.2.2) ∙ strict))
-never_waits law (command.Known cells steps) input fits = λ start is strict.
-    absurd (false≢true (sym (ap (λ s. s.program.rules.strict) is.2.2) ∙ strict))
 never_waits law (command.Relay size workers cells) input fits = λ start is. absurd is
-never_waits law (command.Watch workers cells steps) input fits = λ start is strict.
+never_waits law other input fits = λ start is strict.
     absurd (false≢true (sym (ap (λ s. s.program.rules.strict) is.2.2) ∙ strict))
 
 -- the same of words

@@ -24,20 +24,7 @@ is_key word =
 
 key_is : (key : Key) → is_key (key_text key) ≡ true
 key_is keys.Task = refl
-key_is keys.Let = refl
-key_is keys.If = refl
-key_is keys.Else = refl
-key_is keys.While = refl
-key_is keys.Print = refl
-key_is keys.Set = refl
-key_is keys.Return = refl
-key_is keys.New = refl
-key_is keys.Fork = refl
-key_is keys.Own = refl
-key_is keys.Get = refl
-key_is keys.Join = refl
-key_is keys.Me = refl
-key_is keys.Or = refl
+key_is key = refl
 
 no_key : (word : List ℕ) → is_key word ≡ false → (key : Key) → key_text key ≢ word
 no_key word h key e = let is : is_key word ≡ true = ap is_key (sym e) ∙ key_is key in absurd (cc)

@@ -37,13 +37,7 @@ mode_of word = if bytes_eq word (codes "run") then Some modes.Run
 
 mode_of-text : (mode : Mode) → mode_of (mode_text mode) ≡ Some mode
 mode_of-text modes.Run = refl
-mode_of-text modes.Plan = refl
-mode_of-text modes.List = refl
-mode_of-text modes.Judge = refl
-mode_of-text modes.Gen = refl
-mode_of-text modes.Known = refl
-mode_of-text modes.Relay = refl
-mode_of-text modes.Watch = refl
+mode_of-text mode = refl
 
 abbrev name_of : Text → Option OptionName
 name_of word = if bytes_eq word (codes "--workers") then Some Workers
@@ -53,9 +47,7 @@ name_of word = if bytes_eq word (codes "--workers") then Some Workers
 
 name_of-text : (name : OptionName) → name_of (option_text name) ≡ Some name
 name_of-text Workers = refl
-name_of-text Cells = refl
-name_of-text Steps = refl
-name_of-text Size = refl
+name_of-text name = refl
 
 -- a word belongs to one mode
 pub one_mode : (a b : Mode) → mode_text a ≡ mode_text b → a ≡ b
@@ -115,18 +107,7 @@ same_names Workers Workers e = refl
 same_names Cells Cells e = refl
 same_names Steps Steps e = refl
 same_names Size Size e = refl
-same_names Workers Cells e = absurd (true≢false (sym e))
-same_names Workers Steps e = absurd (true≢false (sym e))
-same_names Workers Size e = absurd (true≢false (sym e))
-same_names Cells Workers e = absurd (true≢false (sym e))
-same_names Cells Steps e = absurd (true≢false (sym e))
-same_names Cells Size e = absurd (true≢false (sym e))
-same_names Steps Workers e = absurd (true≢false (sym e))
-same_names Steps Cells e = absurd (true≢false (sym e))
-same_names Steps Size e = absurd (true≢false (sym e))
-same_names Size Workers e = absurd (true≢false (sym e))
-same_names Size Cells e = absurd (true≢false (sym e))
-same_names Size Steps e = absurd (true≢false (sym e))
+same_names a b e = absurd (true≢false (sym e))
 
 module _ (mode : Mode) (name : OptionName) where
   abbrev within_or : Option Text → Type 0

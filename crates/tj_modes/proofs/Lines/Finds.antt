@@ -1,7 +1,7 @@
 -- What the parser finds in the words of a command line.
-use Rattle.tj_modes.proofs.Prelude.{AsWritten, Bool, Cells, Item, List, Mode, None, OptionName, Row, Size, Some}
-use Rattle.tj_modes.proofs.Prelude.{Steps, Workers, [], ap, ap₂, bytes_eq, digits_of, id_of, is_flag, is_same, map}
-use Rattle.tj_modes.proofs.Prelude.{mode_text, option, or_else, refl, strict, sym, take, true, ◌++◌, ◌∙◌, ◌∷◌, ◌≡◌}
+use Rattle.tj_modes.proofs.Prelude.{AsWritten, Bool, Cells, Item, List, Mode, None, OptionName, Row, Size, Some, Steps}
+use Rattle.tj_modes.proofs.Prelude.{Workers, [], ap, ap₂, bytes_eq, digits_of, id_of, is_flag, is_same, map, mode_text}
+use Rattle.tj_modes.proofs.Prelude.{option, or_else, refl, strict, sym, take, true, ◌++◌, ◌∙◌, ◌∷◌, ◌≡◌}
 use Rattle.std.proofs.Common.{◌||◌, false, drop, codes, append-nil}
 use Rattle.std.specs.Prelude.{if◌then◌else◌, option_and_then, slice_get}
 use Rattle.std.specs.List.{AllByRecursion, fold, find, list_any}
@@ -118,39 +118,20 @@ mode_is_there mode rows = refl
 
 same_ids : (a b : OptionName) → bytes_eq (id_of b) (id_of a) ≡ is_same a b
 same_ids Workers Workers = refl
-same_ids Workers Cells = refl
-same_ids Workers Steps = refl
-same_ids Workers Size = refl
-same_ids Cells Workers = refl
-same_ids Cells Cells = refl
-same_ids Cells Steps = refl
-same_ids Cells Size = refl
-same_ids Steps Workers = refl
-same_ids Steps Cells = refl
-same_ids Steps Steps = refl
-same_ids Steps Size = refl
-same_ids Size Workers = refl
-same_ids Size Cells = refl
-same_ids Size Steps = refl
-same_ids Size Size = refl
+same_ids a Workers = refl
+same_ids a b = refl
 
 pub no_mode : (name : OptionName) → bytes_eq (codes "mode") (id_of name) ≡ false
 no_mode Workers = refl
-no_mode Cells = refl
-no_mode Steps = refl
-no_mode Size = refl
+no_mode name = refl
 
 no_strict : (name : OptionName) → bytes_eq (codes "strict") (id_of name) ≡ false
 no_strict Workers = refl
-no_strict Cells = refl
-no_strict Steps = refl
-no_strict Size = refl
+no_strict name = refl
 
 never_strict : (name : OptionName) → bytes_eq (id_of name) (codes "strict") ≡ false
 never_strict Workers = refl
-never_strict Cells = refl
-never_strict Steps = refl
-never_strict Size = refl
+never_strict name = refl
 
 digits_in : (name : OptionName) (items : List Item) (rest : List Row) → first_of (id_of name) rest ≡ None
     → first_of (id_of name) (map item_row items ++ rest) ≡ digits_of name items

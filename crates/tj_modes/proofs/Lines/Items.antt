@@ -1,10 +1,10 @@
 -- Items that a mode has, each at most once.
 use Rattle.tj_modes.proofs.Prelude.{All, All-head, AllFit, AreLineWords, Bool, Cells, Command, Global, HasNumeral}
 use Rattle.tj_modes.proofs.Prelude.{IfSome, IsCommand, IsLineWord, IsReading, IsWithin, Item, List, MatchOption, Mode}
-use Rattle.tj_modes.proofs.Prelude.{None, Option, OptionName, Size, Some, Steps, Workers, [], ap}
-use Rattle.tj_modes.proofs.Prelude.{bytes_eq, codes, digits_of, false, flat_map, greatest, has_flag, inl, inr}
-use Rattle.tj_modes.proofs.Prelude.{is_flag, is_same, map, mode_text, option, refl, strict, subst, sym}
-use Rattle.tj_modes.proofs.Prelude.{true, true≢false, unwrap_or, words_of, ℕ, ◌∙◌, ◌∷◌, ◌≡◌, ◌≤◌}
+use Rattle.tj_modes.proofs.Prelude.{None, Option, OptionName, Size, Some, Steps, Workers, [], ap, bytes_eq, codes}
+use Rattle.tj_modes.proofs.Prelude.{digits_of, false, flat_map, greatest, has_flag, inl, inr, is_flag, is_same, map}
+use Rattle.tj_modes.proofs.Prelude.{mode_text, option, refl, strict, subst, sym, true, true≢false, unwrap_or, words_of}
+use Rattle.tj_modes.proofs.Prelude.{ℕ, ◌∙◌, ◌∷◌, ◌≡◌, ◌≤◌}
 use Rattle.std.specs.Prelude.{if◌then◌else◌, is_some, String, string_bytes}
 use Rattle.std.specs.List.{AllByRecursion, IsDistinct, list_any}
 use Rattle.std.specs.Option.{IsSomeAnd}
@@ -63,27 +63,12 @@ flag_allowed mode (option name digits ∷ items) all e = flag_allowed mode items
 
 same_texts : (a b : OptionName) → bytes_eq (option_text a) (option_text b) ≡ is_same a b
 same_texts Workers Workers = refl
-same_texts Workers Cells = refl
-same_texts Workers Steps = refl
-same_texts Workers Size = refl
-same_texts Cells Workers = refl
-same_texts Cells Cells = refl
-same_texts Cells Steps = refl
-same_texts Cells Size = refl
-same_texts Steps Workers = refl
-same_texts Steps Cells = refl
-same_texts Steps Steps = refl
-same_texts Steps Size = refl
-same_texts Size Workers = refl
-same_texts Size Cells = refl
-same_texts Size Steps = refl
-same_texts Size Size = refl
+same_texts a Workers = refl
+same_texts a b = refl
 
 same_self : (name : OptionName) → is_same name name ≡ true
 same_self Workers = refl
-same_self Cells = refl
-same_self Steps = refl
-same_self Size = refl
+same_self name = refl
 
 -- an option that no item begins with has no digits
 absent : (name : OptionName) (items : List Item)

@@ -1,8 +1,8 @@
 -- The walk of the parser over the words of a command line.
 use Rattle.tj_modes.proofs.Prelude.{AsWritten, Bool, Cells, CommandLine, Kinds, List, Mode, None, Option, OptionName}
 use Rattle.tj_modes.proofs.Prelude.{Row, Size, Some, Steps, Text, Walk, Workers, [], ap, built, codes, false, has_row}
-use Rattle.tj_modes.proofs.Prelude.{id_of, if◌then◌else◌, line_app, mode_text, option_text, or_else, refl}
-use Rattle.tj_modes.proofs.Prelude.{settle_fault, true, turn_fault, walk_from, walked, ℕ, ◌&&◌, ◌==◌, ◌∙◌, ◌∷◌, ◌≡◌}
+use Rattle.tj_modes.proofs.Prelude.{id_of, if◌then◌else◌, line_app, mode_text, option_text, or_else, refl, settle_fault}
+use Rattle.tj_modes.proofs.Prelude.{true, turn_fault, walk_from, walked, ℕ, ◌&&◌, ◌==◌, ◌∙◌, ◌∷◌, ◌≡◌}
 use Rattle.clap.proofs.OnLiterals.{clap_on_literals}
 use Rattle.clap.specs.Walk.{Held, Waiting, idle, nothing_held, settled_rows}
 use Rattle.clap.specs.Lexer.{long_of, short_of}
@@ -64,32 +64,18 @@ pub first_step : (mode : Mode)
     → walked top.rules [] (walk_from nothing_held) (mode_text mode) ≡ stand [] (Some (the_mode, mode_text mode))
 unfolding clap_on_literals
 first_step modes.Run = refl
-first_step modes.Plan = refl
-first_step modes.List = refl
-first_step modes.Judge = refl
-first_step modes.Gen = refl
-first_step modes.Known = refl
-first_step modes.Relay = refl
-first_step modes.Watch = refl
+first_step mode = refl
 
 pub first_fault : (mode : Mode) → turn_fault top [] (walk_from nothing_held) (mode_text mode) ≡ []
 unfolding clap_on_literals
 first_fault modes.Run = refl
-first_fault modes.Plan = refl
-first_fault modes.List = refl
-first_fault modes.Judge = refl
-first_fault modes.Gen = refl
-first_fault modes.Known = refl
-first_fault modes.Relay = refl
-first_fault modes.Watch = refl
+first_fault mode = refl
 
 pub name_step : (rows : List Row) (o : Unsettled) (name : OptionName)
     → walked top.rules [] (stand rows o) (option_text name) ≡ waits (after rows o) name
 unfolding clap_on_literals
 name_step rows o Workers = refl
-name_step rows o Cells = refl
-name_step rows o Steps = refl
-name_step rows o Size = refl
+name_step rows o name = refl
 
 pub flag_step : (rows : List Row) (o : Unsettled)
     → walked top.rules [] (stand rows o) (codes "--strict")
@@ -108,9 +94,7 @@ pub number_step : (rows : List Row) (name : OptionName) (a : ℕ) (rest : Text) 
     → walked top.rules [] (waits rows name) (a ∷ rest) ≡ stand rows (Some (the_option name, a ∷ rest))
 unfolding clap_on_literals
 number_step rows Workers a rest e = rw (no_long a rest e, no_short a rest e, e) refl
-number_step rows Cells a rest e = rw (no_long a rest e, no_short a rest e, e) refl
-number_step rows Steps a rest e = rw (no_long a rest e, no_short a rest e, e) refl
-number_step rows Size a rest e = rw (no_long a rest e, no_short a rest e, e) refl
+number_step rows name a rest e = rw (no_long a rest e, no_short a rest e, e) refl
 
 pub number_fault : (rows : List Row) (name : OptionName) (a : ℕ) (rest : Text) → (a == 45) ≡ false
     → turn_fault top [] (waits rows name) (a ∷ rest) ≡ []
@@ -134,9 +118,7 @@ pub name_fault : (rows : List Row) (o : Unsettled) (name : OptionName)
     → turn_fault top [] (stand rows o) (option_text name) ≡ or_else (fault_at rows o) []
 unfolding clap_on_literals
 name_fault rows o Workers = refl
-name_fault rows o Cells = refl
-name_fault rows o Steps = refl
-name_fault rows o Size = refl
+name_fault rows o name = refl
 
 abbrev pub repeat_kinds : Bool → Kinds
 repeat_kinds b = if b then kind.ArgumentConflict ∷ [] else []
@@ -160,36 +142,19 @@ pub name_waits : (rows : List Row) (name other : OptionName)
     → turn_fault top [] (waits rows name) (option_text other) ≡ kind.InvalidValue ∷ []
 unfolding clap_on_literals
 name_waits rows Workers Workers = refl
-name_waits rows Workers Cells = refl
-name_waits rows Workers Steps = refl
-name_waits rows Workers Size = refl
-name_waits rows Cells Workers = refl
-name_waits rows Cells Cells = refl
-name_waits rows Cells Steps = refl
-name_waits rows Cells Size = refl
-name_waits rows Steps Workers = refl
-name_waits rows Steps Cells = refl
-name_waits rows Steps Steps = refl
-name_waits rows Steps Size = refl
-name_waits rows Size Workers = refl
-name_waits rows Size Cells = refl
-name_waits rows Size Steps = refl
-name_waits rows Size Size = refl
+name_waits rows name Workers = refl
+name_waits rows name other = refl
 
 pub flag_waits : (rows : List Row) (name : OptionName)
     → turn_fault top [] (waits rows name) (codes "--strict") ≡ kind.InvalidValue ∷ []
 unfolding clap_on_literals
 flag_waits rows Workers = refl
-flag_waits rows Cells = refl
-flag_waits rows Steps = refl
-flag_waits rows Size = refl
+flag_waits rows name = refl
 
 pub end_waits : (rows : List Row) (name : OptionName)
     → settle_fault top.rules false (waits rows name).held ≡ kind.InvalidValue ∷ []
 end_waits rows Workers = refl
-end_waits rows Cells = refl
-end_waits rows Steps = refl
-end_waits rows Size = refl
+end_waits rows name = refl
 
 pub settle_fault_is : (rows : List Row) (slot : Slot) (value : Text)
     → fault_at rows (Some (slot, value)) ≡ repeat_kinds (has_row (id_at slot) rows)
