@@ -17,7 +17,7 @@ use tj_tree::{Node, NodeId};
 use tj_words::{Laid, Once, Phase, WSeat};
 
 /// All cells are drawn.
-#[derive(Clone, Copy, Debug, PartialEq, Eq)]
+#[derive(Clone, Copy, PartialEq, Eq)]
 pub struct Full;
 
 /// A promise that task `t` makes and owns, as the `kid`-th thing that it makes.

@@ -10,7 +10,7 @@ use tj_body::Body;
 use tj_words::{Fill, Laid, Once, WSeat, value_of_words};
 
 /// What has become of a cell.
-#[derive(Clone, Copy, Debug, PartialEq, Eq)]
+#[derive(Clone, Copy, PartialEq, Eq)]
 pub enum Seen {
     Num(i64),
     Promise(CellId),
