@@ -13,7 +13,7 @@ use Rattle.tj_core.specs.Journals.Judging.{IsJudged}
 use Rattle.tj_mean.specs.ReportTexts.{report}
 use Rattle.tj_syntax.specs.Listing.{listing}
 use Rattle.tj_modes.specs.Output.{IsCommandOutput, IsRefused, IsStart, IsStartOfText}
-use Rattle.tj_syntax.specs.ScriptTexts.{IsScriptOf, too_long}
+use Rattle.tj_syntax.specs.ScriptTexts.{IsScriptOf}
 use Rattle.tj_command.specs.ScriptTexts.{IsFaultLine, fault_line}
 use Rattle.tj_command.proofs.Scripts.{AreOneScript, no_fault, one_fault, one_script_of}
 use Rattle.tj_modes.proofs.KnownRuns.{one_known}

@@ -22,7 +22,7 @@ use tj_base::Oom;
 use tj_command::number_up_to;
 
 /// What the words ask for.
-#[derive(Clone, Copy, PartialEq, Eq)]
+#[derive(Clone, Copy)]
 pub enum Command {
     Run {
         workers: u32,
