@@ -14,8 +14,8 @@ use Rattle.tj_words.specs.SeatViews.Moments.{WasSo, was_so}
 use Rattle.tj_words.specs.Words.Heads.{head_in, shut_word}
 use Rattle.tj_words.specs.Words.Offsets.{head_at, word}
 use Rattle.tj_words.proofs.Calls.PushRuns.{word_back}
-use Rattle.tj_words.proofs.Waiters.ChainCells.{parked_drawn, task_small}
-use Rattle.tj_words.proofs.Waiters.ChainFacts.{grown_longer, linked_apart, not_in_line, push_parked}
+use Rattle.tj_words.proofs.Waiters.ChainFacts.{grown_longer, linked_apart, not_in_line, parked_drawn, push_parked}
+use Rattle.tj_words.proofs.Waiters.ChainFacts.{task_small}
 use Rattle.tj_words.proofs.Waiters.ChainLists.{few_apart}
 use Rattle.tj_words.specs.declared.head.Head.TheVariants as head
 

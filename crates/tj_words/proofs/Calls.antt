@@ -2,9 +2,6 @@
 pub mod KeptCells
 pub mod CallChanges
 pub mod EventCalls
-pub mod TaskCalls
-pub mod TakenTasks
-pub mod OwnerCalls
 pub mod DrawCalls
 pub mod OneStates
 pub mod TableRuns

@@ -3,6 +3,7 @@ pub mod SeatHands
 pub mod CellFacts
 pub mod CellNames
 pub mod MadeThings
+pub mod MoreDues
 pub mod DrawnTasks
 pub mod TreeDraws
 pub mod DrawnCells

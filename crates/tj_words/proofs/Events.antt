@@ -14,5 +14,4 @@ pub mod QuietCells
 pub mod ShownParts
 pub mod WalkSteps
 pub mod OwnerSteps
-pub mod QuietSteps
 pub mod StepEvents

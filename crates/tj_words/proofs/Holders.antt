@@ -2,11 +2,11 @@
 pub mod SeatTasks
 pub mod HeldTasks
 pub mod HeldChanges
+pub mod NotedPairs
 pub mod NotedTasks
 pub mod NotedEntries
 pub mod TaskPlaces
 pub mod TaskMoves
-pub mod LeftSeats
 pub mod LaidRecords
 pub mod HomeSlots
 pub mod TakingRecords

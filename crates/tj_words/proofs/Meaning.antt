@@ -3,7 +3,6 @@ pub mod MeaningGrows
 pub mod MeaningSteps
 pub mod LawMeant
 pub mod Resting
-pub mod RestingTables
 pub mod RestingStates
 pub mod ClosedWords
 pub mod RestingCells

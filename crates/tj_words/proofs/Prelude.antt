@@ -1,10 +1,10 @@
 -- The names that most proofs of this crate cite, passed on from one place. Declares nothing.
 pub use Rattle.atomic_table.proofs.Lists.{at_longer, at_map, at_set, at_snoc, exchanged, set_again, set_else, set_here}
 pub use Rattle.atomic_table.specs.Table.{Act, Allows, State, Step, carried_after, gives, homes_after, keeps, opening}
-pub use Rattle.atomic_table.specs.Table.{put_back, rest, step, stepped, takes}
+pub use Rattle.atomic_table.specs.Table.{put_back, rest, step, takes}
 pub use Rattle.atomic_table.specs.declared.shared.Seat.{Seat}
-pub use Rattle.std.proofs.Common.{Bool, List, None, Option, Some, [], ap, arith, cond, eq-eqb, eqb, false, get_or}
-pub use Rattle.std.proofs.Common.{get_or-set_other, get_or-set_same, if◌then◌else◌, inl, inr, le-ltb, length}
+pub use Rattle.std.proofs.Common.{Bool, List, None, Option, Some, [], ap, append_assoc, arith, cond, eq-eqb, eqb, false}
+pub use Rattle.std.proofs.Common.{get_or, get_or-set_other, get_or-set_same, if◌then◌else◌, inl, inr, le-ltb, length}
 pub use Rattle.std.proofs.Common.{length-append, length-set, ltb-false, ltb-true, map, min, nat_eq, nat_lt, ne_eqb}
 pub use Rattle.std.proofs.Common.{refl, replicate, set, subst, suc, sym, true, zero, ℕ, ⊎_elim, ◌%◌, ◌&&◌, ◌*◌, ◌++◌}
 pub use Rattle.std.proofs.Common.{◌+◌, ◌-◌, ◌/◌, ◌<◌, ◌==◌, ◌^◌, ◌||◌, ◌↔◌, ◌∙◌, ◌∷◌, ◌≡◌, ◌≢◌, ◌≤◌, ◌⊎◌}
@@ -14,36 +14,32 @@ pub use Rattle.tj_base.specs.ForkOrder.{Name, before, child}
 pub use Rattle.tj_base.specs.Puts.{put}
 pub use Rattle.tj_base.specs.declared.cell.CellId.{CellId}
 pub use Rattle.tj_base.specs.declared.cell.Sort.{Sort}
-pub use Rattle.tj_body.proofs.Counts.{same_is, same_self}
 pub use Rattle.tj_body.proofs.Lists.{begins_self, begins_trans, in_either, in_left, in_map, in_right, to_map}
 pub use Rattle.tj_body.proofs.RoundPoints.{entries_are_one}
-pub use Rattle.tj_body.specs.History.{Assignment, history, owned, reference, to_task}
+pub use Rattle.tj_body.specs.History.{history, owned, reference, to_task}
 pub use Rattle.tj_body.specs.Laws.{AreDistinct, IsFullWhere, IsLast, RestsAtMeaning}
-pub use Rattle.tj_body.specs.Names.{same}
 pub use Rattle.tj_body.specs.Points.{Begins, IsIn}
 pub use Rattle.tj_body.specs.Programs.{Program, program_of}
 pub use Rattle.tj_body.specs.RoundPoints.{Becomes, InRounds, TasksStart}
-pub use Rattle.tj_body.specs.Rounds.{IsFull, cells, given, last_round, meaning, tasks}
+pub use Rattle.tj_body.specs.Rounds.{IsFull, cells, given, last_round, tasks}
 pub use Rattle.tj_body.specs.declared.ask.Answer.{Answer}
 pub use Rattle.tj_body.specs.declared.point.Close.{Close}
 pub use Rattle.tj_body.specs.declared.point.Entry.{Entry}
 pub use Rattle.tj_body.specs.declared.point.Point.{Point}
-pub use Rattle.tj_body.specs.declared.point.PointStage.{PointStage}
 pub use Rattle.tj_body.specs.declared.point.Reference.{Reference}
 pub use Rattle.tj_body.specs.declared.point.Value.{Value}
 pub use Rattle.tj_events.specs.CoreFacts.{CoreFacts}
-pub use Rattle.tj_events.specs.CoreState.{CellStage, CellState, Cells, CoreState, Runs, alarmed, blank, fresh, is_task}
-pub use Rattle.tj_events.specs.CoreState.{maker, name, owner, present, promise, raised, root_alone, running, stage}
-pub use Rattle.tj_events.specs.CoreState.{wait_of, waits, walks}
+pub use Rattle.tj_events.specs.CoreState.{CellStage, CellState, CoreState, Runs, alarmed, blank, fresh, is_task, maker}
+pub use Rattle.tj_events.specs.CoreState.{name, owner, parked, present, raised, root_alone, running, stage, wait_of}
+pub use Rattle.tj_events.specs.CoreState.{waits, walks}
 pub use Rattle.tj_events.specs.Events.{Allowed, MayCount, MayReadAgain, MayReadOthers, MayReadOwner, after, alter}
-pub use Rattle.tj_events.specs.Events.{count_read, is_owner, others_read}
-pub use Rattle.tj_events.specs.Events.{owner_found, owner_read, raised_by_way, restage}
-pub use Rattle.tj_events.specs.Events.{staged, start_walk, wait_found, way_if, way_of_wait, with_new}
+pub use Rattle.tj_events.specs.Events.{count_read, is_owner, others_read, owner_found, owner_read, raised_by_way}
+pub use Rattle.tj_events.specs.Events.{restage, staged, start_walk, wait_found, way_if, way_of_wait, with_new}
 pub use Rattle.tj_events.specs.Laws.{EventKeepsFacts}
-pub use Rattle.tj_events.specs.Runs.{after_all}
 pub use Rattle.tj_events.specs.StateLaws.{AlarmsAreOnCycles, CyclesAreWatched}
 pub use Rattle.tj_events.specs.WalkLaws.{OthersAreFew}
 pub use Rattle.tj_events.specs.declared.event.Event.{Event}
+pub use Rattle.tj_events.specs.declared.walk.LastRead.TheVariants.{SawOwner, SawWait}
 pub use Rattle.tj_events.specs.declared.walk.Walker.{Walker}
 pub use Rattle.tj_events.specs.declared.walk.Way.{Way}
 pub use Rattle.tj_tree.proofs.Trees.{IsJump-of, node_of-child, node_of-older}
@@ -51,47 +47,35 @@ pub use Rattle.tj_tree.specs.Forks.{Fork, Forks, HasTask, IsHistory}
 pub use Rattle.tj_tree.specs.Nodes.{jump_from, node_of}
 pub use Rattle.tj_tree.specs.declared.node.Node.{Node}
 pub use Rattle.tj_tree.specs.declared.node.NodeId.{NodeId}
-pub use Rattle.tj_words.proofs.Events.OwnerSteps.{ActsOn, ClosesPromise, ClosesResult, DrawsCell, GivesOwner}
-pub use Rattle.tj_words.proofs.Events.OwnerSteps.{HandsPromise}
-pub use Rattle.tj_words.proofs.Events.QuietSteps.{ClaimsTask, EndsTask, MarksPromise, MovesRecord, ReleasesTask}
-pub use Rattle.tj_words.proofs.Events.QuietSteps.{ShelvesTask}
-pub use Rattle.tj_words.proofs.Events.ShownParts.{Parts, cell_by, parts_of, shown_by}
-pub use Rattle.tj_words.proofs.Events.StepEvents.{IsHeldWith, IsToldBy, Keeping, KeepsCells, ShowsEvent, ShowsNothing}
-pub use Rattle.tj_words.proofs.Events.WalkSteps.{ClearsWait, IsMoved, KeepsOthers, Leaves, LowersOthers, Proceeds}
-pub use Rattle.tj_words.proofs.Events.WalkSteps.{PublishesWait, RaisesOthers, ReadsOn, StoresAlarm, StoresParked}
 pub use Rattle.tj_words.specs.AtRest.ClosedCells.{AreAlarmsOnCycles, AreAtRest, AreCyclesAlarmed, IsPromise, IsShown}
 pub use Rattle.tj_words.specs.AtRest.ClosedCells.{IsStill, Leads, Owns, Waits}
 pub use Rattle.tj_words.specs.AtRest.RestMeaning.{AreWordsOf, IsPhaseAt, names}
 pub use Rattle.tj_words.specs.AtRest.RestShown.{AreSlots}
 pub use Rattle.tj_words.specs.AtRest.RestingSeats.{MayRest}
-pub use Rattle.tj_words.specs.CallLaws.CallRuns.{AreAskedMoments, IsAskedStep, events_by, phase_events, takes_new}
-pub use Rattle.tj_words.specs.CallLaws.CallRuns.{under}
+pub use Rattle.tj_words.specs.CallLaws.CallRuns.{AreAskedMoments, IsAskedStep, events_by, joined, phase_events}
+pub use Rattle.tj_words.specs.CallLaws.CallRuns.{takes_new, under}
 pub use Rattle.tj_words.specs.CallLaws.CallSteps.{MakesWith}
-pub use Rattle.tj_words.specs.CallLaws.RestedRuns.{AreMoments, IsCallStep, IsMerge, IsSplit, IsTableStep, Ruled}
-pub use Rattle.tj_words.specs.CallLaws.RestedRuns.{last_moment}
+pub use Rattle.tj_words.specs.CallLaws.RestedRuns.{AreMoments, IsCallStep, IsSplit, IsTableStep, Ruled, last_moment}
 pub use Rattle.tj_words.specs.CallLaws.StepCalls.{StepCall, place_of, told_by}
 pub use Rattle.tj_words.specs.Calls.ChainSteps.{push_exchange, rest_of, shut_swap, with_next, without_push}
-pub use Rattle.tj_words.specs.Calls.DrawViews.{FindsCell, MayDraw, MayGive, MayMark, draw_step, drew, gave_owner, mark}
-pub use Rattle.tj_words.specs.Calls.DrawViews.{marked_promise, new_dues, new_hand, new_task, new_tasks, owns_also}
-pub use Rattle.tj_words.specs.Calls.DrawViews.{runs_on, without_due}
+pub use Rattle.tj_words.specs.Calls.DrawViews.{FindsCell, MayDraw, MayGive, draw_step, drawn_next, drew, gave_owner}
+pub use Rattle.tj_words.specs.Calls.DrawViews.{mark, new_dues, new_hand, new_task, new_tasks, owns_also, runs_on}
+pub use Rattle.tj_words.specs.Calls.DrawViews.{without_due}
 pub use Rattle.tj_words.specs.Calls.EntryViews.{MayPutOnce, PutsOnce}
-pub use Rattle.tj_words.specs.Calls.ExchangeViews.{Claims, GoesBack, KnowsTable, MayClearFrom, MayGoBack, MaySwap}
-pub use Rattle.tj_words.specs.Calls.ExchangeViews.{MayWake, Swaps, Wakes, phase_swap, went_back, woke_first}
+pub use Rattle.tj_words.specs.Calls.ExchangeViews.{KnowsTable, MayClearFrom, MayGoBack, MaySwap, MayWake, Swaps}
+pub use Rattle.tj_words.specs.Calls.ExchangeViews.{phase_swap, went_back}
 pub use Rattle.tj_words.specs.Calls.LiveViews.{IfRecord, LaysChild, MayEnd, MayRelease, Shelves, SlotsOf, came_home}
-pub use Rattle.tj_words.specs.Calls.LiveViews.{ended, live_lowered, live_raised, lowered_with, now_home, raised_with}
-pub use Rattle.tj_words.specs.Calls.LiveViews.{released, without_task}
-pub use Rattle.tj_words.specs.Calls.OwnerViews.{MayClose, MayHand, MayPutOwner, PutsOwner, closed_cell, gave_up}
-pub use Rattle.tj_words.specs.Calls.OwnerViews.{handed_promise}
-pub use Rattle.tj_words.specs.Calls.ParkSteps.{FirstTold, new_push, parked_way, phase_load, with_tokens}
+pub use Rattle.tj_words.specs.Calls.LiveViews.{ended, lowered_with, raised_with, released}
+pub use Rattle.tj_words.specs.Calls.OwnerViews.{MayPutOwner, PutsOwner, gave_up}
+pub use Rattle.tj_words.specs.Calls.ParkSteps.{FirstTold, new_push, phase_load, with_tokens}
 pub use Rattle.tj_words.specs.Calls.PhaseViews.{PutsPhase}
-pub use Rattle.tj_words.specs.Calls.TakenRecords.{IsKnownRecord, custody_of, took_record}
-pub use Rattle.tj_words.specs.Calls.WaitViews.{MayPark, MayPublishWait, MayStoreAlarm, PutsIfWait, now_alarmed}
-pub use Rattle.tj_words.specs.Calls.WaitViews.{now_does, parked, published}
-pub use Rattle.tj_words.specs.Calls.WalkViews.{IsWalking, MayLoadOwner, MayRaise, does_next, lowered, owner_seen}
-pub use Rattle.tj_words.specs.Calls.WalkViews.{turned, walk_load, walk_with}
+pub use Rattle.tj_words.specs.Calls.TakenRecords.{IsKnownRecord, took_record}
+pub use Rattle.tj_words.specs.Calls.WaitViews.{now_does, published}
+pub use Rattle.tj_words.specs.Calls.WalkViews.{IsWalking, MayLoadOwner, MayRaise, lowered, owner_seen, turned}
+pub use Rattle.tj_words.specs.Calls.WalkViews.{walk_load, walk_with}
 pub use Rattle.tj_words.specs.Inner.ShownCells.{AreCellsOf, cell_of, maker_in, task_in}
 pub use Rattle.tj_words.specs.Inner.TreeDraws.{IsDrawnInto, forks_after}
-pub use Rattle.tj_words.specs.Law.{IsRooted, IsSeat, Law, Rule}
+pub use Rattle.tj_words.specs.Law.{IsRooted, IsSeat, IsSeatOf, Law, Rule, seat_part}
 pub use Rattle.tj_words.specs.LawParts.Chains.{AreLinked, Chains, HasGrown, IsFirstIn, IsParkedOn, IsPush, IsRest}
 pub use Rattle.tj_words.specs.LawParts.Chains.{head_of, parked_phase}
 pub use Rattle.tj_words.specs.LawParts.Contents.{Contents, SeatsHave, WordsSay, bits_in, contents_of, core_shown}
@@ -102,35 +86,36 @@ pub use Rattle.tj_words.specs.LawParts.FirstState.{first_slots, first_view, firs
 pub use Rattle.tj_words.specs.LawParts.Hands.{Hands, IsInHand, IsMarkedRight, IsThere, hand_in, hand_phase, making}
 pub use Rattle.tj_words.specs.LawParts.Holding.{IsEmpty, Slots, find_in, held_in, home_in, made_by, or_else, owned_by}
 pub use Rattle.tj_words.specs.LawParts.Holding.{phase_of, record_in}
-pub use Rattle.tj_words.specs.LawParts.LiveCount.{Backing, DoesRun, DoesWalk, HasAlarmed, HasWakeToCome, Holds}
-pub use Rattle.tj_words.specs.LawParts.LiveCount.{IsBacked, IsLively, LiveCount, live_part, live_tasks}
-pub use Rattle.tj_words.specs.LawParts.Lots.{IsSpent, IsWithinLot, Lots, all_lots, least_lot}
+pub use Rattle.tj_words.specs.LawParts.LiveCount.{Backing, BackingOf, DoesRun, DoesWalk, HasAlarmed, HasWake}
+pub use Rattle.tj_words.specs.LawParts.LiveCount.{HasWakeToCome, Holds, IsBacked, IsLively, LiveCount, live_part}
+pub use Rattle.tj_words.specs.LawParts.LiveCount.{live_tasks}
+pub use Rattle.tj_words.specs.LawParts.Lots.{IsSpent, IsWithinLot, Lots, WithinLot, all_lots, least_lot}
 pub use Rattle.tj_words.specs.LawParts.Meaning.{IsFilled, IsNamedThere, IsToldRecord, IsWritten, Meaning, StandsIn}
 pub use Rattle.tj_words.specs.LawParts.NamedCells.{AreThere, NamesCells, does_cells, read_cells, record_cells}
 pub use Rattle.tj_words.specs.LawParts.NamedCells.{trail_cells, walk_cells}
 pub use Rattle.tj_words.specs.LawParts.OnceWords.{HasInHand, OnceWords, Stands}
 pub use Rattle.tj_words.specs.LawParts.RecordPhases.{IsRecordIn, RecordsFit, WaitersOwn, WaitsFor}
-pub use Rattle.tj_words.specs.LawParts.ShownState.{answer_stage, does_stage, does_walk, first_owner, hand_stage}
-pub use Rattle.tj_words.specs.LawParts.ShownState.{new_stage, owner_shown, phase_sort, reference_of, sort_shown}
-pub use Rattle.tj_words.specs.LawParts.ShownState.{stage_shown, stage_there, state_shown}
+pub use Rattle.tj_words.specs.LawParts.ShownState.{answer_stage, does_stage, first_owner, hand_stage, new_stage}
+pub use Rattle.tj_words.specs.LawParts.ShownState.{owner_shown, phase_sort, reference_of, sort_shown, stage_shown}
+pub use Rattle.tj_words.specs.LawParts.ShownState.{stage_there, state_shown}
 pub use Rattle.tj_words.specs.LawParts.Stops.{IsStored, Stops}
 pub use Rattle.tj_words.specs.LawParts.Telling.{ArePairs, BitsSay, FillSays, FinishSays, HasName, HeldSays, Tells}
-pub use Rattle.tj_words.specs.LawParts.Telling.{TellsStage, sort_tag, tag_of}
-pub use Rattle.tj_words.specs.LawParts.TreeWords.{AreCells, Births, BirthsBy, IsCell, IsDue, IsForkTree, IsOfTree}
-pub use Rattle.tj_words.specs.LawParts.TreeWords.{TreeWords, depth_word, jump_word, parent_word, tree_word}
+pub use Rattle.tj_words.specs.LawParts.Telling.{TellsStage, tag_of}
+pub use Rattle.tj_words.specs.LawParts.TreeWords.{AreCells, Births, IsCell, IsDue, IsForkTree, IsOfTree, TreeWords}
+pub use Rattle.tj_words.specs.LawParts.TreeWords.{depth_word, jump_word, parent_word, tree_word}
 pub use Rattle.tj_words.specs.SeatViews.FullMeaning.{stop_load}
-pub use Rattle.tj_words.specs.SeatViews.KnownEntries.{HasSeen, MayStoreBits, ToldBy}
+pub use Rattle.tj_words.specs.SeatViews.KnownEntries.{HasSeen, ToldBy}
 pub use Rattle.tj_words.specs.SeatViews.Moments.{WasSo, was_so}
 pub use Rattle.tj_words.specs.SeatViews.SeatSteps.{IsCount, SeatMe, live_load, plain_load}
 pub use Rattle.tj_words.specs.SeatViews.SeenWords.{FindsWord, IsTaskIn, MayReadTree, NextTold, SeesOnce, ShowsNode}
 pub use Rattle.tj_words.specs.SeatViews.SeenWords.{head_load, next_load, seen_word}
-pub use Rattle.tj_words.specs.SeatViews.TaskLists.{hold, let_go, note, noted}
+pub use Rattle.tj_words.specs.SeatViews.TaskLists.{hold, let_go, noted}
 pub use Rattle.tj_words.specs.SeatViews.TreeReads.{HasReadTree, IsLater}
-pub use Rattle.tj_words.specs.SeatViews.Views.{IsIdle, both, left_half, note_of, right_half, spent, stepped_on}
+pub use Rattle.tj_words.specs.SeatViews.Views.{IsIdle, both, left_half, noted_step, right_half, spent}
 pub use Rattle.tj_words.specs.Steps.OwnerSteps.{draw_event, next_reference}
 pub use Rattle.tj_words.specs.Steps.QuietSteps.{KeepsHoldings, LoadsOnly, does_first}
 pub use Rattle.tj_words.specs.Steps.StepEvents.{IsBegun, MayAct, wait_in}
-pub use Rattle.tj_words.specs.Steps.TableRuns.{Under, state_of}
+pub use Rattle.tj_words.specs.Steps.TableRuns.{state_of}
 pub use Rattle.tj_words.specs.Steps.WalkSteps.{MayWait, is_task_sort, way_by}
 pub use Rattle.tj_words.specs.Words.Codes.{Codes, IsPhaseWord}
 pub use Rattle.tj_words.specs.Words.Heads.{head_in, head_word, shut_word}
@@ -143,9 +128,9 @@ pub use Rattle.tj_words.specs.declared.closed.RestCell.{RestCell}
 pub use Rattle.tj_words.specs.declared.head.Head.{Head}
 pub use Rattle.tj_words.specs.declared.head.Head.TheVariants.{Empty, Shut, Task}
 pub use Rattle.tj_words.specs.declared.offsets.Once.{Once}
-pub use Rattle.tj_words.specs.declared.offsets.Once.TheVariants.{Bits, Depth, Jump, Kid, Parent, Tag}
+pub use Rattle.tj_words.specs.declared.offsets.Once.TheVariants.{Tag}
 pub use Rattle.tj_words.specs.declared.phase.Phase.{Phase}
-pub use Rattle.tj_words.specs.declared.phase.Phase.TheVariants.{Ready, Unborn, Waiting}
+pub use Rattle.tj_words.specs.declared.phase.Phase.TheVariants.{Unborn, Waiting}
 pub use Rattle.tj_words.specs.declared.phase.Walk.{Walk}
 pub use Rattle.tj_words.specs.declared.record.Fill.{Fill}
 pub use Rattle.tj_words.specs.declared.record.Finish.{Finish}
@@ -158,14 +143,12 @@ pub use Rattle.tj_words.specs.declared.view.Due.{Due}
 pub use Rattle.tj_words.specs.declared.view.Filled.{Filled}
 pub use Rattle.tj_words.specs.declared.view.Found.{Found}
 pub use Rattle.tj_words.specs.declared.view.Hand.{Hand}
-pub use Rattle.tj_words.specs.declared.view.Note.{Note}
 pub use Rattle.tj_words.specs.declared.view.Push.{Push}
 pub use Rattle.tj_words.specs.declared.view.Rest.{Rest}
 pub use Rattle.tj_words.specs.declared.view.SeenWord.{SeenWord}
 pub use Rattle.tj_words.specs.declared.view.View.{View}
 pub use lib.ListN.{get_elem?, length-replicate}
-pub use lib.Seq.{map-set, set-set}
-pub use mathlib.Core.List.{map-append}
+pub use lib.Seq.{map-set}
 pub use mathlib.Core.Logic.{dite}
 pub use mathlib.Core.Option.{none, some, some-injective, some-ne-none}
 pub use native.Mathlib.Decide.{dec_le, ℕ_discrete}

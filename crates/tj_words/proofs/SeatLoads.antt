@@ -4,10 +4,8 @@ pub mod LoadSteps
 pub mod MomentSteps
 pub mod MomentLaws
 pub mod FreeNext
-pub mod OneCell
 pub mod KnowLoads
 pub mod HeadLoads
-pub mod StopLoads
 pub mod PhaseLoads
 pub mod WalkReads
 pub mod WalkLoads

@@ -8,9 +8,7 @@ pub mod StoreSteps
 pub mod StepContents
 pub mod Columns
 pub mod SlotStores
-pub mod GivenSlots
 pub mod WrittenOnce
 pub mod OnceStores
 pub mod WordStores
-pub mod ValueStores
 pub mod EntryStores

@@ -2,7 +2,6 @@
 pub mod ChainLists
 pub mod ChainSeats
 pub mod ChainFacts
-pub mod ChainCells
 pub mod ChainHeads
 pub mod ChainPhases
 pub mod ChainsSaid

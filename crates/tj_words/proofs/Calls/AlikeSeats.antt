@@ -1,54 +1,24 @@
 -- What a seat has of names and values is the table's own at each later moment of a run: a step keeps the names of the
 -- cells that are there, and a value is set for good.
 use Rattle.tj_words.proofs.Prelude.{AreAskedMoments, AreMoments, BitsSay, Bool, Contents, Entry, Filled, IsAskedStep}
-use Rattle.tj_words.proofs.Prelude.{IsCell, IsIn, IsTableStep, KeepsCells, Key, List, Name, Option, Program, Rec}
-use Rattle.tj_words.proofs.Prelude.{Reference, Ruled, Sort, State, View, [], ap, arith, bits_in, contents_of, drawn_in}
-use Rattle.tj_words.proofs.Prelude.{get_elem?, inl, inr, last_moment, reference_of, refl, some, some-injective}
-use Rattle.tj_words.proofs.Prelude.{sort_tag, subst, sym, tag_in, tag_of, ℕ, ◌<◌, ◌↔◌, ◌∙◌, ◌∷◌, ◌≡◌, ◌≢◌, ◌≤◌}
+use Rattle.tj_words.proofs.Prelude.{IsCell, IsIn, IsTableStep, Key, List, Name, Option, Program, Rec, Reference, Ruled}
+use Rattle.tj_words.proofs.Prelude.{State, View, [], ap, arith, bits_in, contents_of, drawn_in, get_elem?, inl, inr}
+use Rattle.tj_words.proofs.Prelude.{last_moment, reference_of, refl, some, some-injective, subst, sym, tag_in, tag_of}
+use Rattle.tj_words.proofs.Prelude.{ℕ, ◌<◌, ◌↔◌, ◌∙◌, ◌∷◌, ◌≡◌, ◌≢◌, ◌≤◌}
+use Rattle.tj_words.proofs.Lemmas.{IsSo, KeepsCells, born_apart, cell_born, index_is, inside, knowing_of, knows_so}
+use Rattle.tj_words.proofs.Lemmas.{name_of}
 use Rattle.tj_words.specs.CallLaws.AlikeSeats.{IsTheTables, MergedSeatsAgree, SeatsKnowForGood, SeatsNumberAlike}
 use Rattle.tj_words.proofs.Calls.CallRuns.{call_goes, seats_go}
 use Rattle.tj_words.proofs.Calls.LastingWords.{count_never_falls, values_for_good}
 use Rattle.tj_words.proofs.Calls.OneStates.{kept_name}
-use Rattle.tj_words.proofs.Lemmas.{IsSo, born_apart, cell_born, inside, knowing_of, knows_so, name_of}
 use Rattle.tj_words.proofs.Seating.Merging.{begins_at}
-use Rattle.tj_base.specs.declared.cell.Sort.TheVariants as sort
-use Rattle.tj_body.specs.declared.point.Entry.TheVariants as entry
-use Rattle.tj_body.specs.declared.point.Value.TheVariants as value
-
--- TAG of a sort says which sort it is
-same_sort : (k l : Sort) → sort_tag k ≡ sort_tag l → k ≡ l
-same_sort sort.Promise sort.Promise e = refl
-same_sort sort.Promise sort.Task e = absurd (omega arith)
-same_sort sort.Task sort.Promise e = absurd (omega arith)
-same_sort sort.Task sort.Task e = refl
-
-above_number : (k : Sort) → 1 < sort_tag k
-above_number sort.Promise = omega arith
-above_number sort.Task = omega arith
-
-below_broken : (k : Sort) → sort_tag k < 4
-below_broken sort.Promise = omega arith
-below_broken sort.Task = omega arith
-
--- TAG of a cell of which something has become isn't 0
-tag_some : (e : Entry) → tag_of e ≢ 0
-tag_some (entry.Value (value.Ref r)) h = let l = above_number r.sort in omega arith
-tag_some e h = omega arith
+use Rattle.tj_words.proofs.SeatLoads.KnowLoads.{tag_some}
 
 -- BITS says over one list of names what it says over another, where both have one name for the cell and TAG is the same
 same_bits : (born then : List Reference) (n : ℕ) (e d : Entry)
     → ((r s : Reference) → IsCell born n r → IsCell then n s → s.name ≡ r.name) → tag_of d ≡ tag_of e
     → BitsSay born e n → BitsSay then d n → BitsSay then e n
-same_bits born then n entry.Broken d same t h g = h
-same_bits born then n (entry.Value (value.Num i)) d same t h g = h
-same_bits born then n (entry.Value (value.Ref r)) entry.Broken same t h g =
-    let l = below_broken r.sort in absurd (omega arith)
-same_bits born then n (entry.Value (value.Ref r)) (entry.Value (value.Num i)) same t h g =
-    let l = above_number r.sort in absurd (omega arith)
-same_bits born then n (entry.Value (value.Ref r)) (entry.Value (value.Ref s)) same t h g =
-    let kind = same_sort s.sort r.sort t in let named = same r s h g in
-    let is : s ≡ r = λ j. record { sort = kind j; name = named j } in
-    subst (IsCell then n) is g
+same_bits born then n e d same t h g = grind arith
 
 module _ {B : Type 0} (program : Bool → B → Program B) (key : Key B) where
   abbrev The : State (Option (Rec B)) (View B) → Contents B
@@ -92,8 +62,7 @@ module _ {B : Type 0} (program : Bool → B → Program B) (key : Key B) where
   cell_inside u c r e = subst (λ k. c < k) u.rule.law.births.all (inside u.rule.law.born c r e)
 
   name_is : (u : Ruled program key) (c : ℕ) (r : Reference) → IsCell u.rule.law.born c r → named u c ≡ r.name
-  name_is u c r e = ap name_of (some-injective (reference_of u.rule.law.born c) r
-      (sym (cell_born u.rule.law c (cell_inside u c r e)) ∙ e))
+  name_is u c r e = ap name_of (index_is u.rule.law.born c _ r e)
 
   module _ (u : Ruled program key) (later : List (Ruled program key)) (a : AreAskedMoments program key u later) where
     abbrev end : Ruled program key

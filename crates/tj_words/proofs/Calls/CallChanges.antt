@@ -1,18 +1,16 @@
 -- What a call leaves that is no event: the hand, the tasks and the waits cleared of the view are as they were, and so
 -- are PARENT and KID of the cells that are there. A split and a merge leave what seats hold.
-use Rattle.tj_words.proofs.Prelude.{Bool, Contents, Custody, Hand, IfRecord, IsIdle, IsThere, KeepsCells, KeepsHoldings}
-use Rattle.tj_words.proofs.Prelude.{List, LoadsOnly, MakesWith, MayPutOnce, None, Once, Option, Program, PutsOnce, Rec}
-use Rattle.tj_words.proofs.Prelude.{SeatMe, SeatsHave, SeesOnce, SlotsOf, Some, State, Step, View, [], ap, arith}
-use Rattle.tj_words.proofs.Prelude.{at_map, both, contents_of, dite, drawn_in, find_in, get_elem?, hand_in, hand_of}
-use Rattle.tj_words.proofs.Prelude.{head_in, head_load, home_in, inl, inr, keeps, left_half, live_load, lowered_with}
-use Rattle.tj_words.proofs.Prelude.{made_by, making, map, map-append, parts_of, push_exchange, raised_with, refl}
-use Rattle.tj_words.proofs.Prelude.{right_half, seats_have, set, shut_swap, some, spent, subst, sym, total, true}
-use Rattle.tj_words.proofs.Prelude.{words_say, ℕ, ℕ_discrete, ⊎_elim, ◌++◌, ◌+◌, ◌∙◌, ◌∷◌, ◌≡◌, ◌≢◌, ◌⊎◌}
+use Rattle.tj_words.proofs.Prelude.{Bool, Custody, Hand, IfRecord, IsIdle, KeepsHoldings, List, LoadsOnly, MakesWith}
+use Rattle.tj_words.proofs.Prelude.{MayPutOnce, None, Once, Option, Program, PutsOnce, Rec, SeatMe, SeatsHave, SeesOnce}
+use Rattle.tj_words.proofs.Prelude.{SlotsOf, Some, State, Step, View, [], ap, arith, at_map, both, contents_of, dite}
+use Rattle.tj_words.proofs.Prelude.{get_elem?, hand_of, head_in, head_load, keeps, left_half, live_load, lowered_with}
+use Rattle.tj_words.proofs.Prelude.{map, push_exchange, raised_with, refl, right_half, seats_have, set, shut_swap, some}
+use Rattle.tj_words.proofs.Prelude.{spent, subst, sym, total, true, words_say, ℕ, ℕ_discrete, ⊎_elim, ◌++◌, ◌+◌, ◌∙◌}
+use Rattle.tj_words.proofs.Prelude.{◌∷◌, ◌≡◌, ◌≢◌, ◌⊎◌}
+use Rattle.tj_words.proofs.Lemmas.{hand_finds, none_some, parts_of, same_field}
 use Rattle.tj_words.proofs.Seating.Appending.{find_snoc, hand_snoc, making_snoc, total_snoc}
-use Rattle.tj_words.proofs.Calls.KeptCells.{kept}
 use Rattle.tj_words.proofs.Waiters.ChainsSaid.{shut_or}
-use Rattle.tj_words.proofs.Lemmas.{hand_finds, none_some}
-use Rattle.tj_words.proofs.Stores.SeatLists.{same_field}
+use Rattle.tj_words.proofs.Seating.Splitting.{halves}
 use Rattle.tj_words.specs.declared.offsets.Once.TheVariants as once
 
 module _ {B : Type 0} where
@@ -73,14 +71,10 @@ module _ {B : Type 0} where
 
   -- LIVE up and down, where no record comes home
   raised_same : (v : View B) (slots : SlotsOf B) → IfRecord (λ t r. ⊥) slots → ShowsSame v (raised_with v slots).0
-  raised_same v [] h = (refl, λ r. r)
-  raised_same v ((t, None) ∷ slots) h = (refl, λ r. r)
-  raised_same v ((t, Some r) ∷ slots) h = absurd h
+  raised_same v slots h = grind arith
 
   lowered_same : (v : View B) (slots : SlotsOf B) → IfRecord (λ t r. ⊥) slots → ShowsSame v (lowered_with v slots).0
-  lowered_same v [] h = (refl, λ r. r)
-  lowered_same v ((t, None) ∷ slots) h = (refl, λ r. r)
-  lowered_same v ((t, Some r) ∷ slots) h = absurd h
+  lowered_same v slots h = grind arith
 
   pub raise_same : (m m' : SeatMe B) → m' ≡ raised_with m.0 m.1 → IfRecord (λ t r. ⊥) m.1 → ShowsSame m.0 m'.0
   raise_same m m' e h = subst (λ (z : SeatMe B). ShowsSame m.0 z.0) (sym e) (raised_same m.0 m.1 h)
@@ -92,14 +86,6 @@ module _ {B : Type 0} where
       → ShowsSame m.0 m'.0
   shut_same cells p n st m m' h = ⊎_elim (λ e. as_it_was m.0 m'.0 _ (h.2 e) refl refl)
       (λ e. as_it_was m.0 m'.0 _ (h.3 e).view refl refl) (shut_or (head_in n))
-
-  -- makers and numbers of cells stay where hands, tasks and slots do, and PARENT and KID of the cells that are there
-  pub keeps_cells : (cells : ℕ) (x y : Contents B) → KeepsHoldings x y
-      → ((c : ℕ) → IsThere (drawn_in cells x) (hand_of x) c
-      → (y.words.once c once.Parent ≡ x.words.once c once.Parent) × (y.words.once c once.Kid ≡ x.words.once c once.Kid))
-      → KeepsCells cells x y
-  keeps_cells cells x y k once = kept cells x y (λ c. ap (λ l. hand_in l c) k.hands)
-      (λ c j. made_by (find_in (k.tasks j) c) (home_in (k.slots j) c) + making (k.hands j) c) once
 
   -- who stores a word that is written once stores none of PARENT and KID of the cells that are there
   module _ (program : Bool → B → Program B) (c n : ℕ) (s : State (Option (Rec B)) (View B)) (id : ℕ) (v : View B)
@@ -114,9 +100,7 @@ module _ {B : Type 0} where
 
     pub writes_apart : (f : Once) → MayPutOnce program f c n v
         → (d ≢ c) ⊎ ((once.Parent ≢ f) × (once.Kid ≢ f))
-    writes_apart once.Tag may = inr (λ e. absurd (cc), λ e. absurd (cc))
-    writes_apart once.Bits may = inr (λ e. absurd (cc), λ e. absurd (cc))
-    writes_apart f may = inl (not_in_hand may.hand may.has may.its_cell)
+    writes_apart f may = grind (arith, not_in_hand)
 
   -- a split leaves all that the core state is shown by
   pub split_parts : (cells : ℕ) (s : State (Option (Rec B)) (View B)) (id : ℕ) (v : View B)
@@ -126,15 +110,11 @@ module _ {B : Type 0} where
         homes = s.homes;
         views = set s.views id (left_half v) ++ right_half v ∷ [];
       })) ≡ parts_of cells (contents_of s)
-  split_parts cells s id v at = (λ j. parts_of cells (record {
+  split_parts cells s id v at = ap (λ (z : SeatsHave B). parts_of cells (record {
     words = words_say s.words;
     slots = s.homes;
-    seats = record (seats_have (set s.views id (left_half v) ++ right_half v ∷ [])) {
-      hands = more (λ (u : View B). u.hand) refl j;
-      tasks = more (λ (u : View B). u.tasks) refl j;
-      cleared = more (λ (u : View B). u.cleared) refl j;
-    };
-  })) ∙ (λ j. record (parts_of cells (contents_of s)) {
+    seats = z;
+  })) (halves s.views id v at) ∙ (λ j. record (parts_of cells (contents_of s)) {
     hand = λ c. hand_snoc old.hands c j;
     making = λ t. making_snoc old.hands t j;
     held = λ t. find_snoc old.tasks t j;
@@ -146,11 +126,6 @@ module _ {B : Type 0} where
 
       no_more : (n : ℕ) → n + 0 ≡ n
       no_more n = omega arith
-
-      more : {A : Type 0} (f : View B → A) → f (left_half v) ≡ f v
-          → map f (set s.views id (left_half v) ++ right_half v ∷ []) ≡ map f s.views ++ f (right_half v) ∷ []
-      more f e = map-append f (set s.views id (left_half v)) (right_half v ∷ [])
-          ∙ ap (λ l. l ++ f (right_half v) ∷ []) (same_field f s.views id v (left_half v) at e)
 
   -- a merge of an idle seat is like a load
   pub merge_merges : (s : State (Option (Rec B)) (View B)) (id other : ℕ) (v w : View B)

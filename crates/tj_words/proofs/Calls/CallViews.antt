@@ -1,10 +1,9 @@
 -- What each call leaves of its seat's view: one that has loaded LIVE as 0 has done so afterwards, and a cell that isn't
 -- in the seat's hand stays out of it, where a draw finds another cell.
 use Rattle.tj_words.proofs.Prelude.{Bool, Hand, MayPutOwner, MaySwap, None, Option, Phase, Program, PutsOwner}
-use Rattle.tj_words.proofs.Prelude.{PutsPhase, Rec, SeatMe, SlotsOf, Some, Sort, Step, StepCall, Swaps, View, [], ap}
-use Rattle.tj_words.proofs.Prelude.{arith, dec_le, dite, draw_step, false, lowered_with, mark, owner_in, phase_in}
-use Rattle.tj_words.proofs.Prelude.{raised_with, refl, subst, sym, told_by, true, ℕ, ℕ_discrete, ⊎_elim, ◌∙◌, ◌∷◌, ◌≡◌}
-use Rattle.tj_words.proofs.Prelude.{◌≢◌}
+use Rattle.tj_words.proofs.Prelude.{PutsPhase, Rec, SeatMe, SlotsOf, Some, Sort, Step, StepCall, Swaps, View, ap, arith}
+use Rattle.tj_words.proofs.Prelude.{dec_le, dite, draw_step, false, lowered_with, mark, owner_in, phase_in, raised_with}
+use Rattle.tj_words.proofs.Prelude.{refl, subst, sym, told_by, true, ℕ, ℕ_discrete, ⊎_elim, ◌∙◌, ◌≡◌, ◌≢◌}
 use Rattle.tj_words.proofs.Calls.CallChanges.{ShowsSame, head_same, live_same, once_same, push_same, put_same}
 use Rattle.tj_words.proofs.Calls.CallChanges.{shut_same}
 use Rattle.tj_words.specs.declared.phase.Phase.TheVariants as phase
@@ -16,9 +15,7 @@ abbrev pub IsOut : ℕ → Option Hand → Type 0
 IsOut c o = (h : Hand) → o ≡ Some h → h.cell ≢ c
 
 mark_out : (c : ℕ) (o : Option Hand) → IsOut c o → IsOut c (mark o)
-mark_out c None out h e = absurd (cc)
-mark_out c (Some g) out h e = λ z. let q : record g { marked = true } ≡ h = cc in
-    out g refl (ap (λ (k : Hand). k.cell) q ∙ z)
+mark_out c o out h e = grind arith
 
 module _ {B : Type 0} (c : ℕ) where
   -- from the view v on a seat keeps that it has loaded LIVE as 0, and that the cell is out of its hand
@@ -61,16 +58,14 @@ module _ {B : Type 0} (c : ℕ) where
         (λ g. by_view v w _ (p.1 g) refl refl) m
 
     put_phase : (q : Phase) (t : ℕ) (m m' : SeatMe B) → PutsPhase t q m m' → Leaves m.0 m'.0
-    put_phase phase.Ready t m m' p = by_me m m' _ p refl refl
-    put_phase phase.Ended t m m' p = by_me m m' _ p refl refl
+    put_phase phase.Unborn t m m' p = absurd p
+    put_phase phase.Running t m m' p = absurd p
     put_phase phase.Promise t m m' p = (
       (λ r. ap (λ (x : SeatMe B). x.0.rested) p ∙ r),
       (λ out h q. mark_out c m.0.hand out h (sym (ap (λ (x : SeatMe B). x.0.hand) p) ∙ q)),
     )
     put_phase (phase.Waiting d way walk.Walking) t m m' p = by_me m m' _ p refl refl
-    put_phase (phase.Waiting d way walk.Parked) t m m' p = by_me m m' _ p refl refl
-    put_phase (phase.Waiting d way walk.Alarmed) t m m' p = by_me m m' _ p refl refl
-    put_phase q t m m' p = absurd p
+    put_phase q t m m' p = by_me m m' _ p refl refl
 
     swapped : (t : ℕ) (was to : Phase) (m m' : SeatMe B) → MaySwap t was to m.0 → Swaps program t was to m m'
         → Leaves m.0 m'.0
@@ -81,45 +76,31 @@ module _ {B : Type 0} (c : ℕ) where
         (λ w. let r = s.goes_back q.0 q.1 q.2 w.0 in by_me m m' _ r.3 refl refl) q.3) may
 
     raised : (v : View B) (slots : SlotsOf B) → Leaves v (raised_with v slots).0
-    raised v [] = by_view v _ v refl refl refl
-    raised v ((t, None) ∷ slots) = by_view v _ v refl refl refl
-    raised v ((t, Some r) ∷ slots) = by_view v _ v refl refl refl
+    raised v slots = grind arith
 
     lowered : (v : View B) (slots : SlotsOf B) → Leaves v (lowered_with v slots).0
-    lowered v [] = by_view v _ v refl refl refl
-    lowered v ((t, None) ∷ slots) = by_view v _ v refl refl refl
-    lowered v ((t, Some r) ∷ slots) = by_view v _ v refl refl refl
+    lowered v slots = grind arith
 
     -- so is each call
     pub leaves : (a : StepCall) (n k : ℕ) (st : Step (Option (Rec B))) (m m' : SeatMe B)
         → ((t : ℕ) (o : Sort) → a ≡ call.draws t o → c ≢ k) → told_by program cells a n st m k m' → Leaves m.0 m'.0
     leaves (call.draws t o) n k st m m' new h = drawn t o st m m' k (new t o refl) h.1
-    leaves call.counts n k st m m' new h = by_view m.0 m'.0 _ h.1.1 refl refl
-    leaves (call.counts_by t) n k st m m' new h = by_view m.0 m'.0 _ h.1.1 refl refl
     leaves (call.puts_once d f) n k st m m' new h =
         by_shown m.0 m'.0 (put_same program d st.first f m.0 m'.0 h.1.0 h.1.2)
     leaves (call.sees_once d f) n k st m m' new h = by_shown m.0 m'.0 (once_same program cells d k f m.0 m'.0 h.1.1)
     leaves (call.puts_owner d) n k st m m' new h = put_owner (owner_in st.first) d m.0 m'.0 h.1.0 h.1.1.1
-    leaves (call.sees_owner d) n k st m m' new h = by_view m.0 m'.0 _ h.1.1 refl refl
-    leaves (call.sees_owner_by t d) n k st m m' new h = by_view m.0 m'.0 _ h.1.1 refl refl
     leaves (call.puts_phase t) n k st m m' new h = put_phase (phase_in st.first) t m m' h.1
-    leaves (call.sees_phase t) n k st m m' new h = by_view m.0 m'.0 _ h.1.1 refl refl
-    leaves (call.sees_phase_by t u) n k st m m' new h = by_view m.0 m'.0 _ h.1.1 refl refl
     leaves (call.swaps_phase t) n k st m m' new h = dite (ℕ_discrete k st.first)
         (λ e. swapped t (phase_in st.first) (phase_in st.second) m m' h.2.0 (h.2.1.0 e))
         (λ e. by_me m m' _ (h.2.1.1 e).1 refl refl)
-    leaves (call.raises_others t) n k st m m' new h = by_view m.0 m'.0 _ h.1.1 refl refl
-    leaves call.lowers_others n k st m m' new h = by_view m.0 m'.0 _ h.1.1 refl refl
-    leaves (call.sees_others_by t) n k st m m' new h = by_view m.0 m'.0 _ h.1.1 refl refl
     leaves call.raises_live n k st m m' new h = subst (λ (z : SeatMe B). Leaves m.0 z.0) (sym h.1) (raised m.0 m.1)
     leaves call.lowers_live n k st m m' new h = subst (λ (z : SeatMe B). Leaves m.0 z.0) (sym h.1) (lowered m.0 m.1)
     leaves call.sees_live n k st m m' new h = by_shown m.0 m'.0 (live_same k st m m' h.1)
     leaves call.stops n k st m m' new h = by_me m m' _ h.1.0 refl refl
-    leaves call.sees_stop n k st m m' new h = by_view m.0 m'.0 _ h.1.1 refl refl
     leaves (call.sees_head p) n k st m m' new h = by_shown m.0 m'.0 (head_same program cells p k st m m' h.1)
     leaves (call.pushes p) n k st m m' new h = dite (ℕ_discrete k st.first)
         (λ e. by_view m.0 m'.0 _ (h.2.2 e) refl refl)
         (λ e. by_shown m.0 m'.0 (push_same program cells p k st m m' e h.2))
     leaves (call.shuts p) n k st m m' new h = by_shown m.0 m'.0 (shut_same cells p k st m m' h.1)
-    leaves (call.puts_next t) n k st m m' new h = by_view m.0 m'.0 _ h.1.1 refl refl
-    leaves (call.sees_next t) n k st m m' new h = by_view m.0 m'.0 _ h.1.1 refl refl
+    leaves call.counts n k st m m' new h = by_view m.0 m'.0 _ h.1.1 refl refl
+    leaves a n k st m m' new h = by_view m.0 m'.0 _ h.1.1 refl refl

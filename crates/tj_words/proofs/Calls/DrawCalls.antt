@@ -1,14 +1,14 @@
 -- A draw that finds a cell is a change of the law of steps, and leaves makers and numbers of the cells that were drawn
 -- before.
-use Rattle.tj_words.proofs.Prelude.{Bool, Contents, DrawsCell, FindsCell, Hand, Keeping, KeepsCells, Key, Law, List}
-use Rattle.tj_words.proofs.Prelude.{MakesWith, MayDraw, Option, Program, Rec, Reference, Rule, SeatMe, Sort, State}
-use Rattle.tj_words.proofs.Prelude.{View, [], ap, arith, contents_of, count_at, drawn_in, drew, homes_after, inl}
-use Rattle.tj_words.proofs.Prelude.{new_hand, refl, suc, sym, takes_new, word, ℕ, ◌++◌, ◌<◌, ◌∙◌, ◌∷◌, ◌≡◌}
+use Rattle.tj_words.proofs.Prelude.{Bool, Contents, FindsCell, Hand, Key, Law, List, MakesWith, MayDraw, Option}
+use Rattle.tj_words.proofs.Prelude.{Program, Rec, Reference, Rule, SeatMe, Sort, State, View, [], ap, arith}
+use Rattle.tj_words.proofs.Prelude.{contents_of, count_at, drawn_in, drawn_next, drew, homes_after, inl, new_hand, refl}
+use Rattle.tj_words.proofs.Prelude.{suc, sym, takes_new, word, ℕ, ◌++◌, ◌<◌, ◌∙◌, ◌∷◌, ◌≡◌}
+use Rattle.tj_words.proofs.Lemmas.{Count, DrawsCell, KeepsCells, back, call_stores_with, hand_found, stored_with}
+use Rattle.tj_words.proofs.Events.StepEvents.{Keeping}
 use Rattle.tj_words.proofs.Events.DrawEvents.{drawn_into, may_draw}
 use Rattle.tj_words.proofs.Cells.DrawnTasks.{slots_after}
-use Rattle.tj_words.proofs.Lemmas.{Count, back, call_stores_with, hand_found, stored_with}
 use Rattle.tj_words.proofs.Cells.DrawSteps.{after_draw, draw_path, after_draws}
-use Rattle.tj_words.specs.Calls.DrawViews.{drawn_next}
 use Rattle.tj_base.specs.declared.cell.Sort.TheVariants as sort
 use Rattle.tj_words.specs.declared.offsets.Once.TheVariants as once
 

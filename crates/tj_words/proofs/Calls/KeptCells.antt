@@ -1,9 +1,9 @@
 -- Makers and numbers of cells stay where hands and the numbers of things made do, and PARENT and KID of the cells that
 -- are there: so they stay at each step by which one task does something else, or a cell has another owner.
-use Rattle.tj_words.proofs.Prelude.{Contents, Custody, IsMoved, IsThere, KeepsCells, Option, Parts, Phase, Rec, ap}
-use Rattle.tj_words.proofs.Prelude.{drawn_in, hand_of, held_of, home_of, inl, made_by, made_of, making, parts_of, refl}
-use Rattle.tj_words.proofs.Prelude.{total, ℕ, ◌+◌, ◌∙◌, ◌≡◌}
-use Rattle.tj_words.proofs.Lemmas.{at_two, moved_parts}
+use Rattle.tj_words.proofs.Prelude.{Contents, Custody, IsThere, Option, Phase, Rec, ap, drawn_in, hand_of, held_of}
+use Rattle.tj_words.proofs.Prelude.{home_of, inl, made_by, made_of, making, refl, total, ℕ, ◌+◌, ◌∙◌, ◌≡◌}
+use Rattle.tj_words.proofs.Lemmas.{IsMoved, KeepsCells, Parts, at_two, parts_of}
+use Rattle.tj_words.proofs.Events.ShownParts.{moved_parts}
 use Rattle.tj_words.specs.declared.offsets.Once.TheVariants as once
 
 module _ {B : Type 0} (cells : ℕ) (x y : Contents B) where

@@ -1,15 +1,13 @@
 -- A moment has one holder of each task and one line of each cell.
-use Rattle.tj_words.proofs.Prelude.{Chains, Contents, Found, Head, Law, List, None, Option, Phase, Program, Push, Rest}
-use Rattle.tj_words.proofs.Prelude.{Shut, Some, [], ap, inl, inr, refl, subst, sym, ℕ, ⊎_elim, ◌∙◌, ◌∷◌, ◌≡◌, ◌≢◌, ◌⊎◌}
+use Rattle.tj_words.proofs.Prelude.{Chains, Contents, Found, Head, Law, List, Option, Phase, Program, Push, Rest, Shut}
+use Rattle.tj_words.proofs.Prelude.{Some, [], ap, arith, inl, inr, refl, subst, sym, ℕ, ⊎_elim, ◌∙◌, ◌∷◌, ◌≡◌, ◌≢◌, ◌⊎◌}
 use Rattle.tj_words.specs.Steps.OneHolders.{OneLineStands, OneSeatHolds, OneSeatPushes}
 use Rattle.tj_words.proofs.Waiters.ChainFacts.{linked_one}
 use Rattle.tj_words.proofs.Waiters.ChainsSaid.{shut_or}
 
 -- where each of two options is the other's number, if it has one, they are the same
 one_option : (a b : Option ℕ) → ((j : ℕ) → a ≡ Some j → b ≡ Some j) → ((j : ℕ) → b ≡ Some j → a ≡ Some j) → a ≡ b
-one_option None None f g = refl
-one_option None (Some j) f g = g j refl
-one_option (Some j) b f g = sym (f j refl)
+one_option a b f g = grind arith
 
 empty_or : (l : List ℕ) → (l ≡ []) ⊎ (l ≢ [])
 empty_or [] = inl refl

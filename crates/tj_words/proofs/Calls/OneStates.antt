@@ -1,12 +1,13 @@
 -- The core state that is shown is one: makers, numbers and names are those that words and hands tell.
-use Rattle.tj_words.proofs.Prelude.{CellState, Contents, DrawsCell, Hand, Law, List, Name, None, Option, Parts, Program}
-use Rattle.tj_words.proofs.Prelude.{Reference, Some, [], ap, arith, child, core_shown, dite, drawn_in, get_or, hand_of}
-use Rattle.tj_words.proofs.Prelude.{held_of, home_of, inl, made_of, next_reference, owner_shown, parts_of, put}
-use Rattle.tj_words.proofs.Prelude.{put_else, put_here, reference_of, refl, some-injective, stage_shown, subst, suc}
-use Rattle.tj_words.proofs.Prelude.{sym, to_task, zero, ℕ, ℕ_discrete, ⊎_elim, ◌++◌, ◌<◌, ◌∙◌, ◌∷◌, ◌≡◌, ◌≢◌, ◌≤◌}
-use Rattle.tj_words.proofs.Events.StepEvents.{IsInHandOf, IsToldBy, KeepsCells}
-use Rattle.tj_words.proofs.Lemmas.{cell_blank, cell_born, cell_there, shown_is}
-use Rattle.tj_words.proofs.Events.DrawEvents.{before_or, last_or, t_there, drawn_into}
+use Rattle.tj_words.proofs.Prelude.{CellState, Contents, Hand, Law, List, Name, None, Option, Program, Reference, Some}
+use Rattle.tj_words.proofs.Prelude.{[], ap, arith, at_longer, child, core_shown, dite, drawn_in, get_elem?, hand_of}
+use Rattle.tj_words.proofs.Prelude.{held_of, home_of, inl, made_of, next_reference, owner_shown, put, put_else}
+use Rattle.tj_words.proofs.Prelude.{put_here, reference_of, refl, some, stage_shown, subst, suc, sym, to_task, zero, ℕ}
+use Rattle.tj_words.proofs.Prelude.{ℕ_discrete, ⊎_elim, ◌++◌, ◌<◌, ◌∙◌, ◌∷◌, ◌≡◌, ◌≢◌, ◌≤◌}
+use Rattle.tj_words.proofs.Lemmas.{DrawsCell, IsToldBy, KeepsCells, Parts, cell_blank, cell_born, cell_there, index_is}
+use Rattle.tj_words.proofs.Lemmas.{last_at, parts_of, shown_is}
+use Rattle.tj_words.proofs.Events.StepEvents.{IsInHandOf}
+use Rattle.tj_words.proofs.Events.DrawEvents.{t_there, drawn_into}
 use Rattle.tj_words.specs.declared.offsets.Once.TheVariants as once
 
 abbrev name_in : List Reference → ℕ → Name
@@ -17,8 +18,7 @@ module _ {B : Type 0} {program : Program B} {cells : ℕ} {x : Contents B} (r : 
   n = drawn_in cells x
 
   pub root_name : name_in r.born 0 ≡ []
-  root_name = ap (λ (z : Reference). z.name) (some-injective (reference_of r.born 0) (to_task [])
-      (sym (cell_born r 0 r.facts.makers.root_there) ∙ r.births.root))
+  root_name = ap (λ (z : Reference). z.name) (index_is r.born 0 (to_task []) (to_task []) r.births.root)
 
   -- a maker is an earlier cell
   pub maker_before : (c : ℕ) → c ≢ 0 → c < n → r.maker c < c
@@ -28,11 +28,8 @@ module _ {B : Type 0} {program : Program B} {cells : ℕ} {x : Contents B} (r : 
 
   -- a name is the maker's, one step on
   pub name_by : (c : ℕ) → c ≢ 0 → c < n → name_in r.born c ≡ child (name_in r.born (r.maker c)) (r.number c)
-  name_by c z l = let b = maker_before c z l in
-      let w = r.births.named c (reference_of r.born c) (cell_born r c l) z in
-      let e : w.0 ≡ reference_of r.born (r.maker c) = some-injective w.0 (reference_of r.born (r.maker c))
-      (sym w.1 ∙ cell_born r (r.maker c) (omega arith)) in
-      w.2 ∙ ap (λ (q : Reference). child q.name (r.number c)) e
+  name_by c z l = let w = r.births.named c (reference_of r.born c) (cell_born r c l) z in
+      w.2 ∙ ap (λ (q : Reference). child q.name (r.number c)) (sym (index_is r.born (r.maker c) (to_task []) w.0 w.1))
 
   -- the words of a cell that is there tell its maker and its number
   module _ (c parent kid : ℕ) (l : suc c < n) (t : IsToldBy x (suc c) parent kid) where
@@ -152,7 +149,8 @@ module _ {B : Type 0} {program : Program B} {cells : ℕ} {x y : Contents B} (r 
 
     last_name : name_in born_then next ≡ new.name
     last_name = ap (λ (z : Reference). z.name)
-        ((λ j. get_or born_then (sym r.births.all j) (to_task [])) ∙ last_or r.born new (to_task []))
+        (index_is born_then next _ new
+        (subst (λ m. get_elem? born_then m ≡ some new) r.births.all (last_at r.born new)))
 
     makers : (c : ℕ) → c < drawn_in cells y → s.maker c ≡ put r.maker next t c
     makers c l = dite (ℕ_discrete c next)
@@ -164,7 +162,7 @@ module _ {B : Type 0} {program : Program B} {cells : ℕ} {x y : Contents B} (r 
         (λ e. subst (λ k. name_in s.born k ≡ name_in born_then k) (sym e) (next_name ∙ sym last_name))
         (λ f. let i : c < next = omega (arith, l, one_more, f) in kept_name c i
         ∙ sym (ap (λ (z : Reference). z.name)
-        (before_or r.born new (to_task []) c (subst (λ k. c < k) (sym r.births.all) i))))
+        (index_is born_then c _ (reference_of r.born c) (at_longer r.born (new ∷ []) c _ (cell_born r c i)))))
 
     pub drawn_chained : core_shown cells s.born s.maker y ≡ core_shown cells born_then (put r.maker next t) y
     drawn_chained = shown_with born_then (put r.maker next t) makers names

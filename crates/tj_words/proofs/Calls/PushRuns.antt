@@ -1,16 +1,14 @@
 -- A push that succeeds lengthens the very chain that was found: two lists that NEXT links and that begin alike are one.
-use Rattle.tj_words.proofs.Prelude.{AreLinked, Bool, Empty, Found, Head, IsIn, Key, List, Option, Program, Rec, Ruled}
-use Rattle.tj_words.proofs.Prelude.{Shut, State, StepCall, Task, View, WasSo, [], ap, arith, at_map, cell, get_elem?}
-use Rattle.tj_words.proofs.Prelude.{head_at, head_in, head_of, head_word, length, next_at, place_of, refl, set}
-use Rattle.tj_words.proofs.Prelude.{shut_word, some, subst, suc, sym, told_by, was_so, word, ℕ, ⊎_elim, ◌++◌, ◌-◌, ◌<◌}
-use Rattle.tj_words.proofs.Prelude.{◌∙◌, ◌∷◌, ◌≡◌, ◌≢◌, ◌≤◌}
+use Rattle.tj_words.proofs.Prelude.{AreLinked, Bool, Found, Head, IsIn, Key, List, Option, Program, Rec, Ruled, Shut}
+use Rattle.tj_words.proofs.Prelude.{State, Task, View, WasSo, [], ap, arith, at_map, cell, get_elem?, head_at, head_in}
+use Rattle.tj_words.proofs.Prelude.{head_of, head_word, length, next_at, place_of, refl, set, shut_word, some, subst}
+use Rattle.tj_words.proofs.Prelude.{suc, sym, told_by, was_so, word, ℕ, ⊎_elim, ◌++◌, ◌-◌, ◌<◌, ◌∙◌, ◌∷◌, ◌≡◌, ◌≢◌, ◌≤◌}
 use Rattle.tj_words.specs.Calls.PushSteps.{ChainIsFound, FindsLonger, chain_is_found}
 use Rattle.tj_words.specs.CallLaws.PushRuns.{AreFoundStill, FoundChainsStand, Pushes, PushesLengthen}
 use Rattle.tj_words.specs.SeatViews.SeenWords.{FindsChain}
 use Rattle.tj_words.proofs.SeatLoads.KnowLoads.{task_in}
-use Rattle.tj_words.proofs.Lemmas.{word_else, word_here}
+use Rattle.tj_words.proofs.Stores.SeatLists.{word_else, word_here}
 use Rattle.tj_words.proofs.Waiters.ChainFacts.{first_of, grown_longer, linked_one, no_shut}
-use Rattle.tj_words.specs.CallLaws.StepCalls as call
 
 -- the end of a list that NEXT links is linked
 linked_end : (next : ℕ → Head) (more old : List ℕ) → AreLinked next (more ++ old) → AreLinked next old
@@ -83,14 +81,8 @@ module _ {B : Type 0} (program : Bool → B → Program B) (key : Key B) where
 
     -- what the call stored
     its_number : e.made.number ≡ suc t
-    its_number = by e.made.call e.is e.made.told
-      where
-        by : (a : StepCall) → a ≡ call.pushes p
-            → told_by program key.cells a e.made.number e.made.operands e.made.seat (word ws (place_of a))
-            e.made.seat_after
-            → e.made.number ≡ suc t
-        by a q told = let h = subst (λ a. told_by program key.cells a e.made.number e.made.operands e.made.seat
-            (word ws (place_of a)) e.made.seat_after) q told in h.0 e.succeeds ∙ e.adds
+    its_number = let h = subst (λ a. told_by program key.cells a e.made.number e.made.operands e.made.seat
+        (word ws (place_of a)) e.made.seat_after) e.is e.made.told in h.0 e.succeeds ∙ e.adds
 
     after : (j : ℕ) → word w.now.words j ≡ word (set ws (head_at p) (suc t)) j
     after j = ap (λ (z : State (Option (Rec B)) (View B)). word z.words j) e.made.makes.after

@@ -1,12 +1,12 @@
 -- The steps of a table, one after the other, are a run of the core: each is one event or none, and what it leaves is
 -- what the next moment shows.
-use Rattle.tj_words.proofs.Prelude.{Bool, Contents, CoreState, DrawsCell, Event, Hand, KeepsCells, Law, List, Parts}
-use Rattle.tj_words.proofs.Prelude.{Program}
-use Rattle.tj_words.proofs.Prelude.{ShowsEvent, ShowsNothing, Under, [], after, after_all, ap, arith, contents_of}
-use Rattle.tj_words.proofs.Prelude.{core_shown, draw_event, drawn_in, first_slots, first_view, first_words, map, min}
-use Rattle.tj_words.proofs.Prelude.{opening, reference_of, refl, root_alone, seats_have, some, state_of, subst, sym}
-use Rattle.tj_words.proofs.Prelude.{to_task, ℕ, ⊎_elim, ◌++◌, ◌<◌, ◌∙◌, ◌∷◌, ◌≡◌, ◌⊎◌}
-use Rattle.tj_events.specs.Runs.{AreAllowed, IsLegalRun}
+use Rattle.tj_words.proofs.Prelude.{Bool, Contents, CoreState, Event, Hand, Law, List, Program, [], after, ap, arith}
+use Rattle.tj_words.proofs.Prelude.{contents_of, core_shown, draw_event, drawn_in, first_slots, first_view, first_words}
+use Rattle.tj_words.proofs.Prelude.{inl, inr, map, min, opening, reference_of, refl, root_alone, seats_have, some}
+use Rattle.tj_words.proofs.Prelude.{state_of, subst, sym, to_task, ℕ, ⊎_elim, ◌++◌, ◌<◌, ◌∙◌, ◌∷◌, ◌≡◌, ◌⊎◌}
+use Rattle.tj_words.proofs.Lemmas.{DrawsCell, KeepsCells, Parts, ShowsEvent, ShowsNothing}
+use Rattle.tj_words.specs.Steps.TableRuns.{Under}
+use Rattle.tj_events.specs.Runs.{after_all, AreAllowed, IsLegalRun}
 use Rattle.tj_words.proofs.Events.DrawEvents.{draw_shown}
 use Rattle.tj_words.proofs.Seating.FirstWords.{first_words_say}
 use Rattle.tj_words.proofs.Calls.OneStates.{chained, drawn_chained, keeps_itself, root_name, shown_with}
@@ -23,15 +23,17 @@ after_more s [] fs = refl
 after_more s (e ∷ es) fs = after_more (after s e) es fs
 
 module _ {B : Type 0} (program : Program B) (cells : ℕ) where
-  -- a step that draws no cell is one event or none, and one that does is its Make or Fork; makers and numbers of the
-  -- cells that were there stay
+  -- what a step shows: one event or none where it draws no cell, and else its Make or Fork
+  abbrev Shows : Under program cells → List Event → Contents B → Type 0
+  Shows u es y = ((drawn_in cells y ≡ drawn_in cells u.now)
+      × (((es ≡ []) × ShowsNothing cells u.law.born u.law.maker u.now y)
+      ⊎ ((e : Event) × (es ≡ e ∷ []) × ShowsEvent cells u.law.born u.law.maker u.now y e u.law.born u.law.maker)))
+      ⊎ ((id : ℕ) × (t : ℕ) × (h : Hand) × (es ≡ draw_event h.sort t ∷ []) × DrawsCell cells u.now y id t h)
+
+  -- and makers and numbers of the cells that were there stay
   pub record IsStep (u : Under program cells) (es : List Event) (y : Contents B) : Type 0 where
     pub keeps : KeepsCells cells u.now y
-    pub shows : ((drawn_in cells y ≡ drawn_in cells u.now)
-        × (((es ≡ []) × ShowsNothing cells u.law.born u.law.maker u.now y)
-        ⊎ ((e : Event) × (es ≡ e ∷ [])
-        × ShowsEvent cells u.law.born u.law.maker u.now y e u.law.born u.law.maker)))
-        ⊎ ((id : ℕ) × (t : ℕ) × (h : Hand) × (es ≡ draw_event h.sort t ∷ []) × DrawsCell cells u.now y id t h)
+    pub shows : Shows u es y
 
   -- events that are allowed from what is shown of u on, after which that of w is shown
   abbrev pub GoesTo : Under program cells → Under program cells → List Event → Type 0
@@ -44,24 +46,17 @@ module _ {B : Type 0} (program : Program B) (cells : ℕ) where
       × ((r : Law program cells y) → core_shown cells r.born r.maker y ≡ after_all (state_of program cells u) es)
 
   pub steps_by : (u : Under program cells) (y : Contents B) (es : List Event) → IsStep u es y → GoesOver u y es
-  steps_by u y es step = ⊎_elim
-      (λ (s : (drawn_in cells y ≡ drawn_in cells u.now)
-      × (((es ≡ []) × ShowsNothing cells u.law.born u.law.maker u.now y)
-      ⊎ ((e : Event) × (es ≡ e ∷ [])
-      × ShowsEvent cells u.law.born u.law.maker u.now y e u.law.born u.law.maker))).
-      let same = s.0 in
-      let next = λ (r : Law program cells y). chained u.law r step.keeps (omega (arith, same)) same in ⊎_elim
-      (λ (q : (es ≡ []) × ShowsNothing cells u.law.born u.law.maker u.now y).
-      subst (GoesOver u y) (sym q.0) (tt, λ r. next r ∙ q.1))
-      (λ (q : (e : Event) × (es ≡ e ∷ [])
-      × ShowsEvent cells u.law.born u.law.maker u.now y e u.law.born u.law.maker).
-      subst (GoesOver u y) (sym q.1) ((q.2.allowed, tt), λ r. next r ∙ q.2.shown)) s.1)
-      (λ (d : (id : ℕ) × (t : ℕ) × (h : Hand) × (es ≡ draw_event h.sort t ∷ []) × DrawsCell cells u.now y id t h).
-      let shows = draw_shown u.law y d.0 d.1 d.2 d.4 in let more = ap (λ (z : Parts B). z.drawn) d.4.parts in
-      subst (GoesOver u y) (sym d.3) (
-        (shows.allowed, tt),
-        λ r. drawn_chained u.law r step.keeps (omega (arith, more)) d.0 d.1 d.2 d.4 ∙ shows.shown,
-      )) step.shows
+  steps_by u y es step = by step.shows where
+    by : Shows u es y → GoesOver u y es
+    by (inl s) = let same = s.0 in
+        let next = λ (r : Law program cells y). chained u.law r step.keeps (omega (arith, same)) same in
+        ⊎_elim (λ q. subst (GoesOver u y) (sym q.0) (tt, λ r. next r ∙ q.1))
+        (λ q. subst (GoesOver u y) (sym q.1) ((q.2.allowed, tt), λ r. next r ∙ q.2.shown)) s.1
+    by (inr d) = let shows = draw_shown u.law y d.0 d.1 d.2 d.4 in let more = ap (λ (z : Parts B). z.drawn) d.4.parts in
+        subst (GoesOver u y) (sym d.3) (
+          (shows.allowed, tt),
+          λ r. drawn_chained u.law r step.keeps (omega (arith, more)) d.0 d.1 d.2 d.4 ∙ shows.shown,
+        )
 
   pub one_step : (u w : Under program cells) (es : List Event) → IsStep u es w.now → GoesTo u w es
   one_step u w es step = let g = steps_by u w.now es step in (g.0, g.1 w.law)

@@ -1,17 +1,15 @@
 -- Where a walk has ended, no cycle through its task stood just after the task had published: the calls between are a
 -- run of the core, at whose end the task may settle.
-use Rattle.tj_words.proofs.Prelude.{Allowed, AreAskedMoments, Bool, CoreState, Event, Key, List, Program, Ruled}
-use Rattle.tj_words.proofs.Prelude.{StepCall, View, [], ap, cell, events_by, get_elem?, last_moment, phase_events}
-use Rattle.tj_words.proofs.Prelude.{phase_in, place_of, some, state_of, subst, under, word, ℕ, ◌∙◌, ◌∷◌, ◌≡◌}
+use Rattle.tj_words.proofs.Prelude.{Allowed, AreAskedMoments, Bool, CoreState, Event, Key, List, Program, Ruled, View}
+use Rattle.tj_words.proofs.Prelude.{[], ap, cell, events_by, get_elem?, joined, last_moment, phase_events, place_of}
+use Rattle.tj_words.proofs.Prelude.{some, state_of, subst, under, word, ℕ, ◌∙◌, ◌∷◌, ◌≡◌}
 use Rattle.tj_events.specs.WaitGraph.{IsOnCycle}
 use Rattle.tj_events.proofs.Events.LegalRuns.{settles_off_cycles}
 use Rattle.tj_words.specs.CallLaws.Verdicts.{EndedWalksAreOffCycles, HasEndedWalk, PublishesAt, IsOnCycleAt}
 use Rattle.tj_words.proofs.Calls.CallRuns.{all_go, calls_are_steps}
 use Rattle.tj_words.proofs.Calls.TableRuns.{GoesTo, goes_on}
 use Rattle.tj_words.proofs.Events.WalkersShown.{walker_shown}
-use Rattle.tj_words.specs.CallLaws.CallRuns.{joined}
 use Rattle.tj_events.specs.declared.event.Event.TheVariants as event
-use Rattle.tj_words.specs.CallLaws.StepCalls as call
 
 module _ {B : Type 0} (program : Bool → B → Program B) (key : Key B) (u w : Ruled program key) (t p : ℕ)
     (e : PublishesAt program key u w t p) where
@@ -30,17 +28,12 @@ module _ {B : Type 0} (program : Bool → B → Program B) (key : Key B) (u w : 
       subst (GoesTo P key.cells (under program key u) (under program key w)) (its_events h.0 h.1)
       (h.2.0, h.2.1 w.rule.law)
     where
-      by : (a : StepCall) → a ≡ call.puts_phase t → (es : List Event)
-          → events_by key.cells a e.publish.made.operands (word u.now.words (place_of a)) e.publish.made.seat.0 es
-          → es ≡ phase_events t (phase_in e.publish.made.operands.first)
-      by a q es h = subst (λ a. events_by key.cells a e.publish.made.operands (word u.now.words (place_of a))
-          e.publish.made.seat.0 es) q h
-
       its_events : (es : List Event)
           → events_by key.cells e.publish.made.call e.publish.made.operands
           (word u.now.words (place_of e.publish.made.call)) e.publish.made.seat.0 es
           → es ≡ published ∷ []
-      its_events es h = by e.publish.made.call e.is es h ∙ ap (phase_events t) e.waits
+      its_events es h = subst (λ a. events_by key.cells a e.publish.made.operands (word u.now.words (place_of a))
+          e.publish.made.seat.0 es) e.is h ∙ ap (phase_events t) e.waits
 
   module _ (later : List (Ruled program key)) (a : AreAskedMoments program key w later) (id : ℕ) (v : View B)
       (at : get_elem? (last_moment program key w later).now.views id ≡ some v) (h : HasEndedWalk t v) where

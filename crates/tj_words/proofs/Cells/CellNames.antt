@@ -1,16 +1,18 @@
 -- No two cells have one name, and what a task makes next has a new one; so where no cell is left for it, the meaning
 -- needs more cells than there are.
-use Rattle.tj_words.proofs.Prelude.{AreCells, AreDistinct, CellState, Contents, CoreState, InRounds, IsCell, IsFull}
-use Rattle.tj_words.proofs.Prelude.{IsFullWhere, IsIn, Law, List, Name, Program, Reference, Sort, [], ap, arith, cells}
-use Rattle.tj_words.proofs.Prelude.{child, core_shown, drawn_in, get_elem?, in_map, inl, inr, length, length-append}
-use Rattle.tj_words.proofs.Prelude.{made_of, map, name, next_reference, parts_of, reference_of, refl, some}
-use Rattle.tj_words.proofs.Prelude.{some-injective, some-ne-none, subst, suc, sym, zero, ℕ, ⊎_elim, ◌++◌, ◌<◌, ◌∙◌, ◌∷◌}
-use Rattle.tj_words.proofs.Prelude.{◌≡◌, ◌≢◌, ◌≤◌, ◌⊎◌}
+use Rattle.tj_words.proofs.Prelude.{AreCells, AreDistinct, CellState, Contents, InRounds, IsCell, IsFull, IsFullWhere}
+use Rattle.tj_words.proofs.Prelude.{IsIn, Law, List, Name, Program, Reference, Sort, [], ap, arith, cells, child}
+use Rattle.tj_words.proofs.Prelude.{drawn_in, get_elem?, in_map, inl, inr, length, length-append, made_of, map, name}
+use Rattle.tj_words.proofs.Prelude.{next_reference, refl, some, some-injective, some-ne-none, subst, suc, sym, zero, ℕ}
+use Rattle.tj_words.proofs.Prelude.{⊎_elim, ◌++◌, ◌<◌, ◌∙◌, ◌∷◌, ◌≡◌, ◌≢◌, ◌≤◌, ◌⊎◌}
+use Rattle.tj_words.proofs.Events.StepEvents.{core_of}
+use Rattle.tj_words.proofs.Events.ShownParts.{parts_of}
 use Rattle.tj_events.specs.Facts.{MakersFact}
 use Rattle.tj_events.proofs.OneCell.Makers.{next_name_new}
 use Rattle.tj_words.proofs.Stores.SeatLists.{inside}
 use Rattle.tj_words.proofs.Events.ShownCells.{cell_there}
-use Rattle.tj_words.proofs.Cells.CellFacts.{cell_born, name_shown}
+use Rattle.tj_words.proofs.Cells.CellFacts.{name_shown}
+use Rattle.tj_words.proofs.Holders.HeldTasks.{index_is}
 
 abbrev pub name_of : Reference → Name
 name_of r = r.name
@@ -34,12 +36,16 @@ pub cell_of_name : (l : List Reference) (q : Name) → IsIn q (map name_of l)
 cell_of_name l q i = let w = in_map name_of q l i in let p = place_of w.0 l w.1 in (p.0, w.0, p.1, w.2)
 
 -- where the list is one longer, its last cell is the one more
-last_or : {A : Type 0} (l : List A) (x : A) (c : ℕ) (y : A) → get_elem? (l ++ x ∷ []) c ≡ some y
+pub last_or : {A : Type 0} (l : List A) (x : A) (c : ℕ) (y : A) → get_elem? (l ++ x ∷ []) c ≡ some y
     → (get_elem? l c ≡ some y) ⊎ ((c ≡ length l) × (x ≡ y))
 last_or [] x zero y e = inr (refl, some-injective x y e)
 last_or [] x (suc c) y e = absurd (some-ne-none y (sym e))
 last_or (z ∷ l) x zero y e = inl e
 last_or (z ∷ l) x (suc c) y e = ⊎_elim inl (λ w. inr (ap suc w.0, w.1)) (last_or l x c y e)
+
+pub last_at : {A : Type 0} (l : List A) (x : A) → get_elem? (l ++ x ∷ []) (length l) ≡ some x
+last_at [] x = refl
+last_at (y ∷ l) x = last_at l x
 
 -- a cell more whose name no other has
 pub cells_more : (cells : ℕ) (l : List Reference) (x : Reference) → AreApartByName l → length l < cells
@@ -65,18 +71,15 @@ module _ {B : Type 0} {program : Program B} {N : ℕ} {x : Contents B} (r : Law 
   abbrev n : ℕ
   n = drawn_in N x
 
-  abbrev K : CoreState
-  K = core_shown N r.born r.maker x
-
-  makers : MakersFact n K.cells
+  makers : MakersFact n (core_of r).cells
   makers = r.facts.makers
 
   cell_inside : (c : ℕ) (y : Reference) → IsCell r.born c y → c < n
   cell_inside c y e = subst (λ k. c < k) r.births.all (inside r.born c y e)
 
-  name_is : (c : ℕ) (y : Reference) → IsCell r.born c y → name K.cells c ≡ y.name
+  name_is : (c : ℕ) (y : Reference) → IsCell r.born c y → name (core_of r).cells c ≡ y.name
   name_is c y e = name_shown r c (cell_inside c y e)
-      ∙ ap name_of (some-injective (reference_of r.born c) y (sym (cell_born r c (cell_inside c y e)) ∙ e))
+      ∙ ap name_of (index_is r.born c _ y e)
 
   pub born_apart : AreApartByName r.born
   born_apart c d y z a b e = makers.names_apart c d (cell_inside c y a) (cell_inside d z b)
@@ -92,10 +95,10 @@ module _ {B : Type 0} {program : Program B} {N : ℕ} {x : Contents B} (r : Law 
     next = next_reference r.born t (made_of x t) sort
 
     pub next_new : (c : ℕ) (y : Reference) → IsCell r.born c y → y.name ≢ next.name
-    next_new c y e same = next_name_new n K.cells makers t c there (cell_inside c y e)
+    next_new c y e same = next_name_new n (core_of r).cells makers t c there (cell_inside c y e)
         (name_is c y e ∙ (same ∙ (λ j. child (sym (name_shown r t there) j) (suc (made_shown j)))))
       where
-        made_shown : made_of x t ≡ (K.cells t).made
+        made_shown : made_of x t ≡ ((core_of r).cells t).made
         made_shown = sym (ap (λ (z : CellState). z.made) (cell_there r.born r.maker (parts_of N x) t there))
 
     pub refused_full : IsFullWhere program → InRounds program next.name → N ≤ x.words.count → IsFull program N

@@ -1,57 +1,32 @@
 -- A cell is closed: nobody owns it from now on, and its TAG and BITS are due to the seat of its owner.
-use Rattle.tj_words.proofs.Prelude.{ActsOn, All, Bool, ClosesPromise, ClosesResult, Contents, CoreFacts, Custody, Due}
-use Rattle.tj_words.proofs.Prelude.{EventKeepsFacts, Hand, IsDue, IsHeldWith, IsIn, IsOfTree, IsThere, KeepsCells, Law}
-use Rattle.tj_words.proofs.Prelude.{List, MayAct, None, OfSeat, Once, OnceWords, Option, OwnedLists, Phase, Program}
-use Rattle.tj_words.proofs.Prelude.{SeenWord, Some, WaitersOwn, [], ap, arith, cond, core_shown, dite, drawn_in, eq-eqb}
-use Rattle.tj_words.proofs.Prelude.{gave_up, get_elem?, hand_of, hold, inl, inr, is_task_sort, nat_eq, ne_eqb, parts_of}
-use Rattle.tj_words.proofs.Prelude.{phase_sort, put, refl, set, some, subst, sym, ℕ, ℕ_discrete, ⊎_elim, ◌∙◌, ◌∷◌, ◌≡◌}
-use Rattle.tj_words.proofs.Prelude.{◌≢◌, ◌⊎◌}
-use Rattle.tj_words.proofs.Lemmas.{custody, each_else, home_there, list_owned, none_some, of_seat_here, of_seat_set}
-use Rattle.tj_words.proofs.Lemmas.{one_some, owned_held_by, owned_parts, owner_out, put_else, put_here}
-use Rattle.tj_words.proofs.Cells.CellFacts.{task_shown, sort_is}
+use Rattle.tj_words.proofs.Prelude.{Contents, CoreFacts, Custody, Due, EventKeepsFacts, Hand, IsDue, IsIn, IsOfTree}
+use Rattle.tj_words.proofs.Prelude.{IsThere, Law, List, MayAct, None, Once, OnceWords, Option, OwnedLists, Phase}
+use Rattle.tj_words.proofs.Prelude.{Program, SeenWord, Some, WaitersOwn, [], ap, arith, core_shown, dite, drawn_in}
+use Rattle.tj_words.proofs.Prelude.{gave_up, get_elem?, hand_of, hold, inl, inr, is_task_sort, phase_sort, put, refl}
+use Rattle.tj_words.proofs.Prelude.{set, some, subst, sym, ℕ, ℕ_discrete, ⊎_elim, ◌++◌, ◌∙◌, ◌∷◌, ◌≡◌, ◌≢◌}
+use Rattle.tj_words.proofs.Lemmas.{ActsOn, ClosesPromise, ClosesResult, IsHeldWith, KeepsCells, custody, facts_after}
+use Rattle.tj_words.proofs.Lemmas.{home_there, list_owned, none_some, none_unless, of_seat_set, once_more}
+use Rattle.tj_words.proofs.Lemmas.{owned_held_by, owned_parts, owner_out, parts_of, put_else, put_here, sort_is}
+use Rattle.tj_words.proofs.Cells.CellFacts.{task_shown}
 use Rattle.tj_words.proofs.Holders.HeldChanges.{found_held, held_task, hold_move, made_held, owned_held}
 use Rattle.tj_words.proofs.Cells.OwnedChanges.{owned_loses}
 use Rattle.tj_words.proofs.Events.OwnerEvents.{acts_phase, close_shown, end_shown, acts_there}
-use Rattle.tj_words.proofs.Events.StepFacts.{facts_after}
 use Rattle.tj_words.proofs.Calls.KeptCells.{kept_words}
 use Rattle.tj_words.proofs.Holders.TaskMoves.{TaskMove, law_owners}
+use Rattle.tj_words.proofs.Cells.MoreDues.{due_here}
 use Rattle.tj_base.specs.declared.cell.Sort.TheVariants as sort
 use Rattle.tj_words.specs.declared.offsets.Once.TheVariants as once
 use Rattle.tj_words.specs.declared.phase.Phase.TheVariants as phase
 
--- a word is one of the tree, or not
-tree_or_value : (g : Once) → IsOfTree g ⊎ (¬ IsOfTree g)
-tree_or_value once.Tag = inr (λ z. z)
-tree_or_value once.Bits = inr (λ z. z)
-tree_or_value g = inl tt
-
--- TAG and BITS of a closed cell are due to a seat, and each other word to whom it was
-abbrev closed_due : ℕ → Once → Option ℕ → Option ℕ
-closed_due id once.Tag o = Some id
-closed_due id once.Bits o = Some id
-closed_due id once.Parent o = o
-closed_due id once.Kid o = o
-closed_due id once.Depth o = o
-closed_due id once.Jump o = o
-
-tree_due : (id : ℕ) (g : Once) (o : Option ℕ) → IsOfTree g → closed_due id g o ≡ o
-tree_due id once.Tag o k = absurd k
-tree_due id once.Bits o k = absurd k
-tree_due id g o k = refl
-
-value_due : (id : ℕ) (g : Once) (o : Option ℕ) → ¬ IsOfTree g → closed_due id g o ≡ Some id
-value_due id once.Tag o k = refl
-value_due id once.Bits o k = refl
-value_due id g o k = absurd (k tt)
-
 -- what is due to a seat that has closed the cell
-abbrev pub with_values : ℕ → List Due → List Due
-with_values c ds = record { cell = c; word = once.Bits } ∷ record { cell = c; word = once.Tag } ∷ ds
+abbrev pub values : ℕ → List Due
+values c = record { cell = c; word = once.Bits } ∷ record { cell = c; word = once.Tag } ∷ []
 
-values_listed : (c : ℕ) (g : Once) (ds : List Due) → ¬ IsOfTree g → IsDue c g (with_values c ds)
-values_listed c once.Tag ds k = inr (inl refl)
-values_listed c once.Bits ds k = inl refl
-values_listed c g ds k = absurd (k tt)
+abbrev pub with_values : ℕ → List Due → List Due
+with_values c ds = values c ++ ds
+
+tag_due : (c d : ℕ) → d ≡ c → IsDue d once.Tag (values c)
+tag_due c d e = inr (inl (λ j. record { cell = e j; word = once.Tag }))
 
 -- seat id's task t acts, and owns its result and c
 pub record GivesUp {B : Type 0} (x : Contents B) (id t c : ℕ) : Type 0 where
@@ -66,92 +41,31 @@ module _ {drawn : ℕ} {hand : ℕ → Option Hand} {hands : List (Option Hand)}
     {word : ℕ → Once → ℕ} {seen : List (List SeenWord)} {dues : List (List Due)}
     (o : OnceWords drawn hand hands own word seen dues) (id c t : ℕ) (there : IsThere drawn hand c)
     (owns : own c ≡ Some t) (ds : List Due) (at : get_elem? dues id ≡ some ds) where
-  open_yet : own c ≡ None → ⊥
-  open_yet e = none_some (own c) t e owns
+  -- these are of the cell, and no words of the tree
+  value : (d : Due) → IsIn d (values c) → (d.cell ≡ c) × (¬ IsOfTree d.word)
+  value d (inl e) = subst (λ (z : Due). (z.cell ≡ c) × (¬ IsOfTree z.word)) (sym e) (refl, (λ i. i))
+  value d (inr (inl e)) = subst (λ (z : Due). (z.cell ≡ c) × (¬ IsOfTree z.word)) (sym e) (refl, (λ i. i))
+  value d (inr (inr i)) = absurd i
 
-  -- TAG and BITS of the cell are 0 and due to nobody
-  blank : (g : Once) → ¬ IsOfTree g → word c g ≡ 0
-  blank g v = dite (ℕ_discrete (word c g) 0) (λ e. e) (λ n. absurd (open_yet (o.valued c g v n).1))
+  open_yet : {Z : Type 0} (d : ℕ) → d ≡ c → own d ≡ None → Z
+  open_yet d q e = none_some (own d) t e (ap own q ∙ owns)
 
-  free : (j : ℕ) (g : Once) → ¬ IsOfTree g → o.due_to c g ≡ Some j → ⊥
-  free j g v e = open_yet ((o.may_be_due c j g e).value v).1
-
-  abbrev own' : ℕ → Option ℕ
-  own' = put own c None
-
-  abbrev due_to' : ℕ → Once → Option ℕ
-  due_to' d g = cond (nat_eq d c) (closed_due id g (o.due_to d g)) (o.due_to d g)
-
-  due_cell : (d : ℕ) (g : Once) → d ≡ c → due_to' d g ≡ closed_due id g (o.due_to d g)
-  due_cell d g e = ap (λ (b : Bool). cond b (closed_due id g (o.due_to d g)) (o.due_to d g)) (eq-eqb d c e)
-
-  due_other : (d : ℕ) (g : Once) → d ≢ c → due_to' d g ≡ o.due_to d g
-  due_other d g n = ap (λ (b : Bool). cond b (closed_due id g (o.due_to d g)) (o.due_to d g)) (ne_eqb d c n)
-
-  due_tree : (d : ℕ) (g : Once) → IsOfTree g → due_to' d g ≡ o.due_to d g
-  due_tree d g k = dite (ℕ_discrete d c) (λ e. due_cell d g e ∙ tree_due id g (o.due_to d g) k) (λ n. due_other d g n)
-
-  due_value : (d : ℕ) (g : Once) → d ≡ c → ¬ IsOfTree g → due_to' d g ≡ Some id
-  due_value d g e k = due_cell d g e ∙ value_due id g (o.due_to d g) k
-
-  -- what was due is due still, and what is due was, or is TAG or BITS of the cell
-  kept : (d j : ℕ) (g : Once) → o.due_to d g ≡ Some j → due_to' d g ≡ Some j
-  kept d j g e = ⊎_elim (λ k. due_tree d g k ∙ e)
-      (λ k. dite (ℕ_discrete d c) (λ q. absurd (free j g k (ap (λ i. o.due_to i g) (sym q) ∙ e)))
-      (λ n. due_other d g n ∙ e)) (tree_or_value g)
-
-  was : (d j : ℕ) (g : Once) → due_to' d g ≡ Some j
-      → (o.due_to d g ≡ Some j) ⊎ ((d ≡ c) × (¬ IsOfTree g) × (j ≡ id))
-  was d j g e = ⊎_elim (λ k. inl (sym (due_tree d g k) ∙ e))
-      (λ k. dite (ℕ_discrete d c)
-      (λ q. inr (q, k, one_some j id (sym e ∙ due_value d g q k)))
-      (λ n. inl (sym (due_other d g n) ∙ e))) (tree_or_value g)
-
-  closed_now : (d : ℕ) → own d ≡ None → own' d ≡ None
-  closed_now d e = dite (ℕ_discrete d c) (λ q. put_here own c d None q) (λ n. put_else own c d None n ∙ e)
-
-  pub once_closed : OnceWords drawn hand hands own' word seen (set dues id (with_values c ds))
-  once_closed = record {
-    due_to = due_to';
-    stands = λ j l e w i. let s = o.stands j l e w i in record {
-      of_tree = s.of_tree;
-      drawn_cell = s.drawn_cell;
-      value = s.value;
-      written = due_tree w.cell w.word s.of_tree ∙ s.written;
-    };
-    dues_mine = each_else (λ j l. All (λ (d : Due). due_to' d.cell d.word ≡ Some j) l) dues id (with_values c ds)
-        (λ j l n e d i. kept d.cell j d.word (o.dues_mine j l e d i)) mine;
-    due = λ d j g e. ⊎_elim
-        (λ q. of_seat_set (IsDue d g) dues id j ds (with_values c ds) at (λ i. inr (inr i)) (o.due d j g q))
-        (λ q. subst (λ k. OfSeat (IsDue d g) (set dues id (with_values c ds)) k) (sym q.2)
-        (of_seat_here (IsDue d g) dues id ds (with_values c ds) at
-        (subst (λ k. IsDue k g (with_values c ds)) (sym q.0) (values_listed c g ds q.1)))) (was d j g e);
-    may_be_due = λ d j g e. ⊎_elim
-        (λ q. let m = o.may_be_due d j g q in record {
-          tree = m.tree;
-          value = λ k. let w = m.value k in (w.0, closed_now d w.1);
-          tag_last = λ k. kept d j once.Tag (m.tag_last k);
-        })
-        (λ (q : (d ≡ c) × (¬ IsOfTree g) × (j ≡ id)). record {
-          tree = λ k. absurd (q.1 k);
-          value = λ k. (subst (IsThere drawn hand) (sym q.0) there, put_here own c d None q.0);
-          tag_last = λ k. due_value d once.Tag q.0 (λ z. z) ∙ ap (λ i. Some i) (sym q.2);
-        }) (was d j g e);
-    unwritten = λ d j g e. ⊎_elim (λ q. o.unwritten d j g q)
-        (λ q. ap (λ k. word k g) q.0 ∙ blank g q.1) (was d j g e);
-    valued = λ d g k n. let w = o.valued d g k n in (w.0, closed_now d w.1);
-    closed = λ d i e. dite (ℕ_discrete d c)
-        (λ q. inr (id, due_value d once.Tag q (λ z. z)))
-        (λ n. ⊎_elim (λ w. inl w) (λ w. inr (w.0, kept d w.0 once.Tag w.1))
-        (o.closed d i (sym (put_else own c d None n) ∙ e)));
-    undrawn = λ d g l. let w = o.undrawn d g l in
-        (w.0, due_other d g (λ q. let k = there.0 in omega arith) ∙ w.1);
-  }
-    where
-      mine : All (λ (d : Due). due_to' d.cell d.word ≡ Some id) (with_values c ds)
-      mine d (inl e) = (λ j. due_to' ((e j).cell) ((e j).word)) ∙ due_value c once.Bits refl (λ z. z)
-      mine d (inr (inl e)) = (λ j. due_to' ((e j).cell) ((e j).word)) ∙ due_value c once.Tag refl (λ z. z)
-      mine d (inr (inr i)) = kept d.cell id d.word (o.dues_mine id ds at d i)
+  pub once_closed : OnceWords drawn hand hands (put own c None) word seen (set dues id (with_values c ds))
+  once_closed = once_more o id ds (values c) at (omega arith)
+      (λ d g i. let w = value (record { cell = d; word = g }) i in (
+        none_unless (o.due_to d g) (λ j e. open_yet d w.0 ((o.may_be_due d j g e).value w.1).1),
+        dite (ℕ_discrete (word d g) 0) (λ e. e) (λ z. open_yet d w.0 (o.valued d g w.1 z).1),
+      ))
+      (λ d g i tree l. (value (record { cell = d; word = g }) i).1 tree)
+      (λ d g i. let w = value (record { cell = d; word = g }) i in record {
+        tree = λ k. absurd (w.1 k);
+        value = λ k. (subst (IsThere drawn hand) (sym w.0) there, put_here own c d None w.0);
+        tag_last = λ k. due_here id o.due_to (values c) d once.Tag (tag_due c d w.0);
+      })
+      (λ d i e. (i, dite (ℕ_discrete d c) (put_here own c d None) (λ n. put_else own c d None n ∙ e)))
+      (λ d j k. k)
+      (λ d i e. dite (ℕ_discrete d c) (λ q. inr (tag_due c d q)) (λ n. inl (i, sym (put_else own c d None n) ∙ e)))
+      (λ d g l i. let q = (value (record { cell = d; word = g }) i).0 in let k = there.0 in omega arith)
 
 module _ {B : Type 0} {program : Program B} {cells : ℕ} {x : Contents B} (r : Law program cells x) where
   -- a cell that a task owns beside its result is a promise
@@ -169,9 +83,6 @@ module _ {B : Type 0} {program : Program B} {cells : ℕ} {x : Contents B} (r : 
       by p e = absurd (no_task (ap phase_sort e))
 
   module _ {id t c : ℕ} (g : GivesUp x id t c) where
-    abbrev n : ℕ
-    n = drawn_in cells x
-
     abbrev k' : Custody B
     k' = gave_up c g.has
 
@@ -181,7 +92,7 @@ module _ {B : Type 0} {program : Program B} {cells : ℕ} {x : Contents B} (r : 
     pub its_task : g.has.task ≡ t
     its_task = held_task g.held.0 t g.has g.held.2
 
-    pub owned_here : IsThere n (hand_of x) c × (x.words.own c ≡ Some t)
+    pub owned_here : IsThere (drawn_in cells x) (hand_of x) c × (x.words.own c ≡ Some t)
     owned_here = list_owned r id t g.has g.held c g.owns
 
     -- the task acts, and gives c up
@@ -277,7 +188,7 @@ module _ {B : Type 0} {program : Program B} {cells : ℕ} {x : Contents B} (r : 
                 ))
                 (λ w. inr w) (r.tree_words.in_hand d g y f e i o);
           }
-          (subst (OwnedLists n (hand_of x) (put x.words.own c None))
+          (subst (OwnedLists (drawn_in cells x) (hand_of x) (put x.words.own c None))
           (sym (owned_held r id t g.has k' g.held its_task))
           (owned_loses r.owned c owned_here.0 t owned_here.1 g.has.owned (sym (owned_held_by r id t g.has g.held))))
           (once_closed r.once_words id c t owned_here.0 owned_here.1 ds at)

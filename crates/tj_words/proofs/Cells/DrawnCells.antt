@@ -1,38 +1,38 @@
 -- The law after a draw that finds a cell left.
-use Rattle.tj_words.proofs.Prelude.{AreApart, Bool, Contents, Custodies, Custody, Does, DrawsCell, Due, EventKeepsFacts}
-use Rattle.tj_words.proofs.Prelude.{Filled, Forks, Hand, Hands, InRounds, IsDue, IsIn, IsInHand, IsMarkedRight}
-use Rattle.tj_words.proofs.Prelude.{IsOfTree, IsThere, Law, List, MayAct, NamesCells, None, Once, OnceWords, Option}
-use Rattle.tj_words.proofs.Prelude.{OwnedLists, Program, Reference, Some, Sort, [], ap, arith, at_put, cond, does_cells}
-use Rattle.tj_words.proofs.Prelude.{drawn_in, eq-eqb, false, find_in, forks_after, get_elem?, hand_in, hand_of, held_in}
-use Rattle.tj_words.proofs.Prelude.{held_of, home_in, home_of, in_left, in_right, inl, inr, made_by, made_of, making}
-use Rattle.tj_words.proofs.Prelude.{min, new_dues, new_hand, new_task, new_tasks, next_reference, noted, owned_by}
-use Rattle.tj_words.proofs.Prelude.{owned_of, parts_of, phase_of, put, refl, runs_on, set, set_here, some, sort_shown}
-use Rattle.tj_words.proofs.Prelude.{subst, suc, sym, tree_word, ℕ, ⊎_elim, ◌++◌, ◌<◌, ◌↔◌, ◌∙◌, ◌∷◌, ◌≡◌, ◌≢◌, ◌⊎◌}
-use Rattle.std.proofs.Common.{ne_eqb, set-set}
-use Rattle.tj_words.proofs.Lemmas.{Meant, custody_on, find_changed, find_same, ground_of, hand_kept, hand_seat}
-use Rattle.tj_words.proofs.Lemmas.{hand_set, hands_on, has_none, held_alone, held_drawn, held_here, inside, known_of}
-use Rattle.tj_words.proofs.Lemmas.{knows_now, law_meant, makes_kept, none_some, of_seat_here, of_seat_set, one_some}
-use Rattle.tj_words.proofs.Lemmas.{other_cell, put_is, unheld, wider}
-use Rattle.tj_words.proofs.Cells.SeatHands.{makes_set, other_maker, own_cell, own_maker}
-use Rattle.tj_words.proofs.Holders.SeatTasks.{free_alone}
-use Rattle.tj_words.proofs.Events.DrawEvents.{empty_none, draw_shown}
-use Rattle.tj_words.proofs.Events.StepFacts.{births_after, tree_after, tree_words_after, facts_after}
+use Rattle.tj_words.proofs.Prelude.{AreApart, Births, Contents, Custodies, Custody, EventKeepsFacts, Forks, Hand, Hands}
+use Rattle.tj_words.proofs.Prelude.{InRounds, IsDue, IsForkTree, IsIn, IsInHand, IsMarkedRight, IsThere, Law, MayDraw}
+use Rattle.tj_words.proofs.Prelude.{NamesCells, OnceWords, OwnedLists, Program, Reference, Sort, TreeWords, View, []}
+use Rattle.tj_words.proofs.Prelude.{ap, at_put, does_cells, drawn_in, find_in, forks_after, get_elem?, hand_in, hand_of}
+use Rattle.tj_words.proofs.Prelude.{held_in, held_of, home_in, home_of, in_left, in_right, inl, inr, made_by, made_of}
+use Rattle.tj_words.proofs.Prelude.{min, new_dues, new_hand, new_task, new_tasks, next_reference, noted}
+use Rattle.tj_words.proofs.Prelude.{owned_by, owned_of, phase_of, put, put_else, put_here, refl, runs_on, set, set_here}
+use Rattle.tj_words.proofs.Prelude.{some, sort_shown, suc, sym, tree_word, ℕ, ◌++◌, ◌<◌, ◌↔◌, ◌∙◌, ◌∷◌, ◌≡◌, ◌≢◌, ◌⊎◌}
+use Rattle.tj_words.proofs.Lemmas.{DrawsCell, IsAlike, Meant, custody_on, facts_after, find_same, ground_of, hand_put}
+use Rattle.tj_words.proofs.Lemmas.{hands_on, has_none, held_alone, held_drawn, held_first, held_here, held_rest, inside}
+use Rattle.tj_words.proofs.Lemmas.{known_of, law_meant, makes_nothing, making_put, names_on, none_some, of_seat_here}
+use Rattle.tj_words.proofs.Lemmas.{of_seat_set, one_some, parts_of, put_is, unheld, wider}
+use Rattle.std.proofs.Common.{Bool, List, None, Option, Some, arith, false, subst, ⊎_elim, set-set}
+use Rattle.tj_words.proofs.Holders.SeatTasks.{find_changed, free_alone}
+use Rattle.tj_words.proofs.Meaning.MeaningGrows.{knows_now}
+use Rattle.tj_words.proofs.Events.DrawEvents.{empty_none, draw_shown, may_draw, drawn_into}
 use Rattle.tj_words.proofs.Meaning.MeaningSteps.{draw_meant}
-use Rattle.tj_words.proofs.Cells.HandChanges.{names_on}
-use Rattle.tj_words.proofs.Holders.NotedEntries.{noted_here, noted_else, noted_in, like_noted}
-use Rattle.tj_words.proofs.Cells.DrawnTasks.{slots_after, homes_after, custody_drawn, once_drawn}
+use Rattle.tj_words.proofs.Holders.NotedEntries.{noted_as, noted_here, noted_else, noted_in}
+use Rattle.tj_words.proofs.Cells.DrawnTasks.{slots_after, homes_after, custody_drawn, once_drawn, due_or_zero}
+use Rattle.tj_words.proofs.Events.TurnedTasks.{acting_phase}
+use Rattle.tj_words.proofs.Cells.TreeDraws.{births_drawn, tree_drawn, tree_words_drawn}
 use Rattle.tj_base.specs.declared.cell.Sort.TheVariants as sort
-use Rattle.tj_words.specs.declared.offsets.Once.TheVariants as once
 use Rattle.tj_words.specs.declared.phase.Phase.TheVariants as phase
-use Rattle.tj_words.specs.declared.view.Does.TheVariants as does
 
-module _ {B : Type 0} {program : Program B} {cells : ℕ} {x : Contents B} (r : Law program cells x) (id t : ℕ) (o : Sort)
-    (ks : List (Custody B)) (ds : List Due) (k : Custody B) (at : get_elem? x.seats.tasks id ≡ some ks)
-    (dues : get_elem? x.seats.dues id ≡ some ds) (held : held_in ks t ≡ Some k) (may : MayAct k.does)
-    (result : IsIn t k.owned) (out : k.home ≡ None) (free : get_elem? x.seats.hands id ≡ some None)
-    (left : x.words.count < cells) where
+-- seat id, which has the view v, draws a cell of sort o for its task t
+module _ {B : Type 0} {programs : Bool → B → Program B} {program : Program B} {cells : ℕ} {x : Contents B}
+    (r : Law program cells x) (id t : ℕ) (o : Sort) (v : View B) (may : MayDraw programs t v)
+    (at : get_elem? x.seats.tasks id ≡ some v.tasks) (dues : get_elem? x.seats.dues id ≡ some v.dues)
+    (free : get_elem? x.seats.hands id ≡ some None) (left : x.words.count < cells) where
   abbrev n : ℕ
   n = drawn_in cells x
+
+  abbrev k : Custody B
+  k = may.has
 
   abbrev h : Hand
   h = new_hand n t o
@@ -44,7 +44,7 @@ module _ {B : Type 0} {program : Program B} {cells : ℕ} {x : Contents B} (r : 
   hand' = hand_in hands'
 
   abbrev noted_list : List (Custody B)
-  noted_list = noted t runs_on ks
+  noted_list = noted t runs_on v.tasks
 
   abbrev pub drawn_list : List (Custody B)
   drawn_list = new_tasks n o noted_list
@@ -56,18 +56,18 @@ module _ {B : Type 0} {program : Program B} {cells : ℕ} {x : Contents B} (r : 
   tasks' = set x.seats.tasks id drawn_list
 
   -- the contents after the draw, where the seat knows of entries what it did, and that these are the cells
-  abbrev pub drawn_contents : List Reference → List ℕ → List Filled → List Filled → Contents B
-  drawn_contents b l w f = record {
+  abbrev pub drawn_contents : List Reference → Contents B
+  drawn_contents b = record {
     words = record x.words { count = suc x.words.count };
     slots = slots_after n o x.slots;
     seats = record x.seats {
       hands = hands';
       tasks = tasks';
-      known = set x.seats.known id l;
+      known = set x.seats.known id v.known;
       born_seen = set x.seats.born_seen id b;
-      wrote = set x.seats.wrote id w;
-      filled = set x.seats.filled id f;
-      dues = set x.seats.dues id (new_dues n o ++ ds);
+      wrote = set x.seats.wrote id v.wrote;
+      filled = set x.seats.filled id v.filled;
+      dues = set x.seats.dues id (new_dues n o ++ v.dues);
     };
   }
 
@@ -78,7 +78,7 @@ module _ {B : Type 0} {program : Program B} {cells : ℕ} {x : Contents B} (r : 
   drawn_now = omega arith
 
   holder_is : r.custody.holder t ≡ Some id
-  holder_is = (r.custody.held id ks at t k held).mine
+  holder_is = (r.custody.held id v.tasks at t k may.held).mine
 
   unborn : x.words.phase n ≡ phase.Unborn
   unborn = r.undrawn n (omega arith)
@@ -86,11 +86,14 @@ module _ {B : Type 0} {program : Program B} {cells : ℕ} {x : Contents B} (r : 
   only : (j : ℕ) (g : Hand) → j ≢ id → get_elem? x.seats.hands j ≡ some (Some g) → g.cell ≢ n
   only j g d e q = let l = (r.hands.each j g e).drawn_cell in omega arith
 
+  hand_now : hand' ≡ put (hand_of x) n (Some h)
+  hand_now = hand_put x.seats.hands id n None (Some h) free tt refl only
+
   here_now : hand' n ≡ Some h
-  here_now = hand_set x.seats.hands id n None (Some h) free only ∙ own_cell h None
+  here_now = ap (λ f. f n) hand_now ∙ put_here (hand_of x) n (Some h)
 
   else_now : (c : ℕ) → c ≢ n → hand' c ≡ hand_of x c
-  else_now c z = hand_kept x.seats.hands id c None (Some h) free (λ rest. other_cell h c rest z)
+  else_now c z = ap (λ f. f c) hand_now ∙ put_else (hand_of x) n (Some h) c z
 
   on : (c : ℕ) → IsThere n (hand_of x) c → IsThere (suc n) hand' c
   on c i = let l = i.0 in ((omega arith), else_now c (λ e. omega arith) ∙ i.1)
@@ -101,7 +104,7 @@ module _ {B : Type 0} {program : Program B} {cells : ℕ} {x : Contents B} (r : 
       let l = i.0 in ((omega arith), sym (else_now c z) ∙ i.1)
 
   drawn_held : t < n
-  drawn_held = held_drawn r id t k (ks, at, held)
+  drawn_held = held_drawn r id t k (v.tasks, at, may.held)
 
   t_old : t ≢ n
   t_old e = let l = drawn_held in omega arith
@@ -112,46 +115,45 @@ module _ {B : Type 0} {program : Program B} {cells : ℕ} {x : Contents B} (r : 
 
   -- what the seat has now for the maker, for the new cell, and for each other task
   list_here : held_in noted_list t ≡ Some (runs_on k)
-  list_here = noted_here ks t k runs_on held refl
+  list_here = noted_here v.tasks t k runs_on may.held refl
 
-  list_else : (u : ℕ) → u ≢ t → held_in noted_list u ≡ held_in ks u
-  list_else u z = noted_else ks t k runs_on held refl u z
+  list_else : (u : ℕ) → u ≢ t → held_in noted_list u ≡ held_in v.tasks u
+  list_else u z = noted_else v.tasks t k runs_on may.held refl u z
 
-  new_else : (s : Sort) (u : ℕ) → u ≢ n → held_in (new_tasks n s noted_list) u ≡ held_in noted_list u
+  pub new_else : (s : Sort) (u : ℕ) → u ≢ n → held_in (new_tasks n s noted_list) u ≡ held_in noted_list u
   new_else sort.Promise u z = refl
-  new_else sort.Task u z =
-      ap (λ (b : Bool). cond b (Some (new_task n)) (held_in noted_list u)) (ne_eqb n u (λ e. z (sym e)))
+  new_else sort.Task u z = held_rest (new_task n) noted_list u (λ e. z (sym e))
 
-  unheld_new : held_in ks n ≡ None
-  unheld_new = has_none r id n ks at (λ e. none_some (r.custody.holder n) id (r.custody.undrawn_free n (omega arith)) e)
+  unheld_new : held_in v.tasks n ≡ None
+  unheld_new =
+      has_none r id n v.tasks at (λ e. none_some (r.custody.holder n) id (r.custody.undrawn_free n (omega arith)) e)
 
-  new_here : (s : Sort) (q : Custody B) → held_in (new_tasks n s noted_list) n ≡ Some q → q ≡ new_task n
-  new_here sort.Promise q e = none_some (held_in ks n) q unheld_new (sym (list_else n (λ i. t_old (sym i))) ∙ e)
-  new_here sort.Task q e = sym (one_some (new_task n) q
-      (sym (ap (λ (b : Bool). cond b (Some (new_task n)) (held_in noted_list n)) (eq-eqb n n refl)) ∙ e))
+  pub new_here : (s : Sort) (q : Custody B) → held_in (new_tasks n s noted_list) n ≡ Some q → q ≡ new_task n
+  new_here sort.Promise q e = none_some (held_in v.tasks n) q unheld_new (sym (list_else n (λ i. t_old (sym i))) ∙ e)
+  new_here sort.Task q e = sym (one_some (new_task n) q (sym (held_first (new_task n) noted_list n refl) ∙ e))
 
-  maker_now : held_in drawn_list t ≡ Some (runs_on k)
+  pub maker_now : held_in drawn_list t ≡ Some (runs_on k)
   maker_now = new_else o t t_old ∙ list_here
 
   -- what is found for each task now
   found_all : find_in tasks' ≡ put (put (held_of x) t (Some (runs_on k))) n (held_in drawn_list n)
   found_all = put_is (put (held_of x) t (Some (runs_on k))) (find_in tasks') n (held_in drawn_list n)
-      (find_changed x.seats.tasks id n ks drawn_list at
+      (find_changed x.seats.tasks id n v.tasks drawn_list at
       (free_alone r id n (r.custody.undrawn_free n (omega arith))))
       (λ u b. at_put (held_of x) t (Some (runs_on k)) (λ m y. find_in tasks' m ≡ y) u
-      (find_changed x.seats.tasks id t ks drawn_list at (held_alone r id t holder_is) ∙ maker_now)
-      (λ a. find_same x.seats.tasks id u ks drawn_list at (new_else o u b ∙ list_else u a)))
+      (find_changed x.seats.tasks id t v.tasks drawn_list at (held_alone r id t holder_is) ∙ maker_now)
+      (λ a. find_same x.seats.tasks id u v.tasks drawn_list at (new_else o u b ∙ list_else u a)))
 
   -- what stands in the list stood there, or does nothing that names a cell
-  listed : (s : Sort) (q : Custody B) → IsIn q (new_tasks n s noted_list) → IsIn q ks ⊎ (does_cells q.does ≡ [])
+  listed : (s : Sort) (q : Custody B) → IsIn q (new_tasks n s noted_list) → IsIn q v.tasks ⊎ (does_cells q.does ≡ [])
   listed s q i = by s i
     where
-      old : IsIn q noted_list → IsIn q ks ⊎ (does_cells q.does ≡ [])
-      old j = ⊎_elim (λ (z : IsIn q ks). inl z)
+      old : IsIn q noted_list → IsIn q v.tasks ⊎ (does_cells q.does ≡ [])
+      old j = ⊎_elim (λ (z : IsIn q v.tasks). inl z)
           (λ (e : q ≡ runs_on k). inr (ap (λ (z : Custody B). does_cells z.does) e))
-          (noted_in ks t k runs_on held refl q j)
+          (noted_in v.tasks t k runs_on may.held refl q j)
 
-      by : (s : Sort) → IsIn q (new_tasks n s noted_list) → IsIn q ks ⊎ (does_cells q.does ≡ [])
+      by : (s : Sort) → IsIn q (new_tasks n s noted_list) → IsIn q v.tasks ⊎ (does_cells q.does ≡ [])
       by sort.Promise j = old j
       by sort.Task (inl e) = inr (ap (λ (z : Custody B). does_cells z.does) e)
       by sort.Task (inr j) = old j
@@ -178,22 +180,21 @@ module _ {B : Type 0} {program : Program B} {cells : ℕ} {x : Contents B} (r : 
       (ap (owned_by (held_in drawn_list n)) no_home ∙ ((new_bare (held_in drawn_list n) refl).0
       ∙ (λ j. owned_by (sym (unheld r n (r.custody.undrawn_free n (omega arith))) j) (sym no_home j))))
       (λ _. at_put (held_of x) t (Some (runs_on k)) Owns u
-      (ap (λ q. owned_by q (home_of x t)) (sym (held_here r id t k (ks, at, held)))) (λ _. refl))
+      (ap (λ q. owned_by q (home_of x t)) (sym (held_here r id t k (v.tasks, at, may.held)))) (λ _. refl))
 
   -- no seat makes another cell of t
   only_maker : (j : ℕ) (g : Hand) → j ≢ id → get_elem? x.seats.hands j ≡ some (Some g) → g.maker ≢ t
-  only_maker j g d e q = d (one_some j id (sym (hand_seat r j g e) ∙ (ap r.custody.holder q ∙ holder_is)))
+  only_maker j g d = makes_nothing r id t k (v.tasks, at, may.held) free j g
 
   -- the draw, as an event, where these are all cells
-  pub draws : (b : List Reference) (l : List ℕ) (w f : List Filled)
-      → DrawsCell cells x (drawn_contents b l w f) id t h
-  draws b l w f = record {
+  pub draws : (b : List Reference) → DrawsCell cells x (drawn_contents b) id t h
+  draws b = record {
     acts = record {
       before_it = k;
       after_it = runs_on k;
-      held = (ks, at, held);
-      may = may;
-      result = result;
+      held = (v.tasks, at, may.held);
+      may = may.may;
+      result = may.result;
       runs = refl;
       made = refl;
     };
@@ -205,40 +206,20 @@ module _ {B : Type 0} {program : Program B} {cells : ℕ} {x : Contents B} (r : 
     new_made = (new_bare (held_in drawn_list n) refl).1;
     parts = λ j. record (parts_of cells x) {
       drawn = drawn_now j;
-      hand = put_is (hand_of x) hand' n (Some h) here_now else_now j;
-      making = put_is (making x.seats.hands) (making hands') t 1
-          (makes_set x.seats.hands id t None (Some h) free only_maker ∙ own_maker h 0)
-          (λ m d. makes_kept x.seats.hands id m None (Some h) free (λ rest. other_maker h m rest d)) j;
+      hand = hand_now j;
+      making = making_put x.seats.hands id t None (Some h) free tt refl only_maker j;
       held = found_all j;
       home = homes_same j;
     };
   }
 
-  word_due : (f : Once) → IsOfTree f
-      → IsDue n f (new_dues n o) ⊎ ((o ≡ sort.Promise) × ((f ≡ once.Depth) ⊎ (f ≡ once.Jump)))
-  word_due f tree = by o refl f tree
-    where
-      by : (s : Sort) → o ≡ s → (f : Once) → IsOfTree f
-          → IsDue n f (new_dues n s) ⊎ ((s ≡ sort.Promise) × ((f ≡ once.Depth) ⊎ (f ≡ once.Jump)))
-      by s e once.Tag tree = absurd tree
-      by s e once.Bits tree = absurd tree
-      by sort.Promise e once.Parent tree = inl (inl refl)
-      by sort.Task e once.Parent tree = inl (inl refl)
-      by sort.Promise e once.Kid tree = inl (inr (inl refl))
-      by sort.Task e once.Kid tree = inl (inr (inl refl))
-      by sort.Promise e once.Depth tree = inr (refl, inl refl)
-      by sort.Promise e once.Jump tree = inr (refl, inr refl)
-      by sort.Task e once.Depth tree = inl (inr (inr (inl refl)))
-      by sort.Task e once.Jump tree = inl (inr (inr (inr (inl refl))))
-
-  pub law_drawn : EventKeepsFacts → (l : List ℕ) (b : List Reference) (w f : List Filled)
-      → get_elem? x.seats.known id ≡ some l
-      → get_elem? x.seats.born_seen id ≡ some b
-      → get_elem? x.seats.wrote id ≡ some w
-      → get_elem? x.seats.filled id ≡ some f
+  pub law_drawn : EventKeepsFacts → get_elem? x.seats.known id ≡ some v.known
+      → get_elem? x.seats.born_seen id ≡ some v.born
+      → get_elem? x.seats.wrote id ≡ some v.wrote
+      → get_elem? x.seats.filled id ≡ some v.filled
       → InRounds program (next_reference r.born t (made_of x t) o).name
-      → Law program cells (drawn_contents drawn_born l w f)
-  law_drawn keeps l b w f knows seen wrote filled named = record {
+      → Law program cells (drawn_contents drawn_born)
+  law_drawn keeps knows seen wrote filled named = record {
     born = drawn_born;
     maker = maker';
     number = number';
@@ -254,39 +235,45 @@ module _ {B : Type 0} {program : Program B} {cells : ℕ} {x : Contents B} (r : 
           marked = unborn;
           marked_right = marked_right o;
           maker_held = of_seat_here (λ q. (m : Custody B) × (held_in q t ≡ Some m) × (m.home ≡ None)) x.seats.tasks id
-              ks drawn_list at (runs_on k, maker_now, out);
+              v.tasks drawn_list at (runs_on k, maker_now, may.out);
         })
         (λ g e j i z q. subst (λ (y : Hand). i.cell ≢ y.cell) (one_some h g e) (only j i z q)));
     names = subst (λ m. NamesCells m hand' x.words.own x.words.phase (home_in (slots_after n o x.slots)) tasks'
-        (set x.seats.known id l)) (sym drawn_now)
-        (names_on on r.names id ks drawn_list l l at knows x.words.own x.words.phase
+        (set x.seats.known id v.known)) (sym drawn_now)
+        (names_on on r.names id v.tasks drawn_list v.known v.known at knows x.words.own x.words.phase
         (home_in (slots_after n o x.slots)) (λ c u e. inl e) (λ u c way walk e. e) home_same
-        (λ q i. ⊎_elim (λ (j : IsIn q ks). inl (q, j, refl)) (λ (e : does_cells q.does ≡ []). inr e) (listed o q i))
+        (λ q i. ⊎_elim (λ (j : IsIn q v.tasks). inl (q, j, refl)) (λ (e : does_cells q.does ≡ []). inr e)
+        (listed o q i))
         (λ c i. inl i));
-    births = births_after r y id t h s;
-    tree = tree_after r y id t h s;
-    tree_words = tree_words_after r y id t h s refl
+    births = subst (λ m. Births m drawn_born maker' number' (made_of y) hand' x.words.phase) (sym drawn_now)
+        (births_drawn (may_draw r y id t h s) (drawn_into r y id t h s) x.words.phase r.births);
+    tree = subst (λ m. IsForkTree m drawn_born maker' number' forks' hand') (sym drawn_now)
+        (tree_drawn (may_draw r y id t h s) (drawn_into r y id t h s) x.words.phase r.births r.tree);
+    tree_words = subst (λ m. TreeWords m drawn_born maker' number' forks' hand' x.words.once y.seats.dues)
+        (sym drawn_now)
+        (tree_words_drawn (may_draw r y id t h s) (drawn_into r y id t h s) x.words.phase r.births
+        r.tree_words
         (λ c f i. (
           i.0,
-          of_seat_set (IsDue c f) x.seats.dues id i.0 ds (new_dues n o ++ ds) dues
-              (λ j. in_right (record { cell = c; word = f }) (new_dues n o) ds j) i.1,
+          of_seat_set (IsDue c f) x.seats.dues id i.0 v.dues (new_dues n o ++ v.dues) dues
+              (λ j. in_right (record { cell = c; word = f }) (new_dues n o) v.dues j) i.1,
         ))
         (λ f tree. ⊎_elim
         (λ (i : IsDue n f (new_dues n o)). inl (
           id,
-          of_seat_here (IsDue n f) x.seats.dues id ds (new_dues n o ++ ds) dues
-              (in_left (record { cell = n; word = f }) (new_dues n o) ds i),
+          of_seat_here (IsDue n f) x.seats.dues id v.dues (new_dues n o ++ v.dues) dues
+              (in_left (record { cell = n; word = f }) (new_dues n o) v.dues i),
         ))
-        (λ (i : (o ≡ sort.Promise) × ((f ≡ once.Depth) ⊎ (f ≡ once.Jump))). inr
-        ((r.once_words.undrawn n f (omega arith)).0 ∙ sym (stays_zero f i)))
-        (word_due f tree));
+        (λ (e : tree_word maker' number' forks' o n f ≡ 0). inr ((r.once_words.undrawn n f (omega arith)).0 ∙ sym e))
+        (due_or_zero maker' number' forks' n o f tree)));
     custody = subst (λ m. Custodies cells m hand' x.words.phase (slots_after n o x.slots) tasks') (sym drawn_now)
         (subst (Custodies cells (suc n) hand' x.words.phase (slots_after n o x.slots))
         (set-set x.seats.tasks id noted_list drawn_list)
-        (custody_drawn (custody_on r.custody (hand_of x) x.words.phase id ks noted_list at (λ u i. refl) (λ u i. refl)
-        (like_noted ks t k runs_on held refl phase_same out out)) room o hand' else_now
-        (ap (λ q. sort_shown q (x.words.phase n)) here_now) unborn id noted_list
-        (set_here x.seats.tasks id noted_list (inside x.seats.tasks id ks at))));
+        (custody_drawn (custody_on r.custody (hand_of x) x.words.phase id v.tasks noted_list at (λ u i. refl)
+        (λ u i. refl) (noted_as v.tasks t k runs_on may.held refl IsAlike (λ m. inl refl)
+        (inr (record { phase = phase_same; out = may.out; out_now = may.out })))) room hand' else_now unborn id
+        noted_list (set_here x.seats.tasks id noted_list (inside x.seats.tasks id v.tasks at)) o
+        (ap (λ q. sort_shown q (x.words.phase n)) here_now)));
     owned = subst (λ m. OwnedLists m hand' x.words.own owned') (sym drawn_now) record {
       owners = λ c u i. subst (λ q. (x.words.own c ≡ Some u) ↔ IsIn c q) (sym (owned_same u))
           (r.owned.owners c u (back_there c i));
@@ -294,8 +281,8 @@ module _ {B : Type 0} {program : Program B} {cells : ℕ} {x : Contents B} (r : 
       owned_apart = λ u. subst AreApart (sym (owned_same u)) (r.owned.owned_apart u);
     };
     once_words = subst (λ m. OnceWords m hand' hands' x.words.own x.words.once x.seats.seen
-        (set x.seats.dues id (new_dues n o ++ ds))) (sym drawn_now)
-        (once_drawn r.once_words id o h ds refl dues free hand' on back_there);
+        (set x.seats.dues id (new_dues n o ++ v.dues))) (sym drawn_now)
+        (once_drawn r.once_words id o h v.dues refl dues free hand' on back_there);
     chains = r.chains;
     live_count = r.live_count;
     stops = r.stops;
@@ -303,18 +290,18 @@ module _ {B : Type 0} {program : Program B} {cells : ℕ} {x : Contents B} (r : 
     records_fit = λ u q e. r.records_fit u q (sym (home_same u) ∙ e);
     meaning = subst (λ home. Meant program cells (suc x.words.count) x.words.stop
         (wider program (ground_of cells r.born x) (min (suc x.words.count) cells) hand' drawn_born) home
-        (knows_now id drawn_born w f (known_of x))) (sym homes_same)
-        (draw_meant program cells (law_meant program cells x r) id b w f seen wrote filled
+        (knows_now id drawn_born v.wrote v.filled (known_of x))) (sym homes_same)
+        (draw_meant program cells (law_meant program cells x r) id v.born v.wrote v.filled seen wrote filled
         (min (suc x.words.count) cells) hand' (next_reference r.born t (made_of x t) o) left drawn_now else_now named);
     undrawn = λ c i. r.undrawn c (let a = drawn_now in omega arith);
     facts = facts_after keeps (draw_shown r y id t h s) r.facts;
   }
     where
       y : Contents B
-      y = drawn_contents drawn_born l w f
+      y = drawn_contents drawn_born
 
       s : DrawsCell cells x y id t h
-      s = draws drawn_born l w f
+      s = draws drawn_born
 
       maker' : ℕ → ℕ
       maker' = put r.maker n t
@@ -333,15 +320,4 @@ module _ {B : Type 0} {program : Program B} {cells : ℕ} {x : Contents B} (r : 
       marked_right sort.Promise = tt
 
       phase_same : phase_of (runs_on k).does ≡ phase_of k.does
-      phase_same = by k.does may
-        where
-          by : (d : Does) → MayAct d → phase.Running ≡ phase_of d
-          by does.Fresh i = refl
-          by does.Running i = refl
-          by d i = absurd i
-
-      stays_zero : (f : Once) → ((o ≡ sort.Promise) × ((f ≡ once.Depth) ⊎ (f ≡ once.Jump)))
-          → tree_word maker' number' forks' o n f ≡ 0
-      stays_zero f i = subst (λ q. tree_word maker' number' forks' q n f ≡ 0) (sym i.0) (⊎_elim
-          (λ (e : f ≡ once.Depth). subst (λ q. tree_word maker' number' forks' sort.Promise n q ≡ 0) (sym e) refl)
-          (λ (e : f ≡ once.Jump). subst (λ q. tree_word maker' number' forks' sort.Promise n q ≡ 0) (sym e) refl) i.1)
+      phase_same = sym (acting_phase k.does may.may)

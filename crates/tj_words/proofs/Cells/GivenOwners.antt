@@ -1,13 +1,12 @@
 -- The first store of OWN of a cell in hand shows nothing: its owner is the one that was shown.
-use Rattle.tj_words.proofs.Prelude.{Bool, CellStage, Contents, Custody, GivesOwner, Hand, IsMarkedRight, Law, None}
-use Rattle.tj_words.proofs.Prelude.{Option, Program, Some, Sort, ap, arith, at_put, cond, false, first_owner, fresh}
-use Rattle.tj_words.proofs.Prelude.{get_elem?, hand_of, hand_phase, held_of, home_of, made_by, made_of, making, ne_eqb}
-use Rattle.tj_words.proofs.Prelude.{new_stage, owner_shown, parts_of, put, put_else, refl, running, some, stage_shown}
-use Rattle.tj_words.proofs.Prelude.{subst, sym, ℕ, ◌+◌, ◌∙◌, ◌≡◌, ◌≢◌}
+use Rattle.tj_words.proofs.Prelude.{CellStage, Contents, Custody, Hand, IsMarkedRight, Law, None, Option, Program, Some}
+use Rattle.tj_words.proofs.Prelude.{Sort, ap, arith, at_put, false, first_owner, get_elem?, hand_of, hand_phase}
+use Rattle.tj_words.proofs.Prelude.{held_of, home_of, made_by, made_of, making, owner_shown, put, put_else, refl, some}
+use Rattle.tj_words.proofs.Prelude.{stage_shown, subst, sym, ℕ, ◌+◌, ◌∙◌, ◌≡◌, ◌≢◌}
+use Rattle.tj_words.proofs.Lemmas.{GivesOwner, at_two, held_here, made_held_by, makes_one, parts_of, put_kept}
 use Rattle.tj_words.proofs.Events.QuietCells.{quiet_parts, stage_does, IsQuiet}
-use Rattle.tj_words.proofs.Holders.HeldTasks.{makes_one}
-use Rattle.tj_words.proofs.Lemmas.{at_two, back, held_here, made_held_by, put_kept}
 use Rattle.tj_words.proofs.Stores.WordStores.{hand_here, not_root}
+use Rattle.tj_words.proofs.Events.OwnerEvents.{new_fresh}
 use Rattle.tj_base.specs.declared.cell.Sort.TheVariants as sort
 
 module _ {B : Type 0} {program : Program B} {cells : ℕ} {x : Contents B} (r : Law program cells x) (id : ℕ) (h : Hand)
@@ -37,9 +36,6 @@ module _ {B : Type 0} {program : Program B} {cells : ℕ} {x : Contents B} (r : 
         (λ _. ap (λ k. k + making x.seats.hands d)
         (put_kept (λ d i. made_by i (home_of x d)) (held_of x) c s.new_held s.new_made d))
 
-    new : (d : ℕ) → d ≢ 0 → new_stage d ≡ fresh
-    new d z = ap (λ (b : Bool). cond b running fresh) (ne_eqb d 0 z)
-
     stage_in : (q : Sort) → h.sort ≡ q → (i : Option (Custody B))
         → stage_shown c None (Some o) (x.words.phase c) i (home_of x c)
         ≡ stage_shown c (Some h) (x.words.own c) (x.words.phase c) (held_of x c) (home_of x c)
@@ -49,7 +45,7 @@ module _ {B : Type 0} {program : Program B} {cells : ℕ} {x : Contents B} (r : 
     stage_in sort.Task e i =
         let q : h.marked ≡ false = subst (λ s. IsMarkedRight s h.marked) e (r.hands.each id h has).marked_right in
         (λ j. stage_shown c None (Some o) (((r.hands.each id h has).marked ∙ ap hand_phase q) j) i (home_of x c))
-        ∙ (new c (not_root r id h has)
+        ∙ (new_fresh c (not_root r id h has)
         ∙ (λ j. stage_shown c (Some (record h { sort = sym e j })) (x.words.own c) (x.words.phase c) (held_of x c)
         (home_of x c)))
 
@@ -85,9 +81,3 @@ module _ {B : Type 0} {program : Program B} {cells : ℕ} {x : Contents B} (r : 
       others = refl;
       cleared = refl;
     }
-
--- and so does each such store
-pub give_shown : {B : Type 0} {program : Program B} {cells : ℕ} {x : Contents B} (r : Law program cells x)
-    (y : Contents B) (id t c : ℕ) (h : Hand) → GivesOwner cells x y id t c h → IsQuiet cells x y
-give_shown {cells = cells} {x = x} r y id t c h s = given_shown r id h s.in_hand y
-    (back (λ j. GivesOwner cells x y id (s.hand_maker j) (s.hand_cell j) h) s)

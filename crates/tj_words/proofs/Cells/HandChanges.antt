@@ -1,13 +1,15 @@
 -- What one seat has in hand changes, and with it what it has for its tasks: what of the law speaks of cells that are
 -- there, of tasks that are held and of cells in hand is kept.
-use Rattle.tj_words.proofs.Prelude.{All, AreThere, BirthsBy, CellId, Custodies, Custody, Due, Forks, Hand, Hands}
-use Rattle.tj_words.proofs.Prelude.{HasInHand, IsCustody, IsForkTree, IsIn, IsInHand, IsKept, IsOfTree, IsThere, List}
-use Rattle.tj_words.proofs.Prelude.{NamesCells, None, OfSeat, Once, OnceWords, Option, Phase, Rec, Reference, SeenWord}
-use Rattle.tj_words.proofs.Prelude.{Slots, Some, Sort, Walk, Way, [], ap, arith, at_set, dec_le, dite, does_cells}
-use Rattle.tj_words.proofs.Prelude.{get_elem?, held_in, home_in, inl, phase_of, record_cells, refl, set, some}
-use Rattle.tj_words.proofs.Prelude.{sort_shown, subst, sym, ℕ, ⊎_elim, ◌<◌, ◌∙◌, ◌≡◌, ◌≢◌, ◌≤◌, ◌⊎◌}
+use Rattle.tj_words.proofs.Prelude.{All, AreThere, CellId, Custodies, Custody, Due, Forks, Hand, Hands, HasInHand}
+use Rattle.tj_words.proofs.Prelude.{IsCustody, IsForkTree, IsIn, IsInHand, IsKept, IsOfTree, IsThere, List, NamesCells}
+use Rattle.tj_words.proofs.Prelude.{None, OfSeat, Once, OnceWords, Option, Phase, Rec, Reference, SeenWord, Slots, Some}
+use Rattle.tj_words.proofs.Prelude.{Sort, Walk, Way, [], ap, arith, at_set, dec_le, dite, does_cells, get_elem?}
+use Rattle.tj_words.proofs.Prelude.{held_in, home_in, phase_of, record_cells, refl, set, some, sort_shown, subst, sym}
+use Rattle.tj_words.proofs.Prelude.{ℕ, ⊎_elim, ◌<◌, ◌∙◌, ◌≡◌, ◌≢◌, ◌≤◌, ◌⊎◌}
+use Rattle.tj_words.specs.LawParts.TreeWords.{BirthsBy}
 use Rattle.tj_words.proofs.Stores.SeatLists.{each_set, of_seat_set, of_seat_else}
-use Rattle.tj_words.proofs.Holders.HeldTasks.{none_some, one_some}
+use Rattle.tj_words.proofs.Holders.HeldTasks.{none_some}
+use Rattle.tj_words.proofs.Holders.NotedPairs.{IsNoted, noted_after, noted_before}
 use Rattle.tj_base.specs.declared.cell.Sort.TheVariants as sort
 use Rattle.tj_words.specs.declared.phase.Phase.TheVariants as phases
 
@@ -17,31 +19,8 @@ pub record IsStill {B : Type 0} (k k' : Custody B) : Type 0 where
   pub out : k.home ≡ None
   pub out_now : k'.home ≡ None
 
-abbrev pub IsLike : {B : Type 0} → Option (Custody B) → Option (Custody B) → Type 0
-IsLike None None = Unit {0}
-IsLike None (Some k') = ⊥
-IsLike (Some k) None = ⊥
-IsLike (Some k) (Some k') = (k' ≡ k) ⊎ IsStill k k'
-
-module _ {B : Type 0} where
-  pub like_same : (o : Option (Custody B)) → IsLike o o
-  like_same None = tt
-  like_same (Some k) = inl refl
-
-  -- what is held now was held before
-  pub like_before : (o o' : Option (Custody B)) → IsLike o o' → (k' : Custody B) → o' ≡ Some k'
-      → (k : Custody B) × (o ≡ Some k) × ((k' ≡ k) ⊎ IsStill k k')
-  like_before None None l k' e = none_some None k' refl e
-  like_before (Some k) None l k' e = none_some None k' refl e
-  like_before None (Some m) l k' e = absurd l
-  like_before (Some k) (Some m) l k' e = (k, refl, subst (λ z. (z ≡ k) ⊎ IsStill k z) (one_some m k' e) l)
-
-  -- what was held is held now
-  pub like_after : (o o' : Option (Custody B)) → IsLike o o' → (k : Custody B) → o ≡ Some k
-      → (k' : Custody B) × (o' ≡ Some k') × ((k' ≡ k) ⊎ IsStill k k')
-  like_after None o' l k e = none_some None k refl e
-  like_after (Some m) None l k e = absurd l
-  like_after (Some m) (Some k') l k e = (k', refl, subst (λ z. (k' ≡ z) ⊎ IsStill z k') (one_some m k e) l)
+abbrev pub IsAlike : {B : Type 0} → Custody B → Custody B → Type 0
+IsAlike k k' = (k' ≡ k) ⊎ IsStill k k'
 
 -- the cells that are there stay there
 module _ {drawn drawn' : ℕ} {hand hand' : ℕ → Option Hand}
@@ -151,9 +130,8 @@ module _ {B : Type 0} {hands : List (Option Hand)} {tasks : List (List (Custody 
       → Hands drawn' phase' (set hands id o) (set tasks id new)
   hands_on {drawn' = drawn'} {phase' = phase'} r id o new few marks mine other = record {
     each = λ j h e. ⊎_elim
-        (λ (t : (j ≡ id) × (o ≡ Some h)).
-        subst (λ i. IsInHand drawn' phase' (set tasks id new) i h) (sym t.0) (mine h t.1))
-        (λ (t : (j ≢ id) × (get_elem? hands j ≡ some (Some h))). let i = r.each j h t.1 in record {
+        (λ t. subst (λ i. IsInHand drawn' phase' (set tasks id new) i h) (sym t.0) (mine h t.1))
+        (λ t. let i = r.each j h t.1 in record {
           drawn_cell = (let l = i.drawn_cell in omega arith);
           marked = marks j h t.0 t.1 ∙ i.marked;
           marked_right = i.marked_right;
@@ -161,13 +139,9 @@ module _ {B : Type 0} {hands : List (Option Hand)} {tasks : List (List (Custody 
               new t.0 i.maker_held;
         }) (at_set hands id j o (Some h) e);
     apart = λ j k h g e q same. ⊎_elim
-        (λ (t : (j ≡ id) × (o ≡ Some h)). ⊎_elim
-        (λ (u : (k ≡ id) × (o ≡ Some g)). t.0 ∙ sym u.0)
-        (λ (u : (k ≢ id) × (get_elem? hands k ≡ some (Some g))). absurd (other h t.1 k g u.0 u.1 (sym same)))
+        (λ t. ⊎_elim (λ u. t.0 ∙ sym u.0) (λ u. absurd (other h t.1 k g u.0 u.1 (sym same)))
         (at_set hands id k o (Some g) q))
-        (λ (t : (j ≢ id) × (get_elem? hands j ≡ some (Some h))). ⊎_elim
-        (λ (u : (k ≡ id) × (o ≡ Some g)). absurd (other g u.1 j h t.0 t.1 same))
-        (λ (u : (k ≢ id) × (get_elem? hands k ≡ some (Some g))). r.apart j k h g t.1 u.1 same)
+        (λ t. ⊎_elim (λ u. absurd (other g u.1 j h t.0 t.1 same)) (λ u. r.apart j k h g t.1 u.1 same)
         (at_set hands id k o (Some g) q)) (at_set hands id j o (Some h) e);
   }
 
@@ -189,7 +163,7 @@ module _ {B : Type 0} {cells drawn : ℕ} {hand : ℕ → Option Hand} {phase : 
       → get_elem? tasks id ≡ some ks
       → ((t : ℕ) → t < drawn → sort_shown (hand' t) (phase' t) ≡ sort_shown (hand t) (phase t))
       → ((t : ℕ) → sort_shown (hand t) (phase t) ≡ sort.Task → phase' t ≡ phase t)
-      → ((u : ℕ) → IsLike (held_in ks u) (held_in new u))
+      → ((u : ℕ) → IsNoted IsAlike (held_in ks u) (held_in new u))
       → Custodies cells drawn hand' phase' slots (set tasks id new)
   custody_on hand' phase' id ks new at sorts same like = record {
     holder = c.holder;
@@ -201,7 +175,7 @@ module _ {B : Type 0} {cells drawn : ℕ} {hand : ℕ → Option Hand} {phase : 
     held = each_set (λ j l. (t : ℕ) (k : Custody B) → held_in l t ≡ Some k
         → IsCustody c.holder phase' (home_in slots) j t k) tasks id new
         (λ j l e t k q. moved j t k (c.held j l e t k q))
-        (λ t k q. let b = like_before (held_in ks t) (held_in new t) (like t) k q in
+        (λ t k q. let b = noted_before IsAlike (held_in ks t) k (subst (IsNoted IsAlike (held_in ks t)) q (like t)) in
         let i = c.held id ks at t b.0 b.1 in ⊎_elim
         (λ z. subst (λ m. IsCustody c.holder phase' (home_in slots) id t m) (sym z) (moved id t b.0 i))
         (λ (z : IsStill b.0 k). record {
@@ -211,7 +185,8 @@ module _ {B : Type 0} {cells drawn : ℕ} {hand : ℕ → Option Hand} {phase : 
           out = λ y. i.out z.out;
         }) b.2);
     holders = λ t j e. of_seat_set (λ l. (k : Custody B) × (held_in l t ≡ Some k)) tasks id j ks new at
-        (λ h. let a = like_after (held_in ks t) (held_in new t) (like t) h.0 h.1 in (a.0, a.1)) (c.holders t j e);
+        (λ h. let a = noted_after IsAlike h.0 (held_in new t)
+        (subst (λ o. IsNoted IsAlike o (held_in new t)) h.1 (like t)) in (a.0, a.1)) (c.holders t j e);
     own_slots = c.own_slots;
   }
     where

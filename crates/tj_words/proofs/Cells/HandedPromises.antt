@@ -1,19 +1,17 @@
 -- A promise is handed to a child that isn't born yet: to the lists of tasks this is as if it were closed first, and
 -- then given to the child.
-use Rattle.tj_words.proofs.Prelude.{AreThere, Contents, Custody, Does, Due, EventKeepsFacts, Hand, HandsPromise}
-use Rattle.tj_words.proofs.Prelude.{HasAlarmed, IsHeldWith, IsIn, IsThere, KeepsCells, Law, List, MayAct, None, Once}
-use Rattle.tj_words.proofs.Prelude.{OnceWords, Option, OwnedLists, Program, SeenWord, Some, WaitersOwn, [], ap, at_put}
-use Rattle.tj_words.proofs.Prelude.{dite, does_cells, drawn_in, find_in, gave_up, get_elem?, hand_of, held_in, held_of}
-use Rattle.tj_words.proofs.Prelude.{hold, home_of, made_by, making, owned_of, owns_also, parts_of, put, refl}
-use Rattle.tj_words.proofs.Prelude.{set, set-set, set_here, some, subst, suc, sym, ℕ, ℕ_discrete, ◌+◌, ◌∙◌, ◌∷◌, ◌≡◌}
-use Rattle.tj_words.proofs.Prelude.{◌≢◌}
-use Rattle.tj_words.proofs.Lemmas.{custody, find_changed, find_same, held_alone, hold_else, hold_here, home_there}
-use Rattle.tj_words.proofs.Lemmas.{inside, list_owned, made_held_by, none_some, one_some, owned_held_by, owned_parts}
-use Rattle.tj_words.proofs.Lemmas.{put_else, put_here, put_is}
-use Rattle.tj_words.proofs.Holders.HeldChanges.{held_task, hold_move, owned_held}
+use Rattle.tj_words.proofs.Prelude.{AreThere, Contents, Custody, Does, Due, EventKeepsFacts, Hand, HasAlarmed, IsIn}
+use Rattle.tj_words.proofs.Prelude.{IsThere, Law, List, MayAct, None, Once, OnceWords, Option, OwnedLists, Program}
+use Rattle.tj_words.proofs.Prelude.{SeenWord, Some, WaitersOwn, [], ap, at_put, dite, does_cells, drawn_in, gave_up}
+use Rattle.tj_words.proofs.Prelude.{get_elem?, hand_of, held_in, held_of, hold, home_of, made_by, making, owned_of}
+use Rattle.tj_words.proofs.Prelude.{owns_also, put, refl, set, set_else, set_here, some, subst, suc, sym, ℕ, ℕ_discrete}
+use Rattle.tj_words.proofs.Prelude.{◌+◌, ◌∙◌, ◌∷◌, ◌≡◌, ◌≢◌}
+use Rattle.tj_words.proofs.Lemmas.{HandsPromise, IsHeldWith, KeepsCells, custody, facts_after, find_put, held_alone}
+use Rattle.tj_words.proofs.Lemmas.{hold_else, hold_held, home_there, inside, list_owned, made_held_by, none_some}
+use Rattle.tj_words.proofs.Lemmas.{once_on, one_some, owned_held_by, owned_parts, parts_of, put_else, put_here, put_is}
+use Rattle.tj_words.proofs.Holders.HeldChanges.{held_task, hold_move, owned_held, found_held}
 use Rattle.tj_words.proofs.Cells.OwnedChanges.{owned_gives}
 use Rattle.tj_words.proofs.Events.OwnerEvents.{hand_shown}
-use Rattle.tj_words.proofs.Events.StepFacts.{facts_after}
 use Rattle.tj_words.proofs.Calls.KeptCells.{kept_parts}
 use Rattle.tj_words.proofs.Cells.ClosedCells.{GivesUp, closed, gave_list, gives_up, its_task, law_closed, owned_here}
 use Rattle.tj_words.proofs.Cells.ClosedCells.{owned_promise}
@@ -27,27 +25,18 @@ pub once_owned : {drawn : ℕ} {hand : ℕ → Option Hand} {hands : List (Optio
     → OnceWords drawn hand hands own word seen dues
     → (c t u : ℕ) → own c ≡ Some t
     → OnceWords drawn hand hands (put own c (Some u)) word seen dues
-once_owned {own = own} o c t u owns = record {
-  due_to = o.due_to;
-  stands = o.stands;
-  dues_mine = o.dues_mine;
-  due = o.due;
-  may_be_due = λ d j g e. let m = o.may_be_due d j g e in record {
-    tree = m.tree;
-    value = λ k. let w = m.value k in (w.0, still d w.1);
-    tag_last = m.tag_last;
-  };
-  unwritten = o.unwritten;
-  valued = λ d g k n. let w = o.valued d g k n in (w.0, still d w.1);
-  closed = λ d i e. o.closed d i (dite (ℕ_discrete d c)
-      (λ q. none_some (put own c (Some u) d) u e (put_here own c d (Some u) q))
-      (λ n. sym (put_else own c d (Some u) n) ∙ e));
-  undrawn = o.undrawn;
-}
-  where
-    still : (d : ℕ) → own d ≡ None → put own c (Some u) d ≡ None
-    still d e = dite (ℕ_discrete d c) (λ q. none_some (own d) t e (ap own q ∙ owns))
-        (λ n. put_else own c d (Some u) n ∙ e)
+once_owned {own = own} o c t u owns = once_on o
+    (λ d i e. (
+      i,
+      at_put own c (Some u) (λ d z. own d ≡ None → z ≡ None) d (λ e. none_some (own c) t e owns)
+          (λ _ e. e) e,
+    ))
+    (λ d i e. (
+      i,
+      at_put own c (Some u) (λ d z. z ≡ None → own d ≡ None) d (λ e. none_some (Some u) u e refl)
+          (λ _ e. e) e,
+    ))
+    (λ d j g e. (o.may_be_due d j g e).tree)
 
 -- a task that acts isn't one that is unborn
 pub acting_other : {B : Type 0} (ks : List (Custody B)) (t u : ℕ) {k child : Custody B} → held_in ks t ≡ Some k
@@ -116,22 +105,16 @@ module _ {B : Type 0} {program : Program B} {cells : ℕ} {x : Contents B} (r : 
   u_there : IsThere n (hand_of x) u × (x.words.own u ≡ Some u)
   u_there = list_owned r id u h.child child_here u h.child_result
 
-  -- what is found for a task that the seat holds, and for each
-  found : (d : ℕ) → r.custody.holder d ≡ Some id → held_of handed d ≡ held_in given_list d
-  found d e = ap (λ l. find_in l d) (set-set x.seats.tasks id gave given_list)
-      ∙ find_changed x.seats.tasks id d g.held.0 given_list g.held.1 (held_alone r id d e)
+  gave_here : get_elem? (set x.seats.tasks id gave) id ≡ some gave
+  gave_here = set_here x.seats.tasks id gave (inside x.seats.tasks id g.held.0 g.held.1)
 
+  -- what is found for each task: that of the two
   pub found_all : held_of handed ≡ put (put (held_of x) t (Some k')) u (Some child')
-  found_all = put_is (put (held_of x) t (Some k')) (held_of handed) u (Some child')
-      (found u (custody r id u h.child child_here).mine
-      ∙ (ap (held_in given_list) (sym child_its) ∙ hold_here child' gave))
-      (λ d q. at_put (held_of x) t (Some k') (λ m y. held_of handed m ≡ y) d
-      (found t (custody r id t g.has g.held).mine ∙ (hold_else child' t gave (λ e. other (sym (e ∙ child_its)))
-      ∙ (ap (held_in gave) (sym (its_task r g)) ∙ hold_here k' g.held.0)))
-      (λ p. ap (λ l. find_in l d) (set-set x.seats.tasks id gave given_list)
-      ∙ find_same x.seats.tasks id d g.held.0 given_list g.held.1
-      (hold_else child' d gave (λ e. q (e ∙ child_its))
-      ∙ hold_else k' d g.held.0 (λ e. p (e ∙ its_task r g)))))
+  found_all = find_put (set x.seats.tasks id gave) id u gave given_list gave_here
+      (λ j l n e. held_alone r id u (custody r id u h.child child_here).mine j l n
+      (sym (set_else x.seats.tasks id j gave n) ∙ e))
+      (λ d q. hold_else child' d gave (λ e. q (e ∙ child_its)))
+      ∙ (λ j. put (found_held r id t g.has k' g.held (its_task r g) j) u (hold_held child' u gave child_its j))
 
   -- the task has handed the promise to its child
   abbrev pub hands : HandsPromise cells x handed id t c u
@@ -176,7 +159,7 @@ module _ {B : Type 0} {program : Program B} {cells : ℕ} {x : Contents B} (r : 
     abbrev h1 : IsHeldWith x1 id u h.child
     h1 = (
       gave,
-      set_here x.seats.tasks id gave (inside x.seats.tasks id g.held.0 g.held.1),
+      gave_here,
       hold_else k' u g.held.0 (λ e. other (e ∙ its_task r g)) ∙ h.child_held,
     )
 

@@ -1,37 +1,32 @@
 -- How many things a task may have made, and where a new task jumps.
-use Rattle.tj_words.proofs.Prelude.{CellState, Contents, CoreState, Fork, Forks, HasTask, IsHistory, IsJump-of, Law}
-use Rattle.tj_words.proofs.Prelude.{Node, NodeId, Program, Reference, [], ap, arith, child, core_shown, dec_le, dite}
-use Rattle.tj_words.proofs.Prelude.{drawn_in, if◌then◌else◌, inl, inr, jump_from, made_of, maker, name, node_of}
-use Rattle.tj_words.proofs.Prelude.{node_of-child, node_of-older, parts_of, reference_of, refl, some-injective, subst}
-use Rattle.tj_words.proofs.Prelude.{suc, sym, zero, ℕ, ℕ_discrete, ◌-◌, ◌<◌, ◌==◌, ◌∙◌, ◌∷◌, ◌≡◌, ◌≢◌, ◌≤◌}
+use Rattle.tj_words.proofs.Prelude.{CellState, Contents, Fork, Forks, HasTask, IsHistory, IsJump-of, Law, Node, NodeId}
+use Rattle.tj_words.proofs.Prelude.{Program, Reference, [], ap, arith, child, dec_le, dite, drawn_in, if◌then◌else◌}
+use Rattle.tj_words.proofs.Prelude.{inl, inr, jump_from, made_of, maker, name, node_of, node_of-child, reference_of}
+use Rattle.tj_words.proofs.Prelude.{refl, subst, suc, sym, zero, ℕ, ℕ_discrete, ◌-◌, ◌<◌, ◌==◌, ◌∙◌, ◌∷◌, ◌≡◌, ◌≢◌, ◌≤◌}
+use Rattle.tj_words.proofs.Events.StepEvents.{core_of}
+use Rattle.tj_tree.proofs.Trees.{node_of-older, parent_there}
+use Rattle.tj_words.proofs.Events.ShownParts.{parts_of}
 use Rattle.tj_events.specs.Facts.{IsThing}
-use Rattle.tj_tree.proofs.Trees.{parent_there}
-use Rattle.tj_words.proofs.Lemmas.{cell_born, cell_there}
-use Rattle.tj_words.proofs.Cells.CellFacts.{name_shown}
+use Rattle.tj_words.proofs.Cells.CellFacts.{cell_born, name_shown}
+use Rattle.tj_words.proofs.Events.ShownCells.{cell_there}
+use Rattle.tj_words.proofs.Holders.HeldTasks.{index_is}
 
 module _ {B : Type 0} {program : Program B} {cells : ℕ} {x : Contents B} (r : Law program cells x) where
-  abbrev n : ℕ
-  n = drawn_in cells x
-
-  abbrev K : CoreState
-  K = core_shown cells r.born r.maker x
-
-  pub maker_shown : (c : ℕ) → c < n → maker K.cells c ≡ r.maker c
+  pub maker_shown : (c : ℕ) → c < drawn_in cells x → maker (core_of r).cells c ≡ r.maker c
   maker_shown c l = ap (λ (z : CellState). z.maker) (cell_there r.born r.maker (parts_of cells x) c l)
 
   -- the core sees a cell as the thing that its number says
-  pub thing_shown : (c : ℕ) → c < n → c ≢ 0 → IsThing K.cells c (r.number c)
+  pub thing_shown : (c : ℕ) → c < drawn_in cells x → c ≢ 0 → IsThing (core_of r).cells c (r.number c)
   thing_shown c l d =
       let w = r.births.named c (reference_of r.born c) (cell_born r c l) d in
       let m = (r.births.makers_there c l).0 in
-      let up : w.0 ≡ reference_of r.born (r.maker c) =
-      some-injective w.0 (reference_of r.born (r.maker c)) (sym w.1 ∙ cell_born r (r.maker c) m) in
       name_shown r c l ∙ (w.2 ∙ ap (λ a. child a (r.number c))
-      (ap (λ (q : Reference). q.name) up
-      ∙ (sym (name_shown r (r.maker c) m) ∙ ap (name K.cells) (sym (maker_shown c l)))))
+      (ap (λ (q : Reference). q.name) (sym (index_is r.born (r.maker c) _ w.0 w.1))
+      ∙ (sym (name_shown r (r.maker c) m) ∙ ap (name (core_of r).cells) (sym (maker_shown c l)))))
 
   -- of two things that one task made the later one is the later cell
-  later_cell : (c d : ℕ) → c < n → d < n → c ≢ 0 → d ≢ 0 → r.maker c ≡ r.maker d → r.number c < r.number d → c < d
+  later_cell : (c d : ℕ) → c < drawn_in cells x → d < drawn_in cells x → c ≢ 0 → d ≢ 0 → r.maker c ≡ r.maker d
+      → r.number c < r.number d → c < d
   later_cell c d lc ld zc zd same less = dite (dec_le d c)
       (λ l. dite (ℕ_discrete c d)
       (λ (e : c ≡ d). let q : r.number c ≡ r.number d = ap r.number e in absurd (omega arith))
@@ -45,7 +40,7 @@ module _ {B : Type 0} {program : Program B} {cells : ℕ} {x : Contents B} (r : 
 
   -- the k-th thing that a task made is a cell whose number is at least k
   made_cell : (t k : ℕ) → suc k ≤ made_of x t
-      → (c : ℕ) × (c < n) × (r.maker c ≡ t) × (r.number c ≡ suc k) × (suc k ≤ c)
+      → (c : ℕ) × (c < drawn_in cells x) × (r.maker c ≡ t) × (r.number c ≡ suc k) × (suc k ≤ c)
   made_cell t zero l = let m = r.births.made_all t 1 (omega arith) l in let z = numbered_not_root m.0 0 m.3 in
       (m.0, m.1, m.2, m.3, omega arith)
   made_cell t (suc k) l =
@@ -56,10 +51,10 @@ module _ {B : Type 0} {program : Program B} {cells : ℕ} {x : Contents B} (r : 
       let least = b.4 in (m.0, m.1, m.2, m.3, omega arith)
 
   -- a task has made fewer things than there are cells
-  pub made_few : (t : ℕ) → made_of x t < n
+  pub made_few : (t : ℕ) → made_of x t < drawn_in cells x
   made_few t = by (made_of x t) refl
     where
-      by : (m : ℕ) → made_of x t ≡ m → made_of x t < n
+      by : (m : ℕ) → made_of x t ≡ m → made_of x t < drawn_in cells x
       by zero e = let l = r.facts.makers.root_there in omega arith
       by (suc k) e = let c = made_cell t k (omega arith) in let a = c.1 in let b = c.4 in omega arith
 

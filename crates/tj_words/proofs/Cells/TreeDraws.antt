@@ -1,58 +1,34 @@
 -- A draw keeps what is said of births and of the tree of forks.
 use Rattle.tj_words.proofs.Prelude.{Births, Bool, Due, Fork, Forks, Hand, HasTask, IsCell, IsDue, IsForkTree, IsHistory}
-use Rattle.tj_words.proofs.Prelude.{IsOfTree, IsThere, List, Node, NodeId, None, OfSeat, Once, Option, Phase, Reference}
-use Rattle.tj_words.proofs.Prelude.{Some, Sort, TreeWords, [], ap, arith, at_longer, child, depth_word, dite, false}
-use Rattle.tj_words.proofs.Prelude.{get_elem?, if◌then◌else◌, inl, inr, jump_word, length, length-append, ne_eqb}
-use Rattle.tj_words.proofs.Prelude.{next_reference, node_of, parent_word, put, put_else, put_here, reference_of, refl}
-use Rattle.tj_words.proofs.Prelude.{some, some-injective, some-ne-none, sort_shown, subst, suc, sym, to_task, tree_word}
-use Rattle.tj_words.proofs.Prelude.{true, zero, ℕ, ℕ_discrete, ⊎_elim, ◌++◌, ◌-◌, ◌<◌, ◌==◌, ◌∙◌, ◌∷◌, ◌≡◌, ◌≢◌, ◌≤◌}
-use Rattle.tj_words.proofs.Prelude.{◌⊎◌}
+use Rattle.tj_words.proofs.Prelude.{IsJump-of, IsOfTree, IsThere, List, Node, NodeId, None, OfSeat, Once, Option, Phase}
+use Rattle.tj_words.proofs.Prelude.{Reference, Some, Sort, TreeWords, [], ap, arith, at_longer, at_put, child}
+use Rattle.tj_words.proofs.Prelude.{depth_word, dite, false, forks_after, if◌then◌else◌, inl, inr, jump_from, jump_word}
+use Rattle.tj_words.proofs.Prelude.{length, length-append, ne_eqb, next_reference, node_of, parent_word, put, put_else}
+use Rattle.tj_words.proofs.Prelude.{put_here, reference_of, refl, sort_shown, subst, suc, sym, to_task, tree_word, true}
+use Rattle.tj_words.proofs.Prelude.{ℕ, ℕ_discrete, ⊎_elim, ◌++◌, ◌-◌, ◌<◌, ◌==◌, ◌∙◌, ◌∷◌, ◌≡◌, ◌≢◌, ◌≤◌, ◌⊎◌}
+use Rattle.tj_words.proofs.Lemmas.{at_index, at_two, back, index_is, inside, last_at, one_some}
 use Rattle.tj_tree.specs.Forks.{HasKid, IsNext, name_of}
-use Rattle.tj_tree.specs.Nodes.{jump_from, child_node}
-use Rattle.tj_tree.proofs.Trees.{node_of-older, node_of-child, name_of-older, name_of-child, root_there, IsJump-of}
-use Rattle.tj_words.proofs.Lemmas.{at_index, inside, one_some}
-use Rattle.tj_words.specs.Inner.TreeDraws.{forks_after, IsDrawnInto, MayDraw}
+use Rattle.tj_tree.specs.Nodes.{child_node}
+use Rattle.tj_tree.proofs.Trees.{node_of-older, node_of-child, name_of-older, name_of-child, root_there}
+use Rattle.tj_words.specs.Inner.TreeDraws.{IsDrawnInto, MayDraw}
+use Rattle.tj_words.proofs.Cells.CellNames.{last_or}
 use Rattle.tj_base.specs.declared.cell.Sort.TheVariants as sort
 use Rattle.tj_words.specs.declared.offsets.Once.TheVariants as once
 
--- where a list is longer by one, each element is one of the old ones, or the new one
-last_at : {A : Type 0} (l : List A) (a : A) → get_elem? (l ++ a ∷ []) (length l) ≡ some a
-last_at [] a = refl
-last_at (x ∷ l) a = last_at l a
-
-split_at : {A : Type 0} (l : List A) (a : A) (c : ℕ) (x : A) → get_elem? (l ++ a ∷ []) c ≡ some x
-    → (get_elem? l c ≡ some x) ⊎ ((c ≡ length l) × (x ≡ a))
-split_at [] a zero x e = inr (refl, sym (some-injective a x e))
-split_at [] a (suc c) x e = absurd (some-ne-none x (sym e))
-split_at (y ∷ l) a zero x e = inl e
-split_at (y ∷ l) a (suc c) x e =
-    ⊎_elim (λ (q : get_elem? l c ≡ some x). inl q) (λ (q : (c ≡ length l) × (x ≡ a)). inr (ap suc q.0, q.1))
-    (split_at l a c x e)
-
--- the task that a kid number is of
-record IsKidOf (forks : Forks) (p k : ℕ) : Type 0 where
-  pub task : ℕ
-  pub there : HasTask forks task
-  pub not_root : 0 < task
-  pub parent : (node_of forks task).parent.0 ≡ p
-  pub kid : (node_of forks task).kid ≡ k
-
-kid_task : (forks : Forks) → IsHistory forks → (p k : ℕ) → HasKid forks p k → IsKidOf forks p k
+-- a kid number is that of a task
+kid_task : (forks : Forks) → IsHistory forks → (p k : ℕ) → HasKid forks p k
+    → (c : ℕ) × HasTask forks c × (0 < c) × ((node_of forks c).parent.0 ≡ p) × ((node_of forks c).kid ≡ k)
 kid_task [] h p k i = absurd i
-kid_task (fork ∷ forks) h p k (inl e) = record {
-  task = fork.child;
-  there = inl refl;
-  not_root = h.0.newest 0 (root_there forks);
-  parent = ap (λ (z : Node). z.parent.0) (node_of-child fork forks) ∙ e.0;
-  kid = ap (λ (z : Node). z.kid) (node_of-child fork forks) ∙ e.1;
-}
-kid_task (fork ∷ forks) h p k (inr i) = let r = kid_task forks h.1 p k i in record {
-  task = r.task;
-  there = inr r.there;
-  not_root = r.not_root;
-  parent = ap (λ (z : Node). z.parent.0) (node_of-older fork forks r.task h.0 r.there) ∙ r.parent;
-  kid = ap (λ (z : Node). z.kid) (node_of-older fork forks r.task h.0 r.there) ∙ r.kid;
-}
+kid_task (fork ∷ forks) h p k (inl e) = let n = node_of-child fork forks in (
+  fork.child,
+  inl refl,
+  h.0.newest 0 (root_there forks),
+  ap (λ (z : Node). z.parent.0) n ∙ e.0,
+  ap (λ (z : Node). z.kid) n ∙ e.1,
+)
+kid_task (fork ∷ forks) h p k (inr i) = let r = kid_task forks h.1 p k i in
+    let n = node_of-older fork forks r.0 h.0 r.1 in
+    (r.0, inr r.1, r.2, ap (λ (z : Node). z.parent.0) n ∙ r.3, ap (λ (z : Node). z.kid) n ∙ r.4)
 
 module _ {n : ℕ} {born : List Reference} {maker number made : ℕ → ℕ} {hand : ℕ → Option Hand} {h : Hand}
     (may : MayDraw n born maker number made hand h) {made' : ℕ → ℕ} {hand' : ℕ → Option Hand}
@@ -88,10 +64,12 @@ module _ {n : ℕ} {born : List Reference} {maker number made : ℕ → ℕ} {ha
     cell_inside : (c : ℕ) (x : Reference) → IsCell born c x → c < n
     cell_inside c x e = subst (λ m. c < m) b.all (inside born c x e)
 
-    -- a cell after the draw is an old one, or the new one
-    pub old_or_new : (c : ℕ) (x : Reference) → IsCell born' c x → IsCell born c x ⊎ ((c ≡ n) × (x ≡ new))
-    old_or_new c x e = ⊎_elim (λ (q : IsCell born c x). inl q)
-        (λ (q : (c ≡ length born) × (x ≡ new)). inr (q.0 ∙ b.all, q.1)) (split_at born new c x e)
+    -- what is so of each old cell, and of the new one, is so of each cell after the draw
+    each_cell : (F : ℕ → Reference → Type 0) → ((c : ℕ) (x : Reference) → IsCell born c x → F c x) → F n new
+        → (c : ℕ) (x : Reference) → IsCell born' c x → F c x
+    each_cell F old here c x e = ⊎_elim (old c x)
+        (λ (q : (c ≡ length born) × (new ≡ x)). back (λ j. F ((q.0 ∙ b.all) j) (sym q.1 j)) here)
+        (last_or born new c x e)
 
     pub new_cell_is : IsCell born' n new
     new_cell_is = subst (λ m. IsCell born' m new) b.all (last_at born new)
@@ -116,56 +94,35 @@ module _ {n : ℕ} {born : List Reference} {maker number made : ℕ → ℕ} {ha
       root = old_cell 0 (to_task []) b.root;
       root_maker = put_else maker n t 0 root_old ∙ b.root_maker;
       root_number = put_else number n k 0 root_old ∙ b.root_number;
-      named = λ c x e z. ⊎_elim
-          (λ (q : IsCell born c x). let y = b.named c x q z in (
+      named = each_cell (λ c x. c ≢ 0 → (y : Reference) × IsCell born' (maker' c) y
+          × (x.name ≡ child y.name (number' c)))
+          (λ c x q z. let y = b.named c x q z in (
             y.0,
-            old_cell (maker' c) y.0 (subst (λ m. IsCell born m y.0) (sym (old_maker c x q)) y.1),
-            y.2 ∙ ap (child y.0.name) (sym (old_number c x q)),
+            old_cell (maker' c) y.0 (subst (λ m. IsCell born m y.0) (sym (put_else maker n t c (not_new c x q))) y.1),
+            y.2 ∙ ap (child y.0.name) (sym (put_else number n k c (not_new c x q))),
           ))
-          (λ (q : (c ≡ n) × (x ≡ new)). (
+          (λ z. (
             reference_of born t,
-            old_cell (maker' c) (reference_of born t)
-                (subst (λ m. IsCell born m (reference_of born t)) (sym (new_maker c q.0)) maker_cell),
-            ap (λ (r : Reference). r.name) q.1 ∙ ap (child (reference_of born t).name) (sym (new_number c q.0)),
-          ))
-          (old_or_new c x e);
-      sorts = λ c x e. ⊎_elim
-          (λ (q : IsCell born c x). b.sorts c x q
-          ∙ ap (λ o. sort_shown o (phase c)) (sym (d.else c (not_new c x q))))
-          (λ (q : (c ≡ n) × (x ≡ new)). ap (λ (r : Reference). r.sort) q.1
-          ∙ ap (λ o. sort_shown o (phase c)) (sym (ap hand' q.0 ∙ d.here)))
-          (old_or_new c x e);
-      makers_there = λ c l. dite (ℕ_discrete c n)
-          (λ e. subst (IsThere (suc n) hand') (sym (new_maker c e)) (there_on t may.maker_there))
-          (λ z. subst (IsThere (suc n) hand') (sym (put_else maker n t c z))
-          (there_on (maker c) (b.makers_there c (omega arith))));
-      in_hand = λ c g e. dite (ℕ_discrete c n)
-          (λ q. let i : h ≡ g = one_some h g (sym d.here ∙ (ap hand' (sym q) ∙ e)) in (
-            new_maker c q ∙ ap (λ (z : Hand). z.maker) i,
-            new_number c q ∙ (sym d.made_one ∙ ap (λ (z : Hand). made' z.maker) i),
-          ))
-          (λ z. let a : hand c ≡ Some g = sym (d.else c z) ∙ e in
-          let w = b.in_hand c g a in let m = may.calm c g a in (
-            put_else maker n t c z ∙ w.0,
-            put_else number n k c z ∙ (w.1 ∙ sym (d.made_else g.maker m.0 m.1)),
+            old_cell (maker' n) (reference_of born t)
+                (subst (λ m. IsCell born m (reference_of born t)) (sym (put_here maker n t)) maker_cell),
+            ap (child (reference_of born t).name) (sym (put_here number n k)),
           ));
+      sorts = each_cell (λ c x. x.sort ≡ sort_shown (hand' c) (phase c))
+          (λ c x q. b.sorts c x q ∙ ap (λ o. sort_shown o (phase c)) (sym (d.else c (not_new c x q))))
+          (ap (λ o. sort_shown o (phase n)) (sym d.here));
+      makers_there = λ c l. at_put maker n t (λ c m. IsThere (suc n) hand' m) c (there_on t may.maker_there)
+          (λ z. there_on (maker c) (b.makers_there c (omega arith)));
+      in_hand = λ c g e. at_two maker number n t k
+          (λ c m j. hand' c ≡ Some g → (m ≡ g.maker) × (j ≡ made' g.maker)) c
+          (λ e. let i : h ≡ g = one_some h g (sym d.here ∙ e) in
+          (ap (λ (z : Hand). z.maker) i, sym d.made_one ∙ ap (λ (z : Hand). made' z.maker) i))
+          (λ z e. let a : hand c ≡ Some g = sym (d.else c z) ∙ e in
+          let w = b.in_hand c g a in let m = may.calm c g a in (w.0, w.1 ∙ sym (d.made_else g.maker m.0 m.1))) e;
       made_all = made_each;
     }
       where
         long : length born' ≡ suc n
         long = (let a = length-append born (new ∷ []) in let l = b.all in omega arith)
-
-        old_maker : (c : ℕ) (x : Reference) → IsCell born c x → maker' c ≡ maker c
-        old_maker c x e = put_else maker n t c (not_new c x e)
-
-        old_number : (c : ℕ) (x : Reference) → IsCell born c x → number' c ≡ number c
-        old_number c x e = put_else number n k c (not_new c x e)
-
-        new_maker : (c : ℕ) → c ≡ n → maker' c ≡ t
-        new_maker c e = ap maker' e ∙ put_here maker n t
-
-        new_number : (c : ℕ) → c ≡ n → number' c ≡ k
-        new_number c e = ap number' e ∙ put_here number n k
 
         old_one : (m j : ℕ) → 0 < j → j ≤ made m
             → (c : ℕ) × (c < suc n) × (maker' c ≡ m) × (number' c ≡ j)
@@ -182,7 +139,7 @@ module _ {n : ℕ} {born : List Reference} {maker number made : ℕ → ℕ} {ha
             → (c : ℕ) × (c < suc n) × (maker' c ≡ m) × (number' c ≡ j)
         made_each m j z l = dite (ℕ_discrete m t)
             (λ e. dite (ℕ_discrete j k)
-            (λ q. (n, (omega arith), new_maker n refl ∙ sym e, new_number n refl ∙ sym q))
+            (λ q. (n, (omega arith), put_here maker n t ∙ sym e, put_here number n k ∙ sym q))
             (λ u. let a : made' m ≡ suc (made m) = ap made' e ∙ (d.made_one ∙ ap (λ i. suc (made i)) (sym e)) in
             let v : k ≡ suc (made m) = ap (λ i. suc (made i)) (sym e) in old_one m j z (omega arith)))
             (λ w. dite (ℕ_discrete m n)
@@ -197,11 +154,8 @@ module _ {n : ℕ} {born : List Reference} {maker number made : ℕ → ℕ} {ha
       its_cell : (c : ℕ) → HasTask forks c → (x : Reference) × IsCell born c x × (x.sort ≡ sort.Task)
       its_cell c i = (tree.tasks c).0 i
 
-      its_maker : (c : ℕ) → HasTask forks c → maker' c ≡ maker c
-      its_maker c i = let x = its_cell c i in put_else maker n t c (not_new c x.0 x.1)
-
-      its_number : (c : ℕ) → HasTask forks c → number' c ≡ number c
-      its_number c i = let x = its_cell c i in put_else number n k c (not_new c x.0 x.1)
+      task_old : (c : ℕ) → HasTask forks c → c ≢ n
+      task_old c i = let x = its_cell c i in not_new c x.0 x.1
 
       -- the fork that makes the new task comes next
       next_fork : IsNext fork forks
@@ -210,11 +164,11 @@ module _ {n : ℕ} {born : List Reference} {maker number made : ℕ → ℕ} {ha
         newest = λ c i. let x = its_cell c i in cell_inside c x.0 x.1;
         last_kid = λ j i.
             let r = kid_task forks tree.history t j i in
-            let x = its_cell r.task r.there in
-            let z = r.not_root in
-            let l = may.numbered r.task x.0 x.1 (λ e. omega arith) in
-            let a : number r.task ≡ j = sym (tree.kids r.task r.there) ∙ r.kid in
-            let b : made (maker r.task) ≡ made t = ap made (sym (tree.parents r.task r.there) ∙ r.parent) in omega
+            let x = its_cell r.0 r.1 in
+            let z = r.2 in
+            let l = may.numbered r.0 x.0 x.1 (λ e. omega arith) in
+            let a : number r.0 ≡ j = sym (tree.kids r.0 r.1) ∙ r.4 in
+            let b : made (maker r.0) ≡ made t = ap made (sym (tree.parents r.0 r.1) ∙ r.3) in omega
             arith;
       }
 
@@ -224,20 +178,18 @@ module _ {n : ℕ} {born : List Reference} {maker number made : ℕ → ℕ} {ha
         history = tree.history;
         tasks = λ c. (
           λ i. let x = its_cell c i in (x.0, old_cell c x.0 x.1, x.2),
-          λ w. ⊎_elim (λ (q : IsCell born c w.0). (tree.tasks c).1 (w.0, q, w.2))
-              (λ (q : (c ≡ n) × (w.0 ≡ new)). no_task w.0 q.1 w.2) (old_or_new c w.0 w.1),
+          λ w. each_cell (λ c x. x.sort ≡ sort.Task → HasTask forks c) (λ c x q s. (tree.tasks c).1 (x, q, s)) no_task
+              c w.0 w.1 w.2,
         );
-        names = λ c x e s. ⊎_elim (λ (q : IsCell born c x). tree.names c x q s)
-            (λ (q : (c ≡ n) × (x ≡ new)). no_task x q.1 s) (old_or_new c x e);
-        parents = λ c i. tree.parents c i ∙ sym (its_maker c i);
-        kids = λ c i. tree.kids c i ∙ sym (its_number c i);
+        names = each_cell (λ c x. x.sort ≡ sort.Task → name_of forks c ≡ x.name) tree.names no_task;
+        parents = λ c i. tree.parents c i ∙ sym (put_else maker n t c (task_old c i));
+        kids = λ c i. tree.kids c i ∙ sym (put_else number n k c (task_old c i));
         jumps_there = λ c i. there_on (node_of forks c).jump.0 (tree.jumps_there c i);
         depths = tree.depths;
       }
         where
-          no_task : {Z : Type 0} (x : Reference) → x ≡ new → x.sort ≡ sort.Task → Z
-          no_task x e s = let q : sort.Promise ≡ sort.Task = sym is ∙ (ap (λ (r : Reference). r.sort) (sym e) ∙ s) in
-              absurd (cc)
+          no_task : {Z : Type 0} → h.sort ≡ sort.Task → Z
+          no_task s = let q : sort.Promise ≡ sort.Task = sym is ∙ s in absurd (cc)
 
       -- a task more is one fork more
       task_drawn : h.sort ≡ sort.Task → IsForkTree (suc n) born' maker' number' (fork ∷ forks) hand'
@@ -247,20 +199,16 @@ module _ {n : ℕ} {born : List Reference} {maker number made : ℕ → ℕ} {ha
           λ i. ⊎_elim
               (λ (q : c ≡ n). (new, subst (λ m. IsCell born' m new) (sym q) new_cell_is, is))
               (λ (q : HasTask forks c). let x = its_cell c q in (x.0, old_cell c x.0 x.1, x.2)) i,
-          λ w. ⊎_elim (λ (q : IsCell born c w.0). inr ((tree.tasks c).1 (w.0, q, w.2)))
-              (λ (q : (c ≡ n) × (w.0 ≡ new)). inl q.0) (old_or_new c w.0 w.1),
+          λ w. each_cell (λ c x. x.sort ≡ sort.Task → HasTask (fork ∷ forks) c)
+              (λ c x q s. inr ((tree.tasks c).1 (x, q, s))) (λ _. inl refl) c w.0 w.1 w.2,
         );
-        names = λ c x e s. ⊎_elim
-            (λ (q : IsCell born c x). let i = (tree.tasks c).1 (x, q, s) in
-            name_of-older fork forks c next_fork i ∙ tree.names c x q s)
-            (λ (q : (c ≡ n) × (x ≡ new)). ap (name_of (fork ∷ forks)) q.0
-            ∙ (name_of-child fork forks
-            ∙ (ap (λ a. child a k) maker_name ∙ ap (λ (r : Reference). r.name) (sym q.1))))
-            (old_or_new c x e);
+        names = each_cell (λ c x. x.sort ≡ sort.Task → name_of (fork ∷ forks) c ≡ x.name)
+            (λ c x q s. name_of-older fork forks c next_fork ((tree.tasks c).1 (x, q, s)) ∙ tree.names c x q s)
+            (λ _. name_of-child fork forks ∙ ap (λ a. child a k) maker_name);
         parents = each (λ c node. node.parent.0 ≡ maker' c)
-            (λ c i. tree.parents c i ∙ sym (its_maker c i)) (sym (put_here maker n t));
+            (λ c i. tree.parents c i ∙ sym (put_else maker n t c (task_old c i))) (sym (put_here maker n t));
         kids = each (λ c node. node.kid ≡ number' c)
-            (λ c i. tree.kids c i ∙ sym (its_number c i)) (sym (put_here number n k));
+            (λ c i. tree.kids c i ∙ sym (put_else number n k c (task_old c i))) (sym (put_here number n k));
         jumps_there = each (λ c node. IsThere (suc n) hand' node.jump.0)
             (λ c i. there_on (node_of forks c).jump.0 (tree.jumps_there c i)) jumps;
         depths = each (λ c node. node.depth ≤ c) tree.depths
@@ -272,8 +220,7 @@ module _ {n : ℕ} {born : List Reference} {maker number made : ℕ → ℕ} {ha
 
           maker_name : name_of forks t ≡ (reference_of born t).name
           maker_name = tree.names t may.task may.is_task.0 may.is_task.1
-              ∙ ap (λ (r : Reference). r.name)
-              (some-injective may.task (reference_of born t) (sym may.is_task.0 ∙ maker_cell))
+              ∙ ap (λ (r : Reference). r.name) (sym (index_is born t _ may.task may.is_task.0))
 
           -- what holds of each old node, and of the new one, holds of each
           each : (F : ℕ → Node → Type 0) → ((c : ℕ) → HasTask forks c → F c (node_of forks c))
@@ -338,21 +285,17 @@ module _ {n : ℕ} {born : List Reference} {maker number made : ℕ → ℕ} {ha
         ⊎ (word n f ≡ tree_word maker' number' (forks_after h.sort t n k forks) h.sort n f))
         → TreeWords (suc n) born' maker' number' (forks_after h.sort t n k forks) hand' word dues'
     tree_words_drawn {forks} {word} {dues} {dues'} w keeps news = record {
-      written = λ c x f i e o. ⊎_elim
-          (λ (q : IsCell born c x). w.written c x f (there_back c i) q o
+      written = λ c x f i e o. each_cell (λ c x. IsThere (suc n) hand' c
+          → word c f ≡ tree_word maker' number' (forks_after h.sort t n k forks) x.sort c f)
+          (λ c x q i. w.written c x f (there_back c i) q o
           ∙ sym (same_tree_word forks x.sort c f (not_new c x q) h.sort))
-          (λ (q : (c ≡ n) × (x ≡ new)). let a = (there_back c i).0 in absurd (omega (arith, q.0)))
-          (old_or_new c x e);
-      in_hand = λ c g x f a e o. ⊎_elim
-          (λ (q : IsCell born c x). let z = not_new c x q in ⊎_elim
+          (λ i. let a = (there_back n i).0 in absurd (omega arith)) c x e i;
+      in_hand = λ c g x f a e o. each_cell (λ c x. hand' c ≡ Some g → ((j : ℕ) × OfSeat (IsDue c f) dues' j)
+          ⊎ (word c f ≡ tree_word maker' number' (forks_after h.sort t n k forks) x.sort c f))
+          (λ c x q a. let z = not_new c x q in ⊎_elim
           (λ (r : (j : ℕ) × OfSeat (IsDue c f) dues j). inl (keeps c f r))
           (λ (r : word c f ≡ tree_word maker number forks x.sort c f).
           inr (r ∙ sym (same_tree_word forks x.sort c f z h.sort)))
           (w.in_hand c g x f (sym (d.else c z) ∙ a) q o))
-          (λ (q : (c ≡ n) × (x ≡ new)).
-          subst (λ i. ((j : ℕ) × OfSeat (IsDue i f) dues' j)
-          ⊎ (word i f ≡ tree_word maker' number' (forks_after h.sort t n k forks) x.sort i f)) (sym q.0)
-          (subst (λ (r : Reference). ((j : ℕ) × OfSeat (IsDue n f) dues' j)
-          ⊎ (word n f ≡ tree_word maker' number' (forks_after h.sort t n k forks) r.sort n f)) (sym q.1) (news f o)))
-          (old_or_new c x e);
+          (λ _. news f o) c x e a;
     }

@@ -1,37 +1,24 @@
 -- A draw is a Make or a Fork; the first store of OWN shows nothing.
-use Rattle.tj_words.proofs.Prelude.{Allowed, CellState, Contents, CoreState, DrawsCell, Hand, IsCell, IsDrawnInto}
-use Rattle.tj_words.proofs.Prelude.{IsEmpty, IsThere, Law, List, None, Parts, Program, Reference, ShowsEvent, Slots}
-use Rattle.tj_words.proofs.Prelude.{Some, Sort, [], after, ap, arith, core_shown, draw_event, drawn_in, first_owner}
-use Rattle.tj_words.proofs.Prelude.{get_elem?, get_or, hand_of, hand_stage, held_of, home_in, home_of, length, made_by}
-use Rattle.tj_words.proofs.Prelude.{made_of, maker, making, next_reference, parts_of, phase_sort, put, put_else}
-use Rattle.tj_words.proofs.Prelude.{put_here, record_in, reference_of, refl, shown_by, some, some-injective, subst, suc}
-use Rattle.tj_words.proofs.Prelude.{sym, to_task, with_new, zero, ℕ, ◌++◌, ◌+◌, ◌<◌, ◌∙◌, ◌∷◌, ◌≡◌, ◌≢◌, ◌≤◌}
+use Rattle.tj_words.proofs.Prelude.{Allowed, CellState, Contents, CoreState, Hand, IsCell, IsDrawnInto, IsEmpty}
+use Rattle.tj_words.proofs.Prelude.{IsThere, Law, List, None, Program, Reference, Slots, Some, Sort, [], after, ap}
+use Rattle.tj_words.proofs.Prelude.{arith, at_longer, draw_event, drawn_in, first_owner, get_elem?, hand_of, hand_stage}
+use Rattle.tj_words.proofs.Prelude.{held_of, home_in, home_of, made_by, made_of, maker, making, next_reference}
+use Rattle.tj_words.proofs.Prelude.{phase_sort, put, put_else, put_here, record_in, reference_of, some, subst, suc, sym}
+use Rattle.tj_words.proofs.Prelude.{with_new, ℕ, ◌++◌, ◌+◌, ◌<◌, ◌∙◌, ◌∷◌, ◌≡◌, ◌≢◌, ◌≤◌}
+use Rattle.tj_words.proofs.Lemmas.{DrawsCell, ShowsEvent, back, cell_born, cell_there, core_of, hand_found}
+use Rattle.tj_words.proofs.Lemmas.{hand_seat, index_is, inside, last_at, makes_none, makes_nothing, none_some, sort_is}
+use Rattle.tj_words.proofs.Events.ShownParts.{Parts, parts_of, shown_by, drawn_parts}
 use Rattle.tj_events.proofs.OneCell.Makers.{thing_made}
 use Rattle.tj_words.specs.Inner.TreeDraws.{MayDraw}
-use Rattle.tj_words.proofs.Lemmas.{back, cell_born, cell_there, custody, drawn_parts, hand_found, hand_seat, inside}
-use Rattle.tj_words.proofs.Lemmas.{none_some, one_some}
-use Rattle.tj_words.proofs.Holders.HeldTasks.{makes_none}
 use Rattle.tj_words.proofs.Events.ShownDraws.{one_drawn}
-use Rattle.tj_words.proofs.Cells.CellFacts.{sort_is}
 use Rattle.tj_words.proofs.Cells.MadeThings.{maker_shown, thing_shown}
 use Rattle.tj_words.proofs.Events.OwnerEvents.{acts_there, acts_phase, acts_made, acts_stage, acts_run}
 use Rattle.tj_base.specs.declared.cell.Sort.TheVariants as sort
 
--- the last element of a list, and each before it
-pub last_or : {A : Type 0} (l : List A) (a d : A) → get_or (l ++ a ∷ []) (length l) d ≡ a
-last_or [] a d = refl
-last_or (x ∷ l) a d = last_or l a d
-
-pub before_or : {A : Type 0} (l : List A) (a d : A) (i : ℕ) → i < length l → get_or (l ++ a ∷ []) i d ≡ get_or l i d
-before_or [] a d i h = absurd (omega arith)
-before_or (x ∷ l) a d zero h = refl
-before_or (x ∷ l) a d (suc i) h = before_or l a d i (omega arith)
-
 -- the event of a draw adds the cell that is drawn
 drawn_after : (s : CoreState) (t : ℕ) (o : Sort)
     → after s (draw_event o t) ≡ with_new s t (first_owner o t s.count) (hand_stage o)
-drawn_after s t sort.Promise = refl
-drawn_after s t sort.Task = refl
+drawn_after s t o = grind arith
 
 -- how many things a task has made, by these parts
 abbrev made_in : {B : Type 0} → Parts B → ℕ → ℕ
@@ -46,9 +33,6 @@ module _ {B : Type 0} {program : Program B} {cells : ℕ} {x : Contents B} (r : 
   abbrev n : ℕ
   n = drawn_in cells x
 
-  abbrev K : CoreState
-  K = core_shown cells r.born r.maker x
-
   -- a draw, as the seat with nothing in hand makes it
   module _ (h : Hand) (s : DrawsCell cells x y id t h) where
     abbrev z : Parts B
@@ -61,11 +45,7 @@ module _ {B : Type 0} {program : Program B} {cells : ℕ} {x : Contents B} (r : 
     t_there = acts_there r id t s.acts
 
     calm : (j : ℕ) (g : Hand) → get_elem? x.seats.hands j ≡ some (Some g) → g.maker ≢ t
-    calm j g e q =
-        let k : j ≡ id = one_some j id (sym (hand_seat r j g e)
-        ∙ (ap r.custody.holder q ∙ (custody r id t s.acts.before_it s.acts.held).mine)) in
-        let z : None ≡ Some g = some-injective None (Some g)
-        (sym s.no_hand ∙ (ap (λ (i : ℕ). get_elem? x.seats.hands i) (sym k) ∙ e)) in absurd (cc)
+    calm = makes_nothing r id t s.acts.before_it s.acts.held s.no_hand
 
     undrawn : (j : ℕ) (g : Hand) → get_elem? x.seats.hands j ≡ some (Some g) → g.maker ≢ n
     undrawn j g e q = none_some (r.custody.holder n) j (r.custody.undrawn_free n (omega arith))
@@ -120,11 +100,12 @@ module _ {B : Type 0} {program : Program B} {cells : ℕ} {x : Contents B} (r : 
         number_made : (c : ℕ) (z : Reference) → IsCell r.born c z → c ≢ 0 → r.number c ≤ made_of x (r.maker c)
         number_made c z e d =
             let drawn : c < n = subst (λ m. c < m) r.births.all (inside r.born c z e) in
-            let made : (K.cells (maker K.cells c)).made ≡ made_of x (r.maker c) =
-            ap (λ i. (K.cells i).made) (maker_shown r c drawn)
+            let made : ((core_of r).cells (maker (core_of r).cells c)).made ≡ made_of x (r.maker c) =
+            ap (λ i. ((core_of r).cells i).made) (maker_shown r c drawn)
             ∙ ap (λ (q : CellState). q.made)
             (cell_there r.born r.maker (parts_of cells x) (r.maker c) (r.births.makers_there c drawn).0) in
-            let few = thing_made n K.cells r.facts.makers c (r.number c) drawn (thing_shown r c drawn d) in omega arith
+            let few = thing_made n (core_of r).cells r.facts.makers c (r.number c) drawn (thing_shown r c drawn d) in
+            omega arith
 
     -- a draw is a Make or a Fork, and the cell is one more of those that are born
     pub draw_shown : ShowsEvent cells r.born r.maker x y (draw_event h.sort t)
@@ -134,10 +115,10 @@ module _ {B : Type 0} {program : Program B} {cells : ℕ} {x : Contents B} (r : 
       shown = ap (shown_by born' (put r.maker n t)) s.parts
           ∙ (one_drawn r.born born' r.maker (parts_of cells x) t h (Some s.acts.after_it) s.new_held
           t_there.0 t_there.1 s.hand_maker made_t (acts_stage r id t s.acts) made_new named names
-          ∙ sym (drawn_after K t h.sort));
+          ∙ sym (drawn_after (core_of r) t h.sort));
     }
       where
-        may : (o : Sort) → Allowed cells K (draw_event o t)
+        may : (o : Sort) → Allowed cells (core_of r) (draw_event o t)
         may sort.Promise = (acts_run r id t s.acts, room)
         may sort.Task = (acts_run r id t s.acts, room)
 
@@ -149,8 +130,8 @@ module _ {B : Type 0} {program : Program B} {cells : ℕ} {x : Contents B} (r : 
 
         named : (reference_of born' n).name ≡ new.name
         named = ap (λ (z : Reference). z.name)
-            ((λ j. get_or born' (sym r.births.all j) (to_task [])) ∙ last_or r.born new (to_task []))
+            (index_is born' n _ new (subst (λ m. IsCell born' m new) r.births.all (last_at r.born new)))
 
         names : (d : ℕ) → d < n → (reference_of born' d).name ≡ (reference_of r.born d).name
         names d l = ap (λ (z : Reference). z.name)
-            (before_or r.born new (to_task []) d (subst (λ k. d < k) (sym r.births.all) l))
+            (index_is born' d _ (reference_of r.born d) (at_longer r.born (new ∷ []) d _ (cell_born r d l)))

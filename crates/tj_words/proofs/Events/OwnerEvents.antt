@@ -1,19 +1,17 @@
 -- The stores of OWN are events of the core, or show nothing.
-use Rattle.tj_words.proofs.Prelude.{ActsOn, Bool, CellState, ClosesPromise, ClosesResult, Contents, Custody, Does, Hand}
-use Rattle.tj_words.proofs.Prelude.{HandsPromise, IsBegun, IsIn, IsThere, Law, MayAct, None, Option, Program, Runs}
-use Rattle.tj_words.proofs.Prelude.{ShowsEvent, Some, Sort, alter, ap, arith, at_put, cell, cond, core_shown, dec_le}
-use Rattle.tj_words.proofs.Prelude.{dite, drawn_in, eq-eqb, first_owner, fresh, get_elem?, hand_in, hand_of, held_of}
-use Rattle.tj_words.proofs.Prelude.{home_of, made_by, maker, ne_eqb, new_stage, owner, owner_shown, parent_word}
-use Rattle.tj_words.proofs.Prelude.{parts_of, phase_of, phase_sort, put, put_else, put_here, reference_of, refl}
-use Rattle.tj_words.proofs.Prelude.{restage, running, shown_by, some, some-injective, stage, stage_there, subst, suc}
-use Rattle.tj_words.proofs.Prelude.{sym, zero, ℕ, ◌<◌, ◌∙◌, ◌≡◌, ◌≢◌, ◌≤◌}
-use Rattle.tj_events.specs.CoreState.{CoreState, promise}
-use Rattle.tj_events.specs.Events.{owned_by, stage_after_close}
-use Rattle.tj_words.proofs.Lemmas.{begun_there, cell_blank, cell_born, cell_there, custody, does_shown}
-use Rattle.tj_words.proofs.Lemmas.{does_stage_there, hand_found, hand_seat, held_here, list_owned, made_held_by}
-use Rattle.tj_words.proofs.Lemmas.{none_some, one_some, owner_out, stage_held, stage_out}
+use Rattle.tj_words.proofs.Prelude.{Bool, Contents, Custody, Hand, IsBegun, IsIn, IsThere, Law, None, Option, Program}
+use Rattle.tj_words.proofs.Prelude.{Runs, Some, Sort, ap, arith, at_put, cell, cond, dec_le, dite, drawn_in, eq-eqb}
+use Rattle.tj_words.proofs.Prelude.{first_owner, fresh, get_elem?, hand_in, hand_of, held_of, home_of, made_by, maker}
+use Rattle.tj_words.proofs.Prelude.{ne_eqb, new_stage, owner_shown, parent_word, phase_sort, put, put_else, put_here}
+use Rattle.tj_words.proofs.Prelude.{reference_of, refl, some, stage_there, subst, suc, sym, ℕ, ◌<◌, ◌∙◌, ◌≡◌, ◌≢◌, ◌≤◌}
+use Rattle.tj_words.proofs.Lemmas.{ActsOn, ClosesPromise, ClosesResult, HandsPromise, ShowsEvent, begun_there}
+use Rattle.tj_words.proofs.Lemmas.{cell_blank, cell_born, cell_there, core_of, custody, does_shown, does_stage_there}
+use Rattle.tj_words.proofs.Lemmas.{hand_found, held_here, list_owned, made_held_by, makes_nothing, none_some, one_some}
+use Rattle.tj_words.proofs.Lemmas.{owner_out, parts_of, shown_by, stage_held, stage_out}
+use Rattle.tj_events.specs.CoreState.{CellState, owner, running, stage, promise}
+use Rattle.tj_events.specs.Events.{alter, restage, owned_by, stage_after_close}
 use Rattle.tj_words.proofs.Events.ShownOwners.{result_closed, owner_changed, ShowsAs, shows_as, shows_itself}
-use Rattle.tj_words.proofs.Events.TurnedTasks.{acting_runs}
+use Rattle.tj_words.proofs.Events.TurnedTasks.{acting_runs, acting_phase}
 use Rattle.tj_base.specs.declared.cell.Sort.TheVariants as sort
 use Rattle.tj_events.specs.declared.event.Event.TheVariants as event
 use Rattle.tj_words.specs.declared.offsets.Once.TheVariants as once
@@ -21,34 +19,22 @@ use Rattle.tj_words.specs.declared.phase.Phase.TheVariants as phase
 use Rattle.tj_words.specs.declared.view.Does.TheVariants as does
 use Rattle.tj_words.specs.LawParts.Holding as holding
 
--- a task that acts runs, by its phase
-acting_phase : (d : Does) → MayAct d → phase_of d ≡ phase.Running
-acting_phase does.Fresh m = refl
-acting_phase does.Running m = refl
-acting_phase d m = absurd m
-
 -- a task other than the root is fresh at first
 pub new_fresh : (t : ℕ) → t ≢ 0 → new_stage t ≡ fresh
 new_fresh t n = ap (λ (b : Bool). cond b running fresh) (ne_eqb t 0 n)
 
 module _ {B : Type 0} {program : Program B} {cells : ℕ} {x : Contents B} (r : Law program cells x) (id t : ℕ) where
-  abbrev all : ℕ
-  all = drawn_in cells x
-
-  abbrev state : CoreState
-  state = core_shown cells r.born r.maker x
-
   module _ (a : ActsOn x id t) where
     pub acts_phase : x.words.phase t ≡ phase.Running
     acts_phase = (custody r id t a.before_it a.held).does ∙ acting_phase a.before_it.does a.may
 
-    pub acts_there : IsThere all (hand_of x) t
+    pub acts_there : IsThere (drawn_in cells x) (hand_of x) t
     acts_there = begun_there r t (subst IsBegun (sym acts_phase) tt)
 
     pub acts_owned : x.words.own t ≡ Some t
     acts_owned = (list_owned r id t a.before_it a.held t a.result).1
 
-    pub acts_run : Runs (stage state.cells t)
+    pub acts_run : Runs (stage (core_of r).cells t)
     acts_run = subst Runs
         (sym (stage_held r id t a.before_it a.held t acts_there.1 acts_owned)) (acting_runs t a.before_it.does a.may)
 
@@ -63,13 +49,13 @@ module _ {B : Type 0} {program : Program B} {cells : ℕ} {x : Contents B} (r : 
     -- a promise that the task owns
     module _ (p : ℕ) (o : Option ℕ) (held : ℕ → Option (Custody B)) (listed : IsIn p a.before_it.owned)
         (is : x.words.phase p ≡ phase.Promise) where
-      pub owned_there : IsThere all (hand_of x) p × (x.words.own p ≡ Some t)
+      pub owned_there : IsThere (drawn_in cells x) (hand_of x) p × (x.words.own p ≡ Some t)
       owned_there = list_owned r id t a.before_it a.held p listed
 
       pub owned_other : p ≢ t
       owned_other e = let q : phase.Promise ≡ phase.Running = sym is ∙ (ap x.words.phase e ∙ acts_phase) in absurd (cc)
 
-      pub owned_owner : owner state.cells p ≡ Some t
+      pub owned_owner : owner (core_of r).cells p ≡ Some t
       owned_owner =
           owner_out r.born r.maker (parts_of cells x) p owned_there.0.0 owned_there.0.1 ∙ owned_there.1
 
@@ -77,7 +63,7 @@ module _ {B : Type 0} {program : Program B} {cells : ℕ} {x : Contents B} (r : 
       pub owner_given : held t ≡ Some a.after_it
           → ((c : ℕ) → c ≢ t → ShowsAs (parts_of cells x) c (held c))
           → shown_by r.born r.maker (record (parts_of cells x) { own = put x.words.own p o; held = held })
-          ≡ alter (restage state t (λ _. running)) p (owned_by o)
+          ≡ alter (restage (core_of r) t (λ _. running)) p (owned_by o)
       owner_given now else = owner_changed r.born r.maker (parts_of cells x) p t o held acts_there.0 acts_there.1
           (ap (λ (k : Option (Custody B)). made_by k (home_of x t)) now ∙ acts_made)
           (ap (λ (k : Option (Custody B)). stage_there t (phase_sort (x.words.phase t)) (x.words.own t)
@@ -88,9 +74,6 @@ module _ {B : Type 0} {program : Program B} {cells : ℕ} {x : Contents B} (r : 
     (id t : ℕ) where
   abbrev n : ℕ
   n = drawn_in cells x
-
-  abbrev K : CoreState
-  K = core_shown cells r.born r.maker x
 
   -- the store of c into OWN of a promise of t is a Hand
   pub hand_shown : (p c : ℕ) → HandsPromise cells x y id t p c
@@ -116,7 +99,7 @@ module _ {B : Type 0} {program : Program B} {cells : ℕ} {x : Contents B} (r : 
       held : ℕ → Option (Custody B)
       held = put (put (held_of x) t (Some s.acts.after_it)) c (Some s.child_after)
 
-      is_promise : stage K.cells p ≡ promise
+      is_promise : stage (core_of r).cells p ≡ promise
       is_promise = let there = (list_owned r id t s.acts.before_it s.acts.held p s.owned).0 in
           stage_out r.born r.maker (parts_of cells x) p there.0 there.1
           ∙ (λ j. stage_there p (phase_sort (s.promise j)) (x.words.own p) (s.promise j) (held_of x p) (home_of x p))
@@ -130,18 +113,17 @@ module _ {B : Type 0} {program : Program B} {cells : ℕ} {x : Contents B} (r : 
           (cell_born r c child_there.0) tt) ∙ s.its_parent
 
       made_by_t : (d m : ℕ) → parent_word d m ≡ suc t → (d ≢ 0) × (m ≡ t)
-      made_by_t zero m e = absurd (omega arith)
-      made_by_t (suc d) m e = ((λ z. omega arith), omega arith)
+      made_by_t d m e = grind arith
 
       not_root : c ≢ 0
       not_root = (made_by_t c (r.maker c) parent_is).0
 
-      fresh_child : stage K.cells c ≡ fresh
+      fresh_child : stage (core_of r).cells c ≡ fresh
       fresh_child = stage_held r id c s.child_before s.child_held c child_there.1
           (list_owned r id c s.child_before s.child_held c s.its_result).1
           ∙ (ap (does_shown c) s.unborn ∙ new_fresh c not_root)
 
-      its_maker : maker K.cells c ≡ t
+      its_maker : maker (core_of r).cells c ≡ t
       its_maker = ap (λ (z : CellState). z.maker) (cell_there r.born r.maker (parts_of cells x) c child_there.0)
           ∙ (made_by_t c (r.maker c) parent_is).1
 
@@ -158,7 +140,7 @@ module _ {B : Type 0} {program : Program B} {cells : ℕ} {x : Contents B} (r : 
         ∙ (owner_given r id t s.acts p None held s.owned s.promise (put_here (held_of x) t (Some s.acts.after_it))
         (λ d q. subst (ShowsAs (parts_of cells x) d) (sym (put_else (held_of x) t (Some s.acts.after_it) d q))
         (shows_itself (parts_of cells x) d))
-        ∙ (λ j. alter (restage K t (λ _. stage_after_close (sym (ne_eqb p t other) j))) p (owned_by None)));
+        ∙ (λ j. alter (restage (core_of r) t (λ _. stage_after_close (sym (ne_eqb p t other) j))) p (owned_by None)));
   }
     where
       held : ℕ → Option (Custody B)
@@ -175,13 +157,13 @@ module _ {B : Type 0} {program : Program B} {cells : ℕ} {x : Contents B} (r : 
     shown = ap (shown_by r.born r.maker) s.parts
         ∙ (result_closed r.born r.maker (parts_of cells x) t (Some s.acts.after_it) there.0 there.1
         (ap phase_sort (acts_phase r id t s.acts)) (acts_made r id t s.acts)
-        ∙ (λ j. alter (restage K t (λ _. stage_after_close (sym (eq-eqb t t refl) j))) t (owned_by None)));
+        ∙ (λ j. alter (restage (core_of r) t (λ _. stage_after_close (sym (eq-eqb t t refl) j))) t (owned_by None)));
   }
     where
       there : IsThere n (hand_of x) t
       there = acts_there r id t s.acts
 
-      owns : owner K.cells t ≡ Some t
+      owns : owner (core_of r).cells t ≡ Some t
       owns = owner_out r.born r.maker (parts_of cells x) t there.0 there.1 ∙ acts_owned r id t s.acts
 
       in_hand : (c : ℕ) (h : Hand) → h.cell ≡ c
@@ -189,18 +171,14 @@ module _ {B : Type 0} {program : Program B} {cells : ℕ} {x : Contents B} (r : 
           → (o : Sort) → h.sort ≡ o → first_owner o h.maker c ≡ t → c ≡ t
       in_hand c h q at sort.Task e f = f
       in_hand c h q at sort.Promise e f =
-          let k : at.0 ≡ id = one_some at.0 id
-          (sym (hand_seat r at.0 h at.1) ∙ (ap r.custody.holder f ∙
-          (custody r id t s.acts.before_it s.acts.held).mine)) in
-          let z : None ≡ Some h = some-injective None (Some h)
-          (sym s.no_hand ∙ (ap (λ (i : ℕ). get_elem? x.seats.hands i) (sym k) ∙ at.1)) in absurd (cc)
+          absurd (makes_nothing r id t s.acts.before_it s.acts.held s.no_hand at.0 h at.1 f)
 
       listed : (c : ℕ) → IsThere n (hand_of x) c → x.words.own c ≡ Some t → c ≡ t
       listed c there e = s.alone c
           (subst (λ (o : Option (Custody B)). IsIn c (holding.owned_by o (home_of x t)))
           (held_here r id t s.acts.before_it s.acts.held) ((r.owned.owners c t there).0 e))
 
-      drawn : (c : ℕ) → c < n → owner K.cells c ≡ Some t → c ≡ t
+      drawn : (c : ℕ) → c < n → owner (core_of r).cells c ≡ Some t → c ≡ t
       drawn c l e = by (hand_in x.seats.hands c) refl
           (sym (ap (λ (z : CellState). z.owner) (cell_there r.born r.maker (parts_of cells x) c l)) ∙ e)
         where
@@ -209,8 +187,8 @@ module _ {B : Type 0} {program : Program B} {cells : ℕ} {x : Contents B} (r : 
           by (Some h) q f = let w = hand_found x.seats.hands c h q in
               in_hand c h w.1 w.0 h.sort refl (one_some (first_owner h.sort h.maker c) t f)
 
-      alone : (c : ℕ) → owner K.cells c ≡ Some t → c ≡ t
+      alone : (c : ℕ) → owner (core_of r).cells c ≡ Some t → c ≡ t
       alone c e = dite (dec_le n c)
-          (λ (l : n ≤ c). none_some (owner K.cells c) t
+          (λ (l : n ≤ c). none_some (owner (core_of r).cells c) t
           (ap (λ (z : CellState). z.owner) (cell_blank r.born r.maker (parts_of cells x) c l)) e)
           (λ (l : ¬ (n ≤ c)). drawn c (omega arith) e)

@@ -1,17 +1,8 @@
 -- The stores of OWN and the draws, by what they need and what they change of all by which the core state is shown.
+use Rattle.tj_words.proofs.Prelude.{Contents, Custody, Hand, IsIn, MayAct, drawn_in, first_owner, get_elem?, hand_of}
+use Rattle.tj_words.proofs.Prelude.{held_of, home_of, made_by, making, put, some}
 use Rattle.std.specs.Prelude.{◌≡◌, ◌≢◌, ℕ, suc, Option, Some, None, ◌<◌}
-use mathlib.Core.Option.{some}
-use lib.ListN.{get_elem?}
-use Rattle.tj_body.specs.Points.{IsIn}
-use Rattle.tj_words.specs.declared.view.Hand.{Hand}
-use Rattle.tj_words.specs.declared.view.Custody.{Custody}
-use Rattle.tj_words.specs.LawParts.Hands.{making}
-use Rattle.tj_words.specs.LawParts.Holding.{made_by}
-use Rattle.tj_words.specs.LawParts.ShownState.{first_owner}
-use Rattle.tj_words.specs.LawParts.Contents.{Contents, hand_of, held_of, home_of, drawn_in}
-use Rattle.tj_base.specs.Puts.{put}
 use Rattle.tj_words.proofs.Events.ShownParts.{parts_of, owned_parts, drawn_parts}
-use Rattle.tj_words.specs.Steps.StepEvents.{MayAct}
 use Rattle.tj_words.proofs.Events.StepEvents.{IsHeldWith}
 use Rattle.tj_base.specs.declared.cell.Sort.TheVariants as sort
 use Rattle.tj_words.specs.declared.offsets.Once.TheVariants as once
@@ -66,8 +57,6 @@ module _ {B : Type 0} (cells : ℕ) (x y : Contents B) (id t : ℕ) where
   -- has made one thing more and makes none; nothing else that is shown is changed but what a seat has for t and for c
   pub record GivesOwner (c : ℕ) (h : Hand) : Type 0 where
     pub in_hand : get_elem? x.seats.hands id ≡ some (Some h)
-    pub hand_maker : h.maker ≡ t
-    pub hand_cell : h.cell ≡ c
     pub marked : h.sort ≡ sort.Promise → x.words.phase c ≡ phase.Promise
     pub before_it : Custody B
     pub after_it : Custody B

@@ -1,11 +1,9 @@
 -- A step after which each cell shows what it showed shows nothing.
-use Rattle.tj_words.proofs.Prelude.{Contents, Custody, Does, Hand, List, MarksPromise, None, Option, Parts, Phase, Rec}
-use Rattle.tj_words.proofs.Prelude.{Reference, ShowsNothing, Some, ap, blank, cond, does_stage, first_owner, hand_of}
-use Rattle.tj_words.proofs.Prelude.{hand_stage, held_of, home_of, made_by, nat_lt, owner_shown, parts_of, put}
-use Rattle.tj_words.proofs.Prelude.{reference_of, refl, shown_by, stage_shown, sym, ℕ, ◌+◌, ◌∙◌, ◌≡◌}
-use Rattle.tj_words.proofs.Lemmas.{at_two, put_kept}
+use Rattle.tj_words.proofs.Prelude.{Contents, Custody, Hand, List, Option, Phase, Rec, Reference, Some, ap, arith}
+use Rattle.tj_words.proofs.Prelude.{blank, cond, hand_of, held_of, home_of, made_by, mark, nat_lt, owner_shown, put}
+use Rattle.tj_words.proofs.Prelude.{reference_of, refl, stage_shown, sym, ℕ, ◌+◌, ◌∙◌, ◌≡◌}
+use Rattle.tj_words.proofs.Lemmas.{Parts, ShowsNothing, at_two, parts_of, put_kept, shown_by}
 use Rattle.tj_words.specs.declared.phase.Phase.TheVariants as phase
-use Rattle.tj_words.specs.declared.phase.Walk.TheVariants as walk
 
 -- what the contents show is as it was, whatever the cells are
 abbrev pub IsQuiet : {B : Type 0} → ℕ → Contents B → Contents B → Type 0
@@ -41,22 +39,24 @@ module _ {B : Type 0} (cells : ℕ) (x y : Contents B) where
   pub quiet_parts : (z : Parts B) → parts_of cells y ≡ z → ShowsSame (parts_of cells x) z → IsQuiet cells x y
   quiet_parts z e s born maker = ap (shown_by born maker) e ∙ same_shown (parts_of cells x) z s born maker
 
-  -- a cell in hand is marked: it shows its maker and its sort
-  pub mark_shown : (c : ℕ) (h h' : Hand) (p : Phase) → MarksPromise cells x y c h h' p → IsQuiet cells x y
-  mark_shown c h h' p s = quiet_parts (record (parts_of cells x) {
-    hand = put (hand_of x) c (Some h');
-    phase = put x.words.phase c p;
-  }) s.parts record {
+  -- a promise in hand is marked: it shows its maker and its sort
+  pub mark_shown : (c : ℕ) (h : Hand) → hand_of x c ≡ Some h
+      → parts_of cells y ≡ record (parts_of cells x) {
+        hand = put (hand_of x) c (mark (Some h));
+        phase = put x.words.phase c phase.Promise;
+      } → IsQuiet cells x y
+  mark_shown c h here e = quiet_parts (record (parts_of cells x) {
+    hand = put (hand_of x) c (mark (Some h));
+    phase = put x.words.phase c phase.Promise;
+  }) e record {
     drawn = refl;
     made = λ d. refl;
-    owner = put_kept (λ d o. owner_shown d o (x.words.own d)) (hand_of x) c (Some h')
-        ((λ j. Some (first_owner (s.same_hand.2 j) (s.same_hand.1 j) c))
-        ∙ ap (λ o. owner_shown c o (x.words.own c)) (sym s.in_hand));
-    stage = λ d. at_two (hand_of x) x.words.phase c (Some h') p
+    owner = put_kept (λ d o. owner_shown d o (x.words.own d)) (hand_of x) c (mark (Some h))
+        (ap (λ o. owner_shown c o (x.words.own c)) (sym here));
+    stage = λ d. at_two (hand_of x) x.words.phase c (mark (Some h)) phase.Promise
         (λ d o q. stage_shown d o (x.words.own d) q (held_of x d) (home_of x d)
         ≡ stage_shown d (hand_of x d) (x.words.own d) (x.words.phase d) (held_of x d) (home_of x d)) d
-        (ap hand_stage s.same_hand.2
-        ∙ ap (λ o. stage_shown c o (x.words.own c) (x.words.phase c) (held_of x c) (home_of x c)) (sym s.in_hand))
+        (ap (λ o. stage_shown c o (x.words.own c) (x.words.phase c) (held_of x c) (home_of x c)) (sym here))
         (λ _. refl);
     others = refl;
     cleared = refl;
@@ -66,11 +66,4 @@ module _ {B : Type 0} (cells : ℕ) (x y : Contents B) where
 pub stage_does : {B : Type 0} (c : ℕ) (z : Option Hand) (w : Option ℕ) (p : Phase) (k k' : Custody B)
     (home : Option (Rec B)) → k'.does ≡ k.does
     → stage_shown c z w p (Some k') home ≡ stage_shown c z w p (Some k) home
-stage_does c (Some h) w p k k' home e = refl
-stage_does c None None phase.Unborn k k' home e = refl
-stage_does c None (Some u) phase.Running k k' home e = ap (does_stage c) e
-stage_does c None (Some u) (phase.Waiting d way walk.Walking) k k' home e =
-    ap (λ (a : Does). stage_shown c None (Some u) (phase.Waiting d way walk.Walking) (Some (record k { does = a }))
-    home) e
-stage_does c None (Some u) p k k' home e = refl
-stage_does c None None p k k' home e = refl
+stage_does c z w p k k' home e = grind arith

@@ -1,11 +1,9 @@
 -- What the core state shows after the parts of one cell or two have changed.
-use Rattle.tj_words.proofs.Prelude.{Bool, CellStage, CellState, CoreState, Custody, Hand, List, None, Option, Parts}
-use Rattle.tj_words.proofs.Prelude.{Phase, Rec, Reference, ap, arith, at_put, blank, cell_by, cond, dec_le, dite}
-use Rattle.tj_words.proofs.Prelude.{made_by, owner, owner_shown, phase_sort, put_else, put_here, reference_of, refl}
-use Rattle.tj_words.proofs.Prelude.{restage, shown_by, stage, stage_shown, stage_there, staged, sym, ℕ, ◌+◌, ◌<◌, ◌∙◌}
-use Rattle.tj_words.proofs.Prelude.{◌≡◌, ◌≢◌, ◌≤◌}
-use Rattle.std.proofs.Common.{lt-ltb, le-ltb}
-use Rattle.tj_words.proofs.Events.ShownParts.{moved_parts}
+use Rattle.tj_words.proofs.Prelude.{CellStage, CellState, CoreState, Custody, Hand, Phase, Rec, Reference, ap, at_put}
+use Rattle.tj_words.proofs.Prelude.{blank, dec_le, dite, made_by, owner, owner_shown, phase_sort, put_else, put_here}
+use Rattle.tj_words.proofs.Prelude.{reference_of, restage, stage, stage_shown, stage_there, staged, sym, ℕ, ◌+◌, ◌≤◌}
+use Rattle.std.proofs.Common.{Bool, List, None, Option, arith, cond, refl, ◌<◌, ◌∙◌, ◌≡◌, ◌≢◌, lt-ltb, le-ltb}
+use Rattle.tj_words.proofs.Events.ShownParts.{Parts, cell_by, shown_by, moved_parts}
 
 module _ {B : Type 0} (born : List Reference) (maker : ℕ → ℕ) (x : Parts B) where
   abbrev K : CoreState
@@ -86,11 +84,8 @@ module _ {B : Type 0} (born : List Reference) (maker : ℕ → ℕ) (x : Parts B
         }
 
         else : (c : ℕ) → c ≢ t → cell_by born maker z c ≡ cell_by born maker x c
-        else c n = λ j. record {
-          maker = maker c;
-          name = (reference_of born c).name;
-          made = made_by (put_else x.held t held c n j) (put_else x.home t home c n j) + x.making c;
-          owner = owner_shown c (x.hand c) (x.own c);
-          stage = stage_shown c (x.hand c) (x.own c) (put_else x.phase t p c n j) (put_else x.held t held c n j)
-              (put_else x.home t home c n j);
-        }
+        else c n = λ j. cell_by born maker (record x {
+          phase = λ _. put_else x.phase t p c n j;
+          held = λ _. put_else x.held t held c n j;
+          home = λ _. put_else x.home t home c n j;
+        }) c

@@ -1,10 +1,11 @@
 -- What the core state shows after a cell is drawn.
-use Rattle.tj_words.proofs.Prelude.{CellState, Cells, CoreState, Custody, Hand, List, None, Option, Parts, Reference}
-use Rattle.tj_words.proofs.Prelude.{Some, ap, arith, at_put, cell_by, child, first_owner, hand_stage, made_by}
-use Rattle.tj_words.proofs.Prelude.{owner_shown, phase_sort, put, put_else, put_here, reference_of, refl, running}
-use Rattle.tj_words.proofs.Prelude.{shown_by, stage_shown, stage_there, suc, sym, with_new, ℕ, ◌+◌, ◌<◌, ◌∙◌, ◌≡◌, ◌≢◌}
-use Rattle.tj_events.specs.Events.{one_made, new_cell}
-use Rattle.tj_words.proofs.Lemmas.{cell_blank, cell_there, drawn_parts, shown_is}
+use Rattle.tj_words.proofs.Prelude.{Custody, Hand, List, None, Option, Reference, Some, ap, arith, at_put, child}
+use Rattle.tj_words.proofs.Prelude.{first_owner, hand_stage, made_by, owner_shown, phase_sort, put, put_else, put_here}
+use Rattle.tj_words.proofs.Prelude.{reference_of, refl, stage_shown, stage_there, suc, sym, ℕ, ◌+◌, ◌<◌, ◌∙◌, ◌≡◌, ◌≢◌}
+use Rattle.tj_events.specs.CoreState.{CellState, Cells, CoreState, running}
+use Rattle.tj_words.proofs.Events.ShownParts.{Parts, cell_by, shown_by, drawn_parts}
+use Rattle.tj_events.specs.Events.{with_new, one_made, new_cell}
+use Rattle.tj_words.proofs.Events.ShownCells.{cell_blank, cell_there, shown_is}
 
 module _ {B : Type 0} (born born' : List Reference) (maker : ℕ → ℕ) (x : Parts B) (t : ℕ) (h : Hand)
     (k new : Option (Custody B)) where

@@ -1,12 +1,11 @@
 -- What the core state shows after a cell has another owner.
-use Rattle.tj_words.proofs.Prelude.{Contents, CoreState, Custody, IsHeldWith, Law, List, None, Option, Parts, Program}
-use Rattle.tj_words.proofs.Prelude.{Reference, Some, alter, ap, arith, at_put, cell_by, hand_of, home_of, made_by}
-use Rattle.tj_words.proofs.Prelude.{owner_shown, parts_of, phase_sort, put, put_else, put_here, reference_of, refl}
-use Rattle.tj_words.proofs.Prelude.{restage, running, shown_by, stage_shown, stage_there, staged, sym, ℕ, ◌+◌, ◌<◌, ◌∙◌}
-use Rattle.tj_words.proofs.Prelude.{◌≡◌, ◌≢◌}
-use Rattle.tj_events.specs.CoreState.{ended}
-use Rattle.tj_events.specs.Events.{owned_by}
-use Rattle.tj_words.proofs.Lemmas.{cell_blank, cell_there, held_here, owned_parts, shown_is}
+use Rattle.tj_words.proofs.Prelude.{Contents, Custody, Law, List, None, Option, Program, Reference, Some, ap, arith}
+use Rattle.tj_words.proofs.Prelude.{at_put, hand_of, home_of, made_by, owner_shown, phase_sort, put, put_else, put_here}
+use Rattle.tj_words.proofs.Prelude.{reference_of, refl, stage_shown, stage_there, sym, ℕ, ◌+◌, ◌<◌, ◌∙◌, ◌≡◌, ◌≢◌}
+use Rattle.tj_words.proofs.Lemmas.{IsHeldWith, Parts, cell_blank, cell_there, held_here, parts_of, shown_by, shown_is}
+use Rattle.tj_events.specs.CoreState.{CoreState, running, ended}
+use Rattle.tj_events.specs.Events.{alter, restage, staged, owned_by}
+use Rattle.tj_words.proofs.Events.ShownParts.{cell_by, owned_parts}
 use Rattle.tj_words.proofs.Events.QuietCells.{stage_does}
 use Rattle.tj_base.specs.declared.cell.Sort.TheVariants as sort
 
@@ -130,11 +129,7 @@ module _ {B : Type 0} (born : List Reference) (maker : ℕ → ℕ) (x : Parts B
         }
 
         other : (c : ℕ) → c ≢ t → cell_by born maker z c ≡ cell_by born maker x c
-        other c n = λ j. record {
-          maker = maker c;
-          name = (reference_of born c).name;
-          made = made_by (put_else x.held t k c n j) (x.home c) + x.making c;
-          owner = owner_shown c (x.hand c) (put_else x.own t None c n j);
-          stage = stage_shown c (x.hand c) (put_else x.own t None c n j) (x.phase c) (put_else x.held t k c n j)
-              (x.home c);
-        }
+        other c n = λ j. cell_by born maker (record x {
+          own = λ _. put_else x.own t None c n j;
+          held = λ _. put_else x.held t k c n j;
+        }) c

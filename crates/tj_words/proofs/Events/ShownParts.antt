@@ -1,17 +1,8 @@
 -- What the core state is shown by, cell by cell, and which of it a step changes.
+use Rattle.tj_words.proofs.Prelude.{CellState, Contents, CoreState, Custody, Hand, Phase, Rec, Reference, blank}
+use Rattle.tj_words.proofs.Prelude.{drawn_in, hand_in, held_of, home_of, made_by, making, owner_shown, put}
+use Rattle.tj_words.proofs.Prelude.{reference_of, stage_shown, total}
 use Rattle.std.specs.Prelude.{ℕ, suc, Option, Some, ◌+◌, cond, nat_lt, List}
-use Rattle.tj_base.specs.Puts.{put}
-use Rattle.tj_words.specs.declared.phase.Phase.{Phase}
-use Rattle.tj_words.specs.declared.record.Rec.{Rec}
-use Rattle.tj_words.specs.declared.view.Hand.{Hand}
-use Rattle.tj_words.specs.declared.view.Custody.{Custody}
-use Rattle.tj_words.specs.Words.Lists.{total}
-use Rattle.tj_words.specs.LawParts.Hands.{hand_in, making}
-use Rattle.tj_words.specs.LawParts.Contents.{Contents, drawn_in, held_of, home_of}
-use Rattle.tj_body.specs.declared.point.Reference.{Reference}
-use Rattle.tj_events.specs.CoreState.{CellState, CoreState, blank}
-use Rattle.tj_words.specs.LawParts.Holding.{made_by}
-use Rattle.tj_words.specs.LawParts.ShownState.{reference_of, owner_shown, stage_shown}
 
 -- all of the contents by which the core state is shown, what belongs to a cell by its number
 pub record Parts (B : Type 0) : Type 0 where

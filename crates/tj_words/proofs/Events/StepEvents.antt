@@ -1,14 +1,7 @@
 -- What a step shows: one event that is allowed, or nothing; and which cells it leaves.
+use Rattle.tj_words.proofs.Prelude.{Allowed, Contents, CoreState, Custody, Event, Hand, IsThere, Law, OfSeat, Program}
+use Rattle.tj_words.proofs.Prelude.{Reference, after, core_shown, drawn_in, hand_of, held_in, made_of}
 use Rattle.std.specs.Prelude.{◌≡◌, ℕ, List, Some, None, ◌⊎◌, suc}
-use Rattle.tj_body.specs.declared.point.Reference.{Reference}
-use Rattle.tj_events.specs.declared.event.Event.{Event}
-use Rattle.tj_events.specs.Events.{Allowed, after}
-use Rattle.tj_words.specs.declared.view.Custody.{Custody}
-use Rattle.tj_words.specs.Words.Lists.{OfSeat}
-use Rattle.tj_words.specs.LawParts.Holding.{held_in}
-use Rattle.tj_words.specs.LawParts.Contents.{Contents, core_shown, drawn_in, hand_of, made_of}
-use Rattle.tj_words.specs.declared.view.Hand.{Hand}
-use Rattle.tj_words.specs.LawParts.Hands.{IsThere}
 use Rattle.tj_words.specs.declared.offsets.Once.TheVariants as once
 
 module _ {B : Type 0} where
@@ -50,3 +43,17 @@ module _ {B : Type 0} where
 -- the contents are changed so, and makers and numbers of the cells stay
 abbrev pub Keeping : {B : Type 0} → ℕ → Contents B → Contents B → Type 0 → Type 0
 Keeping cells x y Change = Change × KeepsCells cells x y
+
+-- the core state that contents under the law show
+abbrev pub core_of : {B : Type 0} {program : Program B} {cells : ℕ} {x : Contents B} → Law program cells x → CoreState
+core_of {cells = cells} {x = x} r = core_shown cells r.born r.maker x
+
+module _ {B : Type 0} {program : Program B} {cells : ℕ} {x : Contents B} (r : Law program cells x)
+    (y : Contents B) where
+  -- from contents under the law to these is a step that shows nothing, and makers and numbers of the cells stay
+  abbrev pub IsQuietStep : Type 0
+  IsQuietStep = Keeping cells x y (ShowsNothing cells r.born r.maker x y)
+
+  -- it is this event, and makers and numbers of the cells stay
+  abbrev pub IsEventStep : Event → Type 0
+  IsEventStep e = Keeping cells x y (ShowsEvent cells r.born r.maker x y e r.born r.maker)

@@ -1,12 +1,13 @@
 -- A task turns from one thing to another: the shared lemmas of all events by which it does so.
-use Rattle.tj_words.proofs.Prelude.{Allowed, Bool, CellStage, Contents, CoreState, Custody, Does, Event, IsBegun}
-use Rattle.tj_words.proofs.Prelude.{IsHeldWith, IsMoved, Law, MayAct, None, Option, Phase, Program, Rec, Runs}
-use Rattle.tj_words.proofs.Prelude.{ShowsEvent, ShowsNothing, Some, after, ap, cond, core_shown, drawn_in, false, fresh}
-use Rattle.tj_words.proofs.Prelude.{hand_in, home_of, nat_eq, new_stage, parts_of, phase_of, phase_sort, refl, restage}
-use Rattle.tj_words.proofs.Prelude.{running, shown_by, stage, stage_there, subst, sym, total, true, ℕ, ◌<◌, ◌∙◌, ◌≡◌}
-use Rattle.tj_words.proofs.Lemmas.{custody, does_shown, does_stage_there, held_drawn, put_self, stage_held, stage_out}
-use Rattle.tj_words.proofs.Events.ShownCells.{restaged}
-use Rattle.tj_words.proofs.Holders.TaskPlaces.{begun_out}
+use Rattle.tj_words.proofs.Prelude.{Allowed, Bool, CellStage, Contents, Custody, Does, Event, IsBegun, Law, MayAct}
+use Rattle.tj_words.proofs.Prelude.{None, Option, Phase, Program, Rec, Runs, Some, after, ap, arith, cond, core_shown}
+use Rattle.tj_words.proofs.Prelude.{drawn_in, false, fresh, hand_in, home_of, nat_eq, new_stage, phase_of, phase_sort}
+use Rattle.tj_words.proofs.Prelude.{refl, restage, running, stage, stage_there, subst, sym, total, true, ℕ, ◌<◌, ◌∙◌}
+use Rattle.tj_words.proofs.Prelude.{◌≡◌}
+use Rattle.tj_words.proofs.Lemmas.{IsHeldWith, IsMoved, ShowsEvent, ShowsNothing, begun_out, core_of, custody}
+use Rattle.tj_words.proofs.Lemmas.{does_shown, does_stage_there, held_drawn, parts_of, put_self, shown_by, stage_held}
+use Rattle.tj_words.proofs.Events.ShownCells.{stage_out, restaged}
+use Rattle.tj_words.specs.declared.phase.Phase.TheVariants as phase
 use Rattle.tj_words.specs.declared.view.Does.TheVariants as does
 
 -- a new task runs
@@ -23,27 +24,22 @@ acting_runs t does.Fresh m = new_runs t
 acting_runs t does.Running m = tt
 acting_runs t d m = absurd m
 
+pub acting_phase : (d : Does) → MayAct d → phase_of d ≡ phase.Running
+acting_phase d h = grind arith
+
 pub acting_begun : (d : Does) → MayAct d → IsBegun (phase_of d)
-acting_begun does.Fresh m = tt
-acting_begun does.Running m = tt
-acting_begun d m = absurd m
+acting_begun d m = subst IsBegun (sym (acting_phase d m)) tt
 
 module _ {B : Type 0} {program : Program B} {cells : ℕ} {x : Contents B} (r : Law program cells x) (y : Contents B)
     (t : ℕ) where
-  abbrev n : ℕ
-  n = drawn_in cells x
-
-  abbrev K : CoreState
-  K = core_shown cells r.born r.maker x
-
   module _ (p : Phase) (held : Option (Custody B)) (home : Option (Rec B)) (m : IsMoved cells x y t p held home)
-      (there : t < n) (out : hand_in x.seats.hands t ≡ None) where
+      (there : t < drawn_in cells x) (out : hand_in x.seats.hands t ≡ None) where
     -- a task that moves is at another stage
     pub moved : (u : Option ℕ) (f : CellStage → CellStage)
         → x.words.own t ≡ u
-        → stage_there t (phase_sort p) u p held home ≡ f (stage K.cells t)
+        → stage_there t (phase_sort p) u p held home ≡ f (stage (core_of r).cells t)
         → core_shown cells r.born r.maker y
-        ≡ record (restage K t f) { others = y.words.others; cleared = total y.seats.cleared }
+        ≡ record (restage (core_of r) t f) { others = y.words.others; cleared = total y.seats.cleared }
     moved u f owns fits = ap (shown_by r.born r.maker) m.parts
         ∙ restaged r.born r.maker (parts_of cells x) t p held home y.words.others (total y.seats.cleared) f there out
         m.made ((λ j. stage_there t (phase_sort p) (owns j) p held home)
@@ -52,30 +48,30 @@ module _ {B : Type 0} {program : Program B} {cells : ℕ} {x : Contents B} (r : 
     -- so the step is the event that does this
     pub moved_event : (u : Option ℕ) (f : CellStage → CellStage) (e : Event) (others cleared : ℕ)
         → x.words.own t ≡ u
-        → stage_there t (phase_sort p) u p held home ≡ f (stage K.cells t)
-        → Allowed cells K e
-        → after K e ≡ record (restage K t f) { others = others; cleared = cleared }
+        → stage_there t (phase_sort p) u p held home ≡ f (stage (core_of r).cells t)
+        → Allowed cells (core_of r) e
+        → after (core_of r) e ≡ record (restage (core_of r) t f) { others = others; cleared = cleared }
         → y.words.others ≡ others
         → total y.seats.cleared ≡ cleared
         → ShowsEvent cells r.born r.maker x y e r.born r.maker
     moved_event u f e others cleared owns fits may is same_others same_cleared = record {
       allowed = may;
       shown = moved u f owns fits
-          ∙ ((λ j. record (restage K t f) { others = same_others j; cleared = same_cleared j }) ∙ sym is);
+          ∙ ((λ j. record (restage (core_of r) t f) { others = same_others j; cleared = same_cleared j }) ∙ sym is);
     }
 
     -- where the stage is as it was, the step shows nothing
     pub moved_nothing : (u : Option ℕ)
         → x.words.own t ≡ u
-        → stage_there t (phase_sort p) u p held home ≡ stage K.cells t
+        → stage_there t (phase_sort p) u p held home ≡ stage (core_of r).cells t
         → y.words.others ≡ x.words.others
         → total y.seats.cleared ≡ total x.seats.cleared
         → ShowsNothing cells r.born r.maker x y
     moved_nothing u owns fits same_others same_cleared =
         moved u (λ st. st) owns fits
         ∙ (λ j. record {
-          count = n;
-          cells = sym (put_self K.cells t (K.cells t) refl) j;
+          count = drawn_in cells x;
+          cells = sym (put_self (core_of r).cells t ((core_of r).cells t) refl) j;
           others = same_others j;
           cleared = same_cleared j;
         })
@@ -89,8 +85,8 @@ module _ {B : Type 0} {program : Program B} {cells : ℕ} {x : Contents B} (r : 
     pub turned_event : (u : ℕ) (f : CellStage → CellStage) (e : Event) (others cleared : ℕ)
         → x.words.own t ≡ Some u
         → does_shown t k'.does ≡ f (does_shown t k.does)
-        → Allowed cells K e
-        → after K e ≡ record (restage K t f) { others = others; cleared = cleared }
+        → Allowed cells (core_of r) e
+        → after (core_of r) e ≡ record (restage (core_of r) t f) { others = others; cleared = cleared }
         → y.words.others ≡ others
         → total y.seats.cleared ≡ cleared
         → ShowsEvent cells r.born r.maker x y e r.born r.maker

@@ -1,12 +1,12 @@
 -- A wait is cleared, and OTHERS is lowered for it.
-use Rattle.tj_words.proofs.Prelude.{ClearsWait, Contents, CoreState, Custody, Hand, IsBegun, IsKept, IsRecordIn}
-use Rattle.tj_words.proofs.Prelude.{IsThere, Law, LiesAtHome, LowersOthers, None, Option, Phase, Program, ShowsEvent}
-use Rattle.tj_words.proofs.Prelude.{Some, Way, answer_stage, ap, cell, core_shown, does_stage, drawn_in, hand_of}
-use Rattle.tj_words.proofs.Prelude.{held_of, home_of, parts_of, phase_sort, refl, restage, running, shown_by}
-use Rattle.tj_words.proofs.Prelude.{sort_shown, stage, stage_there, subst, sym, tag_in, waits, ℕ, ⊎_elim, ◌+◌, ◌∙◌, ◌≡◌}
-use Rattle.tj_events.specs.CoreState.{parked}
-use Rattle.tj_events.specs.Events.{raised_by, raised_by_way}
-use Rattle.tj_words.proofs.Lemmas.{begun_there, owner_out, stage_out}
+use Rattle.tj_words.proofs.Prelude.{Contents, Custody, Hand, IsBegun, IsKept, IsRecordIn, IsThere, Law, LiesAtHome}
+use Rattle.tj_words.proofs.Prelude.{None, Option, Phase, Program, Some, Way, answer_stage, ap, cell, does_stage}
+use Rattle.tj_words.proofs.Prelude.{drawn_in, hand_of, held_of, home_of, parked, phase_sort, running, sort_shown, stage}
+use Rattle.tj_words.proofs.Prelude.{stage_there, subst, sym, tag_in, total, waits, ℕ, ⊎_elim, ◌+◌, ◌∙◌, ◌≡◌}
+use Rattle.tj_words.proofs.Lemmas.{ShowsEvent, begun_there, core_of, owner_out, parts_of, shown_by, stage_out}
+use Rattle.tj_words.proofs.Lemmas.{waiter_owned}
+use Rattle.tj_words.proofs.Events.WalkSteps.{ClearsWait, LowersOthers}
+use Rattle.tj_events.specs.Events.{restage, raised_by, raised_by_way}
 use Rattle.tj_words.proofs.Events.TurnedTasks.{moved_event}
 use Rattle.tj_base.specs.declared.cell.Sort.TheVariants as sort
 use Rattle.tj_events.specs.declared.event.Event.TheVariants as event
@@ -15,12 +15,6 @@ use Rattle.tj_words.specs.declared.phase.Phase.TheVariants as phase
 use Rattle.tj_words.specs.declared.view.Does.TheVariants as does
 
 module _ {B : Type 0} {program : Program B} {cells : ℕ} {x : Contents B} (r : Law program cells x) where
-  abbrev n : ℕ
-  n = drawn_in cells x
-
-  abbrev K : CoreState
-  K = core_shown cells r.born r.maker x
-
   -- where a task is that has begun: as its phase says
   pub begun_kept : (t : ℕ) → IsBegun (x.words.phase t) → phase_sort (x.words.phase t) ≡ sort.Task
       → IsKept (x.words.phase t) (r.custody.holder t) (home_of x t)
@@ -34,27 +28,27 @@ module _ {B : Type 0} {program : Program B} {cells : ℕ} {x : Contents B} (r : 
         → ShowsEvent cells r.born r.maker x y (event.Unwait (cell t)) r.born r.maker
     clear_shown t p way to held s =
         moved_event r y t to held s.home s.moved there.0 there.1 (Some owned.0) (λ _. running)
-        (event.Unwait (cell t)) x.words.others (K.cleared + raised_by_way way) owned.1 (⊎_elim to_ready to_run s.goes)
+        (event.Unwait (cell t)) x.words.others (total x.seats.cleared + raised_by_way way) owned.1
+        (⊎_elim to_ready to_run s.goes)
         (p, way, at_stage, owner_out r.born r.maker (parts_of cells x) p cell_there.0 cell_there.1 ∙ s.closed)
-        (λ j. record (restage K t (λ _. running)) { cleared = K.cleared + raised_by (at_stage j) }) s.others s.cleared
+        (λ j. record (restage (core_of r) t (λ _. running)) {
+          cleared = total x.seats.cleared + raised_by (at_stage j);
+        })
+        s.others s.cleared
       where
         begun : IsBegun (x.words.phase t)
         begun = subst IsBegun (sym s.parked) tt
 
-        there : IsThere n (hand_of x) t
+        there : IsThere (drawn_in cells x) (hand_of x) t
         there = begun_there r t begun
 
-        cell_there : IsThere n (hand_of x) p
+        cell_there : IsThere (drawn_in cells x) (hand_of x) p
         cell_there = r.names.waits t (cell p) way walk.Parked s.parked
 
         owned : (u : ℕ) × (x.words.own t ≡ Some u)
-        owned = by (x.words.own t) refl
-          where
-            by : (o : Option ℕ) → x.words.own t ≡ o → (u : ℕ) × (o ≡ Some u)
-            by (Some u) q = (u, refl)
-            by None q = absurd (r.waiters_own t (cell p) way walk.Parked s.parked q)
+        owned = waiter_owned r t (cell p) way walk.Parked s.parked
 
-        at_stage : stage K.cells t ≡ waits p way parked
+        at_stage : stage (core_of r).cells t ≡ waits p way parked
         at_stage = stage_out r.born r.maker (parts_of cells x) t there.0 there.1
             ∙ (λ j. stage_there t (phase_sort (s.parked j)) (owned.1 j) (s.parked j) (held_of x t) (home_of x t))
 

@@ -1,24 +1,12 @@
 -- The steps of a task from its wait on: it raises OTHERS, publishes, walks, and alarms or settles; and its wait is
 -- cleared. Each is said by what it needs of the seat's view and what it changes of all that is shown.
+use Rattle.tj_words.proofs.Prelude.{Contents, Custody, Does, IsIn, IsThere, MayAct, MayWait, Phase, Rec, Reference}
+use Rattle.tj_words.proofs.Prelude.{SawOwner, Walker, Way, cell, drawn_in, hand_of, held_of, home_of, made_by, phase_of}
+use Rattle.tj_words.proofs.Prelude.{raised_by_way, start_walk, total, way_by}
 use Rattle.std.specs.Prelude.{◌≡◌, ◌⊎◌, ℕ, suc, ◌+◌, ◌-◌, ◌<◌, List, Option, Some, None}
-use Rattle.tj_body.specs.Points.{IsIn}
-use Rattle.tj_body.specs.declared.point.Reference.{Reference}
-use Rattle.tj_events.specs.declared.walk.Way.{Way}
-use Rattle.tj_events.specs.declared.walk.Walker.{Walker}
-use Rattle.tj_events.specs.declared.walk.LastRead.TheVariants.{SawOwner}
-use Rattle.tj_events.specs.Events.{start_walk, raised_by_way, MaySettle}
-use Rattle.tj_words.specs.declared.phase.Phase.{Phase}
-use Rattle.tj_words.specs.declared.record.Rec.{Rec}
-use Rattle.tj_words.specs.declared.view.Does.{Does}
-use Rattle.tj_words.specs.declared.view.Custody.{Custody}
-use Rattle.tj_words.specs.Words.Lists.{total, cell}
-use Rattle.tj_words.specs.LawParts.Hands.{IsThere}
-use Rattle.tj_words.specs.LawParts.Holding.{phase_of, made_by}
-use Rattle.tj_words.specs.LawParts.Contents.{Contents, hand_of, drawn_in, home_of, held_of}
+use Rattle.tj_events.specs.Events.{MaySettle}
 use Rattle.tj_words.proofs.Events.ShownParts.{parts_of, moved_parts}
-use Rattle.tj_words.specs.Steps.StepEvents.{MayAct}
 use Rattle.tj_words.proofs.Events.StepEvents.{IsHeldWith}
-use Rattle.tj_words.specs.Steps.WalkSteps.{MayWait, way_by}
 use Rattle.tj_words.specs.declared.phase.Walk.TheVariants as walk
 use Rattle.tj_words.specs.declared.phase.Phase.TheVariants as phase
 use Rattle.tj_words.specs.declared.view.Does.TheVariants as does

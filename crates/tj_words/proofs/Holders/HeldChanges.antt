@@ -1,15 +1,15 @@
 -- A seat notes something else for a task that it holds: what of the law speaks of the lists of tasks is kept.
-use Rattle.tj_words.proofs.Prelude.{AreThere, Bool, CellId, Contents, Custody, Does, Hand, HasAlarmed, IsCustody}
-use Rattle.tj_words.proofs.Prelude.{IsHeldWith, IsIn, IsKept, IsLaid, IsThere, Law, List, None, OfSeat, Option, Phase}
-use Rattle.tj_words.proofs.Prelude.{Program, Rec, Slots, Some, Walk, Way, [], ap, cond, dite, does_cells, drawn_in}
-use Rattle.tj_words.proofs.Prelude.{eq-eqb, find_in, get_elem?, hand_of, held_in, held_of, hold, home_in, home_of, inl}
-use Rattle.tj_words.proofs.Prelude.{inr, let_go, made_by, made_of, making, ne_eqb, owned_by, owned_of, phase_of}
-use Rattle.tj_words.proofs.Prelude.{phase_sort, put, put_here, record_cells, refl, set, some, subst, sym, ℕ, ℕ_discrete}
+use Rattle.tj_words.proofs.Prelude.{AreThere, Bool, CellId, Contents, Custody, Does, Hand, HasAlarmed, IsCustody, IsIn}
+use Rattle.tj_words.proofs.Prelude.{IsKept, IsLaid, IsThere, Law, List, None, OfSeat, Option, Phase, Program, Rec}
+use Rattle.tj_words.proofs.Prelude.{Slots, Some, Walk, Way, [], ap, cond, dite, does_cells, drawn_in, eq-eqb, find_in}
+use Rattle.tj_words.proofs.Prelude.{get_elem?, hand_of, held_in, held_of, hold, home_in, home_of, inl, inr, let_go}
+use Rattle.tj_words.proofs.Prelude.{made_by, made_of, making, ne_eqb, owned_by, owned_of, phase_of, phase_sort, put}
+use Rattle.tj_words.proofs.Prelude.{put_else, put_here, record_cells, refl, set, some, subst, sym, ℕ, ℕ_discrete}
 use Rattle.tj_words.proofs.Prelude.{⊎_elim, ◌+◌, ◌∙◌, ◌∷◌, ◌≡◌, ◌≢◌}
-use Rattle.tj_words.proofs.Lemmas.{custody, find_changed, find_same, held_alone, held_here, hold_else, hold_here}
-use Rattle.tj_words.proofs.Lemmas.{made_held_by, none_some, of_seat_here, one_some, put_is}
-use Rattle.tj_words.proofs.Phases.PhaseSorts.{does_sort}
-use Rattle.tj_words.proofs.Holders.TaskMoves.{TaskMove}
+use Rattle.tj_words.proofs.Lemmas.{IsHeldWith, custody, find_put, held_alone, held_first, held_here, held_rest}
+use Rattle.tj_words.proofs.Lemmas.{hold_else, hold_here, made_held_by, none_some, of_seat_here, one_some, put_is}
+use Rattle.tj_words.proofs.Lemmas.{put_kept}
+use Rattle.tj_words.proofs.Holders.TaskMoves.{does_sort, TaskMove}
 use Rattle.tj_words.specs.declared.view.Does.TheVariants as does
 use Rattle.tj_words.specs.declared.phase.Phase.TheVariants as phase
 
@@ -18,9 +18,8 @@ module _ {B : Type 0} where
   pub held_task : (ks : List (Custody B)) (t : ℕ) (k : Custody B) → held_in ks t ≡ Some k → k.task ≡ t
   held_task [] t k e = none_some None k refl e
   held_task (k' ∷ ks) t k e = dite (ℕ_discrete k'.task t)
-      (λ q. ap (λ (z : Custody B). z.task)
-      (sym (one_some k' k (sym (ap (λ (b : Bool). cond b (Some k') (held_in ks t)) (eq-eqb k'.task t q)) ∙ e))) ∙ q)
-      (λ d. held_task ks t k (sym (ap (λ (b : Bool). cond b (Some k') (held_in ks t)) (ne_eqb k'.task t d)) ∙ e))
+      (λ q. ap (λ (z : Custody B). z.task) (sym (one_some k' k (sym (held_first k' ks t q) ∙ e))) ∙ q)
+      (λ d. held_task ks t k (sym (held_rest k' ks t d) ∙ e))
 
   -- what is let go is an element less
   pub let_go_in : (t : ℕ) (ks : List (Custody B)) (k : Custody B) → IsIn k (let_go t ks) → IsIn k ks
@@ -43,30 +42,24 @@ module _ {B : Type 0} {program : Program B} {cells : ℕ} {x : Contents B} (r : 
   else : (u : ℕ) → u ≢ t → held_in (hold k' h.0) u ≡ held_in h.0 u
   else u n = hold_else k' u h.0 (λ e. n (e ∙ its))
 
-  -- what is found for the task, and for each other one
-  pub find_here : find_in tasks' t ≡ Some k'
-  find_here = find_changed x.seats.tasks id t h.0 (hold k' h.0) h.1 (held_alone r id t (custody r id t k h).mine) ∙ here
-
-  pub find_else : (u : ℕ) → u ≢ t → find_in tasks' u ≡ find_in x.seats.tasks u
-  find_else u n = find_same x.seats.tasks id u h.0 (hold k' h.0) h.1 (else u n)
-
+  -- what is found for each task
   pub found_held : find_in tasks' ≡ put (held_of x) t (Some k')
-  found_held = put_is (held_of x) (find_in tasks') t (Some k') find_here find_else
+  found_held = find_put x.seats.tasks id t h.0 (hold k' h.0) h.1 (held_alone r id t (custody r id t k h).mine) else
+      ∙ ap (put (held_of x) t) here
 
-  -- and so is what each owns
+  -- and so what each owns
   pub owned_held : (λ u. owned_by (find_in tasks' u) (home_of x u)) ≡ put (owned_of x) t k'.owned
-  owned_held = put_is (owned_of x) (λ u. owned_by (find_in tasks' u) (home_of x u)) t k'.owned
-      (ap (λ (o : Option (Custody B)). owned_by o (home_of x t)) find_here)
-      (λ u n. ap (λ (o : Option (Custody B)). owned_by o (home_of x u)) (find_else u n))
+  owned_held = (λ j u. owned_by (found_held j u) (home_of x u))
+      ∙ put_is (owned_of x) (λ u. owned_by (put (held_of x) t (Some k') u) (home_of x u)) t k'.owned
+      (ap (λ (o : Option (Custody B)). owned_by o (home_of x t)) (put_here (held_of x) t (Some k')))
+      (λ u n. ap (λ (o : Option (Custody B)). owned_by o (home_of x u)) (put_else (held_of x) t (Some k') u n))
 
   -- and how many things each has made
   pub made_held : k'.made ≡ k.made → (u : ℕ)
       → made_by (find_in tasks' u) (home_of x u) + making x.seats.hands u ≡ made_of x u
-  made_held e u = dite (ℕ_discrete u t)
-      (λ q. subst (λ z. made_by (find_in tasks' z) (home_of x z) + making x.seats.hands z ≡ made_of x z) (sym q)
-      (ap (λ n. n + making x.seats.hands t) (ap (λ (o : Option (Custody B)). made_by o (home_of x t)) find_here
-      ∙ (e ∙ sym (ap (λ (o : Option (Custody B)). made_by o (home_of x t)) (held_here r id t k h))))))
-      (λ n. ap (λ (o : Option (Custody B)). made_by o (home_of x u) + making x.seats.hands u) (find_else u n))
+  made_held e u = (λ j. made_by (found_held j u) (home_of x u) + making x.seats.hands u)
+      ∙ put_kept (λ u o. made_by o (home_of x u) + making x.seats.hands u) (held_of x) t (Some k')
+      (ap (λ n. n + making x.seats.hands t) (e ∙ made_held_by r id t k h)) u
 
   -- so the task moves, where PHASE of it is as the seat has it, that of each other cell as before, and each other slot
   pub hold_move : (slots : Slots B) → ((u : ℕ) → u ≢ t → get_elem? slots u ≡ get_elem? x.slots u)
@@ -118,9 +111,5 @@ module _ {B : Type 0} {program : Program B} {cells : ℕ} {x : Contents B} (r : 
   }
     where
       kept : (d : Does) → (HasAlarmed d → home_in slots t ≡ None) → IsKept (phase_of d) (Some id) (home_in slots t)
-      kept does.Unborn a = (id, refl)
-      kept does.Fresh a = (id, refl)
-      kept does.Running a = (id, refl)
-      kept does.Raised a = (id, refl)
-      kept (does.Walking c way w) a = (id, refl)
       kept (does.Alarmed c way w) a = inl ((id, refl), a tt)
+      kept d a = (id, refl)

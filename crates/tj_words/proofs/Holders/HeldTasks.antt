@@ -1,8 +1,8 @@
 -- Tasks that seats hold and cells in hand, as searches through the views find them.
 use Rattle.tj_words.proofs.Prelude.{Bool, Custody, Hand, IsIn, List, None, OfSeat, Option, Some, [], ap, arith, cond}
-use Rattle.tj_words.proofs.Prelude.{dite, eq-eqb, false, find_in, get_elem?, get_or, hand_in, held_in, inl, inr, length}
-use Rattle.tj_words.proofs.Prelude.{making, nat_eq, ne_eqb, or_else, refl, some, some-injective, some-ne-none, suc, sym}
-use Rattle.tj_words.proofs.Prelude.{true, zero, ℕ, ℕ_discrete, ⊎_elim, ◌++◌, ◌<◌, ◌∙◌, ◌∷◌, ◌≡◌, ◌≢◌}
+use Rattle.tj_words.proofs.Prelude.{dite, eq-eqb, find_in, get_elem?, get_or, hand_in, held_in, inl, inr, length}
+use Rattle.tj_words.proofs.Prelude.{ne_eqb, or_else, refl, some, some-injective, some-ne-none, suc, sym, zero, ℕ}
+use Rattle.tj_words.proofs.Prelude.{ℕ_discrete, ◌<◌, ◌∙◌, ◌∷◌, ◌≡◌, ◌≢◌}
 
 -- nothing is something
 pub none_some : {A : Type 0} {Z : Type 0} (o : Option A) (a : A) → o ≡ None → o ≡ Some a → Z
@@ -16,6 +16,14 @@ none_unless (Some a) n = absurd (n a refl)
 -- one thing at most
 pub one_some : {A : Type 0} (a b : A) → Some a ≡ Some b → a ≡ b
 one_some a b e = cc
+
+module _ {B : Type 0} (k : Custody B) (ks : List (Custody B)) (t : ℕ) where
+  -- a list has its first element for the task of that, and for each other one what the rest has
+  pub held_first : k.task ≡ t → held_in (k ∷ ks) t ≡ Some k
+  held_first e = ap (λ (b : Bool). cond b (Some k) (held_in ks t)) (eq-eqb k.task t e)
+
+  pub held_rest : k.task ≢ t → held_in (k ∷ ks) t ≡ held_in ks t
+  held_rest n = ap (λ (b : Bool). cond b (Some k) (held_in ks t)) (ne_eqb k.task t n)
 
 module _ {B : Type 0} where
   -- a seat has this for the task
@@ -63,76 +71,19 @@ hand_found (Some g ∷ hands) c h e = dite (ℕ_discrete g.cell c)
     (λ n. let r = hand_found hands c h (sym (ap (λ (b : Bool). cond b (Some g) (hand_in hands c))
     (ne_eqb g.cell c n)) ∙ e) in ((suc r.0.0, r.0.1), r.1))
 
--- what a seat has in hand is found, or something else is
-pub hand_finds : (hands : List (Option Hand)) (j : ℕ) (h : Hand) → get_elem? hands j ≡ some (Some h)
-    → (g : Hand) × (hand_in hands h.cell ≡ Some g)
-hand_finds [] j h e = absurd (some-ne-none (Some h) (sym e))
-hand_finds (None ∷ hands) zero h e = let q : None ≡ Some h = some-injective None (Some h) e in absurd (cc)
-hand_finds (None ∷ hands) (suc j) h e = hand_finds hands j h e
-hand_finds (Some g ∷ hands) j h e = by (nat_eq g.cell h.cell) (λ i q. hand_finds hands i h q) refl
-  where
-    Rest : Type 0
-    Rest = (i : ℕ) → get_elem? hands i ≡ some (Some h) → (z : Hand) × (hand_in hands h.cell ≡ Some z)
-
-    tail : (j : ℕ) → Rest → nat_eq g.cell h.cell ≡ false → get_elem? (Some g ∷ hands) j ≡ some (Some h)
-        → (z : Hand) × (hand_in hands h.cell ≡ Some z)
-    tail zero rec q e = let i : g ≡ h = one_some g h (some-injective (Some g) (Some h) e) in
-        let d : false ≡ true = sym q ∙ eq-eqb g.cell h.cell (ap (λ (z : Hand). z.cell) i) in absurd (cc)
-    tail (suc i) rec q e = rec i e
-
-    by : (b : Bool) → Rest → nat_eq g.cell h.cell ≡ b
-        → (z : Hand) × (cond b (Some g) (hand_in hands h.cell) ≡ Some z)
-    by true rec q = (g, refl)
-    by false rec q = tail j rec q e
-
--- a task makes no cell that is in hand of nobody who makes for it
-pub makes_none : (hands : List (Option Hand)) (t : ℕ)
-    → ((j : ℕ) (h : Hand) → get_elem? hands j ≡ some (Some h) → h.maker ≢ t) → making hands t ≡ 0
-makes_none [] t n = refl
-makes_none (None ∷ hands) t n = makes_none hands t (λ j h e. n (suc j) h e)
-makes_none (Some g ∷ hands) t n =
-    ap (λ (b : Bool). cond b 1 (making hands t)) (ne_eqb g.maker t (n 0 g refl))
-    ∙ makes_none hands t (λ j h e. n (suc j) h e)
-
--- the maker of a cell in hand makes one
-pub makes_one : (hands : List (Option Hand)) (j : ℕ) (h : Hand) → get_elem? hands j ≡ some (Some h)
-    → making hands h.maker ≡ 1
-makes_one [] j h e = absurd (some-ne-none (Some h) (sym e))
-makes_one (None ∷ hands) zero h e = let q : None ≡ Some h = some-injective None (Some h) e in absurd (cc)
-makes_one (None ∷ hands) (suc j) h e = makes_one hands j h e
-makes_one (Some g ∷ hands) j h e = by (nat_eq g.maker h.maker) (λ i q. makes_one hands i h q) refl
-  where
-    Rest : Type 0
-    Rest = (i : ℕ) → get_elem? hands i ≡ some (Some h) → making hands h.maker ≡ 1
-
-    tail : (j : ℕ) → Rest → nat_eq g.maker h.maker ≡ false → get_elem? (Some g ∷ hands) j ≡ some (Some h)
-        → making hands h.maker ≡ 1
-    tail zero rec q e = let i : g ≡ h = one_some g h (some-injective (Some g) (Some h) e) in
-        let d : false ≡ true = sym q ∙ eq-eqb g.maker h.maker (ap (λ (z : Hand). z.maker) i) in absurd (cc)
-    tail (suc i) rec q e = rec i e
-
-    by : (b : Bool) → Rest → nat_eq g.maker h.maker ≡ b → cond b 1 (making hands h.maker) ≡ 1
-    by true rec q = refl
-    by false rec q = tail j rec q e
-
 -- what a seat has for a task is in its list
 pub held_listed : {B : Type 0} (ks : List (Custody B)) (t : ℕ) (k : Custody B) → held_in ks t ≡ Some k → IsIn k ks
 held_listed [] t k e = none_some None k refl e
-held_listed (k' ∷ ks) t k e = dite (ℕ_discrete k'.task t)
-    (λ q. inl (sym (one_some k' k (sym (ap (λ (b : Bool). cond b (Some k') (held_in ks t)) (eq-eqb k'.task t q)) ∙ e))))
-    (λ d. inr (held_listed ks t k (sym (ap (λ (b : Bool). cond b (Some k') (held_in ks t)) (ne_eqb k'.task t d)) ∙ e)))
-
--- an element of either list is one of both together
-pub in_front : {A : Type 0} (a : A) (xs ys : List A) → IsIn a xs → IsIn a (xs ++ ys)
-in_front a [] ys h = absurd h
-in_front a (x ∷ xs) ys h = ⊎_elim (λ (e : a ≡ x). inl e) (λ (i : IsIn a xs). inr (in_front a xs ys i)) h
-
-pub in_back : {A : Type 0} (a : A) (xs ys : List A) → IsIn a ys → IsIn a (xs ++ ys)
-in_back a [] ys h = h
-in_back a (x ∷ xs) ys h = inr (in_back a xs ys h)
+held_listed (k' ∷ ks) t k e = let r = held_listed ks t k in grind arith
 
 -- the element at an index of the list
 pub at_index : {A : Type 0} (l : List A) (c : ℕ) (d : A) → c < length l → get_elem? l c ≡ some (get_or l c d)
 at_index [] c d h = absurd (omega arith)
 at_index (x ∷ xs) zero d h = refl
 at_index (x ∷ xs) (suc c) d h = at_index xs c d (omega arith)
+
+-- an element of the list at its index
+pub index_is : {A : Type 0} (l : List A) (c : ℕ) (d a : A) → get_elem? l c ≡ some a → get_or l c d ≡ a
+index_is [] c d a e = absurd (some-ne-none a (sym e))
+index_is (x ∷ xs) zero d a e = some-injective x a e
+index_is (x ∷ xs) (suc c) d a e = index_is xs c d a e

@@ -1,8 +1,8 @@
 -- A seat's list of tasks in which what it has for one of them is noted anew.
-use Rattle.tj_words.proofs.Prelude.{About, Custody, Due, IsSeat, IsSpent, IsWithinLot, Key, List, Push, Some, View, ap}
-use Rattle.tj_words.proofs.Prelude.{held_in, hold, inr, least_lot, note, noted, ℕ, ⊎_elim, ◌≡◌, ◌≤◌}
+use Rattle.tj_words.proofs.Prelude.{About, BackingOf, Custody, Due, IsSeat, IsSpent, IsWithinLot, Key, List, Push, Some}
+use Rattle.tj_words.proofs.Prelude.{View, WithinLot, ap, held_in, hold, inr, least_lot, noted, ℕ, ⊎_elim, ◌≡◌, ◌≤◌}
+use Rattle.tj_words.specs.SeatViews.TaskLists.{note}
 use Rattle.tj_words.specs.Law.{IsNamed, IsSeatOf, seat_part}
-use Rattle.tj_words.specs.LawParts.LiveCount.{BackingOf}
 use Rattle.tj_words.proofs.Holders.HeldTasks.{none_some}
 
 -- what is noted of a task that the seat has stands in its place
@@ -17,6 +17,17 @@ pub holder_lot : {B : Type 0} (v : View B) (t : ℕ) (k : Custody B) → held_in
 holder_lot v t k e l = ⊎_elim
     (λ (s : IsSpent v). none_some (held_in v.tasks t) k (ap (λ ks. held_in ks t) s.1) e)
     (λ h. h) l.least
+
+-- it has its lot, with other tokens that fit it
+pub holder_within : {B : Type 0} (v : View B) (t : ℕ) (k : Custody B) → held_in v.tasks t ≡ Some k → IsWithinLot v
+    → (tokens : ℕ) (ks : List (Custody B)) → tokens ≤ v.lot
+    → WithinLot v.about ks v.lot v.refused tokens v.cleared
+holder_within v t k e l tokens ks fits = record {
+  least = inr (holder_lot v t k e l);
+  refused_fit = l.refused_fit;
+  tokens_fit = fits;
+  cleared_fit = l.cleared_fit;
+}
 
 -- and names a table
 pub holder_named : {B : Type 0} (v : View B) (t : ℕ) (k : Custody B) → held_in v.tasks t ≡ Some k → IsNamed v
@@ -33,12 +44,7 @@ pub holder_seat : {B : Type 0} (key : Key B) (v : View B) (t : ℕ) (k : Custody
 holder_seat key v t k e h tokens ks pushes dues fits backs = record {
   about = h.about;
   named = inr (holder_named v t k e h.named);
-  within_lot = record {
-    least = inr (holder_lot v t k e h.within_lot);
-    refused_fit = h.within_lot.refused_fit;
-    tokens_fit = fits;
-    cleared_fit = h.within_lot.cleared_fit;
-  };
+  within_lot = holder_within v t k e h.within_lot tokens ks fits;
   backing = backs;
   known_born = h.known_born;
 }

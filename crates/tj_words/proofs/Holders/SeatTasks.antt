@@ -1,10 +1,11 @@
 -- What is found for a task after one seat's list of tasks has changed.
-use Rattle.tj_words.proofs.Prelude.{Bool, Contents, Custody, IsHeldWith, Law, List, None, Option, Program, Some, [], ap}
+use Rattle.tj_words.proofs.Prelude.{Bool, Contents, Custody, Law, List, None, Option, Program, Some, [], ap, arith}
 use Rattle.tj_words.proofs.Prelude.{at_put, cond, dite, eq-eqb, false, find_in, get_elem?, held_in, held_of, hold}
 use Rattle.tj_words.proofs.Prelude.{home_of, let_go, made_by, nat_eq, ne_eqb, or_else, owned_by, owned_of, put}
 use Rattle.tj_words.proofs.Prelude.{put_else, put_here, refl, set, some, some-injective, some-ne-none, subst, suc, sym}
 use Rattle.tj_words.proofs.Prelude.{true, zero, ℕ, ℕ_discrete, ◌∙◌, ◌∷◌, ◌≡◌, ◌≢◌}
-use Rattle.tj_words.proofs.Holders.HeldTasks.{none_some, one_some}
+use Rattle.tj_words.proofs.Events.StepEvents.{IsHeldWith}
+use Rattle.tj_words.proofs.Holders.HeldTasks.{none_some, one_some, held_first, held_rest}
 use Rattle.tj_words.proofs.Holders.TaskPlaces.{custody, has_none, held_here}
 
 -- a column that is this at one index, and as it was elsewhere
@@ -34,41 +35,28 @@ module _ {B : Type 0} where
   -- a task that is let go isn't held; each other one is as before
   pub let_go_here : (t : ℕ) (ks : List (Custody B)) → held_in (let_go t ks) t ≡ None
   let_go_here t [] = refl
-  let_go_here t (k ∷ ks) = by (nat_eq k.task t) refl (let_go_here t ks)
-    where
-      by : (b : Bool) → nat_eq k.task t ≡ b → held_in (let_go t ks) t ≡ None
-          → held_in (cond b (let_go t ks) (k ∷ let_go t ks)) t ≡ None
-      by true e rec = rec
-      by false e rec = ap (λ (b : Bool). cond b (Some k) (held_in (let_go t ks) t)) e ∙ rec
+  let_go_here t (k ∷ ks) = let r = let_go_here t ks in grind arith
 
   pub let_go_else : (t u : ℕ) (ks : List (Custody B)) → u ≢ t → held_in (let_go t ks) u ≡ held_in ks u
   let_go_else t u [] n = refl
-  let_go_else t u (k ∷ ks) n = dite (ℕ_discrete k.task t)
-      (λ e. (ap (λ (b : Bool). held_in (cond b (let_go t ks) (k ∷ let_go t ks)) u) (eq-eqb k.task t e))
-      ∙ (let_go_else t u ks n
-      ∙ sym (ap (λ (b : Bool). cond b (Some k) (held_in ks u)) (ne_eqb k.task u (λ q. n (sym q ∙ e))))))
-      (λ m. (ap (λ (b : Bool). held_in (cond b (let_go t ks) (k ∷ let_go t ks)) u) (ne_eqb k.task t m))
-      ∙ ap (λ o. cond (nat_eq k.task u) (Some k) o) (let_go_else t u ks n))
+  let_go_else t u (k ∷ ks) n = let r = let_go_else t u ks n in grind arith
 
   -- a task that is held from now on is found so; each other one is as before
   pub hold_here : (k : Custody B) (ks : List (Custody B)) → held_in (hold k ks) k.task ≡ Some k
-  hold_here k ks = ap (λ (b : Bool). cond b (Some k) (held_in (let_go k.task ks) k.task)) (eq-eqb k.task k.task refl)
+  hold_here k ks = held_first k (let_go k.task ks) k.task refl
 
   pub hold_held : (k : Custody B) (t : ℕ) (ks : List (Custody B)) → k.task ≡ t → held_in (hold k ks) t ≡ Some k
   hold_held k t ks e = ap (held_in (hold k ks)) (sym e) ∙ hold_here k ks
 
   pub hold_else : (k : Custody B) (u : ℕ) (ks : List (Custody B)) → u ≢ k.task → held_in (hold k ks) u ≡ held_in ks u
-  hold_else k u ks n =
-      ap (λ (b : Bool). cond b (Some k) (held_in (let_go k.task ks) u)) (ne_eqb k.task u (λ e. n (sym e)))
-      ∙ let_go_else k.task u ks n
+  hold_else k u ks n = held_rest k (let_go k.task ks) u (λ e. n (sym e)) ∙ let_go_else k.task u ks n
 
   -- no seat but this has something for the task
   abbrev pub IsAlone : List (List (Custody B)) → ℕ → ℕ → Type 0
   IsAlone seats id t = (j : ℕ) (m : List (Custody B)) → j ≢ id → get_elem? seats j ≡ some m → held_in m t ≡ None
 
   or_none : (o : Option (Custody B)) → or_else o None ≡ o
-  or_none (Some k) = refl
-  or_none None = refl
+  or_none o = grind arith
 
   nowhere : (seats : List (List (Custody B))) (t : ℕ)
       → ((j : ℕ) (m : List (Custody B)) → get_elem? seats j ≡ some m → held_in m t ≡ None)

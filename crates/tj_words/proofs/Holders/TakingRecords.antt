@@ -5,9 +5,8 @@ use Rattle.tj_words.proofs.Prelude.{Point, Program, Rec, Reference, Slots, Some,
 use Rattle.tj_words.proofs.Prelude.{[], ap, begins_self, does_cells, does_first, get_elem?, home_in, home_of, inl, inr}
 use Rattle.tj_words.proofs.Prelude.{none, numbers, owned, phase_of, record_in, refl, some, subst, sym, tag_in, to_task}
 use Rattle.tj_words.proofs.Prelude.{ℕ, ⊎_elim, ◌++◌, ◌∷◌, ◌≡◌, ◌≢◌}
+use Rattle.tj_words.proofs.Lemmas.{AreApartByName, AreFilledIn, FilledIn, ground_of, known_of, no_some}
 use Rattle.tj_body.specs.History.{owned_in}
-use Rattle.tj_words.proofs.Lemmas.{AreApartByName, AreFilledIn, FilledIn, ground_of, known_of}
-use Rattle.tj_words.proofs.Waiters.ChainLists.{no_some}
 use Rattle.tj_words.proofs.Holders.ClaimedRecords.{starts, waited}
 use Rattle.tj_words.proofs.SeatLoads.KnowLoads.{all_cons}
 use Rattle.tj_words.proofs.Meaning.MeaningGrows.{told_on}

@@ -1,19 +1,35 @@
 -- One task moves: what its seat has for it, its record at home and its phase are changed, and nothing of other tasks.
 -- The law after that.
 use Rattle.tj_words.proofs.Prelude.{All, AreThere, Births, CellId, Chains, Contents, CoreFacts, Custodies, Custody}
-use Rattle.tj_words.proofs.Prelude.{Each, Hand, Hands, IsCustody, IsKept, IsMoved, IsThere, Law, List, LiveCount}
-use Rattle.tj_words.proofs.Prelude.{Meaning, None, OfSeat, OnceWords, Option, OwnedLists, Phase, Program, Rec}
-use Rattle.tj_words.proofs.Prelude.{RecordsFit, SeatsHave, Slots, Some, TreeWords, WaitersOwn, Walk, Way, WordsSay, ap}
-use Rattle.tj_words.proofs.Prelude.{arith, bits_in, core_shown, dite, does_cells, drawn_in, find_in, get_elem?, hand_of}
-use Rattle.tj_words.proofs.Prelude.{held_in, held_of, home_in, home_of, made_by, making, owned_by, owned_of, parts_of}
+use Rattle.tj_words.proofs.Prelude.{Does, Each, Hand, Hands, IsCustody, IsKept, IsThere, Law, List, LiveCount, Meaning}
+use Rattle.tj_words.proofs.Prelude.{None, OfSeat, OnceWords, Option, OwnedLists, Phase, Program, Rec, RecordsFit}
+use Rattle.tj_words.proofs.Prelude.{SeatsHave, Slots, Some, TreeWords, WaitersOwn, Walk, Way, WordsSay, ap, arith}
+use Rattle.tj_words.proofs.Prelude.{bits_in, core_shown, dite, does_cells, drawn_in, find_in, get_elem?, hand_of}
+use Rattle.tj_words.proofs.Prelude.{held_in, held_of, home_in, home_of, made_by, making, owned_by, owned_of, phase_of}
 use Rattle.tj_words.proofs.Prelude.{phase_sort, put, put_else, put_here, record_cells, record_in, refl, set, some}
 use Rattle.tj_words.proofs.Prelude.{sort_shown, subst, sym, tag_in, total, ℕ, ℕ_discrete, ◌+◌, ◌∙◌, ◌≡◌, ◌≢◌, ◌≤◌}
-use Rattle.tj_words.proofs.Lemmas.{at_two, back, births_on, each_else, each_set, hand_finds, hand_seat, has_none}
-use Rattle.tj_words.proofs.Lemmas.{none_some, of_seat_set, put_is}
-use Rattle.tj_words.proofs.Holders.SeatTasks.{find_put}
-use Rattle.tj_words.proofs.Phases.PhaseSorts.{sorts_same}
+use Rattle.tj_words.proofs.Lemmas.{IsMoved, at_two, back, births_on, each_else, each_set, find_put, hand_finds}
+use Rattle.tj_words.proofs.Lemmas.{hand_seat, has_none, none_some, of_seat_set, parts_of, put_is}
 use Rattle.tj_base.specs.declared.cell.Sort.TheVariants as sort
 use Rattle.tj_words.specs.declared.phase.Phase.TheVariants as phase
+
+-- a task that a seat holds stands in the phase of a task
+pub does_sort : (d : Does) → phase_sort (phase_of d) ≡ sort.Task
+does_sort d = grind arith
+
+-- a task that is in no hand goes from one phase of tasks to another; the phases of other cells are as before
+pub sorts_same : (hand : ℕ → Option Hand) (phase phases : ℕ → Phase) (t : ℕ) → hand t ≡ None
+    → phase_sort (phase t) ≡ sort.Task
+    → phase_sort (phases t) ≡ sort.Task
+    → ((u : ℕ) → u ≢ t → phases u ≡ phase u)
+    → (c : ℕ)
+    → sort_shown (hand c) (phases c) ≡ sort_shown (hand c) (phase c)
+sorts_same hand phase phases t out was is else c = dite (ℕ_discrete c t)
+    (λ z. ap (λ i. sort_shown (hand i) (phases i)) z ∙ (here ∙ ap (λ i. sort_shown (hand i) (phase i)) (sym z)))
+    (λ m. ap (sort_shown (hand c)) (else c m))
+  where
+    here : sort_shown (hand t) (phases t) ≡ sort_shown (hand t) (phase t)
+    here = ap (λ o. sort_shown o (phases t)) out ∙ (is ∙ (sym was ∙ ap (λ o. sort_shown o (phase t)) (sym out)))
 
 module _ {B : Type 0} {program : Program B} {cells : ℕ} {x : Contents B} (r : Law program cells x) where
   abbrev n : ℕ

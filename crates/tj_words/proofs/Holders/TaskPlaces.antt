@@ -1,15 +1,14 @@
 -- Where a task is and what the core state shows of it, under the law.
-use Rattle.tj_words.proofs.Prelude.{AreThere, Bool, CellStage, Contents, CoreState, Custody, Does, Hand, IsBegun}
-use Rattle.tj_words.proofs.Prelude.{IsCustody, IsHeldWith, IsIn, IsThere, Law, List, None, Option, Program, Rec, Some}
-use Rattle.tj_words.proofs.Prelude.{alarmed, ap, arith, cell, core_shown, dec_le, dite, drawn_in, false, get_elem?}
-use Rattle.tj_words.proofs.Prelude.{hand_in, hand_of, hand_phase, held_in, held_of, home_of, new_stage, owned_by}
-use Rattle.tj_words.proofs.Prelude.{owned_of, parts_of, phase_of, phase_sort, raised, record_cells, refl, running, some}
-use Rattle.tj_words.proofs.Prelude.{some-injective, stage, stage_there, subst, sym, true, waits, walks, ℕ, ◌<◌, ◌∙◌}
-use Rattle.tj_words.proofs.Prelude.{◌≡◌, ◌≢◌, ◌≤◌}
+use Rattle.tj_words.proofs.Prelude.{AreThere, Bool, CellId, CellStage, Contents, Custody, Does, Hand, IsBegun}
+use Rattle.tj_words.proofs.Prelude.{IsCustody, IsIn, IsThere, Law, List, None, Option, Program, Rec, Some, Walk, Way}
+use Rattle.tj_words.proofs.Prelude.{alarmed, ap, arith, dec_le, dite, drawn_in, get_elem?, hand_in, hand_of, hand_phase}
+use Rattle.tj_words.proofs.Prelude.{held_in, held_of, home_of, new_stage, owned_by, owned_of, phase_of, phase_sort}
+use Rattle.tj_words.proofs.Prelude.{raised, record_cells, refl, running, some, some-injective, stage, stage_there}
+use Rattle.tj_words.proofs.Prelude.{subst, sym, waits, walks, ℕ, ◌<◌, ◌∙◌, ◌≡◌, ◌≢◌, ◌≤◌}
+use Rattle.tj_words.proofs.Events.StepEvents.{IsHeldWith, core_of}
+use Rattle.tj_words.proofs.Events.ShownParts.{parts_of}
 use Rattle.tj_words.proofs.Holders.HeldTasks.{none_some, none_unless, one_some, found, finds, hand_found}
 use Rattle.tj_words.proofs.Events.ShownCells.{stage_out}
-use Rattle.tj_base.specs.declared.cell.Sort.TheVariants as sort
-use Rattle.tj_words.specs.declared.phase.Walk.TheVariants as walk
 use Rattle.tj_words.specs.declared.phase.Phase.TheVariants as phase
 use Rattle.tj_words.specs.declared.view.Does.TheVariants as does
 
@@ -26,23 +25,11 @@ module _ {B : Type 0} where
   -- its phase, and what its seat has for it, show that
   pub does_stage_there : (t u : ℕ) (k : Custody B) (home : Option (Rec B)) (d : Does) → k.does ≡ d
       → stage_there t (phase_sort (phase_of d)) (Some u) (phase_of d) (Some k) home ≡ does_shown t d
-  does_stage_there t u k home does.Fresh e = ap (λ (d : Does). stage_there t sort.Task (Some u) phase.Running
-      (Some (record k { does = d })) home) e
-  does_stage_there t u k home does.Running e = ap (λ (d : Does). stage_there t sort.Task (Some u) phase.Running
-      (Some (record k { does = d })) home) e
-  does_stage_there t u k home does.Raised e = ap (λ (d : Does). stage_there t sort.Task (Some u) phase.Running
-      (Some (record k { does = d })) home) e
-  does_stage_there t u k home (does.Walking c way w) e =
-      ap (λ (d : Does). stage_there t sort.Task (Some u) (phase.Waiting (cell c) way walk.Walking)
-      (Some (record k { does = d })) home) e
-  does_stage_there t u k home d e = refl
+  does_stage_there t u k home d e = grind arith
 
   module _ {program : Program B} {cells : ℕ} {x : Contents B} (r : Law program cells x) where
     abbrev n : ℕ
     n = drawn_in cells x
-
-    abbrev K : CoreState
-    K = core_shown cells r.born r.maker x
 
     -- the task is where its phase says, drawn and not in hand
     pub begun_drawn : (t : ℕ) → IsBegun (x.words.phase t) → t < n
@@ -55,11 +42,19 @@ module _ {B : Type 0} where
         unbegun h.marked (subst IsBegun (ap x.words.phase (sym f.1) ∙ i.marked) b))
       where
         unbegun : (m : Bool) → IsBegun (hand_phase m) → ⊥
-        unbegun true h = h
-        unbegun false h = h
+        unbegun m h = grind arith
 
     pub begun_there : (t : ℕ) → IsBegun (x.words.phase t) → IsThere n (hand_of x) t
     begun_there t b = (begun_drawn t b, begun_out t b)
+
+    -- a task that waits has an owner, which is some task
+    pub waiter_owned : (t : ℕ) (c : CellId) (way : Way) (w : Walk) → x.words.phase t ≡ phase.Waiting c way w
+        → (u : ℕ) × (x.words.own t ≡ Some u)
+    waiter_owned t c way w e = by (x.words.own t) refl
+      where
+        by : (o : Option ℕ) → x.words.own t ≡ o → (u : ℕ) × (o ≡ Some u)
+        by (Some u) q = (u, refl)
+        by None q = absurd (r.waiters_own t c way w e q)
 
     -- the maker of a cell in hand is held by the seat that has it in hand
     pub hand_seat : (j : ℕ) (h : Hand) → get_elem? x.seats.hands j ≡ some (Some h) → r.custody.holder h.maker ≡ Some j
@@ -96,6 +91,14 @@ module _ {B : Type 0} where
           let e : g.0 ≡ k = one_some g.0 k (sym f.1.2 ∙ (ap (λ l. held_in l t) ks ∙ h.2)) in
           g.1 ∙ ap (λ (z : Custody B). Some z) e
 
+      -- where its seat has nothing in hand, it makes no cell
+      pub makes_nothing : get_elem? x.seats.hands id ≡ some None → (j : ℕ) (g : Hand)
+          → get_elem? x.seats.hands j ≡ some (Some g) → g.maker ≢ t
+      makes_nothing free j g e q =
+          let i : j ≡ id = one_some j id (sym (hand_seat j g e) ∙ (ap r.custody.holder q ∙ custody.mine)) in
+          let z : None ≡ Some g = some-injective None (Some g)
+          (sym free ∙ (ap (get_elem? x.seats.hands) (sym i) ∙ e)) in absurd (cc)
+
       pub held_drawn : t < n
       held_drawn = dite (dec_le n t)
           (λ (l : n ≤ t). none_some (r.custody.holder t) id (r.custody.undrawn_free t l) custody.mine)
@@ -111,7 +114,7 @@ module _ {B : Type 0} where
 
       -- what is shown of it
       pub stage_held : (u : ℕ) → hand_in x.seats.hands t ≡ None → x.words.own t ≡ Some u
-          → stage K.cells t ≡ does_shown t k.does
+          → stage (core_of r).cells t ≡ does_shown t k.does
       stage_held u out owns = stage_out r.born r.maker (parts_of cells x) t held_drawn out
           ∙ ((λ j. stage_there t (phase_sort (custody.does j)) (owns j) (custody.does j) (held_here j) (home_of x t))
           ∙ does_stage_there t u k (home_of x t) k.does refl)

@@ -1,10 +1,8 @@
 -- What the law says of the meaning, and what a seat knows of its own view, in the terms of the kinds of step.
-use Rattle.tj_words.proofs.Prelude.{AreThere, Contents, Entry, IsNamedThere, Law, List, Program, Reference, bits_in}
-use Rattle.tj_words.proofs.Prelude.{drawn_in, hand_of, home_of, tag_in, ℕ}
+use Rattle.tj_words.proofs.Prelude.{AreThere, Contents, Entry, IsNamedThere, Law, List, Program, Reference, arith}
+use Rattle.tj_words.proofs.Prelude.{bits_in, drawn_in, hand_of, home_of, tag_in, ℕ}
 use Rattle.tj_words.specs.SeatViews.KnownEntries.{NamesOneOf}
 use Rattle.tj_words.proofs.Meaning.MeaningGrows.{Ground, Known, Meant}
-use Rattle.tj_body.specs.declared.point.Value.TheVariants as value
-use Rattle.tj_body.specs.declared.point.Entry.TheVariants as entry
 
 module _ {B : Type 0} where
   -- what the meaning reads of the contents of a table of so many cells, where the cells are these
@@ -23,5 +21,4 @@ module _ {B : Type 0} where
 -- a cell that a seat knows is there: its number may be stored into BITS
 pub known_named : (g : Ground) (known : List ℕ) → AreThere g.drawn g.hand known → (e : Entry) (n : ℕ)
     → NamesOneOf known e n → IsNamedThere g.drawn g.hand e n
-known_named g known there (entry.Value (value.Ref r)) n h = there n h
-known_named g known there other n h = tt
+known_named g known there e n h = grind (arith, there)

@@ -1,20 +1,14 @@
 -- What a record says of a point, and what stands of the meaning, stays as cells are drawn, come out of hand and get
 -- entries.
 use Rattle.tj_words.proofs.Prelude.{All, Answer, ArePairs, Begins, BitsSay, Bool, Close, Entry, Fill, FillSays, Filled}
-use Rattle.tj_words.proofs.Prelude.{Finish, FinishSays, Hand, HasName, HeldSays, InRounds, IsCell, IsFilled, IsFull}
-use Rattle.tj_words.proofs.Prelude.{IsNamedThere, IsThere, IsToldRecord, IsWritten, List, Meaning, None, Option, Point}
-use Rattle.tj_words.proofs.Prelude.{Program, Rec, Reference, Some, StandsIn, Tells, TellsStage, Value, [], at_longer}
-use Rattle.tj_words.proofs.Prelude.{begins_trans, set, subst, sym, to_task, ℕ, ⊎_elim, ◌<◌, ◌∷◌, ◌≡◌, ◌≢◌, ◌⊎◌}
+use Rattle.tj_words.proofs.Prelude.{Finish, Hand, HasName, HeldSays, InRounds, IsCell, IsFilled, IsFull, IsNamedThere}
+use Rattle.tj_words.proofs.Prelude.{IsThere, IsToldRecord, IsWritten, List, Meaning, Option, Point, Program, Rec}
+use Rattle.tj_words.proofs.Prelude.{Reference, Some, StandsIn, Tells, Value, [], arith, at_longer, begins_trans, dite}
+use Rattle.tj_words.proofs.Prelude.{set, subst, sym, to_task, ℕ, ℕ_discrete, ⊎_elim, ◌<◌, ◌∙◌, ◌∷◌, ◌≡◌, ◌≢◌, ◌⊎◌}
+use Rattle.tj_words.specs.LawParts.Telling.{FinishSays, TellsStage, HurtSays}
 use Rattle.tj_base.specs.declared.cause.Cause.{Cause}
 use Rattle.tj_words.specs.declared.record.Hurt.{Hurt}
-use Rattle.tj_words.specs.LawParts.Telling.{HurtSays}
 use Rattle.tj_words.proofs.Stores.SeatLists.{each_set}
-use Rattle.tj_body.specs.declared.ask.Answer.TheVariants as answer
-use Rattle.tj_body.specs.declared.point.Value.TheVariants as value
-use Rattle.tj_body.specs.declared.point.Entry.TheVariants as entry
-use Rattle.tj_words.specs.declared.record.Fill.TheVariants as fill
-use Rattle.tj_words.specs.declared.record.Hurt.TheVariants as hurt
-use Rattle.tj_words.specs.declared.record.Finish.TheVariants as finish
 
 -- lists agree by a relation that the one by which they agree implies
 pub pairs_map : {A C : Type 0} (F G : A → C → Type 0) → ((x : A) (y : C) → F x y → G x y) → (xs : List A)
@@ -29,23 +23,16 @@ module _ (b b' : List Reference) (more : Begins b b') where
   cell_on c x h = subst (λ l. IsCell l c x) (sym more.1) (at_longer b more.0 c x h)
 
   pub bits_on : (e : Entry) (n : ℕ) → BitsSay b e n → BitsSay b' e n
-  bits_on (entry.Value (value.Ref r)) n h = cell_on n r h
-  bits_on e n h = h
+  bits_on e n h = grind (arith, cell_on)
 
   fill_on : (f : Fill) (v : Value) → FillSays b f v → FillSays b' f v
-  fill_on (fill.Num i) v h = h
-  fill_on (fill.Promise c) v h = (h.0, cell_on c.0 _ h.1, h.2)
-  fill_on (fill.Task c) v h = (h.0, cell_on c.0 _ h.1, h.2)
+  fill_on f v h = grind (arith, cell_on)
 
   hurt_on : (f : Hurt) (why : Cause) → HurtSays b f why → HurtSays b' f why
-  hurt_on (hurt.Owner c) why h = (h.0, (h.1.0, cell_on c.0 h.1.0 h.1.1, h.1.2), h.2)
-  hurt_on (hurt.Broken c) why h = (h.0, (h.1.0, cell_on c.0 h.1.0 h.1.1, h.1.2), h.2)
-  hurt_on (hurt.Order c) why h = (h.0, (h.1.0, cell_on c.0 h.1.0 h.1.1, h.1.2), h.2)
-  hurt_on f why h = h
+  hurt_on f why h = grind (arith, cell_on)
 
   finish_on : (f : Finish) (e : Close) → FinishSays b f e → FinishSays b' f e
-  finish_on (finish.Done f) e h = (h.0, fill_on f h.0 h.1, h.2)
-  finish_on (finish.Failed f) e h = (h.0, hurt_on f h.0 h.1, h.2)
+  finish_on f e h = grind (arith, fill_on, hurt_on)
 
   module _ {B : Type 0} where
     pub tells_on : (r : Rec B) (p : Point B) → Tells b r p → Tells b' r p
@@ -66,9 +53,7 @@ module _ (b b' : List Reference) (more : Begins b b') where
 
     pub stage_on : (o : Option Finish) (a : Answer) (spare : Bool) (p : Point B) → TellsStage b o a spare p
         → TellsStage b' o a spare p
-    stage_on (Some f) a spare p h = (h.0, finish_on f h.0 h.1, h.2)
-    stage_on None answer.Start spare p h = h
-    stage_on None a spare p h = h
+    stage_on o a spare p h = grind (arith, finish_on)
 
 module _ {B : Type 0} (program : Program B) (b b' : List Reference) (more : Begins b b')
     (F F' : ℕ → Entry → Type 0) (on : (c : ℕ) (e : Entry) → F c e → F' c e) where
@@ -117,8 +102,7 @@ IsThereOn g g' = (c : ℕ) → IsThere g.drawn g.hand c → IsThere g'.drawn g'.
 
 pub named_on : (g g' : Ground) → IsThereOn g g' → (e : Entry) (n : ℕ) → IsNamedThere g.drawn g.hand e n
     → IsNamedThere g'.drawn g'.hand e n
-named_on g g' there (entry.Value (value.Ref r)) n h = there n h
-named_on g g' there other n h = tt
+named_on g g' there e n h = grind (arith, there)
 
 module _ {B : Type 0} (program : Program B) where
   abbrev pub WrittenIn : Ground → ℕ → Entry → Type 0
@@ -203,13 +187,15 @@ module _ {B : Type 0} (program : Program B) where
         filled_stands = each_set _ k.filled id f m.filled_stands filled;
       }
 
-      -- records leave their slots, or come home that tell a point within
-      pub meaning_moves : (home' : ℕ → Option (Rec B))
-          → ((t : ℕ) (r : Rec B) → home' t ≡ Some r → (home t ≡ Some r) ⊎ ToldIn g r) → Meant count stop g home' k
-      meaning_moves home' lies = record {
+      -- a record leaves its slot, or one comes home that tells a point within
+      pub meaning_moves : (home' : ℕ → Option (Rec B)) (t : ℕ) → ((r : Rec B) → home' t ≡ Some r → ToldIn g r)
+          → ((u : ℕ) → u ≢ t → home' u ≡ home u) → Meant count stop g home' k
+      meaning_moves home' t tells else = record {
         names = m.names;
         entries = m.entries;
-        records = λ t r e. ⊎_elim (λ q. m.records t r q) (λ q. q) (lies t r e);
+        records = λ u r e. dite (ℕ_discrete u t)
+            (λ q. tells r (subst (λ v. home' v ≡ Some r) q e))
+            (λ n. m.records u r (sym (else u n) ∙ e));
         full = m.full;
         stopped = m.stopped;
         begins = m.begins;

@@ -1,25 +1,15 @@
 -- Each kind of step keeps what stands within the meaning.
-use Rattle.tj_words.proofs.Prelude.{All, Becomes, Begins, BitsSay, Entry, Filled, Hand, HasSeen, InRounds, IsCell}
-use Rattle.tj_words.proofs.Prelude.{IsFull, IsIn, IsNamedThere, List, Lots, Name, None, Option, Program, Rec, Reference}
-use Rattle.tj_words.proofs.Prelude.{Some, ToldBy, [], ap, arith, at_snoc, begins_self, dite, entries_are_one, get_elem?}
-use Rattle.tj_words.proofs.Prelude.{in_left, inl, inr, refl, some, some-injective, some-ne-none, subst, suc, sym}
-use Rattle.tj_words.proofs.Prelude.{tag_of, total, zero, ℕ, ℕ_discrete, ⊎_elim, ◌++◌, ◌<◌, ◌∙◌, ◌∷◌, ◌≡◌, ◌≢◌, ◌≤◌, ◌⊎◌}
+use Rattle.tj_words.proofs.Prelude.{Becomes, Begins, BitsSay, Entry, Filled, Hand, HasSeen, InRounds, IsCell, IsFull}
+use Rattle.tj_words.proofs.Prelude.{IsIn, IsNamedThere, List, Lots, Name, None, Option, Program, Rec, Reference, Some}
+use Rattle.tj_words.proofs.Prelude.{ToldBy, [], ap, arith, at_snoc, begins_self, dite, entries_are_one, get_elem?}
+use Rattle.tj_words.proofs.Prelude.{in_left, inl, inr, refl, some, some-injective, subst, suc, sym, tag_of, ℕ}
+use Rattle.tj_words.proofs.Prelude.{ℕ_discrete, ⊎_elim, ◌++◌, ◌<◌, ◌∙◌, ◌∷◌, ◌≡◌, ◌≢◌}
 use Rattle.tj_body.proofs.Lists.{begins_more}
 use Rattle.tj_words.specs.LawParts.Meaning.{HasCell}
-use Rattle.tj_words.proofs.Lemmas.{AreFilledIn, FilledIn, Ground, Known, Meant, grew_wider, knows_now, meaning_grows}
-use Rattle.tj_words.proofs.Lemmas.{wider}
-use Rattle.tj_words.proofs.Meaning.MeaningGrows.{AreWrittenIn, Grew, IsThereOn, ToldIn, WrittenIn, meaning_counts}
-use Rattle.tj_words.proofs.Meaning.MeaningGrows.{meaning_learns, meaning_moves, told_on}
-
--- one element more
-all_more : {A : Type 0} (F : A → Type 0) (x : A) (l : List A) → F x → All F l → All F (x ∷ l)
-all_more F x l h all y i = ⊎_elim (λ (q : y ≡ x). subst F (sym q) h) (λ j. all y j) i
-
--- what holds of all elements of two lists holds of all of both together
-all_both : {A : Type 0} (F : A → Type 0) (l m : List A) → All F l → All F m → All F (l ++ m)
-all_both F [] m h k y i = k y i
-all_both F (x ∷ l) m h k y (inl e) = h y (inl e)
-all_both F (x ∷ l) m h k y (inr i) = all_both F l m (λ z j. h z (inr j)) k y i
+use Rattle.tj_words.proofs.Meaning.MeaningGrows.{AreFilledIn, FilledIn, Ground, Known, Meant, grew_wider, knows_now}
+use Rattle.tj_words.proofs.Meaning.MeaningGrows.{meaning_grows, wider, AreWrittenIn, Grew, IsThereOn, ToldIn, WrittenIn}
+use Rattle.tj_words.proofs.Meaning.MeaningGrows.{meaning_counts, meaning_learns, meaning_moves, told_on}
+use Rattle.tj_words.proofs.Stores.SeatLists.{all_cons, all_append, one_part}
 
 module _ {B : Type 0} (program : Program B) (cells : ℕ) where
   module _ {count stop : ℕ} {g : Ground} {home : ℕ → Option (Rec B)} {k : Known}
@@ -36,11 +26,8 @@ module _ {B : Type 0} (program : Program B) (cells : ℕ) where
     -- a record leaves its slot
     pub out_meant : (home' : ℕ → Option (Rec B)) (t : ℕ) → home' t ≡ None → ((u : ℕ) → u ≢ t → home' u ≡ home u)
         → Meant program cells count stop g home' k
-    out_meant home' t out else = meaning_moves program cells m home' lies where
-      lies : (u : ℕ) (r : Rec B) → home' u ≡ Some r → (home u ≡ Some r) ⊎ ToldIn program g r
-      lies u r e = dite (ℕ_discrete u t)
-          (λ q. let z : None ≡ Some r = sym out ∙ (ap home' (sym q) ∙ e) in absurd (cc))
-          (λ n. inl (sym (else u n) ∙ e))
+    out_meant home' t out else = meaning_moves program cells m home' t
+        (λ r e. let z : None ≡ Some r = sym out ∙ e in absurd (cc)) else
 
     -- the seat
     module _ (id : ℕ) (b : List Reference) (w f : List Filled) (seen : get_elem? k.born_seen id ≡ some b)
@@ -93,15 +80,9 @@ module _ {B : Type 0} (program : Program B) (cells : ℕ) where
       -- a record comes home that tells a point, by what the seat knows
       pub home_meant : (home' : ℕ → Option (Rec B)) (t : ℕ) (r : Rec B) → home' t ≡ Some r
           → ((u : ℕ) → u ≢ t → home' u ≡ home u) → ToldBy program b f r → Meant program cells count stop g home' k
-      home_meant home' t r here else told = meaning_moves program cells m home' lies where
-        now : ToldIn program g r
-        now = told_on program b g.born begins (HasSeen f) (FilledIn program g) (λ c e i. knows _ i) r told
-
-        lies : (u : ℕ) (y : Rec B) → home' u ≡ Some y → (home u ≡ Some y) ⊎ ToldIn program g y
-        lies u y e = dite (ℕ_discrete u t)
-            (λ q. let z : Some r ≡ Some y = sym here ∙ (ap home' (sym q) ∙ e) in let same : r ≡ y = cc in
-            inr (subst (ToldIn program g) same now))
-            (λ n. inl (sym (else u n) ∙ e))
+      home_meant home' t r here else told = meaning_moves program cells m home' t
+          (λ y e. let z : Some r ≡ Some y = sym here ∙ e in let same : r ≡ y = cc in subst (ToldIn program g) same
+          (told_on program b g.born begins (HasSeen f) (FilledIn program g) (λ c d i. knows _ i) r told)) else
 
       -- a record at home is claimed: the seat knows then what all cells are and what has become of those that the
       -- record's point wrote, and the record tells its point by that
@@ -124,7 +105,7 @@ module _ {B : Type 0} (program : Program B) (cells : ℕ) where
               };
             },
             meaning_learns program cells m id g.born w (l.0 ++ f) (begins_self g.born) writes
-                (all_both _ l.0 f l.1 knows),
+                (all_append _ l.0 f l.1 knows),
           )
         where
           known_of : (l : List (Name × Entry))
@@ -135,7 +116,7 @@ module _ {B : Type 0} (program : Program B) (cells : ℕ) where
           known_of (z ∷ zs) h = let one = h z.0 z.1 (inl refl) in
               let rest = known_of zs (λ q e i. h q e (inr i)) in (
                 record { cell = one.0; entry = z.1 } ∷ rest.0,
-                all_more _ (record { cell = one.0; entry = z.1 }) rest.0 one.4 rest.1,
+                all_cons _ (record { cell = one.0; entry = z.1 }) rest.0 one.4 rest.1,
                 (λ q e i. ⊎_elim
                     (λ (p : (q, e) ≡ (z.0, z.1)). (
                       one.0,
@@ -155,6 +136,10 @@ module _ {B : Type 0} (program : Program B) (cells : ℕ) where
             (entries_are_one program x.name d e
             (subst (λ (z : Reference). Becomes program z.name d) same h.becomes) becomes).0
 
+        -- BITS says this entry, and what it names is there
+        abbrev Says : Entry → ℕ → Type 0
+        Says y k = BitsSay g.born y k × IsNamedThere g.drawn g.hand y k
+
         -- the store of BITS
         pub bits_meant : (bits' : ℕ → ℕ) (n : ℕ) → bits' c ≡ n → ((d : ℕ) → d ≢ c → bits' d ≡ g.bits d)
             → BitsSay g.born e n → IsNamedThere g.drawn g.hand e n
@@ -162,7 +147,7 @@ module _ {B : Type 0} (program : Program B) (cells : ℕ) where
             (knows_now id b (record { cell = c; entry = e } ∷ w) f k)
         bits_meant bits' n here else say named =
             meaning_learns program cells grown id b (record { cell = c; entry = e } ∷ w) f begins
-            (all_more _ (record { cell = c; entry = e }) w
+            (all_cons _ (record { cell = c; entry = e }) w
             (record {
               reference = x;
               is = is;
@@ -176,24 +161,20 @@ module _ {B : Type 0} (program : Program B) (cells : ℕ) where
             g' : Ground
             g' = record g { bits = bits' }
 
+            says : (d : ℕ) (y : Entry) → WrittenIn program g d y → Says y (bits' d)
+            says d y h = dite (ℕ_discrete d c)
+                (λ q. let same = one y (subst (λ i. WrittenIn program g i y) q h) in
+                subst (Says y) (sym (ap bits' q ∙ here)) (subst (λ z. Says z n) (sym same) (say, named)))
+                (λ q. subst (Says y) (sym (else d q)) (h.bits_say, h.named_there))
+
             written : (d : ℕ) (y : Entry) → WrittenIn program g d y → WrittenIn program g' d y
-            written d y h = dite (ℕ_discrete d c)
-                (λ q. let h' : WrittenIn program g c y = subst (λ i. WrittenIn program g i y) q h in
-                let same = one y h' in let at : bits' d ≡ n = ap bits' q ∙ here in record {
-                  reference = h.reference;
-                  is = h.is;
-                  becomes = h.becomes;
-                  bits_say = subst (BitsSay g.born y) (sym at) (subst (λ z. BitsSay g.born z n) (sym same) say);
-                  named_there = subst (IsNamedThere g.drawn g.hand y) (sym at)
-                      (subst (λ z. IsNamedThere g.drawn g.hand z n) (sym same) named);
-                })
-                (λ q. record {
-                  reference = h.reference;
-                  is = h.is;
-                  becomes = h.becomes;
-                  bits_say = subst (BitsSay g.born y) (sym (else d q)) h.bits_say;
-                  named_there = subst (IsNamedThere g.drawn g.hand y) (sym (else d q)) h.named_there;
-                })
+            written d y h = let now = says d y h in record {
+              reference = h.reference;
+              is = h.is;
+              becomes = h.becomes;
+              bits_say = now.0;
+              named_there = now.1;
+            }
 
             on : Grew program g g'
             on = record {
@@ -213,7 +194,7 @@ module _ {B : Type 0} (program : Program B) (cells : ℕ) where
       tag_meant tag' c e due here else =
           meaning_learns program cells grown id b w (record { cell = c; entry = e } ∷ f) begins
           (λ y i. written y.cell y.entry (writes y i))
-          (all_more _ (record { cell = c; entry = e }) f new (λ y i. filled_on y.cell y.entry (knows y i)))
+          (all_cons _ (record { cell = c; entry = e }) f new (λ y i. filled_on y.cell y.entry (knows y i)))
         where
           g' : Ground
           g' = record g { tag = tag' }
@@ -251,14 +232,8 @@ module _ {B : Type 0} (program : Program B) (cells : ℕ) where
               (λ s. inr (e, subst (λ i. FilledIn program g' i e) (sym s) new))
               (λ s. inl (λ z. q (else d s ∙ z))))
 
--- a seat's number is at most the sum of all
-total_has : (l : List ℕ) (i a : ℕ) → get_elem? l i ≡ some a → a ≤ total l
-total_has [] i a e = absurd (some-ne-none a (sym e))
-total_has (x ∷ xs) zero a e = let q : x ≡ a = some-injective x a e in omega arith
-total_has (x ∷ xs) (suc i) a e = let h = total_has xs i a e in omega arith
-
 -- where a seat has had a draw refused, COUNT is above the number of cells: it may store STOP
 pub refused_above : (cells count : ℕ) (lots refused : List ℕ) → Lots cells count lots refused → (id r : ℕ)
     → get_elem? refused id ≡ some r → 0 < r → cells < count
 refused_above cells count lots refused h id r at some_refused =
-    let a = h.counted in let b = total_has refused id r at in omega arith
+    let a = h.counted in let b = one_part refused id r at in omega arith

@@ -1,16 +1,20 @@
 -- The cycles of waits of a meaning are those that closed words of it show; so each of them has a member that has
 -- alarmed.
-use Rattle.tj_words.proofs.Prelude.{AreDistinct, Bool, CellId, IsCell, IsIn, List, Name, Owns, Phase, Point, PointStage}
-use Rattle.tj_words.proofs.Prelude.{Program, Reference, RestCell, Walk, Way, [], ap, arith, cell, inl, inr, meaning}
-use Rattle.tj_words.proofs.Prelude.{owned, phase_sort, reference_of, refl, same, same_is, same_self, some-injective}
-use Rattle.tj_words.proofs.Prelude.{some-ne-none, subst, suc, sym, to_map, to_task, true, zero, ℕ, ◌<◌, ◌∙◌, ◌∷◌, ◌≡◌}
-use Rattle.std.proofs.Common.{nat_eq, eqb-true, eq-eqb, length, get_or}
+use Rattle.tj_words.proofs.Prelude.{AreDistinct, Bool, CellId, IsCell, IsIn, List, Name, Owns, Phase, Point, Program}
+use Rattle.tj_words.proofs.Prelude.{Reference, RestCell, Walk, Way, [], ap, cell, owned, phase_sort, reference_of, some}
+use Rattle.tj_words.proofs.Prelude.{some-injective, some-ne-none, suc, sym, to_map, to_task, ℕ, ◌<◌, ◌∙◌, ◌∷◌, ◌≡◌}
+use Rattle.tj_words.proofs.Lemmas.{at_index, index_is, inside, name_of, one_some}
+use Rattle.tj_body.specs.declared.point.PointStage.{PointStage}
+use Rattle.std.proofs.Common.{arith, refl, subst, true, zero, nat_eq, eqb-true, eq-eqb}
+use Rattle.tj_body.specs.Rounds.{meaning}
+use Rattle.tj_body.specs.Names.{same}
+use Rattle.tj_body.proofs.Counts.{same_is, same_self}
 use Rattle.std.specs.Bool.{Decides}
 use Rattle.tj_base.proofs.CycleImages.{AreImages, cycle_list_from}
 use Rattle.tj_words.specs.AtRest.ClosedCells.{IsShown, Waits, Leads, HasAlarmed, AreCyclesAlarmed}
 use Rattle.tj_words.specs.AtRest.RestMeaning.{names, IsPhaseAt, AreWordsOf, AreCyclesOfMeaningAlarmed}
-use Rattle.tj_words.proofs.Lemmas.{at_index, inside, name_of, one_some}
 use Rattle.tj_words.proofs.Meaning.Resting.{in_of_index}
+use Rattle.tj_words.proofs.Meaning.RestingStates.{one_wait}
 use Rattle.tj_base.specs.Cycles as graph
 use Rattle.tj_base.specs.declared.cell.Sort.TheVariants as sort
 use Rattle.tj_body.specs.WaitGraph as meant
@@ -28,11 +32,6 @@ names_apart (x ∷ xs) h (suc c) zero y z e f q = absurd (h.0 (subst (λ w. IsIn
     (q ∙ ap name_of (sym (some-injective x z f))) (to_map name_of y xs (in_of_index xs c y e))))
 names_apart (x ∷ xs) h (suc c) (suc d) y z e f q = ap suc (names_apart xs h.1 c d y z e f q)
 
-contains_in : {A : Type 0} (xs : List A) (k : ℕ) (x : A) → k < length xs → get_or xs k x ≡ x → IsIn x xs
-contains_in [] k x l e = absurd (omega arith)
-contains_in (y ∷ ys) zero x l e = inl (sym e)
-contains_in (y ∷ ys) (suc k) x l e = inr (contains_in ys k x (omega arith) e)
-
 -- a history that waits is shown by a wait
 waits_there : (born : List Reference) (q : PointStage) (p : Phase) (name : Name) (spare : Bool)
     → IsPhaseAt born q p → q ≡ stage.Waits name spare
@@ -45,21 +44,7 @@ waits_there born q p name spare h e = let w = subst (λ z. IsPhaseAt born z p) e
 waits_at : (born : List Reference) (q : PointStage) (p : Phase) (c : CellId) (way : Way) (w : Walk) → IsPhaseAt born q p
     → p ≡ phase.Waiting c way w
     → (r : Reference) × (spare : Bool) × IsCell born c.0 r × (q ≡ stage.Waits r.name spare)
-waits_at born (stage.Answered a) p c way w h e = absurd h
-waits_at born (stage.Closed k) p c way w h e =
-    let z : phase.Waiting c way w ≡ phase.Ended = sym e ∙ h in absurd (cc)
-waits_at born (stage.Waits name spare) p c way w h e =
-    let z : phase.Waiting h.0 h.1 h.2 ≡ phase.Waiting c way w = sym h.4 ∙ e in
-    let n : h.0.0 ≡ c.0 = one_cell z in
-    (h.3, spare, subst (λ k. IsCell born k h.3) n h.6, ap (λ k. stage.Waits k spare) (sym h.7))
-  where
-    one_cell : {c d : CellId} {y z : Way} {w u : Walk} → phase.Waiting c y w ≡ phase.Waiting d z u → c.0 ≡ d.0
-    one_cell e = cc
-
--- one wait for each phase
-one_wait : {c d : CellId} {y z : Way} {w u : Walk} {p : Phase} → p ≡ phase.Waiting c y w → p ≡ phase.Waiting d z u
-    → c.0 ≡ d.0
-one_wait {p} e f = let q = sym e ∙ f in cc
+waits_at born q p c way w h e = grind arith
 
 module _ {B : Type 0} (program : Program B) (N : ℕ) (shown : List RestCell) (born : List Reference)
     (words : AreWordsOf program N born shown) where
@@ -74,8 +59,7 @@ module _ {B : Type 0} (program : Program B) (N : ℕ) (shown : List RestCell) (b
   There c = (r : Reference) × IsCell born c r × (r.sort ≡ sort.Task)
 
   named_is : (c : ℕ) (r : Reference) → IsCell born c r → named c ≡ r.name
-  named_is c r e = ap name_of (some-injective (reference_of born c) r
-      (sym (at_index born c (to_task []) (inside born c r e)) ∙ e))
+  named_is c r e = ap name_of (index_is born c (to_task []) r e)
 
   apart : (c d : ℕ) (y z : Reference) → IsCell born c y → IsCell born d z → y.name ≡ z.name → c ≡ d
   apart = names_apart born words.once
@@ -174,7 +158,8 @@ module _ {B : Type 0} (program : Program B) (N : ℕ) (shown : List RestCell) (b
         reference_of born h.0,
         at_index born h.0 (to_task []) l,
         subst (IsIn (named h.0)) (λ j. a.2 j ∷ w.2 j)
-            (to_map named h.0 (a.0 ∷ w.0) (contains_in (a.0 ∷ w.0) h.1.0 h.0 h.1.1 h.1.2)),
+            (to_map named h.0 (a.0 ∷ w.0) (in_of_index (a.0 ∷ w.0) h.1.0 h.0
+            (at_index (a.0 ∷ w.0) h.1.0 h.0 h.1.1 ∙ ap some h.1.2))),
         h.2,
       )
 

@@ -3,10 +3,10 @@ use Rattle.tj_words.proofs.Prelude.{AlarmsAreOnCycles, AreAlarmsOnCycles, AreAtR
 use Rattle.tj_words.proofs.Prelude.{AreSlots, Bool, CyclesAreWatched, IsLast, IsPromise, IsRooted, Key, List, MayRest}
 use Rattle.tj_words.proofs.Prelude.{None, Option, Program, Rec, RestCell, RestsAtMeaning, Rule, View, [], cell_of}
 use Rattle.tj_words.proofs.Prelude.{get_or, length, subst, sym, ℕ, ◌<◌, ◌↔◌, ◌≡◌}
+use Rattle.tj_words.proofs.Lemmas.{at_index}
 use Rattle.atomic_table.specs.Table.{Final, Seen}
 use Rattle.tj_words.specs.AtRest.RestMeaning.{HaveMeaning}
 use Rattle.tj_words.specs.Inner.ShownCells.{AreTableWords}
-use Rattle.tj_words.proofs.Lemmas.{at_index}
 use Rattle.tj_words.proofs.Meaning.RestingCells as cells
 use Rattle.tj_words.proofs.Meaning.RestingMeaning as meaning
 
@@ -19,9 +19,9 @@ pub record IsRested {B : Type 0} (program : Bool → B → Program B) (limit : �
   pub cycles : AreCyclesAlarmed shown
   pub alarms : AreAlarmsOnCycles shown
 
-module _ {B : Type 0} (program : Bool → B → Program B) (key : Key B) (words : List ℕ) (slots : List (Option (Rec B)))
-    (id : ℕ) (v : View B) (final : Final (Seen (Rule program key) id v) words slots) (may : MayRest v)
-    (shown : List RestCell) where
+module _ {B : Type 0} {program : Bool → B → Program B} {key : Key B} {words : List ℕ} {slots : List (Option (Rec B))}
+    {id : ℕ} {v : View B} (final : Final (Seen (Rule program key) id v) words slots) (may : MayRest v)
+    {shown : List RestCell} where
   rested_here : AreCellsOf words key.cells shown → CyclesAreWatched → AlarmsAreOnCycles
       → ((strict : Bool) (root : B) → IsRooted (program strict root) → RestsAtMeaning (program strict root))
       → ((strict : Bool) (root : B) → IsRooted (program strict root) → IsLast (program strict root))
@@ -31,34 +31,34 @@ module _ {B : Type 0} (program : Bool → B → Program B) (key : Key B) (words 
       let e = subst (λ w. AreCellsOf w key.cells shown) (sym final.2) are in
       let law = rests key.strict key.root.value r.rooted in
       let end = last key.strict key.root.value r.rooted in record {
-        are_slots = meaning.are_slots program key s r id v at may shown e slots final.3 final.4;
-        rest = cells.at_rest program key s r id v at may shown e;
+        are_slots = meaning.are_slots r id at may e slots final.3 final.4;
+        rest = cells.at_rest r id at may e;
         meant = (
           r.law.born,
-          meaning.words_meant program key s r id v at may shown e slots final.3 final.4 law end,
-          meaning.records_meant program key s r id v at may shown e slots final.3 final.4 law end,
+          meaning.words_meant r id at may e slots final.3 final.4 law end,
+          meaning.records_meant r id at may e slots final.3 final.4 law end,
         );
-        cycles = cells.cycles_alarmed program key s r id v at may shown e watched;
-        alarms = cells.alarms_on_cycles program key s r id v at may shown e alarms;
+        cycles = cells.cycles_alarmed r id at may e watched;
+        alarms = cells.alarms_on_cycles r id at may e alarms;
       }
 
   -- the same, where the key names this program and so many cells
-  pub rested : (limit : ℕ) (strict : Bool) (root : B) → key.cells ≡ limit → key.strict ≡ strict
+  pub rested : {limit : ℕ} {strict : Bool} {root : B} → key.cells ≡ limit → key.strict ≡ strict
       → key.root.value ≡ root → AreCellsOf words limit shown → CyclesAreWatched → AlarmsAreOnCycles
       → ((strict : Bool) (root : B) → IsRooted (program strict root) → RestsAtMeaning (program strict root))
       → ((strict : Bool) (root : B) → IsRooted (program strict root) → IsLast (program strict root))
       → IsRested program limit strict root shown slots
-  rested limit strict root a b c are watched alarms rests last =
+  rested {limit} {strict} {root} a b c are watched alarms rests last =
       subst (λ n. IsRested program n strict root shown slots) a
       (subst (λ t. IsRested program key.cells t root shown slots) b
       (subst (λ z. IsRested program key.cells key.strict z shown slots) c
       (rested_here (subst (λ n. AreCellsOf words n shown) (sym a) are) watched alarms rests last)))
 
 -- the words of a table that was closed may stand in their places
-pub final_words : {B : Type 0} (program : Bool → B → Program B) (key : Key B) (words : List ℕ)
-    (slots : List (Option (Rec B))) (id : ℕ) (v : View B) → Final (Seen (Rule program key) id v) words slots
-    → (limit : ℕ) → key.cells ≡ limit → AreTableWords limit words
-final_words program key words slots id v final limit e = let r = final.1.0 in
+pub final_words : {B : Type 0} {program : Bool → B → Program B} {key : Key B} {words : List ℕ}
+    (slots : List (Option (Rec B))) {id : ℕ} {v : View B} → Final (Seen (Rule program key) id v) words slots
+    → {limit : ℕ} → key.cells ≡ limit → AreTableWords limit words
+final_words {key = key} {words = words} slots final e = let r = final.1.0 in
     subst (λ n. AreTableWords n words) e
     (subst (AreTableWords key.cells) final.2 (record { all = r.all_words; few = r.few_cells; codes = r.codes }))
 

@@ -1,19 +1,19 @@
 -- A table at rest has the meaning: what stands in its words and records is what the last round gives.
-use Rattle.tj_words.proofs.Prelude.{Answer, ArePairs, Assignment, Becomes, BitsSay, Bool, Entry, Finish, HeldSays}
-use Rattle.tj_words.proofs.Prelude.{IsCell, IsFull, IsIn, List, Name, None, Option, Point, Program, Rec, Reference}
-use Rattle.tj_words.proofs.Prelude.{RestsAtMeaning, Some, Sort, StandsIn, Tells, TellsStage, WaitsFor, [], ap, arith}
-use Rattle.tj_words.proofs.Prelude.{cells, cond, false, get_elem?, get_or, given, history, inl, inr, last_round, length}
-use Rattle.tj_words.proofs.Prelude.{map, reference, refl, same, same_is, same_self, some, some-injective, some-ne-none}
-use Rattle.tj_words.proofs.Prelude.{sort_tag, subst, suc, sym, tag_of, tasks, to_map, to_task, true, zero, ℕ}
-use Rattle.tj_words.proofs.Prelude.{ℕ_discrete, ⊎_elim, ◌+◌, ◌∙◌, ◌∷◌, ◌≡◌, ◌≢◌, ◌≤◌, ◌⊎◌}
+use Rattle.tj_words.proofs.Prelude.{Answer, ArePairs, Becomes, BitsSay, Bool, Entry, Finish, HeldSays, IsCell, IsFull}
+use Rattle.tj_words.proofs.Prelude.{List, Name, None, Option, Point, Program, Rec, Reference, RestsAtMeaning, Some}
+use Rattle.tj_words.proofs.Prelude.{StandsIn, Tells, TellsStage, WaitsFor, [], ap, arith, cells, dec_le, get_or, given}
+use Rattle.tj_words.proofs.Prelude.{inl, inr, last_round, length, map, refl, some-injective, subst, suc, sym}
+use Rattle.tj_words.proofs.Prelude.{tag_of, tasks, to_map, zero, ℕ, ℕ_discrete, ⊎_elim, ◌∙◌, ◌∷◌, ◌≡◌, ◌≢◌, ◌≤◌, ◌⊎◌}
+use Rattle.tj_body.specs.History.{Assignment, history, reference, to_task}
+use Rattle.tj_body.specs.Points.{IsIn, IsAtRest, HasStopped}
 use Rattle.std.specs.Prelude.{slice_get}
-use Rattle.tj_body.specs.Points.{IsAtRest, HasStopped}
 use Rattle.tj_body.specs.declared.point.Task.{Task}
-use Rattle.tj_words.proofs.Lemmas.{AreApartByName, FilledIn, Ground, Known, Meant, name_of}
-use Rattle.tj_words.proofs.Cells.CellNames.{cell_of_name, length_names}
+use Rattle.tj_words.proofs.Cells.CellNames.{AreApartByName, name_of, cell_of_name, length_names}
+use Rattle.tj_words.proofs.Meaning.MeaningGrows.{FilledIn, Ground, Known, Meant}
+use Rattle.tj_words.proofs.SeatLoads.KnowLoads.{tag_some}
+use Rattle.tj_body.proofs.Counts.{times, in_of_times, times_of_in}
 use Rattle.tj_base.specs.declared.cell.Sort.TheVariants as sort
-use Rattle.tj_body.specs.declared.point.Entry.TheVariants as entry
-use Rattle.tj_body.specs.declared.point.Value.TheVariants as value
+pub use Rattle.tj_words.proofs.Stores.SeatLists.{in_of_index}
 
 module _ {B : Type 0} (born : List Reference) (tag : ℕ → ℕ) (home : ℕ → Option (Rec B)) where
   -- rest: the record of each task lies at home, where the task has ended or waits for a cell of which nothing has
@@ -44,53 +44,6 @@ module _ {B : Type 0} (born : List Reference) (tag : ℕ → ℕ) (home : ℕ �
       pub cells_there : (q : Name) → IsIn q (cells program (last_round N))
           → (c : ℕ) × (x : Reference) × IsCell born c x × (q ≡ x.name)
 
-tag_some : (e : Entry) → tag_of e ≢ 0
-tag_some entry.Broken h = omega arith
-tag_some (entry.Value (value.Num i)) h = omega arith
-tag_some (entry.Value (value.Ref r)) h = by r.sort h where
-  by : (k : Sort) → sort_tag k ≡ 0 → ⊥
-  by sort.Promise h = omega arith
-  by sort.Task h = omega arith
-
--- the entry of the cell with the name, of those from the k-th on
-abbrev entry_shown : (ℕ → Option Entry) → ℕ → List Reference → Assignment
-entry_shown f k [] q = None
-entry_shown f k (x ∷ xs) q = cond (same q x.name) (f k) (entry_shown f (suc k) xs q)
-
-from_shown : (f : ℕ → Option Entry) (k : ℕ) (l : List Reference) (q : Name) (e : Entry) → entry_shown f k l q ≡ Some e
-    → (c : ℕ) × (x : Reference) × (get_elem? l c ≡ some x) × (x.name ≡ q) × (f (k + c) ≡ Some e)
-from_shown f k [] q e h = cc
-from_shown f k (x ∷ xs) q e h = by (from_shown f (suc k) xs q e) (same q x.name) refl h where
-  by : (entry_shown f (suc k) xs q ≡ Some e
-      → (c : ℕ) × (y : Reference) × (get_elem? xs c ≡ some y) × (y.name ≡ q) × (f (suc k + c) ≡ Some e))
-      → (b : Bool) → same q x.name ≡ b → cond b (f k) (entry_shown f (suc k) xs q) ≡ Some e
-      → (c : ℕ) × (y : Reference) × (get_elem? (x ∷ xs) c ≡ some y) × (y.name ≡ q) × (f (k + c) ≡ Some e)
-  by rec true g h =
-      (0, x, refl, sym (same_is q x.name g), subst (λ n. f n ≡ Some e) (let z : k ≡ k + 0 = omega arith in z) h)
-  by rec false g h = let w = rec h in (
-    suc w.0,
-    w.1,
-    w.2,
-    w.3,
-    subst (λ n. f n ≡ Some e) (let z : suc k + w.0 ≡ k + suc w.0 = omega arith in z) w.4,
-  )
-
-shown_is : (f : ℕ → Option Entry) (k : ℕ) (l : List Reference) → AreApartByName l → (c : ℕ) (x : Reference)
-    → get_elem? l c ≡ some x → entry_shown f k l x.name ≡ f (k + c)
-shown_is f k [] a c x h = absurd (some-ne-none x (sym h))
-shown_is f k (y ∷ ys) a zero x h = let e : y ≡ x = some-injective y x h in
-    rw (ap (same x.name) (ap name_of e) ∙ same_self x.name) (ap f (let z : k ≡ k + 0 = omega arith in z))
-shown_is f k (y ∷ ys) a (suc c) x h =
-    by (shown_is f (suc k) ys
-    (λ i j u v p q e. let w : suc i ≡ suc j = a (suc i) (suc j) u v p q e in omega arith) c x h)
-    (same x.name y.name) refl
-  where
-    by : entry_shown f (suc k) ys x.name ≡ f (suc k + c) → (b : Bool) → same x.name y.name ≡ b
-        → cond (same x.name y.name) (f k) (entry_shown f (suc k) ys x.name) ≡ f (k + suc c)
-    by rec true g = absurd
-        (let z : suc c ≡ 0 = a (suc c) 0 x y h refl (same_is x.name y.name g) in omega arith)
-    by rec false g = rw g (rec ∙ ap f (let z : suc k + c ≡ k + suc c = omega arith in z))
-
 -- what the lists have at an index agrees
 pub pairs_at : {A C : Type 0} (F : A → C → Type 0) (xs : List A) (ys : List C) (k : ℕ) (a : A) (d : C)
     → ArePairs F xs ys
@@ -99,12 +52,6 @@ pairs_at F [] ys k a d h e = cc
 pairs_at F (x ∷ xs) [] k a d h e = absurd h
 pairs_at F (x ∷ xs) (y ∷ ys) zero a d h e = let q : x ≡ a = cc in subst (λ z. F z y) q h.0
 pairs_at F (x ∷ xs) (y ∷ ys) (suc k) a d h e = pairs_at F xs ys k a d h.1 e
-
--- what stands at an index is in the list
-pub in_of_index : {A : Type 0} (l : List A) (c : ℕ) (x : A) → get_elem? l c ≡ some x → IsIn x l
-in_of_index [] c x e = absurd (some-ne-none x (sym e))
-in_of_index (y ∷ ys) zero x e = inl (sym (some-injective y x e))
-in_of_index (y ∷ ys) (suc c) x e = inr (in_of_index ys c x e)
 
 -- the point that a record at home shows
 record Found {R P : Type 0} (Shows : R → P → Type 0) (x : Option R) : Type 0 where
@@ -143,12 +90,29 @@ module _ {B : Type 0} (program : Program B) (N : ℕ) {count stop : ℕ} {g : Gr
       only = λ e h. let q : w.0 ≡ e = cc in subst (FilledIn program g c) q w.1;
     }
 
+  -- what has become of the cell of this name, if there is one
+  abbrev shown : (q : Name) → Dec (1 ≤ times q (map name_of g.born)) → Option Entry
+  shown q (yes l) = (has (cell_of_name g.born q (in_of_times q (map name_of g.born) l)).0).entry
+  shown q (no n) = None
+
   abbrev E : Assignment
-  E = entry_shown (λ c. (has c).entry) 0 g.born
+  E q = shown q (dec_le 1 (times q (map name_of g.born)))
 
   E_is : (c : ℕ) (x : Reference) → IsCell g.born c x → E x.name ≡ (has c).entry
-  E_is c x h = shown_is (λ c. (has c).entry) 0 g.born apart c x h
-      ∙ ap (λ n. (has n).entry) (let z : 0 + c ≡ c = omega arith in z)
+  E_is c x h = by (dec_le 1 (times x.name (map name_of g.born))) where
+    by : (d : Dec (1 ≤ times x.name (map name_of g.born))) → shown x.name d ≡ (has c).entry
+    by (yes l) = let w = cell_of_name g.born x.name (in_of_times x.name (map name_of g.born) l) in
+        ap (λ n. (has n).entry) (apart w.0 c w.1 x w.2 h (sym w.3))
+    by (no n) = absurd
+        (n (times_of_in x.name (map name_of g.born) (to_map name_of x g.born (in_of_index g.born c x h))))
+
+  becomes : (q : Name) (e : Entry) (d : Dec (1 ≤ times q (map name_of g.born))) → shown q d ≡ Some e
+      → Becomes program q e
+  becomes q e (yes l) h = let w = cell_of_name g.born q (in_of_times q (map name_of g.born) l) in
+      let f = ((has w.0).only e h).written in
+      subst (λ n. Becomes program n e) (ap name_of (some-injective f.reference w.1 (sym f.is ∙ w.2)) ∙ sym w.3)
+      f.becomes
+  becomes q e (no n) h = cc
 
   record Shows (t : ℕ) (r : Rec B) (p : Point B) : Type 0 where
     own : r.cell.0 ≡ t
@@ -205,12 +169,7 @@ module _ {B : Type 0} (program : Program B) (N : ℕ) {count stop : ℕ} {g : Gr
     written = λ c p q e h i. let w = (laid c).back p h in let x = w.2.stands.writes q e i in
         let y = (has x.0).filled (λ z. tag_some e (sym x.4.tag_is ∙ z)) in
         (y.0, subst (λ n. E n ≡ Some y.0) x.3 (E_is x.0 x.1 x.2 ∙ y.1));
-    entered = λ q e h. let w = from_shown (λ c. (has c).entry) 0 g.born q e h in
-        let f = (has (0 + w.0)).only e w.4 in
-        let one : f.written.reference ≡ w.1 = some-injective f.written.reference w.1
-        (sym (subst (λ n. IsCell g.born n f.written.reference) (let z : 0 + w.0 ≡ w.0 = omega arith in z)
-        f.written.is) ∙ w.2) in
-        subst (λ n. Becomes program n e) (ap name_of one ∙ w.3) f.written.becomes;
+    entered = λ q e h. becomes q e (dec_le 1 (times q (map name_of g.born))) h;
   }
 
   pub rest_meant : IsMeant g.born g.tag home program N g.bits

@@ -1,15 +1,14 @@
 -- What is shown of the cells of a table whose last seat has come back: they are at rest, who they are, and their
 -- cycles.
-use Rattle.tj_words.proofs.Prelude.{AlarmsAreOnCycles, AreAlarmsOnCycles, AreAtRest, AreCellsOf, AreCyclesAlarmed, Bool}
-use Rattle.tj_words.proofs.Prelude.{CellId, CellState, CoreState, CyclesAreWatched, IsCell, IsOfTree, IsShown, IsStill}
-use Rattle.tj_words.proofs.Prelude.{Key, Leads, List, MayRest, Once, Option, Program, Rec, Reference, RestCell, Rule}
-use Rattle.tj_words.proofs.Prelude.{Some, State, View, Waits, Walk, Way, ap, cell, cell_of, child, get_elem?, maker_in}
-use Rattle.tj_words.proofs.Prelude.{nat_eq, once_at, own_at, owner_in, parent_word, parts_of, phase_sort, refl, some}
-use Rattle.tj_words.proofs.Prelude.{some-injective, sort_shown, stage, subst, suc, sym, task_in, tree_word, waits, word}
-use Rattle.tj_words.proofs.Prelude.{zero, ℕ, ⊎_elim, ◌<◌, ◌∙◌, ◌∷◌, ◌≡◌, ◌≢◌}
+use Rattle.tj_words.proofs.Prelude.{AlarmsAreOnCycles, AreAtRest, AreCellsOf, Bool, CellId, CellState, CoreState}
+use Rattle.tj_words.proofs.Prelude.{CyclesAreWatched, IsCell, IsOfTree, IsShown, IsStill, Key, Leads, List, MayRest}
+use Rattle.tj_words.proofs.Prelude.{Once, Option, Program, Rec, Reference, RestCell, Rule, Some, State, View, Waits}
+use Rattle.tj_words.proofs.Prelude.{Walk, Way, ap, arith, cell, cell_of, child, get_elem?, maker_in, nat_eq, once_at}
+use Rattle.tj_words.proofs.Prelude.{own_at, owner_in, parent_word, phase_sort, some, some-injective, sort_shown, stage}
+use Rattle.tj_words.proofs.Prelude.{subst, sym, task_in, tree_word, waits, word, ℕ, ⊎_elim, ◌<◌, ◌∙◌, ◌∷◌, ◌≡◌, ◌≢◌}
+use Rattle.tj_words.proofs.Lemmas.{cell_there, inside, parts_of}
+use Rattle.tj_words.specs.AtRest.ClosedCells.{AreAlarmsOnCycles, AreCyclesAlarmed, HasAlarmed, AreNamed}
 use Rattle.tj_base.proofs.CyclesOn.{cycle_list_moves}
-use Rattle.tj_words.specs.AtRest.ClosedCells.{HasAlarmed, AreNamed}
-use Rattle.tj_words.proofs.Lemmas.{cell_there, inside, one_some}
 use Rattle.tj_events.specs.WaitGraph as core
 use Rattle.tj_words.specs.declared.offsets.Once.TheVariants as once
 use Rattle.tj_words.specs.declared.phase.Phase.TheVariants as phase
@@ -18,26 +17,23 @@ use Rattle.tj_words.proofs.Meaning.RestingStates as rests
 
 -- an owner that is shown is that of the word
 pub owner_back : (w u : ℕ) → task_in w ≡ Some (cell u) → owner_in w ≡ Some u
-owner_back zero u e = cc
-owner_back (suc t) u e = ap (λ (c : CellId). Some c.0) (one_some (cell t) (cell u) e)
+owner_back w u e = grind arith
 
 pub owner_forth : (w u : ℕ) → owner_in w ≡ Some u → task_in w ≡ Some (cell u)
-owner_forth zero u e = cc
-owner_forth (suc t) u e = ap (λ z. Some (cell z)) (one_some t u e)
+owner_forth w u e = grind arith
 
 -- the maker that is shown is that of the cell
 parent_shown : (c maker w : ℕ) → c ≢ 0 → w ≡ parent_word c maker → (maker_in w).0 ≡ maker
-parent_shown zero maker w n e = absurd (n refl)
-parent_shown (suc c) maker w n e = ap (λ z. (maker_in z).0) e
+parent_shown c maker w n e = grind arith
 
-module _ {B : Type 0} (program : Bool → B → Program B) (key : Key B) (s : State (Option (Rec B)) (View B))
-    (r : Rule program key s) (id : ℕ) (v : View B) (at : get_elem? s.views id ≡ some v) (may : MayRest v)
-    (shown : List RestCell) (are : AreCellsOf s.words key.cells shown) where
+module _ {B : Type 0} {program : Bool → B → Program B} {key : Key B} {s : State (Option (Rec B)) (View B)}
+    (r : Rule program key s) (id : ℕ) {v : View B} (at : get_elem? s.views id ≡ some v) (may : MayRest v)
+    {shown : List RestCell} (are : AreCellsOf s.words key.cells shown) where
   abbrev n : ℕ
-  n = rests.n program key s r id v at may
+  n = rests.n r id at may
 
   abbrev K : CoreState
-  K = rests.K program key s r id v at may
+  K = rests.K r id at may
 
   -- which cells are shown, and how
   pub inside_shown : (c : ℕ) (x : RestCell) → IsShown shown c x → c < n
@@ -55,18 +51,17 @@ module _ {B : Type 0} (program : Bool → B → Program B) (key : Key B) (s : St
   -- they are at rest
   pub at_rest : AreAtRest shown
   at_rest = record {
-    still = λ c x e. subst IsStill (sym (phase_shown c x e))
-        (rests.still program key s r id v at may c (inside_shown c x e));
+    still = λ c x e. subst IsStill (sym (phase_shown c x e)) (rests.still r id at may c (inside_shown c x e));
     waits_open = λ t c h.
         let e = sym (phase_shown t h.0 h.3) ∙ h.4 in
         let l = (r.law.names.waits t c h.1 h.2 e).0 in
-        (cell_of s.words c.0, is_shown c.0 l, rests.no_value program key s r id v at may t c h.1 h.2 e);
+        (cell_of s.words c.0, is_shown c.0 l, rests.no_value r id at may t c h.1 h.2 e);
   }
 
   -- the wait graph that is shown is that of the core state
   pub leads_core : (t u : ℕ) → Leads shown t u → core.Leads K.cells t u
   leads_core t u h = let w = h.1 in let o = h.2 in
-      rests.leads_shown program key s r id v at may t u h.0 w.1 w.2 (sym (phase_shown t w.0 w.3) ∙ w.4)
+      rests.leads_shown r id at may t u h.0 w.1 w.2 (sym (phase_shown t w.0 w.3) ∙ w.4)
       (owner_back (word s.words (own_at h.0.0)) u
       (ap (λ (z : RestCell). z.own) (sym (shown_is h.0.0 o.0 o.1)) ∙ o.2))
 
@@ -75,10 +70,10 @@ module _ {B : Type 0} (program : Bool → B → Program B) (key : Key B) (s : St
   waits_shown t c way w l e = (cell_of s.words t, way, w, is_shown t l, e)
 
   pub leads_words : (t u : ℕ) → core.Leads K.cells t u → Leads shown t u
-  leads_words t u h = let w = rests.leads_back program key s r id v at may t u h in
+  leads_words t u h = let w = rests.leads_back r id at may t u h in
       let l = (r.law.names.waits t w.0 w.1 w.2 w.3).0 in (
         w.0,
-        waits_shown t w.0 w.1 w.2 (rests.waiter_there program key s r id v at may t w.0 w.1 w.2 w.3) w.3,
+        waits_shown t w.0 w.1 w.2 (rests.waiter_there r id at may t w.0 w.1 w.2 w.3) w.3,
         (cell_of s.words w.0.0, is_shown w.0.0 l, owner_forth (word s.words (own_at w.0.0)) u w.4),
       )
 
@@ -89,14 +84,13 @@ module _ {B : Type 0} (program : Bool → B → Program B) (key : Key B) (s : St
       (cycle_list_moves (Leads shown) (core.Leads K.cells) (λ a b z h i. leads_core a b h) nat_eq tasks c) in (
         w.0,
         w.1,
-        ⊎_elim (λ h. alarmed w.0 h.0 h.1 h.2)
-            (λ h. absurd (rests.no_walk program key s r id v at may w.0 h.0 h.1 h.2 h.3)) w.2,
+        ⊎_elim (λ h. alarmed w.0 h.0 h.1 h.2) (λ h. absurd (rests.no_walk r id at may w.0 h.0 h.1 h.2 h.3)) w.2,
       )
     where
       alarmed : (u c : ℕ) (way : Way) → stage K.cells u
           ≡ waits c way Rattle.tj_events.specs.CoreState.alarmed → HasAlarmed shown u
-      alarmed u c way e = let p = rests.alarm_phase program key s r id v at may u c way e in
-          let l = rests.waiter_there program key s r id v at may u (cell c) way walk.Alarmed p in
+      alarmed u c way e = let p = rests.alarm_phase r id at may u c way e in
+          let l = rests.waiter_there r id at may u (cell c) way walk.Alarmed p in
           (cell_of s.words u, cell c, way, is_shown u l, p)
 
   -- each task that has alarmed is on a standing cycle
@@ -105,8 +99,7 @@ module _ {B : Type 0} (program : Bool → B → Program B) (key : Key B) (s : St
       let w = law K t r.law.facts (
         h.1.0,
         h.2,
-        rests.alarm_shown program key s r id v at may t h.1 h.2
-            (sym (phase_shown t h.0 h.3) ∙ h.4),
+        rests.alarm_shown r id at may t h.1 h.2 (sym (phase_shown t h.0 h.3) ∙ h.4),
       ) in
       (w.0, cycle_list_moves (core.Leads K.cells) (Leads shown) (λ a b z k i. leads_words a b k) nat_eq (t ∷ w.0) w.1)
 
@@ -130,12 +123,12 @@ module _ {B : Type 0} (program : Bool → B → Program B) (key : Key B) (s : St
         let before : r.law.maker c < c = subst (λ k. k < c)
         (ap (λ (z : CellState). z.maker)
         (cell_there r.law.born r.law.maker (parts_of key.cells
-        (rests.x program key s r id v at may)) c l)) (r.law.facts.makers.makers_before c l nz) in (
+        (rests.x r id at may)) c l)) (r.law.facts.makers.makers_before c l nz) in (
           subst (λ k. k < c) (sym maker) before,
           (b.0, subst (λ k. IsCell r.law.born k b.0) (sym maker) b.1, b.2 ∙ ap (child b.0.name) (sym kid)),
         );
     sorts = λ c x y e f. r.law.births.sorts c y f
-        ∙ (ap (λ o. sort_shown o (cell_of s.words c).phase) (rests.no_hand program key s r id v at may c)
+        ∙ (ap (λ o. sort_shown o (cell_of s.words c).phase) (rests.no_hand r id at may c)
         ∙ ap phase_sort (sym (phase_shown c x e)));
   }
     where
@@ -143,4 +136,4 @@ module _ {B : Type 0} (program : Bool → B → Program B) (key : Key B) (s : St
           → (f : Once) → IsOfTree f
           → word s.words (once_at c f) ≡ tree_word r.law.maker r.law.number r.law.forks
           y.sort c f
-      tree c l {y} e f t = r.law.tree_words.written c y f (rests.there program key s r id v at may c l) e t
+      tree c l {y} e f t = r.law.tree_words.written c y f (rests.there r id at may c l) e t

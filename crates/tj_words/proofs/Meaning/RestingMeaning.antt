@@ -1,20 +1,21 @@
 -- What stands in the words and slots of a table whose last seat has come back is the meaning.
-use Rattle.tj_words.proofs.Prelude.{AreCellsOf, ArePairs, AreSlots, AreWordsOf, Bool, CellId, Contents, HasName}
-use Rattle.tj_words.proofs.Prelude.{HeldSays, IsCell, IsIn, IsLast, IsPhaseAt, IsRecordIn, IsStill, Key, List, MayRest}
-use Rattle.tj_words.proofs.Prelude.{None, Option, Owns, Phase, Point, Program, Rec, Reference, RestCell, RestsAtMeaning}
-use Rattle.tj_words.proofs.Prelude.{Rule, Some, Sort, State, Tells, TellsStage, View, Walk, Way, [], ap, arith, bits_in}
-use Rattle.tj_words.proofs.Prelude.{cell_of, dec_le, dite, get_elem?, get_or, given, held_of, history, home_of, in_map}
-use Rattle.tj_words.proofs.Prelude.{inl, inr, last_round, length, names, numbers, own_at, owned, owned_by}
-use Rattle.tj_words.proofs.Prelude.{owned_of, parts_of, phase_sort, record_in, reference, reference_of, refl, some}
+use Rattle.tj_words.proofs.Prelude.{AreCellsOf, ArePairs, AreSlots, Bool, CellId, Contents, Finish, HasName, HeldSays}
+use Rattle.tj_words.proofs.Prelude.{IsCell, IsHeld, IsIn, IsKept, IsLast, IsRecordIn, IsStill, Key, List, MayRest, None}
+use Rattle.tj_words.proofs.Prelude.{Option, Owns, Phase, Point, Program, Rec, Reference, RestCell, RestsAtMeaning, Rule}
+use Rattle.tj_words.proofs.Prelude.{Some, Sort, State, Tells, TellsStage, View, WaitsFor, Walk, Way, [], ap, arith}
+use Rattle.tj_words.proofs.Prelude.{bits_in, cell_of, dec_le, dite, get_elem?, get_or, given, held_of, history, home_of}
+use Rattle.tj_words.proofs.Prelude.{in_map, inl, inr, last_round, length, names, numbers, own_at, owned, owned_by}
+use Rattle.tj_words.proofs.Prelude.{owned_of, phase_sort, record_in, reference, reference_of, refl, some}
 use Rattle.tj_words.proofs.Prelude.{some-injective, sort_shown, stage_there, subst, sym, tag_in, tasks, to_map, to_task}
-use Rattle.tj_words.proofs.Prelude.{word, ℕ, ℕ_discrete, ◌<◌, ◌↔◌, ◌∙◌, ◌∷◌, ◌≡◌, ◌≢◌, ◌≤◌}
-use Rattle.tj_words.specs.AtRest.RestMeaning.{ShowsHistory, TellsHistory, AreRecordsOf, tag_for}
-use Rattle.tj_words.proofs.Lemmas.{born_apart, cell_born, inside, name_of, none_some, one_some, owner_out, unheld}
-use Rattle.tj_words.proofs.Cells.CellNames.{cell_of_name, distinct_names}
+use Rattle.tj_words.proofs.Prelude.{word, ℕ, ℕ_discrete, ⊎_elim, ◌<◌, ◌↔◌, ◌∙◌, ◌∷◌, ◌≡◌, ◌≢◌, ◌≤◌, ◌⊎◌}
+use Rattle.tj_words.proofs.Lemmas.{born_apart, cell_born, cell_of_name, ground_of, inside, known_of, law_meant, name_of}
+use Rattle.tj_words.proofs.Lemmas.{none_some, owner_out, parts_of, unheld}
+use Rattle.tj_words.specs.AtRest.RestMeaning.{AreWordsOf, IsPhaseAt, ShowsHistory, TellsHistory, AreRecordsOf, tag_for}
+use Rattle.tj_words.proofs.Cells.CellNames.{distinct_names}
 use Rattle.tj_words.proofs.Meaning.ClosedWords.{read_or}
 use Rattle.tj_events.specs.CoreState.{Lives}
-use Rattle.tj_words.proofs.Meaning.Resting.{IsMeant, pairs_at, in_of_index}
-use Rattle.tj_words.proofs.Meaning.RestingTables.{lies, rest_shows, none_ready_at_zero}
+use Rattle.tj_words.proofs.Meaning.Resting.{IsMeant, pairs_at, in_of_index, IsResting, rest_meant}
+use Rattle.tj_body.specs.declared.point.Task.{Task}
 use mathlib.Core.Option as maybe
 use Rattle.tj_base.specs.declared.cell.Sort.TheVariants as sort
 use Rattle.tj_words.specs.declared.phase.Phase.TheVariants as phase
@@ -41,29 +42,35 @@ partner_of F (x ∷ xs) (c ∷ ys) y h (inr i) = let w = partner_of F xs ys y h.
 -- a record that lies at home lies in its slot
 pub slot_of : {B : Type 0} (m : maybe.Option (maybe.Option (Option (Rec B)))) (y : Rec B) → record_in m ≡ Some y
     → m ≡ some (some (Some y))
-slot_of maybe.none y e = cc
-slot_of (maybe.some maybe.none) y e = cc
-slot_of (maybe.some (maybe.some None)) y e = cc
-slot_of {B} (maybe.some (maybe.some (Some z))) y e = ap (λ (o : Rec B). some (some (Some o))) (one_some z y e)
+slot_of m y e = grind arith
+
+-- a task that no seat holds lies at home
+lies : {B : Type 0} (p : Phase) (o : Option ℕ) (h : Option (Rec B)) → ¬ IsHeld o → IsKept p o h
+    → (y : Rec B) × (h ≡ Some y)
+lies phase.Ready o h out k = k.1
+lies phase.Ended o h out k = k.1
+lies phase.Promise o h out k = absurd k
+lies (phase.Waiting c way walk.Parked) o h out k = k.1
+lies (phase.Waiting c way walk.Alarmed) o h out k = ⊎_elim (λ q. absurd (out q.0)) (λ q. q.1) k
+lies p o h out k = absurd (out k)
 
 -- a cell is a promise by its sort exactly where PHASE says so
 promise_is : (p : Phase) → phase_sort p ≡ sort.Promise → p ≡ phase.Promise
-promise_is phase.Promise e = refl
-promise_is p e = cc
+promise_is p e = grind arith
 
-module _ {B : Type 0} (program : Bool → B → Program B) (key : Key B) (s : State (Option (Rec B)) (View B))
-    (r : Rule program key s) (id : ℕ) (v : View B) (at : get_elem? s.views id ≡ some v) (may : MayRest v)
-    (shown : List RestCell) (are : AreCellsOf s.words key.cells shown) (slots : List (Option (Rec B)))
+module _ {B : Type 0} {program : Bool → B → Program B} {key : Key B} {s : State (Option (Rec B)) (View B)}
+    (r : Rule program key s) (id : ℕ) {v : View B} (at : get_elem? s.views id ≡ some v) (may : MayRest v)
+    {shown : List RestCell} (are : AreCellsOf s.words key.cells shown) (slots : List (Option (Rec B)))
     (long : length s.homes ≡ length slots)
     (left : (k : ℕ) (y : Option (Rec B)) → get_elem? s.homes k ≡ some (some y) → get_elem? slots k ≡ some y) where
   abbrev P : Program B
   P = program key.strict key.root.value
 
   abbrev x : Contents B
-  x = rests.x program key s r id v at may
+  x = rests.x r id at may
 
   abbrev n : ℕ
-  n = rests.n program key s r id v at may
+  n = rests.n r id at may
 
   abbrev born : List Reference
   born = r.law.born
@@ -73,22 +80,19 @@ module _ {B : Type 0} (program : Bool → B → Program B) (key : Key B) (s : St
 
   sort_is : (c : ℕ) (y : Reference) → IsCell born c y → y.sort ≡ phase_sort (x.words.phase c)
   sort_is c y e = r.law.births.sorts c y e
-      ∙ ap (λ o. sort_shown o (x.words.phase c))
-      (rests.no_hand program key s r id v at may c)
+      ∙ ap (λ o. sort_shown o (x.words.phase c)) (rests.no_hand r id at may c)
 
   -- the slots
   slot_laid : (t : ℕ) (y : Rec B) → home_of x t ≡ Some y → get_elem? slots t ≡ some (Some y)
   slot_laid t y e = left t (Some y) (slot_of (get_elem? s.homes t) y e)
 
   task_laid : (t : ℕ) → t < n → phase_sort (x.words.phase t) ≡ sort.Task → (y : Rec B) × (home_of x t ≡ Some y)
-  task_laid t l e = lies (x.words.phase t) (r.law.custody.holder t) (home_of x t)
-      (rests.not_held program key s r id v at may t)
-      (rests.kept program key s r id v at may t l (x.words.phase t) refl e)
+  task_laid t l e = lies (x.words.phase t) (r.law.custody.holder t) (home_of x t) (rests.not_held r id at may t)
+      (rests.kept r id at may t l (x.words.phase t) refl e)
 
   promise_slot : (t : ℕ) → t < n → phase_sort (x.words.phase t) ≡ sort.Promise → get_elem? slots t ≡ some None
   promise_slot t l e = left t None (r.law.custody.promises_empty t l
-      (ap (λ o. sort_shown o (x.words.phase t))
-      (rests.no_hand program key s r id v at may t) ∙ e)).0
+      (ap (λ o. sort_shown o (x.words.phase t)) (rests.no_hand r id at may t) ∙ e)).0
 
   slot_back : (t : ℕ) (y : Rec B) → get_elem? slots t ≡ some (Some y) → home_of x t ≡ Some y
   slot_back t y e = dite (dec_le n t)
@@ -104,10 +108,10 @@ module _ {B : Type 0} (program : Bool → B → Program B) (key : Key B) (s : St
 
   pub are_slots : AreSlots shown slots
   are_slots = record {
-    each = let a = are.all in let b = r.all_slots in let f = rests.few program key s r id v at may in omega arith;
+    each = let a = are.all in let b = r.all_slots in let f = rests.few r id at may in omega arith;
     few = let b = r.all_slots in let f = r.few_cells in omega arith;
-    promises = λ c y e. let l = cells.inside_shown program key s r id v at may shown are c y e in
-        let p = cells.phase_shown program key s r id v at may shown are c y e in (
+    promises = λ c y e. let l = cells.inside_shown r id at may are c y e in
+        let p = cells.phase_shown r id at may are c y e in (
           (λ h. p ∙ promise_is (x.words.phase c) (by c l h (phase_sort (x.words.phase c)) refl)),
           (λ h. read_or slots c None None (promise_slot c l (ap phase_sort (sym p ∙ h)))),
         );
@@ -119,6 +123,24 @@ module _ {B : Type 0} (program : Bool → B → Program B) (key : Key B) (s : St
       by c l h sort.Task q = let w = task_laid c l q in
           none_some None w.0 refl (sym h ∙ read_or slots c (Some w.0) None (slot_laid c w.0 w.1))
 
+  -- each task has its record at home, and has ended or waits for a cell of which nothing has become
+  resting : IsResting born (tag_in x) (home_of x)
+  resting = record {
+    at_home = λ c y e is. task_laid c (inside_born c y e) (sym (sort_is c y e) ∙ is);
+    own_slots = r.law.custody.own_slots;
+    stopped = λ t y e. let told = r.law.meaning.records t y e in
+        let is = subst (λ c. IsCell born c (to_task told.point.name)) (r.law.custody.own_slots t y e) told.tells.of in
+        stops t y (x.words.phase t) refl (rests.still r id at may t (inside_born t _ is)) (r.law.records_fit t y e);
+  }
+    where
+      stops : (t : ℕ) (y : Rec B) (p : Phase) → x.words.phase t ≡ p → IsStill p → IsRecordIn (tag_in x) p y
+          → ((f : Finish) × (y.finish ≡ Some f))
+          ⊎ ((y.finish ≡ None) × ((c : ℕ) × WaitsFor y c × (tag_in x c ≡ 0)))
+      stops t y phase.Ended e s i = inl i.0
+      stops t y phase.Promise e s i = absurd i
+      stops t y (phase.Waiting c way w) e s i = inr (i.0, (c.0, i.1, rests.no_value r id at may t c way w e))
+      stops t y p e s i = absurd s
+
   -- what a record at home tells is shown
   module _ (t : ℕ) (y : Rec B) (e : home_of x t ≡ Some y) (p : Point B) (tells : Tells born y p)
       (tells_stage : TellsStage born y.finish y.answer y.spare p) where
@@ -126,13 +148,12 @@ module _ {B : Type 0} (program : Bool → B → Program B) (key : Key B) (s : St
     its_cell = subst (λ c. IsCell born c (to_task p.name)) (r.law.custody.own_slots t y e) tells.of
 
     its_phase : IsPhaseAt born p.stage (x.words.phase t)
-    its_phase = by (x.words.phase t) refl (rests.still program key s r id v at may t (inside_born t _ its_cell))
+    its_phase = by (x.words.phase t) refl (rests.still r id at may t (inside_born t _ its_cell))
         (r.law.records_fit t y e)
       where
         not_walking : (c : CellId) (way : Way) (w : Walk)
             → IsStill (phase.Waiting c way w) → w ≢ walk.Walking
-        not_walking c way walk.Walking h q = h
-        not_walking c way w h q = cc
+        not_walking c way w h q = grind arith
 
         by : (q : Phase) → x.words.phase t ≡ q → IsStill q → IsRecordIn (tag_in x) q y → IsPhaseAt born p.stage q
         by phase.Ended i h f = let w = subst (λ o. TellsStage born o y.answer y.spare p) f.0.1 tells_stage in
@@ -156,7 +177,7 @@ module _ {B : Type 0} (program : Bool → B → Program B) (key : Key B) (s : St
         by q i h f = absurd h
 
     its_list : owned_of x t ≡ numbers y.owned
-    its_list = ap (λ o. owned_by o (home_of x t)) (unheld r.law t (rests.free program key s r id v at may t))
+    its_list = ap (λ o. owned_by o (home_of x t)) (unheld r.law t (rests.free r id at may t))
         ∙ ap (λ o. owned_by None o) e
 
     its_owned : (d : CellId) (z : Reference) → IsCell born d.0 z → Owns shown t d ↔ IsIn z.name (owned p)
@@ -165,12 +186,12 @@ module _ {B : Type 0} (program : Bool → B → Program B) (key : Key B) (s : St
       l = inside_born d.0 z f
 
       owners : (x.words.own d.0 ≡ Some t) ↔ IsIn d.0 (owned_of x t)
-      owners = r.law.owned.owners d.0 t (rests.there program key s r id v at may d.0 l)
+      owners = r.law.owned.owners d.0 t (rests.there r id at may d.0 l)
 
       forth : Owns shown t d → IsIn z.name (owned p)
       forth h =
           let o = cells.owner_back (word s.words (own_at d.0)) t (ap (λ (w : RestCell). w.own)
-          (sym (cells.shown_is program key s r id v at may shown are d.0 h.0 h.1)) ∙ h.2) in
+          (sym (cells.shown_is r id at may are d.0 h.0 h.1)) ∙ h.2) in
           let i = in_map (λ (c : CellId). c.0) d.0 y.owned (subst (IsIn d.0) its_list (owners.0 o)) in
           let w = partner (HasName born) y.owned (owned p) i.0 tells.owned_cells i.1 in
           let same : w.2.0 ≡ z = some-injective w.2.0 z
@@ -184,7 +205,7 @@ module _ {B : Type 0} (program : Bool → B → Program B) (key : Key B) (s : St
           let o = owners.1 (subst (IsIn d.0) (sym its_list)
           (subst (λ k. IsIn k (numbers y.owned)) same (to_map (λ (c : CellId). c.0) w.0 y.owned w.1))) in (
             cell_of s.words d.0,
-            cells.is_shown program key s r id v at may shown are d.0 l,
+            cells.is_shown r id at may are d.0 l,
             cells.owner_forth (word s.words (own_at d.0)) t o,
           )
 
@@ -192,7 +213,7 @@ module _ {B : Type 0} (program : Bool → B → Program B) (key : Key B) (s : St
     shows = record {
       is = its_cell;
       x = cell_of s.words t;
-      is_shown = cells.is_shown program key s r id v at may shown are t (inside_born t _ its_cell);
+      is_shown = cells.is_shown r id at may are t (inside_born t _ its_cell);
       phase_is = its_phase;
       owns = its_owned;
     }
@@ -207,16 +228,22 @@ module _ {B : Type 0} (program : Bool → B → Program B) (key : Key B) (s : St
     }
 
   module _ (law : RestsAtMeaning P) (last : IsLast P) where
+    -- the tasks of the last round, and a task's history
+    abbrev round : List (Task B)
+    round = tasks P (last_round key.cells)
+
+    abbrev lived : Task B → Point B
+    lived = history P.rules (given P (last_round key.cells))
+
     m : IsMeant born (tag_in x) (home_of x) P key.cells (bits_in x)
-    m = rest_shows P key.cells x r.law (rests.idle program key s r id v at may)
-        (none_ready_at_zero P key.cells x r.law (rests.live_zero program key s r id v at may))
-        (rests.no_value program key s r id v at may) law
+    m = rest_meant P key.cells {g = ground_of key.cells born x} {k = known_of x} (law_meant P key.cells x r.law)
+        (born_apart r.law) r.law.births.root (let b = r.law.births.all in omega arith) resting law
 
     -- the words are those of the meaning
     pub words_meant : AreWordsOf P key.cells born shown
     words_meant = record {
       fits = m.fits;
-      named = cells.named program key s r id v at may shown are;
+      named = cells.named r id at may are;
       once = distinct_names born (born_apart r.law);
       all = λ q. (
         (λ i. let w = cell_of_name born q i in let k = r.law.meaning.names w.0 w.1 w.2 in
@@ -225,19 +252,13 @@ module _ {B : Type 0} (program : Bool → B → Program B) (key : Key B) (s : St
         (λ i. let w = m.cells_there q i in subst (λ z. IsIn z (names born)) (sym w.3)
             (to_map name_of w.1 born (in_of_index born w.0 w.1 w.2))),
       );
-      entries = λ c y z e f. ap (λ (w : RestCell). w.tag)
-          (cells.shown_is program key s r id v at may shown are c y e) ∙ entry_is c z f;
+      entries = λ c y z e f. ap (λ (w : RestCell). w.tag) (cells.shown_is r id at may are c y e) ∙ entry_is c z f;
       owners = λ u c h. owner_is u c (cells.owner_back (word s.words (own_at c.0)) u (ap (λ (w : RestCell). w.own)
-          (sym (cells.shown_is program key s r id v at may shown are c.0 h.0 h.1)) ∙ h.2));
-      histories = λ p i. let w = in_map (history P.rules (given P (last_round key.cells))) p
-          (tasks P (last_round key.cells)) i in let y = m.tasks_there w.0 w.1 in
+          (sym (cells.shown_is r id at may are c.0 h.0 h.1)) ∙ h.2));
+      histories = λ p i. let w = in_map lived p round i in let y = m.tasks_there w.0 w.1 in
           (y.0, subst (ShowsHistory born shown y.0) (sym w.2) (shows y.0 y.1 y.2 _ y.3 y.4));
       tasks = λ c z f g. let y = task_laid c (inside_born c z f) (sym (sort_is c z f) ∙ g) in
-          let u = m.records c y.0 y.1 in (
-            history P.rules (given P (last_round key.cells)) u.0,
-            to_map (history P.rules (given P (last_round key.cells))) u.0 (tasks P (last_round key.cells)) u.1,
-            shows c y.0 y.1 _ u.2 u.3,
-          );
+          let u = m.records c y.0 y.1 in (lived u.0, to_map lived u.0 round u.1, shows c y.0 y.1 _ u.2 u.3);
     }
       where
         owner_is : (u : ℕ) (c : CellId) → x.words.own c.0 ≡ Some u
@@ -249,9 +270,8 @@ module _ {B : Type 0} (program : Bool → B → Program B) (key : Key B) (s : St
                 → (reference_of born u).sort ≡ k → k ≡ sort.Task
             by u c o l k sort.Task e = refl
             by u c o l k sort.Promise e = let lives = r.law.facts.owners.owners_live c.0 u
-                (owner_out born r.law.maker (parts_of key.cells x) c.0 l
-                (rests.no_hand program key s r id v at may c.0) ∙ o) in
-                absurd (subst Lives (rests.stage_is program key s r id v at may u k
+                (owner_out born r.law.maker (parts_of key.cells x) c.0 l (rests.no_hand r id at may c.0) ∙ o) in
+                absurd (subst Lives (rests.stage_is r id at may u k
                 ∙ ap (λ z. stage_there u z (x.words.own u) (x.words.phase u) (held_of x u) (home_of x u))
                 (sym (sort_is u (reference_of born u) (cell_born r.law u k)) ∙ e)) lives)
 
@@ -264,12 +284,8 @@ module _ {B : Type 0} (program : Bool → B → Program B) (key : Key B) (s : St
     -- and so are the records
     pub records_meant : AreRecordsOf P key.cells born slots
     records_meant = record {
-      histories = λ p i. let w = in_map (history P.rules (given P (last_round key.cells))) p
-          (tasks P (last_round key.cells)) i in let y = m.tasks_there w.0 w.1 in
+      histories = λ p i. let w = in_map lived p round i in let y = m.tasks_there w.0 w.1 in
           (y.0, subst (TellsHistory born slots y.0) (sym w.2) (told y.0 y.1 y.2 _ y.3 y.4));
-      tasks = λ c y e. let h = slot_back c y e in let u = m.records c y h in (
-        history P.rules (given P (last_round key.cells)) u.0,
-        to_map (history P.rules (given P (last_round key.cells))) u.0 (tasks P (last_round key.cells)) u.1,
-        told c y h _ u.2 u.3,
-      );
+      tasks = λ c y e. let h = slot_back c y e in let u = m.records c y h in
+          (lived u.0, to_map lived u.0 round u.1, told c y h _ u.2 u.3);
     }

@@ -1,36 +1,23 @@
 -- A table whose last seat has come back: no other seat is in use, no task is held, ready or live, no cell is in hand,
 -- and nothing has become of what a task waits for.
-use Rattle.tj_words.proofs.Prelude.{Bool, CellId, Contents, Custody, Each, Hand, IsHeld, IsKept, IsSpent, IsStill}
-use Rattle.tj_words.proofs.Prelude.{IsThere, IsWithinLot, Key, List, MayRest, None, Option, Phase, Program, Rec, Rule}
-use Rattle.tj_words.proofs.Prelude.{Some, State, Tag, View, Walk, Walker, Way, [], ap, arith, at_map, cell, contents_of}
-use Rattle.tj_words.proofs.Prelude.{core_shown, dec_le, dite, drawn_in, get_elem?, hand_of, held_in, held_of, home_of}
-use Rattle.tj_words.proofs.Prelude.{live_part, map, owner, parts_of, phase_sort, refl, some, some-injective}
-use Rattle.tj_words.proofs.Prelude.{some-ne-none, sort_shown, stage, stage_there, subst, suc, sym, tag_in, total}
-use Rattle.tj_words.proofs.Prelude.{wait_in, waits, zero, ℕ, ℕ_discrete, ⊎_elim, ◌+◌, ◌<◌, ◌∙◌, ◌∷◌, ◌≡◌, ◌≢◌, ◌≤◌}
+use Rattle.tj_words.proofs.Prelude.{Bool, CellId, CellState, Contents, CoreState, Custody, Each, Hand, IsHeld, IsKept}
+use Rattle.tj_words.proofs.Prelude.{IsSpent, IsStill, IsThere, IsWithinLot, Key, List, MayRest, None, Option, Phase}
+use Rattle.tj_words.proofs.Prelude.{Program, Rec, Rule, Some, State, Tag, View, Walk, Walker, Way, [], alarmed, ap}
+use Rattle.tj_words.proofs.Prelude.{arith, at_map, cell, contents_of, core_shown, dec_le, dite, drawn_in, get_elem?}
+use Rattle.tj_words.proofs.Prelude.{hand_of, held_in, held_of, home_of, live_part, live_tasks, owner, phase_sort, refl}
+use Rattle.tj_words.proofs.Prelude.{some, some-injective, some-ne-none, sort_shown, stage, stage_there, subst, suc, sym}
+use Rattle.tj_words.proofs.Prelude.{tag_in, total, wait_in, wait_of, waits, walks, zero, ℕ, ℕ_discrete, ⊎_elim, ◌+◌}
+use Rattle.tj_words.proofs.Prelude.{◌<◌, ◌∙◌, ◌∷◌, ◌≡◌, ◌≢◌, ◌≤◌}
+use Rattle.tj_words.proofs.Lemmas.{cell_blank, hand_found, none_some, owner_out, parts_of, stage_out, wait_shown}
 use Rattle.tj_base.proofs.Ways.{reach_front}
-use Rattle.tj_events.specs.CoreState.{CoreState, walks, alarmed, promise, WaitStage, CellState, wait_of}
 use Rattle.tj_events.specs.WaitGraph.{Leads, Reaches}
-use Rattle.tj_words.proofs.Cells.CellFacts.{wait_shown}
-use Rattle.tj_words.proofs.Lemmas.{cell_blank, hand_found, none_some, owner_out, stage_out}
 use Rattle.tj_words.proofs.Waiters.LiveSteps.{none_left_waiting}
-use Rattle.tj_words.proofs.Meaning.RestingTables.{none_live}
 use Rattle.tj_base.specs.declared.cell.Sort.TheVariants as sort
 use Rattle.tj_words.specs.declared.phase.Phase.TheVariants as phase
 use Rattle.tj_words.specs.declared.phase.Walk.TheVariants as walk
+pub use Rattle.tj_words.proofs.Stores.SeatLists.{map_back, one_part}
 
--- what stands at an index of a mapped list
-pub map_back : {A C : Type 0} (f : A → C) (l : List A) (i : ℕ) (c : C) → get_elem? (map f l) i ≡ some c
-    → (a : A) × (get_elem? l i ≡ some a) × (f a ≡ c)
-map_back f [] i c e = absurd (some-ne-none c (sym e))
-map_back f (x ∷ xs) zero c e = (x, refl, some-injective (f x) c e)
-map_back f (x ∷ xs) (suc i) c e = map_back f xs i c e
-
--- one of the numbers, and two of them, are no more than the sum
-pub one_part : (l : List ℕ) (i a : ℕ) → get_elem? l i ≡ some a → a ≤ total l
-one_part [] i a e = absurd (some-ne-none a (sym e))
-one_part (x ∷ xs) zero a e = let q : x ≡ a = some-injective x a e in omega arith
-one_part (x ∷ xs) (suc i) a e = let q = one_part xs i a e in omega arith
-
+-- two of the numbers are no more than the sum
 pub two_parts : (l : List ℕ) (i j a b : ℕ) → j ≢ i → get_elem? l i ≡ some a → get_elem? l j ≡ some b → a + b ≤ total l
 two_parts [] i j a b n e f = absurd (some-ne-none a (sym e))
 two_parts (x ∷ xs) zero zero a b n e f = absurd (n refl)
@@ -39,6 +26,13 @@ two_parts (x ∷ xs) zero (suc j) a b n e f = let q : x ≡ a = some-injective x
 two_parts (x ∷ xs) (suc i) zero a b n e f = let q : x ≡ b = some-injective x b f in let p = one_part xs i a e in
     omega arith
 two_parts (x ∷ xs) (suc i) (suc j) a b n e f = let p = two_parts xs i j a b (λ q. n (ap suc q)) e f in omega arith
+
+-- where no task is live, each of them isn't
+none_live : (phases : ℕ → Phase) (n t : ℕ) → t < n → live_tasks phases n ≡ 0 → live_part (phases t) ≡ 0
+none_live phases zero t l e = absurd (omega arith)
+none_live phases (suc n) t l e = dite (ℕ_discrete t n)
+    (λ q. ap (λ k. live_part (phases k)) q ∙ (let z : live_part (phases n) ≡ 0 = omega arith in z))
+    (λ q. none_live phases n t (omega arith) (omega arith))
 
 module _ {B : Type 0} where
   pub no_lot_no_task : (v : View B) → IsWithinLot v → v.lot ≡ 0 → v.tasks ≡ []
@@ -50,48 +44,31 @@ module _ {B : Type 0} (t : ℕ) where
   alarm_out : (o : Option ℕ) (p : Phase) (c : CellId) (way : Way) (held : Option (Custody B)) (home : Option (Rec B))
       → o ≢ None → p ≡ phase.Waiting c way walk.Alarmed
       → stage_there t (phase_sort p) o p held home ≡ waits c.0 way alarmed
-  alarm_out None p c way held home n e = absurd (n refl)
-  alarm_out (Some u) p c way held home n e = ap (λ z. stage_there t (phase_sort z) (Some u) z held home) e
+  alarm_out o p c way held home n e = grind arith
 
   -- and what shows it has alarmed
   alarm_back : (o : Option ℕ) (p : Phase) (c : ℕ) (way : Way) (held : Option (Custody B)) (home : Option (Rec B))
       → IsStill p → stage_there t (phase_sort p) o p held home ≡ waits c way alarmed
       → p ≡ phase.Waiting (cell c) way walk.Alarmed
-  alarm_back None phase.Ended c way held home s e = cc
-  alarm_back (Some u) phase.Ended c way held home s e = cc
-  alarm_back None phase.Promise c way held home s e = cc
-  alarm_back (Some u) phase.Promise c way held home s e = cc
-  alarm_back None (phase.Waiting d y walk.Parked) c way held home s e = cc
-  alarm_back (Some u) (phase.Waiting d y walk.Parked) c way held home s e = cc
-  alarm_back None (phase.Waiting d y walk.Alarmed) c way held home s e = cc
-  alarm_back (Some u) (phase.Waiting d y walk.Alarmed) c way held home s e =
-      let p : d.0 ≡ c = cc in let q : y ≡ way = cc in
-      λ j. phase.Waiting (record { 0 = p j }) (q j) walk.Alarmed
-  alarm_back None p c way held home s e = absurd s
-  alarm_back (Some u) p c way held home s e = absurd s
+  alarm_back o p c way held home s e = grind arith
 
   -- no still task shows a walk
   walk_back : (o : Option ℕ) (p : Phase) (c : ℕ) (way : Way) (w : Walker) (held : Option (Custody B))
       (home : Option (Rec B)) → IsStill p → stage_there t (phase_sort p) o p held home ≡ waits c way (walks w) → ⊥
-  walk_back None phase.Ended c way w held home s e = cc
-  walk_back (Some u) phase.Ended c way w held home s e = cc
-  walk_back None phase.Promise c way w held home s e = cc
-  walk_back (Some u) phase.Promise c way w held home s e = cc
-  walk_back None (phase.Waiting d y walk.Parked) c way w held home s e = cc
-  walk_back (Some u) (phase.Waiting d y walk.Parked) c way w held home s e = cc
-  walk_back None (phase.Waiting d y walk.Alarmed) c way w held home s e = cc
-  walk_back (Some u) (phase.Waiting d y walk.Alarmed) c way w held home s e = cc
-  walk_back None p c way w held home s e = s
-  walk_back (Some u) p c way w held home s e = s
+  walk_back o p c way w held home s e = grind arith
+
+-- one wait for each phase
+pub one_wait : {c d : CellId} {y z : Way} {w u : Walk} {p : Phase} → p ≡ phase.Waiting c y w
+    → p ≡ phase.Waiting d z u → c.0 ≡ d.0
+one_wait e f = let q = sym e ∙ f in cc
 
 -- a phase that names a cell waits for it
 waits_back : (p : Phase) (c : ℕ) → wait_in p ≡ Some c
     → (d : CellId) × (way : Way) × (w : Walk) × (p ≡ phase.Waiting d way w) × (d.0 ≡ c)
-waits_back (phase.Waiting d way w) c e = (d, way, w, refl, (let q : d.0 ≡ c = cc in q))
-waits_back p c e = cc
+waits_back p c e = grind arith
 
-module _ {B : Type 0} (program : Bool → B → Program B) (key : Key B) (s : State (Option (Rec B)) (View B))
-    (r : Rule program key s) (id : ℕ) (v : View B) (at : get_elem? s.views id ≡ some v) (may : MayRest v) where
+module _ {B : Type 0} {program : Bool → B → Program B} {key : Key B} {s : State (Option (Rec B)) (View B)}
+    (r : Rule program key s) (id : ℕ) {v : View B} (at : get_elem? s.views id ≡ some v) (may : MayRest v) where
   abbrev pub P : Program B
   P = program key.strict key.root.value
 
@@ -164,11 +141,8 @@ module _ {B : Type 0} (program : Bool → B → Program B) (key : Key B) (s : St
     by phase.Unborn e = absurd (not_held t (kept t l phase.Unborn e refl))
     by phase.Ready e = let z : live_part phase.Ready ≡ 0 = ap live_part (sym e) ∙ not_live t l in absurd (omega arith)
     by phase.Running e = absurd (not_held t (kept t l phase.Running e refl))
-    by phase.Ended e = tt
-    by phase.Promise e = tt
     by (phase.Waiting c way walk.Walking) e = absurd (not_held t (kept t l (phase.Waiting c way walk.Walking) e refl))
-    by (phase.Waiting c way walk.Parked) e = tt
-    by (phase.Waiting c way walk.Alarmed) e = tt
+    by p e = tt
 
   -- a task that waits is there
   pub waiter_there : (t : ℕ) (c : CellId) (way : Way) (w : Walk) → x.words.phase t ≡ phase.Waiting c way w → t < n
@@ -187,22 +161,20 @@ module _ {B : Type 0} (program : Bool → B → Program B) (key : Key B) (s : St
       ∙ alarm_out t (x.words.own t) (x.words.phase t) c way (held_of x t) (home_of x t)
       (r.law.waiters_own t c way walk.Alarmed e) e
 
-  drawn_stage : (t c : ℕ) (way : Way) (w : WaitStage)
-      → stage K.cells t ≡ waits c way w → t < n
-  drawn_stage t c way w e = dite (dec_le n t)
-      (λ (l : n ≤ t). let q : promise ≡ waits c way w =
-      sym (ap (λ (z : CellState). z.stage)
+  waits_drawn : (t c : ℕ) → wait_of (stage K.cells t) ≡ Some c → t < n
+  waits_drawn t c e = dite (dec_le n t)
+      (λ (l : n ≤ t). let q : None ≡ Some c = sym (ap (λ (z : CellState). wait_of z.stage)
       (cell_blank r.law.born r.law.maker (parts_of key.cells x) t l)) ∙ e in absurd (cc))
       (λ l. omega arith)
 
   pub alarm_phase : (t c : ℕ) (way : Way) → stage K.cells t ≡ waits c way alarmed
       → x.words.phase t ≡ phase.Waiting (cell c) way walk.Alarmed
-  alarm_phase t c way e = let l = drawn_stage t c way alarmed e in
+  alarm_phase t c way e = let l = waits_drawn t c (ap wait_of e) in
       alarm_back t (x.words.own t) (x.words.phase t) c way (held_of x t) (home_of x t) (still t l)
       (sym (stage_is t l) ∙ e)
 
   pub no_walk : (t c : ℕ) (way : Way) (w : Walker) → stage K.cells t ≡ waits c way (walks w) → ⊥
-  no_walk t c way w e = let l = drawn_stage t c way (walks w) e in
+  no_walk t c way w e = let l = waits_drawn t c (ap wait_of e) in
       walk_back t (x.words.own t) (x.words.phase t) c way w (held_of x t) (home_of x t) (still t l)
       (sym (stage_is t l) ∙ e)
 
@@ -218,10 +190,7 @@ module _ {B : Type 0} (program : Bool → B → Program B) (key : Key B) (s : St
   pub leads_back : (t u : ℕ) → Leads K.cells t u
       → (c : CellId) × (way : Way) × (w : Walk) × (x.words.phase t ≡ phase.Waiting c way w) × (x.words.own c.0 ≡ Some u)
   leads_back t u h =
-      let l : t < n = dite (dec_le n t)
-      (λ (l : n ≤ t). let q : None ≡ Some h.0 = sym (ap (λ (z : CellState).
-      wait_of z.stage) (cell_blank r.law.born r.law.maker (parts_of key.cells x) t l))
-      ∙ h.1 in absurd (cc)) (λ l. omega arith) in
+      let l = waits_drawn t h.0 h.1 in
       let y = waits_back (x.words.phase t) h.0 (sym (wait_shown r.law t (there t l)) ∙ h.1) in
       let o = owner_out r.law.born r.law.maker (parts_of key.cells x) y.0.0 (r.law.names.waits t y.0 y.1 y.2 y.3).0
       (no_hand y.0.0) in
@@ -239,13 +208,10 @@ module _ {B : Type 0} (program : Bool → B → Program B) (key : Key B) (s : St
       let cycle = r.law.facts.alarm t c.0 way (alarm_shown t c way e) in
       let first = first_of t cycle.0 cycle.1.some cycle.1.round in
       let h = leads_back t first.0 first.1 in
-      let same : h.0.0 ≡ c.0 = one_cell (sym h.3 ∙ e) in
+      let same = one_wait h.3 e in
       none_some (x.words.own c.0) first.0 closed.1 (ap (λ k. x.words.own k) (sym same) ∙ h.4))
     where
       first_of : (a m : ℕ) → 0 < m → Reaches K.cells a m a
           → (b : ℕ) × Leads K.cells a b
       first_of a zero l h = absurd (omega arith)
       first_of a (suc m) l h = let z = reach_front (Leads K.cells) a m a h in (z.0, z.1)
-
-      one_cell : {c d : CellId} {y z : Way} {w u : Walk} → phase.Waiting c y w ≡ phase.Waiting d z u → c.0 ≡ d.0
-      one_cell e = cc

@@ -1,96 +1,141 @@
--- The law after the record of an unborn task has come home, while a seat holds the task.
-use Rattle.tj_words.proofs.Prelude.{AreThere, Contents, Custody, Hand, HasAlarmed, IsHeldWith, IsThere, Law, List}
-use Rattle.tj_words.proofs.Prelude.{LiveCount, MovesRecord, Option, Program, Rec, RecordsFit, Slots, Some, ap, drawn_in}
-use Rattle.tj_words.proofs.Prelude.{get_elem?, hand_of, held_in, hold, home_in, home_of, now_home, numbers, owned_by}
-use Rattle.tj_words.proofs.Prelude.{parts_of, phase_of, record_cells, record_in, refl, set, some, subst, sym, tag_in, ℕ}
-use Rattle.tj_words.proofs.Prelude.{◌∙◌, ◌≡◌, ◌≢◌}
-use Rattle.tj_words.proofs.Lemmas.{Meant, custody, ground_of, held_listed, hold_here, known_of, made_held_by, none_some}
-use Rattle.tj_words.proofs.Lemmas.{one_some, owned_held_by, put_is, put_self}
-use Rattle.tj_words.proofs.Holders.HeldChanges.{found_held, hold_move}
-use Rattle.tj_words.proofs.Events.StepFacts.{facts_same}
-use Rattle.tj_words.proofs.Events.QuietMoves.{record_shown}
+-- The record of an unborn task comes home as LIVE goes up, while a seat holds the task: the step shows nothing, and
+-- keeps the rule.
+use Rattle.tj_words.proofs.Prelude.{AreThere, Bool, Contents, Custody, HasAlarmed, IsBacked, IsSeat, Key, Law, List}
+use Rattle.tj_words.proofs.Prelude.{Option, Program, Rec, Rule, SeatMe, Slots, Some, State, View, ap, arith, came_home}
+use Rattle.tj_words.proofs.Prelude.{contents_of, drawn_in, get_elem?, hand_of, held_in, hold, home_in, home_of, live_at}
+use Rattle.tj_words.proofs.Prelude.{numbers, owned_by, phase_of, record_cells, record_in, refl, set, set_else, some}
+use Rattle.tj_words.proofs.Prelude.{stage_there, subst, suc, sym, with_tokens, word, words_say, ℕ, ◌<◌, ◌∙◌, ◌≡◌, ◌≢◌}
+use Rattle.tj_words.proofs.Lemmas.{IsHeldWith, IsQuietStep, Live, StoresWith, custody, facts_quiet, held_here}
+use Rattle.tj_words.proofs.Lemmas.{held_listed, hold_here, holder_seat, made_held_by, none_some, noted_is, one_some}
+use Rattle.tj_words.proofs.Lemmas.{owned_held_by, parts_of, put_is, put_self, seats_same, store_word_with, stored_with}
+use Rattle.tj_words.specs.Calls.LiveViews.{LaysChild, now_home}
+use Rattle.tj_words.proofs.Waiters.LiveStores.{live_some}
+use Rattle.tj_words.proofs.Waiters.LiveSteps.{count_up, backed_lively, backing_token}
+use Rattle.tj_words.proofs.Holders.HeldChanges.{found_held, held_task, hold_move}
+use Rattle.tj_words.proofs.Holders.LaidRecords.{Lays, as_many, cells_there, fits, free, laid_slots, lays_held, lies}
+use Rattle.tj_words.proofs.Holders.LaidRecords.{meant, task_there, tasks_at, tokens_at}
+use Rattle.tj_words.proofs.Events.QuietMoves.{kept_stage, quiet_move}
 use Rattle.tj_words.proofs.Holders.TaskMoves.{TaskMove, law_task}
+use Rattle.tj_base.specs.declared.cell.Sort.TheVariants as sort
+use Rattle.tj_words.specs.declared.phase.Phase.TheVariants as phase
 use Rattle.tj_words.specs.declared.view.Does.TheVariants as does
 
-module _ {B : Type 0} {program : Program B} {cells : ℕ} {x : Contents B} (r : Law program cells x) (id t : ℕ)
-    (k : Custody B) (h : IsHeldWith x id t k) (its : k.task ≡ t) (unborn : k.does ≡ does.Unborn) (c : Rec B)
-    (slots : Slots B) (lies : home_in slots t ≡ Some c)
-    (apart : (u : ℕ) → u ≢ t → get_elem? slots u ≡ get_elem? x.slots u) where
-  abbrev n : ℕ
-  n = drawn_in cells x
+module _ {B : Type 0} {program : Bool → B → Program B} {key : Key B} {s : State (Option (Rec B)) (View B)}
+    (r : Rule program key s) (id : ℕ) {t : ℕ} {c : Rec B} {me : SeatMe B} (at : get_elem? s.views id ≡ some me.0)
+    (h : LaysChild program t c me) where
+  abbrev x : Contents B
+  x = contents_of s
 
-  -- what the seat has for the task
+  abbrev v : View B
+  v = me.0
+
+  abbrev k : Custody B
+  k = h.custody
+
+  abbrev lays : Lays program t me
+  lays = record { custody = k; held = h.held; record_of = c; puts = h.puts; no_hand = h.no_hand }
+
+  abbrev slots : Slots B
+  slots = laid_slots r id at lays
+
+  abbrev has : IsHeldWith x id t k
+  has = lays_held r id at lays
+
+  its : k.task ≡ t
+  its = held_task v.tasks t k h.held
+
+  -- what the seat has for the task then
   abbrev k' : Custody B
   k' = now_home c k
 
-  here : held_in (hold k' h.0) t ≡ Some k'
-  here = ap (held_in (hold k' h.0)) (sym its) ∙ hold_here k' h.0
+  abbrev new : List (Custody B)
+  new = hold k' v.tasks
 
-  -- the seat notes that the record is at home, where that is the task's
-  come : ((g : Hand) → get_elem? x.seats.hands id ≡ some (Some g) → g.maker ≢ t)
-      → AreThere n (hand_of x) (record_cells c) → IsThere n (hand_of x) t
-      → c.cell.0 ≡ t → numbers c.owned ≡ k.owned → c.made ≡ k.made
-      → TaskMove r id t x.words.phase h.0 (hold k' h.0) slots
-  come free cells_there there cell owned made = hold_move r id t k k' h its slots apart
-      (λ y e. let same : c ≡ y = one_some c y (sym lies ∙ e) in (
-        subst (λ (a : Rec B). AreThere n (hand_of x) (record_cells a)) same cells_there,
-        ap (λ (a : Rec B). a.cell.0) (sym same) ∙ cell,
+  here : held_in new t ≡ Some k'
+  here = ap (held_in new) (sym its) ∙ hold_here k' v.tasks
+
+  was : x.words.phase t ≡ phase.Unborn
+  was = (custody r.law id t k has).does ∙ ap phase_of h.unborn
+
+  apart : (u : ℕ) → u ≢ t → get_elem? slots u ≡ get_elem? s.homes u
+  apart u m = set_else s.homes t u (some (Some c)) m
+
+  -- the seat notes that the record is at home
+  come : TaskMove r.law id t x.words.phase v.tasks new slots
+  come = hold_move r.law id t k k' has its slots apart
+      (λ y e. let same : c ≡ y = one_some c y (sym (lies r id at lays) ∙ e) in (
+        subst (λ (a : Rec B). AreThere (drawn_in key.cells x) (hand_of x) (record_cells a)) same
+            (cells_there r id at lays),
+        ap (λ (a : Rec B). a.cell.0) (sym same) ∙ h.puts.cell,
       ))
-      x.words.phase (λ u m. refl) (custody r id t k h).does there
-      (λ p way w e. (r.names.waits t p way w e, r.waiters_own t p way w e))
-      (r.names.walks id h.0 h.1 k (held_listed h.0 t k h.2)) refl (λ g e q z. absurd (free g e q))
-      (λ a. absurd (subst HasAlarmed unborn a))
+      x.words.phase (λ u m. refl) (custody r.law id t k has).does (task_there r id at lays)
+      (λ p way w e. (r.law.names.waits t p way w e, r.law.waiters_own t p way w e))
+      (r.law.names.walks id v.tasks (tasks_at s.views id at) k (held_listed v.tasks t k h.held)) refl
+      (λ g e q z. absurd (free r id at lays g e q)) (λ a. absurd (subst HasAlarmed h.unborn a))
       (λ b q. let same : c ≡ b = one_some c b q in record {
-        here = lies ∙ ap (λ (z : Rec B). Some z) same;
-        owned = ap (λ (z : Rec B). numbers z.owned) (sym same) ∙ owned;
-        made = ap (λ (z : Rec B). z.made) (sym same) ∙ made;
+        here = lies r id at lays ∙ ap (λ (z : Rec B). Some z) same;
+        owned = ap (λ (z : Rec B). numbers z.owned) (sym same) ∙ h.puts.owned;
+        made = ap (λ (z : Rec B). z.made) (sym same) ∙ h.puts.made;
       })
       (λ q. none_some (Some c) c q refl)
 
-  module _ (live : ℕ) (tokens : List ℕ) where
+  module _ (live : ℕ) where
     -- the contents after it
-    abbrev pub after_home : Contents B
+    abbrev after_home : Contents B
     after_home = record {
       words = record x.words { live = live };
       slots = slots;
-      seats = record x.seats { tokens = tokens; tasks = set x.seats.tasks id (hold k' h.0) };
+      seats = record x.seats { tokens = set x.seats.tokens id (suc v.tokens); tasks = set x.seats.tasks id new };
     }
 
-    -- the record moves
-    pub moves : IsThere n (hand_of x) t → MovesRecord cells x after_home id t does.Unborn
-    moves there = record {
-      turns = record {
-        before_it = k;
-        after_it = k';
-        held = h;
-        did = unborn;
-        now = unborn;
-        turned = record {
-          made = made_held_by r id t k h;
-          parts = λ j. record (parts_of cells x) {
-            phase = put_self x.words.phase t (phase_of k.does) (custody r id t k h).does j;
-            held = found_held r id t k k' h its j;
-            home = put_is (home_of x) (home_in slots) t (home_in slots t) refl (λ u m. ap record_in (apart u m)) j;
+    -- the step shows nothing
+    pub home_quiet : IsQuietStep r.law after_home
+    home_quiet = quiet_move r.law after_home t phase.Unborn phase.Unborn (Some k') (home_in slots t) was
+        (task_there r id at lays) (record { others = refl; cleared = refl }) refl
+        record {
+          made = made_held_by r.law id t k has;
+          parts = λ j. record (parts_of key.cells x) {
+            phase = put_self x.words.phase t phase.Unborn was j;
+            held = found_held r.law id t k k' has its j;
+            home = put_is (home_of x) (home_in slots) t (home_in slots t) refl
+                (λ u m. ap record_in (apart u m)) j;
           };
-        };
+        }
+        (kept_stage t (x.words.own t) k k' (home_of x t) (home_in slots t) does.Unborn h.unborn h.unborn
+        ∙ (λ j. stage_there t sort.Task (x.words.own t) phase.Unborn
+        (sym (held_here r.law id t k has) j) (home_of x t)))
+
+    -- what the step leaves, whatever it stores
+    pub home_path : stored_with s id Live live slots (came_home t c (with_tokens (suc v.tokens) v))
+        ≡ after_home
+    home_path j = record {
+      words = record (words_say s.words) { live = live };
+      slots = slots;
+      seats = record (seats_same s.views id v at j) {
+        tokens = set x.seats.tokens id (suc v.tokens);
+        tasks = set x.seats.tasks id (noted_is v.tasks t k (now_home c) h.held j);
       };
-      there = there;
-      keeps = record { others = refl; cleared = refl };
     }
 
-    -- the law holds of them, where the record is that of the task, the count, the record and the meaning are as they
-    -- should be
-    pub law_home : ((g : Hand) → get_elem? x.seats.hands id ≡ some (Some g) → g.maker ≢ t)
-        → AreThere n (hand_of x) (record_cells c) → IsThere n (hand_of x) t
-        → c.cell.0 ≡ t → numbers c.owned ≡ k.owned → c.made ≡ k.made
-        → LiveCount cells live x.words.phase tokens x.seats.rested
-        → RecordsFit (tag_in x) x.words.phase (home_in slots)
-        → Meant program cells x.words.count x.words.stop (ground_of cells r.born x) (home_in slots) (known_of x)
-        → Law program cells after_home
-    law_home free cells_there there cell owned made count fit meant =
-        law_task r (come free cells_there there cell owned made) (record x.words { live = live })
-        (record x.seats { tokens = tokens }) (ap (λ (o : Option (Custody B)). owned_by o (home_in slots t)) here
-        ∙ owned_held_by r id t k h)
-        r.names.knows r.chains count fit meant
-        (facts_same cells r.born r.maker x after_home (record_shown r after_home id t does.Unborn (moves there))
-        r.facts)
+  home_law : IsBacked v → Law (program key.strict key.root.value) key.cells (after_home (suc (word s.words live_at)))
+  home_law b = law_task r.law come (record x.words { live = suc (word s.words live_at) })
+      (record x.seats { tokens = set x.seats.tokens id (suc v.tokens) })
+      (ap (λ (o : Option (Custody B)). owned_by o (home_in slots t)) here
+      ∙ owned_held_by r.law id t k has)
+      r.law.names.knows r.law.chains
+      (count_up r.law.live_count id v.tokens (tokens_at s.views id at)
+      (live_some program key s r id v at (backed_lively v b)))
+      (fits r id at lays x.words.phase phase.Unborn was (λ u m. refl) (h.unfinished, h.starts)) (meant r id at lays)
+      (facts_quiet r.law (home_quiet (suc (word s.words live_at))))
+
+  pub home_stores : IsBacked v → v.tokens < v.lot
+      → StoresWith program key s (set s.homes t (some (Some c))) id live_at (suc (word s.words live_at))
+      (came_home t c (with_tokens (suc v.tokens) v))
+  home_stores b room = let n = suc (word s.words live_at) in
+      let w : View B = record v { steps = suc v.steps; tokens = suc v.tokens; tasks = new } in
+      store_word_with program key s id Live n slots (came_home t c (with_tokens (suc v.tokens) v))
+      (let e = r.all_words in omega arith) (as_many r id at lays) tt
+      (subst (IsSeat key) (ap (λ l. record v { steps = suc v.steps; tokens = suc v.tokens; tasks = l })
+      (sym (noted_is v.tasks t k (now_home c) h.held)))
+      (holder_seat key v t k h.held (r.seats id v at) (suc v.tokens) new v.pushes v.dues room
+      (backing_token w (omega arith)))) (after_home n) (home_path n) (home_law b)

@@ -1,21 +1,19 @@
 -- The store of Promise into PHASE of a promise in hand keeps the law: its hand has the same maker and sort, and no part
 -- of the law reads more of it and of the phase of such a cell.
-use Rattle.tj_words.proofs.Prelude.{Allows, Bool, CellId, Contents, CoreFacts, Custodies, Custody, Hand, Hands}
-use Rattle.tj_words.proofs.Prelude.{HasInHand, IsInHand, IsMarkedRight, IsRecordIn, IsThere, Keeping, Key, Law, List}
-use Rattle.tj_words.proofs.Prelude.{LiveCount, MarksPromise, MayMark, None, Option, Phase, Program, Rec, Rule, SeatMe}
-use Rattle.tj_words.proofs.Prelude.{Some, State, View, Walk, Way, ap, arith, at_map, at_put, begins_self, contents_of}
-use Rattle.tj_words.proofs.Prelude.{drawn_in, false, get_elem?, hand_in, hand_of, hand_phase, held_in, held_of, home_of}
-use Rattle.tj_words.proofs.Prelude.{inl, live_part, made_by, making, mark, marked_promise, none, parts_of, phase_at}
-use Rattle.tj_words.proofs.Prelude.{phase_in, phase_word, put, put_else, put_here, refl, seats_have, set}
-use Rattle.tj_words.proofs.Prelude.{set_again, some, sort_shown, step, subst, sym, tag_in, true, words_say, ℕ, ◌+◌, ◌<◌}
-use Rattle.tj_words.proofs.Prelude.{◌∙◌, ◌≡◌, ◌≢◌}
-use Rattle.tj_words.specs.Calls.DrawViews.{mark_store}
-use Rattle.tj_words.proofs.Lemmas.{Stores, at_two, back, births_on, custody_on, grew_wider, ground_of, hand_kept}
-use Rattle.tj_words.proofs.Lemmas.{hand_set, hands_on, law_meant, makes_kept, meaning_grows, none_some, none_unless}
-use Rattle.tj_words.proofs.Lemmas.{of_seat_set, one_some, other_cell, put_is, seats_same, step_allowed, store_word}
-use Rattle.tj_words.proofs.Lemmas.{stored, wider}
-use Rattle.tj_words.proofs.Cells.HandChanges.{like_same, once_on, tree_on}
-use Rattle.tj_words.proofs.Cells.SeatHands.{own_cell}
+use Rattle.tj_words.proofs.Prelude.{Allows, Bool, CellId, Contents, Custodies, Custody, Hand, Hands, HasInHand}
+use Rattle.tj_words.proofs.Prelude.{IsInHand, IsMarkedRight, IsRecordIn, IsThere, Key, Law, List, LiveCount, None}
+use Rattle.tj_words.proofs.Prelude.{Option, Phase, Program, Rec, Rule, SeatMe, Some, State, View, Walk, Way, ap, arith}
+use Rattle.tj_words.proofs.Prelude.{at_map, at_put, begins_self, drawn_in, get_elem?, hand_in, hand_of, hand_phase}
+use Rattle.tj_words.proofs.Prelude.{held_in, held_of, home_of, inl, live_part, made_by, making, mark, none, phase_at}
+use Rattle.tj_words.proofs.Prelude.{phase_in, phase_word, put, put_else, put_here, refl, seats_have, set, set_again}
+use Rattle.tj_words.proofs.Prelude.{some, sort_shown, step, subst, sym, tag_in, true, words_say, ℕ, ◌+◌, ◌<◌, ◌∙◌, ◌≡◌}
+use Rattle.tj_words.proofs.Prelude.{◌≢◌}
+use Rattle.tj_words.proofs.Lemmas.{IsAlike, IsQuietStep, Stores, at_two, back, births_on, custody_on, facts_quiet}
+use Rattle.tj_words.proofs.Lemmas.{grew_wider, ground_of, hand_put, hands_on, law_meant, meaning_grows, none_some}
+use Rattle.tj_words.proofs.Lemmas.{none_unless, noted_same, of_seat_set, once_on, one_some, parts_of, seats_same}
+use Rattle.tj_words.proofs.Lemmas.{step_allowed, store_word, stored, tree_on, wider}
+use Rattle.tj_words.specs.Calls.DrawViews.{MayMark, marked_promise, mark_store}
+use Rattle.tj_words.proofs.Cells.SeatHands.{makes_kept}
 use Rattle.tj_words.proofs.Events.QuietCells.{mark_shown}
 use Rattle.tj_words.proofs.Stores.WordStores.{hand_here}
 use Rattle.tj_words.proofs.Waiters.ChainPhases.{chains_turn}
@@ -26,12 +24,10 @@ use Rattle.tj_words.proofs.Stores.TableWords as table_word
 
 -- a cell in hand waits for nothing by its phase, and adds nothing to LIVE
 hand_waits : (m : Bool) (p : CellId) (way : Way) (w : Walk) → hand_phase m ≢ phase.Waiting p way w
-hand_waits true p way w e = cc
-hand_waits false p way w e = cc
+hand_waits m p way w e = grind arith
 
 hand_live : (m : Bool) → live_part (hand_phase m) ≡ 0
-hand_live true = refl
-hand_live false = refl
+hand_live m = grind arith
 
 module _ {B : Type 0} {program : Program B} {cells : ℕ} {x : Contents B} (r : Law program cells x) (id : ℕ) (h : Hand)
     (has : get_elem? x.seats.hands id ≡ some (Some h)) (promise : h.sort ≡ sort.Promise) where
@@ -64,21 +60,10 @@ module _ {B : Type 0} {program : Program B} {cells : ℕ} {x : Contents B} (r : 
   only j g d e q = d (r.hands.apart j id g h e has q)
 
   column : hand_in hands' ≡ put (hand_of x) c (Some h')
-  column = put_is (hand_of x) (hand_in hands') c (Some h')
-      (hand_set x.seats.hands id c (Some h) (Some h') has only ∙ own_cell h' None)
-      (λ d q. hand_kept x.seats.hands id d (Some h) (Some h') has
-      (λ rest. other_cell h' d rest q ∙ sym (other_cell h d rest q)))
+  column = hand_put x.seats.hands id c (Some h) (Some h') has refl refl only
 
   makes : (t : ℕ) → making hands' t ≡ making x.seats.hands t
-  makes t = makes_kept x.seats.hands id t (Some h) (Some h') has (λ rest. refl)
-
-  -- the marking, as a step
-  abbrev marking : MarksPromise cells x marked c h h' phase.Promise
-  marking = record {
-    in_hand = here;
-    same_hand = (refl, refl, refl);
-    parts = λ j. record (parts_of cells x) { hand = column j; making = λ t. makes t j; phase = phases };
-  }
+  makes = makes_kept x.seats.hands id h h' has refl
 
   -- what is in hand now was in hand, of the same maker, and what was is
   before : (d : ℕ) (g : Hand) → hand_in hands' d ≡ Some g
@@ -144,6 +129,22 @@ module _ {B : Type 0} {program : Program B} {cells : ℕ} {x : Contents B} (r : 
       })
       (λ g e j f q z. subst (λ (y : Hand). f.cell ≢ y.cell) (one_some h' g e) (only j f q z)))
 
+  -- the step shows nothing
+  pub marked_quiet : IsQuietStep r marked
+  marked_quiet = (
+    mark_shown cells x marked c h here
+        (λ j. record (parts_of cells x) { hand = column j; making = λ t. makes t j; phase = phases }) r.born r.maker,
+    record {
+      there = λ d i. record { out = (on d i).1; parent_is = refl; kid_is = refl };
+      hands = λ d g e. let a = still d g e in inl (record {
+        hand = a.0;
+        in_hand = a.1;
+        maker_is = a.2;
+        made_is = λ j. made_by (held_of x g.maker) (home_of x g.maker) + makes g.maker j;
+      });
+    },
+  )
+
   -- the law holds then
   pub law_marked : (tokens : ℕ) → get_elem? x.seats.tokens id ≡ some tokens → Law program cells marked
   law_marked tokens at = let m = in_hand.maker_held in record {
@@ -168,7 +169,7 @@ module _ {B : Type 0} {program : Program B} {cells : ℕ} {x : Contents B} (r : 
     };
     custody = subst (Custodies cells n (hand_in hands') phases x.slots) (set_again x.seats.tasks id m.0 m.1)
         (custody_on r.custody (hand_in hands') phases id m.0 m.0 m.1 (λ t l. sorts t) tasks_same
-        (λ u. like_same (held_in m.0 u)));
+        (λ u. noted_same IsAlike (λ k. inl refl) (held_in m.0 u)));
     owned = record {
       owners = λ d t i. r.owned.owners d t (back_on d i);
       owned_there = λ d t i. on d (r.owned.owned_there d t i);
@@ -194,38 +195,28 @@ module _ {B : Type 0} {program : Program B} {cells : ℕ} {x : Contents B} (r : 
         (λ d y i. inl i) (λ d z. inl z);
     undrawn = λ d l. put_else x.words.phase c phase.Promise d (λ e. let i = in_hand.drawn_cell in omega arith)
         ∙ r.undrawn d l;
-    facts = subst CoreFacts (sym (mark_shown cells x marked c h h' phase.Promise marking r.born r.maker)) r.facts;
+    facts = facts_quiet r marked_quiet;
   }
 
-  -- the cell is marked, and makers and numbers of cells stay
-  pub marked_keeps : Keeping cells x marked (MarksPromise cells x marked c h h' phase.Promise)
-  marked_keeps = (
-    marking,
-    record {
-      there = λ d i. record { out = (on d i).1; parent_is = refl; kid_is = refl };
-      hands = λ d g e. let a = still d g e in inl (record {
-        hand = a.0;
-        in_hand = a.1;
-        maker_is = a.2;
-        made_is = λ j. made_by (held_of x g.maker) (home_of x g.maker) + makes g.maker j;
-      });
-    },
-  )
-
-module _ {B : Type 0} (program : Bool → B → Program B) (key : Key B) (s : State (Option (Rec B)) (View B))
-    (r : Rule program key s) (id c : ℕ) (v : View B) (at : get_elem? s.views id ≡ some v) (m : MayMark c v) where
+module _ {B : Type 0} {program : Bool → B → Program B} {key : Key B} {s : State (Option (Rec B)) (View B)}
+    (r : Rule program key s) (id : ℕ) {c : ℕ} {v : View B} (at : get_elem? s.views id ≡ some v) (m : MayMark c v) where
   abbrev h : Hand
   h = m.hand
 
-  has : get_elem? (seats_have s.views).hands id ≡ some (Some h)
+  pub has : get_elem? (seats_have s.views).hands id ≡ some (Some h)
   has = at_map (λ (u : View B). u.hand) s.views id v at ∙ ap (λ (o : Option Hand). some o) m.has
 
-  abbrev after : Contents B
-  after = marked r.law id h has m.promise
+  abbrev after_mark : Contents B
+  after_mark = marked r.law id h has m.promise
+
+  -- the step shows nothing
+  pub mark_quiet : IsQuietStep r.law after_mark
+  mark_quiet = marked_quiet r.law id h has m.promise
 
   -- what the store leaves: the promise is marked, in the hand and in PHASE
-  marks : (n : ℕ) → phase_in n ≡ phase.Promise → stored s id (table_word.Phase c) n (marked_promise v) ≡ after
-  marks n is j = record {
+  pub mark_path : (n : ℕ) → phase_in n ≡ phase.Promise
+      → stored s id (table_word.Phase c) n (marked_promise v) ≡ after_mark
+  mark_path n is j = record {
     words = record (words_say s.words) { phase = put (words_say s.words).phase (sym m.its_cell j) (is j) };
     slots = s.homes;
     seats = record (seats_same s.views id v at j) { hands = set (seats_have s.views).hands id (mark (m.has j)) };
@@ -235,18 +226,8 @@ module _ {B : Type 0} (program : Bool → B → Program B) (key : Key B) (s : St
   mark_stores l = store_word program key s id (table_word.Phase c) (phase_word phase.Promise) (marked_promise v)
       (let e = r.all_words in omega arith)
       (record { code = refl; waits = λ d way w e. let z : phase.Promise ≡ phase.Waiting d way w = e in absurd (cc) })
-      (r.seats id v at) after (marks (phase_word phase.Promise) refl)
+      (r.seats id v at) after_mark (mark_path (phase_word phase.Promise) refl)
       (law_marked r.law id h has m.promise v.tokens (at_map (λ (u : View B). u.tokens) s.views id v at))
-
-  -- and a call that makes it marks the promise
-  pub mark_keeps : (y : Contents B) (n : ℕ) → phase_in n ≡ phase.Promise
-      → y ≡ stored s id (table_word.Phase c) n (marked_promise v)
-      → Keeping key.cells (contents_of s) y
-      (MarksPromise key.cells (contents_of s) y c h (record h { marked = true }) phase.Promise)
-  mark_keeps y n is e = back (λ j. Keeping key.cells (contents_of s) ((e ∙ marks n is) j)
-      (MarksPromise key.cells (contents_of s) ((e ∙ marks n is) j) (sym m.its_cell j) h (record h { marked = true })
-      phase.Promise))
-      (marked_keeps r.law id h has m.promise)
 
 pub mark_allowed : {B : Type 0} (program : Bool → B → Program B) (key : Key B)
     (slots id : ℕ) (m : SeatMe B) (c i n : ℕ) → c < key.cells → i ≡ phase_at c
@@ -256,6 +237,6 @@ mark_allowed program key slots id m c i n l at is may = step_allowed program key
     (λ k. mark_store (step slots i n 0 none) m n) (λ s r k. (
       marked_promise m.0,
       back (λ j. Stores program key s id (at j) (is j) (marked_promise m.0))
-          (mark_stores program key s r id c m.0 k may l),
+          (mark_stores r id k may l),
       (refl, refl),
     ))

@@ -1,21 +1,18 @@
 -- The law after a store of PHASE by which a task that its seat holds does something else from then on: it walks, or has
 -- alarmed.
-use Rattle.tj_words.proofs.Prelude.{AreThere, Begins, CellId, Contents, CoreFacts, Custody, Does, IsBegun, IsCell}
-use Rattle.tj_words.proofs.Prelude.{IsHeldWith, IsIn, IsMoved, IsParkedOn, Law, List, LiveCount, None, Option, Phase}
-use Rattle.tj_words.proofs.Prelude.{Program, Reference, Some, Walk, Way, ap, at_longer, before, core_shown, does_cells}
-use Rattle.tj_words.proofs.Prelude.{drawn_in, hand_of, hold, home_of, inl, is_task_sort, now_does, owned_by, parts_of}
-use Rattle.tj_words.proofs.Prelude.{phase_of, put, reference_of, refl, set, some-injective, subst, sym, tag_in, wait_in}
-use Rattle.tj_words.proofs.Prelude.{way_by, way_if, ℕ, ◌&&◌, ◌∙◌, ◌≡◌, ◌≢◌}
-use Rattle.tj_words.proofs.Lemmas.{at_index, begun_there, custody, home_there, inside, made_held_by, none_some}
-use Rattle.tj_words.proofs.Lemmas.{one_some, owned_held_by, put_else, put_here, put_self}
-use Rattle.tj_words.proofs.Holders.SeatTasks.{hold_held}
+use Rattle.tj_words.proofs.Prelude.{AreThere, Begins, CellId, Contents, CoreFacts, Custody, Does, IsBegun, IsCell, IsIn}
+use Rattle.tj_words.proofs.Prelude.{IsParkedOn, Law, List, LiveCount, None, Option, Phase, Program, Reference, Some}
+use Rattle.tj_words.proofs.Prelude.{Walk, Way, ap, arith, at_longer, before, core_shown, does_cells, drawn_in, hand_of}
+use Rattle.tj_words.proofs.Prelude.{hold, home_of, is_task_sort, now_does, owned_by, phase_of, put, reference_of, refl}
+use Rattle.tj_words.proofs.Prelude.{set, some-injective, subst, sym, tag_in, way_by, way_if, ℕ, ◌&&◌, ◌∙◌, ◌≡◌, ◌≢◌}
+use Rattle.tj_words.proofs.Lemmas.{IsHeldWith, IsMoved, at_index, begun_there, custody, hold_held, home_there, inside}
+use Rattle.tj_words.proofs.Lemmas.{made_held_by, none_some, out_fit, owned_held_by, parts_of, put_else, put_here}
+use Rattle.tj_words.proofs.Lemmas.{put_self}
 use Rattle.tj_words.proofs.Holders.HeldChanges.{found_held, hold_move}
 use Rattle.tj_words.proofs.Waiters.ChainFacts.{held_free}
 use Rattle.tj_words.proofs.Waiters.ChainPhases.{chains_turn}
-use Rattle.tj_words.proofs.Holders.RecordSteps.{out_fit}
 use Rattle.tj_words.proofs.Holders.TaskMoves.{law_task, TaskMove}
 use Rattle.tj_words.specs.declared.phase.Phase.TheVariants as phase
-use Rattle.tj_words.specs.declared.view.Does.TheVariants as does
 
 -- what a list of cells has at an index
 reference_there : (l : List Reference) (c : ℕ) (y : Reference) → IsCell l c y → reference_of l c ≡ y
@@ -36,9 +33,7 @@ begun_way b l t p h i j = let e = begun_reference b l t h i in let f = begun_ref
 -- the cell of a wait is one that what the task does names
 wait_cells : (d : Does) (c : CellId) (way : Way) (w : Walk) → phase_of d ≡ phase.Waiting c way w
     → IsIn c.0 (does_cells d)
-wait_cells (does.Walking p v u) c way w e = inl (one_some c.0 p (sym (ap wait_in e)))
-wait_cells (does.Alarmed p v u) c way w e = inl (one_some c.0 p (sym (ap wait_in e)))
-wait_cells d c way w e = let z = ap wait_in e in cc
+wait_cells d c way w e = grind arith
 
 module _ {B : Type 0} {program : Program B} {cells : ℕ} {x : Contents B} (r : Law program cells x) (id t : ℕ)
     (k : Custody B) (h : IsHeldWith x id t k) (its : k.task ≡ t) (d : Does) (tokens : List ℕ) where

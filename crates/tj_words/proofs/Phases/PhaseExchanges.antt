@@ -1,47 +1,42 @@
 -- The exchanges of PHASE keep the rule: a claim, a wake, and the way back of a task that its seat had parked.
-use Rattle.tj_words.proofs.Prelude.{About, Allows, AreApart, AreCells, AreThere, Backing, Bool, Chains, Claims}
-use Rattle.tj_words.proofs.Prelude.{ClaimsTask, ClearsWait, Contents, CoreFacts, Custody, EventKeepsFacts, Filled}
-use Rattle.tj_words.proofs.Prelude.{GoesBack, Hand, HasAlarmed, Holds, IsBegun, IsCustody, IsFirstIn, IsIn, IsKept}
-use Rattle.tj_words.proofs.Prelude.{IsMoved, IsPhaseWord, IsRecordIn, IsRest, IsSpent, IsThere, IsWithinLot, Keeping}
-use Rattle.tj_words.proofs.Prelude.{Key, Law, LiesAtHome, List, LiveCount, MayGoBack, MaySwap, MayWake, Meaning, None}
-use Rattle.tj_words.proofs.Prelude.{OfSeat, Option, Phase, Program, Push, Rec, Reference, Rest, Rule, SeatMe, SeatsHave}
-use Rattle.tj_words.proofs.Prelude.{Slots, SlotsOf, Some, State, Swaps, View, Wakes, Way, ap, arith, at_map}
-use Rattle.tj_words.proofs.Prelude.{begins_self, bits_in, carried_after, cell, contents_of, core_shown, dite}
-use Rattle.tj_words.proofs.Prelude.{does_cells, does_first, drawn_in, either, eqb, exchanged, get_elem?, hand_of}
-use Rattle.tj_words.proofs.Prelude.{held_in, held_of, hold, home_in, home_of, inl, inr, length, let_go, live_part}
-use Rattle.tj_words.proofs.Prelude.{made_by, map, none, numbers, owned_by, owned_of, parked_phase, parked_way, phase_at}
-use Rattle.tj_words.proofs.Prelude.{phase_in, phase_sort, phase_swap, phase_word, put, raised_by_way, record_cells}
-use Rattle.tj_words.proofs.Prelude.{refl, rest_of, seats_have, set, set_again, set_else, some, step, stepped_on, subst}
-use Rattle.tj_words.proofs.Prelude.{suc, sym, tag_in, total, word, words_say, ℕ, ℕ_discrete, ◌++◌, ◌+◌, ◌-◌, ◌<◌, ◌∙◌}
-use Rattle.tj_words.proofs.Prelude.{◌∷◌, ◌≡◌, ◌≢◌, ◌≤◌}
-use Rattle.std.proofs.Common.{length-set, ⊎_elim, drop}
-use Rattle.tj_words.specs.Calls.TakenRecords.{custody_of, took_record, IsKnownRecord, TakesRecord}
-use Rattle.tj_words.specs.Calls.ExchangeViews.{without_first, woke_first, went_back, KnowsTable, MayClear, MayClearFrom}
-use Rattle.tj_words.proofs.Waiters.ChainHeads.{one_cell}
+use Rattle.tj_words.proofs.Prelude.{About, Allows, AreApart, AreCells, AreThere, Backing, Bool, Chains, Contents}
+use Rattle.tj_words.proofs.Prelude.{CoreFacts, Custody, EventKeepsFacts, Filled, Hand, HasAlarmed, Holds, IsBegun}
+use Rattle.tj_words.proofs.Prelude.{IsCustody, IsFirstIn, IsIn, IsKept, IsKnownRecord, IsPhaseWord, IsRecordIn, IsRest}
+use Rattle.tj_words.proofs.Prelude.{IsSpent, IsThere, IsWithinLot, Key, Law, LiesAtHome, List, LiveCount, MayClearFrom}
+use Rattle.tj_words.proofs.Prelude.{MayGoBack, MaySwap, MayWake, Meaning, None, OfSeat, Phase, Program, Push, Rec}
+use Rattle.tj_words.proofs.Prelude.{Reference, Rest, Rule, SeatMe, SeatsHave, Slots, SlotsOf, Some, State, Swaps, View}
+use Rattle.tj_words.proofs.Prelude.{Way, ap, at_map, begins_self, bits_in, carried_after, cell, contents_of, core_shown}
+use Rattle.tj_words.proofs.Prelude.{dite, does_cells, does_first, drawn_in, either, eqb, exchanged, get_elem?, hand_of}
+use Rattle.tj_words.proofs.Prelude.{held_in, held_of, hold, home_in, home_of, inl, inr, let_go, live_part, made_by, map}
+use Rattle.tj_words.proofs.Prelude.{none, numbers, owned_by, owned_of, parked_phase, phase_at, phase_in, phase_sort}
+use Rattle.tj_words.proofs.Prelude.{phase_swap, phase_word, put, raised_by_way, record_cells, refl, rest_of, set}
+use Rattle.tj_words.proofs.Prelude.{set_again, set_else, some, stage_there, step, suc, sym, tag_in, total, went_back}
+use Rattle.tj_words.proofs.Prelude.{word, words_say, ℕ, ℕ_discrete, ◌++◌, ◌+◌, ◌-◌, ◌<◌, ◌∙◌, ◌∷◌, ◌≡◌, ◌≢◌, ◌≤◌}
+use Rattle.tj_words.proofs.Lemmas.{Acts, AreFilledIn, IsEventStep, IsMoved, IsQuietStep, acts_keeping, acts_taking}
+use Rattle.tj_words.proofs.Lemmas.{are_cells, begun_there, born_apart, each_set, facts_after, facts_quiet, ground_of}
+use Rattle.tj_words.proofs.Lemmas.{hand_seat, has_none, hold_else, hold_here, home_else_out, home_out, home_there}
+use Rattle.tj_words.proofs.Lemmas.{kept_fit, known_of, no_some, none_some, of_seat_here, one_some, out_fit, put_else}
+use Rattle.tj_words.proofs.Lemmas.{put_here, seats_same, store_word_with, stored, stored_with, total_set, unheld}
+use Rattle.tj_words.specs.Calls.ExchangeViews.{Claims, GoesBack, Wakes, without_first, woke_first, KnowsTable, MayClear}
+use Rattle.std.proofs.Common.{Option, arith, length, subst, length-set, ⊎_elim, drop}
+use Rattle.tj_words.specs.Calls.TakenRecords.{custody_of, took_record, TakesRecord}
 use Rattle.tj_words.proofs.Waiters.ChainFacts.{IsNotParked, ready_free, running_free}
-use Rattle.tj_words.proofs.Waiters.ChainLists.{no_some}
 use Rattle.tj_words.proofs.Waiters.ChainPhases.{chains_turn, chains_run, chains_ready}
 use Rattle.tj_words.proofs.Holders.HeldChanges.{let_go_in}
-use Rattle.tj_words.proofs.Lemmas.{AreFilledIn, are_cells, back, begun_there, born_apart, each_set, ground_of}
-use Rattle.tj_words.proofs.Lemmas.{hand_seat, has_none, hold_else, hold_here, home_there, known_of, none_some}
-use Rattle.tj_words.proofs.Lemmas.{of_seat_here, one_some, put_else, put_here, seats_same, stored, stored_with}
-use Rattle.tj_words.proofs.Lemmas.{total_set, unheld}
 use Rattle.tj_words.proofs.Holders.TaskMoves.{TaskMove, law_task, task_moved, task_moves}
-use Rattle.tj_words.proofs.Holders.HomeSlots.{home_out, home_else_out}
 use Rattle.tj_words.proofs.SeatLoads.KnowLoads.{all_cons, born_at}
 use Rattle.tj_words.proofs.Waiters.LiveSteps.{count_turned, backing_running}
 use Rattle.tj_words.proofs.SeatLoads.LoadSteps.{noted_allowed}
 use Rattle.tj_words.proofs.Meaning.MeaningGrows.{meaning_learns}
 use Rattle.tj_words.proofs.Meaning.MeaningSteps.{out_meant}
 use Rattle.tj_words.proofs.Seating.Merging.{all_append}
-use Rattle.tj_words.proofs.Events.QuietMoves.{claim_shown}
-use Rattle.tj_words.proofs.Holders.RecordSteps.{out_fit, kept_fit, woken_fits}
+use Rattle.tj_words.proofs.Events.QuietMoves.{claim_stage, quiet_move}
+use Rattle.tj_words.proofs.Holders.RecordSteps.{woken_fits}
 use Rattle.tj_words.proofs.Calls.KeptCells.{kept_moved}
-use Rattle.tj_words.proofs.Stores.SlotStores.{Acts, acts_keeping, acts_taking, store_word_with}
-use Rattle.tj_words.proofs.Events.StepFacts.{facts_after, facts_same}
 use Rattle.tj_words.proofs.Holders.TakingRecords.{first_phase, first_runs, first_calm, first_cells, slot_has}
 use Rattle.tj_words.proofs.Holders.TakingRecords.{owns_itself, learnt}
 use Rattle.tj_words.proofs.Events.WaitClears.{begun_kept, clear_shown}
+use Rattle.tj_events.specs.declared.event.Event.TheVariants.{Unwait}
 use Rattle.tj_base.specs.declared.cell.Sort.TheVariants as sort
 use Rattle.tj_words.specs.declared.offsets.Once.TheVariants as once
 use Rattle.tj_words.specs.declared.phase.Walk.TheVariants as walk
@@ -51,10 +46,7 @@ use Rattle.tj_words.proofs.Stores.TableWords as table_word
 
 -- a task is parked on one cell, in one way
 same_park : (p p' : ℕ) (way way' : Way) → parked_phase p way ≡ parked_phase p' way' → (p ≡ p') × (way ≡ way')
-same_park p p' way way' e = (
-  one_cell (parked_phase p way) p p' (way, refl) (way', e),
-  one_some way way' (ap (λ q. parked_way q None) e),
-)
+same_park p p' way way' e = grind arith
 
 running_not : phase.Running ≢ phase.Ready
 running_not e = cc
@@ -84,16 +76,13 @@ module _ {B : Type 0} (program : Bool → B → Program B) (t : ℕ) (m m' : Sea
         subst (λ (k : ℕ × Way). GoesBack program t k.0 k.1 m m') (λ j. (same.0 j, same.1 j)) h;
   }
 
-module _ {B : Type 0} (program : Bool → B → Program B) (key : Key B) (s : State (Option (Rec B)) (View B))
-    (r : Rule program key s) (id t : ℕ) (v : View B) (at : get_elem? s.views id ≡ some v) (small : t < key.cells) where
+module _ {B : Type 0} {program : Bool → B → Program B} {key : Key B} {s : State (Option (Rec B)) (View B)}
+    (r : Rule program key s) (id t : ℕ) {v : View B} (at : get_elem? s.views id ≡ some v) (small : t < key.cells) where
   abbrev P : Program B
   P = program key.strict key.root.value
 
   abbrev x : Contents B
   x = contents_of s
-
-  abbrev y : SeatsHave B
-  y = seats_have s.views
 
   abbrev law : Law P key.cells x
   law = r.law
@@ -119,12 +108,12 @@ module _ {B : Type 0} (program : Bool → B → Program B) (key : Key B) (s : St
 
   -- one wait more is cleared
   cleared_more : (way : Way)
-      → total (set y.cleared id (v.cleared + raised_by_way way)) ≡ total y.cleared + raised_by_way way
-  cleared_more way = let e = total_set y.cleared id v.cleared (v.cleared + raised_by_way way) (mine (λ u. u.cleared)) in
-      omega arith
+      → total (set x.seats.cleared id (v.cleared + raised_by_way way)) ≡ total x.seats.cleared + raised_by_way way
+  cleared_more way = let e = total_set x.seats.cleared id v.cleared (v.cleared + raised_by_way way)
+      (mine (λ u. u.cleared)) in omega arith
 
   -- the record of the task lies at home, and may be taken
-  record MayTake : Type 0 where
+  pub record MayTake : Type 0 where
     pub there : IsThere n (hand_of x) t
     pub task : phase_sort (x.words.phase t) ≡ sort.Task
     pub kept : LiesAtHome (law.custody.holder t) (home_of x t)
@@ -133,15 +122,15 @@ module _ {B : Type 0} (program : Bool → B → Program B) (key : Key B) (s : St
   -- as it does in a phase in which the task has begun and is kept at home, where the record fits then
   module _ (q : Phase) (stands : x.words.phase t ≡ q) (begun : IsBegun q) (task : phase_sort q ≡ sort.Task)
       (lies : (o : Option ℕ) (h : Option (Rec B)) → IsKept q o h → LiesAtHome o h) where
-    has_begun : IsBegun (x.words.phase t)
+    pub has_begun : IsBegun (x.words.phase t)
     has_begun = subst IsBegun (sym stands) begun
 
-    its_home : LiesAtHome (law.custody.holder t) (home_of x t)
+    pub its_home : LiesAtHome (law.custody.holder t) (home_of x t)
     its_home = lies (law.custody.holder t) (home_of x t)
         (subst (λ z. IsKept z (law.custody.holder t) (home_of x t)) stands
         (begun_kept law t has_begun (ap phase_sort stands ∙ task)))
 
-    is_in : IsRecordIn (tag_in x) q its_home.1.0
+    pub is_in : IsRecordIn (tag_in x) q its_home.1.0
     is_in = subst (λ z. IsRecordIn (tag_in x) z its_home.1.0) stands
         (law.records_fit t its_home.1.0 its_home.1.1)
 
@@ -171,7 +160,7 @@ module _ {B : Type 0} (program : Bool → B → Program B) (key : Key B) (s : St
     record_owned : numbers c.owned ≡ owned_of x t
     record_owned = λ j. owned_by (sym (unheld law t l.kept.0) j) (sym l.kept.1.1 j)
 
-    not_maker : (h : Hand) → get_elem? y.hands id ≡ some (Some h) → h.maker ≢ t
+    not_maker : (h : Hand) → get_elem? x.seats.hands id ≡ some (Some h) → h.maker ≢ t
     not_maker h e z = none_some (law.custody.holder t) id l.kept.0
         (ap law.custody.holder (sym z) ∙ hand_seat law id h e)
 
@@ -223,7 +212,7 @@ module _ {B : Type 0} (program : Bool → B → Program B) (key : Key B) (s : St
     knows_more = all_append (IsThere n (hand_of x)) (record_cells c) v.known (law.names.records t c l.kept.1.1)
         (law.names.knows id v.known (mine (λ u. u.known)))
 
-    taken : TaskMove law id t (phases phase.Running) v.tasks new slots
+    pub taken : TaskMove law id t (phases phase.Running) v.tasks new slots
     taken = record {
       at = mine (λ u. u.tasks);
       same = held_same;
@@ -251,22 +240,22 @@ module _ {B : Type 0} (program : Bool → B → Program B) (key : Key B) (s : St
             laid = λ z q. no_some refl q;
             out = λ q. out;
           };
-      holds = λ j e. subst (OfSeat (λ l. (a : Custody B) × (held_in l t ≡ Some a)) (set y.tasks id new))
+      holds = λ j e. subst (OfSeat (λ l. (a : Custody B) × (held_in l t ≡ Some a)) (set x.seats.tasks id new))
           (one_some id j e)
-          (of_seat_here (λ l. (a : Custody B) × (held_in l t ≡ Some a)) y.tasks id v.tasks new (mine (λ u. u.tasks))
-          (k, held_now));
+          (of_seat_here (λ l. (a : Custody B) × (held_in l t ≡ Some a)) x.seats.tasks id v.tasks new
+          (mine (λ u. u.tasks)) (k, held_now));
     }
 
     -- what the seats have after it, with what the seat has learnt, and the tokens, waits cleared and pushes of w
     module _ (born : List Reference) (extra : List Filled) (w : View B) where
       abbrev beside : SeatsHave B
-      beside = record y {
-        tokens = set y.tokens id w.tokens;
-        cleared = set y.cleared id w.cleared;
-        known = set y.known id (record_cells c ++ v.known);
-        born_seen = set y.born_seen id born;
-        filled = set y.filled id (extra ++ v.filled);
-        pushes = set y.pushes id w.pushes;
+      beside = record x.seats {
+        tokens = set x.seats.tokens id w.tokens;
+        cleared = set x.seats.cleared id w.cleared;
+        known = set x.seats.known id (record_cells c ++ v.known);
+        born_seen = set x.seats.born_seen id born;
+        filled = set x.seats.filled id (extra ++ v.filled);
+        pushes = set x.seats.pushes id w.pushes;
       }
 
       abbrev after : Contents B
@@ -281,46 +270,33 @@ module _ {B : Type 0} (program : Bool → B → Program B) (key : Key B) (s : St
       }
 
       -- what the exchange leaves
-      takes_path : (number : ℕ) → phase_in number ≡ phase.Running → (a : Rec B) → a ≡ c
+      pub takes_path : (number : ℕ) → phase_in number ≡ phase.Running → (a : Rec B) → home_of x t ≡ Some a
           → stored_with s id (table_word.Phase t) number slots (took a) ≡ after
-      takes_path number is a same j = record {
+      takes_path number is a lay j = record {
         words = record x.words { phase = put x.words.phase t (is j) };
         slots = slots;
         seats = record (seats_same s.views id v at j) {
           tokens = beside.tokens;
           cleared = beside.cleared;
-          tasks = set y.tasks id (hold (custody_of (same j)) v.tasks);
-          known = set y.known id (record_cells (same j) ++ v.known);
+          tasks = set x.seats.tasks id (hold (custody_of (same j)) v.tasks);
+          known = set x.seats.known id (record_cells (same j) ++ v.known);
           born_seen = beside.born_seen;
           filled = beside.filled;
           pushes = beside.pushes;
         };
       }
+        where
+          same : a ≡ c
+          same = one_some a c (sym lay ∙ l.kept.1.1)
 
       moved : IsMoved key.cells x after t phase.Running (Some k) None
       moved = task_moves law taken x.words beside phase.Running (Some k) None (here phase.Running) held_now out
 
-    -- a call that makes it does with the record what it would do with the one that lies there
-    took_keeps : (F : Contents B → Rec B → Type 0) (w : View B)
-        → ((born : List Reference) (extra : List Filled) → F (after born extra w) c)
-        → (z : Contents B) (number : ℕ) → phase_in number ≡ phase.Running → (a : Rec B) → home_of x t ≡ Some a
-        → (born : List Reference) (extra : List Filled)
-        → z ≡ stored_with s id (table_word.Phase t) number slots (took born extra w a)
-        → Keeping key.cells x z (F z a)
-    took_keeps F w f z number is a lay born extra e = back (λ j. Keeping key.cells x (left j) (F (left j) (same j)))
-        (f born extra, kept_moved key.cells x (after born extra w) (moved born extra w) refl)
-      where
-        same : a ≡ c
-        same = one_some a c (sym lay ∙ l.kept.1.1)
-
-        left : z ≡ after born extra w
-        left = e ∙ takes_path born extra w number is a same
-
     -- what it makes of the seat, whose view is w but for what it takes and learns
     took_acts : KnowsTable v → (w : View B) → w.tokens ≤ v.lot → w.cleared ≤ v.lot → (Holds HasAlarmed v → 0 < w.tokens)
-        → Chains (tag_in x) x.words.head x.words.next (phases phase.Running) (set y.pushes id w.pushes) y.shuts y.rests
-        y.closed y.found
-        → LiveCount key.cells x.words.live (phases phase.Running) (set y.tokens id w.tokens) y.rested
+        → Chains (tag_in x) x.words.head x.words.next (phases phase.Running) (set x.seats.pushes id w.pushes)
+        x.seats.shuts x.seats.rests x.seats.closed x.seats.found
+        → LiveCount key.cells x.words.live (phases phase.Running) (set x.seats.tokens id w.tokens) x.seats.rested
         → CoreFacts (core_shown key.cells law.born law.maker (after law.born more w))
         → (mine : SlotsOf B) (F : SeatMe B → Type 0) → F (took law.born more w c, (t, Some c) ∷ mine)
         → Acts program key s id (v, mine) (phase_at t) (phase_word phase.Running) F
@@ -343,11 +319,11 @@ module _ {B : Type 0} (program : Bool → B → Program B) (key : Key B) (s : St
               (one_some a.1 k (sym (ap (held_in new) (sym z) ∙ a.2) ∙ held_now)) a.3)))
               (λ m. alarms (a.0, a.1, sym (held_same a.0 m) ∙ a.2, a.3)));
           known_born = λ d i. born_at P key.cells x law d (knows_more d i).0;
-        }) (after law.born more w) (takes_path law.born more w (phase_word phase.Running) refl c refl)
+        }) (after law.born more w) (takes_path law.born more w (phase_word phase.Running) refl c l.kept.1.1)
         (law_task law taken x.words (beside law.born more w)
         ((λ j. owned_by (held_now j) (home_in slots t)) ∙ record_owned)
-        (each_set (λ j l. AreThere n (hand_of x) l) y.known id (record_cells c ++ v.known) law.names.knows knows_more)
-        chains live
+        (each_set (λ j l. AreThere n (hand_of x) l) x.seats.known id (record_cells c ++ v.known) law.names.knows
+        knows_more) chains live
         (out_fit (tag_in x) x.words.phase (home_of x) law.records_fit t (phases phase.Running) (home_in slots)
         phase.Running (here phase.Running) (else phase.Running) (λ u m. home_else_out s.homes t u m) out)
         meaning facts)) f
@@ -356,10 +332,10 @@ module _ {B : Type 0} (program : Bool → B → Program B) (key : Key B) (s : St
         view = took law.born more w c
 
         meaning : Meaning P key.cells x.words.count x.words.stop n (hand_of x) law.born (tag_in x) (bits_in x)
-            (home_in slots) (set y.born_seen id law.born) y.wrote (set y.filled id (more ++ v.filled))
+            (home_in slots) (set x.seats.born_seen id law.born) x.seats.wrote (set x.seats.filled id (more ++ v.filled))
         meaning = subst (λ z. Meaning P key.cells x.words.count x.words.stop n (hand_of x) law.born (tag_in x)
-            (bits_in x) (home_in slots) (set y.born_seen id law.born) z (set y.filled id (more ++ v.filled)))
-            (set_again y.wrote id v.wrote (mine (λ u. u.wrote)))
+            (bits_in x) (home_in slots) (set x.seats.born_seen id law.born) z
+            (set x.seats.filled id (more ++ v.filled))) (set_again x.seats.wrote id v.wrote (mine (λ u. u.wrote)))
             (meaning_learns P key.cells {g = ground_of key.cells law.born x} {k = known_of x}
             (out_meant P key.cells {g = ground_of key.cells law.born x} {k = known_of x} law.meaning (home_in slots) t
             out (λ u m. home_else_out s.homes t u m)) id law.born v.wrote
@@ -368,55 +344,38 @@ module _ {B : Type 0} (program : Bool → B → Program B) (key : Key B) (s : St
 
   -- a claim
   module _ (stands : x.words.phase t ≡ phase.Ready) where
-    abbrev claimable : MayTake
+    abbrev pub claimable : MayTake
     claimable = at_home phase.Ready stands tt refl (λ o h i. i) (λ a i. i)
 
-    -- the seat claims the task
-    abbrev claims : (born : List Reference) (extra : List Filled)
-        → ClaimsTask key.cells x (after claimable born extra v) t (c claimable)
-    claims born extra = record {
-      ready = stands;
-      lies = claimable.kept.1.1;
-      has = k claimable;
-      first = refl;
-      home = None;
-      moved = moved claimable born extra v;
-      keeps = record {
-        others = refl;
-        cleared = ap total (set_again y.cleared id v.cleared (mine (λ u. u.cleared)));
-      };
-    }
-
-    pub claim_keeps : (z : Contents B) (number : ℕ) → phase_in number ≡ phase.Running → (a : Rec B)
-        → home_of x t ≡ Some a → (born : List Reference) (extra : List Filled)
-        → z ≡ stored_with s id (table_word.Phase t) number (set s.homes t none)
-        (stepped_on (took_record a born extra v))
-        → Keeping key.cells x z (ClaimsTask key.cells x z t a)
-    claim_keeps = took_keeps claimable (λ z a. ClaimsTask key.cells x z t a) v claims
+    -- the step shows nothing
+    pub claim_quiet : (born : List Reference) (extra : List Filled) → IsQuietStep law (after claimable born extra v)
+    claim_quiet born extra = quiet_move law (after claimable born extra v) t phase.Ready phase.Running
+        (Some (k claimable)) None stands claimable.there record {
+          others = refl;
+          cleared = ap total (set_again x.seats.cleared id v.cleared (mine (λ u. u.cleared)));
+        } refl (moved claimable born extra v)
+        (claim_stage t (x.words.own t) None (held_of x t) (c claimable) (k claimable) None refl
+        ∙ (λ j. stage_there t sort.Task (x.words.own t) phase.Ready (held_of x t) (sym claimable.kept.1.1 j)))
 
     claim_acts : KnowsTable v → (slots_of : SlotsOf B) → Acts program key s id (v, slots_of) (phase_at t)
         (phase_word phase.Running) (Swaps program t phase.Ready phase.Running (v, slots_of))
     claim_acts table slots_of = took_acts claimable table v within.tokens_fit within.cleared_fit
         (r.seats id v at).backing.alarms
-        (subst (λ z. Chains (tag_in x) x.words.head x.words.next (phases phase.Running) z y.shuts
-        y.rests y.closed y.found) (sym (set_again y.pushes id v.pushes (mine (λ u. u.pushes))))
+        (subst (λ z. Chains (tag_in x) x.words.head x.words.next (phases phase.Running) z x.seats.shuts
+        x.seats.rests x.seats.closed x.seats.found) (sym (set_again x.seats.pushes id v.pushes (mine (λ u. u.pushes))))
         (chains_turn law.chains t phase.Running (subst IsNotParked (sym stands) ready_free) running_free))
         (count_turned law.live_count t phase.Running id v.tokens v.tokens small (mine (λ u. u.tokens))
         (ap (λ z. live_part z + v.tokens) (sym stands)))
-        (facts_same key.cells law.born law.maker x now
-        (claim_shown law now t (c claimable) (claims law.born (more claimable))) law.facts)
+        (facts_quiet law (claim_quiet law.born (more claimable)))
         slots_of (Swaps program t phase.Ready phase.Running (v, slots_of))
         (claims_swap program t (v, slots_of) _ (c claimable, takes claimable, refl))
       where
         within : IsWithinLot v
         within = (r.seats id v at).within_lot
 
-        now : Contents B
-        now = after claimable law.born (more claimable) v
-
   -- an exchange of a task that is parked on p, of which something has become
   module _ (p : ℕ) (way : Way) (stands : x.words.phase t ≡ parked_phase p way) (tagged : tag_in x p ≢ 0) where
-    abbrev parked : MayTake
+    abbrev pub parked : MayTake
     parked = at_home (parked_phase p way) stands tt refl (λ o h i. i)
         (λ a i. woken_fits (tag_in x) a (cell p) way walk.Parked tagged i)
 
@@ -433,35 +392,31 @@ module _ {B : Type 0} (program : Bool → B → Program B) (key : Key B) (s : St
     abbrev back_view : View B
     back_view = went_back t way v
 
-    abbrev goes_back : (born : List Reference) (extra : List Filled) → ClearsWait key.cells x
-        (after parked born extra back_view) t p way phase.Running (Some (k parked))
-    goes_back born extra = record {
-      home = None;
-      goes = inr (refl, refl, (k parked, refl, ap does_first was_parked.1.2));
-      parked = stands;
-      closed = closed;
-      moved = moved parked born extra back_view;
-      others = refl;
-      cleared = cleared_more way;
-    }
-
-    pub back_keeps : (z : Contents B) (number : ℕ) → phase_in number ≡ phase.Running → (a : Rec B)
-        → home_of x t ≡ Some a → (born : List Reference) (extra : List Filled)
-        → z ≡ stored_with s id (table_word.Phase t) number (set s.homes t none)
-        (went_back t way (took_record a born extra v))
-        → Keeping key.cells x z (ClearsWait key.cells x z t p way phase.Running (Some (custody_of a)))
-    back_keeps = took_keeps parked (λ z a. ClearsWait key.cells x z t p way phase.Running (Some (custody_of a)))
-        back_view goes_back
+    -- by which its wait is cleared
+    pub back_event : (born : List Reference) (extra : List Filled)
+        → IsEventStep law (after parked born extra back_view) (Unwait (cell t))
+    back_event born extra = (
+      clear_shown law (after parked born extra back_view) t p way phase.Running (Some (k parked)) record {
+        home = None;
+        goes = inr (refl, refl, (k parked, refl, ap does_first was_parked.1.2));
+        parked = stands;
+        closed = closed;
+        moved = moved parked born extra back_view;
+        others = refl;
+        cleared = cleared_more way;
+      },
+      kept_moved key.cells x (after parked born extra back_view) (moved parked born extra back_view) refl,
+    )
 
     -- it is woken, and stays at home
     abbrev woke_seats : SeatsHave B
-    woke_seats = record y {
-      tokens = set y.tokens id (v.tokens - 1);
-      cleared = set y.cleared id (v.cleared + raised_by_way way);
-      rests = set y.rests id (without_first v.rest);
+    woke_seats = record x.seats {
+      tokens = set x.seats.tokens id (v.tokens - 1);
+      cleared = set x.seats.cleared id (v.cleared + raised_by_way way);
+      rests = set x.seats.rests id (without_first v.rest);
     }
 
-    stays : TaskMove law id t (phases phase.Ready) v.tasks v.tasks s.homes
+    pub stays : TaskMove law id t (phases phase.Ready) v.tasks v.tasks s.homes
     stays = record {
       at = mine (λ u. u.tasks);
       same = λ u m. refl;
@@ -486,7 +441,7 @@ module _ {B : Type 0} (program : Bool → B → Program B) (key : Key B) (s : St
     woke = task_moved law stays x.words woke_seats
 
     -- what a wake leaves
-    wakes_path : (number : ℕ) → phase_in number ≡ phase.Ready
+    pub wakes_path : (number : ℕ) → phase_in number ≡ phase.Ready
         → stored s id (table_word.Phase t) number (woke_first way v) ≡ woke
     wakes_path number is j = record {
       words = record x.words { phase = put x.words.phase t (is j) };
@@ -494,36 +449,36 @@ module _ {B : Type 0} (program : Bool → B → Program B) (key : Key B) (s : St
       seats = record (seats_same s.views id v at j) {
         tokens = woke_seats.tokens;
         cleared = woke_seats.cleared;
-        tasks = set y.tasks id v.tasks;
+        tasks = set x.seats.tasks id v.tasks;
         rests = woke_seats.rests;
       };
     }
 
-    abbrev wakes : ClearsWait key.cells x woke t p way phase.Ready None
-    wakes = record {
-      home = home_of x t;
-      goes = inl (refl, refl, refl);
-      parked = stands;
-      closed = closed;
-      moved = task_moves law stays x.words woke_seats phase.Ready None (home_of x t) (here phase.Ready)
-          (unheld_here parked) refl;
-      others = refl;
-      cleared = cleared_more way;
-    }
+    wakes : IsMoved key.cells x woke t phase.Ready None (home_of x t)
+    wakes = task_moves law stays x.words woke_seats phase.Ready None (home_of x t) (here phase.Ready)
+        (unheld_here parked) refl
 
-    pub wake_keeps : (z : Contents B) (number : ℕ) → phase_in number ≡ phase.Ready
-        → z ≡ stored s id (table_word.Phase t) number (woke_first way v)
-        → Keeping key.cells x z (ClearsWait key.cells x z t p way phase.Ready None)
-    wake_keeps z number is e = subst (λ z. Keeping key.cells x z (ClearsWait key.cells x z t p way phase.Ready None))
-        (sym (e ∙ wakes_path number is))
-        (wakes, kept_moved key.cells x woke wakes.moved refl)
+    -- its wait is cleared
+    pub wake_event : IsEventStep law woke (Unwait (cell t))
+    wake_event = (
+      clear_shown law woke t p way phase.Ready None record {
+        home = home_of x t;
+        goes = inl (refl, refl, refl);
+        parked = stands;
+        closed = closed;
+        moved = wakes;
+        others = refl;
+        cleared = cleared_more way;
+      },
+      kept_moved key.cells x woke wakes refl,
+    )
 
     module _ (event_keeps : EventKeepsFacts) (clears : MayClear way v) (slots_of : SlotsOf B) where
       spent : v.tokens - 1 ≤ v.lot
       spent = let f = (r.seats id v at).within_lot.tokens_fit in omega arith
 
       live : (q : Phase) → live_part q ≡ 1
-          → LiveCount key.cells x.words.live (phases q) (set y.tokens id (v.tokens - 1)) y.rested
+          → LiveCount key.cells x.words.live (phases q) (set x.seats.tokens id (v.tokens - 1)) x.seats.rested
       live q one = count_turned law.live_count t q id v.tokens (v.tokens - 1) small (mine (λ u. u.tokens))
           (let f = even in let g = clears.token in omega arith)
 
@@ -535,8 +490,7 @@ module _ {B : Type 0} (program : Bool → B → Program B) (key : Key B) (s : St
           (λ h. let l = alarms h in omega arith)
           (chains_run law.chains t phase.Running id v.pushes e (mine (λ u. u.pushes)) in_pushes its running_free)
           (live phase.Running refl)
-          (facts_after event_keeps (clear_shown law (after parked law.born (more parked) back_view) t p way
-          phase.Running (Some (k parked)) (goes_back law.born (more parked))) law.facts)
+          (facts_after event_keeps (back_event law.born (more parked)).0 law.facts)
           slots_of (Swaps program t (parked_phase p way) phase.Running (v, slots_of))
           (back_swap program t (v, slots_of) _ p way (c parked, takes parked, was_parked.1, refl))
 
@@ -562,20 +516,20 @@ module _ {B : Type 0} (program : Bool → B → Program B) (key : Key B) (s : St
           }) woke (wakes_path (phase_word phase.Ready) refl)
           (law_task law stays x.words woke_seats
           ((λ j. owned_by (unheld_here parked j) (parked.kept.1.1 j)) ∙ record_owned parked) law.names.knows
-          (subst (λ z. Chains (tag_in x) x.words.head x.words.next (phases phase.Ready) y.pushes
-          y.shuts (set y.rests id z) y.closed y.found)
+          (subst (λ z. Chains (tag_in x) x.words.head x.words.next (phases phase.Ready) x.seats.pushes
+          x.seats.shuts (set x.seats.rests id z) x.seats.closed x.seats.found)
           (sym (ap without_first has ∙ ap (λ l. rest_of q.cell (drop 1 l)) first))
           (chains_ready law.chains t phase.Ready id q left ((mine (λ u. u.rest)) ∙ ap some has) first ready_free))
           (live phase.Ready refl)
           (kept_fit (tag_in x) x.words.phase (home_of x) law.records_fit t (phases phase.Ready)
           (home_of x) phase.Ready (here phase.Ready) (else phase.Ready) (λ u m. refl) (parked_phase p way) stands
           refl (λ z h. woken_fits (tag_in x) z (cell p) way walk.Parked tagged h))
-          law.meaning (facts_after event_keeps (clear_shown law woke t p way phase.Ready None wakes) law.facts)))
+          law.meaning (facts_after event_keeps wake_event.0 law.facts)))
           (wakes_swap program t (v, slots_of) _ p way refl)
 
 -- something has become of the cell of which a task is woken, or goes back from
-module _ {B : Type 0} (program : Bool → B → Program B) (key : Key B) (s : State (Option (Rec B)) (View B))
-    (r : Rule program key s) (id t p : ℕ) (way : Way) (v : View B) (at : get_elem? s.views id ≡ some v) where
+module _ {B : Type 0} {program : Bool → B → Program B} {key : Key B} {s : State (Option (Rec B)) (View B)}
+    (r : Rule program key s) (id : ℕ) {t p : ℕ} {way : Way} {v : View B} (at : get_elem? s.views id ≡ some v) where
   pub rest_is : (h : MayWake t p way v)
       → IsRest (words_say s.words).head (words_say s.words).phase r.law.chains.line r.law.chains.taker id h.rest
   rest_is h = r.law.chains.rest id v.rest (at_map (λ (u : View B). u.rest) s.views id v at) h.rest h.has
@@ -603,13 +557,13 @@ module _ {B : Type 0} (program : Bool → B → Program B) (key : Key B) (keeps 
       (at : get_elem? s.views id ≡ some m.0) (small : t < key.cells) (p : ℕ) (way : Way) where
     go_back : MayGoBack t p way m.0 → Acts program key s id m (phase_at t) (phase_word phase.Running)
         (Swaps program t (parked_phase p way) phase.Running m)
-    go_back h = back_acts program key s r id t m.0 at small p way (back_stands program key s r id t p way m.0 at h)
-        (back_tagged program key s r id t p way m.0 at h) keeps h.clears m.1 h.table h.push h.has h.task h.alarms
+    go_back h = back_acts r id t at small p way (back_stands r id at h) (back_tagged r id at h) keeps h.clears m.1
+        h.table h.push h.has h.task h.alarms
 
     wake : MayWake t p way m.0 → Acts program key s id m (phase_at t) (phase_word phase.Ready)
         (Swaps program t (parked_phase p way) phase.Ready m)
-    wake h = wake_acts program key s r id t m.0 at small p way (wake_stands program key s r id t p way m.0 at h)
-        (wake_tagged program key s r id t p way m.0 at h) keeps h.clears m.1 h.rest h.left h.has h.first h.backing
+    wake h = wake_acts r id t at small p way (wake_stands r id at h) (wake_tagged r id at h) keeps h.clears m.1
+        h.rest h.left h.has h.first h.backing
 
   pub swap_allowed : (slots id : ℕ) (m : SeatMe B) (cells c t i old new : ℕ) (was to : Phase) → cells ≡ key.cells
       → c ≡ t → t < key.cells → i ≡ phase_at t → old ≡ phase_word was → phase_in old ≡ was → new ≡ phase_word to
@@ -655,7 +609,7 @@ module _ {B : Type 0} (program : Bool → B → Program B) (key : Key B) (keeps 
           hit z = ⊎_elim
               (λ (h : (was ≡ phase.Ready) × (to ≡ phase.Running) × KnowsTable m.0). done z phase.Ready phase.Running
               h.0 h.1
-              (claim_acts program key s r id t m.0 at small (ap phase_in z ∙ (was_is ∙ h.0)) h.2 m.1))
+              (claim_acts r id t at small (ap phase_in z ∙ (was_is ∙ h.0)) h.2 m.1))
               (λ (h : MayClearFrom t was to m.0). ⊎_elim
               (λ (k : (to ≡ phase.Ready) × MayWake t h.0 h.1 m.0).
               done z (parked_phase h.0 h.1) phase.Ready h.2 k.0 (wake s r id t m at small h.0 h.1 k.1))
@@ -683,7 +637,6 @@ module _ {B : Type 0} (program : Bool → B → Program B) (key : Key B) (keeps 
                 ),
               ))
               (λ (h : MayClearFrom t was to m.0). absurd (ne (stands_so h.0 h.1 h.2 (⊎_elim
-              (λ (k : (to ≡ phase.Ready) × MayWake t h.0 h.1 m.0). wake_stands program key s r id t h.0 h.1 m.0 at k.1)
-              (λ (k : (to ≡ phase.Running) × MayGoBack t h.0 h.1 m.0).
-              back_stands program key s r id t h.0 h.1 m.0 at k.1)
+              (λ (k : (to ≡ phase.Ready) × MayWake t h.0 h.1 m.0). wake_stands r id at k.1)
+              (λ (k : (to ≡ phase.Running) × MayGoBack t h.0 h.1 m.0). back_stands r id at k.1)
               h.3)))) may

@@ -1,9 +1,10 @@
 -- What the moment clause leaves open: NEXT of a task that isn't parked may be any number, whatever the seat's view is.
-use Rattle.tj_words.proofs.Prelude.{Chains, IsParkedOn, Rule, arith, contents_of, head_in, length, next_at, put}
-use Rattle.tj_words.proofs.Prelude.{seats_have, set, set_again, subst, tag_in, was_so, words_say, ℕ, ◌<◌, ◌∙◌, ◌≡◌}
+use Rattle.tj_words.proofs.Prelude.{Chains, IsParkedOn, Rule, arith, contents_of, head_in, length, next_at, put, refl}
+use Rattle.tj_words.proofs.Prelude.{seats_have, set, set_again, subst, tag_in, was_so, words_say, ℕ, ◌<◌, ◌≡◌, ◌≢◌}
+use Rattle.tj_words.proofs.Lemmas.{Stores, chains_out, law_kept, push_kept, put_else, rule_stores, seats_same}
+use Rattle.tj_words.proofs.Lemmas.{store_word, word_here}
 use Rattle.tj_words.specs.SeatViews.MomentLaws.{NextIsFree}
-use Rattle.tj_words.proofs.Lemmas.{Next, Stores, law_chains, put_else, rule_stores, seats_same, store_word, word_here}
-use Rattle.tj_words.proofs.Waiters.ChainHeads.{linked_else}
+use Rattle.tj_words.proofs.Stores.TableWords.{Next}
 
 module _ {B : Type 0} where
   pub next_is_free : NextIsFree B
@@ -16,37 +17,20 @@ module _ {B : Type 0} where
       inside : next_at t < length s.words
       inside = let e = r.all_words in omega arith
 
-      else : (u p : ℕ) → IsParkedOn ((words_say s.words).phase u) p
-          → put (words_say s.words).next t (head_in n) u ≡ (words_say s.words).next u
-      else u p k = put_else (words_say s.words).next t u (head_in n)
-          (λ z. free p (subst (λ i. IsParkedOn ((words_say s.words).phase i) p) z k))
+      other : (u p : ℕ) → IsParkedOn ((words_say s.words).phase u) p → u ≢ t
+      other u p k z = free p (subst (λ i. IsParkedOn ((words_say s.words).phase i) p) z k)
+
+      else : (u : ℕ) → u ≢ t → put (words_say s.words).next t (head_in n) u ≡ (words_say s.words).next u
+      else u k = put_else (words_say s.words).next t u (head_in n) k
 
       chains : Chains (tag_in (contents_of s)) (words_say s.words).head (put (words_say s.words).next t (head_in n))
           (words_say s.words).phase (seats_have s.views).pushes (seats_have s.views).shuts (seats_have s.views).rests
           (seats_have s.views).closed (seats_have s.views).found
-      chains = let c = r.law.chains in record {
-        line = c.line;
-        pusher = c.pusher;
-        taker = c.taker;
-        shutter = c.shutter;
-        heads = c.heads;
-        linked = λ p. linked_else (words_say s.words).next (put (words_say s.words).next t (head_in n)) (c.line p)
-            (λ u i. else u p (c.parked p u i).0) (c.linked p);
-        parked = c.parked;
-        placed = c.placed;
-        tagged = c.tagged;
-        due = c.due;
-        pushing = c.pushing;
-        to_push = λ j l e x i. let f = c.to_push j l e x i in record {
-          mine = f.mine;
-          parked = f.parked;
-          stored = λ g q. else x.task x.cell (x.way, f.parked) ∙ f.stored g q;
-        };
-        resting = c.resting;
-        rest = c.rest;
-        stays_shut = c.stays_shut;
-        grows = c.grows;
-      }
+      chains = let c = r.law.chains in
+          chains_out c t (λ p u i. other u p (c.parked p u i).0) else (λ u k. refl) (λ u k. refl)
+          (λ p k. absurd (free p k)) c.pushing
+          (λ j l e x i. let f = c.to_push j l e x i in
+          push_kept else (λ u k. refl) (λ u k. refl) j x (other x.task x.cell (x.way, f.parked)) f)
 
       stores : Stores program key s id (next_at t) n v
       stores = store_word program key s id (Next t) n v inside small (r.seats id v at) _
@@ -55,6 +39,6 @@ module _ {B : Type 0} where
             slots = s.homes;
             seats = seats_same s.views id v at j;
           })
-          (law_chains r.law (words_say s.words).head (put (words_say s.words).next t (head_in n))
-          (seats_have s.views).pushes (seats_have s.views).shuts (seats_have s.views).rests (seats_have s.views).closed
-          (seats_have s.views).found chains)
+          (let l = r.law in law_kept l
+          (record (words_say s.words) { next = put (words_say s.words).next t (head_in n) }) (seats_have s.views) l.lots
+          l.names l.tree_words l.once_words chains l.live_count l.stops l.records_fit l.meaning l.facts)

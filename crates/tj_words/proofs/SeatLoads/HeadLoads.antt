@@ -1,18 +1,15 @@
 -- Loads of HEAD.
 use Rattle.tj_words.proofs.Prelude.{Allows, Bool, Key, Option, Program, Rec, Rule, SeatMe, Shut, State, View, [], ap}
 use Rattle.tj_words.proofs.Prelude.{arith, contents_of, dite, drawn_in, get_elem?, head_at, head_in, head_load, inr}
-use Rattle.tj_words.proofs.Prelude.{none, refl, shut_word, some, step, subst, suc, word, ℕ, ℕ_discrete, ⊎_elim, ◌++◌}
-use Rattle.tj_words.proofs.Prelude.{◌<◌, ◌∷◌, ◌≡◌, ◌≢◌, ◌≤◌}
-use Rattle.tj_words.proofs.Lemmas.{are_cells, back, knowing_of, knows_so, load_allowed}
-use Rattle.tj_words.proofs.SeatLoads.LoadSteps.{Learns}
-use Rattle.tj_words.proofs.SeatLoads.KnowLoads.{all_cons, HasBecome, learned, learned_so, none_of, one_become, one_of}
-use Rattle.tj_words.proofs.SeatLoads.KnowLoads.{shut_is, will_have}
-use Rattle.tj_words.proofs.Waiters.ChainCells.{line_small, head_small}
+use Rattle.tj_words.proofs.Prelude.{none, refl, shut_word, some, step, subst, word, ℕ, ℕ_discrete, ⊎_elim, ◌++◌, ◌<◌}
+use Rattle.tj_words.proofs.Prelude.{◌∷◌, ◌≡◌, ◌≢◌, ◌≤◌}
+use Rattle.tj_words.proofs.Lemmas.{Learns, are_cells, back, knowing_of, knows_so, load_allowed}
+use Rattle.tj_words.proofs.SeatLoads.LoadSteps.{found_so}
+use Rattle.tj_words.proofs.SeatLoads.KnowLoads.{all_cons, one_of, shut_is, will_have, entry_so, same_entry}
+use Rattle.tj_words.proofs.Waiters.ChainFacts.{line_small, head_small}
+use Rattle.tj_words.specs.SeatViews.Views.{found_shut, found_chain}
 
 module _ {B : Type 0} (program : Bool → B → Program B) (key : Key B) where
-  abbrev P : Program B
-  P = program key.strict key.root.value
-
   -- the load of HEAD
   pub head_allowed : (slots id : ℕ) (m : SeatMe B) (c i cells cell : ℕ) → c < key.cells → i ≡ head_at c
       → cells ≡ key.cells → cell ≡ c
@@ -30,26 +27,21 @@ module _ {B : Type 0} (program : Bool → B → Program B) (key : Key B) where
           (λ q. let f = r.few_cells in (omega arith)) (r.codes.each c l).head in
           dite (ℕ_discrete (word s.words (head_at c)) shut_word)
           (λ q. let shut : head_in (word s.words (head_at c)) ≡ Shut = ap head_in q in
-          let has = law.meaning.entries c (law.chains.tagged c shut) in let w = has.1.written in (
-            learned P key.cells (contents_of s) law (knowing_of v) [] (record { cell = c; entry = has.0 } ∷ []) []
-                (c ∷ []),
-            v.plain_loads,
-            v.once_loads,
-            suc v.steps,
-            learned_so P key.cells (contents_of s) law (knowing_of v) so none_of
-                (one_of (record { cell = c; entry = has.0 }) has.1) none_of (one_of c shut),
+          let has = law.meaning.entries c (law.chains.tagged c shut) in (
+            found_shut c law.born has.0 v,
+            (refl, λ y id. refl),
+            entry_so r id v k c has (one_of c shut),
             (
               refl,
               small,
               (λ z. record {
                 born = law.born;
                 entry = has.0;
-                reference = w.reference;
+                reference = has.1.written.reference;
                 begins = so.begins;
-                is = w.is;
-                becomes = will_have program key v w.reference.name has.0 (r.seats id v k).about w.becomes;
-                same = λ y j e. one_become P key.cells (contents_of s) law c y.entry has.0
-                    (subst (λ d. HasBecome P key.cells (contents_of s) law d y.entry) e (so.filled y j)) has.1;
+                is = has.1.written.is;
+                becomes = will_have r id v k c has;
+                same = same_entry r id v k c has;
                 all = are_cells law;
                 view = refl;
               }),
@@ -58,22 +50,10 @@ module _ {B : Type 0} (program : Bool → B → Program B) (key : Key B) where
           ))
           (λ q. let is_open : head_in (word s.words (head_at c)) ≢ Shut = λ z. q (shut_is _ small z) in
           let chain = law.chains.line c in let drawn = drawn_in key.cells (contents_of s) in (
-            record (knowing_of v) { found = record { cell = c; chain = chain } ∷ v.found },
-            v.plain_loads,
-            v.once_loads,
-            suc v.steps,
-            record {
-              known = so.known;
-              begins = so.begins;
-              known_born = so.known_born;
-              wrote = so.wrote;
-              filled = so.filled;
-              seen = so.seen;
-              closed = so.closed;
-              found = all_cons _ (record { cell = c; chain = chain }) v.found (inr ([], refl)) so.found;
-              rested = so.rested;
-              told = so.told;
-            },
+            found_chain c chain v,
+            (refl, λ y id. refl),
+            found_so (knowing_of v) (record { cell = c; chain = chain } ∷ v.found) v.rested v.told so
+                (all_cons _ (record { cell = c; chain = chain }) v.found (inr ([], refl)) so.found) so.rested so.told,
             (
               refl,
               small,

@@ -1,6 +1,5 @@
 -- What a seat knows over several steps.
-use Rattle.tj_words.proofs.Prelude.{List, View, [], ap, begins_self, begins_trans, refl, sym, ◌++◌, ◌∙◌}
-use Rattle.std.proofs.Common.{append_assoc}
+use Rattle.tj_words.proofs.Prelude.{List, View, [], ap, append_assoc, begins_self, begins_trans, refl, sym, ◌++◌, ◌∙◌}
 use Rattle.tj_words.specs.SeatViews.KnowsMore.{IsTailOf, KnowsMore, HasSameHand, HasSameCounts}
 
 pub tail_on : {A : Type 0} (xs ys zs : List A) → IsTailOf xs ys → IsTailOf ys zs → IsTailOf xs zs

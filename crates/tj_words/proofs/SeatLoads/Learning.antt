@@ -1,6 +1,6 @@
 -- A seat learns: the law stays where what the seat knows from now on is so.
 use Rattle.tj_words.proofs.Prelude.{All, AreThere, Begins, Bool, Contents, Filled, Found, HasGrown, IsCell, IsFilled}
-use Rattle.tj_words.proofs.Prelude.{IsIn, IsStored, IsWritten, Law, List, Note, Program, Reference, SeenWord, Shut}
+use Rattle.tj_words.proofs.Prelude.{IsIn, IsStored, IsWritten, Law, List, Program, Reference, SeatsHave, SeenWord, Shut}
 use Rattle.tj_words.proofs.Prelude.{Stands, View, bits_in, drawn_in, hand_of, set, tag_in, true, ℕ, ◌≡◌, ◌≢◌}
 use Rattle.tj_words.proofs.Stores.LawChanges.{law_kept}
 use Rattle.tj_words.proofs.Stores.SeatLists.{each_set}
@@ -16,9 +16,7 @@ pub record Knowing : Type 0 where
   pub closed : List ℕ
   pub found : List Found
   pub rested : Bool
-  pub stop : ℕ
   pub told : List ℕ
-  pub notes : List Note
 
 abbrev pub knowing_of : {B : Type 0} → View B → Knowing
 knowing_of v = record {
@@ -30,9 +28,21 @@ knowing_of v = record {
   closed = v.closed;
   found = v.found;
   rested = v.rested;
-  stop = v.stop;
   told = v.told;
-  notes = v.notes;
+}
+
+-- what the seats have, where seat id of those before knows this
+abbrev pub seats_learn : {B : Type 0} → ℕ → Knowing → SeatsHave B → SeatsHave B → SeatsHave B
+seats_learn id k old y = record y {
+  known = set old.known id k.known;
+  born_seen = set old.born_seen id k.born;
+  wrote = set old.wrote id k.wrote;
+  filled = set old.filled id k.filled;
+  seen = set old.seen id k.seen;
+  closed = set old.closed id k.closed;
+  found = set old.found id k.found;
+  rested = set old.rested id k.rested;
+  told = set old.told id k.told;
 }
 
 module _ {B : Type 0} (program : Program B) (cells : ℕ) (x : Contents B) (law : Law program cells x) where
@@ -51,23 +61,10 @@ module _ {B : Type 0} (program : Program B) (cells : ℕ) (x : Contents B) (law 
     pub rested : k.rested ≡ true → x.words.live ≡ 0
     pub told : (n : ℕ) → IsIn n k.told → n ≢ 0 → IsStored x.seats.stored n
 
-  -- the contents where seat id knows this
+  -- the contents where seat id knows this, under which the law stays
   abbrev pub learns : ℕ → Knowing → Contents B
-  learns id k = record x {
-    seats = record x.seats {
-      known = set x.seats.known id k.known;
-      born_seen = set x.seats.born_seen id k.born;
-      wrote = set x.seats.wrote id k.wrote;
-      filled = set x.seats.filled id k.filled;
-      seen = set x.seats.seen id k.seen;
-      closed = set x.seats.closed id k.closed;
-      found = set x.seats.found id k.found;
-      rested = set x.seats.rested id k.rested;
-      told = set x.seats.told id k.told;
-    };
-  }
+  learns id k = record x { seats = seats_learn id k x.seats x.seats }
 
-  -- the law stays
   pub law_learns : (id : ℕ) (k : Knowing) → IsSo k → Law program cells (learns id k)
   law_learns id k so = law_kept law x.words (learns id k).seats law.lots
       (let n = law.names in record {

@@ -1,90 +1,64 @@
 -- Loads: a step that changes no word, after which its seat knows more.
-use Rattle.tj_words.proofs.Prelude.{All, Allows, Bool, Contents, Each, IsCell, IsCount, IsIn, IsSeat, IsStored, Key}
-use Rattle.tj_words.proofs.Prelude.{Law, List, Note, Option, Phase, Program, Rec, Reference, Rule, SeatMe, SeatsHave}
-use Rattle.tj_words.proofs.Prelude.{State, View, [], ap, arith, at_map, contents_of, count_at, dite, get_elem?, keeps}
-use Rattle.tj_words.proofs.Prelude.{live_at, live_load, live_part, live_tasks, map, none, note_of, own_at, phase_at}
-use Rattle.tj_words.proofs.Prelude.{phase_in, plain_load, refl, seats_have, set, some, step, subst, suc, sym, total}
-use Rattle.tj_words.proofs.Prelude.{true, word, zero, ℕ, ℕ_discrete, ◌<◌, ◌^◌, ◌∙◌, ◌∷◌, ◌≡◌, ◌≢◌, ◌≤◌}
+use Rattle.tj_words.proofs.Prelude.{About, All, Allows, Bool, Contents, Each, Found, HasGrown, IsCell, IsCount, IsFull}
+use Rattle.tj_words.proofs.Prelude.{IsIn, IsSeat, IsSeatOf, IsStored, Key, Law, List, Option, Phase, Program, Rec}
+use Rattle.tj_words.proofs.Prelude.{Reference, Rule, SeatMe, SeatsHave, State, View, [], ap, arith, at_map, contents_of}
+use Rattle.tj_words.proofs.Prelude.{count_at, dite, get_elem?, keeps, live_at, live_load, live_tasks, map, none}
+use Rattle.tj_words.proofs.Prelude.{noted_step, own_at, phase_at, phase_in, plain_load, refl, seat_part, seats_have}
+use Rattle.tj_words.proofs.Prelude.{set, some, step, stop_at, stop_load, subst, suc, sym, total, true, word, words_say}
+use Rattle.tj_words.proofs.Prelude.{zero, ℕ, ℕ_discrete, ⊎_elim, ◌+◌, ◌-◌, ◌<◌, ◌^◌, ◌∙◌, ◌∷◌, ◌≡◌, ◌≢◌, ◌≤◌}
 use Rattle.tj_words.specs.declared.view.Noted.{Noted}
 use Rattle.tj_words.specs.SeatViews.SeatSteps.{noted_at, IsOn, Tells}
 use Rattle.tj_words.proofs.Stores.SeatLists.{each_set, words_same}
-use Rattle.tj_words.proofs.Stores.SeatContents.{seats_set, seats_same, rule_views}
-use Rattle.tj_words.proofs.SeatLoads.Learning.{Knowing, knowing_of, IsSo, learns, law_learns}
-use Rattle.tj_words.specs.SeatViews.Views.{noted_step}
-use Rattle.tj_words.specs.declared.phase.Phase.TheVariants as phases
-use Rattle.tj_words.specs.declared.phase.Walk.TheVariants as walks
+use Rattle.tj_words.proofs.Stores.SeatContents.{seats_set, seats_same, rule_views, set_seats}
+use Rattle.tj_words.proofs.SeatLoads.Learning.{Knowing, knowing_of, IsSo, law_learns, seats_learn}
+use Rattle.tj_words.specs.SeatViews.Views.{loaded_plain, saw_rest, saw_live, saw_stop}
 use Rattle.tj_words.specs.declared.view.Noted.TheVariants as note
 
 -- there are no more live tasks than cells
 pub live_few : (phase : ℕ → Phase) (n : ℕ) → live_tasks phase n ≤ n
 live_few phase zero = omega arith
-live_few phase (suc n) = let h = live_few phase n in let p = one_at_most (phase n) in omega arith
-  where
-    one_at_most : (p : Phase) → live_part p ≤ 1
-    one_at_most phases.Unborn = omega arith
-    one_at_most phases.Ready = omega arith
-    one_at_most phases.Running = omega arith
-    one_at_most phases.Ended = omega arith
-    one_at_most phases.Promise = omega arith
-    one_at_most (phases.Waiting c way walks.Walking) = omega arith
-    one_at_most (phases.Waiting c way walks.Parked) = omega arith
-    one_at_most (phases.Waiting c way walks.Alarmed) = omega arith
+live_few phase (suc n) = let h = live_few phase n in grind arith
 
--- where one number of each seat is at most another, so are their sums
+-- where one number of each seat is at most another, the sum of the others is theirs and what they have beyond
+pub total_split : {A : Type 0} (f g : A → ℕ) (l : List A) → Each (λ j a. f a ≤ g a) l
+    → total (map g l) ≡ total (map f l) + total (map (λ a. g a - f a) l)
+total_split f g [] h = omega arith
+total_split f g (x ∷ xs) h = let a : f x ≤ g x = h zero x refl in
+    let b = total_split f g xs (λ j y e. h (suc j) y e) in omega arith
+
 pub total_fits : {A : Type 0} (f g : A → ℕ) (l : List A) → Each (λ j a. f a ≤ g a) l
     → total (map f l) ≤ total (map g l)
-total_fits f g [] h = omega arith
-total_fits f g (x ∷ xs) h = let a : f x ≤ g x = h zero x refl in let b = total_fits f g xs (λ j y e. h (suc j) y e) in
-    omega arith
+total_fits f g l h = let s = total_split f g l h in omega arith
 
 module _ {B : Type 0} where
   -- a step that changes no word, which the seat notes with the number found
   abbrev pub noted_load : Noted → (ℕ → Type 0) → Tells B
   noted_load kind May st m n m' = (m'.1 ≡ m.1) × (m'.0 ≡ noted_step kind n m.0) × May n × IsOn kind st
 
-  -- the view of a seat that knows this, after so many steps and loads
-  abbrev pub knows : Knowing → ℕ → ℕ → ℕ → View B → View B
-  knows k plain once steps v = record v {
-    known = k.known;
-    born = k.born;
-    wrote = k.wrote;
-    filled = k.filled;
-    seen = k.seen;
-    closed = k.closed;
-    found = k.found;
-    rested = k.rested;
-    plain_loads = plain;
-    once_loads = once;
-    steps = steps;
-    stop = k.stop;
-    told = k.told;
-    notes = k.notes;
-  }
-
-  -- what a seat knows that has noted a step besides
-  abbrev pub with_note : View B → Noted → ℕ → Knowing
-  with_note v kind n = record (knowing_of v) { notes = note_of kind n v ∷ v.notes }
+  -- the second view is the first one but for what the seat knows, counts and notes
+  abbrev pub Knows : View B → View B → Type 0
+  Knows v w = (seat_part w ≡ record (seat_part v) { born = w.born; known = w.known })
+      × ((y : SeatsHave B) (id : ℕ) → set_seats y id w ≡ seats_learn id (knowing_of w) y (set_seats y id v))
 
   -- what holds of a view alone holds of it
-  pub knows_seat : (key : Key B) (k : Knowing) (plain once steps : ℕ) (v : View B) → IsSeat key v
-      → All (λ c. (r : Reference) × IsCell k.born c r) k.known
-      → IsSeat key (knows k plain once steps v)
-  knows_seat key k plain once steps v h kb = let l = h.within_lot in let b = h.backing in record {
+  knows_seat : (key : Key B) (v w : View B) → Knows v w → IsSeat key v
+      → All (λ c. (r : Reference) × IsCell w.born c r) w.known
+      → IsSeat key w
+  knows_seat key v w k h kb = subst (IsSeatOf key) (sym k.0) record {
     about = h.about;
     named = h.named;
-    within_lot =
-        record
-        { least = l.least; refused_fit = l.refused_fit; tokens_fit = l.tokens_fit; cleared_fit = l.cleared_fit };
-    backing = record { wakes = b.wakes; tags = b.tags; alarms = b.alarms };
+    within_lot = h.within_lot;
+    backing = h.backing;
     known_born = kb;
   }
 
-  -- what it knows is so with other notes, and other loads of LIVE and STOP, besides
-  pub noted_so : {P : Program B} {cells : ℕ} {x : Contents B} {law : Law P cells x} (k : Knowing) (rested : Bool)
-      (stop : ℕ) (told : List ℕ) (notes : List Note) → IsSo P cells x law k → (rested ≡ true → x.words.live ≡ 0)
-      → ((n : ℕ) → IsIn n told → n ≢ 0 → IsStored x.seats.stored n)
-      → IsSo P cells x law (record k { rested = rested; stop = stop; told = told; notes = notes })
-  noted_so k rested stop told notes o now stored = record {
+  -- what a seat knows is so with other chains found, and other loads of LIVE and STOP, besides
+  pub found_so : {P : Program B} {cells : ℕ} {x : Contents B} {law : Law P cells x} (k : Knowing) (found : List Found)
+      (rested : Bool) (told : List ℕ) → IsSo P cells x law k
+      → All (λ (f : Found). HasGrown (x.words.head f.cell) (law.chains.line f.cell) f.chain) found
+      → (rested ≡ true → x.words.live ≡ 0) → ((n : ℕ) → IsIn n told → n ≢ 0 → IsStored x.seats.stored n)
+      → IsSo P cells x law (record k { found = found; rested = rested; told = told })
+  found_so k found rested told o grown now stored = record {
     known = o.known;
     begins = o.begins;
     known_born = o.known_born;
@@ -92,7 +66,7 @@ module _ {B : Type 0} where
     filled = o.filled;
     seen = o.seen;
     closed = o.closed;
-    found = o.found;
+    found = grown;
     rested = now;
     told = stored;
   }
@@ -115,61 +89,45 @@ module _ {B : Type 0} where
       told = l.stops.found id v.told (at_map (λ (u : View B). u.told) s.views id v at);
     }
 
-    -- so it is with a step noted
-    pub notes_so : (s : State (Option (Rec B)) (View B)) (r : Rule program key s) (id : ℕ) (v : View B)
-        → get_elem? s.views id ≡ some v → (kind : Noted) (n : ℕ)
-        → IsSo (program key.strict key.root.value) key.cells (contents_of s) r.law (with_note v kind n)
-    notes_so s r id v at kind n = let o = knows_so s r id v at in
-        noted_so (knowing_of v) v.rested v.stop v.told (note_of kind n v ∷ v.notes) o o.rested o.told
-
-    -- a seat that learns what is so keeps the rule
-    pub rule_learns : (s : State (Option (Rec B)) (View B)) (r : Rule program key s) (id : ℕ) (v : View B)
-        → get_elem? s.views id ≡ some v → (k : Knowing) (plain once steps : ℕ)
-        → IsSo (program key.strict key.root.value) key.cells (contents_of s) r.law k
-        → Rule program key record
-        { words = s.words; homes = s.homes; views = set s.views id (knows k plain once steps v) }
-    rule_learns s r id v at k plain once steps so = rule_views r (set s.views id (knows k plain once steps v)) _ path
-        (each_set _ s.views id (knows k plain once steps v) r.seats
-        (knows_seat key k plain once steps v (r.seats id v at) so.known_born))
-        (law_learns (program key.strict key.root.value) key.cells (contents_of s) r.law id k so)
-      where
-        path : seats_have (set s.views id (knows k plain once steps v))
-            ≡ (learns (program key.strict key.root.value) key.cells (contents_of s) r.law id k).seats
-        path = seats_set s.views id (knows k plain once steps v)
-            ∙ ap (λ (x : SeatsHave B). record x {
-              known = set (seats_have s.views).known id k.known;
-              born_seen = set (seats_have s.views).born_seen id k.born;
-              wrote = set (seats_have s.views).wrote id k.wrote;
-              filled = set (seats_have s.views).filled id k.filled;
-              seen = set (seats_have s.views).seen id k.seen;
-              closed = set (seats_have s.views).closed id k.closed;
-              found = set (seats_have s.views).found id k.found;
-              rested = set (seats_have s.views).rested id k.rested;
-              told = set (seats_have s.views).told id k.told;
-            }) (seats_same s.views id v at)
+    -- a load after which the law holds
+    pub law_allowed : (slots id : ℕ) (m : SeatMe B) (i : ℕ) (then : ℕ → SeatMe B → Type 0)
+        → ((s : State (Option (Rec B)) (View B)) (r : Rule program key s) → get_elem? s.views id ≡ some m.0
+        → (w : View B) × IsSeat key w × Law (program key.strict key.root.value) key.cells
+        record { words = words_say s.words; slots = s.homes; seats = set_seats (seats_have s.views) id w }
+        × then (word s.words i) (w, m.1))
+        → Allows (Rule program key) slots id m i (λ n. n) then
+    law_allowed slots id m i then h s r deep at small = let t = h s r at in let w = t.0 in (
+      w,
+      keeps,
+      tt,
+      subst (λ z. Rule program key record { words = z; homes = s.homes; views = set s.views id w })
+          (sym (words_same s.words i)) (rule_views r (set s.views id w) _ (seats_set s.views id w)
+          (each_set _ s.views id w r.seats t.1) t.2),
+      t.3,
+    )
 
     -- what the seat learns is so, and with it its view is as a load of n promises
     abbrev pub Learns : (s : State (Option (Rec B)) (View B)) → Rule program key s → SeatMe B
         → (ℕ → SeatMe B → Type 0) → ℕ → Type 0
-    Learns s r m then n = (k : Knowing) × (plain once steps : ℕ)
-        × IsSo (program key.strict key.root.value) key.cells (contents_of s) r.law k
-        × then n (knows k plain once steps m.0, m.1)
+    Learns s r m then n = (w : View B) × Knows m.0 w
+        × IsSo (program key.strict key.root.value) key.cells (contents_of s) r.law (knowing_of w)
+        × then n (w, m.1)
 
     -- a load at which the seat learns what is so
     pub load_allowed : (slots id : ℕ) (m : SeatMe B) (i : ℕ) (then : ℕ → SeatMe B → Type 0)
         → ((s : State (Option (Rec B)) (View B)) (r : Rule program key s) → get_elem? s.views id ≡ some m.0
         → Learns s r m then (word s.words i))
         → Allows (Rule program key) slots id m i (λ n. n) then
-    load_allowed slots id m i then h s r deep at small = let t = h s r at in
-        let w = knows t.0 t.1 t.2 t.3 m.0 in (
-          w,
-          keeps,
-          tt,
-          subst (λ z. Rule program key record { words = z; homes = s.homes; views = set s.views id w })
-              (sym (words_same s.words i))
-              (rule_learns s r id m.0 at t.0 t.1 t.2 t.3 t.4),
-          t.5,
-        )
+    load_allowed slots id m i then h = law_allowed slots id m i then (λ s r at.
+        let t = h s r at in let y = seats_have s.views in let k = knowing_of t.0 in (
+          t.0,
+          knows_seat key m.0 t.0 t.1 (r.seats id m.0 at) t.2.known_born,
+          subst (λ z. Law (program key.strict key.root.value) key.cells
+              record { words = words_say s.words; slots = s.homes; seats = z })
+              (sym (t.1.1 y id ∙ ap (seats_learn id k y) (seats_same s.views id m.0 at)))
+              (law_learns (program key.strict key.root.value) key.cells (contents_of s) r.law id k t.2),
+          t.3,
+        ))
 
     -- a load that is no event
     pub plain_allowed : (slots id : ℕ) (m : SeatMe B) (i : ℕ) (kind : Noted) (May : ℕ → Type 0)
@@ -177,11 +135,9 @@ module _ {B : Type 0} where
         → Allows (Rule program key) slots id m i (λ n. n) (plain_load kind May (step slots i 0 0 none) m)
     plain_allowed slots id m i kind May on may =
         load_allowed slots id m i (plain_load kind May (step slots i 0 0 none) m) (λ s r at. (
-          with_note m.0 kind (word s.words i),
-          suc m.0.plain_loads,
-          m.0.once_loads,
-          suc m.0.steps,
-          notes_so s r id m.0 at kind (word s.words i),
+          loaded_plain kind (word s.words i) m.0,
+          (refl, λ y id. refl),
+          knows_so s r id m.0 at,
           (refl, refl, may s r, on),
         ))
 
@@ -190,11 +146,9 @@ module _ {B : Type 0} where
         → Allows (Rule program key) slots id m i (λ n. n) (noted_load kind May (step slots i 0 0 none) m)
     noted_allowed slots id m i kind May on may =
         load_allowed slots id m i (noted_load kind May (step slots i 0 0 none) m) (λ s r at. (
-          with_note m.0 kind (word s.words i),
-          m.0.plain_loads,
-          m.0.once_loads,
-          suc m.0.steps,
-          notes_so s r id m.0 at kind (word s.words i),
+          noted_step kind (word s.words i) m.0,
+          (refl, λ y id. refl),
+          knows_so s r id m.0 at,
           (refl, refl, may s r, on),
         ))
 
@@ -214,20 +168,16 @@ module _ {B : Type 0} where
         load_allowed slots id m live_at (live_load (step slots live_at 0 0 none) m)
         (λ s r at. dite (ℕ_discrete (word s.words live_at) 0)
         (λ z. (
-          record (knowing_of m.0) { rested = true; notes = note_of note.Live 0 m.0 ∷ m.0.notes },
-          m.0.plain_loads,
-          m.0.once_loads,
-          suc m.0.steps,
+          saw_rest m.0,
+          (refl, λ y id. refl),
           (let o = knows_so s r id m.0 at in
-              noted_so (knowing_of m.0) true m.0.stop m.0.told (note_of note.Live 0 m.0 ∷ m.0.notes) o (λ e. z) o.told),
+              found_so (knowing_of m.0) m.0.found true m.0.told o o.found (λ e. z) o.told),
           (refl, (λ e. refl), (λ n. absurd (n z)), live_small s r, refl),
         ))
         (λ n. (
-          with_note m.0 note.Live (word s.words live_at),
-          m.0.plain_loads,
-          m.0.once_loads,
-          suc m.0.steps,
-          notes_so s r id m.0 at note.Live (word s.words live_at),
+          saw_live (word s.words live_at) m.0,
+          (refl, λ y id. refl),
+          knows_so s r id m.0 at,
           (refl, (λ e. absurd (n e)), (λ e. refl), live_small s r, refl),
         )))
 
@@ -246,3 +196,25 @@ module _ {B : Type 0} where
         (at ∙ ap own_at (sym is))
         (λ s r. subst (λ n. word s.words i ≤ n) (sym e)
         (subst (λ k. word s.words k ≤ key.cells) (sym at) (r.codes.each c l).own))
+
+    -- the load of STOP tells whether the meaning is full
+    pub stop_allowed : (slots id : ℕ) (m : SeatMe B)
+        → Allows (Rule program key) slots id m stop_at (λ n. n) (stop_load program (step slots stop_at 0 0 none) m)
+    stop_allowed slots id m =
+        load_allowed slots id m stop_at (stop_load program (step slots stop_at 0 0 none) m) (λ s r at.
+        let n = word s.words stop_at in let o = knows_so s r id m.0 at in (
+          saw_stop n m.0,
+          (refl, λ y id. refl),
+          found_so (knowing_of m.0) m.0.found m.0.rested (n ∷ m.0.told) o o.found o.rested
+              (λ k i z. ⊎_elim (λ (e : k ≡ n). subst (IsStored (seats_have s.views).stored) (sym e)
+              (r.law.stops.given (λ q. z (e ∙ q)))) (λ i. o.told k i z) i),
+          (
+            refl,
+            refl,
+            r.codes.stop,
+            (λ e a f. subst (λ (z : About B). IsFull (program z.strict z.root) z.cells)
+                (sym ((r.seats id m.0 at).about a f)) (r.law.meaning.full (r.law.meaning.stopped e))),
+            r.law.stops.stands id m.0.stored (at_map (λ (u : View B). u.stored) s.views id m.0 at),
+            refl,
+          ),
+        ))

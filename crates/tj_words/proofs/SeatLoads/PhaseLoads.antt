@@ -1,26 +1,21 @@
 -- A load of PHASE that is no event: where the task is the first of the seat's rest, the way of its wait is known then.
 use Rattle.tj_words.proofs.Prelude.{Allows, Bool, Chains, FirstTold, IsFirstIn, IsSeat, Key, Law, List, None, Option}
-use Rattle.tj_words.proofs.Prelude.{Phase, Program, Rec, Rest, Rule, SeatMe, SeatsHave, Some, State, View, Way, [], ap}
-use Rattle.tj_words.proofs.Prelude.{arith, at_map, cond, contents_of, dite, eq-eqb, get_elem?, inl, inr, ne_eqb, none}
-use Rattle.tj_words.proofs.Prelude.{parked_phase, phase_at, phase_in, refl, seats_have, set, set_again, some, step}
-use Rattle.tj_words.proofs.Prelude.{subst, sym, tag_in, word, words_say, ℕ, ℕ_discrete, ⊎_elim, ◌<◌, ◌∙◌, ◌∷◌, ◌≡◌, ◌⊎◌}
-use Rattle.tj_words.specs.Calls.ParkSteps.{parked_way, first_way, rest_loaded, loaded_phase, phase_load}
-use Rattle.tj_words.proofs.Waiters.ChainLists.{no_some}
+use Rattle.tj_words.proofs.Prelude.{Phase, Program, Rec, Rest, Rule, SeatMe, SeatsHave, Some, State, View, Way, ap}
+use Rattle.tj_words.proofs.Prelude.{arith, at_map, contents_of, get_elem?, inl, inr, none, parked_phase, phase_at}
+use Rattle.tj_words.proofs.Prelude.{phase_in, phase_load, refl, seats_have, set, set_again, some, step, subst, sym}
+use Rattle.tj_words.proofs.Prelude.{tag_in, word, words_say, ℕ, ⊎_elim, ◌<◌, ◌∙◌, ◌∷◌, ◌≡◌, ◌⊎◌}
+use Rattle.tj_words.proofs.Lemmas.{back, law_allowed, law_kept, no_some, seats_same, set_seats}
+use Rattle.tj_words.specs.Calls.ParkSteps.{parked_way, first_way, rest_loaded, loaded_phase}
 use Rattle.tj_words.proofs.Waiters.ChainPhases.{chains_read, rest_first}
-use Rattle.tj_words.proofs.Lemmas.{law_chains, seats_same, set_seats, words_same}
-use Rattle.tj_words.proofs.Stores.SlotStores.{StoresWith, Acts, acts_keeping}
-use Rattle.tj_words.proofs.Stores.StoreSteps.{may_store}
-use Rattle.tj_words.proofs.Stores.TableWords as table_word
+use Rattle.tj_words.proofs.Waiters.Backings.{wakes_seat}
 
 -- what is known of the way of a first task is as before, or the task is the one that was loaded
 first_or : (t : ℕ) (p : Phase) (l : List ℕ) (o : Option Way)
     → (first_way t p l o ≡ o) ⊎ ((ts : List ℕ) × (l ≡ t ∷ ts))
-first_or t p [] o = inl refl
-first_or t p (u ∷ us) o = dite (ℕ_discrete u t) (λ e. inr (us, ap (λ k. k ∷ us) e))
-    (λ n. inl (ap (λ (b : Bool). cond b (parked_way p o) o) (ne_eqb u t n)))
+first_or t p l o = grind arith
 
 first_is : (t : ℕ) (p : Phase) (ts : List ℕ) (o : Option Way) → first_way t p (t ∷ ts) o ≡ parked_way p o
-first_is t p ts o = ap (λ (b : Bool). cond b (parked_way p o) o) (eq-eqb t t refl)
+first_is t p ts o = grind arith
 
 -- there is a rest still where there was one
 rest_back : (t : ℕ) (p : Phase) (o : Option Rest) → ((r : Rest) × (rest_loaded t p o ≡ Some r))
@@ -73,44 +68,26 @@ module _ {B : Type 0} (program : Bool → B → Program B) (key : Key B) where
     w = loaded_phase t p v
 
     loaded_seat : IsSeat key w
-    loaded_seat = let h = r.seats id v at in let b = h.backing in record {
-      about = h.about;
-      named = h.named;
-      within_lot = h.within_lot;
-      backing = record {
-        wakes = λ c. b.wakes (⊎_elim (λ a. inl a) (λ d. inr (⊎_elim (λ a. inl a)
-            (λ e. inr (rest_back t p v.rest e)) d)) c);
-        tags = b.tags;
-        alarms = b.alarms;
-      };
-      known_born = h.known_born;
-    }
+    loaded_seat = let h = r.seats id v at in wakes_seat key v h v.pushes v.shuts w.rest
+        (λ c. h.backing.wakes (⊎_elim (λ a. inl a) (λ d. inr (⊎_elim (λ a. inl a)
+        (λ e. inr (rest_back t p v.rest e)) d)) c))
 
-    loaded_stores : t < key.cells → StoresWith program key s s.homes id (phase_at t) (word s.words (phase_at t)) w
-    loaded_stores l = record {
-      inside = let e = r.all_words in omega arith;
-      as_many = refl;
-      may = may_store key.cells (table_word.Phase t) (word s.words (phase_at t)) (r.codes.each t l).phase;
-      seat = loaded_seat;
-      law = subst (λ z. Law (program key.strict key.root.value) key.cells
-          (record { words = words_say z; slots = s.homes; seats = set_seats y id w }))
-          (sym (words_same s.words (phase_at t)))
-          (subst (λ z. Law (program key.strict key.root.value) key.cells
-          (record { words = words_say s.words; slots = s.homes; seats = z }))
-          (sym (ap (λ (z : SeatsHave B). record z { rests = set y.rests id w.rest }) (seats_same s.views id v at)))
-          (law_chains r.law (words_say s.words).head (words_say s.words).next y.pushes y.shuts
-          (set y.rests id w.rest) y.closed y.found loaded_chains));
-    }
+    loaded_law : Law (program key.strict key.root.value) key.cells
+        record { words = words_say s.words; slots = s.homes; seats = set_seats y id w }
+    loaded_law = subst (λ z. Law (program key.strict key.root.value) key.cells
+        record { words = words_say s.words; slots = s.homes; seats = z })
+        (sym (ap (λ (z : SeatsHave B). record z { rests = set y.rests id w.rest }) (seats_same s.views id v at)))
+        (let l = r.law in law_kept l (words_say s.words) (record y { rests = set y.rests id w.rest }) l.lots l.names
+        l.tree_words l.once_words loaded_chains l.live_count l.stops l.records_fit l.meaning l.facts)
 
   pub phase_allowed : (slots id : ℕ) (m : SeatMe B) (cells c t i : ℕ) → cells ≡ key.cells → c ≡ t → t < key.cells
       → i ≡ phase_at t
       → Allows (Rule program key) slots id m i (λ n. n) (phase_load cells c (step slots i 0 0 none) m)
-  phase_allowed slots id m cells c t i few is l place s r deep at small =
-      subst (λ (k : ℕ × ℕ × ℕ). Acts program key s id m k.2 (word s.words k.2)
-      (λ m'. phase_load k.0 k.1 (step slots i 0 0 none) m (word s.words k.2) m'))
-      (λ j. (sym few j, sym is j, sym place j))
-      (acts_keeping program key s r id m (phase_at t) (word s.words (phase_at t))
-      (phase_load key.cells t (step slots i 0 0 none) m (word s.words (phase_at t)))
-      (loaded_phase t (p s r id t m.0 at) m.0)
-      (loaded_stores s r id t m.0 at l)
-      (refl, refl, (r.codes.each t l).phase, first_told s r id t m.0 at, place))
+  phase_allowed slots id m cells c t i few is l place = back (λ j. Allows (Rule program key) slots id m (place j)
+      (λ n. n) (phase_load (few j) (is j) (step slots i 0 0 none) m))
+      (law_allowed program key slots id m (phase_at t) (phase_load key.cells t (step slots i 0 0 none) m) (λ s r at. (
+        loaded_phase t (p s r id t m.0 at) m.0,
+        loaded_seat s r id t m.0 at,
+        loaded_law s r id t m.0 at,
+        (refl, refl, (r.codes.each t l).phase, first_told s r id t m.0 at, place),
+      )))

@@ -1,18 +1,16 @@
 -- The loads of a walker keep the rule.
 use Rattle.tj_words.proofs.Prelude.{Allows, Bool, Custody, Does, DoesRun, DoesWalk, EventKeepsFacts, HasAlarmed}
-use Rattle.tj_words.proofs.Prelude.{IsCount, IsHeldWith, IsPhaseWord, IsSeat, Key, Law, MayCount, MayReadOthers, Option}
+use Rattle.tj_words.proofs.Prelude.{IsCount, IsPhaseWord, IsSeat, IsWalking, Key, Law, MayCount, MayReadOthers, Option}
 use Rattle.tj_words.proofs.Prelude.{OthersAreFew, Program, Rec, Rule, SeatMe, SeatsHave, Some, State, View, Walker, Way}
-use Rattle.tj_words.proofs.Prelude.{ap, arith, at_map, contents_of, count_at, count_read, get_elem?, held_in, hold}
-use Rattle.tj_words.proofs.Prelude.{keeps, min, none, others_at, others_read, own_at, owner_in, phase_at, phase_in}
+use Rattle.tj_words.proofs.Prelude.{ap, arith, at_map, contents_of, count_at, count_read, get_elem?, held_in, hold, min}
+use Rattle.tj_words.proofs.Prelude.{none, others_at, others_read, own_at, owner_in, owner_seen, phase_at, phase_in}
 use Rattle.tj_words.proofs.Prelude.{present, refl, seats_have, set, some, step, subst, sym, turned, wait_found, wait_in}
 use Rattle.tj_words.proofs.Prelude.{walk_load, walk_with, word, words_say, ℕ, ◌<◌, ◌^◌, ◌∙◌, ◌≡◌, ◌≢◌, ◌≤◌}
-use Rattle.tj_words.specs.Calls.WalkViews.{owner_seen, MayLoadOwner, MayLoadWait, does_next, IsWalking}
+use Rattle.tj_words.proofs.Lemmas.{IsHeldWith, back, hold_else, hold_here, holder_seat, law_allowed, noted_is}
+use Rattle.tj_words.proofs.Lemmas.{same_some, seats_same, set_seats, total_fits}
+use Rattle.tj_words.specs.Calls.WalkViews.{MayLoadOwner, MayLoadWait, does_next}
 use Rattle.tj_words.proofs.Waiters.Backings.{backing_turns}
-use Rattle.tj_words.proofs.Waiters.ChainLists.{same_some}
 use Rattle.tj_words.proofs.Holders.HeldChanges.{held_task}
-use Rattle.tj_words.proofs.Lemmas.{back, each_set, hold_else, hold_here, holder_seat, noted_is, rule_views, seats_same}
-use Rattle.tj_words.proofs.Lemmas.{seats_set, set_seats, words_same}
-use Rattle.tj_words.proofs.SeatLoads.LoadSteps.{total_fits}
 use Rattle.tj_words.proofs.SeatLoads.WalkReads.{doing, read_to, law_reads_others, law_reads_count, law_reads_wait}
 use Rattle.tj_words.proofs.SeatLoads.WalkReads.{law_reads_seen}
 use Rattle.tj_words.specs.declared.view.Does.TheVariants as does
@@ -54,14 +52,6 @@ module _ {B : Type 0} (program : Bool → B → Program B) (key : Key B) where
   abbrev P : Program B
   P = program key.strict key.root.value
 
-  -- a load after which the law holds keeps the rule
-  rule_loads : (s : State (Option (Rec B)) (View B)) (r : Rule program key s) (id : ℕ) (w : View B) → IsSeat key w
-      → Law P key.cells
-      record { words = words_say s.words; slots = s.homes; seats = set_seats (seats_have s.views) id w }
-      → Rule program key record { words = s.words; homes = s.homes; views = set s.views id w }
-  rule_loads s r id w q law = rule_views r (set s.views id w) _ (seats_set s.views id w)
-      (each_set (λ j v. IsSeat key v) s.views id w r.seats q) law
-
   -- what the seats have once t of one seat does something else
   pub turned_seats : (s : State (Option (Rec B)) (View B)) (id t : ℕ) (f : Does → Does) (v : View B)
       → get_elem? s.views id ≡ some v
@@ -82,28 +72,25 @@ module _ {B : Type 0} (program : Bool → B → Program B) (key : Key B) where
 
   -- a load by which a walker reads on, where the law holds afterwards
   walk_allowed : (slots id : ℕ) (m : SeatMe B) (i t task : ℕ) (f : ℕ → Walker → Walker) (May : ℕ → Type 0)
-      (F : ℕ → Way → Walker → Type 0) → task ≡ t → (h : IsWalking t F m.0)
-      → ((s : State (Option (Rec B)) (View B)) (r : Rule program key s) (at : get_elem? s.views id ≡ some m.0)
-      → Law P key.cells (read_to (contents_of s) id t h.task (held_by_view s id t m.0 at h.task h.held) h.wait h.way
-      (f (word s.words i) h.walker)) × May (word s.words i))
+      {F : ℕ → Way → Walker → Type 0} → task ≡ t → (h : IsWalking t F m.0)
+      → ((s : State (Option (Rec B)) (View B)) (r : Rule program key s) (k : IsHeldWith (contents_of s) id t h.task)
+      → Law P key.cells (read_to (contents_of s) id t h.task k h.wait h.way (f (word s.words i) h.walker))
+      × May (word s.words i))
       → Allows (Rule program key) slots id m i (λ n. n) (walk_load task f May (step slots i 0 0 none) m)
-  walk_allowed slots id m i t task f May F e h keeps_law s r deep at small =
-      let n = word s.words i in let g = walk_with (f n) in let w = turned t g m.0 in let l = keeps_law s r at in
-      let d = does.Walking h.wait h.way (f n h.walker) in
+  walk_allowed slots id m i t task f May e h keeps_law =
+      law_allowed program key slots id m i (walk_load task f May (step slots i 0 0 none) m) (λ s r at.
+      let g = walk_with (f (word s.words i)) in
+      let l = keeps_law s r (held_by_view s id t m.0 at h.task h.held) in
+      let d = does.Walking h.wait h.way (f (word s.words i) h.walker) in
       let now : g h.task.does ≡ d = ap g h.does in
       let walked : (does.Walking h.wait h.way h.walker) ≡ h.task.does = sym h.does in (
-        w,
-        keeps,
-        tt,
-        subst (λ z. Rule program key record { words = z; homes = s.homes; views = set s.views id w })
-            (sym (words_same s.words i))
-            (rule_loads s r id w
-            (turned_seat t g m.0 h.task h.held key d now
-            (λ a. absurd (subst DoesRun (sym walked) a)) (λ a. tt) (λ a. a) (r.seats id m.0 at))
-            (subst (λ z. Law P key.cells record { words = words_say s.words; slots = s.homes; seats = z })
-            (sym (turned_seats s id t g m.0 at h.task h.held d now)) l.0)),
+        turned t g m.0,
+        turned_seat t g m.0 h.task h.held key d now
+            (λ a. absurd (subst DoesRun (sym walked) a)) (λ a. tt) (λ a. a) (r.seats id m.0 at),
+        subst (λ z. Law P key.cells record { words = words_say s.words; slots = s.homes; seats = z })
+            (sym (turned_seats s id t g m.0 at h.task h.held d now)) l.0,
         (refl, ap (λ z. turned z g m.0) (sym e), l.1),
-      )
+      ))
 
   -- OTHERS is small
   pub others_small : OthersAreFew → (s : State (Option (Rec B)) (View B)) → Rule program key s
@@ -122,11 +109,9 @@ module _ {B : Type 0} (program : Bool → B → Program B) (key : Key B) where
     count_read_allowed t task cells e q h = back
         (λ j. Allows (Rule program key) slots id m count_at (λ n. n)
         (walk_load task (λ n. count_read (min n (q j))) (IsCount (q j)) (step slots count_at 0 0 none) m))
-        (walk_allowed slots id m count_at t task (λ n. count_read (min n key.cells)) (IsCount key.cells)
-        (λ p way w. MayCount way w) e h
-        (λ s r at. (
-          law_reads_count event_keeps r.law id t h.task (held_by_view s id t m.0 at h.task h.held) h.wait h.way h.walker
-              h.does h.may,
+        (walk_allowed slots id m count_at t task (λ n. count_read (min n key.cells)) (IsCount key.cells) e h
+        (λ s r k. (
+          law_reads_count event_keeps r.law id t h.task k h.wait h.way h.walker h.does h.may,
           r.law.facts.makers.root_there,
         )))
 
@@ -138,9 +123,8 @@ module _ {B : Type 0} (program : Bool → B → Program B) (key : Key B) where
     owner_read_allowed t task cells c i e q at_word l h = back
         (λ j. Allows (Rule program key) slots id m (at_word j) (λ n. n)
         (walk_load task (λ n w. owner_seen (owner_in n) w w.last) (λ n. n ≤ q j) (step slots (at_word j) 0 0 none) m))
-        (walk_allowed slots id m (own_at c) t task (λ n w. owner_seen (owner_in n) w w.last) (λ n. n ≤ key.cells)
-        (λ p way w. (c ≡ present p w.trail) × MayLoadOwner w) e h
-        (λ s r at. let x = contents_of s in let k = held_by_view s id t m.0 at h.task h.held in (
+        (walk_allowed slots id m (own_at c) t task (λ n w. owner_seen (owner_in n) w w.last) (λ n. n ≤ key.cells) e h
+        (λ s r k. let x = contents_of s in (
           subst (λ z. Law P key.cells (read_to x id t h.task k h.wait h.way
               (owner_seen (x.words.own z) h.walker h.walker.last))) (sym h.may.0)
               (law_reads_seen event_keeps r.law id t h.task k h.wait h.way h.walker h.does h.may.1),
@@ -158,10 +142,8 @@ module _ {B : Type 0} (program : Bool → B → Program B) (key : Key B) where
         (walk_load task (λ n. wait_found (o j) (wait_in (phase_in n))) (IsPhaseWord (q j))
         (step slots (at_word j) 0 0 none) m))
         (walk_allowed slots id m (phase_at u) t task (λ n. wait_found u (wait_in (phase_in n))) (IsPhaseWord key.cells)
-        (λ p way w. MayLoadWait t u w) e h
-        (λ s r at. (
-          law_reads_wait event_keeps r.law id t h.task (held_by_view s id t m.0 at h.task h.held) h.wait h.way h.walker
-              h.does u h.may.0 h.may.1,
+        e h (λ s r k. (
+          law_reads_wait event_keeps r.law id t h.task k h.wait h.way h.walker h.does u h.may.0 h.may.1,
           (r.codes.each u l).phase,
         )))
 
@@ -171,9 +153,7 @@ module _ {B : Type 0} (program : Bool → B → Program B) (key : Key B) where
         → Allows (Rule program key) slots id m others_at (λ n. n)
         (walk_load task others_read (λ n. n < 2 ^ 32) (step slots others_at 0 0 none) m)
     others_read_allowed few t task e h =
-        walk_allowed slots id m others_at t task others_read (λ n. n < 2 ^ 32) (λ p way w. MayReadOthers way w) e h
-        (λ s r at. (
-          law_reads_others event_keeps r.law id t h.task (held_by_view s id t m.0 at h.task h.held) h.wait h.way
-              h.walker h.does h.may,
+        walk_allowed slots id m others_at t task others_read (λ n. n < 2 ^ 32) e h (λ s r k. (
+          law_reads_others event_keeps r.law id t h.task k h.wait h.way h.walker h.does h.may,
           others_small few s r,
         ))

@@ -1,22 +1,20 @@
 -- A task of a seat does something else, in the same phase: the law after it, and the loads of a walker as events.
 use Rattle.tj_words.proofs.Prelude.{All, AreThere, Bool, Contents, CoreFacts, Custody, Does, Event, EventKeepsFacts}
-use Rattle.tj_words.proofs.Prelude.{HasAlarmed, IsBegun, IsHeldWith, IsIn, IsLaid, IsMoved, IsThere, Law, MayCount}
-use Rattle.tj_words.proofs.Prelude.{MayLoadOwner, MayReadAgain, MayReadOthers, MayReadOwner, None, Option, Phase}
-use Rattle.tj_words.proofs.Prelude.{Program, ReadsOn, Rec, ShowsEvent, Some, Walker, Way, [], ap, cell, core_shown}
-use Rattle.tj_words.proofs.Prelude.{count_read, does_cells, drawn_in, false, hand_of, hold, home_of, inl, inr, is_owner}
-use Rattle.tj_words.proofs.Prelude.{length, others_read, owned_by, owner_found, owner_read, owner_seen, parts_of}
+use Rattle.tj_words.proofs.Prelude.{HasAlarmed, IsBegun, IsIn, IsLaid, IsThere, Law, MayCount, MayLoadOwner}
+use Rattle.tj_words.proofs.Prelude.{MayReadAgain, MayReadOthers, MayReadOwner, None, Option, Phase, Program, Rec}
+use Rattle.tj_words.proofs.Prelude.{SawOwner, SawWait, Some, Walker, Way, [], ap, arith, cell, core_shown, count_read}
+use Rattle.tj_words.proofs.Prelude.{does_cells, drawn_in, false, hand_of, hold, home_of, in_left, in_right, inl, inr}
+use Rattle.tj_words.proofs.Prelude.{is_owner, length, others_read, owned_by, owner_found, owner_read, owner_seen}
 use Rattle.tj_words.proofs.Prelude.{phase_of, present, read_cells, refl, set, subst, suc, sym, trail_cells, true}
 use Rattle.tj_words.proofs.Prelude.{wait_found, wait_in, walk_cells, ℕ, ⊎_elim, ◌++◌, ◌<◌, ◌∙◌, ◌∷◌, ◌≡◌, ◌≢◌}
+use Rattle.tj_words.proofs.Lemmas.{IsHeldWith, IsMoved, ReadsOn, ShowsEvent, begun_there, custody, facts_after}
+use Rattle.tj_words.proofs.Lemmas.{held_listed, hold_held, home_there, made_held_by, none_some, one_some, owned_held_by}
+use Rattle.tj_words.proofs.Lemmas.{parts_of, put_self}
 use Rattle.tj_events.specs.declared.walk.LastRead.{LastRead}
-use Rattle.tj_events.specs.declared.walk.LastRead.TheVariants.{Counted, Passed, SawOwner, SawWait}
-use Rattle.tj_words.proofs.Lemmas.{begun_there, custody, held_listed, home_there, in_back, made_held_by, none_some}
-use Rattle.tj_words.proofs.Lemmas.{one_some, owned_held_by, put_self}
-use Rattle.tj_words.proofs.Holders.HeldTasks.{in_front}
+use Rattle.tj_events.specs.declared.walk.LastRead.TheVariants.{Counted, Passed}
 use Rattle.tj_words.proofs.Seating.Merging.{all_append}
 use Rattle.tj_words.proofs.SeatLoads.KnowLoads.{all_cons}
-use Rattle.tj_words.proofs.Holders.SeatTasks.{hold_held}
 use Rattle.tj_words.proofs.Holders.HeldChanges.{held_task, found_held, hold_move}
-use Rattle.tj_words.proofs.Events.StepFacts.{facts_after}
 use Rattle.tj_words.proofs.Events.WalkEvents.{others_shown, count_shown, owner_shown_read, wait_shown_read}
 use Rattle.tj_words.proofs.Events.WalkEvents.{again_shown_read}
 use Rattle.tj_words.proofs.Holders.TaskMoves.{law_task, TaskMove}
@@ -24,42 +22,32 @@ use Rattle.tj_events.specs.declared.event.Event.TheVariants as event
 use Rattle.tj_words.specs.declared.phase.Phase.TheVariants as phase
 use Rattle.tj_words.specs.declared.view.Does.TheVariants as does
 
--- what holds of the cells of a walk and of those of its newest read holds of the walk with that read
 module _ (F : ℕ → Type 0) where
   none : All F []
   none c i = absurd i
 
+  -- what holds of the owner that was read, or of what it waits for, holds of the cells of the read
+  owner_there : (o : Option ℕ) → ((u : ℕ) → o ≡ Some u → F u) → All F (read_cells (SawOwner o))
+  owner_there o a c i = grind arith
+
+  wait_there : (u : ℕ) (o : Option ℕ) → F u → ((c : ℕ) → o ≡ Some c → F c) → All F (read_cells (SawWait u o))
+  wait_there u o f a c i = grind arith
+
+  -- what holds of the cells of a walk and of those of its newest read holds of the walk with that read
   module _ (p : ℕ) (w : Walker) (h : All F (walk_cells p w)) where
-    pub last_there : (l : LastRead) → w.last ≡ l → All F (read_cells l)
+    last_there : (l : LastRead) → w.last ≡ l → All F (read_cells l)
     last_there l e c i =
-        h c (inr (in_back c (trail_cells w.trail) (read_cells w.last) (subst (λ z. IsIn c (read_cells z)) (sym e) i)))
+        h c (inr (in_right c (trail_cells w.trail) (read_cells w.last) (subst (λ z. IsIn c (read_cells z)) (sym e) i)))
 
     trail_there : All F (trail_cells w.trail)
-    trail_there c i = h c (inr (in_front c (trail_cells w.trail) (read_cells w.last) i))
+    trail_there c i = h c (inr (in_left c (trail_cells w.trail) (read_cells w.last) i))
 
     walk_with_read : (l : LastRead) (bound loads : ℕ) → All F (read_cells l)
         → All F (walk_cells p record { trail = w.trail; bound = bound; loads = loads; last = l })
     walk_with_read l bound loads a = all_cons F p (trail_cells w.trail ++ read_cells l) (h p (inl refl))
         (all_append F (trail_cells w.trail) (read_cells l) trail_there a)
 
-    pub others_there : (n : ℕ) → All F (walk_cells p (others_read n w))
-    others_there n = walk_with_read (others_read n w).last w.bound w.loads none
-
-    pub count_there : (n : ℕ) → All F (walk_cells p (count_read n w))
-    count_there n = walk_with_read (count_read n w).last n w.loads none
-
-    pub owner_there : (o : Option ℕ) → ((u : ℕ) → o ≡ Some u → F u) → All F (walk_cells p (owner_read o w))
-    owner_there None a = walk_with_read (SawOwner None) w.bound (suc w.loads) none
-    owner_there (Some u) a = walk_with_read (SawOwner (Some u)) w.bound (suc w.loads) (all_cons F u [] (a u refl) none)
-
-    pub wait_there : (u : ℕ) (o : Option ℕ) → F u → ((c : ℕ) → o ≡ Some c → F c)
-        → All F (walk_cells p (wait_found u o w))
-    wait_there u None f a = walk_with_read (SawWait u None) w.bound (suc w.loads) (all_cons F u [] f none)
-    wait_there u (Some c) f a =
-        walk_with_read (SawWait u (Some c)) w.bound (suc w.loads)
-        (all_cons F u (c ∷ []) f (all_cons F c [] (a c refl) none))
-
-    pub again_there : (b : Bool) (u v : ℕ) → F u → F v → All F (walk_cells p (owner_found b u v w))
+    again_there : (b : Bool) (u v : ℕ) → F u → F v → All F (walk_cells p (owner_found b u v w))
     again_there true u v f g = all_cons F p (u ∷ v ∷ (trail_cells w.trail ++ [])) (h p (inl refl))
         (all_cons F u (v ∷ (trail_cells w.trail ++ [])) f (all_cons F v (trail_cells w.trail ++ []) g
         (all_append F (trail_cells w.trail) [] trail_there none)))
@@ -128,10 +116,12 @@ module _ {B : Type 0} {program : Program B} {cells : ℕ} {x : Contents B} (r : 
 module _ {B : Type 0} {program : Program B} {cells : ℕ} {x : Contents B} (event_keeps : EventKeepsFacts)
     (r : Law program cells x) (id t : ℕ) (k : Custody B) (h : IsHeldWith x id t k) (p : ℕ) (way : Way) (w : Walker)
     (walks : k.does ≡ does.Walking p way w) where
+  abbrev There : ℕ → Type 0
+  There = IsThere (drawn_in cells x) (hand_of x)
+
   -- every cell that the walk names is there
-  named : AreThere (drawn_in cells x) (hand_of x) (walk_cells p w)
-  named = subst (λ z. AreThere (drawn_in cells x) (hand_of x) (does_cells z)) walks
-      (r.names.walks id h.0 h.1 k (held_listed h.0 t k h.2))
+  named : All There (walk_cells p w)
+  named = subst (λ z. All There (does_cells z)) walks (r.names.walks id h.0 h.1 k (held_listed h.0 t k h.2))
 
   module _ (w' : Walker) where
     abbrev d' : Does
@@ -156,8 +146,7 @@ module _ {B : Type 0} {program : Program B} {cells : ℕ} {x : Contents B} (even
       keeps = record { others = refl; cleared = refl };
     }
 
-    read_law : (e : Event) → ShowsEvent cells r.born r.maker x read_y e r.born r.maker
-        → AreThere (drawn_in cells x) (hand_of x) (walk_cells p w')
+    read_law : (e : Event) → ShowsEvent cells r.born r.maker x read_y e r.born r.maker → All There (walk_cells p w')
         → Law program cells read_y
     read_law e s there = law_turned r id t k h d' same x.words.others
         (subst (λ z. IsBegun (phase_of z)) (sym walks) tt) (λ a. a) there (facts_after event_keeps s r.facts)
@@ -166,55 +155,43 @@ module _ {B : Type 0} {program : Program B} {cells : ℕ} {x : Contents B} (even
   pub law_reads_others : MayReadOthers way w
       → Law program cells (read_to x id t k h p way (others_read x.words.others w))
   law_reads_others may = let w' = others_read x.words.others w in
-      read_law w' (event.LoadOthers (cell t))
-      (others_shown r (read_y w') id t p way w (reads w') may)
-      (others_there (IsThere (drawn_in cells x) (hand_of x)) p w named x.words.others)
+      read_law w' (event.LoadOthers (cell t)) (others_shown r (read_y w') id t p way w (reads w') may)
+      (walk_with_read There p w named w'.last w.bound w.loads (none There))
 
   -- the load of COUNT
   pub law_reads_count : MayCount way w → Law program cells (read_to x id t k h p way (count_read (drawn_in cells x) w))
   law_reads_count may = let w' = count_read (drawn_in cells x) w in
-      read_law w' (event.LoadCount (cell t))
-      (count_shown r (read_y w') id t p way w (reads w') may)
-      (count_there (IsThere (drawn_in cells x) (hand_of x)) p w named (drawn_in cells x))
+      read_law w' (event.LoadCount (cell t)) (count_shown r (read_y w') id t p way w (reads w') may)
+      (walk_with_read There p w named w'.last w'.bound w.loads (none There))
 
   -- the first load of OWN of the present cell
   pub law_reads_owner : MayReadOwner w
       → Law program cells (read_to x id t k h p way (owner_read (x.words.own (present p w.trail)) w))
   law_reads_owner may = let o = x.words.own (present p w.trail) in let w' = owner_read o w in
-      read_law w' (event.ReadOwner (cell t))
-      (owner_shown_read r (read_y w') id t p way w (reads w') may)
-      (owner_there (IsThere (drawn_in cells x) (hand_of x)) p w named o
-      (λ u e. (r.names.owned (present p w.trail) u e).1))
+      read_law w' (event.ReadOwner (cell t)) (owner_shown_read r (read_y w') id t p way w (reads w') may)
+      (walk_with_read There p w named w'.last w.bound w'.loads
+      (owner_there There o (λ u e. (r.names.owned (present p w.trail) u e).1)))
 
   -- the load of PHASE of the owner u
   pub law_reads_wait : (u : ℕ) → w.last ≡ SawOwner (Some u) → u ≢ t
       → Law program cells (read_to x id t k h p way (wait_found u (wait_in (x.words.phase u)) w))
   law_reads_wait u last other = let o = wait_in (x.words.phase u) in let w' = wait_found u o w in
-      read_law w' (event.ReadWait (cell t))
-      (wait_shown_read r (read_y w') id t p way w u (reads w') last other)
-      (wait_there (IsThere (drawn_in cells x) (hand_of x)) p w named u o
-      (last_there (IsThere (drawn_in cells x) (hand_of x)) p w named (SawOwner (Some u)) last u (inl refl))
-      (λ c e. waits_there (x.words.phase u) refl c e))
+      read_law w' (event.ReadWait (cell t)) (wait_shown_read r (read_y w') id t p way w u (reads w') last other)
+      (walk_with_read There p w named w'.last w.bound w'.loads (wait_there There u o
+      (last_there There p w named (SawOwner (Some u)) last u (inl refl))
+      (λ c e. waits_there (x.words.phase u) refl c e)))
     where
-      waits_there : (f : Phase) → x.words.phase u ≡ f → (c : ℕ) → wait_in f ≡ Some c
-          → IsThere (drawn_in cells x) (hand_of x) c
-      waits_there phase.Unborn q c e = none_some None c refl e
-      waits_there phase.Ready q c e = none_some None c refl e
-      waits_there phase.Running q c e = none_some None c refl e
-      waits_there phase.Ended q c e = none_some None c refl e
-      waits_there phase.Promise q c e = none_some None c refl e
-      waits_there (phase.Waiting d v g) q c e =
-          subst (IsThere (drawn_in cells x) (hand_of x)) (one_some d.0 c e) (r.names.waits u d v g q)
+      waits_there : (f : Phase) → x.words.phase u ≡ f → (c : ℕ) → wait_in f ≡ Some c → There c
+      waits_there (phase.Waiting d v g) q c e = subst There (one_some d.0 c e) (r.names.waits u d v g q)
+      waits_there f q c e = none_some None c refl e
 
   -- the second load of OWN of the present cell, whose owner u was seen to wait for v
   pub law_reads_again : (u v : ℕ) → w.last ≡ SawWait u (Some v)
       → Law program cells (read_to x id t k h p way (owner_found (is_owner (x.words.own (present p w.trail)) u) u v w))
   law_reads_again u v last = let b = is_owner (x.words.own (present p w.trail)) u in let w' = owner_found b u v w in
-      let seen = last_there (IsThere (drawn_in cells x) (hand_of x)) p w named (SawWait u (Some v)) last in
-      read_law w' (event.ReadOwnerAgain (cell t))
-      (again_shown_read r (read_y w') id t p way w u v (reads w') last)
-      (again_there (IsThere (drawn_in cells x) (hand_of x)) p w named b u v (seen u (inl refl))
-      (seen v (inr (inl refl))))
+      let seen = last_there There p w named (SawWait u (Some v)) last in
+      read_law w' (event.ReadOwnerAgain (cell t)) (again_shown_read r (read_y w') id t p way w u v (reads w') last)
+      (again_there There p w named b u v (seen u (inl refl)) (seen v (inr (inl refl))))
 
   -- the load of OWN of the present cell, for the first or the second time
   pub law_reads_seen : MayLoadOwner w

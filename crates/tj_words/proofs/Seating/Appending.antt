@@ -1,12 +1,14 @@
 -- A seat more: the law stays where it holds nothing, has nothing to do, and what it knows is so.
-use Rattle.tj_words.proofs.Prelude.{Births, Contents, CoreFacts, Custodies, Custody, Hand, IsForkTree, Law, List}
-use Rattle.tj_words.proofs.Prelude.{Meaning, NamesCells, None, OnceWords, Option, OwnedLists, Program, Some, TreeWords}
-use Rattle.tj_words.proofs.Prelude.{[], all_lots, ap, arith, at_snoc, bits_in, cond, core_shown, drawn_in, find_in}
-use Rattle.tj_words.proofs.Prelude.{get_elem?, hand_in, hand_of, held_in, held_of, home_of, inl, inr, made_by, made_of}
-use Rattle.tj_words.proofs.Prelude.{making, nat_eq, or_else, owned_by, owned_of, refl, some, state_shown, subst, sym}
-use Rattle.tj_words.proofs.Prelude.{tag_in, total, ℕ, ⊎_elim, ◌++◌, ◌+◌, ◌∷◌, ◌≡◌}
+use Rattle.tj_words.proofs.Prelude.{About, BackingOf, Births, Contents, CoreFacts, Custodies, Custody, Hand, HasWake}
+use Rattle.tj_words.proofs.Prelude.{IsForkTree, Law, List, Meaning, NamesCells, None, OnceWords, Option, OwnedLists}
+use Rattle.tj_words.proofs.Prelude.{Program, SeatsHave, Some, TreeWords, View, WithinLot, [], all_lots, ap, arith}
+use Rattle.tj_words.proofs.Prelude.{at_snoc, bits_in, cond, core_shown, drawn_in, find_in, get_elem?, hand_in, hand_of}
+use Rattle.tj_words.proofs.Prelude.{held_in, held_of, home_of, inl, inr, least_lot, made_by, made_of, making, nat_eq}
+use Rattle.tj_words.proofs.Prelude.{or_else, owned_by, owned_of, refl, right_half, seats_have, some, state_shown, subst}
+use Rattle.tj_words.proofs.Prelude.{sym, tag_in, total, ℕ, ⊎_elim, ◌++◌, ◌+◌, ◌∷◌, ◌≡◌, ◌≤◌, ◌⊎◌}
+use mathlib.Core.List.{map-append}
 use Rattle.tj_words.proofs.Stores.SeatLists.{back, each_snoc, of_seat_snoc}
-use Rattle.tj_words.proofs.SeatLoads.Learning.{Knowing, IsSo}
+use Rattle.tj_words.proofs.SeatLoads.Learning.{IsSo, knowing_of}
 use Rattle.tj_words.proofs.Waiters.ChainSeats.{chains_seats}
 
 pub hand_snoc : (hands : List (Option Hand)) (c : ℕ) → hand_in (hands ++ None ∷ []) c ≡ hand_in hands c
@@ -28,34 +30,80 @@ pub total_snoc : (l : List ℕ) (n : ℕ) → total (l ++ n ∷ []) ≡ total l 
 total_snoc [] n = omega arith
 total_snoc (x ∷ xs) n = let h = total_snoc xs n in omega arith
 
-module _ {B : Type 0} (program : Program B) (cells : ℕ) (x : Contents B) (law : Law program cells x)
-    (lots : List ℕ) (all : total lots ≡ all_lots) (k : Knowing) (so : IsSo program cells x law k) where
-  -- the contents with a seat more, which knows this, where the lots are these
-  abbrev pub with_seat : Contents B
-  with_seat = record x {
-    seats = record {
-      lots = lots;
-      refused = x.seats.refused ++ 0 ∷ [];
-      tokens = x.seats.tokens ++ 0 ∷ [];
-      cleared = x.seats.cleared ++ 0 ∷ [];
-      hands = x.seats.hands ++ None ∷ [];
-      tasks = x.seats.tasks ++ [] ∷ [];
-      known = x.seats.known ++ k.known ∷ [];
-      born_seen = x.seats.born_seen ++ k.born ∷ [];
-      wrote = x.seats.wrote ++ k.wrote ∷ [];
-      filled = x.seats.filled ++ k.filled ∷ [];
-      seen = x.seats.seen ++ k.seen ∷ [];
-      dues = x.seats.dues ++ [] ∷ [];
-      pushes = x.seats.pushes ++ [] ∷ [];
-      shuts = x.seats.shuts ++ [] ∷ [];
-      rests = x.seats.rests ++ None ∷ [];
-      closed = x.seats.closed ++ k.closed ∷ [];
-      found = x.seats.found ++ k.found ∷ [];
-      rested = x.seats.rested ++ k.rested ∷ [];
-      stored = x.seats.stored ++ [] ∷ [];
-      told = x.seats.told ++ [] ∷ [];
-    };
+-- a seat that holds nothing has nothing to come, and nothing that exceeds its lot
+pub idle_backing : {B : Type 0} → BackingOf {B = B} 0 [] [] [] None []
+idle_backing = record {
+  wakes = λ h. absurd (none h);
+  tags = λ t. absurd t.1;
+  alarms = λ a. let q : None ≡ Some a.1 = a.2 in absurd (cc);
+}
+  where
+    none : HasWake [] [] None → ⊥
+    none (inl n) = n refl
+    none (inr (inl n)) = n refl
+    none (inr (inr w)) = cc
+
+pub unused_lot : {B : Type 0} {about : Option (About B)} {tasks : List (Custody B)} {lot : ℕ}
+    → ((about ≡ None) × (tasks ≡ [])) ⊎ (least_lot ≤ lot) → WithinLot about tasks lot 0 0 0
+unused_lot l =
+    record { least = l; refused_fit = omega arith; tokens_fit = omega arith; cleared_fit = omega arith }
+
+module _ {B : Type 0} where
+  -- what the seats have, with one more
+  abbrev pub snoc_seats : SeatsHave B → View B → SeatsHave B
+  snoc_seats x w = record {
+    lots = x.lots ++ w.lot ∷ [];
+    refused = x.refused ++ w.refused ∷ [];
+    tokens = x.tokens ++ w.tokens ∷ [];
+    cleared = x.cleared ++ w.cleared ∷ [];
+    hands = x.hands ++ w.hand ∷ [];
+    tasks = x.tasks ++ w.tasks ∷ [];
+    known = x.known ++ w.known ∷ [];
+    born_seen = x.born_seen ++ w.born ∷ [];
+    wrote = x.wrote ++ w.wrote ∷ [];
+    filled = x.filled ++ w.filled ∷ [];
+    seen = x.seen ++ w.seen ∷ [];
+    dues = x.dues ++ w.dues ∷ [];
+    pushes = x.pushes ++ w.pushes ∷ [];
+    shuts = x.shuts ++ w.shuts ∷ [];
+    rests = x.rests ++ w.rest ∷ [];
+    closed = x.closed ++ w.closed ∷ [];
+    found = x.found ++ w.found ∷ [];
+    rested = x.rested ++ w.rested ∷ [];
+    stored = x.stored ++ w.stored ∷ [];
+    told = x.told ++ w.told ∷ [];
   }
+
+  pub seats_snoc : (views : List (View B)) (w : View B)
+      → seats_have (views ++ w ∷ []) ≡ snoc_seats (seats_have views) w
+  seats_snoc views w j = record {
+    lots = map-append (λ (v : View B). v.lot) views (w ∷ []) j;
+    refused = map-append (λ (v : View B). v.refused) views (w ∷ []) j;
+    tokens = map-append (λ (v : View B). v.tokens) views (w ∷ []) j;
+    cleared = map-append (λ (v : View B). v.cleared) views (w ∷ []) j;
+    hands = map-append (λ (v : View B). v.hand) views (w ∷ []) j;
+    tasks = map-append (λ (v : View B). v.tasks) views (w ∷ []) j;
+    known = map-append (λ (v : View B). v.known) views (w ∷ []) j;
+    born_seen = map-append (λ (v : View B). v.born) views (w ∷ []) j;
+    wrote = map-append (λ (v : View B). v.wrote) views (w ∷ []) j;
+    filled = map-append (λ (v : View B). v.filled) views (w ∷ []) j;
+    seen = map-append (λ (v : View B). v.seen) views (w ∷ []) j;
+    dues = map-append (λ (v : View B). v.dues) views (w ∷ []) j;
+    pushes = map-append (λ (v : View B). v.pushes) views (w ∷ []) j;
+    shuts = map-append (λ (v : View B). v.shuts) views (w ∷ []) j;
+    rests = map-append (λ (v : View B). v.rest) views (w ∷ []) j;
+    closed = map-append (λ (v : View B). v.closed) views (w ∷ []) j;
+    found = map-append (λ (v : View B). v.found) views (w ∷ []) j;
+    rested = map-append (λ (v : View B). v.rested) views (w ∷ []) j;
+    stored = map-append (λ (v : View B). v.stored) views (w ∷ []) j;
+    told = map-append (λ (v : View B). v.told) views (w ∷ []) j;
+  }
+
+module _ {B : Type 0} (program : Program B) (cells : ℕ) (x : Contents B) (law : Law program cells x)
+    (lots : List ℕ) (all : total lots ≡ all_lots) (v : View B) (so : IsSo program cells x law (knowing_of v)) where
+  -- the contents with a seat more, which knows what this one does, where the lots are these
+  abbrev pub with_seat : Contents B
+  with_seat = record x { seats = record (snoc_seats x.seats (right_half v)) { lots = lots } }
 
   abbrev D : ℕ
   D = drawn_in cells x
@@ -104,12 +152,12 @@ module _ {B : Type 0} (program : Program B) (cells : ℕ) (x : Contents B) (law 
       apart = λ j l g i a b. h.apart j l g i (no_hand j g a) (no_hand l i b);
     });
     names = back (λ j. NamesCells D (same_hands j) x.words.own x.words.phase (home_of x) (x.seats.tasks ++ [] ∷ [])
-        (x.seats.known ++ k.known ∷ [])) (let n = law.names in record {
+        (x.seats.known ++ v.known ∷ [])) (let n = law.names in record {
           owned = n.owned;
           waits = n.waits;
           records = n.records;
           walks = each_snoc _ x.seats.tasks [] n.walks (λ j c i. absurd i);
-          knows = each_snoc _ x.seats.known k.known n.knows (λ j. so.known);
+          knows = each_snoc _ x.seats.known v.known n.knows (λ j. so.known);
         });
     births = back (λ j. Births D law.born law.maker law.number (same_made j) (same_hands j) x.words.phase) law.births;
     tree = back (λ j. IsForkTree D law.born law.maker law.number law.forks (same_hands j)) law.tree;
@@ -132,9 +180,9 @@ module _ {B : Type 0} (program : Program B) (cells : ℕ) (x : Contents B) (law 
         });
     owned = back (λ j. OwnedLists D (same_hands j) x.words.own (same_owned j)) law.owned;
     once_words = back (λ j. OnceWords D (same_hands j) (x.seats.hands ++ None ∷ []) x.words.own x.words.once
-        (x.seats.seen ++ k.seen ∷ []) (x.seats.dues ++ [] ∷ [])) (let o = law.once_words in record {
+        (x.seats.seen ++ v.seen ∷ []) (x.seats.dues ++ [] ∷ [])) (let o = law.once_words in record {
           due_to = o.due_to;
-          stands = each_snoc _ x.seats.seen k.seen o.stands (λ j. so.seen);
+          stands = each_snoc _ x.seats.seen v.seen o.stands (λ j. so.seen);
           dues_mine = each_snoc _ x.seats.dues [] o.dues_mine (λ j d i. absurd i);
           due = λ c j f e. of_seat_snoc _ x.seats.dues [] j (o.due c j f e);
           may_be_due = λ c j f e. let m = o.may_be_due c j f e in record {
@@ -153,11 +201,11 @@ module _ {B : Type 0} (program : Program B) (cells : ℕ) (x : Contents B) (law 
         (each_snoc _ x.seats.pushes [] c.to_push (λ j e i. absurd i))
         (λ p e n. of_seat_snoc _ x.seats.rests None (c.taker p) (c.resting p e n))
         (each_snoc _ x.seats.rests None c.rest (λ j r e. cc))
-        (each_snoc _ x.seats.closed k.closed c.stays_shut (λ j. so.closed))
-        (each_snoc _ x.seats.found k.found c.grows (λ j. so.found)));
+        (each_snoc _ x.seats.closed v.closed c.stays_shut (λ j. so.closed))
+        (each_snoc _ x.seats.found v.found c.grows (λ j. so.found)));
     live_count = (let c = law.live_count in record {
       counted = (let e = c.counted in let t = total_snoc x.seats.tokens 0 in omega arith);
-      stays_at_rest = each_snoc _ x.seats.rested k.rested c.stays_at_rest (λ j. so.rested);
+      stays_at_rest = each_snoc _ x.seats.rested v.rested c.stays_at_rest (λ j. so.rested);
     });
     stops = (let q = law.stops in record {
       given = λ n. let g = q.given n in (g.0, of_seat_snoc _ x.seats.stored [] g.0 g.1);
@@ -170,16 +218,16 @@ module _ {B : Type 0} (program : Program B) (cells : ℕ) (x : Contents B) (law 
     records_fit = law.records_fit;
     meaning =
         back (λ j. Meaning program cells x.words.count x.words.stop D (same_hands j) law.born (tag_in x) (bits_in x)
-        (home_of x) (x.seats.born_seen ++ k.born ∷ []) (x.seats.wrote ++ k.wrote ∷ [])
-        (x.seats.filled ++ k.filled ∷ [])) (let m = law.meaning in record {
+        (home_of x) (x.seats.born_seen ++ v.born ∷ []) (x.seats.wrote ++ v.wrote ∷ [])
+        (x.seats.filled ++ v.filled ∷ [])) (let m = law.meaning in record {
           names = m.names;
           entries = m.entries;
           records = m.records;
           full = m.full;
           stopped = m.stopped;
-          begins = each_snoc _ x.seats.born_seen k.born m.begins (λ j. so.begins);
-          wrote_stands = each_snoc _ x.seats.wrote k.wrote m.wrote_stands (λ j. so.wrote);
-          filled_stands = each_snoc _ x.seats.filled k.filled m.filled_stands (λ j. so.filled);
+          begins = each_snoc _ x.seats.born_seen v.born m.begins (λ j. so.begins);
+          wrote_stands = each_snoc _ x.seats.wrote v.wrote m.wrote_stands (λ j. so.wrote);
+          filled_stands = each_snoc _ x.seats.filled v.filled m.filled_stands (λ j. so.filled);
         });
     undrawn = law.undrawn;
     facts = subst CoreFacts (sym same_shown) law.facts;

@@ -1,22 +1,17 @@
 -- A merge keeps the rule of the table.
-use Rattle.tj_words.proofs.Prelude.{All, Begins, Bool, Contents, Custody, HasWakeToCome, IsCell, IsIn, IsSeat, IsStored}
-use Rattle.tj_words.proofs.Prelude.{Key, Law, List, Lots, None, Option, Program, Rec, Reference, Rule, SeatsHave, Some}
-use Rattle.tj_words.proofs.Prelude.{Stops, View, [], ap, arith, at_longer, at_map, both, cond, contents_of, dite, false}
-use Rattle.tj_words.proofs.Prelude.{get_elem?, inl, inr, length, ltb-false, ltb-true, map, nat_lt, refl, seats_have}
-use Rattle.tj_words.proofs.Prelude.{set, set_again, set_else, some, some-injective, subst, suc, sym, true, words_say}
+use Rattle.tj_words.proofs.Prelude.{All, Begins, Bool, Contents, IsCell, IsIn, IsSeat, IsStored, Key, Law, List, Lots}
+use Rattle.tj_words.proofs.Prelude.{None, OfSeat, Option, Program, Rec, Reference, Rule, SeatsHave, Stops, View, [], ap}
+use Rattle.tj_words.proofs.Prelude.{arith, at_longer, at_map, both, cond, contents_of, dite, false, get_elem?, in_left}
+use Rattle.tj_words.proofs.Prelude.{in_right, inl, inr, length, ltb-false, ltb-true, map, nat_lt, refl, seats_have, set}
+use Rattle.tj_words.proofs.Prelude.{set_again, set_else, some, some-injective, spent, subst, suc, sym, true, words_say}
 use Rattle.tj_words.proofs.Prelude.{zero, ℕ, ℕ_discrete, ⊎_elim, ◌++◌, ◌+◌, ◌<◌, ◌||◌, ◌∙◌, ◌∷◌, ◌≡◌, ◌≢◌, ◌≤◌, ◌⊎◌}
+use Rattle.tj_words.proofs.Lemmas.{IsSo, each_set, inside, knows_so, law_kept, of_seat_else, of_seat_here, total_set}
 use Rattle.atomic_table.specs.Table.{State, Joins}
-use Rattle.tj_words.specs.SeatViews.Views.{longer, spent, IsIdle}
-use Rattle.tj_words.proofs.Lemmas.{IsSo, Knowing, each_set, in_back, inside, knowing_of, knows_so, law_kept}
-use Rattle.tj_words.proofs.Lemmas.{of_seat_else, of_seat_here, rule_views, seats_same, seats_set, set_seats, total_set}
-use Rattle.tj_words.proofs.Holders.HeldTasks.{in_front}
-use Rattle.tj_words.proofs.SeatLoads.Learning.{law_learns, learns}
-
--- what holds of all elements of two lists holds of all of both together
-pub all_append : {A : Type 0} (F : A → Type 0) (xs ys : List A) → All F xs → All F ys → All F (xs ++ ys)
-all_append F [] ys h k y i = k y i
-all_append F (x ∷ xs) ys h k y (inl e) = h y (inl e)
-all_append F (x ∷ xs) ys h k y (inr i) = all_append F xs ys (λ z m. h z (inr m)) k y i
+use Rattle.tj_words.specs.SeatViews.Views.{longer, IsIdle}
+use Rattle.tj_words.proofs.SeatLoads.Learning.{knowing_of, law_learns, learns, seats_learn}
+use Rattle.tj_words.proofs.Stores.SeatContents.{rule_views, seats_same, seats_set, set_seats}
+use Rattle.tj_words.proofs.Seating.Appending.{idle_backing, unused_lot}
+pub use Rattle.tj_words.proofs.Stores.SeatLists.{all_append}
 
 -- an element of a beginning is one of the list, and the other way round where the beginning is long enough
 pub begins_at : {A : Type 0} (xs l : List A) → Begins xs l → (c : ℕ) (x : A) → get_elem? xs c ≡ some x
@@ -57,43 +52,12 @@ module _ (xs ys l : List Reference) (a : Begins xs l) (b : Begins ys l) where
         begins_back xs l a c x (omega arith) (begins_at ys l b c x e)
 
 either_true : (a b : Bool) → (a || b) ≡ true → (a ≡ true) ⊎ (b ≡ true)
-either_true true b e = inl refl
-either_true false b e = inr e
-
--- what either of two knows, and nothing
-abbrev pub both_know : Knowing → Knowing → Knowing
-both_know k l = record {
-  known = k.known ++ l.known;
-  born = longer k.born l.born;
-  wrote = k.wrote ++ l.wrote;
-  filled = k.filled ++ l.filled;
-  seen = k.seen ++ l.seen;
-  closed = k.closed ++ l.closed;
-  found = k.found ++ l.found;
-  rested = k.rested || l.rested;
-  stop = k.stop;
-  told = k.told ++ l.told;
-  notes = k.notes;
-}
-
-abbrev pub nothing_known : Knowing
-nothing_known = record {
-  known = [];
-  born = [];
-  wrote = [];
-  filled = [];
-  seen = [];
-  closed = [];
-  found = [];
-  rested = false;
-  stop = 0;
-  told = [];
-  notes = [];
-}
+either_true a b e = grind arith
 
 module _ {B : Type 0} (program : Program B) (cells : ℕ) (x : Contents B) (law : Law program cells x) where
-  pub both_so : (k l : Knowing) → IsSo program cells x law k → IsSo program cells x law l
-      → IsSo program cells x law (both_know k l)
+  -- what either of two seats knows is so, and what a spent one does
+  pub both_so : (k l : View B) → IsSo program cells x law (knowing_of k) → IsSo program cells x law (knowing_of l)
+      → IsSo program cells x law (knowing_of (both k l))
   both_so k l a b = record {
     known = all_append _ k.known l.known a.known b.known;
     begins = begins_longer k.born l.born law.born a.begins b.begins;
@@ -109,7 +73,7 @@ module _ {B : Type 0} (program : Program B) (cells : ℕ) (x : Contents B) (law 
     told = all_append _ k.told l.told a.told b.told;
   }
 
-  pub nothing_so : IsSo program cells x law nothing_known
+  pub nothing_so : IsSo program cells x law (knowing_of {B = B} spent)
   nothing_so = record {
     known = λ c i. absurd i;
     begins = (law.born, refl);
@@ -137,7 +101,7 @@ module _ {B : Type 0} (program : Program B) (cells : ℕ) (x : Contents B) (law 
 module _ {B : Type 0} where
   both_seat : (key : Key B) (v w : View B) → IsSeat key v → IsSeat key w
       → All (λ c. (r : Reference) × IsCell (longer v.born w.born) c r) (v.known ++ w.known) → IsSeat key (both v w)
-  both_seat key v w h i kb = let b = h.backing in let l = h.within_lot in let m = i.within_lot in
+  both_seat key v w h i kb = let l = h.within_lot in let m = i.within_lot in
       let a = l.refused_fit in let c = l.tokens_fit in let d = l.cleared_fit in let e = m.refused_fit in record {
         about = h.about;
         named = h.named;
@@ -147,7 +111,7 @@ module _ {B : Type 0} where
           tokens_fit = omega arith;
           cleared_fit = omega arith;
         };
-        backing = record { wakes = b.wakes; tags = b.tags; alarms = b.alarms };
+        backing = h.backing;
         known_born = kb;
       }
 
@@ -155,23 +119,10 @@ module _ {B : Type 0} where
   spent_seat key = record {
     about = λ a e. cc;
     named = inl (refl, refl);
-    within_lot = record {
-      least = inl (refl, refl);
-      refused_fit = omega arith;
-      tokens_fit = omega arith;
-      cleared_fit = omega arith;
-    };
-    backing = record { wakes = λ h. absurd (none h); tags = λ t. absurd t.1; alarms = λ a. absurd (no_task a.1 a.2) };
+    within_lot = unused_lot (inl (refl, refl));
+    backing = idle_backing;
     known_born = λ c i. absurd i;
   }
-    where
-      none : HasWakeToCome {B = B} spent → ⊥
-      none (inl n) = n refl
-      none (inr (inl n)) = n refl
-      none (inr (inr h)) = cc
-
-      no_task : (k : Custody B) → None ≡ Some k → ⊥
-      no_task k e = cc
 
   module _ (program : Bool → B → Program B) (key : Key B) (id : ℕ) (v : View B) (other : ℕ) (w : View B)
       (iv : IsIdle v) (iw : IsIdle w) (s : State (Option (Rec B)) (View B)) (r : Rule program key s)
@@ -186,27 +137,29 @@ module _ {B : Type 0} where
     there : get_elem? s.views other ≡ some w
     there = sym (set_else s.views id other (both v w) ne) ∙ at'
 
-    abbrev k : Knowing
-    k = both_know (knowing_of v) (knowing_of w)
-
-    so : IsSo P key.cells (contents_of s) r.law k
-    so = both_so P key.cells (contents_of s) r.law (knowing_of v) (knowing_of w)
-        (knows_so program key s r id v at) (knows_so program key s r other w there)
+    so : IsSo P key.cells (contents_of s) r.law (knowing_of (both v w))
+    so = both_so P key.cells (contents_of s) r.law v w (knows_so program key s r id v at)
+        (knows_so program key s r other w there)
 
     abbrev x1 : Contents B
-    x1 = learns P key.cells (contents_of s) r.law id k
+    x1 = learns P key.cells (contents_of s) r.law id (knowing_of (both v w))
 
     law1 : Law P key.cells x1
-    law1 = law_learns P key.cells (contents_of s) r.law id k so
+    law1 = law_learns P key.cells (contents_of s) r.law id (knowing_of (both v w)) so
 
     abbrev x2 : Contents B
-    x2 = learns P key.cells x1 law1 other nothing_known
+    x2 = learns P key.cells x1 law1 other (knowing_of {B = B} spent)
 
     law2 : Law P key.cells x2
-    law2 = law_learns P key.cells x1 law1 other nothing_known (nothing_so P key.cells x1 law1)
+    law2 = law_learns P key.cells x1 law1 other (knowing_of {B = B} spent) (nothing_so P key.cells x1 law1)
 
-    lots : Lots key.cells (words_say s.words).count (set (set old.lots id (v.lot + w.lot)) other 0)
+    -- the contents after both steps, with the lots and the stores of both
+    abbrev x3 : Contents B
+    x3 = with_lots P key.cells x2 law2 (set (set old.lots id (v.lot + w.lot)) other 0)
         (set (set old.refused id (v.refused + w.refused)) other 0)
+        (set (set old.stored id (v.stored ++ w.stored)) other [])
+
+    lots : Lots key.cells (words_say s.words).count x3.seats.lots x3.seats.refused
     lots = let a = total_set old.lots id v.lot (v.lot + w.lot) (at_map (λ (u : View B). u.lot) s.views id v at) in
         let b = total_set (set old.lots id (v.lot + w.lot)) other w.lot 0
         (set_else old.lots id other (v.lot + w.lot) ne ∙ at_map (λ (u : View B). u.lot) s.views other w there) in
@@ -219,24 +172,19 @@ module _ {B : Type 0} where
         let e = r.law.lots.all in let f = r.law.lots.counted in record { all = omega arith; counted = omega arith }
 
     -- what was stored is stored by the one that has taken the other in
-    kept : (n : ℕ) → IsStored old.stored n → IsStored (set (set old.stored id (v.stored ++ w.stored)) other []) n
+    kept : (n : ℕ) → IsStored old.stored n → IsStored x3.seats.stored n
     kept n g = dite (ℕ_discrete g.0 id)
-        (λ e. mine (in_front n v.stored w.stored (subst (IsIn n) (one_of g.0 id e g.1.0 v.stored g.1.1
-        (at_map (λ (u : View B). u.stored) s.views id v at)) g.1.2)))
+        (taken id v.stored (at_map (λ (u : View B). u.stored) s.views id v at) (in_left n v.stored w.stored))
         (λ e. dite (ℕ_discrete g.0 other)
-        (λ d. mine (in_back n v.stored w.stored (subst (IsIn n) (one_of g.0 other d g.1.0 w.stored g.1.1
-        (at_map (λ (u : View B). u.stored) s.views other w there)) g.1.2)))
+        (taken other w.stored (at_map (λ (u : View B). u.stored) s.views other w there)
+        (in_right n v.stored w.stored))
         (λ d. (
           g.0,
           of_seat_else _ (set old.stored id (v.stored ++ w.stored)) other g.0 [] d
               (of_seat_else _ old.stored id g.0 (v.stored ++ w.stored) e g.1),
         )))
       where
-        one_of : (j k : ℕ) → j ≡ k → (a b : List ℕ) → get_elem? old.stored j ≡ some a → get_elem? old.stored k ≡ some b
-            → a ≡ b
-        one_of j k e a b p q = some-injective a b (sym p ∙ (ap (get_elem? old.stored) e ∙ q))
-
-        mine : IsIn n (v.stored ++ w.stored) → IsStored (set (set old.stored id (v.stored ++ w.stored)) other []) n
+        mine : IsIn n (v.stored ++ w.stored) → IsStored x3.seats.stored n
         mine i = (
           id,
           of_seat_else _ (set old.stored id (v.stored ++ w.stored)) other id [] (λ q. ne (sym q))
@@ -244,7 +192,12 @@ module _ {B : Type 0} where
               (at_map (λ (u : View B). u.stored) s.views id v at) i),
         )
 
-    stops : Stops (words_say s.words).stop (set (set old.stored id (v.stored ++ w.stored)) other []) x2.seats.told
+        taken : (j : ℕ) (l : List ℕ) → get_elem? old.stored j ≡ some l → (IsIn n l → IsIn n (v.stored ++ w.stored))
+            → g.0 ≡ j → IsStored x3.seats.stored n
+        taken j l here into e = let h = subst (OfSeat (IsIn n) old.stored) e g.1 in
+            mine (into (subst (IsIn n) (some-injective h.0 l (sym h.1 ∙ here)) h.2))
+
+    stops : Stops (words_say s.words).stop x3.seats.stored x2.seats.told
     stops = let q = law2.stops in record {
       given = λ n. kept (words_say s.words).stop (q.given n);
       stands = each_set _ (set old.stored id (v.stored ++ w.stored)) other []
@@ -258,19 +211,10 @@ module _ {B : Type 0} where
 
     -- what the seats have, where v has become both
     abbrev have_both : SeatsHave B → SeatsHave B
-    have_both y = record y {
+    have_both y = record (seats_learn id (knowing_of (both v w)) old y) {
       lots = set old.lots id (v.lot + w.lot);
       refused = set old.refused id (v.refused + w.refused);
-      known = set old.known id k.known;
-      born_seen = set old.born_seen id k.born;
-      wrote = set old.wrote id k.wrote;
-      filled = set old.filled id k.filled;
-      seen = set old.seen id k.seen;
-      closed = set old.closed id k.closed;
-      found = set old.found id k.found;
-      rested = set old.rested id k.rested;
       stored = set old.stored id (v.stored ++ w.stored);
-      told = set old.told id k.told;
     }
 
     p1 : seats_have (set (set s.views id (both v w)) other spent) ≡ set_seats (have_both old) other spent
@@ -284,22 +228,17 @@ module _ {B : Type 0} where
         ap (set (map f s.views) other) (sym e) ∙ set_again (map f s.views) other (f w)
         (at_map f s.views other w there)
 
-    p2 : set_seats (have_both old) other spent
-        ≡ (with_lots P key.cells x2 law2 (set (set old.lots id (v.lot + w.lot)) other 0)
-        (set (set old.refused id (v.refused + w.refused)) other 0)
-        (set (set old.stored id (v.stored ++ w.stored)) other [])).seats
-    p2 j = record (with_lots P key.cells x2 law2 (set (set old.lots id (v.lot + w.lot)) other 0)
-        (set (set old.refused id (v.refused + w.refused)) other 0)
-        (set (set old.stored id (v.stored ++ w.stored)) other [])).seats {
-          tokens = again (λ u. u.tokens) 0 iw.tokens j;
-          cleared = again (λ u. u.cleared) 0 iw.cleared j;
-          hands = again (λ u. u.hand) None iw.hand j;
-          tasks = again (λ u. u.tasks) [] iw.tasks j;
-          dues = again (λ u. u.dues) [] iw.dues j;
-          pushes = again (λ u. u.pushes) [] iw.pushes j;
-          shuts = again (λ u. u.shuts) [] iw.shuts j;
-          rests = again (λ u. u.rest) None iw.rest j;
-        }
+    p2 : set_seats (have_both old) other spent ≡ x3.seats
+    p2 j = record x3.seats {
+      tokens = again (λ u. u.tokens) 0 iw.tokens j;
+      cleared = again (λ u. u.cleared) 0 iw.cleared j;
+      hands = again (λ u. u.hand) None iw.hand j;
+      tasks = again (λ u. u.tasks) [] iw.tasks j;
+      dues = again (λ u. u.dues) [] iw.dues j;
+      pushes = again (λ u. u.pushes) [] iw.pushes j;
+      shuts = again (λ u. u.shuts) [] iw.shuts j;
+      rests = again (λ u. u.rest) None iw.rest j;
+    }
 
     rule_glued : Rule program key
         record { words = s.words; homes = s.homes; views = set (set s.views id (both v w)) other spent }

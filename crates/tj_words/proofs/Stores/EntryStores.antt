@@ -1,27 +1,26 @@
 -- The stores of BITS and TAG keep the rule.
-use Rattle.tj_words.proofs.Prelude.{About, Allows, Becomes, Bool, Chains, Contents, Entry, Filled, HasSeen}
-use Rattle.tj_words.proofs.Prelude.{HasWakeToCome, IsBacked, IsDue, IsSeat, Key, Law, List, MayStoreBits, Meaning, Once}
-use Rattle.tj_words.proofs.Prelude.{Option, Program, Rec, RecordsFit, Reference, Rule, SeatMe, SeatsHave, Sort, State}
-use Rattle.tj_words.proofs.Prelude.{View, [], ap, arith, at_map, bits_in, dite, drawn_in, entries_are_one, get_elem?}
-use Rattle.tj_words.proofs.Prelude.{hand_of, home_of, none, once_at, put, refl, seats_have, set, some, some-injective}
-use Rattle.tj_words.proofs.Prelude.{sort_tag, step, subst, sym, tag_in, tag_of, without_due, ℕ, ℕ_discrete, ◌<◌, ◌∙◌}
-use Rattle.tj_words.proofs.Prelude.{◌∷◌, ◌≡◌, ◌≢◌, ◌≤◌}
+use Rattle.tj_words.proofs.Prelude.{About, Allows, Becomes, Bool, Chains, Contents, Entry, HasSeen, IsDue, Key, Law}
+use Rattle.tj_words.proofs.Prelude.{List, Meaning, Once, Option, Program, Rec, RecordsFit, Reference, Rule, SeatMe}
+use Rattle.tj_words.proofs.Prelude.{SeatsHave, State, View, [], ap, arith, at_map, at_put, bits_in, contents_of}
+use Rattle.tj_words.proofs.Prelude.{drawn_in, entries_are_one, get_elem?, hand_of, home_of, map, none, once_at, put}
+use Rattle.tj_words.proofs.Prelude.{refl, seats_have, set, some, some-injective, step, subst, sym, tag_in, tag_of}
+use Rattle.tj_words.proofs.Prelude.{without_due, ℕ, ◌<◌, ◌∙◌, ◌∷◌, ◌≡◌, ◌≢◌, ◌≤◌}
+use Rattle.tj_words.proofs.Lemmas.{Stores, law_kept, once_stored, put_is, seats_same, step_allowed, tree_words_stored}
+use Rattle.tj_words.specs.SeatViews.KnownEntries.{MayStoreBits}
 use Rattle.tj_words.specs.Calls.EntryViews.{MayPutBits, MayPutTag, wrote_bits, wrote_tag, bits_store, tag_store}
-use Rattle.tj_words.proofs.Lemmas.{Stores, ground_of, known_of, law_meant, put_else, put_here, put_word, put_word_word}
-use Rattle.tj_words.proofs.Lemmas.{seats_same, step_allowed}
+use Rattle.tj_words.proofs.Meaning.LawMeant.{ground_of, known_of, law_meant, known_named}
+use Rattle.tj_words.proofs.Stores.StoredWords.{put_word, put_word_word, put_word_cell, put_word_here}
 use Rattle.tj_words.proofs.Waiters.ChainPhases.{chains_tag}
 use Rattle.tj_words.proofs.SeatLoads.KnowLoads.{tag_some}
-use Rattle.tj_words.proofs.Stores.LawChanges.{law_once}
-use Rattle.tj_words.proofs.Meaning.MeaningSteps.{tag_meant}
+use Rattle.tj_words.proofs.Meaning.MeaningSteps.{tag_meant, bits_meant}
 use Rattle.tj_words.proofs.Holders.RecordSteps.{tags_fit}
-use Rattle.tj_words.proofs.Stores.StoredWords.{put_word_cell, put_word_here}
-use Rattle.tj_words.proofs.Stores.OnceStores.{due_else, once_stored, tree_words_stored}
-use Rattle.tj_words.proofs.Stores.ValueStores.{bits_stored}
-use Rattle.tj_words.proofs.Stores.WrittenOnce.{once_stores}
-use Rattle.tj_base.specs.declared.cell.Sort.TheVariants as sort
-use Rattle.tj_body.specs.declared.point.Value.TheVariants as value
-use Rattle.tj_body.specs.declared.point.Entry.TheVariants as entry
+use Rattle.tj_words.proofs.Stores.WrittenOnce.{once_stores, seat_written}
+use Rattle.tj_words.proofs.Meaning.MeaningGrows.{cell_on, bits_on}
 use Rattle.tj_words.specs.declared.offsets.Once.TheVariants as once
+
+-- TAG and BITS are two
+bits_tag : once.Bits ≢ once.Tag
+bits_tag q = cc
 
 -- z with the fields of seats that had y, once seat id, which had v, has written the word f of c, and has w
 abbrev written : {B : Type 0} → SeatsHave B → ℕ → ℕ → Once → View B → View B → List (List ℕ) → SeatsHave B → SeatsHave B
@@ -34,11 +33,21 @@ written y id c f v w shuts z = record z {
   shuts = shuts;
 }
 
-module _ {B : Type 0} {program : Program B} {cells : ℕ} {x : Contents B} (r : Law program cells x)
-    (id c : ℕ) (v : View B)
-    (born : get_elem? x.seats.born_seen id ≡ some v.born) (wrote : get_elem? x.seats.wrote id ≡ some v.wrote)
-    (filled : get_elem? x.seats.filled id ≡ some v.filled) (seen : get_elem? x.seats.seen id ≡ some v.seen)
-    (dues : get_elem? x.seats.dues id ≡ some v.dues) where
+module _ {B : Type 0} (program : Bool → B → Program B) (key : Key B) (s : State (Option (Rec B)) (View B))
+    (r : Rule program key s) (id c : ℕ) (v : View B) (at : get_elem? s.views id ≡ some v) where
+  abbrev P : Program B
+  P = program key.strict key.root.value
+
+  abbrev x : Contents B
+  x = contents_of s
+
+  abbrev law : Law P key.cells x
+  law = r.law
+
+  -- what the seats have of its view
+  mine : {A : Type 0} (f : View B → A) → get_elem? (map f s.views) id ≡ some (f v)
+  mine f = at_map f s.views id v at
+
   -- the word f of the cell is n, and the seat has this
   abbrev entered : Once → ℕ → View B → List (List ℕ) → Contents B
   entered f n w shuts = record {
@@ -49,59 +58,58 @@ module _ {B : Type 0} {program : Program B} {cells : ℕ} {x : Contents B} (r : 
 
   -- the law after the store of BITS
   law_bits : (e : Entry) (n : ℕ) → IsDue c once.Bits v.dues
-      → get_elem? x.seats.known id ≡ some v.known
-      → MayStoreBits program v.born v.known c e n
-      → Law program cells (entered once.Bits n (wrote_bits c e v) x.seats.shuts)
-  law_bits e n due known may = law_once r (put_word x.words.once c once.Bits n) (set x.seats.seen id v.seen)
-      (set x.seats.dues id (without_due c once.Bits v.dues)) (set x.seats.born_seen id v.born)
-      (set x.seats.wrote id (record { cell = c; entry = e } ∷ v.wrote)) (set x.seats.filled id v.filled) x.seats.shuts
-      (tree_words_stored r.tree_words id c once.Bits n v.dues dues (λ o. absurd o) (λ y i o. absurd o))
-      (once_stored r.once_words id c once.Bits n v.dues dues due v.seen [] seen (λ y i. absurd i)
-      (λ q. absurd (bits_tag q)))
+      → MayStoreBits P v.born v.known c e n
+      → Law P key.cells (entered once.Bits n (wrote_bits c e v) x.seats.shuts)
+  law_bits e n due may = let cell = may.to_become in let more = law.meaning.begins id v.born (mine (λ u. u.born)) in
+      law_kept law (record x.words { once = put_word x.words.once c once.Bits n })
+      (written x.seats id c once.Bits v (wrote_bits c e v) x.seats.shuts x.seats) law.lots law.names
+      (tree_words_stored law.tree_words id c once.Bits n v.dues (mine (λ u. u.dues)) (λ o. absurd o)
+      (λ y i o. absurd o))
+      (once_stored law.once_words id c once.Bits n v.dues (mine (λ u. u.dues)) due v.seen [] (mine (λ u. u.seen))
+      (λ y i. absurd i) (λ q. absurd (bits_tag q)))
       (subst (λ tags. Chains tags x.words.head x.words.next x.words.phase x.seats.pushes x.seats.shuts
-      x.seats.rests x.seats.closed x.seats.found) tags r.chains)
-      (subst (λ tags. RecordsFit tags x.words.phase (home_of x)) tags r.records_fit)
-      (subst (λ tags. Meaning program cells x.words.count x.words.stop (drawn_in cells x) (hand_of x) r.born
+      x.seats.rests x.seats.closed x.seats.found) tags law.chains) law.live_count law.stops
+      (subst (λ tags. RecordsFit tags x.words.phase (home_of x)) tags law.records_fit)
+      (subst (λ tags. Meaning P key.cells x.words.count x.words.stop (drawn_in key.cells x) (hand_of x) law.born
       tags (λ d. put_word x.words.once c once.Bits n d once.Bits) (home_of x) (set x.seats.born_seen id v.born)
       (set x.seats.wrote id (record { cell = c; entry = e } ∷ v.wrote)) (set x.seats.filled id v.filled)) tags
-      (bits_stored program cells {g = ground_of cells r.born x} {home = home_of x} {k = known_of x}
-      (law_meant program cells x r) id v.born v.wrote v.filled born wrote filled v.known
-      (r.names.knows id v.known known) c e n may (λ d. put_word x.words.once c once.Bits n d once.Bits)
-      (put_word_here x.words.once c once.Bits n) (λ d q. put_word_cell x.words.once c once.Bits n d once.Bits q)))
+      (bits_meant P key.cells {g = ground_of key.cells law.born x} {home = home_of x} {k = known_of x}
+      (law_meant P key.cells x law) id v.born v.wrote v.filled (mine (λ u. u.born)) (mine (λ u. u.wrote))
+      (mine (λ u. u.filled)) c e cell.0 (cell_on v.born law.born more c cell.0 cell.1) cell.2
+      (λ d. put_word x.words.once c once.Bits n d once.Bits) n (put_word_here x.words.once c once.Bits n)
+      (λ d q. put_word_cell x.words.once c once.Bits n d once.Bits q) (bits_on v.born law.born more e n may.bits_say)
+      (known_named (ground_of key.cells law.born x) v.known (law.names.knows id v.known (mine (λ u. u.known))) e n
+      may.knows)))
+      law.facts
     where
-      bits_tag : once.Bits ≡ once.Tag → ⊥
-      bits_tag q = absurd (cc)
-
-      tag_bits : once.Tag ≡ once.Bits → ⊥
-      tag_bits q = absurd (cc)
-
       tags : tag_in x ≡ (λ d. put_word x.words.once c once.Bits n d once.Tag)
-      tags j d = sym (put_word_word x.words.once c once.Bits n d once.Tag tag_bits) j
+      tags j d = sym (put_word_word x.words.once c once.Bits n d once.Tag (λ q. bits_tag (sym q))) j
 
   -- the law after the store of TAG
   law_tag : (e : Entry) (n : ℕ) → IsDue c once.Tag v.dues
       → ¬ IsDue c once.Bits v.dues
       → HasSeen v.wrote c e
       → n ≡ tag_of e
-      → get_elem? x.seats.shuts id ≡ some v.shuts
-      → Law program cells (entered once.Tag n (wrote_tag c e v) (set x.seats.shuts id (c ∷ v.shuts)))
-  law_tag e n due bits_first has is shuts = law_once r (put_word x.words.once c once.Tag n) (set x.seats.seen id v.seen)
-      (set x.seats.dues id (without_due c once.Tag v.dues)) (set x.seats.born_seen id v.born)
-      (set x.seats.wrote id v.wrote) (set x.seats.filled id (record { cell = c; entry = e } ∷ v.filled))
-      (set x.seats.shuts id (c ∷ v.shuts))
-      (tree_words_stored r.tree_words id c once.Tag n v.dues dues (λ o. absurd o) (λ y i o. absurd o))
-      (once_stored r.once_words id c once.Tag n v.dues dues due v.seen [] seen (λ y i. absurd i)
-      (λ q. (some_tag, bits_first)))
+      → Law P key.cells (entered once.Tag n (wrote_tag c e v) (set x.seats.shuts id (c ∷ v.shuts)))
+  law_tag e n due bits_first has is = law_kept law (record x.words { once = put_word x.words.once c once.Tag n })
+      (written x.seats id c once.Tag v (wrote_tag c e v) (set x.seats.shuts id (c ∷ v.shuts)) x.seats) law.lots
+      law.names
+      (tree_words_stored law.tree_words id c once.Tag n v.dues (mine (λ u. u.dues)) (λ o. absurd o)
+      (λ y i o. absurd o))
+      (once_stored law.once_words id c once.Tag n v.dues (mine (λ u. u.dues)) due v.seen [] (mine (λ u. u.seen))
+      (λ y i. absurd i) (λ q. (some_tag, bits_first)))
       (subst (λ tags. Chains tags x.words.head x.words.next x.words.phase x.seats.pushes
       (set x.seats.shuts id (c ∷ v.shuts)) x.seats.rests x.seats.closed x.seats.found) tags
-      (chains_tag r.chains c n id v.shuts some_tag shuts))
-      (tags_fit (tag_in x) x.words.phase (home_of x) r.records_fit (tag_now) stays)
-      (subst (λ bits. Meaning program cells x.words.count x.words.stop (drawn_in cells x) (hand_of x) r.born
+      (chains_tag law.chains c n id v.shuts some_tag (mine (λ u. u.shuts)))) law.live_count law.stops
+      (tags_fit (tag_in x) x.words.phase (home_of x) law.records_fit (tag_now) stays)
+      (subst (λ bits. Meaning P key.cells x.words.count x.words.stop (drawn_in key.cells x) (hand_of x) law.born
       tag_now bits (home_of x) (set x.seats.born_seen id v.born) (set x.seats.wrote id v.wrote)
       (set x.seats.filled id (record { cell = c; entry = e } ∷ v.filled))) same_bits
-      (tag_meant program cells {g = ground_of cells r.born x} {home = home_of x} {k = known_of x}
-      (law_meant program cells x r) id v.born v.wrote v.filled born wrote filled tag_now c e has
-      (put_word_here x.words.once c once.Tag n ∙ is) (λ d q. put_word_cell x.words.once c once.Tag n d once.Tag q)))
+      (tag_meant P key.cells {g = ground_of key.cells law.born x} {home = home_of x} {k = known_of x}
+      (law_meant P key.cells x law) id v.born v.wrote v.filled (mine (λ u. u.born)) (mine (λ u. u.wrote))
+      (mine (λ u. u.filled)) tag_now c e has (put_word_here x.words.once c once.Tag n ∙ is)
+      (λ d q. put_word_cell x.words.once c once.Tag n d once.Tag q)))
+      law.facts
     where
       tag_now : ℕ → ℕ
       tag_now d = put_word x.words.once c once.Tag n d once.Tag
@@ -109,61 +117,22 @@ module _ {B : Type 0} {program : Program B} {cells : ℕ} {x : Contents B} (r : 
       some_tag : n ≢ 0
       some_tag z = tag_some e (sym is ∙ z)
 
-      bits_tag : once.Bits ≡ once.Tag → ⊥
-      bits_tag q = absurd (cc)
-
       same_bits : bits_in x ≡ (λ d. put_word x.words.once c once.Tag n d once.Bits)
       same_bits j d = sym (put_word_word x.words.once c once.Tag n d once.Bits bits_tag) j
 
-      each : (d : ℕ) → put (tag_in x) c n d ≡ tag_now d
-      each d = dite (ℕ_discrete d c)
-          (λ q. put_here (tag_in x) c d n q ∙ sym (ap tag_now q ∙ put_word_here x.words.once c once.Tag n))
-          (λ q. put_else (tag_in x) c d n q ∙ sym (put_word_cell x.words.once c once.Tag n d once.Tag q))
-
       tags : put (tag_in x) c n ≡ tag_now
-      tags j d = each d j
+      tags = sym (put_is (tag_in x) tag_now c n (put_word_here x.words.once c once.Tag n)
+          (λ d q. put_word_cell x.words.once c once.Tag n d once.Tag q))
 
       stays : (d : ℕ) → tag_in x d ≢ 0 → tag_now d ≢ 0
-      stays d s z = dite (ℕ_discrete d c)
-          (λ q. some_tag (sym (ap tag_now q ∙ put_word_here x.words.once c once.Tag n) ∙ z))
-          (λ q. s (sym (put_word_cell x.words.once c once.Tag n d once.Tag q) ∙ z))
+      stays d s z = at_put (tag_in x) c n (λ d y. tag_in x d ≢ 0 → y ≢ 0) d (λ _. some_tag) (λ _ s. s) s
+          (ap (λ f. f d) tags ∙ z)
 
 -- TAG of what has become of a cell is at most 4
 tag_small : (e : Entry) → tag_of e ≤ 4
-tag_small entry.Broken = omega arith
-tag_small (entry.Value (value.Num i)) = omega arith
-tag_small (entry.Value (value.Ref r)) = by r.sort
-  where
-    by : (o : Sort) → sort_tag o ≤ 4
-    by sort.Task = omega arith
-    by sort.Promise = omega arith
+tag_small e = grind arith
 
 module _ {B : Type 0} (program : Bool → B → Program B) (key : Key B) where
-  abbrev P : Program B
-  P = program key.strict key.root.value
-
-  -- the view of a seat without something that was due
-  seat_written : (v : View B) (c steps : ℕ) (f : Once) (wrote filled : List Filled) (shuts : List ℕ) → IsSeat key v
-      → (HasWakeToCome (record v { shuts = shuts }) → IsBacked v)
-      → IsSeat key (record v {
-        steps = steps;
-        dues = without_due c f v.dues;
-        wrote = wrote;
-        filled = filled;
-        shuts = shuts;
-      })
-  seat_written v c steps f wrote filled shuts q wakes = record {
-    about = q.about;
-    named = q.named;
-    within_lot = q.within_lot;
-    backing = record {
-      wakes = wakes;
-      tags = λ a. q.backing.tags (a.0, (due_else c f v.dues a.0 a.1).0, a.2);
-      alarms = q.backing.alarms;
-    };
-    known_born = q.known_born;
-  }
-
   -- the cell that a seat is to write is to become one thing
   one_entry : (v : View B) (c : ℕ) (n : ℕ) (m k : MayPutBits program c n v) → m.entry ≡ k.entry
   one_entry v c n m k = (entries_are_one (program k.about.strict k.about.root) k.may.to_become.0.name m.entry k.entry
@@ -191,12 +160,9 @@ module _ {B : Type 0} (program : Bool → B → Program B) (key : Key B) where
       let same : m.about ≡ record { root = key.root.value; cells = key.cells; strict = key.strict } =
       q.about m.about m.is_about in
       once_stores program key s r id c n once.Bits l w (written y id c once.Bits v w y.shuts y) tt
-      (seat_written v c w.steps once.Bits w.wrote w.filled w.shuts q q.backing.wakes)
+      (seat_written key v c once.Bits w.shuts q q.backing.wakes)
       (ap (λ (z : SeatsHave B). written y id c once.Bits v w z.shuts z) (seats_same s.views id v at))
-      (law_bits r.law id c v (at_map (λ (u : View B). u.born) s.views id v at)
-      (at_map (λ (u : View B). u.wrote) s.views id v at) (at_map (λ (u : View B). u.filled) s.views id v at)
-      (at_map (λ (u : View B). u.seen) s.views id v at) (at_map (λ (u : View B). u.dues) s.views id v at)
-      m.entry n m.due (at_map (λ (u : View B). u.known) s.views id v at)
+      (law_bits program key s r id c v at m.entry n m.due
       (subst (λ (a : About B). MayStoreBits (program a.strict a.root) v.born v.known c m.entry n) same m.may))
 
   pub bits_allowed : (slots id : ℕ) (me : SeatMe B) (c i n cell : ℕ) → c < key.cells → i ≡ once_at c once.Bits
@@ -224,12 +190,9 @@ module _ {B : Type 0} (program : Bool → B → Program B) (key : Key B) where
   tag_stores s r id c n v at l m = let y = seats_have s.views in let w = wrote_tag c m.entry v in
       once_stores program key s r id c n once.Tag l w (written y id c once.Tag v w (set y.shuts id w.shuts) y)
       (subst (λ k. k ≤ 4) (sym m.tag) (tag_small m.entry))
-      (seat_written v c w.steps once.Tag w.wrote w.filled w.shuts (r.seats id v at) (λ h. m.backed))
+      (seat_written key v c once.Tag w.shuts (r.seats id v at) (λ h. m.backed))
       (ap (written y id c once.Tag v w (set y.shuts id w.shuts)) (seats_same s.views id v at))
-      (law_tag r.law id c v (at_map (λ (u : View B). u.born) s.views id v at)
-      (at_map (λ (u : View B). u.wrote) s.views id v at) (at_map (λ (u : View B). u.filled) s.views id v at)
-      (at_map (λ (u : View B). u.seen) s.views id v at) (at_map (λ (u : View B). u.dues) s.views id v at)
-      m.entry n m.due m.bits_first m.wrote m.tag (at_map (λ (u : View B). u.shuts) s.views id v at))
+      (law_tag program key s r id c v at m.entry n m.due m.bits_first m.wrote m.tag)
 
   -- what a seat has written of one cell is one thing
   one_written : (s : State (Option (Rec B)) (View B)) (r : Rule program key s) (id c : ℕ) (v : View B)
@@ -239,8 +202,8 @@ module _ {B : Type 0} (program : Bool → B → Program B) (key : Key B) where
       let wrote = at_map (λ (u : View B). u.wrote) s.views id v at in
       let h = r.law.meaning.wrote_stands id v.wrote wrote (record { cell = c; entry = d }) a in
       let k = r.law.meaning.wrote_stands id v.wrote wrote (record { cell = c; entry = e }) b in
-      (entries_are_one P k.reference.name d e
-      (subst (λ (y : Reference). Becomes P y.name d)
+      (entries_are_one (program key.strict key.root.value) k.reference.name d e
+      (subst (λ (y : Reference). Becomes (program key.strict key.root.value) y.name d)
       (some-injective h.reference k.reference (sym h.is ∙ k.is)) h.becomes) k.becomes).0
 
   pub tag_allowed : (slots id : ℕ) (me : SeatMe B) (c i n cell : ℕ) → c < key.cells → i ≡ once_at c once.Tag

@@ -5,8 +5,9 @@ use Rattle.tj_words.proofs.Prelude.{Once, OnceWords, Option, Reference, SeenWord
 use Rattle.tj_words.proofs.Prelude.{arith, cond, dec_le, dite, eq-eqb, get_elem?, in_either, inl, inr, nat_eq, ne_eqb}
 use Rattle.tj_words.proofs.Prelude.{once_at, refl, set, some, some-injective, subst, sym, tree_word, without_due, ℕ}
 use Rattle.tj_words.proofs.Prelude.{ℕ_discrete, ⊎_elim, ◌++◌, ◌<◌, ◌∙◌, ◌∷◌, ◌≡◌, ◌≢◌}
-use Rattle.tj_words.proofs.Lemmas.{each_else, each_set, none_some, of_seat_set, one_some, put_word}
-use Rattle.tj_words.proofs.Stores.StoredWords.{put_word_else, put_word_here}
+use Rattle.tj_words.proofs.Stores.SeatLists.{each_else, each_set, of_seat_set}
+use Rattle.tj_words.proofs.Holders.HeldTasks.{none_some, one_some}
+use Rattle.tj_words.proofs.Stores.StoredWords.{put_word, put_word_else, put_word_here}
 use Rattle.tj_words.proofs.Stores.TableWords.{same_cell, same_word}
 use Rattle.tj_words.specs.declared.offsets.Once.TheVariants as once
 
@@ -14,29 +15,13 @@ use Rattle.tj_words.specs.declared.offsets.Once.TheVariants as once
 pub due_else : (c : ℕ) (f : Once) (ds : List Due) (d : Due) → IsIn d (without_due c f ds)
     → IsIn d ds × (once_at d.cell d.word ≢ once_at c f)
 due_else c f [] d i = absurd i
-due_else c f (e ∷ ds) d i = dite (ℕ_discrete (once_at e.cell e.word) (once_at c f))
-    (λ q. let r = due_else c f ds d (subst Among (eq-eqb (once_at e.cell e.word) (once_at c f) q) i) in (inr r.0, r.1))
-    (λ n. ⊎_elim
-    (λ (p : d ≡ e). (inl p, λ q. n (ap (λ (z : Due). once_at z.cell z.word) (sym p) ∙ q)))
-    (λ (j : IsIn d (without_due c f ds)). let r = due_else c f ds d j in (inr r.0, r.1))
-    (subst Among (ne_eqb (once_at e.cell e.word) (once_at c f) n) i))
-  where
-    Among : Bool → Type 0
-    Among b = IsIn d (cond b (without_due c f ds) (e ∷ without_due c f ds))
+due_else c f (e ∷ ds) d i = let r = due_else c f ds d in grind arith
 
 -- and each other one is due still
 pub due_still : (c : ℕ) (f : Once) (ds : List Due) (d : Due) → IsIn d ds → once_at d.cell d.word ≢ once_at c f
     → IsIn d (without_due c f ds)
 due_still c f [] d i n = absurd i
-due_still c f (e ∷ ds) d i n = dite (ℕ_discrete (once_at e.cell e.word) (once_at c f))
-    (λ q. subst Among (sym (eq-eqb (once_at e.cell e.word) (once_at c f) q))
-    (⊎_elim (λ (p : d ≡ e). absurd (n (ap (λ (z : Due). once_at z.cell z.word) p ∙ q)))
-    (λ (j : IsIn d ds). due_still c f ds d j n) i))
-    (λ m. subst Among (sym (ne_eqb (once_at e.cell e.word) (once_at c f) m))
-    (⊎_elim (λ (p : d ≡ e). inl p) (λ (j : IsIn d ds). inr (due_still c f ds d j n)) i))
-  where
-    Among : Bool → Type 0
-    Among b = IsIn d (cond b (without_due c f ds) (e ∷ without_due c f ds))
+due_still c f (e ∷ ds) d i n = let r = due_still c f ds d in grind arith
 
 module _ {drawn : ℕ} {hand : ℕ → Option Hand} {hands : List (Option Hand)} {own : ℕ → Option ℕ}
     {word : ℕ → Once → ℕ} {seen : List (List SeenWord)} {dues : List (List Due)}

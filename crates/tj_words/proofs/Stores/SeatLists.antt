@@ -1,8 +1,9 @@
 -- Lists over seats, in which one seat's element changes, and words of which one changes.
-use Rattle.tj_words.proofs.Prelude.{Each, List, OfSeat, [], ap, arith, at_longer, at_map, at_set, at_snoc, dite}
-use Rattle.tj_words.proofs.Prelude.{get_elem?, get_or-set_other, get_or-set_same, length, map, map-set, refl, set}
-use Rattle.tj_words.proofs.Prelude.{set_again, set_else, set_here, some, some-injective, some-ne-none, subst, suc, sym}
-use Rattle.tj_words.proofs.Prelude.{word, zero, ℕ, ℕ_discrete, ⊎_elim, ◌++◌, ◌<◌, ◌∙◌, ◌∷◌, ◌≡◌, ◌≢◌}
+use Rattle.tj_words.proofs.Prelude.{All, Each, IsIn, List, OfSeat, [], ap, arith, at_longer, at_map, at_set, at_snoc}
+use Rattle.tj_words.proofs.Prelude.{dite, get_elem?, get_or-set_other, get_or-set_same, inl, inr, length, map, map-set}
+use Rattle.tj_words.proofs.Prelude.{refl, set, set_again, set_else, set_here, some, some-injective, some-ne-none, subst}
+use Rattle.tj_words.proofs.Prelude.{suc, sym, total, word, zero, ℕ, ℕ_discrete, ⊎_elim, ◌++◌, ◌<◌, ◌∙◌, ◌∷◌, ◌≡◌, ◌≢◌}
+use Rattle.tj_words.proofs.Prelude.{◌≤◌}
 
 -- a proof goes back along a path of facts
 pub back : {X Y : Type 0} → X ≡ Y → Y → X
@@ -78,3 +79,33 @@ module _ {A : Type 0} (F : A → Type 0) (l : List A) where
   -- a seat more
   pub of_seat_snoc : (a : A) (j : ℕ) → OfSeat F l j → OfSeat F (l ++ a ∷ []) j
   of_seat_snoc a j h = (h.0, at_longer l (a ∷ []) j h.0 h.1, h.2)
+
+-- what stands at an index of a mapped list
+pub map_back : {A C : Type 0} (f : A → C) (l : List A) (i : ℕ) (c : C) → get_elem? (map f l) i ≡ some c
+    → (a : A) × (get_elem? l i ≡ some a) × (f a ≡ c)
+map_back f [] i c e = absurd (some-ne-none c (sym e))
+map_back f (x ∷ xs) zero c e = (x, refl, some-injective (f x) c e)
+map_back f (x ∷ xs) (suc i) c e = map_back f xs i c e
+
+-- one of the numbers is no more than the sum
+pub one_part : (l : List ℕ) (i a : ℕ) → get_elem? l i ≡ some a → a ≤ total l
+one_part [] i a e = absurd (some-ne-none a (sym e))
+one_part (x ∷ xs) zero a e = let q : x ≡ a = some-injective x a e in omega arith
+one_part (x ∷ xs) (suc i) a e = let q = one_part xs i a e in omega arith
+
+-- what stands at an index is in the list
+pub in_of_index : {A : Type 0} (l : List A) (c : ℕ) (x : A) → get_elem? l c ≡ some x → IsIn x l
+in_of_index [] c x e = absurd (some-ne-none x (sym e))
+in_of_index (y ∷ ys) zero x e = inl (sym (some-injective y x e))
+in_of_index (y ∷ ys) (suc c) x e = inr (in_of_index ys c x e)
+
+-- what holds of all elements holds with one more
+pub all_cons : {A : Type 0} (F : A → Type 0) (x : A) (xs : List A) → F x → All F xs → All F (x ∷ xs)
+all_cons F x xs h k y (inl e) = subst F (sym e) h
+all_cons F x xs h k y (inr i) = k y i
+
+-- what holds of all elements of two lists holds of all of both together
+pub all_append : {A : Type 0} (F : A → Type 0) (xs ys : List A) → All F xs → All F ys → All F (xs ++ ys)
+all_append F [] ys h k y i = k y i
+all_append F (x ∷ xs) ys h k y (inl e) = h y (inl e)
+all_append F (x ∷ xs) ys h k y (inr i) = all_append F xs ys (λ z m. h z (inr m)) k y i

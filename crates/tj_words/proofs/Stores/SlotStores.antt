@@ -1,7 +1,7 @@
 -- Steps on a word at which the seat also takes a slot, gives one back, or leaves them as they are.
-use Rattle.tj_words.proofs.Prelude.{Act, Bool, Key, Option, Program, Rec, Rule, SeatMe, State, View, carried_after}
-use Rattle.tj_words.proofs.Prelude.{get_elem?, keeps, none, set, some, stepped, takes, ℕ, ◌∷◌, ◌≡◌}
-use Rattle.atomic_table.specs.Table.{Valid}
+use Rattle.tj_words.proofs.Prelude.{Act, Bool, Key, Option, Program, Rec, Rule, SeatMe, State, View, ap, get_elem?}
+use Rattle.tj_words.proofs.Prelude.{gives, keeps, none, put_back, rest, set, some, subst, sym, takes, ℕ, ◌∷◌, ◌≡◌}
+use Rattle.atomic_table.specs.Table.{carried_after, stepped, Valid}
 pub use Rattle.tj_words.proofs.Stores.StoreSteps.{StoresWith, rule_stores_with, store_word_with}
 
 module _ {B : Type 0} (program : Bool → B → Program B) (key : Key B) where
@@ -21,3 +21,15 @@ module _ {B : Type 0} (program : Bool → B → Program B) (key : Key B) where
         → StoresWith program key s (set s.homes t none) id i n w → F (w, (t, y) ∷ m.1)
         → Acts s id m i n F
     acts_taking t y lies h f = (w, takes t y, lies, rule_stores_with program key s r (set s.homes t none) id i n w h, f)
+
+    -- the seat gives the slot back that it took last, with y: that of t
+    pub acts_giving : (t : ℕ) (y : Option (Rec B)) → m.1 ≡ (t, y) ∷ rest m.1
+        → StoresWith program key s (set s.homes t (some y)) id i n w → F (w, rest m.1) → Acts s id m i n F
+    acts_giving t y front h f = (
+      w,
+      gives,
+      tt,
+      subst (λ z. Rule program key record { words = set s.words i n; homes = z; views = set s.views id w })
+          (sym (ap (put_back s.homes) front)) (rule_stores_with program key s r (set s.homes t (some y)) id i n w h),
+      f,
+    )

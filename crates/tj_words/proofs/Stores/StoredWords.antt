@@ -1,7 +1,7 @@
 -- What the words say after a store of one of them.
-use Rattle.tj_words.proofs.Prelude.{Bool, List, Once, WordsSay, ap, cond, dite, eq-eqb, head_at, head_in, length}
-use Rattle.tj_words.proofs.Prelude.{nat_eq, ne_eqb, next_at, once_at, others_at, owner_in, phase_in, put, refl, set}
-use Rattle.tj_words.proofs.Prelude.{sym, word, words_say, ℕ, ℕ_discrete, ◌<◌, ◌∙◌, ◌≡◌, ◌≢◌}
+use Rattle.tj_words.proofs.Prelude.{Bool, List, Once, WordsSay, ap, cond, dite, eq-eqb, head_in, length, nat_eq, ne_eqb}
+use Rattle.tj_words.proofs.Prelude.{once_at, others_at, owner_in, phase_in, refl, set, sym, word, words_say, ℕ}
+use Rattle.tj_words.proofs.Prelude.{ℕ_discrete, ◌<◌, ◌∙◌, ◌≡◌, ◌≢◌}
 use Rattle.tj_words.proofs.Stores.SeatLists.{word_else, word_here}
 use Rattle.tj_words.proofs.Stores.TableWords.{TableWord, Count, Live, Others, Stop, Own, Phase, Written, Head, Next}
 use Rattle.tj_words.proofs.Stores.TableWords.{index, is_word, is_word_here, is_word_else, same_cell, same_word}
@@ -61,14 +61,6 @@ module _ (ws : List ℕ) (n : ℕ) where
     next = λ c. read_store head_in w (Next c) l j;
   }
 
-  -- a store of OTHERS, of a HEAD and of a NEXT
+  -- a store of OTHERS
   pub say_others : others_at < length ws → words_say (set ws others_at n) ≡ record (words_say ws) { others = n }
   say_others l = say Others l
-
-  pub say_head : (c : ℕ) → head_at c < length ws
-      → words_say (set ws (head_at c) n) ≡ record (words_say ws) { head = put (words_say ws).head c (head_in n) }
-  say_head c l = say (Head c) l
-
-  pub say_next : (c : ℕ) → next_at c < length ws
-      → words_say (set ws (next_at c) n) ≡ record (words_say ws) { next = put (words_say ws).next c (head_in n) }
-  say_next c l = say (Next c) l

@@ -1,7 +1,7 @@
 -- The words of a table: no two of them stand at one index.
 use Rattle.tj_words.proofs.Prelude.{Bool, Once, ap, arith, cond, count_at, dite, eq-eqb, false, head_at, live_at}
-use Rattle.tj_words.proofs.Prelude.{nat_eq, ne_eqb, next_at, once_at, others_at, own_at, phase_at, refl, stop_at, suc}
-use Rattle.tj_words.proofs.Prelude.{sym, true, zero, ℕ, ℕ_discrete, ◌*◌, ◌+◌, ◌∙◌, ◌≡◌, ◌≢◌, ◌≤◌}
+use Rattle.tj_words.proofs.Prelude.{nat_eq, ne_eqb, next_at, once_at, others_at, own_at, phase_at, stop_at, suc, sym}
+use Rattle.tj_words.proofs.Prelude.{true, zero, ℕ, ℕ_discrete, ◌*◌, ◌+◌, ◌∙◌, ◌≡◌, ◌≢◌, ◌≤◌}
 use Rattle.tj_words.specs.declared.offsets.Once.TheVariants as once
 
 -- the words of a table; Written are those that are written once
@@ -95,17 +95,7 @@ record IsToldBy (w : TableWord) : Type 0 where
   by : index w ≡ place_by (kind w) (key w)
 
 told_by : (w : TableWord) → IsToldBy w
-told_by (Own c) = record { at = omega arith; small = omega arith; back = refl; by = refl }
-told_by (Phase c) = record { at = omega arith; small = omega arith; back = refl; by = refl }
-told_by (Written c once.Tag) = record { at = omega arith; small = omega arith; back = refl; by = refl }
-told_by (Written c once.Bits) = record { at = omega arith; small = omega arith; back = refl; by = refl }
-told_by (Written c once.Parent) = record { at = omega arith; small = omega arith; back = refl; by = refl }
-told_by (Written c once.Kid) = record { at = omega arith; small = omega arith; back = refl; by = refl }
-told_by (Written c once.Depth) = record { at = omega arith; small = omega arith; back = refl; by = refl }
-told_by (Written c once.Jump) = record { at = omega arith; small = omega arith; back = refl; by = refl }
-told_by (Head c) = record { at = omega arith; small = omega arith; back = refl; by = refl }
-told_by (Next c) = record { at = omega arith; small = omega arith; back = refl; by = refl }
-told_by w = record { at = refl; small = omega arith; back = refl; by = refl }
+told_by w = record { at = grind arith; small = grind arith; back = grind arith; by = grind arith }
 
 -- so two words that stand at one index are one
 pub same_word_at : (w x : TableWord) → index x ≡ index w → x ≡ w

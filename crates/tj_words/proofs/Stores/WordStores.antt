@@ -1,23 +1,20 @@
 -- The store of a word of the tree of a cell in hand: what it asks is the right word, and the rule is kept.
 use Rattle.tj_words.proofs.Prelude.{All, Allows, Bool, Chains, Contents, Custody, Hand, HasTask, IsCell, IsDue, IsIn}
-use Rattle.tj_words.proofs.Prelude.{IsOfTree, IsThere, Key, Law, List, Meaning, NodeId, Once, Option, Program, Rec}
+use Rattle.tj_words.proofs.Prelude.{IsOfTree, IsThere, Key, Law, Meaning, NodeId, Once, Option, Program, Rec}
 use Rattle.tj_words.proofs.Prelude.{RecordsFit, Reference, Rule, SeatMe, SeatsHave, SeenWord, ShowsNode, Some, Stands}
 use Rattle.tj_words.proofs.Prelude.{State, View, [], ap, arith, at_map, contents_of, depth_word, drawn_in, get_elem?}
 use Rattle.tj_words.proofs.Prelude.{hand_of, held_in, held_of, home_of, inl, inr, jump_word, made_by, made_of, making}
 use Rattle.tj_words.proofs.Prelude.{none, once_at, parent_word, refl, seats_have, seen_word, set, some, some-injective}
 use Rattle.tj_words.proofs.Prelude.{sort_shown, step, subst, suc, sym, tree_word, zero, ℕ, ◌<◌, ◌^◌, ◌∙◌, ◌∷◌, ◌≡◌, ◌≢◌}
+use Rattle.tj_words.proofs.Lemmas.{MayStand, Stores, back, hand_finds, hand_found, held_here, knows_so, law_kept}
+use Rattle.tj_words.proofs.Lemmas.{made_few, makes_one, none_some, once_stored, one_some, put_word, put_word_word}
+use Rattle.tj_words.proofs.Lemmas.{seats_same, step_allowed, tree_words_stored}
 use Rattle.tj_tree.specs.Nodes.{node_of, jump_from, InEachTree}
 use Rattle.tj_tree.proofs.Trees.{IsChild-of}
 use Rattle.tj_words.specs.Calls.DrawViews.{without_due, IsRightWord, MayWrite, wrote_word, word_store}
-use Rattle.tj_words.proofs.Stores.LawChanges.{law_once}
-use Rattle.tj_words.proofs.Lemmas.{Stores, back, hand_finds, hand_found, held_here, knows_so, none_some, one_some}
-use Rattle.tj_words.proofs.Lemmas.{put_word, put_word_word, seats_same, step_allowed}
-use Rattle.tj_words.proofs.Holders.HeldTasks.{makes_one}
 use Rattle.tj_words.proofs.SeatLoads.KnowLoads.{root_there, born_at, sees_tree}
-use Rattle.tj_words.proofs.Stores.StoreSteps.{MayStand}
-use Rattle.tj_words.proofs.Stores.OnceStores.{due_else, once_stored, tree_words_stored}
-use Rattle.tj_words.proofs.Cells.MadeThings.{made_few, child_jump}
-use Rattle.tj_words.proofs.Stores.WrittenOnce.{once_stores}
+use Rattle.tj_words.proofs.Cells.MadeThings.{child_jump}
+use Rattle.tj_words.proofs.Stores.WrittenOnce.{once_stores, seat_written}
 use Rattle.tj_base.specs.declared.cell.Sort.TheVariants as sort
 use Rattle.tj_words.specs.declared.offsets.Once.TheVariants as once
 
@@ -55,19 +52,20 @@ module _ {B : Type 0} {program : Program B} {cells : ℕ} {x : Contents B} (r : 
     sort_here : (y : Reference) → IsCell r.born h.cell y → y.sort ≡ h.sort
     sort_here y e = r.births.sorts h.cell y e ∙ ap (λ o. sort_shown o (x.words.phase h.cell)) here
 
-    module _ (ks : List (Custody B)) (ws : List SeenWord) (tasks : get_elem? x.seats.tasks id ≡ some ks)
-        (stands : All (Stands (drawn_in cells x) x.words.once r.once_words.due_to) ws) where
+    module _ (v : View B) (tasks : get_elem? x.seats.tasks id ≡ some v.tasks)
+        (stands : All (Stands (drawn_in cells x) x.words.once r.once_words.due_to) v.seen) where
       -- the number of the cell is the number of things that its maker has made, and one
-      number_here : (k : Custody B) → held_in ks h.maker ≡ Some k → r.number h.cell ≡ suc k.made
+      number_here : (k : Custody B) → held_in v.tasks h.maker ≡ Some k → r.number h.cell ≡ suc k.made
       number_here k e =
           let a : r.number h.cell ≡ made_of x h.maker = (r.births.in_hand h.cell h here).1 in
           let b : made_by (held_of x h.maker) (home_of x h.maker) ≡ k.made =
-          ap (λ (o : Option (Custody B)). made_by o (home_of x h.maker)) (held_here r id h.maker k (ks, tasks, e)) in
+          ap (λ (o : Option (Custody B)). made_by o (home_of x h.maker))
+          (held_here r id h.maker k (v.tasks, tasks, e)) in
           let d : making x.seats.hands h.maker ≡ 1 = makes_one x.seats.hands id h has in omega arith
 
       -- what holds in each tree that fits what was seen holds in the tree of forks
-      in_tree : (F : Rattle.tj_tree.specs.Forks.Forks → Type 0) → InEachTree (ShowsNode ws) F → F r.forks
-      in_tree F each = each r.forks r.tree.history (sees_tree program cells x r ws [] stands (r.born, refl)).nodes
+      in_tree : (F : Rattle.tj_tree.specs.Forks.Forks → Type 0) → InEachTree (ShowsNode v.seen) F → F r.forks
+      in_tree F each = each r.forks r.tree.history (sees_tree program cells x r v.seen [] stands (r.born, refl)).nodes
 
       task_there : (y : Reference) → IsCell r.born h.cell y → h.sort ≡ sort.Task → HasTask r.forks h.cell
       task_there y e is = (r.tree.tasks h.cell).1 (y, e, sort_here y e ∙ is)
@@ -77,33 +75,29 @@ module _ {B : Type 0} {program : Program B} {cells : ℕ} {x : Contents B} (r : 
       parent_is y e is j =
           record { 0 = (r.tree.parents h.cell (task_there y e is) ∙ its_maker) j }
 
-      right_word : (f : Once) (n : ℕ) (v : View B) → v.seen ≡ ws → v.tasks ≡ ks → IsRightWord f n h v
-          → (y : Reference) → IsCell r.born h.cell y
+      right_word : (f : Once) (n : ℕ) → IsRightWord f n h v → (y : Reference) → IsCell r.born h.cell y
           → n ≡ tree_word r.maker r.number r.forks y.sort h.cell f
-      right_word once.Tag n v s t w y e = absurd w
-      right_word once.Bits n v s t w y e = absurd w
-      right_word once.Parent n v s t w y e = by h.cell not_root its_maker
+      right_word once.Tag n w y e = absurd w
+      right_word once.Bits n w y e = absurd w
+      right_word once.Parent n w y e = by h.cell not_root its_maker
         where
           by : (c : ℕ) → c ≢ 0 → r.maker c ≡ h.maker → n ≡ parent_word c (r.maker c)
           by zero z q = absurd (z refl)
           by (suc c) z q = w ∙ ap suc (sym q)
-      right_word once.Kid n v s t w y e = w.2 ∙ sym (number_here w.0 (ap (λ l. held_in l h.maker) (sym t) ∙ w.1))
-      right_word once.Depth n v s t w y e =
+      right_word once.Kid n w y e = w.2 ∙ sym (number_here w.0 w.1)
+      right_word once.Depth n w y e =
           let task = task_there y e w.0 in
           let d = (IsChild-of r.forks r.tree.history h.cell task not_root).deeper in
           let p : (node_of r.forks (node_of r.forks h.cell).parent.0).depth ≡ (node_of r.forks h.maker).depth =
           ap (λ (i : NodeId). (node_of r.forks i.0).depth) (parent_is y e w.0) in
           let m : n ≡ suc (node_of r.forks h.maker).depth =
-          in_tree (λ forks. n ≡ suc (node_of forks h.maker).depth)
-          (subst (λ l. InEachTree (ShowsNode l) (λ forks. n ≡ suc (node_of forks h.maker).depth)) s w.1) in
+          in_tree (λ forks. n ≡ suc (node_of forks h.maker).depth) w.1 in
           let q : n ≡ (node_of r.forks h.cell).depth = omega arith in
           q ∙ ap (λ o. depth_word o (node_of r.forks h.cell)) (sym (sort_here y e ∙ w.0))
-      right_word once.Jump n v s t w y e =
+      right_word once.Jump n w y e =
           let task = task_there y e w.0 in
           let m : n ≡ suc (jump_from (node_of r.forks) (record { 0 = h.maker })).0 =
-          in_tree (λ forks. n ≡ suc (jump_from (node_of forks) (record { 0 = h.maker })).0)
-          (subst (λ l. InEachTree (ShowsNode l)
-          (λ forks. n ≡ suc (jump_from (node_of forks) (record { 0 = h.maker })).0)) s w.1) in
+          in_tree (λ forks. n ≡ suc (jump_from (node_of forks) (record { 0 = h.maker })).0) w.1 in
           let q : (node_of r.forks h.cell).jump ≡ jump_from (node_of r.forks) (record { 0 = h.maker }) =
           child_jump r.forks r.tree.history h.cell task not_root
           ∙ ap (jump_from (node_of r.forks)) (parent_is y e w.0) in
@@ -111,30 +105,27 @@ module _ {B : Type 0} {program : Program B} {cells : ℕ} {x : Contents B} (r : 
           ∙ ap (λ o. jump_word o (node_of r.forks h.cell)) (sym (sort_here y e ∙ w.0)))
 
       -- and it may stand there
-      may_stand : cells < 2 ^ 32 → (f : Once) (n : ℕ) (v : View B) → v.seen ≡ ws → v.tasks ≡ ks → IsRightWord f n h v
+      may_stand : cells < 2 ^ 32 → (f : Once) (n : ℕ) → IsRightWord f n h v
           → (y : Reference) → IsCell r.born h.cell y → MayStand cells f n
-      may_stand few once.Parent n v s t w y e = let l = maker_there.0 in let q : n ≡ suc h.maker = w in omega arith
-      may_stand few once.Kid n v s t w y e =
+      may_stand few once.Parent n w y e = let l = maker_there.0 in let q : n ≡ suc h.maker = w in omega arith
+      may_stand few once.Kid n w y e =
           let a : n ≡ suc w.0.made = w.2 in
-          let b = number_here w.0 (ap (λ l. held_in l h.maker) (sym t) ∙ w.1) in
+          let b = number_here w.0 w.1 in
           let d : r.number h.cell ≡ made_of x h.maker = (r.births.in_hand h.cell h here).1 in
           let l = made_few r h.maker in omega arith
-      may_stand few once.Depth n v s t w y e =
-          let q : n ≡ (node_of r.forks h.cell).depth = right_word once.Depth n v s t w y e
+      may_stand few once.Depth n w y e =
+          let q : n ≡ (node_of r.forks h.cell).depth = right_word once.Depth n w y e
           ∙ ap (λ o. depth_word o (node_of r.forks h.cell)) (sort_here y e ∙ w.0) in
           let d = r.tree.depths h.cell (task_there y e w.0) in let l = drawn in omega arith
-      may_stand few once.Jump n v s t w y e =
-          let q : n ≡ suc (node_of r.forks h.cell).jump.0 = right_word once.Jump n v s t w y e
+      may_stand few once.Jump n w y e =
+          let q : n ≡ suc (node_of r.forks h.cell).jump.0 = right_word once.Jump n w y e
           ∙ ap (λ o. jump_word o (node_of r.forks h.cell)) (sort_here y e ∙ w.0) in
           let d = (r.tree.jumps_there h.cell (task_there y e w.0)).0 in omega arith
-      may_stand few other n v s t w y e = absurd w
+      may_stand few other n w y e = absurd w
 
       -- the law after the store
-      law_written : (c : ℕ) (f : Once) (n : ℕ) (v : View B) → h.cell ≡ c → v.seen ≡ ws → v.tasks ≡ ks
-          → get_elem? x.seats.seen id ≡ some v.seen
-          → get_elem? x.seats.dues id ≡ some v.dues
-          → IsDue c f v.dues
-          → IsRightWord f n h v
+      law_written : (c : ℕ) (f : Once) (n : ℕ) → h.cell ≡ c → get_elem? x.seats.seen id ≡ some v.seen
+          → get_elem? x.seats.dues id ≡ some v.dues → IsDue c f v.dues → IsRightWord f n h v
           → Law program cells record {
             words = record x.words { once = put_word x.words.once c f n };
             slots = x.slots;
@@ -143,40 +134,36 @@ module _ {B : Type 0} {program : Program B} {cells : ℕ} {x : Contents B} (r : 
               dues = set x.seats.dues id (without_due c f v.dues);
             };
           }
-      law_written c f n v is s t seen dues due w = law_once r (put_word x.words.once c f n)
-          (set x.seats.seen id (seen_word c f n ∷ v.seen)) (set x.seats.dues id (without_due c f v.dues))
-          x.seats.born_seen x.seats.wrote x.seats.filled x.seats.shuts
+      law_written c f n is seen dues due w = law_kept r (record x.words { once = put_word x.words.once c f n })
+          (record x.seats {
+            seen = set x.seats.seen id (seen_word c f n ∷ v.seen);
+            dues = set x.seats.dues id (without_due c f v.dues);
+          })
+          r.lots r.names
           (tree_words_stored r.tree_words id c f n v.dues dues
           (λ o e. none_some (hand_of x c) h e (ap (hand_of x) (sym is) ∙ here))
-          (λ y e o. right_word f n v s t w y (subst (λ d. IsCell r.born d y) (sym is) e)
+          (λ y e o. right_word f n w y (subst (λ d. IsCell r.born d y) (sym is) e)
           ∙ ap (λ d. tree_word r.maker r.number r.forks y.sort d f) is))
           (once_stored r.once_words id c f n v.dues dues due v.seen (seen_word c f n ∷ []) seen
-          (λ y i. (tree f w, only y i)) (λ e. absurd (not_tag f e w)))
+          (λ y i. (tree f w, only y i)) (λ e. absurd (subst (λ z. IsRightWord z n h v) e w)))
           (subst (λ tags. Chains tags x.words.head x.words.next x.words.phase x.seats.pushes x.seats.shuts
-          x.seats.rests x.seats.closed x.seats.found) (sym (same once.Tag (not_tag f))) r.chains)
-          (subst (λ tags. RecordsFit tags x.words.phase (home_of x)) (sym (same once.Tag (not_tag f)))
+          x.seats.rests x.seats.closed x.seats.found) (sym (same once.Tag (λ i. i))) r.chains)
+          r.live_count r.stops
+          (subst (λ tags. RecordsFit tags x.words.phase (home_of x)) (sym (same once.Tag (λ i. i)))
           r.records_fit)
           (back (λ j. Meaning program cells x.words.count x.words.stop (drawn_in cells x) (hand_of x) r.born
-          (same once.Tag (not_tag f) j) (same once.Bits (not_bits f) j) (home_of x) x.seats.born_seen x.seats.wrote
-          x.seats.filled) r.meaning)
+          (same once.Tag (λ i. i) j) (same once.Bits (λ i. i) j) (home_of x) x.seats.born_seen x.seats.wrote
+          x.seats.filled) r.meaning) r.facts
         where
           tree : (f : Once) → IsRightWord f n h v → IsOfTree f
           tree once.Tag q = absurd q
           tree once.Bits q = absurd q
-          tree once.Parent q = tt
-          tree once.Kid q = tt
-          tree once.Depth q = tt
-          tree once.Jump q = tt
+          tree f q = tt
 
-          not_tag : (f : Once) → f ≡ once.Tag → ¬ IsRightWord f n h v
-          not_tag f e q = subst (λ z. IsRightWord z n h v) e q
-
-          not_bits : (f : Once) → f ≡ once.Bits → ¬ IsRightWord f n h v
-          not_bits f e q = subst (λ z. IsRightWord z n h v) e q
-
-          same : (g : Once) → (f ≡ g → ¬ IsRightWord f n h v)
+          same : (g : Once) → ¬ IsRightWord g n h v
               → ◌≡◌ {A = ℕ → ℕ} (λ d. put_word x.words.once c f n d g) (λ d. x.words.once d g)
-          same g not = λ j d. put_word_word x.words.once c f n d g (λ e. not (sym e) w) j
+          same g not = λ j d. put_word_word x.words.once c f n d g
+              (λ e. not (subst (λ z. IsRightWord z n h v) (sym e) w)) j
 
           only : (y : SeenWord) → IsIn y (seen_word c f n ∷ []) → y ≡ record { cell = c; word = f; value = n }
           only y (inl e) = e
@@ -198,28 +185,16 @@ module _ {B : Type 0} (program : Bool → B → Program B) (key : Key B) where
       let has : get_elem? y.hands id ≡ some (Some h) =
       at_map (λ (u : View B). u.hand) s.views id v at ∙ ap (λ (o : Option Hand). some o) m.has in
       let tasks = at_map (λ (u : View B). u.tasks) s.views id v at in
-      let seen = at_map (λ (u : View B). u.seen) s.views id v at in
-      let dues = at_map (λ (u : View B). u.dues) s.views id v at in
       let stands = (knows_so program key s r id v at).seen in
       let q = r.seats id v at in
       let born = born_at P key.cells (contents_of s) law h.cell (law.hands.each id h has).drawn_cell in
       once_stores program key s r id c n f l w (record y { seen = set y.seen id w.seen; dues = set y.dues id w.dues })
-      (may_stand law id h has v.tasks v.seen tasks stands (let a = r.few_cells in omega arith) f n v refl refl m.right
-      born.0 born.1)
-      record {
-        about = q.about;
-        named = q.named;
-        within_lot = q.within_lot;
-        backing = record {
-          wakes = q.backing.wakes;
-          tags = λ a. q.backing.tags (a.0, (due_else c f v.dues a.0 a.1).0, a.2);
-          alarms = q.backing.alarms;
-        };
-        known_born = q.known_born;
-      }
+      (may_stand law id h has v tasks stands (let a = r.few_cells in omega arith) f n m.right born.0 born.1)
+      (seat_written key v c f v.shuts q q.backing.wakes)
       (ap (λ (z : SeatsHave B). record z { seen = set y.seen id w.seen; dues = set y.dues id w.dues })
       (seats_same s.views id v at))
-      (law_written law id h has v.tasks v.seen tasks stands c f n v m.its_cell refl refl seen dues m.due m.right)
+      (law_written law id h has v tasks stands c f n m.its_cell (at_map (λ (u : View B). u.seen) s.views id v at)
+      (at_map (λ (u : View B). u.dues) s.views id v at) m.due m.right)
 
   pub word_allowed : (slots id : ℕ) (m : SeatMe B) (c i n cell : ℕ) (f kind : Once) → c < key.cells → i ≡ once_at c f
       → cell ≡ c → kind ≡ f → MayWrite c f n m.0

@@ -1,10 +1,28 @@
 -- The store of a word that is written once is one of the rule, where its seat is so, and the law holds with what the
 -- seats have then.
-use Rattle.tj_words.proofs.Prelude.{Bool, IsSeat, Key, Law, Once, Option, Program, Rec, Rule, SeatsHave, State, View}
-use Rattle.tj_words.proofs.Prelude.{arith, once_at, seats_have, words_say, ℕ, ◌<◌, ◌≡◌}
+use Rattle.tj_words.proofs.Prelude.{Bool, HasWakeToCome, IsBacked, IsSeat, IsSeatOf, Key, Law, List, Once, Option}
+use Rattle.tj_words.proofs.Prelude.{Program, Rec, Rule, SeatsHave, State, View, arith, once_at, seat_part, seats_have}
+use Rattle.tj_words.proofs.Prelude.{without_due, words_say, ℕ, ◌<◌, ◌≡◌}
+use Rattle.tj_words.proofs.Lemmas.{MayStand, Stores, put_word, set_seats, store_word}
 use Rattle.tj_words.proofs.SeatLoads.KnowLoads.{once_within}
-use Rattle.tj_words.proofs.Lemmas.{Stores, Written, put_word, set_seats, store_word}
-use Rattle.tj_words.proofs.Stores.StoreSteps.{MayStand}
+use Rattle.tj_words.proofs.Stores.TableWords.{Written}
+use Rattle.tj_words.proofs.Stores.OnceStores.{due_else}
+
+-- a seat to which the word isn't due from now on is so, where it is backed if a wake is to come
+pub seat_written : {B : Type 0} (key : Key B) (v : View B) (c : ℕ) (f : Once) (shuts : List ℕ) → IsSeat key v
+    → (HasWakeToCome (record v { shuts = shuts }) → IsBacked v)
+    → IsSeatOf key (record (seat_part v) { dues = without_due c f v.dues; shuts = shuts })
+seat_written key v c f shuts q wakes = record {
+  about = q.about;
+  named = q.named;
+  within_lot = q.within_lot;
+  backing = record {
+    wakes = wakes;
+    tags = λ a. q.backing.tags (a.0, (due_else c f v.dues a.0 a.1).0, a.2);
+    alarms = q.backing.alarms;
+  };
+  known_born = q.known_born;
+}
 
 module _ {B : Type 0} (program : Bool → B → Program B) (key : Key B) (s : State (Option (Rec B)) (View B))
     (r : Rule program key s) (id c n : ℕ) (f : Once) (l : c < key.cells) where

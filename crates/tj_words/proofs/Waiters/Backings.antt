@@ -1,8 +1,9 @@
 -- What a seat holds that has something to come, after each step.
-use Rattle.tj_words.proofs.Prelude.{Any, Backing, Custody, Does, DoesRun, DoesWalk, Due, HasAlarmed, HasWakeToCome}
-use Rattle.tj_words.proofs.Prelude.{Holds, Some, View, dite, held_in, inl, inr, subst, sym, ℕ, ℕ_discrete, ⊎_elim, ◌<◌}
-use Rattle.tj_words.proofs.Prelude.{◌∙◌, ◌≡◌, ◌≢◌, ◌⊎◌}
-use Rattle.tj_words.proofs.Waiters.ChainLists.{same_some}
+use Rattle.tj_words.proofs.Prelude.{Any, Backing, Custody, Does, DoesRun, DoesWalk, Due, HasAlarmed, HasWake}
+use Rattle.tj_words.proofs.Prelude.{HasWakeToCome, Holds, IsBacked, IsSeat, IsSeatOf, Key, List, Option, Push, Rest}
+use Rattle.tj_words.proofs.Prelude.{Some, View, dite, held_in, inl, inr, seat_part, subst, sym, ℕ, ℕ_discrete, ⊎_elim}
+use Rattle.tj_words.proofs.Prelude.{◌<◌, ◌∙◌, ◌≡◌, ◌≢◌, ◌⊎◌}
+use Rattle.tj_words.proofs.Lemmas.{same_some}
 use Rattle.tj_words.proofs.Waiters.LiveSteps.{backing_running, backing_walking, alarms_else}
 use Rattle.tj_words.specs.declared.offsets.Once.TheVariants as once
 
@@ -10,6 +11,19 @@ module _ {B : Type 0} where
   -- a TAG is to come
   abbrev pub HasTagToCome : View B → Type 0
   HasTagToCome v = Any (λ (d : Due). d.word ≡ once.Tag) v.dues
+
+  -- a seat with other steps of the chains to come, where it is backed if it has one
+  pub wakes_seat : (key : Key B) (v : View B) → IsSeat key v → (pushes : List Push) (shuts : List ℕ)
+      (rest : Option Rest)
+      → (HasWake pushes shuts rest → IsBacked v)
+      → IsSeatOf key (record (seat_part v) { pushes = pushes; shuts = shuts; rest = rest })
+  wakes_seat key v h pushes shuts rest wakes = record {
+    about = h.about;
+    named = h.named;
+    within_lot = h.within_lot;
+    backing = record { wakes = wakes; tags = h.backing.tags; alarms = h.backing.alarms };
+    known_born = h.known_born;
+  }
 
   -- a seat has as many tokens as before, and what it has for one task is changed
   module _ (v w : View B) (t : ℕ) (tokens : w.tokens ≡ v.tokens)

@@ -1,13 +1,12 @@
--- What holds where chains are as the law says: which phases are parked, that a chain has no task twice, and that a cell
--- on which nobody is parked has none.
-use Rattle.tj_words.proofs.Prelude.{AreApart, AreLinked, Chains, Does, Empty, Found, Head, IsFirstIn, IsIn, IsParkedOn}
-use Rattle.tj_words.proofs.Prelude.{IsPush, List, Option, Phase, Push, Rest, Shut, Some, Task, [], ap, arith, cell}
-use Rattle.tj_words.proofs.Prelude.{get_elem?, head_of, inl, length, length-append, phase_of, refl, some, subst, sym, ℕ}
+-- What holds where chains are as the law says: which phases are parked, that a chain has no task twice and no more
+-- tasks than there are cells, and that a cell on which nobody is parked has none.
+use Rattle.tj_words.proofs.Prelude.{AreApart, AreLinked, Chains, Does, Empty, Found, Head, IsIn, IsParkedOn, IsPush}
+use Rattle.tj_words.proofs.Prelude.{List, Option, Phase, Push, Rest, Shut, Some, Task, Unborn, [], ap, arith, cell}
+use Rattle.tj_words.proofs.Prelude.{head_of, head_word, inl, length, length-append, phase_of, refl, subst, sym, ℕ}
 use Rattle.tj_words.proofs.Prelude.{⊎_elim, ◌++◌, ◌<◌, ◌∙◌, ◌∷◌, ◌≡◌, ◌≢◌, ◌≤◌}
 use Rattle.tj_words.proofs.Waiters.ChainHeads.{one_cell}
-use Rattle.tj_words.proofs.Waiters.ChainLists.{no_some, same_some, few_apart}
+use Rattle.tj_words.proofs.Waiters.ChainLists.{no_some, few_apart}
 use Rattle.tj_words.specs.declared.phase.Phase.TheVariants as phase
-use Rattle.tj_words.specs.declared.view.Does.TheVariants as does
 
 -- a phase that is parked on no cell
 abbrev pub IsNotParked : Phase → Type 0
@@ -24,10 +23,7 @@ running_free c h = let e = h.1 in cc
 
 -- a task that a seat holds is parked on no cell
 pub held_free : (d : Does) → IsNotParked (phase_of d)
-held_free does.Unborn = unborn_free
-held_free (does.Walking p way w) = λ c h. let e = h.1 in cc
-held_free (does.Alarmed p way w) = λ c h. let e = h.1 in cc
-held_free d = running_free
+held_free d c h = grind arith
 
 abbrev head_cell : Head → ℕ
 head_cell Empty = 0
@@ -39,25 +35,18 @@ pub first_is : (t u : ℕ) (ts us : List ℕ) → head_of (t ∷ ts) ≡ head_of
 first_is t u ts us e = ap head_cell e
 
 pub no_shut : (l : List ℕ) → head_of l ≢ Shut
-no_shut [] e = cc
-no_shut (t ∷ ts) e = cc
+no_shut l e = grind arith
 
 -- a task at which the head of a list points is its first
 pub first_of : (l : List ℕ) (t : ℕ) → head_of l ≡ Task (cell t) → (ts : List ℕ) × (l ≡ t ∷ ts)
-first_of [] t e = absurd (cc)
-first_of (u ∷ ts) t e = (ts, ap (λ z. z ∷ ts) (ap head_cell e))
-
-pub none_of : (l : List ℕ) → head_of l ≡ Empty → l ≡ []
-none_of [] e = refl
-none_of (t ∷ ts) e = absurd (cc)
+first_of [] t e = grind arith
+first_of (u ∷ ts) t e = (ts, grind arith)
 
 -- a list that NEXT links is known by its head
 pub linked_one : (next : ℕ → Head) (l m : List ℕ) → AreLinked next l → AreLinked next m → head_of l ≡ head_of m → l ≡ m
-linked_one next [] [] a b e = refl
-linked_one next [] (u ∷ m) a b e = absurd (cc)
-linked_one next (t ∷ l) [] a b e = absurd (cc)
-linked_one next (t ∷ l) (u ∷ m) a b e = let q : t ≡ u = first_is t u l m e in
-    let h = linked_one next l m a.1 b.1 (sym a.0 ∙ (ap next q ∙ b.0)) in λ i. q i ∷ h i
+linked_one next [] m a b e = grind arith
+linked_one next (t ∷ l) [] a b e = grind arith
+linked_one next (t ∷ l) (u ∷ m) a b e = let h = linked_one next l m in grind arith
 
 linked_from : (next : ℕ → Head) (l : List ℕ) (t : ℕ) → IsIn t l → AreLinked next l
     → (m : List ℕ) × AreLinked next (t ∷ m) × (length m < length l)
@@ -76,14 +65,6 @@ pub linked_apart : (next : ℕ → Head) (l : List ℕ) → AreLinked next l →
 linked_apart next [] h = tt
 linked_apart next (t ∷ ts) h = (linked_once next t ts h, linked_apart next ts h.1)
 
--- the phase of the first stays where the phases of all do
-pub first_else : (phase phase' : ℕ → Phase) (l : List ℕ) (w : Phase)
-    → ((u : ℕ) → IsIn u l → phase' u ≡ phase u)
-    → IsFirstIn phase l w
-    → IsFirstIn phase' l w
-first_else phase phase' [] w s h = tt
-first_else phase phase' (t ∷ ts) w s h = s t (inl refl) ∙ h
-
 pub not_empty : {A : Type 0} (l : List A) (x : A) → IsIn x l → l ≢ []
 not_empty l x i e = subst (IsIn x) e i
 
@@ -94,34 +75,37 @@ grown_longer chain [] old e new = absurd (new (ap head_of (sym e)))
 grown_longer chain (t ∷ more) old e new = let a : length chain ≡ length ((t ∷ more) ++ old) = ap length e in
     let b = length-append (t ∷ more) old in omega arith
 
+-- a task that is parked is drawn
+pub parked_drawn : (phase : ℕ → Phase) (drawn : ℕ) → ((t : ℕ) → drawn ≤ t → phase t ≡ Unborn) → (t p : ℕ)
+    → IsParkedOn (phase t) p → t < drawn
+parked_drawn phase drawn undrawn t p w = let f = undrawn t in grind arith
+
 module _ {tag : ℕ → ℕ} {head next : ℕ → Head} {phase : ℕ → Phase} {pushes : List (List Push)} {shuts : List (List ℕ)}
     {rests : List (Option Rest)} {closed : List (List ℕ)} {found : List (List Found)}
     (c : Chains tag head next phase pushes shuts rests closed found) where
   pub push_parked : (t j : ℕ) (e : Push) → IsPush next phase c.pusher j e → e.task ≡ t → IsParkedOn (phase t) e.cell
   push_parked t j e f q = (e.way, ap phase (sym q) ∙ f.parked)
 
-  -- a task that has one is in no line, and is no other seat's
+  -- a task that has one is in no line
   pub not_in_line : (p t j u : ℕ) → c.pusher t ≡ Some j → IsIn u (c.line p) → u ≢ t
   not_in_line p t j u e i q = no_some ((c.parked p u i).1) (ap c.pusher q ∙ e)
-
-  pub not_mine : (t i j : ℕ) (e : Push) → c.pusher t ≡ Some i → IsPush next phase c.pusher j e → j ≢ i → e.task ≢ t
-  not_mine t i j e m f n q = n (same_some f.mine (ap c.pusher q ∙ m))
 
   -- no task stands in two lines
   pub one_line : (p q t : ℕ) → IsIn t (c.line p) → IsIn t (c.line q) → p ≡ q
   one_line p q t i j = one_cell (phase t) p q ((c.parked p t i).0) ((c.parked q t j).0)
 
-  -- a line has no more tasks than there are cells
-  pub line_fits : (cells p : ℕ) → ((t : ℕ) → IsParkedOn (phase t) p → t < cells) → length (c.line p) ≤ cells
-  line_fits cells p few = few_apart cells (c.line p) (linked_apart next (c.line p) (c.linked p))
-      (λ t i. few t ((c.parked p t i).0))
+  module _ (cells drawn : ℕ) (few : drawn ≤ cells) (undrawn : (t : ℕ) → drawn ≤ t → phase t ≡ Unborn) (p : ℕ) where
+    -- the tasks of a chain and of a rest are cells, and are no more than there are
+    pub task_small : (t : ℕ) → IsIn t (c.line p) → t < cells
+    task_small t i = let l = parked_drawn phase drawn undrawn t p ((c.parked p t i).0) in omega arith
 
-  -- a chain is longer than each that was found before with another head
-  pub longer : (id : ℕ) (l : List Found) (f : Found) → get_elem? found id ≡ some l → IsIn f l
-      → head f.cell ≢ Shut
-      → head_of f.chain ≢ head f.cell
-      → length f.chain < length (c.line f.cell)
-  longer id l f at i unshut new = ⊎_elim (λ (s : head f.cell ≡ Shut). absurd (unshut s))
-      (λ (m : (more : List ℕ) × (c.line f.cell ≡ more ++ f.chain)).
-      grown_longer (c.line f.cell) m.0 f.chain m.1 (λ e. new (e ∙ sym (c.heads f.cell unshut))))
-      (c.grows id l at f i)
+    pub line_small : length (c.line p) ≤ cells
+    line_small = few_apart cells (c.line p) (linked_apart next (c.line p) (c.linked p)) task_small
+
+    -- so the head that isn't shut names a cell
+    pub head_small : head p ≢ Shut → head_word (head p) ≤ cells
+    head_small unshut = subst (λ h. head_word h ≤ cells) (sym (c.heads p unshut)) (by (c.line p) task_small)
+      where
+        by : (l : List ℕ) → ((t : ℕ) → IsIn t l → t < cells) → head_word (head_of l) ≤ cells
+        by [] small = omega arith
+        by (t ∷ ts) small = let h = small t (inl refl) in omega arith

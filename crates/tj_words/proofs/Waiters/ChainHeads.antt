@@ -1,26 +1,19 @@
 -- No lost wake is kept by the steps on HEAD and NEXT.
 use Rattle.tj_words.proofs.Prelude.{All, Any, AreLinked, Bool, Chains, Found, HasGrown, Head, IsIn, IsParkedOn, IsPush}
 use Rattle.tj_words.proofs.Prelude.{IsRest, List, None, OfSeat, Option, Phase, Push, Rest, Shut, Some, Task, [], ap}
-use Rattle.tj_words.proofs.Prelude.{at_put, cell, cond, dite, eq-eqb, false, get_elem?, head_of, inl, inr, nat_eq}
-use Rattle.tj_words.proofs.Prelude.{ne_eqb, parked_phase, put, refl, rest_of, set, some, subst, sym, true, with_next}
-use Rattle.tj_words.proofs.Prelude.{without, without_push, ℕ, ℕ_discrete, ⊎_elim, ◌∙◌, ◌∷◌, ◌≡◌, ◌≢◌, ◌⊎◌}
-use Rattle.tj_words.proofs.Lemmas.{at_two, chains_seats, each_else, each_set, of_seat_here, of_seat_set, put_else}
-use Rattle.tj_words.proofs.Lemmas.{put_here}
+use Rattle.tj_words.proofs.Prelude.{arith, at_put, cell, cond, dite, false, get_elem?, head_of, inl, inr, nat_eq}
+use Rattle.tj_words.proofs.Prelude.{parked_phase, put, refl, rest_of, set, some, subst, sym, true, with_next, without}
+use Rattle.tj_words.proofs.Prelude.{without_push, ℕ, ℕ_discrete, ⊎_elim, ◌∙◌, ◌∷◌, ◌≡◌, ◌≢◌, ◌⊎◌}
+use Rattle.tj_words.proofs.Lemmas.{any_without_push, at_two, chains_out, chains_seats, each_else, each_set, no_some}
+use Rattle.tj_words.proofs.Lemmas.{of_seat_here, of_seat_set, push_kept, put_else, put_here, rest_is, rest_some}
 use Rattle.tj_words.proofs.SeatLoads.KnowLoads.{all_cons}
-use Rattle.tj_words.proofs.Waiters.ChainLists.{any_without_push, in_without_push, no_some, none_none, rest_is}
-use Rattle.tj_words.proofs.Waiters.ChainLists.{rest_some}
+use Rattle.tj_words.proofs.Waiters.ChainLists.{in_without_push, none_none}
 
 -- a push of the list after NEXT of t was stored is one of before
 pub in_with_next : (t : ℕ) (h : Head) (l : List Push) (x : Push) → IsIn x (with_next t h l)
     → (e : Push) × IsIn e l × (((e.task ≡ t) × (x ≡ record e { next = Some h })) ⊎ ((e.task ≢ t) × (x ≡ e)))
 in_with_next t h [] x i = absurd i
-in_with_next t h (e ∷ es) x (inl q) = (
-  e,
-  inl refl,
-  dite (ℕ_discrete e.task t)
-      (λ z. inl (z, q ∙ ap (λ b. cond b (record e { next = Some h }) e) (eq-eqb e.task t z)))
-      (λ n. inr (n, q ∙ ap (λ b. cond b (record e { next = Some h }) e) (ne_eqb e.task t n))),
-)
+in_with_next t h (e ∷ es) x (inl q) = (e, inl refl, grind arith)
 in_with_next t h (e ∷ es) x (inr i) = let r = in_with_next t h es x i in (r.0, inr r.1, r.2)
 
 -- and a task that had a push has one
@@ -42,71 +35,41 @@ any_with_next t h u (e ∷ es) a = ⊎_elim
 -- a cell other than p stays among those that a seat is to shut
 pub in_without : (p q : ℕ) (l : List ℕ) → q ≢ p → IsIn q l → IsIn q (without p l)
 in_without p q [] n i = i
-in_without p q (x ∷ xs) n i = dite (ℕ_discrete x p)
-    (λ z. subst (λ b. IsIn q (cond b (without p xs) (x ∷ without p xs))) (sym (eq-eqb x p z))
-    (⊎_elim (λ (e : q ≡ x). absurd (n (e ∙ z))) (λ k. in_without p q xs n k) i))
-    (λ z. subst (λ b. IsIn q (cond b (without p xs) (x ∷ without p xs))) (sym (ne_eqb x p z))
-    (⊎_elim (λ (e : q ≡ x). inl e) (λ k. inr (in_without p q xs n k)) i))
-
--- a list whose tasks keep NEXT stays linked
-pub linked_else : (next next' : ℕ → Head) (l : List ℕ) → ((u : ℕ) → IsIn u l → next' u ≡ next u) → AreLinked next l
-    → AreLinked next' l
-linked_else next next' [] h k = tt
-linked_else next next' (t ∷ ts) h k = (h t (inl refl) ∙ k.0, linked_else next next' ts (λ u i. h u (inr i)) k.1)
+in_without p q (x ∷ xs) n i = let r = in_without p q xs n in grind arith
 
 -- a task is parked on one cell
 pub one_cell : (phase : Phase) (p q : ℕ) → IsParkedOn phase p → IsParkedOn phase q → p ≡ q
-one_cell phase p q a b = let e : parked_phase p a.0 ≡ parked_phase q b.0 = sym a.1 ∙ b.1 in
-    let f : cell p ≡ cell q = cc in ap (λ z. z.0) f
+one_cell phase p q a b = grind arith
 
 module _ {tag : ℕ → ℕ} {head next : ℕ → Head} {phase : ℕ → Phase} {pl : List (List Push)} {sl : List (List ℕ)}
     {rl : List (Option Rest)} {cl : List (List ℕ)} {fl : List (List Found)}
     (r : Chains tag head next phase pl sl rl cl fl) where
   -- what a seat has to push is none of another seat's
-  not_mine : (t id j : ℕ) (x : Push) → r.pusher t ≡ Some id → r.pusher x.task ≡ Some j → j ≢ id → x.task ≢ t
-  not_mine t id j x a b n z = let q : Some j ≡ Some id = sym b ∙ (ap r.pusher z ∙ a) in n (cc)
+  pub not_mine : (t id j : ℕ) (x : Push) → r.pusher t ≡ Some id → r.pusher x.task ≡ Some j → j ≢ id → x.task ≢ t
+  not_mine t id j x a b n z = grind arith
 
   -- the store of NEXT of a task whose push is to come
   pub nexts : (t id : ℕ) (h : Head) (old : List Push) → get_elem? pl id ≡ some old → Any (λ (e : Push). e.task ≡ t) old
       → Chains tag head (put next t h) phase (set pl id (with_next t h old)) sl rl cl fl
   nexts t id h old at has = let mine : r.pusher t ≡ Some id = ap r.pusher (sym has.2) ∙
-      (r.to_push id old at has.0 has.1).mine in record {
-        line = r.line;
-        pusher = r.pusher;
-        taker = r.taker;
-        shutter = r.shutter;
-        heads = r.heads;
-        linked = λ p. linked_else next (put next t h) (r.line p)
-            (λ u i. put_else next t u h (λ z. no_some (r.parked p u i).1 (ap r.pusher z ∙ mine))) (r.linked p);
-        parked = r.parked;
-        placed = r.placed;
-        tagged = r.tagged;
-        due = r.due;
-        pushing = λ u j e. of_seat_set (Any (λ (e : Push). e.task ≡ u)) pl id j old (with_next t h old) at
-            (any_with_next t h u old) (r.pushing u j e);
-        to_push = each_else (λ j l. All (IsPush (put next t h) phase r.pusher j) l) pl id (with_next t h old)
-            (λ j l n e x i. let f = r.to_push j l e x i in record {
-              mine = f.mine;
-              parked = f.parked;
-              stored = λ g q. put_else next t x.task h (not_mine t id j x mine f.mine n) ∙ f.stored g q;
-            })
-            (λ x i. let w = in_with_next t h old x i in let f = r.to_push id old at w.0 w.1 in ⊎_elim
-            (λ (z : (w.0.task ≡ t) × (x ≡ record w.0 { next = Some h })).
-            subst (IsPush (put next t h) phase r.pusher id) (sym z.1) record {
-              mine = f.mine;
-              parked = f.parked;
-              stored = λ g q. put_here next t w.0.task h z.0 ∙ (cc);
-            })
-            (λ (z : (w.0.task ≢ t) × (x ≡ w.0)). subst (IsPush (put next t h) phase r.pusher id) (sym z.1) record {
-              mine = f.mine;
-              parked = f.parked;
-              stored = λ g q. put_else next t w.0.task h z.0 ∙ f.stored g q;
-            }) w.2);
-        resting = r.resting;
-        rest = r.rest;
-        stays_shut = r.stays_shut;
-        grows = r.grows;
-      }
+      (r.to_push id old at has.0 has.1).mine in
+      let else : (u : ℕ) → u ≢ t → put next t h u ≡ next u = λ u n. put_else next t u h n in
+      chains_out r t (λ p u i z. no_some (r.parked p u i).1 (ap r.pusher z ∙ mine)) else (λ u n. refl) (λ u n. refl)
+      (λ p k e. no_some e mine)
+      (λ u j e. of_seat_set (Any (λ (e : Push). e.task ≡ u)) pl id j old (with_next t h old) at
+      (any_with_next t h u old) (r.pushing u j e))
+      (each_else (λ j l. All (IsPush (put next t h) phase r.pusher j) l) pl id (with_next t h old)
+      (λ j l n e x i. let f = r.to_push j l e x i in
+      push_kept else (λ u n. refl) (λ u n. refl) j x (not_mine t id j x mine f.mine n) f)
+      (λ x i. let w = in_with_next t h old x i in let f = r.to_push id old at w.0 w.1 in ⊎_elim
+      (λ (z : (w.0.task ≡ t) × (x ≡ record w.0 { next = Some h })).
+      subst (IsPush (put next t h) phase r.pusher id) (sym z.1) record {
+        mine = f.mine;
+        parked = f.parked;
+        stored = λ g q. put_here next t w.0.task h z.0 ∙ (cc);
+      })
+      (λ (z : (w.0.task ≢ t) × (x ≡ w.0)). subst (IsPush (put next t h) phase r.pusher id) (sym z.1)
+      (push_kept else (λ u n. refl) (λ u n. refl) id w.0 z.0 f)) w.2))
 
   -- a push that succeeds, behind the head that was there
   pub pushes : (t p id : ℕ) (old : List Push) (e : Push) → get_elem? pl id ≡ some old → IsIn e old → e.task ≡ t →
@@ -144,8 +107,7 @@ module _ {tag : ℕ → ℕ} {head next : ℕ → Head} {phase : ℕ → Phase} 
             (λ n. at_put r.line p (t ∷ r.line p) (λ k l. IsIn u (r.line k) → IsIn u l) q (λ i. inr i) (λ d i. i)
             (r.placed q u g (sym (put_else r.pusher t u None n) ∙ y)));
         tagged = λ q y. r.tagged q (sym (put_else head p q (Task (cell t)) (apart' q y)) ∙ y);
-        due = λ q g n. dite (ℕ_discrete q p) (λ z. r.due q g (λ y. unshut (ap head (sym z) ∙ y)))
-            (λ d. r.due q g (λ y. n (put_else head p q (Task (cell t)) d ∙ y)));
+        due = λ q g n. let d = r.due q in grind arith;
         pushing = λ u j. at_put r.pusher t None
             (λ u w. w ≡ Some j → OfSeat (Any (λ (e : Push). e.task ≡ u)) (set pl id (without_push t old)) j) u
             (λ y. no_some refl y) (λ n y. of_seat_set (Any (λ (e : Push). e.task ≡ u)) pl id j old (without_push t old)
@@ -192,8 +154,7 @@ module _ {tag : ℕ → ℕ} {head next : ℕ → Head} {phase : ℕ → Phase} 
         pusher = r.pusher;
         taker = taker;
         shutter = r.shutter;
-        heads = λ q n. let d = apart' q n in put_else head p q Shut d ∙ r.heads q
-            (λ e. n (put_else head p q Shut d ∙ e));
+        heads = λ q n. let d = r.heads q in grind arith;
         linked = r.linked;
         parked = r.parked;
         placed = r.placed;

@@ -5,13 +5,12 @@ use Rattle.tj_words.proofs.Prelude.{IsPush, IsRest, List, None, OfSeat, Option, 
 use Rattle.tj_words.proofs.Prelude.{at_put, dite, get_elem?, head_of, inl, inr, new_push, parked_phase, put, refl}
 use Rattle.tj_words.proofs.Prelude.{rest_of, set, some, subst, sym, without_push, ℕ, ℕ_discrete, ⊎_elim, ◌∙◌, ◌∷◌, ◌≡◌}
 use Rattle.tj_words.proofs.Prelude.{◌≢◌}
-use Rattle.tj_words.proofs.Lemmas.{at_two, chains_seats, each_else, each_set, of_seat_here, of_seat_set, put_else}
-use Rattle.tj_words.proofs.Lemmas.{put_here}
+use Rattle.tj_words.proofs.Lemmas.{at_two, each_else, each_set, of_seat_here, of_seat_set, put_else, put_here, rest_is}
+use Rattle.tj_words.proofs.Waiters.ChainSeats.{chains_seats, chains_out, push_kept, rest_kept}
 use Rattle.tj_words.proofs.SeatLoads.KnowLoads.{all_cons}
-use Rattle.tj_words.proofs.Waiters.ChainHeads.{one_cell}
-use Rattle.tj_words.proofs.Waiters.ChainLists.{no_some, same_some, none_none, IsOfTask, all_without, any_without_push}
-use Rattle.tj_words.proofs.Waiters.ChainLists.{rest_is, rest_some}
-use Rattle.tj_words.proofs.Waiters.ChainFacts.{IsNotParked, linked_once, first_else, push_parked, not_in_line, not_mine}
+use Rattle.tj_words.proofs.Waiters.ChainHeads.{one_cell, not_mine}
+use Rattle.tj_words.proofs.Waiters.ChainLists.{no_some, same_some, IsOfTask, all_without, any_without_push, rest_some}
+use Rattle.tj_words.proofs.Waiters.ChainFacts.{IsNotParked, linked_once, push_parked, not_in_line}
 
 -- the rest once the way of its first task is read
 abbrev pub read_way : Way → Rest → Rest
@@ -31,12 +30,6 @@ module _ {tag : ℕ → ℕ} {head next : ℕ → Head} {phase : ℕ → Phase} 
     here : put phase t w t ≡ w
     here = put_here phase t t w refl
 
-    parked_else : (u p : ℕ) → u ≢ t → IsParkedOn (phase u) p → IsParkedOn (phase' u) p
-    parked_else u p n h = subst (λ z. IsParkedOn z p) (sym (else u n)) h
-
-    parked_back : (u p : ℕ) → u ≢ t → IsParkedOn (phase' u) p → IsParkedOn (phase u) p
-    parked_back u p n h = subst (λ z. IsParkedOn z p) (else u n) h
-
     -- another task is it that was parked, or is
     was_parked : IsNotParked (phase t) → (u p : ℕ) → IsParkedOn (phase u) p → u ≢ t
     was_parked free u p h q = free p (subst (λ z. IsParkedOn z p) (ap phase q) h)
@@ -44,125 +37,65 @@ module _ {tag : ℕ → ℕ} {head next : ℕ → Head} {phase : ℕ → Phase} 
     is_parked : IsNotParked w → (u p : ℕ) → IsParkedOn (phase' u) p → u ≢ t
     is_parked free u p h q = free p (subst (λ z. IsParkedOn z p) (ap phase' q ∙ here) h)
 
-    rest_else : (line : ℕ → List ℕ) (taker : ℕ → ℕ) (j : ℕ) (r : Rest) → ((u : ℕ) → IsIn u (line r.cell) → u ≢ t)
-        → IsRest head phase line taker j r
-        → IsRest head phase' line taker j r
-    rest_else line taker j r free f = record {
-      mine = f.mine;
-      is_shut = f.is_shut;
-      left = f.left;
-      some = f.some;
-      read = λ way q. first_else phase phase' r.tasks (parked_phase r.cell way)
-          (λ u i. else u (free u (subst (IsIn u) (sym f.left) i)))
-          (f.read way q);
-    }
+    -- so a task that wasn't parked stands in no line, and what is to push is so of others
+    out : IsNotParked (phase t) → (p u : ℕ) → IsIn u (c.line p) → u ≢ t
+    out free p u i = was_parked free u p (c.parked p u i).0
 
-    push_else : (who : ℕ → Option ℕ) (j : ℕ) (e : Push) → e.task ≢ t → who e.task ≡ c.pusher e.task
+    fits : IsNotParked (phase t) → (who : ℕ → Option ℕ) → ((u : ℕ) → u ≢ t → who u ≡ c.pusher u) → (j : ℕ) (e : Push)
         → IsPush next phase c.pusher j e
         → IsPush next phase' who j e
-    push_else who j e n w f = record { mine = w ∙ f.mine; parked = else e.task n ∙ f.parked; stored = f.stored }
+    fits free who whose j e f = push_kept (λ u n. refl) else whose j e
+        (was_parked free e.task e.cell (push_parked c e.task j e f refl)) f
 
     -- a change of a task that is parked neither before nor after
     pub chains_turn : IsNotParked (phase t) → IsNotParked w
         → Chains tag head next (put phase t w) pushes shuts rests closed found
-    chains_turn free free' = let other : (p u : ℕ) → IsIn u (c.line p) → u ≢ t
-        = λ p u i. was_parked free u p ((c.parked p u i).0) in record {
-          line = c.line;
-          pusher = c.pusher;
-          taker = c.taker;
-          shutter = c.shutter;
-          heads = c.heads;
-          linked = c.linked;
-          parked = λ p u i. let k = c.parked p u i in (parked_else u p (other p u i) k.0, k.1);
-          placed = λ p u h e. c.placed p u (parked_back u p (is_parked free' u p h) h) e;
-          tagged = c.tagged;
-          due = c.due;
-          pushing = c.pushing;
-          to_push = λ j l a e i. let f = c.to_push j l a e i in
-              push_else c.pusher j e (was_parked free e.task e.cell (push_parked c e.task j e f refl)) refl f;
-          resting = c.resting;
-          rest = λ j o a r q. rest_else c.line c.taker j r (other r.cell) (c.rest j o a r q);
-          stays_shut = c.stays_shut;
-          grows = c.grows;
-        }
+    chains_turn free free' = chains_out c t (out free) (λ u n. refl) else (λ u n. refl)
+        (λ p h. absurd (is_parked free' t p h refl)) c.pushing
+        (λ j l a e i. fits free c.pusher (λ u n. refl) j e (c.to_push j l a e i))
 
     -- the store of Parked: a push is to come
     pub chains_park : (id p : ℕ) (way : Way) (old : List Push) → get_elem? pushes id ≡ some old
         → IsNotParked (phase t) → w ≡ parked_phase p way
         → Chains tag head next (put phase t w) (set pushes id (new_push t p way ∷ old)) shuts rests closed found
-    chains_park id p way old at free is = let other : (q u : ℕ) → IsIn u (c.line q) → u ≢ t
-        = λ q u i. was_parked free u q ((c.parked q u i).0) in
-        let who : ℕ → Option ℕ = put c.pusher t (Some id) in
-        let fits : (j : ℕ) (e : Push) → IsPush next phase c.pusher j e → IsPush next phase' who j e
-        = λ j e f. let n = was_parked free e.task e.cell (push_parked c e.task j e f refl) in
-        push_else who j e n (put_else c.pusher t e.task (Some id) n) f in record {
-          line = c.line;
-          pusher = who;
-          taker = c.taker;
-          shutter = c.shutter;
-          heads = c.heads;
-          linked = c.linked;
-          parked = λ q u i. let k = c.parked q u i in let n = other q u i in
-              (parked_else u q n k.0, put_else c.pusher t u (Some id) n ∙ k.1);
-          placed = λ q u h e. dite (ℕ_discrete u t) (λ z. no_some e (put_here c.pusher t u (Some id) z))
-              (λ n. c.placed q u (parked_back u q n h) (sym (put_else c.pusher t u (Some id) n) ∙ e));
-          tagged = c.tagged;
-          due = c.due;
-          pushing = λ u j e. dite (ℕ_discrete u t)
-              (λ z. subst (OfSeat (Any (IsOfTask u))
-              (set pushes id (new_push t p way ∷ old))) (same_some (put_here c.pusher t u (Some id) z) e)
-              (of_seat_here (Any (IsOfTask u)) pushes id old (new_push t p way ∷ old) at
-              (new_push t p way, inl refl, sym z)))
-              (λ n. of_seat_set (Any (IsOfTask u)) pushes id j old (new_push t p way ∷ old) at
-              (λ h. (h.0, inr h.1, h.2))
-              (c.pushing u j (sym (put_else c.pusher t u (Some id) n) ∙ e)));
-          to_push = each_set (λ j l. All (IsPush next phase' who j) l) pushes id (new_push t p way ∷ old)
-              (λ j l a e i. fits j e (c.to_push j l a e i))
-              (all_cons (IsPush next phase' who id) (new_push t p way) old
-              (record {
-                mine = put_here c.pusher t t (Some id) refl;
-                parked = here ∙ is;
-                stored = λ h q. no_some refl q;
-              })
-              (λ e i. fits id e (c.to_push id old at e i)));
-          resting = c.resting;
-          rest = λ j o a r q. rest_else c.line c.taker j r (other r.cell) (c.rest j o a r q);
-          stays_shut = c.stays_shut;
-          grows = c.grows;
-        }
+    chains_park id p way old at free is = let who : ℕ → Option ℕ = put c.pusher t (Some id) in
+        let whose : (u : ℕ) → u ≢ t → who u ≡ c.pusher u = λ u n. put_else c.pusher t u (Some id) n in
+        let new : List Push = new_push t p way ∷ old in
+        chains_out c t (out free) (λ u n. refl) else whose
+        (λ q h e. no_some e (put_here c.pusher t t (Some id) refl))
+        (λ u j e. dite (ℕ_discrete u t)
+        (λ z. subst (OfSeat (Any (IsOfTask u)) (set pushes id new)) (same_some (put_here c.pusher t u (Some id) z) e)
+        (of_seat_here (Any (IsOfTask u)) pushes id old new at (new_push t p way, inl refl, sym z)))
+        (λ n. of_seat_set (Any (IsOfTask u)) pushes id j old new at (λ h. (h.0, inr h.1, h.2))
+        (c.pushing u j (sym (whose u n) ∙ e))))
+        (each_set (λ j l. All (IsPush next phase' who j) l) pushes id new
+        (λ j l a e i. fits free who whose j e (c.to_push j l a e i))
+        (all_cons (IsPush next phase' who id) (new_push t p way) old
+        (record {
+          mine = put_here c.pusher t t (Some id) refl;
+          parked = here ∙ is;
+          stored = λ h q. no_some refl q;
+        })
+        (λ e i. fits free who whose id e (c.to_push id old at e i))))
 
     -- the exchange by the seat that parked the task, and has its push still to come
     pub chains_run : (id : ℕ) (old : List Push) (e0 : Push) → get_elem? pushes id ≡ some old → IsIn e0 old
         → e0.task ≡ t → IsNotParked w
         → Chains tag head next (put phase t w) (set pushes id (without_push t old)) shuts rests closed found
     chains_run id old e0 at in0 is0 free =
-        let f0 = c.to_push id old at e0 in0 in let mine : c.pusher t ≡ Some id = ap c.pusher (sym is0) ∙ f0.mine in
+        let mine : c.pusher t ≡ Some id = ap c.pusher (sym is0) ∙ (c.to_push id old at e0 in0).mine in
         let who : ℕ → Option ℕ = put c.pusher t None in
-        let out : (p u : ℕ) → IsIn u (c.line p) → u ≢ t = λ p u i. not_in_line c p t id u mine i in
-        let keeps : (j : ℕ) (e : Push) → e.task ≢ t → IsPush next phase c.pusher j e → IsPush next phase' who j e
-        = λ j e n f. push_else who j e n (put_else c.pusher t e.task None n) f in record {
-          line = c.line;
-          pusher = who;
-          taker = c.taker;
-          shutter = c.shutter;
-          heads = c.heads;
-          linked = c.linked;
-          parked = λ q u i. let k = c.parked q u i in (parked_else u q (out q u i) k.0, none_none c.pusher t u k.1);
-          placed = λ q u h e. let n = is_parked free u q h in
-              c.placed q u (parked_back u q n h) (sym (put_else c.pusher t u None n) ∙ e);
-          tagged = c.tagged;
-          due = c.due;
-          pushing = λ u j e. dite (ℕ_discrete u t) (λ z. no_some (put_here c.pusher t u None z) e)
-              (λ n. of_seat_set (Any (IsOfTask u)) pushes id j old (without_push t old) at (any_without_push t u old n)
-              (c.pushing u j (sym (put_else c.pusher t u None n) ∙ e)));
-          to_push = each_else (λ j l. All (IsPush next phase' who j) l) pushes id (without_push t old)
-              (λ j l n a e i. let f = c.to_push j l a e i in keeps j e (not_mine c t id j e mine f n) f)
-              (all_without t (IsPush next phase' who id) old (λ e i n. keeps id e n (c.to_push id old at e i)));
-          resting = c.resting;
-          rest = λ j o a r q. rest_else c.line c.taker j r (out r.cell) (c.rest j o a r q);
-          stays_shut = c.stays_shut;
-          grows = c.grows;
-        }
+        let whose : (u : ℕ) → u ≢ t → who u ≡ c.pusher u = λ u n. put_else c.pusher t u None n in
+        chains_out c t (λ p u i. not_in_line c p t id u mine i) (λ u n. refl) else whose
+        (λ p h. absurd (is_parked free t p h refl))
+        (λ u j e. dite (ℕ_discrete u t) (λ z. no_some (put_here c.pusher t u None z) e)
+        (λ n. of_seat_set (Any (IsOfTask u)) pushes id j old (without_push t old) at (any_without_push t u old n)
+        (c.pushing u j (sym (whose u n) ∙ e))))
+        (each_else (λ j l. All (IsPush next phase' who j) l) pushes id (without_push t old)
+        (λ j l n a e i. let f = c.to_push j l a e i in
+        push_kept (λ u n. refl) else whose j e (not_mine c t id j e mine f.mine n) f)
+        (all_without t (IsPush next phase' who id) old
+        (λ e i n. push_kept (λ u n. refl) else whose id e n (c.to_push id old at e i))))
 
     -- the exchange of the first of a rest
     pub chains_ready : (id : ℕ) (r0 : Rest) (ts : List ℕ) → get_elem? rests id ≡ some (Some r0) → r0.tasks ≡ t ∷ ts
@@ -187,7 +120,7 @@ module _ {tag : ℕ → ℕ} {head next : ℕ → Head} {phase : ℕ → Phase} 
         let rest0 : Option Rest = rest_of p ts in
         let apart : (j : ℕ) (r : Rest) → IsRest head phase c.line c.taker j r → r.cell ≢ p
         → IsRest head phase' line c.taker j r
-        = λ j r f n. rest_else line c.taker j r (λ u i. (within r.cell u i).1) (record
+        = λ j r f n. rest_kept else line c.taker j r (λ u i. (within r.cell u i).1) (record
         { mine = f.mine; is_shut = f.is_shut; left = off r.cell n ∙ f.left; some = f.some; read = f.read }) in record {
           line = line;
           pusher = c.pusher;
@@ -195,16 +128,17 @@ module _ {tag : ℕ → ℕ} {head next : ℕ → Head} {phase : ℕ → Phase} 
           shutter = c.shutter;
           heads = λ q n. let d : q ≢ p = λ z. n (ap head z ∙ f0.is_shut) in c.heads q n ∙ ap head_of (sym (off q d));
           linked = λ q. at_put c.line p ts (λ k l. AreLinked next l) q chained.1 (λ n. c.linked q);
-          parked = λ q u i. let g = within q u i in let k = c.parked q u g.0 in (parked_else u q g.1 k.0, k.1);
+          parked = λ q u i. let g = within q u i in let k = c.parked q u g.0 in
+              (subst (λ z. IsParkedOn z q) (sym (else u g.1)) k.0, k.1);
           placed = λ q u h e. let n = is_parked free u q h in
               at_put c.line p ts (λ k l. IsIn u (c.line k) → IsIn u l) q
               (λ g. ⊎_elim (λ (w : u ≡ t). absurd (n w)) (λ (w : IsIn u ts). w) (subst (IsIn u) is g)) (λ d g. g)
-              (c.placed q u (parked_back u q n h) e);
+              (c.placed q u (subst (λ z. IsParkedOn z q) (else u n) h) e);
           tagged = c.tagged;
           due = c.due;
           pushing = c.pushing;
           to_push = λ j l a e i. let f = c.to_push j l a e i in
-              push_else c.pusher j e (λ z. no_some k0.1 (ap c.pusher (sym z) ∙ f.mine)) refl f;
+              push_kept (λ u n. refl) else (λ u n. refl) j e (λ z. no_some k0.1 (ap c.pusher (sym z) ∙ f.mine)) f;
           resting = λ q h n. dite (ℕ_discrete q p)
               (λ z. let w = rest_some p ts (λ k. n (on q z ∙ k)) in
               subst (OfSeat (λ rest. (r : Rest) × (rest ≡ Some r) × (r.cell ≡ q))

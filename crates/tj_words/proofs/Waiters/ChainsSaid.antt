@@ -1,38 +1,30 @@
 -- What the law says of chains is what the sentences on chains say.
 use Rattle.tj_words.proofs.Prelude.{AreLinked, Chains, Empty, Found, Head, IsIn, IsParkedOn, List, None, Option, Phase}
-use Rattle.tj_words.proofs.Prelude.{Push, Rest, Shut, Some, Task, [], ap, get_elem?, head_of, inl, inr, refl, some}
-use Rattle.tj_words.proofs.Prelude.{some-injective, some-ne-none, subst, suc, sym, zero, ℕ, ⊎_elim, ◌++◌, ◌∙◌, ◌∷◌, ◌≡◌}
-use Rattle.tj_words.proofs.Prelude.{◌≢◌, ◌⊎◌}
+use Rattle.tj_words.proofs.Prelude.{Push, Rest, Shut, Some, Task, [], ap, arith, get_elem?, head_of, inl, inr, refl}
+use Rattle.tj_words.proofs.Prelude.{some, some-ne-none, subst, suc, sym, zero, ℕ, ⊎_elim, ◌++◌, ◌∙◌, ◌∷◌, ◌≡◌, ◌≢◌, ◌⊎◌}
+use Rattle.tj_words.proofs.Lemmas.{no_some, none_or, same_some}
 use Rattle.tj_words.specs.Inner.ChainSentences.{GoesOn, IsRestOf, IsToPush, ChainSentences}
-use Rattle.tj_words.proofs.Waiters.ChainLists.{no_some, same_some, none_or}
 use Rattle.tj_words.proofs.Waiters.ChainHeads.{one_cell}
 use Rattle.tj_words.proofs.Waiters.ChainFacts.{linked_once, not_empty, push_parked, one_line}
+use Rattle.tj_words.proofs.Stores.SeatLists.{in_of_index}
 
 -- a list that NEXT links goes on from its head
 goes_on : (next : ℕ → Head) (l : List ℕ) → AreLinked next l → GoesOn next (head_of l) l
 goes_on next [] h = refl
 goes_on next (t ∷ ts) h = (refl, subst (λ z. GoesOn next z ts) (sym h.0) (goes_on next ts h.1))
 
--- what stands at an index is in the list, and in one that NEXT links at one index
-pub at_in : {A : Type 0} (l : List A) (i : ℕ) (a : A) → get_elem? l i ≡ some a → IsIn a l
-at_in [] i a e = absurd (some-ne-none a (sym e))
-at_in (x ∷ xs) zero a e = inl (sym (some-injective x a e))
-at_in (x ∷ xs) (suc i) a e = inr (at_in xs i a e)
-
+-- a task stands at one index of a list that NEXT links
 one_index : (next : ℕ → Head) (l : List ℕ) (i k t : ℕ) → AreLinked next l → get_elem? l i ≡ some t
     → get_elem? l k ≡ some t → i ≡ k
 one_index next [] i k t h a b = absurd (some-ne-none t (sym a))
-one_index next (x ∷ xs) zero zero t h a b = refl
-one_index next (x ∷ xs) zero (suc k) t h a b = absurd (linked_once next x xs h
-    (subst (λ z. IsIn z xs) (sym (some-injective x t a)) (at_in xs k t b)))
-one_index next (x ∷ xs) (suc i) zero t h a b = absurd (linked_once next x xs h
-    (subst (λ z. IsIn z xs) (sym (some-injective x t b)) (at_in xs i t a)))
+one_index next (x ∷ xs) i zero t h a b = let o = linked_once next x xs h in let n = in_of_index xs in grind arith
+one_index next (x ∷ xs) zero (suc k) t h a b =
+    let o = linked_once next x xs h in let n = in_of_index xs k t in grind arith
 one_index next (x ∷ xs) (suc i) (suc k) t h a b = ap suc (one_index next xs i k t h.1 a b)
 
 -- the head is shut, or it isn't
 pub shut_or : (h : Head) → (h ≡ Shut) ⊎ (h ≢ Shut)
-shut_or Shut = inl refl
-shut_or h = inr (λ e. cc)
+shut_or h = grind arith
 
 -- the line, where the head isn't shut
 abbrev chain_of : Head → List ℕ → List ℕ
@@ -41,17 +33,14 @@ chain_of (Task t) l = l
 chain_of Shut l = []
 
 chain_is : (h : Head) (l : List ℕ) → h ≢ Shut → chain_of h l ≡ l
-chain_is Shut l n = absurd (n refl)
-chain_is h l n = refl
+chain_is h l n = grind arith
 
 in_chain : (h : Head) (l : List ℕ) (i t : ℕ) → get_elem? (chain_of h l) i ≡ some t
     → (h ≢ Shut) × (get_elem? l i ≡ some t)
-in_chain Shut l i t e = absurd (some-ne-none t (sym e))
-in_chain h l i t e = ((λ q. cc), e)
+in_chain h l i t e = grind arith
 
 of_chain : (h : Head) (l : List ℕ) (t : ℕ) → IsIn t (chain_of h l) → (h ≢ Shut) × IsIn t l
-of_chain Shut l t i = absurd i
-of_chain h l t i = ((λ q. cc), i)
+of_chain h l t i = grind arith
 
 module _ {tag : ℕ → ℕ} {head next : ℕ → Head} {phase : ℕ → Phase} {pushes : List (List Push)} {shuts : List (List ℕ)}
     {rests : List (Option Rest)} {closed : List (List ℕ)} {found : List (List Found)}
@@ -76,7 +65,7 @@ module _ {tag : ℕ → ℕ} {head next : ℕ → Head} {phase : ℕ → Phase} 
       (ap c.pusher (sym h.4) ∙ f.mine, subst (IsParkedOn (phase t)) h.5 (push_parked c t j h.1 f h.4))
 
   same_index : (p q i k t : ℕ) → get_elem? (c.line p) i ≡ some t → get_elem? (c.line q) k ≡ some t → (p ≡ q) × (i ≡ k)
-  same_index p q i k t a b = let e = one_line c p q t (at_in (c.line p) i t a) (at_in (c.line q) k t b) in
+  same_index p q i k t a b = let e = one_line c p q t (in_of_index (c.line p) i t a) (in_of_index (c.line q) k t b) in
       (e, one_index next (c.line p) i k t (c.linked p) a (ap (λ z. get_elem? (c.line z) k) e ∙ b))
 
   -- the sentences

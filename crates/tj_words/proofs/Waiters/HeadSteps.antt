@@ -1,36 +1,28 @@
 -- The steps on HEAD and NEXT keep the rule.
-use Rattle.tj_words.proofs.Prelude.{Allows, Bool, Chains, Empty, Head, IsBacked, IsIn, IsSeat, Key, List, None, Option}
-use Rattle.tj_words.proofs.Prelude.{Program, Push, Rec, Rest, Rule, SeatMe, SeatsHave, Shut, State, Task, View}
+use Rattle.tj_words.proofs.Prelude.{Allows, Bool, Chains, Head, IsBacked, IsIn, IsSeat, IsSeatOf, Key, List, None}
+use Rattle.tj_words.proofs.Prelude.{Option, Program, Push, Rec, Rest, Rule, SeatMe, SeatsHave, Shut, State, Task, View}
 use Rattle.tj_words.proofs.Prelude.{WordsSay, ap, arith, at_map, cell, contents_of, dite, drawn_in, either, eqb}
 use Rattle.tj_words.proofs.Prelude.{exchanged, get_elem?, head_at, head_in, head_word, inl, inr, keeps, length, next_at}
-use Rattle.tj_words.proofs.Prelude.{none, put, refl, rest_of, seats_have, set, shut_swap, shut_word, some, step, subst}
-use Rattle.tj_words.proofs.Prelude.{suc, sym, tag_in, with_next, without, without_push, word, words_say, ℕ, ℕ_discrete}
-use Rattle.tj_words.proofs.Prelude.{⊎_elim, ◌-◌, ◌<◌, ◌∙◌, ◌∷◌, ◌≡◌, ◌≢◌, ◌≤◌}
+use Rattle.tj_words.proofs.Prelude.{none, push_exchange, put, refl, rest_of, seat_part, seats_have, set, shut_swap}
+use Rattle.tj_words.proofs.Prelude.{shut_word, some, step, subst, suc, sym, tag_in, with_next, without, without_push}
+use Rattle.tj_words.proofs.Prelude.{word, words_say, ℕ, ℕ_discrete, ⊎_elim, ◌-◌, ◌<◌, ◌∙◌, ◌∷◌, ◌≡◌, ◌≢◌, ◌≤◌}
+use Rattle.tj_words.proofs.Lemmas.{Acts, Stores, TableWord, back, index, knows_so, law_kept, put_else, put_here}
+use Rattle.tj_words.proofs.Lemmas.{rule_stores, said, seats_same, set_seats, step_allowed, store_word}
 use Rattle.tj_words.specs.Calls.ChainSteps.{stored_next, pushed, took_chain, found_taken, HasPush, HasPushBehind}
-use Rattle.tj_words.specs.Calls.ChainSteps.{KnowsEntry, next_store, push_exchange}
-use Rattle.tj_words.proofs.Lemmas.{Stores, TableWord, index, knows_so, law_chains, put_else, put_here, rule_stores}
-use Rattle.tj_words.proofs.Lemmas.{said, seats_same, set_seats, step_allowed, store_word}
+use Rattle.tj_words.specs.Calls.ChainSteps.{KnowsEntry, next_store}
 use Rattle.tj_words.proofs.Stores.StoreSteps.{MayHold}
-use Rattle.tj_words.proofs.Stores.SlotStores.{Acts}
 use Rattle.tj_words.proofs.SeatLoads.KnowLoads.{task_in, shut_is, tag_some}
 use Rattle.tj_words.proofs.SeatLoads.HeadLoads.{head_allowed}
 use Rattle.tj_words.proofs.Waiters.ChainHeads.{nexts, pushes, shuts, shuts_again}
-use Rattle.tj_words.proofs.Waiters.ChainCells.{line_small, head_small}
-use Rattle.tj_base.specs.declared.cell.Sort.TheVariants as sort
-use Rattle.tj_body.specs.declared.point.Value.TheVariants as value
-use Rattle.tj_body.specs.declared.point.Entry.TheVariants as entry
+use Rattle.tj_words.proofs.Waiters.ChainFacts.{line_small, head_small}
+use Rattle.tj_words.proofs.Waiters.Backings.{wakes_seat}
 use Rattle.tj_words.proofs.Stores.TableWords as table_word
 
 -- a head whose word is small isn't shut
 pub is_open : (h : Head) (n : ℕ) → n < shut_word → head_word h ≤ n → h ≢ Shut
-is_open Empty n l k e = let z : 0 ≡ shut_word = ap head_word e in omega arith
-is_open (Task t) n l k e = let z : suc t.0 ≡ shut_word = ap head_word e in omega arith
-is_open Shut n l k e = omega arith
+is_open h n l k e = grind arith
 
 module _ {B : Type 0} (program : Bool → B → Program B) (key : Key B) where
-  abbrev P : Program B
-  P = program key.strict key.root.value
-
   -- a seat that has a push to come is backed
   push_backed : (v : View B) (e : Push) → IsSeat key v → IsIn e v.pushes → IsBacked v
   push_backed v e q i = q.backing.wakes (inl (λ z. subst (IsIn e) z i))
@@ -50,35 +42,27 @@ module _ {B : Type 0} (program : Bool → B → Program B) (key : Key B) where
     next_inside t l = let e = r.all_words in omega arith
 
     -- a step on HEAD or NEXT by a backed seat, whose view changes in what it has of the chains
-    chain_stores : (w : View B) → w ≡ record v {
-      pushes = w.pushes;
-      shuts = w.shuts;
-      rest = w.rest;
-      closed = w.closed;
-      steps = w.steps;
-    } → IsBacked v → (x : TableWord) (n : ℕ) → index x < length s.words → MayHold key.cells x n
-        → (head next : ℕ → Head) → said words x n ≡ record words { head = head; next = next }
-        → (pl : List (List Push)) (sl : List (List ℕ)) (rl : List (Option Rest)) (cl : List (List ℕ))
+    chain_stores : (w : View B)
+        → seat_part w ≡ record (seat_part v) { pushes = w.pushes; shuts = w.shuts; rest = w.rest } → IsBacked v
+        → (x : TableWord) (n : ℕ) → index x < length s.words → MayHold key.cells x n
+        → {head next : ℕ → Head} {pl : List (List Push)} {sl : List (List ℕ)} {rl : List (Option Rest)}
+        {cl : List (List ℕ)} → said words x n ≡ record words { head = head; next = next }
         → set_seats seats id w ≡ record seats { pushes = pl; shuts = sl; rests = rl; closed = cl }
         → Chains (tag_in (contents_of s)) head next words.phase pl sl rl cl seats.found
         → Stores program key s id (index x) n w
-    chain_stores w same back x n inside may head next say pl sl rl cl path chains =
-        store_word program key s id x n w inside may (subst (IsSeat key) (sym same) (let q = r.seats id v at in record {
-          about = q.about;
-          named = q.named;
-          within_lot = q.within_lot;
-          backing = record { wakes = λ k. back; tags = q.backing.tags; alarms = q.backing.alarms };
-          known_born = q.known_born;
-        })) _ (λ j. record { words = say j; slots = s.homes; seats = path j })
-        (law_chains r.law head next pl sl rl cl seats.found chains)
+    chain_stores w same backed x n inside may {head} {next} {pl} {sl} {rl} {cl} say path chains =
+        store_word program key s id x n w inside may (subst (IsSeatOf key) (sym same)
+        (wakes_seat key v (r.seats id v at) w.pushes w.shuts w.rest (λ _. backed))) _
+        (λ j. record { words = say j; slots = s.homes; seats = path j })
+        (let l = r.law in law_kept l (record words { head = head; next = next })
+        (record seats { pushes = pl; shuts = sl; rests = rl; closed = cl }) l.lots l.names l.tree_words l.once_words
+        chains l.live_count l.stops l.records_fit l.meaning l.facts)
 
     -- a store of NEXT
     next_stores : (t n : ℕ) → t < key.cells → n ≤ key.cells → HasPush t v
         → Stores program key s id (next_at t) n (stored_next t (head_in n) v)
     next_stores t n l small has = chain_stores (stored_next t (head_in n) v) refl
-        (push_backed v has.0 (r.seats id v at) has.1) (table_word.Next t) n (next_inside t l) small
-        words.head (put words.next t (head_in n)) refl
-        (set seats.pushes id (with_next t (head_in n) v.pushes)) seats.shuts seats.rests seats.closed
+        (push_backed v has.0 (r.seats id v at) has.1) (table_word.Next t) n (next_inside t l) small refl
         (ap (λ (z : SeatsHave B). record z { pushes = set seats.pushes id (with_next t (head_in n) v.pushes) })
         (seats_same s.views id v at))
         (nexts r.law.chains t id (head_in n) v.pushes
@@ -90,9 +74,7 @@ module _ {B : Type 0} (program : Bool → B → Program B) (key : Key B) where
         → Stores program key s id (head_at p) (suc t) (pushed t v)
     push_stores t p lt lp has unshut = chain_stores (pushed t v) refl
         (push_backed v has.0 (r.seats id v at) has.1) (table_word.Head p) (suc t) (head_inside p lp)
-        (inr (omega arith)) (put words.head p (Task (cell t))) words.next
-        (ap (λ h. record words { head = put words.head p h }) (sym is_task))
-        (set seats.pushes id (without_push t v.pushes)) seats.shuts seats.rests seats.closed
+        (inr (omega arith)) (ap (λ h. record words { head = put words.head p h }) (sym is_task))
         (ap (λ (z : SeatsHave B). record z { pushes = set seats.pushes id (without_push t v.pushes) })
         (seats_same s.views id v at))
         (pushes r.law.chains t p id v.pushes has.0
@@ -107,9 +89,7 @@ module _ {B : Type 0} (program : Bool → B → Program B) (key : Key B) where
         → head_in (word s.words (head_at p)) ≢ Shut
         → Stores program key s id (head_at p) shut_word (took_chain p (r.law.chains.line p) v)
     shut_stores p lp knows free back unshut = chain_stores (took_chain p chain v) refl back (table_word.Head p)
-        shut_word (head_inside p lp) (inl refl) (put words.head p Shut) words.next refl seats.pushes
-        (set seats.shuts id (without p v.shuts))
-        (set seats.rests id (rest_of p chain)) (set seats.closed id (p ∷ v.closed))
+        shut_word (head_inside p lp) (inl refl) refl
         (ap (λ (z : SeatsHave B). record z {
           shuts = set seats.shuts id (without p v.shuts);
           rests = set seats.rests id (rest_of p chain);
@@ -130,8 +110,7 @@ module _ {B : Type 0} (program : Bool → B → Program B) (key : Key B) where
     shut_again : (p : ℕ) → p < key.cells → IsBacked v → head_in (word s.words (head_at p)) ≡ Shut
         → Stores program key s id (head_at p) shut_word (found_taken p v)
     shut_again p lp back is_shut = chain_stores (found_taken p v) refl back (table_word.Head p) shut_word
-        (head_inside p lp) (inl refl) words.head words.next (λ j. record words { head = λ c. same c j })
-        seats.pushes (set seats.shuts id (without p v.shuts)) seats.rests (set seats.closed id (p ∷ v.closed))
+        (head_inside p lp) (inl refl) (λ j. record words { head = λ c. same c j })
         (ap (λ (z : SeatsHave B). record z {
           shuts = set seats.shuts id (without p v.shuts);
           closed = set seats.closed id (p ∷ v.closed);
@@ -233,12 +212,10 @@ module _ {B : Type 0} (program : Bool → B → Program B) (key : Key B) where
   pub shut_allowed : (slots id : ℕ) (m : SeatMe B) (p i new cells c : ℕ) → p < key.cells → i ≡ head_at p
       → cells ≡ key.cells → c ≡ p → new ≡ shut_word → KnowsEntry p m.0 → m.0.rest ≡ None → IsBacked m.0
       → Allows (Rule program key) slots id m i (λ n. new) (shut_swap cells c (step slots i new 0 none) m)
-  shut_allowed slots id m p i new cells c lp at f e is knows free back =
+  shut_allowed slots id m p i new cells c lp at f e is knows free backed =
       step_allowed program key slots id m i (λ n. new) (shut_swap cells c (step slots i new 0 none) m)
-      (λ s r k. subst (λ j. Goes s j new cells c) (sym at) (subst (λ x. Goes s (head_at p) x cells c) (sym is)
-      (subst (λ n. Goes s (head_at p) shut_word n c) (sym f)
-      (subst (Goes s (head_at p) shut_word key.cells) (sym e)
-      (shut_swaps s r id m.0 k slots p new m.1 lp knows free back)))))
+      (λ s r k. back (λ j. Goes s (at j) (is j) (f j) (e j))
+      (shut_swaps s r id m.0 k slots p new m.1 lp knows free backed))
     where
       Goes : State (Option (Rec B)) (View B) → ℕ → ℕ → ℕ → ℕ → Type 0
       Goes s j x n d = (w : View B) × Stores program key s id j x w

@@ -1,18 +1,16 @@
 -- The live count is kept by the changes of PHASE and by the steps on LIVE; and where a seat has loaded LIVE as 0,
 -- nobody waits for a cell of which something has become.
-use Rattle.tj_words.proofs.Prelude.{Any, Backing, Bool, Chains, Custodies, Custody, Does, DoesRun, DoesWalk, Due, Each}
-use Rattle.tj_words.proofs.Prelude.{Hand, HasAlarmed, HasWakeToCome, Head, Holds, IsBacked, IsLively, IsParkedOn, Key}
+use Rattle.tj_words.proofs.Prelude.{Any, Backing, Bool, Contents, Custodies, Custody, Does, DoesRun, DoesWalk, Due}
+use Rattle.tj_words.proofs.Prelude.{Each, Hand, HasAlarmed, HasWakeToCome, Holds, IsBacked, IsLively, IsParkedOn, Key}
 use Rattle.tj_words.proofs.Prelude.{List, LiveCount, None, Option, Phase, Program, Rec, Rest, Rule, Shut, Slots, Some}
 use Rattle.tj_words.proofs.Prelude.{State, View, [], ap, arith, at_map, contents_of, dec_le, dite, get_elem?, held_in}
-use Rattle.tj_words.proofs.Prelude.{inl, inr, live_part, live_tasks, map, phase_of, put, refl, set, some}
-use Rattle.tj_words.proofs.Prelude.{some-injective, some-ne-none, subst, suc, sym, total, true, zero, ℕ, ℕ_discrete}
-use Rattle.tj_words.proofs.Prelude.{⊎_elim, ◌+◌, ◌-◌, ◌<◌, ◌∙◌, ◌∷◌, ◌≡◌, ◌≢◌, ◌≤◌, ◌⊎◌}
-use Rattle.tj_words.proofs.Lemmas.{put_else, put_here, total_set}
-use Rattle.tj_words.proofs.Waiters.ChainLists.{no_some, none_or}
+use Rattle.tj_words.proofs.Prelude.{inl, inr, live_part, live_tasks, phase_of, put, refl, set, some, subst, suc, sym}
+use Rattle.tj_words.proofs.Prelude.{true, zero, ℕ, ℕ_discrete, ⊎_elim, ◌+◌, ◌-◌, ◌<◌, ◌∙◌, ◌≡◌, ◌≢◌, ◌≤◌, ◌⊎◌}
+use Rattle.tj_words.proofs.Lemmas.{no_some, none_or, put_else, put_here, total_set}
 use Rattle.tj_words.proofs.Waiters.ChainFacts.{not_empty}
 use Rattle.tj_words.proofs.Waiters.ChainsSaid.{shut_or}
+use Rattle.tj_words.proofs.Stores.SeatLists.{map_back, one_part}
 use Rattle.tj_words.specs.declared.offsets.Once.TheVariants as once
-use Rattle.tj_words.specs.declared.view.Does.TheVariants as does
 
 -- how many live tasks there are, where the phases are the same, and where one changes
 live_same : (phase phase' : ℕ → Phase) (n : ℕ) → ((u : ℕ) → u < n → phase' u ≡ phase u)
@@ -25,23 +23,12 @@ live_same phase phase' (suc n) s =
 live_set : (phase phase' : ℕ → Phase) (t n : ℕ) → ((u : ℕ) → u ≢ t → phase' u ≡ phase u) → t < n
     → live_tasks phase' n + live_part (phase t) ≡ live_tasks phase n + live_part (phase' t)
 live_set phase phase' t zero s h = absurd (omega arith)
-live_set phase phase' t (suc n) s h = dite (ℕ_discrete t n)
-    (λ e. let b = live_same phase phase' n (λ u k. s u (λ z. omega arith)) in
-    let c : live_part (phase t) ≡ live_part (phase n) = ap (λ u. live_part (phase u)) e in
-    let d : live_part (phase' t) ≡ live_part (phase' n) = ap (λ u. live_part (phase' u)) e in omega arith)
-    (λ e. let a : live_part (phase' n) ≡ live_part (phase n) = ap live_part (s n (λ z. e (sym z))) in
-    let b = live_set phase phase' t n s (omega arith) in omega arith)
+live_set phase phase' t (suc n) s h = let b = live_set phase phase' t n s in
+    let c = live_same phase phase' n in grind arith
 
 live_some : (phase : ℕ → Phase) (t n : ℕ) → t < n → live_part (phase t) ≤ live_tasks phase n
 live_some phase t zero h = absurd (omega arith)
-live_some phase t (suc n) h = dite (ℕ_discrete t n)
-    (λ e. let c : live_part (phase t) ≡ live_part (phase n) = ap (λ u. live_part (phase u)) e in omega arith)
-    (λ e. let b = live_some phase t n (omega arith) in omega arith)
-
-total_some : (l : List ℕ) (i a : ℕ) → get_elem? l i ≡ some a → a ≤ total l
-total_some [] i a e = absurd (some-ne-none a (sym e))
-total_some (x ∷ xs) zero a e = let q : x ≡ a = some-injective x a e in omega arith
-total_some (x ∷ xs) (suc i) a e = let h = total_some xs i a e in omega arith
+live_some phase t (suc n) h = let b = live_some phase t n in grind arith
 
 module _ {cells live : ℕ} {phase : ℕ → Phase} {tokens : List ℕ} {rested : List Bool}
     (c : LiveCount cells live phase tokens rested) where
@@ -66,7 +53,7 @@ module _ {cells live : ℕ} {phase : ℕ → Phase} {tokens : List ℕ} {rested 
   pub count_down : (id k : ℕ) → get_elem? tokens id ≡ some (suc k)
       → (0 < live) × LiveCount cells (live - 1) phase (set tokens id k) rested
   count_down id k at = let a = c.counted in let s = total_set tokens id (suc k) k at in
-      let t = total_some tokens id (suc k) at in (
+      let t = one_part tokens id (suc k) at in (
         (omega arith),
         record {
           counted = (omega arith);
@@ -76,9 +63,7 @@ module _ {cells live : ℕ} {phase : ℕ → Phase} {tokens : List ℕ} {rested 
 
 -- what a running or walking task counts
 live_does : (d : Does) → DoesRun d ⊎ DoesWalk d → live_part (phase_of d) ≡ 1
-live_does does.Unborn h = ⊎_elim (λ e. absurd e) (λ e. absurd e) h
-live_does (does.Alarmed c way w) h = ⊎_elim (λ e. absurd e) (λ e. absurd e) h
-live_does d h = refl
+live_does d h = grind arith
 
 module _ {B : Type 0} where
   -- what a seat holds stands in these phases
@@ -99,7 +84,7 @@ module _ {B : Type 0} where
       → LiveCount cells live phase tokens rested → (id : ℕ) (v : View B) → get_elem? tokens id ≡ some v.tokens
       → HoldsInPhase cells phase v.tasks → IsLively v → 0 < live
   lively_live {cells} {live} {phase} {tokens} c id v at h l = let a = c.counted in ⊎_elim
-      (λ (t : 0 < v.tokens). let s = total_some tokens id v.tokens at in (omega arith))
+      (λ (t : 0 < v.tokens). let s = one_part tokens id v.tokens at in (omega arith))
       (λ (w : Holds DoesRun v ⊎ Holds DoesWalk v). ⊎_elim
       (λ (r : Holds DoesRun v). let f = h r.0 r.1 r.2 in let s = live_some phase r.0 cells f.0 in
       let e : live_part (phase r.0) ≡ 1 = ap live_part f.1 ∙ live_does r.1.does (inl r.3) in (omega arith))
@@ -142,55 +127,35 @@ module _ {B : Type 0} where
       (λ q. absurd (here a.1 (subst (λ u. held_in w.tasks u ≡ Some a.1) q a.2) a.3))
       (λ n. subst (λ m. 0 < m) (sym e) (b.alarms (a.0, a.1, sym (else a.0 n) ∙ a.2, a.3)))
 
--- what a field of some view is
-field_of : {A C : Type 0} (f : A → C) (l : List A) (i : ℕ) (b : C) → get_elem? (map f l) i ≡ some b
-    → (a : A) × (get_elem? l i ≡ some a) × (f a ≡ b)
-field_of f [] i b e = absurd (some-ne-none b (sym e))
-field_of f (x ∷ xs) zero b e = (x, refl, some-injective (f x) b e)
-field_of f (x ∷ xs) (suc i) b e = field_of f xs i b e
+module _ {B : Type 0} (program : Bool → B → Program B) (key : Key B) (s : State (Option (Rec B)) (View B))
+    (r : Rule program key s) where
+  abbrev x : Contents B
+  x = contents_of s
 
-module _ {B : Type 0} (cells live : ℕ) (tag : ℕ → ℕ) (head next : ℕ → Head) (phase : ℕ → Phase) (views : List (View B))
-    (c : Chains tag head next phase (map (λ (v : View B). v.pushes) views) (map (λ (v : View B). v.shuts) views)
-    (map (λ (v : View B). v.rest) views) (map (λ (v : View B). v.closed) views)
-    (map (λ (v : View B). v.found) views))
-    (l : LiveCount cells live phase (map (λ (v : View B). v.tokens) views) (map (λ (v : View B). v.rested) views))
-    (holds : Each (λ j (v : View B). HoldsInPhase cells phase v.tasks) views)
-    (backs : Each (λ j (v : View B). Backing v) views) where
   -- LIVE isn't 0 while a seat has a wake to come
-  wake_live : (j : ℕ) (v : View B) → get_elem? views j ≡ some v → HasWakeToCome v → 0 < live
-  wake_live j v at h = lively_live l j v (at_map (λ (u : View B). u.tokens) views j v at) (holds j v at)
-      (backed_lively v ((backs j v at).wakes h))
+  wake_live : (j : ℕ) (v : View B) → get_elem? s.views j ≡ some v → HasWakeToCome v → 0 < x.words.live
+  wake_live j v at h = lively_live r.law.live_count j v (at_map (λ (u : View B). u.tokens) s.views j v at)
+      (held_in_phase r.law.custody (omega arith) j v.tasks (at_map (λ (u : View B). u.tasks) s.views j v at))
+      (backed_lively v ((r.seats j v at).backing.wakes h))
 
   -- where a seat has loaded LIVE as 0, no task is left that is parked on a cell of which something has become
-  pub none_left : (id : ℕ) (v : View B) → get_elem? views id ≡ some v → v.rested ≡ true → (t p : ℕ)
-      → IsParkedOn (phase t) p → tag p ≡ 0
-  none_left id v at rested t p waits =
-      let at_rest : live ≡ 0 = l.stays_at_rest id v.rested (at_map (λ (u : View B). u.rested) views id v at) rested in
+  pub none_left_waiting : (id : ℕ) (v : View B) → get_elem? s.views id ≡ some v → v.rested ≡ true → (t p : ℕ)
+      → IsParkedOn (x.words.phase t) p → x.words.once p once.Tag ≡ 0
+  none_left_waiting id v at rested t p waits = let views = s.views in let c = r.law.chains in
+      let at_rest : x.words.live ≡ 0
+      = r.law.live_count.stays_at_rest id v.rested (at_map (λ (u : View B). u.rested) views id v at) rested in
       let idle : (j : ℕ) (u : View B) → get_elem? views j ≡ some u → ¬ HasWakeToCome u
       = λ j u e h. let q = wake_live j u e h in (omega arith) in
-      dite (ℕ_discrete (tag p) 0) (λ e. e) (λ n. absurd (⊎_elim
-      (λ (s : head p ≡ Shut). ⊎_elim
+      dite (ℕ_discrete (x.words.once p once.Tag) 0) (λ e. e) (λ n. absurd (⊎_elim
+      (λ (s : x.words.head p ≡ Shut). ⊎_elim
       (λ (e : c.pusher t ≡ None). let g = c.resting p s (not_empty (c.line p) t (c.placed p t waits e)) in
-      let a = field_of (λ (u : View B). u.rest) views (c.taker p) g.0 g.1 in
+      let a = map_back (λ (u : View B). u.rest) views (c.taker p) g.0 g.1 in
       idle (c.taker p) a.0 a.1 (inr (inr (g.2.0, a.2 ∙ g.2.1))))
       (λ (k : (j : ℕ) × (c.pusher t ≡ Some j)). let g = c.pushing t k.0 k.1 in
-      let a = field_of (λ (u : View B). u.pushes) views k.0 g.0 g.1 in
+      let a = map_back (λ (u : View B). u.pushes) views k.0 g.0 g.1 in
       idle k.0 a.0 a.1 (inl (λ z. not_empty g.0 g.2.0 g.2.1 (sym a.2 ∙ z))))
       (none_or (c.pusher t)))
-      (λ (s : head p ≢ Shut). let g = c.due p n s in
-      let a = field_of (λ (u : View B). u.shuts) views (c.shutter p) g.0 g.1 in
+      (λ (s : x.words.head p ≢ Shut). let g = c.due p n s in
+      let a = map_back (λ (u : View B). u.shuts) views (c.shutter p) g.0 g.1 in
       idle (c.shutter p) a.0 a.1 (inr (inl (λ z. not_empty g.0 p g.2 (sym a.2 ∙ z)))))
-      (shut_or (head p))))
-
--- so it is under the rule of a table
-pub none_left_waiting : {B : Type 0} (program : Bool → B → Program B) (key : Key B)
-    (s : State (Option (Rec B)) (View B)) (r : Rule program key s) (id : ℕ) (v : View B)
-    → get_elem? s.views id ≡ some v → v.rested ≡ true → (t p : ℕ)
-    → IsParkedOn ((contents_of s).words.phase t) p
-    → (contents_of s).words.once p once.Tag ≡ 0
-none_left_waiting {B} program key s r id v at rested t p waits =
-    none_left key.cells (contents_of s).words.live (λ c. (contents_of s).words.once c once.Tag)
-    (contents_of s).words.head (contents_of s).words.next (contents_of s).words.phase s.views r.law.chains
-    r.law.live_count
-    (λ j u e. held_in_phase r.law.custody (omega arith) j u.tasks (at_map (λ (w : View B). w.tasks) s.views j u e))
-    (λ j u e. (r.seats j u e).backing) id v at rested t p waits
+      (shut_or (x.words.head p))))

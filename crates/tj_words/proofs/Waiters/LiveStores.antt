@@ -3,16 +3,12 @@ use Rattle.tj_words.proofs.Prelude.{Backing, Bool, IsBacked, IsLively, Key, Live
 use Rattle.tj_words.proofs.Prelude.{SeatsHave, State, View, ap, arith, at_map, contents_of, get_elem?, length, live_at}
 use Rattle.tj_words.proofs.Prelude.{seats_have, set, some, suc, with_tokens, word, words_say, ℕ, ◌-◌, ◌<◌, ◌∙◌, ◌≡◌}
 use Rattle.tj_words.proofs.Prelude.{◌≤◌}
-use Rattle.tj_words.proofs.Lemmas.{Live, Stores, seats_same, store_word, stored}
+use Rattle.tj_words.proofs.Lemmas.{Live, Stores, law_kept, seats_same, store_word, stored}
 use Rattle.tj_words.proofs.Waiters.LiveSteps.{count_up, count_down, held_in_phase, lively_live, backed_lively}
 use Rattle.tj_words.proofs.Waiters.LiveSteps.{backing_token}
-use Rattle.tj_words.proofs.Stores.LawChanges.{law_live}
 
 module _ {B : Type 0} (program : Bool → B → Program B) (key : Key B) (s : State (Option (Rec B)) (View B))
     (r : Rule program key s) (id : ℕ) (v : View B) (at : get_elem? s.views id ≡ some v) where
-  abbrev P : Program B
-  P = program key.strict key.root.value
-
   abbrev old : SeatsHave B
   old = seats_have s.views
 
@@ -48,7 +44,9 @@ module _ {B : Type 0} (program : Bool → B → Program B) (key : Key B) (s : St
               record { least = l.least; refused_fit = l.refused_fit; tokens_fit = fits; cleared_fit = l.cleared_fit };
           backing = backs;
           known_born = h.known_born;
-        } _ path (law_live r.law n (set old.tokens id k) count)
+        } _ path (let l = r.law in law_kept l (record (words_say s.words) { live = n })
+        (record old { tokens = set old.tokens id k }) l.lots l.names l.tree_words l.once_words l.chains count l.stops
+        l.records_fit l.meaning l.facts)
 
   -- LIVE up, by a seat that has a token or a running task
   pub live_up_stores : IsBacked v → suc v.tokens ≤ v.lot

@@ -1,13 +1,12 @@
 -- The add to OTHERS and the subtraction from it keep the rule.
-use Rattle.tj_words.proofs.Prelude.{Allows, Bool, Contents, Custody, Does, DoesWalk, EventKeepsFacts, IsHeldWith, IsIn}
-use Rattle.tj_words.proofs.Prelude.{IsSeat, Key, Law, List, MayAct, MayRaise, Option, OthersAreFew, Program, Rec, Rule}
-use Rattle.tj_words.proofs.Prelude.{SeatMe, SeatsHave, State, View, ap, arith, at_map, get_elem?, length, lowered, none}
-use Rattle.tj_words.proofs.Prelude.{others_at, parts_of, phase_of, refl, seats_have, set, some, step, subst, suc, sym}
-use Rattle.tj_words.proofs.Prelude.{total, turned, word, words_say, ℕ, ◌%◌, ◌+◌, ◌-◌, ◌<◌, ◌^◌, ◌≡◌}
+use Rattle.tj_words.proofs.Prelude.{Allows, Bool, Contents, Custody, Does, DoesWalk, EventKeepsFacts, IsIn, IsSeat, Key}
+use Rattle.tj_words.proofs.Prelude.{Law, List, MayAct, MayRaise, Option, OthersAreFew, Program, Rec, Rule, SeatMe}
+use Rattle.tj_words.proofs.Prelude.{SeatsHave, State, View, ap, arith, at_map, get_elem?, length, lowered, none}
+use Rattle.tj_words.proofs.Prelude.{others_at, phase_of, refl, seats_have, set, some, step, subst, suc, sym, total}
+use Rattle.tj_words.proofs.Prelude.{turned, word, words_say, ℕ, ◌%◌, ◌+◌, ◌-◌, ◌<◌, ◌^◌, ◌≡◌}
+use Rattle.tj_words.proofs.Lemmas.{IsHeldWith, Stores, facts_after, law_kept, parts_of, seats_same, set_seats}
+use Rattle.tj_words.proofs.Lemmas.{step_allowed, store_word, total_set}
 use Rattle.tj_words.specs.Calls.WalkViews.{others_add, others_subtraction}
-use Rattle.tj_words.proofs.Stores.LawChanges.{law_counts}
-use Rattle.tj_words.proofs.Lemmas.{Stores, seats_same, set_seats, step_allowed, store_word, total_set}
-use Rattle.tj_words.proofs.Events.StepFacts.{facts_after}
 use Rattle.tj_words.proofs.Stores.TableWords.{Others}
 use Rattle.tj_words.proofs.Events.WaitClears.{lower_shown}
 use Rattle.tj_words.proofs.Events.WalkEvents.{raise_shown}
@@ -18,9 +17,7 @@ use Rattle.tj_words.specs.declared.view.Does.TheVariants as does
 
 -- a task that may act runs
 pub acting_phase : (d : Does) → MayAct d → phase_of does.Raised ≡ phase_of d
-acting_phase does.Fresh m = refl
-acting_phase does.Running m = refl
-acting_phase d m = absurd m
+acting_phase d m = grind arith
 
 module _ {B : Type 0} {program : Program B} {cells : ℕ} {x : Contents B} (event_keeps : EventKeepsFacts)
     (r : Law program cells x) where
@@ -62,7 +59,9 @@ module _ {B : Type 0} {program : Program B} {cells : ℕ} {x : Contents B} (even
   -- the law after the subtraction from OTHERS
   pub law_lowers : (cleared : List ℕ) → total x.seats.cleared ≡ suc (total cleared)
       → Law program cells (lowered_to cleared)
-  law_lowers cleared e = law_counts r (x.words.others - 1) x.words.stop cleared r.stops r.meaning
+  law_lowers cleared e = law_kept r (record x.words { others = x.words.others - 1 })
+      (record x.seats { cleared = cleared }) r.lots r.names r.tree_words r.once_words r.chains r.live_count r.stops
+      r.records_fit r.meaning
       (facts_after event_keeps (lower_shown r (lowered_to cleared) record {
         some = omega (arith, e);
         same = λ j. record (parts_of cells x) { others = x.words.others - 1; cleared = less j };
@@ -98,12 +97,7 @@ module _ {B : Type 0} (program : Bool → B → Program B) (key : Key B) (event_
       (law_raises event_keeps r.law id t k (held_by_view program key s id t v at k h.held) h.acts h.result)
     where
       walks : (d : Does) → MayAct d → DoesWalk d → ⊥
-      walks does.Unborn m a = a
-      walks does.Fresh m a = a
-      walks does.Running m a = a
-      walks does.Raised m a = a
-      walks (does.Walking p way w) m a = m
-      walks (does.Alarmed p way w) m a = a
+      walks d m a = grind arith
 
   -- the subtraction, by a seat with a wait cleared and not yet lowered
   pub lower_stores : 0 < v.cleared

@@ -4,7 +4,8 @@ use Rattle.tj_words.proofs.Prelude.{Meaning, NamesCells, OnceWords, OwnedLists, 
 use Rattle.tj_words.proofs.Prelude.{bits_in, drawn_in, hand_of, held_of, home_of, made_of, min, owned_of, state_shown}
 use Rattle.tj_words.proofs.Prelude.{subst, suc, sym, tag_in, total, ℕ, ◌<◌, ◌≡◌, ◌≤◌}
 use Rattle.tj_words.proofs.Meaning.MeaningSteps.{stop_meant, refused_meant}
-use Rattle.tj_words.proofs.Lemmas.{ground_of, known_of, law_kept, law_meant}
+use Rattle.tj_words.proofs.Meaning.LawMeant.{ground_of, known_of, law_meant}
+use Rattle.tj_words.proofs.Stores.LawChanges.{law_kept}
 
 module _ {B : Type 0} (program : Program B) (N : ℕ) (x : Contents B) (r : Law program N x) where
   -- the store of STOP

@@ -2,5 +2,4 @@ use Rattle.tj_words.proofs.Calls.Verdicts.{ended_walks_off_cycles}
 use Rattle.tj_words.proofs.laws.ended_walks.Goals as goal
 
 pub returns : goal.returns
-returns g c = λ program key u w later t p id v e a at h.
-    ended_walks_off_cycles _ program key u w later t p id v e a at h
+returns g c = ended_walks_off_cycles _

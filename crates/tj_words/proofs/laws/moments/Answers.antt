@@ -1,7 +1,6 @@
 use Rattle.tj_words.proofs.SeatLoads.FreeNext.{next_is_free}
 use Rattle.tj_words.proofs.SeatLoads.MomentLaws.{count_above, live_counts, lone_claims, no_hidden_stop, others_count}
-use Rattle.tj_words.proofs.SeatLoads.MomentLaws.{owner_is, phase_is, stop_stands}
-use Rattle.tj_words.proofs.SeatLoads.OneCell.{one_cell_counts, one_cell_lives}
+use Rattle.tj_words.proofs.SeatLoads.MomentLaws.{one_cell_counts, one_cell_lives, owner_is, phase_is, stop_stands}
 use Rattle.tj_words.proofs.laws.moments.Goals as goal
 
 pub returns-clause-live : goal.returns-clause-live

@@ -6,10 +6,10 @@ pub returns-clause-one : goal.returns-clause-one
 returns-clause-one g c = λ m r. one_shown m.law r
 
 pub returns-clause-holders : goal.returns-clause-holders
-returns-clause-holders g c = λ m r t. one_seat_holds _ m r t
+returns-clause-holders g c = one_seat_holds _
 
 pub returns-clause-lines : goal.returns-clause-lines
-returns-clause-lines g c = λ m r p. one_line_stands _ m r p
+returns-clause-lines g c = one_line_stands _
 
 pub returns-clause-pushers : goal.returns-clause-pushers
-returns-clause-pushers g c = λ m r t. one_seat_pushes _ m r t
+returns-clause-pushers g c = one_seat_pushes _

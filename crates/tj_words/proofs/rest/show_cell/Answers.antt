@@ -1,58 +1,38 @@
-use Rattle.tj_words.proofs.Prelude.{ap, arith, maker_in, once_at, own_at, phase_at, phase_in, phase_word, slots_items}
-use Rattle.tj_words.proofs.Prelude.{subst, sym, task_in, ◌/◌, ◌<◌, ◌^◌, ◌∙◌, ◌≡◌, ◌≤◌}
+use Rattle.tj_words.proofs.Prelude.{ap, arith, maker_in, phase_in, phase_word, subst, sym, task_in, ◌/◌, ◌∙◌, ◌≡◌, ◌≤◌}
 use Rattle.tj_words.proofs.Meaning.ClosedWords.{read_at, owner_is, maker_is, phase_cell}
-use Rattle.tj_words.specs.declared.offsets.Once.TheVariants as once
 use Rattle.tj_words.proofs.rest.show_cell.Goals as goal
 
 pub owner_of_word-requires : goal.owner_of_word-requires
-owner_of_word-requires g c =
-    let e = read_at (slots_items c.args.table.now.words) c.own_at.result (own_at c.args.c.0) c.word.result
-    c.own_at.ensures c.word.ensures in
+owner_of_word-requires g c = let e = read_at _ c.own_at.ensures c.word.ensures in
     let h = (c.requires.words.codes.each c.args.c.0 c.requires.cell).own in let few = c.requires.words.few in
-    let h' : c.word.result ≤ c.args.cells = subst (λ n. n ≤ c.args.cells) (sym e) h in omega arith
+    omega (arith, e, h, few)
 
 pub of_word-requires-clause-code : goal.of_word-requires-clause-code
-of_word-requires-clause-code g c =
-    let e = read_at (slots_items c.args.table.now.words) c.phase_at.result (phase_at c.args.c.0) c.word-2.result
-    c.phase_at.ensures c.word-2.ensures in
+of_word-requires-clause-code g c = let e = read_at _ c.phase_at.ensures c.word-2.ensures in
     subst (λ n. phase_word (phase_in n) ≡ n) (sym e)
     (c.requires.words.codes.each c.args.c.0 c.requires.cell).phase.code
 
 pub of_word-requires-clause-cell : goal.of_word-requires-clause-cell
-of_word-requires-clause-cell g c =
-    let e = read_at (slots_items c.args.table.now.words) c.phase_at.result (phase_at c.args.c.0) c.word-2.result
-    c.phase_at.ensures c.word-2.ensures in
+of_word-requires-clause-cell g c = let e = read_at _ c.phase_at.ensures c.word-2.ensures in
     let h : c.word-2.result / 16 ≤ c.args.cells = subst (λ n. n / 16 ≤ c.args.cells) (sym e)
     (phase_cell c.args.cells _ (c.requires.words.codes.each c.args.c.0 c.requires.cell).phase) in
     let few = c.requires.words.few in omega arith
 
 pub owner_of_word-requires-2 : goal.owner_of_word-requires-2
-owner_of_word-requires-2 g c =
-    let e = read_at (slots_items c.args.table.now.words) c.once_at-2.result (once_at c.args.c.0 once.Parent)
-    c.word-4.result c.once_at-2.ensures c.word-4.ensures in
+owner_of_word-requires-2 g c = let e = read_at _ c.once_at-2.ensures c.word-4.ensures in
     let h = (c.requires.words.codes.each c.args.c.0 c.requires.cell).parent in let few = c.requires.words.few in
-    let h' : c.word-4.result ≤ c.args.cells = subst (λ n. n ≤ c.args.cells) (sym e) h in omega arith
+    omega (arith, e, h, few)
 
 pub overflow_cast-result : goal.overflow_cast-result
-overflow_cast-result g c =
-    let e = read_at (slots_items c.args.table.now.words) c.once_at-3.result (once_at c.args.c.0 once.Kid)
-    c.word-5.result c.once_at-3.ensures c.word-5.ensures in
-    let h : c.word-5.result < 2 ^ 32 = subst (λ n. n < 2 ^ 32) (sym e)
-    (c.requires.words.codes.each c.args.c.0 c.requires.cell).kid in omega (arith, h)
+overflow_cast-result g c = let e = read_at _ c.once_at-3.ensures c.word-5.ensures in
+    let h = (c.requires.words.codes.each c.args.c.0 c.requires.cell).kid in omega (arith, e, h)
 
 pub returns : goal.returns
 returns g c =
-    let ws = slots_items c.args.table.now.words in
-    let own = read_at ws c.own_at.result (own_at c.args.c.0) c.word.result c.own_at.ensures c.word.ensures in
-    let phase = read_at ws c.phase_at.result (phase_at c.args.c.0) c.word-2.result c.phase_at.ensures
-    c.word-2.ensures in
-    let tag = read_at ws c.once_at.result (once_at c.args.c.0 once.Tag) c.word-3.result c.once_at.ensures
-    c.word-3.ensures in
-    let parent = read_at ws c.once_at-2.result (once_at c.args.c.0 once.Parent) c.word-4.result c.once_at-2.ensures
-    c.word-4.ensures in
-    let kid = read_at ws c.once_at-3.result (once_at c.args.c.0 once.Kid) c.word-5.result c.once_at-3.ensures
-    c.word-5.ensures in
-    λ j. record {
+    let own = read_at _ c.own_at.ensures c.word.ensures in let phase = read_at _ c.phase_at.ensures c.word-2.ensures in
+    let tag = read_at _ c.once_at.ensures c.word-3.ensures in
+    let parent = read_at _ c.once_at-2.ensures c.word-4.ensures in
+    let kid = read_at _ c.once_at-3.ensures c.word-5.ensures in λ j. record {
       own = (owner_is c.owner_of_word.result c.word.result c.owner_of_word.ensures.owner ∙ ap task_in own) j;
       phase = (c.of_word.ensures.phase ∙ ap phase_in phase) j;
       tag = tag j;

@@ -1,6 +1,5 @@
-use Rattle.tj_words.proofs.Prelude.{[], ap, arith, cell_of, count_at, length, length-append, min, refl, slots_items}
-use Rattle.tj_words.proofs.Prelude.{◌∙◌, ◌∷◌, ◌≡◌}
-use lib.ListN.{get_elem?}
+use Rattle.tj_words.proofs.Prelude.{[], ap, arith, cell_of, count_at, get_elem?, length, length-append, min, refl}
+use Rattle.tj_words.proofs.Prelude.{slots_items, ◌∙◌, ◌∷◌, ◌≡◌}
 use Rattle.tj_words.proofs.Meaning.ClosedWords.{read_at, filled_more}
 use Rattle.tj_words.proofs.rest.show_cells.Goals as goal
 
@@ -21,7 +20,7 @@ loop-c-preserved g c = let i = c.loop-c.invariant in
 
 pub returns : goal.returns
 returns g c = let i = c.loop-c.invariant in let test = c.loop-c-test.false in let few = c.min-drawn.ensures in
-    let count = read_at (slots_items c.args.table.now.words) 0 count_at c.word.result refl c.word.ensures in
+    let count = read_at (slots_items c.args.table.now.words) {i = count_at} refl c.word.ensures in
     let done : c.loop-c.c ≡ c.min-drawn.result = omega arith in record {
       all = i.0 ∙ (done ∙ (few ∙ ap (λ n. min n c.args.cells) count));
       each = λ k h. i.3 k (omega arith);

@@ -3,10 +3,11 @@ use Rattle.tj_words.proofs.Cells.DrawSteps.{draw_allowed}
 use Rattle.tj_words.proofs.table.Laid.add_count.Goals as goal
 
 pub fetch_add-requires : goal.fetch_add-requires
-fetch_add-requires g c = let a = c.args in let k = a.self.now.table.shared.key in let e = a.self.now.key_cells in (
+fetch_add-requires g c = let a = c.args in let e = a.self.now.key_cells in (
   c.requires.table,
   omega (arith, a.self.now.words),
-  draw_allowed _ k c.event_keeps_facts.ensures (λ strict root fresh. c.full_where_names.ensures strict root fresh)
+  draw_allowed _ _ c.event_keeps_facts.ensures (λ strict root fresh. c.full_where_names.ensures strict root fresh)
       a.self.now.table.shared.table_id.slots a.seat.now.id a.t.0 g.M.Drawing.cells g.M.Drawing.maker a.sort
-      g.M.Drawing.sort a.seat.now.me (c.requires.named.0 ∙ sym e) c.requires.named.1 c.requires.named.2 c.requires.may,
+      g.M.Drawing.sort a.seat.now.me (c.requires.named.0 ∙ sym e) c.requires.named.1 c.requires.named.2
+      c.requires.may,
 )

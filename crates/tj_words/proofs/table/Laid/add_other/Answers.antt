@@ -3,9 +3,9 @@ use Rattle.tj_words.proofs.Waiters.OthersSteps.{raise_allowed}
 use Rattle.tj_words.proofs.table.Laid.add_other.Goals as goal
 
 pub fetch_add-requires : goal.fetch_add-requires
-fetch_add-requires g c = let a = c.args in let k = a.self.now.table.shared.key in (
+fetch_add-requires g c = let a = c.args in (
   c.requires.table,
   omega (arith, a.self.now.words, a.self.now.some),
-  raise_allowed _ k c.event_keeps_facts.ensures c.others_are_few.ensures a.self.now.table.shared.table_id.slots
-      a.seat.now.id a.seat.now.me a.t.0 g.M.Acting.task c.requires.named c.requires.runs,
+  raise_allowed _ _ c.event_keeps_facts.ensures c.others_are_few.ensures _ _ _ a.t.0 g.M.Acting.task c.requires.named
+      c.requires.runs,
 )

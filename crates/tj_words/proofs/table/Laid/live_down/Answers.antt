@@ -6,6 +6,5 @@ pub fetch_sub-requires : goal.fetch_sub-requires
 fetch_sub-requires g c = let a = c.args in (
   c.requires.table,
   omega (arith, a.self.now.words, a.self.now.some),
-  down_allowed _ a.self.now.table.shared.key a.self.now.table.shared.table_id.slots a.seat.now.id a.seat.now.me
-      c.requires.may,
+  down_allowed _ _ _ _ _ c.requires.may,
 )

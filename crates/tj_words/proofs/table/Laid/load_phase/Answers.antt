@@ -1,20 +1,16 @@
 use Rattle.tj_words.proofs.Prelude.{FirstTold, arith, phase_in, phase_load, refl, subst, sym, ◌∙◌}
-use Rattle.tj_words.proofs.SeatLoads.PhaseLoads.{phase_allowed}
 use Rattle.tj_words.proofs.Lemmas.{moment_allowed, so_too}
+use Rattle.tj_words.proofs.SeatLoads.PhaseLoads.{phase_allowed}
 use Rattle.tj_words.proofs.table.Laid.load_phase.Goals as goal
 
 pub load-requires : goal.load-requires
-load-requires g c = let a = c.args in let k = a.self.now.table.shared.key in let e = a.self.now.key_cells in
-    let l = c.requires.named in (
-      c.requires.table,
-      omega (arith, a.self.now.words, a.self.now.some, c.requires.cell, c.phase_at.ensures),
-      moment_allowed _ a.self.now.table.shared.key a.self.now.table.shared.table_id.slots a.seat.now.id a.seat.now.me
-          c.phase_at.result 0 0 (λ n. n)
-          (phase_load g.M.Naming.cells g.M.Naming.cell)
-          (phase_allowed _ k a.self.now.table.shared.table_id.slots a.seat.now.id a.seat.now.me g.M.Naming.cells
-          g.M.Naming.cell a.t.0 c.phase_at.result (l.0 ∙ sym e) l.1 (omega (arith, e, c.requires.cell))
-          c.phase_at.ensures),
-    )
+load-requires g c = let a = c.args in let e = a.self.now.key_cells in (
+  c.requires.table,
+  omega (arith, a.self.now.words, a.self.now.some, c.requires.cell, c.phase_at.ensures),
+  moment_allowed _ _ _ _ _ c.phase_at.result 0 0 (λ n. n) (phase_load g.M.Naming.cells g.M.Naming.cell)
+      (phase_allowed _ _ _ _ _ g.M.Naming.cells g.M.Naming.cell a.t.0 c.phase_at.result (c.requires.named.0 ∙ sym e)
+      c.requires.named.1 (omega (arith, e, c.requires.cell)) c.phase_at.ensures),
+)
 
 pub returns-clause-first : goal.returns-clause-first
 returns-clause-first g c = subst (λ t. FirstTold t (phase_in c.load.result) c.args.seat.now.me.0) c.requires.named.1

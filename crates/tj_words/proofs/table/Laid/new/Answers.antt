@@ -5,14 +5,10 @@ use Rattle.tj_words.proofs.table.Laid.new.Goals as goal
 
 pub new-requires : goal.new-requires
 new-requires g c =
-    opening_meets (program_of g.B.Body.places g.B.Body.awaits g.B.Body.left g.B.Body.asks g.B.Body.then)
-    (record { cells = c.args.cells; root = c.of.result; strict = c.args.strict }) c.requires.some c.requires.few
-    c.start_meets_facts.ensures
-    (subst
-    (λ z. TasksStart
-    (program_of g.B.Body.places g.B.Body.awaits g.B.Body.left g.B.Body.asks g.B.Body.then c.args.strict z))
-    (sym c.of.ensures)
-    (c.points_in_rounds.ensures.start c.args.strict c.args.root c.requires.root))
+    opening_meets _ (record { cells = c.args.cells; root = c.of.result; strict = c.args.strict }) c.requires.some
+    c.requires.few c.start_meets_facts.ensures
+    (subst (λ z. TasksStart (program_of g.B.Body.places g.B.Body.awaits g.B.Body.left g.B.Body.asks g.B.Body.then
+    c.args.strict z)) (sym c.of.ensures) (c.points_in_rounds.ensures.start c.args.strict c.args.root c.requires.root))
     (subst (λ z. IsRooted (program_of g.B.Body.places g.B.Body.awaits g.B.Body.left g.B.Body.asks g.B.Body.then
     c.args.strict z)) (sym c.of.ensures) c.requires.root) refl _ c.in_ok-slots.slots.items
     (c.as_slice.ensures.value ∙ c.in_ok-words.ensures)

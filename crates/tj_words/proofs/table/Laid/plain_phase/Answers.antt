@@ -1,5 +1,5 @@
 use Rattle.tj_words.proofs.Prelude.{FirstTold, refl, subst, sym}
-use Rattle.tj_words.proofs.Lemmas.{so_too}
+use Rattle.tj_words.proofs.SeatLoads.MomentSteps.{so_too}
 use Rattle.tj_words.proofs.table.Laid.plain_phase.Goals as goal
 
 pub returns-clause-first : goal.returns-clause-first

@@ -1,6 +1,6 @@
 use Rattle.tj_words.proofs.Prelude.{arith, refl, sym, ◌∙◌}
-use Rattle.tj_words.proofs.Calls.PushRuns.{chain_found, finds_longer, found_other, word_back}
 use Rattle.tj_words.proofs.Lemmas.{so_too}
+use Rattle.tj_words.proofs.Calls.PushRuns.{chain_found, finds_longer, found_other, word_back}
 use Rattle.tj_words.proofs.table.Laid.push.Goals as goal
 
 pub returns-clause-moment : goal.returns-clause-moment

@@ -6,6 +6,5 @@ pub store-requires : goal.store-requires
 store-requires g c = let a = c.args in (
   c.requires.table,
   omega (arith, a.self.now.words, a.self.now.some),
-  stop_allowed _ a.self.now.table.shared.key a.self.now.table.shared.table_id.slots a.seat.now.id a.seat.now.me a.w
-      c.requires.some c.requires.known c.requires.refused,
+  stop_allowed _ _ _ _ _ a.w c.requires.some c.requires.known c.requires.refused,
 )

@@ -6,12 +6,12 @@ use Rattle.tj_words.specs.declared.offsets.Once.TheVariants as once
 use Rattle.tj_words.proofs.table.Laid.store_bits.Goals as goal
 
 pub store-requires : goal.store-requires
-store-requires g c = let a = c.args in let k = a.self.now.table.shared.key in let e = a.self.now.key_cells in
+store-requires g c = let a = c.args in let e = a.self.now.key_cells in
     let w = once_within a.c.0 a.self.now.cells once.Bits c.requires.cell in (
       c.requires.table,
       omega (arith, a.self.now.words, w, c.once_at.ensures),
-      bits_allowed _ k a.self.now.table.shared.table_id.slots a.seat.now.id a.seat.now.me a.c.0 c.once_at.result a.v
-          g.M.Naming.cell (omega (arith, e, c.requires.cell)) c.once_at.ensures c.requires.named c.requires.may,
+      bits_allowed _ _ _ _ _ a.c.0 c.once_at.result a.v g.M.Naming.cell (omega (arith, e, c.requires.cell))
+          c.once_at.ensures c.requires.named c.requires.may,
     )
 
 pub returns-clause-view : goal.returns-clause-view

@@ -1,12 +1,11 @@
 use Rattle.tj_words.proofs.Prelude.{arith}
-use Rattle.tj_words.proofs.Phases.LiveStoreSteps.{ready_allowed}
+use Rattle.tj_words.proofs.Phases.PhaseSteps.{ready_allowed}
 use Rattle.tj_words.proofs.table.Laid.store_ready.Goals as goal
 
 pub store-requires : goal.store-requires
-store-requires g c = let a = c.args in let k = a.self.now.table.shared.key in let e = a.self.now.key_cells in (
+store-requires g c = let a = c.args in let e = a.self.now.key_cells in (
   c.requires.table,
   omega (arith, a.self.now.words, a.self.now.some, c.requires.task, c.phase_at.ensures),
-  ready_allowed _ k a.self.now.table.shared.table_id.slots a.seat.now.id a.seat.now.me a.t.0 c.phase_at.result
-      c.word.result g.M.Naming.cell (omega (arith, e, c.requires.task)) c.phase_at.ensures c.requires.named
-      c.word.ensures.back c.word.ensures.word c.requires.may,
+  ready_allowed _ _ _ _ _ a.t.0 c.phase_at.result c.word.result g.M.Naming.cell (omega (arith, e, c.requires.task))
+      c.phase_at.ensures c.requires.named c.word.ensures.back c.word.ensures.word c.requires.may,
 )

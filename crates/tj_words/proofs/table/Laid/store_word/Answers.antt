@@ -4,11 +4,10 @@ use Rattle.tj_words.proofs.Stores.WordStores.{word_allowed}
 use Rattle.tj_words.proofs.table.Laid.store_word.Goals as goal
 
 pub store-requires : goal.store-requires
-store-requires g c = let a = c.args in let k = a.self.now.table.shared.key in let e = a.self.now.key_cells in (
+store-requires g c = let a = c.args in let e = a.self.now.key_cells in (
   c.requires.table,
   (let h = once_within a.c.0 a.self.now.cells a.f c.requires.cell in
       omega (arith, a.self.now.words, c.once_at.ensures)),
-  word_allowed _ k a.self.now.table.shared.table_id.slots a.seat.now.id a.seat.now.me a.c.0 c.once_at.result a.v
-      g.M.Naming.cell a.f g.M.Naming.word (omega (arith, e, c.requires.cell)) c.once_at.ensures c.requires.named.0
-      c.requires.named.1 c.requires.may,
+  word_allowed _ _ _ _ _ a.c.0 c.once_at.result a.v g.M.Naming.cell a.f g.M.Naming.word
+      (omega (arith, e, c.requires.cell)) c.once_at.ensures c.requires.named.0 c.requires.named.1 c.requires.may,
 )

@@ -1,5 +1,5 @@
 use Rattle.tj_words.proofs.Prelude.{refl, sym}
-use Rattle.tj_words.proofs.Lemmas.{so_too}
+use Rattle.tj_words.proofs.SeatLoads.MomentSteps.{so_too}
 use Rattle.tj_words.proofs.table.Laid.swap_phase.Goals as goal
 
 pub exchange_phase-found-requires-clause-named : goal.exchange_phase-found-requires-clause-named

@@ -1,5 +1,5 @@
 use Rattle.tj_words.proofs.Prelude.{refl, sym}
-use Rattle.tj_words.proofs.Lemmas.{so_too}
+use Rattle.tj_words.proofs.SeatLoads.MomentSteps.{so_too}
 use Rattle.tj_words.proofs.table.Laid.wait_by.Goals as goal
 
 pub returns-clause-moment : goal.returns-clause-moment

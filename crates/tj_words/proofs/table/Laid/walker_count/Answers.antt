@@ -1,16 +1,14 @@
 use Rattle.tj_words.proofs.Prelude.{IsCount, arith, count_at, count_read, min, sym, walk_load, ◌∙◌}
-use Rattle.tj_words.proofs.SeatLoads.WalkLoads.{count_read_allowed}
 use Rattle.tj_words.proofs.Lemmas.{moment_allowed}
+use Rattle.tj_words.proofs.SeatLoads.WalkLoads.{count_read_allowed}
 use Rattle.tj_words.proofs.table.Laid.walker_count.Goals as goal
 
 pub load-requires : goal.load-requires
-load-requires g c = let a = c.args in let k = a.self.now.table.shared.key in let e = a.self.now.key_cells in (
+load-requires g c = let a = c.args in let e = a.self.now.key_cells in (
   c.requires.table,
   omega (arith, a.self.now.words, a.self.now.some),
-  moment_allowed _ a.self.now.table.shared.key a.self.now.table.shared.table_id.slots a.seat.now.id a.seat.now.me
-      count_at 0 0 (λ n. n)
+  moment_allowed _ _ _ _ _ count_at 0 0 (λ n. n)
       (walk_load g.M.Acting.task (λ n. count_read (min n g.M.Acting.cells)) (IsCount g.M.Acting.cells))
-      (count_read_allowed _ k c.event_keeps_facts.ensures a.self.now.table.shared.table_id.slots a.seat.now.id
-      a.seat.now.me
-      a.t.0 g.M.Acting.task g.M.Acting.cells c.requires.named.1 (c.requires.named.0 ∙ sym e) c.requires.walks),
+      (count_read_allowed _ _ c.event_keeps_facts.ensures _ _ _ a.t.0 g.M.Acting.task g.M.Acting.cells
+      c.requires.named.1 (c.requires.named.0 ∙ sym e) c.requires.walks),
 )

@@ -1,16 +1,13 @@
 use Rattle.tj_words.proofs.Prelude.{arith, others_at, others_read, walk_load, ◌<◌, ◌^◌}
-use Rattle.tj_words.proofs.SeatLoads.WalkLoads.{others_read_allowed}
 use Rattle.tj_words.proofs.Lemmas.{moment_allowed}
+use Rattle.tj_words.proofs.SeatLoads.WalkLoads.{others_read_allowed}
 use Rattle.tj_words.proofs.table.Laid.walker_others.Goals as goal
 
 pub load-requires : goal.load-requires
-load-requires g c = let a = c.args in let k = a.self.now.table.shared.key in (
+load-requires g c = let a = c.args in (
   c.requires.table,
   omega (arith, a.self.now.words, a.self.now.some),
-  moment_allowed _ a.self.now.table.shared.key a.self.now.table.shared.table_id.slots a.seat.now.id a.seat.now.me
-      others_at 0 0 (λ n. n)
-      (walk_load g.M.Acting.task others_read (λ n. n < 2 ^ 32))
-      (others_read_allowed _ k c.event_keeps_facts.ensures a.self.now.table.shared.table_id.slots a.seat.now.id
-      a.seat.now.me
-      c.others_are_few.ensures a.t.0 g.M.Acting.task c.requires.named c.requires.walks),
+  moment_allowed _ _ _ _ _ others_at 0 0 (λ n. n) (walk_load g.M.Acting.task others_read (λ n. n < 2 ^ 32))
+      (others_read_allowed _ _ c.event_keeps_facts.ensures _ _ _ c.others_are_few.ensures a.t.0 g.M.Acting.task
+      c.requires.named c.requires.walks),
 )

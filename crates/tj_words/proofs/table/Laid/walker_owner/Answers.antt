@@ -1,19 +1,17 @@
 use Rattle.tj_words.proofs.Prelude.{arith, owner_in, owner_seen, refl, sym, walk_load, ◌∙◌, ◌≤◌}
-use Rattle.tj_words.proofs.SeatLoads.WalkLoads.{owner_read_allowed}
 use Rattle.tj_words.proofs.Lemmas.{moment_allowed, so_too}
+use Rattle.tj_words.proofs.SeatLoads.WalkLoads.{owner_read_allowed}
 use Rattle.tj_words.proofs.table.Laid.walker_owner.Goals as goal
 
 pub load-requires : goal.load-requires
-load-requires g c = let a = c.args in let k = a.self.now.table.shared.key in let e = a.self.now.key_cells in (
+load-requires g c = let a = c.args in let e = a.self.now.key_cells in (
   c.requires.table,
   omega (arith, a.self.now.words, a.self.now.some, c.requires.cell, c.own_at.ensures),
-  moment_allowed _ a.self.now.table.shared.key a.self.now.table.shared.table_id.slots a.seat.now.id a.seat.now.me
-      c.own_at.result 0 0 (λ n. n)
+  moment_allowed _ _ _ _ _ c.own_at.result 0 0 (λ n. n)
       (walk_load g.M.Acting.task (λ n w. owner_seen (owner_in n) w w.last) (λ n. n ≤ g.M.Acting.cells))
-      (owner_read_allowed _ k c.event_keeps_facts.ensures a.self.now.table.shared.table_id.slots a.seat.now.id
-      a.seat.now.me
-      a.t.0 g.M.Acting.task g.M.Acting.cells a.c.0 c.own_at.result c.requires.named.1 (c.requires.named.0 ∙ sym e)
-      c.own_at.ensures (omega (arith, e, c.requires.cell)) c.requires.walks),
+      (owner_read_allowed _ _ c.event_keeps_facts.ensures _ _ _ a.t.0 g.M.Acting.task g.M.Acting.cells a.c.0
+      c.own_at.result c.requires.named.1 (c.requires.named.0 ∙ sym e) c.own_at.ensures
+      (omega (arith, e, c.requires.cell)) c.requires.walks),
 )
 
 pub returns-clause-moment : goal.returns-clause-moment
