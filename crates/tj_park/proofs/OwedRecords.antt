@@ -26,7 +26,7 @@ use Rattle.tj_words.proofs.Holders.TaskPlaces.{begun_there}
 use Rattle.atomic_table.proofs.Lists.{at_map}
 use Rattle.tj_words.specs.LawParts.Holding.{held_in}
 use Rattle.tj_words.specs.SeatViews.KnownEntries.{HasSeen}
-use Rattle.tj_words.proofs.Meaning.RestingStates.{map_back}
+use Rattle.tj_words.proofs.Stores.SeatLists.{map_back}
 use Rattle.tj_words.proofs.SeatLoads.KnowLoads.{tag_some}
 use Rattle.tj_body.specs.declared.point.Entry.{Entry}
 use Rattle.tj_park.specs.Endings.{IsWithNobody, MayFinish, OwesAtHome}

@@ -1,14 +1,12 @@
 -- A seat notes something else for a task that it holds: what of the law speaks of the lists of tasks is kept.
-use Rattle.tj_words.proofs.Prelude.{AreThere, Bool, CellId, Contents, Custody, Does, Hand, HasAlarmed, IsCustody, IsIn}
+use Rattle.tj_words.proofs.Prelude.{AreThere, CellId, Contents, Custody, Does, Hand, HasAlarmed, IsCustody, IsIn}
 use Rattle.tj_words.proofs.Prelude.{IsKept, IsLaid, IsThere, Law, List, None, OfSeat, Option, Phase, Program, Rec}
-use Rattle.tj_words.proofs.Prelude.{Slots, Some, Walk, Way, [], ap, cond, dite, does_cells, drawn_in, eq-eqb, find_in}
-use Rattle.tj_words.proofs.Prelude.{get_elem?, hand_of, held_in, held_of, hold, home_in, home_of, inl, inr, let_go}
-use Rattle.tj_words.proofs.Prelude.{made_by, made_of, making, ne_eqb, owned_by, owned_of, phase_of, phase_sort, put}
-use Rattle.tj_words.proofs.Prelude.{put_else, put_here, record_cells, refl, set, some, subst, sym, ℕ, ℕ_discrete}
-use Rattle.tj_words.proofs.Prelude.{⊎_elim, ◌+◌, ◌∙◌, ◌∷◌, ◌≡◌, ◌≢◌}
-use Rattle.tj_words.proofs.Lemmas.{IsHeldWith, custody, find_put, held_alone, held_first, held_here, held_rest}
-use Rattle.tj_words.proofs.Lemmas.{hold_else, hold_here, made_held_by, none_some, of_seat_here, one_some, put_is}
-use Rattle.tj_words.proofs.Lemmas.{put_kept}
+use Rattle.tj_words.proofs.Prelude.{Slots, Some, Walk, Way, [], ap, arith, does_cells, drawn_in, find_in, get_elem?}
+use Rattle.tj_words.proofs.Prelude.{hand_of, held_in, held_of, hold, home_in, home_of, inl, let_go, made_by, made_of}
+use Rattle.tj_words.proofs.Prelude.{making, owned_by, owned_of, phase_of, phase_sort, put, put_else, put_here}
+use Rattle.tj_words.proofs.Prelude.{record_cells, refl, set, some, subst, sym, ℕ, ⊎_elim, ◌+◌, ◌∙◌, ◌∷◌, ◌≡◌, ◌≢◌}
+use Rattle.tj_words.proofs.Lemmas.{IsHeldWith, custody, find_put, held_alone, held_here, hold_else, hold_here}
+use Rattle.tj_words.proofs.Lemmas.{made_held_by, none_some, of_seat_here, one_some, put_is, put_kept}
 use Rattle.tj_words.proofs.Holders.TaskMoves.{does_sort, TaskMove}
 use Rattle.tj_words.specs.declared.view.Does.TheVariants as does
 use Rattle.tj_words.specs.declared.phase.Phase.TheVariants as phase
@@ -17,18 +15,12 @@ module _ {B : Type 0} where
   -- what a seat has for a task is of that task
   pub held_task : (ks : List (Custody B)) (t : ℕ) (k : Custody B) → held_in ks t ≡ Some k → k.task ≡ t
   held_task [] t k e = none_some None k refl e
-  held_task (k' ∷ ks) t k e = dite (ℕ_discrete k'.task t)
-      (λ q. ap (λ (z : Custody B). z.task) (sym (one_some k' k (sym (held_first k' ks t q) ∙ e))) ∙ q)
-      (λ d. held_task ks t k (sym (held_rest k' ks t d) ∙ e))
+  held_task (k' ∷ ks) t k e = let r = held_task ks t k in grind arith
 
   -- what is let go is an element less
   pub let_go_in : (t : ℕ) (ks : List (Custody B)) (k : Custody B) → IsIn k (let_go t ks) → IsIn k ks
   let_go_in t [] k i = i
-  let_go_in t (k' ∷ ks) k i = dite (ℕ_discrete k'.task t)
-      (λ e. inr (let_go_in t ks k
-      (subst (λ (b : Bool). IsIn k (cond b (let_go t ks) (k' ∷ let_go t ks))) (eq-eqb k'.task t e) i)))
-      (λ n. ⊎_elim (λ (e : k ≡ k'). inl e) (λ (j : IsIn k (let_go t ks)). inr (let_go_in t ks k j))
-      (subst (λ (b : Bool). IsIn k (cond b (let_go t ks) (k' ∷ let_go t ks))) (ne_eqb k'.task t n) i))
+  let_go_in t (k' ∷ ks) k i = let r = let_go_in t ks k in grind arith
 
 module _ {B : Type 0} {program : Program B} {cells : ℕ} {x : Contents B} (r : Law program cells x) (id t : ℕ)
     (k k' : Custody B) (h : IsHeldWith x id t k) (its : k'.task ≡ t) where

@@ -1,8 +1,8 @@
 -- Tasks that seats hold and cells in hand, as searches through the views find them.
 use Rattle.tj_words.proofs.Prelude.{Bool, Custody, Hand, IsIn, List, None, OfSeat, Option, Some, [], ap, arith, cond}
-use Rattle.tj_words.proofs.Prelude.{dite, eq-eqb, find_in, get_elem?, get_or, hand_in, held_in, inl, inr, length}
-use Rattle.tj_words.proofs.Prelude.{ne_eqb, or_else, refl, some, some-injective, some-ne-none, suc, sym, zero, ℕ}
-use Rattle.tj_words.proofs.Prelude.{ℕ_discrete, ◌<◌, ◌∙◌, ◌∷◌, ◌≡◌, ◌≢◌}
+use Rattle.tj_words.proofs.Prelude.{dite, eq-eqb, find_in, get_elem?, get_or, hand_in, held_in, length, ne_eqb, or_else}
+use Rattle.tj_words.proofs.Prelude.{refl, some, some-injective, some-ne-none, suc, sym, zero, ℕ, ℕ_discrete, ◌<◌, ◌∙◌}
+use Rattle.tj_words.proofs.Prelude.{◌∷◌, ◌≡◌, ◌≢◌}
 
 -- nothing is something
 pub none_some : {A : Type 0} {Z : Type 0} (o : Option A) (a : A) → o ≡ None → o ≡ Some a → Z

@@ -1,9 +1,8 @@
 -- What is found for a task after one seat's list of tasks has changed.
-use Rattle.tj_words.proofs.Prelude.{Bool, Contents, Custody, Law, List, None, Option, Program, Some, [], ap, arith}
-use Rattle.tj_words.proofs.Prelude.{at_put, cond, dite, eq-eqb, false, find_in, get_elem?, held_in, held_of, hold}
-use Rattle.tj_words.proofs.Prelude.{home_of, let_go, made_by, nat_eq, ne_eqb, or_else, owned_by, owned_of, put}
-use Rattle.tj_words.proofs.Prelude.{put_else, put_here, refl, set, some, some-injective, some-ne-none, subst, suc, sym}
-use Rattle.tj_words.proofs.Prelude.{true, zero, ℕ, ℕ_discrete, ◌∙◌, ◌∷◌, ◌≡◌, ◌≢◌}
+use Rattle.tj_words.proofs.Prelude.{Contents, Custody, Law, List, None, Option, Program, Some, [], ap, arith, at_put}
+use Rattle.tj_words.proofs.Prelude.{dite, find_in, get_elem?, held_in, held_of, hold, home_of, let_go, made_by, or_else}
+use Rattle.tj_words.proofs.Prelude.{owned_by, owned_of, put, put_else, put_here, refl, set, some, some-injective}
+use Rattle.tj_words.proofs.Prelude.{some-ne-none, subst, suc, sym, zero, ℕ, ℕ_discrete, ◌∙◌, ◌∷◌, ◌≡◌, ◌≢◌}
 use Rattle.tj_words.proofs.Events.StepEvents.{IsHeldWith}
 use Rattle.tj_words.proofs.Holders.HeldTasks.{none_some, one_some, held_first, held_rest}
 use Rattle.tj_words.proofs.Holders.TaskPlaces.{custody, has_none, held_here}

@@ -306,8 +306,8 @@ module _ {B : Type 0} {program : Bool → B → Program B} {key : Key B} {s : St
           refl,
           (
             (λ n. record {
-              unknown = λ y j q. let b : HasBecome law c y.entry
-                  = subst (λ d. HasBecome law d y.entry) q (so.filled y j) in tag_some y.entry (sym b.tag_is ∙ z);
+              unknown = λ y j q. tag_some y.entry
+                  (sym (subst (λ d. HasBecome law d y.entry) q (so.filled y j)).tag_is ∙ z);
               view = refl;
             }),
             (λ n. absurd (n z)),

@@ -1,9 +1,9 @@
 -- What holds where chains are as the law says: which phases are parked, that a chain has no task twice and no more
 -- tasks than there are cells, and that a cell on which nobody is parked has none.
-use Rattle.tj_words.proofs.Prelude.{AreApart, AreLinked, Chains, Does, Empty, Found, Head, IsIn, IsParkedOn, IsPush}
-use Rattle.tj_words.proofs.Prelude.{List, Option, Phase, Push, Rest, Shut, Some, Task, Unborn, [], ap, arith, cell}
-use Rattle.tj_words.proofs.Prelude.{head_of, head_word, inl, length, length-append, phase_of, refl, subst, sym, ℕ}
-use Rattle.tj_words.proofs.Prelude.{⊎_elim, ◌++◌, ◌<◌, ◌∙◌, ◌∷◌, ◌≡◌, ◌≢◌, ◌≤◌}
+use Rattle.tj_words.proofs.Prelude.{AreApart, AreLinked, Chains, Does, Found, Head, IsIn, IsParkedOn, IsPush, List}
+use Rattle.tj_words.proofs.Prelude.{Option, Phase, Push, Rest, Shut, Some, Task, Unborn, [], ap, arith, cell, head_of}
+use Rattle.tj_words.proofs.Prelude.{head_word, inl, length, length-append, phase_of, refl, subst, sym, ℕ, ⊎_elim, ◌++◌}
+use Rattle.tj_words.proofs.Prelude.{◌<◌, ◌∙◌, ◌∷◌, ◌≡◌, ◌≢◌, ◌≤◌}
 use Rattle.tj_words.proofs.Waiters.ChainHeads.{one_cell}
 use Rattle.tj_words.proofs.Waiters.ChainLists.{no_some, few_apart}
 use Rattle.tj_words.specs.declared.phase.Phase.TheVariants as phase
@@ -11,9 +11,6 @@ use Rattle.tj_words.specs.declared.phase.Phase.TheVariants as phase
 -- a phase that is parked on no cell
 abbrev pub IsNotParked : Phase → Type 0
 IsNotParked p = (c : ℕ) → ¬ IsParkedOn p c
-
-pub unborn_free : IsNotParked phase.Unborn
-unborn_free c h = let e = h.1 in cc
 
 pub ready_free : IsNotParked phase.Ready
 ready_free c h = let e = h.1 in cc
@@ -25,15 +22,7 @@ running_free c h = let e = h.1 in cc
 pub held_free : (d : Does) → IsNotParked (phase_of d)
 held_free d c h = grind arith
 
-abbrev head_cell : Head → ℕ
-head_cell Empty = 0
-head_cell (Task c) = c.0
-head_cell Shut = 0
-
--- the first of a list is known by its head
-pub first_is : (t u : ℕ) (ts us : List ℕ) → head_of (t ∷ ts) ≡ head_of (u ∷ us) → t ≡ u
-first_is t u ts us e = ap head_cell e
-
+-- the head of a list is never shut
 pub no_shut : (l : List ℕ) → head_of l ≢ Shut
 no_shut l e = grind arith
 
