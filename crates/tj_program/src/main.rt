@@ -3,38 +3,32 @@
 #![tactic(auto)]
 
 #[cfg(test)]
-mod command_tests;
+mod edge_rows;
 #[cfg(test)]
-mod edge_tests;
-#[cfg(test)]
-mod hostile_tests;
-#[cfg(test)]
-mod known_tests;
+mod known_rows;
 mod mode_outputs;
 #[cfg(test)]
-mod mode_tests;
+mod mode_rows;
 mod output;
+#[cfg(test)]
+mod port_tests;
 mod relay_run;
 #[cfg(test)]
 mod relay_tests;
 #[cfg(test)]
 mod row_tests;
 #[cfg(test)]
-mod rule_tests;
+mod rule_rows;
 #[cfg(test)]
 mod shy_tests;
 #[cfg(test)]
 mod storm_tests;
-#[cfg(test)]
-mod tests;
 mod top_call;
 mod watch_lines;
+#[cfg(test)]
+mod watch_rows;
 mod watch_runs;
-#[cfg(test)]
-mod watch_tests;
 mod words;
-#[cfg(test)]
-mod words_tests;
 mod worker_runs;
 #[cfg(test)]
 mod worker_tests;

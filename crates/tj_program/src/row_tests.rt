@@ -1,143 +1,102 @@
 //! Worked rows: what the program writes and answers for words and an input, by hand from the
 //! rules.
-use crate::tests::{THREE, words_of};
+use crate::edge_rows::EDGES;
+use crate::known_rows::{KNOWN, LITTLE};
+use crate::mode_rows::{GENERATED, JOURNALS, LISTINGS, RELAYS, WITHOUT_FORM};
+use crate::rule_rows::{BROKEN, BROKEN_BY_ANY, CELLS, STATEMENTS, STRICT};
 use crate::top_call::run_words;
+use crate::watch_rows::{OTHERS, WATCHED};
+use std::alloc::{AllocError, Global};
 use std::process::Abort;
 use std::sync::Wait;
 use std::test::Fail;
 use std::thread::Threads;
 use tj_command::{Output, Status};
-use tj_ports::{Gate, MemSink, MemSource, OpenGate};
+use tj_ports::{Gate, OpenGate, StdSink, StdSource};
 use tj_words::Closed;
 
-pub const HANDED_DOWN: &str = "task main() { let p = new; fork kid(own p); let v = get p; \
+pub(crate) const USAGE: &str =
+    "usage: tj run|plan|list|judge|gen|known|relay|watch [--workers N] [--cells N] [--steps N] [--size N] [--strict]\n";
+
+pub(crate) const THREE: &str = "task main() { return 1 + 2; }";
+
+const HANDED_DOWN: &str = "task main() { let p = new; fork kid(own p); let v = get p; \
     print v; return v; } task kid(p) { fork grand(own p); return 0; } task grand(p) { set p = \
     7; return 1; }";
 
-pub const TWO_WAIT: &str = "task main() { let p = new; let q = new; fork a(own p, q); fork \
+pub(crate) const TWO_WAIT: &str = "task main() { let p = new; let q = new; fork a(own p, q); fork \
     a(own q, p); return 0; } task a(mine, his) { let v = get his; set mine = v; return v; }";
 
-pub const JOIN_EACH_OTHER: &str = "task main() { let k = fork kid(me); let v = join k; \
+pub(crate) const JOIN_EACH_OTHER: &str = "task main() { let k = fork kid(me); let v = join k; \
     return v; } task kid(m) { let v = join m; return v; }";
 
-pub const AGAINST_THE_ORDER: &str = "task main() { let p = new; fork old(p); let b = fork \
+pub(crate) const AGAINST_THE_ORDER: &str = "task main() { let p = new; fork old(p); let b = fork \
     one(); set p = b; return 0; } task one() { return 1; } task old(p) { let t = get p; let v \
     = join t; return v; }";
 
-pub const FIB_OF_3: &str =
+pub(crate) const FIB_OF_3: &str =
     "task main() { let t = fork fib(3); let v = join t; print v; return 0; } \
     task fib(n) { if n < 2 { return n; } let a = fork fib(n - 1); let b = fork fib(n - 2); let x = \
     join a; let y = join b; return x + y; }";
 
-pub const FIB_OF_3_REPORT: &str = "0 prints 2\n0 done 0\n0.1 done 2\n0.1.1 done 1\n0.1.1.1 done 1\n\
+pub(crate) const FIB_OF_3_REPORT: &str =
+    "0 prints 2\n0 done 0\n0.1 done 2\n0.1.1 done 1\n0.1.1.1 done 1\n\
     0.1.1.2 done 0\n0.1.2 done 1\nclean\n";
 
-/// The room of a sink for what most rows write.
-pub const ROOM: u32 = 131_072;
-
-/// What the words over the input answer where the workers pass the gate, and the sink that they
-/// wrote to, which has room for so many bytes.
-pub fn answered<G: Gate>(
-    rt: &(impl Abort + AllocGlobal + Wait + Threads + Sync),
-    line: &str,
-    input: &str,
-    room: u32,
-    gate: &G,
-) -> Result<(Status, Option<Closed>, MemSink), Fail> {
-    let alloc = rt.alloc();
-    let words = words_of(alloc, line)?;
-    let mut source = MemSource::new(input.as_bytes().to_vec(alloc)?, 4096, Vec::new(alloc));
-    let mut sink = MemSink::new(alloc, room, 65_536, Vec::new(alloc))?;
-    let (status, closed) = run_words(rt, alloc, words.as_slice(), &mut source, &mut sink, gate);
-    Ok((status, closed, sink))
+/// The words of a command line with one space between them, and none for the empty text.
+pub(crate) fn words_of(alloc: Global, line: &str) -> Result<Vec<String>, AllocError> {
+    let mut words = Vec::new(alloc);
+    for word in line.split_whitespace() {
+        words.push(String::from_str(alloc, word)?)?;
+    }
+    Ok(words)
 }
 
-/// The status and the text that the words over the input write, where the workers pass the gate and
-/// the sink has room for so many bytes.
-pub fn written<G: Gate>(
-    rt: &(impl Abort + AllocGlobal + Wait + Threads + Sync),
+/// What the words over the input answer, where the workers pass the gate. The text is added.
+pub(crate) fn answered<G: Gate>(
+    rt: &(impl AllocGlobal + Wait + Threads + Sync),
+    words: &[String],
+    input: &str,
+    text: &mut Vec<u8>,
+    gate: &G,
+) -> (Status, Option<Closed>) {
+    let mut source = StdSource::new(input.as_bytes());
+    let mut sink = StdSink::new(text);
+    run_words(rt, rt.alloc(), words, &mut source, &mut sink, gate)
+}
+
+/// The status and the text that the words over the input write, where the workers pass the gate.
+pub(crate) fn written<G: Gate>(
+    rt: &(impl AllocGlobal + Wait + Threads + Sync),
     line: &str,
     input: &str,
-    room: u32,
     gate: &G,
 ) -> Result<Output, Fail> {
-    let (status, _closed, sink) = answered(rt, line, input, room, gate)?;
-    let text = sink.bytes().to_vec(rt.alloc())?;
+    let words = words_of(rt.alloc(), line)?;
+    let mut text = Vec::new(rt.alloc());
+    let (status, _closed) = answered(rt, words.as_slice(), input, &mut text, gate);
     Ok(Output { status, text })
 }
 
 /// Asserts what the words over the input write, and the status.
-pub fn shows(
+fn shows(
     rt: &(impl Abort + AllocGlobal + Wait + Threads + Sync),
     line: &str,
     input: &str,
     status: Status,
     output: &str,
 ) -> Result<(), Fail> {
-    let found = written(rt, line, input, ROOM, &OpenGate)?;
+    let found = written(rt, line, input, &OpenGate)?;
     assert!(rt; found.status == status, "{line}");
     assert_eq!(rt; found.text.as_slice(), output.as_bytes(), "{line}");
     Ok(())
 }
 
 /// A row: the words, the input, the status, and what is written.
-pub type Row = (&'static str, &'static str, Status, &'static str);
+pub(crate) type Row = (&'static str, &'static str, Status, &'static str);
 
-/// Asserts each row.
-pub fn shows_each(
-    rt: &(impl Abort + AllocGlobal + Wait + Threads + Sync),
-    rows: &[Row],
-) -> Result<(), Fail> {
-    for row in rows {
-        let (line, input, status, output) = *row;
-        shows(rt, line, input, status, output)?;
-    }
-    Ok(())
-}
-
-/// A row of any number of workers, and of `plan`: the input, the status, and what is written.
-pub type AnyRow = (&'static str, Status, &'static str);
-
-/// Asserts each row with any number of workers, and by `plan`.
-pub fn shows_any_each(
-    rt: &(impl Abort + AllocGlobal + Wait + Threads + Sync),
-    rows: &[AnyRow],
-) -> Result<(), Fail> {
-    for line in [
-        "run --workers 1",
-        "run --workers 2",
-        "run --workers 8",
-        "plan",
-    ] {
-        for row in rows {
-            let (input, status, output) = *row;
-            shows(rt, line, input, status, output)?;
-        }
-    }
-    Ok(())
-}
-
-/// How many line feeds a text has.
-fn lines_in(text: &[u8]) -> usize {
-    text.iter().filter(|byte| **byte == b'\n').count()
-}
-
-/// Asserts the status, how many lines are written, and how the text begins and ends.
-pub fn shows_lines(
-    rt: &(impl Abort + AllocGlobal + Wait + Threads + Sync),
-    (line, input): (&str, &str),
-    status: Status,
-    lines: usize,
-    (front, back): (&str, &str),
-) -> Result<(), Fail> {
-    let found = written(rt, line, input, ROOM, &OpenGate)?;
-    assert!(rt; found.status == status, "{line}");
-    let text = found.text.as_slice();
-    assert_eq!(rt; lines_in(text), lines, "{line}");
-    let ends = text.starts_with(front.as_bytes()) && text.ends_with(back.as_bytes());
-    assert!(rt; ends, "{line}");
-    Ok(())
-}
+/// A row of several command lines: the input, the status, and what is written.
+pub(crate) type AnyRow = (&'static str, Status, &'static str);
 
 const TASKS_ALONE: &[Row] = &[
     ("run --workers 1", THREE, Status::Clean, "0 done 3\nclean\n"),
@@ -192,11 +151,6 @@ const TASKS_ALONE: &[Row] = &[
     ),
 ];
 
-#[test]
-fn tasks_alone(rt: HostRuntime) -> Result<(), Fail> {
-    shows_each(&rt, TASKS_ALONE)
-}
-
 const SEVERAL_TASKS: &[AnyRow] = &[
     (
         HANDED_DOWN,
@@ -236,11 +190,6 @@ const SEVERAL_TASKS: &[AnyRow] = &[
     (FIB_OF_3, Status::Clean, FIB_OF_3_REPORT),
 ];
 
-#[test]
-fn several_tasks(rt: HostRuntime) -> Result<(), Fail> {
-    shows_any_each(&rt, SEVERAL_TASKS)
-}
-
 const CYCLES: &[AnyRow] = &[
     (
         TWO_WAIT,
@@ -267,7 +216,71 @@ const CYCLES: &[AnyRow] = &[
     ),
 ];
 
+/// Asserts each row.
+fn shows_each(
+    rt: &(impl Abort + AllocGlobal + Wait + Threads + Sync),
+    tables: &[&[Row]],
+) -> Result<(), Fail> {
+    for rows in tables {
+        for row in *rows {
+            let (line, input, status, output) = *row;
+            shows(rt, line, input, status, output)?;
+        }
+    }
+    Ok(())
+}
+
 #[test]
-fn cycles(rt: HostRuntime) -> Result<(), Fail> {
-    shows_any_each(&rt, CYCLES)
+fn rows_of_runs(rt: HostRuntime) -> Result<(), Fail> {
+    shows_each(&rt, &[TASKS_ALONE, CELLS, BROKEN, STRICT, OTHERS, RELAYS])
+}
+
+#[test]
+fn rows_on_one_thread(rt: HostRuntime) -> Result<(), Fail> {
+    shows_each(&rt, &[JOURNALS, WITHOUT_FORM, LISTINGS, KNOWN, LITTLE])
+}
+
+#[test]
+fn rows_of_long_runs(rt: HostRuntime) -> Result<(), Fail> {
+    shows_each(&rt, &[STATEMENTS, GENERATED])
+}
+
+#[test]
+fn rows_at_the_edges(rt: HostRuntime) -> Result<(), Fail> {
+    shows_each(&rt, &[EDGES])
+}
+
+/// Any number of workers, and `plan`.
+const RUNS: &[&str] = &[
+    "run --workers 1",
+    "run --workers 2",
+    "run --workers 8",
+    "plan",
+];
+
+const WATCHES: &[&str] = &[
+    "watch --workers 1",
+    "watch --workers 2",
+    "watch --workers 8",
+];
+
+/// Lines, and rows that each of them writes.
+const BY_ANY: &[(&[&str], &[AnyRow])] = &[
+    (RUNS, SEVERAL_TASKS),
+    (RUNS, CYCLES),
+    (RUNS, BROKEN_BY_ANY),
+    (WATCHES, WATCHED),
+];
+
+#[test]
+fn rows_by_any_workers(rt: HostRuntime) -> Result<(), Fail> {
+    for (lines, rows) in BY_ANY {
+        for line in *lines {
+            for row in *rows {
+                let (input, status, output) = *row;
+                shows(&rt, line, input, status, output)?;
+            }
+        }
+    }
+    Ok(())
 }

@@ -1,14 +1,17 @@
 //! A pool that is refused memory at a put that a test names, and a body that is at such an ask: a
 //! run over them has no memory, or the outcome that it has with ample memory.
+//!
+//! The body also lets other threads run at each ask.
 ghost use Rattle.std.specs.Prelude.{◌≡◌, ◌<◌, length, IfOk, IsTrue};
 ghost use Rattle.tj_body.specs.Table.{is_table};
-ghost use Rattle.tj_program.specs.TestBodies.ShyAsks as shy;
+ghost use Rattle.tj_body.specs.SeenAs.{ask_as};
 
+use crate::output::ClosedOutput;
 use crate::worker_runs::ended_at_rest;
 use std::alloc::Global;
 use std::sync::Wait;
 use std::test::Fail;
-use std::thread::Threads;
+use std::thread::{self, Threads};
 use tj_base::{CellId, Items, Oom, Pay};
 use tj_body::{Answer, Ask, Body, Row, RowList, TableBody};
 use tj_eval::{ScriptBody, main_body};
@@ -59,18 +62,19 @@ impl<const K: u32> Pool for ShyPool<K> {
     }
 }
 
-/// A body that is refused memory at an ask.
+/// A body that lets other threads run at each ask, and that is refused memory at one.
 #[derive(Drop)]
-struct ShyBody<B> {
-    body: B,
+pub(crate) struct ShyBody<B> {
+    pub(crate) body: B,
     /// How many asks until then, 0 where it isn't refused any.
-    asks: u32,
+    pub(crate) asks: u32,
 }
 
 impl<B: Body> Body for ShyBody<B> {
     ghost use Rattle.std.specs.Prelude.{◌-◌};
     ghost use Rattle.std.proofs.Common.{refl};
-    ghost use Rattle.tj_program.specs.TestBodies.ShyAsks.{ask_of, obeys_of};
+    ghost use Rattle.tj_body.specs.SeenAs.{ask_as};
+    ghost use Rattle.tj_program.specs.TestBodies.ShyAsks.{obeys_of};
 
     ghost places = { λ b. B.places b.body };
 
@@ -78,11 +82,12 @@ impl<B: Body> Body for ShyBody<B> {
 
     ghost left = { λ b. B.left b.body };
 
-    ghost asks = { λ b a. ask_of (λ c. record { body = c; asks = 0 }) (B.asks b.body a) };
+    ghost asks = { λ b a. ask_as (λ c. record { body = c; asks = 0 }) (B.asks b.body a) };
 
     ghost then = { λ b a. record { body = B.then b.body a; asks = b.asks - 1 } };
 
     fn next(&mut self, alloc: Global, a: Answer) -> Result<Ask<Self>, Oom> {
+        thread::yield_now();
         let asks = self.asks;
         self.asks = asks.saturating_sub(1);
         if asks == 1 {
@@ -98,13 +103,13 @@ impl<B: Body> Body for ShyBody<B> {
         })
     }
 
-    ghost obeys = { obeys_of (λ c. record { body = c; asks = 0 }) B.places B.awaits B.left (λ b. b.body) (λ b. refl)
+    ghost obeys = { obeys_of (λ c. record { body = c; asks = 0 }) (λ b. b.body) (λ b. refl) B.places B.awaits B.left
         B.asks B.then (λ b a. record { body = B.then b.body a; asks = b.asks - 1 }) (λ b a. refl) B.obeys };
 }
 
 /// The same ask, whose forks aren't refused memory.
 fn bold<B>(ask: Ask<B>) -> Ask<ShyBody<B>>
-    ensures { result ≡ shy.ask_of (λ c. record { body = c; asks = 0 }) ask }
+    ensures { result ≡ ask_as (λ c. record { body = c; asks = 0 }) ask }
 {
     match ask {
         Ask::New => Ask::New,
@@ -124,60 +129,74 @@ fn bold<B>(ask: Ask<B>) -> Ask<ShyBody<B>>
     }
 }
 
-/// Whether a run of the script by one worker, which is refused a put, has no memory, or where that
-/// isn't `due` the report that it has with ample memory.
-fn is_refused<const K: u32, R: Wait + Threads + Sync>(
-    rt: &R,
-    alloc: Global,
-    due: bool,
-) -> Result<bool, Fail> {
-    let Ok(script) = script_in(alloc, TAKERS.as_bytes()) else {
-        return Ok(false);
-    };
-    let root = main_body(alloc, &script, 100_000)?;
-    match run_all::<ScriptBody<'_>, ShyPool<K>, OpenGate, R>(
-        rt, alloc, root, 4096, 1, &OpenGate, false,
-    ) {
-        Ok(rest) => {
-            let given = ended_at_rest(alloc, rest, Told::Report)?;
-            Ok(!due && given.output.text.as_slice() == TAKERS_REPORT.as_bytes())
-        }
-        Err(RunFault::Oom) => Ok(true),
-        Err(RunFault::Full) => Ok(false),
+/// Whether this is the report that the script has with ample memory.
+fn is_report(given: Result<ClosedOutput, Oom>) -> bool {
+    match given {
+        Ok(given) => given.output.text.as_slice() == TAKERS_REPORT.as_bytes(),
+        Err(_out_of_memory) => false,
     }
 }
 
+/// Whether a run of the script by one worker, which is refused a put, has no memory, or where that
+/// isn't `due` the report that it has with ample memory.
+fn is_refused<const K: u32, R: Wait + Threads + Sync>(rt: &R, alloc: Global, due: bool) -> bool {
+    let Ok(script) = script_in(alloc, TAKERS.as_bytes()) else {
+        return false;
+    };
+    let Ok(root) = main_body(alloc, &script, 100_000) else {
+        return false;
+    };
+    match run_all::<ScriptBody<'_>, ShyPool<K>, OpenGate, R>(
+        rt, alloc, root, 4096, 1, &OpenGate, false,
+    ) {
+        Ok(rest) => !due && is_report(ended_at_rest(alloc, rest, Told::Report)),
+        Err(RunFault::Oom) => true,
+        Err(RunFault::Full) => false,
+    }
+}
+
+/// Whether that is so for each put from the second to the sixth.
+fn early_puts_are_refused<R: Wait + Threads + Sync>(rt: &R, a: Global) -> bool {
+    is_refused::<2, R>(rt, a, false)
+        && is_refused::<3, R>(rt, a, false)
+        && is_refused::<4, R>(rt, a, false)
+        && is_refused::<5, R>(rt, a, false)
+        && is_refused::<6, R>(rt, a, false)
+}
+
+/// Whether that is so for each put from the seventh to the twelfth.
+fn late_puts_are_refused<R: Wait + Threads + Sync>(rt: &R, a: Global) -> bool {
+    is_refused::<7, R>(rt, a, false)
+        && is_refused::<8, R>(rt, a, false)
+        && is_refused::<9, R>(rt, a, false)
+        && is_refused::<10, R>(rt, a, false)
+        && is_refused::<11, R>(rt, a, false)
+        && is_refused::<12, R>(rt, a, false)
+}
+
 #[test]
-fn a_put_is_refused(rt: HostRuntime) -> Result<(), Fail> {
+fn a_put_is_refused(rt: HostRuntime) {
     let a = rt.alloc();
-    assert!(rt; is_refused::<1, HostRuntime>(&rt, a, true)?);
-    assert!(rt; is_refused::<2, HostRuntime>(&rt, a, false)?);
-    assert!(rt; is_refused::<3, HostRuntime>(&rt, a, false)?);
-    assert!(rt; is_refused::<4, HostRuntime>(&rt, a, false)?);
-    assert!(rt; is_refused::<5, HostRuntime>(&rt, a, false)?);
-    assert!(rt; is_refused::<6, HostRuntime>(&rt, a, false)?);
-    assert!(rt; is_refused::<7, HostRuntime>(&rt, a, false)?);
-    assert!(rt; is_refused::<8, HostRuntime>(&rt, a, false)?);
-    assert!(rt; is_refused::<9, HostRuntime>(&rt, a, false)?);
-    assert!(rt; is_refused::<10, HostRuntime>(&rt, a, false)?);
-    assert!(rt; is_refused::<11, HostRuntime>(&rt, a, false)?);
-    assert!(rt; is_refused::<12, HostRuntime>(&rt, a, false)?);
-    Ok(())
+    assert!(rt; is_refused::<1, HostRuntime>(&rt, a, true));
+    assert!(rt; early_puts_are_refused(&rt, a));
+    assert!(rt; late_puts_are_refused(&rt, a));
 }
 
 /// The table of one task, which makes a promise, sets it, gets it, prints and ends with the promise.
 fn small(alloc: Global) -> Result<[RowList; 1], Oom>
     ensures { IfOk result (λ lists. IsTrue (is_table lists) × (0 < length lists)) }
 {
-    let mut rows = Vec::new(alloc);
-    rows.push(Row::New)?;
-    rows.push(Row::Set {
-        p: 1,
-        v: Pay::Num(5),
-    })?;
-    rows.push(Row::Get { p: 1 })?;
-    rows.push(Row::Emit(8))?;
-    rows.push(Row::End(Pay::Ref(1)))?;
+    let rows = [
+        Row::New,
+        Row::Set {
+            p: 1,
+            v: Pay::Num(5),
+        },
+        Row::Get { p: 1 },
+        Row::Emit(8),
+        Row::End(Pay::Ref(1)),
+    ];
+    let rows = Vec::from_array(alloc, rows)?;
     Ok([Items::of(rows)])
 }
 

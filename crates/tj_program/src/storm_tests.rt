@@ -2,17 +2,15 @@
 //! with a body that yields at each ask. Each time what is written is what `plan` writes. More seeds are tried by hand
 //! where `SEEDS` is set higher.
 ghost use Rattle.std.specs.Prelude.{◌≡◌, ◌<◌, ◌≤◌};
-ghost use Rattle.tj_program.specs.TestBodies.ShyAsks as wrapped;
 
-use crate::row_tests::{AGAINST_THE_ORDER, FIB_OF_3, JOIN_EACH_OTHER, ROOM, TWO_WAIT, written};
+use crate::row_tests::{AGAINST_THE_ORDER, FIB_OF_3, JOIN_EACH_OTHER, TWO_WAIT, written};
+use crate::shy_tests::ShyBody;
 use crate::worker_runs::ended_at_rest;
 use std::alloc::Global;
 use std::hint;
 use std::sync::Wait;
 use std::test::Fail;
 use std::thread::{self, Threads};
-use tj_base::Oom;
-use tj_body::{Answer, Ask, Body};
 use tj_eval::{ScriptBody, main_body};
 use tj_modes::Told;
 use tj_ports::{Gate, OpenGate};
@@ -88,63 +86,6 @@ impl Gate for DrawnGate {
     }
 }
 
-/// A body that lets other threads run at each ask.
-#[derive(Drop)]
-struct YieldingBody<B> {
-    body: B,
-}
-
-impl<B: Body> Body for YieldingBody<B> {
-    ghost use Rattle.std.proofs.Common.{refl};
-    ghost use Rattle.tj_program.specs.TestBodies.ShyAsks.{ask_of, obeys_of};
-
-    ghost places = { λ b. B.places b.body };
-
-    ghost awaits = { λ b. B.awaits b.body };
-
-    ghost left = { λ b. B.left b.body };
-
-    ghost asks = { λ b a. ask_of (λ c. record { body = c }) (B.asks b.body a) };
-
-    ghost then = { λ b a. record { body = B.then b.body a } };
-
-    fn next(&mut self, alloc: Global, a: Answer) -> Result<Ask<Self>, Oom> {
-        thread::yield_now();
-        Ok(yielding(self.body.next(alloc, a)?))
-    }
-
-    fn twin(&self, alloc: Global) -> Result<Self, Oom> {
-        Ok(YieldingBody {
-            body: self.body.twin(alloc)?,
-        })
-    }
-
-    ghost obeys = { obeys_of (λ c. record { body = c }) B.places B.awaits B.left (λ b. b.body) (λ b. refl)
-        B.asks B.then (λ b a. record { body = B.then b.body a }) (λ b a. refl) B.obeys };
-}
-
-/// The same ask, whose forks yield too.
-fn yielding<B>(ask: Ask<B>) -> Ask<YieldingBody<B>>
-    ensures { result ≡ wrapped.ask_of (λ c. record { body = c }) ask }
-{
-    match ask {
-        Ask::New => Ask::New,
-        Ask::Fork { body, pass, hand } => Ask::Fork {
-            body: YieldingBody { body },
-            pass,
-            hand,
-        },
-        Ask::Set { p, v } => Ask::Set { p, v },
-        Ask::Get { p } => Ask::Get { p },
-        Ask::Join { t } => Ask::Join { t },
-        Ask::GetOr { p } => Ask::GetOr { p },
-        Ask::JoinOr { t } => Ask::JoinOr { t },
-        Ask::Emit(i) => Ask::Emit(i),
-        Ask::End(v) => Ask::End(v),
-        Ask::Fail(trouble) => Ask::Fail(trouble),
-    }
-}
-
 /// The report of a script whose tasks yield, over workers at a drawn gate.
 fn yielding_report<R: Wait + Threads + Sync>(
     rt: &R,
@@ -161,11 +102,12 @@ fn yielding_report<R: Wait + Threads + Sync>(
     let Ok(script) = script_in(alloc, text.as_bytes()) else {
         return Err(Fail::new("no script"));
     };
-    let root = YieldingBody {
+    let root = ShyBody {
         body: main_body(alloc, &script, 100_000)?,
+        asks: 0,
     };
     let gate = DrawnGate { seed };
-    match run_all::<YieldingBody<ScriptBody<'_>>, StealPool, DrawnGate, R>(
+    match run_all::<ShyBody<ScriptBody<'_>>, StealPool, DrawnGate, R>(
         rt, alloc, root, 4096, workers, &gate, false,
     ) {
         Ok(rest) => Ok(ended_at_rest(alloc, rest, Told::Report)?.output.text),
@@ -186,9 +128,9 @@ fn run_line(seed: u64) -> &'static str {
 #[test]
 fn workers_at_a_drawn_gate(rt: HostRuntime) -> Result<(), Fail> {
     for input in WORKED {
-        let meant = written(&rt, "plan", input, ROOM, &OpenGate)?;
+        let meant = written(&rt, "plan", input, &OpenGate)?;
         for seed in 0..SEEDS {
-            let found = written(&rt, run_line(seed), input, ROOM, &DrawnGate { seed })?;
+            let found = written(&rt, run_line(seed), input, &DrawnGate { seed })?;
             assert!(rt; found.status == meant.status, "{seed}");
             assert!(rt; found.text.as_slice() == meant.text.as_slice(), "{seed}");
         }
@@ -200,7 +142,7 @@ fn workers_at_a_drawn_gate(rt: HostRuntime) -> Result<(), Fail> {
 fn tasks_that_yield_at_each_ask(rt: HostRuntime) -> Result<(), Fail> {
     let alloc = rt.alloc();
     for input in SHORT {
-        let meant = written(&rt, "plan", input, ROOM, &OpenGate)?;
+        let meant = written(&rt, "plan", input, &OpenGate)?;
         for seed in 0..SEEDS {
             let found = if seed % 2 == 0 {
                 yielding_report(&rt, alloc, input, 2, seed)?

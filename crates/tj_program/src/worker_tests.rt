@@ -1,6 +1,6 @@
 //! What tests alone show of the workers: that two of them enter the gate beside each other, and
 //! which closed words a run has.
-use crate::row_tests::{FIB_OF_3, FIB_OF_3_REPORT, JOIN_EACH_OTHER, ROOM, answered, written};
+use crate::row_tests::{FIB_OF_3, FIB_OF_3_REPORT, JOIN_EACH_OTHER, answered, words_of, written};
 use std::process::Abort;
 use std::sync::Wait;
 use std::sync::atomic::{AtomicBool, Ordering};
@@ -50,19 +50,23 @@ impl Gate for MeetingGate {
     }
 }
 
+/// Whether two workers of which this one is held write the report, and the gate saw both of them.
+fn meet(rt: &(impl AllocGlobal + Wait + Threads + Sync), worker: u32) -> Result<bool, Fail> {
+    let gate = MeetingGate::holding(worker);
+    let found = written(rt, "run --workers 2", FIB_OF_3, &gate)?;
+    Ok(
+        found.status == Status::Clean
+            && found.text.as_slice() == FIB_OF_3_REPORT.as_bytes()
+            && gate.held_entered.load(Ordering::SeqCst)
+            && gate.other_entered.load(Ordering::SeqCst)
+            && !gate.gave_up.load(Ordering::SeqCst),
+    )
+}
+
 #[test]
 fn two_workers_enter_beside_each_other(rt: HostRuntime) -> Result<(), Fail> {
     for worker in 1..=2 {
-        let gate = MeetingGate::holding(worker);
-        let found = written(&rt, "run --workers 2", FIB_OF_3, ROOM, &gate)?;
-        assert!(rt; found.status == Status::Clean, "{worker}");
-        assert!(rt;
-            found.text.as_slice() == FIB_OF_3_REPORT.as_bytes(),
-            "{worker}"
-        );
-        assert!(rt; gate.held_entered.load(Ordering::SeqCst), "{worker}");
-        assert!(rt; gate.other_entered.load(Ordering::SeqCst), "{worker}");
-        assert!(rt; !gate.gave_up.load(Ordering::SeqCst), "{worker}");
+        assert!(rt; meet(&rt, worker)?, "{worker}");
     }
     Ok(())
 }
@@ -80,26 +84,33 @@ fn has_alarm(closed: &Closed) -> bool {
 /// How many cells the closed words have that a command line answers for a cycle of two, and whether
 /// a task of theirs has alarmed.
 fn closed_words(
-    rt: &(impl Abort + AllocGlobal + Wait + Threads + Sync),
+    rt: &(impl AllocGlobal + Wait + Threads + Sync),
     line: &str,
 ) -> Result<Option<(u32, bool)>, Fail> {
-    let (_status, closed, _sink) = answered(rt, line, JOIN_EACH_OTHER, ROOM, &OpenGate)?;
-    let Some(closed) = closed else {
-        return Ok(None);
-    };
-    let found = (closed.drawn(), has_alarm(&closed));
-    Ok(Some(found))
+    let words = words_of(rt.alloc(), line)?;
+    let mut text = Vec::new(rt.alloc());
+    match answered(rt, words.as_slice(), JOIN_EACH_OTHER, &mut text, &OpenGate) {
+        (_status, Some(closed)) => Ok(Some((closed.drawn(), has_alarm(&closed)))),
+        (_status, None) => Ok(None),
+    }
 }
+
+/// Command lines, and what is asked of their closed words.
+const LINES: &[(&str, Option<(u32, bool)>)] = &[
+    ("run --workers 1", Some((2, true))),
+    ("run --workers 2", Some((2, true))),
+    ("run --workers 8", Some((2, true))),
+    ("plan", None),
+    ("list", None),
+    ("judge", None),
+    ("run --cells 1", None),
+    ("go", None),
+];
 
 #[test]
 fn a_cycle_of_two_has_alarmed(rt: HostRuntime) -> Result<(), Fail> {
-    for line in ["run --workers 1", "run --workers 2", "run --workers 8"] {
-        let words = closed_words(&rt, line)?;
-        assert!(rt; words == Some((2, true)), "{line}");
-    }
-    for line in ["plan", "list", "judge", "run --cells 1", "go"] {
-        let words = closed_words(&rt, line)?;
-        assert!(rt; words.is_none(), "{line}");
+    for (line, wanted) in LINES {
+        assert!(rt; closed_words(&rt, line)? == *wanted, "{line}");
     }
     Ok(())
 }

@@ -10,5 +10,5 @@ run_all-requires-send-B g c κs within = search (sendable, crosses, expr_sync, s
 pub ended_at_rest-requires : goal.ended_at_rest-requires
 ended_at_rest-requires g c κs = (
   search (sendable, crosses, expr_sync, stmt_sync, script_sync) depth 40,
-  rests_named script_program c.in_ok-root.root 4096 false c.in-Ok-run_all.rest c.in-Ok-run_all.ensures.rest,
+  rests_named script_program c.in-Ok-main_body.root 4096 false c.in-Ok-run_all.rest c.in-Ok-run_all.ensures.rest,
 )

@@ -1,14 +1,12 @@
 //! Worked rows of the mode `known`: which joins were of tasks that the joiner knew of.
-use crate::row_tests::{AGAINST_THE_ORDER, FIB_OF_3, Row, shows_each};
-use crate::tests::THREE;
-use std::test::Fail;
+use crate::row_tests::{AGAINST_THE_ORDER, FIB_OF_3, Row, THREE};
 use tj_command::Status;
 
 const JOINS_A_GRANDCHILD: &str = "task main() { let p = new; fork kid(own p); let g = get p; let v \
     = join g; return v; } task kid(p) { let g = fork one(); set p = g; return 0; } task one() { \
     return 1; }";
 
-const KNOWN: &[Row] = &[
+pub(crate) const KNOWN: &[Row] = &[
     (
         "known",
         FIB_OF_3,
@@ -31,12 +29,7 @@ const KNOWN: &[Row] = &[
     ),
 ];
 
-#[test]
-fn known_joins_of_scripts(rt: HostRuntime) -> Result<(), Fail> {
-    shows_each(&rt, KNOWN)
-}
-
-const LITTLE: &[Row] = &[
+pub(crate) const LITTLE: &[Row] = &[
     (
         "known --cells 1",
         THREE,
@@ -51,8 +44,3 @@ const LITTLE: &[Row] = &[
     ),
     ("known", "", Status::Script, "script fault P5 at 1:1\n"),
 ];
-
-#[test]
-fn known_joins_of_little(rt: HostRuntime) -> Result<(), Fail> {
-    shows_each(&rt, LITTLE)
-}

@@ -1,19 +1,11 @@
 //! Worked rows of limits of cells and of statements, of broken cells and of the strict rule, by hand
 //! from the rules.
-use crate::row_tests::{
-    AGAINST_THE_ORDER, AnyRow, JOIN_EACH_OTHER, Row, TWO_WAIT, shows, shows_any_each, shows_each,
-    shows_lines,
-};
-use std::test::Fail;
+use crate::row_tests::{AGAINST_THE_ORDER, AnyRow, JOIN_EACH_OTHER, Row, TWO_WAIT};
 use tj_command::Status;
 
 const ONE_PROMISE: &str = "task main() { let p = new; return 0; }";
 
 const FORKS_FOR_EVER: &str = "task main() { fork main(); fork main(); return 0; }";
-
-const HALVES: &str = "task main() { let t = fork node(500); let v = join t; return v; } \
-    task node(n) { if n < 2 { return 1; } let a = fork node(n / 2); \
-    let b = fork node(n - n / 2); let x = join a; let y = join b; return x + y; }";
 
 const FIB: &str = "task main() { let t = fork fib(15); let v = join t; print v; return 0; } \
     task fib(n) { if n < 2 { return n; } let a = fork fib(n - 1); \
@@ -23,7 +15,7 @@ const FIB: &str = "task main() { let t = fork fib(15); let v = join t; print v; 
 const LOOP: &str =
     "task main() { let m = 1; let n = 0; while n < 499998 { n = n + m; } return n; }";
 
-const CELLS: &[Row] = &[
+pub(crate) const CELLS: &[Row] = &[
     (
         "run --cells 1",
         ONE_PROMISE,
@@ -66,21 +58,22 @@ const CELLS: &[Row] = &[
         Status::Full,
         "full: more than 4096 cells\n",
     ),
+    (
+        "run --cells 1973",
+        FIB,
+        Status::Full,
+        "full: more than 1973 cells\n",
+    ),
 ];
 
-#[test]
-fn limits_of_cells(rt: HostRuntime) -> Result<(), Fail> {
-    shows_each(&rt, CELLS)
-}
-
-const BROKEN_BY_ANY: &[AnyRow] = &[(
+pub(crate) const BROKEN_BY_ANY: &[AnyRow] = &[(
     "task main() { let p = new; fork kid(own p); let v = get p or 9; return v; } task \
             kid(p) { return 0; }",
     Status::Marked,
     "0 done 9\n0.2 done 0\n0.2 owes 0.1\nmarked\n",
 )];
 
-const BROKEN: &[Row] = &[
+pub(crate) const BROKEN: &[Row] = &[
     (
         "run",
         "task main() { let t = fork bad(); let v = join t or me; return v; } task bad() { \
@@ -110,13 +103,7 @@ const BROKEN: &[Row] = &[
     ),
 ];
 
-#[test]
-fn broken_cells(rt: HostRuntime) -> Result<(), Fail> {
-    shows_any_each(&rt, BROKEN_BY_ANY)?;
-    shows_each(&rt, BROKEN)
-}
-
-const STRICT: &[Row] = &[
+pub(crate) const STRICT: &[Row] = &[
     (
         "run --strict --workers 1",
         JOIN_EACH_OTHER,
@@ -174,28 +161,7 @@ const STRICT: &[Row] = &[
     ),
 ];
 
-#[test]
-fn strict_rule(rt: HostRuntime) -> Result<(), Fail> {
-    shows_each(&rt, STRICT)
-}
-
-#[test]
-fn a_thousand_tasks_under_the_strict_rule(rt: HostRuntime) -> Result<(), Fail> {
-    let front = "0 done 500\n0.1 done 500\n0.1.1 done 250\n0.1.1.1 done 125\n";
-    let words = ("run --strict", HALVES);
-    shows_lines(&rt, words, Status::Clean, 1001, (front, "clean\n"))
-}
-
-#[test]
-fn a_tree_that_needs_1974_cells(rt: HostRuntime) -> Result<(), Fail> {
-    let front = "0 prints 610\n0 done 0\n0.1 done 610\n0.1.1 done 377\n";
-    let words = ("run --cells 1974", FIB);
-    shows_lines(&rt, words, Status::Clean, 1976, (front, "clean\n"))?;
-    let full = "full: more than 1973 cells\n";
-    shows(&rt, "run --cells 1973", FIB, Status::Full, full)
-}
-
-const STATEMENTS: &[Row] = &[
+pub(crate) const STATEMENTS: &[Row] = &[
     (
         "plan --steps 1000000",
         LOOP,
@@ -209,8 +175,3 @@ const STATEMENTS: &[Row] = &[
         "0 failed steps\nmarked\n",
     ),
 ];
-
-#[test]
-fn a_million_statements(rt: HostRuntime) -> Result<(), Fail> {
-    shows_each(&rt, STATEMENTS)
-}

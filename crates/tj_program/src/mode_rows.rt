@@ -1,19 +1,16 @@
 //! Worked rows of the other modes, and of words without a form.
-use crate::row_tests::{Row, shows_each};
-use crate::tests::{THREE, USAGE};
-use std::test::Fail;
+use crate::row_tests::{Row, THREE, USAGE};
 use tj_command::Status;
 
 const CYCLE_OF_TWO: &str = "make 0\nfork 0\nraise 2\npublish 2 1\ncount 2\nowner 2\nwait 2\n\
     settle 2\npublish 0 2\nothers 0\ncount 0\nowner 0\nwait 0\nagain 0\nowner 0\nalarm 0\n";
 
-pub const TWO_WALKS: &str =
-    "fork 0\nfork 0\npublish 2 1\nothers 2\nsettle 2\nraise 1\npublish 1 2\n\
+const TWO_WALKS: &str = "fork 0\nfork 0\npublish 2 1\nothers 2\nsettle 2\nraise 1\npublish 1 2\n\
     publish 0 1\nothers 0\ncount 0\nowner 0\nwait 0\nagain 0\nowner 0\nwait 0\nagain 0\nowner 0\nwait \
     0\nagain 0\nsettle 0\ncount 1\nowner 1\nwait 1\nagain 1\nowner 1\nalarm 1\n";
 
 // Of these the one of 26 events has a walk that ends after nine loads, and another that alarms.
-const JOURNALS: &[Row] = &[
+pub(crate) const JOURNALS: &[Row] = &[
     (
         "judge",
         CYCLE_OF_TWO,
@@ -89,7 +86,7 @@ const JOURNALS: &[Row] = &[
 const THOUSAND: &str = "size 1000 tasks 1001 done 1001 failed 0 waiting 0 owed 0 cycles 0 \
     result 500500\nclean\n";
 
-const WITHOUT_FORM: &[Row] = &[
+pub(crate) const WITHOUT_FORM: &[Row] = &[
     ("run --workers 65", THREE, Status::Usage, USAGE),
     ("plan --workers 2", THREE, Status::Usage, USAGE),
     ("run --cells=5", THREE, Status::Usage, USAGE),
@@ -105,12 +102,7 @@ const WITHOUT_FORM: &[Row] = &[
     ("go", THREE, Status::Usage, USAGE),
 ];
 
-#[test]
-fn words_without_form(rt: HostRuntime) -> Result<(), Fail> {
-    shows_each(&rt, WITHOUT_FORM)
-}
-
-const LISTINGS: &[Row] = &[
+pub(crate) const LISTINGS: &[Row] = &[
     (
         "list",
         "task main(){if 1<2{print (1+2)*3;}else{}return -(4);}",
@@ -127,17 +119,7 @@ const LISTINGS: &[Row] = &[
     ("list", "", Status::Script, "script fault P5 at 1:1\n"),
 ];
 
-#[test]
-fn listings(rt: HostRuntime) -> Result<(), Fail> {
-    shows_each(&rt, LISTINGS)
-}
-
-#[test]
-fn journals(rt: HostRuntime) -> Result<(), Fail> {
-    shows_each(&rt, JOURNALS)
-}
-
-const GENERATED: &[Row] = &[
+pub(crate) const GENERATED: &[Row] = &[
     (
         "gen --size 2",
         "left",
@@ -161,7 +143,27 @@ const GENERATED: &[Row] = &[
     ),
 ];
 
-#[test]
-fn generated(rt: HostRuntime) -> Result<(), Fail> {
-    shows_each(&rt, GENERATED)
-}
+const RELAY_OF_3: &str =
+    "0 prints 1\n0 prints 2\n0 prints 3\n0 done 6\n0.4 done 0\n0.4.1 done 0\nclean\n";
+
+pub(crate) const RELAYS: &[Row] = &[
+    ("relay --size 3 --workers 1", "", Status::Clean, RELAY_OF_3),
+    ("relay --size 3 --workers 2", "", Status::Clean, RELAY_OF_3),
+    ("relay --size 3 --workers 8", "", Status::Clean, RELAY_OF_3),
+    // It reads nothing.
+    ("relay --size 3", THREE, Status::Clean, RELAY_OF_3),
+    ("relay --size 3 --cells 6", "", Status::Clean, RELAY_OF_3),
+    (
+        "relay --size 3 --cells 5",
+        "",
+        Status::Full,
+        "full: more than 5 cells\n",
+    ),
+    ("relay --size 3 --steps 5", "", Status::Usage, USAGE),
+    (
+        "relay --size 1",
+        "",
+        Status::Clean,
+        "0 prints 1\n0 done 1\n0.2 done 0\n0.2.1 done 0\nclean\n",
+    ),
+];

@@ -3,15 +3,11 @@
 //!
 //! A script of size k has k + 1 tasks and k + 1 promises. Its `main` begins 3k + 8 statements, the
 //! last of which returns the sum of 1 to k.
-use crate::row_tests::{Row, shows, shows_each};
-use std::process::Abort;
-use std::sync::Wait;
-use std::test::Fail;
-use std::thread::Threads;
+use crate::row_tests::Row;
 use tj_command::Status;
 
 /// Sizes with exactly the cells and the statements that they need, and with one less of each.
-const EDGES: &[Row] = &[
+pub(crate) const EDGES: &[Row] = &[
     (
         "gen --size 1 --cells 4 --steps 11",
         "",
@@ -67,29 +63,3 @@ const EDGES: &[Row] = &[
         "full: more than 8001 cells\n",
     ),
 ];
-
-#[test]
-fn generated_edges(rt: HostRuntime) -> Result<(), Fail> {
-    shows_each(&rt, EDGES)
-}
-
-/// Asserts what is written for a script of so many tasks, one a line, `main` the first.
-fn shows_tasks(
-    rt: &(impl Abort + AllocGlobal + Wait + Threads + Sync),
-    count: u32,
-    status: Status,
-    output: &str,
-) -> Result<(), Fail> {
-    let alloc = rt.alloc();
-    let mut script = String::from_str(alloc, "task main() { }\n")?;
-    for number in 1..count {
-        script.push_str(format!(in alloc; "task t{number}() {{ }}\n")?.as_str())?;
-    }
-    shows(rt, "run", script.as_str(), status, output)
-}
-
-#[test]
-fn a_task_too_many(rt: HostRuntime) -> Result<(), Fail> {
-    shows_tasks(&rt, 1024, Status::Clean, "0 done 0\nclean\n")?;
-    shows_tasks(&rt, 1025, Status::Script, "script fault P8 at 1025:6\n")
-}
