@@ -38,7 +38,9 @@ fn two_cells_and_a_third_draw(rt: HostRuntime) -> Result<(), Fail> {
     if rec.made != 0 {
         panic!(rt; "it has made nothing yet");
     }
-    let p = make(&laid, &mut seat, root, 1).expect(&rt, "a cell is left");
+    let Ok(p) = make(&laid, &mut seat, root, 1) else {
+        panic!(rt; "a cell is left");
+    };
     holds(&rt, "the next cell", p == CellId(1));
     let full = make(&laid, &mut seat, root, 2);
     holds(&rt, "a third cell isn't there", full == Err(Full));
@@ -54,11 +56,15 @@ fn cells_are_made_filled_and_broken(rt: HostRuntime) -> Result<(), Fail> {
     if rec.made != 0 {
         panic!(rt; "it has made nothing yet");
     }
-    let p = make(&laid, &mut seat, root, 1).expect(&rt, "a cell is left");
+    let Ok(p) = make(&laid, &mut seat, root, 1) else {
+        panic!(rt; "a cell is left");
+    };
     holds(&rt, "not yet", value(&laid, &mut seat, p) == Seen::NotYet);
     fill(&laid, &mut seat, root, p, Fill::Num(5));
     holds(&rt, "filled", value(&laid, &mut seat, p) == Seen::Num(5));
-    let q = make(&laid, &mut seat, root, 2).expect(&rt, "one more is left");
+    let Ok(q) = make(&laid, &mut seat, root, 2) else {
+        panic!(rt; "one more is left");
+    };
     break_off(&laid, &mut seat, root, q);
     holds(&rt, "broken", value(&laid, &mut seat, q) == Seen::Broken);
     Ok(())

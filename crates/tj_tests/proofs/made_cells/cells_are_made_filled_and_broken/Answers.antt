@@ -1,5 +1,5 @@
-use Rattle.tj_park.proofs.Prelude.{CellId, IfOk, IsMade, [], ap, begins_at, child, custody_of, gave_up, makes_promise}
-use Rattle.tj_park.proofs.Prelude.{pos, refl, subst, suc, to_promise, ℕ, ◌∙◌}
+use Rattle.tj_park.proofs.Prelude.{IsMade, [], ap, begins_at, child, custody_of, gave_up, makes_promise}
+use Rattle.tj_park.proofs.Prelude.{pos, refl, suc, to_promise, ℕ, ◌∙◌}
 use Rattle.tj_park.proofs.TestRoots.{claimed_first, closed_root, first_named, first_set, made_is, made_owned, made_root}
 use Rattle.tj_park.proofs.TestRoots.{may_close_promise, may_fill_number, may_make, not_root, second_broken, second_named}
 use Rattle.tj_park.proofs.TestRoots.{three_promises, value_root, will_become, with_rows}
@@ -30,11 +30,9 @@ fill-requires-clause-owner g c κs =
     let runs = claimed_first 3 b three_promises c.in_ok-laid.seat.me c.claim.result c.expect-rec.result v
     (c.new.ensures.table ∙ c.in_ok-lists.ensures) c.new.ensures.list c.in_ok-laid.ensures.view c.expect-rec.ensures
     c.claim.ensures.some in
-    let p = c.expect-p.result.0 in
+    let p = c.in-Ok.p.0 in
     let v2 = c.make.new.seat.me.0 in
-    let made : IsMade sort.Promise c.in_ok-laid.laid.cells 0 p v v2
-    = subst (λ z. IfOk z (λ (d : CellId). IsMade sort.Promise c.in_ok-laid.laid.cells 0 d.0 v v2)) c.expect-p.ensures
-    c.make.ensures.made in
+    let made : IsMade sort.Promise c.in_ok-laid.laid.cells 0 p v v2 = c.in-Ok.ensures.made in
     let k2 = makes_promise p k in
     let v3 = c.value.new.seat.me.0 in
     let none_yet = value_root 3 root k2 v2 (made_root 3 root k v runs p v2 made) p c.value.result v3
@@ -52,11 +50,9 @@ fill-requires-clause-value g c κs =
     let runs = claimed_first 3 b three_promises c.in_ok-laid.seat.me c.claim.result c.expect-rec.result v
     (c.new.ensures.table ∙ c.in_ok-lists.ensures) c.new.ensures.list c.in_ok-laid.ensures.view c.expect-rec.ensures
     c.claim.ensures.some in
-    let p = c.expect-p.result.0 in
+    let p = c.in-Ok.p.0 in
     let v2 = c.make.new.seat.me.0 in
-    let made : IsMade sort.Promise c.in_ok-laid.laid.cells 0 p v v2
-    = subst (λ z. IfOk z (λ (d : CellId). IsMade sort.Promise c.in_ok-laid.laid.cells 0 d.0 v v2)) c.expect-p.ensures
-    c.make.ensures.made in
+    let made : IsMade sort.Promise c.in_ok-laid.laid.cells 0 p v v2 = c.in-Ok.ensures.made in
     let k2 = makes_promise p k in
     let v3 = c.value.new.seat.me.0 in
     let none_yet = value_root 3 root k2 v2 (made_root 3 root k v runs p v2 made) p c.value.result v3
@@ -76,11 +72,9 @@ make-requires-2-clause-may g c κs =
     let runs = claimed_first 3 b three_promises c.in_ok-laid.seat.me c.claim.result c.expect-rec.result v
     (c.new.ensures.table ∙ c.in_ok-lists.ensures) c.new.ensures.list c.in_ok-laid.ensures.view c.expect-rec.ensures
     c.claim.ensures.some in
-    let p = c.expect-p.result.0 in
+    let p = c.in-Ok.p.0 in
     let v2 = c.make.new.seat.me.0 in
-    let made : IsMade sort.Promise c.in_ok-laid.laid.cells 0 p v v2
-    = subst (λ z. IfOk z (λ (d : CellId). IsMade sort.Promise c.in_ok-laid.laid.cells 0 d.0 v v2)) c.expect-p.ensures
-    c.make.ensures.made in
+    let made : IsMade sort.Promise c.in_ok-laid.laid.cells 0 p v v2 = c.in-Ok.ensures.made in
     let k2 = makes_promise p k in
     let v3 = c.value.new.seat.me.0 in
     let none_yet = value_root 3 root k2 v2 (made_root 3 root k v runs p v2 made) p c.value.result v3
@@ -105,11 +99,9 @@ break_off-requires-clause-owner g c κs =
     let runs = claimed_first 3 b three_promises c.in_ok-laid.seat.me c.claim.result c.expect-rec.result v
     (c.new.ensures.table ∙ c.in_ok-lists.ensures) c.new.ensures.list c.in_ok-laid.ensures.view c.expect-rec.ensures
     c.claim.ensures.some in
-    let p = c.expect-p.result.0 in
+    let p = c.in-Ok.p.0 in
     let v2 = c.make.new.seat.me.0 in
-    let made : IsMade sort.Promise c.in_ok-laid.laid.cells 0 p v v2
-    = subst (λ z. IfOk z (λ (d : CellId). IsMade sort.Promise c.in_ok-laid.laid.cells 0 d.0 v v2)) c.expect-p.ensures
-    c.make.ensures.made in
+    let made : IsMade sort.Promise c.in_ok-laid.laid.cells 0 p v v2 = c.in-Ok.ensures.made in
     let k2 = makes_promise p k in
     let v3 = c.value.new.seat.me.0 in
     let none_yet = value_root 3 root k2 v2 (made_root 3 root k v runs p v2 made) p c.value.result v3
@@ -122,11 +114,9 @@ break_off-requires-clause-owner g c κs =
     let v5 = c.value-2.new.seat.me.0 in
     let there = value_root 3 root k4 v4 filled p c.value-2.result v5 c.value-2.ensures.not_yet
     c.value-2.ensures.value in
-    let q = c.expect-q.result.0 in
+    let q = c.in-Ok-make.q.0 in
     let v6 = c.make-2.new.seat.me.0 in
-    let second : IsMade sort.Promise c.in_ok-laid.laid.cells 0 q v5 v6
-    = subst (λ z. IfOk z (λ (d : CellId). IsMade sort.Promise c.in_ok-laid.laid.cells 0 d.0 v5 v6)) c.expect-q.ensures
-    c.make-2.ensures.made in
+    let second : IsMade sort.Promise c.in_ok-laid.laid.cells 0 q v5 v6 = c.in-Ok-make.ensures.made in
     let k5 = makes_promise q k4 in
     let runs5 = made_root 3 root k4 v5 there.0 q v6 second in
     let apart5 = not_root 3 root k4 v5 there.0 q v6 second in
@@ -142,11 +132,9 @@ break_off-requires-clause-broken g c κs =
     let runs = claimed_first 3 b three_promises c.in_ok-laid.seat.me c.claim.result c.expect-rec.result v
     (c.new.ensures.table ∙ c.in_ok-lists.ensures) c.new.ensures.list c.in_ok-laid.ensures.view c.expect-rec.ensures
     c.claim.ensures.some in
-    let p = c.expect-p.result.0 in
+    let p = c.in-Ok.p.0 in
     let v2 = c.make.new.seat.me.0 in
-    let made : IsMade sort.Promise c.in_ok-laid.laid.cells 0 p v v2
-    = subst (λ z. IfOk z (λ (d : CellId). IsMade sort.Promise c.in_ok-laid.laid.cells 0 d.0 v v2)) c.expect-p.ensures
-    c.make.ensures.made in
+    let made : IsMade sort.Promise c.in_ok-laid.laid.cells 0 p v v2 = c.in-Ok.ensures.made in
     let k2 = makes_promise p k in
     let v3 = c.value.new.seat.me.0 in
     let none_yet = value_root 3 root k2 v2 (made_root 3 root k v runs p v2 made) p c.value.result v3
@@ -159,11 +147,9 @@ break_off-requires-clause-broken g c κs =
     let v5 = c.value-2.new.seat.me.0 in
     let there = value_root 3 root k4 v4 filled p c.value-2.result v5 c.value-2.ensures.not_yet
     c.value-2.ensures.value in
-    let q = c.expect-q.result.0 in
+    let q = c.in-Ok-make.q.0 in
     let v6 = c.make-2.new.seat.me.0 in
-    let second : IsMade sort.Promise c.in_ok-laid.laid.cells 0 q v5 v6
-    = subst (λ z. IfOk z (λ (d : CellId). IsMade sort.Promise c.in_ok-laid.laid.cells 0 d.0 v5 v6)) c.expect-q.ensures
-    c.make-2.ensures.made in
+    let second : IsMade sort.Promise c.in_ok-laid.laid.cells 0 q v5 v6 = c.in-Ok-make.ensures.made in
     let k5 = makes_promise q k4 in
     let runs5 = made_root 3 root k4 v5 there.0 q v6 second in
     let apart5 = not_root 3 root k4 v5 there.0 q v6 second in
