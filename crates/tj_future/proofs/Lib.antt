@@ -1,7 +1,6 @@
 pub mod Looking
 pub mod Polling
 pub mod RootRecords
-mod ThreadSends
-mod SecondSeats
+pub mod ThreadSends
 mod TakenSeats
 mod LookAnswers

@@ -46,8 +46,7 @@ some_none x e = cc
 -- TAG of a value, and of what is broken
 tag_low : (f : Fill) → tag_word (Some f) ≢ 4
 tag_low (fill.Num i) e = omega arith
-tag_low (fill.Promise c) e = omega arith
-tag_low (fill.Task c) e = omega arith
+tag_low f e = omega arith
 
 tag_some : (o : Option Fill) → tag_word o ≢ 0
 tag_some None e = omega arith

@@ -166,10 +166,7 @@ module _ {B : Type 0} where
 
         by : (z : Seen) → s ≡ z → IsIdle w
         by seen.NotYet e = nothing (none e)
-        by (seen.Num n) e = value (sees (λ q. let d : seen.Num n ≡ seen.NotYet = sym e ∙ q in cc))
-        by (seen.Promise c) e = value (sees (λ q. let d : seen.Promise c ≡ seen.NotYet = sym e ∙ q in cc))
-        by (seen.Task c) e = value (sees (λ q. let d : seen.Task c ≡ seen.NotYet = sym e ∙ q in cc))
-        by seen.Broken e = value (sees (λ q. let d : seen.Broken ≡ seen.NotYet = sym e ∙ q in cc))
+        by z e = value (sees (λ q. let d : z ≡ seen.NotYet = sym e ∙ q in cc))
 
   -- a look that found LIVE to be 0 tells what it found of the cell after that
   module _ (law : NoValueComes B) (program : Bool → B → Program B) (cells p : ℕ) (v at w : View B)
@@ -188,27 +185,8 @@ module _ {B : Type 0} where
       where
         by : (z : Seen) → s ≡ z → Answers program cells p (told_as z) v w
         by seen.NotYet e = rests_then (none e)
-        by (seen.Num i) e = inr (
+        by z e = inr (
           at,
           comes,
-          subst (λ z. SeesValue program cells p z at w) e
-              (sees (λ q. let d : seen.Num i ≡ seen.NotYet = sym e ∙ q in cc)),
-        )
-        by (seen.Promise c) e = inr (
-          at,
-          comes,
-          subst (λ z. SeesValue program cells p z at w) e
-              (sees (λ q. let d : seen.Promise c ≡ seen.NotYet = sym e ∙ q in cc)),
-        )
-        by (seen.Task c) e = inr (
-          at,
-          comes,
-          subst (λ z. SeesValue program cells p z at w) e
-              (sees (λ q. let d : seen.Task c ≡ seen.NotYet = sym e ∙ q in cc)),
-        )
-        by seen.Broken e = inr (
-          at,
-          comes,
-          subst (λ z. SeesValue program cells p z at w) e
-              (sees (λ q. let d : seen.Broken ≡ seen.NotYet = sym e ∙ q in cc)),
+          subst (λ y. SeesValue program cells p y at w) e (sees (λ q. let d : z ≡ seen.NotYet = sym e ∙ q in cc)),
         )

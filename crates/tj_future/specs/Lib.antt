@@ -1,6 +1,5 @@
 pub mod Looks
 pub mod Polls
 pub mod RootWatches
-pub mod TestBodies
 pub mod WatchedRuns
 pub mod LooksStand

@@ -4,11 +4,7 @@
 
 mod beside;
 mod looks;
-#[cfg(test)]
-mod own_body_tests;
 mod polls;
-#[cfg(test)]
-mod tests;
 mod watched;
 
 pub use beside::run_watched;
@@ -16,10 +12,6 @@ pub use looks::{look_at, watch};
 pub use polls::{CellWait, Polled};
 pub use watched::Watched;
 
-#[cfg(test)]
-mod answer_tests;
-#[cfg(test)]
-mod beside_tests;
 mod look_laws;
 
 pub use look_laws::looks_stand;

@@ -15,7 +15,6 @@ ghost use Rattle.tj_words.specs.LawParts.Lots.{least_lot};
 ghost use Rattle.tj_words.specs.SeatViews.SeatSteps.{IsSeatOf};
 ghost use Rattle.tj_words.specs.SeatViews.Views.{IsIdle, left_half};
 
-use crate::{CellWait, Polled, Watched};
 use futures::executor::block_on;
 use std::alloc::{AllocGlobal, Global};
 use std::process::Abort;
@@ -26,6 +25,7 @@ use std::thread::{Threads, join};
 use tj_base::{CellId, Items};
 use tj_chan::{ChanBody, ChatRow, TableChat, is_chat_table};
 use tj_eval::{ScriptBody, main_body};
+use tj_future::{CellWait, Polled, Watched};
 use tj_lex::{MAX_TEXT, tokens};
 use tj_ports::OpenGate;
 use tj_ready::{Pool, StealPool};
@@ -115,10 +115,11 @@ fn a_promise_of_a_script_is_waited_for(rt: HostRuntime) -> Result<(), Fail> {
         task giver(p) { set p = 20; return 0; }";
     let script = script(&rt, rt.alloc(), text);
     let root = main_body(rt.alloc(), &script, 100)?;
-    match told_beside::<ScriptBody<'_>, StealPool, HostRuntime>(&rt, rt.alloc(), root, 8, 2) {
-        Ok(told) => assert_eq!(rt; told, Some(Watched::Value(Fill::Num(20))), "the promise"),
-        Err(_) => assert!(rt; false, "eight cells are enough"),
-    }
+    let told = told_beside::<ScriptBody<'_>, StealPool, HostRuntime>(&rt, rt.alloc(), root, 8, 2);
+    assert!(rt;
+        matches!(told, Ok(Some(Watched::Value(Fill::Num(20))))),
+        "the promise"
+    );
     Ok(())
 }
 
@@ -130,15 +131,16 @@ fn an_item_of_a_channel_is_waited_for(rt: HostRuntime) -> Result<(), Fail> {
         panic!(rt; "no table");
     }
     let root = ChanBody::new(rt.alloc(), TableChat::new(&lists, 0))?;
-    match told_beside::<ChanBody<TableChat<'_>>, StealPool, HostRuntime>(
+    let told = told_beside::<ChanBody<TableChat<'_>>, StealPool, HostRuntime>(
         &rt,
         rt.alloc(),
         root,
         8,
         2,
-    ) {
-        Ok(told) => assert_eq!(rt; told, Some(Watched::Value(Fill::Num(5))), "the item"),
-        Err(_) => assert!(rt; false, "eight cells are enough"),
-    }
+    );
+    assert!(rt;
+        matches!(told, Ok(Some(Watched::Value(Fill::Num(5))))),
+        "the item"
+    );
     Ok(())
 }

@@ -7,7 +7,7 @@ use Rattle.std.proofs.Common.{[]}
 use Rattle.tj_words.specs.contracts.view.View as view
 use Rattle.tj_run.proofs.Seats.ThreadSends.{laid_sync, slot_send}
 use Rattle.tj_future.proofs.ThreadSends.{three_send}
-use Rattle.tj_future.proofs.tests.polled_beside.Goals as goal
+use Rattle.tj_table_tests.proofs.waits_beside.waited_beside.Goals as goal
 
 pub join-told-requires-send-F : goal.join-told-requires-send-F
 join-told-requires-send-F g c κs within =
