@@ -1,5 +1,5 @@
-//! Tests by hand of the crates that share a table, by public calls: waits from outside, beside workers. They
-//! stand apart as those of tj_tests do, which waits for none of these crates.
+//! Tests by hand of waits from outside, beside workers, by public calls. They stand apart from those of
+//! tj_tests, which need no crate above tj_park.
 #![tactic(auto)]
 
 #[cfg(test)]
