@@ -2,7 +2,6 @@
 ghost use Rattle.std.specs.Prelude.{◌<◌, length, IsTrue};
 ghost use Rattle.tj_chan.specs.ChatTables.{is_chat_table};
 
-use crate::outcomes::outcome_text;
 use crate::shown::{holds, reads};
 use crate::tables::Chats::{Emit, Fail, Open, Recv, Send, Spawn};
 use crate::tables::{Chats, chat_lists};
@@ -10,10 +9,9 @@ use std::alloc::Global;
 use std::process::Abort;
 use std::test;
 use tj_base::{Oom, Trouble};
-use tj_chan::{
-    ChanBody, ChatAnswer, ChatAsk, ChatRowList, Chatter, TableChat, is_chat_table, relay_root,
-};
+use tj_chan::{ChanBody, ChatAnswer, ChatAsk, ChatRowList, Chatter, TableChat, is_chat_table};
 use tj_mean::{PlanFault, plan};
+use tj_report::report_text;
 
 /// What is told of the root with the first of these lists.
 struct Case {
@@ -29,7 +27,7 @@ const CASES: &[Case] = &[
             &[Open(2), Spawn(1, &[0], &[0]), Recv(0), Emit(5), Recv(0)],
             &[Send(0, 5)],
         ],
-        text: "0:5,broken 0.2 0.3:d0-0.2 marked",
+        text: "0 prints 5\n0 failed broken 0.2\n0.3 done 0\n0.3 owes 0.2\nmarked\n",
     },
     Case {
         shows: "two receivers get the same items",
@@ -37,7 +35,7 @@ const CASES: &[Case] = &[
             &[Open(2), Spawn(1, &[0], &[]), Send(0, 7), Send(0, 8)],
             &[Recv(0), Recv(0)],
         ],
-        text: "0:d0 0.3:d0 clean",
+        text: "0 done 0\n0.3 done 0\nclean\n",
     },
     Case {
         shows: "receivers that wait for each other are a cycle",
@@ -51,7 +49,8 @@ const CASES: &[Case] = &[
             ],
             &[Recv(0), Send(1, 1)],
         ],
-        text: "0:w0.2 0.3:w0.1 !0>0.2,0.3>0.1, marked",
+        text: "0 waits for 0.2\n0.3 waits for 0.1\nalarm 0 waits for 0.2, 0.3 waits for 0.1\n\
+            marked\n",
     },
     Case {
         shows: "one channel at two places is one",
@@ -59,7 +58,7 @@ const CASES: &[Case] = &[
             &[Open(2), Spawn(1, &[0, 0], &[0]), Recv(0), Recv(0)],
             &[Send(1, 7), Send(0, 8), Recv(0), Recv(1)],
         ],
-        text: "0:d0 0.3:d0 clean",
+        text: "0 done 0\n0.3 done 0\nclean\n",
     },
     Case {
         shows: "a sender that fails cuts its channel",
@@ -67,7 +66,7 @@ const CASES: &[Case] = &[
             &[Open(1), Spawn(1, &[0], &[0]), Recv(0)],
             &[Fail(Trouble::Arith)],
         ],
-        text: "0:broken 0.1 0.2:arith-0.1 marked",
+        text: "0 failed broken 0.1\n0.2 failed arith\n0.2 owes 0.1\nmarked\n",
     },
     Case {
         shows: "a child opens a channel behind a passed one",
@@ -75,7 +74,7 @@ const CASES: &[Case] = &[
             &[Open(1), Spawn(1, &[0], &[0]), Recv(0)],
             &[Open(1), Recv(1)],
         ],
-        text: "0:w0.1 0.2:w0.2.1 !0.2>0.2.1, marked",
+        text: "0 waits for 0.1\n0.2 waits for 0.2.1\nalarm 0.2 waits for 0.2.1\nmarked\n",
     },
     Case {
         shows: "a receive after all items fails for kind",
@@ -83,7 +82,7 @@ const CASES: &[Case] = &[
             &[Open(1), Spawn(1, &[0], &[0]), Recv(0), Recv(0)],
             &[Send(0, 5)],
         ],
-        text: "0:kind 0.2:d0 marked",
+        text: "0 failed kind\n0.2 done 0\nmarked\n",
     },
     Case {
         shows: "one end by two places is given once",
@@ -92,7 +91,7 @@ const CASES: &[Case] = &[
             &[Spawn(2, &[0, 1], &[0, 1])],
             &[],
         ],
-        text: "0:d0 0.2:kind-0.1 marked",
+        text: "0 done 0\n0.2 failed kind\n0.2 owes 0.1\nmarked\n",
     },
 ];
 
@@ -154,7 +153,7 @@ fn planned(rt: &impl Abort, alloc: Global, written: &[&[Chats]]) -> Result<Vec<u
     }
     let body = ChanBody::new(alloc, TableChat::new(&lists, 0))?;
     match plan(alloc, &body, 16, false) {
-        Ok(o) => outcome_text(alloc, &o),
+        Ok(o) => report_text(alloc, &o),
         Err(PlanFault::Full) => panic!(rt; "full"),
         Err(PlanFault::Oom) => Err(Oom),
     }
@@ -173,55 +172,28 @@ fn programs_end_as_told(rt: HostRuntime) -> Result<(), test::Fail> {
 fn faults_of_kind(rt: HostRuntime) -> Result<(), test::Fail> {
     for (shows, lists) in FAULTS {
         let text = planned(&rt, rt.alloc(), lists)?;
-        holds(&rt, shows, text.as_slice().starts_with(b"0:kind"));
+        holds(&rt, shows, text.as_slice().starts_with(b"0 failed kind\n"));
     }
     Ok(())
 }
 
-/// Sizes and numbers of cells, and what is told of the relay.
-const RELAYS: &[(u32, u32, &str)] = &[
-    (3, 6, "0:1,2,3,d6 0.4:d0 0.4.1:d0 clean"),
-    (3, 5, "full"),
-    // It has no first half.
-    (1, 4, "0:1,d1 0.2:d0 0.2.1:d0 clean"),
-];
-
-/// What is told of the relay of this size, or "full".
-fn relayed(rt: &impl Abort, alloc: Global, size: u32, cells: u32) -> Result<Vec<u8>, Oom> {
-    if size == 0 || size > 4000 || cells == 0 || cells > 16_384 {
-        panic!(rt; "no relay");
-    }
-    let body = ChanBody::new(alloc, relay_root(size))?;
-    match plan(alloc, &body, cells, false) {
-        Ok(o) => outcome_text(alloc, &o),
-        Err(PlanFault::Full) => Ok(Vec::from_slice(alloc, b"full")?),
-        Err(PlanFault::Oom) => Err(Oom),
-    }
-}
-
-#[test]
-fn relays(rt: HostRuntime) -> Result<(), test::Fail> {
-    for (size, cells, text) in RELAYS {
-        let told = relayed(&rt, rt.alloc(), *size, *cells)?;
-        reads(&rt, "a relay", told.as_slice(), text.as_bytes());
-    }
-    Ok(())
-}
-
-/// Whether a table's chatter opens a channel for two items and fails then, and its twin stays behind.
+/// Whether a table's chatter opens a channel for two items and fails then, and so does a twin that
+/// stays behind.
 fn fails_behind(alloc: Global, lists: &[ChatRowList]) -> Result<bool, Oom>
     requires table { IsTrue (is_chat_table lists.now) }
     requires some { 0 < length lists.now }
 {
     let mut chat = TableChat::new(lists, 0);
-    let first = chat.next(alloc, ChatAnswer::Start)?;
-    if first != ChatAsk::Open(2) {
+    let ChatAsk::Open(2) = chat.next(alloc, ChatAnswer::Start)? else {
         return Ok(false);
-    }
-    let twin = chat.twin(alloc)?;
-    let same = twin == chat;
-    let second = chat.next(alloc, ChatAnswer::Chan(0))?;
-    Ok(same && second == ChatAsk::Fail(Trouble::Arith) && twin != chat)
+    };
+    let mut twin = chat.twin(alloc)?;
+    let last = chat.next(alloc, ChatAnswer::Chan(0))?;
+    let behind = twin.next(alloc, ChatAnswer::Chan(0))?;
+    Ok(
+        matches!(last, ChatAsk::Fail(Trouble::Arith))
+            && matches!(behind, ChatAsk::Fail(Trouble::Arith)),
+    )
 }
 
 #[test]
@@ -230,6 +202,10 @@ fn rows_come_in_order_and_then_the_end(rt: HostRuntime) -> Result<(), test::Fail
     if lists.is_empty() || !is_chat_table(&lists) {
         panic!(rt; "no table");
     }
-    assert!(rt; fails_behind(rt.alloc(), &lists)?);
+    holds(
+        &rt,
+        "an open, and a fault",
+        fails_behind(rt.alloc(), &lists)?,
+    );
     Ok(())
 }

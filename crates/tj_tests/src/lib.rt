@@ -9,6 +9,8 @@ mod event_lists;
 #[cfg(test)]
 mod fork_transcripts;
 #[cfg(test)]
+mod fork_trees;
+#[cfg(test)]
 mod generated_texts;
 #[cfg(test)]
 mod joins_told;
@@ -17,13 +19,15 @@ mod journals;
 #[cfg(test)]
 mod listings;
 #[cfg(test)]
-mod outcomes;
+mod made_cells;
 #[cfg(test)]
-mod places_of_parts;
+mod new_tables;
+#[cfg(test)]
+mod outcomes;
 #[cfg(test)]
 mod printed_names;
 #[cfg(test)]
-mod reports;
+mod ready_pools;
 #[cfg(test)]
 mod script_faults;
 #[cfg(test)]
@@ -39,18 +43,10 @@ mod task_ends;
 #[cfg(test)]
 mod token_lists;
 #[cfg(test)]
-mod trace_lines;
+mod trace_rows;
 #[cfg(test)]
 mod traces;
 #[cfg(test)]
 mod transcripts;
 #[cfg(test)]
 mod wait_transcripts;
-#[cfg(test)]
-mod fork_trees;
-#[cfg(test)]
-mod made_cells;
-#[cfg(test)]
-mod new_tables;
-#[cfg(test)]
-mod ready_pools;

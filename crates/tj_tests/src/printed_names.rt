@@ -1,9 +1,9 @@
-//! Printed names and the two orders, by hand.
+//! Printed names and the two orders on names, by hand.
 use crate::shown::{holds, reads};
 use std::alloc::Global;
 use std::cmp::Ordering;
 use std::test::Fail;
-use tj_base::{Name, Oom, add_number, add_signed, name_cmp, path_before};
+use tj_base::{Name, Oom, name_cmp, path_before};
 
 /// Numbers, and the name that is printed for them.
 const NAMES: &[(&[u32], &[u8])] = &[
@@ -121,21 +121,5 @@ fn the_two_orders_on_names(rt: HostRuntime) -> Result<(), Fail> {
         let found = orders(rt.alloc(), pair)?;
         holds(&rt, pair.shows, found == (pair.before, pair.compare));
     }
-    Ok(())
-}
-
-/// The texts of three numbers, one behind the other.
-fn numbers(alloc: Global) -> Result<Vec<u8>, Oom> {
-    let mut text = Vec::new(alloc);
-    add_number(&mut text, 4294967295)?;
-    add_signed(&mut text, -12)?;
-    add_number(&mut text, 0)?;
-    Ok(text)
-}
-
-#[test]
-fn numbers_are_printed(rt: HostRuntime) -> Result<(), Fail> {
-    let text = numbers(rt.alloc())?;
-    reads(&rt, "numbers", text.as_slice(), b"4294967295-120");
     Ok(())
 }

@@ -1,16 +1,11 @@
 //! Faults and their places, on scripts of one line.
 use crate::shown::holds;
 use std::alloc::Global;
-use std::test::Fail;
 use tj_lex::{MAX_TEXT, tokens};
 use tj_syntax::{ParseFault, parse};
 
 /// The number of a fault's kind, its line and its column.
 type Spot = (u8, u32, u32);
-
-const PRINT: &str = "task main() { print ";
-
-const BLOCK: &str = "task main() { ";
 
 const FIRST: &[(&str, &str, Spot)] = &[
     ("a script", "task main() { return 1 + 2; }", (0, 0, 0)),
@@ -143,152 +138,6 @@ const FIRST: &[(&str, &str, Spot)] = &[
     ),
 ];
 
-/// Parts of a text, of which the second is written so many times, and the fourth too.
-struct Nested {
-    front: &'static str,
-    open: &'static str,
-    times: u32,
-    middle: &'static str,
-    close: &'static str,
-    back: &'static str,
-}
-
-// The task's own brace is the first level, so that 63 more are the most.
-const NESTED: &[(Nested, Spot)] = &[
-    (
-        Nested {
-            front: PRINT,
-            open: "-",
-            times: 63,
-            middle: "1",
-            close: "",
-            back: "; }",
-        },
-        (0, 0, 0),
-    ),
-    (
-        Nested {
-            front: PRINT,
-            open: "-",
-            times: 64,
-            middle: "1",
-            close: "",
-            back: "; }",
-        },
-        (7, 1, 84),
-    ),
-    (
-        Nested {
-            front: PRINT,
-            open: "(",
-            times: 63,
-            middle: "1",
-            close: ")",
-            back: "; }",
-        },
-        (0, 0, 0),
-    ),
-    (
-        Nested {
-            front: PRINT,
-            open: "(",
-            times: 64,
-            middle: "1",
-            close: ")",
-            back: "; }",
-        },
-        (7, 1, 84),
-    ),
-    (
-        Nested {
-            front: BLOCK,
-            open: "if 1 { ",
-            times: 63,
-            middle: "",
-            close: "} ",
-            back: "}",
-        },
-        (0, 0, 0),
-    ),
-    (
-        Nested {
-            front: BLOCK,
-            open: "if 1 { ",
-            times: 64,
-            middle: "",
-            close: "} ",
-            back: "}",
-        },
-        (7, 1, 461),
-    ),
-    // Braces without their ends: the end of the text can't follow.
-    (
-        Nested {
-            front: BLOCK,
-            open: "if 1 { ",
-            times: 63,
-            middle: "",
-            close: "",
-            back: "",
-        },
-        (1, 1, 456),
-    ),
-    // A parenthesis and a sign in each, and one sign more.
-    (
-        Nested {
-            front: PRINT,
-            open: "(-",
-            times: 31,
-            middle: "-1",
-            close: ")",
-            back: "; }",
-        },
-        (0, 0, 0),
-    ),
-    (
-        Nested {
-            front: PRINT,
-            open: "(-",
-            times: 32,
-            middle: "1",
-            close: ")",
-            back: "; }",
-        },
-        (7, 1, 84),
-    ),
-    // A brace and a loop's condition of one sign and one parenthesis, which are closed again.
-    (
-        Nested {
-            front: BLOCK,
-            open: "while -(1) { ",
-            times: 61,
-            middle: "print --1; ",
-            close: "} ",
-            back: "}",
-        },
-        (0, 0, 0),
-    ),
-    (
-        Nested {
-            front: BLOCK,
-            open: "fork main(); ",
-            times: 90,
-            middle: "",
-            close: "",
-            back: "}",
-        },
-        (0, 0, 0),
-    ),
-];
-
-/// Texts behind 256 variables.
-const BEHIND: &[(&str, &str, Spot)] = &[
-    ("256 variables", "}", (0, 0, 0)),
-    ("the 257th", "let x = 1; }", (8, 1, 3347)),
-    ("the 257th, declared twice", "let _aa = 1; }", (3, 1, 3347)),
-    ("the last of them is known", "print _pp; }", (0, 0, 0)),
-];
-
 /// The fault of a text, or three times 0 where it is a script.
 fn fault(alloc: Global, text: &[u8]) -> Spot {
     if text.len() > MAX_TEXT {
@@ -316,50 +165,4 @@ fn first_faults(rt: HostRuntime) {
     for (shows, text, spot) in FIRST {
         holds(&rt, shows, fault(rt.alloc(), text.as_bytes()) == *spot);
     }
-}
-
-fn written(alloc: Global, parts: &Nested) -> Result<Vec<u8>, Fail> {
-    let mut text = Vec::from_slice(alloc, parts.front.as_bytes())?;
-    for _ in 0..parts.times {
-        text.extend_from_slice(parts.open.as_bytes())?;
-    }
-    text.extend_from_slice(parts.middle.as_bytes())?;
-    for _ in 0..parts.times {
-        text.extend_from_slice(parts.close.as_bytes())?;
-    }
-    text.extend_from_slice(parts.back.as_bytes())?;
-    Ok(text)
-}
-
-#[test]
-fn nesting(rt: HostRuntime) -> Result<(), Fail> {
-    for (parts, spot) in NESTED {
-        let text = written(rt.alloc(), parts)?;
-        holds(&rt, parts.open, fault(rt.alloc(), text.as_slice()) == *spot);
-    }
-    Ok(())
-}
-
-/// A task with 256 variables.
-fn with_variables(alloc: Global, back: &str) -> Result<Vec<u8>, Fail> {
-    let mut text = Vec::from_slice(alloc, BLOCK.as_bytes())?;
-    for i in 0..16_u8 {
-        for j in 0..16_u8 {
-            let name = [b'_', b'a' + i, b'a' + j];
-            text.extend_from_slice(b"let ")?;
-            text.extend_from_slice(&name)?;
-            text.extend_from_slice(b" = 1; ")?;
-        }
-    }
-    text.extend_from_slice(back.as_bytes())?;
-    Ok(text)
-}
-
-#[test]
-fn variables(rt: HostRuntime) -> Result<(), Fail> {
-    for (shows, back, spot) in BEHIND {
-        let text = with_variables(rt.alloc(), back)?;
-        holds(&rt, shows, fault(rt.alloc(), text.as_slice()) == *spot);
-    }
-    Ok(())
 }

@@ -15,6 +15,8 @@ const NUM: Pay = Pay::Num(5);
 
 const KIND: Expected = Expected::Fail(Trouble::Kind);
 
+const END: Expected = Expected::End(Pay::Num(0));
+
 /// What a row of a table shows, the row, and what it asks of a task that has the place 0 alone.
 const ASKS: &[(&str, Says, Expected)] = &[
     ("new", Says::New, Expected::New),
@@ -60,20 +62,19 @@ fn each_row_is_asked(rt: HostRuntime) -> Result<(), Fail> {
     Ok(())
 }
 
-/// Whether a table of one row asks it and ends then, and its twin stays behind.
+/// Whether a table of one row asks it and ends then, and so does a twin that stays behind.
 fn ends_behind(alloc: Global, lists: &[RowList]) -> Result<bool, Oom>
     requires table { IsTrue (is_table lists.now) }
     requires some { 0 < length lists.now }
 {
     let mut body = TableBody::new(lists, 0);
-    let first = body.next(alloc, Answer::Start)?;
-    if first != Ask::New {
+    let Ask::New = body.next(alloc, Answer::Start)? else {
         return Ok(false);
-    }
-    let twin = body.twin(alloc)?;
-    let same = twin == body;
+    };
+    let mut twin = body.twin(alloc)?;
     let last = body.next(alloc, Answer::Local(1))?;
-    Ok(same && last == Ask::End(Pay::Num(0)) && twin != body)
+    let behind = twin.next(alloc, Answer::Local(1))?;
+    Ok(is_expected(&last, END) && is_expected(&behind, END))
 }
 
 #[test]
@@ -82,6 +83,6 @@ fn rows_come_in_order_and_then_the_end(rt: HostRuntime) -> Result<(), Fail> {
     if lists.is_empty() || !is_table(&lists) {
         panic!(rt; "no table");
     }
-    assert!(rt; ends_behind(rt.alloc(), &lists)?);
+    holds(&rt, "new, and the end", ends_behind(rt.alloc(), &lists)?);
     Ok(())
 }

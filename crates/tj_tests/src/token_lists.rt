@@ -1,8 +1,6 @@
 use crate::shown::holds;
 use std::alloc::Global;
 use std::process::Abort;
-use std::test::Fail;
-use tj_base::Oom;
 use tj_lex::{Key, LexFault, MAX_TEXT, Mark, Place, Tok, Token, tokens};
 
 /// What a row expects a token to be.
@@ -252,32 +250,4 @@ fn faults(rt: HostRuntime) {
     for (shows, text, wanted) in FAULTS {
         holds(&rt, shows, fault(rt.alloc(), text) == Some(*wanted));
     }
-}
-
-/// A text as long as one may be, of lines with four tokens each.
-fn longest(alloc: Global) -> Result<Vec<u8>, Oom> {
-    let mut text = Vec::with_capacity(alloc, MAX_TEXT)?;
-    for _ in 0..MAX_TEXT / 8 {
-        text.extend_from_slice(b"a<=12;#\n")?;
-    }
-    Ok(text)
-}
-
-/// How many tokens a text has.
-fn count(alloc: Global, text: &[u8]) -> Option<usize> {
-    if text.len() > MAX_TEXT {
-        return None;
-    }
-    match tokens(alloc, text) {
-        Ok(found) => Some(found.len()),
-        Err(_) => None,
-    }
-}
-
-#[test]
-fn long_text(rt: HostRuntime) -> Result<(), Fail> {
-    let text = longest(rt.alloc())?;
-    let wanted = Some(4 * (MAX_TEXT / 8) + 1);
-    assert!(rt; text.len() == MAX_TEXT && count(rt.alloc(), text.as_slice()) == wanted);
-    Ok(())
 }
