@@ -31,7 +31,8 @@ use Rattle.tj_chan.specs.declared.body.Due.TheVariants as due
 use Rattle.tj_chan.specs.declared.chat.ChatAsk.TheVariants as ask
 use Rattle.tj_chan.specs.declared.chat.ChatAnswer.TheVariants as answer
 use Rattle.tj_chan.proofs.Lists.Runs.{found_in, found_by}
-use Rattle.tj_chan.proofs.Linked.Links.{task_of, IsPointFor, IsStageOf, IsReadyFor, IsEntryFor, AreWritesFor, IsWritten}
+use Rattle.tj_chan.proofs.Linked.Links.{task_of, IsPointFor, IsStageOf, IsReadyFor, IsEntryFor, IsToldBy, AreWritesFor}
+use Rattle.tj_chan.proofs.Linked.Links.{IsWritten}
 use Rattle.tj_chan.proofs.Linked.Steps.{program, IsLinked, AskIsLinked}
 use Rattle.tj_chan.proofs.Linked.Entries.{none_past}
 
@@ -107,20 +108,16 @@ module _ (given : List SendingEnd) (name : Name) (handed ends : List SendingEnd)
   abbrev new : List (Name × Entry)
   new = (name, x) ∷ map (with_entry entry.Broken) (in_order holds)
 
-  abbrev IsTold : Name → Entry → Type 0
-  IsTold q y = (q ≡ name) ⊎ ((v : Channel × ChannelState) × (i : ℕ) × IsIn v after × (i < v.0.items)
-      × (q ≡ item v.0 i) × IsEntryFor (found_in v.1 i) y)
-
-  old_told : (q : Name) (y : Entry) → IsIn (q, y) writes → IsTold q y
+  old_told : (q : Name) (y : Entry) → IsIn (q, y) writes → IsToldBy name after q y
   old_told q y i = ⊎_elim (λ e. inl e)
       (λ v. at v (in_either v.0 (map (left_of false) handed) (map (left_of false) ends) v.2)) (w.told q y i) where
         at : (v : (v : Channel × ChannelState) × (i : ℕ) × IsIn v before × (i < v.0.items) × (q ≡ item v.0 i)
             × IsEntryFor (found_in v.1 i) y)
-            → IsIn v.0 (map (left_of false) handed) ⊎ IsIn v.0 (map (left_of false) ends) → IsTold q y
+            → IsIn v.0 (map (left_of false) handed) ⊎ IsIn v.0 (map (left_of false) ends) → IsToldBy name after q y
         at v (inl j) =
             inr (v.0, v.1, in_left v.0 (map (left_of false) handed) (map (left_of true) ends) j, v.3, v.4, v.5)
         at v (inr j) = let m = in_map (left_of false) v.0 ends j in cut m.0 m.1 m.2 where
-          cut : (e : SendingEnd) → IsIn e ends → v.0 ≡ left_of false e → IsTold q y
+          cut : (e : SendingEnd) → IsIn e ends → v.0 ≡ left_of false e → IsToldBy name after q y
           cut e k m = inr (
             left_of true e,
             v.1,
@@ -132,7 +129,7 @@ module _ (given : List SendingEnd) (name : Name) (handed ends : List SendingEnd)
                 (subst (λ (z : Channel × ChannelState). IsEntryFor (found_in z.1 v.1) y) m v.5),
           )
 
-  new_told : (q : Name) (y : Entry) → IsIn (q, y) new → IsTold q y
+  new_told : (q : Name) (y : Entry) → IsIn (q, y) new → IsToldBy name after q y
   new_told q y (inl e) = inl (ap (λ (z : Name × Entry). z.0) e)
   new_told q y (inr i) =
       let m = in_map (with_entry entry.Broken) (q, y) (in_order holds) i in
@@ -215,7 +212,7 @@ module _ {C : Type 0} (rules : ChatRules C) (root : C) (strict : Bool) where
         (b.writes ++ (b.name, x) ∷ map (with_entry entry.Broken) (in_order b.holds))
     writes_at x h = subst
         (λ n. AreWritesFor t.given p.name (map (left_of false) p.handed_on ++ map (left_of true) p.ends)
-        (b.writes ++ (n, x) ∷ map (with_entry entry.Broken) (in_order b.holds))) (sym ready.name)
+        (b.writes ++ (n, x) ∷ map (with_entry entry.Broken) (in_order b.holds))) (sym ready.of_task.0)
         (closed_writes t.given p.name p.handed_on p.ends b.writes b.holds x ready.holds h
         (left_open t p b ready.is_open w))
 
@@ -225,14 +222,10 @@ module _ {C : Type 0} (rules : ChatRules C) (root : C) (strict : Bool) where
         → [] ≡ held_in st p.ends → in_order b.holds ≡ owed_in st p.ends
         → IsPointFor rules (record p { stage = st }) (after_close e x (record b { body = c }))
     closed_point e x st at holds owed = record {
-      name = ready.name;
+      of_task = ready.of_task;
       at_stage = at;
       holds = holds;
       owed = owed;
-      made = ready.made;
-      promises = ready.promises;
-      children = ready.children;
-      prints = ready.prints;
     }
 
     -- a fault, or the chatter's failure
@@ -264,7 +257,13 @@ module _ {C : Type 0} (rules : ChatRules C) (root : C) (strict : Bool) where
       after_emit i (record b { body = record s { due = due.Done } }),
       at,
       record {
-        name = ready.name;
+        of_task = (
+          ready.of_task.0,
+          ready.of_task.1,
+          ready.of_task.2,
+          ready.of_task.3,
+          ap (λ l. l ++ i ∷ []) ready.of_task.4,
+        );
         at_stage = (
           told.Done,
           counted told.Done (record s { due = due.Done }),
@@ -278,10 +277,6 @@ module _ {C : Type 0} (rules : ChatRules C) (root : C) (strict : Bool) where
         );
         holds = ready.holds;
         owed = ready.owed;
-        made = ready.made;
-        promises = ready.promises;
-        children = ready.children;
-        prints = ap (λ l. l ++ i ∷ []) ready.prints;
       },
       left_open t p b ready.is_open w,
     )

@@ -279,7 +279,14 @@ module _ {C : Type 0} (rules : ChatRules C) (root : C) (strict : Bool) where
     after,
     all_news b s (suc d) rules root strict U t d 0 d (omega arith) (subst (IsPointOf P.rules U (task_of t)) first at),
     record {
-      name = ready.name;
+      of_task = (
+        ready.of_task.0,
+        ap (λ n. n + suc d) ready.of_task.1,
+        ap (λ z. z ++ names b s (suc d) d) ready.of_task.2 ∙ ap (λ z. flat_map items_of p.opened ++ z) named
+            ∙ sym (flat_last items_of p.opened c),
+        ready.of_task.3,
+        ready.of_task.4,
+      );
       at_stage = (
         told.Local (length b.references + d),
         settled,
@@ -290,11 +297,6 @@ module _ {C : Type 0} (rules : ChatRules C) (root : C) (strict : Bool) where
       holds = ap (λ z. z ++ names b s (suc d) d) ready.holds ∙ ap (λ z. all_unsent p.ends ++ z) named
           ∙ sym (unsent_last p.ends (new_end c));
       owed = ready.owed;
-      made = ap (λ n. n + suc d) ready.made;
-      promises = ap (λ z. z ++ names b s (suc d) d) ready.promises ∙ ap (λ z. flat_map items_of p.opened ++ z) named
-          ∙ sym (flat_last items_of p.opened c);
-      children = ready.children;
-      prints = ready.prints;
     },
     written_open t p b (suc d) ready.is_open w b.writes refl,
   ) where
@@ -311,7 +313,7 @@ module _ {C : Type 0} (rules : ChatRules C) (root : C) (strict : Bool) where
     settled = with_channel (suc d) (record s { places = s.places + d + 1; due = due.Promise 0 (suc d) })
 
     named : names b s (suc d) d ≡ items_of c
-    named i = things_after (ready.name i) (ready.made i) (suc d)
+    named i = things_after (ready.of_task.0 i) (ready.of_task.1 i) (suc d)
 
     places : s.places + d + 1 ≡ length b.references + suc d
     places = let e = ready.body.places in omega arith

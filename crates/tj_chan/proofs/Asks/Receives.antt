@@ -17,7 +17,7 @@ use Rattle.tj_body.proofs.Histories.Points.{reads_on}
 use Rattle.tj_chan.specs.Channels.{ChatRules, Channel, is_same, item, times, receives, after_receive, after_fault}
 use Rattle.tj_chan.specs.ChannelRounds.{has_ended}
 use Rattle.tj_chan.specs.ChannelOutcomes.{held_in, owed_in}
-use Rattle.tj_chan.specs.ChanBodies.{Turn, row_at, turn_at, receive_turn, changed, counted, turn, fault}
+use Rattle.tj_chan.specs.ChanBodies.{Turn, turn_at, receive_turn, changed, counted, turn, fault}
 use Rattle.tj_chan.specs.declared.chat.ChatAsk.TheVariants as ask
 use Rattle.tj_chan.specs.declared.rows.PromiseRow.{PromiseRow}
 use Rattle.tj_chan.specs.declared.body.Due.TheVariants as due
@@ -27,8 +27,8 @@ use Rattle.tj_chan.proofs.Lists.Runs.{found_entry, after_found}
 use Rattle.tj_chan.proofs.Linked.Links.{AreRowsOf, IsStageOf, task_of, IsReadyFor, IsPointFor}
 use Rattle.tj_chan.proofs.Linked.Steps.{program, IsLinked, AskIsLinked, AnswersAreLinked}
 use Rattle.tj_chan.proofs.Lists.Apart.{is_same_self, same_turned}
-use Rattle.tj_chan.proofs.Lists.Kept.{got_there, in_last}
-use Rattle.tj_chan.proofs.Linked.Rows.{IsFirstRow, row_found, row_missing}
+use Rattle.tj_chan.proofs.Lists.Kept.{in_last}
+use Rattle.tj_chan.proofs.Linked.Rows.{FoundRow, row_found, row_missing}
 use Rattle.tj_chan.proofs.Linked.RowsWith.{item_reference, rows_with}
 use Rattle.tj_chan.proofs.Asks.Faults.{fault_linked, left_open}
 
@@ -64,21 +64,14 @@ module _ {C : Type 0} (rules : ChatRules C) (root : C) (strict : Bool) where
         (subst (λ x. IsAt (after (receive_turn x s)))
         (row_missing p.channels p.received b.references y.apart p.ends s.rows ready.body.rows n h) at)
     by (Some c) h = test (nat_lt (times c p.received) c.items) refl where
-      found : (r : PromiseRow) × (row_at s.rows n ≡ Some r)
-          × IsFirstRow p.channels p.ends p.received b.references s.rows c r
-      found = row_found p.channels p.received b.references y.apart p.ends s.rows ready.body.rows n c h
+      x : FoundRow p.channels p.ends p.received b.references s.rows n c
+      x = row_found p.channels p.received b.references y.apart p.ends s.rows ready.body.rows n c h
 
       r : PromiseRow
-      r = found.0
-
-      x : IsFirstRow p.channels p.ends p.received b.references s.rows c r
-      x = found.2
-
-      here : IsIn c p.channels
-      here = got_there p.channels n c h
+      r = x.row
 
       asked_so : r.asked ≡ times c p.received
-      asked_so = x.is_row.asked refl
+      asked_so = x.is_first.is_row.asked refl
 
       more : PromiseRow
       more = record r { asked = suc r.asked }
@@ -90,8 +83,8 @@ module _ {C : Type 0} (rules : ChatRules C) (root : C) (strict : Bool) where
       turned z = cond z (turn (asked.Get (r.base + r.asked)) due.Item (changed more s)) (fault s)
 
       there : (z : Bool) → nat_lt (times c p.received) c.items ≡ z → IsAt (after (turned z))
-      there z e = subst (λ k. IsAt (after (turned k))) ((λ i. nat_lt (asked_so i) (x.is_row.items i)) ∙ e)
-          (subst (λ k. IsAt (after (receive_turn k s))) found.1 at)
+      there z e = subst (λ k. IsAt (after (turned k))) ((λ i. nat_lt (asked_so i) (x.is_first.is_row.items i)) ∙ e)
+          (subst (λ k. IsAt (after (receive_turn k s))) x.at at)
 
       reference_is : reference_at b.name b.references (r.base + r.asked) ≡ to_promise (item c (times c p.received))
           → IsAt (after (turned true))
@@ -99,15 +92,16 @@ module _ {C : Type 0} (rules : ChatRules C) (root : C) (strict : Bool) where
       reference_is e g = subst (λ (z : Reference). IsAt (after_get false z.sort z.name (record b { body = next }))) e g
 
       rows : AreRowsOf p.channels p.ends (p.received ++ c ∷ []) b.references next.rows
-      rows = rows_with p.channels p.received b.references y.apart p.ends s.rows ready.body.rows c here r more x refl
-          p.ends (p.received ++ c ∷ []) (λ d e. refl) (λ d e. times_other c d p.received (same_turned c d e))
-          (λ d i. ⊎_elim (λ j. ready.body.rows.known d j) (λ e. subst (λ z. IsIn z p.channels) (sym e) here)
+      rows = rows_with p.channels p.received b.references y.apart p.ends s.rows ready.body.rows c x.here r more
+          x.is_first refl p.ends (p.received ++ c ∷ []) (λ d e. refl)
+          (λ d e. times_other c d p.received (same_turned c d e))
+          (λ d i. ⊎_elim (λ j. ready.body.rows.known d j) (λ e. subst (λ z. IsIn z p.channels) (sym e) x.here)
           (in_last d c p.received i)) (record {
-            first = x.is_row.first;
-            items = x.is_row.items;
-            base = x.is_row.base;
-            held = λ e. x.is_row.held refl;
-            sent = λ e. x.is_row.sent refl;
+            first = x.is_first.is_row.first;
+            items = x.is_first.is_row.items;
+            base = x.is_first.is_row.base;
+            held = λ e. x.is_first.is_row.held refl;
+            sent = λ e. x.is_first.is_row.sent refl;
             asked = λ e. ap suc asked_so ∙ sym (times_more c p.received);
           })
 
@@ -120,17 +114,13 @@ module _ {C : Type 0} (rules : ChatRules C) (root : C) (strict : Bool) where
       test true e = (
         with_wait false (item c (times c p.received)) (record b { body = next }),
         reference_is (ap (λ k. reference_at b.name b.references (r.base + k)) asked_so
-            ∙ item_reference p.channels p.received b.references y.apart p.ends s.rows ready.body.rows b.name c r x
-            (times c p.received) (ltb-true (times c p.received) c.items e)) (there true e),
+            ∙ item_reference p.channels p.received b.references y.apart p.ends s.rows ready.body.rows b.name c r
+            x.is_first (times c p.received) (ltb-true (times c p.received) c.items e)) (there true e),
         record {
-          name = ready.name;
+          of_task = ready.of_task;
           at_stage = (refl, refl, record { chatter = ready.body.chatter; places = ready.body.places; rows = rows });
           holds = ready.holds;
           owed = ready.owed;
-          made = ready.made;
-          promises = ready.promises;
-          children = ready.children;
-          prints = ready.prints;
         },
         left_open rules root strict t p b ready.is_open w,
       )
@@ -158,15 +148,11 @@ module _ {C : Type 0} (rules : ChatRules C) (root : C) (strict : Bool) where
 
     ready : IsReadyFor p b b.body
     ready = record {
-      name = f.name;
+      of_task = f.of_task;
       is_open = ap has_ended e;
       body = at_stage.2;
       holds = holds;
       owed = owed;
-      made = f.made;
-      promises = f.promises;
-      children = f.children;
-      prints = f.prints;
     }
 
     by : (o : Option Entry) → U (item c i) ≡ o
@@ -179,7 +165,7 @@ module _ {C : Type 0} (rules : ChatRules C) (root : C) (strict : Bool) where
       history.with_answer (told.Num v) b,
       reads_on P.rules U (task_of t) b (item c i) false (entry.Value (value.Num v)) l.1 at_stage.0 g,
       record {
-        name = f.name;
+        of_task = f.of_task;
         at_stage = (
           told.Num v,
           counted (told.Num v) b.body,
@@ -193,10 +179,6 @@ module _ {C : Type 0} (rules : ChatRules C) (root : C) (strict : Bool) where
         );
         holds = holds;
         owed = owed;
-        made = f.made;
-        promises = f.promises;
-        children = f.children;
-        prints = f.prints;
       },
       left_open rules root strict t p b ready.is_open l.3,
     )

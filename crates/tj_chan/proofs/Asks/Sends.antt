@@ -24,7 +24,7 @@ use Rattle.tj_chan.specs.Channels.{ChatRules, Channel, SendingEnd, ChannelState,
 use Rattle.tj_chan.specs.Channels.{all_unsent, one_more, with_sent, end_of, answered, after_send, after_send_by}
 use Rattle.tj_chan.specs.Channels.{after_fault}
 use Rattle.tj_chan.specs.ChannelRounds.{left_of}
-use Rattle.tj_chan.specs.ChanBodies.{Turn, row_at, send_turn, changed, counted, turn, fault}
+use Rattle.tj_chan.specs.ChanBodies.{Turn, send_turn, changed, counted, turn, fault}
 use Rattle.tj_chan.specs.Inner.RowLaws.{get_last}
 use Rattle.tj_chan.specs.declared.chat.ChatAnswer.TheVariants as answer
 use Rattle.tj_chan.specs.declared.chat.ChatAsk.TheVariants as ask
@@ -33,12 +33,12 @@ use Rattle.tj_chan.specs.declared.body.Due.TheVariants as due
 use Rattle.tj_chan.specs.declared.body.ChanBody.{ChanBody}
 use Rattle.tj_chan.proofs.Lists.Runs.{AreOneOrApart, found_in, found_by}
 use Rattle.tj_chan.proofs.Linked.Items.{drop-things}
-use Rattle.tj_chan.proofs.Linked.Links.{sent_by, is_held, AreRowsOf, task_of, IsEntryFor, AreWritesFor}
+use Rattle.tj_chan.proofs.Linked.Links.{sent_by, is_held, AreRowsOf, task_of, IsEntryFor, IsToldBy, AreWritesFor}
 use Rattle.tj_chan.proofs.Linked.Steps.{program, IsLinked, AskIsLinked}
 use Rattle.tj_chan.proofs.Lists.Apart.{same_parts, not_true, true_false, one_of_same, apart_of_other, end_there}
-use Rattle.tj_chan.proofs.Lists.Kept.{got_there, in_last, at_last}
+use Rattle.tj_chan.proofs.Lists.Kept.{in_last, at_last}
 use Rattle.tj_chan.proofs.Linked.Begins.{get_front}
-use Rattle.tj_chan.proofs.Linked.Rows.{IsFirstRow, row_found, row_missing, to_same}
+use Rattle.tj_chan.proofs.Linked.Rows.{FoundRow, row_found, row_missing, to_same}
 use Rattle.tj_chan.proofs.Linked.RowsWith.{item_reference, rows_with}
 use Rattle.tj_chan.proofs.Asks.Faults.{fault_linked, left_open, of_unsent, to_unsent}
 use Rattle.tj_chan.proofs.Asks.Opens.{last_cases}
@@ -174,16 +174,12 @@ module _ (given : List SendingEnd) (name : Name) (handed ends : List SendingEnd)
   abbrev new : Name × Entry
   new = (item c (length e.sent), entry.Value (value.Num v))
 
-  abbrev IsTold : Name → Entry → Type 0
-  IsTold q y = (q ≡ name) ⊎ ((x : Channel × ChannelState) × (i : ℕ) × IsIn x after × (i < x.0.items)
-      × (q ≡ item x.0 i) × IsEntryFor (found_in x.1 i) y)
-
-  old_told : (q : Name) (y : Entry) → IsIn (q, y) writes → IsTold q y
+  old_told : (q : Name) (y : Entry) → IsIn (q, y) writes → IsToldBy name after q y
   old_told q y j = ⊎_elim (λ a. inl a)
       (λ x. at x (in_either x.0 (map (left_of false) handed) (map (left_of false) ends) x.2)) (w.told q y j) where
         at : (x : (x : Channel × ChannelState) × (i : ℕ) × IsIn x before × (i < x.0.items) × (q ≡ item x.0 i)
             × IsEntryFor (found_in x.1 i) y)
-            → IsIn x.0 (map (left_of false) handed) ⊎ IsIn x.0 (map (left_of false) ends) → IsTold q y
+            → IsIn x.0 (map (left_of false) handed) ⊎ IsIn x.0 (map (left_of false) ends) → IsToldBy name after q y
         at x (inl a) =
             inr (
               x.0,
@@ -194,7 +190,8 @@ module _ (given : List SendingEnd) (name : Name) (handed ends : List SendingEnd)
               x.5,
             )
         at x (inr a) = let m = in_map (left_of false) x.0 ends a in sent m.0 m.2 (sent_to c v ends e m.0 h m.1) where
-          sent : (f : SendingEnd) → x.0 ≡ left_of false f → IsIn f (with_sent c v ends) ⊎ (f ≡ e) → IsTold q y
+          sent : (f : SendingEnd) → x.0 ≡ left_of false f → IsIn f (with_sent c v ends) ⊎ (f ≡ e)
+              → IsToldBy name after q y
           sent f k (inl b) = inr (
             x.0,
             x.1,
@@ -216,7 +213,7 @@ module _ (given : List SendingEnd) (name : Name) (handed ends : List SendingEnd)
             found_more e.sent v x.1 y (subst (λ (z : Channel × ChannelState). IsEntryFor (found_in z.1 x.1) y) u x.5),
           )
 
-  new_told : (q : Name) (y : Entry) → (q, y) ≡ new → IsTold q y
+  new_told : (q : Name) (y : Entry) → (q, y) ≡ new → IsToldBy name after q y
   new_told q y k = inr (
     left_of false (one_more v e),
     length e.sent,
@@ -296,18 +293,11 @@ module _ {C : Type 0} (rules : ChatRules C) (root : C) (strict : Bool) where
     by None h = fails (subst (λ x. IsAt (after (send_turn x v s)))
         (row_missing p.channels p.received b.references y.apart p.ends s.rows ready.body.rows n h) at)
     by (Some c) h = held (end_of c p.ends) refl where
-      found : (r : PromiseRow) × (row_at s.rows n ≡ Some r)
-          × IsFirstRow p.channels p.ends p.received b.references s.rows c r
-      found = row_found p.channels p.received b.references y.apart p.ends s.rows ready.body.rows n c h
+      x : FoundRow p.channels p.ends p.received b.references s.rows n c
+      x = row_found p.channels p.received b.references y.apart p.ends s.rows ready.body.rows n c h
 
       r : PromiseRow
-      r = found.0
-
-      x : IsFirstRow p.channels p.ends p.received b.references s.rows c r
-      x = found.2
-
-      here : IsIn c p.channels
-      here = got_there p.channels n c h
+      r = x.row
 
       more : PromiseRow
       more = record r { sent = suc r.sent }
@@ -319,25 +309,26 @@ module _ {C : Type 0} (rules : ChatRules C) (root : C) (strict : Bool) where
       turned z = cond z (turn (asked.Set (r.base + r.sent) (pay.Num v)) due.Done (changed more s)) (fault s)
 
       there : (z : Bool) → (r.holds && nat_lt r.sent r.items) ≡ z → IsAt (after (turned z))
-      there z e = subst (λ k. IsAt (after (turned k))) e (subst (λ k. IsAt (after (send_turn k v s))) found.1 at)
+      there z e = subst (λ k. IsAt (after (turned k))) e (subst (λ k. IsAt (after (send_turn k v s))) x.at at)
 
       held : (o : Option SendingEnd) → end_of c p.ends ≡ o → IsLinked rules root strict U t (after_send_by v o p)
-      held None g = fails (there false (ap (λ k. k && nat_lt r.sent r.items) (x.is_row.held refl ∙ ap is_held g)))
+      held None g = fails
+          (there false (ap (λ k. k && nat_lt r.sent r.items) (x.is_first.is_row.held refl ∙ ap is_held g)))
       held (Some e) g = test (nat_lt (length e.sent) e.channel.items) refl where
         is : c ≡ e.channel
-        is = let i = end_there c p.ends e g in one_of_same c e.channel (y.apart c e.channel here (y.holds e i.0)) i.1
+        is = let i = end_there c p.ends e g in one_of_same c e.channel (y.apart c e.channel x.here (y.holds e i.0)) i.1
 
         q : Name
         q = item c (length e.sent)
 
         holds_it : r.holds ≡ true
-        holds_it = x.is_row.held refl ∙ ap is_held g
+        holds_it = x.is_first.is_row.held refl ∙ ap is_held g
 
         sent_so : r.sent ≡ length e.sent
-        sent_so = x.is_row.sent refl holds_it ∙ ap sent_by g
+        sent_so = x.is_first.is_row.sent refl holds_it ∙ ap sent_by g
 
         items_so : r.items ≡ e.channel.items
-        items_so = x.is_row.items ∙ ap (λ (z : Channel). z.items) is
+        items_so = x.is_first.is_row.items ∙ ap (λ (z : Channel). z.items) is
 
         set_there : (z : Bool) → nat_lt (length e.sent) e.channel.items ≡ z → IsAt (after (turned z))
         set_there z f = there z ((λ i. holds_it i && nat_lt (sent_so i) (items_so i)) ∙ f)
@@ -348,8 +339,8 @@ module _ {C : Type 0} (rules : ChatRules C) (root : C) (strict : Bool) where
         reference_is : nat_lt (length e.sent) e.channel.items ≡ true
             → reference_at b.name b.references (r.base + r.sent) ≡ to_promise q
         reference_is f = ap (λ k. reference_at b.name b.references (r.base + k)) sent_so
-            ∙ item_reference p.channels p.received b.references y.apart p.ends s.rows ready.body.rows b.name c r x
-            (length e.sent) (few f)
+            ∙ item_reference p.channels p.received b.references y.apart p.ends s.rows ready.body.rows b.name c r
+            x.is_first (length e.sent) (few f)
 
         owns : nat_lt (length e.sent) e.channel.items ≡ true → has q b.holds ≡ true
         owns f = ap (has q) ready.holds ∙ has_of_times q (all_unsent p.ends) (times_of_in q (all_unsent p.ends)
@@ -365,16 +356,16 @@ module _ {C : Type 0} (rules : ChatRules C) (root : C) (strict : Bool) where
             (reference_is f) (set_there true f))
 
         rows : AreRowsOf p.channels (with_sent c v p.ends) p.received b.references next.rows
-        rows = rows_with p.channels p.received b.references y.apart p.ends s.rows ready.body.rows c here r more x refl
-            (with_sent c v p.ends) p.received (λ d a. sent_other c d v p.ends a) (λ d a. refl) ready.body.rows.known
-            (record {
-              first = x.is_row.first;
-              items = x.is_row.items;
-              base = x.is_row.base;
+        rows = rows_with p.channels p.received b.references y.apart p.ends s.rows ready.body.rows c x.here r more
+            x.is_first refl (with_sent c v p.ends) p.received (λ d a. sent_other c d v p.ends a)
+            (λ d a. refl) ready.body.rows.known (record {
+              first = x.is_first.is_row.first;
+              items = x.is_first.is_row.items;
+              base = x.is_first.is_row.base;
               held = λ a. holds_it ∙ ap is_held (sym (sent_end c v p.ends e g));
               sent = λ a k. ap suc sent_so ∙ longer (length e.sent)
                   ∙ sym (length-append e.sent (v ∷ [])) ∙ ap sent_by (sym (sent_end c v p.ends e g));
-              asked = λ a. x.is_row.asked refl;
+              asked = λ a. x.is_first.is_row.asked refl;
             }) where
               longer : (k : ℕ) → suc k ≡ k + 1
               longer k = omega arith
@@ -385,7 +376,7 @@ module _ {C : Type 0} (rules : ChatRules C) (root : C) (strict : Bool) where
           after_write q (value.Num v) (record b { body = next }),
           writes_it f,
           record {
-            name = ready.name;
+            of_task = ready.of_task;
             at_stage = (
               told.Done,
               counted told.Done next,
@@ -398,12 +389,8 @@ module _ {C : Type 0} (rules : ChatRules C) (root : C) (strict : Bool) where
               },
             );
             holds = ap (without q) ready.holds ∙ unsent_sent c v p.ends e
-                (λ k i. y.apart c k.channel here (y.holds k i)) g (few f);
+                (λ k i. y.apart c k.channel x.here (y.holds k i)) g (few f);
             owed = ready.owed;
-            made = ready.made;
-            promises = ready.promises;
-            children = ready.children;
-            prints = ready.prints;
           },
           sent_writes t.given p.name p.handed_on p.ends b.writes c v e g (sym is) (few f)
               (left_open rules root strict t p b ready.is_open w),

@@ -122,11 +122,10 @@ module _ (channels : List Channel) (received : List Channel) (references : List 
   giving (k ∷ ks) gs ends rows are once h =
       let f = found_split channels received references one k ks gs h in
       let r = row_found channels received references one ends rows are k f.0 f.2 in
-      let i = got_there channels k f.0 f.2 in
-      let w = without_row ends rows are once f.0 i r.0 r.2 in
+      let w = without_row ends rows are once f.0 r.here r.row r.is_first in
       let g =
-      giving ks f.1 (without_end f.0 ends) (bodies.without_end rows (Some r.0)) w (once_left f.0 ends once) f.3 in
-      subst (λ l. IsGiving (k ∷ ks) l ends rows) f.4 (by f.0 f.1 r.0 r.1 (r.2.is_row.held refl) g) where
+      giving ks f.1 (without_end f.0 ends) (bodies.without_end rows (Some r.row)) w (once_left f.0 ends once) f.3 in
+      subst (λ l. IsGiving (k ∷ ks) l ends rows) f.4 (by f.0 f.1 r.row r.at (r.is_first.is_row.held refl) g) where
         by : (c : Channel) (l : List Channel) (r : PromiseRow) → row_at rows k ≡ Some r
             → r.holds ≡ is_held (end_of c ends)
             → IsGiving ks l (without_end c ends) (bodies.without_end rows (Some r))
@@ -160,8 +159,8 @@ module _ (channels : List Channel) (received : List Channel) (references : List 
     all_passed (k ∷ ks) ps h =
         let f = found_split channels received references one k ks ps h in
         let r = row_found channels received references one ends rows are k f.0 f.2 in
-        let a = ap (λ o. map (reference_at x references) (all_places o)) r.1
-        ∙ all_are channels received references x ends r.0.first f.0 r.0 r.2.is_row in
+        let a = ap (λ o. map (reference_at x references) (all_places o)) r.at
+        ∙ all_are channels received references x ends r.row.first f.0 r.row r.is_first.is_row in
         let b = all_passed ks f.1 f.3 in
         map-append (reference_at x references) (all_places (row_at rows k))
         (flat_map (λ k. all_places (row_at rows k)) ks)
@@ -206,12 +205,12 @@ module _ (channels : List Channel) (received : List Channel) (references : List 
         let f = found_split channels received references one k ks gs h in
         let r = row_found channels received references one ends rows are k f.0 f.2 in
         let n = next_part f.0 f.1 es p (subst (λ l. part_with l es ≡ Some p) (sym f.4) g) in
-        let i = got_there channels k f.0 f.2 in
-        let t = found_all f.0 i es a n.end n.found in
-        let held : r.0.holds ≡ true = r.2.is_row.held refl ∙ ap is_held t.0 in
-        let sent : r.0.sent ≡ length n.end.sent = r.2.is_row.sent refl held ∙ ap sent_by t.0 in
-        let u = ap (λ o. map (reference_at x references) (unset_places o)) r.1
-        ∙ (unset_are channels received references x ends r.0.first f.0 r.0 (length n.end.sent) r.2.is_row sent
+        let t = found_all f.0 r.here es a n.end n.found in
+        let held : r.row.holds ≡ true = r.is_first.is_row.held refl ∙ ap is_held t.0 in
+        let sent : r.row.sent ≡ length n.end.sent = r.is_first.is_row.sent refl held ∙ ap sent_by t.0 in
+        let u = ap (λ o. map (reference_at x references) (unset_places o)) r.at
+        ∙ (unset_are channels received references x ends r.row.first f.0 r.row (length n.end.sent) r.is_first.is_row
+        sent
         ∙ ap (λ d. map to_promise (drop (length n.end.sent) (items_of d))) t.1) in
         let v = unset_given ks f.1 (without_end f.0 es) (λ e j. a e (left_there f.0 es e j)) f.3 n.rest n.parts in
         map-append (reference_at x references) (unset_places (row_at rows k))
@@ -233,12 +232,11 @@ module _ (channels : List Channel) (received : List Channel) (references : List 
         let f = found_split channels received references one k ks gs h in
         let r = row_found channels received references one ends rows are k f.0 f.2 in
         let n = next_part f.0 f.1 es p (subst (λ l. part_with l es ≡ Some p) (sym f.4) g) in
-        let j = got_there channels k f.0 f.2 in
-        let t = found_all f.0 j es a n.end n.found in
+        let t = found_all f.0 r.here es a n.end n.found in
         let u : nat_eq (channel_place c channels) (first_place (row_at rows k)) ≡ is_same c n.end.channel =
-        ap (λ o. nat_eq (channel_place c channels) (first_place o)) r.1
-        ∙ (ap (nat_eq (channel_place c channels)) r.2.first
-        ∙ (place_same channels c f.0 i j one ∙ ap (is_same c) t.1)) in
+        ap (λ o. nat_eq (channel_place c channels) (first_place o)) r.at
+        ∙ (ap (nat_eq (channel_place c channels)) r.is_first.first
+        ∙ (place_same channels c f.0 i r.here one ∙ ap (is_same c) t.1)) in
         let v = given_held c i ks f.1 (without_end f.0 es) (λ e m. a e (left_there f.0 es e m)) f.3 n.rest n.parts in
         (λ m. u m || v m) ∙ (both n.end (is_same c n.end.channel) (end_of c n.rest.given)
         ∙ ap (λ (y : Parting). is_held (end_of c y.given)) n.is) where
@@ -271,16 +269,17 @@ module _ (channels : List Channel) (received : List Channel) (references : List 
         let f = found_split channels received references one k ks ps h in
         let c = f.0 in
         let r = row_found channels received references one ends rows are k c f.2 in
-        let i = got_there channels k c f.2 in
-        let first : first_at rows give k ≡ channel_place c channels = ap first_place r.1 ∙ r.2.first in
+        let i = r.here in
+        let first : first_at rows give k ≡ channel_place c channels = ap first_place r.at ∙ r.is_first.first in
         let held : is_given rows give (first_at rows give k) ≡ is_held (end_of c p.given) =
         ap (is_given rows give) first ∙ given_held c i give gs ends (λ e j. j) g p o in
         let at : position (first_at rows give k) firsts ≡ channel_place c seen =
         (λ m. position (first m) (q m)) ∙ position_seen c i seen b in
-        let n = ap (λ z. length (all_places z)) r.1 ∙ (length-places r.0.base r.0.items ∙ r.2.is_row.items) in
+        let n = ap (λ z. length (all_places z)) r.at
+        ∙ (length-places r.row.base r.row.items ∙ r.is_first.is_row.items) in
         let row : passed_row (position (first_at rows give k) firsts) base
         (is_given rows give (first_at rows give k)) (row_at rows k) ≡ begin_row p.given seen base c =
-        (λ m. passed_row (at m) base (held m) (r.1 m)) ∙ one_row c i r.0 r.2 (end_of c p.given) refl in
+        (λ m. passed_row (at m) base (held m) (r.at m)) ∙ one_row c i r.row r.is_first (end_of c p.given) refl in
         let rest = child_rows give gs g p o a (firsts ++ first_at rows give k ∷ []) (seen ++ c ∷ [])
         ((λ m. q m ++ first m ∷ []) ∙ sym (map-append (λ d. channel_place d channels) seen (c ∷ [])))
         (λ d j. ⊎_elim (λ z. b d z) (λ z. subst (λ y. IsIn y channels) (sym z) i) (in_last d c seen j))

@@ -198,7 +198,14 @@ module _ {C : Type 0} (rules : ChatRules C) (root : C) (strict : Bool) where
       final,
       subst IsAt (λ i. after_try_fork (forked i) (passed i) (names i) (left i) forking) at,
       record {
-        name = ready.name;
+        of_task = (
+          ready.of_task.0,
+          ap suc ready.of_task.1,
+          ready.of_task.2,
+          (λ i. ready.of_task.3 i ++ kid i ∷ [])
+              ∙ sym (map-append task_of p.children (next_chat c ps pt.given p ∷ [])),
+          ready.of_task.4,
+        );
         at_stage = (
           told.Local (length b.references),
           counted (told.Local (length b.references)) parent,
@@ -214,11 +221,6 @@ module _ {C : Type 0} (rules : ChatRules C) (root : C) (strict : Bool) where
         );
         holds = refl;
         owed = ready.owed;
-        made = ap suc ready.made;
-        promises = ready.promises;
-        children = (λ i. ready.children i ++ kid i ∷ [])
-            ∙ sym (map-append task_of p.children (next_chat c ps pt.given p ∷ []));
-        prints = ready.prints;
       },
       parted_writes t.given p.name p.handed_on p.ends b.writes gs pt part
           (left_open rules root strict t p b ready.is_open w),
@@ -267,7 +269,7 @@ module _ {C : Type 0} (rules : ChatRules C) (root : C) (strict : Bool) where
 
       kid : next_child (body_of kid_task) (flat_map references_of ps) (all_unsent pt.given) forking ≡ task_of kid_task
       kid = λ i. record {
-        name = child (ready.name i) (suc (ready.made i));
+        name = child (ready.of_task.0 i) (suc (ready.of_task.1 i));
         body = body_of kid_task;
         passed = flat_map references_of ps;
         handed = all_unsent pt.given;

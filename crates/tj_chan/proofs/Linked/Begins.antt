@@ -7,10 +7,10 @@ use Rattle.std.specs.List.{flat_map}
 use Rattle.tj_base.specs.ForkOrder.{Name, child}
 use Rattle.tj_body.specs.History.{to_task, to_promise}
 use Rattle.tj_body.specs.declared.point.Reference.{Reference}
-use Rattle.tj_chan.specs.Channels.{Channel, SendingEnd, item, items_of, things_after, is_same, end_of}
+use Rattle.tj_chan.specs.Channels.{Channel, SendingEnd, item, items_of, things_after, is_same}
 use Rattle.tj_chan.specs.declared.rows.PromiseRow.{PromiseRow}
 use Rattle.tj_chan.proofs.Linked.Items.{length-things}
-use Rattle.tj_chan.proofs.Linked.Links.{references_of, channel_place, sent_by, is_held, begin_row, begin_rows, IsRowOf}
+use Rattle.tj_chan.proofs.Linked.Links.{references_of, channel_place, begin_row, begin_rows, IsRowOf}
 use Rattle.tj_chan.proofs.Linked.Links.{AreRowsOf}
 use Rattle.tj_chan.proofs.Lists.Apart.{is_same_self}
 

@@ -149,7 +149,7 @@ module _ {C : Type 0} (rules : ChatRules C) (lawful : AreLawfulChats rules) wher
         → family P.rules U d (task_of t) ≡ map task_of (run_family rules (finds_in U) d t)
     families_linked U h zero t f pr = refl
     families_linked U h (suc d) t f pr =
-        let l = (linked U t h f pr).0.children in
+        let l = (linked U t h f pr).0.of_task.3 in
         let g = good P.rules obeys U (task_of t) pr (2 * suc (P.rules.left (task_of t).body)) in
         let s = run_sound rules lawful (finds_in U) (2 * suc (rules.left t.chatter)) t f in
         ap (λ z. task_of t ∷ flat_map (family P.rules U d) z) l
@@ -220,7 +220,7 @@ module _ {C : Type 0} (rules : ChatRules C) (lawful : AreLawfulChats rules) wher
         → IsIn c (run_of rules (F n) t).opened → (i : ℕ) → i < c.items
         → 1 ≤ times (item c i) (history P.rules (W n) (task_of t)).promises
     item_times n t j c o i l =
-        let h = (run_linked n t j).0.promises in
+        let h = (run_linked n t j).0.of_task.2 in
         times_of_in (item c i) (history P.rules (W n) (task_of t)).promises
         (subst (IsIn (item c i)) (sym h)
         (in_flat_map items_of c (item c i) (run_of rules (F n) t).opened o (item_there c i l)))

@@ -13,7 +13,7 @@ use Rattle.tj_body.specs.declared.point.Point.{Point}
 use Rattle.tj_body.proofs.Lists.{in_map}
 use Rattle.tj_body.proofs.Histories.Points.{asks_on, whole}
 use Rattle.tj_chan.specs.Chats.{IsNextChat}
-use Rattle.tj_chan.specs.Channels.{ChatRules, Channel, ChannelState, ChatStage, answered, receives, ended, failed}
+use Rattle.tj_chan.specs.Channels.{ChatRules, Channel, ChannelState, ChatStage, answered, receives}
 use Rattle.tj_chan.specs.Channels.{ChatTask, ChatPoint, chat_start, item}
 use Rattle.tj_chan.specs.ChannelRounds.{left_of, has_ended}
 use Rattle.tj_chan.specs.ChannelOutcomes.{held_in, owed_in}
@@ -40,7 +40,7 @@ module _ {C : Type 0} (rules : ChatRules C) (root : C) (strict : Bool) where
     start (task_of t),
     (0, refl),
     record {
-      name = refl;
+      of_task = (refl, refl, refl, refl, refl);
       at_stage = (
         told.Start,
         counted told.Start (task_of t).body,
@@ -50,10 +50,6 @@ module _ {C : Type 0} (rules : ChatRules C) (root : C) (strict : Bool) where
       );
       holds = refl;
       owed = refl;
-      made = refl;
-      promises = refl;
-      children = refl;
-      prints = refl;
     },
     record {
       told = λ q e i. absurd i;
@@ -105,15 +101,11 @@ module _ {C : Type 0} (rules : ChatRules C) (root : C) (strict : Bool) where
 
           ready : IsReadyFor q b next
           ready = record {
-            name = l.2.name;
+            of_task = l.2.of_task;
             is_open = ap has_ended e;
             body = record { chatter = refl; places = stage.4.places; rows = stage.4.rows };
             holds = l.2.holds ∙ ap (λ z. held_in z p.ends) e;
             owed = l.2.owed ∙ ap (λ z. owed_in z p.ends) e;
-            made = l.2.made;
-            promises = l.2.promises;
-            children = l.2.children;
-            prints = l.2.prints;
           }
 
           turns : turn_at rules b.body.due stage.0 (counted stage.0 b.body) ≡ ask_turn (rules.asks p.chatter a) next

@@ -107,17 +107,18 @@ module _ {C : Type 0} where
     pub places : b.places ≡ length references
     pub rows : AreRowsOf p.channels p.ends p.received references b.rows
 
+  -- the two points tell the same of their task's name, of what it made and of what it printed
+  abbrev pub AreOfOneTask : ChatPoint C → Point (ChanBody C) → Type 0
+  AreOfOneTask p b = (b.name ≡ p.name) × (b.made ≡ p.made) × (b.promises ≡ flat_map items_of p.opened)
+      × (b.children ≡ map task_of p.children) × (b.prints ≡ p.prints)
+
   -- The body's task stands for the point, where its body may be that which it is settled to.
   pub record IsReadyFor (p : ChatPoint C) (b : Point (ChanBody C)) (settled : ChanBody C) : Type 0 where
-    pub name : b.name ≡ p.name
+    pub of_task : AreOfOneTask p b
     pub is_open : has_ended p.stage ≡ false
     pub body : IsBodyOf p b.references settled
     pub holds : b.holds ≡ all_unsent p.ends
     pub owed : b.owed ≡ []
-    pub made : b.made ≡ p.made
-    pub promises : b.promises ≡ flat_map items_of p.opened
-    pub children : b.children ≡ map task_of p.children
-    pub prints : b.prints ≡ p.prints
 
   module _ (rules : ChatRules C) where
     -- The stage of the body's task is that of the point. Where the chatter is to be answered, the body comes to that
@@ -133,14 +134,10 @@ module _ {C : Type 0} where
 
     -- the point of the body's task stands for that of the chatter's task
     pub record IsPointFor (p : ChatPoint C) (b : Point (ChanBody C)) : Type 0 where
-      pub name : b.name ≡ p.name
+      pub of_task : AreOfOneTask p b
       pub at_stage : IsStageOf p p.stage b
       pub holds : b.holds ≡ held_in p.stage p.ends
       pub owed : b.owed ≡ owed_in p.stage p.ends
-      pub made : b.made ≡ p.made
-      pub promises : b.promises ≡ flat_map items_of p.opened
-      pub children : b.children ≡ map task_of p.children
-      pub prints : b.prints ≡ p.prints
 
 -- the entry says what was found of an item
 abbrev pub IsEntryFor : Found → Entry → Type 0
@@ -148,13 +145,16 @@ IsEntryFor to_come e = ⊥
 IsEntryFor cut_off e = e ≡ entry.Broken
 IsEntryFor (value_of v) e = e ≡ entry.Value (value.Num v)
 
+-- the entry is a result under this name, or it is that of an item of what is left of channels
+abbrev pub IsToldBy : Name → List (Channel × ChannelState) → Name → Entry → Type 0
+IsToldBy name left q e = (q ≡ name) ⊎ ((w : Channel × ChannelState) × (i : ℕ) × IsIn w left × (i < w.0.items)
+    × (q ≡ item w.0 i) × IsEntryFor (found_in w.1 i) e)
+
 -- What a task with this name has written is its result and what it leaves of channels, and what it leaves it has
 -- written, or had it with an end that it was given.
 pub record AreWritesFor (given : List SendingEnd) (name : Name) (left : List (Channel × ChannelState))
     (writes : List (Name × Entry)) : Type 0 where
-  pub told : (q : Name) (e : Entry) → IsIn (q, e) writes → (q ≡ name)
-      ⊎ ((w : Channel × ChannelState) × (i : ℕ) × IsIn w left × (i < w.0.items) × (q ≡ item w.0 i)
-      × IsEntryFor (found_in w.1 i) e)
+  pub told : (q : Name) (e : Entry) → IsIn (q, e) writes → IsToldBy name left q e
   pub written : (w : Channel × ChannelState) (i : ℕ) (e : Entry) → IsIn w left → i < w.0.items
       → IsEntryFor (found_in w.1 i) e → IsIn (item w.0 i, e) writes
       ⊎ ((g : SendingEnd) × IsIn g given × (g.channel ≡ w.0) × IsEntryFor (found_by false (slice_get g.sent i)) e)

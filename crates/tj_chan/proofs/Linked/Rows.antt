@@ -67,25 +67,34 @@ pub record IsFirstRow (channels : List Channel) (ends : List SendingEnd) (receiv
   pub there : slice_get rows r.first ≡ Some r
   pub is_row : IsRowOf channels ends received references r.first c r
 
+-- Under place k the channel c stands, with this row.
+pub record FoundRow (channels : List Channel) (ends : List SendingEnd) (received : List Channel)
+    (references : List Reference) (rows : List PromiseRow) (k : ℕ) (c : Channel) : Type 0 where
+  pub row : PromiseRow
+  pub at : row_at rows k ≡ Some row
+  pub here : IsIn c channels
+  pub is_first : IsFirstRow channels ends received references rows c row
+
 module _ (channels : List Channel) (received : List Channel) (references : List Reference)
     (one : (c d : Channel) → IsIn c channels → IsIn d channels → AreOneOrApart c d) where
   module _ (ends : List SendingEnd) (rows : List PromiseRow)
       (are : AreRowsOf channels ends received references rows) where
     pub row_found : (k : ℕ) (c : Channel) → slice_get channels k ≡ Some c
-        → (r : PromiseRow) × (row_at rows k ≡ Some r) × IsFirstRow channels ends received references rows c r
+        → FoundRow channels ends received references rows k c
     row_found k c h =
         let a = are.each k c h in
         let i = got_there channels k c h in
         let b = are.each (channel_place c channels) c (place_found channels c i (λ d j. one c d i j)) in
-        let f = b.2.first in (
-          b.0,
-          ap (first_of rows) a.1 ∙ (ap (slice_get rows) a.2.first ∙ b.1),
-          record {
+        let f = b.2.first in record {
+          row = b.0;
+          at = ap (first_of rows) a.1 ∙ (ap (slice_get rows) a.2.first ∙ b.1);
+          here = i;
+          is_first = record {
             first = f;
             there = ap (slice_get rows) f ∙ b.1;
             is_row = subst (λ n. IsRowOf channels ends received references n c b.0) (sym f) b.2;
-          },
-        )
+          };
+        }
 
     -- none is found where there is no channel
     pub row_missing : (k : ℕ) → slice_get channels k ≡ None → row_at rows k ≡ None

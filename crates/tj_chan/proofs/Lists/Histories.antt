@@ -1,7 +1,7 @@
 -- A history over lists is a run over what the lists tell.
 use Rattle.std.proofs.Common.{◌≡◌, ℕ, zero, suc, ◌*◌, Bool, true, false, Option, Some, None, refl, ap, ◌∙◌}
 use Rattle.std.specs.Prelude.{ℤ, slice_get}
-use Rattle.tj_chan.specs.Channels.{ChatRules, Channel, Lists, ChatStage, answered, receives, ended, failed, ChatTask}
+use Rattle.tj_chan.specs.Channels.{ChatRules, Channel, Lists, ChatStage, receives, ChatTask}
 use Rattle.tj_chan.specs.Channels.{ChatPoint, after_item, after_chat_stage, chat_point_after, chat_history}
 use Rattle.tj_chan.proofs.Lists.Runs.{found_by, finds_of, after_found, run_stage, run_after, run_of}
 
