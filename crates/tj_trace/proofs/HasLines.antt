@@ -1,9 +1,10 @@
 -- Each line of a trace is that of a task's history, and each task has one.
+use Rattle.tj_trace.proofs.LoggedRules.{rules}
 use Rattle.tj_trace.proofs.Prelude.{AreTraced, Assignment, Bool, Ending, IsIn, List, Logged, None, Option, PlacedState}
-use Rattle.tj_trace.proofs.Prelude.{Point, PointStage, Rules, Some, Task, TraceLine, ap, ending_of, given, history}
-use Rattle.tj_trace.proofs.Prelude.{in_permuted, in_unpermuted, last_round, line_of, line_with, logged_asks}
-use Rattle.tj_trace.proofs.Prelude.{logged_awaits, logged_left, logged_places, logged_program, logged_then, meaning}
-use Rattle.tj_trace.proofs.Prelude.{option_map, refl, rules_of, subst, sym, tasks, to_map, ℕ, ◌∙◌, ◌≡◌}
+use Rattle.tj_trace.proofs.Prelude.{Point, PointStage, Some, Task, TraceLine, ap, ending_of, given, history}
+use Rattle.tj_trace.proofs.Prelude.{in_permuted, in_unpermuted, last_round, line_of, line_with}
+use Rattle.tj_trace.proofs.Prelude.{logged_program, meaning}
+use Rattle.tj_trace.proofs.Prelude.{option_map, refl, subst, sym, tasks, to_map, ℕ, ◌∙◌, ◌≡◌}
 use Rattle.tj_body.proofs.Lists.{in_map}
 use Rattle.tj_body.proofs.Rounds.Families.{same_name}
 use Rattle.tj_trace.proofs.Noted.{notes_at}
@@ -38,9 +39,6 @@ notes_of_ended (stage.Answered a) e x h = absurd (not_none e h)
 notes_of_ended z e x h = refl
 
 module _ (strict : Bool) (root : PlacedState) (N : ℕ) where
-  abbrev rules : Rules Logged
-  rules = rules_of logged_places logged_awaits logged_left logged_asks logged_then strict
-
   abbrev V : Assignment
   V = given (logged_program strict root) (last_round N)
 
@@ -50,22 +48,22 @@ module _ (strict : Bool) (root : PlacedState) (N : ℕ) where
   -- the line is that of the task's history
   pub record HasLine (t : Task Logged) (l : TraceLine) : Type 0 where
     pub there : IsIn t all_tasks
-    pub is : line_of (history rules V t) ≡ Some l
+    pub is : line_of (history (rules strict) V t) ≡ Some l
 
   -- what a line tells of its task
   pub line_name : (t : Task Logged) (l : TraceLine) → HasLine t l → l.line.name ≡ t.name
-  line_name t l h = let k = line_is (history rules V t) l h.is in
-      ap (λ (z : TraceLine). z.line.name) (sym k.2) ∙ same_name rules V t
+  line_name t l h = let k = line_is (history (rules strict) V t) l h.is in
+      ap (λ (z : TraceLine). z.line.name) (sym k.2) ∙ same_name (rules strict) V t
 
   pub line_makers : (t : Task Logged) (l : TraceLine) → HasLine t l
-      → l.makers ≡ notes_at (history rules V t).stage (history rules V t).body
-  line_makers t l h = let p = history rules V t in let k = line_is p l h.is in
+      → l.makers ≡ notes_at (history (rules strict) V t).stage (history (rules strict) V t).body
+  line_makers t l h = let p = history (rules strict) V t in let k = line_is p l h.is in
       ap (λ (z : TraceLine). z.makers) (sym k.2) ∙ sym (notes_of_ended p.stage k.0 p.body k.1)
 
   -- where the task stands
   pub line_stand : (t : Task Logged) (l : TraceLine) → HasLine t l
-      → (l.decl ≡ (history rules V t).body.placed.stand.decl) × (l.at ≡ (history rules V t).body.placed.stand.at)
-  line_stand t l h = let k = line_is (history rules V t) l h.is in
+      → let z = (history (rules strict) V t).body.placed.stand in (l.decl ≡ z.decl) × (l.at ≡ z.at)
+  line_stand t l h = let k = line_is (history (rules strict) V t) l h.is in
       (ap (λ (z : TraceLine). z.decl) (sym k.2), ap (λ (z : TraceLine). z.at) (sym k.2))
 
   module _ (lines : List TraceLine) (traced : AreTraced (logged_program strict root) N lines) where
@@ -76,15 +74,15 @@ module _ (strict : Bool) (root : PlacedState) (N : ℕ) where
         (in_permuted traced.told lines traced.same_lines l i) in
         let p = in_map line_of (Some l) traced.histories (subst (IsIn (Some l)) (sym traced.are_told) j) in
         let m = in_permuted (meaning (logged_program strict root) N) traced.histories traced.same_histories p.0 p.1 in
-        let t = in_map (history rules V) p.0 all_tasks m in
+        let t = in_map (history (rules strict) V) p.0 all_tasks m in
         (t.0, record { there = t.1; is = ap line_of (sym t.2) ∙ sym p.2 })
 
     -- each task has a line
     pub to_line : (t : Task Logged) → IsIn t all_tasks → (l : TraceLine) × IsIn l lines × HasLine t l
     to_line t i =
-        let h = history rules V t in
+        let h = history (rules strict) V t in
         let j = in_unpermuted (meaning (logged_program strict root) N) traced.histories traced.same_histories h
-        (to_map (history rules V) t all_tasks i) in
+        (to_map (history (rules strict) V) t all_tasks i) in
         let l = in_map (λ (z : TraceLine). Some z) (line_of h) traced.told
         (subst (IsIn (line_of h)) traced.are_told (to_map line_of h traced.histories j)) in
         (l.0, in_unpermuted traced.told lines traced.same_lines l.0 l.1, record { there = i; is = l.2 })

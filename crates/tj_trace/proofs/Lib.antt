@@ -12,3 +12,4 @@ pub mod LinesPlaced
 pub mod OwnersOne
 pub mod OneTrace
 pub mod Prelude
+pub mod LoggedRules

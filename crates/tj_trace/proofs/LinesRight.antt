@@ -1,8 +1,9 @@
 -- The lines of a trace tell statements of the declarations that their tasks run.
+use Rattle.tj_trace.proofs.LoggedRules.{rules}
 use Rattle.tj_trace.proofs.Prelude.{AreTraced, Assignment, Bool, Ending, IsIn, Logged, Maker, Name, Point, PointStage}
-use Rattle.tj_trace.proofs.Prelude.{Rules, Some, Task, TraceLine, [], ap, child, history, inl, inr, line_of, logged}
-use Rattle.tj_trace.proofs.Prelude.{logged_asks, logged_awaits, logged_left, logged_places, logged_program, logged_then}
-use Rattle.tj_trace.proofs.Prelude.{names_of, root_task, rules_of, slice_get, suc, sym, within, ℕ, ◌∙◌, ◌∷◌, ◌≡◌, ◌⊎◌}
+use Rattle.tj_trace.proofs.Prelude.{Some, Task, TraceLine, [], ap, child, history, inl, inr, line_of, logged}
+use Rattle.tj_trace.proofs.Prelude.{logged_program}
+use Rattle.tj_trace.proofs.Prelude.{names_of, root_task, slice_get, suc, sym, within, ℕ, ◌∙◌, ◌∷◌, ◌≡◌, ◌⊎◌}
 use Rattle.std.proofs.Common.{zero, true, false, cond, List, refl, subst, ⊎_elim, ◌≤◌, arith}
 use Rattle.std.specs.List.{AllByRecursion, find}
 use Rattle.std.specs.List.Sorted.{IsStrictlySortedBy}
@@ -81,28 +82,29 @@ module _ (script : List tree.Task) (d : ℕ) (task : tree.Task) (declared : slic
         }
 
 module _ (strict : Bool) where
-  abbrev rules : Rules Logged
-  rules = rules_of logged_places logged_awaits logged_left logged_asks logged_then strict
-
   module _ (script : List tree.Task) (V : Assignment) where
     -- the tasks that come from one that is new are new
-    family_new : (n : ℕ) (t : Task Logged) → IsNew script t → (c : Task Logged) → IsIn c (family rules V n t)
+    family_new : (n : ℕ) (t : Task Logged) → IsNew script t → (c : Task Logged) → IsIn c (family (rules strict) V n t)
         → IsNew script c
     family_new zero t h c (inl e) = subst (IsNew script) (sym e) h
     family_new zero t h c (inr i) = absurd i
     family_new (suc n) t h c (inl e) = subst (IsNew script) (sym e) h
-    family_new (suc n) t h c (inr i) = let r = from_flat_map (family rules V n) c (history rules V t).children i in
+    family_new (suc n) t h c (inr i) =
+        let r = from_flat_map (family (rules strict) V n) c (history (rules strict) V t).children i in
         family_new n r.0 ((right_history script strict V t h).notes.forked r.0 r.1).is_new c r.2
 
   -- a task of a family is the first one, or another's child
-  family_forks : (V : Assignment) (n : ℕ) (t c : Task Logged) → IsIn c (family rules V n t)
-      → (c ≡ t) ⊎ ((m : Task Logged) × IsIn m (family rules V n t) × IsIn c (history rules V m).children)
+  family_forks : (V : Assignment) (n : ℕ) (t c : Task Logged) → IsIn c (family (rules strict) V n t)
+      → (c ≡ t) ⊎ ((m : Task Logged) × IsIn m (family (rules strict) V n t)
+      × IsIn c (history (rules strict) V m).children)
   family_forks V zero t c (inl e) = inl e
   family_forks V zero t c (inr i) = absurd i
   family_forks V (suc n) t c (inl e) = inl e
-  family_forks V (suc n) t c (inr i) = let r = from_flat_map (family rules V n) c (history rules V t).children i in
-      ⊎_elim (λ e. inr (t, inl refl, subst (λ z. IsIn z (history rules V t).children) (sym e) r.1))
-      (λ k. inr (k.0, inr (in_flat_map (family rules V n) r.0 k.0 (history rules V t).children r.1 k.1), k.2))
+  family_forks V (suc n) t c (inr i) =
+      let kids = (history (rules strict) V t).children in
+      let r = from_flat_map (family (rules strict) V n) c kids i in
+      ⊎_elim (λ e. inr (t, inl refl, subst (λ z. IsIn z kids) (sym e) r.1))
+      (λ k. inr (k.0, inr (in_flat_map (family (rules strict) V n) r.0 k.0 kids r.1 k.1), k.2))
       (family_forks V n r.0 c r.2)
 
 -- the first line with a name is the one that is there

@@ -1,10 +1,11 @@
 -- What a line tells is read off the history of the task that knows where it stands.
+use Rattle.tj_trace.proofs.LoggedRules.{rules}
 use Rattle.tj_trace.proofs.Prelude.{Ask, Assignment, Bool, Cause, Entry, Err, IsIn, List, Logged, Maker, Name, None, Ok}
 use Rattle.tj_trace.proofs.Prelude.{Option, Point, PointStage, Reference, Result, Rules, Some, Sort, Task, Value, []}
 use Rattle.tj_trace.proofs.Prelude.{after_ask, after_failure, after_get, after_join, after_look, after_new, after_read}
 use Rattle.tj_trace.proofs.Prelude.{after_set, after_stage, after_try_fork, after_write, ap, arith, before, cond, false}
-use Rattle.tj_trace.proofs.Prelude.{given, hand_all, has, last_round, length, length-append, logged, logged_asks}
-use Rattle.tj_trace.proofs.Prelude.{logged_awaits, logged_left, logged_places, logged_program, logged_then, made_by}
+use Rattle.tj_trace.proofs.Prelude.{given, hand_all, has, last_round, length, length-append, logged}
+use Rattle.tj_trace.proofs.Prelude.{logged_left, logged_program, logged_then, made_by}
 use Rattle.tj_trace.proofs.Prelude.{maker_here, map, not, point_after, reference, refl, root_task, rules_of, subst, suc}
 use Rattle.tj_trace.proofs.Prelude.{sym, tasks, true, with_wait, zero, ℕ, ◌&&◌, ◌*◌, ◌++◌, ◌+◌, ◌∙◌, ◌∷◌, ◌≡◌}
 use Rattle.std.proofs.Common.{nat_eq, append-nil, eq-eqb}
@@ -33,7 +34,7 @@ place_ask ask.New = refl
 place_ask q = refl
 
 placed_seen : (strict : Bool) → AreSeenAs place
-    (rules_of logged_places logged_awaits logged_left logged_asks logged_then strict)
+    (rules strict)
     (rules_of placed_places placed_awaits placed_left placed_asks placed_then strict)
 placed_seen strict = record {
   strict = refl;
@@ -136,15 +137,12 @@ look_more spare x (Some y) p e = subst (λ ms. IsMore ms p (after_read spare x y
       nothing_more p.body.makers p (after_read b x (entry.Value (value.Ref r)) p) refl refl
 
 module _ (strict : Bool) where
-  abbrev rules : Rules Logged
-  rules = rules_of logged_places logged_awaits logged_left logged_asks logged_then strict
-
   abbrev bare : Rules PlacedState
   bare = rules_of placed_places placed_awaits placed_left placed_asks placed_then strict
 
   -- each step
   step_more : (V : Assignment) (s : PointStage) (p : Point Logged) → p.stage ≡ s
-      → IsMore (notes_at p.stage p.body) p (after_stage rules V s p)
+      → IsMore (notes_at p.stage p.body) p (after_stage (rules strict) V s p)
   step_more V (stage.Answered a) p e =
       let q = record p { body = logged_then p.body a } in
       let r = after_ask strict (ask_as logged (placed_asks p.body.placed a)) q in
@@ -154,12 +152,12 @@ module _ (strict : Bool) where
 
   -- the notes after so many steps
   noted_until : (V : Assignment) (t : Task Logged) → t.body.makers ≡ [] → (k : ℕ)
-      → let p = point_after rules V k t in notes_at p.stage p.body ≡ made_until bare V (task_as place t) k
+      → let p = point_after (rules strict) V k t in notes_at p.stage p.body ≡ made_until bare V (task_as place t) k
   noted_until V t e zero = e
   noted_until V t e (suc k) =
-      let p = point_after rules V k t in
-      let q = point_after rules V (suc k) t in
-      let seen = (histories_seen place rules bare (placed_seen strict) V t).0 in
+      let p = point_after (rules strict) V k t in
+      let q = point_after (rules strict) V (suc k) t in
+      let seen = (histories_seen place (rules strict) bare (placed_seen strict) V t).0 in
       step_more V p.stage p refl
       ∙ ap (λ ms. ms ++ made_between (point_as place p) (point_as place q)) (noted_until V t e k)
       ∙ ap (λ z. made_until bare V (task_as place t) k ++ made_between z (point_as place q)) (sym (seen k))

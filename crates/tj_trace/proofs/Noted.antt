@@ -1,10 +1,11 @@
 -- What a task made is what its notes tell, step by step.
+use Rattle.tj_trace.proofs.LoggedRules.{rules}
 use Rattle.tj_trace.proofs.Prelude.{Ask, Assignment, Bool, Cause, Entry, Err, IsIn, List, Logged, Maker, Name, None, Ok}
-use Rattle.tj_trace.proofs.Prelude.{Option, Point, PointStage, Reference, Rules, Some, Sort, Task, TraceLine, Value, []}
+use Rattle.tj_trace.proofs.Prelude.{Option, Point, PointStage, Reference, Some, Sort, Task, TraceLine, Value, []}
 use Rattle.tj_trace.proofs.Prelude.{after_ask, after_get, after_join, after_look, after_new, after_read, after_set, ap}
 use Rattle.tj_trace.proofs.Prelude.{ask_as, before, child, cond, ending_of, hand_all, has, history, inl, inr, line_with}
 use Rattle.tj_trace.proofs.Prelude.{logged, logged_then, maker_here, map, not, option_map, reference, refl, root_task}
-use Rattle.tj_trace.proofs.Prelude.{rules_of, suc, sym, true, with_wait, zero, ℕ, ◌&&◌, ◌*◌, ◌++◌, ◌+◌, ◌∙◌, ◌∷◌, ◌≡◌}
+use Rattle.tj_trace.proofs.Prelude.{suc, sym, true, with_wait, zero, ℕ, ◌&&◌, ◌*◌, ◌++◌, ◌+◌, ◌∙◌, ◌∷◌, ◌≡◌}
 use Rattle.std.proofs.Common.{false, length, Result, subst, arith, ⊎_elim, append-nil}
 use Rattle.std.proofs.lemmas.List.{length-append, map-append}
 use Rattle.std.specs.List.{flat_map}
@@ -12,7 +13,7 @@ use Rattle.tj_body.specs.History.{after_try_fork, after_failure, after_write, af
 use Rattle.tj_body.specs.Rounds.{family, given, tasks, last_round}
 use Rattle.tj_body.proofs.Lists.{in_either}
 use Rattle.tj_eval.specs.Stands.{PlacedState, placed_asks}
-use Rattle.tj_trace.specs.Logs.{made_by, noted, logged_places, logged_awaits, logged_left, logged_asks, logged_program}
+use Rattle.tj_trace.specs.Logs.{made_by, noted, logged_left, logged_program}
 use Rattle.tj_trace.specs.NoteLaws.{is_sort, things, AreNoted, NotesAreWhole}
 use Rattle.tj_base.specs.declared.cell.Sort.TheVariants as sort
 use Rattle.tj_base.specs.declared.cause.Cause.TheVariants as cause
@@ -181,11 +182,8 @@ some_is : {A : Type 0} (x y : A) → ◌≡◌ {A = Option A} (Some x) (Some y) 
 some_is x y e = cc
 
 module _ (strict : Bool) where
-  abbrev rules : Rules Logged
-  rules = rules_of logged_places logged_awaits logged_left logged_asks logged_then strict
-
   stage_noted : (V : Assignment) (s : PointStage) (p : Point Logged) → p.stage ≡ s → IsWhole p
-      → IsWhole (after_stage rules V s p)
+      → IsWhole (after_stage (rules strict) V s p)
   stage_noted V (stage.Answered a) p e h =
       ask_noted strict (placed_asks p.body.placed a) (record p { body = logged_then p.body a }) refl
       (record {
@@ -195,7 +193,8 @@ module _ (strict : Bool) where
   stage_noted V (stage.Waits q spare) p e h = look_noted spare q (V q) p e h
   stage_noted V (stage.Closed c) p e h = h
 
-  point_noted : (V : Assignment) (t : Task Logged) → t.body.makers ≡ [] → (k : ℕ) → IsWhole (point_after rules V k t)
+  point_noted : (V : Assignment) (t : Task Logged) → t.body.makers ≡ [] → (k : ℕ)
+      → IsWhole (point_after (rules strict) V k t)
   point_noted V t e zero = record {
     made = record {
       each = ap length e;
@@ -204,27 +203,28 @@ module _ (strict : Bool) where
     };
     children = λ c i. absurd i;
   }
-  point_noted V t e (suc k) = stage_noted V (point_after rules V k t).stage (point_after rules V k t) refl
-      (point_noted V t e k)
+  point_noted V t e (suc k) =
+      let p = point_after (rules strict) V k t in stage_noted V p.stage p refl (point_noted V t e k)
 
-  history_noted : (V : Assignment) (t : Task Logged) → t.body.makers ≡ [] → IsWhole (history rules V t)
+  history_noted : (V : Assignment) (t : Task Logged) → t.body.makers ≡ [] → IsWhole (history (rules strict) V t)
   history_noted V t e = point_noted V t e (2 * suc (logged_left t.body))
 
   each_fresh : (V : Assignment) (d : ℕ)
-      → ((t : Task Logged) → t.body.makers ≡ [] → AreFresh (family rules V d t)) → (ts : List (Task Logged))
-      → AreFresh ts → AreFresh (flat_map (family rules V d) ts)
+      → ((t : Task Logged) → t.body.makers ≡ [] → AreFresh (family (rules strict) V d t)) → (ts : List (Task Logged))
+      → AreFresh ts → AreFresh (flat_map (family (rules strict) V d) ts)
   each_fresh V d go [] f c i = absurd i
   each_fresh V d go (u ∷ ts) f c i = ⊎_elim (λ j. go u (f u (inl refl)) c j)
       (λ j. each_fresh V d go ts (λ x k. f x (inr k)) c j)
-      (in_either c (family rules V d u) (flat_map (family rules V d) ts) i)
+      (in_either c (family (rules strict) V d u) (flat_map (family (rules strict) V d) ts) i)
 
   -- the tasks that come from one have asked nothing
-  pub family_fresh : (V : Assignment) (d : ℕ) (t : Task Logged) → t.body.makers ≡ [] → AreFresh (family rules V d t)
+  pub family_fresh : (V : Assignment) (d : ℕ) (t : Task Logged) → t.body.makers ≡ []
+      → AreFresh (family (rules strict) V d t)
   family_fresh V zero t e c (inl f) = ap (λ (z : Task Logged). z.body.makers) f ∙ e
   family_fresh V zero t e c (inr i) = absurd i
   family_fresh V (suc d) t e c (inl f) = ap (λ (z : Task Logged). z.body.makers) f ∙ e
   family_fresh V (suc d) t e c (inr i) =
-      each_fresh V d (family_fresh V d) (history rules V t).children (history_noted V t e).children c i
+      each_fresh V d (family_fresh V d) (history (rules strict) V t).children (history_noted V t e).children c i
 
 -- the points of tasks that had asked nothing are whole
 each_whole : (strict : Bool) (V : Assignment) (ts : List (Task Logged)) → AreFresh ts → (p : Point Logged)

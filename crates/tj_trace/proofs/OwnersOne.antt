@@ -1,9 +1,10 @@
 -- A cell has one owner at most where the tasks have stopped: what is owed is written, and nothing is owned or written
 -- twice.
+use Rattle.tj_trace.proofs.LoggedRules.{rules}
 use Rattle.tj_trace.proofs.Prelude.{Ask, Bool, Ending, Entry, IsIn, Logged, Name, PlacedState, Point, PointStage, Rules}
 use Rattle.tj_trace.proofs.Prelude.{Task, TraceLine, after_ask, after_look, after_read, ap, ending_of, given, history}
-use Rattle.tj_trace.proofs.Prelude.{inr, last_round, line_of, logged_asks, logged_awaits, logged_left, logged_places}
-use Rattle.tj_trace.proofs.Prelude.{logged_program, logged_then, map, rules_of, suc, sym, tasks, ℕ, ◌*◌, ◌∙◌, ◌∷◌, ◌≡◌}
+use Rattle.tj_trace.proofs.Prelude.{inr, last_round, line_of, logged_left}
+use Rattle.tj_trace.proofs.Prelude.{logged_program, map, suc, sym, tasks, ℕ, ◌*◌, ◌∙◌, ◌∷◌, ◌≡◌}
 use Rattle.std.proofs.Common.{zero, ◌≤◌, true, false, Option, Some, None, refl, subst, arith}
 use Rattle.tj_body.specs.Names.{in_order}
 use Rattle.tj_body.specs.History.{Assignment, after_close, after_stage, owned_in, point_after, value_at, with_entry}
@@ -71,29 +72,28 @@ module _ {B : Type 0} where
 
 -- what a task with this history kept, it owns or has broken
 kept_used : (strict : Bool) (V : Assignment) (t : Task Logged) (e : Ending) (q : Name)
-    → let rules = rules_of logged_places logged_awaits logged_left logged_asks logged_then strict in
-    let p = history rules V t in
-    (z : PointStage) → p.stage ≡ z → ending_of z ≡ Some e → IsIn q (kept_by (ended_line p e)) → 1 ≤ uses rules V q t
+    → let p = history (rules strict) V t in
+    (z : PointStage) → p.stage ≡ z → ending_of z ≡ Some e → IsIn q (kept_by (ended_line p e))
+    → 1 ≤ uses (rules strict) V q t
 kept_used strict V t e q (stage.Answered a) s f i = absurd (not_none e f)
 kept_used strict V t e q (stage.Waits x spare) s f i =
-    let p = history (rules_of logged_places logged_awaits logged_left logged_asks logged_then strict) V t in
+    let p = history (rules strict) V t in
     let g = some_is (ending.Waits x) e f in
     let j : IsIn q (p.name ∷ p.holds) = subst (λ o. IsIn q (kept_with o (ended_line p e))) (sym g) i in
     let k = times_of_in q (owned_in p.stage p.name p.holds)
     (subst (λ w. IsIn q (owned_in w p.name p.holds)) (sym s) j) in
     omega arith
 kept_used strict V t e q (stage.Closed c) s f i =
-    let rules = rules_of logged_places logged_awaits logged_left logged_asks logged_then strict in
-    let p = history rules V t in
+    let p = history (rules strict) V t in
     let j : IsIn q p.owed = ended c e f i in
-    let k = wrote_of_in q entry.Broken p.writes (owes_written rules V t (2 * suc (logged_left t.body)) q j) in
+    let k = wrote_of_in q entry.Broken p.writes (owes_written (rules strict) V t (2 * suc (logged_left t.body)) q j) in
     omega arith where
       no_wait : (c : Close) (x : Name) → ending_of (stage.Closed c) ≡ Some (ending.Waits x) → ⊥
       no_wait (close.Done v) x f = cc
       no_wait (close.Failed c) x f = cc
 
       ended : (c : Close) (e : Ending) → ending_of (stage.Closed c) ≡ Some e
-          → let p = history (rules_of logged_places logged_awaits logged_left logged_asks logged_then strict) V t in
+          → let p = history (rules strict) V t in
           IsIn q (kept_by (ended_line p e)) → IsIn q p.owed
       ended c (ending.Waits x) f i = absurd (no_wait c x f)
       ended c e f i = i

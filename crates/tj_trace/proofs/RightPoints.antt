@@ -1,10 +1,11 @@
 -- At each point of a task's history its notes, its children and the statement at which it stands are right.
+use Rattle.tj_trace.proofs.LoggedRules.{rules}
 use Rattle.tj_trace.proofs.Prelude.{Ask, Assignment, Bool, Cause, Entry, Err, IsIn, List, Logged, Maker, Name, None, Ok}
-use Rattle.tj_trace.proofs.Prelude.{Point, PointStage, Reference, Rules, Sort, Task, Value, [], after_ask, after_get}
+use Rattle.tj_trace.proofs.Prelude.{Point, PointStage, Reference, Sort, Task, Value, [], after_ask, after_get}
 use Rattle.tj_trace.proofs.Prelude.{after_join, after_look, after_new, after_read, after_set, after_stage, after_write}
 use Rattle.tj_trace.proofs.Prelude.{ap, ask_as, before, child, cond, hand_all, has, history, inl, inr, length-append}
-use Rattle.tj_trace.proofs.Prelude.{logged, logged_asks, logged_awaits, logged_left, logged_places, logged_then}
-use Rattle.tj_trace.proofs.Prelude.{made_by, maker_here, map, not, point_after, reference, refl, rules_of, slice_get}
+use Rattle.tj_trace.proofs.Prelude.{logged, logged_left, logged_then}
+use Rattle.tj_trace.proofs.Prelude.{made_by, maker_here, map, not, point_after, reference, refl, slice_get}
 use Rattle.tj_trace.proofs.Prelude.{suc, sym, true, with_wait, within, zero, ℕ, ◌&&◌, ◌*◌, ◌++◌, ◌∙◌, ◌∷◌, ◌≡◌, ◌⊎◌}
 use Rattle.std.proofs.Common.{pos, false, length, Option, Some, Result, subst, arith, ⊎_elim}
 use Rattle.tj_base.specs.declared.cause.Trouble.{Trouble}
@@ -346,12 +347,9 @@ module _ (script : List tree.Task) (d : ℕ) (all : List Statement) where
     by b (entry.Value (value.Ref r)) = record { run = h.run; stage = λ fault g. (at.0, at.1); notes = notes }
 
   module _ (strict : Bool) where
-    abbrev rules : Rules Logged
-    rules = rules_of logged_places logged_awaits logged_left logged_asks logged_then strict
-
     -- each step
     right_step : (V : Assignment) (s : PointStage) (p : Point Logged) → p.stage ≡ s → IsRightPoint p
-        → IsRightPoint (after_stage rules V s p)
+        → IsRightPoint (after_stage (rules strict) V s p)
     right_step V (stage.Answered a) p e h =
         let x = p.body.placed in
         let k = is_asked all x a h.run.named (subst (λ s. IsRightStage s x) e h.stage) in
@@ -365,7 +363,7 @@ module _ (script : List tree.Task) (d : ℕ) (all : List Statement) where
     right_step V (stage.Closed c) p e h = h
 
     right_point : (V : Assignment) (t : Task Logged) → IsRun t.body.placed → t.body.makers ≡ [] → (k : ℕ)
-        → IsRightPoint (point_after rules V k t)
+        → IsRightPoint (point_after (rules strict) V k t)
     right_point V t r e zero = record {
       run = r;
       stage = λ fault f. absurd (begins _ t.body.placed.task.due fault f);
@@ -375,13 +373,13 @@ module _ (script : List tree.Task) (d : ℕ) (all : List Statement) where
         forked = λ c i. absurd i;
       };
     }
-    right_point V t r e (suc k) = right_step V (point_after rules V k t).stage (point_after rules V k t) refl
-        (right_point V t r e k)
+    right_point V t r e (suc k) =
+        let p = point_after (rules strict) V k t in right_step V p.stage p refl (right_point V t r e k)
 
 -- where a task stood that has stopped, and what it noted and forked
 pub right_history : (script : List tree.Task) (strict : Bool) (V : Assignment) (t : Task Logged) (n : IsNew script t)
     → IsRightPoint script t.body.placed.stand.decl (within n.right.task.body)
-    (history (rules_of logged_places logged_awaits logged_left logged_asks logged_then strict) V t)
+    (history (rules strict) V t)
 right_history script strict V t n =
     right_point script t.body.placed.stand.decl (within n.right.task.body) strict V t
     (record { named = n.right.named; same = n.same; decl = refl }) n.fresh (2 * suc (logged_left t.body))
