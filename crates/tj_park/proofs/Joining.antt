@@ -1,8 +1,10 @@
 -- A task is added to a chain: how the loads of the head and the pushes that fail go on.
-use Rattle.tj_park.proofs.Prelude.{Bool, HasFoundChains, Head, IsAdded, IsIn, List, LooksOn, None, Option, Program}
-use Rattle.tj_park.proofs.Prelude.{Some, View, Way, [], ap, arith, cond, eq-eqb, false, head_of, head_word, inl}
-use Rattle.tj_park.proofs.Prelude.{join_steps, length, more_in_front, more_on, more_same, push_behind, refl, subst, suc}
-use Rattle.tj_park.proofs.Prelude.{sym, without_push, ℕ, ◌*◌, ◌++◌, ◌+◌, ◌-◌, ◌<◌, ◌∙◌, ◌∷◌, ◌≡◌, ◌≢◌, ◌≤◌}
+use Rattle.tj_park.proofs.Prelude.{AreCells, Bool, HasFoundChains, Head, IsAdded, IsIn, KnowsMore, List, LooksOn}
+use Rattle.tj_park.proofs.Prelude.{None, Option, Program, Reference, Some, View, Way, [], ap, arith, cond, eq-eqb}
+use Rattle.tj_park.proofs.Prelude.{false, head_of, head_word, inl, join_steps, length, more_in_front, more_on}
+use Rattle.tj_park.proofs.Prelude.{more_same, push_behind, refl, subst, suc, sym, without_push, ℕ, ◌*◌, ◌++◌, ◌+◌}
+use Rattle.tj_park.proofs.Prelude.{◌-◌, ◌<◌, ◌∙◌, ◌∷◌, ◌≡◌, ◌≢◌, ◌≤◌}
+use Rattle.tj_words.specs.declared.view.Filled.{Filled}
 use Rattle.tj_words.specs.declared.view.Found.{Found}
 use Rattle.tj_words.specs.declared.view.Push.{Push}
 use Rattle.tj_words.specs.Calls.ChainSteps.{HasPush, HasPushBehind, KnowsEntry, pushed, stored_next, with_next}
@@ -128,6 +130,24 @@ module _ {B : Type 0} where
     pub fewer : (a : About B) → v.about ≡ Some a → a.cells ≡ cells → length chains ≤ cells
     pub closed : w.closed ≡ closed_with q behind v.closed
 
+  -- a view in which only steps, pushes and found chains differ, and what is known of the table has grown
+  grown_looks : {cells : ℕ} (v : View B) (n : ℕ) (ps : List Push) (fs : List Found) (born : List Reference)
+      (closed : List ℕ) (filled : List Filled) → (
+        let w = record v { steps = n; pushes = ps; found = fs; born = born; closed = closed; filled = filled } in
+        KnowsMore v w → (AreCells cells v.born → AreCells cells born) → LooksOn cells v w
+      )
+  grown_looks v n ps fs born closed filled knows all = record {
+    knows = knows;
+    all = all;
+    hand = record { hand = refl; dues = refl };
+    counts = record { tokens = refl; cleared = refl; refused = refl };
+    tasks = refl;
+    shuts = refl;
+    rest = refl;
+    plain_loads = refl;
+    once_loads = refl;
+  }
+
   shut_looks : {program : Bool → B → Program B} (cells q : ℕ) (v w : View B) → FindsShut program cells q v w
       → LooksOn cells v w × IsShutAt q w × (w.pushes ≡ v.pushes) × (w.steps ≡ suc v.steps) × (w.found ≡ v.found)
       × (w.closed ≡ q ∷ v.closed)
@@ -135,17 +155,9 @@ module _ {B : Type 0} where
       (λ (z : View B). LooksOn cells v z × IsShutAt q z × (z.pushes ≡ v.pushes) × (z.steps ≡ suc v.steps)
       × (z.found ≡ v.found) × (z.closed ≡ q ∷ v.closed))
       (sym f.view) (
-        record {
-          knows = more_in_front v (found_shut q f.born f.entry v) [] [] (_ ∷ []) [] (q ∷ []) f.begins ([], refl);
-          all = λ _. f.all;
-          hand = record { hand = refl; dues = refl };
-          counts = record { tokens = refl; cleared = refl; refused = refl };
-          tasks = refl;
-          shuts = refl;
-          rest = refl;
-          plain_loads = refl;
-          once_loads = refl;
-        },
+        grown_looks v (suc v.steps) v.pushes v.found f.born (q ∷ v.closed) (_ ∷ v.filled)
+            (more_in_front v (found_shut q f.born f.entry v) [] [] (_ ∷ []) [] (q ∷ []) f.begins ([], refl))
+            (λ _. f.all),
         (inl refl, (record { cell = q; entry = f.entry }, inl refl, refl)),
         refl,
         refl,
@@ -156,17 +168,8 @@ module _ {B : Type 0} where
   -- a view in which only steps, pushes and found chains differ
   same_looks : {cells : ℕ} (v : View B) (n : ℕ) (ps : List Push) (fs : List Found)
       → LooksOn cells v (record v { steps = n; pushes = ps; found = fs })
-  same_looks v n ps fs = record {
-    knows = more_same v (record v { steps = n; pushes = ps; found = fs }) ([], refl);
-    all = λ a. a;
-    hand = record { hand = refl; dues = refl };
-    counts = record { tokens = refl; cleared = refl; refused = refl };
-    tasks = refl;
-    shuts = refl;
-    rest = refl;
-    plain_loads = refl;
-    once_loads = refl;
-  }
+  same_looks v n ps fs = grown_looks v n ps fs v.born v.closed v.filled
+      (more_same v (record v { steps = n; pushes = ps; found = fs }) ([], refl)) (λ a. a)
 
   chain_looks : (cells q : ℕ) (h : Head) (v w : View B) → (f : FindsChain cells q h v w)
       → LooksOn cells v w × (w.found ≡ record { cell = q; chain = f.chain } ∷ v.found) × (w.pushes ≡ v.pushes)
