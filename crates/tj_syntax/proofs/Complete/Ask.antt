@@ -62,30 +62,15 @@ expression_begins (g.compared {a = a} {b = b} r c d) rest =
 
 -- the token is no closing parenthesis
 no_close : (t : Option Tok) → begins t ≡ true → is_mark m.ParenClose t ≡ false
-no_close (Some (toks.Num n)) h = refl
-no_close (Some (toks.Name x)) h = refl
-no_close (Some (toks.Key k.Me)) h = refl
-no_close (Some (toks.Mark m.Minus)) h = refl
-no_close (Some (toks.Mark m.ParenOpen)) h = refl
-no_close t h = absurd (cc)
+no_close t h = grind arith
 
 as_value : (room : ℕ) (t : Option Tok) (i : Input) → begins t ≡ true
     → argument_by room t i ≡ and_then (expression room i) (λ x j. Ok (tree.value x, j))
-as_value room (Some (toks.Num n)) i h = refl
-as_value room (Some (toks.Name x)) i h = refl
-as_value room (Some (toks.Key k.Me)) i h = refl
-as_value room (Some (toks.Mark m.Minus)) i h = refl
-as_value room (Some (toks.Mark m.ParenOpen)) i h = refl
-as_value room t i h = absurd (cc)
+as_value room t i h = grind arith
 
 as_result : (room : ℕ) (t : Option Tok) (i : Input) → begins t ≡ true
     → given_by room t i ≡ and_then (expression room i) (λ x j. Ok (tree.result_of x, j))
-as_result room (Some (toks.Num n)) i h = refl
-as_result room (Some (toks.Name x)) i h = refl
-as_result room (Some (toks.Key k.Me)) i h = refl
-as_result room (Some (toks.Mark m.Minus)) i h = refl
-as_result room (Some (toks.Mark m.ParenOpen)) i h = refl
-as_result room t i h = absurd (cc)
+as_result room t i h = grind arith
 
 pub argument_does : (heads : List Head) {vars : List Name} {room : ℕ} {a : List Noted} {x : Argument}
     → IsArgument vars room a x

@@ -122,11 +122,11 @@ all_fine script [] u f s = tt
 all_fine script (n ∷ notes) u f s =
     (record { unbroken = u.0; fork = f.0; stands = s.0 }, all_fine script notes u.1 f.1 s.1)
 
-unbroken : (script : List Task) (notes : List Noted) → AreFine script notes → AreUnbroken notes
+pub unbroken : (script : List Task) (notes : List Noted) → AreFine script notes → AreUnbroken notes
 unbroken script [] h = tt
 unbroken script (n ∷ notes) h = (h.0.unbroken, unbroken script notes h.1)
 
-forks_right : (script : List Task) (notes : List Noted) → AreFine script notes → AreForksRight script notes
+pub forks_right : (script : List Task) (notes : List Noted) → AreFine script notes → AreForksRight script notes
 forks_right script [] h = tt
 forks_right script (n ∷ notes) h = (h.0.fork, forks_right script notes h.1)
 

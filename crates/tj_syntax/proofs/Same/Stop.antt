@@ -175,6 +175,21 @@ pub stop_read : (ts : List Tok) (script : List Task) (j : Input) → tasks (star
     → stop_of ts ≡ first_flaw j.flaw (stop_of_main (head_named (heads_from [] ts) (codes "main")))
 stop_read ts script j h = ap (λ o. stop_in (heads_from [] ts) o) h
 
+-- the stop of a reading, at a token of the text
+stop_at : {tokens : List Token} {ts : List Tok} (s : Stop) (front back : List Token) (token : Token)
+    → stop_of ts ≡ Some s → tokens ≡ front ++ token ∷ back → AreLeft s (length back)
+    → IsOfStop tokens ts (fault_at s token.at)
+stop_at s front back token stops whole left = record {
+  stop_is = s;
+  stops = stops;
+  front = front;
+  back = back;
+  token = token;
+  whole = whole;
+  left = left;
+  is = refl;
+}
+
 pub fork_stops : (tokens : List Token) (ts : List Tok) (front back : List Token) (token : Token)
     (before after : List Noted) (note : Note) (script : List Task)
     (breach : Breach) → kinds_of tokens ≡ ts ++ toks.End ∷ [] → tokens ≡ front ++ token ∷ back
@@ -189,17 +204,10 @@ fork_stops tokens ts front back token before after note script breach whole part
     let body = body_is tokens front back token ts before after note whole parts first last in
     let read = sentence ts notes script body derived unbroken in
     let flaw = fork_flaw (heads_from [] ts) script read.heads before after (token.what, note) breach right faulty in
-    record {
-      stop_is = stop.Broken breach (suc (length after));
-      stops = stop_read ts script _ read.reads
-          ∙ ap (λ f. first_flaw f (stop_of_main (head_named (heads_from [] ts) (codes "main")))) flaw;
-      front = front;
-      back = back;
-      token = token;
-      whole = parts;
-      left = sym (behind_count back after last);
-      is = refl;
-    }
+    stop_at (stop.Broken breach (suc (length after))) front back token
+    (stop_read ts script _ read.reads
+    ∙ ap (λ f. first_flaw f (stop_of_main (head_named (heads_from [] ts) (codes "main")))) flaw)
+    parts (sym (behind_count back after last))
 
 -- ---- the task `main`
 
@@ -219,18 +227,11 @@ main_stops tokens ts notes script ended whole spells derived unbroken right none
     let absent = no_head (head_named (heads_from [] ts) (codes "main"))
     (head_params (heads_from [] ts) script read.heads (codes "main")
     ∙ ap (λ o. option_map (λ (t : Task). t.params) o) none) in
-    record {
-      stop_is = stop.NoMain;
-      stops = stop_read ts script _ read.reads
-          ∙ ap (λ f. first_flaw f (stop_of_main (head_named (heads_from [] ts) (codes "main")))) flaw
-          ∙ ap stop_of_main absent;
-      front = ended.front;
-      back = [];
-      token = ended.last;
-      whole = ended.whole;
-      left = tt;
-      is = refl;
-    }
+    stop_at stop.NoMain ended.front [] ended.last
+    (stop_read ts script _ read.reads
+    ∙ ap (λ f. first_flaw f (stop_of_main (head_named (heads_from [] ts) (codes "main")))) flaw
+    ∙ ap stop_of_main absent)
+    ended.whole tt
 
 some_params : (count left : ℕ) → 0 < count → stop_of_params count left ≡ Some (stop.MainParams left)
 some_params zero left h = absurd (omega arith)
@@ -257,15 +258,8 @@ params_stop tokens ts front back token before after script count whole parts nam
     (ap (λ t. before ++ (t, declares count) ∷ after) named) in
     let has : head_named (heads_from [] ts) (codes "main") ≡ Some main =
     subst (λ l. head_named (heads_from [] l) (codes "main") ≡ Some main) (sym body) found in
-    record {
-      stop_is = stop.MainParams (suc (length after));
-      stops = stop_read ts script _ read.reads
-          ∙ ap (λ f. first_flaw f (stop_of_main (head_named (heads_from [] ts) (codes "main")))) flaw
-          ∙ ap stop_of_main has ∙ some_params count (suc (length after)) some;
-      front = front;
-      back = back;
-      token = token;
-      whole = parts;
-      left = sym (behind_count back after last);
-      is = refl;
-    }
+    stop_at (stop.MainParams (suc (length after))) front back token
+    (stop_read ts script _ read.reads
+    ∙ ap (λ f. first_flaw f (stop_of_main (head_named (heads_from [] ts) (codes "main")))) flaw
+    ∙ ap stop_of_main has ∙ some_params count (suc (length after)) some)
+    parts (sym (behind_count back after last))

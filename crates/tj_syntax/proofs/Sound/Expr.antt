@@ -25,37 +25,36 @@ use Rattle.tj_syntax.specs.Inner.Reading.{comparison_by, operand_over, sum_over,
 use Rattle.tj_syntax.proofs.Taken.{Got, Sound, took_nothing, took_both, bind_ok, landed}
 use Rattle.tj_syntax.proofs.Sound.Steps.{took_fine, expected, opened, knew}
 
+-- the mark at the front is that of the operator, which is one of the level
+operator_mark : {level : Level} (o is : Op) (rest : List Tok) → o ≡ is → level_of o ≡ level
+    → (more : List Tok) × (toks.Mark (op_mark o) ∷ rest ≡ toks.Mark (op_mark is) ∷ more) × (level_of is ≡ level)
+operator_mark o is rest e l = (rest, ap (λ o. toks.Mark (op_mark o) ∷ rest) e, ap level_of (sym e) ∙ l)
+
 pub operator_next : (level : Level) (ts : List Tok) (o : Op) → operator level (first ts) ≡ Some o
     → (rest : List Tok) × (ts ≡ toks.Mark (op_mark o) ∷ rest) × (level_of o ≡ level)
 operator_next sums [] o h = absurd (cc)
 operator_next products [] o h = absurd (cc)
-operator_next sums (toks.Mark m.Plus ∷ rest) o h = let e : op.Plus ≡ o = cc in subst (λ o. (more : List Tok) ×
-    (toks.Mark m.Plus ∷ rest ≡ toks.Mark (op_mark o) ∷ more) × (level_of o ≡ sums)) e (rest, refl, refl)
-operator_next sums (toks.Mark m.Minus ∷ rest) o h = let e : op.Minus ≡ o = cc in subst (λ o. (more : List Tok) ×
-    (toks.Mark m.Minus ∷ rest ≡ toks.Mark (op_mark o) ∷ more) × (level_of o ≡ sums)) e (rest, refl, refl)
-operator_next products (toks.Mark m.Times ∷ rest) o h = let e : op.Times ≡ o = cc in subst (λ o. (more : List Tok) ×
-    (toks.Mark m.Times ∷ rest ≡ toks.Mark (op_mark o) ∷ more) × (level_of o ≡ products)) e (rest, refl, refl)
-operator_next products (toks.Mark m.Over ∷ rest) o h = let e : op.Over ≡ o = cc in subst (λ o. (more : List Tok) ×
-    (toks.Mark m.Over ∷ rest ≡ toks.Mark (op_mark o) ∷ more) × (level_of o ≡ products)) e (rest, refl, refl)
-operator_next products (toks.Mark m.Rest ∷ rest) o h = let e : op.Rest ≡ o = cc in subst (λ o. (more : List Tok) ×
-    (toks.Mark m.Rest ∷ rest ≡ toks.Mark (op_mark o) ∷ more) × (level_of o ≡ products)) e (rest, refl, refl)
+operator_next sums (toks.Mark m.Plus ∷ rest) o h = operator_mark op.Plus o rest (cc) refl
+operator_next sums (toks.Mark m.Minus ∷ rest) o h = operator_mark op.Minus o rest (cc) refl
+operator_next products (toks.Mark m.Times ∷ rest) o h = operator_mark op.Times o rest (cc) refl
+operator_next products (toks.Mark m.Over ∷ rest) o h = operator_mark op.Over o rest (cc) refl
+operator_next products (toks.Mark m.Rest ∷ rest) o h = operator_mark op.Rest o rest (cc) refl
 operator_next sums (t ∷ rest) o h = absurd (cc)
 operator_next products (t ∷ rest) o h = absurd (cc)
 
+-- the mark at the front is that of the comparison
+relation_mark : (r is : Rel) (rest : List Tok) → r ≡ is
+    → (more : List Tok) × (toks.Mark (rel_mark r) ∷ rest ≡ toks.Mark (rel_mark is) ∷ more)
+relation_mark r is rest e = (rest, ap (λ r. toks.Mark (rel_mark r) ∷ rest) e)
+
 pub relation_next : (ts : List Tok) (rel : Rel) → relation (first ts) ≡ Some rel → (rest : List Tok) × (ts ≡ toks.Mark
     (rel_mark rel) ∷ rest)
-relation_next (toks.Mark m.Eq ∷ rest) r h = let e : rel.Eq ≡ r = cc in subst (λ o. (more : List Tok) × (toks.Mark m.Eq
-    ∷ rest ≡ toks.Mark (rel_mark o) ∷ more)) e (rest, refl)
-relation_next (toks.Mark m.Ne ∷ rest) r h = let e : rel.Ne ≡ r = cc in subst (λ o. (more : List Tok) × (toks.Mark m.Ne
-    ∷ rest ≡ toks.Mark (rel_mark o) ∷ more)) e (rest, refl)
-relation_next (toks.Mark m.Lt ∷ rest) r h = let e : rel.Lt ≡ r = cc in subst (λ o. (more : List Tok) × (toks.Mark m.Lt
-    ∷ rest ≡ toks.Mark (rel_mark o) ∷ more)) e (rest, refl)
-relation_next (toks.Mark m.Le ∷ rest) r h = let e : rel.Le ≡ r = cc in subst (λ o. (more : List Tok) × (toks.Mark m.Le
-    ∷ rest ≡ toks.Mark (rel_mark o) ∷ more)) e (rest, refl)
-relation_next (toks.Mark m.Gt ∷ rest) r h = let e : rel.Gt ≡ r = cc in subst (λ o. (more : List Tok) × (toks.Mark m.Gt
-    ∷ rest ≡ toks.Mark (rel_mark o) ∷ more)) e (rest, refl)
-relation_next (toks.Mark m.Ge ∷ rest) r h = let e : rel.Ge ≡ r = cc in subst (λ o. (more : List Tok) × (toks.Mark m.Ge
-    ∷ rest ≡ toks.Mark (rel_mark o) ∷ more)) e (rest, refl)
+relation_next (toks.Mark m.Eq ∷ rest) r h = relation_mark rel.Eq r rest (cc)
+relation_next (toks.Mark m.Ne ∷ rest) r h = relation_mark rel.Ne r rest (cc)
+relation_next (toks.Mark m.Lt ∷ rest) r h = relation_mark rel.Lt r rest (cc)
+relation_next (toks.Mark m.Le ∷ rest) r h = relation_mark rel.Le r rest (cc)
+relation_next (toks.Mark m.Gt ∷ rest) r h = relation_mark rel.Gt r rest (cc)
+relation_next (toks.Mark m.Ge ∷ rest) r h = relation_mark rel.Ge r rest (cc)
 relation_next ts r h = absurd (cc)
 
 -- pairs that were read behind those found before

@@ -9,7 +9,8 @@ use Rattle.tj_syntax.specs.Grammar as g
 use Rattle.tj_syntax.specs.Grammar.{IsGiven, IsStatement, IsBlock, IsStatements, IsElse, IsTask, IsTasks, IsProgram}
 use Rattle.tj_syntax.specs.Within.{inside, within, within_other}
 use Rattle.tj_syntax.specs.Starts.{Start, ask_in, starts_of, in_block, starts_in, in_else, in_task, in_tasks}
-use Rattle.tj_syntax.specs.Parts.{StandsAt, given_ask, IsAskAt, StandAt, TaskStandsAt, TasksStandAt}
+use Rattle.tj_syntax.specs.Parts.{StandsAt, given_ask, own_ask, AskStandsAt, IsAskAt, StatementStandsAt, StandAt}
+use Rattle.tj_syntax.specs.Parts.{TaskStandsAt, TasksStandAt}
 
 -- the first of two parts, and the second
 first : {notes a : List Noted} {k : ℕ} (b : List Noted) → StandsAt notes (a ++ b) k → StandsAt notes a k
@@ -42,69 +43,44 @@ given_stands {vars = vars} {room = room} notes k (g.answer {a = a} p) h =
     record { room = room; vars = vars; part = a; is = p; stands = h }
 given_stands notes k (g.result_of p) h = tt
 
+-- the statement stands where its tokens and its ask do
+stands_with : {tasks : List Name} {room : ℕ} {vars last : List Name} {a : List Noted} {s : Statement}
+    (notes : List Noted) (p : Start) → IsStatement tasks room vars a s last → StandsAt notes a p.at
+    → IsAskAt tasks notes (own_ask s) p.ask → StatementStandsAt tasks notes s p
+stands_with {room = room} {vars = vars} {last = last} {a = a} notes p is h ask =
+    record { room = room; vars = vars; last = last; part = a; is = is; stands = h; ask = ask }
+
 mutual
   statement_stands : {tasks : List Name} {room : ℕ} {vars last : List Name} {a : List Noted} {s : Statement}
       (notes : List Noted) (p : IsStatement tasks room vars a s last) (k : ℕ) → StandsAt notes a k
       → StandAt tasks notes (inside s) (starts_of p k)
-  statement_stands {room = room} {vars = vars} {last = last} {a = all} notes (g.let_new {a = a} x p) k h =
-      let start : List Noted = _ ∷ _ ∷ _ ∷ [] in (
-        record {
-          room = room;
-          vars = vars;
-          last = last;
-          part = all;
-          is = g.let_new x p;
-          stands = h;
-          ask = given_stands notes (k + 3) p (first (mark m.Semi ∷ []) (second start (k + 3) refl h));
-        },
-        tt,
-      )
-  statement_stands {room = room} {vars = vars} {last = last} {a = all} notes (g.assign {a = a} x p) k h = (
-    record {
-      room = room;
-      vars = vars;
-      last = last;
-      part = all;
-      is = g.assign x p;
-      stands = h;
-      ask = given_stands notes (k + 2) p (first (mark m.Semi ∷ []) (second (_ ∷ _ ∷ []) (k + 2) refl h));
-    },
-    tt,
-  )
-  statement_stands {room = room} {vars = vars} {last = last} {a = all} notes (g.ask {a = a} p) k h = (
-    record {
-      room = room;
-      vars = vars;
-      last = last;
-      part = all;
-      is = g.ask p;
-      stands = h;
-      ask = record { room = room; vars = vars; part = a; is = p; stands = first (mark m.Semi ∷ []) h };
-    },
-    tt,
-  )
-  statement_stands {room = room} {vars = vars} {last = last} {a = all} notes (g.print p) k h =
-      (record { room = room; vars = vars; last = last; part = all; is = g.print p; stands = h; ask = tt }, tt)
-  statement_stands {room = room} {vars = vars} {last = last} {a = all} notes (g.set_cell x p) k h =
-      (record { room = room; vars = vars; last = last; part = all; is = g.set_cell x p; stands = h; ask = tt }, tt)
-  statement_stands {room = room} {vars = vars} {last = last} {a = all} notes (g.return p) k h =
-      (record { room = room; vars = vars; last = last; part = all; is = g.return p; stands = h; ask = tt }, tt)
-  statement_stands {room = room} {vars = vars} {last = last} {a = all} notes
-      (g.choose {a = a} {b = b} {c = c} {then_ = body} {else_ = other} p q r) k h =
+  statement_stands notes (g.let_new {a = a} x p) k h =
+      let start : List Noted = _ ∷ _ ∷ _ ∷ [] in
+      let side = first (mark m.Semi ∷ []) (second start (k + 3) refl h) in
+      (stands_with notes _ (g.let_new x p) h (given_stands notes (k + 3) p side), tt)
+  statement_stands notes (g.assign {a = a} x p) k h =
+      let side = first (mark m.Semi ∷ []) (second (_ ∷ _ ∷ []) (k + 2) refl h) in
+      (stands_with notes _ (g.assign x p) h (given_stands notes (k + 2) p side), tt)
+  statement_stands {room = room} {vars = vars} notes (g.ask {a = a} p) k h =
+      let ask : AskStandsAt _ notes _ k =
+      record { room = room; vars = vars; part = a; is = p; stands = first (mark m.Semi ∷ []) h } in
+      (stands_with notes _ (g.ask p) h ask, tt)
+  statement_stands notes (g.print p) k h = (stands_with notes _ (g.print p) h tt, tt)
+  statement_stands notes (g.set_cell x p) k h = (stands_with notes _ (g.set_cell x p) h tt, tt)
+  statement_stands notes (g.return p) k h = (stands_with notes _ (g.return p) h tt, tt)
+  statement_stands notes (g.choose {a = a} {b = b} {c = c} {then_ = body} {else_ = other} p q r) k h =
       let i = k + 1 + length a in
       let blocks : StandsAt notes (b ++ c) i =
       second a i refl (second (_ ∷ []) (k + 1) refl h) in (
-        record { room = room; vars = vars; last = last; part = all; is = g.choose p q r; stands = h; ask = tt },
+        stands_with notes _ (g.choose p q r) h tt,
         both _ notes (within body) (within_other other) (in_block q i) (in_else r (i + length b))
             (block_stands notes q i (first c blocks))
             (else_stands notes r (i + length b) (second b (i + length b) refl blocks)),
       )
-  statement_stands {room = room} {vars = vars} {last = last} {a = all} notes (g.repeat {a = a} {b = b} p q) k h =
+  statement_stands notes (g.repeat {a = a} {b = b} p q) k h =
       let i = k + 1 + length a in
-      let block : StandsAt notes b i = second a i refl (second (_ ∷ []) (k + 1) refl h) in (
-        record { room = room; vars = vars; last = last; part = all; is = g.repeat p q; stands = h; ask = tt },
-        block_stands notes q i block,
-      )
+      let block : StandsAt notes b i = second a i refl (second (_ ∷ []) (k + 1) refl h) in
+      (stands_with notes _ (g.repeat p q) h tt, block_stands notes q i block)
 
   block_stands : {tasks : List Name} {room : ℕ} {vars last : List Name} {a : List Noted} {body : Statements}
       (notes : List Noted) (p : IsBlock tasks room vars a body last) (k : ℕ) → StandsAt notes a k

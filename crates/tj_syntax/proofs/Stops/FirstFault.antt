@@ -17,8 +17,8 @@ use Rattle.tj_syntax.specs.Trees.{Task}
 use Rattle.tj_syntax.specs.Marks.{Name, Noted, broken, forks, declares, index_of}
 use Rattle.tj_syntax.specs.Grammar.{IsTasks, IsProgram}
 use Rattle.tj_syntax.specs.Faults.{tokens_of, kinds_of, AreUnbroken, AreForksRight, fork_of, fork_breach, task_named}
-use Rattle.tj_syntax.specs.Faults.{main_of, at_token, at_fork, no_main, main_params, cant_follow, breaks}
-use Rattle.tj_syntax.specs.Inner.Stops.{IsFirstStop}
+use Rattle.tj_syntax.specs.Faults.{main_of, at_token, at_fork, no_main, main_params, cant_follow, breaks, IsFirstFault}
+use Rattle.tj_syntax.specs.Inner.Stops.{IsFirstStop, fault_at, AreLeft}
 use Rattle.tj_syntax.specs.Inner.Input.{Head, Input, names_of, heads_from, flaw_at, head_at, head_named, first_flaw}
 use Rattle.tj_syntax.specs.Inner.Reading.{tasks}
 use Rattle.tj_syntax.proofs.Taken.{note_flaw, flaw_after, tokens_of-append, length-tokens_of}
@@ -123,6 +123,18 @@ parted_at body last end s b t after e =
     ∙ append_assoc (tokens_of b.front) b.rest (toks.End ∷ [])
     ∙ ap (λ ts. tokens_of b.front ++ ts) e)
 
+-- the first stop, at a token that parts the others
+stop_at : {tokens : List Token} {a b : List Tok} {t : Tok} (s : Stop) (p : Parted tokens a t b)
+    → AreLeft s (length p.back) → IsFirstFault tokens (fault_at s p.token.at) → IsFirstStop tokens s
+stop_at s p left first = record {
+  front = p.front;
+  back = p.back;
+  token = p.token;
+  whole = p.whole;
+  left = left;
+  is_first = first;
+}
+
 -- a reading that stops gives the first fault at a token
 pub stops_first : (body : List Token) (last : Token) → last.what ≡ toks.End → (s : Stop)
     → tasks (start_of (kinds_of body)) ≡ Err s
@@ -135,17 +147,10 @@ stops_first body last end s h = by s (begun (kinds_of body) s h) h
         let n = next_token b.rest in
         let p = parted_at body last end (stop.Expected left) b n.0 n.1 n.2 in
         let count : left ≡ length p.back = b.stops ∙ sym n.3 ∙ sym (ap length p.behind) ∙ length-kinds_of p.back in
-        record {
-          front = p.front;
-          back = p.back;
-          token = p.token;
-          whole = p.whole;
-          left = count;
-          is_first = at_token (cant_follow p.front p.back p.token b.front p.whole
-              (record { back = b.back; script = b.script; derived = b.derived; spells = p.before }) b.unbroken
-              (refused_token (heads_from [] (kinds_of body)) body last None left p.front p.back p.token h p.whole end
-              (sym count)));
-        }
+        stop_at (stop.Expected left) p count (at_token (cant_follow p.front p.back p.token b.front p.whole
+        (record { back = b.back; script = b.script; derived = b.derived; spells = p.before }) b.unbroken
+        (refused_token (heads_from [] (kinds_of body)) body last None left p.front p.back p.token h p.whole end
+        (sym count))))
     by (stop.Broken breach left) b h =
         let at = b.stops in
         let t = at.0 in
@@ -158,23 +163,16 @@ stops_first body last end s h = by s (begun (kinds_of body) s h) h
         ∙ length-kinds_of p.back in
         let note : ◌≡◌ {A = Noted} (t, broken breach) (p.token.what, broken breach) = ap
         (λ k. (k, broken breach)) (sym p.is) in
-        record {
-          front = p.front;
-          back = p.back;
-          token = p.token;
-          whole = p.whole;
-          left = count;
-          is_first = at_token (breaks p.front p.back p.token b.front breach p.whole
-              (record {
-                back = more;
-                script = b.script;
-                derived = subst (λ ns. IsProgram ns b.script)
-                    (ap (λ ns. b.front ++ ns) (at.4 ∙ ap (λ n. n ∷ more) note)
-                    ∙ sym (append_assoc b.front ((p.token.what, broken breach) ∷ []) more)) b.derived;
-                spells = kinds_of-append p.front (p.token ∷ []) ∙ ap (λ ts. ts ++ p.token.what ∷ []) p.before
-                    ∙ sym (tokens_of-append b.front ((p.token.what, broken breach) ∷ []));
-              }) b.unbroken);
-        }
+        stop_at (stop.Broken breach left) p count (at_token (breaks p.front p.back p.token b.front breach p.whole
+        (record {
+          back = more;
+          script = b.script;
+          derived = subst (λ ns. IsProgram ns b.script)
+              (ap (λ ns. b.front ++ ns) (at.4 ∙ ap (λ n. n ∷ more) note)
+              ∙ sym (append_assoc b.front ((p.token.what, broken breach) ∷ []) more)) b.derived;
+          spells = kinds_of-append p.front (p.token ∷ []) ∙ ap (λ ts. ts ++ p.token.what ∷ []) p.before
+              ∙ sym (tokens_of-append b.front ((p.token.what, broken breach) ∷ []));
+        }) b.unbroken))
     by stop.NoMain b h = absurd b.stops
     by s b h = absurd b.stops
 
