@@ -177,6 +177,8 @@ fn a_deep_chain(rt: HostRuntime) -> Result<(), Fail> {
     let second = fork_both(&rt, &mut tree, &mut list, 0)?;
     holds(&rt, "16,384 nodes", tree.count() == 16_384);
     holds(&rt, "the end of the chain", last.0 == 16_382);
+    assert!(rt; last.0 < tree.count());
+    holds(&rt, "its depth", tree.node(last).depth == 16_382);
     holds(
         &rt,
         "a later child",

@@ -31,3 +31,10 @@ task node(i, p, q) {
     reads(&rt, "two steps", text.as_slice(), wanted.as_slice());
     Ok(())
 }
+
+#[test]
+fn the_longest_script_is_short(rt: HostRuntime) -> Result<(), Fail> {
+    let text = gen_script(rt.alloc(), 4000)?;
+    assert!(rt; text.len() < 300_000);
+    Ok(())
+}
