@@ -41,7 +41,9 @@ fn a_future_gives_a_promise_that_another_seat_fills(rt: HostRuntime) -> Result<(
     if rec.made != 0 {
         panic!(rt; "it has made nothing yet");
     }
-    let p = make(&laid, &mut first, root, 1).expect(&rt, "a cell is left");
+    let Ok(p) = make(&laid, &mut first, root, 1) else {
+        panic!(rt; "a cell is left");
+    };
     assert!(rt; p == CellId(1), "the next cell");
     fill(&laid, &mut first, root, p, Fill::Num(5));
     let waited = block_on(&rt, CellWait::new(&laid, second, CellId(1)));

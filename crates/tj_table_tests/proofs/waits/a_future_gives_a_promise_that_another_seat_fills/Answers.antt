@@ -1,6 +1,5 @@
-use Rattle.std.proofs.Common.{◌∙◌, [], IfOk, pos, refl, subst}
+use Rattle.std.proofs.Common.{◌∙◌, [], pos, refl}
 use Rattle.tj_base.specs.ForkOrder.{child}
-use Rattle.tj_base.specs.declared.cell.CellId.{CellId}
 use Rattle.tj_base.specs.declared.cell.Sort.TheVariants as sort
 use Rattle.tj_words.specs.Calls.TakenRecords.{custody_of}
 use Rattle.tj_cells.specs.MadeCells.{IsMade, makes_promise}
@@ -9,8 +8,8 @@ use Rattle.tj_park.proofs.TestRoots.{may_close_promise, may_fill_number, may_mak
 use Rattle.tj_table_tests.proofs.SecondSeats.{claimed_then, first_knows, second_idle, splits}
 use Rattle.tj_table_tests.proofs.waits.a_future_gives_a_promise_that_another_seat_fills.Given.{Over}
 use Rattle.tj_table_tests.proofs.waits.a_future_gives_a_promise_that_another_seat_fills.Goals as goal
-use Rattle.tj_table_tests.proofs.waits.a_future_gives_a_promise_that_another_seat_fills.Goals.{After-expect-p}
 use Rattle.tj_table_tests.proofs.waits.a_future_gives_a_promise_that_another_seat_fills.Goals.{After-expect-rec}
+use Rattle.tj_table_tests.proofs.waits.a_future_gives_a_promise_that_another_seat_fills.Goals.{In-Ok}
 
 pub split-first-requires-clause-room : goal.split-first-requires-clause-room
 split-first-requires-clause-room g c κs =
@@ -31,11 +30,9 @@ runs g c = claimed_then 2 c.new.result c.in_ok-laid.seat.me c.look_at.new.seat.m
     c.new.ensures.list c.expect-rec.ensures c.claim.ensures.some
 
 -- and has made a promise
-made : (g : Over) (c : After-expect-p g)
-    → IsMade sort.Promise c.in_ok-laid.laid.cells 0 c.expect-p.result.0 c.claim.new.seat.me.0 c.make.new.seat.me.0
-made g c = let v = c.claim.new.seat.me.0 in
-    subst (λ z. IfOk z (λ (d : CellId). IsMade sort.Promise c.in_ok-laid.laid.cells 0 d.0 v c.make.new.seat.me.0))
-    c.expect-p.ensures c.make.ensures.made
+made : (g : Over) (c : In-Ok g)
+    → IsMade sort.Promise c.in_ok-laid.laid.cells 0 c.in-Ok.p.0 c.claim.new.seat.me.0 c.make.new.seat.me.0
+made g c = c.in-Ok.ensures.made
 
 pub make-requires-clause-may : goal.make-requires-clause-may
 make-requires-clause-may g c κs = let b = c.new.result in
@@ -45,16 +42,16 @@ make-requires-clause-may g c κs = let b = c.new.result in
 pub fill-requires-clause-owner : goal.fill-requires-clause-owner
 fill-requires-clause-owner g c κs = let at = goal.at.fill-requires-clause-owner g c in
     let root = with_rows three_promises c.new.result in let k = custody_of c.expect-rec.result in
-    let v = c.claim.new.seat.me.0 in let w = c.make.new.seat.me.0 in let p = c.expect-p.result.0 in
-    let r = runs g at.After-expect-rec in let m = made g at.After-expect-p in
+    let v = c.claim.new.seat.me.0 in let w = c.make.new.seat.me.0 in let p = c.in-Ok.p.0 in
+    let r = runs g at.After-expect-rec in let m = made g at.In-Ok in
     may_close_promise 2 root (makes_promise p k) w (made_root 2 root k v r p w m) p (made_owned 2 root k v r p w m)
     (not_root 2 root k v r p w m)
 
 pub fill-requires-clause-value : goal.fill-requires-clause-value
 fill-requires-clause-value g c κs = let at = goal.at.fill-requires-clause-value g c in
     let root = with_rows three_promises c.new.result in let k = custody_of c.expect-rec.result in
-    let v = c.claim.new.seat.me.0 in let w = c.make.new.seat.me.0 in let p = c.expect-p.result.0 in
-    let r = runs g at.After-expect-rec in let m = made g at.After-expect-p in
+    let v = c.claim.new.seat.me.0 in let w = c.make.new.seat.me.0 in let p = c.in-Ok.p.0 in
+    let r = runs g at.After-expect-rec in let m = made g at.In-Ok in
     may_fill_number 2 root (makes_promise p k) w (made_root 2 root k v r p w m) p (child [] 1) (pos 5)
     (made_is 2 root k v r p w m 0 c.if-rec-ne0.false) (first_set c.new.result)
 
