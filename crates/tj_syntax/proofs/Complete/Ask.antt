@@ -3,6 +3,7 @@ use Rattle.std.proofs.Common.{◌≡◌, ℕ, zero, suc, ◌+◌, ◌≤◌, Boo
 use Rattle.std.proofs.Common.{Some, None, Ok, refl, ap, sym, ◌∙◌, subst, arith, append_assoc, length-append}
 use Rattle.tj_lex.specs.declared.token.Tok.{Tok}
 use Rattle.tj_lex.specs.declared.token.Tok.TheVariants as toks
+use Rattle.tj_lex.specs.declared.token.Key.{Key}
 use Rattle.tj_lex.specs.declared.token.Key.TheVariants as k
 use Rattle.tj_lex.specs.declared.token.Mark.TheVariants as m
 use Rattle.tj_syntax.specs.declared.read_expr.Level.{Level}
@@ -271,6 +272,23 @@ pub record Reads {A : Type 0} (heads : List Head) (outcome : Outcome A) (notes :
   pub behind : Option Stop
   pub done : Done heads outcome notes rest vars before behind x
 
+-- a keyword with a reference behind it, and what is computed where the cell is broken
+key_asked : (heads : List Head) {vars : List Name} {room : ℕ} {a b : List Noted} {r : RefOf} {x : Option Expression}
+    (w : Key) (make : RefOf → Option Expression → Ask) → IsReference vars a r → IsOr vars room b x
+    → (rest : List Tok) (flaw : Option Stop)
+    → Reads heads (and_then (skip (at heads (toks.Key w ∷ (tokens_of (a ++ b) ++ (toks.Mark m.Semi ∷ rest))) vars
+    flaw)) (λ _ i. and_then (asked room i) (λ y j. Ok (make y.0 y.1, j))))
+    (key w ∷ (a ++ b)) (toks.Mark m.Semi ∷ rest) vars flaw (make r x)
+key_asked heads {vars = vars} {room = room} {a = a} {b = b} {r = r} {x = x} w make p q rest flaw = record {
+  behind = flaw;
+  done = quiet_done (quiet-append (key w ∷ []) (a ++ b) (quiet_key w)
+      (quiet-append a b (quiet_reference p) (quiet_or q)))
+      (then_does heads skip (λ _ i. and_then (asked room i) (λ y j. Ok (make y.0 y.1, j))) (key w ∷ [])
+      (a ++ b) (toks.Mark m.Semi ∷ rest) vars vars vars flaw flaw flaw tt (make r x)
+      (fine_read heads (toks.Key w) (tokens_of (a ++ b) ++ (toks.Mark m.Semi ∷ rest)) vars flaw tt)
+      (mapped (λ y. make y.0 y.1) (asked_does heads p q rest flaw)));
+}
+
 pub ask_does : (heads : List Head) {vars : List Name} {room : ℕ} {a : List Noted} {x : Ask}
     → IsAsk (names_of heads) vars room a x
     → (rest : List Tok) (flaw : Option Stop)
@@ -285,24 +303,8 @@ ask_does heads {vars = vars} g.new rest flaw =
     }
 ask_does heads {vars = vars} {room = room} (g.fork {a = a} {args = args} f p) rest flaw =
     record { behind = _; done = fork_does heads vars room a args f p (toks.Mark m.Semi ∷ rest) flaw }
-ask_does heads {vars = vars} {room = room} (g.get {a = a} {b = b} {r = r} {other = x} p q) rest flaw = record {
-  behind = flaw;
-  done = quiet_done (quiet-append (key k.Get ∷ []) (a ++ b) (quiet_key k.Get)
-      (quiet-append a b (quiet_reference p) (quiet_or q)))
-      (then_does heads skip (λ _ i. and_then (asked room i) (λ y j. Ok (tree.get y.0 y.1, j))) (key k.Get ∷ [])
-      (a ++ b) (toks.Mark m.Semi ∷ rest) vars vars vars flaw flaw flaw tt (tree.get r x)
-      (fine_read heads (toks.Key k.Get) (tokens_of (a ++ b) ++ (toks.Mark m.Semi ∷ rest)) vars flaw tt)
-      (mapped (λ y. tree.get y.0 y.1) (asked_does heads p q rest flaw)));
-}
-ask_does heads {vars = vars} {room = room} (g.join {a = a} {b = b} {r = r} {other = x} p q) rest flaw = record {
-  behind = flaw;
-  done = quiet_done (quiet-append (key k.Join ∷ []) (a ++ b) (quiet_key k.Join)
-      (quiet-append a b (quiet_reference p) (quiet_or q)))
-      (then_does heads skip (λ _ i. and_then (asked room i) (λ y j. Ok (tree.join y.0 y.1, j))) (key k.Join ∷ [])
-      (a ++ b) (toks.Mark m.Semi ∷ rest) vars vars vars flaw flaw flaw tt (tree.join r x)
-      (fine_read heads (toks.Key k.Join) (tokens_of (a ++ b) ++ (toks.Mark m.Semi ∷ rest)) vars flaw tt)
-      (mapped (λ y. tree.join y.0 y.1) (asked_does heads p q rest flaw)));
-}
+ask_does heads (g.get p q) rest flaw = key_asked heads k.Get tree.get p q rest flaw
+ask_does heads (g.join p q) rest flaw = key_asked heads k.Join tree.join p q rest flaw
 
 as_answer : (heads : List Head) {vars : List Name} {room : ℕ} {a : List Noted} {x : Ask}
     → IsAsk (names_of heads) vars room a x
