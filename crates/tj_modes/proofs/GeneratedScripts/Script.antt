@@ -3,20 +3,13 @@ use Rattle.tj_modes.proofs.Prelude.{AllByRecursion, AreFine, AreTokens, CanStand
 use Rattle.tj_modes.proofs.Prelude.{Task, Tok, [], arith, fine-append, generated_script, greatest_number, main_task}
 use Rattle.tj_modes.proofs.Prelude.{refl, subst, ℕ, ◌++◌, ◌∷◌, ◌≤◌}
 use Rattle.tj_syntax.specs.Grammar.{tasks_more, tasks_end}
-use Rattle.tj_syntax.specs.Faults.{tokens_of, AreUnbroken, AreForksRight}
+use Rattle.tj_syntax.specs.Faults.{tokens_of}
 use Rattle.tj_syntax.proofs.Listed.Back.{says_again}
+use Rattle.tj_syntax.proofs.Listed.Script.{forks_right, unbroken}
 use Rattle.tj_modes.proofs.GeneratedScripts.Text.{listed}
 use Rattle.tj_modes.proofs.GeneratedScripts.Short.{short}
 use Rattle.tj_modes.proofs.GeneratedScripts.Tasks.{main_sound, node_sound}
 use Rattle.tj_lex.specs.declared.token.Tok.TheVariants as toks
-
-unbroken : (script : List Task) (notes : List Noted) → AreFine script notes → AreUnbroken notes
-unbroken script [] h = tt
-unbroken script (n ∷ notes) h = (h.0.unbroken, unbroken script notes h.1)
-
-forks_right : (script : List Task) (notes : List Noted) → AreFine script notes → AreForksRight script notes
-forks_right script [] h = tt
-forks_right script (n ∷ notes) h = (h.0.fork, forks_right script notes h.1)
 
 stand : (script : List Task) (notes : List Noted) → AreFine script notes
     → AllByRecursion CanStand (tokens_of notes ++ toks.End ∷ [])
