@@ -133,8 +133,8 @@ module _ {B : Type 0} where
   -- a view in which only steps, pushes and found chains differ, and what is known of the table has grown
   grown_looks : {cells : ℕ} (v : View B) (n : ℕ) (ps : List Push) (fs : List Found) (born : List Reference)
       (closed : List ℕ) (filled : List Filled) → (
-        let w = record v { steps = n; pushes = ps; found = fs; born = born; closed = closed; filled = filled } in
-        KnowsMore v w → (AreCells cells v.born → AreCells cells born) → LooksOn cells v w
+      let w = record v { steps = n; pushes = ps; found = fs; born = born; closed = closed; filled = filled } in
+      KnowsMore v w → (AreCells cells v.born → AreCells cells born) → LooksOn cells v w
       )
   grown_looks v n ps fs born closed filled knows all = record {
     knows = knows;
