@@ -50,7 +50,7 @@ pub(crate) fn hurt_of(trouble: Trouble) -> Hurt
 fn index_of(cells: &[CellId], c: CellId) -> Option<usize>
     ensures none { result ≡ None → has_cell c.0 (numbers cells.now) ≡ false }
     ensures has { IfSome result (λ i. has_cell c.0 (numbers cells.now) ≡ true) }
-    ensures rest { IfSome result (λ i. numbers (remove cells.now i)
+    ensures without { IfSome result (λ i. numbers (remove cells.now i)
         ≡ without_cell c.0 (numbers cells.now)) }
     ensures inside { IfSome result (λ i. i < length cells.now) }
 {
@@ -67,7 +67,7 @@ fn index_of(cells: &[CellId], c: CellId) -> Option<usize>
 /// Takes the cell out, if it is there.
 pub(crate) fn take_out(alloc: Global, cells: &mut CellList, c: CellId) -> bool
     ensures found { (result ≡ true) ↔ (has_cell c.0 (numbers cells.old) ≡ true) }
-    ensures left { IsTrue result → numbers cells.new ≡ without_cell c.0 (numbers cells.old) }
+    ensures without { IsTrue result → numbers cells.new ≡ without_cell c.0 (numbers cells.old) }
     ensures same { IsFalse result → cells.new ≡ cells.old }
 {
     let Some(at) = index_of(cells.items(), c) else {

@@ -79,4 +79,4 @@ returns-clause-goes g c = let at = goal.at.returns-clause-goes g c in
     sets_goes (to_set g at.After-items) (promise_if _ c.in_default.not-Task)
     (c.take_out.ensures.found.0 c.if-not-take_out.false) c.fill_at-value.result (value_so g at.After-fill_at-value)
     c.fill.new.seat.me c.fill.ensures.view c.fill.ensures.seat.2 woke.chain c.wake.new.seat.me woke.woke
-    c.wake.ensures.seat.2 c.take_out.new.cells (c.take_out.ensures.left c.if-not-take_out.false)
+    c.wake.ensures.seat.2 c.take_out.new.cells (c.take_out.ensures.without c.if-not-take_out.false)
