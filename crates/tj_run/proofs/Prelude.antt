@@ -51,7 +51,7 @@ pub use Rattle.tj_run.specs.Inner.Beside.{WaitsBeside, alone}
 pub use Rattle.tj_run.specs.Inner.Carried.{IsAsked, IsClosing, IsOpen, IsRunning, IsWaiting, RunsTask, Stands}
 pub use Rattle.tj_run.specs.Inner.Children.{MayGiveEach, gave_each, with_child}
 pub use Rattle.tj_run.specs.Inner.Going.{Goes, GoesOn, Lacks}
-pub use Rattle.tj_run.specs.Inner.Pieces.{AreLeft, child_record, fill_at, fill_of, held_at, hurt_of, numbered}
+pub use Rattle.tj_run.specs.Inner.Pieces.{AreKept, child_record, fill_at, fill_of, held_at, hurt_of, numbered}
 pub use Rattle.tj_run.specs.Inner.Turns.{TurnsTo}
 pub use Rattle.tj_run.specs.Inner.Waits.{Blocked, ComesBack, IsHeldAs, IsLeft, waits_at}
 pub use Rattle.tj_run.specs.Leaving.{HasStopped, Leaves}

@@ -91,13 +91,13 @@ pub(crate) fn held_at(alloc: Global, held: &[Held], places: &[u32]) -> Result<Ve
     Ok(found)
 }
 
-/// What is left of the cells owned when these are handed from the left, or why that fails.
+/// What is kept of the cells owned when these are handed one by one, or why that fails.
 pub(crate) fn hand_all(
     alloc: Global,
     owned: &[CellId],
     handed: &[Held],
 ) -> Result<Result<CellList, Hurt>, Oom>
-    ensures { IfOk result (λ left. pieces.AreLeft left
+    ensures { IfOk result (λ left. pieces.AreKept left
         (hand_cells (numbers owned.now) (map pieces.numbered handed.now))) }
 {
     let mut left = Vec::from_slice(alloc, owned)?;

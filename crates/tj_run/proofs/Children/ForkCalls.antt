@@ -1,6 +1,6 @@
 -- The calls of a fork, by the lists that it has made on the way: the held cells that are handed over and passed on, the
 -- promises, and what the task keeps.
-use Rattle.tj_run.proofs.Prelude.{All, AllByRecursion, AreLeft, Bool, CellId, Err, Goes, Held, Hurt, IsAsked, IsMade}
+use Rattle.tj_run.proofs.Prelude.{All, AllByRecursion, AreKept, Bool, CellId, Err, Goes, Held, Hurt, IsAsked, IsMade}
 use Rattle.tj_run.proofs.Prelude.{IsTailOf, KnowsTask, Lacks, Laid, MayGiveEach, MayMake, MayReleaseChild}
 use Rattle.tj_run.proofs.Prelude.{NamesTellCells}
 use Rattle.tj_run.proofs.Prelude.{Next, Ok, PointsAsk, Program, Rec, RunsTask, SeatMe, TasksStart, ThingsInRounds, View}
@@ -37,15 +37,15 @@ pub found_cells : (found all : List Held) (cells : List CellId) → cells ≡ ma
     → cells ≡ map (λ (h : Held). h.cell) all
 found_cells found all cells m e = m ∙ ap (λ l. map (λ (h : Held). h.cell) l) e
 
--- what is left of the lists that are these
-pub left_of : (x y : Result (List CellId) Hurt) (owned now : List CellId) (given found : List Held) → x ≡ y
+-- what is kept of the lists that are these
+pub kept_of : (x y : Result (List CellId) Hurt) (owned now : List CellId) (given found : List Held) → x ≡ y
     → now ≡ owned
     → found ≡ given
-    → AreLeft x (hand_cells (numbers now) (map numbered found))
-    → AreLeft y (hand_cells (numbers owned) (map numbered given))
-left_of x y owned now given found e o g h = subst (λ z. AreLeft z (hand_cells (numbers owned) (map numbered given))) e
-    (subst (λ l. AreLeft x (hand_cells (numbers owned) (map numbered l))) g
-    (subst (λ l. AreLeft x (hand_cells (numbers l) (map numbered found))) o h))
+    → AreKept x (hand_cells (numbers now) (map numbered found))
+    → AreKept y (hand_cells (numbers owned) (map numbered given))
+kept_of x y owned now given found e o g h = subst (λ z. AreKept z (hand_cells (numbers owned) (map numbered given))) e
+    (subst (λ l. AreKept x (hand_cells (numbers owned) (map numbered l))) g
+    (subst (λ l. AreKept x (hand_cells (numbers l) (map numbered found))) o h))
 
 -- the error is so where there is one
 pub if_err : {A E : Type 0} (P : E → Type 0) (res : Result A E) → IsErrAnd res P → IfErr res P
@@ -75,7 +75,7 @@ module _ {B : Type 0} {program : Bool → B → Program B} {laid : Laid B} {r : 
       let few = f.runs.worker.cells.few in omega arith
 
   -- a fork that isn't allowed
-  pub forks_fail : (h : Hurt) → AreLeft (Err h) (hand_cells (numbers r.owned) (map numbered given))
+  pub forks_fail : (h : Hurt) → AreKept (Err h) (hand_cells (numbers r.owned) (map numbered given))
       → Goes program laid (next.Ends (finish.Failed h)) r me.0 me
   forks_fail h left = record {
     knows = more_itself me.0;
@@ -83,25 +83,25 @@ module _ {B : Type 0} {program : Bool → B → Program B} {laid : Laid B} {r : 
     goes_on = fork_fails program laid r b pass handed me f.runs f.asked f.law f.tell h left;
   }
 
-  module _ (left : List CellId) (are_left : AreLeft (Ok left) (hand_cells (numbers r.owned) (map numbered given))) where
+  module _ (left : List CellId) (are_kept : AreKept (Ok left) (hand_cells (numbers r.owned) (map numbered given))) where
     pub forks_birth : MayMake program r.cell.0 (r.made + 1) me.0
-    forks_birth = may_birth program laid r b pass handed me f.runs f.asked f.law f.tell left are_left f.things f.starts
+    forks_birth = may_birth program laid r b pass handed me f.runs f.asked f.law f.tell left are_kept f.things f.starts
 
     pub forks_known : KnowsTask r.cell.0 me.0
-    forks_known = knows_parent program laid r b pass handed me f.runs f.asked f.law f.tell left are_left f.things
+    forks_known = knows_parent program laid r b pass handed me f.runs f.asked f.law f.tell left are_kept f.things
         f.starts
 
     module _ (c : CellId) (w : View B) (m : IsMade sort.Task laid.cells r.cell.0 c.0 me.0 w) where
       pub forks_cells : (promises : List CellId) → promises ≡ map (λ (h : Held). h.cell) given
           → All (λ (d : CellId). d.0 < laid.cells) promises
       forks_cells promises are = subst (λ l. All (λ (d : CellId). d.0 < laid.cells) l) (sym are)
-          (promise_cells program laid r b pass handed me f.runs f.asked f.law f.tell left are_left f.things f.starts c w
+          (promise_cells program laid r b pass handed me f.runs f.asked f.law f.tell left are_kept f.things f.starts c w
           m)
 
       pub forks_hand : (promises : List CellId) → promises ≡ map (λ (h : Held). h.cell) given
           → MayGiveEach r.cell.0 promises c.0 w
       forks_hand promises are = subst (λ l. MayGiveEach r.cell.0 l c.0 w) (sym are)
-          (may_hand_each program laid r b pass handed me f.runs f.asked f.law f.tell left are_left f.things f.starts c w
+          (may_hand_each program laid r b pass handed me f.runs f.asked f.law f.tell left are_kept f.things f.starts c w
           m)
 
 -- a fork whose child is born, and has been given the promises: which cell it is, what the task keeps, and what the seat
@@ -109,7 +109,7 @@ module _ {B : Type 0} {program : Bool → B → Program B} {laid : Laid B} {r : 
 pub record HasGiven {B : Type 0} (program : Bool → B → Program B) (laid : Laid B) (r : Rec B) (b : B)
     (pass handed : List ℕ) (me : SeatMe B) (c : CellId) (left : List CellId) (u : View B) : Type 0 where
   pub forking : Forking program laid r b pass handed me
-  pub keeps : AreLeft (Ok left) (hand_cells (numbers r.owned) (map numbered (map (held_at r.held) handed)))
+  pub keeps : AreKept (Ok left) (hand_cells (numbers r.owned) (map numbered (map (held_at r.held) handed)))
   pub born : View B
   pub made : IsMade sort.Task laid.cells r.cell.0 c.0 me.0 born
   pub promises : List CellId

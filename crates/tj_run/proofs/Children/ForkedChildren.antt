@@ -1,5 +1,5 @@
 -- A running task forks a child, or fails since it may not hand what it hands.
-use Rattle.tj_run.proofs.Prelude.{All, AreLeft, Ask, Bool, CellId, Custody, Err, Goes, HasAlarmed, HasCell, HasName}
+use Rattle.tj_run.proofs.Prelude.{All, AreKept, Ask, Bool, CellId, Custody, Err, Goes, HasAlarmed, HasCell, HasName}
 use Rattle.tj_run.proofs.Prelude.{Held, HeldSays, Holds, Hurt, IsAsked, IsCell, IsClosing, IsIn, IsMade, IsOfRounds}
 use Rattle.tj_run.proofs.Prelude.{IsRunning, IsTailOf, KnowsMore, KnowsTask, Laid, List, MayGiveEach, MayMake}
 use Rattle.tj_run.proofs.Prelude.{MayReleaseChild, Name, None, Ok, Point, PointsAsk, Program, Rec, Reference, Result}
@@ -117,13 +117,13 @@ module _ {B : Type 0} (program : Bool → B → Program B) (laid : Laid B) (r : 
       )
 
   -- the fork fails where the handing isn't allowed
-  pub fork_fails : (h : Hurt) → AreLeft (Err h) (hand_cells (numbers r.owned) (map numbered given))
+  pub fork_fails : (h : Hurt) → AreKept (Err h) (hand_cells (numbers r.owned) (map numbered given))
       → IsClosing P me.0 r (finish.Failed h)
   fork_fails h left = by (hand_cells others (map numbered given)) refl
-      (subst (AreLeft (Err h)) all_behind left)
+      (subst (AreKept (Err h)) all_behind left)
     where
       by : (o : Result (List ℕ) Unhanded) → hand_cells others (map numbered given) ≡ o
-          → AreLeft (Err h) (behind r.cell.0 o)
+          → AreKept (Err h) (behind r.cell.0 o)
           → IsClosing P me.0 r (finish.Failed h)
       by (Ok l) e a = absurd a
       by (Err no_promise) e a = subst (λ z. IsClosing P me.0 r (finish.Failed z)) (sym a)
@@ -138,12 +138,12 @@ module _ {B : Type 0} (program : Bool → B → Program B) (laid : Laid B) (r : 
           (named_rest nm o) p) e))
 
   -- where it is allowed, the task keeps its result and the rest
-  module _ (left : List CellId) (are_left : AreLeft (Ok left) (hand_cells (numbers r.owned) (map numbered given))) where
+  module _ (left : List CellId) (are_kept : AreKept (Ok left) (hand_cells (numbers r.owned) (map numbered given))) where
     rest_is : (rest : List ℕ) × (hand_cells others (map numbered given) ≡ Ok rest) × (numbers left ≡ r.cell.0 ∷ rest)
-    rest_is = by (hand_cells others (map numbered given)) refl (subst (AreLeft (Ok left)) all_behind are_left)
+    rest_is = by (hand_cells others (map numbered given)) refl (subst (AreKept (Ok left)) all_behind are_kept)
       where
         by : (o : Result (List ℕ) Unhanded) → hand_cells others (map numbered given) ≡ o
-            → AreLeft (Ok left) (behind r.cell.0 o)
+            → AreKept (Ok left) (behind r.cell.0 o)
             → (rest : List ℕ) × (hand_cells others (map numbered given) ≡ Ok rest) × (numbers left ≡ r.cell.0 ∷ rest)
         by (Ok l) e a = (l, e, a)
         by (Err why) e a = absurd a

@@ -46,12 +46,12 @@ hurt_by (not_owned c) = hurt.Owner (cell c)
 abbrev pub numbered : Held → Sort × ℕ
 numbered h = (h.sort, h.cell.0)
 
--- what is left of the cells owned, or why the task fails
-abbrev pub AreLeft : Result (List CellId) Hurt → Result (List ℕ) Unhanded → Type 0
-AreLeft (Ok left) (Ok cells) = numbers left ≡ cells
-AreLeft (Err h) (Err why) = h ≡ hurt_by why
-AreLeft (Ok left) (Err why) = ⊥
-AreLeft (Err h) (Ok cells) = ⊥
+-- what the task keeps of the cells owned, or why it fails
+abbrev pub AreKept : Result (List CellId) Hurt → Result (List ℕ) Unhanded → Type 0
+AreKept (Ok left) (Ok cells) = numbers left ≡ cells
+AreKept (Err h) (Err why) = h ≡ hurt_by why
+AreKept (Ok left) (Err why) = ⊥
+AreKept (Err h) (Ok cells) = ⊥
 
 -- the record of a child at its start
 abbrev pub child_record : {B : Type 0} → CellId → B → List Held → List CellId → Rec B

@@ -1,9 +1,9 @@
-use Rattle.tj_run.proofs.Prelude.{AreLeft, Bool, CellId, Err, Held, Hurt, List, Ok, Program, Result, Why, ap}
+use Rattle.tj_run.proofs.Prelude.{AreKept, Bool, CellId, Err, Held, Hurt, List, Ok, Program, Result, Why, ap}
 use Rattle.tj_run.proofs.Prelude.{child_record, hand_cells, held_at, map, numbered, numbers, program_of, sym, ◌∙◌, ◌≡◌}
 use Rattle.tj_run.specs.declared.why.Why.TheVariants as why
 use Rattle.tj_run.proofs.Children.ForkCalls.{Forking, HasGiven, forks_birth, forks_cells, forks_fail, forks_goes}
 use Rattle.tj_run.proofs.Children.ForkCalls.{forks_hand, forks_known, forks_release, found_cells, found_held}
-use Rattle.tj_run.proofs.Children.ForkCalls.{given_lacks, if_err, left_of, parent_cell, places_inside, released_lacks}
+use Rattle.tj_run.proofs.Children.ForkCalls.{given_lacks, if_err, kept_of, parent_cell, places_inside, released_lacks}
 use Rattle.tj_run.proofs.forks.fork_handing.Given.{Over}
 use Rattle.tj_run.proofs.forks.fork_handing.Goals as goal
 use Rattle.tj_run.proofs.forks.fork_handing.Goals.{After-as_slice-3, After-hand_each, After-names_and_cells, In_ok-left}
@@ -35,8 +35,8 @@ module _ (g : Over) (c : In_ok-left g) where
 
   -- what the task keeps, or why it may not hand them
   keeps : (y : Result (List CellId) Hurt) → c.in_ok-left.field-0 ≡ y
-      → AreLeft y (hand_cells (numbers c.args.rec.now.owned) (map numbered handed))
-  keeps y is = left_of c.in_ok-left.field-0 y c.args.rec.now.owned c.items-3.result.now handed c.as_slice.result.now is
+      → AreKept y (hand_cells (numbers c.args.rec.now.owned) (map numbered handed))
+  keeps y is = kept_of c.in_ok-left.field-0 y c.args.rec.now.owned c.items-3.result.now handed c.as_slice.result.now is
       c.items-3.ensures handed_so c.in_ok-left.ensures
 
 -- the promises that are handed
@@ -50,7 +50,7 @@ promises_so g c = let all = map (held_at c.args.rec.now.held) c.args.handed in
 
 module _ (g : Over) (c : After-hand_each g)
     (f : Forking (program g) c.args.laid.now c.args.rec.now c.args.body c.args.pass c.args.handed c.args.seat.now.me)
-    (left : AreLeft (Ok c.in-Ok.left) (hand_cells (numbers c.args.rec.now.owned) (map numbered
+    (left : AreKept (Ok c.in-Ok.left) (hand_cells (numbers c.args.rec.now.owned) (map numbered
     (map (held_at c.args.rec.now.held) c.args.handed))))
     (are : c.as_slice-3.result.now ≡ map (λ (h : Held). h.cell) (map (held_at c.args.rec.now.held) c.args.handed)) where
   -- the child is born, and is given the promises
