@@ -56,7 +56,7 @@ module _ {B : Type 0} where
   Found program left.Rested v w = FoundRest program v w
   Found program (left.Stopped cause) v w = FoundStop program cause v w
 
-  -- what a worker leaves: it is at rest, or the run was stopped
+  -- how a worker leaves: it is at rest, or the run was stopped
   abbrev pub Leaves : (Bool → B → Program B) → Left → View B → SeatMe B → Type 0
   Leaves program left.Rested v me = HasRested v me
   Leaves program (left.Stopped cause) v me = HasStopped program cause v me.0
