@@ -153,7 +153,7 @@ fn input_of<S: Source>(
     ensures read { (all : List ℕ) → S.left source.old ≡ Some all
         → IfOk result (HasRead command all) }
     ensures within { IfOk result (IsWithin most_bytes) }
-    ensures rest { takes_input command ≡ true → (all : List ℕ) → S.left source.old ≡ Some all
+    ensures taken { takes_input command ≡ true → (all : List ℕ) → S.left source.old ≡ Some all
         → OnOk result (S.left source.new ≡ Some (drop (suc most_bytes) all)) }
     ensures untouched { takes_input command ≡ false → source.new ≡ source.old }
     ensures failed { result ≡ Err ReadFault.Failed → (takes_input command ≡ true)

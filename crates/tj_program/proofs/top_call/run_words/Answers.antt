@@ -76,7 +76,7 @@ pub returns-in-Ok-clause-taken : goal.returns-in-Ok-clause-taken
 returns-in-Ok-clause-taken g c = λ input told read has.
     let same : read.0 ≡ c.in-Ok-Some.command =
     one_command c.args.words.now read.0 c.in-Ok-Some.command read.1 (is_command g c) in
-    c.in-Ok.ensures.rest (subst (λ k. takes_input k ≡ true) same read.2) input told
+    c.in-Ok.ensures.taken (subst (λ k. takes_input k ≡ true) same read.2) input told
 
 pub returns-in-Ok-clause-cause : goal.returns-in-Ok-clause-cause
 returns-in-Ok-clause-cause g c = λ has.
