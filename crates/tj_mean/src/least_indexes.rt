@@ -96,8 +96,8 @@ fn least_from(next: &[Option<usize>], from: usize) -> usize
 
 /// The smaller one.
 fn smaller(a: usize, b: usize) -> usize
-    ensures left { result ≤ a }
-    ensures right { result ≤ b }
+    ensures first { result ≤ a }
+    ensures second { result ≤ b }
     ensures one { (result ≡ a) ⊎ (result ≡ b) }
 {
     if b < a { b } else { a }

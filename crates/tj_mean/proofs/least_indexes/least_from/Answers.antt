@@ -19,7 +19,7 @@ loop-step-preserved c =
     let other = c.if-owner-from.false in
     round_goes_on c.args.next.now c.args.from l.step l.at l.least l.invariant c.in-Some.owner c.smaller-least.result
     (l.step + 1) c.in-Some.is other (c.requires.indexes l.at c.in-Some.owner c.in-Some.is)
-    c.smaller-least.ensures.left c.smaller-least.ensures.right c.smaller-least.ensures.one refl
+    c.smaller-least.ensures.first c.smaller-least.ensures.second c.smaller-least.ensures.one refl
 
 pub returns-clause-least : goal.returns-clause-least
 returns-clause-least c m ps k i =
