@@ -19,8 +19,8 @@ pub fn go_to(from: &[u32], to: &[u32], text: &mut Vec<u8>) -> Result<(), Oom>
 
 /// With how many equal numbers the names begin.
 fn shared(a: &[u32], b: &[u32]) -> usize
-    ensures left { result ≤ length a.now }
-    ensures right { result ≤ length b.now }
+    ensures first { result ≤ length a.now }
+    ensures second { result ≤ length b.now }
     ensures same { take result a.now ≡ take result b.now }
 {
     let mut n = 0;
