@@ -180,7 +180,7 @@ impl<B: Body> Laid<B> {
         ensures view { seat.new.me.0
             ≡ noted_step (Noted.Next t.0) (heads.head_word result) seat.old.me.0 }
         ensures small { heads.head_word result ≤ self.now.cells }
-        ensures rest { NextTold t.0 result seat.old.me.0 }
+        ensures first { NextTold t.0 result seat.old.me.0 }
         ensures moment { WasSo (program_of B.places B.awaits B.left B.asks B.then) (next_at t.0)
             (heads.head_word result) seat.old.me.0 }
     {
@@ -194,7 +194,7 @@ impl<B: Body> Laid<B> {
         ensures seat { IsSameSeat seat.old seat.new }
         ensures view { seat.new.me.0 ≡ noted_step (Noted.Next t.0) result seat.old.me.0 }
         ensures next { result ≤ self.now.cells }
-        ensures rest { NextTold t.0 (heads.head_in result) seat.old.me.0 }
+        ensures first { NextTold t.0 (heads.head_in result) seat.old.me.0 }
         ensures moment { WasSo (program_of B.places B.awaits B.left B.asks B.then) (next_at t.0)
             result seat.old.me.0 }
     {

@@ -6,20 +6,20 @@ pub live_up-requires-clause-may : goal.live_up-requires-clause-may
 live_up-requires-clause-may g c κs within =
     let a = c.next_of-next.ensures in
     let b = c.see_phase-was.ensures in
-    may_up c.requires.may.wakes c.requires.may.first a.view a.seat.2 a.rest b.view b.seat.2 (b.first refl)
+    may_up c.requires.may.wakes c.requires.may.first a.view a.seat.2 a.first b.view b.seat.2 (b.first refl)
 
 pub swap_phase-requires-clause-may : goal.swap_phase-requires-clause-may
 swap_phase-requires-clause-may g c κs within =
     let a = c.next_of-next.ensures in
     let b = c.see_phase-was.ensures in
-    may_swap c.requires.may.wakes c.requires.may.first a.view a.seat.2 a.rest b.view b.seat.2 (b.first refl)
+    may_swap c.requires.may.wakes c.requires.may.first a.view a.seat.2 a.first b.view b.seat.2 (b.first refl)
     c.live_up.ensures.me
 
 pub lower-requires-clause-cleared : goal.lower-requires-clause-cleared
 lower-requires-clause-cleared g c κs within =
     let a = c.next_of-next.ensures in
     let b = c.see_phase-was.ensures in
-    counted c.requires.may.wakes c.requires.may.first a.view a.seat.2 a.rest b.view b.seat.2 (b.first refl)
+    counted c.requires.may.wakes c.requires.may.first a.view a.seat.2 a.first b.view b.seat.2 (b.first refl)
     c.live_up.ensures.me _ _ _ c.swap_phase.ensures.swapped c.swap_phase.ensures.found
 
 pub returns-clause-seat : goal.returns-clause-seat
@@ -31,7 +31,7 @@ returns-clause-seat g c =
     let f = c.lower.ensures.seat in (
       f.0 ∙ (e.table ∙ (up.table ∙ (b.seat.0 ∙ a.seat.0))),
       f.1 ∙ (e.seat ∙ (up.id ∙ (b.seat.1 ∙ a.seat.1))),
-      f.2 ∙ slots_woke c.requires.may.wakes c.requires.may.first a.view a.seat.2 a.rest b.view b.seat.2
+      f.2 ∙ slots_woke c.requires.may.wakes c.requires.may.first a.view a.seat.2 a.first b.view b.seat.2
           (b.first refl) up.me _ _ _ e.swapped e.found,
     )
 
@@ -39,5 +39,5 @@ pub returns-clause-woke : goal.returns-clause-woke
 returns-clause-woke g c = λ left rests.
     let a = c.next_of-next.ensures in
     let b = c.see_phase-was.ensures in
-    wakes_first c.requires.may.wakes rests a.view a.seat.2 a.rest b.view b.seat.2 (b.first refl)
+    wakes_first c.requires.may.wakes rests a.view a.seat.2 a.first b.view b.seat.2 (b.first refl)
     c.live_up.ensures.me _ _ _ c.swap_phase.ensures.swapped c.swap_phase.ensures.found c.lower.ensures.view

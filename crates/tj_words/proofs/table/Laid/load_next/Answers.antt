@@ -15,6 +15,6 @@ load-requires g c = let a = c.args in let e = a.self.now.key_cells in (
 pub returns-clause-moment : goal.returns-clause-moment
 returns-clause-moment g c = so_too c.next_at.ensures refl c.load.ensures.2.1
 
-pub returns-clause-rest : goal.returns-clause-rest
-returns-clause-rest g c = subst (λ t. NextTold t (head_in c.load.result) c.args.seat.now.me.0) c.requires.named.1
+pub returns-clause-first : goal.returns-clause-first
+returns-clause-first g c = subst (λ t. NextTold t (head_in c.load.result) c.args.seat.now.me.0) c.requires.named.1
     c.load.ensures.2.0.3
