@@ -22,7 +22,7 @@ module _ {tag : ℕ → ℕ} {head next : ℕ → Head} {phase : ℕ → Phase} 
 
   -- a line that has some task, of a cell whose head is shut, is the rest that its seat has
   rest_too : (p : ℕ) → head p ≡ Shut → c.line p ≢ [] → d.line p ≡ c.line p
-  rest_too p shut some = let h = c.resting p shut some in let r = h.2.0 in
+  rest_too p shut some = let h = c.taken p shut some in let r = h.2.0 in
       let a = c.rest (c.taker p) h.0 h.1 r h.2.1 in let b = d.rest (c.taker p) h.0 h.1 r h.2.1 in
       ap d.line (sym h.2.2) ∙ (b.left ∙ (sym a.left ∙ ap c.line h.2.2))
 

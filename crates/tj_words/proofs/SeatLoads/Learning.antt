@@ -86,7 +86,7 @@ module _ {B : Type 0} (program : Program B) (cells : ℕ) (x : Contents B) (law 
         closed = o.closed;
         undrawn = o.undrawn;
       })
-      (let c = law.chains in chains_seats c c.due c.pushing c.to_push c.resting c.rest
+      (let c = law.chains in chains_seats c c.due c.pushing c.to_push c.taken c.rest
       (each_set _ x.seats.closed id k.closed c.stays_shut so.closed)
       (each_set _ x.seats.found id k.found c.grows so.found))
       (let c = law.live_count in record {

@@ -199,7 +199,7 @@ module _ {B : Type 0} (program : Program B) (cells : ℕ) (x : Contents B) (law 
         (λ p n s. of_seat_snoc _ x.seats.shuts [] (c.shutter p) (c.due p n s))
         (λ t j e. of_seat_snoc _ x.seats.pushes [] j (c.pushing t j e))
         (each_snoc _ x.seats.pushes [] c.to_push (λ j e i. absurd i))
-        (λ p e n. of_seat_snoc _ x.seats.rests None (c.taker p) (c.resting p e n))
+        (λ p e n. of_seat_snoc _ x.seats.rests None (c.taker p) (c.taken p e n))
         (each_snoc _ x.seats.rests None c.rest (λ j r e. cc))
         (each_snoc _ x.seats.closed v.closed c.stays_shut (λ j. so.closed))
         (each_snoc _ x.seats.found v.found c.grows (λ j. so.found)));

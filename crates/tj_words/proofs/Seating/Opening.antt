@@ -244,7 +244,7 @@ module _ {B : Type 0} (program : Program B) (cells : ℕ) (some_cells : 0 < cell
       due = λ p n o. absurd (n (no_value p Tag (λ h. h)));
       pushing = λ t j e. cc;
       to_push = each_only _ [] (λ e i. absurd i);
-      resting = λ p e n. cc;
+      taken = λ p e n. cc;
       rest = each_only _ None (λ r e. cc);
       stays_shut = each_only _ [] (λ p i. absurd i);
       grows = each_only _ [] (λ f i. absurd i);

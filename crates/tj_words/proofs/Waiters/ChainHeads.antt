@@ -123,8 +123,8 @@ module _ {tag : ℕ → ℕ} {head next : ℕ → Head} {phase : ℕ → Phase} 
               parked = f.parked;
               stored = f.stored;
             });
-        resting = λ q y n. let d = apart' q y in
-            r.resting q (sym (put_else head p q (Task (cell t)) d) ∙ y)
+        taken = λ q y n. let d = apart' q y in
+            r.taken q (sym (put_else head p q (Task (cell t)) d) ∙ y)
             (λ k. n (put_else r.line p q (t ∷ r.line p) d ∙ k));
         rest = λ j o y x q. let f = r.rest j o y x q in let d = apart x.cell f.is_shut in record {
           mine = f.mine;
@@ -163,12 +163,12 @@ module _ {tag : ℕ → ℕ} {head next : ℕ → Head} {phase : ℕ → Phase} 
             (in_without p q olds d) (r.due q g (λ e. n (put_else head p q Shut d ∙ e)));
         pushing = r.pushing;
         to_push = r.to_push;
-        resting = λ q. at_two head r.taker p Shut id (λ k h j. h ≡ Shut → r.line k ≢ []
+        taken = λ q. at_two head r.taker p Shut id (λ k h j. h ≡ Shut → r.line k ≢ []
             → OfSeat (λ rest. (x : Rest) × (rest ≡ Some x) × (x.cell ≡ k)) (set rl id (rest_of p (r.line p))) j) q
             (λ e n. of_seat_here (λ rest. (x : Rest) × (rest ≡ Some x) × (x.cell ≡ p)) rl id None
             (rest_of p (r.line p)) atr (rest_some p (r.line p) n))
             (λ d e n. of_seat_set (λ rest. (x : Rest) × (rest ≡ Some x) × (x.cell ≡ q)) rl id (r.taker q) None
-            (rest_of p (r.line p)) atr (λ k. no_some refl k.1) (r.resting q e n));
+            (rest_of p (r.line p)) atr (λ k. no_some refl k.1) (r.taken q e n));
         rest = each_set (λ j rest. (x : Rest) → rest ≡ Some x → IsRest head' phase r.line taker j x) rl id
             (rest_of p (r.line p))
             (λ j o y x q. let f = r.rest j o y x q in let d = apart x.cell f.is_shut in record {
@@ -197,6 +197,6 @@ module _ {tag : ℕ → ℕ} {head next : ℕ → Head} {phase : ℕ → Phase} 
       → head p ≡ Shut → Chains tag head next phase pl (set sl id (without p olds)) rl (set cl id (p ∷ oldc)) fl
   shuts_again p id olds oldc ats atc is_shut = chains_seats r
       (λ q g n. of_seat_set (IsIn q) sl id (r.shutter q) olds (without p olds) ats
-      (in_without p q olds (λ z. n (ap head z ∙ is_shut))) (r.due q g n)) r.pushing r.to_push r.resting r.rest
+      (in_without p q olds (λ z. n (ap head z ∙ is_shut))) (r.due q g n)) r.pushing r.to_push r.taken r.rest
       (each_set (λ j l. All (λ q. head q ≡ Shut) l) cl id (p ∷ oldc) r.stays_shut
       (all_cons (λ q. head q ≡ Shut) p oldc is_shut (r.stays_shut id oldc atc))) r.grows

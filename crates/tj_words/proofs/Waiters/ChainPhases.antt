@@ -139,7 +139,7 @@ module _ {tag : ℕ → ℕ} {head next : ℕ → Head} {phase : ℕ → Phase} 
           pushing = c.pushing;
           to_push = λ j l a e i. let f = c.to_push j l a e i in
               push_kept (λ u n. refl) else (λ u n. refl) j e (λ z. no_some k0.1 (ap c.pusher (sym z) ∙ f.mine)) f;
-          resting = λ q h n. dite (ℕ_discrete q p)
+          taken = λ q h n. dite (ℕ_discrete q p)
               (λ z. let w = rest_some p ts (λ k. n (on q z ∙ k)) in
               subst (OfSeat (λ rest. (r : Rest) × (rest ≡ Some r) × (r.cell ≡ q))
               (set rests id rest0)) (sym (ap c.taker z ∙ f0.mine))
@@ -148,7 +148,7 @@ module _ {tag : ℕ → ℕ} {head next : ℕ → Head} {phase : ℕ → Phase} 
               (λ d. of_seat_set (λ rest. (r : Rest) × (rest ≡ Some r) × (r.cell ≡ q)) rests id (c.taker q) (Some r0)
               rest0 at
               (λ h. absurd (d (sym h.2 ∙ ap (λ (z : Rest). z.cell) (same_some h.1 refl))))
-              (c.resting q h (λ k. n (off q d ∙ k))));
+              (c.taken q h (λ k. n (off q d ∙ k))));
           rest = each_else (λ j o. (r : Rest) → o ≡ Some r → IsRest head phase' line c.taker j r) rests id rest0
               (λ j o n a r q. let f = c.rest j o a r q in
               apart j r f (λ z. n (sym f.mine ∙ (ap c.taker z ∙ f0.mine))))
@@ -172,7 +172,7 @@ module _ {tag : ℕ → ℕ} {head next : ℕ → Head} {phase : ℕ → Phase} 
       chains_seats c c.due c.pushing c.to_push
       (λ q h n. of_seat_set (λ rest. (r : Rest) × (rest ≡ Some r) × (r.cell ≡ q)) rests id (c.taker q) (Some r0)
       (Some (read_way way r0)) at
-      (λ h. (read_way way r0, refl, ap (λ (z : Rest). z.cell) (same_some refl h.1) ∙ h.2)) (c.resting q h n))
+      (λ h. (read_way way r0, refl, ap (λ (z : Rest). z.cell) (same_some refl h.1) ∙ h.2)) (c.taken q h n))
       (each_set (λ j o. (r : Rest) → o ≡ Some r → IsRest head phase c.line c.taker j r) rests id
       (Some (read_way way r0)) c.rest
       (λ r q. let e : read_way way r0 ≡ r = same_some refl q in
@@ -203,7 +203,7 @@ module _ {tag : ℕ → ℕ} {head next : ℕ → Head} {phase : ℕ → Phase} 
         (λ d g u. of_seat_set (IsIn q) shuts id (c.shutter q) old (p ∷ old) at (λ i. inr i) (c.due q g u)) g unshut;
     pushing = c.pushing;
     to_push = c.to_push;
-    resting = c.resting;
+    taken = c.taken;
     rest = c.rest;
     stays_shut = c.stays_shut;
     grows = c.grows;

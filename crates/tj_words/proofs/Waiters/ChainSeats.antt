@@ -59,7 +59,7 @@ module _ {tag : ℕ → ℕ} {head next : ℕ → Head} {phase : ℕ → Phase} 
       → Each (λ j l. All (λ p. head p ≡ Shut) l) closed'
       → Each (λ j l. All (λ (f : Found). HasGrown (head f.cell) (c.line f.cell) f.chain) l) found'
       → Chains tag head next phase pushes' shuts' rests' closed' found'
-  chains_seats due pushing to_push resting rest stays_shut grows = record {
+  chains_seats due pushing to_push taken rest stays_shut grows = record {
     line = c.line;
     pusher = c.pusher;
     taker = c.taker;
@@ -72,7 +72,7 @@ module _ {tag : ℕ → ℕ} {head next : ℕ → Head} {phase : ℕ → Phase} 
     due = due;
     pushing = pushing;
     to_push = to_push;
-    resting = resting;
+    taken = taken;
     rest = rest;
     stays_shut = stays_shut;
     grows = grows;
@@ -103,7 +103,7 @@ module _ {tag : ℕ → ℕ} {head next : ℕ → Head} {phase : ℕ → Phase} 
       due = c.due;
       pushing = pushing;
       to_push = to_push;
-      resting = c.resting;
+      taken = c.taken;
       rest = λ j o a r q. rest_kept phases c.line c.taker j r (out r.cell) (c.rest j o a r q);
       stays_shut = c.stays_shut;
       grows = c.grows;

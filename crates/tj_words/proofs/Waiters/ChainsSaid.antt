@@ -89,7 +89,7 @@ module _ {tag : ℕ → ℕ} {head next : ℕ → Head} {phase : ℕ → Phase} 
     shut_tagged = c.tagged;
     placed = λ t p w. ⊎_elim
         (λ (e : c.pusher t ≡ None). let g = c.placed p t w e in ⊎_elim
-        (λ (s : head p ≡ Shut). let k = c.resting p s (not_empty (c.line p) t g) in
+        (λ (s : head p ≡ Shut). let k = c.taken p s (not_empty (c.line p) t g) in
         let at : get_elem? rests (c.taker p) ≡ some (Some k.2.0) = k.1 ∙ ap some k.2.1 in
         let f = c.rest (c.taker p) (Some k.2.0) at k.2.0 refl in
         inr (inl (

@@ -148,7 +148,7 @@ module _ {B : Type 0} (program : Bool → B → Program B) (key : Key B) (s : St
       = λ j u e h. let q = wake_live j u e h in (omega arith) in
       dite (ℕ_discrete (x.words.once p once.Tag) 0) (λ e. e) (λ n. absurd (⊎_elim
       (λ (s : x.words.head p ≡ Shut). ⊎_elim
-      (λ (e : c.pusher t ≡ None). let g = c.resting p s (not_empty (c.line p) t (c.placed p t waits e)) in
+      (λ (e : c.pusher t ≡ None). let g = c.taken p s (not_empty (c.line p) t (c.placed p t waits e)) in
       let a = map_back (λ (u : View B). u.rest) views (c.taker p) g.0 g.1 in
       idle (c.taker p) a.0 a.1 (inr (inr (g.2.0, a.2 ∙ g.2.1))))
       (λ (k : (j : ℕ) × (c.pusher t ≡ Some j)). let g = c.pushing t k.0 k.1 in

@@ -71,7 +71,7 @@ pub record Chains (tag : ℕ → ℕ) (head next : ℕ → Head) (phase : ℕ �
   pub due : (p : ℕ) → tag p ≢ 0 → head p ≢ Shut → OfSeat (IsIn p) shuts (shutter p)
   pub pushing : (t j : ℕ) → pusher t ≡ Some j → OfSeat (Any (λ (e : Push). e.task ≡ t)) pushes j
   pub to_push : Each (λ j l. All (IsPush next phase pusher j) l) pushes
-  pub resting : (p : ℕ) → head p ≡ Shut → line p ≢ []
+  pub taken : (p : ℕ) → head p ≡ Shut → line p ≢ []
       → OfSeat (λ rest. (r : Rest) × (rest ≡ Some r) × (r.cell ≡ p)) rests (taker p)
   pub rest : Each (λ j rest. (r : Rest) → rest ≡ Some r → IsRest head phase line taker j r) rests
   pub stays_shut : Each (λ j l. All (λ p. head p ≡ Shut) l) closed
