@@ -18,7 +18,7 @@ use Rattle.tj_body.specs.Names.{same, has, without, at_most, put_in, in_order}
 use Rattle.tj_body.specs.History.{hand_one, hand_all}
 use Rattle.tj_body.specs.Points.{IsIn}
 use Rattle.tj_body.specs.NameLaws.{AreInOrder, SameIsEqual, OrderedIsOne, OrderedHasSame, OrderedIsSame, has_cell}
-use Rattle.tj_body.specs.NameLaws.{without_cell, hand_cell, hand_cells, named_reference, named_rest}
+use Rattle.tj_body.specs.NameLaws.{without_cell, hand_cell, hand_cells, named_reference, named_kept}
 use Rattle.tj_body.specs.NameLaws.{AreTold, NamesTellCells}
 use Rattle.tj_body.proofs.Counts.{is, is_one, times, same_self, same_is, times_of_in, in_of_times, times_in_order}
 
@@ -201,7 +201,7 @@ module _ (name : ℕ → Name) where
     more x (inr i) = inr (kept x ds i)
 
   hand_told : (owned : List ℕ) (hs : List (Sort × ℕ)) → ((h : Sort × ℕ) → IsIn h hs → AreTold name (h.1 ∷ owned))
-      → hand_all (map name owned) (map (named_reference name) hs) ≡ named_rest name (hand_cells owned hs)
+      → hand_all (map name owned) (map (named_reference name) hs) ≡ named_kept name (hand_cells owned hs)
   hand_told owned [] t = refl
   hand_told owned (h ∷ hs) t =
       let first = t h (inl refl) in
@@ -210,10 +210,10 @@ module _ (name : ℕ → Name) where
       (ap (λ z. hand_all z (map (named_reference name) hs)) (without_told h.1 owned first) ∙ r) where
         by : (s : Sort) (b : Bool) → has (name h.1) (map name owned) ≡ b
             → hand_all (without (name h.1) (map name owned)) (map (named_reference name) hs)
-            ≡ named_rest name (hand_cells (without_cell h.1 owned) hs)
+            ≡ named_kept name (hand_cells (without_cell h.1 owned) hs)
             → hand_one s (has (name h.1) (map name owned)) (name h.1)
             (hand_all (without (name h.1) (map name owned)) (map (named_reference name) hs))
-            ≡ named_rest name (hand_cell s b h.1 (hand_cells (without_cell h.1 owned) hs))
+            ≡ named_kept name (hand_cell s b h.1 (hand_cells (without_cell h.1 owned) hs))
         by sort.Task b e r = refl
         by sort.Promise true e r = rw e r
         by sort.Promise false e r = rw e refl

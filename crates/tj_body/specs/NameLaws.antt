@@ -68,10 +68,10 @@ named_cause name (not_owned c) = cause.Owner (name c)
 abbrev pub named_reference : (ℕ → Name) → Sort × ℕ → Reference
 named_reference name h = record { sort = h.0; name = name h.1 }
 
--- what handing gives
-abbrev pub named_rest : (ℕ → Name) → Result (List ℕ) Unhanded → Result (List Name) Cause
-named_rest name (Ok cells) = Ok (map name cells)
-named_rest name (Err why) = Err (named_cause name why)
+-- what is kept, with names for the cells, or the cause of a failure
+abbrev pub named_kept : (ℕ → Name) → Result (List ℕ) Unhanded → Result (List Name) Cause
+named_kept name (Ok cells) = Ok (map name cells)
+named_kept name (Err why) = Err (named_cause name why)
 
 -- these cells have different names
 abbrev pub AreTold : (ℕ → Name) → List ℕ → Type 0
@@ -84,4 +84,4 @@ NamesTellCells = (name : ℕ → Name) (owned : List ℕ)
     → ((c : ℕ) → AreTold name (c ∷ owned) → (has (name c) (map name owned) ≡ has_cell c owned)
     × (without (name c) (map name owned) ≡ map name (without_cell c owned)))
     × ((handed : List (Sort × ℕ)) → ((h : Sort × ℕ) → IsIn h handed → AreTold name (h.1 ∷ owned))
-    → hand_all (map name owned) (map (named_reference name) handed) ≡ named_rest name (hand_cells owned handed))
+    → hand_all (map name owned) (map (named_reference name) handed) ≡ named_kept name (hand_cells owned handed))

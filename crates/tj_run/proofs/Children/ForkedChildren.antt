@@ -10,7 +10,7 @@ use Rattle.tj_run.proofs.Prelude.{next_name, none_some, noted, numbered, numbers
 use Rattle.tj_run.proofs.Prelude.{reference, refl, released_child, seen_word, subst, suc, sym, table_program, to_map}
 use Rattle.tj_run.proofs.Prelude.{to_task, true, with_child, ℕ, ⊎_elim, ◌++◌, ◌+◌, ◌<◌, ◌∙◌, ◌∷◌, ◌≡◌, ◌≢◌, ◌⊎◌}
 use Rattle.tj_body.specs.History.{after_ask, after_fork, after_try_fork, hand_all, next_child, start}
-use Rattle.tj_body.specs.NameLaws.{NamesTellCells, no_promise, not_owned, hand_cells, named_rest}
+use Rattle.tj_body.specs.NameLaws.{NamesTellCells, no_promise, not_owned, hand_cells, named_kept}
 use Rattle.tj_body.specs.Points.{IsSomeTask}
 use Rattle.tj_body.proofs.Lists.{in_map}
 use Rattle.tj_cells.specs.MadeCells.{makes_task, new_born}
@@ -80,7 +80,7 @@ module _ {B : Type 0} (program : Bool → B → Program B) (laid : Laid B) (r : 
       promise_other P laid.cells me.0 runs.worker.cells r x asked d w.1.0 w.1.1
 
   -- what the handing leaves by name is what it leaves by number
-  handed_is : hand_all p.holds (map (reference p) handed) ≡ named_rest nm (hand_cells others (map numbered given))
+  handed_is : hand_all p.holds (map (reference p) handed) ≡ named_kept nm (hand_cells others (map numbered given))
   handed_is = (λ i. hand_all (holds_are P laid.cells me.0 runs.worker.cells r x asked i)
       (places_named me.0.born r.held p.references p.name asked.tells.held handed asked.placed.handed i))
       ∙ (tell nm others).1 (map numbered given) (λ h i. are_told laid.cells me.0.born (h.1 ∷ others) runs.worker.cells
@@ -91,7 +91,7 @@ module _ {B : Type 0} (program : Bool → B → Program B) (laid : Laid B) (r : 
           (z.1.0, subst (λ n. IsCell me.0.born n z.1.0) (ap (λ (q : Sort × ℕ). q.1) (sym w.2) ∙ sym e) z.1.1.0)
 
   fork_is : after_ask P.rules.strict x p ≡ after_try_fork b (map (reference p) pass)
-      (map (λ k. (reference p k).name) handed) (named_rest nm (hand_cells others (map numbered given))) p
+      (map (λ k. (reference p k).name) handed) (named_kept nm (hand_cells others (map numbered given))) p
   fork_is = ap (λ o. after_try_fork b (map (reference p) pass) (map (λ k. (reference p k).name) handed) o p) handed_is
 
   all_behind : hand_cells (numbers r.owned) (map numbered given)
@@ -129,13 +129,13 @@ module _ {B : Type 0} (program : Bool → B → Program B) (laid : Laid B) (r : 
       by (Err no_promise) e a = subst (λ z. IsClosing P me.0 r (finish.Failed z)) (sym a)
           (asked_fails P me.0 law r x asked hurt.Kind cause.Kind refl (λ c i. absurd i)
           (fork_is ∙ ap (λ o. after_try_fork b (map (reference p) pass) (map (λ k. (reference p k).name) handed)
-          (named_rest nm o) p) e))
+          (named_kept nm o) p) e))
       by (Err (not_owned c)) e a = subst (λ z. IsClosing P me.0 r (finish.Failed z)) (sym a)
           (let u = unowned_held c e in
           asked_fails P me.0 law r x asked (hurt.Owner (cell c)) (cause.Owner (nm c)) (nm c, u.1, refl)
           (λ d i. ⊎_elim (λ q. subst (λ n. IsIn n me.0.known) (sym q) u.0) (λ n. absurd n) i)
           (fork_is ∙ ap (λ o. after_try_fork b (map (reference p) pass) (map (λ k. (reference p k).name) handed)
-          (named_rest nm o) p) e))
+          (named_kept nm o) p) e))
 
   -- where it is allowed, the task keeps its result and the rest
   module _ (left : List CellId) (are_kept : AreKept (Ok left) (hand_cells (numbers r.owned) (map numbered given))) where
@@ -162,7 +162,7 @@ module _ {B : Type 0} (program : Bool → B → Program B) (laid : Laid B) (r : 
     forked_rounds : IsOfRounds P forked
     forked_rounds = subst (IsOfRounds P) (fork_is
         ∙ ap (λ o. after_try_fork b (map (reference p) pass) (map (λ k. (reference p k).name) handed)
-        (named_rest nm o) p) rest_is.1) (after_rounds P me.0 r x asked law)
+        (named_kept nm o) p) rest_is.1) (after_rounds P me.0 r x asked law)
 
     module _ (things : ThingsInRounds P) (starts : TasksStart P) where
       kid_task : IsSomeTask P kid
