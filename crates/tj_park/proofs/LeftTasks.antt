@@ -11,7 +11,7 @@ use Rattle.tj_words.specs.SeatViews.TaskLists.{noted}
 use Rattle.tj_words.proofs.Holders.NotedTasks.{noted_is}
 use Rattle.tj_words.proofs.Holders.SeatTasks.{let_go_here, let_go_else}
 use Rattle.tj_park.specs.ChildViews.{MayReleaseChild, MayShelve, released_child, shelved}
-use Rattle.tj_park.specs.Records.{MayLeaveHome}
+use Rattle.tj_park.specs.Records.{MayGoHome}
 
 module _ {B : Type 0} where
   -- a task that is let go twice is let go once
@@ -61,9 +61,9 @@ module _ {B : Type 0} where
     h.3,
   )
 
-  -- a record that may leave, in the slot that was taken last, comes home
+  -- a record that may go home, in the slot that was taken last, comes there
   pub puts_home : (program : Bool → B → Program B) (t : ℕ) (k : Custody B) (r : Rec B) (v : View B) (l : SlotsOf B)
-      → MayLeaveHome program t k r v → PutsHome program t k r (v, (t, Some r) ∷ l)
+      → MayGoHome program t k r v → PutsHome program t k r (v, (t, Some r) ∷ l)
   puts_home program t k r v l m = record {
     slot = refl;
     cell = m.has.cell;

@@ -16,7 +16,7 @@ use Rattle.tj_words.specs.Calls.LiveViews.{without_task}
 use Rattle.tj_words.specs.LawParts.RecordPhases.{WaitsFor}
 use Rattle.tj_words.specs.Calls.TakenRecords.{custody_of}
 use Rattle.tj_words.specs.SeatViews.TaskLists.{hold, let_go}
-use Rattle.tj_park.specs.Records.{MayLeaveHome, HasTaken, HasNothingToCome, AlarmsLeave}
+use Rattle.tj_park.specs.Records.{MayGoHome, HasTaken, HasNothingToCome, AlarmsLeave}
 
 module _ {B : Type 0} where
   -- the seat holds t, an unborn child, of which this is the record at its start; it has a token or a running task, and
@@ -26,7 +26,7 @@ module _ {B : Type 0} where
     pub held : held_in v.tasks t ≡ Some custody
     pub unborn : custody.does ≡ does.Unborn
     pub no_hand : (h : Hand) → v.hand ≡ Some h → h.maker ≢ t
-    pub leaves : MayLeaveHome program t custody r v
+    pub leaves : MayGoHome program t custody r v
     pub starts : r.answer ≡ answer.Start
     pub backed : IsBacked v
     pub room : v.tokens < v.lot
@@ -57,7 +57,7 @@ module _ {B : Type 0} where
     pub way : Way
     pub walker : Walker
     pub alarmed : custody.does ≡ does.Alarmed cell way walker
-    pub leaves : MayLeaveHome program t custody r v
+    pub leaves : MayGoHome program t custody r v
     pub waits : WaitsFor r cell
     pub idle : HasNothingToCome v
     pub token : 0 < v.tokens

@@ -17,7 +17,7 @@ use Rattle.tj_words.specs.LawParts.TreeWords.{AreCells}
 use Rattle.tj_words.specs.Calls.WaitViews.{HasWalker}
 use Rattle.tj_park.specs.declared.parking.Parked.{Parked}
 use Rattle.tj_park.specs.declared.parking.Parked.TheVariants as parked
-use Rattle.tj_park.specs.Records.{MayLeaveHome, HasTaken, HasNothingToCome, AlarmsLeave}
+use Rattle.tj_park.specs.Records.{MayGoHome, HasTaken, HasNothingToCome, AlarmsLeave}
 
 -- the most steps of a call: at most N + 1 pushes, each with a store before it, and four steps besides
 abbrev pub park_steps : ℕ → ℕ
@@ -40,7 +40,7 @@ module _ {B : Type 0} where
     where
       pub walks : HasWalker t q way v
       pub settles : MaySettle walks.walker
-      pub leaves : MayLeaveHome program t walks.custody r v
+      pub leaves : MayGoHome program t walks.custody r v
       pub waits : WaitsFor r q
       pub idle : HasNothingToCome v
       pub room : v.cleared + raised_by_way way ≤ v.lot

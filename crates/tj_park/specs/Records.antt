@@ -23,8 +23,8 @@ module _ {B : Type 0} where
     pub made : r.made ≡ k.made
     pub knows : All (λ c. IsIn c v.known) (record_cells r)
 
-  -- such a record may be put home before its task ends: it tells a point of the program
-  pub record MayLeaveHome (program : Bool → B → Program B) (t : ℕ) (k : Custody B) (r : Rec B) (v : View B) : Type 0
+  -- such a record may go home before its task ends: it tells a point of the program
+  pub record MayGoHome (program : Bool → B → Program B) (t : ℕ) (k : Custody B) (r : Rec B) (v : View B) : Type 0
     where
       pub has : HasRecord t k r v
       pub told : TellsPoint program v r

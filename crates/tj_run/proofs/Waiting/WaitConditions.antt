@@ -14,7 +14,7 @@ use Rattle.tj_events.specs.Events.{EndsWalk, MaySettle, raised_by_way}
 use Rattle.tj_words.specs.LawParts.LiveCount.{HasAlarmed, HasWakeToCome, Holds}
 use Rattle.tj_words.specs.LawParts.RecordPhases.{WaitsFor}
 use Rattle.tj_detect.specs.Blocks.{EndsWith, MayBlock, does_after, tokens_given}
-use Rattle.tj_park.specs.Records.{HasNoRecord, HasNothingToCome, HasTaken, MayLeaveHome}
+use Rattle.tj_park.specs.Records.{HasNoRecord, HasNothingToCome, HasTaken, MayGoHome}
 use Rattle.tj_run.proofs.Seats.OneTask.{held_one, let_go_one, noted_one}
 use Rattle.tj_run.proofs.Asks.PointSteps.{pairs_length}
 use Rattle.tj_run.proofs.Cells.ToldCells.{cell_known, task_known, told_cell, told_held, told_knows, told_task}
@@ -197,7 +197,7 @@ module _ {B : Type 0} {program : Bool → B → Program B} {laid : Laid B} {r : 
     left_since : let_go t since.tasks ≡ []
     left_since = ap (let_go t) tasks_since ∙ let_go_one t custody runs.task
 
-    leaves : MayLeaveHome program t custody (waits_at k spare r) since
+    leaves : MayGoHome program t custody (waits_at k spare r) since
     leaves = record {
       has = record {
         cell = refl;
