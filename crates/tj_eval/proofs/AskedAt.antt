@@ -9,7 +9,7 @@ use Rattle.tj_body.specs.declared.ask.Ask.TheVariants as ask
 use Rattle.tj_body.specs.Asks.{new_places}
 use Rattle.tj_syntax.specs.Trees as tree
 use Rattle.tj_syntax.specs.Trees.{Given, Statement, Task, Argument}
-use Rattle.tj_eval.specs.AskedAt.{GoesOn, way_here, way_on, IsAskOfEffect, AsksWhere, AsksAt, AsksAfter}
+use Rattle.tj_eval.specs.AskedAt.{GoesOn, path_here, path_on, IsAskOfEffect, AsksWhere, AsksAt, AsksAfter}
 use Rattle.tj_eval.specs.AskedAt.{StandsAtItsAsk}
 use Rattle.tj_eval.specs.Expressions.{held}
 use Rattle.tj_eval.specs.Stands.{Stand, AreNamed, stand_begun, stand_from, stand_of, stand_ask}
@@ -79,13 +79,13 @@ module _ (all : List Statement) where
       → AsksWhere all at t rest n q → AsksAt all at t q
   at_once at t q rest n e k h = record {
     last = t;
-    way = way_here t;
+    path = path_here t;
     asks = subst (λ r. AsksWhere all at t r t.steps q) (sym e) (subst (λ m. AsksWhere all at t rest m q) (sym k) h);
   }
 
   -- the task goes on first
   later : (at : ℕ) (t u : TaskState) (q : Ask TaskState) → GoesOn t u → AsksAt all at u q → AsksAt all at t q
-  later at t u q g h = record { last = h.last; way = way_on t u h.last g h.way; asks = h.asks }
+  later at t u q g h = record { last = h.last; path = path_on t u h.last g h.path; asks = h.asks }
 
   -- the next statement begins, and comes to this
   module _ (n : ℕ) (t : TaskState) (s : Statement) (rest : List Statement) (r : t.rest ≡ s ∷ rest) (k : t.steps ≡ suc n)

@@ -1,4 +1,4 @@
--- A task that knows where it stands, on its way to its next ask: what it keeps stays right.
+-- A task that knows where it stands, up to its next ask: what it keeps stays right.
 use Rattle.std.proofs.Common.{◌≡◌, ℕ, zero, suc, ◌+◌, ◌<◌, arith, List, [], ◌∷◌, ◌++◌, length, refl, ap, sym, subst}
 use Rattle.std.proofs.Common.{◌∙◌}
 use Rattle.std.proofs.lemmas.List.{length-map}

@@ -1,4 +1,4 @@
--- The way on to the next ask, one statement at a time.
+-- The path to the next ask, one statement at a time.
 use Rattle.std.proofs.Common.{◌≡◌, ℕ, zero, suc, ◌-◌, ◌<◌, List, [], ◌∷◌, pos, ap, sym, ◌∙◌, arith}
 use Rattle.tj_base.specs.declared.value.Pay.TheVariants as pay
 use Rattle.tj_base.specs.declared.cause.Trouble.{Trouble}
@@ -53,7 +53,7 @@ module _ (old t : TaskState) (s : Statement) (r : old.rest ≡ s ∷ t.rest) (e 
     abbrev on : TaskState
     on = record t { steps = t.steps - 1 }
 
-    -- where it asks nothing, the way goes on from there
+    -- where it asks nothing, the path goes on from there
     pub next_ask-goes_on : (new : TaskState) → IsStep on s (Ok true) new
         → next_ask old.steps old ≡ next_ask new.steps new
     next_ask-goes_on new h = next_ask-begins old t s r e p

@@ -200,7 +200,7 @@ module _ (all : List Statement) where
         (λ i. either (is_zero i) [] (numbers (suc z.at) body ++ z.at ∷ []) [] (listed body ++ tree.repeat e body ∷ [])
         z.ahead t.rest h (loop_named e body at))
 
-  -- Whole ways to the next ask.
+  -- Whole paths to the next ask.
   right_from : (t : TaskState) (z : Stand) (effect : Effect) (w : Stand) (go : TaskState → Next)
       (on : TaskState → Stand → Stand) → IsRightEffect t z effect w
       → ((new : TaskState) (u : Stand) → AreNamed all u.ahead new.rest → IsRightNext new u (go new) (on new u))

@@ -22,9 +22,9 @@ pub record GoesOn (t new : TaskState) : Type 0 where
   pub goes : begun (record t { rest = rest; steps = steps }) statement ≡ goes_on new
 
 -- it has carried out some statements that ask nothing, one after another
-pub data IsWay : TaskState → TaskState → Type 0 where
-  way_here : (t : TaskState) → IsWay t t
-  way_on : (t u v : TaskState) → GoesOn t u → IsWay u v → IsWay t v
+pub data IsPath : TaskState → TaskState → Type 0 where
+  path_here : (t : TaskState) → IsPath t t
+  path_on : (t u v : TaskState) → GoesOn t u → IsPath u v → IsPath t v
 
 -- the effect is the ask, or the fault that ends the task
 abbrev pub IsAskOfEffect : Effect → Ask TaskState → Type 0
@@ -43,7 +43,7 @@ AsksWhere all at t (s ∷ rest) (suc n) q =
 -- by statements that ask nothing the task comes to where it stands, and asks this there
 pub record AsksAt (all : List Statement) (at : ℕ) (t : TaskState) (q : Ask TaskState) : Type 0 where
   pub last : TaskState
-  pub way : IsWay t last
+  pub path : IsPath t last
   pub asks : AsksWhere all at last last.rest last.steps q
 
 -- the same of a task that has taken its answer; where it has failed at it, it stands where it stood

@@ -93,7 +93,7 @@ stand_begun t (tree.choose e body other) z = decided (number (value_in t e))
 stand_begun t (tree.repeat e body) z = decided (number (value_in t e))
     (λ n. if is_zero n then [] else numbers (suc z.at) body ++ z.at ∷ []) z
 
--- where it stands at the first ask on the way on from an effect
+-- where it stands at the first ask from an effect on
 abbrev pub stand_from : Stand → Effect → (TaskState → Stand → Stand) → Stand
 stand_from z (goes_on new) go = go new z
 stand_from z (asks a new) go = z

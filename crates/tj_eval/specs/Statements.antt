@@ -198,7 +198,7 @@ begun t (tree.repeat e body) = then_effect (number (value_in t e))
 abbrev pub Next : Type 0
 Next = Ask TaskState × TaskState
 
--- the first ask on the way on from an effect
+-- the first ask from an effect on
 abbrev pub next_from : TaskState → Effect → (TaskState → Next) → Next
 next_from t (goes_on new) go = go new
 next_from t (asks a new) go = (a, new)

@@ -138,7 +138,7 @@ impl<'s> State<'s> {
         }
     }
 
-    /// The next ask, if no statement on the way to it fails.
+    /// The next ask, if no statement before it fails.
     #[inline(always)]
     fn next_ask(&mut self, alloc: Global) -> Result<Ask<ScriptBody<'s>>, Halt>
         requires { IsTrue (all_have_few_params self.old.script) }

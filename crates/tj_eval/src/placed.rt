@@ -13,7 +13,7 @@ ghost use Rattle.tj_eval.specs.Sizes.{sizes_of};
 ghost use Rattle.tj_eval.specs.Statements as state;
 ghost use Rattle.tj_eval.specs.Stands as stand;
 ghost use Rattle.tj_eval.specs.Stands.{IsPlacedMain, StandsRight, placed_places, placed_awaits, placed_left};
-ghost use Rattle.tj_eval.specs.Inner.Effects.{IsOnWay, IsStep, IsNext, IsNextAsk, IsSaid};
+ghost use Rattle.tj_eval.specs.Inner.Effects.{ComesToAsk, IsStep, IsNext, IsNextAsk, IsSaid};
 ghost use Rattle.tj_eval.specs.Inner.Standing.{ForksIn, IsChildIn, IsHome, IsNumbered, IsReady, shown};
 
 use crate::body::{MAX_STEPS, main_body, main_number, new_places, task_at};
@@ -116,7 +116,8 @@ impl<'s> Standing<'s> {
     /// Goes on to the next statement that asks, if one is left, at which it then stands.
     fn go_on(&mut self) -> Result<Option<&'s Stmt>, Halt>
         requires ready { IsReady self.old }
-        ensures way { IsOnWay (λ stmt. view.statement stmt.now) self.old.body result self.new.body }
+        ensures comes { ComesToAsk (λ stmt. view.statement stmt.now)
+            self.old.body result self.new.body }
         ensures stand { IsSaid result ((shown self.new).stand
             ≡ stand.stand_ask self.old.body.steps self.old.body (shown self.old).stand) }
         ensures home { self.new.home ≡ self.old.home }
@@ -132,7 +133,7 @@ impl<'s> Standing<'s> {
         Ok(None)
     }
 
-    /// The next ask, if no statement on the way to it fails.
+    /// The next ask, if no statement before it fails.
     fn next_ask(&mut self, alloc: Global) -> Result<Ask<ScriptBody<'s>>, Halt>
         requires few { IsTrue (all_have_few_params self.old.body.script) }
         requires ready { IsReady self.old }

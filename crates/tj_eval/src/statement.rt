@@ -3,7 +3,7 @@ ghost use Rattle.std.specs.Prelude.{◌≡◌, IsTrue};
 ghost use Rattle.tj_eval.specs.Bodies.{all_have_few_params};
 ghost use Rattle.tj_syntax.specs.View as view;
 ghost use Rattle.tj_eval.specs.Statements as state;
-ghost use Rattle.tj_eval.specs.Inner.Effects.{IsAskOf, IsGiven, IsOnWay, IsStep, is_ask};
+ghost use Rattle.tj_eval.specs.Inner.Effects.{IsAskOf, IsGiven, ComesToAsk, IsStep, is_ask};
 
 use crate::expression::{held, number, reference_in, value, whole};
 use crate::halt::Halt;
@@ -16,11 +16,11 @@ use tj_body::Ask;
 use tj_syntax::{Expr, Rhs, Stmt};
 
 impl<'s> State<'s> {
-    /// Goes on to the next statement that asks, if one is left, which has then begun. The statements
-    /// on the way hand nothing on that is as large as an ask.
+    /// Goes on to the next statement that asks, if one is left, which has then begun. Those before
+    /// it hand nothing on that is as large as an ask.
     #[inline(always)]
     pub(crate) fn go_on(&mut self) -> Result<Option<&'s Stmt>, Halt>
-        ensures { IsOnWay (λ stmt. view.statement stmt.now) self.old result self.new }
+        ensures { ComesToAsk (λ stmt. view.statement stmt.now) self.old result self.new }
     {
         while let Some(stmt) = self.take() {
             if self.steps == 0 {

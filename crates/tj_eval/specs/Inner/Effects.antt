@@ -57,15 +57,15 @@ IsAskOf old effect (Ok ask) new = effect ≡ asks ask new
 IsAskOf old effect (Err (Fault fault)) new = (effect ≡ fails fault) × (new ≡ old)
 IsAskOf old effect (Err Memory) new = Unit {0}
 
--- The task on its way to its next ask, where a statement asks that has begun, where none is left, or at a fault. What
+-- The task has come to its next ask, where a statement asks that has begun, where none is left, or at a fault. What
 -- `shown` makes of the answer is the statement.
-abbrev pub IsOnWay : {A : Type 0} → (A → Statement) → TaskState → Result (Option A) Halt → TaskState → Type 0
-IsOnWay shown old (Ok (Some s)) new =
+abbrev pub ComesToAsk : {A : Type 0} → (A → Statement) → TaskState → Result (Option A) Halt → TaskState → Type 0
+ComesToAsk shown old (Ok (Some s)) new =
     (next_ask old.steps old ≡ next_from new (begun new (shown s)) (next_ask new.steps))
     × (is_ask (shown s) ≡ true) × (new.script ≡ old.script)
-IsOnWay shown old (Ok None) new = next_ask old.steps old ≡ (ask.End (pay.Num (pos 0)), ended new)
-IsOnWay shown old (Err (Fault fault)) new = next_ask old.steps old ≡ (ask.Fail fault, ended new)
-IsOnWay shown old (Err Memory) new = Unit {0}
+ComesToAsk shown old (Ok None) new = next_ask old.steps old ≡ (ask.End (pay.Num (pos 0)), ended new)
+ComesToAsk shown old (Err (Fault fault)) new = next_ask old.steps old ≡ (ask.Fail fault, ended new)
+ComesToAsk shown old (Err Memory) new = Unit {0}
 
 -- the next ask, with the task from then on; where it fails, the task has still to end
 abbrev pub IsNext : Next → Result (Ask TaskState) Halt → TaskState → Type 0

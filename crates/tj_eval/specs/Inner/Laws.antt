@@ -381,7 +381,7 @@ good-begun t (tree.choose e body other) h = good-effect (λ _. Unit {0}) t (numb
 good-begun t (tree.repeat e body) h = good-effect (λ _. Unit {0}) t (number (value_in t e)) _
     (any (number (value_in t e))) (λ n _. (sound-first t _ h, refl))
 
--- Whole ways to the next ask.
+-- Whole paths to the next ask.
 good-fail : (n : ℕ) (t : TaskState) (fault : Trouble) → IsGood n t.places (ask.Fail fault) (ended t)
 good-fail n t fault = good-end n t (ask.Fail fault) tt refl tt
 
