@@ -1,4 +1,4 @@
--- Ends that get ways into each other's queues.
+-- Ends that come to take from each other's queues.
 use Rattle.std.proofs.Common.{ℕ, zero, suc, ◌+◌, ◌≡◌, ◌<◌, List, [], ◌∷◌, ◌++◌, All, Contains, length, set, get_or, take, refl, sym, subst, arith}
 use Rattle.std.proofs.lemmas.List.{take-set, length-set, get_or-set_same}
 use Rattle.std.proofs.lemmas.List.Elements.{All-append, All-cons, All-nil, All-more}

@@ -11,7 +11,7 @@ module _ {X D : Type 0} (queue : X → D) (reach : X → List D) where
   abbrev pub AllMeet : List X → Type 0
   AllMeet ends = AllPairs Meets ends
 
-  -- a way into one more queue was added, and the end's own queue is the same
+  -- the end can take from one more queue, and its own queue is the same
   pub record Opens (old : X) (added : D) (new : X) : Type 0 where
     pub same : queue new ≡ queue old
     pub more : reach new ≡ reach old ++ added ∷ []

@@ -33,7 +33,7 @@ module _ {V K : Type 0} {rule : Ghosts K V} where
   abbrev pub EndsMeet : List (RuledStealPool V K rule) → Type 0
   EndsMeet ends = AllMeet deque_of reach_of ends
 
-  -- two ends got ways into each other's deque
+  -- two ends have come to take from each other's deque
   pub record EndsJoin (a b a' b' : RuledStealPool V K rule) : Type 0 where
     pub one : Grows deque_of reach_of a a'
     pub other : Grows deque_of reach_of b b'

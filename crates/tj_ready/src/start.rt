@@ -1,4 +1,4 @@
-//! The deques of a stealing pool before the first put, and the ways into them.
+//! The deques of a stealing pool before the first put, and as victims of other ends.
 //!
 //! A rule has to know for how many cells the pool is. A proof picks this number where a deque is
 //! made, and each seat of the deque is then told it.
@@ -62,8 +62,8 @@ pub fn owner<V, K: PoolRule<V>, S: Size>(alloc: Global, cells: u32) -> Result<Ow
     Ok(own)
 }
 
-/// A way into the deque of another end, which has put and taken nothing yet.
-pub fn way_into<V, K: PoolRule<V>>(own: &mut Owner<V, K>, cells: u32) -> Result<Victim<V, K>, Oom>
+/// The deque of an end, as the victim of another one. The end has put and taken nothing yet.
+pub fn victim_of<V, K: PoolRule<V>>(own: &mut Owner<V, K>, cells: u32) -> Result<Victim<V, K>, Oom>
     requires { (worker_flavor own.old ≡ 0) × (0 < cells) × (worker_view own.old ≡ K.own cells) }
     ensures same { (worker_flavor own.new ≡ 0) × (worker_view own.new ≡ K.own cells) }
     ensures deque { worker_deque own.new ≡ worker_deque own.old }

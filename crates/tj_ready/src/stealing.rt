@@ -9,7 +9,7 @@ ghost use Rattle.tj_ready.specs.Victims.{known_in};
 
 use crate::pool::Pool;
 use crate::rule::{Bounded, PoolRule, Putting, Taking};
-use crate::start::{Owner, Size, owner, way_into};
+use crate::start::{Owner, Size, owner, victim_of};
 use crate::victim::Victim;
 use std::alloc::Global;
 use std::collections::VecDeque;
@@ -62,7 +62,7 @@ impl<V, K: PoolRule<V>> RuledStealPool<V, K> {
         ensures other { (deque_of other.new ≡ deque_of other.old)
             × (reach_of other.new ≡ reach_of other.old) }
     {
-        self.others.push(way_into(&mut other.own, cells)?)?;
+        self.others.push(victim_of(&mut other.own, cells)?)?;
         Ok(())
     }
 

@@ -6,9 +6,9 @@ use Rattle.tj_ready.proofs.stealing.RuledStealPool.open.Goals as goal
 pub invariant_of-self-2 : goal.invariant_of-self-2
 invariant_of-self-2 g c =
     let new = c.requires.new.0 in
-    let told : g.K.PoolRule.limit (known_there c.in_ok-way_into.field-0) ≡ c.args.self.now.cells =
-    ap g.K.PoolRule.limit c.in_ok-way_into.ensures.known ∙ g.met.K.PoolRule.kept.other_limit c.args.cells ∙ sym new.size
-    in
+    let told : g.K.PoolRule.limit (known_there c.in_ok-victim_of.field-0) ≡ c.args.self.now.cells =
+    ap g.K.PoolRule.limit c.in_ok-victim_of.ensures.known ∙ g.met.K.PoolRule.kept.other_limit c.args.cells
+    ∙ sym new.size in
     record {
       fifo = c.args.self.now.fifo;
       own_cells = c.args.self.now.own_cells;
@@ -26,7 +26,7 @@ returns-clause-new g c =
         own = new.own;
         spare = new.spare;
         others = one_more known_there (λ v. v ≡ g.K.PoolRule.other c.args.cells) _ _ _ c.in_ok-push.ensures.items
-            c.in_ok-way_into.ensures.known new.others;
+            c.in_ok-victim_of.ensures.known new.others;
       },
-      record { size = other.size; own = c.way_into.ensures.same.1; spare = other.spare; others = other.others },
+      record { size = other.size; own = c.victim_of.ensures.same.1; spare = other.spare; others = other.others },
     )
