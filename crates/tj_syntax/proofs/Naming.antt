@@ -4,4 +4,3 @@ pub mod HeadNames
 pub mod HeadSteps
 pub mod Indexes
 pub mod TaskNames
-pub mod Lookups

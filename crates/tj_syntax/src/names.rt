@@ -1,5 +1,5 @@
 //! Names by their numbers, in the order in which they were declared.
-ghost use Rattle.std.specs.Prelude.{◌≡◌, ◌<◌, ◌≤◌, [], ◌∷◌, ◌++◌, OnOk, OnErr, IfErr, length, None};
+ghost use Rattle.std.specs.Prelude.{◌≡◌, ◌<◌, ◌≤◌, [], ◌∷◌, ◌++◌, OnOk, OnErr, IfErr, IfSome, length, None};
 ghost use Rattle.tj_syntax.specs.Marks.{index_of};
 
 use crate::fault::Stop;
@@ -54,7 +54,8 @@ impl<'t> Names<'t> {
         ensures { result ≡ index_of self.now name.now }
     {
         if self.list.len() <= FEW {
-            number_among(self.list.as_slice(), name)
+            let at = index_among(self.list.as_slice(), name)?;
+            Some(at as u32)
         } else {
             self.numbers.get(name).copied()
         }
@@ -87,15 +88,10 @@ impl<'t> Names<'t> {
     }
 }
 
-/// The number of a name among these.
-fn number_among(names: &[Word], name: &[u8]) -> Option<u32>
-    requires { length names.now ≤ MAX_TASKS }
-    ensures { result ≡ index_of names.now name.now }
+/// The index of a name among these.
+fn index_among(names: &[Word], name: &[u8]) -> Option<usize>
+    ensures index { result ≡ index_of names.now name.now }
+    ensures within { IfSome result (λ at. at < length names.now) }
 {
-    for at in 0..names.len() {
-        if names[at].bytes() == name {
-            return Some(at as u32);
-        }
-    }
-    None
+    names.iter().position(|known| known.bytes() == name)
 }
