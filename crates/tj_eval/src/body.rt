@@ -1,9 +1,11 @@
 //! A task of a script as a body: it takes its answer, and goes on to its next ask.
 ghost use Rattle.std.specs.Prelude.{◌≡◌, ◌<◌, ◌≤◌, ◌^◌, codes, length, slice_get, IfOk, IsTrue, List, Some};
+ghost use Rattle.std.specs.List.{position_from};
 ghost use Rattle.std.specs.Str.{bytes_eq};
 ghost use Rattle.tj_body.specs.Asks as asks;
 ghost use Rattle.tj_body.specs.Asks.{IsFresh};
 ghost use Rattle.tj_lex.specs.declared.token.Tok.{Tok};
+ghost use Rattle.tj_syntax.specs.declared.script.Decl.{Decl};
 ghost use Rattle.tj_syntax.specs.Faults.{IsScript, main_of};
 ghost use Rattle.tj_syntax.specs.Trees.{Task};
 ghost use Rattle.tj_syntax.specs.View as view;
@@ -57,14 +59,17 @@ pub(crate) fn main_number(script: &Script) -> usize
     ensures index { result < length (view.script script.now) }
     ensures main { main_of (view.script script.now) ≡ slice_get (view.script script.now) result }
 {
-    let mut f = 0;
-    for decl in &script.tasks {
-        if is_main(decl) {
-            return f;
-        }
-        f += 1;
+    match main_among(script.tasks.as_slice()) {
+        Some(f) => f,
+        None => unreachable!(),
     }
-    unreachable!()
+}
+
+/// The index of the first of these that is named `main`.
+fn main_among(decls: &[Decl]) -> Option<usize>
+    ensures { result ≡ position_from (λ (d : Decl). bytes_eq d.name (codes "main")) 0 decls.now }
+{
+    decls.iter().position(is_main)
 }
 
 /// Whether the task is named `main`.
