@@ -1,8 +1,9 @@
 -- What a loop over places makes of rows: one place more.
-use Rattle.std.proofs.Common.{◌≡◌, ◌≤◌, ◌<◌, ℕ, zero, suc, ◌+◌, true, false, ◌&&◌, List, [], ◌∷◌, ◌++◌}
-use Rattle.std.proofs.Common.{length, get_or, drop, refl, sym, ap, ◌∙◌, arith, drop-cons, ltb-true, append_assoc}
-use Rattle.std.specs.Prelude.{slice_get, Option, Some, None}
-use Rattle.std.specs.List.{list_all}
+use Rattle.std.proofs.Common.{◌≡◌, ◌≤◌, ◌<◌, ℕ, zero, suc, ◌+◌, Bool, true, false, cond, ◌&&◌, List, [], ◌∷◌, ◌++◌}
+use Rattle.std.proofs.Common.{length, get_or, drop, refl, sym, ap, ◌∙◌, arith, nat_eq, drop-cons, ltb-true}
+use Rattle.std.proofs.Common.{append_assoc}
+use Rattle.std.specs.Prelude.{slice_get, Option, Some, None, unwrap_or}
+use Rattle.std.specs.List.{list_all, position_from}
 use Rattle.std.proofs.lemmas.Option.{none-some, slice_get-get_or, slice_get_past}
 use Rattle.std.proofs.lemmas.List.Sums.{AllPass-from_list_all}
 use Rattle.tj_chan.specs.ChanBodies.{AreRows, first_of, row_at, without_end, without_ends, has_end, can_give}
@@ -75,6 +76,24 @@ there_has_row rows pass i h e l n = let k = get_or pass i 0 in
         none h = omega arith
       slice_get_there (r ∷ rs) zero l = (r, refl)
       slice_get_there (r ∷ rs) (suc k) l = slice_get_there rs k (omega arith)
+
+-- where a number stands first behind others, or how many there are
+first_or_more : (k i : ℕ) (js : List ℕ) → unwrap_or (position_from (nat_eq k) i js) (i + length js) ≡ i + position k js
+first_or_more k i [] = refl
+first_or_more k i (j ∷ js) = by (nat_eq k j) (first_or_more k (i + 1) js) where
+  by : (b : Bool) → unwrap_or (position_from (nat_eq k) (i + 1) js) ((i + 1) + length js) ≡ (i + 1) + position k js
+      → unwrap_or (cond b (Some i) (position_from (nat_eq k) (i + 1) js)) (i + suc (length js))
+      ≡ i + cond b 0 (suc (position k js))
+  by true e = let here : i ≡ i + 0 = omega arith in here
+  by false e = let far : i + suc (length js) ≡ (i + 1) + length js = omega arith in
+      let near : (i + 1) + position k js ≡ i + suc (position k js) = omega arith in
+      ap (λ n. unwrap_or (position_from (nat_eq k) (i + 1) js) n) far ∙ e ∙ near
+
+-- and behind none
+pub first_or_count : (k : ℕ) (js : List ℕ) → unwrap_or (position_from (nat_eq k) 0 js) (length js) ≡ position k js
+first_or_count k js = let count : length js ≡ 0 + length js = omega arith in
+    let place : 0 + position k js ≡ position k js = omega arith in
+    ap (λ n. unwrap_or (position_from (nat_eq k) 0 js) n) count ∙ first_or_more k 0 js ∙ place
 
 -- the next row of a child is that of the next passed place
 pub passed_next : (rows : List PromiseRow) (give firsts : List ℕ) (base : ℕ) (pass : List ℕ) (i : ℕ) (r : PromiseRow)

@@ -147,12 +147,8 @@ fn position(firsts: &[u32], first: u32) -> u32
     ensures position { result ≡ bodies.position first firsts.now }
     ensures within { result ≤ length firsts.now }
 {
-    for (at, seen) in firsts.iter().enumerate() {
-        if *seen == first {
-            return at as u32;
-        }
-    }
-    firsts.len() as u32
+    let found = firsts.iter().position(|seen| first == *seen);
+    found.unwrap_or(firsts.len()) as u32
 }
 
 /// Whether the end of the channel with this first place is given.
