@@ -4,21 +4,27 @@ ghost use Rattle.std.specs.Fmt.{signed_decimal};
 ghost use Rattle.tj_base.specs.Texts.{counted};
 
 use crate::memory::Oom;
-use itoa::Buffer;
+use itoa::{Buffer, Integer};
 
 /// Adds a number in decimal.
 pub fn add_number(text: &mut Vec<u8>, number: u128) -> Result<(), Oom>
     ensures ok { IfOk result (λ _. text.new.items ≡ text.old.items ++ decimal number) }
     ensures err { OnErr result (text.new.items ≡ text.old.items) }
 {
-    let mut buffer = Buffer::new();
-    text.extend_from_slice(buffer.format(number).as_bytes())?;
-    Ok(())
+    add_integer(text, number)
 }
 
 /// Adds a number in decimal, with its sign where it is less than 0.
 pub fn add_signed(text: &mut Vec<u8>, number: i64) -> Result<(), Oom>
     ensures ok { IfOk result (λ _. text.new.items ≡ text.old.items ++ signed_decimal number) }
+    ensures err { OnErr result (text.new.items ≡ text.old.items) }
+{
+    add_integer(text, number)
+}
+
+/// Adds an integer in decimal, whatever its type.
+fn add_integer<I: Integer>(text: &mut Vec<u8>, number: I) -> Result<(), Oom>
+    ensures ok { IfOk result (λ _. text.new.items ≡ text.old.items ++ I.text number) }
     ensures err { OnErr result (text.new.items ≡ text.old.items) }
 {
     let mut buffer = Buffer::new();
