@@ -9,7 +9,7 @@ use std::alloc::Global;
 use tj_base::{Items, Oom, Pay, PlaceList, Trouble};
 
 /// What a row of a table asks.
-#[derive(PartialEq, Eq, Drop)]
+#[derive(Drop)]
 pub enum Row {
     New,
     /// Forks a task whose body gives the rows of the list with this number.
@@ -44,7 +44,7 @@ pub type RowList = Items<Row>;
 
 /// A body that gives the rows of one of these lists, in order, and then ends with 0. A row that
 /// names a place which the task doesn't have is given as a fault of kind.
-#[derive(PartialEq, Eq, Drop)]
+#[derive(Drop)]
 pub struct TableBody<'s> {
     lists: &'s [RowList],
     list: u32,
