@@ -1,5 +1,5 @@
 -- The history of one task under an assignment and a rule, strict or not, ask by ask.
-use Rattle.std.specs.Prelude.{ℕ, zero, suc, ◌*◌, Bool, true, false, cond, not, ◌&&◌, List, [], ◌∷◌, ◌++◌, map}
+use Rattle.std.specs.Prelude.{ℕ, suc, ◌*◌, Bool, true, false, cond, not, ◌&&◌, List, [], ◌∷◌, ◌++◌, map}
 use Rattle.std.specs.Prelude.{length, get_or, ℤ, Option, Some, None, Result, Ok, Err}
 use Rattle.tj_base.specs.ForkOrder.{Name, child, before}
 use Rattle.tj_base.specs.declared.cell.Sort.{Sort}
@@ -12,6 +12,7 @@ use Rattle.tj_base.specs.declared.cause.Cause.{Cause}
 use Rattle.tj_base.specs.declared.cause.Cause.TheVariants as cause
 use Rattle.tj_body.specs.Names.{has, without, in_order}
 use Rattle.tj_body.specs.Programs.{Rules}
+use Rattle.tj_body.specs.Steps.{after_steps}
 use Rattle.tj_body.specs.declared.ask.Answer.{Answer}
 use Rattle.tj_body.specs.declared.ask.Answer.TheVariants as answer
 use Rattle.tj_body.specs.declared.ask.Ask.{Ask}
@@ -233,8 +234,7 @@ module _ {B : Type 0} where
 
     -- the point after k steps
     abbrev pub point_after : Assignment → ℕ → Task B → Point B
-    point_after V zero t = start t
-    point_after V (suc k) t = after_step V (point_after V k t)
+    point_after V k t = after_steps (after_step V) k (start t)
 
     -- the point at which the task stops: an ask and its answer are two steps, and there are at most left and one asks
     abbrev pub history : Assignment → Task B → Point B

@@ -14,3 +14,4 @@ pub mod NeverWaits
 pub mod WaitGraph
 pub mod Inner
 pub mod RowLists
+pub mod Steps
