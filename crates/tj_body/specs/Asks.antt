@@ -52,18 +52,14 @@ awaited (ask.Emit i) = done
 awaited (ask.End v) = nothing
 awaited (ask.Fail t) = nothing
 
+-- no answer is awaited any more
+abbrev pub AwaitsNothing : Await → Type 0
+AwaitsNothing nothing = Unit {0}
+AwaitsNothing w = ⊥
+
 -- the ask is a body's last one
 abbrev pub Ends : {B : Type 0} → Ask B → Type 0
-Ends ask.New = ⊥
-Ends (ask.Fork b pass hand) = ⊥
-Ends (ask.Set k v) = ⊥
-Ends (ask.Get k) = ⊥
-Ends (ask.Join k) = ⊥
-Ends (ask.GetOr k) = ⊥
-Ends (ask.JoinOr k) = ⊥
-Ends (ask.Emit i) = ⊥
-Ends (ask.End v) = Unit {0}
-Ends (ask.Fail t) = Unit {0}
+Ends x = AwaitsNothing (awaited x)
 
 -- the place of the value, if it is a reference, is one of n
 abbrev pub IsPaid : ℕ → Pay → Type 0
