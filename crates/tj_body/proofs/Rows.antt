@@ -1,6 +1,6 @@
 -- The asks of a table's body are those of its rows, in order.
 use Rattle.std.proofs.Common.{◌≡◌, ◌≤◌, ◌<◌, ℕ, suc, ◌+◌, inl, inr, pos, List, [], ◌∷◌, length, get_or, drop, refl, sym}
-use Rattle.std.proofs.Common.{ap, ◌∙◌, arith, drop-cons}
+use Rattle.std.proofs.Common.{subst, ap, ◌∙◌, arith, drop-cons}
 use Rattle.std.proofs.lemmas.Option.{slice_get_cases, slice_get_read, slice_get_past}
 use Rattle.tj_base.specs.declared.value.Pay.TheVariants as pay
 use Rattle.std.proofs.lemmas.List.{drop_all}
@@ -15,6 +15,15 @@ use Rattle.tj_body.specs.Table.{row_ask, rows_of, row_or_end, ask_at, table_asks
 use Rattle.tj_body.specs.RowLists.{asks_given}
 use Rattle.tj_body.specs.Inner.RowListLaws.{RowAt}
 
+-- the row stands at k
+abbrev pub StandsAt : {R : Type 0} → List R → ℕ → R → Type 0
+StandsAt rows k r = (k < length rows) × (r ≡ get_or rows k r)
+
+-- what is read at an index of rows stands there, in each list that equals them
+pub stands_at : {R : Type 0} {read rows : List R} → read ≡ rows → (k : ℕ) (r : R) → k < length read
+    → r ≡ get_or read k r → StandsAt rows k r
+stands_at e k r l is = (subst (λ z. k < length z) e l, subst (λ z. r ≡ get_or z k r) e is)
+
 -- the body some rows further, whose task has n places
 abbrev further : TableBody → ℕ → ℕ → TableBody
 further b k n = record b { row = k; places = n }
@@ -25,10 +34,10 @@ row_ask-further b k n m row.New = refl
 row_ask-further b k n m r = refl
 
 -- the row that stands at k is the one that the body asks there
-pub row_ask-at : (b : TableBody) (k j m n : ℕ) (r : Row) → k < length (rows_of b) → r ≡ get_or (rows_of b) k r
+pub row_ask-at : (b : TableBody) (k j m n : ℕ) (r : Row) → StandsAt (rows_of b) k r
     → row_ask (further b j m) n r ≡ ask_at b n k
-row_ask-at b k j m n r l e = row_ask-further b j m n r
-    ∙ ap (row_or_end b n) (sym (slice_get_read (rows_of b) (length (rows_of b)) k r refl l e))
+row_ask-at b k j m n r at = row_ask-further b j m n r
+    ∙ ap (row_or_end b n) (sym (slice_get_read (rows_of b) (length (rows_of b)) k r refl at.0 at.1))
 
 -- past the last row the End is asked
 pub ask_at-past : (b : TableBody) (k n : ℕ) → length (rows_of b) ≤ k → ask.End (pay.Num (pos 0)) ≡ ask_at b n k
