@@ -21,5 +21,5 @@ pub use laws::{
 pub use point::{
     Close, Entry, EntryList, Point, PointStage, Reference, ReferenceList, Task, TaskList, Value,
 };
-pub use table::{Row, RowList, TableBody};
+pub use table::{Row, RowList, TableBody, copy_places, new_places};
 pub use table_form::is_table;

@@ -145,7 +145,7 @@ fn if_placed<B: Drop>(placed: bool, ask: Ask<B>) -> Ask<B>
 }
 
 /// How many places the answer adds.
-fn new_places(a: Answer) -> u32
+pub fn new_places(a: Answer) -> u32
     ensures value { result ≡ asks.new_places a }
     ensures at_most_one { result ≤ 1 }
 {
@@ -173,7 +173,7 @@ fn are_below(n: u32, places: &PlaceList) -> bool
 }
 
 /// An equal list.
-fn copy_places(alloc: Global, places: &PlaceList) -> Result<PlaceList, Oom>
+pub fn copy_places(alloc: Global, places: &PlaceList) -> Result<PlaceList, Oom>
     ensures { IfOk result (λ copy. copy ≡ places.now) }
 {
     Ok(Items::of(Vec::from_slice(alloc, places.items())?))
