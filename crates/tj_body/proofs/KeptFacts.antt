@@ -1,11 +1,11 @@
 -- What each ask keeps holds in all rounds.
-use Rattle.std.proofs.Common.{◌≡◌, ℕ, zero, suc, ◌*◌, Bool, true, false, inl, inr, List, [], ◌∷◌, ◌++◌, map}
-use Rattle.std.proofs.Common.{Option, Some, None, refl, sym, ap, subst, ⊎_elim}
+use Rattle.std.proofs.Common.{◌≡◌, ℕ, zero, suc, ◌*◌, Bool, true, false, inl, inr}
+use Rattle.std.proofs.Common.{Option, Some, None, sym, subst, ⊎_elim}
 use Rattle.tj_base.specs.ForkOrder.{Name}
 use Rattle.tj_body.specs.Programs.{Rules, Program, root_task}
-use Rattle.tj_body.specs.History.{Assignment, after_read, after_look, after_ask, after_stage, point_after, history}
+use Rattle.tj_body.specs.History.{Assignment, after_read, after_look, after_stage, point_after, history}
 use Rattle.tj_body.specs.Rounds.{family, given, tasks}
-use Rattle.tj_body.specs.Points.{IsIn, IsSomeTask, IsSomePoint}
+use Rattle.tj_body.specs.Points.{IsIn}
 use Rattle.tj_body.specs.KeptFacts.{HoldsOfFork, IsKeptByAsks, HoldsAt, HoldsInRounds}
 use Rattle.tj_body.specs.Inner.AskSteps.{IsAskStep, fails, ends, makes, forks, sets, gets, joins, prints}
 use Rattle.tj_body.specs.declared.ask.Ask.{Ask}

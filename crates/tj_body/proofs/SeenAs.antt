@@ -1,6 +1,6 @@
 -- Programs whose bodies are seen as others' have their histories and rounds.
 use Rattle.std.proofs.Common.{◌≡◌, ℕ, zero, suc, ◌*◌, Bool, true, false, List, [], ◌∷◌, ◌++◌, map}
-use Rattle.std.proofs.Common.{Option, Some, None, Result, Ok, Err, refl, sym, ap, ◌∙◌, subst, not, ◌&&◌, cond, ◌⊎◌, inl, inr, ⊎_elim, ◌+◌, ◌<◌, ◌≤◌}
+use Rattle.std.proofs.Common.{Option, Some, None, Result, Ok, Err, refl, sym, ap, ◌∙◌, subst, not, ◌&&◌, cond, inl, inr, ⊎_elim, ◌+◌, ◌<◌, ◌≤◌}
 use Rattle.std.proofs.lemmas.List.{map-append}
 use Rattle.std.specs.List.{flat_map}
 use Rattle.tj_base.specs.ForkOrder.{Name, before}
@@ -11,11 +11,11 @@ use Rattle.tj_base.specs.declared.cause.Cause.TheVariants as cause
 use Rattle.tj_body.specs.Asks.{Fits, Ends, IsFresh, IsPlaced, IsNext, Obeys, awaited, new_places, most_left}
 use Rattle.tj_body.specs.Names.{has}
 use Rattle.tj_body.specs.Programs.{Rules, Program, root_task}
-use Rattle.tj_body.specs.History.{Assignment, start, after_read, after_look, after_ask, after_stage, after_step}
+use Rattle.tj_body.specs.History.{Assignment, after_read, after_look, after_ask, after_stage, after_step}
 use Rattle.tj_body.specs.History.{after_try_fork, after_fork, next_child, after_failure, after_write, with_wait}
 use Rattle.tj_body.specs.History.{after_set, after_get, after_join, hand_all, reference, point_after}
 use Rattle.tj_body.specs.History.{history}
-use Rattle.tj_body.specs.Rounds.{family, writes_by, cells_by, given, tasks, entries, cells, meaning, entry_in, last_round}
+use Rattle.tj_body.specs.Rounds.{family, writes_by, cells_by, given, tasks, entries, cells, entry_in, last_round}
 use Rattle.tj_body.specs.SeenAs.{ask_as, task_as, point_as, AreSeenAs, IsSeenAs, HistoriesAreSeen, RoundsAreSeen}
 use Rattle.tj_body.specs.SeenAs.{MeaningIsSeen}
 use Rattle.tj_body.specs.declared.ask.Answer.{Answer}

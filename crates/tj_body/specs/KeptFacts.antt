@@ -1,5 +1,4 @@
 -- What each ask keeps of a body and gives to what it forks, it has at each point of each round.
-use Rattle.std.specs.Prelude.{ℕ, List}
 use Rattle.tj_body.specs.Programs.{Rules, Program}
 use Rattle.tj_body.specs.Points.{IsIn, IsSomeTask, IsSomePoint}
 use Rattle.tj_body.specs.declared.ask.Answer.{Answer}

@@ -1,5 +1,5 @@
 -- Bodies that are seen as others: what e makes of a body asks and becomes what e makes of its ask and of what it becomes.
-use Rattle.std.specs.Prelude.{◌≡◌, ℕ, Bool, List, map}
+use Rattle.std.specs.Prelude.{◌≡◌, ℕ, map}
 use Rattle.tj_body.specs.Programs.{Rules, Program}
 use Rattle.tj_body.specs.History.{Assignment, history, point_after}
 use Rattle.tj_body.specs.Rounds.{given, tasks, entries, cells, meaning}
