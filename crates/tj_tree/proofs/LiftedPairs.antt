@@ -1,12 +1,12 @@
 -- Two tasks that a walk has looked at, with the two that it has come to from them: which is before, and at what cost.
-use Rattle.std.proofs.Common.{◌≡◌, ◌≢◌, ℕ, ◌+◌, ◌*◌, ◌^◌, ◌<◌, ◌≤◌, ◌∙◌, true, ap, sym, min, max, nat_lt, arith}
+use Rattle.std.proofs.Common.{◌≡◌, ◌≢◌, ℕ, ◌+◌, ◌*◌, ◌^◌, ◌<◌, ◌≤◌, ◌∙◌, true, ap, sym, min, nat_lt, arith}
 use Rattle.std.specs.Prelude.{◌↔◌}
 use Rattle.tj_tree.specs.declared.node.Node.{Node}
 use Rattle.tj_tree.specs.declared.node.NodeId.{NodeId}
 use Rattle.tj_tree.specs.declared.node.TaskNode.{TaskNode}
 use Rattle.tj_tree.specs.Forks.{IsEarlier, order_of}
 use Rattle.tj_tree.specs.Nodes.{InEachTree, node_of}
-use Rattle.tj_tree.specs.Walk.{GoesOn}
+use Rattle.tj_tree.specs.Walk.{GoesOn, TakesFewSteps}
 use Rattle.tj_tree.specs.Inner.Moves.{IsKnown, IsAtOrAbove}
 use Rattle.tj_tree.proofs.Skew.{cost_of_parts}
 use Rattle.tj_tree.proofs.Walks.{above_trans}
@@ -87,8 +87,7 @@ module _ {s : ℕ → Node → Type 0} {p q : ℕ} {a b x y : TaskNode} (seen : 
       → ((digits : ℕ) → a.node.depth + 1 < 2 ^ digits → t₃ ≤ t₂ + (6 * digits + 2))
       → ((digits : ℕ) → b.node.depth + 1 < 2 ^ digits → t₄ ≤ t₃ + (6 * digits + 2))
       → ((digits : ℕ) → level + 1 < 2 ^ digits → t₅ ≤ t₄ + (6 * digits + 2))
-      → InEachTree s (λ fs. (digits : ℕ) → max (node_of fs p).depth (node_of fs q).depth + 1 < 2 ^ digits
-      → t₅ ≤ t₀ + (16 * digits + 16))
+      → InEachTree s (λ fs. TakesFewSteps fs p q t₀ t₅)
   cost_of_walk d level t₀ t₁ t₂ t₃ t₄ t₅ least flat first second free_a free_b cost_a cost_b cost fs h has digits few =
       let is_p = depth_p fs h has in
       let is_q = depth_q fs h has in

@@ -3,10 +3,10 @@
 //! number was forked later, and is before. A move goes by the jump where that doesn't lead too far,
 //! else to the parent. How far a jump leads depends on the depth alone, so each part takes a number
 //! of looks that is linear in the digits of the depth.
-ghost use Rattle.std.specs.Prelude.{ℕ, ◌≡◌, ◌≢◌, ◌+◌, ◌*◌, ◌^◌, ◌<◌, ◌≤◌, ◌↔◌, max, nat_le, IsTrue};
+ghost use Rattle.std.specs.Prelude.{ℕ, ◌≡◌, ◌≢◌, ◌+◌, ◌*◌, ◌^◌, ◌<◌, ◌≤◌, ◌↔◌, nat_le, IsTrue};
 ghost use Rattle.tj_tree.specs.Forks.{order_of, IsEarlier};
 ghost use Rattle.tj_tree.specs.Nodes.{node_of, ArePartOfTree, InEachTree, move_from};
-ghost use Rattle.tj_tree.specs.Walk.{GoesOn};
+ghost use Rattle.tj_tree.specs.Walk.{GoesOn, TakesFewSteps};
 ghost use Rattle.tj_tree.specs.Inner.Moves.{IsKnown, IsAtOrAbove};
 
 use crate::node::{NodeId, TaskNode};
@@ -29,9 +29,8 @@ pub fn before_in<R: NodeReader, L: Ledger>(
         IsTrue result ↔ IsEarlier (order_of forks) a.0 b.0) }
 
     // With b binary digits of the greater depth plus one, at most 16b + 16 looks.
-    ensures cost { InEachTree (R.shows reader.new) (λ forks. (digits : ℕ)
-        → max (node_of forks a.0).depth (node_of forks b.0).depth + 1 < 2 ^ digits
-        → steps.new ≤ steps.old + (16 * digits + 16)) }
+    ensures cost { InEachTree (R.shows reader.new) (λ forks.
+        TakesFewSteps forks a.0 b.0 steps.old steps.new) }
     ensures counted { steps.new + R.looks reader.old ≡ steps.old + R.looks reader.new }
     ensures goes_on { GoesOn (R.shows reader.old) (R.may_look reader.old)
         (R.shows reader.new) (R.may_look reader.new) }

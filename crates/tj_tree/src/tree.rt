@@ -1,8 +1,9 @@
 //! The tree of forks, whose order is found by a walk over a few of its nodes.
-ghost use Rattle.std.specs.Prelude.{ℕ, ◌≡◌, ◌+◌, ◌*◌, ◌^◌, ◌<◌, ◌≤◌, ◌↔◌, [], ◌∷◌, length, max, IfOk, OnOk, OnErr, IsTrue};
+ghost use Rattle.std.specs.Prelude.{ℕ, ◌≡◌, ◌<◌, ◌≤◌, ◌↔◌, [], ◌∷◌, length, IfOk, OnOk, OnErr, IsTrue};
 ghost use Rattle.tj_base.specs.declared.cell.TheConstants.{MAX_CELLS};
 ghost use Rattle.tj_tree.specs.Forks.{Forks, HasTask, IsHistory, IsEarlier, order_of, task_count, next_fork};
 ghost use Rattle.tj_tree.specs.Nodes.{child_node, node_of};
+ghost use Rattle.tj_tree.specs.Walk.{TakesFewSteps};
 ghost use Rattle.tj_tree.specs.Inner.Tree.{forks_of, AreEntriesOf};
 
 use crate::before::before_in;
@@ -94,9 +95,7 @@ impl ForkTree {
         ensures order { IsTrue result ↔ IsEarlier (order_of self.now) a.0 b.0 }
 
         // With b binary digits of the greater depth plus one, at most 16b + 16 looks.
-        ensures cost { (digits : ℕ)
-            → max (node_of self.now a.0).depth (node_of self.now b.0).depth + 1 < 2 ^ digits
-            → steps.new ≤ steps.old + (16 * digits + 16) }
+        ensures cost { TakesFewSteps self.now a.0 b.0 steps.old steps.new }
     {
         before_of::<Brand, Brand, L>(self, a, b, Blank::new(1), steps)
     }
@@ -157,9 +156,7 @@ fn before_of<F: Forked, C: Ledger, L: Ledger>(
     requires a_there { a.0 < task_count tree.now }
     requires b_there { b.0 < task_count tree.now }
     ensures order { IsTrue result ↔ IsEarlier (order_of tree.now) a.0 b.0 }
-    ensures cost { (digits : ℕ)
-        → max (node_of tree.now a.0).depth (node_of tree.now b.0).depth + 1 < 2 ^ digits
-        → steps.new ≤ steps.old + (16 * digits + 16) }
+    ensures cost { TakesFewSteps tree.now a.0 b.0 steps.old steps.new }
 {
     let mut reader: TreeReader<F, C> = TreeReader {
         entries: tree.entries.as_slice(),

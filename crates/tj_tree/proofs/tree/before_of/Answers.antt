@@ -1,8 +1,8 @@
-use Rattle.std.proofs.Common.{ℕ, ◌≡◌, ◌+◌, ◌*◌, ◌<◌, ◌≤◌, ◌^◌, max, List, sym, ◌∙◌, subst}
+use Rattle.std.proofs.Common.{ℕ, ◌≡◌, ◌<◌, List, sym, ◌∙◌, subst}
 use Rattle.std.specs.Prelude.{◌↔◌, IsTrue}
 use Rattle.tj_tree.specs.declared.tree.Entry.{Entry}
 use Rattle.tj_tree.specs.Forks.{Forks, IsEarlier, order_of, task_count}
-use Rattle.tj_tree.specs.Nodes.{node_of}
+use Rattle.tj_tree.specs.Walk.{TakesFewSteps}
 use Rattle.tj_tree.specs.Inner.Tree.{AreGapless, AreEntriesOf, MayLook, forks_of}
 use Rattle.tj_tree.proofs.Gapless.{HasTask-below, IsHistory-gapless}
 use Rattle.tj_tree.proofs.tree.before_of.Goals as goal
@@ -53,6 +53,6 @@ pub returns-clause-cost : goal.returns-clause-cost
 returns-clause-cost g c =
     let history = IsHistory-gapless g.F.Forked.forks
     (subst (λ (fs : Forks). AreGapless fs) (c.tree.view_is ∙ c.requires.forks) c.tree.invariant.gapless) in
-    subst (λ (fs : Forks). (digits : ℕ) → max (node_of fs c.args.a.0).depth (node_of fs c.args.b.0).depth + 1 < 2 ^
-    digits → c.before_in.new.steps ≤ c.args.steps.now + (16 * digits + 16)) (sym c.requires.forks)
+    subst (λ (fs : Forks). TakesFewSteps fs c.args.a.0 c.args.b.0 c.args.steps.now c.before_in.new.steps)
+    (sym c.requires.forks)
     (c.before_in.ensures.cost g.F.Forked.forks history (λ n node h. h))
