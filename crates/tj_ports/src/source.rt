@@ -43,7 +43,7 @@ pub trait Source {
 }
 
 /// What reading up to a limit gave.
-#[derive(Debug, Drop)]
+#[derive(Drop)]
 pub enum ReadEnd {
     /// All bytes. The end was seen.
     Whole(ByteList),
