@@ -16,7 +16,7 @@ pub enum ChatAnswer {
 }
 
 /// What a chatter asks.
-#[derive(PartialEq, Eq, Drop)]
+#[derive(Drop)]
 pub enum ChatAsk<C> {
     /// Opens a channel of so many items, and holds its sending end.
     Open(u32),

@@ -8,7 +8,7 @@ use std::alloc::Global;
 use tj_base::{Items, Oom, PlaceList, Trouble};
 
 /// What a row of a table asks.
-#[derive(PartialEq, Eq, Drop)]
+#[derive(Drop)]
 pub enum ChatRow {
     Open(u32),
     Send {
@@ -33,7 +33,7 @@ pub enum ChatRow {
 pub type ChatRowList = Items<ChatRow>;
 
 /// A chatter that gives the rows of one of these lists, in order, and then ends with 0.
-#[derive(PartialEq, Eq, Drop)]
+#[derive(Drop)]
 pub struct TableChat<'s> {
     lists: &'s [ChatRowList],
     list: u32,
