@@ -16,7 +16,7 @@ use crate::spawn::{can_spawn, child_rows, handed_places, passed_places, without_
 use std::alloc::Global;
 use std::mem::replace;
 use tj_base::{Items, Oom, Pay, PlaceList, Trouble};
-use tj_body::{Answer, Ask, Body};
+use tj_body::{Answer, Ask, Body, new_places};
 
 /// What a body is to be answered next.
 #[derive(Clone, Copy)]
@@ -279,17 +279,6 @@ impl<C: Drop> ChanBody<C> {
             holds: true,
         })?;
         Ok(ChatAnswer::Chan(place))
-    }
-}
-
-/// How many places the answer adds.
-fn new_places(a: Answer) -> u32
-    ensures value { result ≡ asks.new_places a }
-    ensures at_most_one { result ≤ 1 }
-{
-    match a {
-        Answer::Local(_) | Answer::RefAt(_) => 1,
-        Answer::Start | Answer::Done | Answer::Num(_) | Answer::Lost => 0,
     }
 }
 

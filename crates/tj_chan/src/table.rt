@@ -6,6 +6,7 @@ use crate::chat::{ChatAnswer, ChatAsk};
 use crate::chatter::Chatter;
 use std::alloc::Global;
 use tj_base::{Items, Oom, PlaceList, Trouble};
+use tj_body::copy_places;
 
 /// What a row of a table asks.
 #[derive(Drop)]
@@ -127,13 +128,6 @@ fn channels_added(a: ChatAnswer) -> u32
         ChatAnswer::Chan(_) => 1,
         ChatAnswer::Start | ChatAnswer::Done | ChatAnswer::Num(_) => 0,
     }
-}
-
-/// An equal list.
-pub fn copy_places(alloc: Global, places: &PlaceList) -> Result<PlaceList, Oom>
-    ensures { IfOk result (λ copy. copy ≡ places.now) }
-{
-    Ok(Items::of(Vec::from_slice(alloc, places.items())?))
 }
 
 impl<'s> Chatter for TableChat<'s> {
