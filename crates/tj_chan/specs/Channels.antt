@@ -9,6 +9,7 @@ use Rattle.tj_base.specs.declared.cause.Cause.{Cause}
 use Rattle.tj_base.specs.declared.cause.Cause.TheVariants as cause
 use Rattle.tj_body.specs.Names.{same}
 use Rattle.tj_body.specs.History.{cause_of}
+use Rattle.tj_body.specs.Steps.{after_steps}
 use Rattle.tj_chan.specs.Chats.{ChatAwait}
 use Rattle.tj_chan.specs.declared.chat.ChatAnswer.{ChatAnswer}
 use Rattle.tj_chan.specs.declared.chat.ChatAnswer.TheVariants as answer
@@ -283,11 +284,6 @@ module _ {C : Type 0} where
     abbrev pub after_chat_step : Lists → ChatPoint C → ChatPoint C
     after_chat_step L p = after_chat_stage L p.stage p
 
-    -- the point after k steps
-    abbrev pub chat_point_after : Lists → ℕ → ChatTask C → ChatPoint C
-    chat_point_after L zero t = chat_start t
-    chat_point_after L (suc k) t = after_chat_step L (chat_point_after L k t)
-
     -- the point at which the task stops: an ask and its answer are two steps, and there are at most left and one asks
     abbrev pub chat_history : Lists → ChatTask C → ChatPoint C
-    chat_history L t = chat_point_after L (2 * suc (rules.left t.chatter)) t
+    chat_history L t = after_steps (after_chat_step L) (2 * suc (rules.left t.chatter)) (chat_start t)

@@ -1,8 +1,9 @@
 -- A history over lists is a run over what the lists tell.
 use Rattle.std.proofs.Common.{◌≡◌, ℕ, zero, suc, ◌*◌, Bool, true, false, Option, Some, None, refl, ap, ◌∙◌}
 use Rattle.std.specs.Prelude.{ℤ, slice_get}
+use Rattle.tj_body.specs.Steps.{after_steps}
 use Rattle.tj_chan.specs.Channels.{ChatRules, Channel, Lists, ChatStage, receives, ChatTask}
-use Rattle.tj_chan.specs.Channels.{ChatPoint, after_item, after_chat_stage, chat_point_after, chat_history}
+use Rattle.tj_chan.specs.Channels.{ChatPoint, after_item, after_chat_stage, after_chat_step, chat_start, chat_history}
 use Rattle.tj_chan.proofs.Lists.Runs.{found_by, finds_of, after_found, run_stage, run_after, run_of}
 
 module _ {C : Type 0} where
@@ -20,9 +21,10 @@ module _ {C : Type 0} where
     stage_same (receives c i) p = item_found c i (L c).is_cut (slice_get (L c).sent i) p
     stage_same s p = refl
 
-    pub point_same : (k : ℕ) (t : ChatTask C) → chat_point_after rules L k t ≡ run_after rules (finds_of L) k t
+    pub point_same : (k : ℕ) (t : ChatTask C)
+        → after_steps (after_chat_step rules L) k (chat_start t) ≡ run_after rules (finds_of L) k t
     point_same zero t = refl
-    point_same (suc k) t = let p = chat_point_after rules L k t in
+    point_same (suc k) t = let p = after_steps (after_chat_step rules L) k (chat_start t) in
         stage_same p.stage p ∙ ap (λ (r : ChatPoint C). run_stage rules (finds_of L) r.stage r) (point_same k t)
 
     pub histories_are_runs : (t : ChatTask C) → chat_history rules L t ≡ run_of rules (finds_of L) t

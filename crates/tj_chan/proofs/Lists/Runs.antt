@@ -8,6 +8,7 @@ use Rattle.tj_base.specs.ForkOrder.{Name}
 use Rattle.tj_base.specs.declared.cause.Cause.TheVariants as cause
 use Rattle.tj_body.specs.History.{Assignment}
 use Rattle.tj_body.specs.Points.{IsIn}
+use Rattle.tj_body.specs.Steps.{after_steps}
 use Rattle.tj_body.specs.declared.point.Entry.{Entry}
 use Rattle.tj_body.specs.declared.point.Entry.TheVariants as entry
 use Rattle.tj_body.specs.declared.point.Value.TheVariants as value
@@ -70,8 +71,7 @@ module _ {C : Type 0} where
 
     -- the point after k steps
     abbrev pub run_after : Finds → ℕ → ChatTask C → ChatPoint C
-    run_after F zero t = chat_start t
-    run_after F (suc k) t = run_stage F (run_after F k t).stage (run_after F k t)
+    run_after F k t = after_steps (λ p. run_stage F p.stage p) k (chat_start t)
 
     -- the point at which the task stops
     abbrev pub run_of : Finds → ChatTask C → ChatPoint C
