@@ -1,5 +1,5 @@
 -- The asks of a table's chatter are those of its rows, in order.
-use Rattle.std.proofs.Common.{◌≡◌, ◌≤◌, ◌<◌, ℕ, suc, ◌+◌, inl, inr, pos, List, [], ◌∷◌, length, get_or, drop, refl, sym}
+use Rattle.std.proofs.Common.{◌≡◌, ◌≤◌, ℕ, suc, ◌+◌, inl, inr, pos, List, [], ◌∷◌, length, drop, refl, sym}
 use Rattle.std.proofs.Common.{ap, ◌∙◌, arith, drop-cons}
 use Rattle.std.proofs.lemmas.Option.{slice_get_cases, slice_get_read, slice_get_past}
 use Rattle.std.proofs.lemmas.List.{drop_all}
@@ -14,6 +14,7 @@ use Rattle.tj_chan.specs.ChatTables.{chat_row_ask, chat_rows_of, chat_row_or_end
 use Rattle.tj_chan.specs.ChatTables.{table_chat_then, asks_of_chat_rows}
 use Rattle.tj_body.specs.RowLists.{asks_given}
 use Rattle.tj_body.specs.Inner.RowListLaws.{RowAt}
+use Rattle.tj_body.proofs.Rows.{StandsAt}
 
 -- the chatter some rows further, whose task has n channels
 abbrev further : TableChat → ℕ → ℕ → TableChat
@@ -25,10 +26,10 @@ row_ask-further c k n (row.Open i) = refl
 row_ask-further c k n r = refl
 
 -- the row that stands at k is the one that the chatter asks there
-pub chat_row-at : (c : TableChat) (k j m : ℕ) (r : ChatRow) → k < length (chat_rows_of c)
-    → r ≡ get_or (chat_rows_of c) k r → chat_row_ask (further c j m) r ≡ chat_ask_at c k
-chat_row-at c k j m r l e = row_ask-further c j m r
-    ∙ ap (chat_row_or_end c) (sym (slice_get_read (chat_rows_of c) (length (chat_rows_of c)) k r refl l e))
+pub chat_row-at : (c : TableChat) (k j m : ℕ) (r : ChatRow) → StandsAt (chat_rows_of c) k r
+    → chat_row_ask (further c j m) r ≡ chat_ask_at c k
+chat_row-at c k j m r at = row_ask-further c j m r
+    ∙ ap (chat_row_or_end c) (sym (slice_get_read (chat_rows_of c) (length (chat_rows_of c)) k r refl at.0 at.1))
 
 -- past the last row the End is asked
 pub chat_ask-past : (c : TableChat) (k : ℕ) → length (chat_rows_of c) ≤ k → ask.End (pos 0) ≡ chat_ask_at c k
