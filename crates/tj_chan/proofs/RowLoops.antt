@@ -1,6 +1,6 @@
 -- What a loop over places makes of rows: one place more.
 use Rattle.std.proofs.Common.{◌≡◌, ◌≤◌, ◌<◌, ℕ, zero, suc, ◌+◌, Bool, true, false, cond, ◌&&◌, List, [], ◌∷◌, ◌++◌}
-use Rattle.std.proofs.Common.{length, get_or, drop, refl, sym, ap, ◌∙◌, arith, nat_eq, drop-cons, ltb-true}
+use Rattle.std.proofs.Common.{length, get_or, drop, refl, sym, subst, ap, ◌∙◌, arith, nat_eq, drop-cons, ltb-true}
 use Rattle.std.proofs.Common.{append_assoc}
 use Rattle.std.specs.Prelude.{slice_get, Option, Some, None, unwrap_or}
 use Rattle.std.specs.List.{list_all, position_from}
@@ -8,8 +8,8 @@ use Rattle.std.proofs.lemmas.Option.{none-some, slice_get-get_or, slice_get_past
 use Rattle.std.proofs.lemmas.List.Sums.{AllPass-from_list_all}
 use Rattle.tj_chan.specs.ChanBodies.{AreRows, first_of, row_at, without_end, without_ends, has_end, can_give}
 use Rattle.tj_chan.specs.ChanBodies.{places_from, all_places, is_there, position, passed_row, passed_rows, is_given}
-use Rattle.tj_chan.specs.ChanBodies.{first_place}
-use Rattle.tj_chan.specs.Inner.RowLaws.{row_leads, row_found, lead_change, length-places}
+use Rattle.tj_chan.specs.ChanBodies.{first_place, is_row}
+use Rattle.tj_chan.specs.Inner.RowLaws.{Bounded, found_bounds, row_leads, row_found, lead_change, length-places}
 use Rattle.tj_chan.specs.declared.rows.PromiseRow.{PromiseRow}
 
 -- the next index
@@ -29,6 +29,12 @@ row_there rows k d h l = let r = get_or rows k d in let e = slice_get-get_or row
 -- and past the last
 pub row_past : (rows : List PromiseRow) (k : ℕ) → length rows ≤ k → None ≡ row_at rows k
 row_past rows k l = sym (ap (first_of rows) (slice_get_past rows k l))
+
+-- what is so of a row that was found at a place of rows, and so of one of the task's
+pub read_bounds : (places : ℕ) {read rows : List PromiseRow} (k : ℕ) (r : PromiseRow) → read ≡ rows
+    → Some r ≡ row_at read k → AreRows rows → list_all (is_row places) rows ≡ true → Bounded places r
+read_bounds places k r same found h b =
+    found_bounds places _ k r h b (subst (λ z. row_at z k ≡ Some r) same (sym found))
 
 -- one place more
 pub places_more : (from k : ℕ) → places_from from (k + 1) ≡ places_from from k ++ (from + k) ∷ []
