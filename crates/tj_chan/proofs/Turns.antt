@@ -3,7 +3,7 @@ use Rattle.std.proofs.Common.{◌≡◌, ℕ, ◌+◌, sym, ap, ◌∙◌, lengt
 use Rattle.std.specs.Prelude.{Some}
 use Rattle.tj_body.specs.Asks as asks
 use Rattle.tj_body.specs.declared.ask.Answer.{Answer}
-use Rattle.tj_chan.specs.Chats.{ChatAwait, IsChatAsk}
+use Rattle.tj_chan.specs.Chats.{Await, IsChatAsk}
 use Rattle.tj_chan.specs.Channels.{ChatRules}
 use Rattle.tj_chan.specs.ChanBodies.{ask_turn, turn_at, counted}
 use Rattle.tj_chan.specs.Inner.Replies.{IsFew, told_at, opened}
@@ -14,7 +14,7 @@ use Rattle.tj_chan.specs.declared.chat.ChatAsk.{ChatAsk}
 use Rattle.tj_chan.specs.declared.chat.ChatAsk.TheVariants as chat
 
 -- an allowed ask is one that a body can ask
-pub few_of : {C : Type 0} (channels : C → ℕ) (awaits : C → ChatAwait) (left : C → ℕ) (x : ChatAsk C)
+pub few_of : {C : Type 0} (channels : C → ℕ) (awaits : C → Await) (left : C → ℕ) (x : ChatAsk C)
     → IsChatAsk channels awaits left x → IsFew x
 few_of channels awaits left (chat.Open k) h = h.0
 few_of channels awaits left (chat.Spawn b pass give) h = h.few

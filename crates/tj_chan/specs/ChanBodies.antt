@@ -143,12 +143,12 @@ due_await due.Child = asks.place
 due_await due.Nothing = asks.nothing
 
 -- whether the chatter awaits what will come of this; a channel that is being opened has its promises so far
-abbrev pub is_due : (places : ℕ) → Due → chats.ChatAwait → Bool
+abbrev pub is_due : (places : ℕ) → Due → chats.Await → Bool
 is_due places due.Start chats.begin = true
-is_due places (due.Promise more items) chats.new_channel =
+is_due places (due.Promise more items) chats.place =
     nat_lt more items && nat_le items chats.most_items && nat_lt items (places + more + 2)
 is_due places due.Done chats.done = true
-is_due places due.Item chats.number = true
+is_due places due.Item chats.cell = true
 is_due places due.Child chats.done = true
 is_due places d a = false
 

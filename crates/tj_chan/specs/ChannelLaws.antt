@@ -4,7 +4,7 @@ use Rattle.tj_body.specs.Programs.{Program, program_of}
 use Rattle.tj_body.specs.Rounds.{meaning, IsFull}
 use Rattle.tj_mean.specs.Outcomes.{IsOutcome}
 use Rattle.tj_mean.specs.declared.outcome.Outcome.{Outcome}
-use Rattle.tj_chan.specs.Chats.{ChatAwait, IsFreshChat, ObeysChat}
+use Rattle.tj_chan.specs.Chats.{Await, IsFreshChat, ObeysChat}
 use Rattle.tj_chan.specs.Channels.{ChatRules}
 use Rattle.tj_chan.specs.ChannelRounds.{ChatProgram, chat_meaning, IsChatFull}
 use Rattle.tj_chan.specs.ChannelOutcomes.{IsChatOutcome}
@@ -14,7 +14,7 @@ use Rattle.tj_chan.specs.declared.chat.ChatAnswer.{ChatAnswer}
 use Rattle.tj_chan.specs.declared.chat.ChatAsk.{ChatAsk}
 
 module _ {C : Type 0} where
-  module _ (channels : C → ℕ) (awaits : C → ChatAwait) (left : C → ℕ) (asks : C → ChatAnswer → ChatAsk C)
+  module _ (channels : C → ℕ) (awaits : C → Await) (left : C → ℕ) (asks : C → ChatAnswer → ChatAsk C)
       (then : C → ChatAnswer → C) where
     -- what tasks with such chatters go by
     abbrev pub rules_of : ChatRules C

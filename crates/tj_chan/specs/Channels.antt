@@ -10,7 +10,7 @@ use Rattle.tj_base.specs.declared.cause.Cause.TheVariants as cause
 use Rattle.tj_body.specs.Names.{same}
 use Rattle.tj_body.specs.History.{cause_of}
 use Rattle.tj_body.specs.Steps.{after_steps}
-use Rattle.tj_chan.specs.Chats.{ChatAwait}
+use Rattle.tj_chan.specs.Chats.{Await}
 use Rattle.tj_chan.specs.declared.chat.ChatAnswer.{ChatAnswer}
 use Rattle.tj_chan.specs.declared.chat.ChatAnswer.TheVariants as answer
 use Rattle.tj_chan.specs.declared.chat.ChatAsk.{ChatAsk}
@@ -20,7 +20,7 @@ use Rattle.tj_chan.specs.declared.chat.ChatAsk.TheVariants as ask
 -- has left, what it asks for an answer, and what it is then.
 pub record ChatRules (C : Type 0) : Type 0 where
   pub channels : C → ℕ
-  pub awaits : C → ChatAwait
+  pub awaits : C → Await
   pub left : C → ℕ
   pub asks : C → ChatAnswer → ChatAsk C
   pub then : C → ChatAnswer → C

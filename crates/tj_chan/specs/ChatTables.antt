@@ -2,7 +2,7 @@
 use Rattle.std.specs.Prelude.{◌≡◌, ℕ, zero, suc, ◌+◌, ◌-◌, ◌^◌, Bool, true, cond, ◌&&◌, nat_lt, nat_le, pos, List, []}
 use Rattle.std.specs.Prelude.{◌∷◌, length, get_or, slice_get, Option, Some, None}
 use Rattle.tj_body.specs.RowLists.{is_list_of, are_table, is_reading, asks_given}
-use Rattle.tj_chan.specs.Chats.{ChatAwait, begin, nothing, channels_added, chat_awaited, most_items, most_channels}
+use Rattle.tj_chan.specs.Chats.{Await, begin, nothing, channels_added, chat_awaited, most_items, most_channels}
 use Rattle.tj_chan.specs.declared.chat.ChatAnswer.{ChatAnswer}
 use Rattle.tj_chan.specs.declared.chat.ChatAsk.{ChatAsk}
 use Rattle.tj_chan.specs.declared.chat.ChatAsk.TheVariants as ask
@@ -77,7 +77,7 @@ abbrev pub table_chat_left : TableChat → ℕ
 table_chat_left c = suc (length (chat_rows_of c)) - c.row
 
 -- what is awaited after k rows
-abbrev pub chat_await_after : TableChat → ℕ → ChatAwait
+abbrev pub chat_await_after : TableChat → ℕ → Await
 chat_await_after c zero = begin
 chat_await_after c (suc k) = chat_awaited (chat_ask_at c k)
 
@@ -86,7 +86,7 @@ abbrev pub is_chat_under_way : TableChat → Bool
 is_chat_under_way c = is_reading most_chat_rows is_chat_row c.lists.now c.list c.row
 
 -- a chatter that isn't under way awaits nothing
-abbrev pub table_chat_awaits : TableChat → ChatAwait
+abbrev pub table_chat_awaits : TableChat → Await
 table_chat_awaits c = cond (is_chat_under_way c) (chat_await_after c c.row) nothing
 
 -- Whole lists of asks: the rows' asks in order, and then End of 0

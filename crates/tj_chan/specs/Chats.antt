@@ -1,25 +1,18 @@
--- What a chatter awaits, and what the laws of a chatter say of one ask.
+-- What a chatter awaits, and what the laws of a chatter say of one ask. A chatter awaits what a body awaits: where that
+-- is a new place, a new channel, and where it is a cell's value, the value that it receives.
 use Rattle.std.specs.Prelude.{◌≡◌, ◌⊎◌, ℕ, ◌+◌, ◌<◌, ◌≤◌, ◌^◌, List, length}
+pub use Rattle.tj_body.specs.Asks.{Await, begin, place, done, cell, nothing, AwaitsNothing}
 use Rattle.tj_chan.specs.declared.chat.ChatAnswer.{ChatAnswer}
 use Rattle.tj_chan.specs.declared.chat.ChatAnswer.TheVariants as answer
 use Rattle.tj_chan.specs.declared.chat.ChatAsk.{ChatAsk}
 use Rattle.tj_chan.specs.declared.chat.ChatAsk.TheVariants as ask
 
--- What sort of answer a chatter is to be given: the first one, a new channel, word that it is done, the value that it
--- receives, and none after its last ask.
-pub data ChatAwait : Type 0 where
-  begin : ChatAwait
-  new_channel : ChatAwait
-  done : ChatAwait
-  number : ChatAwait
-  nothing : ChatAwait
-
 -- the answer is one that is awaited where the task has n channels: a new channel has the next place
-abbrev pub FitsChat : ChatAwait → ℕ → ChatAnswer → Type 0
+abbrev pub FitsChat : Await → ℕ → ChatAnswer → Type 0
 FitsChat begin n answer.Start = Unit {0}
-FitsChat new_channel n (answer.Chan k) = k ≡ n
+FitsChat place n (answer.Chan k) = k ≡ n
 FitsChat done n answer.Done = Unit {0}
-FitsChat number n (answer.Num i) = Unit {0}
+FitsChat cell n (answer.Num i) = Unit {0}
 FitsChat w n a = ⊥
 
 -- how many channels the answer adds
@@ -30,10 +23,10 @@ channels_added answer.Done = 0
 channels_added (answer.Num i) = 0
 
 -- what a chatter awaits after the ask
-abbrev pub chat_awaited : {C : Type 0} → ChatAsk C → ChatAwait
-chat_awaited (ask.Open k) = new_channel
+abbrev pub chat_awaited : {C : Type 0} → ChatAsk C → Await
+chat_awaited (ask.Open k) = place
 chat_awaited (ask.Send c v) = done
-chat_awaited (ask.Recv c) = number
+chat_awaited (ask.Recv c) = cell
 chat_awaited (ask.Spawn b pass give) = done
 chat_awaited (ask.Emit i) = done
 chat_awaited (ask.End v) = nothing
@@ -41,13 +34,7 @@ chat_awaited (ask.Fail t) = nothing
 
 -- the ask is a chatter's last one
 abbrev pub ChatEnds : {C : Type 0} → ChatAsk C → Type 0
-ChatEnds (ask.Open k) = ⊥
-ChatEnds (ask.Send c v) = ⊥
-ChatEnds (ask.Recv c) = ⊥
-ChatEnds (ask.Spawn b pass give) = ⊥
-ChatEnds (ask.Emit i) = ⊥
-ChatEnds (ask.End v) = Unit {0}
-ChatEnds (ask.Fail t) = Unit {0}
+ChatEnds x = AwaitsNothing (chat_awaited x)
 
 -- a channel has at most so many items
 abbrev pub most_items : ℕ
@@ -61,7 +48,7 @@ most_channels = 256
 abbrev pub most_chat_left : ℕ
 most_chat_left = 2 ^ 16
 
-module _ {C : Type 0} (channels : C → ℕ) (awaits : C → ChatAwait) (left : C → ℕ) where
+module _ {C : Type 0} (channels : C → ℕ) (awaits : C → Await) (left : C → ℕ) where
   -- the chatter has asked nothing yet, and is that of a task with n channels
   pub record IsFreshChat (n : ℕ) (c : C) : Type 0 where
     pub has_channels : channels c ≡ n

@@ -5,7 +5,7 @@ use Rattle.std.specs.Prelude.{◌≡◌, ℕ, zero, suc, ◌+◌, ◌-◌, ◌*�
 use Rattle.std.specs.Prelude.{nat_le, List, [], ◌∷◌, ◌++◌, length, ℤ, pos, negsuc, ◌+ℤ◌, ◌^◌}
 use Rattle.std.specs.List.{flat_map}
 use Rattle.tj_base.specs.declared.cause.Trouble.TheVariants as trouble
-use Rattle.tj_chan.specs.Chats.{ChatAwait, begin, new_channel, done, number, nothing, most_items}
+use Rattle.tj_chan.specs.Chats.{Await, begin, place, done, cell, nothing, most_items}
 use Rattle.tj_body.specs.RowLists.{asks_given}
 use Rattle.tj_chan.specs.declared.chat.ChatAnswer.{ChatAnswer}
 use Rattle.tj_chan.specs.declared.chat.ChatAnswer.TheVariants as answer
@@ -108,11 +108,11 @@ relay_channels r = channels_in r.part
 
 -- what is awaited before each part, where so many items have been received or sent; a child begins with none, or with
 -- the half
-abbrev pub await_in : Part → (size : ℕ) → (count : ℕ) → ChatAwait
+abbrev pub await_in : Part → (size : ℕ) → (count : ℕ) → Await
 await_in part.Opens size count = begin
-await_in part.Spawns size count = new_channel
+await_in part.Spawns size count = place
 await_in part.Receives size count = done
-await_in part.Prints size count = number
+await_in part.Prints size count = cell
 await_in part.Sends size count = cond (nat_eq count 0) begin done
 await_in part.Ends size count = done
 await_in part.SendsRest size count = cond (nat_eq count (size / 2)) begin done
@@ -134,7 +134,7 @@ abbrev pub is_relay : Relay → Bool
 is_relay r = nat_lt 0 r.size && nat_le r.size most_items && is_count r.part r.size r.count
 
 -- another awaits nothing
-abbrev pub relay_awaits : Relay → ChatAwait
+abbrev pub relay_awaits : Relay → Await
 relay_awaits r = cond (is_relay r) (await_in r.part r.size r.count) nothing
 
 -- at least how many asks are left before the last one

@@ -2,7 +2,7 @@
 ghost use Rattle.std.specs.Prelude.{ℕ, ◌<◌, ◌^◌, ◌≡◌, IfOk};
 ghost use Rattle.tj_chan.specs.declared.chat.ChatAnswer.{ChatAnswer};
 ghost use Rattle.tj_chan.specs.declared.chat.ChatAsk.{ChatAsk};
-ghost use Rattle.tj_chan.specs.Chats.{ChatAwait, FitsChat, ObeysChat};
+ghost use Rattle.tj_chan.specs.Chats.{Await, FitsChat, ObeysChat};
 
 use crate::chat::{ChatAnswer, ChatAsk};
 use std::alloc::Global;
@@ -14,7 +14,7 @@ pub trait Chatter: Sized + Send + Drop {
     ghost channels: { Self → ℕ };
 
     /// What sort of answer it is to be given.
-    ghost awaits: { Self → ChatAwait };
+    ghost awaits: { Self → Await };
 
     /// At least the number of asks that it has still to give before its last one.
     ghost left: { Self → ℕ };

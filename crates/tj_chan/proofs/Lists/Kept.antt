@@ -9,7 +9,7 @@ use Rattle.std.specs.Cmp.{first_so, second_so}
 use Rattle.tj_base.specs.ForkOrder.{Name, child}
 use Rattle.tj_body.specs.Points.{IsIn}
 use Rattle.tj_body.proofs.Lists.{in_left, in_right, in_either}
-use Rattle.tj_chan.specs.Chats.{number, FitsChat, channels_added, chat_awaited}
+use Rattle.tj_chan.specs.Chats.{cell, FitsChat, channels_added, chat_awaited}
 use Rattle.tj_base.specs.declared.cause.Cause.TheVariants as cause
 use Rattle.tj_chan.specs.Chats.{most_channels, IsFreshChat, IsChatAsk}
 use Rattle.tj_chan.specs.Channels.{ChatRules, Channel, SendingEnd, is_same, times, end_of, with_sent, part_with}
@@ -252,7 +252,7 @@ module _ {C : Type 0} (rules : ChatRules C) where
   abbrev pub IsAliveAt : ChatStage → ChatPoint C → Type 0
   IsAliveAt (answered a) p = FitsChat (rules.awaits p.chatter) (rules.channels p.chatter) a
       × (rules.channels p.chatter + channels_added a ≡ length p.channels)
-  IsAliveAt (receives c i) p = (rules.awaits p.chatter ≡ number) × (rules.channels p.chatter ≡ length p.channels)
+  IsAliveAt (receives c i) p = (rules.awaits p.chatter ≡ cell) × (rules.channels p.chatter ≡ length p.channels)
       × IsIn c p.channels × (i < c.items)
   IsAliveAt (ended v) p = Unit {0}
   IsAliveAt (failed f) p = Unit {0}

@@ -293,31 +293,31 @@ module _ {C : Type 0} (rules : ChatRules C) where
       })
 
   -- what a chatter awaits where this is due
-  abbrev chat_due : Due → chats.ChatAwait
+  abbrev chat_due : Due → chats.Await
   chat_due due.Start = chats.begin
-  chat_due (due.Promise more items) = chats.new_channel
-  chat_due due.Item = chats.number
+  chat_due (due.Promise more items) = chats.place
+  chat_due due.Item = chats.cell
   chat_due due.Nothing = chats.nothing
   chat_due d = chats.done
 
-  awaits_due : (places : ℕ) (d : Due) (w : chats.ChatAwait) → is_due places d w ≡ true → w ≡ chat_due d
+  awaits_due : (places : ℕ) (d : Due) (w : chats.Await) → is_due places d w ≡ true → w ≡ chat_due d
   awaits_due places due.Start chats.begin e = refl
-  awaits_due places (due.Promise more items) chats.new_channel e = refl
+  awaits_due places (due.Promise more items) chats.place e = refl
   awaits_due places due.Done chats.done e = refl
-  awaits_due places due.Item chats.number e = refl
+  awaits_due places due.Item chats.cell e = refl
   awaits_due places due.Child chats.done e = refl
   awaits_due places d w e = absurd (false≢true e)
 
   -- What is so where a promise is due.
-  record PromiseDue (places more items : ℕ) (w : chats.ChatAwait) : Type 0 where
-    awaits : w ≡ chats.new_channel
+  record PromiseDue (places more items : ℕ) (w : chats.Await) : Type 0 where
+    awaits : w ≡ chats.place
     below : more < items
     few : items ≤ chats.most_items
     placed : items < places + more + 2
 
-  promise_due : (places more items : ℕ) (w : chats.ChatAwait) → is_due places (due.Promise more items) w ≡ true
+  promise_due : (places more items : ℕ) (w : chats.Await) → is_due places (due.Promise more items) w ≡ true
       → PromiseDue places more items w
-  promise_due places more items chats.new_channel e = let l = nat_lt more items in
+  promise_due places more items chats.place e = let l = nat_lt more items in
       let f = nat_le items chats.most_items in let p = nat_lt items (places + more + 2) in
       let lf = first_so (l && f) p e in record {
         awaits = refl;

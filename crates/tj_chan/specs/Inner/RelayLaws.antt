@@ -5,7 +5,7 @@ use Rattle.std.proofs.Common.{le-leb, eq-eqb, ne_eqb, eqb-true, ◌^◌}
 use Rattle.std.specs.Prelude.{ℤ, pos, ◌+ℤ◌}
 use Rattle.tj_base.specs.declared.cause.Trouble.TheVariants as trouble
 use Rattle.std.specs.Cmp.{first_so, second_so}
-use Rattle.tj_chan.specs.Chats.{begin, new_channel, done, number, nothing, FitsChat, channels_added, chat_awaited}
+use Rattle.tj_chan.specs.Chats.{begin, place, done, cell, nothing, FitsChat, channels_added, chat_awaited}
 use Rattle.tj_chan.specs.Chats.{most_items, ChatEnds, IsChatAsk, IsFreshChat, ObeysChat}
 use Rattle.tj_chan.specs.declared.chat.ChatAnswer.{ChatAnswer}
 use Rattle.tj_chan.specs.declared.chat.ChatAnswer.TheVariants as answer
@@ -35,7 +35,7 @@ begin_adds : (n : ℕ) (a : ChatAnswer) → FitsChat begin n a → channels_adde
 begin_adds n answer.Start h = refl
 begin_adds n a h = absurd h
 
-new_adds : (n : ℕ) (a : ChatAnswer) → FitsChat new_channel n a → channels_added a ≡ 1
+new_adds : (n : ℕ) (a : ChatAnswer) → FitsChat place n a → channels_added a ≡ 1
 new_adds n (answer.Chan k) h = refl
 new_adds n a h = absurd h
 
@@ -104,7 +104,7 @@ module _ (size count : ℕ) (sum : ℤ) (a : ChatAnswer) (l : 0 < size) (m : siz
     allowed = (l, m);
   }
 
-  spawns : is_count part.Spawns size count ≡ true → FitsChat new_channel 0 a
+  spawns : is_count part.Spawns size count ≡ true → FitsChat place 0 a
       → Owes (here part.Spawns) a (relay_turn (hand_on part.Sends (here part.Spawns)) part.Receives (here part.Spawns))
   spawns e h = let z : count ≡ 0 = eqb-true count 0 e in record {
     falls = inr (omega arith);
@@ -192,7 +192,7 @@ module _ (size count : ℕ) (sum : ℤ) (a : ChatAnswer) (l : 0 < size) (m : siz
 
 -- the value that was received is printed
 prints : (size count : ℕ) (sum : ℤ) (a : ChatAnswer) → 0 < size → size ≤ most_items → nat_lt count size ≡ true
-    → FitsChat number 1 a
+    → FitsChat cell 1 a
     → Owes (relay_at part.Prints size count sum) a (print_turn a (relay_at part.Prints size count sum))
 prints size count sum (answer.Num v) l m e h =
     prints_num size count sum (answer.Num v) l m v (is_i64 (sum +ℤ v)) (ltb-true count size e) refl
