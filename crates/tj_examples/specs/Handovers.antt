@@ -12,35 +12,33 @@ use Rattle.tj_examples.specs.declared.handover.Handover.{Handover}
 use Rattle.tj_examples.specs.declared.handover.Handover.TheVariants.{Begin, Fork, Get, End, Set, Leave, Over}
 use Rattle.tj_examples.specs.EachAnswer.{Holds, for_each}
 
+-- how a task stands before a step: its places, what it awaits, and how many asks it gives before its last one
+pub record Standing : Type 0 where
+  pub places : ℕ
+  pub awaits : Await
+  pub left : ℕ
+
+-- how it stands before each step
+abbrev pub standing : Handover → Standing
+standing (Begin i) = record { places = 1; awaits = begin; left = 3 }
+standing (Fork i) = record { places = 1; awaits = place; left = 2 }
+standing Get = record { places = 2; awaits = place; left = 1 }
+standing End = record { places = 3; awaits = cell; left = 0 }
+standing (Set i) = record { places = 2; awaits = begin; left = 1 }
+standing Leave = record { places = 2; awaits = done; left = 0 }
+standing (Over n) = record { places = n; awaits = nothing; left = 0 }
+
 -- how many places its task has
 abbrev pub places : Handover → ℕ
-places (Begin i) = 1
-places (Fork i) = 1
-places Get = 2
-places End = 3
-places (Set i) = 2
-places Leave = 2
-places (Over n) = n
+places b = (standing b).places
 
 -- what it is to be answered
 abbrev pub awaits : Handover → Await
-awaits (Begin i) = begin
-awaits (Fork i) = place
-awaits Get = place
-awaits End = cell
-awaits (Set i) = begin
-awaits Leave = done
-awaits (Over n) = nothing
+awaits b = (standing b).awaits
 
 -- how many asks it gives before its last one
 abbrev pub left : Handover → ℕ
-left (Begin i) = 3
-left (Fork i) = 2
-left Get = 1
-left End = 0
-left (Set i) = 1
-left Leave = 0
-left (Over n) = 0
+left b = (standing b).left
 
 -- what it asks
 abbrev pub asks : Handover → Answer → Ask Handover
