@@ -75,11 +75,26 @@ abbrev pub most_left : ℕ
 most_left = 2 ^ 30
 
 module _ {B : Type 0} (places : B → ℕ) (awaits : B → Await) (left : B → ℕ) where
-  -- the body has asked nothing yet, and is that of a task with n places
-  pub record IsFresh (n : ℕ) (b : B) : Type 0 where
+  -- a body or a chatter has asked nothing yet, is that of a task with n places, and has at most so much left
+  pub record IsFreshWithin (most n : ℕ) (b : B) : Type 0 where
     pub has_places : places b ≡ n
     pub begins : awaits b ≡ begin
-    pub ends : left b ≤ most_left
+    pub ends : left b ≤ most
+
+  module _ {A Q : Type 0} (after : Q → Await) (added : A → ℕ) (IsAllowed : ℕ → Q → Type 0) (asks : B → A → Q)
+      (then : B → A → B) where
+    -- what holds of the ask that a body or a chatter gives for the answer, and of it from then on: what it awaits after
+    -- the ask, how many places the answer has added, and that the ask is allowed with that many places
+    pub record IsNextOf (b : B) (a : A) : Type 0 where
+      pub falls : AwaitsNothing (after (asks b a)) ⊎ (left (then b a) < left b)
+      pub awaits_answer : awaits (then b a) ≡ after (asks b a)
+      pub adds_places : places (then b a) ≡ places b + added a
+      pub placed : IsAllowed (places (then b a)) (asks b a)
+
+module _ {B : Type 0} (places : B → ℕ) (awaits : B → Await) (left : B → ℕ) where
+  -- the body has asked nothing yet, and is that of a task with n places
+  abbrev pub IsFresh : ℕ → B → Type 0
+  IsFresh n b = IsFreshWithin places awaits left most_left n b
 
   -- the body of a fork that passes these places has one place more than they are
   pub record IsForked (b : B) (n : ℕ) (pass hand : List ℕ) : Type 0 where
@@ -103,11 +118,8 @@ module _ {B : Type 0} (places : B → ℕ) (awaits : B → Await) (left : B → 
 
   module _ (asks : B → Answer → Ask B) (then : B → Answer → B) where
     -- what holds of the ask that the body gives for the answer, and of the body from then on
-    pub record IsNext (b : B) (a : Answer) : Type 0 where
-      pub falls : Ends (asks b a) ⊎ (left (then b a) < left b)
-      pub awaits_answer : awaits (then b a) ≡ awaited (asks b a)
-      pub adds_places : places (then b a) ≡ places b + new_places a
-      pub placed : IsPlaced (places (then b a)) (asks b a)
+    abbrev pub IsNext : B → Answer → Type 0
+    IsNext b a = IsNextOf places awaits left awaited new_places IsPlaced asks then b a
 
     -- the laws of one ask, where the answer is one that the body awaits
     abbrev pub Obeys : B → Answer → Type 0

@@ -1,6 +1,7 @@
 -- What a chatter awaits, and what the laws of a chatter say of one ask. A chatter awaits what a body awaits: where that
 -- is a new place, a new channel, and where it is a cell's value, the value that it receives.
-use Rattle.std.specs.Prelude.{◌≡◌, ◌⊎◌, ℕ, ◌+◌, ◌<◌, ◌≤◌, ◌^◌, List, length}
+use Rattle.std.specs.Prelude.{◌≡◌, ℕ, ◌<◌, ◌≤◌, ◌^◌, List, length}
+use Rattle.tj_body.specs.Asks.{IsFreshWithin, IsNextOf}
 pub use Rattle.tj_body.specs.Asks.{Await, begin, place, done, cell, nothing, AwaitsNothing}
 use Rattle.tj_chan.specs.declared.chat.ChatAnswer.{ChatAnswer}
 use Rattle.tj_chan.specs.declared.chat.ChatAnswer.TheVariants as answer
@@ -50,10 +51,8 @@ most_chat_left = 2 ^ 16
 
 module _ {C : Type 0} (channels : C → ℕ) (awaits : C → Await) (left : C → ℕ) where
   -- the chatter has asked nothing yet, and is that of a task with n channels
-  pub record IsFreshChat (n : ℕ) (c : C) : Type 0 where
-    pub has_channels : channels c ≡ n
-    pub begins : awaits c ≡ begin
-    pub ends : left c ≤ most_chat_left
+  abbrev pub IsFreshChat : ℕ → C → Type 0
+  IsFreshChat n c = IsFreshWithin channels awaits left most_chat_left n c
 
   -- the chatter of a spawn that passes these channels is fit for its task
   pub record IsSpawned (c : C) (pass : List ℕ) : Type 0 where
@@ -72,11 +71,8 @@ module _ {C : Type 0} (channels : C → ℕ) (awaits : C → Await) (left : C �
 
   module _ (asks : C → ChatAnswer → ChatAsk C) (then : C → ChatAnswer → C) where
     -- what holds of the ask that the chatter gives for the answer, and of the chatter from then on
-    pub record IsNextChat (c : C) (a : ChatAnswer) : Type 0 where
-      pub falls : ChatEnds (asks c a) ⊎ (left (then c a) < left c)
-      pub awaits_answer : awaits (then c a) ≡ chat_awaited (asks c a)
-      pub adds_channels : channels (then c a) ≡ channels c + channels_added a
-      pub allowed : IsChatAsk (asks c a)
+    abbrev pub IsNextChat : C → ChatAnswer → Type 0
+    IsNextChat c a = IsNextOf channels awaits left chat_awaited channels_added (λ n x. IsChatAsk x) asks then c a
 
     -- the laws of one ask, where the answer is one that the chatter awaits
     abbrev pub ObeysChat : C → ChatAnswer → Type 0

@@ -28,7 +28,7 @@ meant_named size chat root e f meant = subst (λ r. IsMeantByLists relay_rules r
 pub fresh_root : (size : ℕ) → 0 < size → size ≤ 4000
     → IsFreshChat relay_channels relay_awaits relay_left 0 (root_relay size)
 fresh_root size some few = record {
-  has_channels = refl;
+  has_places = refl;
   begins = rw (lt-ltb 0 size some, le-leb size 4000 few) refl;
   ends = omega arith;
 }

@@ -131,7 +131,7 @@ module _ {C : Type 0} (rules : ChatRules C) (lawful : AreLawfulChats rules) wher
     root_under_way =
         let m = fresh.ends in
         let l = le-leb (0 + 0 + rules.left root) most_rows (omega arith) in
-        λ i. is_due 1 due.Start (fresh.begins i) && nat_eq (fresh.has_channels i) 0 && true && true && l i
+        λ i. is_due 1 due.Start (fresh.begins i) && nat_eq (fresh.has_places i) 0 && true && true && l i
 
     root_is_proper : IsProper P.rules (task_of (root_chat root))
     root_is_proper = record {

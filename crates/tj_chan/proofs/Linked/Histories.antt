@@ -71,7 +71,7 @@ module _ {C : Type 0} (rules : ChatRules C) (root : C) (strict : Bool) where
         → IsLinked rules root strict U t (run_after rules (finds_in U) k t)
         → IsLinked rules root strict U t (run_stage rules (finds_in U) st (run_after rules (finds_in U) k t))
     step_linked U h t f k (answered a) e l =
-        asks (rules.asks p.chatter a) U t q b next (s.0.tidy) n.allowed ready l.3 at where
+        asks (rules.asks p.chatter a) U t q b next (s.0.tidy) n.placed ready l.3 at where
           p : ChatPoint C
           p = run_after rules (finds_in U) k t
 

@@ -389,7 +389,7 @@ module _ {C : Type 0} (rules : ChatRules C) where
     step_keeps t (answered a) p e y h =
         let n = lawful p.chatter a h.0 in
         let q : ChatPoint C = record p { chatter = rules.then p.chatter a } in
-        ask_keeps t q (rules.asks p.chatter a) y n.awaits_answer (n.adds_channels ∙ h.1) n.allowed
+        ask_keeps t q (rules.asks p.chatter a) y n.awaits_answer (n.adds_places ∙ h.1) n.placed
     step_keeps t (receives c i) p e y h = by (F c i) where
       by : (f : Found) → IsSound t (after_found c i f p)
       by to_come = (y, subst (λ s. IsAliveAt s p) (sym e) h)
@@ -401,7 +401,7 @@ module _ {C : Type 0} (rules : ChatRules C) where
 
     -- so each point is sound
     pub run_sound : (k : ℕ) (t : ChatTask C) → IsFit rules t → IsSound t (run_after rules F k t)
-    run_sound zero t f = let n = f.fresh.has_channels in (
+    run_sound zero t f = let n = f.fresh.has_places in (
       record {
         named = refl;
         tidy = f.tidy;

@@ -217,7 +217,7 @@ module _ {C : Type 0} (rules : ChatRules C) where
       has_places = refl;
       begins = ap (λ x. cond x asks.begin asks.nothing) (under_way_from (child_body c pass give b) (record {
         is_due = ap (is_due (child_body c pass give b).places due.Start) s.fresh.begins;
-        channels = s.fresh.has_channels ∙ sym f.count;
+        channels = s.fresh.has_places ∙ sym f.count;
         leads = f.lead;
         rows = f.bounded;
         few = omega arith;
@@ -285,11 +285,11 @@ module _ {C : Type 0} (rules : ChatRules C) where
       (record b { chatter = rules.then b.chatter a }) (record {
         falls = o.falls;
         awaits = o.awaits_answer;
-        channels = o.adds_channels ∙ t.channels;
+        channels = o.adds_places ∙ t.channels;
         leads = t.leads;
         rows = t.rows;
         few = t.few;
-        allowed = o.allowed;
+        allowed = o.placed;
       })
 
   -- what a chatter awaits where this is due

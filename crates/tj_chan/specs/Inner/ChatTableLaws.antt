@@ -36,7 +36,7 @@ pub fresh_chat_at : (c : TableChat) (list n : ℕ) → is_chat_table c.lists.now
 fresh_chat_at c list n e l =
     let few : length (get_or c.lists.now list []) ≤ 2 ^ 15 = few_rows most_chat_rows is_chat_row c.lists.now list e l in
     record {
-      has_channels = refl;
+      has_places = refl;
       begins = rw (begins_reading most_chat_rows is_chat_row c.lists.now list e l) refl;
       ends = omega arith;
     }
@@ -59,6 +59,6 @@ pub table_chat_obeys : (c : TableChat) (a : ChatAnswer)
 table_chat_obeys c a h = let u = chat_under_way c a h in let at : c.row ≤ length (chat_rows_of c) = u.at in record {
   falls = inr (omega arith);
   awaits_answer = awaits_next u (chat_awaited (table_chat_asks c a)) nothing (λ e. rw e refl);
-  adds_channels = refl;
-  allowed = holds_at u (λ z. Allowed (chat_row_or_end c z)) (λ r is. allowed c r u.table is) tt c.row;
+  adds_places = refl;
+  placed = holds_at u (λ z. Allowed (chat_row_or_end c z)) (λ r is. allowed c r u.table is) tt c.row;
 }

@@ -57,7 +57,7 @@ fresh_child : (p : Part) (size count : ℕ) → 0 < size → size ≤ most_items
     → await_in p size count ≡ begin → channels_in p ≡ 1 → left_in p size count ≤ 2 ^ 16
     → IsFreshChat relay_channels relay_awaits relay_left 1 (relay_at p size count (pos 0))
 fresh_child p size count l m e b k f = record {
-  has_channels = k;
+  has_places = k;
   begins = awaits_of p size count (pos 0) l m e ∙ b;
   ends = f;
 }
@@ -226,6 +226,6 @@ relay_obeys r a h =
     record {
       falls = o.falls;
       awaits_answer = o.awaits_answer;
-      adds_channels = o.adds_channels;
-      allowed = o.allowed;
+      adds_places = o.adds_channels;
+      placed = o.allowed;
     }

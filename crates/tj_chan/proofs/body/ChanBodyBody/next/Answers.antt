@@ -26,7 +26,7 @@ pub asked-requires-clause-few : goal.asked-requires-clause-few
 asked-requires-clause-few g c = let x = g.C.Chatter in
     let n = g.met.C.Chatter.obeys c.told.new.self.chatter c.in-Some.told (fits g c).fits in
     few_of x.channels x.awaits x.left c.in_ok-ask-in-Some.ask
-    (subst (IsChatAsk x.channels x.awaits x.left) (sym c.in_ok-ask-in-Some.ensures.ask) n.allowed)
+    (subst (IsChatAsk x.channels x.awaits x.left) (sym c.in_ok-ask-in-Some.ensures.ask) n.placed)
 
 pub asked-requires-clause-rows : goal.asked-requires-clause-rows
 asked-requires-clause-rows g c = (fits g c).leads
