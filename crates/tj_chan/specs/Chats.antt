@@ -18,10 +18,8 @@ FitsChat w n a = ⊥
 
 -- how many channels the answer adds
 abbrev pub channels_added : ChatAnswer → ℕ
-channels_added answer.Start = 0
 channels_added (answer.Chan k) = 1
-channels_added answer.Done = 0
-channels_added (answer.Num i) = 0
+channels_added a = 0
 
 -- what a chatter awaits after the ask
 abbrev pub chat_awaited : {C : Type 0} → ChatAsk C → Await
