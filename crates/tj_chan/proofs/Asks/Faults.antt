@@ -31,8 +31,8 @@ use Rattle.tj_chan.specs.declared.body.Due.TheVariants as due
 use Rattle.tj_chan.specs.declared.chat.ChatAsk.TheVariants as ask
 use Rattle.tj_chan.specs.declared.chat.ChatAnswer.TheVariants as answer
 use Rattle.tj_chan.proofs.Lists.Runs.{found_in, found_by}
-use Rattle.tj_chan.proofs.Linked.Links.{task_of, IsPointFor, IsStageOf, IsReadyFor, IsEntryFor, IsToldBy, AreWritesFor}
-use Rattle.tj_chan.proofs.Linked.Links.{IsWritten}
+use Rattle.tj_chan.proofs.Linked.Links.{task_of, IsPointFor, IsStageOf, IsReadyFor, IsEntryFor, IsToldOf, IsToldBy}
+use Rattle.tj_chan.proofs.Linked.Links.{told_on, AreWritesFor, IsWritten}
 use Rattle.tj_chan.proofs.Linked.Steps.{program, IsLinked, AskIsLinked}
 use Rattle.tj_chan.proofs.Linked.Entries.{none_past}
 
@@ -109,25 +109,19 @@ module _ (given : List SendingEnd) (name : Name) (handed ends : List SendingEnd)
   new = (name, x) ∷ map (with_entry entry.Broken) (in_order holds)
 
   old_told : (q : Name) (y : Entry) → IsIn (q, y) writes → IsToldBy name after q y
-  old_told q y i = ⊎_elim (λ e. inl e)
-      (λ v. at v (in_either v.0 (map (left_of false) handed) (map (left_of false) ends) v.2)) (w.told q y i) where
-        at : (v : (v : Channel × ChannelState) × (i : ℕ) × IsIn v before × (i < v.0.items) × (q ≡ item v.0 i)
-            × IsEntryFor (found_in v.1 i) y)
-            → IsIn v.0 (map (left_of false) handed) ⊎ IsIn v.0 (map (left_of false) ends) → IsToldBy name after q y
-        at v (inl j) =
-            inr (v.0, v.1, in_left v.0 (map (left_of false) handed) (map (left_of true) ends) j, v.3, v.4, v.5)
-        at v (inr j) = let m = in_map (left_of false) v.0 ends j in cut m.0 m.1 m.2 where
-          cut : (e : SendingEnd) → IsIn e ends → v.0 ≡ left_of false e → IsToldBy name after q y
-          cut e k m = inr (
-            left_of true e,
-            v.1,
-            in_right (left_of true e) (map (left_of false) handed) (map (left_of true) ends)
-                (to_map (left_of true) e ends k),
-            subst (λ (z : Channel × ChannelState). v.1 < z.0.items) m v.3,
-            v.4 ∙ ap (λ (z : Channel × ChannelState). item z.0 v.1) m,
-            found_cut (slice_get e.sent v.1) y
-                (subst (λ (z : Channel × ChannelState). IsEntryFor (found_in z.1 v.1) y) m v.5),
-          )
+  old_told q y i = told_on name (map (left_of false) handed) (map (left_of false) ends) (map (left_of true) ends) q y
+      (λ v. let m = in_map (left_of false) v.0 ends v.2 in cut v m.0 m.1 m.2) (w.told q y i) where
+        cut : (v : IsToldOf (map (left_of false) ends) q y) (e : SendingEnd) → IsIn e ends → v.0 ≡ left_of false e
+            → IsToldOf (map (left_of true) ends) q y
+        cut v e k m = (
+          left_of true e,
+          v.1,
+          to_map (left_of true) e ends k,
+          subst (λ (z : Channel × ChannelState). v.1 < z.0.items) m v.3,
+          v.4 ∙ ap (λ (z : Channel × ChannelState). item z.0 v.1) m,
+          found_cut (slice_get e.sent v.1) y
+              (subst (λ (z : Channel × ChannelState). IsEntryFor (found_in z.1 v.1) y) m v.5),
+        )
 
   new_told : (q : Name) (y : Entry) → IsIn (q, y) new → IsToldBy name after q y
   new_told q y (inl e) = inl (ap (λ (z : Name × Entry). z.0) e)

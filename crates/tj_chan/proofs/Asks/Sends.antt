@@ -33,7 +33,8 @@ use Rattle.tj_chan.specs.declared.body.Due.TheVariants as due
 use Rattle.tj_chan.specs.declared.body.ChanBody.{ChanBody}
 use Rattle.tj_chan.proofs.Lists.Runs.{AreOneOrApart, found_in, found_by}
 use Rattle.tj_chan.proofs.Linked.Items.{drop-things}
-use Rattle.tj_chan.proofs.Linked.Links.{sent_by, is_held, AreRowsOf, task_of, IsEntryFor, IsToldBy, AreWritesFor}
+use Rattle.tj_chan.proofs.Linked.Links.{sent_by, is_held, AreRowsOf, task_of, IsEntryFor, IsToldOf, IsToldBy}
+use Rattle.tj_chan.proofs.Linked.Links.{told_on, AreWritesFor}
 use Rattle.tj_chan.proofs.Linked.Steps.{program, IsLinked, AskIsLinked}
 use Rattle.tj_chan.proofs.Lists.Apart.{same_parts, not_true, true_false, one_of_same, apart_of_other, end_there}
 use Rattle.tj_chan.proofs.Lists.Kept.{in_last, at_last}
@@ -175,43 +176,29 @@ module _ (given : List SendingEnd) (name : Name) (handed ends : List SendingEnd)
   new = (item c (length e.sent), entry.Value (value.Num v))
 
   old_told : (q : Name) (y : Entry) → IsIn (q, y) writes → IsToldBy name after q y
-  old_told q y j = ⊎_elim (λ a. inl a)
-      (λ x. at x (in_either x.0 (map (left_of false) handed) (map (left_of false) ends) x.2)) (w.told q y j) where
-        at : (x : (x : Channel × ChannelState) × (i : ℕ) × IsIn x before × (i < x.0.items) × (q ≡ item x.0 i)
-            × IsEntryFor (found_in x.1 i) y)
-            → IsIn x.0 (map (left_of false) handed) ⊎ IsIn x.0 (map (left_of false) ends) → IsToldBy name after q y
-        at x (inl a) =
-            inr (
-              x.0,
-              x.1,
-              in_left x.0 (map (left_of false) handed) (map (left_of false) (with_sent c v ends)) a,
-              x.3,
-              x.4,
-              x.5,
-            )
-        at x (inr a) = let m = in_map (left_of false) x.0 ends a in sent m.0 m.2 (sent_to c v ends e m.0 h m.1) where
-          sent : (f : SendingEnd) → x.0 ≡ left_of false f → IsIn f (with_sent c v ends) ⊎ (f ≡ e)
-              → IsToldBy name after q y
-          sent f k (inl b) = inr (
-            x.0,
-            x.1,
-            in_right x.0 (map (left_of false) handed) (map (left_of false) (with_sent c v ends))
-                (subst (λ z. IsIn z (map (left_of false) (with_sent c v ends))) (sym k)
-                (to_map (left_of false) f (with_sent c v ends) b)),
-            x.3,
-            x.4,
-            x.5,
-          )
-          sent f k (inr b) = let u : x.0 ≡ left_of false e = k ∙ ap (left_of false) b in inr (
-            left_of false (one_more v e),
-            x.1,
-            in_right (left_of false (one_more v e)) (map (left_of false) handed)
-                (map (left_of false) (with_sent c v ends))
-                (to_map (left_of false) (one_more v e) (with_sent c v ends) (sent_in c v ends e h)),
-            subst (λ (z : Channel × ChannelState). x.1 < z.0.items) u x.3,
-            x.4 ∙ ap (λ (z : Channel × ChannelState). item z.0 x.1) u,
-            found_more e.sent v x.1 y (subst (λ (z : Channel × ChannelState). IsEntryFor (found_in z.1 x.1) y) u x.5),
-          )
+  old_told q y j = told_on name (map (left_of false) handed) (map (left_of false) ends)
+      (map (left_of false) (with_sent c v ends)) q y
+      (λ x. let m = in_map (left_of false) x.0 ends x.2 in sent x m.0 m.2 (sent_to c v ends e m.0 h m.1))
+      (w.told q y j) where
+        sent : (x : IsToldOf (map (left_of false) ends) q y) (f : SendingEnd) → x.0 ≡ left_of false f
+            → IsIn f (with_sent c v ends) ⊎ (f ≡ e) → IsToldOf (map (left_of false) (with_sent c v ends)) q y
+        sent x f k (inl b) = (
+          x.0,
+          x.1,
+          subst (λ z. IsIn z (map (left_of false) (with_sent c v ends))) (sym k)
+              (to_map (left_of false) f (with_sent c v ends) b),
+          x.3,
+          x.4,
+          x.5,
+        )
+        sent x f k (inr b) = let u : x.0 ≡ left_of false e = k ∙ ap (left_of false) b in (
+          left_of false (one_more v e),
+          x.1,
+          to_map (left_of false) (one_more v e) (with_sent c v ends) (sent_in c v ends e h),
+          subst (λ (z : Channel × ChannelState). x.1 < z.0.items) u x.3,
+          x.4 ∙ ap (λ (z : Channel × ChannelState). item z.0 x.1) u,
+          found_more e.sent v x.1 y (subst (λ (z : Channel × ChannelState). IsEntryFor (found_in z.1 x.1) y) u x.5),
+        )
 
   new_told : (q : Name) (y : Entry) → (q, y) ≡ new → IsToldBy name after q y
   new_told q y k = inr (

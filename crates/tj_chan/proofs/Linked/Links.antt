@@ -1,7 +1,7 @@
 -- How promises and places stand for channels: a channel is the row of the promises of its items, the unset ones are
 -- owned by the holder of its end, and a list of values sent is the entries of the items in front.
 use Rattle.std.proofs.Common.{◌≡◌, ◌⊎◌, ℕ, suc, ◌+◌, ◌<◌, Bool, true, false, List, [], ◌∷◌, ◌++◌, map, length}
-use Rattle.std.proofs.Common.{Option, Some, None}
+use Rattle.std.proofs.Common.{Option, Some, None, inl, inr}
 use Rattle.std.specs.Prelude.{cond, slice_get}
 use Rattle.std.specs.List.{flat_map}
 use Rattle.tj_base.specs.ForkOrder.{Name}
@@ -16,6 +16,7 @@ use Rattle.tj_body.specs.declared.point.Close.TheVariants as close
 use Rattle.tj_body.specs.declared.point.PointStage.TheVariants as stage
 use Rattle.tj_body.specs.declared.point.Task.{Task}
 use Rattle.tj_body.specs.declared.point.Point.{Point}
+use Rattle.tj_body.proofs.Lists.{in_left, in_right, in_either}
 use Rattle.tj_chan.specs.Channels.{ChatRules, Channel, SendingEnd, ChannelState, is_same, item, items_of, all_unsent}
 use Rattle.tj_chan.specs.Channels.{ChatStage, answered, receives, ended, failed, ChatTask, ChatPoint, end_of, times}
 use Rattle.tj_chan.specs.ChannelRounds.{leaves, has_ended}
@@ -145,10 +146,24 @@ IsEntryFor to_come e = ⊥
 IsEntryFor cut_off e = e ≡ entry.Broken
 IsEntryFor (value_of v) e = e ≡ entry.Value (value.Num v)
 
+-- the entry is that of an item of what is left of these channels
+abbrev pub IsToldOf : List (Channel × ChannelState) → Name → Entry → Type 0
+IsToldOf left q e = (w : Channel × ChannelState) × (i : ℕ) × IsIn w left × (i < w.0.items) × (q ≡ item w.0 i)
+    × IsEntryFor (found_in w.1 i) e
+
 -- the entry is a result under this name, or it is that of an item of what is left of channels
 abbrev pub IsToldBy : Name → List (Channel × ChannelState) → Name → Entry → Type 0
-IsToldBy name left q e = (q ≡ name) ⊎ ((w : Channel × ChannelState) × (i : ℕ) × IsIn w left × (i < w.0.items)
-    × (q ≡ item w.0 i) × IsEntryFor (found_in w.1 i) e)
+IsToldBy name left q e = (q ≡ name) ⊎ IsToldOf left q e
+
+-- so it is when some of what is left is told anew, and the rest stays
+pub told_on : (name : Name) (rest old new : List (Channel × ChannelState)) (q : Name) (e : Entry)
+    → (IsToldOf old q e → IsToldOf new q e) → IsToldBy name (rest ++ old) q e → IsToldBy name (rest ++ new) q e
+told_on name rest old new q e on (inl h) = inl h
+told_on name rest old new q e on (inr v) = by (in_either v.0 rest old v.2) where
+  by : IsIn v.0 rest ⊎ IsIn v.0 old → IsToldBy name (rest ++ new) q e
+  by (inl j) = inr (v.0, v.1, in_left v.0 rest new j, v.3, v.4, v.5)
+  by (inr j) =
+      let w = on (v.0, v.1, j, v.3, v.4, v.5) in inr (w.0, w.1, in_right w.0 rest new w.2, w.3, w.4, w.5)
 
 -- What a task with this name has written is its result and what it leaves of channels, and what it leaves it has
 -- written, or had it with an end that it was given.
