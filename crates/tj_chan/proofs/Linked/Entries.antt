@@ -1,5 +1,5 @@
 -- What all that is left of a channel tells of its items.
-use Rattle.std.proofs.Common.{◌≡◌, ℕ, ◌<◌, ◌≤◌, Bool, true, false, cond, ◌||◌, nat_lt, ◌⊎◌, inl}
+use Rattle.std.proofs.Common.{◌≡◌, ℕ, ◌≤◌, Bool, true, false, cond, ◌||◌, nat_lt, ◌⊎◌, inl}
 use Rattle.std.proofs.Common.{inr, ⊎_elim, List, [], ◌∷◌, ◌++◌, length, Option, Some, None, refl, sym, ap, ◌∙◌}
 use Rattle.std.proofs.Common.{subst, arith, ltb-true, ltb-false, pos}
 use Rattle.std.proofs.lemmas.Option.{slice_get_past, slice_get-get_or}
@@ -34,31 +34,30 @@ neither_there true b = (inl refl, λ e. absurd (no_cut e))
 neither_there false true = (inr refl, λ e. absurd (no_cut e))
 neither_there false false = (inl refl, λ e. (refl, refl))
 
+swapped : (h f g : Found) → IsFoundOf h f g → IsFoundOf h g f
+swapped h f g p = (⊎_elim (λ e. inr e) (λ e. inl e) p.0, λ e. let q = p.1 e in (q.1, q.0))
+
+-- what the longer of two lists tells, if where neither has a value the same is so
+longer_found : (z c d : Bool) (long short : List ℤ) (i : ℕ) → length short ≤ length long
+    → IsFoundOf (found_by z None) (found_by c None) (found_by d None)
+    → IsFoundOf (found_by z (slice_get long i)) (found_by c (slice_get long i)) (found_by d (slice_get short i))
+longer_found z c d long short i l n = by (slice_get long i) refl where
+  by : (o : Option ℤ) → slice_get long i ≡ o
+      → IsFoundOf (found_by z o) (found_by c o) (found_by d (slice_get short i))
+  by (Some v) e = (inl refl, λ h. absurd (no_value v h))
+  by None e = let p = none_past long i e in let s = slice_get_past short i (omega arith) in
+      subst (λ o. IsFoundOf (found_by z None) (found_by c None) (found_by d o)) (sym s) n
+
 -- the later of two states
 later_found : (a b : ChannelState) (i : ℕ) → IsFoundOf (found_in (later_of a b) i) (found_in a i) (found_in b i)
 later_found a b i = by (nat_lt (length a.sent) (length b.sent)) refl where
-  second : length a.sent < length b.sent → (o : Option ℤ) → slice_get b.sent i ≡ o
-      → IsFoundOf (found_by (a.is_cut || b.is_cut) o) (found_in a i) (found_by b.is_cut o)
-  second l (Some v) e = (inr refl, λ h. absurd (no_value v h))
-  second l None e =
-      let p = none_past b.sent i e in
-      let s = slice_get_past a.sent i (omega arith) in
-      subst (λ o. IsFoundOf (found_by (a.is_cut || b.is_cut) None) (found_by a.is_cut o) (found_by b.is_cut None))
-      (sym s) (neither_there a.is_cut b.is_cut)
-
-  first : length b.sent ≤ length a.sent → (o : Option ℤ) → slice_get a.sent i ≡ o
-      → IsFoundOf (found_by (a.is_cut || b.is_cut) o) (found_by a.is_cut o) (found_in b i)
-  first l (Some v) e = (inl refl, λ h. absurd (no_value v h))
-  first l None e =
-      let p = none_past a.sent i e in
-      let s = slice_get_past b.sent i (omega arith) in
-      subst (λ o. IsFoundOf (found_by (a.is_cut || b.is_cut) None) (found_by a.is_cut None) (found_by b.is_cut o))
-      (sym s) (neither_there a.is_cut b.is_cut)
-
   by : (z : Bool) → nat_lt (length a.sent) (length b.sent) ≡ z
       → IsFoundOf (found_by (a.is_cut || b.is_cut) (slice_get (cond z b.sent a.sent) i)) (found_in a i) (found_in b i)
-  by true e = second (ltb-true (length a.sent) (length b.sent) e) (slice_get b.sent i) refl
-  by false e = first (ltb-false (length a.sent) (length b.sent) e) (slice_get a.sent i) refl
+  by true e = let l = ltb-true (length a.sent) (length b.sent) e in
+      swapped _ _ _ (longer_found _ b.is_cut a.is_cut b.sent a.sent i (omega arith)
+      (swapped _ _ _ (neither_there a.is_cut b.is_cut)))
+  by false e = longer_found _ a.is_cut b.is_cut a.sent b.sent i (ltb-false (length a.sent) (length b.sent) e)
+      (neither_there a.is_cut b.is_cut)
 
 pub untouched_found : (i : ℕ) → found_in untouched i ≡ to_come
 untouched_found i = ap (found_by false) (slice_get_past [] i (omega arith))
