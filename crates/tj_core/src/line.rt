@@ -57,10 +57,9 @@ fn without_cells(verb: &[u8]) -> Option<Event>
     ensures found { IfSome result (λ e. (verb_of e ≡ verb.now) × (cells_of e ≡ [])) }
     ensures none { IfNone result ((e : Event) → cells_of e ≡ [] → verb_of e ≢ verb.now) }
 {
-    if verb == b"lower".as_slice() {
-        Some(Event::Lower)
-    } else {
-        None
+    match verb {
+        b"lower" => Some(Event::Lower),
+        _ => None,
     }
 }
 
@@ -69,30 +68,19 @@ fn with_cell(verb: &[u8], t: CellId) -> Option<Event>
     ensures found { IfSome result (λ e. (verb_of e ≡ verb.now) × (cells_of e ≡ t.0 ∷ [])) }
     ensures none { IfNone result ((e : Event) → cells_of e ≡ t.0 ∷ [] → verb_of e ≢ verb.now) }
 {
-    if verb == b"make".as_slice() {
-        Some(Event::Make(t))
-    } else if verb == b"fork".as_slice() {
-        Some(Event::Fork(t))
-    } else if verb == b"raise".as_slice() {
-        Some(Event::Raise(t))
-    } else if verb == b"others".as_slice() {
-        Some(Event::LoadOthers(t))
-    } else if verb == b"count".as_slice() {
-        Some(Event::LoadCount(t))
-    } else if verb == b"owner".as_slice() {
-        Some(Event::ReadOwner(t))
-    } else if verb == b"wait".as_slice() {
-        Some(Event::ReadWait(t))
-    } else if verb == b"again".as_slice() {
-        Some(Event::ReadOwnerAgain(t))
-    } else if verb == b"alarm".as_slice() {
-        Some(Event::Alarm(t))
-    } else if verb == b"settle".as_slice() {
-        Some(Event::Settle(t))
-    } else if verb == b"unwait".as_slice() {
-        Some(Event::Unwait(t))
-    } else {
-        None
+    match verb {
+        b"make" => Some(Event::Make(t)),
+        b"fork" => Some(Event::Fork(t)),
+        b"raise" => Some(Event::Raise(t)),
+        b"others" => Some(Event::LoadOthers(t)),
+        b"count" => Some(Event::LoadCount(t)),
+        b"owner" => Some(Event::ReadOwner(t)),
+        b"wait" => Some(Event::ReadWait(t)),
+        b"again" => Some(Event::ReadOwnerAgain(t)),
+        b"alarm" => Some(Event::Alarm(t)),
+        b"settle" => Some(Event::Settle(t)),
+        b"unwait" => Some(Event::Unwait(t)),
+        _ => None,
     }
 }
 
@@ -102,12 +90,10 @@ fn with_two_cells(verb: &[u8], t: CellId, p: CellId) -> Option<Event>
     ensures none { IfNone result ((e : Event) → cells_of e ≡ t.0 ∷ p.0 ∷ []
         → verb_of e ≢ verb.now) }
 {
-    if verb == b"close".as_slice() {
-        Some(Event::Close(t, p))
-    } else if verb == b"publish".as_slice() {
-        Some(Event::Publish(t, p))
-    } else {
-        None
+    match verb {
+        b"close" => Some(Event::Close(t, p)),
+        b"publish" => Some(Event::Publish(t, p)),
+        _ => None,
     }
 }
 
@@ -118,10 +104,9 @@ fn with_three_cells(verb: &[u8], t: CellId, p: CellId, c: CellId) -> Option<Even
     ensures none { IfNone result ((e : Event) → cells_of e ≡ t.0 ∷ p.0 ∷ c.0 ∷ []
         → verb_of e ≢ verb.now) }
 {
-    if verb == b"hand".as_slice() {
-        Some(Event::Hand(t, p, c))
-    } else {
-        None
+    match verb {
+        b"hand" => Some(Event::Hand(t, p, c)),
+        _ => None,
     }
 }
 
