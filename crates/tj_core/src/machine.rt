@@ -80,22 +80,14 @@ impl Machine {
     pub(crate) fn wait(&self, t: u32) -> Option<u32>
         ensures { result ≡ wait_of (stage_in self.now.slots.items t) }
     {
-        if (t as usize) < self.slots.len() {
-            self.slots[t as usize].wait()
-        } else {
-            None
-        }
+        self.slots.get(t as usize)?.wait()
     }
 
     /// Whether a cell is a task.
     pub(crate) fn is_task(&self, c: u32) -> bool
         ensures { result ≡ is_task (stage_in self.now.slots.items c) }
     {
-        if (c as usize) < self.slots.len() {
-            self.slots[c as usize].is_task()
-        } else {
-            false
-        }
+        self.slots.get(c as usize).is_some_and(Slot::is_task)
     }
 
     /// Whether a cell is a task that had no event yet.
@@ -103,11 +95,7 @@ impl Machine {
         ensures fresh { IsTrue result ↔ (stage_in self.now.slots.items c ≡ fresh) }
         ensures there { IsTrue result → c < length self.now.slots.items }
     {
-        if (c as usize) < self.slots.len() {
-            self.slots[c as usize].is_fresh()
-        } else {
-            false
-        }
+        self.slots.get(c as usize).is_some_and(Slot::is_fresh)
     }
 
     /// Whether a cell is a promise, as one is that isn't there.

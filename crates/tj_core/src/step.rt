@@ -56,22 +56,14 @@ impl Machine {
     pub(crate) fn stage(&self, t: u32) -> Option<Stage>
         ensures { result ≡ stage_shown (stage_in self.now.slots.items t) }
     {
-        if (t as usize) < self.slots.len() {
-            self.slots[t as usize].shown()
-        } else {
-            None
-        }
+        self.slots.get(t as usize)?.shown()
     }
 
     /// The loads of a task's last walk.
     pub(crate) fn loads(&self, t: u32) -> u32
         ensures { result ≡ loads_in self.now.slots.items t }
     {
-        if (t as usize) < self.slots.len() {
-            self.slots[t as usize].loads
-        } else {
-            0
-        }
+        self.slots.get(t as usize).map_or(0, |slot| slot.loads)
     }
 
     /// The last read and the loads of a task's walk, where it walks.
