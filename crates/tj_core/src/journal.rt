@@ -5,7 +5,7 @@ ghost use Rattle.std.specs.List.{prefix_len};
 ghost use Rattle.tj_core.specs.Journals.Lines.{lines_of, words_of, AreEventLines, IsEventLine, IsFirstFault, OrMemory, HasSmallCells, Names};
 
 use crate::line::event_of;
-use std::alloc::{AllocError, AllocFailed, Global};
+use std::alloc::{AllocError, Global};
 use tj_events::Event;
 
 /// The most bytes of a journal that is read.
@@ -18,28 +18,6 @@ pub enum JournalFault {
     Line(u32),
     /// Memory could not be had.
     Oom,
-}
-
-impl From<AllocError> for JournalFault {
-    ghost use Rattle.std.specs.Prelude.{◌≡◌};
-    ghost use Rattle.tj_core.specs.declared.journal.JournalFault.TheVariants.{Oom};
-
-    ghost from_gives = { λ _ fault. fault ≡ Oom };
-
-    fn from(_error: AllocError) -> JournalFault {
-        JournalFault::Oom
-    }
-}
-
-impl<T: Drop> From<AllocFailed<T>> for JournalFault {
-    ghost use Rattle.std.specs.Prelude.{◌≡◌};
-    ghost use Rattle.tj_core.specs.declared.journal.JournalFault.TheVariants.{Oom};
-
-    ghost from_gives = { λ _ fault. fault ≡ Oom };
-
-    fn from(_failed: AllocFailed<T>) -> JournalFault {
-        JournalFault::Oom
-    }
 }
 
 /// The events of a journal, each on the line of its own number.
@@ -64,10 +42,15 @@ fn read(alloc: Global, bytes: &[u8]) -> Result<Vec<Event>, JournalFault>
     let mut rest = bytes;
     while !rest.is_empty() {
         let (line, after) = cut_line(rest);
-        let Some(event) = line_event(alloc, line)? else {
+        let Ok(found) = line_event(alloc, line) else {
+            return Err(JournalFault::Oom);
+        };
+        let Some(event) = found else {
             return Err(JournalFault::Line(events.len() as u32 + 1));
         };
-        events.push(event)?;
+        let Ok(()) = events.push(event) else {
+            return Err(JournalFault::Oom);
+        };
         rest = after;
     }
     Ok(events)
