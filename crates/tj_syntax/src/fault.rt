@@ -25,28 +25,6 @@ pub enum ParseFault {
     Oom,
 }
 
-impl From<AllocError> for ParseFault {
-    ghost use Rattle.std.specs.Prelude.{◌≡◌};
-    ghost use Rattle.tj_syntax.specs.declared.fault.ParseFault.TheVariants.{Oom};
-
-    ghost from_gives = { λ _ fault. fault ≡ Oom };
-
-    fn from(_error: AllocError) -> ParseFault {
-        ParseFault::Oom
-    }
-}
-
-impl<T: Drop> From<AllocFailed<T>> for ParseFault {
-    ghost use Rattle.std.specs.Prelude.{◌≡◌};
-    ghost use Rattle.tj_syntax.specs.declared.fault.ParseFault.TheVariants.{Oom};
-
-    ghost from_gives = { λ _ fault. fault ≡ Oom };
-
-    fn from(_failed: AllocFailed<T>) -> ParseFault {
-        ParseFault::Oom
-    }
-}
-
 /// How a token can break a rule of names or of numbers.
 #[derive(Clone, Copy)]
 pub(crate) enum Breach {
