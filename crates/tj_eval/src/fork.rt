@@ -56,7 +56,9 @@ fn arguments(alloc: Global, vars: &[Pay], args: &[Arg], n: usize) -> Result<Pass
     requires few { length args.now ≤ most_params }
     ensures { IsPassed (state.arguments vars.now (map view.argument args.now)) result }
 {
-    let mut values = Vec::with_capacity(alloc, n)?;
+    let Ok(mut values) = Vec::with_capacity(alloc, n) else {
+        return Err(Halt::Memory);
+    };
     let mut places = Vec::new(alloc);
     for arg in args {
         let v = argument(vars, arg)?;
