@@ -10,8 +10,9 @@ use Rattle.tj_syntax.specs.Trees.{Statement, Statements}
 use Rattle.tj_syntax.specs.Marks.{Name, most_vars}
 use Rattle.tj_syntax.specs.View.{statements_of}
 use Rattle.tj_syntax.specs.Inner.Input.{Parser, and_then, skip, refuse, pure, unless, breach_of, fresh_by, fresh}
-use Rattle.tj_syntax.specs.Inner.Input.{variable, expect, fresh_variable, add_variable, count_variables, is_mark, ◌>>◌}
-use Rattle.tj_syntax.specs.Inner.Reading.{expression, given, ask, let_new, assign, set_cell, ended, ask_statement}
+use Rattle.tj_syntax.specs.Inner.Input.{fresh_variable, add_variable, count_variables, is_mark, ◌>>◌}
+use Rattle.tj_syntax.specs.Inner.Reading.{expression, given, ask, let_new, assigned, assign, set_cell, closed, ended}
+use Rattle.tj_syntax.specs.Inner.Reading.{ask_statement}
 use Rattle.tj_syntax.specs.Inner.Reading.{otherwise_by, otherwise, choose, repeat, statement_by, statement_over}
 use Rattle.tj_syntax.specs.Inner.Reading.{statements_from, statements, block_by, block}
 use Rattle.tj_syntax.proofs.Same.AlikeSteps.{Local, Loose, Strict, Narrow, Needs, read, any, it, bind_local, bind_same}
@@ -57,9 +58,7 @@ let_local room n d =
 
 -- behind a variable: the mark, the side that it is given and a semicolon
 side_local : {A : Type 0} (side : Parser A) (wrap : ℕ → A → Statement) → Strict any side side
-    → Strict any (λ i. and_then (variable i) (λ n h. (expect m.Assign >> (λ k. and_then (side k)
-    (λ x. expect m.Semi >> pure (wrap n x)))) h)) (λ i. and_then (variable i) (λ n h. (expect m.Assign >>
-    (λ k. and_then (side k) (λ x. expect m.Semi >> pure (wrap n x)))) h))
+    → Strict any (assigned side wrap) (assigned side wrap)
 side_local side wrap same n d =
     bind_local (variable_local n d) (λ x y _. then_local (loose (expect_local m.Assign) n d)
     (bind_local (loose same n d)
@@ -73,15 +72,19 @@ set_local : (room : ℕ) → Strict any (set_cell room) (set_cell room)
 unfolding set_cell
 set_local room = side_local (expression room) tree.set_cell (expression_local room)
 
+-- what this reads, and a semicolon
+closed_local : {A B : Type 0} (part : Parser A) (wrap : A → B) → Strict any part part
+    → Strict any (closed part wrap) (closed part wrap)
+closed_local part wrap same n d = bind_local (same n d)
+    (λ a b _. then_local (loose (expect_local m.Semi) n d) (pure_local refl n d))
+
 ended_local : (room : ℕ) → Strict any (ended room) (ended room)
 unfolding ended
-ended_local room n d = bind_local (expression_local room n d)
-    (λ a b _. then_local (loose (expect_local m.Semi) n d) (pure_local refl n d))
+ended_local room = closed_local (expression room) (λ x. x) (expression_local room)
 
 ask_statement_local : (room : ℕ) → Strict any (ask_statement room) (ask_statement room)
 unfolding ask_statement
-ask_statement_local room n d = bind_local (ask_local room n d)
-    (λ a b _. then_local (loose (expect_local m.Semi) n d) (pure_local refl n d))
+ask_statement_local room = closed_local (ask room) tree.ask (ask_local room)
 
 otherwise_local : (block : Parser Statements) → Loose any block block → Loose any (otherwise block) (otherwise block)
 unfolding otherwise

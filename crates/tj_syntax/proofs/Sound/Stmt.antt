@@ -14,9 +14,9 @@ use Rattle.tj_syntax.specs.Marks.{Name, Note, Noted, fine, broken, key, mark, us
 use Rattle.tj_syntax.specs.Marks.{number_of}
 use Rattle.tj_syntax.specs.Grammar as g
 use Rattle.tj_syntax.specs.Grammar.{IsExpression, IsGiven, IsStatement}
-use Rattle.tj_syntax.specs.Inner.Input.{Input, Parser, and_then, first, next, expect, names_of, fresh, fresh_by}
+use Rattle.tj_syntax.specs.Inner.Input.{Input, Parser, first, next, expect, names_of, fresh, fresh_by}
 use Rattle.tj_syntax.specs.Inner.Input.{fresh_variable, breach_of, unless, variable}
-use Rattle.tj_syntax.specs.Inner.Reading.{expression, ask, given, let_new, assign, set_cell, ended, ask_statement}
+use Rattle.tj_syntax.specs.Inner.Reading.{expression, ask, given, let_new, assigned, assign, set_cell, ended, ask_statement}
 use Rattle.tj_syntax.proofs.Taken.{Took, took_both, bind_ok, landed}
 use Rattle.tj_syntax.proofs.Sound.Steps.{took_fine, expected}
 use Rattle.tj_syntax.proofs.Sound.AskParts.{expressions_sound, variable_sound}
@@ -136,8 +136,7 @@ assigned_sound : {A : Type 0} (side : Parser A) (P : List Name → List Name →
     → ((x : Name) (notes : List Noted) (y : A) → P (names_of i.tasks) i.vars notes y
     → R ((toks.Name x, use_of i.vars x) ∷ mark m.Assign ∷ (notes ++ mark m.Semi ∷ [])) (wrap (number_of i.vars x) y)
     i.vars)
-    → and_then (variable i) (λ n h. and_then (expect m.Assign h) (λ _ k. and_then (side k)
-    (λ x l. and_then (expect m.Semi l) (λ _ z. Ok (wrap n x, z))))) ≡ Ok (s, j)
+    → assigned side wrap i ≡ Ok (s, j)
     → Made i j (λ notes last. R notes s last)
 assigned_sound side P sound wrap R i j s make h =
     let read = bind_ok (variable i) _ s j h in

@@ -204,34 +204,36 @@ let_new room = do
   add_variable x
   pure (tree.let_new n side)
 
-unfoldable pub assign : ℕ → Parser Statement
-assign room = do
+-- a variable, the mark, what this reads, and a semicolon
+abbrev pub assigned : {A : Type 0} → Parser A → (ℕ → A → Statement) → Parser Statement
+assigned side wrap = do
   n ← variable
   expect m.Assign
-  side ← given room
+  x ← side
   expect m.Semi
-  pure (tree.assign n side)
+  pure (wrap n x)
 
+unfoldable pub assign : ℕ → Parser Statement
+assign room = assigned (given room) tree.assign
+
+-- behind `set`
 unfoldable pub set_cell : ℕ → Parser Statement
-set_cell room = do
-  n ← variable
-  expect m.Assign
-  e ← expression room
+set_cell room = assigned (expression room) tree.set_cell
+
+-- what this reads, and a semicolon
+abbrev pub closed : {A B : Type 0} → Parser A → (A → B) → Parser B
+closed part wrap = do
+  x ← part
   expect m.Semi
-  pure (tree.set_cell n e)
+  pure (wrap x)
 
 -- an expression and its semicolon
 unfoldable pub ended : ℕ → Parser Expression
-ended room = do
-  x ← expression room
-  expect m.Semi
-  pure x
+ended room = closed (expression room) (λ x. x)
 
+-- an ask that is a statement
 unfoldable pub ask_statement : ℕ → Parser Statement
-ask_statement room = do
-  a ← ask room
-  expect m.Semi
-  pure (tree.ask a)
+ask_statement room = closed (ask room) tree.ask
 
 -- what a conditional does otherwise, by the next token
 abbrev pub otherwise_by : Parser Statements → Option Tok → Parser Otherwise
