@@ -49,8 +49,8 @@ pub main_there : (script : Script) (decls : List Decl) (o : Option ℕ) (main : 
     → o ≡ main_among decls → main_of (view.script script) ≡ Some main → o ≡ None → ⊥
 main_there script decls o main same is has lacks = no_task (sym has ∙ main_is script.tasks.items
     ∙ ap (task_at (view.script script)) (ap main_among (sym same) ∙ sym is ∙ lacks)) where
-  no_task : ◌≡◌ {A = Option Task} (Some main) None → ⊥
-  no_task e = cc
+      no_task : ◌≡◌ {A = Option Task} (Some main) None → ⊥
+      no_task e = cc
 
 -- what is unbroken has unbroken parts
 unbroken-front : (a b : List Noted) → AreUnbroken (a ++ b) → AreUnbroken a
