@@ -12,6 +12,14 @@ use crate::stmt::{Arg, Call, Rhs};
 use tj_base::Oom;
 use tj_lex::Word;
 
+/// What is known where a part is listed: the names of tasks and of variables, and the indent.
+#[derive(Clone, Copy)]
+pub(crate) struct Scope<'s> {
+    pub(crate) tasks: &'s [Decl],
+    pub(crate) vars: &'s [Word],
+    pub(crate) indent: &'s [u8],
+}
+
 fn list_argument(text: &mut Vec<u8>, vars: &[Word], x: &Arg) -> Result<(), Oom>
     ensures { OnOk result (text.new.items
         ≡ text.old.items ++ text_of (listing.argument vars.now (view.argument x.now))) }
@@ -92,50 +100,40 @@ fn put_task(text: &mut Vec<u8>, tasks: &[Decl], f: u32) -> Result<(), Oom>
 }
 
 #[tactic(auto, using(crate::proofs::Listed::Views::listing_steps))]
-pub(crate) fn list_ask(
-    text: &mut Vec<u8>,
-    tasks: &[Decl],
-    vars: &[Word],
-    ask: &Call,
-) -> Result<(), Oom>
+pub(crate) fn list_ask(text: &mut Vec<u8>, at: Scope, ask: &Call) -> Result<(), Oom>
     ensures { OnOk result (text.new.items ≡ text.old.items
-        ++ text_of (listing.ask (listing.names_of (map view.task tasks.now)) vars.now
-        (view.ask ask.now))) }
+        ++ text_of (listing.ask (listing.names_of (map view.task at.entry.tasks.now))
+        at.entry.vars.now (view.ask ask.now))) }
 {
     match ask {
         Call::New => put(text, b"new"),
         Call::Fork(f, args) => {
             put(text, b"fork ")?;
-            put_task(text, tasks, *f)?;
+            put_task(text, at.tasks, *f)?;
             put(text, b"(")?;
-            list_arguments(text, vars, args)?;
+            list_arguments(text, at.vars, args)?;
             put(text, b")")
         }
         Call::Get(r, other) => {
             put(text, b"get ")?;
-            list_reference(text, vars, *r)?;
-            list_or_else(text, vars, other)
+            list_reference(text, at.vars, *r)?;
+            list_or_else(text, at.vars, other)
         }
         Call::Join(r, other) => {
             put(text, b"join ")?;
-            list_reference(text, vars, *r)?;
-            list_or_else(text, vars, other)
+            list_reference(text, at.vars, *r)?;
+            list_or_else(text, at.vars, other)
         }
     }
 }
 
-pub(crate) fn list_given(
-    text: &mut Vec<u8>,
-    tasks: &[Decl],
-    vars: &[Word],
-    side: &Rhs,
-) -> Result<(), Oom>
+pub(crate) fn list_given(text: &mut Vec<u8>, at: Scope, side: &Rhs) -> Result<(), Oom>
     ensures { OnOk result (text.new.items ≡ text.old.items
-        ++ text_of (listing.given (listing.names_of (map view.task tasks.now)) vars.now
-        (view.given side.now))) }
+        ++ text_of (listing.given (listing.names_of (map view.task at.entry.tasks.now))
+        at.entry.vars.now (view.given side.now))) }
 {
     match side {
-        Rhs::Call(ask) => list_ask(text, tasks, vars, ask),
-        Rhs::Expr(x) => list_expression(text, vars, x),
+        Rhs::Call(ask) => list_ask(text, at, ask),
+        Rhs::Expr(x) => list_expression(text, at.vars, x),
     }
 }

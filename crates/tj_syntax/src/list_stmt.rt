@@ -6,9 +6,8 @@ ghost use Rattle.tj_syntax.specs.Listing.{text_of};
 ghost use Rattle.tj_syntax.specs.View as view;
 
 use crate::expr::Expr;
-use crate::list_ask::{list_ask, list_given};
+use crate::list_ask::{Scope, list_ask, list_given};
 use crate::list_expr::{list_expression, put, put_name};
-use crate::script::Decl;
 use crate::stmt::{Block, Rhs, Stmt};
 use std::alloc::Global;
 use tj_base::Oom;
@@ -16,21 +15,15 @@ use tj_lex::Word;
 
 /// Adds a variable, and what it is given.
 #[tactic(auto, using(crate::proofs::Listed::Views::listing_steps))]
-fn list_assignment(
-    text: &mut Vec<u8>,
-    tasks: &[Decl],
-    vars: &[Word],
-    x: u32,
-    side: &Rhs,
-) -> Result<(), Oom>
+fn list_assignment(text: &mut Vec<u8>, at: Scope, x: u32, side: &Rhs) -> Result<(), Oom>
     ensures { OnOk result (text.new.items ≡ text.old.items
-        ++ text_of (listing.name vars.now x ∷ listing.assigned
-        (listing.given (listing.names_of (map view.task tasks.now)) vars.now
-        (view.given side.now)))) }
+        ++ text_of (listing.name at.entry.vars.now x ∷ listing.assigned
+        (listing.given (listing.names_of (map view.task at.entry.tasks.now))
+        at.entry.vars.now (view.given side.now)))) }
 {
-    put_name(text, vars, x)?;
+    put_name(text, at.vars, x)?;
     put(text, b" = ")?;
-    list_given(text, tasks, vars, side)?;
+    list_given(text, at, side)?;
     put(text, b";")
 }
 
@@ -62,43 +55,36 @@ fn deeper(alloc: Global, indent: &[u8]) -> Result<Vec<u8>, Oom>
 /// Adds a statement without its first line's indent and its last line's end.
 #[cycle(statement)]
 #[tactic(auto, using(crate::proofs::Listed::Views::listing_steps))]
-fn list_statement(
-    alloc: Global,
-    text: &mut Vec<u8>,
-    tasks: &[Decl],
-    vars: &[Word],
-    indent: &[u8],
-    s: &Stmt,
-) -> Result<(), Oom>
+fn list_statement(alloc: Global, text: &mut Vec<u8>, at: Scope, s: &Stmt) -> Result<(), Oom>
     ensures { OnOk result (text.new.items ≡ text.old.items ++ text_of
-        (listing.statement (listing.names_of (map view.task tasks.now)) vars.now indent.now
-        (view.statement s.now))) }
+        (listing.statement (listing.names_of (map view.task at.entry.tasks.now))
+        at.entry.vars.now at.entry.indent.now (view.statement s.now))) }
 {
     match s {
         Stmt::Let(x, side) => {
             put(text, b"let ")?;
-            list_assignment(text, tasks, vars, *x, side)
+            list_assignment(text, at, *x, side)
         }
-        Stmt::Assign(x, side) => list_assignment(text, tasks, vars, *x, side),
+        Stmt::Assign(x, side) => list_assignment(text, at, *x, side),
         Stmt::Do(ask) => {
-            list_ask(text, tasks, vars, ask)?;
+            list_ask(text, at, ask)?;
             put(text, b";")
         }
-        Stmt::Print(x) => list_between(text, vars, b"print ", x, b";"),
+        Stmt::Print(x) => list_between(text, at.vars, b"print ", x, b";"),
         Stmt::Set(x, e) => {
             put(text, b"set ")?;
-            put_name(text, vars, *x)?;
-            list_between(text, vars, b" = ", e, b";")
+            put_name(text, at.vars, *x)?;
+            list_between(text, at.vars, b" = ", e, b";")
         }
-        Stmt::Return(x) => list_between(text, vars, b"return ", x, b";"),
+        Stmt::Return(x) => list_between(text, at.vars, b"return ", x, b";"),
         Stmt::If(x, body, other) => {
-            list_between(text, vars, b"if ", x, b" ")?;
-            list_block(alloc, text, tasks, vars, indent, body)?;
-            list_else(alloc, text, tasks, vars, indent, other)
+            list_between(text, at.vars, b"if ", x, b" ")?;
+            list_block(alloc, text, at, body)?;
+            list_else(alloc, text, at, other)
         }
         Stmt::While(x, body) => {
-            list_between(text, vars, b"while ", x, b" ")?;
-            list_block(alloc, text, tasks, vars, indent, body)
+            list_between(text, at.vars, b"while ", x, b" ")?;
+            list_block(alloc, text, at, body)
         }
     }
 }
@@ -109,40 +95,36 @@ fn list_statement(
 pub(crate) fn list_block(
     alloc: Global,
     text: &mut Vec<u8>,
-    tasks: &[Decl],
-    vars: &[Word],
-    indent: &[u8],
+    at: Scope,
     body: &Block,
 ) -> Result<(), Oom>
     ensures { OnOk result (text.new.items ≡ text.old.items ++ text_of
-        (listing.block (listing.names_of (map view.task tasks.now)) vars.now indent.now
-        (view.block body.now))) }
+        (listing.block (listing.names_of (map view.task at.entry.tasks.now))
+        at.entry.vars.now at.entry.indent.now (view.block body.now))) }
 {
-    let more = deeper(alloc, indent)?;
+    let more = deeper(alloc, at.indent)?;
+    let inner = Scope {
+        indent: more.as_slice(),
+        ..at
+    };
     put(text, b"{\n")?;
-    list_lines(alloc, text, tasks, vars, more.as_slice(), &body.stmts)?;
-    put(text, indent)?;
+    list_lines(alloc, text, inner, &body.stmts)?;
+    put(text, at.indent)?;
     put(text, b"}")
 }
 
 /// Adds statements, each with its indent and the end of its line.
 #[cycle(statement)]
 #[tactic(auto, using(crate::proofs::Listed::Views::listing_steps))]
-fn list_lines(
-    alloc: Global,
-    text: &mut Vec<u8>,
-    tasks: &[Decl],
-    vars: &[Word],
-    indent: &[u8],
-    stmts: &[Stmt],
-) -> Result<(), Oom>
+fn list_lines(alloc: Global, text: &mut Vec<u8>, at: Scope, stmts: &[Stmt]) -> Result<(), Oom>
     ensures { OnOk result (text.new.items ≡ text.old.items ++ text_of
-        (listing.lines (listing.names_of (map view.task tasks.now)) vars.now indent.now
+        (listing.lines (listing.names_of (map view.task at.entry.tasks.now))
+        at.entry.vars.now at.entry.indent.now
         (view.statements_of (map view.statement stmts.now)))) }
 {
     for s in stmts {
-        put(text, indent)?;
-        list_statement(alloc, text, tasks, vars, indent, s)?;
+        put(text, at.indent)?;
+        list_statement(alloc, text, at, s)?;
         put(text, b"\n")?;
     }
     Ok(())
@@ -150,23 +132,17 @@ fn list_lines(
 
 #[cycle(statement)]
 #[tactic(auto, using(crate::proofs::Listed::Views::listing_steps))]
-fn list_else(
-    alloc: Global,
-    text: &mut Vec<u8>,
-    tasks: &[Decl],
-    vars: &[Word],
-    indent: &[u8],
-    other: &Option<Block>,
-) -> Result<(), Oom>
+fn list_else(alloc: Global, text: &mut Vec<u8>, at: Scope, other: &Option<Block>) -> Result<(), Oom>
     ensures { OnOk result (text.new.items ≡ text.old.items ++ text_of
-        (listing.else_parts (listing.names_of (map view.task tasks.now)) vars.now indent.now
+        (listing.else_parts (listing.names_of (map view.task at.entry.tasks.now))
+        at.entry.vars.now at.entry.indent.now
         (view.otherwise_of (option_map view.block other.now)))) }
 {
     match other {
         None => Ok(()),
         Some(body) => {
             put(text, b" else ")?;
-            list_block(alloc, text, tasks, vars, indent, body)
+            list_block(alloc, text, at, body)
         }
     }
 }

@@ -10,6 +10,7 @@ ghost use Rattle.tj_syntax.specs.Listing as listing;
 ghost use Rattle.tj_syntax.specs.Listing.{text_of};
 ghost use Rattle.tj_syntax.specs.View as view;
 
+use crate::list_ask::Scope;
 use crate::list_expr::put;
 use crate::list_stmt::list_block;
 use crate::script::{Decl, Script};
@@ -66,7 +67,12 @@ fn list_task(alloc: Global, text: &mut Vec<u8>, tasks: &[Decl], task: &Decl) -> 
     put(text, b"(")?;
     list_params(text, params_of(task))?;
     put(text, b") ")?;
-    list_block(alloc, text, tasks, task.vars.as_slice(), b"", &task.body)?;
+    let at = Scope {
+        tasks,
+        vars: task.vars.as_slice(),
+        indent: b"",
+    };
+    list_block(alloc, text, at, &task.body)?;
     put(text, b"\n")
 }
 

@@ -7,8 +7,8 @@ use Rattle.tj_syntax.proofs.list_stmt.+statement.Given as goal
 abbrev pub invariant-list_lines-loop-s : goal.invariant-list_lines-loop-s
 invariant-list_lines-loop-s l =
     l.text.items
-    ++ text_of (lines (names_of (map view.task l.tasks)) l.vars l.indent
+    ++ text_of (lines (names_of (map view.task l.at.tasks.now)) l.at.vars.now l.at.indent.now
     (view.statements_of (map view.statement (drop l.s-index l.stmts))))
     ≡ l.fn.text.items
-    ++ text_of (lines (names_of (map view.task l.tasks)) l.vars l.indent
+    ++ text_of (lines (names_of (map view.task l.at.tasks.now)) l.at.vars.now l.at.indent.now
     (view.statements_of (map view.statement l.stmts)))
