@@ -4,7 +4,7 @@ use Rattle.tj_base.specs.declared.cell.CellId.{CellId}
 use Rattle.tj_core.specs.declared.births.TheConstants.{MAX_CORE_CELLS}
 use Rattle.tj_core.specs.declared.slot.Slot.{Slot}
 use Rattle.tj_core.specs.declared.walk_step.WalkStep.{WalkStep}
-use Rattle.tj_core.specs.declared.walk_step.WalkStep.TheVariants.{Others, Count, Owner, Wait, Again, Alarm, Settle}
+use Rattle.tj_core.specs.declared.walk_step.WalkStep.TheVariants.{Others, Count, Owner, Wait, Again}
 use Rattle.tj_base.specs.Puts.{put}
 use Rattle.tj_events.specs.CoreState.{CellStage, CoreState, owner, stage, present}
 use Rattle.tj_events.specs.Events.{Allowed, after, Walks, staged, restage, walked, MayReadOwner, MayReadWait, MayReadAgain}
