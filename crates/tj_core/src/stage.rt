@@ -1,7 +1,7 @@
 //! What the core answers.
 
 /// The stage of a task.
-#[derive(Clone, Copy, Debug, PartialEq, Eq)]
+#[derive(Clone, Copy, PartialEq, Eq)]
 pub enum Stage {
     /// It had no event yet.
     Fresh,
