@@ -11,8 +11,11 @@ use std::alloc::Global;
 use std::collections::BTreeMap;
 use tj_base::{Name, Oom};
 
+/// The index of the task that owns it, for each cell that a task owns.
+pub type Owners = BTreeMap<Name, usize>;
+
 /// The owners of all cells that these tasks own.
-pub fn owners_of(alloc: Global, tasks: &[Stopped]) -> Result<BTreeMap<Name, usize>, Oom>
+pub fn owners_of(alloc: Global, tasks: &[Stopped]) -> Result<Owners, Oom>
     ensures { IfOk result (AreOwners tasks.now) }
 {
     let mut owners = BTreeMap::new(alloc);
@@ -23,12 +26,7 @@ pub fn owners_of(alloc: Global, tasks: &[Stopped]) -> Result<BTreeMap<Name, usiz
 }
 
 /// The task with this index owns the cells that it owns.
-fn enter_task(
-    alloc: Global,
-    owners: &mut BTreeMap<Name, usize>,
-    index: usize,
-    task: &Stopped,
-) -> Result<(), Oom>
+fn enter_task(alloc: Global, owners: &mut Owners, index: usize, task: &Stopped) -> Result<(), Oom>
     ensures { IfOk result (λ _. (q : Name) → owner_in owners.new q
         ≡ cond (has q (owned_by task.now)) (Some index) (owner_in owners.old q)) }
 {
@@ -42,12 +40,7 @@ fn enter_task(
 }
 
 /// The task with this index owns these cells.
-fn enter_all(
-    alloc: Global,
-    owners: &mut BTreeMap<Name, usize>,
-    index: usize,
-    cells: &[Name],
-) -> Result<(), Oom>
+fn enter_all(alloc: Global, owners: &mut Owners, index: usize, cells: &[Name]) -> Result<(), Oom>
     ensures { IfOk result (λ _. (q : Name) → owner_in owners.new q
         ≡ cond (has q cells.now) (Some index) (owner_in owners.old q)) }
 {
@@ -58,12 +51,7 @@ fn enter_all(
 }
 
 /// The task with this index owns this cell.
-fn enter(
-    alloc: Global,
-    owners: &mut BTreeMap<Name, usize>,
-    index: usize,
-    cell: &Name,
-) -> Result<(), Oom>
+fn enter(alloc: Global, owners: &mut Owners, index: usize, cell: &Name) -> Result<(), Oom>
     ensures { IfOk result (λ _. (q : Name) → owner_in owners.new q
         ≡ cond (same q cell.now) (Some index) (owner_in owners.old q)) }
 {
@@ -73,7 +61,7 @@ fn enter(
 }
 
 /// The index of the task that owns the cell, if one of them does.
-pub fn owner(owners: &BTreeMap<Name, usize>, cell: &Name) -> Option<usize>
+pub fn owner(owners: &Owners, cell: &Name) -> Option<usize>
     ensures { result ≡ owner_in owners.now cell.now }
 {
     owners.get(cell).copied()

@@ -66,26 +66,10 @@ pub fn told_of<B: Body>(alloc: Global, mut points: Vec<Point<B>>) -> Result<Vec<
 {
     let mut tasks = Vec::new(alloc);
     while let Some(point) = points.pop() {
-        tasks.push(stopped_of(point))?;
+        tasks.push(body_of(point).told)?;
     }
     tasks.reverse();
     Ok(tasks)
-}
-
-/// What is told of a task that has stopped at this point.
-fn stopped_of<B: Body>(point: Point<B>) -> Stopped
-    requires { IsSome (outcomes.ending_of point.stage) }
-    ensures { outcomes.stopped_of point ≡ Some result }
-{
-    Stopped {
-        line: TaskLine {
-            name: point.name,
-            prints: point.prints,
-            ending: ending_of(point.stage),
-            owes: point.owed,
-        },
-        holds: point.holds,
-    }
 }
 
 /// What became of a task whose history stops at this stage.

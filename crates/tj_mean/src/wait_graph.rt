@@ -11,10 +11,9 @@ ghost use Rattle.tj_mean.specs.WaitIndexes.{AreNext, LeadsOn, LeadsTo, Next, lin
 
 use crate::least_indexes::least_indexes;
 use crate::outcome::{CycleList, Ending, Link, LinkList};
-use crate::owners::{owner, owners_of};
+use crate::owners::{Owners, owner, owners_of};
 use crate::stopped::Stopped;
 use std::alloc::Global;
-use std::collections::BTreeMap;
 use tj_base::{Items, Name, Oom};
 
 /// Indexes of tasks.
@@ -68,7 +67,7 @@ fn next_tasks(alloc: Global, tasks: &[Stopped]) -> Result<Vec<Option<usize>>, Oo
 }
 
 /// The index of the task that owns the cell that this task waits for, if it waits.
-fn next_of(tasks: &[Stopped], owners: &BTreeMap<Name, usize>, task: &Stopped) -> Option<usize>
+fn next_of(tasks: &[Stopped], owners: &Owners, task: &Stopped) -> Option<usize>
     requires apart { AreApart tasks.now }
     requires in_order { Ascend (map (λ s. s.line.name) tasks.now) }
     requires owners { AreOwners tasks.now owners.now }

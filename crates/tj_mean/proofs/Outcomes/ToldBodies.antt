@@ -23,3 +23,7 @@ module _ {B : Type 0} where
   -- where the same is told with bodies, the same is told
   pub same_without : (ps qs : List (Point B)) → map body_of ps ≡ map body_of qs → map stopped_of ps ≡ map stopped_of qs
   same_without ps qs e = all ps ∙ ap (λ os. map without os) e ∙ sym (all qs)
+
+  -- with a body the same is told of a point
+  pub told_with : (p : Point B) (b : StoppedBody B) → body_of p ≡ Some b → stopped_of p ≡ Some b.told
+  told_with p b e = sym (one p.body (stopped_of p)) ∙ ap without e

@@ -5,6 +5,7 @@ use Rattle.tj_body.specs.Points.{IsIn}
 use Rattle.tj_body.proofs.Lists.{in_left, in_right}
 use Rattle.tj_mean.specs.Outcomes.{stopped_of}
 use Rattle.tj_mean.specs.declared.stopped.Stopped.{Stopped}
+use Rattle.tj_mean.proofs.Outcomes.ToldBodies.{told_with}
 use Rattle.tj_mean.proofs.TakenPoints.{one_told, all_told}
 use Rattle.tj_mean.proofs.stopped.told_of.Goals as goal
 
@@ -15,8 +16,8 @@ loop-point-init g c = (
   ap (λ (l : List Stopped). map (λ s. Some s) (reverse l)) (sym c.new-tasks.ensures.items),
 )
 
-pub stopped_of-requires-after_bounds : goal.stopped_of-requires-after_bounds
-stopped_of-requires-after_bounds g c κs within =
+pub body_of-requires-after_bounds : goal.body_of-requires-after_bounds
+body_of-requires-after_bounds g c κs within =
     let i = c.loop-point.invariant in
     let x = c.in-Some.point in
     c.requires.stopped x
@@ -28,8 +29,8 @@ pub loop-point-preserved : goal.loop-point-preserved
 loop-point-preserved g c =
     let i = c.loop-point.invariant in
     let more = one_told stopped_of c.args.points.items c.loop-point.points.items c.pop.new.self.items i.0
-    c.loop-point.tasks.items c.push.new.self.items i.1 i.2 c.in-Some.point c.stopped_of.result c.in-Some.ensures.items
-    c.stopped_of.ensures c.in_ok-push.ensures.items in
+    c.loop-point.tasks.items c.push.new.self.items i.1 i.2 c.in-Some.point c.body_of.result.told
+    c.in-Some.ensures.items (told_with c.in-Some.point c.body_of.result c.body_of.ensures) c.in_ok-push.ensures.items in
     (c.in-Some.point ∷ i.0, more.0, more.1)
 
 pub returns : goal.returns
