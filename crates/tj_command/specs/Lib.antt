@@ -5,3 +5,5 @@ pub mod Texts
 pub mod ScriptTexts
 pub mod Delivery
 pub mod Numerals
+pub mod OneScript
+pub mod Answers

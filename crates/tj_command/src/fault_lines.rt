@@ -1,12 +1,12 @@
 //! The lines that are written in place of a report: why an input is refused, or that it needs more
 //! cells.
-ghost use Rattle.std.specs.Prelude.{◌≡◌, ◌≢◌, IfOk};
+ghost use Rattle.std.specs.Prelude.{◌≡◌, ◌≢◌, ◌++◌, IfOk, decimal};
 ghost use Rattle.tj_syntax.specs.ScriptTexts.{IsMemory};
 ghost use Rattle.tj_command.specs.ScriptTexts as script_texts;
 ghost use Rattle.tj_command.specs.Texts as texts;
 
 use std::alloc::Global;
-use tj_base::{Oom, add_number};
+use tj_base::{Oom, add_count};
 use tj_lex::{LexFault, Place};
 use tj_syntax::{NoScript, ParseFault};
 
@@ -59,10 +59,8 @@ fn script_fault(alloc: Global, mark: &[u8], at: Place) -> Result<Vec<u8>, Oom>
 {
     let mut line = Vec::from_slice(alloc, b"script fault ")?;
     line.extend_from_slice(mark)?;
-    line.extend_from_slice(b" at ")?;
-    add_number(&mut line, at.line as u128)?;
-    line.extend_from_slice(b":")?;
-    add_number(&mut line, at.column as u128)?;
+    add_count(&mut line, b" at ", at.line as u128)?;
+    add_count(&mut line, b":", at.column as u128)?;
     line.extend_from_slice(b"\n")?;
     Ok(line)
 }
@@ -71,8 +69,15 @@ fn script_fault(alloc: Global, mark: &[u8], at: Place) -> Result<Vec<u8>, Oom>
 pub fn full_line(alloc: Global, cells: u32) -> Result<Vec<u8>, Oom>
     ensures { IfOk result (λ line. line.items ≡ texts.full_line cells) }
 {
-    let mut line = Vec::from_slice(alloc, b"full: more than ")?;
-    add_number(&mut line, cells as u128)?;
-    line.extend_from_slice(b" cells\n")?;
-    Ok(line)
+    count_text(alloc, b"full: more than ", cells as u128, b" cells\n")
+}
+
+/// A number between two texts.
+pub fn count_text(alloc: Global, before: &[u8], count: u128, after: &[u8]) -> Result<Vec<u8>, Oom>
+    ensures { IfOk result (λ text. text.items ≡ before.now ++ decimal count ++ after.now) }
+{
+    let mut text = Vec::new(alloc);
+    add_count(&mut text, before, count)?;
+    text.extend_from_slice(after)?;
+    Ok(text)
 }

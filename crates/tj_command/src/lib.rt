@@ -5,6 +5,7 @@
 mod delivery;
 mod fault_lines;
 mod given;
+mod laws;
 mod limits;
 mod numerals;
 mod output;
@@ -12,8 +13,9 @@ mod script_text;
 mod status;
 
 pub use delivery::put_text;
-pub use fault_lines::{fault_line, full_line};
+pub use fault_lines::{count_text, fault_line, full_line};
 pub use given::{Given, words_given};
+pub use laws::one_script_or_fault;
 pub use limits::Limits;
 pub use numerals::{is_short_numeral, number_up_to};
 pub use output::{Output, status_of};
