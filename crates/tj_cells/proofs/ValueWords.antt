@@ -2,10 +2,10 @@
 use Rattle.tj_cells.proofs.Prelude.{Begins, Bool, Entry, Fill, IsCell, IsIn, List, None, Program, Reference, Some, Sort}
 use Rattle.tj_cells.proofs.Prelude.{View, ap, begins_at, begins_trans, inl, inside, refl, sym, ℕ, ◌∙◌, ◌≡◌, ◌≢◌, ◌≤◌}
 use Rattle.std.proofs.Common.{◌<◌, ◌^◌, length, Option, subst, arith, ⊎_elim}
-use Rattle.tj_words.specs.SeatViews.SeenWords.{FindsBits, FindsEntry, bits_cells}
+use Rattle.tj_words.specs.SeatViews.SeenWords.{FindsBecome, FindsBits, FindsEntry, bits_cells}
 use Rattle.tj_words.specs.LawParts.Telling.{BitsSay, sort_tag, tag_of}
 use Rattle.tj_words.specs.Words.Values.{NamesCell, fill_in}
-use Rattle.tj_words.specs.SeatViews.Views.{saw_bits}
+use Rattle.tj_words.specs.SeatViews.Views.{saw_bits, saw_entry}
 use Rattle.tj_cells.specs.SeenValues.{SeenSays, SeesValue, cells_seen, saw_value, seen_in}
 use Rattle.tj_cells.specs.declared.seen.Seen.{Seen}
 use Rattle.tj_base.specs.declared.cell.Sort.TheVariants as sort
@@ -57,7 +57,10 @@ module _ (born : List Reference) (bits : ℕ) where
     by sort.Task = refl
 
 module _ {B : Type 0} (program : Bool → B → Program B) (cells p tag bits : ℕ) (v0 v1 v2 : View B)
-    (found : FindsEntry program cells p tag v0 v1) (read : FindsBits cells p bits v1 v2) where
+    (finds : FindsEntry program cells p tag v0 v1) (read : FindsBits cells p bits v1 v2) where
+  abbrev found : FindsBecome program cells p (λ e born. saw_entry p e born v0) v0 v1
+  found = finds.0
+
   abbrev e : Entry
   e = found.entry
 
@@ -69,12 +72,12 @@ module _ {B : Type 0} (program : Bool → B → Program B) (cells p tag bits : �
   -- BITS fits a cell where it is one
   pub bits_fit : cells < 2 ^ 32 → NamesCell tag → bits < 2 ^ 32
   bits_fit few names =
-      let l = bits_small read.born bits cells e said.0 read.all.few (subst NamesCell found.tag names) in omega arith
+      let l = bits_small read.born bits cells e said.0 read.all.few (subst NamesCell finds.1 names) in omega arith
 
   pub sees_value : (o : Option Fill) (s : Seen) → o ≡ fill_in tag bits → s ≡ seen_in o
       → SeesValue program cells p s v0 v2
   sees_value o s is at = subst (λ z. SeesValue program cells p z v0 v2)
-      (sym (at ∙ ap seen_in (is ∙ ap (λ n. fill_in n bits) found.tag))) (record {
+      (sym (at ∙ ap seen_in (is ∙ ap (λ n. fill_in n bits) finds.1))) (record {
         entry = e;
         born = read.born;
         reference = found.reference;

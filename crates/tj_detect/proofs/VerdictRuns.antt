@@ -24,14 +24,14 @@ settles Skipped t way w n e = subst (EndsWalk (length w.trail) w.bound) (sym e.1
 ended : {B : Type 0} (verdict : Verdict) (t q : ℕ) (way : Way) (old new : ℕ) (v v' : View B) → MayBlock t q way v
     → Blocks verdict t q way old new v v' → verdict ≢ Alarm → HasEndedWalk t v'
 ended {B} verdict t q way old new v v' may b n = record {
-  custody = now_does (does_after verdict q way b.walker) may.custody;
+  task = now_does (does_after verdict q way b.walker) may.custody;
   held = ap (λ (x : View B). held_in x.tasks t) b.view
       ∙ doing_held v t may.custody may.held (does_after verdict q way b.walker) b.steps (tokens_given verdict);
-  waits_for = q;
+  wait = q;
   way = way;
   walker = b.walker;
-  walks = walks_on verdict q way b.walker n;
-  ends = settles verdict t way b.walker n b.ends;
+  does = walks_on verdict q way b.walker n;
+  may = settles verdict t way b.walker n b.ends;
 }
 
 pub verdicts_off_cycles : (B : Type 0) → VerdictsAreOffCycles B

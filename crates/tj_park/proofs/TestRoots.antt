@@ -272,7 +272,7 @@ module _ (cells : ℕ) (root : TableBody) where
     tag_root p zero w f = let x = f.0 refl in
         subst (λ (u : View TableBody). RootRuns cells root k u × Begins v.born u.born) (sym x.view)
         (still_runs _ refl refl refl refl refl (begins_self v.born), begins_self v.born)
-    tag_root p (suc n) w f = let x = f.1 (λ e. omega (arith, e)) in
+    tag_root p (suc n) w f = let x = (f.1 (λ e. omega (arith, e))).0 in
         subst (λ (u : View TableBody). RootRuns cells root k u × Begins v.born u.born) (sym x.view)
         (still_runs _ refl refl refl refl refl x.begins, x.begins)
 

@@ -59,7 +59,7 @@ module _ {B : Type 0} where
       → SeesOnce program cells f c n v w → ShowsSame v w
   once_same program cells c n once.Tag v w h = dite (ℕ_discrete n 0)
       (λ e. as_it_was v w _ (h.0 e).view refl refl)
-      (λ e. as_it_was v w _ (h.1 e).view refl refl)
+      (λ e. as_it_was v w _ (h.1 e).0.view refl refl)
   once_same program cells c n f v w h = as_it_was v w _ h.view refl refl
 
   -- the store of a word that is written once

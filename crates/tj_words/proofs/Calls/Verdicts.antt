@@ -42,12 +42,12 @@ module _ {B : Type 0} (program : Bool → B → Program B) (key : Key B) (u w : 
 
     may_settle : Allowed key.cells (state_of P key.cells (under program key last)) (event.Settle (cell t))
     may_settle = (
-      h.waits_for,
+      h.wait,
       h.way,
       h.walker,
-      walker_shown program key last.now last.rule id v at t h.custody h.held
-          h.waits_for h.way h.walker h.walks,
-      h.ends,
+      walker_shown program key last.now last.rule id v at t h.task h.held
+          h.wait h.way h.walker h.does,
+      h.may,
     )
 
     off_cycle : ¬ IsOnCycleAt program key t w

@@ -322,18 +322,20 @@ module _ {B : Type 0} {program : Bool → B → Program B} {key : Key B} {s : St
           refl,
           (
             (λ n. absurd (z n)),
-            (λ n. record {
-              entry = has.0;
-              born = law.born;
-              reference = has.1.written.reference;
-              begins = so.begins;
-              is = has.1.written.is;
-              becomes = will_have r id v at c has;
-              same = same_entry r id v at c has;
-              all = are_cells law;
-              tag = has.1.tag_is;
-              view = refl;
-            }),
+            (λ n. (
+              record {
+                entry = has.0;
+                born = law.born;
+                reference = has.1.written.reference;
+                begins = so.begins;
+                is = has.1.written.is;
+                becomes = will_have r id v at c has;
+                same = same_entry r id v at c has;
+                all = are_cells law;
+                view = refl;
+              },
+              has.1.tag_is,
+            )),
           ),
         ),
       ))

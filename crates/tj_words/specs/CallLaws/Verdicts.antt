@@ -1,37 +1,28 @@
 -- What a walk that has ended says of cycles: no cycle through its task stood just after the task had published its
 -- wait, whatever was done between.
-use Rattle.std.specs.Prelude.{◌≡◌, ℕ, Bool, List, Some}
+use Rattle.std.specs.Prelude.{◌≡◌, ℕ, Bool, List}
 use mathlib.Core.Option.{some}
 use lib.ListN.{get_elem?}
 use Rattle.tj_body.specs.Programs.{Program}
 use Rattle.tj_events.specs.Events.{MaySettle}
 use Rattle.tj_events.specs.WaitGraph.{IsOnCycle}
 use Rattle.tj_events.specs.declared.walk.Way.{Way}
-use Rattle.tj_events.specs.declared.walk.Walker.{Walker}
 use Rattle.tj_words.specs.declared.phase.Phase.TheVariants as phase
 use Rattle.tj_words.specs.declared.phase.Walk.TheVariants as walk
 use Rattle.tj_words.specs.declared.table.Key.{Key}
-use Rattle.tj_words.specs.declared.view.Custody.{Custody}
-use Rattle.tj_words.specs.declared.view.Does.TheVariants as does
 use Rattle.tj_words.specs.declared.view.View.{View}
+use Rattle.tj_words.specs.Calls.WalkViews.{IsWalking}
 use Rattle.tj_words.specs.CallLaws.CallRuns.{AreAskedMoments, IsAskedCall, under}
 use Rattle.tj_words.specs.CallLaws.RestedRuns.{Ruled, last_moment}
 use Rattle.tj_words.specs.CallLaws.StepCalls as call
-use Rattle.tj_words.specs.LawParts.Holding.{held_in}
 use Rattle.tj_words.specs.Steps.TableRuns.{state_of}
 use Rattle.tj_words.specs.Words.Lists.{cell}
 use Rattle.tj_words.specs.Words.Phases.{phase_in}
 
 module _ {B : Type 0} where
   -- a seat with this view holds t, whose walk is at its end: OTHERS was read as 0, or the last load of the walk ends it
-  pub record HasEndedWalk (t : ℕ) (v : View B) : Type 0 where
-    pub custody : Custody B
-    pub held : held_in v.tasks t ≡ Some custody
-    pub waits_for : ℕ
-    pub way : Way
-    pub walker : Walker
-    pub walks : custody.does ≡ does.Walking waits_for way walker
-    pub ends : MaySettle walker
+  abbrev pub HasEndedWalk : ℕ → View B → Type 0
+  HasEndedWalk t v = IsWalking t (λ p way w. MaySettle w) v
 
   module _ (program : Bool → B → Program B) (key : Key B) where
     -- a call by which t publishes that it waits for p

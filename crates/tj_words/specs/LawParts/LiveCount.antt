@@ -35,32 +35,26 @@ pub record LiveCount (cells live : ℕ) (phase : ℕ → Phase) (tokens : List �
   pub counted : live ≡ live_tasks phase cells + total tokens
   pub stays_at_rest : Each (λ j rested. rested ≡ true → live ≡ 0) rested
 
+-- of a task that runs, walks or has alarmed what is asked of such a one; an unborn one is neither
+abbrev pub DoesOne : Type 0 → Type 0 → Type 0 → Does → Type 0
+DoesOne runs walks alarmed does.Unborn = ⊥
+DoesOne runs walks alarmed does.Fresh = runs
+DoesOne runs walks alarmed does.Running = runs
+DoesOne runs walks alarmed does.Raised = runs
+DoesOne runs walks alarmed (does.Walking c way w) = walks
+DoesOne runs walks alarmed (does.Alarmed c way w) = alarmed
+
 -- the task runs
 abbrev pub DoesRun : Does → Type 0
-DoesRun does.Unborn = ⊥
-DoesRun does.Fresh = Unit {0}
-DoesRun does.Running = Unit {0}
-DoesRun does.Raised = Unit {0}
-DoesRun (does.Walking c way w) = ⊥
-DoesRun (does.Alarmed c way w) = ⊥
+DoesRun = DoesOne (Unit {0}) ⊥ ⊥
 
 -- the task walks
 abbrev pub DoesWalk : Does → Type 0
-DoesWalk does.Unborn = ⊥
-DoesWalk does.Fresh = ⊥
-DoesWalk does.Running = ⊥
-DoesWalk does.Raised = ⊥
-DoesWalk (does.Walking c way w) = Unit {0}
-DoesWalk (does.Alarmed c way w) = ⊥
+DoesWalk = DoesOne ⊥ (Unit {0}) ⊥
 
 -- the task has alarmed
 abbrev pub HasAlarmed : Does → Type 0
-HasAlarmed does.Unborn = ⊥
-HasAlarmed does.Fresh = ⊥
-HasAlarmed does.Running = ⊥
-HasAlarmed does.Raised = ⊥
-HasAlarmed (does.Walking c way w) = ⊥
-HasAlarmed (does.Alarmed c way w) = Unit {0}
+HasAlarmed = DoesOne ⊥ ⊥ (Unit {0})
 
 -- the seat has a step of the chains to come: a push or the exchange in its place, a shut, or a rest
 abbrev pub HasWake : List Push → List ℕ → Option Rest → Type 0

@@ -113,8 +113,9 @@ module _ {B : Type 0} where
     pub unknown : All (λ (f : Filled). f.cell ≢ c) v.filled
     pub view : w ≡ loaded_once v
 
-  -- the load of TAG, where something has become of the cell: that which the seat knew, where it knew
-  pub record FindsEntry (program : Bool → B → Program B) (cells c n : ℕ) (v w : View B) : Type 0 where
+  -- a seat finds that something has become of the cell: that which it knew, where it knew; its view is then so
+  pub record FindsBecome (program : Bool → B → Program B) (cells c : ℕ) (after : Entry → List Reference → View B)
+      (v w : View B) : Type 0 where
     pub entry : Entry
     pub born : List Reference
     pub reference : Reference
@@ -123,8 +124,12 @@ module _ {B : Type 0} where
     pub becomes : WillHave program v reference.name entry
     pub same : All (λ (f : Filled). f.cell ≡ c → f.entry ≡ entry) v.filled
     pub all : AreCells cells born
-    pub tag : n ≡ tag_of entry
-    pub view : w ≡ saw_entry c entry born v
+    pub view : w ≡ after entry born
+
+  -- the load of TAG, where something has become of the cell, of which this is the tag
+  abbrev pub FindsEntry : (Bool → B → Program B) → ℕ → ℕ → ℕ → View B → View B → Type 0
+  FindsEntry program cells c n v w = (found : FindsBecome program cells c (λ e born. saw_entry c e born v) v w)
+      × (n ≡ tag_of found.entry)
 
   -- the load of BITS: of a cell of which the seat knows what has become, it says that
   pub record FindsBits (cells c n : ℕ) (v w : View B) : Type 0 where
@@ -148,17 +153,9 @@ module _ {B : Type 0} where
   abbrev pub once_load : (Bool → B → Program B) → ℕ → Once → ℕ → Tells B
   once_load program cells f c st m n m' = (m'.1 ≡ m.1) × SeesOnce program cells f c n m.0 m'.0
 
-  -- the head was found shut: something has become of the cell, that which the seat knew, where it knew
-  pub record FindsShut (program : Bool → B → Program B) (cells c : ℕ) (v w : View B) : Type 0 where
-    pub born : List Reference
-    pub entry : Entry
-    pub reference : Reference
-    pub begins : Begins v.born born
-    pub is : IsCell born c reference
-    pub becomes : WillHave program v reference.name entry
-    pub same : All (λ (f : Filled). f.cell ≡ c → f.entry ≡ entry) v.filled
-    pub all : AreCells cells born
-    pub view : w ≡ found_shut c born entry v
+  -- the head was found shut: something has become of the cell
+  abbrev pub FindsShut : (Bool → B → Program B) → ℕ → ℕ → View B → View B → Type 0
+  FindsShut program cells c v w = FindsBecome program cells c (λ e born. found_shut c born e v) v w
 
   -- the chain was found, of which each one found before is an end; it has at most as many tasks as there are cells, and
   -- its head names one of these

@@ -107,62 +107,7 @@ abbrev pub longer : List Reference → List Reference → List Reference
 longer xs ys = cond (nat_lt (length xs) (length ys)) ys xs
 
 module _ {B : Type 0} where
-  -- a view is cut in two: the second seat has a lot of 4, and knows what the first one knows, but for that one's notes
-  abbrev pub left_half : View B → View B
-  left_half v = record v { lot = v.lot - least_lot }
-
-  -- and this is what the second one has
-  abbrev pub right_half : View B → View B
-  right_half v = record {
-    about = v.about;
-    lot = least_lot;
-    refused = 0;
-    tokens = 0;
-    cleared = 0;
-    hand = None;
-    tasks = [];
-    known = v.known;
-    born = v.born;
-    wrote = v.wrote;
-    filled = v.filled;
-    seen = v.seen;
-    dues = [];
-    pushes = [];
-    shuts = [];
-    rest = None;
-    closed = v.closed;
-    found = v.found;
-    rested = v.rested;
-    plain_loads = 0;
-    once_loads = 0;
-    steps = 0;
-    stop = 0;
-    stored = [];
-    told = [];
-    notes = [];
-  }
-
-  -- a seat takes another in, and knows what either of them knew, but for that one's notes
-  abbrev pub both : View B → View B → View B
-  both v w = record v {
-    lot = v.lot + w.lot;
-    refused = v.refused + w.refused;
-    known = v.known ++ w.known;
-    born = longer v.born w.born;
-    wrote = v.wrote ++ w.wrote;
-    filled = v.filled ++ w.filled;
-    seen = v.seen ++ w.seen;
-    closed = v.closed ++ w.closed;
-    found = v.found ++ w.found;
-    rested = v.rested || w.rested;
-    plain_loads = v.plain_loads + w.plain_loads;
-    once_loads = v.once_loads + w.once_loads;
-    steps = v.steps + w.steps;
-    stored = v.stored ++ w.stored;
-    told = v.told ++ w.told;
-  }
-
-  -- what is left of the other view
+  -- a view that says nothing: what is left of a seat that another takes in
   abbrev pub spent : View B
   spent = record {
     about = None;
@@ -191,6 +136,45 @@ module _ {B : Type 0} where
     stored = [];
     told = [];
     notes = [];
+  }
+
+  -- a view is cut in two: the second seat has a lot of 4, and knows what the first one knows, but for that one's notes
+  abbrev pub left_half : View B → View B
+  left_half v = record v { lot = v.lot - least_lot }
+
+  -- and this is what the second one has
+  abbrev pub right_half : View B → View B
+  right_half v = record spent {
+    about = v.about;
+    lot = least_lot;
+    known = v.known;
+    born = v.born;
+    wrote = v.wrote;
+    filled = v.filled;
+    seen = v.seen;
+    closed = v.closed;
+    found = v.found;
+    rested = v.rested;
+  }
+
+  -- a seat takes another in, and knows what either of them knew, but for that one's notes
+  abbrev pub both : View B → View B → View B
+  both v w = record v {
+    lot = v.lot + w.lot;
+    refused = v.refused + w.refused;
+    known = v.known ++ w.known;
+    born = longer v.born w.born;
+    wrote = v.wrote ++ w.wrote;
+    filled = v.filled ++ w.filled;
+    seen = v.seen ++ w.seen;
+    closed = v.closed ++ w.closed;
+    found = v.found ++ w.found;
+    rested = v.rested || w.rested;
+    plain_loads = v.plain_loads + w.plain_loads;
+    once_loads = v.once_loads + w.once_loads;
+    steps = v.steps + w.steps;
+    stored = v.stored ++ w.stored;
+    told = v.told ++ w.told;
   }
 
   -- a seat that may be merged: it holds no task and no token, has no cell in hand, and has nothing to come
