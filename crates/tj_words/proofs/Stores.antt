@@ -12,3 +12,4 @@ pub mod WrittenOnce
 pub mod OnceStores
 pub mod WordStores
 pub mod EntryStores
+pub mod CellSteps

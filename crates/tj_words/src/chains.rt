@@ -13,9 +13,8 @@ ghost use Rattle.tj_words.specs.SeatViews.SeenWords.{FindsChain, FindsShut};
 
 use crate::head::Head;
 use crate::offsets::{head_at, next_at};
-use crate::plays::{Naming, NextStore, PushExchange, ShutSwap};
+use crate::plays::{NextStore, PushExchange, ShutSwap};
 use crate::table::{Laid, WSeat};
-use std::marker::Brand;
 use tj_base::CellId;
 use tj_body::Body;
 
@@ -29,21 +28,9 @@ impl<B: Body> Laid<B> {
         ensures seat { IsSameSeat seat.old seat.new }
         ensures view { seat.new.me.0 ≡ stored_next t.0 behind seat.old.me.0 }
     {
-        self.store_next::<Brand>(seat, t, behind.word());
-    }
-
-    fn store_next<M: Naming>(&self, seat: &mut WSeat<B>, t: CellId, behind: u64)
-        requires named { M.cell ≡ t.0 }
-        requires table { seat.old.table_id ≡ self.now.table.shared.table_id }
-        requires cell { t.0 < self.now.cells }
-        requires small { behind ≤ self.now.cells }
-        requires push { HasPush t.0 seat.old.me.0 }
-        ensures seat { IsSameSeat seat.old seat.new }
-        ensures view { seat.new.me.0 ≡ stored_next t.0 (heads.head_in behind) seat.old.me.0 }
-    {
         self.table
             .shared
-            .store::<NextStore<M>>(seat, next_at(t), behind);
+            .store::<NextStore>(seat, next_at(t), behind.word());
     }
 
     /// Adds a task to a chain that begins so. Tells how the chain begins that was found.
@@ -70,37 +57,11 @@ impl<B: Body> Laid<B> {
         ensures longer { result ≢ behind → result ≢ Head.Shut
             → FindsLonger p.0 behind result seat.old.me.0 seat.new.me.0 }
     {
-        Head::of_word(self.exchange_head::<Brand>(seat, p, t, behind))
-    }
-
-    fn exchange_head<M: Naming>(
-        &self,
-        seat: &mut WSeat<B>,
-        p: CellId,
-        t: CellId,
-        behind: Head,
-    ) -> u64
-        requires named { (M.cells ≡ self.now.cells) × (M.cell ≡ p.0) }
-        requires table { seat.old.table_id ≡ self.now.table.shared.table_id }
-        requires cell { p.0 < self.now.cells }
-        requires task { t.0 < self.now.cells }
-        requires small { heads.head_word behind ≤ self.now.cells }
-        requires push { HasPushBehind t.0 p.0 behind seat.old.me.0 }
-        ensures seat { IsSameSeat seat.old seat.new }
-        ensures head { result ≤ heads.shut_word }
-        ensures pushed { result ≡ heads.head_word behind
-            → seat.new.me.0 ≡ pushed t.0 seat.old.me.0 }
-        ensures shut { result ≢ heads.head_word behind → heads.head_in result ≡ Head.Shut
-            → FindsShut (program_of B.places B.awaits B.left B.asks B.then)
-            self.now.cells p.0 seat.old.me.0 seat.new.me.0 }
-        ensures other { result ≢ heads.head_word behind → heads.head_in result ≢ Head.Shut
-            → FindsChain self.now.cells p.0 (heads.head_in result) seat.old.me.0 seat.new.me.0 }
-        ensures moment { WasSo (program_of B.places B.awaits B.left B.asks B.then) (head_at p.0)
-            result seat.old.me.0 }
-    {
-        self.table
-            .shared
-            .compare_exchange::<PushExchange<M>>(seat, head_at(p), behind.word(), t.0 as u64 + 1)
+        Head::of_word(
+            self.table
+                .shared
+                .compare_exchange::<PushExchange>(seat, head_at(p), behind.word(), t.0 as u64 + 1),
+        )
     }
 
     /// Shuts a chain, and takes it.
@@ -115,25 +76,10 @@ impl<B: Body> Laid<B> {
         ensures chain { result ≢ Head.Shut
             → TakesChain self.now.cells p.0 result seat.old.me.0 seat.new.me.0 }
     {
-        Head::of_word(self.swap_head::<Brand>(seat, p))
-    }
-
-    fn swap_head<M: Naming>(&self, seat: &mut WSeat<B>, p: CellId) -> u64
-        requires named { (M.cells ≡ self.now.cells) × (M.cell ≡ p.0) }
-        requires table { seat.old.table_id ≡ self.now.table.shared.table_id }
-        requires cell { p.0 < self.now.cells }
-        requires entry { KnowsEntry p.0 seat.old.me.0 }
-        requires rest { seat.old.me.0.rest ≡ None }
-        requires backed { IsBacked seat.old.me.0 }
-        ensures seat { IsSameSeat seat.old seat.new }
-        ensures head { result ≤ heads.shut_word }
-        ensures again { heads.head_in result ≡ Head.Shut
-            → seat.new.me.0 ≡ found_taken p.0 seat.old.me.0 }
-        ensures chain { heads.head_in result ≢ Head.Shut
-            → TakesChain self.now.cells p.0 (heads.head_in result) seat.old.me.0 seat.new.me.0 }
-    {
-        self.table
-            .shared
-            .swap::<ShutSwap<M>>(seat, head_at(p), Head::Shut.word())
+        Head::of_word(
+            self.table
+                .shared
+                .swap::<ShutSwap>(seat, head_at(p), Head::Shut.word()),
+        )
     }
 }

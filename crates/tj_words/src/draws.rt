@@ -6,7 +6,7 @@ ghost use Rattle.tj_words.specs.Calls.DrawViews.{FindsCell, FindsNone, MayDraw, 
 ghost use Rattle.tj_words.specs.Calls.DrawViews.{new_slots};
 ghost use Rattle.tj_words.specs.SeatViews.SeatSteps.{IsSameSeat};
 
-use crate::draw_plays::{Draw, Drawing, MarkStore, WordStore};
+use crate::draw_plays::{Draw, MarkStore, WordStore};
 use crate::offsets::{COUNT, Once, once_at, phase_at};
 use crate::phase::Phase;
 use crate::plays::Naming;
@@ -39,8 +39,8 @@ impl<B: Body> Laid<B> {
         }
     }
 
-    fn add_count<M: Drawing>(&self, seat: &mut WSeat<B>, t: CellId, sort: Sort) -> u64
-        requires named { (M.cells ≡ self.now.cells) × (M.maker ≡ t.0) × (M.sort ≡ sort) }
+    fn add_count<M: Naming>(&self, seat: &mut WSeat<B>, t: CellId, sort: Sort) -> u64
+        requires named { (M.task ≡ t.0) × (M.sort ≡ sort) }
         requires table { seat.old.table_id ≡ self.now.table.shared.table_id }
         requires may { MayDraw (program_of B.places B.awaits B.left B.asks B.then) t.0
             seat.old.me.0 }
@@ -69,7 +69,7 @@ impl<B: Body> Laid<B> {
     }
 
     fn store_word<M: Naming>(&self, seat: &mut WSeat<B>, c: CellId, f: Once, v: u64)
-        requires named { (M.cell ≡ c.0) × (M.word ≡ f) }
+        requires named { M.word ≡ f }
         requires table { seat.old.table_id ≡ self.now.table.shared.table_id }
         requires cell { c.0 < self.now.cells }
         requires may { MayWrite c.0 f v seat.old.me.0 }

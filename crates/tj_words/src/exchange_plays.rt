@@ -1,21 +1,19 @@
 //! What an exchange of PHASE tells its caller.
-use crate::plays::Naming;
 use crate::record::Rec;
 use crate::view::View;
 use atomic_table::Play;
-use std::marker::PhantomData;
 use tj_body::Body;
 
 /// An exchange of PHASE.
-pub(crate) struct PhaseExchange<M> {
-    naming: PhantomData<M>,
-}
+pub(crate) struct PhaseExchange;
 
-impl<B: Body, M: Naming> Play<Option<Rec<B>>, View<B>> for PhaseExchange<M> {
+impl<B: Body> Play<Option<Rec<B>>, View<B>> for PhaseExchange {
     ghost use Rattle.tj_body.specs.Programs.{program_of};
     ghost use Rattle.tj_words.specs.Calls.ExchangeViews.{phase_swap};
     ghost use Rattle.tj_words.specs.SeatViews.Moments.{at_moment};
+    ghost use Rattle.tj_words.specs.SeatViews.SeatSteps.{of_its_cell};
 
     ghost then = { at_moment (program_of B.places B.awaits B.left B.asks B.then)
-        (phase_swap (program_of B.places B.awaits B.left B.asks B.then) M.cell M.cells) };
+        (of_its_cell (λ cells c. phase_swap
+        (program_of B.places B.awaits B.left B.asks B.then) c cells)) };
 }

@@ -12,10 +12,8 @@ ghost use Rattle.tj_words.specs.SeatViews.Views.{noted_step};
 use crate::exchange_plays::PhaseExchange;
 use crate::offsets::phase_at;
 use crate::phase::Phase;
-use crate::plays::Naming;
 use crate::table::{Laid, WSeat};
 use crate::view::Noted;
-use std::marker::Brand;
 use tj_base::CellId;
 use tj_body::Body;
 use tj_events::event_keeps_facts;
@@ -44,7 +42,7 @@ impl<B: Body> Laid<B> {
             (program_of B.places B.awaits B.left B.asks B.then) (phase_at t.0) (phases.phase_word p)
             seat.old.me.0) }
     {
-        let found = self.exchange_phase::<Brand>(seat, t, was, to);
+        let found = self.exchange_phase(seat, t, was, to);
         if found == was.word() {
             Ok(())
         } else {
@@ -52,14 +50,7 @@ impl<B: Body> Laid<B> {
         }
     }
 
-    fn exchange_phase<M: Naming>(
-        &self,
-        seat: &mut WSeat<B>,
-        t: CellId,
-        was: Phase,
-        to: Phase,
-    ) -> u64
-        requires named { (M.cells ≡ self.now.cells) × (M.cell ≡ t.0) }
+    fn exchange_phase(&self, seat: &mut WSeat<B>, t: CellId, was: Phase, to: Phase) -> u64
         requires table { seat.old.table_id ≡ self.now.table.shared.table_id }
         requires cell { t.0 < self.now.cells }
         requires may { MaySwap t.0 was to seat.old.me.0 }
@@ -77,6 +68,6 @@ impl<B: Body> Laid<B> {
         event_keeps_facts();
         self.table
             .shared
-            .compare_exchange::<PhaseExchange<M>>(seat, phase_at(t), was.word(), to.word())
+            .compare_exchange::<PhaseExchange>(seat, phase_at(t), was.word(), to.word())
     }
 }

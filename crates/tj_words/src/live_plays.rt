@@ -1,12 +1,11 @@
 //! What the steps on LIVE and STOP, and the stores of Ready and of Ended, tell their caller.
 ghost use Rattle.tj_words.specs.Calls.LiveViews.{ended_store, live_add, live_sub, ready_store};
 ghost use Rattle.tj_words.specs.Calls.LiveViews.{stop_store};
+ghost use Rattle.tj_words.specs.SeatViews.SeatSteps.{of_its_cell};
 
-use crate::plays::Naming;
 use crate::record::Rec;
 use crate::view::View;
 use atomic_table::Play;
-use std::marker::PhantomData;
 use tj_body::Body;
 
 /// The add to LIVE.
@@ -31,19 +30,15 @@ impl<B: Body> Play<Option<Rec<B>>, View<B>> for StopStore {
 }
 
 /// A store of Ready into PHASE.
-pub(crate) struct ReadyStore<M> {
-    naming: PhantomData<M>,
-}
+pub(crate) struct ReadyStore;
 
-impl<B: Body, M: Naming> Play<Option<Rec<B>>, View<B>> for ReadyStore<M> {
-    ghost then = { ready_store M.cell };
+impl<B: Body> Play<Option<Rec<B>>, View<B>> for ReadyStore {
+    ghost then = { of_its_cell (λ cells. ready_store) };
 }
 
 /// A store of Ended into PHASE.
-pub(crate) struct EndedStore<M> {
-    naming: PhantomData<M>,
-}
+pub(crate) struct EndedStore;
 
-impl<B: Body, M: Naming> Play<Option<Rec<B>>, View<B>> for EndedStore<M> {
-    ghost then = { ended_store M.cell };
+impl<B: Body> Play<Option<Rec<B>>, View<B>> for EndedStore {
+    ghost then = { of_its_cell (λ cells. ended_store) };
 }

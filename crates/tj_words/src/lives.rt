@@ -12,10 +12,8 @@ ghost use Rattle.tj_words.specs.SeatViews.Views.{stored_stop};
 use crate::live_plays::{EndedStore, LiveAdd, LiveSub, ReadyStore, StopStore};
 use crate::offsets::{LIVE, STOP, phase_at};
 use crate::phase::Phase;
-use crate::plays::Naming;
 use crate::record::Rec;
 use crate::table::{Laid, WSeat};
-use std::marker::Brand;
 use tj_base::CellId;
 use tj_body::Body;
 
@@ -82,21 +80,9 @@ impl<B: Body> Laid<B> {
         ensures id { seat.new.id ≡ seat.old.id }
         ensures me { seat.new.me ≡ (released t.0 seat.old.me.0, seat.old.me.1) }
     {
-        self.store_ready::<Brand>(seat, t);
-    }
-
-    fn store_ready<M: Naming>(&self, seat: &mut WSeat<B>, t: CellId)
-        requires named { M.cell ≡ t.0 }
-        requires table { seat.old.table_id ≡ self.now.table.shared.table_id }
-        requires task { t.0 < self.now.cells }
-        requires may { MayRelease t.0 seat.old.me.0 }
-        ensures table { seat.new.table_id ≡ seat.old.table_id }
-        ensures id { seat.new.id ≡ seat.old.id }
-        ensures me { seat.new.me ≡ (released t.0 seat.old.me.0, seat.old.me.1) }
-    {
         self.table
             .shared
-            .store::<ReadyStore<M>>(seat, phase_at(t), Phase::Ready.word());
+            .store::<ReadyStore>(seat, phase_at(t), Phase::Ready.word());
     }
 
     /// Says that a task has ended, whose record with its finish was put into its slot.
@@ -108,20 +94,8 @@ impl<B: Body> Laid<B> {
         ensures id { seat.new.id ≡ seat.old.id }
         ensures me { seat.new.me ≡ (ended t.0 seat.old.me.0, rest seat.old.me.1) }
     {
-        self.store_ended::<Brand>(seat, t);
-    }
-
-    fn store_ended<M: Naming>(&self, seat: &mut WSeat<B>, t: CellId)
-        requires named { M.cell ≡ t.0 }
-        requires table { seat.old.table_id ≡ self.now.table.shared.table_id }
-        requires task { t.0 < self.now.cells }
-        requires may { MayEnd (program_of B.places B.awaits B.left B.asks B.then) t.0 seat.old.me }
-        ensures table { seat.new.table_id ≡ seat.old.table_id }
-        ensures id { seat.new.id ≡ seat.old.id }
-        ensures me { seat.new.me ≡ (ended t.0 seat.old.me.0, rest seat.old.me.1) }
-    {
         self.table
             .shared
-            .store::<EndedStore<M>>(seat, phase_at(t), Phase::Ended.word());
+            .store::<EndedStore>(seat, phase_at(t), Phase::Ended.word());
     }
 }

@@ -72,20 +72,8 @@ impl<B: Body> Laid<B> {
         ensures some { 0 < result }
         ensures few { result ≤ self.now.cells }
     {
-        let found = self.load_count::<Brand>(seat);
+        let found = self.table.shared.load::<CountLoad>(seat, COUNT);
         found.min(self.cells as u64) as u32
-    }
-
-    fn load_count<M: Naming>(&self, seat: &mut WSeat<B>) -> u64
-        requires named { M.cells ≡ self.now.cells }
-        requires table { seat.old.table_id ≡ self.now.table.shared.table_id }
-        ensures seat { IsSameSeat seat.old seat.new }
-        ensures view { seat.new.me.0 ≡ loaded_plain Noted.Count result seat.old.me.0 }
-        ensures some { steps.IsCount self.now.cells result }
-        ensures moment { WasSo (program_of B.places B.awaits B.left B.asks B.then) count_at result
-            seat.old.me.0 }
-    {
-        self.table.shared.load::<CountLoad<M>>(seat, COUNT)
     }
 
     /// The owner of a cell.
@@ -99,20 +87,7 @@ impl<B: Body> Laid<B> {
         ensures moment { WasSo (program_of B.places B.awaits B.left B.asks B.then) (own_at c.0)
             (owner_word (owner_number result)) seat.old.me.0 }
     {
-        owner_of_word(self.load_owner::<Brand>(seat, c))
-    }
-
-    fn load_owner<M: Naming>(&self, seat: &mut WSeat<B>, c: CellId) -> u64
-        requires named { (M.cells ≡ self.now.cells) × (M.cell ≡ c.0) }
-        requires table { seat.old.table_id ≡ self.now.table.shared.table_id }
-        requires cell { c.0 < self.now.cells }
-        ensures seat { IsSameSeat seat.old seat.new }
-        ensures view { seat.new.me.0 ≡ loaded_plain (Noted.Owner c.0) result seat.old.me.0 }
-        ensures owner { result ≤ self.now.cells }
-        ensures moment { WasSo (program_of B.places B.awaits B.left B.asks B.then) (own_at c.0)
-            result seat.old.me.0 }
-    {
-        self.table.shared.load::<OwnerLoad<M>>(seat, own_at(c))
+        owner_of_word(self.table.shared.load::<OwnerLoad>(seat, own_at(c)))
     }
 
     /// The phase of a cell. Where it is the first of the seat's rest, the way of its wait is known then.
@@ -126,21 +101,7 @@ impl<B: Body> Laid<B> {
         ensures moment { WasSo (program_of B.places B.awaits B.left B.asks B.then) (phase_at t.0)
             (phases.phase_word result) seat.old.me.0 }
     {
-        Phase::of_word(self.load_phase::<Brand>(seat, t))
-    }
-
-    fn load_phase<M: Naming>(&self, seat: &mut WSeat<B>, t: CellId) -> u64
-        requires named { (M.cells ≡ self.now.cells) × (M.cell ≡ t.0) }
-        requires table { seat.old.table_id ≡ self.now.table.shared.table_id }
-        requires cell { t.0 < self.now.cells }
-        ensures seat { IsSameSeat seat.old seat.new }
-        ensures view { seat.new.me.0 ≡ loaded_phase t.0 (phases.phase_in result) seat.old.me.0 }
-        ensures first { FirstTold t.0 (phases.phase_in result) seat.old.me.0 }
-        ensures phase { codes.IsPhaseWord self.now.cells result }
-        ensures moment { WasSo (program_of B.places B.awaits B.left B.asks B.then) (phase_at t.0)
-            result seat.old.me.0 }
-    {
-        self.table.shared.load::<PhaseLoad<M>>(seat, phase_at(t))
+        Phase::of_word(self.table.shared.load::<PhaseLoad>(seat, phase_at(t)))
     }
 
     /// The head of the chain of those who wait for a cell.
@@ -154,22 +115,7 @@ impl<B: Body> Laid<B> {
         ensures open { result ≢ Head.Shut
             → FindsChain self.now.cells p.0 result seat.old.me.0 seat.new.me.0 }
     {
-        Head::of_word(self.load_head::<Brand>(seat, p))
-    }
-
-    fn load_head<M: Naming>(&self, seat: &mut WSeat<B>, p: CellId) -> u64
-        requires named { (M.cells ≡ self.now.cells) × (M.cell ≡ p.0) }
-        requires table { seat.old.table_id ≡ self.now.table.shared.table_id }
-        requires cell { p.0 < self.now.cells }
-        ensures seat { IsSameSeat seat.old seat.new }
-        ensures head { result ≤ heads.shut_word }
-        ensures shut { heads.head_in result ≡ Head.Shut
-            → FindsShut (program_of B.places B.awaits B.left B.asks B.then)
-            self.now.cells p.0 seat.old.me.0 seat.new.me.0 }
-        ensures open { heads.head_in result ≢ Head.Shut
-            → FindsChain self.now.cells p.0 (heads.head_in result) seat.old.me.0 seat.new.me.0 }
-    {
-        self.table.shared.load::<HeadLoad<M>>(seat, head_at(p))
+        Head::of_word(self.table.shared.load::<HeadLoad>(seat, head_at(p)))
     }
 
     /// What NEXT of a task names. The view says what was loaded.
@@ -184,21 +130,7 @@ impl<B: Body> Laid<B> {
         ensures moment { WasSo (program_of B.places B.awaits B.left B.asks B.then) (next_at t.0)
             (heads.head_word result) seat.old.me.0 }
     {
-        Head::of_word(self.load_next::<Brand>(seat, t))
-    }
-
-    fn load_next<M: Naming>(&self, seat: &mut WSeat<B>, t: CellId) -> u64
-        requires named { (M.cells ≡ self.now.cells) × (M.cell ≡ t.0) }
-        requires table { seat.old.table_id ≡ self.now.table.shared.table_id }
-        requires cell { t.0 < self.now.cells }
-        ensures seat { IsSameSeat seat.old seat.new }
-        ensures view { seat.new.me.0 ≡ noted_step (Noted.Next t.0) result seat.old.me.0 }
-        ensures next { result ≤ self.now.cells }
-        ensures first { NextTold t.0 (heads.head_in result) seat.old.me.0 }
-        ensures moment { WasSo (program_of B.places B.awaits B.left B.asks B.then) (next_at t.0)
-            result seat.old.me.0 }
-    {
-        self.table.shared.load::<NextLoad<M>>(seat, next_at(t))
+        Head::of_word(self.table.shared.load::<NextLoad>(seat, next_at(t)))
     }
 
     /// A word that is written once.
@@ -214,7 +146,7 @@ impl<B: Body> Laid<B> {
     }
 
     fn load_once<M: Naming>(&self, seat: &mut WSeat<B>, c: CellId, f: Once) -> u64
-        requires named { (M.cells ≡ self.now.cells) × (M.cell ≡ c.0) × (M.word ≡ f) }
+        requires named { M.word ≡ f }
         requires table { seat.old.table_id ≡ self.now.table.shared.table_id }
         requires cell { c.0 < self.now.cells }
         requires may { MayRead f c.0 seat.old.me.0 }

@@ -38,21 +38,24 @@ fn first_word(cell: CellId) -> usize
 
 /// The index of the word OWN.
 pub(crate) fn own_at(cell: CellId) -> usize
-    ensures { result ≡ offsets.own_at cell.0 }
+    ensures word { result ≡ offsets.own_at cell.0 }
+    ensures cell { offsets.cell_at result ≡ cell.0 }
 {
     first_word(cell)
 }
 
 /// The index of the word PHASE.
 pub(crate) fn phase_at(cell: CellId) -> usize
-    ensures { result ≡ offsets.phase_at cell.0 }
+    ensures word { result ≡ offsets.phase_at cell.0 }
+    ensures cell { offsets.cell_at result ≡ cell.0 }
 {
     first_word(cell) + 1
 }
 
 /// The index of a word that is written once.
 pub(crate) fn once_at(cell: CellId, word: Once) -> usize
-    ensures { result ≡ offsets.once_at cell.0 word }
+    ensures word { result ≡ offsets.once_at cell.0 word }
+    ensures cell { offsets.cell_at result ≡ cell.0 }
 {
     let offset = match word {
         Once::Tag => 2,
@@ -67,14 +70,16 @@ pub(crate) fn once_at(cell: CellId, word: Once) -> usize
 
 /// The index of the word HEAD.
 pub(crate) fn head_at(cell: CellId) -> usize
-    ensures { result ≡ offsets.head_at cell.0 }
+    ensures word { result ≡ offsets.head_at cell.0 }
+    ensures cell { offsets.cell_at result ≡ cell.0 }
 {
     first_word(cell) + 8
 }
 
 /// The index of the word NEXT.
 pub(crate) fn next_at(cell: CellId) -> usize
-    ensures { result ≡ offsets.next_at cell.0 }
+    ensures word { result ≡ offsets.next_at cell.0 }
+    ensures cell { offsets.cell_at result ≡ cell.0 }
 {
     first_word(cell) + 9
 }

@@ -1,40 +1,34 @@
 //! What the stores of an owner, and of what becomes of a cell, tell.
 ghost use Rattle.tj_words.specs.Calls.EntryViews.{tag_store};
 ghost use Rattle.tj_words.specs.Calls.OwnerViews.{owner_put};
+ghost use Rattle.tj_words.specs.SeatViews.SeatSteps.{of_its_cell};
 
-use crate::plays::Naming;
 use crate::record::Rec;
 use crate::view::View;
 use atomic_table::Play;
-use std::marker::PhantomData;
 use tj_body::Body;
 
 /// A store of OWN.
-pub(crate) struct OwnerPut<M> {
-    naming: PhantomData<M>,
-}
+pub(crate) struct OwnerPut;
 
-impl<B: Body, M: Naming> Play<Option<Rec<B>>, View<B>> for OwnerPut<M> {
-    ghost then = { owner_put M.cell };
+impl<B: Body> Play<Option<Rec<B>>, View<B>> for OwnerPut {
+    ghost then = { of_its_cell (λ cells. owner_put) };
 }
 
 /// A store of BITS.
-pub(crate) struct BitsPut<M> {
-    naming: PhantomData<M>,
-}
+pub(crate) struct BitsPut;
 
-impl<B: Body, M: Naming> Play<Option<Rec<B>>, View<B>> for BitsPut<M> {
+impl<B: Body> Play<Option<Rec<B>>, View<B>> for BitsPut {
     ghost use Rattle.tj_body.specs.Programs.{program_of};
     ghost use Rattle.tj_words.specs.Calls.EntryViews.{bits_store};
 
-    ghost then = { bits_store (program_of B.places B.awaits B.left B.asks B.then) M.cell };
+    ghost then = { of_its_cell (λ cells. bits_store
+        (program_of B.places B.awaits B.left B.asks B.then)) };
 }
 
 /// A store of TAG.
-pub(crate) struct TagPut<M> {
-    naming: PhantomData<M>,
-}
+pub(crate) struct TagPut;
 
-impl<B: Body, M: Naming> Play<Option<Rec<B>>, View<B>> for TagPut<M> {
-    ghost then = { tag_store M.cell };
+impl<B: Body> Play<Option<Rec<B>>, View<B>> for TagPut {
+    ghost then = { of_its_cell (λ cells. tag_store) };
 }

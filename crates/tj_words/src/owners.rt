@@ -10,9 +10,7 @@ ghost use Rattle.tj_words.specs.SeatViews.SeatSteps.{IsSameSeat};
 use crate::offsets::{Once, once_at, own_at};
 use crate::owner::word_of_owner;
 use crate::owner_plays::{BitsPut, OwnerPut, TagPut};
-use crate::plays::Naming;
 use crate::table::{Laid, WSeat};
-use std::marker::Brand;
 use tj_base::CellId;
 use tj_body::Body;
 use tj_events::event_keeps_facts;
@@ -27,19 +25,10 @@ impl<B: Body> Laid<B> {
         ensures seat { IsSameSeat seat.old seat.new }
         ensures view { PutsOwner c.0 (owner_number o) seat.old.me.0 seat.new.me.0 }
     {
-        self.store_owner::<Brand>(seat, c, word_of_owner(o));
-    }
-
-    fn store_owner<M: Naming>(&self, seat: &mut WSeat<B>, c: CellId, o: u64)
-        requires named { M.cell ≡ c.0 }
-        requires table { seat.old.table_id ≡ self.now.table.shared.table_id }
-        requires cell { c.0 < self.now.cells }
-        requires may { MayPutOwner c.0 (owner_in o) seat.old.me.0 }
-        ensures seat { IsSameSeat seat.old seat.new }
-        ensures view { PutsOwner c.0 (owner_in o) seat.old.me.0 seat.new.me.0 }
-    {
         event_keeps_facts();
-        self.table.shared.store::<OwnerPut<M>>(seat, own_at(c), o);
+        self.table
+            .shared
+            .store::<OwnerPut>(seat, own_at(c), word_of_owner(o));
     }
 
     /// Writes a word that is written once: PARENT, KID, DEPTH and JUMP of a cell in hand, and BITS
@@ -54,14 +43,13 @@ impl<B: Body> Laid<B> {
             seat.old.me.0 seat.new.me.0 }
     {
         match f {
-            Once::Tag => self.store_tag::<Brand>(seat, c, v),
-            Once::Bits => self.store_bits::<Brand>(seat, c, v),
+            Once::Tag => self.store_tag(seat, c, v),
+            Once::Bits => self.store_bits(seat, c, v),
             _ => self.put_tree_word(seat, c, f, v),
         }
     }
 
-    fn store_bits<M: Naming>(&self, seat: &mut WSeat<B>, c: CellId, v: u64)
-        requires named { M.cell ≡ c.0 }
+    fn store_bits(&self, seat: &mut WSeat<B>, c: CellId, v: u64)
         requires table { seat.old.table_id ≡ self.now.table.shared.table_id }
         requires cell { c.0 < self.now.cells }
         requires may { MayPutBits (program_of B.places B.awaits B.left B.asks B.then) c.0 v
@@ -72,11 +60,10 @@ impl<B: Body> Laid<B> {
     {
         self.table
             .shared
-            .store::<BitsPut<M>>(seat, once_at(c, Once::Bits), v);
+            .store::<BitsPut>(seat, once_at(c, Once::Bits), v);
     }
 
-    fn store_tag<M: Naming>(&self, seat: &mut WSeat<B>, c: CellId, v: u64)
-        requires named { M.cell ≡ c.0 }
+    fn store_tag(&self, seat: &mut WSeat<B>, c: CellId, v: u64)
         requires table { seat.old.table_id ≡ self.now.table.shared.table_id }
         requires cell { c.0 < self.now.cells }
         requires may { MayPutTag c.0 v seat.old.me.0 }
@@ -85,6 +72,6 @@ impl<B: Body> Laid<B> {
     {
         self.table
             .shared
-            .store::<TagPut<M>>(seat, once_at(c, Once::Tag), v);
+            .store::<TagPut>(seat, once_at(c, Once::Tag), v);
     }
 }

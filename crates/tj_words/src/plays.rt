@@ -3,9 +3,10 @@ ghost use Rattle.std.specs.Prelude.{ℕ, ◌≤◌};
 ghost use Rattle.tj_words.specs.Calls.ChainSteps.{next_store, push_exchange, shut_swap};
 ghost use Rattle.tj_words.specs.Calls.ParkSteps.{phase_load};
 ghost use Rattle.tj_words.specs.SeatViews.SeenWords.{head_load, next_load, once_load};
+ghost use Rattle.tj_base.specs.declared.cell.Sort.{Sort};
 ghost use Rattle.tj_words.specs.declared.offsets.Once.{Once};
 ghost use Rattle.tj_words.specs.SeatViews.Moments.{at_moment};
-ghost use Rattle.tj_words.specs.SeatViews.SeatSteps.{IsCount, live_load, plain_load};
+ghost use Rattle.tj_words.specs.SeatViews.SeatSteps.{IsCount, live_load, of_its_cell, plain_load};
 ghost use Rattle.tj_words.specs.declared.view.Noted.TheVariants as note;
 
 use crate::offsets::Once;
@@ -13,61 +14,57 @@ use crate::record::Rec;
 use crate::view::View;
 use atomic_table::Play;
 use std::marker::{Brand, PhantomData};
+use tj_base::Sort;
 use tj_body::Body;
 
-/// What a step is about, for the proof alone: a step sees words and views, and no arguments.
+/// What a step is about that its word doesn't say, for the proof alone: a step sees words and views,
+/// and no arguments.
 pub(crate) trait Naming {
-    /// How many cells the table has.
-    ghost cells: { ℕ };
-
-    /// The cell.
-    ghost cell: { ℕ };
+    /// The task that walks, raises OTHERS or draws.
+    ghost task: { ℕ };
 
     /// The word that is written once.
     ghost word: { Once };
+
+    /// The sort of a new cell.
+    ghost sort: { Sort };
 }
 
 impl Naming for Brand {
-    ghost cells = { 0 };
-
-    ghost cell = { 0 };
+    ghost task = { 0 };
 
     ghost word = { Once.Tag };
+
+    ghost sort = { Sort.Promise };
 }
 
 /// A load of COUNT that is no event.
-pub(crate) struct CountLoad<M> {
-    naming: PhantomData<M>,
-}
+pub(crate) struct CountLoad;
 
-impl<B: Body, M: Naming> Play<Option<Rec<B>>, View<B>> for CountLoad<M> {
+impl<B: Body> Play<Option<Rec<B>>, View<B>> for CountLoad {
     ghost use Rattle.tj_body.specs.Programs.{program_of};
 
     ghost then = { at_moment (program_of B.places B.awaits B.left B.asks B.then)
-        (plain_load note.Count (IsCount M.cells)) };
+        (of_its_cell (λ cells c. plain_load note.Count (IsCount cells))) };
 }
 
 /// A load of OWN that is no event.
-pub(crate) struct OwnerLoad<M> {
-    naming: PhantomData<M>,
-}
+pub(crate) struct OwnerLoad;
 
-impl<B: Body, M: Naming> Play<Option<Rec<B>>, View<B>> for OwnerLoad<M> {
+impl<B: Body> Play<Option<Rec<B>>, View<B>> for OwnerLoad {
     ghost use Rattle.tj_body.specs.Programs.{program_of};
 
     ghost then = { at_moment (program_of B.places B.awaits B.left B.asks B.then)
-        (plain_load (note.Owner M.cell) (λ n. n ≤ M.cells)) };
+        (of_its_cell (λ cells c. plain_load (note.Owner c) (λ n. n ≤ cells))) };
 }
 
 /// A load of PHASE that is no event.
-pub(crate) struct PhaseLoad<M> {
-    naming: PhantomData<M>,
-}
+pub(crate) struct PhaseLoad;
 
-impl<B: Body, M: Naming> Play<Option<Rec<B>>, View<B>> for PhaseLoad<M> {
+impl<B: Body> Play<Option<Rec<B>>, View<B>> for PhaseLoad {
     ghost use Rattle.tj_body.specs.Programs.{program_of};
 
-    ghost then = { at_moment (program_of B.places B.awaits B.left B.asks B.then) (phase_load M.cells M.cell) };
+    ghost then = { at_moment (program_of B.places B.awaits B.left B.asks B.then) (of_its_cell phase_load) };
 }
 
 /// A load of LIVE.
@@ -91,25 +88,21 @@ impl<B: Body> Play<Option<Rec<B>>, View<B>> for StopLoad {
 }
 
 /// A load of HEAD.
-pub(crate) struct HeadLoad<M> {
-    naming: PhantomData<M>,
-}
+pub(crate) struct HeadLoad;
 
-impl<B: Body, M: Naming> Play<Option<Rec<B>>, View<B>> for HeadLoad<M> {
+impl<B: Body> Play<Option<Rec<B>>, View<B>> for HeadLoad {
     ghost use Rattle.tj_body.specs.Programs.{program_of};
 
-    ghost then = { head_load (program_of B.places B.awaits B.left B.asks B.then) M.cells M.cell };
+    ghost then = { of_its_cell (head_load (program_of B.places B.awaits B.left B.asks B.then)) };
 }
 
 /// A load of NEXT.
-pub(crate) struct NextLoad<M> {
-    naming: PhantomData<M>,
-}
+pub(crate) struct NextLoad;
 
-impl<B: Body, M: Naming> Play<Option<Rec<B>>, View<B>> for NextLoad<M> {
+impl<B: Body> Play<Option<Rec<B>>, View<B>> for NextLoad {
     ghost use Rattle.tj_body.specs.Programs.{program_of};
 
-    ghost then = { at_moment (program_of B.places B.awaits B.left B.asks B.then) (next_load M.cells M.cell) };
+    ghost then = { at_moment (program_of B.places B.awaits B.left B.asks B.then) (of_its_cell next_load) };
 }
 
 /// A load of a word that is written once.
@@ -120,36 +113,30 @@ pub(crate) struct OnceLoad<M> {
 impl<B: Body, M: Naming> Play<Option<Rec<B>>, View<B>> for OnceLoad<M> {
     ghost use Rattle.tj_body.specs.Programs.{program_of};
 
-    ghost then = { once_load (program_of B.places B.awaits B.left B.asks B.then) M.cells M.word
-        M.cell };
+    ghost then = { of_its_cell (λ cells. once_load
+        (program_of B.places B.awaits B.left B.asks B.then) cells M.word) };
 }
 
 /// A store of NEXT.
-pub(crate) struct NextStore<M> {
-    naming: PhantomData<M>,
-}
+pub(crate) struct NextStore;
 
-impl<B: Body, M: Naming> Play<Option<Rec<B>>, View<B>> for NextStore<M> {
-    ghost then = { next_store M.cell };
+impl<B: Body> Play<Option<Rec<B>>, View<B>> for NextStore {
+    ghost then = { of_its_cell (λ cells. next_store) };
 }
 
 /// An exchange of HEAD that adds a task to the chain.
-pub(crate) struct PushExchange<M> {
-    naming: PhantomData<M>,
-}
+pub(crate) struct PushExchange;
 
-impl<B: Body, M: Naming> Play<Option<Rec<B>>, View<B>> for PushExchange<M> {
+impl<B: Body> Play<Option<Rec<B>>, View<B>> for PushExchange {
     ghost use Rattle.tj_body.specs.Programs.{program_of};
 
     ghost then = { at_moment (program_of B.places B.awaits B.left B.asks B.then)
-        (push_exchange (program_of B.places B.awaits B.left B.asks B.then) M.cells M.cell) };
+        (of_its_cell (push_exchange (program_of B.places B.awaits B.left B.asks B.then))) };
 }
 
 /// A swap of HEAD that shuts it.
-pub(crate) struct ShutSwap<M> {
-    naming: PhantomData<M>,
-}
+pub(crate) struct ShutSwap;
 
-impl<B: Body, M: Naming> Play<Option<Rec<B>>, View<B>> for ShutSwap<M> {
-    ghost then = { shut_swap M.cells M.cell };
+impl<B: Body> Play<Option<Rec<B>>, View<B>> for ShutSwap {
+    ghost then = { of_its_cell shut_swap };
 }

@@ -6,10 +6,8 @@ ghost use Rattle.tj_words.specs.Calls.WaitViews.{MayPutWait, PutsWait};
 
 use crate::offsets::phase_at;
 use crate::phase::{Phase, Walk};
-use crate::plays::Naming;
 use crate::table::{Laid, WSeat};
 use crate::wait_plays::WaitStore;
-use std::marker::Brand;
 use tj_base::CellId;
 use tj_body::Body;
 use tj_events::{Way, event_keeps_facts};
@@ -26,23 +24,9 @@ impl<B: Body> Laid<B> {
         ensures id { seat.new.id ≡ seat.old.id }
         ensures puts { PutsWait t.0 p.0 way walk seat.old.me seat.new.me }
     {
-        self.store_wait::<Brand>(seat, t, p, way, walk);
-    }
-
-    fn store_wait<M: Naming>(&self, seat: &mut WSeat<B>, t: CellId, p: CellId, way: Way, walk: Walk)
-        requires named { M.cell ≡ t.0 }
-        requires table { seat.old.table_id ≡ self.now.table.shared.table_id }
-        requires task { t.0 < self.now.cells }
-        requires cell { p.0 < self.now.cells }
-        requires may { MayPutWait (program_of B.places B.awaits B.left B.asks B.then) t.0 p.0 way
-            walk seat.old.me }
-        ensures table { seat.new.table_id ≡ seat.old.table_id }
-        ensures id { seat.new.id ≡ seat.old.id }
-        ensures puts { PutsWait t.0 p.0 way walk seat.old.me seat.new.me }
-    {
         event_keeps_facts();
         self.table
             .shared
-            .store::<WaitStore<M>>(seat, phase_at(t), Phase::Waiting(p, way, walk).word());
+            .store::<WaitStore>(seat, phase_at(t), Phase::Waiting(p, way, walk).word());
     }
 }

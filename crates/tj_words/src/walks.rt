@@ -22,10 +22,11 @@ ghost use Rattle.tj_words.specs.Calls.WalkViews.{turned};
 use crate::offsets::{COUNT, OTHERS, own_at, phase_at};
 use crate::owner::owner_of_word;
 use crate::phase::Phase;
+use crate::plays::Naming;
 use crate::table::{Laid, WSeat};
 use crate::view::{Does, Noted};
 use crate::walk_plays::{
-    Acting, OthersAdd, OthersSubtraction, WalkerCount, WalkerOthers, WalkerOwner, WalkerWait,
+    OthersAdd, OthersSubtraction, WalkerCount, WalkerOthers, WalkerOwner, WalkerWait,
 };
 use std::marker::Brand;
 use tj_base::CellId;
@@ -66,8 +67,8 @@ impl<B: Body> Laid<B> {
         found.min(self.cells as u64) as u32
     }
 
-    fn walker_count<M: Acting>(&self, seat: &mut WSeat<B>, t: CellId) -> u64
-        requires named { (M.cells ≡ self.now.cells) × (M.task ≡ t.0) }
+    fn walker_count<M: Naming>(&self, seat: &mut WSeat<B>, t: CellId) -> u64
+        requires named { M.task ≡ t.0 }
         requires table { seat.old.table_id ≡ self.now.table.shared.table_id }
         requires walks { IsWalking t.0 (λ p way w. MayCount way w) seat.old.me.0 }
         ensures seat { IsSameSeat seat.old seat.new }
@@ -118,8 +119,8 @@ impl<B: Body> Laid<B> {
         owner_of_word(self.walker_owner::<Brand>(seat, c, t))
     }
 
-    fn walker_owner<M: Acting>(&self, seat: &mut WSeat<B>, c: CellId, t: CellId) -> u64
-        requires named { (M.cells ≡ self.now.cells) × (M.task ≡ t.0) }
+    fn walker_owner<M: Naming>(&self, seat: &mut WSeat<B>, c: CellId, t: CellId) -> u64
+        requires named { M.task ≡ t.0 }
         requires table { seat.old.table_id ≡ self.now.table.shared.table_id }
         requires cell { c.0 < self.now.cells }
         requires walks { IsWalking t.0 (λ p way w. (c.0 ≡ present p w.trail) × MayLoadOwner w)
@@ -171,8 +172,8 @@ impl<B: Body> Laid<B> {
         Phase::of_word(self.walker_wait::<Brand>(seat, u, t))
     }
 
-    fn walker_wait<M: Acting>(&self, seat: &mut WSeat<B>, u: CellId, t: CellId) -> u64
-        requires named { (M.cells ≡ self.now.cells) × (M.task ≡ t.0) × (M.owner ≡ u.0) }
+    fn walker_wait<M: Naming>(&self, seat: &mut WSeat<B>, u: CellId, t: CellId) -> u64
+        requires named { M.task ≡ t.0 }
         requires table { seat.old.table_id ≡ self.now.table.shared.table_id }
         requires cell { u.0 < self.now.cells }
         requires walks { IsWalking t.0 (λ p way w. MayLoadWait t.0 u.0 w) seat.old.me.0 }
@@ -200,7 +201,7 @@ impl<B: Body> Laid<B> {
         self.walker_others::<Brand>(seat, by) as u32
     }
 
-    fn walker_others<M: Acting>(&self, seat: &mut WSeat<B>, t: CellId) -> u64
+    fn walker_others<M: Naming>(&self, seat: &mut WSeat<B>, t: CellId) -> u64
         requires named { M.task ≡ t.0 }
         requires table { seat.old.table_id ≡ self.now.table.shared.table_id }
         requires walks { IsWalking t.0 (λ p way w. MayReadOthers way w) seat.old.me.0 }
@@ -226,7 +227,7 @@ impl<B: Body> Laid<B> {
         self.add_other::<Brand>(seat, t);
     }
 
-    fn add_other<M: Acting>(&self, seat: &mut WSeat<B>, t: CellId)
+    fn add_other<M: Naming>(&self, seat: &mut WSeat<B>, t: CellId)
         requires named { M.task ≡ t.0 }
         requires table { seat.old.table_id ≡ self.now.table.shared.table_id }
         requires runs { MayRaise t.0 seat.old.me.0 }

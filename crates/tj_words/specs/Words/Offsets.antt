@@ -1,5 +1,5 @@
 -- Which word is which.
-use Rattle.std.specs.Prelude.{ℕ, ◌+◌, ◌*◌, List, slice_index_or}
+use Rattle.std.specs.Prelude.{ℕ, ◌+◌, ◌-◌, ◌*◌, ◌/◌, List, slice_index_or}
 use Rattle.tj_words.specs.declared.offsets.Once.{Once}
 use Rattle.tj_words.specs.declared.offsets.Once.TheVariants.{Tag, Bits, Parent, Kid, Depth, Jump}
 
@@ -38,6 +38,10 @@ own_at cell = first_word cell
 -- where PHASE of a cell stands
 abbrev pub phase_at : ℕ → ℕ
 phase_at cell = first_word cell + 1
+
+-- the cell of which the word at an index is one, where it is none of the table's own
+abbrev pub cell_at : ℕ → ℕ
+cell_at i = (i - 4) / 10
 
 -- where a word of a cell stands that is written once
 abbrev pub once_at : ℕ → Once → ℕ

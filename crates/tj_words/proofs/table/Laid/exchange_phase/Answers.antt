@@ -1,19 +1,21 @@
 use Rattle.tj_words.proofs.Prelude.{arith, either, eqb, phase_swap, refl, sym, ◌∙◌}
+use Rattle.tj_words.specs.Words.Offsets.{cell_at}
 use Rattle.tj_words.proofs.Lemmas.{moment_allowed, so_too}
 use Rattle.tj_words.proofs.Phases.PhaseExchanges.{swap_allowed}
 use Rattle.tj_words.proofs.table.Laid.exchange_phase.Goals as goal
 
 pub compare_exchange-requires : goal.compare_exchange-requires
-compare_exchange-requires g c = let a = c.args in let e = a.self.now.key_cells in (
-  c.requires.table,
-  omega (arith, a.self.now.words, a.self.now.some, c.requires.cell, c.phase_at.ensures),
-  moment_allowed _ _ _ _ _ c.phase_at.result c.word.result c.word-2.result
-      (λ n. either (eqb n c.word.result) c.word-2.result n) (phase_swap _ g.M.Naming.cell g.M.Naming.cells)
-      (swap_allowed _ _ c.event_keeps_facts.ensures _ _ _ g.M.Naming.cells g.M.Naming.cell a.t.0 c.phase_at.result
-      c.word.result c.word-2.result a.was a.to (c.requires.named.0 ∙ sym e) c.requires.named.1
-      (omega (arith, e, c.requires.cell)) c.phase_at.ensures c.word.ensures.word c.word.ensures.back
-      c.word-2.ensures.word c.word-2.ensures.back c.requires.may),
-)
+compare_exchange-requires g c = let a = c.args in let e = a.self.now.key_cells in
+    let cells = a.self.now.table.shared.table_id.slots in let cell = cell_at c.phase_at.result in (
+      c.requires.table,
+      omega (arith, a.self.now.words, a.self.now.some, c.requires.cell, c.phase_at.ensures.word),
+      moment_allowed _ _ _ _ _ c.phase_at.result c.word.result c.word-2.result
+          (λ n. either (eqb n c.word.result) c.word-2.result n) (phase_swap _ cell cells)
+          (swap_allowed _ _ c.event_keeps_facts.ensures _ _ _ cells cell a.t.0 c.phase_at.result
+          c.word.result c.word-2.result a.was a.to (a.self.now.slots ∙ sym e) c.phase_at.ensures.cell
+          (omega (arith, e, c.requires.cell)) c.phase_at.ensures.word c.word.ensures.word c.word.ensures.back
+          c.word-2.ensures.word c.word-2.ensures.back c.requires.may),
+    )
 
 pub returns-clause-moment : goal.returns-clause-moment
-returns-clause-moment g c = so_too c.phase_at.ensures refl c.compare_exchange.ensures.2.1
+returns-clause-moment g c = so_too c.phase_at.ensures.word refl c.compare_exchange.ensures.2.1

@@ -1,10 +1,23 @@
-use Rattle.tj_words.proofs.Prelude.{NextTold, refl, subst, sym}
-use Rattle.tj_words.proofs.SeatLoads.MomentSteps.{so_too}
+use Rattle.tj_words.proofs.Prelude.{NextTold, arith, next_load, subst, sym, ◌∙◌}
+use Rattle.tj_words.specs.Words.Offsets.{cell_at}
+use Rattle.tj_words.proofs.Lemmas.{moment_allowed, so_too}
+use Rattle.tj_words.proofs.SeatLoads.KnowLoads.{next_allowed}
+use Rattle.tj_words.proofs.Stores.CellSteps.{its_cell}
 use Rattle.tj_words.proofs.table.Laid.next_of.Goals as goal
 
+pub load-requires : goal.load-requires
+load-requires g c = let a = c.args in let e = a.self.now.key_cells in
+    let cells = a.self.now.table.shared.table_id.slots in let cell = cell_at c.next_at.result in (
+      c.requires.table,
+      omega (arith, a.self.now.words, a.self.now.some, c.requires.cell, c.next_at.ensures.word),
+      moment_allowed _ _ _ _ _ c.next_at.result 0 0 (λ n. n) (next_load cells cell)
+          (next_allowed _ _ _ _ _ a.t.0 c.next_at.result cells cell (omega (arith, e, c.requires.cell))
+          c.next_at.ensures.word (a.self.now.slots ∙ sym e) c.next_at.ensures.cell),
+    )
+
 pub returns-clause-moment : goal.returns-clause-moment
-returns-clause-moment g c = so_too refl (sym c.of_word.ensures.back) c.load_next.ensures.moment
+returns-clause-moment g c = so_too c.next_at.ensures.word (sym c.of_word.ensures.back) c.load.ensures.2.1
 
 pub returns-clause-first : goal.returns-clause-first
 returns-clause-first g c = subst (λ h. NextTold c.args.t.0 h c.args.seat.now.me.0) (sym c.of_word.ensures.head)
-    c.load_next.ensures.first
+    (its_cell next_load 0 0 c.args.self.now.slots c.next_at.ensures.cell c.load.ensures.2.0).3

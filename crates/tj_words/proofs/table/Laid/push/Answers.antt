@@ -1,21 +1,49 @@
-use Rattle.tj_words.proofs.Prelude.{arith, refl, sym, ◌∙◌}
-use Rattle.tj_words.proofs.Lemmas.{so_too}
+use Rattle.tj_words.proofs.Prelude.{ap, arith, either, eqb, head_word, push_exchange, refl, sym, ◌+◌, ◌∙◌}
+use Rattle.tj_words.specs.Calls.ChainSteps.{pushed}
+use Rattle.tj_words.specs.Words.Offsets.{cell_at}
+use Rattle.tj_words.proofs.Lemmas.{moment_allowed, so_too}
 use Rattle.tj_words.proofs.Calls.PushRuns.{chain_found, finds_longer, found_other, word_back}
+use Rattle.tj_words.proofs.Stores.CellSteps.{its_cell}
+use Rattle.tj_words.proofs.Waiters.HeadSteps.{push_allowed, is_open}
 use Rattle.tj_words.proofs.table.Laid.push.Goals as goal
 
+pub compare_exchange-requires : goal.compare_exchange-requires
+compare_exchange-requires g c = let a = c.args in let e = a.self.now.key_cells in
+    let cells = a.self.now.table.shared.table_id.slots in let cell = cell_at c.head_at.result in (
+      c.requires.table,
+      omega (arith, a.self.now.words, a.self.now.some, c.requires.cell, c.head_at.ensures.word),
+      moment_allowed _ _ _ _ _ c.head_at.result c.word.result (a.t.0 + 1)
+          (λ n. either (eqb n c.word.result) (a.t.0 + 1) n) (push_exchange _ cells cell)
+          (push_allowed _ _ _ _ _ a.p.0 a.t.0 c.head_at.result c.word.result (a.t.0 + 1) cells cell
+          a.behind (omega (arith, e, c.requires.cell)) (omega (arith, e, c.requires.task)) c.head_at.ensures.word
+          (a.self.now.slots ∙ sym e) c.head_at.ensures.cell c.word.ensures.back (omega arith) c.requires.push
+          (is_open a.behind a.self.now.cells (omega (arith, a.self.now.few)) c.requires.small)),
+    )
+
+pub returns-clause-pushed : goal.returns-clause-pushed
+returns-clause-pushed g c = λ e. let a = c.args in (its_cell (push_exchange _) c.word.result (a.t.0 + 1)
+    a.self.now.slots c.head_at.ensures.cell c.compare_exchange.ensures.2.0).2
+    (sym c.of_word.ensures.back ∙ (ap head_word e ∙ sym c.word.ensures.word))
+    ∙ ap (λ t. pushed t a.seat.now.me.0) (omega arith)
+
 pub returns-clause-moment : goal.returns-clause-moment
-returns-clause-moment g c = so_too refl (sym c.of_word.ensures.back) c.exchange_head.ensures.moment
+returns-clause-moment g c =
+    so_too c.head_at.ensures.word (sym c.of_word.ensures.back) c.compare_exchange.ensures.2.1
 
 pub returns-clause-other : goal.returns-clause-other
-returns-clause-other g c = λ n m. let few = c.args.self.now.few in
-    found_other c.args.behind c.of_word.result c.exchange_head.result c.of_word.ensures.head
-    (word_back c.args.behind c.args.self.now.cells (omega arith) c.requires.small) c.exchange_head.ensures.other n m
+returns-clause-other g c = λ n m. let a = c.args in
+    found_other a.behind c.of_word.result c.compare_exchange.result c.of_word.ensures.head
+    (word_back a.behind a.self.now.cells (omega (arith, a.self.now.few)) c.requires.small)
+    (λ k. (its_cell (push_exchange _) c.word.result (a.t.0 + 1) a.self.now.slots c.head_at.ensures.cell
+    c.compare_exchange.ensures.2.0).4 (λ q. k (q ∙ c.word.ensures.word))) n m
 
 pub returns-clause-lengthens : goal.returns-clause-lengthens
 returns-clause-lengthens g c = λ e. chain_found c.args.behind (sym c.of_word.ensures.head ∙ e)
-    c.exchange_head.ensures.moment
+    (so_too c.head_at.ensures.word refl c.compare_exchange.ensures.2.1)
 
 pub returns-clause-longer : goal.returns-clause-longer
-returns-clause-longer g c = λ n m. let few = c.args.self.now.few in finds_longer c.args.behind n
-    (found_other c.args.behind c.of_word.result c.exchange_head.result c.of_word.ensures.head
-    (word_back c.args.behind c.args.self.now.cells (omega arith) c.requires.small) c.exchange_head.ensures.other n m)
+returns-clause-longer g c = λ n m. let a = c.args in finds_longer a.behind n (
+    found_other a.behind c.of_word.result c.compare_exchange.result c.of_word.ensures.head
+    (word_back a.behind a.self.now.cells (omega (arith, a.self.now.few)) c.requires.small)
+    (λ k. (its_cell (push_exchange _) c.word.result (a.t.0 + 1) a.self.now.slots c.head_at.ensures.cell
+    c.compare_exchange.ensures.2.0).4 (λ q. k (q ∙ c.word.ensures.word))) n m)

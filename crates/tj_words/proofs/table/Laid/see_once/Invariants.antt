@@ -1,5 +1,6 @@
+use Rattle.tj_base.specs.declared.cell.Sort.TheVariants as sort
 use Rattle.tj_words.proofs.table.Laid.see_once.Given as goal
 
--- the cell and the word
+-- the word
 abbrev pub ghosts-load_once : goal.ghosts-load_once
-ghosts-load_once g a = record { cells = a.self.now.cells; cell = a.c.0; word = a.f }
+ghosts-load_once g a = record { task = 0; word = a.f; sort = sort.Promise }

@@ -2,9 +2,6 @@ use Rattle.tj_words.proofs.Prelude.{refl, sym}
 use Rattle.tj_words.proofs.SeatLoads.MomentSteps.{so_too}
 use Rattle.tj_words.proofs.table.Laid.swap_phase.Goals as goal
 
-pub exchange_phase-found-requires-clause-named : goal.exchange_phase-found-requires-clause-named
-exchange_phase-found-requires-clause-named g c = λ κs within. (refl, refl)
-
 pub returns-else-found-word-clause-moment : goal.returns-else-found-word-clause-moment
 returns-else-found-word-clause-moment g c = so_too refl (sym c.of_word.ensures.back)
     c.exchange_phase-found.ensures.moment

@@ -1,5 +1,7 @@
+use Rattle.tj_words.specs.declared.offsets.Once.TheVariants as once
+use Rattle.tj_base.specs.declared.cell.Sort.TheVariants as sort
 use Rattle.tj_words.proofs.table.Laid.wait_by.Given as goal
 
--- the walker, and the owner whose wait it reads
+-- the walker
 abbrev pub ghosts-walker_wait : goal.ghosts-walker_wait
-ghosts-walker_wait g a = record { cells = a.self.now.cells; task = a.t.0; owner = a.u.0 }
+ghosts-walker_wait g a = record { task = a.t.0; word = once.Tag; sort = sort.Promise }

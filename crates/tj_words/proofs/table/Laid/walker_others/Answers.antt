@@ -7,7 +7,7 @@ pub load-requires : goal.load-requires
 load-requires g c = let a = c.args in (
   c.requires.table,
   omega (arith, a.self.now.words, a.self.now.some),
-  moment_allowed _ _ _ _ _ others_at 0 0 (λ n. n) (walk_load g.M.Acting.task others_read (λ n. n < 2 ^ 32))
-      (others_read_allowed _ _ c.event_keeps_facts.ensures _ _ _ c.others_are_few.ensures a.t.0 g.M.Acting.task
+  moment_allowed _ _ _ _ _ others_at 0 0 (λ n. n) (walk_load g.M.Naming.task others_read (λ n. n < 2 ^ 32))
+      (others_read_allowed _ _ c.event_keeps_facts.ensures _ _ _ c.others_are_few.ensures a.t.0 g.M.Naming.task
       c.requires.named c.requires.walks),
 )
