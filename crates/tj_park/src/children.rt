@@ -38,23 +38,8 @@ pub fn release<B: Body, P: Pool, R: Wait>(
     ensures ok { OnOk result (P.puts pool.old t pool.new) }
     ensures err { OnErr result (P.same pool.old pool.new) }
 {
-    make_ready(laid, seat, t, rec);
-    pool.put(rt, alloc, t)
-}
-
-// Puts the record home, and says that the child is ready.
-#[inline(always)]
-fn make_ready<B: Body>(laid: &Laid<B>, seat: &mut WSeat<B>, t: CellId, rec: Rec<B>)
-    requires table { IsSeatOf laid.now seat.old }
-    requires cell { IsCellOf laid.now t.0 }
-    requires slot { HasSlot t.0 seat.old.me }
-    requires may { MayReleaseChild (program_of B.places B.awaits B.left B.asks B.then) t.0 rec
-        seat.old.me.0 }
-    ensures table { seat.new.table_id ≡ seat.old.table_id }
-    ensures id { seat.new.id ≡ seat.old.id }
-    ensures me { seat.new.me ≡ (released_child t.0 seat.old.me.0, rest seat.old.me.1) }
-{
     drop(laid.slot_swap(seat, t, Some(rec)));
     laid.live_up(seat);
     laid.put_phase(seat, t, Phase::Ready);
+    pool.put(rt, alloc, t)
 }

@@ -1,6 +1,6 @@
 use Rattle.tj_park.proofs.Prelude.{MayRaiseLive, MayRelease, SeatMe, ap, live_raised, released, rest, subst, sym, ◌∙◌}
 use Rattle.tj_park.proofs.LeftTasks.{raise_child, ready_child, child_released}
-use Rattle.tj_park.proofs.children.make_ready.Goals as goal
+use Rattle.tj_park.proofs.children.release.Goals as goal
 
 pub live_up-requires-clause-may : goal.live_up-requires-clause-may
 live_up-requires-clause-may g c κs within = subst (MayRaiseLive _) (sym c.slot_swap.ensures.me)
