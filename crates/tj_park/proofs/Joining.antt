@@ -1,7 +1,7 @@
 -- A task is added to a chain: how the loads of the head and the pushes that fail go on.
 use Rattle.tj_park.proofs.Prelude.{AreCells, Bool, HasFoundChains, Head, IsAdded, IsIn, KnowsMore, List, LooksOn}
 use Rattle.tj_park.proofs.Prelude.{None, Option, Program, Reference, Some, View, Way, [], ap, arith, cond, eq-eqb}
-use Rattle.tj_park.proofs.Prelude.{false, head_of, head_word, inl, join_steps, length, more_in_front, more_on}
+use Rattle.tj_park.proofs.Prelude.{false, head_of, head_word, inl, join_steps, length, map, more_in_front, more_on}
 use Rattle.tj_park.proofs.Prelude.{more_same, push_behind, refl, subst, suc, sym, without_push, ℕ, ◌*◌, ◌++◌, ◌+◌}
 use Rattle.tj_park.proofs.Prelude.{◌-◌, ◌<◌, ◌∙◌, ◌∷◌, ◌≡◌, ◌≢◌, ◌≤◌}
 use Rattle.tj_words.specs.declared.view.Filled.{Filled}
@@ -116,8 +116,10 @@ module _ {B : Type 0} where
   IsShutAt q v = IsIn q v.closed × KnowsEntry q v
 
   -- the way to the chain of q, after some pushes that failed; v is the view at first, and w that now
-  pub record Joining (cells t q : ℕ) (way : Way) (behind : Head) (v w : View B) : Type 0 where
+  pub record Joining (cells t q : ℕ) (behind : Head) (v w : View B) : Type 0 where
     pub looks : LooksOn cells v w
+    pub way : Way
+    pub first : v.pushes ≡ push_behind t q way None ∷ []
     pub next : Option Head
     pub pushes : w.pushes ≡ push_behind t q way next ∷ []
     pub open_at : behind ≢ head.Shut → IsOpenAt cells q behind w
@@ -189,14 +191,16 @@ module _ {B : Type 0} where
     found = (chain_looks cells q h v w f).1;
   }
 
-  module _ {cells t q : ℕ} {way : Way} where
+  module _ {cells t q : ℕ} where
     -- the first load of the head
-    pub joining_first : {program : Bool → B → Program B} → 0 < cells → (h : Head) (v w : View B)
+    pub joining_first : {program : Bool → B → Program B} {way : Way} → 0 < cells → (h : Head) (v w : View B)
         → v.pushes ≡ push_behind t q way None ∷ []
         → (h ≡ head.Shut → FindsShut program cells q v w) → (h ≢ head.Shut → FindsChain cells q h v w)
-        → Joining cells t q way h v w
-    joining_first filled head.Shut v w e s o = let f = shut_looks cells q v w (s refl) in record {
+        → Joining cells t q h v w
+    joining_first {way = way} filled head.Shut v w e s o = let f = shut_looks cells q v w (s refl) in record {
       looks = f.0;
+      way = way;
+      first = e;
       next = None;
       pushes = f.2 ∙ e;
       open_at = λ n. absurd (n refl);
@@ -209,9 +213,11 @@ module _ {B : Type 0} where
       fewer = λ a e c. omega arith;
       closed = f.5;
     }
-    joining_first filled h v w e s o = let f = o (λ z. cc) in
+    joining_first {way = way} filled h v w e s o = let f = o (λ z. cc) in
         let l = chain_looks cells q h v w f in record {
           looks = l.0;
+          way = way;
+          first = e;
           next = None;
           pushes = l.2 ∙ e;
           open_at = λ _. open_is cells q h v w f;
@@ -226,21 +232,21 @@ module _ {B : Type 0} where
         }
 
     -- NEXT of t may be stored
-    pub has_push : {behind : Head} {v w : View B} → Joining cells t q way behind v w → HasPush t w
+    pub has_push : {behind : Head} {v w : View B} → Joining cells t q behind v w → HasPush t w
     has_push j =
-        (push_behind t q way j.next, subst (IsIn (push_behind t q way j.next)) (sym j.pushes) (inl refl), refl)
+        (push_behind t q j.way j.next, subst (IsIn (push_behind t q j.way j.next)) (sym j.pushes) (inl refl), refl)
 
-    module _ {behind : Head} {v w u : View B} (j : Joining cells t q way behind v w)
+    module _ {behind : Head} {v w u : View B} (j : Joining cells t q behind v w)
         (store : u ≡ stored_next t behind w) where
-      stored_pushes : u.pushes ≡ push_behind t q way (Some behind) ∷ []
+      stored_pushes : u.pushes ≡ push_behind t q j.way (Some behind) ∷ []
       stored_pushes = ap (λ (z : View B). z.pushes) store
-          ∙ (ap (λ l. with_next t behind l) j.pushes ∙ with_one t q way behind j.next)
+          ∙ (ap (λ l. with_next t behind l) j.pushes ∙ with_one t q j.way behind j.next)
 
       -- and the push is to come then
       pub has_push_behind : HasPushBehind t q behind u
       has_push_behind = (
-        push_behind t q way (Some behind),
-        subst (IsIn (push_behind t q way (Some behind))) (sym stored_pushes) (inl refl),
+        push_behind t q j.way (Some behind),
+        subst (IsIn (push_behind t q j.way (Some behind))) (sym stored_pushes) (inl refl),
         (refl, refl, refl),
       )
 
@@ -272,7 +278,7 @@ module _ {B : Type 0} where
         joined {x} e = (
           looks_on v u x stored_looks (subst (λ (z : View B). LooksOn cells u z) (sym e)
               (same_looks u (suc u.steps) (without_push t u.pushes) u.found)),
-          ap (λ (z : View B). z.pushes) e ∙ (ap (without_push t) stored_pushes ∙ without_one t q way (Some behind)),
+          ap (λ (z : View B). z.pushes) e ∙ (ap (without_push t) stored_pushes ∙ without_one t q j.way (Some behind)),
           joined_cost x.steps u.steps w.steps v.steps (cells - length at.chain) (pushes_left cells behind w.found)
               (join_steps cells) (ap (λ (z : View B). z.steps) e) stored_steps left_now j.cost,
           record {
@@ -315,7 +321,7 @@ module _ {B : Type 0} where
               by head.Empty e = more (λ y. let d : head.Empty ≡ head.Shut = sym e ∙ y in cc)
               by (head.Task z) e = more (λ y. let d : head.Task z ≡ head.Shut = sym e ∙ y in cc)
 
-          pub joining_next : cells < shut_word → WasSo program (head_at q) (head_word h) u → Joining cells t q way h v x
+          pub joining_next : cells < shut_word → WasSo program (head_at q) (head_word h) u → Joining cells t q h v x
           joining_next little moment = by h refl
             where
               went : x.steps ≡ suc u.steps → x.steps + 2 * pushes_left cells h x.found ≤ v.steps + join_steps cells
@@ -329,9 +335,11 @@ module _ {B : Type 0} where
                   (found_room program q u cells h little f.small n moment has_push_behind.0 has_push_behind.1
                   at.chain found_before (λ z. fails (z ∙ sym at.is)) a (stored_looks.knows.about ∙ e)) c
 
-              more : h ≢ head.Shut → Joining cells t q way h v x
+              more : h ≢ head.Shut → Joining cells t q h v x
               more n = let f = other fails n in let l = chain_looks cells q h u x f in record {
                 looks = looks_on v u x stored_looks l.0;
+                way = j.way;
+                first = j.first;
                 next = Some behind;
                 pushes = l.2 ∙ stored_pushes;
                 open_at = λ _. open_is cells q h u x f;
@@ -349,9 +357,11 @@ module _ {B : Type 0} where
                 closed = l.4 ∙ (still_open ∙ sym (closed_open q h v.closed n));
               }
 
-              by : (z : Head) → h ≡ z → Joining cells t q way h v x
+              by : (z : Head) → h ≡ z → Joining cells t q h v x
               by head.Shut e = let f = shut_looks cells q u x (shut e) in record {
                 looks = looks_on v u x stored_looks f.0;
+                way = j.way;
+                first = j.first;
                 next = Some behind;
                 pushes = f.2 ∙ stored_pushes;
                 open_at = λ n. absurd (n e);
@@ -369,20 +379,24 @@ module _ {B : Type 0} where
               by (head.Task z) e = more (λ y. let d : head.Task z ≡ head.Shut = sym e ∙ y in cc)
 
     -- where the head is shut, the task isn't added
-    pub not_added : (v w : View B) → Joining cells t q way head.Shut v w → IsAdded t q way false w
-    not_added v w j = ((j.next, j.pushes), (j.shut_at refl).0, (j.shut_at refl).1)
+    pub not_added : (v w : View B) → Joining cells t q head.Shut v w → IsAdded q false v w
+    not_added v w j = (
+      (j.next, j.pushes ∙ sym (ap (map (λ (p : Push). record p { next = j.next })) j.first)),
+      (j.shut_at refl).0,
+      (j.shut_at refl).1,
+    )
 
     -- and then it was found so once
-    pub found_shut_once : {behind : Head} {v w : View B} → Joining cells t q way behind v w → behind ≡ head.Shut
+    pub found_shut_once : {behind : Head} {v w : View B} → Joining cells t q behind v w → behind ≡ head.Shut
         → w.closed ≡ q ∷ v.closed
     found_shut_once {v = v} j e = j.closed ∙ ap (λ h. closed_with q h v.closed) e
 
     -- so many chains were found
-    pub found_chains : {behind : Head} {v w : View B} → Joining cells t q way behind v w
+    pub found_chains : {behind : Head} {v w : View B} → Joining cells t q behind v w
         → HasFoundChains cells v w
     found_chains j = record { chains = j.chains; found = j.found; few = j.most; fewer = j.fewer }
 
     -- the steps are as few as they are to be
-    pub few_steps : (behind : Head) (v w : View B) → Joining cells t q way behind v w
+    pub few_steps : (behind : Head) (v w : View B) → Joining cells t q behind v w
         → w.steps ≤ v.steps + join_steps cells
     few_steps behind v w j = few w.steps (pushes_left cells behind w.found) (v.steps + join_steps cells) j.cost

@@ -2,8 +2,9 @@
 use Rattle.tj_park.proofs.Prelude.{AreCells, Backing, Bool, HasAlarmed, HasNoRecord, Head, Holds, IsAdded, IsIn}
 use Rattle.tj_park.proofs.Prelude.{KnowsMore, LooksOn, None, Option, Program, Rec, SeatMe, Some, TakesBack, View, Way}
 use Rattle.tj_park.proofs.Prelude.{[], ap, arith, backing_idle, cond, custody_of, eq-eqb, false, held_in, hold, inl}
-use Rattle.tj_park.proofs.Prelude.{join_steps, more_on, more_same, none_some, push_behind, raised_by_way, refl, rest}
+use Rattle.tj_park.proofs.Prelude.{join_steps, map, more_on, more_same, none_some, push_behind, raised_by_way, refl, rest}
 use Rattle.tj_park.proofs.Prelude.{subst, suc, sym, true, without_push, ℕ, ◌*◌, ◌++◌, ◌+◌, ◌-◌, ◌<◌, ◌∙◌, ◌∷◌, ◌≡◌, ◌≤◌}
+use Rattle.tj_words.specs.declared.view.Push.{Push}
 use Rattle.tj_words.specs.Calls.ExchangeViews.{MayGoBack}
 use Rattle.tj_words.specs.Calls.LiveViews.{IfRecord, MayLowerLive, SlotsOf, live_lowered, lowered_with}
 use Rattle.tj_words.specs.Calls.ParkSteps.{new_push, with_tokens}
@@ -112,12 +113,16 @@ module _ {B : Type 0} where
               refl,
             )
 
-      module _ (shut : IsAdded t q way false w) where
+      module _ (shut : IsAdded q false (parked t q way v) w) where
+        -- the push that is still to come
+        one_left : w.pushes ≡ push_behind t q way shut.0.0 ∷ []
+        one_left = shut.0.1 ∙ ap (map (λ (p : Push). record p { next = shut.0.0 })) one_push
+
         -- the wait may be cleared
         pub may_go_back : MayGoBack t q way w
         may_go_back = record {
           push = push_behind t q way shut.0.0;
-          has = subst (IsIn (push_behind t q way shut.0.0)) (sym shut.0.1) (inl refl);
+          has = subst (IsIn (push_behind t q way shut.0.0)) (sym one_left) (inl refl);
           task = refl;
           cell = refl;
           its_way = refl;
@@ -144,7 +149,7 @@ module _ {B : Type 0} where
             all = λ a e c _. subst (λ n. AreCells n u.born) c (b.taken.all a (b.knows.about ∙ (knows.about ∙ e)));
             hand = record { hand = b.hand.hand ∙ looks.hand.hand; dues = b.hand.dues ∙ looks.hand.dues };
             wakes = record {
-              pushes = b.pushes ∙ (ap (without_push t) shut.0.1 ∙ (without_one shut.0.0 ∙ sym may.idle.pushes));
+              pushes = b.pushes ∙ (ap (without_push t) one_left ∙ (without_one shut.0.0 ∙ sym may.idle.pushes));
               shuts = b.shuts ∙ looks.shuts;
               rest = b.rest ∙ looks.rest;
             };
@@ -186,7 +191,7 @@ module _ {B : Type 0} where
       parked_push = ap (λ (z : SeatMe B). z.0.pushes) is_parked ∙ one_push
 
       module _ (same : m3.1 ≡ m2.1) (looks : LooksOn cells m2.0 m3.0) (few : m3.0.steps ≤ m2.0.steps + join_steps cells)
-          (chains : HasFoundChains cells m2.0 m3.0) (b : Bool) (added : IsAdded t q way b m3.0)
+          (chains : HasFoundChains cells m2.0 m3.0) (b : Bool) (added : IsAdded q b m2.0 m3.0)
           (closes : FindsShutOnce q b m2.0 m3.0) where
         pub parked_slots : m3.1 ≡ l
         parked_slots = same ∙ ap (λ (z : SeatMe B). z.1) is_parked
@@ -210,7 +215,7 @@ module _ {B : Type 0} where
 
         module _ (was_added : b ≡ true) (none : HasNoRecord l) where
           gone : m3.0.pushes ≡ []
-          gone = subst (λ z. IsAdded t q way z m3.0) was_added added
+          gone = subst (λ z. IsAdded q z m2.0 m3.0) was_added added
 
           pub parked_lower : MayLowerLive program m3
           parked_lower = subst (MayLowerLive program) (sym joined) (lower_left m3.0 looked in_few news gone l none)
@@ -221,8 +226,9 @@ module _ {B : Type 0} where
               ∙ ap (λ (z : SeatMe B). z.0.closed) is_parked) m4 l none (e ∙ ap live_lowered joined)
 
         module _ (was_shut : b ≡ false) where
-          stays : IsAdded t q way false m3.0
-          stays = subst (λ z. IsAdded t q way z m3.0) was_shut added
+          stays : IsAdded q false (parked t q way v) m3.0
+          stays = subst (λ (z : SeatMe B). IsAdded q false z.0 m3.0) is_parked
+              (subst (λ z. IsAdded q z m2.0 m3.0) was_shut added)
 
           pub parked_back_may : MayGoBack t q way m3.0
           parked_back_may = may_go_back m3.0 looked in_few news stays

@@ -4,9 +4,8 @@ use Rattle.tj_park.proofs.Prelude.{View, Way, [], ap, more_in_front, one_some, p
 use Rattle.tj_park.proofs.Prelude.{record_cells, refl, rest, suc, sym, took_record, true, ℕ, ◌+◌, ◌-◌, ◌<◌, ◌∙◌, ◌∷◌}
 use Rattle.tj_park.proofs.Prelude.{◌≡◌, ◌≢◌, ◌≤◌}
 use Rattle.std.proofs.Common.{Option, Result, subst, arith, is_some, IfErr}
-use Rattle.tj_events.specs.declared.walk.Way.TheVariants.{Along, Other}
 use Rattle.tj_words.specs.Calls.ExchangeViews.{Swaps, GoesBack, missed, went_back}
-use Rattle.tj_words.specs.Calls.WalkViews.{lowered}
+use Rattle.tj_park.specs.Inner.FirstWaiters.{lowered_for}
 use Rattle.tj_park.proofs.TakenTasks.{has_taken, slot_in_front, taken_out}
 use Rattle.tj_words.specs.declared.phase.Phase.TheVariants as phase
 
@@ -62,22 +61,6 @@ module _ {B : Type 0} {program : Bool → B → Program B} {t q : ℕ} (way : Wa
       waited = b.2;
     }
 
-    -- a wait along the order is cleared with that
-    pub back_along : way ≡ Along → (w : View B) → w ≡ went → TakesBack program t q b.0 m.0 w
-    back_along e w is = subst (TakesBack program t q b.0 m.0) (sym is)
-        (took went.cleared went.steps
-        (let z : raised_by_way way ≡ 0 = ap raised_by_way e in omega arith) (omega arith))
-
-    -- for an other wait OTHERS is to be lowered, and that is allowed
-    pub some_cleared : way ≡ Other → (w : View B) → w ≡ went → 0 < w.cleared
-    some_cleared e w is = let z : raised_by_way way ≡ 1 = ap raised_by_way e in
-        let c : w.cleared ≡ m.0.cleared + raised_by_way way = ap (λ (x : View B). x.cleared) is in omega arith
-
-    pub back_other : way ≡ Other → (w u : View B) → w ≡ went → u ≡ lowered w → TakesBack program t q b.0 m.0 u
-    back_other e w u is low = subst (TakesBack program t q b.0 m.0) (sym (low ∙ ap lowered is))
-        (took (went.cleared - 1) (suc went.steps)
-        (let z : raised_by_way way ≡ 1 = ap raised_by_way e in omega arith) (omega arith))
-
     -- the record is taken out of its slot
     module _ {m'' : SeatMe B} {o : Option (Rec B)} (found : m'.1 ≡ (t, o) ∷ rest m'.1)
         (now : m'' ≡ (m'.0, (t, None) ∷ rest m'.1)) where
@@ -93,16 +76,18 @@ module _ {B : Type 0} {program : Bool → B → Program B} {t q : ℕ} (way : Wa
       pub back_slots : m''.1 ≡ (t, None) ∷ m.1
       back_slots = ap (λ (z : SeatMe B). z.1) out.1
 
-      pub back_cleared : way ≡ Other → 0 < m''.0.cleared
-      back_cleared e = some_cleared e m''.0 its_view
+      -- OTHERS may be lowered as often as the wait was counted there
+      pub back_cleared : raised_by_way way ≤ m''.0.cleared
+      back_cleared = let c : m''.0.cleared ≡ m.0.cleared + raised_by_way way = ap (λ (x : View B). x.cleared) its_view
+          in omega arith
 
-      module _ {r : Rec B} (is : o ≡ Some r) where
-        same_record : b.0 ≡ r
-        same_record = one_some b.0 r (sym out.0 ∙ is)
-
-        pub takes_along : way ≡ Along → TakesBack program t q r m.0 m''.0
-        takes_along e = subst (λ x. TakesBack program t q x m.0 m''.0) same_record (back_along e m''.0 its_view)
-
-        pub takes_other : way ≡ Other → {u : View B} → u ≡ lowered m''.0 → TakesBack program t q r m.0 u
-        takes_other e {u} low = subst (λ x. TakesBack program t q x m.0 u) same_record
-            (back_other e m''.0 u its_view low)
+      -- and once it is, the task is back
+      pub takes_back : {r : Rec B} → o ≡ Some r → {u : View B}
+          → u ≡ lowered_for (parked_phase q way) u.steps m''.0 → u.steps ≤ m''.0.steps + 1
+          → TakesBack program t q r m.0 u
+      takes_back {r} is {u} low few =
+          let n : m''.0.steps ≡ suc m.0.steps = ap (λ (x : View B). x.steps) its_view in
+          subst (λ x. TakesBack program t q x m.0 u) (one_some b.0 r (sym out.0 ∙ is))
+          (subst (TakesBack program t q b.0 m.0)
+          (sym (low ∙ ap (lowered_for (parked_phase q way) u.steps) its_view))
+          (took (went.cleared - raised_by_way way) u.steps (omega arith) (omega arith)))

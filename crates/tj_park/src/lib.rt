@@ -2,7 +2,6 @@
 //! that waits is parked and one that has alarmed is shelved.
 #![tactic(auto)]
 
-mod back;
 mod children;
 mod claims;
 mod finishes;

@@ -7,8 +7,8 @@ ghost use Rattle.tj_words.specs.SeatViews.SeatSteps.{IsCellOf, IsSeatOf};
 ghost use Rattle.tj_park.specs.Records.{HasNoRecord};
 ghost use Rattle.tj_park.specs.ParkViews.{GaveBack, IfBack, IfLeft, LeftTask, MayParkTask};
 
-use crate::back::take_back;
 use crate::join::join_chain;
+use crate::wakes::lower;
 use tj_base::CellId;
 use tj_body::Body;
 use tj_words::{Laid, Phase, Rec, WSeat, Walk, Way};
@@ -51,9 +51,14 @@ pub fn park<B: Body>(
 {
     drop(laid.slot_swap(seat, t, Some(rec)));
     laid.put_phase(seat, t, Phase::Waiting(q, way, Walk::Parked));
-    if join_chain(laid, seat, t, q, way) {
+    if join_chain(laid, seat, t, q) {
         laid.live_down(seat);
         return Parked::Left;
     }
-    Parked::Back(take_back(laid, seat, t, q, way))
+    // No other seat can have woken the task, so this exchange doesn't fail.
+    let was = Phase::Waiting(q, way, Walk::Parked);
+    let _ = laid.swap_phase(seat, t, was, Phase::Running);
+    let rec = laid.slot_swap(seat, t, None).unwrap();
+    lower(laid, seat, was);
+    Parked::Back(rec)
 }

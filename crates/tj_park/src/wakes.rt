@@ -1,7 +1,7 @@
 //! Waking those who wait for a cell. The head of the cell's chain is shut, which takes the chain to this
 //! seat as its rest; then the first of the rest becomes ready, until nobody is left. A token is taken
 //! before each task becomes ready, and spent by that, so that LIVE isn't 0 in between.
-ghost use Rattle.std.specs.Prelude.{◌≡◌, ◌≤◌, IfOk, OnErr};
+ghost use Rattle.std.specs.Prelude.{◌≡◌, ◌+◌, ◌≤◌, IfOk, OnErr};
 ghost use Rattle.tj_words.specs.SeatViews.SeatSteps.{IsSeatOf, IsCellOf, IsSameSeat};
 ghost use Rattle.tj_words.specs.Words.Heads.{head_word};
 ghost use Rattle.tj_park.specs.Wakes.{MayWake, WakesAll, WakesSome};
@@ -64,11 +64,12 @@ fn wake_first<B: Body>(laid: &Laid<B>, seat: &mut WSeat<B>, p: CellId, t: CellId
 }
 
 // Lowers OTHERS for the wait of a task that was parked so, where it was counted there.
-fn lower<B: Body>(laid: &Laid<B>, seat: &mut WSeat<B>, was: Phase)
+pub(crate) fn lower<B: Body>(laid: &Laid<B>, seat: &mut WSeat<B>, was: Phase)
     requires table { IsSeatOf laid.now seat.old }
     requires cleared { counted_in was ≤ seat.old.me.0.cleared }
     ensures seat { IsSameSeat seat.old seat.new }
     ensures view { seat.new.me.0 ≡ lowered_for was seat.new.me.0.steps seat.old.me.0 }
+    ensures steps { seat.new.me.0.steps ≤ seat.old.me.0.steps + 1 }
 {
     match was {
         Phase::Waiting(_, Way::Other, _) => laid.others_down(seat),

@@ -1,5 +1,5 @@
 -- A task that its seat has parked is added to a chain, or goes on, where the head was found shut.
-use Rattle.std.specs.Prelude.{◌≡◌, ℕ, suc, ◌+◌, ◌-◌, ◌*◌, ◌≤◌, Bool, true, false, List, [], ◌∷◌, length, Option}
+use Rattle.std.specs.Prelude.{◌≡◌, ℕ, suc, ◌+◌, ◌-◌, ◌*◌, ◌≤◌, Bool, true, false, List, [], ◌∷◌, length, map, Option}
 use Rattle.tj_body.specs.Points.{IsIn}
 use Rattle.tj_body.specs.Programs.{Program}
 use Rattle.tj_events.specs.declared.walk.Way.{Way}
@@ -49,11 +49,13 @@ module _ {B : Type 0} where
     pub plain_loads : w.plain_loads ≡ v.plain_loads
     pub once_loads : w.once_loads ≡ v.once_loads
 
-  -- t was added to the chain of q; or the head was found shut, so something has become of q
-  abbrev pub IsAdded : ℕ → ℕ → Way → Bool → View B → Type 0
-  IsAdded t q way true w = w.pushes ≡ []
-  IsAdded t q way false w =
-      ((next : Option Head) × (w.pushes ≡ push_behind t q way next ∷ [])) × IsIn q w.closed × KnowsEntry q w
+  -- the push was made; or the head of q was found shut, so something has become of q, and of the push what was stored
+  -- last into NEXT alone has changed
+  abbrev pub IsAdded : ℕ → Bool → View B → View B → Type 0
+  IsAdded q true v w = w.pushes ≡ []
+  IsAdded q false v w =
+      ((next : Option Head) × (w.pushes ≡ map (λ (p : Push). record p { next = next }) v.pushes))
+      × IsIn q w.closed × KnowsEntry q w
 
   -- the head of q was found shut once, where t wasn't added to its chain, and else never
   abbrev pub FindsShutOnce : ℕ → Bool → View B → View B → Type 0

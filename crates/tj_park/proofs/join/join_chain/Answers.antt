@@ -8,7 +8,7 @@ pub loop-t-init : goal.loop-t-init
 loop-t-init g c = record {
   seat = c.head-behind.ensures.seat;
   joins = joining_first c.args.laid.now.some c.head-behind.result c.args.seat.now.me.0 c.head-behind.new.seat.me.0
-      c.requires.push c.head-behind.ensures.shut c.head-behind.ensures.open;
+      c.requires.push.1 c.head-behind.ensures.shut c.head-behind.ensures.open;
 }
 
 pub put_next-requires-clause-push : goal.put_next-requires-clause-push

@@ -6,7 +6,7 @@ use Rattle.tj_park.proofs.join.join_chain.Given as goal
 abbrev pub invariant-loop-t : goal.invariant-loop-t
 invariant-loop-t g l = record {
   seat : IsSameSeat l.fn.seat l.seat;
-  joins : Joining l.laid.cells l.t.0 l.q.0 l.fn.way l.behind l.fn.seat.me.0 l.seat.me.0;
+  joins : Joining l.laid.cells l.t.0 l.q.0 l.behind l.fn.seat.me.0 l.seat.me.0;
 }
 
 abbrev pub decreases-loop-t : goal.decreases-loop-t

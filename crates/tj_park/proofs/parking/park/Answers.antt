@@ -1,4 +1,5 @@
-use Rattle.tj_park.proofs.Prelude.{None, ap, ◌∙◌, ◌∷◌}
+use Rattle.tj_park.proofs.Prelude.{None, ap, inr, refl, ◌∙◌, ◌∷◌}
+use Rattle.tj_park.proofs.Returns.{back_cleared, back_slot, back_slots, back_some, goes_back, takes_back}
 use Rattle.tj_park.proofs.ParkedViews.{parked_may, parked_push, parked_lower, parked_left, parked_back_may, parked_back}
 use Rattle.tj_park.proofs.ParkedViews.{parked_slots}
 use Rattle.tj_park.proofs.parking.park.Goals as goal
@@ -8,9 +9,11 @@ put_phase-requires-clause-may g c κs within =
     parked_may c.args.laid.now.cells c.requires.may c.slot_swap.ensures.me
 
 pub join_chain-requires-clause-push : goal.join_chain-requires-clause-push
-join_chain-requires-clause-push g c κs within =
-    parked_push c.args.laid.now.cells c.requires.may c.put_phase.new.seat.me c.slot_swap.ensures.me
-    c.put_phase.ensures.puts
+join_chain-requires-clause-push g c κs within = (
+  c.args.way,
+  parked_push c.args.laid.now.cells c.requires.may c.put_phase.new.seat.me c.slot_swap.ensures.me
+      c.put_phase.ensures.puts,
+)
 
 pub live_down-requires-clause-may : goal.live_down-requires-clause-may
 live_down-requires-clause-may g c κs within =
@@ -33,23 +36,45 @@ returns-then-join_chain-clause-left_slot g c =
     c.put_phase.ensures.puts join.seat.2 join.looks join.steps join.pushes c.join_chain.result join.added join.closed
     c.if-join_chain.true c.requires.others c.live_down.ensures.me).1
 
-pub take_back-requires-clause-may : goal.take_back-requires-clause-may
-take_back-requires-clause-may g c κs within =
+pub swap_phase-requires-clause-may : goal.swap_phase-requires-clause-may
+swap_phase-requires-clause-may g c κs within =
     let join = c.join_chain.ensures in
-    parked_back_may c.args.laid.now.cells c.requires.may c.join_chain.new.seat.me c.slot_swap.ensures.me
+    let may = parked_back_may c.args.laid.now.cells c.requires.may c.join_chain.new.seat.me c.slot_swap.ensures.me
     c.put_phase.ensures.puts join.seat.2 join.looks join.steps join.pushes c.join_chain.result join.added join.closed
-    c.if-join_chain.false
+    c.if-join_chain.false in
+    inr (c.args.q.0, c.args.way, refl, inr (refl, may))
+
+pub slot_swap-requires-2-clause-slot : goal.slot_swap-requires-2-clause-slot
+slot_swap-requires-2-clause-slot g c κs within =
+    let b = goes_back c.args.way c.swap_phase.result c.swap_phase.ensures.swapped c.swap_phase.ensures.found in
+    back_slot c.args.way b
+
+pub unwrap-rec-requires : goal.unwrap-rec-requires
+unwrap-rec-requires g c =
+    let b = goes_back c.args.way c.swap_phase.result c.swap_phase.ensures.swapped c.swap_phase.ensures.found in
+    back_some c.args.way b c.slot_swap-2.ensures.found c.slot_swap-2.ensures.me
+
+pub lower-requires-clause-cleared : goal.lower-requires-clause-cleared
+lower-requires-clause-cleared g c κs within =
+    let b = goes_back c.args.way c.swap_phase.result c.swap_phase.ensures.swapped c.swap_phase.ensures.found in
+    back_cleared c.args.way b c.slot_swap-2.ensures.found c.slot_swap-2.ensures.me
 
 pub returns-clause-back : goal.returns-clause-back
 returns-clause-back g c =
     let join = c.join_chain.ensures in
+    let b = goes_back c.args.way c.swap_phase.result c.swap_phase.ensures.swapped c.swap_phase.ensures.found in
     parked_back c.args.laid.now.cells c.requires.may c.join_chain.new.seat.me c.slot_swap.ensures.me
     c.put_phase.ensures.puts join.seat.2 join.looks join.steps join.pushes c.join_chain.result join.added join.closed
-    c.if-join_chain.false c.take_back.ensures.takes
+    c.if-join_chain.false
+    (takes_back c.args.way b c.slot_swap-2.ensures.found c.slot_swap-2.ensures.me c.unwrap-rec.ensures
+    c.lower.ensures.view c.lower.ensures.steps)
 
 pub returns-clause-back_slot : goal.returns-clause-back_slot
 returns-clause-back_slot g c =
     let join = c.join_chain.ensures in
-    c.take_back.ensures.slot ∙ ap (λ l. (c.args.t.0, None) ∷ l)
+    let b = goes_back c.args.way c.swap_phase.result c.swap_phase.ensures.swapped c.swap_phase.ensures.found in
+    c.lower.ensures.seat.2
+    ∙ (back_slots c.args.way b c.slot_swap-2.ensures.found c.slot_swap-2.ensures.me
+    ∙ ap (λ l. (c.args.t.0, None) ∷ l)
     (parked_slots c.args.laid.now.cells c.requires.may c.join_chain.new.seat.me c.slot_swap.ensures.me
-    c.put_phase.ensures.puts join.seat.2 join.looks join.steps join.pushes c.join_chain.result join.added join.closed)
+    c.put_phase.ensures.puts join.seat.2 join.looks join.steps join.pushes c.join_chain.result join.added join.closed))
