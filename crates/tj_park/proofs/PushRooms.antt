@@ -2,7 +2,7 @@
 -- was found last, the latter lacks two tasks of the table.
 use Rattle.tj_park.proofs.Prelude.{Bool, Head, IsIn, List, Option, Program, Rec, Some, View, ap, arith, get_elem?}
 use Rattle.tj_park.proofs.Prelude.{head_of, head_word, length, refl, some, subst, suc, sym, ℕ, ⊎_elim, ◌++◌, ◌<◌}
-use Rattle.tj_park.proofs.Prelude.{◌∙◌, ◌∷◌, ◌≡◌, ◌≢◌, ◌≤◌, ◌⊎◌}
+use Rattle.tj_park.proofs.Prelude.{◌∙◌, ◌∷◌, ◌≡◌, ◌≢◌, ◌≤◌}
 use Rattle.atomic_table.specs.Table.{State}
 use Rattle.atomic_table.proofs.Lists.{at_map}
 use Rattle.tj_words.specs.declared.table.Key.{Key}

@@ -1,7 +1,7 @@
 -- A task that its seat had parked is taken back.
 use Rattle.tj_park.proofs.Prelude.{Bool, Err, HasSlot, None, Ok, OnOk, Phase, Program, Rec, SeatMe, Some, TakesBack}
 use Rattle.tj_park.proofs.Prelude.{View, Way, [], ap, more_in_front, one_some, parked_phase, raised_by_way}
-use Rattle.tj_park.proofs.Prelude.{record_cells, refl, rest, suc, sym, took_record, true, ℕ, ◌+◌, ◌-◌, ◌<◌, ◌∙◌, ◌∷◌}
+use Rattle.tj_park.proofs.Prelude.{record_cells, refl, rest, suc, sym, took_record, true, ℕ, ◌+◌, ◌-◌, ◌∙◌, ◌∷◌}
 use Rattle.tj_park.proofs.Prelude.{◌≡◌, ◌≢◌, ◌≤◌}
 use Rattle.std.proofs.Common.{Option, Result, subst, arith, is_some, IfErr}
 use Rattle.tj_words.specs.Calls.ExchangeViews.{Swaps, GoesBack, missed, went_back}

@@ -1,5 +1,5 @@
 -- The loop that wakes a chain: so many of its tasks are woken, and the others are the seat's rest.
-use Rattle.tj_park.proofs.Prelude.{CellId, Err, Head, IsTailOf, KnowsMore, List, None, Ok, Option, Rest, SlotsOf}
+use Rattle.tj_park.proofs.Prelude.{CellId, Err, Head, IsTailOf, List, None, Ok, Option, Rest, SlotsOf}
 use Rattle.tj_park.proofs.Prelude.{Some, View, Way, [], ap, arith, cell, head_of, head_word, inl, inr, more_itself}
 use Rattle.tj_park.proofs.Prelude.{more_on, refl, subst, suc, sym, tail_on, without, ℕ, ⊎_elim, ◌++◌, ◌+◌, ◌<◌, ◌∙◌}
 use Rattle.tj_park.proofs.Prelude.{◌∷◌, ◌≡◌, ◌≢◌, ◌≤◌, ◌⊎◌}
