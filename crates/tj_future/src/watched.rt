@@ -3,7 +3,7 @@ use tj_run::Why;
 use tj_words::Fill;
 
 /// What a watched cell has come to.
-#[derive(Clone, Copy, Debug, PartialEq, Eq)]
+#[derive(Clone, Copy, PartialEq, Eq)]
 pub enum Watched {
     /// It has this value.
     Value(Fill),
