@@ -3,7 +3,7 @@
 //!
 //! A script of size k has k + 1 tasks and k + 1 promises. Its `main` begins 3k + 8 statements, the
 //! last of which returns the sum of 1 to k.
-use crate::row_tests::Row;
+use super::row_tests::Row;
 use tj_command::Status;
 
 /// Sizes with exactly the cells and the statements that they need, and with one less of each.

@@ -1,5 +1,5 @@
 //! Worked rows of the mode `known`: which joins were of tasks that the joiner knew of.
-use crate::row_tests::{AGAINST_THE_ORDER, FIB_OF_3, Row, THREE};
+use super::row_tests::{AGAINST_THE_ORDER, FIB_OF_3, Row, THREE};
 use tj_command::Status;
 
 const JOINS_A_GRANDCHILD: &str = "task main() { let p = new; fork kid(own p); let g = get p; let v \

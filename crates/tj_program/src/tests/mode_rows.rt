@@ -1,5 +1,5 @@
 //! Worked rows of the other modes, and of words without a form.
-use crate::row_tests::{Row, THREE, USAGE};
+use super::row_tests::{Row, THREE, USAGE};
 use tj_command::Status;
 
 const CYCLE_OF_TWO: &str = "make 0\nfork 0\nraise 2\npublish 2 1\ncount 2\nowner 2\nwait 2\n\
@@ -86,20 +86,20 @@ pub(crate) const JOURNALS: &[Row] = &[
 const THOUSAND: &str = "size 1000 tasks 1001 done 1001 failed 0 waiting 0 owed 0 cycles 0 \
     result 500500\nclean\n";
 
-pub(crate) const WITHOUT_FORM: &[Row] = &[
-    ("run --workers 65", THREE, Status::Usage, USAGE),
-    ("plan --workers 2", THREE, Status::Usage, USAGE),
-    ("run --cells=5", THREE, Status::Usage, USAGE),
-    ("run --cells 5 --cells 5", THREE, Status::Usage, USAGE),
-    ("", THREE, Status::Usage, USAGE),
-    ("judge --cells 1025", THREE, Status::Usage, USAGE),
-    ("run --strict --strict", THREE, Status::Usage, USAGE),
-    ("list --strict", THREE, Status::Usage, USAGE),
-    ("run --cells --strict", THREE, Status::Usage, USAGE),
-    ("run --workers 0", THREE, Status::Usage, USAGE),
-    ("run --cells 12345678901", THREE, Status::Usage, USAGE),
-    ("run run", THREE, Status::Usage, USAGE),
-    ("go", THREE, Status::Usage, USAGE),
+pub(crate) const WITHOUT_FORM: &[&str] = &[
+    "run --workers 65",
+    "plan --workers 2",
+    "run --cells=5",
+    "run --cells 5 --cells 5",
+    "",
+    "judge --cells 1025",
+    "run --strict --strict",
+    "list --strict",
+    "run --cells --strict",
+    "run --workers 0",
+    "run --cells 12345678901",
+    "run run",
+    "go",
 ];
 
 pub(crate) const LISTINGS: &[Row] = &[

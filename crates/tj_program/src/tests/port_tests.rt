@@ -1,5 +1,5 @@
 //! What the program writes and answers where a port fails, or a sink has too little room.
-use crate::row_tests::{THREE, USAGE, words_of};
+use super::row_tests::{THREE, USAGE, words_of};
 use crate::top_call::run_words;
 use std::process::Abort;
 use std::sync::Wait;

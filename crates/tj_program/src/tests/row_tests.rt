@@ -1,11 +1,11 @@
 //! Worked rows: what the program writes and answers for words and an input, by hand from the
 //! rules.
-use crate::edge_rows::EDGES;
-use crate::known_rows::{KNOWN, LITTLE};
-use crate::mode_rows::{GENERATED, JOURNALS, LISTINGS, RELAYS, WITHOUT_FORM};
-use crate::rule_rows::{BROKEN, BROKEN_BY_ANY, CELLS, STATEMENTS, STRICT};
+use super::edge_rows::EDGES;
+use super::known_rows::{KNOWN, LITTLE};
+use super::mode_rows::{GENERATED, JOURNALS, LISTINGS, RELAYS, WITHOUT_FORM};
+use super::rule_rows::{BROKEN, BROKEN_BY_ANY, CELLS, STATEMENTS, STRICT};
+use super::watch_rows::{OTHERS, WATCHED};
 use crate::top_call::run_words;
-use crate::watch_rows::{OTHERS, WATCHED};
 use std::alloc::{AllocError, Global};
 use std::process::Abort;
 use std::sync::Wait;
@@ -237,7 +237,7 @@ fn rows_of_runs(rt: HostRuntime) -> Result<(), Fail> {
 
 #[test]
 fn rows_on_one_thread(rt: HostRuntime) -> Result<(), Fail> {
-    shows_each(&rt, &[JOURNALS, WITHOUT_FORM, LISTINGS, KNOWN, LITTLE])
+    shows_each(&rt, &[JOURNALS, LISTINGS, KNOWN, LITTLE])
 }
 
 #[test]
@@ -266,6 +266,7 @@ const WATCHES: &[&str] = &[
 
 /// Lines, and rows that each of them writes.
 const BY_ANY: &[(&[&str], &[AnyRow])] = &[
+    (WITHOUT_FORM, &[(THREE, Status::Usage, USAGE)]),
     (RUNS, SEVERAL_TASKS),
     (RUNS, CYCLES),
     (RUNS, BROKEN_BY_ANY),
@@ -273,7 +274,7 @@ const BY_ANY: &[(&[&str], &[AnyRow])] = &[
 ];
 
 #[test]
-fn rows_by_any_workers(rt: HostRuntime) -> Result<(), Fail> {
+fn rows_by_several_lines(rt: HostRuntime) -> Result<(), Fail> {
     for (lines, rows) in BY_ANY {
         for line in *lines {
             for row in *rows {

@@ -1,6 +1,6 @@
 //! Worked rows of limits of cells and of statements, of broken cells and of the strict rule, by hand
 //! from the rules.
-use crate::row_tests::{AGAINST_THE_ORDER, AnyRow, JOIN_EACH_OTHER, Row, TWO_WAIT};
+use super::row_tests::{AGAINST_THE_ORDER, AnyRow, JOIN_EACH_OTHER, Row, TWO_WAIT};
 use tj_command::Status;
 
 const ONE_PROMISE: &str = "task main() { let p = new; return 0; }";

@@ -155,31 +155,24 @@ fn is_refused<const K: u32, R: Wait + Threads + Sync>(rt: &R, alloc: Global, due
     }
 }
 
-/// Whether that is so for each put from the second to the sixth.
-fn early_puts_are_refused<R: Wait + Threads + Sync>(rt: &R, a: Global) -> bool {
-    is_refused::<2, R>(rt, a, false)
-        && is_refused::<3, R>(rt, a, false)
-        && is_refused::<4, R>(rt, a, false)
-        && is_refused::<5, R>(rt, a, false)
-        && is_refused::<6, R>(rt, a, false)
-}
-
-/// Whether that is so for each put from the seventh to the twelfth.
-fn late_puts_are_refused<R: Wait + Threads + Sync>(rt: &R, a: Global) -> bool {
-    is_refused::<7, R>(rt, a, false)
-        && is_refused::<8, R>(rt, a, false)
-        && is_refused::<9, R>(rt, a, false)
-        && is_refused::<10, R>(rt, a, false)
-        && is_refused::<11, R>(rt, a, false)
-        && is_refused::<12, R>(rt, a, false)
+/// Whether a run that is refused one of these puts has no memory, or the report of ample memory.
+fn are_refused<const I: u32, const J: u32, const K: u32, R: Wait + Threads + Sync>(
+    rt: &R,
+    a: Global,
+) -> bool {
+    is_refused::<I, R>(rt, a, false)
+        && is_refused::<J, R>(rt, a, false)
+        && is_refused::<K, R>(rt, a, false)
 }
 
 #[test]
 fn a_put_is_refused(rt: HostRuntime) {
     let a = rt.alloc();
     assert!(rt; is_refused::<1, HostRuntime>(&rt, a, true));
-    assert!(rt; early_puts_are_refused(&rt, a));
-    assert!(rt; late_puts_are_refused(&rt, a));
+    assert!(rt; are_refused::<2, 3, 4, HostRuntime>(&rt, a));
+    assert!(rt; are_refused::<5, 6, 7, HostRuntime>(&rt, a));
+    assert!(rt; are_refused::<8, 9, 10, HostRuntime>(&rt, a));
+    assert!(rt; are_refused::<11, 12, 13, HostRuntime>(&rt, a));
 }
 
 /// The table of one task, which makes a promise, sets it, gets it, prints and ends with the promise.

@@ -3,8 +3,8 @@
 //! where `SEEDS` is set higher.
 ghost use Rattle.std.specs.Prelude.{◌≡◌, ◌<◌, ◌≤◌};
 
-use crate::row_tests::{AGAINST_THE_ORDER, FIB_OF_3, JOIN_EACH_OTHER, TWO_WAIT, written};
-use crate::shy_tests::ShyBody;
+use super::row_tests::{AGAINST_THE_ORDER, FIB_OF_3, JOIN_EACH_OTHER, TWO_WAIT, written};
+use super::shy_tests::ShyBody;
 use crate::worker_runs::ended_at_rest;
 use std::alloc::Global;
 use std::hint;

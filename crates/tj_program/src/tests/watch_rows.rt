@@ -1,5 +1,5 @@
 //! Worked rows of the mode `watch`: what became of the root.
-use crate::row_tests::{AnyRow, JOIN_EACH_OTHER, Row, THREE};
+use super::row_tests::{AnyRow, JOIN_EACH_OTHER, Row, THREE};
 use tj_command::Status;
 
 const OWED: &str = "task main() { let p = new; fork kid(p); return 0; } task kid(p) { let v = get \

@@ -1,6 +1,6 @@
 //! What tests alone show of the workers: that two of them enter the gate beside each other, and
 //! which closed words a run has.
-use crate::row_tests::{FIB_OF_3, FIB_OF_3_REPORT, JOIN_EACH_OTHER, answered, words_of, written};
+use super::row_tests::{FIB_OF_3, FIB_OF_3_REPORT, JOIN_EACH_OTHER, answered, words_of, written};
 use std::process::Abort;
 use std::sync::Wait;
 use std::sync::atomic::{AtomicBool, Ordering};

@@ -4,7 +4,7 @@ use Rattle.tj_chan.specs.ChannelLaws.{rules_of}
 use Rattle.tj_chan.specs.ChatTables.{table_channels, table_chat_asks, table_chat_awaits, table_chat_left}
 use Rattle.tj_chan.specs.ChatTables.{table_chat_then}
 use Rattle.tj_program.proofs.ClosedRuns.{rests_named}
-use Rattle.tj_program.proofs.relay_tests.worked.Goals as goal
+use Rattle.tj_program.proofs.tests.relay_tests.worked.Goals as goal
 
 pub ended_at_rest-requires : goal.ended_at_rest-requires
 ended_at_rest-requires g c κs = (

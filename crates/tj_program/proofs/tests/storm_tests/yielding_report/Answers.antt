@@ -1,7 +1,7 @@
 -- A run of a script whose tasks yield is a run as any other.
 use Rattle.tj_program.proofs.Prelude.{crosses, expr_sync, false, script_sync, sendable, stmt_sync}
 use Rattle.tj_program.proofs.ClosedRuns.{rests_named}
-use Rattle.tj_program.proofs.storm_tests.yielding_report.Goals as goal
+use Rattle.tj_program.proofs.tests.storm_tests.yielding_report.Goals as goal
 
 -- a body of a script may cross threads
 pub run_all-requires-send-B : goal.run_all-requires-send-B

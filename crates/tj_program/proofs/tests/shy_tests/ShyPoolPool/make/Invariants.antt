@@ -1,7 +1,7 @@
 -- Each end that was made is wrapped, the last first.
 use Rattle.std.specs.Prelude.{All}
 use Rattle.std.proofs.Common.{◌≡◌, ℕ, ◌+◌, length}
-use Rattle.tj_program.proofs.shy_tests.ShyPoolPool.make.Given as goal
+use Rattle.tj_program.proofs.tests.shy_tests.ShyPoolPool.make.Given as goal
 
 -- each is of a pool for so many cells
 abbrev pub invariant-loop-end : goal.invariant-loop-end
