@@ -1,6 +1,7 @@
 //! What the steps tell that draw a cell and write its words.
 ghost use Rattle.tj_words.specs.Calls.DrawViews.{mark_store, word_store};
 ghost use Rattle.tj_words.specs.SeatViews.SeatSteps.{of_its_cell};
+ghost use Rattle.tj_words.specs.Words.Offsets.{once_of};
 
 use crate::plays::Naming;
 use crate::record::Rec;
@@ -23,12 +24,10 @@ impl<B: Body, M: Naming> Play<Option<Rec<B>>, View<B>> for Draw<M> {
 }
 
 /// A store of a word of the tree.
-pub(crate) struct WordStore<M> {
-    naming: PhantomData<M>,
-}
+pub(crate) struct WordStore;
 
-impl<B: Body, M: Naming> Play<Option<Rec<B>>, View<B>> for WordStore<M> {
-    ghost then = { of_its_cell (λ cells c. word_store c M.word) };
+impl<B: Body> Play<Option<Rec<B>>, View<B>> for WordStore {
+    ghost then = { λ st. of_its_cell (λ cells c. word_store c (once_of st.word)) st };
 }
 
 /// A store of PHASE that marks a promise.

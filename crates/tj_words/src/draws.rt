@@ -65,20 +65,7 @@ impl<B: Body> Laid<B> {
         ensures seat { IsSameSeat seat.old seat.new }
         ensures view { seat.new.me.0 ≡ draws.wrote_word c.0 f v seat.old.me.0 }
     {
-        self.store_word::<Brand>(seat, c, f, v);
-    }
-
-    fn store_word<M: Naming>(&self, seat: &mut WSeat<B>, c: CellId, f: Once, v: u64)
-        requires named { M.word ≡ f }
-        requires table { seat.old.table_id ≡ self.now.table.shared.table_id }
-        requires cell { c.0 < self.now.cells }
-        requires may { MayWrite c.0 f v seat.old.me.0 }
-        ensures seat { IsSameSeat seat.old seat.new }
-        ensures view { seat.new.me.0 ≡ draws.wrote_word c.0 f v seat.old.me.0 }
-    {
-        self.table
-            .shared
-            .store::<WordStore<M>>(seat, once_at(c, f), v);
+        self.table.shared.store::<WordStore>(seat, once_at(c, f), v);
     }
 
     /// Marks the cell in hand as a promise, by its PHASE.

@@ -24,11 +24,10 @@ use crate::offsets::{COUNT, LIVE, Once, STOP, head_at, next_at, once_at, own_at,
 use crate::owner::owner_of_word;
 use crate::phase::Phase;
 use crate::plays::{
-    CountLoad, HeadLoad, LiveLoad, Naming, NextLoad, OnceLoad, OwnerLoad, PhaseLoad, StopLoad,
+    CountLoad, HeadLoad, LiveLoad, NextLoad, OnceLoad, OwnerLoad, PhaseLoad, StopLoad,
 };
 use crate::table::{Laid, WSeat};
 use crate::view::Noted;
-use std::marker::Brand;
 use tj_base::CellId;
 use tj_body::Body;
 use tj_tree::links_lead_to_tasks;
@@ -142,19 +141,7 @@ impl<B: Body> Laid<B> {
         ensures sees { SeesOnce (program_of B.places B.awaits B.left B.asks B.then)
             self.now.cells f c.0 result seat.old.me.0 seat.new.me.0 }
     {
-        self.load_once::<Brand>(seat, c, f)
-    }
-
-    fn load_once<M: Naming>(&self, seat: &mut WSeat<B>, c: CellId, f: Once) -> u64
-        requires named { M.word ≡ f }
-        requires table { seat.old.table_id ≡ self.now.table.shared.table_id }
-        requires cell { c.0 < self.now.cells }
-        requires may { MayRead f c.0 seat.old.me.0 }
-        ensures seat { IsSameSeat seat.old seat.new }
-        ensures sees { SeesOnce (program_of B.places B.awaits B.left B.asks B.then)
-            self.now.cells f c.0 result seat.old.me.0 seat.new.me.0 }
-    {
         links_lead_to_tasks();
-        self.table.shared.load::<OnceLoad<M>>(seat, once_at(c, f))
+        self.table.shared.load::<OnceLoad>(seat, once_at(c, f))
     }
 }

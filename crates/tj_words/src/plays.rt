@@ -4,16 +4,15 @@ ghost use Rattle.tj_words.specs.Calls.ChainSteps.{next_store, push_exchange, shu
 ghost use Rattle.tj_words.specs.Calls.ParkSteps.{phase_load};
 ghost use Rattle.tj_words.specs.SeatViews.SeenWords.{head_load, next_load, once_load};
 ghost use Rattle.tj_base.specs.declared.cell.Sort.{Sort};
-ghost use Rattle.tj_words.specs.declared.offsets.Once.{Once};
+ghost use Rattle.tj_words.specs.Words.Offsets.{once_of};
 ghost use Rattle.tj_words.specs.SeatViews.Moments.{at_moment};
 ghost use Rattle.tj_words.specs.SeatViews.SeatSteps.{IsCount, live_load, of_its_cell, plain_load};
 ghost use Rattle.tj_words.specs.declared.view.Noted.TheVariants as note;
 
-use crate::offsets::Once;
 use crate::record::Rec;
 use crate::view::View;
 use atomic_table::Play;
-use std::marker::{Brand, PhantomData};
+use std::marker::Brand;
 use tj_base::Sort;
 use tj_body::Body;
 
@@ -23,17 +22,12 @@ pub(crate) trait Naming {
     /// The task that walks, raises OTHERS or draws.
     ghost task: { ℕ };
 
-    /// The word that is written once.
-    ghost word: { Once };
-
     /// The sort of a new cell.
     ghost sort: { Sort };
 }
 
 impl Naming for Brand {
     ghost task = { 0 };
-
-    ghost word = { Once.Tag };
 
     ghost sort = { Sort.Promise };
 }
@@ -106,15 +100,13 @@ impl<B: Body> Play<Option<Rec<B>>, View<B>> for NextLoad {
 }
 
 /// A load of a word that is written once.
-pub(crate) struct OnceLoad<M> {
-    naming: PhantomData<M>,
-}
+pub(crate) struct OnceLoad;
 
-impl<B: Body, M: Naming> Play<Option<Rec<B>>, View<B>> for OnceLoad<M> {
+impl<B: Body> Play<Option<Rec<B>>, View<B>> for OnceLoad {
     ghost use Rattle.tj_body.specs.Programs.{program_of};
 
-    ghost then = { of_its_cell (λ cells. once_load
-        (program_of B.places B.awaits B.left B.asks B.then) cells M.word) };
+    ghost then = { λ st. of_its_cell (λ cells. once_load
+        (program_of B.places B.awaits B.left B.asks B.then) cells (once_of st.word)) st };
 }
 
 /// A store of NEXT.

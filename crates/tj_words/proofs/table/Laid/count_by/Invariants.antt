@@ -1,7 +1,6 @@
-use Rattle.tj_words.specs.declared.offsets.Once.TheVariants as once
 use Rattle.tj_base.specs.declared.cell.Sort.TheVariants as sort
 use Rattle.tj_words.proofs.table.Laid.count_by.Given as goal
 
 -- the walker
 abbrev pub ghosts-walker_count : goal.ghosts-walker_count
-ghosts-walker_count g a = record { task = a.t.0; word = once.Tag; sort = sort.Promise }
+ghosts-walker_count g a = record { task = a.t.0; sort = sort.Promise }

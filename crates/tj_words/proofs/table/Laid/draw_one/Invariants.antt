@@ -1,6 +1,5 @@
-use Rattle.tj_words.specs.declared.offsets.Once.TheVariants as once
 use Rattle.tj_words.proofs.table.Laid.draw_one.Given as goal
 
 -- the task and the sort
 abbrev pub ghosts-add_count : goal.ghosts-add_count
-ghosts-add_count g a = record { task = a.t.0; word = once.Tag; sort = a.sort }
+ghosts-add_count g a = record { task = a.t.0; sort = a.sort }

@@ -1,0 +1,23 @@
+use Rattle.tj_words.proofs.Prelude.{ap, arith, subst, ◌∙◌, ◌≡◌}
+use Rattle.tj_words.specs.Words.Offsets.{cell_at, once_of}
+use Rattle.tj_words.proofs.SeatLoads.KnowLoads.{once_within}
+use Rattle.tj_words.proofs.Stores.WordStores.{word_allowed}
+use Rattle.tj_words.specs.Calls.DrawViews.{word_store, wrote_word}
+use Rattle.tj_words.proofs.Stores.CellSteps.{its_cell, once_back}
+use Rattle.tj_words.proofs.table.Laid.put_tree_word.Goals as goal
+
+pub store-requires : goal.store-requires
+store-requires g c = let a = c.args in let e = a.self.now.key_cells in (
+  c.requires.table,
+  (let h = once_within a.c.0 a.self.now.cells a.f c.requires.cell in
+      omega (arith, a.self.now.words, c.once_at.ensures.word)),
+  word_allowed _ _ _ _ _ a.c.0 c.once_at.result a.v (cell_at c.once_at.result) a.f (once_of c.once_at.result)
+      (omega (arith, e, c.requires.cell)) c.once_at.ensures.word c.once_at.ensures.cell (ap once_of c.once_at.ensures.word ∙ once_back a.c.0 a.f) c.requires.may,
+)
+
+pub returns-clause-view : goal.returns-clause-view
+returns-clause-view g c = let a = c.args in
+    subst (λ f. c.store.new.seat.me.0 ≡ wrote_word a.c.0 f a.v a.seat.now.me.0)
+    (ap once_of c.once_at.ensures.word ∙ once_back a.c.0 a.f)
+    (its_cell (λ cells d. word_store d (once_of c.once_at.result)) a.v 0 {n = a.v} a.self.now.slots
+    c.once_at.ensures.cell c.store.ensures.2).1

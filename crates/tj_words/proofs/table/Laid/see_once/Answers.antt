@@ -1,0 +1,25 @@
+use Rattle.tj_words.proofs.Prelude.{SeesOnce, ap, arith, program_of, subst, sym, ◌∙◌}
+use Rattle.tj_words.specs.Words.Offsets.{cell_at, once_of}
+use Rattle.tj_words.proofs.SeatLoads.KnowLoads.{once_allowed, once_within}
+use Rattle.tj_words.specs.SeatViews.SeenWords.{once_load}
+use Rattle.tj_words.proofs.Stores.CellSteps.{its_cell, once_back}
+use Rattle.tj_words.proofs.table.Laid.see_once.Goals as goal
+
+pub load-requires : goal.load-requires
+load-requires g c = let a = c.args in let e = a.self.now.key_cells in (
+  c.requires.table,
+  (let h = once_within a.c.0 a.self.now.cells a.f c.requires.cell in omega
+      (arith, a.self.now.words, c.once_at.ensures.word)),
+  once_allowed _ _ c.links_lead_to_tasks.ensures _ _ _ a.c.0 c.once_at.result a.f
+      a.self.now.table.shared.table_id.slots (cell_at c.once_at.result) (once_of c.once_at.result)
+      (omega (arith, e, c.requires.cell)) c.once_at.ensures.word (a.self.now.slots ∙ sym e) c.once_at.ensures.cell
+      (ap once_of c.once_at.ensures.word ∙ once_back a.c.0 a.f) c.requires.may,
+)
+
+pub returns-clause-sees : goal.returns-clause-sees
+returns-clause-sees g c = let a = c.args in let b = g.B.Body in
+    let program = program_of b.places b.awaits b.left b.asks b.then in
+    subst (λ f. SeesOnce program a.self.now.cells f a.c.0 c.load.result a.seat.now.me.0 c.load.new.seat.me.0)
+    (ap once_of c.once_at.ensures.word ∙ once_back a.c.0 a.f)
+    (its_cell (λ cells. once_load program cells (once_of c.once_at.result)) 0 0 a.self.now.slots c.once_at.ensures.cell
+    c.load.ensures.2).1
