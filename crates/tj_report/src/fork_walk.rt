@@ -6,7 +6,7 @@ ghost use Rattle.std.specs.Prelude.{◌≡◌, ◌++◌, ◌<◌, ◌∷◌, [],
 ghost use Rattle.tj_base.specs.Texts.{name_text};
 ghost use Rattle.tj_body.specs.declared.point.Reference.{Reference};
 ghost use Rattle.tj_report.specs.Inner.CellNamesBy.{name_by};
-ghost use Rattle.tj_report.specs.Inner.WalkedReports.{IsPrintedAfter};
+ghost use Rattle.tj_report.specs.Inner.WalkedReports.{IsForkOf, IsPrintedAfter};
 ghost use Rattle.tj_words.specs.AtRest.ClosedCells.{AreNamed};
 
 use crate::shown_names::add_parts;
@@ -100,9 +100,8 @@ fn fork_of<B: Body>(
 ) -> Result<Option<u32>, Oom>
     requires name { name.old.items ≡ name_text (name_by rest.now.cells t) }
     requires named { (born : List Reference) × AreNamed rest.now.cells born }
-    ensures { IfOk result (λ next. IfSome next (λ u. (u < length rest.now.cells)
-        × (name.new.items ≡ name_text (name_by rest.now.cells u))
-        × ((k : ℕ) × (name_by rest.now.cells u ≡ name_by rest.now.cells t ++ k ∷ [])))) }
+    ensures { IfOk result (λ next. IfSome next (λ u. (k : ℕ)
+        × IsForkOf rest.now.cells t k name.new.items u)) }
 {
     let Some(k) = number_of(rest, t, child) else {
         return Ok(None);
@@ -120,10 +119,8 @@ fn fork_after<B: Body>(
 ) -> Result<Option<u32>, Oom>
     requires name { name.old.items ≡ name_text (name_by rest.now.cells cell.parent.0) }
     requires named { (born : List Reference) × AreNamed rest.now.cells born }
-    ensures { IfOk result (λ later. IfSome later (λ u. (u < length rest.now.cells)
-        × (name.new.items ≡ name_text (name_by rest.now.cells u))
-        × ((k : ℕ) × (cell.kid < k)
-        × (name_by rest.now.cells u ≡ name_by rest.now.cells cell.parent.0 ++ k ∷ [])))) }
+    ensures { IfOk result (λ later. IfSome later (λ u. (k : ℕ) × (cell.kid < k)
+        × IsForkOf rest.now.cells cell.parent.0 k name.new.items u)) }
 {
     let Some(k) = number_of(rest, cell.parent.0, next) else {
         return Ok(None);

@@ -15,6 +15,6 @@ mod summary;
 mod told_records;
 
 pub use closed_outcome::outcome_of;
-pub use report::report_text;
+pub use report::{add_shown, report_text};
 pub use rest_report::{RestReport, report_at_rest};
 pub use summary::summary_text;

@@ -1,5 +1,6 @@
 -- The report of a run, task by task in name order.
-use Rattle.std.specs.Prelude.{◌≡◌, ℕ, ◌<◌, Bool, true, false, not, ◌||◌, List, map, length, get_or, Option, Some, None}
+use Rattle.std.specs.Prelude.{◌≡◌, ℕ, ◌<◌, Bool, true, false, not, ◌||◌, List, [], ◌∷◌, ◌++◌, map, length, get_or}
+use Rattle.std.specs.Prelude.{Option, Some, None}
 use Rattle.std.specs.List.{flat_map, list_any}
 use Rattle.std.specs.Cmp.Lexicographic.{slice_cmp}
 use Rattle.std.specs.Ordering.{nat_cmp}
@@ -85,3 +86,9 @@ pub record IsPrintedAfter (shown : List RestCell) (t : ℕ) (name : List ℕ) (u
   pub there : u < length shown
   pub printed : name ≡ name_text (name_by shown u)
   pub later : IsBefore (name_by shown t) (name_by shown u)
+
+-- the task of cell u is the fork with this number of that of cell t, and this is its printed name
+pub record IsForkOf (shown : List RestCell) (t k : ℕ) (name : List ℕ) (u : ℕ) : Type 0 where
+  pub there : u < length shown
+  pub printed : name ≡ name_text (name_by shown u)
+  pub made : name_by shown u ≡ name_by shown t ++ k ∷ []

@@ -6,8 +6,12 @@ pub returns : goal.returns
 returns g c =
     let shown = c.args.rest.now.cells in let k = c.in-Some.k in let n = c.in-Some.ensures in
     let more = c.if-k-cell.false in (
-      n.0,
-      child_text (name_by shown c.args.cell.parent.0) (name_by shown c.args.next) k c.args.name.now.items
-          c.add_parts.new.text.items c.requires.name c.in_ok-add_parts.ensures n.1,
-      (k, omega (arith, more), n.1),
+      k,
+      omega (arith, more),
+      record {
+        there = n.0;
+        printed = child_text (name_by shown c.args.cell.parent.0) (name_by shown c.args.next) k c.args.name.now.items
+            c.add_parts.new.text.items c.requires.name c.in_ok-add_parts.ensures n.1;
+        made = n.1;
+      },
     )

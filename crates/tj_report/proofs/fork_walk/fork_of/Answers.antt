@@ -5,8 +5,11 @@ use Rattle.tj_report.proofs.fork_walk.fork_of.Goals as goal
 pub returns : goal.returns
 returns g c =
     let shown = c.args.rest.now.cells in let k = c.in-Some.k in let n = c.in-Some.ensures in (
-      n.0,
-      child_text (name_by shown c.args.t) (name_by shown c.args.child) k c.args.name.now.items
-          c.add_parts.new.text.items c.requires.name c.in_ok-add_parts.ensures n.1,
-      (k, n.1),
+      k,
+      record {
+        there = n.0;
+        printed = child_text (name_by shown c.args.t) (name_by shown c.args.child) k c.args.name.now.items
+            c.add_parts.new.text.items c.requires.name c.in_ok-add_parts.ensures n.1;
+        made = n.1;
+      },
     )
