@@ -4,5 +4,4 @@ pub mod Children
 pub mod Waiting
 pub mod Seats
 pub mod Runs
-pub mod ForTests
 pub mod Prelude

@@ -47,7 +47,6 @@ pub use Rattle.tj_park.specs.ParkViews.{GaveBack, HasParked, LeftTask, MayParkTa
 pub use Rattle.tj_park.specs.Records.{HasNoRecord}
 pub use Rattle.tj_park.specs.Wakes.{HasWoken, MayWake, WakesAll}
 pub use Rattle.tj_run.specs.Inner.Answers.{with_reference as record_with}
-pub use Rattle.tj_run.specs.Inner.Beside.{WaitsBeside, alone}
 pub use Rattle.tj_run.specs.Inner.Carried.{IsAsked, IsClosing, IsOpen, IsRunning, IsWaiting, RunsTask, Stands}
 pub use Rattle.tj_run.specs.Inner.Children.{MayGiveEach, gave_each, with_child}
 pub use Rattle.tj_run.specs.Inner.Going.{Goes, GoesOn, Lacks}

@@ -6,6 +6,4 @@ pub mod Children
 pub mod Answers
 pub mod Waits
 pub mod Turns
-pub mod Beside
-pub mod EndsAlone
 pub mod StartRecords

@@ -2,4 +2,3 @@ pub mod Workers
 pub mod Leaving
 pub mod Runs
 pub mod Inner
-pub mod TestBodies

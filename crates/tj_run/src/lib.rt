@@ -6,33 +6,15 @@
 mod answers;
 mod crew;
 mod forks;
-#[cfg(test)]
-mod meeting;
 mod next;
-#[cfg(test)]
-mod pass_tests;
 mod pauses;
 mod pieces;
-#[cfg(test)]
-mod plays;
 mod pure;
-#[cfg(test)]
-mod same_seat_tests;
-#[cfg(test)]
-mod started_tests;
-#[cfg(test)]
-mod step_tests;
 mod tasks;
-#[cfg(test)]
-mod tests;
 mod turns;
-#[cfg(test)]
-mod two_task_tests;
 mod waits;
 mod why;
 mod writes;
-#[cfg(test)]
-mod written;
 
 pub use crew::{run_all, work_all};
 pub use turns::worker;

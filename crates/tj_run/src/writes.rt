@@ -49,7 +49,7 @@ pub(crate) fn make_promise<B: Body>(
     Ok(Next::Runs)
 }
 
-/// The task sets a promise that it owns.
+/// The task sets a promise that it owns, and wakes those who wait for it.
 pub(crate) fn set<B: Body, P: Pool, R: Wait>(
     rt: &R,
     alloc: Global,
@@ -72,47 +72,20 @@ pub(crate) fn set<B: Body, P: Pool, R: Wait>(
         laid.now next rec.new seat.old.me.0 seat.new.me) }
     ensures same { rec.new.body ≡ rec.old.body }
 {
-    let (next, _woken) = set_and_wake(rt, alloc, laid, seat, rec, pool, place, v)?;
-    Ok(next)
-}
-
-/// The task sets a promise that it owns, and wakes those who wait for it. Tells how many there were.
-pub(crate) fn set_and_wake<B: Body, P: Pool, R: Wait>(
-    rt: &R,
-    alloc: Global,
-    laid: &Laid<B>,
-    seat: &mut WSeat<B>,
-    rec: &mut Rec<B>,
-    pool: &mut P,
-    place: u32,
-    v: Pay,
-) -> Result<(Next, u32), Why>
-    requires table { IsSeatOf laid.now seat.old }
-    requires runs { RunsTask laid.now rec.old seat.old.me }
-    requires asked { IsAsked (table_program (program_of B.places B.awaits B.left B.asks B.then)
-        laid.now) seat.old.me.0 rec.old (ask.Set place v) }
-    requires pool { P.limit pool.old ≡ laid.now.cells }
-    ensures table { seat.new.table_id ≡ seat.old.table_id }
-    ensures limit { P.limit pool.new ≡ P.limit pool.old }
-    ensures lacks { IfErr result (λ why. Lacks why seat.old.me.0 seat.new.me.0) }
-    ensures goes { IfOk result (λ told. Goes (program_of B.places B.awaits B.left B.asks B.then)
-        laid.now told.0 rec.new seat.old.me.0 seat.new.me) }
-    ensures same { rec.new.body ≡ rec.old.body }
-{
     points_in_rounds::<B>();
     names_and_cells();
     let h = rec.held.items()[place as usize];
     if let Sort::Task = h.sort {
-        return Ok((Next::Ends(Finish::Failed(Hurt::Kind)), 0));
+        return Ok(Next::Ends(Finish::Failed(Hurt::Kind)));
     }
     let value = fill_at(rec.held.items(), v);
     if !take_out(alloc, &mut rec.owned, h.cell) {
-        return Ok((Next::Ends(Finish::Failed(Hurt::Owner(h.cell))), 0));
+        return Ok(Next::Ends(Finish::Failed(Hurt::Owner(h.cell))));
     }
     fill(laid, seat, rec.cell, h.cell, value);
-    let woken = wake(rt, alloc, laid, seat, h.cell, pool)?;
+    wake(rt, alloc, laid, seat, h.cell, pool)?;
     rec.answer = Answer::Done;
-    Ok((Next::Runs, woken))
+    Ok(Next::Runs)
 }
 
 /// The task ends, and leaves the worker.

@@ -159,7 +159,7 @@ module _ {B : Type 0} {program : Bool → B → Program B} {laid : Laid B} {r : 
         → IfErr res (λ (z : Why). Lacks z me.0 s.0)
     released_lacks {A = A} res is = lacks_noted {A = A} me.0 s.0 released_about released_notes res is
 
-    forks_go : Goes program laid next.Runs (with_child c left r) me.0 s
+    pub forks_go : Goes program laid next.Runs (with_child c left r) me.0 s
     forks_go = let f = h.forking in
         subst (λ (z : SeatMe B). Goes program laid next.Runs (with_child c left r) me.0 z)
         (sym (released ∙ (λ i. (released_child c.0 u, rest (its_slot i)))))

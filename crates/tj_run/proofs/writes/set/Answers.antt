@@ -3,9 +3,9 @@ use Rattle.tj_park.specs.Wakes.{WakesSome}
 use Rattle.tj_run.proofs.Asks.NewThings.{lacks_memory}
 use Rattle.tj_run.proofs.Asks.SetPromises.{IsToSet, not_so, promise_if, sets_about, sets_cell, sets_fills, sets_gives}
 use Rattle.tj_run.proofs.Asks.SetPromises.{sets_goes, sets_notes, sets_task, sets_unowned, sets_wakes}
-use Rattle.tj_run.proofs.writes.set_and_wake.Given.{Over}
-use Rattle.tj_run.proofs.writes.set_and_wake.Goals as goal
-use Rattle.tj_run.proofs.writes.set_and_wake.Goals.{After-fill_at-value, After-items}
+use Rattle.tj_run.proofs.writes.set.Given.{Over}
+use Rattle.tj_run.proofs.writes.set.Goals as goal
+use Rattle.tj_run.proofs.writes.set.Goals.{After-fill_at-value, After-items}
 
 -- the task is to set the held cell at the place
 to_set : (g : Over) (c : After-items g)
@@ -57,13 +57,13 @@ wake-requires-clause-may g c κs within = let at = goal.at.wake-requires-clause-
     (c.take_out.ensures.found.0 c.if-not-take_out.false) c.fill_at-value.result (value_so g at.After-fill_at-value)
     c.fill.new.seat.me c.fill.ensures.view c.fill.ensures.seat.2
 
-pub returns-in_err-woken-clause-lacks : goal.returns-in_err-woken-clause-lacks
-returns-in_err-woken-clause-lacks g c = let at = goal.at.returns-in_err-woken-clause-lacks g c in
+pub returns-in_err-wake-clause-lacks : goal.returns-in_err-wake-clause-lacks
+returns-in_err-wake-clause-lacks g c = let at = goal.at.returns-in_err-wake-clause-lacks g c in
     let to = to_set g at.After-items in let promise = promise_if _ c.in_default.not-Task in
     let found = c.take_out.ensures.found.0 c.if-not-take_out.false in let is = value_so g at.After-fill_at-value in
     let h = held_at c.items.result.now c.args.place in
     let some : WakesSome g.P.Pool.puts g.P.Pool.same h.cell.0 c.fill.new.seat.me.0
-    c.wake.new.seat.me.0 c.args.pool.now c.wake.new.pool = c.in_err-woken.ensures.memory in
+    c.wake.new.seat.me.0 c.args.pool.now c.wake.new.pool = c.in_err-wake.ensures.memory in
     lacks_memory c.args.seat.now.me.0 c.wake.new.seat.me.0
     (ap (λ u. u.about) some.woke.view ∙ sets_about to promise found c.fill_at-value.result is c.fill.new.seat.me
     c.fill.ensures.view c.fill.ensures.seat.2)
@@ -74,8 +74,8 @@ returns-in_err-woken-clause-lacks g c = let at = goal.at.returns-in_err-woken-cl
 pub returns-clause-goes : goal.returns-clause-goes
 returns-clause-goes g c = let at = goal.at.returns-clause-goes g c in
     let h = held_at c.items.result.now c.args.place in
-    let woke : WakesAll g.P.Pool.puts h.cell.0 c.in_ok-woken.woken c.fill.new.seat.me.0
-    c.wake.new.seat.me.0 c.args.pool.now c.wake.new.pool = c.in_ok-woken.ensures.woke in
+    let woke : WakesAll g.P.Pool.puts h.cell.0 c.in_ok-wake.field-0 c.fill.new.seat.me.0
+    c.wake.new.seat.me.0 c.args.pool.now c.wake.new.pool = c.in_ok-wake.ensures.woke in
     sets_goes (to_set g at.After-items) (promise_if _ c.in_default.not-Task)
     (c.take_out.ensures.found.0 c.if-not-take_out.false) c.fill_at-value.result (value_so g at.After-fill_at-value)
     c.fill.new.seat.me c.fill.ensures.view c.fill.ensures.seat.2 woke.chain c.wake.new.seat.me woke.woke

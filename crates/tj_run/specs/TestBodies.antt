@@ -1,2 +1,0 @@
--- Bodies for tests.
-pub mod MeetingAsks
