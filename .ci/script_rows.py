@@ -1,0 +1,183 @@
+"""Rows by hand of scripts: what `list` finds wrong and how it lists, and what `plan` tells of tasks."""
+
+NAME = b"abcdefghijklmnopqrstuvwxyzabcdefghijklmnopqrstuvwxyz_0123456789A"
+
+# What a row shows, a text, and its first fault, or none where it is a script.
+FAULTS = (
+    ("a script", "task main() { return 1 + 2; }", None),
+    ("the end can't follow", "task main() { return 1;", "P1 at 1:24"),
+    ("no script at all", "", "P5 at 1:1"),
+    ("an unknown variable", "task main() { print x; }", "P2 at 1:21"),
+    ("a variable in its own declaration", "task main() { let x = x; }", "P2 at 1:23"),
+    ("a variable behind its block", "task main() { if 1 { let x = 1; } print x; }", None),
+    ("a parameter declared twice", "task main() { } task f(a, a) { }", "P3 at 1:27"),
+    ("a variable declared twice", "task main() { let a = 1; let a = 2; }", "P3 at 1:30"),
+    ("a task declared twice", "task main() { } task main() { }", "P3 at 1:22"),
+    ("a fork of no task stands before a token that can't follow", "task main() { fork f(); ) }", "P1 at 1:25"),
+    ("a fork of no task", "task main() { fork f(); }", "P2 at 1:20"),
+    ("a fork with too few arguments", "task main() { fork f(); } task f(a) { }", "P4 at 1:20"),
+    ("forks in the order of the text", "task main() { fork f(); fork g(); } task f(a) { }", "P4 at 1:20"),
+    ("a wrong count behind an unknown task", "task main() { fork g(); fork f(); } task f(a) { }", "P2 at 1:20"),
+    ("a fork of a later task", "task main() { fork f(1, me); } task f(a, b) { }", None),
+    ("no task main", "task f() { }", "P5 at 1:1"),
+    ("main has a parameter", "task f() { } task main(a) { }", "P6 at 1:19"),
+    ("else without if", "task main() { else { } }", "P1 at 1:15"),
+    ("get of a number", "task main() { get 1; }", "P1 at 1:19"),
+    ("set of me", "task main() { set me = 1; }", "P1 at 1:19"),
+    ("a keyword as a name", "task main() { let own = 1; }", "P1 at 1:19"),
+    ("or without an expression", "task main() { let p = new; get p or; }", "P1 at 1:36"),
+    ("or twice", "task main() { let p = new; get p or 1 or 2; }", "P1 at 1:39"),
+    ("or with an expression", "task main() { let p = new; let v = get p or 1 + 2; join me or v; }", None),
+    ("comparisons don't chain", "task main() { print 1 < 2 < 3; }", "P1 at 1:27"),
+    ("an else block is read", "task main() { if 1 { } else { print x; } }", "P2 at 1:37"),
+    ("an empty argument", "task main() { fork f(1, ); } task f(a) { }", "P1 at 1:25"),
+    ("a name alone", "task main() { let x = 1; x; }", "P1 at 1:27"),
+    ("an ask in an expression", "task main() { print 1 + new; }", "P1 at 1:25"),
+    ("own of an expression", "task main() { fork f(own 1); } task f(a) { }", "P1 at 1:26"),
+    ("a variable on the second line", "task main() {\n  print x;\n}", "P2 at 2:9"),
+    ("a fault of scope before one of the grammar", "task main() { print x print; }", "P2 at 1:21"),
+    # Of tokens.
+    ("a lone `!`", "task main() {\n!\n= 1", "L1 at 2:1"),
+    ("a byte past 127", b"task main() {\n\x80", "L1 at 2:1"),
+    ("a byte that is no mark, behind a tab and no comment's", "# @\n\t@", "L1 at 2:2"),
+    ("the number after the greatest", "1 9223372036854775808", "L2 at 1:3"),
+    ("a number of many digits", "00000000000000000000000000001\n11111111111111111111111 !", "L2 at 2:1"),
+    ("a name of 65 bytes", b"a " + NAME + b"B @", "L3 at 1:3"),
+    ("the first of two faults of tokens", "@ 9223372036854775808", "L1 at 1:1"),
+    ("a fault of a token behind one of the grammar", "task main( { } @", "L1 at 1:16"),
+    ("a number ends where a name begins", "task main() { print 12ab; }", "P1 at 1:23"),
+    ("two bytes that are apart make two marks", "task main() { print 1 < = 2; }", "P1 at 1:25"),
+    ("marks are as long as they may be", "task main() { print 1 ==! 2; }", "L1 at 1:25"),
+    # Of places.
+    ("tabs and carriage returns are a column each", "task main() {\r\n\r\t)", "P1 at 2:3"),
+    ("a comment ends its line", "task main() { # b\n# c\n  )", "P1 at 3:3"),
+    ("the end behind a comment without a line feed", "task main() { # c", "P1 at 1:18"),
+    ("the end behind a line feed", "task main() {\n", "P1 at 2:1"),
+    ("the end behind a number", "task main() {\n print 12", "P1 at 2:10"),
+)
+
+# What a row shows, a text, and its listing.
+LISTINGS = (
+    ("blocks, an empty else block and a sign", "task main(){if 1<2{print (1+2)*3;}else{}return -(4);}",
+     "task main() {\n  if 1 < 2 {\n    print (1 + 2) * 3;\n  } else {\n  }\n  return -4;\n}\n"),
+    ("what is computed where a cell is broken", "task main(){let p=new;let v=get p or 1+2;return v;}",
+     "task main() {\n  let p = new;\n  let v = get p or 1 + 2;\n  return v;\n}\n"),
+    ("each keyword and mark",
+     "task main(){let p=new;while 1{fork f(own p,1<2,(me));}join me;get p;}"
+     "task f(a,b,c){set a=b*2/3%4;a=new;if a!=b{print a==b;}else{join a or me-1;return b+1<=c;}return b>=c;print b>c;}",
+     "task main() {\n  let p = new;\n  while 1 {\n    fork f(own p, 1 < 2, me);\n  }\n  join me;\n  get p;\n}\n"
+     "task f(a, b, c) {\n  set a = b * 2 / 3 % 4;\n  a = new;\n  if a != b {\n    print a == b;\n  } else {\n"
+     "    join a or me - 1;\n    return b + 1 <= c;\n  }\n  return b >= c;\n  print b > c;\n}\n"),
+    ("any byte in a comment", b"task main() {#\x80\xff@!#\n}", "task main() {\n}\n"),
+    ("names with digits, and beside keywords", "task main() { let tasks=1; let Task=2; let _=3; let ab12=4; }",
+     "task main() {\n  let tasks = 1;\n  let Task = 2;\n  let _ = 3;\n  let ab12 = 4;\n}\n"),
+    ("a name of 64 bytes", b"task main(){let " + NAME + b"=1;}", f"task main() {{\n  let {NAME.decode()} = 1;\n}}\n"),
+    ("the greatest number, and zeros before one", "task main(){print 9223372036854775807;print 007;}",
+     "task main() {\n  print 9223372036854775807;\n  print 7;\n}\n"),
+)
+
+# An expression, and how it is listed.
+EXPRESSIONS = (
+    ("((1))", "1"),
+    ("-(1)", "-1"),
+    ("- -me", "--me"),
+    ("-(1+2)", "-(1 + 2)"),
+    ("-(1*2)", "-(1 * 2)"),
+    ("(-1)*2", "-1 * 2"),
+    ("1+(2+3)", "1 + (2 + 3)"),
+    ("(1+2)+3", "(1 + 2) + 3"),
+    ("1+2+3", "1 + 2 + 3"),
+    ("1+(2*3)", "1 + 2 * 3"),
+    ("(1-2)*3", "(1 - 2) * 3"),
+    ("1*(2/3)", "1 * (2 / 3)"),
+    ("(1*2)%3-4", "(1 * 2) % 3 - 4"),
+    ("(1<2)<3", "(1 < 2) < 3"),
+    ("1==(2!=3)", "1 == (2 != 3)"),
+    ("(1+2)<=(3*4)", "1 + 2 <= 3 * 4"),
+    ("(1>2)+3", "(1 > 2) + 3"),
+    ("-(1>=2)", "-(1 >= 2)"),
+)
+
+# The statements of `main`, how many of them may begin, and how it ends.
+ENDS = (
+    ("return 2 * 3 % 4 - 7 / 2;", 1, "done -1"),
+    ("return 9223372036854775807 + 1;", 1, "failed arith"),
+    ("return -9223372036854775807 + -2;", 1, "failed arith"),
+    ("return 9223372036854775807 - -1;", 1, "failed arith"),
+    ("return -9223372036854775807 - 2;", 1, "failed arith"),
+    ("return -9223372036854775807 - 1;", 1, "done -9223372036854775808"),
+    ("return -(-9223372036854775807 - 1);", 1, "failed arith"),
+    ("return 3037000500 * 3037000500;", 1, "failed arith"),
+    ("return 4611686018427387904 * -2;", 1, "done -9223372036854775808"),
+    ("return (-9223372036854775807 - 1) * -1;", 1, "failed arith"),
+    ("return (-9223372036854775807 - 1) / -1;", 1, "failed arith"),
+    ("return (-9223372036854775807 - 1) % -1;", 1, "failed arith"),
+    ("return (-9223372036854775807 - 1) / 1;", 1, "done -9223372036854775808"),
+    ("return -7 / 2;", 1, "done -3"),
+    ("return -7 % 2;", 1, "done -1"),
+    ("return 7 % -2;", 1, "done 1"),
+    ("return -7 / -2;", 1, "done 3"),
+    ("return -7 % -2;", 1, "done -1"),
+    ("return 7 / 0;", 1, "failed arith"),
+    ("return 7 % 0;", 1, "failed arith"),
+    ("return (1 < 2) + (2 < 2) * 2 + (2 <= 2) * 4 + (2 <= 1) * 8;", 1, "done 5"),
+    ("return (2 > 1) + (2 > 2) * 2 + (2 >= 2) * 4 + (1 >= 2) * 8;", 1, "done 5"),
+    ("return (2 == 2) + (1 == 2) * 2 + (1 != 2) * 4 + (1 != 1) * 8;", 1, "done 5"),
+    # Numbers and references.
+    ("return me;", 2, "done @0"),
+    ("return 1 + me;", 2, "failed kind"),
+    ("return -me;", 2, "failed kind"),
+    ("return 1 == me;", 2, "failed kind"),
+    ("let r = me; return r == r;", 2, "failed kind"),
+    ("return me < 1 / 0;", 2, "failed kind"),
+    ("return 1 / 0 < me;", 2, "failed arith"),
+    ("let r = me; return r + 1 / 0;", 2, "failed kind"),
+    ("return 1 / 0 + me;", 2, "failed arith"),
+    ("if me { return 1; }", 2, "failed kind"),
+    ("print me;", 2, "failed kind"),
+    ("let n = 1; set n = 1 / 0;", 2, "failed kind"),
+    ("let n = 1; join n or 2;", 2, "failed kind"),
+    # The limit of statements.
+    ("", 1, "done 0"),
+    ("let x = 3; x = 4;", 2, "done 0"),
+    ("let x = 3; x = 4;", 1, "failed steps"),
+    ("while 1 { }", 3, "failed steps"),
+    ("if 0 { let x = 5; } else { } return x;", 2, "done 0"),
+    # 499,998 turns of two statements each, and the first, the last test and the return.
+    ("let n = 0; while n < 499998 { n = n + 1; } return n;", 999999, "done 499998"),
+    ("let n = 0; while n < 499998 { n = n + 1; } return n;", 999998, "failed steps"),
+    # Three turns of the inner loop, each with its assignment and its test, and the return.
+    ("let x = 0; while 1 { while 1 { x = x + 1; if x == 3 { return x; } } }", 12, "done 3"),
+    ("let x = 0; while 1 { while 1 { x = x + 1; if x == 3 { return x; } } }", 11, "failed steps"),
+)
+
+# What a row shows, a script, and its report.
+REPORTS = (
+    ("an if, a print and a sign", "task main(){if 1<2{print (1+2)*3;}else{}return -(4);}",
+     "0 prints 9\n0 done -4\nclean\n"),
+    ("a task joins itself", "task main() { let v = join me; return v; }",
+     "0 waits for 0\nalarm 0 waits for 0\nmarked\n"),
+    ("the generated script of size 2",
+     "task main() { let a = new; let p = a; let q = 0; let t = 0; q = new; t = fork node(1, p, own q); p = q; "
+     "q = new; t = fork node(2, p, own q); p = q; set a = 0; let v = get p; print v; return v; } "
+     "task node(i, p, q) { let v = get p; set q = v + i; return i; }",
+     "0 prints 3\n0 done 3\n0.3 done 1\n0.5 done 2\nclean\n"),
+    ("references among numbers, one of them handed",
+     "task main() { let p = new; fork kid(me, 5, own p); return 0; } task kid(m, n, p) { set p = n + 1; return m; }",
+     "0 done 0\n0.2 done @0\nclean\n"),
+    ("and what the promise has then",
+     "task main() { let p = new; fork kid(me, 5, own p); let v = get p; return v; } "
+     "task kid(m, n, p) { set p = n + 1; return m; }",
+     "0 done 6\n0.2 done @0\nclean\n"),
+    ("arguments from the left: own of a number", "task main() { let n = 1; fork f(own n, 1 / 0); } task f(a, b) { }",
+     "0 failed kind\nmarked\n"),
+    ("a division by zero in front of it", "task main() { let n = 1; fork f(1 / 0, own n); } task f(a, b) { }",
+     "0 failed arith\nmarked\n"),
+    ("and in front of a sum with a reference", "task main() { fork f(1 / 0, me + 1); } task f(a, b) { }",
+     "0 failed arith\nmarked\n"),
+    ("a get with `or` of one's own promise waits", "task main(){let p=new;let v=get p or 1+2;return v;}",
+     "0 waits for 0.1\nalarm 0 waits for 0.1\nmarked\n"),
+    ("a value that is a reference, where an expression stands in its place",
+     "task main() { let t = fork kid(me); let v = join t or 1 / 0; return v; } task kid(m) { return m; }",
+     "0 done @0\n0.1 done @0\nclean\n"),
+)
