@@ -4,10 +4,10 @@ ghost use Rattle.std.specs.Prelude.{◌≡◌, ◌<◌};
 ghost use Rattle.tj_tree.specs.Forks.{IsHistory, task_count};
 
 use crate::shown::holds;
+use std::alloc::Global;
 use std::marker::Brand;
 use std::process::Abort;
 use std::sync::ledger::{Blank, Ledger};
-use std::test::Fail;
 use tj_base::Steps;
 use tj_tree::{ForkTree, Node, NodeId, NodeReader, OrderList, before_in};
 
@@ -123,23 +123,33 @@ fn is_given(
     walked == before && answer == before && list.before(a, b) == before && desk.looks <= most
 }
 
+// The root alone in both forms.
+fn both(rt: &impl Abort, alloc: Global) -> (ForkTree, OrderList) {
+    let Ok(tree) = ForkTree::new(alloc) else {
+        panic!(rt; "no memory");
+    };
+    let Ok(list) = OrderList::new(alloc) else {
+        panic!(rt; "no memory");
+    };
+    (tree, list)
+}
+
 // A fork in both forms.
-fn fork_both(
-    rt: &impl Abort,
-    tree: &mut ForkTree,
-    list: &mut OrderList,
-    parent: u32,
-) -> Result<NodeId, Fail> {
+fn fork_both(rt: &impl Abort, tree: &mut ForkTree, list: &mut OrderList, parent: u32) -> NodeId {
     if parent >= tree.count() || tree.count() >= 16_384 {
         panic!(rt; "no room in the tree");
     }
     if parent >= list.count() || list.count() >= 16_384 {
         panic!(rt; "no room in the list");
     }
-    let child = tree.fork(NodeId(parent))?;
-    let same = list.fork(NodeId(parent))?;
+    let Ok(child) = tree.fork(NodeId(parent)) else {
+        panic!(rt; "no memory");
+    };
+    let Ok(same) = list.fork(NodeId(parent)) else {
+        panic!(rt; "no memory");
+    };
     holds(rt, "both number alike", same.0 == child.0);
-    Ok(child)
+    child
 }
 
 /// What a row shows, two tasks, and whether the first is before the second.
@@ -152,29 +162,26 @@ const SMALL: &[(&str, u32, u32, bool)] = &[
 ];
 
 #[test]
-fn a_small_tree(rt: HostRuntime) -> Result<(), Fail> {
-    let mut tree = ForkTree::new(rt.alloc())?;
-    let mut list = OrderList::new(rt.alloc())?;
+fn a_small_tree(rt: HostRuntime) {
+    let (mut tree, mut list) = both(&rt, rt.alloc());
     for (parent, child) in [(0, 1), (0, 2), (1, 3)] {
-        let number = fork_both(&rt, &mut tree, &mut list, parent)?;
+        let number = fork_both(&rt, &mut tree, &mut list, parent);
         holds(&rt, "forks are numbered in turn", number.0 == child);
     }
     for (shows, a, b, before) in SMALL {
         let pair = (NodeId(*a), NodeId(*b));
         holds(&rt, shows, is_given(&tree, &list, pair, *before, 48));
     }
-    Ok(())
 }
 
 #[test]
-fn a_deep_chain(rt: HostRuntime) -> Result<(), Fail> {
-    let mut tree = ForkTree::new(rt.alloc())?;
-    let mut list = OrderList::new(rt.alloc())?;
+fn a_deep_chain(rt: HostRuntime) {
+    let (mut tree, mut list) = both(&rt, rt.alloc());
     let mut last = NodeId(0);
     for _ in 0..16_382 {
-        last = fork_both(&rt, &mut tree, &mut list, last.0)?;
+        last = fork_both(&rt, &mut tree, &mut list, last.0);
     }
-    let second = fork_both(&rt, &mut tree, &mut list, 0)?;
+    let second = fork_both(&rt, &mut tree, &mut list, 0);
     holds(&rt, "16,384 nodes", tree.count() == 16_384);
     holds(&rt, "the end of the chain", last.0 == 16_382);
     assert!(rt; last.0 < tree.count());
@@ -189,5 +196,4 @@ fn a_deep_chain(rt: HostRuntime) -> Result<(), Fail> {
         "the other way",
         is_given(&tree, &list, (last, second), false, 240),
     );
-    Ok(())
 }

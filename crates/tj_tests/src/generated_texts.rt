@@ -1,11 +1,12 @@
 //! The generated text, by hand.
-use crate::shown::reads;
-use std::test::Fail;
+use crate::shown::{holds, reads};
 use tj_gen::gen_script;
 
 #[test]
-fn the_script_of_two_steps(rt: HostRuntime) -> Result<(), Fail> {
-    let text = gen_script(rt.alloc(), 2)?;
+fn the_script_of_two_steps_and_the_longest(rt: HostRuntime) {
+    let Ok(text) = gen_script(rt.alloc(), 2) else {
+        panic!(rt; "no memory");
+    };
     let wanted = b"task main() {
   let a = new;
   let p = a;
@@ -29,12 +30,8 @@ task node(i, p, q) {
 }
 ";
     reads(&rt, "two steps", text.as_slice(), wanted.as_slice());
-    Ok(())
-}
-
-#[test]
-fn the_longest_script_is_short(rt: HostRuntime) -> Result<(), Fail> {
-    let text = gen_script(rt.alloc(), 4000)?;
-    assert!(rt; text.len() < 300_000);
-    Ok(())
+    let Ok(text) = gen_script(rt.alloc(), 4000) else {
+        panic!(rt; "no memory");
+    };
+    holds(&rt, "the longest script is short", text.len() < 300_000);
 }

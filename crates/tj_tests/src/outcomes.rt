@@ -1,17 +1,17 @@
-//! Programs, each with its report and its summary, by hand.
+//! Programs, each with its report, its summary and what is told of its joins, by hand.
 use crate::shown::reads;
-use crate::tables::Says::{Emit, End, Fail, Fork, Get, GetOr, Join, New, Set};
+use crate::tables::Says::{Emit, End, Fail, Fork, Get, GetOr, Join, JoinOr, New, Set};
 use crate::tables::{Says, lists};
 use std::alloc::Global;
 use std::process::Abort;
-use std::test;
-use tj_base::{Oom, Pay, Trouble};
+use tj_base::{Pay, Trouble};
 use tj_body::{TableBody, is_table};
-use tj_mean::{PlanFault, plan};
+use tj_known::{known_joins, known_text};
+use tj_mean::{PlanFault, acts, plan};
 use tj_report::{report_text, summary_text};
 
 /// The lists of a program, its limit of cells, whether the rule is the strict one, its report, or
-/// "full", a size, and the summary.
+/// nothing where it is full, a size, the summary, and the joins without that rule.
 struct Case {
     shows: &'static str,
     lists: &'static [&'static [Says]],
@@ -20,7 +20,10 @@ struct Case {
     report: &'static str,
     size: u32,
     summary: &'static str,
+    joins: &'static str,
 }
+
+const NO_JOINS: &str = "joins 0 known 0 along 0 against 0\n";
 
 const OF_A_PROMISE: &[&[Says]] = &[&[New, Set(1, Pay::Num(5)), Get(1), Emit(8), End(Pay::Ref(1))]];
 
@@ -55,7 +58,8 @@ const ALL_KINDS: &[&[Says]] = &[
     &[New, New, End(Pay::Ref(2))],
 ];
 
-const CASES: &[Case] = &[
+/// One constant of all cases is more than the checker reads.
+const ENDINGS: &[Case] = &[
     Case {
         shows: "each kind of line",
         lists: ALL_KINDS,
@@ -67,6 +71,7 @@ const CASES: &[Case] = &[
             alarm 0.8 waits for 0.8.1\nmarked\n",
         size: 7,
         summary: "size 7 tasks 9 done 2 failed 6 waiting 1 owed 3 cycles 1 result -3\nmarked\n",
+        joins: "0.6 joins 0 against\njoins 1 known 0 along 0 against 1\n",
     },
     Case {
         shows: "no trouble",
@@ -76,6 +81,7 @@ const CASES: &[Case] = &[
         report: "0 done 0\nclean\n",
         size: 4000,
         summary: "size 4000 tasks 1 done 1 failed 0 waiting 0 owed 0 cycles 0 result 0\nclean\n",
+        joins: NO_JOINS,
     },
     Case {
         shows: "a root that isn't done has no result",
@@ -85,6 +91,7 @@ const CASES: &[Case] = &[
         report: "0 failed kind\nmarked\n",
         size: 1,
         summary: "size 1 tasks 1 done 0 failed 1 waiting 0 owed 0 cycles 0 result -\nmarked\n",
+        joins: NO_JOINS,
     },
     Case {
         shows: "a value through a promise",
@@ -94,6 +101,7 @@ const CASES: &[Case] = &[
         report: "0 prints 8\n0 done @0.1\nclean\n",
         size: 2,
         summary: "size 2 tasks 1 done 1 failed 0 waiting 0 owed 0 cycles 0 result @0.1\nclean\n",
+        joins: NO_JOINS,
     },
     Case {
         shows: "an owed promise",
@@ -103,6 +111,7 @@ const CASES: &[Case] = &[
         report: "0 done 0\n0 owes 0.1\n0.2 failed broken 0.1\nmarked\n",
         size: 3,
         summary: "size 3 tasks 2 done 1 failed 1 waiting 0 owed 1 cycles 0 result 0\nmarked\n",
+        joins: NO_JOINS,
     },
     Case {
         shows: "two wait for each other",
@@ -116,6 +125,7 @@ const CASES: &[Case] = &[
             alarm 0.3 waits for 0.2, 0.4 waits for 0.1\nmarked\n",
         size: 4,
         summary: "size 4 tasks 3 done 1 failed 0 waiting 2 owed 0 cycles 1 result 0\nmarked\n",
+        joins: NO_JOINS,
     },
     Case {
         shows: "a broken one with or",
@@ -125,6 +135,7 @@ const CASES: &[Case] = &[
         report: "0 prints 1\n0 done 0\n0.2 done 0\n0.2 owes 0.1\nmarked\n",
         size: 12,
         summary: "size 12 tasks 2 done 2 failed 0 waiting 0 owed 1 cycles 0 result 0\nmarked\n",
+        joins: NO_JOINS,
     },
     Case {
         shows: "its own promise",
@@ -134,6 +145,7 @@ const CASES: &[Case] = &[
         report: "0 waits for 0.1\nalarm 0 waits for 0.1\nmarked\n",
         size: 14,
         summary: "size 14 tasks 1 done 0 failed 0 waiting 1 owed 0 cycles 1 result -\nmarked\n",
+        joins: NO_JOINS,
     },
     Case {
         shows: "joins",
@@ -143,6 +155,7 @@ const CASES: &[Case] = &[
         report: "0 waits for 0.1\n0.1 waits for 0\nalarm 0 waits for 0.1, 0.1 waits for 0\nmarked\n",
         size: 15,
         summary: "size 15 tasks 2 done 0 failed 0 waiting 2 owed 0 cycles 1 result -\nmarked\n",
+        joins: "0 joins 0.1 known\n0.1 joins 0 against\njoins 2 known 1 along 0 against 1\n",
     },
     Case {
         shows: "strict joins",
@@ -152,6 +165,7 @@ const CASES: &[Case] = &[
         report: "0 failed broken 0.1\n0.1 failed order 0\nmarked\n",
         size: 16,
         summary: "size 16 tasks 2 done 0 failed 2 waiting 0 owed 0 cycles 0 result -\nmarked\n",
+        joins: "0 joins 0.1 known\n0.1 joins 0 against\njoins 2 known 1 along 0 against 1\n",
     },
     Case {
         shows: "a join of oneself",
@@ -161,6 +175,7 @@ const CASES: &[Case] = &[
         report: "0 waits for 0\nalarm 0 waits for 0\nmarked\n",
         size: 17,
         summary: "size 17 tasks 1 done 0 failed 0 waiting 1 owed 0 cycles 1 result -\nmarked\n",
+        joins: "0 joins 0 against\njoins 1 known 0 along 0 against 1\n",
     },
     Case {
         shows: "a strict join of oneself",
@@ -170,6 +185,7 @@ const CASES: &[Case] = &[
         report: "0 failed order 0\nmarked\n",
         size: 18,
         summary: "size 18 tasks 1 done 0 failed 1 waiting 0 owed 0 cycles 0 result -\nmarked\n",
+        joins: "0 joins 0 against\njoins 1 known 0 along 0 against 1\n",
     },
     Case {
         shows: "two cycles",
@@ -180,15 +196,20 @@ const CASES: &[Case] = &[
             alarm 0.2 waits for 0.2.1\nmarked\n",
         size: 19,
         summary: "size 19 tasks 3 done 1 failed 0 waiting 2 owed 0 cycles 2 result 0\nmarked\n",
+        joins: NO_JOINS,
     },
+];
+
+const LIMITS_PLACES_AND_JOINS: &[Case] = &[
     Case {
         shows: "a value through a promise, with a cell too few",
         lists: OF_A_PROMISE,
         cells: 1,
         strict: false,
-        report: "full",
+        report: "",
         size: 20,
         summary: "",
+        joins: "",
     },
     Case {
         shows: "a value through a promise, with just enough cells",
@@ -198,15 +219,17 @@ const CASES: &[Case] = &[
         report: "0 prints 8\n0 done @0.1\nclean\n",
         size: 21,
         summary: "size 21 tasks 1 done 1 failed 0 waiting 0 owed 0 cycles 0 result @0.1\nclean\n",
+        joins: NO_JOINS,
     },
     Case {
         shows: "tasks that fork for ever",
         lists: &[&[Fork(0, &[], &[]), Fork(0, &[], &[])]],
         cells: 16_384,
         strict: false,
-        report: "full",
+        report: "",
         size: 22,
         summary: "",
+        joins: "",
     },
     Case {
         shows: "numbers in order",
@@ -233,28 +256,186 @@ const CASES: &[Case] = &[
             0.10 done 0\nmarked\n",
         size: 23,
         summary: "size 23 tasks 3 done 2 failed 1 waiting 0 owed 9 cycles 0 result -\nmarked\n",
+        joins: NO_JOINS,
+    },
+    Case {
+        shows: "sets of places that aren't there, or are a task's",
+        lists: &[
+            &[Fork(1, &[], &[]), Fork(2, &[], &[]), Fork(3, &[], &[])],
+            &[Set(1, Pay::Num(5))],
+            &[Set(0, Pay::Ref(1))],
+            &[Set(0, Pay::Num(5))],
+        ],
+        cells: 4096,
+        strict: false,
+        report: "0 done 0\n0.1 failed kind\n0.2 failed kind\n0.3 failed kind\nmarked\n",
+        size: 24,
+        summary: "size 24 tasks 4 done 1 failed 3 waiting 0 owed 0 cycles 0 result 0\nmarked\n",
+        joins: NO_JOINS,
+    },
+    Case {
+        shows: "waits for places that aren't there, and an end with one",
+        lists: &[
+            &[Fork(1, &[], &[]), Fork(2, &[], &[]), Fork(3, &[], &[])],
+            &[Join(1)],
+            &[GetOr(1)],
+            &[End(Pay::Ref(1))],
+        ],
+        cells: 4096,
+        strict: false,
+        report: "0 done 0\n0.1 failed kind\n0.2 failed kind\n0.3 failed kind\nmarked\n",
+        size: 25,
+        summary: "size 25 tasks 4 done 1 failed 3 waiting 0 owed 0 cycles 0 result 0\nmarked\n",
+        joins: NO_JOINS,
+    },
+    Case {
+        shows: "a promise passed twice has two places",
+        lists: &[
+            &[New, Fork(1, &[1, 1], &[1]), Get(1), Emit(7)],
+            &[Set(2, Pay::Num(5)), Get(1), Emit(6)],
+        ],
+        cells: 4096,
+        strict: false,
+        report: "0 prints 7\n0 done 0\n0.2 prints 6\n0.2 done 0\nclean\n",
+        size: 26,
+        summary: "size 26 tasks 2 done 2 failed 0 waiting 0 owed 0 cycles 0 result 0\nclean\n",
+        joins: NO_JOINS,
+    },
+    Case {
+        shows: "a parent knows its children",
+        lists: &[
+            &[Fork(1, &[], &[]), Join(1)],
+            &[Fork(2, &[], &[]), Fork(2, &[], &[]), Join(1), JoinOr(2)],
+            &[],
+        ],
+        cells: 4096,
+        strict: false,
+        report: "0 done 0\n0.1 done 0\n0.1.1 done 0\n0.1.2 done 0\nclean\n",
+        size: 27,
+        summary: "size 27 tasks 4 done 4 failed 0 waiting 0 owed 0 cycles 0 result 0\nclean\n",
+        joins: "0 joins 0.1 known\n0.1 joins 0.1.1 known\n0.1 joins 0.1.2 known\n\
+            joins 3 known 3 along 0 against 0\n",
+    },
+    Case {
+        shows: "joins of children, three levels deep",
+        lists: &[
+            &[Fork(1, &[], &[]), Join(1)],
+            &[Fork(2, &[], &[]), Fork(3, &[], &[]), Join(1), Join(2)],
+            &[Fork(3, &[], &[]), Fork(3, &[], &[]), Join(1), Join(2)],
+            &[],
+        ],
+        cells: 4096,
+        strict: false,
+        report: "0 done 0\n0.1 done 0\n0.1.1 done 0\n0.1.1.1 done 0\n0.1.1.2 done 0\n0.1.2 done 0\nclean\n",
+        size: 28,
+        summary: "size 28 tasks 6 done 6 failed 0 waiting 0 owed 0 cycles 0 result 0\nclean\n",
+        joins: "0 joins 0.1 known\n0.1 joins 0.1.1 known\n0.1 joins 0.1.2 known\n\
+            0.1.1 joins 0.1.1.1 known\n0.1.1 joins 0.1.1.2 known\n\
+            joins 5 known 5 along 0 against 0\n",
+    },
+    Case {
+        shows: "a child's child, told by a promise",
+        lists: &[
+            &[New, Fork(1, &[1], &[1]), Get(1), Join(3)],
+            &[Fork(2, &[], &[]), Set(1, Pay::Ref(2))],
+            &[],
+        ],
+        cells: 4096,
+        strict: false,
+        report: "0 done 0\n0.2 done 0\n0.2.1 done 0\nclean\n",
+        size: 29,
+        summary: "size 29 tasks 3 done 3 failed 0 waiting 0 owed 0 cycles 0 result 0\nclean\n",
+        joins: "0 joins 0.2.1 along\njoins 1 known 0 along 1 against 0\n",
+    },
+    Case {
+        shows: "a child's child, after the join of the child",
+        lists: &[
+            &[New, Fork(1, &[1], &[1]), Get(1), Join(2), Join(3)],
+            &[Fork(2, &[], &[]), Set(1, Pay::Ref(2))],
+            &[],
+        ],
+        cells: 4096,
+        strict: false,
+        report: "0 done 0\n0.2 done 0\n0.2.1 done 0\nclean\n",
+        size: 30,
+        summary: "size 30 tasks 3 done 3 failed 0 waiting 0 owed 0 cycles 0 result 0\nclean\n",
+        joins: "0 joins 0.2 known\n0 joins 0.2.1 known\njoins 2 known 2 along 0 against 0\n",
+    },
+    Case {
+        shows: "a later sibling",
+        lists: &[
+            &[
+                New,
+                Fork(1, &[1], &[]),
+                Fork(2, &[], &[]),
+                Set(1, Pay::Ref(3)),
+            ],
+            &[Get(1), Join(2)],
+            &[],
+        ],
+        cells: 4096,
+        strict: false,
+        report: "0 done 0\n0.2 done 0\n0.3 done 0\nclean\n",
+        size: 31,
+        summary: "size 31 tasks 3 done 3 failed 0 waiting 0 owed 0 cycles 0 result 0\nclean\n",
+        joins: "0.2 joins 0.3 against\njoins 1 known 0 along 0 against 1\n",
+    },
+    Case {
+        shows: "an earlier sibling is inherited",
+        lists: &[&[Fork(2, &[], &[]), Fork(1, &[1], &[])], &[Join(1)], &[]],
+        cells: 4096,
+        strict: false,
+        report: "0 done 0\n0.1 done 0\n0.2 done 0\nclean\n",
+        size: 32,
+        summary: "size 32 tasks 3 done 3 failed 0 waiting 0 owed 0 cycles 0 result 0\nclean\n",
+        joins: "0.2 joins 0.1 known\njoins 1 known 1 along 0 against 0\n",
     },
 ];
 
-/// The report and the summary of the root with the first of these lists, or "full".
-fn reported(rt: &impl Abort, alloc: Global, case: &Case) -> Result<(Vec<u8>, Vec<u8>), Oom> {
-    let lists = lists(alloc, case.lists)?;
+/// Asserts that the texts of the program read as its case says.
+fn ends_as_told(rt: &impl Abort, alloc: Global, case: &Case) {
+    let lists = lists(rt, alloc, case.lists);
     if lists.is_empty() || !is_table(&lists) || case.cells == 0 || case.cells > 16_384 {
         panic!(rt; "no table");
     }
-    match plan(alloc, &TableBody::new(&lists, 0), case.cells, case.strict) {
-        Ok(o) => Ok((report_text(alloc, &o)?, summary_text(alloc, case.size, &o)?)),
-        Err(PlanFault::Full) => Ok((Vec::from_slice(alloc, b"full")?, Vec::new(alloc))),
-        Err(PlanFault::Oom) => Err(Oom),
+    let outcome = match plan(alloc, &TableBody::new(&lists, 0), case.cells, case.strict) {
+        Ok(outcome) => outcome,
+        Err(PlanFault::Full) => return reads(rt, case.shows, b"", case.report.as_bytes()),
+        Err(PlanFault::Oom) => panic!(rt; "no memory"),
+    };
+    let Ok(text) = report_text(alloc, &outcome) else {
+        panic!(rt; "no memory");
+    };
+    reads(rt, case.shows, text.as_slice(), case.report.as_bytes());
+    let Ok(text) = summary_text(alloc, case.size, &outcome) else {
+        panic!(rt; "no memory");
+    };
+    reads(rt, case.shows, text.as_slice(), case.summary.as_bytes());
+    let Ok(lines) = acts(alloc, &TableBody::new(&lists, 0), case.cells) else {
+        panic!(rt; "no joins");
+    };
+    let Ok(joins) = known_joins(alloc, &lines) else {
+        panic!(rt; "no memory");
+    };
+    let Ok(text) = known_text(alloc, &joins) else {
+        panic!(rt; "no memory");
+    };
+    reads(rt, case.shows, text.as_slice(), case.joins.as_bytes());
+}
+
+/// Asserts that each program ends as its case says.
+fn each_ends_as_told(rt: &impl Abort, alloc: Global, cases: &[Case]) {
+    for case in cases {
+        ends_as_told(rt, alloc, case);
     }
 }
 
 #[test]
-fn programs_end_as_told(rt: HostRuntime) -> Result<(), test::Fail> {
-    for case in CASES {
-        let texts = reported(&rt, rt.alloc(), case)?;
-        reads(&rt, case.shows, texts.0.as_slice(), case.report.as_bytes());
-        reads(&rt, case.shows, texts.1.as_slice(), case.summary.as_bytes());
-    }
-    Ok(())
+fn programs_end_as_told(rt: HostRuntime) {
+    each_ends_as_told(&rt, rt.alloc(), ENDINGS);
+}
+
+#[test]
+fn limits_places_and_joins_are_told(rt: HostRuntime) {
+    each_ends_as_told(&rt, rt.alloc(), LIMITS_PLACES_AND_JOINS);
 }

@@ -2,8 +2,8 @@
 use crate::shown::{holds, reads};
 use std::alloc::Global;
 use std::cmp::Ordering;
-use std::test::Fail;
-use tj_base::{Name, Oom, name_cmp, path_before};
+use std::process::Abort;
+use tj_base::{Name, name_cmp, path_before};
 
 /// Numbers, and the name that is printed for them.
 const NAMES: &[(&[u32], &[u8])] = &[
@@ -13,113 +13,121 @@ const NAMES: &[(&[u32], &[u8])] = &[
     (&[4294967295], b"> 0.4294967295"),
 ];
 
-/// Two names, whether the first stands before the second in the fork order and the second before the
-/// first, and how they compare.
-struct Pair {
-    shows: &'static str,
-    first: &'static [u32],
-    second: &'static [u32],
-    before: (bool, bool),
-    compare: Ordering,
-}
+/// What a row shows, two names, whether the first stands before the second in the fork order and the
+/// second before the first, and how they compare.
+type Pair = (
+    &'static str,
+    &'static [u32],
+    &'static [u32],
+    (bool, bool),
+    Ordering,
+);
 
 const PAIRS: &[Pair] = &[
-    Pair {
-        shows: "the later fork is before the earlier one",
-        first: &[2],
-        second: &[1],
-        before: (true, false),
-        compare: Ordering::Greater,
-    },
-    Pair {
-        shows: "a task is before its child, and has the lesser name",
-        first: &[2],
-        second: &[2, 1],
-        before: (true, false),
-        compare: Ordering::Less,
-    },
-    Pair {
-        shows: "a later branch is before an earlier one",
-        first: &[2, 1],
-        second: &[1],
-        before: (true, false),
-        compare: Ordering::Greater,
-    },
-    Pair {
-        shows: "a task isn't before itself",
-        first: &[2],
-        second: &[2],
-        before: (false, false),
-        compare: Ordering::Equal,
-    },
-    Pair {
-        shows: "the root is before all",
-        first: &[],
-        second: &[7, 7],
-        before: (true, false),
-        compare: Ordering::Less,
-    },
-    Pair {
-        shows: "numbers are compared, and not their digits",
-        first: &[10],
-        second: &[2],
-        before: (true, false),
-        compare: Ordering::Greater,
-    },
-    Pair {
-        shows: "the first number that differs decides",
-        first: &[1, 9],
-        second: &[2],
-        before: (false, true),
-        compare: Ordering::Less,
-    },
-    Pair {
-        shows: "the same name twice",
-        first: &[5, 1],
-        second: &[5, 1],
-        before: (false, false),
-        compare: Ordering::Equal,
-    },
+    (
+        "the later fork is before the earlier one",
+        &[2],
+        &[1],
+        (true, false),
+        Ordering::Greater,
+    ),
+    (
+        "a task is before its child, and has the lesser name",
+        &[2],
+        &[2, 1],
+        (true, false),
+        Ordering::Less,
+    ),
+    (
+        "a later branch is before an earlier one",
+        &[2, 1],
+        &[1],
+        (true, false),
+        Ordering::Greater,
+    ),
+    (
+        "a task isn't before itself",
+        &[2],
+        &[2],
+        (false, false),
+        Ordering::Equal,
+    ),
+    (
+        "the root is before all",
+        &[],
+        &[7, 7],
+        (true, false),
+        Ordering::Less,
+    ),
+    (
+        "numbers are compared, and not their digits",
+        &[10],
+        &[2],
+        (true, false),
+        Ordering::Greater,
+    ),
+    (
+        "the first number that differs decides",
+        &[1, 9],
+        &[2],
+        (false, true),
+        Ordering::Less,
+    ),
+    (
+        "the same name twice",
+        &[5, 1],
+        &[5, 1],
+        (false, false),
+        Ordering::Equal,
+    ),
 ];
 
-fn name(alloc: Global, numbers: &[u32]) -> Result<Name, Oom> {
+fn name(rt: &impl Abort, alloc: Global, numbers: &[u32]) -> Name {
     let mut name = Name::root();
     for number in numbers {
-        name = name.child(alloc, *number)?;
+        let Ok(child) = name.child(alloc, *number) else {
+            panic!(rt; "no memory");
+        };
+        name = child;
     }
-    Ok(name)
+    name
 }
 
-/// The text of a name behind one that stands there.
-fn printed(alloc: Global, numbers: &[u32]) -> Result<Vec<u8>, Oom> {
-    let mut text = Vec::from_slice(alloc, b"> ")?;
-    name(alloc, numbers)?.text_into(alloc, &mut text)?;
-    Ok(text)
-}
-
-#[test]
-fn names_are_printed(rt: HostRuntime) -> Result<(), Fail> {
-    for (numbers, text) in NAMES {
-        let found = printed(rt.alloc(), numbers)?;
-        reads(&rt, "a name", found.as_slice(), text);
+/// Asserts that the name of these numbers is printed so, behind what stands there.
+fn is_printed(rt: &impl Abort, alloc: Global, numbers: &[u32], text: &[u8]) {
+    let Ok(mut found) = Vec::from_slice(alloc, b"> ") else {
+        panic!(rt; "no memory");
+    };
+    if name(rt, alloc, numbers)
+        .text_into(alloc, &mut found)
+        .is_err()
+    {
+        panic!(rt; "no memory");
     }
-    Ok(())
+    reads(rt, "a name", found.as_slice(), text);
 }
 
-/// What the two orders say of a pair. The second name is compared as a copy.
-fn orders(alloc: Global, pair: &Pair) -> Result<((bool, bool), Ordering), Oom> {
-    let first = name(alloc, pair.first)?;
-    let second = name(alloc, pair.second)?;
-    let copy = second.copy(alloc)?;
+/// Asserts what the two orders say of a pair. The second name is compared as a copy.
+fn is_ordered(rt: &impl Abort, alloc: Global, pair: &Pair) {
+    let first = name(rt, alloc, pair.1);
+    let second = name(rt, alloc, pair.2);
+    let Ok(copy) = second.copy(alloc) else {
+        panic!(rt; "no memory");
+    };
     let before = (path_before(&first, &second), path_before(&second, &first));
-    Ok((before, name_cmp(&first, &copy)))
+    holds(
+        rt,
+        pair.0,
+        before == pair.3 && name_cmp(&first, &copy) == pair.4,
+    );
 }
 
 #[test]
-fn the_two_orders_on_names(rt: HostRuntime) -> Result<(), Fail> {
-    for pair in PAIRS {
-        let found = orders(rt.alloc(), pair)?;
-        holds(&rt, pair.shows, found == (pair.before, pair.compare));
+fn names_are_printed_and_ordered(rt: HostRuntime) {
+    for (numbers, text) in NAMES {
+        is_printed(&rt, rt.alloc(), numbers, text);
     }
-    Ok(())
+    for pair in PAIRS {
+        is_ordered(&rt, rt.alloc(), pair);
+    }
 }

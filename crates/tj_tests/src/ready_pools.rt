@@ -1,57 +1,52 @@
 //! Both pools by their one trait: what two ends take in turn, and four threads at once.
-ghost use Rattle.std.specs.Prelude.{ℕ, ◌≡◌, ◌<◌, length};
+ghost use Rattle.std.specs.Prelude.{◌≡◌, ◌<◌};
 
 use crate::shown::holds;
 use std::alloc::Global;
+use std::process::Abort;
 use std::sync::Wait;
-use std::test::Fail;
 use std::thread;
 use std::thread::Threads;
 use tj_base::{CellId, Oom};
 use tj_ready::{LockedPool, Pool, StealPool};
 
-type Five = [Option<CellId>; 5];
-
-// The first end puts 5, 6 and 7. It takes twice, and the other three times.
-fn in_turn<P: Pool, R: Wait>(
-    rt: &R,
-    alloc: Global,
-    first: &mut P,
-    second: &mut P,
-) -> Result<Five, Oom>
-    requires { 7 < P.limit first.old }
+// Puts three cells by one end.
+fn put_three<P: Pool, R: Wait>(rt: &R, alloc: Global, end: &mut P) -> Result<(), Oom>
+    requires { 7 < P.limit end.old }
 {
-    first.put(rt, alloc, CellId(5))?;
-    first.put(rt, alloc, CellId(6))?;
-    first.put(rt, alloc, CellId(7))?;
-    let own = first.take(rt);
-    let others = [second.take(rt), second.take(rt), second.take(rt)];
-    let [one, two, three] = others;
-    Ok([own, one, two, three, first.take(rt)])
+    end.put(rt, alloc, CellId(5))?;
+    end.put(rt, alloc, CellId(6))?;
+    end.put(rt, alloc, CellId(7))
 }
 
-fn two_ends<P: Pool, R: Wait>(rt: &R, alloc: Global) -> Result<Five, Fail> {
-    let mut ends = P::make(rt, alloc, 2, 8)?;
+// Asserts what two ends take. The first one puts 5, 6 and 7, takes twice, and the other three times.
+fn take_in_turn<P: Pool, R: Wait + Abort>(rt: &R, alloc: Global) {
+    let Ok(mut ends) = P::make(rt, alloc, 2, 8) else {
+        panic!(rt; "no memory");
+    };
     let (first, second) = ends.as_mut_slice().split_at_mut(1);
-    Ok(in_turn(rt, alloc, &mut first[0], &mut second[0])?)
+    let (first, second) = (&mut first[0], &mut second[0]);
+    if put_three(rt, alloc, first).is_err() {
+        panic!(rt; "no memory");
+    }
+    holds(rt, "the oldest", first.take(rt) == Some(CellId(5)));
+    holds(
+        rt,
+        "the next by the other",
+        second.take(rt) == Some(CellId(6)),
+    );
+    holds(rt, "and the last", second.take(rt) == Some(CellId(7)));
+    holds(
+        rt,
+        "no more",
+        second.take(rt).is_none() && first.take(rt).is_none(),
+    );
 }
-
-// What two ends of either pool take.
-const FIVE: Five = [
-    Some(CellId(5)),
-    Some(CellId(6)),
-    Some(CellId(7)),
-    None,
-    None,
-];
 
 #[test]
-fn the_oldest_first_whoever_takes(rt: HostRuntime) -> Result<(), Fail> {
-    let locked = two_ends::<LockedPool, HostRuntime>(&rt, rt.alloc())?;
-    let stealing = two_ends::<StealPool, HostRuntime>(&rt, rt.alloc())?;
-    holds(&rt, "the locked pool", locked == FIVE);
-    holds(&rt, "the stealing pool", stealing == FIVE);
-    Ok(())
+fn the_oldest_first_whoever_takes(rt: HostRuntime) {
+    take_in_turn::<LockedPool, HostRuntime>(&rt, rt.alloc());
+    take_in_turn::<StealPool, HostRuntime>(&rt, rt.alloc());
 }
 
 // So many numbers, each put so often by each end.
@@ -85,37 +80,46 @@ fn put_and_take<P: Pool, R: Wait>(rt: &R, alloc: Global, mut end: P) -> Result<V
 }
 
 // How often each number was taken by four threads, in order.
-fn counts<P: Pool, R: Wait + Threads + Sync>(rt: &R, alloc: Global) -> Result<Vec<u32>, Fail> {
-    let ends = P::make(rt, alloc, 4, NUMBERS)?;
-    let lists = thread::map_vec(
+fn counts<P: Pool, R: Wait + Threads + Sync + Abort>(rt: &R, alloc: Global) -> Vec<u32> {
+    let Ok(ends) = P::make(rt, alloc, 4, NUMBERS) else {
+        panic!(rt; "no memory");
+    };
+    let Ok(lists) = thread::map_vec(
         rt,
         ends,
         &|end| -> Result<Vec<CellId>, Oom>
             requires { P.limit end ≡ 12500 }
         { put_and_take(rt, alloc, end) },
-    )?;
-    let mut counts = Vec::from_elem(alloc, 0u32, NUMBERS as usize)?;
+    ) else {
+        panic!(rt; "no threads");
+    };
+    let Ok(mut counts) = Vec::from_elem(alloc, 0u32, NUMBERS as usize) else {
+        panic!(rt; "no memory");
+    };
     for list in lists {
-        for t in list? {
+        let Ok(list) = list else {
+            panic!(rt; "no memory");
+        };
+        for t in list {
             if let Some(count) = counts.get_mut(t.0 as usize) {
                 *count = count.saturating_add(1);
             }
         }
     }
-    Ok(counts)
+    counts
 }
 
-// Whether each number is taken as often as it was put.
-fn are_taken<P: Pool, R: Wait + Threads + Sync>(rt: &R, alloc: Global) -> Result<bool, Fail> {
-    let counts = counts::<P, R>(rt, alloc)?;
-    Ok(counts.iter().all(|count| *count == 4 * OFTEN) && counts.len() == NUMBERS as usize)
+// Asserts that each number is taken as often as it was put.
+fn are_taken<P: Pool, R: Wait + Threads + Sync + Abort>(rt: &R, alloc: Global) {
+    let counts = counts::<P, R>(rt, alloc);
+    holds(rt, "so many numbers", counts.len() == NUMBERS as usize);
+    for count in counts.iter() {
+        holds(rt, "as often as it was put", *count == 4 * OFTEN);
+    }
 }
 
 #[test]
-fn each_cell_is_taken_once_by_four_threads(rt: HostRuntime) -> Result<(), Fail> {
-    let locked = are_taken::<LockedPool, HostRuntime>(&rt, rt.alloc())?;
-    let stealing = are_taken::<StealPool, HostRuntime>(&rt, rt.alloc())?;
-    holds(&rt, "the locked pool", locked);
-    holds(&rt, "the stealing pool", stealing);
-    Ok(())
+fn each_cell_is_taken_once_by_four_threads(rt: HostRuntime) {
+    are_taken::<LockedPool, HostRuntime>(&rt, rt.alloc());
+    are_taken::<StealPool, HostRuntime>(&rt, rt.alloc());
 }

@@ -1,8 +1,7 @@
 //! Lists of rows as tests write them, and the tables that bodies take.
-ghost use Rattle.std.specs.Prelude.{◌≡◌, IfOk};
-
 use std::alloc::Global;
-use tj_base::{Items, Oom, Pay, PlaceList, Trouble};
+use std::process::Abort;
+use tj_base::{Items, Pay, PlaceList, Trouble};
 use tj_body::{Row, RowList};
 use tj_chan::{ChatRow, ChatRowList};
 
@@ -34,19 +33,20 @@ pub(crate) enum Chats {
     Fail(Trouble),
 }
 
-pub(crate) fn places(alloc: Global, list: &[u32]) -> Result<PlaceList, Oom>
-    ensures { IfOk result (λ places. places ≡ list.now) }
-{
-    Ok(Items::of(Vec::from_slice(alloc, list)?))
+fn places(rt: &impl Abort, alloc: Global, list: &[u32]) -> PlaceList {
+    let Ok(places) = Vec::from_slice(alloc, list) else {
+        panic!(rt; "no memory");
+    };
+    Items::of(places)
 }
 
-fn row(alloc: Global, says: Says) -> Result<Row, Oom> {
-    let row = match says {
+fn row(rt: &impl Abort, alloc: Global, says: Says) -> Row {
+    match says {
         Says::New => Row::New,
         Says::Fork(list, pass, hand) => Row::Fork {
             list,
-            pass: places(alloc, pass)?,
-            hand: places(alloc, hand)?,
+            pass: places(rt, alloc, pass),
+            hand: places(rt, alloc, hand),
         },
         Says::Set(p, v) => Row::Set { p, v },
         Says::Get(p) => Row::Get { p },
@@ -56,48 +56,54 @@ fn row(alloc: Global, says: Says) -> Result<Row, Oom> {
         Says::Emit(i) => Row::Emit(i),
         Says::End(v) => Row::End(v),
         Says::Fail(trouble) => Row::Fail(trouble),
-    };
-    Ok(row)
+    }
 }
 
 /// The lists of these rows.
-pub(crate) fn lists(alloc: Global, written: &[&[Says]]) -> Result<Vec<RowList>, Oom> {
+pub(crate) fn lists(rt: &impl Abort, alloc: Global, written: &[&[Says]]) -> Vec<RowList> {
     let mut lists = Vec::new(alloc);
     for list in written {
         let mut rows = Vec::new(alloc);
         for says in *list {
-            rows.push(row(alloc, *says)?)?;
+            if rows.push(row(rt, alloc, *says)).is_err() {
+                panic!(rt; "no memory");
+            }
         }
-        lists.push(Items::of(rows))?;
+        if lists.push(Items::of(rows)).is_err() {
+            panic!(rt; "no memory");
+        }
     }
-    Ok(lists)
+    lists
 }
 
-fn chat_row(alloc: Global, says: Chats) -> Result<ChatRow, Oom> {
-    let row = match says {
+fn chat_row(rt: &impl Abort, alloc: Global, says: Chats) -> ChatRow {
+    match says {
         Chats::Open(items) => ChatRow::Open(items),
         Chats::Spawn(list, pass, give) => ChatRow::Spawn {
             list,
-            pass: places(alloc, pass)?,
-            give: places(alloc, give)?,
+            pass: places(rt, alloc, pass),
+            give: places(rt, alloc, give),
         },
         Chats::Send(c, v) => ChatRow::Send { c, v },
         Chats::Recv(c) => ChatRow::Recv { c },
         Chats::Emit(i) => ChatRow::Emit(i),
         Chats::Fail(trouble) => ChatRow::Fail(trouble),
-    };
-    Ok(row)
+    }
 }
 
 /// The lists of these rows.
-pub(crate) fn chat_lists(alloc: Global, written: &[&[Chats]]) -> Result<Vec<ChatRowList>, Oom> {
+pub(crate) fn chat_lists(rt: &impl Abort, alloc: Global, written: &[&[Chats]]) -> Vec<ChatRowList> {
     let mut lists = Vec::new(alloc);
     for list in written {
         let mut rows = Vec::new(alloc);
         for says in *list {
-            rows.push(chat_row(alloc, *says)?)?;
+            if rows.push(chat_row(rt, alloc, *says)).is_err() {
+                panic!(rt; "no memory");
+            }
         }
-        lists.push(Items::of(rows))?;
+        if lists.push(Items::of(rows)).is_err() {
+            panic!(rt; "no memory");
+        }
     }
-    Ok(lists)
+    lists
 }
