@@ -15,7 +15,7 @@ use Rattle.tj_syntax.specs.Listing.{listing}
 use Rattle.tj_modes.specs.Output.{IsCommandOutput, IsRefused, IsStart, IsStartOfText}
 use Rattle.tj_syntax.specs.ScriptTexts.{IsScriptOf}
 use Rattle.tj_command.specs.ScriptTexts.{IsFaultLine, fault_line}
-use Rattle.tj_command.proofs.Scripts.{AreOneScript, no_fault, one_fault, one_script_of}
+use Rattle.tj_command.specs.OneScript.{IsOneScript}
 use Rattle.tj_modes.proofs.KnownRuns.{one_known}
 use Rattle.tj_modes.proofs.Lines.CommandLines.{one_command, within_limits}
 use Rattle.tj_core.specs.Journals.Lines as journal
@@ -25,7 +25,7 @@ use Rattle.tj_modes.specs.declared.command.Command.TheVariants as command
 
 -- What the crates below leave no choice in.
 pub record AreOne : Type 0 where
-  pub scripts : AreOneScript
+  pub scripts : (text : List ℕ) → IsOneScript text
   pub outcome : (ps : List (Point TaskState)) → HasOneOutcome ps
   pub lists : (size cells : ℕ) → 0 < size → size ≤ 4000 → (a b : Outcome)
       → IsChatOutcome (chat_meaning (relay_chats size) cells) a
@@ -45,7 +45,7 @@ some_is a b e = cc
 
 module _ (one : AreOne) where
   one_line : (text a b : List ℕ) → IsFaultLine text a → IsFaultLine text b → a ≡ b
-  one_line text a b f g = f.2 ∙ ap fault_line (one_fault one.scripts text f.0 g.0 f.1 g.1) ∙ sym g.2
+  one_line text a b f g = f.2 ∙ ap fault_line ((one.scripts text).fault f.0 g.0 f.1 g.1) ∙ sym g.2
 
   -- the line of a fault or what is so of a script is one where it is one of a script
   one_or_refused : (IsSo : Status → List ℕ → Type 0) (input : List ℕ)
@@ -54,9 +54,9 @@ module _ (one : AreOne) where
       → IsRefused input a s ⊎ IsSo a s → IsRefused input b t ⊎ IsSo b t → Same a s b t
   one_or_refused IsSo input script is_one a b s t (inl f) (inl g) = (f.0 ∙ sym g.0, one_line input s t f.1 g.1)
   one_or_refused IsSo input script is_one a b s t (inl f) (inr k) =
-      let is = script b t k in absurd (no_fault one.scripts input is.0 f.1.0 is.1 f.1.1)
+      let is = script b t k in absurd ((one.scripts input).not_both is.0 f.1.0 is.1 f.1.1)
   one_or_refused IsSo input script is_one a b s t (inr h) (inl g) =
-      let is = script a s h in absurd (no_fault one.scripts input is.0 g.1.0 is.1 g.1.1)
+      let is = script a s h in absurd ((one.scripts input).not_both is.0 g.1.0 is.1 g.1.1)
   one_or_refused IsSo input script is_one a b s t (inr h) (inr k) = is_one a b s t h k
 
   one_start_of : (limits : Limits) (script : List Task) (s t : Start) → IsStartOf limits script s
@@ -69,7 +69,7 @@ module _ (one : AreOne) where
   one_start_of_text : (limits : Limits) (text : List ℕ) (s t : Start) → IsStartOfText limits text s
       → IsStartOfText limits text t → t ≡ s
   one_start_of_text limits text s t h k =
-      let same = one_script_of one.scripts text k.0 h.0 k.1 h.1 in
+      let same = (one.scripts text).script k.0 h.0 k.1 h.1 in
       one_start_of limits h.0 s t h.2 (subst (λ script. IsStartOf limits script t) same k.2)
 
   one_start : (c : Command) (input : List ℕ) (s t : Start) → IsStart c input s → IsStart c input t → t ≡ s
@@ -103,7 +103,7 @@ module _ (one : AreOne) where
   one_listing : (input : List ℕ) (a b : Status) (s t : List ℕ) → IsListed input a s → IsListed input b t
       → Same a s b t
   one_listing input a b s t h k =
-      (h.2 ∙ sym k.2, h.3 ∙ ap listing (one_script_of one.scripts input h.0 k.0 h.1 k.1) ∙ sym k.3)
+      (h.2 ∙ sym k.2, h.3 ∙ ap listing ((one.scripts input).script h.0 k.0 h.1 k.1) ∙ sym k.3)
 
   one_journal_fault : (bytes : List ℕ) (m n : ℕ) → IsJournalFault bytes m → IsJournalFault bytes n → m ≡ n
   one_journal_fault bytes m n (judgings.too_long l) (judgings.too_long k) = refl

@@ -4,7 +4,8 @@ ghost use Rattle.std.specs.Prelude.{◌≡◌, IfOk};
 ghost use Rattle.tj_modes.specs.Texts as texts;
 
 use std::alloc::Global;
-use tj_base::{Oom, add_number};
+use tj_base::Oom;
+use tj_command::count_text;
 
 /// What is written where the words have no form.
 pub const USAGE_LINE: &[u8] =
@@ -14,8 +15,5 @@ pub const USAGE_LINE: &[u8] =
 pub fn journal_fault(alloc: Global, number: u32) -> Result<Vec<u8>, Oom>
     ensures { IfOk result (λ line. line.items ≡ texts.journal_fault number) }
 {
-    let mut line = Vec::from_slice(alloc, b"journal fault at line ")?;
-    add_number(&mut line, number as u128)?;
-    line.extend_from_slice(b"\n")?;
-    Ok(line)
+    count_text(alloc, b"journal fault at line ", number as u128, b"\n")
 }

@@ -15,23 +15,20 @@ ghost use Rattle.tj_modes.specs.declared.command.Command.{Command};
 ghost use Rattle.tj_command.specs.declared.status.Status.{Status};
 
 use tj_chan::{ChanBody, Relay, channels_are_lists};
+use tj_command::one_script_or_fault;
 use tj_core::{one_judging, one_reading};
 use tj_eval::ScriptBody;
 use tj_eval::laws::{no_get, scripts_without_the_keyword};
 use tj_known::known_is_along;
 use tj_lex::laws::one_answer;
 use tj_mean::{acts_can_be_worked_off, one_outcome, strict_outcome_has_no_wait};
-use tj_syntax::laws::{one_fault, one_script, scripts_have_no_fault};
 
 /// Words and an input have one output at most: one status and one text.
 pub fn one_output()
     ensures { (words : List (String Global)) (input : List ℕ) (a b : Status) (s t : List ℕ)
         → IsOutput words input a s → IsOutput words input b t → (a ≡ b) × (s ≡ t) }
 {
-    one_answer();
-    one_script();
-    one_fault();
-    scripts_have_no_fault();
+    one_script_or_fault();
     one_outcome::<ScriptBody<'static>>();
     one_relay();
     one_reading();

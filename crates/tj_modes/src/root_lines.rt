@@ -1,12 +1,12 @@
 //! The line that `watch` writes: what became of the root.
-ghost use Rattle.std.specs.Prelude.{◌≡◌, ◌++◌, IfOk};
-ghost use Rattle.tj_mean.specs.ReportTexts.{shown_text};
+ghost use Rattle.std.specs.Prelude.{◌≡◌, IfOk};
 ghost use Rattle.tj_mean.specs.declared.outcome.Ending.TheVariants as ending;
 ghost use Rattle.tj_modes.specs.RootLines as spec;
 
 use std::alloc::Global;
-use tj_base::{Oom, Shown, add_signed};
+use tj_base::{Oom, Shown};
 use tj_mean::{Ending, TaskLine};
+use tj_report::add_shown;
 
 /// The line of the root among these tasks.
 pub fn root_line(alloc: Global, lines: &[TaskLine]) -> Result<Vec<u8>, Oom>
@@ -39,18 +39,4 @@ pub fn done_line(alloc: Global, value: &Shown) -> Result<Vec<u8>, Oom>
     add_shown(alloc, value, &mut line)?;
     line.push(b'\n')?;
     Ok(line)
-}
-
-/// Adds a value.
-fn add_shown(alloc: Global, value: &Shown, line: &mut Vec<u8>) -> Result<(), Oom>
-    ensures { IfOk result (λ _. line.new.items ≡ line.old.items ++ shown_text value.now) }
-{
-    match value {
-        Shown::Num(number) => add_signed(line, *number),
-        Shown::Ref(cell) => {
-            line.push(b'@')?;
-            cell.text_into(alloc, line)?;
-            Ok(())
-        }
-    }
 }

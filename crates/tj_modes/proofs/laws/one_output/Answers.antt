@@ -4,12 +4,7 @@ use Rattle.tj_modes.proofs.laws.one_output.Goals as goal
 
 pub returns : goal.returns
 returns c = one_output (record {
-  scripts = record {
-    answer = c.one_answer.ensures;
-    script = c.one_script.ensures;
-    fault = c.one_fault.ensures;
-    no_fault = c.scripts_have_no_fault.ensures;
-  };
+  scripts = c.one_script_or_fault.ensures;
   outcome = c.one_outcome.ensures;
   lists = c.one_relay.ensures;
   events = c.one_reading.ensures.events;
