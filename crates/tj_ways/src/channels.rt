@@ -1,12 +1,11 @@
 //! Tasks that speak by channels, given as rows: the root sends two items, and two children
 //! receive them.
+use crate::told::report_of;
 use std::alloc::Global;
 use std::sync::Wait;
 use std::thread::Threads;
 use tj_base::{Items, PlaceList};
 use tj_chan::{ChanBody, ChatRow, ChatRowList, TableChat};
-use tj_embed::{Options, run_outcome};
-use tj_report::report_text;
 
 /// A row that spawns a task by the list with number 1, which is passed the first channel.
 fn spawn(alloc: Global) -> Option<ChatRow> {
@@ -40,9 +39,7 @@ fn lists(alloc: Global) -> Option<[ChatRowList; 2]> {
 
 /// The report of these tasks.
 pub(crate) fn two_receivers<R: Wait + Threads + Sync + AllocGlobal>(rt: &R) -> Option<Vec<u8>> {
-    let alloc = rt.alloc();
-    let lists = lists(alloc)?;
-    let root = ChanBody::new(alloc, TableChat::checked(&lists, 0)?).ok()?;
-    let outcome = run_outcome(rt, alloc, root, Options::usual()).ok()?;
-    report_text(alloc, &outcome).ok()
+    let lists = lists(rt.alloc())?;
+    let root = ChanBody::new(rt.alloc(), TableChat::checked(&lists, 0)?).ok()?;
+    report_of(rt, root)
 }

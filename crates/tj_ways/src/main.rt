@@ -6,6 +6,7 @@ mod bodies;
 mod channels;
 mod rows;
 mod scripts;
+mod told;
 
 use bodies::handed_over;
 use channels::two_receivers;

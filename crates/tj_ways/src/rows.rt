@@ -1,12 +1,11 @@
 //! Tasks that are given as rows: the root makes a promise and hands it to a child, which sets it.
 //! Each prints a number.
+use crate::told::report_of;
 use std::alloc::Global;
 use std::sync::Wait;
 use std::thread::Threads;
 use tj_base::{Items, Pay, PlaceList};
 use tj_body::{Row, RowList, TableBody};
-use tj_embed::{Options, run_outcome};
-use tj_report::report_text;
 
 /// A list of one place.
 fn one_place(alloc: Global, place: u32) -> Option<PlaceList> {
@@ -40,9 +39,6 @@ fn lists(alloc: Global) -> Option<[RowList; 2]> {
 
 /// The report of these tasks.
 pub(crate) fn handed_to_a_child<R: Wait + Threads + Sync + AllocGlobal>(rt: &R) -> Option<Vec<u8>> {
-    let alloc = rt.alloc();
-    let lists = lists(alloc)?;
-    let root = TableBody::checked(&lists, 0)?;
-    let outcome = run_outcome(rt, alloc, root, Options::usual()).ok()?;
-    report_text(alloc, &outcome).ok()
+    let lists = lists(rt.alloc())?;
+    report_of(rt, TableBody::checked(&lists, 0)?)
 }

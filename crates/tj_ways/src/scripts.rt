@@ -1,11 +1,13 @@
 //! Scripts in a program: what became of a task, which tasks owe, the cycle that a task is on, and
 //! where a text has its fault.
+ghost use Rattle.tj_embed.specs.Limits.{AreLimits};
+
 use std::alloc::Global;
 use std::sync::Wait;
 use std::thread::Threads;
 use tj_base::{Name, add_count};
 use tj_embed::{Options, cycle_with, line_of, owing, run_script, script_in};
-use tj_mean::{Ending, TaskLine};
+use tj_mean::{Ending, Outcome, TaskLine};
 
 /// A task that forgets its promise.
 const FORGETS: &[u8] = b"task main() {
@@ -43,39 +45,56 @@ fn ending(line: &TaskLine) -> &'static [u8] {
     }
 }
 
+/// The outcome of this script.
+fn outcome_of<R: Wait + Threads + Sync + AllocGlobal>(
+    rt: &R,
+    text: &[u8],
+    options: Options,
+) -> Option<Outcome>
+    requires { AreLimits options }
+{
+    let script = script_in(rt.alloc(), text).ok()?;
+    let run = run_script(rt, rt.alloc(), &script, options).ok()?;
+    run.outcome(rt.alloc()).ok()
+}
+
 /// How the root ends, and how many tasks owe.
 pub(crate) fn which_owe<R: Wait + Threads + Sync + AllocGlobal>(rt: &R) -> Option<Vec<u8>> {
-    let alloc = rt.alloc();
-    let script = script_in(alloc, FORGETS).ok()?;
     let options = Options {
         workers: 2,
         cells: 100,
         ..Options::usual()
     };
-    let run = run_script(rt, alloc, &script, options).ok()?;
-    let outcome = run.outcome(alloc).ok()?;
-    let root = line_of(&outcome, &Name::root())?;
+    let outcome = outcome_of(rt, FORGETS, options)?;
+    owing_text(rt.alloc(), &outcome)
+}
+
+/// The same of an outcome.
+fn owing_text(alloc: Global, outcome: &Outcome) -> Option<Vec<u8>> {
+    let root = line_of(outcome, &Name::root())?;
+    let count = owing(alloc, outcome).ok()?.len();
     let mut text = Vec::from_slice(alloc, ending(root)).ok()?;
-    let tasks = owing(alloc, &outcome).ok()?;
-    add_count(&mut text, b"owing ", tasks.len() as u128).ok()?;
+    add_count(&mut text, b"owing ", count as u128).ok()?;
     text.extend_from_slice(b"\n").ok()?;
     Some(text)
 }
 
 /// How many tasks are on the cycle of task 0.3.
 pub(crate) fn on_a_cycle<R: Wait + Threads + Sync + AllocGlobal>(rt: &R) -> Option<Vec<u8>> {
-    let alloc = rt.alloc();
-    let script = script_in(alloc, CIRCLE).ok()?;
     let options = Options {
         cells: 100,
         ..Options::usual()
     };
-    let run = run_script(rt, alloc, &script, options).ok()?;
-    let outcome = run.outcome(alloc).ok()?;
+    let outcome = outcome_of(rt, CIRCLE, options)?;
+    cycle_text(rt.alloc(), &outcome)
+}
+
+/// The same of an outcome.
+fn cycle_text(alloc: Global, outcome: &Outcome) -> Option<Vec<u8>> {
     let name = Name::root().child(alloc, 3).ok()?;
-    let cycle = cycle_with(&outcome, &name)?;
+    let count = cycle_with(outcome, &name)?.items().len();
     let mut text = Vec::new(alloc);
-    add_count(&mut text, b"on a cycle of ", cycle.items().len() as u128).ok()?;
+    add_count(&mut text, b"on a cycle of ", count as u128).ok()?;
     text.extend_from_slice(b"\n").ok()?;
     Some(text)
 }
