@@ -2,7 +2,7 @@
 use Rattle.std.proofs.Common.{List, Some, String, ap, inl, inr, refl, subst, sym, take, ℕ, ◌∙◌, ◌≡◌, []}
 use Rattle.std.specs.declared.alloc.Global.{Global}
 use Rattle.tj_body.specs.Rounds.{meaning}
-use Rattle.tj_command.proofs.Scripts.{AreOneScript, no_fault, one_fault, one_script_of, one_tokens}
+use Rattle.tj_command.specs.OneScript.{IsOneScript}
 use Rattle.tj_command.specs.Statuses.{status_of}
 use Rattle.tj_command.specs.declared.status.Status.{Status}
 use Rattle.tj_syntax.specs.ScriptTexts.{most_bytes}
@@ -67,14 +67,14 @@ one_run command script tokens root is a b s t (ended o ls ps fits h k l) (ended 
           ∙ ap (λ x. why_text script qs ms x command.telling) outcome,
     )
 
-module _ (one : AreOneScript) (command : WhyCommand) (input : List ℕ) where
+module _ (command : WhyCommand) (input : List ℕ) (one : IsOneScript input) where
   -- a script is told in one way
   one_script : (a b : Status) (s t : List ℕ) → IsToldScript command input a s → IsToldScript command input b t
       → Same a s b t
   one_script a b s t h k =
-      let script : k.script ≡ h.script = one_script_of one input k.script h.script k.is h.is in
+      let script : k.script ≡ h.script = one.script k.script h.script k.is h.is in
       let tokens : k.is.tokens ≡ h.is.tokens =
-      one_tokens one input k.is.tokens h.is.tokens k.is.has_tokens h.is.has_tokens in
+      one.tokens k.is.tokens h.is.tokens k.is.has_tokens h.is.has_tokens in
       let main : IsPlacedMain h.script command.limits.steps k.root =
       subst (λ z. IsPlacedMain z command.limits.steps k.root) script k.main in
       let root : k.root ≡ h.root = one_root (kinds_of h.is.tokens) h.script command.limits.steps h.is.is_script h.root
@@ -89,23 +89,23 @@ module _ (one : AreOneScript) (command : WhyCommand) (input : List ℕ) where
   one_fault_told : (a b : Status) (s t : List ℕ) → IsToldFault input a s → IsToldFault input b t → Same a s b t
   one_fault_told a b s t h k = (
     h.is_script ∙ sym k.is_script,
-    h.told ∙ ap (fault_text (take most_bytes input)) (one_fault one input h.fault k.fault h.first k.first) ∙ sym k.told,
+    h.told ∙ ap (fault_text (take most_bytes input)) (one.fault h.fault k.fault h.first k.first) ∙ sym k.told,
   )
 
   -- so is an input
   one_of_command : (a b : Status) (s t : List ℕ) → IsCommandOutput command input a s → IsCommandOutput command input b t
       → Same a s b t
   one_of_command a b s t (inl f) (inl g) = one_fault_told a b s t f g
-  one_of_command a b s t (inl f) (inr k) = absurd (no_fault one input k.script f.fault k.is f.first)
-  one_of_command a b s t (inr h) (inl g) = absurd (no_fault one input h.script g.fault h.is g.first)
+  one_of_command a b s t (inl f) (inr k) = absurd (one.not_both k.script f.fault k.is f.first)
+  one_of_command a b s t (inr h) (inl g) = absurd (one.not_both h.script g.fault h.is g.first)
   one_of_command a b s t (inr h) (inr k) = one_script a b s t h k
 
-module _ (one : AreOneScript) where
+module _ (one : (text : List ℕ) → IsOneScript text) where
   pub one_output : (words : List (String Global)) (input : List ℕ) (a b : Status) (s t : List ℕ)
       → IsOutput words input a s → IsOutput words input b t → (a ≡ b) × (s ≡ t)
   one_output words input a b s t (usage f) (usage g) = (refl, refl)
   one_output words input a b s t (usage f) (of_command c is out) = absurd (f c is)
   one_output words input a b s t (of_command c is out) (usage f) = absurd (f c is)
   one_output words input a b s t (of_command c is out) (of_command d are also) =
-      one_of_command one c input a b s t out
+      one_of_command c input (one input) a b s t out
       (subst (λ k. IsCommandOutput k input b t) (one_command words d c are is) also)

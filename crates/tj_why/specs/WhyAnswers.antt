@@ -1,45 +1,13 @@
--- What the top call answers to words: its clauses as one fact, for whoever hands words on.
-use Rattle.std.specs.Prelude.{ℕ, ◌≡◌, ◌≢◌, ◌≤◌, List, Option, Some, String, drop, length, suc}
-use Rattle.std.specs.Io.KnownBytes.{Appends}
+-- What the top call answers to words, for whoever hands words on.
+use Rattle.std.specs.Prelude.{ℕ, List, Option, String}
 use Rattle.std.specs.declared.alloc.Global.{Global}
-use Rattle.tj_command.specs.Delivery.{HasText, IsAnsweredBy, IsPartOf}
+use Rattle.tj_command.specs.Answers.{IsAnswer}
 use Rattle.tj_command.specs.declared.status.Status.{Status}
-use Rattle.tj_command.specs.declared.status.Status.TheVariants.{Usage, ReadFault, WriteFault, Memory}
-use Rattle.tj_syntax.specs.ScriptTexts.{most_bytes}
-use Rattle.tj_ports.specs.Faults.{HasFault, HasNoFault, IsSound}
 use Rattle.tj_why.specs.WhyLine.{HasNoForm}
 use Rattle.tj_why.specs.WhyOutput.{HaveForm, IsOutput, usage_line}
 
--- What the top call answers to words: a field for each of its clauses. Of the source this takes the bytes left and the
--- count of faults, before and after, that it is as it was, and that it never fails, before and after; of the sink the
--- bytes that it holds and the count of faults, before and after, the room that it has, and that it is as it was.
-pub record IsWhyAnswer (words : List (String Global)) (left left_after : Option (List ℕ)) (reads reads_after : ℕ)
+-- what the top call answers to words, clause by clause: the input is read for words that have a form
+abbrev pub IsWhyAnswer : List (String Global) → (left left_after : Option (List ℕ)) (reads reads_after : ℕ)
     (IsUnread NeverFails NeverFailsAfter : Type 0) (held held_after : Option (List ℕ)) (puts puts_after : ℕ)
-    (HasRoom : ℕ → Type 0) (IsUnwritten : Type 0) (status : Status) : Type 0 where
-  pub output : (input before : List ℕ) → (HaveForm words → left ≡ Some input) → held ≡ Some before
-      → (HaveForm words → HasNoFault reads reads_after) → HasNoFault puts puts_after
-      → IsAnsweredBy (IsOutput words input) before status held_after
-  pub whole : (input : List ℕ) → (HaveForm words → left ≡ Some input) → HasText status
-      → (text : List ℕ) × IsOutput words input status text × Appends held held_after text
-  pub exact : (input text : List ℕ) (wanted : Status) → (HaveForm words → left ≡ Some input)
-      → IsOutput words input wanted text → HasText status → (status ≡ wanted) × Appends held held_after text
-  pub cause : HasText status → (input : List ℕ) × (text : List ℕ) × IsOutput words input status text
-      × Appends held held_after text
-  pub taken : (input : List ℕ) → left ≡ Some input → HaveForm words → HasText status
-      → left_after ≡ Some (drop (suc most_bytes) input)
-  pub usage : status ≡ Usage → HasNoForm words × Appends held held_after usage_line
-  pub untouched : HasNoForm words → IsUnread
-  pub read_fault : status ≡ ReadFault → HaveForm words × HasFault reads reads_after
-  pub unwritten : status ≡ ReadFault → IsUnwritten
-  pub write_fault : status ≡ WriteFault → HasFault puts puts_after
-  pub part : status ≡ WriteFault → (input : List ℕ) → (HaveForm words → left ≡ Some input)
-      → IsPartOf (IsOutput words input) held held_after
-  pub fits : (room : ℕ) (input text : List ℕ) (wanted : Status) → HasRoom room → (HaveForm words → left ≡ Some input)
-      → IsOutput words input wanted text → length text ≤ room → status ≢ WriteFault
-  pub part_cause : status ≡ WriteFault → (input : List ℕ) × IsPartOf (IsOutput words input) held held_after
-  pub memory : status ≡ Memory → IsUnwritten
-  pub source_counted : reads ≤ reads_after
-  pub source_quiet : status ≢ ReadFault → reads_after ≡ reads
-  pub sink_counted : puts ≤ puts_after
-  pub sink_quiet : status ≢ WriteFault → puts_after ≡ puts
-  pub sound : NeverFails → (status ≢ ReadFault) × IsSound reads reads_after NeverFailsAfter
+    (HasRoom : ℕ → Type 0) (IsUnwritten : Type 0) → Status → Type 0
+IsWhyAnswer words = IsAnswer (HaveForm words) (HasNoForm words) (HasNoForm words) (IsOutput words) usage_line
