@@ -1,1 +1,9 @@
 mod SecondSeats
+mod TestRuns
+mod TwoTasks
+mod ParkedBeside
+mod SetBeside
+mod StepEnds
+mod ForkedByHand
+mod JoinedTasks
+mod OwnSets

@@ -7,6 +7,7 @@ ghost use Rattle.tj_words.specs.SeatViews.SeatSteps.{IsSeatOf};
 ghost use Rattle.tj_words.specs.SeatViews.Views.{IsIdle};
 ghost use Rattle.tj_run.specs.Workers.{IsFree, table_program};
 
+use crate::written::{self, Says, list_of};
 use futures::Future;
 use futures::task::{Doorbell, Poll, Solo};
 use futures::test::MockTask;
@@ -21,15 +22,6 @@ use tj_ports::OpenGate;
 use tj_ready::{LockedPool, Pool};
 use tj_run::{Why, worker};
 use tj_words::{Fill, Laid, WSeat};
-
-/// A row of the root.
-#[derive(Clone, Copy)]
-enum Says {
-    New,
-    Set(u32, i64),
-    Get(u32),
-    End(i64),
-}
 
 /// The rows of a root, and what a look at a cell is answered once a worker has left that ran it, and a
 /// watch then.
@@ -66,23 +58,6 @@ const LOOKS: &[(&str, &[Says], CellId, Watched)] = &[
     ),
 ];
 
-fn list_of(alloc: Global, written: &[Says]) -> Result<RowList, Oom> {
-    let mut rows = Vec::new(alloc);
-    for says in written {
-        let row = match *says {
-            Says::New => Row::New,
-            Says::Set(p, number) => Row::Set {
-                p,
-                v: Pay::Num(number),
-            },
-            Says::Get(p) => Row::Get { p },
-            Says::End(number) => Row::End(Pay::Num(number)),
-        };
-        rows.push(row)?;
-    }
-    Ok(Items::of(rows))
-}
-
 /// The table of one task, which makes a promise, sets it to 5, and ends with 7.
 fn one_promise(alloc: Global) -> Result<[RowList; 1], Oom>
     ensures { IfOk result (λ lists. IsTrue (is_table lists) × (0 < length lists)) }
@@ -99,10 +74,7 @@ fn one_promise(alloc: Global) -> Result<[RowList; 1], Oom>
 fn one_end<P: Pool, R: Wait + Abort>(rt: &R, alloc: Global) -> P
     ensures { P.limit result ≡ 2 }
 {
-    let Ok(mut ends) = P::make(rt, alloc, 1, 2) else {
-        panic!(rt; "no memory");
-    };
-    let mut end = ends.pop().expect(rt, "one end");
+    let mut end = written::one_end::<P, R>(rt, alloc, 2);
     let Ok(()) = end.put(rt, alloc, CellId(0)) else {
         panic!(rt; "no memory");
     };

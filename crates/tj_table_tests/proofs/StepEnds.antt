@@ -1,0 +1,169 @@
+-- A task that owns its result alone ends step by step, and nobody waits for it: what each step needs of the seat.
+use Rattle.tj_run.proofs.Prelude.{Bool, Fill, HasNoRecord, HasWoken, IsFilledWith, IsLeft, Laid, List, MayEnd, MayFill}
+use Rattle.tj_run.proofs.Prelude.{MayGiveUp, MayWake, None, Program, Rec, SeatMe, Some, View, WakesAll, WritesBecome}
+use Rattle.tj_run.proofs.Prelude.{[], ap, became, drop, length, refl, rest, subst, sym, ℕ, ◌<◌, ◌∙◌, ◌∷◌, ◌≡◌, ◌≢◌}
+use Rattle.tj_words.specs.declared.head.Head.{Head}
+use Rattle.tj_words.specs.Calls.ChainSteps.{TakesChain, found_taken}
+use Rattle.tj_words.specs.Calls.EntryViews.{MayPutBits, MayPutTag, PutsBits, PutsTag}
+use Rattle.tj_words.specs.Calls.LiveViews.{HasSlot, MayLowerLive, ended, lowered_with}
+use Rattle.tj_words.specs.Calls.OwnerViews.{PutsOwner}
+use Rattle.tj_words.specs.Words.Values.{fill_in, tag_word}
+use Rattle.tj_cells.proofs.ClosingViews.{cell_became, fill_bits, fill_known, fill_tag, may_bits, may_tag, says_one}
+use Rattle.tj_park.specs.Inner.Breaks.{HasBroken}
+use Rattle.tj_park.specs.Endings.{MayFinish, result_of}
+use Rattle.tj_park.specs.Inner.Closings.{MayCloseResult, ended_record}
+use Rattle.tj_park.proofs.BreakSteps.{none_broken}
+use Rattle.tj_park.proofs.ResultCloses.{filled_closes, may_close_last, may_fill_last}
+use Rattle.tj_park.proofs.WakeLoops.{waking_at_first, woke_all}
+use Rattle.tj_table_tests.specs.EndsAlone.{EndsAlone}
+use Rattle.tj_run.proofs.Runs.EndConditions.{ended_left, ends_by, may_finish, none_other, slot_is}
+use Rattle.tj_body.specs.declared.point.Entry.TheVariants as entry
+use Rattle.tj_words.specs.declared.head.Head.TheVariants as head
+use Rattle.tj_words.specs.declared.record.Finish.TheVariants as finish
+use Rattle.tj_park.proofs.EndSteps as steps
+
+-- behind one element there is none
+pub alone_rest : {A : Type 0} (l : List A) → length l ≡ 1 → drop 1 l ≡ []
+alone_rest [] e = absurd (cc)
+alone_rest (x ∷ []) e = refl
+alone_rest (x ∷ (y ∷ l)) e = absurd (cc)
+
+-- a seat that shut a chain that was empty has woken nobody
+pub nobody_woken : {B : Type 0} (cells p : ℕ) (h : Head) (v w : View B) → h ≡ head.Empty → v.rest ≡ None
+    → (h ≡ head.Shut → w ≡ found_taken p v) → (h ≢ head.Shut → TakesChain cells p h v w) → HasWoken p [] [] v w
+nobody_woken {B} cells p h v w is none again takes =
+    subst (λ l. HasWoken p l [] v w) (is_empty all.chain all.all) all.woke
+  where
+    is_empty : (l : List ℕ) → length l ≡ 0 → l ≡ []
+    is_empty [] e = refl
+    is_empty (x ∷ l) e = absurd (cc)
+
+    all : WakesAll {P = Unit {0}} (λ a t b. Unit {0}) p 0 v w tt tt
+    all = woke_all {P = Unit {0}} (λ a t b. Unit {0}) cells p h 0 v w tt tt
+        (waking_at_first {P = Unit {0}} (λ a t b. Unit {0}) cells p h v w tt none again takes)
+        (λ t e. let z = sym is ∙ e in absurd (cc))
+
+-- a cell that its owner may give up and fill is given up and filled in three steps
+module _ {B : Type 0} (program : Bool → B → Program B) (t : ℕ) (f : Fill) (v : View B) (gives : MayGiveUp t t v)
+    (fills : MayFill program t f v) (v1 : View B) (gave : PutsOwner t None v v1) (tag bits : ℕ)
+    (tag_is : tag ≡ tag_word (Some f)) (bits_is : fill_in tag bits ≡ Some f) where
+  words : fill_in (tag_word (Some f)) bits ≡ Some f
+  words = ap (λ n. fill_in n bits) (sym tag_is) ∙ bits_is
+
+  pub bits_next : MayPutBits program t bits v1
+  bits_next = may_bits program t t v v1 gives gave (entry.Value fills.value) fills.will bits
+      (fill_bits v.born bits f fills.value fills.says words)
+      (fill_known v.born bits v.known f fills.value fills.says words fills.knows)
+
+  module _ (v2 : View B) (wrote : PutsBits program t bits v1 v2) where
+    pub tag_next : MayPutTag t tag v2
+    tag_next = may_tag program t t v v1 gives gave (entry.Value fills.value) fills.will bits
+        (fill_bits v.born bits f fills.value fills.says words)
+        (fill_known v.born bits v.known f fills.value fills.says words fills.knows)
+        v2 wrote tag (tag_is ∙ fill_tag v.born f fills.value fills.says)
+
+    pub filled_next : (v3 : View B) → PutsTag t tag v2 v3 → IsFilledWith t t f v v3
+    filled_next v3 last x says = cell_became program t t v v1 gives gave (entry.Value fills.value) fills.will bits
+        (fill_bits v.born bits f fills.value fills.says words)
+        (fill_known v.born bits v.known f fills.value fills.says words fills.knows)
+        v2 wrote tag (tag_is ∙ fill_tag v.born f fills.value fills.says) v3 last
+        ∙ ap (λ y. became t t (entry.Value y) v) (says_one v.born f fills.value x fills.says says)
+
+module _ {B : Type 0} {program : Bool → B → Program B} {laid : Laid B} {r : Rec B} {f : Fill} {me : SeatMe B}
+    (h : EndsAlone program laid r f me) where
+  abbrev t : ℕ
+  t = r.cell.0
+
+  abbrev r' : Rec B
+  r' = ends_by (finish.Done f) r
+
+  may : MayFinish program t r' me.0
+  may = may_finish program laid r (finish.Done f) me h.runs h.closing
+
+  written : WritesBecome (program may.about.strict may.about.root)
+  written = h.written_by may.about.strict may.about.root may.rooted
+
+  pub few_cell : t < laid.cells
+  few_cell = steps.is_cell program t r' me.0 may written h.ordered laid.cells h.runs.worker.cells.few
+
+  -- it owes nothing, so nothing is broken
+  broken : HasBroken t (drop 1 r.owned) [] me.0 me.0
+  broken = subst (λ l. HasBroken t (drop 1 r.owned) l me.0 me.0) (alone_rest r.owned h.alone)
+      (none_broken program t (drop 1 r.owned) me.0 (steps.may_break program t r' me.0 may written h.ordered))
+
+  -- the view once its result is closed
+  abbrev done_view : View B
+  done_view = became t t (result_of may.ending.ending) me.0
+
+  closes : MayCloseResult program t (Some (finish.Done f)) me.0
+  closes = steps.may_close program t r' me.0 may written h.ordered me.0 broken
+
+  -- its result may be given up, and filled
+  pub gives_up : MayGiveUp t t me.0
+  gives_up = may_close_last program t (Some (finish.Done f)) me.0 closes
+
+  pub fills : MayFill program t f me.0
+  fills = may_fill_last program t (Some (finish.Done f)) me.0 closes f refl
+
+  -- once its result is closed its record is put into its slot
+  module _ (m3 : SeatMe B) (filled : IsFilledWith t t f me.0 m3.0) (same : m3.1 ≡ me.1) (r'' : Rec B)
+      (ends : r'' ≡ record r { owned = []; owed = []; finish = Some (finish.Done f) }) where
+    pub slot_next : HasSlot t m3
+    slot_next = (
+      None,
+      subst (λ l. l ≡ (t, None) ∷ rest l) (sym same)
+          (slot_is program laid r (finish.Done f) me h.runs h.closing),
+    )
+
+    no_other : HasNoRecord (rest me.1)
+    no_other = none_other program laid r (finish.Done f) me h.runs h.closing
+
+    is_ended : r'' ≡ ended_record r'
+    is_ended = ends ∙ ap (λ l. record r { owned = []; owed = l; finish = Some (finish.Done f) })
+        (sym (alone_rest r.owned h.alone))
+
+    abbrev m4 : SeatMe B
+    m4 = (m3.0, (t, Some r'') ∷ rest m3.1)
+
+    laid_in : m4 ≡ (done_view, (t, Some (ended_record r')) ∷ rest me.1)
+    laid_in = steps.laid_is program t r' me.0 may written h.ordered me.0 broken m4 m3.0 r'' m3.1 me.1 refl
+        (steps.closed_is program t r' me.0 may written h.ordered me.0 broken m3.0
+        (filled_closes program t (Some (finish.Done f)) me.0 closes m3.0 f refl filled))
+        is_ended same
+
+    -- so it may end
+    pub ends_next : MayEnd program t m4
+    ends_next = steps.may_end_then program t r' me.0 may written h.ordered me.0 broken (rest me.1) no_other m4 laid_in
+
+    -- then the head of its result is shut
+    module _ (m5 : SeatMe B) (over : m5 ≡ (ended t m3.0, rest m3.1)) where
+      over_is : m5 ≡ (ended t done_view, rest me.1)
+      over_is = steps.ended_is program t r' me.0 may written h.ordered me.0 broken (rest me.1) no_other m4 m5
+          laid_in over
+
+      pub wakes_next : MayWake t m5
+      wakes_next = steps.may_wake_then program t r' me.0 may written h.ordered me.0 broken (rest me.1) no_other
+          m5 over_is
+
+      -- nobody was there, and the token is given up
+      module _ (m6 : SeatMe B) (woke : HasWoken t [] [] m5.0 m6.0) (mine : m6.1 ≡ m5.1) where
+        woke_is : HasWoken t [] [] (ended t done_view) m6.0
+        woke_is = steps.woke_then program t r' me.0 may written h.ordered me.0 broken (rest me.1) no_other [] m5
+            m6.0 over_is woke
+
+        mine_is : m6.1 ≡ rest me.1
+        mine_is = mine ∙ ap (λ (m : SeatMe B). m.1) over_is
+
+        pub lowers_next : MayLowerLive program m6
+        lowers_next = subst (λ s. MayLowerLive program (m6.0, s)) (sym mine_is)
+            (steps.may_lower program t r' me.0 may written h.ordered me.0 broken (rest me.1) no_other [] m6.0
+            woke_is)
+
+        pub left_so : (m7 : SeatMe B) → m7 ≡ lowered_with m6.0 m6.1 → IsLeft laid me.0 m7
+        left_so m7 e = let lowers : m7 ≡ lowered_with m6.0 (rest me.1)
+            = e ∙ ap (λ s. lowered_with m6.0 s) mine_is in
+            ended_left program laid r (finish.Done f) me h.runs h.closing m7
+            (steps.has_finished program t r' me.0 may written h.ordered me.0 broken (rest me.1) no_other [] m6.0
+            woke_is m7 lowers)
+            (steps.same_slots program t r' me.0 may written h.ordered me.0 broken (rest me.1) no_other [] m6.0
+            woke_is m7 lowers)

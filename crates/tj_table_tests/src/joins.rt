@@ -1,0 +1,130 @@
+//! The racing detector along the order: the root joins a child of it. Its walk is skipped where no other
+//! wait stands, and alarms where the child waits for a promise of the root.
+ghost use Rattle.std.specs.Prelude.{◌≡◌, ◌<◌};
+ghost use Rattle.tj_body.specs.Programs.{program_of};
+ghost use Rattle.tj_words.specs.SeatViews.SeatSteps.{IsSeatOf};
+ghost use Rattle.tj_table_tests.specs.ByHand.{IsRun, MayBegin};
+
+use crate::beside::park_beside;
+use crate::by_hand::{ask, begin, to_child, to_fork};
+use crate::written::{Says, lists_of, one_end, table_of};
+use std::alloc::Global;
+use std::marker::Brand;
+use std::process::Abort;
+use std::sync::Wait;
+use std::sync::ledger::{Blank, Ledger};
+use std::test::Fail;
+use tj_base::{CellId, Sort, Steps};
+use tj_body::{Ask, Body, points_in_rounds};
+use tj_detect::{Verdict, block, way_of};
+use tj_ready::{LockedPool, Pool};
+use tj_words::{Laid, Rec, WSeat, Way};
+
+/// A task that runs joins a task that it is before in the fork order, and blocks. Tells the verdict.
+fn joins<B: Body, L: Ledger, R: Abort>(
+    rt: &R,
+    alloc: Global,
+    laid: &Laid<B>,
+    seat: &mut WSeat<B>,
+    rec: Rec<B>,
+    blank: Blank,
+) -> Verdict
+    requires name { blank.name ≡ L.name }
+    requires parts { blank.parts ≡ L.parts }
+    requires some { 0 < blank.parts }
+    requires table { IsSeatOf laid.now seat.old }
+    requires runs { IsRun (program_of B.places B.awaits B.left B.asks B.then) laid.now rec
+        seat.old.me }
+{
+    points_in_rounds::<B>();
+    let (rec, asked) = ask(rt, alloc, laid, seat, rec);
+    let Ask::Join { t } = asked else {
+        panic!(rt; "it joins");
+    };
+    let h = rec.held.items()[t as usize];
+    let Sort::Task = h.sort else {
+        panic!(rt; "a task");
+    };
+    let mut steps = Steps::<L>::new(blank);
+    let Way::Along = way_of(laid, seat, rec.cell, h.cell, &mut steps) else {
+        panic!(rt; "along the order");
+    };
+    block(laid, seat, rec.cell, h.cell, Way::Along, &mut steps)
+}
+
+/// The root forks a child, and the other seat claims it; then the root joins it.
+fn join_started<B: Body, P: Pool, R: Wait + Abort>(
+    rt: &R,
+    alloc: Global,
+    laid: &Laid<B>,
+    seat: &mut WSeat<B>,
+    other: &mut WSeat<B>,
+    pool: &mut P,
+) -> Verdict
+    requires table { IsSeatOf laid.now seat.old }
+    requires other_table { IsSeatOf laid.now other.old }
+    requires begins { MayBegin (program_of B.places B.awaits B.left B.asks B.then) laid.now 0
+        seat.old.me }
+    requires other_begins { MayBegin (program_of B.places B.awaits B.left B.asks B.then) laid.now 1
+        other.old.me }
+    requires pool { P.limit pool.old ≡ laid.now.cells }
+{
+    let root = begin(rt, laid, seat, CellId(0));
+    let rec = to_child(rt, alloc, laid, seat, root, pool);
+    drop(begin(rt, laid, other, CellId(1)));
+    joins::<B, Brand, R>(rt, alloc, laid, seat, rec, Blank::new(1))
+}
+
+/// The root forks a child, which waits for a promise of it; then the root joins the child.
+fn join_beside<B: Body, P: Pool, R: Wait + Abort>(
+    rt: &R,
+    alloc: Global,
+    laid: &Laid<B>,
+    seat: &mut WSeat<B>,
+    pool: &mut P,
+) -> Verdict
+    requires table { IsSeatOf laid.now seat.old }
+    requires cells { 2 < laid.now.cells }
+    requires begins { MayBegin (program_of B.places B.awaits B.left B.asks B.then) laid.now 0
+        seat.old.me }
+    requires pool { P.limit pool.old ≡ laid.now.cells }
+{
+    let rec = to_fork(rt, alloc, laid, seat, pool);
+    park_beside(rt, alloc, laid, seat, &rec, CellId(2));
+    joins::<B, Brand, R>(rt, alloc, laid, seat, rec, Blank::new(1))
+}
+
+/// The root forks a child, to which it passes itself, and joins it.
+const STARTED: &[&[Says]] = &[&[Says::Fork(1, &[0], &[]), Says::Join(1)], &[Says::Emit(8)]];
+
+/// The root makes a promise and forks a child that gets it, and joins the child.
+const CYCLE: &[&[Says]] = &[
+    &[Says::New, Says::Fork(1, &[1], &[]), Says::Join(2)],
+    &[Says::Get(1)],
+];
+
+#[test]
+fn a_join_of_a_started_child_is_skipped(rt: HostRuntime) -> Result<(), Fail> {
+    let a = rt.alloc();
+    let lists = lists_of(a, STARTED)?;
+    let mut pool = one_end::<LockedPool, HostRuntime>(&rt, a, 2);
+    let (laid, seat) = table_of(&rt, a, &lists, 2);
+    let (mut first, mut second) = laid.split(seat);
+    let verdict = join_started(&rt, a, &laid, &mut first, &mut second, &mut pool);
+    assert!(rt; verdict == Verdict::Skipped, "no other wait stands");
+    Ok(())
+}
+
+#[test]
+fn a_cycle_of_two_tasks_of_one_seat_alarms(rt: HostRuntime) -> Result<(), Fail> {
+    let a = rt.alloc();
+    let lists = lists_of(a, CYCLE)?;
+    let mut pool = one_end::<LockedPool, HostRuntime>(&rt, a, 3);
+    let (laid, mut seat) = table_of(&rt, a, &lists, 3);
+    let verdict = join_beside(&rt, a, &laid, &mut seat, &mut pool);
+    assert!(rt;
+        verdict == Verdict::Alarm,
+        "the child waits for its promise"
+    );
+    Ok(())
+}

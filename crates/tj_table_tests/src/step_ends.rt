@@ -1,0 +1,190 @@
+//! The root goes from Ready to Ended by step calls of the table alone, and its table is closed.
+ghost use Rattle.std.specs.Prelude.{◌≡◌, [], ◌∷◌, length, Some};
+ghost use Rattle.atomic_table.specs.Table.{rest};
+ghost use Rattle.tj_body.specs.Programs.{program_of};
+ghost use Rattle.tj_words.specs.declared.record.Finish.TheVariants.{Done};
+ghost use Rattle.tj_words.specs.SeatViews.KnowsMore.{KnowsMore};
+ghost use Rattle.tj_words.specs.Calls.LiveViews.{HasSlot, MayEnd, ended};
+ghost use Rattle.tj_words.specs.SeatViews.SeatSteps.{IsCellOf, IsSameSeat, IsSeatOf};
+ghost use Rattle.tj_cells.specs.FilledCells.{IsFilledWith, MayFill, MayGiveUp};
+ghost use Rattle.tj_run.specs.Workers.{table_program};
+ghost use Rattle.tj_run.specs.Inner.Carried.{IsClosing, RunsTask};
+ghost use Rattle.tj_run.specs.Inner.Waits.{IsLeft};
+ghost use Rattle.tj_table_tests.specs.ByHand.{IsRun, MayBegin};
+ghost use Rattle.tj_table_tests.specs.EndsAlone.{EndsAlone};
+
+use crate::by_hand::ask;
+use crate::written::table_of;
+use std::alloc::Global;
+use std::process::Abort;
+use std::test::Fail;
+use tj_base::{CellId, Items, Pay};
+use tj_body::{Answer, Ask, Body, RowList, TableBody, names_and_cells, points_in_rounds};
+use tj_words::{Fill, Finish, Head, Laid, Once, Phase, Rec, RestWords, WSeat, value_words};
+
+/// Claims a ready task in two steps: PHASE is exchanged, and the record is taken out of its slot.
+fn claim_in_steps<B: Body, R: Abort>(
+    rt: &R,
+    laid: &Laid<B>,
+    seat: &mut WSeat<B>,
+    t: CellId,
+) -> Rec<B>
+    requires table { IsSeatOf laid.now seat.old }
+    requires begins { MayBegin (program_of B.places B.awaits B.left B.asks B.then) laid.now t.0
+        seat.old.me }
+    ensures table { seat.new.table_id ≡ seat.old.table_id }
+    ensures knows { KnowsMore seat.old.me.0 seat.new.me.0 }
+    ensures runs { IsRun (program_of B.places B.awaits B.left B.asks B.then) laid.now result
+        seat.new.me }
+{
+    let Ok(()) = laid.swap_phase(seat, t, Phase::Ready, Phase::Running) else {
+        panic!(rt; "it is ready");
+    };
+    let rec = laid
+        .slot_swap(seat, t, None)
+        .expect(rt, "its record is at home");
+    let Answer::Start = rec.answer else {
+        panic!(rt; "it begins");
+    };
+    rec
+}
+
+/// Fills a cell that its owner gives up: OWN, BITS and TAG.
+fn fill_in_steps<B: Body>(laid: &Laid<B>, seat: &mut WSeat<B>, t: CellId, v: Fill)
+    requires table { IsSeatOf laid.now seat.old }
+    requires cell { IsCellOf laid.now t.0 }
+    requires gives { MayGiveUp t.0 t.0 seat.old.me.0 }
+    requires fills { MayFill (program_of B.places B.awaits B.left B.asks B.then) t.0 v
+        seat.old.me.0 }
+    ensures seat { IsSameSeat seat.old seat.new }
+    ensures filled { IsFilledWith t.0 t.0 v seat.old.me.0 seat.new.me.0 }
+{
+    let (tag, bits) = value_words(Some(v));
+    laid.put_owner(seat, t, None);
+    laid.put_once(seat, t, Once::Bits, bits);
+    laid.put_once(seat, t, Once::Tag, tag);
+}
+
+/// Lays down the record of a task that ends: its slot, and PHASE.
+fn lay_in_steps<B: Body>(laid: &Laid<B>, seat: &mut WSeat<B>, t: CellId, rec: Rec<B>)
+    requires table { IsSeatOf laid.now seat.old }
+    requires cell { IsCellOf laid.now t.0 }
+    requires slot { HasSlot t.0 seat.old.me }
+    requires may { MayEnd (program_of B.places B.awaits B.left B.asks B.then) t.0
+        (seat.old.me.0, (t.0, Some rec) ∷ rest seat.old.me.1) }
+    ensures table { seat.new.table_id ≡ seat.old.table_id }
+    ensures me { seat.new.me ≡ (ended t.0 seat.old.me.0, rest seat.old.me.1) }
+{
+    drop(laid.slot_swap(seat, t, Some(rec)));
+    laid.put_phase(seat, t, Phase::Ended);
+}
+
+/// Ends a task that owns its result alone and that nobody waits for, step by step: its result, its
+/// record, HEAD and LIVE.
+fn end_in_steps<B: Body, R: Abort>(
+    rt: &R,
+    alloc: Global,
+    laid: &Laid<B>,
+    seat: &mut WSeat<B>,
+    rec: Rec<B>,
+    v: Fill,
+)
+    requires table { IsSeatOf laid.now seat.old }
+    requires runs { RunsTask laid.now rec seat.old.me }
+    requires closing { IsClosing (table_program (program_of B.places B.awaits B.left B.asks B.then)
+        laid.now) seat.old.me.0 rec (Done v) }
+    requires alone { length rec.owned ≡ 1 }
+    ensures table { seat.new.table_id ≡ seat.old.table_id }
+    ensures left { IsLeft laid.now seat.old.me.0 seat.new.me }
+{
+    ends_alone(laid, seat, &rec, v);
+    let t = rec.cell;
+    fill_in_steps(laid, seat, t, v);
+    let ended = ended_alone(alloc, rec, v);
+    lay_in_steps(laid, seat, t, ended);
+    let head = laid.shut(seat, t);
+    let Head::Empty = head else {
+        panic!(rt; "nobody waits for it");
+    };
+    laid.live_down(seat);
+}
+
+// What each step of the end rests on.
+fn ends_alone<B: Body>(laid: &Laid<B>, seat: &WSeat<B>, rec: &Rec<B>, v: Fill)
+    requires runs { RunsTask laid.now rec.now seat.now.me }
+    requires closing { IsClosing (table_program (program_of B.places B.awaits B.left B.asks B.then)
+        laid.now) seat.now.me.0 rec.now (Done v) }
+    requires alone { length rec.now.owned ≡ 1 }
+    ensures cell { IsCellOf laid.now rec.now.cell.0 }
+    ensures ends { EndsAlone (program_of B.places B.awaits B.left B.asks B.then) laid.now rec.now v
+        seat.now.me }
+{
+    let _ = laid;
+    let _ = seat;
+    let _ = rec;
+    let _ = v;
+    points_in_rounds::<B>();
+    names_and_cells();
+}
+
+// The record of a task that has ended like this and owes nothing.
+fn ended_alone<B>(alloc: Global, rec: Rec<B>, v: Fill) -> Rec<B>
+    ensures { result ≡ record rec { owned = []; owed = []; finish = Some (Done v) } }
+{
+    Rec {
+        owned: Items::of(Vec::new(alloc)),
+        owed: Items::of(Vec::new(alloc)),
+        finish: Some(Finish::Done(v)),
+        ..rec
+    }
+}
+
+/// Asserts that closed words have the root alone, which has ended with 0.
+fn has_the_root_alone<B: Body, R: Abort>(rt: &R, rest: RestWords<B>) {
+    if rest.drawn() != 1 {
+        panic!(rt; "one cell was drawn");
+    }
+    let cell = rest.cell(CellId(0));
+    assert!(rt; matches!(cell.phase, Phase::Ended), "the root has ended");
+    assert!(rt; cell.own.is_none(), "nobody owns its result");
+    assert!(rt;
+        has_ended_with_0(rest.rec(CellId(0))),
+        "its record says how it ended"
+    );
+    let closed = rest.into_closed();
+    assert!(rt; closed.drawn() == 1, "and closed words have it still");
+    assert!(rt; closed.cell(CellId(0)).tag == 1, "with a number");
+}
+
+fn has_ended_with_0<B: Body>(rec: Option<&Rec<B>>) -> bool {
+    match rec {
+        Some(rec) => matches!(rec.finish, Some(Finish::Done(Fill::Num(0)))),
+        None => false,
+    }
+}
+
+#[test]
+fn the_root_ends_by_step_calls(rt: HostRuntime) -> Result<(), Fail> {
+    points_in_rounds::<TableBody<'_>>();
+    let a = rt.alloc();
+    let lists: [RowList; 1] = [Items::of(Vec::new(a))];
+    let (laid, mut seat) = table_of(&rt, a, &lists, 2);
+    let claimed = claim_in_steps(&rt, &laid, &mut seat, CellId(0));
+    let (rec, asked) = ask(&rt, a, &laid, &seat, claimed);
+    let Ask::End(v) = asked else {
+        panic!(rt; "it ends at once");
+    };
+    let Pay::Num(number) = v else {
+        panic!(rt; "with a number");
+    };
+    let owned = rec.owned.items().len();
+    if owned != 1 {
+        panic!(rt; "it owns its result alone");
+    }
+    end_in_steps(&rt, a, &laid, &mut seat, rec, Fill::Num(number));
+    if laid.live(&mut seat) != 0 {
+        panic!(rt; "nothing goes on");
+    }
+    has_the_root_alone(&rt, laid.rest(seat));
+    Ok(())
+}
