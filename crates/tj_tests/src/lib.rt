@@ -21,4 +21,10 @@ mod ready_pools;
 #[cfg(test)]
 mod shown;
 #[cfg(test)]
+mod stages;
+#[cfg(test)]
 mod tables;
+#[cfg(test)]
+mod token_spans;
+#[cfg(test)]
+mod traces;

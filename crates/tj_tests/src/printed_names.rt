@@ -82,7 +82,7 @@ const PAIRS: &[Pair] = &[
     ),
 ];
 
-fn name(rt: &impl Abort, alloc: Global, numbers: &[u32]) -> Name {
+pub(crate) fn name(rt: &impl Abort, alloc: Global, numbers: &[u32]) -> Name {
     let mut name = Name::root();
     for number in numbers {
         let Ok(child) = name.child(alloc, *number) else {
