@@ -7,3 +7,4 @@ mod StepEnds
 mod ForkedByHand
 mod JoinedTasks
 mod OwnSets
+mod OwnWaits

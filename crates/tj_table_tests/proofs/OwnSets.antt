@@ -1,9 +1,9 @@
 -- A task that a test runs sets the promise that it owns beside its result, by a seat that has nothing else.
-use Rattle.tj_run.proofs.Prelude.{Bool, CellId, Custody, Fill, HasAlarmed, HasWoken, IsFilledWith, Laid, List, MayAct}
+use Rattle.tj_run.proofs.Prelude.{Bool, CellId, Custody, Fill, HasWoken, IsFilledWith, Laid, List, MayAct}
 use Rattle.tj_run.proofs.Prelude.{MayFill, MayWake, None, Program, Rec, RunsTask, SeatMe, Some, View, [], ap}
-use Rattle.tj_run.proofs.Prelude.{about_table, arith, became, cell, cond, eq-eqb, false, get_or, has_cell, held_in, length}
-use Rattle.tj_run.proofs.Prelude.{may_wake_closed, nat_eq, none_some, numbers, one_some, refl, subst, sym, true, ℕ, ◌<◌}
-use Rattle.tj_run.proofs.Prelude.{◌∙◌, ◌∷◌, ◌≡◌}
+use Rattle.tj_run.proofs.Prelude.{about_table, arith, became, cell, cond, eq-eqb, false, get_or, has_cell, held_in}
+use Rattle.tj_run.proofs.Prelude.{length, may_wake_closed, nat_eq, none_some, numbers, one_some, refl, subst, sym, true, ℕ}
+use Rattle.tj_run.proofs.Prelude.{◌<◌, ◌∙◌, ◌∷◌, ◌≡◌}
 use Rattle.std.proofs.Common.{◌||◌}
 use Rattle.tj_words.specs.Calls.ExchangeViews.{KnowsTable}
 use Rattle.tj_park.specs.Records.{AlarmsLeave}

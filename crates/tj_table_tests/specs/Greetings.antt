@@ -1,5 +1,5 @@
 -- The asks of a task that prints a number and ends with it: a body for tests. It is told by how many asks it has given.
-use Rattle.std.proofs.Common.{◌≡◌, ◌⊎◌, inl, inr, ℕ, zero, suc, ◌+◌, ◌-◌, ◌<◌, ◌≤◌, refl, arith}
+use Rattle.std.proofs.Common.{◌≡◌, ◌⊎◌, inl, inr, ℕ, zero, suc, ◌+◌, ◌-◌, ◌<◌, refl, arith}
 use Rattle.std.specs.Prelude.{ℤ}
 use Rattle.tj_base.specs.declared.value.Pay.TheVariants as pay
 use Rattle.tj_body.specs.Asks.{Await, awaited, begin, done, nothing, Ends, Fits, IsPlaced, new_places}

@@ -7,7 +7,7 @@ ghost use Rattle.tj_words.specs.SeatViews.SeatSteps.{IsSeatOf};
 ghost use Rattle.tj_run.specs.Inner.Carried.{RunsTask};
 ghost use Rattle.tj_table_tests.specs.Beside.{HasBegun, MayBeginBeside, WaitsBeside};
 
-use crate::by_hand::block_on;
+use crate::by_hand::{block_on, claim_first};
 use std::alloc::Global;
 use std::marker::Brand;
 use std::process::Abort;
@@ -15,7 +15,7 @@ use std::sync::ledger::Blank;
 use tj_base::{CellId, Sort};
 use tj_body::{Answer, Ask, Body, points_in_rounds};
 use tj_detect::Verdict;
-use tj_park::{Parked, claim, park};
+use tj_park::{Parked, park};
 use tj_words::{Held, Laid, Rec, WSeat, Way};
 
 /// The seat runs a task, and claims another one besides, which is to begin.
@@ -36,11 +36,7 @@ fn claim_beside<B: Body, R: Abort>(
     if t.0 == mine.cell.0 {
         panic!(rt; "another one");
     }
-    let rec = claim(laid, seat, t).expect(rt, "it is ready");
-    let Answer::Start = rec.answer else {
-        panic!(rt; "it begins");
-    };
-    rec
+    claim_first(rt, laid, seat, t)
 }
 
 /// The other task's body asks for a promise. Tells which.

@@ -1,7 +1,10 @@
 //! A task that a test runs by hand: a seat claims it, and makes the calls that a worker makes for each ask.
-ghost use Rattle.std.specs.Prelude.{◌≡◌, ◌<◌, ◌∷◌, []};
+ghost use Rattle.std.specs.Prelude.{◌≡◌, ◌<◌, ◌∷◌, [], None};
+ghost use Rattle.tj_body.specs.declared.ask.Answer.TheVariants.{Start};
 ghost use Rattle.tj_body.specs.Programs.{program_of};
+ghost use Rattle.tj_words.specs.Calls.ExchangeViews.{KnowsTable};
 ghost use Rattle.tj_words.specs.SeatViews.SeatSteps.{IsCellOf, IsSameSeat, IsSeatOf};
+ghost use Rattle.tj_park.specs.ChildViews.{Claimed};
 ghost use Rattle.tj_detect.specs.Blocks.{MayBlock};
 ghost use Rattle.tj_run.specs.Workers.{table_program};
 ghost use Rattle.tj_run.specs.Inner.Carried.{IsAsked, RunsTask};
@@ -21,7 +24,30 @@ use tj_park::{claim, release};
 use tj_ready::Pool;
 use tj_words::{Held, Laid, Rec, WSeat, Way};
 
-/// Claims a task that is to begin.
+/// Claims a task that is to begin, whatever else the seat has.
+pub(crate) fn claim_first<B: Body, R: Abort>(
+    rt: &R,
+    laid: &Laid<B>,
+    seat: &mut WSeat<B>,
+    t: CellId,
+) -> Rec<B>
+    requires table { IsSeatOf laid.now seat.old }
+    requires cell { IsCellOf laid.now t.0 }
+    requires knows { KnowsTable seat.old.me.0 }
+    ensures table { seat.new.table_id ≡ seat.old.table_id }
+    ensures claimed { Claimed (program_of B.places B.awaits B.left B.asks B.then) t.0 result
+        seat.old.me.0 seat.new.me.0 }
+    ensures slot { seat.new.me.1 ≡ (t.0, None) ∷ seat.old.me.1 }
+    ensures start { result.answer ≡ Start }
+{
+    let rec = claim(laid, seat, t).expect(rt, "it is ready");
+    let Answer::Start = rec.answer else {
+        panic!(rt; "it begins");
+    };
+    rec
+}
+
+/// A free seat claims a task that is to begin.
 pub(crate) fn begin<B: Body, R: Abort>(
     rt: &R,
     laid: &Laid<B>,
@@ -35,11 +61,7 @@ pub(crate) fn begin<B: Body, R: Abort>(
     ensures runs { IsRun (program_of B.places B.awaits B.left B.asks B.then) laid.now result
         seat.new.me }
 {
-    let rec = claim(laid, seat, t).expect(rt, "it is ready");
-    let Answer::Start = rec.answer else {
-        panic!(rt; "it begins");
-    };
-    rec
+    claim_first(rt, laid, seat, t)
 }
 
 /// The body of a task that runs is given the record's answer, and asks.

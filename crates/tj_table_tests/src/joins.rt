@@ -2,7 +2,7 @@
 //! wait stands, and alarms where the child waits for a promise of the root.
 ghost use Rattle.std.specs.Prelude.{◌≡◌, ◌<◌};
 ghost use Rattle.tj_body.specs.Programs.{program_of};
-ghost use Rattle.tj_words.specs.SeatViews.SeatSteps.{IsSeatOf};
+ghost use Rattle.tj_words.specs.SeatViews.SeatSteps.{IsCellOf, IsSeatOf};
 ghost use Rattle.tj_table_tests.specs.ByHand.{IsRun, MayBegin};
 
 use crate::beside::park_beside;
@@ -75,22 +75,21 @@ fn join_started<B: Body, P: Pool, R: Wait + Abort>(
     joins::<B, Brand, R>(rt, alloc, laid, seat, rec, Blank::new(1))
 }
 
-/// The root forks a child, which waits for a promise of it; then the root joins the child.
-fn join_beside<B: Body, P: Pool, R: Wait + Abort>(
+/// A child waits for a promise of the task that runs; then the task joins the child.
+fn join_beside<B: Body, R: Abort>(
     rt: &R,
     alloc: Global,
     laid: &Laid<B>,
     seat: &mut WSeat<B>,
-    pool: &mut P,
+    rec: Rec<B>,
+    child: CellId,
 ) -> Verdict
     requires table { IsSeatOf laid.now seat.old }
-    requires cells { 2 < laid.now.cells }
-    requires begins { MayBegin (program_of B.places B.awaits B.left B.asks B.then) laid.now 0
+    requires child { IsCellOf laid.now child.0 }
+    requires runs { IsRun (program_of B.places B.awaits B.left B.asks B.then) laid.now rec
         seat.old.me }
-    requires pool { P.limit pool.old ≡ laid.now.cells }
 {
-    let rec = to_fork(rt, alloc, laid, seat, pool);
-    park_beside(rt, alloc, laid, seat, &rec, CellId(2));
+    park_beside(rt, alloc, laid, seat, &rec, child);
     joins::<B, Brand, R>(rt, alloc, laid, seat, rec, Blank::new(1))
 }
 
@@ -121,7 +120,8 @@ fn a_cycle_of_two_tasks_of_one_seat_alarms(rt: HostRuntime) -> Result<(), Fail> 
     let lists = lists_of(a, CYCLE)?;
     let mut pool = one_end::<LockedPool, HostRuntime>(&rt, a, 3);
     let (laid, mut seat) = table_of(&rt, a, &lists, 3);
-    let verdict = join_beside(&rt, a, &laid, &mut seat, &mut pool);
+    let root = to_fork(&rt, a, &laid, &mut seat, &mut pool);
+    let verdict = join_beside(&rt, a, &laid, &mut seat, root, CellId(2));
     assert!(rt;
         verdict == Verdict::Alarm,
         "the child waits for its promise"

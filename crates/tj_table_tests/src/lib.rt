@@ -16,6 +16,8 @@ mod meeting;
 #[cfg(test)]
 mod own_bodies;
 #[cfg(test)]
+mod own_promises;
+#[cfg(test)]
 mod rested_rows;
 #[cfg(test)]
 mod sets;

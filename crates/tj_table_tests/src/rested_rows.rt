@@ -1,5 +1,5 @@
-//! What tasks that wait come to, in runs by one worker: an alarm on an own promise, a walk and an alarm
-//! along the order, a walk that is skipped, a task that is woken, and a promise that is broken.
+//! What tasks that wait come to, in runs by one worker: an alarm on an own promise, an alarm along the order
+//! beside a task that is parked, a join that is woken, a task that is woken, and a promise that is broken.
 use crate::written::{Says, lists_of, root_of};
 use std::alloc::Global;
 use std::process::Abort;

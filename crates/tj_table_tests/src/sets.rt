@@ -63,24 +63,25 @@ fn to_set<B: Body, R: Abort>(
     (rec, h.cell, Fill::Num(number))
 }
 
-/// The child is parked beside the root, which sets the promise then. Tells how many were woken.
+/// A child waits for a promise of the task that runs, which sets it then. Tells how many were woken.
 fn set_beside<B: Body, P: Pool, R: Wait + Abort>(
     rt: &R,
     alloc: Global,
     laid: &Laid<B>,
     seat: &mut WSeat<B>,
+    root: Rec<B>,
+    child: CellId,
     pool: &mut P,
 ) -> u32
     requires table { IsSeatOf laid.now seat.old }
-    requires cells { 2 < laid.now.cells }
-    requires begins { MayBegin (program_of B.places B.awaits B.left B.asks B.then) laid.now 0
+    requires child { IsCellOf laid.now child.0 }
+    requires runs { IsRun (program_of B.places B.awaits B.left B.asks B.then) laid.now root
         seat.old.me }
     requires pool { P.limit pool.old ≡ laid.now.cells }
     ensures table { seat.new.table_id ≡ seat.old.table_id }
     ensures knows { KnowsTable seat.new.me.0 }
 {
-    let root = to_fork(rt, alloc, laid, seat, pool);
-    park_beside(rt, alloc, laid, seat, &root, CellId(2));
+    park_beside(rt, alloc, laid, seat, &root, child);
     let told = to_set(rt, alloc, laid, seat, root);
     let (mine, promise, given) = told;
     fill(laid, seat, mine.cell, promise, given);
@@ -138,7 +139,8 @@ fn a_task_wakes_another_one_of_its_seat(rt: HostRuntime) -> Result<(), Fail> {
     let lists = lists_of(a, READER)?;
     let mut pool = one_end::<LockedPool, HostRuntime>(&rt, a, 3);
     let (laid, mut seat) = table_of(&rt, a, &lists, 3);
-    let woken = set_beside(&rt, a, &laid, &mut seat, &mut pool);
+    let root = to_fork(&rt, a, &laid, &mut seat, &mut pool);
+    let woken = set_beside(&rt, a, &laid, &mut seat, root, CellId(2), &mut pool);
     assert!(rt; woken == 1, "the reader");
     let reader = Some(CellId(2));
     assert!(rt; pool.take(&rt) == reader, "at its start");

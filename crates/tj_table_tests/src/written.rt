@@ -42,8 +42,7 @@ pub(crate) fn lists_of(alloc: Global, written: &[&[Says]]) -> Result<Vec<RowList
     Ok(lists)
 }
 
-/// The list of these rows.
-pub(crate) fn list_of(alloc: Global, written: &[Says]) -> Result<RowList, Oom> {
+fn list_of(alloc: Global, written: &[Says]) -> Result<RowList, Oom> {
     let mut rows = Vec::new(alloc);
     for says in written {
         rows.push(row_of(alloc, *says)?)?;

@@ -1,26 +1,23 @@
-use Rattle.tj_run.proofs.Prelude.{Claimed, IfSome, None, about_table, ap, program_of, subst, sym, ◌∙◌, ◌∷◌, ◌≡◌, ◌≢◌}
+use Rattle.tj_run.proofs.Prelude.{Claimed, None, about_table, ap, program_of, subst, sym, ◌∙◌, ◌∷◌, ◌≡◌, ◌≢◌}
 use Rattle.tj_table_tests.proofs.beside.claim_beside.Goals as goal
 
-pub claim-requires-clause-cell : goal.claim-requires-clause-cell
-claim-requires-clause-cell g c κs within = c.requires.begins.there
+pub claim_first-requires-clause-cell : goal.claim_first-requires-clause-cell
+claim_first-requires-clause-cell g c κs within = c.requires.begins.there
 
-pub claim-requires-clause-knows : goal.claim-requires-clause-knows
-claim-requires-clause-knows g c κs within = (about_table c.args.laid.now, c.requires.begins.runs.worker.of_table)
+pub claim_first-requires-clause-knows : goal.claim_first-requires-clause-knows
+claim_first-requires-clause-knows g c κs within = (about_table c.args.laid.now, c.requires.begins.runs.worker.of_table)
 
 pub returns-clause-begun : goal.returns-clause-begun
 returns-clause-begun g c =
     let b = g.B.Body in let p = program_of b.places b.awaits b.left b.asks b.then in
-    let old = c.args.seat.now.me in let m = c.claim.new.seat.me in let r = c.expect-rec.result in
-    let is = c.expect-rec.ensures in
-    let its : Claimed p c.args.t.0 r old.0 m.0
-    = subst (λ z. IfSome z (λ x. Claimed p c.args.t.0 x old.0 m.0)) is c.claim.ensures.some in
+    let old = c.args.seat.now.me in let x = c.claim_first in let m = x.new.seat.me in let r = x.result in
+    let its : Claimed p c.args.t.0 r old.0 m.0 = x.ensures.claimed in
     let cell : r.cell.0 ≡ c.args.t.0 = its.taken.has.cell in
     let apart : c.args.t.0 ≢ c.args.mine.now.cell.0 = c.if-t-mine.false in record {
       runs = c.requires.begins.runs;
       rooted = c.requires.begins.rooted;
       apart = λ e. apart (sym cell ∙ e);
       claimed = subst (λ u. Claimed p u r old.0 m.0) (sym cell) its;
-      slot = subst (λ z. IfSome z (λ _. m.1 ≡ (c.args.t.0, None) ∷ old.1)) is c.claim.ensures.slot
-          ∙ ap (λ u. (u, None) ∷ old.1) (sym cell);
-      start = c.in-Start.is;
+      slot = x.ensures.slot ∙ ap (λ u. (u, None) ∷ old.1) (sym cell);
+      start = x.ensures.start;
     }

@@ -1,8 +1,8 @@
 use Rattle.tj_run.proofs.Prelude.{arith}
 use Rattle.tj_table_tests.proofs.joins.a_cycle_of_two_tasks_of_one_seat_alarms.Goals as goal
 
-pub join_beside-verdict-requires-clause-begins : goal.join_beside-verdict-requires-clause-begins
-join_beside-verdict-requires-clause-begins g c κs = record {
+pub to_fork-root-requires-clause-begins : goal.to_fork-root-requires-clause-begins
+to_fork-root-requires-clause-begins g c κs = record {
   free = c.table_of-laid.ensures.free;
   there = (let e = c.table_of-laid.ensures.cells in omega arith);
   rooted = c.table_of-laid.ensures.rooted;

@@ -1,5 +1,4 @@
 use Rattle.tj_run.proofs.Prelude.{IsAsked, ap, held_at, length, program_of, subst, sym, table_program, ◌<◌, ◌∙◌}
-use Rattle.tj_body.specs.declared.ask.Ask.TheVariants as ask
 use Rattle.tj_table_tests.proofs.JoinedTasks.{IsToJoin, inside_joined, joined_cell, joined_known, joins_along}
 use Rattle.tj_table_tests.proofs.JoinedTasks.{joins_cell, joins_known}
 use Rattle.tj_table_tests.proofs.joins.joins.Given.{Over}

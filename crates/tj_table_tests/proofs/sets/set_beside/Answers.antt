@@ -5,16 +5,16 @@ use Rattle.tj_table_tests.proofs.sets.set_beside.Goals as goal
 
 pub park_beside-requires-clause-begins : goal.park_beside-requires-clause-begins
 park_beside-requires-clause-begins g c κs within = record {
-  runs = c.to_fork-root.ensures.runs.runs;
-  there = c.requires.cells;
-  rooted = c.requires.begins.rooted;
+  runs = c.requires.runs.runs;
+  there = c.requires.child;
+  rooted = c.requires.runs.running.rooted;
 }
 
 pub to_set-told-requires-clause-runs : goal.to_set-told-requires-clause-runs
-to_set-told-requires-clause-runs g c κs within = let b = g.B.Body in let x = c.to_fork-root in record {
+to_set-told-requires-clause-runs g c κs within = let b = g.B.Body in record {
   runs = c.park_beside.ensures.runs;
   running = running_on (table_program (program_of b.places b.awaits b.left b.asks b.then) c.args.laid.now)
-      x.new.seat.me.0 c.park_beside.new.seat.me.0 c.park_beside.ensures.knows x.result x.ensures.runs.running;
+      c.args.seat.now.me.0 c.park_beside.new.seat.me.0 c.park_beside.ensures.knows c.args.root c.requires.runs.running;
 }
 
 pub wake-requires-clause-may : goal.wake-requires-clause-may

@@ -1,5 +1,5 @@
 use Rattle.tj_run.proofs.Prelude.{IsAsked, ap, arith, fill_at, program_of, subst, sym, table_asks, table_awaits}
-use Rattle.tj_run.proofs.Prelude.{table_left, table_places, table_program, table_then, to_z-of_z, w64, ◌<◌, ◌∙◌}
+use Rattle.tj_run.proofs.Prelude.{table_left, table_places, table_program, table_then, to_z-of_z, w64, ◌∙◌}
 use Rattle.tj_run.proofs.Asks.PureAsks.{end_goes}
 use Rattle.tj_words.specs.declared.record.Fill.TheVariants as fill
 use Rattle.tj_table_tests.proofs.TestRuns.{may_rest}
