@@ -42,12 +42,16 @@ fn read(alloc: Global, text: &[u8]) -> Result<Vec<Token>, LexFault>
     'tokens: loop {
         let here = after_gap(text, spot);
         if here.next == text.len() {
-            found.push(end(text, here))?;
+            let Ok(()) = found.push(end(text, here)) else {
+                return Err(LexFault::Oom);
+            };
             return Ok(found);
         }
         let token = token_at(alloc, text, here)?;
         spot = here.along((token.to - token.from) as usize);
-        found.push(token)?;
+        let Ok(()) = found.push(token) else {
+            return Err(LexFault::Oom);
+        };
     }
 }
 
@@ -126,7 +130,12 @@ fn word(alloc: Global, text: &[u8], at: Place) -> Result<Lexeme, LexFault>
     let bytes = &text[..len];
     let what = match keyword(bytes) {
         Some(key) => Tok::Key(key),
-        None => Tok::Name(Word::copied(alloc, bytes)?),
+        None => {
+            let Ok(name) = Word::copied(alloc, bytes) else {
+                return Err(LexFault::Oom);
+            };
+            Tok::Name(name)
+        }
     };
     Ok(Lexeme { what, len })
 }

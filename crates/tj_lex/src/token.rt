@@ -1,7 +1,6 @@
 //! What stands in a script: tokens, and the faults of a text that is none.
 use crate::place::Place;
 use crate::word::Word;
-use std::alloc::{AllocError, AllocFailed};
 
 /// A token, its position, and the bytes of the text that it takes: those from `from` up to `to`.
 #[derive(Drop)]
@@ -66,7 +65,7 @@ pub enum Mark {
 }
 
 /// Why a text has no tokens.
-#[derive(Clone, Copy, Debug, PartialEq, Eq)]
+#[derive(Clone, Copy, Debug)]
 pub enum LexFault {
     /// A byte that begins no token.
     Byte(Place),
@@ -76,26 +75,4 @@ pub enum LexFault {
     Long(Place),
     /// Memory could not be had.
     Oom,
-}
-
-impl From<AllocError> for LexFault {
-    ghost use Rattle.std.specs.Prelude.{◌≡◌};
-    ghost use Rattle.tj_lex.specs.declared.token.LexFault.TheVariants.{Oom};
-
-    ghost from_gives = { λ _ fault. fault ≡ Oom };
-
-    fn from(_error: AllocError) -> LexFault {
-        LexFault::Oom
-    }
-}
-
-impl<T: Drop> From<AllocFailed<T>> for LexFault {
-    ghost use Rattle.std.specs.Prelude.{◌≡◌};
-    ghost use Rattle.tj_lex.specs.declared.token.LexFault.TheVariants.{Oom};
-
-    ghost from_gives = { λ _ fault. fault ≡ Oom };
-
-    fn from(_failed: AllocFailed<T>) -> LexFault {
-        LexFault::Oom
-    }
 }

@@ -41,4 +41,4 @@ tokens-preserved c =
     let next : c.along-spot.result.next ≡ c.in_ok-token.token.to =
     omega (arith, token.from, along.next, token.token.some) in
     let behind_gap = IsToken-behind text _ _ _ gap.gap token.from token.token in
-    (spot, rw (next, c.in_ok-push-2.ensures.items) (HasTokens-push text 0 _ _ _ c.tokens.invariant.1 behind_gap))
+    (spot, rw (next, c.in-Ok-push.ensures.items) (HasTokens-push text 0 _ _ _ c.tokens.invariant.1 behind_gap))
