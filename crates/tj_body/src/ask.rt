@@ -4,7 +4,7 @@
 use tj_base::{Pay, PlaceList, Trouble};
 
 /// What a body is answered.
-#[derive(Clone, Copy, Debug, PartialEq, Eq)]
+#[derive(Clone, Copy)]
 pub enum Answer {
     /// It has asked nothing yet.
     Start,
@@ -21,7 +21,7 @@ pub enum Answer {
 }
 
 /// What a body asks.
-#[derive(Debug, PartialEq, Eq, Drop)]
+#[derive(Drop)]
 pub enum Ask<B> {
     /// Makes a promise, which the task owns.
     New,
