@@ -59,6 +59,13 @@ Consumes-more (Some s) None c xs ys p q = absurd p
 Consumes-more (Some s) (Some t) None xs ys p q = absurd q
 Consumes-more (Some s) (Some t) (Some u) xs ys p q = p ∙ ap (λ l. xs ++ l) q ∙ sym (append_assoc xs ys u)
 
+-- a call that failed took nothing more
+pub Consumes-still : (a b c : Option (List ℕ)) (xs : List ℕ) → Consumes a b xs → Keeps b c → Consumes a c xs
+Consumes-still None b c xs p q = tt
+Consumes-still (Some s) None c xs p q = absurd p
+Consumes-still (Some s) (Some t) None xs p q = absurd q
+Consumes-still (Some s) (Some t) (Some u) xs p q = p ∙ ap (λ l. xs ++ l) (sym q)
+
 -- a part of the text from an index on isn't longer than that
 pub rest_bound : (n m : ℕ) (text : List ℕ) → m ≤ length (take (length text - n) (drop n text)) → m ≤ length text - n
 rest_bound n m text le = subst (λ k. m ≤ k) (ap length (take_rest text n) ∙ length-drop n text) le

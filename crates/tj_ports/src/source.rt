@@ -104,13 +104,16 @@ pub fn read_all<S: Source>(alloc: Global, source: &mut S, limit: u32) -> Result<
         × IsSound (S.faults source.old) (S.faults source.new) (S.never_fails source.new) }
 {
     let mut bytes = Vec::new(alloc);
-    let mut piece = [0u8; PIECE];
+    let mut buffer = [0u8; PIECE];
     let most = limit as usize + 1;
     while bytes.len() < most {
         let room = PIECE.min(most - bytes.len());
-        if take_piece(source, &mut piece[..room], &mut bytes)? == 0 {
+        let piece = &mut buffer[..room];
+        let count = source.take(piece)?;
+        if count == 0 {
             return Ok(ReadEnd::Whole(ByteList::of(bytes)));
         }
+        bytes.extend_from_slice(&piece[..count])?;
     }
     bytes.truncate(limit as usize);
     Ok(ReadEnd::Long(ByteList::of(bytes)))
@@ -118,31 +121,3 @@ pub fn read_all<S: Source>(alloc: Global, source: &mut S, limit: u32) -> Result<
 
 // How many bytes a call asks for.
 const PIECE: usize = 4096;
-
-// Adds the bytes of one call, by way of `piece`, and says how many came.
-fn take_piece<S: Source>(
-    source: &mut S,
-    piece: &mut [u8],
-    bytes: &mut Vec<u8>,
-) -> Result<usize, ReadFault>
-    requires { 0 < length piece.old }
-    ensures added { IfOk result (λ n. length bytes.new.items ≡ length bytes.old.items + n) }
-    ensures bound { IfOk result (λ n. n ≤ length piece.old) }
-    ensures taken { IfOk result (λ n. (came : List ℕ) × (length came ≡ n)
-        × (bytes.new.items ≡ bytes.old.items ++ came)
-        × Consumes (S.left source.old) (S.left source.new) came) }
-    ensures end { IfOk result (λ n. n ≡ 0 → IsAtEnd (S.left source.old)) }
-    ensures err { OnErr result (TakesAtMost (length piece.old) (S.left source.old)
-        (S.left source.new)) }
-    ensures counted { S.faults source.old ≤ S.faults source.new }
-    ensures oom { result ≡ Err ReadFault.Oom → S.faults source.new ≡ S.faults source.old }
-    ensures quiet { OnOk result (S.faults source.new ≡ S.faults source.old) }
-    ensures failed { result ≡ Err ReadFault.Failed
-        → HasFault (S.faults source.old) (S.faults source.new) }
-    ensures sound { S.never_fails source.old → (result ≢ Err ReadFault.Failed)
-        × IsSound (S.faults source.old) (S.faults source.new) (S.never_fails source.new) }
-{
-    let count = source.take(piece)?;
-    bytes.extend_from_slice(&piece[..count])?;
-    Ok(count)
-}

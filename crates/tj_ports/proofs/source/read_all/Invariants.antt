@@ -4,8 +4,8 @@ use Rattle.tj_ports.specs.Faults.{IsSound}
 use Rattle.tj_ports.proofs.source.read_all.Given as goal
 
 -- the bytes so far are those taken, and no fault was told
-abbrev pub invariant-loop-piece : goal.invariant-loop-piece
-invariant-loop-piece g l =
+abbrev pub invariant-loop-buffer : goal.invariant-loop-buffer
+invariant-loop-buffer g l =
     let left = g.S.Source.left in
     let faults = g.S.Source.faults in
     let never_fails = g.S.Source.never_fails in
@@ -18,5 +18,5 @@ invariant-loop-piece g l =
       sound : never_fails l.initial.source → IsSound (faults l.initial.source) (faults l.source) (never_fails l.source);
     }
 
-abbrev pub decreases-loop-piece : goal.decreases-loop-piece
-decreases-loop-piece g l = l.most - vec_len l.bytes
+abbrev pub decreases-loop-buffer : goal.decreases-loop-buffer
+decreases-loop-buffer g l = l.most - vec_len l.bytes
