@@ -3,7 +3,7 @@ use std::alloc::{AllocError, AllocFailed};
 use tj_lex::Place;
 
 /// The first fault of a list of tokens, with its position.
-#[derive(Clone, Copy)]
+#[derive(Clone, Copy, Debug)]
 pub enum ParseFault {
     /// A token that can't follow.
     Expected(Place),

@@ -12,7 +12,7 @@ use std::alloc::Global;
 use tj_lex::{LexFault, MAX_TEXT, Place, tokens};
 
 /// Why bytes give no script. Want of memory is one of the tokens' faults and of the grammar's.
-#[derive(Clone, Copy)]
+#[derive(Clone, Copy, Debug)]
 pub enum NoScript {
     /// They are too many: the position of the first byte too many.
     Long(Place),
