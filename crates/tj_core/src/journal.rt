@@ -12,7 +12,7 @@ use tj_events::Event;
 pub const MAX_JOURNAL: usize = 1_048_576;
 
 /// Why a text is no journal.
-#[derive(Clone, Copy, PartialEq, Eq)]
+#[derive(Clone, Copy, Debug, PartialEq, Eq)]
 pub enum JournalFault {
     /// The first line, counted from 1, that isn't one of an event.
     Line(u32),
