@@ -14,7 +14,9 @@ use Rattle.tj_mean.proofs.NotedActs.LineIndexes.{line_at}
 use Rattle.tj_known.specs.Inner.Learners.{AreDone, IsAdvanced, IsTried, IsSweep, IsUnderWay, IsWorkedOff}
 use Rattle.tj_known.specs.Inner.Learners.{NextAt, acts_left, can_go_on_at, has_index, is_done, knows_at}
 use Rattle.tj_known.specs.Inner.Learners.{next_of}
+use Rattle.tj_known.specs.Inner.Monitors.{IsAtWork}
 use Rattle.tj_known.specs.declared.learner.Learner.{Learner}
+use Rattle.tj_known.specs.declared.work.Monitor.{Monitor}
 use Rattle.tj_known.specs.declared.step.Step.{Step}
 use Rattle.tj_known.specs.declared.step.Step.TheVariants as step
 use Rattle.std.proofs.Common.{◌++◌, take}
@@ -366,3 +368,11 @@ module _ (lines : List ActLine) (ls : List Learner) (fit : AreActLines lines) (u
   pub line_told : (ks : List KnownLine) → AreTold lines (joins_in (take i lines)) ks
       → AreTold lines (joins_in (take (i + 1) lines)) (ks ++ marked_lines l.name l.acts x.marks.items)
   line_told ks told = told_more lines fit i l x ks (read_at lines i l less l_at) its_fits its_done told
+
+-- a monitor is at work while its lines are the same and its learners are under way
+pub at_work_still : (m n : Monitor) → IsAtWork m → n.lines.now ≡ m.lines.now → IsUnderWay m.lines.now n.learners.items
+    → IsAtWork n
+at_work_still m n work same under = record {
+  lines = subst AreActLines (sym same) work.lines;
+  under_way = subst (λ lines. IsUnderWay lines n.learners.items) (sym same) under;
+}

@@ -2,3 +2,4 @@
 pub mod Learners
 pub mod Marks
 pub mod Steps
+pub mod Monitors

@@ -27,7 +27,7 @@ pub fn known_joins(alloc: Global, lines: &ActLines) -> Result<KnownList, Oom>
 {
     known_is_along();
     let mut monitor = Monitor::new(alloc, lines.items())?;
-    monitor.work_off(alloc)?;
+    monitor.work_off()?;
     told(alloc, lines.items(), monitor.learners.as_slice())
 }
 

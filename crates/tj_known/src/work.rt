@@ -7,6 +7,7 @@ ghost use Rattle.tj_mean.specs.ActLines.{AreActLines, names_of};
 ghost use Rattle.tj_mean.specs.Outcomes.{Ascend};
 ghost use Rattle.tj_known.specs.Inner.Learners as spec;
 ghost use Rattle.tj_known.specs.Inner.Learners.{AreDone, IsNew, IsUnderWay};
+ghost use Rattle.tj_known.specs.Inner.Monitors.{HasTried, IsAtWork};
 ghost use Rattle.tj_known.specs.Inner.Steps.{AreThere};
 ghost use Rattle.tj_known.specs.declared.step.Step.TheVariants as step;
 
@@ -19,6 +20,7 @@ use tj_mean::ActLine;
 /// The lines, with how far the acts of their tasks are worked off.
 #[derive(Drop)]
 pub struct Monitor<'l> {
+    alloc: Global,
     lines: &'l [ActLine],
     pub learners: Vec<Learner>,
 }
@@ -28,98 +30,91 @@ impl<'l> Monitor<'l> {
     pub fn new(alloc: Global, lines: &'l [ActLine]) -> Result<Monitor<'l>, Oom>
         requires { AreActLines lines.now }
         ensures lines { IfOk result (λ m. m.lines.now ≡ lines.now) }
-        ensures begins { IfOk result (λ m. IsUnderWay lines.now m.learners.items) }
+        ensures work { IfOk result IsAtWork }
     {
         let mut learners = Vec::new(alloc);
         for line in lines {
             learners.push(new_learner(alloc, lines, line)?)?;
         }
-        Ok(Monitor { lines, learners })
+        Ok(Monitor {
+            alloc,
+            lines,
+            learners,
+        })
     }
 
     /// Works off all acts.
-    pub fn work_off(&mut self, alloc: Global) -> Result<(), Oom>
-        requires lines { AreActLines self.old.lines.now }
-        requires under_way { IsUnderWay self.old.lines.now self.old.learners.items }
+    pub fn work_off(&mut self) -> Result<(), Oom>
+        requires work { IsAtWork self.old }
         ensures under_way { IfOk result (λ _.
             IsUnderWay self.old.lines.now self.new.learners.items) }
         ensures done { IfOk result (λ _. AreDone self.new.learners.items) }
     {
-        while self.sweep(alloc)? {}
+        while self.sweep()? {}
         Ok(())
     }
 
     /// Each task goes on as far as it can. False: none could.
-    fn sweep(&mut self, alloc: Global) -> Result<bool, Oom>
-        requires lines { AreActLines self.old.lines.now }
-        requires under_way { IsUnderWay self.old.lines.now self.old.learners.items }
+    fn sweep(&mut self) -> Result<bool, Oom>
+        requires work { IsAtWork self.old }
         ensures lines { IfOk result (λ _. self.new.lines.now ≡ self.old.lines.now) }
         ensures sweep { IfOk result (λ moved. spec.IsSweep self.old.lines.now
             self.old.learners.items self.new.learners.items moved) }
     {
         let mut moved = false;
         for index in 0..self.learners.len() {
-            let went_on = self.go_on(alloc, index)?;
+            let went_on = self.go_on(index)?;
             moved = moved || went_on;
         }
         Ok(moved)
     }
 
     /// The task with this index goes on as far as it can. False: it could not.
-    fn go_on(&mut self, alloc: Global, index: usize) -> Result<bool, Oom>
-        requires lines { AreActLines self.old.lines.now }
-        requires under_way { IsUnderWay self.old.lines.now self.old.learners.items }
+    fn go_on(&mut self, index: usize) -> Result<bool, Oom>
+        requires work { IsAtWork self.old }
         requires index { index < length self.old.learners.items }
         ensures lines { IfOk result (λ _. self.new.lines.now ≡ self.old.lines.now) }
         ensures acts { IfOk result (λ moved. spec.IsAdvanced self.old.lines.now index
             self.old.learners.items self.new.learners.items moved) }
     {
         let mut moved = false;
-        while self.act(alloc, index)? {
+        while self.act(index)? {
             moved = true;
         }
         Ok(moved)
     }
 
     /// Works off the next act of the task with this index. False: it can't go on.
-    fn act(&mut self, alloc: Global, index: usize) -> Result<bool, Oom>
-        requires lines { AreActLines self.old.lines.now }
-        requires under_way { IsUnderWay self.old.lines.now self.old.learners.items }
+    fn act(&mut self, index: usize) -> Result<bool, Oom>
+        requires work { IsAtWork self.old }
         requires index { index < length self.old.learners.items }
-        ensures lines { IfOk result (λ _. self.new.lines.now ≡ self.old.lines.now) }
-        ensures act { IfOk result (λ moved. spec.IsTried self.old.lines.now index
-            self.old.learners.items self.new.learners.items moved) }
+        ensures { IfOk result (HasTried index self.old self.new) }
     {
         match self.learners[index].next() {
             None => Ok(false),
-            Some(step) => self.take_step(alloc, index, step),
+            Some(step) => self.take_step(index, step),
         }
     }
 
     /// Works off this act, which is the task's next. False: it can't go on.
-    fn take_step(&mut self, alloc: Global, index: usize, step: Step) -> Result<bool, Oom>
-        requires lines { AreActLines self.old.lines.now }
-        requires under_way { IsUnderWay self.old.lines.now self.old.learners.items }
+    fn take_step(&mut self, index: usize, step: Step) -> Result<bool, Oom>
+        requires work { IsAtWork self.old }
         requires next { spec.NextAt self.old.learners.items index step }
-        ensures lines { IfOk result (λ _. self.new.lines.now ≡ self.old.lines.now) }
-        ensures act { IfOk result (λ moved. spec.IsTried self.old.lines.now index
-            self.old.learners.items self.new.learners.items moved) }
+        ensures { IfOk result (HasTried index self.old self.new) }
     {
         match step {
-            Step::Fork(child) => self.fork(alloc, index, child),
-            Step::Join(joined, answered) => self.join(alloc, index, joined, answered),
+            Step::Fork(child) => self.fork(index, child),
+            Step::Join(joined, answered) => self.join(index, joined, answered),
         }
     }
 
     /// The task forks a child, which inherits what it knew before. True: this can always be done.
-    fn fork(&mut self, alloc: Global, index: usize, child: usize) -> Result<bool, Oom>
-        requires lines { AreActLines self.old.lines.now }
-        requires under_way { IsUnderWay self.old.lines.now self.old.learners.items }
+    fn fork(&mut self, index: usize, child: usize) -> Result<bool, Oom>
+        requires work { IsAtWork self.old }
         requires next { spec.NextAt self.old.learners.items index (step.Fork child) }
-        ensures lines { IfOk result (λ _. self.new.lines.now ≡ self.old.lines.now) }
-        ensures act { IfOk result (λ moved. spec.IsTried self.old.lines.now index
-            self.old.learners.items self.new.learners.items moved) }
+        ensures { IfOk result (HasTried index self.old self.new) }
     {
+        let alloc = self.alloc;
         let inherited = self.learners[index].fork(alloc, child)?;
         self.learners[child].begin(inherited);
         Ok(true)
@@ -127,22 +122,13 @@ impl<'l> Monitor<'l> {
 
     /// The task joins another. False: it knew that one, the join is answered, and that one has
     /// acts left.
-    fn join(
-        &mut self,
-        alloc: Global,
-        index: usize,
-        joined: usize,
-        answered: bool,
-    ) -> Result<bool, Oom>
-        requires lines { AreActLines self.old.lines.now }
-        requires under_way { IsUnderWay self.old.lines.now self.old.learners.items }
+    fn join(&mut self, index: usize, joined: usize, answered: bool) -> Result<bool, Oom>
+        requires work { IsAtWork self.old }
         requires next { spec.NextAt self.old.learners.items index (step.Join joined answered) }
-        ensures lines { IfOk result (λ _. self.new.lines.now ≡ self.old.lines.now) }
-        ensures act { IfOk result (λ moved. spec.IsTried self.old.lines.now index
-            self.old.learners.items self.new.learners.items moved) }
+        ensures { IfOk result (HasTried index self.old self.new) }
     {
         if self.tells(index, joined, answered) {
-            self.join_known(alloc, index, joined, answered)
+            self.join_known(index, joined, answered)
         } else {
             self.join_plain(index, joined, answered)
         }
@@ -151,8 +137,7 @@ impl<'l> Monitor<'l> {
     /// Whether the next act, a join, tells something: its task knew the joined one, and it is
     /// answered.
     fn tells(&self, index: usize, joined: usize, answered: bool) -> bool
-        requires lines { AreActLines self.now.lines.now }
-        requires under_way { IsUnderWay self.now.lines.now self.now.learners.items }
+        requires work { IsAtWork self.now }
         requires next { spec.NextAt self.now.learners.items index (step.Join joined answered) }
         ensures { result ≡ (spec.knows_at self.now.learners.items index joined && answered) }
     {
@@ -161,8 +146,7 @@ impl<'l> Monitor<'l> {
 
     /// Whether the task knows the one that it joins next.
     fn knows(&self, index: usize, joined: usize, answered: bool) -> bool
-        requires lines { AreActLines self.now.lines.now }
-        requires under_way { IsUnderWay self.now.lines.now self.now.learners.items }
+        requires work { IsAtWork self.now }
         requires next { spec.NextAt self.now.learners.items index (step.Join joined answered) }
         ensures { result ≡ spec.knows_at self.now.learners.items index joined }
     {
@@ -171,38 +155,26 @@ impl<'l> Monitor<'l> {
 
     /// The task joins one that it knew and that answers, and learns what that one knows after its
     /// last act. False: that one has acts left.
-    fn join_known(
-        &mut self,
-        alloc: Global,
-        index: usize,
-        joined: usize,
-        answered: bool,
-    ) -> Result<bool, Oom>
-        requires lines { AreActLines self.old.lines.now }
-        requires under_way { IsUnderWay self.old.lines.now self.old.learners.items }
+    fn join_known(&mut self, index: usize, joined: usize, answered: bool) -> Result<bool, Oom>
+        requires work { IsAtWork self.old }
         requires next { spec.NextAt self.old.learners.items index (step.Join joined answered) }
         requires tells { IsTrue (spec.knows_at self.old.learners.items index joined && answered) }
-        ensures lines { IfOk result (λ _. self.new.lines.now ≡ self.old.lines.now) }
-        ensures act { IfOk result (λ moved. spec.IsTried self.old.lines.now index
-            self.old.learners.items self.new.learners.items moved) }
+        ensures { IfOk result (HasTried index self.old self.new) }
     {
         if !self.learners[joined].is_done() {
             return Ok(false);
         }
-        let told = Vec::from_slice(alloc, self.learners[joined].knows.as_slice())?;
+        let told = Vec::from_slice(self.alloc, self.learners[joined].knows.as_slice())?;
         self.learners[index].learn(told.as_slice())?;
         Ok(true)
     }
 
     /// The task joins one that tells it nothing, since it didn't know it or isn't answered.
     fn join_plain(&mut self, index: usize, joined: usize, answered: bool) -> Result<bool, Oom>
-        requires lines { AreActLines self.old.lines.now }
-        requires under_way { IsUnderWay self.old.lines.now self.old.learners.items }
+        requires work { IsAtWork self.old }
         requires next { spec.NextAt self.old.learners.items index (step.Join joined answered) }
         requires tells_nothing { IsFalse (spec.knows_at self.old.learners.items index joined && answered) }
-        ensures lines { IfOk result (λ _. self.new.lines.now ≡ self.old.lines.now) }
-        ensures act { IfOk result (λ moved. spec.IsTried self.old.lines.now index
-            self.old.learners.items self.new.learners.items moved) }
+        ensures { IfOk result (HasTried index self.old self.new) }
     {
         let known = self.knows(index, joined, answered);
         self.learners[index].join(known)?;

@@ -1,7 +1,11 @@
 use Rattle.std.proofs.Common.{subst}
 use Rattle.tj_known.specs.Inner.Learners.{IsTried}
-use Rattle.tj_known.proofs.WorkSteps.{advanced}
+use Rattle.tj_known.proofs.WorkSteps.{advanced, at_work_still}
 use Rattle.tj_known.proofs.work.Monitor.go_on.Goals as goal
+
+pub act-requires-clause-work : goal.act-requires-clause-work
+act-requires-clause-work c = at_work_still c.args.self.now c.loop-moved.self c.requires.work
+    c.loop-moved.invariant.lines c.loop-moved.invariant.under_way
 
 pub returns-clause-acts : goal.returns-clause-acts
 returns-clause-acts c =

@@ -22,9 +22,11 @@ loop-line-preserved c =
           c.line-item.is c.in_ok-new_learner.ensures);
     }
 
-pub returns-clause-begins : goal.returns-clause-begins
-returns-clause-begins c =
+pub returns-clause-work : goal.returns-clause-work
+returns-clause-work c =
     let count = c.loop-line.invariant.count in
     let end = c.loop-line-test.false in
-    let most = c.loop-line.auto.line-index-end in
-    begins c.args.lines.now c.requires c.loop-line.learners.items (omega arith) c.loop-line.invariant.new
+    let most = c.loop-line.auto.line-index-end in record {
+      lines = c.requires;
+      under_way = begins c.args.lines.now c.requires c.loop-line.learners.items (omega arith) c.loop-line.invariant.new;
+    }
