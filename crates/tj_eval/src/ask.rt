@@ -1,5 +1,5 @@
 //! The asks of a task, whose values are for a variable or are dropped.
-ghost use Rattle.std.specs.Prelude.{◌≡◌, IsTrue};
+ghost use Rattle.std.specs.Prelude.{◌≡◌, IfErr, IfOk, IsTrue};
 ghost use Rattle.std.specs.Option.{option_map};
 ghost use Rattle.tj_eval.specs.Bodies.{all_have_few_params};
 ghost use Rattle.tj_syntax.specs.View as view;
@@ -25,15 +25,25 @@ impl<'s> State<'s> {
         }
     }
 
-    /// Lets the task await the value of a cell, or what stands behind `or` where the cell is broken.
-    fn await_cell(&mut self, into: Option<u32>, or_else: &'s Option<Expr>)
-        ensures { let due = state.cell_due into (option_map view.expression or_else.now) in
-            self.new ≡ record self.old { due = due } }
+    /// Lets the task await the value of the cell that the reference names, or what stands behind
+    /// `or` where that one is broken. The place of the reference.
+    fn await_cell(
+        &mut self,
+        into: Option<u32>,
+        r: RefOf,
+        or_else: &'s Option<Expr>,
+    ) -> Result<u32, Trouble>
+        ensures place { result ≡ state.reference_of self.old r }
+        ensures awaits { let due = state.cell_due into (option_map view.expression or_else.now) in
+            IfOk result (λ _. self.new ≡ record self.old { due = due }) }
+        ensures fails { IfErr result (λ _. self.new ≡ self.old) }
     {
+        let place = self.reference(r)?;
         self.due = match or_else {
             None => Due::Cell(into),
             Some(e) => Due::CellOr(into, e),
         };
+        Ok(place)
     }
 
     /// Asks, for the variable or to have the answer dropped.
@@ -59,16 +69,14 @@ impl<'s> State<'s> {
                 Ok(ask)
             }
             Call::Get(r, or_else) => {
-                let p = self.reference(*r)?;
-                self.await_cell(into, or_else);
+                let p = self.await_cell(into, *r, or_else)?;
                 match or_else {
                     None => Ok(Ask::Get { p }),
                     Some(_) => Ok(Ask::GetOr { p }),
                 }
             }
             Call::Join(r, or_else) => {
-                let t = self.reference(*r)?;
-                self.await_cell(into, or_else);
+                let t = self.await_cell(into, *r, or_else)?;
                 match or_else {
                     None => Ok(Ask::Join { t }),
                     Some(_) => Ok(Ask::JoinOr { t }),
