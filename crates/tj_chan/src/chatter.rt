@@ -13,7 +13,8 @@ pub trait Chatter: Sized + Send + Drop {
     /// How many channels its task has.
     ghost channels: { Self → ℕ };
 
-    /// What sort of answer it is to be given.
+    /// What sort of answer it is to be given: `place` is a new channel, which has the next place,
+    /// and `cell` is a value received. No answer fits `cell_or` or `nothing`.
     ghost awaits: { Self → Await };
 
     /// At least the number of asks that it has still to give before its last one.
