@@ -3,7 +3,7 @@
 use tj_base::{PlaceList, Trouble};
 
 /// What a chatter is answered.
-#[derive(Clone, Copy, Debug, PartialEq, Eq)]
+#[derive(Clone, Copy)]
 pub enum ChatAnswer {
     /// It has asked nothing yet.
     Start,
