@@ -17,6 +17,8 @@ use Rattle.tj_chan.specs.declared.chat.ChatAnswer.TheVariants as told
 use Rattle.tj_chan.specs.declared.chat.ChatAsk.{ChatAsk}
 use Rattle.tj_chan.specs.declared.chat.ChatAsk.TheVariants as chat
 use Rattle.tj_chan.specs.declared.rows.PromiseRow.{PromiseRow}
+use Rattle.tj_chan.specs.declared.spawn.Promises.{Promises}
+use Rattle.tj_chan.specs.declared.spawn.Promises.TheVariants as promises
 use Rattle.tj_chan.specs.declared.body.Due.{Due}
 use Rattle.tj_chan.specs.declared.body.Due.TheVariants as due
 use Rattle.tj_chan.specs.declared.body.ChanBody.{ChanBody}
@@ -56,15 +58,19 @@ abbrev pub places_from : ℕ → ℕ → List ℕ
 places_from k zero = []
 places_from k (suc n) = k ∷ places_from (suc k) n
 
+-- the places of a row's promises, of all or of those that are still to be set
+abbrev pub places_in : Option PromiseRow → Promises → List ℕ
+places_in None meant = []
+places_in (Some r) promises.All = places_from r.base r.items
+places_in (Some r) promises.Unset = places_from (r.base + r.sent) (r.items - r.sent)
+
 -- the places of all promises of a row
 abbrev pub all_places : Option PromiseRow → List ℕ
-all_places None = []
-all_places (Some r) = places_from r.base r.items
+all_places o = places_in o promises.All
 
 -- the places of those that are still to be set
 abbrev pub unset_places : Option PromiseRow → List ℕ
-unset_places None = []
-unset_places (Some r) = places_from (r.base + r.sent) (r.items - r.sent)
+unset_places o = places_in o promises.Unset
 
 -- the row of a channel that the task opens, whose promises are the last of so many places
 abbrev pub new_row : (rows : ℕ) → (places : ℕ) → (items : ℕ) → PromiseRow

@@ -12,7 +12,7 @@ use crate::chat::{ChatAnswer, ChatAsk};
 use crate::chatter::Chatter;
 use crate::laws::channels_are_lists;
 use crate::rows::{PromiseRow, RowList, row_at, with_row};
-use crate::spawn::{can_spawn, child_rows, handed_places, passed_places, without_ends};
+use crate::spawn::{Promises, can_spawn, child_rows, places_of, without_ends};
 use std::alloc::Global;
 use std::mem::replace;
 use tj_base::{Items, Oom, Pay, PlaceList, Trouble};
@@ -244,8 +244,8 @@ impl<C: Drop> ChanBody<C> {
         if !can_spawn(alloc, self.rows.items(), pass.items(), give.items())? {
             return Ok(self.fault());
         }
-        let passed = passed_places(alloc, self.rows.items(), pass.items())?;
-        let handed = handed_places(alloc, self.rows.items(), give.items())?;
+        let passed = places_of(alloc, self.rows.items(), pass.items(), Promises::All)?;
+        let handed = places_of(alloc, self.rows.items(), give.items(), Promises::Unset)?;
         let body = ChanBody {
             chatter,
             rows: child_rows(alloc, self.rows.items(), pass.items(), give.items())?,

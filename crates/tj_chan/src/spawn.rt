@@ -1,9 +1,10 @@
 //! What a spawn passes and hands over, and the rows that the child begins with.
-ghost use Rattle.std.specs.Prelude.{◌≡◌, ◌≤◌, ◌<◌, ◌^◌, [], length, nat_eq, IfOk, IsTrue};
+ghost use Rattle.std.specs.Prelude.{◌≡◌, ◌≤◌, ◌<◌, ◌^◌, ◌++◌, [], length, nat_eq, IfOk, IsTrue};
 ghost use Rattle.std.specs.List.{flat_map, list_all, list_any};
 ghost use Rattle.tj_chan.specs.ChanBodies as bodies;
 ghost use Rattle.tj_chan.specs.Channels as channels;
 ghost use Rattle.tj_chan.specs.Chats.{most_channels};
+ghost use Rattle.tj_chan.specs.Inner.RowLaws.{Bounded};
 
 use crate::rows::{PromiseRow, RowList, add_places, row_at, with_row};
 use std::alloc::Global;
@@ -108,36 +109,45 @@ pub fn without_ends(rows: RowList, give: &[u32]) -> RowList
     left
 }
 
-/// The places of all promises of the passed channels.
-pub fn passed_places(alloc: Global, rows: &[PromiseRow], pass: &[u32]) -> Result<PlaceList, Oom>
+/// Which promises of a channel are meant.
+#[derive(Clone, Copy)]
+pub enum Promises {
+    All,
+    /// Those that are still to be set.
+    Unset,
+}
+
+/// The places of these promises of the channels.
+pub fn places_of(
+    alloc: Global,
+    rows: &[PromiseRow],
+    channels: &[u32],
+    meant: Promises,
+) -> Result<PlaceList, Oom>
     requires rows { bodies.AreRows rows.now }
     requires room { IsTrue (list_all (bodies.is_row bodies.most_row_places) rows.now) }
     ensures { IfOk result (λ list. list
-        ≡ flat_map (λ k. bodies.all_places (bodies.row_at rows.now k)) pass.now) }
+        ≡ flat_map (λ k. bodies.places_in (bodies.row_at rows.now k) meant) channels.now) }
 {
     let mut places = Vec::new(alloc);
-    for place in pass {
+    for place in channels {
         if let Some(row) = row_at(rows, *place) {
-            add_places(&mut places, row.base, row.items)?;
+            add_promises(&mut places, row, meant)?;
         }
     }
     Ok(Items::of(places))
 }
 
-/// The places of the unset promises of the channels whose ends are given.
-pub fn handed_places(alloc: Global, rows: &[PromiseRow], give: &[u32]) -> Result<PlaceList, Oom>
-    requires rows { bodies.AreRows rows.now }
-    requires room { IsTrue (list_all (bodies.is_row bodies.most_row_places) rows.now) }
-    ensures { IfOk result (λ list. list
-        ≡ flat_map (λ k. bodies.unset_places (bodies.row_at rows.now k)) give.now) }
+/// Adds the places of these promises of the row.
+fn add_promises(places: &mut Vec<u32>, row: PromiseRow, meant: Promises) -> Result<(), Oom>
+    requires { Bounded bodies.most_row_places row }
+    ensures { IfOk result (λ _. places.new.items
+        ≡ places.old.items ++ bodies.places_in (Some row) meant) }
 {
-    let mut places = Vec::new(alloc);
-    for place in give {
-        if let Some(row) = row_at(rows, *place) {
-            add_places(&mut places, row.base + row.sent, row.items - row.sent)?;
-        }
+    match meant {
+        Promises::All => add_places(places, row.base, row.items),
+        Promises::Unset => add_places(places, row.base + row.sent, row.items - row.sent),
     }
-    Ok(Items::of(places))
 }
 
 /// The first place of the channel among those that have been passed, of which the first places

@@ -7,13 +7,13 @@ use Rattle.tj_chan.specs.Inner.RowLaws.{rows_stay, spawn_fits}
 use Rattle.tj_chan.proofs.body.ChanBody.spawn.Given.{Over}
 use Rattle.tj_chan.proofs.body.ChanBody.spawn.Goals as goal
 
-pub passed_places-requires-clause-room : goal.passed_places-requires-clause-room
-passed_places-requires-clause-room g c = let b = c.args.self.now in
+pub places_of-requires-clause-room : goal.places_of-requires-clause-room
+places_of-requires-clause-room g c = let b = c.args.self.now in
     subst (λ z. IsTrue (list_all (is_row most_row_places) z)) (sym c.items-4.ensures)
     (rows_stay b.places most_row_places b.rows c.requires.room c.requires.places)
 
-pub handed_places-requires-clause-room : goal.handed_places-requires-clause-room
-handed_places-requires-clause-room g c = let b = c.args.self.now in
+pub places_of-requires-2-clause-room : goal.places_of-requires-2-clause-room
+places_of-requires-2-clause-room g c = let b = c.args.self.now in
     subst (λ z. IsTrue (list_all (is_row most_row_places) z)) (sym c.items-6.ensures)
     (rows_stay b.places most_row_places b.rows c.requires.room c.requires.places)
 
