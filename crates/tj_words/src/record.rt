@@ -1,4 +1,8 @@
 //! The record of a task between two of its asks, which goes from worker to worker.
+ghost use Rattle.std.specs.Prelude.{◌≡◌};
+ghost use Rattle.tj_words.specs.LawParts.StartRecords.{start_record};
+
+use std::alloc::Global;
 use tj_base::{CellId, CellList, Items, NumList, Sort};
 use tj_body::Answer;
 
@@ -59,4 +63,25 @@ pub struct Rec<B> {
     pub finish: Option<Finish>,
     /// Whether a broken cell is answered by `Lost` in the wait.
     pub spare: bool,
+}
+
+impl<B> Rec<B> {
+    /// The record of a task at its start that holds and owns these.
+    #[inline(always)]
+    pub fn at_start(alloc: Global, cell: CellId, body: B, held: HeldList, owned: CellList) -> Rec<B>
+        ensures { result ≡ start_record cell body held owned }
+    {
+        Rec {
+            cell,
+            body,
+            answer: Answer::Start,
+            held,
+            owned,
+            made: 0,
+            prints: Items::of(Vec::new(alloc)),
+            owed: Items::of(Vec::new(alloc)),
+            finish: None,
+            spare: false,
+        }
+    }
 }

@@ -16,7 +16,7 @@ use atomic_table::{Seat, Table, TableRule};
 use std::alloc::Global;
 use std::snapshot::Snapshot;
 use tj_base::{CellId, Items, Oom, Sort};
-use tj_body::{Answer, Body, points_in_rounds};
+use tj_body::{Body, points_in_rounds};
 use tj_events::start_meets_facts;
 
 /// What a table is told when it is made: the number of cells, the root's body, and whether the rule
@@ -155,16 +155,5 @@ fn root_record<B: Body>(alloc: Global, root: B) -> Result<Rec<B>, Oom>
     })?;
     let mut owned = Items::of(Vec::new(alloc));
     owned.push(cell)?;
-    Ok(Rec {
-        cell,
-        body: root,
-        answer: Answer::Start,
-        held,
-        owned,
-        made: 0,
-        prints: Items::of(Vec::new(alloc)),
-        owed: Items::of(Vec::new(alloc)),
-        finish: None,
-        spare: false,
-    })
+    Ok(Rec::at_start(alloc, cell, root, held, owned))
 }

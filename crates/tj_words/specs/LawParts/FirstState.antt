@@ -1,8 +1,6 @@
 -- The first state of a table: the root is drawn and ready, its record lies at home, and there is one seat.
-use Rattle.std.specs.Prelude.{ℕ, ◌-◌, Bool, false, List, [], ◌∷◌, set, replicate, Option, Some, None}
-use Rattle.tj_base.specs.declared.cell.Sort.TheVariants as sort
+use Rattle.std.specs.Prelude.{ℕ, ◌-◌, Bool, List, [], ◌∷◌, set, replicate, Option, Some, None}
 use Rattle.tj_body.specs.History.{to_task}
-use Rattle.tj_body.specs.declared.ask.Answer.TheVariants as answer
 use Rattle.tj_words.specs.declared.offsets.Once.TheVariants as once
 use Rattle.tj_words.specs.declared.phase.Phase.TheVariants.{Ready}
 use Rattle.tj_words.specs.declared.record.Rec.{Rec}
@@ -12,6 +10,7 @@ use Rattle.tj_words.specs.Words.Offsets.{words_for, count_at, live_at, own_at, p
 use Rattle.tj_words.specs.Words.Owners.{owner_word}
 use Rattle.tj_words.specs.Words.Phases.{phase_word}
 use Rattle.tj_words.specs.LawParts.Lots.{all_lots}
+use Rattle.tj_words.specs.LawParts.StartRecords.{own, start_record}
 use Rattle.tj_words.specs.SeatViews.Views.{spent}
 
 -- one cell is drawn, the root; it is ready, owns its result, and jumps to itself
@@ -23,18 +22,7 @@ first_words cells =
 module _ {B : Type 0} where
   -- the record of the root at its start
   abbrev pub root_record : B → Rec B
-  root_record root = record {
-    cell = cell 0;
-    body = root;
-    answer = answer.Start;
-    held = record { cell = cell 0; sort = sort.Task } ∷ [];
-    owned = cell 0 ∷ [];
-    made = 0;
-    prints = [];
-    owed = [];
-    finish = None;
-    spare = false;
-  }
+  root_record root = start_record (cell 0) root (own (cell 0) ∷ []) (cell 0 ∷ [])
 
   -- the slots: the root's record, and none for each other cell
   abbrev pub first_slots : ℕ → B → List (Option (Rec B))
