@@ -49,22 +49,11 @@ impl<B: Body> Laid<B> {
     {
         match by {
             None => self.plain_count(seat),
-            Some(t) => self.count_by(seat, t),
+            Some(t) => {
+                let found = self.walker_count::<Brand>(seat, t);
+                found.min(self.cells as u64) as u32
+            }
         }
-    }
-
-    fn count_by(&self, seat: &mut WSeat<B>, t: CellId) -> u32
-        requires table { seat.old.table_id ≡ self.now.table.shared.table_id }
-        requires walks { IsWalking t.0 (λ p way w. MayCount way w) seat.old.me.0 }
-        ensures seat { IsSameSeat seat.old seat.new }
-        ensures view { seat.new.me.0 ≡ read_on t.0 (count_read result) seat.old.me.0 }
-        ensures moment { (n : ℕ) × (result ≡ min n self.now.cells)
-            × WasSo (program_of B.places B.awaits B.left B.asks B.then) count_at n seat.old.me.0 }
-        ensures some { 0 < result }
-        ensures few { result ≤ self.now.cells }
-    {
-        let found = self.walker_count::<Brand>(seat, t);
-        found.min(self.cells as u64) as u32
     }
 
     fn walker_count<M: Naming>(&self, seat: &mut WSeat<B>, t: CellId) -> u64
@@ -100,23 +89,8 @@ impl<B: Body> Laid<B> {
     {
         match by {
             None => self.plain_owner(seat, c),
-            Some(t) => self.owner_by(seat, c, t),
+            Some(t) => owner_of_word(self.walker_owner::<Brand>(seat, c, t)),
         }
-    }
-
-    fn owner_by(&self, seat: &mut WSeat<B>, c: CellId, t: CellId) -> Option<CellId>
-        requires table { seat.old.table_id ≡ self.now.table.shared.table_id }
-        requires cell { c.0 < self.now.cells }
-        requires walks { IsWalking t.0 (λ p way w. (c.0 ≡ present p w.trail) × MayLoadOwner w)
-            seat.old.me.0 }
-        ensures seat { IsSameSeat seat.old seat.new }
-        ensures view { seat.new.me.0
-            ≡ read_on t.0 (λ w. owner_seen (owner_number result) w w.last) seat.old.me.0 }
-        ensures task { (u : CellId) → result ≡ Some u → u.0 < self.now.cells }
-        ensures moment { WasSo (program_of B.places B.awaits B.left B.asks B.then) (own_at c.0)
-            (owner_word (owner_number result)) seat.old.me.0 }
-    {
-        owner_of_word(self.walker_owner::<Brand>(seat, c, t))
     }
 
     fn walker_owner<M: Naming>(&self, seat: &mut WSeat<B>, c: CellId, t: CellId) -> u64
@@ -154,22 +128,8 @@ impl<B: Body> Laid<B> {
     {
         match by {
             None => self.plain_phase(seat, t),
-            Some(walker) => self.wait_by(seat, t, walker),
+            Some(walker) => Phase::of_word(self.walker_wait::<Brand>(seat, t, walker)),
         }
-    }
-
-    fn wait_by(&self, seat: &mut WSeat<B>, u: CellId, t: CellId) -> Phase
-        requires table { seat.old.table_id ≡ self.now.table.shared.table_id }
-        requires cell { u.0 < self.now.cells }
-        requires walks { IsWalking t.0 (λ p way w. MayLoadWait t.0 u.0 w) seat.old.me.0 }
-        ensures seat { IsSameSeat seat.old seat.new }
-        ensures view { seat.new.me.0
-            ≡ read_on t.0 (wait_found u.0 (wait_in result)) seat.old.me.0 }
-        ensures wait { (c : ℕ) → wait_in result ≡ Some c → c < self.now.cells }
-        ensures moment { WasSo (program_of B.places B.awaits B.left B.asks B.then) (phase_at u.0)
-            (phase_word result) seat.old.me.0 }
-    {
-        Phase::of_word(self.walker_wait::<Brand>(seat, u, t))
     }
 
     fn walker_wait<M: Naming>(&self, seat: &mut WSeat<B>, u: CellId, t: CellId) -> u64

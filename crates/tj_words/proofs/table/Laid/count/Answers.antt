@@ -1,4 +1,5 @@
 use Rattle.tj_words.proofs.table.Laid.count.Goals as goal
 
 pub returns-in-Some-clause-moment : goal.returns-in-Some-clause-moment
-returns-in-Some-clause-moment g c = let m = c.count_by.ensures.moment in (m.0, m.1, (λ e. cc), m.2)
+returns-in-Some-clause-moment g c =
+    (c.walker_count-found.result, c.min.ensures, (λ e. cc), c.walker_count-found.ensures.moment)

@@ -1,5 +1,5 @@
 use Rattle.tj_base.specs.declared.cell.Sort.TheVariants as sort
-use Rattle.tj_words.proofs.table.Laid.owner_by.Given as goal
+use Rattle.tj_words.proofs.table.Laid.see_owner.Given as goal
 
 -- the walker
 abbrev pub ghosts-walker_owner : goal.ghosts-walker_owner

@@ -1,5 +1,5 @@
 use Rattle.tj_base.specs.declared.cell.Sort.TheVariants as sort
-use Rattle.tj_words.proofs.table.Laid.count_by.Given as goal
+use Rattle.tj_words.proofs.table.Laid.count.Given as goal
 
 -- the walker
 abbrev pub ghosts-walker_count : goal.ghosts-walker_count

@@ -1,0 +1,6 @@
+use Rattle.tj_words.proofs.Prelude.{refl, sym}
+use Rattle.tj_words.proofs.SeatLoads.MomentSteps.{so_too}
+use Rattle.tj_words.proofs.table.Laid.see_phase.Goals as goal
+
+pub returns-in-Some-clause-moment : goal.returns-in-Some-clause-moment
+returns-in-Some-clause-moment g c = so_too refl (sym c.of_word.ensures.back) c.walker_wait.ensures.moment
