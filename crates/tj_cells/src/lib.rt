@@ -6,5 +6,5 @@ mod making;
 mod seen;
 
 pub use closing::{break_off, fill};
-pub use making::{Full, birth, hand, make};
+pub use making::{Full, Made, birth, hand, make};
 pub use seen::{Seen, value};

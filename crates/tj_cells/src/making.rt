@@ -1,6 +1,6 @@
 //! Promises and tasks that a running task makes. A draw gives a cell; its words of the tree are
 //! written while the seat has it in hand, and its owner last: from then on others may name it.
-ghost use Rattle.std.specs.Prelude.{◌≡◌, ◌≢◌, ◌+◌, ◌∷◌, IfOk, IfSome, Some, None, OnErr};
+ghost use Rattle.std.specs.Prelude.{◌≡◌, ◌≢◌, ◌+◌, ◌∷◌, IfOk, Some, None, OnErr};
 ghost use Rattle.tj_base.specs.declared.cell.Sort.TheVariants as sorts;
 ghost use Rattle.tj_body.specs.Programs.{program_of};
 ghost use Rattle.tj_tree.specs.Nodes.{InEachTree};
@@ -17,16 +17,14 @@ use tj_tree::{Node, NodeId};
 use tj_words::{Laid, Once, Phase, WSeat};
 
 /// All cells are drawn.
-#[derive(Clone, Copy, PartialEq, Eq)]
+#[derive(Clone, Copy)]
 pub struct Full;
 
+/// A cell that a task makes.
+pub type Made = Result<CellId, Full>;
+
 /// A promise that task `t` makes and owns, as the `kid`-th thing that it makes.
-pub fn make<B: Body>(
-    laid: &Laid<B>,
-    seat: &mut WSeat<B>,
-    t: CellId,
-    kid: u32,
-) -> Result<CellId, Full>
+pub fn make<B: Body>(laid: &Laid<B>, seat: &mut WSeat<B>, t: CellId, kid: u32) -> Made
     requires table { IsSeatOf laid.now seat.old }
     requires may { MayMake (program_of B.places B.awaits B.left B.asks B.then) t.0 kid
         seat.old.me.0 }
@@ -36,24 +34,15 @@ pub fn make<B: Body>(
     ensures full { OnErr result (FindsNone (program_of B.places B.awaits B.left B.asks B.then)
         seat.old.me.0 seat.new.me.0) }
 {
-    match draw_named(laid, seat, t, kid, Sort::Promise) {
-        None => Err(Full),
-        Some(c) => {
-            laid.put_phase(seat, c, Phase::Promise);
-            laid.put_owner(seat, c, Some(t));
-            Ok(c)
-        }
-    }
+    let c = draw_named(laid, seat, t, kid, Sort::Promise)?;
+    laid.put_phase(seat, c, Phase::Promise);
+    laid.put_owner(seat, c, Some(t));
+    Ok(c)
 }
 
 /// A child of task `t`, as the `kid`-th thing that it makes. It isn't ready yet, and owns its result.
 #[inline(always)]
-pub fn birth<B: Body>(
-    laid: &Laid<B>,
-    seat: &mut WSeat<B>,
-    t: CellId,
-    kid: u32,
-) -> Result<CellId, Full>
+pub fn birth<B: Body>(laid: &Laid<B>, seat: &mut WSeat<B>, t: CellId, kid: u32) -> Made
     requires table { IsSeatOf laid.now seat.old }
     requires cell { IsCellOf laid.now t.0 }
     requires known { KnowsTask t.0 seat.old.me.0 }
@@ -66,14 +55,10 @@ pub fn birth<B: Body>(
     ensures full { OnErr result (FindsNone (program_of B.places B.awaits B.left B.asks B.then)
         seat.old.me.0 seat.new.me.0 × (seat.new.me.1 ≡ seat.old.me.1)) }
 {
-    match draw_named(laid, seat, t, kid, Sort::Task) {
-        None => Err(Full),
-        Some(c) => {
-            put_node(laid, seat, t, c);
-            laid.put_owner(seat, c, Some(c));
-            Ok(c)
-        }
-    }
+    let c = draw_named(laid, seat, t, kid, Sort::Task)?;
+    put_node(laid, seat, t, c);
+    laid.put_owner(seat, c, Some(c));
+    Ok(c)
 }
 
 /// Task `t` hands a promise that it owns to a child of it that isn't ready yet.
@@ -88,28 +73,23 @@ pub fn hand<B: Body>(laid: &Laid<B>, seat: &mut WSeat<B>, t: CellId, p: CellId, 
 }
 
 // A cell that task `t` draws as the `kid`-th thing that it makes, with PARENT and KID written.
-fn draw_named<B: Body>(
-    laid: &Laid<B>,
-    seat: &mut WSeat<B>,
-    t: CellId,
-    kid: u32,
-    sort: Sort,
-) -> Option<CellId>
+fn draw_named<B: Body>(laid: &Laid<B>, seat: &mut WSeat<B>, t: CellId, kid: u32, sort: Sort) -> Made
     requires table { IsSeatOf laid.now seat.old }
     requires may { MayMake (program_of B.places B.awaits B.left B.asks B.then) t.0 kid
         seat.old.me.0 }
     ensures seat { (seat.new.table_id ≡ seat.old.table_id) × (seat.new.id ≡ seat.old.id) }
-    ensures drawn { IfSome result (λ c. DrawsNamed laid.now.cells t.0 kid sort c.0
+    ensures drawn { IfOk result (λ c. DrawsNamed laid.now.cells t.0 kid sort c.0
         seat.old.me.0 seat.new.me.0) }
-    ensures slots { IfSome result (λ c. seat.new.me.1 ≡ new_slots c.0 sort seat.old.me.1) }
-    ensures none { result ≡ None
-        → FindsNone (program_of B.places B.awaits B.left B.asks B.then) seat.old.me.0 seat.new.me.0
-        × (seat.new.me.1 ≡ seat.old.me.1) }
+    ensures slots { IfOk result (λ c. seat.new.me.1 ≡ new_slots c.0 sort seat.old.me.1) }
+    ensures full { OnErr result (FindsNone (program_of B.places B.awaits B.left B.asks B.then)
+        seat.old.me.0 seat.new.me.0 × (seat.new.me.1 ≡ seat.old.me.1)) }
 {
-    let c = laid.draw_one(seat, t, sort)?;
+    let Some(c) = laid.draw_one(seat, t, sort) else {
+        return Err(Full);
+    };
     laid.put_once(seat, c, Once::Parent, t.0 as u64 + 1);
     laid.put_once(seat, c, Once::Kid, kid as u64);
-    Some(c)
+    Ok(c)
 }
 
 // Writes DEPTH and JUMP of a new child of task `t`.

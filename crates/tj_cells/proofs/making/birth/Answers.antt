@@ -6,18 +6,18 @@ pub put_node-requires-clause-look : goal.put_node-requires-clause-look
 put_node-requires-clause-look g c κs within = record {
   table = c.draw_named.ensures.seat.0 ∙ c.requires.table;
   cell = c.requires.cell;
-  may = still_may c.requires.may c.in-Some.ensures.drawn c.requires.known.0;
-  task = still_task c.requires.may c.in-Some.ensures.drawn c.requires.known.1;
+  may = still_may c.requires.may c.in_ok-c.ensures.drawn c.requires.known.0;
+  task = still_task c.requires.may c.in_ok-c.ensures.drawn c.requires.known.1;
 }
 
 pub put_node-requires-clause-hand : goal.put_node-requires-clause-hand
-put_node-requires-clause-hand g c κs within = in_hand c.requires.may c.in-Some.ensures.drawn
+put_node-requires-clause-hand g c κs within = in_hand c.requires.may c.in_ok-c.ensures.drawn
 
 pub put_owner-requires-clause-may : goal.put_owner-requires-clause-may
 put_owner-requires-clause-may g c κs within =
-    inl (may_give_task c.requires.may c.in-Some.ensures.drawn c.put_node.ensures.node)
+    inl (may_give_task c.requires.may c.in_ok-c.ensures.drawn c.put_node.ensures.node)
 
-pub returns-in-Some-clause-made : goal.returns-in-Some-clause-made
-returns-in-Some-clause-made g c =
-    task_made c.requires.may c.in-Some.ensures.drawn c.put_node.ensures.node
-    (c.put_owner.ensures.view.0 (may_give_task c.requires.may c.in-Some.ensures.drawn c.put_node.ensures.node))
+pub returns-clause-made : goal.returns-clause-made
+returns-clause-made g c =
+    task_made c.requires.may c.in_ok-c.ensures.drawn c.put_node.ensures.node
+    (c.put_owner.ensures.view.0 (may_give_task c.requires.may c.in_ok-c.ensures.drawn c.put_node.ensures.node))
