@@ -2,3 +2,5 @@
 pub mod ChainSentences
 pub mod TreeDraws
 pub mod ShownCells
+pub mod IndexWords
+pub mod CellTold

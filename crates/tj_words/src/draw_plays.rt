@@ -1,7 +1,7 @@
 //! What the steps tell that draw a cell and write its words.
 ghost use Rattle.tj_words.specs.Calls.DrawViews.{mark_store, word_store};
-ghost use Rattle.tj_words.specs.SeatViews.SeatSteps.{of_its_cell};
-ghost use Rattle.tj_words.specs.Words.Offsets.{once_of};
+ghost use Rattle.tj_words.specs.Inner.CellTold.{of_its_cell};
+ghost use Rattle.tj_words.specs.Inner.IndexWords.{once_of};
 
 use crate::plays::Naming;
 use crate::record::Rec;

@@ -1,7 +1,7 @@
 //! What the steps on LIVE and STOP, and the stores of Ready and of Ended, tell their caller.
 ghost use Rattle.tj_words.specs.Calls.LiveViews.{ended_store, live_add, live_sub, ready_store};
 ghost use Rattle.tj_words.specs.Calls.LiveViews.{stop_store};
-ghost use Rattle.tj_words.specs.SeatViews.SeatSteps.{of_its_cell};
+ghost use Rattle.tj_words.specs.Inner.CellTold.{of_its_cell};
 
 use crate::record::Rec;
 use crate::view::View;

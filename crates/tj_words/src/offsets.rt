@@ -1,5 +1,6 @@
 //! Which word is which. The table has four words of its own, and then ten for each cell.
 ghost use Rattle.std.specs.Prelude.{◌≡◌, ◌<◌, ◌^◌};
+ghost use Rattle.tj_words.specs.Inner.IndexWords.{cell_at};
 ghost use Rattle.tj_words.specs.Words.Offsets as offsets;
 
 use tj_base::CellId;
@@ -39,7 +40,7 @@ fn first_word(cell: CellId) -> usize
 /// The index of the word OWN.
 pub(crate) fn own_at(cell: CellId) -> usize
     ensures word { result ≡ offsets.own_at cell.0 }
-    ensures cell { offsets.cell_at result ≡ cell.0 }
+    ensures cell { cell_at result ≡ cell.0 }
 {
     first_word(cell)
 }
@@ -47,7 +48,7 @@ pub(crate) fn own_at(cell: CellId) -> usize
 /// The index of the word PHASE.
 pub(crate) fn phase_at(cell: CellId) -> usize
     ensures word { result ≡ offsets.phase_at cell.0 }
-    ensures cell { offsets.cell_at result ≡ cell.0 }
+    ensures cell { cell_at result ≡ cell.0 }
 {
     first_word(cell) + 1
 }
@@ -55,7 +56,7 @@ pub(crate) fn phase_at(cell: CellId) -> usize
 /// The index of a word that is written once.
 pub(crate) fn once_at(cell: CellId, word: Once) -> usize
     ensures word { result ≡ offsets.once_at cell.0 word }
-    ensures cell { offsets.cell_at result ≡ cell.0 }
+    ensures cell { cell_at result ≡ cell.0 }
 {
     let offset = match word {
         Once::Tag => 2,
@@ -71,7 +72,7 @@ pub(crate) fn once_at(cell: CellId, word: Once) -> usize
 /// The index of the word HEAD.
 pub(crate) fn head_at(cell: CellId) -> usize
     ensures word { result ≡ offsets.head_at cell.0 }
-    ensures cell { offsets.cell_at result ≡ cell.0 }
+    ensures cell { cell_at result ≡ cell.0 }
 {
     first_word(cell) + 8
 }
@@ -79,7 +80,7 @@ pub(crate) fn head_at(cell: CellId) -> usize
 /// The index of the word NEXT.
 pub(crate) fn next_at(cell: CellId) -> usize
     ensures word { result ≡ offsets.next_at cell.0 }
-    ensures cell { offsets.cell_at result ≡ cell.0 }
+    ensures cell { cell_at result ≡ cell.0 }
 {
     first_word(cell) + 9
 }

@@ -1,7 +1,7 @@
 //! What the stores of an owner, and of what becomes of a cell, tell.
 ghost use Rattle.tj_words.specs.Calls.EntryViews.{tag_store};
 ghost use Rattle.tj_words.specs.Calls.OwnerViews.{owner_put};
-ghost use Rattle.tj_words.specs.SeatViews.SeatSteps.{of_its_cell};
+ghost use Rattle.tj_words.specs.Inner.CellTold.{of_its_cell};
 
 use crate::record::Rec;
 use crate::view::View;

@@ -4,9 +4,10 @@ ghost use Rattle.tj_words.specs.Calls.ChainSteps.{next_store, push_exchange, shu
 ghost use Rattle.tj_words.specs.Calls.ParkSteps.{phase_load};
 ghost use Rattle.tj_words.specs.SeatViews.SeenWords.{head_load, next_load, once_load};
 ghost use Rattle.tj_base.specs.declared.cell.Sort.{Sort};
-ghost use Rattle.tj_words.specs.Words.Offsets.{once_of};
+ghost use Rattle.tj_words.specs.Inner.IndexWords.{once_of};
 ghost use Rattle.tj_words.specs.SeatViews.Moments.{at_moment};
-ghost use Rattle.tj_words.specs.SeatViews.SeatSteps.{IsCount, live_load, of_its_cell, plain_load};
+ghost use Rattle.tj_words.specs.SeatViews.SeatSteps.{IsCount, live_load, plain_load};
+ghost use Rattle.tj_words.specs.Inner.CellTold.{of_its_cell};
 ghost use Rattle.tj_words.specs.declared.view.Noted.TheVariants as note;
 
 use crate::record::Rec;

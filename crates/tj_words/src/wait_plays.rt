@@ -1,6 +1,6 @@
 //! What the stores of a wait into PHASE tell their caller.
 ghost use Rattle.tj_words.specs.Calls.WaitViews.{wait_store};
-ghost use Rattle.tj_words.specs.SeatViews.SeatSteps.{of_its_cell};
+ghost use Rattle.tj_words.specs.Inner.CellTold.{of_its_cell};
 
 use crate::record::Rec;
 use crate::view::View;

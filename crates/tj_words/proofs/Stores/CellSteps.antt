@@ -1,8 +1,10 @@
 -- What a step tells of the cell of its word, told of the cell that its caller names.
 use Rattle.tj_words.proofs.Prelude.{SeatMe, ap, arith, none, step, subst, ℕ, ◌+◌, ◌-◌, ◌≡◌}
 use Rattle.std.proofs.Common.{◌%◌}
-use Rattle.tj_words.specs.SeatViews.SeatSteps.{Tells, of_its_cell}
-use Rattle.tj_words.specs.Words.Offsets.{cell_at, first_word, once_at, once_by, once_of}
+use Rattle.tj_words.specs.Inner.CellTold.{of_its_cell}
+use Rattle.tj_words.specs.Inner.IndexWords.{cell_at, once_by, once_of}
+use Rattle.tj_words.specs.SeatViews.SeatSteps.{Tells}
+use Rattle.tj_words.specs.Words.Offsets.{first_word, once_at}
 use Rattle.tj_words.specs.declared.offsets.Once.{Once}
 use Rattle.tj_words.specs.declared.offsets.Once.TheVariants as once
 

@@ -107,8 +107,8 @@ module _ {B : Type 0} where
   events_by cells c st k v es = es ≡ []
 
 module _ {B : Type 0} (program : Bool → B → Program B) (key : Key B) where
-  -- what a call asks of its operands and of its seat, beside what it tells only of a seat of which it is so; the others
-  -- ask nothing
+  -- what a call asks of its operands and of its seat, beside what it tells only of a seat of which it is so; of the
+  -- others nothing is needed here
   abbrev pub asked_by : StepCall → Step (Option (Rec B)) → SeatMe B → Type 0
   asked_by (call.draws t o) st m = MayDraw program t m.0
   asked_by (call.counts_by t) st m = IsWalking t (λ p way w. MayCount way w) m.0

@@ -35,7 +35,7 @@ pub record LiveCount (cells live : ℕ) (phase : ℕ → Phase) (tokens : List �
   pub counted : live ≡ live_tasks phase cells + total tokens
   pub stays_at_rest : Each (λ j rested. rested ≡ true → live ≡ 0) rested
 
--- of a task that runs, walks or has alarmed what is asked of such a one; an unborn one is neither
+-- of a task that runs, walks or has alarmed what is asked of such a one; an unborn one does none of the three
 abbrev pub DoesOne : Type 0 → Type 0 → Type 0 → Does → Type 0
 DoesOne runs walks alarmed does.Unborn = ⊥
 DoesOne runs walks alarmed does.Fresh = runs

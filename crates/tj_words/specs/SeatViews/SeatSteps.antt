@@ -7,7 +7,7 @@ use Rattle.tj_words.specs.declared.table.Laid.{Laid}
 use Rattle.tj_words.specs.declared.view.View.{View}
 use Rattle.tj_words.specs.declared.view.Noted.{Noted}
 use Rattle.tj_words.specs.declared.view.Noted.TheVariants as note
-use Rattle.tj_words.specs.Words.Offsets.{cell_at, count_at, live_at, next_at, own_at, phase_at, stop_at}
+use Rattle.tj_words.specs.Words.Offsets.{count_at, live_at, next_at, own_at, phase_at, stop_at}
 use Rattle.tj_words.specs.SeatViews.Views.{loaded_plain, saw_live, saw_rest}
 
 -- a seat with the slots that it has
@@ -33,10 +33,6 @@ module _ {B : Type 0} where
   -- the step is on the word that it is noted with
   abbrev pub IsOn : Noted → Step (Option (Rec B)) → Type 0
   IsOn kind st = st.word ≡ noted_at kind
-
-  -- what a step tells of the cell of its word, in a table of so many cells as it has slots
-  abbrev pub of_its_cell : (ℕ → ℕ → Tells B) → Tells B
-  of_its_cell T st = T st.slots (cell_at st.word) st
 
   -- a seat of this table
   abbrev pub IsSeatOf : Laid B → Seat (Option (Rec B)) (View B) → Type 0

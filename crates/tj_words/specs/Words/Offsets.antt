@@ -1,5 +1,5 @@
 -- Which word is which.
-use Rattle.std.specs.Prelude.{ℕ, ◌+◌, ◌-◌, ◌*◌, ◌/◌, ◌%◌, cond, nat_eq, List, slice_index_or}
+use Rattle.std.specs.Prelude.{ℕ, ◌+◌, ◌*◌, List, slice_index_or}
 use Rattle.tj_words.specs.declared.offsets.Once.{Once}
 use Rattle.tj_words.specs.declared.offsets.Once.TheVariants.{Tag, Bits, Parent, Kid, Depth, Jump}
 
@@ -39,20 +39,6 @@ own_at cell = first_word cell
 abbrev pub phase_at : ℕ → ℕ
 phase_at cell = first_word cell + 1
 
--- the cell of which the word at an index is one, where it is none of the table's own
-abbrev pub cell_at : ℕ → ℕ
-cell_at i = (i - 4) / 10
-
--- the word of a cell that is written once and stands behind so many others
-abbrev pub once_by : ℕ → Once
-once_by k =
-    cond (nat_eq k 2) Tag
-    (cond (nat_eq k 3) Bits
-    (cond (nat_eq k 4) Parent
-    (cond (nat_eq k 5) Kid
-    (cond (nat_eq k 6) Depth
-    Jump))))
-
 -- where a word of a cell stands that is written once
 abbrev pub once_at : ℕ → Once → ℕ
 once_at cell Tag = first_word cell + 2
@@ -61,10 +47,6 @@ once_at cell Parent = first_word cell + 4
 once_at cell Kid = first_word cell + 5
 once_at cell Depth = first_word cell + 6
 once_at cell Jump = first_word cell + 7
-
--- the word that is written once at an index
-abbrev pub once_of : ℕ → Once
-once_of i = once_by ((i - 4) % 10)
 
 -- where HEAD of a cell stands
 abbrev pub head_at : ℕ → ℕ

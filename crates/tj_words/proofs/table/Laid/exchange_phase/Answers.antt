@@ -1,5 +1,5 @@
 use Rattle.tj_words.proofs.Prelude.{arith, either, eqb, phase_swap, refl, sym, ◌∙◌}
-use Rattle.tj_words.specs.Words.Offsets.{cell_at}
+use Rattle.tj_words.specs.Inner.IndexWords.{cell_at}
 use Rattle.tj_words.proofs.Lemmas.{moment_allowed, so_too}
 use Rattle.tj_words.proofs.Phases.PhaseExchanges.{swap_allowed}
 use Rattle.tj_words.proofs.table.Laid.exchange_phase.Goals as goal

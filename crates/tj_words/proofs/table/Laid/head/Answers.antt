@@ -1,5 +1,5 @@
 use Rattle.tj_words.proofs.Prelude.{arith, sym, ◌∙◌}
-use Rattle.tj_words.specs.Words.Offsets.{cell_at}
+use Rattle.tj_words.specs.Inner.IndexWords.{cell_at}
 use Rattle.tj_words.proofs.SeatLoads.HeadLoads.{head_allowed}
 use Rattle.tj_words.proofs.table.Laid.head.Goals as goal
 

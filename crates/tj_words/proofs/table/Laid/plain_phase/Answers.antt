@@ -1,5 +1,5 @@
 use Rattle.tj_words.proofs.Prelude.{FirstTold, arith, phase_load, subst, sym, ◌∙◌}
-use Rattle.tj_words.specs.Words.Offsets.{cell_at}
+use Rattle.tj_words.specs.Inner.IndexWords.{cell_at}
 use Rattle.tj_words.proofs.Lemmas.{moment_allowed, so_too}
 use Rattle.tj_words.proofs.SeatLoads.PhaseLoads.{phase_allowed}
 use Rattle.tj_words.proofs.Stores.CellSteps.{its_cell}

@@ -1,6 +1,6 @@
 use Rattle.tj_words.proofs.Prelude.{ap, arith, either, eqb, head_word, push_exchange, refl, sym, ◌+◌, ◌∙◌}
 use Rattle.tj_words.specs.Calls.ChainSteps.{pushed}
-use Rattle.tj_words.specs.Words.Offsets.{cell_at}
+use Rattle.tj_words.specs.Inner.IndexWords.{cell_at}
 use Rattle.tj_words.proofs.Lemmas.{moment_allowed, so_too}
 use Rattle.tj_words.proofs.Calls.PushRuns.{chain_found, finds_longer, found_other, word_back}
 use Rattle.tj_words.proofs.Stores.CellSteps.{its_cell}

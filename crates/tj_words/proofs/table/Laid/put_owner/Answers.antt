@@ -1,6 +1,6 @@
 use Rattle.tj_words.proofs.Prelude.{PutsOwner, arith, subst, sym}
 use Rattle.tj_words.specs.Calls.OwnerViews.{MayPutOwner, owner_put}
-use Rattle.tj_words.specs.Words.Offsets.{cell_at}
+use Rattle.tj_words.specs.Inner.IndexWords.{cell_at}
 use Rattle.tj_words.proofs.Cells.OwnerStores.{owner_allowed}
 use Rattle.tj_words.proofs.Stores.CellSteps.{its_cell}
 use Rattle.tj_words.proofs.table.Laid.put_owner.Goals as goal

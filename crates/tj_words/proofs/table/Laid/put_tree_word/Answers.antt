@@ -1,5 +1,5 @@
 use Rattle.tj_words.proofs.Prelude.{ap, arith, subst, ◌∙◌, ◌≡◌}
-use Rattle.tj_words.specs.Words.Offsets.{cell_at, once_of}
+use Rattle.tj_words.specs.Inner.IndexWords.{cell_at, once_of}
 use Rattle.tj_words.proofs.SeatLoads.KnowLoads.{once_within}
 use Rattle.tj_words.proofs.Stores.WordStores.{word_allowed}
 use Rattle.tj_words.specs.Calls.DrawViews.{word_store, wrote_word}

@@ -1,5 +1,5 @@
 use Rattle.tj_words.proofs.Prelude.{arith}
-use Rattle.tj_words.specs.Words.Offsets.{cell_at}
+use Rattle.tj_words.specs.Inner.IndexWords.{cell_at}
 use Rattle.tj_words.proofs.Phases.PhaseSteps.{wait_allowed}
 use Rattle.tj_words.proofs.table.Laid.put_wait.Goals as goal
 

@@ -1,5 +1,5 @@
 use Rattle.tj_words.proofs.Prelude.{SeesOnce, ap, arith, program_of, subst, sym, ◌∙◌}
-use Rattle.tj_words.specs.Words.Offsets.{cell_at, once_of}
+use Rattle.tj_words.specs.Inner.IndexWords.{cell_at, once_of}
 use Rattle.tj_words.proofs.SeatLoads.KnowLoads.{once_allowed, once_within}
 use Rattle.tj_words.specs.SeatViews.SeenWords.{once_load}
 use Rattle.tj_words.proofs.Stores.CellSteps.{its_cell, once_back}

@@ -1,6 +1,6 @@
 use Rattle.tj_words.proofs.Prelude.{arith, program_of, subst}
 use Rattle.tj_words.specs.Calls.EntryViews.{PutsBits}
-use Rattle.tj_words.specs.Words.Offsets.{cell_at}
+use Rattle.tj_words.specs.Inner.IndexWords.{cell_at}
 use Rattle.tj_words.proofs.SeatLoads.KnowLoads.{once_within}
 use Rattle.tj_words.proofs.Stores.EntryStores.{bits_allowed}
 use Rattle.tj_words.specs.declared.offsets.Once.TheVariants as once

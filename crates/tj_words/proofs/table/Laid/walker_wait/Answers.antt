@@ -1,5 +1,5 @@
 use Rattle.tj_words.proofs.Prelude.{IsPhaseWord, arith, phase_in, refl, sym, wait_found, wait_in, walk_load, ◌∙◌}
-use Rattle.tj_words.specs.Words.Offsets.{cell_at}
+use Rattle.tj_words.specs.Inner.IndexWords.{cell_at}
 use Rattle.tj_words.proofs.Lemmas.{moment_allowed, so_too}
 use Rattle.tj_words.proofs.SeatLoads.WalkLoads.{wait_read_allowed}
 use Rattle.tj_words.proofs.table.Laid.walker_wait.Goals as goal
