@@ -6,4 +6,3 @@ pub mod Children
 pub mod Answers
 pub mod Waits
 pub mod Turns
-pub mod StartRecords

@@ -4,14 +4,13 @@ ghost use Rattle.std.specs.List.{AllByRecursion, remove};
 ghost use Rattle.tj_body.specs.Asks.{IsPaid};
 ghost use Rattle.tj_body.specs.NameLaws.{has_cell, without_cell, hand_cells};
 ghost use Rattle.tj_words.specs.declared.record.Held.{Held};
+ghost use Rattle.tj_words.specs.LawParts.StartRecords.{own};
 ghost use Rattle.tj_words.specs.Words.Lists.{numbers};
 ghost use Rattle.tj_run.specs.Inner.Pieces as pieces;
-ghost use Rattle.tj_run.specs.Inner.StartRecords.{own, start_record};
 
 use std::alloc::Global;
 use std::mem::replace;
 use tj_base::{CellId, CellList, Items, Oom, Pay, Sort, Trouble};
-use tj_body::Answer;
 use tj_words::{Fill, Held, Hurt, Rec};
 
 /// A cell as a value.
@@ -147,7 +146,7 @@ pub(crate) fn child_record<B: Drop>(
     let mut owned = Vec::new(alloc);
     owned.push(c)?;
     owned.append(&mut handed)?;
-    Ok(start_record(alloc, c, body, held, owned))
+    Ok(Rec::at_start(alloc, c, body, Items::of(held), Items::of(owned)))
 }
 
 /// The record of a child at its start that is passed the cells held at these places, and to which
@@ -167,7 +166,7 @@ pub(crate) fn bare_child<B: Drop>(
     let known = known_at_start(alloc, c, held, places)?;
     let mut owned = Vec::with_capacity(alloc, 4)?;
     owned.push(c)?;
-    Ok(start_record(alloc, c, body, known, owned))
+    Ok(Rec::at_start(alloc, c, body, Items::of(known), Items::of(owned)))
 }
 
 // What a child holds at its start: itself, and what it is passed.
@@ -186,23 +185,4 @@ fn known_at_start(alloc: Global, c: CellId, held: &[Held], places: &[u32]) -> Re
         known.push(held[*place as usize])?;
     }
     Ok(known)
-}
-
-// The record of a task at its start that holds and owns these.
-#[inline(always)]
-fn start_record<B>(alloc: Global, c: CellId, body: B, held: Vec<Held>, owned: Vec<CellId>) -> Rec<B>
-    ensures { result ≡ start_record c body held.items owned.items }
-{
-    Rec {
-        cell: c,
-        body,
-        answer: Answer::Start,
-        held: Items::of(held),
-        owned: Items::of(owned),
-        made: 0,
-        prints: Items::of(Vec::new(alloc)),
-        owed: Items::of(Vec::new(alloc)),
-        finish: None,
-        spare: false,
-    }
 }

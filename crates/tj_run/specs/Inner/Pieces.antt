@@ -1,5 +1,5 @@
 -- What a task gives, hands on and makes, by its record.
-use Rattle.std.specs.Prelude.{◌≡◌, ℕ, Bool, true, false, List, [], ◌∷◌, map, get_or, None, Result, Ok, Err}
+use Rattle.std.specs.Prelude.{◌≡◌, ℕ, List, ◌∷◌, get_or, Result, Ok, Err}
 use Rattle.tj_base.specs.declared.cell.CellId.{CellId}
 use Rattle.tj_base.specs.declared.cell.Sort.{Sort}
 use Rattle.tj_base.specs.declared.cell.Sort.TheVariants as sort
@@ -8,13 +8,13 @@ use Rattle.tj_base.specs.declared.value.Pay.TheVariants as pay
 use Rattle.tj_base.specs.declared.cause.Trouble.{Trouble}
 use Rattle.tj_base.specs.declared.cause.Trouble.TheVariants as trouble
 use Rattle.tj_body.specs.NameLaws.{Unhanded, no_promise, not_owned, hand_cells}
-use Rattle.tj_body.specs.declared.ask.Answer.TheVariants as answer
 use Rattle.tj_words.specs.declared.record.Fill.{Fill}
 use Rattle.tj_words.specs.declared.record.Fill.TheVariants as fill
 use Rattle.tj_words.specs.declared.record.Held.{Held}
 use Rattle.tj_words.specs.declared.record.Hurt.{Hurt}
 use Rattle.tj_words.specs.declared.record.Hurt.TheVariants as hurt
 use Rattle.tj_words.specs.declared.record.Rec.{Rec}
+use Rattle.tj_words.specs.LawParts.StartRecords.{own, start_record}
 use Rattle.tj_words.specs.Words.Lists.{cell, numbers}
 
 -- the held cell at the place
@@ -55,15 +55,4 @@ AreKept (Err h) (Ok cells) = ⊥
 
 -- the record of a child at its start
 abbrev pub child_record : {B : Type 0} → CellId → B → List Held → List CellId → Rec B
-child_record c b passed handed = record {
-  cell = c;
-  body = b;
-  answer = answer.Start;
-  held = record { cell = c; sort = sort.Task } ∷ passed;
-  owned = c ∷ handed;
-  made = 0;
-  prints = [];
-  owed = [];
-  finish = None;
-  spare = false;
-}
+child_record c b passed handed = start_record c b (own c ∷ passed) (c ∷ handed)

@@ -1,6 +1,6 @@
 use Rattle.std.proofs.Common.{◌≡◌, ◌∷◌, map, take}
 use Rattle.tj_run.specs.Inner.Pieces.{held_at}
-use Rattle.tj_run.specs.Inner.StartRecords.{own}
+use Rattle.tj_words.specs.LawParts.StartRecords.{own}
 use Rattle.tj_run.proofs.pieces.known_at_start.Given as goal
 
 abbrev pub invariant-loop-place : goal.invariant-loop-place
