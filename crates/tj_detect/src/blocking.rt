@@ -9,7 +9,7 @@ ghost use Rattle.tj_events.specs.Events.{MayReadOwner};
 ghost use Rattle.tj_words.specs.Words.Owners.{owner_number};
 ghost use Rattle.tj_words.specs.SeatViews.SeatSteps.{IsCellOf, IsSameSeat, IsSeatOf};
 ghost use Rattle.tj_words.specs.Steps.StepEvents.{wait_in};
-ghost use Rattle.tj_words.specs.Calls.WaitViews.{MayPublishWait, MayStoreAlarm, alarmed, published};
+ghost use Rattle.tj_words.specs.Calls.WaitViews.{MayPutWait, PutsWait};
 ghost use Rattle.tj_words.specs.Calls.WalkViews.{IsWalking, MayLoadWait};
 ghost use Rattle.tj_detect.specs.Blocks.{Blocks, HasReadNoOthers, InEachTable, MayBlock};
 ghost use Rattle.tj_detect.specs.Blocks.{OthersWatch, StandsOnCycle};
@@ -72,197 +72,156 @@ pub fn block<B: Body, L: Ledger>(
         (OthersWatch t.0) }
 {
     settlers_are_not_alone();
+    let waiter = Waiter { laid, t, q, way };
     match way {
-        Way::Along => block_along(laid, seat, t, q, steps),
-        Way::Other => block_other(laid, seat, t, q, steps),
-    }
-}
-
-// A wait along the order: it is walked where another wait may stand.
-fn block_along<B: Body, L: Ledger>(
-    laid: &Laid<B>,
-    seat: &mut WSeat<B>,
-    t: CellId,
-    q: CellId,
-    steps: &mut Steps<L>,
-) -> Verdict
-    requires table { IsSeatOf laid.now seat.old }
-    requires task { IsCellOf laid.now t.0 }
-    requires cell { IsCellOf laid.now q.0 }
-    requires may { MayBlock t.0 q.0 Way.Along seat.old.me.0 }
-    ensures seat { IsSameSeat seat.old seat.new }
-    ensures view { Blocks result t.0 q.0 Way.Along steps.old steps.new seat.old.me.0
-        seat.new.me.0 }
-    ensures others { LoadsOthers (program_of B.places B.awaits B.left B.asks B.then) result t.0
-        q.0 seat.old.me.0 }
-{
-    publish(laid, seat, t, q, Way::Along, steps);
-    let others = laid.others(seat, t);
-    steps.tick();
-    if others == 0 {
-        return Verdict::Skipped;
-    }
-    walk(laid, seat, t, q, Way::Along, steps)
-}
-
-// An other wait: it counts among the others before it stands.
-fn block_other<B: Body, L: Ledger>(
-    laid: &Laid<B>,
-    seat: &mut WSeat<B>,
-    t: CellId,
-    q: CellId,
-    steps: &mut Steps<L>,
-) -> Verdict
-    requires table { IsSeatOf laid.now seat.old }
-    requires task { IsCellOf laid.now t.0 }
-    requires cell { IsCellOf laid.now q.0 }
-    requires may { MayBlock t.0 q.0 Way.Other seat.old.me.0 }
-    ensures seat { IsSameSeat seat.old seat.new }
-    ensures view { Blocks result t.0 q.0 Way.Other steps.old steps.new seat.old.me.0
-        seat.new.me.0 }
-{
-    laid.others_up(seat, t);
-    steps.tick();
-    publish(laid, seat, t, q, Way::Other, steps);
-    walk(laid, seat, t, q, Way::Other, steps)
-}
-
-fn publish<B: Body, L: Ledger>(
-    laid: &Laid<B>,
-    seat: &mut WSeat<B>,
-    t: CellId,
-    q: CellId,
-    way: Way,
-    steps: &mut Steps<L>,
-)
-    requires table { IsSeatOf laid.now seat.old }
-    requires task { IsCellOf laid.now t.0 }
-    requires cell { IsCellOf laid.now q.0 }
-    requires may { MayPublishWait t.0 q.0 way seat.old.me.0 }
-    ensures seat { IsSameSeat seat.old seat.new }
-    ensures view { seat.new.me.0 ≡ published t.0 q.0 way seat.old.me.0 }
-    ensures step { steps.new ≡ steps.old + 1 }
-{
-    laid.put_phase(seat, t, Phase::Waiting(q, way, Walk::Walking));
-    steps.tick();
-}
-
-fn alarm<B: Body, L: Ledger>(
-    laid: &Laid<B>,
-    seat: &mut WSeat<B>,
-    t: CellId,
-    q: CellId,
-    way: Way,
-    steps: &mut Steps<L>,
-)
-    requires table { IsSeatOf laid.now seat.old }
-    requires task { IsCellOf laid.now t.0 }
-    requires cell { IsCellOf laid.now q.0 }
-    requires may { MayStoreAlarm t.0 q.0 way seat.old.me.0 }
-    ensures seat { IsSameSeat seat.old seat.new }
-    ensures view { seat.new.me.0 ≡ alarmed t.0 q.0 way seat.old.me.0 }
-    ensures step { steps.new ≡ steps.old + 1 }
-{
-    laid.put_phase(seat, t, Phase::Waiting(q, way, Walk::Alarmed));
-    steps.tick();
-}
-
-// The walk from q on: as many owners are passed at most as there are cells.
-fn walk<B: Body, L: Ledger>(
-    laid: &Laid<B>,
-    seat: &mut WSeat<B>,
-    t: CellId,
-    q: CellId,
-    way: Way,
-    steps: &mut Steps<L>,
-) -> Verdict
-    requires table { IsSeatOf laid.now seat.old }
-    requires task { IsCellOf laid.now t.0 }
-    requires cell { IsCellOf laid.now q.0 }
-    requires walks { IsAtCount t.0 q.0 way seat.old.me.0 }
-    ensures seat { IsSameSeat seat.old seat.new }
-    ensures comes { Comes result t.0 q.0 way steps.old steps.new seat.old.me.0 seat.new.me.0 }
-{
-    let bound = laid.count(seat, Some(t));
-    steps.tick();
-    let mut present = q;
-    for passed in 0..bound {
-        match look_at_owner(laid, seat, t, present, steps) {
-            Hop::Next(next) => {
-                present = next;
-            }
-            Hop::Ended => {
-                return Verdict::Walked;
-            }
-            Hop::Own => {
-                alarm(laid, seat, t, q, way, steps);
-                return Verdict::Alarm;
-            }
-        }
-    }
-    Verdict::Walked
-}
-
-// The owner of the present cell p, what this owner waits for, and the owner again.
-fn look_at_owner<B: Body, L: Ledger>(
-    laid: &Laid<B>,
-    seat: &mut WSeat<B>,
-    t: CellId,
-    p: CellId,
-    steps: &mut Steps<L>,
-) -> Hop
-    requires table { IsSeatOf laid.now seat.old }
-    requires cell { IsCellOf laid.now p.0 }
-    requires walks { IsWalking t.0 (λ q way w. (p.0 ≡ present q w.trail) × MayReadOwner w)
-        seat.old.me.0 }
-    ensures seat { IsSameSeat seat.old seat.new }
-    ensures hops { (q : ℕ) (way : Way) (w : Walker) → WalksWith t.0 q way w seat.old.me.0
-        → Hops laid.now.cells result t.0 q way w steps.old steps.new seat.old.me.0
-        seat.new.me.0 }
-{
-    let first = laid.see_owner(seat, p, Some(t));
-    steps.tick();
-    match first {
-        None => Hop::Ended,
-        Some(u) => {
-            if u.0 == t.0 {
-                return Hop::Own;
-            }
-            look_at_wait(laid, seat, t, p, u, steps)
-        }
-    }
-}
-
-// What the owner u of p waits for, and whether it still is the owner.
-fn look_at_wait<B: Body, L: Ledger>(
-    laid: &Laid<B>,
-    seat: &mut WSeat<B>,
-    t: CellId,
-    p: CellId,
-    u: CellId,
-    steps: &mut Steps<L>,
-) -> Hop
-    requires table { IsSeatOf laid.now seat.old }
-    requires cell { IsCellOf laid.now p.0 }
-    requires owner { IsCellOf laid.now u.0 }
-    requires walks { IsWalking t.0 (λ q way w. (p.0 ≡ present q w.trail)
-        × MayLoadWait t.0 u.0 w) seat.old.me.0 }
-    ensures seat { IsSameSeat seat.old seat.new }
-    ensures passes { (q : ℕ) (way : Way) (w : Walker) → WalksWith t.0 q way w seat.old.me.0
-        → Passes laid.now.cells result u.0 t.0 q way w steps.old steps.new seat.old.me.0
-        seat.new.me.0 }
-{
-    let found = laid.see_phase(seat, u, Some(t));
-    steps.tick();
-    match wait_of(found) {
-        None => Hop::Ended,
-        Some(next) => {
-            let again = laid.see_owner(seat, p, Some(t));
+        Way::Along => waiter.walk_along(seat, steps),
+        Way::Other => {
+            // It counts among the others before it stands.
+            laid.others_up(seat, t);
             steps.tick();
-            if is_owner(again, u) {
-                return Hop::Next(next);
+            waiter.put_wait(seat, Walk::Walking, steps);
+            waiter.walk(seat, steps)
+        }
+    }
+}
+
+// A task `t` that waits for `q`, at its table.
+#[derive(Drop)]
+struct Waiter<'l, B: Body> {
+    laid: &'l Laid<B>,
+    t: CellId,
+    q: CellId,
+    way: Way,
+}
+
+impl<B: Body> Waiter<'_, B> {
+    // A wait along the order: it is walked where another wait may stand.
+    fn walk_along<L: Ledger>(&self, seat: &mut WSeat<B>, steps: &mut Steps<L>) -> Verdict
+        requires table { IsSeatOf self.now.laid.now seat.old }
+        requires task { IsCellOf self.now.laid.now self.now.t.0 }
+        requires cell { IsCellOf self.now.laid.now self.now.q.0 }
+        requires along { self.now.way ≡ Way.Along }
+        requires may { MayBlock self.now.t.0 self.now.q.0 self.now.way seat.old.me.0 }
+        ensures seat { IsSameSeat seat.old seat.new }
+        ensures view { Blocks result self.now.t.0 self.now.q.0 self.now.way steps.old steps.new
+            seat.old.me.0 seat.new.me.0 }
+        ensures others { LoadsOthers (program_of B.places B.awaits B.left B.asks B.then) result
+            self.now.t.0 self.now.q.0 seat.old.me.0 }
+    {
+        self.put_wait(seat, Walk::Walking, steps);
+        let others = self.laid.others(seat, self.t);
+        steps.tick();
+        if others == 0 {
+            return Verdict::Skipped;
+        }
+        self.walk(seat, steps)
+    }
+
+    // Stores in PHASE that the task waits, and how its walk stands.
+    fn put_wait<L: Ledger>(&self, seat: &mut WSeat<B>, walk: Walk, steps: &mut Steps<L>)
+        requires table { IsSeatOf self.now.laid.now seat.old }
+        requires task { IsCellOf self.now.laid.now self.now.t.0 }
+        requires cell { IsCellOf self.now.laid.now self.now.q.0 }
+        requires may { MayPutWait (program_of B.places B.awaits B.left B.asks B.then) self.now.t.0
+            self.now.q.0 self.now.way walk seat.old.me }
+        ensures table { seat.new.table_id ≡ seat.old.table_id }
+        ensures id { seat.new.id ≡ seat.old.id }
+        ensures puts { PutsWait self.now.t.0 self.now.q.0 self.now.way walk seat.old.me
+            seat.new.me }
+        ensures step { steps.new ≡ steps.old + 1 }
+    {
+        self.laid
+            .put_phase(seat, self.t, Phase::Waiting(self.q, self.way, walk));
+        steps.tick();
+    }
+
+    // The walk from q on: as many owners are passed at most as there are cells.
+    fn walk<L: Ledger>(&self, seat: &mut WSeat<B>, steps: &mut Steps<L>) -> Verdict
+        requires table { IsSeatOf self.now.laid.now seat.old }
+        requires task { IsCellOf self.now.laid.now self.now.t.0 }
+        requires cell { IsCellOf self.now.laid.now self.now.q.0 }
+        requires walks { IsAtCount self.now.t.0 self.now.q.0 self.now.way seat.old.me.0 }
+        ensures seat { IsSameSeat seat.old seat.new }
+        ensures comes { Comes result self.now.t.0 self.now.q.0 self.now.way steps.old steps.new
+            seat.old.me.0 seat.new.me.0 }
+    {
+        let bound = self.laid.count(seat, Some(self.t));
+        steps.tick();
+        let mut present = self.q;
+        for passed in 0..bound {
+            match self.look_at_owner(seat, present, steps) {
+                Hop::Next(next) => {
+                    present = next;
+                }
+                Hop::Ended => {
+                    return Verdict::Walked;
+                }
+                Hop::Own => {
+                    self.put_wait(seat, Walk::Alarmed, steps);
+                    return Verdict::Alarm;
+                }
             }
-            Hop::Ended
+        }
+        Verdict::Walked
+    }
+
+    // The owner of the present cell p, what this owner waits for, and the owner again.
+    fn look_at_owner<L: Ledger>(&self, seat: &mut WSeat<B>, p: CellId, steps: &mut Steps<L>) -> Hop
+        requires table { IsSeatOf self.now.laid.now seat.old }
+        requires cell { IsCellOf self.now.laid.now p.0 }
+        requires walks { IsWalking self.now.t.0
+            (λ q way w. (p.0 ≡ present q w.trail) × MayReadOwner w) seat.old.me.0 }
+        ensures seat { IsSameSeat seat.old seat.new }
+        ensures hops { (q : ℕ) (way : Way) (w : Walker)
+            → WalksWith self.now.t.0 q way w seat.old.me.0
+            → Hops self.now.laid.now.cells result self.now.t.0 q way w steps.old steps.new
+            seat.old.me.0 seat.new.me.0 }
+    {
+        let t = self.t;
+        let first = self.laid.see_owner(seat, p, Some(t));
+        steps.tick();
+        match first {
+            None => Hop::Ended,
+            Some(u) => {
+                if u.0 == t.0 {
+                    return Hop::Own;
+                }
+                self.look_at_wait(seat, p, u, steps)
+            }
+        }
+    }
+
+    // What the owner u of p waits for, and whether it still is the owner.
+    fn look_at_wait<L: Ledger>(
+        &self,
+        seat: &mut WSeat<B>,
+        p: CellId,
+        u: CellId,
+        steps: &mut Steps<L>,
+    ) -> Hop
+        requires table { IsSeatOf self.now.laid.now seat.old }
+        requires cell { IsCellOf self.now.laid.now p.0 }
+        requires owner { IsCellOf self.now.laid.now u.0 }
+        requires walks { IsWalking self.now.t.0 (λ q way w. (p.0 ≡ present q w.trail)
+            × MayLoadWait self.now.t.0 u.0 w) seat.old.me.0 }
+        ensures seat { IsSameSeat seat.old seat.new }
+        ensures passes { (q : ℕ) (way : Way) (w : Walker)
+            → WalksWith self.now.t.0 q way w seat.old.me.0
+            → Passes self.now.laid.now.cells result u.0 self.now.t.0 q way w steps.old steps.new
+            seat.old.me.0 seat.new.me.0 }
+    {
+        let found = self.laid.see_phase(seat, u, Some(self.t));
+        steps.tick();
+        match wait_of(found) {
+            None => Hop::Ended,
+            Some(next) => {
+                let again = self.laid.see_owner(seat, p, Some(self.t));
+                steps.tick();
+                if is_owner(again, u) {
+                    return Hop::Next(next);
+                }
+                Hop::Ended
+            }
         }
     }
 }

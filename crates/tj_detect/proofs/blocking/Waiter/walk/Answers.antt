@@ -1,7 +1,7 @@
-use Rattle.tj_detect.proofs.Prelude.{arith, ◌∙◌, ◌≤◌}
+use Rattle.tj_detect.proofs.Prelude.{ap, arith, ◌∙◌, ◌≤◌}
 use Rattle.tj_detect.proofs.WalkLoops.{alarms_next, at_alarm, at_bound, at_ended, on_next, on_way, reads_owner}
 use Rattle.tj_detect.proofs.WalkLoops.{walked_first}
-use Rattle.tj_detect.proofs.blocking.walk.Goals as goal
+use Rattle.tj_detect.proofs.blocking.Waiter.walk.Goals as goal
 use Rattle.tj_detect.proofs.WalkReads.{walks_at}
 
 pub loop-passed-init : goal.loop-passed-init
@@ -11,8 +11,9 @@ loop-passed-init g c =
       b.ensures.seat,
       record {
         start = c.requires.walks;
-        walked = walked_first a.laid.now.cells a.t.0 a.q.0 a.way a.steps.now a.seat.now.me.0 c.requires.walks b.result
-            c.tick.new.self b.new.seat.me.0 c.requires.cell b.ensures.view c.tick.ensures;
+        walked = walked_first a.self.now.laid.now.cells a.self.now.t.0 a.self.now.q.0 a.self.now.way a.steps.now
+            a.seat.now.me.0 c.requires.walks b.result c.tick.new.self b.new.seat.me.0 c.requires.cell b.ensures.view
+            c.tick.ensures;
       },
     )
 
@@ -30,7 +31,7 @@ pub returns-in-Ended-clause-comes : goal.returns-in-Ended-clause-comes
 returns-in-Ended-clause-comes g c =
     let i = c.loop-passed.invariant.1 in
     at_ended i c.loop-passed-test.true c.look_at_owner.new.steps c.look_at_owner.new.seat.me.0
-    (c.in-Ended.ensures.hops c.args.q.0 c.args.way i.walked.walker (on_way i))
+    (c.in-Ended.ensures.hops c.args.self.now.q.0 c.args.self.now.way i.walked.walker (on_way i))
 
 pub returns-in-Ended-clause-seat : goal.returns-in-Ended-clause-seat
 returns-in-Ended-clause-seat g c =
@@ -38,25 +39,25 @@ returns-in-Ended-clause-seat g c =
     let i = c.loop-passed.invariant.0 in
     (s.0 ∙ i.0, s.1 ∙ i.1, s.2 ∙ i.2)
 
-pub alarm-requires-clause-may : goal.alarm-requires-clause-may
-alarm-requires-clause-may g c κs within =
+pub put_wait-requires-clause-may : goal.put_wait-requires-clause-may
+put_wait-requires-clause-may g c κs within =
     let i = c.loop-passed.invariant.1 in
     alarms_next i c.loop-passed-test.true c.look_at_owner.new.steps c.look_at_owner.new.seat.me.0
-    (c.in-Own.ensures.hops c.args.q.0 c.args.way i.walked.walker (on_way i))
+    (c.in-Own.ensures.hops c.args.self.now.q.0 c.args.self.now.way i.walked.walker (on_way i))
 
 pub returns-in-Own-clause-comes : goal.returns-in-Own-clause-comes
 returns-in-Own-clause-comes g c =
     let i = c.loop-passed.invariant.1 in
     at_alarm i c.loop-passed-test.true c.look_at_owner.new.steps c.look_at_owner.new.seat.me.0
-    (c.in-Own.ensures.hops c.args.q.0 c.args.way i.walked.walker (on_way i))
-    c.alarm.new.steps c.alarm.new.seat.me.0 c.alarm.ensures.view c.alarm.ensures.step
+    (c.in-Own.ensures.hops c.args.self.now.q.0 c.args.self.now.way i.walked.walker (on_way i))
+    c.put_wait.new.steps c.put_wait.new.seat.me.0 (ap (λ z. z.0) c.put_wait.ensures.puts) c.put_wait.ensures.step
 
 pub returns-in-Own-clause-seat : goal.returns-in-Own-clause-seat
 returns-in-Own-clause-seat g c =
-    let r = c.alarm.ensures.seat in
+    let r = c.put_wait.ensures in
     let s = c.look_at_owner.ensures.seat in
     let i = c.loop-passed.invariant.0 in
-    (r.0 ∙ (s.0 ∙ i.0), r.1 ∙ (s.1 ∙ i.1), r.2 ∙ (s.2 ∙ i.2))
+    (r.table ∙ (s.0 ∙ i.0), r.id ∙ (s.1 ∙ i.1), ap (λ z. z.1) r.puts ∙ (s.2 ∙ i.2))
 
 pub loop-passed-preserved : goal.loop-passed-preserved
 loop-passed-preserved g c =
@@ -66,7 +67,7 @@ loop-passed-preserved g c =
       (s.0 ∙ j.0, s.1 ∙ j.1, s.2 ∙ j.2),
       on_next i c.loop-passed-test.true c.look_at_owner.new.steps c.look_at_owner.new.seat.me.0
           c.in-Next.next _ (omega arith)
-          (c.in-Next.ensures.hops c.args.q.0 c.args.way i.walked.walker (on_way i)),
+          (c.in-Next.ensures.hops c.args.self.now.q.0 c.args.self.now.way i.walked.walker (on_way i)),
     )
 
 pub returns-clause-comes : goal.returns-clause-comes
