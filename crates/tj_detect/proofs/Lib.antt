@@ -8,3 +8,4 @@ pub mod WalkBlocks
 pub mod Skips
 pub mod NeededWalks
 pub mod Prelude
+pub mod Climbs

@@ -15,7 +15,8 @@ use Rattle.tj_words.specs.LawParts.ShownState.{reference_of}
 use Rattle.tj_words.specs.Steps.WalkSteps.{is_task_sort, way_by}
 use Rattle.tj_tree.proofs.Trees.{depth-of}
 use Rattle.tj_detect.specs.TreeReads.{IsWithinCost, depth_in}
-use Rattle.tj_detect.proofs.Prelude.{InEachTree, TreeShown}
+use Rattle.tj_detect.proofs.Prelude.{InEachTree, TreeShown, subst}
+use Rattle.tj_tree.specs.Walk.{TakesFewSteps}
 use Rattle.tj_words.specs.SeatViews.TreeReads.{IsLater, KnowsTask}
 use Rattle.tj_words.specs.declared.record.Rec.{Rec}
 use Rattle.tj_words.specs.declared.view.View.{View}
@@ -91,15 +92,19 @@ module _ {B : Type 0} {cells : ℕ} (old new : Seat (Option (Rec B)) (View B)) (
 
   pub way_told : OrderIsThatOfNames → (answer is : Bool)
       → InEachTree (TreeShown new) (λ forks. IsTrue answer ↔ IsEarlier (order_of forks) t u) → answer ≡ is
-      → way_by new.me.0.born t u ≡ way_if is
-  way_told names answer is tells e =
-      seen_way names new.me.0.seen new.me.0.born tree t u t_task u_task answer
-      (λ forks h has. tells forks h (λ n node k. has n node k.1)) ∙ ap way_if e
+      → (born : List Reference) → new.me.0.born ≡ born
+      → way_if is ≡ way_by born t u
+  way_told names answer is tells e born same =
+      sym (ap (λ (l : List Reference). way_by l t u) (sym same)
+      ∙ (seen_way names new.me.0.seen new.me.0.born tree t u t_task u_task answer
+      (λ forks h has. tells forks h (λ n node k. has n node k.1)) ∙ ap way_if e))
 
   pub cost_told : (from to : ℕ)
-      → InEachTree (TreeShown new) (λ forks. (digits : ℕ)
-      → max (node_of forks t).depth (node_of forks u).depth + 1 < 2 ^ digits → to ≤ from + (16 * digits + 16))
-      → IsWithinCost new.me.0.born t u from to
-  cost_told from to tells =
-      few_steps new.me.0.seen new.me.0.born tree t u from to t_task u_task
-      (λ forks h has. tells forks h (λ n node k. has n node k.1))
+      → InEachTree (TreeShown new) (λ forks. TakesFewSteps forks t u from to)
+      → (born : List Reference) (steps : ℕ) → new.me.0.born ≡ born → to ≡ steps
+      → IsWithinCost born t u from steps
+  cost_told from to tells born steps same same_steps =
+      subst (λ n. IsWithinCost born t u from n) same_steps
+      (subst (λ (l : List Reference). IsWithinCost l t u from to) same
+      (few_steps new.me.0.seen new.me.0.born tree t u from to t_task u_task
+      (λ forks h has. tells forks h (λ n node k. has n node k.1))))

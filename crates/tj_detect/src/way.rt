@@ -5,7 +5,7 @@ ghost use Rattle.tj_words.specs.Steps.WalkSteps.{way_by};
 ghost use Rattle.tj_words.specs.SeatViews.TreeReads.{KnowsTask, HasReadTree};
 ghost use Rattle.tj_detect.specs.TreeReads.{IsWithinCost};
 
-use crate::tree_walk::is_before;
+use crate::tree_walk::Climber;
 use std::sync::ledger::Ledger;
 use tj_base::{CellId, Steps};
 use tj_body::Body;
@@ -35,7 +35,8 @@ pub fn way_of<B: Body, L: Ledger>(
     ensures cost { IsWithinCost seat.new.me.0.born t.0 u.0 steps.old steps.new }
 {
     order_is_that_of_names();
-    if is_before(laid, seat, NodeId(t.0), NodeId(u.0), steps) {
+    let mut climber = Climber { seat, steps };
+    if climber.is_before(laid, NodeId(t.0), NodeId(u.0)) {
         Way::Along
     } else {
         Way::Other
