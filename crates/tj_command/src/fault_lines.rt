@@ -1,6 +1,6 @@
 //! The lines that are written in place of a report: why an input is refused, or that it needs more
 //! cells.
-ghost use Rattle.std.specs.Prelude.{◌≡◌, ◌≢◌, ◌++◌, IfOk, decimal};
+ghost use Rattle.std.specs.Prelude.{◌≡◌, ◌++◌, IfOk, decimal};
 ghost use Rattle.tj_syntax.specs.ScriptTexts.{IsMemory};
 ghost use Rattle.tj_command.specs.ScriptTexts as script_texts;
 ghost use Rattle.tj_command.specs.Texts as texts;
@@ -17,39 +17,18 @@ pub fn fault_line(alloc: Global, fault: NoScript) -> Result<Vec<u8>, Oom>
 {
     match fault {
         NoScript::Long(at) => script_fault(alloc, b"T1", at),
-        NoScript::Tokens(fault) => token_fault(alloc, fault),
-        NoScript::Grammar(fault) => grammar_fault(alloc, fault),
-    }
-}
-
-/// The line of a fault of the tokens. Want of memory has none.
-fn token_fault(alloc: Global, fault: LexFault) -> Result<Vec<u8>, Oom>
-    ensures line { IfOk result (λ line. line.items ≡ script_texts.token_fault fault) }
-    ensures none { IfOk result (λ _. fault ≢ LexFault.Oom) }
-{
-    match fault {
-        LexFault::Byte(at) => script_fault(alloc, b"L1", at),
-        LexFault::Number(at) => script_fault(alloc, b"L2", at),
-        LexFault::Long(at) => script_fault(alloc, b"L3", at),
-        LexFault::Oom => Err(Oom),
-    }
-}
-
-/// The line of a fault of the grammar. Want of memory has none.
-fn grammar_fault(alloc: Global, fault: ParseFault) -> Result<Vec<u8>, Oom>
-    ensures line { IfOk result (λ line. line.items ≡ script_texts.grammar_fault fault) }
-    ensures none { IfOk result (λ _. fault ≢ ParseFault.Oom) }
-{
-    match fault {
-        ParseFault::Expected(at) => script_fault(alloc, b"P1", at),
-        ParseFault::Unknown(at) => script_fault(alloc, b"P2", at),
-        ParseFault::Twice(at) => script_fault(alloc, b"P3", at),
-        ParseFault::Count(at) => script_fault(alloc, b"P4", at),
-        ParseFault::NoMain(at) => script_fault(alloc, b"P5", at),
-        ParseFault::MainParams(at) => script_fault(alloc, b"P6", at),
-        ParseFault::Deep(at) => script_fault(alloc, b"P7", at),
-        ParseFault::Many(at) => script_fault(alloc, b"P8", at),
-        ParseFault::Oom => Err(Oom),
+        NoScript::Tokens(LexFault::Byte(at)) => script_fault(alloc, b"L1", at),
+        NoScript::Tokens(LexFault::Number(at)) => script_fault(alloc, b"L2", at),
+        NoScript::Tokens(LexFault::Long(at)) => script_fault(alloc, b"L3", at),
+        NoScript::Grammar(ParseFault::Expected(at)) => script_fault(alloc, b"P1", at),
+        NoScript::Grammar(ParseFault::Unknown(at)) => script_fault(alloc, b"P2", at),
+        NoScript::Grammar(ParseFault::Twice(at)) => script_fault(alloc, b"P3", at),
+        NoScript::Grammar(ParseFault::Count(at)) => script_fault(alloc, b"P4", at),
+        NoScript::Grammar(ParseFault::NoMain(at)) => script_fault(alloc, b"P5", at),
+        NoScript::Grammar(ParseFault::MainParams(at)) => script_fault(alloc, b"P6", at),
+        NoScript::Grammar(ParseFault::Deep(at)) => script_fault(alloc, b"P7", at),
+        NoScript::Grammar(ParseFault::Many(at)) => script_fault(alloc, b"P8", at),
+        NoScript::Tokens(LexFault::Oom) | NoScript::Grammar(ParseFault::Oom) => Err(Oom),
     }
 }
 
