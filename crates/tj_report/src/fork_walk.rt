@@ -14,7 +14,7 @@ use itoa::Buffer;
 use std::alloc::Global;
 use tj_base::{CellId, Oom};
 use tj_body::Body;
-use tj_words::{RestCell, RestWords};
+use tj_words::RestWords;
 
 /// The first task that a task forked, and the task that its maker forked next after it.
 #[derive(Clone, Copy)]
@@ -77,55 +77,38 @@ pub fn next_task<B: Body>(
         IsPrintedAfter rest.now.cells t name.new.items u)) }
 {
     if let Some(child) = kin[t as usize].first {
-        return fork_of(rest, t, child, name);
+        // The numbers of forks begin at 1.
+        return fork_after(rest, t, 0, child, name);
     }
     let mut at = t;
     while at > 0 {
         let cell = rest.cell(CellId(at));
         cut_part(cell.kid, name);
         if let Some(next) = kin[at as usize].next {
-            return fork_after(rest, cell, next, name);
+            return fork_after(rest, cell.parent.0, cell.kid, next, name);
         }
         at = cell.parent.0;
     }
     Ok(None)
 }
 
-/// Goes from a task to one that it forked, if this is one.
-fn fork_of<B: Body>(
+/// Goes from a task to a fork of it with a greater number than this, if the cell is one.
+fn fork_after<B: Body>(
     rest: &RestWords<B>,
     t: u32,
-    child: u32,
+    kid: u32,
+    next: u32,
     name: &mut Vec<u8>,
 ) -> Result<Option<u32>, Oom>
     requires name { name.old.items ≡ name_text (name_by rest.now.cells t) }
     requires named { (born : List Reference) × AreNamed rest.now.cells born }
-    ensures { IfOk result (λ next. IfSome next (λ u. (k : ℕ)
+    ensures { IfOk result (λ later. IfSome later (λ u. (k : ℕ) × (kid < k)
         × IsForkOf rest.now.cells t k name.new.items u)) }
 {
-    let Some(k) = number_of(rest, t, child) else {
+    let Some(k) = number_of(rest, t, next) else {
         return Ok(None);
     };
-    add_parts(&[k], name)?;
-    Ok(Some(child))
-}
-
-/// Goes from the maker of a task to a later fork of it, if this is one.
-fn fork_after<B: Body>(
-    rest: &RestWords<B>,
-    cell: RestCell,
-    next: u32,
-    name: &mut Vec<u8>,
-) -> Result<Option<u32>, Oom>
-    requires name { name.old.items ≡ name_text (name_by rest.now.cells cell.parent.0) }
-    requires named { (born : List Reference) × AreNamed rest.now.cells born }
-    ensures { IfOk result (λ later. IfSome later (λ u. (k : ℕ) × (cell.kid < k)
-        × IsForkOf rest.now.cells cell.parent.0 k name.new.items u)) }
-{
-    let Some(k) = number_of(rest, cell.parent.0, next) else {
-        return Ok(None);
-    };
-    if k <= cell.kid {
+    if k <= kid {
         return Ok(None);
     }
     add_parts(&[k], name)?;
