@@ -4,7 +4,7 @@ ghost use Rattle.std.specs.Prelude.{◌≡◌, ◌++◌, codes, IfOk};
 ghost use Rattle.std.specs.List.{flat_map, join_by};
 ghost use Rattle.tj_base.specs.Texts.{name_text};
 ghost use Rattle.tj_mean.specs.ReportTexts.{shown_text, cause_text, ending_text, print_line};
-ghost use Rattle.tj_mean.specs.ReportTexts.{owes_line, lines_of, link_text, alarm_line, report};
+ghost use Rattle.tj_mean.specs.ReportTexts.{owes_line, lines_of, alarm_line, report};
 ghost use Rattle.tj_mean.specs.ReportTexts.{verdict_line};
 ghost use Rattle.tj_mean.specs.Outcomes.{is_marked};
 
@@ -153,12 +153,10 @@ fn add_names(alloc: Global, cells: &[Name], text: &mut Vec<u8>) -> Result<(), Oo
     ensures { IfOk result (λ _.
         text.new.items ≡ text.old.items ++ join_by name_text (codes ", ") cells.now) }
 {
-    let [first, rest @ ..] = cells else {
-        return Ok(());
-    };
-    first.text_into(alloc, text)?;
-    for cell in rest {
-        add_named(alloc, b", ", cell, text)?;
+    let mut before: &[u8] = b"";
+    for cell in cells {
+        add_named(alloc, before, cell, text)?;
+        before = b", ";
     }
     Ok(())
 }
@@ -168,42 +166,12 @@ fn add_alarm(alloc: Global, links: &[Link], text: &mut Vec<u8>) -> Result<(), Oo
     ensures { IfOk result (λ _. text.new.items ≡ text.old.items ++ alarm_line links.now) }
 {
     text.extend_from_slice(b"alarm ")?;
-    add_links(alloc, links, text)?;
-    text.push(b'\n')?;
-    Ok(())
-}
-
-/// Adds the parts of a cycle.
-fn add_links(alloc: Global, links: &[Link], text: &mut Vec<u8>) -> Result<(), Oom>
-    ensures { IfOk result (λ _.
-        text.new.items ≡ text.old.items ++ join_by link_text (codes ", ") links.now) }
-{
-    let [first, rest @ ..] = links else {
-        return Ok(());
-    };
-    add_link(alloc, first, text)?;
-    for link in rest {
-        add_further_link(alloc, link, text)?;
+    let mut before: &[u8] = b"";
+    for link in links {
+        add_named(alloc, before, &link.task, text)?;
+        add_named(alloc, b" waits for ", &link.cell, text)?;
+        before = b", ";
     }
-    Ok(())
-}
-
-/// Adds a part of a cycle after another one.
-fn add_further_link(alloc: Global, link: &Link, text: &mut Vec<u8>) -> Result<(), Oom>
-    ensures { IfOk result (λ _.
-        text.new.items ≡ text.old.items ++ (codes ", " ++ link_text link.now)) }
-{
-    text.extend_from_slice(b", ")?;
-    add_link(alloc, link, text)?;
-    Ok(())
-}
-
-/// Adds one part of a cycle.
-fn add_link(alloc: Global, link: &Link, text: &mut Vec<u8>) -> Result<(), Oom>
-    ensures { IfOk result (λ _. text.new.items ≡ text.old.items ++ link_text link.now) }
-{
-    link.task.text_into(alloc, text)?;
-    text.extend_from_slice(b" waits for ")?;
-    link.cell.text_into(alloc, text)?;
+    text.push(b'\n')?;
     Ok(())
 }
