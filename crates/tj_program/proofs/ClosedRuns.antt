@@ -1,6 +1,6 @@
 -- From a table at rest to what a command gives and puts, and to the clauses of the top call on closed words.
 use Rattle.tj_program.proofs.Prelude.{Appends, Bool, Command, Full, Gen, Global, HasFault, IsCommand, IsCommandOutput}
-use Rattle.tj_program.proofs.Prelude.{IsOutcome, IsPutAs, IsRefused, IsRelayRun, IsStartOfText, List, Outcome, Program}
+use Rattle.tj_program.proofs.Prelude.{IsOutcome, IsPutAs, IsRelayRun, IsStartOfText, List, Outcome, Program}
 use Rattle.tj_program.proofs.Prelude.{Report, RestCell, Root, Status, Summary, Told, WriteFault, ap, false≢true, inl}
 use Rattle.tj_program.proofs.Prelude.{inr, is_marked, meaning, relay_start, script_text, sym, ℕ, ◌<◌, ◌↔◌, ◌≡◌, ◌⊎◌}
 use Rattle.std.proofs.Common.{length, true, false, String, Option, Some, None, IsSome, IfSome, refl, subst}
@@ -11,7 +11,7 @@ use Rattle.tj_words.specs.AtRest.RestShown.{RestShown}
 use Rattle.tj_program.specs.ClosedRuns.{HasOutcome, HaveWorkers, IsClosedRun, IsClosedRunOf, IsCommandClosed}
 use Rattle.tj_modes.specs.Output.{has_workers}
 use Rattle.tj_program.specs.ClosedRuns.{IsRunClosed}
-use Rattle.tj_program.specs.Inner.ClosedOutputs.{AreWith, IsGiven, IsPutWith, IsRunGiven}
+use Rattle.tj_program.specs.Inner.ClosedOutputs.{AreWith, IsGiven, IsPutWith, IsRunGiven, IsScriptGiven}
 use Rattle.tj_modes.specs.Runs.{Start, StartOf, IsRunOf, NeedsMore, full, ended, started, status_of, text_of}
 use Rattle.tj_modes.specs.Texts.{full_line}
 use Rattle.tj_modes.specs.declared.command.Command.TheVariants.{Run, Plan, List as list, Judge, Known, Relay, Watch}
@@ -126,9 +126,8 @@ IsGiven-alone command input status text closed out none e =
 -- what `run` gives
 pub IsGiven-report : (command : Command) (workers cells steps : ℕ) (strict : Bool) (input : List ℕ) (status : Status)
     (text : List ℕ) (closed : Option (List RestCell)) → command ≡ Run workers cells steps strict
-    → (IsRefused input status text × (closed ≡ None)) ⊎ ((start : Start)
-    × IsStartOfText (record { cells = cells; steps = steps; strict = strict }) input start
-    × IsRunGiven Report start status text closed) → IsGiven command input status text closed
+    → IsScriptGiven Report (record { cells = cells; steps = steps; strict = strict }) input status text closed
+    → IsGiven command input status text closed
 IsGiven-report command workers cells steps strict input status text closed is (inl refused) =
     subst (λ k. IsGiven k input status text closed) (sym is)
     (IsGiven-alone (Run workers cells steps strict) input status text closed (inl refused.0)
@@ -141,9 +140,8 @@ IsGiven-report command workers cells steps strict input status text closed is (i
 -- what `watch` gives
 pub IsGiven-watch : (command : Command) (workers cells steps : ℕ) (input : List ℕ) (status : Status)
     (text : List ℕ) (closed : Option (List RestCell)) → command ≡ Watch workers cells steps
-    → (IsRefused input status text × (closed ≡ None)) ⊎ ((start : Start)
-    × IsStartOfText (record { cells = cells; steps = steps; strict = false }) input start
-    × IsRunGiven Root start status text closed) → IsGiven command input status text closed
+    → IsScriptGiven Root (record { cells = cells; steps = steps; strict = false }) input status text closed
+    → IsGiven command input status text closed
 IsGiven-watch command workers cells steps input status text closed is (inl refused) =
     subst (λ k. IsGiven k input status text closed) (sym is)
     (IsGiven-alone (Watch workers cells steps) input status text closed (inl refused.0)

@@ -25,7 +25,7 @@ pub use Rattle.tj_modes.specs.Delivery.{HasText, IsPutAs}
 pub use Rattle.tj_modes.specs.Generated.{generated_script}
 pub use Rattle.tj_program.specs.Inner.ClosedOutputs.{IsGiven}
 pub use Rattle.tj_modes.specs.Inputs.{HasRead}
-pub use Rattle.tj_modes.specs.Output.{IsCommandOutput, IsOutput, IsRefused, IsStartOfText}
+pub use Rattle.tj_modes.specs.Output.{IsCommandOutput, IsOutput, IsStartOfText}
 pub use Rattle.tj_modes.specs.Output.{TakesInput, takes_input, usage}
 pub use Rattle.tj_modes.specs.RelayRuns.{IsRelayRun, relay_rules, relay_start}
 pub use Rattle.tj_modes.specs.Runs.{script_program}

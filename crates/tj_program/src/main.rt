@@ -2,6 +2,7 @@
 //! want one, and writes what that gives.
 #![tactic(auto)]
 
+mod crew;
 mod mode_outputs;
 mod output;
 mod relay_run;

@@ -7,10 +7,8 @@ ghost use Rattle.tj_modes.specs.CommandLine.{HasLimits};
 ghost use Rattle.tj_modes.specs.Inputs.{HasRead};
 ghost use Rattle.tj_program.specs.Inner.ClosedOutputs.{IsGiven};
 
+use crate::crew::Crew;
 use crate::output::ClosedOutput;
-use crate::relay_run::relay_by_workers;
-use crate::watch_runs::watch_by_workers;
-use crate::worker_runs::{report_by_workers, summary_by_workers};
 use std::alloc::Global;
 use std::sync::Wait;
 use std::thread::Threads;
@@ -44,7 +42,7 @@ pub fn given_by<G: Gate, R: Wait + Threads + Sync>(
                 steps,
                 strict,
             };
-            report_by_workers(rt, alloc, input, limits, workers, gate)
+            Crew::new(rt, alloc, workers, gate).report(input, limits)
         }
         Command::Gen {
             size,
@@ -57,18 +55,18 @@ pub fn given_by<G: Gate, R: Wait + Threads + Sync>(
                 steps,
                 strict: false,
             };
-            summary_by_workers(rt, alloc, size, limits, workers, gate)
+            Crew::new(rt, alloc, workers, gate).summary(size, limits)
         }
         Command::Relay {
             size,
             workers,
             cells,
-        } => relay_by_workers(rt, alloc, size, cells, workers, gate),
+        } => Crew::new(rt, alloc, workers, gate).relay(size, cells),
         Command::Watch {
             workers,
             cells,
             steps,
-        } => watch_by_workers(rt, alloc, input, cells, steps, workers, gate),
+        } => Crew::new(rt, alloc, workers, gate).watch(input, cells, steps),
         Command::Plan { .. } | Command::List | Command::Judge { .. } | Command::Known { .. } => Ok(
             ClosedOutput {
                 output: output_of(alloc, command, input)?,

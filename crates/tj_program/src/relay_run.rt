@@ -6,42 +6,29 @@ ghost use Rattle.tj_base.specs.declared.cell.TheConstants.{MAX_CELLS};
 ghost use Rattle.tj_program.specs.Inner.ClosedOutputs.{IsRunGiven};
 ghost use Rattle.tj_modes.specs.RelayRuns.{IsRelayRun, relay_start};
 
-use crate::output::{ClosedOutput, unrested};
-use crate::worker_runs::ended_at_rest;
-use std::alloc::Global;
+use crate::crew::Crew;
+use crate::output::ClosedOutput;
 use std::sync::Wait;
 use std::thread::Threads;
 use tj_base::Oom;
 use tj_chan::{ChanBody, Relay, relay_root};
 use tj_modes::Told;
 use tj_ports::Gate;
-use tj_ready::StealPool;
-use tj_run::run_all;
 
-/// The report of a run of the relay of so many items, or that it is full.
-pub fn relay_by_workers<G: Gate, R: Wait + Threads + Sync>(
-    rt: &R,
-    alloc: Global,
-    size: u32,
-    cells: u32,
-    workers: u32,
-    gate: &G,
-) -> Result<ClosedOutput, Oom>
-    requires size { (0 < size) × (size ≤ MAX_SIZE) }
-    requires cells { (0 < cells) × (cells ≤ MAX_CELLS) }
-    requires workers { (0 < workers) × (workers ≤ 64) }
+impl<G: Gate, R: Wait + Threads + Sync> Crew<'_, G, R> {
+    /// The report of a run of the relay of so many items, or that it is full.
+    pub fn relay(&self, size: u32, cells: u32) -> Result<ClosedOutput, Oom>
+        requires size { (0 < size) × (size ≤ MAX_SIZE) }
+        requires cells { (0 < cells) × (cells ≤ MAX_CELLS) }
+        requires workers { (0 < self.now.count) × (self.now.count ≤ 64) }
 
-    // Status and text are those of channels as lists.
-    ensures lists { IfOk result (λ given.
-        IsRelayRun size cells given.output.status given.output.text.items) }
-    ensures run { IfOk result (λ given. IsRunGiven Told.Report (relay_start size cells)
-        given.output.status given.output.text.items given.closed) }
-{
-    let root = ChanBody::new(alloc, relay_root(size))?;
-    match run_all::<ChanBody<Relay>, StealPool, G, R>(
-        rt, alloc, root, cells, workers, gate, false,
-    ) {
-        Ok(rest) => ended_at_rest(alloc, rest, Told::Report),
-        Err(fault) => unrested(alloc, fault, cells),
+        // Status and text are those of channels as lists.
+        ensures lists { IfOk result (λ given.
+            IsRelayRun size cells given.output.status given.output.text.items) }
+        ensures run { IfOk result (λ given. IsRunGiven Told.Report (relay_start size cells)
+            given.output.status given.output.text.items given.closed) }
+    {
+        let root = ChanBody::new(self.alloc, relay_root(size))?;
+        self.run_body(root, cells, false, Told::Report)
     }
 }

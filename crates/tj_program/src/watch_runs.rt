@@ -1,18 +1,18 @@
 //! Running a script over workers with a watch of the root beside them. What is written is what
 //! became of the root, and the closed words of the table come with it.
-ghost use Rattle.std.specs.Prelude.{ℕ, ◌≡◌, ◌<◌, ◌≤◌, ◌⊎◌, false, List, IfOk, None};
+ghost use Rattle.std.specs.Prelude.{ℕ, ◌<◌, ◌≤◌, false, List, IfOk};
 ghost use Rattle.tj_future.specs.RootWatches.{IsRootWatched};
 ghost use Rattle.tj_ports.specs.Reading.{IsWithin};
 ghost use Rattle.tj_run.specs.Runs.{RestsAt};
-ghost use Rattle.tj_program.specs.Inner.ClosedOutputs.{IsRunGiven};
+ghost use Rattle.tj_program.specs.Inner.ClosedOutputs.{IsRunGiven, IsScriptGiven};
 ghost use Rattle.tj_modes.specs.Inputs.{IsReadOf};
-ghost use Rattle.tj_modes.specs.Output.{IsRefused, IsStartOfText};
 ghost use Rattle.tj_modes.specs.Runs.{Start, IsStartOf, script_program, start_of};
 ghost use Rattle.tj_syntax.specs.ScriptTexts.{IsSomeScript};
 ghost use Rattle.tj_command.specs.Limits.{AreLimits};
 ghost use Rattle.tj_syntax.specs.ScriptTexts.{most_bytes};
 ghost use Rattle.tj_syntax.specs.View as view;
 
+use crate::crew::Crew;
 use crate::output::{ClosedOutput, refused_alone, unrested};
 use crate::watch_lines::watch_line;
 use std::alloc::Global;
@@ -30,54 +30,40 @@ use tj_report::outcome_of;
 use tj_syntax::Script;
 use tj_words::RestWords;
 
-/// What became of the root in a run of the script that the input is, with a watch of it, or the line
-/// of the script's fault.
-pub fn watch_by_workers<G: Gate, R: Wait + Threads + Sync>(
-    rt: &R,
-    alloc: Global,
-    input: &ReadEnd,
-    cells: u32,
-    steps: u32,
-    workers: u32,
-    gate: &G,
-) -> Result<ClosedOutput, Oom>
-    requires limits { AreLimits (record { cells = cells; steps = steps; strict = false }) }
-    requires workers { (0 < workers) × (workers ≤ 64) }
-    requires within { IsWithin most_bytes input.now }
-    ensures { IfOk result (λ given. (all : List ℕ) → IsReadOf all input.now
-        → (IsRefused all given.output.status given.output.text.items × (given.closed ≡ None))
-        ⊎ ((start : Start)
-        × IsStartOfText (record { cells = cells; steps = steps; strict = false }) all start
-        × IsRunGiven Told.Root start given.output.status given.output.text.items given.closed)) }
-{
-    match script_of(alloc, input) {
-        Ok(script) => watched_script(rt, alloc, &script, cells, steps, workers, gate),
-        Err(fault) => refused_alone(alloc, fault),
+impl<G: Gate, R: Wait + Threads + Sync> Crew<'_, G, R> {
+    /// What became of the root in a run of the script that the input is, with a watch of it, or the
+    /// line of the script's fault.
+    pub fn watch(&self, input: &ReadEnd, cells: u32, steps: u32) -> Result<ClosedOutput, Oom>
+        requires limits { AreLimits (record { cells = cells; steps = steps; strict = false }) }
+        requires workers { (0 < self.now.count) × (self.now.count ≤ 64) }
+        requires within { IsWithin most_bytes input.now }
+        ensures { IfOk result (λ given. (all : List ℕ) → IsReadOf all input.now
+            → IsScriptGiven Told.Root (record { cells = cells; steps = steps; strict = false }) all
+            given.output.status given.output.text.items given.closed) }
+    {
+        match script_of(self.alloc, input) {
+            Ok(script) => self.watch_script(&script, cells, steps),
+            Err(fault) => refused_alone(self.alloc, fault),
+        }
     }
-}
 
-/// A run of the script with a watch of its root, or that it is full.
-fn watched_script<G: Gate, R: Wait + Threads + Sync>(
-    rt: &R,
-    alloc: Global,
-    script: &Script,
-    cells: u32,
-    steps: u32,
-    workers: u32,
-    gate: &G,
-) -> Result<ClosedOutput, Oom>
-    requires limits { AreLimits (record { cells = cells; steps = steps; strict = false }) }
-    requires workers { (0 < workers) × (workers ≤ 64) }
-    requires script { IsSomeScript (view.script script.now) }
-    ensures { IfOk result (λ given. (start : Start)
-        × IsStartOf (record { cells = cells; steps = steps; strict = false })
-        (view.script script.now) start
-        × IsRunGiven Told.Root start given.output.status given.output.text.items given.closed) }
-{
-    let root = main_body(alloc, script, steps)?;
-    match run_watched::<ScriptBody<'_>, StealPool, G, R>(rt, alloc, root, cells, workers, gate) {
-        Ok((watched, rest)) => watched_at_rest(alloc, watched, rest),
-        Err(fault) => unrested(alloc, fault, cells),
+    /// A run of the script with a watch of its root, or that it is full.
+    fn watch_script(&self, script: &Script, cells: u32, steps: u32) -> Result<ClosedOutput, Oom>
+        requires limits { AreLimits (record { cells = cells; steps = steps; strict = false }) }
+        requires workers { (0 < self.now.count) × (self.now.count ≤ 64) }
+        requires script { IsSomeScript (view.script script.now) }
+        ensures { IfOk result (λ given. (start : Start)
+            × IsStartOf (record { cells = cells; steps = steps; strict = false })
+            (view.script script.now) start
+            × IsRunGiven Told.Root start given.output.status given.output.text.items given.closed) }
+    {
+        let root = main_body(self.alloc, script, steps)?;
+        match run_watched::<ScriptBody<'_>, StealPool, G, R>(
+            self.rt, self.alloc, root, cells, self.count, self.gate,
+        ) {
+            Ok((watched, rest)) => watched_at_rest(self.alloc, watched, rest),
+            Err(fault) => unrested(self.alloc, fault, cells),
+        }
     }
 }
 

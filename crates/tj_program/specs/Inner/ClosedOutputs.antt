@@ -5,11 +5,12 @@ use Rattle.tj_ports.specs.Faults.{HasFault}
 use Rattle.tj_ports.specs.Putting.{GrowsByPart}
 use Rattle.tj_words.specs.declared.closed.RestCell.{RestCell}
 use Rattle.tj_program.specs.ClosedRuns.{HasOutcome, IsCommandClosed, IsRunClosed}
-use Rattle.tj_modes.specs.Output.{IsCommandOutput, has_workers}
-use Rattle.tj_modes.specs.Runs.{StartOf, NeedsMore}
+use Rattle.tj_modes.specs.Output.{IsCommandOutput, IsRefused, IsStartOfText, has_workers}
+use Rattle.tj_modes.specs.Runs.{Start, StartOf, NeedsMore}
 use Rattle.tj_modes.specs.Texts.{full_line}
 use Rattle.tj_modes.specs.declared.command.Command.{Command}
 use Rattle.tj_modes.specs.declared.script_run.Told.{Told}
+use Rattle.tj_command.specs.declared.limits.Limits.{Limits}
 use Rattle.tj_command.specs.declared.status.Status.{Status}
 use Rattle.tj_command.specs.declared.status.Status.TheVariants.{Full, WriteFault}
 
@@ -18,6 +19,12 @@ abbrev pub IsRunGiven : {B : Type 0} → Told → StartOf B → Status → List 
 IsRunGiven told start status text closed =
     MatchOption closed (NeedsMore start × (status ≡ Full) × (text ≡ full_line start.cells))
     (IsRunClosed told start status text)
+
+-- what is given of an input: the line of its fault where it is no script, or else what the run of it under these limits
+-- gives over workers, as it is told
+abbrev pub IsScriptGiven : Told → Limits → (input : List ℕ) → Status → List ℕ → Option (List RestCell) → Type 0
+IsScriptGiven told limits input status text closed = (IsRefused input status text × (closed ≡ None))
+    ⊎ ((start : Start) × IsStartOfText limits input start × IsRunGiven told start status text closed)
 
 -- closed words come with a status exactly where it is that of an outcome of a run over workers
 abbrev pub AreWith : Command → Status → Option (List RestCell) → Type 0

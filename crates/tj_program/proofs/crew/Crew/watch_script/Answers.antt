@@ -2,7 +2,7 @@ use Rattle.tj_program.proofs.Prelude.{Root, crosses, expr_sync, false, refl, scr
 use Rattle.tj_program.proofs.Prelude.{start_of, stmt_sync}
 use Rattle.tj_program.proofs.ClosedRuns.{IsRunGiven-unrested, given_named, rests_named}
 use Rattle.tj_modes.proofs.Outputs.{if_ok}
-use Rattle.tj_program.proofs.watch_runs.watched_script.Goals as goal
+use Rattle.tj_program.proofs.crew.Crew.watch_script.Goals as goal
 
 -- a body of a script may cross threads
 pub run_watched-requires-send-B : goal.run_watched-requires-send-B

@@ -1,11 +1,11 @@
 use Rattle.tj_program.proofs.Prelude.{inl, inr}
 use Rattle.tj_modes.proofs.Outputs.{if_ok, IsRefused-fault}
 use Rattle.tj_syntax.specs.View as view
-use Rattle.tj_program.proofs.watch_runs.watch_by_workers.Goals as goal
+use Rattle.tj_program.proofs.crew.Crew.report.Goals as goal
 
 pub returns-in-Ok : goal.returns-in-Ok
-returns-in-Ok g c = if_ok c.watched_script.result (λ given ran all read.
-    inr (ran.0, (view.script c.in-Ok.script, c.in-Ok.ensures.ok all read, ran.1), ran.2)) c.watched_script.ensures
+returns-in-Ok g c = if_ok c.run.result (λ given ran all read.
+    inr (ran.0, (view.script c.in-Ok.script, c.in-Ok.ensures.ok all read, ran.1), ran.2)) c.run.ensures
 
 pub returns-in-Err : goal.returns-in-Err
 returns-in-Err g c = if_ok c.refused_alone.result (λ given is all read.

@@ -1,14 +1,14 @@
 use Rattle.tj_program.proofs.Prelude.{IsScriptOf, generated_script, subst, sym, ◌∙◌}
 use Rattle.tj_modes.proofs.Outputs.{if_ok, generated_of, never_refused}
 use Rattle.tj_syntax.specs.View as view
-use Rattle.tj_program.proofs.worker_runs.summary_by_workers.Goals as goal
+use Rattle.tj_program.proofs.crew.Crew.summary.Goals as goal
 
 pub returns-in-Ok : goal.returns-in-Ok
 returns-in-Ok g c =
     let text = c.as_slice.ensures.value ∙ c.in_ok-text.ensures in
     let script = view.script c.in-Ok.script in
-    if_ok c.run_by_workers.result (λ given ran.
-    (ran.0, (script, subst (λ t. IsScriptOf t script) text c.in-Ok.ensures.ok, ran.1), ran.2)) c.run_by_workers.ensures
+    if_ok c.run.result (λ given ran.
+    (ran.0, (script, subst (λ t. IsScriptOf t script) text c.in-Ok.ensures.ok, ran.1), ran.2)) c.run.ensures
 
 pub returns : goal.returns
 returns g c =
