@@ -12,10 +12,8 @@ use std::sync::Wait;
 use std::thread::Threads;
 use tj_body::Body;
 use tj_mean::Outcome;
-use tj_ports::OpenGate;
-use tj_ready::StealPool;
 use tj_report::outcome_of;
-use tj_run::{RunFault, run_all};
+use tj_run::RunFault;
 
 /// Runs a root and all that it forks by as many workers as the options say, and answers what became
 /// of each task. `steps` of the options is for scripts alone. That the call returns isn't proved.
@@ -36,15 +34,7 @@ pub fn run_outcome<B: Body, R: Wait + Threads + Sync>(
     ensures full { let p = program_of B.places B.awaits B.left B.asks B.then options.strict root
         in IfErr result (λ fault. fault ≡ RunFault.Full → IsFull p options.cells) }
 {
-    let rest = run_all::<B, StealPool, OpenGate, R>(
-        rt,
-        alloc,
-        root,
-        options.cells,
-        options.workers,
-        &OpenGate,
-        options.strict,
-    )?;
+    let rest = options.run(rt, alloc, root)?;
     let outcome = outcome_of(alloc, &rest)?;
     Ok(outcome)
 }

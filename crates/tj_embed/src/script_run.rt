@@ -18,10 +18,8 @@ use std::thread::Threads;
 use tj_base::Oom;
 use tj_eval::{ScriptBody, main_body};
 use tj_mean::{Outcome, PlanFault, plan};
-use tj_ports::OpenGate;
-use tj_ready::StealPool;
 use tj_report::{outcome_of, report_at_rest};
-use tj_run::{RunFault, run_all};
+use tj_run::RunFault;
 use tj_syntax::Script;
 use tj_words::{Closed, RestWords};
 
@@ -67,15 +65,7 @@ pub fn run_script<'s, R: Wait + Threads + Sync>(
         → NeedsMore (shown.script script.now) options) }
 {
     let root = main_body(alloc, script, options.steps)?;
-    let rest = run_all::<ScriptBody<'s>, StealPool, OpenGate, R>(
-        rt,
-        alloc,
-        root,
-        options.cells,
-        options.workers,
-        &OpenGate,
-        options.strict,
-    )?;
+    let rest = options.run(rt, alloc, root)?;
     Ok(ScriptRun { rest })
 }
 
