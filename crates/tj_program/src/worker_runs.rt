@@ -120,10 +120,15 @@ pub fn ended_at_rest<B: Body>(
         rest.root)
         given.output.status given.output.text.items given.closed) }
 {
-    match told {
-        Told::Report => reported_at_rest(alloc, rest),
-        _ => told_at_rest(alloc, rest, told),
+    if let Told::Report = told {
+        return reported_at_rest(alloc, rest);
     }
+    let outcome = outcome_of(alloc, &rest)?;
+    let output = ended(alloc, told, &outcome)?;
+    Ok(ClosedOutput {
+        output,
+        closed: Some(rest.into_closed()),
+    })
 }
 
 /// The report of a table at rest, and the table's closed words.
@@ -140,23 +145,6 @@ fn reported_at_rest<B: Body>(alloc: Global, rest: RestWords<B>) -> Result<Closed
         status: status_of(report.marked),
         text: report.text,
     };
-    Ok(ClosedOutput {
-        output,
-        closed: Some(rest.into_closed()),
-    })
-}
-
-/// The outcome of a table at rest, as it is told, and the table's closed words.
-fn told_at_rest<B: Body>(alloc: Global, rest: RestWords<B>, told: Told) -> Result<ClosedOutput, Oom>
-    requires { RestsAt (program_of B.places B.awaits B.left B.asks B.then) rest.root rest.limit
-        rest.strict rest }
-    ensures { IfOk result (λ given. IsRunGiven told
-        (started (program_of B.places B.awaits B.left B.asks B.then) rest.strict rest.limit
-        rest.root)
-        given.output.status given.output.text.items given.closed) }
-{
-    let outcome = outcome_of(alloc, &rest)?;
-    let output = ended(alloc, told, &outcome)?;
     Ok(ClosedOutput {
         output,
         closed: Some(rest.into_closed()),

@@ -1,6 +1,6 @@
 use Rattle.tj_program.proofs.Prelude.{program_of}
 use Rattle.tj_program.proofs.ClosedRuns.{closed_at_rest}
-use Rattle.tj_program.proofs.worker_runs.told_at_rest.Goals as goal
+use Rattle.tj_program.proofs.worker_runs.ended_at_rest.Goals as goal
 
 pub outcome_of-requires : goal.outcome_of-requires
 outcome_of-requires g c = (c.type_bounds.send-B, c.requires.meaning)
