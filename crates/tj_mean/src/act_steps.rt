@@ -3,7 +3,7 @@
 ghost use Rattle.std.specs.Prelude.{◌≡◌, ◌<◌, ◌≤◌, ◌++◌, suc, length};
 ghost use Rattle.std.specs.Prelude.{false, IfOk, IsSome, IsTrue, IsFalse};
 ghost use Rattle.tj_body.specs.Asks.{IsPlaced};
-ghost use Rattle.tj_body.specs.Points.{IsGoodAt, IsProper, MayAnswer, weight};
+ghost use Rattle.tj_body.specs.Points.{IsGood, IsProper, MayAnswer, weight};
 ghost use Rattle.tj_body.specs.Programs.{rules_of};
 ghost use Rattle.tj_body.specs.History as history;
 ghost use Rattle.tj_mean.specs.Acts as spec;
@@ -103,8 +103,7 @@ fn advance_noting<B: Body>(
     acts: &mut ActList,
 ) -> Result<bool, Oom>
     requires good { let rules = rules_of B.places B.awaits B.left B.asks B.then false in
-        IsGoodAt rules p.old.stage p.old }
-    requires made { suc p.old.made ≤ length p.old.references }
+        IsGood rules p.old }
     ensures step { let rules = rules_of B.places B.awaits B.left B.asks B.then false in
         IfOk result (λ _. p.new ≡ history.after_step rules (assignment_in given.now) p.old) }
     ensures acts { let rules = rules_of B.places B.awaits B.left B.asks B.then false in

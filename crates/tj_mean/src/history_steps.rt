@@ -1,8 +1,8 @@
 //! One task's history, computed step by step, under an assignment that is kept in an ordered map,
 //! from its start or from a point that it has come to.
-ghost use Rattle.std.specs.Prelude.{◌≡◌, ◌<◌, ◌≤◌, ◌^◌, suc, length, map};
+ghost use Rattle.std.specs.Prelude.{◌≡◌, ◌<◌, ◌≤◌, ◌^◌, length, map};
 ghost use Rattle.std.specs.Prelude.{IfOk, IfErr, IsSome, IsTrue, IsFalse};
-ghost use Rattle.tj_body.specs.Points.{HasStopped, IsGood, IsGoodAt, weight};
+ghost use Rattle.tj_body.specs.Points.{HasStopped, IsGood, weight};
 ghost use Rattle.tj_body.specs.Programs.{rules_of};
 ghost use Rattle.tj_body.specs.History as history;
 ghost use Rattle.tj_mean.specs.Inner.Assignments.{assignment_in};
@@ -56,8 +56,7 @@ pub fn advance<B: Body>(
     strict: bool,
 ) -> Result<bool, Oom>
     requires good { let rules = rules_of B.places B.awaits B.left B.asks B.then strict in
-        IsGoodAt rules p.old.stage p.old }
-    requires made { suc p.old.made ≤ length p.old.references }
+        IsGood rules p.old }
     ensures step { let rules = rules_of B.places B.awaits B.left B.asks B.then strict in
         IfOk result (λ _. p.new ≡ history.after_step rules (assignment_in given.now) p.old) }
     ensures stays { IfOk result (λ more. IsFalse more → p.new ≡ p.old) }

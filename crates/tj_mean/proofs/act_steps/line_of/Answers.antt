@@ -31,11 +31,7 @@ good_at g V t proper p at = subst (IsGood (rules g)) (sym at.1) (good (rules g) 
 
 pub advance_noting-requires-clause-good : goal.advance_noting-requires-clause-good
 advance_noting-requires-clause-good g c κs within = let i = c.loop-p.invariant in
-    (good_at g (assignment_in c.args.given.now) c.args.task c.requires.proper c.loop-p.p (i.0, i.1)).at_stage
-
-pub advance_noting-requires-clause-made : goal.advance_noting-requires-clause-made
-advance_noting-requires-clause-made g c κs within = let i = c.loop-p.invariant in
-    (good_at g (assignment_in c.args.given.now) c.args.task c.requires.proper c.loop-p.p (i.0, i.1)).made
+    good_at g (assignment_in c.args.given.now) c.args.task c.requires.proper c.loop-p.p (i.0, i.1)
 
 pub loop-p-preserved : goal.loop-p-preserved
 loop-p-preserved g c =

@@ -18,12 +18,8 @@ lawful : (g : Over) (strict : Bool) → let b = g.B.Body in
 lawful g strict = (g.met.B.Body g.world.𝓛 g.world.𝓜 g.world.𝓡 ((λ s x. x), (λ x. x), (λ x. x), λ x. x)).obeys
 
 pub advance-requires-clause-good : goal.advance-requires-clause-good
-advance-requires-clause-good g c κs within = (good_reaches _ (assignment_in c.args.given.now) (lawful g c.args.strict)
-    c.args.p.now c.loop.p c.requires.good c.loop.invariant.reached).at_stage
-
-pub advance-requires-clause-made : goal.advance-requires-clause-made
-advance-requires-clause-made g c κs within = (good_reaches _ (assignment_in c.args.given.now) (lawful g c.args.strict)
-    c.args.p.now c.loop.p c.requires.good c.loop.invariant.reached).made
+advance-requires-clause-good g c κs within = good_reaches _ (assignment_in c.args.given.now) (lawful g c.args.strict)
+    c.args.p.now c.loop.p c.requires.good c.loop.invariant.reached
 
 pub returns-then-not-branch-clause-reached : goal.returns-then-not-branch-clause-reached
 returns-then-not-branch-clause-reached g c =
