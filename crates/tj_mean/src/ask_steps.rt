@@ -9,8 +9,7 @@ use std::alloc::Global;
 use std::mem::replace;
 use tj_base::{Cause, Items, Name, NameList, Oom, Pay, PlaceList, Sort, Trouble, path_before};
 use tj_body::{
-    Answer, Ask, Body, Close, Entry, EntryList, Point, PointStage, Reference, ReferenceList, Task,
-    Value,
+    Answer, Ask, Body, Close, Entry, EntryList, Point, PointStage, Reference, Task, Value,
 };
 
 /// An equal reference.
@@ -114,33 +113,6 @@ pub fn fail<B: Body>(alloc: Global, p: &mut Point<B>, cause: Cause) -> Result<()
     end(alloc, p, Close::Failed(cause), Entry::Broken)
 }
 
-/// Forks a child with these references and promises, of which `left` is what the task keeps.
-fn fork<B: Body>(
-    alloc: Global,
-    p: &mut Point<B>,
-    body: B,
-    passed: ReferenceList,
-    handed: NameList,
-    left: NameList,
-) -> Result<(), Oom>
-    requires room { length p.old.references < 2 ^ 31 }
-    requires few { p.old.made < 2 ^ 31 }
-    ensures { IfOk result (λ _. p.new ≡ history.after_fork body passed handed left p.old) }
-{
-    let place = p.references.items().len() as u32;
-    let name = refer_to_next(alloc, p, Sort::Task)?;
-    p.holds = left;
-    let child = Task {
-        name,
-        body,
-        passed,
-        handed,
-    };
-    p.children.push(child)?;
-    give(p, Answer::Local(place));
-    Ok(())
-}
-
 /// The references with these places.
 fn references_at<B: Body>(
     alloc: Global,
@@ -205,7 +177,7 @@ fn copy_names(alloc: Global, names: &[Name]) -> Result<Vec<Name>, Oom>
 }
 
 /// What a Fork makes of the point.
-fn try_fork<B: Body>(
+fn fork<B: Body>(
     alloc: Global,
     p: &mut Point<B>,
     body: B,
@@ -224,8 +196,18 @@ fn try_fork<B: Body>(
         Err(cause) => fail(alloc, p, cause),
         Ok(left) => {
             let passed = Items::of(references_at(alloc, p, pass.items())?);
-            let names = names_at(alloc, p, hand.items())?;
-            fork(alloc, p, body, passed, names, left)
+            let handed = names_at(alloc, p, hand.items())?;
+            let place = p.references.items().len() as u32;
+            let name = refer_to_next(alloc, p, Sort::Task)?;
+            p.holds = left;
+            p.children.push(Task {
+                name,
+                body,
+                passed,
+                handed,
+            })?;
+            give(p, Answer::Local(place));
+            Ok(())
         }
     }
 }
@@ -302,7 +284,7 @@ pub fn take<B: Body>(alloc: Global, p: &mut Point<B>, ask: Ask<B>, strict: bool)
 {
     match ask {
         Ask::New => make(alloc, p),
-        Ask::Fork { body, pass, hand } => try_fork(alloc, p, body, &pass, &hand),
+        Ask::Fork { body, pass, hand } => fork(alloc, p, body, &pass, &hand),
         Ask::Set { p: k, v } => set(alloc, p, k, v),
         Ask::Get { p: k } => get(alloc, p, false, k),
         Ask::Join { t: k } => join(alloc, p, strict, false, k),
