@@ -2,7 +2,6 @@
 pub mod Assignments
 pub mod KeptRounds
 pub mod Indexes
-pub mod SettledRounds
 pub mod Reached
 pub mod ToldOrder
 pub mod NotedActs

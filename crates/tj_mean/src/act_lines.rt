@@ -1,6 +1,6 @@
 //! The acts of a program's meaning: for each task its forks, and its joins of results, in order.
-//! Rounds are taken until they settle. Then each task of the last one is taken once more, under the
-//! same assignment, and its acts are noted.
+//! The tasks go on until none can. Then each of them is taken once more from its start, under all
+//! entries that were written, and its acts are noted.
 ghost use Rattle.std.specs.Prelude.{◌≡◌, ◌<◌, ◌≤◌, ◌^◌, suc, false, map, IfOk, IfErr};
 ghost use Rattle.std.specs.List.Sorted.{IsPermutation};
 ghost use Rattle.tj_base.specs.declared.cell.TheConstants.{MAX_CELLS};
@@ -18,7 +18,7 @@ use crate::act_steps::line_of;
 use crate::laws::acts_can_be_worked_off;
 use crate::outcome::PlanFault;
 use crate::round::{Pending, push_children, root_task};
-use crate::rounds::settle;
+use crate::rounds::at_rest;
 use std::alloc::Global;
 use std::collections::BTreeMap;
 use tj_base::{Items, Name, Oom, name_cmp};
@@ -43,8 +43,9 @@ pub fn acts<B: Body>(alloc: Global, root: &B, cells: u32) -> Result<ActLines, Pl
     ensures lines { IfOk result AreActLines }
 {
     acts_can_be_worked_off::<B>();
-    let settled = settle(alloc, root, cells, false)?;
-    let lines = lines_of(alloc, root, &settled.given, settled.n)?;
+    let rest = at_rest(alloc, root, cells, false)?;
+    drop(rest.points);
+    let lines = lines_of(alloc, root, &rest.given, 2 * cells)?;
     Ok(Items::of(in_name_order(lines)?))
 }
 

@@ -5,7 +5,6 @@ ghost use Rattle.std.specs.List.{list_any};
 ghost use Rattle.tj_mean.specs.Outcomes.{is_marked, is_troubled};
 ghost use Rattle.tj_mean.specs.declared.outcome.PlanFault.TheVariants as fault;
 
-use std::alloc::{AllocError, AllocFailed};
 use std::error::Error;
 use std::fmt;
 use tj_base::{Cause, Items, Name, NameList, NumList, Oom, Shown};
@@ -76,22 +75,6 @@ impl From<Oom> for PlanFault {
     ghost from_gives = { λ _ f. f ≡ fault.Oom };
 
     fn from(_oom: Oom) -> PlanFault {
-        PlanFault::Oom
-    }
-}
-
-impl From<AllocError> for PlanFault {
-    ghost from_gives = { λ _ f. f ≡ fault.Oom };
-
-    fn from(_error: AllocError) -> PlanFault {
-        PlanFault::Oom
-    }
-}
-
-impl<T: Drop> From<AllocFailed<T>> for PlanFault {
-    ghost from_gives = { λ _ f. f ≡ fault.Oom };
-
-    fn from(_failed: AllocFailed<T>) -> PlanFault {
         PlanFault::Oom
     }
 }

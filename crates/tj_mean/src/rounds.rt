@@ -2,16 +2,17 @@
 //! taken up where it can go on: when it was forked, and when the cell that it waits for has got an
 //! entry. Points and entries are those of rounds all the time, though no round is computed, and
 //! where no task can go on, what the tasks have come to is the meaning.
-ghost use Rattle.std.specs.Prelude.{◌≡◌, ◌<◌, ◌≤◌, IfOk, IfErr, IsSome};
+ghost use Rattle.std.specs.Prelude.{◌≡◌, ◌<◌, ◌≤◌, ◌∷◌, [], IfOk, IfErr, IsSome};
 ghost use Rattle.tj_base.specs.declared.cell.TheConstants.{MAX_CELLS};
 ghost use Rattle.tj_body.specs.Asks.{IsFresh};
+ghost use Rattle.tj_body.specs.History as history;
+ghost use Rattle.tj_body.specs.Programs as programs;
 ghost use Rattle.tj_body.specs.Programs.{program_of};
 ghost use Rattle.tj_body.specs.Rounds as rounds;
-ghost use Rattle.tj_mean.specs.Inner.SettledRounds.{IsSettled};
 ghost use Rattle.tj_mean.specs.OutcomeLaws.{HasCycleWhereWaits};
 ghost use Rattle.tj_body.specs.Points.{IsIn};
 ghost use Rattle.tj_mean.specs.Inner.Assignments.{assignment_in};
-ghost use Rattle.tj_mean.specs.Inner.ToldOrder.{AreToldInSomeOrder, AreRestOf, AreEntriesOf};
+ghost use Rattle.tj_mean.specs.Inner.ToldOrder.{AreRestOf, AreEntriesOf};
 ghost use Rattle.tj_mean.specs.Outcomes.{AreBodiesOf, IsOutcome, ending_of};
 
 use crate::agenda::Agenda;
@@ -20,7 +21,7 @@ use crate::history_steps::{go_on, start};
 use crate::laws::{meaning_is_apart, order_is_free, outcome_has_cycle_where_waits};
 use crate::outcome::{Outcome, PlanFault};
 use crate::round::root_task;
-use crate::stopped::{Stopped, StoppedBody, bodies_of, told_of};
+use crate::stopped::{StoppedBody, bodies_of, told_of};
 use crate::told::outcome_of;
 use std::alloc::Global;
 use std::collections::BTreeMap;
@@ -51,8 +52,9 @@ pub fn plan<B: Body>(
     meaning_is_apart::<B>();
     order_is_free::<B>();
     outcome_has_cycle_where_waits::<B>();
-    let settled = settle(alloc, root, cells, strict)?;
-    Ok(outcome_of(alloc, settled.tasks)?)
+    let rest = at_rest(alloc, root, cells, strict)?;
+    let tasks = told_of(alloc, rest.points)?;
+    Ok(outcome_of(alloc, tasks)?)
 }
 
 /// What is told of the tasks of this root's program, each with what its body is where it stopped.
@@ -84,44 +86,8 @@ pub struct AtRest<B> {
     pub points: Vec<Point<B>>,
 }
 
-/// The round at which the meaning settles.
-#[derive(Drop)]
-pub struct Settled {
-    /// The assignment of round `n`, which the histories are under.
-    pub given: BTreeMap<Name, Entry>,
-    pub n: u32,
-    /// What is kept of the histories of the meaning.
-    pub tasks: Vec<Stopped>,
-}
-
-/// The round that equals all later ones.
-pub fn settle<B: Body>(
-    alloc: Global,
-    root: &B,
-    cells: u32,
-    strict: bool,
-) -> Result<Settled, PlanFault>
-    requires root { IsFresh B.places B.awaits B.left 1 root.now }
-    requires cells { (0 < cells) × (cells ≤ MAX_CELLS) }
-    ensures fits { let p = program_of B.places B.awaits B.left B.asks B.then strict root.now in
-        IfOk result (λ _. ¬ rounds.IsFull p cells) }
-    ensures full { let p = program_of B.places B.awaits B.left B.asks B.then strict root.now in
-        IfErr result (λ e. e ≡ PlanFault.Full → rounds.IsFull p cells) }
-    ensures told { let p = program_of B.places B.awaits B.left B.asks B.then strict root.now in
-        IfOk result (λ s. AreToldInSomeOrder (rounds.meaning p cells) s.tasks.items) }
-    ensures settled { let p = program_of B.places B.awaits B.left B.asks B.then strict root.now in
-        IfOk result (IsSettled p cells) }
-{
-    let rest = at_rest(alloc, root, cells, strict)?;
-    Ok(Settled {
-        given: rest.given,
-        n: 2 * cells,
-        tasks: told_of(alloc, rest.points)?,
-    })
-}
-
 /// The points that the tasks come to, and all entries.
-fn at_rest<B: Body>(
+pub fn at_rest<B: Body>(
     alloc: Global,
     root: &B,
     cells: u32,
@@ -140,8 +106,7 @@ fn at_rest<B: Body>(
     ensures entries { let p = program_of B.places B.awaits B.left B.asks B.then strict root.now in
         IfOk result (λ rest. AreEntriesOf p cells (assignment_in rest.given)) }
 {
-    let mut points = Vec::new(alloc);
-    points.push(start(alloc, root_task(alloc, root)?)?)?;
+    let mut points = first_points(alloc, root)?;
     let mut given = BTreeMap::new(alloc);
     let mut left = cells - 1;
     let mut agenda = Agenda::new(alloc);
@@ -156,4 +121,14 @@ fn at_rest<B: Body>(
         start_all(alloc, &mut points, handed.children)?;
     }
     Ok(AtRest { given, points })
+}
+
+/// The point at which the root task begins.
+fn first_points<B: Body>(alloc: Global, root: &B) -> Result<Vec<Point<B>>, Oom>
+    ensures { IfOk result (λ points.
+        points.items ≡ history.start (programs.root_task root.now) ∷ []) }
+{
+    let mut points = Vec::new(alloc);
+    points.push(start(alloc, root_task(alloc, root)?)?)?;
+    Ok(points)
 }

@@ -1,5 +1,5 @@
--- The lines that are noted of a settled round are those of the meaning, and their names are distinct.
-use Rattle.std.proofs.Common.{◌≡◌, ℕ, suc, ◌≤◌, List, [], ◌∷◌, map, ap, ◌∙◌, subst, arith}
+-- The lines that are noted under the entries at rest are those of the meaning, and their names are distinct.
+use Rattle.std.proofs.Common.{◌≡◌, ℕ, suc, ◌*◌, ◌≤◌, List, [], ◌∷◌, map, ap, ◌∙◌, subst, arith}
 use Rattle.std.specs.List.{flat_map}
 use Rattle.std.specs.List.Sorted.{IsPermutation}
 use Rattle.tj_base.specs.ForkOrder.{Name}
@@ -12,10 +12,9 @@ use Rattle.tj_body.proofs.Counts.{is, times, total_append, distinct_of_times}
 use Rattle.tj_body.proofs.Rounds.Rises.{once_name}
 use Rattle.tj_mean.specs.Acts.{AreActsOf, line_of, meant_lines}
 use Rattle.tj_mean.specs.ActLines.{names_of}
-use Rattle.tj_mean.specs.Inner.SettledRounds.{IsSettled}
+use Rattle.tj_mean.specs.Inner.ToldOrder.{AreEntriesOf}
 use Rattle.tj_mean.specs.Outcomes.{Ascend}
 use Rattle.tj_mean.specs.declared.act.ActLine.{ActLine}
-use Rattle.tj_mean.specs.declared.rounds.Settled.{Settled}
 
 module _ {B : Type 0} (rules : Rules B) (V : Assignment) where
   -- each task's name is one of its cells
@@ -36,18 +35,19 @@ module _ {B : Type 0} (program : Program B) where
       (λ q. let a = lines_few program.rules (given program n) W q (tasks program (suc n)) in
       let b = once_name program (suc n) q in omega arith)
 
-  -- the lines of a settled round
-  pub lines_meant : (N : ℕ) (s : Settled) → IsSettled program N s
-      → map (line_of program.rules (given program s.n)) (tasks program (suc s.n)) ≡ meant_lines program N
-  lines_meant N s is =
-      ap (λ V. map (line_of program.rules V) (tasks program (suc s.n))) is.assigned
-      ∙ ap (λ l. map (line_of program.rules (given program (last_round N))) l) is.tasks_are
+  -- the lines of the round after that of the entries at rest
+  lines_meant : (N : ℕ) → given program (2 * N) ≡ given program (last_round N)
+      → map (line_of program.rules (given program (2 * N))) (tasks program (suc (2 * N))) ≡ meant_lines program N
+  lines_meant N same =
+      let next : suc (2 * N) ≡ last_round N = omega arith in
+      ap (λ V. map (line_of program.rules V) (tasks program (suc (2 * N)))) same
+      ∙ ap (λ k. map (line_of program.rules (given program (last_round N))) (tasks program k)) next
 
   -- and in name order they are those of the meaning
-  pub are_acts : (N : ℕ) (s : Settled) (noted sorted : List ActLine) → IsSettled program N s
-      → noted ≡ map (line_of program.rules (given program s.n)) (tasks program (suc s.n)) → IsPermutation noted sorted
-      → Ascend (names_of sorted) → AreActsOf program N sorted
-  are_acts N s noted sorted settled e same ascend = record {
-    same_lines = subst (λ lines. IsPermutation lines sorted) (e ∙ lines_meant N s settled) same;
+  pub are_acts : (N : ℕ) (V : Assignment) (noted sorted : List ActLine) → AreEntriesOf program N V
+      → noted ≡ map (line_of program.rules (given program (2 * N))) (tasks program (suc (2 * N)))
+      → IsPermutation noted sorted → Ascend (names_of sorted) → AreActsOf program N sorted
+  are_acts N V noted sorted entries e same ascend = record {
+    same_lines = subst (λ lines. IsPermutation lines sorted) (e ∙ lines_meant N entries.assigned) same;
     in_name_order = ascend;
   }
