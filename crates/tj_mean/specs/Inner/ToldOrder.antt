@@ -1,11 +1,16 @@
--- What the tasks have come to where none can go on, and all entries.
+-- What is told of histories, in any order.
 use Rattle.std.specs.Prelude.{◌≡◌, ℕ, ◌*◌, List, map}
 use Rattle.std.specs.List.Sorted.{IsPermutation}
 use Rattle.tj_body.specs.declared.point.Point.{Point}
 use Rattle.tj_body.specs.History.{Assignment}
 use Rattle.tj_body.specs.Programs.{Program}
 use Rattle.tj_body.specs.Rounds.{given, last_round}
-use Rattle.tj_mean.specs.Outcomes.{body_of}
+use Rattle.tj_mean.specs.Outcomes.{AreTold, body_of}
+use Rattle.tj_mean.specs.declared.stopped.Stopped.{Stopped}
+
+-- this is told of the histories, which stand in some order
+abbrev pub AreToldInSomeOrder : {B : Type 0} → List (Point B) → List Stopped → Type 0
+AreToldInSomeOrder {B} ps ss = (qs : List (Point B)) × IsPermutation ps qs × AreTold qs ss
 
 -- the same is told of the points, with their bodies, as of the histories, which stand in some order
 abbrev pub AreRestOf : {B : Type 0} → List (Point B) → List (Point B) → Type 0
