@@ -1,4 +1,4 @@
-//! Asks that need nothing of the table: the next ask itself, a print, and the last asks.
+//! Asks that need nothing of the table: the next ask itself, a print, and an end.
 ghost use Rattle.std.specs.Prelude.{◌≡◌, ◌⊎◌, ◌<◌, IfErr, IfOk};
 ghost use Rattle.tj_body.specs.Asks.{Ends};
 ghost use Rattle.tj_body.specs.Programs.{program_of};
@@ -8,10 +8,10 @@ ghost use Rattle.tj_run.specs.Inner.Carried.{IsAsked, IsRunning, RunsTask};
 ghost use Rattle.tj_run.specs.Inner.Going.{Goes, Stops};
 
 use crate::next::Next;
-use crate::pieces::{fill_at, hurt_of};
+use crate::pieces::fill_at;
 use crate::why::Why;
 use std::alloc::Global;
-use tj_base::{Pay, Trouble};
+use tj_base::Pay;
 use tj_body::{Answer, Ask, Body, points_in_rounds};
 use tj_words::{Finish, Laid, Rec, WSeat};
 
@@ -76,19 +76,4 @@ pub(crate) fn end_with<B: Body>(laid: &Laid<B>, seat: &WSeat<B>, rec: &Rec<B>, v
     let _ = seat;
     points_in_rounds::<B>();
     Next::Ends(Finish::Done(fill_at(rec.held.items(), v)))
-}
-
-/// The task fails of itself.
-pub(crate) fn fail<B: Body>(laid: &Laid<B>, seat: &WSeat<B>, rec: &Rec<B>, trouble: Trouble) -> Next
-    requires runs { RunsTask laid.now rec.now seat.now.me }
-    requires asked { IsAsked (table_program (program_of B.places B.awaits B.left B.asks B.then)
-        laid.now) seat.now.me.0 rec.now (ask.Fail trouble) }
-    ensures ends { Stops result }
-    ensures goes { Goes (program_of B.places B.awaits B.left B.asks B.then)
-        laid.now result rec.now seat.now.me.0 seat.now.me }
-{
-    let _ = laid;
-    let _ = seat;
-    points_in_rounds::<B>();
-    Next::Ends(Finish::Failed(hurt_of(trouble)))
 }

@@ -10,15 +10,16 @@ ghost use Rattle.tj_run.specs.Inner.Waits.{ComesBack, IsLeft};
 use crate::answers::resume;
 use crate::forks::fork;
 use crate::next::Next;
-use crate::pure::{emit, end_with, fail, next_ask};
+use crate::pieces::hurt_of;
+use crate::pure::{emit, end_with, next_ask};
 use crate::waits::{get, join, wait};
 use crate::why::Why;
 use crate::writes::{end, make_promise, set};
 use std::alloc::Global;
 use std::sync::Wait;
-use tj_body::{Ask, Body};
+use tj_body::{Ask, Body, points_in_rounds};
 use tj_ready::Pool;
-use tj_words::{Laid, Rec, WSeat};
+use tj_words::{Finish, Laid, Rec, WSeat};
 
 /// One ask of the task.
 #[inline(always)]
@@ -80,7 +81,10 @@ fn answer<B: Body, P: Pool, R: Wait>(
         Ask::JoinOr { t } => join(laid, seat, rec, t, true),
         Ask::Emit(number) => emit(laid, seat, rec, number),
         Ask::End(v) => Ok(end_with(laid, seat, rec, v)),
-        Ask::Fail(trouble) => Ok(fail(laid, seat, rec, trouble)),
+        Ask::Fail(trouble) => {
+            points_in_rounds::<B>();
+            Ok(Next::Ends(Finish::Failed(hurt_of(trouble))))
+        }
     }
 }
 
