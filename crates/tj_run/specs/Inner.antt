@@ -2,6 +2,7 @@
 pub mod Pieces
 pub mod Carried
 pub mod Going
+pub mod Posts
 pub mod Children
 pub mod Answers
 pub mod Waits

@@ -1,66 +1,84 @@
 //! What has become of the cell that a task waits for is its answer, or ends it.
-ghost use Rattle.std.specs.Prelude.{◌≡◌, ◌+◌, ◌<◌, ◌^◌, IfErr, IfOk, None, length};
+ghost use Rattle.std.specs.Prelude.{◌≡◌, ◌+◌, ◌<◌, ◌^◌, IfErr, IfOk, length};
 ghost use Rattle.tj_body.specs.Programs.{program_of};
-ghost use Rattle.tj_words.specs.Law.{IsRooted};
-ghost use Rattle.tj_words.specs.SeatViews.SeatSteps.{IsSeatOf};
-ghost use Rattle.tj_words.specs.Calls.TakenRecords.{IsKnownRecord};
 ghost use Rattle.tj_run.specs.Workers.{table_program};
 ghost use Rattle.tj_run.specs.Inner.Carried.{IsWaiting, RunsTask};
 ghost use Rattle.tj_run.specs.Inner.Answers.{next_broken, with_lost, with_reference};
-ghost use Rattle.tj_run.specs.Inner.Going.{Goes, HasAnswer, IsCauseOfWait, Lacks};
+ghost use Rattle.tj_run.specs.Inner.Going.{Goes, HasAnswer, IsCauseOfWait};
+ghost use Rattle.tj_run.specs.Inner.Posts.{IsPostOf, Stays, StaysAsked};
+ghost use Rattle.tj_run.specs.Inner.Waits.{ComesBack};
 
-use crate::next::Next;
+use crate::next::{Next, Wanted};
+use crate::post::Post;
 use crate::why::Why;
+use std::sync::Wait;
 use tj_base::Sort;
 use tj_body::{Answer, Body, points_in_rounds};
 use tj_cells::{Seen, value};
-use tj_words::{Finish, Held, Hurt, Laid, Rec, WSeat};
+use tj_ready::Pool;
+use tj_words::{Finish, Held, Hurt, Laid, Rec};
 
-/// Looks at the cell at the place, for which the task waits: its value is the task's answer. `Waits`
-/// comes only where this call loaded TAG as 0.
-#[inline(always)]
-pub(crate) fn look<B: Body>(
-    laid: &Laid<B>,
-    seat: &mut WSeat<B>,
-    rec: &mut Rec<B>,
-    place: u32,
-    spare: bool,
-) -> Result<Next, Why>
-    requires table { IsSeatOf laid.now seat.old }
-    requires runs { RunsTask laid.now rec.old seat.old.me }
-    requires waiting { IsWaiting (table_program (program_of B.places B.awaits B.left B.asks B.then)
-        laid.now) seat.old.me.0 rec.old place spare }
-    ensures table { seat.new.table_id ≡ seat.old.table_id }
-    ensures lacks { IfErr result (λ why. Lacks why seat.old.me.0 seat.new.me.0) }
-    ensures goes { IfOk result (λ next. Goes (program_of B.places B.awaits B.left B.asks B.then)
-        laid.now next rec.new seat.old.me.0 seat.new.me) }
-    ensures waits { IfOk result (λ next. IsCauseOfWait next rec.old place spare seat.old.me.0
-        seat.new.me.0) }
-    ensures same { rec.new.body ≡ rec.old.body }
-{
-    points_in_rounds::<B>();
-    let c = rec.held.items()[place as usize].cell;
-    match value(laid, seat, c) {
-        Seen::NotYet => Ok(Next::Waits { place, spare }),
-        Seen::Num(number) => {
-            rec.answer = Answer::Num(number);
-            Ok(Next::Runs)
+impl<B: Body, P: Pool, R: Wait> Post<'_, B, P, R> {
+    /// Looks at the cell at the place, for which the task waits: its value is the task's answer.
+    /// `Waits` comes only where this call loaded TAG as 0.
+    #[inline(always)]
+    pub(crate) fn look(&mut self, laid: &Laid<B>, rec: &mut Rec<B>, at: Wanted) -> Result<Next, Why>
+        requires post { IsPostOf P.limit laid.now self.old }
+        requires runs { RunsTask laid.now rec.old self.old.seat.me }
+        requires waiting { IsWaiting (table_program (program_of B.places B.awaits B.left B.asks
+            B.then) laid.now) self.old.seat.me.0 rec.old at.place at.spare }
+        ensures stays { StaysAsked P.limit self.old self.new rec.old rec.new result }
+        ensures goes { IfOk result (λ next. Goes (program_of B.places B.awaits B.left B.asks B.then)
+            laid.now next rec.new self.old.seat.me.0 self.new.seat.me) }
+        ensures waits { IfOk result (λ next. IsCauseOfWait next rec.old at.place at.spare
+            self.old.seat.me.0 self.new.seat.me.0) }
+    {
+        points_in_rounds::<B>();
+        let Wanted { place, spare } = at;
+        let c = rec.held.items()[place as usize].cell;
+        match value(laid, &mut self.seat, c) {
+            Seen::NotYet => Ok(Next::Waits { place, spare }),
+            Seen::Num(number) => {
+                rec.answer = Answer::Num(number);
+                Ok(Next::Runs)
+            }
+            Seen::Promise(cell) => add_reference(
+                rec,
+                Held {
+                    cell,
+                    sort: Sort::Promise,
+                },
+            ),
+            Seen::Task(cell) => add_reference(
+                rec,
+                Held {
+                    cell,
+                    sort: Sort::Task,
+                },
+            ),
+            Seen::Broken => Ok(find_broken(rec, Hurt::Broken(c), spare)),
         }
-        Seen::Promise(cell) => add_reference(
-            rec,
-            Held {
-                cell,
-                sort: Sort::Promise,
-            },
-        ),
-        Seen::Task(cell) => add_reference(
-            rec,
-            Held {
-                cell,
-                sort: Sort::Task,
-            },
-        ),
-        Seen::Broken => Ok(find_broken(rec, Hurt::Broken(c), spare)),
+    }
+
+    /// How a task goes on that was claimed, or has come back: it is at its start, or has an answer.
+    #[inline(always)]
+    pub(crate) fn resume(&mut self, laid: &Laid<B>, rec: &mut Rec<B>) -> Result<Next, Why>
+        requires post { IsPostOf P.limit laid.now self.old }
+        requires back { ComesBack (program_of B.places B.awaits B.left B.asks B.then) laid.now
+            rec.old self.old.seat.me.0 self.old.seat.me }
+        ensures stays { Stays P.limit self.old self.new result }
+        ensures goes { IfOk result (λ next. Goes (program_of B.places B.awaits B.left B.asks B.then)
+            laid.now next rec.new self.old.seat.me.0 self.new.seat.me) }
+        ensures answer { IfOk result HasAnswer }
+    {
+        points_in_rounds::<B>();
+        match rec.answer {
+            Answer::RefAt(place) => {
+                let spare = rec.spare;
+                self.look(laid, rec, Wanted { place, spare })
+            }
+            _ => Ok(Next::Runs),
+        }
     }
 }
 
@@ -88,34 +106,4 @@ fn find_broken<B: Body>(rec: &mut Rec<B>, hurt: Hurt, spare: bool) -> Next
         return Next::Runs;
     }
     Next::Ends(Finish::Failed(hurt))
-}
-
-/// How a task goes on that was claimed, or has come back: it is at its start, or has an answer.
-#[inline(always)]
-pub(crate) fn resume<B: Body>(
-    laid: &Laid<B>,
-    seat: &mut WSeat<B>,
-    rec: &mut Rec<B>,
-) -> Result<Next, Why>
-    requires table { IsSeatOf laid.now seat.old }
-    requires runs { RunsTask laid.now rec.old seat.old.me }
-    requires known { IsKnownRecord (table_program (program_of B.places B.awaits B.left B.asks
-        B.then) laid.now) seat.old.me.0.born seat.old.me.0.filled rec.old }
-    requires unfinished { rec.old.finish ≡ None }
-    requires rooted { IsRooted (table_program (program_of B.places B.awaits B.left B.asks B.then)
-        laid.now) }
-    ensures table { seat.new.table_id ≡ seat.old.table_id }
-    ensures lacks { IfErr result (λ why. Lacks why seat.old.me.0 seat.new.me.0) }
-    ensures goes { IfOk result (λ next. Goes (program_of B.places B.awaits B.left B.asks B.then)
-        laid.now next rec.new seat.old.me.0 seat.new.me) }
-    ensures answer { IfOk result HasAnswer }
-{
-    points_in_rounds::<B>();
-    match rec.answer {
-        Answer::RefAt(place) => {
-            let spare = rec.spare;
-            look(laid, seat, rec, place, spare)
-        }
-        _ => Ok(Next::Runs),
-    }
 }

@@ -8,12 +8,13 @@ ghost use Rattle.tj_words.specs.Words.Lists.{All};
 ghost use Rattle.tj_run.specs.Workers.{table_program};
 ghost use Rattle.tj_run.specs.Inner.Carried.{IsAsked, RunsTask};
 ghost use Rattle.tj_run.specs.Inner.Children.{MayGiveEach, gave_each, with_child};
-ghost use Rattle.tj_run.specs.Inner.Going.{Goes, Lacks};
+ghost use Rattle.tj_run.specs.Inner.Going.{Goes};
+ghost use Rattle.tj_run.specs.Inner.Posts.{IsPostOf, StaysAsked};
 
 use crate::next::Next;
 use crate::pieces::{bare_child, cells_of, child_record, hand_all, held_at};
+use crate::post::Post;
 use crate::why::Why;
-use std::alloc::Global;
 use std::sync::Wait;
 use tj_base::{CellId, CellList, PlaceList, Sort};
 use tj_body::{Answer, Body, names_and_cells, points_in_rounds};
@@ -22,107 +23,84 @@ use tj_park::release;
 use tj_ready::Pool;
 use tj_words::{Finish, Held, Laid, Rec, WSeat};
 
-/// The task forks a child with this body, which is passed and handed these places.
-#[inline(always)]
-pub(crate) fn fork<B: Body, P: Pool, R: Wait>(
-    rt: &R,
-    alloc: Global,
-    laid: &Laid<B>,
-    seat: &mut WSeat<B>,
-    rec: &mut Rec<B>,
-    pool: &mut P,
-    body: B,
-    pass: PlaceList,
-    handed: PlaceList,
-) -> Result<Next, Why>
-    requires table { IsSeatOf laid.now seat.old }
-    requires runs { RunsTask laid.now rec.old seat.old.me }
-    requires asked { IsAsked (table_program (program_of B.places B.awaits B.left B.asks B.then)
-        laid.now) seat.old.me.0 rec.old (ask.Fork body pass handed) }
-    requires pool { P.limit pool.old ≡ laid.now.cells }
-    ensures table { seat.new.table_id ≡ seat.old.table_id }
-    ensures limit { P.limit pool.new ≡ P.limit pool.old }
-    ensures lacks { IfErr result (λ why. Lacks why seat.old.me.0 seat.new.me.0) }
-    ensures goes { IfOk result (λ next. Goes (program_of B.places B.awaits B.left B.asks B.then)
-        laid.now next rec.new seat.old.me.0 seat.new.me) }
-    ensures same { rec.new.body ≡ rec.old.body }
-{
-    if handed.items().is_empty() {
-        return fork_bare(rt, alloc, laid, seat, rec, pool, body, pass);
+impl<B: Body, P: Pool, R: Wait> Post<'_, B, P, R> {
+    /// The task forks a child with this body, which is passed and handed these places, if the task owns
+    /// what it hands.
+    pub(crate) fn fork(
+        &mut self,
+        laid: &Laid<B>,
+        rec: &mut Rec<B>,
+        body: B,
+        pass: PlaceList,
+        handed: PlaceList,
+    ) -> Result<Next, Why>
+        requires post { IsPostOf P.limit laid.now self.old }
+        requires runs { RunsTask laid.now rec.old self.old.seat.me }
+        requires asked { IsAsked (table_program (program_of B.places B.awaits B.left B.asks B.then)
+            laid.now) self.old.seat.me.0 rec.old (ask.Fork body pass handed) }
+        ensures stays { StaysAsked P.limit self.old self.new rec.old rec.new result }
+        ensures goes { IfOk result (λ next. Goes (program_of B.places B.awaits B.left B.asks B.then)
+            laid.now next rec.new self.old.seat.me.0 self.new.seat.me) }
+    {
+        points_in_rounds::<B>();
+        names_and_cells();
+        if handed.items().is_empty() {
+            return self.fork_bare(laid, rec, body, pass);
+        }
+        let given = held_at(self.alloc, rec.held.items(), handed.items())?;
+        let left = match hand_all(self.alloc, rec.owned.items(), given.as_slice())? {
+            Ok(left) => left,
+            Err(hurt) => return Ok(Next::Ends(Finish::Failed(hurt))),
+        };
+        let passed = held_at(self.alloc, rec.held.items(), pass.items())?;
+        let promises = cells_of(self.alloc, given.as_slice())?;
+        let c = birth(laid, &mut self.seat, rec.cell, rec.made + 1)?;
+        hand_each(laid, &mut self.seat, rec.cell, promises.as_slice(), c);
+        let child = child_record(self.alloc, c, body, passed, promises)?;
+        release(
+            self.rt,
+            self.alloc,
+            laid,
+            &mut self.seat,
+            c,
+            child,
+            &mut self.pool,
+        )?;
+        note_child(rec, c, left)
     }
-    fork_handing(rt, alloc, laid, seat, rec, pool, body, pass, handed)
-}
 
-// A fork that hands promises, if the task owns them.
-fn fork_handing<B: Body, P: Pool, R: Wait>(
-    rt: &R,
-    alloc: Global,
-    laid: &Laid<B>,
-    seat: &mut WSeat<B>,
-    rec: &mut Rec<B>,
-    pool: &mut P,
-    body: B,
-    pass: PlaceList,
-    handed: PlaceList,
-) -> Result<Next, Why>
-    requires table { IsSeatOf laid.now seat.old }
-    requires runs { RunsTask laid.now rec.old seat.old.me }
-    requires asked { IsAsked (table_program (program_of B.places B.awaits B.left B.asks B.then)
-        laid.now) seat.old.me.0 rec.old (ask.Fork body pass handed) }
-    requires pool { P.limit pool.old ≡ laid.now.cells }
-    ensures table { seat.new.table_id ≡ seat.old.table_id }
-    ensures limit { P.limit pool.new ≡ P.limit pool.old }
-    ensures lacks { IfErr result (λ why. Lacks why seat.old.me.0 seat.new.me.0) }
-    ensures goes { IfOk result (λ next. Goes (program_of B.places B.awaits B.left B.asks B.then)
-        laid.now next rec.new seat.old.me.0 seat.new.me) }
-    ensures same { rec.new.body ≡ rec.old.body }
-{
-    points_in_rounds::<B>();
-    names_and_cells();
-    let given = held_at(alloc, rec.held.items(), handed.items())?;
-    let left = match hand_all(alloc, rec.owned.items(), given.as_slice())? {
-        Ok(left) => left,
-        Err(hurt) => return Ok(Next::Ends(Finish::Failed(hurt))),
-    };
-    let passed = held_at(alloc, rec.held.items(), pass.items())?;
-    let promises = cells_of(alloc, given.as_slice())?;
-    let c = birth(laid, seat, rec.cell, rec.made + 1)?;
-    hand_each(laid, seat, rec.cell, promises.as_slice(), c);
-    let child = child_record(alloc, c, body, passed, promises)?;
-    release(rt, alloc, laid, seat, c, child, pool)?;
-    note_child(rec, c, left)
-}
-
-// A fork that hands nothing: the task owns what it owned.
-#[inline(always)]
-fn fork_bare<B: Body, P: Pool, R: Wait>(
-    rt: &R,
-    alloc: Global,
-    laid: &Laid<B>,
-    seat: &mut WSeat<B>,
-    rec: &mut Rec<B>,
-    pool: &mut P,
-    body: B,
-    pass: PlaceList,
-) -> Result<Next, Why>
-    requires table { IsSeatOf laid.now seat.old }
-    requires runs { RunsTask laid.now rec.old seat.old.me }
-    requires asked { IsAsked (table_program (program_of B.places B.awaits B.left B.asks B.then)
-        laid.now) seat.old.me.0 rec.old (ask.Fork body pass []) }
-    requires pool { P.limit pool.old ≡ laid.now.cells }
-    ensures table { seat.new.table_id ≡ seat.old.table_id }
-    ensures limit { P.limit pool.new ≡ P.limit pool.old }
-    ensures lacks { IfErr result (λ why. Lacks why seat.old.me.0 seat.new.me.0) }
-    ensures goes { IfOk result (λ next. Goes (program_of B.places B.awaits B.left B.asks B.then)
-        laid.now next rec.new seat.old.me.0 seat.new.me) }
-    ensures same { rec.new.body ≡ rec.old.body }
-{
-    points_in_rounds::<B>();
-    names_and_cells();
-    let c = birth(laid, seat, rec.cell, rec.made + 1)?;
-    let child = bare_child(alloc, c, body, rec.held.items(), pass.items())?;
-    release(rt, alloc, laid, seat, c, child, pool)?;
-    note_made(rec, c)
+    // A fork that hands nothing: the task owns what it owned.
+    #[inline(always)]
+    fn fork_bare(
+        &mut self,
+        laid: &Laid<B>,
+        rec: &mut Rec<B>,
+        body: B,
+        pass: PlaceList,
+    ) -> Result<Next, Why>
+        requires post { IsPostOf P.limit laid.now self.old }
+        requires runs { RunsTask laid.now rec.old self.old.seat.me }
+        requires asked { IsAsked (table_program (program_of B.places B.awaits B.left B.asks B.then)
+            laid.now) self.old.seat.me.0 rec.old (ask.Fork body pass []) }
+        ensures stays { StaysAsked P.limit self.old self.new rec.old rec.new result }
+        ensures goes { IfOk result (λ next. Goes (program_of B.places B.awaits B.left B.asks B.then)
+            laid.now next rec.new self.old.seat.me.0 self.new.seat.me) }
+    {
+        points_in_rounds::<B>();
+        names_and_cells();
+        let c = birth(laid, &mut self.seat, rec.cell, rec.made + 1)?;
+        let child = bare_child(self.alloc, c, body, rec.held.items(), pass.items())?;
+        release(
+            self.rt,
+            self.alloc,
+            laid,
+            &mut self.seat,
+            c,
+            child,
+            &mut self.pool,
+        )?;
+        note_made(rec, c)
+    }
 }
 
 // Task `t` hands these promises to its child.

@@ -9,6 +9,7 @@ mod forks;
 mod next;
 mod pauses;
 mod pieces;
+mod post;
 mod pure;
 mod tasks;
 mod turns;

@@ -1,4 +1,4 @@
-//! How a task goes on.
+//! How a task goes on, and what it waits for.
 use tj_words::Finish;
 
 /// How a task goes on after an ask or an answer.
@@ -11,4 +11,11 @@ pub(crate) enum Next {
     Waits { place: u32, spare: bool },
     /// It ends like this.
     Ends(Finish),
+}
+
+/// What a task waits for: the cell at this place. Where `spare` is true a broken cell is answered.
+#[derive(Clone, Copy)]
+pub(crate) struct Wanted {
+    pub(crate) place: u32,
+    pub(crate) spare: bool,
 }

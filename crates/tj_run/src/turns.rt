@@ -4,18 +4,18 @@ ghost use Rattle.std.specs.Prelude.{◌≡◌, ◌≢◌, ℕ, ◌<◌, IfSome, 
 ghost use Rattle.tj_body.specs.Points.{IsIn};
 ghost use Rattle.tj_body.specs.Programs.{program_of};
 ghost use Rattle.tj_words.specs.Law.{IsRooted};
-ghost use Rattle.tj_words.specs.SeatViews.SeatSteps.{IsCellOf, IsSameSeat, IsSeatOf};
+ghost use Rattle.tj_words.specs.SeatViews.SeatSteps.{IsSameSeat, IsSeatOf};
 ghost use Rattle.tj_words.specs.SeatViews.Views.{saw_stop};
 ghost use Rattle.tj_run.specs.Workers.{IsFree, table_program};
 ghost use Rattle.tj_run.specs.Leaving.{Found, FoundStop, HasStopped, Leaves};
+ghost use Rattle.tj_run.specs.Inner.Posts.{IsPostOf, IsSamePost};
 ghost use Rattle.tj_run.specs.Inner.Turns.{TurnsTo};
 
 use crate::pauses::Pauses;
-use crate::tasks::run;
+use crate::post::Post;
 use crate::why::{Left, Why};
 use std::alloc::Global;
 use std::sync::Wait;
-use tj_base::CellId;
 use tj_body::Body;
 use tj_park::claim;
 use tj_ports::Gate;
@@ -45,50 +45,51 @@ pub fn worker<B: Body, P: Pool, G: Gate, R: Wait>(
     ensures found { Found (program_of B.places B.awaits B.left B.asks B.then) result.1 seat.me.0
         result.0.me.0 }
 {
-    let mut seat = seat;
-    let mut pool = pool;
+    let mut post = Post {
+        rt,
+        alloc,
+        seat,
+        pool,
+    };
     let mut turn: u64 = 0;
     let mut pauses = Pauses::none();
     for _i in rt.forever() {
         turn = turn.saturating_add(1);
         gate.enter(number, turn);
-        if let Some(how) = take_turn(rt, alloc, laid, &mut seat, &mut pool, &mut pauses) {
-            return (seat, how);
+        if let Some(how) = post.take_turn(laid, &mut pauses) {
+            return (post.seat, how);
         }
     }
     unreachable!()
 }
 
-/// One turn: the worker leaves where it is at rest, or the run is stopped.
-#[inline(always)]
-fn take_turn<B: Body, P: Pool, R: Wait>(
-    rt: &R,
-    alloc: Global,
-    laid: &Laid<B>,
-    seat: &mut WSeat<B>,
-    pool: &mut P,
-    pauses: &mut Pauses,
-) -> Option<Left>
-    requires table { IsSeatOf laid.now seat.old }
-    requires free { IsFree laid.now seat.old.me }
-    requires rooted { IsRooted (table_program (program_of B.places B.awaits B.left B.asks B.then)
-        laid.now) }
-    requires pool { P.limit pool.old ≡ laid.now.cells }
-    ensures table { seat.new.table_id ≡ seat.old.table_id }
-    ensures limit { P.limit pool.new ≡ P.limit pool.old }
-    ensures turns { TurnsTo (program_of B.places B.awaits B.left B.asks B.then) laid.now result
-        seat.old.me.0 seat.new.me }
-    ensures found { IfSome result (λ how. Found
-        (program_of B.places B.awaits B.left B.asks B.then) how seat.old.me.0 seat.new.me.0) }
-{
-    if let Some(why) = stop_word(laid, seat) {
-        return Some(Left::Stopped(why));
-    }
-    match pool.take(rt) {
-        None => idle(rt, laid, seat, pauses),
-        Some(t) => {
-            *pauses = Pauses::none();
-            work(rt, alloc, laid, seat, pool, t)
+impl<B: Body, P: Pool, R: Wait> Post<'_, B, P, R> {
+    /// One turn: the worker claims a task, if that is ready, and runs it. A task that isn't ready is left
+    /// as it is. The worker leaves where it is at rest, or the run is stopped.
+    #[inline(always)]
+    fn take_turn(&mut self, laid: &Laid<B>, pauses: &mut Pauses) -> Option<Left>
+        requires post { IsPostOf P.limit laid.now self.old }
+        requires free { IsFree laid.now self.old.seat.me }
+        requires rooted { IsRooted (table_program (program_of B.places B.awaits B.left B.asks
+            B.then) laid.now) }
+        ensures post { IsSamePost P.limit self.old self.new }
+        ensures turns { TurnsTo (program_of B.places B.awaits B.left B.asks B.then) laid.now result
+            self.old.seat.me.0 self.new.seat.me }
+        ensures found { IfSome result (λ how. Found
+            (program_of B.places B.awaits B.left B.asks B.then) how self.old.seat.me.0
+            self.new.seat.me.0) }
+    {
+        if let Some(why) = stop_word(laid, &mut self.seat) {
+            return Some(Left::Stopped(why));
+        }
+        let Some(t) = self.pool.take(self.rt) else {
+            return idle(self.rt, laid, &mut self.seat, pauses);
+        };
+        *pauses = Pauses::none();
+        let rec = claim(laid, &mut self.seat, t)?;
+        match self.run(laid, rec) {
+            Ok(()) => None,
+            Err(why) => Some(Left::Stopped(stop_run(laid, &mut self.seat, why))),
         }
     }
 }
@@ -131,36 +132,6 @@ fn idle<B: Body, R: Wait>(
     }
     pauses.pause(rt);
     None
-}
-
-// Claims the task, if it is ready, and runs it. A task that isn't ready is left as it is.
-#[inline(always)]
-fn work<B: Body, P: Pool, R: Wait>(
-    rt: &R,
-    alloc: Global,
-    laid: &Laid<B>,
-    seat: &mut WSeat<B>,
-    pool: &mut P,
-    t: CellId,
-) -> Option<Left>
-    requires table { IsSeatOf laid.now seat.old }
-    requires free { IsFree laid.now seat.old.me }
-    requires task { IsCellOf laid.now t.0 }
-    requires rooted { IsRooted (table_program (program_of B.places B.awaits B.left B.asks B.then)
-        laid.now) }
-    requires pool { P.limit pool.old ≡ laid.now.cells }
-    ensures table { seat.new.table_id ≡ seat.old.table_id }
-    ensures limit { P.limit pool.new ≡ P.limit pool.old }
-    ensures turns { TurnsTo (program_of B.places B.awaits B.left B.asks B.then) laid.now result
-        seat.old.me.0 seat.new.me }
-    ensures found { IfSome result (λ how. Found
-        (program_of B.places B.awaits B.left B.asks B.then) how seat.old.me.0 seat.new.me.0) }
-{
-    let rec = claim(laid, seat, t)?;
-    match run(rt, alloc, laid, seat, rec, pool) {
-        Ok(()) => None,
-        Err(why) => Some(Left::Stopped(stop_run(laid, seat, why))),
-    }
 }
 
 // Stores STOP, and loads it: another worker may have stored it too.

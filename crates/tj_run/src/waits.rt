@@ -1,5 +1,5 @@
 //! Waits: the tests of a get and of a join, and how a task that waits leaves its worker.
-ghost use Rattle.std.specs.Prelude.{◌≡◌, ◌<◌, IfErr, IfOk, IfSome, None};
+ghost use Rattle.std.specs.Prelude.{◌≡◌, IfOk, IfSome, None};
 ghost use Rattle.tj_body.specs.Programs.{program_of};
 ghost use Rattle.tj_body.specs.Inner.AskSteps.{get_of, join_of};
 ghost use Rattle.tj_words.specs.SeatViews.SeatSteps.{IsCellOf, IsSameSeat, IsSeatOf};
@@ -7,93 +7,79 @@ ghost use Rattle.tj_words.specs.SeatViews.TreeReads.{HasReadTree, KnowsTask};
 ghost use Rattle.tj_words.specs.Steps.WalkSteps.{way_by};
 ghost use Rattle.tj_run.specs.Workers.{table_program};
 ghost use Rattle.tj_run.specs.Inner.Carried.{IsAsked, IsWaiting, RunsTask};
-ghost use Rattle.tj_run.specs.Inner.Going.{Goes, Lacks};
-ghost use Rattle.tj_run.specs.Inner.Waits.{Blocked, ComesBack, HasBlocked, IsHeldAs, IsLeft};
-ghost use Rattle.tj_detect.specs.Blocks.{MayBlock};
+ghost use Rattle.tj_run.specs.Inner.Going.{Goes};
+ghost use Rattle.tj_run.specs.Inner.Posts.{IsPostOf, StaysAsked};
+ghost use Rattle.tj_run.specs.Inner.Waits.{ComesBack, HasBlocked, IsHeldAs, IsLeft, OpensLedger};
 
-use crate::answers::look;
-use crate::next::Next;
+use crate::next::{Next, Wanted};
+use crate::post::Post;
 use crate::why::Why;
 use std::marker::Brand;
+use std::sync::Wait;
 use std::sync::ledger::{Blank, Ledger};
 use tj_base::{CellId, Sort, Steps};
 use tj_body::{Answer, Body, points_in_rounds};
 use tj_detect::{Verdict, block, way_of};
 use tj_park::{Parked, park, shelve};
+use tj_ready::Pool;
 use tj_words::{Finish, Held, Hurt, Laid, Rec, WSeat, Way};
 
-/// The task waits for a promise.
-#[inline(always)]
-pub(crate) fn get<B: Body>(
-    laid: &Laid<B>,
-    seat: &mut WSeat<B>,
-    rec: &mut Rec<B>,
-    place: u32,
-    spare: bool,
-) -> Result<Next, Why>
-    requires table { IsSeatOf laid.now seat.old }
-    requires runs { RunsTask laid.now rec.old seat.old.me }
-    requires asked { IsAsked (table_program (program_of B.places B.awaits B.left B.asks B.then)
-        laid.now) seat.old.me.0 rec.old (get_of spare place) }
-    ensures table { seat.new.table_id ≡ seat.old.table_id }
-    ensures lacks { IfErr result (λ why. Lacks why seat.old.me.0 seat.new.me.0) }
-    ensures goes { IfOk result (λ next. Goes (program_of B.places B.awaits B.left B.asks B.then)
-        laid.now next rec.new seat.old.me.0 seat.new.me) }
-    ensures same { rec.new.body ≡ rec.old.body }
-{
-    points_in_rounds::<B>();
-    match rec.held.items()[place as usize].sort {
-        Sort::Task => Ok(Next::Ends(Finish::Failed(Hurt::Kind))),
-        Sort::Promise => look(laid, seat, rec, place, spare),
+impl<B: Body, P: Pool, R: Wait> Post<'_, B, P, R> {
+    /// The task waits for a promise.
+    #[inline(always)]
+    pub(crate) fn get(&mut self, laid: &Laid<B>, rec: &mut Rec<B>, at: Wanted) -> Result<Next, Why>
+        requires post { IsPostOf P.limit laid.now self.old }
+        requires runs { RunsTask laid.now rec.old self.old.seat.me }
+        requires asked { IsAsked (table_program (program_of B.places B.awaits B.left B.asks B.then)
+            laid.now) self.old.seat.me.0 rec.old (get_of at.spare at.place) }
+        ensures stays { StaysAsked P.limit self.old self.new rec.old rec.new result }
+        ensures goes { IfOk result (λ next. Goes (program_of B.places B.awaits B.left B.asks B.then)
+            laid.now next rec.new self.old.seat.me.0 self.new.seat.me) }
+    {
+        points_in_rounds::<B>();
+        match rec.held.items()[at.place as usize].sort {
+            Sort::Task => Ok(Next::Ends(Finish::Failed(Hurt::Kind))),
+            Sort::Promise => self.look(laid, rec, at),
+        }
     }
-}
 
-/// The task waits for a task's result. Under the strict rule it fails where it isn't before that task
-/// in the fork order.
-#[inline(always)]
-pub(crate) fn join<B: Body>(
-    laid: &Laid<B>,
-    seat: &mut WSeat<B>,
-    rec: &mut Rec<B>,
-    place: u32,
-    spare: bool,
-) -> Result<Next, Why>
-    requires table { IsSeatOf laid.now seat.old }
-    requires runs { RunsTask laid.now rec.old seat.old.me }
-    requires asked { IsAsked (table_program (program_of B.places B.awaits B.left B.asks B.then)
-        laid.now) seat.old.me.0 rec.old (join_of spare place) }
-    ensures table { seat.new.table_id ≡ seat.old.table_id }
-    ensures lacks { IfErr result (λ why. Lacks why seat.old.me.0 seat.new.me.0) }
-    ensures goes { IfOk result (λ next. Goes (program_of B.places B.awaits B.left B.asks B.then)
-        laid.now next rec.new seat.old.me.0 seat.new.me) }
-    ensures same { rec.new.body ≡ rec.old.body }
-{
-    points_in_rounds::<B>();
-    let h = rec.held.items()[place as usize];
-    if let Sort::Promise = h.sort {
-        return Ok(Next::Ends(Finish::Failed(Hurt::Kind)));
-    }
-    if !laid.strict() {
-        return look(laid, seat, rec, place, spare);
-    }
-    match way_to::<B, Brand>(laid, seat, rec.cell, h, Blank::new(1)) {
-        Way::Other => Ok(Next::Ends(Finish::Failed(Hurt::Order(h.cell)))),
-        Way::Along => look(laid, seat, rec, place, spare),
+    /// The task waits for a task's result. Under the strict rule it fails where it isn't before that
+    /// task in the fork order.
+    #[inline(always)]
+    pub(crate) fn join(&mut self, laid: &Laid<B>, rec: &mut Rec<B>, at: Wanted) -> Result<Next, Why>
+        requires post { IsPostOf P.limit laid.now self.old }
+        requires runs { RunsTask laid.now rec.old self.old.seat.me }
+        requires asked { IsAsked (table_program (program_of B.places B.awaits B.left B.asks B.then)
+            laid.now) self.old.seat.me.0 rec.old (join_of at.spare at.place) }
+        ensures stays { StaysAsked P.limit self.old self.new rec.old rec.new result }
+        ensures goes { IfOk result (λ next. Goes (program_of B.places B.awaits B.left B.asks B.then)
+            laid.now next rec.new self.old.seat.me.0 self.new.seat.me) }
+    {
+        points_in_rounds::<B>();
+        let h = rec.held.items()[at.place as usize];
+        if let Sort::Promise = h.sort {
+            return Ok(Next::Ends(Finish::Failed(Hurt::Kind)));
+        }
+        if !laid.strict() {
+            return self.look(laid, rec, at);
+        }
+        match way_to::<B, Brand>(laid, &mut self.seat, rec.cell, h, Blank::new(1)) {
+            Way::Other => Ok(Next::Ends(Finish::Failed(Hurt::Order(h.cell)))),
+            Way::Along => self.look(laid, rec, at),
+        }
     }
 }
 
 /// The way of a wait of task `t` for the cell.
 #[inline(always)]
-pub(crate) fn way_to<B: Body, L: Ledger>(
+fn way_to<B: Body, L: Ledger>(
     laid: &Laid<B>,
     seat: &mut WSeat<B>,
     t: CellId,
     h: Held,
     blank: Blank,
 ) -> Way
-    requires name { blank.name ≡ L.name }
-    requires parts { blank.parts ≡ L.parts }
-    requires some { 0 < blank.parts }
+    requires blank { OpensLedger blank.name blank.parts L.name L.parts }
     requires table { IsSeatOf laid.now seat.old }
     requires task { IsCellOf laid.now t.0 }
     requires cell { IsCellOf laid.now h.cell.0 }
@@ -112,40 +98,18 @@ pub(crate) fn way_to<B: Body, L: Ledger>(
     }
 }
 
-/// Task `t` blocks on its wait for `q`.
-#[inline(never)]
-pub(crate) fn block_on<B: Body, L: Ledger>(
-    laid: &Laid<B>,
-    seat: &mut WSeat<B>,
-    t: CellId,
-    q: CellId,
-    way: Way,
-    blank: Blank,
-) -> Verdict
-    requires name { blank.name ≡ L.name }
-    requires parts { blank.parts ≡ L.parts }
-    requires some { 0 < blank.parts }
-    requires table { IsSeatOf laid.now seat.old }
-    requires task { IsCellOf laid.now t.0 }
-    requires cell { IsCellOf laid.now q.0 }
-    requires may { MayBlock t.0 q.0 way seat.old.me.0 }
-    ensures seat { IsSameSeat seat.old seat.new }
-    ensures view { Blocked result t.0 q.0 way seat.old.me.0 seat.new.me.0 }
-{
-    let mut steps = Steps::<L>::new(blank);
-    block(laid, seat, t, q, way, &mut steps)
-}
-
 /// The task blocks on its wait for the cell at the place. Tells the cell, the way of the wait and the
 /// verdict.
-#[inline(always)]
-pub(crate) fn block_at<B: Body>(
+#[inline(never)]
+fn block_at<B: Body, L: Ledger>(
     laid: &Laid<B>,
     seat: &mut WSeat<B>,
     rec: &mut Rec<B>,
     place: u32,
     spare: bool,
+    blank: Blank,
 ) -> (CellId, Way, Verdict)
+    requires blank { OpensLedger blank.name blank.parts L.name L.parts }
     requires table { IsSeatOf laid.now seat.old }
     requires runs { RunsTask laid.now rec.old seat.old.me }
     requires waiting { IsWaiting (table_program (program_of B.places B.awaits B.left B.asks B.then)
@@ -159,7 +123,8 @@ pub(crate) fn block_at<B: Body>(
     let t = rec.cell;
     let h = rec.held.items()[place as usize];
     let way = way_to::<B, Brand>(laid, seat, t, h, Blank::new(1));
-    let verdict = block_on::<B, Brand>(laid, seat, t, h.cell, way, Blank::new(1));
+    let mut steps = Steps::<L>::new(blank);
+    let verdict = block(laid, seat, t, h.cell, way, &mut steps);
     rec.answer = Answer::RefAt(place);
     rec.spare = spare;
     (h.cell, way, verdict)
@@ -185,7 +150,7 @@ pub(crate) fn wait<B: Body>(
         laid.now r seat.old.me.0 seat.new.me) }
 {
     let mut rec = rec;
-    let (q, way, verdict) = block_at(laid, seat, &mut rec, place, spare);
+    let (q, way, verdict) = block_at::<B, Brand>(laid, seat, &mut rec, place, spare, Blank::new(1));
     let t = rec.cell;
     match verdict {
         Verdict::Alarm => {

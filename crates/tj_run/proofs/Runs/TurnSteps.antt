@@ -11,7 +11,7 @@ use Rattle.tj_words.specs.Words.Offsets.{live_at, stop_at}
 use Rattle.tj_words.specs.Words.Phases.{phase_word}
 use Rattle.tj_words.specs.SeatViews.Views.{saw_live, saw_stop}
 use Rattle.tj_run.specs.Leaving.{Found, FoundRest, FoundStop, stop_word}
-use Rattle.tj_run.proofs.Seats.FreeSeats.{free_noted, rested_since}
+use Rattle.tj_run.proofs.Seats.FreeSeats.{free_noted, rested_since, workers_same}
 use Rattle.tj_run.proofs.Waiting.WaitConditions.{taken_runs}
 use Rattle.tj_run.proofs.Seats.WorkersSteps.{left_on, workers_on}
 use Rattle.tj_words.specs.declared.phase.Phase.TheVariants as phase
@@ -24,6 +24,19 @@ module _ {B : Type 0} where
   pub stop_seen : (v w : View B) → w ≡ saw_stop 0 v → KnowsMore v w
   stop_seen v w e = subst (λ u. KnowsMore v u) (sym e)
       (more_same v (saw_stop 0 v) (note_of note.Stop 0 v ∷ [], refl))
+
+  -- a free seat that has loaded STOP as 0 is free still
+  pub left_unstopped : (laid : Laid B) (old new : SeatMe B) → IsFree laid old → new.0 ≡ saw_stop 0 old.0
+      → new.1 ≡ old.1 → IsLeft laid old.0 new
+  left_unstopped laid old new free view slots =
+      let w = free.worker in subst (IsLeft laid old.0) (λ i. (sym view i, sym slots i)) (record {
+        knows = stop_seen old.0 (saw_stop 0 old.0) refl;
+        free = record {
+          worker = workers_same laid old.0 (saw_stop 0 old.0) w w.lot w.tokens;
+          tasks = free.tasks;
+          slots = free.slots;
+        };
+      })
 
   -- a free seat whose exchange found that a task isn't ready is free still, and knows what it knew
   pub left_missed : (laid : Laid B) (t : ℕ) (old new : SeatMe B) → IsFree laid old

@@ -1,5 +1,5 @@
 -- How a task that waits leaves its worker, or comes back to it.
-use Rattle.std.specs.Prelude.{◌≡◌, ℕ, Bool, None}
+use Rattle.std.specs.Prelude.{◌≡◌, ℕ, ◌<◌, Bool, None}
 use Rattle.tj_body.specs.declared.ask.Answer.TheVariants as answer
 use Rattle.tj_body.specs.Points.{IsIn}
 use Rattle.tj_body.specs.Programs.{Program}
@@ -21,6 +21,11 @@ use Rattle.tj_detect.specs.declared.blocking.Verdict.{Verdict}
 use Rattle.tj_run.specs.Workers.{IsFree, table_program}
 use Rattle.tj_run.specs.Inner.Carried.{IsWaiting, RunsTask}
 use Rattle.tj_run.specs.Inner.Pieces.{held_at}
+
+-- a blank of this name and with so many parts, of which there are some, opens the ledger that has them
+abbrev pub OpensLedger : ℕ → ℕ → ℕ → ℕ → Type 0
+OpensLedger name parts ledger_name ledger_parts =
+    (name ≡ ledger_name) × (parts ≡ ledger_parts) × (0 < parts)
 
 module _ {B : Type 0} where
   -- the seat knows the held cell, which is of the sort that the record says

@@ -12,20 +12,21 @@ loop-i-init g c = record {
 
 pub loop-i-preserved : goal.loop-i-preserved
 loop-i-preserved g c = let i = c.loop-i.invariant in let e = c.take_turn.ensures in let b = g.B.Body in
-    let now = c.loop-i.seat.me.0 in record {
-      table = e.table ∙ i.table;
-      limit = e.limit ∙ i.limit;
-      left = left_on c.args.laid.now c.args.seat.me.0 now i.left.knows c.take_turn.new.seat.me
+    let now = c.loop-i.post.seat.me.0 in record {
+      table = e.post.0 ∙ i.table;
+      limit = e.post.1 ∙ i.limit;
+      left = left_on c.args.laid.now c.args.seat.me.0 now i.left.knows c.take_turn.new.self.seat.me
           (turns_on (program_of b.places b.awaits b.left b.asks b.then) c.args.laid.now c.take_turn.result
-          c.in_default.is now c.take_turn.new.seat.me e.turns);
+          c.in_default.is now c.take_turn.new.self.seat.me e.turns);
     }
 
 pub returns-in-Some-take_turn-clause-left : goal.returns-in-Some-take_turn-clause-left
 returns-in-Some-take_turn-clause-left g c = let i = c.loop-i.invariant in let b = g.B.Body in
-    leaves_since (program_of b.places b.awaits b.left b.asks b.then) c.args.seat.me.0 c.loop-i.seat.me.0
-    c.in-Some-take_turn.how i.left.knows c.take_turn.new.seat.me c.in-Some-take_turn.ensures.turns
+    leaves_since (program_of b.places b.awaits b.left b.asks b.then) c.args.seat.me.0 c.loop-i.post.seat.me.0
+    c.in-Some-take_turn.how i.left.knows c.take_turn.new.self.seat.me c.in-Some-take_turn.ensures.turns
 
 pub returns-in-Some-take_turn-clause-found : goal.returns-in-Some-take_turn-clause-found
 returns-in-Some-take_turn-clause-found g c = let b = g.B.Body in
     found_since (program_of b.places b.awaits b.left b.asks b.then) c.in-Some-take_turn.how c.args.seat.me.0
-    c.loop-i.seat.me.0 c.take_turn.new.seat.me.0 c.loop-i.invariant.left.knows.notes c.in-Some-take_turn.ensures.found
+    c.loop-i.post.seat.me.0 c.take_turn.new.self.seat.me.0 c.loop-i.invariant.left.knows.notes
+    c.in-Some-take_turn.ensures.found

@@ -5,7 +5,7 @@ use Rattle.tj_run.proofs.turns.worker.Given as goal
 
 abbrev pub invariant-loop-i : goal.invariant-loop-i
 invariant-loop-i g l = record {
-  table : IsSeatOf l.laid l.seat;
-  limit : g.P.Pool.limit l.pool ≡ l.laid.cells;
-  left : IsLeft l.laid l.fn.seat.me.0 l.seat.me;
+  table : IsSeatOf l.laid l.post.seat;
+  limit : g.P.Pool.limit l.post.pool ≡ l.laid.cells;
+  left : IsLeft l.laid l.fn.seat.me.0 l.post.seat.me;
 }

@@ -38,17 +38,17 @@ pub way_to-way-requires-clause-held : goal.way_to-way-requires-clause-held
 way_to-way-requires-clause-held g c κs within =
     held_as (to_wait g (goal.at.way_to-way-requires-clause-held g c).After-items)
 
-pub block_on-verdict-requires-clause-task : goal.block_on-verdict-requires-clause-task
-block_on-verdict-requires-clause-task g c κs within =
-    task_cell (to_wait g (goal.at.block_on-verdict-requires-clause-task g c).After-items)
+pub block-verdict-requires-clause-task : goal.block-verdict-requires-clause-task
+block-verdict-requires-clause-task g c κs within =
+    task_cell (to_wait g (goal.at.block-verdict-requires-clause-task g c).After-items)
 
-pub block_on-verdict-requires-clause-cell : goal.block_on-verdict-requires-clause-cell
-block_on-verdict-requires-clause-cell g c κs within =
-    wait_cell (to_wait g (goal.at.block_on-verdict-requires-clause-cell g c).After-items)
+pub block-verdict-requires-clause-cell : goal.block-verdict-requires-clause-cell
+block-verdict-requires-clause-cell g c κs within =
+    wait_cell (to_wait g (goal.at.block-verdict-requires-clause-cell g c).After-items)
 
-pub block_on-verdict-requires-clause-may : goal.block_on-verdict-requires-clause-may
-block_on-verdict-requires-clause-may g c κs within =
-    let at = goal.at.block_on-verdict-requires-clause-may g c in
+pub block-verdict-requires-clause-may : goal.block-verdict-requires-clause-may
+block-verdict-requires-clause-may g c κs within =
+    let at = goal.at.block-verdict-requires-clause-may g c in
     let y = c.way_to-way in
     block_then (to_wait g at.After-items) y.new.seat.me y.ensures.view y.ensures.seat.2 y.result
     y.ensures.way
@@ -60,7 +60,7 @@ pub returns-clause-cell : goal.returns-clause-cell
 returns-clause-cell g c = wait_cell (to_wait g (goal.at.returns-clause-cell g c).After-items)
 
 pub returns-clause-blocked : goal.returns-clause-blocked
-returns-clause-blocked g c = let y = c.way_to-way in let z = c.block_on-verdict in record {
+returns-clause-blocked g c = let y = c.way_to-way in let z = c.block-verdict in record {
   before = c.args.rec.now;
   place = c.args.place;
   spare = c.args.spare;
@@ -72,6 +72,12 @@ returns-clause-blocked g c = let y = c.way_to-way in let z = c.block_on-verdict 
   read = y.ensures.view;
   looked_slots = y.ensures.seat.2;
   blocked = subst (λ l. Blocked z.result c.args.rec.now.cell.0 (held_at l c.args.place).cell.0 y.result
-      y.new.seat.me.0 z.new.seat.me.0) c.items.ensures z.ensures.view;
+      y.new.seat.me.0 z.new.seat.me.0) c.items.ensures
+      (record {
+        walker = z.ensures.view.walker;
+        steps = z.ensures.view.steps;
+        ends = z.ensures.view.ends;
+        view = z.ensures.view.view;
+      });
   slots = z.ensures.seat.2;
 }

@@ -1,4 +1,4 @@
-use Rattle.tj_run.proofs.Prelude.{no_some, program_of, refl, ◌∙◌}
+use Rattle.tj_run.proofs.Prelude.{no_some, refl, ◌∙◌}
 use Rattle.tj_run.proofs.Waiting.BlockedTasks.{blocked_others, blocked_slot, comes_back, leaves_parked, leaves_shelved}
 use Rattle.tj_run.proofs.Waiting.BlockedTasks.{may_be_parked, may_be_shelved}
 use Rattle.tj_run.proofs.Waiting.WaitConditions.{quiet_either}

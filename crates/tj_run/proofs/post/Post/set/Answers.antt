@@ -1,0 +1,87 @@
+use Rattle.tj_run.proofs.Prelude.{WakesAll, ap, fill_at, held_at, program_of, ◌∙◌, ◌≡◌}
+use Rattle.tj_park.specs.Wakes.{WakesSome}
+use Rattle.tj_run.proofs.Asks.NewThings.{lacks_memory}
+use Rattle.tj_run.proofs.Asks.SetPromises.{IsToSet, not_so, promise_if, sets_about, sets_cell, sets_fills, sets_gives}
+use Rattle.tj_run.proofs.Asks.SetPromises.{sets_goes, sets_notes, sets_task, sets_unowned, sets_wakes}
+use Rattle.tj_run.proofs.post.Post.set.Given.{Over}
+use Rattle.tj_run.proofs.post.Post.set.Goals as goal
+use Rattle.tj_run.proofs.post.Post.set.Goals.{After-fill_at-value, After-items}
+
+-- the task is to set the held cell at the place
+to_set : (g : Over) (c : After-items g)
+    → let b = g.B.Body in let a = c.args in
+    IsToSet (program_of b.places b.awaits b.left b.asks b.then) a.laid.now a.rec.now a.place a.v a.self.now.seat.me
+    (held_at c.items.result.now a.place)
+to_set g c = let l = c.args.laid.now in record {
+  runs = c.requires.runs;
+  asked = c.requires.asked;
+  law = c.points_in_rounds.ensures.ask l.strict l.root.value c.requires.asked.rooted;
+  tell = c.names_and_cells.ensures.cells;
+  is = ap (λ z. held_at z c.args.place) c.items.ensures;
+}
+
+-- the value is the one that the task gives
+value_so : (g : Over) (c : After-fill_at-value g) → c.fill_at-value.result ≡ fill_at c.args.rec.now.held c.args.v
+value_so g c = c.fill_at-value.ensures ∙ ap (λ z. fill_at z c.args.v) c.items-2.ensures
+
+pub returns-in-Task-clause-goes : goal.returns-in-Task-clause-goes
+returns-in-Task-clause-goes g c =
+    sets_task (to_set g (goal.at.returns-in-Task-clause-goes g c).After-items) c.in-Task.is
+
+pub returns-then-not-take_out-clause-goes : goal.returns-then-not-take_out-clause-goes
+returns-then-not-take_out-clause-goes g c = let no = c.if-not-take_out.true in
+    sets_unowned (to_set g (goal.at.returns-then-not-take_out-clause-goes g c).After-items)
+    (promise_if _ c.in_default.not-Task) c.take_out.new.cells (c.take_out.ensures.same no)
+    (not_so c.take_out.result _ c.take_out.ensures.found no)
+
+pub fill-requires-clause-cell : goal.fill-requires-clause-cell
+fill-requires-clause-cell g c κs within = sets_cell (to_set g (goal.at.fill-requires-clause-cell g c).After-items)
+
+pub fill-requires-clause-owner : goal.fill-requires-clause-owner
+fill-requires-clause-owner g c κs within =
+    sets_gives (to_set g (goal.at.fill-requires-clause-owner g c).After-items) (promise_if _ c.in_default.not-Task)
+    (c.take_out.ensures.found.0 c.if-not-take_out.false)
+
+pub fill-requires-clause-value : goal.fill-requires-clause-value
+fill-requires-clause-value g c κs within = let at = goal.at.fill-requires-clause-value g c in let l = c.args.laid.now in
+    sets_fills (to_set g at.After-items) (promise_if _ c.in_default.not-Task)
+    (c.take_out.ensures.found.0 c.if-not-take_out.false) c.fill_at-value.result (value_so g at.After-fill_at-value)
+    (c.points_in_rounds.ensures.written l.strict l.root.value c.requires.asked.rooted)
+
+pub wake-requires-clause-cell : goal.wake-requires-clause-cell
+wake-requires-clause-cell g c κs within = sets_cell (to_set g (goal.at.wake-requires-clause-cell g c).After-items)
+
+pub wake-requires-clause-may : goal.wake-requires-clause-may
+wake-requires-clause-may g c κs within = let at = goal.at.wake-requires-clause-may g c in
+    sets_wakes (to_set g at.After-items) (promise_if _ c.in_default.not-Task)
+    (c.take_out.ensures.found.0 c.if-not-take_out.false) c.fill_at-value.result (value_so g at.After-fill_at-value)
+    c.fill.new.seat.me c.fill.ensures.view c.fill.ensures.seat.2
+
+pub returns-in_err-wake-clause-stays : goal.returns-in_err-wake-clause-stays
+returns-in_err-wake-clause-stays g c = let at = goal.at.returns-in_err-wake-clause-stays g c in
+    let to = to_set g at.After-items in let promise = promise_if _ c.in_default.not-Task in
+    let found = c.take_out.ensures.found.0 c.if-not-take_out.false in let is = value_so g at.After-fill_at-value in
+    let h = held_at c.items.result.now c.args.place in
+    let some : WakesSome g.P.Pool.puts g.P.Pool.same h.cell.0 c.fill.new.seat.me.0
+    c.wake.new.seat.me.0 c.args.self.now.pool c.wake.new.pool = c.in_err-wake.ensures.memory in (
+      search,
+      (
+        (c.wake.ensures.seat.0 ∙ c.fill.ensures.seat.0, c.wake.ensures.limit),
+        lacks_memory c.args.self.now.seat.me.0 c.wake.new.seat.me.0
+            (ap (λ u. u.about) some.woke.view ∙ sets_about to promise found c.fill_at-value.result is c.fill.new.seat.me
+            c.fill.ensures.view c.fill.ensures.seat.2)
+            (sets_notes to promise found c.fill_at-value.result is c.fill.new.seat.me c.fill.ensures.view
+            c.fill.ensures.seat.2 _ _ c.wake.new.seat.me.0 some.woke)
+            c.from_residual.result c.from_residual.ensures.1,
+      ),
+    )
+
+pub returns-clause-goes : goal.returns-clause-goes
+returns-clause-goes g c = let at = goal.at.returns-clause-goes g c in
+    let h = held_at c.items.result.now c.args.place in
+    let woke : WakesAll g.P.Pool.puts h.cell.0 c.in_ok-wake.field-0 c.fill.new.seat.me.0
+    c.wake.new.seat.me.0 c.args.self.now.pool c.wake.new.pool = c.in_ok-wake.ensures.woke in
+    sets_goes (to_set g at.After-items) (promise_if _ c.in_default.not-Task)
+    (c.take_out.ensures.found.0 c.if-not-take_out.false) c.fill_at-value.result (value_so g at.After-fill_at-value)
+    c.fill.new.seat.me c.fill.ensures.view c.fill.ensures.seat.2 woke.chain c.wake.new.seat.me woke.woke
+    c.wake.ensures.seat.2 c.take_out.new.cells (c.take_out.ensures.without c.if-not-take_out.false)

@@ -1,4 +1,0 @@
-use Rattle.tj_run.proofs.waits.join.Given as goal
-
-abbrev pub ghosts-way_to : goal.ghosts-way_to
-ghosts-way_to g a = record { name = a.blank.name; parts = a.blank.parts }

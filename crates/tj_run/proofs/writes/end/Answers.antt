@@ -1,8 +1,0 @@
-use Rattle.tj_run.proofs.Prelude.{program_of}
-use Rattle.tj_run.proofs.Runs.EndConditions.{may_finish}
-use Rattle.tj_run.proofs.writes.end.Goals as goal
-
-pub finish-requires-clause-may : goal.finish-requires-clause-may
-finish-requires-clause-may g c κs within = let b = g.B.Body in
-    may_finish (program_of b.places b.awaits b.left b.asks b.then) c.args.laid.now c.args.rec c.args.ending
-    c.args.seat.now.me c.requires.runs c.requires.closing
