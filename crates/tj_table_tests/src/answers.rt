@@ -8,7 +8,7 @@ ghost use Rattle.tj_words.specs.SeatViews.SeatSteps.{IsSeatOf};
 ghost use Rattle.tj_words.specs.SeatViews.Views.{IsIdle};
 ghost use Rattle.tj_run.specs.Workers.{IsFree, table_program};
 
-use crate::written::{self, Says, lists_of};
+use crate::written::{self, Says, TO_A_READER, lists_of};
 use futures::Future;
 use futures::task::{Doorbell, Poll, Solo};
 use futures::test::MockTask;
@@ -78,15 +78,7 @@ const LOOKS: &[(&str, &[&[Says]], u32, CellId, Watched)] = &[
     ),
     (
         "a child that waits for a promise that is owed is broken",
-        &[
-            &[
-                Says::New,
-                Says::Fork(1, &[1], &[]),
-                Says::Fork(2, &[1], &[1]),
-            ],
-            &[Says::Get(1)],
-            &[Says::End(7)],
-        ],
+        &[TO_A_READER, &[Says::Get(1)], &[Says::End(7)]],
         4,
         CellId(2),
         Watched::Broken,
@@ -94,15 +86,7 @@ const LOOKS: &[(&str, &[&[Says]], u32, CellId, Watched)] = &[
 ];
 
 /// The root forks a child that gets its promise, and one that sets it.
-const READ: &[&[Says]] = &[
-    &[
-        Says::New,
-        Says::Fork(1, &[1], &[]),
-        Says::Fork(2, &[1], &[1]),
-    ],
-    &[Says::Get(1)],
-    &[Says::Set(1, 5)],
-];
+const READ: &[&[Says]] = &[TO_A_READER, &[Says::Get(1)], &[Says::Set(1, 5)]];
 
 /// The table of one task, which makes a promise, sets it to 5, and ends with 7.
 fn one_promise(alloc: Global) -> Result<[RowList; 1], Oom>

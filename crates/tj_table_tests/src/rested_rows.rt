@@ -1,6 +1,6 @@
 //! What tasks that wait come to, in runs by one worker: an alarm on an own promise, an alarm along the order
 //! beside a task that is parked, a join that is woken, a task that is woken, and a promise that is broken.
-use crate::written::{Says, lists_of, root_of};
+use crate::written::{Says, TO_A_READER, lists_of, root_of};
 use std::alloc::Global;
 use std::process::Abort;
 use std::sync::Wait;
@@ -60,15 +60,7 @@ const ROWS: &[(&str, &[&[Says]], u32, &[(Phase, u64)])] = &[
     ),
     (
         "a task is parked on a promise, woken as another sets it, and given by the pool again",
-        &[
-            &[
-                Says::New,
-                Says::Fork(1, &[1], &[]),
-                Says::Fork(2, &[1], &[1]),
-            ],
-            &[Says::Get(1)],
-            &[Says::Set(1, 5)],
-        ],
+        &[TO_A_READER, &[Says::Get(1)], &[Says::Set(1, 5)]],
         4,
         &[
             (Phase::Ended, NUMBER),
@@ -79,15 +71,7 @@ const ROWS: &[(&str, &[&[Says]], u32, &[(Phase, u64)])] = &[
     ),
     (
         "a task ends that owes a promise, and who waits for it is woken and fails",
-        &[
-            &[
-                Says::New,
-                Says::Fork(1, &[1], &[]),
-                Says::Fork(2, &[1], &[1]),
-            ],
-            &[Says::Get(1)],
-            &[Says::Emit(8)],
-        ],
+        &[TO_A_READER, &[Says::Get(1)], &[Says::Emit(8)]],
         4,
         &[
             (Phase::Ended, NUMBER),

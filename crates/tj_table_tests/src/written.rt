@@ -33,6 +33,13 @@ pub(crate) enum Says {
     Tells(u32),
 }
 
+/// The root makes a promise, and forks a child that gets it and then one that owns it.
+pub(crate) const TO_A_READER: &[Says] = &[
+    Says::New,
+    Says::Fork(1, &[1], &[]),
+    Says::Fork(2, &[1], &[1]),
+];
+
 /// The lists of rows that are written so.
 pub(crate) fn lists_of(alloc: Global, written: &[&[Says]]) -> Result<Vec<RowList>, Oom> {
     let mut lists = Vec::new(alloc);
