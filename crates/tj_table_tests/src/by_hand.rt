@@ -1,5 +1,5 @@
 //! A task that a test runs by hand: a seat claims it, and makes the calls that a worker makes for each ask.
-ghost use Rattle.std.specs.Prelude.{◌≡◌, ◌<◌, ◌∷◌, [], None};
+ghost use Rattle.std.specs.Prelude.{◌≡◌, ◌<◌, ◌∷◌, [], None, false};
 ghost use Rattle.tj_body.specs.declared.ask.Answer.TheVariants.{Start};
 ghost use Rattle.tj_body.specs.Programs.{program_of};
 ghost use Rattle.tj_words.specs.Calls.ExchangeViews.{KnowsTable};
@@ -9,7 +9,7 @@ ghost use Rattle.tj_detect.specs.Blocks.{MayBlock};
 ghost use Rattle.tj_run.specs.Workers.{table_program};
 ghost use Rattle.tj_run.specs.Inner.Carried.{IsAsked, RunsTask};
 ghost use Rattle.tj_run.specs.Inner.Pieces.{child_record};
-ghost use Rattle.tj_run.specs.Inner.Waits.{Blocked};
+ghost use Rattle.tj_run.specs.Inner.Waits.{Blocked, waits_at};
 ghost use Rattle.tj_table_tests.specs.ByHand.{IsRun, MayBegin};
 
 use std::alloc::Global;
@@ -24,104 +24,176 @@ use tj_park::{claim, release};
 use tj_ready::Pool;
 use tj_words::{Held, Laid, Rec, WSeat, Way};
 
-/// Claims a task that is to begin, whatever else the seat has.
-pub(crate) fn claim_first<B: Body, R: Abort>(
-    rt: &R,
-    laid: &Laid<B>,
-    seat: &mut WSeat<B>,
-    t: CellId,
-) -> Rec<B>
-    requires table { IsSeatOf laid.now seat.old }
-    requires cell { IsCellOf laid.now t.0 }
-    requires knows { KnowsTable seat.old.me.0 }
-    ensures table { seat.new.table_id ≡ seat.old.table_id }
-    ensures claimed { Claimed (program_of B.places B.awaits B.left B.asks B.then) t.0 result
-        seat.old.me.0 seat.new.me.0 }
-    ensures slot { seat.new.me.1 ≡ (t.0, None) ∷ seat.old.me.1 }
-    ensures start { result.answer ≡ Start }
-{
-    let rec = claim(laid, seat, t).expect(rt, "it is ready");
-    let Answer::Start = rec.answer else {
-        panic!(rt; "it begins");
-    };
-    rec
+/// A table whose tasks a test runs by hand, the allocator, and what the calls run on.
+#[derive(Drop)]
+pub(crate) struct Hand<'t, B: Body, R> {
+    pub(crate) rt: &'t R,
+    pub(crate) alloc: Global,
+    pub(crate) laid: Laid<B>,
 }
 
-/// A free seat claims a task that is to begin.
-pub(crate) fn begin<B: Body, R: Abort>(
-    rt: &R,
-    laid: &Laid<B>,
-    seat: &mut WSeat<B>,
-    t: CellId,
-) -> Rec<B>
-    requires table { IsSeatOf laid.now seat.old }
-    requires begins { MayBegin (program_of B.places B.awaits B.left B.asks B.then) laid.now t.0
-        seat.old.me }
-    ensures table { seat.new.table_id ≡ seat.old.table_id }
-    ensures runs { IsRun (program_of B.places B.awaits B.left B.asks B.then) laid.now result
-        seat.new.me }
-{
-    claim_first(rt, laid, seat, t)
-}
+impl<B: Body, R: Wait + Abort> Hand<'_, B, R> {
+    /// Claims a task that is to begin, whatever else the seat has.
+    pub(crate) fn claim_first(&self, seat: &mut WSeat<B>, t: CellId) -> Rec<B>
+        requires table { IsSeatOf self.now.laid seat.old }
+        requires cell { IsCellOf self.now.laid t.0 }
+        requires knows { KnowsTable seat.old.me.0 }
+        ensures table { seat.new.table_id ≡ seat.old.table_id }
+        ensures claimed { Claimed (program_of B.places B.awaits B.left B.asks B.then) t.0 result
+            seat.old.me.0 seat.new.me.0 }
+        ensures slot { seat.new.me.1 ≡ (t.0, None) ∷ seat.old.me.1 }
+        ensures start { result.answer ≡ Start }
+    {
+        let rec = claim(&self.laid, seat, t).expect(self.rt, "it is ready");
+        let Answer::Start = rec.answer else {
+            panic!(self.rt; "it begins");
+        };
+        rec
+    }
 
-/// The body of a task that runs is given the record's answer, and asks.
-pub(crate) fn ask<B: Body, R: Abort>(
-    rt: &R,
-    alloc: Global,
-    laid: &Laid<B>,
-    seat: &WSeat<B>,
-    rec: Rec<B>,
-) -> (Rec<B>, Ask<B>)
-    requires runs { IsRun (program_of B.places B.awaits B.left B.asks B.then) laid.now rec
-        seat.now.me }
-    ensures runs { RunsTask laid.now result.0 seat.now.me }
-    ensures asked { IsAsked (table_program (program_of B.places B.awaits B.left B.asks B.then)
-        laid.now) seat.now.me.0 result.0 result.1 }
-{
-    let _ = laid;
-    let _ = seat;
-    points_in_rounds::<B>();
-    let mut rec = rec;
-    let Ok(asked) = rec.body.next(alloc, rec.answer) else {
-        panic!(rt; "no memory");
-    };
-    (rec, asked)
-}
+    /// A free seat claims a task that is to begin.
+    pub(crate) fn begin(&self, seat: &mut WSeat<B>, t: CellId) -> Rec<B>
+        requires table { IsSeatOf self.now.laid seat.old }
+        requires begins { MayBegin (program_of B.places B.awaits B.left B.asks B.then)
+            self.now.laid t.0 seat.old.me }
+        ensures table { seat.new.table_id ≡ seat.old.table_id }
+        ensures runs { IsRun (program_of B.places B.awaits B.left B.asks B.then)
+            self.now.laid result seat.new.me }
+    {
+        self.claim_first(seat, t)
+    }
 
-/// A task that runs makes a promise.
-pub(crate) fn to_promise<B: Body, R: Abort>(
-    rt: &R,
-    alloc: Global,
-    laid: &Laid<B>,
-    seat: &mut WSeat<B>,
-    rec: Rec<B>,
-) -> Rec<B>
-    requires table { IsSeatOf laid.now seat.old }
-    requires runs { IsRun (program_of B.places B.awaits B.left B.asks B.then) laid.now rec
-        seat.old.me }
-    ensures table { seat.new.table_id ≡ seat.old.table_id }
-    ensures runs { IsRun (program_of B.places B.awaits B.left B.asks B.then) laid.now result
-        seat.new.me }
-{
-    points_in_rounds::<B>();
-    let (mut rec, asked) = ask(rt, alloc, laid, seat, rec);
-    let Ask::New = asked else {
-        panic!(rt; "it makes a promise");
-    };
-    let Ok(c) = make(laid, seat, rec.cell, rec.made + 1) else {
-        panic!(rt; "a cell is left");
-    };
-    rec.answer = Answer::Local(rec.held.items().len() as u32);
-    let cell = c;
-    let sort = Sort::Promise;
-    let Ok(()) = rec.held.push(Held { cell, sort }) else {
-        panic!(rt; "no memory");
-    };
-    let Ok(()) = rec.owned.push(c) else {
-        panic!(rt; "no memory");
-    };
-    rec.made += 1;
-    rec
+    /// The body of a task that runs is given the record's answer, and asks.
+    pub(crate) fn ask(&self, seat: &WSeat<B>, rec: Rec<B>) -> (Rec<B>, Ask<B>)
+        requires runs { IsRun (program_of B.places B.awaits B.left B.asks B.then)
+            self.now.laid rec seat.now.me }
+        ensures runs { RunsTask self.now.laid result.0 seat.now.me }
+        ensures asked { IsAsked (table_program (program_of B.places B.awaits B.left B.asks B.then)
+            self.now.laid) seat.now.me.0 result.0 result.1 }
+    {
+        let _ = seat;
+        points_in_rounds::<B>();
+        let mut rec = rec;
+        let Ok(asked) = rec.body.next(self.alloc, rec.answer) else {
+            panic!(self.rt; "no memory");
+        };
+        (rec, asked)
+    }
+
+    /// A task that runs makes a promise.
+    pub(crate) fn to_promise(&self, seat: &mut WSeat<B>, rec: Rec<B>) -> Rec<B>
+        requires table { IsSeatOf self.now.laid seat.old }
+        requires runs { IsRun (program_of B.places B.awaits B.left B.asks B.then)
+            self.now.laid rec seat.old.me }
+        ensures table { seat.new.table_id ≡ seat.old.table_id }
+        ensures runs { IsRun (program_of B.places B.awaits B.left B.asks B.then)
+            self.now.laid result seat.new.me }
+    {
+        points_in_rounds::<B>();
+        let (mut rec, asked) = self.ask(seat, rec);
+        let Ask::New = asked else {
+            panic!(self.rt; "it makes a promise");
+        };
+        let Ok(c) = make(&self.laid, seat, rec.cell, rec.made + 1) else {
+            panic!(self.rt; "a cell is left");
+        };
+        rec.answer = Answer::Local(rec.held.items().len() as u32);
+        let cell = c;
+        let sort = Sort::Promise;
+        let Ok(()) = rec.held.push(Held { cell, sort }) else {
+            panic!(self.rt; "no memory");
+        };
+        let Ok(()) = rec.owned.push(c) else {
+            panic!(self.rt; "no memory");
+        };
+        rec.made += 1;
+        rec
+    }
+
+    /// A task that runs forks a child, to which it passes one cell and hands none.
+    pub(crate) fn to_child<P: Pool>(&self, seat: &mut WSeat<B>, rec: Rec<B>, pool: &mut P) -> Rec<B>
+        requires table { IsSeatOf self.now.laid seat.old }
+        requires runs { IsRun (program_of B.places B.awaits B.left B.asks B.then)
+            self.now.laid rec seat.old.me }
+        requires pool { P.limit pool.old ≡ self.now.laid.cells }
+        ensures table { seat.new.table_id ≡ seat.old.table_id }
+        ensures limit { P.limit pool.new ≡ P.limit pool.old }
+        ensures runs { IsRun (program_of B.places B.awaits B.left B.asks B.then)
+            self.now.laid result seat.new.me }
+    {
+        points_in_rounds::<B>();
+        names_and_cells();
+        let (mut rec, asked) = self.ask(seat, rec);
+        let Ask::Fork { body, pass, hand } = asked else {
+            panic!(self.rt; "it forks a child");
+        };
+        if hand.items().len() != 0 {
+            panic!(self.rt; "nothing is handed");
+        }
+        if pass.items().len() != 1 {
+            panic!(self.rt; "one cell is passed");
+        }
+        let place = pass.items()[0];
+        let passed = rec.held.items()[place as usize];
+        let Ok(c) = birth(&self.laid, seat, rec.cell, rec.made + 1) else {
+            panic!(self.rt; "a cell is left");
+        };
+        let child = child_of(self.rt, self.alloc, c, body, passed);
+        let Ok(()) = release(self.rt, self.alloc, &self.laid, seat, c, child, pool) else {
+            panic!(self.rt; "no memory");
+        };
+        rec.answer = Answer::Local(rec.held.items().len() as u32);
+        let cell = c;
+        let sort = Sort::Task;
+        let Ok(()) = rec.held.push(Held { cell, sort }) else {
+            panic!(self.rt; "no memory");
+        };
+        rec.made += 1;
+        rec
+    }
+
+    /// Claims the root, which makes a promise and forks a child.
+    pub(crate) fn to_fork<P: Pool>(&self, seat: &mut WSeat<B>, pool: &mut P) -> Rec<B>
+        requires table { IsSeatOf self.now.laid seat.old }
+        requires begins { MayBegin (program_of B.places B.awaits B.left B.asks B.then)
+            self.now.laid 0 seat.old.me }
+        requires pool { P.limit pool.old ≡ self.now.laid.cells }
+        ensures table { seat.new.table_id ≡ seat.old.table_id }
+        ensures limit { P.limit pool.new ≡ P.limit pool.old }
+        ensures runs { IsRun (program_of B.places B.awaits B.left B.asks B.then)
+            self.now.laid result seat.new.me }
+    {
+        let root = self.begin(seat, CellId(0));
+        let rec = self.to_promise(seat, root);
+        self.to_child(seat, rec, pool)
+    }
+
+    /// A task blocks on its wait for `q`, the promise at the place, and notes in its record what it waits for.
+    pub(crate) fn block_at<L: Ledger>(
+        &self,
+        seat: &mut WSeat<B>,
+        rec: &mut Rec<B>,
+        place: u32,
+        q: CellId,
+        blank: Blank,
+    ) -> Verdict
+        requires name { blank.name ≡ L.name }
+        requires parts { blank.parts ≡ L.parts }
+        requires some { 0 < blank.parts }
+        requires table { IsSeatOf self.now.laid seat.old }
+        requires task { IsCellOf self.now.laid rec.old.cell.0 }
+        requires cell { IsCellOf self.now.laid q.0 }
+        requires may { MayBlock rec.old.cell.0 q.0 Way.Other seat.old.me.0 }
+        ensures seat { IsSameSeat seat.old seat.new }
+        ensures view { Blocked result rec.old.cell.0 q.0 Way.Other seat.old.me.0 seat.new.me.0 }
+        ensures rec { rec.new ≡ waits_at place false rec.old }
+    {
+        let mut steps = Steps::<L>::new(blank);
+        let verdict = block(&self.laid, seat, rec.cell, q, Way::Other, &mut steps);
+        rec.answer = Answer::RefAt(place);
+        rec.spare = false;
+        verdict
+    }
 }
 
 // The record of a child that holds itself and what it is passed, and owns its result.
@@ -150,98 +222,4 @@ fn child_of<B: Drop, R: Abort>(rt: &R, alloc: Global, c: CellId, body: B, passed
         finish: None,
         spare: false,
     }
-}
-
-/// A task that runs forks a child, to which it passes one cell and hands none.
-pub(crate) fn to_child<B: Body, P: Pool, R: Wait + Abort>(
-    rt: &R,
-    alloc: Global,
-    laid: &Laid<B>,
-    seat: &mut WSeat<B>,
-    rec: Rec<B>,
-    pool: &mut P,
-) -> Rec<B>
-    requires table { IsSeatOf laid.now seat.old }
-    requires runs { IsRun (program_of B.places B.awaits B.left B.asks B.then) laid.now rec
-        seat.old.me }
-    requires pool { P.limit pool.old ≡ laid.now.cells }
-    ensures table { seat.new.table_id ≡ seat.old.table_id }
-    ensures limit { P.limit pool.new ≡ P.limit pool.old }
-    ensures runs { IsRun (program_of B.places B.awaits B.left B.asks B.then) laid.now result
-        seat.new.me }
-{
-    points_in_rounds::<B>();
-    names_and_cells();
-    let (mut rec, asked) = ask(rt, alloc, laid, seat, rec);
-    let Ask::Fork { body, pass, hand } = asked else {
-        panic!(rt; "it forks a child");
-    };
-    if hand.items().len() != 0 {
-        panic!(rt; "nothing is handed");
-    }
-    if pass.items().len() != 1 {
-        panic!(rt; "one cell is passed");
-    }
-    let place = pass.items()[0];
-    let passed = rec.held.items()[place as usize];
-    let Ok(c) = birth(laid, seat, rec.cell, rec.made + 1) else {
-        panic!(rt; "a cell is left");
-    };
-    let child = child_of(rt, alloc, c, body, passed);
-    let Ok(()) = release(rt, alloc, laid, seat, c, child, pool) else {
-        panic!(rt; "no memory");
-    };
-    rec.answer = Answer::Local(rec.held.items().len() as u32);
-    let cell = c;
-    let sort = Sort::Task;
-    let Ok(()) = rec.held.push(Held { cell, sort }) else {
-        panic!(rt; "no memory");
-    };
-    rec.made += 1;
-    rec
-}
-
-/// Claims the root, which makes a promise and forks a child.
-pub(crate) fn to_fork<B: Body, P: Pool, R: Wait + Abort>(
-    rt: &R,
-    alloc: Global,
-    laid: &Laid<B>,
-    seat: &mut WSeat<B>,
-    pool: &mut P,
-) -> Rec<B>
-    requires table { IsSeatOf laid.now seat.old }
-    requires begins { MayBegin (program_of B.places B.awaits B.left B.asks B.then) laid.now 0
-        seat.old.me }
-    requires pool { P.limit pool.old ≡ laid.now.cells }
-    ensures table { seat.new.table_id ≡ seat.old.table_id }
-    ensures limit { P.limit pool.new ≡ P.limit pool.old }
-    ensures runs { IsRun (program_of B.places B.awaits B.left B.asks B.then) laid.now result
-        seat.new.me }
-{
-    let root = begin(rt, laid, seat, CellId(0));
-    let rec = to_promise(rt, alloc, laid, seat, root);
-    to_child(rt, alloc, laid, seat, rec, pool)
-}
-
-/// Task `t` blocks on its wait for `q`.
-pub(crate) fn block_on<B: Body, L: Ledger>(
-    laid: &Laid<B>,
-    seat: &mut WSeat<B>,
-    t: CellId,
-    q: CellId,
-    way: Way,
-    blank: Blank,
-) -> Verdict
-    requires name { blank.name ≡ L.name }
-    requires parts { blank.parts ≡ L.parts }
-    requires some { 0 < blank.parts }
-    requires table { IsSeatOf laid.now seat.old }
-    requires task { IsCellOf laid.now t.0 }
-    requires cell { IsCellOf laid.now q.0 }
-    requires may { MayBlock t.0 q.0 way seat.old.me.0 }
-    ensures seat { IsSameSeat seat.old seat.new }
-    ensures view { Blocked result t.0 q.0 way seat.old.me.0 seat.new.me.0 }
-{
-    let mut steps = Steps::<L>::new(blank);
-    block(laid, seat, t, q, way, &mut steps)
 }

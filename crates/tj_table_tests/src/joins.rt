@@ -5,10 +5,8 @@ ghost use Rattle.tj_body.specs.Programs.{program_of};
 ghost use Rattle.tj_words.specs.SeatViews.SeatSteps.{IsCellOf, IsSeatOf};
 ghost use Rattle.tj_table_tests.specs.ByHand.{IsRun, MayBegin};
 
-use crate::beside::park_beside;
-use crate::by_hand::{ask, begin, to_child, to_fork};
+use crate::by_hand::Hand;
 use crate::written::{Says, lists_of, one_end, table_of};
-use std::alloc::Global;
 use std::marker::Brand;
 use std::process::Abort;
 use std::sync::Wait;
@@ -18,79 +16,65 @@ use tj_base::{CellId, Sort, Steps};
 use tj_body::{Ask, Body, points_in_rounds};
 use tj_detect::{Verdict, block, way_of};
 use tj_ready::{LockedPool, Pool};
-use tj_words::{Laid, Rec, WSeat, Way};
+use tj_words::{Rec, WSeat, Way};
 
-/// A task that runs joins a task that it is before in the fork order, and blocks. Tells the verdict.
-fn joins<B: Body, L: Ledger, R: Abort>(
-    rt: &R,
-    alloc: Global,
-    laid: &Laid<B>,
-    seat: &mut WSeat<B>,
-    rec: Rec<B>,
-    blank: Blank,
-) -> Verdict
-    requires name { blank.name ≡ L.name }
-    requires parts { blank.parts ≡ L.parts }
-    requires some { 0 < blank.parts }
-    requires table { IsSeatOf laid.now seat.old }
-    requires runs { IsRun (program_of B.places B.awaits B.left B.asks B.then) laid.now rec
-        seat.old.me }
-{
-    points_in_rounds::<B>();
-    let (rec, asked) = ask(rt, alloc, laid, seat, rec);
-    let Ask::Join { t } = asked else {
-        panic!(rt; "it joins");
-    };
-    let h = rec.held.items()[t as usize];
-    let Sort::Task = h.sort else {
-        panic!(rt; "a task");
-    };
-    let mut steps = Steps::<L>::new(blank);
-    let Way::Along = way_of(laid, seat, rec.cell, h.cell, &mut steps) else {
-        panic!(rt; "along the order");
-    };
-    block(laid, seat, rec.cell, h.cell, Way::Along, &mut steps)
-}
+impl<B: Body, R: Wait + Abort> Hand<'_, B, R> {
+    /// A task that runs joins a task that it is before in the fork order, and blocks. Tells the verdict.
+    fn joins<L: Ledger>(&self, seat: &mut WSeat<B>, rec: Rec<B>, blank: Blank) -> Verdict
+        requires name { blank.name ≡ L.name }
+        requires parts { blank.parts ≡ L.parts }
+        requires some { 0 < blank.parts }
+        requires table { IsSeatOf self.now.laid seat.old }
+        requires runs { IsRun (program_of B.places B.awaits B.left B.asks B.then)
+            self.now.laid rec seat.old.me }
+    {
+        points_in_rounds::<B>();
+        let (rec, asked) = self.ask(seat, rec);
+        let Ask::Join { t } = asked else {
+            panic!(self.rt; "it joins");
+        };
+        let h = rec.held.items()[t as usize];
+        let Sort::Task = h.sort else {
+            panic!(self.rt; "a task");
+        };
+        let mut steps = Steps::<L>::new(blank);
+        let Way::Along = way_of(&self.laid, seat, rec.cell, h.cell, &mut steps) else {
+            panic!(self.rt; "along the order");
+        };
+        block(&self.laid, seat, rec.cell, h.cell, Way::Along, &mut steps)
+    }
 
-/// The root forks a child, and the other seat claims it; then the root joins it.
-fn join_started<B: Body, P: Pool, R: Wait + Abort>(
-    rt: &R,
-    alloc: Global,
-    laid: &Laid<B>,
-    seat: &mut WSeat<B>,
-    other: &mut WSeat<B>,
-    pool: &mut P,
-) -> Verdict
-    requires table { IsSeatOf laid.now seat.old }
-    requires other_table { IsSeatOf laid.now other.old }
-    requires begins { MayBegin (program_of B.places B.awaits B.left B.asks B.then) laid.now 0
-        seat.old.me }
-    requires other_begins { MayBegin (program_of B.places B.awaits B.left B.asks B.then) laid.now 1
-        other.old.me }
-    requires pool { P.limit pool.old ≡ laid.now.cells }
-{
-    let root = begin(rt, laid, seat, CellId(0));
-    let rec = to_child(rt, alloc, laid, seat, root, pool);
-    drop(begin(rt, laid, other, CellId(1)));
-    joins::<B, Brand, R>(rt, alloc, laid, seat, rec, Blank::new(1))
-}
+    /// The root forks a child, and the other seat claims it; then the root joins it.
+    fn join_started<P: Pool>(
+        &self,
+        seat: &mut WSeat<B>,
+        other: &mut WSeat<B>,
+        pool: &mut P,
+    ) -> Verdict
+        requires table { IsSeatOf self.now.laid seat.old }
+        requires other_table { IsSeatOf self.now.laid other.old }
+        requires begins { MayBegin (program_of B.places B.awaits B.left B.asks B.then)
+            self.now.laid 0 seat.old.me }
+        requires other_begins { MayBegin (program_of B.places B.awaits B.left B.asks B.then)
+            self.now.laid 1 other.old.me }
+        requires pool { P.limit pool.old ≡ self.now.laid.cells }
+    {
+        let root = self.begin(seat, CellId(0));
+        let rec = self.to_child(seat, root, pool);
+        drop(self.begin(other, CellId(1)));
+        self.joins::<Brand>(seat, rec, Blank::new(1))
+    }
 
-/// A child waits for a promise of the task that runs; then the task joins the child.
-fn join_beside<B: Body, R: Abort>(
-    rt: &R,
-    alloc: Global,
-    laid: &Laid<B>,
-    seat: &mut WSeat<B>,
-    rec: Rec<B>,
-    child: CellId,
-) -> Verdict
-    requires table { IsSeatOf laid.now seat.old }
-    requires child { IsCellOf laid.now child.0 }
-    requires runs { IsRun (program_of B.places B.awaits B.left B.asks B.then) laid.now rec
-        seat.old.me }
-{
-    park_beside(rt, alloc, laid, seat, &rec, child);
-    joins::<B, Brand, R>(rt, alloc, laid, seat, rec, Blank::new(1))
+    /// A child waits for a promise of the task that runs; then the task joins the child.
+    fn join_beside(&self, seat: &mut WSeat<B>, rec: Rec<B>, child: CellId) -> Verdict
+        requires table { IsSeatOf self.now.laid seat.old }
+        requires child { IsCellOf self.now.laid child.0 }
+        requires runs { IsRun (program_of B.places B.awaits B.left B.asks B.then)
+            self.now.laid rec seat.old.me }
+    {
+        self.park_beside(seat, &rec, child);
+        self.joins::<Brand>(seat, rec, Blank::new(1))
+    }
 }
 
 /// The root forks a child, to which it passes itself, and joins it.
@@ -107,9 +91,9 @@ fn a_join_of_a_started_child_is_skipped(rt: HostRuntime) -> Result<(), Fail> {
     let a = rt.alloc();
     let lists = lists_of(a, STARTED)?;
     let mut pool = one_end::<LockedPool, HostRuntime>(&rt, a, 2);
-    let (laid, seat) = table_of(&rt, a, &lists, 2);
-    let (mut first, mut second) = laid.split(seat);
-    let verdict = join_started(&rt, a, &laid, &mut first, &mut second, &mut pool);
+    let (hand, seat) = table_of(&rt, a, &lists, 2);
+    let (mut first, mut second) = hand.laid.split(seat);
+    let verdict = hand.join_started(&mut first, &mut second, &mut pool);
     assert!(rt; verdict == Verdict::Skipped, "no other wait stands");
     Ok(())
 }
@@ -119,9 +103,9 @@ fn a_cycle_of_two_tasks_of_one_seat_alarms(rt: HostRuntime) -> Result<(), Fail> 
     let a = rt.alloc();
     let lists = lists_of(a, CYCLE)?;
     let mut pool = one_end::<LockedPool, HostRuntime>(&rt, a, 3);
-    let (laid, mut seat) = table_of(&rt, a, &lists, 3);
-    let root = to_fork(&rt, a, &laid, &mut seat, &mut pool);
-    let verdict = join_beside(&rt, a, &laid, &mut seat, root, CellId(2));
+    let (hand, mut seat) = table_of(&rt, a, &lists, 3);
+    let root = hand.to_fork(&mut seat, &mut pool);
+    let verdict = hand.join_beside(&mut seat, root, CellId(2));
     assert!(rt;
         verdict == Verdict::Alarm,
         "the child waits for its promise"

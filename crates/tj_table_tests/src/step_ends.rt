@@ -13,118 +13,111 @@ ghost use Rattle.tj_run.specs.Inner.Waits.{IsLeft};
 ghost use Rattle.tj_table_tests.specs.ByHand.{IsRun, MayBegin};
 ghost use Rattle.tj_table_tests.specs.EndsAlone.{EndsAlone};
 
-use crate::by_hand::ask;
+use crate::by_hand::Hand;
 use crate::written::table_of;
 use std::alloc::Global;
 use std::process::Abort;
+use std::sync::Wait;
 use std::test::Fail;
 use tj_base::{CellId, Items, Pay};
 use tj_body::{Answer, Ask, Body, RowList, TableBody, names_and_cells, points_in_rounds};
-use tj_words::{Fill, Finish, Head, Laid, Once, Phase, Rec, RestWords, WSeat, value_words};
+use tj_words::{Fill, Finish, Head, Once, Phase, Rec, RestWords, WSeat, value_words};
 
-/// Claims a ready task in two steps: PHASE is exchanged, and the record is taken out of its slot.
-fn claim_in_steps<B: Body, R: Abort>(
-    rt: &R,
-    laid: &Laid<B>,
-    seat: &mut WSeat<B>,
-    t: CellId,
-) -> Rec<B>
-    requires table { IsSeatOf laid.now seat.old }
-    requires begins { MayBegin (program_of B.places B.awaits B.left B.asks B.then) laid.now t.0
-        seat.old.me }
-    ensures table { seat.new.table_id ≡ seat.old.table_id }
-    ensures knows { KnowsMore seat.old.me.0 seat.new.me.0 }
-    ensures runs { IsRun (program_of B.places B.awaits B.left B.asks B.then) laid.now result
-        seat.new.me }
-{
-    let Ok(()) = laid.swap_phase(seat, t, Phase::Ready, Phase::Running) else {
-        panic!(rt; "it is ready");
-    };
-    let rec = laid
-        .slot_swap(seat, t, None)
-        .expect(rt, "its record is at home");
-    let Answer::Start = rec.answer else {
-        panic!(rt; "it begins");
-    };
-    rec
-}
+impl<B: Body, R: Wait + Abort> Hand<'_, B, R> {
+    /// Claims a ready task in two steps: PHASE is exchanged, and the record is taken out of its slot.
+    fn claim_in_steps(&self, seat: &mut WSeat<B>, t: CellId) -> Rec<B>
+        requires table { IsSeatOf self.now.laid seat.old }
+        requires begins { MayBegin (program_of B.places B.awaits B.left B.asks B.then)
+            self.now.laid t.0 seat.old.me }
+        ensures table { seat.new.table_id ≡ seat.old.table_id }
+        ensures knows { KnowsMore seat.old.me.0 seat.new.me.0 }
+        ensures runs { IsRun (program_of B.places B.awaits B.left B.asks B.then)
+            self.now.laid result seat.new.me }
+    {
+        let Ok(()) = self.laid.swap_phase(seat, t, Phase::Ready, Phase::Running) else {
+            panic!(self.rt; "it is ready");
+        };
+        let rec = self
+            .laid
+            .slot_swap(seat, t, None)
+            .expect(self.rt, "its record is at home");
+        let Answer::Start = rec.answer else {
+            panic!(self.rt; "it begins");
+        };
+        rec
+    }
 
-/// Fills a cell that its owner gives up: OWN, BITS and TAG.
-fn fill_in_steps<B: Body>(laid: &Laid<B>, seat: &mut WSeat<B>, t: CellId, v: Fill)
-    requires table { IsSeatOf laid.now seat.old }
-    requires cell { IsCellOf laid.now t.0 }
-    requires gives { MayGiveUp t.0 t.0 seat.old.me.0 }
-    requires fills { MayFill (program_of B.places B.awaits B.left B.asks B.then) t.0 v
-        seat.old.me.0 }
-    ensures seat { IsSameSeat seat.old seat.new }
-    ensures filled { IsFilledWith t.0 t.0 v seat.old.me.0 seat.new.me.0 }
-{
-    let (tag, bits) = value_words(Some(v));
-    laid.put_owner(seat, t, None);
-    laid.put_once(seat, t, Once::Bits, bits);
-    laid.put_once(seat, t, Once::Tag, tag);
-}
+    /// Fills a cell that its owner gives up: OWN, BITS and TAG.
+    fn fill_in_steps(&self, seat: &mut WSeat<B>, t: CellId, v: Fill)
+        requires table { IsSeatOf self.now.laid seat.old }
+        requires cell { IsCellOf self.now.laid t.0 }
+        requires gives { MayGiveUp t.0 t.0 seat.old.me.0 }
+        requires fills { MayFill (program_of B.places B.awaits B.left B.asks B.then) t.0 v
+            seat.old.me.0 }
+        ensures seat { IsSameSeat seat.old seat.new }
+        ensures filled { IsFilledWith t.0 t.0 v seat.old.me.0 seat.new.me.0 }
+    {
+        let (tag, bits) = value_words(Some(v));
+        self.laid.put_owner(seat, t, None);
+        self.laid.put_once(seat, t, Once::Bits, bits);
+        self.laid.put_once(seat, t, Once::Tag, tag);
+    }
 
-/// Lays down the record of a task that ends: its slot, and PHASE.
-fn lay_in_steps<B: Body>(laid: &Laid<B>, seat: &mut WSeat<B>, t: CellId, rec: Rec<B>)
-    requires table { IsSeatOf laid.now seat.old }
-    requires cell { IsCellOf laid.now t.0 }
-    requires slot { HasSlot t.0 seat.old.me }
-    requires may { MayEnd (program_of B.places B.awaits B.left B.asks B.then) t.0
-        (seat.old.me.0, (t.0, Some rec) ∷ rest seat.old.me.1) }
-    ensures table { seat.new.table_id ≡ seat.old.table_id }
-    ensures me { seat.new.me ≡ (ended t.0 seat.old.me.0, rest seat.old.me.1) }
-{
-    drop(laid.slot_swap(seat, t, Some(rec)));
-    laid.put_phase(seat, t, Phase::Ended);
-}
+    /// Lays down the record of a task that ends: its slot, and PHASE.
+    fn lay_in_steps(&self, seat: &mut WSeat<B>, t: CellId, rec: Rec<B>)
+        requires table { IsSeatOf self.now.laid seat.old }
+        requires cell { IsCellOf self.now.laid t.0 }
+        requires slot { HasSlot t.0 seat.old.me }
+        requires may { MayEnd (program_of B.places B.awaits B.left B.asks B.then) t.0
+            (seat.old.me.0, (t.0, Some rec) ∷ rest seat.old.me.1) }
+        ensures table { seat.new.table_id ≡ seat.old.table_id }
+        ensures me { seat.new.me ≡ (ended t.0 seat.old.me.0, rest seat.old.me.1) }
+    {
+        drop(self.laid.slot_swap(seat, t, Some(rec)));
+        self.laid.put_phase(seat, t, Phase::Ended);
+    }
 
-/// Ends a task that owns its result alone and that nobody waits for, step by step: its result, its
-/// record, HEAD and LIVE.
-fn end_in_steps<B: Body, R: Abort>(
-    rt: &R,
-    alloc: Global,
-    laid: &Laid<B>,
-    seat: &mut WSeat<B>,
-    rec: Rec<B>,
-    v: Fill,
-)
-    requires table { IsSeatOf laid.now seat.old }
-    requires runs { RunsTask laid.now rec seat.old.me }
-    requires closing { IsClosing (table_program (program_of B.places B.awaits B.left B.asks B.then)
-        laid.now) seat.old.me.0 rec (Done v) }
-    requires alone { length rec.owned ≡ 1 }
-    ensures table { seat.new.table_id ≡ seat.old.table_id }
-    ensures left { IsLeft laid.now seat.old.me.0 seat.new.me }
-{
-    ends_alone(laid, seat, &rec, v);
-    let t = rec.cell;
-    fill_in_steps(laid, seat, t, v);
-    let ended = ended_alone(alloc, rec, v);
-    lay_in_steps(laid, seat, t, ended);
-    let head = laid.shut(seat, t);
-    let Head::Empty = head else {
-        panic!(rt; "nobody waits for it");
-    };
-    laid.live_down(seat);
-}
+    /// Ends a task that owns its result alone and that nobody waits for, step by step: its result, its
+    /// record, HEAD and LIVE.
+    fn end_in_steps(&self, seat: &mut WSeat<B>, rec: Rec<B>, v: Fill)
+        requires table { IsSeatOf self.now.laid seat.old }
+        requires runs { RunsTask self.now.laid rec seat.old.me }
+        requires closing { IsClosing (table_program
+            (program_of B.places B.awaits B.left B.asks B.then) self.now.laid) seat.old.me.0 rec
+            (Done v) }
+        requires alone { length rec.owned ≡ 1 }
+        ensures table { seat.new.table_id ≡ seat.old.table_id }
+        ensures left { IsLeft self.now.laid seat.old.me.0 seat.new.me }
+    {
+        self.ends_alone(seat, &rec, v);
+        let t = rec.cell;
+        self.fill_in_steps(seat, t, v);
+        let ended = ended_alone(self.alloc, rec, v);
+        self.lay_in_steps(seat, t, ended);
+        let head = self.laid.shut(seat, t);
+        let Head::Empty = head else {
+            panic!(self.rt; "nobody waits for it");
+        };
+        self.laid.live_down(seat);
+    }
 
-// What each step of the end rests on.
-fn ends_alone<B: Body>(laid: &Laid<B>, seat: &WSeat<B>, rec: &Rec<B>, v: Fill)
-    requires runs { RunsTask laid.now rec.now seat.now.me }
-    requires closing { IsClosing (table_program (program_of B.places B.awaits B.left B.asks B.then)
-        laid.now) seat.now.me.0 rec.now (Done v) }
-    requires alone { length rec.now.owned ≡ 1 }
-    ensures cell { IsCellOf laid.now rec.now.cell.0 }
-    ensures ends { EndsAlone (program_of B.places B.awaits B.left B.asks B.then) laid.now rec.now v
-        seat.now.me }
-{
-    let _ = laid;
-    let _ = seat;
-    let _ = rec;
-    let _ = v;
-    points_in_rounds::<B>();
-    names_and_cells();
+    // What each step of the end rests on.
+    fn ends_alone(&self, seat: &WSeat<B>, rec: &Rec<B>, v: Fill)
+        requires runs { RunsTask self.now.laid rec.now seat.now.me }
+        requires closing { IsClosing (table_program
+            (program_of B.places B.awaits B.left B.asks B.then) self.now.laid) seat.now.me.0 rec.now
+            (Done v) }
+        requires alone { length rec.now.owned ≡ 1 }
+        ensures cell { IsCellOf self.now.laid rec.now.cell.0 }
+        ensures ends { EndsAlone (program_of B.places B.awaits B.left B.asks B.then)
+            self.now.laid rec.now v seat.now.me }
+    {
+        let _ = seat;
+        let _ = rec;
+        let _ = v;
+        points_in_rounds::<B>();
+        names_and_cells();
+    }
 }
 
 // The record of a task that has ended like this and owes nothing.
@@ -168,9 +161,9 @@ fn the_root_ends_by_step_calls(rt: HostRuntime) -> Result<(), Fail> {
     points_in_rounds::<TableBody<'_>>();
     let a = rt.alloc();
     let lists: [RowList; 1] = [Items::of(Vec::new(a))];
-    let (laid, mut seat) = table_of(&rt, a, &lists, 2);
-    let claimed = claim_in_steps(&rt, &laid, &mut seat, CellId(0));
-    let (rec, asked) = ask(&rt, a, &laid, &seat, claimed);
+    let (hand, mut seat) = table_of(&rt, a, &lists, 2);
+    let claimed = hand.claim_in_steps(&mut seat, CellId(0));
+    let (rec, asked) = hand.ask(&seat, claimed);
     let Ask::End(v) = asked else {
         panic!(rt; "it ends at once");
     };
@@ -181,10 +174,10 @@ fn the_root_ends_by_step_calls(rt: HostRuntime) -> Result<(), Fail> {
     if owned != 1 {
         panic!(rt; "it owns its result alone");
     }
-    end_in_steps(&rt, a, &laid, &mut seat, rec, Fill::Num(number));
-    if laid.live(&mut seat) != 0 {
+    hand.end_in_steps(&mut seat, rec, Fill::Num(number));
+    if hand.laid.live(&mut seat) != 0 {
         panic!(rt; "nothing goes on");
     }
-    has_the_root_alone(&rt, laid.rest(seat));
+    has_the_root_alone(&rt, hand.laid.rest(seat));
     Ok(())
 }

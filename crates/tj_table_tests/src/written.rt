@@ -9,6 +9,7 @@ ghost use Rattle.tj_words.specs.LawParts.Lots.{all_lots};
 ghost use Rattle.tj_words.specs.SeatViews.SeatSteps.{IsSeatOf};
 ghost use Rattle.tj_run.specs.Workers.{IsFree, table_program};
 
+use crate::by_hand::Hand;
 use std::alloc::Global;
 use std::process::Abort;
 use std::sync::Wait;
@@ -93,26 +94,27 @@ pub(crate) fn root_of<'s, R: Abort>(rt: &R, lists: &'s [RowList]) -> TableBody<'
     TableBody::new(lists, 0)
 }
 
-/// A strict table of so many cells for such a program, and its first seat.
-pub(crate) fn table_of<'s, R: Abort>(
-    rt: &R,
+/// A strict table of so many cells for such a program, to be run by hand, and its first seat.
+pub(crate) fn table_of<'t, 's, R: Abort>(
+    rt: &'t R,
     alloc: Global,
     lists: &'s [RowList],
     cells: u32,
-) -> (Laid<TableBody<'s>>, WSeat<TableBody<'s>>)
+) -> (Hand<'t, TableBody<'s>, R>, WSeat<TableBody<'s>>)
     requires cells { (0 < cells) × (cells ≤ MAX_CELLS) }
-    ensures cells { result.0.cells ≡ cells }
-    ensures table { IsSeatOf result.0 result.1 }
+    ensures cells { result.0.laid.cells ≡ cells }
+    ensures table { IsSeatOf result.0.laid result.1 }
     ensures lot { result.1.me.0.lot ≡ all_lots }
-    ensures free { IsFree result.0 result.1.me }
+    ensures free { IsFree result.0.laid result.1.me }
     ensures rooted { IsRooted (table_program
-        (program_of table_places table_awaits table_left table_asks table_then) result.0) }
+        (program_of table_places table_awaits table_left table_asks table_then) result.0.laid) }
 {
     let root = root_of(rt, lists);
     let Ok(made) = Laid::new(alloc, cells, root, true) else {
         panic!(rt; "no memory");
     };
-    made
+    let (laid, seat) = made;
+    (Hand { rt, alloc, laid }, seat)
 }
 
 /// The one end of a pool for so many cells.

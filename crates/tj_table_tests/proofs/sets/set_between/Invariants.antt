@@ -1,4 +1,0 @@
-use Rattle.tj_table_tests.proofs.sets.set_between.Given as goal
-
-abbrev pub ghosts-block_on : goal.ghosts-block_on
-ghosts-block_on g a = record { name = a.blank.name; parts = a.blank.parts }
