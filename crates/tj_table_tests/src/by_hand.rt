@@ -1,5 +1,5 @@
 //! A task that a test runs by hand: a seat claims it, and makes the calls that a worker makes for each ask.
-ghost use Rattle.std.specs.Prelude.{◌≡◌, ◌<◌, ◌∷◌, [], None, false};
+ghost use Rattle.std.specs.Prelude.{◌≡◌, ◌<◌, ◌++◌, ◌∷◌, [], None, false};
 ghost use Rattle.tj_body.specs.declared.ask.Answer.TheVariants.{Start};
 ghost use Rattle.tj_body.specs.Programs.{program_of};
 ghost use Rattle.tj_words.specs.Calls.ExchangeViews.{KnowsTable};
@@ -98,11 +98,7 @@ impl<B: Body, R: Wait + Abort> Hand<'_, B, R> {
             panic!(self.rt; "a cell is left");
         };
         rec.answer = Answer::Local(rec.held.items().len() as u32);
-        let cell = c;
-        let sort = Sort::Promise;
-        let Ok(()) = rec.held.push(Held { cell, sort }) else {
-            panic!(self.rt; "no memory");
-        };
+        hold(self.rt, &mut rec.held, c, Sort::Promise);
         let Ok(()) = rec.owned.push(c) else {
             panic!(self.rt; "no memory");
         };
@@ -143,11 +139,7 @@ impl<B: Body, R: Wait + Abort> Hand<'_, B, R> {
             panic!(self.rt; "no memory");
         };
         rec.answer = Answer::Local(rec.held.items().len() as u32);
-        let cell = c;
-        let sort = Sort::Task;
-        let Ok(()) = rec.held.push(Held { cell, sort }) else {
-            panic!(self.rt; "no memory");
-        };
+        hold(self.rt, &mut rec.held, c, Sort::Task);
         rec.made += 1;
         rec
     }
@@ -194,6 +186,15 @@ impl<B: Body, R: Wait + Abort> Hand<'_, B, R> {
         rec.spare = false;
         verdict
     }
+}
+
+// A task holds one cell more.
+fn hold<R: Abort>(rt: &R, held: &mut Items<Held>, cell: CellId, sort: Sort)
+    ensures { held.new ≡ held.old ++ record { cell = cell; sort = sort } ∷ [] }
+{
+    let Ok(()) = held.push(Held { cell, sort }) else {
+        panic!(rt; "no memory");
+    };
 }
 
 // The record of a child that holds itself and what it is passed, and owns its result.

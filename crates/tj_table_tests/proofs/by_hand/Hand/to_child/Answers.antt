@@ -73,5 +73,5 @@ pub returns-clause-runs : goal.returns-clause-runs
 returns-clause-runs g c = let at = goal.at.returns-clause-runs g c in
     let none : c.in-Fork.hand ≡ [] = sym c.items.ensures ∙ nil_from_length c.items.result.now c.if-items-ne0.false in
     child_made (given g at.In-Ok (forking g at.In-Fork none)) c.release.new.seat.me c.birth.new.seat.me.1
-    c.release.ensures.me c.in-Ok.ensures.slot c.push.new.self c.in-Ok-push.ensures.ok
+    c.release.ensures.me c.in-Ok.ensures.slot c.hold.new.held c.hold.ensures
     (length c.items-5.result.now) (ap (λ l. length l) c.items-5.ensures)

@@ -26,6 +26,6 @@ returns-clause-runs g c = let b = g.B.Body in let l = c.args.self.now.laid in
     let a = asked g (goal.at.returns-clause-runs g c).In-New in
     let made = promise_made (program_of b.places b.awaits b.left b.asks b.then) l c.ask-rec.result.0
     c.args.seat.now.me c.ask-rec.ensures.runs a (c.points_in_rounds.ensures.ask l.strict l.root.value a.rooted)
-    c.in-Ok.c c.make.new.seat.me c.in-Ok.ensures.made c.make.ensures.seat.2 c.push.new.self c.in-Ok-push.ensures.ok
-    c.push-2.new.self c.in-Ok-push-2.ensures.ok (length c.items.result.now) (ap (λ l. length l) c.items.ensures) in
+    c.in-Ok.c c.make.new.seat.me c.in-Ok.ensures.made c.make.ensures.seat.2 c.hold.new.held c.hold.ensures
+    c.push.new.self c.in-Ok-push.ensures.ok (length c.items.result.now) (ap (λ l. length l) c.items.ensures) in
     record { runs = made.runs; running = made.goes_on }
