@@ -4,11 +4,7 @@ use Rattle.tj_run.proofs.Prelude.{MayGiveUp, MayWake, None, Program, Rec, SeatMe
 use Rattle.tj_run.proofs.Prelude.{[], ap, became, drop, length, refl, rest, subst, sym, ℕ, ◌<◌, ◌∙◌, ◌∷◌, ◌≡◌, ◌≢◌}
 use Rattle.tj_words.specs.declared.head.Head.{Head}
 use Rattle.tj_words.specs.Calls.ChainSteps.{TakesChain, found_taken}
-use Rattle.tj_words.specs.Calls.EntryViews.{MayPutBits, MayPutTag, PutsBits, PutsTag}
 use Rattle.tj_words.specs.Calls.LiveViews.{HasSlot, MayLowerLive, ended, lowered_with}
-use Rattle.tj_words.specs.Calls.OwnerViews.{PutsOwner}
-use Rattle.tj_words.specs.Words.Values.{fill_in, tag_word}
-use Rattle.tj_cells.proofs.ClosingViews.{cell_became, fill_bits, fill_known, fill_tag, may_bits, may_tag, says_one}
 use Rattle.tj_park.specs.Inner.Breaks.{HasBroken}
 use Rattle.tj_park.specs.Endings.{MayFinish, result_of}
 use Rattle.tj_park.specs.Inner.Closings.{MayCloseResult, ended_record}
@@ -17,7 +13,6 @@ use Rattle.tj_park.proofs.ResultCloses.{filled_closes, may_close_last, may_fill_
 use Rattle.tj_park.proofs.WakeLoops.{waking_at_first, woke_all}
 use Rattle.tj_table_tests.specs.EndsAlone.{EndsAlone}
 use Rattle.tj_run.proofs.Runs.EndConditions.{ended_left, ends_by, may_finish, none_other, slot_is}
-use Rattle.tj_body.specs.declared.point.Entry.TheVariants as entry
 use Rattle.tj_words.specs.declared.head.Head.TheVariants as head
 use Rattle.tj_words.specs.declared.record.Finish.TheVariants as finish
 use Rattle.tj_park.proofs.EndSteps as steps
@@ -42,32 +37,6 @@ nobody_woken {B} cells p h v w is none again takes =
     all = woke_all {P = Unit {0}} (λ a t b. Unit {0}) cells p h 0 v w tt tt
         (waking_at_first {P = Unit {0}} (λ a t b. Unit {0}) cells p h v w tt none again takes)
         (λ t e. let z = sym is ∙ e in absurd (cc))
-
--- a cell that its owner may give up and fill is given up and filled in three steps
-module _ {B : Type 0} (program : Bool → B → Program B) (t : ℕ) (f : Fill) (v : View B) (gives : MayGiveUp t t v)
-    (fills : MayFill program t f v) (v1 : View B) (gave : PutsOwner t None v v1) (tag bits : ℕ)
-    (tag_is : tag ≡ tag_word (Some f)) (bits_is : fill_in tag bits ≡ Some f) where
-  words : fill_in (tag_word (Some f)) bits ≡ Some f
-  words = ap (λ n. fill_in n bits) (sym tag_is) ∙ bits_is
-
-  pub bits_next : MayPutBits program t bits v1
-  bits_next = may_bits program t t v v1 gives gave (entry.Value fills.value) fills.will bits
-      (fill_bits v.born bits f fills.value fills.says words)
-      (fill_known v.born bits v.known f fills.value fills.says words fills.knows)
-
-  module _ (v2 : View B) (wrote : PutsBits program t bits v1 v2) where
-    pub tag_next : MayPutTag t tag v2
-    tag_next = may_tag program t t v v1 gives gave (entry.Value fills.value) fills.will bits
-        (fill_bits v.born bits f fills.value fills.says words)
-        (fill_known v.born bits v.known f fills.value fills.says words fills.knows)
-        v2 wrote tag (tag_is ∙ fill_tag v.born f fills.value fills.says)
-
-    pub filled_next : (v3 : View B) → PutsTag t tag v2 v3 → IsFilledWith t t f v v3
-    filled_next v3 last x says = cell_became program t t v v1 gives gave (entry.Value fills.value) fills.will bits
-        (fill_bits v.born bits f fills.value fills.says words)
-        (fill_known v.born bits v.known f fills.value fills.says words fills.knows)
-        v2 wrote tag (tag_is ∙ fill_tag v.born f fills.value fills.says) v3 last
-        ∙ ap (λ y. became t t (entry.Value y) v) (says_one v.born f fills.value x fills.says says)
 
 module _ {B : Type 0} {program : Bool → B → Program B} {laid : Laid B} {r : Rec B} {f : Fill} {me : SeatMe B}
     (h : EndsAlone program laid r f me) where

@@ -5,8 +5,7 @@ ghost use Rattle.tj_body.specs.Programs.{program_of};
 ghost use Rattle.tj_words.specs.declared.record.Finish.TheVariants.{Done};
 ghost use Rattle.tj_words.specs.SeatViews.KnowsMore.{KnowsMore};
 ghost use Rattle.tj_words.specs.Calls.LiveViews.{HasSlot, MayEnd, ended};
-ghost use Rattle.tj_words.specs.SeatViews.SeatSteps.{IsCellOf, IsSameSeat, IsSeatOf};
-ghost use Rattle.tj_cells.specs.FilledCells.{IsFilledWith, MayFill, MayGiveUp};
+ghost use Rattle.tj_words.specs.SeatViews.SeatSteps.{IsCellOf, IsSeatOf};
 ghost use Rattle.tj_run.specs.Workers.{table_program};
 ghost use Rattle.tj_run.specs.Inner.Carried.{IsClosing, RunsTask};
 ghost use Rattle.tj_run.specs.Inner.Waits.{IsLeft};
@@ -47,22 +46,6 @@ impl<B: Body, R: Wait + Abort> Hand<'_, B, R> {
         rec
     }
 
-    /// Fills a cell that its owner gives up: OWN, BITS and TAG.
-    fn fill_in_steps(&self, seat: &mut WSeat<B>, t: CellId, v: Fill)
-        requires table { IsSeatOf self.now.laid seat.old }
-        requires cell { IsCellOf self.now.laid t.0 }
-        requires gives { MayGiveUp t.0 t.0 seat.old.me.0 }
-        requires fills { MayFill (program_of B.places B.awaits B.left B.asks B.then) t.0 v
-            seat.old.me.0 }
-        ensures seat { IsSameSeat seat.old seat.new }
-        ensures filled { IsFilledWith t.0 t.0 v seat.old.me.0 seat.new.me.0 }
-    {
-        let (tag, bits) = value_words(Some(v));
-        self.laid.put_owner(seat, t, None);
-        self.laid.put_once(seat, t, Once::Bits, bits);
-        self.laid.put_once(seat, t, Once::Tag, tag);
-    }
-
     /// Lays down the record of a task that ends: its slot, and PHASE.
     fn lay_in_steps(&self, seat: &mut WSeat<B>, t: CellId, rec: Rec<B>)
         requires table { IsSeatOf self.now.laid seat.old }
@@ -77,8 +60,8 @@ impl<B: Body, R: Wait + Abort> Hand<'_, B, R> {
         self.laid.put_phase(seat, t, Phase::Ended);
     }
 
-    /// Ends a task that owns its result alone and that nobody waits for, step by step: its result, its
-    /// record, HEAD and LIVE.
+    /// Ends a task that owns its result alone and that nobody waits for, step by step: OWN, BITS and TAG of
+    /// its result, its record, HEAD and LIVE.
     fn end_in_steps(&self, seat: &mut WSeat<B>, rec: Rec<B>, v: Fill)
         requires table { IsSeatOf self.now.laid seat.old }
         requires runs { RunsTask self.now.laid rec seat.old.me }
@@ -91,7 +74,10 @@ impl<B: Body, R: Wait + Abort> Hand<'_, B, R> {
     {
         self.ends_alone(seat, &rec, v);
         let t = rec.cell;
-        self.fill_in_steps(seat, t, v);
+        let (tag, bits) = value_words(Some(v));
+        self.laid.put_owner(seat, t, None);
+        self.laid.put_once(seat, t, Once::Bits, bits);
+        self.laid.put_once(seat, t, Once::Tag, tag);
         let ended = ended_alone(self.alloc, rec, v);
         self.lay_in_steps(seat, t, ended);
         let head = self.laid.shut(seat, t);
