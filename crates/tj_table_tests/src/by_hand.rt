@@ -1,5 +1,5 @@
 //! A task that a test runs by hand: a seat claims it, and makes the calls that a worker makes for each ask.
-ghost use Rattle.std.specs.Prelude.{◌≡◌, ◌<◌, ◌++◌, ◌∷◌, [], None, false};
+ghost use Rattle.std.specs.Prelude.{◌≡◌, ◌++◌, ◌∷◌, [], None, false};
 ghost use Rattle.tj_body.specs.declared.ask.Answer.TheVariants.{Start};
 ghost use Rattle.tj_body.specs.Programs.{program_of};
 ghost use Rattle.tj_words.specs.Calls.ExchangeViews.{KnowsTable};
@@ -10,7 +10,7 @@ ghost use Rattle.tj_run.specs.Workers.{table_program};
 ghost use Rattle.tj_run.specs.Inner.Carried.{IsAsked, RunsTask};
 ghost use Rattle.tj_run.specs.Inner.Pieces.{child_record};
 ghost use Rattle.tj_run.specs.Inner.Waits.{Blocked, waits_at};
-ghost use Rattle.tj_table_tests.specs.ByHand.{IsRun, MayBegin};
+ghost use Rattle.tj_table_tests.specs.ByHand.{IsRun, MayBegin, OpensLedger};
 
 use std::alloc::Global;
 use std::process::Abort;
@@ -169,9 +169,7 @@ impl<B: Body, R: Wait + Abort> Hand<'_, B, R> {
         q: CellId,
         blank: Blank,
     ) -> Verdict
-        requires name { blank.name ≡ L.name }
-        requires parts { blank.parts ≡ L.parts }
-        requires some { 0 < blank.parts }
+        requires blank { OpensLedger blank.name blank.parts L.name L.parts }
         requires table { IsSeatOf self.now.laid seat.old }
         requires task { IsCellOf self.now.laid rec.old.cell.0 }
         requires cell { IsCellOf self.now.laid q.0 }

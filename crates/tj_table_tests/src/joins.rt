@@ -1,9 +1,9 @@
 //! The racing detector along the order: the root joins a child of it. Its walk is skipped where no other
 //! wait stands, and alarms where the child waits for a promise of the root.
-ghost use Rattle.std.specs.Prelude.{◌≡◌, ◌<◌};
+ghost use Rattle.std.specs.Prelude.{◌≡◌};
 ghost use Rattle.tj_body.specs.Programs.{program_of};
 ghost use Rattle.tj_words.specs.SeatViews.SeatSteps.{IsCellOf, IsSeatOf};
-ghost use Rattle.tj_table_tests.specs.ByHand.{IsRun, MayBegin};
+ghost use Rattle.tj_table_tests.specs.ByHand.{IsRun, MayBegin, OpensLedger};
 
 use crate::by_hand::Hand;
 use crate::written::{Says, lists_of, one_end, table_of};
@@ -21,9 +21,7 @@ use tj_words::{Rec, WSeat, Way};
 impl<B: Body, R: Wait + Abort> Hand<'_, B, R> {
     /// A task that runs joins a task that it is before in the fork order, and blocks. Tells the verdict.
     fn joins<L: Ledger>(&self, seat: &mut WSeat<B>, rec: Rec<B>, blank: Blank) -> Verdict
-        requires name { blank.name ≡ L.name }
-        requires parts { blank.parts ≡ L.parts }
-        requires some { 0 < blank.parts }
+        requires blank { OpensLedger blank.name blank.parts L.name L.parts }
         requires table { IsSeatOf self.now.laid seat.old }
         requires runs { IsRun (program_of B.places B.awaits B.left B.asks B.then)
             self.now.laid rec seat.old.me }
