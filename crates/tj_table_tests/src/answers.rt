@@ -163,25 +163,13 @@ fn looked_in<R: Abort + Wait>(
     (looked, watched)
 }
 
-/// The same, by lists as they are written.
-fn looked_after<R: Abort + Wait>(
-    rt: &R,
-    alloc: Global,
-    written: &[&[Says]],
-    cells: u32,
-    p: CellId,
-) -> Result<(Option<Watched>, Watched), Oom> {
-    let lists = lists_of(alloc, written)?;
-    Ok(looked_in(rt, alloc, &lists, cells, p))
-}
-
 #[test]
-fn looks_after_a_worker_has_left(rt: HostRuntime) -> Result<(), Fail> {
+fn looks_after_a_worker_has_left(rt: HostRuntime) {
     for (shows, written, cells, p, wanted) in LOOKS {
-        let (looked, watched) = looked_after(&rt, rt.alloc(), written, *cells, *p)?;
+        let lists = lists_of(&rt, rt.alloc(), written);
+        let (looked, watched) = looked_in(&rt, rt.alloc(), &lists, *cells, *p);
         assert!(rt; looked == Some(*wanted) && watched == *wanted, "{shows}");
     }
-    Ok(())
 }
 
 #[test]

@@ -6,12 +6,11 @@ ghost use Rattle.tj_words.specs.SeatViews.SeatSteps.{IsCellOf, IsSeatOf};
 ghost use Rattle.tj_table_tests.specs.ByHand.{IsRun, MayBegin, OpensLedger};
 
 use crate::by_hand::Hand;
-use crate::written::{Says, lists_of, one_end, table_of};
+use crate::written::{Says, lists_of, table_of};
 use std::marker::Brand;
 use std::process::Abort;
 use std::sync::Wait;
 use std::sync::ledger::{Blank, Ledger};
-use std::test::Fail;
 use tj_base::{CellId, Sort, Steps};
 use tj_body::{Ask, Body, points_in_rounds};
 use tj_detect::{Verdict, block, way_of};
@@ -85,28 +84,22 @@ const CYCLE: &[&[Says]] = &[
 ];
 
 #[test]
-fn a_join_of_a_started_child_is_skipped(rt: HostRuntime) -> Result<(), Fail> {
-    let a = rt.alloc();
-    let lists = lists_of(a, STARTED)?;
-    let mut pool = one_end::<LockedPool, HostRuntime>(&rt, a, 2);
-    let (hand, seat) = table_of(&rt, a, &lists, 2);
+fn a_join_of_a_started_child_is_skipped(rt: HostRuntime) {
+    let lists = lists_of(&rt, rt.alloc(), STARTED);
+    let (hand, seat, mut pool) = table_of::<LockedPool, HostRuntime>(&rt, &lists, 2);
     let (mut first, mut second) = hand.laid.split(seat);
     let verdict = hand.join_started(&mut first, &mut second, &mut pool);
     assert!(rt; verdict == Verdict::Skipped, "no other wait stands");
-    Ok(())
 }
 
 #[test]
-fn a_cycle_of_two_tasks_of_one_seat_alarms(rt: HostRuntime) -> Result<(), Fail> {
-    let a = rt.alloc();
-    let lists = lists_of(a, CYCLE)?;
-    let mut pool = one_end::<LockedPool, HostRuntime>(&rt, a, 3);
-    let (hand, mut seat) = table_of(&rt, a, &lists, 3);
+fn a_cycle_of_two_tasks_of_one_seat_alarms(rt: HostRuntime) {
+    let lists = lists_of(&rt, rt.alloc(), CYCLE);
+    let (hand, mut seat, mut pool) = table_of::<LockedPool, HostRuntime>(&rt, &lists, 3);
     let root = hand.to_fork(&mut seat, &mut pool);
     let verdict = hand.join_beside(&mut seat, root, CellId(2));
     assert!(rt;
         verdict == Verdict::Alarm,
         "the child waits for its promise"
     );
-    Ok(())
 }

@@ -10,11 +10,11 @@ use std::marker::Brand;
 use std::process::Abort;
 use std::sync::Wait;
 use std::sync::ledger::Blank;
-use std::test::Fail;
 use tj_base::{CellId, Sort};
 use tj_body::{Ask, Body, points_in_rounds};
 use tj_detect::Verdict;
 use tj_park::shelve;
+use tj_ready::LockedPool;
 use tj_words::{Rec, WSeat};
 
 impl<B: Body, R: Wait + Abort> Hand<'_, B, R> {
@@ -47,13 +47,11 @@ impl<B: Body, R: Wait + Abort> Hand<'_, B, R> {
 const OWN: &[&[Says]] = &[&[Says::New, Says::Get(1)]];
 
 #[test]
-fn a_wait_for_an_own_promise_alarms(rt: HostRuntime) -> Result<(), Fail> {
-    let a = rt.alloc();
-    let lists = lists_of(a, OWN)?;
-    let (hand, mut seat) = table_of(&rt, a, &lists, 2);
+fn a_wait_for_an_own_promise_alarms(rt: HostRuntime) {
+    let lists = lists_of(&rt, rt.alloc(), OWN);
+    let (hand, mut seat, _pool) = table_of::<LockedPool, HostRuntime>(&rt, &lists, 2);
     let root = hand.begin(&mut seat, CellId(0));
     let rec = hand.to_promise(&mut seat, root);
     hand.get_and_alarm(&mut seat, rec);
     assert!(rt; hand.laid.live(&mut seat) == 0, "nothing goes on");
-    Ok(())
 }

@@ -4,7 +4,6 @@ use crate::written::{Says, TO_A_READER, lists_of, root_of};
 use std::alloc::Global;
 use std::process::Abort;
 use std::sync::Wait;
-use std::test::Fail;
 use std::thread::Threads;
 use tj_base::CellId;
 use tj_body::{Body, TableBody};
@@ -108,7 +107,7 @@ fn rests<R: Wait + Threads + Abort + Sync>(
     if cells == 0 || cells > 16 {
         panic!(rt; "another number of cells");
     }
-    let lists = lists_of(alloc, written)?;
+    let lists = lists_of(rt, alloc, written);
     let root = root_of(rt, &lists);
     match run_all::<TableBody<'_>, LockedPool, OpenGate, R>(
         rt, alloc, root, cells, 1, &OpenGate, false,
@@ -119,10 +118,9 @@ fn rests<R: Wait + Threads + Abort + Sync>(
 }
 
 #[test]
-fn tasks_that_wait(rt: HostRuntime) -> Result<(), Fail> {
+fn tasks_that_wait(rt: HostRuntime) {
     for (shows, lists, cells, wanted) in ROWS {
         let rested = rests(&rt, rt.alloc(), lists, *cells, wanted);
         assert!(rt; matches!(rested, Ok(true)), "{shows}");
     }
-    Ok(())
 }

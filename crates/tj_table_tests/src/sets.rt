@@ -9,12 +9,11 @@ ghost use Rattle.tj_run.specs.Inner.Carried.{RunsTask};
 ghost use Rattle.tj_table_tests.specs.ByHand.{IsRun, MayBegin};
 
 use crate::by_hand::Hand;
-use crate::written::{Says, lists_of, one_end, table_of};
+use crate::written::{Says, lists_of, table_of};
 use std::marker::Brand;
 use std::process::Abort;
 use std::sync::Wait;
 use std::sync::ledger::Blank;
-use std::test::Fail;
 use tj_base::{CellId, Pay, Sort};
 use tj_body::{Answer, Ask, Body, names_and_cells, points_in_rounds};
 use tj_cells::{Seen, fill, value};
@@ -118,11 +117,9 @@ const READER: &[&[Says]] = &[
 ];
 
 #[test]
-fn a_task_wakes_another_one_of_its_seat(rt: HostRuntime) -> Result<(), Fail> {
-    let a = rt.alloc();
-    let lists = lists_of(a, READER)?;
-    let mut pool = one_end::<LockedPool, HostRuntime>(&rt, a, 3);
-    let (hand, mut seat) = table_of(&rt, a, &lists, 3);
+fn a_task_wakes_another_one_of_its_seat(rt: HostRuntime) {
+    let lists = lists_of(&rt, rt.alloc(), READER);
+    let (hand, mut seat, mut pool) = table_of::<LockedPool, HostRuntime>(&rt, &lists, 3);
     let root = hand.to_fork(&mut seat, &mut pool);
     let woken = hand.set_beside(&mut seat, root, CellId(2), &mut pool);
     assert!(rt; woken == 1, "the reader");
@@ -137,16 +134,12 @@ fn a_task_wakes_another_one_of_its_seat(rt: HostRuntime) -> Result<(), Fail> {
     let None = claim(&hand.laid, &mut seat, CellId(2)) else {
         panic!(rt; "it runs already");
     };
-    Ok(())
 }
 
 #[test]
-fn a_promise_is_set_by_the_seat_that_is_to_park(rt: HostRuntime) -> Result<(), Fail> {
-    let a = rt.alloc();
-    let lists = lists_of(a, READER)?;
-    let mut pool = one_end::<LockedPool, HostRuntime>(&rt, a, 3);
-    let (hand, mut seat) = table_of(&rt, a, &lists, 3);
+fn a_promise_is_set_by_the_seat_that_is_to_park(rt: HostRuntime) {
+    let lists = lists_of(&rt, rt.alloc(), READER);
+    let (hand, mut seat, mut pool) = table_of::<LockedPool, HostRuntime>(&rt, &lists, 3);
     let seen = hand.set_between(&mut seat, &mut pool);
     assert!(rt; seen == Seen::Num(5), "it goes on with the value");
-    Ok(())
 }

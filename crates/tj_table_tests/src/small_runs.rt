@@ -5,7 +5,6 @@ use crate::written::{Says, lists_of, root_of};
 use std::alloc::Global;
 use std::process::Abort;
 use std::sync::Wait;
-use std::test::Fail;
 use std::thread::Threads;
 use tj_base::CellId;
 use tj_body::{Body, TableBody};
@@ -47,7 +46,7 @@ fn runs_small<P: Pool, R: Wait + Threads + Abort + Sync>(
     requires cells { (0 < cells) × (cells ≤ 2) }
     requires workers { (0 < workers) × (workers ≤ 64) }
 {
-    let lists = lists_of(alloc, SMALL)?;
+    let lists = lists_of(rt, alloc, SMALL);
     let root = root_of(rt, &lists);
     let gate = OpenGate;
     match run_all::<TableBody<'_>, P, OpenGate, R>(rt, alloc, root, cells, workers, &gate, false) {
@@ -64,21 +63,19 @@ fn runs_well<P: Pool, R: Wait + Threads + Abort + Sync>(rt: &R, alloc: Global, w
 }
 
 #[test]
-fn the_small_body_by_many_workers(rt: HostRuntime) -> Result<(), Fail> {
+fn the_small_body_by_many_workers(rt: HostRuntime) {
     let a = rt.alloc();
     assert!(rt; runs_well::<LockedPool, HostRuntime>(&rt, a, 1));
     assert!(rt; runs_well::<LockedPool, HostRuntime>(&rt, a, 2));
     assert!(rt; runs_well::<LockedPool, HostRuntime>(&rt, a, 8));
     assert!(rt; runs_well::<StealPool, HostRuntime>(&rt, a, 1));
     assert!(rt; runs_well::<StealPool, HostRuntime>(&rt, a, 64));
-    Ok(())
 }
 
 #[test]
-fn one_cell_is_too_few(rt: HostRuntime) -> Result<(), Fail> {
+fn one_cell_is_too_few(rt: HostRuntime) {
     let one = runs_small::<LockedPool, HostRuntime>(&rt, rt.alloc(), 1, 1);
     assert!(rt; matches!(one, Err(RunFault::Full)));
     let eight = runs_small::<StealPool, HostRuntime>(&rt, rt.alloc(), 1, 8);
     assert!(rt; matches!(eight, Err(RunFault::Full)));
-    Ok(())
 }

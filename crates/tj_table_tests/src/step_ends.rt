@@ -17,9 +17,9 @@ use crate::written::table_of;
 use std::alloc::Global;
 use std::process::Abort;
 use std::sync::Wait;
-use std::test::Fail;
 use tj_base::{CellId, Items, Pay};
 use tj_body::{Answer, Ask, Body, RowList, TableBody, names_and_cells, points_in_rounds};
+use tj_ready::LockedPool;
 use tj_words::{Fill, Finish, Head, Once, Phase, Rec, RestWords, WSeat, value_words};
 
 impl<B: Body, R: Wait + Abort> Hand<'_, B, R> {
@@ -143,11 +143,10 @@ fn has_ended_with_0<B: Body>(rec: Option<&Rec<B>>) -> bool {
 }
 
 #[test]
-fn the_root_ends_by_step_calls(rt: HostRuntime) -> Result<(), Fail> {
+fn the_root_ends_by_step_calls(rt: HostRuntime) {
     points_in_rounds::<TableBody<'_>>();
-    let a = rt.alloc();
-    let lists: [RowList; 1] = [Items::of(Vec::new(a))];
-    let (hand, mut seat) = table_of(&rt, a, &lists, 2);
+    let lists: [RowList; 1] = [Items::of(Vec::new(rt.alloc()))];
+    let (hand, mut seat, _pool) = table_of::<LockedPool, HostRuntime>(&rt, &lists, 2);
     let claimed = hand.claim_in_steps(&mut seat, CellId(0));
     let (rec, asked) = hand.ask(&seat, claimed);
     let Ask::End(v) = asked else {
@@ -165,5 +164,4 @@ fn the_root_ends_by_step_calls(rt: HostRuntime) -> Result<(), Fail> {
         panic!(rt; "nothing goes on");
     }
     has_the_root_alone(&rt, hand.laid.rest(seat));
-    Ok(())
 }

@@ -10,7 +10,7 @@ ghost use Rattle.tj_words.specs.SeatViews.SeatSteps.{IsSeatOf};
 ghost use Rattle.tj_run.specs.Workers.{IsFree, table_program};
 
 use crate::by_hand::Hand;
-use std::alloc::Global;
+use std::alloc::{AllocGlobal, Global};
 use std::process::Abort;
 use std::sync::Wait;
 use tj_base::{Items, Oom, Pay, PlaceList};
@@ -42,12 +42,17 @@ pub(crate) const TO_A_READER: &[Says] = &[
 ];
 
 /// The lists of rows that are written so.
-pub(crate) fn lists_of(alloc: Global, written: &[&[Says]]) -> Result<Vec<RowList>, Oom> {
+pub(crate) fn lists_of(rt: &impl Abort, alloc: Global, written: &[&[Says]]) -> Vec<RowList> {
     let mut lists = Vec::new(alloc);
     for rows in written {
-        lists.push(list_of(alloc, rows)?)?;
+        let Ok(list) = list_of(alloc, rows) else {
+            panic!(rt; "no memory");
+        };
+        let Ok(()) = lists.push(list) else {
+            panic!(rt; "no memory");
+        };
     }
-    Ok(lists)
+    lists
 }
 
 fn list_of(alloc: Global, written: &[Says]) -> Result<RowList, Oom> {
@@ -94,13 +99,12 @@ pub(crate) fn root_of<'s, R: Abort>(rt: &R, lists: &'s [RowList]) -> TableBody<'
     TableBody::new(lists, 0)
 }
 
-/// A strict table of so many cells for such a program, to be run by hand, and its first seat.
-pub(crate) fn table_of<'t, 's, R: Abort>(
+/// A strict table of so many cells for such a program, to be run by hand, its first seat, and its pool.
+pub(crate) fn table_of<'t, 's, P: Pool, R: Wait + Abort + AllocGlobal>(
     rt: &'t R,
-    alloc: Global,
     lists: &'s [RowList],
     cells: u32,
-) -> (Hand<'t, TableBody<'s>, R>, WSeat<TableBody<'s>>)
+) -> (Hand<'t, TableBody<'s>, R>, WSeat<TableBody<'s>>, P)
     requires cells { (0 < cells) × (cells ≤ MAX_CELLS) }
     ensures cells { result.0.laid.cells ≡ cells }
     ensures table { IsSeatOf result.0.laid result.1 }
@@ -108,13 +112,15 @@ pub(crate) fn table_of<'t, 's, R: Abort>(
     ensures free { IsFree result.0.laid result.1.me }
     ensures rooted { IsRooted (table_program
         (program_of table_places table_awaits table_left table_asks table_then) result.0.laid) }
+    ensures limit { P.limit result.2 ≡ cells }
 {
+    let alloc = rt.alloc();
+    let pool = one_end::<P, R>(rt, alloc, cells);
     let root = root_of(rt, lists);
-    let Ok(made) = Laid::new(alloc, cells, root, true) else {
+    let Ok((laid, seat)) = Laid::new(alloc, cells, root, true) else {
         panic!(rt; "no memory");
     };
-    let (laid, seat) = made;
-    (Hand { rt, alloc, laid }, seat)
+    (Hand { rt, alloc, laid }, seat, pool)
 }
 
 /// The one end of a pool for so many cells.
