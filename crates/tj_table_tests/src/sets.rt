@@ -24,7 +24,7 @@ use tj_words::{Fill, Rec, WSeat, Way};
 
 impl<B: Body, R: Wait + Abort> Hand<'_, B, R> {
     /// A task that runs asks to set the promise that it owns beside its result. Tells which, and to what number.
-    fn to_set(&self, seat: &WSeat<B>, rec: Rec<B>) -> (Rec<B>, CellId, Fill)
+    pub(crate) fn to_set(&self, seat: &WSeat<B>, rec: Rec<B>) -> (Rec<B>, CellId, Fill)
         requires runs { IsRun (program_of B.places B.awaits B.left B.asks B.then)
             self.now.laid rec seat.now.me }
         ensures runs { RunsTask self.now.laid result.0 seat.now.me }
