@@ -3,7 +3,7 @@ use tj_base::{Items, NameList, Sort};
 use tj_mean::TaskLine;
 
 /// The statement that made a thing.
-#[derive(Clone, Copy, PartialEq, Eq)]
+#[derive(Clone, Copy)]
 pub struct Maker {
     /// What it made: a `new` makes a promise, a `fork` a task.
     pub sort: Sort,
