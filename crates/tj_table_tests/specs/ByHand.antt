@@ -1,5 +1,5 @@
 -- A task that a test runs by hand, by a seat that has nothing else.
-use Rattle.std.specs.Prelude.{ℕ, ◌≡◌, ◌<◌, Bool}
+use Rattle.std.specs.Prelude.{ℕ, ◌<◌, Bool}
 use Rattle.tj_body.specs.Programs.{Program}
 use Rattle.tj_words.specs.declared.record.Rec.{Rec}
 use Rattle.tj_words.specs.declared.table.Laid.{Laid}
@@ -7,10 +7,6 @@ use Rattle.tj_words.specs.Law.{IsRooted}
 use Rattle.tj_words.specs.SeatViews.SeatSteps.{SeatMe}
 use Rattle.tj_run.specs.Workers.{IsFree, table_program}
 use Rattle.tj_run.specs.Inner.Carried.{IsRunning, RunsTask}
-
--- a blank of this name and with so many parts, of which there are some, opens the ledger that has them
-abbrev pub OpensLedger : ℕ → ℕ → ℕ → ℕ → Type 0
-OpensLedger name parts ledger_name ledger_parts = (name ≡ ledger_name) × (parts ≡ ledger_parts) × (0 < parts)
 
 module _ {B : Type 0} (program : Bool → B → Program B) (laid : Laid B) where
   -- the seat is free, t is a cell of its table, and a program runs there

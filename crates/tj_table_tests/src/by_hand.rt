@@ -9,8 +9,8 @@ ghost use Rattle.tj_detect.specs.Blocks.{MayBlock};
 ghost use Rattle.tj_run.specs.Workers.{table_program};
 ghost use Rattle.tj_run.specs.Inner.Carried.{IsAsked, RunsTask};
 ghost use Rattle.tj_run.specs.Inner.Pieces.{child_record};
-ghost use Rattle.tj_run.specs.Inner.Waits.{Blocked, waits_at};
-ghost use Rattle.tj_table_tests.specs.ByHand.{IsRun, MayBegin, OpensLedger};
+ghost use Rattle.tj_run.specs.Inner.Waits.{Blocked, OpensLedger, waits_at};
+ghost use Rattle.tj_table_tests.specs.ByHand.{IsRun, MayBegin};
 
 use std::alloc::Global;
 use std::process::Abort;

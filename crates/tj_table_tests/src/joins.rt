@@ -3,7 +3,8 @@
 ghost use Rattle.std.specs.Prelude.{◌≡◌};
 ghost use Rattle.tj_body.specs.Programs.{program_of};
 ghost use Rattle.tj_words.specs.SeatViews.SeatSteps.{IsCellOf, IsSeatOf};
-ghost use Rattle.tj_table_tests.specs.ByHand.{IsRun, MayBegin, OpensLedger};
+ghost use Rattle.tj_run.specs.Inner.Waits.{OpensLedger};
+ghost use Rattle.tj_table_tests.specs.ByHand.{IsRun, MayBegin};
 
 use crate::by_hand::Hand;
 use crate::written::{Says, lists_of, table_of};
