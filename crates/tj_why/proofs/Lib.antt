@@ -7,3 +7,4 @@ pub mod ToldInputs
 pub mod Owns
 pub mod SameWords
 pub mod FoundCommands
+pub mod Joined

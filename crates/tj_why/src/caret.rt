@@ -6,6 +6,7 @@ ghost use Rattle.tj_syntax.specs.ScriptTexts.{IsMemory};
 ghost use Rattle.tj_lex.specs.Bytes.{stays_on_line};
 ghost use Rattle.tj_why.specs.Carets as spec;
 
+use crate::texts::joined;
 use std::alloc::Global;
 use tj_base::Oom;
 use tj_command::fault_line;
@@ -91,11 +92,7 @@ fn caret_text(alloc: Global, text: &[u8], at: Place) -> Result<Vec<u8>, Oom>
 {
     let line = line_at(text, at.line);
     let blanks = blanks(alloc, front(line, at.column.saturating_sub(1) as usize))?;
-    let mut told = Vec::from_slice(alloc, line)?;
-    told.push(b'\n')?;
-    told.extend_from_slice(blanks.as_slice())?;
-    told.extend_from_slice(b"^\n")?;
-    Ok(told)
+    joined(alloc, &[line, b"\n", blanks.as_slice(), b"^\n"])
 }
 
 /// The same where there is a position.

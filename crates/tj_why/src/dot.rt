@@ -8,9 +8,11 @@ ghost use Rattle.tj_why.specs.Scenes.{view};
 
 use crate::labels::{line_named, name_of, stop_text};
 use crate::scene::Scene;
+use crate::texts::{joined, named};
 use crate::why_lines::is_member;
 use std::alloc::Global;
-use tj_base::{Name, Oom, add_number};
+use tj_base::{Name, Oom};
+use tj_command::count_text;
 use tj_mean::{Ending, LinkList, TaskLine};
 use tj_trace::TraceLine;
 
@@ -38,8 +40,7 @@ fn is_troubled(line: &TaskLine) -> bool
 fn node(alloc: Global, name: &Name) -> Result<Vec<u8>, Oom>
     ensures { IfOk result (λ text. text.items ≡ spec.node name.now) }
 {
-    let mut text = Vec::from_slice(alloc, b"\"")?;
-    name.text_into(alloc, &mut text)?;
+    let mut text = named(alloc, b"\"", name)?;
     text.push(b'"')?;
     Ok(text)
 }
@@ -50,12 +51,10 @@ fn edge(alloc: Global, from: &Name, to: &Name, style: &[u8]) -> Result<Vec<u8>, 
 {
     let from = node(alloc, from)?;
     let to = node(alloc, to)?;
-    let mut text = Vec::from_slice(alloc, b"  ")?;
-    text.extend_from_slice(from.as_slice())?;
-    text.extend_from_slice(b" -> ")?;
-    text.extend_from_slice(to.as_slice())?;
-    text.extend_from_slice(style)?;
-    Ok(text)
+    joined(
+        alloc,
+        &[b"  ", from.as_slice(), b" -> ", to.as_slice(), style],
+    )
 }
 
 /// How the node of a task is drawn that stopped so.
@@ -70,21 +69,24 @@ fn fill(ending: &Ending) -> &'static [u8]
 }
 
 /// The node of a task.
-fn task_node(alloc: Global, scene: &Scene, line: &TraceLine) -> Result<Vec<u8>, Oom>
+fn task_node(scene: &Scene, line: &TraceLine) -> Result<Vec<u8>, Oom>
     ensures { IfOk result (λ text. text.items ≡ spec.task_node (view scene.now) line.now) }
 {
-    let node = node(alloc, &line.line.name)?;
-    let stop = stop_text(alloc, scene, line)?;
-    let mut text = Vec::from_slice(alloc, b"  ")?;
-    text.extend_from_slice(node.as_slice())?;
-    text.extend_from_slice(b" [label=\"")?;
-    line.line.name.text_into(alloc, &mut text)?;
-    text.extend_from_slice(b"\\n")?;
-    text.extend_from_slice(name_of(scene.script, line.decl))?;
-    text.extend_from_slice(b"\\n")?;
-    text.extend_from_slice(stop.as_slice())?;
-    text.extend_from_slice(fill(&line.line.ending))?;
-    Ok(text)
+    let node = node(scene.alloc, &line.line.name)?;
+    let stop = stop_text(scene, line)?;
+    let label = named(scene.alloc, b" [label=\"", &line.line.name)?;
+    let decl = name_of(scene.script, line.decl);
+    let spot = joined(scene.alloc, &[b"\\n", decl, b"\\n", stop.as_slice()])?;
+    joined(
+        scene.alloc,
+        &[
+            b"  ",
+            node.as_slice(),
+            label.as_slice(),
+            spot.as_slice(),
+            fill(&line.line.ending),
+        ],
+    )
 }
 
 /// The line, if its task is in the picture.
@@ -156,11 +158,15 @@ fn promise_node(alloc: Global, owner: &Name, promise: &Name) -> Result<Vec<u8>, 
 {
     let node = node(alloc, promise)?;
     let edge = edge(alloc, promise, owner, b" [style=dotted];\n")?;
-    let mut text = Vec::from_slice(alloc, b"  ")?;
-    text.extend_from_slice(node.as_slice())?;
-    text.extend_from_slice(b" [shape=ellipse];\n")?;
-    text.extend_from_slice(edge.as_slice())?;
-    Ok(text)
+    joined(
+        alloc,
+        &[
+            b"  ",
+            node.as_slice(),
+            b" [shape=ellipse];\n",
+            edge.as_slice(),
+        ],
+    )
 }
 
 /// The promises that a task owned where it stopped.
@@ -186,51 +192,46 @@ fn promise_nodes(alloc: Global, owner: &Name, names: &[Name]) -> Result<Vec<u8>,
 }
 
 /// What is drawn of a task.
-fn drawn(
-    alloc: Global,
-    scene: &Scene,
-    cycles: &[LinkList],
-    line: &TraceLine,
-) -> Result<Vec<u8>, Oom>
+fn drawn(scene: &Scene, cycles: &[LinkList], line: &TraceLine) -> Result<Vec<u8>, Oom>
     ensures { IfOk result (λ text. text.items
         ≡ spec.drawn (view scene.now) cycles.now line.now) }
 {
     let name = &line.line.name;
-    let fork = fork_edge(alloc, name, forker(scene, name))?;
-    let wait = wait_edge(alloc, cycles, name, &line.line.ending)?;
-    let promises = promise_nodes(alloc, name, promises(line))?;
-    let mut text = task_node(alloc, scene, line)?;
-    text.extend_from_slice(fork.as_slice())?;
-    text.extend_from_slice(wait.as_slice())?;
-    text.extend_from_slice(promises.as_slice())?;
-    Ok(text)
+    let fork = fork_edge(scene.alloc, name, forker(scene, name))?;
+    let wait = wait_edge(scene.alloc, cycles, name, &line.line.ending)?;
+    let promises = promise_nodes(scene.alloc, name, promises(line))?;
+    let node = task_node(scene, line)?;
+    joined(
+        scene.alloc,
+        &[
+            node.as_slice(),
+            fork.as_slice(),
+            wait.as_slice(),
+            promises.as_slice(),
+        ],
+    )
 }
 
 /// The same where the task is in the picture.
-fn drawing(
-    alloc: Global,
-    scene: &Scene,
-    cycles: &[LinkList],
-    line: &TraceLine,
-) -> Result<Vec<u8>, Oom>
+fn drawing(scene: &Scene, cycles: &[LinkList], line: &TraceLine) -> Result<Vec<u8>, Oom>
     ensures { IfOk result (λ text. text.items
         ≡ spec.drawing (view scene.now) cycles.now line.now) }
 {
     if is_drawn(scene, line) {
-        drawn(alloc, scene, cycles, line)
+        drawn(scene, cycles, line)
     } else {
-        Ok(Vec::new(alloc))
+        Ok(Vec::new(scene.alloc))
     }
 }
 
 /// What is drawn of each task.
-fn drawings(alloc: Global, scene: &Scene, cycles: &[LinkList]) -> Result<Vec<u8>, Oom>
+fn drawings(scene: &Scene, cycles: &[LinkList]) -> Result<Vec<u8>, Oom>
     ensures { IfOk result (λ text. text.items
         ≡ flat_map (spec.drawing (view scene.now) cycles.now) (view scene.now).lines) }
 {
-    let mut text = Vec::new(alloc);
+    let mut text = Vec::new(scene.alloc);
     for line in scene.lines {
-        let added = drawing(alloc, scene, cycles, line)?;
+        let added = drawing(scene, cycles, line)?;
         text.extend_from_slice(added.as_slice())?;
     }
     Ok(text)
@@ -256,21 +257,23 @@ fn undrawn_node(alloc: Global, count: usize) -> Result<Vec<u8>, Oom>
     if count == 0 {
         return Ok(Vec::new(alloc));
     }
-    let mut text = Vec::from_slice(alloc, b"  more [shape=note, label=\"")?;
-    add_number(&mut text, count as u128)?;
-    text.extend_from_slice(b" more ended and owe nothing\"];\n")?;
-    Ok(text)
+    count_text(
+        alloc,
+        b"  more [shape=note, label=\"",
+        count as u128,
+        b" more ended and owe nothing\"];\n",
+    )
 }
 
 /// The picture.
-pub fn dot_text(alloc: Global, scene: &Scene, cycles: &[LinkList]) -> Result<Vec<u8>, Oom>
+pub fn dot_text(scene: &Scene, cycles: &[LinkList]) -> Result<Vec<u8>, Oom>
     ensures { IfOk result (λ text. text.items ≡ spec.dot_text (view scene.now) cycles.now) }
 {
-    let tasks = drawings(alloc, scene, cycles)?;
-    let more = undrawn_node(alloc, undrawn(scene))?;
-    let mut text = Vec::from_slice(alloc, b"digraph tasks {\n  node [shape=box];\n")?;
-    text.extend_from_slice(tasks.as_slice())?;
-    text.extend_from_slice(more.as_slice())?;
-    text.extend_from_slice(b"}\n")?;
-    Ok(text)
+    let tasks = drawings(scene, cycles)?;
+    let more = undrawn_node(scene.alloc, undrawn(scene))?;
+    let head = b"digraph tasks {\n  node [shape=box];\n";
+    joined(
+        scene.alloc,
+        &[head, tasks.as_slice(), more.as_slice(), b"}\n"],
+    )
 }

@@ -1,8 +1,7 @@
 //! The lines of tasks that ended badly.
-ghost use Rattle.std.specs.Prelude.{◌≡◌, ◌++◌, IfOk};
+ghost use Rattle.std.specs.Prelude.{◌≡◌, IfOk};
 ghost use Rattle.std.specs.List.{flat_map};
 ghost use Rattle.std.specs.Option.{option_map};
-ghost use Rattle.tj_base.specs.Texts.{name_text};
 ghost use Rattle.tj_mean.specs.ReportTexts as reports;
 ghost use Rattle.tj_why.specs.Echoes as echoes;
 ghost use Rattle.tj_why.specs.Scenes.{view};
@@ -11,6 +10,7 @@ ghost use Rattle.tj_why.specs.WhyTexts as spec;
 use crate::echoes::{backs, echoed, origin};
 use crate::labels::{label, maker_of, stop_text};
 use crate::scene::Scene;
+use crate::texts::{joined, named};
 use crate::why_lines::{all_owed, made_text};
 use std::alloc::Global;
 use tj_base::{Cause, Name, Oom};
@@ -29,44 +29,28 @@ fn end_word(ending: &Ending) -> &'static [u8]
 }
 
 /// The task from whose end a failure came.
-fn origin_text(alloc: Global, scene: &Scene, line: Option<&TraceLine>) -> Result<Vec<u8>, Oom>
+fn origin_text(scene: &Scene, line: Option<&TraceLine>) -> Result<Vec<u8>, Oom>
     ensures { IfOk result (λ text. text.items
         ≡ spec.origin_text (view scene.now) (option_map (λ line. line.now) line.entry)) }
 {
     let Some(line) = line else {
-        return Ok(Vec::new(alloc));
+        return Ok(Vec::new(scene.alloc));
     };
-    let stop = stop_text(alloc, scene, line)?;
-    let mut text = Vec::from_slice(alloc, b", at first from ")?;
-    line.line.name.text_into(alloc, &mut text)?;
-    text.extend_from_slice(end_word(&line.line.ending))?;
-    text.extend_from_slice(stop.as_slice())?;
-    Ok(text)
+    let stop = stop_text(scene, line)?;
+    let name = named(scene.alloc, b", at first from ", &line.line.name)?;
+    let end = end_word(&line.line.ending);
+    joined(scene.alloc, &[name.as_slice(), end, stop.as_slice()])
 }
 
 /// The same of a failure, if it is an echo.
-fn echo_text(
-    alloc: Global,
-    scene: &Scene,
-    backs: &[Option<usize>],
-    cause: &Cause,
-) -> Result<Vec<u8>, Oom>
+fn echo_text(scene: &Scene, backs: &[Option<usize>], cause: &Cause) -> Result<Vec<u8>, Oom>
     ensures { IfOk result (λ text. text.items
         ≡ spec.echo_text (view scene.now) backs.now (echoes.echoed cause.now)) }
 {
     match echoed(cause) {
-        Some(name) => origin_text(alloc, scene, origin(scene.lines, backs, name)),
-        None => Ok(Vec::new(alloc)),
+        Some(name) => origin_text(scene, origin(scene.lines, backs, name)),
+        None => Ok(Vec::new(scene.alloc)),
     }
-}
-
-/// These bytes and the name of a cell.
-fn named(alloc: Global, before: &[u8], name: &Name) -> Result<Vec<u8>, Oom>
-    ensures { IfOk result (λ text. text.items ≡ before.now ++ name_text name.now) }
-{
-    let mut text = Vec::from_slice(alloc, before)?;
-    name.text_into(alloc, &mut text)?;
-    Ok(text)
 }
 
 /// Why a task failed, in the words of a report.
@@ -94,13 +78,13 @@ fn named_by(cause: &Cause) -> Option<&Name>
 }
 
 /// Where this cell was made, if it is one.
-fn about_text(alloc: Global, scene: &Scene, name: Option<&Name>) -> Result<Vec<u8>, Oom>
+fn about_text(scene: &Scene, name: Option<&Name>) -> Result<Vec<u8>, Oom>
     ensures { IfOk result (λ text. text.items
         ≡ spec.about_text (view scene.now) (option_map (λ name. name.now) name.entry)) }
 {
     match name {
-        Some(name) => made_text(alloc, scene, maker_of(scene.lines, name)),
-        None => Ok(Vec::new(alloc)),
+        Some(name) => made_text(scene, maker_of(scene.lines, name)),
+        None => Ok(Vec::new(scene.alloc)),
     }
 }
 
@@ -127,7 +111,6 @@ fn is_asked(echo: bool, cause: &Cause) -> bool
 
 /// A line for a failure.
 fn failed_line(
-    alloc: Global,
     scene: &Scene,
     backs: &[Option<usize>],
     line: &TraceLine,
@@ -136,26 +119,29 @@ fn failed_line(
     ensures { IfOk result (λ text. text.items
         ≡ spec.failed_line (view scene.now) backs.now line.now cause.now) }
 {
-    let task = label(alloc, scene, line)?;
-    let stop = stop_text(alloc, scene, line)?;
-    let why = cause_text(alloc, cause)?;
-    let about = about_text(alloc, scene, named_by(cause))?;
-    let echo = echo_text(alloc, scene, backs, cause)?;
-    let mut text = Vec::from_slice(alloc, b"failed: ")?;
-    text.extend_from_slice(task.as_slice())?;
-    text.extend_from_slice(b" at ")?;
-    text.extend_from_slice(stop.as_slice())?;
-    text.extend_from_slice(b": ")?;
-    text.extend_from_slice(why.as_slice())?;
-    text.extend_from_slice(about.as_slice())?;
-    text.extend_from_slice(echo.as_slice())?;
-    text.push(b'\n')?;
-    Ok(text)
+    let task = label(scene, line)?;
+    let stop = stop_text(scene, line)?;
+    let why = cause_text(scene.alloc, cause)?;
+    let about = about_text(scene, named_by(cause))?;
+    let echo = echo_text(scene, backs, cause)?;
+    joined(
+        scene.alloc,
+        &[
+            b"failed: ",
+            task.as_slice(),
+            b" at ",
+            stop.as_slice(),
+            b": ",
+            why.as_slice(),
+            about.as_slice(),
+            echo.as_slice(),
+            b"\n",
+        ],
+    )
 }
 
 /// A line for a task that failed, if its failure is no echo, or is one.
 fn failed(
-    alloc: Global,
     scene: &Scene,
     backs: &[Option<usize>],
     echo: bool,
@@ -165,14 +151,13 @@ fn failed(
         ≡ spec.failed (view scene.now) backs.now echo line.now) }
 {
     match &line.line.ending {
-        Ending::Failed(cause) => failed_by(alloc, scene, backs, echo, line, cause),
-        Ending::Done(_) | Ending::Waits(_) => Ok(Vec::new(alloc)),
+        Ending::Failed(cause) => failed_by(scene, backs, echo, line, cause),
+        Ending::Done(_) | Ending::Waits(_) => Ok(Vec::new(scene.alloc)),
     }
 }
 
 /// The same of one that failed for this cause.
 fn failed_by(
-    alloc: Global,
     scene: &Scene,
     backs: &[Option<usize>],
     echo: bool,
@@ -183,25 +168,20 @@ fn failed_by(
         ≡ spec.failed_by (view scene.now) backs.now echo line.now cause.now) }
 {
     if is_asked(echo, cause) {
-        failed_line(alloc, scene, backs, line, cause)
+        failed_line(scene, backs, line, cause)
     } else {
-        Ok(Vec::new(alloc))
+        Ok(Vec::new(scene.alloc))
     }
 }
 
 /// A line for each failure that is no echo, or for each that is one.
-fn all_failed(
-    alloc: Global,
-    scene: &Scene,
-    backs: &[Option<usize>],
-    echo: bool,
-) -> Result<Vec<u8>, Oom>
+fn all_failed(scene: &Scene, backs: &[Option<usize>], echo: bool) -> Result<Vec<u8>, Oom>
     ensures { IfOk result (λ text. text.items
         ≡ flat_map (spec.failed (view scene.now) backs.now echo) (view scene.now).lines) }
 {
-    let mut text = Vec::new(alloc);
+    let mut text = Vec::new(scene.alloc);
     for line in scene.lines {
-        let added = failed(alloc, scene, backs, echo, line)?;
+        let added = failed(scene, backs, echo, line)?;
         text.extend_from_slice(added.as_slice())?;
     }
     Ok(text)
@@ -209,16 +189,21 @@ fn all_failed(
 
 /// How tasks ended badly: failures that are no echo, what was owed by tasks that ended, and by
 /// tasks that failed, echoes.
-pub fn bad_ends(alloc: Global, scene: &Scene) -> Result<Vec<u8>, Oom>
+pub fn bad_ends(scene: &Scene) -> Result<Vec<u8>, Oom>
     ensures { IfOk result (λ text. text.items ≡ spec.bad_ends (view scene.now)) }
 {
-    let backs = backs(alloc, scene.lines)?;
-    let ended = all_owed(alloc, scene, true)?;
-    let others = all_owed(alloc, scene, false)?;
-    let echoes = all_failed(alloc, scene, backs.as_slice(), true)?;
-    let mut text = all_failed(alloc, scene, backs.as_slice(), false)?;
-    text.extend_from_slice(ended.as_slice())?;
-    text.extend_from_slice(others.as_slice())?;
-    text.extend_from_slice(echoes.as_slice())?;
-    Ok(text)
+    let backs = backs(scene.alloc, scene.lines)?;
+    let ended = all_owed(scene, true)?;
+    let others = all_owed(scene, false)?;
+    let echoes = all_failed(scene, backs.as_slice(), true)?;
+    let failed = all_failed(scene, backs.as_slice(), false)?;
+    joined(
+        scene.alloc,
+        &[
+            failed.as_slice(),
+            ended.as_slice(),
+            others.as_slice(),
+            echoes.as_slice(),
+        ],
+    )
 }

@@ -5,8 +5,9 @@ ghost use Rattle.tj_syntax.specs.View as trees;
 ghost use Rattle.tj_why.specs.Scenes as spec;
 
 use crate::scene::Scene;
+use crate::texts::{joined, named};
 use std::alloc::Global;
-use tj_base::{Name, Oom, add_number};
+use tj_base::{Name, Oom, add_count, add_number};
 use tj_lex::Place;
 use tj_syntax::Script;
 use tj_trace::{Maker, TraceLine, ask_spot, spot};
@@ -17,8 +18,7 @@ pub fn place_text(alloc: Global, place: Place) -> Result<Vec<u8>, Oom>
 {
     let mut text = Vec::new(alloc);
     add_number(&mut text, place.line as u128)?;
-    text.push(b':')?;
-    add_number(&mut text, place.column as u128)?;
+    add_count(&mut text, b":", place.column as u128)?;
     Ok(text)
 }
 
@@ -31,12 +31,12 @@ fn told_spot(scene: &Scene, decl: usize, at: usize) -> Option<Place>
 }
 
 /// Its position.
-pub fn spot_text(alloc: Global, scene: &Scene, decl: usize, at: usize) -> Result<Vec<u8>, Oom>
+pub fn spot_text(scene: &Scene, decl: usize, at: usize) -> Result<Vec<u8>, Oom>
     ensures { IfOk result (λ text. text.items ≡ spec.spot_text (spec.view scene.now) decl at) }
 {
     match told_spot(scene, decl, at) {
-        Some(place) => place_text(alloc, place),
-        None => Ok(Vec::from_slice(alloc, b"?")?),
+        Some(place) => place_text(scene.alloc, place),
+        None => Ok(Vec::from_slice(scene.alloc, b"?")?),
     }
 }
 
@@ -72,35 +72,37 @@ pub fn maker_of(lines: &[TraceLine], name: &Name) -> Option<Maker>
 }
 
 /// Where a task was forked.
-fn forked_text(alloc: Global, scene: &Scene, maker: Option<Maker>) -> Result<Vec<u8>, Oom>
+fn forked_text(scene: &Scene, maker: Option<Maker>) -> Result<Vec<u8>, Oom>
     ensures { IfOk result (λ text. text.items ≡ spec.forked_text (spec.view scene.now) maker) }
 {
     let Some(maker) = maker else {
-        return Ok(Vec::new(alloc));
+        return Ok(Vec::new(scene.alloc));
     };
-    let mut text = Vec::from_slice(alloc, b", forked at ")?;
-    let spot = spot_text(alloc, scene, maker.decl, maker.at)?;
-    text.extend_from_slice(spot.as_slice())?;
-    Ok(text)
+    let spot = spot_text(scene, maker.decl, maker.at)?;
+    joined(scene.alloc, &[b", forked at ", spot.as_slice()])
 }
 
 /// A task with its declaration and the fork that made it.
-pub fn label(alloc: Global, scene: &Scene, line: &TraceLine) -> Result<Vec<u8>, Oom>
+pub fn label(scene: &Scene, line: &TraceLine) -> Result<Vec<u8>, Oom>
     ensures { IfOk result (λ text. text.items ≡ spec.label (spec.view scene.now) line.now) }
 {
-    let forked = forked_text(alloc, scene, maker_of(scene.lines, &line.line.name))?;
-    let mut text = Vec::new(alloc);
-    line.line.name.text_into(alloc, &mut text)?;
-    text.extend_from_slice(b" (task ")?;
-    text.extend_from_slice(name_of(scene.script, line.decl))?;
-    text.extend_from_slice(forked.as_slice())?;
-    text.push(b')')?;
-    Ok(text)
+    let forked = forked_text(scene, maker_of(scene.lines, &line.line.name))?;
+    let name = named(scene.alloc, b"", &line.line.name)?;
+    joined(
+        scene.alloc,
+        &[
+            name.as_slice(),
+            b" (task ",
+            name_of(scene.script, line.decl),
+            forked.as_slice(),
+            b")",
+        ],
+    )
 }
 
 /// Where a task stopped.
-pub fn stop_text(alloc: Global, scene: &Scene, line: &TraceLine) -> Result<Vec<u8>, Oom>
+pub fn stop_text(scene: &Scene, line: &TraceLine) -> Result<Vec<u8>, Oom>
     ensures { IfOk result (λ text. text.items ≡ spec.stop_text (spec.view scene.now) line.now) }
 {
-    spot_text(alloc, scene, line.decl, line.at)
+    spot_text(scene, line.decl, line.at)
 }

@@ -11,6 +11,7 @@ mod line;
 mod line_word;
 mod scene;
 mod telling;
+mod texts;
 mod told;
 mod top_call;
 mod usage;

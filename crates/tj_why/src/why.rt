@@ -10,6 +10,7 @@ use crate::dot::dot_text;
 use crate::failures::bad_ends;
 use crate::scene::Scene;
 use crate::telling::Telling;
+use crate::texts::joined;
 use crate::why_lines::{all_behind, deadlocks, tasks_text};
 use std::alloc::Global;
 use tj_base::Oom;
@@ -30,40 +31,42 @@ pub fn why_text(
         (places_of.view places.now) lines.now outcome.now telling) }
 {
     let scene = Scene {
+        alloc,
         script,
         places,
         lines,
     };
     match telling {
-        Telling::Wrong => told_text(alloc, &scene, outcome, false),
-        Telling::All => told_text(alloc, &scene, outcome, true),
-        Telling::Dot => dot_text(alloc, &scene, outcome.cycles.items()),
+        Telling::Wrong => told_text(&scene, outcome, false),
+        Telling::All => told_text(&scene, outcome, true),
+        Telling::Dot => dot_text(&scene, outcome.cycles.items()),
     }
 }
 
 /// What is told of an outcome, perhaps with all of each cycle.
-fn told_text(alloc: Global, scene: &Scene, outcome: &Outcome, all: bool) -> Result<Vec<u8>, Oom>
+fn told_text(scene: &Scene, outcome: &Outcome, all: bool) -> Result<Vec<u8>, Oom>
     ensures { IfOk result (λ text.
         text.items ≡ spec.told_text (view scene.now) outcome.now all) }
 {
     if marked(outcome) {
-        wrong_text(alloc, scene, all, outcome.cycles.items())
+        wrong_text(scene, all, outcome.cycles.items())
     } else {
-        fine_text(alloc, scene.lines.len())
+        fine_text(scene.alloc, scene.lines.len())
     }
 }
 
 /// What went wrong.
-fn wrong_text(alloc: Global, scene: &Scene, all: bool, cycles: &[LinkList]) -> Result<Vec<u8>, Oom>
+fn wrong_text(scene: &Scene, all: bool, cycles: &[LinkList]) -> Result<Vec<u8>, Oom>
     ensures { IfOk result (λ text.
         text.items ≡ spec.wrong_text (view scene.now) all cycles.now) }
 {
-    let waits = all_behind(alloc, scene, cycles)?;
-    let ends = bad_ends(alloc, scene)?;
-    let mut text = deadlocks(alloc, scene, all, cycles)?;
-    text.extend_from_slice(waits.as_slice())?;
-    text.extend_from_slice(ends.as_slice())?;
-    Ok(text)
+    let waits = all_behind(scene, cycles)?;
+    let ends = bad_ends(scene)?;
+    let cycles = deadlocks(scene, all, cycles)?;
+    joined(
+        scene.alloc,
+        &[cycles.as_slice(), waits.as_slice(), ends.as_slice()],
+    )
 }
 
 /// Nothing went wrong with so many tasks.
@@ -71,8 +74,6 @@ fn fine_text(alloc: Global, count: usize) -> Result<Vec<u8>, Oom>
     ensures { IfOk result (λ text. text.items ≡ spec.fine_text count) }
 {
     let tasks = tasks_text(alloc, count)?;
-    let mut text = Vec::from_slice(alloc, b"nothing is wrong: ")?;
-    text.extend_from_slice(tasks.as_slice())?;
-    text.extend_from_slice(b" ended, each promise was set\n")?;
-    Ok(text)
+    let end = b" ended, each promise was set\n";
+    joined(alloc, &[b"nothing is wrong: ", tasks.as_slice(), end])
 }

@@ -8,8 +8,10 @@ ghost use Rattle.tj_why.specs.WhyTexts as spec;
 
 use crate::labels::{label, line_of, maker_of, spot_text, stop_text};
 use crate::scene::Scene;
+use crate::texts::{joined, named};
 use std::alloc::Global;
-use tj_base::{Name, Oom, Sort, add_number};
+use tj_base::{Name, Oom, Sort};
+use tj_command::count_text;
 use tj_mean::{Ending, Link, LinkList};
 use tj_trace::{Maker, TraceLine, owner_of};
 
@@ -26,10 +28,7 @@ pub fn tasks_text(alloc: Global, count: usize) -> Result<Vec<u8>, Oom>
     if count == 1 {
         return Ok(Vec::from_slice(alloc, b"1 task")?);
     }
-    let mut text = Vec::new(alloc);
-    add_number(&mut text, count as u128)?;
-    text.extend_from_slice(b" tasks")?;
-    Ok(text)
+    count_text(alloc, b"", count as u128, b" tasks")
 }
 
 /// Who owns a promise, if somebody does.
@@ -40,33 +39,28 @@ fn owner_text(alloc: Global, owner: Option<&TraceLine>) -> Result<Vec<u8>, Oom>
     let Some(line) = owner else {
         return Ok(Vec::new(alloc));
     };
-    let mut text = Vec::from_slice(alloc, b", which ")?;
-    line.line.name.text_into(alloc, &mut text)?;
+    let mut text = named(alloc, b", which ", &line.line.name)?;
     text.extend_from_slice(b" owns")?;
     Ok(text)
 }
 
 /// Where a promise was made.
-pub fn made_text(alloc: Global, scene: &Scene, maker: Option<Maker>) -> Result<Vec<u8>, Oom>
+pub fn made_text(scene: &Scene, maker: Option<Maker>) -> Result<Vec<u8>, Oom>
     ensures { IfOk result (λ text. text.items ≡ spec.made_text (view scene.now) maker) }
 {
     let Some(maker) = maker else {
-        return Ok(Vec::new(alloc));
+        return Ok(Vec::new(scene.alloc));
     };
-    let spot = spot_text(alloc, scene, maker.decl, maker.at)?;
-    let mut text = Vec::from_slice(alloc, b" (made at ")?;
-    text.extend_from_slice(spot.as_slice())?;
-    text.push(b')')?;
-    Ok(text)
+    let spot = spot_text(scene, maker.decl, maker.at)?;
+    joined(scene.alloc, &[b" (made at ", spot.as_slice(), b")"])
 }
 
 /// A promise with the statement that made it.
-fn promise_text(alloc: Global, scene: &Scene, name: &Name) -> Result<Vec<u8>, Oom>
+fn promise_text(scene: &Scene, name: &Name) -> Result<Vec<u8>, Oom>
     ensures { IfOk result (λ text. text.items ≡ spec.promise_text (view scene.now) name.now) }
 {
-    let made = made_text(alloc, scene, maker_of(scene.lines, name))?;
-    let mut text = Vec::from_slice(alloc, b"the promise ")?;
-    name.text_into(alloc, &mut text)?;
+    let made = made_text(scene, maker_of(scene.lines, name))?;
+    let mut text = named(scene.alloc, b"the promise ", name)?;
     text.extend_from_slice(made.as_slice())?;
     Ok(text)
 }
@@ -92,65 +86,66 @@ fn is_promise_sort(sort: Sort) -> bool
 }
 
 /// A cell for which a task waits.
-fn cell_text(alloc: Global, scene: &Scene, name: &Name) -> Result<Vec<u8>, Oom>
+fn cell_text(scene: &Scene, name: &Name) -> Result<Vec<u8>, Oom>
     ensures { IfOk result (λ text. text.items ≡ spec.cell_text (view scene.now) name.now) }
 {
     if is_promise(maker_of(scene.lines, name)) {
-        let owner = owner_text(alloc, owner_of(scene.lines, name))?;
-        let mut text = promise_text(alloc, scene, name)?;
+        let owner = owner_text(scene.alloc, owner_of(scene.lines, name))?;
+        let mut text = promise_text(scene, name)?;
         text.extend_from_slice(owner.as_slice())?;
         return Ok(text);
     }
-    let mut text = Vec::from_slice(alloc, b"the task ")?;
-    name.text_into(alloc, &mut text)?;
-    Ok(text)
+    named(scene.alloc, b"the task ", name)
 }
 
 /// A line for a wait.
-fn wait_line(alloc: Global, scene: &Scene, line: &TraceLine, cell: &Name) -> Result<Vec<u8>, Oom>
+fn wait_line(scene: &Scene, line: &TraceLine, cell: &Name) -> Result<Vec<u8>, Oom>
     ensures { IfOk result (λ text.
         text.items ≡ spec.wait_line (view scene.now) line.now cell.now) }
 {
-    let stop = stop_text(alloc, scene, line)?;
-    let cell = cell_text(alloc, scene, cell)?;
-    let mut text = label(alloc, scene, line)?;
-    text.extend_from_slice(b" waits at ")?;
-    text.extend_from_slice(stop.as_slice())?;
-    text.extend_from_slice(b" for ")?;
-    text.extend_from_slice(cell.as_slice())?;
-    text.push(b'\n')?;
-    Ok(text)
+    let stop = stop_text(scene, line)?;
+    let cell = cell_text(scene, cell)?;
+    let task = label(scene, line)?;
+    joined(
+        scene.alloc,
+        &[
+            task.as_slice(),
+            b" waits at ",
+            stop.as_slice(),
+            b" for ",
+            cell.as_slice(),
+            b"\n",
+        ],
+    )
 }
 
 /// A line for a member of a cycle.
-fn member(alloc: Global, scene: &Scene, link: &Link) -> Result<Vec<u8>, Oom>
+fn member(scene: &Scene, link: &Link) -> Result<Vec<u8>, Oom>
     ensures { IfOk result (λ text. text.items ≡ spec.member (view scene.now) link.now) }
 {
     match line_of(scene.lines, &link.task) {
-        Some(line) => member_with(alloc, scene, &link.cell, line),
-        None => Ok(Vec::new(alloc)),
+        Some(line) => member_with(scene, &link.cell, line),
+        None => Ok(Vec::new(scene.alloc)),
     }
 }
 
 /// The wait of a task with this line.
-fn member_with(alloc: Global, scene: &Scene, cell: &Name, line: &TraceLine) -> Result<Vec<u8>, Oom>
+fn member_with(scene: &Scene, cell: &Name, line: &TraceLine) -> Result<Vec<u8>, Oom>
     ensures { IfOk result (λ text.
         text.items ≡ spec.member_with (view scene.now) cell.now (Some line.now)) }
 {
-    let wait = wait_line(alloc, scene, line, cell)?;
-    let mut text = Vec::from_slice(alloc, b"  ")?;
-    text.extend_from_slice(wait.as_slice())?;
-    Ok(text)
+    let wait = wait_line(scene, line, cell)?;
+    joined(scene.alloc, &[b"  ", wait.as_slice()])
 }
 
 /// A line for each of these members.
-fn each_member(alloc: Global, scene: &Scene, links: &[Link]) -> Result<Vec<u8>, Oom>
+fn each_member(scene: &Scene, links: &[Link]) -> Result<Vec<u8>, Oom>
     ensures { IfOk result (λ text.
         text.items ≡ flat_map (spec.member (view scene.now)) links.now) }
 {
-    let mut text = Vec::new(alloc);
+    let mut text = Vec::new(scene.alloc);
     for link in links {
-        let added = member(alloc, scene, link)?;
+        let added = member(scene, link)?;
         text.extend_from_slice(added.as_slice())?;
     }
     Ok(text)
@@ -160,36 +155,34 @@ fn each_member(alloc: Global, scene: &Scene, links: &[Link]) -> Result<Vec<u8>, 
 fn left_out(alloc: Global, count: usize) -> Result<Vec<u8>, Oom>
     ensures { IfOk result (λ text. text.items ≡ spec.left_out count) }
 {
-    let mut text = Vec::from_slice(alloc, b"  .. ")?;
-    add_number(&mut text, count as u128)?;
-    text.extend_from_slice(b" more ..\n")?;
-    Ok(text)
+    count_text(alloc, b"  .. ", count as u128, b" more ..\n")
 }
 
 /// The members of a cycle.
-fn members(alloc: Global, scene: &Scene, all: bool, links: &[Link]) -> Result<Vec<u8>, Oom>
+fn members(scene: &Scene, all: bool, links: &[Link]) -> Result<Vec<u8>, Oom>
     ensures { IfOk result (λ text.
         text.items ≡ spec.members (view scene.now) all links.now) }
 {
     if all || links.len() <= MOST_MEMBERS {
-        return each_member(alloc, scene, links);
+        return each_member(scene, links);
     }
-    ends(alloc, scene, links)
+    ends(scene, links)
 }
 
 /// The members at the two ends of a long cycle.
-fn ends(alloc: Global, scene: &Scene, links: &[Link]) -> Result<Vec<u8>, Oom>
+fn ends(scene: &Scene, links: &[Link]) -> Result<Vec<u8>, Oom>
     requires { 20 < length links.now }
     ensures { IfOk result (λ text. text.items ≡ spec.ends (view scene.now) links.now) }
 {
     let (front, _) = links.split_at(END_MEMBERS);
     let (_, back) = links.split_at(links.len() - END_MEMBERS);
-    let between = left_out(alloc, links.len() - MOST_MEMBERS)?;
-    let back = each_member(alloc, scene, back)?;
-    let mut text = each_member(alloc, scene, front)?;
-    text.extend_from_slice(between.as_slice())?;
-    text.extend_from_slice(back.as_slice())?;
-    Ok(text)
+    let between = left_out(scene.alloc, links.len() - MOST_MEMBERS)?;
+    let back = each_member(scene, back)?;
+    let front = each_member(scene, front)?;
+    joined(
+        scene.alloc,
+        &[front.as_slice(), between.as_slice(), back.as_slice()],
+    )
 }
 
 /// What each of so many tasks waits for.
@@ -204,33 +197,28 @@ fn each_other(count: usize) -> &'static [u8]
 }
 
 /// A cycle.
-fn deadlock(alloc: Global, scene: &Scene, all: bool, links: &LinkList) -> Result<Vec<u8>, Oom>
+fn deadlock(scene: &Scene, all: bool, links: &LinkList) -> Result<Vec<u8>, Oom>
     ensures { IfOk result (λ text.
         text.items ≡ spec.deadlock (view scene.now) all links.now) }
 {
     let links = links.items();
-    let tasks = tasks_text(alloc, links.len())?;
-    let members = members(alloc, scene, all, links)?;
-    let mut text = Vec::from_slice(alloc, b"deadlock: ")?;
-    text.extend_from_slice(tasks.as_slice())?;
-    text.extend_from_slice(each_other(links.len()))?;
-    text.extend_from_slice(members.as_slice())?;
-    Ok(text)
+    let tasks = tasks_text(scene.alloc, links.len())?;
+    let members = members(scene, all, links)?;
+    let wait = each_other(links.len());
+    joined(
+        scene.alloc,
+        &[b"deadlock: ", tasks.as_slice(), wait, members.as_slice()],
+    )
 }
 
 /// Each cycle.
-pub fn deadlocks(
-    alloc: Global,
-    scene: &Scene,
-    all: bool,
-    cycles: &[LinkList],
-) -> Result<Vec<u8>, Oom>
+pub fn deadlocks(scene: &Scene, all: bool, cycles: &[LinkList]) -> Result<Vec<u8>, Oom>
     ensures { IfOk result (λ text.
         text.items ≡ flat_map (spec.deadlock (view scene.now) all) cycles.now) }
 {
-    let mut text = Vec::new(alloc);
+    let mut text = Vec::new(scene.alloc);
     for links in cycles {
-        let added = deadlock(alloc, scene, all, links)?;
+        let added = deadlock(scene, all, links)?;
         text.extend_from_slice(added.as_slice())?;
     }
     Ok(text)
@@ -251,24 +239,18 @@ pub fn is_member(cycles: &[LinkList], name: &Name) -> bool
 }
 
 /// A line for a task that waits and is no member of a cycle.
-fn behind(
-    alloc: Global,
-    scene: &Scene,
-    cycles: &[LinkList],
-    line: &TraceLine,
-) -> Result<Vec<u8>, Oom>
+fn behind(scene: &Scene, cycles: &[LinkList], line: &TraceLine) -> Result<Vec<u8>, Oom>
     ensures { IfOk result (λ text.
         text.items ≡ spec.behind (view scene.now) cycles.now line.now) }
 {
     match &line.line.ending {
-        Ending::Waits(cell) => behind_at(alloc, scene, cycles, line, cell),
-        Ending::Done(_) | Ending::Failed(_) => Ok(Vec::new(alloc)),
+        Ending::Waits(cell) => behind_at(scene, cycles, line, cell),
+        Ending::Done(_) | Ending::Failed(_) => Ok(Vec::new(scene.alloc)),
     }
 }
 
 /// The same of one that waits for this cell.
 fn behind_at(
-    alloc: Global,
     scene: &Scene,
     cycles: &[LinkList],
     line: &TraceLine,
@@ -278,22 +260,20 @@ fn behind_at(
         text.items ≡ spec.behind_at (view scene.now) cycles.now line.now cell.now) }
 {
     if is_member(cycles, &line.line.name) {
-        return Ok(Vec::new(alloc));
+        return Ok(Vec::new(scene.alloc));
     }
-    let wait = wait_line(alloc, scene, line, cell)?;
-    let mut text = Vec::from_slice(alloc, b"behind a deadlock: ")?;
-    text.extend_from_slice(wait.as_slice())?;
-    Ok(text)
+    let wait = wait_line(scene, line, cell)?;
+    joined(scene.alloc, &[b"behind a deadlock: ", wait.as_slice()])
 }
 
 /// A line for each task that waits and is no member of a cycle.
-pub fn all_behind(alloc: Global, scene: &Scene, cycles: &[LinkList]) -> Result<Vec<u8>, Oom>
+pub fn all_behind(scene: &Scene, cycles: &[LinkList]) -> Result<Vec<u8>, Oom>
     ensures { IfOk result (λ text.
         text.items ≡ flat_map (spec.behind (view scene.now) cycles.now) (view scene.now).lines) }
 {
-    let mut text = Vec::new(alloc);
+    let mut text = Vec::new(scene.alloc);
     for line in scene.lines {
-        let added = behind(alloc, scene, cycles, line)?;
+        let added = behind(scene, cycles, line)?;
         text.extend_from_slice(added.as_slice())?;
     }
     Ok(text)
@@ -311,38 +291,37 @@ fn stopped_word(ending: &Ending) -> &'static [u8]
 }
 
 /// A line for a promise that a task owed.
-fn owed_line(alloc: Global, scene: &Scene, line: &TraceLine, name: &Name) -> Result<Vec<u8>, Oom>
+fn owed_line(scene: &Scene, line: &TraceLine, name: &Name) -> Result<Vec<u8>, Oom>
     ensures { IfOk result (λ text.
         text.items ≡ spec.owed_line (view scene.now) line.now name.now) }
 {
-    let promise = promise_text(alloc, scene, name)?;
-    let owner = label(alloc, scene, line)?;
-    let stop = stop_text(alloc, scene, line)?;
-    let mut text = Vec::from_slice(alloc, b"owed: ")?;
-    text.extend_from_slice(promise.as_slice())?;
-    text.extend_from_slice(b" was never set: ")?;
-    text.extend_from_slice(owner.as_slice())?;
-    text.extend_from_slice(b" owned it and ")?;
-    text.extend_from_slice(stopped_word(&line.line.ending))?;
-    text.extend_from_slice(b" at ")?;
-    text.extend_from_slice(stop.as_slice())?;
-    text.push(b'\n')?;
-    Ok(text)
+    let promise = promise_text(scene, name)?;
+    let owner = label(scene, line)?;
+    let stop = stop_text(scene, line)?;
+    joined(
+        scene.alloc,
+        &[
+            b"owed: ",
+            promise.as_slice(),
+            b" was never set: ",
+            owner.as_slice(),
+            b" owned it and ",
+            stopped_word(&line.line.ending),
+            b" at ",
+            stop.as_slice(),
+            b"\n",
+        ],
+    )
 }
 
 /// A line for each of these promises, which a task owed.
-fn owed_lines(
-    alloc: Global,
-    scene: &Scene,
-    line: &TraceLine,
-    names: &[Name],
-) -> Result<Vec<u8>, Oom>
+fn owed_lines(scene: &Scene, line: &TraceLine, names: &[Name]) -> Result<Vec<u8>, Oom>
     ensures { IfOk result (λ text.
         text.items ≡ flat_map (spec.owed_line (view scene.now) line.now) names.now) }
 {
-    let mut text = Vec::new(alloc);
+    let mut text = Vec::new(scene.alloc);
     for name in names {
-        let added = owed_line(alloc, scene, line, name)?;
+        let added = owed_line(scene, line, name)?;
         text.extend_from_slice(added.as_slice())?;
     }
     Ok(text)
@@ -370,24 +349,24 @@ fn is_owing(ended: bool, ending: &Ending) -> bool
 }
 
 /// A line for each promise that a task owed, if those of such a task are asked for.
-fn owed(alloc: Global, scene: &Scene, ended: bool, line: &TraceLine) -> Result<Vec<u8>, Oom>
+fn owed(scene: &Scene, ended: bool, line: &TraceLine) -> Result<Vec<u8>, Oom>
     ensures { IfOk result (λ text. text.items ≡ spec.owed (view scene.now) ended line.now) }
 {
     if is_owing(ended, &line.line.ending) {
-        owed_lines(alloc, scene, line, line.line.owes.items())
+        owed_lines(scene, line, line.line.owes.items())
     } else {
-        Ok(Vec::new(alloc))
+        Ok(Vec::new(scene.alloc))
     }
 }
 
 /// A line for each promise that a task owed which ended, or which didn't.
-pub fn all_owed(alloc: Global, scene: &Scene, ended: bool) -> Result<Vec<u8>, Oom>
+pub fn all_owed(scene: &Scene, ended: bool) -> Result<Vec<u8>, Oom>
     ensures { IfOk result (λ text.
         text.items ≡ flat_map (spec.owed (view scene.now) ended) (view scene.now).lines) }
 {
-    let mut text = Vec::new(alloc);
+    let mut text = Vec::new(scene.alloc);
     for line in scene.lines {
-        let added = owed(alloc, scene, ended, line)?;
+        let added = owed(scene, ended, line)?;
         text.extend_from_slice(added.as_slice())?;
     }
     Ok(text)

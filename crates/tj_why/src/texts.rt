@@ -1,0 +1,27 @@
+//! Texts put together.
+ghost use Rattle.std.specs.Prelude.{◌≡◌, ◌++◌, IfOk, map};
+ghost use Rattle.tj_base.specs.Texts.{name_text};
+ghost use Rattle.tj_why.specs.Inner.Joined as spec;
+
+use std::alloc::Global;
+use tj_base::{Name, Oom};
+
+/// These texts, one behind the other.
+pub fn joined(alloc: Global, parts: &[&[u8]]) -> Result<Vec<u8>, Oom>
+    ensures { IfOk result (λ text. text.items ≡ spec.joined (map (λ part. part.now) parts.now)) }
+{
+    let mut text = Vec::new(alloc);
+    for part in parts {
+        text.extend_from_slice(part)?;
+    }
+    Ok(text)
+}
+
+/// These bytes and the name of a cell.
+pub fn named(alloc: Global, before: &[u8], name: &Name) -> Result<Vec<u8>, Oom>
+    ensures { IfOk result (λ text. text.items ≡ before.now ++ name_text name.now) }
+{
+    let mut text = Vec::from_slice(alloc, before)?;
+    name.text_into(alloc, &mut text)?;
+    Ok(text)
+}
