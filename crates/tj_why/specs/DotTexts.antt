@@ -10,7 +10,7 @@ use Rattle.tj_mean.specs.declared.outcome.Ending.TheVariants as ending
 use Rattle.tj_mean.specs.declared.outcome.Link.{Link}
 use Rattle.tj_trace.specs.declared.line.TraceLine.{TraceLine}
 use Rattle.tj_why.specs.Scenes.{Told, line_of, maker_name, name_of, stop_text}
-use Rattle.tj_why.specs.WhyTexts.{is_member}
+use Rattle.tj_why.specs.WhyTexts.{by_ending, is_member}
 
 -- the most tasks of which each is in the picture
 abbrev pub most_drawn : ℕ
@@ -35,9 +35,7 @@ edge x y style = codes "  " ++ node x ++ codes " -> " ++ node y ++ style
 
 -- how the node of a task is drawn that stopped so: one that failed is filled
 abbrev pub fill : Ending → List ℕ
-fill (ending.Done v) = codes "\"];\n"
-fill (ending.Failed c) = codes "\", style=filled, fillcolor=salmon];\n"
-fill (ending.Waits q) = codes "\"];\n"
+fill e = by_ending e (codes "\"];\n") (codes "\", style=filled, fillcolor=salmon];\n") (codes "\"];\n")
 
 -- the node of a task: its name, its declaration, and where it stopped
 abbrev pub task_node : Told → TraceLine → List ℕ

@@ -119,11 +119,15 @@ behind_with s cycles l (ending.Waits q) = behind_at s cycles l q
 abbrev pub behind : Told → List (List Link) → TraceLine → List ℕ
 behind s cycles l = behind_with s cycles l l.line.ending
 
+-- of three texts the one for how a task stopped: it ended, failed, or waits
+abbrev pub by_ending : Ending → List ℕ → List ℕ → List ℕ → List ℕ
+by_ending (ending.Done v) done failed waits = done
+by_ending (ending.Failed c) done failed waits = failed
+by_ending (ending.Waits q) done failed waits = waits
+
 -- how a task stopped
 abbrev pub stopped_word : Ending → List ℕ
-stopped_word (ending.Done v) = codes "ended"
-stopped_word (ending.Failed c) = codes "failed"
-stopped_word (ending.Waits q) = codes "waits"
+stopped_word e = by_ending e (codes "ended") (codes "failed") (codes "waits")
 
 -- a line for a promise that a task owed
 abbrev pub owed_line : Told → TraceLine → Name → List ℕ
@@ -146,9 +150,7 @@ owed s ended l = cond (is_owing ended l.line.ending) (flat_map (owed_line s l) l
 
 -- what the task did from whose end a failure came: it failed, or it ended and owed promises
 abbrev pub end_word : Ending → List ℕ
-end_word (ending.Done v) = codes ", which ended owing at "
-end_word (ending.Failed c) = codes ", which failed at "
-end_word (ending.Waits q) = codes ", which waits at "
+end_word e = by_ending e (codes ", which ended owing at ") (codes ", which failed at ") (codes ", which waits at ")
 
 -- the task from whose end a failure came
 abbrev pub origin_text : Told → Option TraceLine → List ℕ

@@ -8,7 +8,7 @@ ghost use Rattle.tj_why.specs.Scenes.{view};
 
 use crate::labels::{line_named, name_of, stop_text};
 use crate::scene::Scene;
-use crate::texts::{joined, named};
+use crate::texts::{by_ending, joined, named};
 use crate::why_lines::is_member;
 use std::alloc::Global;
 use tj_base::{Name, Oom};
@@ -61,11 +61,13 @@ fn edge(alloc: Global, from: &Name, to: &Name, style: &[u8]) -> Result<Vec<u8>, 
 fn fill(ending: &Ending) -> &'static [u8]
     ensures { result.now ≡ spec.fill ending.now }
 {
-    match ending {
-        Ending::Done(_) => b"\"];\n",
-        Ending::Failed(_) => b"\", style=filled, fillcolor=salmon];\n",
-        Ending::Waits(_) => b"\"];\n",
-    }
+    let plain: &'static [u8] = b"\"];\n";
+    by_ending(
+        ending,
+        plain,
+        b"\", style=filled, fillcolor=salmon];\n",
+        plain,
+    )
 }
 
 /// The node of a task.

@@ -10,7 +10,7 @@ ghost use Rattle.tj_why.specs.WhyTexts as spec;
 use crate::echoes::{backs, echoed, origin};
 use crate::labels::{label, maker_of, stop_text};
 use crate::scene::Scene;
-use crate::texts::{joined, named};
+use crate::texts::{by_ending, joined, named};
 use crate::why_lines::{all_owed, made_text};
 use std::alloc::Global;
 use tj_base::{Cause, Name, Oom};
@@ -21,11 +21,12 @@ use tj_trace::TraceLine;
 fn end_word(ending: &Ending) -> &'static [u8]
     ensures { result.now ≡ spec.end_word ending.now }
 {
-    match ending {
-        Ending::Done(_) => b", which ended owing at ",
-        Ending::Failed(_) => b", which failed at ",
-        Ending::Waits(_) => b", which waits at ",
-    }
+    by_ending(
+        ending,
+        b", which ended owing at ",
+        b", which failed at ",
+        b", which waits at ",
+    )
 }
 
 /// The task from whose end a failure came.

@@ -1,10 +1,12 @@
-//! Texts put together.
+//! Texts put together, and chosen.
 ghost use Rattle.std.specs.Prelude.{◌≡◌, ◌++◌, IfOk, map};
 ghost use Rattle.tj_base.specs.Texts.{name_text};
 ghost use Rattle.tj_why.specs.Inner.Joined as spec;
+ghost use Rattle.tj_why.specs.WhyTexts as why_texts;
 
 use std::alloc::Global;
 use tj_base::{Name, Oom};
+use tj_mean::Ending;
 
 /// These texts, one behind the other.
 pub fn joined(alloc: Global, parts: &[&[u8]]) -> Result<Vec<u8>, Oom>
@@ -24,4 +26,20 @@ pub fn named(alloc: Global, before: &[u8], name: &Name) -> Result<Vec<u8>, Oom>
     let mut text = Vec::from_slice(alloc, before)?;
     name.text_into(alloc, &mut text)?;
     Ok(text)
+}
+
+/// Of these three texts the one for how a task stopped: it ended, failed, or waits.
+pub fn by_ending(
+    ending: &Ending,
+    done: &'static [u8],
+    failed: &'static [u8],
+    waits: &'static [u8],
+) -> &'static [u8]
+    ensures { result.now ≡ why_texts.by_ending ending.now done.now failed.now waits.now }
+{
+    match ending {
+        Ending::Done(_) => done,
+        Ending::Failed(_) => failed,
+        Ending::Waits(_) => waits,
+    }
 }

@@ -8,7 +8,7 @@ ghost use Rattle.tj_why.specs.WhyTexts as spec;
 
 use crate::labels::{label, line_of, maker_of, spot_text, stop_text};
 use crate::scene::Scene;
-use crate::texts::{joined, named};
+use crate::texts::{by_ending, joined, named};
 use std::alloc::Global;
 use tj_base::{Name, Oom, Sort};
 use tj_command::count_text;
@@ -283,11 +283,7 @@ pub fn all_behind(scene: &Scene, cycles: &[LinkList]) -> Result<Vec<u8>, Oom>
 fn stopped_word(ending: &Ending) -> &'static [u8]
     ensures { result.now ≡ spec.stopped_word ending.now }
 {
-    match ending {
-        Ending::Done(_) => b"ended",
-        Ending::Failed(_) => b"failed",
-        Ending::Waits(_) => b"waits",
-    }
+    by_ending(ending, b"ended", b"failed", b"waits")
 }
 
 /// A line for a promise that a task owed.
