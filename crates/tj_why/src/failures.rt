@@ -11,7 +11,7 @@ use crate::echoes::{backs, echoed, origin};
 use crate::labels::{label, maker_of, stop_text};
 use crate::scene::Scene;
 use crate::texts::{by_ending, joined, named};
-use crate::why_lines::{all_owed, made_text};
+use crate::why_lines::{all_owed, is_as, made_text};
 use std::alloc::Global;
 use tj_base::{Cause, Name, Oom};
 use tj_mean::Ending;
@@ -103,11 +103,7 @@ fn is_echo(cause: &Cause) -> bool
 fn is_asked(echo: bool, cause: &Cause) -> bool
     ensures { result ≡ spec.is_asked echo cause.now }
 {
-    if echo {
-        is_echo(cause)
-    } else {
-        !is_echo(cause)
-    }
+    is_as(echo, is_echo(cause))
 }
 
 /// A line for a failure.

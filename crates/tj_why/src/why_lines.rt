@@ -1,5 +1,5 @@
 //! The lines that tell what went wrong. Each function gives the text of its lines.
-ghost use Rattle.std.specs.Prelude.{◌≡◌, ◌<◌, IfOk, Some, length};
+ghost use Rattle.std.specs.Prelude.{◌≡◌, ◌<◌, IfOk, Some, cond, length, not};
 ghost use Rattle.std.specs.List.{flat_map, list_any};
 ghost use Rattle.std.specs.Option.{option_map};
 ghost use Rattle.tj_body.specs.Names.{same};
@@ -337,10 +337,17 @@ fn has_ended(ending: &Ending) -> bool
 fn is_owing(ended: bool, ending: &Ending) -> bool
     ensures { result ≡ spec.is_owing ended ending.now }
 {
-    if ended {
-        has_ended(ending)
+    is_as(ended, has_ended(ending))
+}
+
+/// Whether it is as wanted that something holds.
+pub fn is_as(wanted: bool, holds: bool) -> bool
+    ensures { result ≡ cond wanted holds (not holds) }
+{
+    if wanted {
+        holds
     } else {
-        !has_ended(ending)
+        !holds
     }
 }
 
