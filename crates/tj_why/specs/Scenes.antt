@@ -79,3 +79,7 @@ label s l = name_text l.line.name ++ codes " (task " ++ name_of (slice_get s.scr
 -- where a task stopped
 abbrev pub stop_text : Told → TraceLine → List ℕ
 stop_text s l = spot_text s l.decl l.at
+
+-- a task, what it did, and where it stopped
+abbrev pub task_at : Told → TraceLine → List ℕ → List ℕ
+task_at s l did = label s l ++ did ++ stop_text s l

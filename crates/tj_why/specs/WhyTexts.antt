@@ -19,7 +19,7 @@ use Rattle.tj_trace.specs.Lookups.{kept_by}
 use Rattle.tj_trace.specs.declared.line.Maker.{Maker}
 use Rattle.tj_trace.specs.declared.line.TraceLine.{TraceLine}
 use Rattle.tj_why.specs.Echoes.{backs, echoed, origin}
-use Rattle.tj_why.specs.Scenes.{Told, label, line_of, maker_of, spot_text, stop_text}
+use Rattle.tj_why.specs.Scenes.{Told, line_of, maker_of, spot_text, stop_text, task_at}
 
 -- so many tasks
 abbrev pub tasks_text : ℕ → List ℕ
@@ -60,7 +60,7 @@ cell_text s q = cond (is_promise (maker_of s.lines q)) (promise_text s q ++ owne
 
 -- a line for a wait: the task, where it waits and for what
 abbrev pub wait_line : Told → TraceLine → Name → List ℕ
-wait_line s l q = label s l ++ codes " waits at " ++ stop_text s l ++ codes " for " ++ cell_text s q ++ line_feed
+wait_line s l q = task_at s l (codes " waits at ") ++ codes " for " ++ cell_text s q ++ line_feed
 
 -- the wait of a task with this line
 abbrev pub member_with : Told → Name → Option TraceLine → List ℕ
@@ -131,8 +131,8 @@ stopped_word e = by_ending e (codes "ended") (codes "failed") (codes "waits")
 
 -- a line for a promise that a task owed
 abbrev pub owed_line : Told → TraceLine → Name → List ℕ
-owed_line s l q = codes "owed: " ++ promise_text s q ++ codes " was never set: " ++ label s l
-    ++ codes " owned it and " ++ stopped_word l.line.ending ++ codes " at " ++ stop_text s l ++ line_feed
+owed_line s l q = codes "owed: " ++ promise_text s q ++ codes " was never set: "
+    ++ task_at s l (codes " owned it and " ++ stopped_word l.line.ending ++ codes " at ") ++ line_feed
 
 -- the task ended, and didn't fail
 abbrev pub has_ended : Ending → Bool
@@ -178,7 +178,7 @@ about_text s (Some q) = made_text s (maker_of s.lines q)
 
 -- a line for a failure
 abbrev pub failed_line : Told → List (Option ℕ) → TraceLine → Cause → List ℕ
-failed_line s bs l c = codes "failed: " ++ label s l ++ codes " at " ++ stop_text s l ++ codes ": " ++ cause_text c
+failed_line s bs l c = codes "failed: " ++ task_at s l (codes " at ") ++ codes ": " ++ cause_text c
     ++ about_text s (named_by c) ++ echo_text s bs (echoed c) ++ line_feed
 
 -- the failure is an echo

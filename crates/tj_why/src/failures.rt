@@ -8,7 +8,7 @@ ghost use Rattle.tj_why.specs.Scenes.{view};
 ghost use Rattle.tj_why.specs.WhyTexts as spec;
 
 use crate::echoes::{backs, echoed, origin};
-use crate::labels::{label, maker_of, stop_text};
+use crate::labels::{maker_of, stop_text, task_at};
 use crate::scene::Scene;
 use crate::texts::{by_ending, joined, named};
 use crate::why_lines::{all_owed, is_as, made_text};
@@ -116,8 +116,7 @@ fn failed_line(
     ensures { IfOk result (λ text. text.items
         ≡ spec.failed_line (view scene.now) backs.now line.now cause.now) }
 {
-    let task = label(scene, line)?;
-    let stop = stop_text(scene, line)?;
+    let task = task_at(scene, line, b" at ")?;
     let why = cause_text(scene.alloc, cause)?;
     let about = about_text(scene, named_by(cause))?;
     let echo = echo_text(scene, backs, cause)?;
@@ -126,8 +125,6 @@ fn failed_line(
         &[
             b"failed: ",
             task.as_slice(),
-            b" at ",
-            stop.as_slice(),
             b": ",
             why.as_slice(),
             about.as_slice(),

@@ -106,3 +106,13 @@ pub fn stop_text(scene: &Scene, line: &TraceLine) -> Result<Vec<u8>, Oom>
 {
     spot_text(scene, line.decl, line.at)
 }
+
+/// A task, what it did, and where it stopped.
+pub fn task_at(scene: &Scene, line: &TraceLine, did: &[u8]) -> Result<Vec<u8>, Oom>
+    ensures { IfOk result (λ text.
+        text.items ≡ spec.task_at (spec.view scene.now) line.now did.now) }
+{
+    let task = label(scene, line)?;
+    let stop = stop_text(scene, line)?;
+    joined(scene.alloc, &[task.as_slice(), did, stop.as_slice()])
+}

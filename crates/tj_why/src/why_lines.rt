@@ -1,12 +1,13 @@
 //! The lines that tell what went wrong. Each function gives the text of its lines.
-ghost use Rattle.std.specs.Prelude.{◌≡◌, ◌<◌, IfOk, Some, cond, length, not};
+ghost use Rattle.std.specs.Prelude.{◌≡◌, ◌<◌, ◌++◌, IfOk, Some, codes, cond, length, not};
 ghost use Rattle.std.specs.List.{flat_map, list_any};
 ghost use Rattle.std.specs.Option.{option_map};
 ghost use Rattle.tj_body.specs.Names.{same};
+ghost use Rattle.tj_why.specs.Scenes as stands;
 ghost use Rattle.tj_why.specs.Scenes.{view};
 ghost use Rattle.tj_why.specs.WhyTexts as spec;
 
-use crate::labels::{label, line_of, maker_of, spot_text, stop_text};
+use crate::labels::{line_of, maker_of, spot_text, task_at};
 use crate::scene::Scene;
 use crate::texts::{by_ending, joined, named};
 use std::alloc::Global;
@@ -103,19 +104,11 @@ fn wait_line(scene: &Scene, line: &TraceLine, cell: &Name) -> Result<Vec<u8>, Oo
     ensures { IfOk result (λ text.
         text.items ≡ spec.wait_line (view scene.now) line.now cell.now) }
 {
-    let stop = stop_text(scene, line)?;
+    let task = task_at(scene, line, b" waits at ")?;
     let cell = cell_text(scene, cell)?;
-    let task = label(scene, line)?;
     joined(
         scene.alloc,
-        &[
-            task.as_slice(),
-            b" waits at ",
-            stop.as_slice(),
-            b" for ",
-            cell.as_slice(),
-            b"\n",
-        ],
+        &[task.as_slice(), b" for ", cell.as_slice(), b"\n"],
     )
 }
 
@@ -286,14 +279,23 @@ fn stopped_word(ending: &Ending) -> &'static [u8]
     by_ending(ending, b"ended", b"failed", b"waits")
 }
 
+/// A task that owned a promise, and how and where it stopped.
+fn owner_at(scene: &Scene, line: &TraceLine) -> Result<Vec<u8>, Oom>
+    ensures { IfOk result (λ text. text.items ≡ stands.task_at (view scene.now) line.now
+        (codes " owned it and " ++ spec.stopped_word line.now.line.ending ++ codes " at ")) }
+{
+    let word = stopped_word(&line.line.ending);
+    let did = joined(scene.alloc, &[b" owned it and ", word, b" at "])?;
+    task_at(scene, line, did.as_slice())
+}
+
 /// A line for a promise that a task owed.
 fn owed_line(scene: &Scene, line: &TraceLine, name: &Name) -> Result<Vec<u8>, Oom>
     ensures { IfOk result (λ text.
         text.items ≡ spec.owed_line (view scene.now) line.now name.now) }
 {
     let promise = promise_text(scene, name)?;
-    let owner = label(scene, line)?;
-    let stop = stop_text(scene, line)?;
+    let owner = owner_at(scene, line)?;
     joined(
         scene.alloc,
         &[
@@ -301,10 +303,6 @@ fn owed_line(scene: &Scene, line: &TraceLine, name: &Name) -> Result<Vec<u8>, Oo
             promise.as_slice(),
             b" was never set: ",
             owner.as_slice(),
-            b" owned it and ",
-            stopped_word(&line.line.ending),
-            b" at ",
-            stop.as_slice(),
             b"\n",
         ],
     )
@@ -344,11 +342,7 @@ fn is_owing(ended: bool, ending: &Ending) -> bool
 pub fn is_as(wanted: bool, holds: bool) -> bool
     ensures { result ≡ cond wanted holds (not holds) }
 {
-    if wanted {
-        holds
-    } else {
-        !holds
-    }
+    if wanted { holds } else { !holds }
 }
 
 /// A line for each promise that a task owed, if those of such a task are asked for.
