@@ -1,5 +1,5 @@
 -- Runs over workers: the closed words of the table that come with a text and a status, and that they are of one run.
-use Rattle.std.specs.Prelude.{ℕ, ◌≡◌, Bool, true, List, Option, String}
+use Rattle.std.specs.Prelude.{ℕ, ◌≡◌, true, List, Option, String}
 use Rattle.std.specs.Io.KnownBytes.{Appends}
 use Rattle.std.specs.declared.alloc.Global.{Global}
 use Rattle.tj_mean.specs.declared.outcome.Outcome.{Outcome}

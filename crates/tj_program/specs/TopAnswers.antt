@@ -14,10 +14,10 @@ use Rattle.tj_modes.specs.declared.command.Command.TheVariants.{Known}
 use Rattle.tj_command.specs.Answers.{IsAnswer}
 use Rattle.tj_command.specs.declared.status.Status.{Status}
 
--- What the top call answers to words, clause by clause: what each top call answers, with the input read where a command
--- takes it, and then what is so of runs alone. Of the source this takes the bytes left and the count of faults, before
--- and after, that it is as it was, and that it never fails, before and after; of the sink the bytes that it holds and the
--- count of faults, before and after, the room that it has, and that it is as it was.
+-- What the top call answers to words: what each top call answers, with the input read where a command takes it, and
+-- then what is so of runs alone. Of the source this takes the bytes left and the count of faults, before and after,
+-- that it is as it was, and that it never fails, before and after; of the sink the bytes that it holds and the count
+-- of faults, before and after, the room that it has, and that it is as it was.
 pub record IsTopAnswer (words : List (String Global)) (left left_after : Option (List ℕ)) (reads reads_after : ℕ)
     (IsUnread NeverFails NeverFailsAfter : Type 0) (held held_after : Option (List ℕ)) (puts puts_after : ℕ)
     (HasRoom : ℕ → Type 0) (IsUnwritten : Type 0) (status : Status) (closed : Option (List RestCell)) : Type 0 where

@@ -20,8 +20,8 @@ IsRunGiven told start status text closed =
     MatchOption closed (NeedsMore start × (status ≡ Full) × (text ≡ full_line start.cells))
     (IsRunClosed told start status text)
 
--- what is given of an input: the line of its fault where it is no script, or else what the run of it under these limits
--- gives over workers, as it is told
+-- what is given of an input: the line of its fault where it is no script, or else what the run of it under these
+-- limits gives over workers, as it is told
 abbrev pub IsScriptGiven : Told → Limits → (input : List ℕ) → Status → List ℕ → Option (List RestCell) → Type 0
 IsScriptGiven told limits input status text closed = (IsRefused input status text × (closed ≡ None))
     ⊎ ((start : Start) × IsStartOfText limits input start × IsRunGiven told start status text closed)
