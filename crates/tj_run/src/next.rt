@@ -1,4 +1,6 @@
 //! How a task goes on, and what it waits for.
+ghost use Rattle.std.specs.Prelude.{◌≡◌};
+
 use tj_words::Finish;
 
 /// How a task goes on after an ask or an answer.
@@ -18,4 +20,15 @@ pub(crate) enum Next {
 pub(crate) struct Wanted {
     pub(crate) place: u32,
     pub(crate) spare: bool,
+}
+
+impl Wanted {
+    /// A wait for the cell at the place.
+    #[inline(always)]
+    pub(crate) fn of(place: u32, spare: bool) -> Wanted
+        ensures place { result.place ≡ place }
+        ensures spare { result.spare ≡ spare }
+    {
+        Wanted { place, spare }
+    }
 }

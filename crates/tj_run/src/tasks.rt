@@ -52,38 +52,10 @@ impl<B: Body, P: Pool, R: Wait> Post<'_, B, P, R> {
             Ask::New => self.make_promise(laid, rec),
             Ask::Fork { body, pass, hand } => self.fork(laid, rec, body, pass, hand),
             Ask::Set { p, v } => self.set(laid, rec, p, v),
-            Ask::Get { p } => self.get(
-                laid,
-                rec,
-                Wanted {
-                    place: p,
-                    spare: false,
-                },
-            ),
-            Ask::GetOr { p } => self.get(
-                laid,
-                rec,
-                Wanted {
-                    place: p,
-                    spare: true,
-                },
-            ),
-            Ask::Join { t } => self.join(
-                laid,
-                rec,
-                Wanted {
-                    place: t,
-                    spare: false,
-                },
-            ),
-            Ask::JoinOr { t } => self.join(
-                laid,
-                rec,
-                Wanted {
-                    place: t,
-                    spare: true,
-                },
-            ),
+            Ask::Get { p } => self.get(laid, rec, Wanted::of(p, false)),
+            Ask::GetOr { p } => self.get(laid, rec, Wanted::of(p, true)),
+            Ask::Join { t } => self.join(laid, rec, Wanted::of(t, false)),
+            Ask::JoinOr { t } => self.join(laid, rec, Wanted::of(t, true)),
             Ask::Emit(number) => emit(laid, &self.seat, rec, number),
             Ask::End(v) => Ok(end_with(laid, &self.seat, rec, v)),
             Ask::Fail(trouble) => {
