@@ -7,7 +7,7 @@ ghost use Rattle.tj_words.specs.SeatViews.SeatSteps.{IsSeatOf};
 ghost use Rattle.tj_run.specs.Inner.Carried.{RunsTask};
 ghost use Rattle.tj_table_tests.specs.Beside.{HasBegun, MayBeginBeside, WaitsBeside};
 
-use crate::by_hand::Hand;
+use crate::by_hand::Rig;
 use std::marker::Brand;
 use std::process::Abort;
 use std::sync::Wait;
@@ -18,7 +18,7 @@ use tj_detect::Verdict;
 use tj_park::{Parked, park};
 use tj_words::{Held, Rec, WSeat, Way};
 
-impl<B: Body, R: Wait + Abort> Hand<'_, B, R> {
+impl<B: Body, R: Wait + Abort> Rig<'_, B, R> {
     /// The seat runs a task, and claims another one besides, which is to begin.
     fn claim_beside(&self, seat: &mut WSeat<B>, mine: &Rec<B>, t: CellId) -> Rec<B>
         requires table { IsSeatOf self.now.laid seat.old }

@@ -26,13 +26,13 @@ use tj_words::{Held, Laid, Rec, WSeat, Way};
 
 /// A table whose tasks a test runs by hand, the allocator, and what the calls run on.
 #[derive(Drop)]
-pub(crate) struct Hand<'t, B: Body, R> {
+pub(crate) struct Rig<'t, B: Body, R> {
     pub(crate) rt: &'t R,
     pub(crate) alloc: Global,
     pub(crate) laid: Laid<B>,
 }
 
-impl<B: Body, R: Wait + Abort> Hand<'_, B, R> {
+impl<B: Body, R: Wait + Abort> Rig<'_, B, R> {
     /// Claims a task that is to begin, whatever else the seat has.
     pub(crate) fn claim_first(&self, seat: &mut WSeat<B>, t: CellId) -> Rec<B>
         requires table { IsSeatOf self.now.laid seat.old }

@@ -6,7 +6,7 @@ ghost use Rattle.tj_words.specs.SeatViews.SeatSteps.{IsCellOf, IsSeatOf};
 ghost use Rattle.tj_run.specs.Inner.Waits.{OpensLedger};
 ghost use Rattle.tj_table_tests.specs.ByHand.{IsRun, MayBegin};
 
-use crate::by_hand::Hand;
+use crate::by_hand::Rig;
 use crate::written::{Says, lists_of, table_of};
 use std::marker::Brand;
 use std::process::Abort;
@@ -18,7 +18,7 @@ use tj_detect::{Verdict, block, way_of};
 use tj_ready::{LockedPool, Pool};
 use tj_words::{Rec, WSeat, Way};
 
-impl<B: Body, R: Wait + Abort> Hand<'_, B, R> {
+impl<B: Body, R: Wait + Abort> Rig<'_, B, R> {
     /// A task that runs joins a task that it is before in the fork order, and blocks. Tells the verdict.
     fn joins<L: Ledger>(&self, seat: &mut WSeat<B>, rec: Rec<B>, blank: Blank) -> Verdict
         requires blank { OpensLedger blank.name blank.parts L.name L.parts }
@@ -87,18 +87,18 @@ const CYCLE: &[&[Says]] = &[
 #[test]
 fn a_join_of_a_started_child_is_skipped(rt: HostRuntime) {
     let lists = lists_of(&rt, rt.alloc(), STARTED);
-    let (hand, seat, mut pool) = table_of::<LockedPool, HostRuntime>(&rt, &lists, 2);
-    let (mut first, mut second) = hand.laid.split(seat);
-    let verdict = hand.join_started(&mut first, &mut second, &mut pool);
+    let (rig, seat, mut pool) = table_of::<LockedPool, HostRuntime>(&rt, &lists, 2);
+    let (mut first, mut second) = rig.laid.split(seat);
+    let verdict = rig.join_started(&mut first, &mut second, &mut pool);
     assert!(rt; verdict == Verdict::Skipped, "no other wait stands");
 }
 
 #[test]
 fn a_cycle_of_two_tasks_of_one_seat_alarms(rt: HostRuntime) {
     let lists = lists_of(&rt, rt.alloc(), CYCLE);
-    let (hand, mut seat, mut pool) = table_of::<LockedPool, HostRuntime>(&rt, &lists, 3);
-    let root = hand.to_fork(&mut seat, &mut pool);
-    let verdict = hand.join_beside(&mut seat, root, CellId(2));
+    let (rig, mut seat, mut pool) = table_of::<LockedPool, HostRuntime>(&rt, &lists, 3);
+    let root = rig.to_fork(&mut seat, &mut pool);
+    let verdict = rig.join_beside(&mut seat, root, CellId(2));
     assert!(rt;
         verdict == Verdict::Alarm,
         "the child waits for its promise"

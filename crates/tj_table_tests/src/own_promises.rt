@@ -4,7 +4,7 @@ ghost use Rattle.tj_body.specs.Programs.{program_of};
 ghost use Rattle.tj_words.specs.SeatViews.SeatSteps.{IsSeatOf};
 ghost use Rattle.tj_table_tests.specs.ByHand.{IsRun};
 
-use crate::by_hand::Hand;
+use crate::by_hand::Rig;
 use crate::written::{Says, lists_of, table_of};
 use std::marker::Brand;
 use std::process::Abort;
@@ -17,7 +17,7 @@ use tj_park::shelve;
 use tj_ready::LockedPool;
 use tj_words::{Rec, WSeat};
 
-impl<B: Body, R: Wait + Abort> Hand<'_, B, R> {
+impl<B: Body, R: Wait + Abort> Rig<'_, B, R> {
     /// A task that runs gets a promise, blocks, and alarms; then it is shelved.
     fn get_and_alarm(&self, seat: &mut WSeat<B>, rec: Rec<B>)
         requires table { IsSeatOf self.now.laid seat.old }
@@ -49,9 +49,9 @@ const OWN: &[&[Says]] = &[&[Says::New, Says::Get(1)]];
 #[test]
 fn a_wait_for_an_own_promise_alarms(rt: HostRuntime) {
     let lists = lists_of(&rt, rt.alloc(), OWN);
-    let (hand, mut seat, _pool) = table_of::<LockedPool, HostRuntime>(&rt, &lists, 2);
-    let root = hand.begin(&mut seat, CellId(0));
-    let rec = hand.to_promise(&mut seat, root);
-    hand.get_and_alarm(&mut seat, rec);
-    assert!(rt; hand.laid.live(&mut seat) == 0, "nothing goes on");
+    let (rig, mut seat, _pool) = table_of::<LockedPool, HostRuntime>(&rt, &lists, 2);
+    let root = rig.begin(&mut seat, CellId(0));
+    let rec = rig.to_promise(&mut seat, root);
+    rig.get_and_alarm(&mut seat, rec);
+    assert!(rt; rig.laid.live(&mut seat) == 0, "nothing goes on");
 }

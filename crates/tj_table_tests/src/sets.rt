@@ -8,7 +8,7 @@ ghost use Rattle.tj_cells.specs.FilledCells.{MayFill, MayGiveUp};
 ghost use Rattle.tj_run.specs.Inner.Carried.{RunsTask};
 ghost use Rattle.tj_table_tests.specs.ByHand.{IsRun, MayBegin};
 
-use crate::by_hand::Hand;
+use crate::by_hand::Rig;
 use crate::written::{Says, lists_of, table_of};
 use std::marker::Brand;
 use std::process::Abort;
@@ -22,7 +22,7 @@ use tj_park::{Parked, claim, park, wake};
 use tj_ready::{LockedPool, Pool};
 use tj_words::{Fill, Rec, WSeat, Way};
 
-impl<B: Body, R: Wait + Abort> Hand<'_, B, R> {
+impl<B: Body, R: Wait + Abort> Rig<'_, B, R> {
     /// A task that runs asks to set the promise that it owns beside its result. Tells which, and to what number.
     pub(crate) fn to_set(&self, seat: &WSeat<B>, rec: Rec<B>) -> (Rec<B>, CellId, Fill)
         requires runs { IsRun (program_of B.places B.awaits B.left B.asks B.then)
@@ -119,19 +119,19 @@ const READER: &[&[Says]] = &[
 #[test]
 fn a_task_wakes_another_one_of_its_seat(rt: HostRuntime) {
     let lists = lists_of(&rt, rt.alloc(), READER);
-    let (hand, mut seat, mut pool) = table_of::<LockedPool, HostRuntime>(&rt, &lists, 3);
-    let root = hand.to_fork(&mut seat, &mut pool);
-    let woken = hand.set_beside(&mut seat, root, CellId(2), &mut pool);
+    let (rig, mut seat, mut pool) = table_of::<LockedPool, HostRuntime>(&rt, &lists, 3);
+    let root = rig.to_fork(&mut seat, &mut pool);
+    let woken = rig.set_beside(&mut seat, root, CellId(2), &mut pool);
     assert!(rt; woken == 1, "the reader");
     let reader = Some(CellId(2));
     assert!(rt; pool.take(&rt) == reader, "at its start");
     assert!(rt; pool.take(&rt) == reader, "and again");
     assert!(rt; pool.take(&rt).is_none(), "and nobody else");
-    let rec = claim(&hand.laid, &mut seat, CellId(2)).expect(&rt, "it is ready again");
+    let rec = claim(&rig.laid, &mut seat, CellId(2)).expect(&rt, "it is ready again");
     let Answer::RefAt(1) = rec.answer else {
         panic!(rt; "to read the promise");
     };
-    let None = claim(&hand.laid, &mut seat, CellId(2)) else {
+    let None = claim(&rig.laid, &mut seat, CellId(2)) else {
         panic!(rt; "it runs already");
     };
 }
@@ -139,7 +139,7 @@ fn a_task_wakes_another_one_of_its_seat(rt: HostRuntime) {
 #[test]
 fn a_promise_is_set_by_the_seat_that_is_to_park(rt: HostRuntime) {
     let lists = lists_of(&rt, rt.alloc(), READER);
-    let (hand, mut seat, mut pool) = table_of::<LockedPool, HostRuntime>(&rt, &lists, 3);
-    let seen = hand.set_between(&mut seat, &mut pool);
+    let (rig, mut seat, mut pool) = table_of::<LockedPool, HostRuntime>(&rt, &lists, 3);
+    let seen = rig.set_between(&mut seat, &mut pool);
     assert!(rt; seen == Seen::Num(5), "it goes on with the value");
 }

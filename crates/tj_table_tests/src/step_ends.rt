@@ -12,7 +12,7 @@ ghost use Rattle.tj_run.specs.Inner.Waits.{IsLeft};
 ghost use Rattle.tj_table_tests.specs.ByHand.{IsRun, MayBegin};
 ghost use Rattle.tj_table_tests.specs.EndsAlone.{EndsAlone};
 
-use crate::by_hand::Hand;
+use crate::by_hand::Rig;
 use crate::written::table_of;
 use std::alloc::Global;
 use std::process::Abort;
@@ -22,7 +22,7 @@ use tj_body::{Answer, Ask, Body, RowList, TableBody, names_and_cells, points_in_
 use tj_ready::LockedPool;
 use tj_words::{Fill, Finish, Head, Once, Phase, Rec, RestWords, WSeat, value_words};
 
-impl<B: Body, R: Wait + Abort> Hand<'_, B, R> {
+impl<B: Body, R: Wait + Abort> Rig<'_, B, R> {
     /// Claims a ready task in two steps: PHASE is exchanged, and the record is taken out of its slot.
     fn claim_in_steps(&self, seat: &mut WSeat<B>, t: CellId) -> Rec<B>
         requires table { IsSeatOf self.now.laid seat.old }
@@ -146,9 +146,9 @@ fn has_ended_with_0<B: Body>(rec: Option<&Rec<B>>) -> bool {
 fn the_root_ends_by_step_calls(rt: HostRuntime) {
     points_in_rounds::<TableBody<'_>>();
     let lists: [RowList; 1] = [Items::of(Vec::new(rt.alloc()))];
-    let (hand, mut seat, _pool) = table_of::<LockedPool, HostRuntime>(&rt, &lists, 2);
-    let claimed = hand.claim_in_steps(&mut seat, CellId(0));
-    let (rec, asked) = hand.ask(&seat, claimed);
+    let (rig, mut seat, _pool) = table_of::<LockedPool, HostRuntime>(&rt, &lists, 2);
+    let claimed = rig.claim_in_steps(&mut seat, CellId(0));
+    let (rec, asked) = rig.ask(&seat, claimed);
     let Ask::End(v) = asked else {
         panic!(rt; "it ends at once");
     };
@@ -159,9 +159,9 @@ fn the_root_ends_by_step_calls(rt: HostRuntime) {
     if owned != 1 {
         panic!(rt; "it owns its result alone");
     }
-    hand.end_in_steps(&mut seat, rec, Fill::Num(number));
-    if hand.laid.live(&mut seat) != 0 {
+    rig.end_in_steps(&mut seat, rec, Fill::Num(number));
+    if rig.laid.live(&mut seat) != 0 {
         panic!(rt; "nothing goes on");
     }
-    has_the_root_alone(&rt, hand.laid.rest(seat));
+    has_the_root_alone(&rt, rig.laid.rest(seat));
 }

@@ -9,7 +9,7 @@ ghost use Rattle.tj_words.specs.LawParts.Lots.{all_lots};
 ghost use Rattle.tj_words.specs.SeatViews.SeatSteps.{IsSeatOf};
 ghost use Rattle.tj_run.specs.Workers.{IsFree, table_program};
 
-use crate::by_hand::Hand;
+use crate::by_hand::Rig;
 use std::alloc::{AllocGlobal, Global};
 use std::process::Abort;
 use std::sync::Wait;
@@ -104,7 +104,7 @@ pub(crate) fn table_of<'t, 's, P: Pool, R: Wait + Abort + AllocGlobal>(
     rt: &'t R,
     lists: &'s [RowList],
     cells: u32,
-) -> (Hand<'t, TableBody<'s>, R>, WSeat<TableBody<'s>>, P)
+) -> (Rig<'t, TableBody<'s>, R>, WSeat<TableBody<'s>>, P)
     requires cells { (0 < cells) × (cells ≤ MAX_CELLS) }
     ensures cells { result.0.laid.cells ≡ cells }
     ensures table { IsSeatOf result.0.laid result.1 }
@@ -120,7 +120,7 @@ pub(crate) fn table_of<'t, 's, P: Pool, R: Wait + Abort + AllocGlobal>(
     let Ok((laid, seat)) = Laid::new(alloc, cells, root, true) else {
         panic!(rt; "no memory");
     };
-    (Hand { rt, alloc, laid }, seat, pool)
+    (Rig { rt, alloc, laid }, seat, pool)
 }
 
 /// The one end of a pool for so many cells.

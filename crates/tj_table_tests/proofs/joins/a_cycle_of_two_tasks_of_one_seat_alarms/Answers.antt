@@ -3,7 +3,7 @@ use Rattle.tj_table_tests.proofs.joins.a_cycle_of_two_tasks_of_one_seat_alarms.G
 
 pub to_fork-root-requires-clause-begins : goal.to_fork-root-requires-clause-begins
 to_fork-root-requires-clause-begins g c κs = record {
-  free = c.table_of-hand.ensures.free;
-  there = (let e = c.table_of-hand.ensures.cells in omega arith);
-  rooted = c.table_of-hand.ensures.rooted;
+  free = c.table_of-rig.ensures.free;
+  there = (let e = c.table_of-rig.ensures.cells in omega arith);
+  rooted = c.table_of-rig.ensures.rooted;
 }
