@@ -1,5 +1,5 @@
 //! A claimed task runs ask by ask, until it ends or leaves its worker in a wait.
-ghost use Rattle.std.specs.Prelude.{◌≡◌, ◌⊎◌, ◌<◌, IfOk, IfSome, None, OnOk};
+ghost use Rattle.std.specs.Prelude.{◌≡◌, ◌⊎◌, ◌<◌, IfOk, OnOk};
 ghost use Rattle.tj_body.specs.Programs.{program_of};
 ghost use Rattle.tj_run.specs.Workers.{table_program};
 ghost use Rattle.tj_run.specs.Inner.Carried.{IsAsked, IsRunning, RunsTask};
@@ -65,37 +65,28 @@ impl<B: Body, P: Pool, R: Wait> Post<'_, B, P, R> {
         }
     }
 
-    /// Runs the task until it ends or waits. It comes back where it has waited in vain: something had
-    /// become of its cell as it was to be parked.
+    /// The task asks until it waits or ends.
     #[inline(always)]
-    fn run_on(&mut self, laid: &Laid<B>, rec: Rec<B>) -> Result<Option<Rec<B>>, Why>
+    fn run_on(&mut self, laid: &Laid<B>, rec: &mut Rec<B>) -> Result<Next, Why>
         requires post { IsPostOf P.limit laid.now self.old }
-        requires back { ComesBack (program_of B.places B.awaits B.left B.asks B.then) laid.now rec
-            self.old.seat.me.0 self.old.seat.me }
+        requires back { ComesBack (program_of B.places B.awaits B.left B.asks B.then) laid.now
+            rec.old self.old.seat.me.0 self.old.seat.me }
         ensures stays { Stays P.limit self.old self.new result }
-        ensures left { IfOk result (λ back. back ≡ None
-            → IsLeft laid.now self.old.seat.me.0 self.new.seat.me) }
-        ensures back { IfOk result (λ back. IfSome back (λ r. ComesBack
-            (program_of B.places B.awaits B.left B.asks B.then) laid.now r self.old.seat.me.0
-            self.new.seat.me)) }
+        ensures goes { IfOk result (λ next. Goes (program_of B.places B.awaits B.left B.asks B.then)
+            laid.now next rec.new self.old.seat.me.0 self.new.seat.me) }
+        ensures stops { IfOk result Stops }
     {
-        let mut rec = rec;
-        let mut next = self.resume(laid, &mut rec)?;
+        let mut next = self.resume(laid, rec)?;
         loop {
             match next {
-                Next::Runs => next = self.one_ask(laid, &mut rec)?,
-                Next::Waits { place, spare } => {
-                    return Ok(wait(laid, &mut self.seat, rec, place, spare));
-                }
-                Next::Ends(ending) => {
-                    self.end(laid, rec, ending)?;
-                    return Ok(None);
-                }
+                Next::Runs => next = self.one_ask(laid, rec)?,
+                Next::Waits { .. } | Next::Ends(_) => return Ok(next),
             }
         }
     }
 
-    /// Runs a claimed task until it leaves the worker.
+    /// Runs a claimed task until it leaves the worker. It comes back where it has waited in vain:
+    /// something had become of its cell as it was to be parked.
     #[inline(always)]
     pub(crate) fn run(&mut self, laid: &Laid<B>, rec: Rec<B>) -> Result<(), Why>
         requires post { IsPostOf P.limit laid.now self.old }
@@ -107,9 +98,19 @@ impl<B: Body, P: Pool, R: Wait> Post<'_, B, P, R> {
         let rt = self.rt;
         let mut rec = rec;
         for _i in rt.forever() {
-            match self.run_on(laid, rec)? {
-                None => return Ok(()),
-                Some(back) => rec = back,
+            match self.run_on(laid, &mut rec)? {
+                Next::Runs => unreachable!(),
+                Next::Waits { place, spare } => match wait(
+                    laid,
+                    &mut self.seat,
+                    rec,
+                    place,
+                    spare,
+                ) {
+                    None => return Ok(()),
+                    Some(back) => rec = back,
+                },
+                Next::Ends(ending) => return self.end(laid, rec, ending),
             }
         }
         unreachable!()

@@ -86,7 +86,9 @@ impl<B: Body, P: Pool, R: Wait> Post<'_, B, P, R> {
             return idle(self.rt, laid, &mut self.seat, pauses);
         };
         *pauses = Pauses::none();
-        let rec = claim(laid, &mut self.seat, t)?;
+        let Some(rec) = claim(laid, &mut self.seat, t) else {
+            return None;
+        };
         match self.run(laid, rec) {
             Ok(()) => None,
             Err(why) => Some(Left::Stopped(stop_run(laid, &mut self.seat, why))),

@@ -1,6 +1,5 @@
 use Rattle.tj_run.proofs.Prelude.{program_of, ◌∙◌}
-use Rattle.tj_run.proofs.Runs.TaskReturns.{backs_on}
-use Rattle.tj_run.proofs.Seats.WorkersSteps.{goes_since, lacks_on, left_on}
+use Rattle.tj_run.proofs.Seats.WorkersSteps.{goes_since, lacks_on}
 use Rattle.tj_run.proofs.post.Post.run_on.Goals as goal
 
 pub loop-next-preserved : goal.loop-next-preserved
@@ -13,22 +12,6 @@ loop-next-preserved g c =
           done.ensures.goes;
     }
 
-pub returns-in-Waits-clause-left : goal.returns-in-Waits-clause-left
-returns-in-Waits-clause-left g c = λ none.
-    left_on c.args.laid.now c.args.self.now.seat.me.0 c.loop-next.self.seat.me.0 c.loop-next.invariant.goes.knows
-    c.wait.new.seat.me (c.wait.ensures.left none)
-
-pub returns-in-Waits-clause-back : goal.returns-in-Waits-clause-back
-returns-in-Waits-clause-back g c =
-    let b = g.B.Body in
-    backs_on (program_of b.places b.awaits b.left b.asks b.then) c.args.laid.now c.args.self.now.seat.me.0
-    c.loop-next.self.seat.me.0 c.loop-next.invariant.goes.knows c.wait.new.seat.me c.wait.result c.wait.ensures.back
-
-pub returns-in-Ends-clause-left : goal.returns-in-Ends-clause-left
-returns-in-Ends-clause-left g c = λ none.
-    left_on c.args.laid.now c.args.self.now.seat.me.0 c.loop-next.self.seat.me.0 c.loop-next.invariant.goes.knows
-    c.end.new.self.seat.me c.in_ok-end-in-Ends.ensures.left
-
 pub returns-in_err-next-in-Runs-clause-stays : goal.returns-in_err-next-in-Runs-clause-stays
 returns-in_err-next-in-Runs-clause-stays g c = (
   (
@@ -39,15 +22,4 @@ returns-in_err-next-in-Runs-clause-stays g c = (
       c.one_ask.new.self.seat.me.0
       c.loop-next.invariant.goes.knows c.in_err-next-in-Runs.ensures.stays.1 c.from_residual-in_err-next-in-Runs.result
       c.from_residual-in_err-next-in-Runs.ensures.1,
-)
-
-pub returns-in_err-end-in-Ends-clause-stays : goal.returns-in_err-end-in-Ends-clause-stays
-returns-in_err-end-in-Ends-clause-stays g c = (
-  (
-    c.in_err-end-in-Ends.ensures.stays.0.0 ∙ c.loop-next.invariant.table,
-    c.in_err-end-in-Ends.ensures.stays.0.1 ∙ c.loop-next.invariant.limit,
-  ),
-  lacks_on c.in_err-end-in-Ends.field-0.0 c.args.self.now.seat.me.0 c.loop-next.self.seat.me.0 c.end.new.self.seat.me.0
-      c.loop-next.invariant.goes.knows c.in_err-end-in-Ends.ensures.stays.1 c.from_residual-in_err-end-in-Ends.result
-      c.from_residual-in_err-end-in-Ends.ensures.1,
 )

@@ -1,5 +1,4 @@
-use Rattle.tj_run.proofs.Prelude.{Bool, IsLeft, Program, TurnsTo, about_table, program_of, refl, subst, sym, tail_on}
-use Rattle.tj_run.proofs.Prelude.{◌∙◌}
+use Rattle.tj_run.proofs.Prelude.{Bool, IsLeft, Program, about_table, program_of, tail_on, ◌∙◌}
 use Rattle.tj_run.proofs.Runs.TurnSteps.{claimed_back, if_found_since, left_missed, left_unstopped, stop_since}
 use Rattle.tj_run.proofs.Runs.TurnSteps.{stopped_since, turns_since}
 use Rattle.tj_run.proofs.Seats.WorkersSteps.{left_on}
@@ -32,29 +31,28 @@ returns-in_default-take-clause-found g c = let at = goal.at.returns-in_default-t
 
 pub run-requires-clause-back : goal.run-requires-clause-back
 run-requires-clause-back g c κs within = let at = goal.at.run-requires-clause-back g c in
-    let e = c.in_ok-rec.ensures in
-    claimed_back (program g) c.args.laid.now c.in_ok-rec.rec c.in-Some-take.t.0 c.stop_word.new.seat.me
+    let e = c.in-Some-claim.ensures in
+    claimed_back (program g) c.args.laid.now c.in-Some-claim.rec c.in-Some-take.t.0 c.stop_word.new.seat.me
     c.claim.new.seat.me (on g at.In_default).free c.requires.rooted e.some e.slot
 
 pub returns-in-Ok-clause-turns : goal.returns-in-Ok-clause-turns
 returns-in-Ok-clause-turns g c = let at = goal.at.returns-in-Ok-clause-turns g c in
     let knows = (on g at.In_default).knows in let old = c.args.self.now.seat.me.0 in
     left_on c.args.laid.now old c.stop_word.new.seat.me.0 knows c.run.new.self.seat.me
-    (left_on c.args.laid.now c.stop_word.new.seat.me.0 c.claim.new.seat.me.0 c.in_ok-rec.ensures.some.knows
+    (left_on c.args.laid.now c.stop_word.new.seat.me.0 c.claim.new.seat.me.0 c.in-Some-claim.ensures.some.knows
     c.run.new.self.seat.me c.in-Ok.ensures.left)
 
-pub returns-in_err-rec-clause-turns : goal.returns-in_err-rec-clause-turns
-returns-in_err-rec-clause-turns g c = let at = goal.at.returns-in_err-rec-clause-turns g c in
-    let m = c.in_err-rec.ensures.none refl in let on = on g at.In_default in let l = c.args.laid.now in
-    subst (λ z. TurnsTo (program g) l z c.args.self.now.seat.me.0 c.claim.new.seat.me) (sym c.from_residual.ensures)
-    (left_on l c.args.self.now.seat.me.0 c.stop_word.new.seat.me.0 on.knows c.claim.new.seat.me
-    (left_missed l c.in-Some-take.t.0 c.stop_word.new.seat.me c.claim.new.seat.me on.free (m.0, m.1, m.2)))
+pub returns-in_default-claim-clause-turns : goal.returns-in_default-claim-clause-turns
+returns-in_default-claim-clause-turns g c = let at = goal.at.returns-in_default-claim-clause-turns g c in
+    let m = c.claim.ensures.none c.in_default-claim.is in let on = on g at.In_default in let l = c.args.laid.now in
+    left_on l c.args.self.now.seat.me.0 c.stop_word.new.seat.me.0 on.knows c.claim.new.seat.me
+    (left_missed l c.in-Some-take.t.0 c.stop_word.new.seat.me c.claim.new.seat.me on.free (m.0, m.1, m.2))
 
 pub returns-in-Err-clause-turns : goal.returns-in-Err-clause-turns
 returns-in-Err-clause-turns g c = let at = goal.at.returns-in-Err-clause-turns g c in
     stopped_since (program g) c.args.self.now.seat.me.0 c.run.new.self.seat.me.0 c.stop_run.new.seat.me.0
     c.stop_run.result
-    (c.in-Err.ensures.stays.1.about ∙ c.in_ok-rec.ensures.some.knows.about ∙ (on g at.In_default).knows.about)
+    (c.in-Err.ensures.stays.1.about ∙ c.in-Some-claim.ensures.some.knows.about ∙ (on g at.In_default).knows.about)
     c.stop_run.ensures.stopped
 
 pub returns-in-Err-clause-found : goal.returns-in-Err-clause-found
@@ -63,5 +61,5 @@ returns-in-Err-clause-found g c = let at = goal.at.returns-in-Err-clause-found g
     stop_since (program g) c.stop_run.result old c.run.new.self.seat.me.0 c.stop_run.new.seat.me.0
     (tail_on old.notes c.claim.new.seat.me.0.notes c.run.new.self.seat.me.0.notes
     (tail_on old.notes now.notes c.claim.new.seat.me.0.notes (on g at.In_default).knows.notes
-    c.in_ok-rec.ensures.some.knows.notes) c.in-Err.ensures.stays.1.notes)
+    c.in-Some-claim.ensures.some.knows.notes) c.in-Err.ensures.stays.1.notes)
     c.stop_run.ensures.found
