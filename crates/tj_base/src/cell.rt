@@ -1,7 +1,7 @@
 //! Cells: the tasks and promises of a run.
 
 /// The most cells of a run.
-pub const MAX_CELLS: u32 = 16_384;
+pub const MAX_CELLS: u32 = 1_048_576;
 
 /// The number of a cell, in the order in which a run draws them. The root task is cell 0.
 #[derive(Clone, Copy, Debug, PartialEq, Eq)]

@@ -1,7 +1,7 @@
 -- Where a child jumps, by the nodes of its maker, of the maker's jump, and of the jump of that.
 use Rattle.tj_cells.proofs.Prelude.{Bool, Node, Option, Rec, View, ap, child_jump_of, node_of, sym, ℕ, ◌-◌, ◌∙◌, ◌≡◌}
 use Rattle.std.proofs.Common.{◌==◌, if◌then◌else◌}
-use Rattle.atomic_table.specs.declared.shared.Seat.{Seat}
+use Rattle.tj_log.specs.Shown.{SeatShown}
 use Rattle.tj_tree.specs.declared.node.NodeId.{NodeId}
 use Rattle.tj_tree.specs.Nodes.{InEachTree, jump_from}
 use Rattle.tj_tree.specs.Walk.{GoesOn}
@@ -20,7 +20,7 @@ module _ (nodes : ℕ → Node) (p : NodeId) (node near far : Node) (here : node
       else p
 
 -- by three looks
-module _ {B : Type 0} (t : ℕ) (node near far : Node) (s0 s1 s2 : Seat (Option (Rec B)) (View B))
+module _ {B : Type 0} (t : ℕ) (node near far : Node) (s0 s1 s2 : SeatShown (Option (Rec B)) (View B))
     (m0 m1 m2 : ℕ → Type 0) (here : TreeShown s0 t node) (up : TreeShown s1 node.jump.0 near)
     (top : TreeShown s2 near.jump.0 far) (first : GoesOn (TreeShown s0) m0 (TreeShown s1) m1)
     (second : GoesOn (TreeShown s1) m1 (TreeShown s2) m2) where

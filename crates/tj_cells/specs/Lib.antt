@@ -2,3 +2,4 @@ pub mod MadeCells
 pub mod Inner
 pub mod FilledCells
 pub mod SeenValues
+pub mod ValueLogs

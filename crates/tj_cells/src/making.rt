@@ -14,7 +14,7 @@ ghost use Rattle.tj_cells.specs.Inner.MakingSteps.{DrawsNamed, HasInHand, Writes
 use tj_base::{CellId, Sort};
 use tj_body::Body;
 use tj_tree::{Node, NodeId};
-use tj_words::{Laid, Once, Phase, WSeat};
+use tj_words::{Laid, Once, Phase, WSeat, link_word};
 
 /// All cells are drawn.
 #[derive(Clone, Copy)]
@@ -87,7 +87,7 @@ fn draw_named<B: Body>(laid: &Laid<B>, seat: &mut WSeat<B>, t: CellId, kid: u32,
     let Some(c) = laid.draw_one(seat, t, sort) else {
         return Err(Full);
     };
-    laid.put_once(seat, c, Once::Parent, t.0 as u64 + 1);
+    laid.put_once(seat, c, Once::Parent, link_word(t));
     laid.put_once(seat, c, Once::Kid, kid as u64);
     Ok(c)
 }
@@ -103,7 +103,7 @@ fn put_node<B: Body>(laid: &Laid<B>, seat: &mut WSeat<B>, t: CellId, c: CellId)
     let maker = laid.see_node(seat, t);
     let jump = child_jump(laid, seat, t, maker);
     laid.put_once(seat, c, Once::Depth, maker.depth as u64 + 1);
-    laid.put_once(seat, c, Once::Jump, jump.0 as u64 + 1);
+    laid.put_once(seat, c, Once::Jump, link_word(CellId(jump.0)));
 }
 
 // Where a child of task `t` jumps, of which this is the node: two jumps up from `t` where these are

@@ -3,7 +3,10 @@ ghost use Rattle.std.specs.Prelude.{◌≡◌, ◌≢◌};
 ghost use Rattle.tj_body.specs.Programs.{program_of};
 ghost use Rattle.tj_words.specs.SeatViews.SeatSteps.{IsCellOf, IsSameSeat, IsSeatOf};
 ghost use Rattle.tj_words.specs.SeatViews.SeenWords.{FindsNothing};
+ghost use Rattle.tj_words.specs.CallLaws.StepCalls as call;
+ghost use Rattle.tj_words.specs.CallLaws.StepLogs.{IsLogged};
 ghost use Rattle.tj_cells.specs.SeenValues.{SeesValue, seen_in};
+ghost use Rattle.tj_cells.specs.ValueLogs.{LoadsEntry};
 
 use tj_base::CellId;
 use tj_body::Body;
@@ -25,11 +28,14 @@ pub fn value<B: Body>(laid: &Laid<B>, seat: &mut WSeat<B>, p: CellId) -> Seen
     requires table { IsSeatOf laid.now seat.old }
     requires cell { IsCellOf laid.now p.0 }
     ensures seat { IsSameSeat seat.old seat.new }
-    // TAG was loaded as 0.
     ensures not_yet { result ≡ Seen.NotYet → FindsNothing p.0 seat.old.me.0 seat.new.me.0 }
     ensures value { result ≢ Seen.NotYet
         → SeesValue (program_of B.places B.awaits B.left B.asks B.then) laid.now.cells p.0 result
         seat.old.me.0 seat.new.me.0 }
+    // This call made one step, the load of TAG as 0; or two, the loads of TAG and then of BITS.
+    ensures log_not_yet { result ≡ Seen.NotYet
+        → IsLogged (call.sees_once p.0 Once.Tag) 0 0 0 seat.old seat.new }
+    ensures log_value { result ≢ Seen.NotYet → LoadsEntry p.0 result seat.old seat.new }
 {
     let tag = laid.see_once(seat, p, Once::Tag);
     if tag == 0 {

@@ -16,7 +16,7 @@ pub use delivery::put_text;
 pub use fault_lines::{count_text, fault_line, full_line};
 pub use given::{Given, words_given};
 pub use laws::one_script_or_fault;
-pub use limits::Limits;
+pub use limits::{Limits, MAX_WORD_CELLS};
 pub use numerals::{is_short_numeral, number_up_to};
 pub use output::{Output, status_of};
 pub use script_text::script_of;

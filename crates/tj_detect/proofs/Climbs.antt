@@ -3,7 +3,7 @@ use Rattle.tj_detect.proofs.Prelude.{GoesOn_trans, IsKnown_on, MayLook, TreeShow
 use Rattle.tj_detect.proofs.Prelude.{refl, ℕ, ◌∙◌}
 use Rattle.std.specs.Borrow.{MutBor}
 use Rattle.std.specs.Prelude.{Option}
-use Rattle.atomic_table.specs.declared.shared.Seat.{Seat}
+use Rattle.tj_log.specs.Shown.{SeatShown}
 use Rattle.tj_tree.proofs.Lifts.{goes_itself}
 use Rattle.tj_tree.specs.declared.node.TaskNode.{TaskNode}
 use Rattle.tj_words.specs.declared.record.Rec.{Rec}
@@ -12,7 +12,7 @@ use Rattle.tj_detect.specs.Inner.Climbs.{HasClimbed, KnowsNode}
 
 module _ {B : Type 0} {laid : Laid B} where
   -- a walk that hasn't begun
-  pub climbed_itself : (seat : MutBor (Seat (Option (Rec B)) (View B))) (steps : MutBor ℕ)
+  pub climbed_itself : (seat : MutBor (SeatShown (Option (Rec B)) (View B))) (steps : MutBor ℕ)
       → HasClimbed laid seat seat steps steps
   climbed_itself seat steps = record {
     same_seat = refl;
@@ -22,8 +22,8 @@ module _ {B : Type 0} {laid : Laid B} where
     loads = refl;
   }
 
-  module _ {a b : MutBor (Seat (Option (Rec B)) (View B))} {m n : MutBor ℕ} (p : HasClimbed laid a b m n) where
-    pub climbed_on : {c : MutBor (Seat (Option (Rec B)) (View B))} {o : MutBor ℕ} → HasClimbed laid b c n o
+  module _ {a b : MutBor (SeatShown (Option (Rec B)) (View B))} {m n : MutBor ℕ} (p : HasClimbed laid a b m n) where
+    pub climbed_on : {c : MutBor (SeatShown (Option (Rec B)) (View B))} {o : MutBor ℕ} → HasClimbed laid b c n o
         → HasClimbed laid a c m o
     climbed_on {c} q = record {
       same_seat = q.same_seat ∙ p.same_seat;

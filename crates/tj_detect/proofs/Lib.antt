@@ -9,3 +9,4 @@ pub mod Skips
 pub mod NeededWalks
 pub mod Prelude
 pub mod Climbs
+pub mod BlockSteps

@@ -21,7 +21,7 @@ use Rattle.tj_words.specs.SeatViews.TreeReads.{IsLater, KnowsTask}
 use Rattle.tj_words.specs.declared.record.Rec.{Rec}
 use Rattle.tj_words.specs.declared.view.View.{View}
 use Rattle.tj_words.proofs.SeatLoads.NodeLooks.{task_later}
-use Rattle.atomic_table.specs.declared.shared.Seat.{Seat}
+use Rattle.tj_log.specs.Shown.{SeatShown}
 use Rattle.std.specs.Prelude.{Option}
 
 at_index : (l : List Reference) (c : ℕ) (d x : Reference) → get_elem? l c ≡ some x → get_or l c d ≡ x
@@ -81,7 +81,7 @@ few_steps seen born tree t u old new a b cost digits h =
     cost tree.forks tree.history tree.nodes digits (omega (arith, x, y, h))
 
 -- what was told of each tree that shows what a seat has seen since it knew both tasks
-module _ {B : Type 0} {cells : ℕ} (old new : Seat (Option (Rec B)) (View B)) (later : IsLater cells old new) (t u : ℕ)
+module _ {B : Type 0} {cells : ℕ} (old new : SeatShown (Option (Rec B)) (View B)) (later : IsLater cells old new) (t u : ℕ)
     (t_known : KnowsTask t old.me.0) (u_known : KnowsTask u old.me.0)
     (tree : SeesTree new.me.0.seen new.me.0.born) where
   t_task : IsTaskIn new.me.0.born t

@@ -3,3 +3,4 @@ pub mod Blocks
 pub mod Skips
 pub mod Inner
 pub mod VerdictRuns
+pub mod BlockLogs

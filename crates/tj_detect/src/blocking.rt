@@ -6,11 +6,15 @@ ghost use Rattle.tj_events.specs.declared.walk.Walker.{Walker};
 ghost use Rattle.tj_events.specs.CoreState.{present};
 ghost use Rattle.tj_events.specs.Events as core;
 ghost use Rattle.tj_events.specs.Events.{MayReadOwner};
+ghost use Rattle.tj_words.specs.CallLaws.StepCalls as call;
+ghost use Rattle.tj_words.specs.CallLaws.StepLogs.{IsLogged};
 ghost use Rattle.tj_words.specs.Words.Owners.{owner_number};
+ghost use Rattle.tj_words.specs.Words.Phases.{phase_word};
 ghost use Rattle.tj_words.specs.SeatViews.SeatSteps.{IsCellOf, IsSameSeat, IsSeatOf};
 ghost use Rattle.tj_words.specs.Steps.StepEvents.{wait_in};
 ghost use Rattle.tj_words.specs.Calls.WaitViews.{MayPutWait, PutsWait};
 ghost use Rattle.tj_words.specs.Calls.WalkViews.{IsWalking, MayLoadWait};
+ghost use Rattle.tj_detect.specs.BlockLogs.{LogsBlock, MakesLoads, MakesWalk};
 ghost use Rattle.tj_detect.specs.Blocks.{Blocks, HasReadNoOthers, InEachTable, MayBlock};
 ghost use Rattle.tj_detect.specs.Blocks.{OthersWatch, StandsOnCycle};
 ghost use Rattle.tj_detect.specs.Skips.{LoadsOthers};
@@ -70,6 +74,9 @@ pub fn block<B: Body, L: Ledger>(
     ensures walked { result ≡ Verdict.Walked
         → InEachTable (program_of B.places B.awaits B.left B.asks B.then) seat.new.me.0
         (OthersWatch t.0) }
+    // These steps are the call's, in this order, and it makes no other: a skipped walk has loaded OTHERS as 0, and the
+    // bound of a walk is a COUNT that it has loaded.
+    ensures log { LogsBlock laid.now.cells t.0 q way result seat.old seat.new }
 {
     settlers_are_not_alone();
     let waiter = Waiter { laid, t, q, way };
@@ -107,6 +114,8 @@ impl<B: Body> Waiter<'_, B> {
             seat.old.me.0 seat.new.me.0 }
         ensures others { LoadsOthers (program_of B.places B.awaits B.left B.asks B.then) result
             self.now.t.0 self.now.q.0 seat.old.me.0 }
+        ensures log { LogsBlock self.now.laid.now.cells self.now.t.0 self.now.q self.now.way result
+            seat.old seat.new }
     {
         self.put_wait(seat, Walk::Walking, steps);
         let others = self.laid.others(seat, self.t);
@@ -129,6 +138,9 @@ impl<B: Body> Waiter<'_, B> {
         ensures puts { PutsWait self.now.t.0 self.now.q.0 self.now.way walk seat.old.me
             seat.new.me }
         ensures step { steps.new ≡ steps.old + 1 }
+        ensures log { IsLogged (call.puts_phase self.now.t.0)
+            (phase_word (Phase.Waiting self.now.q self.now.way walk)) 0
+            (phase_word (Phase.Waiting self.now.q self.now.way walk)) seat.old seat.new }
     {
         self.laid
             .put_phase(seat, self.t, Phase::Waiting(self.q, self.way, walk));
@@ -144,6 +156,8 @@ impl<B: Body> Waiter<'_, B> {
         ensures seat { IsSameSeat seat.old seat.new }
         ensures comes { Comes result self.now.t.0 self.now.q.0 self.now.way steps.old steps.new
             seat.old.me.0 seat.new.me.0 }
+        ensures log { MakesWalk self.now.laid.now.cells self.now.t.0 self.now.q self.now.way result
+            seat.old seat.new }
     {
         let bound = self.laid.count(seat, Some(self.t));
         steps.tick();
@@ -176,6 +190,7 @@ impl<B: Body> Waiter<'_, B> {
             → WalksWith self.now.t.0 q way w seat.old.me.0
             → Hops self.now.laid.now.cells result self.now.t.0 q way w steps.old steps.new
             seat.old.me.0 seat.new.me.0 }
+        ensures log { MakesLoads 3 seat.old seat.new }
     {
         let t = self.t;
         let first = self.laid.see_owner(seat, p, Some(t));
@@ -209,6 +224,7 @@ impl<B: Body> Waiter<'_, B> {
             → WalksWith self.now.t.0 q way w seat.old.me.0
             → Passes self.now.laid.now.cells result u.0 self.now.t.0 q way w steps.old steps.new
             seat.old.me.0 seat.new.me.0 }
+        ensures log { MakesLoads 2 seat.old seat.new }
     {
         let found = self.laid.see_phase(seat, u, Some(self.t));
         steps.tick();

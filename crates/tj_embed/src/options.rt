@@ -11,12 +11,12 @@ use std::sync::Wait;
 use std::thread::Threads;
 use tj_body::Body;
 use tj_ports::OpenGate;
-use tj_ready::StealPool;
+use tj_ready::NewestFirstPool;
 use tj_run::{RunFault, run_all};
 use tj_words::RestWords;
 
 /// How many workers run the tasks, from 1 to 64; how many cells, which are promises and tasks, they
-/// may make, from 1 to 16,384; how many statements each task of a script may begin, from 1 to
+/// may make, from 1 to 1,048,576; how many statements each task of a script may begin, from 1 to
 /// 1,000,000; and whether a join against the fork order fails at once.
 #[derive(Clone, Copy, Debug, PartialEq, Eq)]
 pub struct Options {
@@ -61,7 +61,7 @@ impl Options {
         ensures full { IfErr result (λ fault. fault ≡ RunFault.Full → IsFull
             (program_of B.places B.awaits B.left B.asks B.then self.strict root) self.cells) }
     {
-        run_all::<B, StealPool, OpenGate, R>(
+        run_all::<B, NewestFirstPool, OpenGate, R>(
             rt,
             alloc,
             root,

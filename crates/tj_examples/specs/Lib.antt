@@ -1,2 +1,3 @@
 pub mod EachAnswer
 pub mod Handovers
+pub mod Sums

@@ -1,6 +1,13 @@
-//! A worked body, with its proof: the pattern to copy for a body of one's own.
+//! Worked tasks, with their proofs: the patterns to copy for tasks of one's own. `Handover` is a body,
+//! `Fib` and `Knot` are plans, and `Sum` is a task.
 #![tactic(auto)]
 
+mod fib;
 mod handover;
+mod knot;
+mod sum;
 
+pub use fib::Fib;
 pub use handover::Handover;
+pub use knot::Knot;
+pub use sum::{Part, Sum};

@@ -4,3 +4,4 @@ pub mod RootRecords
 pub mod ThreadSends
 mod TakenSeats
 mod LookAnswers
+mod LookSteps

@@ -1,6 +1,6 @@
 -- What a wait gives after a pending poll is what it was to give before.
 use Rattle.std.proofs.Common.{◌≡◌, ℕ, Bool, Option, Some, sym, ◌∙◌, subst}
-use Rattle.atomic_table.specs.declared.shared.Seat.{Seat}
+use Rattle.tj_log.specs.Shown.{SeatShown}
 use Rattle.futures.specs.declared.task.Poll.{Poll}
 use Rattle.futures.specs.declared.task.Poll.TheVariants.{Ready, Pending}
 use Rattle.futures.specs.Poll.{OnPending}
@@ -19,12 +19,14 @@ if_pending (Ready x) P h = tt
 if_pending Pending P h = h
 
 module _ {B : Type 0} (program : Bool → B → Program B) (laid : Laid B) (p : ℕ) where
-  pub given_before : (held : Option (Seat (Option (Rec B)) (View B))) (before after : Seat (Option (Rec B)) (View B))
+  pub given_before : (held : Option (SeatShown (Option (Rec B)) (View B)))
+      (before after : SeatShown (Option (Rec B)) (View B))
       → held ≡ Some before
       → after.table_id ≡ before.table_id
       → after.me.0.lot ≡ before.me.0.lot
       → GoesOn program p before.me.0 after.me.0
-      → (answer : Watched) (back : Seat (Option (Rec B)) (View B)) → IsGiven program laid (Some after) p answer back
+      → (answer : Watched) (back : SeatShown (Option (Rec B)) (View B))
+      → IsGiven program laid (Some after) p answer back
       → IsGiven program laid held p answer back
   given_before held before after is table lot goes answer back h =
       subst (λ z. IsGiven program laid z p answer back) (sym is) (

@@ -1,6 +1,6 @@
 -- How the workers leave once their seat has taken in that of the watch: at rest, or stopped as one of both says.
 use Rattle.std.proofs.Common.{◌≡◌, ◌⊎◌, inl, inr, ℕ, ◌+◌, ◌-◌, ◌*◌, ◌≤◌, ◌||◌, Bool, [], Option, refl, sym, ap, ◌∙◌, subst, arith}
-use Rattle.atomic_table.specs.declared.shared.Seat.{Seat}
+use Rattle.tj_log.specs.Shown.{SeatShown}
 use Rattle.tj_body.specs.Programs.{Program}
 use Rattle.tj_words.specs.declared.record.Rec.{Rec}
 use Rattle.tj_words.specs.declared.view.View.{View}
@@ -48,7 +48,7 @@ module _ {B : Type 0} (program : Bool → B → Program B) (cells : ℕ) (v : Vi
   }
 
   -- the workers and the watch, which begin with the halves of a seat, leave as the seat says that took in both
-  pub leaves_taken : (worked other now : Seat (Option (Rec B)) (View B)) (how was : Left) (answer : Watched)
+  pub leaves_taken : (worked other now : SeatShown (Option (Rec B)) (View B)) (how was : Left) (answer : Watched)
       (mine theirs : View B) → mine ≡ left_half v → theirs ≡ right_half v
       → Leaves program was mine worked.me → other.me.0.lot ≡ theirs.lot
       → IsWatched program cells 0 answer theirs other.me.0
@@ -66,11 +66,11 @@ module _ {B : Type 0} (program : Bool → B → Program B) (cells : ℕ) (v : Vi
     where
       by : ((now ≡ worked) × (was ≡ leaving.Stopped cause)) ⊎ ((now ≡ other) × (answer ≡ watched.Stopped cause))
           → HasStopped program cause v now.me.0
-      by (inl x) = subst (λ (z : Seat (Option (Rec B)) (View B)). HasStopped program cause v z.me.0) (sym x.0)
+      by (inl x) = subst (λ (z : SeatShown (Option (Rec B)) (View B)). HasStopped program cause v z.me.0) (sym x.0)
           (stopped_since program v (left_half v) worked.me.0 cause refl
           (subst (λ z. Leaves program z (left_half v) worked.me) x.1
           (subst (λ z. Leaves program was z worked.me) m l)))
-      by (inr y) = subst (λ (z : Seat (Option (Rec B)) (View B)). HasStopped program cause v z.me.0) (sym y.0)
+      by (inr y) = subst (λ (z : SeatShown (Option (Rec B)) (View B)). HasStopped program cause v z.me.0) (sym y.0)
           (stopped_watch cause other.me.0
           (subst (λ z. IsWatched program cells 0 z (right_half v) other.me.0) y.1
           (subst (λ z. IsWatched program cells 0 answer z other.me.0) t w)))

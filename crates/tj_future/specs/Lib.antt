@@ -3,3 +3,4 @@ pub mod Polls
 pub mod RootWatches
 pub mod WatchedRuns
 pub mod LooksStand
+pub mod LookLogs

@@ -1,5 +1,5 @@
 -- What one look at a cell tells: of the cell, of STOP and of LIVE, in the order in which they were loaded.
-use Rattle.std.specs.Prelude.{◌≡◌, ◌⊎◌, ℕ, ◌<◌, Bool, List, Some, None}
+use Rattle.std.specs.Prelude.{◌≡◌, ◌⊎◌, ℕ, ◌<◌, Bool, List, Some}
 use mathlib.Core.Option.{some}
 use lib.ListN.{get_elem?}
 use Rattle.tj_body.specs.Programs.{Program}

@@ -158,7 +158,7 @@ fn with_root<B: Body>(rest: RestWords<B>) -> (Watched, RestWords<B>)
     ensures watched { IsRootWatched rest.records result.0 }
 {
     let watched = match rest.rec(CellId(0)) {
-        Some(rec) => root_told(rec.finish),
+        Some(rec) => root_told(rec.finish()),
         None => unreachable!(),
     };
     (watched, rest)

@@ -4,6 +4,7 @@ ghost use Rattle.tj_body.specs.Programs.{program_of};
 ghost use Rattle.tj_words.specs.SeatViews.SeatSteps.{IsCellOf, IsSameSeat, IsSeatOf};
 ghost use Rattle.tj_words.specs.SeatViews.Views.{IsIdle};
 ghost use Rattle.tj_run.specs.Leaving.{stop_word};
+ghost use Rattle.tj_future.specs.LookLogs.{MakesLook};
 ghost use Rattle.tj_future.specs.Looks.{Answers, GoesOn, IsWatched, told_as};
 
 use crate::watched::Watched;
@@ -30,6 +31,8 @@ pub fn look_at<B: Body>(laid: &Laid<B>, seat: &mut WSeat<B>, p: CellId) -> Optio
         seat.old.me.0 seat.new.me.0 }
     ensures some { IfSome result (λ watched. Answers (program_of B.places B.awaits B.left B.asks
         B.then) laid.now.cells p.0 watched seat.old.me.0 seat.new.me.0) }
+    // These loads are the call's, in this order, and it makes no other step.
+    ensures log { MakesLook p.0 result seat.old seat.new }
 {
     rested_runs::<B>();
     let seen = value(laid, seat, p);

@@ -1,6 +1,6 @@
 //! A wait for a cell as a future: a poll is one look.
 ghost use Rattle.std.specs.Prelude.{◌≡◌, true, [], IfSome, IsSomeAnd, None, Option, Some};
-ghost use Rattle.atomic_table.specs.declared.shared.Seat.{Seat};
+ghost use Rattle.tj_log.specs.Shown.{SeatShown};
 ghost use Rattle.futures.specs.Poll.{IfReady, OnPending};
 ghost use Rattle.futures.specs.Task.{Covers, Keeps};
 ghost use Rattle.tj_body.specs.Programs.{program_of};
@@ -122,7 +122,7 @@ impl<'a, B: Polled> Future for CellWait<'a, B> {
             B.then) self.old.p.0 self.old.seat self.new.seat) }
         ensures yielded { OnPending result (cx.new.is_woken ≡ true) }
         ensures again { OnPending result (MayPoll self.new.laid.now self.new.seat self.new.p.0) }
-        ensures same { OnPending result ((given : Watched × Seat (Option (Rec B)) (View B)) → IsGiven
+        ensures same { OnPending result ((given : Watched × SeatShown (Option (Rec B)) (View B)) → IsGiven
             (program_of B.places B.awaits B.left B.asks B.then) self.new.laid.now self.new.seat
             self.new.p.0 given.0 given.1 → IsGiven (program_of B.places B.awaits B.left B.asks
             B.then) self.old.laid.now self.old.seat self.old.p.0 given.0 given.1) }

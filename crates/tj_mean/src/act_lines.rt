@@ -59,7 +59,7 @@ fn lines_of<B: Body>(
     requires root { IsFresh B.places B.awaits B.left 1 root.now }
     requires round { let p = program_of B.places B.awaits B.left B.asks B.then false root.now in
         assignment_in given.now ≡ rounds.given p n }
-    requires n { n < 2 ^ 16 }
+    requires n { n < 2 ^ 22 }
     ensures { let p = program_of B.places B.awaits B.left B.asks B.then false root.now in
         IfOk result (λ lines.
         lines.items ≡ map (line_of p.rules (rounds.given p n)) (rounds.tasks p (suc n))) }

@@ -6,7 +6,7 @@ use Rattle.std.specs.Option.{IsSomeAnd, option_map_or}
 use Rattle.std.specs.Str.{bytes_eq}
 use Rattle.std.specs.Str.Parse.{digits_value}
 use Rattle.std.specs.declared.alloc.Global.{Global}
-use Rattle.tj_base.specs.declared.cell.TheConstants.{MAX_CELLS}
+use Rattle.tj_command.specs.declared.limits.TheConstants.{MAX_WORD_CELLS}
 pub use Rattle.tj_command.specs.Numerals.{IsShortNumeral}
 use Rattle.tj_core.specs.declared.births.TheConstants.{MAX_CORE_CELLS}
 use Rattle.tj_eval.specs.declared.body.TheConstants.{MAX_STEPS}
@@ -57,13 +57,13 @@ greatest modes.Run Workers = Some 64
 greatest modes.Gen Workers = Some 64
 greatest modes.Relay Workers = Some 64
 greatest modes.Watch Workers = Some 64
-greatest modes.Run Cells = Some MAX_CELLS
-greatest modes.Plan Cells = Some MAX_CELLS
+greatest modes.Run Cells = Some MAX_WORD_CELLS
+greatest modes.Plan Cells = Some MAX_WORD_CELLS
 greatest modes.Judge Cells = Some MAX_CORE_CELLS
-greatest modes.Gen Cells = Some MAX_CELLS
+greatest modes.Gen Cells = Some MAX_WORD_CELLS
 greatest modes.Known Cells = Some 4096
-greatest modes.Relay Cells = Some MAX_CELLS
-greatest modes.Watch Cells = Some MAX_CELLS
+greatest modes.Relay Cells = Some MAX_WORD_CELLS
+greatest modes.Watch Cells = Some MAX_WORD_CELLS
 greatest modes.Run Steps = Some MAX_STEPS
 greatest modes.Plan Steps = Some MAX_STEPS
 greatest modes.Gen Steps = Some MAX_STEPS

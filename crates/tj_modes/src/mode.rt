@@ -3,7 +3,7 @@ ghost use Rattle.std.specs.Prelude.{◌≡◌, ◌≢◌, MatchOption};
 ghost use Rattle.tj_modes.specs.CommandLine.{default, greatest, has_flag, mode_text};
 ghost use Rattle.tj_modes.specs.Inner.LineParse.{id_of};
 
-use tj_base::MAX_CELLS;
+use tj_command::MAX_WORD_CELLS;
 use tj_core::MAX_CORE_CELLS;
 use tj_eval::MAX_STEPS;
 use tj_gen::MAX_SIZE;
@@ -58,7 +58,7 @@ impl Mode {
             (OptionName::Cells, Mode::Judge) => Some(MAX_CORE_CELLS),
             (OptionName::Cells, Mode::Known) => Some(4096),
             (OptionName::Cells, Mode::List) => None,
-            (OptionName::Cells, _) => Some(MAX_CELLS),
+            (OptionName::Cells, _) => Some(MAX_WORD_CELLS),
             (OptionName::Size, Mode::Gen | Mode::Relay) => Some(MAX_SIZE),
             (OptionName::Steps, Mode::List | Mode::Judge | Mode::Relay) => None,
             (OptionName::Steps, _) => Some(MAX_STEPS),

@@ -2,9 +2,10 @@
 -- other slots of its seat.
 use Rattle.tj_park.proofs.Prelude.{Bool, CellId, HasBroken, HasNoRecord, HasWoken, IsTailOf, List, MayCloseResult}
 use Rattle.tj_park.proofs.Prelude.{MayFinish, MayLowerLive, MayWake, OrderedHasSame, Program, Rec, SeatMe, SlotsOf}
-use Rattle.tj_park.proofs.Prelude.{Some, View, WritesBecome, [], ap, became, drop, ended_record, length, lowered_with}
-use Rattle.tj_park.proofs.Prelude.{rest, result_of, subst, sym, take, ℕ, ◌-◌, ◌∙◌, ◌∷◌, ◌≡◌}
+use Rattle.tj_park.proofs.Prelude.{Option, Some, View, WritesBecome, [], ap, became, drop, ended_record, lowered_with}
+use Rattle.tj_park.proofs.Prelude.{rest, result_of, subst, sym, ℕ, ◌∙◌, ◌∷◌, ◌≡◌}
 use Rattle.tj_words.specs.Calls.LiveViews.{MayEnd, ended}
+use Rattle.tj_words.specs.declared.record.Finish.{Finish}
 use Rattle.tj_park.specs.Endings.{HasFinished}
 use Rattle.tj_park.specs.Inner.Closings.{ClosesResult}
 use Rattle.tj_park.specs.Wakes.{HasNotedNothing}
@@ -21,13 +22,13 @@ pub record HasBegun {B : Type 0} (program : Bool → B → Program B) (t : ℕ) 
 
 pub begun : {B : Type 0} {program : Bool → B → Program B} {t : ℕ} {r : Rec B} {v v1 : View B} {l : List CellId}
     (mine : SlotsOf B) (may : MayFinish program t r v) → WritesBecome (program may.about.strict may.about.root)
-    → OrderedHasSame → l ≡ r.owned → HasBroken t (take (length l - 1) (drop 1 l)) [] v v1 → HasNoRecord (rest mine)
+    → OrderedHasSame → l ≡ drop 1 r.owned → HasBroken t l [] v v1 → HasNoRecord (rest mine)
     → HasBegun program t r v v1 mine
-begun {t = t} {r = r} {v = v} {v1 = v1} {l = l} mine may written ordered items broken others = record {
+begun {t = t} {r = r} {v = v} {v1 = v1} {l = l} mine may written ordered promises broken others = record {
   may = may;
   written = written;
   ordered = ordered;
-  broken = subst (λ owned. HasBroken t owned [] v v1) (steps.slice_rest l r.owned items) broken;
+  broken = subst (λ owned. HasBroken t owned [] v v1) promises broken;
   others = others;
 }
 
@@ -37,28 +38,30 @@ module _ {B : Type 0} {program : Bool → B → Program B} {t : ℕ} {r : Rec B}
   abbrev closed : View B
   closed = became t t (result_of e.may.ending.ending) v1
 
-  pub may_close : MayCloseResult program t r.finish v1
-  may_close = steps.may_close program t r v e.may e.written e.ordered v1 e.broken
+  pub may_close : {f : Option Finish} → f ≡ r.finish → MayCloseResult program t f v1
+  may_close is = subst (λ f. MayCloseResult program t f v1) (sym is)
+      (steps.may_close program t r v e.may e.written e.ordered v1 e.broken)
 
   -- the record is put home
-  pub laid : {m3 : SeatMe B} {v2 : View B} {r' : Rec B} {slots : SlotsOf B} → m3 ≡ (v2, (t, Some r') ∷ rest slots)
-      → ClosesResult t r.finish v1 v2 → r' ≡ ended_record r → slots ≡ mine
-      → m3 ≡ (closed, (t, Some (ended_record r)) ∷ rest mine)
-  laid {m3} {v2} {r'} {slots} puts closes is same =
+  pub laid : {m3 : SeatMe B} {v2 : View B} {f : Option Finish} {r' : Rec B} {slots : SlotsOf B}
+      → m3 ≡ (v2, (t, Some r') ∷ rest slots) → ClosesResult t f v1 v2 → f ≡ r.finish → r' ≡ ended_record r
+      → slots ≡ mine → m3 ≡ (closed, (t, Some (ended_record r)) ∷ rest mine)
+  laid {m3} {v2} {f} {r'} {slots} puts closes how is same =
       steps.laid_is program t r v e.may e.written e.ordered v1 e.broken m3 v2 r' slots mine puts
-      (steps.closed_is program t r v e.may e.written e.ordered v1 e.broken v2 closes) is same
+      (steps.closed_is program t r v e.may e.written e.ordered v1 e.broken v2
+      (subst (λ o. ClosesResult t o v1 v2) how closes)) is same
 
   pub may_end : {m3 : SeatMe B} → m3 ≡ (closed, (t, Some (ended_record r)) ∷ rest mine) → MayEnd program t m3
   may_end {m3} laid =
       steps.may_end_then program t r v e.may e.written e.ordered v1 e.broken (rest mine) e.others m3 laid
 
   -- the task has ended
-  pub at_end : {m3 m4 : SeatMe B} {v2 : View B} {r' : Rec B} {slots : SlotsOf B}
-      → m3 ≡ (v2, (t, Some r') ∷ rest slots) → ClosesResult t r.finish v1 v2 → r' ≡ ended_record r → slots ≡ mine
-      → m4 ≡ (ended t m3.0, rest m3.1) → m4 ≡ (ended t closed, rest mine)
-  at_end {m3} {m4} puts closes is same ends =
+  pub at_end : {m3 m4 : SeatMe B} {v2 : View B} {f : Option Finish} {r' : Rec B} {slots : SlotsOf B}
+      → m3 ≡ (v2, (t, Some r') ∷ rest slots) → ClosesResult t f v1 v2 → f ≡ r.finish → r' ≡ ended_record r
+      → slots ≡ mine → m4 ≡ (ended t m3.0, rest m3.1) → m4 ≡ (ended t closed, rest mine)
+  at_end {m3} {m4} puts closes how is same ends =
       steps.ended_is program t r v e.may e.written e.ordered v1 e.broken (rest mine) e.others m3 m4
-      (laid puts closes is same) ends
+      (laid puts closes how is same) ends
 
   module _ {m4 : SeatMe B} (end : m4 ≡ (ended t closed, rest mine)) where
     pub may_wake : MayWake t m4

@@ -9,7 +9,6 @@ use Rattle.tj_park.proofs.Prelude.{in_either, in_left, in_right, inl, inr, insid
 use Rattle.tj_park.proofs.Prelude.{more_on, more_same, numbers, record_cells, refl, rest, subst, sym, tail_on, take}
 use Rattle.tj_park.proofs.Prelude.{to_task, with_tokens, without, without_due, ℕ, ⊎_elim, ◌+◌, ◌-◌, ◌<◌, ◌∙◌, ◌∷◌, ◌≡◌}
 use Rattle.tj_park.proofs.Prelude.{◌≢◌, ◌≤◌, ◌⊎◌}
-use Rattle.std.proofs.lemmas.List.{take_rest}
 use Rattle.tj_words.specs.declared.record.Held.{Held}
 use Rattle.tj_words.specs.Calls.LiveViews.{MayEnd, MayLowerLive, Shelves, ended, lowered_with}
 use Rattle.tj_words.proofs.Waiters.ChainLists.{no_some}
@@ -22,10 +21,6 @@ use Rattle.tj_park.proofs.WakeLoops.{noted_tail}
 use Rattle.tj_park.specs.Wakes.{HasNotedNothing}
 use Rattle.tj_body.specs.declared.point.Entry.TheVariants as entry
 use Rattle.tj_words.specs.declared.offsets.Once.TheVariants as once
-
--- all of a list but its first, as a slice
-pub slice_rest : (l m : List CellId) → l ≡ m → take (length l - 1) (drop 1 l) ≡ drop 1 m
-slice_rest l m e = take_rest l 1 ∙ ap (drop 1) e
 
 -- the cells that the record names once the task has ended are cells that it named
 ended_cells : {B : Type 0} (r : Rec B) (c : ℕ) → IsIn c (record_cells (ended_record r)) → IsIn c (record_cells r)

@@ -7,6 +7,8 @@ use Rattle.tj_park.proofs.Prelude.{subst, suc, sym, wake_notes, ℕ, ⊎_elim, �
 use Rattle.std.specs.Bool.{⊤}
 use Rattle.tj_words.specs.Calls.ExchangeViews.{MaySwap, woke_first}
 use Rattle.tj_words.specs.Calls.LiveViews.{LaysChild, MayRaiseLive, raised_with}
+use Rattle.tj_words.specs.Calls.MetCells.{SeesPhase}
+use Rattle.tj_words.proofs.Holders.HeldTasks.{none_some}
 use Rattle.tj_words.specs.Calls.ParkSteps.{FirstTold, first_way, loaded_phase, parked_way, rest_loaded, with_tokens}
 use Rattle.tj_words.specs.Words.Phases.{phase_word}
 use Rattle.tj_words.specs.SeatViews.SeenWords.{NextTold}
@@ -163,8 +165,12 @@ module _ {B : Type 0} where
   module _ {p t : ℕ} {me m1 m2 : SeatMe B} {next : Head} {was : Phase} (may : MayWakeTasks me) {left : List ℕ}
       (rests : me.0.rest ≡ rest_of p (t ∷ left))
       (view1 : m1.0 ≡ noted_step (note.Next t) (head_word next) me.0) (slots1 : m1.1 ≡ me.1)
-      (next_told : NextTold t next me.0) (view2 : m2.0 ≡ loaded_phase t was m1.0) (slots2 : m2.1 ≡ m1.1)
+      (next_told : NextTold t next me.0) {cells : ℕ} (seen : SeesPhase cells t was m1.0 m2.0) (slots2 : m2.1 ≡ m1.1)
       (first_told : FirstTold t was m1.0) where
+    -- a seat with a rest learns nothing more
+    view2 : m2.0 ≡ loaded_phase t was m1.0
+    view2 = seen.1 (inl (λ e. none_some m1.0.rest _ e (rest_then p t left me.0 m1.0 m2.0 next was rests view1)))
+
     parked : (way : Way) × (was ≡ parked_phase p way)
     parked = first_parked p t left me.0 m1.0 m2.0 next was rests view1 first_told
 

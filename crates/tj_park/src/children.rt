@@ -1,9 +1,12 @@
 //! A child becomes ready.
-ghost use Rattle.std.specs.Prelude.{◌≡◌, OnErr, OnOk};
+ghost use Rattle.std.specs.Prelude.{◌≡◌, ◌∷◌, ℕ, OnErr, OnOk};
 ghost use Rattle.atomic_table.specs.Table.{rest};
 ghost use Rattle.tj_body.specs.Programs.{program_of};
 ghost use Rattle.tj_words.specs.Calls.LiveViews.{HasSlot};
+ghost use Rattle.tj_words.specs.CallLaws.StepCalls as call;
+ghost use Rattle.tj_words.specs.CallLaws.StepLogs.{entry_of};
 ghost use Rattle.tj_words.specs.SeatViews.SeatSteps.{IsCellOf, IsSeatOf};
+ghost use Rattle.tj_words.specs.Words.Phases.{phase_word};
 ghost use Rattle.tj_park.specs.ChildViews.{MayReleaseChild, released_child};
 
 use std::alloc::Global;
@@ -37,6 +40,10 @@ pub fn release<B: Body, P: Pool, R: Wait>(
     ensures limit { P.limit pool.new ≡ P.limit pool.old }
     ensures ok { OnOk result (P.puts pool.old t pool.new) }
     ensures err { OnErr result (P.same pool.old pool.new) }
+    // These two steps are the call's, whatever the pool answers: LIVE is raised, and PHASE stored as Ready.
+    ensures log { (n : ℕ) × (seat.new.log ≡ entry_of (call.puts_phase t.0) (phase_word Phase.Ready)
+        0 (phase_word Phase.Ready) ∷ entry_of call.raises_live 1 0 n ∷ seat.old.log)
+        × (seat.new.took ≡ seat.old.took) }
 {
     drop(laid.slot_swap(seat, t, Some(rec)));
     laid.live_up(seat);

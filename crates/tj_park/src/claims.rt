@@ -2,6 +2,8 @@
 ghost use Rattle.std.specs.Prelude.{◌≡◌, ◌≢◌, ◌∷◌, IfSome, None};
 ghost use Rattle.tj_body.specs.Programs.{program_of};
 ghost use Rattle.tj_words.specs.Calls.ExchangeViews.{KnowsTable, missed};
+ghost use Rattle.tj_words.specs.CallLaws.StepCalls as call;
+ghost use Rattle.tj_words.specs.CallLaws.StepLogs.{IsLogged};
 ghost use Rattle.tj_words.specs.SeatViews.Moments.{WasSo};
 ghost use Rattle.tj_words.specs.SeatViews.SeatSteps.{IsCellOf, IsSeatOf};
 ghost use Rattle.tj_words.specs.Words.Offsets.{phase_at};
@@ -14,7 +16,7 @@ use tj_words::{Laid, Phase, Rec, WSeat};
 
 /// Claims a task, and takes its record. `None` comes only where this call's one exchange found a
 /// phase other than Ready; then the seat has this phase among its notes, and nothing else of it has
-/// changed.
+/// changed. Either way the call is this one step.
 #[inline(always)]
 pub fn claim<B: Body>(laid: &Laid<B>, seat: &mut WSeat<B>, t: CellId) -> Option<Rec<B>>
     requires table { IsSeatOf laid.now seat.old }
@@ -25,10 +27,14 @@ pub fn claim<B: Body>(laid: &Laid<B>, seat: &mut WSeat<B>, t: CellId) -> Option<
     ensures none { result ≡ None → (p : Phase) × (p ≢ Phase.Ready)
         × (seat.new.me ≡ (missed t.0 p seat.old.me.0, seat.old.me.1))
         × WasSo (program_of B.places B.awaits B.left B.asks B.then) (phase_at t.0) (phase_word p)
-        seat.old.me.0 }
+        seat.old.me.0
+        × IsLogged (call.swaps_phase t.0) (phase_word Phase.Ready) (phase_word Phase.Running)
+        (phase_word p) seat.old seat.new }
     ensures some { IfSome result (λ r. Claimed (program_of B.places B.awaits B.left B.asks B.then)
         t.0 r seat.old.me.0 seat.new.me.0) }
     ensures slot { IfSome result (λ _. seat.new.me.1 ≡ (t.0, None) ∷ seat.old.me.1) }
+    ensures log_some { result ≢ None → IsLogged (call.swaps_phase t.0) (phase_word Phase.Ready)
+        (phase_word Phase.Running) (phase_word Phase.Ready) seat.old seat.new }
 {
     match laid.swap_phase(seat, t, Phase::Ready, Phase::Running) {
         Ok(()) => laid.slot_swap(seat, t, None),

@@ -8,7 +8,7 @@ ghost use Rattle.tj_words.specs.SeatViews.KnowsMore.{IsTailOf};
 ghost use Rattle.tj_words.specs.SeatViews.SeatSteps.{IsCellOf, IsSameSeat, IsSeatOf};
 ghost use Rattle.tj_park.specs.Inner.Breaks.{HasBroken, MayBreak};
 ghost use Rattle.tj_park.specs.Endings.{HasFinished, MayFinish, OwesAtHome};
-ghost use Rattle.tj_park.specs.Inner.Closings.{ClosesResult, MayCloseResult, ended_record};
+ghost use Rattle.tj_park.specs.Inner.Closings.{ClosesResult, MayCloseResult};
 ghost use Rattle.tj_park.specs.Records.{HasNoRecord};
 ghost use Rattle.tj_park.specs.Wakes.{WakesEach};
 ghost use Rattle.tj_words.specs.Words.Lists.{numbers};
@@ -16,7 +16,7 @@ ghost use Rattle.tj_words.specs.Words.Lists.{numbers};
 use crate::wakes::wake;
 use std::alloc::Global;
 use std::sync::Wait;
-use tj_base::{CellId, Items, Oom};
+use tj_base::{CellId, Oom};
 use tj_body::{
     Body, history_stops, names_and_cells, names_are_apart, points_are_good, points_in_rounds,
 };
@@ -63,9 +63,11 @@ pub fn finish<B: Body, P: Pool, R: Wait>(
     history_stops::<B>();
     names_are_apart::<B>();
     names_and_cells();
-    break_promises(rt, alloc, laid, seat, t, &rec.owned.items()[1..], pool)?;
-    close_result(laid, seat, t, rec.finish);
-    drop(laid.slot_swap(seat, t, Some(without_owned(alloc, rec))));
+    let mut rec = rec;
+    break_promises(rt, alloc, laid, seat, t, rec.promises(), pool)?;
+    close_result(laid, seat, t, rec.finish());
+    rec.end();
+    drop(laid.slot_swap(seat, t, Some(rec)));
     laid.put_phase(seat, t, Phase::Ended);
     wake(rt, alloc, laid, seat, t, pool)?;
     laid.live_down(seat);
@@ -130,20 +132,5 @@ fn close_by<B: Body>(laid: &Laid<B>, seat: &mut WSeat<B>, t: CellId, f: Finish)
     match f {
         Finish::Done(v) => fill(laid, seat, t, t, v),
         Finish::Failed(_) => break_off(laid, seat, t, t),
-    }
-}
-
-// The record of a task that has ended: what it owned beside its result, it owes.
-#[inline(always)]
-fn without_owned<B>(alloc: Global, rec: Rec<B>) -> Rec<B>
-    requires some { rec.owned ≢ [] }
-    ensures { result ≡ ended_record rec }
-{
-    let mut owed = rec.owned.into_vec();
-    owed.remove(0);
-    Rec {
-        owned: Items::of(Vec::new(alloc)),
-        owed: Items::of(owed),
-        ..rec
     }
 }

@@ -25,7 +25,7 @@ use tj_future::{Watched, run_watched};
 use tj_mean::marked;
 use tj_modes::Told;
 use tj_ports::{Gate, ReadEnd};
-use tj_ready::StealPool;
+use tj_ready::NewestFirstPool;
 use tj_report::outcome_of;
 use tj_syntax::Script;
 use tj_words::RestWords;
@@ -58,7 +58,7 @@ impl<G: Gate, R: Wait + Threads + Sync> Crew<'_, G, R> {
             × IsRunGiven Told.Root start given.output.status given.output.text.items given.closed) }
     {
         let root = main_body(self.alloc, script, steps)?;
-        match run_watched::<ScriptBody<'_>, StealPool, G, R>(
+        match run_watched::<ScriptBody<'_>, NewestFirstPool, G, R>(
             self.rt, self.alloc, root, cells, self.count, self.gate,
         ) {
             Ok((watched, rest)) => watched_at_rest(self.alloc, watched, rest),

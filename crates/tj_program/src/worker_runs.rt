@@ -29,7 +29,7 @@ use tj_eval::main_body;
 use tj_gen::gen_script;
 use tj_modes::{Told, ended, generated_text_is_a_script};
 use tj_ports::{Gate, ReadEnd};
-use tj_ready::StealPool;
+use tj_ready::NewestFirstPool;
 use tj_report::{outcome_of, report_at_rest};
 use tj_run::run_all;
 use tj_syntax::{Script, script_in};
@@ -98,7 +98,7 @@ impl<G: Gate, R: Wait + Threads + Sync> Crew<'_, G, R> {
             (started (program_of B.places B.awaits B.left B.asks B.then) strict cells root)
             given.output.status given.output.text.items given.closed) }
     {
-        match run_all::<B, StealPool, G, R>(
+        match run_all::<B, NewestFirstPool, G, R>(
             self.rt, self.alloc, root, cells, self.count, self.gate, strict,
         ) {
             Ok(rest) => ended_at_rest(self.alloc, rest, told),

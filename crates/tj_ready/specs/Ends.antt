@@ -51,9 +51,9 @@ module _ {V : Type 0} where
       ⊎ ChangesSpare before (t ∷ after.spare) after.spare after
       ⊎ StepsOther takes before t after
 
-  -- each queue was empty at a step, as is known of the deques
-  pub record FindsNone (empty : V → Type 0) (before after : Known V) : Type 0 where
+  -- the own deque and the spare list were empty at a step, and of each other deque this is known
+  pub record FindsNone (empty there : V → Type 0) (before after : Known V) : Type 0 where
     pub same : after ≡ before
     pub own : empty before.own
     pub spare : before.spare ≡ []
-    pub others : All empty before.others
+    pub others : All there before.others

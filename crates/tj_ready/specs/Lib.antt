@@ -5,3 +5,4 @@ pub mod Rules
 pub mod Stealing
 pub mod Victims
 pub mod Inner
+pub mod Orders

@@ -13,5 +13,5 @@ mod victim;
 pub use laws::LockedQueue;
 pub use locked::LockedPool;
 pub use pool::Pool;
-pub use rule::{Bounded, PoolRule, QueueRule};
-pub use stealing::{RuledStealPool, StealPool};
+pub use rule::{Bounded, NewestFirst, PoolRule, QueueRule};
+pub use stealing::{NewestFirstPool, RuledStealPool, StealPool};

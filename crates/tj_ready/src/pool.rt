@@ -33,7 +33,7 @@ pub trait Pool: Sized + Send + Drop {
     /// An end for each worker, all empty.
     fn make<R: Wait>(rt: &R, alloc: Global, workers: u32, cells: u32) -> Result<Vec<Self>, Oom>
         requires workers { (0 < workers) × (workers ≤ 64) }
-        requires cells { (0 < cells) × (cells ≤ 2 ^ 14) }
+        requires cells { (0 < cells) × (cells ≤ 2 ^ 20) }
         ensures workers { IfOk result (λ ends. length ends.items ≡ workers) }
         ensures limit { IfOk result (λ ends. All (λ end. Self.limit end ≡ cells) ends.items) }
         ensures meet { IfOk result (λ ends. meet ends.items) }

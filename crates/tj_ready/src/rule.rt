@@ -1,6 +1,6 @@
 //! The rule over the queues of a stealing pool: what is true of a queue's cells and of what each
 //! end knows, between any two steps. A pool is proved to keep each rule that its steps can keep.
-ghost use Rattle.std.specs.Prelude.{ℕ, List};
+ghost use Rattle.std.specs.Prelude.{ℕ, ◌≡◌, List, Bool};
 ghost use Rattle.tj_base.specs.declared.cell.CellId.{CellId};
 ghost use Rattle.tj_ready.specs.Rules.{IsPoolRule};
 
@@ -18,8 +18,11 @@ pub trait QueueRule<V> {
     ghost first: { V };
 }
 
-/// A rule that the steps of a pool keep.
+/// A rule that the steps of a pool keep, and the order in which its workers take from their own queues.
 pub trait PoolRule<V>: QueueRule<V> {
+    /// Whether a worker takes the newest cell of its own queue, and not the oldest. Others take its oldest in either case.
+    ghost newest: { Bool };
+
     /// What the worker of a queue knows before its first put and take.
     ghost own: { ℕ → V };
 
@@ -38,7 +41,14 @@ pub trait PoolRule<V>: QueueRule<V> {
     /// What follows from a queue's being empty at a moment.
     ghost empty: { V → Type 0 };
 
-    ghost kept: { IsPoolRule Self.holds Self.first own other limit puts takes empty };
+    /// What follows from a queue's having one cell at most at a moment.
+    ghost few: { V → Type 0 };
+
+    /// Whether a worker takes the newest cell of its own queue, and not the oldest.
+    fn is_newest_first() -> bool
+        ensures { result ≡ Self.newest };
+
+    ghost kept: { IsPoolRule Self.holds Self.first own other limit puts takes empty few };
 }
 
 /// The rule that each cell is below the number for which the pool was made.
@@ -54,9 +64,11 @@ impl QueueRule<u32> for Bounded {
 }
 
 impl PoolRule<u32> for Bounded {
-    ghost use Rattle.std.specs.Prelude.{◌≡◌, ⊤, All};
+    ghost use Rattle.std.specs.Prelude.{⊤, All, false};
     ghost use Rattle.tj_ready.specs.Queues.{IsBelow};
     ghost use Rattle.tj_ready.specs.Inner.BoundedLaws.{kept};
+
+    ghost newest = { false };
 
     ghost own = { λ n. n };
 
@@ -70,7 +82,51 @@ impl PoolRule<u32> for Bounded {
 
     ghost empty = { λ _. ⊤ };
 
+    ghost few = { λ _. ⊤ };
+
     ghost kept = { kept };
+
+    fn is_newest_first() -> bool {
+        false
+    }
+}
+
+/// A rule whose workers take the newest cell of their own queues first.
+#[derive(Drop)]
+pub struct NewestFirst<K> {
+    rule: PhantomData<K>,
+}
+
+impl<V, K: QueueRule<V>> QueueRule<V> for NewestFirst<K> {
+    ghost holds = { K.holds };
+
+    ghost first = { K.first };
+}
+
+impl<V, K: PoolRule<V>> PoolRule<V> for NewestFirst<K> {
+    ghost use Rattle.std.specs.Prelude.{true};
+
+    ghost newest = { true };
+
+    ghost own = { K.own };
+
+    ghost other = { K.other };
+
+    ghost limit = { K.limit };
+
+    ghost puts = { K.puts };
+
+    ghost takes = { K.takes };
+
+    ghost empty = { K.empty };
+
+    ghost few = { K.few };
+
+    ghost kept = { K.kept };
+
+    fn is_newest_first() -> bool {
+        true
+    }
 }
 
 /// The rule as the deque wants it.
@@ -95,7 +151,7 @@ impl<V, K: PoolRule<V>> Outcome<CellId, V> for Putting<K> {
     ghost then = { K.puts };
 }
 
-/// What a take from a deque tells.
+/// What a take from the own deque tells.
 pub struct Taking<K> {
     rule: PhantomData<K>,
 }
@@ -104,4 +160,17 @@ impl<V, K: PoolRule<V>> Outcome<CellId, V> for Taking<K> {
     ghost then = { K.takes };
 
     ghost empty = { K.empty };
+}
+
+/// What a take from another's deque tells.
+pub struct Stealing<K> {
+    rule: PhantomData<K>,
+}
+
+impl<V, K: PoolRule<V>> Outcome<CellId, V> for Stealing<K> {
+    ghost use Rattle.tj_ready.specs.Orders.{left_there};
+
+    ghost then = { K.takes };
+
+    ghost empty = { left_there K.newest K.empty K.few };
 }

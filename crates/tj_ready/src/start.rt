@@ -3,6 +3,7 @@
 //! A rule has to know for how many cells the pool is. A proof picks this number where a deque is
 //! made, and each seat of the deque is then told it.
 ghost use Rattle.std.specs.Prelude.{ℕ, ◌≡◌, ◌<◌, IfOk};
+ghost use Rattle.tj_ready.specs.Orders.{flavor_of};
 ghost use Rattle.crossbeam_deque.specs.Handles.{view, worker_view, worker_flavor, worker_deque, stealer_deque};
 
 use crate::rule::{PoolRule, Ruled};
@@ -51,21 +52,34 @@ impl<V, K: PoolRule<V>> Split<V> for Joining<K> {
 // How many cells a deque has room for at first.
 const ROOM: usize = 64;
 
+// A deque whose worker knows nothing yet.
+fn bare<V, K: PoolRule<V>>(alloc: Global) -> Result<Owner<V, K>, Oom>
+    ensures { IfOk result
+        (λ own. (worker_flavor own ≡ flavor_of K.newest) × (worker_view own ≡ K.first)) }
+{
+    if K::is_newest_first() {
+        return Ok(Owner::<V, K>::lifo_as(alloc, ROOM)?);
+    }
+    Ok(Owner::<V, K>::fifo_as(alloc, ROOM)?)
+}
+
 /// An empty deque.
 pub fn owner<V, K: PoolRule<V>, S: Size>(alloc: Global, cells: u32) -> Result<Owner<V, K>, Oom>
     requires { (S.cells ≡ cells) × (0 < cells) }
     ensures { IfOk result
-        (λ own. (worker_flavor own ≡ 0) × (worker_view own ≡ K.own cells)) }
+        (λ own. (worker_flavor own ≡ flavor_of K.newest) × (worker_view own ≡ K.own cells)) }
 {
-    let mut own = Owner::<V, K>::fifo_as(alloc, ROOM)?;
+    let mut own = bare::<V, K>(alloc)?;
     own.another::<Telling<K, S>>();
     Ok(own)
 }
 
 /// The deque of an end, as the victim of another one. The end has put and taken nothing yet.
 pub fn victim_of<V, K: PoolRule<V>>(own: &mut Owner<V, K>, cells: u32) -> Result<Victim<V, K>, Oom>
-    requires { (worker_flavor own.old ≡ 0) × (0 < cells) × (worker_view own.old ≡ K.own cells) }
-    ensures same { (worker_flavor own.new ≡ 0) × (worker_view own.new ≡ K.own cells) }
+    requires { (worker_flavor own.old ≡ flavor_of K.newest) × (0 < cells)
+        × (worker_view own.old ≡ K.own cells) }
+    ensures same { (worker_flavor own.new ≡ flavor_of K.newest)
+        × (worker_view own.new ≡ K.own cells) }
     ensures deque { worker_deque own.new ≡ worker_deque own.old }
     ensures known { IfOk result (λ victim. view victim.seat ≡ K.other cells) }
     ensures there { IfOk result

@@ -1,14 +1,16 @@
 //! A deque for each worker, in which it puts and takes without a lock.
 //!
-//! A take looks into the own deque first, then into the spare list, which has what the own deque
+//! A worker takes from its own deque in the order of the pool, the oldest cell or the newest one first, and others
+//! take its oldest. A take looks into the own deque first, then into the spare list, which has what the own deque
 //! had no room for, and then into the others' deques in the order of their numbers. No other end
 //! takes from a spare list.
 ghost use Rattle.std.specs.Prelude.{◌≡◌, ◌<◌, All};
 ghost use Rattle.crossbeam_deque.specs.Handles.{worker_flavor, worker_view};
+ghost use Rattle.tj_ready.specs.Orders.{flavor_of};
 ghost use Rattle.tj_ready.specs.Victims.{known_in};
 
 use crate::pool::Pool;
-use crate::rule::{Bounded, PoolRule, Putting, Taking};
+use crate::rule::{Bounded, NewestFirst, PoolRule, Putting, Taking};
 use crate::start::{Owner, Size, owner, victim_of};
 use crate::victim::Victim;
 use std::alloc::Global;
@@ -25,14 +27,17 @@ pub struct RuledStealPool<V, K: PoolRule<V>> {
     // What the own deque handed back.
     spare: VecDeque<CellId>,
     others: Vec<Victim<V, K>>,
-    ghost fifo: { worker_flavor own ≡ 0 },
+    ghost flavor: { worker_flavor own ≡ flavor_of K.newest },
     ghost own_cells: { K.limit (worker_view own) ≡ cells },
     ghost spare_cells: { All (λ t. t.0 < cells) spare.items },
     ghost other_cells: { All (λ v. K.limit v ≡ cells) (known_in others.items) },
 }
 
-/// An end of a stealing pool.
+/// An end of a stealing pool whose worker takes its oldest cell first.
 pub type StealPool = RuledStealPool<u32, Bounded>;
+
+/// An end of a stealing pool whose worker takes its newest cell first.
+pub type NewestFirstPool = RuledStealPool<u32, NewestFirst<Bounded>>;
 
 impl<V, K: PoolRule<V>> RuledStealPool<V, K> {
     ghost use Rattle.std.specs.Prelude.{IfOk, OnOk, length};
@@ -97,9 +102,10 @@ impl<V, K: PoolRule<V>> RuledStealPool<V, K> {
 impl<V, K: PoolRule<V>> RuledStealPool<V, K> {
     ghost use Rattle.std.specs.Prelude.{[], ◌∷◌, MatchOption, IfSome};
     ghost use Rattle.tj_ready.specs.Ends.{StepsOwn, StepsOther, ChangesSpare};
+    ghost use Rattle.tj_ready.specs.Orders.{left_there};
     ghost use Rattle.tj_ready.specs.Stealing.{known};
 
-    // The front of its own deque.
+    // The oldest or the newest cell of its own deque, by the order.
     fn take_own(&mut self) -> Option<CellId>
         ensures cells { self.new.cells ≡ self.old.cells }
         ensures below { IfSome result (λ t. t.0 < self.old.cells) }
@@ -122,12 +128,13 @@ impl<V, K: PoolRule<V>> RuledStealPool<V, K> {
         self.spare.pop_front()
     }
 
-    // The front of the first of the others' deques, by their numbers, that isn't empty.
+    // The front of the first of the others' deques, by their numbers, that has one to give.
     fn steal<R: Wait>(&mut self, rt: &R) -> Option<CellId>
         ensures cells { self.new.cells ≡ self.old.cells }
         ensures below { IfSome result (λ t. t.0 < self.old.cells) }
         ensures taken { MatchOption result
-            ((known self.new ≡ known self.old) × All K.empty (known self.old).others)
+            ((known self.new ≡ known self.old)
+            × All (left_there K.newest K.empty K.few) (known self.old).others)
             (λ t. StepsOther K.takes (known self.old) t (known self.new)) }
     {
         Victim::steal_first(&mut self.others, rt)
@@ -136,6 +143,7 @@ impl<V, K: PoolRule<V>> RuledStealPool<V, K> {
 
 impl<V, K: PoolRule<V>> Pool for RuledStealPool<V, K> {
     ghost use Rattle.tj_ready.specs.Ends.{PutsCell, TakesCell, FindsNone};
+    ghost use Rattle.tj_ready.specs.Orders.{left_there};
     ghost use Rattle.tj_ready.specs.Stealing.{known, IsNewEnd, EndsMeet};
 
     ghost limit = { λ end. end.cells };
@@ -150,7 +158,8 @@ impl<V, K: PoolRule<V>> Pool for RuledStealPool<V, K> {
 
     ghost takes = { λ old t new. TakesCell K.takes (known old) t (known new) };
 
-    ghost finds_none = { λ old new. FindsNone K.empty (known old) (known new) };
+    ghost finds_none = { λ old new.
+        FindsNone K.empty (left_there K.newest K.empty K.few) (known old) (known new) };
 
     fn make<R: Wait>(_rt: &R, alloc: Global, workers: u32, cells: u32) -> Result<Vec<Self>, Oom> {
         let mut ends = Vec::with_capacity(alloc, workers as usize)?;

@@ -6,33 +6,33 @@ ghost use Rattle.tj_report.specs.Inner.AwaitedCells as waits;
 use std::alloc::Global;
 use tj_base::{CellId, Oom};
 use tj_body::{Answer, Body};
-use tj_words::{Held, Rec, RestWords};
+use tj_words::{Rec, RestWords};
 
 /// The cell for which the task with this record waits, if it does.
 pub fn awaited<B>(r: &Rec<B>) -> Option<CellId>
     ensures { result ≡ waits.awaited_by r.now }
 {
-    match r.finish {
+    match r.finish() {
         Some(_) => None,
-        None => wait_in(r.answer, r.held.items()),
+        None => wait_in(r),
     }
 }
 
 /// The cell at the place that is the answer.
-fn wait_in(answer: Answer, held: &[Held]) -> Option<CellId>
-    ensures { result ≡ waits.wait_in answer held.now }
+fn wait_in<B>(r: &Rec<B>) -> Option<CellId>
+    ensures { result ≡ waits.wait_in r.now.answer r.now.held }
 {
-    match answer {
-        Answer::RefAt(k) => cell_at(held, k as usize),
+    match r.answer() {
+        Answer::RefAt(k) => cell_at(r, k),
         Answer::Start | Answer::Local(_) | Answer::Done | Answer::Num(_) | Answer::Lost => None,
     }
 }
 
 /// The cell that is held at a place.
-fn cell_at(held: &[Held], k: usize) -> Option<CellId>
-    ensures { result ≡ waits.held_at held.now k }
+fn cell_at<B>(r: &Rec<B>, k: u32) -> Option<CellId>
+    ensures { result ≡ waits.held_at r.now.held k }
 {
-    match held.get(k) {
+    match r.find(k) {
         Some(h) => Some(h.cell),
         None => None,
     }

@@ -32,9 +32,9 @@ pub fn marked_by<B>(r: &Rec<B>, marked: bool) -> bool
 fn has_trouble<B>(r: &Rec<B>) -> bool
     ensures { result ≡ has_trouble r.now.finish r.now.owed }
 {
-    match r.finish {
+    match r.finish() {
         None => true,
-        Some(finish) => has_failed(finish) || !r.owed.items().is_empty(),
+        Some(finish) => has_failed(finish) || !r.owed().is_empty(),
     }
 }
 
@@ -61,11 +61,11 @@ pub fn add_lines<B: Body>(
     ensures { IfOk result (λ _. (s : Stopped) → told.told_by (names_by rest.now.cells) r.now ≡ Some s
         → text.new.items ≡ text.old.items ++ lines_of name.now s.line) }
 {
-    add_prints(name, r.prints.items(), text)?;
+    add_prints(name, r.prints(), text)?;
     text.extend_from_slice(name)?;
     add_end(alloc, rest, r, text)?;
     text.push(b'\n')?;
-    add_owed_line(alloc, rest, name, r.owed.items(), text)?;
+    add_owed_line(alloc, rest, name, r.owed(), text)?;
     Ok(())
 }
 
@@ -82,7 +82,8 @@ fn add_end<B: Body>(
         → told.ending_by (names_by rest.now.cells) r.now.finish r.now.answer r.now.held ≡ Some e
         → text.new.items ≡ text.old.items ++ ending_text e) }
 {
-    if let Some(finish) = r.finish {
+    let ended = r.finish();
+    if let Some(finish) = ended {
         add_finish(alloc, rest, finish, text)?;
         return Ok(());
     }

@@ -1,5 +1,5 @@
 //! What is told of a task by its record: enough for its line and for the wait graph.
-ghost use Rattle.std.specs.Prelude.{◌≡◌, length, drop, Some, IfOk};
+ghost use Rattle.std.specs.Prelude.{◌≡◌, length, Some, IfOk};
 ghost use Rattle.tj_report.specs.Inner.ToldRecords as told;
 
 use crate::cell_names::{in_name_order, name_in, names_in};
@@ -14,10 +14,10 @@ pub fn told_by<B>(alloc: Global, names: &[Name], r: &Rec<B>) -> Result<Stopped, 
     requires { told.IsRecordBelow (length names.now) r.now }
     ensures { IfOk result (λ s. told.told_by names.now r.now ≡ Some s) }
 {
-    let name = name_in(alloc, names, r.cell)?;
-    let prints = Items::of(Vec::from_slice(alloc, r.prints.items())?);
-    let owes = in_name_order(names_in(alloc, names, r.owed.items())?)?;
-    let holds = Items::of(names_in(alloc, names, promises(r.owned.items()))?);
+    let name = name_in(alloc, names, r.cell())?;
+    let prints = Items::of(Vec::from_slice(alloc, r.prints())?);
+    let owes = in_name_order(names_in(alloc, names, r.owed())?)?;
+    let holds = Items::of(names_in(alloc, names, r.promises())?);
     let ending = ending_by(alloc, names, r)?;
     let line = TaskLine {
         name,
@@ -28,28 +28,18 @@ pub fn told_by<B>(alloc: Global, names: &[Name], r: &Rec<B>) -> Result<Stopped, 
     Ok(Stopped { line, holds })
 }
 
-/// What a task owns beside its result.
-fn promises(owned: &[CellId]) -> &[CellId]
-    ensures { result.now ≡ drop 1 owned.now }
-{
-    match owned {
-        [] => owned,
-        [_, promises @ ..] => promises,
-    }
-}
-
 /// What became of the task with this record.
 fn ending_by<B>(alloc: Global, names: &[Name], r: &Rec<B>) -> Result<Ending, Oom>
     requires { told.IsEndBelow (length names.now) r.now.finish r.now.answer r.now.held }
     ensures { IfOk result (λ e.
         told.ending_by names.now r.now.finish r.now.answer r.now.held ≡ Some e) }
 {
-    match (r.finish, r.answer) {
+    match (r.finish(), r.answer()) {
         (Some(finish), _) => finished_by(alloc, names, finish),
-        (None, Answer::RefAt(k)) => {
-            let held = r.held.items()[k as usize];
-            Ok(Ending::Waits(name_in(alloc, names, held.cell)?))
-        }
+        (None, Answer::RefAt(k)) => match r.find(k) {
+            Some(held) => Ok(Ending::Waits(name_in(alloc, names, held.cell)?)),
+            None => unreachable!(),
+        },
         (None, _) => unreachable!(),
     }
 }

@@ -1,7 +1,10 @@
 -- How a worker leaves: it is at rest, or the run was stopped, and why.
-use Rattle.std.specs.Prelude.{◌≡◌, ℕ, Bool, true, []}
+use Rattle.std.specs.Prelude.{◌≡◌, ℕ, Bool, true, List, [], ◌∷◌}
 use Rattle.tj_body.specs.Programs.{Program}
+use Rattle.tj_log.specs.declared.entry.Entry.{Entry}
 use Rattle.tj_words.specs.declared.view.View.{View}
+use Rattle.tj_words.specs.CallLaws.StepCalls as call
+use Rattle.tj_words.specs.CallLaws.StepLogs.{entry_of}
 use Rattle.tj_words.specs.SeatViews.FullMeaning.{NamesFull}
 use Rattle.tj_words.specs.SeatViews.KnowsMore.{IsTailOf}
 use Rattle.tj_words.specs.SeatViews.Moments.{WasSo}
@@ -17,6 +20,12 @@ use Rattle.tj_run.specs.declared.why.Left.TheVariants as left
 abbrev pub stop_word : Why → ℕ
 stop_word why.Full = 1
 stop_word why.Memory = 2
+
+-- the last step in the log of a worker's seat, by how it leaves: it loaded LIVE as 0, or STOP as what says why
+abbrev pub EndsLog : Left → List Entry → Type 0
+EndsLog left.Rested log = (before : List Entry) × (log ≡ entry_of call.sees_live 0 0 0 ∷ before)
+EndsLog (left.Stopped cause) log = (before : List Entry)
+    × (log ≡ entry_of call.sees_stop 0 0 (stop_word cause) ∷ before)
 
 module _ {B : Type 0} where
   -- what a run that was stopped for this tells of the meaning

@@ -1,9 +1,12 @@
 -- What stands after a run.
-use Rattle.std.specs.Prelude.{◌≡◌, ℕ, ◌+◌, ◌*◌, ◌<◌, ◌≤◌, Bool, List, length}
+use Rattle.std.specs.Prelude.{◌≡◌, ℕ, ◌+◌, ◌*◌, ◌<◌, ◌≤◌, Bool, List, Option, length}
 use Rattle.tj_body.specs.Programs.{Program}
+use Rattle.tj_log.specs.Shown.{SeatShown}
+use Rattle.tj_words.specs.declared.record.Rec.{Rec}
 use Rattle.tj_words.specs.declared.view.View.{View}
 use Rattle.tj_words.specs.LawParts.Lots.{least_lot}
 use Rattle.tj_words.specs.AtRest.ClosedCells.{AreAtRest, AreCyclesAlarmed, AreAlarmsOnCycles}
+use Rattle.tj_words.specs.AtRest.EndedRuns.{EndsRun}
 use Rattle.tj_words.specs.AtRest.RestMeaning.{HaveMeaning, AreCyclesOfMeaningAlarmed}
 use Rattle.tj_words.specs.AtRest.RestShown.{RestShown}
 
@@ -27,3 +30,8 @@ module _ {B : Type 0} where
     pub cycles : AreCyclesAlarmed r.cells
     pub alarms : AreAlarmsOnCycles r.cells
     pub meant_cycles : AreCyclesOfMeaningAlarmed (program strict root) limit r.cells
+
+  -- the words and the records are the end of a run of a table from its first state, which its last seat closed
+  abbrev pub EndsItsRun : (Bool → B → Program B) → B → ℕ → Bool → RestShown B → Type 0
+  EndsItsRun program root limit strict r = (seat : SeatShown (Option (Rec B)) (View B))
+      × EndsRun program limit strict root seat r.cells r.records

@@ -35,11 +35,11 @@ impl<B: Body, P: Pool, R: Wait> Post<'_, B, P, R> {
     {
         points_in_rounds::<B>();
         let Wanted { place, spare } = at;
-        let c = rec.held.items()[place as usize].cell;
+        let c = rec.at(place).cell;
         match value(laid, &mut self.seat, c) {
             Seen::NotYet => Ok(Next::Waits { place, spare }),
             Seen::Num(number) => {
-                rec.answer = Answer::Num(number);
+                rec.set_answer(Answer::Num(number));
                 Ok(Next::Runs)
             }
             Seen::Promise(cell) => add_reference(
@@ -72,9 +72,9 @@ impl<B: Body, P: Pool, R: Wait> Post<'_, B, P, R> {
         ensures answer { IfOk result HasAnswer }
     {
         points_in_rounds::<B>();
-        match rec.answer {
+        match rec.answer() {
             Answer::RefAt(place) => {
-                let spare = rec.spare;
+                let spare = rec.spare();
                 self.look(laid, rec, Wanted { place, spare })
             }
             _ => Ok(Next::Runs),
@@ -90,9 +90,9 @@ fn add_reference<B: Body>(rec: &mut Rec<B>, h: Held) -> Result<Next, Why>
     ensures rec { IfOk result (λ _. rec.new ≡ with_reference h rec.old) }
     ensures same { rec.new.body ≡ rec.old.body }
 {
-    let place = rec.held.items().len() as u32;
-    rec.held.push(h)?;
-    rec.answer = Answer::RefAt(place);
+    let place = rec.places();
+    rec.hold(h)?;
+    rec.set_answer(Answer::RefAt(place));
     Ok(Next::Runs)
 }
 
@@ -102,7 +102,7 @@ fn find_broken<B: Body>(rec: &mut Rec<B>, hurt: Hurt, spare: bool) -> Next
     ensures rec { rec.new ≡ with_lost spare rec.old }
 {
     if spare {
-        rec.answer = Answer::Lost;
+        rec.set_answer(Answer::Lost);
         return Next::Runs;
     }
     Next::Ends(Finish::Failed(hurt))

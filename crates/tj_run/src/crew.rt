@@ -13,7 +13,7 @@ ghost use Rattle.tj_words.specs.SeatViews.SeatSteps.{IsSeatOf};
 ghost use Rattle.tj_words.specs.SeatViews.Views.{IsIdle, both};
 ghost use Rattle.tj_run.specs.Workers.{IsFree, table_program};
 ghost use Rattle.tj_run.specs.Leaving.{Leaves};
-ghost use Rattle.tj_run.specs.Runs.{HasLots, RestsAt};
+ghost use Rattle.tj_run.specs.Runs.{EndsItsRun, HasLots, RestsAt};
 
 use crate::turns::worker;
 use crate::why::{Left, RunFault, Why};
@@ -41,6 +41,8 @@ pub fn run_all<B: Body, P: Pool, G: Gate, R: Wait + Threads + Sync>(
     requires workers { (0 < workers) × (workers ≤ 64) }
     requires root { IsFresh B.places B.awaits B.left 1 root }
     ensures rest { IfOk result (RestsAt
+        (program_of B.places B.awaits B.left B.asks B.then) root cells strict) }
+    ensures run { IfOk result (EndsItsRun
         (program_of B.places B.awaits B.left B.asks B.then) root cells strict) }
     ensures fits { IfOk result (λ _. ¬ IsFull
         (program_of B.places B.awaits B.left B.asks B.then strict root) cells) }

@@ -1,6 +1,6 @@
 //! A task forks a child: the handed places are tested first, from the left; then the child is born,
 //! gets the promises handed to it, and is released to the worker's own end of the pool.
-ghost use Rattle.std.specs.Prelude.{◌≡◌, ◌+◌, ◌<◌, ◌^◌, [], IfErr, IfOk, OnOk, length};
+ghost use Rattle.std.specs.Prelude.{◌≡◌, ◌≢◌, ◌+◌, ◌<◌, ◌^◌, [], ◌∷◌, IfErr, IfOk, OnOk, length};
 ghost use Rattle.tj_body.specs.Programs.{program_of};
 ghost use Rattle.tj_body.specs.declared.ask.Ask.TheVariants as ask;
 ghost use Rattle.tj_words.specs.SeatViews.SeatSteps.{IsCellOf, IsSameSeat, IsSeatOf};
@@ -12,7 +12,7 @@ ghost use Rattle.tj_run.specs.Inner.Going.{Goes};
 ghost use Rattle.tj_run.specs.Inner.Posts.{IsPostOf, StaysAsked};
 
 use crate::next::Next;
-use crate::pieces::{bare_child, cells_of, child_record, hand_all, held_at};
+use crate::pieces::{bare_child, cells_of, hand_all, held_at};
 use crate::post::Post;
 use crate::why::Why;
 use std::sync::Wait;
@@ -47,16 +47,17 @@ impl<B: Body, P: Pool, R: Wait> Post<'_, B, P, R> {
         if handed.items().is_empty() {
             return self.fork_bare(laid, rec, body, pass);
         }
-        let given = held_at(self.alloc, rec.held.items(), handed.items())?;
-        let left = match hand_all(self.alloc, rec.owned.items(), given.as_slice())? {
+        let given = held_at(self.alloc, rec, handed.items())?;
+        let left = match hand_all(self.alloc, rec.promises(), given.as_slice())? {
             Ok(left) => left,
             Err(hurt) => return Ok(Next::Ends(Finish::Failed(hurt))),
         };
-        let passed = held_at(self.alloc, rec.held.items(), pass.items())?;
+        let passed = held_at(self.alloc, rec, pass.items())?;
         let promises = cells_of(self.alloc, given.as_slice())?;
-        let c = birth(laid, &mut self.seat, rec.cell, rec.made + 1)?;
-        hand_each(laid, &mut self.seat, rec.cell, promises.as_slice(), c);
-        let child = child_record(self.alloc, c, body, passed, promises)?;
+        let t = rec.cell();
+        let c = birth(laid, &mut self.seat, t, rec.made() + 1)?;
+        hand_each(laid, &mut self.seat, t, promises.as_slice(), c);
+        let child = Rec::at_start(self.alloc, c, body, passed, promises)?;
         release(
             self.rt,
             self.alloc,
@@ -88,8 +89,9 @@ impl<B: Body, P: Pool, R: Wait> Post<'_, B, P, R> {
     {
         points_in_rounds::<B>();
         names_and_cells();
-        let c = birth(laid, &mut self.seat, rec.cell, rec.made + 1)?;
-        let child = bare_child(self.alloc, c, body, rec.held.items(), pass.items())?;
+        let t = rec.cell();
+        let c = birth(laid, &mut self.seat, t, rec.made() + 1)?;
+        let child = bare_child(self.alloc, c, body, rec, pass.items())?;
         release(
             self.rt,
             self.alloc,
@@ -122,16 +124,17 @@ fn hand_each<B: Body>(
     }
 }
 
-// The record holds the child, and owns what is left.
+// The record holds the child, and owns its result and what is left.
 fn note_child<B: Body>(rec: &mut Rec<B>, c: CellId, left: CellList) -> Result<Next, Why>
     requires room { length rec.old.held + 1 < 2 ^ 31 }
     requires few { rec.old.made + 1 < 2 ^ 31 }
+    requires owns { rec.old.owned ≢ [] }
     ensures memory { IfErr result (λ why. why ≡ Why.Memory) }
     ensures runs { IfOk result (λ next. next ≡ Next.Runs) }
-    ensures rec { OnOk result (rec.new ≡ with_child c left rec.old) }
+    ensures rec { OnOk result (rec.new ≡ with_child c (rec.old.cell ∷ left) rec.old) }
     ensures same { rec.new.body ≡ rec.old.body }
 {
-    rec.owned = left;
+    rec.set_promises(left.into_vec());
     note_made(rec, c)
 }
 
@@ -145,12 +148,12 @@ fn note_made<B: Body>(rec: &mut Rec<B>, c: CellId) -> Result<Next, Why>
     ensures rec { OnOk result (rec.new ≡ with_child c rec.old.owned rec.old) }
     ensures same { rec.new.body ≡ rec.old.body }
 {
-    let place = rec.held.items().len() as u32;
-    rec.held.push(Held {
+    let place = rec.places();
+    rec.hold(Held {
         cell: c,
         sort: Sort::Task,
     })?;
-    rec.made += 1;
-    rec.answer = Answer::Local(place);
+    rec.count_made();
+    rec.set_answer(Answer::Local(place));
     Ok(Next::Runs)
 }

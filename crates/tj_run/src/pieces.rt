@@ -1,15 +1,13 @@
 //! What a task's record says of what the task gives, hands on and makes.
-ghost use Rattle.std.specs.Prelude.{◌≡◌, ◌↔◌, ◌<◌, ◌∷◌, [], true, false, length, map, IfOk, IfSome, IsTrue, IsFalse, None};
+ghost use Rattle.std.specs.Prelude.{◌≡◌, ◌≢◌, ◌↔◌, ◌<◌, [], true, false, length, map, IfOk, IfSome, IsTrue, IsFalse, None};
 ghost use Rattle.std.specs.List.{AllByRecursion, remove};
 ghost use Rattle.tj_body.specs.Asks.{IsPaid};
 ghost use Rattle.tj_body.specs.NameLaws.{has_cell, without_cell, hand_cells};
 ghost use Rattle.tj_words.specs.declared.record.Held.{Held};
-ghost use Rattle.tj_words.specs.LawParts.StartRecords.{own};
 ghost use Rattle.tj_words.specs.Words.Lists.{numbers};
 ghost use Rattle.tj_run.specs.Inner.Pieces as pieces;
 
 use std::alloc::Global;
-use std::mem::replace;
 use tj_base::{CellId, CellList, Items, Oom, Pay, Sort, Trouble};
 use tj_words::{Fill, Held, Hurt, Rec};
 
@@ -24,13 +22,13 @@ fn fill_of(h: Held) -> Fill
 }
 
 /// What the task gives.
-pub(crate) fn fill_at(held: &[Held], v: Pay) -> Fill
-    requires { IsPaid (length held.now) v }
-    ensures { result ≡ pieces.fill_at held.now v }
+pub(crate) fn fill_at<B>(rec: &Rec<B>, v: Pay) -> Fill
+    requires { IsPaid (length rec.now.held) v }
+    ensures { result ≡ pieces.fill_at rec.now.held v }
 {
     match v {
         Pay::Num(number) => Fill::Num(number),
-        Pay::Ref(place) => fill_of(held[place as usize]),
+        Pay::Ref(place) => fill_of(rec.at(place)),
     }
 }
 
@@ -63,34 +61,38 @@ fn index_of(cells: &[CellId], c: CellId) -> Option<usize>
     None
 }
 
-/// Takes the cell out, if it is there.
-pub(crate) fn take_out(alloc: Global, cells: &mut CellList, c: CellId) -> bool
-    ensures found { (result ≡ true) ↔ (has_cell c.0 (numbers cells.old) ≡ true) }
-    ensures without { IsTrue result → numbers cells.new ≡ without_cell c.0 (numbers cells.old) }
-    ensures same { IsFalse result → cells.new ≡ cells.old }
+/// The task no longer owns the cell, if it owns it. The cell isn't the task's own.
+pub(crate) fn take_out<B>(rec: &mut Rec<B>, c: CellId) -> bool
+    requires other { c.0 ≢ rec.old.cell.0 }
+    ensures found { (result ≡ true) ↔ (has_cell c.0 (numbers rec.old.owned) ≡ true) }
+    ensures without { IsTrue result → numbers rec.new.owned
+        ≡ without_cell c.0 (numbers rec.old.owned) }
+    ensures same { IsFalse result → rec.new ≡ rec.old }
+    ensures others { rec.new ≡ record rec.old { owned = rec.new.owned } }
 {
-    let Some(at) = index_of(cells.items(), c) else {
+    let Some(at) = index_of(rec.promises(), c) else {
         return false;
     };
-    let mut list = replace(cells, Items::of(Vec::new(alloc))).into_vec();
-    list.remove(at);
-    *cells = Items::of(list);
+    rec.disown(at);
     true
 }
 
-/// The held cells at these places.
-pub(crate) fn held_at(alloc: Global, held: &[Held], places: &[u32]) -> Result<Vec<Held>, Oom>
-    requires { AllByRecursion (λ k. k < length held.now) places.now }
-    ensures { IfOk result (λ found. found.items ≡ map (pieces.held_at held.now) places.now) }
+/// The cells that the task holds at these places, with room for some more.
+pub(crate) fn held_at<B>(alloc: Global, rec: &Rec<B>, places: &[u32]) -> Result<Vec<Held>, Oom>
+    requires { AllByRecursion (λ k. k < length rec.now.held) places.now }
+    ensures { IfOk result (λ found. found.items ≡ map (pieces.held_at rec.now.held) places.now) }
 {
-    let mut found = Vec::new(alloc);
+    if places.is_empty() {
+        return Ok(Vec::new(alloc));
+    }
+    let mut found = Vec::with_capacity(alloc, places.len() + 4)?;
     for place in places {
-        found.push(held[*place as usize])?;
+        found.push(rec.at(*place))?;
     }
     Ok(found)
 }
 
-/// What is kept of the cells owned when these are handed one by one, or why that fails.
+/// What is kept of these cells when those are handed one by one, or why that fails.
 pub(crate) fn hand_all(
     alloc: Global,
     owned: &[CellId],
@@ -125,64 +127,20 @@ pub(crate) fn cells_of(alloc: Global, held: &[Held]) -> Result<Vec<CellId>, Oom>
     Ok(cells)
 }
 
-/// The record of a child at its start.
-pub(crate) fn child_record<B: Drop>(
-    alloc: Global,
-    c: CellId,
-    body: B,
-    passed: Vec<Held>,
-    handed: Vec<CellId>,
-) -> Result<Rec<B>, Oom>
-    ensures { IfOk result (λ r. r ≡ pieces.child_record c body passed.items handed.items) }
-{
-    let mut passed = passed;
-    let mut handed = handed;
-    let mut held = Vec::new(alloc);
-    held.push(Held {
-        cell: c,
-        sort: Sort::Task,
-    })?;
-    held.append(&mut passed)?;
-    let mut owned = Vec::new(alloc);
-    owned.push(c)?;
-    owned.append(&mut handed)?;
-    Ok(Rec::at_start(alloc, c, body, Items::of(held), Items::of(owned)))
-}
-
-/// The record of a child at its start that is passed the cells held at these places, and to which
-/// nothing is handed.
+/// The record of a child at its start that is passed the cells which the task holds at these places, and
+/// to which nothing is handed.
 #[inline(always)]
 pub(crate) fn bare_child<B: Drop>(
     alloc: Global,
     c: CellId,
     body: B,
-    held: &[Held],
+    rec: &Rec<B>,
     places: &[u32],
 ) -> Result<Rec<B>, Oom>
-    requires { AllByRecursion (λ k. k < length held.now) places.now }
+    requires { AllByRecursion (λ k. k < length rec.now.held) places.now }
     ensures { IfOk result (λ r. r
-        ≡ pieces.child_record c body (map (pieces.held_at held.now) places.now) []) }
+        ≡ pieces.child_record c body (map (pieces.held_at rec.now.held) places.now) []) }
 {
-    let known = known_at_start(alloc, c, held, places)?;
-    let mut owned = Vec::with_capacity(alloc, 4)?;
-    owned.push(c)?;
-    Ok(Rec::at_start(alloc, c, body, Items::of(known), Items::of(owned)))
-}
-
-// What a child holds at its start: itself, and what it is passed.
-#[inline(always)]
-fn known_at_start(alloc: Global, c: CellId, held: &[Held], places: &[u32]) -> Result<Vec<Held>, Oom>
-    requires { AllByRecursion (λ k. k < length held.now) places.now }
-    ensures { IfOk result (λ known. known.items
-        ≡ own c ∷ map (pieces.held_at held.now) places.now) }
-{
-    let mut known = Vec::with_capacity(alloc, places.len() + 4)?;
-    known.push(Held {
-        cell: c,
-        sort: Sort::Task,
-    })?;
-    for place in places {
-        known.push(held[*place as usize])?;
-    }
-    Ok(known)
+    let passed = held_at(alloc, rec, places)?;
+    Rec::at_start(alloc, c, body, passed, Vec::new(alloc))
 }

@@ -35,7 +35,7 @@ pub(crate) fn next_ask<B: Body>(
     let _ = laid;
     let _ = seat;
     points_in_rounds::<B>();
-    let asked = rec.body.next(alloc, rec.answer)?;
+    let asked = rec.next(alloc)?;
     Ok(asked)
 }
 
@@ -57,8 +57,8 @@ pub(crate) fn emit<B: Body>(
     let _ = laid;
     let _ = seat;
     points_in_rounds::<B>();
-    rec.prints.push(number)?;
-    rec.answer = Answer::Done;
+    rec.print(number)?;
+    rec.set_answer(Answer::Done);
     Ok(Next::Runs)
 }
 
@@ -75,5 +75,5 @@ pub(crate) fn end_with<B: Body>(laid: &Laid<B>, seat: &WSeat<B>, rec: &Rec<B>, v
     let _ = laid;
     let _ = seat;
     points_in_rounds::<B>();
-    Next::Ends(Finish::Done(fill_at(rec.held.items(), v)))
+    Next::Ends(Finish::Done(fill_at(rec, v)))
 }

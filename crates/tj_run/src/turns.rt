@@ -7,7 +7,7 @@ ghost use Rattle.tj_words.specs.Law.{IsRooted};
 ghost use Rattle.tj_words.specs.SeatViews.SeatSteps.{IsSameSeat, IsSeatOf};
 ghost use Rattle.tj_words.specs.SeatViews.Views.{saw_stop};
 ghost use Rattle.tj_run.specs.Workers.{IsFree, table_program};
-ghost use Rattle.tj_run.specs.Leaving.{Found, FoundStop, HasStopped, Leaves};
+ghost use Rattle.tj_run.specs.Leaving.{EndsLog, Found, FoundStop, HasStopped, Leaves};
 ghost use Rattle.tj_run.specs.Inner.Posts.{IsPostOf, IsSamePost};
 ghost use Rattle.tj_run.specs.Inner.Turns.{TurnsTo};
 
@@ -20,7 +20,7 @@ use tj_body::Body;
 use tj_park::claim;
 use tj_ports::Gate;
 use tj_ready::Pool;
-use tj_words::{Laid, WSeat};
+use tj_words::{Laid, Stop, WSeat};
 
 /// A worker: it takes its turns until nothing goes on any more, or the run is stopped. `gate` is
 /// entered before each turn, with the worker's number and the turn, both from 1. `Rested` comes only
@@ -44,6 +44,7 @@ pub fn worker<B: Body, P: Pool, G: Gate, R: Wait>(
         result.0.me }
     ensures found { Found (program_of B.places B.awaits B.left B.asks B.then) result.1 seat.me.0
         result.0.me.0 }
+    ensures log { EndsLog result.1 result.0.log }
 {
     let mut post = Post {
         rt,
@@ -78,6 +79,7 @@ impl<B: Body, P: Pool, R: Wait> Post<'_, B, P, R> {
         ensures found { IfSome result (λ how. Found
             (program_of B.places B.awaits B.left B.asks B.then) how self.old.seat.me.0
             self.new.seat.me.0) }
+        ensures log { IfSome result (λ how. EndsLog how self.new.seat.log) }
     {
         if let Some(why) = stop_word(laid, &mut self.seat) {
             return Some(Left::Stopped(why));
@@ -106,11 +108,12 @@ fn stop_word<B: Body>(laid: &Laid<B>, seat: &mut WSeat<B>) -> Option<Why>
     ensures stands { (n : ℕ) → IsIn n seat.old.me.0.stored → result ≢ None }
     ensures found { IfSome result (λ why. FoundStop
         (program_of B.places B.awaits B.left B.asks B.then) why seat.old.me.0 seat.new.me.0) }
+    ensures log { IfSome result (λ why. EndsLog (Left.Stopped why) seat.new.log) }
 {
-    match laid.stopped(seat) {
-        0 => None,
-        1 => Some(Why::Full),
-        _ => Some(Why::Memory),
+    let word = laid.stopped(seat);
+    match Stop::of_word(word) {
+        None => None,
+        Some(stop) => Some(Why::of_stop(stop)),
     }
 }
 
@@ -128,6 +131,7 @@ fn idle<B: Body, R: Wait>(
         seat.old.me.0 seat.new.me }
     ensures found { IfSome result (λ how. Found
         (program_of B.places B.awaits B.left B.asks B.then) how seat.old.me.0 seat.new.me.0) }
+    ensures log { IfSome result (λ how. EndsLog how seat.new.log) }
 {
     if laid.live(seat) == 0 {
         return Some(Left::Rested);
@@ -145,11 +149,9 @@ fn stop_run<B: Body>(laid: &Laid<B>, seat: &mut WSeat<B>, why: Why) -> Why
         seat.old.me.0 seat.new.me.0 }
     ensures found { FoundStop (program_of B.places B.awaits B.left B.asks B.then) result
         seat.old.me.0 seat.new.me.0 }
+    ensures log { EndsLog (Left.Stopped result) seat.new.log }
 {
-    let word = match why {
-        Why::Full => 1,
-        Why::Memory => 2,
-    };
+    let word = why.stop().word();
     laid.stop(seat, word);
     match stop_word(laid, seat) {
         Some(told) => told,

@@ -37,7 +37,7 @@ impl<B: Body, P: Pool, R: Wait> Post<'_, B, P, R> {
             laid.now next rec.new self.old.seat.me.0 self.new.seat.me) }
     {
         points_in_rounds::<B>();
-        match rec.held.items()[at.place as usize].sort {
+        match rec.at(at.place).sort {
             Sort::Task => Ok(Next::Ends(Finish::Failed(Hurt::Kind))),
             Sort::Promise => self.look(laid, rec, at),
         }
@@ -56,14 +56,14 @@ impl<B: Body, P: Pool, R: Wait> Post<'_, B, P, R> {
             laid.now next rec.new self.old.seat.me.0 self.new.seat.me) }
     {
         points_in_rounds::<B>();
-        let h = rec.held.items()[at.place as usize];
+        let h = rec.at(at.place);
         if let Sort::Promise = h.sort {
             return Ok(Next::Ends(Finish::Failed(Hurt::Kind)));
         }
         if !laid.strict() {
             return self.look(laid, rec, at);
         }
-        match way_to::<B, Brand>(laid, &mut self.seat, rec.cell, h, Blank::new(1)) {
+        match way_to::<B, Brand>(laid, &mut self.seat, rec.cell(), h, Blank::new(1)) {
             Way::Other => Ok(Next::Ends(Finish::Failed(Hurt::Order(h.cell)))),
             Way::Along => self.look(laid, rec, at),
         }
@@ -120,13 +120,12 @@ fn block_at<B: Body, L: Ledger>(
     ensures blocked { HasBlocked (program_of B.places B.awaits B.left B.asks B.then) laid.now
         rec.new result.0.0 result.1 result.2 seat.old.me seat.new.me }
 {
-    let t = rec.cell;
-    let h = rec.held.items()[place as usize];
+    let t = rec.cell();
+    let h = rec.at(place);
     let way = way_to::<B, Brand>(laid, seat, t, h, Blank::new(1));
     let mut steps = Steps::<L>::new(blank);
     let verdict = block(laid, seat, t, h.cell, way, &mut steps);
-    rec.answer = Answer::RefAt(place);
-    rec.spare = spare;
+    rec.set_wait(place, spare);
     (h.cell, way, verdict)
 }
 
@@ -151,7 +150,7 @@ pub(crate) fn wait<B: Body>(
 {
     let mut rec = rec;
     let (q, way, verdict) = block_at::<B, Brand>(laid, seat, &mut rec, place, spare, Blank::new(1));
-    let t = rec.cell;
+    let t = rec.cell();
     match verdict {
         Verdict::Alarm => {
             shelve(laid, seat, t, rec);

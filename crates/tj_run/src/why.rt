@@ -1,7 +1,12 @@
 //! Why a run is to stop, and how a worker leaves it.
+ghost use Rattle.std.specs.Prelude.{◌≡◌};
+ghost use Rattle.tj_run.specs.Leaving.{stop_word};
+ghost use Rattle.tj_words.specs.Words.StopWords as words;
+
 use std::alloc::{AllocError, AllocFailed};
 use tj_base::Oom;
 use tj_cells::Full;
+use tj_words::Stop;
 
 /// Why a run was stopped.
 #[derive(Clone, Copy, Debug, PartialEq, Eq)]
@@ -10,6 +15,30 @@ pub enum Why {
     Full,
     /// Memory is lacking.
     Memory,
+}
+
+impl Why {
+    /// The cause that the word STOP says.
+    #[inline(always)]
+    pub fn of_stop(stop: Stop) -> Why
+        ensures { stop_word result ≡ words.stop_word stop }
+    {
+        match stop {
+            Stop::Full => Why::Full,
+            Stop::Memory => Why::Memory,
+        }
+    }
+
+    /// What the word STOP is to say.
+    #[inline(always)]
+    pub fn stop(self) -> Stop
+        ensures { words.stop_word result ≡ stop_word self }
+    {
+        match self {
+            Why::Full => Stop::Full,
+            Why::Memory => Stop::Memory,
+        }
+    }
 }
 
 /// How a worker left the run.

@@ -32,15 +32,16 @@ impl<B: Body, P: Pool, R: Wait> Post<'_, B, P, R> {
             laid.now next rec.new self.old.seat.me.0 self.new.seat.me) }
     {
         points_in_rounds::<B>();
-        let c = make(laid, &mut self.seat, rec.cell, rec.made + 1)?;
-        let place = rec.held.items().len() as u32;
-        rec.held.push(Held {
+        let t = rec.cell();
+        let c = make(laid, &mut self.seat, t, rec.made() + 1)?;
+        let place = rec.places();
+        rec.hold(Held {
             cell: c,
             sort: Sort::Promise,
         })?;
-        rec.owned.push(c)?;
-        rec.made += 1;
-        rec.answer = Answer::Local(place);
+        rec.own(c)?;
+        rec.count_made();
+        rec.set_answer(Answer::Local(place));
         Ok(Next::Runs)
     }
 
@@ -56,15 +57,16 @@ impl<B: Body, P: Pool, R: Wait> Post<'_, B, P, R> {
     {
         points_in_rounds::<B>();
         names_and_cells();
-        let h = rec.held.items()[place as usize];
+        let h = rec.at(place);
         if let Sort::Task = h.sort {
             return Ok(Next::Ends(Finish::Failed(Hurt::Kind)));
         }
-        let value = fill_at(rec.held.items(), v);
-        if !take_out(self.alloc, &mut rec.owned, h.cell) {
+        let t = rec.cell();
+        let value = fill_at(rec, v);
+        if !take_out(rec, h.cell) {
             return Ok(Next::Ends(Finish::Failed(Hurt::Owner(h.cell))));
         }
-        fill(laid, &mut self.seat, rec.cell, h.cell, value);
+        fill(laid, &mut self.seat, t, h.cell, value);
         wake(
             self.rt,
             self.alloc,
@@ -73,7 +75,7 @@ impl<B: Body, P: Pool, R: Wait> Post<'_, B, P, R> {
             h.cell,
             &mut self.pool,
         )?;
-        rec.answer = Answer::Done;
+        rec.set_answer(Answer::Done);
         Ok(Next::Runs)
     }
 
@@ -88,8 +90,8 @@ impl<B: Body, P: Pool, R: Wait> Post<'_, B, P, R> {
         ensures left { OnOk result (IsLeft laid.now self.old.seat.me.0 self.new.seat.me) }
     {
         let mut rec = rec;
-        let t = rec.cell;
-        rec.finish = Some(ending);
+        let t = rec.cell();
+        rec.set_finish(ending);
         finish(
             self.rt,
             self.alloc,

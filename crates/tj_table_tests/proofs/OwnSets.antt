@@ -1,8 +1,10 @@
 -- A task that a test runs sets the promise that it owns beside its result, by a seat that has nothing else.
 use Rattle.tj_run.proofs.Prelude.{Bool, CellId, Custody, Fill, HasWoken, IsFilledWith, Laid, List, MayAct}
 use Rattle.tj_run.proofs.Prelude.{MayFill, MayWake, None, Program, Rec, RunsTask, SeatMe, Some, View, [], ap}
-use Rattle.tj_run.proofs.Prelude.{about_table, arith, became, cell, cond, eq-eqb, false, get_or, has_cell, held_in}
-use Rattle.tj_run.proofs.Prelude.{length, may_wake_closed, nat_eq, none_some, numbers, one_some, refl, subst, sym, true, ℕ}
+use Rattle.tj_run.proofs.Prelude.{about_table, arith, became, cell, cond, drop, eq-eqb, false, get_or, has_cell}
+use Rattle.tj_run.proofs.Prelude.{held_in}
+use Rattle.tj_run.proofs.Prelude.{length, may_wake_closed, nat_eq, none_some, numbers, one_some, refl, subst, sym, true}
+use Rattle.tj_run.proofs.Prelude.{ℕ}
 use Rattle.tj_run.proofs.Prelude.{◌<◌, ◌∙◌, ◌∷◌, ◌≡◌}
 use Rattle.std.proofs.Common.{◌||◌}
 use Rattle.tj_words.specs.Calls.ExchangeViews.{KnowsTable}
@@ -24,12 +26,20 @@ second_of (a ∷ (d ∷ [])) c e f = ap (λ b. nat_eq c a.0 || (b || false)) (eq
     always false = refl
 second_of (a ∷ (d ∷ (x ∷ l))) c e f = absurd (omega arith)
 
+-- the one behind the first of two cells is one of them
+second_left : (l : List CellId) (c : ℕ) → length (drop 1 l) ≡ 1 → (get_or (drop 1 l) 0 (cell 0)).0 ≡ c
+    → has_cell c (numbers l) ≡ true
+second_left [] c e f = absurd (omega arith)
+second_left (a ∷ []) c e f = absurd (omega arith)
+second_left (a ∷ (d ∷ [])) c e f = second_of (a ∷ (d ∷ [])) c refl f
+second_left (a ∷ (d ∷ (x ∷ l))) c e f = absurd (omega arith)
+
 -- and the task owns it
-pub owns_second : (owned now then : List CellId) (c : ℕ) → now ≡ owned → then ≡ owned → length now ≡ 2
-    → (get_or then 1 (cell 0)).0 ≡ c
+pub owns_second : (owned now then : List CellId) (c : ℕ) → now ≡ drop 1 owned → then ≡ drop 1 owned → length now ≡ 1
+    → (get_or then 0 (cell 0)).0 ≡ c
     → has_cell c (numbers owned) ≡ true
-owns_second owned now then c is also two at = second_of owned c (subst (λ l. length l ≡ 2) is two)
-    (subst (λ l. (get_or l 1 (cell 0)).0 ≡ c) also at)
+owns_second owned now then c is also one at = second_left owned c (subst (λ l. length l ≡ 1) is one)
+    (subst (λ l. (get_or l 0 (cell 0)).0 ≡ c) also at)
 
 module _ {B : Type 0} {laid : Laid B} {r : Rec B} {me : SeatMe B} (runs : RunsTask laid r me) where
   held : held_in me.0.tasks r.cell.0 ≡ Some runs.custody

@@ -1,5 +1,6 @@
 -- A task that owns its result alone ends step by step, and nobody waits for it: what each step needs of the seat.
-use Rattle.tj_run.proofs.Prelude.{Bool, Fill, HasNoRecord, HasWoken, IsFilledWith, IsLeft, Laid, List, MayEnd, MayFill}
+use Rattle.tj_run.proofs.Prelude.{Bool, CellId, Fill, HasNoRecord, HasWoken, IsFilledWith, IsLeft, Laid, List, MayEnd}
+use Rattle.tj_run.proofs.Prelude.{MayFill}
 use Rattle.tj_run.proofs.Prelude.{MayGiveUp, MayWake, None, Program, Rec, SeatMe, Some, View, WakesAll, WritesBecome}
 use Rattle.tj_run.proofs.Prelude.{[], ap, became, drop, length, refl, rest, subst, sym, ℕ, ◌<◌, ◌∙◌, ◌∷◌, ◌≡◌, ◌≢◌}
 use Rattle.tj_words.specs.declared.head.Head.{Head}
@@ -37,6 +38,18 @@ nobody_woken {B} cells p h v w is none again takes =
     all = woke_all {P = Unit {0}} (λ a t b. Unit {0}) cells p h 0 v w tt tt
         (waking_at_first {P = Unit {0}} (λ a t b. Unit {0}) cells p h v w tt none again takes)
         (λ t e. let z = sym is ∙ e in absurd (cc))
+
+-- the same of the record with the number that its cell was read to have
+pub ends_at : {B : Type 0} {program : Bool → B → Program B} {laid : Laid B} {r : Rec B} {f : Fill} {me : SeatMe B}
+    (t : CellId) → t ≡ r.cell → EndsAlone program laid r f me → EndsAlone program laid (record r { cell = t }) f me
+ends_at {B} {program} {laid} {r} {f} {me} t e h =
+    subst (λ (z : CellId). EndsAlone program laid (record r { cell = z }) f me) (sym e) h
+
+pub ended_at : {B : Type 0} (r : Rec B) {r' : Rec B} {f : Fill} (t : CellId) → t ≡ r.cell
+    → r' ≡ record r { owned = []; owed = []; finish = Some (finish.Done f) }
+    → r' ≡ record r { cell = t; owned = []; owed = []; finish = Some (finish.Done f) }
+ended_at {B} r {r'} {f} t e is = is
+    ∙ ap (λ (z : CellId). record r { cell = z; owned = []; owed = []; finish = Some (finish.Done f) }) (sym e)
 
 module _ {B : Type 0} {program : Bool → B → Program B} {laid : Laid B} {r : Rec B} {f : Fill} {me : SeatMe B}
     (h : EndsAlone program laid r f me) where

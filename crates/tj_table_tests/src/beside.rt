@@ -28,7 +28,7 @@ impl<B: Body, R: Wait + Abort> Rig<'_, B, R> {
         ensures begun { HasBegun (program_of B.places B.awaits B.left B.asks B.then)
             self.now.laid mine.now result seat.old.me seat.new.me }
     {
-        if t.0 == mine.cell.0 {
+        if t.0 == mine.cell().0 {
             panic!(self.rt; "another one");
         }
         self.claim_first(seat, t)
@@ -50,13 +50,13 @@ impl<B: Body, R: Wait + Abort> Rig<'_, B, R> {
     {
         points_in_rounds::<B>();
         let mut rec = self.claim_beside(seat, mine, t);
-        let Ok(ask) = rec.body.next(self.alloc, rec.answer) else {
+        let Ok(ask) = rec.next(self.alloc) else {
             panic!(self.rt; "no memory");
         };
         let Ask::Get { p } = ask else {
             panic!(self.rt; "it gets");
         };
-        let h = rec.held.items()[p as usize];
+        let h = rec.at(p);
         let Sort::Promise = h.sort else {
             panic!(self.rt; "a promise");
         };
@@ -74,7 +74,7 @@ impl<B: Body, R: Wait + Abort> Rig<'_, B, R> {
     {
         let told = self.ask_beside(seat, mine, t);
         let (mut rec, p, h) = told;
-        let t = rec.cell;
+        let t = rec.cell();
         let verdict = self.block_at::<Brand>(seat, &mut rec, p, h.cell, Blank::new(1));
         let Verdict::Walked = verdict else {
             panic!(self.rt; "its owner doesn't wait");

@@ -16,7 +16,7 @@ use std::alloc::Global;
 use std::process::Abort;
 use std::sync::Wait;
 use std::sync::ledger::{Blank, Ledger};
-use tj_base::{CellId, Items, Sort, Steps};
+use tj_base::{CellId, Sort, Steps};
 use tj_body::{Answer, Ask, Body, names_and_cells, points_in_rounds};
 use tj_cells::{birth, make};
 use tj_detect::{Verdict, block};
@@ -45,7 +45,7 @@ impl<B: Body, R: Wait + Abort> Rig<'_, B, R> {
         ensures start { result.answer ≡ Start }
     {
         let rec = claim(&self.laid, seat, t).expect(self.rt, "it is ready");
-        let Answer::Start = rec.answer else {
+        let Answer::Start = rec.answer() else {
             panic!(self.rt; "it begins");
         };
         rec
@@ -74,7 +74,7 @@ impl<B: Body, R: Wait + Abort> Rig<'_, B, R> {
         let _ = seat;
         points_in_rounds::<B>();
         let mut rec = rec;
-        let Ok(asked) = rec.body.next(self.alloc, rec.answer) else {
+        let Ok(asked) = rec.next(self.alloc) else {
             panic!(self.rt; "no memory");
         };
         (rec, asked)
@@ -94,15 +94,15 @@ impl<B: Body, R: Wait + Abort> Rig<'_, B, R> {
         let Ask::New = asked else {
             panic!(self.rt; "it makes a promise");
         };
-        let Ok(c) = make(&self.laid, seat, rec.cell, rec.made + 1) else {
+        let Ok(c) = make(&self.laid, seat, rec.cell(), rec.made() + 1) else {
             panic!(self.rt; "a cell is left");
         };
-        rec.answer = Answer::Local(rec.held.items().len() as u32);
-        hold(self.rt, &mut rec.held, c, Sort::Promise);
-        let Ok(()) = rec.owned.push(c) else {
+        rec.set_answer(Answer::Local(rec.places()));
+        hold(self.rt, &mut rec, c, Sort::Promise);
+        let Ok(()) = rec.own(c) else {
             panic!(self.rt; "no memory");
         };
-        rec.made += 1;
+        rec.count_made();
         rec
     }
 
@@ -130,17 +130,17 @@ impl<B: Body, R: Wait + Abort> Rig<'_, B, R> {
             panic!(self.rt; "one cell is passed");
         }
         let place = pass.items()[0];
-        let passed = rec.held.items()[place as usize];
-        let Ok(c) = birth(&self.laid, seat, rec.cell, rec.made + 1) else {
+        let passed = rec.at(place);
+        let Ok(c) = birth(&self.laid, seat, rec.cell(), rec.made() + 1) else {
             panic!(self.rt; "a cell is left");
         };
         let child = child_of(self.rt, self.alloc, c, body, passed);
         let Ok(()) = release(self.rt, self.alloc, &self.laid, seat, c, child, pool) else {
             panic!(self.rt; "no memory");
         };
-        rec.answer = Answer::Local(rec.held.items().len() as u32);
-        hold(self.rt, &mut rec.held, c, Sort::Task);
-        rec.made += 1;
+        rec.set_answer(Answer::Local(rec.places()));
+        hold(self.rt, &mut rec, c, Sort::Task);
+        rec.count_made();
         rec
     }
 
@@ -179,18 +179,19 @@ impl<B: Body, R: Wait + Abort> Rig<'_, B, R> {
         ensures rec { rec.new ≡ waits_at place false rec.old }
     {
         let mut steps = Steps::<L>::new(blank);
-        let verdict = block(&self.laid, seat, rec.cell, q, Way::Other, &mut steps);
-        rec.answer = Answer::RefAt(place);
-        rec.spare = false;
+        let verdict = block(&self.laid, seat, rec.cell(), q, Way::Other, &mut steps);
+        rec.set_wait(place, false);
         verdict
     }
 }
 
 // A task holds one cell more.
-fn hold<R: Abort>(rt: &R, held: &mut Items<Held>, cell: CellId, sort: Sort)
-    ensures { held.new ≡ held.old ++ record { cell = cell; sort = sort } ∷ [] }
+fn hold<B, R: Abort>(rt: &R, rec: &mut Rec<B>, cell: CellId, sort: Sort)
+    ensures { rec.new ≡ record rec.old {
+      held = rec.old.held ++ record { cell = cell; sort = sort } ∷ [];
+    } }
 {
-    let Ok(()) = held.push(Held { cell, sort }) else {
+    let Ok(()) = rec.hold(Held { cell, sort }) else {
         panic!(rt; "no memory");
     };
 }
@@ -199,26 +200,11 @@ fn hold<R: Abort>(rt: &R, held: &mut Items<Held>, cell: CellId, sort: Sort)
 fn child_of<B: Drop, R: Abort>(rt: &R, alloc: Global, c: CellId, body: B, passed: Held) -> Rec<B>
     ensures { result ≡ child_record c body (passed ∷ []) [] }
 {
-    let own = Held {
-        cell: c,
-        sort: Sort::Task,
-    };
-    let Ok(held) = vec![in alloc; own, passed] else {
+    let Ok(others) = vec![in alloc; passed] else {
         panic!(rt; "no memory");
     };
-    let Ok(owned) = vec![in alloc; c] else {
+    let Ok(rec) = Rec::at_start(alloc, c, body, others, Vec::new(alloc)) else {
         panic!(rt; "no memory");
     };
-    Rec {
-        cell: c,
-        body,
-        answer: Answer::Start,
-        held: Items::of(held),
-        owned: Items::of(owned),
-        made: 0,
-        prints: Items::of(Vec::new(alloc)),
-        owed: Items::of(Vec::new(alloc)),
-        finish: None,
-        spare: false,
-    }
+    rec
 }

@@ -31,15 +31,15 @@ impl<B: Body, R: Wait + Abort> Rig<'_, B, R> {
         let Ask::Join { t } = asked else {
             panic!(self.rt; "it joins");
         };
-        let h = rec.held.items()[t as usize];
+        let h = rec.at(t);
         let Sort::Task = h.sort else {
             panic!(self.rt; "a task");
         };
         let mut steps = Steps::<L>::new(blank);
-        let Way::Along = way_of(&self.laid, seat, rec.cell, h.cell, &mut steps) else {
+        let Way::Along = way_of(&self.laid, seat, rec.cell(), h.cell, &mut steps) else {
             panic!(self.rt; "along the order");
         };
-        block(&self.laid, seat, rec.cell, h.cell, Way::Along, &mut steps)
+        block(&self.laid, seat, rec.cell(), h.cell, Way::Along, &mut steps)
     }
 
     /// The root forks a child, and the other seat claims it; then the root joins it.

@@ -9,7 +9,7 @@ use std::thread::Threads;
 use tj_base::{Items, Oom, Pay};
 use tj_body::{Answer, Ask, Body};
 use tj_ports::OpenGate;
-use tj_ready::{LockedPool, Pool, StealPool};
+use tj_ready::{LockedPool, NewestFirstPool, Pool, StealPool};
 use tj_run::run_all;
 
 /// How often a task looks for the other one before it gives up.
@@ -126,7 +126,8 @@ fn two_tasks_meet_over_the_locked_pool(rt: HostRuntime) -> Result<(), Fail> {
 }
 
 #[test]
-fn two_tasks_meet_over_the_stealing_pool(rt: HostRuntime) -> Result<(), Fail> {
+fn two_tasks_meet_over_the_stealing_pools(rt: HostRuntime) -> Result<(), Fail> {
     assert!(rt; meets::<StealPool, HostRuntime>(&rt, rt.alloc()));
+    assert!(rt; meets::<NewestFirstPool, HostRuntime>(&rt, rt.alloc()));
     Ok(())
 }

@@ -72,7 +72,7 @@ fn has_printed<B: Body>(rest: &RestWords<B>) -> bool {
         return false;
     }
     match rest.rec(CellId(0)) {
-        Some(rec) => rec.prints.items() == &[8i64][..],
+        Some(rec) => rec.prints() == &[8i64][..],
         None => false,
     }
 }

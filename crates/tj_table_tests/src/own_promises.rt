@@ -30,11 +30,11 @@ impl<B: Body, R: Wait + Abort> Rig<'_, B, R> {
         let Ask::Get { p } = asked else {
             panic!(self.rt; "it gets");
         };
-        let h = rec.held.items()[p as usize];
+        let h = rec.at(p);
         let Sort::Promise = h.sort else {
             panic!(self.rt; "a promise");
         };
-        let t = rec.cell;
+        let t = rec.cell();
         let verdict = self.block_at::<Brand>(seat, &mut rec, p, h.cell, Blank::new(1));
         let Verdict::Alarm = verdict else {
             panic!(self.rt; "it owns the promise");

@@ -42,14 +42,14 @@ impl<B: Body, R: Wait + Abort> Rig<'_, B, R> {
         let Pay::Num(number) = v else {
             panic!(self.rt; "to a number");
         };
-        let h = rec.held.items()[p as usize];
+        let h = rec.at(p);
         let Sort::Promise = h.sort else {
             panic!(self.rt; "no task is set");
         };
-        if rec.owned.items().len() != 2 {
+        if rec.promises().len() != 1 {
             panic!(self.rt; "it owns its result and a promise");
         }
-        if rec.owned.items()[1].0 != h.cell.0 {
+        if rec.promises()[0].0 != h.cell.0 {
             panic!(self.rt; "this one");
         }
         (rec, h.cell, Fill::Num(number))
@@ -74,7 +74,7 @@ impl<B: Body, R: Wait + Abort> Rig<'_, B, R> {
         self.park_beside(seat, &root, child);
         let told = self.to_set(seat, root);
         let (mine, promise, given) = told;
-        fill(&self.laid, seat, mine.cell, promise, given);
+        fill(&self.laid, seat, mine.cell(), promise, given);
         let Ok(woken) = wake(self.rt, self.alloc, &self.laid, seat, promise, pool) else {
             panic!(self.rt; "no memory");
         };
@@ -94,12 +94,12 @@ impl<B: Body, R: Wait + Abort> Rig<'_, B, R> {
         let told = self.to_set(seat, root);
         let (mine, promise, given) = told;
         let (mut rec, place, h) = self.ask_beside(seat, &mine, CellId(2));
-        let t = rec.cell;
+        let t = rec.cell();
         let verdict = self.block_at::<Brand>(seat, &mut rec, place, h.cell, Blank::new(1));
         let Verdict::Walked = verdict else {
             panic!(self.rt; "its owner doesn't wait");
         };
-        fill(&self.laid, seat, mine.cell, promise, given);
+        fill(&self.laid, seat, mine.cell(), promise, given);
         let Ok(0) = wake(self.rt, self.alloc, &self.laid, seat, promise, pool) else {
             panic!(self.rt; "it isn't in the chain yet");
         };
@@ -128,7 +128,7 @@ fn a_task_wakes_another_one_of_its_seat(rt: HostRuntime) {
     assert!(rt; pool.take(&rt) == reader, "and again");
     assert!(rt; pool.take(&rt).is_none(), "and nobody else");
     let rec = claim(&rig.laid, &mut seat, CellId(2)).expect(&rt, "it is ready again");
-    let Answer::RefAt(1) = rec.answer else {
+    let Answer::RefAt(1) = rec.answer() else {
         panic!(rt; "to read the promise");
     };
     let None = claim(&rig.laid, &mut seat, CellId(2)) else {

@@ -29,8 +29,8 @@ fn tells<B: Body>(rest: &RestWords<B>) -> bool {
     }
     match rest.rec(CellId(0)) {
         Some(rec) => {
-            rec.prints.items() == &[8i64][..]
-                && matches!(rec.finish, Some(Finish::Done(Fill::Promise(CellId(1)))))
+            rec.prints() == &[8i64][..]
+                && matches!(rec.finish(), Some(Finish::Done(Fill::Promise(CellId(1)))))
         }
         None => false,
     }

@@ -40,7 +40,7 @@ impl<B: Body, R: Wait + Abort> Rig<'_, B, R> {
             .laid
             .slot_swap(seat, t, None)
             .expect(self.rt, "its record is at home");
-        let Answer::Start = rec.answer else {
+        let Answer::Start = rec.answer() else {
             panic!(self.rt; "it begins");
         };
         rec
@@ -73,12 +73,12 @@ impl<B: Body, R: Wait + Abort> Rig<'_, B, R> {
         ensures left { IsLeft self.now.laid seat.old.me.0 seat.new.me }
     {
         self.ends_alone(seat, &rec, v);
-        let t = rec.cell;
+        let t = rec.cell();
         let (tag, bits) = value_words(Some(v));
         self.laid.put_owner(seat, t, None);
         self.laid.put_once(seat, t, Once::Bits, bits);
         self.laid.put_once(seat, t, Once::Tag, tag);
-        let ended = ended_alone(self.alloc, rec, v);
+        let ended = ended_alone(rec, v);
         self.lay_in_steps(seat, t, ended);
         let head = self.laid.shut(seat, t);
         let Head::Empty = head else {
@@ -107,15 +107,14 @@ impl<B: Body, R: Wait + Abort> Rig<'_, B, R> {
 }
 
 // The record of a task that has ended like this and owes nothing.
-fn ended_alone<B>(alloc: Global, rec: Rec<B>, v: Fill) -> Rec<B>
+fn ended_alone<B>(rec: Rec<B>, v: Fill) -> Rec<B>
+    requires alone { length rec.owned ≡ 1 }
     ensures { result ≡ record rec { owned = []; owed = []; finish = Some (Done v) } }
 {
-    Rec {
-        owned: Items::of(Vec::new(alloc)),
-        owed: Items::of(Vec::new(alloc)),
-        finish: Some(Finish::Done(v)),
-        ..rec
-    }
+    let mut rec = rec;
+    rec.set_finish(Finish::Done(v));
+    rec.end();
+    rec
 }
 
 /// Asserts that closed words have the root alone, which has ended with 0.
@@ -137,7 +136,7 @@ fn has_the_root_alone<B: Body, R: Abort>(rt: &R, rest: RestWords<B>) {
 
 fn has_ended_with_0<B: Body>(rec: Option<&Rec<B>>) -> bool {
     match rec {
-        Some(rec) => matches!(rec.finish, Some(Finish::Done(Fill::Num(0)))),
+        Some(rec) => matches!(rec.finish(), Some(Finish::Done(Fill::Num(0)))),
         None => false,
     }
 }
@@ -155,8 +154,7 @@ fn the_root_ends_by_step_calls(rt: HostRuntime) {
     let Pay::Num(number) = v else {
         panic!(rt; "with a number");
     };
-    let owned = rec.owned.items().len();
-    if owned != 1 {
+    if !rec.promises().is_empty() {
         panic!(rt; "it owns its result alone");
     }
     rig.end_in_steps(&mut seat, rec, Fill::Num(number));

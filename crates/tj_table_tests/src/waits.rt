@@ -20,12 +20,12 @@ fn a_future_gives_a_promise_that_another_seat_fills(rt: HostRuntime) {
     };
     let (mut first, second) = rig.laid.split(seat);
     let root = rig.begin(&mut first, CellId(0));
-    assert!(rt; root.made == 0, "it has made nothing yet");
+    assert!(rt; root.made() == 0, "it has made nothing yet");
     let rec = rig.to_promise(&mut first, root);
     let told = rig.to_set(&first, rec);
     let (mine, promise, given) = told;
     assert!(rt; promise == CellId(1), "the next cell");
-    fill(&rig.laid, &mut first, mine.cell, promise, given);
+    fill(&rig.laid, &mut first, mine.cell(), promise, given);
     let waited = block_on(&rt, CellWait::new(&rig.laid, second, CellId(1)));
     assert!(rt;
         matches!(waited, Ok((Watched::Value(Fill::Num(5)), _))),

@@ -39,7 +39,7 @@ fn makes_two(rt: &impl Abort, alloc: Global, cells: u32, is_full: bool) -> Resul
     let (laid, mut seat) = Laid::new(alloc, cells, TableBody::new(&lists, 0), true)?;
     let root = CellId(0);
     let rec = claim(&laid, &mut seat, root).expect(rt, "the root is ready");
-    if rec.made != 0 {
+    if rec.made() != 0 {
         panic!(rt; "it has made nothing yet");
     }
     let Ok(p) = make(&laid, &mut seat, root, 1) else {

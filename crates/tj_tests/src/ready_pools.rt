@@ -1,4 +1,4 @@
-//! Both pools by their one trait: what two ends take in turn, and four threads at once.
+//! The pools by their one trait: what two ends take in turn, and four threads at once.
 ghost use Rattle.std.specs.Prelude.{◌≡◌, ◌<◌};
 
 use crate::shown::holds;
@@ -8,7 +8,7 @@ use std::sync::Wait;
 use std::thread;
 use std::thread::Threads;
 use tj_base::{CellId, Oom};
-use tj_ready::{LockedPool, Pool, StealPool};
+use tj_ready::{LockedPool, NewestFirstPool, Pool, StealPool};
 
 // Puts three cells by one end.
 fn put_three<P: Pool, R: Wait>(rt: &R, alloc: Global, end: &mut P) -> Result<(), Oom>
@@ -19,8 +19,9 @@ fn put_three<P: Pool, R: Wait>(rt: &R, alloc: Global, end: &mut P) -> Result<(),
     end.put(rt, alloc, CellId(7))
 }
 
-// Asserts what two ends take. The first one puts 5, 6 and 7, takes twice, and the other three times.
-fn take_in_turn<P: Pool, R: Wait + Abort>(rt: &R, alloc: Global) {
+// Asserts what two ends take. The first one puts 5, 6 and 7 and takes one of them, the other one takes the next two,
+// and then nothing is left.
+fn take_in_turn<P: Pool, R: Wait + Abort>(rt: &R, alloc: Global, own: u32, next: u32, last: u32) {
     let Ok(mut ends) = P::make(rt, alloc, 2, 8) else {
         panic!(rt; "no memory");
     };
@@ -29,13 +30,13 @@ fn take_in_turn<P: Pool, R: Wait + Abort>(rt: &R, alloc: Global) {
     if put_three(rt, alloc, first).is_err() {
         panic!(rt; "no memory");
     }
-    holds(rt, "the oldest", first.take(rt) == Some(CellId(5)));
+    holds(rt, "by itself", first.take(rt) == Some(CellId(own)));
     holds(
         rt,
         "the next by the other",
-        second.take(rt) == Some(CellId(6)),
+        second.take(rt) == Some(CellId(next)),
     );
-    holds(rt, "and the last", second.take(rt) == Some(CellId(7)));
+    holds(rt, "and the last", second.take(rt) == Some(CellId(last)));
     holds(
         rt,
         "no more",
@@ -44,9 +45,10 @@ fn take_in_turn<P: Pool, R: Wait + Abort>(rt: &R, alloc: Global) {
 }
 
 #[test]
-fn the_oldest_first_whoever_takes(rt: HostRuntime) {
-    take_in_turn::<LockedPool, HostRuntime>(&rt, rt.alloc());
-    take_in_turn::<StealPool, HostRuntime>(&rt, rt.alloc());
+fn the_oldest_first_but_for_ones_own_newest(rt: HostRuntime) {
+    take_in_turn::<LockedPool, HostRuntime>(&rt, rt.alloc(), 5, 6, 7);
+    take_in_turn::<StealPool, HostRuntime>(&rt, rt.alloc(), 5, 6, 7);
+    take_in_turn::<NewestFirstPool, HostRuntime>(&rt, rt.alloc(), 7, 5, 6);
 }
 
 // So many numbers, each put so often by each end.
@@ -122,4 +124,5 @@ fn are_taken<P: Pool, R: Wait + Threads + Sync + Abort>(rt: &R, alloc: Global) {
 fn each_cell_is_taken_once_by_four_threads(rt: HostRuntime) {
     are_taken::<LockedPool, HostRuntime>(&rt, rt.alloc());
     are_taken::<StealPool, HostRuntime>(&rt, rt.alloc());
+    are_taken::<NewestFirstPool, HostRuntime>(&rt, rt.alloc());
 }

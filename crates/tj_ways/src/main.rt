@@ -1,15 +1,17 @@
-//! Ways to use the library, one in each file: a body of one's own, channels, rows and scripts.
+//! Ways to use the library, one in each file: tasks of one's own, a body, channels, rows and scripts.
 //! The program writes what each of them gives.
 #![tactic(auto)]
 
 mod bodies;
 mod channels;
+mod native;
 mod rows;
 mod scripts;
 mod told;
 
 use bodies::handed_over;
 use channels::two_receivers;
+use native::{fibonacci, in_a_knot, sum};
 use rows::handed_to_a_child;
 use scripts::{on_a_cycle, position_of_a_fault, which_owe};
 use std::io;
@@ -19,7 +21,7 @@ use std::thread::Threads;
 use tj_ports::{StdSink, put_all};
 
 /// What all of them give, where memory lasts.
-fn texts<R: Wait + Threads + Sync + AllocGlobal>(rt: &R) -> Option<[Vec<u8>; 6]> {
+fn texts<R: Wait + Threads + Sync + AllocGlobal>(rt: &R) -> Option<[Vec<u8>; 9]> {
     Some([
         which_owe(rt)?,
         on_a_cycle(rt)?,
@@ -27,6 +29,9 @@ fn texts<R: Wait + Threads + Sync + AllocGlobal>(rt: &R) -> Option<[Vec<u8>; 6]>
         handed_to_a_child(rt)?,
         handed_over(rt)?,
         two_receivers(rt)?,
+        in_a_knot(rt)?,
+        fibonacci(rt)?,
+        sum(rt)?,
     ])
 }
 

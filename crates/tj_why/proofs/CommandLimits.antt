@@ -1,8 +1,8 @@
 -- The limits that a command asks for are within the greatest.
-use Rattle.std.proofs.Common.{IfSome, List, [], ◌∷◌, None, Option, Some, arith, subst, sym, ℕ, String}
+use Rattle.std.proofs.Common.{IfSome, List, [], ◌∷◌, ◌≤◌, None, Option, Some, arith, subst, sym, ℕ, String}
 use Rattle.std.specs.Prelude.{unwrap_or}
 use Rattle.std.specs.declared.alloc.Global.{Global}
-use Rattle.tj_base.specs.declared.cell.TheConstants.{MAX_CELLS}
+use Rattle.tj_command.specs.declared.limits.TheConstants.{MAX_WORD_CELLS}
 use Rattle.tj_command.specs.Limits.{AreLimits}
 use Rattle.tj_command.specs.Numerals.{IsUpTo}
 use Rattle.tj_eval.specs.declared.body.TheConstants.{MAX_STEPS}
@@ -15,7 +15,7 @@ use Rattle.tj_why.specs.declared.line_word.OptionName.TheVariants.{Cells, Steps}
 
 -- the numbers that were said are within their limits
 record AreWithin (said : Said) : Type 0 where
-  cells : IfSome said.cells (IsUpTo MAX_CELLS)
+  cells : IfSome said.cells (IsUpTo MAX_WORD_CELLS)
   steps : IfSome said.steps (IsUpTo MAX_STEPS)
 
 within_with : (said : Said) (item : Item) → MayStand item said → AreWithin said → AreWithin (with_item item said)
@@ -38,11 +38,12 @@ or_default most other (Some n) within usual = within
 
 asked_within : (said : Said) → AreWithin said → AreLimits (asked said).limits
 asked_within said are =
-    let cells : IsUpTo MAX_CELLS (unwrap_or said.cells 4096) =
-    or_default MAX_CELLS 4096 said.cells are.cells (omega arith, omega arith) in
+    let cells : IsUpTo MAX_WORD_CELLS (unwrap_or said.cells 4096) =
+    or_default MAX_WORD_CELLS 4096 said.cells are.cells (omega arith, omega arith) in
     let steps : IsUpTo MAX_STEPS (unwrap_or said.steps 100000) =
     or_default MAX_STEPS 100000 said.steps are.steps (omega arith, omega arith) in
-    record { some_cells = cells.0; few_cells = cells.1; some_steps = steps.0; few_steps = steps.1 }
+    let few : unwrap_or said.cells 4096 ≤ 16384 = cells.1 in
+    record { some_cells = cells.0; few_cells = omega arith; some_steps = steps.0; few_steps = steps.1 }
 
 -- the limits of a command
 pub within_limits : (words : List (String Global)) (command : WhyCommand) → IsCommand words command

@@ -1,4 +1,3 @@
-pub mod Names
 pub mod Steps
 pub mod Readings
 pub mod CommandLimits
@@ -8,3 +7,13 @@ pub mod Owns
 pub mod SameWords
 pub mod FoundCommands
 pub mod Joined
+pub mod LineNumbers
+pub mod Jumps
+pub mod CyclesApart
+pub mod ToldParts
+pub mod ToldOnce
+pub mod NothingWrong
+pub mod Placed
+pub mod CycleOwners
+pub mod LedToCycles
+pub mod DebtsOnce

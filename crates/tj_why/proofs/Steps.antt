@@ -3,22 +3,13 @@ use Rattle.std.proofs.Common.{◌≡◌, ◌<◌, ◌-◌, ◌+◌, ◌∙◌, �
 use Rattle.std.proofs.Common.{length, take, get_or, ap, sym, arith}
 use Rattle.std.proofs.lemmas.List.{flat_map_more, take_more}
 use Rattle.std.specs.List.{flat_map}
-use Rattle.std.specs.Prelude.{Option}
 use Rattle.tj_why.specs.Carets.{behind_lines, next_line}
-use Rattle.tj_why.specs.Echoes.{back_at, back_from, back_on}
 
 -- one line more
 pub one_line : (n : ℕ) (text : List ℕ) → 0 < n → behind_lines n text ≡ behind_lines (n - 1) (next_line text)
 one_line zero text some = search (arith, some)
 one_line (suc n) text some = let same : suc n - 1 ≡ n = omega arith in
     ap (λ k. behind_lines k (next_line text)) (sym same)
-
--- one step back more
-pub one_back : (bs : List (Option ℕ)) (m n : ℕ) → 0 < m
-    → back_from bs m n ≡ back_on (back_at bs n) n (back_from bs (m - 1))
-one_back bs zero n some = search (arith, some)
-one_back bs (suc m) n some = let same : suc m - 1 ≡ m = omega arith in
-    ap (λ k. back_on (back_at bs n) n (back_from bs k)) (sym same)
 
 -- the text of one element more
 pub text_more : {A : Type 0} (f : A → List ℕ) (xs : List A) (n : ℕ) (x : A) (old new part added : List ℕ)

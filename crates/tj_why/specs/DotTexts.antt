@@ -9,21 +9,23 @@ use Rattle.tj_mean.specs.declared.outcome.Ending.{Ending}
 use Rattle.tj_mean.specs.declared.outcome.Ending.TheVariants as ending
 use Rattle.tj_mean.specs.declared.outcome.Link.{Link}
 use Rattle.tj_trace.specs.declared.line.TraceLine.{TraceLine}
-use Rattle.tj_why.specs.Scenes.{Told, line_of, maker_name, name_of, stop_text}
-use Rattle.tj_why.specs.WhyTexts.{by_ending, is_member}
+use Rattle.tj_why.specs.Findings.{is_member}
+use Rattle.tj_why.specs.Scenes.{Told, name_of, spot_text}
+use Rattle.tj_why.specs.Searches.{line_of, maker_name}
 
 -- the most tasks of which each is in the picture
 abbrev pub most_drawn : ℕ
 most_drawn = 200
 
--- the task is in the picture: each is where there are few, and else those that failed, owe or wait
-abbrev pub is_drawn : Told → TraceLine → Bool
-is_drawn s l = nat_le (length s.lines) most_drawn || is_troubled l.line
+-- the task is in the picture, with the others of these lines: each is where there are few, and else those that failed,
+-- owe or wait
+abbrev pub is_drawn : List TraceLine → TraceLine → Bool
+is_drawn lines l = nat_le (length lines) most_drawn || is_troubled l.line
 
 -- the line, if its task is in the picture
-abbrev pub drawn_only : Told → Option TraceLine → Option TraceLine
-drawn_only s None = None
-drawn_only s (Some l) = cond (is_drawn s l) (Some l) None
+abbrev pub drawn_only : List TraceLine → Option TraceLine → Option TraceLine
+drawn_only lines None = None
+drawn_only lines (Some l) = cond (is_drawn lines l) (Some l) None
 
 -- the node of a cell
 abbrev pub node : Name → List ℕ
@@ -35,16 +37,18 @@ edge x y style = codes "  " ++ node x ++ codes " -> " ++ node y ++ style
 
 -- how the node of a task is drawn that stopped so: one that failed is filled
 abbrev pub fill : Ending → List ℕ
-fill e = by_ending e (codes "\"];\n") (codes "\", style=filled, fillcolor=salmon];\n") (codes "\"];\n")
+fill (ending.Done v) = codes "\"];\n"
+fill (ending.Failed c) = codes "\", style=filled, fillcolor=salmon];\n"
+fill (ending.Waits q) = codes "\"];\n"
 
 -- the node of a task: its name, its declaration, and where it stopped
 abbrev pub task_node : Told → TraceLine → List ℕ
 task_node s l = codes "  " ++ node l.line.name ++ codes " [label=\"" ++ name_text l.line.name ++ codes "\\n"
-    ++ name_of (slice_get s.script l.decl) ++ codes "\\n" ++ stop_text s l ++ fill l.line.ending
+    ++ name_of (slice_get s.script l.decl) ++ codes "\\n" ++ spot_text s l.decl l.at ++ fill l.line.ending
 
 -- the line of the task that forked the one with this name, if it is in the picture
-abbrev pub forker : Told → Name → Option TraceLine
-forker s x = cond (is_nil x) None (drawn_only s (line_of s.lines (maker_name x)))
+abbrev pub forker : List TraceLine → Name → Option TraceLine
+forker lines x = cond (is_nil x) None (drawn_only lines (line_of lines (maker_name x)))
 
 -- the edge from the task that forked another
 abbrev pub fork_edge : Name → Option TraceLine → List ℕ
@@ -73,17 +77,17 @@ promises_with (ending.Failed c) l = l.line.owes
 promises_with (ending.Waits q) l = l.holds
 
 -- what is drawn of a task: its node, the fork that made it, its wait, and the promises that it owned
-abbrev pub drawn : Told → List (List Link) → TraceLine → List ℕ
-drawn s cycles l = task_node s l ++ fork_edge l.line.name (forker s l.line.name)
+abbrev pub drawn : Told → List TraceLine → List (List Link) → TraceLine → List ℕ
+drawn s lines cycles l = task_node s l ++ fork_edge l.line.name (forker lines l.line.name)
     ++ wait_edge cycles l.line.name l.line.ending ++ flat_map (promise_node l.line.name) (promises_with l.line.ending l)
 
 -- the same where the task is in the picture
-abbrev pub drawing : Told → List (List Link) → TraceLine → List ℕ
-drawing s cycles l = cond (is_drawn s l) (drawn s cycles l) []
+abbrev pub drawing : Told → List TraceLine → List (List Link) → TraceLine → List ℕ
+drawing s lines cycles l = cond (is_drawn lines l) (drawn s lines cycles l) []
 
 -- how many tasks are left out
-abbrev pub undrawn : Told → ℕ
-undrawn s = count_by (λ l. not (is_drawn s l)) s.lines
+abbrev pub undrawn : List TraceLine → ℕ
+undrawn lines = count_by (λ l. not (is_drawn lines l)) lines
 
 -- a node that tells how many, where some are
 abbrev pub undrawn_node : ℕ → List ℕ
@@ -91,6 +95,6 @@ undrawn_node n = cond (nat_eq n 0) []
     (codes "  more [shape=note, label=\"" ++ decimal n ++ codes " more ended and owe nothing\"];\n")
 
 -- the picture
-abbrev pub dot_text : Told → List (List Link) → List ℕ
-dot_text s cycles = codes "digraph tasks {\n  node [shape=box];\n" ++ flat_map (drawing s cycles) s.lines
-    ++ undrawn_node (undrawn s) ++ codes "}\n"
+abbrev pub dot_text : Told → List TraceLine → List (List Link) → List ℕ
+dot_text s lines cycles = codes "digraph tasks {\n  node [shape=box];\n" ++ flat_map (drawing s lines cycles) lines
+    ++ undrawn_node (undrawn lines) ++ codes "}\n"

@@ -1,14 +1,13 @@
 -- Failures that only echo another: from which task's end they came.
-use Rattle.std.specs.Prelude.{ℕ, zero, suc, Bool, ◌||◌, List, map, length, get_or, slice_get}
-use Rattle.std.specs.Prelude.{Option, Some, None, option_and_then}
-use Rattle.std.specs.List.{position}
+use Rattle.std.specs.Prelude.{ℕ, zero, suc, List, Option, Some, None, option_and_then, unwrap_or}
+use Rattle.std.specs.Option.{option_map, option_or}
 use Rattle.tj_base.specs.ForkOrder.{Name}
 use Rattle.tj_base.specs.declared.cause.Cause.{Cause}
 use Rattle.tj_base.specs.declared.cause.Cause.TheVariants as cause
-use Rattle.tj_body.specs.Names.{has, same}
 use Rattle.tj_mean.specs.declared.outcome.Ending.{Ending}
 use Rattle.tj_mean.specs.declared.outcome.Ending.TheVariants as ending
 use Rattle.tj_trace.specs.declared.line.TraceLine.{TraceLine}
+use Rattle.tj_why.specs.Searches.{line_of, owner_of}
 
 -- the cell whose being broken is the cause
 abbrev pub echoed : Cause → Option Name
@@ -25,41 +24,24 @@ echoed_by (ending.Done v) = None
 echoed_by (ending.Failed c) = echoed c
 echoed_by (ending.Waits q) = None
 
--- the end of the task broke the cell: it is its result, or a promise that it owed
-abbrev pub breaks : Name → TraceLine → Bool
-breaks q l = same l.line.name q || has q l.line.owes
+-- each of 2 ^ 20 cells can be a task: so often are the steps back doubled
+unfoldable pub most_doublings : ℕ
+most_doublings = 20
 
--- the number of the line of the task whose end broke the cell
-abbrev pub breaker : List TraceLine → Name → Option ℕ
-breaker lines q = position (breaks q) lines
+module _ (lines : List TraceLine) where
+  -- the line of the task whose end broke the cell: it is its result, or a promise that it owed
+  abbrev pub breaker : Name → Option TraceLine
+  breaker q = option_or (line_of lines q) (owner_of lines q)
 
--- the number of the line of the task from whose end the failure of this one came, where it is an echo
-abbrev pub back : List TraceLine → TraceLine → Option ℕ
-back lines l = option_and_then (breaker lines) (echoed_by l.line.ending)
+  -- the line of the task from whose end the failure of this one came, where it is an echo
+  abbrev pub back : TraceLine → Option TraceLine
+  back l = option_and_then breaker (echoed_by l.line.ending)
 
--- the same for each line
-abbrev pub backs : List TraceLine → List (Option ℕ)
-backs lines = map (back lines) lines
+  -- back from a line in 2 ^ k steps, or as far as the steps lead
+  abbrev pub back_by : ℕ → TraceLine → TraceLine
+  back_by zero l = unwrap_or (back l) l
+  back_by (suc k) l = back_by k (back_by k l)
 
--- one step back from a line
-abbrev pub back_at : List (Option ℕ) → ℕ → Option ℕ
-back_at bs n = get_or bs n None
-
--- a line, or where one step back from it leads, if it does, what is behind that
-abbrev pub back_on : Option ℕ → ℕ → (ℕ → ℕ) → ℕ
-back_on None n go = n
-back_on (Some m) n go = go m
-
--- back from line n in so many steps at most
-abbrev pub back_from : List (Option ℕ) → ℕ → ℕ → ℕ
-back_from bs zero n = n
-back_from bs (suc more) n = back_on (back_at bs n) n (back_from bs more)
-
--- the line from which the breaking of a cell came at first, by the line of the task whose end broke it
-abbrev pub origin_by : List TraceLine → List (Option ℕ) → Option ℕ → Option TraceLine
-origin_by lines bs None = None
-origin_by lines bs (Some n) = slice_get lines (back_from bs (length lines) n)
-
--- the line of the task from whose end the cell's being broken came at first
-abbrev pub origin : List TraceLine → List (Option ℕ) → Name → Option TraceLine
-origin lines bs q = origin_by lines bs (breaker lines q)
+  -- the line of the task from whose end the cell's being broken came at first
+  abbrev pub origin : Name → Option TraceLine
+  origin q = option_map (back_by most_doublings) (breaker q)

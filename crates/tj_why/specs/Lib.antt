@@ -8,3 +8,7 @@ pub mod WhyLine
 pub mod WhyOutput
 pub mod WhyAnswers
 pub mod Inner
+pub mod Searches
+pub mod Findings
+pub mod Explanations
+pub mod Positions

@@ -4,7 +4,7 @@ use Rattle.std.specs.Prelude.{map, unwrap_or}
 use Rattle.std.specs.List.{flat_map}
 use Rattle.std.specs.Str.Parse.{digits_value}
 use Rattle.std.specs.declared.alloc.Global.{Global}
-use Rattle.tj_base.specs.declared.cell.TheConstants.{MAX_CELLS}
+use Rattle.tj_command.specs.declared.limits.TheConstants.{MAX_WORD_CELLS}
 use Rattle.tj_command.specs.Numerals.{IsShortNumeral, IsUpTo}
 use Rattle.tj_eval.specs.declared.body.TheConstants.{MAX_STEPS}
 use Rattle.tj_why.specs.declared.line.Said.{Said}
@@ -37,7 +37,7 @@ words_of (alone flag) = word_text (Alone flag) ∷ []
 
 -- the greatest number that an option may have
 abbrev pub greatest_of : OptionName → ℕ
-greatest_of Cells = MAX_CELLS
+greatest_of Cells = MAX_WORD_CELLS
 greatest_of Steps = MAX_STEPS
 
 -- what was said of an option, if it was named

@@ -1,29 +1,32 @@
 //! A picture of a run in the language of Graphviz.
-ghost use Rattle.std.specs.Prelude.{◌≡◌, ◌≤◌, IfOk, length, not, take};
-ghost use Rattle.std.specs.List.{count_by, flat_map};
+ghost use Rattle.std.specs.Prelude.{◌≡◌, IfOk};
+ghost use Rattle.std.specs.List.{flat_map};
 ghost use Rattle.std.specs.Option.{option_map};
 ghost use Rattle.tj_mean.specs.Outcomes as outcomes;
 ghost use Rattle.tj_why.specs.DotTexts as spec;
 ghost use Rattle.tj_why.specs.Scenes.{view};
+ghost use Rattle.tj_why.specs.Inner.Numbers.{IsSearchable, HasMembers};
 
-use crate::labels::{line_named, name_of, stop_text};
+use crate::labels::{name_of, spot_text};
+use crate::lookups::{Lookups, Members};
+use crate::members::is_member;
 use crate::scene::Scene;
-use crate::texts::{by_ending, joined, named};
-use crate::why_lines::is_member;
+use crate::searches::line_named;
+use crate::texts::{joined, named};
 use std::alloc::Global;
 use tj_base::{Name, Oom};
 use tj_command::count_text;
-use tj_mean::{Ending, LinkList, TaskLine};
+use tj_mean::{Ending, TaskLine};
 use tj_trace::TraceLine;
 
 /// The most tasks of which each is in the picture.
 const MOST_DRAWN: usize = 200;
 
 /// Whether the task is in the picture.
-fn is_drawn(scene: &Scene, line: &TraceLine) -> bool
-    ensures { result ≡ spec.is_drawn (view scene.now) line.now }
+fn is_drawn(lines: &[TraceLine], line: &TraceLine) -> bool
+    ensures { result ≡ spec.is_drawn lines.now line.now }
 {
-    scene.lines.len() <= MOST_DRAWN || is_troubled(&line.line)
+    lines.len() <= MOST_DRAWN || is_troubled(&line.line)
 }
 
 /// Whether the task failed, owes or waits.
@@ -61,13 +64,10 @@ fn edge(alloc: Global, from: &Name, to: &Name, style: &[u8]) -> Result<Vec<u8>, 
 fn fill(ending: &Ending) -> &'static [u8]
     ensures { result.now ≡ spec.fill ending.now }
 {
-    let plain: &'static [u8] = b"\"];\n";
-    by_ending(
-        ending,
-        plain,
-        b"\", style=filled, fillcolor=salmon];\n",
-        plain,
-    )
+    match ending {
+        Ending::Failed(_) => b"\", style=filled, fillcolor=salmon];\n",
+        Ending::Done(_) | Ending::Waits(_) => b"\"];\n",
+    }
 }
 
 /// The node of a task.
@@ -75,7 +75,7 @@ fn task_node(scene: &Scene, line: &TraceLine) -> Result<Vec<u8>, Oom>
     ensures { IfOk result (λ text. text.items ≡ spec.task_node (view scene.now) line.now) }
 {
     let node = node(scene.alloc, &line.line.name)?;
-    let stop = stop_text(scene, line)?;
+    let stop = spot_text(scene, line.decl, line.at)?;
     let label = named(scene.alloc, b" [label=\"", &line.line.name)?;
     let decl = name_of(scene.script, line.decl);
     let spot = joined(scene.alloc, &[b"\\n", decl, b"\\n", stop.as_slice()])?;
@@ -92,12 +92,12 @@ fn task_node(scene: &Scene, line: &TraceLine) -> Result<Vec<u8>, Oom>
 }
 
 /// The line, if its task is in the picture.
-fn drawn_only<'t>(scene: &Scene<'t>, line: Option<&'t TraceLine>) -> Option<&'t TraceLine>
+fn drawn_only<'t>(lines: &[TraceLine], line: Option<&'t TraceLine>) -> Option<&'t TraceLine>
     ensures { option_map (λ line. line.now) result
-        ≡ spec.drawn_only (view scene.now) (option_map (λ line. line.now) line.entry) }
+        ≡ spec.drawn_only lines.now (option_map (λ line. line.now) line.entry) }
 {
     let line = line?;
-    if is_drawn(scene, line) {
+    if is_drawn(lines, line) {
         Some(line)
     } else {
         None
@@ -105,15 +105,17 @@ fn drawn_only<'t>(scene: &Scene<'t>, line: Option<&'t TraceLine>) -> Option<&'t 
 }
 
 /// The line of the task that forked the one with this name, if it is in the picture.
-fn forker<'t>(scene: &Scene<'t>, name: &Name) -> Option<&'t TraceLine>
-    ensures { option_map (λ line. line.now) result ≡ spec.forker (view scene.now) name.now }
+fn forker<'t>(lookups: &Lookups<'t>, name: &Name) -> Option<&'t TraceLine>
+    requires lookups { IsSearchable lookups.now }
+    ensures { option_map (λ line. line.now) result
+        ≡ spec.forker lookups.now.lines.now name.now }
 {
     let parts = name.parts();
     if parts.is_empty() {
         return None;
     }
     let (maker, _) = parts.split_at(parts.len() - 1);
-    drawn_only(scene, line_named(scene.lines, maker))
+    drawn_only(lookups.lines, line_named(lookups, maker))
 }
 
 /// The edge from the task that forked another.
@@ -139,17 +141,13 @@ fn wait_style(in_cycle: bool) -> &'static [u8]
 }
 
 /// The edge of a task's wait, where it waits.
-fn wait_edge(
-    alloc: Global,
-    cycles: &[LinkList],
-    name: &Name,
-    ending: &Ending,
-) -> Result<Vec<u8>, Oom>
-    ensures { IfOk result (λ text. text.items
-        ≡ spec.wait_edge cycles.now name.now ending.now) }
+fn wait_edge(alloc: Global, members: &Members, name: &Name, ending: &Ending) -> Result<Vec<u8>, Oom>
+    requires members { HasMembers members.now }
+    ensures { IfOk result (λ text.
+        text.items ≡ spec.wait_edge members.now.cycles.now name.now ending.now) }
 {
     match ending {
-        Ending::Waits(cell) => edge(alloc, name, cell, wait_style(is_member(cycles, name))),
+        Ending::Waits(cell) => edge(alloc, name, cell, wait_style(is_member(members, name))),
         Ending::Done(_) | Ending::Failed(_) => Ok(Vec::new(alloc)),
     }
 }
@@ -194,13 +192,21 @@ fn promise_nodes(alloc: Global, owner: &Name, names: &[Name]) -> Result<Vec<u8>,
 }
 
 /// What is drawn of a task.
-fn drawn(scene: &Scene, cycles: &[LinkList], line: &TraceLine) -> Result<Vec<u8>, Oom>
-    ensures { IfOk result (λ text. text.items
-        ≡ spec.drawn (view scene.now) cycles.now line.now) }
+fn drawn(
+    scene: &Scene,
+    lookups: &Lookups,
+    members: &Members,
+    line: &TraceLine,
+) -> Result<Vec<u8>, Oom>
+    requires lookups { IsSearchable lookups.now }
+    requires members { HasMembers members.now }
+    ensures { IfOk result (λ text.
+        text.items ≡ spec.drawn (view scene.now) lookups.now.lines.now members.now.cycles.now
+        line.now) }
 {
     let name = &line.line.name;
-    let fork = fork_edge(scene.alloc, name, forker(scene, name))?;
-    let wait = wait_edge(scene.alloc, cycles, name, &line.line.ending)?;
+    let fork = fork_edge(scene.alloc, name, forker(lookups, name))?;
+    let wait = wait_edge(scene.alloc, members, name, &line.line.ending)?;
     let promises = promise_nodes(scene.alloc, name, promises(line))?;
     let node = task_node(scene, line)?;
     joined(
@@ -215,37 +221,48 @@ fn drawn(scene: &Scene, cycles: &[LinkList], line: &TraceLine) -> Result<Vec<u8>
 }
 
 /// The same where the task is in the picture.
-fn drawing(scene: &Scene, cycles: &[LinkList], line: &TraceLine) -> Result<Vec<u8>, Oom>
-    ensures { IfOk result (λ text. text.items
-        ≡ spec.drawing (view scene.now) cycles.now line.now) }
+fn drawing(
+    scene: &Scene,
+    lookups: &Lookups,
+    members: &Members,
+    line: &TraceLine,
+) -> Result<Vec<u8>, Oom>
+    requires lookups { IsSearchable lookups.now }
+    requires members { HasMembers members.now }
+    ensures { IfOk result (λ text.
+        text.items ≡ spec.drawing (view scene.now) lookups.now.lines.now members.now.cycles.now
+        line.now) }
 {
-    if is_drawn(scene, line) {
-        drawn(scene, cycles, line)
+    if is_drawn(lookups.lines, line) {
+        drawn(scene, lookups, members, line)
     } else {
         Ok(Vec::new(scene.alloc))
     }
 }
 
 /// What is drawn of each task.
-fn drawings(scene: &Scene, cycles: &[LinkList]) -> Result<Vec<u8>, Oom>
-    ensures { IfOk result (λ text. text.items
-        ≡ flat_map (spec.drawing (view scene.now) cycles.now) (view scene.now).lines) }
+fn drawings(scene: &Scene, lookups: &Lookups, members: &Members) -> Result<Vec<u8>, Oom>
+    requires lookups { IsSearchable lookups.now }
+    requires members { HasMembers members.now }
+    ensures { IfOk result (λ text.
+        text.items ≡ flat_map (spec.drawing (view scene.now) lookups.now.lines.now
+        members.now.cycles.now) lookups.now.lines.now) }
 {
     let mut text = Vec::new(scene.alloc);
-    for line in scene.lines {
-        let added = drawing(scene, cycles, line)?;
+    for line in lookups.lines {
+        let added = drawing(scene, lookups, members, line)?;
         text.extend_from_slice(added.as_slice())?;
     }
     Ok(text)
 }
 
 /// How many tasks are left out.
-fn undrawn(scene: &Scene) -> usize
-    ensures { result ≡ spec.undrawn (view scene.now) }
+fn undrawn(lines: &[TraceLine]) -> usize
+    ensures { result ≡ spec.undrawn lines.now }
 {
     let mut count = 0;
-    for line in scene.lines {
-        if !is_drawn(scene, line) {
+    for line in lines {
+        if !is_drawn(lines, line) {
             count += 1;
         }
     }
@@ -267,12 +284,16 @@ fn undrawn_node(alloc: Global, count: usize) -> Result<Vec<u8>, Oom>
     )
 }
 
-/// The picture.
-pub fn dot_text(scene: &Scene, cycles: &[LinkList]) -> Result<Vec<u8>, Oom>
-    ensures { IfOk result (λ text. text.items ≡ spec.dot_text (view scene.now) cycles.now) }
+/// The picture, where these are the members of the cycles.
+pub fn dot_text(scene: &Scene, lookups: &Lookups, members: &Members) -> Result<Vec<u8>, Oom>
+    requires lookups { IsSearchable lookups.now }
+    requires members { HasMembers members.now }
+    ensures { IfOk result (λ text.
+        text.items ≡ spec.dot_text (view scene.now) lookups.now.lines.now
+        members.now.cycles.now) }
 {
-    let tasks = drawings(scene, cycles)?;
-    let more = undrawn_node(scene.alloc, undrawn(scene))?;
+    let tasks = drawings(scene, lookups, members)?;
+    let more = undrawn_node(scene.alloc, undrawn(lookups.lines))?;
     let head = b"digraph tasks {\n  node [shape=box];\n";
     joined(
         scene.alloc,

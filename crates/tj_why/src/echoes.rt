@@ -1,16 +1,23 @@
-//! Failures that only echo another: from which task's end they came.
-ghost use Rattle.std.specs.Prelude.{◌≡◌, IfOk, slice_get};
+//! Failures that only echo another: from which task's end they came. The steps back are taken by the
+//! numbers of lines, and each time that they are doubled a jump leads twice as far.
+ghost use Rattle.std.specs.Prelude.{◌≡◌, IfOk, map, option_and_then, slice_get};
 ghost use Rattle.std.specs.Option.{option_map};
-ghost use Rattle.tj_body.specs.Names.{has};
 ghost use Rattle.tj_why.specs.Echoes as spec;
+ghost use Rattle.tj_why.specs.Inner.Jumps.{AreJumps, jump};
+ghost use Rattle.tj_why.specs.Inner.Numbers.{IsNumberOf, IsSearchable};
 
+use crate::lookups::Lookups;
+use crate::searches::breaker;
 use std::alloc::Global;
 use tj_base::{Cause, Name, Oom};
 use tj_mean::Ending;
 use tj_trace::TraceLine;
 
+/// How often the steps are doubled: each of 2 ^ 20 cells can be a task.
+const MOST_DOUBLINGS: usize = 20;
+
 /// The cell whose being broken is the cause of a failure.
-pub fn echoed(cause: &Cause) -> Option<&Name>
+fn echoed(cause: &Cause) -> Option<&Name>
     ensures { option_map (λ name. name.now) result ≡ spec.echoed cause.now }
 {
     match cause {
@@ -20,7 +27,7 @@ pub fn echoed(cause: &Cause) -> Option<&Name>
 }
 
 /// The same of what became of a task.
-fn echoed_by(ending: &Ending) -> Option<&Name>
+pub fn echoed_by(ending: &Ending) -> Option<&Name>
     ensures { option_map (λ name. name.now) result ≡ spec.echoed_by ending.now }
 {
     match ending {
@@ -29,82 +36,82 @@ fn echoed_by(ending: &Ending) -> Option<&Name>
     }
 }
 
-/// Whether the name is one of these.
-fn is_among(name: &Name, names: &[Name]) -> bool
-    ensures { result ≡ has name.now names.now }
-{
-    names.iter().any(|other| *name == *other)
-}
-
-/// Whether the end of the task broke the cell.
-fn breaks(name: &Name, line: &TraceLine) -> bool
-    ensures { result ≡ spec.breaks name.now line.now }
-{
-    line.line.name == *name || is_among(name, line.line.owes.items())
-}
-
-/// The number of the line of the task whose end broke the cell.
-fn breaker(lines: &[TraceLine], name: &Name) -> Option<usize>
-    ensures { result ≡ spec.breaker lines.now name.now }
-{
-    lines.iter().position(|line| breaks(name, line))
-}
-
 /// The number of the line of the task from whose end the failure of this one came.
-fn back(lines: &[TraceLine], line: &TraceLine) -> Option<usize>
-    ensures { result ≡ spec.back lines.now line.now }
+fn back(lookups: &Lookups, line: &TraceLine) -> Option<usize>
+    requires lookups { IsSearchable lookups.now }
+    ensures { IsNumberOf lookups.now.lines.now result
+        (spec.back lookups.now.lines.now line.now) }
 {
-    let name = echoed_by(&line.line.ending)?;
-    breaker(lines, name)
+    breaker(lookups, echoed_by(&line.line.ending)?)
 }
 
-/// For each line the number of that of the task from whose end its failure came.
-pub fn backs(alloc: Global, lines: &[TraceLine]) -> Result<Vec<Option<usize>>, Oom>
-    ensures { IfOk result (λ found. found.items ≡ spec.backs lines.now) }
+/// Where a jump from this number leads.
+fn jump(jumps: &[usize], from: usize) -> usize
+    ensures { result ≡ jump jumps.now from }
 {
-    let mut found = Vec::new(alloc);
-    for line in lines {
-        found.push(back(lines, line))?;
-    }
-    Ok(found)
-}
-
-/// One step back from a line.
-fn back_at(backs: &[Option<usize>], at: usize) -> Option<usize>
-    ensures { result ≡ spec.back_at backs.now at }
-{
-    match backs.get(at) {
-        Some(before) => *before,
-        None => None,
+    match jumps.get(from) {
+        Some(to) => *to,
+        None => from,
     }
 }
 
-/// From a line back to that of the task from whose end its failure came at first, in so many steps
-/// at most.
-#[tactic(auto, using(crate::proofs::Steps::one_back))]
-fn back_from(backs: &[Option<usize>], most: usize, from: usize) -> usize
-    ensures { result ≡ spec.back_from backs.now most from }
+/// The jumps of one step.
+fn single_steps(alloc: Global, lookups: &Lookups) -> Result<Vec<usize>, Oom>
+    requires lookups { IsSearchable lookups.now }
+    ensures { IfOk result (λ jumps. AreJumps lookups.now.lines.now 0 jumps.items) }
 {
-    let mut at = from;
-    let mut left = most;
+    let mut jumps = Vec::new(alloc);
+    for (number, line) in lookups.lines.iter().enumerate() {
+        jumps.push(back(lookups, line).unwrap_or(number))?;
+    }
+    Ok(jumps)
+}
+
+/// Jumps that lead as far as two of these.
+fn doubled(alloc: Global, jumps: &[usize]) -> Result<Vec<usize>, Oom>
+    ensures { IfOk result (λ more. more.items ≡ map (jump jumps.now) jumps.now) }
+{
+    let mut more = Vec::new(alloc);
+    for to in jumps {
+        more.push(jump(jumps, *to))?;
+    }
+    Ok(more)
+}
+
+/// The jumps of as many steps as there can be tasks.
+pub fn jumps_of(alloc: Global, lookups: &Lookups) -> Result<Vec<usize>, Oom>
+    requires lookups { IsSearchable lookups.now }
+    ensures { IfOk result (λ jumps.
+        AreJumps lookups.now.lines.now spec.most_doublings jumps.items) }
+{
+    let mut jumps = single_steps(alloc, lookups)?;
+    let mut left = MOST_DOUBLINGS;
     while left > 0 {
-        let Some(before) = back_at(backs, at) else {
-            return at;
-        };
-        at = before;
+        jumps = doubled(alloc, jumps.as_slice())?;
         left -= 1;
     }
-    at
+    Ok(jumps)
 }
 
-/// The task from whose end the cell's being broken came at first.
-pub fn origin<'t>(
+/// The line where a jump from this number leads.
+fn line_from<'t>(
     lines: &'t [TraceLine],
-    backs: &[Option<usize>],
-    name: &Name,
+    jumps: &[usize],
+    number: Option<usize>,
 ) -> Option<&'t TraceLine>
-    ensures { option_map (λ line. line.now) result ≡ spec.origin lines.now backs.now name.now }
+    ensures { option_map (λ line. line.now) result
+        ≡ option_and_then (λ n. slice_get lines.now (jump jumps.now n)) number }
 {
-    let broken_by = breaker(lines, name)?;
-    lines.get(back_from(backs, lines.len(), broken_by))
+    lines.get(jump(jumps, number?))
+}
+
+/// The line of the task from whose end the cell's being broken came at first.
+#[tactic(auto, using(crate::proofs::Jumps::origin_is))]
+pub fn origin<'t>(lookups: &Lookups<'t>, jumps: &[usize], cell: &Name) -> Option<&'t TraceLine>
+    requires lookups { IsSearchable lookups.now }
+    requires jumps { AreJumps lookups.now.lines.now spec.most_doublings jumps.now }
+    ensures { option_map (λ line. line.now) result
+        ≡ spec.origin lookups.now.lines.now cell.now }
+{
+    line_from(lookups.lines, jumps, breaker(lookups, cell))
 }

@@ -1,16 +1,16 @@
 //! How a text names a task and a position.
 ghost use Rattle.std.specs.Prelude.{◌≡◌, IfOk, slice_get};
-ghost use Rattle.std.specs.Option.{option_map};
 ghost use Rattle.tj_syntax.specs.View as trees;
 ghost use Rattle.tj_why.specs.Scenes as spec;
 
+use crate::finding::ToldTask;
 use crate::scene::Scene;
 use crate::texts::{joined, named};
 use std::alloc::Global;
-use tj_base::{Name, Oom, add_count, add_number};
+use tj_base::{Oom, add_count, add_number};
 use tj_lex::Place;
 use tj_syntax::Script;
-use tj_trace::{Maker, TraceLine, ask_spot, spot};
+use tj_trace::{Maker, ask_spot, spot};
 
 /// A position.
 pub fn place_text(alloc: Global, place: Place) -> Result<Vec<u8>, Oom>
@@ -50,27 +50,6 @@ pub fn name_of(script: &Script, decl: usize) -> &[u8]
     }
 }
 
-/// The line of the task with this name.
-pub fn line_of<'t>(lines: &'t [TraceLine], name: &Name) -> Option<&'t TraceLine>
-    ensures { option_map (λ line. line.now) result ≡ spec.line_of lines.now name.now }
-{
-    tj_trace::line_of(lines, name)
-}
-
-/// The line of the task with a name of these numbers.
-pub fn line_named<'t>(lines: &'t [TraceLine], name: &[u32]) -> Option<&'t TraceLine>
-    ensures { option_map (λ line. line.now) result ≡ spec.line_of lines.now name.now }
-{
-    lines.iter().find(|line| line.line.name.parts() == name)
-}
-
-/// The statement that made the cell with this name.
-pub fn maker_of(lines: &[TraceLine], name: &Name) -> Option<Maker>
-    ensures { result ≡ spec.maker_of lines.now name.now }
-{
-    tj_trace::maker_of(lines, name)
-}
-
 /// Where a task was forked.
 fn forked_text(scene: &Scene, maker: Option<Maker>) -> Result<Vec<u8>, Oom>
     ensures { IfOk result (λ text. text.items ≡ spec.forked_text (spec.view scene.now) maker) }
@@ -83,17 +62,17 @@ fn forked_text(scene: &Scene, maker: Option<Maker>) -> Result<Vec<u8>, Oom>
 }
 
 /// A task with its declaration and the fork that made it.
-pub fn label(scene: &Scene, line: &TraceLine) -> Result<Vec<u8>, Oom>
-    ensures { IfOk result (λ text. text.items ≡ spec.label (spec.view scene.now) line.now) }
+pub fn label(scene: &Scene, task: &ToldTask) -> Result<Vec<u8>, Oom>
+    ensures { IfOk result (λ text. text.items ≡ spec.label (spec.view scene.now) task.now) }
 {
-    let forked = forked_text(scene, maker_of(scene.lines, &line.line.name))?;
-    let name = named(scene.alloc, b"", &line.line.name)?;
+    let forked = forked_text(scene, task.fork)?;
+    let name = named(scene.alloc, b"", &task.name)?;
     joined(
         scene.alloc,
         &[
             name.as_slice(),
             b" (task ",
-            name_of(scene.script, line.decl),
+            name_of(scene.script, task.decl),
             forked.as_slice(),
             b")",
         ],
@@ -101,18 +80,18 @@ pub fn label(scene: &Scene, line: &TraceLine) -> Result<Vec<u8>, Oom>
 }
 
 /// Where a task stopped.
-pub fn stop_text(scene: &Scene, line: &TraceLine) -> Result<Vec<u8>, Oom>
-    ensures { IfOk result (λ text. text.items ≡ spec.stop_text (spec.view scene.now) line.now) }
+pub fn stop_text(scene: &Scene, task: &ToldTask) -> Result<Vec<u8>, Oom>
+    ensures { IfOk result (λ text. text.items ≡ spec.stop_text (spec.view scene.now) task.now) }
 {
-    spot_text(scene, line.decl, line.at)
+    spot_text(scene, task.decl, task.at)
 }
 
 /// A task, what it did, and where it stopped.
-pub fn task_at(scene: &Scene, line: &TraceLine, did: &[u8]) -> Result<Vec<u8>, Oom>
+pub fn task_at(scene: &Scene, task: &ToldTask, did: &[u8]) -> Result<Vec<u8>, Oom>
     ensures { IfOk result (λ text.
-        text.items ≡ spec.task_at (spec.view scene.now) line.now did.now) }
+        text.items ≡ spec.task_at (spec.view scene.now) task.now did.now) }
 {
-    let task = label(scene, line)?;
-    let stop = stop_text(scene, line)?;
-    joined(scene.alloc, &[task.as_slice(), did, stop.as_slice()])
+    let label = label(scene, task)?;
+    let stop = stop_text(scene, task)?;
+    joined(scene.alloc, &[label.as_slice(), did, stop.as_slice()])
 }

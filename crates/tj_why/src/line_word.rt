@@ -3,7 +3,7 @@ ghost use Rattle.std.specs.Prelude.{◌≡◌, ◌≢◌, MatchOption};
 ghost use Rattle.tj_why.specs.WhyLine.{greatest_of, word_text};
 ghost use Rattle.tj_why.specs.declared.line_word.LineWord.{LineWord};
 
-use tj_base::MAX_CELLS;
+use tj_command::MAX_WORD_CELLS;
 use tj_eval::MAX_STEPS;
 
 /// An option that takes a number.
@@ -51,7 +51,7 @@ impl OptionName {
         ensures { result ≡ greatest_of self }
     {
         match self {
-            OptionName::Cells => MAX_CELLS,
+            OptionName::Cells => MAX_WORD_CELLS,
             OptionName::Steps => MAX_STEPS,
         }
     }

@@ -4,9 +4,9 @@ ghost use Rattle.tj_base.specs.Texts.{name_text};
 ghost use Rattle.tj_why.specs.Inner.Joined as spec;
 ghost use Rattle.tj_why.specs.WhyTexts as why_texts;
 
+use crate::finding::Stop;
 use std::alloc::Global;
 use tj_base::{Name, Oom};
-use tj_mean::Ending;
 
 /// These texts, one behind the other.
 pub fn joined(alloc: Global, parts: &[&[u8]]) -> Result<Vec<u8>, Oom>
@@ -29,17 +29,17 @@ pub fn named(alloc: Global, before: &[u8], name: &Name) -> Result<Vec<u8>, Oom>
 }
 
 /// Of these three texts the one for how a task stopped: it ended, failed, or waits.
-pub fn by_ending(
-    ending: &Ending,
-    done: &'static [u8],
+pub fn by_stop(
+    stop: Stop,
+    ended: &'static [u8],
     failed: &'static [u8],
     waits: &'static [u8],
 ) -> &'static [u8]
-    ensures { result.now ≡ why_texts.by_ending ending.now done.now failed.now waits.now }
+    ensures { result.now ≡ why_texts.by_stop stop ended.now failed.now waits.now }
 {
-    match ending {
-        Ending::Done(_) => done,
-        Ending::Failed(_) => failed,
-        Ending::Waits(_) => waits,
+    match stop {
+        Stop::Ended => ended,
+        Stop::Failed => failed,
+        Stop::Waits => waits,
     }
 }

@@ -1,17 +1,21 @@
 //! What is told of an outcome.
 ghost use Rattle.std.specs.Prelude.{◌≡◌, IfOk};
+ghost use Rattle.tj_mean.specs.Outcomes.{Ascend};
 ghost use Rattle.tj_syntax.specs.PlacesOf as places_of;
 ghost use Rattle.tj_syntax.specs.View as trees;
+ghost use Rattle.tj_trace.specs.Traces.{names_of};
+ghost use Rattle.tj_why.specs.DotTexts as dots;
 ghost use Rattle.tj_why.specs.Scenes.{view};
 ghost use Rattle.tj_why.specs.Tellings as tellings;
 ghost use Rattle.tj_why.specs.WhyTexts as spec;
 
 use crate::dot::dot_text;
-use crate::failures::bad_ends;
+use crate::findings::findings_of;
+use crate::members::members_of;
+use crate::owners::lookups_of;
 use crate::scene::Scene;
 use crate::telling::Telling;
-use crate::texts::joined;
-use crate::why_lines::{all_behind, deadlocks, tasks_text};
+use crate::why_lines::{findings_text, fine_text};
 use std::alloc::Global;
 use tj_base::Oom;
 use tj_mean::{LinkList, Outcome, marked};
@@ -27,6 +31,7 @@ pub fn why_text(
     outcome: &Outcome,
     telling: Telling,
 ) -> Result<Vec<u8>, Oom>
+    requires { Ascend (names_of lines.now) }
     ensures { IfOk result (λ text. text.items ≡ tellings.why_text (trees.script script.now)
         (places_of.view places.now) lines.now outcome.now telling) }
 {
@@ -34,46 +39,40 @@ pub fn why_text(
         alloc,
         script,
         places,
-        lines,
     };
     match telling {
-        Telling::Wrong => told_text(&scene, outcome, false),
-        Telling::All => told_text(&scene, outcome, true),
-        Telling::Dot => dot_text(&scene, outcome.cycles.items()),
+        Telling::Wrong => told_text(&scene, lines, outcome, false),
+        Telling::All => told_text(&scene, lines, outcome, true),
+        Telling::Dot => picture(&scene, lines, outcome.cycles.items()),
     }
 }
 
 /// What is told of an outcome, perhaps with all of each cycle.
-fn told_text(scene: &Scene, outcome: &Outcome, all: bool) -> Result<Vec<u8>, Oom>
+fn told_text(
+    scene: &Scene,
+    lines: &[TraceLine],
+    outcome: &Outcome,
+    all: bool,
+) -> Result<Vec<u8>, Oom>
+    requires { Ascend (names_of lines.now) }
     ensures { IfOk result (λ text.
-        text.items ≡ spec.told_text (view scene.now) outcome.now all) }
+        text.items ≡ spec.told_text (view scene.now) lines.now outcome.now all) }
 {
-    if marked(outcome) {
-        wrong_text(scene, all, outcome.cycles.items())
-    } else {
-        fine_text(scene.alloc, scene.lines.len())
+    if !marked(outcome) {
+        return fine_text(scene.alloc, lines.len());
     }
+    let lookups = lookups_of(scene.alloc, lines)?;
+    let findings = findings_of(scene.alloc, &lookups, outcome.cycles.items())?;
+    findings_text(scene, all, findings.as_slice())
 }
 
-/// What went wrong.
-fn wrong_text(scene: &Scene, all: bool, cycles: &[LinkList]) -> Result<Vec<u8>, Oom>
+/// The picture.
+fn picture(scene: &Scene, lines: &[TraceLine], cycles: &[LinkList]) -> Result<Vec<u8>, Oom>
+    requires { Ascend (names_of lines.now) }
     ensures { IfOk result (λ text.
-        text.items ≡ spec.wrong_text (view scene.now) all cycles.now) }
+        text.items ≡ dots.dot_text (view scene.now) lines.now cycles.now) }
 {
-    let waits = all_behind(scene, cycles)?;
-    let ends = bad_ends(scene)?;
-    let cycles = deadlocks(scene, all, cycles)?;
-    joined(
-        scene.alloc,
-        &[cycles.as_slice(), waits.as_slice(), ends.as_slice()],
-    )
-}
-
-/// Nothing went wrong with so many tasks.
-fn fine_text(alloc: Global, count: usize) -> Result<Vec<u8>, Oom>
-    ensures { IfOk result (λ text. text.items ≡ spec.fine_text count) }
-{
-    let tasks = tasks_text(alloc, count)?;
-    let end = b" ended, each promise was set\n";
-    joined(alloc, &[b"nothing is wrong: ", tasks.as_slice(), end])
+    let lookups = lookups_of(scene.alloc, lines)?;
+    let members = members_of(scene.alloc, cycles)?;
+    dot_text(scene, &lookups, &members)
 }

@@ -1,20 +1,20 @@
-//! The lines that tell what went wrong. Each function gives the text of its lines.
-ghost use Rattle.std.specs.Prelude.{◌≡◌, ◌<◌, ◌++◌, IfOk, Some, codes, cond, length, not};
-ghost use Rattle.std.specs.List.{flat_map, list_any};
+//! The lines that tell a finding. Each function gives the text of its lines.
+ghost use Rattle.std.specs.Prelude.{◌≡◌, ◌<◌, ◌++◌, IfOk, codes, length};
+ghost use Rattle.std.specs.List.{flat_map};
 ghost use Rattle.std.specs.Option.{option_map};
-ghost use Rattle.tj_body.specs.Names.{same};
+ghost use Rattle.tj_mean.specs.ReportTexts as reports;
 ghost use Rattle.tj_why.specs.Scenes as stands;
 ghost use Rattle.tj_why.specs.Scenes.{view};
 ghost use Rattle.tj_why.specs.WhyTexts as spec;
 
-use crate::labels::{line_of, maker_of, spot_text, task_at};
+use crate::finding::{Finding, Stop, ToldCell, ToldTask, Wait};
+use crate::labels::{spot_text, stop_text, task_at};
 use crate::scene::Scene;
-use crate::texts::{by_ending, joined, named};
+use crate::texts::{by_stop, joined, named};
 use std::alloc::Global;
-use tj_base::{Name, Oom, Sort};
+use tj_base::{Cause, Name, Oom, Sort};
 use tj_command::count_text;
-use tj_mean::{Ending, Link, LinkList};
-use tj_trace::{Maker, TraceLine, owner_of};
+use tj_trace::Maker;
 
 /// The most members that a cycle has which is told whole.
 const MOST_MEMBERS: usize = 20;
@@ -33,20 +33,19 @@ pub fn tasks_text(alloc: Global, count: usize) -> Result<Vec<u8>, Oom>
 }
 
 /// Who owns a promise, if somebody does.
-fn owner_text(alloc: Global, owner: Option<&TraceLine>) -> Result<Vec<u8>, Oom>
-    ensures { IfOk result (λ text.
-        text.items ≡ spec.owner_text (option_map (λ line. line.now) owner.entry)) }
+fn owner_text(alloc: Global, owner: &Option<Name>) -> Result<Vec<u8>, Oom>
+    ensures { IfOk result (λ text. text.items ≡ spec.owner_text owner.now) }
 {
-    let Some(line) = owner else {
+    let Some(name) = owner else {
         return Ok(Vec::new(alloc));
     };
-    let mut text = named(alloc, b", which ", &line.line.name)?;
+    let mut text = named(alloc, b", which ", name)?;
     text.extend_from_slice(b" owns")?;
     Ok(text)
 }
 
 /// Where a promise was made.
-pub fn made_text(scene: &Scene, maker: Option<Maker>) -> Result<Vec<u8>, Oom>
+fn made_text(scene: &Scene, maker: Option<Maker>) -> Result<Vec<u8>, Oom>
     ensures { IfOk result (λ text. text.items ≡ spec.made_text (view scene.now) maker) }
 {
     let Some(maker) = maker else {
@@ -57,17 +56,17 @@ pub fn made_text(scene: &Scene, maker: Option<Maker>) -> Result<Vec<u8>, Oom>
 }
 
 /// A promise with the statement that made it.
-fn promise_text(scene: &Scene, name: &Name) -> Result<Vec<u8>, Oom>
-    ensures { IfOk result (λ text. text.items ≡ spec.promise_text (view scene.now) name.now) }
+fn promise_text(scene: &Scene, promise: &ToldCell) -> Result<Vec<u8>, Oom>
+    ensures { IfOk result (λ text. text.items ≡ spec.promise_text (view scene.now) promise.now) }
 {
-    let made = made_text(scene, maker_of(scene.lines, name))?;
-    let mut text = named(scene.alloc, b"the promise ", name)?;
+    let made = made_text(scene, promise.maker)?;
+    let mut text = named(scene.alloc, b"the promise ", &promise.name)?;
     text.extend_from_slice(made.as_slice())?;
     Ok(text)
 }
 
 /// Whether a cell is a promise, by what made it.
-pub fn is_promise(maker: Option<Maker>) -> bool
+fn is_promise(maker: Option<Maker>) -> bool
     ensures { result ≡ spec.is_promise maker }
 {
     match maker {
@@ -87,25 +86,25 @@ fn is_promise_sort(sort: Sort) -> bool
 }
 
 /// A cell for which a task waits.
-fn cell_text(scene: &Scene, name: &Name) -> Result<Vec<u8>, Oom>
-    ensures { IfOk result (λ text. text.items ≡ spec.cell_text (view scene.now) name.now) }
+fn cell_text(scene: &Scene, cell: &ToldCell, owner: &Option<Name>) -> Result<Vec<u8>, Oom>
+    ensures { IfOk result (λ text.
+        text.items ≡ spec.cell_text (view scene.now) cell.now owner.now) }
 {
-    if is_promise(maker_of(scene.lines, name)) {
-        let owner = owner_text(scene.alloc, owner_of(scene.lines, name))?;
-        let mut text = promise_text(scene, name)?;
+    if is_promise(cell.maker) {
+        let owner = owner_text(scene.alloc, owner)?;
+        let mut text = promise_text(scene, cell)?;
         text.extend_from_slice(owner.as_slice())?;
         return Ok(text);
     }
-    named(scene.alloc, b"the task ", name)
+    named(scene.alloc, b"the task ", &cell.name)
 }
 
 /// A line for a wait.
-fn wait_line(scene: &Scene, line: &TraceLine, cell: &Name) -> Result<Vec<u8>, Oom>
-    ensures { IfOk result (λ text.
-        text.items ≡ spec.wait_line (view scene.now) line.now cell.now) }
+fn wait_line(scene: &Scene, wait: &Wait) -> Result<Vec<u8>, Oom>
+    ensures { IfOk result (λ text. text.items ≡ spec.wait_line (view scene.now) wait.now) }
 {
-    let task = task_at(scene, line, b" waits at ")?;
-    let cell = cell_text(scene, cell)?;
+    let task = task_at(scene, &wait.task, b" waits at ")?;
+    let cell = cell_text(scene, &wait.cell, &wait.owner)?;
     joined(
         scene.alloc,
         &[task.as_slice(), b" for ", cell.as_slice(), b"\n"],
@@ -113,32 +112,21 @@ fn wait_line(scene: &Scene, line: &TraceLine, cell: &Name) -> Result<Vec<u8>, Oo
 }
 
 /// A line for a member of a cycle.
-fn member(scene: &Scene, link: &Link) -> Result<Vec<u8>, Oom>
-    ensures { IfOk result (λ text. text.items ≡ spec.member (view scene.now) link.now) }
+fn member(scene: &Scene, wait: &Wait) -> Result<Vec<u8>, Oom>
+    ensures { IfOk result (λ text. text.items ≡ spec.member (view scene.now) wait.now) }
 {
-    match line_of(scene.lines, &link.task) {
-        Some(line) => member_with(scene, &link.cell, line),
-        None => Ok(Vec::new(scene.alloc)),
-    }
-}
-
-/// The wait of a task with this line.
-fn member_with(scene: &Scene, cell: &Name, line: &TraceLine) -> Result<Vec<u8>, Oom>
-    ensures { IfOk result (λ text.
-        text.items ≡ spec.member_with (view scene.now) cell.now (Some line.now)) }
-{
-    let wait = wait_line(scene, line, cell)?;
+    let wait = wait_line(scene, wait)?;
     joined(scene.alloc, &[b"  ", wait.as_slice()])
 }
 
 /// A line for each of these members.
-fn each_member(scene: &Scene, links: &[Link]) -> Result<Vec<u8>, Oom>
+fn each_member(scene: &Scene, waits: &[Wait]) -> Result<Vec<u8>, Oom>
     ensures { IfOk result (λ text.
-        text.items ≡ flat_map (spec.member (view scene.now)) links.now) }
+        text.items ≡ flat_map (spec.member (view scene.now)) waits.now) }
 {
     let mut text = Vec::new(scene.alloc);
-    for link in links {
-        let added = member(scene, link)?;
+    for wait in waits {
+        let added = member(scene, wait)?;
         text.extend_from_slice(added.as_slice())?;
     }
     Ok(text)
@@ -152,24 +140,24 @@ fn left_out(alloc: Global, count: usize) -> Result<Vec<u8>, Oom>
 }
 
 /// The members of a cycle.
-fn members(scene: &Scene, all: bool, links: &[Link]) -> Result<Vec<u8>, Oom>
+fn members(scene: &Scene, all: bool, waits: &[Wait]) -> Result<Vec<u8>, Oom>
     ensures { IfOk result (λ text.
-        text.items ≡ spec.members (view scene.now) all links.now) }
+        text.items ≡ spec.members (view scene.now) all waits.now) }
 {
-    if all || links.len() <= MOST_MEMBERS {
-        return each_member(scene, links);
+    if all || waits.len() <= MOST_MEMBERS {
+        return each_member(scene, waits);
     }
-    ends(scene, links)
+    ends(scene, waits)
 }
 
 /// The members at the two ends of a long cycle.
-fn ends(scene: &Scene, links: &[Link]) -> Result<Vec<u8>, Oom>
-    requires { 20 < length links.now }
-    ensures { IfOk result (λ text. text.items ≡ spec.ends (view scene.now) links.now) }
+fn ends(scene: &Scene, waits: &[Wait]) -> Result<Vec<u8>, Oom>
+    requires { 20 < length waits.now }
+    ensures { IfOk result (λ text. text.items ≡ spec.ends (view scene.now) waits.now) }
 {
-    let (front, _) = links.split_at(END_MEMBERS);
-    let (_, back) = links.split_at(links.len() - END_MEMBERS);
-    let between = left_out(scene.alloc, links.len() - MOST_MEMBERS)?;
+    let (front, _) = waits.split_at(END_MEMBERS);
+    let (_, back) = waits.split_at(waits.len() - END_MEMBERS);
+    let between = left_out(scene.alloc, waits.len() - MOST_MEMBERS)?;
     let back = each_member(scene, back)?;
     let front = each_member(scene, front)?;
     joined(
@@ -190,112 +178,51 @@ fn each_other(count: usize) -> &'static [u8]
 }
 
 /// A cycle.
-fn deadlock(scene: &Scene, all: bool, links: &LinkList) -> Result<Vec<u8>, Oom>
+fn deadlock(scene: &Scene, all: bool, waits: &[Wait]) -> Result<Vec<u8>, Oom>
     ensures { IfOk result (λ text.
-        text.items ≡ spec.deadlock (view scene.now) all links.now) }
+        text.items ≡ spec.deadlock (view scene.now) all waits.now) }
 {
-    let links = links.items();
-    let tasks = tasks_text(scene.alloc, links.len())?;
-    let members = members(scene, all, links)?;
-    let wait = each_other(links.len());
+    let tasks = tasks_text(scene.alloc, waits.len())?;
+    let members = members(scene, all, waits)?;
+    let wait = each_other(waits.len());
     joined(
         scene.alloc,
         &[b"deadlock: ", tasks.as_slice(), wait, members.as_slice()],
     )
 }
 
-/// Each cycle.
-pub fn deadlocks(scene: &Scene, all: bool, cycles: &[LinkList]) -> Result<Vec<u8>, Oom>
-    ensures { IfOk result (λ text.
-        text.items ≡ flat_map (spec.deadlock (view scene.now) all) cycles.now) }
+/// A line for a task that waits and is in no cycle.
+fn behind_line(scene: &Scene, wait: &Wait) -> Result<Vec<u8>, Oom>
+    ensures { IfOk result (λ text. text.items ≡ spec.behind_line (view scene.now) wait.now) }
 {
-    let mut text = Vec::new(scene.alloc);
-    for links in cycles {
-        let added = deadlock(scene, all, links)?;
-        text.extend_from_slice(added.as_slice())?;
-    }
-    Ok(text)
-}
-
-/// Whether the task is on this cycle.
-fn is_on(links: &LinkList, name: &Name) -> bool
-    ensures { result ≡ list_any (λ k. same k.task name.now) links.now }
-{
-    links.items().iter().any(|link| link.task == *name)
-}
-
-/// Whether the task is a member of one of the cycles.
-pub fn is_member(cycles: &[LinkList], name: &Name) -> bool
-    ensures { result ≡ spec.is_member cycles.now name.now }
-{
-    cycles.iter().any(|links| is_on(links, name))
-}
-
-/// A line for a task that waits and is no member of a cycle.
-fn behind(scene: &Scene, cycles: &[LinkList], line: &TraceLine) -> Result<Vec<u8>, Oom>
-    ensures { IfOk result (λ text.
-        text.items ≡ spec.behind (view scene.now) cycles.now line.now) }
-{
-    match &line.line.ending {
-        Ending::Waits(cell) => behind_at(scene, cycles, line, cell),
-        Ending::Done(_) | Ending::Failed(_) => Ok(Vec::new(scene.alloc)),
-    }
-}
-
-/// The same of one that waits for this cell.
-fn behind_at(
-    scene: &Scene,
-    cycles: &[LinkList],
-    line: &TraceLine,
-    cell: &Name,
-) -> Result<Vec<u8>, Oom>
-    ensures { IfOk result (λ text.
-        text.items ≡ spec.behind_at (view scene.now) cycles.now line.now cell.now) }
-{
-    if is_member(cycles, &line.line.name) {
-        return Ok(Vec::new(scene.alloc));
-    }
-    let wait = wait_line(scene, line, cell)?;
+    let wait = wait_line(scene, wait)?;
     joined(scene.alloc, &[b"behind a deadlock: ", wait.as_slice()])
 }
 
-/// A line for each task that waits and is no member of a cycle.
-pub fn all_behind(scene: &Scene, cycles: &[LinkList]) -> Result<Vec<u8>, Oom>
-    ensures { IfOk result (λ text.
-        text.items ≡ flat_map (spec.behind (view scene.now) cycles.now) (view scene.now).lines) }
-{
-    let mut text = Vec::new(scene.alloc);
-    for line in scene.lines {
-        let added = behind(scene, cycles, line)?;
-        text.extend_from_slice(added.as_slice())?;
-    }
-    Ok(text)
-}
-
 /// How a task stopped.
-fn stopped_word(ending: &Ending) -> &'static [u8]
-    ensures { result.now ≡ spec.stopped_word ending.now }
+fn stopped_word(stop: Stop) -> &'static [u8]
+    ensures { result.now ≡ spec.stopped_word stop }
 {
-    by_ending(ending, b"ended", b"failed", b"waits")
+    by_stop(stop, b"ended", b"failed", b"waits")
 }
 
 /// A task that owned a promise, and how and where it stopped.
-fn owner_at(scene: &Scene, line: &TraceLine) -> Result<Vec<u8>, Oom>
-    ensures { IfOk result (λ text. text.items ≡ stands.task_at (view scene.now) line.now
-        (codes " owned it and " ++ spec.stopped_word line.now.line.ending ++ codes " at ")) }
+fn owner_at(scene: &Scene, task: &ToldTask) -> Result<Vec<u8>, Oom>
+    ensures { IfOk result (λ text. text.items ≡ stands.task_at (view scene.now) task.now
+        (codes " owned it and " ++ spec.stopped_word task.now.stop ++ codes " at ")) }
 {
-    let word = stopped_word(&line.line.ending);
+    let word = stopped_word(task.stop);
     let did = joined(scene.alloc, &[b" owned it and ", word, b" at "])?;
-    task_at(scene, line, did.as_slice())
+    task_at(scene, task, did.as_slice())
 }
 
 /// A line for a promise that a task owed.
-fn owed_line(scene: &Scene, line: &TraceLine, name: &Name) -> Result<Vec<u8>, Oom>
+fn owed_line(scene: &Scene, promise: &ToldCell, owner: &ToldTask) -> Result<Vec<u8>, Oom>
     ensures { IfOk result (λ text.
-        text.items ≡ spec.owed_line (view scene.now) line.now name.now) }
+        text.items ≡ spec.owed_line (view scene.now) promise.now owner.now) }
 {
-    let promise = promise_text(scene, name)?;
-    let owner = owner_at(scene, line)?;
+    let promise = promise_text(scene, promise)?;
+    let owner = owner_at(scene, owner)?;
     joined(
         scene.alloc,
         &[
@@ -308,63 +235,136 @@ fn owed_line(scene: &Scene, line: &TraceLine, name: &Name) -> Result<Vec<u8>, Oo
     )
 }
 
-/// A line for each of these promises, which a task owed.
-fn owed_lines(scene: &Scene, line: &TraceLine, names: &[Name]) -> Result<Vec<u8>, Oom>
-    ensures { IfOk result (λ text.
-        text.items ≡ flat_map (spec.owed_line (view scene.now) line.now) names.now) }
+/// Why a task failed, in the words of a report.
+fn cause_text(alloc: Global, cause: &Cause) -> Result<Vec<u8>, Oom>
+    ensures { IfOk result (λ text. text.items ≡ reports.cause_text cause.now) }
+{
+    match cause {
+        Cause::Arith => Ok(Vec::from_slice(alloc, b"arith")?),
+        Cause::Kind => Ok(Vec::from_slice(alloc, b"kind")?),
+        Cause::Steps => Ok(Vec::from_slice(alloc, b"steps")?),
+        Cause::Owner(name) => named(alloc, b"owner ", name),
+        Cause::Broken(name) => named(alloc, b"broken ", name),
+        Cause::Order(name) => named(alloc, b"order ", name),
+    }
+}
+
+/// A task that failed, and where.
+fn failed_text(scene: &Scene, task: &ToldTask) -> Result<Vec<u8>, Oom>
+    ensures { IfOk result (λ text. text.items ≡ spec.failed_text (view scene.now) task.now) }
+{
+    let task = task_at(scene, task, b" at ")?;
+    joined(scene.alloc, &[b"failed: ", task.as_slice()])
+}
+
+/// A line for a failure that is no echo.
+fn failed_line(
+    scene: &Scene,
+    task: &ToldTask,
+    cause: &Cause,
+    about: Option<Maker>,
+) -> Result<Vec<u8>, Oom>
+    ensures { IfOk result (λ text. text.items
+        ≡ spec.failed_line (view scene.now) task.now cause.now about) }
+{
+    let task = failed_text(scene, task)?;
+    let why = cause_text(scene.alloc, cause)?;
+    let about = made_text(scene, about)?;
+    joined(
+        scene.alloc,
+        &[
+            task.as_slice(),
+            b": ",
+            why.as_slice(),
+            about.as_slice(),
+            b"\n",
+        ],
+    )
+}
+
+/// What the task did from whose end a failure came.
+fn end_word(stop: Stop) -> &'static [u8]
+    ensures { result.now ≡ spec.end_word stop }
+{
+    by_stop(
+        stop,
+        b", which ended owing at ",
+        b", which failed at ",
+        b", which waits at ",
+    )
+}
+
+/// The task from whose end a failure came.
+fn origin_text(scene: &Scene, origin: &Option<ToldTask>) -> Result<Vec<u8>, Oom>
+    ensures { IfOk result (λ text. text.items ≡ spec.origin_text (view scene.now) origin.now) }
+{
+    let Some(task) = origin else {
+        return Ok(Vec::new(scene.alloc));
+    };
+    let stop = stop_text(scene, task)?;
+    let name = named(scene.alloc, b", at first from ", &task.name)?;
+    let end = end_word(task.stop);
+    joined(scene.alloc, &[name.as_slice(), end, stop.as_slice()])
+}
+
+/// A line for a failure that is an echo.
+fn echo_line(
+    scene: &Scene,
+    task: &ToldTask,
+    cell: &ToldCell,
+    origin: &Option<ToldTask>,
+) -> Result<Vec<u8>, Oom>
+    ensures { IfOk result (λ text. text.items
+        ≡ spec.echo_line (view scene.now) task.now cell.now origin.now) }
+{
+    let task = failed_text(scene, task)?;
+    let broken = named(scene.alloc, b": broken ", &cell.name)?;
+    let made = made_text(scene, cell.maker)?;
+    let origin = origin_text(scene, origin)?;
+    joined(
+        scene.alloc,
+        &[
+            task.as_slice(),
+            broken.as_slice(),
+            made.as_slice(),
+            origin.as_slice(),
+            b"\n",
+        ],
+    )
+}
+
+/// What is told of a finding, perhaps with all of a cycle.
+fn finding_text(scene: &Scene, all: bool, finding: &Finding) -> Result<Vec<u8>, Oom>
+    ensures { IfOk result (λ text. text.items
+        ≡ spec.finding_text (view scene.now) all finding.now) }
+{
+    match finding {
+        Finding::Cycle(waits) => deadlock(scene, all, waits.items()),
+        Finding::Behind(wait) => behind_line(scene, wait),
+        Finding::Failed { task, cause, about } => failed_line(scene, task, cause, *about),
+        Finding::Owed { promise, owner } => owed_line(scene, promise, owner),
+        Finding::Echo { task, cell, origin } => echo_line(scene, task, cell, origin),
+    }
+}
+
+/// What is told of each finding.
+pub fn findings_text(scene: &Scene, all: bool, findings: &[Finding]) -> Result<Vec<u8>, Oom>
+    ensures { IfOk result (λ text. text.items
+        ≡ flat_map (spec.finding_text (view scene.now) all) findings.now) }
 {
     let mut text = Vec::new(scene.alloc);
-    for name in names {
-        let added = owed_line(scene, line, name)?;
+    for finding in findings {
+        let added = finding_text(scene, all, finding)?;
         text.extend_from_slice(added.as_slice())?;
     }
     Ok(text)
 }
 
-/// Whether the task ended, and didn't fail.
-fn has_ended(ending: &Ending) -> bool
-    ensures { result ≡ spec.has_ended ending.now }
+/// Nothing went wrong with so many tasks.
+pub fn fine_text(alloc: Global, count: usize) -> Result<Vec<u8>, Oom>
+    ensures { IfOk result (λ text. text.items ≡ spec.fine_text count) }
 {
-    match ending {
-        Ending::Done(_) => true,
-        Ending::Failed(_) | Ending::Waits(_) => false,
-    }
-}
-
-/// Whether the promises of such a task are asked for: of one that ended, or of one that didn't.
-fn is_owing(ended: bool, ending: &Ending) -> bool
-    ensures { result ≡ spec.is_owing ended ending.now }
-{
-    is_as(ended, has_ended(ending))
-}
-
-/// Whether it is as wanted that something holds.
-pub fn is_as(wanted: bool, holds: bool) -> bool
-    ensures { result ≡ cond wanted holds (not holds) }
-{
-    if wanted { holds } else { !holds }
-}
-
-/// A line for each promise that a task owed, if those of such a task are asked for.
-fn owed(scene: &Scene, ended: bool, line: &TraceLine) -> Result<Vec<u8>, Oom>
-    ensures { IfOk result (λ text. text.items ≡ spec.owed (view scene.now) ended line.now) }
-{
-    if is_owing(ended, &line.line.ending) {
-        owed_lines(scene, line, line.line.owes.items())
-    } else {
-        Ok(Vec::new(scene.alloc))
-    }
-}
-
-/// A line for each promise that a task owed which ended, or which didn't.
-pub fn all_owed(scene: &Scene, ended: bool) -> Result<Vec<u8>, Oom>
-    ensures { IfOk result (λ text.
-        text.items ≡ flat_map (spec.owed (view scene.now) ended) (view scene.now).lines) }
-{
-    let mut text = Vec::new(scene.alloc);
-    for line in scene.lines {
-        let added = owed(scene, ended, line)?;
-        text.extend_from_slice(added.as_slice())?;
-    }
-    Ok(text)
+    let tasks = tasks_text(alloc, count)?;
+    let end = b" ended, each promise was set\n";
+    joined(alloc, &[b"nothing is wrong: ", tasks.as_slice(), end])
 }

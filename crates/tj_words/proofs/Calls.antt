@@ -7,6 +7,9 @@ pub mod OneStates
 pub mod TableRuns
 pub mod CallRuns
 pub mod RestedRuns
+pub mod StepActs
+pub mod ToldSteps
+pub mod LoggedRuns
 pub mod LastingWords
 pub mod OneHolders
 pub mod PushRuns
@@ -15,3 +18,4 @@ pub mod AlikeSeats
 pub mod CallStores
 pub mod CallViews
 pub mod SlotSteps
+pub mod OwnRuns

@@ -10,3 +10,4 @@ pub mod RestingMeaning
 pub mod MeantCycles
 pub mod Rested
 pub mod EndedRecords
+pub mod EndedRuns

@@ -1,8 +1,10 @@
 -- The names that most proofs of this crate cite, passed on from one place. Declares nothing.
 pub use Rattle.atomic_table.proofs.Lists.{at_longer, at_map, at_set, at_snoc, exchanged, set_again, set_else, set_here}
-pub use Rattle.atomic_table.specs.Table.{Act, Allows, State, Step, carried_after, gives, homes_after, keeps, opening}
+pub use Rattle.atomic_table.specs.Table.{Act, State, Step, carried_after, gives, homes_after, keeps, opening}
 pub use Rattle.atomic_table.specs.Table.{put_back, rest, step, takes}
-pub use Rattle.atomic_table.specs.declared.shared.Seat.{Seat}
+pub use Rattle.tj_log.specs.Asks.{Allows}
+pub use Rattle.tj_log.specs.Runs.{IsPlain}
+pub use Rattle.tj_log.specs.Shown.{SeatShown}
 pub use Rattle.std.proofs.Common.{Bool, List, None, Option, Some, [], ap, append_assoc, arith, cond, eq-eqb, eqb, false}
 pub use Rattle.std.proofs.Common.{get_or, get_or-set_other, get_or-set_same, if◌then◌else◌, inl, inr, le-ltb, length}
 pub use Rattle.std.proofs.Common.{length-append, length-set, ltb-false, ltb-true, map, min, nat_eq, nat_lt, ne_eqb}
@@ -67,13 +69,14 @@ pub use Rattle.tj_words.specs.Calls.ExchangeViews.{phase_swap, went_back}
 pub use Rattle.tj_words.specs.Calls.LiveViews.{IfRecord, LaysChild, MayEnd, MayRelease, Shelves, SlotsOf, came_home}
 pub use Rattle.tj_words.specs.Calls.LiveViews.{ended, lowered_with, raised_with, released}
 pub use Rattle.tj_words.specs.Calls.OwnerViews.{MayPutOwner, PutsOwner, gave_up}
-pub use Rattle.tj_words.specs.Calls.ParkSteps.{FirstTold, new_push, phase_load, with_tokens}
+pub use Rattle.tj_words.specs.Calls.MetCells.{Meets, SeesOwner, SeesPhase, met, owner_load, phase_load}
+pub use Rattle.tj_words.specs.Calls.ParkSteps.{FirstTold, new_push, with_tokens}
 pub use Rattle.tj_words.specs.Calls.PhaseViews.{PutsPhase}
 pub use Rattle.tj_words.specs.Calls.TakenRecords.{IsKnownRecord, took_record}
 pub use Rattle.tj_words.specs.Calls.WaitViews.{now_does, published}
 pub use Rattle.tj_words.specs.Calls.WalkViews.{IsWalking, MayLoadOwner, MayRaise, lowered, owner_seen, turned}
 pub use Rattle.tj_words.specs.Calls.WalkViews.{walk_load, walk_with}
-pub use Rattle.tj_words.specs.Inner.ShownCells.{AreCellsOf, cell_of, maker_in, task_in}
+pub use Rattle.tj_words.specs.AtRest.ShownCells.{AreCellsOf, cell_of, maker_in, task_in}
 pub use Rattle.tj_words.specs.Inner.TreeDraws.{IsDrawnInto, forks_after}
 pub use Rattle.tj_words.specs.Law.{IsRooted, IsSeat, IsSeatOf, Law, Rule, seat_part}
 pub use Rattle.tj_words.specs.LawParts.Chains.{AreLinked, Chains, HasGrown, IsFirstIn, IsParkedOn, IsPush, IsRest}

@@ -1,10 +1,11 @@
 -- A load keeps the law, and its seat learns.
+pub mod LoggedSteps
 pub mod Learning
 pub mod LoadSteps
 pub mod MomentSteps
 pub mod MomentLaws
-pub mod FreeNext
 pub mod KnowLoads
+pub mod MetCells
 pub mod HeadLoads
 pub mod PhaseLoads
 pub mod WalkReads

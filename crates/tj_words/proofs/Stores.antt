@@ -4,6 +4,7 @@ pub mod SeatContents
 pub mod LawChanges
 pub mod TableWords
 pub mod StoredWords
+pub mod OneActs
 pub mod StoreSteps
 pub mod StepContents
 pub mod Columns

@@ -12,3 +12,4 @@ pub mod WaitViews
 pub mod PhaseViews
 pub mod ExchangeViews
 pub mod PushSteps
+pub mod MetCells

@@ -16,3 +16,4 @@ pub mod RecordPhases
 pub mod Contents
 pub mod FirstState
 pub mod StartRecords
+pub mod TaskRecords

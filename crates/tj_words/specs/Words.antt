@@ -4,5 +4,6 @@ pub mod Owners
 pub mod Phases
 pub mod Heads
 pub mod Values
+pub mod StopWords
 pub mod Codes
 pub mod Lists

@@ -1,6 +1,8 @@
 //! Steps on the chains of waiters.
 ghost use Rattle.std.specs.Prelude.{◌≡◌, ◌≢◌, ◌<◌, ◌≤◌};
 ghost use Rattle.tj_body.specs.Programs.{program_of};
+ghost use Rattle.tj_words.specs.CallLaws.StepCalls as call;
+ghost use Rattle.tj_words.specs.CallLaws.StepLogs.{IsLogged};
 ghost use Rattle.tj_words.specs.Calls.ChainSteps.{HasPush, HasPushBehind, KnowsEntry, TakesChain};
 ghost use Rattle.tj_words.specs.Calls.ChainSteps.{found_taken, pushed, stored_next};
 ghost use Rattle.tj_words.specs.Calls.PushSteps.{ChainIsFound, FindsLonger};
@@ -27,9 +29,10 @@ impl<B: Body> Laid<B> {
         requires push { HasPush t.0 seat.old.me.0 }
         ensures seat { IsSameSeat seat.old seat.new }
         ensures view { seat.new.me.0 ≡ stored_next t.0 behind seat.old.me.0 }
+        ensures log { IsLogged (call.puts_next t.0) (heads.head_word behind) 0
+            (heads.head_word behind) seat.old seat.new }
     {
         self.table
-            .shared
             .store::<NextStore>(seat, next_at(t), behind.word());
     }
 
@@ -56,10 +59,11 @@ impl<B: Body> Laid<B> {
             seat.old.me.0 }
         ensures longer { result ≢ behind → result ≢ Head.Shut
             → FindsLonger p.0 behind result seat.old.me.0 seat.new.me.0 }
+        ensures log { IsLogged (call.pushes p.0) (heads.head_word behind)
+            (heads.head_word (Head.Task t)) (heads.head_word result) seat.old seat.new }
     {
         Head::of_word(
             self.table
-                .shared
                 .compare_exchange::<PushExchange>(seat, head_at(p), behind.word(), t.0 as u64 + 1),
         )
     }
@@ -75,11 +79,12 @@ impl<B: Body> Laid<B> {
         ensures again { result ≡ Head.Shut → seat.new.me.0 ≡ found_taken p.0 seat.old.me.0 }
         ensures chain { result ≢ Head.Shut
             → TakesChain self.now.cells p.0 result seat.old.me.0 seat.new.me.0 }
+        ensures log { IsLogged (call.shuts p.0) heads.shut_word 0 (heads.head_word result)
+            seat.old seat.new }
     {
-        Head::of_word(
-            self.table
-                .shared
-                .swap::<ShutSwap>(seat, head_at(p), Head::Shut.word()),
-        )
+        let found = self
+            .table
+            .swap::<ShutSwap>(seat, head_at(p), Head::Shut.word());
+        Head::of_word(found)
     }
 }

@@ -1,14 +1,15 @@
 //! Draws of cells, and the words of a cell that its drawer writes while it has the cell in hand.
-ghost use Rattle.std.specs.Prelude.{◌≡◌, ◌<◌, ◌≤◌, IfSome, None};
+ghost use Rattle.std.specs.Prelude.{◌≡◌, ℕ, ◌<◌, ◌≤◌, IfSome, None};
 ghost use Rattle.tj_body.specs.Programs.{program_of};
+ghost use Rattle.tj_words.specs.CallLaws.StepCalls as call;
+ghost use Rattle.tj_words.specs.CallLaws.StepLogs.{IsLogged};
 ghost use Rattle.tj_words.specs.Calls.DrawViews as draws;
-ghost use Rattle.tj_words.specs.Calls.DrawViews.{FindsCell, FindsNone, MayDraw, MayMark, MayWrite};
+ghost use Rattle.tj_words.specs.Calls.DrawViews.{FindsCell, FindsNone, MayDraw, MayWrite};
 ghost use Rattle.tj_words.specs.Calls.DrawViews.{new_slots};
 ghost use Rattle.tj_words.specs.SeatViews.SeatSteps.{IsSameSeat};
 
-use crate::draw_plays::{Draw, MarkStore, WordStore};
-use crate::offsets::{COUNT, Once, once_at, phase_at};
-use crate::phase::Phase;
+use crate::draw_plays::{Draw, WordStore};
+use crate::offsets::{COUNT, Once, once_at};
 use crate::plays::Naming;
 use crate::table::{Laid, WSeat};
 use std::marker::Brand;
@@ -30,6 +31,10 @@ impl<B: Body> Laid<B> {
         ensures refused { result ≡ None
             → FindsNone (program_of B.places B.awaits B.left B.asks B.then)
             seat.old.me.0 seat.new.me.0 × (seat.new.me.1 ≡ seat.old.me.1) }
+        ensures log_found { IfSome result (λ c. IsLogged (call.draws t.0 sort) 1 0 c.0
+            seat.old seat.new) }
+        ensures log_refused { result ≡ None → (n : ℕ) × (self.now.cells ≤ n)
+            × IsLogged (call.draws t.0 sort) 1 0 n seat.old seat.new }
     {
         let found = self.add_count::<Brand>(seat, t, sort);
         if found < self.cells as u64 {
@@ -51,10 +56,11 @@ impl<B: Body> Laid<B> {
         ensures refused { self.now.cells ≤ result
             → FindsNone (program_of B.places B.awaits B.left B.asks B.then)
             seat.old.me.0 seat.new.me.0 × (seat.new.me.1 ≡ seat.old.me.1) }
+        ensures log { IsLogged (call.draws t.0 sort) 1 0 result seat.old seat.new }
     {
         event_keeps_facts();
         full_where_names::<B>();
-        self.table.shared.fetch_add::<Draw<M>>(seat, COUNT, 1)
+        self.table.fetch_add::<Draw<M>>(seat, COUNT, 1)
     }
 
     /// Writes PARENT, KID, DEPTH or JUMP of the cell in hand.
@@ -64,20 +70,8 @@ impl<B: Body> Laid<B> {
         requires may { MayWrite c.0 f v seat.old.me.0 }
         ensures seat { IsSameSeat seat.old seat.new }
         ensures view { seat.new.me.0 ≡ draws.wrote_word c.0 f v seat.old.me.0 }
+        ensures log { IsLogged (call.puts_once c.0 f) v 0 v seat.old seat.new }
     {
-        self.table.shared.store::<WordStore>(seat, once_at(c, f), v);
-    }
-
-    /// Marks the cell in hand as a promise, by its PHASE.
-    pub(crate) fn put_promise(&self, seat: &mut WSeat<B>, c: CellId)
-        requires table { seat.old.table_id ≡ self.now.table.shared.table_id }
-        requires cell { c.0 < self.now.cells }
-        requires may { MayMark c.0 seat.old.me.0 }
-        ensures seat { IsSameSeat seat.old seat.new }
-        ensures view { seat.new.me.0 ≡ draws.marked_promise seat.old.me.0 }
-    {
-        self.table
-            .shared
-            .store::<MarkStore>(seat, phase_at(c), Phase::Promise.word());
+        self.table.store::<WordStore>(seat, once_at(c, f), v);
     }
 }

@@ -2,6 +2,8 @@
 //! parked goes on.
 ghost use Rattle.std.specs.Prelude.{◌≡◌, ◌≢◌, ◌<◌, IfErr, OnOk};
 ghost use Rattle.tj_body.specs.Programs.{program_of};
+ghost use Rattle.tj_words.specs.CallLaws.StepCalls as call;
+ghost use Rattle.tj_words.specs.CallLaws.StepLogs.{IsLogged};
 ghost use Rattle.tj_words.specs.SeatViews.Moments.{WasSo};
 ghost use Rattle.tj_words.specs.Words.Offsets.{phase_at};
 ghost use Rattle.tj_words.specs.Words.Codes as codes;
@@ -41,6 +43,10 @@ impl<B: Body> Laid<B> {
         ensures moment { IfErr result (λ p. WasSo
             (program_of B.places B.awaits B.left B.asks B.then) (phase_at t.0) (phases.phase_word p)
             seat.old.me.0) }
+        ensures log_swapped { OnOk result (IsLogged (call.swaps_phase t.0) (phases.phase_word was)
+            (phases.phase_word to) (phases.phase_word was) seat.old seat.new) }
+        ensures log_found { IfErr result (λ p. IsLogged (call.swaps_phase t.0) (phases.phase_word was)
+            (phases.phase_word to) (phases.phase_word p) seat.old seat.new) }
     {
         let found = self.exchange_phase(seat, t, was, to);
         if found == was.word() {
@@ -64,10 +70,11 @@ impl<B: Body> Laid<B> {
             × codes.IsPhaseWord self.now.cells result }
         ensures moment { WasSo (program_of B.places B.awaits B.left B.asks B.then) (phase_at t.0)
             result seat.old.me.0 }
+        ensures log { IsLogged (call.swaps_phase t.0) (phases.phase_word was) (phases.phase_word to)
+            result seat.old seat.new }
     {
         event_keeps_facts();
         self.table
-            .shared
             .compare_exchange::<PhaseExchange>(seat, phase_at(t), was.word(), to.word())
     }
 }

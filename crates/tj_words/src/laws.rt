@@ -6,7 +6,10 @@
 //! The laws stand over the definitions alone, so the functions do nothing: who calls one may rest on
 //! its clauses.
 ghost use Rattle.tj_words.specs.CallLaws.CallRuns as called;
+ghost use Rattle.tj_words.specs.CallLaws.FreshTables as fresh;
 ghost use Rattle.tj_words.specs.CallLaws.LastingWords as lasting;
+ghost use Rattle.tj_words.specs.CallLaws.LoggedRuns as logged;
+ghost use Rattle.tj_words.specs.CallLaws.OwnRuns as own;
 ghost use Rattle.tj_words.specs.Steps.OneHolders as holder;
 ghost use Rattle.tj_words.specs.Steps.OneStates as state;
 ghost use Rattle.tj_words.specs.CallLaws.PushRuns as push;
@@ -15,8 +18,7 @@ ghost use Rattle.tj_words.specs.Inner.ChainSentences as chain;
 ghost use Rattle.tj_words.specs.SeatViews.MomentLaws as moment;
 ghost use Rattle.tj_words.specs.CallLaws.Verdicts as verdict;
 
-/// What a word can't be while a seat has such a view, and what is left open; and that no step hides
-/// what it does with STOP.
+/// What a word can't be while a seat has such a view; and that each name that the seat knows is one of some round.
 pub fn moments<B>()
     ensures live { moment.LiveCountsTokens B }
     ensures count { moment.CountIsAbove B }
@@ -24,11 +26,7 @@ pub fn moments<B>()
     ensures phase { moment.PhaseIsDone B }
     ensures others { moment.OthersCountsCleared B }
     ensures stop { moment.StopStands B }
-    ensures claim { moment.LoneSeatClaims B }
-    ensures one_count { moment.OneCellCounts B }
-    ensures one_live { moment.OneCellLives B }
-    ensures free_next { moment.NextIsFree B }
-    ensures no_hidden { moment.NoHiddenStop B }
+    ensures names { moment.NamesAreOfRounds B }
 {}
 
 /// Exchanges of what lies in a slot that a seat has.
@@ -93,4 +91,21 @@ pub fn found_chains<B>()
 /// published, whatever calls were made in between.
 pub fn ended_walks<B>()
     ensures { verdict.EndedWalksAreOffCycles B }
+{}
+
+/// The words and the slots of a table are the first ones as long as a seat is fresh, as that of `Laid::new` is.
+pub fn fresh_is_first<B>()
+    ensures { fresh.FreshIsFirst B }
+{}
+
+/// What stands in a table came from what stands at first by step calls, splits and merges alone.
+pub fn tables_have_runs<B>()
+    ensures { logged.TablesHaveRuns B }
+{}
+
+/// What the laws of runs say of such a run: it is legal, and what has been so at one of its moments stays so up to what
+/// stands.
+pub fn own_runs<B>()
+    ensures legal { own.OwnRunsAreLegal B }
+    ensures stand { own.OwnRunsStand B }
 {}

@@ -29,20 +29,21 @@ mod table;
 mod value;
 mod view;
 mod wait_plays;
-mod waits;
 mod walk_plays;
 mod walks;
 
 pub use closed::{Closed, RestCell};
 pub use head::Head;
 pub use laws::{
-    call_runs, ended_walks, found_chains, lasting_words, moments, one_state, rested_runs,
-    slot_steps, wakes,
+    call_runs, ended_walks, found_chains, fresh_is_first, lasting_words, moments, one_state,
+    own_runs, rested_runs, slot_steps, tables_have_runs, wakes,
 };
+pub use links::{link_cell, link_word};
 pub use offsets::Once;
 pub use phase::{Phase, Walk};
-pub use record::{Fill, Finish, Held, HeldList, Hurt, Rec};
+pub use record::{Fill, Finish, Held, Hurt, Rec};
 pub use rest::RestWords;
+pub use stop::Stop;
 pub use table::{Key, Laid, Law, WSeat};
 pub use tj_events::Way;
 pub use value::{value_of_words, value_words};
@@ -51,6 +52,10 @@ pub use view::{
 };
 
 mod alike_laws;
+mod links;
 mod parking;
+mod record_changes;
+mod record_reads;
+mod stop;
 
 pub use alike_laws::alike_seats;

@@ -1,17 +1,16 @@
-//! Steps on LIVE and STOP, the stores of Ready and of Ended, and the exchange of what lies in a slot
-//! that a seat has.
-ghost use Rattle.std.specs.Prelude.{◌≡◌, ◌<◌, ◌≤◌, ◌∷◌};
+//! Steps on LIVE and STOP, and the exchange of what lies in a slot that a seat has.
+ghost use Rattle.std.specs.Prelude.{◌≡◌, ℕ, ◌<◌, ◌≤◌, ◌∷◌};
 ghost use Rattle.atomic_table.specs.Table.{rest};
 ghost use Rattle.tj_body.specs.Programs.{program_of};
-ghost use Rattle.tj_words.specs.Calls.LiveViews.{HasSlot, MayEnd, MayLowerLive, MayRaiseLive};
-ghost use Rattle.tj_words.specs.Calls.LiveViews.{MayRelease};
-ghost use Rattle.tj_words.specs.Calls.LiveViews.{ended, live_lowered, live_raised, released};
+ghost use Rattle.tj_words.specs.CallLaws.StepCalls as call;
+ghost use Rattle.tj_words.specs.CallLaws.StepLogs.{IsLogged, LogStays};
+ghost use Rattle.tj_words.specs.Calls.LiveViews.{HasSlot, MayLowerLive, MayRaiseLive};
+ghost use Rattle.tj_words.specs.Calls.LiveViews.{live_lowered, live_raised};
 ghost use Rattle.tj_words.specs.SeatViews.SeatSteps.{IsSameSeat};
 ghost use Rattle.tj_words.specs.SeatViews.Views.{stored_stop};
 
-use crate::live_plays::{EndedStore, LiveAdd, LiveSub, ReadyStore, StopStore};
-use crate::offsets::{LIVE, STOP, phase_at};
-use crate::phase::Phase;
+use crate::live_plays::{LiveAdd, LiveSub, StopStore};
+use crate::offsets::{LIVE, STOP};
 use crate::record::Rec;
 use crate::table::{Laid, WSeat};
 use tj_base::CellId;
@@ -26,8 +25,9 @@ impl<B: Body> Laid<B> {
         ensures table { seat.new.table_id ≡ seat.old.table_id }
         ensures id { seat.new.id ≡ seat.old.id }
         ensures me { seat.new.me ≡ live_raised seat.old.me }
+        ensures log { (n : ℕ) × IsLogged call.raises_live 1 0 n seat.old seat.new }
     {
-        self.table.shared.fetch_add::<LiveAdd>(seat, LIVE, 1);
+        self.table.fetch_add::<LiveAdd>(seat, LIVE, 1);
     }
 
     /// Gives up a token. The record of a task that has alarmed, which was put into its slot, comes
@@ -39,8 +39,9 @@ impl<B: Body> Laid<B> {
         ensures table { seat.new.table_id ≡ seat.old.table_id }
         ensures id { seat.new.id ≡ seat.old.id }
         ensures me { seat.new.me ≡ live_lowered seat.old.me }
+        ensures log { (n : ℕ) × IsLogged call.lowers_live 1 0 n seat.old seat.new }
     {
-        self.table.shared.fetch_sub::<LiveSub>(seat, LIVE, 1);
+        self.table.fetch_sub::<LiveSub>(seat, LIVE, 1);
     }
 
     /// Ends the run: 1 says that it is full, which needs a refused draw, and 2 that memory is
@@ -54,8 +55,9 @@ impl<B: Body> Laid<B> {
         ensures id { seat.new.id ≡ seat.old.id }
         ensures me { seat.new.me
             ≡ (stored_stop w seat.old.me.0, seat.old.me.1) }
+        ensures log { IsLogged call.stops w 0 w seat.old seat.new }
     {
-        self.table.shared.store::<StopStore>(seat, STOP, w);
+        self.table.store::<StopStore>(seat, STOP, w);
     }
 
     /// Puts a record into the slot of t, or takes it out. The seat has taken that slot last.
@@ -67,35 +69,8 @@ impl<B: Body> Laid<B> {
         ensures id { seat.new.id ≡ seat.old.id }
         ensures found { seat.old.me.1 ≡ (t.0, result) ∷ rest seat.old.me.1 }
         ensures me { seat.new.me ≡ (seat.old.me.0, (t.0, rec) ∷ rest seat.old.me.1) }
+        ensures log { LogStays seat.old seat.new }
     {
-        self.table.shared.exchange(seat, t.0 as usize, rec)
-    }
-
-    /// Says that an unborn task is ready, whose record lies at home.
-    pub(crate) fn put_ready(&self, seat: &mut WSeat<B>, t: CellId)
-        requires table { seat.old.table_id ≡ self.now.table.shared.table_id }
-        requires task { t.0 < self.now.cells }
-        requires may { MayRelease t.0 seat.old.me.0 }
-        ensures table { seat.new.table_id ≡ seat.old.table_id }
-        ensures id { seat.new.id ≡ seat.old.id }
-        ensures me { seat.new.me ≡ (released t.0 seat.old.me.0, seat.old.me.1) }
-    {
-        self.table
-            .shared
-            .store::<ReadyStore>(seat, phase_at(t), Phase::Ready.word());
-    }
-
-    /// Says that a task has ended, whose record with its finish was put into its slot.
-    pub(crate) fn put_ended(&self, seat: &mut WSeat<B>, t: CellId)
-        requires table { seat.old.table_id ≡ self.now.table.shared.table_id }
-        requires task { t.0 < self.now.cells }
-        requires may { MayEnd (program_of B.places B.awaits B.left B.asks B.then) t.0 seat.old.me }
-        ensures table { seat.new.table_id ≡ seat.old.table_id }
-        ensures id { seat.new.id ≡ seat.old.id }
-        ensures me { seat.new.me ≡ (ended t.0 seat.old.me.0, rest seat.old.me.1) }
-    {
-        self.table
-            .shared
-            .store::<EndedStore>(seat, phase_at(t), Phase::Ended.word());
+        self.table.exchange(seat, t.0 as usize, rec)
     }
 }

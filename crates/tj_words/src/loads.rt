@@ -2,11 +2,14 @@
 ghost use Rattle.std.specs.Prelude.{◌≡◌, ◌≢◌, ℕ, ◌<◌, ◌≤◌, min, None, Some};
 ghost use Rattle.tj_body.specs.Points.{IsIn};
 ghost use Rattle.tj_body.specs.Programs.{program_of};
+ghost use Rattle.tj_words.specs.CallLaws.StepCalls as call;
+ghost use Rattle.tj_words.specs.CallLaws.StepLogs.{IsLogged};
 ghost use Rattle.tj_words.specs.SeatViews.FullMeaning.{NamesFull};
 ghost use Rattle.tj_words.specs.SeatViews.Moments.{WasSo};
 ghost use Rattle.tj_words.specs.Words.Offsets.{count_at, live_at, next_at, own_at, phase_at, stop_at};
 ghost use Rattle.tj_words.specs.Words.Heads as heads;
-ghost use Rattle.tj_words.specs.Calls.ParkSteps.{FirstTold, loaded_phase};
+ghost use Rattle.tj_words.specs.Calls.MetCells.{SeesOwner, SeesPhase};
+ghost use Rattle.tj_words.specs.Calls.ParkSteps.{FirstTold};
 ghost use Rattle.tj_words.specs.Words.Phases as phases;
 ghost use Rattle.tj_words.specs.SeatViews.SeatSteps.{IsSameSeat};
 ghost use Rattle.tj_words.specs.SeatViews.SeenWords.{FindsChain, FindsShut, MayRead, NextTold};
@@ -41,8 +44,9 @@ impl<B: Body> Laid<B> {
         ensures live { result ≢ 0 → seat.new.me.0 ≡ saw_live result seat.old.me.0 }
         ensures moment { WasSo (program_of B.places B.awaits B.left B.asks B.then) live_at result
             seat.old.me.0 }
+        ensures log { IsLogged call.sees_live 0 0 result seat.old seat.new }
     {
-        self.table.shared.load::<LiveLoad>(seat, LIVE) as u32
+        self.table.load::<LiveLoad>(seat, LIVE) as u32
     }
 
     /// STOP. It is 1 only where the meaning is full. The view says what was loaded last.
@@ -56,8 +60,9 @@ impl<B: Body> Laid<B> {
         ensures stands { (n : ℕ) → IsIn n seat.old.me.0.stored → result ≢ 0 }
         ensures moment { WasSo (program_of B.places B.awaits B.left B.asks B.then) stop_at result
             seat.old.me.0 }
+        ensures log { IsLogged call.sees_stop 0 0 result seat.old seat.new }
     {
-        self.table.shared.load::<StopLoad>(seat, STOP)
+        self.table.load::<StopLoad>(seat, STOP)
     }
 
     /// How many cells are there.
@@ -70,37 +75,43 @@ impl<B: Body> Laid<B> {
             × WasSo (program_of B.places B.awaits B.left B.asks B.then) count_at n seat.old.me.0 }
         ensures some { 0 < result }
         ensures few { result ≤ self.now.cells }
+        ensures log { (n : ℕ) × (result ≡ min n self.now.cells)
+            × IsLogged call.counts 0 0 n seat.old seat.new }
     {
-        let found = self.table.shared.load::<CountLoad>(seat, COUNT);
+        let found = self.table.load::<CountLoad>(seat, COUNT);
         found.min(self.cells as u64) as u32
     }
 
-    /// The owner of a cell.
+    /// The owner of a cell. Where there is one, the seat knows both from now on.
     pub(crate) fn plain_owner(&self, seat: &mut WSeat<B>, c: CellId) -> Option<CellId>
         requires table { seat.old.table_id ≡ self.now.table.shared.table_id }
         requires cell { c.0 < self.now.cells }
         ensures seat { IsSameSeat seat.old seat.new }
-        ensures view { seat.new.me.0
-            ≡ loaded_plain (Noted.Owner c.0) (owner_word (owner_number result)) seat.old.me.0 }
+        ensures view { SeesOwner self.now.cells c.0 (owner_number result) seat.old.me.0 seat.new.me.0 }
         ensures task { (u : CellId) → result ≡ Some u → u.0 < self.now.cells }
         ensures moment { WasSo (program_of B.places B.awaits B.left B.asks B.then) (own_at c.0)
             (owner_word (owner_number result)) seat.old.me.0 }
+        ensures log { IsLogged (call.sees_owner c.0) 0 0 (owner_word (owner_number result))
+            seat.old seat.new }
     {
-        owner_of_word(self.table.shared.load::<OwnerLoad>(seat, own_at(c)))
+        owner_of_word(self.table.load::<OwnerLoad>(seat, own_at(c)))
     }
 
-    /// The phase of a cell. Where it is the first of the seat's rest, the way of its wait is known then.
+    /// The phase of a cell. Where it is the first of the seat's rest, the way of its wait is known then; a seat without
+    /// a rest knows the cell from now on, where that is a task that has begun.
     pub(crate) fn plain_phase(&self, seat: &mut WSeat<B>, t: CellId) -> Phase
         requires table { seat.old.table_id ≡ self.now.table.shared.table_id }
         requires cell { t.0 < self.now.cells }
         ensures seat { IsSameSeat seat.old seat.new }
-        ensures view { seat.new.me.0 ≡ loaded_phase t.0 result seat.old.me.0 }
+        ensures view { SeesPhase self.now.cells t.0 result seat.old.me.0 seat.new.me.0 }
         ensures first { FirstTold t.0 result seat.old.me.0 }
         ensures wait { (c : ℕ) → wait_in result ≡ Some c → c < self.now.cells }
         ensures moment { WasSo (program_of B.places B.awaits B.left B.asks B.then) (phase_at t.0)
             (phases.phase_word result) seat.old.me.0 }
+        ensures log { IsLogged (call.sees_phase t.0) 0 0 (phases.phase_word result)
+            seat.old seat.new }
     {
-        Phase::of_word(self.table.shared.load::<PhaseLoad>(seat, phase_at(t)))
+        Phase::of_word(self.table.load::<PhaseLoad>(seat, phase_at(t)))
     }
 
     /// The head of the chain of those who wait for a cell.
@@ -113,8 +124,9 @@ impl<B: Body> Laid<B> {
             self.now.cells p.0 seat.old.me.0 seat.new.me.0 }
         ensures open { result ≢ Head.Shut
             → FindsChain self.now.cells p.0 result seat.old.me.0 seat.new.me.0 }
+        ensures log { IsLogged (call.sees_head p.0) 0 0 (heads.head_word result) seat.old seat.new }
     {
-        Head::of_word(self.table.shared.load::<HeadLoad>(seat, head_at(p)))
+        Head::of_word(self.table.load::<HeadLoad>(seat, head_at(p)))
     }
 
     /// What NEXT of a task names. The view says what was loaded.
@@ -128,8 +140,9 @@ impl<B: Body> Laid<B> {
         ensures first { NextTold t.0 result seat.old.me.0 }
         ensures moment { WasSo (program_of B.places B.awaits B.left B.asks B.then) (next_at t.0)
             (heads.head_word result) seat.old.me.0 }
+        ensures log { IsLogged (call.sees_next t.0) 0 0 (heads.head_word result) seat.old seat.new }
     {
-        Head::of_word(self.table.shared.load::<NextLoad>(seat, next_at(t)))
+        Head::of_word(self.table.load::<NextLoad>(seat, next_at(t)))
     }
 
     /// A word that is written once.
@@ -140,8 +153,9 @@ impl<B: Body> Laid<B> {
         ensures seat { IsSameSeat seat.old seat.new }
         ensures sees { SeesOnce (program_of B.places B.awaits B.left B.asks B.then)
             self.now.cells f c.0 result seat.old.me.0 seat.new.me.0 }
+        ensures log { IsLogged (call.sees_once c.0 f) 0 0 result seat.old seat.new }
     {
         links_lead_to_tasks();
-        self.table.shared.load::<OnceLoad>(seat, once_at(c, f))
+        self.table.load::<OnceLoad>(seat, once_at(c, f))
     }
 }

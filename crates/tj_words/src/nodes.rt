@@ -2,8 +2,10 @@
 //! once.
 ghost use Rattle.std.specs.Prelude.{◌≡◌, ◌+◌};
 ghost use Rattle.tj_tree.specs.Walk.{GoesOn};
+ghost use Rattle.tj_words.specs.CallLaws.StepLogs.{IsLookLogged};
 ghost use Rattle.tj_words.specs.SeatViews.TreeReads.{IsLater, MayLook, TreeShown};
 
+use crate::links::link_cell;
 use crate::offsets::Once;
 use crate::table::{Laid, WSeat};
 use tj_base::CellId;
@@ -21,16 +23,17 @@ impl<B: Body> Laid<B> {
         ensures goes_on { GoesOn (TreeShown seat.old) (MayLook self.now seat.old)
             (TreeShown seat.new) (MayLook self.now seat.new) }
         ensures later { IsLater self.now.cells seat.old seat.new }
+        ensures log { IsLookLogged task.0 result seat.old seat.new }
     {
         let parent = self.see_once(seat, task, Once::Parent);
         let kid = self.see_once(seat, task, Once::Kid);
         let depth = self.see_once(seat, task, Once::Depth);
         let jump = self.see_once(seat, task, Once::Jump);
         Node {
-            parent: NodeId(parent.saturating_sub(1) as u32),
+            parent: NodeId(link_cell(parent).0),
             kid: kid as u32,
             depth: depth as u32,
-            jump: NodeId((jump - 1) as u32),
+            jump: NodeId(link_cell(jump).0),
         }
     }
 }

@@ -1,10 +1,12 @@
 //! Stores of owners, and of the words that are written once.
 ghost use Rattle.std.specs.Prelude.{◌≡◌, ◌<◌};
 ghost use Rattle.tj_body.specs.Programs.{program_of};
+ghost use Rattle.tj_words.specs.CallLaws.StepCalls as call;
+ghost use Rattle.tj_words.specs.CallLaws.StepLogs.{IsLogged};
 ghost use Rattle.tj_words.specs.Calls.EntryViews.{MayPutBits, MayPutOnce, MayPutTag};
 ghost use Rattle.tj_words.specs.Calls.EntryViews.{PutsBits, PutsOnce, PutsTag};
 ghost use Rattle.tj_words.specs.Calls.OwnerViews.{MayPutOwner, PutsOwner};
-ghost use Rattle.tj_words.specs.Words.Owners.{owner_in, owner_number};
+ghost use Rattle.tj_words.specs.Words.Owners.{owner_in, owner_number, owner_word};
 ghost use Rattle.tj_words.specs.SeatViews.SeatSteps.{IsSameSeat};
 
 use crate::offsets::{Once, once_at, own_at};
@@ -24,10 +26,11 @@ impl<B: Body> Laid<B> {
         requires may { MayPutOwner c.0 (owner_number o) seat.old.me.0 }
         ensures seat { IsSameSeat seat.old seat.new }
         ensures view { PutsOwner c.0 (owner_number o) seat.old.me.0 seat.new.me.0 }
+        ensures log { IsLogged (call.puts_owner c.0) (owner_word (owner_number o)) 0
+            (owner_word (owner_number o)) seat.old seat.new }
     {
         event_keeps_facts();
         self.table
-            .shared
             .store::<OwnerPut>(seat, own_at(c), word_of_owner(o));
     }
 
@@ -41,6 +44,7 @@ impl<B: Body> Laid<B> {
         ensures seat { IsSameSeat seat.old seat.new }
         ensures view { PutsOnce (program_of B.places B.awaits B.left B.asks B.then) f c.0 v
             seat.old.me.0 seat.new.me.0 }
+        ensures log { IsLogged (call.puts_once c.0 f) v 0 v seat.old seat.new }
     {
         match f {
             Once::Tag => self.store_tag(seat, c, v),
@@ -57,10 +61,9 @@ impl<B: Body> Laid<B> {
         ensures seat { IsSameSeat seat.old seat.new }
         ensures view { PutsBits (program_of B.places B.awaits B.left B.asks B.then) c.0 v
             seat.old.me.0 seat.new.me.0 }
+        ensures log { IsLogged (call.puts_once c.0 Once.Bits) v 0 v seat.old seat.new }
     {
-        self.table
-            .shared
-            .store::<BitsPut>(seat, once_at(c, Once::Bits), v);
+        self.table.store::<BitsPut>(seat, once_at(c, Once::Bits), v);
     }
 
     fn store_tag(&self, seat: &mut WSeat<B>, c: CellId, v: u64)
@@ -69,9 +72,8 @@ impl<B: Body> Laid<B> {
         requires may { MayPutTag c.0 v seat.old.me.0 }
         ensures seat { IsSameSeat seat.old seat.new }
         ensures view { PutsTag c.0 v seat.old.me.0 seat.new.me.0 }
+        ensures log { IsLogged (call.puts_once c.0 Once.Tag) v 0 v seat.old seat.new }
     {
-        self.table
-            .shared
-            .store::<TagPut>(seat, once_at(c, Once::Tag), v);
+        self.table.store::<TagPut>(seat, once_at(c, Once::Tag), v);
     }
 }

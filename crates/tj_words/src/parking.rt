@@ -14,8 +14,6 @@ impl<B: Body> Laid<B> {
     pub fn park_on_tag<R: Wait>(&self, rt: &R, c: CellId, most: Duration)
         requires cell { c.0 < self.now.cells }
     {
-        self.table
-            .shared
-            .park_timeout(rt, once_at(c, Once::Tag), 0, most);
+        self.table.park_timeout(rt, once_at(c, Once::Tag), 0, most);
     }
 }

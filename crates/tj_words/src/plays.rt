@@ -1,7 +1,7 @@
-//! What each step on the table tells its caller, and how a view is cut in two and two are made one.
-ghost use Rattle.std.specs.Prelude.{ℕ, ◌≤◌};
+//! What the loads that are no event tell their caller, and the steps on HEAD and NEXT.
+ghost use Rattle.std.specs.Prelude.{ℕ};
 ghost use Rattle.tj_words.specs.Calls.ChainSteps.{next_store, push_exchange, shut_swap};
-ghost use Rattle.tj_words.specs.Calls.ParkSteps.{phase_load};
+ghost use Rattle.tj_words.specs.Calls.MetCells.{owner_load, phase_load};
 ghost use Rattle.tj_words.specs.SeatViews.SeenWords.{head_load, next_load, once_load};
 ghost use Rattle.tj_base.specs.declared.cell.Sort.{Sort};
 ghost use Rattle.tj_words.specs.Inner.IndexWords.{once_of};
@@ -49,8 +49,7 @@ pub(crate) struct OwnerLoad;
 impl<B: Body> Play<Option<Rec<B>>, View<B>> for OwnerLoad {
     ghost use Rattle.tj_body.specs.Programs.{program_of};
 
-    ghost then = { at_moment (program_of B.places B.awaits B.left B.asks B.then)
-        (of_its_cell (λ cells c. plain_load (note.Owner c) (λ n. n ≤ cells))) };
+    ghost then = { at_moment (program_of B.places B.awaits B.left B.asks B.then) (of_its_cell owner_load) };
 }
 
 /// A load of PHASE that is no event.

@@ -1,9 +1,11 @@
-//! The record of a task between two of its asks, which goes from worker to worker.
-ghost use Rattle.std.specs.Prelude.{◌≡◌};
+//! The record of a task between two of its asks, which goes from worker to worker as one pointer.
+ghost use Rattle.std.specs.Prelude.{◌≡◌, ◌∷◌, IfOk};
 ghost use Rattle.tj_words.specs.LawParts.StartRecords.{start_record};
+ghost use Rattle.tj_words.specs.LawParts.TaskRecords.{own};
 
 use std::alloc::Global;
-use tj_base::{CellId, CellList, Items, NumList, Sort};
+use std::marker::Model;
+use tj_base::{CellId, Oom, Sort};
 use tj_body::Answer;
 
 /// A value that a cell is filled with.
@@ -42,46 +44,80 @@ pub struct Held {
     pub sort: Sort,
 }
 
-/// The cells that a task holds, in the order of their places.
-pub type HeldList = Items<Held>;
+/// What the record of a task has. The task itself isn't in its lists: most tasks hold and own
+/// nothing else, and then take no memory for them.
+#[derive(Drop)]
+pub(crate) struct Parts<B> {
+    pub(crate) cell: CellId,
+    pub(crate) body: B,
+    /// What the body is to be given. In a task that waits it is the place of the cell.
+    pub(crate) answer: Answer,
+    /// The cells that it holds beside itself, from place 1 on.
+    pub(crate) others: Vec<Held>,
+    /// The promises that it owns, or, where it has ended, those that it still owned then.
+    pub(crate) promises: Vec<CellId>,
+    /// Whether its promises are owed.
+    pub(crate) owes: bool,
+    /// How many tasks and promises it has made.
+    pub(crate) made: u32,
+    pub(crate) prints: Vec<i64>,
+    pub(crate) finish: Option<Finish>,
+    /// Whether a broken cell is answered by `Lost` in the wait.
+    pub(crate) spare: bool,
+}
 
 /// A task between two of its asks.
 #[derive(Drop)]
 pub struct Rec<B> {
-    pub cell: CellId,
-    pub body: B,
-    /// What the body is to be given. In a task that waits it is the place of the cell.
-    pub answer: Answer,
-    pub held: HeldList,
-    /// The cells that it owns, its result among them.
-    pub owned: CellList,
-    /// How many tasks and promises it has made.
-    pub made: u32,
-    pub prints: NumList,
-    /// The promises that it still owned when it ended.
-    pub owed: CellList,
-    pub finish: Option<Finish>,
-    /// Whether a broken cell is answered by `Lost` in the wait.
-    pub spare: bool,
+    pub(crate) parts: Box<Parts<B>>,
 }
 
-impl<B> Rec<B> {
-    /// The record of a task at its start that holds and owns these.
+impl<B> Model for Rec<B> {
+    ghost use Rattle.std.specs.Prelude.{◌∷◌};
+    ghost use Rattle.tj_words.specs.LawParts.TaskRecords.{TaskRecord, own, owned_by, owed_by};
+
+    ghost Value = { TaskRecord B };
+
+    ghost view = { λ rec. record {
+      cell = rec.parts.value.cell;
+      body = rec.parts.value.body;
+      answer = rec.parts.value.answer;
+      held = own rec.parts.value.cell ∷ rec.parts.value.others.items;
+      owned = owned_by rec.parts.value.cell rec.parts.value.promises.items rec.parts.value.owes;
+      made = rec.parts.value.made;
+      prints = rec.parts.value.prints.items;
+      owed = owed_by rec.parts.value.promises.items rec.parts.value.owes;
+      finish = rec.parts.value.finish;
+      spare = rec.parts.value.spare;
+    } };
+}
+
+impl<B: Drop> Rec<B> {
+    /// The record of a task at its start that holds these and owns these promises, beside itself.
     #[inline(always)]
-    pub fn at_start(alloc: Global, cell: CellId, body: B, held: HeldList, owned: CellList) -> Rec<B>
-        ensures { result ≡ start_record cell body held owned }
+    pub fn at_start(
+        alloc: Global,
+        cell: CellId,
+        body: B,
+        others: Vec<Held>,
+        promises: Vec<CellId>,
+    ) -> Result<Rec<B>, Oom>
+        ensures { IfOk result (λ rec. rec
+            ≡ start_record cell body (own cell ∷ others.items) (cell ∷ promises.items)) }
     {
-        Rec {
+        let parts = Parts {
             cell,
             body,
             answer: Answer::Start,
-            held,
-            owned,
+            others,
+            promises,
+            owes: false,
             made: 0,
-            prints: Items::of(Vec::new(alloc)),
-            owed: Items::of(Vec::new(alloc)),
+            prints: Vec::new(alloc),
             finish: None,
             spare: false,
-        }
+        };
+        let parts = Box::new(alloc, parts)?;
+        Ok(Rec { parts })
     }
 }

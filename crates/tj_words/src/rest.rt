@@ -5,8 +5,9 @@ ghost use Rattle.tj_body.specs.Programs.{program_of};
 ghost use Rattle.tj_words.specs.AtRest.RestingSeats.{MayRest};
 ghost use Rattle.tj_words.specs.AtRest.ClosedCells.{AreAlarmsOnCycles, AreAtRest, AreCyclesAlarmed};
 ghost use Rattle.tj_words.specs.AtRest.ClosedCells.{IsPromise, IsShown};
+ghost use Rattle.tj_words.specs.AtRest.EndedRuns.{EndsRun};
 ghost use Rattle.tj_words.specs.AtRest.RestMeaning.{HaveMeaning, AreCyclesOfMeaningAlarmed};
-ghost use Rattle.tj_words.specs.Inner.ShownCells.{AreCellsOf, AreTableWords, cell_of};
+ghost use Rattle.tj_words.specs.AtRest.ShownCells.{AreCellsOf, AreTableWords, cell_of};
 ghost use Rattle.std.specs.Slots.{IsFull, slots_items};
 
 use crate::closed::{Closed, RestCell};
@@ -109,6 +110,10 @@ impl<B: Body> Laid<B> {
         ensures alarms { AreAlarmsOnCycles result.cells }
         ensures meant_cycles { AreCyclesOfMeaningAlarmed (program_of B.places B.awaits B.left B.asks
             B.then self.strict self.root.value) self.cells result.cells }
+
+        // They are the end of a run from the first state, by step calls, splits and merges of idle seats.
+        ensures run { EndsRun (program_of B.places B.awaits B.left B.asks B.then) self.cells
+            self.strict self.root.value seat result.cells result.records }
     {
         rest_is_meaning::<B>();
         meaning_is_last::<B>();

@@ -1,31 +1,9 @@
 //! Seats of a table: one is split off for each worker, and merged again when it is done.
-ghost use Rattle.std.specs.Prelude.{◌≡◌, []};
+ghost use Rattle.std.specs.Prelude.{◌≡◌, [], ◌++◌};
 ghost use Rattle.tj_words.specs.SeatViews.Views.{IsIdle, MaySplit, both, left_half, right_half};
 
-use crate::record::Rec;
 use crate::table::{Laid, WSeat};
-use crate::view::View;
-use atomic_table::{Join, Split};
 use tj_body::Body;
-
-/// How a view is cut in two, and two are made one.
-pub(crate) struct Halves;
-
-impl<B: Body> Split<View<B>> for Halves {
-    ghost use Rattle.tj_words.specs.SeatViews.Views.{left_half, right_half};
-
-    ghost left = { left_half };
-
-    ghost right = { right_half };
-}
-
-impl<B: Body> Join<View<B>> for Halves {
-    ghost use Rattle.tj_words.specs.SeatViews.Views.{both, spent};
-
-    ghost both = { both };
-
-    ghost spent = { spent };
-}
 
 impl<B: Body> Laid<B> {
     /// A seat more, for a worker. It knows what the seat knows.
@@ -36,8 +14,10 @@ impl<B: Body> Laid<B> {
         ensures other_table { result.1.table_id ≡ seat.table_id }
         ensures view { result.0.me ≡ (left_half seat.me.0, seat.me.1) }
         ensures other_view { result.1.me ≡ (right_half seat.me.0, []) }
+        ensures log { (result.0.log ≡ seat.log) × (result.1.log ≡ []) }
+        ensures took { (result.0.took ≡ seat.took) × (result.1.took ≡ []) }
     {
-        let other = self.table.shared.split_seat::<Halves>(&mut seat);
+        let other = self.table.split_seat(&mut seat);
         (seat, other)
     }
 
@@ -51,8 +31,10 @@ impl<B: Body> Laid<B> {
         ensures table { result.table_id ≡ a.table_id }
         ensures view { result.me ≡ (both a.me.0 b.me.0, []) }
         ensures idle { IsIdle result.me.0 }
+        ensures log { result.log ≡ a.log }
+        ensures took { result.took ≡ a.took ++ b.log ++ b.took }
     {
-        self.table.shared.join_seat::<Halves>(&mut a, b);
+        self.table.join_seat(&mut a, b);
         a
     }
 }

@@ -3,21 +3,24 @@ ghost use Rattle.std.specs.Prelude.{◌≡◌, ℕ, ◌+◌, ◌*◌, ◌<◌, �
 ghost use Rattle.tj_base.specs.declared.cell.TheConstants.{MAX_CELLS};
 ghost use Rattle.tj_body.specs.Asks.{IsFresh};
 ghost use Rattle.tj_words.specs.Words.Offsets.{words_for};
+ghost use Rattle.tj_log.specs.Laws as logs;
 ghost use Rattle.tj_words.specs.LawParts.FirstState as first;
 ghost use Rattle.tj_words.specs.LawParts.FirstState.{first_slots, first_words, first_view};
 
 use crate::closed::RestCell;
+use crate::links::link_word;
 use crate::offsets::{CELL_WORDS, COUNT, LIVE, Once, TABLE_WORDS, once_at, own_at, phase_at};
 use crate::owner::word_of_owner;
 use crate::phase::Phase;
-use crate::record::{Held, Rec};
+use crate::record::Rec;
 use crate::view::View;
-use atomic_table::{Seat, Table, TableRule};
+use atomic_table::{Join, Split, TableRule};
 use std::alloc::Global;
 use std::snapshot::Snapshot;
-use tj_base::{CellId, Items, Oom, Sort};
+use tj_base::{CellId, Oom};
 use tj_body::{Body, points_in_rounds};
 use tj_events::start_meets_facts;
+use tj_log::{LogRule, LogSeat, LogTable};
 
 /// What a table is told when it is made: the number of cells, the root's body, and whether the rule
 /// is strict.
@@ -41,13 +44,47 @@ impl<B: Body> TableRule<Option<Rec<B>>, View<B>, Key<B>> for Law {
     ghost first = { λ key. first_view key.cells key.root.value key.strict };
 }
 
+/// How a view is cut in two.
+impl<B: Body> Split<View<B>> for Law {
+    ghost use Rattle.tj_words.specs.SeatViews.Views.{left_half, right_half};
+
+    ghost left = { left_half };
+
+    ghost right = { right_half };
+}
+
+/// How two views are made one.
+impl<B: Body> Join<View<B>> for Law {
+    ghost use Rattle.tj_words.specs.SeatViews.Views.{both, spent};
+
+    ghost both = { both };
+
+    ghost spent = { spent };
+}
+
+/// What stands at first, and what each step tells.
+impl<B: Body> LogRule<Option<Rec<B>>, View<B>, Key<B>> for Law {
+    ghost use Rattle.std.specs.Prelude.{◌≡◌};
+    ghost use Rattle.tj_body.specs.Programs.{program_of};
+    ghost use Rattle.tj_words.specs.CallLaws.StepLogs.{IsTold};
+    ghost use Rattle.tj_words.specs.LawParts.FirstState.{first_slots, first_words};
+    ghost use Rattle.tj_words.specs.SeatViews.Views.{IsIdle};
+
+    ghost opens = { λ key ws xs. (ws ≡ first_words key.cells)
+        × (xs ≡ first_slots key.cells key.root.value) };
+
+    ghost may_join = { λ v w. IsIdle w };
+
+    ghost tells = { IsTold (program_of B.places B.awaits B.left B.asks B.then) };
+}
+
 /// A seat of a table, seen as its view and the slots that it has.
-pub type WSeat<B> = Seat<Option<Rec<B>>, View<B>>;
+pub type WSeat<B> = LogSeat<Option<Rec<B>>, View<B>>;
 
 /// A table of words and records.
 #[derive(Drop)]
 pub struct Laid<B: Body> {
-    pub(crate) table: Table<Option<Rec<B>>, View<B>, Key<B>, Law, Global>,
+    pub(crate) table: LogTable<Option<Rec<B>>, View<B>, Key<B>, Law, Global>,
     pub(crate) cells: u32,
     pub(crate) strict: bool,
     pub(crate) root: Snapshot<B>,
@@ -75,6 +112,9 @@ impl<B: Body> Laid<B> {
         ensures root { IfOk result (λ made. made.0.root.value ≡ root) }
         ensures table { IfOk result (λ made. made.1.table_id ≡ made.0.table.shared.table_id) }
         ensures view { IfOk result (λ made. made.1.me ≡ (first_view cells root strict, [])) }
+
+        // No step was made: so by the law of logs the words and the slots are the first ones.
+        ensures fresh { IfOk result (λ made. logs.IsFresh made.1) }
     {
         start_meets_facts();
         points_in_rounds::<B>();
@@ -87,7 +127,7 @@ impl<B: Body> Laid<B> {
         };
         let about = Snapshot::of(&root);
         let slots = slots_at_first(alloc, cells, root)?;
-        match Table::new(alloc, words.as_slice(), slots, &key) {
+        match LogTable::new(alloc, words.as_slice(), slots, &key) {
             Ok((table, seat)) => Ok((
                 Laid {
                     table,
@@ -126,7 +166,7 @@ fn words_at_first(alloc: Global, cells: u32) -> Result<Vec<u64>, Oom>
     row[LIVE] = 1;
     row[own_at(root)] = word_of_owner(Some(root));
     row[phase_at(root)] = Phase::Ready.word();
-    row[once_at(root, Once::Jump)] = 1;
+    row[once_at(root, Once::Jump)] = link_word(root);
     Ok(words)
 }
 
@@ -147,13 +187,5 @@ fn slots_at_first<B: Body>(alloc: Global, cells: u32, root: B) -> Result<Vec<Opt
 fn root_record<B: Body>(alloc: Global, root: B) -> Result<Rec<B>, Oom>
     ensures { IfOk result (λ made. made ≡ first.root_record root) }
 {
-    let cell = CellId(0);
-    let mut held = Items::of(Vec::new(alloc));
-    held.push(Held {
-        cell,
-        sort: Sort::Task,
-    })?;
-    let mut owned = Items::of(Vec::new(alloc));
-    owned.push(cell)?;
-    Ok(Rec::at_start(alloc, cell, root, held, owned))
+    Rec::at_start(alloc, CellId(0), root, Vec::new(alloc), Vec::new(alloc))
 }

@@ -4,18 +4,21 @@ ghost use Rattle.tj_body.specs.Programs.{program_of};
 ghost use Rattle.tj_events.specs.CoreState.{present};
 ghost use Rattle.tj_events.specs.Events.{MayCount, MayReadOthers};
 ghost use Rattle.tj_events.specs.Events.{count_read, others_read, wait_found};
+ghost use Rattle.tj_words.specs.CallLaws.StepCalls as call;
+ghost use Rattle.tj_words.specs.CallLaws.StepLogs.{IsLogged};
 ghost use Rattle.tj_words.specs.SeatViews.Moments.{WasSo};
 ghost use Rattle.tj_words.specs.Words.Offsets.{count_at, others_at, own_at, phase_at};
 ghost use Rattle.tj_words.specs.Words.Codes as codes;
 ghost use Rattle.tj_words.specs.Words.Owners.{owner_in, owner_number, owner_word};
-ghost use Rattle.tj_words.specs.Calls.ParkSteps.{FirstTold, loaded_phase};
+ghost use Rattle.tj_words.specs.Calls.MetCells.{LoadsOwner, LoadsPhase};
+ghost use Rattle.tj_words.specs.Calls.ParkSteps.{FirstTold};
 ghost use Rattle.tj_words.specs.Words.Phases.{phase_in, phase_word};
 ghost use Rattle.tj_words.specs.SeatViews.SeatSteps as steps;
 ghost use Rattle.tj_words.specs.SeatViews.SeatSteps.{IsSameSeat};
 ghost use Rattle.tj_words.specs.Steps.StepEvents.{wait_in};
 ghost use Rattle.tj_words.specs.SeatViews.Views.{loaded_plain};
 ghost use Rattle.tj_words.specs.Calls.WalkViews.{IsWalking, MayLoadBy, MayLoadOwner, MayLoadWait};
-ghost use Rattle.tj_words.specs.Calls.WalkViews.{MayRaise, ReadsCount, loaded_by, lowered};
+ghost use Rattle.tj_words.specs.Calls.WalkViews.{MayRaise, ReadsCount, lowered};
 ghost use Rattle.tj_words.specs.Calls.WalkViews.{owner_seen, read_on};
 ghost use Rattle.tj_words.specs.Calls.WalkViews.{turned};
 
@@ -46,6 +49,8 @@ impl<B: Body> Laid<B> {
             × WasSo (program_of B.places B.awaits B.left B.asks B.then) count_at n seat.old.me.0 }
         ensures some { 0 < result }
         ensures few { result ≤ self.now.cells }
+        ensures log { (n : ℕ) × (result ≡ min n self.now.cells)
+            × IsLogged call.counts 0 0 n seat.old seat.new }
     {
         match by {
             None => self.plain_count(seat),
@@ -66,26 +71,27 @@ impl<B: Body> Laid<B> {
         ensures some { steps.IsCount self.now.cells result }
         ensures moment { WasSo (program_of B.places B.awaits B.left B.asks B.then) count_at result
             seat.old.me.0 }
+        ensures log { IsLogged (call.counts_by t.0) 0 0 result seat.old seat.new }
     {
         event_keeps_facts();
         let _ = t;
-        self.table.shared.load::<WalkerCount<M>>(seat, COUNT)
+        self.table.load::<WalkerCount<M>>(seat, COUNT)
     }
 
-    /// The owner of a cell. A walker reads that of its present cell, and then again; where nobody walks, the view says
-    /// what was loaded.
+    /// The owner of a cell. A walker reads that of its present cell, and then again. Where nobody walks, the view says
+    /// what was loaded; and where there is an owner, the seat knows both from now on.
     pub fn see_owner(&self, seat: &mut WSeat<B>, c: CellId, by: Option<CellId>) -> Option<CellId>
         requires table { seat.old.table_id ≡ self.now.table.shared.table_id }
         requires cell { c.0 < self.now.cells }
         requires walks { MayLoadBy by (λ t p way w. (c.0 ≡ present p w.trail) × MayLoadOwner w)
             seat.old.me.0 }
         ensures seat { IsSameSeat seat.old seat.new }
-        ensures view { seat.new.me.0
-            ≡ loaded_by by (loaded_plain (Noted.Owner c.0) (owner_word (owner_number result)))
-            (λ w. owner_seen (owner_number result) w w.last) seat.old.me.0 }
+        ensures view { LoadsOwner by self.now.cells c.0 result seat.old.me.0 seat.new.me.0 }
         ensures task { (u : CellId) → result ≡ Some u → u.0 < self.now.cells }
         ensures moment { WasSo (program_of B.places B.awaits B.left B.asks B.then) (own_at c.0)
             (owner_word (owner_number result)) seat.old.me.0 }
+        ensures log { IsLogged (call.sees_owner c.0) 0 0 (owner_word (owner_number result))
+            seat.old seat.new }
     {
         match by {
             None => self.plain_owner(seat, c),
@@ -105,26 +111,27 @@ impl<B: Body> Laid<B> {
         ensures owner { result ≤ self.now.cells }
         ensures moment { WasSo (program_of B.places B.awaits B.left B.asks B.then) (own_at c.0)
             result seat.old.me.0 }
+        ensures log { IsLogged (call.sees_owner_by t.0 c.0) 0 0 result seat.old seat.new }
     {
         event_keeps_facts();
         let _ = t;
-        self.table.shared.load::<WalkerOwner<M>>(seat, own_at(c))
+        self.table.load::<WalkerOwner<M>>(seat, own_at(c))
     }
 
     /// The phase of a cell. Where nobody walks, the view says what was loaded; and where the cell is the first of the
-    /// seat's rest, the way of its wait is known then.
+    /// seat's rest, the way of its wait is known then. A seat without a rest knows the cell from now on, where that is
+    /// a task that has begun.
     pub fn see_phase(&self, seat: &mut WSeat<B>, t: CellId, by: Option<CellId>) -> Phase
         requires table { seat.old.table_id ≡ self.now.table.shared.table_id }
         requires cell { t.0 < self.now.cells }
         requires walks { MayLoadBy by (λ walker p way w. MayLoadWait walker t.0 w) seat.old.me.0 }
         ensures seat { IsSameSeat seat.old seat.new }
-        ensures view { seat.new.me.0
-            ≡ loaded_by by (loaded_phase t.0 result) (wait_found t.0 (wait_in result))
-            seat.old.me.0 }
+        ensures view { LoadsPhase by self.now.cells t.0 result seat.old.me.0 seat.new.me.0 }
         ensures first { by ≡ None → FirstTold t.0 result seat.old.me.0 }
         ensures wait { (c : ℕ) → wait_in result ≡ Some c → c < self.now.cells }
         ensures moment { WasSo (program_of B.places B.awaits B.left B.asks B.then) (phase_at t.0)
             (phase_word result) seat.old.me.0 }
+        ensures log { IsLogged (call.sees_phase t.0) 0 0 (phase_word result) seat.old seat.new }
     {
         match by {
             None => self.plain_phase(seat, t),
@@ -143,10 +150,11 @@ impl<B: Body> Laid<B> {
         ensures phase { codes.IsPhaseWord self.now.cells result }
         ensures moment { WasSo (program_of B.places B.awaits B.left B.asks B.then) (phase_at u.0)
             result seat.old.me.0 }
+        ensures log { IsLogged (call.sees_phase_by t.0 u.0) 0 0 result seat.old seat.new }
     {
         event_keeps_facts();
         let _ = t;
-        self.table.shared.load::<WalkerWait<M>>(seat, phase_at(u))
+        self.table.load::<WalkerWait<M>>(seat, phase_at(u))
     }
 
     /// OTHERS, at least the number of the other waits that are published.
@@ -157,6 +165,7 @@ impl<B: Body> Laid<B> {
         ensures view { seat.new.me.0 ≡ read_on by.0 (others_read result) seat.old.me.0 }
         ensures moment { WasSo (program_of B.places B.awaits B.left B.asks B.then) others_at result
             seat.old.me.0 }
+        ensures log { IsLogged (call.sees_others_by by.0) 0 0 result seat.old seat.new }
     {
         self.walker_others::<Brand>(seat, by) as u32
     }
@@ -170,11 +179,12 @@ impl<B: Body> Laid<B> {
         ensures few { result < 2 ^ 32 }
         ensures moment { WasSo (program_of B.places B.awaits B.left B.asks B.then) others_at result
             seat.old.me.0 }
+        ensures log { IsLogged (call.sees_others_by t.0) 0 0 result seat.old seat.new }
     {
         event_keeps_facts();
         others_are_few();
         let _ = t;
-        self.table.shared.load::<WalkerOthers<M>>(seat, OTHERS)
+        self.table.load::<WalkerOthers<M>>(seat, OTHERS)
     }
 
     /// Raises OTHERS for a wait that comes next.
@@ -183,6 +193,7 @@ impl<B: Body> Laid<B> {
         requires runs { MayRaise t.0 seat.old.me.0 }
         ensures seat { IsSameSeat seat.old seat.new }
         ensures view { seat.new.me.0 ≡ turned t.0 (λ _. Does.Raised) seat.old.me.0 }
+        ensures log { (n : ℕ) × IsLogged (call.raises_others t.0) 1 0 n seat.old seat.new }
     {
         self.add_other::<Brand>(seat, t);
     }
@@ -193,11 +204,12 @@ impl<B: Body> Laid<B> {
         requires runs { MayRaise t.0 seat.old.me.0 }
         ensures seat { IsSameSeat seat.old seat.new }
         ensures view { seat.new.me.0 ≡ turned t.0 (λ _. Does.Raised) seat.old.me.0 }
+        ensures log { (n : ℕ) × IsLogged (call.raises_others t.0) 1 0 n seat.old seat.new }
     {
         event_keeps_facts();
         others_are_few();
         let _ = t;
-        self.table.shared.fetch_add::<OthersAdd<M>>(seat, OTHERS, 1);
+        self.table.fetch_add::<OthersAdd<M>>(seat, OTHERS, 1);
     }
 
     /// Lowers OTHERS for a wait that the seat has cleared.
@@ -206,11 +218,10 @@ impl<B: Body> Laid<B> {
         requires cleared { 0 < seat.old.me.0.cleared }
         ensures seat { IsSameSeat seat.old seat.new }
         ensures view { seat.new.me.0 ≡ lowered seat.old.me.0 }
+        ensures log { (n : ℕ) × IsLogged call.lowers_others 1 0 n seat.old seat.new }
     {
         event_keeps_facts();
         others_are_few();
-        self.table
-            .shared
-            .fetch_sub::<OthersSubtraction>(seat, OTHERS, 1);
+        self.table.fetch_sub::<OthersSubtraction>(seat, OTHERS, 1);
     }
 }

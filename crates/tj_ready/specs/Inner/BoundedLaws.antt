@@ -6,7 +6,7 @@ use lib.ListN.{get_elem?}
 use lib.Seq.{take-append_seam, drop-append_seam}
 use Rattle.std.proofs.lemmas.List.Elements.{All-append, All-take, All-drop, All-set, All-cons, All-nil}
 use Rattle.tj_base.specs.declared.cell.CellId.{CellId}
-use Rattle.crossbeam_deque.specs.Tasks.{Pushes, Takes, Forks}
+use Rattle.crossbeam_deque.specs.Tasks.{Pushes, Takes, Pops, Forks}
 use Rattle.tj_ready.specs.Rules.{IsPoolRule}
 use Rattle.tj_ready.specs.Queues.{IsBelow, IsLimited, IsBounded}
 
@@ -97,6 +97,10 @@ not_empty : (xs ys : List CellId) → 0 < length xs → xs ++ ys ≡ [] → ⊥
 not_empty [] ys long none = absurd (omega arith)
 not_empty (x ∷ xs) ys long none = let e = ap length none in absurd (omega arith)
 
+not_empty_behind : (xs : List CellId) (x : CellId) → xs ++ x ∷ [] ≡ [] → ⊥
+not_empty_behind [] x none = let e = ap length none in absurd (omega arith)
+not_empty_behind (y ∷ xs) x none = let e = ap length none in absurd (omega arith)
+
 takes_front : (port v : ℕ) → Takes IsBounded port v 1 (λ ts w. (w ≡ v) × All (IsBelow v) ts)
 takes_front port v xs items views long few (inl u) at = absurd (not_empty xs items long u.none)
 takes_front port v xs items views long few (inr h) at =
@@ -111,8 +115,22 @@ takes_front port v xs items views long few (inr h) at =
       (refl, subst (λ n. All (IsBelow n) xs) (sym is) (taken (IsBelow h.limit) xs items h.below)),
     )
 
+takes_back : (port v : ℕ) → Pops IsBounded port v (λ ts w. (w ≡ v) × All (IsBelow v) ts)
+takes_back port v x items views (inl u) at = absurd (not_empty_behind items x u.none)
+takes_back port v x items views (inr h) at =
+    let is = same_limit (items ++ x ∷ []) views port v h at in (
+      v,
+      inr record {
+        limit = h.limit;
+        positive = h.positive;
+        below = taken (IsBelow h.limit) items (x ∷ []) h.below;
+        known = All-set (λ u. u ≡ h.limit) views port v is h.known;
+      },
+      (refl, subst (λ n. All (IsBelow n) (x ∷ [])) (sym is) (left (IsBelow h.limit) items (x ∷ []) h.below)),
+    )
+
 pub kept : IsPoolRule IsBounded 0 (λ n. n) (λ n. n) (λ v. v) (λ v ts w. w ≡ v) (λ v ts w. (w ≡ v) × All (IsBelow v) ts)
-    (λ _. ⊤)
+    (λ _. ⊤) (λ _. ⊤)
 kept = record {
   begins = inl record { none = refl; alone = refl };
   starts = starts;
@@ -122,7 +140,9 @@ kept = record {
   puts_back = puts_back;
   put_limit = λ v w t is. is;
   takes_front = takes_front;
+  takes_back = takes_back;
   taken_limit = λ v w t is. is.0;
   taken_below = λ v w t is. is.1 0 t (omega arith);
   finds_none = λ port v views h at. tt;
+  finds_few = λ port v items views small h at. tt;
 }

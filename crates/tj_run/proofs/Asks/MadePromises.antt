@@ -127,26 +127,21 @@ module _ {B : Type 0} (program : Bool → B → Program B) (laid : Laid B) (r : 
       goes_on = running_then;
     }
 
-  -- and so the task goes on with a record that says this
-  pub promise_made : (c : CellId) (s : SeatMe B) (m : IsMade sort.Promise laid.cells r.cell.0 c.0 me.0 s.0)
-      (slots : s.1 ≡ me.1)
-      (held : List Held)
-      (now_held : held ≡ r.held ++ record { cell = c; sort = sort.Promise } ∷ [])
-      (owned : List CellId)
-      (now_owned : owned ≡ r.owned ++ c ∷ [])
-      (place : ℕ)
-      (now_place : place ≡ length r.held)
-      → Goes program laid next.Runs
-      (record r { held = held; owned = owned; made = r.made + 1; answer = answer.Local place }) me.0 s
-  promise_made c s m slots held now_held owned now_owned place now_place =
-      subst (λ (z : SeatMe B). Goes program laid next.Runs
-      (record r { held = held; owned = owned; made = r.made + 1; answer = answer.Local place }) me.0 z)
-      (λ i. (s.0, sym slots i))
-      (subst (λ (z : Rec B). Goes program laid next.Runs z me.0 (s.0, me.1))
-      (λ i. record r {
-        held = sym now_held i;
-        owned = sym now_owned i;
-        made = r.made + 1;
-        answer = answer.Local (sym now_place i);
-      })
-      (promise_goes c s.0 m))
+  -- the record notes it step by step
+  pub promise_made : (t c : CellId) (s : SeatMe B) → t ≡ r.cell
+      → IsMade sort.Promise laid.cells t.0 c.0 me.0 s.0 → s.1 ≡ me.1
+      → (held owned made noted : Rec B) (place : ℕ) → place ≡ length r.held
+      → held ≡ record r { held = r.held ++ record { cell = c; sort = sort.Promise } ∷ [] }
+      → owned ≡ record held { owned = held.owned ++ c ∷ [] }
+      → made ≡ record owned { made = owned.made + 1 }
+      → noted ≡ record made { answer = answer.Local place }
+      → Goes program laid next.Runs noted me.0 s
+  promise_made t c s its is_made slots held owned made noted place place_is held_is owned_is made_is noted_is =
+      subst (λ (z : Rec B). Goes program laid next.Runs z me.0 s)
+      (sym (noted_is
+      ∙ (ap (λ (z : Rec B). record z { answer = answer.Local place }) made_is
+      ∙ (ap (λ (z : Rec B). record z { made = z.made + 1; answer = answer.Local place }) owned_is
+      ∙ (ap (λ (z : Rec B). record z { owned = z.owned ++ c ∷ []; made = z.made + 1; answer = answer.Local place })
+      held_is ∙ ap (λ k. record (with_promise c r) { answer = answer.Local k }) place_is)))))
+      (subst (λ (z : SeatMe B). Goes program laid next.Runs (with_promise c r) me.0 z) (λ i. (s.0, sym slots i))
+      (promise_goes c s.0 (subst (λ (z : CellId). IsMade sort.Promise laid.cells z.0 c.0 me.0 s.0) its is_made)))

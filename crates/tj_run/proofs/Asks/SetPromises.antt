@@ -356,6 +356,10 @@ module _ {B : Type 0} {program : Bool → B → Program B} {laid : Laid B} {r : 
     its_sort : (held_at r.held k).sort ≡ sort.Promise
     its_sort = ap (λ (z : Held). z.sort) (sym is) ∙ promise
 
+    pub sets_other : h.cell.0 ≢ r.cell.0
+    sets_other = subst (λ (z : Held). z.cell.0 ≢ r.cell.0) (sym is)
+        (set_other program laid r k y me runs asked law its_sort)
+
     pub sets_unowned : (owned : List CellId) → owned ≡ r.owned → has_cell h.cell.0 (numbers r.owned) ≡ false
         → Goes program laid (next.Ends (finish.Failed (hurt.Owner h.cell))) (record r { owned = owned }) me.0 me
     sets_unowned owned same none =

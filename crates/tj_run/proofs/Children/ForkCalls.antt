@@ -6,11 +6,14 @@ use Rattle.tj_run.proofs.Prelude.{NamesTellCells}
 use Rattle.tj_run.proofs.Prelude.{Next, Ok, PointsAsk, Program, Rec, RunsTask, SeatMe, TasksStart, ThingsInRounds, View}
 use Rattle.tj_run.proofs.Prelude.{Why, ap, child_record, gave_each, hand_cells, held_at, inside, more_itself, numbered}
 use Rattle.tj_run.proofs.Prelude.{numbers, released_child, rest, sym, table_program, to_task, with_child, ℕ, ◌∷◌, ◌≡◌}
-use Rattle.std.proofs.Common.{◌+◌, ◌<◌, List, map, length, None, Result, IfErr, IfOk, OnOk, ◌∙◌, subst, arith}
+use Rattle.std.proofs.Common.{◌+◌, ◌<◌, List, drop, map, length, None, Result, IfErr, IfOk, OnOk, ◌∙◌, subst, arith}
 use Rattle.std.specs.Result.{IsErrAnd}
 use Rattle.tj_words.specs.Calls.LiveViews.{SlotsOf}
 use Rattle.tj_run.proofs.Asks.NewThings.{lacks_memory, lacks_noted}
-use Rattle.tj_run.proofs.Children.ForkedChildren.{fork_about, fork_notes, fork_fails, fork_goes, knows_parent}
+use Rattle.tj_run.proofs.Cells.NamedLists.{behind}
+use Rattle.tj_body.specs.NameLaws.{Unhanded}
+use Rattle.tj_run.proofs.Children.ForkedChildren.{all_behind, fork_about, fork_notes, fork_fails, fork_goes}
+use Rattle.tj_run.proofs.Children.ForkedChildren.{knows_parent}
 use Rattle.tj_run.proofs.Children.ForkedChildren.{may_birth, may_hand_each, may_release, promise_cells}
 use Rattle.tj_base.specs.declared.cell.Sort.TheVariants as sort
 use Rattle.tj_body.specs.declared.ask.Ask.TheVariants as ask
@@ -52,6 +55,18 @@ pub if_err : {A E : Type 0} (P : E → Type 0) (res : Result A E) → IsErrAnd r
 if_err P (Ok a) is = tt
 if_err P (Err e) is = is
 
+-- what is kept of the promises of task t, with its result
+abbrev pub whole : CellId → Result (List CellId) Hurt → Result (List CellId) Hurt
+whole t (Ok left) = Ok (t ∷ left)
+whole t (Err h) = Err h
+
+kept_behind : (t : CellId) (y : Result (List CellId) Hurt) (z : Result (List ℕ) Unhanded) → AreKept y z
+    → AreKept (whole t y) (behind t.0 z)
+kept_behind t (Ok left) (Ok cells) h = ap (λ l. t.0 ∷ l) h
+kept_behind t (Err e) (Err why) h = h
+kept_behind t (Ok left) (Err why) h = absurd h
+kept_behind t (Err e) (Ok cells) h = absurd h
+
 -- what a fork of this body stands on, which is passed and handed these places: the task runs and has asked it, and the
 -- laws of rounds and of names
 pub record Forking {B : Type 0} (program : Bool → B → Program B) (laid : Laid B) (r : Rec B) (b : B)
@@ -73,6 +88,14 @@ module _ {B : Type 0} {program : Bool → B → Program B} {laid : Laid B} {r : 
   pub parent_cell : r.cell.0 < laid.cells
   parent_cell = let l = inside me.0.born r.cell.0 (to_task f.asked.point.name) f.asked.tells.of in
       let few = f.runs.worker.cells.few in omega arith
+
+  -- what the task keeps of its promises, it keeps with its result
+  pub forks_kept : (y : Result (List CellId) Hurt)
+      → AreKept y (hand_cells (numbers (drop 1 r.owned)) (map numbered given))
+      → AreKept (whole r.cell y) (hand_cells (numbers r.owned) (map numbered given))
+  forks_kept y h = subst (AreKept (whole r.cell y))
+      (sym (all_behind program laid r b pass handed me f.runs f.asked f.law f.tell))
+      (kept_behind r.cell y (hand_cells (numbers (drop 1 r.owned)) (map numbered given)) h)
 
   -- a fork that isn't allowed
   pub forks_fail : (h : Hurt) → AreKept (Err h) (hand_cells (numbers r.owned) (map numbered given))

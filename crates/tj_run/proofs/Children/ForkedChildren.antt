@@ -94,7 +94,7 @@ module _ {B : Type 0} (program : Bool → B → Program B) (laid : Laid B) (r : 
       (map (λ k. (reference p k).name) handed) (named_kept nm (hand_cells others (map numbered given))) p
   fork_is = ap (λ o. after_try_fork b (map (reference p) pass) (map (λ k. (reference p k).name) handed) o p) handed_is
 
-  all_behind : hand_cells (numbers r.owned) (map numbered given)
+  pub all_behind : hand_cells (numbers r.owned) (map numbered given)
       ≡ behind r.cell.0 (hand_cells others (map numbered given))
   all_behind = ap (λ l. hand_cells l (map numbered given)) (owned_is P laid.cells me.0 runs.worker.cells r x asked)
       ∙ hand_behind r.cell.0 others (map numbered given) (λ h i e. let w = in_map numbered h given i in

@@ -1,11 +1,16 @@
 -- What stands after a run, by what closes its table; and that a run which was stopped as full has a full meaning.
 use Rattle.tj_run.proofs.Prelude.{Bool, HasStopped, Laid, Leaves, Left, Program, SeatMe, Why, [], ap, first_view}
-use Rattle.tj_run.proofs.Prelude.{length, subst, ℕ, ◌∙◌, ◌≡◌, ◌≤◌}
+use Rattle.tj_run.proofs.Prelude.{Option, length, subst, ℕ, ◌∙◌, ◌≡◌, ◌≤◌}
 use Rattle.tj_body.specs.Rounds.{IsFull}
+use Rattle.tj_log.specs.Shown.{SeatShown}
 use Rattle.tj_words.specs.AtRest.ClosedCells.{AreAtRest, AreCyclesAlarmed, AreAlarmsOnCycles}
+use Rattle.tj_words.specs.AtRest.EndedRuns.{EndsRun}
 use Rattle.tj_words.specs.AtRest.RestMeaning.{HaveMeaning, AreCyclesOfMeaningAlarmed}
 use Rattle.tj_words.specs.AtRest.RestShown.{RestShown}
-use Rattle.tj_run.specs.Runs.{RestsAt}
+use Rattle.tj_words.specs.AtRest.ShownCells.{AreCellsOf}
+use Rattle.tj_words.specs.declared.record.Rec.{Rec}
+use Rattle.tj_words.specs.declared.view.View.{View}
+use Rattle.tj_run.specs.Runs.{EndsItsRun, RestsAt}
 use Rattle.tj_run.specs.declared.why.Left.TheVariants as left
 use Rattle.tj_run.specs.declared.why.Why.TheVariants as why
 
@@ -37,6 +42,24 @@ module _ {B : Type 0} (program : Bool → B → Program B) (root : B) (cells : �
     alarms = alarms;
     meant_cycles = of_run (λ n p. AreCyclesOfMeaningAlarmed p n r.cells) meant;
   }
+
+  pub ends_its_run : (seat : SeatShown (Option (Rec B)) (View B)) (r : RestShown B)
+      → EndsRun program laid.cells laid.strict laid.root.value seat r.cells r.records
+      → EndsItsRun program root cells strict r
+  ends_its_run seat r e = (
+    seat,
+    record {
+      key = e.key;
+      key_cells = e.key_cells ∙ of_cells;
+      key_strict = e.key_strict ∙ of_strict;
+      key_root = e.key_root ∙ of_root;
+      last = e.last;
+      run = e.run;
+      seat_is = e.seat_is;
+      shown = subst (λ n. AreCellsOf e.last.words n r.cells) of_cells e.shown;
+      home = e.home;
+    },
+  )
 
 -- what a stop as full tells of a run that begins with the first seat
 pub full_told : {B : Type 0} (program : Bool → B → Program B) (root : B) (cells : ℕ) (strict : Bool) (how : Left)

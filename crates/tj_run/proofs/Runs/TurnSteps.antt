@@ -6,11 +6,12 @@ use Rattle.tj_run.proofs.Prelude.{View, Why, [], about_table, ap, custody_of, ho
 use Rattle.tj_run.proofs.Prelude.{refl, saw_rest, subst, sym, table_program, tail_on, ℕ, ◌∙◌, ◌∷◌, ◌≡◌, ◌≢◌}
 use Rattle.tj_words.specs.declared.phase.Phase.{Phase}
 use Rattle.tj_words.specs.Calls.ExchangeViews.{missed}
+use Rattle.tj_words.specs.SeatViews.FullMeaning.{NamesFull}
 use Rattle.tj_words.specs.SeatViews.Moments.{WasSo}
 use Rattle.tj_words.specs.Words.Offsets.{live_at, stop_at}
 use Rattle.tj_words.specs.Words.Phases.{phase_word}
 use Rattle.tj_words.specs.SeatViews.Views.{saw_live, saw_stop}
-use Rattle.tj_run.specs.Leaving.{Found, FoundRest, FoundStop, stop_word}
+use Rattle.tj_run.specs.Leaving.{Found, FoundRest, FoundStop, IsTold, stop_word}
 use Rattle.tj_run.proofs.Seats.FreeSeats.{free_noted, rested_since, workers_same}
 use Rattle.tj_run.proofs.Waiting.WaitConditions.{taken_runs}
 use Rattle.tj_run.proofs.Seats.WorkersSteps.{left_on, workers_on}
@@ -72,6 +73,18 @@ module _ {B : Type 0} where
         → TurnsTo program laid how u me
     turns_since laid u v None k me h = left_on laid u v k me h
     turns_since laid u v (Some how) k me h = leaves_since u v how k me h
+
+    -- the load of STOP left what it said
+    pub stop_left : (cause : Why) (n : ℕ) (v w : View B) → n ≡ stop_word cause → w ≡ saw_stop n v
+        → (n ≡ 1 → NamesFull program v) → HasStopped program cause v w
+    stop_left cause n v w is loaded full = record {
+      stop = ap (λ (u : View B). u.stop) loaded ∙ is;
+      told = by cause is;
+    }
+      where
+        by : (z : Why) → n ≡ stop_word z → IsTold program z v
+        by why.Full e = full e
+        by why.Memory e = tt
 
     -- the load of STOP said why
     pub stop_found : (cause : Why) (n : ℕ) (v w : View B) → n ≡ stop_word cause → WasSo program stop_at n v

@@ -18,6 +18,10 @@ fill_names sort.Task c d i = ⊎_elim (λ e. e) (λ n. absurd n) i
 fill_names sort.Promise c d i = ⊎_elim (λ e. e) (λ n. absurd n) i
 
 module _ {B : Type 0} where
+  -- a running task owns its result
+  pub owns_some : (laid : Laid B) (r : Rec B) (me : SeatMe B) → RunsTask laid r me → r.owned ≡ [] → ⊥
+  owns_some laid r me h e = subst (IsIn r.cell.0) (sym h.has.owned ∙ ap numbers e) h.result
+
   -- the held cell at a place is one of those held
   pub held_here : (r : Rec B) (k : ℕ) → k < length r.held
       → IsIn (held_at r.held k).cell.0 (map (λ (q : Held). q.cell.0) r.held)

@@ -10,7 +10,7 @@ use denote.Struct.Tuple.{type_at}
 use mir.Syntax.{Dict, Sym, given}
 use Rattle.std.proofs.Crossing.{crosses, frees, sync}
 use Rattle.tj_body.specs.declared.body.Body.{Ghosts}
-use Rattle.atomic_table.proofs.owned.Table.TheSendSync as table_sends
+use Rattle.tj_log.proofs.table.LogTable.TheSendSync as table_sends
 use Rattle.std.proofs.option.Option.TheSendSync as option_sends
 use Rattle.std.specs.contracts.alloc.Global as heap
 use Rattle.std.specs.contracts.impls.GlobalAllocator.TheImpl as heap_allocates
@@ -20,6 +20,9 @@ use Rattle.tj_words.specs.contracts.record.Rec as record_row
 use Rattle.tj_words.specs.contracts.table.Key as key
 use Rattle.tj_words.specs.contracts.table.Laid as laid
 use Rattle.tj_words.specs.contracts.table.Law as law
+use Rattle.tj_words.specs.contracts.table.LawJoinView.TheImpl as law_joins
+use Rattle.tj_words.specs.contracts.table.LawLogRuleOptionRecViewKey.TheImpl as law_logs
+use Rattle.tj_words.specs.contracts.table.LawSplitView.TheImpl as law_splits
 use Rattle.tj_words.specs.contracts.table.LawTableRuleOptionRecViewKey.TheImpl as law_rules
 use Rattle.tj_words.specs.contracts.view.View as view
 
@@ -39,8 +42,10 @@ slot_send B s = option_sends.the_send (record_row.the_row B) (record_sends.the_s
 
 pub laid_sync : (B : RattleType) (g : Ghosts B.Denot) → IsSend B → IsSync (laid.the_row B g)
 laid_sync B g s = recorded_sync _ _ _ (laid.the_type B g).to_one (struct_sync (shape (laid.the_type B g)) (
-  table_sends.the_field_sync (option.the_row (record_row.the_row B)) (view.the_row B) (key.the_row B) law.the_row
-      heap.the_row (law_rules.ghosts B g no_calls no_calls) heap_allocates.ghosts (slot_send B s) send sync frees,
+  table_sends.the_sync (option.the_row (record_row.the_row B)) (view.the_row B) (key.the_row B) law.the_row
+      heap.the_row (law_logs.ghosts B g no_calls no_calls) (law_rules.ghosts B g no_calls no_calls)
+      (law_splits.ghosts B g no_calls no_calls) (law_joins.ghosts B g no_calls no_calls) heap_allocates.ghosts
+      (slot_send B s) send sync frees,
   (
     search sendable depth 10,
     (

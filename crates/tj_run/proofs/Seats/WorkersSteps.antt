@@ -117,6 +117,17 @@ pub left_on : {B : Type 0} (laid : Laid B) (u v : View B) → KnowsMore u v → 
     → IsLeft laid u m
 left_on laid u v k m h = record { knows = more_on u v m.0 k h.knows; free = h.free }
 
+-- it has come back since what the seat knows now
+pub back_here : {B : Type 0} (program : Bool → B → Program B) (laid : Laid B) (r : Rec B) (v : View B) (m : SeatMe B)
+    → ComesBack program laid r v m → ComesBack program laid r m.0 m
+back_here program laid r v m h = record {
+  knows = more_itself m.0;
+  runs = h.runs;
+  rooted = h.rooted;
+  known = h.known;
+  unfinished = h.unfinished;
+}
+
 pub back_on : {B : Type 0} (program : Bool → B → Program B) (laid : Laid B) (r : Rec B) (u v : View B) → KnowsMore u v
     → (m : SeatMe B) → ComesBack program laid r v m → ComesBack program laid r u m
 back_on program laid r u v k m h = record {

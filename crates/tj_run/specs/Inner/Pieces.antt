@@ -1,5 +1,5 @@
 -- What a task gives, hands on and makes, by its record.
-use Rattle.std.specs.Prelude.{◌≡◌, ℕ, List, ◌∷◌, get_or, Result, Ok, Err}
+use Rattle.std.specs.Prelude.{◌≡◌, ℕ, List, ◌∷◌, Result, Ok, Err}
 use Rattle.tj_base.specs.declared.cell.CellId.{CellId}
 use Rattle.tj_base.specs.declared.cell.Sort.{Sort}
 use Rattle.tj_base.specs.declared.cell.Sort.TheVariants as sort
@@ -15,11 +15,8 @@ use Rattle.tj_words.specs.declared.record.Hurt.{Hurt}
 use Rattle.tj_words.specs.declared.record.Hurt.TheVariants as hurt
 use Rattle.tj_words.specs.declared.record.Rec.{Rec}
 use Rattle.tj_words.specs.LawParts.StartRecords.{own, start_record}
+pub use Rattle.tj_words.specs.LawParts.TaskRecords.{held_at}
 use Rattle.tj_words.specs.Words.Lists.{cell, numbers}
-
--- the held cell at the place
-abbrev pub held_at : List Held → ℕ → Held
-held_at held k = get_or held k (record { cell = cell 0; sort = sort.Task })
 
 -- a cell as a value
 abbrev pub fill_of : Sort → CellId → Fill

@@ -1,5 +1,7 @@
 -- What a call leaves that is no event: the hand, the tasks and the waits cleared of the view are as they were, and so
 -- are PARENT and KID of the cells that are there. A split and a merge leave what seats hold.
+use Rattle.tj_words.proofs.Prelude.{IsBegun, Phase, Rest, SeesOwner, SeesPhase, inl, inr}
+use Rattle.tj_words.proofs.SeatLoads.MetCells.{begun_or}
 use Rattle.tj_words.proofs.Prelude.{Bool, Custody, Hand, IfRecord, IsIdle, KeepsHoldings, List, LoadsOnly, MakesWith}
 use Rattle.tj_words.proofs.Prelude.{MayPutOnce, None, Once, Option, Program, PutsOnce, Rec, SeatMe, SeatsHave, SeesOnce}
 use Rattle.tj_words.proofs.Prelude.{SlotsOf, Some, State, Step, View, [], ap, arith, at_map, both, contents_of, dite}
@@ -61,6 +63,18 @@ module _ {B : Type 0} where
       (λ e. as_it_was v w _ (h.0 e).view refl refl)
       (λ e. as_it_was v w _ (h.1 e).0.view refl refl)
   once_same program cells c n f v w h = as_it_was v w _ h.view refl refl
+
+  pub owner_same : (cells c : ℕ) (o : Option ℕ) (v w : View B) → SeesOwner cells c o v w → ShowsSame v w
+  owner_same cells c None v w h = as_it_was v w _ h refl refl
+  owner_same cells c (Some u) v w h = as_it_was v w _ h.view refl refl
+
+  pub phase_same : (cells t : ℕ) (p : Phase) (v w : View B) → SeesPhase cells t p v w → ShowsSame v w
+  phase_same cells t p v w h = by v.rest refl (begun_or p)
+    where
+      by : (o : Option Rest) → v.rest ≡ o → IsBegun p ⊎ (¬ IsBegun p) → ShowsSame v w
+      by None e (inl b) = as_it_was v w _ (h.0 e b).view refl refl
+      by None e (inr b) = as_it_was v w _ (h.1 (inr b)) refl refl
+      by (Some q) e b = as_it_was v w _ (h.1 (inl (λ z. none_some v.rest q z e))) refl refl
 
   -- the store of a word that is written once
   pub put_same : (program : Bool → B → Program B) (c n : ℕ) (f : Once) (v w : View B) → MayPutOnce program f c n v

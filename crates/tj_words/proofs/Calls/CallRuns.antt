@@ -22,6 +22,7 @@ use Rattle.tj_words.specs.SeatViews.Views.{stepped_on}
 use Rattle.tj_words.specs.Calls.PhaseViews.{MayPutPhase}
 use Rattle.tj_words.proofs.Calls.CallChanges.{ShowsSame, as_it_was, head_same, live_same, lower_same, merge_merges}
 use Rattle.tj_words.proofs.Calls.CallChanges.{once_same, push_same, raise_same, shut_same, holdings, put_same}
+use Rattle.tj_words.proofs.Calls.CallChanges.{owner_same, phase_same}
 use Rattle.tj_words.proofs.Calls.CallChanges.{split_parts, writes_apart}
 use Rattle.tj_words.proofs.Calls.DrawCalls.{call_draws}
 use Rattle.tj_words.proofs.Calls.EventCalls.{call_lowers, call_raises, call_reads, first_seen}
@@ -356,15 +357,22 @@ module _ {B : Type 0} (program : Bool → B → Program B) (key : Key B) (u : Ru
           (once_same program key.cells c (word s.words (once_at c f)) f m.0 m'.0 p.1.1),
     )
     goes (call.puts_owner c) h p ask a = puts_owner (owner_in st.first) c h a (ap owner_in p.0) p.1.0 p.1.1.1
-    goes (call.sees_owner c) h p ask a = ([], refl, look (own_at c) h a p.0 (as_it_was m.0 m'.0 _ p.1.1 refl refl))
+    goes (call.sees_owner c) h p ask a = (
+      [],
+      refl,
+      look (own_at c) h a p.0 (owner_same key.cells c (owner_in (word s.words (own_at c))) m.0 m'.0 p.1.1),
+    )
     goes (call.sees_owner_by d c) h p ask a = reads_owner d c h p ask a
     goes (call.puts_phase c) h p ask a = (
       phase_events c (phase_in st.first),
       refl,
       puts_phase (phase_in st.first) c h ask.0 (ap phase_in p.0) p.1 ask.1 a,
     )
-    goes (call.sees_phase c) h p ask a =
-        ([], refl, look (phase_at c) h a p.0 (as_it_was m.0 m'.0 _ p.1.1 refl refl))
+    goes (call.sees_phase c) h p ask a = (
+      [],
+      refl,
+      look (phase_at c) h a p.0 (phase_same key.cells c (phase_in (word s.words (phase_at c))) m.0 m'.0 p.1.1),
+    )
     goes (call.sees_phase_by d c) h p ask a = (
       event.ReadWait (cell d) ∷ [],
       refl,

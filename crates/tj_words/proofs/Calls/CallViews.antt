@@ -5,7 +5,7 @@ use Rattle.tj_words.proofs.Prelude.{PutsPhase, Rec, SeatMe, SlotsOf, Some, Sort,
 use Rattle.tj_words.proofs.Prelude.{dec_le, dite, draw_step, false, lowered_with, mark, owner_in, phase_in, raised_with}
 use Rattle.tj_words.proofs.Prelude.{refl, subst, sym, told_by, true, ℕ, ℕ_discrete, ⊎_elim, ◌∙◌, ◌≡◌, ◌≢◌}
 use Rattle.tj_words.proofs.Calls.CallChanges.{ShowsSame, head_same, live_same, once_same, push_same, put_same}
-use Rattle.tj_words.proofs.Calls.CallChanges.{shut_same}
+use Rattle.tj_words.proofs.Calls.CallChanges.{owner_same, phase_same, shut_same}
 use Rattle.tj_words.specs.declared.phase.Phase.TheVariants as phase
 use Rattle.tj_words.specs.declared.phase.Walk.TheVariants as walk
 use Rattle.tj_words.specs.CallLaws.StepCalls as call
@@ -102,5 +102,9 @@ module _ {B : Type 0} (c : ℕ) where
         (λ e. by_view m.0 m'.0 _ (h.2.2 e) refl refl)
         (λ e. by_shown m.0 m'.0 (push_same program cells p k st m m' e h.2))
     leaves (call.shuts p) n k st m m' new h = by_shown m.0 m'.0 (shut_same cells p k st m m' h.1)
+    leaves (call.sees_owner d) n k st m m' new h =
+        by_shown m.0 m'.0 (owner_same cells d (owner_in k) m.0 m'.0 h.1.1)
+    leaves (call.sees_phase t) n k st m m' new h =
+        by_shown m.0 m'.0 (phase_same cells t (phase_in k) m.0 m'.0 h.1.1)
     leaves call.counts n k st m m' new h = by_view m.0 m'.0 _ h.1.1 refl refl
     leaves a n k st m m' new h = by_view m.0 m'.0 _ h.1.1 refl refl

@@ -10,8 +10,9 @@ use Rattle.tj_words.proofs.Prelude.{suc, sym, total, word, words_say, ℕ, ◌%�
 use Rattle.tj_words.proofs.Lemmas.{Acts, Count, DrawsCell, StoresWith, acts_keeping, acts_taking, back, born_apart}
 use Rattle.tj_words.proofs.Lemmas.{held_drawn, held_here, holder_named, holder_within, index_is, knows_so, made_few}
 use Rattle.tj_words.proofs.Lemmas.{makes_none, makes_nothing, none_some, seats_same, store_word_with, stored_with}
-use Rattle.tj_words.proofs.Lemmas.{total_fits, total_set}
+use Rattle.tj_words.proofs.Lemmas.{total_set}
 use Rattle.tj_words.specs.Calls.DrawViews.{drawn_next, was_refused, FindsNone}
+use Rattle.tj_words.proofs.SeatLoads.LoadSteps.{count_few}
 use Rattle.tj_words.proofs.Seating.Merging.{begins_at}
 use Rattle.tj_words.proofs.Waiters.LiveSteps.{backing_running, alarms_else}
 use Rattle.tj_words.proofs.Holders.NotedEntries.{noted_here, noted_else}
@@ -231,13 +232,8 @@ module _ {B : Type 0} (program : Bool → B → Program B) (key : Key B) (keeps 
       view = refl;
     }
 
-    -- COUNT is small
     count_small : suc (word s.words count_at) ≡ (word s.words count_at + 1) % 2 ^ 64
-    count_small =
-        let a = r.law.lots.counted in let l = r.law.lots.all in let f = r.few_cells in
-        let b = total_fits (λ (u : View B). u.refused) (λ (u : View B). u.lot) s.views
-        (λ j u e. (r.seats j u e).within_lot.refused_fit) in
-        let d : word s.words count_at < 2 ^ 32 = omega arith in omega (arith, d)
+    count_small = let d = count_few program key s r in omega (arith, d)
 
   draws_one : (s : State (Option (Rec B)) (View B)) (r : Rule program key s) (slots id t : ℕ) (o : Sort) (m : SeatMe B)
       → get_elem? s.views id ≡ some m.0

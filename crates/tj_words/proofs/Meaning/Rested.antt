@@ -6,7 +6,7 @@ use Rattle.tj_words.proofs.Prelude.{get_or, length, subst, sym, ℕ, ◌<◌, �
 use Rattle.tj_words.proofs.Lemmas.{at_index}
 use Rattle.atomic_table.specs.Table.{Final, Seen}
 use Rattle.tj_words.specs.AtRest.RestMeaning.{HaveMeaning}
-use Rattle.tj_words.specs.Inner.ShownCells.{AreTableWords}
+use Rattle.tj_words.specs.AtRest.ShownCells.{AreTableWords}
 use Rattle.tj_words.proofs.Meaning.RestingCells as cells
 use Rattle.tj_words.proofs.Meaning.RestingMeaning as meaning
 

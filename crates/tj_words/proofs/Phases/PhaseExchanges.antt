@@ -603,6 +603,7 @@ module _ {B : Type 0} (program : Bool → B → Program B) (key : Key B) (keeps 
                   (λ j. (sym (was_is ∙ a) j, sym (to_is ∙ b) j)) h.4),
               (λ q. absurd (q z)),
             ),
+            h.5,
           )
 
           hit : word s.words (phase_at t) ≡ old → F new
@@ -635,6 +636,7 @@ module _ {B : Type 0} (program : Bool → B → Program B) (key : Key B) (keeps 
                   (λ q. absurd (ne q)),
                   (λ q. (was_is ∙ h.0, (λ j. (a.4.1 j, a.4.0 j)), a.4.2, a.4.3)),
                 ),
+                a.5,
               ))
               (λ (h : MayClearFrom t was to m.0). absurd (ne (stands_so h.0 h.1 h.2 (⊎_elim
               (λ (k : (to ≡ phase.Ready) × MayWake t h.0 h.1 m.0). wake_stands r id at k.1)

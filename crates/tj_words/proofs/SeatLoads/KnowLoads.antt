@@ -11,7 +11,8 @@ use Rattle.tj_words.proofs.Prelude.{some-injective, step, subst, suc, sym, tag_i
 use Rattle.tj_words.proofs.Prelude.{ℕ_discrete, ⊎_elim, ◌*◌, ◌++◌, ◌+◌, ◌-◌, ◌<◌, ◌^◌, ◌∙◌, ◌∷◌, ◌≡◌, ◌≢◌, ◌≤◌}
 use Rattle.tj_words.proofs.Lemmas.{Learns, are_cells, back, hand_finds, knows_so, load_allowed, none_some, none_unless}
 use Rattle.tj_tree.specs.Laws.{LinksLeadToTasks}
-use Rattle.tj_words.specs.SeatViews.SeenWords.{LeadsTo, SeesTree, MayRead, WillHave, bits_cells, once_load}
+use Rattle.tj_base.specs.ForkOrder.{child}
+use Rattle.tj_words.specs.SeatViews.SeenWords.{LeadsTo, SeesNames, SeesTree, MayRead, WillHave, bits_cells, once_load}
 use Rattle.tj_words.proofs.SeatLoads.Learning.{IsSo, Knowing, knowing_of}
 use Rattle.tj_words.proofs.Seating.Merging.{all_append, begins_at}
 use Rattle.tj_words.specs.SeatViews.Views.{saw_word, loaded_once, saw_entry, saw_bits}
@@ -146,6 +147,20 @@ module _ {B : Type 0} (program : Program B) (cells : ℕ) (x : Contents B) (law 
           let h : (node_of law.forks n).jump.0 ≡ node.jump.0 = omega arith in
           let e = at once.Depth node.depth s.depth in
           (has, λ i. record { parent = record { 0 = p i }; kid = d i; depth = sym e i; jump = record { 0 = h i } })
+
+  -- PARENT and KID that a seat has seen tell names
+  abbrev pub sees_names : (seen : List SeenWord)
+      → All (Stands (drawn_in cells x) x.words.once law.once_words.due_to) seen → SeesNames seen law.born
+  sees_names seen stands = record {
+    root = law.births.root;
+    named = λ c p k r n parent kid is.
+        let m = parent_is c p (seen_right (seen_word c once.Parent p) (stands _ parent) r is) in
+        let b = law.births.named c r is n in (
+          b.0,
+          subst (λ d. IsCell law.born d b.0) (sym m) b.1,
+          b.2 ∙ ap (child b.0.name) (sym (seen_right (seen_word c once.Kid k) (stands _ kid) r is)),
+        );
+  }
 
   -- PARENT and JUMP of a task lead to tasks
   leads_to : LinksLeadToTasks → (c : ℕ) (f : Once) (n : ℕ) → IsTaskIn law.born c → n ≡ right_word sort.Task c f
@@ -286,6 +301,7 @@ module _ {B : Type 0} {program : Bool → B → Program B} {key : Key B} {s : St
             small = small;
             view = refl;
             tree = sees_tree P key.cells (contents_of s) law (w ∷ v.seen) law.born now.seen now.begins;
+            names = sees_names P key.cells (contents_of s) law (w ∷ v.seen) now.seen;
             all = are_cells law;
             leads = λ is. let b = begins_at v.born law.born so.begins c is.0 is.1 in
                 leads_to P key.cells (contents_of s) law links c f (word s.words (once_at c f)) (is.0, b, is.2)

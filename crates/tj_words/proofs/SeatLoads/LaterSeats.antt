@@ -1,5 +1,5 @@
 -- Loads after loads of words of the tree.
-use Rattle.tj_words.proofs.Prelude.{HasReadTree, IsLater, Option, Rec, Seat, View, [], ap, append_assoc, arith}
+use Rattle.tj_words.proofs.Prelude.{HasReadTree, IsLater, Option, Rec, SeatShown, View, [], ap, append_assoc, arith}
 use Rattle.tj_words.proofs.Prelude.{begins_self, begins_trans, refl, sym, ℕ, ◌++◌, ◌∙◌}
 
 module _ {B : Type 0} {cells : ℕ} where
@@ -28,10 +28,11 @@ module _ {B : Type 0} {cells : ℕ} where
     }) p.rest;
   }
 
-  pub later_itself : (s : Seat (Option (Rec B)) (View B)) → IsLater cells s s
+  pub later_itself : (s : SeatShown (Option (Rec B)) (View B)) → IsLater cells s s
   later_itself s = ((refl, refl, refl), read_itself s.me.0)
 
-  pub later_on : (s t u : Seat (Option (Rec B)) (View B)) → IsLater cells s t → IsLater cells t u → IsLater cells s u
+  pub later_on : (s t u : SeatShown (Option (Rec B)) (View B)) → IsLater cells s t → IsLater cells t u
+      → IsLater cells s u
   later_on s t u p q = (
     (q.0.0 ∙ p.0.0, q.0.1 ∙ p.0.1, q.0.2 ∙ p.0.2),
     read_on s.me.0 t.me.0 u.me.0 p.1 q.1,

@@ -3,7 +3,7 @@ use Rattle.tj_words.proofs.Prelude.{About, All, Allows, Bool, Contents, Each, Fo
 use Rattle.tj_words.proofs.Prelude.{IsIn, IsSeat, IsSeatOf, IsStored, Key, Law, List, Option, Phase, Program, Rec}
 use Rattle.tj_words.proofs.Prelude.{Reference, Rule, SeatMe, SeatsHave, State, View, [], ap, arith, at_map, contents_of}
 use Rattle.tj_words.proofs.Prelude.{count_at, dite, get_elem?, keeps, live_at, live_load, live_tasks, map, none}
-use Rattle.tj_words.proofs.Prelude.{noted_step, own_at, phase_at, phase_in, plain_load, refl, seat_part, seats_have}
+use Rattle.tj_words.proofs.Prelude.{noted_step, phase_at, phase_in, plain_load, refl, seat_part, seats_have}
 use Rattle.tj_words.proofs.Prelude.{set, some, step, stop_at, stop_load, subst, suc, sym, total, true, word, words_say}
 use Rattle.tj_words.proofs.Prelude.{zero, ℕ, ℕ_discrete, ⊎_elim, ◌+◌, ◌-◌, ◌<◌, ◌^◌, ◌∙◌, ◌∷◌, ◌≡◌, ◌≢◌, ◌≤◌}
 use Rattle.tj_words.specs.declared.view.Noted.{Noted}
@@ -104,6 +104,7 @@ module _ {B : Type 0} where
           (sym (words_same s.words i)) (rule_views r (set s.views id w) _ (seats_set s.views id w)
           (each_set _ s.views id w r.seats t.1) t.2),
       t.3,
+      tt,
     )
 
     -- what the seat learns is so, and with it its view is as a load of n promises
@@ -113,21 +114,29 @@ module _ {B : Type 0} where
         × IsSo (program key.strict key.root.value) key.cells (contents_of s) r.law (knowing_of w)
         × then n (w, m.1)
 
+    -- the law holds after a load at which the seat learns what is so
+    pub law_learned : (s : State (Option (Rec B)) (View B)) (r : Rule program key s) (id : ℕ) (m : SeatMe B)
+        (then : ℕ → SeatMe B → Type 0) (n : ℕ) → get_elem? s.views id ≡ some m.0 → Learns s r m then n
+        → (w : View B) × IsSeat key w × Law (program key.strict key.root.value) key.cells
+        record { words = words_say s.words; slots = s.homes; seats = set_seats (seats_have s.views) id w }
+        × then n (w, m.1)
+    law_learned s r id m then n at t = let y = seats_have s.views in let k = knowing_of t.0 in (
+      t.0,
+      knows_seat key m.0 t.0 t.1 (r.seats id m.0 at) t.2.known_born,
+      subst (λ z. Law (program key.strict key.root.value) key.cells
+          record { words = words_say s.words; slots = s.homes; seats = z })
+          (sym (t.1.1 y id ∙ ap (seats_learn id k y) (seats_same s.views id m.0 at)))
+          (law_learns (program key.strict key.root.value) key.cells (contents_of s) r.law id k t.2),
+      t.3,
+    )
+
     -- a load at which the seat learns what is so
     pub load_allowed : (slots id : ℕ) (m : SeatMe B) (i : ℕ) (then : ℕ → SeatMe B → Type 0)
         → ((s : State (Option (Rec B)) (View B)) (r : Rule program key s) → get_elem? s.views id ≡ some m.0
         → Learns s r m then (word s.words i))
         → Allows (Rule program key) slots id m i (λ n. n) then
-    load_allowed slots id m i then h = law_allowed slots id m i then (λ s r at.
-        let t = h s r at in let y = seats_have s.views in let k = knowing_of t.0 in (
-          t.0,
-          knows_seat key m.0 t.0 t.1 (r.seats id m.0 at) t.2.known_born,
-          subst (λ z. Law (program key.strict key.root.value) key.cells
-              record { words = words_say s.words; slots = s.homes; seats = z })
-              (sym (t.1.1 y id ∙ ap (seats_learn id k y) (seats_same s.views id m.0 at)))
-              (law_learns (program key.strict key.root.value) key.cells (contents_of s) r.law id k t.2),
-          t.3,
-        ))
+    load_allowed slots id m i then h = law_allowed slots id m i then
+        (λ s r at. law_learned s r id m then (word s.words i) at (h s r at))
 
     -- a load that is no event
     pub plain_allowed : (slots id : ℕ) (m : SeatMe B) (i : ℕ) (kind : Noted) (May : ℕ → Type 0)
@@ -161,6 +170,14 @@ module _ {B : Type 0} where
         (λ j v e. (r.seats j v e).within_lot.tokens_fit) in
         omega arith
 
+    -- COUNT is small
+    pub count_few : (s : State (Option (Rec B)) (View B)) → Rule program key s → word s.words count_at < 2 ^ 32
+    count_few s r = let a = r.law.lots.counted in let l = r.law.lots.all in let f = r.few_cells in
+        let b =
+        total_fits (λ (u : View B). u.refused) (λ (u : View B). u.lot) s.views
+        (λ j u e. (r.seats j u e).within_lot.refused_fit) in
+        omega arith
+
     -- the load of LIVE
     pub live_allowed : (slots id : ℕ) (m : SeatMe B)
         → Allows (Rule program key) slots id m live_at (λ n. n) (live_load (step slots live_at 0 0 none) m)
@@ -187,15 +204,6 @@ module _ {B : Type 0} where
         (plain_load note.Count (IsCount cells) (step slots count_at 0 0 none) m)
     count_allowed slots id m cells e = plain_allowed slots id m count_at note.Count (IsCount cells) refl
         (λ s r. subst (λ n. IsCount n (word s.words count_at)) (sym e) r.law.facts.makers.root_there)
-
-    pub owner_allowed : (slots id : ℕ) (m : SeatMe B) (cells named c i : ℕ) → cells ≡ key.cells → named ≡ c
-        → c < key.cells → i ≡ own_at c
-        → Allows (Rule program key) slots id m i (λ n. n)
-        (plain_load (note.Owner named) (λ n. n ≤ cells) (step slots i 0 0 none) m)
-    owner_allowed slots id m cells named c i e is l at = plain_allowed slots id m i (note.Owner named) (λ n. n ≤ cells)
-        (at ∙ ap own_at (sym is))
-        (λ s r. subst (λ n. word s.words i ≤ n) (sym e)
-        (subst (λ k. word s.words k ≤ key.cells) (sym at) (r.codes.each c l).own))
 
     -- the load of STOP tells whether the meaning is full
     pub stop_allowed : (slots id : ℕ) (m : SeatMe B)

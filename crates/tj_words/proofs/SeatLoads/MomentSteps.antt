@@ -13,6 +13,7 @@ module _ {B : Type 0} (program : Bool → B → Program B) (key : Key B) where
     k.2,
     k.3,
     (k.4, was_so key s id r at refl),
+    k.5,
   )
 
 -- the same of an equal word and an equal number

@@ -1,6 +1,7 @@
 -- A look at a node of the tree of forks: four loads of words that are written once.
 use Rattle.tj_words.proofs.Prelude.{AreCells, Begins, FindsWord, HasReadTree, IsIn, IsLater, IsTaskIn, List}
-use Rattle.tj_words.proofs.Prelude.{MayReadTree, Node, Once, Option, Rec, Reference, Seat, SeenWord, ShowsNode, View}
+use Rattle.tj_words.proofs.Prelude.{MayReadTree, Node, Once, Option, Rec, Reference, SeatShown, SeenWord, ShowsNode}
+use Rattle.tj_words.proofs.Prelude.{View}
 use Rattle.tj_words.proofs.Prelude.{[], ap, arith, begins_self, in_right, inl, inr, length, refl, seen_word, subst, suc}
 use Rattle.tj_words.proofs.Prelude.{sym, zero, ℕ, ◌-◌, ◌<◌, ◌∙◌, ◌∷◌, ◌≡◌, ◌≤◌, ◌⊎◌}
 use Rattle.tj_words.proofs.Lemmas.{inside}
@@ -11,6 +12,9 @@ use Rattle.tj_words.specs.SeatViews.SeatSteps.{IsSameSeat, IsSeatOf}
 use Rattle.tj_words.proofs.Seating.Merging.{begins_at}
 use Rattle.tj_words.proofs.SeatLoads.LaterSeats.{later_on}
 use Rattle.tj_words.specs.SeatViews.TreeReads.{MayLook, TreeShown}
+use Rattle.tj_words.specs.CallLaws.StepCalls as call
+use Rattle.tj_words.specs.CallLaws.StepLogs.{IsLogged, IsLookLogged, entry_of}
+use Rattle.tj_words.proofs.SeatLoads.LoggedSteps.{logged_so}
 use Rattle.tj_words.specs.declared.offsets.Once.TheVariants as once
 
 module _ {B : Type 0} {cells : ℕ} {f : Once} {c n : ℕ} {v w : View B} (h : FindsWord cells f c n v w) where
@@ -57,7 +61,7 @@ module _ {B : Type 0} where
   may_later v w h c (inr (inl i)) = inr (inl (subst (IsIn c) (sym (ap (λ (u : View B). u.known) h.rest)) i))
   may_later v w h c (inr (inr n)) = inr (inr (n.0, seen_later h n.0 n.1, n.2))
 
-  look_later : {cells : ℕ} (laid : Laid B) (s t : Seat (Option (Rec B)) (View B)) → IsLater cells s t → (c : ℕ)
+  look_later : {cells : ℕ} (laid : Laid B) (s t : SeatShown (Option (Rec B)) (View B)) → IsLater cells s t → (c : ℕ)
       → MayLook laid s c → MayLook laid t c
   look_later laid s t h c m = record {
     table = h.0.0 ∙ m.table;
@@ -67,12 +71,12 @@ module _ {B : Type 0} where
   }
 
   -- the nodes that were seen are part of a tree
-  pub tree_of : (s : Seat (Option (Rec B)) (View B)) (n : ℕ) (node : Node) → TreeShown s n node → ArePartOfTree
+  pub tree_of : (s : SeatShown (Option (Rec B)) (View B)) (n : ℕ) (node : Node) → TreeShown s n node → ArePartOfTree
       (TreeShown s)
   tree_of s n node h = (h.0.forks, (h.0.history, λ m o k. h.0.nodes m o k.1))
 
   -- a cell that a PARENT or a JUMP of a task leads to may be looked at
-  led : (laid : Laid B) (s : Seat (Option (Rec B)) (View B)) (w : SeenWord) (born : List Reference) (p : ℕ)
+  led : (laid : Laid B) (s : SeatShown (Option (Rec B)) (View B)) (w : SeenWord) (born : List Reference) (p : ℕ)
       → IsSeatOf laid s → IsIn w s.me.0.seen → (w.word ≡ once.Parent) ⊎ (w.word ≡ once.Jump) → p ≡ w.value - 1
       → IsTaskIn born (w.value - 1) → Begins born s.me.0.born → length born ≤ laid.cells → MayLook laid s p
   led laid s w born p table i link e t b few = record {
@@ -87,7 +91,8 @@ module _ {B : Type 0} where
       by (suc n) z = inr (inr (w, i, (link, omega (arith, e, z))))
 
 -- the four loads of a look
-module _ {B : Type 0} {laid : Laid B} {c parent kid depth jump : ℕ} {s0 s1 s2 s3 s4 : Seat (Option (Rec B)) (View B)}
+module _ {B : Type 0} {laid : Laid B} {c parent kid depth jump : ℕ}
+    (s0 s1 s2 s3 s4 : SeatShown (Option (Rec B)) (View B))
     (may : MayLook laid s0 c)
     (q1 : IsSameSeat s0 s1) (q2 : IsSameSeat s1 s2) (q3 : IsSameSeat s2 s3) (q4 : IsSameSeat s3 s4)
     (f1 : FindsWord laid.cells once.Parent c parent s0.me.0 s1.me.0)
@@ -136,6 +141,20 @@ module _ {B : Type 0} {laid : Laid B} {c parent kid depth jump : ℕ} {s0 s1 s2 
       depth = subst (λ n. IsIn (seen_word c once.Depth n) s4.me.0.seen) (sym d) (seen_later l4.1 _ (word_seen f3));
       jump = subst (λ n. IsIn (seen_word c once.Jump n) s4.me.0.seen) (sym (ap suc j ∙ jump_back)) (word_seen f4);
     },
+  )
+
+  pub four_logged : (node : Node) → node.parent.0 ≡ parent - 1 → node.kid ≡ kid → node.depth ≡ depth
+      → node.jump.0 ≡ jump - 1 → IsLogged (call.sees_once c once.Parent) 0 0 parent s0 s1
+      → IsLogged (call.sees_once c once.Kid) 0 0 kid s1 s2 → IsLogged (call.sees_once c once.Depth) 0 0 depth s2 s3
+      → IsLogged (call.sees_once c once.Jump) 0 0 jump s3 s4 → IsLookLogged c node s0 s4
+  four_logged node p k d j g1 g2 g3 g4 = (
+    parent,
+    p,
+    logged_so refl refl refl (sym (ap suc j ∙ jump_back)) g4.0
+        ∙ ap (λ l. entry_of (call.sees_once c once.Jump) 0 0 (suc node.jump.0) ∷ l)
+        (logged_so refl refl refl (sym d) g3.0 ∙ ap (λ l. entry_of (call.sees_once c once.Depth) 0 0 node.depth ∷ l)
+        (logged_so refl refl refl (sym k) g2.0 ∙ ap (λ l. entry_of (call.sees_once c once.Kid) 0 0 node.kid ∷ l) g1.0)),
+    g4.1 ∙ (g3.1 ∙ (g2.1 ∙ g1.1)),
   )
 
   pub four_parent : (p : ℕ) → p ≡ parent - 1 → MayLook laid s4 p

@@ -8,6 +8,10 @@ use Rattle.tj_words.proofs.Lemmas.{back, law_allowed, law_kept, no_some, seats_s
 use Rattle.tj_words.specs.Calls.ParkSteps.{parked_way, first_way, rest_loaded, loaded_phase}
 use Rattle.tj_words.proofs.Waiters.ChainPhases.{chains_read, rest_first}
 use Rattle.tj_words.proofs.Waiters.Backings.{wakes_seat}
+use Rattle.tj_words.proofs.Holders.HeldTasks.{none_some}
+use Rattle.tj_words.proofs.Prelude.{IsBegun}
+use Rattle.tj_words.proofs.SeatLoads.LoadSteps.{law_learned}
+use Rattle.tj_words.proofs.SeatLoads.MetCells.{begun_or, phase_learned}
 
 -- what is known of the way of a first task is as before, or the task is the one that was loaded
 first_or : (t : ℕ) (p : Phase) (l : List ℕ) (o : Option Way)
@@ -80,14 +84,48 @@ module _ {B : Type 0} (program : Bool → B → Program B) (key : Key B) where
         (let l = r.law in law_kept l (words_say s.words) (record y { rests = set y.rests id w.rest }) l.lots l.names
         l.tree_words l.once_words loaded_chains l.live_count l.stops l.records_fit l.meaning l.facts)
 
+  module _ (s : State (Option (Rec B)) (View B)) (r : Rule program key s) (slots id i : ℕ) (m : SeatMe B) (t : ℕ)
+      (l : t < key.cells) (place : i ≡ phase_at t) (at : get_elem? s.views id ≡ some m.0) where
+    abbrev phase_now : Phase
+    phase_now = p s r id t m.0 at
+
+    -- the law holds after the load, and the view is as it tells
+    abbrev IsLoaded : Type 0
+    IsLoaded = (w : View B) × IsSeat key w × Law (program key.strict key.root.value) key.cells
+        record { words = words_say s.words; slots = s.homes; seats = set_seats (seats_have s.views) id w }
+        × phase_load key.cells t (step slots i 0 0 none) m (word s.words (phase_at t)) (w, m.1)
+
+    kept : (m.0.rest ≡ None → IsBegun phase_now → ⊥) → IsLoaded
+    kept apart = (
+      loaded_phase t phase_now m.0,
+      loaded_seat s r id t m.0 at,
+      loaded_law s r id t m.0 at,
+      (
+        refl,
+        ((λ n d. absurd (apart n d)), (λ _. refl)),
+        (r.codes.each t l).phase,
+        first_told s r id t m.0 at,
+        place,
+      ),
+    )
+
+    pub loaded_by : (o : Option Rest) → m.0.rest ≡ o → IsBegun phase_now ⊎ (¬ IsBegun phase_now) → IsLoaded
+    loaded_by None e (inl b) = law_learned program key s r id m (phase_load key.cells t (step slots i 0 0 none) m)
+        (word s.words (phase_at t)) at
+        (phase_learned program key s r id m t (phase_load key.cells t (step slots i 0 0 none) m) at e b (λ w h. (
+          refl,
+          ((λ _ _. h), (λ q. ⊎_elim (λ n. absurd (n e)) (λ n. absurd (n b)) q)),
+          (r.codes.each t l).phase,
+          first_told s r id t m.0 at,
+          place,
+        )))
+    loaded_by None e (inr b) = kept (λ n d. b d)
+    loaded_by (Some q) e b = kept (λ n d. none_some m.0.rest q n e)
+
   pub phase_allowed : (slots id : ℕ) (m : SeatMe B) (cells c t i : ℕ) → cells ≡ key.cells → c ≡ t → t < key.cells
       → i ≡ phase_at t
       → Allows (Rule program key) slots id m i (λ n. n) (phase_load cells c (step slots i 0 0 none) m)
-  phase_allowed slots id m cells c t i few is l place = back (λ j. Allows (Rule program key) slots id m (place j)
-      (λ n. n) (phase_load (few j) (is j) (step slots i 0 0 none) m))
-      (law_allowed program key slots id m (phase_at t) (phase_load key.cells t (step slots i 0 0 none) m) (λ s r at. (
-        loaded_phase t (p s r id t m.0 at) m.0,
-        loaded_seat s r id t m.0 at,
-        loaded_law s r id t m.0 at,
-        (refl, refl, (r.codes.each t l).phase, first_told s r id t m.0 at, place),
-      )))
+  phase_allowed slots id m cells c t i few is l at = back (λ j. Allows (Rule program key) slots id m (at j)
+      (λ n. n) (phase_load (few j) (is j) (step slots (at j) 0 0 none) m))
+      (law_allowed program key slots id m (phase_at t) (phase_load key.cells t (step slots (phase_at t) 0 0 none) m)
+      (λ s r at. loaded_by s r slots id (phase_at t) m t l refl at m.0.rest refl (begun_or (p s r id t m.0 at))))

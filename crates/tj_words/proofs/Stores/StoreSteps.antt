@@ -114,7 +114,7 @@ module _ {B : Type 0} (program : Bool → B → Program B) (key : Key B) where
       → (w : View B) × Stores s id i (f (word s.words i)) w × then (word s.words i) (w, m.1))
       → Allows (Rule program key) slots id m i f then
   step_allowed slots id m i f then h s r deep at small = let t = h s r at in
-      (t.0, keeps, tt, rule_stores s r id i (f (word s.words i)) t.0 t.1, t.2)
+      (t.0, keeps, tt, rule_stores s r id i (f (word s.words i)) t.0 t.1, t.2, tt)
 
   -- a store of n into the word w, by the law over contents to which there is a path from those that it leaves
   pub store_word_with : (s : State (Option (Rec B)) (View B)) (id : ℕ) (w : TableWord) (n : ℕ) (slots : Slots B)

@@ -194,6 +194,7 @@ module _ {B : Type 0} (program : Bool → B → Program B) (key : Key B) where
           (λ n q. absurd (n z)),
           (λ n q. absurd (n z)),
         ),
+        tt,
       )
         where
           now : head_in (word s.words (head_at p)) ≡ behind
@@ -207,7 +208,7 @@ module _ {B : Type 0} (program : Bool → B → Program B) (key : Key B) where
 
       miss : word s.words i ≢ old → Acts program key s id m i (word s.words i) Then
       miss n = let h = head_allowed program key slots id m p i cells cell lp at f e s r homes k small in
-          (h.0, h.1, h.2, h.3, (h.4.0, h.4.1, (λ q. absurd (n q)), (λ z q. h.4.2 q), (λ z q. h.4.3 q)))
+          (h.0, h.1, h.2, h.3, (h.4.0, h.4.1, (λ q. absurd (n q)), (λ z q. h.4.2 q), (λ z q. h.4.3 q)), h.5)
 
   pub shut_allowed : (slots id : ℕ) (m : SeatMe B) (p i new cells c : ℕ) → p < key.cells → i ≡ head_at p
       → cells ≡ key.cells → c ≡ p → new ≡ shut_word → KnowsEntry p m.0 → m.0.rest ≡ None → IsBacked m.0

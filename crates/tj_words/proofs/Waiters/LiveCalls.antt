@@ -155,7 +155,7 @@ module _ {B : Type 0} (program : Bool → B → Program B) (key : Key B) where
     -- a step on LIVE alone
     plain : (n : ℕ) (w : View B) (F : SeatMe B → Type 0) (mine : SlotsOf B) → Stores program key s id live_at n w
         → F (w, mine) → Acts program key s id (v, mine) live_at n F
-    plain n w F mine h f = (w, keeps, tt, rule_stores program key s r id live_at n w h, f)
+    plain n w F mine h f = (w, keeps, tt, rule_stores program key s r id live_at n w h, f, tt)
 
     up_acts : (mine : SlotsOf B) → MayRaiseLive program (v, mine)
         → Acts program key s id (v, mine) live_at (suc (word s.words live_at)) (λ m'. m' ≡ raised_with v mine)

@@ -19,7 +19,7 @@ use Rattle.tj_words.specs.Words.Offsets.{count_at, live_at, others_at, stop_at, 
 use Rattle.tj_words.specs.Words.Offsets.{next_at}
 use Rattle.tj_words.specs.Words.Owners.{owner_in}
 use Rattle.tj_words.specs.Calls.OwnerViews.{MayPutOwner, owner_put}
-use Rattle.tj_words.specs.Calls.ParkSteps.{phase_load}
+use Rattle.tj_words.specs.Calls.MetCells.{owner_load, phase_load}
 use Rattle.tj_words.specs.Words.Phases.{phase_in}
 use Rattle.tj_words.specs.Calls.PhaseViews.{PutsPhase}
 use Rattle.tj_words.specs.SeatViews.SeatSteps.{Tells, IsCount, live_load, plain_load}
@@ -112,7 +112,7 @@ module _ {B : Type 0} where
         × PutsOnce program f c st.first m.0 m'.0)
     told_by (sees_once c f) = loads (once_load program cells f c)
     told_by (puts_owner c) = stores (λ st m k m'. MayPutOwner c (owner_in st.first) m.0 × owner_put c st m k m')
-    told_by (sees_owner c) = loads (plain_load (note.Owner c) (λ n. n ≤ cells))
+    told_by (sees_owner c) = loads (owner_load cells c)
     told_by (sees_owner_by t c) = loads (walk_load t (λ n w. owner_seen (owner_in n) w w.last) (λ n. n ≤ cells))
     told_by (puts_phase t) = stores (λ st m k m'. PutsPhase t (phase_in st.first) m m')
     told_by (sees_phase t) = loads (phase_load cells t)

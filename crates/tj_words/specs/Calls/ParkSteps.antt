@@ -9,9 +9,7 @@ use Rattle.tj_words.specs.declared.view.Push.{Push}
 use Rattle.tj_words.specs.declared.view.Rest.{Rest}
 use Rattle.tj_words.specs.declared.view.View.{View}
 use Rattle.tj_words.specs.LawParts.Chains.{parked_phase}
-use Rattle.tj_words.specs.Words.Codes.{IsPhaseWord}
-use Rattle.tj_words.specs.Words.Phases.{phase_in, phase_word}
-use Rattle.tj_words.specs.SeatViews.SeatSteps.{IsOn, Tells}
+use Rattle.tj_words.specs.Words.Phases.{phase_word}
 use Rattle.tj_words.specs.SeatViews.Views.{note_of}
 
 -- the push to come of a seat that has parked the task
@@ -53,11 +51,6 @@ module _ {B : Type 0} where
   abbrev pub FirstTold : ℕ → Phase → View B → Type 0
   FirstTold t p v = (r : Rest) (ts : List ℕ) → v.rest ≡ Some r → r.tasks ≡ t ∷ ts
       → (way : Way) × (p ≡ parked_phase r.cell way)
-
-  -- a load of PHASE of t that is no event
-  abbrev pub phase_load : ℕ → ℕ → Tells B
-  phase_load cells t st m n m' = (m'.1 ≡ m.1) × (m'.0 ≡ loaded_phase t (phase_in n) m.0) × IsPhaseWord cells n
-      × FirstTold t (phase_in n) m.0 × IsOn (note.Phase t) st
 
 -- the view after a step on LIVE that leaves the seat with so many tokens
 abbrev pub with_tokens : {B : Type 0} → ℕ → View B → View B

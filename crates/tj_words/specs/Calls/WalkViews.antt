@@ -79,11 +79,6 @@ module _ {B : Type 0} where
   MayLoadBy None F v = Unit {0}
   MayLoadBy (Some t) F v = IsWalking t.0 (F t.0) v
 
-  -- the view after the load: by plain where it is no event, and else with the walker read on
-  abbrev pub loaded_by : Option CellId → (View B → View B) → (Walker → Walker) → View B → View B
-  loaded_by None plain f v = plain v
-  loaded_by (Some t) plain f v = read_on t.0 f v
-
   -- COUNT was loaded as n where the load is no event, of which so many are cells of the table; a walker has its bound
   abbrev pub ReadsCount : Option CellId → ℕ → ℕ → View B → View B → Type 0
   ReadsCount None cells found v w = (n : ℕ) × (found ≡ min n cells) × (w ≡ loaded_plain note.Count n v)

@@ -1,17 +1,13 @@
 -- The record of a task at its start, by what the task holds and owns.
 use Rattle.std.specs.Prelude.{false, List, [], None}
 use Rattle.tj_base.specs.declared.cell.CellId.{CellId}
-use Rattle.tj_base.specs.declared.cell.Sort.TheVariants as sort
 use Rattle.tj_body.specs.declared.ask.Answer.TheVariants as answer
 use Rattle.tj_words.specs.declared.record.Held.{Held}
-use Rattle.tj_words.specs.declared.record.Rec.{Rec}
-
--- a task among the cells that it holds
-abbrev pub own : CellId → Held
-own c = record { cell = c; sort = sort.Task }
+use Rattle.tj_words.specs.LawParts.TaskRecords.{TaskRecord}
+pub use Rattle.tj_words.specs.LawParts.TaskRecords.{own}
 
 -- the record of a task at its start that holds and owns these
-abbrev pub start_record : {B : Type 0} → CellId → B → List Held → List CellId → Rec B
+abbrev pub start_record : {B : Type 0} → CellId → B → List Held → List CellId → TaskRecord B
 start_record c b held owned = record {
   cell = c;
   body = b;

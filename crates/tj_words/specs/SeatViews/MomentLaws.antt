@@ -1,38 +1,17 @@
--- What a word can't be while a seat has such a view: no body shows another number. And no step hides what it does with
--- STOP.
-use Rattle.std.specs.Prelude.{◌≡◌, ◌≢◌, ◌↔◌, ℕ, suc, ◌+◌, ◌<◌, ◌≤◌, Bool, [], Option, Some, None, length, slice_index}
-use mathlib.Core.Option.{some}
-use lib.ListN.{get_elem?}
-use Rattle.atomic_table.specs.Table.{State, Allows}
-use Rattle.tj_base.specs.ForkOrder.{Name}
+-- What a word can't be while a seat has such a view.
+use Rattle.std.specs.Prelude.{◌≡◌, ◌≢◌, ℕ, suc, ◌<◌, ◌≤◌, Bool, Some}
 use Rattle.tj_body.specs.Points.{IsIn}
 use Rattle.tj_body.specs.Programs.{Program}
-use Rattle.tj_body.specs.RoundPoints.{InRounds, IsOfRounds}
-use Rattle.tj_body.specs.declared.point.Point.{Point}
+use Rattle.tj_body.specs.RoundPoints.{InRounds}
 use Rattle.tj_body.specs.declared.point.Reference.{Reference}
-use Rattle.tj_body.specs.declared.point.PointStage.{PointStage}
-use Rattle.tj_body.specs.declared.point.PointStage.TheVariants as stage
-use Rattle.tj_words.specs.declared.phase.Phase.TheVariants.{Unborn, Ready, Running, Promise}
-use Rattle.tj_words.specs.declared.record.Rec.{Rec}
-use Rattle.tj_words.specs.declared.table.Key.{Key}
 use Rattle.tj_words.specs.declared.view.About.{About}
 use Rattle.tj_words.specs.declared.view.Custody.{Custody}
 use Rattle.tj_words.specs.declared.view.View.{View}
-use Rattle.tj_words.specs.LawParts.Chains.{IsParkedOn}
 use Rattle.tj_words.specs.LawParts.Holding.{held_in, phase_of}
-use Rattle.tj_words.specs.LawParts.Lots.{all_lots}
 use Rattle.tj_words.specs.LawParts.TreeWords.{IsCell}
 use Rattle.tj_words.specs.Words.Phases.{phase_in}
-use Rattle.tj_words.specs.Law.{Rule}
 use Rattle.tj_words.specs.SeatViews.Moments.{WasSo}
-use Rattle.tj_words.specs.SeatViews.SeatSteps.{SeatMe}
-use Rattle.tj_words.specs.Words.Offsets.{word, count_at, live_at, next_at, others_at, own_at, phase_at, stop_at}
-
--- the task waits or has ended
-abbrev pub IsStopped : PointStage → Type 0
-IsStopped (stage.Answered a) = ⊥
-IsStopped (stage.Waits q spare) = Unit {0}
-IsStopped (stage.Closed e) = Unit {0}
+use Rattle.tj_words.specs.Words.Offsets.{count_at, live_at, others_at, own_at, phase_at, stop_at}
 
 module _ (B : Type 0) where
   -- LIVE counts the seat's tokens
@@ -64,39 +43,7 @@ module _ (B : Type 0) where
   StopStands = (program : Bool → B → Program B) (n k : ℕ) (v : View B) → WasSo program stop_at n v
       → IsIn k v.stored → n ≢ 0
 
-  -- where a seat has all lots and doesn't hold the task, a task that is there is ready, or a task of some round waits
-  -- or has ended, which has the task's name, if the seat knows that
-  abbrev pub LoneSeatClaims : Type 0
-  LoneSeatClaims = (program : Bool → B → Program B) (n t : ℕ) (v : View B) (a : About B)
-      → WasSo program (phase_at t) n v → v.lot ≡ all_lots → held_in v.tasks t ≡ None → v.about ≡ Some a
-      → phase_in n ≢ Unborn → phase_in n ≢ Promise → phase_in n ≢ Ready
-      → (p : Point B) × IsOfRounds (program a.strict a.root) p × IsStopped p.stage
-      × ((x : Reference) → IsCell v.born t x → p.name ≡ x.name)
-
-  -- where the program has one cell, a seat with all lots knows COUNT
-  abbrev pub OneCellCounts : Type 0
-  OneCellCounts = (program : Bool → B → Program B) (n : ℕ) (v : View B) (a : About B) → WasSo program count_at n v
-      → v.lot ≡ all_lots → v.about ≡ Some a → ((q : Name) → InRounds (program a.strict a.root) q → q ≡ [])
-      → n ≡ 1 + v.refused
-
-  -- there it knows LIVE too, while it holds the root, which runs
-  abbrev pub OneCellLives : Type 0
-  OneCellLives = (program : Bool → B → Program B) (n : ℕ) (v : View B) (a : About B) (k : Custody B)
-      → WasSo program live_at n v → v.lot ≡ all_lots → v.about ≡ Some a
-      → ((q : Name) → InRounds (program a.strict a.root) q → q ≡ [])
-      → held_in v.tasks 0 ≡ Some k → phase_of k.does ≡ Running → n ≡ suc v.tokens
-
-  -- what is left open: NEXT of a task that isn't parked may be any number, whatever the seat's view is
-  abbrev pub NextIsFree : Type 0
-  NextIsFree = (program : Bool → B → Program B) (key : Key B) (s : State (Option (Rec B)) (View B))
-      → Rule program key s → (id : ℕ) (v : View B) → get_elem? s.views id ≡ some v → (t n : ℕ) → t < key.cells
-      → n ≤ key.cells → ((p : ℕ) → ¬ IsParkedOn (phase_in (word s.words (phase_at t))) p)
-      → WasSo program (next_at t) n v
-
-  -- a step that leaves what its seat has stored into STOP leaves STOP 0 where it was 0, and above 0 where it was above
-  abbrev pub NoHiddenStop : Type 0
-  NoHiddenStop = (program : Bool → B → Program B) (key : Key B) (slots id : ℕ) (f : ℕ → ℕ) (m : SeatMe B)
-      → Allows (Rule program key) slots id m stop_at f (λ found m'. m'.0.stored ≡ m.0.stored)
-      → (s : State (Option (Rec B)) (View B)) → Rule program key s → length s.homes ≡ slots
-      → get_elem? s.views id ≡ some m.0 → slice_index s.words stop_at < 18446744073709551616
-      → (word s.words stop_at ≡ 0 ↔ f (word s.words stop_at) ≡ 0)
+  -- the name of a cell that the seat knows is one of some round
+  abbrev pub NamesAreOfRounds : Type 0
+  NamesAreOfRounds = (program : Bool → B → Program B) (i n c : ℕ) (v : View B) (a : About B) (x : Reference)
+      → WasSo program i n v → v.about ≡ Some a → IsCell v.born c x → InRounds (program a.strict a.root) x.name

@@ -1,7 +1,7 @@
 -- What the step calls say of their seat, and what each step tells.
 use Rattle.std.specs.Prelude.{◌≡◌, ◌≢◌, ℕ, ◌<◌, ◌^◌, min, Option}
 use Rattle.atomic_table.specs.Table.{Me, Step}
-use Rattle.atomic_table.specs.declared.shared.Seat.{Seat}
+use Rattle.tj_log.specs.Shown.{SeatShown}
 use Rattle.tj_words.specs.declared.record.Rec.{Rec}
 use Rattle.tj_words.specs.declared.table.Laid.{Laid}
 use Rattle.tj_words.specs.declared.view.View.{View}
@@ -35,7 +35,7 @@ module _ {B : Type 0} where
   IsOn kind st = st.word ≡ noted_at kind
 
   -- a seat of this table
-  abbrev pub IsSeatOf : Laid B → Seat (Option (Rec B)) (View B) → Type 0
+  abbrev pub IsSeatOf : Laid B → SeatShown (Option (Rec B)) (View B) → Type 0
   IsSeatOf laid seat = seat.table_id ≡ laid.table.shared.table_id
 
   -- a cell of this table
@@ -43,7 +43,7 @@ module _ {B : Type 0} where
   IsCellOf laid c = c < laid.cells
 
   -- the seat is still the same seat of the same table, with the same slots
-  abbrev pub IsSameSeat : Seat (Option (Rec B)) (View B) → Seat (Option (Rec B)) (View B) → Type 0
+  abbrev pub IsSameSeat : SeatShown (Option (Rec B)) (View B) → SeatShown (Option (Rec B)) (View B) → Type 0
   IsSameSeat old new = (new.table_id ≡ old.table_id) × (new.id ≡ old.id) × (new.me.1 ≡ old.me.1)
 
   -- a load that is no event: the seat notes it with the number found, which may stand there

@@ -1,8 +1,9 @@
 -- What a seat knows of the tree of forks by the words that it has seen, and what loads of HEAD, NEXT and of words that
 -- are written once tell.
 use Rattle.std.specs.Prelude.{◌≡◌, ◌≢◌, ◌⊎◌, ℕ, suc, ◌-◌, ◌<◌, ◌≤◌, ◌^◌, List, [], ◌∷◌, ◌++◌, length, Bool, Some}
-use Rattle.tj_base.specs.ForkOrder.{Name}
+use Rattle.tj_base.specs.ForkOrder.{Name, child}
 use Rattle.tj_base.specs.declared.cell.Sort.TheVariants as sort
+use Rattle.tj_body.specs.History.{to_task}
 use Rattle.tj_body.specs.Programs.{Program}
 use Rattle.tj_body.specs.RoundPoints.{Becomes}
 use Rattle.tj_body.specs.Points.{IsIn, Begins}
@@ -56,6 +57,13 @@ pub record SeesTree (seen : List SeenWord) (born : List Reference) : Type 0 wher
       → HasTask forks c × (name_of forks c ≡ x.name)
   pub depths : (c : ℕ) → HasTask forks c → (node_of forks c).depth ≤ c
 
+-- PARENT and KID that were seen tell names: a cell has the name of the cell that its PARENT names, and its KID
+pub record SeesNames (seen : List SeenWord) (born : List Reference) : Type 0 where
+  pub root : IsCell born 0 (to_task [])
+  pub named : (c p k : ℕ) (x : Reference) → c ≢ 0 → IsIn (seen_word c once.Parent p) seen
+      → IsIn (seen_word c once.Kid k) seen → IsCell born c x
+      → (y : Reference) × IsCell born (p - 1) y × (x.name ≡ child y.name k)
+
 -- the cell is named by a PARENT or a JUMP that was seen
 abbrev pub IsNamedBy : ℕ → List SeenWord → Type 0
 IsNamedBy c seen = Any (λ (w : SeenWord). ((w.word ≡ once.Parent) ⊎ (w.word ≡ once.Jump)) × (w.value ≡ suc c)) seen
@@ -101,6 +109,7 @@ module _ {B : Type 0} where
     pub small : n < 2 ^ 32
     pub view : w ≡ saw_word c f n born v
     pub tree : SeesTree w.seen w.born
+    pub names : SeesNames w.seen w.born
     pub leads : IsTaskIn v.born c → LeadsTo f n born
     pub all : AreCells cells born
 

@@ -1,6 +1,6 @@
 -- What looks at the tree of forks need of a seat's view, and what they make of it.
 use Rattle.std.specs.Prelude.{◌≡◌, ◌⊎◌, ℕ, ◌+◌, List, ◌++◌, Option}
-use Rattle.atomic_table.specs.declared.shared.Seat.{Seat}
+use Rattle.tj_log.specs.Shown.{SeatShown}
 use Rattle.tj_body.specs.Points.{IsIn, Begins}
 use Rattle.tj_tree.specs.declared.node.Node.{Node}
 use Rattle.tj_words.specs.declared.record.Rec.{Rec}
@@ -26,15 +26,15 @@ module _ {B : Type 0} where
     pub rest : w ≡ record v { born = w.born; seen = w.seen; once_loads = w.once_loads; steps = w.steps }
 
   -- the second seat is the first after such loads
-  abbrev pub IsLater : ℕ → Seat (Option (Rec B)) (View B) → Seat (Option (Rec B)) (View B) → Type 0
+  abbrev pub IsLater : ℕ → SeatShown (Option (Rec B)) (View B) → SeatShown (Option (Rec B)) (View B) → Type 0
   IsLater cells old new = IsSameSeat old new × HasReadTree cells old.me.0 new.me.0
 
   -- the seat has seen the node of the task, as part of a tree of forks
-  abbrev pub TreeShown : Seat (Option (Rec B)) (View B) → ℕ → Node → Type 0
+  abbrev pub TreeShown : SeatShown (Option (Rec B)) (View B) → ℕ → Node → Type 0
   TreeShown seat n node = SeesTree seat.me.0.seen seat.me.0.born × ShowsNode seat.me.0.seen n node
 
   -- the seat may look at the node of the task
-  pub record MayLook (laid : Laid B) (seat : Seat (Option (Rec B)) (View B)) (c : ℕ) : Type 0 where
+  pub record MayLook (laid : Laid B) (seat : SeatShown (Option (Rec B)) (View B)) (c : ℕ) : Type 0 where
     pub table : IsSeatOf laid seat
     pub cell : IsCellOf laid c
     pub may : MayReadTree c seat.me.0

@@ -24,8 +24,9 @@ put_once-requires-2-clause-may g c κs within =
     let s = jump.new.seat in
     let later = later_on c.args.seat.now look.new.seat s look.ensures.later jump.ensures.later in
     may_jump c.args.laid.now.cells c.args.t.0 c.args.c.0 c.args.seat.now.me.0 s.me.0 c.requires.hand later.1
-    c.put_once.new.seat.me.0 (look.result.depth + 1) c.put_once.ensures.view (jump.result.0 + 1)
-    (λ forks h has. let e = jump.ensures.jump forks h (λ m node k. has m node k.1) in omega (arith, e))
+    c.put_once.new.seat.me.0 (look.result.depth + 1) c.put_once.ensures.view c.link_word.result
+    (λ forks h has. let e = jump.ensures.jump forks h (λ m node k. has m node k.1) in
+    omega (arith, e, c.link_word.ensures))
 
 pub returns-clause-node : goal.returns-clause-node
 returns-clause-node g c =
@@ -37,7 +38,7 @@ returns-clause-node g c =
       reads = later.1;
       loads = omega (arith, look.ensures.loads, jump.ensures.loads);
       depth = look.result.depth + 1;
-      jump = jump.result.0 + 1;
-      view = c.put_once-2.ensures.view ∙ ap (wrote_word c.args.c.0 once.Jump (jump.result.0 + 1))
+      jump = c.link_word.result;
+      view = c.put_once-2.ensures.view ∙ ap (wrote_word c.args.c.0 once.Jump c.link_word.result)
           c.put_once.ensures.view;
     }

@@ -1,6 +1,7 @@
 use Rattle.tj_detect.proofs.Prelude.{ap, arith, inl, refl, start_walk, walk_first, ◌∙◌}
 use Rattle.tj_detect.proofs.WalkBlocks.{may_raise, may_publish_other, published_other, at_count, blocks}
 use Rattle.tj_detect.proofs.WalkBlocks.{skips_exactly, alarm_stands, others_watch}
+use Rattle.tj_detect.proofs.BlockSteps.{block_made, not_along, other_steps}
 use Rattle.tj_detect.proofs.blocking.block.Goals as goal
 
 pub walk_along-requires-clause-along : goal.walk_along-requires-clause-along
@@ -63,3 +64,13 @@ returns-in-Other-clause-alarm g c = alarm_stands c.requires.may (returns-in-Othe
 pub returns-in-Other-clause-walked : goal.returns-in-Other-clause-walked
 returns-in-Other-clause-walked g c =
     others_watch c.requires.may (returns-in-Other-clause-view g c) _ c.settlers_are_not_alone.ensures
+
+pub returns-in-Other-clause-log : goal.returns-in-Other-clause-log
+returns-in-Other-clause-log g c = let a = c.args in let up = c.others_up.ensures.log in
+    block_made a.laid.now.cells a.t.0 a.q a.way c.walk.result a.seat.now c.put_wait.new.seat c.walk.new.seat up.0
+    c.walk.ensures.comes.walked (not_along a.way c.in-Other.is)
+    (other_steps a.t.0 a.q a.way c.in-Other.is a.seat.now c.others_up.new.seat c.put_wait.new.seat up.0 up.1
+    c.put_wait.ensures.log) c.walk.ensures.log
+
+pub returns-in-Along-clause-log : goal.returns-in-Along-clause-log
+returns-in-Along-clause-log g c = c.walk_along.ensures.log

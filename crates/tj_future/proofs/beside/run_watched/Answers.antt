@@ -1,9 +1,12 @@
-use Rattle.std.proofs.Common.{false, sym, subst}
+use Rattle.std.proofs.Common.{All, Global, Vec, ap, false, length-set, rules, set, subst, sym, ◌∙◌, ◌≡◌}
+use Rattle.std.proofs.lemmas.List.{with_items_is}
+use Rattle.std.proofs.lemmas.List.Elements.{All-same, All-set}
 use Rattle.tj_body.specs.Programs.{program_of}
 use Rattle.tj_run.specs.Runs.{RestsAt}
 use Rattle.tj_run.proofs.Runs.RunsAtRest.{full_told, rests_at}
 use Rattle.tj_future.specs.RootWatches.{IsRootWatched}
 use Rattle.tj_future.proofs.beside.run_watched.Goals as goal
+use Rattle.tj_future.proofs.beside.run_watched.Goals.{in-Some+in_ok-put, in_default}
 
 pub with_root-requires-clause-named : goal.with_root-requires-clause-named
 with_root-requires-clause-named g c κs within = let m = c.rest.ensures.meaning in (m.0, m.1.named)
@@ -26,3 +29,21 @@ returns-in-Stopped-clause-full g c e = let b = g.B.Body in let stopped = c.in-St
     full_told (program_of b.places b.awaits b.left b.asks b.then) c.args.root c.args.cells false all.result.1
     stopped.why stopped.is (c.fault_of.ensures e) c.in_ok-laid.seat.me all.result.0.me c.in_ok-laid.ensures.view
     all.ensures.left
+
+pub work_watched-seat-requires-clause-pools : goal.work_watched-seat-requires-clause-pools
+work_watched-seat-requires-clause-pools g c κs within =
+    let P : g.row.P.Denot → Type 0 = λ end. g.P.Pool.limit end ≡ c.args.cells in
+    let v = c.in_ok-ends.ends in let now = c.as_mut_slice.result.now in let ends = c.match-first_mut.ends in
+    let was : All P now = All-same P now v.items c.as_mut_slice.ensures.value c.in_ok-ends.ensures.limit in
+    rw c.in_ok-laid.ensures.cells
+    (elim c.match-first_mut.branch [
+      | in-Some+in_ok-put w ↦ All-same P ends.items (set now 0 w.put.new.self)
+          (ap (λ (e : Vec g.row.P.Denot Global). e.items) w.ends-is ∙ with_items_is v (set now 0 w.put.new.self)
+          (length-set now 0 w.put.new.self ∙ c.as_mut_slice.ensures.len))
+          (All-set P now 0 w.put.new.self (w.in_ok-put.ensures.limit
+          ∙ (ap (λ (e : g.row.P.Denot). g.P.Pool.limit e) w.in-Some.ensures.item.1
+          ∙ was 0 w.in-Some.first.now (search rules))) was)
+      | in_default w ↦ All-same P ends.items now
+          (ap (λ (e : Vec g.row.P.Denot Global). e.items) w.ends-is
+          ∙ with_items_is v now c.as_mut_slice.ensures.len) was
+    ])

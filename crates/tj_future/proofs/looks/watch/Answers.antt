@@ -1,4 +1,4 @@
-use Rattle.std.proofs.Common.{◌∙◌, None}
+use Rattle.std.proofs.Common.{◌∙◌}
 use Rattle.tj_words.proofs.SeatLoads.KnowsMoreOn.{more_itself, more_on}
 use Rattle.tj_future.proofs.Looking.{knows_still}
 use Rattle.tj_future.proofs.looks.watch.Goals as goal

@@ -1,4 +1,7 @@
 use Rattle.tj_park.proofs.Prelude.{MayRaiseLive, MayRelease, SeatMe, ap, live_raised, released, rest, subst, sym, ◌∙◌}
+use Rattle.std.proofs.Common.{◌∷◌}
+use Rattle.tj_words.specs.CallLaws.StepCalls as call
+use Rattle.tj_words.specs.CallLaws.StepLogs.{entry_of}
 use Rattle.tj_park.proofs.LeftTasks.{raise_child, ready_child, child_released}
 use Rattle.tj_park.proofs.children.release.Goals as goal
 
@@ -19,3 +22,11 @@ returns-clause-me g c =
     (c.live_up.ensures.me ∙ ap live_raised c.slot_swap.ensures.me)
     ∙ ap (λ v. (v, rest c.args.seat.now.me.1))
     (child_released _ c.args.t.0 c.args.rec c.args.seat.now.me.0 (rest c.args.seat.now.me.1) c.requires.may))
+
+pub returns-clause-log : goal.returns-clause-log
+returns-clause-log g c = let up = c.live_up.ensures.log in let put = c.put_phase.ensures.log in let n = up.0 in (
+  n,
+  put.0 ∙ ap (λ l. entry_of (call.puts_phase c.args.t.0) 1 0 1 ∷ l)
+      (up.1.0 ∙ ap (λ l. entry_of call.raises_live 1 0 n ∷ l) c.slot_swap.ensures.log.0),
+  put.1 ∙ (up.1.1 ∙ c.slot_swap.ensures.log.1),
+)

@@ -1,5 +1,5 @@
 use Rattle.tj_park.proofs.Prelude.{MayBreak, WakesEach, drop, numbers, program_of, result_of, subst, sym, ◌∙◌}
-use Rattle.tj_park.proofs.EndSteps.{slice_rest, is_cell, may_break}
+use Rattle.tj_park.proofs.EndSteps.{is_cell, may_break}
 use Rattle.tj_park.proofs.EndRuns.{begun, may_close, laid, may_end, at_end, may_wake, unnoted, about_woken, notes_woken}
 use Rattle.tj_park.proofs.EndRuns.{may_lower, finished, slots_then, unnoted_last}
 use Rattle.tj_park.proofs.OwedRecords.{closes_once, owes_at_home}
@@ -11,7 +11,7 @@ break_promises-requires-clause-may g c κs within = let m = c.requires.may in
     let written = c.points_in_rounds.ensures.written m.about.strict m.about.root m.rooted in
     let ordered = c.names_and_cells.ensures.elements in
     subst (λ l. MayBreak (program_of g.B.Body.places g.B.Body.awaits g.B.Body.left g.B.Body.asks g.B.Body.then)
-    c.args.t.0 l c.args.seat.now.me.0) (sym (slice_rest c.items.result.now c.args.rec.owned c.items.ensures))
+    c.args.t.0 l c.args.seat.now.me.0) (sym c.promises.ensures.promises)
     (may_break (program_of g.B.Body.places g.B.Body.awaits g.B.Body.left g.B.Body.asks g.B.Body.then)
     c.args.t.0 c.args.rec c.args.seat.now.me.0 m written ordered)
 
@@ -40,23 +40,26 @@ pub close_result-requires-clause-may : goal.close_result-requires-clause-may
 close_result-requires-clause-may g c κs within =
     let m = c.requires.may in
     let e = begun c.args.seat.now.me.1 m (c.points_in_rounds.ensures.written m.about.strict m.about.root m.rooted)
-    c.names_and_cells.ensures.elements c.items.ensures c.in_ok-break_promises.ensures.broken c.requires.others in
-    may_close e
+    c.names_and_cells.ensures.elements c.promises.ensures.promises c.in_ok-break_promises.ensures.broken
+    c.requires.others in
+    may_close e c.finish.ensures
 
 pub put_phase-requires-clause-may : goal.put_phase-requires-clause-may
 put_phase-requires-clause-may g c κs within =
     let m = c.requires.may in
     let e = begun c.args.seat.now.me.1 m (c.points_in_rounds.ensures.written m.about.strict m.about.root m.rooted)
-    c.names_and_cells.ensures.elements c.items.ensures c.in_ok-break_promises.ensures.broken c.requires.others in
-    may_end e (laid e c.slot_swap.ensures.me c.close_result.ensures.view c.without_owned.ensures
+    c.names_and_cells.ensures.elements c.promises.ensures.promises c.in_ok-break_promises.ensures.broken
+    c.requires.others in
+    may_end e (laid e c.slot_swap.ensures.me c.close_result.ensures.view c.finish.ensures c.end.ensures
     (c.close_result.ensures.seat.2 ∙ c.break_promises.ensures.seat.2))
 
 pub wake-requires-clause-may : goal.wake-requires-clause-may
 wake-requires-clause-may g c κs within =
     let m = c.requires.may in
     let e = begun c.args.seat.now.me.1 m (c.points_in_rounds.ensures.written m.about.strict m.about.root m.rooted)
-    c.names_and_cells.ensures.elements c.items.ensures c.in_ok-break_promises.ensures.broken c.requires.others in
-    let end = at_end e c.slot_swap.ensures.me c.close_result.ensures.view c.without_owned.ensures
+    c.names_and_cells.ensures.elements c.promises.ensures.promises c.in_ok-break_promises.ensures.broken
+    c.requires.others in
+    let end = at_end e c.slot_swap.ensures.me c.close_result.ensures.view c.finish.ensures c.end.ensures
     (c.close_result.ensures.seat.2 ∙ c.break_promises.ensures.seat.2) c.put_phase.ensures.puts in
     may_wake e end
 
@@ -64,8 +67,9 @@ pub live_down-requires-clause-may : goal.live_down-requires-clause-may
 live_down-requires-clause-may g c κs within =
     let m = c.requires.may in
     let e = begun c.args.seat.now.me.1 m (c.points_in_rounds.ensures.written m.about.strict m.about.root m.rooted)
-    c.names_and_cells.ensures.elements c.items.ensures c.in_ok-break_promises.ensures.broken c.requires.others in
-    let end = at_end e c.slot_swap.ensures.me c.close_result.ensures.view c.without_owned.ensures
+    c.names_and_cells.ensures.elements c.promises.ensures.promises c.in_ok-break_promises.ensures.broken
+    c.requires.others in
+    let end = at_end e c.slot_swap.ensures.me c.close_result.ensures.view c.finish.ensures c.end.ensures
     (c.close_result.ensures.seat.2 ∙ c.break_promises.ensures.seat.2) c.put_phase.ensures.puts in
     may_lower e end c.in_ok-wake.ensures.woke.woke c.wake.ensures.seat.2
 
@@ -73,8 +77,9 @@ pub returns-clause-ended : goal.returns-clause-ended
 returns-clause-ended g c =
     let m = c.requires.may in
     let e = begun c.args.seat.now.me.1 m (c.points_in_rounds.ensures.written m.about.strict m.about.root m.rooted)
-    c.names_and_cells.ensures.elements c.items.ensures c.in_ok-break_promises.ensures.broken c.requires.others in
-    let end = at_end e c.slot_swap.ensures.me c.close_result.ensures.view c.without_owned.ensures
+    c.names_and_cells.ensures.elements c.promises.ensures.promises c.in_ok-break_promises.ensures.broken
+    c.requires.others in
+    let end = at_end e c.slot_swap.ensures.me c.close_result.ensures.view c.finish.ensures c.end.ensures
     (c.close_result.ensures.seat.2 ∙ c.break_promises.ensures.seat.2) c.put_phase.ensures.puts in
     finished e end c.in_ok-wake.ensures.woke.woke c.wake.ensures.seat.2 c.live_down.ensures.me
 
@@ -85,8 +90,9 @@ pub returns-in_err-wake-clause-about : goal.returns-in_err-wake-clause-about
 returns-in_err-wake-clause-about g c =
     let m = c.requires.may in
     let e = begun c.args.seat.now.me.1 m (c.points_in_rounds.ensures.written m.about.strict m.about.root m.rooted)
-    c.names_and_cells.ensures.elements c.items.ensures c.in_ok-break_promises.ensures.broken c.requires.others in
-    let end = at_end e c.slot_swap.ensures.me c.close_result.ensures.view c.without_owned.ensures
+    c.names_and_cells.ensures.elements c.promises.ensures.promises c.in_ok-break_promises.ensures.broken
+    c.requires.others in
+    let end = at_end e c.slot_swap.ensures.me c.close_result.ensures.view c.finish.ensures c.end.ensures
     (c.close_result.ensures.seat.2 ∙ c.break_promises.ensures.seat.2) c.put_phase.ensures.puts in
     about_woken e end c.in_err-wake.ensures.memory.woke
 
@@ -97,8 +103,9 @@ pub returns-clause-slots : goal.returns-clause-slots
 returns-clause-slots g c =
     let m = c.requires.may in
     let e = begun c.args.seat.now.me.1 m (c.points_in_rounds.ensures.written m.about.strict m.about.root m.rooted)
-    c.names_and_cells.ensures.elements c.items.ensures c.in_ok-break_promises.ensures.broken c.requires.others in
-    let end = at_end e c.slot_swap.ensures.me c.close_result.ensures.view c.without_owned.ensures
+    c.names_and_cells.ensures.elements c.promises.ensures.promises c.in_ok-break_promises.ensures.broken
+    c.requires.others in
+    let end = at_end e c.slot_swap.ensures.me c.close_result.ensures.view c.finish.ensures c.end.ensures
     (c.close_result.ensures.seat.2 ∙ c.break_promises.ensures.seat.2) c.put_phase.ensures.puts in
     slots_then e end c.in_ok-wake.ensures.woke.woke c.wake.ensures.seat.2 c.live_down.ensures.me
 
@@ -106,15 +113,16 @@ pub returns-clause-woke : goal.returns-clause-woke
 returns-clause-woke g c =
     let m = c.requires.may in
     let e = begun c.args.seat.now.me.1 m (c.points_in_rounds.ensures.written m.about.strict m.about.root m.rooted)
-    c.names_and_cells.ensures.elements c.items.ensures c.in_ok-break_promises.ensures.broken c.requires.others in
-    let end = at_end e c.slot_swap.ensures.me c.close_result.ensures.view c.without_owned.ensures
+    c.names_and_cells.ensures.elements c.promises.ensures.promises c.in_ok-break_promises.ensures.broken
+    c.requires.others in
+    let end = at_end e c.slot_swap.ensures.me c.close_result.ensures.view c.finish.ensures c.end.ensures
     (c.close_result.ensures.seat.2 ∙ c.break_promises.ensures.seat.2) c.put_phase.ensures.puts in
     one_wake_more g.P.Pool.puts (numbers (drop 1 c.args.rec.owned)) c.args.t.0 c.in_ok-wake.field-0
     c.args.seat.now.me.0 c.break_promises.new.seat.me.0 c.put_phase.new.seat.me.0 c.wake.new.seat.me.0
     c.live_down.new.seat.me.0 c.args.pool.now c.break_promises.new.pool c.wake.new.pool
     (subst (λ l. WakesEach g.P.Pool.puts (numbers l) c.args.seat.now.me.0 c.break_promises.new.seat.me.0
     c.args.pool.now c.break_promises.new.pool)
-    (slice_rest c.items.result.now c.args.rec.owned c.items.ensures) c.in_ok-break_promises.ensures.woke)
+    c.promises.ensures.promises c.in_ok-break_promises.ensures.woke)
     (unnoted e end) c.in_ok-wake.ensures.woke
     (unnoted_last e end c.in_ok-wake.ensures.woke.woke c.wake.ensures.seat.2 c.live_down.ensures.me)
 
@@ -136,8 +144,9 @@ pub returns-in_err-wake-clause-notes : goal.returns-in_err-wake-clause-notes
 returns-in_err-wake-clause-notes g c =
     let m = c.requires.may in
     let e = begun c.args.seat.now.me.1 m (c.points_in_rounds.ensures.written m.about.strict m.about.root m.rooted)
-    c.names_and_cells.ensures.elements c.items.ensures c.in_ok-break_promises.ensures.broken c.requires.others in
-    let end = at_end e c.slot_swap.ensures.me c.close_result.ensures.view c.without_owned.ensures
+    c.names_and_cells.ensures.elements c.promises.ensures.promises c.in_ok-break_promises.ensures.broken
+    c.requires.others in
+    let end = at_end e c.slot_swap.ensures.me c.close_result.ensures.view c.finish.ensures c.end.ensures
     (c.close_result.ensures.seat.2 ∙ c.break_promises.ensures.seat.2) c.put_phase.ensures.puts in
     notes_woken e end c.in_err-wake.ensures.memory.woke
 

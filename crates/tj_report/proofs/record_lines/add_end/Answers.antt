@@ -8,7 +8,8 @@ use Rattle.tj_report.proofs.record_lines.add_end.Goals as goal
 pub add_finish-requires-clause-below : goal.add_finish-requires-clause-below
 add_finish-requires-clause-below g c κs within =
     let r = c.args.r.now in
-    finish_below (length c.args.rest.now.cells) r.finish r.answer r.held c.in-Some.finish c.in-Some.is c.requires.below
+    finish_below (length c.args.rest.now.cells) r.finish r.answer r.held c.in-Some.finish
+    (sym c.finish-ended.ensures ∙ c.in-Some.is) c.requires.below
 
 pub returns-in-Some : goal.returns-in-Some
 returns-in-Some g c e h =
@@ -16,7 +17,7 @@ returns-in-Some g c e h =
     c.in_ok-add_finish.ensures
     ∙ ap (λ x. c.args.text.now.items ++ ending_text x)
     (some_is (finished_by ns c.in-Some.finish) e
-    (sym (ap (λ f. ending_by ns f r.answer r.held) c.in-Some.is) ∙ h))
+    (sym (ap (λ f. ending_by ns f r.answer r.held) (sym c.finish-ended.ensures ∙ c.in-Some.is)) ∙ h))
 
 pub add_cell-requires-clause-there : goal.add_cell-requires-clause-there
 add_cell-requires-clause-there g c κs within =
@@ -35,5 +36,5 @@ returns-in_ok-add_cell g c e h =
 pub returns-in_default-awaited : goal.returns-in_default-awaited
 returns-in_default-awaited g c e h =
     let r = c.args.r.now in
-    absurd (stopped_not (length c.args.rest.now.cells) r.finish r.answer r.held c.requires.below c.in_default.is
-    (sym c.in_default-awaited.ensures))
+    absurd (stopped_not (length c.args.rest.now.cells) r.finish r.answer r.held c.requires.below
+    (sym c.finish-ended.ensures ∙ c.in_default.is) (sym c.in_default-awaited.ensures))

@@ -23,9 +23,9 @@ returns g c = λ s h.
     (owes_line name (in_order (map (name_in ns) r.owed))) c.add_prints.new.text.items
     c.extend_from_slice.new.self.items c.add_end.new.text.items c.push.new.self.items c.add_owed_line.new.text.items
     (c.in_ok-add_prints.ensures
-    ∙ ap (λ ps. c.args.text.now.items ++ flat_map (print_line name) ps) c.items.ensures)
+    ∙ ap (λ ps. c.args.text.now.items ++ flat_map (print_line name) ps) c.prints.ensures)
     c.in_ok-extend_from_slice.ensures.items (c.in_ok-add_end.ensures l.0 l.1) c.in_ok-push.ensures.items
     (c.in_ok-add_owed_line.ensures
     ∙ ap (λ (cs : List CellId). c.push.new.self.items ++ owes_line name (in_order (map (name_in ns) cs)))
-    c.items-2.ensures)
+    c.owed.ensures)
     ∙ ap (λ z. c.args.text.now.items ++ lines_of name z) (sym l.2)

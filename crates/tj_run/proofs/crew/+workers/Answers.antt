@@ -8,7 +8,7 @@ use Rattle.tj_run.proofs.Seats.FreeSeats.{free_left, free_right}
 use Rattle.tj_run.proofs.Seats.ThreadSends.{laid_sync, seven_send, slot_send, u32_send, unseen_quiet}
 use Rattle.tj_run.proofs.Seats.SplitLots.{falls_by, length_last, lots_left, lots_two, some_more}
 use Rattle.tj_words.specs.contracts.view.View as view
-use Rattle.atomic_table.proofs.shared.Seat.TheSendSync as seat
+use Rattle.tj_log.proofs.seat.LogSeat.TheSendSync as seat
 use Rattle.tj_run.proofs.crew.+workers.Goals as goal
 
 pub overflow_cast-number : goal.overflow_cast-number

@@ -1,4 +1,6 @@
-use Rattle.tj_run.proofs.Prelude.{program_of}
+use Rattle.tj_run.proofs.Prelude.{ap, program_of, ◌∙◌, ◌∷◌}
+use Rattle.tj_words.specs.CallLaws.StepCalls as call
+use Rattle.tj_words.specs.CallLaws.StepLogs.{entry_of}
 use Rattle.tj_run.proofs.Runs.TurnSteps.{left_live, rest_found}
 use Rattle.tj_run.proofs.turns.idle.Goals as goal
 
@@ -10,3 +12,7 @@ returns-then-live-eq0-clause-found g c = let b = g.B.Body in
 pub returns-clause-turns : goal.returns-clause-turns
 returns-clause-turns g c = left_live c.args.laid.now c.live.result c.args.seat.now.me c.live.new.seat.me c.requires.free
     (c.live.ensures.live c.if-live-eq0.false) c.live.ensures.seat.2
+
+pub returns-then-live-eq0-clause-log : goal.returns-then-live-eq0-clause-log
+returns-then-live-eq0-clause-log g c = let old = c.args.seat.now.log in
+    (old, c.live.ensures.log.0 ∙ ap (λ n. entry_of call.sees_live 0 0 n ∷ old) c.if-live-eq0.true)

@@ -4,21 +4,21 @@ use Rattle.tj_words.specs.declared.view.Noted.TheVariants as note
 use Rattle.tj_run.proofs.turns.stop_run.Goals as goal
 
 pub unreachable-requires : goal.unreachable-requires
-unreachable-requires g c = c.stop_word.ensures.stands c.match-why.word
-    (subst (IsIn c.match-why.word) (sym (ap (λ (m : SeatMe g.row.B.Denot). m.0.stored) c.stop.ensures.me)) (inl refl))
+unreachable-requires g c = c.stop_word.ensures.stands c.word-word.result
+    (subst (IsIn c.word-word.result) (sym (ap (λ (m : SeatMe g.row.B.Denot). m.0.stored) c.stop-2.ensures.me)) (inl refl))
     c.in-None.is
 
 pub returns-clause-stopped : goal.returns-clause-stopped
 returns-clause-stopped g c = let b = g.B.Body in
-    stopped_since (program_of b.places b.awaits b.left b.asks b.then) c.args.seat.now.me.0 c.stop.new.seat.me.0
-    c.stop_word.new.seat.me.0 c.in-Some.told (ap (λ (m : SeatMe g.row.B.Denot). m.0.about) c.stop.ensures.me)
+    stopped_since (program_of b.places b.awaits b.left b.asks b.then) c.args.seat.now.me.0 c.stop-2.new.seat.me.0
+    c.stop_word.new.seat.me.0 c.in-Some.told (ap (λ (m : SeatMe g.row.B.Denot). m.0.about) c.stop-2.ensures.me)
     c.in-Some.ensures.some
 
 pub returns-clause-found : goal.returns-clause-found
 returns-clause-found g c = let b = g.B.Body in
     stop_since (program_of b.places b.awaits b.left b.asks b.then) c.in-Some.told c.args.seat.now.me.0
-    c.stop.new.seat.me.0 c.stop_word.new.seat.me.0 (
-      note_of note.StoredStop c.match-why.word c.args.seat.now.me.0 ∷ [],
-      ap (λ (m : SeatMe g.row.B.Denot). m.0.notes) c.stop.ensures.me,
+    c.stop-2.new.seat.me.0 c.stop_word.new.seat.me.0 (
+      note_of note.StoredStop c.word-word.result c.args.seat.now.me.0 ∷ [],
+      ap (λ (m : SeatMe g.row.B.Denot). m.0.notes) c.stop-2.ensures.me,
     )
     c.in-Some.ensures.found

@@ -1,18 +1,27 @@
-use Rattle.tj_run.proofs.Prelude.{program_of, rules, ◌≡◌}
-use Rattle.tj_run.proofs.Runs.TurnSteps.{stop_found}
-use Rattle.tj_run.specs.declared.why.Why.TheVariants as why
+use Rattle.tj_run.proofs.Prelude.{ap, program_of, refl, sym, ◌∙◌, ◌∷◌}
+use Rattle.tj_words.specs.CallLaws.StepCalls as call
+use Rattle.tj_words.specs.CallLaws.StepLogs.{entry_of}
+use Rattle.tj_run.proofs.Runs.TurnSteps.{stop_found, stop_left}
 use Rattle.tj_run.proofs.turns.stop_word.Goals as goal
 
-pub returns-in-0-clause-stands : goal.returns-in-0-clause-stands
-returns-in-0-clause-stands g c = λ n i e. c.stopped.ensures.stands n i c.in-0.is
+pub returns-in-None-clause-stands : goal.returns-in-None-clause-stands
+returns-in-None-clause-stands g c = λ n i e. c.stopped-word.ensures.stands n i (c.in-None.ensures.none refl)
 
-pub returns-in-1-clause-found : goal.returns-in-1-clause-found
-returns-in-1-clause-found g c = let b = g.B.Body in
-    stop_found (program_of b.places b.awaits b.left b.asks b.then) why.Full c.stopped.result c.args.seat.now.me.0
-    c.stopped.new.seat.me.0 c.in-1.is c.stopped.ensures.moment c.stopped.ensures.view
+pub returns-in-Some-clause-found : goal.returns-in-Some-clause-found
+returns-in-Some-clause-found g c = let b = g.B.Body in
+    stop_found (program_of b.places b.awaits b.left b.asks b.then) c.of_stop.result c.stopped-word.result
+    c.args.seat.now.me.0 c.stopped-word.new.seat.me.0 (sym (c.of_stop.ensures ∙ c.in-Some.ensures.back))
+    c.stopped-word.ensures.moment c.stopped-word.ensures.view
 
-pub returns-in_default-clause-found : goal.returns-in_default-clause-found
-returns-in_default-clause-found g c = let b = g.B.Body in
-    let two : c.stopped.result ≡ 2 = search rules in
-    stop_found (program_of b.places b.awaits b.left b.asks b.then) why.Memory c.stopped.result c.args.seat.now.me.0
-    c.stopped.new.seat.me.0 two c.stopped.ensures.moment c.stopped.ensures.view
+pub returns-in-Some-clause-some : goal.returns-in-Some-clause-some
+returns-in-Some-clause-some g c = let b = g.B.Body in
+    stop_left (program_of b.places b.awaits b.left b.asks b.then) c.of_stop.result c.stopped-word.result
+    c.args.seat.now.me.0 c.stopped-word.new.seat.me.0 (sym (c.of_stop.ensures ∙ c.in-Some.ensures.back))
+    c.stopped-word.ensures.view c.stopped-word.ensures.full
+
+pub returns-in-Some-clause-log : goal.returns-in-Some-clause-log
+returns-in-Some-clause-log g c = let old = c.args.seat.now.log in (
+  old,
+  c.stopped-word.ensures.log.0 ∙ ap (λ n. entry_of call.sees_stop 0 0 n ∷ old)
+      (sym (c.of_stop.ensures ∙ c.in-Some.ensures.back)),
+)

@@ -1,4 +1,5 @@
-use Rattle.tj_run.proofs.Prelude.{no_some, refl, ◌∙◌}
+use Rattle.tj_run.proofs.Prelude.{CellId, GaveBack, LeftTask, None, ap, no_some, program_of, refl, rest, shelved, subst}
+use Rattle.tj_run.proofs.Prelude.{◌∙◌, ◌∷◌}
 use Rattle.tj_run.proofs.Waiting.BlockedTasks.{blocked_others, blocked_slot, comes_back, leaves_parked, leaves_shelved}
 use Rattle.tj_run.proofs.Waiting.BlockedTasks.{may_be_parked, may_be_shelved}
 use Rattle.tj_run.proofs.Waiting.WaitConditions.{quiet_either}
@@ -6,15 +7,15 @@ use Rattle.tj_run.proofs.waits.wait.Goals as goal
 
 pub shelve-requires-clause-slot : goal.shelve-requires-clause-slot
 shelve-requires-clause-slot g c κs within = let x = c.block_at-way in
-    blocked_slot x.ensures.blocked
+    rw c.cell-t.ensures (blocked_slot x.ensures.blocked)
 
 pub shelve-requires-clause-may : goal.shelve-requires-clause-may
 shelve-requires-clause-may g c κs within = let x = c.block_at-way in
-    may_be_shelved x.ensures.blocked c.in-Alarm.is
+    rw c.cell-t.ensures (may_be_shelved x.ensures.blocked c.in-Alarm.is)
 
 pub park-requires-clause-slot : goal.park-requires-clause-slot
 park-requires-clause-slot g c κs within = let x = c.block_at-way in
-    blocked_slot x.ensures.blocked
+    rw c.cell-t.ensures (blocked_slot x.ensures.blocked)
 
 pub park-requires-clause-others : goal.park-requires-clause-others
 park-requires-clause-others g c κs within = let x = c.block_at-way in
@@ -22,25 +23,29 @@ park-requires-clause-others g c κs within = let x = c.block_at-way in
 
 pub park-requires-clause-may : goal.park-requires-clause-may
 park-requires-clause-may g c κs within = let x = c.block_at-way in
-    may_be_parked x.ensures.blocked (quiet_either x.result.2 c.in-Walked.is)
+    rw c.cell-t.ensures (may_be_parked x.ensures.blocked (quiet_either x.result.2 c.in-Walked.is))
 
 pub returns-in-Alarm-clause-left : goal.returns-in-Alarm-clause-left
 returns-in-Alarm-clause-left g c = let x = c.block_at-way in
     λ e. leaves_shelved x.ensures.blocked c.in-Alarm.is c.shelve.new.seat.me
-    c.shelve.ensures.me
+    (c.shelve.ensures.me ∙ ap (λ (t : CellId). (shelved t.0 x.new.seat.me.0, rest x.new.seat.me.1)) c.cell-t.ensures)
 
 pub returns-in-Left : goal.returns-in-Left
 returns-in-Left g c = let x = c.block_at-way in record {
   table = c.park.ensures.table ∙ x.ensures.table;
   left = λ e. leaves_parked x.ensures.blocked (quiet_either x.result.2 c.in-Walked.is)
-      c.park.new.seat.me c.in-Left.ensures.left c.in-Left.ensures.left_slot;
+      c.park.new.seat.me (subst (λ (t : CellId). LeftTask c.args.laid.now.cells t.0 x.new.seat.me.0
+      c.park.new.seat.me.0) c.cell-t.ensures c.in-Left.ensures.left) c.in-Left.ensures.left_slot;
   back = tt;
 }
 
 pub returns-in-Back : goal.returns-in-Back
-returns-in-Back g c = let x = c.block_at-way in record {
+returns-in-Back g c = let x = c.block_at-way in let b = g.B.Body in record {
   table = c.park.ensures.table ∙ x.ensures.table;
   left = λ e. no_some e refl;
   back = comes_back x.ensures.blocked (quiet_either x.result.2 c.in-Walked.is)
-      c.park.new.seat.me c.in-Back.rec c.in-Back.ensures.back c.in-Back.ensures.back_slot;
+      c.park.new.seat.me c.in-Back.rec (subst (λ (t : CellId). GaveBack (program_of b.places b.awaits b.left b.asks
+      b.then) c.args.laid.now.cells t.0 x.result.0.0 c.in-Back.rec x.new.seat.me.0 c.park.new.seat.me.0)
+      c.cell-t.ensures c.in-Back.ensures.back)
+      (c.in-Back.ensures.back_slot ∙ ap (λ (t : CellId). (t.0, None) ∷ rest x.new.seat.me.1) c.cell-t.ensures);
 }

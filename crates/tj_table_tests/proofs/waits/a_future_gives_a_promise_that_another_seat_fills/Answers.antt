@@ -38,3 +38,6 @@ pub new-requires-clause-idle : goal.new-requires-clause-idle
 new-requires-clause-idle g c κs = let l = c.table_of-rig.result.0.laid in let m = c.look_at.new.seat.me in
     subst (λ (x : SeatMe TableBody). IsIdle x.0) (sym c.split-first.ensures.other_view)
     (free_idle l (right_half m.0, []) (free_right l m (free g (goal.at.new-requires-clause-idle g c).In-None)))
+
+pub fill-requires-clause-owner : goal.fill-requires-clause-owner
+fill-requires-clause-owner g c κs = rw c.cell.ensures c.to_set-told.ensures.gives

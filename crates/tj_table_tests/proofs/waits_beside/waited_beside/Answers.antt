@@ -2,7 +2,7 @@ use mir.Syntax.{named, ty_ptr}
 use denote.Exit.{no}
 use denote.Param.{param}
 use denote.Param.Send.{arg_send, param_send, shr_send}
-use Rattle.atomic_table.proofs.shared.Seat.TheSendSync as seat
+use Rattle.tj_log.proofs.seat.LogSeat.TheSendSync as seat
 use Rattle.std.proofs.Common.{[]}
 use Rattle.tj_words.specs.contracts.view.View as view
 use Rattle.tj_run.proofs.Seats.ThreadSends.{laid_sync, slot_send}

@@ -6,5 +6,5 @@ use Rattle.tj_why.proofs.dot.drawings.Given as goal
 
 -- the tasks so far
 abbrev pub invariant-loop-line : goal.invariant-loop-line
-invariant-loop-line l =
-    l.text.items ≡ flat_map (drawing (view l.scene) l.cycles) (take l.line-index l.scene.lines.now)
+invariant-loop-line l = l.text.items ≡ flat_map
+    (drawing (view l.scene) l.lookups.lines.now l.members.cycles.now) (take l.line-index l.lookups.lines.now)

@@ -7,6 +7,14 @@ use Rattle.tj_trace.specs.Traces.{AreTraced}
 use Rattle.tj_why.proofs.ToldInputs.{ended_told}
 use Rattle.tj_why.proofs.told.told_outcome.Goals as goal
 
+-- the lines of a trace are in name order
+pub why_text-requires : goal.why_text-requires
+why_text-requires c =
+    let limits = c.args.command.limits in
+    let traced = subst (AreTraced (logged_program limits.strict c.args.root.now) limits.cells) (sym c.items.ensures)
+    c.in-Ok.ensures.traced in
+    traced.in_name_order
+
 pub returns : goal.returns
 returns c =
     let limits = c.args.command.limits in

@@ -5,5 +5,5 @@ use Rattle.tj_why.specs.WhyTexts.{member}
 use Rattle.tj_why.proofs.why_lines.each_member.Given as goal
 
 -- the members so far
-abbrev pub invariant-loop-link : goal.invariant-loop-link
-invariant-loop-link l = l.text.items ≡ flat_map (member (view l.scene)) (take l.link-index l.links)
+abbrev pub invariant-loop-wait : goal.invariant-loop-wait
+invariant-loop-wait l = l.text.items ≡ flat_map (member (view l.scene)) (take l.wait-index l.waits)

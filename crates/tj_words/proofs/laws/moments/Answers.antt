@@ -1,6 +1,5 @@
-use Rattle.tj_words.proofs.SeatLoads.FreeNext.{next_is_free}
-use Rattle.tj_words.proofs.SeatLoads.MomentLaws.{count_above, live_counts, lone_claims, no_hidden_stop, others_count}
-use Rattle.tj_words.proofs.SeatLoads.MomentLaws.{one_cell_counts, one_cell_lives, owner_is, phase_is, stop_stands}
+use Rattle.tj_words.proofs.SeatLoads.MomentLaws.{count_above, live_counts, names_are, others_count, owner_is}
+use Rattle.tj_words.proofs.SeatLoads.MomentLaws.{phase_is, stop_stands}
 use Rattle.tj_words.proofs.laws.moments.Goals as goal
 
 pub returns-clause-live : goal.returns-clause-live
@@ -21,17 +20,5 @@ returns-clause-others g c = others_count
 pub returns-clause-stop : goal.returns-clause-stop
 returns-clause-stop g c = stop_stands
 
-pub returns-clause-claim : goal.returns-clause-claim
-returns-clause-claim g c = lone_claims
-
-pub returns-clause-one_count : goal.returns-clause-one_count
-returns-clause-one_count g c = one_cell_counts
-
-pub returns-clause-one_live : goal.returns-clause-one_live
-returns-clause-one_live g c = one_cell_lives
-
-pub returns-clause-free_next : goal.returns-clause-free_next
-returns-clause-free_next g c = next_is_free
-
-pub returns-clause-no_hidden : goal.returns-clause-no_hidden
-returns-clause-no_hidden g c = no_hidden_stop
+pub returns-clause-names : goal.returns-clause-names
+returns-clause-names g c = names_are

@@ -29,7 +29,8 @@ overflow_cast-result g c = let e = read_at _ c.once_at-3.ensures.word c.word-5.e
 
 pub returns : goal.returns
 returns g c =
-    let own = read_at _ c.own_at.ensures.word c.word.ensures in let phase = read_at _ c.phase_at.ensures.word c.word-2.ensures in
+    let own = read_at _ c.own_at.ensures.word c.word.ensures in let phase = read_at _ c.phase_at.ensures.word
+    c.word-2.ensures in
     let tag = read_at _ c.once_at.ensures.word c.word-3.ensures in
     let parent = read_at _ c.once_at-2.ensures.word c.word-4.ensures in
     let kid = read_at _ c.once_at-3.ensures.word c.word-5.ensures in λ j. record {

@@ -2,7 +2,7 @@ use Rattle.std.proofs.Common.{◌≡◌, ◌<◌, ◌≤◌, ℕ, length, vec_ca
 use mathlib.Core.Option.{some}
 use lib.ListN.{get_elem?}
 use Rattle.std.specs.Slots.{slots_items}
-use Rattle.tj_words.specs.Inner.ShownCells.{cell_of}
+use Rattle.tj_words.specs.AtRest.ShownCells.{cell_of}
 use Rattle.tj_words.proofs.rest.show_cells.Given as goal
 
 -- the cells that are done are shown, and there is room for the others

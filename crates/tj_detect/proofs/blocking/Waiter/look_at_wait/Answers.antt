@@ -2,6 +2,8 @@ use Rattle.tj_detect.proofs.Prelude.{MayLoadWait, Some, ap, false, inr, is_owner
 use Rattle.tj_detect.proofs.Prelude.{◌≡◌}
 use Rattle.tj_words.specs.Steps.StepEvents.{wait_in}
 use Rattle.tj_detect.proofs.WalkReads.{no_wait, at_again, passes_next, has_changed, its_next, walks_at}
+use Rattle.std.proofs.Common.{arith}
+use Rattle.tj_detect.proofs.BlockSteps.{loads_few, loads_on, loads_owner, loads_phase}
 use Rattle.tj_detect.proofs.blocking.Waiter.look_at_wait.Goals as goal
 
 pub see_owner-again-requires-clause-walks : goal.see_owner-again-requires-clause-walks
@@ -40,3 +42,17 @@ returns-else-is_owner-clause-passes g c = λ q way w has.
     = sym c.is_owner.ensures ∙ c.if-is_owner.false in
     has_changed _ _ q way w has c.args.self.now.laid.now.cells _ may _ _ c.see_phase-found.ensures.view _ _
     c.tick.ensures _ waits _ _ c.see_owner-again.ensures.view _ c.tick-in-Some.ensures changed
+
+pub returns-in-None-clause-log : goal.returns-in-None-clause-log
+returns-in-None-clause-log g c = loads_few 1 2 c.args.seat.now c.see_phase-found.new.seat
+    (loads_phase _ _ c.see_phase-found.ensures.log) (omega arith)
+
+pub returns-then-is_owner-clause-log : goal.returns-then-is_owner-clause-log
+returns-then-is_owner-clause-log g c = loads_on 1 1 2 c.args.seat.now c.see_phase-found.new.seat
+    c.see_owner-again.new.seat (loads_phase _ _ c.see_phase-found.ensures.log)
+    (loads_owner _ _ c.see_owner-again.ensures.log) (omega arith)
+
+pub returns-else-is_owner-clause-log : goal.returns-else-is_owner-clause-log
+returns-else-is_owner-clause-log g c = loads_on 1 1 2 c.args.seat.now c.see_phase-found.new.seat
+    c.see_owner-again.new.seat (loads_phase _ _ c.see_phase-found.ensures.log)
+    (loads_owner _ _ c.see_owner-again.ensures.log) (omega arith)

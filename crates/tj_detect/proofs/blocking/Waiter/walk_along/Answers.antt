@@ -3,6 +3,9 @@ use Rattle.tj_detect.proofs.Prelude.{start_walk, subst, sym, ◌<◌, ◌∙◌}
 use Rattle.tj_words.specs.Steps.WalkSteps.{MayWait}
 use Rattle.tj_detect.proofs.Skips.{loads_others}
 use Rattle.tj_detect.proofs.WalkBlocks.{may_publish, at_others, at_count, others_on, others_walk, skips, blocks}
+use Rattle.tj_events.specs.declared.walk.Way.TheVariants.{Along}
+use Rattle.tj_detect.proofs.BlockSteps.{along_steps, block_made}
+use Rattle.tj_detect.specs.BlockLogs.{Makes, first_steps}
 use Rattle.tj_detect.proofs.blocking.Waiter.walk_along.Goals as goal
 
 pub put_wait-requires-clause-may : goal.put_wait-requires-clause-may
@@ -78,3 +81,21 @@ pub returns-clause-seat : goal.returns-clause-seat
 returns-clause-seat g c =
     let p = c.put_wait.ensures in let o = c.others-others.ensures.seat in let w = c.walk.ensures.seat in
     (w.0 ∙ (o.0 ∙ p.table), w.1 ∙ (o.1 ∙ p.id), w.2 ∙ (o.2 ∙ ap (λ z. z.1) p.puts))
+
+pub returns-then-others-eq0-clause-log : goal.returns-then-others-eq0-clause-log
+returns-then-others-eq0-clause-log g c = let a = c.args.self.now in (
+  c.requires.along,
+  subst (λ n. Makes (first_steps a.t.0 a.q Along n) c.args.seat.now c.others-others.new.seat) c.if-others-eq0.true
+      (along_steps a.t.0 a.q a.way c.requires.along c.args.seat.now c.put_wait.new.seat c.others-others.new.seat
+      c.others-others.result c.put_wait.ensures.log c.others-others.ensures.log),
+)
+
+pub returns-clause-log : goal.returns-clause-log
+returns-clause-log g c = let a = c.args.self.now in
+    block_made a.laid.now.cells a.t.0 a.q a.way c.walk.result c.args.seat.now c.others-others.new.seat
+    c.walk.new.seat c.others-others.result c.walk.ensures.comes.walked
+    (λ e. let x = c.if-others-eq0.false in omega (arith, x))
+    (subst (λ w. Makes (first_steps a.t.0 a.q w c.others-others.result) c.args.seat.now c.others-others.new.seat)
+    (sym c.requires.along) (along_steps a.t.0 a.q a.way c.requires.along c.args.seat.now c.put_wait.new.seat
+    c.others-others.new.seat c.others-others.result c.put_wait.ensures.log c.others-others.ensures.log))
+    c.walk.ensures.log

@@ -10,7 +10,7 @@ invariant_of-self-2 g c =
     ap g.K.PoolRule.limit c.in_ok-victim_of.ensures.known ∙ g.met.K.PoolRule.kept.other_limit c.args.cells
     ∙ sym new.size in
     record {
-      fifo = c.args.self.now.fifo;
+      flavor = c.args.self.now.flavor;
       own_cells = c.args.self.now.own_cells;
       spare_cells = c.args.self.now.spare_cells;
       other_cells = maybe_more known_there (λ v. g.K.PoolRule.limit v ≡ c.args.self.now.cells) _ _ _ _

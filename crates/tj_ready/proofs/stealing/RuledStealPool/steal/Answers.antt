@@ -1,4 +1,5 @@
 use Rattle.std.proofs.Common.{◌≡◌, ◌∙◌, All}
+use Rattle.tj_ready.specs.Orders.{left_there}
 use Rattle.tj_ready.specs.Victims.{known_in}
 use Rattle.tj_ready.proofs.Steps.{all_found, found_below}
 use Rattle.tj_ready.proofs.stealing.RuledStealPool.steal.Goals as goal
@@ -9,10 +10,10 @@ invariant_of-self g c =
     let limit = g.K.PoolRule.limit in
     let law = g.met.K.PoolRule.kept in
     record {
-      fifo = end.fifo;
+      flavor = end.flavor;
       own_cells = end.own_cells;
       spare_cells = end.spare_cells;
-      other_cells = all_found (λ v. limit v ≡ end.cells) g.K.PoolRule.takes (All g.K.PoolRule.empty)
+      other_cells = all_found (λ v. limit v ≡ end.cells) g.K.PoolRule.takes (All (left_there g.K.PoolRule.newest g.K.PoolRule.empty g.K.PoolRule.few))
           (known_in end.others.items) c.steal_first.result _
           (λ v w t by is. law.taken_limit v w t by ∙ is) c.steal_first.ensures end.other_cells;
     }
@@ -20,6 +21,6 @@ invariant_of-self g c =
 pub returns-clause-below : goal.returns-clause-below
 returns-clause-below g c =
     let end = c.args.self.now in
-    found_below g.K.PoolRule.takes g.K.PoolRule.limit end.cells (All g.K.PoolRule.empty) (known_in end.others.items)
+    found_below g.K.PoolRule.takes g.K.PoolRule.limit end.cells (All (left_there g.K.PoolRule.newest g.K.PoolRule.empty g.K.PoolRule.few)) (known_in end.others.items)
     c.steal_first.result
     (known_in c.steal_first.new.victims.items) g.met.K.PoolRule.kept.taken_below c.steal_first.ensures end.other_cells

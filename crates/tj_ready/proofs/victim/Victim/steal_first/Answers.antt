@@ -2,6 +2,7 @@ use Rattle.std.proofs.Common.{◌<◌, ◌+◌, ◌∙◌, All, [], ◌∷◌, l
 use Rattle.std.proofs.Math.Seq.{map-set_same}
 use Rattle.std.proofs.lemmas.List.{length-map, take_all}
 use Rattle.tj_ready.specs.Ends.{StepsOne}
+use Rattle.tj_ready.specs.Orders.{left_there}
 use Rattle.tj_ready.specs.Victims.{known_there, known_in}
 use Rattle.tj_ready.proofs.Steps.{steps_there, looked}
 use Rattle.tj_ready.proofs.victim.Victim.steal_first.Goals as goal
@@ -22,7 +23,7 @@ returns-in-Some g c =
 
 pub loop-at-preserved : goal.loop-at-preserved
 loop-at-preserved g c =
-    let empty = g.K.PoolRule.empty in
+    let there = left_there g.K.PoolRule.newest g.K.PoolRule.empty g.K.PoolRule.few in
     let victims = c.loop-at.victims.items in
     let old = c.index_mut.result.now in
     let new = c.steal.new.self in
@@ -33,7 +34,7 @@ loop-at-preserved g c =
     c.loop-at-test.true in omega arith in (
       map-set_same known_there victims c.loop-at.at new old (found.0 ∙ value) ∙ inv.0,
       length-set victims c.loop-at.at new ∙ inv.1,
-      looked known_there empty victims _ c.loop-at.at old here inv.0 (subst empty value found.1) inv.2,
+      looked known_there there victims _ c.loop-at.at old here inv.0 (subst there value found.1) inv.2,
     )
 
 pub returns : goal.returns
@@ -42,4 +43,4 @@ returns g c =
     let inv = c.loop-at.invariant in
     let all : length (known_in victims) < c.loop-at.at + 1 = let l = length-map victims known_there in let n =
     c.len-at-end.ensures in let at = c.loop-at-test.false in omega arith in
-    (inv.0, subst (All g.K.PoolRule.empty) (take_all c.loop-at.at (known_in victims) (omega arith)) inv.2)
+    (inv.0, subst (All (left_there g.K.PoolRule.newest g.K.PoolRule.empty g.K.PoolRule.few)) (take_all c.loop-at.at (known_in victims) (omega arith)) inv.2)

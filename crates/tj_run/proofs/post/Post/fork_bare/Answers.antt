@@ -1,4 +1,6 @@
-use Rattle.tj_run.proofs.Prelude.{Bool, Program, Why, [], held_at, map, program_of, refl, ◌∙◌, ◌≡◌}
+use Rattle.tj_run.proofs.Prelude.{Bool, CellId, IsMade, Program, Why, [], held_at, map, program_of, refl, subst}
+use Rattle.tj_run.proofs.Prelude.{◌∙◌, ◌≡◌}
+use Rattle.tj_base.specs.declared.cell.Sort.TheVariants as sort
 use Rattle.tj_run.specs.declared.why.Why.TheVariants as why
 use Rattle.tj_run.proofs.Children.ForkCalls.{Forking, HasGiven, forks_birth, forks_goes, forks_known, forks_release}
 use Rattle.tj_run.proofs.Children.ForkCalls.{found_held, given_lacks, if_err, parent_cell, places_inside}
@@ -33,7 +35,8 @@ module _ (g : Over) (c : In_ok-c g)
     forking = f;
     keeps = refl;
     born = c.birth.new.seat.me.0;
-    made = c.in_ok-c.ensures.made;
+    made = subst (λ (t : CellId). IsMade sort.Task c.args.laid.now.cells t.0 c.in_ok-c.c.0 c.args.self.now.seat.me.0
+        c.birth.new.seat.me.0) c.cell-t.ensures c.in_ok-c.ensures.made;
     promises = [];
     are = refl;
     gave = refl;
@@ -42,22 +45,22 @@ module _ (g : Over) (c : In_ok-c g)
 pub birth-requires-clause-cell : goal.birth-requires-clause-cell
 birth-requires-clause-cell g c κs within =
     let f = forking g (goal.at.birth-requires-clause-cell g c).After-names_and_cells in
-    parent_cell f
+    rw c.cell-t.ensures (parent_cell f)
 
 pub birth-requires-clause-known : goal.birth-requires-clause-known
 birth-requires-clause-known g c κs within =
     let f = forking g (goal.at.birth-requires-clause-known g c).After-names_and_cells in
-    forks_known f c.args.rec.now.owned refl
+    rw c.cell-t.ensures (forks_known f c.args.rec.now.owned refl)
 
 pub birth-requires-clause-may : goal.birth-requires-clause-may
 birth-requires-clause-may g c κs within =
     let f = forking g (goal.at.birth-requires-clause-may g c).After-names_and_cells in
-    forks_birth f c.args.rec.now.owned refl
+    rw (c.cell-t.ensures, c.made.ensures) (forks_birth f c.args.rec.now.owned refl)
 
 pub bare_child-requires : goal.bare_child-requires
 bare_child-requires g c =
-    places_inside c.args.rec.now.held c.items.result.now c.args.pass c.items-2.result.now c.items.ensures
-    c.items-2.ensures c.requires.asked.placed.passed
+    places_inside c.args.rec.now.held c.args.rec.now.held c.args.pass c.items.result.now refl c.items.ensures
+    c.requires.asked.placed.passed
 
 pub returns-in_err-child-clause-stays : goal.returns-in_err-child-clause-stays
 returns-in_err-child-clause-stays g c = let at = goal.at.returns-in_err-child-clause-stays g c in
@@ -73,10 +76,10 @@ returns-in_err-child-clause-stays g c = let at = goal.at.returns-in_err-child-cl
 pub release-requires-clause-may : goal.release-requires-clause-may
 unfolding given
 release-requires-clause-may g c κs within = let at = goal.at.release-requires-clause-may g c in
-    let passed = map (held_at c.items.result.now) c.items-2.result.now in
+    let passed = map (held_at c.args.rec.now.held) c.items.result.now in
     forks_release (given g at.In_ok-c (forking g at.After-names_and_cells)) passed
-    (found_held c.args.rec.now.held c.items.result.now c.args.pass c.items-2.result.now passed refl c.items.ensures
-    c.items-2.ensures) c.in_ok-child.child c.in_ok-child.ensures
+    (found_held c.args.rec.now.held c.args.rec.now.held c.args.pass c.items.result.now passed refl refl
+    c.items.ensures) c.in_ok-child.child c.in_ok-child.ensures
 
 pub returns-in_err-release-clause-stays : goal.returns-in_err-release-clause-stays
 returns-in_err-release-clause-stays g c = let at = goal.at.returns-in_err-release-clause-stays g c in

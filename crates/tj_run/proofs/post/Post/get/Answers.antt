@@ -1,4 +1,4 @@
-use Rattle.tj_run.proofs.Prelude.{ap, held_at, program_of, sym, table_program, ◌∙◌}
+use Rattle.tj_run.proofs.Prelude.{Held, ap, program_of, sym, table_program, ◌∙◌}
 use Rattle.tj_run.proofs.Waiting.JoinTests.{get_fails, get_waits}
 use Rattle.tj_run.proofs.Seats.WorkersSteps.{goes_itself}
 use Rattle.tj_words.specs.declared.record.Finish.TheVariants as finish
@@ -12,7 +12,7 @@ look-requires-clause-waiting g c κs within = let b = g.B.Body in let l = c.args
     get_waits p c.args.self.now.seat.me.0 (c.points_in_rounds.ensures.ask l.strict l.root.value c.requires.asked.rooted)
     r
     c.args.at.place c.args.at.spare c.requires.asked
-    (ap (λ z. (held_at z c.args.at.place).sort) (sym c.items.ensures) ∙ c.in-Promise.is)
+    (ap (λ (z : Held). z.sort) (sym c.at.ensures) ∙ c.in-Promise.is)
 
 pub returns-in-Task-clause-goes : goal.returns-in-Task-clause-goes
 returns-in-Task-clause-goes g c = let b = g.B.Body in let l = c.args.laid.now in let r = c.args.rec.now in
@@ -21,4 +21,4 @@ returns-in-Task-clause-goes g c = let b = g.B.Body in let l = c.args.laid.now in
     (get_fails p c.args.self.now.seat.me.0 (c.points_in_rounds.ensures.ask l.strict l.root.value
     c.requires.asked.rooted) r
     c.args.at.place c.args.at.spare c.requires.asked
-    (ap (λ z. (held_at z c.args.at.place).sort) (sym c.items.ensures) ∙ c.in-Task.is))
+    (ap (λ (z : Held). z.sort) (sym c.at.ensures) ∙ c.in-Task.is))

@@ -1,4 +1,4 @@
-use Rattle.tj_run.proofs.Prelude.{Goes, ap, held_at, join_of, program_of, subst, sym, table_program, way_by, ◌∙◌}
+use Rattle.tj_run.proofs.Prelude.{Goes, Held, ap, held_at, join_of, program_of, subst, sym, table_program, way_by, ◌∙◌}
 use Rattle.tj_run.proofs.Waiting.JoinTests.{along_then, goes_if, join_fails, join_inside, join_waits, other_then}
 use Rattle.tj_run.proofs.Waiting.JoinTests.{runs_then, task_else}
 use Rattle.tj_run.proofs.Asks.PointSteps.{before}
@@ -16,7 +16,7 @@ returns-in-Promise-clause-goes g c =
     let a = c.requires.asked in let k = c.args.at.place in let o = c.args.at.spare in let s = c.args.self.now.seat.me in
     let law = c.points_in_rounds.ensures.ask l.strict l.root.value a.rooted in
     goes_itself q l (next.Ends (finish.Failed hurt.Kind)) r s c.requires.runs
-    (join_fails p s.0 law r k o a (ap (λ z. (held_at z k).sort) (sym c.items.ensures) ∙ c.in-Promise.is))
+    (join_fails p s.0 law r k o a (ap (λ (z : Held). z.sort) (sym c.at-h.ensures) ∙ c.in-Promise.is))
 
 pub look-requires-clause-waiting : goal.look-requires-clause-waiting
 look-requires-clause-waiting g c κs within =
@@ -26,7 +26,7 @@ look-requires-clause-waiting g c κs within =
     let law = c.points_in_rounds.ensures.ask l.strict l.root.value a.rooted in
     join_waits p s.0 law r k o a
     (task_else (held_at r.held k).sort
-    (λ z. c.in_default.not-Promise (ap (λ y. (held_at y k).sort) c.items.ensures ∙ z)))
+    (λ z. c.in_default.not-Promise (ap (λ (y : Held). y.sort) c.at-h.ensures ∙ z)))
     (sym c.strict.ensures ∙ c.if-not-strict.true)
 
 pub way_to-requires-clause-task : goal.way_to-requires-clause-task
@@ -34,7 +34,7 @@ way_to-requires-clause-task g c κs within =
     let b = g.B.Body in let l = c.args.laid.now in let r = c.args.rec.now in
     let q = program_of b.places b.awaits b.left b.asks b.then in let p = table_program q l in
     let a = c.requires.asked in let k = c.args.at.place in let o = c.args.at.spare in let s = c.args.self.now.seat.me in
-    told_task l r s c.requires.runs (before p s.0 r (join_of o k) a) a.tells
+    rw c.cell.ensures (told_task l r s c.requires.runs (before p s.0 r (join_of o k) a) a.tells)
 
 pub way_to-requires-clause-cell : goal.way_to-requires-clause-cell
 way_to-requires-clause-cell g c κs within =
@@ -43,14 +43,14 @@ way_to-requires-clause-cell g c κs within =
     let a = c.requires.asked in let k = c.args.at.place in let o = c.args.at.spare in let s = c.args.self.now.seat.me in
     let law = c.points_in_rounds.ensures.ask l.strict l.root.value a.rooted in
     told_cell l r s c.requires.runs (before p s.0 r (join_of o k) a) a.tells
-    k (join_inside p s.0 law r k o a) (held_at c.items.result.now k) (ap (λ z. held_at z k) c.items.ensures)
+    k (join_inside p s.0 law r k o a) c.at-h.result c.at-h.ensures
 
 pub way_to-requires-clause-task_known : goal.way_to-requires-clause-task_known
 way_to-requires-clause-task_known g c κs within =
     let b = g.B.Body in let l = c.args.laid.now in let r = c.args.rec.now in
     let q = program_of b.places b.awaits b.left b.asks b.then in let p = table_program q l in
     let a = c.requires.asked in let k = c.args.at.place in let o = c.args.at.spare in let s = c.args.self.now.seat.me in
-    told_knows l r s c.requires.runs (before p s.0 r (join_of o k) a) a.tells
+    rw c.cell.ensures (told_knows l r s c.requires.runs (before p s.0 r (join_of o k) a) a.tells)
 
 pub way_to-requires-clause-held : goal.way_to-requires-clause-held
 way_to-requires-clause-held g c κs within =
@@ -59,7 +59,7 @@ way_to-requires-clause-held g c κs within =
     let a = c.requires.asked in let k = c.args.at.place in let o = c.args.at.spare in let s = c.args.self.now.seat.me in
     let law = c.points_in_rounds.ensures.ask l.strict l.root.value a.rooted in
     told_held l r s c.requires.runs (before p s.0 r (join_of o k) a) a.tells
-    k (join_inside p s.0 law r k o a) (held_at c.items.result.now k) (ap (λ z. held_at z k) c.items.ensures)
+    k (join_inside p s.0 law r k o a) c.at-h.result c.at-h.ensures
 
 pub look-requires-in-Along-clause-runs : goal.look-requires-in-Along-clause-runs
 look-requires-in-Along-clause-runs g c κs within =
@@ -79,9 +79,9 @@ look-requires-in-Along-clause-waiting g c κs within =
     along_then q l law r k o s c.way_to.new.seat.me c.way_to.ensures.view c.way_to.ensures.seat.2
     c.requires.runs a
     (task_else (held_at r.held k).sort
-    (λ z. c.in_default.not-Promise (ap (λ y. (held_at y k).sort) c.items.ensures ∙ z)))
+    (λ z. c.in_default.not-Promise (ap (λ (y : Held). y.sort) c.at-h.ensures ∙ z)))
     (sym (c.way_to.ensures.way
-    ∙ ap (λ z. way_by c.way_to.new.seat.me.0.born r.cell.0 (held_at z k).cell.0) c.items.ensures) ∙ c.in-Along.is)
+    ∙ (λ i. way_by c.way_to.new.seat.me.0.born (c.cell.ensures i).0 (c.at-h.ensures i).cell.0)) ∙ c.in-Along.is)
 
 pub returns-in-Other-clause-goes : goal.returns-in-Other-clause-goes
 returns-in-Other-clause-goes g c =
@@ -89,15 +89,15 @@ returns-in-Other-clause-goes g c =
     let q = program_of b.places b.awaits b.left b.asks b.then in let p = table_program q l in
     let a = c.requires.asked in let k = c.args.at.place in let o = c.args.at.spare in let s = c.args.self.now.seat.me in
     let law = c.points_in_rounds.ensures.ask l.strict l.root.value a.rooted in
-    subst (λ z. Goes q l (next.Ends (finish.Failed (hurt.Order (held_at z k).cell))) r s.0 c.way_to.new.seat.me)
-    (sym c.items.ensures)
+    subst (λ (z : Held). Goes q l (next.Ends (finish.Failed (hurt.Order z.cell))) r s.0 c.way_to.new.seat.me)
+    (sym c.at-h.ensures)
     (other_then q l law r k o s c.way_to.new.seat.me c.way_to.ensures.view c.way_to.ensures.seat.2
     c.requires.runs a
     (task_else (held_at r.held k).sort
-    (λ z. c.in_default.not-Promise (ap (λ y. (held_at y k).sort) c.items.ensures ∙ z)))
+    (λ z. c.in_default.not-Promise (ap (λ (y : Held). y.sort) c.at-h.ensures ∙ z)))
     (sym c.strict.ensures ∙ c.if-not-strict.false)
     (sym (c.way_to.ensures.way
-    ∙ ap (λ z. way_by c.way_to.new.seat.me.0.born r.cell.0 (held_at z k).cell.0) c.items.ensures) ∙ c.in-Other.is))
+    ∙ (λ i. way_by c.way_to.new.seat.me.0.born (c.cell.ensures i).0 (c.at-h.ensures i).cell.0)) ∙ c.in-Other.is))
 
 pub returns-in-Along-clause-goes : goal.returns-in-Along-clause-goes
 returns-in-Along-clause-goes g c =

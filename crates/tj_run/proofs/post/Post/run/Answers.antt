@@ -1,6 +1,6 @@
 use Rattle.tj_run.proofs.Prelude.{ComesBack, IfSome, program_of, subst, ◌∙◌}
 use Rattle.tj_run.proofs.Runs.TaskReturns.{lack_on, lefts_on}
-use Rattle.tj_run.proofs.Seats.WorkersSteps.{back_on, lacks_on, left_on}
+use Rattle.tj_run.proofs.Seats.WorkersSteps.{back_here, back_on, lacks_on, left_on}
 use Rattle.tj_run.proofs.post.Post.run.Goals as goal
 
 pub returns-in_err-run_on-clause-stays : goal.returns-in_err-run_on-clause-stays
@@ -48,3 +48,8 @@ returns-in-Ends-clause-left g c =
     let l = c.args.laid.now in let v = c.loop-i.self.seat.me.0 in let me = c.end.new.self.seat.me in
     lefts_on c.args.self.now.seat.me.0 v c.loop-i.invariant.back.knows l me c.end.result
     (lefts_on v c.run_on.new.self.seat.me.0 c.in_ok-run_on.ensures.goes.knows l me c.end.result c.end.ensures.left)
+
+pub run_on-requires-clause-back : goal.run_on-requires-clause-back
+run_on-requires-clause-back g c κs within = let b = g.B.Body in let i = c.loop-i in
+    back_here (program_of b.places b.awaits b.left b.asks b.then) c.args.laid.now i.rec c.args.self.now.seat.me.0
+    i.self.seat.me i.invariant.back

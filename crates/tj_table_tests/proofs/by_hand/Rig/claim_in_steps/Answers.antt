@@ -1,4 +1,4 @@
-use Rattle.tj_run.proofs.Prelude.{Some, about_table, inl, program_of, refl}
+use Rattle.tj_run.proofs.Prelude.{Some, about_table, inl, program_of, refl, sym, ◌∙◌}
 use Rattle.tj_park.proofs.TakenTasks.{claimed, slot_in_front}
 use Rattle.tj_table_tests.proofs.TestRuns.{claim_back, claim_begins, claim_knows}
 use Rattle.tj_table_tests.proofs.by_hand.Rig.claim_in_steps.Goals as goal
@@ -33,5 +33,5 @@ returns-clause-runs g c =
       runs = (claim_back p l c.expect-rec.result c.args.t.0 c.args.seat.now.me s.new.seat.me s.result
           c.expect-rec.ensures h.free h.rooted got.0 got.1).runs;
       running = claim_begins p l c.expect-rec.result c.args.t.0 c.args.seat.now.me s.new.seat.me s.result
-          c.expect-rec.ensures h.free h.rooted got.0 got.1 c.in-Start.is;
+          c.expect-rec.ensures h.free h.rooted got.0 got.1 (sym c.answer.ensures ∙ c.in-Start.is);
     }

@@ -1,4 +1,4 @@
-use Rattle.tj_run.proofs.Prelude.{MayParkTask, program_of, subst, sym}
+use Rattle.tj_run.proofs.Prelude.{CellId, IsFilledWith, MayParkTask, program_of, subst, sym}
 use Rattle.tj_events.specs.declared.walk.Way.TheVariants as way
 use Rattle.tj_table_tests.proofs.SetBeside.{SetsBeside, fills_beside, gives_beside, other_beside, parks_beside}
 use Rattle.tj_table_tests.proofs.SetBeside.{slot_beside, wakes_beside}
@@ -40,7 +40,7 @@ block_at-verdict-requires-clause-may g c κs within = blocks_too c.ask_beside-re
 
 pub fill-requires-clause-owner : goal.fill-requires-clause-owner
 fill-requires-clause-owner g c κs within =
-    gives_beside (sets g (goal.at.fill-requires-clause-owner g c).In-Walked)
+    rw c.cell.ensures (gives_beside (sets g (goal.at.fill-requires-clause-owner g c).In-Walked))
 
 pub fill-requires-clause-value : goal.fill-requires-clause-value
 fill-requires-clause-value g c κs within =
@@ -48,10 +48,13 @@ fill-requires-clause-value g c κs within =
 
 pub wake-requires-clause-may : goal.wake-requires-clause-may
 wake-requires-clause-may g c κs within = let set = sets g (goal.at.wake-requires-clause-may g c).In-Walked in
-    wakes_beside set c.fill.new.seat.me c.fill.ensures.view c.fill.ensures.seat.2
+    wakes_beside set c.fill.new.seat.me
+    (subst (λ (z : CellId). IsFilledWith z.0 c.to_set-told.result.1.0 c.to_set-told.result.2
+    c.block_at-verdict.new.seat.me.0 c.fill.new.seat.me.0) c.cell.ensures c.fill.ensures.view)
+    c.fill.ensures.seat.2
 
 pub park-requires-clause-task : goal.park-requires-clause-task
-park-requires-clause-task g c κs within = task_there c.ask_beside-rec.ensures.waits
+park-requires-clause-task g c κs within = rw c.cell-t.ensures (task_there c.ask_beside-rec.ensures.waits)
 
 pub park-requires-clause-cell : goal.park-requires-clause-cell
 park-requires-clause-cell g c κs within = cell_there c.ask_beside-rec.ensures.waits
@@ -59,22 +62,32 @@ park-requires-clause-cell g c κs within = cell_there c.ask_beside-rec.ensures.w
 pub park-requires-clause-slot : goal.park-requires-clause-slot
 park-requires-clause-slot g c κs within = let set = sets g (goal.at.park-requires-clause-slot g c).In-Walked in
     let woke = c.in-Ok-eq0.ensures.woke in
-    slot_beside set c.fill.new.seat.me c.fill.ensures.view c.fill.ensures.seat.2 woke.chain c.wake.new.seat.me woke.woke
-    c.wake.ensures.seat.2
+    rw c.cell-t.ensures (slot_beside set c.fill.new.seat.me
+    (subst (λ (z : CellId). IsFilledWith z.0 c.to_set-told.result.1.0 c.to_set-told.result.2
+    c.block_at-verdict.new.seat.me.0 c.fill.new.seat.me.0) c.cell.ensures c.fill.ensures.view)
+    c.fill.ensures.seat.2 woke.chain c.wake.new.seat.me woke.woke
+    c.wake.ensures.seat.2)
 
 pub park-requires-clause-others : goal.park-requires-clause-others
 park-requires-clause-others g c κs within = let set = sets g (goal.at.park-requires-clause-others g c).In-Walked in
     let woke = c.in-Ok-eq0.ensures.woke in
-    other_beside set c.fill.new.seat.me c.fill.ensures.view c.fill.ensures.seat.2 woke.chain c.wake.new.seat.me
+    other_beside set c.fill.new.seat.me
+    (subst (λ (z : CellId). IsFilledWith z.0 c.to_set-told.result.1.0 c.to_set-told.result.2
+    c.block_at-verdict.new.seat.me.0 c.fill.new.seat.me.0) c.cell.ensures c.fill.ensures.view)
+    c.fill.ensures.seat.2 woke.chain c.wake.new.seat.me
     woke.woke c.wake.ensures.seat.2
 
 pub park-requires-clause-may : goal.park-requires-clause-may
 park-requires-clause-may g c κs within = let set = sets g (goal.at.park-requires-clause-may g c).In-Walked in
     let b = g.B.Body in let woke = c.in-Ok-eq0.ensures.woke in let rec = c.ask_beside-rec.result in
-    subst (λ r. MayParkTask (program_of b.places b.awaits b.left b.asks b.then) rec.0.cell.0 rec.2.cell.0 way.Other r
+    rw c.cell-t.ensures
+    (subst (λ r. MayParkTask (program_of b.places b.awaits b.left b.asks b.then) rec.0.cell.0 rec.2.cell.0 way.Other r
     c.wake.new.seat.me.0) (sym c.block_at-verdict.ensures.rec)
-    (parks_beside set c.fill.new.seat.me c.fill.ensures.view c.fill.ensures.seat.2 woke.chain c.wake.new.seat.me
-    woke.woke c.wake.ensures.seat.2)
+    (parks_beside set c.fill.new.seat.me
+    (subst (λ (z : CellId). IsFilledWith z.0 c.to_set-told.result.1.0 c.to_set-told.result.2
+    c.block_at-verdict.new.seat.me.0 c.fill.new.seat.me.0) c.cell.ensures c.fill.ensures.view)
+    c.fill.ensures.seat.2 woke.chain c.wake.new.seat.me
+    woke.woke c.wake.ensures.seat.2))
 
 pub value-requires-clause-cell : goal.value-requires-clause-cell
 value-requires-clause-cell g c κs within = cell_there c.ask_beside-rec.ensures.waits

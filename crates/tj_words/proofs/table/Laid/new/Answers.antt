@@ -4,15 +4,20 @@ use Rattle.tj_words.proofs.Seating.FirstWords.{first_wide}
 use Rattle.tj_words.proofs.table.Laid.new.Goals as goal
 
 pub new-requires : goal.new-requires
-new-requires g c =
-    opening_meets _ (record { cells = c.args.cells; root = c.of.result; strict = c.args.strict }) c.requires.some
-    c.requires.few c.start_meets_facts.ensures
-    (subst (λ z. TasksStart (program_of g.B.Body.places g.B.Body.awaits g.B.Body.left g.B.Body.asks g.B.Body.then
-    c.args.strict z)) (sym c.of.ensures) (c.points_in_rounds.ensures.start c.args.strict c.args.root c.requires.root))
-    (subst (λ z. IsRooted (program_of g.B.Body.places g.B.Body.awaits g.B.Body.left g.B.Body.asks g.B.Body.then
-    c.args.strict z)) (sym c.of.ensures) c.requires.root) refl _ c.in_ok-slots.slots.items
-    (c.as_slice.ensures.value ∙ c.in_ok-words.ensures)
-    (c.in_ok-slots.ensures ∙ ap (λ z. first_slots c.args.cells z) (sym c.of.ensures))
+new-requires g c = (
+  opening_meets _ (record { cells = c.args.cells; root = c.of.result; strict = c.args.strict }) c.requires.some
+      c.requires.few c.start_meets_facts.ensures
+      (subst (λ z. TasksStart (program_of g.B.Body.places g.B.Body.awaits g.B.Body.left g.B.Body.asks g.B.Body.then
+      c.args.strict z)) (sym c.of.ensures) (c.points_in_rounds.ensures.start c.args.strict c.args.root c.requires.root))
+      (subst (λ z. IsRooted (program_of g.B.Body.places g.B.Body.awaits g.B.Body.left g.B.Body.asks g.B.Body.then
+      c.args.strict z)) (sym c.of.ensures) c.requires.root) refl _ c.in_ok-slots.slots.items
+      (c.as_slice.ensures.value ∙ c.in_ok-words.ensures)
+      (c.in_ok-slots.ensures ∙ ap (λ z. first_slots c.args.cells z) (sym c.of.ensures)),
+  (
+    c.as_slice.ensures.value ∙ c.in_ok-words.ensures,
+    c.in_ok-slots.ensures ∙ ap (λ z. first_slots c.args.cells z) (sym c.of.ensures),
+  ),
+)
 
 pub invariant_of-result : goal.invariant_of-result
 invariant_of-result g c = let m = c.in-Ok.ensures.ok in record {

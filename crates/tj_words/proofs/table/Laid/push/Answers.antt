@@ -4,7 +4,11 @@ use Rattle.tj_words.specs.Inner.IndexWords.{cell_at}
 use Rattle.tj_words.proofs.Lemmas.{moment_allowed, so_too}
 use Rattle.tj_words.proofs.Calls.PushRuns.{chain_found, finds_longer, found_other, word_back}
 use Rattle.tj_words.proofs.Stores.CellSteps.{its_cell}
-use Rattle.tj_words.proofs.Waiters.HeadSteps.{push_allowed, is_open}
+use Rattle.tj_words.proofs.Waiters.HeadSteps.{is_open, push_allowed}
+use Rattle.tj_words.proofs.SeatLoads.LoggedSteps.{exchange_hit, exchange_missed, logged_so}
+use Rattle.tj_log.specs.declared.entry.Did.TheVariants.{Exchange}
+use Rattle.tj_words.proofs.Calls.ToldSteps.{told_step}
+use Rattle.tj_words.specs.CallLaws.StepCalls as call
 use Rattle.tj_words.proofs.table.Laid.push.Goals as goal
 
 pub compare_exchange-requires : goal.compare_exchange-requires
@@ -18,6 +22,15 @@ compare_exchange-requires g c = let a = c.args in let e = a.self.now.key_cells i
           a.behind (omega (arith, e, c.requires.cell)) (omega (arith, e, c.requires.task)) c.head_at.ensures.word
           (a.self.now.slots ∙ sym e) c.head_at.ensures.cell c.word.ensures.back (omega arith) c.requires.push
           (is_open a.behind a.self.now.cells (omega (arith, a.self.now.few)) c.requires.small)),
+      told_step _ (call.pushes a.p.0) Exchange c.word.result (a.t.0 + 1) refl c.head_at.ensures.word
+          (omega (arith, e, a.self.now.some, c.requires.cell, c.head_at.ensures.word))
+          tt
+          (λ s r at m t. (
+            λ k. exchange_hit _ c.word.result (a.t.0 + 1) k,
+            λ k. exchange_missed _ c.word.result (a.t.0 + 1) k,
+            its_cell (push_exchange _) c.word.result (a.t.0 + 1) (a.self.now.slots ∙ sym e) c.head_at.ensures.cell
+                t.0,
+          )),
     )
 
 pub returns-clause-pushed : goal.returns-clause-pushed
@@ -47,3 +60,10 @@ returns-clause-longer g c = λ n m. let a = c.args in finds_longer a.behind n (
     (word_back a.behind a.self.now.cells (omega (arith, a.self.now.few)) c.requires.small)
     (λ k. (its_cell (push_exchange _) c.word.result (a.t.0 + 1) a.self.now.slots c.head_at.ensures.cell
     c.compare_exchange.ensures.2.0).4 (λ q. k (q ∙ c.word.ensures.word))) n m)
+
+pub returns-clause-log : goal.returns-clause-log
+returns-clause-log g c = (
+  logged_so c.head_at.ensures.word c.word.ensures.word (omega arith) (sym c.of_word.ensures.back)
+      c.compare_exchange.ensures.3,
+  c.compare_exchange.ensures.4,
+)

@@ -1,6 +1,12 @@
-use Rattle.tj_words.proofs.Prelude.{arith}
+use Rattle.tj_words.proofs.Prelude.{arith, refl, word}
 use Rattle.tj_words.specs.Inner.IndexWords.{cell_at}
 use Rattle.tj_words.proofs.Waiters.HeadSteps.{next_allowed}
+use Rattle.tj_words.proofs.SeatLoads.LoggedSteps.{logged_so}
+use Rattle.tj_log.specs.declared.entry.Did.TheVariants.{Store}
+use Rattle.tj_words.proofs.Calls.ToldSteps.{told_step}
+use Rattle.tj_words.proofs.Stores.CellSteps.{its_cell}
+use Rattle.tj_words.specs.Calls.ChainSteps.{next_store}
+use Rattle.tj_words.specs.CallLaws.StepCalls as call
 use Rattle.tj_words.proofs.table.Laid.put_next.Goals as goal
 
 pub store-requires : goal.store-requires
@@ -10,4 +16,18 @@ store-requires g c = let a = c.args in let e = a.self.now.key_cells in (
   next_allowed _ _ _ _ _ a.t.0 c.next_at.result c.word.result (cell_at c.next_at.result)
       (omega (arith, e, c.requires.cell)) c.next_at.ensures.word c.next_at.ensures.cell
       (omega (arith, e, c.requires.small, c.word.ensures.word)) c.requires.push,
+  told_step _ (call.puts_next a.t.0) Store c.word.result 0 refl c.next_at.ensures.word
+      (omega (arith, e, a.self.now.some, c.requires.cell, c.next_at.ensures.word))
+      tt
+      (λ s r at m t. (
+        refl,
+        its_cell (λ cells. next_store) c.word.result 0 {n = word s.words c.next_at.result} a.self.now.slots
+            c.next_at.ensures.cell t,
+      )),
+)
+
+pub returns-clause-log : goal.returns-clause-log
+returns-clause-log g c = (
+  logged_so c.next_at.ensures.word c.word.ensures.word refl c.word.ensures.word c.store.ensures.3,
+  c.store.ensures.4,
 )

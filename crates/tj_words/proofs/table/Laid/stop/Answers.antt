@@ -1,5 +1,8 @@
-use Rattle.tj_words.proofs.Prelude.{arith}
+use Rattle.tj_words.proofs.Prelude.{arith, refl}
 use Rattle.tj_words.proofs.Waiters.LiveCalls.{stop_allowed}
+use Rattle.tj_log.specs.declared.entry.Did.TheVariants.{Store}
+use Rattle.tj_words.proofs.Calls.ToldSteps.{told_step}
+use Rattle.tj_words.specs.CallLaws.StepCalls as call
 use Rattle.tj_words.proofs.table.Laid.stop.Goals as goal
 
 pub store-requires : goal.store-requires
@@ -7,4 +10,7 @@ store-requires g c = let a = c.args in (
   c.requires.table,
   omega (arith, a.self.now.words, a.self.now.some),
   stop_allowed _ _ _ _ _ a.w c.requires.some c.requires.known c.requires.refused,
+  told_step _ (call.stops) Store a.w 0 refl refl (omega (arith, a.self.now.key_cells, a.self.now.some))
+      tt
+      (λ s r at m t. (refl, t)),
 )

@@ -1,6 +1,13 @@
-use Rattle.tj_words.proofs.Prelude.{arith, owner_in, owner_seen, refl, sym, walk_load, ◌∙◌, ◌≤◌}
+use Rattle.tj_words.proofs.Prelude.{IsWalking, arith, owner_in, owner_seen, refl, subst, sym, walk_load, ◌∙◌, ◌≡◌, ◌≤◌}
 use Rattle.tj_words.proofs.Lemmas.{moment_allowed, so_too}
 use Rattle.tj_words.proofs.SeatLoads.WalkLoads.{owner_read_allowed}
+use Rattle.tj_words.proofs.SeatLoads.LoggedSteps.{logged_so}
+use Rattle.tj_log.specs.declared.entry.Did.TheVariants.{Load}
+use Rattle.tj_words.proofs.Calls.ToldSteps.{told_step}
+use Rattle.tj_words.proofs.Stores.CellSteps.{its_cell}
+use Rattle.tj_events.specs.CoreState.{present}
+use Rattle.tj_words.specs.Calls.WalkViews.{MayLoadOwner}
+use Rattle.tj_words.specs.CallLaws.StepCalls as call
 use Rattle.tj_words.proofs.table.Laid.walker_owner.Goals as goal
 
 pub load-requires : goal.load-requires
@@ -13,7 +20,19 @@ load-requires g c = let a = c.args in let e = a.self.now.key_cells in
           (owner_read_allowed _ _ c.event_keeps_facts.ensures _ _ _ a.t.0 g.M.Naming.task cells a.c.0
           c.own_at.result c.requires.named (a.self.now.slots ∙ sym e) c.own_at.ensures.word
           (omega (arith, e, c.requires.cell)) c.requires.walks),
+      told_step _ (call.sees_owner_by g.M.Naming.task a.c.0) Load 0 0 refl c.own_at.ensures.word
+          (omega (arith, e, a.self.now.some, c.requires.cell, c.own_at.ensures.word))
+          (subst (λ k. IsWalking k (λ p way w. (a.c.0 ≡ present p w.trail) × MayLoadOwner w) a.seat.now.me.0)
+          (sym c.requires.named) c.requires.walks)
+          (λ s r at m t. (
+            refl,
+            its_cell (λ cells c. walk_load g.M.Naming.task (λ n w. owner_seen (owner_in n) w w.last) (λ n. n ≤ cells))
+                0 0 {m = a.seat.now.me} (a.self.now.slots ∙ sym e) c.own_at.ensures.cell t.0,
+          )),
     )
 
 pub returns-clause-moment : goal.returns-clause-moment
 returns-clause-moment g c = so_too c.own_at.ensures.word refl c.load.ensures.2.1
+
+pub returns-clause-log : goal.returns-clause-log
+returns-clause-log g c = (logged_so c.own_at.ensures.word refl refl refl c.load.ensures.3, c.load.ensures.4)

@@ -1,0 +1,11 @@
+pub mod Closes
+pub mod Moments
+pub mod TableWaits
+pub mod PhaseChanges
+pub mod Holders
+pub mod RestedTables
+pub mod WithinMeaning
+pub mod NewTables
+pub mod TableEvents
+pub mod OwnMoments
+pub mod ChannelSends

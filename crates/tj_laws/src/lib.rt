@@ -1,0 +1,23 @@
+//! The laws of whole runs of a table by its calls, and of legal runs of the detector's events: what
+//! holds at every moment, what stays, and what happens once.
+#![tactic(auto)]
+
+mod channels;
+mod events;
+mod holders;
+mod meant;
+mod moments;
+mod new_table;
+mod own_runs;
+mod phases;
+mod rests;
+
+pub use channels::receives_are_sends;
+pub use events::{closes, shown_events};
+pub use holders::one_holder;
+pub use meant::within_meaning;
+pub use moments::{every_moment, no_other_wait_no_cycle};
+pub use new_table::new_tables;
+pub use own_runs::own_moments;
+pub use phases::phase_changes;
+pub use rests::rested_tables;

@@ -1,0 +1,12 @@
+use Rattle.std.proofs.Common.{subst₂, sym}
+use Rattle.tj_log.specs.Asks.{Asks}
+use Rattle.tj_log.specs.declared.entry.Did.TheVariants.{Exchange}
+use Rattle.tj_log.proofs.Keeps.{steps_allowed}
+use Rattle.tj_log.proofs.table.LogTable.compare_exchange.Goals as goal
+
+pub compare_exchange-requires : goal.compare_exchange-requires
+compare_exchange-requires g c =
+    let r = subst₂ (λ t s. Asks g.P.TableRule.holds g.P.LogRule.tells g.M.Play.then Exchange c.args.old c.args.new
+    c.args.word t s)
+    (sym c.self.view_is) (sym c.seat.view_is) c.requires in
+    (r.0, r.1, steps_allowed _ Exchange c.args.old c.args.new _ _ _ _ g.M.Play.then r.2 r.3)

@@ -1,0 +1,109 @@
+-- Steps back by the numbers of lines: the first, and twice as many.
+use Rattle.std.proofs.Common.{◌≡◌, ℕ, zero, suc, ◌<◌, ◌+◌, ◌-◌, List, [], ◌∷◌, ◌++◌, Option, Some, None, length, get_or}
+use Rattle.std.proofs.Common.{map, refl, sym, ap, subst, ◌∙◌, arith, ◌≤◌}
+use Rattle.std.specs.Prelude.{slice_get, option_and_then, unwrap_or}
+use Rattle.std.specs.Option.{option_map}
+use Rattle.std.proofs.lemmas.List.{get_or-map, length-append, length-map}
+use Rattle.std.proofs.lemmas.Option.{slice_get_within}
+use native.Mathlib.Decide.{dec_lt}
+use mathlib.Core.Logic.{dite}
+use Rattle.tj_base.specs.ForkOrder.{Name}
+use Rattle.tj_trace.specs.declared.line.TraceLine.{TraceLine}
+use Rattle.tj_why.specs.Echoes.{back, back_by, breaker, most_doublings, origin}
+use Rattle.tj_why.specs.Inner.Jumps.{AreJumps, jump}
+use Rattle.tj_why.specs.Inner.Numbers.{IsNumberOf}
+
+-- what stands before an element that was added
+before_last : (js : List ℕ) (to n d : ℕ) → n < length js → get_or (js ++ to ∷ []) n d ≡ get_or js n d
+before_last [] to n d less = absurd (omega arith)
+before_last (j ∷ js) to zero d less = refl
+before_last (j ∷ js) to (suc n) d less = before_last js to n d (omega arith)
+
+-- that element
+at_last : (js : List ℕ) (to n d : ℕ) → n ≡ length js → get_or (js ++ to ∷ []) n d ≡ to
+at_last [] to zero d is = refl
+at_last [] to (suc n) d is = absurd (omega arith)
+at_last (j ∷ js) to zero d is = absurd (omega arith)
+at_last (j ∷ js) to (suc n) d is = at_last js to n d (omega arith)
+
+-- the jumps of one step for the lines up to number i
+pub record AreSingleSteps (lines : List TraceLine) (i : ℕ) (jumps : List ℕ) : Type 0 where
+  pub each : length jumps ≡ i
+  pub leads : (n : ℕ) (l : TraceLine) → n < i → slice_get lines n ≡ Some l
+      → slice_get lines (jump jumps n) ≡ Some (back_by lines 0 l)
+
+-- where one step back leads
+pub one_step : (lines : List TraceLine) (i : ℕ) (l : TraceLine) (r : Option ℕ) → slice_get lines i ≡ Some l
+    → IsNumberOf lines r (back lines l) → slice_get lines (unwrap_or r i) ≡ Some (back_by lines 0 l)
+one_step lines i l None at is = at ∙ ap (λ o. Some (unwrap_or o l)) (sym is)
+one_step lines i l (Some n) at is = is.1 ∙ ap (λ o. Some (unwrap_or o l)) (sym is.2)
+
+-- no line yet
+pub none_yet : (lines : List TraceLine) (js : List ℕ) → js ≡ [] → AreSingleSteps lines 0 js
+none_yet lines js is = record { each = ap length is; leads = λ n l less at. absurd (omega arith) }
+
+-- one line more
+pub one_line_more : (lines : List TraceLine) (i to : ℕ) (l : TraceLine) (js more : List ℕ) → slice_get lines i ≡ Some l
+    → slice_get lines to ≡ Some (back_by lines 0 l) → more ≡ js ++ to ∷ [] → AreSingleSteps lines i js
+    → AreSingleSteps lines (i + 1) more
+one_line_more lines i to l js more at led is old =
+    subst (AreSingleSteps lines (i + 1)) (sym is) (record {
+      each = length-append js (to ∷ []) ∙ ap (λ k. k + 1) old.each;
+      leads = λ n m up there.
+          dite (dec_lt n (length js)) (λ less. before n m there less) (λ not. last n m there not up);
+    })
+  where
+    same_line : (n : ℕ) (m : TraceLine) → slice_get lines n ≡ Some m → n ≡ i → l ≡ m
+    same_line n m there same = let z = subst (λ k. slice_get lines k ≡ Some m) same there in some_is l m (sym at ∙ z)
+      where
+        some_is : (a b : TraceLine) → Some a ≡ Some b → a ≡ b
+        some_is a b e = cc
+
+    before : (n : ℕ) (m : TraceLine) → slice_get lines n ≡ Some m → n < length js
+        → slice_get lines (jump (js ++ to ∷ []) n) ≡ Some (back_by lines 0 m)
+    before n m there less =
+        let e = old.each in
+        ap (slice_get lines) (before_last js to n n less) ∙ old.leads n m (omega arith) there
+
+    last : (n : ℕ) (m : TraceLine) → slice_get lines n ≡ Some m → ¬ (n < length js) → n < i + 1
+        → slice_get lines (jump (js ++ to ∷ []) n) ≡ Some (back_by lines 0 m)
+    last n m there not up =
+        let e = old.each in
+        let end : n ≡ length js = omega (arith, not) in
+        ap (slice_get lines) (at_last js to n n end)
+        ∙ led ∙ ap (λ z. Some (back_by lines 0 z)) (same_line n m there (omega arith))
+
+-- all lines
+pub all_single : (lines : List TraceLine) (i : ℕ) (js : List ℕ) → AreSingleSteps lines i js → i ≡ length lines
+    → AreJumps lines 0 js
+all_single lines i js old all = record {
+  each = old.each ∙ all;
+  leads = λ n l at. let less = slice_get_within lines n l at in old.leads n l (omega arith) at;
+}
+
+-- twice as many steps
+pub doubled_more : (lines : List TraceLine) (k m : ℕ) (js more : List ℕ) → more ≡ map (jump js) js → m ≡ suc k
+    → AreJumps lines k js → AreJumps lines m more
+doubled_more lines k m js more is next old =
+    subst (λ n. AreJumps lines n more) (sym next) (subst (AreJumps lines (suc k)) (sym is) (record {
+      each = length-map js (jump js) ∙ old.each;
+      leads = λ n l at.
+          let less = slice_get_within lines n l at in
+          let long = old.each in
+          let first = old.leads n l at in
+          let second = old.leads (jump js n) (back_by lines k l) first in
+          ap (slice_get lines) (get_or-map (jump js) js n n n (omega arith)) ∙ second;
+    }))
+
+-- as often as there can be tasks
+pub often : (left : ℕ) → left ≡ 0 → 20 - left ≡ most_doublings
+unfolding most_doublings
+often left none = omega arith
+
+-- the line from which the breaking of a cell came at first
+pub origin_is : (lines : List TraceLine) (k : ℕ) (js : List ℕ) (q : Name) (n : Option ℕ) → AreJumps lines k js
+    → IsNumberOf lines n (breaker lines q)
+    → option_and_then (λ i. slice_get lines (jump js i)) n ≡ option_map (back_by lines k) (breaker lines q)
+origin_is lines k js q None are is = ap (option_map (back_by lines k)) (sym is)
+origin_is lines k js q (Some i) are is =
+    are.leads i is.0 is.1 ∙ ap (option_map (back_by lines k)) (sym is.2)

@@ -1,0 +1,123 @@
+//! What a record says of its task. None of these calls takes memory.
+ghost use Rattle.std.specs.Prelude.{◌≡◌, ◌≢◌, ◌<◌, ◌^◌, ◌∷◌, [], drop, length, slice_get};
+ghost use Rattle.tj_words.specs.LawParts.TaskRecords.{held_at, own};
+
+use crate::record::{Finish, Held, Rec};
+use tj_base::{CellId, Sort};
+use tj_body::Answer;
+
+impl<B> Rec<B> {
+    /// The task.
+    #[inline(always)]
+    pub fn cell(&self) -> CellId
+        ensures { result ≡ self.now.cell }
+    {
+        self.parts.cell
+    }
+
+    /// What the body is to be given. In a task that waits it is the place of the cell.
+    #[inline(always)]
+    pub fn answer(&self) -> Answer
+        ensures { result ≡ self.now.answer }
+    {
+        self.parts.answer
+    }
+
+    /// How many cells it holds, itself the first of them.
+    #[inline(always)]
+    pub fn places(&self) -> u32
+        requires few { length self.now.held < 2 ^ 32 }
+        ensures { result ≡ length self.now.held }
+    {
+        self.parts.others.len() as u32 + 1
+    }
+
+    /// The cell that it holds at a place.
+    #[inline(always)]
+    pub fn at(&self, place: u32) -> Held
+        requires { place < length self.now.held }
+        ensures { result ≡ held_at self.now.held place }
+    {
+        if place == 0 {
+            return itself(self.parts.cell);
+        }
+        self.parts.others[place as usize - 1]
+    }
+
+    /// The cell that it holds at a place, if it holds so many.
+    #[inline(always)]
+    pub fn find(&self, place: u32) -> Option<Held>
+        ensures { result ≡ slice_get self.now.held place }
+    {
+        if place == 0 {
+            return Some(itself(self.parts.cell));
+        }
+        self.parts.others.get(place as usize - 1).copied()
+    }
+
+    /// What it owns beside its result, which it owns first, until it has ended.
+    #[inline(always)]
+    pub fn promises(&self) -> &[CellId]
+        ensures promises { result.now ≡ drop 1 self.now.owned }
+        ensures first { self.now.owned ≢ [] → self.now.owned ≡ self.now.cell ∷ result.now }
+    {
+        if self.parts.owes {
+            return &[];
+        }
+        self.parts.promises.as_slice()
+    }
+
+    /// The promises that it still owned when it ended.
+    #[inline(always)]
+    pub fn owed(&self) -> &[CellId]
+        ensures { result.now ≡ self.now.owed }
+    {
+        if self.parts.owes {
+            return self.parts.promises.as_slice();
+        }
+        &[]
+    }
+
+    /// How many tasks and promises it has made.
+    #[inline(always)]
+    pub fn made(&self) -> u32
+        ensures { result ≡ self.now.made }
+    {
+        self.parts.made
+    }
+
+    /// What it has printed.
+    #[inline(always)]
+    pub fn prints(&self) -> &[i64]
+        ensures { result.now ≡ self.now.prints }
+    {
+        self.parts.prints.as_slice()
+    }
+
+    /// How it ended.
+    #[inline(always)]
+    pub fn finish(&self) -> Option<Finish>
+        ensures { result ≡ self.now.finish }
+    {
+        self.parts.finish
+    }
+
+    /// Whether a broken cell is answered by `Lost` in the wait.
+    #[inline(always)]
+    pub fn spare(&self) -> bool
+        ensures { result ≡ self.now.spare }
+    {
+        self.parts.spare
+    }
+}
+
+/// A task among the cells that it holds.
+#[inline(always)]
+fn itself(cell: CellId) -> Held
+    ensures { result ≡ own cell }
+{
+    Held {
+        cell,
+        sort: Sort::Task,
+    }
+}
